@@ -1,0 +1,3 @@
+-- The laws of `number`.
+pub mod Laws
+pub mod Signs

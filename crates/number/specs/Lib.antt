@@ -1,0 +1,2 @@
+-- The definitions that the contracts of `number` cite.
+pub mod Number
