@@ -1,7 +1,7 @@
 -- Laws of `digits` and `bits`; lists with all entries below a bound. Assumes nothing.
 use mathlib.Core.Path.{_≡_, refl, sym, ap, _∙_}
 use Prim.Native.Nat.{ℕ, zero, suc, _+_, _*_, _-_, _/_, _%_, _^_, _≤_, _<_}
-use native.Mathlib.Nat.{zero-add, suc-add, zero-div, add-assoc, pow-zero, pow-suc, pow-succ', div-one, div-div-eq-div-mul, mod-lt}
+use native.Mathlib.Nat.{zero-add, suc-add, zero-div, add-assoc, pow-zero, pow-suc, pow-succ', div-one, div-div-eq-div-mul}
 use native.Mathlib.Numerals.{add-one}
 use native.Mathlib.Omega.{arith}
 use mathlib.Core.List.{List, [], _∷_, _++_, append-assoc, append-nil}

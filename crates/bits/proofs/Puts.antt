@@ -1,5 +1,5 @@
 -- Laws of `packed` and `putBits`: bits and bytes determine each other; what a put changes, and puts one after the other. Assumes nothing.
-use mathlib.Core.Path.{_≡_, refl, sym, ap, ap₂, _∙_}
+use mathlib.Core.Path.{_≡_, refl, sym, ap, _∙_}
 use Prim.Native.Nat.{ℕ, zero, suc, _+_, _*_, _-_, _/_, _%_, _^_, _≤_, _<_}
 use native.Mathlib.Nat.{add-zero, add-assoc, add-suc, pow-suc, lt-of-lt-of-le}
 use native.Mathlib.Numerals.{add-one}
@@ -12,7 +12,7 @@ use lib.Pow.{pow-mono, shr-lt}
 use Rattle.number.specs.Number.{splice}
 use Rattle.number.proofs.Laws.{length-splice, splice-nil}
 use Rattle.bits.specs.Bits.{digits, bits, value, pack, packed, zeros, pad, bitsAt, putBits}
-use Rattle.bits.proofs.Laws.{length-digits, length-bits, take-bits, drop-bits, Below, none, more, below-of, below-at, below-append, below-take, below-drop, below-replicate, below-splice, below-bits, below-bitsAt}
+use Rattle.bits.proofs.Laws.{length-digits, length-bits, take-bits, drop-bits, Below, none, more, below-append, below-take, below-drop, below-replicate, below-splice, below-bits}
 
 -- ---- a list of digits and its number
 

@@ -1,19 +1,19 @@
 -- What the code computes, as bits: fields, shifted words, runs of one bit, counts; and a turn of each loop. Assumes nothing.
-use mathlib.Core.Path.{_≡_, refl, sym, ap, ap₂, _∙_}
+use mathlib.Core.Path.{_≡_, refl, sym, ap, _∙_}
 use Prim.Native.Nat.{ℕ, zero, suc, _+_, _*_, _-_, _/_, _%_, _^_, _≤_, _<_}
 use native.Mathlib.Nat.{add-zero, mul-zero, mul-one, one-mul, mul-comm, add-comm, add-mul-div-right, mod-lt, mul-mod-left, div-one, div-eq-of-lt, lt-of-lt-of-le, pow-suc}
 use native.Mathlib.Numerals.{add-one}
 use native.Mathlib.Omega.{arith}
-use mathlib.Core.List.{List, [], _∷_, _++_, append-nil}
+use mathlib.Core.List.{List, [], _++_, append-nil}
 use lib.ListN.{length, take, drop, getD, set, replicate, length-replicate, replicate-append-replicate}
 use lib.Seq.{drop-cons, take-append-le}
 use lib.Arith.{mod-mul, digits-lt, lt-one}
-use lib.Count.{ones, onesIn, ones-step, ones-le}
+use lib.Count.{ones, onesIn, ones-step}
 use lib.Pow.{pow-add, pow-pos, pow-mono, high, split, shl-exact, shr-lt, shl-shr}
 use lib.Dec.{lit<}
 use Rattle.number.specs.Number.{number, encode, splice}
-use Rattle.number.proofs.Laws.{halves, one}
-use Rattle.bits.specs.Bits.{digits, bits, zeros, pad, bitsAt, putBits}
+use Rattle.number.proofs.Laws.{halves}
+use Rattle.bits.specs.Bits.{digits, bits, zeros, bitsAt, putBits}
 use Rattle.bits.proofs.Laws.{length-digits, digits-add, digits-low, digits-mod', digits-zero, digits-part, length-bits, drop-bits, bits-splice, bits-field, bits-set, splice-same, Below, none, more, below-set, below-splice, below-replicate, below-bitsAt}
 use Rattle.bits.proofs.Puts.{pad-at, pad-in, put-nil, put-of, put-put, below-put, length-bitsAt, bitsAt-add, zeros-add}
 

@@ -2,8 +2,6 @@
 use mathlib.Core.Path.{_≡_, sym, _∙_}
 use Prim.Native.Nat.{_+_, _*_, _-_, _/_, _%_}
 use native.Mathlib.Omega.{arith}
-use lib.ListN.{replicate}
-use Rattle.bits.specs.Bits.{putBits}
 use Rattle.bits.proofs.Laws.{below-of}
 use Rattle.bits.proofs.Puts.{put-nil}
 use Rattle.bits.proofs.Steps.{same-more}

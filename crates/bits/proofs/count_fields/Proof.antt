@@ -1,9 +1,9 @@
 -- `bits::count_fields` meets its contract: none counts the first i bits. Assumes nothing.
-use mathlib.Core.Path.{_≡_, refl, sym, _∙_}
+use mathlib.Core.Path.{_≡_, refl, _∙_}
 use Prim.Native.Nat.{_≤_, _<_, _+_, _*_, _-_, _/_, _%_}
 use native.Mathlib.Omega.{arith}
-use lib.Count.{ones, ones-le}
-use Rattle.bits.specs.Bits.{digits, zeros, bitsAt}
+use lib.Count.{ones-le}
+use Rattle.bits.specs.Bits.{zeros, bitsAt}
 use Rattle.bits.proofs.Steps.{zeros-none, count-more}
 use Rattle.bits.proofs.count_fields.Statement.{statement}
 use Rattle.bits.proofs.count_fields.Tie as tie

@@ -1,8 +1,8 @@
 -- `bits::count_words` meets its contract: none counts the first i words. Assumes nothing.
-use mathlib.Core.Path.{_≡_, refl, sym, _∙_}
-use Prim.Native.Nat.{_≤_, _<_, _+_, _*_, _-_}
+use mathlib.Core.Path.{_≡_, _∙_}
+use Prim.Native.Nat.{_≤_, _+_, _*_, _-_}
 use native.Mathlib.Omega.{arith}
-use lib.Count.{ones, ones-le}
+use lib.Count.{ones-le}
 use Rattle.bits.specs.Bits.{digits, zeros, bitsAt}
 use Rattle.bits.proofs.Steps.{zeros-none, word-is, count-more}
 use Rattle.bits.proofs.count_words.Statement.{statement}

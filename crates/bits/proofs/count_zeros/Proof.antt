@@ -1,5 +1,5 @@
 -- `bits::count_zeros` meets its contract. Assumes nothing.
-use mathlib.Core.Path.{_≡_, sym, _∙_}
+use mathlib.Core.Path.{_≡_, _∙_}
 use Prim.Native.Nat.{_+_, _*_, _-_, _/_, _%_}
 use native.Mathlib.Omega.{arith}
 use Rattle.bits.proofs.Puts.{zeros-bitsAt}

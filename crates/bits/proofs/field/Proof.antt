@@ -1,6 +1,6 @@
 -- `bits::field` meets its contract. Assumes nothing.
 use native.Mathlib.Omega.{arith}
-use Prim.Native.Nat.{_/_, _%_, _^_}
+use Prim.Native.Nat.{_/_, _^_}
 use lib.Pow.{shr-le}
 use Rattle.bits.proofs.Steps.{one-shl-pos, pow-le-byte, below-shl, field-is}
 use borrow.Author.Needs.{needs}

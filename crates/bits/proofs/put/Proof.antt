@@ -1,5 +1,4 @@
 -- `bits::put` meets its contract. Assumes nothing.
-use Prim.Native.Nat.{_+_, _*_, _/_, _%_, _^_}
 use native.Mathlib.Omega.{arith}
 use lib.ListN.{getD}
 use Rattle.bits.proofs.Laws.{below-of}

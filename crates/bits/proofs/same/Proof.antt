@@ -1,5 +1,4 @@
 -- `bits::same` meets its contract. Assumes nothing.
-use Prim.Native.Nat.{_+_, _*_, _/_, _%_, _^_}
 use native.Mathlib.Omega.{arith}
 use Rattle.bits.proofs.Steps.{one-shl, one-shl-pos, pow-le-byte, same-byte, same-lt, same-is}
 use borrow.Author.Needs.{needs}

@@ -1,9 +1,9 @@
 -- `bits::shift_words` meets its contract: room has the bits of the first i words. Assumes nothing.
-use mathlib.Core.Path.{_≡_, refl, sym, _∙_}
+use mathlib.Core.Path.{_≡_, refl, _∙_}
 use Prim.Native.Nat.{_≤_, _<_, _+_, _*_, _-_, _/_, _%_, _^_}
 use native.Mathlib.Omega.{arith}
 use lib.ListN.{length}
-use lib.Count.{ones, ones-le}
+use lib.Count.{ones-le}
 use Rattle.bits.specs.Bits.{digits, zeros, bitsAt, putBits}
 use Rattle.bits.proofs.Laws.{below-of}
 use Rattle.bits.proofs.Steps.{copy-none, zeros-none, shifted-lt, shift-is, step-word, count-more}
