@@ -1,0 +1,4 @@
+-- The laws that the proofs of `bits` share.
+pub mod Laws
+pub mod Puts
+pub mod Steps
