@@ -1,0 +1,3 @@
+-- The laws of `run_ends`.
+pub mod Search
+pub mod Laws
