@@ -11,7 +11,7 @@ use lib.Dec.{ltb}
 use borrow.Author.Tests.{ltb-true, lt-ltb, le-ltb}
 use Rattle.number.specs.Number.{entry, encode, splice}
 use Rattle.number.proofs.Laws.{length-encode, splice-splice}
-use Rattle.run_ends.specs.Lookup.{firstAbove, bisect, foundAt, Rising, spanOf, spanned, runsOf}
+use Rattle.run_ends.specs.Lookup.{firstAbove, bisect, foundAt, Rising, lastEnd, spanOf, spanned, runsOf}
 use Rattle.run_ends.specs.Clip.{clip, clipped, nextEnd}
 use Rattle.run_ends.specs.declared.LogicalRow.{LogicalRow}
 use Rattle.run_ends.specs.declared.PhysicalRun.{PhysicalRun}
@@ -27,6 +27,13 @@ module _ (w : ℕ) (s : List ℕ) (from n : ℕ) where
   -- where the ends rise, the search by halves answers the format's run
   pub bisect-first : (x : ℕ) → Rising w s from n → bisect w s from n x ≡ firstAbove w s from n x
   bisect-first x h = halve-first (entry w s from) n x (h .climbs)
+
+  pub last-at : 0 < n → entry w s from (n - 1) ≡ lastEnd w s from n
+  last-at h = go n h
+    where
+      go : (k : ℕ) → 0 < k → entry w s from (k - 1) ≡ lastEnd w s from k
+      go zero g = absurd (omega arith)
+      go (suc k) g = let e : suc k - 1 ≡ k = omega arith in rw e
 
   -- what a lookup promises
   abbrev pub Looked : ℕ → Found → Type 0

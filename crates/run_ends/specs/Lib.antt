@@ -1,3 +1,4 @@
--- The definitions that the contracts of `run_ends` cite.
+-- The definitions that the contracts and theorems of `run_ends` cite.
 pub mod Lookup
 pub mod Clip
+pub mod Extend

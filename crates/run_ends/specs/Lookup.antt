@@ -40,6 +40,11 @@ pub record Climbs (e : ℕ → ℕ) (n : ℕ) : Type 0 where
   pub start : 0 < n → 1 ≤ e 0
   pub rises : (k : ℕ) → k + 1 < n → e k < e (k + 1)
 
+-- n run ends reach over the rows below `end`
+pub record Covers (e : ℕ → ℕ) (n end : ℕ) : Type 0 where
+  pub runs : 0 < n
+  pub last : end ≤ e (n - 1)
+
 -- ---- ends in bytes, over the width w
 
 -- the Columnar Format's run of row x: the first of n whose end is above it; n where there is none
@@ -54,6 +59,11 @@ bisect w s from n x = halve (entry w s from) x n 0 n
 pub record Rising (w : ℕ) (s : List ℕ) (from n : ℕ) : Type 0 where
   pub climbs : Climbs (entry w s from) n
   pub small : (k : ℕ) → k < n → entry w s from k < 256 ^ w / 2
+
+-- the last of n run ends; 0 where there is none
+abbrev pub lastEnd : ℕ → List ℕ → ℕ → ℕ → ℕ
+lastEnd w s from zero = 0
+lastEnd w s from (suc k) = entry w s from k
 
 -- run k with its end; k = n: the row is past the last run
 abbrev pub foundAt : ℕ → List ℕ → ℕ → ℕ → ℕ → Found

@@ -1,10 +1,10 @@
 // Run ends of the run-end encoded layout: the run of a row, the runs of a range, and clipped run ends.
 // Follows arrow-data 60.1.0 src/transform/run.rs, Apache-2.0; see NOTICE.
 ghost use mathlib.Core.Path.{_≡_};
-ghost use Prim.Native.Nat.{_+_, _*_, _-_, _≤_, _<_, _/_, _^_, ℕ};
+ghost use Prim.Native.Nat.{_+_, _*_, _-_, _/_, _^_, _≤_, _<_};
 ghost use lib.ListN.{length};
 ghost use Rattle.number.specs.Number.{entry, splice};
-ghost use Rattle.run_ends.specs.Lookup.{firstAbove, bisect, foundAt, Rising, spanOf, runsOf};
+ghost use Rattle.run_ends.specs.Lookup.{firstAbove, bisect, foundAt, Rising, lastEnd, spanOf, runsOf};
 ghost use Rattle.run_ends.specs.Clip.{clip, clipped, nextEnd};
 
 // A row of the array, counted with the array's offset added: the caller of a sliced array adds it once.
@@ -53,12 +53,24 @@ fn clip_end(x: LogicalRow, start: LogicalRow, end: LogicalRow) -> u64
     if stop < start.0 { 0 } else { stop - start.0 }
 }
 
+// The end of a run.
 pub fn run_end_i16(body: &[u8], from: usize, run: PhysicalRun) -> LogicalRow
     requires { ⌜ from + 2 * (run .0) + 2 ≤ length (now body) ⌝ }
     ensures { λ r. ⌜ r .0 ≡ entry 2 (now (body .entry)) from (run .0) ⌝ }
 {
     let k = run.0;
     LogicalRow(number::read_u16(body, from + 2 * k) as u64)
+}
+
+// The last of n run ends; 0 where there is none.
+pub fn last_run_end_i16(body: &[u8], from: usize, n: usize) -> LogicalRow
+    requires { ⌜ from + 2 * n ≤ length (now body) ⌝ }
+    ensures { λ r. ⌜ r .0 ≡ lastEnd 2 (now (body .entry)) from n ⌝ }
+{
+    if n == 0 {
+        return LogicalRow(0);
+    }
+    run_end_i16(body, from, PhysicalRun(n - 1))
 }
 
 // The first run whose end is above the row, by halves.
@@ -124,7 +136,7 @@ pub fn runs_of_range_i16(
     span(a, b, n)
 }
 
-// 2rites m run ends into room at `at`: those of body at `from`, clipped to the rows start .. end - 1, after the run end `last`.
+// Writes m run ends into room at `at`: those of body at `from`, clipped to the rows start .. end - 1, after the run end `last`.
 pub fn extend_run_ends_i16(
     room: &mut [u8],
     at: usize,
@@ -137,7 +149,6 @@ pub fn extend_run_ends_i16(
 )
     requires { ⌜ at + 2 * m ≤ length (now room) ⌝ }
     requires { ⌜ from + 2 * m ≤ length (now body) ⌝ }
-    requires { ⌜ start .0 ≤ end .0 ⌝ }
     requires { ⌜ last + (end .0 - start .0) < 256 ^ 2 / 2 ⌝ }
     ensures { λ _. ⌜ now (room .exit) ≡ splice at (clipped 2 (now (body .entry)) from m (start .0) (end .0) last) (now (room .entry)) ⌝ }
 {
@@ -162,12 +173,24 @@ pub fn next_run_end_i16(last: u64, n: u64) -> NextEnd
     NextEnd::End(last + n)
 }
 
+// The end of a run.
 pub fn run_end_i32(body: &[u8], from: usize, run: PhysicalRun) -> LogicalRow
     requires { ⌜ from + 4 * (run .0) + 4 ≤ length (now body) ⌝ }
     ensures { λ r. ⌜ r .0 ≡ entry 4 (now (body .entry)) from (run .0) ⌝ }
 {
     let k = run.0;
     LogicalRow(number::read_u32(body, from + 4 * k) as u64)
+}
+
+// The last of n run ends; 0 where there is none.
+pub fn last_run_end_i32(body: &[u8], from: usize, n: usize) -> LogicalRow
+    requires { ⌜ from + 4 * n ≤ length (now body) ⌝ }
+    ensures { λ r. ⌜ r .0 ≡ lastEnd 4 (now (body .entry)) from n ⌝ }
+{
+    if n == 0 {
+        return LogicalRow(0);
+    }
+    run_end_i32(body, from, PhysicalRun(n - 1))
 }
 
 // The first run whose end is above the row, by halves.
@@ -233,7 +256,7 @@ pub fn runs_of_range_i32(
     span(a, b, n)
 }
 
-// 4rites m run ends into room at `at`: those of body at `from`, clipped to the rows start .. end - 1, after the run end `last`.
+// Writes m run ends into room at `at`: those of body at `from`, clipped to the rows start .. end - 1, after the run end `last`.
 pub fn extend_run_ends_i32(
     room: &mut [u8],
     at: usize,
@@ -246,7 +269,6 @@ pub fn extend_run_ends_i32(
 )
     requires { ⌜ at + 4 * m ≤ length (now room) ⌝ }
     requires { ⌜ from + 4 * m ≤ length (now body) ⌝ }
-    requires { ⌜ start .0 ≤ end .0 ⌝ }
     requires { ⌜ last + (end .0 - start .0) < 256 ^ 4 / 2 ⌝ }
     ensures { λ _. ⌜ now (room .exit) ≡ splice at (clipped 4 (now (body .entry)) from m (start .0) (end .0) last) (now (room .entry)) ⌝ }
 {
@@ -271,12 +293,24 @@ pub fn next_run_end_i32(last: u64, n: u64) -> NextEnd
     NextEnd::End(last + n)
 }
 
+// The end of a run.
 pub fn run_end_i64(body: &[u8], from: usize, run: PhysicalRun) -> LogicalRow
     requires { ⌜ from + 8 * (run .0) + 8 ≤ length (now body) ⌝ }
     ensures { λ r. ⌜ r .0 ≡ entry 8 (now (body .entry)) from (run .0) ⌝ }
 {
     let k = run.0;
     LogicalRow(number::read_u64(body, from + 8 * k))
+}
+
+// The last of n run ends; 0 where there is none.
+pub fn last_run_end_i64(body: &[u8], from: usize, n: usize) -> LogicalRow
+    requires { ⌜ from + 8 * n ≤ length (now body) ⌝ }
+    ensures { λ r. ⌜ r .0 ≡ lastEnd 8 (now (body .entry)) from n ⌝ }
+{
+    if n == 0 {
+        return LogicalRow(0);
+    }
+    run_end_i64(body, from, PhysicalRun(n - 1))
 }
 
 // The first run whose end is above the row, by halves.
@@ -342,7 +376,7 @@ pub fn runs_of_range_i64(
     span(a, b, n)
 }
 
-// 8rites m run ends into room at `at`: those of body at `from`, clipped to the rows start .. end - 1, after the run end `last`.
+// Writes m run ends into room at `at`: those of body at `from`, clipped to the rows start .. end - 1, after the run end `last`.
 pub fn extend_run_ends_i64(
     room: &mut [u8],
     at: usize,
@@ -355,7 +389,6 @@ pub fn extend_run_ends_i64(
 )
     requires { ⌜ at + 8 * m ≤ length (now room) ⌝ }
     requires { ⌜ from + 8 * m ≤ length (now body) ⌝ }
-    requires { ⌜ start .0 ≤ end .0 ⌝ }
     requires { ⌜ last + (end .0 - start .0) < 256 ^ 8 / 2 ⌝ }
     ensures { λ _. ⌜ now (room .exit) ≡ splice at (clipped 8 (now (body .entry)) from m (start .0) (end .0) last) (now (room .entry)) ⌝ }
 {
