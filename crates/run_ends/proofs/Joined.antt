@@ -23,7 +23,7 @@ module _ (d : ℕ → ℕ) (p : ℕ) (g : ℕ → ℕ) where
   followed-at : (r : ℕ) → followed d p g (p + r) ≡ g r
   followed-at r = let e : p + r - p ≡ r = omega arith in followed-high (p + r) (omega arith) ∙ ap g e
 
-ending-le : {d : ℕ → ℕ} {p last : ℕ} → Ending d p last → (k : ℕ) → k < p → d k ≤ last
+pub ending-le : {d : ℕ → ℕ} {p last : ℕ} → Ending d p last → (k : ℕ) → k < p → d k ≤ last
 ending-le {d} {p} v k h = omega (arith, v .ends (omega arith), climbs-le (v .climbs) k (p - 1) (omega arith) (omega arith))
 
 module _ (d : ℕ → ℕ) (p last : ℕ) (v : Ending d p last) (g : ℕ → ℕ) (m : ℕ) where

@@ -3,3 +3,5 @@ pub mod Search
 pub mod Laws
 pub mod Extend
 pub mod Joined
+pub mod Written
+pub mod Table
