@@ -8,7 +8,7 @@ use native.Mathlib.Omega.{arith}
 use mathlib.Core.List.{List, _++_}
 use lib.ListN.{length, length-append}
 use lib.Dec.{ltb}
-use borrow.Author.Tests.{ltb-true, lt-ltb, le-ltb}
+use borrow.Author.Tests.{ltb-true, ltb-false, lt-ltb, le-ltb}
 use Rattle.number.specs.Number.{entry, encode, splice}
 use Rattle.number.proofs.Laws.{length-encode, splice-splice}
 use Rattle.run_ends.specs.Lookup.{firstAbove, bisect, foundAt, Rising, lastEnd, spanOf, spanned, runsOf}
@@ -86,6 +86,40 @@ module _ (w : ℕ) (s : List ℕ) (from n : ℕ) where
   pub looked-below : (k : ℕ) {f : Found} {a : PhysicalRun} {x : LogicalRow} → f ≡ foundAt w s from n k → f ≡ Run a x → a .0 < n
   looked-below k e p = found-below k (sym p ∙ e)
 
+-- ---- what a caller learns from an answer
+
+-- the m runs from run a on of a range that is not empty lie among the n
+pub record Within (n start end a m : ℕ) : Type 0 where
+  pub rows : start < end
+  pub runs : 0 < m
+  pub within : a + m ≤ n
+
+module _ (w : ℕ) (s : List ℕ) (from n start end : ℕ) (look : ℕ → ℕ) where
+  pub range-within : {a : PhysicalRun} {m : ℕ} → runsOf (λ x. foundAt w s from n (look x)) start end ≡ Range a m → Within n start end (a .0) m
+  range-within {a} {m} e = go (ltb start end) refl e
+    where
+      spans : (j k : ℕ) → start < end → k < n → (t : Bool) → ltb k j ≡ t
+          → cond t None (Range (record { 0 = j }) (k - j + 1)) ≡ Range a m → Within n start end (a .0) m
+      spans j k l h true p q = absurd (let z : _≡_ {A = ℕ} 0 1 = cc in omega arith)
+      spans j k l h false p q =
+          let b : j ≤ k = ltb-false k j p in
+          let u : record { 0 = j } ≡ a = cc in
+          let v : k - j + 1 ≡ m = cc in
+          let x : j ≡ a .0 = ap (λ (r : PhysicalRun). r .0) u in
+          record { rows = l; runs = omega arith; within = omega arith }
+
+      both : (j k : ℕ) → start < end → (t : Bool) → ltb j n ≡ t → (u : Bool) → ltb k n ≡ u
+          → spanned (cond t (Run (record { 0 = j }) (record { 0 = entry w s from j })) Past) (cond u (Run (record { 0 = k }) (record { 0 = entry w s from k })) Past) ≡ Range a m
+          → Within n start end (a .0) m
+      both j k l true p true g q = spans j k l (ltb-true k n g) (ltb k j) refl q
+      both j k l true p false g q = absurd (let z : _≡_ {A = ℕ} 0 1 = cc in omega arith)
+      both j k l false p u g q = absurd (let z : _≡_ {A = ℕ} 0 1 = cc in omega arith)
+
+      go : (t : Bool) → ltb start end ≡ t → cond t (spanned (foundAt w s from n (look start)) (foundAt w s from n (look (end - 1)))) None ≡ Range a m
+          → Within n start end (a .0) m
+      go true p q = both (look start) (look (end - 1)) (ltb-true start end p) (ltb (look start) n) refl (ltb (look (end - 1)) n) refl q
+      go false p q = absurd (let z : _≡_ {A = ℕ} 0 1 = cc in omega arith)
+
 -- ---- clipped run ends
 
 module _ (w : ℕ) (s : List ℕ) (from start end last : ℕ) where
@@ -109,6 +143,21 @@ module _ (w : ℕ) (s : List ℕ) (from start end last : ℕ) where
 
 pub next-over : (w last n : ℕ) → 256 ^ w / 2 ≤ last + n → Over ≡ nextEnd w last n
 next-over w last n h = rw (le-ltb (last + n) (256 ^ w / 2) h)
+
+-- an answer says that the run end fits, or that it does not
+pub next-fits : (w last n : ℕ) {x : ℕ} → nextEnd w last n ≡ End x → last + n < 256 ^ w / 2
+next-fits w last n {x} e = go (ltb (last + n) (256 ^ w / 2)) refl e
+  where
+    go : (t : Bool) → ltb (last + n) (256 ^ w / 2) ≡ t → cond t (End (last + n)) Over ≡ End x → last + n < 256 ^ w / 2
+    go true p q = ltb-true _ _ p
+    go false p q = absurd (let z : _≡_ {A = ℕ} 0 1 = cc in omega arith)
+
+pub next-not : (w last n : ℕ) → nextEnd w last n ≡ Over → 256 ^ w / 2 ≤ last + n
+next-not w last n e = go (ltb (last + n) (256 ^ w / 2)) refl e
+  where
+    go : (t : Bool) → ltb (last + n) (256 ^ w / 2) ≡ t → cond t (End (last + n)) Over ≡ Over → 256 ^ w / 2 ≤ last + n
+    go true p q = absurd (let z : _≡_ {A = ℕ} 0 1 = cc in omega arith)
+    go false p q = ltb-false _ _ p
 
 pub next-end : (w last n : ℕ) → last + n < 256 ^ w / 2 → End (last + n) ≡ nextEnd w last n
 next-end w last n h = rw (lt-ltb (last + n) (256 ^ w / 2) h)
