@@ -95,8 +95,9 @@ pub record Within (n start end a m : ℕ) : Type 0 where
   pub within : a + m ≤ n
 
 module _ (w : ℕ) (s : List ℕ) (from n start end : ℕ) (look : ℕ → ℕ) where
-  pub range-within : {a : PhysicalRun} {m : ℕ} → runsOf (λ x. foundAt w s from n (look x)) start end ≡ Range a m → Within n start end (a .0) m
-  range-within {a} {m} e = go (ltb start end) refl e
+  pub range-within : {r : Runs} {a : PhysicalRun} {m : ℕ} → r ≡ runsOf (λ x. foundAt w s from n (look x)) start end → r ≡ Range a m
+      → Within n start end (a .0) m
+  range-within {r} {a} {m} e f = go (ltb start end) refl (sym e ∙ f)
     where
       spans : (j k : ℕ) → start < end → k < n → (t : Bool) → ltb k j ≡ t
           → cond t None (Range (record { 0 = j }) (k - j + 1)) ≡ Range a m → Within n start end (a .0) m
@@ -145,15 +146,15 @@ pub next-over : (w last n : ℕ) → 256 ^ w / 2 ≤ last + n → Over ≡ nextE
 next-over w last n h = rw (le-ltb (last + n) (256 ^ w / 2) h)
 
 -- an answer says that the run end fits, or that it does not
-pub next-fits : (w last n : ℕ) {x : ℕ} → nextEnd w last n ≡ End x → last + n < 256 ^ w / 2
-next-fits w last n {x} e = go (ltb (last + n) (256 ^ w / 2)) refl e
+pub next-fits : (w last n : ℕ) {r : NextEnd} {x : ℕ} → r ≡ nextEnd w last n → r ≡ End x → last + n < 256 ^ w / 2
+next-fits w last n {r} {x} e f = go (ltb (last + n) (256 ^ w / 2)) refl (sym e ∙ f)
   where
     go : (t : Bool) → ltb (last + n) (256 ^ w / 2) ≡ t → cond t (End (last + n)) Over ≡ End x → last + n < 256 ^ w / 2
     go true p q = ltb-true _ _ p
     go false p q = absurd (let z : _≡_ {A = ℕ} 0 1 = cc in omega arith)
 
-pub next-not : (w last n : ℕ) → nextEnd w last n ≡ Over → 256 ^ w / 2 ≤ last + n
-next-not w last n e = go (ltb (last + n) (256 ^ w / 2)) refl e
+pub next-not : (w last n : ℕ) {r : NextEnd} → r ≡ nextEnd w last n → r ≡ Over → 256 ^ w / 2 ≤ last + n
+next-not w last n e f = go (ltb (last + n) (256 ^ w / 2)) refl (sym e ∙ f)
   where
     go : (t : Bool) → ltb (last + n) (256 ^ w / 2) ≡ t → cond t (End (last + n)) Over ≡ Over → 256 ^ w / 2 ≤ last + n
     go true p q = absurd (let z : _≡_ {A = ℕ} 0 1 = cc in omega arith)

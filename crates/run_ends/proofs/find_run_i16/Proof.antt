@@ -1,15 +1,14 @@
 -- `run_ends::find_run_i16` meets its contract. Assumes nothing.
-use borrow.Author.Needs.{needs}
 use native.Mathlib.Omega.{arith}
 use Rattle.run_ends.proofs.Laws.{looked-run, looked-past}
 use Rattle.run_ends.proofs.find_run_i16.Statement.{statement}
 use Rattle.run_ends.proofs.find_run_i16.Tie as tie
 
 bisect-i16-requires : tie.Need-bisect-i16-requires
-bisect-i16-requires c κs = search needs
+bisect-i16-requires c κs = omega arith
 
 run-end-i16-requires : tie.Need-run-end-i16-requires
-run-end-i16-requires c κs = search needs
+run-end-i16-requires c κs = omega arith
 
 returns : tie.Need-returns
 returns c =

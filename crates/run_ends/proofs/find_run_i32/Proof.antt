@@ -1,15 +1,14 @@
 -- `run_ends::find_run_i32` meets its contract. Assumes nothing.
-use borrow.Author.Needs.{needs}
 use native.Mathlib.Omega.{arith}
 use Rattle.run_ends.proofs.Laws.{looked-run, looked-past}
 use Rattle.run_ends.proofs.find_run_i32.Statement.{statement}
 use Rattle.run_ends.proofs.find_run_i32.Tie as tie
 
 bisect-i32-requires : tie.Need-bisect-i32-requires
-bisect-i32-requires c κs = search needs
+bisect-i32-requires c κs = omega arith
 
 run-end-i32-requires : tie.Need-run-end-i32-requires
-run-end-i32-requires c κs = search needs
+run-end-i32-requires c κs = omega arith
 
 returns : tie.Need-returns
 returns c =

@@ -1,15 +1,14 @@
 -- `run_ends::find_run_i64` meets its contract. Assumes nothing.
-use borrow.Author.Needs.{needs}
 use native.Mathlib.Omega.{arith}
 use Rattle.run_ends.proofs.Laws.{looked-run, looked-past}
 use Rattle.run_ends.proofs.find_run_i64.Statement.{statement}
 use Rattle.run_ends.proofs.find_run_i64.Tie as tie
 
 bisect-i64-requires : tie.Need-bisect-i64-requires
-bisect-i64-requires c κs = search needs
+bisect-i64-requires c κs = omega arith
 
 run-end-i64-requires : tie.Need-run-end-i64-requires
-run-end-i64-requires c κs = search needs
+run-end-i64-requires c κs = omega arith
 
 returns : tie.Need-returns
 returns c =

@@ -10,10 +10,10 @@ returns : tie.Need-returns
 returns c = search needs
 
 sub-t5 : tie.Need-sub-t5
-sub-t5 c = search needs
+sub-t5 c = omega arith
 
 run-end-i64-requires : tie.Need-run-end-i64-requires
-run-end-i64-requires c κs = search needs
+run-end-i64-requires c κs = omega arith
 
 returns-2 : tie.Need-returns-2
 returns-2 c = let z = c .before .before .before .args in c .run-end-i64 .ensures ∙ last-at 8 (z .body .now) (z .from) (z .n) (omega arith)

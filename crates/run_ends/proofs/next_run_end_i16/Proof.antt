@@ -1,5 +1,4 @@
 -- `run_ends::next_run_end_i16` meets its contract. Assumes nothing.
-use borrow.Author.Needs.{needs}
 use native.Mathlib.Omega.{arith}
 use Rattle.run_ends.proofs.Laws.{next-over, next-end}
 use Rattle.run_ends.proofs.next_run_end_i16.Statement.{statement}
@@ -12,7 +11,7 @@ returns-2 : tie.Need-returns-2
 returns-2 c = next-over 2 (c .before .before .args .last) (c .before .before .args .n) (omega arith)
 
 add-t4 : tie.Need-add-t4
-add-t4 c = search needs
+add-t4 c = omega arith
 
 returns-3 : tie.Need-returns-3
 returns-3 c = next-end 2 (c .before .before .args .last) (c .before .before .args .n) (omega arith)

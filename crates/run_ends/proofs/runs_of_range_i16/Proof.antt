@@ -9,7 +9,7 @@ returns : tie.Need-returns
 returns c = let z = c .before .before .before .args in ranged-none 2 _ _ _ (z .start .0) (z .end .0) (omega arith)
 
 find-run-i16-requires : tie.Need-find-run-i16-requires
-find-run-i16-requires c κs = search needs
+find-run-i16-requires c κs = omega arith
 
 enum-known-a : tie.Need-enum-known-a
 enum-known-a c = search needs
@@ -21,10 +21,10 @@ returns-2 : tie.Need-returns-2
 returns-2 c = ranged-past 2 _ _ _ _ _ (omega arith) (c .before .before .find-run-i16 .ensures .0) (c .enum-told .given .1)
 
 sub-t12 : tie.Need-sub-t12
-sub-t12 c = search needs
+sub-t12 c = omega arith
 
 find-run-i16-requires-2 : tie.Need-find-run-i16-requires-2
-find-run-i16-requires-2 c κs = search needs
+find-run-i16-requires-2 c κs = omega arith
 
 enum-known-b : tie.Need-enum-known-b
 enum-known-b c = search needs

@@ -1,5 +1,5 @@
 -- `run_ends::span` meets its contract. Assumes nothing.
-use borrow.Author.Needs.{needs}
+use native.Mathlib.Omega.{arith}
 use borrow.Author.Tests.{lt-ltb, le-ltb}
 use Rattle.run_ends.proofs.span.Statement.{statement}
 use Rattle.run_ends.proofs.span.Tie as tie
@@ -8,7 +8,7 @@ returns : tie.Need-returns
 returns c = simp (lt-ltb _ _ (c .if1 .taken))
 
 add-t6 : tie.Need-add-t6
-add-t6 c = search needs
+add-t6 c = omega arith
 
 returns-2 : tie.Need-returns-2
 returns-2 c = simp (le-ltb _ _ (c .before .before .if1 .left))
