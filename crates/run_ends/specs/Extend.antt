@@ -1,7 +1,7 @@
 -- The Rust's `build_extend_arrays`, branch by branch: the run ends and the range of values that a copy adds.
 -- Follows arrow-data 60.1.0 src/transform/run.rs, Apache-2.0; see NOTICE. Assumes nothing.
--- Its `typed_slice` has `length` run ends, so that the test `i < typed_slice.len()` holds at each turn, and the casts by `usize_as`
--- keep their number, which where the ends rise is at most a run end.
+-- Its `typed_slice` has `length` run ends, so that the test `i < typed_slice.len()` holds at each turn. Where the ends rise, none is
+-- negative, so that `to_usize` answers; and what `usize_as` casts is at most a run end, so that the cast keeps it.
 use Prim.Native.Nat.{ℕ, zero, suc, _+_, _*_, _-_, _/_, _^_}
 use mathlib.Core.Bool.{Bool, cond, _&&_}
 use mathlib.Core.List.{List, [], _++_}
@@ -50,9 +50,9 @@ extendLoop w typedSlice start end (suc left) i prevEnd current bytes values =
     branches w start end i (typedSlice i) prevEnd current bytes values
     (λ c b v. cond (leb end (typedSlice i)) (ok b v) (extendLoop w typedSlice start end left (suc i) (typedSlice i) c b v))
 
--- the run ends stand in s from the byte `from` on
+-- build_extend_arrays on n run ends that stand in s from the byte `from` on
 abbrev pub extendArrays : ℕ → List ℕ → ℕ → ℕ → ℕ → ℕ → ℕ → Extended
-extendArrays w s from length start len last = extendLoop w (entry w s from) start (start + len) length 0 0 last [] none
+extendArrays w s from n start len last = extendLoop w (entry w s from) start (start + len) n 0 0 last [] none
 
 -- what a copy of the rows start .. end - 1 adds by the functions of this crate, from the runs of the range on
 abbrev pub added : ℕ → List ℕ → ℕ → ℕ → ℕ → ℕ → Runs → Extended

@@ -22,6 +22,7 @@ scan e x (suc n) i = cond (ltb x (e i)) i (scan e x n (suc i))
 abbrev pub first : (ℕ → ℕ) → ℕ → ℕ → ℕ
 first e n x = scan e x n 0
 
+-- the run in the middle of those from lo to hi
 abbrev pub middle : ℕ → ℕ → ℕ
 middle lo hi = lo + (hi - lo) / 2
 

@@ -395,7 +395,7 @@ pub fn extend_run_ends_i64(
     let mut k = 0;
     while k < m {
         let x = clip_end(run_end_i64(body, from, PhysicalRun(k)), start, end);
-        number::write_u64(room, at + 8 * k, (last + x));
+        number::write_u64(room, at + 8 * k, last + x);
         k += 1;
     }
 }
