@@ -1,0 +1,24 @@
+-- `run_ends::find_run_i64` meets its contract. Assumes nothing.
+use native.Mathlib.Omega.{arith}
+use Rattle.run_ends.proofs.Laws.{looked-run, looked-past}
+use Rattle.run_ends.proofs.find_run_i64.Statement.{statement}
+use Rattle.run_ends.proofs.find_run_i64.Tie as tie
+
+bisect-i64-requires : tie.Need-bisect-i64-requires
+bisect-i64-requires c κs = omega arith
+
+run-end-i64-requires : tie.Need-run-end-i64-requires
+run-end-i64-requires c κs = omega arith
+
+returns : tie.Need-returns
+returns c =
+    let z = c .before .before .before .before .args in
+    looked-run 8 (z .body .now) (z .from) (z .n) (z .row .0) (c .before .before .bisect-i64 .result) (c .run-end-i64 .result) (c .before .before .bisect-i64 .ensures) (omega arith) (c .run-end-i64 .ensures)
+
+returns-2 : tie.Need-returns-2
+returns-2 c =
+    let z = c .before .before .before .args in
+    looked-past 8 (z .body .now) (z .from) (z .n) (z .row .0) _ (c .before .bisect-i64 .ensures) (omega arith)
+
+pub find-run-i64-spec : {M : Type 1} → statement M
+find-run-i64-spec = tie.close (tie.spec bisect-i64-requires run-end-i64-requires returns returns-2)

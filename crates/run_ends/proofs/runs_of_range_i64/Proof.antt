@@ -1,0 +1,65 @@
+-- `run_ends::runs_of_range_i64` meets its contract. Assumes nothing.
+use borrow.Author.Needs.{needs}
+use native.Mathlib.Omega.{arith}
+use Rattle.run_ends.proofs.Laws.{ranged-none, ranged-past, ranged-end-past, ranged-span, looked-below}
+use Rattle.run_ends.proofs.runs_of_range_i64.Statement.{statement}
+use Rattle.run_ends.proofs.runs_of_range_i64.Tie as tie
+
+returns : tie.Need-returns
+returns c = let z = c .before .before .before .args in ranged-none 8 _ _ _ (z .start .0) (z .end .0) (omega arith)
+
+find-run-i64-requires : tie.Need-find-run-i64-requires
+find-run-i64-requires c κs = omega arith
+
+enum-known-a : tie.Need-enum-known-a
+enum-known-a c = search needs
+
+enum-told : tie.Need-enum-told
+enum-told c = search needs
+
+returns-2 : tie.Need-returns-2
+returns-2 c = ranged-past 8 _ _ _ _ _ (omega arith) (c .before .before .find-run-i64 .ensures .0) (c .enum-told .given .1)
+
+sub-t12 : tie.Need-sub-t12
+sub-t12 c = omega arith
+
+find-run-i64-requires-2 : tie.Need-find-run-i64-requires-2
+find-run-i64-requires-2 c κs = omega arith
+
+enum-known-b : tie.Need-enum-known-b
+enum-known-b c = search needs
+
+enum-told-2 : tie.Need-enum-told-2
+enum-told-2 c = search needs
+
+returns-3 : tie.Need-returns-3
+returns-3 c =
+    let d = c .before .before in
+    let p = d .before .before in
+    ranged-end-past 8 _ _ _ _ _ (omega arith) (p .before .before .find-run-i64 .ensures .0) (p .a .given .1) (d .find-run-i642 .ensures .0) (c .enum-told2 .given .1)
+
+span-requires : tie.Need-span-requires
+span-requires c κs = looked-below 8 _ _ _ _ (c .before .before .before .find-run-i642 .ensures .0) (c .before .b .given .1)
+
+returns-4 : tie.Need-returns-4
+returns-4 c =
+    let d = c .before .before .before .before in
+    let p = d .before .before in
+    ranged-span 8 _ _ _ _ _ (omega arith) (p .before .before .find-run-i64 .ensures .0) (p .a .given .1) (d .find-run-i642 .ensures .0) (c .before .before .b .given .1) (c .span .ensures)
+
+pub runs-of-range-i64-spec : {M : Type 1} → statement M
+runs-of-range-i64-spec =
+    tie.close
+    (tie.spec
+    returns
+    find-run-i64-requires
+    enum-known-a
+    enum-told
+    returns-2
+    sub-t12
+    find-run-i64-requires-2
+    enum-known-b
+    enum-told-2
+    returns-3
+    span-requires
+    returns-4)

@@ -1,0 +1,85 @@
+-- `vectors_runs::copy_i32` is safe and ends: the runs that it found lie among the n, and the last run end fits. Assumes nothing.
+use native.Mathlib.Omega.{arith}
+use borrow.Author.Needs.{needs}
+use Rattle.run_ends.specs.Lookup.{bisect}
+use Rattle.run_ends.proofs.Laws.{range-within, next-fits}
+use Rattle.vectors_runs.proofs.copy_i32.Statement.{statement}
+use Rattle.vectors_runs.proofs.copy_i32.Tie as tie
+
+runs-of-range-i32-requires : tie.Need-runs-of-range-i32-requires
+runs-of-range-i32-requires c κs = omega arith
+
+enum-known-first : tie.Need-enum-known-first
+enum-known-first c = search needs
+
+put-requires : tie.Need-put-requires
+put-requires c κs = tt
+
+put-requires-2 : tie.Need-put-requires-2
+put-requires-2 c κs = tt
+
+sub-next-run-end-i32 : tie.Need-sub-next-run-end-i32
+sub-next-run-end-i32 c =
+    let r = c .before .before .before .before .before in
+    let z = r .before .before .before .before .args in
+    let h = range-within 4 (z .ends .now) 0 (z .n) (z .start .0) (z .end .0) (bisect 4 (z .ends .now) 0 (z .n)) (r .before .before .runs-of-range-i32 .ensures .0) (r .first .given .1) in
+    omega arith
+
+next-run-end-i32-requires : tie.Need-next-run-end-i32-requires
+next-run-end-i32-requires c κs = tt
+
+enum-told : tie.Need-enum-told
+enum-told c = search needs
+
+clip-i32-requires : tie.Need-clip-i32-requires
+clip-i32-requires c κs =
+    let q = c .before .before in
+    let r = q .before .before .before .before .before .before in
+    let z = r .before .before .before .before .args in
+    let h = range-within 4 (z .ends .now) 0 (z .n) (z .start .0) (z .end .0) (bisect 4 (z .ends .now) 0 (z .n)) (r .before .before .runs-of-range-i32 .ensures .0) (r .first .given .1) in
+    (omega arith, next-fits 4 (z .last) _ (q .next-run-end-i32 .ensures) (c .enum-told .given .1))
+
+enum-told-2 : tie.Need-enum-told-2
+enum-told-2 c = search needs
+
+slice-aggregate-write-all : tie.Need-slice-aggregate-write-all
+slice-aggregate-write-all c = search needs
+
+write-all-requires : tie.Need-write-all-requires
+write-all-requires c κs = tt
+
+enum-told-3 : tie.Need-enum-told-3
+enum-told-3 c = search needs
+
+slice-aggregate-write-all-2 : tie.Need-slice-aggregate-write-all-2
+slice-aggregate-write-all-2 c = search needs
+
+write-all-requires-2 : tie.Need-write-all-requires-2
+write-all-requires-2 c κs = tt
+
+line-requires : tie.Need-line-requires
+line-requires c κs = tt
+
+returns : tie.Need-returns
+returns c = tt
+
+pub copy-i32-spec : {M : Type 1} → statement M
+copy-i32-spec =
+    tie.close
+    (tie.spec
+    runs-of-range-i32-requires
+    enum-known-first
+    put-requires
+    put-requires-2
+    sub-next-run-end-i32
+    next-run-end-i32-requires
+    enum-told
+    clip-i32-requires
+    enum-told-2
+    slice-aggregate-write-all
+    write-all-requires
+    enum-told-3
+    slice-aggregate-write-all-2
+    write-all-requires-2
+    line-requires
+    returns)
