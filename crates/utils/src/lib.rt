@@ -175,11 +175,11 @@ pub fn count_up_i32(room: &mut [u8], at: usize, n: usize, first: u32)
     requires { ⌜ at + 4 * n ≤ length (now room) ⌝ }
     ensures { λ _. ⌜ now (room .exit) ≡ splice at (countedUp 4 first n) (now (room .entry)) ⌝ }
 {
-    let mut v = first;
+    let mut position = first;
     let mut i = 0;
     while i < n {
-        number::write_u32(room, at + 4 * i, v);
-        v = std::num::wrapping_add_u32(v, 1);
+        number::write_u32(room, at + 4 * i, position);
+        position = std::num::wrapping_add_u32(position, 1);
         i += 1;
     }
 }

@@ -1,4 +1,4 @@
--- `utils::count_up_i32` meets its contract: room has i numbers at `at`, and v is the next. Assumes nothing.
+-- `utils::count_up_i32` meets its contract: room has i numbers at `at`, and position is the next. Assumes nothing.
 use mathlib.Core.Path.{_≡_, refl, sym, _∙_}
 use Prim.Native.Nat.{_≤_, _+_, _-_, _%_}
 use native.Mathlib.Omega.{arith}
@@ -10,10 +10,10 @@ use Rattle.utils.proofs.count_up_i32.Statement.{statement}
 use Rattle.utils.proofs.count_up_i32.Tie as tie
 
 abbrev Inv-loop : tie.InvT-loop
-Inv-loop room₀ at n first v₀ i₀ room v i = (i ≤ n) × (length room ≡ length room₀) × (v ≡ (first + i) % 4294967296) × (room ≡ splice at (countedUp 4 first i) room₀)
+Inv-loop room₀ at n first position₀ i₀ room position i = (i ≤ n) × (length room ≡ length room₀) × (position ≡ (first + i) % 4294967296) × (room ≡ splice at (countedUp 4 first i) room₀)
 
 abbrev μ-loop : tie.MeasureT-loop
-μ-loop room₀ at n first v₀ i₀ room v i = n - i
+μ-loop room₀ at n first position₀ i₀ room position i = n - i
 
 loop-holds : tie.Need-loop-holds Inv-loop μ-loop
 loop-holds c = (omega arith, refl, omega arith, sym (counted-none _ _ _ _))
