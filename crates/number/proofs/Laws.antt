@@ -89,6 +89,17 @@ number-lt zero s h = omega arith
 number-lt (suc w) [] h = one-le-pow (suc w) 256 (omega arith)
 number-lt (suc w) (x ∷ s) h = rw pow-suc (omega (arith, h 0, number-lt w s (λ i. h (suc i))))
 
+-- the bytes of a number that was read are those that it was read from
+pub encode-number : (w : ℕ) (s : List ℕ) → w ≤ length s → ((i : ℕ) → getD s i 0 < 256) → encode w (number w s) ≡ take w s
+unfolding number encode
+encode-number zero s l h = refl
+encode-number (suc w) [] l h = absurd (omega arith)
+encode-number (suc w) (b ∷ s) l h =
+    let low : b < 256 = h 0 in
+    let m : (b + 256 * number w s) % 256 ≡ b = omega arith in
+    let d : (b + 256 * number w s) / 256 ≡ number w s = omega arith in
+    rw (m, d, encode-number w s (omega arith) (λ i. h (suc i)))
+
 -- ---- a run that grows at its end
 
 pub splice-nil : (at : ℕ) (s : List ℕ) → splice at [] s ≡ s

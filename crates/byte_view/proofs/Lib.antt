@@ -1,0 +1,2 @@
+-- The laws of `byte_view`.
+pub mod Laws

@@ -1,0 +1,2 @@
+-- The definitions that the contracts of `byte_view` cite.
+pub mod View

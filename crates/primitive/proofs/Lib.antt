@@ -1,0 +1,2 @@
+-- The laws of `primitive`.
+pub mod Laws

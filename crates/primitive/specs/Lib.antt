@@ -1,0 +1,2 @@
+-- The definitions that the contracts of `primitive` cite.
+pub mod Primitive

@@ -1,0 +1,5 @@
+-- The definitions that the contracts of `utils` cite.
+pub mod Pieces
+pub mod Offsets
+pub mod Extension
+pub mod TryExtendOffsets
