@@ -1,0 +1,12 @@
+-- Columns of the Arrow Columnar Format: rows, types, arrays, how a row is read, and what a source must obey.
+-- Nothing here knows of copying, joining or any program.
+pub mod Row
+pub mod Types
+pub mod Array
+pub mod Plain
+pub mod View
+pub mod ListView
+pub mod Union
+pub mod RunEnd
+pub mod Dictionary
+pub mod Reading
