@@ -1,1 +1,2 @@
 -- The laws of `model`.
+pub mod Table

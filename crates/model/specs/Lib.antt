@@ -10,3 +10,4 @@ pub mod ListViews
 pub mod Unions
 pub mod Runs
 pub mod Transform
+pub mod Table

@@ -67,8 +67,8 @@ joinedFrom p vs (suc j) d = then (joinedFrom p vs j d) (λ e. extendNode true (�
 abbrev pub theDictionary : (p : Plain) → ℕ → (ℕ → Dictionary (PlainBody p)) → Try (Array (PlainBody p))
 theDictionary p m ds =
     elim (shared m ds) [
-      true ↦ done (ds 0 .values)
-    | false ↦ then (joinedFrom p (λ i. ds i .values) m (startNode (keeps false m (λ i. ds i .values)) (plainStart p))) (λ e. done (freezeNode true (λ b. b) e))
+      | true ↦ done (ds 0 .values)
+      | false ↦ then (joinedFrom p (λ i. ds i .values) m (startNode (keeps false m (λ i. ds i .values)) (plainStart p))) (λ e. done (freezeNode true (λ b. b) e))
     ]
 
 -- each in order: the first refusal, or done
