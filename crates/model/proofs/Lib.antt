@@ -1,2 +1,9 @@
 -- The laws of `model`.
 pub mod Table
+pub mod Agree
+pub mod Law
+pub mod Bits
+pub mod Node
+pub mod Nodes
+pub mod Owed
+pub mod Types

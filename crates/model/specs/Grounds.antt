@@ -152,12 +152,26 @@ abbrev pub unlessNone : AskNulls → AskNulls
 unlessNone ask zero c = done c
 unlessNone ask (suc n) c = ask (suc n) c
 
+-- n nulls more, n not 0
+abbrev pub nullsAsk : Ty → AskNulls
+nullsAsk (tPlain p) = plainNulls p
+nullsAsk tView = moreRows
+nullsAsk (tListView w t) = λ n c. done (counts (rowsOf c + n) 0 (kidOf c))
+nullsAsk (tSparse ids nullable f) = sparseNulls ids nullable (λ e. unlessNone (nullsAsk (f e)))
+nullsAsk (tDense ids nullable f) = denseNulls ids nullable (λ e. unlessNone (nullsAsk (f e)))
+nullsAsk (tRunEnd w t) = runEndNulls w (unlessNone (nullsAsk t))
+nullsAsk (tDictionary k p) = moreRows
+
 -- NULLS AT A NODE
 abbrev pub askNulls : Ty → AskNulls
-askNulls (tPlain p) = unlessNone (plainNulls p)
-askNulls tView = unlessNone moreRows
-askNulls (tListView w t) = unlessNone (λ n c. done (counts (rowsOf c + n) 0 (kidOf c)))
-askNulls (tSparse ids nullable f) = unlessNone (sparseNulls ids nullable (λ e. askNulls (f e)))
-askNulls (tDense ids nullable f) = unlessNone (denseNulls ids nullable (λ e. askNulls (f e)))
-askNulls (tRunEnd w t) = unlessNone (runEndNulls w (askNulls t))
-askNulls (tDictionary k p) = unlessNone moreRows
+askNulls t = unlessNone (nullsAsk t)
+
+-- what a destination with no rows holds
+abbrev pub startCounts : Ty → Counts
+startCounts (tPlain p) = counts 0 0 leaf
+startCounts tView = counts 0 0 leaf
+startCounts (tListView w t) = counts 0 0 (λ e. startCounts t)
+startCounts (tSparse ids nullable f) = counts 0 0 (among ids (λ e. startCounts (f e)))
+startCounts (tDense ids nullable f) = counts 0 0 (among ids (λ e. startCounts (f e)))
+startCounts (tRunEnd w t) = counts 0 0 (λ e. startCounts t)
+startCounts (tDictionary k p) = counts 0 0 leaf

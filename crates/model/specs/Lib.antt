@@ -10,4 +10,5 @@ pub mod ListViews
 pub mod Unions
 pub mod Runs
 pub mod Transform
+pub mod Held
 pub mod Table

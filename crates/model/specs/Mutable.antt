@@ -16,6 +16,10 @@ pub record Mutable (D : Type 0) : Type 0 where
   pub bits : Option (List Bool)
   pub «data» : D
 
+abbrev pub keepsBits : Option (List Bool) → Bool
+keepsBits none = false
+keepsBits (some l) = true
+
 -- the first k bits as a number, the lowest first; bits that are missing are 0
 abbrev pub bitsNumber : ℕ → List Bool → ℕ
 bitsNumber zero l = 0

@@ -14,7 +14,7 @@ use Rattle.columnar.specs.Dictionary.{Dictionary}
 use Rattle.columnar.specs.Reading.{Body, Column, masks}
 use Rattle.model.specs.Try.{Try, done, stop, then, guard, after}
 use Rattle.model.specs.Opening.{keeps, shared, allKeysFit}
-use Rattle.model.specs.Mutable.{Mutable, extendNode, nullsNode, startNode, freezeNode}
+use Rattle.model.specs.Mutable.{Mutable, keepsBits, extendNode, nullsNode, startNode, freezeNode}
 use Rattle.model.specs.Primitive.{plainExtend, plainNull, plainStart, viewExtend, buffersBefore, keysExtend}
 use Rattle.model.specs.ListViews.{Lists, listExtend, listNulls, listFreeze}
 use Rattle.model.specs.Unions.{Sparses, Denses, inOrder, sparseExtend, denseExtend, sparseNull, denseNull, sparseFreeze, denseFreeze}
@@ -118,7 +118,7 @@ abbrev pub tryExtend : (t : Ty) → ℕ → (ℕ → Column t) → ℕ → ℕ �
 tryExtend t m ss j a e d = guard (ltb j m) 1 (guard (leb a e && leb e (ss j .len)) 2 (extend t m ss j a (e - a) d))
 
 abbrev pub keepsNulls : {D : Type 0} → Mutable D → Bool
-keepsNulls d = elim (d .bits) [ none ↦ false | some l ↦ true ]
+keepsNulls d = keepsBits (d .bits)
 
 -- NULLS: 3, then count 0 accepted, then as the Rust meets them
 abbrev pub tryExtendNulls : (t : Ty) → ℕ → Destination t → Try (Destination t)
