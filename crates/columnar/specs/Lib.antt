@@ -3,6 +3,7 @@
 pub mod Row
 pub mod Types
 pub mod Array
+pub mod Entries
 pub mod Plain
 pub mod View
 pub mod ListView
