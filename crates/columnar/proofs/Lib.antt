@@ -1,1 +1,6 @@
 -- The laws of `columnar`.
+pub mod Items
+pub mod FirstAbove
+pub mod Kept
+pub mod WiderKinds
+pub mod Wider

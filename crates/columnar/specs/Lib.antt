@@ -3,6 +3,7 @@
 pub mod Row
 pub mod Types
 pub mod Array
+pub mod Entries
 pub mod Plain
 pub mod View
 pub mod ListView
@@ -10,3 +11,4 @@ pub mod Union
 pub mod RunEnd
 pub mod Dictionary
 pub mod Reading
+pub mod Wider
