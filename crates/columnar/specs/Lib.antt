@@ -12,3 +12,4 @@ pub mod RunEnd
 pub mod Dictionary
 pub mod Reading
 pub mod Wider
+pub mod Formed

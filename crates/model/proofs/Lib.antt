@@ -7,3 +7,6 @@ pub mod Node
 pub mod Nodes
 pub mod Owed
 pub mod Types
+pub mod Start
+pub mod Rows
+pub mod Book

@@ -10,5 +10,6 @@ pub mod ListViews
 pub mod Unions
 pub mod Runs
 pub mod Transform
+pub mod Orders
 pub mod Held
 pub mod Table
