@@ -43,3 +43,13 @@ module _ (t : Ty) (keep : Bool) (m : ℕ) (ss : ℕ → Column t) where
   abbrev pub bookNulls : List Call → Counts → ℕ
   bookNulls [] c = 0
   bookNulls (o ∷ os) c = elim (answer o c) [ done c′ ↦ nullsEntered o + bookNulls os c′ | stop g ↦ bookNulls os c ]
+
+  -- the orders of a list that are accepted, one after another
+  abbrev pub accepted : List Call → Counts → List Call
+  accepted [] c = []
+  accepted (o ∷ os) c = elim (answer o c) [ done c′ ↦ o ∷ accepted os c′ | stop g ↦ accepted os c ]
+
+  -- every order of a list is accepted
+  abbrev pub AllAccepted : List Call → Counts → Type 0
+  AllAccepted [] c = Unit {0}
+  AllAccepted (o ∷ os) c = elim (answer o c) [ done c′ ↦ AllAccepted os c′ | stop g ↦ ⊥ ]
