@@ -4,3 +4,4 @@ pub mod FirstAbove
 pub mod Kept
 pub mod WiderKinds
 pub mod Wider
+pub mod WiderExamples
