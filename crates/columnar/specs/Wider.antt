@@ -56,7 +56,7 @@ pub data Wider : Ty → Ty → Type 0 where
   wRunEnd : (w w′ : ℕ) {t t′ : Ty} → w ≤ w′ → Wider t t′ → Wider (tRunEnd w t) (tRunEnd w′ t′)
   wDictionary : (k k′ : Number) {p p′ : Plain} → KeyWider k k′ → PlainWider p p′ → Wider (tDictionary k p) (tDictionary k′ p′)
 
--- ---- buffers: over the slots off .. off + len - 1 of a narrow buffer and a wide one
+-- ---- buffers: over the slots off .. off + len - 1 of a narrow buffer and a wide one; outside them either may hold anything
 
 -- every entry kept, and the wide buffer holds so many
 pub record Entries (w w′ : ℕ) (s s′ : List ℕ) (off len : ℕ) : Type 0 where
