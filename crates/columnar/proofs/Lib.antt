@@ -4,3 +4,5 @@ pub mod FirstAbove
 pub mod Kept
 pub mod WiderKinds
 pub mod Wider
+pub mod Widen
+pub mod WiderExamples
