@@ -1,1 +1,2 @@
 -- The laws of `columnar`.
+pub mod Test

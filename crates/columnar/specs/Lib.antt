@@ -10,3 +10,4 @@ pub mod Union
 pub mod RunEnd
 pub mod Dictionary
 pub mod Reading
+pub mod Test
