@@ -1,2 +1,3 @@
 -- The laws of `columnar`.
 pub mod Test
+pub mod Examples

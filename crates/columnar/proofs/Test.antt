@@ -1,5 +1,5 @@
 -- The test of a source agrees with the rules, for every type. Assumes nothing.
-use mathlib.Core.Path.{_≡_, refl, ap₂, subst}
+use mathlib.Core.Path.{_≡_, refl, sym, ap₂, subst}
 use mathlib.Core.Logic.{_⊎_, inl, inr}
 use mathlib.Core.Bool.{Bool, true, false, _&&_, _||_}
 use mathlib.Core.Option.{Option, none, some}
@@ -83,7 +83,7 @@ pub only-if : {b : Bool} {P : Type 0} (a : Bool) → Agrees b P → Agrees (only
 only-if true h = record { sound = λ t u. h .sound t; complete = λ f. h .complete (f tt) }
 only-if false h = record { sound = λ t u. absurd u; complete = λ f. tt }
 
-every-out : (p : ℕ → Bool) (n : ℕ) → T (every p n) → (i : ℕ) → i < n → T (p i)
+pub every-out : (p : ℕ → Bool) (n : ℕ) → T (every p n) → (i : ℕ) → i < n → T (p i)
 every-out p zero h i q = absurd (omega arith)
 every-out p (suc n) h i q = go (decLt i n) (every-out p n (and-fst (every p n) (p n) h) i)
   where
@@ -91,9 +91,17 @@ every-out p (suc n) h i q = go (decLt i n) (every-out p n (and-fst (every p n) (
     go (yes y) f = f y
     go (no y) f = let e : i ≡ n = omega arith in rw e (and-snd (every p n) (p n) h)
 
-every-in : (p : ℕ → Bool) (n : ℕ) → ((i : ℕ) → i < n → T (p i)) → T (every p n)
+pub every-in : (p : ℕ → Bool) (n : ℕ) → ((i : ℕ) → i < n → T (p i)) → T (every p n)
 every-in p zero f = tt
 every-in p (suc n) f = and-both (every p n) (p n) (every-in p n (λ i q. f i (omega arith))) (f n (omega arith))
+
+-- for a loop that leaves at the first that fails
+pub every-false : (p : ℕ → Bool) (n i : ℕ) → i < n → p i ≡ false → every p n ≡ false
+every-false p n i q e = go (every p n) refl
+  where
+    go : (b : Bool) → every p n ≡ b → b ≡ false
+    go true f = absurd (subst T e (every-out p n (subst T (sym f) tt) i q))
+    go false f = refl
 
 pub every-agrees : {p : ℕ → Bool} {P : ℕ → Type 0} (n : ℕ) → ((i : ℕ) → Agrees (p i) (P i)) → Agrees (every p n) ((i : ℕ) → i < n → P i)
 every-agrees {p} n h =

@@ -11,3 +11,4 @@ pub mod RunEnd
 pub mod Dictionary
 pub mod Reading
 pub mod Test
+pub mod Examples
