@@ -26,6 +26,7 @@ abbrev pub each : (ℕ → Bool) → List ℕ → Bool
 each p [] = true
 each p (c ∷ cs) = p c && each p cs
 
+-- c is in the list
 abbrev pub member : ℕ → List ℕ → Bool
 member c [] = false
 member c (d ∷ ds) = eqb c d || member c ds
@@ -41,14 +42,17 @@ same (x ∷ xs) (y ∷ ys) = eqb x y && same xs ys
 abbrev pub onlyIf : Bool → Bool → Bool
 onlyIf b q = cond b q true
 
+-- a bit for each slot; "no validity buffer on a union or run-end node"
 abbrev pub maskTest : Bool → Option (List ℕ) → ℕ → Bool
 maskTest b none n = true
 maskTest true (some m) n = leb n (8 * length m)
 maskTest false (some m) n = false
 
+-- an array: its validity, and its slots by the test of its kind
 abbrev pub arrayTest : {B : Type 0} → Bool → ((ℕ → Bool) → B → ℕ → ℕ → Bool) → Array B → Bool
 arrayTest may slots x = maskTest may (x .valid) (x .off + x .len) && slots (ok (x .valid)) (x .body) (x .off) (x .len)
 
+-- "byte-string offsets: first not negative, never falling, last within the data"
 abbrev pub offsetsTest : ℕ → Text → ℕ → ℕ → Bool
 offsetsTest w b off len =
     leb ((off + len + 1) * w) (length (b .offsets))
@@ -56,28 +60,33 @@ offsetsTest w b off len =
     && every (λ i. leb (item w (b .offsets) (off + i)) (item w (b .offsets) (off + i + 1))) len
     && leb (item w (b .offsets) (off + len)) (length (b .chars))
 
+-- "a byte string of length 0 may have an empty offsets buffer"
 abbrev pub plainTest : (p : Plain) → (ℕ → Bool) → PlainBody p → ℕ → ℕ → Bool
 plainTest (fixed n) ok b off len = leb ((off + len) * width n) (length b)
 plainTest (string w) ok b off len = eqb len 0 && same (b .offsets) [] || offsetsTest w b off len
 
--- above length 12
+-- "above 12, a known buffer, a range inside it, and a prefix equal to its first four bytes"
 abbrev pub liesTest : List (List ℕ) → List ℕ → Bool
 liesTest bufs v =
     ltb (bufferOf v) (length bufs)
     && leb (offsetOf v + lengthOf v) (length (getD bufs (bufferOf v) []))
     && same (take 4 (drop 4 v)) (take 4 (drop (offsetOf v) (getD bufs (bufferOf v) [])))
 
+-- "length up to 2^31-1"
 abbrev pub oneViewTest : List (List ℕ) → List ℕ → Bool
 oneViewTest bufs v = ltb (lengthOf v) 2147483648 && onlyIf (ltb 12 (lengthOf v)) (liesTest bufs v)
 
+-- "a view whose bit is 1"
 abbrev pub viewTest : (ℕ → Bool) → Views → ℕ → ℕ → Bool
 viewTest ok b off len =
     leb ((off + len) * 16) (length (b .views)) && every (λ i. onlyIf (ok (off + i)) (oneViewTest (b .buffers) (viewOf (b .views) (off + i)))) len
 
+-- "list-view offset and size not negative, their sum within the child"
 abbrev pub entryTest : {P : Type 0} → ℕ → ListView P → ℕ → Bool
 entryTest w b i =
     ltb (item w (b .offsets) i) (half w) && ltb (item w (b .sizes) i) (half w) && leb (item w (b .offsets) i + item w (b .sizes) i) (b .child .len)
 
+-- "null rows included"
 abbrev pub listViewTest : {P : Type 0} → ℕ → (Array P → Bool) → (ℕ → Bool) → ListView P → ℕ → ℕ → Bool
 listViewTest w kid ok b off len =
     leb ((off + len) * w) (length (b .offsets))
@@ -85,6 +94,7 @@ listViewTest w kid ok b off len =
     && every (λ i. entryTest w b (off + i)) len
     && kid (b .child)
 
+-- "union ids declared; sparse children at least offset + length long"
 abbrev pub sparseTest : {P : ℕ → Type 0} → List ℕ → ((c : ℕ) → Array (P c) → Bool) → (ℕ → Bool) → Sparse P → ℕ → ℕ → Bool
 sparseTest ids kid ok b off len =
     leb (off + len) (length (b .ids))
@@ -92,6 +102,7 @@ sparseTest ids kid ok b off len =
     && each (λ c. leb (off + len) (b .children c .len)) ids
     && each (λ c. kid c (b .children c)) ids
 
+-- "dense positions within the child"
 abbrev pub denseTest : {P : ℕ → Type 0} → List ℕ → ((c : ℕ) → Array (P c) → Bool) → (ℕ → Bool) → Dense P → ℕ → ℕ → Bool
 denseTest ids kid ok b off len =
     leb (off + len) (length (b .ids))
@@ -101,7 +112,7 @@ denseTest ids kid ok b off len =
     && every (λ i. ltb (item 4 (b .positions) (off + i)) (b .children (getD (b .ids) (off + i) 0) .len)) len
     && each (λ c. kid c (b .children c)) ids
 
--- the run ends by themselves
+-- "run ends without nulls, rising strictly from at least 1"
 abbrev pub endsTest : ℕ → Array (List ℕ) → Bool
 endsTest w x =
     maskTest true (x .valid) (x .off + x .len)
@@ -110,6 +121,7 @@ endsTest w x =
     && every (λ k. ltb (endOf w x k) (half w)) (x .len)
     && every (λ k. ltb (startOf (endOf w x) k) (endOf w x k)) (x .len)
 
+-- "the last at least offset + length (no run needed if that sum is 0); as many values as run ends"
 abbrev pub runEndTest : {P : Type 0} → ℕ → (Array P → Bool) → (ℕ → Bool) → RunEnd P → ℕ → ℕ → Bool
 runEndTest w kid okay b off len =
     endsTest w (b .ends)
@@ -117,6 +129,7 @@ runEndTest w kid okay b off len =
     && eqb (b .values .len) (b .ends .len)
     && kid (b .values)
 
+-- "a key whose bit is 1 lies within its dictionary; a key under a null may be anything"
 abbrev pub dictionaryTest : {P : Type 0} → Number → (Array P → Bool) → (ℕ → Bool) → Dictionary P → ℕ → ℕ → Bool
 dictionaryTest k kid ok b off len =
     leb ((off + len) * width k) (length (b .keys))
@@ -124,6 +137,7 @@ dictionaryTest k kid ok b off len =
     && every (λ i. onlyIf (ok (off + i)) (ltb (item (width k) (b .keys) (off + i)) (b .values .len))) len
     && kid (b .values)
 
+-- the slots of every kind
 abbrev pub slotTest : (t : Ty) → (ℕ → Bool) → Body t → ℕ → ℕ → Bool
 slotTest (tPlain p) = plainTest p
 slotTest tView = viewTest
