@@ -6,3 +6,5 @@ pub mod WiderKinds
 pub mod Wider
 pub mod Widen
 pub mod WiderExamples
+pub mod Test
+pub mod Examples

@@ -13,3 +13,5 @@ pub mod Dictionary
 pub mod Reading
 pub mod Wider
 pub mod Formed
+pub mod Test
+pub mod Examples
