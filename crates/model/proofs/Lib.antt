@@ -10,3 +10,4 @@ pub mod Types
 pub mod Start
 pub mod Rows
 pub mod Book
+pub mod Ready
