@@ -9,13 +9,12 @@ use lib.Dec.{T}
 use Rattle.columnar.specs.Row.{Row}
 use Rattle.columnar.specs.Array.{Array, ok, sight, nullsIn, readWith}
 use Rattle.model.specs.Try.{Try}
-use Rattle.model.specs.Grounds.{Counts, rowsOf, Ask, AskNulls}
+use Rattle.model.specs.Grounds.{Counts, Ask, AskNulls}
 use Rattle.model.specs.Mutable.{Mutable, zeros, counted, freezeNode}
 use Rattle.model.specs.Transform.{keepsNulls}
 use Rattle.model.proofs.Agree.{Agrees}
 
--- A kind of node over m given sources: P is a source's body, D what grows. All but `fine` are the definitions of specs/;
--- `held-rows` says that the rows counted are the node's.
+-- A kind of node over m given sources: P is a source's body, D what grows. All but `fine` are the definitions of specs/.
 pub record Kind (P D : Type 0) : Type 1 where
   pub masks : Bool
   pub at : P → ℕ → Row  -- what a slot holds
@@ -26,7 +25,6 @@ pub record Kind (P D : Type 0) : Type 1 where
   pub ask : P → Ask
   pub askN : AskNulls
   pub held : D → ℕ → Counts
-  pub held-rows : (d : D) (l : ℕ) → rowsOf (held d l) ≡ l
   pub fine : (ℕ → Bool) → D → ℕ → Type 0  -- well formed, with n rows of this validity
   pub keep : D → Type 0  -- the children that an order of nulls reaches keep nulls
   pub rule : (ℕ → Bool) → P → ℕ → ℕ → Type 0  -- the source rule
@@ -77,7 +75,7 @@ pub record FineNode {P D : Type 0} (masks : Bool) (fine : (ℕ → Bool) → D �
   pub bits-are : BitsFor masks (d .bits) (d .len)
   pub count-is : CountFor masks (d .bits) (d .null_count)
   pub no-nulls : d .bits ≡ none → (j : ℕ) → j < m → (i : ℕ) → i < xs j .len → ok (xs j .valid) (xs j .off + i) ≡ true
-  pub data-fine : (b : ℕ → Bool) → ((i : ℕ) → i < d .len → b i ≡ bitAt masks (d .bits) i) → fine b (d .«data») (d .len)
+  pub data-fine : fine (bitAt masks (d .bits)) (d .«data») (d .len)
 
 -- the node and what an order of nulls reaches below it keep nulls
 pub record KeepNode {D : Type 0} (keep : D → Type 0) (d : Mutable D) : Type 0 where

@@ -109,7 +109,7 @@ module _ {P D : Type 0} (k : Kind P D) (m : ℕ) (xs : ℕ → Array P) where
           count-is = rw (bits-is, count-is) (put-count (k .masks) (d .bits) (d .null_count) (h .count-is) zeros-are);
           no-nulls = λ e. h .no-nulls (grow-none (k .masks) vs (d .bits) (sym bits-is ∙ e));
           data-fine = rw (bits-is, len-is)
-              (λ b e. p .ends b (λ i q. e i (omega arith) ∙ grow-old (k .masks) (d .bits) (d .len) i vs (h .bits-are) q) (λ i q. e (d .len + i) (omega arith) ∙ new-bit i q));
+              (p .ends (bitAt (k .masks) (grow (k .masks) vs (d .bits))) (λ i q. grow-old (k .masks) (d .bits) (d .len) i vs (h .bits-are) q) new-bit);
         }
 
     pub put-grew : Grew k m xs d n c want d′
@@ -149,7 +149,7 @@ module _ {P D : Type 0} (k : Kind P D) (m : ℕ) (xs : ℕ → Array P) (law : L
       (λ i q. copied-bit (k .masks) (xs j .valid) (d .bits) (d .len) s n i (xs j .off + xs j .len) (masked j hj) (h .bits-are)
       (λ e. rw add-assoc (h .no-nulls e j hj (a + i) (omega arith))) q)
       p (λ i q. rw add-assoc))
-      (law .copies j s n (d .len) (bitAt (k .masks) (d .bits)) (d .«data») hj (omega arith) (omega arith) (h .data-fine _ (λ i q. refl)))
+      (law .copies j s n (d .len) (bitAt (k .masks) (d .bits)) (d .«data») hj (omega arith) (omega arith) (h .data-fine))
 
   -- NULLS AT A NODE
   pub node-fills : (n : ℕ) (d : Mutable D) → KeepNode (k .keep) d → Fine k m xs d
@@ -175,4 +175,4 @@ module _ {P D : Type 0} (k : Kind P D) (m : ℕ) (xs : ℕ → Array P) (law : L
       (λ l e f. zeros-replicate (suc n))
       (λ i q. null-bit (k .masks) (d .bits) (d .len) (suc n) i (h .bits-are) (hk .here) q)
       p (λ i q. refl))
-      (law .fills n (d .len) (bitAt (k .masks) (d .bits)) (d .«data») (hk .below) (h .data-fine _ (λ i q. refl)))
+      (law .fills n (d .len) (bitAt (k .masks) (d .bits)) (d .«data») (hk .below) (h .data-fine))
