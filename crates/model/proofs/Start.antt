@@ -82,7 +82,7 @@ start-node masks u fine m xs d h =
       count-is = start-count masks (keeps u m xs);
       no-nulls = λ e j hj i q.
           no-null-in (ok (xs j .valid)) (xs j .off) (xs j .len) (none-has m xs (or-right u (anyNull m xs) (kept-none (keeps u m xs) e)) j hj) i q;
-      data-fine = λ b e. h b;
+      data-fine = h _;
     }
 
 -- ---- every type
