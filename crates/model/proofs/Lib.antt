@@ -11,3 +11,4 @@ pub mod Start
 pub mod Rows
 pub mod Book
 pub mod Ready
+pub mod WiderBook
