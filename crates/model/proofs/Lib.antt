@@ -7,3 +7,4 @@ pub mod Node
 pub mod Nodes
 pub mod Owed
 pub mod Types
+pub mod Ends
