@@ -1,5 +1,5 @@
 -- Run ends as plain functions: the run that holds a slot, ends behind ends, and the ends of a copied stretch. Assumes nothing.
-use mathlib.Core.Path.{_≡_, refl, sym, ap, _∙_}
+use mathlib.Core.Path.{_≡_, refl, sym}
 use mathlib.Core.Bool.{Bool, true, false}
 use Prim.Native.Nat.{ℕ, zero, suc, _+_, _-_, _≤_, _<_, min}
 use native.Mathlib.Nat.{add-zero, add-suc}
@@ -108,7 +108,7 @@ module _ (d : ℕ → ℕ) (p l : ℕ) (t : ℕ → ℕ) (c n : ℕ) (hd : Ends 
 
 -- ---- a copied stretch: the slots a .. a + n - 1 of c runs
 
-module _ (e : ℕ → ℕ) (c : ℕ) (rises : (r : ℕ) → r < c → startOf e r < e r) (a n : ℕ) (some : 0 < n) (within : a + n ≤ startOf e c) where
+module _ (e : ℕ → ℕ) (c a n : ℕ) where
   -- its first and its last run, and how many there are
   abbrev pub First : ℕ
   First = firstAbove e a 0 c
@@ -123,49 +123,50 @@ module _ (e : ℕ → ℕ) (c : ℕ) (rises : (r : ℕ) → r < c → startOf e 
   abbrev pub clip : ℕ → ℕ
   clip k = min (e (First + k)) (a + n) - a
 
-  first-holds : Holds e c First a
-  first-holds = found e c a (omega arith)
+  module _ (rises : (r : ℕ) → r < c → startOf e r < e r) (some : 0 < n) (within : a + n ≤ startOf e c) where
+    first-holds : Holds e c First a
+    first-holds = found e c a (omega arith)
 
-  last-holds : Holds e c Last (a + n - 1)
-  last-holds = found e c (a + n - 1) (omega arith)
+    last-holds : Holds e c Last (a + n - 1)
+    last-holds = found e c (a + n - 1) (omega arith)
 
-  pub in-order : First ≤ Last
-  in-order = find-le e c rises a (a + n - 1) (omega arith) (omega arith)
+    pub in-order : First ≤ Last
+    in-order = find-le e c rises a (a + n - 1) (omega arith) (omega arith)
 
-  pub last-run : Last < c
-  last-run = last-holds .is-run
+    pub last-run : Last < c
+    last-run = last-holds .is-run
 
-  -- its runs but the last end within it, and none ends before it begins
-  inner-end : (k : ℕ) → First + k < Last → e (First + k) < a + n
-  inner-end k q = omega (arith, start-le e c rises (suc (First + k)) Last q (omega (arith, last-run)), last-holds .above)
+    -- its runs but the last end within it, and none ends before it begins
+    inner-end : (k : ℕ) → First + k < Last → e (First + k) < a + n
+    inner-end k q = omega (arith, start-le e c rises (suc (First + k)) Last q (omega (arith, last-run)), last-holds .above)
 
-  past-start : (k : ℕ) → First + k ≤ Last → a < e (First + k)
-  past-start k q = omega (arith, start-le e c rises (suc First) (suc (First + k)) (omega arith) (omega (arith, last-run)), first-holds .below)
+    past-start : (k : ℕ) → First + k ≤ Last → a < e (First + k)
+    past-start k q = omega (arith, start-le e c rises (suc First) (suc (First + k)) (omega arith) (omega (arith, last-run)), first-holds .below)
 
-  clip-rises : (k : ℕ) → k < Many → startOf clip k < clip k
-  clip-rises zero q = omega (arith, past-start 0 (omega (arith, in-order)))
-  clip-rises (suc k) q =
-      rw add-suc
-      (omega (arith, past-start k (omega arith), inner-end k (omega arith), rw add-suc at (rises (First + suc k) (omega (arith, last-run)))))
+    clip-rises : (k : ℕ) → k < Many → startOf clip k < clip k
+    clip-rises zero q = omega (arith, past-start 0 (omega (arith, in-order)))
+    clip-rises (suc k) q =
+        rw add-suc
+        (omega (arith, past-start k (omega arith), inner-end k (omega arith), rw add-suc at (rises (First + suc k) (omega (arith, last-run)))))
 
-  clip-covers : n ≡ startOf clip Many
-  clip-covers =
-      let z : Many ≡ suc (Last - First) = omega (arith, in-order) in
-      let y : First + (Last - First) ≡ Last = omega (arith, in-order) in
-      rw (z, y) (omega (arith, last-holds .below))
+    clip-covers : n ≡ startOf clip Many
+    clip-covers =
+        let z : Many ≡ suc (Last - First) = omega (arith, in-order) in
+        let y : First + (Last - First) ≡ Last = omega (arith, in-order) in
+        rw (z, y) (omega (arith, last-holds .below))
 
-  -- the ends of its runs
-  pub clip-ends : Ends clip Many n
-  clip-ends = record { rises = clip-rises; covers = clip-covers }
+    -- the ends of its runs
+    pub clip-ends : Ends clip Many n
+    clip-ends = record { rises = clip-rises; covers = clip-covers }
 
-  -- its slot i is in the run that the source's slot a + i is in
-  pub clip-find : (i : ℕ) → i < n → First + firstAbove clip i 0 Many ≡ firstAbove e (a + i) 0 c
-  clip-find i q =
-      let h = found clip Many i (omega (arith, clip-covers)) in
-      let s = firstAbove clip i 0 Many in
-      sym (find-is e c rises (First + s) (a + i)
-      (record { is-run = omega (arith, h .is-run, last-run); above = go s (h .above); below = omega (arith, h .below) }))
-    where
-      go : (s : ℕ) → startOf clip s ≤ i → startOf e (First + s) ≤ a + i
-      go zero z = rw (add-zero First) (omega (arith, first-holds .above))
-      go (suc s) z = rw add-suc (omega arith)
+    -- its slot i is in the run that the source's slot a + i is in
+    pub clip-find : (i : ℕ) → i < n → First + firstAbove clip i 0 Many ≡ firstAbove e (a + i) 0 c
+    clip-find i q =
+        let h = found clip Many i (omega (arith, clip-covers)) in
+        let s = firstAbove clip i 0 Many in
+        sym (find-is e c rises (First + s) (a + i)
+        (record { is-run = omega (arith, h .is-run, last-run); above = go s (h .above); below = omega (arith, h .below) }))
+      where
+        go : (s : ℕ) → startOf clip s ≤ i → startOf e (First + s) ≤ a + i
+        go zero z = rw (add-zero First) (omega (arith, first-holds .above))
+        go (suc s) z = rw add-suc (omega arith)

@@ -8,3 +8,4 @@ pub mod Nodes
 pub mod Owed
 pub mod Types
 pub mod Ends
+pub mod RunsLaw
