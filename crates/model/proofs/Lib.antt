@@ -9,6 +9,7 @@ pub mod Owed
 pub mod Types
 pub mod Ends
 pub mod RunsLaw
+pub mod SameBody
 pub mod Start
 pub mod Rows
 pub mod Book
