@@ -7,6 +7,9 @@ pub mod Node
 pub mod Nodes
 pub mod Owed
 pub mod Types
+pub mod Ends
+pub mod RunsLaw
+pub mod SameBody
 pub mod Start
 pub mod Rows
 pub mod Book
