@@ -7,3 +7,6 @@ pub mod Node
 pub mod Nodes
 pub mod Owed
 pub mod Types
+pub mod Pieces
+pub mod TextLaw
+pub mod PlainLaw
