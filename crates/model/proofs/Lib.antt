@@ -10,3 +10,4 @@ pub mod Types
 pub mod Pieces
 pub mod TextLaw
 pub mod PlainLaw
+pub mod ViewLaw
