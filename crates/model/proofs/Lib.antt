@@ -15,3 +15,7 @@ pub mod Rows
 pub mod Book
 pub mod Ready
 pub mod WiderBook
+pub mod Pieces
+pub mod TextLaw
+pub mod PlainLaw
+pub mod ViewLaw
