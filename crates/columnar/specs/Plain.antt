@@ -1,0 +1,64 @@
+-- Fixed-width numbers and byte strings. Assumes nothing.
+use mathlib.Core.Path.{_≡_}
+use mathlib.Core.Bool.{Bool}
+use mathlib.Core.List.{List, []}
+use Prim.Native.Nat.{ℕ, zero, suc, _+_, _-_, _*_, _≤_, _<_}
+use lib.ListN.{length, take, drop}
+use lib.IntN.{pos}
+use Rattle.number.specs.Number.{signed}
+use Rattle.columnar.specs.Row.{Row, whole, single, double, bytes}
+use Rattle.columnar.specs.Types.{Number, i8, u8, i16, u16, i32, u32, i64, u64, f32, f64, width, half, Plain, fixed, string}
+use Rattle.columnar.specs.Array.{item}
+
+-- "a byte string: an offsets buffer of length + 1 numbers and a data buffer"
+pub record Text : Type 0 where
+  pub offsets : List ℕ
+  pub chars : List ℕ
+
+abbrev pub PlainBody : Plain → Type 0
+PlainBody (fixed n) = List ℕ
+PlainBody (string w) = Text
+
+-- what the bits of a number read as
+abbrev pub value : Number → ℕ → Row
+value i8 p = whole (signed 1 p)
+value u8 p = whole (pos p)
+value i16 p = whole (signed 2 p)
+value u16 p = whole (pos p)
+value i32 p = whole (signed 4 p)
+value u32 p = whole (pos p)
+value i64 p = whole (signed 8 p)
+value u64 p = whole (pos p)
+value f32 p = single p
+value f64 p = double p
+
+-- "slot_position = offsets[j]; slot_length = offsets[j + 1] - offsets[j]"
+abbrev pub span : ℕ → Text → ℕ → List ℕ
+span w b i = take (item w (b .offsets) (suc i) - item w (b .offsets) i) (drop (item w (b .offsets) i) (b .chars))
+
+abbrev pub plainAt : (p : Plain) → PlainBody p → ℕ → Row
+plainAt (fixed n) b i = value n (item (width n) b i)
+plainAt (string w) b i = bytes (span w b i)
+
+-- the stored bytes of slot i, as a dictionary's row shows them
+abbrev pub stored : (p : Plain) → PlainBody p → ℕ → List ℕ
+stored (fixed n) b i = take (width n) (drop (i * width n) b)
+stored (string w) b i = span w b i
+
+-- "byte-string offsets: first not negative, never falling, last within the data". With signed offsets, never falling from one that is
+-- not negative means that none is negative.
+pub record Offsets (w : ℕ) (b : Text) (off len : ℕ) : Type 0 where
+  pub hold : (off + len + 1) * w ≤ length (b .offsets)
+  pub positive : (i : ℕ) → i ≤ len → item w (b .offsets) (off + i) < half w
+  pub rises : (i : ℕ) → i < len → item w (b .offsets) (off + i) ≤ item w (b .offsets) (off + i + 1)
+  pub within : item w (b .offsets) (off + len) ≤ length (b .chars)
+
+-- "a byte string of length 0 may have an empty offsets buffer"
+pub data StringRule (w : ℕ) (b : Text) (off len : ℕ) : Type 0 where
+  empty : len ≡ 0 → b .offsets ≡ [] → StringRule w b off len
+  full : Offsets w b off len → StringRule w b off len
+
+-- "every buffer .. with an entry per row hold[s] offset + length"
+abbrev pub PlainRule : (p : Plain) → (ℕ → Bool) → PlainBody p → ℕ → ℕ → Type 0
+PlainRule (fixed n) ok b off len = (off + len) * width n ≤ length b
+PlainRule (string w) ok b off len = StringRule w b off len

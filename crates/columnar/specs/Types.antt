@@ -1,0 +1,62 @@
+-- Column types (01, "Column types and ceilings"; the formats are those of the Arrow C Data Interface). Assumes nothing.
+use mathlib.Core.Bool.{Bool}
+use mathlib.Core.List.{List}
+use Prim.Native.Nat.{ℕ, _/_, _^_}
+
+-- c C s S i I l L f g
+pub data Number : Type 0 where
+  i8 : Number
+  u8 : Number
+  i16 : Number
+  u16 : Number
+  i32 : Number
+  u32 : Number
+  i64 : Number
+  u64 : Number
+  f32 : Number
+  f64 : Number
+
+-- its bytes
+abbrev pub width : Number → ℕ
+width i8 = 1
+width u8 = 1
+width i16 = 2
+width u16 = 2
+width i32 = 4
+width u32 = 4
+width i64 = 8
+width u64 = 8
+width f32 = 4
+width f64 = 8
+
+-- offsets, sizes and run ends are signed: one of w bytes is below this where it is not negative
+abbrev pub half : ℕ → ℕ
+half w = 256 ^ w / 2
+
+-- one more than the largest key of a format, signed or not
+abbrev pub limit : Number → ℕ
+limit i8 = half 1
+limit u8 = 256 ^ 1
+limit i16 = half 2
+limit u16 = 256 ^ 2
+limit i32 = half 4
+limit u32 = 256 ^ 4
+limit i64 = half 8
+limit u64 = 256 ^ 8
+limit f32 = 0
+limit f64 = 0
+
+-- fixed-width numbers; byte strings with offsets of w bytes (4: z u; 8: Z U)
+pub data Plain : Type 0 where
+  fixed : Number → Plain
+  string : ℕ → Plain
+
+-- A union has its ids in field order and, by id, which field is nullable and the field's type.
+pub data Ty : Type 0 where
+  tPlain : Plain → Ty
+  tView : Ty  -- vz vu
+  tListView : ℕ → Ty → Ty  -- +vl +vL, by the bytes of an offset
+  tSparse : List ℕ → (ℕ → Bool) → (ℕ → Ty) → Ty  -- +us:
+  tDense : List ℕ → (ℕ → Bool) → (ℕ → Ty) → Ty  -- +ud:
+  tRunEnd : ℕ → Ty → Ty  -- +r, by the bytes of a run end
+  tDictionary : Number → Plain → Ty  -- an integer key format with a dictionary

@@ -1,0 +1,21 @@
+-- The laws of `model`.
+pub mod Table
+pub mod Agree
+pub mod Law
+pub mod Bits
+pub mod Node
+pub mod Nodes
+pub mod Owed
+pub mod Types
+pub mod Ends
+pub mod RunsLaw
+pub mod SameBody
+pub mod Start
+pub mod Rows
+pub mod Book
+pub mod Ready
+pub mod WiderBook
+pub mod Pieces
+pub mod TextLaw
+pub mod PlainLaw
+pub mod ViewLaw

@@ -1,0 +1,30 @@
+-- What the sources of a join have been found to be, beyond the source rules: few data buffers, dictionaries that are shared or joined.
+-- Assumes nothing.
+use mathlib.Core.Path.{_≡_}
+use mathlib.Core.Bool.{Bool, true}
+use mathlib.Core.List.{List, List·Memᴰ}
+use Prim.Native.Nat.{ℕ, _+_, _^_, _≤_, _<_}
+use lib.ListN.{length}
+use Rattle.columnar.specs.Types.{Plain, Ty, tPlain, tView, tListView, tSparse, tDense, tRunEnd, tDictionary}
+use Rattle.columnar.specs.Plain.{PlainBody, stored}
+use Rattle.columnar.specs.Dictionary.{Dictionary}
+use Rattle.columnar.specs.Reading.{Body}
+use Rattle.model.specs.Try.{done}
+use Rattle.model.specs.Opening.{ptrEq}
+use Rattle.model.specs.Primitive.{buffersBefore}
+use Rattle.model.specs.Transform.{openData}
+
+-- two dictionaries that are the same one hold the same entries
+abbrev pub SameEntries : (p : Plain) → ℕ → (ℕ → Dictionary (PlainBody p)) → Type 0
+SameEntries p m ds =
+    (i j : ℕ) → i < m → j < m → ptrEq (ds i) (ds j) ≡ true → (e : ℕ) → e < ds i .values .len
+    → stored p (ds i .values .body) (ds i .values .off + e) ≡ stored p (ds j .values .body) (ds j .values .off + e)
+
+abbrev pub Ready : (t : Ty) → ℕ → (ℕ → Body t) → Type 0
+Ready (tPlain p) = λ m ss. Unit {0}
+Ready tView = λ m ss. length (buffersBefore ss m) ≤ 256 ^ 4
+Ready (tListView w t) = λ m ss. Ready t m (λ i. ss i .child .body)
+Ready (tSparse ids nullable f) = λ m ss. (c : ℕ) → List·Memᴰ c ids → Ready (f c) m (λ i. ss i .children c .body)
+Ready (tDense ids nullable f) = λ m ss. (c : ℕ) → List·Memᴰ c ids → Ready (f c) m (λ i. ss i .children c .body)
+Ready (tRunEnd w t) = λ m ss. Ready t m (λ i. ss i .values .body)
+Ready (tDictionary k p) = λ m ss. (openData (tDictionary k p) m ss ≡ done tt) × SameEntries p m ss

@@ -1,0 +1,51 @@
+-- What an opening settles before the first order: which nodes keep nulls, and which dictionaries are shared (01: "A node keeps
+-- nulls if ..", "Two dictionaries are shared if ..", ground 8). Assumes nothing.
+use mathlib.Core.Bool.{Bool, true, false, cond, _&&_, _||_}
+use mathlib.Core.List.{List, [], _∷_}
+use Prim.Native.Nat.{ℕ, zero, suc, _+_, _-_}
+use lib.Dec.{ltb, eqb}
+use Rattle.columnar.specs.Types.{Number, limit}
+use Rattle.columnar.specs.Array.{Array, nullCount}
+use Rattle.columnar.specs.Dictionary.{Dictionary}
+
+-- one of the first m has a null among its rows
+abbrev pub anyNull : {B : Type 0} → ℕ → (ℕ → Array B) → Bool
+anyNull zero xs = false
+anyNull (suc m) xs = anyNull m xs || ltb 0 (nullCount (xs m))
+
+-- "A node keeps nulls if the caller says so or any source has a null at that node"
+abbrev pub keeps : {B : Type 0} → Bool → ℕ → (ℕ → Array B) → Bool
+keeps u m xs = u || anyNull m xs
+
+abbrev pub sameList : List ℕ → List ℕ → Bool
+sameList [] [] = true
+sameList [] (b ∷ bs) = false
+sameList (a ∷ as₁) [] = false
+sameList (a ∷ as₁) (b ∷ bs) = eqb a b && sameList as₁ bs
+
+-- "same offset, length, type and start positions, validity likewise": the types are the same already
+abbrev pub ptrEq : {P : Type 0} → Dictionary P → Dictionary P → Bool
+ptrEq d e = eqb (d .values .off) (e .values .off) && eqb (d .values .len) (e .values .len) && sameList (d .starts) (e .starts)
+
+-- "Only if all neighbouring sources share is source 0's dictionary kept"
+abbrev pub shared : {P : Type 0} → ℕ → (ℕ → Dictionary P) → Bool
+shared zero ds = true
+shared (suc zero) ds = true
+shared (suc (suc m)) ds = shared (suc m) ds && ptrEq (ds m) (ds (suc m))
+
+-- how many entries the dictionaries before the j-th have
+abbrev pub entriesBefore : {P : Type 0} → (ℕ → Dictionary P) → ℕ → ℕ
+entriesBefore ds zero = 0
+entriesBefore ds (suc j) = entriesBefore ds j + ds j .values .len
+
+-- "start is 0 if shared, else the entries of earlier sources"
+abbrev pub startOfKeys : {P : Type 0} → ℕ → (ℕ → Dictionary P) → ℕ → ℕ
+startOfKeys m ds j = cond (shared m ds) 0 (entriesBefore ds j)
+
+-- ground 8, for source j: "(start + entries - 1, at least 0) or start does not fit the key"
+abbrev pub keysFit : {P : Type 0} → Number → ℕ → (ℕ → Dictionary P) → ℕ → Bool
+keysFit k m ds j = ltb (startOfKeys m ds j + ds j .values .len - 1) (limit k) && ltb (startOfKeys m ds j) (limit k)
+
+abbrev pub allKeysFit : {P : Type 0} → Number → ℕ → ℕ → (ℕ → Dictionary P) → Bool
+allKeysFit k m zero ds = true
+allKeysFit k m (suc j) ds = allKeysFit k m j ds && keysFit k m ds j

@@ -1,0 +1,52 @@
+-- Run-end columns. Follows arrow-data 60.1.0 src/transform/run.rs, Apache-2.0; see NOTICE. Assumes nothing.
+use mathlib.Core.Bool.{Bool, true}
+use mathlib.Core.Option.{none}
+use mathlib.Core.List.{List, [], _++_}
+use Prim.Native.Nat.{ℕ, zero, suc, _+_, _-_, min}
+use lib.Dec.{ltb}
+use Rattle.number.specs.Number.{encode}
+use Rattle.columnar.specs.Types.{half}
+use Rattle.columnar.specs.Array.{Array, item}
+use Rattle.columnar.specs.RunEnd.{RunEnd, endOf, startOf}
+use Rattle.model.specs.Try.{Try, done, then, guard}
+use Rattle.model.specs.Grounds.{firstRun, runCount}
+use Rattle.model.specs.Mutable.{Mutable, freezeNode}
+
+-- child_data[0] and child_data[1]
+pub record Runs (D : Type 0) : Type 0 where
+  pub ends : Mutable (List ℕ)
+  pub values : Mutable D
+
+-- `get_last_run_end`: 0 where there is no run
+abbrev pub lastEnd : ℕ → Mutable (List ℕ) → ℕ
+lastEnd w x = startOf (item w (x .«data»)) (x .len)
+
+-- "clipped runs, equal neighbours not joined": the ends of runs k, k + 1, .., n of them, of the slots a .. b - 1, behind `last`
+abbrev pub clipped : ℕ → (ℕ → ℕ) → ℕ → ℕ → ℕ → ℕ → ℕ → List ℕ
+clipped w e a b last k zero = []
+clipped w e a b last k (suc n) = encode w (last + (min (e k) b - a)) ++ clipped w e a b last (suc k) n
+
+abbrev pub moreEnds : List ℕ → ℕ → Mutable (List ℕ) → Mutable (List ℕ)
+moreEnds new n x = record { len = x .len + n; null_count = x .null_count; bits = x .bits; «data» = x .«data» ++ new }
+
+-- a is the array's offset + start: "a run-end row [is that] above offset + row"
+abbrev pub runsExtend : {P D : Type 0} → ℕ → (ℕ → ℕ → Mutable D → Try (Mutable D)) → RunEnd P → ℕ → ℕ → Runs D → Try (Runs D)
+runsExtend w extend s a zero d = done d
+runsExtend w extend s a (suc n) d =
+    guard (ltb (lastEnd w (d .ends) + suc n) (half w)) 7
+    (then (extend (firstRun w s a) (runCount w s a (suc n)) (d .values))
+    (λ v.
+    done
+    (record {
+      ends = moreEnds (clipped w (endOf w (s .ends)) a (a + suc n) (lastEnd w (d .ends)) (firstRun w s a) (runCount w s a (suc n))) (runCount w s a (suc n)) (d .ends);
+      values = v;
+    })))
+
+-- "A nonempty null order adds one run and one null value."
+abbrev pub runsNull : {D : Type 0} → ℕ → (ℕ → Mutable D → Try (Mutable D)) → ℕ → Runs D → Try (Runs D)
+runsNull w nulls n d =
+    then (nulls 1 (d .values))
+    (λ v. guard (ltb (lastEnd w (d .ends) + n) (half w)) 7 (done (record { ends = moreEnds (encode w (lastEnd w (d .ends) + n)) 1 (d .ends); values = v })))
+
+abbrev pub runsFreeze : {P D : Type 0} → (Mutable D → Array P) → Runs D → RunEnd P
+runsFreeze f d = record { ends = freezeNode true (λ b. b) (d .ends); values = f (d .values) }

@@ -1,0 +1,176 @@
+-- The starred rows K1 to K12 of 01's table of checked rows: what the definitions give, and what 01 says. Assumes nothing.
+use mathlib.Core.Bool.{Bool, true, false}
+use mathlib.Core.Option.{Option, none, some}
+use mathlib.Core.List.{List, [], _∷_, _++_}
+use Prim.Native.Nat.{ℕ, zero, suc, _+_, _*_}
+use lib.ListN.{replicate}
+use Rattle.number.specs.Number.{encode}
+use Rattle.columnar.specs.Row.{seg}
+use Rattle.columnar.specs.Types.{Number, i8, u8, i32, Plain, fixed, string, Ty, tPlain, tListView, tDense, tRunEnd, tDictionary}
+use Rattle.columnar.specs.Array.{Array, item}
+use Rattle.columnar.specs.Plain.{Text}
+use Rattle.columnar.specs.ListView.{ListView}
+use Rattle.columnar.specs.Union.{Dense}
+use Rattle.columnar.specs.RunEnd.{RunEnd}
+use Rattle.columnar.specs.Dictionary.{Dictionary}
+use Rattle.columnar.specs.Reading.{Body, Column}
+use Rattle.model.specs.Try.{Try, done, stop, then, mapTry}
+use Rattle.model.specs.Mutable.{Mutable}
+use Rattle.model.specs.Book.{Call, copy, nulls}
+use Rattle.model.specs.Transform.{Destination, tryWithCapacities, tryExtend, tryExtendNulls}
+
+-- numbers of w bytes, and back: n of them
+abbrev pub coded : ℕ → List ℕ → List ℕ
+coded w [] = []
+coded w (x ∷ l) = encode w x ++ coded w l
+
+abbrev pub decoded : ℕ → List ℕ → ℕ → List ℕ
+decoded w s n = seg (item w s) 0 n
+
+-- an array with offset 0 and no validity
+abbrev pub whole : {B : Type 0} → ℕ → B → Array B
+whole n b = record { len = n; off = 0; valid = none; body = b }
+
+-- sources in order
+abbrev pub sources : {A : Type 0} → A → List A → ℕ → A
+sources x [] j = x
+sources x (y ∷ l) zero = x
+sources x (y ∷ l) (suc j) = sources y l j
+
+-- the opening, then the orders up to the first refusal
+module _ (t : Ty) (keep : Bool) (m : ℕ) (ss : ℕ → Column t) where
+  abbrev pub one : Call → Destination t → Try (Destination t)
+  one (copy j a e) d = tryExtend t m ss j a e d
+  one (nulls n) d = tryExtendNulls t n d
+
+  abbrev pub all : List Call → Destination t → Try (Destination t)
+  all [] d = done d
+  all (o ∷ os) d = then (one o d) (all os)
+
+  abbrev pub joined : List Call → Try (Destination t)
+  joined os = then (tryWithCapacities t keep m ss) (all os)
+
+-- ---- run ends: K1 to K4
+
+-- run ends 2, 5, 9, values A B C, offset 1, length 8
+abbrev pub runs129 : Column (tRunEnd 4 (tPlain (fixed u8)))
+runs129 = record { len = 8; off = 1; valid = none; body = record { ends = whole 3 (coded 4 (2 ∷ 5 ∷ 9 ∷ [])); values = whole 3 (65 ∷ 66 ∷ 67 ∷ []) } }
+
+-- its run ends, then its values, then how many nulls are counted
+abbrev pub runsShown : (w : ℕ) → Destination (tRunEnd w (tPlain (fixed u8))) → List ℕ
+runsShown w d = decoded w (d .«data» .ends .«data») (d .«data» .ends .len) ++ d .«data» .values .«data» ++ (d .null_count ∷ [])
+
+abbrev pub k123 : List Call → Try (List ℕ)
+k123 os = mapTry (runsShown 4) (joined (tRunEnd 4 (tPlain (fixed u8))) true 1 (sources runs129 []) os)
+
+-- one run of 32,767 rows, value 9
+abbrev pub runLong : Column (tRunEnd 2 (tPlain (fixed u8)))
+runLong = record { len = 32767; off = 0; valid = none; body = record { ends = whole 1 (coded 2 (32767 ∷ [])); values = whole 1 (9 ∷ []) } }
+
+abbrev pub k4 : ℕ → Try (List ℕ)
+k4 n = mapTry (runsShown 2) (joined (tRunEnd 2 (tPlain (fixed u8))) false 1 (sources runLong []) (copy 0 0 32766 ∷ copy 0 0 n ∷ []))
+
+-- ---- byte strings: K5, K6
+
+-- "vanstop" with offsets 0, 3, 3, 7
+abbrev pub vanstop : Column (tPlain (string 4))
+vanstop = whole 3 (record { offsets = coded 4 (0 ∷ 3 ∷ 3 ∷ 7 ∷ []); chars = 118 ∷ 97 ∷ 110 ∷ 115 ∷ 116 ∷ 111 ∷ 112 ∷ [] })
+
+-- one row of ten bytes
+abbrev pub ten : Column (tPlain (string 4))
+ten = whole 1 (record { offsets = coded 4 (0 ∷ 10 ∷ []); chars = replicate 10 46 })
+
+-- the offsets, then the bytes
+abbrev pub textShown : Destination (tPlain (string 4)) → List ℕ
+textShown d = decoded 4 (d .«data» .offsets) (suc (d .len)) ++ d .«data» .chars
+
+abbrev pub k56 : List Call → Try (List ℕ)
+k56 os = mapTry textShown (joined (tPlain (string 4)) true 2 (sources vanstop (ten ∷ [])) (copy 1 0 1 ∷ copy 0 1 3 ∷ os))
+
+-- ---- dictionaries: K7 to K10
+
+-- one key, over n entries of one byte that begin at a place of their own
+abbrev pub keyed : (k : Number) → Option (List ℕ) → ℕ → ℕ → ℕ → Column (tDictionary k (fixed u8))
+keyed k v key n place = record { len = 1; off = 0; valid = v; body = record { keys = key ∷ []; values = whole n (replicate n 0); starts = place ∷ [] } }
+
+abbrev pub k79 : (k : Number) → Option (List ℕ) → ℕ → ℕ → ℕ → Try (List ℕ)
+k79 k v n key n′ =
+    mapTry (λ (d : Destination (tDictionary k (fixed u8))). d .«data»)
+    (joined (tDictionary k (fixed u8)) false 2 (sources (keyed k none 0 n 0) (keyed k v key n′ 1000 ∷ [])) (copy 1 0 1 ∷ []))
+
+-- ---- list-views and dense unions: K11, K12
+
+-- offsets 4, 0, sizes 2, 3, over a child of 10 rows; and one row that is all of such a child
+abbrev pub lists : Column (tListView 4 (tPlain (fixed u8)))
+lists = whole 2 (record { offsets = coded 4 (4 ∷ 0 ∷ []); sizes = coded 4 (2 ∷ 3 ∷ []); child = whole 10 (seg (λ i. i) 0 10) })
+
+abbrev pub listTen : Column (tListView 4 (tPlain (fixed u8)))
+listTen = whole 1 (record { offsets = coded 4 (0 ∷ []); sizes = coded 4 (10 ∷ []); child = whole 10 (replicate 10 7) })
+
+-- the offsets and sizes, then the child's length
+abbrev pub listsShown : Destination (tListView 4 (tPlain (fixed u8))) → List ℕ
+listsShown d = decoded 4 (d .«data» .buffer1) (d .len) ++ decoded 4 (d .«data» .buffer2) (d .len) ++ (d .«data» .child .len ∷ [])
+
+abbrev pub k11 : Try (List ℕ)
+k11 = mapTry listsShown (joined (tListView 4 (tPlain (fixed u8))) false 2 (sources lists (listTen ∷ [])) (copy 1 0 1 ∷ copy 0 0 2 ∷ []))
+
+abbrev pub fives : Ty
+fives = tDense (5 ∷ 7 ∷ []) (λ c. true) (λ c. tPlain (fixed u8))
+
+abbrev pub kids : ℕ → Array (List ℕ)
+kids c = whole 3 (1 ∷ 2 ∷ 3 ∷ [])
+
+-- ids 7, 5, 7; and two rows of id 5
+abbrev pub sevens : Column fives
+sevens = whole 3 (record { ids = 7 ∷ 5 ∷ 7 ∷ []; positions = coded 4 (0 ∷ 0 ∷ 1 ∷ []); children = kids })
+
+abbrev pub twoFives : Column fives
+twoFives = whole 2 (record { ids = 5 ∷ 5 ∷ []; positions = coded 4 (0 ∷ 1 ∷ []); children = kids })
+
+-- the positions
+abbrev pub positionsShown : Destination fives → List ℕ
+positionsShown d = decoded 4 (d .«data» .buffer2) (d .len)
+
+abbrev pub k12 : Try (List ℕ)
+k12 = mapTry positionsShown (joined fives false 2 (sources sevens (twoFives ∷ [])) (copy 1 0 2 ∷ copy 0 0 3 ∷ []))
+
+-- ---- THE TABLE: what the definitions give
+
+abbrev pub given : List (Try (List ℕ))
+given =
+    k123 (copy 0 1 5 ∷ [])  -- K1
+    ∷ k123 (copy 0 1 5 ∷ copy 0 1 5 ∷ [])  -- K2
+    ∷ k123 (copy 0 1 5 ∷ copy 0 1 5 ∷ nulls 5 ∷ [])  -- K3
+    ∷ k4 1  -- K4
+    ∷ k4 2
+    ∷ k56 []  -- K5
+    ∷ k56 (nulls 2 ∷ [])  -- K6
+    ∷ k79 u8 none 200 55 56  -- K7
+    ∷ k79 u8 none 200 55 57  -- K8
+    ∷ k79 u8 none 256 0 0  -- K9
+    ∷ k79 u8 none 0 0 256
+    ∷ k79 u8 (some (0 ∷ [])) 200 250 1  -- K10
+    ∷ k79 i8 (some (0 ∷ [])) 100 100 1
+    ∷ k11  -- K11
+    ∷ k12  -- K12
+    ∷ []
+
+-- and what 01 says, with what stood there before
+abbrev pub expected : List (Try (List ℕ))
+expected =
+    done (3 ∷ 4 ∷ 66 ∷ 67 ∷ 0 ∷ [])
+    ∷ done (3 ∷ 4 ∷ 7 ∷ 8 ∷ 66 ∷ 67 ∷ 66 ∷ 67 ∷ 0 ∷ [])
+    ∷ done (3 ∷ 4 ∷ 7 ∷ 8 ∷ 13 ∷ 66 ∷ 67 ∷ 66 ∷ 67 ∷ 0 ∷ 5 ∷ [])
+    ∷ done (32766 ∷ 32767 ∷ 9 ∷ 9 ∷ 0 ∷ [])
+    ∷ stop 7
+    ∷ done (0 ∷ 10 ∷ 10 ∷ 14 ∷ replicate 10 46 ++ (115 ∷ 116 ∷ 111 ∷ 112 ∷ []))
+    ∷ done (0 ∷ 10 ∷ 10 ∷ 14 ∷ 14 ∷ 14 ∷ replicate 10 46 ++ (115 ∷ 116 ∷ 111 ∷ 112 ∷ []))
+    ∷ done (255 ∷ [])
+    ∷ stop 8
+    ∷ stop 8
+    ∷ done (0 ∷ [])
+    ∷ done (194 ∷ [])
+    ∷ done (200 ∷ [])  -- -56 in two's complement
+    ∷ done (0 ∷ 10 ∷ 12 ∷ 10 ∷ 2 ∷ 3 ∷ 15 ∷ [])
+    ∷ done (0 ∷ 1 ∷ 0 ∷ 2 ∷ 1 ∷ [])
+    ∷ []
