@@ -23,9 +23,8 @@ use Rattle.model.specs.ListViews.{Lists, listRow}
 use Rattle.model.specs.Held.{heldNode}
 use Rattle.model.proofs.Agree.{Agrees, both, both-as, agrees-map, agrees-then, agrees-guard}
 use Rattle.model.proofs.Law.{Kind, Put, seen, Law, Fine, rowAt, Grew}
-use Rattle.model.proofs.Node.{node-copies}
+use Rattle.model.proofs.Node.{node-copies, node-obeys}
 use Rattle.model.proofs.Nodes.{ListFine, listKind}
-use Rattle.model.proofs.Finished.{node-obeys}
 use Rattle.model.proofs.Steps.{Added, added-as, below-add, below-one, seg-same, Step, steps-put}
 
 -- the one entry of a number written
@@ -104,6 +103,9 @@ module _ (w : ℕ) {P D : Type 0} (k : Kind P D) (m : ℕ) (xs : ℕ → Array (
   abbrev kidsOf : ℕ → Array P
   kidsOf = λ i. xs i .body .child
 
+  masked : (j : ℕ) → j < m → Mask (k .masks) (kidsOf j .valid) (kidsOf j .off + kidsOf j .len)
+  masked j q = good j q .slots .child-rule .mask
+
   row-step : (j : ℕ) → j < m
       → Step (see w k m kidsOf) (Fit w k m kidsOf) (λ d. Unit {0}) (listKind w k m kidsOf .held)
       (listRow w (extendNode (k .masks) (k .ext) kidsOf j) (xs j .body)) (listViewRow w (k .ask) (xs j .body)) (Entry w (xs j .body)) (listViewAt w (k .at) (xs j .body))
@@ -111,7 +113,7 @@ module _ (w : ℕ) {P D : Type 0} (k : Kind P D) (m : ℕ) (xs : ℕ → Array (
       let s = xs j .body in
       agrees-guard _ _ 6 (ap (λ x. ltb (x + item w (s .sizes) a) (half w)) (sym (k .held-rows (d .child .«data») (d .child .len))))
       (λ t.
-      agrees-then _ _ (node-copies k m kidsOf law (λ i q. good i q .slots .child-rule .mask) j (item w (s .offsets) a) (item w (s .sizes) a) (d .child) hj (e .within) (h .child-fine))
+      agrees-then _ _ (node-copies k m kidsOf law masked j (item w (s .offsets) a) (item w (s .sizes) a) (d .child) hj (e .within) (h .child-fine))
       (λ c g. both-as _ (ap (λ x. counts x 0 (λ e. heldNode (k .held) c)) (add-one l)) (row-added w k m kidsOf s a l d c _ h (ltb-true _ _ t) g)))
 
   pub list-law : Law (listKind w k m kidsOf) m xs
@@ -128,6 +130,6 @@ module _ (w : ℕ) {P D : Type 0} (k : Kind P D) (m : ℕ) (xs : ℕ → Array (
               entries = λ i q.
                   rw zero-add
                   (record { offset = omega (arith, h .within i q, h .fits); size = omega (arith, h .within i q, h .fits); within = h .within i q });
-              child-rule = node-obeys k m kidsOf law (d .child) (h .child-fine);
+              child-rule = node-obeys k m kidsOf law masked (d .child) (h .child-fine);
             };
       }
