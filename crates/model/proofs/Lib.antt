@@ -7,5 +7,8 @@ pub mod Node
 pub mod Nodes
 pub mod Steps
 pub mod ListLaw
+pub mod Ids
+pub mod Children
+pub mod SparseLaw
 pub mod Owed
 pub mod Types
