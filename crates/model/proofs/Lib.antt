@@ -10,5 +10,6 @@ pub mod ListLaw
 pub mod Ids
 pub mod Children
 pub mod SparseLaw
+pub mod DenseLaw
 pub mod Owed
 pub mod Types
