@@ -2,7 +2,7 @@
 use mathlib.Core.Path.{_≡_, refl, sym, ap, _∙_, subst, fun-ext}
 use mathlib.Core.Bool.{Bool, true, false, cond}
 use mathlib.Core.List.{List, [], _∷_, _++_, List·Memᴰ}
-use Prim.Native.Nat.{ℕ, zero, suc, _+_, _-_, _*_, _/_, _^_, _≤_, _<_}
+use Prim.Native.Nat.{ℕ, zero, suc, _+_, _-_, _*_, _≤_, _<_}
 use native.Mathlib.Nat.{add-zero, zero-add, add-mul}
 use native.Mathlib.Numerals.{add-one}
 use native.Mathlib.Omega.{arith}
@@ -13,16 +13,16 @@ use Rattle.number.specs.Number.{encode}
 use Rattle.number.proofs.Laws.{length-encode}
 use Rattle.columnar.specs.Row.{Row, union}
 use Rattle.columnar.specs.Types.{half}
-use Rattle.columnar.specs.Array.{Array, item, ok, nullsIn, readWith, Mask, Obeys}
-use Rattle.columnar.specs.Union.{Dense, denseAt, DenseRule}
+use Rattle.columnar.specs.Array.{Array, item, readWith, Mask, Obeys}
+use Rattle.columnar.specs.Union.{Dense, DenseRule}
 use Rattle.columnar.proofs.Items.{item-left, item-right}
 use Rattle.model.specs.Try.{Try, done, after}
-use Rattle.model.specs.Ordered.{home, unionNull}
-use Rattle.model.specs.Grounds.{Counts, counts, absent, has, among, withKid, rowsOf, denseRow as askRow}
+use Rattle.model.specs.Ordered.{home}
+use Rattle.model.specs.Grounds.{Counts, counts, absent, has, among, withKid, denseRow as askRow}
 use Rattle.model.specs.Mutable.{Mutable, extendNode, nullsNode}
 use Rattle.model.specs.Unions.{Denses, atChild, denseRow, positionsFrom}
 use Rattle.model.specs.Held.{heldNode}
-use Rattle.model.proofs.Agree.{Agrees, both, both-as, agrees-map, agrees-guard}
+use Rattle.model.proofs.Agree.{Agrees, both-as, agrees-map, agrees-guard}
 use Rattle.model.proofs.Law.{Kind, Put, seen, Law, KeepNode, Fine, rowAt, Grew, nodeNull}
 use Rattle.model.proofs.Bits.{shift, getD-replicate}
 use Rattle.model.proofs.Node.{node-copies, node-fills, node-obeys}

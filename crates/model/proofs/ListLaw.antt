@@ -1,8 +1,8 @@
 -- List-views are lawful over a lawful child. Assumes nothing.
-use mathlib.Core.Path.{_≡_, refl, sym, ap, ap₂, _∙_, subst}
+use mathlib.Core.Path.{_≡_, refl, sym, ap, subst}
 use mathlib.Core.Bool.{Bool, true, false}
-use mathlib.Core.List.{List, [], _∷_, _++_}
-use Prim.Native.Nat.{ℕ, zero, suc, _+_, _-_, _*_, _/_, _^_, _≤_, _<_}
+use mathlib.Core.List.{List, [], _++_}
+use Prim.Native.Nat.{ℕ, suc, _+_, _-_, _*_, _≤_, _<_}
 use native.Mathlib.Nat.{add-zero, zero-add, zero-mul, add-mul}
 use native.Mathlib.Numerals.{add-one}
 use native.Mathlib.Omega.{arith}
@@ -16,12 +16,11 @@ use Rattle.columnar.specs.Types.{half}
 use Rattle.columnar.specs.Array.{Array, item, readWith, Mask, Obeys}
 use Rattle.columnar.specs.ListView.{ListView, listViewAt, Entry, ListViewRule}
 use Rattle.columnar.proofs.Items.{item-left, item-right, item-last, item-zeros}
-use Rattle.model.specs.Try.{done}
-use Rattle.model.specs.Grounds.{Counts, counts, listViewRow}
+use Rattle.model.specs.Grounds.{counts, listViewRow}
 use Rattle.model.specs.Mutable.{Mutable, extendNode}
 use Rattle.model.specs.ListViews.{Lists, listRow}
 use Rattle.model.specs.Held.{heldNode}
-use Rattle.model.proofs.Agree.{Agrees, both, both-as, agrees-map, agrees-then, agrees-guard}
+use Rattle.model.proofs.Agree.{both, both-as, agrees-then, agrees-guard}
 use Rattle.model.proofs.Law.{Kind, Put, seen, Law, Fine, rowAt, Grew}
 use Rattle.model.proofs.Node.{node-copies, node-obeys}
 use Rattle.model.proofs.Nodes.{ListFine, listKind}
@@ -91,6 +90,7 @@ module _ (w : ℕ) {P D : Type 0} (k : Kind P D) (m : ℕ) (kids : ℕ → Array
       (grown-added d l h (encode w p) (encode w y) 1 c (rw length-encode (omega arith)) (rw length-encode (omega arith)) (g .fine′) (omega (arith, g .len-is)) (g .old) (omega (arith, g .len-is))
       (below-one (λ i. item w (encode w p) i + item w (encode w y) i ≤ c .len) (rw (ip, iy) (omega (arith, g .len-is)))))
 
+  -- n rows of offset 0 and size 0 behind d
   null-put : (n l : ℕ) (b vs : ℕ → Bool) (want : ℕ → Row) (d : Lists D) → ((i : ℕ) → vs i ≡ false) → Fit d l
       → Put see (λ b. Fit) (λ d. Unit {0}) b d l n vs want (record { buffer1 = d .buffer1 ++ replicate (n * w) 0; buffer2 = d .buffer2 ++ replicate (n * w) 0; child = d .child })
   null-put n l b vs want d none h =

@@ -1,8 +1,8 @@
 -- Sparse unions are lawful over lawful children. Assumes nothing.
-use mathlib.Core.Path.{_≡_, refl, sym, ap, _∙_, subst}
-use mathlib.Core.Bool.{Bool, true, false}
-use mathlib.Core.List.{List, [], _∷_, _++_, List·Memᴰ}
-use Prim.Native.Nat.{ℕ, zero, suc, _+_, _-_, _≤_, _<_}
+use mathlib.Core.Path.{_≡_, ap, _∙_, subst}
+use mathlib.Core.Bool.{Bool, false}
+use mathlib.Core.List.{List, _++_, List·Memᴰ}
+use Prim.Native.Nat.{ℕ, suc, _+_, _-_, _≤_, _<_}
 use native.Mathlib.Nat.{zero-add}
 use native.Mathlib.Omega.{arith}
 use lib.ListN.{length, take, drop, getD, replicate, length-append, length-take, length-drop, length-replicate, List·getD-append}
@@ -10,20 +10,20 @@ use lib.Seq.{getD-append-add, getD-take, getD-drop}
 use Rattle.columnar.specs.Row.{Row, union}
 use Rattle.columnar.specs.Array.{Array, ok, nullsIn, readWith, Mask, Obeys}
 use Rattle.columnar.specs.Union.{Sparse, SparseRule}
-use Rattle.model.specs.Try.{Try, done, after}
-use Rattle.model.specs.Ordered.{home, unionNull}
-use Rattle.model.specs.Grounds.{Counts, counts, absent, among, askOf, sparseAll, unlessNone}
-use Rattle.model.specs.Mutable.{Mutable, extendNode, nullsNode}
+use Rattle.model.specs.Try.{Try, after}
+use Rattle.model.specs.Ordered.{home}
+use Rattle.model.specs.Grounds.{Counts, counts, sparseAll}
+use Rattle.model.specs.Mutable.{Mutable}
 use Rattle.model.specs.Unions.{Sparses, sparseWith}
 use Rattle.model.specs.Held.{heldNode}
-use Rattle.model.proofs.Agree.{Agrees, both, both-as, agrees-map}
+use Rattle.model.proofs.Agree.{Agrees, both-as, agrees-map}
 use Rattle.model.proofs.Law.{Kind, Put, seen, Law, KeepNode, Fine, rowAt, Grew, nodeNull}
 use Rattle.model.proofs.Bits.{getD-replicate}
 use Rattle.model.proofs.Node.{node-copies, node-fills, node-obeys}
 use Rattle.model.proofs.Nodes.{SparseFine, sparseKind}
 use Rattle.model.proofs.Steps.{Added, added-as, added-put, below-add}
 use Rattle.model.proofs.Ids.{among-in, among-same, home-mem}
-use Rattle.model.proofs.Children.{Did, agrees-from, in-order}
+use Rattle.model.proofs.Children.{agrees-from, in-order}
 
 -- ids with more ids behind them
 pub old-id : (ids xs : List ℕ) (l : ℕ) → length ids ≡ l → (i : ℕ) → i < l → getD (ids ++ xs) i 0 ≡ getD ids i 0

@@ -1,17 +1,16 @@
 -- A lawful copy of one row gives a lawful copy of n rows. Assumes nothing.
-use mathlib.Core.Path.{_≡_, refl, sym, ap, ap₂, _∙_, subst}
+use mathlib.Core.Path.{_≡_, refl, ap, ap₂, _∙_, subst}
 use mathlib.Core.Bool.{Bool}
 use mathlib.Core.List.{_∷_}
-use Prim.Native.Nat.{ℕ, zero, suc, _+_, _-_, _≤_, _<_}
+use Prim.Native.Nat.{ℕ, zero, suc, _+_, _-_, _<_}
 use native.Mathlib.Nat.{add-zero}
 use native.Mathlib.Numerals.{add-one}
 use native.Mathlib.Decide.{decLt}
 use native.Mathlib.Omega.{arith}
-use lib.Dec.{T}
 use Rattle.columnar.specs.Row.{Row, seg}
-use Rattle.model.specs.Try.{Try, done, stop, then, stepsT}
+use Rattle.model.specs.Try.{Try, stepsT}
 use Rattle.model.specs.Grounds.{Counts}
-use Rattle.model.proofs.Agree.{Agrees, both, both-as, agrees-map, agrees-then}
+use Rattle.model.proofs.Agree.{Agrees, both-as, agrees-map, agrees-then}
 use Rattle.model.proofs.Law.{Put}
 use Rattle.model.proofs.Bits.{shift}
 
