@@ -4,3 +4,7 @@ pub mod FirstAbove
 pub mod Kept
 pub mod WiderKinds
 pub mod Wider
+pub mod Widen
+pub mod WiderExamples
+pub mod Test
+pub mod Examples

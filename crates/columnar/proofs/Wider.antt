@@ -1,12 +1,13 @@
 -- A column stored wider has the same rows and null counts, and obeys the rules of a source again. Assumes nothing.
 use mathlib.Core.Path.{_≡_}
 use mathlib.Core.Logic.{_↔_}
-use Prim.Native.Nat.{ℕ, _<_}
+use Prim.Native.Nat.{ℕ, suc, _<_}
 use native.Mathlib.Nat.{zero-add}
-use Rattle.columnar.specs.Types.{Ty}
+use native.Mathlib.Omega.{arith}
+use Rattle.columnar.specs.Types.{Number, Plain, Ty, tDictionary}
 use Rattle.columnar.specs.Array.{nullCount}
 use Rattle.columnar.specs.Reading.{Column, slotAt, read, readAll, masks, SlotRule, Source}
-use Rattle.columnar.specs.Wider.{Wider, wPlain, wView, wListView, wSparse, wDense, wRunEnd, wDictionary, Same, Stored}
+use Rattle.columnar.specs.Wider.{Wider, wPlain, wView, wListView, wSparse, wDense, wRunEnd, wDictionary, KeyWider, PlainWider, Same, Stored, Shares, SharedAlike, Again}
 use Rattle.columnar.proofs.Kept.{seg-same, nulls-kept, Widens, read-kept, obeys-kept}
 use Rattle.columnar.proofs.WiderKinds.{plain-widens, view-widens, list-view-widens, sparse-widens, dense-widens, run-end-widens, dictionary-widens}
 
@@ -15,8 +16,8 @@ pub widens : {t t′ : Ty} (d : Wider t t′) → Widens (masks t) (masks t′) 
 widens (wPlain d) = plain-widens d
 widens wView = view-widens
 widens (wListView w w′ h d) = list-view-widens w w′ h (widens d)
-widens (wSparse ids nullable d) = sparse-widens ids (λ c m. widens (d c m))
-widens (wDense ids nullable d) = dense-widens ids (λ c m. widens (d c m))
+widens (wSparse ids nullable d) = sparse-widens ids (λ c. widens (d c))
+widens (wDense ids nullable d) = dense-widens ids (λ c. widens (d c))
 widens (wRunEnd w w′ h d) = run-end-widens w w′ h (widens d)
 widens (wDictionary k k′ h d) = dictionary-widens k k′ h d
 
@@ -38,3 +39,19 @@ module _ {t t′ : Ty} (d : Wider t t′) {x : Column t} {x′ : Column t′} (h
 
   pub has-null-same : 0 < nullCount x ↔ 0 < nullCount x′
   has-null-same = rw nulls-same ((λ q. q), (λ q. q))
+
+-- ---- n sources
+
+module _ {t t′ : Ty} (d : Wider t t′) (n : ℕ) (ss : ℕ → Column t) (ss′ : ℕ → Column t′) (h : Again d n ss ss′) where
+  pub again-rows : (i : ℕ) → i < n → Source t (ss i) → readAll t (ss i) ≡ readAll t′ (ss′ i)
+  again-rows i q s = rows-same d (h .each i q) s
+
+  pub again-sources : ((i : ℕ) → i < n → Source t (ss i)) → (i : ℕ) → i < n → Source t′ (ss′ i)
+  again-sources s i q = source-wider d (h .each i q) (s i q)
+
+-- "Only if all neighbouring sources share": in both or in neither
+pub neighbours-same : (k k′ : Number) {p p′ : Plain} (h : KeyWider k k′) (d : PlainWider p p′) (n : ℕ)
+    (ss : ℕ → Column (tDictionary k p)) (ss′ : ℕ → Column (tDictionary k′ p′)) → SharedAlike (wDictionary k k′ h d) n ss ss′
+    → ((i : ℕ) → suc i < n → Shares (ss i .body) (ss (suc i) .body)) ↔ ((i : ℕ) → suc i < n → Shares (ss′ i .body) (ss′ (suc i) .body))
+neighbours-same k k′ h d n ss ss′ a =
+    ((λ f i q. a i (suc i) (omega arith) q .0 (f i q)), (λ f i q. a i (suc i) (omega arith) q .1 (f i q)))

@@ -42,7 +42,9 @@ span-same : (w w′ : ℕ) (b b′ : Text) (off len : ℕ) → OffsetsKept w w�
     → span w b (off + i) ≡ span w′ b′ (off + i)
 span-same w w′ b b′ off len (entries p e) f i q =
     let z : suc (off + i) ≡ off + suc i = omega arith in
-    rw (z, e .kept i (omega arith), e .kept (suc i) (omega arith), f)
+    let first : item w (b .offsets) (off + i) ≡ item w′ (b′ .offsets) (off + i) = e .kept i (omega arith) in
+    let next : item w (b .offsets) (off + suc i) ≡ item w′ (b′ .offsets) (off + suc i) = e .kept (suc i) (omega arith) in
+    rw (z, first, next, f)
 span-same w w′ b b′ off len (no-entry e g r) f i q = absurd (omega arith)
 
 module _ (w w′ : ℕ) (ww : w ≤ w′) where
@@ -183,28 +185,28 @@ module _ (k k′ : Number) {p p′ : Plain} (kk : KeyWider k k′) (d : PlainWid
 
 module _ {P P′ : ℕ → Type 0} (ids : List ℕ) {masks masks′ : ℕ → Bool} {at : (c : ℕ) → P c → ℕ → Row} {at′ : (c : ℕ) → P′ c → ℕ → Row}
     {rule : (c : ℕ) → (ℕ → Bool) → P c → ℕ → ℕ → Type 0} {rule′ : (c : ℕ) → (ℕ → Bool) → P′ c → ℕ → ℕ → Type 0}
-    {same : (c : ℕ) → List·Memᴰ c ids → (ℕ → Bool) → P c → P′ c → ℕ → ℕ → Type 0}
-    (u : (c : ℕ) (m : List·Memᴰ c ids) → Widens (masks c) (masks′ c) (at c) (at′ c) (rule c) (rule′ c) (same c m)) where
+    {same : (c : ℕ) → (ℕ → Bool) → P c → P′ c → ℕ → ℕ → Type 0}
+    (u : (c : ℕ) → Widens (masks c) (masks′ c) (at c) (at′ c) (rule c) (rule′ c) (same c)) where
   pub sparse-widens : Widens false false (sparseAt at) (sparseAt at′) (SparseRule ids (λ c. Obeys (masks c) (rule c))) (SparseRule ids (λ c. Obeys (masks′ c) (rule′ c)))
-      (SparseKept (λ c. List·Memᴰ c ids) (λ c m. Kept (same c m)))
+      (SparseKept (λ c. List·Memᴰ c ids) (λ c. Kept (same c)))
   sparse-widens =
       record {
         masks-same = refl;
         at-same = λ okay b b′ off len h s i q t.
             let c = getD (b .ids) (off + i) 0 in
             let m = s .declared i q in
-            rw (← h .same-ids .kept i q) (ap (union c) (read-kept (u c m) (h .same-children c m) (s .child-rule c m) (off + i) (omega (arith, s .long c m))));
+            rw (← h .same-ids .kept i q) (ap (union c) (read-kept (u c) (h .same-children c m) (s .child-rule c m) (off + i) (omega (arith, s .long c m))));
         rule-same = λ okay okay′ b b′ off len h o s.
             record {
               hold = h .same-ids .hold;
               declared = λ i q. rw (← h .same-ids .kept i q) (s .declared i q);
               long = λ c m. rw (← h .same-children c m .same-len) (s .long c m);
-              child-rule = λ c m. obeys-kept (u c m) (h .same-children c m) (s .child-rule c m);
+              child-rule = λ c m. obeys-kept (u c) (h .same-children c m) (s .child-rule c m);
             };
       }
 
   pub dense-widens : Widens false false (denseAt at) (denseAt at′) (DenseRule ids (λ c. Obeys (masks c) (rule c))) (DenseRule ids (λ c. Obeys (masks′ c) (rule′ c)))
-      (DenseKept (λ c. List·Memᴰ c ids) (λ c m. Kept (same c m)))
+      (DenseKept (λ c. List·Memᴰ c ids) (λ c. Kept (same c)))
   dense-widens =
       record {
         masks-same = refl;
@@ -212,7 +214,7 @@ module _ {P P′ : ℕ → Type 0} (ids : List ℕ) {masks masks′ : ℕ → Bo
             let c = getD (b .ids) (off + i) 0 in
             let m = s .declared i q in
             rw (← h .same-ids .kept i q, ← h .same-positions .kept i q)
-            (ap (union c) (read-kept (u c m) (h .same-children c m) (s .child-rule c m) (item 4 (b .positions) (off + i)) (s .within i q)));
+            (ap (union c) (read-kept (u c) (h .same-children c m) (s .child-rule c m) (item 4 (b .positions) (off + i)) (s .within i q)));
         rule-same = λ okay okay′ b b′ off len h o s.
             record {
               hold-ids = h .same-ids .hold;
@@ -223,6 +225,6 @@ module _ {P P′ : ℕ → Type 0} (ids : List ℕ) {masks masks′ : ℕ → Bo
                   let c = getD (b .ids) (off + i) 0 in
                   let m = s .declared i q in
                   rw (← h .same-ids .kept i q, ← h .same-positions .kept i q, ← h .same-children c m .same-len) (s .within i q);
-              child-rule = λ c m. obeys-kept (u c m) (h .same-children c m) (s .child-rule c m);
+              child-rule = λ c m. obeys-kept (u c) (h .same-children c m) (s .child-rule c m);
             };
       }

@@ -12,3 +12,6 @@ pub mod RunEnd
 pub mod Dictionary
 pub mod Reading
 pub mod Wider
+pub mod Formed
+pub mod Test
+pub mod Examples

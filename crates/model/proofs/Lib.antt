@@ -13,3 +13,15 @@ pub mod SparseLaw
 pub mod DenseLaw
 pub mod Owed
 pub mod Types
+pub mod Ends
+pub mod RunsLaw
+pub mod SameBody
+pub mod Start
+pub mod Rows
+pub mod Book
+pub mod Ready
+pub mod WiderBook
+pub mod Pieces
+pub mod TextLaw
+pub mod PlainLaw
+pub mod ViewLaw

@@ -3,6 +3,7 @@ pub mod Try
 pub mod Ordered
 pub mod Grounds
 pub mod Book
+pub mod Sources
 pub mod Opening
 pub mod Mutable
 pub mod Primitive
@@ -10,5 +11,6 @@ pub mod ListViews
 pub mod Unions
 pub mod Runs
 pub mod Transform
+pub mod Orders
 pub mod Held
 pub mod Table

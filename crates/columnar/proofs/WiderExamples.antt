@@ -1,0 +1,282 @@
+-- Small columns stored wider, computed: each is a slice, so that its first row is not its buffers' first slot. Assumes nothing.
+use mathlib.Core.Path.{_≡_, refl, sym, ap, _∙_}
+use mathlib.Core.Option.{none, some}
+use mathlib.Core.List.{List, [], _∷_}
+use Prim.Native.Nat.{ℕ, zero, suc, _+_, _≤_, _<_}
+use native.Mathlib.Omega.{arith}
+use lib.IntN.{pos}
+use lib.Dec.{T}
+use Rattle.number.specs.Number.{number, encode}
+use Rattle.columnar.specs.Row.{Row, null, whole, bytes, list, rows}
+use Rattle.columnar.specs.Types.{tPlain, tListView, tRunEnd, tDictionary, fixed, string, u8, i16, half}
+use Rattle.columnar.specs.Array.{item, bit}
+use Rattle.columnar.specs.Entries.{encodes}
+use Rattle.columnar.specs.Plain.{full}
+use Rattle.columnar.specs.ListView.{Entry}
+use Rattle.columnar.specs.RunEnd.{startOf}
+use Rattle.columnar.specs.Reading.{Column, readAll, Source}
+use Rattle.columnar.specs.Wider.{Wider, wPlain, wListView, wRunEnd, wDictionary, wFixed, wString, entries, Stored, Again}
+use Rattle.columnar.proofs.Wider.{rows-same}
+
+upto-1 : (Q : ℕ → Type 0) → Q 0 → (i : ℕ) → i < 1 → Q i
+upto-1 Q a zero q = a
+upto-1 Q a (suc i) q = absurd (omega arith)
+
+upto-2 : (Q : ℕ → Type 0) → Q 0 → Q 1 → (i : ℕ) → i < 2 → Q i
+upto-2 Q a b zero q = a
+upto-2 Q a b (suc i) q = upto-1 (λ j. Q (suc j)) b i (omega arith)
+
+upto-3 : (Q : ℕ → Type 0) → Q 0 → Q 1 → Q 2 → (i : ℕ) → i < 3 → Q i
+upto-3 Q a b c zero q = a
+upto-3 Q a b c (suc i) q = upto-2 (λ j. Q (suc j)) b c i (omega arith)
+
+-- ---- byte strings with offsets of 4 and of 8 bytes: "stop" and a null, behind "van"
+
+abbrev vanstop : List ℕ
+vanstop = 118 ∷ 97 ∷ 110 ∷ 115 ∷ 116 ∷ 111 ∷ 112 ∷ []
+
+abbrev places : List ℕ
+places = 0 ∷ 3 ∷ 7 ∷ 7 ∷ []
+
+abbrev text : (w : ℕ) → Column (tPlain (string w))
+text w = record { len = 2; off = 1; valid = some (3 ∷ []); body = record { offsets = encodes w places; chars = vanstop } }
+
+abbrev text-wider : Wider (tPlain (string 4)) (tPlain (string 8))
+text-wider = wPlain (wString 4 8 (omega arith))
+
+text-stored : Stored text-wider (text 4) (text 8)
+unfolding item number encode
+text-stored =
+    record {
+      same-len = refl;
+      same-off = refl;
+      same-valid = record { hold = omega arith; kept = λ i q. refl };
+      same-body = record {
+        same-offsets = entries (omega arith) (record {
+          hold = omega arith;
+          kept = upto-3 (λ i. item 4 (encodes 4 places) (1 + i) ≡ item 8 (encodes 8 places) (1 + i)) refl refl refl;
+        });
+        same-chars = refl;
+      };
+    }
+
+text-source : Source (tPlain (string 4)) (text 4)
+unfolding item number encode
+text-source =
+    record {
+      mask = omega arith;
+      slots = full (record {
+        hold = omega arith;
+        positive = λ i q. upto-3 (λ i. item 4 (encodes 4 places) (1 + i) < half 4) (omega arith) (omega arith) (omega arith) i (omega arith);
+        rises = upto-2 (λ i. item 4 (encodes 4 places) (1 + i) ≤ item 4 (encodes 4 places) (1 + i + 1)) (omega arith) (omega arith);
+        within = omega arith;
+      });
+    }
+
+abbrev text-has : List Row
+text-has = bytes (115 ∷ 116 ∷ 111 ∷ 112 ∷ []) ∷ null ∷ []
+
+text-rows : readAll (tPlain (string 4)) (text 4) ≡ text-has
+unfolding item number encode bit
+text-rows = refl
+
+pub text-wide-rows : readAll (tPlain (string 8)) (text 8) ≡ text-has
+text-wide-rows = sym (rows-same text-wider text-stored text-source) ∙ text-rows
+
+-- ---- 01's K1, run ends of 2 and of 4 bytes: ends 2, 5, 9, values A B C, offset 1, length 8; the ends are a slice too
+
+abbrev run-ends : List ℕ
+run-ends = 1 ∷ 2 ∷ 5 ∷ 9 ∷ []
+
+abbrev runs : (w : ℕ) → Column (tRunEnd w (tPlain (fixed u8)))
+runs w =
+    record {
+      len = 8;
+      off = 1;
+      valid = none;
+      body = record {
+        ends = record { len = 3; off = 1; valid = none; body = encodes w run-ends };
+        values = record { len = 3; off = 0; valid = none; body = 65 ∷ 66 ∷ 67 ∷ [] };
+      };
+    }
+
+abbrev runs-wider : Wider (tRunEnd 2 (tPlain (fixed u8))) (tRunEnd 4 (tPlain (fixed u8)))
+runs-wider = wRunEnd 2 4 (omega arith) (wPlain (wFixed u8))
+
+runs-stored : Stored runs-wider (runs 2) (runs 4)
+unfolding item number encode
+runs-stored =
+    record {
+      same-len = refl;
+      same-off = refl;
+      same-valid = tt;
+      same-body = record {
+        same-ends = record {
+          same-len = refl;
+          same-off = refl;
+          same-valid = tt;
+          same-body = record {
+            hold = omega arith;
+            kept = upto-3 (λ i. item 2 (encodes 2 run-ends) (1 + i) ≡ item 4 (encodes 4 run-ends) (1 + i)) refl refl refl;
+          };
+        };
+        same-values = record { same-len = refl; same-off = refl; same-valid = tt; same-body = record { hold = omega arith; kept = λ i q. refl } };
+      };
+    }
+
+abbrev end2 : ℕ → ℕ
+end2 k = item 2 (encodes 2 run-ends) (1 + k)
+
+runs-source : Source (tRunEnd 2 (tPlain (fixed u8))) (runs 2)
+unfolding item number encode
+runs-source =
+    record {
+      mask = tt;
+      slots = record {
+        ends-mask = tt;
+        hold = omega arith;
+        no-nulls = λ k q. tt;
+        positive = upto-3 (λ k. end2 k < half 2) (omega arith) (omega arith) (omega arith);
+        rises = upto-3 (λ k. startOf end2 k < end2 k) (omega arith) (omega arith) (omega arith);
+        covers = omega arith;
+        as-many = refl;
+        child-rule = record { mask = tt; slots = omega arith };
+      };
+    }
+
+abbrev runs-have : List Row
+runs-have =
+    whole (pos 65) ∷ whole (pos 66) ∷ whole (pos 66) ∷ whole (pos 66) ∷ whole (pos 67) ∷ whole (pos 67) ∷ whole (pos 67) ∷ whole (pos 67) ∷ []
+
+runs-rows : readAll (tRunEnd 2 (tPlain (fixed u8))) (runs 2) ≡ runs-have
+unfolding item number encode
+runs-rows = refl
+
+pub runs-wide-rows : readAll (tRunEnd 4 (tPlain (fixed u8))) (runs 4) ≡ runs-have
+runs-wide-rows = sym (rows-same runs-wider runs-stored runs-source) ∙ runs-rows
+
+-- ---- a dictionary with keys u8 and i16, its values with offsets of 4 and 8 bytes: a null, "van", "stop". The key under the null is 250
+-- in the one and 7 in the other. at: where the values stand.
+
+abbrev words : (w : ℕ) → Column (tPlain (string w))
+words w = record { len = 2; off = 0; valid = none; body = record { offsets = encodes w (0 ∷ 3 ∷ 7 ∷ []); chars = vanstop } }
+
+abbrev narrow : ℕ → Column (tDictionary u8 (string 4))
+narrow at = record { len = 3; off = 1; valid = some (13 ∷ []); body = record { keys = encodes 1 (9 ∷ 250 ∷ 0 ∷ 1 ∷ []); values = words 4; starts = at ∷ 100 ∷ [] } }
+
+abbrev wide : ℕ → Column (tDictionary i16 (string 8))
+wide at = record { len = 3; off = 1; valid = some (13 ∷ []); body = record { keys = encodes 2 (9 ∷ 7 ∷ 0 ∷ 1 ∷ []); values = words 8; starts = at ∷ 200 ∷ [] } }
+
+abbrev words-wider : Wider (tDictionary u8 (string 4)) (tDictionary i16 (string 8))
+words-wider = wDictionary u8 i16 (record { key = tt; key′ = tt; reach = omega arith }) (wString 4 8 (omega arith))
+
+words-stored : (a b : ℕ) → Stored words-wider (narrow a) (wide b)
+unfolding item number encode bit
+words-stored a b =
+    record {
+      same-len = refl;
+      same-off = refl;
+      same-valid = record { hold = omega arith; kept = λ i q. refl };
+      same-body = record {
+        hold = omega arith;
+        kept = upto-3 (λ i. T (bit (13 ∷ []) (1 + i)) → item 1 (encodes 1 (9 ∷ 250 ∷ 0 ∷ 1 ∷ [])) (1 + i) ≡ item 2 (encodes 2 (9 ∷ 7 ∷ 0 ∷ 1 ∷ [])) (1 + i))
+            (λ t. absurd t) (λ t. refl) (λ t. refl);
+        same-values = record {
+          same-len = refl;
+          same-off = refl;
+          same-valid = tt;
+          same-body = record {
+            same-offsets = entries (omega arith) (record {
+              hold = omega arith;
+              kept = upto-3 (λ i. item 4 (encodes 4 (0 ∷ 3 ∷ 7 ∷ [])) (0 + i) ≡ item 8 (encodes 8 (0 ∷ 3 ∷ 7 ∷ [])) (0 + i)) refl refl refl;
+            });
+            same-chars = refl;
+          };
+        };
+      };
+    }
+
+words-source : (a : ℕ) → Source (tDictionary u8 (string 4)) (narrow a)
+unfolding item number encode bit
+words-source a =
+    record {
+      mask = omega arith;
+      slots = record {
+        hold = omega arith;
+        positive = upto-3 (λ i. T (bit (13 ∷ []) (1 + i)) → item 1 (encodes 1 (9 ∷ 250 ∷ 0 ∷ 1 ∷ [])) (1 + i) < 256) (λ t. absurd t) (λ t. omega arith) (λ t. omega arith);
+        within = upto-3 (λ i. T (bit (13 ∷ []) (1 + i)) → item 1 (encodes 1 (9 ∷ 250 ∷ 0 ∷ 1 ∷ [])) (1 + i) < 2) (λ t. absurd t) (λ t. omega arith) (λ t. omega arith);
+        child-rule = record {
+          mask = tt;
+          slots = full (record {
+            hold = omega arith;
+            positive = λ i q. upto-3 (λ i. item 4 (encodes 4 (0 ∷ 3 ∷ 7 ∷ [])) (0 + i) < half 4) (omega arith) (omega arith) (omega arith) i (omega arith);
+            rises = upto-2 (λ i. item 4 (encodes 4 (0 ∷ 3 ∷ 7 ∷ [])) (0 + i) ≤ item 4 (encodes 4 (0 ∷ 3 ∷ 7 ∷ [])) (0 + i + 1)) (omega arith) (omega arith);
+            within = omega arith;
+          });
+        };
+      };
+    }
+
+abbrev words-have : List Row
+words-have = null ∷ bytes (118 ∷ 97 ∷ 110 ∷ []) ∷ bytes (115 ∷ 116 ∷ 111 ∷ 112 ∷ []) ∷ []
+
+words-rows : (a : ℕ) → readAll (tDictionary u8 (string 4)) (narrow a) ≡ words-have
+unfolding item number encode bit
+words-rows a = refl
+
+pub words-wide-rows : (a b : ℕ) → readAll (tDictionary i16 (string 8)) (wide b) ≡ words-have
+words-wide-rows a b = sym (rows-same words-wider (words-stored a b) (words-source a)) ∙ words-rows a
+
+-- sources whose dictionaries stand apart, made again at other places: none are shared, in both
+pub words-again : (n : ℕ) → Again words-wider n (λ i. narrow i) (λ i. wide (50 + i))
+words-again n =
+    record {
+      each = λ i q. words-stored i (50 + i);
+      sharing = λ i j p q. (
+        (λ h. let e : i ≡ j = cc (h .same-starts) in record { same-starts = ap (λ x. (50 + x) ∷ 200 ∷ []) e; same-off = refl; same-len = refl }),
+        (λ h. let e : 50 + i ≡ 50 + j = cc (h .same-starts) in let f : i ≡ j = omega arith in record { same-starts = ap (λ x. x ∷ 100 ∷ []) f; same-off = refl; same-len = refl }),
+      );
+    }
+
+-- ---- a list-view over the byte strings, offsets and sizes of 4 and of 8 bytes: one row, behind another
+
+abbrev lists : (w : ℕ) → Column (tListView w (tPlain (string w)))
+lists w =
+    record { len = 1; off = 1; valid = none; body = record { offsets = encodes w (1 ∷ 0 ∷ []); sizes = encodes w (1 ∷ 2 ∷ []); child = text w } }
+
+abbrev lists-wider : Wider (tListView 4 (tPlain (string 4))) (tListView 8 (tPlain (string 8)))
+lists-wider = wListView 4 8 (omega arith) text-wider
+
+lists-stored : Stored lists-wider (lists 4) (lists 8)
+unfolding item number encode
+lists-stored =
+    record {
+      same-len = refl;
+      same-off = refl;
+      same-valid = tt;
+      same-body = record {
+        same-offsets = record { hold = omega arith; kept = upto-1 (λ i. item 4 (encodes 4 (1 ∷ 0 ∷ [])) (1 + i) ≡ item 8 (encodes 8 (1 ∷ 0 ∷ [])) (1 + i)) refl };
+        same-sizes = record { hold = omega arith; kept = upto-1 (λ i. item 4 (encodes 4 (1 ∷ 2 ∷ [])) (1 + i) ≡ item 8 (encodes 8 (1 ∷ 2 ∷ [])) (1 + i)) refl };
+        same-child = text-stored;
+      };
+    }
+
+lists-source : Source (tListView 4 (tPlain (string 4))) (lists 4)
+unfolding item number encode
+lists-source =
+    record {
+      mask = tt;
+      slots = record {
+        hold-offsets = omega arith;
+        hold-sizes = omega arith;
+        entries = upto-1 (λ i. Entry 4 (lists 4 .body) (1 + i)) (record { offset = omega arith; size = omega arith; within = omega arith });
+        child-rule = text-source;
+      };
+    }
+
+lists-rows : readAll (tListView 4 (tPlain (string 4))) (lists 4) ≡ list (rows text-has) ∷ []
+unfolding item number encode bit
+lists-rows = refl
+
+pub lists-wide-rows : readAll (tListView 8 (tPlain (string 8))) (lists 8) ≡ list (rows text-has) ∷ []
+lists-wide-rows = sym (rows-same lists-wider lists-stored lists-source) ∙ lists-rows
