@@ -27,7 +27,8 @@ use Rattle.model.proofs.Law.{Kind, Put, seen, Law, KeepNode, Fine, rowA
 use Rattle.model.proofs.Bits.{shift, getD-replicate}
 use Rattle.model.proofs.Node.{node-copies, node-fills, node-obeys}
 use Rattle.model.proofs.Nodes.{DenseFine, denseKind}
-use Rattle.model.proofs.Steps.{Added, added-as, added-put, below-add, below-one, Step, steps-put}
+use Rattle.model.proofs.Pieces.{below-add}
+use Rattle.model.proofs.Steps.{Added, added-as, added-put, below-one, Step, steps-put}
 use Rattle.model.proofs.Ids.{cond-same, cond-case, among-in, home-mem}
 use Rattle.model.proofs.Children.{Did, agrees-both, agrees-from}
 use Rattle.model.proofs.ListLaw.{item-entry}

@@ -24,7 +24,9 @@ use Rattle.model.proofs.Agree.{both, both-as, agrees-then, agrees-guard
 use Rattle.model.proofs.Law.{Kind, Put, seen, Law, Fine, rowAt, Grew}
 use Rattle.model.proofs.Node.{node-copies, node-obeys}
 use Rattle.model.proofs.Nodes.{ListFine, listKind}
-use Rattle.model.proofs.Steps.{Added, added-as, below-add, below-one, seg-same, Step, steps-put}
+use Rattle.model.proofs.Pieces.{below-add}
+use Rattle.model.proofs.Rows.{seg-cong}
+use Rattle.model.proofs.Steps.{Added, added-as, below-one, Step, steps-put}
 
 -- the one entry of a number written
 pub item-entry : (w v : ℕ) → v < half w → item w (encode w v) 0 ≡ v
@@ -68,7 +70,7 @@ module _ (w : ℕ) {P D : Type 0} (k : Kind P D) (m : ℕ) (kids : ℕ → Array
           ends = grown-fine;
           old = λ i q.
               rw (old-entry (d .buffer1) ps (h .offsets-are) i q, old-entry (d .buffer2) qs (h .sizes-are) i q)
-              (ap (λ x. list (rows x)) (seg-same (rowAt k m kids c) (rowAt k m kids (d .child)) (item w (d .buffer1) i) (item w (d .buffer1) i) (item w (d .buffer2) i)
+              (ap (λ x. list (rows x)) (seg-cong (rowAt k m kids c) (rowAt k m kids (d .child)) (item w (d .buffer1) i) (item w (d .buffer1) i) (item w (d .buffer2) i)
               (λ e r. same (item w (d .buffer1) i + e) (omega (arith, h .within i q)))));
           new = λ i q. rw (item-right w (d .buffer1) ps l i (h .offsets-are), item-right w (d .buffer2) qs l i (h .sizes-are));
           keeps = λ x. x;
@@ -86,7 +88,7 @@ module _ (w : ℕ) {P D : Type 0} (k : Kind P D) (m : ℕ) (kids : ℕ → Array
       let iy : item w (encode w y) 0 ≡ y = item-entry w y (omega arith) in
       added-as see Fit (λ d. Unit {0})
       (below-one (λ i. list (rows (seg (rowAt k m kids c) (item w (encode w p) i) (item w (encode w y) i))) ≡ listViewAt w (k .at) s (a + i))
-      (rw (ip, iy, add-zero a) (ap (λ x. list (rows x)) (seg-same (rowAt k m kids c) (readWith (k .at) (s .child)) p (item w (s .offsets) a) y (g .new)))))
+      (rw (ip, iy, add-zero a) (ap (λ x. list (rows x)) (seg-cong (rowAt k m kids c) (readWith (k .at) (s .child)) p (item w (s .offsets) a) y (g .new)))))
       (grown-added d l h (encode w p) (encode w y) 1 c (rw length-encode (omega arith)) (rw length-encode (omega arith)) (g .fine′) (omega (arith, g .len-is)) (g .old) (omega (arith, g .len-is))
       (below-one (λ i. item w (encode w p) i + item w (encode w y) i ≤ c .len) (rw (ip, iy) (omega (arith, g .len-is)))))
 

@@ -21,7 +21,8 @@ use Rattle.model.proofs.Law.{Kind, Put, seen, Law, KeepNode, Fine, rowA
 use Rattle.model.proofs.Bits.{getD-replicate}
 use Rattle.model.proofs.Node.{node-copies, node-fills, node-obeys}
 use Rattle.model.proofs.Nodes.{SparseFine, sparseKind}
-use Rattle.model.proofs.Steps.{Added, added-as, added-put, below-add}
+use Rattle.model.proofs.Pieces.{below-add}
+use Rattle.model.proofs.Steps.{Added, added-as, added-put}
 use Rattle.model.proofs.Ids.{among-in, among-same, home-mem}
 use Rattle.model.proofs.Children.{agrees-from, in-order}
 

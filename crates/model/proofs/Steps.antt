@@ -1,13 +1,11 @@
 -- A lawful copy of one row gives a lawful copy of n rows. Assumes nothing.
-use mathlib.Core.Path.{_≡_, refl, ap, ap₂, _∙_, subst}
+use mathlib.Core.Path.{_≡_, refl, ap, _∙_}
 use mathlib.Core.Bool.{Bool}
-use mathlib.Core.List.{_∷_}
-use Prim.Native.Nat.{ℕ, zero, suc, _+_, _-_, _<_}
+use Prim.Native.Nat.{ℕ, zero, suc, _+_, _<_}
 use native.Mathlib.Nat.{add-zero}
 use native.Mathlib.Numerals.{add-one}
-use native.Mathlib.Decide.{decLt}
 use native.Mathlib.Omega.{arith}
-use Rattle.columnar.specs.Row.{Row, seg}
+use Rattle.columnar.specs.Row.{Row}
 use Rattle.model.specs.Try.{Try, stepsT}
 use Rattle.model.specs.Grounds.{Counts}
 use Rattle.model.proofs.Agree.{Agrees, both-as, agrees-map, agrees-then}
@@ -21,23 +19,10 @@ pub record Added {D : Type 0} (see : D → ℕ → Row) (fine : D → ℕ → Ty
   pub new : (i : ℕ) → i < n → see d′ (l + i) ≡ want i
   pub keeps : keep d → keep d′
 
--- true of the first l and of the n behind them
-pub below-add : (Q : ℕ → Type 0) (l n : ℕ) → ((i : ℕ) → i < l → Q i) → ((i : ℕ) → i < n → Q (l + i)) → (i : ℕ) → i < l + n → Q i
-below-add Q l n f g i h = go (decLt i l)
-  where
-    go : Dec (i < l) → Q i
-    go (yes q) = f i q
-    go (no q) = let e : l + (i - l) ≡ i = omega arith in subst Q e (g (i - l) (omega arith))
-
 -- true of the one below 1
 pub below-one : (Q : ℕ → Type 0) → Q 0 → (i : ℕ) → i < 1 → Q i
 below-one Q q zero h = q
 below-one Q q (suc i) h = absurd (omega arith)
-
-pub seg-same : {A : Type 0} (f g : ℕ → A) (a b n : ℕ) → ((i : ℕ) → i < n → f (a + i) ≡ g (b + i)) → seg f a n ≡ seg g b n
-seg-same f g a b zero h = refl
-seg-same f g a b (suc n) h =
-    ap₂ _∷_ (rw (add-zero a, add-zero b) at (h 0 (omega arith))) (seg-same f g (suc a) (suc b) n (λ i q. rw (shift a i, shift b i) (h (suc i) (omega arith))))
 
 module _ {D : Type 0} (see : D → ℕ → Row) (fine : D → ℕ → Type 0) (keep : D → Type 0) where
   pub added-as : {d d′ : D} {l n : ℕ} {want want′ : ℕ → Row} → ((i : ℕ) → i < n → want i ≡ want′ i) → Added see fine keep d l n want d′ → Added see fine keep d l n want′ d′
