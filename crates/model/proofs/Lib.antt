@@ -12,7 +12,6 @@ pub mod Children
 pub mod SparseLaw
 pub mod DenseLaw
 pub mod Owed
-pub mod Types
 pub mod Ends
 pub mod RunsLaw
 pub mod SameBody
@@ -25,3 +24,4 @@ pub mod Pieces
 pub mod TextLaw
 pub mod PlainLaw
 pub mod ViewLaw
+pub mod Types
