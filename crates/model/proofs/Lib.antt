@@ -25,3 +25,4 @@ pub mod TextLaw
 pub mod PlainLaw
 pub mod ViewLaw
 pub mod Types
+pub mod Theorems
