@@ -11,3 +11,5 @@ pub mod Pieces
 pub mod TextLaw
 pub mod PlainLaw
 pub mod ViewLaw
+pub mod Joined
+pub mod DictionaryLaw
