@@ -118,11 +118,11 @@ module _ (k : Number) (p : Plain) (m : ℕ) (ds : ℕ → Dictionary (PlainBody 
         small = small-keys;
       }
 
-  whole-joined : shared m ds ≡ false → (d : Mutable (PlainBody p)) → Joined p m ds g m d → Whole k p m ds (freezeNode true (λ b. b) d)
+  whole-joined : shared m ds ≡ false → (d : Mutable (PlainBody p)) → Joined p ds m d → Whole k p m ds (freezeNode true (λ b. b) d)
   whole-joined s d h =
       record {
-        obeyed = λ q. joined-obeys p m ds g m d h;
-        known = λ j q e t. rw (start-joined k m ds j s, h .len-is) (omega (arith, entries-before p m ds g j m q));
+        obeyed = λ q. joined-obeys p ds m d h;
+        known = λ j q e t. rw (start-joined k m ds j s, h .len-is) (omega (arith, entries-before p ds j m q));
         same = λ j q e t. rw (start-joined k m ds j s, zero-add) (h .entries j q e t);
         small = small-keys;
       }

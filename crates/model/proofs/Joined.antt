@@ -109,10 +109,8 @@ appended (string (suc w)) okay s off len l d d′ hs h e =
 
 -- ---- the join
 
-module _ (p : Plain) (m : ℕ) (ds : ℕ → Dictionary (PlainBody p)) (g : (j : ℕ) → j < m → Obeys true (PlainRule p) (ds j .values)) where
-  abbrev dicts : ℕ → Array (PlainBody p)
-  dicts i = ds i .values
-
+module _ (p : Plain) (ds : ℕ → Dictionary (PlainBody p)) where
+  -- a dictionary's entries end where the next one's begin or before
   pub entries-before : (i j : ℕ) → i < j → entriesBefore ds i + ds i .values .len ≤ entriesBefore ds j
   entries-before i zero q = absurd (omega arith)
   entries-before i (suc j) q = go (decLt i j) (entries-before i j)
@@ -136,10 +134,11 @@ module _ (p : Plain) (m : ℕ) (ds : ℕ → Dictionary (PlainBody p)) (g : (j :
   join-start : (b : Bool) → Joined 0 (startNode b (plainStart p))
   join-start b = record { bits-are = start-bits b; len-is = refl; sound = sound-start p; entries = λ i q. absurd (omega arith) }
 
-  join-step : (j : ℕ) → j < m → (d : Mutable (PlainBody p)) → Joined j d → (x : PlainBody p) → Appended p (ds j .values .body) (ds j .values .off) (ds j .values .len) (d .«data») (d .len) x
+  -- the next one behind
+  join-step : (j : ℕ) (d : Mutable (PlainBody p)) → Joined j d → (x : PlainBody p) → Appended p (ds j .values .body) (ds j .values .off) (ds j .values .len) (d .«data») (d .len) x
       → (c : ℕ) (vs : List Bool) → length vs ≡ ds j .values .len
       → Joined (suc j) (record { len = d .len + ds j .values .len; null_count = c; bits = grow true vs (d .bits); «data» = x })
-  join-step j q d h x a c vs lv =
+  join-step j d h x a c vs lv =
       record {
         bits-are = grow-bits true (d .bits) (d .len) (ds j .values .len) vs lv (h .bits-are);
         len-is = rw (h .len-is);
@@ -155,8 +154,21 @@ module _ (p : Plain) (m : ℕ) (ds : ℕ → Dictionary (PlainBody p)) (g : (j :
           let t′ : e < ds j .values .len = rw z at t in
           rw (z, ← h .len-is) (a .new e t′)
 
-  join-node : (j : ℕ) → j < m → (x : Mutable (PlainBody p)) → Joined j x → (d : Mutable (PlainBody p))
-      → extendNode true (λ ss i. plainExtend p (ss i)) dicts j 0 (ds j .values .len) x ≡ done d → Joined (suc j) d
+  -- the finished dictionary obeys the rules of a source
+  pub joined-obeys : (j : ℕ) (d : Mutable (PlainBody p)) → Joined j d → Obeys true (PlainRule p) (freezeNode true (λ b. b) d)
+  joined-obeys j d h =
+      record {
+        mask = rw zero-add (mask-holds (d .bits) (d .len) (h .bits-are));
+        slots = sound-obeys p (d .len) (ok (validity true (d .bits))) (d .«data») (h .sound);
+      }
+
+-- joining the first j of m sources
+module _ (p : Plain) (m : ℕ) (ds : ℕ → Dictionary (PlainBody p)) (g : (j : ℕ) → j < m → Obeys true (PlainRule p) (ds j .values)) where
+  abbrev dicts : ℕ → Array (PlainBody p)
+  dicts i = ds i .values
+
+  join-node : (j : ℕ) → j < m → (x : Mutable (PlainBody p)) → Joined p ds j x → (d : Mutable (PlainBody p))
+      → extendNode true (λ ss i. plainExtend p (ss i)) dicts j 0 (ds j .values .len) x ≡ done d → Joined p ds (suc j) d
   join-node j q x h d e =
       let v = ds j .values in
       let vs = seg (ok (v .valid)) (v .off + 0) (v .len) in
@@ -165,19 +177,11 @@ module _ (p : Plain) (m : ℕ) (ds : ℕ → Dictionary (PlainBody p)) (g : (j :
       (λ b. done (record { len = x .len + v .len; null_count = c; bits = grow true vs (x .bits); «data» = b })) d e in
       let y : plainExtend p (v .body) (v .off) (v .len) (x .len) (x .«data») ≡ done (s .0)
       = ap (λ a. plainExtend p (v .body) a (v .len) (x .len) (x .«data»)) (sym (add-zero (v .off))) ∙ s .1 .0 in
-      subst (Joined (suc j)) (done-is (s .1 .1))
-      (join-step j q x h (s .0) (appended p (ok (v .valid)) (v .body) (v .off) (v .len) (x .len) (x .«data») (s .0) (g j q .slots) (h .sound) y) c vs (length-seg (ok (v .valid)) (v .off + 0) (v .len)))
+      subst (Joined p ds (suc j)) (done-is (s .1 .1))
+      (join-step p ds j x h (s .0) (appended p (ok (v .valid)) (v .body) (v .off) (v .len) (x .len) (x .«data») (s .0) (g j q .slots) (h .sound) y) c vs (length-seg (ok (v .valid)) (v .off + 0) (v .len)))
 
-  pub joined : (keep : Bool) (j : ℕ) → j ≤ m → (d : Mutable (PlainBody p)) → joinedFrom p dicts j (startNode keep (plainStart p)) ≡ done d → Joined j d
-  joined keep zero q d e = subst (Joined 0) (done-is e) (join-start keep)
+  pub joined : (keep : Bool) (j : ℕ) → j ≤ m → (d : Mutable (PlainBody p)) → joinedFrom p dicts j (startNode keep (plainStart p)) ≡ done d → Joined p ds j d
+  joined keep zero q d e = subst (Joined p ds 0) (done-is e) (join-start p ds keep)
   joined keep (suc j) q d e =
       let r = then-done (joinedFrom p dicts j (startNode keep (plainStart p))) (λ x. extendNode true (λ ss i. plainExtend p (ss i)) dicts j 0 (ds j .values .len) x) d e in
       join-node j q (r .0) (joined keep j (omega arith) (r .0) (r .1 .0)) d (r .1 .1)
-
-  -- the finished dictionary obeys the rules of a source
-  pub joined-obeys : (j : ℕ) (d : Mutable (PlainBody p)) → Joined j d → Obeys true (PlainRule p) (freezeNode true (λ b. b) d)
-  joined-obeys j d h =
-      record {
-        mask = rw zero-add (mask-holds (d .bits) (d .len) (h .bits-are));
-        slots = sound-obeys p (d .len) (ok (validity true (d .bits))) (d .«data») (h .sound);
-      }
