@@ -24,5 +24,7 @@ pub mod Pieces
 pub mod TextLaw
 pub mod PlainLaw
 pub mod ViewLaw
+pub mod Joined
+pub mod DictionaryLaw
 pub mod Types
 pub mod Theorems

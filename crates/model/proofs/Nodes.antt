@@ -198,7 +198,8 @@ runsKind w k r m kids =
 
 -- ---- dictionaries; v: the kept or joined one
 
-pub record KeysFine (k : Number) (entries : ℕ) (b : ℕ → Bool) (d : List ℕ) (l : ℕ) : Type 0 where
+pub record KeysFine (k : Number) (m entries : ℕ) (b : ℕ → Bool) (d : List ℕ) (l : ℕ) : Type 0 where
+  pub sources : 0 < m  -- with no source there is no dictionary
   pub keys-are : length d ≡ l * width k
   pub positive : (i : ℕ) → i < l → T (b i) → item (width k) d i < limit k
   pub within : (i : ℕ) → i < l → T (b i) → item (width k) d i < entries
@@ -216,7 +217,7 @@ dictionaryKind k p m ss =
       askN = moreRows;
       held = λ d l. counts l 0 leaf;
       held-rows = λ d l. refl;
-      fine = KeysFine k (after (theDictionary p m ss) (ss 0 .values) .len);
+      fine = KeysFine k m (after (theDictionary p m ss) (ss 0 .values) .len);
       keep = λ d. Unit {0};
       rule = DictionaryRule k (Obeys true (PlainRule p));
     }
@@ -230,7 +231,7 @@ fineOf (tListView w t) = λ m ss b d l. ListFine w (FineNode (masks t) (fineOf t
 fineOf (tSparse ids nullable f) = λ m ss b d l. SparseFine ids (λ c. FineNode (masks (f c)) (fineOf (f c) m (λ i. ss i .children c .body)) m (λ i. ss i .children c)) d l
 fineOf (tDense ids nullable f) = λ m ss b d l. DenseFine ids (λ c. FineNode (masks (f c)) (fineOf (f c) m (λ i. ss i .children c .body)) m (λ i. ss i .children c)) d l
 fineOf (tRunEnd w t) = λ m ss b d l. RunsFine w (FineNode (masks t) (fineOf t m (λ i. ss i .values .body)) m (λ i. ss i .values)) d l
-fineOf (tDictionary k p) = λ m ss. KeysFine k (after (theDictionary p m ss) (ss 0 .values) .len)
+fineOf (tDictionary k p) = λ m ss. KeysFine k m (after (theDictionary p m ss) (ss 0 .values) .len)
 
 abbrev pub keepOf : (t : Ty) → Grown t → Type 0
 keepOf (tPlain p) = λ d. Unit {0}

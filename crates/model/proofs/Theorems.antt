@@ -9,10 +9,8 @@ use native.Mathlib.Nat.{zero-add, add-zero}
 use native.Mathlib.Omega.{arith}
 use lib.ListN.{length, getD}
 use Rattle.columnar.specs.Row.{Row, null, seg}
-use Rattle.columnar.specs.Types.{Number, Plain, Ty, tDictionary}
-use Rattle.columnar.specs.Array.{Array, ok, nullsIn, nullCount, Obeys}
-use Rattle.columnar.specs.Plain.{PlainBody, PlainRule}
-use Rattle.columnar.specs.Dictionary.{Dictionary, DictionaryRule}
+use Rattle.columnar.specs.Types.{Ty}
+use Rattle.columnar.specs.Array.{ok, nullsIn, nullCount}
 use Rattle.columnar.specs.Reading.{Column, read, readAll, masks, Source}
 use Rattle.model.specs.Try.{Try, done, stop, then, mapTry}
 use Rattle.model.specs.Grounds.{Counts, startCounts}
@@ -24,11 +22,10 @@ use Rattle.model.specs.Transform.{Destination, openData, start, tryWithC
 use Rattle.model.specs.Orders.{perform, performAll}
 use Rattle.model.specs.Held.{held}
 use Rattle.model.proofs.Agree.{Agrees, both, neither}
-use Rattle.model.proofs.Law.{Law, FineNode, KeepNode, BitsFor, CountFor, bitAt}
-use Rattle.model.proofs.Nodes.{dictionaryKind, kindOf, fineOf}
+use Rattle.model.proofs.Law.{Law, BitsFor, CountFor}
+use Rattle.model.proofs.Nodes.{kindOf}
 use Rattle.model.proofs.Node.{valid-bit, node-obeys}
 use Rattle.model.proofs.Bits.{length-seg, getD-seg}
-use Rattle.model.proofs.Owed.{SameEntries, Ready}
 use Rattle.model.proofs.Ready.{ready}
 use Rattle.model.proofs.SameBody.{same-entries}
 use Rattle.model.proofs.Start.{start-fine, start-keep, held-start}
@@ -72,17 +69,14 @@ bits-count true (some l) n c h e =
     subst (λ n. nullsIn (ok (validity true (some l))) 0 n ≡ c) h
     (list-nulls l (ok (validity true (some l))) 0 (λ i q. ap (ok (validity true (some l))) (zero-add i) ∙ valid-bit true (some l) (length l) i refl q) ∙ sym e)
 
-module _
-    (dictionary-law : (k : Number) (p : Plain) (m : ℕ) (xs : ℕ → Array (Dictionary (PlainBody p))) → ((j : ℕ) → j < m → Obeys true (DictionaryRule k (Obeys true (PlainRule p))) (xs j))
-    → openData (tDictionary k p) m (λ i. xs i .body) ≡ done tt → SameEntries p m (λ i. xs i .body) → Law (dictionaryKind k p m (λ i. xs i .body)) m xs)
-    (t : Ty) (body : List ℕ) (m : ℕ) (ss : ℕ → Column t) (u : Bool) (given : Sources t body m ss) (d : Destination t) (opened : tryWithCapacities t u m ss ≡ done d) where
+module _ (t : Ty) (body : List ℕ) (m : ℕ) (ss : ℕ → Column t) (u : Bool) (given : Sources t body m ss) (d : Destination t) (opened : tryWithCapacities t u m ss ≡ done d) where
 
   abbrev keep : Bool
   keep = keeps u m ss
 
   law-holds : Law (kindOf t m (λ i. ss i .body)) m ss
   law-holds =
-      law dictionary-law t m ss (given .obey)
+      law t m ss (given .obey)
       (ready body m (given .few) (same-entries body m) t ss (given .obey) (given .few-buffers) (given .stand)
       (opened-first (openData t m (λ i. ss i .body)) (start t u m ss) d opened))
 
@@ -91,7 +85,7 @@ module _
 
   start-state : State t m ss law-holds (given .obey) keep (start t u m ss)
   start-state =
-      record { fine = start-fine t u m ss (given .formed); keeps-is = kept keep; keeps-below = λ e. start-keep t u m ss e .below }
+      record { fine = start-fine t u m ss (given .some) (given .formed); keeps-is = kept keep; keeps-below = λ e. start-keep t u m ss e .below }
 
   orders-from : (os : List Call) → Done t m ss law-holds (given .obey) keep os (start t u m ss) (performAll t m ss os (start t u m ss))
   orders-from os = all-orders t m ss law-holds (given .obey) keep os (start t u m ss) start-state
