@@ -70,7 +70,6 @@ bits-count true (some l) n c h e =
     (list-nulls l (ok (validity true (some l))) 0 (λ i q. ap (ok (validity true (some l))) (zero-add i) ∙ valid-bit true (some l) (length l) i refl q) ∙ sym e)
 
 module _ (t : Ty) (body : List ℕ) (m : ℕ) (ss : ℕ → Column t) (u : Bool) (given : Sources t body m ss) (d : Destination t) (opened : tryWithCapacities t u m ss ≡ done d) where
-
   abbrev keep : Bool
   keep = keeps u m ss
 
