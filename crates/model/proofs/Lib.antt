@@ -10,3 +10,5 @@ pub mod Types
 pub mod Start
 pub mod Rows
 pub mod Book
+pub mod Follow
+pub mod WiderAsks
