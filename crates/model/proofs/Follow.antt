@@ -33,9 +33,17 @@ follows-then f h (same x) k = k x
 follows-then f h (free g s) k = free g (then s h)
 
 -- a test that holds again where it holds
+pub follows-when : {A : Type 0} {t s : Try A} (b b′ : Bool) (g g′ : ℕ) → (b ≡ true → b′ ≡ true) → (b ≡ true → Follows t s) → Follows (guard b g t) (guard b′ g′ s)
+follows-when {t} {s} true b′ g g′ e k = rw (e refl) (k refl)
+follows-when {t} {s} false b′ g g′ e k = free g (guard b′ g′ s)
+
 pub follows-guard : {A : Type 0} {t s : Try A} (b b′ : Bool) (g g′ : ℕ) → (b ≡ true → b′ ≡ true) → Follows t s → Follows (guard b g t) (guard b′ g′ s)
-follows-guard {t} {s} true b′ g g′ e k = rw (e refl) k
-follows-guard {t} {s} false b′ g g′ e k = free g (guard b′ g′ s)
+follows-guard b b′ g g′ e k = follows-when b b′ g g′ e (λ z. k)
+
+-- a guarded answer that is done
+pub guard-done : {A : Type 0} (b : Bool) (g : ℕ) (t : Try A) (x : A) → guard b g t ≡ done x → (b ≡ true) × (t ≡ done x)
+guard-done true g t x e = (refl, e)
+guard-done false g t x e = absurd (subst Stops e tt)
 
 -- a limit that is not lower
 pub ltb-up : (x l l′ : ℕ) → l ≤ l′ → ltb x l ≡ true → ltb x l′ ≡ true
