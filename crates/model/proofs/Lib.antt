@@ -12,4 +12,4 @@ pub mod Rows
 pub mod Book
 pub mod Follow
 pub mod WiderAsks
-pub mod WiderBook
+pub mod WiderAnswers
