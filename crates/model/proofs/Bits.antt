@@ -79,3 +79,7 @@ pack-bit l i h =
     let e : 8 * (i / 8) + i % 8 ≡ i = omega arith in
     rw (getD-seg (λ k. bitsNumber 8 (drop (8 * k) l)) 0 ((length l + 7) / 8) (i / 8) 0 (omega arith), zero-add, number-bit 8 (drop (8 * (i / 8)) l) (i % 8) (omega arith), getD-drop, e)
     (eqb-cond (getD l i false))
+
+pub pack-length : (l : List Bool) → length l ≤ 8 * length (pack l)
+unfolding pack
+pack-length l = rw (length-seg (λ k. bitsNumber 8 (drop (8 * k) l)) 0 ((length l + 7) / 8)) (omega arith)

@@ -10,7 +10,7 @@ use Rattle.columnar.specs.Row.{Row}
 use Rattle.columnar.specs.Array.{Array, ok, sight, nullsIn, readWith}
 use Rattle.model.specs.Try.{Try}
 use Rattle.model.specs.Grounds.{Counts, Ask, AskNulls}
-use Rattle.model.specs.Mutable.{Mutable, zeros, counted, freezeNode}
+use Rattle.model.specs.Mutable.{Mutable, zeros, counted, validity, freezeNode}
 use Rattle.model.specs.Transform.{keepsNulls}
 use Rattle.model.proofs.Agree.{Agrees}
 
@@ -75,7 +75,7 @@ pub record FineNode {P D : Type 0} (masks : Bool) (fine : (ℕ → Bool) → D �
   pub bits-are : BitsFor masks (d .bits) (d .len)
   pub count-is : CountFor masks (d .bits) (d .null_count)
   pub no-nulls : d .bits ≡ none → (j : ℕ) → j < m → (i : ℕ) → i < xs j .len → ok (xs j .valid) (xs j .off + i) ≡ true
-  pub data-fine : fine (bitAt masks (d .bits)) (d .«data») (d .len)
+  pub data-fine : fine (ok (validity masks (d .bits))) (d .«data») (d .len)
 
 -- the node and what an order of nulls reaches below it keep nulls
 pub record KeepNode {D : Type 0} (keep : D → Type 0) (d : Mutable D) : Type 0 where

@@ -10,7 +10,7 @@ use lib.ListN.{length, getD, replicate, length-append, length-replicate, List·g
 use lib.Seq.{getD-append-add}
 use lib.Dec.{T}
 use Rattle.columnar.specs.Row.{Row, null, seg}
-use Rattle.columnar.specs.Array.{Array, ok, bit, sight, readWith, nullsIn, Mask}
+use Rattle.columnar.specs.Array.{Array, ok, bit, sight, readWith, nullsIn, Mask, Obeys}
 use Rattle.model.specs.Try.{Try, done, stop, then}
 use Rattle.model.specs.Grounds.{Counts, askOf, unlessNone}
 use Rattle.model.specs.Mutable.{Mutable, keepsBits, zeros, grow, counted, validity, pack, extendNode, nullsNode, freezeNode}
@@ -18,7 +18,7 @@ use Rattle.model.specs.Transform.{keepsNulls}
 use Rattle.model.specs.Held.{heldNode}
 use Rattle.model.proofs.Agree.{Agrees, both, agrees-wrap}
 use Rattle.model.proofs.Law.{Kind, Put, seen, Law, bitAt, BitsFor, CountFor, FineNode, KeepNode, Fine, rowAt, Grew, nodeNull}
-use Rattle.model.proofs.Bits.{length-seg, getD-seg, zeros-seg, zeros-append, zeros-replicate, getD-replicate, all-true, pack-bit}
+use Rattle.model.proofs.Bits.{length-seg, getD-seg, zeros-seg, zeros-append, zeros-replicate, getD-replicate, all-true, pack-bit, pack-length}
 
 -- ---- validity
 
@@ -31,6 +31,16 @@ valid-bit true (some l) n i h q = go (zeros l) refl
     go : (z : ℕ) → zeros l ≡ z → ok (elim z [ zero ↦ none | suc c ↦ some (pack l) ]) i ≡ getD l i false
     go zero e = sym (all-true l e i (omega arith))
     go (suc c) e = pack-bit l i (omega arith)
+
+-- the finished validity has a bit for each row
+finished-mask : (masks : Bool) (b : Option (List Bool)) (n : ℕ) → BitsFor masks b n → Mask masks (validity masks b) n
+finished-mask masks none n h = tt
+finished-mask false (some l) n h = tt
+finished-mask true (some l) n h = go (zeros l)
+  where
+    go : (z : ℕ) → Mask true (elim z [ zero ↦ none | suc c ↦ some (pack l) ]) n
+    go zero = tt
+    go (suc c) = omega (arith, pack-length l)
 
 pub grow-bits : (masks : Bool) (b : Option (List Bool)) (l n : ℕ) (vs : List Bool) → length vs ≡ n → BitsFor masks b l → BitsFor masks (grow masks vs b) (l + n)
 grow-bits masks none l n vs e h = tt
@@ -93,7 +103,7 @@ module _ {P D : Type 0} (k : Kind P D) (m : ℕ) (xs : ℕ → Array P) where
       (len-is : d′ .len ≡ d .len + n) (bits-is : d′ .bits ≡ grow (k .masks) vs (d .bits)) (long : length vs ≡ n)
       (count-is : d′ .null_count ≡ d .null_count + counted (d .bits) c) (zeros-are : (l : List Bool) → d .bits ≡ some l → k .masks ≡ true → zeros vs ≡ c)
       (new-bit : (i : ℕ) → i < n → bitAt (k .masks) (grow (k .masks) vs (d .bits)) (d .len + i) ≡ vsAt i)
-      (p : Put (seen k) (k .fine) (k .keep) (bitAt (k .masks) (d .bits)) (d .«data») (d .len) n vsAt slots (d′ .«data»))
+      (p : Put (seen k) (k .fine) (k .keep) (ok (validity (k .masks) (d .bits))) (d .«data») (d .len) n vsAt slots (d′ .«data»))
       (reads : (i : ℕ) → i < n → sight (vsAt i) (slots i) ≡ want i) where
 
     put-count : (masks : Bool) (b : Option (List Bool)) (x : ℕ) → CountFor masks b x → ((l : List Bool) → b ≡ some l → masks ≡ true → zeros vs ≡ c)
@@ -102,14 +112,26 @@ module _ {P D : Type 0} (k : Kind P D) (m : ℕ) (xs : ℕ → Array P) where
     put-count false (some l) x q e = tt
     put-count true (some l) x q e = rw (← e l refl refl) (grow-count true vs (some l) x q)
 
+    -- the finished validity, before and after
+    more-bits : BitsFor (k .masks) (grow (k .masks) vs (d .bits)) (d .len + n)
+    more-bits = grow-bits (k .masks) (d .bits) (d .len) n vs long (h .bits-are)
+
+    old-valid : (i : ℕ) → i < d .len → ok (validity (k .masks) (grow (k .masks) vs (d .bits))) i ≡ ok (validity (k .masks) (d .bits)) i
+    old-valid i q =
+        valid-bit (k .masks) (grow (k .masks) vs (d .bits)) (d .len + n) i more-bits (omega arith)
+        ∙ grow-old (k .masks) (d .bits) (d .len) i vs (h .bits-are) q
+        ∙ sym (valid-bit (k .masks) (d .bits) (d .len) i (h .bits-are) q)
+
+    new-valid : (i : ℕ) → i < n → ok (validity (k .masks) (grow (k .masks) vs (d .bits))) (d .len + i) ≡ vsAt i
+    new-valid i q = valid-bit (k .masks) (grow (k .masks) vs (d .bits)) (d .len + n) (d .len + i) more-bits (omega arith) ∙ new-bit i q
+
     put-fine : Fine k m xs d′
     put-fine =
         record {
-          bits-are = rw (bits-is, len-is) (grow-bits (k .masks) (d .bits) (d .len) n vs long (h .bits-are));
+          bits-are = rw (bits-is, len-is) more-bits;
           count-is = rw (bits-is, count-is) (put-count (k .masks) (d .bits) (d .null_count) (h .count-is) zeros-are);
           no-nulls = λ e. h .no-nulls (grow-none (k .masks) vs (d .bits) (sym bits-is ∙ e));
-          data-fine = rw (bits-is, len-is)
-              (p .ends (bitAt (k .masks) (grow (k .masks) vs (d .bits))) (λ i q. grow-old (k .masks) (d .bits) (d .len) i vs (h .bits-are) q) new-bit);
+          data-fine = rw (bits-is, len-is) (p .ends (ok (validity (k .masks) (grow (k .masks) vs (d .bits)))) old-valid new-valid);
         }
 
     pub put-grew : Grew k m xs d n c want d′
@@ -149,7 +171,7 @@ module _ {P D : Type 0} (k : Kind P D) (m : ℕ) (xs : ℕ → Array P) (law : L
       (λ i q. copied-bit (k .masks) (xs j .valid) (d .bits) (d .len) s n i (xs j .off + xs j .len) (masked j hj) (h .bits-are)
       (λ e. rw add-assoc (h .no-nulls e j hj (a + i) (omega arith))) q)
       p (λ i q. rw add-assoc))
-      (law .copies j s n (d .len) (bitAt (k .masks) (d .bits)) (d .«data») hj (omega arith) (omega arith) (h .data-fine))
+      (law .copies j s n (d .len) (ok (validity (k .masks) (d .bits))) (d .«data») hj (omega arith) (omega arith) (h .data-fine))
 
   -- NULLS AT A NODE
   pub node-fills : (n : ℕ) (d : Mutable D) → KeepNode (k .keep) d → Fine k m xs d
@@ -175,4 +197,12 @@ module _ {P D : Type 0} (k : Kind P D) (m : ℕ) (xs : ℕ → Array P) (law : L
       (λ l e f. zeros-replicate (suc n))
       (λ i q. null-bit (k .masks) (d .bits) (d .len) (suc n) i (h .bits-are) (hk .here) q)
       p (λ i q. refl))
-      (law .fills n (d .len) (bitAt (k .masks) (d .bits)) (d .«data») (hk .below) (h .data-fine))
+      (law .fills n (d .len) (ok (validity (k .masks) (d .bits))) (d .«data») (hk .below) (h .data-fine))
+
+  -- A FINISHED NODE obeys the rules of a source
+  pub node-obeys : (d : Mutable D) → Fine k m xs d → Obeys (k .masks) (k .rule) (freezeNode (k .masks) (k .frz) d)
+  node-obeys d h =
+      record {
+        mask = rw zero-add (finished-mask (k .masks) (d .bits) (d .len) (h .bits-are));
+        slots = law .obeys (d .len) (ok (validity (k .masks) (d .bits))) (d .«data») (h .data-fine);
+      }

@@ -75,14 +75,14 @@ kept-none true e = cc
 kept-none false e = refl
 
 start-node : {P D : Type 0} (masks u : Bool) (fine : (ℕ → Bool) → D → ℕ → Type 0) (m : ℕ) (xs : ℕ → Array P) (d : D)
-    → fine (bitAt masks (cond (keeps u m xs) (some []) none)) d 0 → FineNode masks fine m xs (startNode (keeps u m xs) d)
+    → ((b : ℕ → Bool) → fine b d 0) → FineNode masks fine m xs (startNode (keeps u m xs) d)
 start-node masks u fine m xs d h =
     record {
       bits-are = start-bits masks (keeps u m xs);
       count-is = start-count masks (keeps u m xs);
       no-nulls = λ e j hj i q.
           no-null-in (ok (xs j .valid)) (xs j .off) (xs j .len) (none-has m xs (or-right u (anyNull m xs) (kept-none (keeps u m xs) e)) j hj) i q;
-      data-fine = h;
+      data-fine = h _;
     }
 
 -- ---- every type
@@ -118,7 +118,7 @@ start-data (tListView w t) u m ss b f =
       sizes-are = sym (zero-mul w);
       within = λ i q. absurd (omega arith);
       fits = half-pos (f .0);
-      child-fine = start-node (masks t) u (fineOf t m (λ i. ss i .child .body)) m (λ i. ss i .child) _ (start-data t _ m (λ i. ss i .child .body) _ (f .1));
+      child-fine = start-node (masks t) u (fineOf t m (λ i. ss i .child .body)) m (λ i. ss i .child) _ (λ b. start-data t _ m (λ i. ss i .child .body) b (f .1));
     }
 start-data (tSparse ids nullable g) u m ss b f =
     record {
@@ -126,7 +126,7 @@ start-data (tSparse ids nullable g) u m ss b f =
       declared = λ i q. absurd (omega arith);
       kids-are = λ c q. refl;
       kids-fine = λ c q.
-          start-node (masks (g c)) u (fineOf (g c) m (λ i. ss i .children c .body)) m (λ i. ss i .children c) _ (start-data (g c) _ m (λ i. ss i .children c .body) _ (f .1 c q));
+          start-node (masks (g c)) u (fineOf (g c) m (λ i. ss i .children c .body)) m (λ i. ss i .children c) _ (λ b. start-data (g c) _ m (λ i. ss i .children c .body) b (f .1 c q));
     }
 start-data (tDense ids nullable g) u m ss b f =
     record {
@@ -136,7 +136,7 @@ start-data (tDense ids nullable g) u m ss b f =
       within = λ i q. absurd (omega arith);
       fits = λ c q. omega arith;
       kids-fine = λ c q.
-          start-node (masks (g c)) u (fineOf (g c) m (λ i. ss i .children c .body)) m (λ i. ss i .children c) _ (start-data (g c) _ m (λ i. ss i .children c .body) _ (f .1 c q));
+          start-node (masks (g c)) u (fineOf (g c) m (λ i. ss i .children c .body)) m (λ i. ss i .children c) _ (λ b. start-data (g c) _ m (λ i. ss i .children c .body) b (f .1 c q));
     }
 start-data (tRunEnd w t) u m ss b f =
     record {
@@ -146,12 +146,12 @@ start-data (tRunEnd w t) u m ss b f =
       covers = refl;
       fits = run-pos (f .0);
       as-many = refl;
-      values-fine = start-node (masks t) u (fineOf t m (λ i. ss i .values .body)) m (λ i. ss i .values) _ (start-data t _ m (λ i. ss i .values .body) _ (f .1));
+      values-fine = start-node (masks t) u (fineOf t m (λ i. ss i .values .body)) m (λ i. ss i .values) _ (λ b. start-data t _ m (λ i. ss i .values .body) b (f .1));
     }
 start-data (tDictionary k p) u m ss b f = record { keys-are = sym (zero-mul _); positive = λ i q. absurd (omega arith); within = λ i q. absurd (omega arith) }
 
 pub start-fine : (t : Ty) (u : Bool) (m : ℕ) (ss : ℕ → Column t) → Formed t → FineNode (masks t) (fineOf t m (λ i. ss i .body)) m ss (start t u m ss)
-start-fine t u m ss f = start-node (masks t) u (fineOf t m (λ i. ss i .body)) m ss _ (start-data t _ m (λ i. ss i .body) _ f)
+start-fine t u m ss f = start-node (masks t) u (fineOf t m (λ i. ss i .body)) m ss _ (λ b. start-data t _ m (λ i. ss i .body) b f)
 
 -- where the root keeps nulls, so do the nodes that an order of nulls reaches
 keep-start : (t : Ty) (m : ℕ) (ss : ℕ → Body t) → keepOf t (startData t true m ss)

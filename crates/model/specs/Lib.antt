@@ -3,6 +3,7 @@ pub mod Try
 pub mod Ordered
 pub mod Grounds
 pub mod Book
+pub mod Sources
 pub mod Opening
 pub mod Mutable
 pub mod Primitive
