@@ -22,3 +22,4 @@ pub mod Pieces
 pub mod TextLaw
 pub mod PlainLaw
 pub mod ViewLaw
+pub mod WiderOpening

@@ -39,7 +39,7 @@ bytes-same w w′ b b′ off len (no-entry e g r) a n q =
     let z : off + a + n ≡ off + a = omega arith in
     rw z (omega arith)
 
-plain-again : {p p′ : Plain} (d : PlainWider p p′) (x : Array (PlainBody p)) (x′ : Array (PlainBody p′)) → Kept (PlainKept d) x x′ → AsksAgain (plainAsk p) (plainAsk p′) x x′
+pub plain-again : {p p′ : Plain} (d : PlainWider p p′) (x : Array (PlainBody p)) (x′ : Array (PlainBody p′)) → Kept (PlainKept d) x x′ → AsksAgain (plainAsk p) (plainAsk p′) x x′
 plain-again (wFixed n) x x′ h a k q c = same _
 plain-again (wString w w′ ww) x x′ h a n q c =
     rw (← h .same-off, ← bytes-same w w′ (x .body) (x′ .body) (x .off) (x .len) (h .same-body .same-offsets) a n q)
