@@ -5,8 +5,13 @@ pub mod Law
 pub mod Bits
 pub mod Node
 pub mod Nodes
+pub mod Steps
+pub mod ListLaw
+pub mod Ids
+pub mod Children
+pub mod SparseLaw
+pub mod DenseLaw
 pub mod Owed
-pub mod Types
 pub mod Ends
 pub mod RunsLaw
 pub mod SameBody
@@ -23,3 +28,5 @@ pub mod TextLaw
 pub mod PlainLaw
 pub mod ViewLaw
 pub mod WiderOpening
+pub mod WiderOrders
+pub mod Types
