@@ -18,6 +18,9 @@ pub mod SameBody
 pub mod Start
 pub mod Rows
 pub mod Book
+pub mod Follow
+pub mod WiderAsks
+pub mod WiderAnswers
 pub mod Ready
 pub mod WiderBook
 pub mod Pieces
@@ -26,5 +29,7 @@ pub mod PlainLaw
 pub mod ViewLaw
 pub mod Joined
 pub mod DictionaryLaw
+pub mod WiderOpening
+pub mod WiderOrders
 pub mod Types
 pub mod Theorems

@@ -183,3 +183,7 @@ held-start (tSparse ids nullable g) u m ss = ap (λ f. counts 0 0 (among ids f))
 held-start (tDense ids nullable g) u m ss = ap (λ f. counts 0 0 (among ids f)) (fun-ext (λ e. held-start (g e) _ m (λ i. ss i .children e .body)))
 held-start (tRunEnd w t) u m ss = ap (λ x. counts 0 0 (λ e. x)) (held-start t _ m (λ i. ss i .values .body))
 held-start (tDictionary k p) u m ss = refl
+
+-- plain values, also of no source: a joined dictionary before the first
+pub start-plain : (p : Plain) (u : Bool) (m : ℕ) (vs : ℕ → Array (PlainBody p)) → FormedPlain p → FineNode true (plainFine p) m vs (startNode (keeps u m vs) (plainStart p))
+start-plain p u m vs f = start-node true u (plainFine p) m vs (plainStart p) (λ b. plain-start p b f)
