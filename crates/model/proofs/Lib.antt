@@ -33,3 +33,4 @@ pub mod WiderOpening
 pub mod WiderOrders
 pub mod Types
 pub mod Theorems
+pub mod WiderTheorem
