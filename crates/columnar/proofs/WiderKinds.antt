@@ -117,7 +117,7 @@ module _ {P P′ : Type 0} (w w′ : ℕ) (ww : w ≤ w′) {masks masks′ : Bo
 
 -- ---- run-end columns
 
-ends-same : (w w′ : ℕ) (x x′ : Array (List ℕ)) → Kept (λ ok. Entries w w′) x x′ → (k : ℕ) → k < x .len → endOf w x k ≡ endOf w′ x′ k
+pub ends-same : (w w′ : ℕ) (x x′ : Array (List ℕ)) → Kept (λ ok. Entries w w′) x x′ → (k : ℕ) → k < x .len → endOf w x k ≡ endOf w′ x′ k
 ends-same w w′ x x′ h k q = rw (← h .same-off) (h .same-body .kept k q)
 
 starts-same : (w w′ : ℕ) (x x′ : Array (List ℕ)) → Kept (λ ok. Entries w w′) x x′ → (k : ℕ) → k ≤ x .len → startOf (endOf w x) k ≡ startOf (endOf w′ x′) k

@@ -126,7 +126,7 @@ module _ (t : Ty) (m : ℕ) (ss : ℕ → Column t) (law : Law (kindOf t m (λ i
             state : State keep (performAll t m ss os (after p d));
             rows-are : finished (performAll t m ss os (after p d)) ≡ finished d ++ elim s [ done c ↦ entered t keep m ss o ++ book t keep m ss os c | stop g ↦ book t keep m ss os (held t d) ];
             count-is : performAll t m ss os (after p d) .null_count
-                ≡ d .null_count + countedIf keep (elim s [ done c ↦ nullsEntered t keep m ss o + bookNulls t keep m ss os c | stop g ↦ bookNulls t keep m ss os (held t d) ])
+                ≡ d .null_count + countedIf keep (elim s [ done c ↦ nullsEntered t keep m ss o + bookNulls t keep m ss os c | stop g ↦ bookNulls t keep m ss os (held t d) ]);
           }
       go (both x q) f =
           let r = f x (q .state) in

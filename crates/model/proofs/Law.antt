@@ -9,12 +9,13 @@ use lib.Dec.{T}
 use Rattle.columnar.specs.Row.{Row}
 use Rattle.columnar.specs.Array.{Array, ok, sight, nullsIn, readWith}
 use Rattle.model.specs.Try.{Try}
-use Rattle.model.specs.Grounds.{Counts, Ask, AskNulls}
+use Rattle.model.specs.Grounds.{Counts, rowsOf, Ask, AskNulls}
 use Rattle.model.specs.Mutable.{Mutable, zeros, counted, validity, freezeNode}
 use Rattle.model.specs.Transform.{keepsNulls}
 use Rattle.model.proofs.Agree.{Agrees}
 
--- A kind of node over m given sources: P is a source's body, D what grows. All but `fine` are the definitions of specs/.
+-- A kind of node over m given sources: P is a source's body, D what grows. All but `fine` are the definitions of specs/;
+-- `held-rows` says that the rows counted are the node's.
 pub record Kind (P D : Type 0) : Type 1 where
   pub masks : Bool
   pub at : P → ℕ → Row  -- what a slot holds
@@ -25,6 +26,7 @@ pub record Kind (P D : Type 0) : Type 1 where
   pub ask : P → Ask
   pub askN : AskNulls
   pub held : D → ℕ → Counts
+  pub held-rows : (d : D) (l : ℕ) → rowsOf (held d l) ≡ l
   pub fine : (ℕ → Bool) → D → ℕ → Type 0  -- well formed, with n rows of this validity
   pub keep : D → Type 0  -- the children that an order of nulls reaches keep nulls
   pub rule : (ℕ → Bool) → P → ℕ → ℕ → Type 0  -- the source rule

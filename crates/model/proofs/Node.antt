@@ -105,7 +105,6 @@ module _ {P D : Type 0} (k : Kind P D) (m : ℕ) (xs : ℕ → Array P) where
       (new-bit : (i : ℕ) → i < n → bitAt (k .masks) (grow (k .masks) vs (d .bits)) (d .len + i) ≡ vsAt i)
       (p : Put (seen k) (k .fine) (k .keep) (ok (validity (k .masks) (d .bits))) (d .«data») (d .len) n vsAt slots (d′ .«data»))
       (reads : (i : ℕ) → i < n → sight (vsAt i) (slots i) ≡ want i) where
-
     put-count : (masks : Bool) (b : Option (List Bool)) (x : ℕ) → CountFor masks b x → ((l : List Bool) → b ≡ some l → masks ≡ true → zeros vs ≡ c)
         → CountFor masks (grow masks vs b) (x + counted b c)
     put-count masks none x q e = omega arith
@@ -152,7 +151,6 @@ module _ {P D : Type 0} (k : Kind P D) (m : ℕ) (xs : ℕ → Array P) where
 
 module _ {P D : Type 0} (k : Kind P D) (m : ℕ) (xs : ℕ → Array P) (law : Law k m xs)
     (masked : (j : ℕ) → j < m → Mask (k .masks) (xs j .valid) (xs j .off + xs j .len)) where
-
   -- A COPY AT A NODE: the rows of source j from a on
   pub node-copies : (j a n : ℕ) (d : Mutable D) → j < m → a + n ≤ xs j .len → Fine k m xs d
       → Agrees (heldNode (k .held)) (Grew k m xs d n (nullsIn (ok (xs j .valid)) (xs j .off + a) n) (λ i. readWith (k .at) (xs j) (a + i)))

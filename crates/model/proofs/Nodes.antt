@@ -41,6 +41,10 @@ abbrev pub plainFine : (p : Plain) → (ℕ → Bool) → PlainBody p → ℕ �
 plainFine (fixed k) b d l = length d ≡ l * width k
 plainFine (string w) b d l = TextFine w d l
 
+abbrev pub plain-rows : (p : Plain) (d : PlainBody p) (l : ℕ) → rowsOf (heldPlain p d l) ≡ l
+plain-rows (fixed k) d l = refl
+plain-rows (string w) d l = refl
+
 abbrev pub plainKind : (p : Plain) → Kind (PlainBody p) (PlainBody p)
 plainKind p =
     record {
@@ -53,6 +57,7 @@ plainKind p =
       ask = plainAsk p;
       askN = plainNulls p;
       held = heldPlain p;
+      held-rows = plain-rows p;
       fine = plainFine p;
       keep = λ d. Unit {0};
       rule = PlainRule p;
@@ -76,6 +81,7 @@ viewKind m ss =
       ask = λ b a n c. moreRows n c;
       askN = moreRows;
       held = λ d l. counts l 0 leaf;
+      held-rows = λ d l. refl;
       fine = ViewFine (buffersBefore ss m);
       keep = λ d. Unit {0};
       rule = ViewRule;
@@ -102,6 +108,7 @@ listKind w k m kids =
       ask = listViewAsk w (k .ask);
       askN = λ n c. done (counts (rowsOf c + n) 0 (kidOf c));
       held = λ d l. counts l 0 (λ e. heldNode (k .held) (d .child));
+      held-rows = λ d l. refl;
       fine = λ b d l. ListFine w (FineNode (k .masks) (k .fine) m kids) d l;
       keep = λ d. Unit {0};
       rule = ListViewRule w (Obeys (k .masks) (k .rule));
@@ -136,6 +143,7 @@ module _ (ids : List ℕ) (nullable : ℕ → Bool) {P D : ℕ → Type 0} (k : 
         ask = sparseAsk ids (λ c. k c .ask);
         askN = sparseNulls ids nullable (λ e. unlessNone (k e .askN));
         held = λ d l. counts l 0 (among ids (λ e. heldNode (k e .held) (d .children e)));
+        held-rows = λ d l. refl;
         fine = λ b d l. SparseFine ids (λ c. FineNode (k c .masks) (k c .fine) m (kids c)) d l;
         keep = λ d. (c : ℕ) → List·Memᴰ c ids → KeepNode (k c .keep) (d .children c);
         rule = SparseRule ids (λ c. Obeys (k c .masks) (k c .rule));
@@ -153,6 +161,7 @@ module _ (ids : List ℕ) (nullable : ℕ → Bool) {P D : ℕ → Type 0} (k : 
         ask = denseAsk (λ c. k c .ask);
         askN = denseNulls ids nullable (λ e. unlessNone (k e .askN));
         held = λ d l. counts l 0 (among ids (λ e. heldNode (k e .held) (d .children e)));
+        held-rows = λ d l. refl;
         fine = λ b d l. DenseFine ids (λ c. FineNode (k c .masks) (k c .fine) m (kids c)) d l;
         keep = λ d. (c : ℕ) → List·Memᴰ c ids → KeepNode (k c .keep) (d .children c);
         rule = DenseRule ids (λ c. Obeys (k c .masks) (k c .rule));
@@ -181,6 +190,7 @@ runsKind w k r m kids =
       ask = runEndAsk w (k .ask);
       askN = runEndNulls w (unlessNone (k .askN));
       held = λ d l. counts l 0 (λ e. heldNode (k .held) (d .values));
+      held-rows = λ d l. refl;
       fine = λ b d l. RunsFine w (FineNode (k .masks) (k .fine) m kids) d l;
       keep = λ d. KeepNode (k .keep) (d .values);
       rule = RunEndRule w (Obeys (k .masks) (k .rule));
@@ -188,7 +198,8 @@ runsKind w k r m kids =
 
 -- ---- dictionaries; v: the kept or joined one
 
-pub record KeysFine (k : Number) (entries : ℕ) (b : ℕ → Bool) (d : List ℕ) (l : ℕ) : Type 0 where
+pub record KeysFine (k : Number) (m entries : ℕ) (b : ℕ → Bool) (d : List ℕ) (l : ℕ) : Type 0 where
+  pub sources : 0 < m  -- with no source there is no dictionary
   pub keys-are : length d ≡ l * width k
   pub positive : (i : ℕ) → i < l → T (b i) → item (width k) d i < limit k
   pub within : (i : ℕ) → i < l → T (b i) → item (width k) d i < entries
@@ -205,7 +216,8 @@ dictionaryKind k p m ss =
       ask = λ b a n c. moreRows n c;
       askN = moreRows;
       held = λ d l. counts l 0 leaf;
-      fine = KeysFine k (after (theDictionary p m ss) (ss 0 .values) .len);
+      held-rows = λ d l. refl;
+      fine = KeysFine k m (after (theDictionary p m ss) (ss 0 .values) .len);
       keep = λ d. Unit {0};
       rule = DictionaryRule k (Obeys true (PlainRule p));
     }
@@ -219,7 +231,7 @@ fineOf (tListView w t) = λ m ss b d l. ListFine w (FineNode (masks t) (fineOf t
 fineOf (tSparse ids nullable f) = λ m ss b d l. SparseFine ids (λ c. FineNode (masks (f c)) (fineOf (f c) m (λ i. ss i .children c .body)) m (λ i. ss i .children c)) d l
 fineOf (tDense ids nullable f) = λ m ss b d l. DenseFine ids (λ c. FineNode (masks (f c)) (fineOf (f c) m (λ i. ss i .children c .body)) m (λ i. ss i .children c)) d l
 fineOf (tRunEnd w t) = λ m ss b d l. RunsFine w (FineNode (masks t) (fineOf t m (λ i. ss i .values .body)) m (λ i. ss i .values)) d l
-fineOf (tDictionary k p) = λ m ss. KeysFine k (after (theDictionary p m ss) (ss 0 .values) .len)
+fineOf (tDictionary k p) = λ m ss. KeysFine k m (after (theDictionary p m ss) (ss 0 .values) .len)
 
 abbrev pub keepOf : (t : Ty) → Grown t → Type 0
 keepOf (tPlain p) = λ d. Unit {0}
@@ -229,6 +241,15 @@ keepOf (tSparse ids nullable f) = λ d. (c : ℕ) → List·Memᴰ c ids → Kee
 keepOf (tDense ids nullable f) = λ d. (c : ℕ) → List·Memᴰ c ids → KeepNode (keepOf (f c)) (d .children c)
 keepOf (tRunEnd w t) = λ d. KeepNode (keepOf t) (d .values)
 keepOf (tDictionary k p) = λ d. Unit {0}
+
+abbrev pub rows-held : (t : Ty) (d : Grown t) (l : ℕ) → rowsOf (heldData t d l) ≡ l
+rows-held (tPlain p) = plain-rows p
+rows-held tView = λ d l. refl
+rows-held (tListView w t) = λ d l. refl
+rows-held (tSparse ids nullable f) = λ d l. refl
+rows-held (tDense ids nullable f) = λ d l. refl
+rows-held (tRunEnd w t) = λ d l. refl
+rows-held (tDictionary k p) = λ d l. refl
 
 abbrev pub kindOf : (t : Ty) → ℕ → (ℕ → Body t) → Kind (Body t) (Grown t)
 kindOf t m ss =
@@ -242,6 +263,7 @@ kindOf t m ss =
       ask = askCopy t;
       askN = nullsAsk t;
       held = heldData t;
+      held-rows = rows-held t;
       fine = fineOf t m ss;
       keep = keepOf t;
       rule = SlotRule t;

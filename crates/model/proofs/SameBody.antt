@@ -40,13 +40,13 @@ module _ {P : Type 0} (d e : Dictionary P) (h : ptrEq d e ≡ true) where
   same-places : eqb (d .values .off) (e .values .off) && eqb (d .values .len) (e .values .len) ≡ true
   same-places = and-first (eqb (d .values .off) (e .values .off) && eqb (d .values .len) (e .values .len)) (sameList (d .starts) (e .starts)) h
 
-  same-off : d .values .off ≡ e .values .off
+  pub same-off : d .values .off ≡ e .values .off
   same-off = eqb-true _ _ (and-first (eqb (d .values .off) (e .values .off)) (eqb (d .values .len) (e .values .len)) same-places)
 
-  same-len : d .values .len ≡ e .values .len
+  pub same-len : d .values .len ≡ e .values .len
   same-len = eqb-true _ _ (and-rest (eqb (d .values .off) (e .values .off)) (eqb (d .values .len) (e .values .len)) same-places)
 
-  same-starts : d .starts ≡ e .starts
+  pub same-starts : d .starts ≡ e .starts
   same-starts = same-list _ _ (and-rest (eqb (d .values .off) (e .values .off) && eqb (d .values .len) (e .values .len)) (sameList (d .starts) (e .starts)) h)
 
 -- ---- a buffer is the body from its position on, as far as it goes

@@ -109,26 +109,26 @@ plain-start (string w) b f =
       fits = half-pos f;
     }
 
-pub start-data : (t : Ty) (u : Bool) (m : ℕ) (ss : ℕ → Body t) (b : ℕ → Bool) → Formed t → fineOf t m ss b (startData t u m ss) 0
-start-data (tPlain p) u m ss b f = plain-start p b f
-start-data tView u m ss b f = record { views-are = refl; good = λ i q. absurd (omega arith) }
-start-data (tListView w t) u m ss b f =
+pub start-data : (t : Ty) (u : Bool) (m : ℕ) (ss : ℕ → Body t) (b : ℕ → Bool) → 0 < m → Formed t → fineOf t m ss b (startData t u m ss) 0
+start-data (tPlain p) u m ss b z f = plain-start p b f
+start-data tView u m ss b z f = record { views-are = refl; good = λ i q. absurd (omega arith) }
+start-data (tListView w t) u m ss b z f =
     record {
       offsets-are = sym (zero-mul w);
       sizes-are = sym (zero-mul w);
       within = λ i q. absurd (omega arith);
       fits = half-pos (f .0);
-      child-fine = start-node (masks t) u (fineOf t m (λ i. ss i .child .body)) m (λ i. ss i .child) _ (λ b. start-data t _ m (λ i. ss i .child .body) b (f .1));
+      child-fine = start-node (masks t) u (fineOf t m (λ i. ss i .child .body)) m (λ i. ss i .child) _ (λ b. start-data t _ m (λ i. ss i .child .body) b z (f .1));
     }
-start-data (tSparse ids nullable g) u m ss b f =
+start-data (tSparse ids nullable g) u m ss b z f =
     record {
       ids-are = refl;
       declared = λ i q. absurd (omega arith);
       kids-are = λ c q. refl;
       kids-fine = λ c q.
-          start-node (masks (g c)) u (fineOf (g c) m (λ i. ss i .children c .body)) m (λ i. ss i .children c) _ (λ b. start-data (g c) _ m (λ i. ss i .children c .body) b (f .1 c q));
+          start-node (masks (g c)) u (fineOf (g c) m (λ i. ss i .children c .body)) m (λ i. ss i .children c) _ (λ b. start-data (g c) _ m (λ i. ss i .children c .body) b z (f .1 c q));
     }
-start-data (tDense ids nullable g) u m ss b f =
+start-data (tDense ids nullable g) u m ss b z f =
     record {
       ids-are = refl;
       positions-are = refl;
@@ -136,9 +136,9 @@ start-data (tDense ids nullable g) u m ss b f =
       within = λ i q. absurd (omega arith);
       fits = λ c q. omega arith;
       kids-fine = λ c q.
-          start-node (masks (g c)) u (fineOf (g c) m (λ i. ss i .children c .body)) m (λ i. ss i .children c) _ (λ b. start-data (g c) _ m (λ i. ss i .children c .body) b (f .1 c q));
+          start-node (masks (g c)) u (fineOf (g c) m (λ i. ss i .children c .body)) m (λ i. ss i .children c) _ (λ b. start-data (g c) _ m (λ i. ss i .children c .body) b z (f .1 c q));
     }
-start-data (tRunEnd w t) u m ss b f =
+start-data (tRunEnd w t) u m ss b z f =
     record {
       no-bits = refl;
       ends-are = sym (zero-mul w);
@@ -146,12 +146,12 @@ start-data (tRunEnd w t) u m ss b f =
       covers = refl;
       fits = run-pos (f .0);
       as-many = refl;
-      values-fine = start-node (masks t) u (fineOf t m (λ i. ss i .values .body)) m (λ i. ss i .values) _ (λ b. start-data t _ m (λ i. ss i .values .body) b (f .1));
+      values-fine = start-node (masks t) u (fineOf t m (λ i. ss i .values .body)) m (λ i. ss i .values) _ (λ b. start-data t _ m (λ i. ss i .values .body) b z (f .1));
     }
-start-data (tDictionary k p) u m ss b f = record { keys-are = sym (zero-mul _); positive = λ i q. absurd (omega arith); within = λ i q. absurd (omega arith) }
+start-data (tDictionary k p) u m ss b z f = record { sources = z; keys-are = sym (zero-mul _); positive = λ i q. absurd (omega arith); within = λ i q. absurd (omega arith) }
 
-pub start-fine : (t : Ty) (u : Bool) (m : ℕ) (ss : ℕ → Column t) → Formed t → FineNode (masks t) (fineOf t m (λ i. ss i .body)) m ss (start t u m ss)
-start-fine t u m ss f = start-node (masks t) u (fineOf t m (λ i. ss i .body)) m ss _ (λ b. start-data t _ m (λ i. ss i .body) b f)
+pub start-fine : (t : Ty) (u : Bool) (m : ℕ) (ss : ℕ → Column t) → 0 < m → Formed t → FineNode (masks t) (fineOf t m (λ i. ss i .body)) m ss (start t u m ss)
+start-fine t u m ss z f = start-node (masks t) u (fineOf t m (λ i. ss i .body)) m ss _ (λ b. start-data t _ m (λ i. ss i .body) b z f)
 
 -- where the root keeps nulls, so do the nodes that an order of nulls reaches
 keep-start : (t : Ty) (m : ℕ) (ss : ℕ → Body t) → keepOf t (startData t true m ss)
@@ -183,3 +183,7 @@ held-start (tSparse ids nullable g) u m ss = ap (λ f. counts 0 0 (among ids f))
 held-start (tDense ids nullable g) u m ss = ap (λ f. counts 0 0 (among ids f)) (fun-ext (λ e. held-start (g e) _ m (λ i. ss i .children e .body)))
 held-start (tRunEnd w t) u m ss = ap (λ x. counts 0 0 (λ e. x)) (held-start t _ m (λ i. ss i .values .body))
 held-start (tDictionary k p) u m ss = refl
+
+-- plain values, also of no source: a joined dictionary before the first
+pub start-plain : (p : Plain) (u : Bool) (m : ℕ) (vs : ℕ → Array (PlainBody p)) → FormedPlain p → FineNode true (plainFine p) m vs (startNode (keeps u m vs) (plainStart p))
+start-plain p u m vs f = start-node true u (plainFine p) m vs (plainStart p) (λ b. plain-start p b f)

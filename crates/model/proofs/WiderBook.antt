@@ -13,7 +13,6 @@ use Rattle.model.specs.Book.{Call, answer, entered, book, accepted, AllA
 module _ (t t′ : Ty) (keep : Bool) (m : ℕ) (ss : ℕ → Column t) (ss′ : ℕ → Column t′)
     (again : (o : Call) (c c′ : Counts) → answer t keep m ss o c ≡ done c′ → answer t′ keep m ss′ o c ≡ done c′)
     (same : (o : Call) (c c′ : Counts) → answer t keep m ss o c ≡ done c′ → entered t keep m ss o ≡ entered t′ keep m ss′ o) where
-
   -- ALL ARE ACCEPTED AGAIN
   pub accepted-again : (os : List Call) (c : Counts) → AllAccepted t′ keep m ss′ (accepted t keep m ss os c) c
   accepted-again [] c = tt
