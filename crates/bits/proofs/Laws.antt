@@ -91,7 +91,8 @@ bits-number (suc w) (b ∷ s) u h =
     rw (e, take-add, take-at (digits 8 b) (bits s) 8 (length-digits 8 b), drop-at (digits 8 b) (bits s) 8 (length-digits 8 b))
     (rw (digits-add 8 (8 * w), m, digits-low 8 b (number w s), high (number w s) 8 k, bits-number w s (λ i. u (suc i)) (omega arith)))
 
-take-mid : (j k m : ℕ) (l : List ℕ) → j + k ≤ m → m ≤ length l → take k (drop j (take m l)) ≡ take k (drop j l)
+-- a part of the first m entries
+pub take-mid : (j k m : ℕ) (l : List ℕ) → j + k ≤ m → m ≤ length l → take k (drop j (take m l)) ≡ take k (drop j l)
 take-mid j k m l h g =
     let n : length (take m l) ≡ m = length-take-le m l g in
     let d : length (drop j (take m l)) ≡ m - j = length-drop j (take m l) ∙ ap (λ (x : ℕ). x - j) n in

@@ -1,4 +1,4 @@
--- Laws of `packed` and `putBits`: bits and bytes determine each other; what a put changes, and puts one after the other. Assumes nothing.
+-- Laws of `packed` and `putBits`: bits and bytes determine each other; what a put changes, puts one after the other; runs of bits and their zeros. Assumes nothing.
 use mathlib.Core.Path.{_≡_, refl, sym, ap, _∙_}
 use Prim.Native.Nat.{ℕ, zero, suc, _+_, _*_, _-_, _/_, _%_, _^_, _≤_, _<_}
 use native.Mathlib.Nat.{add-zero, add-assoc, add-suc, pow-suc, lt-of-lt-of-le}
@@ -12,7 +12,7 @@ use lib.Pow.{pow-mono, shr-lt}
 use Rattle.number.specs.Number.{splice}
 use Rattle.number.proofs.Laws.{length-splice, splice-nil}
 use Rattle.bits.specs.Bits.{digits, bits, value, pack, packed, zeros, pad, bitsAt, putBits}
-use Rattle.bits.proofs.Laws.{length-digits, length-bits, take-bits, drop-bits, Below, none, more, below-append, below-take, below-drop, below-replicate, below-splice, below-bits}
+use Rattle.bits.proofs.Laws.{length-digits, length-bits, take-bits, drop-bits, take-mid, Below, none, more, below-append, below-take, below-drop, below-replicate, below-splice, below-bits}
 
 -- ---- a list of digits and its number
 
@@ -223,6 +223,20 @@ module _ (p : ℕ) (vs s : List ℕ) (b : Below 2 vs) (fits : p + length vs ≤ 
       = rw bits-put (splice-drop i p (vs ++ replicate (pad p (length vs)) 0) (bits s) (rw length-run (omega arith)) l) in
       same-rest i (bits (putBits p vs s)) (bits s) d
 
+  -- runs of bits outside stay
+  pub put-before : (q n : ℕ) → q + n ≤ p → bitsAt q n (putBits p vs s) ≡ bitsAt q n s
+  unfolding bitsAt
+  put-before q n h =
+      let l : p ≤ length (bits s) = rw length-bits (omega arith) in
+      let m : p ≤ length (bits (putBits p vs s)) = rw (bits-put, spliced) (omega arith) in
+      let e : take p (bits (putBits p vs s)) ≡ take p (bits s) = rw bits-put (splice-take p p (vs ++ replicate (pad p (length vs)) 0) (bits s) (omega arith) l) in
+      sym (take-mid q n p (bits (putBits p vs s)) h m) ∙ ap (λ (x : List ℕ). take n (drop q x)) e ∙ take-mid q n p (bits s) h l
+
+  pub put-after : (q n : ℕ) → p + length vs + pad p (length vs) ≤ q → bitsAt q n (putBits p vs s) ≡ bitsAt q n s
+  unfolding bitsAt
+  put-after q n h =
+      rw (bits-put, splice-drop q p (vs ++ replicate (pad p (length vs)) 0) (bits s) (rw length-run (omega arith)) (rw length-bits (omega arith)))
+
   module _ (u : Below 256 s) where
     -- whole bytes below stay
     pub put-take : (k : ℕ) → 8 * k ≤ p → take k (putBits p vs s) ≡ take k s
@@ -274,7 +288,21 @@ pub bitsAt-add : (p n k : ℕ) (s : List ℕ) → bitsAt p (n + k) s ≡ bitsAt 
 unfolding bitsAt
 bitsAt-add p n k s = rw (take-add, drop-drop)
 
+pub bitsAt-at : (p n i : ℕ) (s : List ℕ) → i < n → getD (bitsAt p n s) i 0 ≡ getD (bits s) (p + i) 0
+unfolding bitsAt
+bitsAt-at p n i s h = rw (getD-take n (drop p (bits s)) i 0 h, getD-drop)
+
 -- ---- zeros
+
+pub zeros-of-zeros : (n : ℕ) → zeros (replicate n 0) ≡ n
+unfolding zeros
+zeros-of-zeros zero = refl
+zeros-of-zeros (suc n) = rw (zeros-of-zeros n) (omega arith)
+
+pub zeros-of-ones : (n : ℕ) → zeros (replicate n 1) ≡ 0
+unfolding zeros
+zeros-of-ones zero = refl
+zeros-of-ones (suc n) = rw (zeros-of-ones n)
 
 pub zeros-append : (x y : List ℕ) → zeros (x ++ y) ≡ zeros x + zeros y
 unfolding zeros

@@ -28,23 +28,23 @@ one-shl-pos k h = rw one-shl (pow-pos k)
 pub pow-le-byte : (k : ℕ) → k ≤ 8 → 2 ^ k ≤ 256
 pow-le-byte k h = pow-mono h
 
-pub below-shl : (x k : ℕ) → k ≤ 8 → x % (1 * 2 ^ k % 2 ^ 16) < 2 ^ k
-below-shl x k h = rw one-shl (mod-lt x (pow-pos k))
+pub low-lt : (x k : ℕ) → x % 2 ^ k < 2 ^ k
+low-lt x k = mod-lt x (pow-pos k)
 
 -- a field out of w bytes, as the code takes it
-pub field-is : (w q j k x : ℕ) (s : List ℕ) → ((i : ℕ) → getD s i 0 < 256) → q + w ≤ length s → j + k ≤ 8 * w → k ≤ 8
-    → x ≡ number w (drop q s) → digits k (x / 2 ^ j % (1 * 2 ^ k % 2 ^ 16)) ≡ bitsAt (8 * q + j) k s
+pub field-is : (w q j k x : ℕ) (s : List ℕ) → ((i : ℕ) → getD s i 0 < 256) → q + w ≤ length s → j + k ≤ 8 * w
+    → x ≡ number w (drop q s) → digits k (x / 2 ^ j % 2 ^ k) ≡ bitsAt (8 * q + j) k s
 unfolding bitsAt
-field-is w q j k x s u h l m e = rw (one-shl, digits-mod', e) (sym (bits-field w q j k s u h l))
+field-is w q j k x s u h l e = rw (digits-mod', e) (sym (bits-field w q j k s u h l))
 
 -- ---- a byte's lowest h bits, f above them, and zeros above that
 
 module _ (x f h k : ℕ) (hk : h + k ≤ 8) (fk : f < 2 ^ k) where
-  put-value : x % (1 * 2 ^ h % 2 ^ 16) + f * 2 ^ h % 2 ^ 16 ≡ f * 2 ^ h + x % 2 ^ h
+  put-value : x % 2 ^ h + f * 2 ^ h % 2 ^ 16 ≡ f * 2 ^ h + x % 2 ^ h
   put-value =
-      rw (one-shl h (omega arith), shl-exact k h 16 fk (omega arith)) (add-comm (x % 2 ^ h) (f * 2 ^ h))
+      rw (shl-exact k h 16 fk (omega arith)) (add-comm (x % 2 ^ h) (f * 2 ^ h))
 
-  pub put-lt : x % (1 * 2 ^ h % 2 ^ 16) + f * 2 ^ h % 2 ^ 16 < 256
+  pub put-lt : x % 2 ^ h + f * 2 ^ h % 2 ^ 16 < 256
   put-lt =
       let e : 2 ^ (k + h) ≤ 256 = pow-le-byte (k + h) (omega arith) in
       let l : f * 2 ^ h + x % 2 ^ h < 2 ^ k * 2 ^ h = digits-lt fk (mod-lt x (pow-pos h)) in
@@ -65,7 +65,7 @@ bits-below d h s l m =
     sym (rw (drop-bits, drop-cons s d 0 l, take-append-le h (digits 8 (getD s d 0)) (bits (drop (suc d) s)) (omega arith), p))
 
 put-is : (d h k f : ℕ) (s : List ℕ) → d < length s → h + k ≤ 8 → f < 2 ^ k
-    → bits (set s d (getD s d 0 % (1 * 2 ^ h % 2 ^ 16) + f * 2 ^ h % 2 ^ 16)) ≡ splice (8 * d + h) (digits k f ++ replicate (8 - (h + k)) 0) (bits s)
+    → bits (set s d (getD s d 0 % 2 ^ h + f * 2 ^ h % 2 ^ 16)) ≡ splice (8 * d + h) (digits k f ++ replicate (8 - (h + k)) 0) (bits s)
 put-is d h k f s l hk fk =
     let x = getD s d 0 in
     rw (
@@ -77,10 +77,10 @@ put-is d h k f s l hk fk =
     )
 
 pub put-set : (d h k f : ℕ) (s : List ℕ) → Below 256 s → 1 ≤ k → d < length s → h + k ≤ 8 → f < 2 ^ k
-    → set s d (getD s d 0 % (1 * 2 ^ h % 2 ^ 16) + f * 2 ^ h % 2 ^ 16) ≡ putBits (8 * d + h) (digits k f) s
+    → set s d (getD s d 0 % 2 ^ h + f * 2 ^ h % 2 ^ 16) ≡ putBits (8 * d + h) (digits k f) s
 put-set d h k f s u o l hk fk =
     let e : (8 * d + h) % 8 ≡ h = omega arith in
-    put-of (set s d (getD s d 0 % (1 * 2 ^ h % 2 ^ 16) + f * 2 ^ h % 2 ^ 16)) s (digits k f) (8 * d + h)
+    put-of (set s d (getD s d 0 % 2 ^ h + f * 2 ^ h % 2 ^ 16)) s (digits k f) (8 * d + h)
     (below-set 256 d _ s (put-lt (getD s d 0) f h k hk fk) u)
     (put-is d h k f s l hk fk ∙ rw (length-digits, pad-in (8 * d + h) k o (rw e hk), e))
 

@@ -1,10 +1,18 @@
 // Validity bits: copies of bit ranges that count their zeros, runs of one bit, counts, and one bit.
-// Follows arrow-buffer's bit_mask.rs (set_bits) and arrow-data 60.1.0 src/transform/utils.rs (resize_for_bits), Apache-2.0; see NOTICE.
+// They do the work of `set_bits` (bit_mask.rs) and `resize_for_bits` (arrow-data 60.1.0 src/transform/utils.rs).
 // A position is a byte of the slice and a number of bits from there on.
 ghost use mathlib.Core.Path.{_≡_};
-ghost use Prim.Native.Nat.{_+_, _*_, _-_, _^_, _≤_, _<_, min};
+ghost use Prim.Native.Nat.{_+_, _*_, _-_, _%_, _^_, _≤_, _<_, min};
 ghost use lib.ListN.{length, replicate, getD};
 ghost use Rattle.bits.specs.Bits.{digits, bits, zeros, bitsAt, putBits};
+
+// The lowest k bits of x.
+fn low(x: u16, k: usize) -> u16
+    requires { ⌜ k ≤ 8 ⌝ }
+    ensures { λ r. ⌜ r ≡ x % 2 ^ k ⌝ }
+{
+    x % (1u16 << k)
+}
 
 // k bits from the bit j of the byte q on, 1 to 8 of them, as a number.
 fn field(body: &[u8], q: usize, j: usize, k: usize) -> u8
@@ -12,9 +20,9 @@ fn field(body: &[u8], q: usize, j: usize, k: usize) -> u8
     ensures { λ r. ⌜ (r < 2 ^ k) × (digits k r ≡ bitsAt (8 * q + j) k (now (body .entry))) ⌝ }
 {
     if j + k <= 8 {
-        return ((number::read_u8(body, q) >> j) as u16 % (1u16 << k)) as u8;
+        return low((number::read_u8(body, q) >> j) as u16, k) as u8;
     }
-    ((number::read_u16(body, q) >> j) % (1u16 << k)) as u8
+    low(number::read_u16(body, q) >> j, k) as u8
 }
 
 // The k digits of x into the byte d, above its lowest h bits; zeros above them.
@@ -22,7 +30,7 @@ fn put(room: &mut [u8], d: usize, h: usize, k: usize, x: u8)
     requires { ⌜ (1 ≤ k) × (h + k ≤ 8) × (d < length (now room)) × (x < 2 ^ k) ⌝ }
     ensures { λ _. ⌜ now (room .exit) ≡ putBits (8 * d + h) (digits k x) (now (room .entry)) ⌝ }
 {
-    let below = room[d] as u16 % (1u16 << h);
+    let below = low(room[d] as u16, h);
     room[d] = (below + ((x as u16) << h)) as u8;
 }
 
