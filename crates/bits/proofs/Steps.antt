@@ -1,7 +1,7 @@
 -- What the code computes, as bits: fields, shifted words, runs of one bit, counts; and a turn of each loop. Assumes nothing.
 use mathlib.Core.Path.{_≡_, refl, sym, ap, _∙_}
 use Prim.Native.Nat.{ℕ, zero, suc, _+_, _*_, _-_, _/_, _%_, _^_, _≤_, _<_}
-use native.Mathlib.Nat.{add-zero, mul-zero, mul-one, one-mul, mul-comm, add-comm, add-mul-div-right, mod-lt, mul-mod-left, div-one, div-eq-of-lt, lt-of-lt-of-le, pow-suc}
+use native.Mathlib.Nat.{add-zero, mul-zero, mul-one, one-mul, add-comm, mod-lt, mul-mod-left, div-one, div-eq-of-lt, lt-of-lt-of-le, pow-suc}
 use native.Mathlib.Numerals.{add-one}
 use native.Mathlib.Omega.{arith}
 use mathlib.Core.List.{List, [], _++_, append-nil}
@@ -9,15 +9,17 @@ use lib.ListN.{length, take, drop, getD, set, replicate, length-replicate, repli
 use lib.Seq.{drop-cons, take-append-le}
 use lib.Arith.{mod-mul, digits-lt, lt-one}
 use lib.Count.{ones, onesIn, ones-step}
-use lib.Pow.{pow-add, pow-pos, pow-mono, high, split, shl-exact, shr-lt, shl-shr}
+use lib.Pow.{pow-add, pow-pos, pow-mono, high, shl-exact, shr-lt, shl-shr}
 use lib.Dec.{lit<}
 use Rattle.number.specs.Number.{number, encode, splice}
-use Rattle.number.proofs.Laws.{halves}
 use Rattle.bits.specs.Bits.{digits, bits, zeros, bitsAt, putBits}
 use Rattle.bits.proofs.Laws.{length-digits, digits-add, digits-low, digits-mod', digits-zero, digits-part, length-bits, drop-bits, bits-splice, bits-field, bits-set, splice-same, Below, none, more, below-set, below-splice, below-replicate, below-bitsAt}
 use Rattle.bits.proofs.Puts.{pad-at, pad-in, put-nil, put-of, put-put, below-put, length-bitsAt, bitsAt-add, zeros-add}
 
 -- ---- at the machine's shifts
+
+pub one-shl-word : (k : ℕ) → k < 64 → 1 * 2 ^ k % 2 ^ 64 ≡ 2 ^ k
+one-shl-word k h = shl-exact 1 k 64 (lit< tt) (omega arith) ∙ one-mul (2 ^ k)
 
 pub one-shl : (k : ℕ) → k ≤ 8 → 1 * 2 ^ k % 2 ^ 16 ≡ 2 ^ k
 one-shl k h = shl-exact 1 k 16 (lit< tt) (omega arith) ∙ one-mul (2 ^ k)
@@ -84,44 +86,53 @@ put-set d h k f s u o l hk fk =
     (below-set 256 d _ s (put-lt (getD s d 0) f h k hk fk) u)
     (put-is d h k f s l hk fk ∙ rw (length-digits, pad-in (8 * d + h) k o (rw e hk), e))
 
--- ---- a word of w bits from the bit j of x on, with y above x
+-- ---- a number of w bits: the k lowest are x, the others the lowest of y
 
-module _ (w j x y : ℕ) (jw : j ≤ w) where
-  pow-part : 2 ^ w ≡ 2 ^ (w - j) * 2 ^ j
+module _ (w k x y : ℕ) (kw : k ≤ w) (xk : x < 2 ^ k) where
+  pow-part : 2 ^ w ≡ 2 ^ (w - k) * 2 ^ k
   pow-part =
-      let e : w ≡ (w - j) + j = omega arith in
-      ap (λ (n : ℕ). 2 ^ n) e ∙ pow-add 2 (w - j) j
+      let e : w ≡ (w - k) + k = omega arith in
+      ap (λ (n : ℕ). 2 ^ n) e ∙ pow-add 2 (w - k) k
 
-  shl-part : y * 2 ^ (w - j) % 2 ^ w ≡ (y % 2 ^ j) * 2 ^ (w - j)
+  shl-part : y * 2 ^ k % 2 ^ w ≡ (y % 2 ^ (w - k)) * 2 ^ k
   shl-part =
-      rw (pow-part, mul-comm (2 ^ (w - j)) (2 ^ j), mod-mul (y * 2 ^ (w - j)) (pow-pos j) (pow-pos (w - j)), shl-shr y (w - j), mul-mod-left, add-zero)
+      rw (pow-part, mod-mul (y * 2 ^ k) (pow-pos (w - k)) (pow-pos k), shl-shr y k, mul-mod-left, add-zero)
 
-  pub shifted-lt : x < 2 ^ w → x / 2 ^ j + y * 2 ^ (w - j) % 2 ^ w < 2 ^ w
-  shifted-lt h =
-      let e : w ≡ (w - j) + j = omega arith in
-      let r : x / 2 ^ j < 2 ^ (w - j) = shr-lt (w - j) j (rw e at h) in
-      let l = digits-lt (mod-lt y (pow-pos j)) r in
-      rw shl-part (omega (arith, l, pow-part))
+  joined : x + y * 2 ^ k % 2 ^ w ≡ (y % 2 ^ (w - k)) * 2 ^ k + x
+  joined = rw shl-part (add-comm x ((y % 2 ^ (w - k)) * 2 ^ k))
 
-  shifted : digits w (x / 2 ^ j + y * 2 ^ (w - j) % 2 ^ w) ≡ digits w ((x + 2 ^ w * y) / 2 ^ j)
-  shifted =
-      let p : 2 ^ w * y ≡ (y * 2 ^ (w - j)) * 2 ^ j = rw pow-part (omega arith) in
-      let e : (x + 2 ^ w * y) / 2 ^ j ≡ x / 2 ^ j + y * 2 ^ (w - j) = rw (p, add-mul-div-right x (y * 2 ^ (w - j)) (pow-pos j)) in
-      let t = y * 2 ^ (w - j) in
-      let m : x / 2 ^ j + t ≡ t / 2 ^ w * 2 ^ w + (x / 2 ^ j + t % 2 ^ w) = omega (arith, split t w) in
-      sym (rw (e, m, digits-low))
+  pub joined-lt : x + y * 2 ^ k % 2 ^ w < 2 ^ w
+  joined-lt = rw joined (omega (arith, digits-lt (mod-lt y (pow-pos (w - k))) xk, pow-part))
+
+  joined-digits : digits w (x + y * 2 ^ k % 2 ^ w) ≡ digits k x ++ digits (w - k) y
+  joined-digits =
+      let e : w ≡ k + (w - k) = omega arith in
+      ap (λ (n : ℕ). digits n (x + y * 2 ^ k % 2 ^ w)) e
+      ∙ rw (joined, digits-add k (w - k), digits-low, high (y % 2 ^ (w - k)) k xk, digits-mod')
 
 -- the bits of a word, as the code takes them
-pub word-is : (w q : ℕ) (s : List ℕ) → ((i : ℕ) → getD s i 0 < 256) → q + w ≤ length s → digits (8 * w) (number w (drop q s)) ≡ bitsAt (8 * q) (8 * w) s
+part-is : (w q j k : ℕ) (s : List ℕ) → ((i : ℕ) → getD s i 0 < 256) → q + w ≤ length s → j + k ≤ 8 * w → digits k (number w (drop q s) / 2 ^ j) ≡ bitsAt (8 * q + j) k s
 unfolding bitsAt
-word-is w q s u h = sym (simp (add-zero, div-one) at (bits-field w q 0 (8 * w) s u h (omega arith)))
+part-is w q j k s u h l = sym (bits-field w q j k s u h l)
 
-pub shift-is : (w q j : ℕ) (s : List ℕ) → ((i : ℕ) → getD s i 0 < 256) → 256 ^ w ≡ 2 ^ (8 * w) → j ≤ 8 * w → j ≤ 8 → q + w < length s
-    → digits (8 * w) (number w (drop q s) / 2 ^ j + number 1 (drop (q + w) s) * 2 ^ (8 * w - j) % 2 ^ (8 * w)) ≡ bitsAt (8 * q + j) (8 * w) s
-unfolding bitsAt
-shift-is w q j s u pw jw j8 h =
-    let n : number (w + 1) (drop q s) ≡ number w (drop q s) + 2 ^ (8 * w) * number 1 (drop (q + w) s) = halves w 1 q s ∙ rw pw in
-    sym (bits-field (w + 1) q j (8 * w) s u (omega arith) (omega arith) ∙ rw n (sym (shifted (8 * w) j (number w (drop q s)) (number 1 (drop (q + w) s)) jw)))
+low-is : (w q k : ℕ) (s : List ℕ) → ((i : ℕ) → getD s i 0 < 256) → q + w ≤ length s → k ≤ 8 * w → digits k (number w (drop q s)) ≡ bitsAt (8 * q) k s
+low-is w q k s u h l = simp (add-zero, div-one) at (part-is w q 0 k s u h (omega arith))
+
+pub word-is : (w q : ℕ) (s : List ℕ) → ((i : ℕ) → getD s i 0 < 256) → q + w ≤ length s → digits (8 * w) (number w (drop q s)) ≡ bitsAt (8 * q) (8 * w) s
+word-is w q s u h = low-is w q (8 * w) s u h (omega arith)
+
+pub shift-is : (w q j : ℕ) (s : List ℕ) → ((i : ℕ) → getD s i 0 < 256) → 1 ≤ w → j ≤ 8 → q + 1 + w ≤ length s
+    → digits (8 * w) (number w (drop q s) / 2 ^ j % 2 ^ (8 - j) + number w (drop (q + 1) s) * 2 ^ (8 - j) % 2 ^ (8 * w)) ≡ bitsAt (8 * q + j) (8 * w) s
+shift-is w q j s u o h l =
+    let k = 8 - j in
+    let x = number w (drop q s) in
+    let y = number w (drop (q + 1) s) in
+    let e : k + (8 * w - k) ≡ 8 * w = omega arith in
+    let f : 8 * q + j + k ≡ 8 * (q + 1) = omega arith in
+    let a : digits k (x / 2 ^ j) ≡ bitsAt (8 * q + j) k s = part-is w q j k s u (omega arith) (omega arith) in
+    let b : digits (8 * w - k) y ≡ bitsAt (8 * (q + 1)) (8 * w - k) s = low-is w (q + 1) (8 * w - k) s u l (omega arith) in
+    joined-digits (8 * w) k (x / 2 ^ j % 2 ^ k) y (omega arith) (mod-lt (x / 2 ^ j) (pow-pos k))
+    ∙ rw (digits-mod', a, b, ← f, ← bitsAt-add (8 * q + j) k (8 * w - k) s, e)
 
 -- ---- numbers and runs of bytes as bits
 
@@ -235,3 +246,8 @@ same-byte k v h o = rw one-shl (omega (arith, same-lt k v o, pow-le-byte k h))
 pub three-runs : (s : List ℕ) (p k m r n p₁ p₂ p₃ x y z : ℕ) → p₁ ≡ p → p₂ ≡ p + k → p₃ ≡ p + (k + m) → n ≡ (k + m) + r
     → x ≡ zeros (bitsAt p₁ k s) → y ≡ zeros (bitsAt p₂ m s) → z ≡ zeros (bitsAt p₃ r s) → x + y + z ≡ zeros (bitsAt p n s)
 three-runs s p k m r n p₁ p₂ p₃ x y z e f g h a b c = rw (a, b, c, e, f, g, h, zeros-add p (k + m) r s, zeros-add p k m s)
+
+-- the word that the code makes of two
+pub word-lt : (j x y : ℕ) → j ≤ 8 → x / 2 ^ j % (1 * 2 ^ (8 - j) % 2 ^ 64) + y * 2 ^ (8 - j) % 2 ^ 64 < 2 ^ 64
+word-lt j x y h =
+    rw (one-shl-word (8 - j) (omega arith)) (joined-lt 64 (8 - j) (x / 2 ^ j % 2 ^ (8 - j)) y (omega arith) (mod-lt (x / 2 ^ j) (pow-pos (8 - j))))

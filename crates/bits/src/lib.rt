@@ -94,17 +94,19 @@ fn copy_words(room: &mut [u8], d: usize, body: &[u8], q: usize, m: usize) -> usi
     none
 }
 
-// The same from the bit j of the byte q on, j from 1 to 7.
+// The same from the bit j of the byte q on, j from 1 to 7: a word's lowest bits are of its first byte, the others of the word one byte on.
 fn shift_words(room: &mut [u8], d: usize, body: &[u8], q: usize, j: usize, m: usize) -> usize
     requires { ⌜ (1 ≤ j) × (j < 8) × (64 * m < 2 ^ 64) × (d + 8 * m ≤ length (now room)) × (8 * q + j + 64 * m ≤ 8 * length (now body)) ⌝ }
     ensures { λ _. ⌜ now (room .exit) ≡ putBits (8 * d) (bitsAt (8 * q + j) (64 * m) (now (body .entry))) (now (room .entry)) ⌝ }
     ensures { λ r. ⌜ r ≡ zeros (bitsAt (8 * q + j) (64 * m) (now (body .entry))) ⌝ }
 {
+    let k = 8 - j;
+    let p = 1u64 << k;
     let mut none = 0;
     let mut i = 0;
     while i < m {
-        let lo = number::read_u64(body, q + 8 * i) >> j;
-        let hi = (number::read_u8(body, q + 8 * i + 8) as u64) << (64 - j);
+        let lo = (number::read_u64(body, q + 8 * i) >> j) % p;
+        let hi = number::read_u64(body, q + 8 * i + 1) << k;
         let x = lo + hi;
         number::write_u64(room, d + 8 * i, x);
         none += 64 - u64::count_ones(x) as usize;

@@ -1,25 +1,31 @@
 -- `bits::shift_words` meets its contract: room has the bits of the first i words. Assumes nothing.
 use mathlib.Core.Path.{_≡_, refl, _∙_}
-use Prim.Native.Nat.{_≤_, _<_, _+_, _*_, _-_, _/_, _%_, _^_}
+use Prim.Native.Nat.{_≤_, _+_, _*_, _-_, _/_, _%_, _^_}
 use native.Mathlib.Omega.{arith}
 use lib.ListN.{length}
 use lib.Count.{ones-le}
+use lib.Pow.{pow-pos}
 use Rattle.bits.specs.Bits.{digits, zeros, bitsAt, putBits}
 use Rattle.bits.proofs.Laws.{below-of}
-use Rattle.bits.proofs.Steps.{copy-none, zeros-none, shifted-lt, shift-is, step-word, count-more}
+use Rattle.bits.proofs.Steps.{one-shl-word, word-lt, copy-none, zeros-none, shift-is, step-word, count-more}
 use Rattle.bits.proofs.shift_words.Statement.{statement}
 use Rattle.bits.proofs.shift_words.Tie as tie
 use Rattle.bits.proofs.shift_words.Reads as reads
 use Rattle.bits.proofs.shift_words.Lts as lts
 use Rattle.number.proofs.read_u64.Reads as read-u64-reads
-use Rattle.number.proofs.read_u8.Reads as read-u8-reads
 use Rattle.number.proofs.write_u64.Reads as write-u64-reads
 
 abbrev Inv-loop : tie.InvT-loop
-Inv-loop room₀ d body q j m none₀ i₀ room none i = (i ≤ m) × (length room ≡ length room₀) × (room ≡ putBits (8 * d) (bitsAt (8 * q + j) (64 * i) body) room₀) × (none ≡ zeros (bitsAt (8 * q + j) (64 * i) body)) × (none ≤ 64 * i)
+Inv-loop room₀ d body q j m k p none₀ i₀ room none i = (i ≤ m) × (length room ≡ length room₀) × (room ≡ putBits (8 * d) (bitsAt (8 * q + j) (64 * i) body) room₀) × (none ≡ zeros (bitsAt (8 * q + j) (64 * i) body)) × (none ≤ 64 * i)
 
 abbrev μ-loop : tie.MeasureT-loop
-μ-loop room₀ d body q j m none₀ i₀ room none i = m - i
+μ-loop room₀ d body q j m k p none₀ i₀ room none i = m - i
+
+sub-k : tie.Need-sub-k Inv-loop μ-loop
+sub-k c = omega arith
+
+shl-p : tie.Need-shl-p Inv-loop μ-loop
+shl-p c = omega arith
 
 loop-holds : tie.Need-loop-holds Inv-loop μ-loop
 loop-holds c =
@@ -43,29 +49,26 @@ read-u64-requires c κs = omega arith
 shr-lo : tie.Need-shr-lo Inv-loop μ-loop
 shr-lo c = omega arith
 
-mul-read-u8 : tie.Need-mul-read-u8 Inv-loop μ-loop
-mul-read-u8 c = omega arith
+rem-lo : tie.Need-rem-lo Inv-loop μ-loop
+rem-lo c = omega (arith, one-shl-word (8 - c .before .before .before .before .before .args .j) (omega arith), pow-pos (8 - c .before .before .before .before .before .args .j))
 
-add-read-u8 : tie.Need-add-read-u8 Inv-loop μ-loop
-add-read-u8 c = omega arith
+mul-read-u64-2 : tie.Need-mul-read-u64-2 Inv-loop μ-loop
+mul-read-u64-2 c = omega arith
 
-add-read-u8-2 : tie.Need-add-read-u8-2 Inv-loop μ-loop
-add-read-u8-2 c = omega arith
+add-read-u64-2 : tie.Need-add-read-u64-2 Inv-loop μ-loop
+add-read-u64-2 c = omega arith
 
-read-u8-requires : tie.Need-read-u8-requires Inv-loop μ-loop
-read-u8-requires c κs = omega arith
+add-read-u64-3 : tie.Need-add-read-u64-3 Inv-loop μ-loop
+add-read-u64-3 c = omega arith
 
-cast-hi : tie.Need-cast-hi Inv-loop μ-loop
-cast-hi c = omega arith
-
-sub-hi : tie.Need-sub-hi Inv-loop μ-loop
-sub-hi c = omega arith
+read-u64-requires-2 : tie.Need-read-u64-requires-2 Inv-loop μ-loop
+read-u64-requires-2 c κs = omega arith
 
 shl-hi : tie.Need-shl-hi Inv-loop μ-loop
 shl-hi c = omega arith
 
 add-x : tie.Need-add-x Inv-loop μ-loop
-add-x c = omega (arith, shifted-lt 64 (c .before .before .before .before .before .before .args .j) (c .before .read-u64 .result) (c .read-u8 .result) (omega arith) (omega arith))
+add-x c = omega (arith, word-lt (c .before .before .before .before .before .before .args .j) (c .before .read-u64 .result) (c .read-u642 .result) (omega arith))
 
 mul-write-u64 : tie.Need-mul-write-u64 Inv-loop μ-loop
 mul-write-u64 c = omega arith
@@ -77,14 +80,10 @@ write-u64-requires : tie.Need-write-u64-requires Inv-loop μ-loop
 write-u64-requires c κs = omega arith
 
 cast-none : tie.Need-cast-none Inv-loop μ-loop
-cast-none c =
-    let h = shifted-lt 64 (c .before .before .before .before .before .before .before .before .before .before .args .j) (c .before .before .before .before .before .read-u64 .result) (c .before .before .before .before .read-u8 .result) (omega arith) (omega arith) in
-    omega (arith, ones-le 64 _ h)
+cast-none c = omega (arith, ones-le 64 _ (word-lt (c .before .before .before .before .before .before .before .before .before .before .args .j) (c .before .before .before .before .before .read-u64 .result) (c .before .before .before .before .read-u642 .result) (omega arith)))
 
 sub-none : tie.Need-sub-none Inv-loop μ-loop
-sub-none c =
-    let h = shifted-lt 64 (c .before .before .before .before .before .before .before .before .before .before .args .j) (c .before .before .before .before .before .read-u64 .result) (c .before .before .before .before .read-u8 .result) (omega arith) (omega arith) in
-    omega (arith, ones-le 64 _ h)
+sub-none c = omega (arith, ones-le 64 _ (word-lt (c .before .before .before .before .before .before .before .before .before .before .args .j) (c .before .before .before .before .before .read-u64 .result) (c .before .before .before .before .read-u642 .result) (omega arith)))
 
 add-none : tie.Need-add-none Inv-loop μ-loop
 add-none c = omega arith
@@ -100,17 +99,16 @@ loop-again c =
     let z = c .before .before .before .before .before .before .before .before .before .before .args in
     let l = c .before .before .before .before .before .before .before .loop in
     let x = c .before .before .before .before .before .read-u64 in
-    let y = c .before .before .before .before .read-u8 in
-    let v = x .result / 2 ^ z .j + y .result * 2 ^ (64 - z .j) % 2 ^ 64 in
-    let h : v < 2 ^ 64 = shifted-lt 64 (z .j) (x .result) (y .result) (omega arith) (omega arith) in
+    let y = c .before .before .before .before .read-u642 in
+    let v = x .result / 2 ^ z .j % (1 * 2 ^ (8 - z .j) % 2 ^ 64) + y .result * 2 ^ (8 - z .j) % 2 ^ 64 in
     let e : 64 * (l .i + 1) ≡ 64 * l .i + 64 = omega arith in
     let a : 8 * (z .q + 8 * l .i) + z .j ≡ 8 * z .q + z .j + 64 * l .i = omega arith in
     let d : digits 64 v ≡ bitsAt (8 * z .q + z .j + 64 * l .i) 64 (z .body .now)
-    = rw (x .ensures, y .ensures) (rw a at (shift-is 8 (z .q + 8 * l .i) (z .j) (z .body .now) (λ k. c .before .before .before .before .before .before .before .before .shared-slice-known .given k .fits) refl (omega arith) (omega arith) (omega arith))) in (
+    = rw (one-shl-word (8 - z .j) (omega arith), x .ensures, y .ensures) (rw a at (shift-is 8 (z .q + 8 * l .i) (z .j) (z .body .now) (λ k. c .before .before .before .before .before .before .before .before .shared-slice-known .given k .fits) (omega arith) (omega arith) (omega arith))) in (
       omega arith,
       omega arith,
       rw e (step-word 8 (z .d + 8 * l .i) (8 * z .d) (8 * z .q + z .j) (64 * l .i) v (z .room .now) (z .body .now) (l .room) _ (l .inv .2) (omega arith) d (omega arith) (omega arith) (c .before .before .write-u64 .ensures)),
-      rw (l .inv .3, e) (count-more (8 * z .q + z .j) (64 * l .i) 64 v (z .body .now) h d),
+      rw (l .inv .3, e) (count-more (8 * z .q + z .j) (64 * l .i) 64 v (z .body .now) (word-lt (z .j) (x .result) (y .result) (omega arith)) d),
       omega arith,
     )
 
@@ -130,17 +128,18 @@ shift-words-spec =
     (tie.spec
     Inv-loop
     μ-loop
+    sub-k
+    shl-p
     loop-holds
     mul-read-u64
     add-read-u64
     read-u64-requires
     shr-lo
-    mul-read-u8
-    add-read-u8
-    add-read-u8-2
-    read-u8-requires
-    cast-hi
-    sub-hi
+    rem-lo
+    mul-read-u64-2
+    add-read-u64-2
+    add-read-u64-3
+    read-u64-requires-2
     shl-hi
     add-x
     mul-write-u64
