@@ -70,7 +70,7 @@ fails f max last (suc n) h m g =
     go false t r = refl
 
 module _ (w : ℕ) (s : List ℕ) (from n last : ℕ) (h : NeverFalls (λ k. entry w s from k) n) where
-  over-is : last ≤ largest w → largest w < moved w s from last n → extended w s from n last ≡ overAt w s from n last
+  pub over-is : last ≤ largest w → largest w < moved w s from last n → extended w s from n last ≡ overAt w s from n last
   unfolding extended
   over-is g l =
       rw (
@@ -79,7 +79,7 @@ module _ (w : ℕ) (s : List ℕ) (from n last : ℕ) (h : NeverFalls (λ k. ent
         lt-ltb (largest w) (moved w s from last n) l,
       )
 
-  fits-is : last ≤ largest w → moved w s from last n ≤ largest w → extended w s from n last ≡ Fits (moved w s from last n) (entry w s from 0)
+  pub fits-is : last ≤ largest w → moved w s from last n ≤ largest w → extended w s from n last ≡ Fits (moved w s from last n) (entry w s from 0)
   unfolding extended
   fits-is g l =
       rw (
