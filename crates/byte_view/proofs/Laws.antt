@@ -1,17 +1,17 @@
 -- Laws of views. Assumes nothing.
-use mathlib.Core.Path.{_≡_, refl, sym, ap, _∙_}
-use Prim.Native.Nat.{ℕ, zero, suc, _+_, _*_, _%_, _^_, _≤_, _<_}
+use mathlib.Core.Path.{_≡_, sym, ap, _∙_}
+use Prim.Native.Nat.{ℕ, _+_, _*_, _%_, _^_, _≤_, _<_}
+use native.Mathlib.Nat.{mod-eq-of-lt}
 use native.Mathlib.Omega.{arith}
 use mathlib.Core.Bool.{Bool, true, false}
-use mathlib.Core.List.{List, _++_, append-assoc}
+use mathlib.Core.List.{List, [], _++_, append-assoc, append-nil}
 use lib.ListN.{length, take, drop, getD, length-append, length-drop}
-use lib.Seq.{take-add, drop-drop, getD-drop, length-take-le}
+use lib.Seq.{take-add, drop-drop, getD-drop, getD-take, drop-at}
 use lib.Dec.{ltb}
 use borrow.Author.Tests.{le-ltb}
 use Rattle.number.specs.Number.{number, encode, splice}
-use Rattle.number.proofs.Laws.{length-encode, encode-number, splice-splice}
-use Rattle.utils.specs.Pieces.{pieces}
-use Rattle.utils.proofs.Pieces.{pieces-none, pieces-step}
+use Rattle.number.proofs.Laws.{length-encode, encode-number, number-encode, number-lt, splice-splice}
+use Rattle.utils.proofs.Pieces.{pieces-none, pieces-step, piece-splice, number-same}
 use Rattle.byte_view.specs.View.{viewAt, viewBytes, reindexedBy, pickView, pickBytes, reviewedOne, reviewed}
 use Rattle.byte_view.specs.declared.ByteView.{ByteView}
 
@@ -95,3 +95,82 @@ reviewed-turn room₀ room new s at from base i v u h g small er ev eu en =
 pub inline-same : (s : List ℕ) (base : ℕ) → number 4 s ≤ 12 → reviewedOne s base ≡ take 16 s
 unfolding reviewedOne
 inline-same s base h = rw (le-ltb 12 (number 4 s) h)
+
+-- ---- reading what was written
+
+-- four of a view's 16 bytes
+part : (r : List ℕ) (q d : ℕ) → d + 4 ≤ 16 → number 4 (drop (q + d) r) ≡ number 4 (drop d (take 16 (drop q r)))
+part r q d h = number-same 4 _ _ same
+  where
+    same : (i : ℕ) → i < 4 → getD (drop (q + d) r) i 0 ≡ getD (drop d (take 16 (drop q r))) i 0
+    same i l =
+        let a : q + d + i ≡ q + (d + i) = omega arith in
+        let m : d + i < 16 = omega arith in
+        rw (getD-drop (q + d) r i 0, a, getD-drop d (take 16 (drop q r)) i 0, getD-take 16 (drop q r) (d + i) 0 m, getD-drop q r (d + i) 0)
+
+-- a view's numbers are four bytes each
+pub record Small (v : ByteView) : Type 0 where
+  pub of-length : v .length < 256 ^ 4
+  pub of-prefix : v .prefix < 256 ^ 4
+  pub of-index : v .«buffer_index» < 256 ^ 4
+  pub of-offset : v .offset < 256 ^ 4
+
+module _ (v : ByteView) (b : Small v) where
+  first : number 4 (drop 0 (viewBytes v)) ≡ v .length
+  unfolding viewBytes
+  first = simp append-assoc (rw (number-encode, mod-eq-of-lt (b .of-length)))
+
+  second : number 4 (drop 4 (viewBytes v)) ≡ v .prefix
+  unfolding viewBytes
+  second = simp append-assoc (rw (drop-at (encode 4 (v .length)) _ 4 (length-encode 4 _), number-encode, mod-eq-of-lt (b .of-prefix)))
+
+  third : number 4 (drop 8 (viewBytes v)) ≡ v .«buffer_index»
+  unfolding viewBytes
+  third =
+      rw (
+        append-assoc (encode 4 (v .length) ++ encode 4 (v .prefix)) (encode 4 (v .«buffer_index»)) (encode 4 (v .offset)),
+        drop-at (encode 4 (v .length) ++ encode 4 (v .prefix)) _ 8 (simp (length-append, length-encode)),
+        number-encode,
+        mod-eq-of-lt (b .of-index),
+      )
+
+  fourth : number 4 (drop 12 (viewBytes v ++ [])) ≡ v .offset
+  unfolding viewBytes
+  fourth =
+      rw (
+        append-assoc (encode 4 (v .length) ++ encode 4 (v .prefix) ++ encode 4 (v .«buffer_index»)) (encode 4 (v .offset)) [],
+        drop-at (encode 4 (v .length) ++ encode 4 (v .prefix) ++ encode 4 (v .«buffer_index»)) _ 12 (simp (length-append, length-encode)),
+        number-encode,
+        mod-eq-of-lt (b .of-offset),
+      )
+
+  -- a view whose bytes stand in r is read there
+  pub view-back : (r : List ℕ) (q : ℕ) → take 16 (drop q r) ≡ viewBytes v → viewAt r q ≡ v
+  view-back r q e =
+      let w : number 4 (drop 12 (viewBytes v)) ≡ v .offset = rw append-nil at fourth in
+      let z : q + 0 ≡ q = omega arith in
+      let a : number 4 (drop q r) ≡ v .length = (rw z at (part r q 0 (omega arith))) ∙ rw e first in
+      let c : number 4 (drop (q + 4) r) ≡ v .prefix = part r q 4 (omega arith) ∙ rw e second in
+      let d : number 4 (drop (q + 8) r) ≡ v .«buffer_index» = part r q 8 (omega arith) ∙ rw e third in
+      let f : number 4 (drop (q + 12) r) ≡ v .offset = part r q 12 (omega arith) ∙ rw e w in
+      rw (a, c, d, f)
+
+small-view : (s : List ℕ) (p base : ℕ) → ((i : ℕ) → getD s i 0 < 256) → Small (reindexedBy base (viewAt s p))
+small-view s p base small = go (ltb 12 (number 4 (drop p s)))
+  where
+    low : (q : ℕ) → number 4 (drop q s) < 256 ^ 4
+    low q = number-lt 4 (drop q s) (λ i. rw getD-drop (small (q + i)))
+
+    go : (b : Bool)
+        → Small (pickView b (record { length = number 4 (drop p s); prefix = number 4 (drop (p + 4) s); «buffer_index» = (number 4 (drop (p + 8) s) + base) % 256 ^ 4; offset = number 4 (drop (p + 12) s) }) (viewAt s p))
+    go true = record { of-length = low p; of-prefix = low (p + 4); of-index = omega arith; of-offset = low (p + 12) }
+    go false = record { of-length = low p; of-prefix = low (p + 4); of-index = low (p + 8); of-offset = low (p + 12) }
+
+-- each view that was written is read as the source's, reindexed
+pub reviewed-view : (s room : List ℕ) (at from base n k : ℕ) → at + 16 * n ≤ length room → from + 16 * n ≤ length s → ((i : ℕ) → getD s i 0 < 256) → k < n
+    → viewAt (splice at (reviewed s from base n) room) (at + 16 * k) ≡ reindexedBy base (viewAt s (from + 16 * k))
+unfolding reviewed
+reviewed-view s room at from base n k h g small l =
+    view-back (reindexedBy base (viewAt s (from + 16 * k))) (small-view s (from + 16 * k) base small) (splice at (reviewed s from base n) room) (at + 16 * k)
+    (piece-splice 16 (λ j. reviewedOne (drop (from + 16 * j) s) base) n at room (λ j i. length-review s (from + 16 * j) (omega arith) small base) h k l
+    ∙ sym (review-is s (from + 16 * k) (omega arith) small base))

@@ -1,17 +1,14 @@
 -- Laws of offsets, over every width. Assumes nothing.
 use mathlib.Core.Path.{_≡_, refl, sym, ap, _∙_}
-use mathlib.Core.Logic.{⊎-elim}
 use mathlib.Core.Bool.{Bool, true, false}
-use Prim.Native.Nat.{ℕ, zero, suc, _+_, _*_, _-_, _/_, _%_, _^_, _≤_, _<_, min}
+use Prim.Native.Nat.{ℕ, zero, suc, _+_, _*_, _-_, _%_, _^_, _≤_, _<_, min}
 use native.Mathlib.Nat.{add-zero, mul-zero, add-mod-right, mod-eq-of-lt, mod-eq-sub-mod}
-use native.Mathlib.Numerals.{add-one}
 use native.Mathlib.Omega.{arith}
-use mathlib.Core.List.{List, [], _++_}
+use mathlib.Core.List.{List}
 use lib.ListN.{length, drop}
 use lib.Dec.{ltb}
 use borrow.Author.Tests.{lt-ltb, le-ltb, ltb-true, ltb-false}
 use Rattle.number.specs.Number.{number, encode, entry, splice}
-use Rattle.utils.specs.Pieces.{pieces, numbers}
 use Rattle.utils.specs.Offsets.{largest, moved, firstAbove, movedOffsets, repeated, countedUp}
 use Rattle.utils.specs.Extension.{overAt, extended}
 use Rattle.utils.specs.declared.Extended.the-variants.{Fits, Over, Falls}

@@ -1,21 +1,20 @@
 -- `extended` and `movedOffsets` say what the Rust's `try_extend_offsets` does, over every width. Assumes nothing.
-use mathlib.Core.Path.{_≡_, refl, sym, ap, _∙_}
+use mathlib.Core.Path.{_≡_, refl, ap, _∙_}
 use mathlib.Core.Bool.{Bool, true, false}
-use Prim.Native.Nat.{ℕ, zero, suc, _+_, _*_, _-_, _/_, _%_, _^_, _≤_, _<_}
+use Prim.Native.Nat.{ℕ, zero, suc, _+_, _*_, _-_, _%_, _^_, _≤_, _<_}
 use native.Mathlib.Nat.{add-mod-right, mod-eq-of-lt, one-le-pow}
 use native.Mathlib.Numerals.{add-one}
 use native.Mathlib.Omega.{arith}
-use mathlib.Core.List.{List, [], _∷_}
+use mathlib.Core.List.{List}
 use lib.ListN.{length}
 use lib.Dec.{ltb, leb}
-use borrow.Author.Tests.{lt-ltb, le-ltb, le-leb, lt-leb, ltb-true, ltb-false, leb-true, leb-false}
-use Rattle.number.specs.Number.{number, encode, entry, splice}
+use borrow.Author.Tests.{lt-ltb, le-ltb, le-leb, ltb-true, ltb-false, leb-true}
+use Rattle.number.specs.Number.{entry, splice}
 use Rattle.utils.specs.Pieces.{numbers}
 use Rattle.utils.specs.Offsets.{largest, moved, movedOffsets}
-use Rattle.utils.specs.Extension.{pick, overAt, extended}
-use Rattle.utils.specs.TryExtendOffsets.{Pushed, ok, err, push, checked, windows, tryExtendOffsets, listed, NeverFalls, answerOf}
-use Rattle.utils.specs.declared.Extended.{Extended}
-use Rattle.utils.specs.declared.Extended.the-variants.{Fits, Over, Falls}
+use Rattle.utils.specs.Extension.{overAt, extended}
+use Rattle.utils.specs.TryExtendOffsets.{ok, err, push, checked, windows, tryExtendOffsets, listed, NeverFalls, answerOf}
+use Rattle.utils.specs.declared.Extended.the-variants.{Fits, Falls}
 use Rattle.utils.proofs.Pieces.{numbers-same, entry-splice}
 
 -- a later offset is not below an earlier one
@@ -71,7 +70,7 @@ fails f max last (suc n) h m g =
     go false t r = refl
 
 module _ (w : ℕ) (s : List ℕ) (from n last : ℕ) (h : NeverFalls (λ k. entry w s from k) n) where
-  over-is : last ≤ largest w → largest w < moved w s from last n → extended w s from n last ≡ overAt w s from n last
+  pub over-is : last ≤ largest w → largest w < moved w s from last n → extended w s from n last ≡ overAt w s from n last
   unfolding extended
   over-is g l =
       rw (
@@ -80,7 +79,7 @@ module _ (w : ℕ) (s : List ℕ) (from n last : ℕ) (h : NeverFalls (λ k. ent
         lt-ltb (largest w) (moved w s from last n) l,
       )
 
-  fits-is : last ≤ largest w → moved w s from last n ≤ largest w → extended w s from n last ≡ Fits (moved w s from last n) (entry w s from 0)
+  pub fits-is : last ≤ largest w → moved w s from last n ≤ largest w → extended w s from n last ≡ Fits (moved w s from last n) (entry w s from 0)
   unfolding extended
   fits-is g l =
       rw (

@@ -3,7 +3,6 @@ use Prim.Native.Nat.{ℕ, zero, suc, _+_, _-_, _≤_, _<_}
 use mathlib.Core.List.{List, [], _∷_}
 use mathlib.Core.Bool.{Bool, true, false}
 use lib.Dec.{leb}
-use Rattle.number.specs.Number.{entry}
 use Rattle.utils.specs.declared.Extended.{Extended}
 use Rattle.utils.specs.declared.Extended.the-variants.{Fits, Over, Falls}
 
@@ -22,7 +21,7 @@ abbrev pub checked : Bool → Pushed → Pushed
 checked true p = p
 checked false p = err
 
--- the windows of two that begin with a: each adds its length to the last offset
+-- the windows of two that begin with a: each adds its length, which is not negative where offsets never fall, to the last offset
 unfoldable pub windows : ℕ → ℕ → ℕ → List ℕ → Pushed
 windows max last a [] = ok []
 windows max last a (b ∷ s) = checked (leb (last + (b - a)) max) (push (last + (b - a)) (windows max (last + (b - a)) b s))

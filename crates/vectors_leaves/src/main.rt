@@ -97,26 +97,9 @@ fn put_extended(e: utils::Extended) {
 
 // Four rows of two bytes from row 3 on: a batch of offset 3.
 fn sliced() {
-    let body = [
-        100u8,
-        0,
-        101,
-        0,
-        102,
-        0,
-        103,
-        1,
-        104,
-        1,
-        105,
-        1,
-        106,
-        1,
-        107,
-        1,
-    ];
+    let body = b"\x64\x00\x65\x00\x66\x00\x67\x01\x68\x01\x69\x01\x6a\x01\x6b\x01";
     let mut room = [0u8; 8];
-    primitive::extend(&mut room, 0, &body, 0, 3, 4, 2);
+    primitive::extend(&mut room, 0, body, 0, 3, 4, 2);
     io::write_all(1, b"sliced: ");
     put_bytes(&room);
 }
@@ -139,36 +122,12 @@ fn byte_strings() {
 
 // The same at eight bytes.
 fn large_byte_strings() {
-    let offsets = [
-        3u8,
-        0,
-        0,
-        0,
-        0,
-        0,
-        0,
-        0,
-        3,
-        0,
-        0,
-        0,
-        0,
-        0,
-        0,
-        0,
-        7,
-        0,
-        0,
-        0,
-        0,
-        0,
-        0,
-        0,
-    ];
+    let offsets =
+        b"\x03\x00\x00\x00\x00\x00\x00\x00\x03\x00\x00\x00\x00\x00\x00\x00\x07\x00\x00\x00\x00\x00\x00\x00";
     let mut room = [0u8; 32];
     io::write_all(1, b"K5 large: ");
-    put_extended(utils::try_offsets_i64(&offsets, 0, 2, 10));
-    utils::extend_offsets_i64(&mut room, 0, &offsets, 0, 2, 10);
+    put_extended(utils::try_offsets_i64(offsets, 0, 2, 10));
+    utils::extend_offsets_i64(&mut room, 0, offsets, 0, 2, 10);
     utils::repeat_offset_i64(&mut room, 16, 2, 14);
     io::write_all(1, b"K5, K6 large: ");
     put_bytes(&room);
@@ -189,31 +148,14 @@ fn largest() {
 }
 
 fn largest_large() {
-    let offsets = [4u8, 0, 0, 0, 0, 0, 0, 0, 9, 0, 0, 0, 0, 0, 0, 0];
-    let above = [
-        0u8,
-        0,
-        0,
-        0,
-        0,
-        0,
-        0,
-        0,
-        255,
-        255,
-        255,
-        255,
-        255,
-        255,
-        255,
-        255,
-    ];
+    let offsets = b"\x04\x00\x00\x00\x00\x00\x00\x00\x09\x00\x00\x00\x00\x00\x00\x00";
+    let above = b"\x00\x00\x00\x00\x00\x00\x00\x00\xff\xff\xff\xff\xff\xff\xff\xff";
     io::write_all(1, b"largest, large: ");
-    put_extended(utils::try_offsets_i64(&offsets, 0, 1, 9223372036854775802));
+    put_extended(utils::try_offsets_i64(offsets, 0, 1, 9223372036854775802));
     io::write_all(1, b"one past, large: ");
-    put_extended(utils::try_offsets_i64(&offsets, 0, 1, 9223372036854775803));
+    put_extended(utils::try_offsets_i64(offsets, 0, 1, 9223372036854775803));
     io::write_all(1, b"needed is cut: ");
-    put_extended(utils::try_offsets_i64(&above, 0, 1, 1));
+    put_extended(utils::try_offsets_i64(above, 0, 1, 1));
 }
 
 // K7 and K10.
@@ -246,45 +188,12 @@ fn wide_keys() {
 
 // K15: lengths 12 and 13, five data buffers in earlier sources.
 fn views() {
-    let body = [
-        12u8,
-        0,
-        0,
-        0,
-        97,
-        98,
-        99,
-        100,
-        101,
-        102,
-        103,
-        104,
-        105,
-        106,
-        107,
-        108,
-        13,
-        0,
-        0,
-        0,
-        97,
-        98,
-        99,
-        100,
-        2,
-        0,
-        0,
-        0,
-        7,
-        0,
-        0,
-        0,
-    ];
+    let body = b"\x0c\x00\x00\x00abcdefghijkl\x0d\x00\x00\x00abcd\x02\x00\x00\x00\x07\x00\x00\x00";
     let mut room = [0u8; 32];
-    byte_view::extend_views(&mut room, 0, &body, 0, 2, 5);
+    byte_view::extend_views(&mut room, 0, body, 0, 2, 5);
     io::write_all(1, b"K15: ");
     put_bytes(&room);
-    let v = byte_view::from_bytes(&body, 16);
+    let v = byte_view::from_bytes(body, 16);
     let u = byte_view::reindexed(v, 4294967295);
     io::write_all(1, b"index wraps: ");
     put(wide32(u.length));
@@ -296,32 +205,15 @@ fn views() {
 }
 
 fn signed() {
-    let s = [
-        127u8,
-        128,
-        255,
-        255,
-        0,
-        0,
-        0,
-        128,
-        255,
-        255,
-        255,
-        255,
-        255,
-        255,
-        255,
-        127,
-    ];
+    let s = b"\x7f\x80\xff\xff\x00\x00\x00\x80\xff\xff\xff\xff\xff\xff\xff\x7f";
     io::write_all(1, b"signed: ");
-    put_i8(number::read_i8(&s, 0));
-    put_i8(number::read_i8(&s, 1));
-    put_i16(number::read_i16(&s, 0));
-    put_i16(number::read_i16(&s, 2));
-    put_i32(number::read_i32(&s, 4));
-    put_i64(number::read_i64(&s, 0));
-    put_i64(number::read_i64(&s, 8));
+    put_i8(number::read_i8(s, 0));
+    put_i8(number::read_i8(s, 1));
+    put_i16(number::read_i16(s, 0));
+    put_i16(number::read_i16(s, 2));
+    put_i32(number::read_i32(s, 4));
+    put_i64(number::read_i64(s, 0));
+    put_i64(number::read_i64(s, 8));
     end_line();
 }
 
