@@ -49,8 +49,9 @@ fn span(a: PhysicalRun, b: PhysicalRun, n: usize) -> Runs
 fn clip_end(x: LogicalRow, start: LogicalRow, end: LogicalRow) -> u64
     ensures { λ r. ⌜ r ≡ clip (x .0) (start .0) (end .0) ⌝ }
 {
+    let first = start.0;
     let stop = if x.0 < end.0 { x.0 } else { end.0 };
-    if stop < start.0 { 0 } else { stop - start.0 }
+    if stop < first { 0 } else { stop - first }
 }
 
 // The end of a run.

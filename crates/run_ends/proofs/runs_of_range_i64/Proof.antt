@@ -18,7 +18,9 @@ enum-told : tie.Need-enum-told
 enum-told c = search needs
 
 returns-2 : tie.Need-returns-2
-returns-2 c = ranged-past 8 _ _ _ _ _ (omega arith) (c .before .before .find-run-i64 .ensures .0) (c .enum-told .given .1)
+returns-2 c =
+    let z = c .before .before .before .before .before .before .args in
+    ranged-past 8 _ _ _ (z .start .0) (z .end .0) (omega arith) (c .before .before .find-run-i64 .ensures .0) (c .enum-told .given .1)
 
 sub-t12 : tie.Need-sub-t12
 sub-t12 c = omega arith
@@ -36,7 +38,8 @@ returns-3 : tie.Need-returns-3
 returns-3 c =
     let d = c .before .before in
     let p = d .before .before in
-    ranged-end-past 8 _ _ _ _ _ (omega arith) (p .before .before .find-run-i64 .ensures .0) (p .a .given .1) (d .find-run-i642 .ensures .0) (c .enum-told2 .given .1)
+    let z = p .before .before .before .before .before .before .args in
+    ranged-end-past 8 _ _ _ (z .start .0) (z .end .0) (omega arith) (p .before .before .find-run-i64 .ensures .0) (p .a .given .1) (d .find-run-i642 .ensures .0) (c .enum-told2 .given .1)
 
 span-requires : tie.Need-span-requires
 span-requires c κs = looked-below 8 _ _ _ _ (c .before .before .before .find-run-i642 .ensures .0) (c .before .b .given .1)
@@ -45,7 +48,8 @@ returns-4 : tie.Need-returns-4
 returns-4 c =
     let d = c .before .before .before .before in
     let p = d .before .before in
-    ranged-span 8 _ _ _ _ _ (omega arith) (p .before .before .find-run-i64 .ensures .0) (p .a .given .1) (d .find-run-i642 .ensures .0) (c .before .before .b .given .1) (c .span .ensures)
+    let z = p .before .before .before .before .before .before .args in
+    ranged-span 8 _ _ _ (z .start .0) (z .end .0) (omega arith) (p .before .before .find-run-i64 .ensures .0) (p .a .given .1) (d .find-run-i642 .ensures .0) (c .before .before .b .given .1) (c .span .ensures)
 
 pub runs-of-range-i64-spec : {M : Type 1} → statement M
 runs-of-range-i64-spec =
