@@ -1,4 +1,2 @@
 -- The laws that the proofs of `formats` cite.
 pub mod Laws
-pub mod Read
-pub mod Same

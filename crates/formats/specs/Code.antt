@@ -67,32 +67,32 @@ abbrev pub between : ℕ → ℕ → ℕ → Bool
 between low high code = leb low code && leb code high
 
 -- c C s S i I l L
-abbrev pub integer : ℕ → Bool
-integer code = between 1 8 code
+abbrev pub isInteger : ℕ → Bool
+isInteger code = between 1 8 code
 
 -- c C s S i I l L f g
-abbrev pub fixed : ℕ → Bool
-fixed code = between 1 10 code
+abbrev pub isFixed : ℕ → Bool
+isFixed code = between 1 10 code
 
 -- z u Z U
-abbrev pub string : ℕ → Bool
-string code = between 11 14 code
+abbrev pub isString : ℕ → Bool
+isString code = between 11 14 code
 
 -- vz vu
-abbrev pub view : ℕ → Bool
-view code = between 15 16 code
+abbrev pub isView : ℕ → Bool
+isView code = between 15 16 code
 
 -- +vl +vL
-abbrev pub listView : ℕ → Bool
-listView code = between 17 18 code
+abbrev pub isListView : ℕ → Bool
+isListView code = between 17 18 code
 
 -- +us: +ud:
-abbrev pub union : ℕ → Bool
-union code = between 19 20 code
+abbrev pub isUnion : ℕ → Bool
+isUnion code = between 19 20 code
 
 -- +r
-abbrev pub runEnd : ℕ → Bool
-runEnd code = between 21 21 code
+abbrev pub isRunEnd : ℕ → Bool
+isRunEnd code = between 21 21 code
 
 -- bytes of one number (c C s S i I l L f g), or of one offset (z u Z U, +vl +vL), by code from 0 on
 abbrev pub widths : List ℕ

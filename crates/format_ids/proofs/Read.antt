@@ -1,20 +1,21 @@
 -- Reading a list of ids piece by piece. Assumes nothing.
 use mathlib.Core.Path.{_≡_, refl, ap, sym, _∙_}
-use mathlib.Core.Bool.{Bool, true, false, not, cond, _&&_, _||_}
+use mathlib.Core.Bool.{Bool, true, false, cond}
 use mathlib.Core.List.{List, [], _∷_, _++_, map, append-assoc}
 use mathlib.Core.Option.{Option, none, some}
-use Prim.Native.Nat.{ℕ, zero, suc, _+_, _*_, _-_, _≤_, _<_}
+use Prim.Native.Nat.{ℕ, suc, _+_, _-_, _≤_, _<_}
 use native.Mathlib.Omega.{arith}
 use native.Mathlib.Numerals.{add-one}
-use lib.ListN.{length, take, drop, getD, set, length-take, length-drop, length-append, length-set, length-map, take-append-drop}
+use lib.ListN.{length, take, drop, set, length-take, length-drop, length-append, length-set, length-map, take-append-drop}
 use lib.Seq.{drop-drop, drop-set-lt, take-suc-set, take-all, take-add, drop-at, length-take-le}
 use lib.Dec.{leb, ltb, eqb}
 use borrow.Author.Tests.{ltb-true, ltb-false}
-use Rattle.formats.specs.Code.{codeOf, codeAt, union}
-use Rattle.formats.specs.Ids.{before, pieces, firstComma, idOf, member, distinct, small, allowed, idList, idsOf, idsAt, answerOf, written}
-use Rattle.formats.specs.declared.Ids.{Ids}
-use Rattle.formats.specs.declared.Ids.the-variants.{Count, Bad}
-use Rattle.formats.proofs.Laws.{either, comma-le, pieces-comma, pieces-last, small-not, small-more, distinct-not, distinct-more, allowed-small, allowed-distinct, allowed-long, allowed-all, union-inside}
+use Rattle.formats.specs.Code.{codeOf, codeAt, isUnion}
+use Rattle.format_ids.specs.Ids.{before, pieces, firstComma, idOf, member, distinct, small, allowed, idList, idsAt, answerOf, written}
+use Rattle.format_ids.specs.declared.Ids.{Ids}
+use Rattle.format_ids.specs.declared.Ids.the-variants.{Count, Bad}
+use Rattle.formats.proofs.Laws.{either, union-inside}
+use Rattle.format_ids.proofs.Laws.{comma-le, pieces-comma, pieces-last, small-not, small-more, distinct-not, distinct-more, allowed-small, allowed-distinct, allowed-long, allowed-all}
 
 -- k ids are read, up to the byte p of the text t; they stand in the front of trial, whose rest is that of ids
 pub record Read (t ids trial : List ℕ) (p k : ℕ) : Type 0 where
@@ -183,14 +184,14 @@ drop-of-take m n l le h =
     ∙ ap (drop m) (take-add m (n - m) l)
     ∙ drop-at (take m l) (take (n - m) (drop m l)) m (length-take-le m l (omega arith))
 
-other-by : (x : Bool) (y : ℕ) (o : Option (List ℕ)) → union (cond x y 0) ≡ false → cond x (cond (union y) o none) none ≡ none
+other-by : (x : Bool) (y : ℕ) (o : Option (List ℕ)) → isUnion (cond x y 0) ≡ false → cond x (cond (isUnion y) o none) none ≡ none
 other-by true y o h = rw h
 other-by false y o h = refl
 
-pub ids-other : (s : List ℕ) (at len : ℕ) → union (codeAt s at len) ≡ false → idsAt s at len ≡ none
+pub ids-other : (s : List ℕ) (at len : ℕ) → isUnion (codeAt s at len) ≡ false → idsAt s at len ≡ none
 ids-other s at len h = other-by (leb (at + len) (length s)) (codeOf (take len (drop at s))) (idList (drop 4 (take len (drop at s)))) h
 
-pub ids-union : (s : List ℕ) (at len : ℕ) → union (codeAt s at len) ≡ true → idsAt s at len ≡ idList (take (at + len - (at + 4)) (drop (at + 4) s))
+pub ids-union : (s : List ℕ) (at len : ℕ) → isUnion (codeAt s at len) ≡ true → idsAt s at len ≡ idList (take (at + len - (at + 4)) (drop (at + 4) s))
 ids-union s at len h =
     let e = either (leb (at + len) (length s)) (codeOf (take len (drop at s))) h in
     let i = union-inside s at len h in

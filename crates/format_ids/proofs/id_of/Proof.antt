@@ -1,11 +1,10 @@
--- `formats::id_of` meets its contract. Assumes nothing.
-use mathlib.Core.Path.{ap, sym, _∙_}
+-- `format_ids::id_of` meets its contract. Assumes nothing.
+use mathlib.Core.Path.{sym, _∙_}
 use native.Mathlib.Omega.{arith}
-use Rattle.formats.specs.Ids.{idOf}
-use Rattle.formats.proofs.Laws.{piece-1, piece-2, piece-3, no-piece}
+use Rattle.format_ids.proofs.Laws.{piece-1, piece-2, piece-3, no-piece}
 use borrow.Author.Needs.{needs}
-use Rattle.formats.proofs.id_of.Statement.{statement}
-use Rattle.formats.proofs.id_of.Tie as tie
+use Rattle.format_ids.proofs.id_of.Statement.{statement}
+use Rattle.format_ids.proofs.id_of.Tie as tie
 
 sub-n : tie.Need-sub-n
 sub-n c = search needs

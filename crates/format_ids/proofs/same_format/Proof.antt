@@ -1,12 +1,12 @@
--- `formats::same_format` meets its contract. Assumes nothing.
+-- `format_ids::same_format` meets its contract. Assumes nothing.
 use mathlib.Core.Path.{sym, _∙_}
 use borrow.Author.Tests.{not-true, not-false}
 use Rattle.formats.specs.Code.{codeAt}
-use Rattle.formats.specs.Ids.{idsAt, sameIds}
-use Rattle.formats.proofs.Same.{no-format, other-format, no-ids, by-ids}
+use Rattle.format_ids.specs.Ids.{idsAt, sameIds}
+use Rattle.format_ids.proofs.Same.{no-format, other-format, no-ids, by-ids}
 use borrow.Author.Needs.{needs}
-use Rattle.formats.proofs.same_format.Statement.{statement}
-use Rattle.formats.proofs.same_format.Tie as tie
+use Rattle.format_ids.proofs.same_format.Statement.{statement}
+use Rattle.format_ids.proofs.same_format.Tie as tie
 
 format-code-requires : tie.Need-format-code-requires
 format-code-requires c κs = search needs

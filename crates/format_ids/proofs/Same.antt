@@ -1,19 +1,19 @@
 -- Comparing two formats. Assumes nothing.
 use mathlib.Core.Path.{_≡_, refl, ap, sym, _∙_}
 use mathlib.Core.Bool.{Bool, true, false, not, cond, _&&_, _||_, and-false}
-use mathlib.Core.List.{List, [], _∷_, _++_, map}
+use mathlib.Core.List.{List, [], _∷_, map}
 use mathlib.Core.Option.{Option, none, some}
-use Prim.Native.Nat.{ℕ, zero, suc, _+_, _-_, _≤_, _<_}
+use Prim.Native.Nat.{ℕ, suc, _+_, _≤_}
 use native.Mathlib.Omega.{arith}
 use lib.ListN.{length, take, drop, length-append, length-drop}
 use lib.Seq.{take-at}
 use lib.Dec.{leb, eqb}
 use borrow.Author.Tests.{leb-true, eq-eqb, ne-eqb}
-use Rattle.formats.specs.Code.{same, codeOf, codeAt, union}
-use Rattle.formats.specs.Ids.{pieces, idOf, distinct, small, allowed, idList, idsOf, idsAt, answerOf, written, sameIds, sameFormat}
-use Rattle.formats.specs.declared.Ids.{Ids}
-use Rattle.formats.specs.declared.Ids.the-variants.{Count, Bad}
-use Rattle.formats.proofs.Laws.{both}
+use Rattle.formats.specs.Code.{same, codeOf, isUnion}
+use Rattle.format_ids.specs.Ids.{pieces, idOf, distinct, small, allowed, idList, idsAt, answerOf, written, sameIds}
+use Rattle.format_ids.specs.declared.Ids.{Ids}
+use Rattle.format_ids.specs.declared.Ids.the-variants.{Count, Bad}
+use Rattle.format_ids.proofs.Laws.{both}
 
 -- ---- a union has at most sixteen ids
 
@@ -38,7 +38,7 @@ short-list [] = omega arith
 short-list (b ∷ s) = short-allowed (map idOf (pieces (b ∷ s)))
 
 pub short : (s : List ℕ) (at len : ℕ) → Short (idsAt s at len)
-short s at len = short-cond (leb (at + len) (length s)) _ (short-cond (union (codeOf (take len (drop at s)))) _ (short-list (drop 4 (take len (drop at s)))))
+short s at len = short-cond (leb (at + len) (length s)) _ (short-cond (isUnion (codeOf (take len (drop at s)))) _ (short-list (drop 4 (take len (drop at s)))))
 
 pub written-length : (o : Option (List ℕ)) (s : List ℕ) → Short o → length s ≡ 16 → length (written o s) ≡ 16
 written-length none s h e = e
@@ -105,7 +105,7 @@ count-short o r k e h s = short-count o k (sym e ∙ h) s
 -- ---- two formats, by their codes x and y; w is whether their ids are the same
 
 abbrev judged : ℕ → ℕ → Bool → Bool
-judged x y w = not (eqb x 0) && eqb x y && (not (union x) || w)
+judged x y w = not (eqb x 0) && eqb x y && (not (isUnion x) || w)
 
 pub no-format : (x y : ℕ) (w : Bool) (a : ℕ) → a ≡ x → a ≡ 0 → judged x y w ≡ false
 no-format x y w a e h = rw (eq-eqb x 0 (sym e ∙ h))
@@ -113,7 +113,7 @@ no-format x y w a e h = rw (eq-eqb x 0 (sym e ∙ h))
 pub other-format : (x y : ℕ) (w : Bool) (a b : ℕ) → a ≡ x → b ≡ y → (a ≡ b → ⊥) → judged x y w ≡ false
 other-format x y w a b e e2 n = rw (ne-eqb x y (λ q. n (e ∙ q ∙ sym e2)), and-false)
 
-module _ (x y : ℕ) (w : Bool) (a b : ℕ) (e : a ≡ x) (e2 : b ≡ y) (n : a ≡ 0 → ⊥) (q : a ≡ b) (u : Bool) (eu : u ≡ union a) where
+module _ (x y : ℕ) (w : Bool) (a b : ℕ) (e : a ≡ x) (e2 : b ≡ y) (n : a ≡ 0 → ⊥) (q : a ≡ b) (u : Bool) (eu : u ≡ isUnion a) where
   x-not : eqb x 0 ≡ false
   x-not = ne-eqb x 0 (λ h. n (e ∙ h))
 
@@ -121,7 +121,7 @@ module _ (x y : ℕ) (w : Bool) (a b : ℕ) (e : a ≡ x) (e2 : b ≡ y) (n : a 
   x-same = eq-eqb x y (sym e ∙ q ∙ e2)
 
   pub no-ids : u ≡ false → judged x y w ≡ true
-  no-ids h = let ux : union x ≡ false = ap union (sym e) ∙ sym eu ∙ h in rw (x-not, x-same, ux)
+  no-ids h = let ux : isUnion x ≡ false = ap isUnion (sym e) ∙ sym eu ∙ h in rw (x-not, x-same, ux)
 
   pub by-ids : u ≡ true → judged x y w ≡ w
-  by-ids h = let ux : union x ≡ true = ap union (sym e) ∙ sym eu ∙ h in rw (x-not, x-same, ux)
+  by-ids h = let ux : isUnion x ≡ true = ap isUnion (sym e) ∙ sym eu ∙ h in rw (x-not, x-same, ux)

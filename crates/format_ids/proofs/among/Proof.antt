@@ -1,12 +1,12 @@
--- `formats::among` meets its contract. The invariant: x is none of the first i. Assumes nothing.
+-- `format_ids::among` meets its contract. The invariant: x is none of the first i. Assumes nothing.
 use Prim.Native.Nat.{ℕ, _-_, _≤_, _<_}
 use mathlib.Core.Path.{_≡_, sym}
 use native.Mathlib.Omega.{arith}
 use borrow.Author.Count.{below-more}
-use lib.ListN.{length, getD}
-use Rattle.formats.proofs.Laws.{member-at, member-none}
-use Rattle.formats.proofs.among.Statement.{statement}
-use Rattle.formats.proofs.among.Tie as tie
+use lib.ListN.{getD}
+use Rattle.format_ids.proofs.Laws.{member-at, member-none}
+use Rattle.format_ids.proofs.among.Statement.{statement}
+use Rattle.format_ids.proofs.among.Tie as tie
 
 abbrev Inv-loop : tie.InvT-loop
 Inv-loop ids k x i₀ i = (i ≤ k) × ((j : ℕ) → j < i → x ≡ getD ids j 0 → ⊥)

@@ -1,12 +1,12 @@
--- `formats::same_ids` meets its contract. Assumes nothing.
-use mathlib.Core.Path.{_≡_, ap, refl, sym, _∙_}
+-- `format_ids::same_ids` meets its contract. Assumes nothing.
+use mathlib.Core.Path.{ap, refl, sym, _∙_}
 use native.Mathlib.Omega.{arith}
 use lib.ListN.{length, replicate}
-use Rattle.formats.specs.Ids.{idsAt}
-use Rattle.formats.proofs.Same.{short, written-length, bad-first, bad-second, counts-differ, compared, count-short}
+use Rattle.format_ids.specs.Ids.{idsAt}
+use Rattle.format_ids.proofs.Same.{short, written-length, bad-first, bad-second, counts-differ, compared, count-short}
 use borrow.Author.Needs.{needs}
-use Rattle.formats.proofs.same_ids.Statement.{statement}
-use Rattle.formats.proofs.same_ids.Tie as tie
+use Rattle.format_ids.proofs.same_ids.Statement.{statement}
+use Rattle.format_ids.proofs.same_ids.Tie as tie
 
 union-ids-requires : tie.Need-union-ids-requires
 union-ids-requires c κs = search needs

@@ -1,11 +1,10 @@
--- `formats::number` meets its contract. Assumes nothing.
-use mathlib.Core.Path.{ap, sym, _∙_}
-use native.Mathlib.Omega.{arith}
+-- `format_ids::number` meets its contract. Assumes nothing.
+use mathlib.Core.Path.{sym, _∙_}
 use borrow.Author.Tests.{not-true, not-false}
-use Rattle.formats.proofs.Laws.{no-digit-1, no-digit-2, no-digit-3, is-digit, three}
+use Rattle.format_ids.proofs.Laws.{no-digit-1, no-digit-2, no-digit-3, is-digit, three}
 use borrow.Author.Needs.{needs}
-use Rattle.formats.proofs.number.Statement.{statement}
-use Rattle.formats.proofs.number.Tie as tie
+use Rattle.format_ids.proofs.number.Statement.{statement}
+use Rattle.format_ids.proofs.number.Tie as tie
 
 within-requires : tie.Need-within-requires
 within-requires c κs = search needs

@@ -1,13 +1,11 @@
--- `formats::read_ids` meets its contract. The invariant: k ids are read, up to the byte p. Assumes nothing.
+-- `format_ids::read_ids` meets its contract. The invariant: k ids are read, up to the byte p. Assumes nothing.
 use Prim.Native.Nat.{_-_}
 use mathlib.Core.Path.{_≡_, refl, sym, _∙_}
 use native.Mathlib.Omega.{arith}
 use borrow.Author.Needs.{needs}
-use lib.ListN.{length, drop}
-use Rattle.formats.specs.Ids.{idList}
-use Rattle.formats.proofs.Read.{Read, Next, read-none, no-text, read-over, read-big, read-twice, read-next, read-all, read-array, read-length, next-end, bad-kept, good}
-use Rattle.formats.proofs.read_ids.Statement.{statement}
-use Rattle.formats.proofs.read_ids.Tie as tie
+use Rattle.format_ids.proofs.Read.{Read, Next, read-none, no-text, read-over, read-big, read-twice, read-next, read-all, read-array, read-length, next-end, bad-kept, good}
+use Rattle.format_ids.proofs.read_ids.Statement.{statement}
+use Rattle.format_ids.proofs.read_ids.Tie as tie
 
 abbrev Inv-loop : tie.InvT-loop
 Inv-loop t ids₀ n trial₀ p₀ k₀ ids trial p k = Read t ids₀ trial p k × (ids ≡ ids₀)

@@ -1,12 +1,12 @@
--- `formats::comma` meets its contract. The invariant: the first comma from i on is the first from p on. Assumes nothing.
+-- `format_ids::comma` meets its contract. The invariant: the first comma from i on is the first from p on. Assumes nothing.
 use Prim.Native.Nat.{_+_, _-_, _≤_}
-use mathlib.Core.Path.{_≡_, sym, _∙_, refl}
+use mathlib.Core.Path.{_≡_}
 use native.Mathlib.Omega.{arith}
 use lib.ListN.{length, drop}
-use Rattle.formats.specs.Ids.{firstComma}
-use Rattle.formats.proofs.Laws.{comma-here, comma-past, comma-end}
-use Rattle.formats.proofs.comma.Statement.{statement}
-use Rattle.formats.proofs.comma.Tie as tie
+use Rattle.format_ids.specs.Ids.{firstComma}
+use Rattle.format_ids.proofs.Laws.{comma-here, comma-past, comma-end}
+use Rattle.format_ids.proofs.comma.Statement.{statement}
+use Rattle.format_ids.proofs.comma.Tie as tie
 
 abbrev Inv-loop : tie.InvT-loop
 Inv-loop t p i₀ i = (p ≤ i) × (i ≤ length t) × (i + firstComma (drop i t) ≡ p + firstComma (drop p t))

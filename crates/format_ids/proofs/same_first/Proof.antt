@@ -1,12 +1,12 @@
--- `formats::same_first` meets its contract. The invariant: the first i are the same. Assumes nothing.
+-- `format_ids::same_first` meets its contract. The invariant: the first i are the same. Assumes nothing.
 use Prim.Native.Nat.{ℕ, _-_, _≤_, _<_}
 use mathlib.Core.Path.{_≡_, sym}
 use native.Mathlib.Omega.{arith}
 use borrow.Author.Count.{below-more}
-use lib.ListN.{length, getD}
-use Rattle.formats.proofs.Laws.{same-not, same-all}
-use Rattle.formats.proofs.same_first.Statement.{statement}
-use Rattle.formats.proofs.same_first.Tie as tie
+use lib.ListN.{getD}
+use Rattle.format_ids.proofs.Laws.{same-not, same-all}
+use Rattle.format_ids.proofs.same_first.Statement.{statement}
+use Rattle.format_ids.proofs.same_first.Tie as tie
 
 abbrev Inv-loop : tie.InvT-loop
 Inv-loop a b k i₀ i = (i ≤ k) × ((j : ℕ) → j < i → getD a j 0 ≡ getD b j 0)

@@ -4,10 +4,10 @@ use mathlib.Core.List.{List, [], _∷_, _++_, map}
 use mathlib.Core.Option.{Option, none, some}
 use Prim.Native.Nat.{ℕ, suc, _+_, _*_, _-_}
 use lib.ListN.{length, take, drop}
-use lib.Dec.{leb, ltb, eqb}
-use Rattle.formats.specs.Code.{same, codeOf, codeAt, inside, between, union}
-use Rattle.formats.specs.declared.Ids.{Ids}
-use Rattle.formats.specs.declared.Ids.the-variants.{Count, Bad}
+use lib.Dec.{leb, eqb}
+use Rattle.formats.specs.Code.{same, codeOf, codeAt, inside, between, isUnion}
+use Rattle.format_ids.specs.declared.Ids.{Ids}
+use Rattle.format_ids.specs.declared.Ids.the-variants.{Count, Bad}
 
 -- ---- the texts between commas, and the number of each
 
@@ -68,7 +68,7 @@ idList (b ∷ s) = allowed (map idOf (pieces (b ∷ s)))
 
 -- the ids of a union's format stand after its first four bytes; other formats have none
 abbrev pub idsOf : List ℕ → Option (List ℕ)
-idsOf t = cond (union (codeOf t)) (idList (drop 4 t)) none
+idsOf t = cond (isUnion (codeOf t)) (idList (drop 4 t)) none
 
 -- the ids of the format that stands in s at `at`, len bytes long
 abbrev pub idsAt : List ℕ → ℕ → ℕ → Option (List ℕ)
@@ -99,4 +99,4 @@ abbrev pub sameFormat : List ℕ → ℕ → ℕ → ℕ → ℕ → Bool
 sameFormat s at len at2 len2 =
     not (eqb (codeAt s at len) 0)
     && eqb (codeAt s at len) (codeAt s at2 len2)
-    && (not (union (codeAt s at len)) || sameIds (idsAt s at len) (idsAt s at2 len2))
+    && (not (isUnion (codeAt s at len)) || sameIds (idsAt s at len) (idsAt s at2 len2))
