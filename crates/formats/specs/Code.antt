@@ -96,7 +96,30 @@ isRunEnd code = between 21 21 code
 
 -- bytes of one number (c C s S i I l L f g), or of one offset (z u Z U, +vl +vL), by code from 0 on
 abbrev pub widths : List ℕ
-widths = 0 ∷ 1 ∷ 1 ∷ 2 ∷ 2 ∷ 4 ∷ 4 ∷ 8 ∷ 8 ∷ 4 ∷ 8 ∷ 4 ∷ 4 ∷ 8 ∷ 8 ∷ 0 ∷ 0 ∷ 4 ∷ 8 ∷ 0 ∷ 0 ∷ 0 ∷ []
+widths =
+    0  -- no format
+    ∷ 1  -- c
+    ∷ 1  -- C
+    ∷ 2  -- s
+    ∷ 2  -- S
+    ∷ 4  -- i
+    ∷ 4  -- I
+    ∷ 8  -- l
+    ∷ 8  -- L
+    ∷ 4  -- f
+    ∷ 8  -- g
+    ∷ 4  -- z
+    ∷ 4  -- u
+    ∷ 8  -- Z
+    ∷ 8  -- U
+    ∷ 0  -- vz
+    ∷ 0  -- vu
+    ∷ 4  -- +vl
+    ∷ 8  -- +vL
+    ∷ 0  -- +us:
+    ∷ 0  -- +ud:
+    ∷ 0  -- +r
+    ∷ []
 
 -- the bytes of one number or offset of a code; 0 where it has neither
 abbrev pub widthOf : ℕ → ℕ

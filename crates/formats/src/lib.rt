@@ -7,28 +7,28 @@ ghost use Rattle.formats.specs.Code.{codeOf, codeAt, between, isInteger,
 
 // The bytes of one entry by code, from code 0 on.
 const WIDTHS: [u8; 22] = [
-    0,
-    1,
-    1,
-    2,
-    2,
-    4,
-    4,
-    8,
-    8,
-    4,
-    8,
-    4,
-    4,
-    8,
-    8,
-    0,
-    0,
-    4,
-    8,
-    0,
-    0,
-    0,
+    0, // none
+    1, // c
+    1, // C
+    2, // s
+    2, // S
+    4, // i
+    4, // I
+    8, // l
+    8, // L
+    4, // f
+    8, // g
+    4, // z
+    4, // u
+    8, // Z
+    8, // U
+    0, // vz
+    0, // vu
+    4, // +vl
+    8, // +vL
+    0, // +us:
+    0, // +ud:
+    0, // +r
 ];
 
 // ---- codes
