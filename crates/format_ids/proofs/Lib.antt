@@ -1,0 +1,4 @@
+-- The laws that the proofs of `format_ids` cite.
+pub mod Laws
+pub mod Read
+pub mod Same

@@ -1,0 +1,2 @@
+-- The definitions that the contracts of `format_ids` cite.
+pub mod Ids

@@ -1,0 +1,2 @@
+-- The laws that the proofs of `formats` cite.
+pub mod Laws

@@ -1,0 +1,2 @@
+-- The definitions that the contracts of `formats` cite.
+pub mod Code
