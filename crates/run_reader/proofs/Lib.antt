@@ -1,0 +1,2 @@
+-- The laws of `run_reader`.
+pub mod Laws
