@@ -1,0 +1,2 @@
+-- The laws that the proofs of `leaf_row` cite.
+pub mod Laws

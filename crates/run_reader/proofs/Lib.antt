@@ -1,0 +1,3 @@
+-- The laws of `run_reader`.
+pub mod Laws
+pub mod Format

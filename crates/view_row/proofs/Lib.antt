@@ -1,0 +1,2 @@
+-- The laws of `view_row`.
+pub mod Laws
