@@ -8,9 +8,6 @@ use Rattle.number.proofs.Laws.{splice-nil}
 use Rattle.copy.proofs.Laws.{copy-copy}
 use Rattle.copy.proofs.copy_bytes.Statement.{statement}
 use Rattle.copy.proofs.copy_bytes.Tie as tie
-use Rattle.copy.proofs.copy_bytes.Reads as reads
-use Rattle.copy.proofs.copy_bytes.Lts as lts
-use Rattle.copy.proofs.copy_1024.Reads as copy-1024-reads
 
 abbrev Inv-loop : tie.InvT-loop
 Inv-loop room₀ at body from n i₀ room i = (i ≤ n) × (length room ≡ length room₀) × (room ≡ splice at (take i (drop from body)) room₀)
@@ -18,20 +15,29 @@ Inv-loop room₀ at body from n i₀ room i = (i ≤ n) × (length room ≡ leng
 abbrev μ-loop : tie.MeasureT-loop
 μ-loop room₀ at body from n i₀ room i = n - i
 
+copy-short-requires : tie.Need-copy-short-requires Inv-loop μ-loop
+copy-short-requires c κs = omega arith
+
+same-length : tie.Need-same-length Inv-loop μ-loop
+same-length c = omega arith
+
+returns : tie.Need-returns Inv-loop μ-loop
+returns c = c .before .before .copy-short .ensures
+
 loop-holds : tie.Need-loop-holds Inv-loop μ-loop
 loop-holds c = (omega arith, refl, sym (splice-nil _ _))
 
 sub-loop : tie.Need-sub-loop Inv-loop μ-loop
 sub-loop c = omega arith
 
-add-copy-1024 : tie.Need-add-copy-1024 Inv-loop μ-loop
-add-copy-1024 c = omega arith
+add-copy-8192 : tie.Need-add-copy-8192 Inv-loop μ-loop
+add-copy-8192 c = omega arith
 
-add-copy-1024-2 : tie.Need-add-copy-1024-2 Inv-loop μ-loop
-add-copy-1024-2 c = omega arith
+add-copy-8192-2 : tie.Need-add-copy-8192-2 Inv-loop μ-loop
+add-copy-8192-2 c = omega arith
 
-copy-1024-requires : tie.Need-copy-1024-requires Inv-loop μ-loop
-copy-1024-requires c κs = omega arith
+copy-8192-requires : tie.Need-copy-8192-requires Inv-loop μ-loop
+copy-8192-requires c κs = omega arith
 
 add-i : tie.Need-add-i Inv-loop μ-loop
 add-i c = omega arith
@@ -41,34 +47,34 @@ loop-less c = omega arith
 
 loop-again : tie.Need-loop-again Inv-loop μ-loop
 loop-again c =
-    let z = c .before .before .before .before .before .before .before .before .args in
+    let z = c .before .before .before .before .before .before .before .before .before .args in
     let l = c .before .before .before .before .before .loop in (
       omega arith,
       omega arith,
-      c .before .before .copy-1024 .ensures ∙ rw (l .inv .2) (copy-copy (z .room .now) (z .body .now) (z .at) (z .from) (l .i) 1024 (omega arith) (omega arith)),
+      c .before .before .copy-8192 .ensures ∙ rw (l .inv .2) (copy-copy (z .room .now) (z .body .now) (z .at) (z .from) (l .i) 8192 (omega arith) (omega arith)),
     )
 
-add-copy-short : tie.Need-add-copy-short Inv-loop μ-loop
-add-copy-short c = omega arith
+add-copy-middle : tie.Need-add-copy-middle Inv-loop μ-loop
+add-copy-middle c = omega arith
 
-add-copy-short-2 : tie.Need-add-copy-short-2 Inv-loop μ-loop
-add-copy-short-2 c = omega arith
+add-copy-middle-2 : tie.Need-add-copy-middle-2 Inv-loop μ-loop
+add-copy-middle-2 c = omega arith
 
-sub-copy-short : tie.Need-sub-copy-short Inv-loop μ-loop
-sub-copy-short c = omega arith
+sub-copy-middle : tie.Need-sub-copy-middle Inv-loop μ-loop
+sub-copy-middle c = omega arith
 
-copy-short-requires : tie.Need-copy-short-requires Inv-loop μ-loop
-copy-short-requires c κs = omega arith
+copy-middle-requires : tie.Need-copy-middle-requires Inv-loop μ-loop
+copy-middle-requires c κs = omega arith
 
-same-length : tie.Need-same-length Inv-loop μ-loop
-same-length c = omega arith
+same-length-2 : tie.Need-same-length-2 Inv-loop μ-loop
+same-length-2 c = omega arith
 
-returns : tie.Need-returns Inv-loop μ-loop
-returns c =
-    let z = c .before .before .before .before .before .before .before .before .args in
+returns-2 : tie.Need-returns-2 Inv-loop μ-loop
+returns-2 c =
+    let z = c .before .before .before .before .before .before .before .before .before .args in
     let l = c .before .before .before .before .before .loop in
     let e : l .i + (z .n - l .i) ≡ z .n = omega arith in
-    c .before .before .copy-short .ensures ∙ rw (l .inv .2) (rw e at (copy-copy (z .room .now) (z .body .now) (z .at) (z .from) (l .i) (z .n - l .i) (omega arith) (omega arith)))
+    c .before .before .copy-middle .ensures ∙ rw (l .inv .2) (rw e at (copy-copy (z .room .now) (z .body .now) (z .at) (z .from) (l .i) (z .n - l .i) (omega arith) (omega arith)))
 
 pub copy-bytes-spec : {M : Type 1} → statement M
 copy-bytes-spec =
@@ -76,17 +82,20 @@ copy-bytes-spec =
     (tie.spec
     Inv-loop
     μ-loop
+    copy-short-requires
+    same-length
+    returns
     loop-holds
     sub-loop
-    add-copy-1024
-    add-copy-1024-2
-    copy-1024-requires
+    add-copy-8192
+    add-copy-8192-2
+    copy-8192-requires
     add-i
     loop-less
     loop-again
-    add-copy-short
-    add-copy-short-2
-    sub-copy-short
-    copy-short-requires
-    same-length
-    returns)
+    add-copy-middle
+    add-copy-middle-2
+    sub-copy-middle
+    copy-middle-requires
+    same-length-2
+    returns-2)
