@@ -50,7 +50,7 @@ leafOf u64 p = Unsigned p
 leafOf f32 p = singleOf p
 leafOf f64 p = doubleOf p
 
--- a kind and a number that tell a leaf's row from every other leaf's row
+-- a kind and a number that tell a leaf's row from every other; 5: no leaf's row
 abbrev pub keyAs : ℕ → ℕ → Key
 keyAs kind bits = record { kind = kind; bits = bits }
 

@@ -73,7 +73,7 @@ fn put_leaf(l: Leaf) {
     }
 }
 
-// c C s S at two rows; `at` counts entries, the column's offset included.
+// c C s S of entry `at`, which is 1 for row 0 of a column with offset 1.
 fn narrow(body: &[u8], at: usize)
     requires { ⌜ (at ≤ 1) × (16 ≤ length (now body)) ⌝ }
 {

@@ -73,40 +73,76 @@ single-of-requires : tie.Need-single-of-requires
 single-of-requires c κs = search needs
 
 read-u64-requires-2 : tie.Need-read-u64-requires-2
-read-u64-requires-2 c κs = let e : c .before .before .args .code ≡ 10 = tenth _ (c .before .before .pre .0 .0) (c .before .before .pre .0 .1) (c .match .rest .0 .0 .0 .0 .0 .0 .0 .0 .1) (c .match .rest .0 .0 .0 .0 .0 .0 .0 .1) (c .match .rest .0 .0 .0 .0 .0 .0 .1) (c .match .rest .0 .0 .0 .0 .0 .1) (c .match .rest .0 .0 .0 .0 .1) (c .match .rest .0 .0 .0 .1) (c .match .rest .0 .0 .1) (c .match .rest .0 .1) (c .match .rest .1) in omega (arith, ap (λ (n : ℕ). width (numberOf n)) e)
+read-u64-requires-2 c κs =
+    let a = c .before .before .args in
+    let r = c .match .rest in
+    let p = c .before .before .pre in
+    let e : a .code ≡ 10 = tenth _ (p .0 .0) (p .0 .1) (r .0 .0 .0 .0 .0 .0 .0 .0 .1) (r .0 .0 .0 .0 .0 .0 .0 .1) (r .0 .0 .0 .0 .0 .0 .1) (r .0 .0 .0 .0 .0 .1) (r .0 .0 .0 .0 .1) (r .0 .0 .0 .1) (r .0 .0 .1) (r .0 .1) (r .1) in omega (arith, ap (λ (n : ℕ). width (numberOf n)) e)
 
 double-of-requires : tie.Need-double-of-requires
 double-of-requires c κs = search needs
 
 returns : tie.Need-returns
-returns c = arm (c .before .before .before .args .body .now) (c .before .before .before .args .at) _ 1 (λ i. c .before .before .shared-slice-known .given i .fits) (c .before .match .keys1) _ (ap Signed (widened w8 (c .read-i8 .result) (sfits-of (c .read-i8 .ok)) tt ∙ c .read-i8 .ensures))
+returns c =
+    let a = c .before .before .before .args in
+    let s = c .before .before .shared-slice-known in
+    arm (a .body .now) (a .at) _ 1 (λ i. s .given i .fits) (c .before .match .keys1) _ (ap Signed (widened w8 (c .read-i8 .result) (sfits-of (c .read-i8 .ok)) tt ∙ c .read-i8 .ensures))
 
 returns-2 : tie.Need-returns-2
-returns-2 c = arm (c .before .before .before .args .body .now) (c .before .before .before .args .at) _ 2 (λ i. c .before .before .shared-slice-known .given i .fits) (c .before .match .keys2) _ (ap Unsigned (c .read-u8 .ensures))
+returns-2 c =
+    let a = c .before .before .before .args in
+    let s = c .before .before .shared-slice-known in
+    arm (a .body .now) (a .at) _ 2 (λ i. s .given i .fits) (c .before .match .keys2) _ (ap Unsigned (c .read-u8 .ensures))
 
 returns-3 : tie.Need-returns-3
-returns-3 c = arm (c .before .before .before .args .body .now) (c .before .before .before .args .at) _ 3 (λ i. c .before .before .shared-slice-known .given i .fits) (c .before .match .keys3) _ (ap Signed (widened w16 (c .read-i16 .result) (sfits-of (c .read-i16 .ok)) tt ∙ c .read-i16 .ensures))
+returns-3 c =
+    let a = c .before .before .before .args in
+    let s = c .before .before .shared-slice-known in
+    arm (a .body .now) (a .at) _ 3 (λ i. s .given i .fits) (c .before .match .keys3) _ (ap Signed (widened w16 (c .read-i16 .result) (sfits-of (c .read-i16 .ok)) tt ∙ c .read-i16 .ensures))
 
 returns-4 : tie.Need-returns-4
-returns-4 c = arm (c .before .before .before .args .body .now) (c .before .before .before .args .at) _ 4 (λ i. c .before .before .shared-slice-known .given i .fits) (c .before .match .keys4) _ (ap Unsigned (c .read-u16 .ensures))
+returns-4 c =
+    let a = c .before .before .before .args in
+    let s = c .before .before .shared-slice-known in
+    arm (a .body .now) (a .at) _ 4 (λ i. s .given i .fits) (c .before .match .keys4) _ (ap Unsigned (c .read-u16 .ensures))
 
 returns-5 : tie.Need-returns-5
-returns-5 c = arm (c .before .before .before .args .body .now) (c .before .before .before .args .at) _ 5 (λ i. c .before .before .shared-slice-known .given i .fits) (c .before .match .keys5) _ (ap Signed (widened w32 (c .read-i32 .result) (sfits-of (c .read-i32 .ok)) tt ∙ c .read-i32 .ensures))
+returns-5 c =
+    let a = c .before .before .before .args in
+    let s = c .before .before .shared-slice-known in
+    arm (a .body .now) (a .at) _ 5 (λ i. s .given i .fits) (c .before .match .keys5) _ (ap Signed (widened w32 (c .read-i32 .result) (sfits-of (c .read-i32 .ok)) tt ∙ c .read-i32 .ensures))
 
 returns-6 : tie.Need-returns-6
-returns-6 c = arm (c .before .before .before .args .body .now) (c .before .before .before .args .at) _ 6 (λ i. c .before .before .shared-slice-known .given i .fits) (c .before .match .keys6) _ (ap Unsigned (c .read-u32 .ensures))
+returns-6 c =
+    let a = c .before .before .before .args in
+    let s = c .before .before .shared-slice-known in
+    arm (a .body .now) (a .at) _ 6 (λ i. s .given i .fits) (c .before .match .keys6) _ (ap Unsigned (c .read-u32 .ensures))
 
 returns-7 : tie.Need-returns-7
-returns-7 c = arm (c .before .before .before .args .body .now) (c .before .before .before .args .at) _ 7 (λ i. c .before .before .shared-slice-known .given i .fits) (c .before .match .keys7) _ (ap Signed (toZ-ofZ w64 (c .read-i64 .result) (sfits-of (c .read-i64 .ok)) ∙ c .read-i64 .ensures))
+returns-7 c =
+    let a = c .before .before .before .args in
+    let s = c .before .before .shared-slice-known in
+    arm (a .body .now) (a .at) _ 7 (λ i. s .given i .fits) (c .before .match .keys7) _ (ap Signed (toZ-ofZ w64 (c .read-i64 .result) (sfits-of (c .read-i64 .ok)) ∙ c .read-i64 .ensures))
 
 returns-8 : tie.Need-returns-8
-returns-8 c = arm (c .before .before .before .args .body .now) (c .before .before .before .args .at) _ 8 (λ i. c .before .before .shared-slice-known .given i .fits) (c .before .match .keys8) _ (ap Unsigned (c .read-u64 .ensures))
+returns-8 c =
+    let a = c .before .before .before .args in
+    let s = c .before .before .shared-slice-known in
+    arm (a .body .now) (a .at) _ 8 (λ i. s .given i .fits) (c .before .match .keys8) _ (ap Unsigned (c .read-u64 .ensures))
 
 returns-9 : tie.Need-returns-9
-returns-9 c = arm (c .before .before .before .before .args .body .now) (c .before .before .before .before .args .at) _ 9 (λ i. c .before .before .before .shared-slice-known .given i .fits) (c .before .before .match .keys9) _ (c .single-of .ensures ∙ ap singleOf (c .before .read-u322 .ensures))
+returns-9 c =
+    let a = c .before .before .before .before .args in
+    let s = c .before .before .before .shared-slice-known in
+    arm (a .body .now) (a .at) _ 9 (λ i. s .given i .fits) (c .before .before .match .keys9) _ (c .single-of .ensures ∙ ap singleOf (c .before .read-u322 .ensures))
 
 returns-10 : tie.Need-returns-10
-returns-10 c = let e : c .before .before .before .before .args .code ≡ 10 = tenth _ (c .before .before .before .before .pre .0 .0) (c .before .before .before .before .pre .0 .1) (c .before .before .match .rest .0 .0 .0 .0 .0 .0 .0 .0 .1) (c .before .before .match .rest .0 .0 .0 .0 .0 .0 .0 .1) (c .before .before .match .rest .0 .0 .0 .0 .0 .0 .1) (c .before .before .match .rest .0 .0 .0 .0 .0 .1) (c .before .before .match .rest .0 .0 .0 .0 .1) (c .before .before .match .rest .0 .0 .0 .1) (c .before .before .match .rest .0 .0 .1) (c .before .before .match .rest .0 .1) (c .before .before .match .rest .1) in arm (c .before .before .before .before .args .body .now) (c .before .before .before .before .args .at) _ 10 (λ i. c .before .before .before .shared-slice-known .given i .fits) e _ (c .double-of .ensures ∙ ap doubleOf (c .before .read-u642 .ensures))
+returns-10 c =
+    let a = c .before .before .before .before .args in
+    let s = c .before .before .before .shared-slice-known in
+    let r = c .before .before .match .rest in
+    let p = c .before .before .before .before .pre in
+    let e : a .code ≡ 10 = tenth _ (p .0 .0) (p .0 .1) (r .0 .0 .0 .0 .0 .0 .0 .0 .1) (r .0 .0 .0 .0 .0 .0 .0 .1) (r .0 .0 .0 .0 .0 .0 .1) (r .0 .0 .0 .0 .0 .1) (r .0 .0 .0 .0 .1) (r .0 .0 .0 .1) (r .0 .0 .1) (r .0 .1) (r .1) in arm (a .body .now) (a .at) _ 10 (λ i. s .given i .fits) e _ (c .double-of .ensures ∙ ap doubleOf (c .before .read-u642 .ensures))
 
 pub read-leaf-spec : {M : Type 1} → statement M
 read-leaf-spec =

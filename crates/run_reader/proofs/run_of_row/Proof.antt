@@ -15,13 +15,17 @@ use Rattle.run_reader.proofs.found_run.Reads as found-run-reads
 use Rattle.run_reader.proofs.rows_left.Reads as rows-left-reads
 
 returns : tie.Need-returns
-returns c = not-below (foundRun (c .before .before .args .ends .now) (c .before .before .args .width)) (c .before .before .args .offset) (c .before .before .args .len) (c .before .before .args .row .0) (omega arith)
+returns c =
+    let a = c .before .before .args in
+    not-below (foundRun (a .ends .now) (a .width)) (a .offset) (a .len) (a .row .0) (omega arith)
 
 sub-if2 : tie.Need-sub-if2
 sub-if2 c = search needs
 
 returns-2 : tie.Need-returns-2
-returns-2 c = too-far (foundRun (c .before .before .before .args .ends .now) (c .before .before .before .args .width)) (c .before .before .before .args .offset) (c .before .before .before .args .len) (c .before .before .before .args .row .0) (omega arith) (omega arith)
+returns-2 c =
+    let a = c .before .before .before .args in
+    too-far (foundRun (a .ends .now) (a .width)) (a .offset) (a .len) (a .row .0) (omega arith) (omega arith)
 
 add-t11 : tie.Need-add-t11
 add-t11 c = search needs
@@ -43,14 +47,13 @@ enum-told c = search needs
 
 returns-3 : tie.Need-returns-3
 returns-3 c =
-    ap (Run (c .before .before .run .given .0 .0)) (c .rows-left .ensures)
-    ∙ (ap (λ (y : Found). answered y (c .before .before .before .before .before .before .before .before .args .offset + c .before .before .before .before .before .before .before .before .args .row .0) (c .before .before .before .before .before .before .before .before .args .offset + c .before .before .before .before .before .before .before .before .args .len)) (sym (c .before .before .run .given .1))
-    ∙ looked (foundRun (c .before .before .before .before .before .before .before .before .args .ends .now) (c .before .before .before .before .before .before .before .before .args .width)) (c .before .before .before .before .before .before .before .before .args .offset) (c .before .before .before .before .before .before .before .before .args .len) (c .before .before .before .before .before .before .before .before .args .row .0) (omega arith) (omega arith) _ (c .before .before .before .before .found-run .ensures))
+    let a = c .before .before .before .before .before .before .before .before .args in
+    ap (Run (c .before .before .run .given .0 .0)) (c .rows-left .ensures) ∙ (ap (λ (y : Found). answered y (a .offset + a .row .0) (a .offset + a .len)) (sym (c .before .before .run .given .1)) ∙ looked (foundRun (a .ends .now) (a .width)) (a .offset) (a .len) (a .row .0) (omega arith) (omega arith) _ (c .before .before .before .before .found-run .ensures))
 
 returns-4 : tie.Need-returns-4
 returns-4 c =
-    ap (λ (y : Found). answered y (c .before .before .before .before .before .before .args .offset + c .before .before .before .before .before .before .args .row .0) (c .before .before .before .before .before .before .args .offset + c .before .before .before .before .before .before .args .len)) (sym (c .enum-told .given .1))
-    ∙ looked (foundRun (c .before .before .before .before .before .before .args .ends .now) (c .before .before .before .before .before .before .args .width)) (c .before .before .before .before .before .before .args .offset) (c .before .before .before .before .before .before .args .len) (c .before .before .before .before .before .before .args .row .0) (omega arith) (omega arith) _ (c .before .before .found-run .ensures)
+    let a = c .before .before .before .before .before .before .args in
+    ap (λ (y : Found). answered y (a .offset + a .row .0) (a .offset + a .len)) (sym (c .enum-told .given .1)) ∙ looked (foundRun (a .ends .now) (a .width)) (a .offset) (a .len) (a .row .0) (omega arith) (omega arith) _ (c .before .before .found-run .ensures)
 
 pub run-of-row-spec : {M : Type 1} → statement M
 run-of-row-spec =

@@ -21,31 +21,46 @@ add-t10 : tie.Need-add-t10
 add-t10 c = search needs
 
 returns : tie.Need-returns
-returns c = (inline (c .before .before .before .before .before .before .args .views .now) (c .before .before .before .before .before .before .args .at) (length (c .before .before .before .before .before .before .args .body .now)) (c .before .before .before .before .before .before .args .from) (c .before .before .before .before .before .before .args .size) (c .before .before .before .from-bytes .result .length) (c .before .before .before .from-bytes .result .offset) (ap (λ (v : ByteView). v .length) (c .before .before .before .from-bytes .ensures)) (ap (λ (v : ByteView). v .offset) (c .before .before .before .from-bytes .ensures)) (omega arith), omega arith)
+returns c =
+    let a = c .before .before .before .before .before .before .args in
+    let f = c .before .before .before .from-bytes in
+    (inline (a .views .now) (a .at) (length (a .body .now)) (a .from) (a .size) (f .result .length) (f .result .offset) (ap (λ (v : ByteView). v .length) (f .ensures)) (ap (λ (v : ByteView). v .offset) (f .ensures)) (omega arith), omega arith)
 
 cast-start : tie.Need-cast-start
 cast-start c = search needs
 
 returns-2 : tie.Need-returns-2
-returns-2 c = (no-buffer (c .before .before .before .before .before .before .before .before .args .views .now) (c .before .before .before .before .before .before .before .before .args .at) (length (c .before .before .before .before .before .before .before .before .args .body .now)) (c .before .before .before .before .before .before .before .before .args .from) (c .before .before .before .before .before .before .before .before .args .size) (c .before .before .before .before .before .from-bytes .result .length) (c .before .before .before .before .before .from-bytes .result .offset) (ap (λ (v : ByteView). v .length) (c .before .before .before .before .before .from-bytes .ensures)) (ap (λ (v : ByteView). v .offset) (c .before .before .before .before .before .from-bytes .ensures)) (omega arith) (omega arith), tt)
+returns-2 c =
+    let a = c .before .before .before .before .before .before .before .before .args in
+    let f = c .before .before .before .before .before .from-bytes in
+    (no-buffer (a .views .now) (a .at) (length (a .body .now)) (a .from) (a .size) (f .result .length) (f .result .offset) (ap (λ (v : ByteView). v .length) (f .ensures)) (ap (λ (v : ByteView). v .offset) (f .ensures)) (omega arith) (omega arith), tt)
 
 sub-if3 : tie.Need-sub-if3
 sub-if3 c = search needs
 
 returns-3 : tie.Need-returns-3
-returns-3 c = (no-buffer (c .before .before .before .before .before .before .before .before .before .args .views .now) (c .before .before .before .before .before .before .before .before .before .args .at) (length (c .before .before .before .before .before .before .before .before .before .args .body .now)) (c .before .before .before .before .before .before .before .before .before .args .from) (c .before .before .before .before .before .before .before .before .before .args .size) (c .before .before .before .before .before .before .from-bytes .result .length) (c .before .before .before .before .before .before .from-bytes .result .offset) (ap (λ (v : ByteView). v .length) (c .before .before .before .before .before .before .from-bytes .ensures)) (ap (λ (v : ByteView). v .offset) (c .before .before .before .before .before .before .from-bytes .ensures)) (omega arith) (omega arith), tt)
+returns-3 c =
+    let a = c .before .before .before .before .before .before .before .before .before .args in
+    let f = c .before .before .before .before .before .before .from-bytes in
+    (no-buffer (a .views .now) (a .at) (length (a .body .now)) (a .from) (a .size) (f .result .length) (f .result .offset) (ap (λ (v : ByteView). v .length) (f .ensures)) (ap (λ (v : ByteView). v .offset) (f .ensures)) (omega arith) (omega arith), tt)
 
 add-if4 : tie.Need-add-if4
 add-if4 c = search needs
 
 returns-4 : tie.Need-returns-4
-returns-4 c = (no-range (c .before .before .before .before .before .before .before .before .before .before .args .views .now) (c .before .before .before .before .before .before .before .before .before .before .args .at) (length (c .before .before .before .before .before .before .before .before .before .before .args .body .now)) (c .before .before .before .before .before .before .before .before .before .before .args .from) (c .before .before .before .before .before .before .before .before .before .before .args .size) (c .before .before .before .before .before .before .before .from-bytes .result .length) (c .before .before .before .before .before .before .before .from-bytes .result .offset) (ap (λ (v : ByteView). v .length) (c .before .before .before .before .before .before .before .from-bytes .ensures)) (ap (λ (v : ByteView). v .offset) (c .before .before .before .before .before .before .before .from-bytes .ensures)) (omega arith) (omega arith) (omega arith), tt)
+returns-4 c =
+    let a = c .before .before .before .before .before .before .before .before .before .before .args in
+    let f = c .before .before .before .before .before .before .before .from-bytes in
+    (no-range (a .views .now) (a .at) (length (a .body .now)) (a .from) (a .size) (f .result .length) (f .result .offset) (ap (λ (v : ByteView). v .length) (f .ensures)) (ap (λ (v : ByteView). v .offset) (f .ensures)) (omega arith) (omega arith) (omega arith), tt)
 
 add-t12 : tie.Need-add-t12
 add-t12 c = search needs
 
 returns-5 : tie.Need-returns-5
-returns-5 c = (in-data (c .before .before .before .before .before .before .before .before .before .before .args .views .now) (c .before .before .before .before .before .before .before .before .before .before .args .at) (length (c .before .before .before .before .before .before .before .before .before .before .args .body .now)) (c .before .before .before .before .before .before .before .before .before .before .args .from) (c .before .before .before .before .before .before .before .before .before .before .args .size) (c .before .before .before .before .before .before .before .from-bytes .result .length) (c .before .before .before .before .before .before .before .from-bytes .result .offset) (ap (λ (v : ByteView). v .length) (c .before .before .before .before .before .before .before .from-bytes .ensures)) (ap (λ (v : ByteView). v .offset) (c .before .before .before .before .before .before .before .from-bytes .ensures)) (omega arith) (omega arith) (omega arith), omega arith)
+returns-5 c =
+    let a = c .before .before .before .before .before .before .before .before .before .before .args in
+    let f = c .before .before .before .before .before .before .before .from-bytes in
+    (in-data (a .views .now) (a .at) (length (a .body .now)) (a .from) (a .size) (f .result .length) (f .result .offset) (ap (λ (v : ByteView). v .length) (f .ensures)) (ap (λ (v : ByteView). v .offset) (f .ensures)) (omega arith) (omega arith) (omega arith), omega arith)
 
 pub view-place-spec : {M : Type 1} → statement M
 view-place-spec =
