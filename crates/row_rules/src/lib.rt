@@ -69,17 +69,16 @@ pub fn list_views_i32(body: &[u8], at: usize, too: usize, n: usize, child: u64) 
     requires { ⌜ (at + 4 * n ≤ length (now body)) × (too + 4 * n ≤ length (now body)) ⌝ }
     ensures { λ r. ⌜ r ≡ listViewRows 4 (now (body .entry)) at too child n ⌝ }
 {
-    let mut good = true;
     let mut i = 0;
     while i < n {
         let o = number::read_u32(body, at + 4 * i);
         let z = number::read_u32(body, too + 4 * i);
         if !view_row_i32(o, z, child) {
-            good = false;
+            return false;
         }
         i += 1;
     }
-    good
+    true
 }
 
 // Whether offset and size are not negative and the rows that they name lie in a child of `child` rows.
@@ -100,17 +99,16 @@ pub fn list_views_i64(body: &[u8], at: usize, too: usize, n: usize, child: u64) 
     requires { ⌜ (at + 8 * n ≤ length (now body)) × (too + 8 * n ≤ length (now body)) ⌝ }
     ensures { λ r. ⌜ r ≡ listViewRows 8 (now (body .entry)) at too child n ⌝ }
 {
-    let mut good = true;
     let mut i = 0;
     while i < n {
         let o = number::read_u64(body, at + 8 * i);
         let z = number::read_u64(body, too + 8 * i);
         if !view_row_i64(o, z, child) {
-            good = false;
+            return false;
         }
         i += 1;
     }
-    good
+    true
 }
 
 // Whether the n run ends from `at` on rise strictly from at least 1, none being negative: as with offsets, where the last is not.
@@ -118,18 +116,18 @@ pub fn run_ends_i16(body: &[u8], at: usize, n: usize) -> bool
     requires { ⌜ at + 2 * n ≤ length (now body) ⌝ }
     ensures { λ r. ⌜ r ≡ endsRows 2 (now (body .entry)) at n ⌝ }
 {
-    let mut last = 0;
+    let mut before: u16 = 0;
     let mut good = true;
     let mut k = 0;
     while k < n {
         let end = number::read_u16(body, at + 2 * k);
-        if end <= last {
+        if end <= before {
             good = false;
         }
-        last = end;
+        before = end;
         k += 1;
     }
-    if 32767 < last {
+    if 32767 < before {
         return false;
     }
     good
@@ -140,18 +138,18 @@ pub fn run_ends_i32(body: &[u8], at: usize, n: usize) -> bool
     requires { ⌜ at + 4 * n ≤ length (now body) ⌝ }
     ensures { λ r. ⌜ r ≡ endsRows 4 (now (body .entry)) at n ⌝ }
 {
-    let mut last = 0;
+    let mut before: u32 = 0;
     let mut good = true;
     let mut k = 0;
     while k < n {
         let end = number::read_u32(body, at + 4 * k);
-        if end <= last {
+        if end <= before {
             good = false;
         }
-        last = end;
+        before = end;
         k += 1;
     }
-    if 2147483647 < last {
+    if 2147483647 < before {
         return false;
     }
     good
@@ -162,18 +160,18 @@ pub fn run_ends_i64(body: &[u8], at: usize, n: usize) -> bool
     requires { ⌜ at + 8 * n ≤ length (now body) ⌝ }
     ensures { λ r. ⌜ r ≡ endsRows 8 (now (body .entry)) at n ⌝ }
 {
-    let mut last = 0;
+    let mut before: u64 = 0;
     let mut good = true;
     let mut k = 0;
     while k < n {
         let end = number::read_u64(body, at + 8 * k);
-        if end <= last {
+        if end <= before {
             good = false;
         }
-        last = end;
+        before = end;
         k += 1;
     }
-    if 9223372036854775807 < last {
+    if 9223372036854775807 < before {
         return false;
     }
     good

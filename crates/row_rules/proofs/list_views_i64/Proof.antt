@@ -1,21 +1,21 @@
--- `row_rules::list_views_i64` meets its contract: up to row i, whether all rows obey. Assumes nothing.
+-- `row_rules::list_views_i64` meets its contract: all rows before i obey. Assumes nothing.
 use mathlib.Core.Path.{_≡_, refl, sym, _∙_}
-use mathlib.Core.Logic.{⊎-elim}
+use mathlib.Core.Bool.{Bool, true}
 use Prim.Native.Nat.{ℕ, _-_, _≤_}
-use mathlib.Core.Bool.{Bool}
 use native.Mathlib.Omega.{arith}
 use borrow.Author.Tests.{not-true, not-false}
 use Rattle.number.specs.Number.{entry}
+use Rattle.columnar.proofs.Test.{every-false}
 use Rattle.row_rules.specs.Rules.{viewRow, listViewRows}
-use Rattle.row_rules.proofs.Laws.{row-good, row-bad}
+use Rattle.row_rules.proofs.Laws.{row-good}
 use Rattle.row_rules.proofs.list_views_i64.Statement.{statement}
 use Rattle.row_rules.proofs.list_views_i64.Tie as tie
 
 abbrev Inv-loop : tie.InvT-loop
-Inv-loop body at too n child good₀ i₀ good i = (i ≤ n) × (good ≡ listViewRows 8 body at too child i)
+Inv-loop body at too n child i₀ i = (i ≤ n) × (true ≡ listViewRows 8 body at too child i)
 
 abbrev μ-loop : tie.MeasureT-loop
-μ-loop body at too n child good₀ i₀ good i = n - i
+μ-loop body at too n child i₀ i = n - i
 
 loop-holds : tie.Need-loop-holds Inv-loop μ-loop
 loop-holds c = (omega arith, refl)
@@ -41,6 +41,14 @@ read-u64-requires-2 c κs = omega arith
 view-row-i64-requires : tie.Need-view-row-i64-requires Inv-loop μ-loop
 view-row-i64-requires c κs = tt
 
+returns : tie.Need-returns Inv-loop μ-loop
+returns c =
+    let a = c .before .before .before .before .before .before .before .args in
+    let l = c .before .before .before .before .before .loop in
+    let p : ℕ → Bool = λ i. viewRow 8 (a .child) (entry 8 (a .body .now) (a .at) i) (entry 8 (a .body .now) (a .too) i) in
+    let r : c .before .view-row-i64 .result ≡ p (l .i) = cc in
+    sym (every-false p (a .n) (l .i) (omega arith) (sym r ∙ not-true _ (c .if1 .taken)))
+
 add-i : tie.Need-add-i Inv-loop μ-loop
 add-i c = omega arith
 
@@ -52,14 +60,11 @@ loop-again c =
     let a = c .before .before .before .before .before .before .before .args in
     let l = c .before .before .before .before .before .loop in
     let p : ℕ → Bool = λ i. viewRow 8 (a .child) (entry 8 (a .body .now) (a .at) i) (entry 8 (a .body .now) (a .too) i) in
-    let r : c .before .view-row-i64 .result ≡ p (l .i) = cc in (
-      omega arith,
-      ⊎-elim (λ b. row-bad p (l .i) (sym r ∙ not-true _ (b .0 .taken)) (b .1))
-          (λ b. row-good p (l .i) (l .inv .1) (sym r ∙ not-false _ (b .0 .left)) (b .1)) (c .if1 .came),
-    )
+    let r : c .before .view-row-i64 .result ≡ p (l .i) = cc in
+    (omega arith, row-good p (l .i) (l .inv .1) (sym r ∙ not-false _ (c .if1 .left)) refl)
 
-returns : tie.Need-returns Inv-loop μ-loop
-returns c =
+returns-2 : tie.Need-returns-2 Inv-loop μ-loop
+returns-2 c =
     let e : c .before .loop .i ≡ c .before .before .before .args .n = omega arith in
     rw e at (c .before .loop .inv .1)
 
@@ -77,7 +82,8 @@ list-views-i64-spec =
     add-read-u64-2
     read-u64-requires-2
     view-row-i64-requires
+    returns
     add-i
     loop-less
     loop-again
-    returns)
+    returns-2)

@@ -12,10 +12,10 @@ use Rattle.row_rules.proofs.run_ends_i16.Statement.{statement}
 use Rattle.row_rules.proofs.run_ends_i16.Tie as tie
 
 abbrev Inv-loop : tie.InvT-loop
-Inv-loop body at n last₀ good₀ k₀ last good k = Steps ltb (startOf (entry 2 body at)) n k last good
+Inv-loop body at n before₀ good₀ k₀ before good k = Steps ltb (startOf (entry 2 body at)) n k before good
 
 abbrev μ-loop : tie.MeasureT-loop
-μ-loop body at n last₀ good₀ k₀ last good k = n - k
+μ-loop body at n before₀ good₀ k₀ before good k = n - k
 
 loop-holds : tie.Need-loop-holds Inv-loop μ-loop
 loop-holds c =
@@ -44,8 +44,8 @@ loop-again c =
     let l = c .before .before .before .loop in
     let x = c .before .read-u16 .result in
     let r = c .before .read-u16 .ensures in
-    ⊎-elim (λ b. step-bad ltb f (a .n) (l .inv) (omega arith) r (le-ltb (l .last) x (b .0 .taken)) (b .1))
-    (λ b. step-good ltb f (a .n) (l .inv) (omega arith) r (lt-ltb (l .last) x (b .0 .left)) (b .1)) (c .if1 .came)
+    ⊎-elim (λ b. step-bad ltb f (a .n) (l .inv) (omega arith) r (le-ltb (l .before) x (b .0 .taken)) (b .1))
+    (λ b. step-good ltb f (a .n) (l .inv) (omega arith) r (lt-ltb (l .before) x (b .0 .left)) (b .1)) (c .if1 .came)
 
 returns : tie.Need-returns Inv-loop μ-loop
 returns c =
