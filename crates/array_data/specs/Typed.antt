@@ -1,7 +1,7 @@
 -- The type that a node of a tree stands for, and the column that lent tables describe there. Assumes nothing.
 use mathlib.Core.Path.{_≡_}
-use mathlib.Core.Bool.{Bool, true, false, cond}
-use mathlib.Core.List.{List, [], _∷_, List·Memᴰ}
+use mathlib.Core.Bool.{Bool, true, false, cond, _&&_}
+use mathlib.Core.List.{List, [], _∷_, _++_, List·Memᴰ}
 use Prim.Native.Nat.{ℕ, zero, suc, _*_, _<_}
 use lib.ListN.{drop}
 use lib.Dec.{eqb}
@@ -10,8 +10,8 @@ use Rattle.columnar.specs.Array.{Array}
 use Rattle.columnar.specs.Plain.{PlainBody}
 use Rattle.columnar.specs.Reading.{Body, Column}
 use Rattle.columnar.specs.Test.{every}
-use Rattle.array_data.specs.Tables.{Tables, place, firstBuffer, secondBuffer, dataBuffers, arrayWith}
-use Rattle.array_data.specs.Rules.{fixedRule, stringRule, viewRule, listViewRule, sparseRule, denseRule, runEndRule, dictionaryRule}
+use Rattle.array_data.specs.Tables.{Tables, place, firstBuffer, secondBuffer, dataBuffers, arrayWith, held, validIn}
+use Rattle.array_data.specs.Rules.{oneIn, twoIn, buffersIn, fixedRule, stringRule, viewRule, listViewRule, sparseRule, denseRule, runEndRule, dictionaryRule}
 
 -- what a node's format says
 pub data NodeKind : Type 0 where
@@ -70,6 +70,11 @@ Means t (tDense ids nullable f) i =
 Means t (tRunEnd w u) i = Is t i (runEndNode w) × MeansEnds t w (suc i) × Means t u (suc (suc i))
 Means t (tDictionary k p) i = Is t i (dictionaryNode k) × MeansPlain t p (suc i)
 
+-- one list after another
+abbrev pub allOf : (ℕ → List ℕ) → List ℕ → List ℕ
+allOf f [] = []
+allOf f (c ∷ cs) = f c ++ allOf f cs
+
 -- ---- the column that a source's tables describe at node i
 
 -- a source's tables are those from its first node on
@@ -121,3 +126,28 @@ module _ (t : Tree) (x : Tables) where
   -- THE SOURCE OBEYS: every node does
   abbrev pub sourceRule : Bool
   sourceRule = every nodeRule (t .count)
+
+  -- ---- what of a rule is about the lent memory: where the tables and buffers of a node lie
+
+  abbrev pub placedAs : NodeKind → ℕ → Bool
+  placedAs (fixedNode n) i = oneIn x i
+  placedAs (stringNode w) i = twoIn x i
+  placedAs viewNode i = oneIn x i && buffersIn x i
+  placedAs (listViewNode w) i = twoIn x i
+  placedAs (sparseNode ids) i = oneIn x i
+  placedAs (denseNode ids) i = twoIn x i
+  placedAs (runEndNode w) i = held x i && validIn x i
+  placedAs (dictionaryNode n) i = oneIn x i
+
+  abbrev pub placed : ℕ → Bool
+  placed i = placedAs (t .kind i) i
+
+  -- the nodes of a subtree
+  abbrev pub nodes : Ty → ℕ → List ℕ
+  nodes (tPlain p) i = i ∷ []
+  nodes tView i = i ∷ []
+  nodes (tListView w u) i = i ∷ nodes u (suc i)
+  nodes (tSparse ids nullable f) i = i ∷ allOf (λ c. nodes (f c) (nodeOf t i ids c)) ids
+  nodes (tDense ids nullable f) i = i ∷ allOf (λ c. nodes (f c) (nodeOf t i ids c)) ids
+  nodes (tRunEnd w u) i = i ∷ suc i ∷ nodes u (suc (suc i))
+  nodes (tDictionary k p) i = i ∷ suc i ∷ []
