@@ -50,6 +50,9 @@ kid-of true true k p = p
 kid-of true false k p = absurd p
 kid-of false s k p = absurd p
 
+first-of-three : (a b c : Bool) → T (a && b && c) → T a
+first-of-three a b c p = and-one a b (and-one (a && b) c p)
+
 rows-of : (m s k : Bool) → T (m && (s && k)) → T s
 rows-of true true k p = tt
 rows-of true false k p = p
@@ -215,9 +218,10 @@ module _ (t : Tree) (x : Tables) (lies : (j : ℕ) → j < t .count → T (place
       (firstly (mask t x false i) (runRows t x w i) true (test u (columnOf t x u (suc (suc i)))) e tt))
   column-complete (tRunEnd w u) i h e j (List·Memᴰ·tail (List·Memᴰ·head z)) =
       ends-complete w (suc i) j z (h .1)
-      (and-one (endsTest w (arrayWith x (firstBuffer x (suc i)) (suc i))) (leb (offsetOf x i + lengthOf x i) (startOf (endOf w (arrayWith x (firstBuffer x (suc i)) (suc i))) (lengthOf x (suc i))))
-      (and-one _ (eqb (lengthOf x (suc (suc i))) (lengthOf x (suc i)))
-      (rows-of (mask t x false i) (runRows t x w i) (test u (columnOf t x u (suc (suc i)))) e)))
+      (first-of-three (endsTest w (arrayWith x (firstBuffer x (suc i)) (suc i)))
+      (leb (offsetOf x i + lengthOf x i) (startOf (endOf w (arrayWith x (firstBuffer x (suc i)) (suc i))) (lengthOf x (suc i))))
+      (eqb (lengthOf x (suc (suc i))) (lengthOf x (suc i)))
+      (rows-of (mask t x false i) (runRows t x w i) (test u (columnOf t x u (suc (suc i)))) e))
   column-complete (tRunEnd w u) i h e j (List·Memᴰ·tail (List·Memᴰ·tail q)) =
       column-complete u (suc (suc i)) (h .2) (kid-of (mask t x false i) (runRows t x w i) (test u (columnOf t x u (suc (suc i)))) e) j q
   column-complete (tDictionary k p) i h e j (List·Memᴰ·head z) =
