@@ -1,0 +1,4 @@
+-- The laws that the proofs of `formats` cite.
+pub mod Laws
+pub mod Read
+pub mod Same

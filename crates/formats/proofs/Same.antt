@@ -1,0 +1,127 @@
+-- Comparing two formats. Assumes nothing.
+use mathlib.Core.Path.{_≡_, refl, ap, sym, _∙_}
+use mathlib.Core.Bool.{Bool, true, false, not, cond, _&&_, _||_, and-false}
+use mathlib.Core.List.{List, [], _∷_, _++_, map}
+use mathlib.Core.Option.{Option, none, some}
+use Prim.Native.Nat.{ℕ, zero, suc, _+_, _-_, _≤_, _<_}
+use native.Mathlib.Omega.{arith}
+use lib.ListN.{length, take, drop, length-append, length-drop}
+use lib.Seq.{take-at}
+use lib.Dec.{leb, eqb}
+use borrow.Author.Tests.{leb-true, eq-eqb, ne-eqb}
+use Rattle.formats.specs.Code.{same, codeOf, codeAt, union}
+use Rattle.formats.specs.Ids.{pieces, idOf, distinct, small, allowed, idList, idsOf, idsAt, answerOf, written, sameIds, sameFormat}
+use Rattle.formats.specs.declared.Ids.{Ids}
+use Rattle.formats.specs.declared.Ids.the-variants.{Count, Bad}
+use Rattle.formats.proofs.Laws.{both}
+
+-- ---- a union has at most sixteen ids
+
+abbrev pub Short : Option (List ℕ) → Type 0
+Short (some l) = length l ≤ 16
+Short none = Unit {0}
+
+short-if : (x : Bool) (l : List ℕ) → (x ≡ true → length l ≤ 16) → Short (cond x (some l) none)
+short-if true l h = h refl
+short-if false l h = tt
+
+short-cond : (x : Bool) (o : Option (List ℕ)) → Short o → Short (cond x o none)
+short-cond true o h = h
+short-cond false o h = tt
+
+short-allowed : (l : List ℕ) → Short (allowed l)
+unfolding allowed
+short-allowed l = short-if _ l (λ e. leb-true (length l) 16 (both (small l && distinct l) (leb (length l) 16) e .1))
+
+short-list : (t : List ℕ) → Short (idList t)
+short-list [] = omega arith
+short-list (b ∷ s) = short-allowed (map idOf (pieces (b ∷ s)))
+
+pub short : (s : List ℕ) (at len : ℕ) → Short (idsAt s at len)
+short s at len = short-cond (leb (at + len) (length s)) _ (short-cond (union (codeOf (take len (drop at s)))) _ (short-list (drop 4 (take len (drop at s)))))
+
+pub written-length : (o : Option (List ℕ)) (s : List ℕ) → Short o → length s ≡ 16 → length (written o s) ≡ 16
+written-length none s h e = e
+written-length (some l) s h e = simp (length-append, length-drop) (omega arith)
+
+-- ---- two lists of ids
+
+same-long : (a b : List ℕ) → (length a ≡ length b → ⊥) → same a b ≡ false
+same-long [] [] h = absurd (h refl)
+same-long [] (y ∷ b) h = refl
+same-long (x ∷ a) [] h = refl
+same-long (x ∷ a) (y ∷ b) h = rw (same-long a b (λ e. h (ap suc e)))
+
+never : (k : ℕ) → Count k ≡ Bad → ⊥
+never k e = let z : _≡_ {A = ℕ} 0 1 = cc in omega arith
+
+counted : (j k : ℕ) → Count j ≡ Count k → j ≡ k
+counted j k e = cc
+
+pub bad-first : (o o2 : Option (List ℕ)) (r : Ids) → r ≡ answerOf o → r ≡ Bad → sameIds o o2 ≡ false
+bad-first none o2 r e h = refl
+bad-first (some l) o2 r e h = absurd (never (length l) (sym e ∙ h))
+
+pub bad-second : (o o2 : Option (List ℕ)) (r : Ids) → r ≡ answerOf o2 → r ≡ Bad → sameIds o o2 ≡ false
+bad-second none o2 r e h = refl
+bad-second (some l) none r e h = refl
+bad-second (some l) (some m) r e h = absurd (never (length m) (sym e ∙ h))
+
+module _ (o o2 : Option (List ℕ)) (r r2 : Ids) (j k : ℕ) (e : r ≡ answerOf o) (h : r ≡ Count j) (e2 : r2 ≡ answerOf o2) (h2 : r2 ≡ Count k) where
+  counts-by : (p p2 : Option (List ℕ)) → answerOf p ≡ Count j → answerOf p2 ≡ Count k → (j ≡ k → ⊥) → sameIds p p2 ≡ false
+  counts-by none p2 a b n = refl
+  counts-by (some l) none a b n = refl
+  counts-by (some l) (some m) a b n = same-long l m (λ q. n (sym (counted _ _ a) ∙ q ∙ counted _ _ b))
+
+  pub counts-differ : (j ≡ k → ⊥) → sameIds o o2 ≡ false
+  counts-differ n = counts-by o o2 (sym e ∙ h) (sym e2 ∙ h2) n
+
+none-count : (k : ℕ) → Bad ≡ Count k → ⊥
+none-count k e = never k (sym e)
+
+front : (l s : List ℕ) (k : ℕ) → Count (length l) ≡ Count k → take k (written (some l) s) ≡ l
+front l s k e = take-at l (drop (length l) s) k (counted _ _ e)
+
+front-same : (p p2 : Option (List ℕ)) (s s2 : List ℕ) (k : ℕ) → answerOf p ≡ Count k → answerOf p2 ≡ Count k
+    → same (take k (written p s)) (take k (written p2 s2)) ≡ sameIds p p2
+front-same none p2 s s2 k a b = absurd (none-count k a)
+front-same (some l) none s s2 k a b = absurd (none-count k b)
+front-same (some l) (some m) s s2 k a b = rw (front l s k a, front m s2 k b)
+
+-- the answer of the comparison of two arrays' first k
+pub compared : (o o2 : Option (List ℕ)) (r r2 : Ids) (j k : ℕ) (s s2 a b : List ℕ)
+    → r ≡ answerOf o → r ≡ Count j → r2 ≡ answerOf o2 → r2 ≡ Count k → j ≡ k → a ≡ written o s → b ≡ written o2 s2
+    → same (take j a) (take j b) ≡ sameIds o o2
+compared o o2 r r2 j k s s2 a b e h e2 h2 q wa wb =
+    rw (wa, wb) (front-same o o2 s s2 j (sym e ∙ h) (sym e2 ∙ h2 ∙ ap Count (sym q)))
+
+short-count : (o : Option (List ℕ)) (k : ℕ) → answerOf o ≡ Count k → Short o → k ≤ 16
+short-count none k e h = absurd (none-count k e)
+short-count (some l) k e h = omega (arith, counted (length l) k e)
+
+pub count-short : (o : Option (List ℕ)) (r : Ids) (k : ℕ) → r ≡ answerOf o → r ≡ Count k → Short o → k ≤ 16
+count-short o r k e h s = short-count o k (sym e ∙ h) s
+
+-- ---- two formats, by their codes x and y; w is whether their ids are the same
+
+abbrev judged : ℕ → ℕ → Bool → Bool
+judged x y w = not (eqb x 0) && eqb x y && (not (union x) || w)
+
+pub no-format : (x y : ℕ) (w : Bool) (a : ℕ) → a ≡ x → a ≡ 0 → judged x y w ≡ false
+no-format x y w a e h = rw (eq-eqb x 0 (sym e ∙ h))
+
+pub other-format : (x y : ℕ) (w : Bool) (a b : ℕ) → a ≡ x → b ≡ y → (a ≡ b → ⊥) → judged x y w ≡ false
+other-format x y w a b e e2 n = rw (ne-eqb x y (λ q. n (e ∙ q ∙ sym e2)), and-false)
+
+module _ (x y : ℕ) (w : Bool) (a b : ℕ) (e : a ≡ x) (e2 : b ≡ y) (n : a ≡ 0 → ⊥) (q : a ≡ b) (u : Bool) (eu : u ≡ union a) where
+  x-not : eqb x 0 ≡ false
+  x-not = ne-eqb x 0 (λ h. n (e ∙ h))
+
+  x-same : eqb x y ≡ true
+  x-same = eq-eqb x y (sym e ∙ q ∙ e2)
+
+  pub no-ids : u ≡ false → judged x y w ≡ true
+  no-ids h = let ux : union x ≡ false = ap union (sym e) ∙ sym eu ∙ h in rw (x-not, x-same, ux)
+
+  pub by-ids : u ≡ true → judged x y w ≡ w
+  by-ids h = let ux : union x ≡ true = ap union (sym e) ∙ sym eu ∙ h in rw (x-not, x-same, ux)

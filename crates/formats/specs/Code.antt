@@ -1,0 +1,103 @@
+-- The formats of the Arrow C Data Interface that 01 admits ("Column types and ceilings"), each with a code, and what a code means.
+-- A text is a list of bytes. Assumes nothing.
+use mathlib.Core.Bool.{Bool, true, false, cond, _&&_}
+use mathlib.Core.List.{List, [], _∷_}
+use Prim.Native.Nat.{ℕ, _+_}
+use lib.ListN.{length, take, drop, getD}
+use lib.Dec.{leb, eqb}
+
+-- the same text
+abbrev pub same : List ℕ → List ℕ → Bool
+same [] [] = true
+same [] (y ∷ ys) = false
+same (x ∷ xs) [] = false
+same (x ∷ xs) (y ∷ ys) = same xs ys && eqb x y
+
+-- a rule of the table: the format is this text, or it begins with this text; and the format's code
+pub data Rule : Type 0 where
+  is : List ℕ → ℕ → Rule
+  begins : List ℕ → ℕ → Rule
+
+abbrev pub table : List Rule
+table =
+    is (99 ∷ []) 1  -- c
+    ∷ is (67 ∷ []) 2  -- C
+    ∷ is (115 ∷ []) 3  -- s
+    ∷ is (83 ∷ []) 4  -- S
+    ∷ is (105 ∷ []) 5  -- i
+    ∷ is (73 ∷ []) 6  -- I
+    ∷ is (108 ∷ []) 7  -- l
+    ∷ is (76 ∷ []) 8  -- L
+    ∷ is (102 ∷ []) 9  -- f
+    ∷ is (103 ∷ []) 10  -- g
+    ∷ is (122 ∷ []) 11  -- z
+    ∷ is (117 ∷ []) 12  -- u
+    ∷ is (90 ∷ []) 13  -- Z
+    ∷ is (85 ∷ []) 14  -- U
+    ∷ is (118 ∷ 122 ∷ []) 15  -- vz
+    ∷ is (118 ∷ 117 ∷ []) 16  -- vu
+    ∷ is (43 ∷ 118 ∷ 108 ∷ []) 17  -- +vl
+    ∷ is (43 ∷ 118 ∷ 76 ∷ []) 18  -- +vL
+    ∷ begins (43 ∷ 117 ∷ 115 ∷ 58 ∷ []) 19  -- +us:
+    ∷ begins (43 ∷ 117 ∷ 100 ∷ 58 ∷ []) 20  -- +ud:
+    ∷ is (43 ∷ 114 ∷ []) 21  -- +r
+    ∷ []
+
+-- the code of the first rule that the text t meets; 0 where there is none
+abbrev pub look : List Rule → List ℕ → ℕ
+look [] t = 0
+look (is s c ∷ rules) t = cond (same t s) c (look rules t)
+look (begins s c ∷ rules) t = cond (same (take (length s) t) s) c (look rules t)
+
+-- the code of a format; 0 where 01 does not admit it
+unfoldable pub codeOf : List ℕ → ℕ
+codeOf t = look table t
+
+-- the range at .. at + len lies inside n bytes
+abbrev pub inside : ℕ → ℕ → ℕ → Bool
+inside n at len = leb (at + len) n
+
+-- the code of the format that stands in s at `at`, len bytes long; 0 where it does not lie inside
+abbrev pub codeAt : List ℕ → ℕ → ℕ → ℕ
+codeAt s at len = cond (inside (length s) at len) (codeOf (take len (drop at s))) 0
+
+-- ---- what a code means
+
+abbrev pub between : ℕ → ℕ → ℕ → Bool
+between low high code = leb low code && leb code high
+
+-- c C s S i I l L
+abbrev pub integer : ℕ → Bool
+integer code = between 1 8 code
+
+-- c C s S i I l L f g
+abbrev pub fixed : ℕ → Bool
+fixed code = between 1 10 code
+
+-- z u Z U
+abbrev pub string : ℕ → Bool
+string code = between 11 14 code
+
+-- vz vu
+abbrev pub view : ℕ → Bool
+view code = between 15 16 code
+
+-- +vl +vL
+abbrev pub listView : ℕ → Bool
+listView code = between 17 18 code
+
+-- +us: +ud:
+abbrev pub union : ℕ → Bool
+union code = between 19 20 code
+
+-- +r
+abbrev pub runEnd : ℕ → Bool
+runEnd code = between 21 21 code
+
+-- bytes of one number (c C s S i I l L f g), or of one offset (z u Z U, +vl +vL), by code from 0 on
+abbrev pub widths : List ℕ
+widths = 0 ∷ 1 ∷ 1 ∷ 2 ∷ 2 ∷ 4 ∷ 4 ∷ 8 ∷ 8 ∷ 4 ∷ 8 ∷ 4 ∷ 4 ∷ 8 ∷ 8 ∷ 0 ∷ 0 ∷ 4 ∷ 8 ∷ 0 ∷ 0 ∷ 0 ∷ []
+
+-- the bytes of one number or offset of a code; 0 where it has neither
+abbrev pub widthOf : ℕ → ℕ
+widthOf code = getD widths code 0
