@@ -1,0 +1,2 @@
+-- The laws of `array_data`.
+pub mod Typed

@@ -1,0 +1,3 @@
+-- The laws of `row_rules`.
+pub mod Laws
+pub mod Links

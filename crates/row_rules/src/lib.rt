@@ -1,0 +1,178 @@
+// The rules that hold of every row of a source: offsets, list-views and run ends, each in one pass over the rows.
+// Each function answers whether n rows obey, whatever they hold. `at` is a byte's place, with the array's offset already in it.
+ghost use mathlib.Core.Path.{_≡_};
+ghost use Prim.Native.Nat.{_+_, _*_, _≤_};
+ghost use lib.ListN.{length};
+ghost use Rattle.row_rules.specs.Rules.{offsetsRows, viewRow, listViewRows, endsRows};
+
+// Whether the n + 1 offsets from `at` on never fall, none being negative. Read without a sign, offsets that never fall have no negative
+// one where the last is not.
+pub fn offsets_i32(body: &[u8], at: usize, n: usize) -> bool
+    requires { ⌜ at + 4 * (n + 1) ≤ length (now body) ⌝ }
+    ensures { λ r. ⌜ r ≡ offsetsRows 4 (now (body .entry)) at n ⌝ }
+{
+    let mut last = number::read_u32(body, at);
+    let mut good = true;
+    let mut i = 0;
+    while i < n {
+        let next = number::read_u32(body, at + 4 * (i + 1));
+        if next < last {
+            good = false;
+        }
+        last = next;
+        i += 1;
+    }
+    if 2147483647 < last {
+        return false;
+    }
+    good
+}
+
+// Whether the n + 1 offsets from `at` on never fall, none being negative. Read without a sign, offsets that never fall have no negative
+// one where the last is not.
+pub fn offsets_i64(body: &[u8], at: usize, n: usize) -> bool
+    requires { ⌜ at + 8 * (n + 1) ≤ length (now body) ⌝ }
+    ensures { λ r. ⌜ r ≡ offsetsRows 8 (now (body .entry)) at n ⌝ }
+{
+    let mut last = number::read_u64(body, at);
+    let mut good = true;
+    let mut i = 0;
+    while i < n {
+        let next = number::read_u64(body, at + 8 * (i + 1));
+        if next < last {
+            good = false;
+        }
+        last = next;
+        i += 1;
+    }
+    if 9223372036854775807 < last {
+        return false;
+    }
+    good
+}
+
+// Whether offset and size are not negative and the rows that they name lie in a child of `child` rows.
+fn view_row_i32(o: u32, z: u32, child: u64) -> bool
+    ensures { λ r. ⌜ r ≡ viewRow 4 child o z ⌝ }
+{
+    if 2147483647 < o {
+        return false;
+    }
+    if 2147483647 < z {
+        return false;
+    }
+    (o as u64) + (z as u64) <= child
+}
+
+// Whether n list-view rows obey, with offsets from `at` on and sizes from `too` on, over a child of `child` rows.
+pub fn list_views_i32(body: &[u8], at: usize, too: usize, n: usize, child: u64) -> bool
+    requires { ⌜ (at + 4 * n ≤ length (now body)) × (too + 4 * n ≤ length (now body)) ⌝ }
+    ensures { λ r. ⌜ r ≡ listViewRows 4 (now (body .entry)) at too child n ⌝ }
+{
+    let mut i = 0;
+    while i < n {
+        let o = number::read_u32(body, at + 4 * i);
+        let z = number::read_u32(body, too + 4 * i);
+        if !view_row_i32(o, z, child) {
+            return false;
+        }
+        i += 1;
+    }
+    true
+}
+
+// Whether offset and size are not negative and the rows that they name lie in a child of `child` rows.
+fn view_row_i64(o: u64, z: u64, child: u64) -> bool
+    ensures { λ r. ⌜ r ≡ viewRow 8 child o z ⌝ }
+{
+    if 9223372036854775807 < o {
+        return false;
+    }
+    if 9223372036854775807 < z {
+        return false;
+    }
+    o + z <= child
+}
+
+// Whether n list-view rows obey, with offsets from `at` on and sizes from `too` on, over a child of `child` rows.
+pub fn list_views_i64(body: &[u8], at: usize, too: usize, n: usize, child: u64) -> bool
+    requires { ⌜ (at + 8 * n ≤ length (now body)) × (too + 8 * n ≤ length (now body)) ⌝ }
+    ensures { λ r. ⌜ r ≡ listViewRows 8 (now (body .entry)) at too child n ⌝ }
+{
+    let mut i = 0;
+    while i < n {
+        let o = number::read_u64(body, at + 8 * i);
+        let z = number::read_u64(body, too + 8 * i);
+        if !view_row_i64(o, z, child) {
+            return false;
+        }
+        i += 1;
+    }
+    true
+}
+
+// Whether the n run ends from `at` on rise strictly from at least 1, none being negative: as with offsets, where the last is not.
+pub fn run_ends_i16(body: &[u8], at: usize, n: usize) -> bool
+    requires { ⌜ at + 2 * n ≤ length (now body) ⌝ }
+    ensures { λ r. ⌜ r ≡ endsRows 2 (now (body .entry)) at n ⌝ }
+{
+    let mut before: u16 = 0;
+    let mut good = true;
+    let mut k = 0;
+    while k < n {
+        let end = number::read_u16(body, at + 2 * k);
+        if end <= before {
+            good = false;
+        }
+        before = end;
+        k += 1;
+    }
+    if 32767 < before {
+        return false;
+    }
+    good
+}
+
+// Whether the n run ends from `at` on rise strictly from at least 1, none being negative: as with offsets, where the last is not.
+pub fn run_ends_i32(body: &[u8], at: usize, n: usize) -> bool
+    requires { ⌜ at + 4 * n ≤ length (now body) ⌝ }
+    ensures { λ r. ⌜ r ≡ endsRows 4 (now (body .entry)) at n ⌝ }
+{
+    let mut before: u32 = 0;
+    let mut good = true;
+    let mut k = 0;
+    while k < n {
+        let end = number::read_u32(body, at + 4 * k);
+        if end <= before {
+            good = false;
+        }
+        before = end;
+        k += 1;
+    }
+    if 2147483647 < before {
+        return false;
+    }
+    good
+}
+
+// Whether the n run ends from `at` on rise strictly from at least 1, none being negative: as with offsets, where the last is not.
+pub fn run_ends_i64(body: &[u8], at: usize, n: usize) -> bool
+    requires { ⌜ at + 8 * n ≤ length (now body) ⌝ }
+    ensures { λ r. ⌜ r ≡ endsRows 8 (now (body .entry)) at n ⌝ }
+{
+    let mut before: u64 = 0;
+    let mut good = true;
+    let mut k = 0;
+    while k < n {
+        let end = number::read_u64(body, at + 8 * k);
+        if end <= before {
+            good = false;
+        }
+        before = end;
+        k += 1;
+    }
+    if 9223372036854775807 < before {
+        return false;
+    }
+    good
+}
