@@ -123,5 +123,5 @@ module _ (x y : ℕ) (w : Bool) (a b : ℕ) (e : a ≡ x) (e2 : b ≡ y) (n : a 
   pub no-ids : u ≡ false → judged x y w ≡ true
   no-ids h = let ux : isUnion x ≡ false = ap isUnion (sym e) ∙ sym eu ∙ h in rw (x-not, x-same, ux)
 
-  pub by-ids : u ≡ true → judged x y w ≡ w
-  by-ids h = let ux : isUnion x ≡ true = ap isUnion (sym e) ∙ sym eu ∙ h in rw (x-not, x-same, ux)
+  pub by-ids : u ≡ true → (r : Bool) → r ≡ w → r ≡ judged x y w
+  by-ids h r q = let ux : isUnion x ≡ true = ap isUnion (sym e) ∙ sym eu ∙ h in rw (x-not, x-same, ux) q
