@@ -2,3 +2,4 @@
 pub mod Laws
 pub mod Read
 pub mod Same
+pub mod Examples

@@ -1,5 +1,5 @@
 -- Comparing two formats. Assumes nothing.
-use mathlib.Core.Path.{_≡_, refl, ap, sym, _∙_}
+use mathlib.Core.Path.{_≡_, refl, ap, sym, subst, _∙_}
 use mathlib.Core.Bool.{Bool, true, false, not, cond, _&&_, _||_, and-false}
 use mathlib.Core.List.{List, [], _∷_, map}
 use mathlib.Core.Option.{Option, none, some}
@@ -15,34 +15,52 @@ use Rattle.format_ids.specs.declared.Ids.{Ids}
 use Rattle.format_ids.specs.declared.Ids.the-variants.{Count, Bad}
 use Rattle.format_ids.proofs.Laws.{both}
 
--- ---- a union has at most sixteen ids
+-- ---- the ids of a format
 
-abbrev pub Short : Option (List ℕ) → Type 0
-Short (some l) = length l ≤ 16
-Short none = Unit {0}
+-- 01: "at most 16 union fields with distinct ids 0 to 127"
+pub record Allowed (ids : List ℕ) : Type 0 where
+  pub below : small ids ≡ true
+  pub apart : distinct ids ≡ true
+  pub few : length ids ≤ 16
 
-short-if : (x : Bool) (l : List ℕ) → (x ≡ true → length l ≤ 16) → Short (cond x (some l) none)
-short-if true l h = h refl
-short-if false l h = tt
+abbrev pub Fine : Option (List ℕ) → Type 0
+Fine (some ids) = Allowed ids
+Fine none = Unit {0}
 
-short-cond : (x : Bool) (o : Option (List ℕ)) → Short o → Short (cond x o none)
-short-cond true o h = h
-short-cond false o h = tt
+fine-if : (x : Bool) (l : List ℕ) → (x ≡ true → Allowed l) → Fine (cond x (some l) none)
+fine-if true l h = h refl
+fine-if false l h = tt
 
-short-allowed : (l : List ℕ) → Short (allowed l)
+fine-cond : (x : Bool) (o : Option (List ℕ)) → Fine o → Fine (cond x o none)
+fine-cond true o h = h
+fine-cond false o h = tt
+
+fine-allowed : (l : List ℕ) → Fine (allowed l)
 unfolding allowed
-short-allowed l = short-if _ l (λ e. leb-true (length l) 16 (both (small l && distinct l) (leb (length l) 16) e .1))
+fine-allowed l =
+    fine-if _ l
+    (λ e.
+    let p = both (small l && distinct l) (leb (length l) 16) e in
+    let q = both (small l) (distinct l) (p .0) in
+    record { below = q .0; apart = q .1; few = leb-true (length l) 16 (p .1) })
 
-short-list : (t : List ℕ) → Short (idList t)
-short-list [] = omega arith
-short-list (b ∷ s) = short-allowed (map idOf (pieces (b ∷ s)))
+fine-list : (t : List ℕ) → Fine (idList t)
+unfolding small distinct
+fine-list [] = record { below = refl; apart = refl; few = omega arith }
+fine-list (b ∷ s) = fine-allowed (map idOf (pieces (b ∷ s)))
 
-pub short : (s : List ℕ) (at len : ℕ) → Short (idsAt s at len)
-short s at len = short-cond (leb (at + len) (length s)) _ (short-cond (isUnion (codeOf (take len (drop at s)))) _ (short-list (drop 4 (take len (drop at s)))))
+pub fine : (s : List ℕ) (at len : ℕ) → Fine (idsAt s at len)
+fine s at len =
+    fine-cond (leb (at + len) (length s)) _
+    (fine-cond (isUnion (codeOf (take len (drop at s)))) _ (fine-list (drop 4 (take len (drop at s)))))
 
-pub written-length : (o : Option (List ℕ)) (s : List ℕ) → Short o → length s ≡ 16 → length (written o s) ≡ 16
+-- what a caller learns of the ids of a format
+pub ids-allowed : (s : List ℕ) (at len : ℕ) (l : List ℕ) → idsAt s at len ≡ some l → Allowed l
+ids-allowed s at len l e = subst Fine e (fine s at len)
+
+pub written-length : (o : Option (List ℕ)) (s : List ℕ) → Fine o → length s ≡ 16 → length (written o s) ≡ 16
 written-length none s h e = e
-written-length (some l) s h e = simp (length-append, length-drop) (omega arith)
+written-length (some l) s h e = simp (length-append, length-drop) (omega (arith, h .few))
 
 -- ---- two lists of ids
 
@@ -95,12 +113,12 @@ pub compared : (o o2 : Option (List ℕ)) (r r2 : Ids) (j k : ℕ) (s s2 a b : L
 compared o o2 r r2 j k s s2 a b e h e2 h2 q wa wb =
     rw (wa, wb) (front-same o o2 s s2 j (sym e ∙ h) (sym e2 ∙ h2 ∙ ap Count (sym q)))
 
-short-count : (o : Option (List ℕ)) (k : ℕ) → answerOf o ≡ Count k → Short o → k ≤ 16
-short-count none k e h = absurd (none-count k e)
-short-count (some l) k e h = omega (arith, counted (length l) k e)
+fine-count : (o : Option (List ℕ)) (k : ℕ) → answerOf o ≡ Count k → Fine o → k ≤ 16
+fine-count none k e h = absurd (none-count k e)
+fine-count (some l) k e h = omega (arith, h .few, counted (length l) k e)
 
-pub count-short : (o : Option (List ℕ)) (r : Ids) (k : ℕ) → r ≡ answerOf o → r ≡ Count k → Short o → k ≤ 16
-count-short o r k e h s = short-count o k (sym e ∙ h) s
+pub count-fine : (o : Option (List ℕ)) (r : Ids) (k : ℕ) → r ≡ answerOf o → r ≡ Count k → Fine o → k ≤ 16
+count-fine o r k e h s = fine-count o k (sym e ∙ h) s
 
 -- ---- two formats, by their codes x and y; w is whether their ids are the same
 
@@ -123,5 +141,5 @@ module _ (x y : ℕ) (w : Bool) (a b : ℕ) (e : a ≡ x) (e2 : b ≡ y) (n : a 
   pub no-ids : u ≡ false → judged x y w ≡ true
   no-ids h = let ux : isUnion x ≡ false = ap isUnion (sym e) ∙ sym eu ∙ h in rw (x-not, x-same, ux)
 
-  pub by-ids : u ≡ true → judged x y w ≡ w
-  by-ids h = let ux : isUnion x ≡ true = ap isUnion (sym e) ∙ sym eu ∙ h in rw (x-not, x-same, ux)
+  pub by-ids : u ≡ true → (r : Bool) → r ≡ w → r ≡ judged x y w
+  by-ids h r q = let ux : isUnion x ≡ true = ap isUnion (sym e) ∙ sym eu ∙ h in rw (x-not, x-same, ux) q

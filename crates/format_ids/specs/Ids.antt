@@ -31,7 +31,7 @@ unfoldable pub digits : List ℕ → Bool
 digits [] = true
 digits (b ∷ s) = between 48 57 b && digits s
 
--- the number that decimal digits write after the number n
+-- the number whose decimal digits are those of n and then these
 unfoldable pub decimal : ℕ → List ℕ → ℕ
 decimal n [] = n
 decimal n (b ∷ s) = decimal (10 * n + (b - 48)) s
@@ -61,7 +61,7 @@ small (x ∷ xs) = leb x 127 && small xs
 unfoldable pub allowed : List ℕ → Option (List ℕ)
 allowed ids = cond (small ids && distinct ids && leb (length ids) 16) (some ids) none
 
--- the ids that a text lists; no text lists none
+-- the ids that a text lists; an empty text lists no id
 abbrev pub idList : List ℕ → Option (List ℕ)
 idList [] = some []
 idList (b ∷ s) = allowed (map idOf (pieces (b ∷ s)))
@@ -76,7 +76,7 @@ idsAt s at len = cond (inside (length s) at len) (idsOf (take len (drop at s))) 
 
 -- ---- how they are answered
 
--- how many there are, or that there are none to have
+-- how many there are; Bad where a union may not have them
 abbrev pub answerOf : Option (List ℕ) → Ids
 answerOf (some ids) = Count (length ids)
 answerOf none = Bad

@@ -1,2 +1,3 @@
 -- The laws that the proofs of `formats` cite.
 pub mod Laws
+pub mod Types

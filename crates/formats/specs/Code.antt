@@ -18,6 +18,7 @@ pub data Rule : Type 0 where
   is : List ℕ → ℕ → Rule
   begins : List ℕ → ℕ → Rule
 
+-- the formats of 01, with their letters
 abbrev pub table : List Rule
 table =
     is (99 ∷ []) 1  -- c
@@ -63,8 +64,9 @@ codeAt s at len = cond (inside (length s) at len) (codeOf (take len (drop at s))
 
 -- ---- what a code means
 
+-- x is one of the numbers from low to high
 abbrev pub between : ℕ → ℕ → ℕ → Bool
-between low high code = leb low code && leb code high
+between low high x = leb low x && leb x high
 
 -- c C s S i I l L
 abbrev pub isInteger : ℕ → Bool

@@ -1,5 +1,5 @@
 -- `format_ids::same_format` meets its contract. Assumes nothing.
-use mathlib.Core.Path.{sym, _∙_}
+use mathlib.Core.Path.{sym}
 use borrow.Author.Tests.{not-true, not-false}
 use Rattle.formats.specs.Code.{codeAt}
 use Rattle.format_ids.specs.Ids.{idsAt, sameIds}
@@ -50,7 +50,7 @@ returns-4 c =
     let x = codeAt (z .formats .now) (z .at) (z .len) in
     let y = codeAt (z .formats .now) (z .at2) (z .len2) in
     let w = sameIds (idsAt (z .formats .now) (z .at) (z .len)) (idsAt (z .formats .now) (z .at2) (z .len2)) in
-    c .same-ids .ensures ∙ sym (by-ids x y w _ _ (c .before .before .before .before .before .before .format-code .ensures) (c .before .before .before .before .format-code2 .ensures) (c .before .before .before .before .before .if1 .left) (c .before .before .before .if2 .left) _ (c .before .before .is-union .ensures) (not-false _ (c .before .if3 .left)))
+    by-ids x y w _ _ (c .before .before .before .before .before .before .format-code .ensures) (c .before .before .before .before .format-code2 .ensures) (c .before .before .before .before .before .if1 .left) (c .before .before .before .if2 .left) _ (c .before .before .is-union .ensures) (not-false _ (c .before .if3 .left)) _ (c .same-ids .ensures)
 
 pub same-format-spec : {M : Type 1} → statement M
 same-format-spec =

@@ -3,7 +3,7 @@ use mathlib.Core.Path.{ap, refl, sym, _∙_}
 use native.Mathlib.Omega.{arith}
 use lib.ListN.{length, replicate}
 use Rattle.format_ids.specs.Ids.{idsAt}
-use Rattle.format_ids.proofs.Same.{short, written-length, bad-first, bad-second, counts-differ, compared, count-short}
+use Rattle.format_ids.proofs.Same.{fine, written-length, bad-first, bad-second, counts-differ, compared, count-fine}
 use borrow.Author.Needs.{needs}
 use Rattle.format_ids.proofs.same_ids.Statement.{statement}
 use Rattle.format_ids.proofs.same_ids.Tie as tie
@@ -52,14 +52,14 @@ slice-aggregate-same-first c =
     let z = c .before .before .before .before .before .before .before .before .before .before .before .before .before .args in
     let o = idsAt (z .formats .now) (z .at) (z .len) in
     let o2 = idsAt (z .formats .now) (z .at2) (z .len2) in
-    sym (ap length (c .before .before .before .before .before .before .before .before .before .before .union-ids .ensures .1) ∙ written-length o (replicate 16 0) (short (z .formats .now) (z .at) (z .len)) refl)
+    sym (ap length (c .before .before .before .before .before .before .before .before .before .before .union-ids .ensures .1) ∙ written-length o (replicate 16 0) (fine (z .formats .now) (z .at) (z .len)) refl)
 
 slice-aggregate-same-first-2 : tie.Need-slice-aggregate-same-first-2
 slice-aggregate-same-first-2 c =
     let z = c .before .before .before .before .before .before .before .before .before .before .before .before .before .before .args in
     let o = idsAt (z .formats .now) (z .at) (z .len) in
     let o2 = idsAt (z .formats .now) (z .at2) (z .len2) in
-    sym (ap length (c .before .before .before .before .before .before .union-ids2 .ensures .1) ∙ written-length o2 (replicate 16 0) (short (z .formats .now) (z .at2) (z .len2)) refl)
+    sym (ap length (c .before .before .before .before .before .before .union-ids2 .ensures .1) ∙ written-length o2 (replicate 16 0) (fine (z .formats .now) (z .at2) (z .len2)) refl)
 
 cast-same-first : tie.Need-cast-same-first
 cast-same-first c = search needs
@@ -69,8 +69,8 @@ same-first-requires c κs =
     let z = c .before .before .before .before .before .before .before .before .before .before .before .before .before .before .args in
     let o = idsAt (z .formats .now) (z .at) (z .len) in
     let o2 = idsAt (z .formats .now) (z .at2) (z .len2) in
-    let k-short = count-short o _ _ (c .before .before .before .before .before .before .before .before .before .before .before .union-ids .ensures .0) (c .before .before .before .before .before .before .before .before .before .k .given .1) (short (z .formats .now) (z .at) (z .len)) in
-    (omega (arith, k-short, ap length (c .before .before .before .before .before .before .before .before .before .before .before .union-ids .ensures .1) ∙ written-length o (replicate 16 0) (short (z .formats .now) (z .at) (z .len)) refl), omega (arith, k-short, ap length (c .before .before .before .before .before .before .union-ids2 .ensures .1) ∙ written-length o2 (replicate 16 0) (short (z .formats .now) (z .at2) (z .len2)) refl))
+    let k-few = count-fine o _ _ (c .before .before .before .before .before .before .before .before .before .before .before .union-ids .ensures .0) (c .before .before .before .before .before .before .before .before .before .k .given .1) (fine (z .formats .now) (z .at) (z .len)) in
+    (omega (arith, k-few, ap length (c .before .before .before .before .before .before .before .before .before .before .before .union-ids .ensures .1) ∙ written-length o (replicate 16 0) (fine (z .formats .now) (z .at) (z .len)) refl), omega (arith, k-few, ap length (c .before .before .before .before .before .before .union-ids2 .ensures .1) ∙ written-length o2 (replicate 16 0) (fine (z .formats .now) (z .at2) (z .len2)) refl))
 
 returns-4 : tie.Need-returns-4
 returns-4 c =
