@@ -1,9 +1,9 @@
 -- What the loops over rows go by, over the width. Assumes nothing.
-use mathlib.Core.Path.{_≡_, refl, sym, ap, _∙_}
+use mathlib.Core.Path.{_≡_, refl, sym, _∙_}
 use mathlib.Core.Logic.{⊎-elim}
 use mathlib.Core.Bool.{Bool, true, false, _&&_}
 use mathlib.Core.List.{List}
-use Prim.Native.Nat.{ℕ, zero, suc, _+_, _*_, _≤_, _<_}
+use Prim.Native.Nat.{ℕ, zero, suc, _+_, _≤_, _<_}
 use native.Mathlib.Nat.{add-zero, mul-zero, eq-or-lt-of-le}
 use native.Mathlib.Numerals.{add-one}
 use native.Mathlib.Omega.{arith}
@@ -62,14 +62,14 @@ module _ (t : ℕ → ℕ → Bool) (f : ℕ → ℕ) (n : ℕ) where
     pub step-good : t last next ≡ true → new ≡ good → Steps (i + 1) next new
     step-good p q = record {
       within = omega arith;
-      here = rw (add-one) e;
+      here = rw add-one e;
       so-far = row-good (λ k. t (f k) (f (suc k))) i (h .so-far) (rw (← h .here, ← e) p) q;
     }
 
     pub step-bad : t last next ≡ false → new ≡ false → Steps (i + 1) next new
     step-bad p q = record {
       within = omega arith;
-      here = rw (add-one) e;
+      here = rw add-one e;
       so-far = row-bad (λ k. t (f k) (f (suc k))) i (rw (← h .here, ← e) p) q;
     }
 

@@ -1,5 +1,5 @@
 -- The rows of a body are what the model's test of a source asks of its buffers, where each buffer is a part of the body. Assumes nothing.
-use mathlib.Core.Path.{_≡_, refl, sym, ap, ap₂, _∙_}
+use mathlib.Core.Path.{_≡_, refl, ap, ap₂, _∙_}
 use mathlib.Core.Bool.{Bool, true, false, _&&_}
 use mathlib.Core.List.{List, [], _∷_}
 use Prim.Native.Nat.{ℕ, zero, suc, _+_, _*_, _≤_, _<_}
@@ -39,7 +39,7 @@ behind-three true true false a b f = refl
 behind-three true false o a b f = refl
 behind-three false m o a b f = refl
 
-every-same : {p q : ℕ → Bool} (n : ℕ) → ((i : ℕ) → i < n → p i ≡ q i) → every p n ≡ every q n
+pub every-same : {p q : ℕ → Bool} (n : ℕ) → ((i : ℕ) → i < n → p i ≡ q i) → every p n ≡ every q n
 every-same zero f = refl
 every-same (suc n) f = ap₂ (λ a b. a && b) (every-same n (λ i h. f i (omega arith))) (f n (omega arith))
 
@@ -63,11 +63,11 @@ module _ (w : ℕ) (s : List ℕ) (start size : ℕ) where
   pub length-part : start + size ≤ length s → length (take size (drop start s)) ≡ size
   length-part h = simp (length-take, length-drop) (omega arith)
 
--- what the test of a byte string asks of its offsets
-abbrev positive : ℕ → List ℕ → ℕ → ℕ → Bool
+-- what the test of a byte string asks of its offsets: none is negative, and none is below the one before
+abbrev pub positive : ℕ → List ℕ → ℕ → ℕ → Bool
 positive w t off n = every (λ i. ltb (item w t (off + i)) (half w)) (suc n)
 
-abbrev rising : ℕ → List ℕ → ℕ → ℕ → Bool
+abbrev pub rising : ℕ → List ℕ → ℕ → ℕ → Bool
 rising w t off n = every (λ i. leb (item w t (off + i)) (item w t (off + i + 1))) n
 
 module _ (w : ℕ) (s : List ℕ) (start size : ℕ) (inside : start + size ≤ length s) where
@@ -76,7 +76,7 @@ module _ (w : ℕ) (s : List ℕ) (start size : ℕ) (inside : start + size ≤ 
   offset-entry : (off n : ℕ) → (off + n + 1) * w ≤ size → (i : ℕ) → i < suc n → item w (take size (drop start s)) (off + i) ≡ entry w s (start + w * off) i
   offset-entry off n h = item-entry w s start size off (suc n) (rw (add-one, ← add-suc) at h)
 
-  offsets-rows : (off n : ℕ) → (off + n + 1) * w ≤ size
+  pub offsets-rows : (off n : ℕ) → (off + n + 1) * w ≤ size
       → positive w (take size (drop start s)) off n && rising w (take size (drop start s)) off n ≡ offsetsRows w s (start + w * off) n
   unfolding never-falls
   offsets-rows off n h =
@@ -104,7 +104,7 @@ module _ (w : ℕ) (s : List ℕ) (start size : ℕ) (inside : start + size ≤ 
     start-entry zero l = refl
     start-entry (suc k) l = end-entry k (omega arith)
 
-    ends-rows : every (λ k. ltb (endOf w x k) (half w)) (x .len) && every (λ k. ltb (startOf (endOf w x) k) (endOf w x k)) (x .len)
+    pub ends-rows : every (λ k. ltb (endOf w x k) (half w)) (x .len) && every (λ k. ltb (startOf (endOf w x) k) (endOf w x k)) (x .len)
         ≡ endsRows w s (start + w * x .off) (x .len)
     unfolding rises
     ends-rows =
@@ -137,7 +137,7 @@ module _ (w : ℕ) (s : List ℕ) (start size : ℕ) (inside : start + size ≤ 
 
 module _ (w : ℕ) (s : List ℕ) (start size begin room : ℕ) {P : Type 0} (b : ListView P)
     (e : b .offsets ≡ take size (drop start s)) (d : b .sizes ≡ take room (drop begin s)) where
-  list-view-rows : (off n : ℕ) → (off + n) * w ≤ size → (off + n) * w ≤ room
+  pub list-view-rows : (off n : ℕ) → (off + n) * w ≤ size → (off + n) * w ≤ room
       → every (λ i. entryTest w b (off + i)) n ≡ listViewRows w s (start + w * off) (begin + w * off) (b .child .len) n
   unfolding viewRow
   list-view-rows off n h g =

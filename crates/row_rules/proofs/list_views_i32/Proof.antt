@@ -1,5 +1,5 @@
 -- `row_rules::list_views_i32` meets its contract: all rows before i obey. Assumes nothing.
-use mathlib.Core.Path.{_≡_, refl, sym, _∙_}
+use mathlib.Core.Path.{_≡_, refl, sym, ap₂, _∙_}
 use mathlib.Core.Bool.{Bool, true}
 use Prim.Native.Nat.{ℕ, _-_, _≤_}
 use native.Mathlib.Omega.{arith}
@@ -46,7 +46,9 @@ returns c =
     let a = c .before .before .before .before .before .before .before .args in
     let l = c .before .before .before .before .before .loop in
     let p : ℕ → Bool = λ i. viewRow 4 (a .child) (entry 4 (a .body .now) (a .at) i) (entry 4 (a .body .now) (a .too) i) in
-    let r : c .before .view-row-i32 .result ≡ p (l .i) = cc in
+    let r : c .before .view-row-i32 .result ≡ p (l .i)
+    = c .before .view-row-i32 .ensures
+    ∙ ap₂ (viewRow 4 (a .child)) (c .before .before .before .read-u32 .ensures) (c .before .before .read-u322 .ensures) in
     sym (every-false p (a .n) (l .i) (omega arith) (sym r ∙ not-true _ (c .if1 .taken)))
 
 add-i : tie.Need-add-i Inv-loop μ-loop
@@ -60,7 +62,9 @@ loop-again c =
     let a = c .before .before .before .before .before .before .before .args in
     let l = c .before .before .before .before .before .loop in
     let p : ℕ → Bool = λ i. viewRow 4 (a .child) (entry 4 (a .body .now) (a .at) i) (entry 4 (a .body .now) (a .too) i) in
-    let r : c .before .view-row-i32 .result ≡ p (l .i) = cc in
+    let r : c .before .view-row-i32 .result ≡ p (l .i)
+    = c .before .view-row-i32 .ensures
+    ∙ ap₂ (viewRow 4 (a .child)) (c .before .before .before .read-u32 .ensures) (c .before .before .read-u322 .ensures) in
     (omega arith, row-good p (l .i) (l .inv .1) (sym r ∙ not-false _ (c .if1 .left)) refl)
 
 returns-2 : tie.Need-returns-2 Inv-loop μ-loop
