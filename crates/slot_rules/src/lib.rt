@@ -80,7 +80,8 @@ pub fn keys_below_u8(body: &[u8], at: usize, n: usize, bound: u64) -> bool
     let mut good = true;
     let mut i = 0;
     while i < n {
-        if bound <= (number::read_u8(body, at + i) as u64) {
+        let key = number::read_u8(body, at + i) as u64;
+        if bound <= key {
             good = false;
         }
         i += 1;
@@ -120,7 +121,8 @@ pub fn keys_below_u16(body: &[u8], at: usize, n: usize, bound: u64) -> bool
     let mut good = true;
     let mut i = 0;
     while i < n {
-        if bound <= (number::read_u16(body, at + 2 * i) as u64) {
+        let key = number::read_u16(body, at + 2 * i) as u64;
+        if bound <= key {
             good = false;
         }
         i += 1;
@@ -160,7 +162,8 @@ pub fn keys_below_u32(body: &[u8], at: usize, n: usize, bound: u64) -> bool
     let mut good = true;
     let mut i = 0;
     while i < n {
-        if bound <= (number::read_u32(body, at + 4 * i) as u64) {
+        let key = number::read_u32(body, at + 4 * i) as u64;
+        if bound <= key {
             good = false;
         }
         i += 1;
@@ -200,7 +203,8 @@ pub fn keys_below_u64(body: &[u8], at: usize, n: usize, bound: u64) -> bool
     let mut good = true;
     let mut i = 0;
     while i < n {
-        if bound <= number::read_u64(body, at + 8 * i) {
+        let key = number::read_u64(body, at + 8 * i);
+        if bound <= key {
             good = false;
         }
         i += 1;
@@ -308,9 +312,10 @@ pub fn valid_views_good(
 {
     let mut i = 0;
     while i < n {
-        if bits::get_bit(body, from, a + i) == 1 {
-            let v = byte_view::from_bytes(body, at + 16 * i);
-            if !view_good(body, buffers, first, count, v) {
+        let bit = bits::get_bit(body, from, a + i);
+        if bit == 1 {
+            let view = byte_view::from_bytes(body, at + 16 * i);
+            if !view_good(body, buffers, first, count, view) {
                 return false;
             }
         }

@@ -26,8 +26,8 @@ add-read-u32 c = omega arith
 read-u32-requires : tie.Need-read-u32-requires Inv-loop μ-loop
 read-u32-requires c κs = omega arith
 
-cast-if1 : tie.Need-cast-if1 Inv-loop μ-loop
-cast-if1 c = omega arith
+cast-key : tie.Need-cast-key Inv-loop μ-loop
+cast-key c = omega arith
 
 add-i : tie.Need-add-i Inv-loop μ-loop
 add-i c = omega arith
@@ -56,7 +56,7 @@ keys-below-u32-spec =
     mul-read-u32
     add-read-u32
     read-u32-requires
-    cast-if1
+    cast-key
     add-i
     loop-less
     loop-again

@@ -23,8 +23,8 @@ add-read-u8 c = omega arith
 read-u8-requires : tie.Need-read-u8-requires Inv-loop μ-loop
 read-u8-requires c κs = omega arith
 
-cast-if1 : tie.Need-cast-if1 Inv-loop μ-loop
-cast-if1 c = omega arith
+cast-key : tie.Need-cast-key Inv-loop μ-loop
+cast-key c = omega arith
 
 add-i : tie.Need-add-i Inv-loop μ-loop
 add-i c = omega arith
@@ -52,7 +52,7 @@ keys-below-u8-spec =
     loop-holds
     add-read-u8
     read-u8-requires
-    cast-if1
+    cast-key
     add-i
     loop-less
     loop-again
