@@ -1,18 +1,17 @@
 -- The row tests are the row lines of the columnar model's test, for buffers that are parts of the lent body. Assumes nothing.
-use mathlib.Core.Path.{_≡_, refl, sym, ap, ap₂, _∙_, subst}
+use mathlib.Core.Path.{_≡_, refl, sym, ap, ap₂, _∙_}
 use mathlib.Core.Bool.{Bool, true, false, cond, _&&_, _||_}
-use mathlib.Core.Option.{Option, none, some}
+use mathlib.Core.Option.{none, some}
 use mathlib.Core.List.{List, [], _∷_}
-use Prim.Native.Nat.{ℕ, zero, suc, _+_, _*_, _/_, _%_, _^_, _≤_, _<_, min}
+use Prim.Native.Nat.{ℕ, zero, suc, _+_, _*_, _/_, _%_, _≤_, _<_, min}
 use native.Mathlib.Nat.{add-assoc, mul-comm, mul-add}
 use native.Mathlib.Omega.{arith}
-use lib.ListN.{length, take, drop, getD, length-take, length-drop}
+use lib.ListN.{length, take, drop, getD, length-drop}
 use lib.Seq.{getD-take, getD-drop, drop-drop, take-take, length-take-le}
-use lib.Dec.{T, leb, ltb, eqb}
+use lib.Dec.{leb, ltb, eqb}
 use borrow.Author.Tests.{ltb-true, ltb-false, leb-true, lt-ltb, le-ltb, le-leb, eqb-true}
 use Rattle.number.specs.Number.{number, encode, entry}
 use Rattle.number.proofs.Laws.{encode-number}
-use Rattle.bits.specs.Bits.{bits}
 use Rattle.bits.proofs.Laws.{bit-at}
 use Rattle.byte_view.specs.View.{viewAt}
 use Rattle.columnar.specs.Types.{half}
@@ -22,7 +21,7 @@ use Rattle.columnar.specs.Test.{every, member, same, onlyIf, oneViewTest}
 use Rattle.columnar.proofs.Items.{number-take, entry-end}
 use Rattle.columnar.proofs.Test.{Agrees, same-agrees, eqb-agrees}
 use Rattle.slot_rules.specs.Slots.{idsDeclared, fieldOf, positionsWithin, positionGood, validAt, keysBelow, validKeysBelow, liesIn, startAt, bytesAt, viewGood, viewsGood, validViewsGood, listed, parts}
-use Rattle.slot_rules.proofs.Laws.{and-true, field-member}
+use Rattle.slot_rules.proofs.Laws.{field-member}
 
 -- ---- tests of every row
 

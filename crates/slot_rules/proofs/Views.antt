@@ -1,6 +1,6 @@
 -- Laws of the test of one view, and of a run of views. Assumes nothing.
 use mathlib.Core.Path.{_≡_, sym, ap, _∙_}
-use mathlib.Core.Bool.{Bool, true, false, _&&_}
+use mathlib.Core.Bool.{Bool, true, false}
 use mathlib.Core.List.{List}
 use Prim.Native.Nat.{ℕ, _+_, _*_, _≤_, _<_}
 use native.Mathlib.Omega.{arith}
@@ -11,7 +11,7 @@ use Rattle.number.specs.Number.{number}
 use Rattle.bits.specs.Bits.{bits}
 use Rattle.byte_view.specs.declared.ByteView.{ByteView}
 use Rattle.byte_view.specs.View.{viewAt}
-use Rattle.slot_rules.specs.Slots.{validAt, liesIn, startAt, bytesAt, viewGood, viewsGood, validViewsGood}
+use Rattle.slot_rules.specs.Slots.{liesIn, startAt, bytesAt, viewGood, viewsGood, validViewsGood}
 use Rattle.slot_rules.proofs.Laws.{pass, fail, null-row, valid-row}
 
 module _ (s : List ℕ) (start bytes : ℕ) (v : ByteView) where

@@ -1,6 +1,6 @@
 -- The columnar model's test of a union, a dictionary or a view array whose entries lie in the lent body is the row test of this crate, and
 -- what the test asks of the children. Assumes nothing.
-use mathlib.Core.Path.{_≡_, ap, _∙_}
+use mathlib.Core.Path.{_≡_, ap}
 use mathlib.Core.Bool.{Bool, true, _&&_}
 use mathlib.Core.Option.{none, some}
 use mathlib.Core.List.{List}

@@ -1,7 +1,7 @@
 -- `slot_rules::positions_within` meets its contract: the positions before i lie within their fields. Assumes nothing.
 use mathlib.Core.Path.{_≡_, refl, ap, _∙_}
 use mathlib.Core.Bool.{true}
-use Prim.Native.Nat.{ℕ, _-_, _≤_}
+use Prim.Native.Nat.{_-_, _≤_}
 use native.Mathlib.Omega.{arith}
 use borrow.Author.Tests.{not-true, not-false}
 use Rattle.slot_rules.specs.Slots.{positionGood, positionsWithin}

@@ -1,5 +1,5 @@
 -- `slot_rules::valid_views_good` meets its contract: the valid views before i are good. Assumes nothing.
-use mathlib.Core.Path.{_≡_, refl, ap, _∙_}
+use mathlib.Core.Path.{_≡_, refl, _∙_}
 use mathlib.Core.Logic.{⊎-elim}
 use mathlib.Core.Bool.{true}
 use Prim.Native.Nat.{_-_, _≤_}
