@@ -1,0 +1,2 @@
+-- The definitions that the contracts of `slot_rules` cite.
+pub mod Slots
