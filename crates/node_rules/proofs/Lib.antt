@@ -1,0 +1,2 @@
+-- What the proofs of `node_rules` go by.
+pub mod Laws
