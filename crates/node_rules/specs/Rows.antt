@@ -2,9 +2,14 @@
 -- in slots and every place in bytes of the body. Assumes nothing.
 use mathlib.Core.Bool.{Bool, cond, _&&_}
 use mathlib.Core.List.{List}
-use Prim.Native.Nat.{ℕ, _+_, _*_}
+use Prim.Native.Nat.{ℕ, _+_, _*_, min}
+use lib.ListN.{length}
 use lib.Dec.{leb, eqb}
 use Rattle.number.specs.Number.{entry}
+use Rattle.columnar.specs.Array.{ok}
+use Rattle.columnar.specs.Test.{every}
+use Rattle.run_ends.specs.Lookup.{lastEnd}
+use Rattle.array_data.specs.Tables.{Tables, lengthOf, offsetOf, validOf}
 use Rattle.row_rules.specs.Rules.{offsetsRows, listViewRows, endsRows}
 
 -- byte strings: "may have an empty offsets buffer" at length 0; else one offset more than rows, that never fall and end in the data
@@ -17,3 +22,16 @@ stringRows w s start size off len chars =
 unfoldable pub viewsRows : ℕ → List ℕ → ℕ → ℕ → ℕ → ℕ → ℕ → ℕ → ℕ → Bool
 viewsRows w s start size begin room off len child =
     leb ((off + len) * w) size && leb ((off + len) * w) room && listViewRows w s (start + w * off) (begin + w * off) child len
+
+-- where a range begins in the body, which may end before it
+abbrev pub startIn : List ℕ → ℕ → ℕ
+startIn s at = min at (length s)
+
+-- no row of node k is null
+unfoldable pub validRows : Tables → ℕ → Bool
+validRows x k = every (λ i. ok (validOf x k) (offsetOf x k + i)) (lengthOf x k)
+
+-- run ends: one for each run, rising strictly from at least 1, and the last at least `reach`
+unfoldable pub endsReach : ℕ → List ℕ → ℕ → ℕ → ℕ → ℕ → ℕ → Bool
+endsReach w s start size off len reach =
+    leb ((off + len) * w) size && endsRows w s (start + w * off) len && leb reach (lastEnd w s (start + w * off) len)

@@ -1,15 +1,16 @@
 // The rule of one node of a lent column (ground 12; docs/FORMAT.md): where its buffers lie, its validity, and its rows by its kind.
 // Every function reads the tables through getters that answer 0 past a table's end, and is right whatever the tables hold.
 ghost use mathlib.Core.Path.{_≡_};
+ghost use mathlib.Core.Bool.{true};
 ghost use mathlib.Core.List.{[]};
 ghost use Prim.Native.Nat.{_+_, _*_, _≤_, _<_, _^_};
 ghost use lib.ListN.{length, getD};
 ghost use lib.Dec.{leb};
 ghost use Rattle.columnar.specs.Types.{Number, width};
 ghost use Rattle.array_data.specs.Tables.{part, lengthOf, offsetOf, place, held, inBody, validIn};
-ghost use Rattle.array_data.specs.Rules.{oneIn, twoIn, fixedRule, stringRule, listViewRule};
+ghost use Rattle.array_data.specs.Rules.{oneIn, twoIn, fixedRule, stringRule, listViewRule, runEndRule};
 ghost use Rattle.node_rules.specs.Lent.{tables, Counted, maskOf};
-ghost use Rattle.node_rules.specs.Rows.{stringRows, viewsRows};
+ghost use Rattle.node_rules.specs.Rows.{stringRows, viewsRows, startIn, validRows, endsReach};
 
 // Number i of a table; 0 past its end.
 pub fn at_u32(t: &[u32], i: usize) -> u32
@@ -361,4 +362,185 @@ pub fn list_view_rule_i64(lengths: &[u64], places: &[u32], body: &[u8], k: usize
         length_of(lengths, k),
         child,
     )
+}
+
+// Where a range of the body begins, or the body's end where the range begins past it.
+fn part_start(body: &[u8], at: u32) -> usize
+    ensures { λ r. ⌜ r ≡ startIn (now (body .entry)) at ⌝ }
+{
+    let start = at as usize;
+    if body.len() < start {
+        return body.len();
+    }
+    start
+}
+
+// Whether no bit of node k's rows is zero, where its validity has a bit for each slot.
+fn all_valid(lengths: &[u64], places: &[u32], body: &[u8], k: usize) -> bool
+    requires { ⌜ Counted (tables (now lengths) (now places) (now body)) k × (maskOf (tables (now lengths) (now places) (now body)) k true ≡ true) ⌝ }
+    ensures { λ r. ⌜ r ≡ validRows (tables (now (lengths .entry)) (now (places .entry)) (now (body .entry))) k ⌝ }
+{
+    if place(places, k, 0) == 0 {
+        return true;
+    }
+    let n = length_of(lengths, k);
+    if n == 0 {
+        return true;
+    }
+    let from = place(places, k, 1);
+    let off = offset_of(lengths, k);
+    bits::count_zeros(body, from as usize, off as usize, n as usize) == 0
+}
+
+// Run ends of 2 bytes in the range of `size` bytes from `start` on: they fit, rise strictly from at least 1, and the last is at least `reach`.
+fn ends_i16(body: &[u8], start: usize, size: u32, off: u64, len: u64, reach: u64) -> bool
+    requires { ⌜ (start + size ≤ length (now body)) × (off + len < 2 ^ 63) ⌝ }
+    ensures { λ r. ⌜ r ≡ endsReach 2 (now (body .entry)) start size off len reach ⌝ }
+{
+    if !rows_fit(off + len, 2, size) {
+        return false;
+    }
+    let at = start + 2 * (off as usize);
+    let n = len as usize;
+    if !row_rules::run_ends_i16(body, at, n) {
+        return false;
+    }
+    let last = run_ends::last_run_end_i16(body, at, n);
+    reach <= last.0
+}
+
+// The rule of a run-end node with run ends of 2 bytes: the run ends are the next node, the values the one after.
+pub fn run_end_rule_i16(lengths: &[u64], places: &[u32], body: &[u8], k: usize) -> bool
+    requires { ⌜ Counted (tables (now lengths) (now places) (now body)) k × Counted (tables (now lengths) (now places) (now body)) (k + 1) × (k + 2 < 2 ^ 32) ⌝ }
+    ensures { λ r. ⌜ r ≡ runEndRule (tables (now (lengths .entry)) (now (places .entry)) (now (body .entry))) k 2 ⌝ }
+{
+    if !held(lengths, places, k) {
+        return false;
+    }
+    if place(places, k, 0) != 0 {
+        return false;
+    }
+    let e = k + 1;
+    if !mask_holds(lengths, places, body, e, true) {
+        return false;
+    }
+    if !all_valid(lengths, places, body, e) {
+        return false;
+    }
+    let at = place(places, e, 3);
+    let start = part_start(body, at);
+    let size = part_len(body, at, place(places, e, 4));
+    if !ends_i16(
+        body,
+        start,
+        size,
+        offset_of(lengths, e),
+        length_of(lengths, e),
+        count_of(lengths, k),
+    ) {
+        return false;
+    }
+    length_of(lengths, k + 2) == length_of(lengths, e)
+}
+
+// Run ends of 4 bytes in the range of `size` bytes from `start` on: they fit, rise strictly from at least 1, and the last is at least `reach`.
+fn ends_i32(body: &[u8], start: usize, size: u32, off: u64, len: u64, reach: u64) -> bool
+    requires { ⌜ (start + size ≤ length (now body)) × (off + len < 2 ^ 63) ⌝ }
+    ensures { λ r. ⌜ r ≡ endsReach 4 (now (body .entry)) start size off len reach ⌝ }
+{
+    if !rows_fit(off + len, 4, size) {
+        return false;
+    }
+    let at = start + 4 * (off as usize);
+    let n = len as usize;
+    if !row_rules::run_ends_i32(body, at, n) {
+        return false;
+    }
+    let last = run_ends::last_run_end_i32(body, at, n);
+    reach <= last.0
+}
+
+// The rule of a run-end node with run ends of 4 bytes: the run ends are the next node, the values the one after.
+pub fn run_end_rule_i32(lengths: &[u64], places: &[u32], body: &[u8], k: usize) -> bool
+    requires { ⌜ Counted (tables (now lengths) (now places) (now body)) k × Counted (tables (now lengths) (now places) (now body)) (k + 1) × (k + 2 < 2 ^ 32) ⌝ }
+    ensures { λ r. ⌜ r ≡ runEndRule (tables (now (lengths .entry)) (now (places .entry)) (now (body .entry))) k 4 ⌝ }
+{
+    if !held(lengths, places, k) {
+        return false;
+    }
+    if place(places, k, 0) != 0 {
+        return false;
+    }
+    let e = k + 1;
+    if !mask_holds(lengths, places, body, e, true) {
+        return false;
+    }
+    if !all_valid(lengths, places, body, e) {
+        return false;
+    }
+    let at = place(places, e, 3);
+    let start = part_start(body, at);
+    let size = part_len(body, at, place(places, e, 4));
+    if !ends_i32(
+        body,
+        start,
+        size,
+        offset_of(lengths, e),
+        length_of(lengths, e),
+        count_of(lengths, k),
+    ) {
+        return false;
+    }
+    length_of(lengths, k + 2) == length_of(lengths, e)
+}
+
+// Run ends of 8 bytes in the range of `size` bytes from `start` on: they fit, rise strictly from at least 1, and the last is at least `reach`.
+fn ends_i64(body: &[u8], start: usize, size: u32, off: u64, len: u64, reach: u64) -> bool
+    requires { ⌜ (start + size ≤ length (now body)) × (off + len < 2 ^ 63) ⌝ }
+    ensures { λ r. ⌜ r ≡ endsReach 8 (now (body .entry)) start size off len reach ⌝ }
+{
+    if !rows_fit(off + len, 8, size) {
+        return false;
+    }
+    let at = start + 8 * (off as usize);
+    let n = len as usize;
+    if !row_rules::run_ends_i64(body, at, n) {
+        return false;
+    }
+    let last = run_ends::last_run_end_i64(body, at, n);
+    reach <= last.0
+}
+
+// The rule of a run-end node with run ends of 8 bytes: the run ends are the next node, the values the one after.
+pub fn run_end_rule_i64(lengths: &[u64], places: &[u32], body: &[u8], k: usize) -> bool
+    requires { ⌜ Counted (tables (now lengths) (now places) (now body)) k × Counted (tables (now lengths) (now places) (now body)) (k + 1) × (k + 2 < 2 ^ 32) ⌝ }
+    ensures { λ r. ⌜ r ≡ runEndRule (tables (now (lengths .entry)) (now (places .entry)) (now (body .entry))) k 8 ⌝ }
+{
+    if !held(lengths, places, k) {
+        return false;
+    }
+    if place(places, k, 0) != 0 {
+        return false;
+    }
+    let e = k + 1;
+    if !mask_holds(lengths, places, body, e, true) {
+        return false;
+    }
+    if !all_valid(lengths, places, body, e) {
+        return false;
+    }
+    let at = place(places, e, 3);
+    let start = part_start(body, at);
+    let size = part_len(body, at, place(places, e, 4));
+    if !ends_i64(
+        body,
+        start,
+        size,
+        offset_of(lengths, e),
+        length_of(lengths, e),
+        count_of(lengths, k),
+    ) {
+        return false;
+    }
+    length_of(lengths, k + 2) == length_of(lengths, e)
 }
