@@ -23,7 +23,7 @@ use Rattle.row_rules.proofs.Links.{ends-test, ends-last}
 use Rattle.array_data.specs.Tables.{Tables, lengthOf, offsetOf, validOf, place, held, inBody, firstBuffer, part, arrayWith}
 use Rattle.array_data.specs.Rules.{runEndRule}
 use Rattle.node_rules.specs.Lent.{maskOf}
-use Rattle.node_rules.specs.Rows.{startIn, validRows, endsReach}
+use Rattle.node_rules.specs.Rows.{startIn, validRows, runsValid, endsReach}
 
 -- ---- a part of the body, of which some may lie outside
 
@@ -123,29 +123,43 @@ abbrev pub endsOf : Tables → ℕ → ℕ → ℕ → Bool
 endsOf x k w e =
     endsReach w (x .body) (startIn (x .body) (place x e 3)) (length (firstBuffer x e)) (offsetOf x e) (lengthOf x e) (offsetOf x k + lengthOf x k)
 
--- what is asked of a run-end node k without validity, with its run ends e and its values v
+-- what is asked of a run-end node k, with its run ends e and its values v
 abbrev pub runEndParts : Tables → ℕ → ℕ → ℕ → ℕ → Bool
-runEndParts x k w e v = held x k && (maskOf x e true && validRows x e && endsOf x k w e && eqb (lengthOf x v) (lengthOf x e))
+runEndParts x k w e v = runsValid x k e && endsOf x k w e && eqb (lengthOf x v) (lengthOf x e)
+
+regroup : (h m v e q : Bool) → h && true && (m && v) && e && q ≡ h && true && (m && v && e && q)
+regroup true m v e q = refl
+regroup false m v e q = refl
 
 module _ (x : Tables) (k w : ℕ) where
-  pub run-end-is : {e v : ℕ} → e ≡ suc k → v ≡ suc (suc k) → eqb (place x k 0) 0 ≡ true → runEndParts x k w e v ≡ runEndRule x k w
-  unfolding validRows endsReach
-  run-end-is p q z =
+  -- without validity
+  plain : eqb (place x k 0) 0 ≡ true → runEndParts x k w (suc k) (suc (suc k)) ≡ runEndRule x k w
+  unfolding runsValid validRows endsReach
+  plain z =
       let s = x .body in
       let at = place x (suc k) 3 in
       let ends = arrayWith x (firstBuffer x (suc k)) (suc k) in
       let size = length (firstBuffer x (suc k)) in
       let i : startIn s at + size ≤ length s = inside s at (place x (suc k) 4) in
       let t = ends-test w s (startIn s at) size i ends (part-inside s at (place x (suc k) 4)) in
-      rw (p, q, z, and-true (held x k), t)
-      (ap (λ a. held x k && a)
+      rw (z, t)
+      (regroup (held x k) (maskOf x (suc k) true) (every (λ i. ok (ends .valid) (ends .off + i)) (ends .len)) (endsOf x k w (suc k)) (eqb (lengthOf x (suc (suc k))) (ends .len))
+      ∙ ap (λ a. held x k && true && a)
       (sym (shuffle (maskOf x (suc k) true) (leb ((ends .off + ends .len) * w) size) (every (λ i. ok (ends .valid) (ends .off + i)) (ends .len))
       (endsRows w s (startIn s at + w * ends .off) (ends .len)) (leb (offsetOf x k + lengthOf x k) (startOf (endOf w ends) (ends .len))) (eqb (lengthOf x (suc (suc k))) (ends .len))
       (λ h. ap (leb (offsetOf x k + lengthOf x k)) (ends-last w s (startIn s at) size i ends (part-inside s at (place x (suc k) 4)) (leb-true _ _ h))))))
 
   -- "no validity buffer on a .. run-end node"
-  pub run-end-masked : eqb (place x k 0) 0 ≡ false → false ≡ runEndRule x k w
-  run-end-masked z = rw z (sym (and-false (held x k && inBody x (place x k 1) (place x k 2))))
+  masked : eqb (place x k 0) 0 ≡ false → runEndParts x k w (suc k) (suc (suc k)) ≡ runEndRule x k w
+  unfolding runsValid
+  masked z = rw (z, and-false (held x k)) (sym (and-false (held x k && inBody x (place x k 1) (place x k 2))))
+
+  pub run-end-is : {e v : ℕ} → e ≡ suc k → v ≡ suc (suc k) → runEndParts x k w e v ≡ runEndRule x k w
+  run-end-is p q = rw (p, q) (go (eqb (place x k 0) 0) refl)
+    where
+      go : (b : Bool) → eqb (place x k 0) 0 ≡ b → runEndParts x k w (suc k) (suc (suc k)) ≡ runEndRule x k w
+      go true z = plain z
+      go false z = masked z
 
   pub ends-are : (e : ℕ) {start at size bytes off len reach : ℕ} {r : Bool} → r ≡ endsReach w (x .body) start size off len reach
       → start ≡ startIn (x .body) at → size ≡ length (part (x .body) at bytes) → at ≡ place x e 3 → bytes ≡ place x e 4

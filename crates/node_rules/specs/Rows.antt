@@ -1,6 +1,6 @@
 -- The rows of a node as tests of the body itself, where its buffers lie in it: what the rules of `array_data` come to, with the offset
 -- in slots and every place in bytes of the body. Assumes nothing.
-use mathlib.Core.Bool.{Bool, cond, _&&_}
+use mathlib.Core.Bool.{Bool, true, cond, _&&_}
 use mathlib.Core.List.{List}
 use Prim.Native.Nat.{ℕ, _+_, _*_, min}
 use lib.ListN.{length}
@@ -9,7 +9,8 @@ use Rattle.number.specs.Number.{entry}
 use Rattle.columnar.specs.Array.{ok}
 use Rattle.columnar.specs.Test.{every}
 use Rattle.run_ends.specs.Lookup.{lastEnd}
-use Rattle.array_data.specs.Tables.{Tables, lengthOf, offsetOf, validOf}
+use Rattle.array_data.specs.Tables.{Tables, lengthOf, offsetOf, validOf, place, held}
+use Rattle.node_rules.specs.Lent.{maskOf}
 use Rattle.row_rules.specs.Rules.{offsetsRows, listViewRows, endsRows}
 
 -- byte strings: "may have an empty offsets buffer" at length 0; else one offset more than rows, that never fall and end in the data
@@ -30,6 +31,10 @@ startIn s at = min at (length s)
 -- no row of node k is null
 unfoldable pub validRows : Tables → ℕ → Bool
 validRows x k = every (λ i. ok (validOf x k) (offsetOf x k + i)) (lengthOf x k)
+
+-- node k is there without validity, and its run ends e have no null
+unfoldable pub runsValid : Tables → ℕ → ℕ → Bool
+runsValid x k e = held x k && eqb (place x k 0) 0 && (maskOf x e true && validRows x e)
 
 -- run ends: one for each run, rising strictly from at least 1, and the last at least `reach`
 unfoldable pub endsReach : ℕ → List ℕ → ℕ → ℕ → ℕ → ℕ → ℕ → Bool

@@ -10,7 +10,7 @@ ghost use Rattle.columnar.specs.Types.{Number, width};
 ghost use Rattle.array_data.specs.Tables.{part, lengthOf, offsetOf, place, held, inBody, validIn};
 ghost use Rattle.array_data.specs.Rules.{oneIn, twoIn, fixedRule, stringRule, listViewRule, runEndRule};
 ghost use Rattle.node_rules.specs.Lent.{tables, Counted, maskOf};
-ghost use Rattle.node_rules.specs.Rows.{stringRows, viewsRows, startIn, validRows, endsReach};
+ghost use Rattle.node_rules.specs.Rows.{stringRows, viewsRows, startIn, validRows, runsValid, endsReach};
 
 // Number i of a table; 0 past its end.
 pub fn at_u32(t: &[u32], i: usize) -> u32
@@ -392,6 +392,23 @@ fn all_valid(lengths: &[u64], places: &[u32], body: &[u8], k: usize) -> bool
     bits::count_zeros(body, from as usize, off as usize, n as usize) == 0
 }
 
+// Whether node k has no validity, and the run ends behind it have a bit for each slot and no null.
+fn runs_valid(lengths: &[u64], places: &[u32], body: &[u8], k: usize) -> bool
+    requires { ⌜ (k < 2 ^ 32) × Counted (tables (now lengths) (now places) (now body)) (k + 1) ⌝ }
+    ensures { λ r. ⌜ r ≡ runsValid (tables (now (lengths .entry)) (now (places .entry)) (now (body .entry))) k (k + 1) ⌝ }
+{
+    if !held(lengths, places, k) {
+        return false;
+    }
+    if place(places, k, 0) != 0 {
+        return false;
+    }
+    if !mask_holds(lengths, places, body, k + 1, true) {
+        return false;
+    }
+    all_valid(lengths, places, body, k + 1)
+}
+
 // Run ends of 2 bytes in the range of `size` bytes from `start` on: they fit, rise strictly from at least 1, and the last is at least `reach`.
 fn ends_i16(body: &[u8], start: usize, size: u32, off: u64, len: u64, reach: u64) -> bool
     requires { ⌜ (start + size ≤ length (now body)) × (off + len < 2 ^ 63) ⌝ }
@@ -414,19 +431,10 @@ pub fn run_end_rule_i16(lengths: &[u64], places: &[u32], body: &[u8], k: usize) 
     requires { ⌜ Counted (tables (now lengths) (now places) (now body)) k × Counted (tables (now lengths) (now places) (now body)) (k + 1) × (k + 2 < 2 ^ 32) ⌝ }
     ensures { λ r. ⌜ r ≡ runEndRule (tables (now (lengths .entry)) (now (places .entry)) (now (body .entry))) k 2 ⌝ }
 {
-    if !held(lengths, places, k) {
-        return false;
-    }
-    if place(places, k, 0) != 0 {
+    if !runs_valid(lengths, places, body, k) {
         return false;
     }
     let e = k + 1;
-    if !mask_holds(lengths, places, body, e, true) {
-        return false;
-    }
-    if !all_valid(lengths, places, body, e) {
-        return false;
-    }
     let at = place(places, e, 3);
     let start = part_start(body, at);
     let size = part_len(body, at, place(places, e, 4));
@@ -465,19 +473,10 @@ pub fn run_end_rule_i32(lengths: &[u64], places: &[u32], body: &[u8], k: usize) 
     requires { ⌜ Counted (tables (now lengths) (now places) (now body)) k × Counted (tables (now lengths) (now places) (now body)) (k + 1) × (k + 2 < 2 ^ 32) ⌝ }
     ensures { λ r. ⌜ r ≡ runEndRule (tables (now (lengths .entry)) (now (places .entry)) (now (body .entry))) k 4 ⌝ }
 {
-    if !held(lengths, places, k) {
-        return false;
-    }
-    if place(places, k, 0) != 0 {
+    if !runs_valid(lengths, places, body, k) {
         return false;
     }
     let e = k + 1;
-    if !mask_holds(lengths, places, body, e, true) {
-        return false;
-    }
-    if !all_valid(lengths, places, body, e) {
-        return false;
-    }
     let at = place(places, e, 3);
     let start = part_start(body, at);
     let size = part_len(body, at, place(places, e, 4));
@@ -516,19 +515,10 @@ pub fn run_end_rule_i64(lengths: &[u64], places: &[u32], body: &[u8], k: usize) 
     requires { ⌜ Counted (tables (now lengths) (now places) (now body)) k × Counted (tables (now lengths) (now places) (now body)) (k + 1) × (k + 2 < 2 ^ 32) ⌝ }
     ensures { λ r. ⌜ r ≡ runEndRule (tables (now (lengths .entry)) (now (places .entry)) (now (body .entry))) k 8 ⌝ }
 {
-    if !held(lengths, places, k) {
-        return false;
-    }
-    if place(places, k, 0) != 0 {
+    if !runs_valid(lengths, places, body, k) {
         return false;
     }
     let e = k + 1;
-    if !mask_holds(lengths, places, body, e, true) {
-        return false;
-    }
-    if !all_valid(lengths, places, body, e) {
-        return false;
-    }
     let at = place(places, e, 3);
     let start = part_start(body, at);
     let size = part_len(body, at, place(places, e, 4));
