@@ -1,5 +1,7 @@
 -- `node_rules::fixed_rule` meets its contract. Assumes nothing.
-use Rattle.node_rules.specs.Lent.{tables}
+use Rattle.array_data.specs.Rules.{oneIn}
+use mathlib.Core.Bool.{true}
+use Rattle.node_rules.specs.Lent.{tables, maskOf}
 use Rattle.node_rules.proofs.Laws.{no, yes, fixed-last}
 use borrow.Author.Needs.{needs}
 use Rattle.node_rules.proofs.fixed_rule.Statement.{statement}
@@ -29,8 +31,9 @@ rows-fit-requires c κs = search needs
 returns-3 : tie.Need-returns-3
 returns-3 c =
     let a = c .before .before .before .before .before .before .before .before .before .before .args in
-    fixed-last (tables (a .lengths .now) (a .places .now) (a .body .now)) (a .k)
-    (yes (c .before .before .before .before .before .before .one-in .ensures) (c .before .before .before .before .before .if1 .left)) (yes (c .before .before .before .before .mask-holds .ensures) (c .before .before .before .if2 .left)) (c .rows-fit .ensures) (c .before .before .count-of .ensures) (c .before .place .ensures)
+    let x = tables (a .lengths .now) (a .places .now) (a .body .now) in
+    fixed-last x (a .k)
+    (yes {a = oneIn x (a .k)} (c .before .before .before .before .before .before .one-in .ensures) (c .before .before .before .before .before .if1 .left)) (yes {a = maskOf x (a .k) true} (c .before .before .before .before .mask-holds .ensures) (c .before .before .before .if2 .left)) (c .rows-fit .ensures) (c .before .before .count-of .ensures) (c .before .place .ensures)
 
 pub fixed-rule-spec : {M : Type 1} → statement M
 fixed-rule-spec =

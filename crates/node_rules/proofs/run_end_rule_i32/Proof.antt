@@ -1,4 +1,5 @@
 -- `node_rules::run_end_rule_i32` meets its contract. Assumes nothing.
+use Rattle.node_rules.specs.Rows.{runsValid}
 use mathlib.Core.Path.{_≡_, _∙_}
 use mathlib.Core.Bool.{false}
 use Prim.Native.Nat.{_+_}
@@ -19,7 +20,7 @@ returns : tie.Need-returns
 returns c =
     let a = c .before .before .before .before .before .args in
     let x = tables (a .lengths .now) (a .places .now) (a .body .now) in
-    let t : false ≡ runEndParts x (a .k) 4 (a .k + 1) (a .k + 2) = rw (no (c .before .runs-valid .ensures) (c .if1 .taken)) in
+    let t : false ≡ runEndParts x (a .k) 4 (a .k + 1) (a .k + 2) = rw (no {a = runsValid x (a .k) (a .k + 1)} (c .before .runs-valid .ensures) (c .if1 .taken)) in
     t ∙ run-end-is x (a .k) 4 (add-one (a .k)) (omega arith)
 
 add-e : tie.Need-add-e
@@ -54,7 +55,7 @@ returns-2 c =
     let a = c .before .before .before .before .before .before .before .before .before .before .before .before .before .before .args in
     let x = tables (a .lengths .now) (a .places .now) (a .body .now) in
     let t : false ≡ runEndParts x (a .k) 4 (a .k + 1) (a .k + 2) =
-    rw (yes (c .before .before .before .before .before .before .before .before .before .before .runs-valid .ensures) (c .before .before .before .before .before .before .before .before .before .if1 .left), no (ends-are x (a .k) 4 (a .k + 1) (c .before .ends-i32 .ensures) (c .before .before .before .before .before .before .before .part-start .ensures) (c .before .before .before .before .before .part-len .ensures) (c .before .before .before .before .before .before .before .before .place .ensures) (c .before .before .before .before .before .before .place2 .ensures) (c .before .before .before .before .offset-of .ensures) (c .before .before .before .length-of .ensures) (c .before .before .count-of .ensures)) (c .if2 .taken)) in
+    rw (yes {a = runsValid x (a .k) (a .k + 1)} (c .before .before .before .before .before .before .before .before .before .before .runs-valid .ensures) (c .before .before .before .before .before .before .before .before .before .if1 .left), no (ends-are x (a .k) 4 (a .k + 1) (c .before .ends-i32 .ensures) (c .before .before .before .before .before .before .before .part-start .ensures) (c .before .before .before .before .before .part-len .ensures) (c .before .before .before .before .before .before .before .before .place .ensures) (c .before .before .before .before .before .before .place2 .ensures) (c .before .before .before .before .offset-of .ensures) (c .before .before .before .length-of .ensures) (c .before .before .count-of .ensures)) (c .if2 .taken)) in
     t ∙ run-end-is x (a .k) 4 (add-one (a .k)) (omega arith)
 
 add-length-of : tie.Need-add-length-of
@@ -71,7 +72,7 @@ returns-3 c =
     let a = c .before .before .before .before .before .before .before .before .before .before .before .before .before .before .before .before .args in
     let x = tables (a .lengths .now) (a .places .now) (a .body .now) in
     let t : eqb (c .before .length-of2 .result) (c .length-of3 .result) ≡ runEndParts x (a .k) 4 (a .k + 1) (a .k + 2) =
-    rw (yes (c .before .before .before .before .before .before .before .before .before .before .before .before .runs-valid .ensures) (c .before .before .before .before .before .before .before .before .before .before .before .if1 .left), yes (ends-are x (a .k) 4 (a .k + 1) (c .before .before .before .ends-i32 .ensures) (c .before .before .before .before .before .before .before .before .before .part-start .ensures) (c .before .before .before .before .before .before .before .part-len .ensures) (c .before .before .before .before .before .before .before .before .before .before .place .ensures) (c .before .before .before .before .before .before .before .before .place2 .ensures) (c .before .before .before .before .before .before .offset-of .ensures) (c .before .before .before .before .before .length-of .ensures) (c .before .before .before .before .count-of .ensures)) (c .before .before .if2 .left), ← c .before .length-of2 .ensures, ← c .length-of3 .ensures) in
+    rw (yes {a = runsValid x (a .k) (a .k + 1)} (c .before .before .before .before .before .before .before .before .before .before .before .before .runs-valid .ensures) (c .before .before .before .before .before .before .before .before .before .before .before .if1 .left), yes (ends-are x (a .k) 4 (a .k + 1) (c .before .before .before .ends-i32 .ensures) (c .before .before .before .before .before .before .before .before .before .part-start .ensures) (c .before .before .before .before .before .before .before .part-len .ensures) (c .before .before .before .before .before .before .before .before .before .before .place .ensures) (c .before .before .before .before .before .before .before .before .place2 .ensures) (c .before .before .before .before .before .before .offset-of .ensures) (c .before .before .before .before .before .length-of .ensures) (c .before .before .before .before .count-of .ensures)) (c .before .before .if2 .left), ← c .before .length-of2 .ensures, ← c .length-of3 .ensures) in
     t ∙ run-end-is x (a .k) 4 (add-one (a .k)) (omega arith)
 
 pub run-end-rule-i32-spec : {M : Type 1} → statement M

@@ -1,6 +1,8 @@
 -- `node_rules::string_rule_i64` meets its contract. Assumes nothing.
+use Rattle.array_data.specs.Rules.{twoIn}
+use mathlib.Core.Bool.{true}
 use native.Mathlib.Omega.{arith}
-use Rattle.node_rules.specs.Lent.{tables}
+use Rattle.node_rules.specs.Lent.{tables, maskOf}
 use Rattle.node_rules.proofs.Laws.{no, yes, two-one, first-in, string-last}
 use borrow.Author.Needs.{needs}
 use Rattle.node_rules.proofs.string_rule_i64.Statement.{statement}
@@ -37,13 +39,14 @@ strings-i64-requires : tie.Need-strings-i64-requires
 strings-i64-requires c κs =
     let a = c .before .before .before .before .before .before .before .before .before .before .before .before .args in
     let x = tables (a .lengths .now) (a .places .now) (a .body .now) in
-    (omega (arith, first-in x (a .k) (two-one x (a .k) (yes (c .before .before .before .before .before .before .before .before .two-in .ensures) (c .before .before .before .before .before .before .before .if1 .left)))), omega arith)
+    (omega (arith, first-in x (a .k) (two-one x (a .k) (yes {a = twoIn x (a .k)} (c .before .before .before .before .before .before .before .before .two-in .ensures) (c .before .before .before .before .before .before .before .if1 .left)))), omega arith)
 
 returns-3 : tie.Need-returns-3
 returns-3 c =
     let a = c .before .before .before .before .before .before .before .before .before .before .before .before .before .args in
-    string-last (tables (a .lengths .now) (a .places .now) (a .body .now)) (a .k) 8 (omega arith)
-    (yes (c .before .before .before .before .before .before .before .before .before .two-in .ensures) (c .before .before .before .before .before .before .before .before .if1 .left)) (yes (c .before .before .before .before .before .before .before .mask-holds .ensures) (c .before .before .before .before .before .before .if2 .left)) (c .strings-i64 .ensures)
+    let x = tables (a .lengths .now) (a .places .now) (a .body .now) in
+    string-last x (a .k) 8 (omega arith)
+    (yes {a = twoIn x (a .k)} (c .before .before .before .before .before .before .before .before .before .two-in .ensures) (c .before .before .before .before .before .before .before .before .if1 .left)) (yes {a = maskOf x (a .k) true} (c .before .before .before .before .before .before .before .mask-holds .ensures) (c .before .before .before .before .before .before .if2 .left)) (c .strings-i64 .ensures)
     (c .before .before .before .before .before .place .ensures) (c .before .before .before .before .place2 .ensures) (c .before .before .before .place3 .ensures) (c .before .before .offset-of .ensures) (c .before .length-of .ensures)
 
 pub string-rule-i64-spec : {M : Type 1} → statement M
