@@ -205,14 +205,9 @@ pub fn string_rule_i32(lengths: &[u64], places: &[u32], body: &[u8], k: usize) -
     let start = place(places, k, 3);
     let size = place(places, k, 4);
     let chars = place(places, k, 6);
-    strings_i32(
-        body,
-        start,
-        size,
-        offset_of(lengths, k),
-        length_of(lengths, k),
-        chars,
-    )
+    let off = offset_of(lengths, k);
+    let len = length_of(lengths, k);
+    strings_i32(body, start, size, off, len, chars)
 }
 
 // The rows of a byte string whose offsets of 8 bytes are the range of `size` bytes from `start` on, over `chars` bytes of data.
@@ -248,14 +243,9 @@ pub fn string_rule_i64(lengths: &[u64], places: &[u32], body: &[u8], k: usize) -
     let start = place(places, k, 3);
     let size = place(places, k, 4);
     let chars = place(places, k, 6);
-    strings_i64(
-        body,
-        start,
-        size,
-        offset_of(lengths, k),
-        length_of(lengths, k),
-        chars,
-    )
+    let off = offset_of(lengths, k);
+    let len = length_of(lengths, k);
+    strings_i64(body, start, size, off, len, chars)
 }
 
 // The rows of a list-view whose offsets and sizes of 4 bytes are the ranges from `start` and from `begin` on, over `child` rows.
@@ -299,16 +289,9 @@ pub fn list_view_rule_i32(lengths: &[u64], places: &[u32], body: &[u8], k: usize
     let begin = place(places, k, 5);
     let room = place(places, k, 6);
     let child = length_of(lengths, k + 1);
-    views_i32(
-        body,
-        start,
-        size,
-        begin,
-        room,
-        offset_of(lengths, k),
-        length_of(lengths, k),
-        child,
-    )
+    let off = offset_of(lengths, k);
+    let len = length_of(lengths, k);
+    views_i32(body, start, size, begin, room, off, len, child)
 }
 
 // The rows of a list-view whose offsets and sizes of 8 bytes are the ranges from `start` and from `begin` on, over `child` rows.
@@ -352,16 +335,9 @@ pub fn list_view_rule_i64(lengths: &[u64], places: &[u32], body: &[u8], k: usize
     let begin = place(places, k, 5);
     let room = place(places, k, 6);
     let child = length_of(lengths, k + 1);
-    views_i64(
-        body,
-        start,
-        size,
-        begin,
-        room,
-        offset_of(lengths, k),
-        length_of(lengths, k),
-        child,
-    )
+    let off = offset_of(lengths, k);
+    let len = length_of(lengths, k);
+    views_i64(body, start, size, begin, room, off, len, child)
 }
 
 // Where a range of the body begins, or the body's end where the range begins past it.
@@ -438,14 +414,10 @@ pub fn run_end_rule_i16(lengths: &[u64], places: &[u32], body: &[u8], k: usize) 
     let at = place(places, e, 3);
     let start = part_start(body, at);
     let size = part_len(body, at, place(places, e, 4));
-    if !ends_i16(
-        body,
-        start,
-        size,
-        offset_of(lengths, e),
-        length_of(lengths, e),
-        count_of(lengths, k),
-    ) {
+    let off = offset_of(lengths, e);
+    let len = length_of(lengths, e);
+    let reach = count_of(lengths, k);
+    if !ends_i16(body, start, size, off, len, reach) {
         return false;
     }
     length_of(lengths, k + 2) == length_of(lengths, e)
@@ -480,14 +452,10 @@ pub fn run_end_rule_i32(lengths: &[u64], places: &[u32], body: &[u8], k: usize) 
     let at = place(places, e, 3);
     let start = part_start(body, at);
     let size = part_len(body, at, place(places, e, 4));
-    if !ends_i32(
-        body,
-        start,
-        size,
-        offset_of(lengths, e),
-        length_of(lengths, e),
-        count_of(lengths, k),
-    ) {
+    let off = offset_of(lengths, e);
+    let len = length_of(lengths, e);
+    let reach = count_of(lengths, k);
+    if !ends_i32(body, start, size, off, len, reach) {
         return false;
     }
     length_of(lengths, k + 2) == length_of(lengths, e)
@@ -522,14 +490,10 @@ pub fn run_end_rule_i64(lengths: &[u64], places: &[u32], body: &[u8], k: usize) 
     let at = place(places, e, 3);
     let start = part_start(body, at);
     let size = part_len(body, at, place(places, e, 4));
-    if !ends_i64(
-        body,
-        start,
-        size,
-        offset_of(lengths, e),
-        length_of(lengths, e),
-        count_of(lengths, k),
-    ) {
+    let off = offset_of(lengths, e);
+    let len = length_of(lengths, e);
+    let reach = count_of(lengths, k);
+    if !ends_i64(body, start, size, off, len, reach) {
         return false;
     }
     length_of(lengths, k + 2) == length_of(lengths, e)
