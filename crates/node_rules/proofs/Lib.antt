@@ -1,0 +1,3 @@
+-- What the proofs of `node_rules` go by.
+pub mod Laws
+pub mod Ends
