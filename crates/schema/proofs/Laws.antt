@@ -9,8 +9,8 @@ use native.Mathlib.Numerals.{add-one}
 use lib.ListN.{length}
 use lib.Dec.{leb, ltb, eqb}
 use borrow.Author.Tests.{lt-ltb, le-ltb, le-leb, lt-leb, eq-eqb, ne-eqb, eqb-true, eqb-false}
-use Rattle.schema.specs.Tree.{every, count, field, children, dictionary, below, endFrom, dueFrom, endOf, depth, whole, fewFields, childForEach, idsOf, shape, ceilings, typed}
-use Rattle.formats.specs.Ids.{idsAt, answerOf}
+use Rattle.schema.specs.Tree.{every, count, field, flag, children, dictionary, below, endFrom, dueFrom, childForEach, isValues, endOf, depth, whole, idsOf, fewFields, shape, ceilings, typed, sameFlag, sameFormats, sameNode, sameType}
+use Rattle.formats.specs.Ids.{idsAt, answerOf, sameFormat}
 use Rattle.formats.specs.declared.Ids.{Ids}
 use Rattle.formats.specs.declared.Ids.the-variants.{Count, Bad}
 
@@ -170,3 +170,38 @@ module _ (formats schema : List ℕ) (first n : ℕ) where
   pub all-shaped : whole schema first n ≡ true → ((j : ℕ) → j < n → shape formats schema first j ≡ true) → typed formats schema first n ≡ true
   unfolding typed
   all-shaped w h = rw (w, every-all (shape formats schema first) n h)
+
+-- ---- the same type
+
+module _ (schema : List ℕ) (first first′ : ℕ) where
+  pub flag-root : (i : ℕ) → i ≡ 0 → sameFlag schema first first′ i ≡ true
+  unfolding sameFlag
+  flag-root i e = rw (eq-eqb i 0 e)
+
+  pub flag-other : (i : ℕ) → (i ≡ 0 → ⊥) → sameFlag schema first first′ i ≡ eqb (dictionary schema first (i - 1)) 1 || eqb (flag schema first i) (flag schema first′ i)
+  unfolding sameFlag isValues
+  flag-other zero z = absurd (z refl)
+  flag-other (suc i) z = let e : suc i - 1 ≡ i = omega arith in rw (e, ne-eqb (suc i) 0 z)
+
+pub formats-by : (formats schema : List ℕ) (first first′ i at len at′ len′ : ℕ)
+    → at ≡ field schema (first + i) 0 → len ≡ field schema (first + i) 1 → at′ ≡ field schema (first′ + i) 0 → len′ ≡ field schema (first′ + i) 1
+    → sameFormat formats at len at′ len′ ≡ sameFormats formats schema first first′ i
+unfolding sameFormats
+formats-by formats schema first first′ i at len at′ len′ a l a′ l′ =
+    ap (λ x. sameFormat formats x len at′ len′) a
+    ∙ ap (λ x. sameFormat formats (field schema (first + i) 0) x at′ len′) l
+    ∙ ap (λ x. sameFormat formats (field schema (first + i) 0) (field schema (first + i) 1) x len′) a′
+    ∙ ap (λ x. sameFormat formats (field schema (first + i) 0) (field schema (first + i) 1) (field schema (first′ + i) 0) x) l′
+
+module _ (formats schema : List ℕ) (first n first′ n′ : ℕ) where
+  pub sizes-differ : (n ≡ n′ → ⊥) → sameType formats schema first n first′ n′ ≡ false
+  unfolding sameType
+  sizes-differ h = rw (ne-eqb n n′ h)
+
+  pub nodes-differ : (i : ℕ) → i < n → sameNode formats schema first first′ i ≡ false → sameType formats schema first n first′ n′ ≡ false
+  unfolding sameType
+  nodes-differ i l h = rw (every-not (sameNode formats schema first first′) n i l h, and-false)
+
+  pub all-same : n ≡ n′ → ((j : ℕ) → j < n → sameNode formats schema first first′ j ≡ true) → sameType formats schema first n first′ n′ ≡ true
+  unfolding sameType
+  all-same q h = rw (eq-eqb n n′ q, every-all (sameNode formats schema first first′) n h)

@@ -133,18 +133,28 @@ module _ (formats schema : List ℕ) (first n : ℕ) where
   typed = whole schema first n && every (shape formats schema first) n
 
 -- ---- two trees of the table
-module _ (formats schema : List ℕ) (first n first′ n′ : ℕ) where
-  -- the same flag, or one that says nothing of the type: the root's, and that of dictionary values
-  unfoldable pub sameFlag : ℕ → Bool
-  sameFlag i = eqb i 0 || isValues schema first i || eqb (flag schema first i) (flag schema first′ i)
+
+-- the same flag, or one that says nothing of the type: the root's, and that of dictionary values
+unfoldable pub sameFlag : List ℕ → ℕ → ℕ → ℕ → Bool
+sameFlag schema first first′ i = eqb i 0 || isValues schema first i || eqb (flag schema first i) (flag schema first′ i)
+
+module _ (formats schema : List ℕ) (first first′ : ℕ) where
+  unfoldable pub sameFormats : ℕ → Bool
+  sameFormats i =
+      sameFormat
+      formats
+      (field schema (first + i) 0)
+      (field schema (first + i) 1)
+      (field schema (first′ + i) 0)
+      (field schema (first′ + i) 1)
 
   unfoldable pub sameNode : ℕ → Bool
   sameNode i =
-      sameFormat formats (field schema (first + i) 0) (field schema (first + i) 1) (field schema (first′ + i) 0) (field schema (first′ + i) 1)
+      sameFormats i
       && eqb (children schema first i) (children schema first′ i)
       && eqb (dictionary schema first i) (dictionary schema first′ i)
-      && sameFlag i
+      && sameFlag schema first first′ i
 
-  -- "types differ: formats, or flags of nodes other than the root and dictionary values": ground 11 where not the same
-  unfoldable pub sameType : Bool
-  sameType = eqb n n′ && every sameNode n
+-- "types differ: formats, or flags of nodes other than the root and dictionary values": ground 11 where not the same
+unfoldable pub sameType : List ℕ → List ℕ → ℕ → ℕ → ℕ → ℕ → Bool
+sameType formats schema first n first′ n′ = eqb n n′ && every (sameNode formats schema first first′) n

@@ -1,7 +1,7 @@
 // Lent type trees (docs/FORMAT.md): the nodes of a source in depth-first order, five numbers a node.
 ghost use mathlib.Core.Path.{_≡_};
 ghost use Prim.Native.Nat.{_≤_, _<_};
-ghost use Rattle.schema.specs.Tree.{field, flag, nullable, children, dictionary, below, bare, endOf, depth, whole, codeOf, fewFields, valuesShape, endsShape, leafShape, keysShape, listShape, childForEach, idsOf, unionShape, runShape, shape, ceilings, typed};
+ghost use Rattle.schema.specs.Tree.{field, flag, nullable, children, dictionary, below, bare, endOf, depth, whole, codeOf, fewFields, valuesShape, endsShape, leafShape, keysShape, listShape, childForEach, idsOf, unionShape, runShape, shape, ceilings, typed, sameFlag, sameFormats, sameNode, sameType};
 
 // ---- the numbers of a node
 
@@ -277,6 +277,68 @@ pub fn is_typed(formats: &[u8], schema: &[u32], first: usize, n: usize) -> bool
     let mut i = 0;
     while i < n {
         if !is_shaped(formats, schema, first, i) {
+            return false;
+        }
+        i += 1;
+    }
+    true
+}
+
+// ---- the same type
+
+// Whether the two nodes have the same flag, or one that says nothing of the type: the root's, and that of a dictionary's values.
+fn has_same_flag(schema: &[u32], first: usize, first2: usize, i: usize) -> bool
+    requires { ⌜ (first < 4294967296) × (first2 < 4294967296) × (i < 4294967296) ⌝ }
+    ensures { λ r. ⌜ r ≡ sameFlag (now (schema .entry)) first first2 i ⌝ }
+{
+    if i == 0 {
+        return true;
+    }
+    let values = dictionary_of(schema, first, i - 1) == 1;
+    let same = flag_of(schema, first, i) == flag_of(schema, first2, i);
+    values | same
+}
+
+fn has_same_format(formats: &[u8], schema: &[u32], first: usize, first2: usize, i: usize) -> bool
+    requires { ⌜ (first < 4294967296) × (first2 < 4294967296) × (i < 4294967296) ⌝ }
+    ensures { λ r. ⌜ r ≡ sameFormats (now (formats .entry)) (now (schema .entry)) first first2 i ⌝ }
+{
+    let at = get(schema, first + i, 0) as usize;
+    let len = get(schema, first + i, 1) as usize;
+    let at2 = get(schema, first2 + i, 0) as usize;
+    let len2 = get(schema, first2 + i, 1) as usize;
+    formats::same_format(formats, at, len, at2, len2)
+}
+
+// Whether the nodes i of two trees are of the same type.
+fn is_same_node(formats: &[u8], schema: &[u32], first: usize, first2: usize, i: usize) -> bool
+    requires { ⌜ (first < 4294967296) × (first2 < 4294967296) × (i < 4294967296) ⌝ }
+    ensures { λ r. ⌜ r ≡ sameNode (now (formats .entry)) (now (schema .entry)) first first2 i ⌝ }
+{
+    let format = has_same_format(formats, schema, first, first2, i);
+    let children = children_of(schema, first, i) == children_of(schema, first2, i);
+    let dictionary = dictionary_of(schema, first, i) == dictionary_of(schema, first2, i);
+    format & children & dictionary & has_same_flag(schema, first, first2, i)
+}
+
+// Whether two trees are of the same type: ground 11 where not.
+pub fn same_type(
+    formats: &[u8],
+    schema: &[u32],
+    first: usize,
+    n: usize,
+    first2: usize,
+    n2: usize,
+) -> bool
+    requires { ⌜ (first < 4294967296) × (n < 4294967296) × (first2 < 4294967296) ⌝ }
+    ensures { λ r. ⌜ r ≡ sameType (now (formats .entry)) (now (schema .entry)) first n first2 n2 ⌝ }
+{
+    if n != n2 {
+        return false;
+    }
+    let mut i = 0;
+    while i < n {
+        if !is_same_node(formats, schema, first, first2, i) {
             return false;
         }
         i += 1;
