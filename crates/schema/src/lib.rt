@@ -201,9 +201,9 @@ fn is_keys(formats: &[u8], schema: &[u32], first: usize, i: usize) -> bool
     ensures { λ r. ⌜ r ≡ keysShape (now (formats .entry)) (now (schema .entry)) first i ⌝ }
 {
     let kind = formats::is_integer(code_of(formats, schema, first, i));
-    let no_children = children_of(schema, first, i) == 0;
+    let childless = children_of(schema, first, i) == 0;
     let a_dictionary = dictionary_of(schema, first, i) == 1;
-    kind & no_children & a_dictionary & is_values(formats, schema, first, i + 1)
+    kind & childless & a_dictionary & is_values(formats, schema, first, i + 1)
 }
 
 // List-views with one child.
@@ -336,12 +336,12 @@ pub fn same_type(
     if n != n2 {
         return false;
     }
-    let mut i = 0;
-    while i < n {
-        if !is_same_node(formats, schema, first, first2, i) {
+    let mut node = 0;
+    while node < n {
+        if !is_same_node(formats, schema, first, first2, node) {
             return false;
         }
-        i += 1;
+        node += 1;
     }
     true
 }

@@ -1,4 +1,4 @@
--- `schema::same_type` meets its contract. The invariant: the nodes below i are the same. Assumes nothing.
+-- `schema::same_type` meets its contract. The invariant: the nodes below `node` are the same. Assumes nothing.
 use Prim.Native.Nat.{ℕ, _-_, _≤_, _<_}
 use mathlib.Core.Path.{_≡_, sym, _∙_}
 use mathlib.Core.Bool.{true}
@@ -11,10 +11,10 @@ use Rattle.schema.proofs.same_type.Statement.{statement}
 use Rattle.schema.proofs.same_type.Tie as tie
 
 abbrev Inv-loop : tie.InvT-loop
-Inv-loop formats schema first n first2 n2 i₀ i = (i ≤ n) × ((j : ℕ) → j < i → sameNode formats schema first first2 j ≡ true)
+Inv-loop formats schema first n first2 n2 node₀ node = (node ≤ n) × ((j : ℕ) → j < node → sameNode formats schema first first2 j ≡ true)
 
 abbrev μ-loop : tie.MeasureT-loop
-μ-loop formats schema first n first2 n2 i₀ i = n - i
+μ-loop formats schema first n first2 n2 node₀ node = n - node
 
 returns : tie.Need-returns Inv-loop μ-loop
 returns c =
@@ -30,10 +30,10 @@ is-same-node-requires c κs = omega arith
 returns-2 : tie.Need-returns-2 Inv-loop μ-loop
 returns-2 c =
     let z = c .before .before .before .before .before .before .before .args in
-    sym (nodes-differ (z .formats .now) (z .schema .now) (z .first) (z .n) (z .first2) (z .n2) (c .before .before .before .loop .i) (omega arith) (sym (c .before .is-same-node .ensures) ∙ not-true _ (c .if2 .taken)))
+    sym (nodes-differ (z .formats .now) (z .schema .now) (z .first) (z .n) (z .first2) (z .n2) (c .before .before .before .loop .node) (omega arith) (sym (c .before .is-same-node .ensures) ∙ not-true _ (c .if2 .taken)))
 
-add-i : tie.Need-add-i Inv-loop μ-loop
-add-i c = omega arith
+add-node : tie.Need-add-node Inv-loop μ-loop
+add-node c = omega arith
 
 loop-less : tie.Need-loop-less Inv-loop μ-loop
 loop-less c = omega arith
@@ -47,4 +47,4 @@ returns-3 c =
     sym (all-same (z .formats .now) (z .schema .now) (z .first) (z .n) (z .first2) (z .n2) (c .before .before .if1 .left) (λ j h. c .before .loop .inv .1 j (omega arith)))
 
 pub same-type-spec : {M : Type 1} → statement M
-same-type-spec = tie.close (tie.spec Inv-loop μ-loop returns loop-holds is-same-node-requires returns-2 add-i loop-less loop-again returns-3)
+same-type-spec = tie.close (tie.spec Inv-loop μ-loop returns loop-holds is-same-node-requires returns-2 add-node loop-less loop-again returns-3)
