@@ -1,0 +1,2 @@
+-- The laws that the proofs of `schema` cite.
+pub mod Laws

@@ -1,0 +1,2 @@
+-- The definitions that the contracts of `schema` cite: lent type trees.
+pub mod Tree
