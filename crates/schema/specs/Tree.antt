@@ -6,8 +6,8 @@ use mathlib.Core.List.{List, []}
 use Prim.Native.Nat.{ℕ, zero, suc, _+_, _*_, _-_, _/_, _%_}
 use lib.ListN.{length, getD}
 use lib.Dec.{leb, ltb, eqb}
-use Rattle.formats.specs.Code.{codeAt, integer, fixed, string, view, listView, union, runEnd}
-use Rattle.formats.specs.Ids.{idsAt, sameFormat}
+use Rattle.formats.specs.Code.{codeAt, isInteger, isFixed, isString, isView, isListView, isUnion, isRunEnd}
+use Rattle.format_ids.specs.Ids.{idsAt, sameFormat}
 
 -- p holds of every i below n
 unfoldable pub every : (ℕ → Bool) → ℕ → Bool
@@ -92,11 +92,11 @@ module _ (formats schema : List ℕ) (first : ℕ) where
 
   -- "at most 16 union fields"
   unfoldable pub fewFields : ℕ → Bool
-  fewFields i = not (union (codeOf i)) || leb (children schema first i) 16
+  fewFields i = not (isUnion (codeOf i)) || leb (children schema first i) 16
 
   -- "Dictionary values are fixed-width or byte strings"
   unfoldable pub valuesShape : ℕ → Bool
-  valuesShape i = (fixed (codeOf i) || string (codeOf i)) && bare schema first i
+  valuesShape i = (isFixed (codeOf i) || isString (codeOf i)) && bare schema first i
 
   -- "Run ends are `s`, `i` or `l`."
   unfoldable pub endsShape : ℕ → Bool
@@ -104,20 +104,20 @@ module _ (formats schema : List ℕ) (first : ℕ) where
 
   -- numbers, byte strings and views have nothing below them
   unfoldable pub leafShape : ℕ → Bool
-  leafShape i = (fixed (codeOf i) || string (codeOf i) || view (codeOf i)) && bare schema first i
+  leafShape i = (isFixed (codeOf i) || isString (codeOf i) || isView (codeOf i)) && bare schema first i
 
   -- "an integer key format with a dictionary"
   unfoldable pub keysShape : ℕ → Bool
-  keysShape i = integer (codeOf i) && eqb (children schema first i) 0 && eqb (dictionary schema first i) 1 && valuesShape (suc i)
+  keysShape i = isInteger (codeOf i) && eqb (children schema first i) 0 && eqb (dictionary schema first i) 1 && valuesShape (suc i)
 
   unfoldable pub listShape : ℕ → Bool
-  listShape i = listView (codeOf i) && eqb (children schema first i) 1 && eqb (dictionary schema first i) 0
+  listShape i = isListView (codeOf i) && eqb (children schema first i) 1 && eqb (dictionary schema first i) 0
 
   unfoldable pub unionShape : ℕ → Bool
-  unionShape i = union (codeOf i) && childForEach schema first (idsOf i) i && eqb (dictionary schema first i) 0
+  unionShape i = isUnion (codeOf i) && childForEach schema first (idsOf i) i && eqb (dictionary schema first i) 0
 
   unfoldable pub runShape : ℕ → Bool
-  runShape i = runEnd (codeOf i) && eqb (children schema first i) 2 && eqb (dictionary schema first i) 0 && endsShape (suc i)
+  runShape i = isRunEnd (codeOf i) && eqb (children schema first i) 2 && eqb (dictionary schema first i) 0 && endsShape (suc i)
 
   -- node i and what stands below it are of a type that 01 admits
   unfoldable pub shape : ℕ → Bool

@@ -226,7 +226,7 @@ fn has_child_for_each(formats: &[u8], schema: &[u32], first: usize, i: usize) ->
     let len = get(schema, first + i, 1) as usize;
     let n = children_of(schema, first, i);
     let mut ids = [0u8; 16];
-    let formats::Ids::Count(k) = formats::union_ids(formats, at, len, &mut ids) else {
+    let format_ids::Ids::Count(k) = format_ids::union_ids(formats, at, len, &mut ids) else {
         return false;
     };
     k as u32 == n
@@ -307,7 +307,7 @@ fn has_same_format(formats: &[u8], schema: &[u32], first: usize, first2: usize, 
     let len = get(schema, first + i, 1) as usize;
     let at2 = get(schema, first2 + i, 0) as usize;
     let len2 = get(schema, first2 + i, 1) as usize;
-    formats::same_format(formats, at, len, at2, len2)
+    format_ids::same_format(formats, at, len, at2, len2)
 }
 
 // Whether the nodes i of two trees are of the same type.
