@@ -1,2 +1,3 @@
 -- The laws that the proofs of `schema` cite.
 pub mod Laws
+pub mod Trees
