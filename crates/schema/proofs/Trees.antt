@@ -13,7 +13,7 @@ use Rattle.schema.proofs.Laws.{end-step, end-none, due-step}
 -- ---- p subtrees, and q behind them
 
 module _ (schema : List ℕ) (first : ℕ) where
-  end-up : (f p i : ℕ) → i ≤ endFrom schema first f p i
+  pub end-up : (f p i : ℕ) → i ≤ endFrom schema first f p i
   unfolding endFrom
   end-up zero p i = omega arith
   end-up (suc f) zero i = omega arith
@@ -21,7 +21,7 @@ module _ (schema : List ℕ) (first : ℕ) where
       let h : suc i ≤ endFrom schema first f (p + below schema first i) (suc i) = end-up f (p + below schema first i) (suc i) in
       omega arith
 
-  end-fit : (f p i : ℕ) → endFrom schema first f p i ≤ i + f
+  pub end-fit : (f p i : ℕ) → endFrom schema first f p i ≤ i + f
   unfolding endFrom
   end-fit zero p i = omega arith
   end-fit (suc f) zero i = omega arith
@@ -34,7 +34,7 @@ module _ (schema : List ℕ) (first : ℕ) where
   end-zero zero i = refl
   end-zero (suc f) i = refl
 
-  end-split : (f p q i : ℕ) → endFrom schema first f (p + q) i ≡ endFrom schema first (f - (endFrom schema first f p i - i)) q (endFrom schema first f p i)
+  pub end-split : (f p q i : ℕ) → endFrom schema first f (p + q) i ≡ endFrom schema first (f - (endFrom schema first f p i - i)) q (endFrom schema first f p i)
   unfolding endFrom
   end-split zero p q i = let e : zero ≡ zero - (i - i) = omega arith in ap (λ x. endFrom schema first x q i) e
   end-split (suc f) zero q i =
@@ -82,7 +82,7 @@ module _ (schema : List ℕ) (first n : ℕ) where
   end-inside i l = omega (arith, end-fit schema first (n - i) 1 i)
 
   -- a node's subtree begins with it, and then come those below it
-  end-one : (i : ℕ) → i < n → endOf schema first n i ≡ endFrom schema first (n - suc i) (below schema first i) (suc i)
+  pub end-one : (i : ℕ) → i < n → endOf schema first n i ≡ endFrom schema first (n - suc i) (below schema first i) (suc i)
   unfolding endOf
   end-one i l =
       let z : 1 - 1 + below schema first i ≡ below schema first i = omega arith in
@@ -100,13 +100,13 @@ module _ (schema : List ℕ) (first n : ℕ) where
   pub end-after : (i : ℕ) → i < n → i < endOf schema first n i
   end-after i l = omega (arith, end-one i l, end-up schema first (n - suc i) (below schema first i) (suc i))
 
-  split : (k p q : ℕ) → k ≤ n → endFrom schema first (n - k) (p + q) k ≡ endFrom schema first (n - endFrom schema first (n - k) p k) q (endFrom schema first (n - k) p k)
+  pub split : (k p q : ℕ) → k ≤ n → endFrom schema first (n - k) (p + q) k ≡ endFrom schema first (n - endFrom schema first (n - k) p k) q (endFrom schema first (n - k) p k)
   split k p q l =
       let e = endFrom schema first (n - k) p k in
       let u : n - k - (e - k) ≡ n - e = omega (arith, end-up schema first (n - k) p k, end-fit schema first (n - k) p k) in
       end-split schema first (n - k) p q k ∙ ap (λ x. endFrom schema first x q e) u
 
-  child-is : (i : ℕ) → i < n → (c : ℕ) → childAt schema first n i c ≡ endFrom schema first (n - suc i) c (suc i)
+  pub child-is : (i : ℕ) → i < n → (c : ℕ) → childAt schema first n i c ≡ endFrom schema first (n - suc i) c (suc i)
   unfolding childAt endOf
   child-is i l zero = sym (end-zero schema first (n - suc i) (suc i))
   child-is i l (suc c) =
