@@ -1,2 +1,5 @@
 -- The laws that the proofs of `schema` cite.
 pub mod Laws
+pub mod Trees
+pub mod Depth
+pub mod Known

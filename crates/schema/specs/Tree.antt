@@ -29,16 +29,19 @@ module _ (schema : List ℕ) (first : ℕ) where
   abbrev pub flag : ℕ → ℕ
   flag i = field schema (first + i) 2 / 2 % 2
 
+  -- the field may hold nulls
   abbrev pub nullable : ℕ → Bool
   nullable i = eqb (flag i) 1
 
+  -- how many children node i has
   abbrev pub children : ℕ → ℕ
   children i = field schema (first + i) 3
 
+  -- 1 if node i has a dictionary and else 0; any other number is ground 10
   abbrev pub dictionary : ℕ → ℕ
   dictionary i = field schema (first + i) 4
 
-  -- "Dictionary values .. count as a node"
+  -- how many subtrees stand below node i ("Dictionary values .. count as a node")
   unfoldable pub below : ℕ → ℕ
   below i = children i + cond (eqb (dictionary i) 0) 0 1
 
@@ -74,6 +77,11 @@ module _ (schema : List ℕ) (first n : ℕ) where
   unfoldable pub endOf : ℕ → ℕ
   endOf i = endFrom schema first (n - i) 1 i
 
+  -- where the subtree below node i that has c others before it begins: behind the node, then one behind the other
+  unfoldable pub childAt : ℕ → ℕ → ℕ
+  childAt i zero = suc i
+  childAt i (suc c) = endOf (childAt i c)
+
   -- "depth (the root is 1)": one more than the earlier nodes whose subtree it is in
   unfoldable pub depth : ℕ → ℕ
   depth i = suc (count (λ j. ltb i (endOf j)) i)
@@ -84,9 +92,11 @@ module _ (schema : List ℕ) (first n : ℕ) where
 
 -- ---- with the formats that the nodes name
 module _ (formats schema : List ℕ) (first : ℕ) where
+  -- the code of node i's format; 0 where 01 does not admit it
   unfoldable pub codeOf : ℕ → ℕ
   codeOf i = codeAt formats (field schema (first + i) 0) (field schema (first + i) 1)
 
+  -- the ids of node i's format, where it is a union's
   unfoldable pub idsOf : ℕ → Option (List ℕ)
   idsOf i = idsAt formats (field schema (first + i) 0) (field schema (first + i) 1)
 
@@ -110,12 +120,15 @@ module _ (formats schema : List ℕ) (first : ℕ) where
   unfoldable pub keysShape : ℕ → Bool
   keysShape i = isInteger (codeOf i) && eqb (children schema first i) 0 && eqb (dictionary schema first i) 1 && valuesShape (suc i)
 
+  -- a list-view has one child
   unfoldable pub listShape : ℕ → Bool
   listShape i = isListView (codeOf i) && eqb (children schema first i) 1 && eqb (dictionary schema first i) 0
 
+  -- a union has a child for each id
   unfoldable pub unionShape : ℕ → Bool
   unionShape i = isUnion (codeOf i) && childForEach schema first (idsOf i) i && eqb (dictionary schema first i) 0
 
+  -- a run-end node has run ends and values
   unfoldable pub runShape : ℕ → Bool
   runShape i = isRunEnd (codeOf i) && eqb (children schema first i) 2 && eqb (dictionary schema first i) 0 && endsShape (suc i)
 
@@ -139,6 +152,7 @@ unfoldable pub sameFlag : List ℕ → ℕ → ℕ → ℕ → Bool
 sameFlag schema first first′ i = eqb i 0 || isValues schema first i || eqb (flag schema first i) (flag schema first′ i)
 
 module _ (formats schema : List ℕ) (first first′ : ℕ) where
+  -- the nodes i of both trees have the same format
   unfoldable pub sameFormats : ℕ → Bool
   sameFormats i =
       sameFormat
@@ -148,6 +162,7 @@ module _ (formats schema : List ℕ) (first first′ : ℕ) where
       (field schema (first′ + i) 0)
       (field schema (first′ + i) 1)
 
+  -- .. and as many children, both a dictionary or neither, and the same flag
   unfoldable pub sameNode : ℕ → Bool
   sameNode i =
       sameFormats i

@@ -120,7 +120,7 @@ pub fn is_whole(schema: &[u32], first: usize, n: usize) -> bool
 
 // One more than the earlier nodes whose subtree node i is in: the root's is 1.
 pub fn depth_of(schema: &[u32], first: usize, n: usize, i: usize) -> usize
-    requires { ⌜ (first < 4294967296) × (n < 4294967296) × (i < n) ⌝ }
+    requires { ⌜ (first < 4294967296) × (n < 4294967296) × (i < 4294967296) ⌝ }
     ensures { λ r. ⌜ r ≡ depth (now (schema .entry)) first n i ⌝ }
 {
     let mut d: usize = 1;
