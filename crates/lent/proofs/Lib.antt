@@ -1,0 +1,2 @@
+-- The laws of `lent`.
+pub mod Lent

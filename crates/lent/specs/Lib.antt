@@ -1,0 +1,2 @@
+-- The definitions that the laws of `lent` cite.
+pub mod Lent

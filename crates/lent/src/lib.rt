@@ -1,0 +1,6 @@
+// Lent type trees as types.
+
+// How deep a type tree may be.
+pub fn deepest() -> usize {
+    8
+}
