@@ -1,2 +1,4 @@
 -- The laws of `lent`.
+pub mod Ids
+pub mod Shaped
 pub mod Lent
