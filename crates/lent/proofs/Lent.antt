@@ -1,28 +1,26 @@
--- A lent type tree that passes the tests of crate `schema` stands for a type that 01 admits, and the type has all its nodes. Assumes nothing.
+-- A lent type tree that passes the tests of crate `schema` stands for a type that 01 admits. Assumes nothing.
 use mathlib.Core.Path.{_≡_, refl, ap, sym, subst, _∙_}
-use mathlib.Core.Bool.{Bool, true, false, _&&_}
-use mathlib.Core.List.{List, [], _∷_, List·Memᴰ, List·Memᴰ·head, List·Memᴰ·tail, Memᴰ·append-left, Memᴰ·append-right}
+use mathlib.Core.Bool.{true, _&&_}
+use mathlib.Core.List.{List}
 use Prim.Native.Nat.{ℕ, zero, suc, _+_, _≤_, _<_}
-use lib.ListN.{length}
 use native.Mathlib.Omega.{arith}
-use lib.Dec.{leb, ltb, eqb}
-use borrow.Author.Tests.{leb-true, eqb-true, eqb-false, ltb-true, ltb-false}
-use Rattle.columnar.specs.Types.{Number, width, Plain, fixed, string, Ty}
+use lib.Dec.{leb, eqb}
+use borrow.Author.Tests.{leb-true, eqb-true}
+use Rattle.columnar.specs.Types.{Plain, fixed, string}
 use Rattle.columnar.specs.Formed.{Formed, FormedPlain}
 use Rattle.schema.specs.Tree.{below, dueFrom, endOf, childAt, depth, count, whole, ceilings, typed}
 use Rattle.schema.proofs.Trees.{child-inside, children-end}
 use Rattle.schema.proofs.Depth.{child-depth}
 use Rattle.schema.proofs.Known.{typed-whole, typed-shape, within-depth}
-use Rattle.array_data.specs.Tables.{Tables}
-use Rattle.array_data.specs.Typed.{Tree, childNode, fieldOf, nodeOf, allOf, MeansPlain, MeansEnds, Means, nodes}
+use Rattle.array_data.specs.Typed.{Tree, childNode, fieldOf, MeansPlain, MeansEnds, Means}
 use Rattle.lent.specs.Lent.{kindAt, treeOf, plainAs, tyAs, tyOf}
-use Rattle.lent.proofs.Ids.{both, field-in, field-id}
+use Rattle.lent.proofs.Ids.{both, field-in}
 use Rattle.lent.proofs.Shaped.{plainKind, Shaped, of-plain, of-view, of-list, of-sparse, of-dense, of-run, of-dictionary, shaped}
 
 -- ---- a tree that passes
 
 module _ (formats schema : List ℕ) (first n : ℕ) where
-  abbrev tree : Tree
+  abbrev pub tree : Tree
   tree = treeOf formats schema first n
 
   pub child-same : (i j : ℕ) → childAt schema first n i j ≡ childNode tree i j
@@ -31,15 +29,15 @@ module _ (formats schema : List ℕ) (first n : ℕ) where
   child-same i (suc j) = ap (endOf schema first n) (child-same i j)
 
   -- the node behind one with nothing below it
-  after-leaf : (i : ℕ) → i < n → below schema first i ≡ 0 → endOf schema first n i ≡ suc i
+  pub after-leaf : (i : ℕ) → i < n → below schema first i ≡ 0 → endOf schema first n i ≡ suc i
   unfolding childAt
   after-leaf i l z = sym (children-end schema first n i l) ∙ ap (childAt schema first n i) z
 
-  first-child : (i : ℕ) → childAt schema first n i 0 ≡ suc i
+  pub first-child : (i : ℕ) → childAt schema first n i 0 ≡ suc i
   unfolding childAt
   first-child i = refl
 
-  second-child : (i : ℕ) → suc i < n → below schema first (suc i) ≡ 0 → childAt schema first n i 1 ≡ suc (suc i)
+  pub second-child : (i : ℕ) → suc i < n → below schema first (suc i) ≡ 0 → childAt schema first n i 1 ≡ suc (suc i)
   unfolding childAt
   second-child i l z = after-leaf (suc i) l z
 
@@ -97,13 +95,17 @@ module _ (formats schema : List ℕ) (first n : ℕ) where
   formed-by f i w l (of-dictionary m p e z e1 z1 g d) kid =
       subst (λ k. Formed (tyAs tree (tyOf tree f) k i)) (sym e) (g, subst FormedPlain (sym (ap plainAs e1 ∙ plain-as p)) d)
 
-  some-node : whole schema first n ≡ true → 0 < n
+  pub some-node : whole schema first n ≡ true → 0 < n
   unfolding whole
   some-node w =
       let p = both (leb 1 n && eqb (dueFrom schema first n 1 0) 0) (eqb (endOf schema first n 0) n) w in
       leb-true 1 n (both (leb 1 n) (eqb (dueFrom schema first n 1 0) 0) (p .0) .0)
 
-  root : 9 ≤ depth schema first n 0 + 8
+  pub whole-end : whole schema first n ≡ true → endOf schema first n 0 ≡ n
+  unfolding whole
+  whole-end w = eqb-true (endOf schema first n 0) n (both (leb 1 n && eqb (dueFrom schema first n 1 0) 0) (eqb (endOf schema first n 0) n) w .1)
+
+  pub root : 9 ≤ depth schema first n 0 + 8
   unfolding depth count
   root = omega arith
 

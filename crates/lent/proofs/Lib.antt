@@ -2,3 +2,4 @@
 pub mod Ids
 pub mod Shaped
 pub mod Lent
+pub mod Covered
