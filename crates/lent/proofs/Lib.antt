@@ -3,3 +3,4 @@ pub mod Ids
 pub mod Shaped
 pub mod Lent
 pub mod Covered
+pub mod Source

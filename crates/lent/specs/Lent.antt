@@ -84,3 +84,7 @@ tyAs t sub (dictionaryNode m) i = tDictionary m (plainAs (t .kind (suc i)))
 unfoldable pub tyOf : Tree → ℕ → ℕ → Ty
 tyOf t zero i = tPlain (fixed i8)
 tyOf t (suc f) i = tyAs t (tyOf t f) (t .kind i) i
+
+-- THE TYPE that n nodes from node `first` on stand for: trees are at most 8 deep
+abbrev pub typeOf : List ℕ → List ℕ → ℕ → ℕ → Ty
+typeOf formats schema first n = tyOf (treeOf formats schema first n) 8 0
