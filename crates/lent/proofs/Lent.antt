@@ -13,7 +13,7 @@ use Rattle.schema.proofs.Trees.{child-inside, children-end}
 use Rattle.schema.proofs.Depth.{child-depth}
 use Rattle.schema.proofs.Known.{typed-whole, typed-shape, within-depth}
 use Rattle.array_data.specs.Typed.{Tree, childNode, fieldOf, MeansPlain, MeansEnds, Means}
-use Rattle.lent.specs.Lent.{kindAt, treeOf, plainAs, tyAs, tyOf}
+use Rattle.lent.specs.Lent.{kindAt, treeOf, plainAs, tyAs, tyOf, typeOf}
 use Rattle.lent.proofs.Ids.{both, field-in}
 use Rattle.lent.proofs.Shaped.{plainKind, Shaped, of-plain, of-view, of-list, of-sparse, of-dense, of-run, of-dictionary, shaped}
 
@@ -118,7 +118,7 @@ module _ (formats schema : List ℕ) (first n : ℕ) where
         (λ j b. means-at f (childAt schema first n i j) (child-inside schema first n w i j l b) (omega (arith, child-depth schema first n w i j l b)))
 
     -- THE TREE STANDS FOR A TYPE
-    pub means : Means tree (tyOf tree 8 0) 0
+    pub means : Means tree (typeOf formats schema first n) 0
     means = means-at 8 0 (some-node (typed-whole formats schema first n t)) root
 
     formed-at : (f i : ℕ) → i < n → 9 ≤ depth schema first n i + f → Formed (tyOf tree f i)
@@ -129,5 +129,5 @@ module _ (formats schema : List ℕ) (first n : ℕ) where
         (λ j b. formed-at f (childAt schema first n i j) (child-inside schema first n w i j l b) (omega (arith, child-depth schema first n w i j l b)))
 
     -- .. THAT 01 ADMITS
-    pub formed : Formed (tyOf tree 8 0)
+    pub formed : Formed (typeOf formats schema first n)
     formed = formed-at 8 0 (some-node (typed-whole formats schema first n t)) root
