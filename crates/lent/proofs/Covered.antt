@@ -100,13 +100,13 @@ module _ (formats schema : List ℕ) (first n : ℕ) where
           let zero-th : r .child ≡ 0 = omega arith in
           let at : childAt schema first n i (r .child) ≡ suc i = ap (childAt schema first n i) zero-th ∙ first-child formats schema first n i in
           subst (InKind f i j) (sym e) (List·Memᴰ·tail (subst (λ k. In f k j) at (kid (r .child) h (r .from) (r .to))))
-      covered-by f i j l (of-sparse ids e z d) r kid =
+      covered-by f i j l (of-sparse ids e z d o) r kid =
           let h = r .one-of in
           let q = field-id ids d (r .child) (omega arith) in
           let m = field-node f i j (r .child) ids (q .id) (q .field) (kid (r .child) h (r .from) (r .to)) in
           subst (InKind f i j) (sym e)
           (List·Memᴰ·tail (all-in (λ c. nodes (tree formats schema first n) x (tyOf (tree formats schema first n) f (nodeOf (tree formats schema first n) i ids c)) (nodeOf (tree formats schema first n) i ids c)) ids (q .id) j (q .declared) m))
-      covered-by f i j l (of-dense ids e z d) r kid =
+      covered-by f i j l (of-dense ids e z d o) r kid =
           let h = r .one-of in
           let q = field-id ids d (r .child) (omega arith) in
           let m = field-node f i j (r .child) ids (q .id) (q .field) (kid (r .child) h (r .from) (r .to)) in

@@ -60,10 +60,10 @@ module _ (formats schema : List ℕ) (first n : ℕ) where
   means-by f i w l (of-view e z) kid = subst (λ k. Means tree (tyAs tree (tyOf tree f) k i) i) (sym e) (l, e)
   means-by f i w l (of-list v e z d) kid =
       subst (λ k. Means tree (tyAs tree (tyOf tree f) k i) i) (sym e) ((l, e), subst (MeansFrom f) (first-child i) (kid 0 (omega arith)))
-  means-by f i w l (of-sparse ids e z d) kid =
+  means-by f i w l (of-sparse ids e z d o) kid =
       subst (λ k. Means tree (tyAs tree (tyOf tree f) k i) i) (sym e)
       ((l, e), λ c q. (refl, subst (MeansFrom f) (child-same i (fieldOf ids c)) (kid (fieldOf ids c) (omega (arith, field-in ids c q)))))
-  means-by f i w l (of-dense ids e z d) kid =
+  means-by f i w l (of-dense ids e z d o) kid =
       subst (λ k. Means tree (tyAs tree (tyOf tree f) k i) i) (sym e)
       ((l, e), λ c q. (refl, subst (MeansFrom f) (child-same i (fieldOf ids c)) (kid (fieldOf ids c) (omega (arith, field-in ids c q)))))
   means-by f i w l (of-run m e z e1 z1 d) kid =
@@ -83,10 +83,10 @@ module _ (formats schema : List ℕ) (first n : ℕ) where
   formed-by f i w l (of-view e z) kid = subst (λ k. Formed (tyAs tree (tyOf tree f) k i)) (sym e) tt
   formed-by f i w l (of-list v e z d) kid =
       subst (λ k. Formed (tyAs tree (tyOf tree f) k i)) (sym e) (d, subst (λ k. Formed (tyOf tree f k)) (first-child i) (kid 0 (omega arith)))
-  formed-by f i w l (of-sparse ids e z d) kid =
+  formed-by f i w l (of-sparse ids e z d o) kid =
       subst (λ k. Formed (tyAs tree (tyOf tree f) k i)) (sym e)
       (d, λ c q. subst (λ k. Formed (tyOf tree f k)) (child-same i (fieldOf ids c)) (kid (fieldOf ids c) (omega (arith, field-in ids c q))))
-  formed-by f i w l (of-dense ids e z d) kid =
+  formed-by f i w l (of-dense ids e z d o) kid =
       subst (λ k. Formed (tyAs tree (tyOf tree f) k i)) (sym e)
       (d, λ c q. subst (λ k. Formed (tyOf tree f k)) (child-same i (fieldOf ids c)) (kid (fieldOf ids c) (omega (arith, field-in ids c q))))
   formed-by f i w l (of-run m e z e1 z1 d) kid =

@@ -4,3 +4,4 @@ pub mod Shaped
 pub mod Lent
 pub mod Covered
 pub mod Source
+pub mod Same

@@ -164,8 +164,8 @@ module _ (formats schema : List ℕ) (first : ℕ) where
     of-plain : (p : Plain) → kindAt formats schema first i ≡ plainKind p → below schema first i ≡ 0 → FormedPlain p → Shaped i
     of-view : kindAt formats schema first i ≡ viewNode → below schema first i ≡ 0 → Shaped i
     of-list : (w : ℕ) → kindAt formats schema first i ≡ listViewNode w → below schema first i ≡ 1 → OffsetWidth w → Shaped i
-    of-sparse : (ids : List ℕ) → kindAt formats schema first i ≡ sparseNode ids → below schema first i ≡ length ids → Ids ids → Shaped i
-    of-dense : (ids : List ℕ) → kindAt formats schema first i ≡ denseNode ids → below schema first i ≡ length ids → Ids ids → Shaped i
+    of-sparse : (ids : List ℕ) → kindAt formats schema first i ≡ sparseNode ids → below schema first i ≡ length ids → Ids ids → eqb (dictionary schema first i) 0 ≡ true → Shaped i
+    of-dense : (ids : List ℕ) → kindAt formats schema first i ≡ denseNode ids → below schema first i ≡ length ids → Ids ids → eqb (dictionary schema first i) 0 ≡ true → Shaped i
     of-run : (m : Number) → kindAt formats schema first i ≡ runEndNode (width m) → below schema first i ≡ 2
         → kindAt formats schema first (suc i) ≡ fixedNode m → below schema first (suc i) ≡ 0 → RunWidth (width m) → Shaped i
     of-dictionary : (m : Number) (p : Plain) → kindAt formats schema first i ≡ dictionaryNode m → below schema first i ≡ 1
@@ -226,7 +226,7 @@ module _ (formats schema : List ℕ) (first : ℕ) where
   unfolding kindAt
   at-union i h = kind-union (code i) (single i) (idsOf formats schema first i) (code (suc i)) h
 
-  at-run : (i : ℕ) → isRunEnd (code i) ≡ true → kindAt formats schema first i ≡ runEndNode (widthOf (code (suc i)))
+  pub at-run : (i : ℕ) → isRunEnd (code i) ≡ true → kindAt formats schema first i ≡ runEndNode (widthOf (code (suc i)))
   unfolding kindAt
   at-run i h = kind-run (code i) (single i) (idsOf formats schema first i) (code (suc i)) h
 
@@ -288,9 +288,9 @@ module _ (formats schema : List ℕ) (first : ℕ) where
   ids-children none i h = absurd (false≢true h)
   ids-children (some ids) i h = eqb-true (length ids) (children schema first i) h
 
-  union-by : (i : ℕ) (ids : List ℕ) (b : Bool) → kindAt formats schema first i ≡ unionKind b ids → below schema first i ≡ length ids → Ids ids → Shaped i
-  union-by i ids true e h f = of-sparse ids e h f
-  union-by i ids false e h f = of-dense ids e h f
+  union-by : (i : ℕ) (ids : List ℕ) (b : Bool) → kindAt formats schema first i ≡ unionKind b ids → below schema first i ≡ length ids → Ids ids → eqb (dictionary schema first i) 0 ≡ true → Shaped i
+  union-by i ids true e h f s = of-sparse ids e h f s
+  union-by i ids false e h f s = of-dense ids e h f s
 
   ids-at : (i : ℕ) → Ids (idsOr (idsOf formats schema first i))
   unfolding idsOf
@@ -302,7 +302,7 @@ module _ (formats schema : List ℕ) (first : ℕ) where
       let ids = idsOf formats schema first i in
       let p = both (isUnion (code i) && childForEach schema first ids i) (single i) h in
       let q = both (isUnion (code i)) (childForEach schema first ids i) (p .0) in
-      union-by i (idsOr ids) (eqb (code i) 19) (at-union i (q .0)) (below-single i (p .1) ∙ sym (ids-children ids i (q .1))) (ids-at i)
+      union-by i (idsOr ids) (eqb (code i) 19) (at-union i (q .0)) (below-single i (p .1) ∙ sym (ids-children ids i (q .1))) (ids-at i) (p .1)
 
   run-shaped : (i : ℕ) → runShape formats schema first i ≡ true → Shaped i
   unfolding runShape endsShape
