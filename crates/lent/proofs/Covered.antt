@@ -1,21 +1,19 @@
 -- Each node of a lent type tree is a node of its type. Assumes nothing.
 use mathlib.Core.Path.{_≡_, refl, ap, sym, subst, _∙_}
 use mathlib.Core.Bool.{Bool, true, false}
-use mathlib.Core.List.{List, [], _∷_, List·Memᴰ, List·Memᴰ·head, List·Memᴰ·tail, Memᴰ·append-left, Memᴰ·append-right}
+use mathlib.Core.List.{List, _∷_, List·Memᴰ, List·Memᴰ·head, List·Memᴰ·tail, Memᴰ·append-left, Memᴰ·append-right}
 use Prim.Native.Nat.{ℕ, zero, suc, _+_, _≤_, _<_}
-use lib.ListN.{length}
 use native.Mathlib.Omega.{arith}
-use lib.Dec.{leb, ltb, eqb, T}
+use lib.Dec.{ltb, eqb}
 use borrow.Author.Tests.{eqb-true, eqb-false, ltb-true, ltb-false}
 use Rattle.columnar.specs.Types.{width, Ty, tPlain, tView, tListView, tSparse, tDense, tRunEnd, tDictionary}
-use Rattle.columnar.specs.Formed.{Ids}
 use Rattle.schema.specs.Tree.{below, endOf, childAt, depth, whole, ceilings, typed}
 use Rattle.schema.proofs.Trees.{child-inside, children-end}
 use Rattle.schema.proofs.Depth.{child-depth}
 use Rattle.schema.proofs.Known.{typed-whole, typed-shape, within-depth}
 use Rattle.array_data.specs.Tables.{Tables}
-use Rattle.array_data.specs.Typed.{NodeKind, runEndNode, Tree, childNode, fieldOf, nodeOf, allOf, nodes}
-use Rattle.lent.specs.Lent.{treeOf, tyAs, tyOf}
+use Rattle.array_data.specs.Typed.{NodeKind, runEndNode, childNode, fieldOf, nodeOf, allOf, nodes}
+use Rattle.lent.specs.Lent.{tyAs, tyOf}
 use Rattle.lent.proofs.Ids.{field-id}
 use Rattle.lent.proofs.Shaped.{Shaped, of-plain, of-view, of-list, of-sparse, of-dense, of-run, of-dictionary, shaped}
 use Rattle.lent.proofs.Lent.{tree, child-same, after-leaf, first-child, second-child, some-node, whole-end, root}

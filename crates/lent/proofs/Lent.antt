@@ -12,7 +12,7 @@ use Rattle.schema.specs.Tree.{below, dueFrom, endOf, childAt, depth, count, who
 use Rattle.schema.proofs.Trees.{child-inside, children-end}
 use Rattle.schema.proofs.Depth.{child-depth}
 use Rattle.schema.proofs.Known.{typed-whole, typed-shape, within-depth}
-use Rattle.array_data.specs.Typed.{Tree, childNode, fieldOf, MeansPlain, MeansEnds, Means}
+use Rattle.array_data.specs.Typed.{Tree, childNode, fieldOf, MeansPlain, Means}
 use Rattle.lent.specs.Lent.{kindAt, treeOf, plainAs, tyAs, tyOf, typeOf}
 use Rattle.lent.proofs.Ids.{both, field-in}
 use Rattle.lent.proofs.Shaped.{plainKind, Shaped, of-plain, of-view, of-list, of-sparse, of-dense, of-run, of-dictionary, shaped}

@@ -3,5 +3,5 @@ pub mod Ids
 pub mod Shaped
 pub mod Lent
 pub mod Covered
-pub mod Source
 pub mod Same
+pub mod Source

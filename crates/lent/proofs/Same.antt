@@ -2,24 +2,25 @@
 use mathlib.Core.Path.{_≡_, refl, ap, sym, subst, _∙_}
 use mathlib.Core.Bool.{Bool, true, false, not, cond, _&&_, _||_, false≢true}
 use mathlib.Core.Option.{Option, none, some}
-use mathlib.Core.List.{List, [], _∷_}
+use mathlib.Core.List.{List, [], _∷_, _++_, List·Memᴰ, List·Memᴰ·head, List·Memᴰ·tail}
 use Prim.Native.Nat.{ℕ, zero, suc, _+_, _-_, _≤_, _<_}
-use lib.ListN.{length}
 use native.Mathlib.Omega.{arith}
-use lib.Dec.{leb, eqb}
-use borrow.Author.Tests.{eqb-true, eqb-false, ne-eqb, not-true}
-use Rattle.columnar.specs.Types.{Number, Plain, fixed, string}
+use lib.Dec.{eqb}
+use borrow.Author.Tests.{eqb-true, ne-eqb}
+use Rattle.columnar.specs.Types.{Plain, fixed, string}
 use Rattle.formats.specs.Code.{same, isFixed, isString, isView, isListView, isUnion, isRunEnd, widthOf}
 use Rattle.format_ids.specs.Ids.{sameIds}
 use Rattle.schema.specs.Tree.{flag, children, dictionary, below, endFrom, endOf, childAt, depth, whole, isValues, codeOf, idsOf, ceilings, typed, sameFlag, sameFormats, sameNode, sameType}
 use Rattle.schema.proofs.Trees.{child-inside, child-is, end-up, end-after, end-inside}
 use Rattle.schema.proofs.Depth.{nested, child-before, child-depth}
 use Rattle.schema.proofs.Known.{typed-whole, typed-shape, within-depth, same-size, same-node}
-use Rattle.array_data.specs.Typed.{NodeKind, fixedNode, stringNode, viewNode, listViewNode, sparseNode, denseNode, runEndNode, dictionaryNode, Tree, childNode, fieldOf, MeansPlain, MeansEnds, Means}
+use Rattle.array_data.specs.Tables.{Tables}
+use Rattle.array_data.specs.Typed.{NodeKind, fixedNode, stringNode, viewNode, listViewNode, sparseNode, denseNode, runEndNode, dictionaryNode, Tree, childNode, fieldOf, allOf, MeansPlain, Means, nodes}
 use Rattle.lent.specs.Lent.{idsOr, unionKind, kindOf, kindAt, treeOf, plainAs, tyAs, tyOf, typeOf}
 use Rattle.lent.proofs.Ids.{both, field-in}
 use Rattle.lent.proofs.Shaped.{plainKind, Shaped, of-plain, of-view, of-list, of-sparse, of-dense, of-run, of-dictionary, shaped, at-run}
 use Rattle.lent.proofs.Lent.{child-same, first-child, second-child, some-node, root}
+use Rattle.lent.proofs.Covered.{covered}
 
 -- ---- formats
 
@@ -72,6 +73,11 @@ module _ (formats schema : List ℕ) (first : ℕ) where
   run-below i h (of-dense ids e z d o) = absurd (false≢true (ap isRun (sym e ∙ at-run formats schema first i h)))
   run-below i h (of-run m e z e1 z1 d) = omega arith
   run-below i h (of-dictionary m p e z e1 z1 g d) = omega arith
+
+all-same : (f g : ℕ → List ℕ) (ids : List ℕ) → ((c : ℕ) → List·Memᴰ c ids → f c ≡ g c) → allOf f ids ≡ allOf g ids
+all-same f g [] h = refl
+all-same f g (c ∷ cs) h =
+    ap (λ r. r ++ allOf f cs) (h c (List·Memᴰ·head refl)) ∙ ap (λ r. g c ++ r) (all-same f g cs (λ d q. h d (List·Memᴰ·tail q)))
 
 third : (a b c : Bool) → a || b || c ≡ true → a ≡ false → b ≡ false → c ≡ true
 third true b c h x y = absurd (false≢true (sym x))
@@ -252,6 +258,39 @@ module _ (formats schema : List ℕ) (first first′ n : ℕ) (agree : (i : ℕ)
         subst (λ k. Means there (tyAs here (tyOf here f) k i) i) (sym e)
         ((l, sym k ∙ e), subst (λ q. MeansPlain there q (suc i)) (sym (ap plainAs e1 ∙ plain-as p)) (plain-there p (suc i) next (sym (k1 (omega arith)) ∙ e1)))
 
+    module _ (x : Tables) where
+      -- the type's nodes are the same in both trees
+      abbrev SameNodes : ℕ → ℕ → Type 0
+      SameNodes f i = nodes here x (tyOf here f i) i ≡ nodes there x (tyOf here f i) i
+
+      abbrev SameOf : ℕ → ℕ → NodeKind → Type 0
+      SameOf f i k = nodes here x (tyAs here (tyOf here f) k i) i ≡ nodes there x (tyAs here (tyOf here f) k i) i
+
+      field-nodes : (f i : ℕ) → i < n → (j : ℕ) → j < below schema first i → SameNodes f (childAt schema first n i j)
+          → nodes here x (tyOf here f (childNode here i j)) (childNode here i j) ≡ nodes there x (tyOf here f (childNode here i j)) (childNode there i j)
+      field-nodes f i l j h m =
+          let a = child-same formats schema first n i j in
+          let b = place-same i j l h ∙ child-same formats schema first′ n i j in
+          subst (λ z. nodes here x (tyOf here f z) z ≡ nodes there x (tyOf here f z) (childNode there i j)) a
+          (m ∙ ap (λ z. nodes there x (tyOf here f (childAt schema first n i j)) z) b)
+
+      nodes-by : (f i : ℕ) → i < n → Shaped formats schema first i → ((j : ℕ) → j < below schema first i → SameNodes f (childAt schema first n i j)) → SameNodes (suc f) i
+      unfolding tyOf
+      nodes-by f i l (of-plain (fixed m) e z d) kid = subst (SameOf f i) (sym e) refl
+      nodes-by f i l (of-plain (string v) e z d) kid = subst (SameOf f i) (sym e) refl
+      nodes-by f i l (of-view e z) kid = subst (SameOf f i) (sym e) refl
+      nodes-by f i l (of-list v e z d) kid = subst (SameOf f i) (sym e) (ap (λ r. i ∷ r) (subst (SameNodes f) (first-child formats schema first n i) (kid 0 (omega arith))))
+      nodes-by f i l (of-sparse ids e z d o) kid =
+          subst (SameOf f i) (sym e)
+          (ap (λ r. i ∷ r) (all-same _ _ ids (λ c q. let h : fieldOf ids c < below schema first i = omega (arith, field-in ids c q) in field-nodes f i l (fieldOf ids c) h (kid (fieldOf ids c) h))))
+      nodes-by f i l (of-dense ids e z d o) kid =
+          subst (SameOf f i) (sym e)
+          (ap (λ r. i ∷ r) (all-same _ _ ids (λ c q. let h : fieldOf ids c < below schema first i = omega (arith, field-in ids c q) in field-nodes f i l (fieldOf ids c) h (kid (fieldOf ids c) h))))
+      nodes-by f i l (of-run m e z e1 z1 d) kid =
+          let next = next-in i l (omega arith) in
+          subst (SameOf f i) (sym e) (ap (λ r. i ∷ suc i ∷ r) (subst (SameNodes f) (second-child formats schema first n i next z1) (kid 1 (omega arith))))
+      nodes-by f i l (of-dictionary m p e z e1 z1 g d) kid = subst (SameOf f i) (sym e) refl
+
   module _ (t : typed formats schema first n ≡ true) (c : ceilings formats schema first n ≡ true) where
     shaped-at : (i : ℕ) → i < n → Shaped formats schema first i
     shaped-at i l = shaped formats schema first i (typed-shape formats schema first n t i l)
@@ -268,6 +307,17 @@ module _ (formats schema : List ℕ) (first first′ n : ℕ) (agree : (i : ℕ)
         let w = typed-whole formats schema first n t in
         there-at w 8 0 (some-node formats schema first n w) (root formats schema first n)
 
+    nodes-at : (w : whole schema first n ≡ true) (x : Tables) (f i : ℕ) → i < n → 9 ≤ depth schema first n i + f → SameNodes w x f i
+    nodes-at w x zero i l h = absurd (omega (arith, within-depth formats schema first n c i l))
+    nodes-at w x (suc f) i l h =
+        nodes-by w x f i l (shaped-at i l)
+        (λ j b. nodes-at w x f (childAt schema first n i j) (child-inside schema first n w i j l b) (omega (arith, child-depth schema first n w i j l b)))
+
+    nodes-root : (x : Tables) → nodes (treeOf formats schema first n) x (typeOf formats schema first n) 0 ≡ nodes (treeOf formats schema first′ n) x (typeOf formats schema first n) 0
+    nodes-root x =
+        let w = typed-whole formats schema first n t in
+        nodes-at w x 8 0 (some-node formats schema first n w) (root formats schema first n)
+
 module _ (formats schema : List ℕ) (first n first′ n′ : ℕ) where
   -- THE SECOND TREE STANDS FOR THE FIRST ONE'S TYPE
   pub same-means : typed formats schema first n ≡ true → ceilings formats schema first n ≡ true → sameType formats schema first n first′ n′ ≡ true
@@ -275,3 +325,11 @@ module _ (formats schema : List ℕ) (first n first′ n′ : ℕ) where
   same-means t c s =
       subst (λ m. Means (treeOf formats schema first′ m) (typeOf formats schema first n) 0) (same-size formats schema first n first′ n′ s)
       (there-root formats schema first first′ n (same-node formats schema first n first′ n′ s) t c)
+
+  -- .. AND EACH OF ITS NODES IS ONE OF THAT TYPE'S
+  pub same-covered : typed formats schema first n ≡ true → ceilings formats schema first n ≡ true → sameType formats schema first n first′ n′ ≡ true
+      → (x : Tables) (j : ℕ) → j < n′ → List·Memᴰ j (nodes (treeOf formats schema first′ n′) x (typeOf formats schema first n) 0)
+  same-covered t c s x j l =
+      let e = same-size formats schema first n first′ n′ s in
+      subst (λ m. List·Memᴰ j (nodes (treeOf formats schema first′ m) x (typeOf formats schema first n) 0)) e
+      (subst (List·Memᴰ j) (nodes-root formats schema first first′ n (same-node formats schema first n first′ n′ s) t c x) (covered formats schema first n x t c j (omega arith)))
