@@ -21,7 +21,7 @@ abbrev pub idsOr : Option (List ℕ) → List ℕ
 idsOr none = []
 idsOr (some ids) = ids
 
--- a fixed-width format: of keys where there is a dictionary, and else of numbers
+-- a fixed-width format: of numbers where the node has no dictionary (true), and else of keys
 abbrev pub numberKind : Bool → Number → NodeKind
 numberKind true m = fixedNode m
 numberKind false m = dictionaryNode m
