@@ -22,7 +22,7 @@ use Rattle.row_rules.specs.Rules.{endsRows}
 use Rattle.row_rules.proofs.Links.{ends-test, ends-last}
 use Rattle.array_data.specs.Tables.{Tables, lengthOf, offsetOf, validOf, place, held, inBody, firstBuffer, part, arrayWith}
 use Rattle.array_data.specs.Rules.{runEndRule}
-use Rattle.node_rules.specs.Lent.{maskOf}
+use Rattle.lent_tables.specs.Lent.{maskOf}
 use Rattle.node_rules.specs.Rows.{startIn, validRows, runsValid, endsReach}
 
 -- ---- a part of the body, of which some may lie outside

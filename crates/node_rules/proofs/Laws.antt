@@ -1,4 +1,4 @@
--- What the rules of a node go by: tests one after the other, products without a product, parts of the body. Assumes nothing.
+-- What the rules of a node go by: rows of buffers that lie in the body. Assumes nothing.
 use mathlib.Core.Path.{_≡_, refl, sym, ap, _∙_}
 use mathlib.Core.Bool.{Bool, true, false, cond, not, _&&_, _||_, and-true}
 use mathlib.Core.List.{List, [], _∷_}
@@ -15,47 +15,9 @@ use Rattle.columnar.specs.Test.{same, plainTest, offsetsTest, listViewTest, arr
 use Rattle.array_data.specs.Tables.{Tables, lengthOf, offsetOf, validOf, place, held, validIn, inBody, firstBuffer, part}
 use Rattle.array_data.specs.Rules.{childOf, oneIn, twoIn, fixedRule, stringRule, listViewRule}
 use Rattle.row_rules.proofs.Links.{length-part, offsets-test, list-view-test}
-use Rattle.node_rules.specs.Lent.{maskOf}
+use Rattle.lent_tables.specs.Lent.{maskOf}
+use Rattle.lent_tables.proofs.Laws.{first-in, two-one, second-in}
 use Rattle.node_rules.specs.Rows.{stringRows, viewsRows}
-
--- ---- tests one after the other; r is what a call answered
-
-pub no : {r a : Bool} → r ≡ a → not r ≡ true → a ≡ false
-no {r} e h = sym e ∙ not-true r h
-
-pub yes : {r a : Bool} → r ≡ a → not r ≡ false → a ≡ true
-yes {r} e h = sym e ∙ not-false r h
-
-pub is-none : {r p : ℕ} → r ≡ p → r ≡ 0 → eqb p 0 ≡ true
-is-none {r} {p} e h = eq-eqb p 0 (sym e ∙ h)
-
-pub is-some : {r p : ℕ} → r ≡ p → (r ≡ 0 → ⊥) → eqb p 0 ≡ false
-is-some {r} {p} e h = ne-eqb p 0 (λ q. h (e ∙ q))
-
-false-true : false ≡ true → ⊥
-false-true q = let z : _≡_ {A = ℕ} 0 1 = cc in omega arith
-
-pub and-left : (a b : Bool) → a && b ≡ true → a ≡ true
-and-left true b h = refl
-and-left false b h = absurd (false-true h)
-
-pub and-right : (a b : Bool) → a && b ≡ true → b ≡ true
-and-right true b h = h
-and-right false b h = absurd (false-true h)
-
--- ---- n entries of w bytes
-
-pub fits-none : (n size : ℕ) {w : ℕ} → w ≡ 0 → true ≡ leb (n * w) size
-fits-none n size e = rw (e, mul-zero) (sym (le-leb 0 size (omega arith)))
-
-pub fits-more : (n w size : ℕ) → 0 < w → leb n (size / w) ≡ leb (n * w) size
-fits-more n w size h = go (leb n (size / w)) refl
-  where
-    go : (t : Bool) → leb n (size / w) ≡ t → leb n (size / w) ≡ leb (n * w) size
-    go true e = e ∙ sym (le-leb (n * w) size (le-div-iff-mul-le h .0 (leb-true _ _ e)))
-    go false e =
-        let f : n * w ≤ size → ⊥ = λ q. let g : n ≤ size / w = le-div-iff-mul-le h .1 q in omega (arith, leb-false n (size / w) e) in
-        e ∙ sym (lt-leb (n * w) size (omega (arith, f)))
 
 -- ---- rows of buffers that lie in the body
 
@@ -97,20 +59,11 @@ module _ (w : ℕ) (s : List ℕ) (start size begin room : ℕ) (inside : start 
 -- ---- one node
 
 module _ (x : Tables) (k : ℕ) where
-  pub first-in : oneIn x k ≡ true → place x k 3 + place x k 4 ≤ length (x .body)
-  first-in h = leb-true _ _ (and-right (held x k && validIn x k) _ h)
-
-  pub two-one : twoIn x k ≡ true → oneIn x k ≡ true
-  two-one h = and-left (oneIn x k) _ h
-
-  pub second-in : twoIn x k ≡ true → place x k 5 + place x k 6 ≤ length (x .body)
-  second-in h = leb-true _ _ (and-right (oneIn x k) _ h)
-
   -- numbers of w bytes
   pub fixed-last : {r : Bool} {count w size : ℕ} → oneIn x k ≡ true → maskOf x k true ≡ true
       → r ≡ leb (count * w) size → count ≡ offsetOf x k + lengthOf x k → size ≡ place x k 4
       → (n : Number) → width n ≡ w → r ≡ fixedRule x k n
-  fixed-last h m e c z n l = rw (h, m, length-part 0 (x .body) (place x k 3) (place x k 4) (first-in h), l, ← c, ← z) e
+  fixed-last h m e c z n l = rw (h, m, length-part 0 (x .body) (place x k 3) (place x k 4) (first-in x k h), l, ← c, ← z) e
 
   -- byte strings
   pub string-last : (w : ℕ) {r : Bool} {start size off len chars : ℕ} → 0 < w → twoIn x k ≡ true → maskOf x k true ≡ true
@@ -119,7 +72,7 @@ module _ (x : Tables) (k : ℕ) where
   string-last w {r} p h m e a b c d l =
       let f : r ≡ stringRows w (x .body) (place x k 3) (place x k 4) (offsetOf x k) (lengthOf x k) (place x k 6) = rw (a, b, c, d, l) at e in
       rw (h, m)
-      (f ∙ sym (string-test w (x .body) (place x k 3) (place x k 4) (place x k 5) (place x k 6) (first-in (two-one h)) (second-in h) p (ok (validOf x k)) (offsetOf x k) (lengthOf x k)))
+      (f ∙ sym (string-test w (x .body) (place x k 3) (place x k 4) (place x k 5) (place x k 6) (first-in x k (two-one x k h)) (second-in x k h) p (ok (validOf x k)) (offsetOf x k) (lengthOf x k)))
 
   -- list-views; the child is the next node
   pub list-view-last : (w : ℕ) {r : Bool} {start size begin room off len child : ℕ} → twoIn x k ≡ true → maskOf x k true ≡ true
@@ -130,4 +83,4 @@ module _ (x : Tables) (k : ℕ) where
       let f : r ≡ viewsRows w (x .body) (place x k 3) (place x k 4) (place x k 5) (place x k 6) (offsetOf x k) (lengthOf x k) (lengthOf x (suc k)) =
       rw (a, b, c, d, o, l, g, add-one k) at e in
       rw (h, m)
-      (f ∙ sym (list-view-rows w (x .body) (place x k 3) (place x k 4) (place x k 5) (place x k 6) (first-in (two-one h)) (second-in h) (ok (validOf x k)) (offsetOf x k) (lengthOf x k) (childOf x (suc k))))
+      (f ∙ sym (list-view-rows w (x .body) (place x k 3) (place x k 4) (place x k 5) (place x k 6) (first-in x k (two-one x k h)) (second-in x k h) (ok (validOf x k)) (offsetOf x k) (lengthOf x k) (childOf x (suc k))))

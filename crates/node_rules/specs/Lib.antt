@@ -1,3 +1,2 @@
 -- The definitions that the contracts of `node_rules` cite; the rules themselves are those of `array_data`.
-pub mod Lent
 pub mod Rows

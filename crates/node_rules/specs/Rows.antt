@@ -10,7 +10,7 @@ use Rattle.columnar.specs.Array.{ok}
 use Rattle.columnar.specs.Test.{every}
 use Rattle.run_ends.specs.Lookup.{lastEnd}
 use Rattle.array_data.specs.Tables.{Tables, lengthOf, offsetOf, validOf, place, held}
-use Rattle.node_rules.specs.Lent.{maskOf}
+use Rattle.lent_tables.specs.Lent.{maskOf}
 use Rattle.row_rules.specs.Rules.{offsetsRows, listViewRows, endsRows}
 
 -- byte strings: "may have an empty offsets buffer" at length 0; else one offset more than rows, that never fall and end in the data

@@ -3,8 +3,8 @@ use mathlib.Core.Path.{_≡_, sym, _∙_}
 use Prim.Native.Nat.{_+_, _*_, _≤_}
 use native.Mathlib.Omega.{arith}
 use Rattle.array_data.specs.Tables.{lengthOf}
-use Rattle.node_rules.specs.Lent.{tables}
-use Rattle.node_rules.proofs.Laws.{is-none, is-some}
+use Rattle.lent_tables.specs.Lent.{tables}
+use Rattle.lent_tables.proofs.Laws.{is-none, is-some}
 use Rattle.node_rules.proofs.Ends.{all-none, all-empty, all-some, slots-inside}
 use borrow.Author.Needs.{needs}
 use Rattle.node_rules.proofs.all_valid.Statement.{statement}

@@ -5,7 +5,7 @@ use native.Mathlib.Omega.{arith}
 use lib.Dec.{leb}
 use borrow.Author.Tests.{leb-true}
 use Rattle.node_rules.specs.Rows.{endsReach}
-use Rattle.node_rules.proofs.Laws.{no, yes}
+use Rattle.lent_tables.proofs.Laws.{no, yes}
 use borrow.Author.Needs.{needs}
 use Rattle.node_rules.proofs.ends_i64.Statement.{statement}
 use Rattle.node_rules.proofs.ends_i64.Tie as tie

@@ -1,8 +1,9 @@
 -- `node_rules::fixed_rule` meets its contract. Assumes nothing.
 use Rattle.array_data.specs.Rules.{oneIn}
 use mathlib.Core.Bool.{true}
-use Rattle.node_rules.specs.Lent.{tables, maskOf}
-use Rattle.node_rules.proofs.Laws.{no, yes, fixed-last}
+use Rattle.lent_tables.specs.Lent.{tables, maskOf}
+use Rattle.lent_tables.proofs.Laws.{no, yes}
+use Rattle.node_rules.proofs.Laws.{fixed-last}
 use borrow.Author.Needs.{needs}
 use Rattle.node_rules.proofs.fixed_rule.Statement.{statement}
 use Rattle.node_rules.proofs.fixed_rule.Tie as tie

@@ -2,8 +2,9 @@
 use Rattle.array_data.specs.Rules.{twoIn}
 use mathlib.Core.Bool.{true}
 use native.Mathlib.Omega.{arith}
-use Rattle.node_rules.specs.Lent.{tables, maskOf}
-use Rattle.node_rules.proofs.Laws.{no, yes, two-one, first-in, second-in, list-view-last}
+use Rattle.lent_tables.specs.Lent.{tables, maskOf}
+use Rattle.lent_tables.proofs.Laws.{no, yes, two-one, first-in, second-in}
+use Rattle.node_rules.proofs.Laws.{list-view-last}
 use borrow.Author.Needs.{needs}
 use Rattle.node_rules.proofs.list_view_rule_i32.Statement.{statement}
 use Rattle.node_rules.proofs.list_view_rule_i32.Tie as tie

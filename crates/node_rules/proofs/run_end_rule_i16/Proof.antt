@@ -6,8 +6,8 @@ use Prim.Native.Nat.{_+_}
 use native.Mathlib.Numerals.{add-one}
 use native.Mathlib.Omega.{arith}
 use lib.Dec.{eqb}
-use Rattle.node_rules.specs.Lent.{tables}
-use Rattle.node_rules.proofs.Laws.{no, yes}
+use Rattle.lent_tables.specs.Lent.{tables}
+use Rattle.lent_tables.proofs.Laws.{no, yes}
 use Rattle.node_rules.proofs.Ends.{inside, runEndParts, run-end-is, ends-are}
 use borrow.Author.Needs.{needs}
 use Rattle.node_rules.proofs.run_end_rule_i16.Statement.{statement}

@@ -1,6 +1,6 @@
 -- `node_rules::runs_valid` meets its contract. Assumes nothing.
 use Rattle.node_rules.specs.Rows.{runsValid}
-use Rattle.node_rules.proofs.Laws.{no, yes, is-none, is-some}
+use Rattle.lent_tables.proofs.Laws.{no, yes, is-none, is-some}
 use borrow.Author.Needs.{needs}
 use Rattle.node_rules.proofs.runs_valid.Statement.{statement}
 use Rattle.node_rules.proofs.runs_valid.Tie as tie

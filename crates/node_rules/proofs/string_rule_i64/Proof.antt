@@ -2,8 +2,9 @@
 use Rattle.array_data.specs.Rules.{twoIn}
 use mathlib.Core.Bool.{true}
 use native.Mathlib.Omega.{arith}
-use Rattle.node_rules.specs.Lent.{tables, maskOf}
-use Rattle.node_rules.proofs.Laws.{no, yes, two-one, first-in, string-last}
+use Rattle.lent_tables.specs.Lent.{tables, maskOf}
+use Rattle.lent_tables.proofs.Laws.{no, yes, two-one, first-in}
+use Rattle.node_rules.proofs.Laws.{string-last}
 use borrow.Author.Needs.{needs}
 use Rattle.node_rules.proofs.string_rule_i64.Statement.{statement}
 use Rattle.node_rules.proofs.string_rule_i64.Tie as tie

@@ -3,7 +3,7 @@ use Prim.Native.Nat.{_+_, _*_, _≤_}
 use native.Mathlib.Omega.{arith}
 use borrow.Author.Tests.{leb-true}
 use Rattle.node_rules.specs.Rows.{viewsRows}
-use Rattle.node_rules.proofs.Laws.{no, yes}
+use Rattle.lent_tables.proofs.Laws.{no, yes}
 use borrow.Author.Needs.{needs}
 use Rattle.node_rules.proofs.views_i32.Statement.{statement}
 use Rattle.node_rules.proofs.views_i32.Tie as tie

@@ -1,9 +1,9 @@
--- `node_rules::rows_fit` meets its contract. Assumes nothing.
+-- `lent_tables::rows_fit` meets its contract. Assumes nothing.
 use native.Mathlib.Omega.{arith}
-use Rattle.node_rules.proofs.Laws.{fits-none, fits-more}
+use Rattle.lent_tables.proofs.Laws.{fits-none, fits-more}
 use borrow.Author.Needs.{needs}
-use Rattle.node_rules.proofs.rows_fit.Statement.{statement}
-use Rattle.node_rules.proofs.rows_fit.Tie as tie
+use Rattle.lent_tables.proofs.rows_fit.Statement.{statement}
+use Rattle.lent_tables.proofs.rows_fit.Tie as tie
 
 returns : tie.Need-returns
 returns c =

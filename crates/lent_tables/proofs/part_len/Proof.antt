@@ -1,9 +1,9 @@
--- `node_rules::part_len` meets its contract. Assumes nothing.
+-- `lent_tables::part_len` meets its contract. Assumes nothing.
 use native.Mathlib.Omega.{arith}
 use lib.ListN.{length-take, length-drop}
 use borrow.Author.Needs.{needs}
-use Rattle.node_rules.proofs.part_len.Statement.{statement}
-use Rattle.node_rules.proofs.part_len.Tie as tie
+use Rattle.lent_tables.proofs.part_len.Statement.{statement}
+use Rattle.lent_tables.proofs.part_len.Tie as tie
 
 returns : tie.Need-returns
 returns c = simp (length-take, length-drop) (omega arith)

@@ -1,8 +1,8 @@
--- `node_rules::valid_in` meets its contract. Assumes nothing.
-use Rattle.node_rules.proofs.Laws.{is-none, is-some}
+-- `lent_tables::valid_in` meets its contract. Assumes nothing.
+use Rattle.lent_tables.proofs.Laws.{is-none, is-some}
 use borrow.Author.Needs.{needs}
-use Rattle.node_rules.proofs.valid_in.Statement.{statement}
-use Rattle.node_rules.proofs.valid_in.Tie as tie
+use Rattle.lent_tables.proofs.valid_in.Statement.{statement}
+use Rattle.lent_tables.proofs.valid_in.Tie as tie
 
 place-requires : tie.Need-place-requires
 place-requires c κs = search needs

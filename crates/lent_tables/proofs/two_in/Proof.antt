@@ -1,8 +1,8 @@
--- `node_rules::two_in` meets its contract. Assumes nothing.
-use Rattle.node_rules.proofs.Laws.{no, yes}
+-- `lent_tables::two_in` meets its contract. Assumes nothing.
+use Rattle.lent_tables.proofs.Laws.{no, yes}
 use borrow.Author.Needs.{needs}
-use Rattle.node_rules.proofs.two_in.Statement.{statement}
-use Rattle.node_rules.proofs.two_in.Tie as tie
+use Rattle.lent_tables.proofs.two_in.Statement.{statement}
+use Rattle.lent_tables.proofs.two_in.Tie as tie
 
 one-in-requires : tie.Need-one-in-requires
 one-in-requires c κs = search needs

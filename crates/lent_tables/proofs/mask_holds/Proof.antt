@@ -1,9 +1,9 @@
--- `node_rules::mask_holds` meets its contract. Assumes nothing.
+-- `lent_tables::mask_holds` meets its contract. Assumes nothing.
 use borrow.Author.Tests.{not-true, not-false}
-use Rattle.node_rules.proofs.Laws.{is-none, is-some}
+use Rattle.lent_tables.proofs.Laws.{is-none, is-some}
 use borrow.Author.Needs.{needs}
-use Rattle.node_rules.proofs.mask_holds.Statement.{statement}
-use Rattle.node_rules.proofs.mask_holds.Tie as tie
+use Rattle.lent_tables.proofs.mask_holds.Statement.{statement}
+use Rattle.lent_tables.proofs.mask_holds.Tie as tie
 
 place-requires : tie.Need-place-requires
 place-requires c κs = search needs

@@ -9,9 +9,9 @@ use Rattle.array_data.specs.Tables.{Tables, lengthOf, offsetOf, validOf}
 abbrev pub tables : List ℕ → List ℕ → List ℕ → Tables
 tables lengths places body = record { lengths = lengths; places = places; buffers = []; body = body }
 
--- a node number of 32 bits, with a length and an offset that ground 9 lets through: "their sum at most 2^63−1"
+-- a node number, with a length and an offset that ground 9 lets through: "their sum at most 2^63−1"
 pub record Counted (x : Tables) (k : ℕ) : Type 0 where
-  pub small : k < 2 ^ 32
+  pub small : k < 2 ^ 33
   pub sum : offsetOf x k + lengthOf x k < 2 ^ 63
 
 -- the test of a node's validity

@@ -1,8 +1,8 @@
--- `node_rules::one_in` meets its contract. Assumes nothing.
-use Rattle.node_rules.proofs.Laws.{no, yes}
+-- `lent_tables::one_in` meets its contract. Assumes nothing.
+use Rattle.lent_tables.proofs.Laws.{no, yes}
 use borrow.Author.Needs.{needs}
-use Rattle.node_rules.proofs.one_in.Statement.{statement}
-use Rattle.node_rules.proofs.one_in.Tie as tie
+use Rattle.lent_tables.proofs.one_in.Statement.{statement}
+use Rattle.lent_tables.proofs.one_in.Tie as tie
 
 held-requires : tie.Need-held-requires
 held-requires c κs = search needs

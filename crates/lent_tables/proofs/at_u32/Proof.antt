@@ -1,10 +1,10 @@
--- `node_rules::at_u32` meets its contract. Assumes nothing.
+-- `lent_tables::at_u32` meets its contract. Assumes nothing.
 use mathlib.Core.Path.{sym}
 use native.Mathlib.Omega.{arith}
 use lib.ListN.{List·getD-eq-default}
 use borrow.Author.Needs.{needs}
-use Rattle.node_rules.proofs.at_u32.Statement.{statement}
-use Rattle.node_rules.proofs.at_u32.Tie as tie
+use Rattle.lent_tables.proofs.at_u32.Statement.{statement}
+use Rattle.lent_tables.proofs.at_u32.Tie as tie
 
 mul-result : tie.Need-mul-result
 mul-result c = search needs

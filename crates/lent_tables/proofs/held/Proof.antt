@@ -1,12 +1,12 @@
--- `node_rules::held` meets its contract. Assumes nothing.
+-- `lent_tables::held` meets its contract. Assumes nothing.
 use Prim.Native.Nat.{suc, _*_}
 use native.Mathlib.Numerals.{add-one}
 use native.Mathlib.Omega.{arith}
 use lib.ListN.{length}
 use borrow.Author.Tests.{le-leb, lt-leb}
 use borrow.Author.Needs.{needs}
-use Rattle.node_rules.proofs.held.Statement.{statement}
-use Rattle.node_rules.proofs.held.Tie as tie
+use Rattle.lent_tables.proofs.held.Statement.{statement}
+use Rattle.lent_tables.proofs.held.Tie as tie
 
 add-if1 : tie.Need-add-if1
 add-if1 c = search needs
