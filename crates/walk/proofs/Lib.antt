@@ -1,0 +1,2 @@
+-- What code that walks goes by.
+pub mod Laws
