@@ -1,0 +1,2 @@
+-- That the walk does what the model does.
+pub mod Goes
