@@ -1,2 +1,3 @@
 -- That the walk does what the model does.
 pub mod Goes
+pub mod Frame
