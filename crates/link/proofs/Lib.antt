@@ -1,3 +1,5 @@
 -- That the walk does what the model does.
 pub mod Goes
 pub mod Frame
+pub mod Counters
+pub mod Owed
