@@ -114,6 +114,21 @@ pub quiet-wrote : {μ : Memory} {Q : List ℕ → Memory → Type 0} (e : Entry)
 unfolding wrote after AllInPlace
 quiet-wrote e c p q = record { is-done = refl; in-place = (p, tt); leaves = q }
 
+pub quiet-need : {μ : Memory} {Q : List ℕ → Memory → Type 0} {o : Out} (b : Bool) (g : ℕ) (c : List ℕ) → b ≡ true → Quiet μ Q o → Quiet μ Q (need b g c o)
+unfolding need
+quiet-need b g c e h = rw e h
+
+pub quiet-then : {μ : Memory} {Q R : List ℕ → Memory → Type 0} {o : Out} (k : List ℕ → Out) → Quiet μ Q o → ((c : List ℕ) (ν : Memory) → Q c ν → Quiet ν R (k c))
+    → Quiet μ R (next o k)
+quiet-then {μ} {Q} {R} {o} k q h =
+    let r = h (o .counts) (after (o .log) μ) (q .leaves) in
+    subst (Quiet μ R) (sym (next-done o k (q .is-done)))
+    (record {
+      is-done = r .is-done;
+      in-place = in-place-append (o .log) (k (o .counts) .log) μ (q .in-place) (r .in-place);
+      leaves = subst (R (k (o .counts) .counts)) (sym (after-append (o .log) (k (o .counts) .log) μ)) (r .leaves);
+    })
+
 pub goes-quiet : {A : Type 0} {μ : Memory} {Q : List ℕ → Memory → Type 0} {R : A → List ℕ → Memory → Type 0} {t : Try A} {o : Out} (k : List ℕ → Out)
     → Quiet μ Q o → ((c : List ℕ) (ν : Memory) → Q c ν → Goes ν R t (k c)) → Goes μ R t (next o k)
 goes-quiet {μ = μ} {R = R} {t} {o} k q h =

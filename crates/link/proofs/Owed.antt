@@ -10,7 +10,7 @@ use Rattle.model.specs.Mutable.{Mutable, extendNode, nullsNode}
 use Rattle.model.specs.Transform.{Grown, Destination, extendData, nullsData}
 use Rattle.model.proofs.Law.{Law, KeepNode, Fine}
 use Rattle.model.proofs.Nodes.{kindOf, keepOf}
-use Rattle.walk.specs.State.{Join, codeOf, endOf, rows, nulls, far}
+use Rattle.walk.specs.State.{Join, codeOf, endOf, rows, nulls, top, far}
 use Rattle.walk.specs.Copy.{Walk, copyData}
 use Rattle.walk.specs.Nulls.{NullWalk, nullData}
 use Rattle.link.specs.Memory.{Memory}
@@ -27,14 +27,14 @@ pub record DataKept (i e : ℕ) (c c′ : List ℕ) (μ μ′ : Memory) : Type 0
   pub bits-own : μ′ .bits i ≡ μ .bits i
   pub outside : (j : ℕ) → (i ≤ j → j < e → ⊥) → SameAt c c′ μ μ′ j
 
--- rows that a counter holds; a run-end node tests them itself (ground 7)
+-- rows that a counter holds, with room for as many; a run-end node tests its rows itself (ground 7)
 abbrev pub Small : Ty → ℕ → Type 0
 Small (tPlain p) n = n < far
 Small tView n = n < far
 Small (tListView w t) n = n < far
 Small (tSparse ids nullable f) n = n < far
 Small (tDense ids nullable f) n = n < far
-Small (tRunEnd w t) n = Unit {0}
+Small (tRunEnd w t) n = n ≤ top
 Small (tDictionary k p) n = n < far
 
 -- what is given at node i: the state's words, source j's tables, and the model's laws over all m sources
