@@ -25,10 +25,10 @@ use Rattle.walk.specs.Leaves.{copyMask, nullMask, countNulls}
 use Rattle.walk.specs.Copy.{Walk, masked, copyData, copySlots, copyNode, copyWalk}
 use Rattle.walk.specs.Nulls.{nullData, nullNode, nullWalk}
 use Rattle.link.specs.Memory.{Memory}
-use Rattle.link.specs.Holds.{Worded, HoldsBits, HoldsData, Holds}
+use Rattle.link.specs.Holds.{WordedPlain, Worded, HoldsBits, HoldsData, Holds}
 use Rattle.link.specs.Lent.{LentValid}
 use Rattle.link.proofs.Goes.{Goes, Quiet, goes-done, goes-need, goes-found, goes-then, goes-quiet}
-use Rattle.link.proofs.Frame.{SameAt, Kept, SameData, bits-held, data-held}
+use Rattle.link.proofs.Frame.{SameAt, same-then, Kept, kept-refl, worded-span, bits-held, data-held}
 use Rattle.link.proofs.Counters.{grown-is, rows-added, rows-other, nulls-of-rows, bytes-of-rows, long-rows}
 use Rattle.link.proofs.Mask.{Masked, zeros-few, copy-mask, copy-none, null-mask, count-nulls}
 use Rattle.link.proofs.Owed.{DataKept, Small, Given, Copies, CopiesData, Fills, FillsData}
@@ -52,7 +52,7 @@ module _ (state : List ℕ) where
   worded-small (suc k) (tRunEnd v t) i w = w .0
   worded-small (suc k) (tDictionary n p) i w = w .0
 
-  plain-code : (p : Plain) (i : ℕ) → Rattle.link.specs.Holds.WordedPlain state p i → ltb (codeOf state i) 19 ≡ true
+  plain-code : (p : Plain) (i : ℕ) → WordedPlain state p i → ltb (codeOf state i) 19 ≡ true
   plain-code (fixed n) i w = below-code 1 10 (codeOf state i) (omega arith) (w .0)
   plain-code (string n) i w = below-code 11 14 (codeOf state i) (omega arith) (w .0)
 
@@ -110,7 +110,7 @@ module _ (state : List ℕ) (k : ℕ) (t : Ty) (i : ℕ) (w : Worded state k t i
       record {
         long = long-rows i n c3 ∙ q .long ∙ m .long;
         outside = λ j h.
-            let ne : j ≡ i → ⊥ = λ e. h (omega (arith, e)) (omega (arith, e, Rattle.link.proofs.Frame.worded-span state k t i w)) in
+            let ne : j ≡ i → ⊥ = λ e. h (omega (arith, e)) (omega (arith, e, worded-span state k t i w)) in
             let s = q .outside j h in
             let a = added-same j ne in
             record {
@@ -149,6 +149,44 @@ module _ (x : Join) (k : ℕ) (t : Ty) (i m : ℕ) (ss : ℕ → Column t) (g : 
       let s : offsetOf x i + a + n < far = rw o (omega (arith, g .lent .sum)) in
       rw (lt-ltb (offsetOf x i + a + n) far s) (ap (λ f. f + a) o)
 
+  module _ (n : ℕ) (d d′ : Destination t) (c c2 c3 : List ℕ) (μ ν2 ν3 : Memory) (long : length c ≡ 96) (fits : d .len + n ≤ top) (held : Holds (x .state) t i d c μ)
+      (few : d′ .null_count ≤ d′ .len) (len-is : d′ .len ≡ d .len + n) (q : DataKept i (endOf (x .state) i) c c2 μ ν2) (data-is : HoldsData (x .state) t i (d′ .«data») c2 ν2)
+      (mk : Masked (x .state) i (masks t) (d′ .bits) (d′ .null_count) c2 c3 ν2 ν3) where
+    masked-else : (j : ℕ) → (j ≡ i → ⊥) → SameAt c2 c3 ν2 ν3 j
+    masked-else j ne =
+        record { rows-same = mk .rows-same j; nulls-same = mk .nulls-else j ne; bytes-same = mk .bytes-same j; at-same = λ b. mk .at-same j b; bits-same = mk .bits-else j ne }
+
+    added-else : (j : ℕ) → (j ≡ i → ⊥) → SameAt c3 (addRows i n c3) ν3 ν3 j
+    added-else j h =
+        record { rows-same = rows-other c3 i n j h; nulls-same = nulls-of-rows c3 i n j; bytes-same = bytes-of-rows c3 i n j; at-same = λ b. refl; bits-same = refl }
+
+    filled-held : Holds (x .state) t i d′ (addRows i n c3) ν3
+    filled-held =
+        record {
+          rows-are =
+              let e : rows c3 i ≡ d .len = mk .rows-same i ∙ q .rows-own ∙ held .rows-are in
+              rows-added c3 (mk .long ∙ q .long ∙ long) i (worded-small (x .state) (suc k) t i (g .worded)) n ∙ grown-is (rows c3 i) n (rw e fits) ∙ ap (λ r. r + n) e ∙ sym len-is;
+          nulls-are = nulls-of-rows c3 i n i ∙ mk .nulls-own;
+          few-nulls = few;
+          bits-are = mk .bits-are;
+          data-are =
+              data-held (x .state) c2 (addRows i n c3) ν2 ν3 (suc k) t i (d′ .«data») (g .worded)
+              (record {
+                at-same = λ b. mk .at-same i b;
+                bytes-same = bytes-of-rows c3 i n i ∙ mk .bytes-same i;
+                below-same = λ j a b. let ne : j ≡ i → ⊥ = λ e. omega (arith, e) in same-then (masked-else j ne) (added-else j ne);
+              }) data-is;
+        }
+
+    filled-kept : Kept i (endOf (x .state) i) c (addRows i n c3) μ ν3
+    filled-kept =
+        record {
+          long = long-rows i n c3 ∙ mk .long ∙ q .long;
+          outside = λ j h.
+              let ne : j ≡ i → ⊥ = λ e. h (omega (arith, e)) (omega (arith, e, worded-span (x .state) (suc k) t i (g .worded))) in
+              same-then (q .outside j h) (same-then (masked-else j ne) (added-else j ne));
+        }
+
   -- A COPY AT A NODE goes with the model's where its data does
   pub node-copies : CopiesData x (copyWalk x k) t i m ss → Copies x (copyWalk x (suc k)) t i m ss
   unfolding copyWalk copyNode copySlots
@@ -180,3 +218,27 @@ module _ (x : Join) (k : ℕ) (t : Ty) (i m : ℕ) (ss : ℕ → Column t) (g : 
       below : {b : Option (List Bool)} {z : ℕ} {c2 : List ℕ} {ν2 : Memory} → Masked (x .state) i (masks t) b z c c2 μ ν2 → (j : ℕ) → (j ≡ i → ⊥) → SameAt c c2 μ ν2 j
       below mk j ne =
           record { rows-same = mk .rows-same j; nulls-same = mk .nulls-else j ne; bytes-same = mk .bytes-same j; at-same = λ b. mk .at-same j b; bits-same = mk .bits-else j ne }
+
+  -- ---- nulls: the data first, then the validity
+
+  -- AN ORDER OF NULLS AT A NODE goes with the model's where its data does
+  pub node-fills : FillsData x (nullWalk x k) t i m ss → Fills x (nullWalk x (suc k)) t i m ss
+  unfolding nullWalk nullNode
+  node-fills data-goes zero d c μ fine keep sm long h = goes-done d c (h, kept-refl i (endOf (x .state) i) c μ)
+  node-fills data-goes (suc n) d c μ fine keep sm long h =
+      let small = worded-small (x .state) (suc k) t i (g .worded) in
+      let fits = small-top t (d .len + suc n) sm in
+      rw (ne-eqb (suc n) 0 (λ e. omega (arith, e)))
+      (goes-need (ltb i 32) 12 c (lt-ltb i 32 small)
+      (goes-then _ _ (data-goes (suc n) d c μ (omega arith) fine keep sm long h)
+      (λ b c2 ν2 q.
+      rw (masked-is (x .state) (suc k) t i (g .worded))
+      (goes-quiet _
+      (null-step x i small c2 (q .1 .long ∙ long) ν2 (masks t) (d .bits) (d .len) (d .null_count) (suc n)
+      (bits-held (x .state) c c2 μ ν2 i (masks t) (d .bits) (q .1 .bits-own) (h .bits-are)) (fine .bits-are) (q .1 .rows-own ∙ h .rows-are) (q .1 .nulls-own ∙ h .nulls-are) (omega (arith, h .few-nulls)))
+      (λ c3 ν3 mk.
+      let d′ : Destination t = record { len = d .len + suc n; null_count = d .null_count + counted (d .bits) (suc n); bits = grow (masks t) (replicate (suc n) false) (d .bits); «data» = b } in
+      let f : d′ .null_count ≤ d′ .len = let z = counted-few (d .bits) (suc n) (suc n) (omega arith) in omega (arith, h .few-nulls) in
+      goes-done d′ _
+      (filled-held (suc n) d d′ c c2 c3 μ ν2 ν3 long fits h f refl (q .1) (q .0) mk,
+      filled-kept (suc n) d d′ c c2 c3 μ ν2 ν3 long fits h f refl (q .1) (q .0) mk))))))
