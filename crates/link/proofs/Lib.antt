@@ -3,3 +3,10 @@ pub mod Goes
 pub mod Frame
 pub mod Counters
 pub mod Owed
+pub mod Parts
+pub mod Writes
+pub mod Fixed
+pub mod Codes
+pub mod Entries
+pub mod Keys
+pub mod Views
