@@ -1,9 +1,8 @@
 -- Entries that the model writes from the first on, as the walk's pieces of the body. Assumes nothing.
 use mathlib.Core.Path.{_≡_, refl, sym, ap, _∙_}
-use mathlib.Core.List.{List, [], _++_, append-nil, append-assoc}
-use Prim.Native.Nat.{ℕ, zero, suc, _+_, _*_, _≤_, _<_}
+use mathlib.Core.List.{List, _++_, append-nil, append-assoc}
+use Prim.Native.Nat.{ℕ, zero, suc, _+_}
 use native.Mathlib.Nat.{add-zero, add-suc, suc-add}
-use native.Mathlib.Omega.{arith}
 use Rattle.number.specs.Number.{encode}
 use Rattle.columnar.specs.Row.{seg}
 use Rattle.columnar.specs.Entries.{encodes}

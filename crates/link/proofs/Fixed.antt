@@ -1,15 +1,12 @@
 -- Fixed-width numbers: the walk does what the model does. Assumes nothing.
-use mathlib.Core.Path.{_≡_, refl, sym, ap, subst, _∙_}
-use mathlib.Core.Bool.{Bool, true, false, cond}
-use mathlib.Core.List.{List, _++_}
-use Prim.Native.Nat.{ℕ, suc, _+_, _*_, _≤_, _<_}
+use mathlib.Core.Path.{_≡_, refl, sym}
+use Prim.Native.Nat.{ℕ, suc, _+_, _*_, _≤_}
 use native.Mathlib.Nat.{mul-comm, add-mul, mul-le-mul-right, le-trans}
 use native.Mathlib.Omega.{arith}
-use lib.ListN.{length, take, drop, replicate}
-use Rattle.columnar.specs.Types.{Number, width, fixed, Ty, tPlain}
+use lib.ListN.{length, take, drop}
+use Rattle.columnar.specs.Types.{Number, width, fixed, tPlain}
 use Rattle.columnar.specs.Reading.{Column}
-use Rattle.walk.specs.State.{Join, codeOf, endOf, bytesOf, rows, place, rowsIn}
-use Rattle.walk.specs.Log.{put, wrote}
+use Rattle.walk.specs.State.{Join, endOf, rows, place, rowsIn}
 use Rattle.walk.specs.Copy.{Walk, copyData}
 use Rattle.walk.specs.Nulls.{NullWalk, nullData}
 use Rattle.walk.specs.Leaves.{copyNumbers, nullNumbers}

@@ -1,25 +1,21 @@
 -- Keys of a dictionary: the walk does what the model does. Assumes nothing.
-use mathlib.Core.Path.{_≡_, refl, sym, ap, _∙_}
-use mathlib.Core.Bool.{Bool, true, false, cond}
-use mathlib.Core.List.{List, _++_}
-use Prim.Native.Nat.{ℕ, suc, _+_, _*_, _%_, _^_, _≤_, _<_}
+use mathlib.Core.Path.{_≡_, refl, sym, _∙_}
+use mathlib.Core.List.{List}
+use Prim.Native.Nat.{ℕ, suc, _+_, _*_, _%_, _^_, _≤_}
 use native.Mathlib.Nat.{mul-le-mul-right, le-trans}
 use native.Mathlib.Omega.{arith}
-use lib.ListN.{length, replicate}
-use lib.Dec.{eqb}
+use lib.ListN.{length}
 use borrow.Author.Tests.{ne-eqb}
 use Rattle.number.specs.Number.{encode, entry}
 use Rattle.number.proofs.Laws.{encode-mod}
-use Rattle.columnar.specs.Types.{Number, width, Plain, Ty, tDictionary}
+use Rattle.columnar.specs.Types.{Number, width, Plain, tDictionary}
 use Rattle.columnar.specs.Array.{item}
 use Rattle.columnar.specs.Reading.{Column}
 use Rattle.columnar.proofs.Items.{entry-end}
 use Rattle.utils.proofs.Pieces.{pieces-same}
 use Rattle.primitive.specs.Primitive.{rebased}
-use Rattle.model.specs.Opening.{startOfKeys}
 use Rattle.model.specs.Primitive.{newKeys}
-use Rattle.walk.specs.State.{Join, codeOf, dictionaryOf, endOf, bytesOf, baseOf, rows, place, rowsIn}
-use Rattle.walk.specs.Log.{put, wrote}
+use Rattle.walk.specs.State.{Join, dictionaryOf, endOf, rows, place, rowsIn}
 use Rattle.walk.specs.Copy.{Walk, copyData}
 use Rattle.walk.specs.Nulls.{NullWalk, nullData}
 use Rattle.walk.specs.Leaves.{copyKeys, nullNumbers}

@@ -5,8 +5,10 @@ pub mod Counters
 pub mod Owed
 pub mod Parts
 pub mod Writes
-pub mod Fixed
 pub mod Codes
 pub mod Entries
+pub mod Fixed
+pub mod Strings
+pub mod Plain
 pub mod Keys
 pub mod Views

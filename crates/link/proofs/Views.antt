@@ -2,16 +2,16 @@
 use mathlib.Core.Path.{_≡_, refl, sym, ap, _∙_}
 use mathlib.Core.Bool.{Bool, true, false, cond}
 use mathlib.Core.List.{List, [], _∷_, _++_}
-use Prim.Native.Nat.{ℕ, zero, suc, _+_, _*_, _%_, _^_, _≤_, _<_}
+use Prim.Native.Nat.{ℕ, zero, suc, _+_, _*_, _%_, _^_, _≤_}
 use native.Mathlib.Nat.{zero-add, suc-add, mul-le-mul-right, le-trans}
 use native.Mathlib.Omega.{arith}
-use lib.ListN.{length, take, drop, replicate}
+use lib.ListN.{length, take, drop}
 use lib.Seq.{take-take, take-nil}
 use lib.Dec.{leb, ltb}
 use borrow.Author.Tests.{leb-true, leb-false, lt-ltb, le-ltb}
 use Rattle.number.specs.Number.{number, encode}
 use Rattle.number.proofs.Laws.{encode-mod}
-use Rattle.columnar.specs.Types.{Ty, tView}
+use Rattle.columnar.specs.Types.{tView}
 use Rattle.columnar.specs.View.{viewOf}
 use Rattle.columnar.specs.Reading.{Column}
 use Rattle.columnar.proofs.Items.{number-take}

@@ -1,15 +1,13 @@
 -- A write into one buffer of a node: what it leaves as it was. Assumes nothing.
-use mathlib.Core.Path.{_≡_, refl, sym, ap, subst, _∙_}
-use mathlib.Core.Bool.{Bool, true, false, cond, _&&_}
+use mathlib.Core.Path.{_≡_, refl, _∙_}
 use mathlib.Core.List.{List, _++_}
-use Prim.Native.Nat.{ℕ, suc, _+_, _*_, _≤_, _<_}
+use Prim.Native.Nat.{ℕ, _<_}
 use native.Mathlib.Omega.{arith}
 use lib.ListN.{length}
-use lib.Dec.{eqb}
 use borrow.Author.Tests.{eq-eqb, ne-eqb}
-use Rattle.model.specs.Try.{Try, done}
-use Rattle.walk.specs.State.{rows, nulls, bytes, setBytes}
-use Rattle.walk.specs.Log.{Entry, put, Out, wrote}
+use Rattle.model.specs.Try.{done}
+use Rattle.walk.specs.State.{setBytes}
+use Rattle.walk.specs.Log.{Entry, put, wrote}
 use Rattle.link.specs.Memory.{Memory, putIn, noted, InPlace, after, AllInPlace}
 use Rattle.link.proofs.Goes.{Goes, good}
 use Rattle.link.proofs.Frame.{SameAt, same-refl, same-then}
