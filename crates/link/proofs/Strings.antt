@@ -1,0 +1,195 @@
+-- Byte strings: the walk does what the model does. It tests the last new offset, the model each one. Assumes nothing.
+use mathlib.Core.Path.{_≡_, refl, sym, ap, _∙_}
+use mathlib.Core.Bool.{Bool, true, false}
+use mathlib.Core.List.{List, [], _++_, append-nil}
+use Prim.Native.Nat.{ℕ, zero, suc, _+_, _-_, _*_, _≤_, _<_}
+use native.Mathlib.Nat.{add-zero, mul-le-mul-right, le-trans}
+use native.Mathlib.Omega.{arith}
+use lib.ListN.{length, take, drop, length-append, length-drop}
+use lib.Seq.{length-take-le}
+use lib.Dec.{leb, ltb}
+use borrow.Author.Tests.{ltb-true, ltb-false, le-leb, ne-eqb}
+use Rattle.number.specs.Number.{encode, entry}
+use Rattle.columnar.specs.Row.{seg}
+use Rattle.columnar.specs.Types.{half, string, tPlain}
+use Rattle.columnar.specs.Array.{item}
+use Rattle.columnar.specs.Entries.{encodes}
+use Rattle.columnar.specs.Plain.{Text, StringRule, empty, full}
+use Rattle.columnar.specs.Reading.{Column}
+use Rattle.columnar.proofs.Items.{entry-end}
+use Rattle.utils.specs.Offsets.{moved, movedOffsets, repeated}
+use Rattle.utils.specs.Extension.{overAt, extended}
+use Rattle.utils.specs.TryExtendOffsets.{NeverFalls}
+use Rattle.utils.proofs.Pieces.{pieces-same}
+use Rattle.utils.proofs.TryExtendOffsets.{over-is, fits-is, no-wrap}
+use Rattle.model.specs.Try.{done, then, guard}
+use Rattle.model.specs.Primitive.{plainExtend}
+use Rattle.model.proofs.TextLaw.{Rising, rising-below, new-offsets}
+use Rattle.model.proofs.Nodes.{TextFine}
+use Rattle.walk.specs.State.{Join, codeOf, endOf, rows, bytes, setBytes, place, rowsIn}
+use Rattle.walk.specs.Log.{put, fail}
+use Rattle.walk.specs.Copy.{Walk, copyData}
+use Rattle.walk.specs.Nulls.{NullWalk, nullData}
+use Rattle.walk.specs.Leaves.{copyString, putString, putExtended, nullString}
+use Rattle.link.specs.Memory.{Memory, putIn}
+use Rattle.link.specs.Holds.{HoldsPlain}
+use Rattle.link.specs.Lent.{First, Second}
+use Rattle.link.proofs.Goes.{Goes, over, goes-done, goes-need, goes-wrote}
+use Rattle.link.proofs.Counters.{bytes-set}
+use Rattle.link.proofs.Owed.{DataKept, Given, CopiesData, FillsData}
+use Rattle.link.proofs.Codes.{string-apart}
+use Rattle.link.proofs.Parts.{part-length, part-cut, part-entry, rows-in}
+use Rattle.link.proofs.Entries.{encodes-pieces, repeated-pieces}
+use Rattle.link.proofs.Writes.{goes-write, put-own, put-beside, data-put, data-none, data-then, data-bytes}
+
+-- what a copy of n rows from `slot` on, one at least, asks of a source
+record Rows (w : ℕ) (s : Text) (slot n : ℕ) : Type 0 where
+  hold : (slot + suc n) * w ≤ length (s .offsets)
+  rises : Rising (item w (s .offsets)) slot n
+  within : item w (s .offsets) (slot + n) ≤ length (s .chars)
+
+rows-of : (w : ℕ) (s : Text) (off len slot n : ℕ) → StringRule w s off len → off ≤ slot → slot + n ≤ off + len → 0 < n → Rows w s slot n
+rows-of w s off len slot n (empty e f) p q h = absurd (omega arith)
+rows-of w s off len slot n (full r) p q h =
+    let o : ℕ → ℕ = item w (s .offsets) in
+    let rise : Rising o off len = λ i l. let e : suc (off + i) ≡ off + i + 1 = omega arith in rw e (r .rises i l) in
+    let y : off + (slot - off + n) ≡ slot + n = omega arith in
+    let last : o (slot + n) ≤ o (off + len) = rw y at (rising-below o off len rise (slot - off + n) len (omega arith) (omega arith)) in
+    let t : slot + suc n ≤ off + len + 1 = omega arith in
+    record {
+      hold = le-trans (mul-le-mul-right w t) (r .hold);
+      rises = λ i l. let e : off + (slot - off + i) ≡ slot + i = omega arith in rw e at (rise (slot - off + i) (omega arith));
+      within = omega (arith, r .within);
+    }
+
+-- an offset has a width
+width-from : (w : ℕ) → 0 < half w → 0 < w
+width-from zero h = absurd (omega arith)
+width-from (suc w) h = omega arith
+
+module _ (x : Join) (i w slot n : ℕ) (s : Text) (p : First x i (s .offsets)) (p2 : Second x i (s .chars)) (r : Rows w s slot n) where
+  abbrev o : ℕ → ℕ
+  o k = item w (s .offsets) k
+
+  abbrev from : ℕ
+  from = place x i 3 + w * slot
+
+  offset-is : (k : ℕ) → k ≤ n → entry w (x .body) from k ≡ o (slot + k)
+  offset-is k l =
+      let e : (slot + k) * w + w ≤ (slot + suc n) * w = entry-end w (omega arith) in
+      part-entry p w slot k (omega (arith, part-length p, r .hold))
+
+  first-is : entry w (x .body) from 0 ≡ o slot
+  first-is = offset-is 0 (omega arith) ∙ ap o (add-zero slot)
+
+  -- the bytes from the first offset to the last lie in the data
+  first-below : o slot ≤ o (slot + n)
+  first-below = rw add-zero at (rising-below o slot n (r .rises) 0 n (omega arith) (omega arith))
+
+  never-falls : NeverFalls (λ k. entry w (x .body) from k) n
+  never-falls k l =
+      let e : slot + (k + 1) ≡ suc (slot + k) = omega arith in
+      rw (offset-is k (omega arith), offset-is (k + 1) (omega arith), e) (r .rises k l)
+
+  -- the last new offset
+  last-is : (last : ℕ) → moved w (x .body) from last n ≡ last + (o (slot + n) - o slot)
+  last-is last = rw (first-is, offset-is n (omega arith))
+
+  new-are : (last : ℕ) → last + (o (slot + n) - o slot) < half w
+      → movedOffsets w (x .body) from last n ≡ encodes w (seg (λ k. last + (o (slot + k) - o slot)) 1 n)
+  new-are last h =
+      no-wrap w (x .body) from n last never-falls (omega (arith, last-is last))
+      ∙ pieces-same (λ k. encode w (moved w (x .body) from last (k + 1))) (λ k. encode w (last + (o (slot + (1 + k)) - o slot))) n
+      (λ k l. let e : k + 1 ≡ 1 + k = omega arith in rw (first-is, offset-is (k + 1) (omega arith), e))
+      ∙ sym (encodes-pieces w (λ k. last + (o (slot + k) - o slot)) 1 n)
+
+  -- the bytes
+  copied : take (o (slot + n) - o slot) (drop (place x i 5 + o slot) (x .body)) ≡ take (o (slot + n) - o slot) (drop (o slot) (s .chars))
+  copied = sym (part-cut p2 (o (slot + n) - o slot) (o slot) (omega (arith, first-below, r .within, part-length p2)))
+
+  module _ (d : Text) (l : ℕ) (fine : TextFine w d l) (c : List ℕ) (long : length c ≡ 96) (small : i < 32) (e : ℕ) (span : i < e) (μ : Memory) (at-row : rows c i ≡ l)
+      (h : HoldsPlain (x .state) (string w) i d c μ) where
+    abbrev Wanted : Text → List ℕ → Memory → Type 0
+    Wanted g c′ μ′ = HoldsPlain (x .state) (string w) i g c′ μ′ × DataKept i e c c′ μ μ′
+
+    abbrev more : ℕ
+    more = o (slot + n) - o slot
+
+    abbrev newText : Text
+    newText = record { offsets = d .offsets ++ encodes w (seg (λ k. bytes c i + (o (slot + k) - o slot)) 1 n); chars = d .chars ++ take more (drop (o slot) (s .chars)) }
+
+    -- offsets, bytes and their count, where the last new offset fits
+    put-goes : bytes c i + more < half w → Goes μ Wanted (done newText) (putString x i w from n (moved w (x .body) from (bytes c i) n) (entry w (x .body) from 0) c)
+    unfolding putString
+    put-goes fits =
+        let os = encodes w (seg (λ k. bytes c i + (o (slot + k) - o slot)) 1 n) in
+        let bs = take more (drop (o slot) (s .chars)) in
+        let μ1 = putIn i 1 os μ in
+        let z : bytes c i + more - bytes c i ≡ more = omega arith in
+        let y : length (d .chars ++ bs) ≡ bytes c i + more
+        = length-append (d .chars) bs ∙ rw (length-take-le more (drop (o slot) (s .chars)) (rw length-drop (omega (arith, r .within)))) (omega (arith, h .2)) in
+        rw (last-is (bytes c i), first-is, new-are (bytes c i) fits, z)
+        (goes-need (leb (place x i 5 + o slot + more) (length (x .body))) 12 c
+        (le-leb (place x i 5 + o slot + more) (length (x .body)) (omega (arith, first-below, r .within, part-length p2, p2 .inside)))
+        (goes-wrote (put i 1 (suc (rows c i) * w) os) c _ (rw (h .0, at-row) (sym (fine .offsets-are)))
+        (rw (z, copied)
+        (goes-wrote (put i 2 (bytes c i) bs) c _ (rw (put-beside i 1 os μ 2 (λ t. omega (arith, t)), h .1) (h .2))
+        (goes-done newText (setBytes i (bytes c i + more) c) (
+          (
+            put-beside i 2 bs μ1 1 (λ t. omega (arith, t)) ∙ put-own i 1 os μ ∙ ap (_++ os) (h .0),
+            put-own i 2 bs μ1 ∙ ap (_++ bs) (put-beside i 1 os μ 2 (λ t. omega (arith, t)) ∙ h .1),
+            bytes-set c long i small (bytes c i + more) ∙ sym y,
+          ),
+          data-then (data-put i 1 os μ c e span) (data-then (data-put i 2 bs μ1 c e span) (data-bytes i e (bytes c i + more) c (putIn i 2 bs μ1) span)),
+        ))))))
+
+    -- the model's test of each new offset is the walk's of the last
+    rows-go : Goes μ Wanted (plainExtend (string w) s slot n l d) (putExtended x i w from n (extended w (x .body) from n (bytes c i)) c)
+    unfolding overAt fail
+    rows-go =
+        rw (fine .last-is ∙ sym (h .2), new-offsets w (s .offsets) slot n (bytes c i) (r .rises) (omega (arith, h .2, fine .fits)))
+        (go (ltb (bytes c i + more) (half w)) refl)
+      where
+        go : (b : Bool) → ltb (bytes c i + more) (half w) ≡ b
+            → Goes μ Wanted
+            (then (guard b 6 (done (encodes w (seg (λ k. bytes c i + (o (slot + k) - o slot)) 1 n)))) (λ os. done (record { offsets = d .offsets ++ os; chars = d .chars ++ take more (drop (o slot) (s .chars)) })))
+            (putExtended x i w from n (extended w (x .body) from n (bytes c i)) c)
+        go true t =
+            let fits = ltb-true (bytes c i + more) (half w) t in
+            rw (fits-is w (x .body) from n (bytes c i) never-falls (omega arith) (omega (arith, last-is (bytes c i)))) (put-goes fits)
+        go false t =
+            let no = ltb-false (bytes c i + more) (half w) t in
+            rw (over-is w (x .body) from n (bytes c i) never-falls (omega (arith, h .2, fine .fits)) (omega (arith, last-is (bytes c i), fine .fits)))
+            (over 6 (fail 6 c) refl (omega arith))
+
+-- a copy of no rows
+none-goes : (x : Join) (i e w slot : ℕ) (s d : Text) (l : ℕ) (c : List ℕ) (μ : Memory) → HoldsPlain (x .state) (string w) i d c μ
+    → Goes μ (λ g c′ μ′. HoldsPlain (x .state) (string w) i g c′ μ′ × DataKept i e c c′ μ μ′) (plainExtend (string w) s slot 0 l d) (Rattle.walk.specs.Log.done c)
+none-goes x i e w slot s d l c μ h =
+    let z : item w (s .offsets) (slot + 0) - item w (s .offsets) slot ≡ 0 = rw add-zero (omega arith) in
+    rw z (goes-done (record { offsets = d .offsets ++ []; chars = d .chars ++ [] }) c (rw (append-nil (d .offsets), append-nil (d .chars)) h, data-none i e c μ))
+
+pub string-copies : (x : Join) (inner : Walk) (k w i m : ℕ) (ss : ℕ → Column (tPlain (string w))) → Given x (suc k) (tPlain (string w)) i m ss
+    → CopiesData x inner (tPlain (string w)) i m ss
+unfolding copyData copyString
+string-copies x inner k w i m ss g slot zero d c μ lo hi f small long e h =
+    rw (string-apart (codeOf (x .state) i) (g .worded .3 .0), g .worded .3 .0)
+    (none-goes x i (endOf (x .state) i) w slot (ss (x .source) .body) (d .«data») (d .len) c μ h)
+string-copies x inner k w i m ss g slot (suc n) d c μ lo hi f small long e h =
+    let s = ss (x .source) .body in
+    let p = g .lent .body-is in
+    let r = rows-of w s (ss (x .source) .off) (ss (x .source) .len) slot (suc n) (g .obey (x .source) (g .known) .slots) lo hi (omega arith) in
+    rw (string-apart (codeOf (x .state) i) (g .worded .3 .0), g .worded .3 .0, g .worded .3 .1, ne-eqb (suc n) 0 (λ t. omega (arith, t)))
+    (goes-need (rowsIn x (place x i 3) w slot (suc (suc n))) 12 c
+    (rows-in x (place x i 3) (place x i 4) (s .offsets) w slot (suc (suc n)) (p .0) (g .body-small) (width-from w (omega (arith, f .data-fine .fits))) (r .hold))
+    (rows-go x i w slot (suc n) s (p .0) (p .1) r (d .«data») (d .len) (f .data-fine) c long (g .worded .0) (endOf (x .state) i) (g .worded .1) μ e h))
+
+pub string-fills : (x : Join) (inner : NullWalk) (k w i m : ℕ) (ss : ℕ → Column (tPlain (string w))) → Given x (suc k) (tPlain (string w)) i m ss
+    → FillsData x inner (tPlain (string w)) i m ss
+unfolding nullData nullString
+string-fills x inner k w i m ss g n d c μ p f t small long h =
+    let a = h .data-are in
+    let os = repeated w (bytes c i) n in
+    rw (string-apart (codeOf (x .state) i) (g .worded .3 .0), g .worded .3 .0, g .worded .3 .1, f .data-fine .last-is ∙ sym (a .2), repeated-pieces w (bytes c i) n)
+    (goes-write _ (put i 1 (suc (rows c i) * w) os) c (rw (a .0, h .rows-are) (sym (f .data-fine .offsets-are)))
+    ((put-own i 1 os μ ∙ ap (_++ os) (a .0), put-beside i 1 os μ 2 (λ t. omega (arith, t)) ∙ a .1, a .2), data-put i 1 os μ c (endOf (x .state) i) (g .worded .1)))
