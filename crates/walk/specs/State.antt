@@ -79,6 +79,10 @@ setBytes i n c = set c (3 * i + 2) n
 abbrev pub beyond : ℕ
 beyond = 1152921504606846976
 
+-- r entries of w bytes, as a number of 64 bits; where r is beyond every room, so is it
+unfoldable pub scaled : ℕ → ℕ → ℕ
+scaled r w = cond (ltb r beyond) (r * w) top
+
 -- one past the largest slot
 abbrev pub far : ℕ
 far = 9223372036854775808
