@@ -13,7 +13,7 @@ use Rattle.formats.specs.Code.{isFixed, isString, isView, isListView}
 use Rattle.model.specs.Mutable.{Mutable}
 use Rattle.model.specs.Transform.{Grown, Destination}
 use Rattle.walk.specs.State.{codeOf, dictionaryOf, endOf, idOf, nullableOf, keepsOf, bytesOf, rows, nulls, bytes}
-use Rattle.walk.specs.Copy.{childWith}
+use Rattle.walk.specs.Copy.{isWidth, childWith}
 use Rattle.link.specs.Memory.{Memory}
 
 -- ---- a state's numbers stand for a type
@@ -49,7 +49,7 @@ module _ (state : List ℕ) where
   Worded (suc k) (tDense ids nullable f) i =
       (i < 32) × (codeOf state i ≡ 20) × (length ids ≤ 16) × (i < endOf state i) × Fields (λ c. Worded k (f c)) nullable (endOf state i) ids (suc i)
   Worded (suc k) (tRunEnd w t) i =
-      (i < 32) × (endOf state i ≡ endOf state (suc (suc i))) × (codeOf state i ≡ 21) × (bytesOf state (suc i) ≡ w) × Worded k t (suc (suc i))
+      (i < 32) × (endOf state i ≡ endOf state (suc (suc i))) × (codeOf state i ≡ 21) × (bytesOf state (suc i) ≡ w) × Worded k t (suc (suc i)) × (isWidth w ≡ true)
   Worded (suc k) (tDictionary n p) i =
       (i < 32) × (i < endOf state i) × (dictionaryOf state i ≡ 0 → ⊥) × (isFixed (codeOf state i) ≡ true) × (bytesOf state i ≡ width n)
 

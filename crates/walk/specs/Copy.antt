@@ -1,6 +1,6 @@
 -- The walk of a copy: a node hands rows to its children, whose walk does the same one level down. Assumes nothing.
 -- Follows arrow-data 60.1.0 src/transform/mod.rs, list_view.rs, union.rs and run.rs, Apache-2.0; see NOTICE.
-use mathlib.Core.Bool.{Bool, true, false, cond, _&&_}
+use mathlib.Core.Bool.{Bool, true, false, cond, _&&_, _||_}
 use mathlib.Core.List.{List, [], _∷_}
 use Prim.Native.Nat.{ℕ, zero, suc, _+_, _*_, _-_}
 use lib.ListN.{length, take, drop, getD}
@@ -24,6 +24,10 @@ Walk = ℕ → ℕ → ℕ → List ℕ → Out
 unfoldable pub childWith : List ℕ → ℕ → ℕ → ℕ → ℕ → ℕ
 childWith state id end zero c = 32
 childWith state id end (suc f) c = cond (ltb c end) (cond (eqb (idOf state c) id) c (childWith state id end f (endOf state c))) 32
+
+-- "Run ends are `s`, `i` or `l`": their bytes
+unfoldable pub isWidth : ℕ → Bool
+isWidth w = eqb w 2 || eqb w 4 || eqb w 8
 
 -- "no validity buffer on a union or run-end node"
 abbrev pub masked : ℕ → Bool
@@ -104,7 +108,7 @@ module _ (x : Join) (child : Walk) where
   unfoldable pub copyRuns : ℕ → ℕ → ℕ → List ℕ → Out
   copyRuns i slot n c =
       cond (eqb n 0) (done c)
-      (need (ltb (suc (suc i)) 32) 12 c
+      (need (ltb (suc (suc i)) 32 && isWidth (bytesOf (x .state) (suc i))) 12 c
       (need (ltb (rows c i + n) (half (bytesOf (x .state) (suc i)))) 7 c
       (need (rowsIn x (place x (suc i) 3) (bytesOf (x .state) (suc i)) (offsetOf x (suc i)) (lengthOf x (suc i))) 12 c
       (putRuns (bytesOf (x .state) (suc i)) i slot n (runsAt (bytesOf (x .state) (suc i)) i slot n) c))))

@@ -1,6 +1,6 @@
 -- The walk of an order of nulls. Assumes nothing.
 -- Follows the `extend_nulls` of arrow-data 60.1.0 src/transform/mod.rs, list_view.rs, union.rs and run.rs, Apache-2.0; see NOTICE.
-use mathlib.Core.Bool.{Bool, true, false, cond}
+use mathlib.Core.Bool.{Bool, true, false, cond, _&&_}
 use mathlib.Core.List.{List, [], _∷_}
 use Prim.Native.Nat.{ℕ, zero, suc, _+_, _*_, _-_}
 use lib.ListN.{length, replicate}
@@ -12,7 +12,7 @@ use Rattle.utils.specs.Offsets.{countedUp}
 use Rattle.walk.specs.State.{Join, codeOf, endOf, idOf, nullableOf, bytesOf, rows, addRows}
 use Rattle.walk.specs.Log.{Out, put, fail, done, wrote, need, found, next}
 use Rattle.walk.specs.Leaves.{nullMask, countNulls, nullNumbers, nullString}
-use Rattle.walk.specs.Copy.{masked}
+use Rattle.walk.specs.Copy.{isWidth, masked}
 
 -- node, nulls, counters
 abbrev pub NullWalk : Type 0
@@ -55,7 +55,7 @@ module _ (x : Join) (child : NullWalk) where
   -- "A nonempty null order adds one run and one null value"; "a run-end node asks its values before 7"
   unfoldable pub nullRuns : ℕ → ℕ → List ℕ → Out
   nullRuns i n c =
-      need (ltb (suc (suc i)) 32) 12 c
+      need (ltb (suc (suc i)) 32 && isWidth (bytesOf (x .state) (suc i))) 12 c
       (next (child (suc (suc i)) 1 c)
       (λ c2. need (ltb (rows c2 i + n) (half (bytesOf (x .state) (suc i)))) 7 c2
       (next (wrote (put (suc i) 1 (rows c2 (suc i) * bytesOf (x .state) (suc i)) (encode (bytesOf (x .state) (suc i)) (rows c2 i + n))) c2)

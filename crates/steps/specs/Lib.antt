@@ -1,0 +1,2 @@
+-- The contracts of `steps` cite the definitions of crate `walk`.
+pub mod Slots

@@ -1,0 +1,10 @@
+-- The walk's look at lent tables and bodies, over plain lists. Assumes nothing.
+use mathlib.Core.Bool.{Bool}
+use mathlib.Core.List.{List, []}
+use Prim.Native.Nat.{ℕ}
+use Rattle.walk.specs.State.{Join}
+
+-- what an order is carried out with
+abbrev pub join : List ℕ → List ℕ → List ℕ → List ℕ → List ℕ → ℕ → ℕ → Join
+join state parts lengths places body first source =
+    record { state = state; parts = parts; lengths = lengths; places = places; body = body; first = first; source = source }

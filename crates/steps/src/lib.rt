@@ -1,0 +1,127 @@
+// What a walk looks up on its way: slots, entries, the children of a union, and the runs of a range.
+ghost use mathlib.Core.Path.{_≡_};
+ghost use mathlib.Core.List.{[]};
+ghost use Prim.Native.Nat.{_+_, _*_, _<_, _≤_};
+ghost use lib.ListN.{length};
+ghost use Rattle.number.specs.Number.{entry};
+ghost use Rattle.run_ends.specs.Lookup.{bisect, foundAt, runsOf};
+ghost use Rattle.walk.specs.State.{slotOf, rowsIn, endOf};
+ghost use Rattle.walk.specs.Copy.{isWidth, childWith};
+ghost use Rattle.walk.specs.Nulls.{nullableChild};
+ghost use Rattle.steps.specs.Slots.{join};
+use run_ends::LogicalRow;
+use run_ends::Runs;
+
+// The first slot of the rows a .. a + n - 1 of node i, or 2^63 where they are not rows of any array.
+pub fn slot_of(lengths: &[u64], first: usize, i: usize, a: u64, n: u64) -> u64
+    requires { ⌜ (first < 4294967296) × (i < 32) ⌝ }
+    ensures { λ r. ⌜ r ≡ slotOf (join [] [] (now (lengths .entry)) [] [] first 0) i a n ⌝ }
+{
+    let far = 9223372036854775808;
+    let offset = lent_tables::offset_of(lengths, first + i);
+    if far <= offset {
+        return far;
+    }
+    if far <= a {
+        return far;
+    }
+    if far <= offset + a {
+        return far;
+    }
+    if far <= n {
+        return far;
+    }
+    if far <= offset + a + n {
+        return far;
+    }
+    offset + a
+}
+
+// Whether the entries of w bytes of the slots slot .. slot + n - 1 stand in the body from `at` on.
+pub fn rows_in(body: &[u8], at: u32, w: u64, slot: u64, n: u64) -> bool
+    requires { ⌜ (w ≤ 16) × (slot < 9223372036854775808) × (n < 9223372036854775808) ⌝ }
+    ensures { λ r. ⌜ r ≡ rowsIn (join [] [] [] [] (now (body .entry)) 0 0) at w slot n ⌝ }
+{
+    let reach = slot + n;
+    if 576460752303423488 <= reach {
+        return false;
+    }
+    (at as u64) + w * reach <= body.len() as u64
+}
+
+// Entry k of those of w bytes at `at`.
+pub fn entry_at(body: &[u8], at: u32, w: u64, k: u64) -> u64
+    requires { ⌜ ((w ≡ 4 → ⊥) → w ≡ 8) ⌝ }
+    requires { ⌜ at + w * (k + 1) ≤ length (now body) ⌝ }
+    ensures { λ r. ⌜ r ≡ entry w (now (body .entry)) at k ⌝ }
+{
+    let from = at as usize;
+    if w == 4 {
+        return number::read_u32(body, from + 4 * (k as usize)) as u64;
+    }
+    number::read_u64(body, from + 8 * (k as usize))
+}
+
+// The child with that id among those from node `from` on, one behind the other up to `end`; 32 where there is none.
+pub fn child_with(state: &[u64], id: u8, end: usize, from: usize) -> usize
+    requires { ⌜ end ≤ 32 ⌝ }
+    ensures { λ r. ⌜ r ≡ childWith (now (state .entry)) id end 32 from ⌝ }
+    ensures { λ r. ⌜ r ≤ 32 ⌝ }
+{
+    let mut k = from;
+    let mut t: usize = 0;
+    while t < 32 {
+        if end <= k {
+            return 32;
+        }
+        if growth::id_of(state, k) == id {
+            return k;
+        }
+        k = growth::end_of(state, k);
+        t += 1;
+    }
+    32
+}
+
+// The first nullable child among those from node `from` on; 32 where there is none.
+pub fn nullable_child(state: &[u64], end: usize, from: usize) -> usize
+    requires { ⌜ end ≤ 32 ⌝ }
+    ensures { λ r. ⌜ r ≡ nullableChild (now (state .entry)) end 32 from ⌝ }
+    ensures { λ r. ⌜ r ≤ 32 ⌝ }
+{
+    let mut k = from;
+    let mut t: usize = 0;
+    while t < 32 {
+        if end <= k {
+            return 32;
+        }
+        if growth::nullable_of(state, k) == 1 {
+            return k;
+        }
+        k = growth::end_of(state, k);
+        t += 1;
+    }
+    32
+}
+
+// The runs of the rows start .. end - 1 among the n whose ends of w bytes stand from `from` on.
+pub fn runs_of(
+    body: &[u8],
+    from: usize,
+    n: usize,
+    w: u64,
+    start: LogicalRow,
+    end: LogicalRow,
+) -> Runs
+    requires { ⌜ ((w ≡ 2 → ⊥) → (w ≡ 4 → ⊥) → w ≡ 8) ⌝ }
+    requires { ⌜ from + w * n ≤ length (now body) ⌝ }
+    ensures { λ r. ⌜ r ≡ runsOf (λ x. foundAt w (now (body .entry)) from n (bisect w (now (body .entry)) from n x)) (start .0) (end .0) ⌝ }
+{
+    if w == 2 {
+        return run_ends::runs_of_range_i16(body, from, n, start, end);
+    }
+    if w == 4 {
+        return run_ends::runs_of_range_i32(body, from, n, start, end);
+    }
+    run_ends::runs_of_range_i64(body, from, n, start, end)
+}
