@@ -29,13 +29,13 @@ pub record DataKept (i e : ℕ) (c c′ : List ℕ) (μ μ′ : Memory) : Type 0
 
 -- rows that a counter holds; a run-end node tests them itself (ground 7)
 abbrev pub Small : Ty → ℕ → Type 0
-Small (tPlain p) n = n < far
-Small tView n = n < far
-Small (tListView w t) n = n < far
-Small (tSparse ids nullable f) n = n < far
-Small (tDense ids nullable f) n = n < far
+Small (tPlain p) n = n ≤ far
+Small tView n = n ≤ far
+Small (tListView w t) n = n ≤ far
+Small (tSparse ids nullable f) n = n ≤ far
+Small (tDense ids nullable f) n = n ≤ far
 Small (tRunEnd w t) n = Unit {0}
-Small (tDictionary k p) n = n < far
+Small (tDictionary k p) n = n ≤ far
 
 -- what is given at node i: the state's words, source j's tables, and the model's laws over all m sources
 pub record Given (x : Join) (k : ℕ) (t : Ty) (i m : ℕ) (ss : ℕ → Column t) : Type 0 where
@@ -45,6 +45,7 @@ pub record Given (x : Join) (k : ℕ) (t : Ty) (i m : ℕ) (ss : ℕ → Column 
   pub based : Based (x .state) (x .source) t i m (λ j. ss j .body)
   pub obey : (j : ℕ) → j < m → Source t (ss j)
   pub lawful : Law (kindOf t m (λ j. ss j .body)) m ss
+  pub body-small : length (x .body) < 4294967296
 
 -- THE COPY of rows a .. a + n - 1 at node i goes with the model's
 abbrev pub Copies : Join → Walk → (t : Ty) → ℕ → ℕ → (ℕ → Column t) → Type 0
