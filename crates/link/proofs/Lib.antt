@@ -5,3 +5,4 @@ pub mod Counters
 pub mod Owed
 pub mod Pairs
 pub mod Places
+pub mod ListViews

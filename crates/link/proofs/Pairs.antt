@@ -1,10 +1,10 @@
 -- More steps that go together: with the model's own theorem on the same answer, a last write, and rows below a bound. Assumes nothing.
-use mathlib.Core.Path.{_≡_, refl, sym, subst}
-use mathlib.Core.List.{List, []}
+use mathlib.Core.Path.{_≡_, refl, subst}
+use mathlib.Core.List.{List}
 use Prim.Native.Nat.{ℕ, zero, suc, _+_, _<_, _≤_}
 use native.Mathlib.Nat.{add-zero, add-suc, suc-add}
 use native.Mathlib.Omega.{arith}
-use Rattle.model.specs.Try.{Try, done, stop, then, stepsT}
+use Rattle.model.specs.Try.{Try, done, then, stepsT}
 use Rattle.model.proofs.Agree.{Agrees, both, neither}
 use Rattle.walk.specs.Log.{Entry, Out, wrote, each}
 use Rattle.link.specs.Memory.{Memory, noted, InPlace, after, AllInPlace}

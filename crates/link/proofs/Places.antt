@@ -1,13 +1,13 @@
 -- Entries and rows of lent buffers, what a write leaves of the other buffers, and what words of the state say. Assumes nothing.
-use mathlib.Core.Path.{_≡_, refl, sym, ap, subst, _∙_}
-use mathlib.Core.Bool.{Bool, true, false, cond, _&&_}
+use mathlib.Core.Path.{_≡_, refl, _∙_}
+use mathlib.Core.Bool.{Bool, true, false, _&&_}
 use mathlib.Core.List.{List, [], _∷_, _++_}
-use Prim.Native.Nat.{ℕ, zero, suc, _+_, _-_, _*_, _/_, _^_, _≤_, _<_, min}
-use native.Mathlib.Nat.{mul-comm, mul-le-mul-right, le-mul-of-pos-right, suc-mul, pow-le-pow-right}
+use Prim.Native.Nat.{ℕ, zero, suc, _+_, _-_, _*_, _^_, _≤_, _<_}
+use native.Mathlib.Nat.{mul-comm, le-mul-of-pos-right, pow-le-pow-right}
 use native.Mathlib.Omega.{arith}
 use lib.ListN.{length, take, drop, getD, length-take, length-drop}
 use lib.Seq.{drop-drop}
-use lib.Dec.{leb, ltb, eqb}
+use lib.Dec.{leb}
 use borrow.Author.Tests.{lt-ltb, le-leb, lt-leb, eq-eqb, ne-eqb, leb-true}
 use Rattle.number.specs.Number.{number, entry}
 use Rattle.columnar.specs.Types.{half, Ty, tPlain, tView, tListView, tSparse, tDense, tRunEnd, tDictionary}
@@ -18,8 +18,8 @@ use Rattle.walk.specs.State.{Join, far, rowsIn}
 use Rattle.link.specs.Memory.{Memory, putIn}
 use Rattle.link.specs.Holds.{Worded}
 use Rattle.link.specs.Lent.{Part}
-use Rattle.link.proofs.Frame.{SameAt}
-use Rattle.link.proofs.Owed.{Small}
+use Rattle.link.proofs.Frame.{SameAt, same-refl, same-then}
+use Rattle.link.proofs.Owed.{DataKept, Small}
 
 -- ---- lent buffers
 
@@ -39,7 +39,7 @@ module _ {body : List ℕ} {at size : ℕ} {s : List ℕ} (p : Part body at size
   unfolding item
   part-entry w k n q h =
       let e : k * w + w ≤ n * w = entry-end w q in
-      rw (p .bytes-are, number-of-take (k * w) size w (drop at body) (omega (arith, part-long)), drop-drop, mul-comm)
+      rw (p .bytes-are, number-of-take (k * w) size w (drop at body) (omega (arith, part-long)), drop-drop, mul-comm w k)
 
 -- the rows of a lent buffer lie in the body
 pub rows-in : (x : Join) (at size : ℕ) (s : List ℕ) (w slot n : ℕ) → Part (x .body) at size s → 0 < w → (slot + n) * w ≤ length s → length (x .body) < 4294967296
@@ -62,6 +62,20 @@ module _ (i b : ℕ) (bs : List ℕ) (μ : Memory) where
 
   pub put-other : (c : List ℕ) (j : ℕ) → (j ≡ i → ⊥) → SameAt c c μ (putIn i b bs μ) j
   put-other c j h = record { rows-same = refl; nulls-same = refl; bytes-same = refl; at-same = λ e. rw (ne-eqb j i h); bits-same = refl }
+
+-- the data of a node, left as it was, and changed twice
+pub data-kept-refl : (i e : ℕ) (c : List ℕ) (μ : Memory) → DataKept i e c c μ μ
+data-kept-refl i e c μ = record { long = refl; rows-own = refl; nulls-own = refl; bits-own = refl; outside = λ j h. same-refl c μ j }
+
+pub data-kept-then : {i e : ℕ} {c c1 c2 : List ℕ} {μ μ1 μ2 : Memory} → DataKept i e c c1 μ μ1 → DataKept i e c1 c2 μ1 μ2 → DataKept i e c c2 μ μ2
+data-kept-then a b =
+    record {
+      long = b .long ∙ a .long;
+      rows-own = b .rows-own ∙ a .rows-own;
+      nulls-own = b .nulls-own ∙ a .nulls-own;
+      bits-own = b .bits-own ∙ a .bits-own;
+      outside = λ j h. same-then (a .outside j h) (b .outside j h);
+    }
 
 -- ---- words of the state
 
