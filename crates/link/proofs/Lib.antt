@@ -6,3 +6,4 @@ pub mod Owed
 pub mod Pairs
 pub mod Places
 pub mod ListViews
+pub mod RunLookups
