@@ -7,3 +7,4 @@ pub mod Pairs
 pub mod Places
 pub mod ListViews
 pub mod RunLookups
+pub mod RunEnds

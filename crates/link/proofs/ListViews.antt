@@ -20,7 +20,7 @@ use Rattle.model.specs.ListViews.{Lists, listRow}
 use Rattle.model.specs.Transform.{Grown, Destination, extendData}
 use Rattle.model.proofs.Law.{Put, FineNode}
 use Rattle.model.proofs.Nodes.{ListFine, fineOf, kindOf}
-use Rattle.walk.specs.State.{Join, codeOf, bytesOf, endOf, rows, nulls, place, rowsIn}
+use Rattle.walk.specs.State.{Join, far, codeOf, bytesOf, endOf, rows, nulls, place, rowsIn}
 use Rattle.walk.specs.Log.{put, wrote, need, next, each}
 use Rattle.walk.specs.Leaves.{nullNumbers}
 use Rattle.walk.specs.Copy.{Walk, copyData, copyListView, listViewRow}
@@ -95,7 +95,7 @@ module _ (x : Join) (k w : ℕ) (t : Ty) (i m : ℕ) (ss : ℕ → Column (tList
       let code = codeOf (x .state) i in
       rw (between-apart 17 18 1 10 code code-is (omega arith), between-apart 17 18 11 14 code code-is (omega arith), between-apart 17 18 15 16 code code-is (omega arith), code-is, g .worded .3)
 
-  half-small : half w ≤ 9223372036854775808
+  half-small : half w ≤ far
   half-small = rw (sym (g .worded .3)) (half-far (bytesOf (x .state) i) (width-small (codeOf (x .state) i)))
 
   -- ---- one row

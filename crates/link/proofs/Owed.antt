@@ -27,7 +27,7 @@ pub record DataKept (i e : ℕ) (c c′ : List ℕ) (μ μ′ : Memory) : Type 0
   pub bits-own : μ′ .bits i ≡ μ .bits i
   pub outside : (j : ℕ) → (i ≤ j → j < e → ⊥) → SameAt c c′ μ μ′ j
 
--- rows that a counter holds; a run-end node tests them itself (ground 7)
+-- rows that a counter holds; a run-end node tests them itself (ground 7). `far` is one of them: nulls ask the values before 7
 abbrev pub Small : Ty → ℕ → Type 0
 Small (tPlain p) n = n ≤ far
 Small tView n = n ≤ far

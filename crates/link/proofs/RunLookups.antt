@@ -1,9 +1,9 @@
 -- Runs found by halves and clipped ends, as the model says them. Assumes nothing.
 use mathlib.Core.Path.{_≡_, refl, sym, ap, _∙_}
 use mathlib.Core.Bool.{Bool, true, false, cond}
-use mathlib.Core.List.{List, [], _++_, append-nil, append-assoc}
+use mathlib.Core.List.{List, _++_, append-nil, append-assoc}
 use Prim.Native.Nat.{ℕ, zero, suc, _+_, _-_, _≤_, _<_, min}
-use native.Mathlib.Nat.{add-zero, zero-add, add-suc}
+use native.Mathlib.Nat.{add-zero, zero-add}
 use native.Mathlib.Numerals.{add-one}
 use native.Mathlib.Omega.{arith}
 use lib.Dec.{ltb}
@@ -11,9 +11,8 @@ use borrow.Author.Tests.{lt-ltb, le-ltb}
 use Rattle.number.specs.Number.{entry, encode}
 use Rattle.columnar.specs.RunEnd.{firstAbove, startOf}
 use Rattle.run_ends.specs.Lookup.{scan, halve, Climbs, foundAt, bisect, spanned, runsOf}
-use Rattle.run_ends.specs.Clip.{clip}
 use Rattle.run_ends.specs.declared.Runs.{Runs}
-use Rattle.run_ends.specs.declared.Runs.the-variants.{Range, None}
+use Rattle.run_ends.specs.declared.Runs.the-variants.{Range}
 use Rattle.run_ends.proofs.Search.{halve-first}
 use Rattle.model.specs.Runs.{clipped}
 use Rattle.model.proofs.Ends.{First, Last, Many, in-order, last-run}
