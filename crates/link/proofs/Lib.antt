@@ -14,3 +14,8 @@ pub mod Strings
 pub mod Plain
 pub mod Keys
 pub mod Views
+pub mod Pairs
+pub mod Places
+pub mod ListViews
+pub mod RunLookups
+pub mod RunEnds

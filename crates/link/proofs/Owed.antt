@@ -27,15 +27,15 @@ pub record DataKept (i e : ℕ) (c c′ : List ℕ) (μ μ′ : Memory) : Type 0
   pub bits-own : μ′ .bits i ≡ μ .bits i
   pub outside : (j : ℕ) → (i ≤ j → j < e → ⊥) → SameAt c c′ μ μ′ j
 
--- rows that a counter holds, with room for as many; a run-end node tests its rows itself (ground 7)
+-- rows that a counter holds; `far` is one of them, since nulls ask a run-end node's values before ground 7. A run-end node tests its rows itself.
 abbrev pub Small : Ty → ℕ → Type 0
-Small (tPlain p) n = n < far
-Small tView n = n < far
-Small (tListView w t) n = n < far
-Small (tSparse ids nullable f) n = n < far
-Small (tDense ids nullable f) n = n < far
+Small (tPlain p) n = n ≤ far
+Small tView n = n ≤ far
+Small (tListView w t) n = n ≤ far
+Small (tSparse ids nullable f) n = n ≤ far
+Small (tDense ids nullable f) n = n ≤ far
 Small (tRunEnd w t) n = n ≤ top
-Small (tDictionary k p) n = n < far
+Small (tDictionary k p) n = n ≤ far
 
 -- what is given at node i: the state's words, source j's tables, and the model's laws over all m sources
 pub record Given (x : Join) (k : ℕ) (t : Ty) (i m : ℕ) (ss : ℕ → Column t) : Type 0 where
