@@ -86,6 +86,7 @@ module _ (state : List ℕ) where
       behind : eqb (idOf state k) c ≡ false → List·Memᴰ c (d ∷ ds) → List·Memᴰ c ds
       behind e (List·Memᴰ·head h) = absurd (eqb-false (idOf state k) c e (f .0 ∙ sym h))
       behind e (List·Memᴰ·tail h) = h
+
       go : (b : Bool) → eqb (idOf state k) c ≡ b → (List·Memᴰ c ds → Field kid end (endOf state k) c (childWith state c end fuel (endOf state k)))
           → Field kid end k c (cond b k (childWith state c end fuel (endOf state k)))
       go true e rest =
@@ -108,6 +109,7 @@ module _ (state : List ℕ) where
       behind : (z : ℕ) → eqb (idOf state k) z ≡ false → List·Memᴰ z (e ∷ es) → List·Memᴰ z es
       behind z q (List·Memᴰ·head h) = absurd (eqb-false (idOf state k) z q (f .0 ∙ sym h))
       behind z q (List·Memᴰ·tail h) = h
+
       go : (a : Bool) → eqb (idOf state k) c ≡ a → (b : Bool) → eqb (idOf state k) d ≡ b
           → (List·Memᴰ c es → List·Memᴰ d es → childWith state c end fuel (endOf state k) ≤ j → j < endOf state (childWith state c end fuel (endOf state k)) → childWith state d end fuel (endOf state k) ≤ j → j < endOf state (childWith state d end fuel (endOf state k)) → ⊥)
           → (List·Memᴰ c es → Field kid end (endOf state k) c (childWith state c end fuel (endOf state k))) → (List·Memᴰ d es → Field kid end (endOf state k) d (childWith state d end fuel (endOf state k)))
@@ -161,25 +163,32 @@ module _ (state : List ℕ) where
     data-held (suc k) (tPlain p) i d w s h = plain-held p i d s h
     data-held (suc k) tView i d w s h = s .at-same 1 ∙ h
     data-held (suc k) (tListView v t) i d w s h =
-        let e : endOf state i ≡ endOf state (suc i) = w .1 in
-        (s .at-same 1 ∙ h .0, s .at-same 2 ∙ h .1,
-        below-held k t (suc i) (d .child) (w .4) (λ j a b. s .below-same j (omega arith) (omega arith)) (data-held k t (suc i) (d .child .«data») (w .4)) (h .2))
-    data-held (suc k) (tSparse ids nullable f) i d w s h =
-        (s .at-same 1 ∙ h .0,
-        λ e m. let g = field-of (λ c. Worded state k (f c)) nullable (endOf state i) ids (suc i) 32 e (w .4) (omega (arith, w .2)) m in
-        below-held k (f e) (childOf state i e) (d .children e) (g .is-kid) (λ j a b. s .below-same j (omega (arith, g .behind)) (omega (arith, g .ends)))
-        (data-held k (f e) (childOf state i e) (d .children e .«data») (g .is-kid)) (h .1 e m))
-    data-held (suc k) (tDense ids nullable f) i d w s h =
-        (s .at-same 1 ∙ h .0, s .at-same 2 ∙ h .1,
-        λ e m. let g = field-of (λ c. Worded state k (f c)) nullable (endOf state i) ids (suc i) 32 e (w .4) (omega (arith, w .2)) m in
-        below-held k (f e) (childOf state i e) (d .children e) (g .is-kid) (λ j a b. s .below-same j (omega (arith, g .behind)) (omega (arith, g .ends)))
-        (data-held k (f e) (childOf state i e) (d .children e .«data») (g .is-kid)) (h .2 e m))
+        let e : endOf state i ≡ endOf state (suc i) = w .1 in (
+          s .at-same 1 ∙ h .0,
+          s .at-same 2 ∙ h .1,
+          below-held k t (suc i) (d .child) (w .4) (λ j a b. s .below-same j (omega arith) (omega arith)) (data-held k t (suc i) (d .child .«data») (w .4)) (h .2),
+        )
+    data-held (suc k) (tSparse ids nullable f) i d w s h = (
+      s .at-same 1 ∙ h .0,
+      λ e m. let g = field-of (λ c. Worded state k (f c)) nullable (endOf state i) ids (suc i) 32 e (w .4) (omega (arith, w .2)) m in
+          below-held k (f e) (childOf state i e) (d .children e) (g .is-kid) (λ j a b. s .below-same j (omega (arith, g .behind)) (omega (arith, g .ends)))
+          (data-held k (f e) (childOf state i e) (d .children e .«data») (g .is-kid)) (h .1 e m),
+    )
+    data-held (suc k) (tDense ids nullable f) i d w s h = (
+      s .at-same 1 ∙ h .0,
+      s .at-same 2 ∙ h .1,
+      λ e m. let g = field-of (λ c. Worded state k (f c)) nullable (endOf state i) ids (suc i) 32 e (w .4) (omega (arith, w .2)) m in
+          below-held k (f e) (childOf state i e) (d .children e) (g .is-kid) (λ j a b. s .below-same j (omega (arith, g .behind)) (omega (arith, g .ends)))
+          (data-held k (f e) (childOf state i e) (d .children e .«data») (g .is-kid)) (h .2 e m),
+    )
     data-held (suc k) (tRunEnd v t) i d w s h =
         let e : endOf state i ≡ endOf state (suc (suc i)) = w .1 in
         let p = worded-span k t (suc (suc i)) (w .4) in
-        let n = s .below-same (suc i) (omega arith) (omega arith) in
-        (n .rows-same ∙ h .0, n .at-same 1 ∙ h .1,
-        below-held k t (suc (suc i)) (d .values) (w .4) (λ j a b. s .below-same j (omega arith) (omega arith)) (data-held k t (suc (suc i)) (d .values .«data») (w .4)) (h .2))
+        let n = s .below-same (suc i) (omega arith) (omega arith) in (
+          n .rows-same ∙ h .0,
+          n .at-same 1 ∙ h .1,
+          below-held k t (suc (suc i)) (d .values) (w .4) (λ j a b. s .below-same j (omega arith) (omega arith)) (data-held k t (suc (suc i)) (d .values .«data») (w .4)) (h .2),
+        )
     data-held (suc k) (tDictionary n p) i d w s h = s .at-same 1 ∙ h
 
     pub held-same : (k : ℕ) (t : Ty) (i : ℕ) (d : Destination t) → Worded state k t i → ((j : ℕ) → i ≤ j → j < endOf state i → SameAt c c′ μ μ′ j)

@@ -3,3 +3,5 @@ pub mod Goes
 pub mod Frame
 pub mod Counters
 pub mod Owed
+pub mod UnionFields
+pub mod UnionHome
