@@ -5,3 +5,6 @@ pub mod Counters
 pub mod Owed
 pub mod UnionFields
 pub mod UnionHome
+pub mod UnionParts
+pub mod UnionOwn
+pub mod SparseGoes
