@@ -8,3 +8,4 @@ pub mod UnionHome
 pub mod UnionParts
 pub mod UnionOwn
 pub mod SparseGoes
+pub mod DenseGoes

@@ -24,7 +24,7 @@ use Rattle.link.proofs.Owed.{DataKept, Given, Copies, CopiesData, Fills
 use Rattle.link.proofs.UnionFields.{visit, copy-visits, null-visits, Steps, in-order-goes}
 use Rattle.link.proofs.UnionHome.{goes-home}
 use Rattle.link.proofs.UnionParts.{small-all, part-cut, part-rows}
-use Rattle.link.proofs.UnionOwn.{put-own, own-put, own-kept, child-field, kids-held}
+use Rattle.link.proofs.UnionOwn.{Left, put-own, own-put, own-kept, child-field, kids-held}
 
 sparse-copy-is : (x : Join) (inner : Walk) (i slot n : ℕ) (c : List ℕ) → codeOf (x .state) i ≡ 19
     → copyData x inner (codeOf (x .state) i) i slot n c
@@ -45,10 +45,6 @@ sparse-null-is x inner i n c e =
     ap (λ z. nullData x inner z i n c) e
     ∙ ap (found 32 (nullableChild (x .state) (endOf (x .state) i) 32 (suc i)) (noHome (x .state) i) c)
     (fun-ext (λ h. ap (next (wrote (put i 1 (rows c i) (replicate n (idOf (x .state) h))) c)) (fun-ext (λ c2. null-visits x inner n (endOf (x .state) i) 32 (suc i) c2))))
-
--- what is left of a union with type t at node i
-abbrev Left : List ℕ → (t : Ty) → ℕ → List ℕ → Memory → Grown t → List ℕ → Memory → Type 0
-Left state t i c μ y c′ μ′ = HoldsData state t i y c′ μ′ × DataKept i (endOf state i) c c′ μ μ′
 
 module _ (state : List ℕ) (k : ℕ) (ids : List ℕ) (nullable : ℕ → Bool) (f : ℕ → Ty) (i : ℕ) (w : Worded state (suc k) (tSparse ids nullable f) i) (a : Ids ids) where
   -- ids behind those of node i, and then all the children
@@ -93,7 +89,7 @@ sparse-copies x inner k ids nullable f i m ss g kids slot n d c μ low high fine
 pub sparse-fills : (x : Join) (inner : NullWalk) (k : ℕ) (ids : List ℕ) (nullable : ℕ → Bool) (f : ℕ → Ty) (i m : ℕ) (ss : ℕ → Column (tSparse ids nullable f))
     → Given x (suc k) (tSparse ids nullable f) i m ss
     → ((e : ℕ) → List·Memᴰ e ids → Fills x inner (f e) (childOf (x .state) i e) m (λ j. ss j .body .children e)) → FillsData x inner (tSparse ids nullable f) i m ss
-sparse-fills x inner k ids nullable f i m ss g kids n d c μ some fine keep small long h =
+sparse-fills x inner k ids nullable f i m ss g kids n d c μ more fine keep small long h =
     let fit = fine .data-fine in
     let w = g .worded in
     rw (sparse-null-is x inner i n c (w .1))

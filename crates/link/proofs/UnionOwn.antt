@@ -8,10 +8,10 @@ use lib.ListN.{length}
 use lib.Dec.{eqb}
 use borrow.Author.Tests.{eq-eqb, ne-eqb}
 use Rattle.columnar.specs.Types.{Ty}
-use Rattle.model.specs.Transform.{Destination}
+use Rattle.model.specs.Transform.{Grown, Destination}
 use Rattle.walk.specs.State.{endOf}
 use Rattle.link.specs.Memory.{Memory, putIn}
-use Rattle.link.specs.Holds.{childOf, Fields, Worded, Holds}
+use Rattle.link.specs.Holds.{childOf, Fields, Worded, HoldsData, Holds}
 use Rattle.link.proofs.Frame.{SameAt, same-refl, same-then, Kept, Field, field-of, held-same}
 use Rattle.link.proofs.Owed.{DataKept}
 
@@ -48,6 +48,20 @@ own-kept {i} {k} {u} {e} {c} p q r a b =
       bits-own = here .bits-same ∙ a .bits-own;
       outside = λ j h. same-then (a .others c j (λ z. h (omega arith) (omega arith))) (b .outside j (λ x y. h (omega arith) (omega arith)));
     }
+
+pub data-kept-then : {i e : ℕ} {c c1 c2 : List ℕ} {μ μ1 μ2 : Memory} → DataKept i e c c1 μ μ1 → DataKept i e c1 c2 μ1 μ2 → DataKept i e c c2 μ μ2
+data-kept-then a b =
+    record {
+      long = b .long ∙ a .long;
+      rows-own = b .rows-own ∙ a .rows-own;
+      nulls-own = b .nulls-own ∙ a .nulls-own;
+      bits-own = b .bits-own ∙ a .bits-own;
+      outside = λ j h. same-then (a .outside j h) (b .outside j h);
+    }
+
+-- what is left of a union with type t at node i
+abbrev pub Left : List ℕ → (t : Ty) → ℕ → List ℕ → Memory → Grown t → List ℕ → Memory → Type 0
+Left state t i c μ y c′ μ′ = HoldsData state t i y c′ μ′ × DataKept i (endOf state i) c c′ μ μ′
 
 -- the children of a union at node i
 module _ (state : List ℕ) (depth : ℕ) (ids : List ℕ) (nullable : ℕ → Bool) (f : ℕ → Ty) (i : ℕ) (w : Fields state (λ e. Worded state depth (f e)) nullable (endOf state i) ids (suc i))
