@@ -13,14 +13,12 @@ use borrow.Author.Tests.{eqb-true, eqb-false, ltb-true, leb-true}
 use Rattle.number.specs.Number.{encode}
 use Rattle.columnar.specs.Types.{Ty, tDense, half}
 use Rattle.columnar.specs.Array.{ok, item, Mask}
-use Rattle.columnar.specs.Formed.{Ids}
 use Rattle.columnar.specs.Reading.{Column, masks}
 use Rattle.model.specs.Try.{Try, done, then, after, stepsT}
-use Rattle.model.specs.Mutable.{Mutable, extendNode, nullsNode}
+use Rattle.model.specs.Mutable.{extendNode, nullsNode}
 use Rattle.model.specs.Unions.{atChild, denseRow, positionsFrom}
 use Rattle.model.specs.Transform.{Grown, Destination, extendData, nullsData}
-use Rattle.model.proofs.Law.{FineNode}
-use Rattle.model.proofs.Nodes.{DenseFine, fineOf}
+use Rattle.model.proofs.Nodes.{fineOf}
 use Rattle.walk.specs.State.{Join, codeOf, endOf, idOf, rows, place, rowsIn}
 use Rattle.walk.specs.Log.{Out, put, wrote, next, need, found, each}
 use Rattle.walk.specs.Copy.{Walk, copyData, copyDense, denseTo, denseRow as walkRow, idAt, positionAt}
@@ -30,7 +28,7 @@ use Rattle.link.specs.Memory.{Memory, putIn}
 use Rattle.link.specs.Holds.{childOf, Worded, HoldsData, Holds}
 use Rattle.link.proofs.Goes.{Goes, goes-done, goes-guard, goes-need, goes-found, goes-map, goes-wrote, goes-then}
 use Rattle.link.proofs.Frame.{same-refl, Kept, apart-of, held-same}
-use Rattle.link.proofs.Owed.{DataKept, Given, Copies, CopiesData, Fills, FillsData}
+use Rattle.link.proofs.Owed.{Given, Copies, CopiesData, Fills, FillsData}
 use Rattle.link.proofs.UnionFields.{goes-known, goes-wrap, agrees-value}
 use Rattle.link.proofs.UnionHome.{goes-home}
 use Rattle.link.proofs.UnionParts.{small-all, part-byte, part-entry, part-rows, counted-positions}
@@ -156,8 +154,8 @@ module _ (x : Join) (inner : Walk) (k : ℕ) (ids : List ℕ) (nullable : ℕ �
       rw (row-is x inner i slot r b (item 4 (s .positions) a) c e1 e2)
       (goes-found 32 (childOf (x .state) i b) 12 c _ (omega (arith, field .span))
       (goes-guard (ltb (d .children b .len) (half 4)) (ltb (rows c (childOf (x .state) i b)) (half 4)) 6 c (omega arith) (ap (λ z. ltb z (half 4)) (held .rows-are))
-      (λ room.
-      let small : d .children b .len < half 4 = ltb-true _ _ room in
+      (λ test.
+      let room : d .children b .len < half 4 = ltb-true _ _ test in
       dense-one (x .state) k ids nullable f i w b p (λ c3. inner (childOf (x .state) i b) (item 4 (s .positions) a) 1 c3) d
       (λ e. extendNode (masks (f e)) (extendData (f e) m) (λ j. ss j .body .children e) (x .source) (item 4 (s .positions) a) 1 (d .children e))
       (b ∷ []) (encode 4 (d .children b .len)) (rows c i + r) (λ c2. (rows c2 i + r) * 4) (λ c2. encode 4 (rows c2 (childOf (x .state) i b))) c μ
@@ -220,8 +218,8 @@ dense-fills x inner k ids nullable f i m ss g kids n d c μ more fine keep small
     let held = h .data-are .2 b p in
     rw (child-field (x .state) k ids nullable f i (w .4) (omega (arith, w .2)) b p .has-id)
     (goes-guard (leb (kid .len + n) (half 4)) (leb (rows c (childOf (x .state) i b) + n) (half 4)) 6 c (omega arith) (ap (λ z. leb (z + n) (half 4)) (held .rows-are))
-    (λ room.
-    let room : kid .len + n ≤ half 4 = leb-true _ _ room in
+    (λ test.
+    let room : kid .len + n ≤ half 4 = leb-true _ _ test in
     dense-one (x .state) k ids nullable f i w b p (λ c3. inner (childOf (x .state) i b) n c3) (d .«data») (λ e. nullsNode (masks (f e)) (nullsData (f e)) n (d .«data» .children e))
     (replicate n b) (positionsFrom (kid .len) n) (rows c i) (λ c2. rows c2 i * 4) (λ c2. countedUp 4 (rows c2 (childOf (x .state) i b)) n) c μ
     (λ ν hk. kids b p n kid c ν (fit .kids-fine b p) (keep .below b p) (small-all (f b) _ (omega arith)) long hk)

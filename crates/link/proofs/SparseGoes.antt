@@ -1,26 +1,25 @@
 -- Sparse unions: the walk goes with the model, where it does at the children. Assumes nothing.
 use mathlib.Core.Path.{_≡_, refl, sym, ap, subst, fun-ext, _∙_}
-use mathlib.Core.Bool.{Bool, true, false, cond}
-use mathlib.Core.List.{List, [], _∷_, _++_, List·Memᴰ}
-use Prim.Native.Nat.{ℕ, zero, suc, _+_, _*_, _≤_, _<_}
+use mathlib.Core.Bool.{Bool}
+use mathlib.Core.List.{List, _++_, List·Memᴰ}
+use Prim.Native.Nat.{ℕ, suc, _+_, _≤_}
 use native.Mathlib.Omega.{arith}
 use lib.ListN.{length, take, drop, replicate}
 use Rattle.columnar.specs.Types.{Ty, tSparse}
 use Rattle.columnar.specs.Formed.{Ids}
 use Rattle.columnar.specs.Reading.{Column, masks}
 use Rattle.model.specs.Try.{Try, after}
-use Rattle.model.specs.Mutable.{Mutable, extendNode, nullsNode}
+use Rattle.model.specs.Mutable.{extendNode, nullsNode}
 use Rattle.model.specs.Unions.{sparseWith}
 use Rattle.model.specs.Transform.{Grown, Destination, extendData, nullsData}
 use Rattle.walk.specs.State.{Join, codeOf, endOf, idOf, rows, place, rowsIn}
 use Rattle.walk.specs.Log.{Out, put, wrote, next, need, found}
-use Rattle.walk.specs.Copy.{Walk, copyData, copySparse, copyFields}
+use Rattle.walk.specs.Copy.{Walk, copyData, copySparse}
 use Rattle.walk.specs.Nulls.{NullWalk, nullData, nullSparse, nullableChild, noHome}
 use Rattle.link.specs.Memory.{Memory, putIn}
 use Rattle.link.specs.Holds.{childOf, Worded, HoldsData}
 use Rattle.link.proofs.Goes.{Goes, goes-need, goes-map, goes-wrote}
-use Rattle.link.proofs.Frame.{Kept}
-use Rattle.link.proofs.Owed.{DataKept, Given, Copies, CopiesData, Fills, FillsData}
+use Rattle.link.proofs.Owed.{Given, Copies, CopiesData, Fills, FillsData}
 use Rattle.link.proofs.UnionFields.{visit, copy-visits, null-visits, Steps, in-order-goes}
 use Rattle.link.proofs.UnionHome.{goes-home}
 use Rattle.link.proofs.UnionParts.{small-all, part-cut, part-rows}

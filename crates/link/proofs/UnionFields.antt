@@ -1,29 +1,26 @@
--- The children of a union in the walk and in the model: each in field order, the one with an id, the first nullable one. Assumes nothing.
+-- The children of a union, each in field order: by nodes in the walk, by ids in the model. Assumes nothing.
 use mathlib.Core.Path.{_≡_, refl, sym, ap, subst, fun-ext, _∙_}
-use mathlib.Core.Bool.{Bool, true, false, cond}
+use mathlib.Core.Bool.{Bool, cond}
 use mathlib.Core.List.{List, [], _∷_, List·Memᴰ, List·Memᴰ·head, List·Memᴰ·tail, List·Memᴰ·not-nil}
-use Prim.Native.Nat.{ℕ, zero, suc, _+_, _≤_, _<_}
+use Prim.Native.Nat.{ℕ, zero, suc, _≤_, _<_}
 use native.Mathlib.Omega.{arith}
 use lib.ListN.{length}
-use lib.Dec.{ltb, eqb}
-use borrow.Author.Tests.{lt-ltb, le-ltb, eq-eqb, ne-eqb, eqb-true}
+use lib.Dec.{ltb}
+use borrow.Author.Tests.{lt-ltb, le-ltb, eq-eqb, ne-eqb}
 use Rattle.columnar.specs.Types.{Ty}
 use Rattle.columnar.specs.Formed.{Ids}
-use Rattle.columnar.specs.Reading.{masks}
-use Rattle.model.specs.Try.{Try, done, stop, then, after}
-use Rattle.model.specs.Mutable.{Mutable}
+use Rattle.model.specs.Try.{Try, done, then, after}
 use Rattle.model.specs.Unions.{inOrder}
-use Rattle.model.specs.Transform.{Grown, Destination}
+use Rattle.model.specs.Transform.{Destination}
 use Rattle.model.proofs.Agree.{Agrees, both, neither}
-use Rattle.walk.specs.State.{endOf, idOf}
+use Rattle.walk.specs.State.{Join, endOf, idOf}
 use Rattle.walk.specs.Log.{Out, next}
 use Rattle.walk.specs.Copy.{Walk, childWith, copyFields}
 use Rattle.walk.specs.Nulls.{NullWalk, nullFields}
-use Rattle.walk.specs.State.{Join}
 use Rattle.link.specs.Memory.{Memory}
 use Rattle.link.specs.Holds.{Fields, Worded, Holds}
 use Rattle.link.proofs.Goes.{Goes, good, over, goes-done, goes-map, goes-then}
-use Rattle.link.proofs.Frame.{SameAt, Kept, kept-refl, kept-then, kept-wide, Field, field-of, held-same}
+use Rattle.link.proofs.Frame.{Kept, kept-refl, kept-then, kept-wide, field-of, held-same}
 
 -- ---- rules
 

@@ -5,12 +5,12 @@ use mathlib.Core.List.{List, [], _∷_, List·Memᴰ, List·Memᴰ·head, List·
 use Prim.Native.Nat.{ℕ, zero, suc, _≤_, _<_}
 use native.Mathlib.Omega.{arith}
 use lib.ListN.{length}
-use lib.Dec.{ltb, eqb}
+use lib.Dec.{eqb}
 use borrow.Author.Tests.{lt-ltb, le-ltb}
 use Rattle.columnar.specs.Formed.{Ids}
 use Rattle.model.specs.Try.{Try, done, stop, then}
 use Rattle.model.specs.Ordered.{firstNullable, home}
-use Rattle.walk.specs.State.{endOf, idOf, nullableOf}
+use Rattle.walk.specs.State.{endOf, nullableOf}
 use Rattle.walk.specs.Log.{Out, fail, found}
 use Rattle.walk.specs.Copy.{childWith}
 use Rattle.walk.specs.Nulls.{nullableChild, noHome}

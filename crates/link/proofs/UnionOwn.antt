@@ -1,8 +1,8 @@
 -- Writes into a union's own buffers, and what they leave. Assumes nothing.
-use mathlib.Core.Path.{_≡_, refl, sym, ap, subst, _∙_}
-use mathlib.Core.Bool.{Bool, true, false, cond, _&&_}
-use mathlib.Core.List.{List, [], _∷_, _++_, List·Memᴰ}
-use Prim.Native.Nat.{ℕ, zero, suc, _+_, _≤_, _<_}
+use mathlib.Core.Path.{_≡_, refl, ap, _∙_}
+use mathlib.Core.Bool.{Bool, cond, _&&_}
+use mathlib.Core.List.{List, _++_, List·Memᴰ}
+use Prim.Native.Nat.{ℕ, suc, _≤_, _<_}
 use native.Mathlib.Omega.{arith}
 use lib.ListN.{length}
 use lib.Dec.{eqb}
@@ -12,7 +12,7 @@ use Rattle.model.specs.Transform.{Grown, Destination}
 use Rattle.walk.specs.State.{endOf}
 use Rattle.link.specs.Memory.{Memory, putIn}
 use Rattle.link.specs.Holds.{childOf, Fields, Worded, HoldsData, Holds}
-use Rattle.link.proofs.Frame.{SameAt, same-refl, same-then, Kept, Field, field-of, held-same}
+use Rattle.link.proofs.Frame.{SameAt, same-then, Kept, Field, field-of, held-same}
 use Rattle.link.proofs.Owed.{DataKept}
 
 pub put-own : (i b : ℕ) (bs : List ℕ) (μ : Memory) → putIn i b bs μ .at i b ≡ μ .at i b ++ bs

@@ -1,13 +1,12 @@
 -- What a union's walk reads of the body is what its column holds; and positions counted up. Assumes nothing.
-use mathlib.Core.Path.{_≡_, refl, sym, ap, ap₂, subst, _∙_}
-use mathlib.Core.Bool.{Bool, true, _&&_}
-use mathlib.Core.List.{List, [], _∷_, _++_, append-assoc, append-nil}
-use Prim.Native.Nat.{ℕ, zero, suc, _+_, _*_, _%_, _^_, _≤_, _<_}
+use mathlib.Core.Path.{_≡_, refl, sym, ap, ap₂, _∙_}
+use mathlib.Core.Bool.{true}
+use mathlib.Core.List.{List, _++_, append-assoc, append-nil}
+use Prim.Native.Nat.{ℕ, zero, suc, _+_, _*_, _≤_, _<_}
 use native.Mathlib.Nat.{add-zero, add-suc, suc-add, mul-comm}
 use native.Mathlib.Omega.{arith}
 use lib.ListN.{length, take, drop, getD, length-drop}
 use lib.Seq.{length-take-le, getD-take, getD-drop, drop-drop}
-use lib.Dec.{leb, ltb}
 use borrow.Author.Tests.{lt-ltb, le-leb}
 use Rattle.number.specs.Number.{number, encode, entry}
 use Rattle.number.proofs.Laws.{encode-mod}
@@ -16,7 +15,7 @@ use Rattle.columnar.specs.Array.{item}
 use Rattle.columnar.proofs.Items.{number-take}
 use Rattle.model.specs.Unions.{positionsFrom}
 use Rattle.model.proofs.Pieces.{cut-cut}
-use Rattle.utils.specs.Pieces.{pieces, numbers}
+use Rattle.utils.specs.Pieces.{pieces}
 use Rattle.utils.specs.Offsets.{countedUp}
 use Rattle.utils.proofs.Pieces.{pieces-same}
 use Rattle.walk.specs.State.{Join, far, rowsIn}
