@@ -19,3 +19,10 @@ pub mod Places
 pub mod ListViews
 pub mod RunLookups
 pub mod RunEnds
+pub mod UnionFields
+pub mod UnionHome
+pub mod UnionParts
+pub mod UnionOwn
+pub mod SparseGoes
+pub mod DenseGoes
+pub mod Types

@@ -211,9 +211,10 @@ module _ (x : Join) (k : ℕ) (t : Ty) (i m : ℕ) (ss : ℕ → Column t) (g : 
       (λ b c3 ν3 q.
       let d′ : Destination t = record { len = d .len + n; null_count = d .null_count + counted (d .bits) (zeros vs); bits = grow (masks t) vs (d .bits); «data» = b } in
       let f : d′ .null_count ≤ d′ .len = let z = counted-few (d .bits) (zeros vs) n few in omega (arith, h .few-nulls) in
-      goes-done d′ _
-      (node-held (x .state) (suc k) t i (g .worded) n d d′ c c2 c3 μ ν2 ν3 long fits h f refl mk (q .1) (q .0),
-      node-kept (x .state) (suc k) t i (g .worded) n d d′ c c2 c3 μ ν2 ν3 long fits h f refl mk (q .1) (q .0))))))))
+      goes-done d′ _ (
+        node-held (x .state) (suc k) t i (g .worded) n d d′ c c2 c3 μ ν2 ν3 long fits h f refl mk (q .1) (q .0),
+        node-kept (x .state) (suc k) t i (g .worded) n d d′ c c2 c3 μ ν2 ν3 long fits h f refl mk (q .1) (q .0),
+      )))))))
     where
       below : {b : Option (List Bool)} {z : ℕ} {c2 : List ℕ} {ν2 : Memory} → Masked (x .state) i (masks t) b z c c2 μ ν2 → (j : ℕ) → (j ≡ i → ⊥) → SameAt c c2 μ ν2 j
       below mk j ne =
@@ -239,6 +240,7 @@ module _ (x : Join) (k : ℕ) (t : Ty) (i m : ℕ) (ss : ℕ → Column t) (g : 
       (λ c3 ν3 mk.
       let d′ : Destination t = record { len = d .len + suc n; null_count = d .null_count + counted (d .bits) (suc n); bits = grow (masks t) (replicate (suc n) false) (d .bits); «data» = b } in
       let f : d′ .null_count ≤ d′ .len = let z = counted-few (d .bits) (suc n) (suc n) (omega arith) in omega (arith, h .few-nulls) in
-      goes-done d′ _
-      (filled-held (suc n) d d′ c c2 c3 μ ν2 ν3 long fits h f refl (q .1) (q .0) mk,
-      filled-kept (suc n) d d′ c c2 c3 μ ν2 ν3 long fits h f refl (q .1) (q .0) mk))))))
+      goes-done d′ _ (
+        filled-held (suc n) d d′ c c2 c3 μ ν2 ν3 long fits h f refl (q .1) (q .0) mk,
+        filled-kept (suc n) d d′ c c2 c3 μ ν2 ν3 long fits h f refl (q .1) (q .0) mk,
+      ))))))

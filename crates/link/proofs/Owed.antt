@@ -5,6 +5,7 @@ use Prim.Native.Nat.{ℕ, suc, _+_, _≤_, _<_}
 use lib.ListN.{length}
 use Rattle.columnar.specs.Types.{Ty, tPlain, tView, tListView, tSparse, tDense, tRunEnd, tDictionary}
 use Rattle.columnar.specs.Array.{Array}
+use Rattle.columnar.specs.Formed.{Formed}
 use Rattle.columnar.specs.Reading.{Column, masks, Source}
 use Rattle.model.specs.Mutable.{Mutable, extendNode, nullsNode}
 use Rattle.model.specs.Transform.{Grown, Destination, extendData, nullsData}
@@ -40,6 +41,7 @@ Small (tDictionary k p) n = n ≤ far
 -- what is given at node i: the state's words, source j's tables, and the model's laws over all m sources
 pub record Given (x : Join) (k : ℕ) (t : Ty) (i m : ℕ) (ss : ℕ → Column t) : Type 0 where
   pub worded : Worded (x .state) k t i
+  pub formed : Formed t
   pub known : x .source < m
   pub body-small : length (x .body) < 4294967296
   pub lent : Lent x t i (ss (x .source))

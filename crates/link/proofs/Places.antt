@@ -95,7 +95,7 @@ small-of tView n h = h
 small-of (tListView w t) n h = h
 small-of (tSparse ids nullable f) n h = h
 small-of (tDense ids nullable f) n h = h
-small-of (tRunEnd w t) n h = tt
+small-of (tRunEnd w t) n h = omega arith
 small-of (tDictionary k p) n h = h
 
 -- no code has entries of more than eight bytes

@@ -1,5 +1,6 @@
 -- Run-end nodes: a copy of runs, and nulls. Assumes nothing.
 use mathlib.Core.Path.{_≡_, refl, sym, ap, _∙_}
+use mathlib.Core.Bool.{and-true}
 use mathlib.Core.List.{List, _++_}
 use Prim.Native.Nat.{ℕ, zero, suc, _+_, _-_, _*_, _≤_, _<_}
 use native.Mathlib.Nat.{mul-add}
@@ -123,7 +124,7 @@ module _ (x : Join) (k w : ℕ) (t : Ty) (i m : ℕ) (ss : ℕ → Column (tRunE
       (need (ltb (rows c i + suc n) (half w)) 7 c
       (need (rowsIn x (place x (suc i) 3) w (offsetOf x (suc i)) (lengthOf x (suc i))) 12 c (putRuns x inner w i slot (suc n) (runsAt x inner w i slot (suc n)) c)))
   unfolding copyRuns
-  some-is inner slot n c = rw (ne-eqb (suc n) 0 (λ e. omega (arith, e)), g .worded .3)
+  some-is inner slot n c = rw (ne-eqb (suc n) 0 (λ e. omega (arith, e)), g .worded .3, g .worded .5, and-true (ltb (suc (suc i)) 32))
 
   null-code : (inner : NullWalk) (code n : ℕ) (c : List ℕ) → code ≡ 21 → nullData x inner code i n c ≡ nullRuns x inner i n c
   unfolding nullData
@@ -136,7 +137,7 @@ module _ (x : Join) (k w : ℕ) (t : Ty) (i m : ℕ) (ss : ℕ → Column (tRunE
       (λ c2. need (ltb (rows c2 i + n) (half w)) 7 c2
       (next (wrote (put (suc i) 1 (rows c2 (suc i) * w) (encode w (rows c2 i + n))) c2) (λ c3. Rattle.walk.specs.Log.done (addRows (suc i) 1 c3)))))
   unfolding nullRuns
-  null-is inner n c = rw (g .worded .3)
+  null-is inner n c = rw (g .worded .3, g .worded .5, and-true (ltb (suc (suc i)) 32))
 
   -- no more ends than rows
   few-ends : (d : Runs (Grown t)) (l : ℕ) → FineRuns d l → d .ends .len ≤ l
