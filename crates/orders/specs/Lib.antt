@@ -1,0 +1,2 @@
+-- What orders come to on lent memory.
+pub mod Order
