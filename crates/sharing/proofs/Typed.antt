@@ -1,19 +1,22 @@
 -- The tests of an opening over the tables are those over the typed columns: they look at lengths, offsets, validity and where dictionaries begin.
 -- Assumes nothing.
 use mathlib.Core.Path.{_≡_, refl, ap, ap₂}
-use mathlib.Core.Bool.{Bool, cond, _&&_, _||_}
+use mathlib.Core.Bool.{Bool, true, false, cond, _&&_, _||_, false≢true}
+use mathlib.Core.Option.{Option, none, some}
 use mathlib.Core.List.{List, []}
-use Prim.Native.Nat.{ℕ, zero, suc}
+use Prim.Native.Nat.{ℕ, zero, suc, _+_, _<_, _^_}
 use Rattle.columnar.specs.Types.{Number, Plain, fixed, string, Ty, tDictionary}
 use Rattle.columnar.specs.Array.{Array, nullCount}
 use Rattle.columnar.specs.Plain.{PlainBody}
 use Rattle.columnar.specs.Dictionary.{Dictionary}
 use Rattle.columnar.specs.Reading.{Column}
+use Rattle.columnar.specs.Test.{maskTest}
 use Rattle.model.specs.Opening.{anyNull, keeps, ptrEq, shared, entriesBefore, startOfKeys, keysFit, allKeysFit}
-use Rattle.array_data.specs.Tables.{Tables}
+use Rattle.array_data.specs.Tables.{Tables, lengthOf, offsetOf, validOf}
 use Rattle.array_data.specs.Typed.{Tree, tablesFrom, starts, bodyOf, columnOf}
-use Rattle.lent_tables.specs.Lent.{tables}
-use Rattle.sharing.specs.Sources.{firstOf, arrayAt, startsOf, ofStrings, dictAt}
+use Rattle.lent_tables.specs.Lent.{tables, maskOf}
+use Rattle.sharing.specs.Sources.{firstOf, arrayAt, startsOf, ofStrings, dictAt, Countable}
+use Rattle.sharing.proofs.Laws.{length-from, offset-from, place-from}
 use Rattle.sharing.proofs.Keys.{entries-same}
 
 pub null-same : {B C : Type 0} (xs : ℕ → Array B) (ys : ℕ → Array C) → ((s : ℕ) → nullCount (xs s) ≡ nullCount (ys s)) → (m : ℕ) → anyNull m xs ≡ anyNull m ys
@@ -86,3 +89,19 @@ module _ (t : Tree) (x : Tables) (sources : List ℕ) where
 
     pub fits-typed : (n : Number) (m j : ℕ) → allKeysFit n m j (dictionaryAt k p i) ≡ allKeysFit n m j lentAt
     fits-typed = all-fit-same (dictionaryAt k p i) lentAt alike
+
+-- ---- what ground 12's test of node i of a source gives: its nulls can be counted
+
+mask-true : (may : Bool) (v : Option (List ℕ)) (n : ℕ) → maskTest may v n ≡ true → maskTest true v n ≡ true
+mask-true true v n h = h
+mask-true false none n h = h
+mask-true false (some b) n h = absurd (false≢true h)
+
+pub countable-at : (x : Tables) (f i : ℕ) (may : Bool) → f + i < 2 ^ 33 → offsetOf (tablesFrom x f) i + lengthOf (tablesFrom x f) i < 2 ^ 63
+    → maskOf (tablesFrom x f) i may ≡ true → Countable (tables (x .lengths) (x .places) (x .body)) (f + i)
+countable-at x f i may h l e =
+    let m : maskOf (tablesFrom x f) i true ≡ true = mask-true may (validOf (tablesFrom x f) i) (offsetOf (tablesFrom x f) i + lengthOf (tablesFrom x f) i) e in
+    record {
+      counted = record { small = h; sum = rw (length-from x f i, offset-from x f i) at l };
+      bits = rw (length-from x f i, offset-from x f i, place-from x f i 0, place-from x f i 1, place-from x f i 2) at m;
+    }
