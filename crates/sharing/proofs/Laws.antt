@@ -113,10 +113,14 @@ tests true false g string = refl
 tests false f g string = refl
 
 module _ (x : Tables) where
-  pub same-starts : (string : Bool) (a b : ℕ) → eqb (validStart x a) (validStart x b) && eqb (place x a 3) (place x b 3) && (eqb (place x a 5) (place x b 5) || not string)
+  same-starts : (string : Bool) (a b : ℕ) → eqb (validStart x a) (validStart x b) && eqb (place x a 3) (place x b 3) && (eqb (place x a 5) (place x b 5) || not string)
       ≡ sameList (startsOf x string a) (startsOf x string b)
   same-starts true a b = tests (eqb (validStart x a) (validStart x b)) (eqb (place x a 3) (place x b 3)) (eqb (place x a 5) (place x b 5)) true
   same-starts false a b = tests (eqb (validStart x a) (validStart x b)) (eqb (place x a 3) (place x b 3)) (eqb (place x a 5) (place x b 5)) false
+
+  pub starts-are : (string : Bool) (a b : ℕ) {u v p q o r : ℕ} → u ≡ validStart x a → v ≡ validStart x b → p ≡ place x a 3 → q ≡ place x b 3 → o ≡ place x a 5 → r ≡ place x b 5
+      → eqb u v && eqb p q && (eqb o r || not string) ≡ sameList (startsOf x string a) (startsOf x string b)
+  starts-are string a b e f g h k l = rw (e, f, g, h, k, l) (same-starts string a b)
 
   pub ptr-is : (string : Bool) (a b : ℕ) {o p l q : ℕ} {t : Bool} → o ≡ offsetOf x a → p ≡ offsetOf x b → l ≡ lengthOf x a → q ≡ lengthOf x b
       → t ≡ sameList (startsOf x string a) (startsOf x string b) → eqb o p && eqb l q && t ≡ ptrEq (dictWith x string a) (dictWith x string b)
