@@ -160,7 +160,7 @@ module _ (x : Join) (inner : Walk) (k : ℕ) (ids : List ℕ) (nullable : ℕ �
       dense-one (x .state) k ids nullable f i w b p (λ c3. inner (childOf (x .state) i b) (item 4 (s .positions) a) 1 c3) d
       (λ e. extendNode (masks (f e)) (extendData (f e) m) (λ j. ss j .body .children e) (x .source) (item 4 (s .positions) a) 1 (d .children e))
       (b ∷ []) (encode 4 (d .children b .len)) (rows c i + r) (λ c2. (rows c2 i + r) * 4) (λ c2. encode 4 (rows c2 (childOf (x .state) i b))) c μ
-      (λ ν kid. kids b p (item 4 (s .positions) a) 1 (d .children b) c ν (omega arith) (fit .kids-fine b p) (small-of (f b) _ (omega arith)) long kid)
+      (λ ν kid. kids b p (item 4 (s .positions) a) 1 (d .children b) c ν (omega arith) (fit .kids-fine b p) (small-of _ (omega arith)) long kid)
       (ap (λ z. z + r) rows-are ∙ sym (fit .ids-are)) (ap (λ z. (z + r) * 4) rows-are ∙ sym (fit .positions-are)) (ap (encode 4) (held .rows-are)) h)))
 
   -- .. is still well formed
@@ -223,6 +223,6 @@ dense-fills x inner k ids nullable f i m ss g kids n d c μ more fine keep small
     let room : kid .len + n ≤ half 4 = leb-true _ _ test in
     dense-one (x .state) k ids nullable f i w b p (λ c3. inner (childOf (x .state) i b) n c3) (d .«data») (λ e. nullsNode (masks (f e)) (nullsData (f e)) n (d .«data» .children e))
     (replicate n b) (positionsFrom (kid .len) n) (rows c i) (λ c2. rows c2 i * 4) (λ c2. countedUp 4 (rows c2 (childOf (x .state) i b)) n) c μ
-    (λ ν hk. kids b p n kid c ν (fit .kids-fine b p) (keep .below b p) (small-of (f b) _ (omega arith)) long hk)
+    (λ ν hk. kids b p n kid c ν (fit .kids-fine b p) (keep .below b p) (small-of _ (omega arith)) long hk)
     (h .rows-are ∙ sym (fit .ids-are)) (ap (λ z. z * 4) (h .rows-are) ∙ sym (fit .positions-are))
     (ap (λ z. countedUp 4 z n) (held .rows-are) ∙ counted-positions (kid .len) n) (h .data-are)))))

@@ -130,7 +130,7 @@ module _ (x : Join) (k w : ℕ) (t : Ty) (i m : ℕ) (ss : ℕ → Column (tList
         (goes-wrote (put i 2 ((l + r) * w) qs) c _ (sym (ap length (put-beside i 1 ps μ 2 (λ y. omega (arith, y)) ∙ h .1) ∙ fine .sizes-are))
         (goes-wrap (λ y. record { buffer1 = d .buffer1 ++ ps; buffer2 = d .buffer2 ++ qs; child = y })
         (λ y c′ ν p. finish d c μ z (h .0) (h .1) y c′ ν p)
-        (go-on o z (d .child) c (written i ps qs μ) (rule .within) (fine .child-fine) (small-of t (d .child .len + z) (omega (arith, half-small, ltb-true (d .child .len + z) (half w) q))) long
+        (go-on o z (d .child) c (written i ps qs μ) (rule .within) (fine .child-fine) (small-of (d .child .len + z) (omega (arith, half-small, ltb-true (d .child .len + z) (half w) q))) long
         (held-same (x .state) c c μ (written i ps qs μ) k t (suc i) (d .child) (g .worded .4) (λ j a b. written-other i ps qs μ c j (λ y. omega (arith, y))) (h .2))))))))
       where
         finish : (d : Lists (Grown t)) (c : List ℕ) (μ : Memory) (z : ℕ) → μ .at i 1 ≡ d .buffer1 → μ .at i 2 ≡ d .buffer2

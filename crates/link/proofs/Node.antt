@@ -31,7 +31,7 @@ use Rattle.link.proofs.Goes.{Goes, Quiet, goes-done, goes-need, goes-fo
 use Rattle.link.proofs.Frame.{SameAt, same-then, Kept, kept-refl, worded-span, bits-held, data-held}
 use Rattle.link.proofs.Counters.{grown-is, rows-added, rows-other, nulls-of-rows, bytes-of-rows, long-rows}
 use Rattle.link.proofs.Mask.{Masked, zeros-few, copy-mask, copy-none, null-mask, count-nulls}
-use Rattle.link.proofs.Owed.{DataKept, Small, Given, Copies, CopiesData, Fills, FillsData}
+use Rattle.link.proofs.Owed.{DataKept, Given, Copies, CopiesData, Fills, FillsData}
 
 -- ---- what the words of a node say
 
@@ -65,15 +65,6 @@ module _ (state : List ℕ) where
   masked-is (suc k) (tDense ids nullable f) i w = le-ltb (codeOf state i) 19 (omega (arith, w .1))
   masked-is (suc k) (tRunEnd v t) i w = le-ltb (codeOf state i) 19 (omega (arith, w .2))
   masked-is (suc k) (tDictionary n p) i w = below-code 1 10 (codeOf state i) (omega arith) (w .3)
-
-pub small-top : (t : Ty) (n : ℕ) → Small t n → n ≤ top
-small-top (tPlain p) n h = omega arith
-small-top tView n h = omega arith
-small-top (tListView w t) n h = omega arith
-small-top (tSparse ids nullable f) n h = omega arith
-small-top (tDense ids nullable f) n h = omega arith
-small-top (tRunEnd w t) n h = h
-small-top (tDictionary k p) n h = omega arith
 
 counted-few : (b : Option (List Bool)) (z n : ℕ) → z ≤ n → counted b z ≤ n
 counted-few none z n h = omega arith
@@ -194,7 +185,7 @@ module _ (x : Join) (k : ℕ) (t : Ty) (i m : ℕ) (ss : ℕ → Column t) (g : 
       let small = worded-small (x .state) (suc k) t i (g .worded) in
       let slot = src .off + a in
       let vs = seg (ok (src .valid)) slot n in
-      let fits = small-top t (d .len + n) sm in
+      let fits = sm in
       let few : zeros vs ≤ n = subst (λ z. zeros vs ≤ z) (length-seg (ok (src .valid)) slot n) (zeros-few vs) in
       goes-need (ltb i 32) 12 c (lt-ltb i 32 small)
       (rw (slot-is a n ha)
@@ -228,7 +219,7 @@ module _ (x : Join) (k : ℕ) (t : Ty) (i m : ℕ) (ss : ℕ → Column t) (g : 
   node-fills data-goes zero d c μ fine keep sm long h = goes-done d c (h, kept-refl i (endOf (x .state) i) c μ)
   node-fills data-goes (suc n) d c μ fine keep sm long h =
       let small = worded-small (x .state) (suc k) t i (g .worded) in
-      let fits = small-top t (d .len + suc n) sm in
+      let fits = sm in
       rw (ne-eqb (suc n) 0 (λ e. omega (arith, e)))
       (goes-need (ltb i 32) 12 c (lt-ltb i 32 small)
       (goes-then _ _ (data-goes (suc n) d c μ (omega arith) fine keep sm long h)

@@ -28,15 +28,9 @@ pub record DataKept (i e : ℕ) (c c′ : List ℕ) (μ μ′ : Memory) : Type 0
   pub bits-own : μ′ .bits i ≡ μ .bits i
   pub outside : (j : ℕ) → (i ≤ j → j < e → ⊥) → SameAt c c′ μ μ′ j
 
--- rows that a counter holds; `far` is one of them, since nulls ask a run-end node's values before ground 7. A run-end node tests its rows itself.
-abbrev pub Small : Ty → ℕ → Type 0
-Small (tPlain p) n = n ≤ far
-Small tView n = n ≤ far
-Small (tListView w t) n = n ≤ far
-Small (tSparse ids nullable f) n = n ≤ far
-Small (tDense ids nullable f) n = n ≤ far
-Small (tRunEnd w t) n = n ≤ top
-Small (tDictionary k p) n = n ≤ far
+-- rows that a counter holds
+abbrev pub Small : ℕ → Type 0
+Small n = n ≤ top
 
 -- what is given at node i: the state's words, source j's tables, and the model's laws over all m sources
 pub record Given (x : Join) (k : ℕ) (t : Ty) (i m : ℕ) (ss : ℕ → Column t) : Type 0 where
@@ -52,7 +46,7 @@ pub record Given (x : Join) (k : ℕ) (t : Ty) (i m : ℕ) (ss : ℕ → Column 
 -- THE COPY of rows a .. a + n - 1 at node i goes with the model's
 abbrev pub Copies : Join → Walk → (t : Ty) → ℕ → ℕ → (ℕ → Column t) → Type 0
 Copies x walk t i m ss =
-    (a n : ℕ) (d : Destination t) (c : List ℕ) (μ : Memory) → a + n ≤ ss (x .source) .len → Fine (kindOf t m (λ j. ss j .body)) m ss d → Small t (d .len + n)
+    (a n : ℕ) (d : Destination t) (c : List ℕ) (μ : Memory) → a + n ≤ ss (x .source) .len → Fine (kindOf t m (λ j. ss j .body)) m ss d → Small (d .len + n)
     → length c ≡ 96 → Holds (x .state) t i d c μ
     → Goes μ (λ d′ c′ μ′. Holds (x .state) t i d′ c′ μ′ × Kept i (endOf (x .state) i) c c′ μ μ′) (extendNode (masks t) (extendData t m) ss (x .source) a n d) (walk i a n c)
 
@@ -60,20 +54,20 @@ Copies x walk t i m ss =
 abbrev pub CopiesData : Join → Walk → (t : Ty) → ℕ → ℕ → (ℕ → Column t) → Type 0
 CopiesData x inner t i m ss =
     (slot n : ℕ) (d : Destination t) (c : List ℕ) (μ : Memory) → ss (x .source) .off ≤ slot → slot + n ≤ ss (x .source) .off + ss (x .source) .len
-    → Fine (kindOf t m (λ j. ss j .body)) m ss d → Small t (d .len + n) → length c ≡ 96 → rows c i ≡ d .len → HoldsData (x .state) t i (d .«data») c μ
+    → Fine (kindOf t m (λ j. ss j .body)) m ss d → Small (d .len + n) → length c ≡ 96 → rows c i ≡ d .len → HoldsData (x .state) t i (d .«data») c μ
     → Goes μ (λ g c′ μ′. HoldsData (x .state) t i g c′ μ′ × DataKept i (endOf (x .state) i) c c′ μ μ′)
     (extendData t m (λ j. ss j .body) (x .source) slot n (d .len) (d .«data»)) (copyData x inner (codeOf (x .state) i) i slot n c)
 
 -- THE NULLS at node i go with the model's
 abbrev pub Fills : Join → NullWalk → (t : Ty) → ℕ → ℕ → (ℕ → Column t) → Type 0
 Fills x walk t i m ss =
-    (n : ℕ) (d : Destination t) (c : List ℕ) (μ : Memory) → Fine (kindOf t m (λ j. ss j .body)) m ss d → KeepNode (keepOf t) d → Small t (d .len + n)
+    (n : ℕ) (d : Destination t) (c : List ℕ) (μ : Memory) → Fine (kindOf t m (λ j. ss j .body)) m ss d → KeepNode (keepOf t) d → Small (d .len + n)
     → length c ≡ 96 → Holds (x .state) t i d c μ
     → Goes μ (λ d′ c′ μ′. Holds (x .state) t i d′ c′ μ′ × Kept i (endOf (x .state) i) c c′ μ μ′) (nullsNode (masks t) (nullsData t) n d) (walk i n c)
 
 abbrev pub FillsData : Join → NullWalk → (t : Ty) → ℕ → ℕ → (ℕ → Column t) → Type 0
 FillsData x inner t i m ss =
-    (n : ℕ) (d : Destination t) (c : List ℕ) (μ : Memory) → 0 < n → Fine (kindOf t m (λ j. ss j .body)) m ss d → KeepNode (keepOf t) d → Small t (d .len + n)
+    (n : ℕ) (d : Destination t) (c : List ℕ) (μ : Memory) → 0 < n → Fine (kindOf t m (λ j. ss j .body)) m ss d → KeepNode (keepOf t) d → Small (d .len + n)
     → length c ≡ 96 → Holds (x .state) t i d c μ
     → Goes μ (λ g c′ μ′. HoldsData (x .state) t i g c′ μ′ × DataKept i (endOf (x .state) i) c c′ μ μ′)
     (nullsData t n (d .len) (d .«data»)) (nullData x inner (codeOf (x .state) i) i n c)

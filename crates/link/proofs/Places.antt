@@ -89,14 +89,8 @@ worded-small state (suc k) (tRunEnd v t) i w = w .0
 worded-small state (suc k) (tDictionary n p) i w = w .0
 
 -- rows below the limit are held by a counter
-pub small-of : (t : Ty) (n : ℕ) → n ≤ far → Small t n
-small-of (tPlain p) n h = h
-small-of tView n h = h
-small-of (tListView w t) n h = h
-small-of (tSparse ids nullable f) n h = h
-small-of (tDense ids nullable f) n h = h
-small-of (tRunEnd w t) n h = omega arith
-small-of (tDictionary k p) n h = h
+pub small-of : (n : ℕ) → n ≤ far → Small n
+small-of n h = omega arith
 
 -- no code has entries of more than eight bytes
 all-small : List ℕ → Bool

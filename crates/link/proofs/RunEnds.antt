@@ -220,7 +220,7 @@ module _ (x : Join) (k w : ℕ) (t : Ty) (i m : ℕ) (ss : ℕ → Column (tRunE
         let room : d .«data» .ends .len + count ≤ far = omega (arith, few, few-runs, half-small) in
         goes-need _ 12 c
         (rw (lent .off-is, lent .len-is) (rows-in x (place x (suc i) 3) (place x (suc i) 4) (Src .body .ends .body) w (Src .body .ends .off) many (lent .body-is) wide (g .obey (x .source) (g .known) .slots .hold) (g .body-small)))
-        (goes-then _ _ (go-on first count (d .«data» .values) c μ in-values (fine .values-fine) (small-of t (d .«data» .values .len + count) (rw (fine .as-many) room)) long (h .2))
+        (goes-then _ _ (go-on first count (d .«data» .values) c μ in-values (fine .values-fine) (small-of (d .«data» .values .len + count) (rw (fine .as-many) room)) long (h .2))
         (λ v c2 ν p.
         rw (p .1 .outside i (λ a b. omega arith) .rows-same ∙ last, ends-are (lastEnd w (d .«data» .ends)))
         (goes-wrote (put (suc i) 1 (rows c2 (suc i) * w) bytes) c2 _
@@ -247,7 +247,7 @@ module _ (x : Join) (k w : ℕ) (t : Ty) (i m : ℕ) (ss : ℕ → Column (tRunE
       let room : d .«data» .ends .len + 1 ≤ far = omega (arith, few, f .fits, half-small) in
       rw (null-code inner (codeOf (x .state) i) n c (g .worded .2), null-is inner n c)
       (goes-need _ 12 c (lt-ltb (suc (suc i)) 32 below)
-      (goes-then _ _ (go-on 1 (d .«data» .values) c μ (f .values-fine) (keep .below) (small-of t (d .«data» .values .len + 1) (rw (f .as-many) room)) long (h .data-are .2))
+      (goes-then _ _ (go-on 1 (d .«data» .values) c μ (f .values-fine) (keep .below) (small-of (d .«data» .values .len + 1) (rw (f .as-many) room)) long (h .data-are .2))
       (λ v c2 ν p.
       rw (p .1 .outside i (λ a b. omega arith) .rows-same ∙ last)
       (goes-guard (ltb (lastEnd w (d .«data» .ends) + n) (half w)) (ltb (lastEnd w (d .«data» .ends) + n) (half w)) 7 c2 (omega arith) refl

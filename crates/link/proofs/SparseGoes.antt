@@ -22,7 +22,6 @@ use Rattle.link.proofs.Goes.{Goes, goes-need, goes-map, goes-wrote}
 use Rattle.link.proofs.Owed.{Given, Copies, CopiesData, Fills, FillsData}
 use Rattle.link.proofs.UnionFields.{visit, copy-visits, null-visits, Steps, in-order-goes}
 use Rattle.link.proofs.UnionHome.{goes-home}
-use Rattle.link.proofs.Places.{small-of}
 use Rattle.link.proofs.UnionParts.{part-cut, part-rows}
 use Rattle.link.proofs.UnionOwn.{Left, put-own, own-put, own-kept, child-field, kids-held}
 
@@ -82,7 +81,7 @@ sparse-copies x inner k ids nullable f i m ss g kids slot n d c μ low high fine
     (λ e. extendNode (masks (f e)) (extendData (f e) m) (λ j. ss j .body .children e) (x .source) slot n (d .«data» .children e))
     (take n (drop slot (s .ids))) c μ
     (λ e p c2 ν long2 held.
-    kids e p slot n (d .«data» .children e) c2 ν (omega (arith, rule .long e p)) (fit .kids-fine e p) (small-of (f e) _ (omega (arith, fit .kids-are e p))) long2 held)
+    kids e p slot n (d .«data» .children e) c2 ν (omega (arith, rule .long e p)) (fit .kids-fine e p) (omega (arith, fit .kids-are e p)) long2 held)
     long (rows-are ∙ sym (fit .ids-are)) h)))
 
 -- .. AND NULLS
@@ -99,5 +98,5 @@ sparse-fills x inner k ids nullable f i m ss g kids n d c μ more fine keep smal
     (sparse-with (x .state) k ids nullable f i w (g .formed .0) (λ k c. inner k n c) (d .«data») (λ e. nullsNode (masks (f e)) (nullsData (f e)) n (d .«data» .children e))
     (replicate n b) c μ
     (λ e p c2 ν long2 held.
-    kids e p n (d .«data» .children e) c2 ν (fit .kids-fine e p) (keep .below e p) (small-of (f e) _ (omega (arith, fit .kids-are e p))) long2 held)
+    kids e p n (d .«data» .children e) c2 ν (fit .kids-fine e p) (keep .below e p) (omega (arith, fit .kids-are e p)) long2 held)
     long (h .rows-are ∙ sym (fit .ids-are)) (h .data-are))))

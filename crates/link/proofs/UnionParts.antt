@@ -20,7 +20,6 @@ use Rattle.utils.specs.Offsets.{countedUp}
 use Rattle.utils.proofs.Pieces.{pieces-same}
 use Rattle.walk.specs.State.{Join, far, rowsIn}
 use Rattle.link.specs.Lent.{Part}
-use Rattle.link.proofs.Owed.{Small}
 
 module _ (body : List ℕ) (at size : ℕ) (s : List ℕ) (part : Part body at size s) where
   pub part-size : length s ≡ size
