@@ -1,0 +1,5 @@
+-- The laws of `worded`.
+pub mod Codes
+pub mod Children
+pub mod Planted
+pub mod Worded
