@@ -3,3 +3,4 @@ pub mod Codes
 pub mod Children
 pub mod Planted
 pub mod Worded
+pub mod Lent
