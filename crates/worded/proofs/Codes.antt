@@ -22,7 +22,10 @@ use Rattle.lent.proofs.Shaped.{number-or, integer-fixed, five}
 abbrev pub admitted : ℕ → Bool
 admitted code = isFixed code || isString code || isView code || isListView code || isUnion code || isRunEnd code
 
-between-top : (low high z : ℕ) → between low high z ≡ true → z ≤ high
+pub between-low : (low high z : ℕ) → between low high z ≡ true → low ≤ z
+between-low low high z h = leb-true low z (both (leb low z) (leb z high) h .0)
+
+pub between-top : (low high z : ℕ) → between low high z ≡ true → z ≤ high
 between-top low high z h = leb-true z high (both (leb low z) (leb z high) h .1)
 
 module _ (code : ℕ) where
@@ -44,6 +47,16 @@ module _ (code : ℕ) where
       (λ e. omega (arith, between-top 17 18 code e))
       (λ e. omega (arith, between-top 19 20 code e))
       (λ e. omega (arith, between-top 21 21 code e))
+
+  pub low-code : admitted code ≡ true → 1 ≤ code
+  low-code h =
+      six (isFixed code) (isString code) (isView code) (isListView code) (isUnion code) (isRunEnd code) h
+      (λ e. omega (arith, between-low 1 10 code e))
+      (λ e. omega (arith, between-low 11 14 code e))
+      (λ e. omega (arith, between-low 15 16 code e))
+      (λ e. omega (arith, between-low 17 18 code e))
+      (λ e. omega (arith, between-low 19 20 code e))
+      (λ e. omega (arith, between-low 21 21 code e))
 
   run-code : isRunEnd code ≡ true → code ≡ 21
   run-code h =

@@ -4,3 +4,5 @@ pub mod Children
 pub mod Planted
 pub mod Worded
 pub mod Lent
+pub mod Self
+pub mod Opened

@@ -120,6 +120,10 @@ module _ (formats schema : List ℕ) (first n : ℕ) (state : List ℕ)
         let s = small-ids ids (parts .1) e q in
         id-is (at i (fieldOf ids e)) (child-in e q) ∙ ap (λ z. z % 256) d ∙ omega arith
 
+    -- a child for each id
+    pub union-below : below schema first i ≡ length ids
+    union-below = parts .0
+
     -- at most 16 fields
     pub few-ids : length ids ≤ 16
     unfolding fewFields below
