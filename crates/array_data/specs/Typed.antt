@@ -81,18 +81,19 @@ allOf f (c ∷ cs) = f c ++ allOf f cs
 abbrev pub tablesFrom : Tables → ℕ → Tables
 tablesFrom x first = record { lengths = drop (2 * first) (x .lengths); places = drop (9 * first) (x .places); buffers = x .buffers; body = x .body }
 
-module _ (t : Tree) (x : Tables) where
-  abbrev pub plainBody : (p : Plain) → ℕ → PlainBody p
-  plainBody (fixed n) i = firstBuffer x i
-  plainBody (string w) i = record { offsets = firstBuffer x i; chars = secondBuffer x i }
-
-  -- where the validity and the buffers begin, for `ptr_eq`
+-- where the validity and the buffers begin, for `ptr_eq`
+module _ (x : Tables) where
   abbrev pub validStart : ℕ → ℕ
   validStart i = cond (eqb (place x i 0) 0) 0 (suc (place x i 1))
 
   abbrev pub starts : Plain → ℕ → List ℕ
   starts (fixed n) i = validStart i ∷ place x i 3 ∷ []
   starts (string w) i = validStart i ∷ place x i 3 ∷ place x i 5 ∷ []
+
+module _ (t : Tree) (x : Tables) where
+  abbrev pub plainBody : (p : Plain) → ℕ → PlainBody p
+  plainBody (fixed n) i = firstBuffer x i
+  plainBody (string w) i = record { offsets = firstBuffer x i; chars = secondBuffer x i }
 
   abbrev pub bodyOf : (u : Ty) → ℕ → Body u
   bodyOf (tPlain p) i = plainBody p i
@@ -102,7 +103,7 @@ module _ (t : Tree) (x : Tables) where
   bodyOf (tDense ids nullable f) i =
       record { ids = firstBuffer x i; positions = secondBuffer x i; children = λ c. arrayWith x (bodyOf (f c) (nodeOf t i ids c)) (nodeOf t i ids c) }
   bodyOf (tRunEnd w u) i = record { ends = arrayWith x (firstBuffer x (suc i)) (suc i); values = arrayWith x (bodyOf u (suc (suc i))) (suc (suc i)) }
-  bodyOf (tDictionary k p) i = record { keys = firstBuffer x i; values = arrayWith x (plainBody p (suc i)) (suc i); starts = starts p (suc i) }
+  bodyOf (tDictionary k p) i = record { keys = firstBuffer x i; values = arrayWith x (plainBody p (suc i)) (suc i); starts = starts x p (suc i) }
 
   -- THE COLUMN AT NODE i
   abbrev pub columnOf : (u : Ty) → ℕ → Column u

@@ -170,14 +170,14 @@ module _ (formats schema : List ℕ) (first first′ n : ℕ) (agree : (i : ℕ)
   end-same i l = end-from-same (n - i) 1 i (omega arith)
 
   module _ (w : whole schema first n ≡ true) where
-    place-same : (i j : ℕ) → i < n → j < below schema first i → childAt schema first n i j ≡ childAt schema first′ n i j
+    pub place-same : (i j : ℕ) → i < n → j < below schema first i → childAt schema first n i j ≡ childAt schema first′ n i j
     unfolding childAt
     place-same i zero l h = refl
     place-same i (suc j) l h =
         let k = child-inside schema first n w i j l (omega arith) in
         end-same (childAt schema first n i j) (omega arith) ∙ ap (endOf schema first′ n) (place-same i j l (omega arith))
 
-    kind-same : (i : ℕ) → i < n → Shaped formats schema first i → kindAt formats schema first i ≡ kindAt formats schema first′ i
+    pub kind-same : (i : ℕ) → i < n → Shaped formats schema first i → kindAt formats schema first i ≡ kindAt formats schema first′ i
     unfolding kindAt
     kind-same i l s =
         let g = agreed i l in

@@ -76,7 +76,7 @@ module _ (code : ℕ) (single : Bool) (ids : Option (List ℕ)) (next : ℕ) whe
       ∙ cond-yes (isRunEnd code) _ _ h
 
 -- the number of a fixed-width code has its bytes
-number-or : (code : ℕ) → isFixed code ≡ true → width (numberOr (numberOf code)) ≡ widthOf code
+pub number-or : (code : ℕ) → isFixed code ≡ true → width (numberOr (numberOf code)) ≡ widthOf code
 number-or code h =
     let p = fixed-number code h in
     ap (λ o. width (numberOr o)) (p .1) ∙ number-width code (p .0) (p .1)
@@ -134,7 +134,7 @@ ends-code c h = go (either (eqb c 3 || eqb c 5) (eqb c 7) h)
     go (inl e) = low (either (eqb c 3) (eqb c 5) e)
     go (inr e) = subst EndsCode (sym (eqb-true c 7 e)) (record { is-fixed = refl; ends-width = RunWidth.eight })
 
-integer-fixed : (c : ℕ) → isInteger c ≡ true → isFixed c ≡ true
+pub integer-fixed : (c : ℕ) → isInteger c ≡ true → isFixed c ≡ true
 integer-fixed c h =
     let p = both (leb 1 c) (leb c 8) h in
     let top = leb-true c 8 (p .1) in
@@ -322,7 +322,7 @@ module _ (formats schema : List ℕ) (first : ℕ) where
       (bare-below (suc i) (s .1))
       (subst RunWidth (sym (number-or c f)) (d .ends-width))
 
-  five : {A : Type 0} (a b c d e : Bool) → a || b || c || d || e ≡ true → (a ≡ true → A) → (b ≡ true → A) → (c ≡ true → A) → (d ≡ true → A) → (e ≡ true → A) → A
+  pub five : {A : Type 0} (a b c d e : Bool) → a || b || c || d || e ≡ true → (a ≡ true → A) → (b ≡ true → A) → (c ≡ true → A) → (d ≡ true → A) → (e ≡ true → A) → A
   five true b c d e h p q r s t = p refl
   five false true c d e h p q r s t = q refl
   five false false true d e h p q r s t = r refl

@@ -1,0 +1,32 @@
+-- Rows of 01's table over lent tables: a source here is one node, the values of a dictionary of numbers. Assumes nothing.
+use mathlib.Core.Path.{_≡_, refl}
+use mathlib.Core.Bool.{Bool, true, false}
+use mathlib.Core.List.{List, [], _∷_}
+use Prim.Native.Nat.{ℕ}
+use Rattle.columnar.specs.Types.{Number, u8, u64}
+use Rattle.model.specs.Opening.{allKeysFit}
+use Rattle.lent_tables.specs.Lent.{tables}
+use Rattle.sharing.specs.Sources.{dictAt}
+
+-- two sources of a and b entries, whose buffers begin at 100 and at `at`; b's offset is `off`
+abbrev fits : Number → ℕ → ℕ → ℕ → ℕ → Bool
+fits k a b off at =
+    allKeysFit k 2 2 (dictAt (tables (a ∷ 0 ∷ b ∷ off ∷ []) (0 ∷ 0 ∷ 0 ∷ 100 ∷ 9 ∷ 0 ∷ 0 ∷ 0 ∷ 0 ∷ 0 ∷ 0 ∷ 0 ∷ at ∷ 9 ∷ 0 ∷ 0 ∷ 0 ∷ 0 ∷ []) []) (0 ∷ 1 ∷ 1 ∷ 1 ∷ []) false 0)
+
+-- K7 and K8, K9, K16, and the last two with an offset that differs: then they are not shared
+abbrev answers : List Bool
+answers =
+    fits u8 200 56 0 200
+    ∷ fits u8 200 57 0 200
+    ∷ fits u8 256 0 0 200
+    ∷ fits u8 0 256 0 200
+    ∷ fits u8 256 256 0 100
+    ∷ fits u8 257 257 0 100
+    ∷ fits u8 128 128 1 100
+    ∷ fits u8 129 129 1 100
+    ∷ fits u64 18446744073709551615 1 0 200
+    ∷ fits u64 18446744073709551615 2 0 200
+    ∷ []
+
+pub checked : answers ≡ true ∷ false ∷ false ∷ true ∷ true ∷ false ∷ true ∷ false ∷ true ∷ false ∷ []
+checked = refl
