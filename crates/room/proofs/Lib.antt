@@ -1,0 +1,4 @@
+-- That the room holds the memory that a log leaves.
+pub mod Writes
+pub mod Step
+pub mod Applied

@@ -1,0 +1,2 @@
+-- When the lent room holds a destination's memory.
+pub mod Room
