@@ -2,3 +2,5 @@
 pub mod Writes
 pub mod Step
 pub mod Applied
+pub mod Packed
+pub mod Bytes
