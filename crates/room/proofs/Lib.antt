@@ -4,3 +4,7 @@ pub mod Step
 pub mod Applied
 pub mod Packed
 pub mod Bytes
+pub mod Uses
+pub mod Found
+pub mod Copies
+pub mod Fills

@@ -73,14 +73,14 @@ module _ (start : ℕ) (l : List Bool) (room : List ℕ) (h : HasBits start (map
   has-pack small inside =
       ext-getD 0 (take m (drop start room)) (seg f 0 m) (n1 ∙ sym (length-seg f 0 m))
       (λ k q.
-          let u : k < m = omega (arith, n1) in
-          rw (getD-take m (drop start room) k 0 u, getD-drop start room k 0, getD-seg f 0 m k 0 u, zero-add)
-          (digits-number 8 (getD room (start + k) 0) (drop (8 * k) l) (small (start + k))
-          (λ j p.
-              let d : (8 * start + (8 * k + j)) / 8 ≡ start + k = omega arith in
-              let r : (8 * start + (8 * k + j)) % 8 ≡ j = omega arith in
-              let e = bit-at room (8 * start + (8 * k + j)) in
-              sym (rw (d, r) at e) ∙ bit-of (8 * k + j) (omega arith) ∙ ap flag (sym (getD-drop (8 * k) l j false)))))
+      let u : k < m = omega (arith, n1) in
+      rw (getD-take m (drop start room) k 0 u, getD-drop start room k 0, getD-seg f 0 m k 0 u, zero-add)
+      (digits-number 8 (getD room (start + k) 0) (drop (8 * k) l) (small (start + k))
+      (λ j p.
+      let d : (8 * start + (8 * k + j)) / 8 ≡ start + k = omega arith in
+      let r : (8 * start + (8 * k + j)) % 8 ≡ j = omega arith in
+      let e = bit-at room (8 * start + (8 * k + j)) in
+      sym (rw (d, r) at e) ∙ bit-of (8 * k + j) (omega arith) ∙ ap flag (sym (getD-drop (8 * k) l j false)))))
     where
       m : ℕ
       m = (length l + 7) / 8

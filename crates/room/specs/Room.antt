@@ -1,12 +1,10 @@
 -- A destination's parts in the lent room: where they lie, and when the room holds a memory. Assumes nothing.
 use mathlib.Core.Path.{_≡_}
-use mathlib.Core.Bool.{Bool, true, false}
 use mathlib.Core.List.{List, [], _∷_}
-use Prim.Native.Nat.{ℕ, zero, suc, _+_, _*_, _-_, _/_, _≤_, _<_}
+use Prim.Native.Nat.{ℕ, _+_, _*_, _-_, _/_, _≤_, _<_}
 use lib.ListN.{length, take, drop, getD}
 use Rattle.bits.specs.Bits.{bits, bitsAt}
-use Rattle.formats.specs.Code.{isString, isListView}
-use Rattle.walk.specs.State.{codeOf, keepsOf, partOf}
+use Rattle.walk.specs.State.{partOf}
 use Rattle.walk.specs.Log.{Entry, put, mask, Log, startOf}
 use Rattle.link.specs.Memory.{Memory}
 
@@ -69,15 +67,3 @@ module _ (Used : ℕ → ℕ → Type 0) where
   unfoldable pub AllUsed : Log → Type 0
   AllUsed [] = Unit {0}
   AllUsed (e ∷ l) = UsedEntry e × AllUsed l
-
--- byte strings, list-views and dense unions have a second buffer
-pub data Second (code : ℕ) : Type 0 where
-  chars : isString code ≡ true → Second code
-  sizes : isListView code ≡ true → Second code
-  positions : code ≡ 20 → Second code
-
--- by its words, node i has a buffer b: "a node's validity if it keeps nulls, then its buffers in the format's order"
-abbrev pub HasBuffer : List ℕ → ℕ → ℕ → Type 0
-HasBuffer state i zero = (keepsOf state i ≡ 0 → ⊥) × (codeOf state i < 19)
-HasBuffer state i (suc zero) = (1 ≤ codeOf state i) × (codeOf state i < 21)
-HasBuffer state i (suc (suc b)) = (b ≡ 0) × Second (codeOf state i)
