@@ -1,0 +1,2 @@
+-- What code that writes goes by.
+pub mod Laws
