@@ -13,7 +13,7 @@ use Rattle.bits.proofs.Puts.{bitsAt-at}
 use Rattle.walk.specs.Log.{Entry, put, mask, Log, startOf, enter, apply}
 use Rattle.link.specs.Memory.{Memory, putIn, maskIn, noted, InPlace, after, AllInPlace}
 use Rattle.room.specs.Room.{HasBits, Placed, Lies, Fits, Outside, UsedEntry, AllUsed}
-use Rattle.room.proofs.Step.{Misses, Stepped, stepped}
+use Rattle.room.proofs.Step.{Misses, stepped}
 
 -- ---- a log only adds
 

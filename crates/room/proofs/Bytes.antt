@@ -3,12 +3,12 @@ use mathlib.Core.Bool.{Bool, true, false}
 use mathlib.Core.List.{List, [], _∷_, _++_}
 use Prim.Native.Nat.{ℕ, zero, suc, _+_, _*_, _/_, _%_, _^_, _<_}
 use native.Mathlib.Omega.{arith}
-use lib.ListN.{take, drop, getD, replicate}
+use lib.ListN.{take, drop, replicate}
 use lib.Dec.{ltb}
 use Rattle.number.specs.Number.{number, encode, entry}
 use Rattle.bits.specs.Bits.{bitsAt}
 use Rattle.bits.proofs.Laws.{Below, none, more, below-of, below-at, below-append, below-take, below-drop, below-replicate, below-bitsAt}
-use Rattle.utils.specs.Pieces.{pieces, numbers}
+use Rattle.utils.specs.Pieces.{pieces}
 use Rattle.utils.specs.Offsets.{movedOffsets, repeated, countedUp}
 use Rattle.primitive.specs.Primitive.{rebased}
 use Rattle.byte_view.specs.View.{pickBytes, reviewedOne, reviewed}

@@ -1,33 +1,28 @@
 -- The log of a copy has only entries at buffers that its nodes have. Assumes nothing.
-use mathlib.Core.Path.{_≡_, refl, sym, subst}
-use mathlib.Core.Bool.{Bool, true, false, cond, _&&_}
-use mathlib.Core.List.{List, [], _∷_}
+use mathlib.Core.Path.{_≡_, refl}
+use mathlib.Core.Bool.{true}
+use mathlib.Core.List.{List}
 use Prim.Native.Nat.{ℕ, zero, suc, _+_, _*_, _-_, _≤_, _<_}
 use native.Mathlib.Omega.{arith}
-use lib.ListN.{length, take, drop, replicate}
-use lib.Dec.{ltb, leb, eqb}
+use lib.ListN.{take, drop, replicate}
+use lib.Dec.{ltb, eqb}
 use borrow.Author.Tests.{ltb-true, eqb-true, eqb-false}
-use Rattle.number.specs.Number.{entry, encode}
-use Rattle.bits.specs.Bits.{bitsAt, zeros}
+use Rattle.bits.specs.Bits.{bitsAt}
 use Rattle.columnar.specs.Types.{half}
 use Rattle.formats.specs.Code.{isFixed, isString, isView, isListView, isUnion}
 use Rattle.utils.specs.Offsets.{movedOffsets}
 use Rattle.utils.specs.Extension.{extended}
 use Rattle.utils.specs.declared.Extended.{Extended}
 use Rattle.utils.specs.declared.Extended.the-variants.{Fits, Over, Falls}
-use Rattle.primitive.specs.Primitive.{rebased}
-use Rattle.byte_view.specs.View.{reviewed}
-use Rattle.run_ends.specs.Clip.{clipped}
 use Rattle.run_ends.specs.declared.Runs.{Runs}
 use Rattle.run_ends.specs.declared.Runs.the-variants.{Range, None}
-use Rattle.walk.specs.State.{Join, codeOf, dictionaryOf, endOf, keepsOf, baseOf, bytesOf, rows, bytes, addRows, addNulls, setBytes, place, lengthOf, offsetOf, far, slotOf, rowsIn}
-use Rattle.walk.specs.Log.{Out, put, mask, fail, done, wrote, need, found, next, each}
+use Rattle.walk.specs.State.{Join, codeOf, dictionaryOf, endOf, keepsOf, baseOf, bytesOf, rows, bytes, place, far}
 use Rattle.walk.specs.Leaves.{copyBits, copyMask, copyNumbers, copyKeys, copyViews, putString, putExtended, copyString}
-use Rattle.walk.specs.Copy.{Walk, childWith, masked, listViewRow, copyListView, copyFields, copySparse, idAt, positionAt, denseTo, denseRow, copyDense, endsAt, putRuns, runsAt, copyRuns, copyData, copySlots, copyNode, copyWalk}
+use Rattle.walk.specs.Copy.{Walk, masked, listViewRow, copyListView, copyFields, copySparse, idAt, denseTo, denseRow, copyDense, putRuns, runsAt, copyRuns, copyData, copySlots, copyNode, copyWalk}
 use Rattle.room.specs.Room.{AllBelow, AllUsed}
 use Rattle.room.specs.Reach.{Second, chars, sizes, positions, HasBuffer, Child, Closed, UsedAt}
-use Rattle.room.proofs.Bytes.{bytes-encode, bytes-same, bytes-one, bytes-part, bytes-moved, bytes-rebased, bytes-reviewed, bytes-clipped, bits-part, bits-same}
-use Rattle.room.proofs.Uses.{Uses, uses-put, uses-mask, uses-done, uses-fail, uses-wrote, uses-cond, uses-need, uses-found, uses-next, uses-each}
+use Rattle.room.proofs.Bytes.{bytes-encode, bytes-one, bytes-part, bytes-moved, bytes-rebased, bytes-reviewed, bytes-clipped, bits-part, bits-same}
+use Rattle.room.proofs.Uses.{Uses, uses-put, uses-mask, uses-done, uses-fail, uses-cond, uses-need, uses-found, uses-next, uses-each}
 use Rattle.room.proofs.Found.{between-both, ends-code, child-first, child-later, child-with}
 
 module _ (x : Join) (In At : ℕ → Type 0) (closed : Closed (x .state) In At) (body : AllBelow 256 (x .body)) where

@@ -1,21 +1,20 @@
 -- The log of an order of nulls has only entries at buffers that its nodes have. Assumes nothing.
 use mathlib.Core.Path.{_≡_, refl}
-use mathlib.Core.Bool.{Bool, true, false, cond}
+use mathlib.Core.Bool.{true}
 use mathlib.Core.List.{List}
 use Prim.Native.Nat.{ℕ, zero, suc, _+_, _*_, _%_, _≤_, _<_}
 use native.Mathlib.Omega.{arith}
 use lib.ListN.{replicate}
-use lib.Dec.{ltb, leb, eqb}
+use lib.Dec.{ltb, eqb}
 use borrow.Author.Tests.{ltb-true, eqb-true, eqb-false}
 use Rattle.columnar.specs.Types.{half}
 use Rattle.formats.specs.Code.{isFixed, isString, isView, isListView, isUnion}
 use Rattle.walk.specs.State.{Join, word, codeOf, endOf, idOf, keepsOf, bytesOf, rows, bytes}
-use Rattle.walk.specs.Log.{Out, wrote, next}
 use Rattle.walk.specs.Leaves.{nullMask, countNulls, nullNumbers, nullString}
 use Rattle.walk.specs.Copy.{masked}
-use Rattle.walk.specs.Nulls.{NullWalk, nullableChild, noHome, nullListView, nullFields, nullSparse, nullDense, nullRuns, nullData, nullNode, nullWalk}
+use Rattle.walk.specs.Nulls.{NullWalk, nullListView, nullFields, nullSparse, nullDense, nullRuns, nullData, nullNode, nullWalk}
 use Rattle.room.specs.Room.{AllUsed}
-use Rattle.room.specs.Reach.{chars, sizes, positions, HasBuffer, Child, Closed, UsedAt}
+use Rattle.room.specs.Reach.{sizes, positions, HasBuffer, Child, Closed, UsedAt}
 use Rattle.room.proofs.Bytes.{bytes-encode, bytes-same, bytes-repeated, bytes-counted, bits-same}
 use Rattle.room.proofs.Uses.{Uses, uses-put, uses-mask, uses-done, uses-fail, uses-cond, uses-need, uses-found, uses-next}
 use Rattle.room.proofs.Found.{between-both, ends-code, child-first, child-later, child-nullable}

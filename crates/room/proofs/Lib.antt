@@ -8,3 +8,5 @@ pub mod Uses
 pub mod Found
 pub mod Copies
 pub mod Fills
+pub mod Closure
+pub mod Orders

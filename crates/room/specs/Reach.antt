@@ -1,10 +1,12 @@
 -- Which nodes a walk reaches, by a state's words. Assumes nothing.
 use mathlib.Core.Path.{_≡_}
-use mathlib.Core.Bool.{Bool, true}
+use mathlib.Core.Bool.{true}
 use mathlib.Core.List.{List}
 use Prim.Native.Nat.{ℕ, zero, suc, _≤_, _<_}
-use Rattle.formats.specs.Code.{isString, isListView, isUnion}
-use Rattle.walk.specs.State.{codeOf, endOf, keepsOf}
+use Rattle.columnar.specs.Types.{Ty}
+use Rattle.formats.specs.Code.{isFixed, isString, isListView, isUnion}
+use Rattle.walk.specs.State.{codeOf, dictionaryOf, endOf, keepsOf}
+use Rattle.link.specs.Holds.{Worded}
 
 -- byte strings, list-views and dense unions have a second buffer
 pub data Second (code : ℕ) : Type 0 where
@@ -36,3 +38,25 @@ pub record UsedAt (state : List ℕ) (At : ℕ → Type 0) (i b : ℕ) : Type 0 
   pub node : At i
   pub small : i < 32
   pub buffer : HasBuffer state i b
+
+-- ---- nodes of a type
+
+-- node j stands for a type, and it and the nodes below it are among lo .. hi - 1
+pub data Typed (state : List ℕ) (lo hi j : ℕ) : Type 0 where
+  typed : (k : ℕ) (t : Ty) → Worded state k t j → lo ≤ j → endOf state j ≤ hi → Typed state lo hi j
+
+-- node j is among them
+abbrev pub Among : ℕ → ℕ → ℕ → Type 0
+Among lo hi j = (lo ≤ j) × (j < hi)
+
+-- node j is not a dictionary's values, which are the node behind its keys
+abbrev pub Free : List ℕ → ℕ → Type 0
+Free state zero = Unit {0}
+Free state (suc i) = dictionaryOf state i ≡ 0
+
+-- how dictionaries stand among the nodes below hi: keys are integers, their values are one node, and run ends have no dictionary
+pub record Tabled (state : List ℕ) (hi : ℕ) : Type 0 where
+  pub keys-fixed : (h : ℕ) → h < hi → (dictionaryOf state h ≡ 0 → ⊥) → isFixed (codeOf state h) ≡ true
+  pub keys-end : (h : ℕ) → h < hi → (dictionaryOf state h ≡ 0 → ⊥) → endOf state h ≡ suc (suc h)
+  pub nested : (i j : ℕ) → i < j → j < endOf state i → endOf state i ≤ hi → endOf state j ≤ endOf state i
+  pub ends-plain : (i : ℕ) → suc i < hi → codeOf state i ≡ 21 → dictionaryOf state (suc i) ≡ 0
