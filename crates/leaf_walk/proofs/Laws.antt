@@ -1,0 +1,103 @@
+-- The walk at a leaf, by the ways that the code goes. Assumes nothing.
+use mathlib.Core.Path.{_≡_, refl, ap, _∙_}
+use mathlib.Core.Bool.{Bool, true, false, not}
+use mathlib.Core.List.{List, [], _∷_}
+use Prim.Native.Nat.{ℕ, _+_, _*_, _≤_, _<_}
+use lib.ListN.{length, replicate}
+use lib.Dec.{ltb, leb}
+use borrow.Author.Tests.{lt-ltb, le-ltb, le-leb, lt-leb, ltb-true, leb-true}
+use Rattle.bits.specs.Bits.{bitsAt, zeros}
+use Rattle.lent_tables.proofs.Laws.{no, yes, is-none, is-some, and-left, and-right}
+use Rattle.walk.specs.State.{Join, keepsOf, rows, addNulls, place, rowsIn, scaled}
+use Rattle.walk.specs.Log.{Out, Did, put, mask, applyIf, wrote, need}
+use Rattle.walk.specs.Leaves.{copyBits, copyMask, nullMask, countNulls}
+use Rattle.walk.proofs.Laws.{done-did, wrote-did, need-no, need-ok, next-ok}
+use Rattle.puts.proofs.Laws.{Alike, alike-scaled, place-alike}
+
+-- ---- entries of w bytes in the body
+
+module _ (x : Join) (at w slot n : ℕ) where
+  pub rows-far : 576460752303423488 ≤ slot + n → false ≡ rowsIn x at w slot n
+  unfolding rowsIn
+  rows-far h = rw (le-ltb (slot + n) 576460752303423488 h)
+
+  pub rows-near : slot + n < 576460752303423488 → leb (at + w * (slot + n)) (length (x .body)) ≡ rowsIn x at w slot n
+  unfolding rowsIn
+  rows-near h = rw (lt-ltb (slot + n) 576460752303423488 h)
+
+  pub rows-in : {r : Bool} → r ≡ rowsIn x at w slot n → not r ≡ false → (slot + n < 576460752303423488) × (at + w * (slot + n) ≤ length (x .body))
+  unfolding rowsIn
+  rows-in e f =
+      let h = yes e f in
+      (ltb-true _ _ (and-left (ltb (slot + n) 576460752303423488) _ h), leb-true _ _ (and-right (ltb (slot + n) 576460752303423488) _ h))
+
+-- entries with no base
+pub zero-same : _≡_ {A = ℕ} 0 0
+zero-same = refl
+
+-- a write whose place is a number of 64 bits
+pub wrote-at : (state parts : List ℕ) (wr : Bool) (i b r w : ℕ) (bs c room : List ℕ) {o p : ℕ} {room2 : List ℕ} → p ≡ r → o ≡ scaled p w → 1 ≤ w
+    → room2 ≡ applyIf state parts wr (put i b o bs ∷ []) room → Did state parts wr (wrote (put i b (r * w) bs) c) room 0 c room2
+wrote-at state parts wr i b r w bs c room {o} e f h g =
+    let a : Alike o (r * w) = rw (f, e) (alike-scaled r w h) in
+    wrote-did wr (put i b (r * w) bs) c room _ (g ∙ place-alike state parts wr i b o (r * w) bs room a)
+
+module _ (x : Join) (i : ℕ) (wr : Bool) (c room : List ℕ) where
+  pub entries-no : (w slot n : ℕ) (o : Out) {at : ℕ} {r : Bool} → at ≡ place x i 3 → r ≡ rowsIn x at w slot n → not r ≡ true
+      → Did (x .state) (x .parts) wr (need (rowsIn x (place x i 3) w slot n) 12 c o) room 12 c room
+  entries-no w slot n o e q h = need-no o (rw e at (no q h))
+
+  -- f: the bytes of the entries at a place, with a base
+  pub entries-yes : (w slot n : ℕ) (f : ℕ → ℕ → List ℕ) {at base base2 o p : ℕ} {r : Bool} {room2 : List ℕ} → at ≡ place x i 3 → base ≡ base2 → r ≡ rowsIn x at w slot n → not r ≡ false
+      → p ≡ rows c i → o ≡ scaled p w → 1 ≤ w → room2 ≡ applyIf (x .state) (x .parts) wr (put i 1 o (f at base) ∷ []) room
+      → Did (x .state) (x .parts) wr (need (rowsIn x (place x i 3) w slot n) 12 c (wrote (put i 1 (rows c i * w) (f (place x i 3) base2)) c)) room 0 c room2
+  entries-yes w slot n f e k q h l m s g =
+      need-ok 12 c (rw e at (yes q h)) (wrote-at (x .state) (x .parts) wr i 1 (rows c i) w (f (place x i 3) _) c room l m s (rw (e, k) at g))
+
+  -- ---- validity
+
+  pub bits-no : (slot n : ℕ) {at : ℕ} → at ≡ place x i 1 → 8 * length (x .body) < 8 * at + slot + n → Did (x .state) (x .parts) wr (copyBits x i slot n c) room 12 c room
+  unfolding copyBits
+  bits-no slot n e h = need-no _ (lt-leb (8 * place x i 1 + slot + n) (8 * length (x .body)) (rw e at h))
+
+  pub bits-yes : (slot n : ℕ) {at p z : ℕ} {c2 room2 : List ℕ} → at ≡ place x i 1 → 8 * at + slot + n ≤ 8 * length (x .body) → p ≡ rows c i
+      → room2 ≡ applyIf (x .state) (x .parts) wr (mask i p (bitsAt (8 * at + slot) n (x .body)) ∷ []) room → z ≡ zeros (bitsAt (8 * at + slot) n (x .body)) → c2 ≡ addNulls i z c
+      → Did (x .state) (x .parts) wr (copyBits x i slot n c) room 0 c2 room2
+  unfolding copyBits
+  bits-yes slot n {room2 = room2} e h f g z k =
+      need-ok 12 c (le-leb (8 * place x i 1 + slot + n) (8 * length (x .body)) (rw e at h))
+      (next-ok _ (wrote-did wr _ c room room2 (rw (e, f) at g)) refl
+      (rw (k ∙ ap (λ (v : ℕ). addNulls i v c) (z ∙ ap (λ (v : ℕ). zeros (bitsAt (8 * v + slot) n (x .body))) e)) (done-did wr _ room2)))
+
+  pub mask-off : (slot n : ℕ) {k : ℕ} → k ≡ keepsOf (x .state) i → k ≡ 0 → Did (x .state) (x .parts) wr (copyMask x i slot n c) room 0 c room
+  unfolding copyMask
+  mask-off slot n e h = rw (is-none e h) (done-did wr c room)
+
+  pub mask-ones : (slot n : ℕ) {k v p : ℕ} {room2 : List ℕ} → k ≡ keepsOf (x .state) i → (k ≡ 0 → ⊥) → v ≡ place x i 0 → v ≡ 0 → p ≡ rows c i
+      → room2 ≡ applyIf (x .state) (x .parts) wr (mask i p (replicate n 1) ∷ []) room → Did (x .state) (x .parts) wr (copyMask x i slot n c) room 0 c room2
+  unfolding copyMask
+  mask-ones slot n e h f l p g = rw (is-some e h, is-none f l) (wrote-did wr _ c room _ (rw p at g))
+
+  pub mask-bits : (slot n : ℕ) {k v r : ℕ} {c2 room2 : List ℕ} → k ≡ keepsOf (x .state) i → (k ≡ 0 → ⊥) → v ≡ place x i 0 → (v ≡ 0 → ⊥)
+      → Did (x .state) (x .parts) wr (copyBits x i slot n c) room r c2 room2 → Did (x .state) (x .parts) wr (copyMask x i slot n c) room r c2 room2
+  unfolding copyMask
+  mask-bits slot n e h f l d = rw (is-some e h, is-some f l) d
+
+  -- ---- nulls
+
+  pub nulls-off : (n : ℕ) {k : ℕ} → k ≡ keepsOf (x .state) i → k ≡ 0 → Did (x .state) (x .parts) wr (nullMask x i n c) room 0 c room
+  unfolding nullMask
+  nulls-off n e h = rw (is-none e h) (done-did wr c room)
+
+  pub nulls-on : (n : ℕ) {k p : ℕ} {c2 room2 : List ℕ} → k ≡ keepsOf (x .state) i → (k ≡ 0 → ⊥) → p ≡ rows c i
+      → room2 ≡ applyIf (x .state) (x .parts) wr (mask i p (replicate n 0) ∷ []) room → c2 ≡ addNulls i n c → Did (x .state) (x .parts) wr (nullMask x i n c) room 0 c2 room2
+  unfolding nullMask
+  nulls-on n {room2 = room2} e h p g k = rw (is-some e h) (next-ok _ (wrote-did wr _ c room room2 (rw p at g)) refl (rw k (done-did wr _ room2)))
+
+  pub count-off : (n : ℕ) {k : ℕ} → k ≡ keepsOf (x .state) i → k ≡ 0 → Did (x .state) (x .parts) wr (countNulls x i n c) room 0 c room
+  unfolding countNulls
+  count-off n e h = rw (is-none e h) (done-did wr c room)
+
+  pub count-on : (n : ℕ) {k : ℕ} {c2 : List ℕ} → k ≡ keepsOf (x .state) i → (k ≡ 0 → ⊥) → c2 ≡ addNulls i n c → Did (x .state) (x .parts) wr (countNulls x i n c) room 0 c2 room
+  unfolding countNulls
+  count-on n e h k = rw (is-some e h, k) (done-did wr _ room)

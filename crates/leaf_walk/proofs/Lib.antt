@@ -1,0 +1,2 @@
+-- What the walk at leaves goes by.
+pub mod Laws

@@ -1,0 +1,72 @@
+-- `leaf_walk::copy_bits` meets its contract. Assumes nothing.
+use native.Mathlib.Omega.{arith}
+use Rattle.leaf_walk.specs.Join.{join}
+use Rattle.leaf_walk.proofs.Laws.{bits-no, bits-yes}
+use borrow.Author.Needs.{needs}
+use Rattle.leaf_walk.proofs.copy_bits.Statement.{statement}
+use Rattle.leaf_walk.proofs.copy_bits.Tie as tie
+
+add-place : tie.Need-add-place
+add-place c = search needs
+
+place-requires : tie.Need-place-requires
+place-requires c κs = search needs
+
+cast-end : tie.Need-cast-end
+cast-end c = search needs
+
+mul-end : tie.Need-mul-end
+mul-end c = search needs
+
+add-end : tie.Need-add-end
+add-end c = search needs
+
+add-end-2 : tie.Need-add-end-2
+add-end-2 c = search needs
+
+bit-room-requires : tie.Need-bit-room-requires
+bit-room-requires c κs = search needs
+
+returns : tie.Need-returns
+returns c =
+    let a = c .before .before .before .before .before .before .before .before .args in
+    λ lengths source. bits-no (join (a .state .now) (a .parts .now) lengths (a .places .now) (a .body .now) (a .first) source) (a .i) (a .write) (a .counts .now) (a .room .now) (a .slot) (a .n) (c .before .before .place .ensures) (omega arith)
+
+rows-of-requires : tie.Need-rows-of-requires
+rows-of-requires c κs = search needs
+
+cast-put-mask : tie.Need-cast-put-mask
+cast-put-mask c = search needs
+
+put-mask-requires : tie.Need-put-mask-requires
+put-mask-requires c κs = search needs
+
+add-nulls-requires : tie.Need-add-nulls-requires
+add-nulls-requires c κs = search needs
+
+same-length : tie.Need-same-length
+same-length c = search needs
+
+returns-2 : tie.Need-returns-2
+returns-2 c =
+    let a = c .before .before .before .before .before .before .before .before .before .before .before .before .before .before .before .before .args in
+    λ lengths source. bits-yes (join (a .state .now) (a .parts .now) lengths (a .places .now) (a .body .now) (a .first) source) (a .i) (a .write) (a .counts .now) (a .room .now) (a .slot) (a .n) (c .before .before .before .before .before .before .before .before .before .before .place .ensures) (omega arith) (c .before .before .before .before .before .before .rows-of .ensures) (c .before .before .before .before .put-mask .ensures .0) (c .before .before .before .before .put-mask .ensures .1) (c .add-nulls .ensures)
+
+pub copy-bits-spec : {M : Type 1} → statement M
+copy-bits-spec =
+    tie.close
+    (tie.spec
+    add-place
+    place-requires
+    cast-end
+    mul-end
+    add-end
+    add-end-2
+    bit-room-requires
+    returns
+    rows-of-requires
+    cast-put-mask
+    put-mask-requires
+    add-nulls-requires
+    same-length
+    returns-2)

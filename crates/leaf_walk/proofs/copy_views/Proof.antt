@@ -1,0 +1,80 @@
+-- `leaf_walk::copy_views` meets its contract. Assumes nothing.
+use mathlib.Core.List.{[]}
+use native.Mathlib.Omega.{arith}
+use Rattle.walk.specs.Leaves.{copyViews}
+use Rattle.leaf_walk.specs.Join.{join}
+use Rattle.leaf_walk.proofs.Laws.{rows-in, entries-no, entries-yes}
+use Prim.Native.Nat.{_+_, _*_}
+use Rattle.byte_view.specs.View.{reviewed}
+use borrow.Author.Needs.{needs}
+use Rattle.leaf_walk.proofs.copy_views.Statement.{statement}
+use Rattle.leaf_walk.proofs.copy_views.Tie as tie
+
+add-place : tie.Need-add-place
+add-place c = search needs
+
+place-requires : tie.Need-place-requires
+place-requires c κs = search needs
+
+rows-in-requires : tie.Need-rows-in-requires
+rows-in-requires c κs = search needs
+
+returns : tie.Need-returns
+unfolding copyViews
+returns c =
+    let a = c .before .before .before .before .before .before .before .before .args in
+    λ lengths. entries-no (join (a .state .now) (a .parts .now) lengths (a .places .now) (a .body .now) (a .first) (a .source)) (a .i) (a .write) (a .counts .now) (a .room .now) (16) (a .slot) (a .n) _ (c .before .before .place .ensures) (c .before .rows-in .ensures (a .state .now) (a .parts .now) lengths (a .places .now) (a .first) (a .source)) (c .if1 .taken)
+
+rows-of-requires : tie.Need-rows-of-requires
+rows-of-requires c κs = search needs
+
+scale-requires : tie.Need-scale-requires
+scale-requires c κs = search needs
+
+cast-from : tie.Need-cast-from
+cast-from c = search needs
+
+mul-from : tie.Need-mul-from
+mul-from c =
+    let a = c .before .before .before .before .before .before .before .before .before .before .before .args in
+    omega (arith, rows-in (join [] [] [] [] (a .body .now) 0 0) (c .before .before .before .before .before .place .result) (16) (a .slot) (a .n) (c .before .before .before .before .rows-in .ensures [] [] [] [] 0 0) (c .before .before .before .if1 .left))
+
+add-from : tie.Need-add-from
+add-from c =
+    let a = c .before .before .before .before .before .before .before .before .before .before .before .args in
+    omega (arith, rows-in (join [] [] [] [] (a .body .now) 0 0) (c .before .before .before .before .before .place .result) (16) (a .slot) (a .n) (c .before .before .before .before .rows-in .ensures [] [] [] [] 0 0) (c .before .before .before .if1 .left))
+
+base-of-requires : tie.Need-base-of-requires
+base-of-requires c κs = search needs
+
+put-views-requires : tie.Need-put-views-requires
+put-views-requires c κs =
+    let a = c .before .before .before .before .before .before .before .before .before .before .before .before .before .args in
+    omega (arith, rows-in (join [] [] [] [] (a .body .now) 0 0) (c .before .before .before .before .before .before .before .place .result) (16) (a .slot) (a .n) (c .before .before .before .before .before .before .rows-in .ensures [] [] [] [] 0 0) (c .before .before .before .before .before .if1 .left))
+
+same-length : tie.Need-same-length
+same-length c = search needs
+
+returns-2 : tie.Need-returns-2
+unfolding copyViews
+returns-2 c =
+    let a = c .before .before .before .before .before .before .before .before .before .before .before .before .before .before .before .before .args in
+    λ lengths. entries-yes (join (a .state .now) (a .parts .now) lengths (a .places .now) (a .body .now) (a .first) (a .source)) (a .i) (a .write) (a .counts .now) (a .room .now) (16) (a .slot) (a .n) (λ at base. reviewed (a .body .now) (at + 16 * a .slot) base (a .n)) (c .before .before .before .before .before .before .before .before .before .before .place .ensures) (c .before .before .before .before .base-of .ensures) (c .before .before .before .before .before .before .before .before .before .rows-in .ensures (a .state .now) (a .parts .now) lengths (a .places .now) (a .first) (a .source)) (c .before .before .before .before .before .before .before .before .if1 .left) (c .before .before .before .before .before .before .rows-of .ensures) (c .before .before .before .before .before .scale .ensures) (omega arith) (c .before .before .put-views .ensures)
+
+pub copy-views-spec : {M : Type 1} → statement M
+copy-views-spec =
+    tie.close
+    (tie.spec
+    add-place
+    place-requires
+    rows-in-requires
+    returns
+    rows-of-requires
+    scale-requires
+    cast-from
+    mul-from
+    add-from
+    base-of-requires
+    put-views-requires
+    same-length
+    returns-2)

@@ -1,0 +1,8 @@
+-- What an order is carried out with, from the slices that are lent. Assumes nothing.
+use mathlib.Core.List.{List}
+use Prim.Native.Nat.{ℕ}
+use Rattle.walk.specs.State.{Join}
+
+abbrev pub join : List ℕ → List ℕ → List ℕ → List ℕ → List ℕ → ℕ → ℕ → Join
+join state parts lengths places body first source =
+    record { state = state; parts = parts; lengths = lengths; places = places; body = body; first = first; source = source }

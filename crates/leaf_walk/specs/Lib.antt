@@ -1,0 +1,2 @@
+-- What the contracts of `leaf_walk` cite beside the walk itself, which is that of crate `walk`.
+pub mod Join

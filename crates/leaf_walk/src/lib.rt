@@ -1,0 +1,268 @@
+// The walk at nodes that have no children: validity, numbers, keys and views, and the nulls of them.
+// The answer is 0 or the ground of refusal; a walk that only tries changes the counters alone.
+// What a function does not read of the order stands in its contract for all values.
+ghost use mathlib.Core.Path.{_≡_};
+ghost use mathlib.Core.Bool.{Bool};
+ghost use mathlib.Core.List.{List};
+ghost use Prim.Native.Nat.{ℕ, _+_, _*_, _<_, _≤_, _^_};
+ghost use Rattle.walk.specs.State.{rowsIn};
+ghost use Rattle.walk.specs.Log.{Did};
+ghost use Rattle.walk.specs.Leaves.{copyBits, copyMask, nullMask, countNulls, copyNumbers, copyKeys, copyViews, nullNumbers};
+ghost use Rattle.leaf_walk.specs.Join.{join};
+
+// Whether the entries of w bytes of the slots slot .. slot + n - 1 stand in the body from `at` on.
+pub fn rows_in(body: &[u8], at: u32, w: u64, slot: u64, n: u64) -> bool
+    requires { ⌜ (w ≤ 16) × (slot + n < 2 ^ 64) ⌝ }
+    ensures { λ r. ⌜ ((state parts lengths places : List ℕ) (first source : ℕ) → r ≡ rowsIn (join state parts lengths places (now (body .entry)) first source) at w slot n) ⌝ }
+{
+    if 576460752303423488 <= slot + n {
+        return false;
+    }
+    (at as u64) + w * (slot + n) <= (body.len() as u64)
+}
+
+// The source's bits from `slot` on, with their zeros counted.
+fn copy_bits(
+    state: &[u64],
+    parts: &[u32],
+    places: &[u32],
+    body: &[u8],
+    counts: &mut [u64; 96],
+    room: &mut [u8],
+    write: bool,
+    first: usize,
+    i: usize,
+    slot: u64,
+    n: u64,
+) -> u8
+    requires { ⌜ (first < 2 ^ 32) × (i < 32) × (slot + n < 2 ^ 63) ⌝ }
+    ensures { λ r. ⌜ ((lengths : List ℕ) (source : ℕ) → Did (now (state .entry)) (now (parts .entry)) write (copyBits (join (now (state .entry)) (now (parts .entry)) lengths (now (places .entry)) (now (body .entry)) first source) i slot n (now (counts .entry))) (now (room .entry)) r (now (counts .exit)) (now (room .exit))) ⌝ }
+{
+    let at = lent_tables::place(places, first + i, 1);
+    let end = 8 * (at as u64) + slot + n;
+    if body.len() < utils::bit_room(end as usize) {
+        return 12;
+    }
+    let p = growth::rows_of(counts, i);
+    let zeros = puts::put_mask(state, parts, room, write, i, p, body, at as usize, slot, n);
+    growth::add_nulls(counts, i, zeros);
+    0
+}
+
+// The validity of n rows: the source's, or ones where it has none.
+pub fn copy_mask(
+    state: &[u64],
+    parts: &[u32],
+    places: &[u32],
+    body: &[u8],
+    counts: &mut [u64; 96],
+    room: &mut [u8],
+    write: bool,
+    first: usize,
+    i: usize,
+    slot: u64,
+    n: u64,
+) -> u8
+    requires { ⌜ (first < 2 ^ 32) × (i < 32) × (slot + n < 2 ^ 63) ⌝ }
+    ensures { λ r. ⌜ ((lengths : List ℕ) (source : ℕ) → Did (now (state .entry)) (now (parts .entry)) write (copyMask (join (now (state .entry)) (now (parts .entry)) lengths (now (places .entry)) (now (body .entry)) first source) i slot n (now (counts .entry))) (now (room .entry)) r (now (counts .exit)) (now (room .exit))) ⌝ }
+{
+    if growth::keeps_of(state, i) == 0 {
+        return 0;
+    }
+    if lent_tables::place(places, first + i, 0) == 0 {
+        let p = growth::rows_of(counts, i);
+        puts::put_ones(state, parts, room, write, i, p, n);
+        return 0;
+    }
+    copy_bits(
+        state,
+        parts,
+        places,
+        body,
+        counts,
+        room,
+        write,
+        first,
+        i,
+        slot,
+        n,
+    )
+}
+
+// Numbers of w bytes.
+pub fn copy_numbers(
+    state: &[u64],
+    parts: &[u32],
+    places: &[u32],
+    body: &[u8],
+    counts: &mut [u64; 96],
+    room: &mut [u8],
+    write: bool,
+    first: usize,
+    i: usize,
+    w: u64,
+    slot: u64,
+    n: u64,
+) -> u8
+    requires { ⌜ (first < 2 ^ 32) × (i < 32) × (slot + n < 2 ^ 63) × (1 ≤ w) × (w ≤ 16) ⌝ }
+    ensures { λ r. ⌜ ((lengths : List ℕ) (source : ℕ) → Did (now (state .entry)) (now (parts .entry)) write (copyNumbers (join (now (state .entry)) (now (parts .entry)) lengths (now (places .entry)) (now (body .entry)) first source) i w slot n (now (counts .entry))) (now (room .entry)) r (now (counts .exit)) (now (room .exit))) ⌝ }
+{
+    let at = lent_tables::place(places, first + i, 3);
+    if !rows_in(body, at, w, slot, n) {
+        return 12;
+    }
+    let o = growth::scale(growth::rows_of(counts, i), w);
+    let from = (at as u64) + w * slot;
+    puts::put_copy(
+        state,
+        parts,
+        room,
+        write,
+        i,
+        1,
+        o,
+        body,
+        from as usize,
+        w * n,
+    );
+    0
+}
+
+// Keys of w bytes, each plus the source's base.
+pub fn copy_keys(
+    state: &[u64],
+    parts: &[u32],
+    places: &[u32],
+    body: &[u8],
+    counts: &mut [u64; 96],
+    room: &mut [u8],
+    write: bool,
+    source: usize,
+    first: usize,
+    i: usize,
+    w: u64,
+    slot: u64,
+    n: u64,
+) -> u8
+    requires { ⌜ (first < 2 ^ 32) × (i < 32) × (slot + n < 2 ^ 63) × (source < 2 ^ 32) ⌝ }
+    requires { ⌜ ((w ≡ 1 → ⊥) → (w ≡ 2 → ⊥) → (w ≡ 4 → ⊥) → w ≡ 8) ⌝ }
+    ensures { λ r. ⌜ ((lengths : List ℕ) → Did (now (state .entry)) (now (parts .entry)) write (copyKeys (join (now (state .entry)) (now (parts .entry)) lengths (now (places .entry)) (now (body .entry)) first source) i w slot n (now (counts .entry))) (now (room .entry)) r (now (counts .exit)) (now (room .exit))) ⌝ }
+{
+    let at = lent_tables::place(places, first + i, 3);
+    if !rows_in(body, at, w, slot, n) {
+        return 12;
+    }
+    let o = growth::scale(growth::rows_of(counts, i), w);
+    let from = (at as u64) + w * slot;
+    let base = growth::base_of(state, source, i);
+    puts::put_keys(
+        state,
+        parts,
+        room,
+        write,
+        i,
+        1,
+        o,
+        w,
+        body,
+        from as usize,
+        n,
+        base,
+    );
+    0
+}
+
+// Views, the buffer numbers raised by the source's base.
+pub fn copy_views(
+    state: &[u64],
+    parts: &[u32],
+    places: &[u32],
+    body: &[u8],
+    counts: &mut [u64; 96],
+    room: &mut [u8],
+    write: bool,
+    source: usize,
+    first: usize,
+    i: usize,
+    slot: u64,
+    n: u64,
+) -> u8
+    requires { ⌜ (first < 2 ^ 32) × (i < 32) × (slot + n < 2 ^ 63) × (source < 2 ^ 32) ⌝ }
+    ensures { λ r. ⌜ ((lengths : List ℕ) → Did (now (state .entry)) (now (parts .entry)) write (copyViews (join (now (state .entry)) (now (parts .entry)) lengths (now (places .entry)) (now (body .entry)) first source) i slot n (now (counts .entry))) (now (room .entry)) r (now (counts .exit)) (now (room .exit))) ⌝ }
+{
+    let at = lent_tables::place(places, first + i, 3);
+    if !rows_in(body, at, 16, slot, n) {
+        return 12;
+    }
+    let o = growth::scale(growth::rows_of(counts, i), 16);
+    let from = (at as u64) + 16 * slot;
+    let base = growth::base_of(state, source, i);
+    puts::put_views(
+        state,
+        parts,
+        room,
+        write,
+        i,
+        1,
+        o,
+        body,
+        from as usize,
+        n,
+        base,
+    );
+    0
+}
+
+// The validity of n nulls: zeros, all counted.
+pub fn null_mask(
+    state: &[u64],
+    parts: &[u32],
+    counts: &mut [u64; 96],
+    room: &mut [u8],
+    write: bool,
+    i: usize,
+    n: u64,
+) -> u8
+    requires { ⌜ i < 32 ⌝ }
+    ensures { λ r. ⌜ ((lengths places body : List ℕ) (first source : ℕ) → Did (now (state .entry)) (now (parts .entry)) write (nullMask (join (now (state .entry)) (now (parts .entry)) lengths places body first source) i n (now (counts .entry))) (now (room .entry)) r (now (counts .exit)) (now (room .exit))) ⌝ }
+{
+    if growth::keeps_of(state, i) == 0 {
+        return 0;
+    }
+    let p = growth::rows_of(counts, i);
+    puts::put_null_bits(state, parts, room, write, i, p, n);
+    growth::add_nulls(counts, i, n);
+    0
+}
+
+// n nulls of a node that holds no validity are counted.
+pub fn count_nulls(state: &[u64], counts: &mut [u64; 96], i: usize, n: u64) -> u8
+    requires { ⌜ i < 32 ⌝ }
+    ensures { λ r. ⌜ ((parts lengths places body room : List ℕ) (first source : ℕ) (write : Bool) → Did (now (state .entry)) parts write (countNulls (join (now (state .entry)) parts lengths places body first source) i n (now (counts .entry))) room r (now (counts .exit)) room) ⌝ }
+{
+    if growth::keeps_of(state, i) == 0 {
+        return 0;
+    }
+    growth::add_nulls(counts, i, n);
+    0
+}
+
+// n null slots of w bytes in buffer b.
+pub fn null_numbers(
+    state: &[u64],
+    parts: &[u32],
+    counts: &mut [u64; 96],
+    room: &mut [u8],
+    write: bool,
+    i: usize,
+    b: usize,
+    w: u64,
+    n: u64,
+) -> u8
+    requires { ⌜ (i < 32) × (b < 3) × (1 ≤ w) × (w ≤ 16) ⌝ }
+    ensures { λ r. ⌜ ((lengths places body : List ℕ) (first source : ℕ) → Did (now (state .entry)) (now (parts .entry)) write (nullNumbers (join (now (state .entry)) (now (parts .entry)) lengths places body first source) i b w n (now (counts .entry))) (now (room .entry)) r (now (counts .exit)) (now (room .exit))) ⌝ }
+{
+    let o = growth::scale(growth::rows_of(counts, i), w);
+    puts::put_zeros(state, parts, room, write, i, b, o, w, n);
+    0
+}
