@@ -8,11 +8,11 @@ use lib.Dec.{ltb, leb}
 use borrow.Author.Tests.{lt-ltb, le-ltb, le-leb, lt-leb, ltb-true, leb-true}
 use Rattle.bits.specs.Bits.{bitsAt, zeros}
 use Rattle.lent_tables.proofs.Laws.{no, yes, is-none, is-some, and-left, and-right}
-use Rattle.walk.specs.State.{Join, keepsOf, rows, addNulls, place, rowsIn, scaled}
+use Rattle.walk.specs.State.{Join, keepsOf, rows, addNulls, place, rowsIn, scaled, grown}
 use Rattle.walk.specs.Log.{Out, Did, put, mask, applyIf, wrote, need}
 use Rattle.walk.specs.Leaves.{copyBits, copyMask, nullMask, countNulls}
 use Rattle.walk.proofs.Laws.{done-did, wrote-did, need-no, need-ok, next-ok}
-use Rattle.puts.proofs.Laws.{Alike, alike-scaled, place-alike}
+use Rattle.puts.proofs.Laws.{Alike, alike-scaled, alike-grown, alike-times, place-alike}
 
 -- ---- entries of w bytes in the body
 
@@ -35,12 +35,22 @@ module _ (x : Join) (at w slot n : ℕ) where
 pub zero-same : _≡_ {A = ℕ} 0 0
 zero-same = refl
 
--- a write whose place is a number of 64 bits
+-- a write whose place is a number of 64 bits that stands for o2
+pub wrote-alike : (state parts : List ℕ) (wr : Bool) (i b o o2 : ℕ) (bs c room : List ℕ) {room2 : List ℕ} → Alike o o2
+    → room2 ≡ applyIf state parts wr (put i b o bs ∷ []) room → Did state parts wr (wrote (put i b o2 bs) c) room 0 c room2
+wrote-alike state parts wr i b o o2 bs c room a g = wrote-did wr (put i b o2 bs) c room _ (g ∙ place-alike state parts wr i b o o2 bs room a)
+
+-- behind r entries of w bytes
 pub wrote-at : (state parts : List ℕ) (wr : Bool) (i b r w : ℕ) (bs c room : List ℕ) {o p : ℕ} {room2 : List ℕ} → p ≡ r → o ≡ scaled p w → 1 ≤ w
     → room2 ≡ applyIf state parts wr (put i b o bs ∷ []) room → Did state parts wr (wrote (put i b (r * w) bs) c) room 0 c room2
-wrote-at state parts wr i b r w bs c room {o} e f h g =
-    let a : Alike o (r * w) = rw (f, e) (alike-scaled r w h) in
-    wrote-did wr (put i b (r * w) bs) c room _ (g ∙ place-alike state parts wr i b o (r * w) bs room a)
+wrote-at state parts wr i b r w bs c room {o} e f h g = wrote-alike state parts wr i b o (r * w) bs c room (rw (f, e) (alike-scaled r w h)) g
+
+-- behind r + k entries of w bytes
+pub wrote-behind : (state parts : List ℕ) (wr : Bool) (i b r k w : ℕ) (bs c room : List ℕ) {o p q : ℕ} {room2 : List ℕ} → p ≡ r → q ≡ grown p k → o ≡ scaled q w → 1 ≤ w
+    → room2 ≡ applyIf state parts wr (put i b o bs ∷ []) room → Did state parts wr (wrote (put i b ((r + k) * w) bs) c) room 0 c room2
+wrote-behind state parts wr i b r k w bs c room {o} {p} {q} e f l h g =
+    let s : Alike q (r + k) = rw (f, e) (alike-grown r k) in
+    wrote-alike state parts wr i b o ((r + k) * w) bs c room (rw l (alike-times q (r + k) w s h)) g
 
 module _ (x : Join) (i : ℕ) (wr : Bool) (c room : List ℕ) where
   pub entries-no : (w slot n : ℕ) (o : Out) {at : ℕ} {r : Bool} → at ≡ place x i 3 → r ≡ rowsIn x at w slot n → not r ≡ true

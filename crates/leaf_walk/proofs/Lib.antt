@@ -1,2 +1,3 @@
 -- What the walk at leaves goes by.
 pub mod Laws
+pub mod Widths

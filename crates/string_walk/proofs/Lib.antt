@@ -1,0 +1,2 @@
+-- What the walk at byte strings goes by.
+pub mod Laws
