@@ -222,7 +222,7 @@ module _ (x : Join) (k w : ℕ) (t : Ty) (i m : ℕ) (ss : ℕ → Column (tRunE
         (rw (lent .off-is, lent .len-is) (rows-in x (place x (suc i) 3) (place x (suc i) 4) (Src .body .ends .body) w (Src .body .ends .off) many (lent .body-is) wide (g .obey (x .source) (g .known) .slots .hold) (g .body-small)))
         (goes-then _ _ (go-on first count (d .«data» .values) c μ in-values (fine .values-fine) (small-of (d .«data» .values .len + count) (rw (fine .as-many) room)) long (h .2))
         (λ v c2 ν p.
-        rw (p .1 .outside i (λ a b. omega arith) .rows-same ∙ last, ends-are (lastEnd w (d .«data» .ends)))
+        rw (last, ends-are (lastEnd w (d .«data» .ends)))
         (goes-wrote (put (suc i) 1 (rows c2 (suc i) * w) bytes) c2 _
         (ap (_* w) (ends-rows (x .state) k w t i (g .worded) c c2 μ ν (p .1) bytes count ∙ h .0) ∙ sym (ap length (ends-at (x .state) k w t i (g .worded) c c2 μ ν (p .1) bytes count ∙ h .1) ∙ fine .ends-are))
         (goes-done _ (addRows (suc i) count c2) (

@@ -1,52 +1,36 @@
 // What a walk looks up on its way: slots, entries, the children of a union, and the runs of a range.
 ghost use mathlib.Core.Path.{_≡_};
-ghost use mathlib.Core.List.{[]};
-ghost use Prim.Native.Nat.{_+_, _*_, _<_, _≤_};
+ghost use mathlib.Core.List.{List};
+ghost use Prim.Native.Nat.{ℕ, _+_, _*_, _^_, _<_, _≤_};
 ghost use lib.ListN.{length};
 ghost use Rattle.number.specs.Number.{entry};
 ghost use Rattle.run_ends.specs.Lookup.{bisect, foundAt, runsOf};
-ghost use Rattle.walk.specs.State.{slotOf, rowsIn, endOf};
-ghost use Rattle.walk.specs.Copy.{isWidth, childWith};
+ghost use Rattle.walk.specs.State.{slotOf, bytesOf};
+ghost use Rattle.walk.specs.Copy.{childWith};
 ghost use Rattle.walk.specs.Nulls.{nullableChild};
-ghost use Rattle.steps.specs.Slots.{join};
+ghost use Rattle.leaf_walk.specs.Join.{join};
 use run_ends::LogicalRow;
 use run_ends::Runs;
 
 // The first slot of the rows a .. a + n - 1 of node i, or 2^63 where they are not rows of any array.
 pub fn slot_of(lengths: &[u64], first: usize, i: usize, a: u64, n: u64) -> u64
-    requires { ⌜ (first < 4294967296) × (i < 32) ⌝ }
-    ensures { λ r. ⌜ r ≡ slotOf (join [] [] (now (lengths .entry)) [] [] first 0) i a n ⌝ }
+    requires { ⌜ (first < 2 ^ 32) × (i < 32) ⌝ }
+    ensures { λ r. ⌜ ((state parts places body : List ℕ) (source : ℕ) → r ≡ slotOf (join state parts (now (lengths .entry)) places body first source) i a n) ⌝ }
 {
-    let far = 9223372036854775808;
     let offset = lent_tables::offset_of(lengths, first + i);
-    if far <= offset {
-        return far;
-    }
-    if far <= a {
-        return far;
-    }
-    if far <= offset + a {
-        return far;
-    }
-    if far <= n {
-        return far;
-    }
-    if far <= offset + a + n {
-        return far;
+    let end = growth::grow(growth::grow(offset, a), n);
+    if 9223372036854775808 <= end {
+        return 9223372036854775808;
     }
     offset + a
 }
 
-// Whether the entries of w bytes of the slots slot .. slot + n - 1 stand in the body from `at` on.
-pub fn rows_in(body: &[u8], at: u32, w: u64, slot: u64, n: u64) -> bool
-    requires { ⌜ (w ≤ 16) × (slot < 9223372036854775808) × (n < 9223372036854775808) ⌝ }
-    ensures { λ r. ⌜ r ≡ rowsIn (join [] [] [] [] (now (body .entry)) 0 0) at w slot n ⌝ }
+// The bytes of an entry of node i.
+pub fn width_at(state: &[u64], i: usize) -> u64
+    requires { ⌜ i < 32 ⌝ }
+    ensures { λ r. ⌜ r ≡ bytesOf (now (state .entry)) i ⌝ }
 {
-    let reach = slot + n;
-    if 576460752303423488 <= reach {
-        return false;
-    }
-    (at as u64) + w * reach <= body.len() as u64
+    formats::width_of(growth::code_of(state, i)) as u64
 }
 
 // Entry k of those of w bytes at `at`.

@@ -28,6 +28,29 @@ module _ (state parts : List ℕ) where
   applyIf-none true room = refl
   applyIf-none false room = refl
 
+-- ---- steps that a function takes together: what follows them, follows the last of them
+
+pub next-need : (b : Bool) (g : ℕ) (c : List ℕ) (o : Out) (k : List ℕ → Out) → (g ≡ 0 → ⊥) → need b g c (next o k) ≡ next (need b g c o) k
+unfolding need next fail
+next-need true g c o k h = refl
+next-need false g c o k h = rw (ne-eqb g 0 h)
+
+pub next-found : (m v g : ℕ) (c : List ℕ) (f : ℕ → Out) (k : List ℕ → Out) → (g ≡ 0 → ⊥) → found m v g c (λ h. next (f h) k) ≡ next (found m v g c f) k
+unfolding found next fail
+next-found m v g c f k h = go (ltb v m)
+  where
+    go : (t : Bool) → cond t (next (f v) k) (fail g c) ≡ next (cond t (f v) (fail g c)) k
+    go true = refl
+    go false = rw (ne-eqb g 0 h)
+
+pub next-wrote : (e : Entry) (c : List ℕ) (f k : List ℕ → Out) → next (wrote e c) (λ c2. next (f c2) k) ≡ next (next (wrote e c) f) k
+unfolding wrote next
+next-wrote e c f k = go (eqb (f c .ans) 0) refl
+  where
+    go : (t : Bool) → eqb (f c .ans) 0 ≡ t → next (wrote e c) (λ c2. next (f c2) k) ≡ next (next (wrote e c) f) k
+    go true h = rw h
+    go false h = rw h
+
 module _ {state parts : List ℕ} where
   pub fail-did : (w : Bool) (g : ℕ) (c room : List ℕ) → Did state parts w (fail g c) room g c room
   unfolding fail

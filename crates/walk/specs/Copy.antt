@@ -91,12 +91,12 @@ module _ (x : Join) (child : Walk) where
   abbrev pub endsAt : ℕ → ℕ → ℕ
   endsAt w i = place x (suc i) 3 + w * offsetOf x (suc i)
 
-  -- the values of the runs, then their ends, clipped to the rows
+  -- the values of the runs, then their ends, clipped to the rows, behind the rows that were there before
   abbrev pub putRuns : ℕ → ℕ → ℕ → ℕ → Runs → List ℕ → Out
   putRuns w i slot n None c = fail 12 c
   putRuns w i slot n (Range first count) c =
       next (child (suc (suc i)) (first .0) count c)
-      (λ c2. next (wrote (put (suc i) 1 (rows c2 (suc i) * w) (clipped w (x .body) (endsAt w i + w * first .0) count slot (slot + n) (rows c2 i))) c2)
+      (λ c2. next (wrote (put (suc i) 1 (rows c2 (suc i) * w) (clipped w (x .body) (endsAt w i + w * first .0) count slot (slot + n) (rows c i))) c2)
       (λ c3. done (addRows (suc i) count c3)))
 
   -- the runs of the rows, by halves

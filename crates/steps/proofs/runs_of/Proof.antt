@@ -1,34 +1,26 @@
+-- `steps::runs_of` meets its contract. Assumes nothing.
+use borrow.Author.Needs.{needs}
+use native.Mathlib.Omega.{arith}
 use Rattle.steps.proofs.runs_of.Statement.{statement}
 use Rattle.steps.proofs.runs_of.Tie as tie
-use Rattle.steps.proofs.runs_of.Reads as reads
-use Rattle.steps.proofs.runs_of.Lts as lts
-use Rattle.run_ends.proofs.runs_of_range_i16.Reads as runs-of-range-i16-reads
-use Rattle.run_ends.proofs.runs_of_range_i32.Reads as runs-of-range-i32-reads
-use Rattle.run_ends.proofs.runs_of_range_i64.Reads as runs-of-range-i64-reads
 
--- src/lib.rt:121:9
 runs-of-range-i16-requires : tie.Need-runs-of-range-i16-requires
-runs-of-range-i16-requires c κs = ?
+runs-of-range-i16-requires c κs = rw (c .if1 .taken) at (c .before .before .pre .1)
 
--- src/lib.rt:121:9
 returns : tie.Need-returns
-returns c = ?
+returns c = rw (c .before .if1 .taken) (c .runs-of-range-i16 .ensures .0)
 
--- src/lib.rt:124:9
 runs-of-range-i32-requires : tie.Need-runs-of-range-i32-requires
-runs-of-range-i32-requires c κs = ?
+runs-of-range-i32-requires c κs = rw (c .if2 .taken) at (c .before .before .before .pre .1)
 
--- src/lib.rt:124:9
 returns-2 : tie.Need-returns-2
-returns-2 c = ?
+returns-2 c = rw (c .before .if2 .taken) (c .runs-of-range-i32 .ensures .0)
 
--- src/lib.rt:126:5
 runs-of-range-i64-requires : tie.Need-runs-of-range-i64-requires
-runs-of-range-i64-requires c κs = ?
+runs-of-range-i64-requires c κs = rw (c .before .before .before .pre .0 (c .before .if1 .left) (c .if2 .left)) at (c .before .before .before .pre .1)
 
--- src/lib.rt:108:1
 returns-3 : tie.Need-returns-3
-returns-3 c = ?
+returns-3 c = rw (c .before .before .before .before .pre .0 (c .before .before .if1 .left) (c .before .if2 .left)) (c .runs-of-range-i64 .ensures .0)
 
 pub runs-of-spec : {M : Type 1} → statement M
 runs-of-spec =

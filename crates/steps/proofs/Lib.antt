@@ -1,0 +1,2 @@
+-- What the look-ups of a walk go by.
+pub mod Laws
