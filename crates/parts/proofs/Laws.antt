@@ -22,6 +22,10 @@ every-one p i h e = rw (add-one i, h, e)
 pub every-now : (p : ℕ → Bool) (n i : ℕ) → n ≤ i → i ≤ n → every p i ≡ true → every p n ≡ true
 every-now p n i l u h = let e : i ≡ n = omega arith in rw e at h
 
+-- the three buffers of a node, asked one by one
+pub every-three : (p : ℕ → Bool) {a b c : Bool} → a ≡ p 0 → b ≡ p 1 → c ≡ p 2 → a && b && c ≡ every p 3
+every-three p e f g = rw (e, f, g)
+
 -- ---- which parts there are
 
 all-below : ℕ → List ℕ → Bool

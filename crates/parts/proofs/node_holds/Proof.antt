@@ -1,4 +1,6 @@
 -- `parts::node_holds` meets its contract. Assumes nothing.
+use Rattle.parts.specs.Parts.{partHolds}
+use Rattle.parts.proofs.Laws.{every-three}
 use borrow.Author.Needs.{needs}
 use Rattle.parts.proofs.node_holds.Statement.{statement}
 use Rattle.parts.proofs.node_holds.Tie as tie
@@ -13,7 +15,9 @@ part-holds-requires-3 : tie.Need-part-holds-requires-3
 part-holds-requires-3 c κs = search needs
 
 returns : tie.Need-returns
-returns c = cc
+returns c =
+    let a = c .before .before .before .before .before .args in
+    every-three (λ b. partHolds (a .state .now) (a .counts .now) (a .parts .now) (a .i) b) (c .before .before .part-holds .ensures) (c .before .part-holds2 .ensures) (c .part-holds3 .ensures)
 
 pub node-holds-spec : {M : Type 1} → statement M
 node-holds-spec =

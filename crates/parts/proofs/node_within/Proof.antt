@@ -1,4 +1,6 @@
 -- `parts::node_within` meets its contract. Assumes nothing.
+use Rattle.parts.specs.Parts.{partWithin}
+use Rattle.parts.proofs.Laws.{every-three}
 use borrow.Author.Needs.{needs}
 use Rattle.parts.proofs.node_within.Statement.{statement}
 use Rattle.parts.proofs.node_within.Tie as tie
@@ -13,7 +15,9 @@ part-within-requires-3 : tie.Need-part-within-requires-3
 part-within-requires-3 c κs = search needs
 
 returns : tie.Need-returns
-returns c = cc
+returns c =
+    let a = c .before .before .before .before .before .args in
+    every-three (λ b. partWithin (a .state .now) (a .parts .now) (a .m) (a .i) b) (c .before .before .part-within .ensures) (c .before .part-within2 .ensures) (c .part-within3 .ensures)
 
 pub node-within-spec : {M : Type 1} → statement M
 node-within-spec =
