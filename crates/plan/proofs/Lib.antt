@@ -1,0 +1,2 @@
+-- What the opening's words go by.
+pub mod Laws
