@@ -1,20 +1,15 @@
 -- Where a write goes, and what comes of it: one that is made and one that is left out. Assumes nothing.
-use mathlib.Core.Path.{_≡_, refl, sym, ap, _∙_}
-use mathlib.Core.Bool.{Bool, true, false, not, cond, _&&_}
-use mathlib.Core.List.{List, [], _∷_}
-use Prim.Native.Nat.{ℕ, zero, suc, _+_, _-_, _*_, _≤_, _<_}
-use native.Mathlib.Nat.{mul-le-mul-right, mul-one}
-use native.Mathlib.Omega.{arith}
-use lib.ListN.{length, getD}
-use lib.Dec.{ltb, leb}
+use mathlib.Core.Path.{_≡_, refl, ap, _∙_}
+use mathlib.Core.Bool.{Bool, true, false, not, _&&_}
+use mathlib.Core.List.{List}
+use Prim.Native.Nat.{ℕ, _+_, _-_, _*_, _≤_, _<_}
+use lib.ListN.{getD}
+use lib.Dec.{ltb}
 use borrow.Author.Tests.{lt-ltb, le-ltb, le-leb, lt-leb, ltb-true, leb-true, not-true, not-false}
-use Rattle.number.specs.Number.{splice}
-use Rattle.bits.specs.Bits.{putBits}
 use Rattle.lent_tables.proofs.Laws.{and-left, and-right}
-use Rattle.walk.specs.State.{partOf, beyond, top, scaled, grown}
-use Rattle.walk.specs.Log.{Entry, put, mask, startOf, inRoom, enter, apply, applyIf}
+use Rattle.walk.specs.State.{partOf, beyond}
+use Rattle.walk.specs.Log.{startOf, inRoom}
 use Rattle.growth.specs.Target.{targetOf, maskTargetOf}
-use Rattle.growth.specs.declared.Goal.{Goal}
 use Rattle.growth.specs.declared.Goal.the-variants.{At, Skip}
 
 -- ---- a range in the room

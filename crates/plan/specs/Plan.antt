@@ -13,6 +13,7 @@ use Rattle.array_data.specs.Tables.{Tables}
 use Rattle.lent_tables.specs.Lent.{tables}
 use Rattle.sharing.specs.Sources.{firstOf, arrayAt, dictAt, Countable, capped}
 use Rattle.node_table.specs.Words.{planted}
+use Rattle.parts.specs.Parts.{partWord, partTotal}
 use Rattle.walk.specs.State.{codeOf, dictionaryOf, endOf, keepsOf}
 
 -- words written one after the other: for each k the word `at k`, by the words that stand there so far
@@ -98,10 +99,25 @@ module _ (x : Tables) (sources : List ℕ) (m : ℕ) where
   unfoldable pub withBases : List ℕ → List ℕ
   withBases state = filled (λ q. 352 + q) (λ words q. baseWord words (q / 32) (q % 32)) (32 * m) state
 
--- ---- how many sources, nodes and parts there are
+-- ---- parts, and how many sources, nodes and parts there are
 
 unfoldable pub withCounts : ℕ → ℕ → List ℕ → List ℕ
 withCounts m n state = set (set state 864 m) 865 n
+
+-- "Parts stand in tree order": the part of each node's first buffer
+unfoldable pub withParts : ℕ → List ℕ → List ℕ
+withParts n state = filled (λ i. 8 * i + 6) partWord n state
+
+unfoldable pub withTotal : List ℕ → List ℕ
+withTotal state = set state 866 (partTotal state)
+
+-- THE STATE AS IT IS PLANNED: the type tree is source 0's, and no node has rows yet
+unfoldable pub planned : List ℕ → List ℕ → Tables → List ℕ → Bool → List ℕ
+planned formats schema x sources keep =
+    let m = sourceCount sources in
+    let n = nodesOf sources 0 in
+    let tree = withCounts m n (withTree (planted formats schema (firstOf sources 0) n)) in
+    withBases x sources m (withTotal (withParts n (withJoined x sources m n (withKeeps x sources m keep n tree))))
 
 -- ---- what the grounds 9 to 12 give
 

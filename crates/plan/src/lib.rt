@@ -5,8 +5,9 @@ ghost use Prim.Native.Nat.{ℕ, suc, _+_, _*_, _≤_, _<_, _^_};
 ghost use Rattle.formats.specs.Code.{isString};
 ghost use Rattle.walk.specs.State.{codeOf};
 ghost use Rattle.lent_tables.specs.Lent.{tables};
+ghost use Rattle.node_table.specs.Words.{planted};
 ghost use Rattle.sharing.specs.Sources.{firstOf, Countable};
-ghost use Rattle.plan.specs.Plan.{withTree, parentOf, asked, isEnds, keepWord, withKeeps, joinedWord, withJoined, buffersUpTo, baseWord, withBases};
+ghost use Rattle.plan.specs.Plan.{withTree, parentOf, asked, isEnds, keepWord, withKeeps, joinedWord, withJoined, buffersUpTo, baseWord, withBases, withCounts, withParts, planned, Plannable};
 
 // ---- the type tree
 
@@ -213,4 +214,62 @@ fn write_bases(sources: &[u32], lengths: &[u64], places: &[u32], m: usize, state
         state[352 + q] = base_word(sources, lengths, places, m, state, q / 32, q % 32);
         q += 1;
     }
+}
+
+// ---- parts, and the whole
+
+// The part of the first buffer of each of the first n nodes.
+fn write_parts(n: usize, state: &mut [u64; 872])
+    requires { ⌜ n ≤ 32 ⌝ }
+    ensures { λ _. ⌜ now (state .exit) ≡ withParts n (now (state .entry)) ⌝ }
+{
+    let mut i = 0;
+    while i < n {
+        state[8 * i + 6] = parts::part_word(state, i);
+        i += 1;
+    }
+}
+
+// The type tree with m sources and n nodes.
+fn write_type(
+    formats: &[u8],
+    schema: &[u32],
+    first: usize,
+    m: usize,
+    n: usize,
+    state: &mut [u64; 872],
+)
+    requires { ⌜ (first < 4294967296) × (n < 4294967296) ⌝ }
+    ensures { λ _. ⌜ now (state .exit) ≡ withCounts m n (withTree (planted (now (formats .entry)) (now (schema .entry)) first n)) ⌝ }
+{
+    let mut tree = [0u64; 256];
+    node_table::plant(formats, schema, first, n, &mut tree);
+    write_tree(&tree, state);
+    state[864] = m as u64;
+    state[865] = n as u64;
+}
+
+// THE STATE AS IT IS PLANNED for sources that meet none of the grounds 9 to 12.
+pub fn plan(
+    sources: &[u32],
+    formats: &[u8],
+    schema: &[u32],
+    lengths: &[u64],
+    places: &[u32],
+    body: &[u8],
+    keep: bool,
+    state: &mut [u64; 872],
+)
+    requires { ⌜ Plannable (tables (now lengths) (now places) (now body)) (now sources) ⌝ }
+    ensures { λ _. ⌜ now (state .exit) ≡ planned (now (formats .entry)) (now (schema .entry)) (tables (now (lengths .entry)) (now (places .entry)) (now (body .entry))) (now (sources .entry)) keep ⌝ }
+{
+    let m = sources.len() / 2;
+    let first = lent_tables::at_u32(sources, 0) as usize;
+    let n = lent_tables::at_u32(sources, 1) as usize;
+    write_type(formats, schema, first, m, n, state);
+    write_keeps(sources, lengths, places, body, m, keep, n, state);
+    write_joined(sources, lengths, places, m, n, state);
+    write_parts(n, state);
+    state[866] = parts::part_total(state) as u64;
+    write_bases(sources, lengths, places, m, state);
 }

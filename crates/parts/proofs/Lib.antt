@@ -1,0 +1,3 @@
+-- The laws that the proofs of `parts` cite, and those of the parts themselves.
+pub mod Laws
+pub mod Placed

@@ -1,0 +1,3 @@
+-- What the writes of a walk go by.
+pub mod Laws
+pub mod Bytes
