@@ -3,27 +3,16 @@ use mathlib.Core.Path.{_≡_, refl, ap, sym, _∙_}
 use mathlib.Core.Bool.{Bool, true, false, not, cond, _&&_, _||_}
 use mathlib.Core.List.{List, [], _∷_}
 use Prim.Native.Nat.{ℕ, zero, suc, _+_, _*_, _-_, _/_, _≤_, _<_}
-use native.Mathlib.Nat.{mul-zero}
 use native.Mathlib.Omega.{arith}
 use native.Mathlib.Numerals.{add-one}
 use lib.ListN.{length, getD}
 use lib.Dec.{leb, ltb, eqb}
-use borrow.Author.Tests.{lt-ltb, le-ltb, le-leb, lt-leb, eq-eqb, ne-eqb, leb-true, leb-false}
+use borrow.Author.Tests.{lt-ltb, le-ltb, le-leb, lt-leb, leb-true, leb-false}
 use Rattle.columnar.specs.Test.{every}
-use Rattle.columnar.proofs.Test.{every-false}
 use Rattle.lent_tables.proofs.Laws.{fits-more, and-left, and-right}
 use Rattle.walk.specs.State.{word, codeOf, dictionaryOf, keepsOf, rows, bytes}
-use Rattle.parts.specs.Parts.{nodesOf, bufferCounts, bufferCount, copied, validityParts, bufferParts, partCount, hasPart, partsBefore, partFrom, numberOf, neededBy, needed, startAt, sizeAt, sizeOf, inRoom, apart, partWithin}
-use Rattle.parts.specs.declared.Spot.{Spot}
+use Rattle.parts.specs.Parts.{bufferCounts, bufferCount, copied, validityParts, bufferParts, partCount, hasPart, partsBefore, partFrom, numberOf, neededBy, needed, startAt, sizeAt, sizeOf, inRoom, apart, partWithin}
 use Rattle.parts.specs.declared.Spot.the-variants.{Of, Nothing}
-
-pub and-no : (a : Bool) → a && false ≡ false
-and-no true = refl
-and-no false = refl
-
-pub or-yes : (a : Bool) → a || true ≡ true
-or-yes true = refl
-or-yes false = refl
 
 -- ---- a loop that leaves at the first that fails
 

@@ -1,21 +1,20 @@
 -- The laws of the parts: a number names one buffer of one node, and where the parts lie well, the bytes of one are no other's.
 -- Assumes nothing.
 use mathlib.Core.Path.{_≡_, refl, ap, sym, _∙_}
-use mathlib.Core.Bool.{Bool, true, false, cond, _&&_, _||_}
+use mathlib.Core.Bool.{Bool, true, false, _&&_, _||_}
 use mathlib.Core.List.{List}
 use Prim.Native.Nat.{ℕ, zero, suc, _+_, _*_, _-_, _/_, _≤_, _<_}
 use native.Mathlib.Decide.{decLt}
 use native.Mathlib.Omega.{arith}
 use native.Mathlib.Numerals.{add-one}
-use lib.ListN.{length, getD}
-use lib.Dec.{leb, ltb, eqb}
-use borrow.Author.Tests.{lt-ltb, le-ltb, le-leb, leb-true, ltb-true, eqb-true, eq-eqb}
+use lib.ListN.{length}
+use lib.Dec.{ltb, eqb}
+use borrow.Author.Tests.{lt-ltb, le-leb, leb-true, ltb-true, eqb-true, eq-eqb}
 use Rattle.columnar.specs.Test.{every, onlyIf}
 use Rattle.lent_tables.proofs.Laws.{and-left, and-right}
-use Rattle.walk.specs.State.{partOf, rows}
+use Rattle.walk.specs.State.{rows}
 use Rattle.walk.specs.Log.{startOf}
-use Rattle.parts.specs.Parts.{nodesOf, validityParts, bufferParts, partCount, hasPart, partsBefore, partTotal, partWord, numberOf, partFrom, partAt, needed, startAt, sizeAt, sizeOf, inRoom, apart, Apart, before, behind, first-empty, second-empty, partHolds, partsHold, partsPlaced, partWithin, partsWithin, Used, Numbered, Named}
-use Rattle.parts.specs.declared.Spot.{Spot}
+use Rattle.parts.specs.Parts.{nodesOf, validityParts, bufferParts, partCount, hasPart, partsBefore, partTotal, numberOf, partFrom, partAt, needed, startAt, sizeAt, sizeOf, inRoom, apart, Apart, before, behind, first-empty, second-empty, partHolds, partsHold, partsPlaced, partWithin, partsWithin, Used, Numbered, Named}
 use Rattle.parts.specs.declared.Spot.the-variants.{Of, Nothing}
 use Rattle.parts.proofs.Laws.{few-bits, few-parts, at-here, at-later, at-end}
 
@@ -109,7 +108,7 @@ module _ (state : List ℕ) where
         let h = before-next i (nodesOf state) (u .node) in
         omega arith
 
-    -- THE PART OF A BUFFER IS ANSWERED WITH ITS NODE AND ITS NUMBER
+    -- A PART IS ANSWERED WITH ITS NODE AND ITS BUFFER
     pub part-named : {i b : ℕ} → Used state i b → partAt state (numberOf state i b) ≡ Of i b
     part-named {i} {b} u =
         let e = number-is u in

@@ -1,7 +1,7 @@
 -- The parts of a destination in the lent room: which there are, what each must hold, and when they lie well (01, "Column types and
 -- ceilings" and grounds 13 and 14). Assumes nothing.
 use mathlib.Core.Path.{_≡_}
-use mathlib.Core.Bool.{Bool, true, false, not, cond, _&&_, _||_}
+use mathlib.Core.Bool.{Bool, true, not, cond, _&&_, _||_}
 use mathlib.Core.List.{List, [], _∷_}
 use Prim.Native.Nat.{ℕ, zero, suc, _+_, _*_, _-_, _/_, _≤_, _<_, min}
 use lib.ListN.{length, getD}
@@ -9,7 +9,6 @@ use lib.Dec.{leb, ltb, eqb}
 use Rattle.columnar.specs.Test.{every, onlyIf}
 use Rattle.formats.specs.Code.{isString, isView, isListView, isUnion, widthOf}
 use Rattle.walk.specs.State.{word, codeOf, dictionaryOf, keepsOf, partOf, rows, bytes}
-use Rattle.walk.specs.Log.{startOf}
 use Rattle.parts.specs.declared.Spot.{Spot}
 use Rattle.parts.specs.declared.Spot.the-variants.{Of, Nothing}
 

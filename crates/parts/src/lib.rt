@@ -4,7 +4,7 @@ ghost use mathlib.Core.Path.{_≡_};
 ghost use Prim.Native.Nat.{_+_, _*_, _≤_, _<_, _/_};
 ghost use lib.Dec.{leb};
 ghost use Rattle.columnar.specs.Test.{every};
-ghost use Rattle.parts.specs.Parts.{nodesOf, bufferCount, copied, validityParts, bufferParts, partCount, hasPart, partsBefore, partTotal, partWord, numberOf, partAt, entrySize, neededBy, sizeOf, inRoom, apart, partHolds, partsHold, partsPlaced, partWithin, partsWithin};
+ghost use Rattle.parts.specs.Parts.{nodesOf, bufferCount, copied, validityParts, bufferParts, partCount, hasPart, partsBefore, partTotal, partWord, numberOf, partAt, entrySize, neededBy, inRoom, apart, partHolds, partsHold, partsPlaced, partWithin, partsWithin};
 
 // The node and the buffer of a part; buffer 0 is the validity.
 pub enum Spot {

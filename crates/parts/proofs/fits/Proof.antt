@@ -1,8 +1,6 @@
 -- `parts::fits` meets its contract. Assumes nothing.
 use native.Mathlib.Omega.{arith}
-use mathlib.Core.Path.{_≡_, sym, ap, _∙_}
-use lib.Dec.{leb}
-use Rattle.parts.specs.Parts.{neededBy}
+use mathlib.Core.Path.{_≡_}
 use borrow.Author.Needs.{needs}
 use Rattle.parts.proofs.fits.Statement.{statement}
 use Rattle.parts.proofs.fits.Tie as tie

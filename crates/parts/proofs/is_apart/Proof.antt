@@ -1,6 +1,6 @@
 -- `parts::is_apart` meets its contract. The invariant: part p is apart from those below q. Assumes nothing.
 use Prim.Native.Nat.{_-_, _≤_}
-use mathlib.Core.Path.{_≡_, refl, sym, _∙_}
+use mathlib.Core.Path.{_≡_, refl, sym}
 use mathlib.Core.Bool.{true}
 use native.Mathlib.Omega.{arith}
 use Rattle.columnar.specs.Test.{every}

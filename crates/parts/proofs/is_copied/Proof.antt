@@ -1,5 +1,5 @@
 -- `parts::is_copied` meets its contract. Assumes nothing.
-use mathlib.Core.Path.{sym, ap, _∙_}
+use mathlib.Core.Path.{ap}
 use lib.Dec.{eqb}
 use Rattle.lent_tables.proofs.Laws.{is-none, is-some}
 use Rattle.parts.proofs.Laws.{copied-root, copied-other}

@@ -1,6 +1,6 @@
 -- `parts::part_at` meets its contract. The invariant: what is left of p is looked for from node i on. Assumes nothing.
 use Prim.Native.Nat.{ℕ, _-_, _≤_}
-use mathlib.Core.Path.{_≡_, refl, ap, sym, _∙_}
+use mathlib.Core.Path.{_≡_, ap, sym, _∙_}
 use native.Mathlib.Omega.{arith}
 use Rattle.parts.specs.Parts.{partFrom}
 use Rattle.parts.proofs.Laws.{at-here, at-later, at-end}

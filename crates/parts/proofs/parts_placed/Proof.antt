@@ -1,6 +1,5 @@
 -- `parts::parts_placed` meets its contract. Assumes nothing.
 use Prim.Native.Nat.{_*_}
-use mathlib.Core.Path.{_∙_}
 use lib.ListN.{length}
 use borrow.Author.Tests.{eq-eqb, ne-eqb}
 use Rattle.lent_tables.proofs.Laws.{no, yes}

@@ -1,6 +1,6 @@
 -- `parts::parts_within` meets its contract. The invariant: the parts of the nodes below i lie well. Assumes nothing.
 use Prim.Native.Nat.{_-_, _≤_}
-use mathlib.Core.Path.{_≡_, refl, sym, ap, _∙_}
+use mathlib.Core.Path.{_≡_, refl, sym}
 use mathlib.Core.Bool.{true}
 use native.Mathlib.Omega.{arith}
 use Rattle.columnar.specs.Test.{every}
