@@ -13,8 +13,10 @@ use Rattle.model.specs.Opening.{keeps, shared, startOfKeys}
 use Rattle.array_data.specs.Tables.{Tables}
 use Rattle.lent_tables.specs.Lent.{tables}
 use Rattle.sharing.specs.Sources.{firstOf, arrayAt, dictAt, capped}
+use Rattle.node_table.specs.Words.{planted}
+use Rattle.parts.specs.Parts.{partTotal}
 use Rattle.walk.specs.State.{codeOf, dictionaryOf, endOf, keepsOf}
-use Rattle.plan.specs.Plan.{filled, flag, holder, parentOf, asked, isEnds, keepWord, dictionariesAt, joinedWord, buffersUpTo, baseWord}
+use Rattle.plan.specs.Plan.{filled, flag, sourceCount, nodesOf, withTree, holder, parentOf, asked, isEnds, keepWord, withKeeps, dictionariesAt, joinedWord, withJoined, buffersUpTo, baseWord, withBases, withCounts, withParts, withTotal, planned}
 
 -- ---- one word more
 
@@ -131,3 +133,13 @@ module _ (places sources : List ℕ) (i : ℕ) where
 
   pub up-to-all : (s t : ℕ) {sum : ℕ} → t ≡ s → sum ≡ buffersUpTo places sources i t → sum ≡ buffersUpTo places sources i s
   up-to-all s t e h = rw e at h
+
+-- ---- one kind of word after the other
+
+module _ (formats schema lengths places body sources : List ℕ) (keep : Bool) where
+  pub planned-by : {m n first r : ℕ} {a b c d e : List ℕ} → m ≡ sourceCount sources → first ≡ firstOf sources 0 → n ≡ nodesOf sources 0
+      → a ≡ withCounts m n (withTree (planted formats schema first n)) → b ≡ withKeeps (tables lengths places body) sources m keep n a
+      → c ≡ withJoined (tables lengths places []) sources m n b → d ≡ withBases (tables lengths places []) sources m c → e ≡ withParts n d
+      → r ≡ partTotal e → set e 866 r ≡ planned formats schema (tables lengths places body) sources keep
+  unfolding planned withTotal withJoined joinedWord withBases baseWord
+  planned-by f g h p q j k l t = rw (t, l, k, j, q, p, f, g, h)

@@ -1,2 +1,3 @@
 -- What the opening's words go by.
 pub mod Laws
+pub mod Words

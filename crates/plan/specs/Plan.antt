@@ -117,7 +117,7 @@ planned formats schema x sources keep =
     let m = sourceCount sources in
     let n = nodesOf sources 0 in
     let tree = withCounts m n (withTree (planted formats schema (firstOf sources 0) n)) in
-    withBases x sources m (withTotal (withParts n (withJoined x sources m n (withKeeps x sources m keep n tree))))
+    withTotal (withParts n (withBases x sources m (withJoined x sources m n (withKeeps x sources m keep n tree))))
 
 -- ---- what the grounds 9 to 12 give
 

@@ -269,7 +269,7 @@ pub fn plan(
     write_type(formats, schema, first, m, n, state);
     write_keeps(sources, lengths, places, body, m, keep, n, state);
     write_joined(sources, lengths, places, m, n, state);
+    write_bases(sources, lengths, places, m, state);
     write_parts(n, state);
     state[866] = parts::part_total(state) as u64;
-    write_bases(sources, lengths, places, m, state);
 }
