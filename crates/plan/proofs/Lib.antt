@@ -1,3 +1,4 @@
 -- What the opening's words go by.
 pub mod Laws
 pub mod Words
+pub mod Nodes
