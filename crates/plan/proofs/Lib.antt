@@ -1,4 +1,5 @@
 -- What the opening's words go by.
 pub mod Laws
 pub mod Words
+pub mod Codes
 pub mod Nodes

@@ -3,19 +3,19 @@
 use mathlib.Core.Path.{_≡_, refl, sym, ap, ap₂, _∙_}
 use mathlib.Core.Bool.{Bool, true, false, not, cond, _&&_}
 use mathlib.Core.List.{List, [], _∷_}
-use Prim.Native.Nat.{ℕ, zero, suc, _+_, _*_, _-_, _%_, _≤_, _<_}
+use Prim.Native.Nat.{ℕ, zero, suc, _+_, _*_, _-_, _%_, _^_, _≤_, _<_}
 use native.Mathlib.Omega.{arith}
 use lib.ListN.{length, take, drop, getD, length-append}
 use lib.Dec.{leb, ltb, eqb}
 use borrow.Author.Tests.{eqb-true, eqb-false, ltb-true, ltb-false, leb-true, eq-eqb, ne-eqb}
-use Rattle.columnar.specs.Types.{Number, Plain, fixed, string, Ty, tView}
+use Rattle.columnar.specs.Types.{Number, i8, u8, i16, u16, i32, u32, i64, u64, f32, f64, limit, Plain, fixed, string, Ty, tView}
 use Rattle.columnar.specs.Row.{seg}
 use Rattle.columnar.specs.Plain.{PlainBody}
 use Rattle.columnar.specs.View.{Views}
 use Rattle.columnar.specs.Dictionary.{Dictionary}
 use Rattle.formats.specs.Code.{Rule, is, begins, table, look, codeAt, same, inside, isString, isView, isRunEnd}
 use Rattle.formats.specs.Code as formatCode
-use Rattle.model.specs.Opening.{keeps, shared, startOfKeys}
+use Rattle.model.specs.Opening.{keeps, shared, startOfKeys, keysFit, allKeysFit}
 use Rattle.model.specs.Primitive.{buffersBefore}
 use Rattle.schema.specs.Tree as schemaTree
 use Rattle.schema.specs.Tree.{children, dictionary, below, childAt, typed, whole, shape}
@@ -37,6 +37,7 @@ use Rattle.node_table.proofs.Laws.{zeroth, first-word, second-word}
 use Rattle.walk.specs.State.{word, codeOf, dictionaryOf, endOf, keepsOf, baseOf}
 use Rattle.plan.specs.Plan.{flag, sourceCount, nodesOf, holder, parentOf, asked, isEnds, keepWord, buffersUpTo, joinedWord, baseWord, planned}
 use Rattle.plan.proofs.Laws.{holds, holds-not}
+use Rattle.plan.proofs.Codes.{is-false, no-dictionary, run-not-fixed, view-not-fixed}
 use Rattle.plan.proofs.Words.{cond-le, word-is, keep-is, joined-is, base-is}
 
 -- ---- a code is a byte
@@ -126,16 +127,7 @@ module _ (formats schema : List ℕ) (first : ℕ) where
   run-below i s r = run-kind i _ (at-run formats schema first i r) (shaped formats schema first i s)
 
   run-single : (i : ℕ) → shape formats schema first i ≡ true → isRunEnd (schemaTree.codeOf formats schema first i) ≡ true → dictionary schema first i ≡ 0
-  unfolding shape schemaTree.leafShape schemaTree.keysShape schemaTree.listShape schemaTree.unionShape schemaTree.runShape
-  run-single i s r =
-      let code = schemaTree.codeOf formats schema first i in
-      let low = leb-true 21 code (and-left (leb 21 code) (leb code 21) r) in
-      let high = leb-true code 21 (and-right (leb 21 code) (leb code 21) r) in
-      let e : schemaTree.codeOf formats schema first i ≡ 21 = omega arith in
-      let run = rw e at s in
-      eqb-true (dictionary schema first i) 0
-      (and-right (eqb (children schema first i) 2) (eqb (dictionary schema first i) 0)
-      (and-left (eqb (children schema first i) 2 && eqb (dictionary schema first i) 0) (schemaTree.endsShape formats schema first (suc i)) run))
+  run-single i s r = no-dictionary formats schema first i s (run-not-fixed (schemaTree.codeOf formats schema first i) r)
 
   -- a node with nothing below it is no run-end node and has no dictionary
   leaf-no-run : (i : ℕ) → shape formats schema first i ≡ true → below schema first i ≡ 0 → isRunEnd (schemaTree.codeOf formats schema first i) ≡ false
@@ -203,6 +195,32 @@ module _ (x : Tables) (sources : List ℕ) (m : ℕ) (state : List ℕ) where
       → joinedWord x sources m state i ≡ flag (not (shared m (dictAt (tables (x .lengths) (x .places) []) sources strings (suc i))))
   unfolding joinedWord
   keys-joined i strings d q = rw (ne-eqb (dictionaryOf state i) 0 d, q)
+
+limit-small : (c : Number) → limit c ≤ 2 ^ 64
+limit-small i8 = omega arith
+limit-small u8 = omega arith
+limit-small i16 = omega arith
+limit-small u16 = omega arith
+limit-small i32 = omega arith
+limit-small u32 = omega arith
+limit-small i64 = omega arith
+limit-small u64 = omega arith
+limit-small f32 = omega arith
+limit-small f64 = omega arith
+
+-- a start that fits a key is a number of 64 bits
+start-fits : {P : Type 0} (c : Number) (m : ℕ) (ds : ℕ → Dictionary P) (j s : ℕ) → s < j → allKeysFit c m j ds ≡ true → capped (startOfKeys m ds s) ≡ startOfKeys m ds s
+start-fits c m ds zero s h f = absurd (omega arith)
+start-fits c m ds (suc j) s h f = go (eqb s j) refl (λ l. start-fits c m ds j s l (and-left (allKeysFit c m j ds) (keysFit c m ds j) f))
+  where
+    go : (b : Bool) → eqb s j ≡ b → (s < j → capped (startOfKeys m ds s) ≡ startOfKeys m ds s) → capped (startOfKeys m ds s) ≡ startOfKeys m ds s
+    go true e g =
+        let last = and-right (allKeysFit c m j ds) (keysFit c m ds j) f in
+        let low = ltb-true (startOfKeys m ds j) (limit c) (and-right (ltb (startOfKeys m ds j + ds j .values .len - 1) (limit c)) (ltb (startOfKeys m ds j) (limit c)) last) in
+        let q = ap (startOfKeys m ds) (eqb-true s j e) in
+        let top = limit-small c in
+        omega arith
+    go false e g = let d = eqb-false s j e in g (omega arith)
 
 length-seg : {A : Type 0} (f : ℕ → A) (a k : ℕ) → length (seg f a k) ≡ k
 length-seg f a zero = refl
@@ -308,12 +326,18 @@ module _ (formats schema : List ℕ) (y : Tables) (sources : List ℕ) (keep : B
       omega (arith, first-child formats schema first n i, child-inside schema first n w i 0 l (omega arith))
 
   keys-no-run : (i : ℕ) → i < n → (dictionaryOf state i ≡ 0 → ⊥) → isRunEnd (codeOf state i) ≡ false
-  keys-no-run i l d = go (isRunEnd (codeOf state i)) refl
-    where
-      go : (b : Bool) → isRunEnd (codeOf state i) ≡ b → b ≡ false
-      go true e =
-          absurd (d (dictionary-is i l ∙ run-single formats schema first i (typed-shape formats schema first n t i l) (sym (ap isRunEnd (code-is i l)) ∙ e)))
-      go false e = refl
+  keys-no-run i l d =
+      is-false (isRunEnd (codeOf state i))
+      (λ e. d (dictionary-is i l ∙ run-single formats schema first i (typed-shape formats schema first n t i l) (sym (ap isRunEnd (code-is i l)) ∙ e)))
+
+  keys-no-view : (i : ℕ) → i < n → (dictionaryOf state i ≡ 0 → ⊥) → isView (codeOf state i) ≡ false
+  keys-no-view i l d =
+      is-false (isView (codeOf state i))
+      (λ e.
+      d
+      (dictionary-is i l
+      ∙ no-dictionary formats schema first i (typed-shape formats schema first n t i l)
+      (view-not-fixed (schemaTree.codeOf formats schema first i) (sym (ap isView (code-is i l)) ∙ e))))
 
   -- ---- word 5, where u is the type of the node's columns
 
@@ -364,18 +388,22 @@ module _ (formats schema : List ℕ) (y : Tables) (sources : List ℕ) (keep : B
         → baseOf state s i ≡ length (buffersBefore (λ j. bodyOf tree (tablesFrom y (firstOf sources j)) tView i) s)
     view-base s i l h v = base-is formats schema x sources keep few small s i l h ∙ view-word x sources m state s i v ∙ buffers-typed tree y sources i s
 
-    module _ (k : Number) (p : Plain) (i : ℕ) (d : dictionaryOf state i ≡ 0 → ⊥) (q : isString (codeOf state (suc i)) ≡ ofStrings p) where
+    module _ (k : Number) (p : Plain) (i : ℕ) (l : i < n) (d : dictionaryOf state i ≡ 0 → ⊥) (q : isString (codeOf state (suc i)) ≡ ofStrings p) where
       abbrev dictionaries : ℕ → Dictionary (PlainBody p)
       dictionaries = dictionaryAt tree y sources k p i
 
-      -- "else all are joined"
-      pub dictionary-joined : i < n → word state i 7 ≡ flag (not (shared m dictionaries))
-      dictionary-joined l =
+      -- "Only if all neighbouring sources share is source 0's dictionary kept; else all are joined"
+      pub dictionary-joined : word state i 7 ≡ flag (not (shared m dictionaries))
+      dictionary-joined =
           joined-is formats schema x sources keep few small i l ∙ keys-joined x sources m state i (ofStrings p) d q
           ∙ sym (ap (λ b. flag (not b)) (shared-typed tree y sources k p i m))
 
-      -- "start is 0 if shared, else the entries of earlier sources": as it is, where ground 8 lets it through
-      pub dictionary-base : (s : ℕ) → s < m → i < 32 → isView (codeOf state i) ≡ false → baseOf state s i ≡ capped (startOfKeys m dictionaries s)
-      dictionary-base s l h v =
-          base-is formats schema x sources keep few small s i l h ∙ keys-word x sources m state s i (ofStrings p) v d q
+      -- "start is 0 if shared, else the entries of earlier sources"
+      pub dictionary-base : (s : ℕ) → s < m → baseOf state s i ≡ capped (startOfKeys m dictionaries s)
+      dictionary-base s h =
+          base-is formats schema x sources keep few small s i h (omega arith) ∙ keys-word x sources m state s i (ofStrings p) (keys-no-view i l d) d q
           ∙ sym (ap capped (start-typed tree y sources k p i m s))
+
+      -- .. as it is, where ground 8 lets it through
+      pub dictionary-base-fits : (s : ℕ) → s < m → (c : Number) → allKeysFit c m m dictionaries ≡ true → baseOf state s i ≡ startOfKeys m dictionaries s
+      dictionary-base-fits s h c f = dictionary-base s h ∙ start-fits c m dictionaries m s h f
