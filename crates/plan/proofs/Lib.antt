@@ -3,3 +3,4 @@ pub mod Laws
 pub mod Words
 pub mod Codes
 pub mod Nodes
+pub mod Typed

@@ -1,13 +1,13 @@
 -- A planned state over a type tree that passes: the node above a child, who keeps nulls, and what is added to keys and buffer numbers,
 -- as the model of the opening has it (model/specs/Transform.antt, `start`). Assumes nothing.
-use mathlib.Core.Path.{_≡_, refl, sym, ap, ap₂, _∙_}
-use mathlib.Core.Bool.{Bool, true, false, not, cond, _&&_}
+use mathlib.Core.Path.{_≡_, refl, sym, ap, _∙_}
+use mathlib.Core.Bool.{Bool, true, false, not, _&&_}
 use mathlib.Core.List.{List, [], _∷_}
-use Prim.Native.Nat.{ℕ, zero, suc, _+_, _*_, _-_, _%_, _^_, _≤_, _<_}
+use Prim.Native.Nat.{ℕ, zero, suc, _+_, _*_, _-_, _^_, _≤_, _<_}
 use native.Mathlib.Omega.{arith}
 use lib.ListN.{length, take, drop, getD, length-append}
 use lib.Dec.{leb, ltb, eqb}
-use borrow.Author.Tests.{eqb-true, eqb-false, ltb-true, ltb-false, leb-true, eq-eqb, ne-eqb}
+use borrow.Author.Tests.{eqb-true, eqb-false, ltb-true, ltb-false, leb-true, ne-eqb}
 use Rattle.columnar.specs.Types.{Number, i8, u8, i16, u16, i32, u32, i64, u64, f32, f64, limit, Plain, fixed, string, Ty, tView}
 use Rattle.columnar.specs.Row.{seg}
 use Rattle.columnar.specs.Plain.{PlainBody}
@@ -18,15 +18,15 @@ use Rattle.formats.specs.Code as formatCode
 use Rattle.model.specs.Opening.{keeps, shared, startOfKeys, keysFit, allKeysFit}
 use Rattle.model.specs.Primitive.{buffersBefore}
 use Rattle.schema.specs.Tree as schemaTree
-use Rattle.schema.specs.Tree.{children, dictionary, below, childAt, typed, whole, shape}
+use Rattle.schema.specs.Tree.{dictionary, below, childAt, typed, whole, shape}
 use Rattle.schema.proofs.Laws.{below-values}
 use Rattle.schema.proofs.Trees.{end-up, end-inside, end-after, child-inside}
 use Rattle.schema.proofs.Depth.{nested, child-before}
 use Rattle.schema.proofs.Known.{typed-whole, typed-shape}
 use Rattle.array_data.specs.Tables.{Tables, place, dataBuffer}
-use Rattle.array_data.specs.Typed.{NodeKind, fixedNode, stringNode, runEndNode, Tree, tablesFrom, bodyOf}
+use Rattle.array_data.specs.Typed.{runEndNode, Tree, tablesFrom, bodyOf}
 use Rattle.lent.specs.Lent.{kindAt}
-use Rattle.lent.proofs.Shaped.{plainKind, Shaped, of-plain, of-view, of-list, of-sparse, of-dense, of-run, of-dictionary, shaped, at-run}
+use Rattle.lent.proofs.Shaped.{Shaped, of-plain, of-view, of-list, of-sparse, of-dense, of-run, of-dictionary, shaped, at-run}
 use Rattle.lent.proofs.Lent.{first-child, second-child}
 use Rattle.lent_tables.specs.Lent.{tables}
 use Rattle.lent_tables.proofs.Laws.{and-left, and-right}

@@ -1,7 +1,7 @@
 -- Each word of a planned state, by the planned state itself. Assumes nothing.
 use mathlib.Core.Path.{_≡_, refl, sym, ap, ap₂, _∙_}
-use mathlib.Core.Bool.{Bool, true, false, not, cond}
-use mathlib.Core.List.{List, []}
+use mathlib.Core.Bool.{Bool, true, false, cond}
+use mathlib.Core.List.{List}
 use Prim.Native.Nat.{ℕ, zero, suc, _+_, _*_, _/_, _%_, _≤_, _<_}
 use native.Mathlib.Omega.{arith}
 use lib.ListN.{length, getD, set, replicate, length-set, getD-replicate}
@@ -9,16 +9,15 @@ use lib.Seq.{getD-set-same, getD-set-other}
 use lib.Dec.{ltb, eqb}
 use borrow.Author.Tests.{eqb-true, eqb-false}
 use Rattle.columnar.specs.Row.{seg}
-use Rattle.formats.specs.Code.{isString, isView, isRunEnd}
-use Rattle.model.specs.Opening.{keeps, shared, startOfKeys}
+use Rattle.model.specs.Opening.{keeps}
 use Rattle.array_data.specs.Tables.{Tables}
-use Rattle.sharing.specs.Sources.{firstOf, arrayAt, capped}
+use Rattle.sharing.specs.Sources.{firstOf}
 use Rattle.node_table.specs.Words.{wordOf, planted}
 use Rattle.parts.specs.Parts.{partWord, partTotal, Numbered}
 use Rattle.parts.proofs.Words.{Alike, alike-word, alike-total, numbered}
-use Rattle.walk.specs.State.{word, codeOf, dictionaryOf, endOf, keepsOf, baseOf}
+use Rattle.walk.specs.State.{word, endOf, keepsOf, baseOf}
 use Rattle.plan.specs.Plan as plan
-use Rattle.plan.specs.Plan.{filled, flag, sourceCount, withTree, holder, parentOf, asked, isEnds, keepWord, withKeeps, dictionariesAt, joinedWord, withJoined, baseWord, withBases, withCounts, withParts, withTotal, planned}
+use Rattle.plan.specs.Plan.{filled, sourceCount, withTree, holder, parentOf, asked, isEnds, keepWord, withKeeps, joinedWord, withJoined, baseWord, withBases, withCounts, withParts, withTotal, planned}
 
 -- ---- what a run of writes leaves
 

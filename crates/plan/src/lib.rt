@@ -1,7 +1,7 @@
 // The state of a join as the opening plans it, before any dictionary is joined: one function for each kind of word.
 ghost use mathlib.Core.Path.{_≡_};
 ghost use mathlib.Core.List.{[]};
-ghost use Prim.Native.Nat.{ℕ, suc, _+_, _*_, _≤_, _<_, _^_};
+ghost use Prim.Native.Nat.{ℕ, suc, _+_, _*_, _≤_, _<_};
 ghost use Rattle.formats.specs.Code.{isString};
 ghost use Rattle.walk.specs.State.{codeOf};
 ghost use Rattle.lent_tables.specs.Lent.{tables};

@@ -1,7 +1,5 @@
 -- `plan::base_word` meets its contract. Assumes nothing.
-use mathlib.Core.Path.{_≡_}
 use mathlib.Core.List.{[]}
-use native.Mathlib.Omega.{arith}
 use borrow.Author.Needs.{needs}
 use Rattle.lent_tables.specs.Lent.{tables}
 use Rattle.plan.proofs.Laws.{base-view, base-none, base-keys, start-at}

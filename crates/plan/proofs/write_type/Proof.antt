@@ -1,5 +1,5 @@
 -- `plan::write_type` meets its contract. Assumes nothing.
-use mathlib.Core.Path.{_≡_, ap, _∙_}
+use mathlib.Core.Path.{ap, _∙_}
 use lib.ListN.{set}
 use borrow.Author.Needs.{needs}
 use Rattle.plan.specs.Plan.{withTree, withCounts}
