@@ -1,0 +1,144 @@
+-- The words of a planned state as they are found. Assumes nothing.
+use mathlib.Core.Path.{_≡_, refl, ap, ap₂, _∙_}
+use mathlib.Core.Bool.{Bool, true, false, not}
+use mathlib.Core.List.{List, []}
+use Prim.Native.Nat.{ℕ, suc, _+_, _*_, _-_, _≤_, _<_}
+use native.Mathlib.Numerals.{add-one}
+use lib.ListN.{getD, set}
+use lib.Dec.{eqb}
+use borrow.Author.Tests.{lt-ltb, le-ltb, ne-eqb}
+use Rattle.formats.specs.Code.{isString, isView, isRunEnd}
+use Rattle.model.specs.Opening.{keeps, shared, startOfKeys}
+use Rattle.array_data.specs.Tables.{Tables}
+use Rattle.lent_tables.specs.Lent.{tables}
+use Rattle.sharing.specs.Sources.{firstOf, arrayAt, dictAt, capped}
+use Rattle.node_table.specs.Words.{planted}
+use Rattle.parts.specs.Parts.{partTotal}
+use Rattle.walk.specs.State.{codeOf, dictionaryOf, endOf, keepsOf}
+use Rattle.plan.specs.Plan.{filled, flag, sourceCount, nodesOf, withTree, holder, parentOf, asked, isEnds, keepWord, withKeeps, dictionariesAt, joinedWord, withJoined, buffersUpTo, baseWord, withBases, withCounts, withParts, withTotal, planned}
+
+-- ---- one word more
+
+module _ (at : ℕ → ℕ) (value : List ℕ → ℕ → ℕ) where
+  pub filled-none : (state : List ℕ) → state ≡ filled at value 0 state
+  unfolding filled
+  filled-none state = refl
+
+  pub filled-more : (k : ℕ) (state words : List ℕ) {v : ℕ} → words ≡ filled at value k state → v ≡ value words k
+      → set words (at k) v ≡ filled at value (k + 1) state
+  unfolding filled
+  filled-more k state words e h = rw (add-one k, h, e)
+
+  pub filled-all : (k n : ℕ) (state words : List ℕ) → k ≡ n → words ≡ filled at value k state → words ≡ filled at value n state
+  filled-all k n state words e h = rw e at h
+
+-- ---- the node above
+
+module _ (state : List ℕ) (i : ℕ) where
+  pub holds : (p : ℕ) → i < endOf state p → holder state (suc p) i ≡ p
+  unfolding holder
+  holds p l = rw (lt-ltb i (endOf state p) l)
+
+  pub holds-not : (p : ℕ) → endOf state p ≤ i → holder state (suc p) i ≡ holder state p i
+  unfolding holder
+  holds-not p l = rw (le-ltb i (endOf state p) l)
+
+  pub holds-none : (p : ℕ) → p ≡ 0 → holder state p i ≡ 0
+  unfolding holder
+  holds-none p e = rw e
+
+-- ---- nulls
+
+module _ (state : List ℕ) (keep : Bool) where
+  pub asked-root : (i : ℕ) → i ≡ 0 → keep ≡ asked state keep i
+  unfolding asked
+  asked-root i e = rw e
+
+  pub asked-values : (i k : ℕ) {d : ℕ} → i ≡ suc k → d ≡ dictionaryOf state k → (d ≡ 0 → ⊥) → false ≡ asked state keep i
+  unfolding asked
+  asked-values i k {d} q e h = rw (q, ← e, ne-eqb d 0 h)
+
+  pub asked-above : (i k : ℕ) {d p r : ℕ} → i ≡ suc k → d ≡ dictionaryOf state k → d ≡ 0 → p ≡ parentOf state i → r ≡ keepsOf state p
+      → not (eqb r 0) ≡ asked state keep i
+  unfolding asked
+  asked-above i k {d} {p} {r} q e h f g =
+      let a : p ≡ parentOf state (suc k) = f ∙ ap (parentOf state) q in
+      rw (q, ← e, h, ← a, g)
+
+module _ (state : List ℕ) where
+  pub ends-root : (i : ℕ) → i ≡ 0 → false ≡ isEnds state i
+  unfolding isEnds
+  ends-root i e = rw e
+
+  pub ends-next : (i k : ℕ) {c : ℕ} {r : Bool} → i ≡ suc k → c ≡ codeOf state k → r ≡ isRunEnd c → r ≡ isEnds state i
+  unfolding isEnds
+  ends-next i k q e h = rw q (h ∙ ap isRunEnd e)
+
+module _ (x : Tables) (sources : List ℕ) (m : ℕ) (keep : Bool) (state : List ℕ) (i : ℕ) where
+  pub keep-ends : {r : Bool} → r ≡ isEnds state i → r ≡ true → 0 ≡ keepWord x sources m keep state i
+  unfolding keepWord
+  keep-ends e h = rw (← e, h)
+
+  pub keep-by : {r a k : Bool} → r ≡ isEnds state i → r ≡ false → a ≡ asked state keep i → k ≡ keeps a m (arrayAt x sources i)
+      → flag k ≡ keepWord x sources m keep state i
+  unfolding keepWord
+  keep-by e h f g = rw (← e, h, ← f, g)
+
+-- ---- dictionaries and views
+
+module _ (x : Tables) (sources : List ℕ) (m : ℕ) (state : List ℕ) (i : ℕ) where
+  pub joined-none : {d : ℕ} → d ≡ dictionaryOf state i → d ≡ 0 → 0 ≡ joinedWord x sources m state i
+  unfolding joinedWord
+  joined-none e h = rw (← e, h)
+
+  pub joined-by : {d : ℕ} {r : Bool} → d ≡ dictionaryOf state i → (d ≡ 0 → ⊥) → r ≡ shared m (dictionariesAt x sources m state i)
+      → flag (not r) ≡ joinedWord x sources m state i
+  unfolding joinedWord
+  joined-by e h g = rw (← e, ne-eqb _ 0 h, g)
+
+  pub shared-at : {string r : Bool} → string ≡ isString (codeOf state (suc i))
+      → r ≡ shared m (dictAt (tables (x .lengths) (x .places) []) sources string (i + 1)) → r ≡ shared m (dictionariesAt x sources m state i)
+  shared-at e h = h ∙ ap₂ (λ b k. shared m (dictAt (tables (x .lengths) (x .places) []) sources b k)) e (add-one i)
+
+  pub start-at : (s : ℕ) {string : Bool} {r : ℕ} → string ≡ isString (codeOf state (suc i))
+      → r ≡ capped (startOfKeys m (dictAt (tables (x .lengths) (x .places) []) sources string (i + 1)) s)
+      → r ≡ capped (startOfKeys m (dictionariesAt x sources m state i) s)
+  start-at s e h = h ∙ ap₂ (λ b k. capped (startOfKeys m (dictAt (tables (x .lengths) (x .places) []) sources b k) s)) e (add-one i)
+
+  pub base-view : (s : ℕ) {c r : ℕ} {v : Bool} → c ≡ codeOf state i → v ≡ isView c → v ≡ true → r ≡ buffersUpTo (x .places) sources i s
+      → r ≡ baseWord x sources m state s i
+  unfolding baseWord
+  base-view s e f h g = rw (← e, ← f, h, g)
+
+  pub base-none : (s : ℕ) {c d : ℕ} {v : Bool} → c ≡ codeOf state i → v ≡ isView c → v ≡ false → d ≡ dictionaryOf state i → d ≡ 0
+      → 0 ≡ baseWord x sources m state s i
+  unfolding baseWord
+  base-none s e f h g k = rw (← e, ← f, h, ← g, k)
+
+  pub base-keys : (s : ℕ) {c d r : ℕ} {v : Bool} → c ≡ codeOf state i → v ≡ isView c → v ≡ false → d ≡ dictionaryOf state i → (d ≡ 0 → ⊥)
+      → r ≡ capped (startOfKeys m (dictionariesAt x sources m state i) s) → r ≡ baseWord x sources m state s i
+  unfolding baseWord
+  base-keys s e f h g k l = rw (← e, ← f, h, ← g, ne-eqb _ 0 k, l)
+
+module _ (places sources : List ℕ) (i : ℕ) where
+  pub up-to-none : 0 ≡ buffersUpTo places sources i 0
+  unfolding buffersUpTo
+  up-to-none = refl
+
+  pub up-to-more : (s : ℕ) {k sum p : ℕ} → sum ≡ buffersUpTo places sources i s → k ≡ firstOf sources s + i → p ≡ getD places (9 * k + 8) 0
+      → sum + p ≡ buffersUpTo places sources i (s + 1)
+  unfolding buffersUpTo
+  up-to-more s e f g = rw (add-one s, e, g, f)
+
+  pub up-to-all : (s t : ℕ) {sum : ℕ} → t ≡ s → sum ≡ buffersUpTo places sources i t → sum ≡ buffersUpTo places sources i s
+  up-to-all s t e h = rw e at h
+
+-- ---- one kind of word after the other
+
+module _ (formats schema lengths places body sources : List ℕ) (keep : Bool) where
+  pub planned-by : {m n first r : ℕ} {a b c d e : List ℕ} → m ≡ sourceCount sources → first ≡ firstOf sources 0 → n ≡ nodesOf sources 0
+      → a ≡ withCounts m n (withTree (planted formats schema first n)) → b ≡ withKeeps (tables lengths places body) sources m keep n a
+      → c ≡ withJoined (tables lengths places []) sources m n b → d ≡ withBases (tables lengths places []) sources m c → e ≡ withParts n d
+      → r ≡ partTotal e → set e 866 r ≡ planned formats schema (tables lengths places body) sources keep
+  unfolding planned withTotal withJoined joinedWord withBases baseWord
+  planned-by f g h p q j k l t = rw (t, l, k, j, q, p, f, g, h)

@@ -1,0 +1,6 @@
+-- What the opening's words go by.
+pub mod Laws
+pub mod Words
+pub mod Codes
+pub mod Nodes
+pub mod Typed

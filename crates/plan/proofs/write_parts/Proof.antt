@@ -1,0 +1,67 @@
+-- `plan::write_parts` meets its contract. The invariant: the first i nodes have their word. Assumes nothing.
+use mathlib.Core.Path.{_≡_}
+use Prim.Native.Nat.{_+_, _*_, _-_, _≤_}
+use native.Mathlib.Omega.{arith}
+use Rattle.parts.specs.Parts.{partWord}
+use Rattle.plan.specs.Plan.{filled, withParts}
+use Rattle.plan.proofs.Laws.{filled-none, filled-more, filled-all}
+use Rattle.plan.proofs.write_parts.Statement.{statement}
+use Rattle.plan.proofs.write_parts.Tie as tie
+
+abbrev Inv-loop : tie.InvT-loop
+Inv-loop n state₀ i₀ state i = (i ≤ n) × (state ≡ filled (λ k. 8 * k + 6) partWord i state₀)
+
+abbrev μ-loop : tie.MeasureT-loop
+μ-loop n state₀ i₀ state i = n - i
+
+loop-holds : tie.Need-loop-holds Inv-loop μ-loop
+loop-holds c = (omega arith, filled-none (λ k. 8 * k + 6) partWord (c .args .state .now))
+
+part-word-requires : tie.Need-part-word-requires Inv-loop μ-loop
+part-word-requires c κs = omega arith
+
+mul-state : tie.Need-mul-state Inv-loop μ-loop
+mul-state c = omega arith
+
+add-state : tie.Need-add-state Inv-loop μ-loop
+add-state c = omega arith
+
+mul-state-2 : tie.Need-mul-state-2 Inv-loop μ-loop
+mul-state-2 c = omega arith
+
+element-write-state : tie.Need-element-write-state Inv-loop μ-loop
+element-write-state c = omega arith
+
+add-i : tie.Need-add-i Inv-loop μ-loop
+add-i c = omega arith
+
+loop-less : tie.Need-loop-less Inv-loop μ-loop
+loop-less c = omega arith
+
+loop-again : tie.Need-loop-again Inv-loop μ-loop
+loop-again c =
+    let l = c .before .before .before .before .loop in
+    (omega arith, filled-more (λ k. 8 * k + 6) partWord (l .i) (c .before .before .before .before .before .args .state .now) (l .state) (l .inv .1) (c .part-word .ensures))
+
+returns : tie.Need-returns Inv-loop μ-loop
+unfolding withParts
+returns c =
+    let l = c .before .loop in
+    filled-all (λ k. 8 * k + 6) partWord (l .i) (c .before .before .args .n) (c .before .before .args .state .now) (l .state) (omega arith) (l .inv .1)
+
+pub write-parts-spec : {M : Type 1} → statement M
+write-parts-spec =
+    tie.close
+    (tie.spec
+    Inv-loop
+    μ-loop
+    loop-holds
+    part-word-requires
+    mul-state
+    add-state
+    mul-state-2
+    element-write-state
+    add-i
+    loop-less
+    loop-again
+    returns)

@@ -1,0 +1,3 @@
+-- The definitions that the contracts and laws of `plan` cite.
+pub mod Plan
+pub mod Opened

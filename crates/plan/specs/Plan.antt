@@ -1,0 +1,127 @@
+-- The state of a join (walk/specs/State.antt) as the opening plans it, before any dictionary is joined: one kind of word after the other.
+-- Assumes nothing.
+use mathlib.Core.Bool.{Bool, false, not, cond}
+use mathlib.Core.List.{List, []}
+use Prim.Native.Nat.{ℕ, zero, suc, _+_, _*_, _/_, _%_, _≤_, _<_}
+use lib.ListN.{length, getD, set, replicate}
+use lib.Dec.{ltb, eqb}
+use Rattle.formats.specs.Code.{isString, isView, isRunEnd}
+use Rattle.columnar.specs.Dictionary.{Dictionary}
+use Rattle.model.specs.Opening.{keeps, shared, startOfKeys}
+use Rattle.array_data.specs.Tables.{Tables}
+use Rattle.lent_tables.specs.Lent.{tables}
+use Rattle.sharing.specs.Sources.{firstOf, arrayAt, dictAt, Countable, capped}
+use Rattle.node_table.specs.Words.{planted}
+use Rattle.parts.specs.Parts.{partWord, partTotal}
+use Rattle.walk.specs.State.{codeOf, dictionaryOf, endOf, keepsOf}
+
+-- words written one after the other: for each k the word `at k`, by the words that stand there so far
+module _ (at : ℕ → ℕ) (value : List ℕ → ℕ → ℕ) where
+  unfoldable pub filled : ℕ → List ℕ → List ℕ
+  filled zero state = state
+  filled (suc k) state = set (filled k state) (at k) (value (filled k state) k)
+
+-- 1 for true
+abbrev pub flag : Bool → ℕ
+flag b = cond b 1 0
+
+-- how many sources there are, two numbers each
+abbrev pub sourceCount : List ℕ → ℕ
+sourceCount sources = length sources / 2
+
+-- how many nodes source s has
+abbrev pub nodesOf : List ℕ → ℕ → ℕ
+nodesOf sources s = getD sources (2 * s + 1) 0
+
+-- ---- the type tree: crate `node_table`; all else is 0
+
+unfoldable pub withTree : List ℕ → List ℕ
+withTree tree = filled (λ q. q) (λ state q. getD tree q 0) 256 (replicate 872 0)
+
+-- ---- which nodes keep nulls
+
+-- the last node below p whose subtree holds node i; 0 where there is none
+unfoldable pub holder : List ℕ → ℕ → ℕ → ℕ
+holder state zero i = 0
+holder state (suc p) i = cond (ltb i (endOf state p)) p (holder state p i)
+
+-- the node above node i
+abbrev pub parentOf : List ℕ → ℕ → ℕ
+parentOf state i = holder state i i
+
+-- the caller or the node above asks for the nulls of node i: "this passes to union, list-view and run-value children, not to run ends and
+-- dictionaries"; a dictionary's values are the node behind its keys
+unfoldable pub asked : List ℕ → Bool → ℕ → Bool
+asked state keep zero = keep
+asked state keep (suc i) = cond (eqb (dictionaryOf state i) 0) (not (eqb (keepsOf state (parentOf state (suc i))) 0)) false
+
+-- node i is the run ends of the run-end node before it
+unfoldable pub isEnds : List ℕ → ℕ → Bool
+isEnds state zero = false
+isEnds state (suc i) = isRunEnd (codeOf state i)
+
+-- "the number of data buffers in earlier sources" than source s, at node i
+unfoldable pub buffersUpTo : List ℕ → List ℕ → ℕ → ℕ → ℕ
+buffersUpTo places sources i zero = 0
+buffersUpTo places sources i (suc s) = buffersUpTo places sources i s + getD places (9 * (firstOf sources s + i) + 8) 0
+
+module _ (x : Tables) (sources : List ℕ) (m : ℕ) where
+  -- "A node keeps nulls if the caller says so or any source has a null at that node"; run ends keep none
+  unfoldable pub keepWord : Bool → List ℕ → ℕ → ℕ
+  keepWord keep state i = cond (isEnds state i) 0 (flag (keeps (asked state keep i) m (arrayAt x sources i)))
+
+  unfoldable pub withKeeps : Bool → ℕ → List ℕ → List ℕ
+  withKeeps keep n state = filled (λ i. 8 * i + 5) (keepWord keep) n state
+
+  -- ---- which dictionaries are joined
+
+  -- the dictionaries whose keys are node i, one for each source
+  abbrev pub dictionariesAt : List ℕ → ℕ → ℕ → Dictionary (Unit {0})
+  dictionariesAt state i = dictAt (tables (x .lengths) (x .places) []) sources (isString (codeOf state (suc i))) (suc i)
+
+  -- "Only if all neighbouring sources share is source 0's dictionary kept; else all are joined"
+  unfoldable pub joinedWord : List ℕ → ℕ → ℕ
+  joinedWord state i = cond (eqb (dictionaryOf state i) 0) 0 (flag (not (shared m (dictionariesAt state i))))
+
+  unfoldable pub withJoined : ℕ → List ℕ → List ℕ
+  withJoined n state = filled (λ i. 8 * i + 7) joinedWord n state
+
+  -- ---- what is added to keys and buffer numbers
+
+  -- "A view's buffer index rises by the number of data buffers in earlier sources"; "start is 0 if shared, else the entries of earlier
+  -- sources", or the largest number of 64 bits, which ground 8 refuses
+  unfoldable pub baseWord : List ℕ → ℕ → ℕ → ℕ
+  baseWord state s i =
+      cond (isView (codeOf state i)) (buffersUpTo (x .places) sources i s)
+      (cond (eqb (dictionaryOf state i) 0) 0 (capped (startOfKeys m (dictionariesAt state i) s)))
+
+  unfoldable pub withBases : List ℕ → List ℕ
+  withBases state = filled (λ q. 352 + q) (λ words q. baseWord words (q / 32) (q % 32)) (32 * m) state
+
+-- ---- parts, and how many sources, nodes and parts there are
+
+unfoldable pub withCounts : ℕ → ℕ → List ℕ → List ℕ
+withCounts m n state = set (set state 864 m) 865 n
+
+-- "Parts stand in tree order": the part of each node's first buffer
+unfoldable pub withParts : ℕ → List ℕ → List ℕ
+withParts n state = filled (λ i. 8 * i + 6) partWord n state
+
+unfoldable pub withTotal : List ℕ → List ℕ
+withTotal state = set state 866 (partTotal state)
+
+-- THE STATE AS IT IS PLANNED: the type tree is source 0's, and no node has rows yet
+unfoldable pub planned : List ℕ → List ℕ → Tables → List ℕ → Bool → List ℕ
+planned formats schema x sources keep =
+    let m = sourceCount sources in
+    let n = nodesOf sources 0 in
+    let tree = withCounts m n (withTree (planted formats schema (firstOf sources 0) n)) in
+    withTotal (withParts n (withBases x sources m (withJoined x sources m n (withKeeps x sources m keep n tree))))
+
+-- ---- what the grounds 9 to 12 give
+
+-- 1 to 16 sources, at most 32 nodes, and nulls that can be counted at every node
+pub record Plannable (x : Tables) (sources : List ℕ) : Type 0 where
+  pub few : sourceCount sources ≤ 16
+  pub small : nodesOf sources 0 ≤ 32
+  pub countable : (s i : ℕ) → s < sourceCount sources → i < nodesOf sources 0 → Countable x (firstOf sources s + i)

@@ -1,0 +1,275 @@
+// The state of a join as the opening plans it, before any dictionary is joined: one function for each kind of word.
+ghost use mathlib.Core.Path.{_≡_};
+ghost use mathlib.Core.List.{[]};
+ghost use Prim.Native.Nat.{ℕ, suc, _+_, _*_, _≤_, _<_};
+ghost use Rattle.formats.specs.Code.{isString};
+ghost use Rattle.walk.specs.State.{codeOf};
+ghost use Rattle.lent_tables.specs.Lent.{tables};
+ghost use Rattle.node_table.specs.Words.{planted};
+ghost use Rattle.sharing.specs.Sources.{firstOf, Countable};
+ghost use Rattle.plan.specs.Plan.{withTree, parentOf, asked, isEnds, keepWord, withKeeps, joinedWord, withJoined, buffersUpTo, baseWord, withBases, withCounts, withParts, planned, Plannable};
+
+// ---- the type tree
+
+// The words of the type tree, and zeros behind them.
+fn write_tree(tree: &[u64; 256], state: &mut [u64; 872])
+    ensures { λ _. ⌜ now (state .exit) ≡ withTree (now (tree .entry)) ⌝ }
+{
+    let mut words = [0u64; 872];
+    let mut q = 0;
+    while q < 256 {
+        words[q] = tree[q];
+        q += 1;
+    }
+    *state = words;
+}
+
+// ---- which nodes keep nulls
+
+// The node above node i: the last one before it whose subtree holds it.
+fn parent_of(state: &[u64; 872], i: usize) -> usize
+    requires { ⌜ i < 32 ⌝ }
+    ensures { λ r. ⌜ r ≡ parentOf (now (state .entry)) i ⌝ }
+    ensures { λ r. ⌜ r < 32 ⌝ }
+{
+    let mut p = i;
+    while 0 < p {
+        p -= 1;
+        if i < growth::end_of(state, p) {
+            return p;
+        }
+    }
+    0
+}
+
+// Whether the caller or the node above asks for the nulls of node i.
+fn is_asked(state: &[u64; 872], keep: bool, i: usize) -> bool
+    requires { ⌜ i < 32 ⌝ }
+    ensures { λ r. ⌜ r ≡ asked (now (state .entry)) keep i ⌝ }
+{
+    if i == 0 {
+        return keep;
+    }
+    if growth::dictionary_of(state, i - 1) != 0 {
+        return false;
+    }
+    growth::keeps_of(state, parent_of(state, i)) != 0
+}
+
+// Whether node i is the run ends of the node before it.
+fn is_ends(state: &[u64; 872], i: usize) -> bool
+    requires { ⌜ i < 32 ⌝ }
+    ensures { λ r. ⌜ r ≡ isEnds (now (state .entry)) i ⌝ }
+{
+    if i == 0 {
+        return false;
+    }
+    formats::is_run_end(growth::code_of(state, i - 1))
+}
+
+// 1 if node i keeps nulls and else 0.
+fn keep_word(
+    sources: &[u32],
+    lengths: &[u64],
+    places: &[u32],
+    body: &[u8],
+    m: usize,
+    keep: bool,
+    state: &[u64; 872],
+    i: usize,
+) -> u64
+    requires { ⌜ (m ≤ 16) × (i < 32) × ((s : ℕ) → s < m → Countable (tables (now lengths) (now places) (now body)) (firstOf (now sources) s + i)) ⌝ }
+    ensures { λ r. ⌜ r ≡ keepWord (tables (now (lengths .entry)) (now (places .entry)) (now (body .entry))) (now (sources .entry)) m keep (now (state .entry)) i ⌝ }
+{
+    if is_ends(state, i) {
+        return 0;
+    }
+    let above = is_asked(state, keep, i);
+    if sharing::keeps(above, sources, lengths, places, body, m, i) {
+        return 1;
+    }
+    0
+}
+
+// Which of the first n nodes keep nulls.
+fn write_keeps(
+    sources: &[u32],
+    lengths: &[u64],
+    places: &[u32],
+    body: &[u8],
+    m: usize,
+    keep: bool,
+    n: usize,
+    state: &mut [u64; 872],
+)
+    requires { ⌜ (m ≤ 16) × (n ≤ 32) × ((s i : ℕ) → s < m → i < n → Countable (tables (now lengths) (now places) (now body)) (firstOf (now sources) s + i)) ⌝ }
+    ensures { λ _. ⌜ now (state .exit) ≡ withKeeps (tables (now (lengths .entry)) (now (places .entry)) (now (body .entry))) (now (sources .entry)) m keep n (now (state .entry)) ⌝ }
+{
+    let mut i = 0;
+    while i < n {
+        state[8 * i + 5] = keep_word(sources, lengths, places, body, m, keep, state, i);
+        i += 1;
+    }
+}
+
+// ---- which dictionaries are joined
+
+// Whether the values of the dictionary whose keys are node i are byte strings.
+fn has_strings(state: &[u64; 872], i: usize) -> bool
+    requires { ⌜ i < 32 ⌝ }
+    ensures { λ r. ⌜ r ≡ isString (codeOf (now (state .entry)) (suc i)) ⌝ }
+{
+    let word = lent_tables::at_u64(state, 8 * (i + 1));
+    formats::is_string((word % 256) as u8)
+}
+
+// 1 if node i has dictionaries that are joined and else 0.
+fn joined_word(
+    sources: &[u32],
+    lengths: &[u64],
+    places: &[u32],
+    m: usize,
+    state: &[u64; 872],
+    i: usize,
+) -> u64
+    requires { ⌜ (m ≤ 16) × (i < 32) ⌝ }
+    ensures { λ r. ⌜ r ≡ joinedWord (tables (now (lengths .entry)) (now (places .entry)) []) (now (sources .entry)) m (now (state .entry)) i ⌝ }
+{
+    if growth::dictionary_of(state, i) == 0 {
+        return 0;
+    }
+    let string = has_strings(state, i);
+    if sharing::all_share(sources, lengths, places, m, i + 1, string) {
+        return 0;
+    }
+    1
+}
+
+// Which of the first n nodes have dictionaries that are joined.
+fn write_joined(
+    sources: &[u32],
+    lengths: &[u64],
+    places: &[u32],
+    m: usize,
+    n: usize,
+    state: &mut [u64; 872],
+)
+    requires { ⌜ (m ≤ 16) × (n ≤ 32) ⌝ }
+    ensures { λ _. ⌜ now (state .exit) ≡ withJoined (tables (now (lengths .entry)) (now (places .entry)) []) (now (sources .entry)) m n (now (state .entry)) ⌝ }
+{
+    let mut i = 0;
+    while i < n {
+        state[8 * i + 7] = joined_word(sources, lengths, places, m, state, i);
+        i += 1;
+    }
+}
+
+// ---- what is added to keys and buffer numbers
+
+// How many data buffers the sources before source s have at node i.
+fn buffers_up_to(sources: &[u32], places: &[u32], i: usize, s: usize) -> u64
+    requires { ⌜ (i < 32) × (s ≤ 16) ⌝ }
+    ensures { λ r. ⌜ r ≡ buffersUpTo (now (places .entry)) (now (sources .entry)) i s ⌝ }
+{
+    let mut sum: u64 = 0;
+    let mut t = 0;
+    while t < s {
+        let k = sharing::node_of(sources, t, i);
+        sum += lent_tables::place(places, k, 8) as u64;
+        t += 1;
+    }
+    sum
+}
+
+// What is added to source s's keys or buffer numbers at node i.
+fn base_word(
+    sources: &[u32],
+    lengths: &[u64],
+    places: &[u32],
+    m: usize,
+    state: &[u64; 872],
+    s: usize,
+    i: usize,
+) -> u64
+    requires { ⌜ (m ≤ 16) × (s ≤ 16) × (i < 32) ⌝ }
+    ensures { λ r. ⌜ r ≡ baseWord (tables (now (lengths .entry)) (now (places .entry)) []) (now (sources .entry)) m (now (state .entry)) s i ⌝ }
+{
+    if formats::is_view(growth::code_of(state, i)) {
+        return buffers_up_to(sources, places, i, s);
+    }
+    if growth::dictionary_of(state, i) == 0 {
+        return 0;
+    }
+    let string = has_strings(state, i);
+    sharing::start_of_keys(sources, lengths, places, m, i + 1, string, s)
+}
+
+// What is added to each source's keys and buffer numbers, at each of 32 nodes.
+fn write_bases(sources: &[u32], lengths: &[u64], places: &[u32], m: usize, state: &mut [u64; 872])
+    requires { ⌜ m ≤ 16 ⌝ }
+    ensures { λ _. ⌜ now (state .exit) ≡ withBases (tables (now (lengths .entry)) (now (places .entry)) []) (now (sources .entry)) m (now (state .entry)) ⌝ }
+{
+    let mut q = 0;
+    while q < 32 * m {
+        state[352 + q] = base_word(sources, lengths, places, m, state, q / 32, q % 32);
+        q += 1;
+    }
+}
+
+// ---- parts, and the whole
+
+// The part of the first buffer of each of the first n nodes.
+fn write_parts(n: usize, state: &mut [u64; 872])
+    requires { ⌜ n ≤ 32 ⌝ }
+    ensures { λ _. ⌜ now (state .exit) ≡ withParts n (now (state .entry)) ⌝ }
+{
+    let mut i = 0;
+    while i < n {
+        state[8 * i + 6] = parts::part_word(state, i);
+        i += 1;
+    }
+}
+
+// The type tree with m sources and n nodes.
+fn write_type(
+    formats: &[u8],
+    schema: &[u32],
+    first: usize,
+    m: usize,
+    n: usize,
+    state: &mut [u64; 872],
+)
+    requires { ⌜ (first < 4294967296) × (n < 4294967296) ⌝ }
+    ensures { λ _. ⌜ now (state .exit) ≡ withCounts m n (withTree (planted (now (formats .entry)) (now (schema .entry)) first n)) ⌝ }
+{
+    let mut tree = [0u64; 256];
+    node_table::plant(formats, schema, first, n, &mut tree);
+    write_tree(&tree, state);
+    state[864] = m as u64;
+    state[865] = n as u64;
+}
+
+// THE STATE AS IT IS PLANNED for sources that meet none of the grounds 9 to 12.
+pub fn plan(
+    sources: &[u32],
+    formats: &[u8],
+    schema: &[u32],
+    lengths: &[u64],
+    places: &[u32],
+    body: &[u8],
+    keep: bool,
+    state: &mut [u64; 872],
+)
+    requires { ⌜ Plannable (tables (now lengths) (now places) (now body)) (now sources) ⌝ }
+    ensures { λ _. ⌜ now (state .exit) ≡ planned (now (formats .entry)) (now (schema .entry)) (tables (now (lengths .entry)) (now (places .entry)) (now (body .entry))) (now (sources .entry)) keep ⌝ }
+{
+    let m = sources.len() / 2;
+    let first = lent_tables::at_u32(sources, 0) as usize;
+    let n = lent_tables::at_u32(sources, 1) as usize;
+    write_type(formats, schema, first, m, n, state);
+    write_keeps(sources, lengths, places, body, m, keep, n, state);
+    write_joined(sources, lengths, places, m, n, state);
+    write_bases(sources, lengths, places, m, state);
+    write_parts(n, state);
+    state[866] = parts::part_total(state) as u64;
+}
