@@ -1,0 +1,4 @@
+-- What the proofs of `source_rules` go by.
+pub mod From
+pub mod Fields
+pub mod Node

@@ -1,0 +1,19 @@
+-- What is asked of the nodes of one source before its rules are tested. Assumes nothing.
+use mathlib.Core.Path.{_≡_}
+use mathlib.Core.Bool.{true}
+use mathlib.Core.List.{List}
+use Prim.Native.Nat.{ℕ, _+_, _≤_, _<_, _^_}
+use Rattle.schema.specs.Tree.{typed}
+use Rattle.array_data.specs.Tables.{Tables}
+use Rattle.lent_tables.specs.Lent.{Counted}
+
+-- the lent slices as tables
+abbrev pub tablesOf : List ℕ → List ℕ → List ℕ → List ℕ → Tables
+tablesOf lengths places buffers body = record { lengths = lengths; places = places; buffers = buffers; body = body }
+
+-- n nodes from node `first` on that 9 and 10 let through: at most 32, of a type that 01 admits, each with a length and an offset
+pub record Ready (formats schema : List ℕ) (x : Tables) (first n : ℕ) : Type 0 where
+  pub few : n ≤ 32
+  pub low : first < 2 ^ 32
+  pub is-typed : typed formats schema first n ≡ true
+  pub counted : (j : ℕ) → j < n → Counted x (first + j)
