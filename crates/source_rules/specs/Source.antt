@@ -1,10 +1,12 @@
 -- What is asked of the nodes of one source before its rules are tested. Assumes nothing.
 use mathlib.Core.Path.{_≡_}
-use mathlib.Core.Bool.{true}
+use mathlib.Core.Bool.{Bool, true, false}
 use mathlib.Core.List.{List}
 use Prim.Native.Nat.{ℕ, _+_, _≤_, _<_, _^_}
+use Rattle.columnar.specs.Types.{Number}
 use Rattle.schema.specs.Tree.{typed}
 use Rattle.array_data.specs.Tables.{Tables}
+use Rattle.array_data.specs.Rules.{fixedRule, dictionaryRule}
 use Rattle.lent_tables.specs.Lent.{Counted}
 
 -- the lent slices as tables
@@ -17,3 +19,8 @@ pub record Ready (formats schema : List ℕ) (x : Tables) (first n : ℕ) : Type
   pub low : first < 2 ^ 32
   pub is-typed : typed formats schema first n ≡ true
   pub counted : (j : ℕ) → j < n → Counted x (first + j)
+
+-- the rule of a node of a fixed-width format: of numbers where the node has no dictionary (true), and else of keys
+abbrev pub numberRule : Tables → ℕ → Bool → Number → Bool
+numberRule x k true m = fixedRule x k m
+numberRule x k false m = dictionaryRule x k m
