@@ -1,0 +1,2 @@
+-- The laws of `columns`.
+pub mod Laws
