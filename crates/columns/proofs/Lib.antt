@@ -1,2 +1,3 @@
 -- The laws of `columns`.
 pub mod Laws
+pub mod Grounds
