@@ -1,3 +1,4 @@
 -- The laws of `columns`.
 pub mod Laws
 pub mod Grounds
+pub mod Itself

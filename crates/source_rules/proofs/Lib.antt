@@ -2,3 +2,4 @@
 pub mod From
 pub mod Fields
 pub mod Node
+pub mod Union

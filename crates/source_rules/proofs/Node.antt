@@ -112,8 +112,8 @@ module _ (formats schema : List ℕ) (first i : ℕ) (s : shape formats schema f
   abbrev here : ℕ
   here = codeOf formats schema first i
 
-  -- one of the five shapes
-  by-shape : {A : Type 0} → (isFixed here || isString here || isView here ≡ true → A) → (isInteger here ≡ true → A) → (isListView here ≡ true → A)
+  -- one of the five shapes, by what each says of the code
+  pub by-shape : {A : Type 0} → (isFixed here || isString here || isView here ≡ true → A) → (isInteger here ≡ true → A) → (isListView here ≡ true → A)
       → (unionShape formats schema first i ≡ true → A) → (isRunEnd here ≡ true → A) → A
   unfolding shape leafShape keysShape listShape runShape
   by-shape leaf keys list union run =
