@@ -6,7 +6,7 @@ ghost use Prim.Native.Nat.{_+_, _*_, _≤_, _<_, _^_};
 ghost use lib.ListN.{length};
 ghost use Rattle.schema.specs.Tree.{every};
 ghost use Rattle.lent_tables.specs.Lent.{tables};
-ghost use Rattle.source_rules.specs.Source.{tablesOf};
+ghost use Rattle.kind_rules.specs.Rows.{tablesOf};
 ghost use Rattle.columns.specs.Grounds.{countFits, fewBuffers, nodeFits, smallBody, withinCeilings, allWithin, allTyped, allSame, sourceCount};
 
 // ---- ground 9

@@ -4,13 +4,14 @@ use mathlib.Core.Bool.{Bool, true, false, _&&_, _||_, false≢true}
 use mathlib.Core.Logic.{_⊎_, inl, inr}
 use mathlib.Core.List.{List, List·Memᴰ}
 use mathlib.Core.Option.{Option, none, some}
-use Prim.Native.Nat.{ℕ, zero, suc, _+_, _*_, _-_, _≤_, _<_}
+use Prim.Native.Nat.{ℕ, zero, suc, _+_, _*_, _-_, _≤_, _<_, _^_}
 use native.Mathlib.Omega.{arith}
 use lib.ListN.{length, take, drop, getD}
 use lib.Seq.{take-at}
 use lib.Dec.{eqb}
 use borrow.Author.Tests.{eq-eqb, ne-eqb}
 use Rattle.columnar.specs.Types.{Number, width, Plain, fixed, string}
+use Rattle.columnar.specs.Test.{every}
 use Rattle.columnar.specs.Formed.{OffsetWidth, RunWidth}
 use Rattle.formats.specs.Code.{isInteger, isFixed, isString, isView, isListView, isUnion, isRunEnd, widthOf}
 use Rattle.formats.specs.Types.{numberOf}
@@ -26,9 +27,11 @@ use Rattle.array_data.specs.Rules.{fixedRule, stringRule, viewRule, listViewRul
 use Rattle.array_data.specs.Typed.{NodeKind, fixedNode, stringNode, viewNode, listViewNode, sparseNode, denseNode, runEndNode, dictionaryNode, fieldOf, nodeOf, childNode, tablesFrom, kindRule, nodeRule}
 use Rattle.lent.specs.Lent.{numberOr, idsOr, unionKind, kindAt, treeOf}
 use Rattle.lent.proofs.Ids.{both, field-in}
-use Rattle.lent.proofs.Shaped.{later, integer-fixed, plainKind, Shaped, of-plain, of-view, of-list, of-sparse, of-dense, of-run, of-dictionary, at-fixed, at-keys, at-string, at-view, at-list, at-union, at-run, five, shaped}
+use Rattle.lent.proofs.Shaped.{later, string-width, list-width, integer-fixed, plainKind, Shaped, of-plain, of-view, of-list, of-sparse, of-dense, of-run, of-dictionary, at-fixed, at-keys, at-string, at-view, at-list, at-union, at-run, five, shaped}
 use Rattle.lent.proofs.Lent.{child-same, first-child}
-use Rattle.source_rules.specs.Source.{numberRule}
+use Rattle.lent_tables.specs.Lent.{tables, Counted}
+use Rattle.kind_rules.specs.Rows.{tablesOf}
+use Rattle.source_rules.specs.Source.{Ready, numberRule}
 use Rattle.source_rules.proofs.From.{fixed-from, string-from, view-from, list-view-from, sparse-from, dense-from, run-end-from, dictionary-from}
 
 -- ---- widths
@@ -57,6 +60,37 @@ run-not-plain : {v : ℕ} (p : Plain) → runEndNode v ≡ plainKind p → ⊥
 run-not-plain (fixed m) e = let z : _≡_ {A = ℕ} 0 1 = cc in omega arith
 run-not-plain (string w) e = let z : _≡_ {A = ℕ} 0 1 = cc in omega arith
 
+-- what a test told of a code c that is d
+pub told : (f : ℕ → Bool) {b v : Bool} (c : ℕ) {d : ℕ} → c ≡ d → b ≡ f c → b ≡ v → f d ≡ v
+told f c q e h = ap f (sym q) ∙ sym e ∙ h
+
+pub string-widths : (c : ℕ) {w : ℕ} → isString c ≡ true → w ≡ widthOf c → OffsetWidth w
+string-widths c h e = subst OffsetWidth (sym e) (string-width c h)
+
+pub list-widths : (c : ℕ) {w : ℕ} → isListView c ≡ true → w ≡ widthOf c → OffsetWidth w
+list-widths c h e = subst OffsetWidth (sym e) (list-width c h)
+
+-- ---- one after the other
+
+pub every-true : (p : ℕ → Bool) (n : ℕ) → ((j : ℕ) → j < n → p j ≡ true) → every p n ≡ true
+every-true p zero h = refl
+every-true p (suc n) h = rw (every-true p n (λ j l. h j (omega arith)), h n (omega arith))
+
+-- ---- only the lengths are counted
+
+pub counted-as : (x y : Tables) (k : ℕ) → x .lengths ≡ y .lengths → Counted x k → Counted y k
+counted-as x y k e h = record { small = h .small; sum = subst (λ l. getD l (2 * k + 1) 0 + getD l (2 * k) 0 < 2 ^ 63) e (h .sum) }
+
+pub ready-as : (formats schema : List ℕ) (x y : Tables) (first n : ℕ) → x .lengths ≡ y .lengths → Ready formats schema x first n → Ready formats schema y first n
+ready-as formats schema x y first n e h =
+    record { few = h .few; low = h .low; is-typed = h .is-typed; counted = λ j l. counted-as x y (first + j) e (h .counted j l) }
+
+-- numbers and keys have no data buffers
+pub number-as : (lengths places buffers body : List ℕ) (k : ℕ) (single : Bool) (m : Number)
+    → numberRule (tables lengths places body) k single m ≡ numberRule (tablesOf lengths places buffers body) k single m
+number-as lengths places buffers body k true m = refl
+number-as lengths places buffers body k false m = refl
+
 -- ---- the rule of node i by its code
 
 module _ (formats schema : List ℕ) (first n : ℕ) (x : Tables) (i : ℕ) where
@@ -75,6 +109,12 @@ module _ (formats schema : List ℕ) (first n : ℕ) (x : Tables) (i : ℕ) wher
       by-kind (fixedNode m) (at-fixed formats schema first i h s ∙ ap (λ o. fixedNode (numberOr o)) e) ∙ fixed-from x first i m
   number-node h false s m e =
       by-kind (dictionaryNode m) (at-keys formats schema first i h s ∙ ap (λ o. dictionaryNode (numberOr o)) e) ∙ dictionary-from x first i m
+
+  pub number-last : {r : Bool} {c d : ℕ} → c ≡ code → d ≡ dictionary schema first i → isFixed c ≡ true
+      → ((m : Number) → numberOf c ≡ some m → r ≡ numberRule x (first + i) (eqb d 0) m) → r ≡ rule
+  number-last {r} {c} {d} e q h g =
+      let p = fixed-number c h in
+      g (p .0) (p .1) ∙ sym (number-node (ap isFixed (sym e) ∙ h) (eqb d 0) (ap (λ k. eqb k 0) (sym q)) (p .0) (ap numberOf (sym e) ∙ p .1))
 
   pub string-node : isString code ≡ true → rule ≡ stringRule x (first + i) (widthOf code)
   string-node h = by-kind (stringNode (widthOf code)) (at-string formats schema first i h) ∙ string-from x first i (widthOf code)

@@ -3,7 +3,7 @@ use mathlib.Core.Path.{_≡_, refl, sym, ap, subst, _∙_}
 use mathlib.Core.Bool.{Bool, true, false, false≢true}
 use mathlib.Core.List.{List, List·Memᴰ}
 use mathlib.Core.Option.{Option, none, some}
-use Prim.Native.Nat.{ℕ, _+_, _<_}
+use Prim.Native.Nat.{ℕ, _+_, _-_, _<_}
 use native.Mathlib.Omega.{arith}
 use lib.ListN.{length, take, drop, getD}
 use lib.Seq.{take-at}
@@ -41,6 +41,12 @@ ids-count (some ids) k e = counted (length ids) k e
 pub ids-front : (o : Option (List ℕ)) (k : ℕ) (s : List ℕ) → answerOf o ≡ Count k → take k (written o s) ≡ idsOr o
 ids-front none k s e = absurd (bad-count k e)
 ids-front (some ids) k s e = take-at ids (drop (length ids) s) k (counted (length ids) k e)
+
+-- .. as a part
+pub ids-part : (o : Option (List ℕ)) (k : ℕ) (s l : List ℕ) → answerOf o ≡ Count k → l ≡ written o s → take (k - 0) (drop 0 l) ≡ idsOr o
+ids-part o k s l e h =
+    let z : k - 0 ≡ k = omega arith in
+    ap (λ j. take j l) z ∙ ap (take k) h ∙ ids-front o k s e
 
 module _ (formats schema : List ℕ) (first n : ℕ) (x : Tables) (i at len : ℕ) (a : at ≡ field schema (first + i) 0) (l : len ≡ field schema (first + i) 1) where
   pub ids-read : idsOf formats schema first i ≡ idsAt formats at len

@@ -9,10 +9,6 @@ use Rattle.array_data.specs.Tables.{Tables}
 use Rattle.array_data.specs.Rules.{fixedRule, dictionaryRule}
 use Rattle.lent_tables.specs.Lent.{Counted}
 
--- the lent slices as tables
-abbrev pub tablesOf : List ℕ → List ℕ → List ℕ → List ℕ → Tables
-tablesOf lengths places buffers body = record { lengths = lengths; places = places; buffers = buffers; body = body }
-
 -- n nodes from node `first` on that 9 and 10 let through: at most 32, of a type that 01 admits, each with a length and an offset
 pub record Ready (formats schema : List ℕ) (x : Tables) (first n : ℕ) : Type 0 where
   pub few : n ≤ 32
