@@ -32,7 +32,7 @@ held : {b : Bool} → b ≡ true → T b
 held e = subst T (sym e) tt
 
 module _ (formats schema : List ℕ) (x : Tables) where
-  within-low : (first n : ℕ) → withinCeilings formats schema x first n ≡ true → ceilings formats schema first n ≡ true
+  pub within-low : (first n : ℕ) → withinCeilings formats schema x first n ≡ true → ceilings formats schema first n ≡ true
   unfolding withinCeilings
   within-low first n h = both (ceilings formats schema first n) (every (nodeFits formats schema x first) n) h .0
 
@@ -105,11 +105,11 @@ module _ (formats schema : List ℕ) (x : Tables) where
     unfolding fewSources
     some-source h = leb-true 1 (sourceCount sources) (both (leb 1 (sourceCount sources)) (leb (sourceCount sources) 16) h .0)
 
-    within-at : allWithin formats schema x sources ≡ true → (s : ℕ) → s < sourceCount sources → withinCeilings formats schema x (first s) (nodes s) ≡ true
+    pub within-at : allWithin formats schema x sources ≡ true → (s : ℕ) → s < sourceCount sources → withinCeilings formats schema x (first s) (nodes s) ≡ true
     unfolding allWithin
     within-at h s l = every-at (of-source (withinCeilings formats schema x) sources) (sourceCount sources) s h l
 
-    typed-at : allTyped formats schema sources ≡ true → (s : ℕ) → s < sourceCount sources → typed formats schema (first s) (nodes s) ≡ true
+    pub typed-at : allTyped formats schema sources ≡ true → (s : ℕ) → s < sourceCount sources → typed formats schema (first s) (nodes s) ≡ true
     unfolding allTyped
     typed-at h s l = every-at (of-source (typed formats schema) sources) (sourceCount sources) s h l
 

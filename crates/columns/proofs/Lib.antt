@@ -2,3 +2,4 @@
 pub mod Laws
 pub mod Grounds
 pub mod Itself
+pub mod Answers

@@ -7,7 +7,7 @@ ghost use lib.ListN.{length};
 ghost use Rattle.schema.specs.Tree.{every};
 ghost use Rattle.lent_tables.specs.Lent.{tables};
 ghost use Rattle.kind_rules.specs.Rows.{tablesOf};
-ghost use Rattle.columns.specs.Grounds.{countFits, fewBuffers, nodeFits, smallBody, withinCeilings, allWithin, allTyped, allSame, sourceCount};
+ghost use Rattle.columns.specs.Grounds.{countFits, fewBuffers, nodeFits, smallBody, withinCeilings, columnGround, fewSources, allWithin, allTyped, allSame, allObey, sourcesGround};
 
 // ---- ground 9
 
@@ -85,6 +85,36 @@ fn is_small(body: &[u8]) -> bool
     body.len() <= 4294967295
 }
 
+// THE GROUND OF ONE COLUMN of n nodes from node `first` on: 9, 10 or 12, and 0 where it is accepted.
+pub fn column_ground(
+    formats: &[u8],
+    schema: &[u32],
+    lengths: &[u64],
+    places: &[u32],
+    buffers: &[u32],
+    body: &[u8],
+    first: u32,
+    n: u32,
+) -> u8
+    ensures { λ r. ⌜ r ≡ columnGround (now (formats .entry)) (now (schema .entry)) (tablesOf (now (lengths .entry)) (now (places .entry)) (now (buffers .entry)) (now (body .entry))) first n ⌝ }
+{
+    if !is_small(body) {
+        return 9;
+    }
+    if !is_within(formats, schema, lengths, places, first, n) {
+        return 9;
+    }
+    let from = first as usize;
+    let nodes = n as usize;
+    if !schema::is_typed(formats, schema, from, nodes) {
+        return 10;
+    }
+    if !source_rules::source_ok(formats, schema, lengths, places, buffers, body, from, nodes) {
+        return 12;
+    }
+    0
+}
+
 // ---- all sources
 
 // Whether every source passes no ceiling: ground 9 where not.
@@ -144,4 +174,82 @@ fn all_same(sources: &[u32], formats: &[u8], schema: &[u32]) -> bool
         s += 1;
     }
     true
+}
+
+// Whether every source obeys the rules of its nodes: ground 12 where not.
+fn all_obey(
+    sources: &[u32],
+    formats: &[u8],
+    schema: &[u32],
+    lengths: &[u64],
+    places: &[u32],
+    buffers: &[u32],
+    body: &[u8],
+) -> bool
+    requires { ⌜ (allWithin (now formats) (now schema) (tables (now lengths) (now places) []) (now sources) ≡ true) × (allTyped (now formats) (now schema) (now sources) ≡ true) ⌝ }
+    ensures { λ r. ⌜ r ≡ allObey (now (formats .entry)) (now (schema .entry)) (tablesOf (now (lengths .entry)) (now (places .entry)) (now (buffers .entry)) (now (body .entry))) (now (sources .entry)) ⌝ }
+{
+    let m = sources.len() / 2;
+    let mut s = 0;
+    while s < m {
+        let first = lent_tables::at_u32(sources, 2 * s) as usize;
+        let nodes = lent_tables::at_u32(sources, 2 * s + 1) as usize;
+        if !source_rules::source_ok(
+            formats,
+            schema,
+            lengths,
+            places,
+            buffers,
+            body,
+            first,
+            nodes,
+        ) {
+            return false;
+        }
+        s += 1;
+    }
+    true
+}
+
+// Whether there are 1 to 16 sources.
+fn are_few(sources: &[u32]) -> bool
+    ensures { λ r. ⌜ r ≡ fewSources (now (sources .entry)) ⌝ }
+{
+    let m = sources.len() / 2;
+    let some = 1 <= m;
+    let few = m <= 16;
+    some & few
+}
+
+// THE GROUND OF ALL SOURCES: 9 to 12, and 0 where they are accepted.
+pub fn sources_ground(
+    sources: &[u32],
+    formats: &[u8],
+    schema: &[u32],
+    lengths: &[u64],
+    places: &[u32],
+    buffers: &[u32],
+    body: &[u8],
+) -> u8
+    ensures { λ r. ⌜ r ≡ sourcesGround (now (formats .entry)) (now (schema .entry)) (tablesOf (now (lengths .entry)) (now (places .entry)) (now (buffers .entry)) (now (body .entry))) (now (sources .entry)) ⌝ }
+{
+    if !is_small(body) {
+        return 9;
+    }
+    if !are_few(sources) {
+        return 9;
+    }
+    if !all_within(sources, formats, schema, lengths, places) {
+        return 9;
+    }
+    if !all_typed(sources, formats, schema) {
+        return 10;
+    }
+    if !all_same(sources, formats, schema) {
+        return 11;
+    }
+    if !all_obey(sources, formats, schema, lengths, places, buffers, body) {
+        return 12;
+    }
+    0
 }
