@@ -31,7 +31,7 @@ and-no true b h = h
 and-no false b h = refl
 
 -- a code of a later range is none of an earlier one
-later : (a b c d x : ℕ) → between c d x ≡ true → b < c → between a b x ≡ false
+pub later : (a b c d x : ℕ) → between c d x ≡ true → b < c → between a b x ≡ false
 later a b c d x h l =
     let up = leb-true c x (both (leb c x) (leb x d) h .0) in
     and-no (leb a x) (leb x b) (lt-leb x b (omega arith))
@@ -76,7 +76,7 @@ module _ (code : ℕ) (single : Bool) (ids : Option (List ℕ)) (next : ℕ) whe
       ∙ cond-yes (isRunEnd code) _ _ h
 
 -- the number of a fixed-width code has its bytes
-number-or : (code : ℕ) → isFixed code ≡ true → width (numberOr (numberOf code)) ≡ widthOf code
+pub number-or : (code : ℕ) → isFixed code ≡ true → width (numberOr (numberOf code)) ≡ widthOf code
 number-or code h =
     let p = fixed-number code h in
     ap (λ o. width (numberOr o)) (p .1) ∙ number-width code (p .0) (p .1)
@@ -88,7 +88,7 @@ plainKind (string w) = stringNode w
 
 -- ---- the widths and keys of codes
 
-string-width : (c : ℕ) → isString c ≡ true → OffsetWidth (widthOf c)
+pub string-width : (c : ℕ) → isString c ≡ true → OffsetWidth (widthOf c)
 string-width c h = go (eqb c 11) refl (eqb c 12) refl (eqb c 13) refl
   where
     go : (x : Bool) → eqb c 11 ≡ x → (y : Bool) → eqb c 12 ≡ y → (z : Bool) → eqb c 13 ≡ z → OffsetWidth (widthOf c)
@@ -105,7 +105,7 @@ string-width c h = go (eqb c 11) refl (eqb c 12) refl (eqb c 13) refl
         let is : 14 ≡ c = omega arith in
         subst (λ k. OffsetWidth (widthOf k)) is eight
 
-list-width : (c : ℕ) → isListView c ≡ true → OffsetWidth (widthOf c)
+pub list-width : (c : ℕ) → isListView c ≡ true → OffsetWidth (widthOf c)
 list-width c h = go (eqb c 17) refl
   where
     go : (x : Bool) → eqb c 17 ≡ x → OffsetWidth (widthOf c)
@@ -134,7 +134,7 @@ ends-code c h = go (either (eqb c 3 || eqb c 5) (eqb c 7) h)
     go (inl e) = low (either (eqb c 3) (eqb c 5) e)
     go (inr e) = subst EndsCode (sym (eqb-true c 7 e)) (record { is-fixed = refl; ends-width = RunWidth.eight })
 
-integer-fixed : (c : ℕ) → isInteger c ≡ true → isFixed c ≡ true
+pub integer-fixed : (c : ℕ) → isInteger c ≡ true → isFixed c ≡ true
 integer-fixed c h =
     let p = both (leb 1 c) (leb c 8) h in
     let top = leb-true c 8 (p .1) in
@@ -202,27 +202,27 @@ module _ (formats schema : List ℕ) (first : ℕ) where
   abbrev numberAt : ℕ → Number
   numberAt i = numberOr (numberOf (code i))
 
-  at-fixed : (i : ℕ) → isFixed (code i) ≡ true → single i ≡ true → kindAt formats schema first i ≡ fixedNode (numberAt i)
+  pub at-fixed : (i : ℕ) → isFixed (code i) ≡ true → single i ≡ true → kindAt formats schema first i ≡ fixedNode (numberAt i)
   unfolding kindAt
   at-fixed i h s = kind-fixed (code i) (single i) (idsOf formats schema first i) (code (suc i)) h ∙ ap (λ b. numberKind b (numberAt i)) s
 
-  at-keys : (i : ℕ) → isFixed (code i) ≡ true → single i ≡ false → kindAt formats schema first i ≡ dictionaryNode (numberAt i)
+  pub at-keys : (i : ℕ) → isFixed (code i) ≡ true → single i ≡ false → kindAt formats schema first i ≡ dictionaryNode (numberAt i)
   unfolding kindAt
   at-keys i h s = kind-fixed (code i) (single i) (idsOf formats schema first i) (code (suc i)) h ∙ ap (λ b. numberKind b (numberAt i)) s
 
-  at-string : (i : ℕ) → isString (code i) ≡ true → kindAt formats schema first i ≡ stringNode (widthOf (code i))
+  pub at-string : (i : ℕ) → isString (code i) ≡ true → kindAt formats schema first i ≡ stringNode (widthOf (code i))
   unfolding kindAt
   at-string i h = kind-string (code i) (single i) (idsOf formats schema first i) (code (suc i)) h
 
-  at-view : (i : ℕ) → isView (code i) ≡ true → kindAt formats schema first i ≡ viewNode
+  pub at-view : (i : ℕ) → isView (code i) ≡ true → kindAt formats schema first i ≡ viewNode
   unfolding kindAt
   at-view i h = kind-view (code i) (single i) (idsOf formats schema first i) (code (suc i)) h
 
-  at-list : (i : ℕ) → isListView (code i) ≡ true → kindAt formats schema first i ≡ listViewNode (widthOf (code i))
+  pub at-list : (i : ℕ) → isListView (code i) ≡ true → kindAt formats schema first i ≡ listViewNode (widthOf (code i))
   unfolding kindAt
   at-list i h = kind-list (code i) (single i) (idsOf formats schema first i) (code (suc i)) h
 
-  at-union : (i : ℕ) → isUnion (code i) ≡ true → kindAt formats schema first i ≡ unionKind (eqb (code i) 19) (idsOr (idsOf formats schema first i))
+  pub at-union : (i : ℕ) → isUnion (code i) ≡ true → kindAt formats schema first i ≡ unionKind (eqb (code i) 19) (idsOr (idsOf formats schema first i))
   unfolding kindAt
   at-union i h = kind-union (code i) (single i) (idsOf formats schema first i) (code (suc i)) h
 
@@ -322,7 +322,7 @@ module _ (formats schema : List ℕ) (first : ℕ) where
       (bare-below (suc i) (s .1))
       (subst RunWidth (sym (number-or c f)) (d .ends-width))
 
-  five : {A : Type 0} (a b c d e : Bool) → a || b || c || d || e ≡ true → (a ≡ true → A) → (b ≡ true → A) → (c ≡ true → A) → (d ≡ true → A) → (e ≡ true → A) → A
+  pub five : {A : Type 0} (a b c d e : Bool) → a || b || c || d || e ≡ true → (a ≡ true → A) → (b ≡ true → A) → (c ≡ true → A) → (d ≡ true → A) → (e ≡ true → A) → A
   five true b c d e h p q r s t = p refl
   five false true c d e h p q r s t = q refl
   five false false true d e h p q r s t = r refl
