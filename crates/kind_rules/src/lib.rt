@@ -1,7 +1,7 @@
 // The rule of one node of a lent column (ground 12; docs/FORMAT.md): views, dictionaries and unions. Where its buffers lie, its validity,
 // and its rows by its kind; every function is right whatever the tables hold.
 ghost use mathlib.Core.Path.{_≡_};
-ghost use mathlib.Core.Bool.{true};
+ghost use mathlib.Core.Bool.{true, false};
 ghost use mathlib.Core.List.{[], List·Memᴰ};
 ghost use mathlib.Core.Option.{some};
 ghost use Prim.Native.Nat.{ℕ, _+_, _*_, _≤_, _<_, _^_, min};
@@ -12,7 +12,7 @@ ghost use Rattle.slot_rules.specs.Slots.{keysBelow, validKeysBelow};
 ghost use Rattle.array_data.specs.Tables.{lengthOf};
 ghost use Rattle.array_data.specs.Rules.{oneIn, twoIn, buffersIn, viewRule, dictionaryRule, sparseRule, denseRule};
 ghost use Rattle.array_data.specs.Typed.{fieldOf};
-ghost use Rattle.lent_tables.specs.Lent.{tables, Counted};
+ghost use Rattle.lent_tables.specs.Lent.{tables, Counted, maskOf};
 ghost use Rattle.kind_rules.specs.Rows.{tablesOf, Ready, viewRows, keyRows, reach, sparseRows, denseRows};
 
 // One more than the largest key by code, from code 0 on; of the keys of code 8 the largest itself, as a u64 has no number above it.
@@ -171,6 +171,14 @@ pub fn dictionary_rule(lengths: &[u64], places: &[u32], body: &[u8], k: usize, c
     key_rows(lengths, places, body, k, formats::width_of(code), bound)
 }
 
+// "no validity buffer on a union"
+fn no_mask(lengths: &[u64], places: &[u32], body: &[u8], k: usize) -> bool
+    requires { ⌜ Counted (tables (now lengths) (now places) (now body)) k ⌝ }
+    ensures { λ r. ⌜ r ≡ maskOf (tables (now (lengths .entry)) (now (places .entry)) (now (body .entry))) k false ⌝ }
+{
+    lent_tables::mask_holds(lengths, places, body, k, false)
+}
+
 // Whether the child of each id has at least count slots; lens has the children's lengths in field order.
 fn children_reach(ids: &[u8], lens: &[u64], count: u64) -> bool
     ensures { λ r. ⌜ r ≡ reach (now (ids .entry)) (now (lens .entry)) count ⌝ }
@@ -204,8 +212,8 @@ fn sparse_rows(
     }
     let off = lent_tables::offset_of(lengths, k) as usize;
     let n = lent_tables::length_of(lengths, k) as usize;
-    let at = (lent_tables::place(places, k, 3) as usize) + off;
-    if !slot_rules::ids_declared(body, at, n, ids) {
+    let start = lent_tables::place(places, k, 3) as usize;
+    if !slot_rules::ids_declared(body, start + off, n, ids) {
         return false;
     }
     children_reach(ids, lens, count)
@@ -226,7 +234,7 @@ pub fn sparse_rule(
     if !lent_tables::one_in(lengths, places, body, k) {
         return false;
     }
-    if !lent_tables::mask_holds(lengths, places, body, k, false) {
+    if !no_mask(lengths, places, body, k) {
         return false;
     }
     sparse_rows(lengths, places, body, k, ids, lens)
@@ -276,7 +284,7 @@ pub fn dense_rule(
     if !lent_tables::two_in(lengths, places, body, k) {
         return false;
     }
-    if !lent_tables::mask_holds(lengths, places, body, k, false) {
+    if !no_mask(lengths, places, body, k) {
         return false;
     }
     dense_rows(lengths, places, body, k, ids, lens)

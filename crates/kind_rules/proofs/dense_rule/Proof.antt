@@ -14,15 +14,15 @@ two-in-requires c κs = search needs
 returns : tie.Need-returns
 returns c = λ node sizes. rw (no (c .before .two-in .ensures) (c .if1 .taken))
 
-mask-holds-requires : tie.Need-mask-holds-requires
-mask-holds-requires c κs = search needs
+no-mask-requires : tie.Need-no-mask-requires
+no-mask-requires c κs = search needs
 
 returns-2 : tie.Need-returns-2
 returns-2 c =
     let a = c .before .before .before .before .before .before .before .before .before .args in
     let x = tables (a .lengths .now) (a .places .now) (a .body .now) in
     let h = yes {a = twoIn x (a .k)} (c .before .before .before .two-in .ensures) (c .before .before .if1 .left) in
-    λ node sizes. rw (h, no (c .before .mask-holds .ensures) (c .if2 .taken))
+    λ node sizes. rw (h, no (c .before .no-mask .ensures) (c .if2 .taken))
 
 dense-rows-requires : tie.Need-dense-rows-requires
 dense-rows-requires c κs =
@@ -36,7 +36,7 @@ returns-3 c =
     let a = c .before .before .before .before .before .before .before .before .before .before .args in
     let x = tables (a .lengths .now) (a .places .now) (a .body .now) in
     let h = yes {a = twoIn x (a .k)} (c .before .before .before .before .two-in .ensures) (c .before .before .before .if1 .left) in
-    λ node sizes. dense-last x (a .k) (a .ids .now) (a .lens .now) (yes {a = maskOf x (a .k) false} (c .before .before .mask-holds .ensures) (c .before .if2 .left)) node sizes h (c .dense-rows .ensures)
+    λ node sizes. dense-last x (a .k) (a .ids .now) (a .lens .now) (yes {a = maskOf x (a .k) false} (c .before .before .no-mask .ensures) (c .before .if2 .left)) node sizes h (c .dense-rows .ensures)
 
 pub dense-rule-spec : {M : Type 1} → statement M
 dense-rule-spec =
@@ -44,7 +44,7 @@ dense-rule-spec =
     (tie.spec
     two-in-requires
     returns
-    mask-holds-requires
+    no-mask-requires
     returns-2
     dense-rows-requires
     returns-3)

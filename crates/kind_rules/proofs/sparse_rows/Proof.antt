@@ -33,11 +33,11 @@ length-of-requires c κs = search needs
 place-requires-2 : tie.Need-place-requires-2
 place-requires-2 c κs = search needs
 
-cast-at : tie.Need-cast-at
-cast-at c = search needs
+cast-start : tie.Need-cast-start
+cast-start c = search needs
 
-add-at : tie.Need-add-at
-add-at c =
+add-ids-declared : tie.Need-add-ids-declared
+add-ids-declared c =
     let a = c .before .before .before .before .before .before .before .before .before .before .before .args in
     let x = tables (a .lengths .now) (a .places .now) (a .body .now) in
     omega (arith, first-in x (a .k) (c .before .before .before .before .before .before .before .before .before .before .before .pre .1), c .before .before .before .before .before .count-of .ensures, c .before .before .before .before .place .ensures, c .place2 .ensures, c .before .before .offset-of .ensures)
@@ -76,8 +76,8 @@ sparse-rows-spec =
     offset-of-requires
     length-of-requires
     place-requires-2
-    cast-at
-    add-at
+    cast-start
+    add-ids-declared
     ids-declared-requires
     returns-2
     children-reach-requires
