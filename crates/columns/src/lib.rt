@@ -7,7 +7,7 @@ ghost use lib.ListN.{length};
 ghost use Rattle.schema.specs.Tree.{every};
 ghost use Rattle.lent_tables.specs.Lent.{tables};
 ghost use Rattle.kind_rules.specs.Rows.{tablesOf};
-ghost use Rattle.columns.specs.Grounds.{countFits, fewBuffers, nodeFits, smallBody, withinCeilings, columnGround, fewSources, allWithin, allTyped, allSame, allObey, sourcesGround};
+ghost use Rattle.columns.specs.Grounds.{countFits, fewBuffers, nodeFits, smallBody, withinCeilings, columnGround, firstOf, nodesOf, fewSources, allWithin, allTyped, allSame, allObey, sourcesGround};
 
 // ---- ground 9
 
@@ -117,6 +117,22 @@ pub fn column_ground(
 
 // ---- all sources
 
+// The first node of source s.
+fn first_of(sources: &[u32], s: usize) -> u32
+    requires { ⌜ s < 2 ^ 62 ⌝ }
+    ensures { λ r. ⌜ r ≡ firstOf (now (sources .entry)) s ⌝ }
+{
+    lent_tables::at_u32(sources, 2 * s)
+}
+
+// How many nodes source s has.
+fn nodes_of(sources: &[u32], s: usize) -> u32
+    requires { ⌜ s < 2 ^ 62 ⌝ }
+    ensures { λ r. ⌜ r ≡ nodesOf (now (sources .entry)) s ⌝ }
+{
+    lent_tables::at_u32(sources, 2 * s + 1)
+}
+
 // Whether every source passes no ceiling: ground 9 where not.
 fn all_within(
     sources: &[u32],
@@ -130,8 +146,8 @@ fn all_within(
     let m = sources.len() / 2;
     let mut s = 0;
     while s < m {
-        let first = lent_tables::at_u32(sources, 2 * s);
-        let nodes = lent_tables::at_u32(sources, 2 * s + 1);
+        let first = first_of(sources, s);
+        let nodes = nodes_of(sources, s);
         if !is_within(formats, schema, lengths, places, first, nodes) {
             return false;
         }
@@ -147,8 +163,8 @@ fn all_typed(sources: &[u32], formats: &[u8], schema: &[u32]) -> bool
     let m = sources.len() / 2;
     let mut s = 0;
     while s < m {
-        let first = lent_tables::at_u32(sources, 2 * s) as usize;
-        let nodes = lent_tables::at_u32(sources, 2 * s + 1) as usize;
+        let first = first_of(sources, s) as usize;
+        let nodes = nodes_of(sources, s) as usize;
         if !schema::is_typed(formats, schema, first, nodes) {
             return false;
         }
@@ -161,13 +177,13 @@ fn all_typed(sources: &[u32], formats: &[u8], schema: &[u32]) -> bool
 fn all_same(sources: &[u32], formats: &[u8], schema: &[u32]) -> bool
     ensures { λ r. ⌜ r ≡ allSame (now (formats .entry)) (now (schema .entry)) (now (sources .entry)) ⌝ }
 {
-    let first = lent_tables::at_u32(sources, 0) as usize;
-    let nodes = lent_tables::at_u32(sources, 1) as usize;
+    let first = first_of(sources, 0) as usize;
+    let nodes = nodes_of(sources, 0) as usize;
     let m = sources.len() / 2;
     let mut s = 0;
     while s < m {
-        let first2 = lent_tables::at_u32(sources, 2 * s) as usize;
-        let nodes2 = lent_tables::at_u32(sources, 2 * s + 1) as usize;
+        let first2 = first_of(sources, s) as usize;
+        let nodes2 = nodes_of(sources, s) as usize;
         if !schema::same_type(formats, schema, first, nodes, first2, nodes2) {
             return false;
         }
@@ -189,21 +205,12 @@ fn all_obey(
     requires { ⌜ (allWithin (now formats) (now schema) (tables (now lengths) (now places) []) (now sources) ≡ true) × (allTyped (now formats) (now schema) (now sources) ≡ true) ⌝ }
     ensures { λ r. ⌜ r ≡ allObey (now (formats .entry)) (now (schema .entry)) (tablesOf (now (lengths .entry)) (now (places .entry)) (now (buffers .entry)) (now (body .entry))) (now (sources .entry)) ⌝ }
 {
-    let m = sources.len() / 2;
+    let count = sources.len() / 2;
     let mut s = 0;
-    while s < m {
-        let first = lent_tables::at_u32(sources, 2 * s) as usize;
-        let nodes = lent_tables::at_u32(sources, 2 * s + 1) as usize;
-        if !source_rules::source_ok(
-            formats,
-            schema,
-            lengths,
-            places,
-            buffers,
-            body,
-            first,
-            nodes,
-        ) {
+    while s < count {
+        let from = first_of(sources, s) as usize;
+        let size = nodes_of(sources, s) as usize;
+        if !source_rules::source_ok(formats, schema, lengths, places, buffers, body, from, size) {
             return false;
         }
         s += 1;

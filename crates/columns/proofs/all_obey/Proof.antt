@@ -16,34 +16,25 @@ use Rattle.columns.proofs.all_obey.Statement.{statement}
 use Rattle.columns.proofs.all_obey.Tie as tie
 
 abbrev Inv-loop : tie.InvT-loop
-Inv-loop sources formats schema lengths places buffers body m s₀ s = (s ≤ sourceCount sources) × ((j : ℕ) → j < s → of-source (obeys formats schema (tablesOf lengths places buffers body)) sources j ≡ true)
+Inv-loop sources formats schema lengths places buffers body count s₀ s = (s ≤ sourceCount sources) × ((j : ℕ) → j < s → of-source (obeys formats schema (tablesOf lengths places buffers body)) sources j ≡ true)
 
 abbrev μ-loop : tie.MeasureT-loop
-μ-loop sources formats schema lengths places buffers body m s₀ s = sourceCount sources - s
+μ-loop sources formats schema lengths places buffers body count s₀ s = sourceCount sources - s
 
 loop-holds : tie.Need-loop-holds Inv-loop μ-loop
 loop-holds c = (omega arith, λ j h. absurd (omega arith))
 
-mul-at-u32 : tie.Need-mul-at-u32 Inv-loop μ-loop
-mul-at-u32 c = omega arith
+first-of-requires : tie.Need-first-of-requires Inv-loop μ-loop
+first-of-requires c κs = omega arith
 
-at-u32-requires : tie.Need-at-u32-requires Inv-loop μ-loop
-at-u32-requires c κs = omega arith
+cast-from : tie.Need-cast-from Inv-loop μ-loop
+cast-from c = omega arith
 
-cast-first : tie.Need-cast-first Inv-loop μ-loop
-cast-first c = omega arith
+nodes-of-requires : tie.Need-nodes-of-requires Inv-loop μ-loop
+nodes-of-requires c κs = omega arith
 
-mul-at-u32-2 : tie.Need-mul-at-u32-2 Inv-loop μ-loop
-mul-at-u32-2 c = omega arith
-
-add-at-u32 : tie.Need-add-at-u32 Inv-loop μ-loop
-add-at-u32 c = omega arith
-
-at-u32-requires-2 : tie.Need-at-u32-requires-2 Inv-loop μ-loop
-at-u32-requires-2 c κs = omega arith
-
-cast-nodes : tie.Need-cast-nodes Inv-loop μ-loop
-cast-nodes c = omega arith
+cast-size : tie.Need-cast-size Inv-loop μ-loop
+cast-size c = omega arith
 
 source-ok-requires : tie.Need-source-ok-requires Inv-loop μ-loop
 source-ok-requires c κs =
@@ -51,7 +42,7 @@ source-ok-requires c κs =
     let l = c .before .before .before .loop in
     let x = tablesOf (z .lengths .now) (z .places .now) (z .buffers .now) (z .body .now) in
     let same = all-within-as (z .formats .now) (z .schema .now) (z .lengths .now) (z .places .now) (z .buffers .now) (z .body .now) (z .sources .now) in
-    ready-at (z .formats .now) (z .schema .now) x (z .sources .now) (sym same ∙ c .before .before .before .before .before .before .before .before .before .before .before .pre .0) (c .before .before .before .before .before .before .before .before .before .before .before .pre .1) (l .s) (omega arith) _ _ (c .before .at-u32 .ensures) (c .at-u322 .ensures) (omega arith)
+    ready-at (z .formats .now) (z .schema .now) x (z .sources .now) (sym same ∙ c .before .before .before .before .before .before .before .before .before .before .before .pre .0) (c .before .before .before .before .before .before .before .before .before .before .before .pre .1) (l .s) (omega arith) _ _ (c .before .first-of .ensures) (c .nodes-of .ensures) (omega arith)
 
 returns : tie.Need-returns Inv-loop μ-loop
 unfolding allObey obeys
@@ -59,7 +50,7 @@ returns c =
     let z = c .before .before .before .before .before .before .before .before .before .before .before .before .before .args in
     let l = c .before .before .before .before .before .loop in
     let f = obeys (z .formats .now) (z .schema .now) (tablesOf (z .lengths .now) (z .places .now) (z .buffers .now) (z .body .now)) in
-    sym (every-not (of-source f (z .sources .now)) (sourceCount (z .sources .now)) (l .s) (omega arith) (no (at-source f (z .sources .now) (l .s) (c .before .source-ok .ensures) (c .before .before .before .at-u32 .ensures) (c .before .before .at-u322 .ensures)) (c .if1 .taken)))
+    sym (every-not (of-source f (z .sources .now)) (sourceCount (z .sources .now)) (l .s) (omega arith) (no (at-source f (z .sources .now) (l .s) (c .before .source-ok .ensures) (c .before .before .before .first-of .ensures) (c .before .before .nodes-of .ensures)) (c .if1 .taken)))
 
 add-s : tie.Need-add-s Inv-loop μ-loop
 add-s c = omega arith
@@ -73,7 +64,7 @@ loop-again c =
     let z = c .before .before .before .before .before .before .before .before .before .before .before .before .before .args in
     let l = c .before .before .before .before .before .loop in
     let f = obeys (z .formats .now) (z .schema .now) (tablesOf (z .lengths .now) (z .places .now) (z .buffers .now) (z .body .now)) in
-    (omega arith, below-more (λ j. of-source f (z .sources .now) j ≡ true) (l .s) (l .inv .1) (yes (at-source f (z .sources .now) (l .s) (c .before .source-ok .ensures) (c .before .before .before .at-u32 .ensures) (c .before .before .at-u322 .ensures)) (c .if1 .left)))
+    (omega arith, below-more (λ j. of-source f (z .sources .now) j ≡ true) (l .s) (l .inv .1) (yes (at-source f (z .sources .now) (l .s) (c .before .source-ok .ensures) (c .before .before .before .first-of .ensures) (c .before .before .nodes-of .ensures)) (c .if1 .left)))
 
 returns-2 : tie.Need-returns-2 Inv-loop μ-loop
 unfolding allObey obeys
@@ -88,13 +79,10 @@ all-obey-spec =
     Inv-loop
     μ-loop
     loop-holds
-    mul-at-u32
-    at-u32-requires
-    cast-first
-    mul-at-u32-2
-    add-at-u32
-    at-u32-requires-2
-    cast-nodes
+    first-of-requires
+    cast-from
+    nodes-of-requires
+    cast-size
     source-ok-requires
     returns
     add-s

@@ -19,38 +19,29 @@ Inv-loop sources formats schema first nodes m s₀ s = (s ≤ sourceCount source
 abbrev μ-loop : tie.MeasureT-loop
 μ-loop sources formats schema first nodes m s₀ s = sourceCount sources - s
 
-at-u32-requires : tie.Need-at-u32-requires Inv-loop μ-loop
-at-u32-requires c κs = omega arith
+first-of-requires : tie.Need-first-of-requires Inv-loop μ-loop
+first-of-requires c κs = omega arith
 
 cast-first : tie.Need-cast-first Inv-loop μ-loop
 cast-first c = omega arith
 
-at-u32-requires-2 : tie.Need-at-u32-requires-2 Inv-loop μ-loop
-at-u32-requires-2 c κs = omega arith
+nodes-of-requires : tie.Need-nodes-of-requires Inv-loop μ-loop
+nodes-of-requires c κs = omega arith
 
 cast-nodes : tie.Need-cast-nodes Inv-loop μ-loop
 cast-nodes c = omega arith
 
 loop-holds : tie.Need-loop-holds Inv-loop μ-loop
-loop-holds c = (omega arith, c .before .at-u32 .ensures, c .at-u322 .ensures, λ j h. absurd (omega arith))
+loop-holds c = (omega arith, c .before .first-of .ensures, c .nodes-of .ensures, λ j h. absurd (omega arith))
 
-mul-at-u32 : tie.Need-mul-at-u32 Inv-loop μ-loop
-mul-at-u32 c = omega arith
-
-at-u32-requires-3 : tie.Need-at-u32-requires-3 Inv-loop μ-loop
-at-u32-requires-3 c κs = omega arith
+first-of-requires-2 : tie.Need-first-of-requires-2 Inv-loop μ-loop
+first-of-requires-2 c κs = omega arith
 
 cast-first2 : tie.Need-cast-first2 Inv-loop μ-loop
 cast-first2 c = omega arith
 
-mul-at-u32-2 : tie.Need-mul-at-u32-2 Inv-loop μ-loop
-mul-at-u32-2 c = omega arith
-
-add-at-u32 : tie.Need-add-at-u32 Inv-loop μ-loop
-add-at-u32 c = omega arith
-
-at-u32-requires-4 : tie.Need-at-u32-requires-4 Inv-loop μ-loop
-at-u32-requires-4 c κs = omega arith
+nodes-of-requires-2 : tie.Need-nodes-of-requires-2 Inv-loop μ-loop
+nodes-of-requires-2 c κs = omega arith
 
 cast-nodes2 : tie.Need-cast-nodes2 Inv-loop μ-loop
 cast-nodes2 c = omega arith
@@ -64,7 +55,7 @@ returns c =
     let z = c .before .before .before .before .before .before .before .before .before .before .before .args in
     let l = c .before .before .before .before .before .loop in
     let f = sameType (z .formats .now) (z .schema .now) (firstOf (z .sources .now) 0) (nodesOf (z .sources .now) 0) in
-    sym (every-not (of-source f (z .sources .now)) (sourceCount (z .sources .now)) (l .s) (omega arith) (no (at-source f (z .sources .now) (l .s) (first-is (z .formats .now) (z .schema .now) (z .sources .now) _ _ (l .inv .1) (l .inv .2) (c .before .same-type .ensures)) (c .before .before .before .at-u323 .ensures) (c .before .before .at-u324 .ensures)) (c .if1 .taken)))
+    sym (every-not (of-source f (z .sources .now)) (sourceCount (z .sources .now)) (l .s) (omega arith) (no (at-source f (z .sources .now) (l .s) (first-is (z .formats .now) (z .schema .now) (z .sources .now) _ _ (l .inv .1) (l .inv .2) (c .before .same-type .ensures)) (c .before .before .before .first-of2 .ensures) (c .before .before .nodes-of2 .ensures)) (c .if1 .taken)))
 
 add-s : tie.Need-add-s Inv-loop μ-loop
 add-s c = omega arith
@@ -77,7 +68,7 @@ loop-again c =
     let z = c .before .before .before .before .before .before .before .before .before .before .before .args in
     let l = c .before .before .before .before .before .loop in
     let f = sameType (z .formats .now) (z .schema .now) (firstOf (z .sources .now) 0) (nodesOf (z .sources .now) 0) in
-    (omega arith, l .inv .1, l .inv .2, below-more (λ j. of-source f (z .sources .now) j ≡ true) (l .s) (l .inv .3) (yes (at-source f (z .sources .now) (l .s) (first-is (z .formats .now) (z .schema .now) (z .sources .now) _ _ (l .inv .1) (l .inv .2) (c .before .same-type .ensures)) (c .before .before .before .at-u323 .ensures) (c .before .before .at-u324 .ensures)) (c .if1 .left)))
+    (omega arith, l .inv .1, l .inv .2, below-more (λ j. of-source f (z .sources .now) j ≡ true) (l .s) (l .inv .3) (yes (at-source f (z .sources .now) (l .s) (first-is (z .formats .now) (z .schema .now) (z .sources .now) _ _ (l .inv .1) (l .inv .2) (c .before .same-type .ensures)) (c .before .before .before .first-of2 .ensures) (c .before .before .nodes-of2 .ensures)) (c .if1 .left)))
 
 returns-2 : tie.Need-returns-2 Inv-loop μ-loop
 unfolding allSame
@@ -91,17 +82,14 @@ all-same-spec =
     (tie.spec
     Inv-loop
     μ-loop
-    at-u32-requires
+    first-of-requires
     cast-first
-    at-u32-requires-2
+    nodes-of-requires
     cast-nodes
     loop-holds
-    mul-at-u32
-    at-u32-requires-3
+    first-of-requires-2
     cast-first2
-    mul-at-u32-2
-    add-at-u32
-    at-u32-requires-4
+    nodes-of-requires-2
     cast-nodes2
     same-type-requires
     returns

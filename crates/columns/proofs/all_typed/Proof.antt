@@ -22,23 +22,14 @@ abbrev μ-loop : tie.MeasureT-loop
 loop-holds : tie.Need-loop-holds Inv-loop μ-loop
 loop-holds c = (omega arith, λ j h. absurd (omega arith))
 
-mul-at-u32 : tie.Need-mul-at-u32 Inv-loop μ-loop
-mul-at-u32 c = omega arith
-
-at-u32-requires : tie.Need-at-u32-requires Inv-loop μ-loop
-at-u32-requires c κs = omega arith
+first-of-requires : tie.Need-first-of-requires Inv-loop μ-loop
+first-of-requires c κs = omega arith
 
 cast-first : tie.Need-cast-first Inv-loop μ-loop
 cast-first c = omega arith
 
-mul-at-u32-2 : tie.Need-mul-at-u32-2 Inv-loop μ-loop
-mul-at-u32-2 c = omega arith
-
-add-at-u32 : tie.Need-add-at-u32 Inv-loop μ-loop
-add-at-u32 c = omega arith
-
-at-u32-requires-2 : tie.Need-at-u32-requires-2 Inv-loop μ-loop
-at-u32-requires-2 c κs = omega arith
+nodes-of-requires : tie.Need-nodes-of-requires Inv-loop μ-loop
+nodes-of-requires c κs = omega arith
 
 cast-nodes : tie.Need-cast-nodes Inv-loop μ-loop
 cast-nodes c = omega arith
@@ -52,7 +43,7 @@ returns c =
     let z = c .before .before .before .before .before .before .before .before .before .args in
     let l = c .before .before .before .before .before .loop in
     let f = typed (z .formats .now) (z .schema .now) in
-    sym (every-not (of-source f (z .sources .now)) (sourceCount (z .sources .now)) (l .s) (omega arith) (no (at-source f (z .sources .now) (l .s) (c .before .is-typed .ensures) (c .before .before .before .at-u32 .ensures) (c .before .before .at-u322 .ensures)) (c .if1 .taken)))
+    sym (every-not (of-source f (z .sources .now)) (sourceCount (z .sources .now)) (l .s) (omega arith) (no (at-source f (z .sources .now) (l .s) (c .before .is-typed .ensures) (c .before .before .before .first-of .ensures) (c .before .before .nodes-of .ensures)) (c .if1 .taken)))
 
 add-s : tie.Need-add-s Inv-loop μ-loop
 add-s c = omega arith
@@ -65,7 +56,7 @@ loop-again c =
     let z = c .before .before .before .before .before .before .before .before .before .args in
     let l = c .before .before .before .before .before .loop in
     let f = typed (z .formats .now) (z .schema .now) in
-    (omega arith, below-more (λ j. of-source f (z .sources .now) j ≡ true) (l .s) (l .inv .1) (yes (at-source f (z .sources .now) (l .s) (c .before .is-typed .ensures) (c .before .before .before .at-u32 .ensures) (c .before .before .at-u322 .ensures)) (c .if1 .left)))
+    (omega arith, below-more (λ j. of-source f (z .sources .now) j ≡ true) (l .s) (l .inv .1) (yes (at-source f (z .sources .now) (l .s) (c .before .is-typed .ensures) (c .before .before .before .first-of .ensures) (c .before .before .nodes-of .ensures)) (c .if1 .left)))
 
 returns-2 : tie.Need-returns-2 Inv-loop μ-loop
 unfolding allTyped
@@ -80,12 +71,9 @@ all-typed-spec =
     Inv-loop
     μ-loop
     loop-holds
-    mul-at-u32
-    at-u32-requires
+    first-of-requires
     cast-first
-    mul-at-u32-2
-    add-at-u32
-    at-u32-requires-2
+    nodes-of-requires
     cast-nodes
     is-typed-requires
     returns

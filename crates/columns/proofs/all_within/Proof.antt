@@ -23,20 +23,11 @@ abbrev μ-loop : tie.MeasureT-loop
 loop-holds : tie.Need-loop-holds Inv-loop μ-loop
 loop-holds c = (omega arith, λ j h. absurd (omega arith))
 
-mul-at-u32 : tie.Need-mul-at-u32 Inv-loop μ-loop
-mul-at-u32 c = omega arith
+first-of-requires : tie.Need-first-of-requires Inv-loop μ-loop
+first-of-requires c κs = omega arith
 
-at-u32-requires : tie.Need-at-u32-requires Inv-loop μ-loop
-at-u32-requires c κs = omega arith
-
-mul-at-u32-2 : tie.Need-mul-at-u32-2 Inv-loop μ-loop
-mul-at-u32-2 c = omega arith
-
-add-at-u32 : tie.Need-add-at-u32 Inv-loop μ-loop
-add-at-u32 c = omega arith
-
-at-u32-requires-2 : tie.Need-at-u32-requires-2 Inv-loop μ-loop
-at-u32-requires-2 c κs = omega arith
+nodes-of-requires : tie.Need-nodes-of-requires Inv-loop μ-loop
+nodes-of-requires c κs = omega arith
 
 is-within-requires : tie.Need-is-within-requires Inv-loop μ-loop
 is-within-requires c κs = omega arith
@@ -47,7 +38,7 @@ returns c =
     let z = c .before .before .before .before .before .before .before .before .before .before .before .args in
     let l = c .before .before .before .before .before .loop in
     let f = withinCeilings (z .formats .now) (z .schema .now) (tables (z .lengths .now) (z .places .now) []) in
-    sym (every-not (of-source f (z .sources .now)) (sourceCount (z .sources .now)) (l .s) (omega arith) (no (at-source f (z .sources .now) (l .s) (c .before .is-within .ensures) (c .before .before .before .at-u32 .ensures) (c .before .before .at-u322 .ensures)) (c .if1 .taken)))
+    sym (every-not (of-source f (z .sources .now)) (sourceCount (z .sources .now)) (l .s) (omega arith) (no (at-source f (z .sources .now) (l .s) (c .before .is-within .ensures) (c .before .before .before .first-of .ensures) (c .before .before .nodes-of .ensures)) (c .if1 .taken)))
 
 add-s : tie.Need-add-s Inv-loop μ-loop
 add-s c = omega arith
@@ -60,7 +51,7 @@ loop-again c =
     let z = c .before .before .before .before .before .before .before .before .before .before .before .args in
     let l = c .before .before .before .before .before .loop in
     let f = withinCeilings (z .formats .now) (z .schema .now) (tables (z .lengths .now) (z .places .now) []) in
-    (omega arith, below-more (λ j. of-source f (z .sources .now) j ≡ true) (l .s) (l .inv .1) (yes (at-source f (z .sources .now) (l .s) (c .before .is-within .ensures) (c .before .before .before .at-u32 .ensures) (c .before .before .at-u322 .ensures)) (c .if1 .left)))
+    (omega arith, below-more (λ j. of-source f (z .sources .now) j ≡ true) (l .s) (l .inv .1) (yes (at-source f (z .sources .now) (l .s) (c .before .is-within .ensures) (c .before .before .before .first-of .ensures) (c .before .before .nodes-of .ensures)) (c .if1 .left)))
 
 returns-2 : tie.Need-returns-2 Inv-loop μ-loop
 unfolding allWithin
@@ -75,11 +66,8 @@ all-within-spec =
     Inv-loop
     μ-loop
     loop-holds
-    mul-at-u32
-    at-u32-requires
-    mul-at-u32-2
-    add-at-u32
-    at-u32-requires-2
+    first-of-requires
+    nodes-of-requires
     is-within-requires
     returns
     add-s
