@@ -36,7 +36,7 @@ use Rattle.row_reader.specs.declared.Child.{Child}
 use Rattle.row_reader.specs.declared.Child.the-variants as child
 use Rattle.row_reader.specs.declared.Step.{Step}
 use Rattle.row_reader.specs.declared.Step.the-variants as step
-use Rattle.row_reader.specs.Walk.{refused, endWord, childFrom, childOf, chosen, into, underId, codeWidth, runIn, ran, runsStep, stepBy, stepOn, sighted, stepAt, Walked, walkedTo, under, follow, walk}
+use Rattle.row_reader.specs.Walk.{refused, endWord, childFrom, childOf, chosen, into, underId, codeWidth, runIn, ran, runsStep, stepBy, stepOn, sighted, stepAt, Walked, walkedTo, under, follow, walk, isRefused, kept, rowAt}
 
 -- ---- a union's child
 
@@ -294,3 +294,34 @@ pub read-under : (w v : Walked) (id : ℕ) (old : List ℕ) (count : ℕ) (read 
 read-under w v id old count read ids after e h d =
     subst (λ u. Read u old count read ids after) (sym e)
     (record { row-is = d .row-is; count-is = omega (arith, d .count-is); ids-are = d .ids-are ∙ wrote old (v .ids) count id h })
+
+-- ---- the answer
+
+-- what is answered, with the ids as they were and as they are
+pub record Answered (w : Walked) (old : List ℕ) (read : RowRead) (count : ℕ) (ids : List ℕ) : Type 0 where
+  pub row-is : read ≡ w .read
+  pub count-is : count ≡ length (w .ids)
+  pub ids-are : ids ≡ splice 0 (w .ids) old
+
+module _ (tree : List ℕ) (x : Tables) (r len : ℕ) (e : len ≡ lengthOf x 0) (old : List ℕ) where
+  pub past-last : len ≤ r → Answered (rowAt tree x r) old (row.Refused 2) 0 old
+  unfolding rowAt
+  past-last h =
+      let g : lengthOf x 0 ≤ r = omega arith in
+      let q : rowAt tree x r ≡ walkedTo (row.Refused 2) = rw (le-ltb r (lengthOf x 0) g) in
+      subst (λ v. Answered v old (row.Refused 2) 0 old) (sym q) (record { row-is = refl; count-is = refl; ids-are = sym (splice-nil 0 old) })
+
+  module _ (h : r < len) (read : RowRead) (ids : List ℕ) (count : ℕ) (d : Read (walk tree x 8 0 r) old 0 read ids count) where
+    row-kept : rowAt tree x r ≡ kept (walk tree x 8 0 r)
+    unfolding rowAt
+    row-kept = let g : r < lengthOf x 0 = omega arith in rw (lt-ltb r (lengthOf x 0) g)
+
+    pub answer-none : isRefused read ≡ true → Answered (rowAt tree x r) old read 0 old
+    answer-none f =
+        let q : rowAt tree x r ≡ walkedTo read = row-kept ∙ rw (← d .row-is, f) in
+        subst (λ v. Answered v old read 0 old) (sym q) (record { row-is = refl; count-is = refl; ids-are = sym (splice-nil 0 old) })
+
+    pub answer-some : isRefused read ≡ false → Answered (rowAt tree x r) old read count ids
+    answer-some f =
+        let q : rowAt tree x r ≡ walk tree x 8 0 r = row-kept ∙ rw (← d .row-is, f) in
+        subst (λ v. Answered v old read count ids) (sym q) (record { row-is = d .row-is; count-is = omega (arith, d .count-is); ids-are = d .ids-are })

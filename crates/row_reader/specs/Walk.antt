@@ -137,3 +137,18 @@ module _ (tree : List ℕ) (x : Tables) where
   unfoldable pub walk : ℕ → ℕ → ℕ → Walked
   walk zero i r = walkedTo (row.Refused 9)
   walk (suc f) i r = follow (walk f) (stepAt tree x i r)
+
+-- "A refusal is the number alone."
+abbrev pub isRefused : RowRead → Bool
+isRefused row.Null = false
+isRefused (row.Number l) = false
+isRefused (row.Bytes at len) = false
+isRefused (row.List i a n) = false
+isRefused (row.Refused g) = true
+
+abbrev pub kept : Walked → Walked
+kept w = cond (isRefused (w .read)) (walkedTo (w .read)) w
+
+-- ROW r OF THE COLUMN: "Reading a row not below the length is ground 2."
+unfoldable pub rowAt : List ℕ → Tables → ℕ → Walked
+rowAt tree x r = cond (ltb r (lengthOf x 0)) (kept (walk tree x 8 0 r)) (walkedTo (row.Refused 2))

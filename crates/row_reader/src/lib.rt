@@ -7,7 +7,7 @@ ghost use Rattle.number.specs.Number.{splice};
 ghost use Rattle.array_data.specs.Tables.{part, firstBuffer, secondBuffer};
 ghost use Rattle.lent_entries.specs.Entries.{column, entryIn};
 ghost use Rattle.lent_entries.specs.declared.Entry.the-variants.{Value};
-ghost use Rattle.row_reader.specs.Walk.{endWord, childOf, into, underId, codeWidth, runIn, runsStep, stepOn, stepAt, walk};
+ghost use Rattle.row_reader.specs.Walk.{endWord, childOf, into, underId, codeWidth, runIn, runsStep, stepOn, stepAt, walk, isRefused, rowAt};
 use lent_entries::Entry;
 use lent_entries::Validity;
 use run_ends::Found;
@@ -296,5 +296,75 @@ fn read_at(
                 depth - 1,
             )
         }
+    }
+}
+
+fn is_refused(read: RowRead) -> bool
+    ensures { λ r. ⌜ r ≡ isRefused read ⌝ }
+{
+    match read {
+        RowRead::Null => false,
+        RowRead::Number(_) => false,
+        RowRead::Bytes { at: _, len: _ } => false,
+        RowRead::List {
+            node: _,
+            start: _,
+            len: _,
+        } => false,
+        RowRead::Refused(_) => true,
+    }
+}
+
+// A copy; that it has 8 elements is known of an array that a call returns.
+fn copied(ids: [u8; 8]) -> [u8; 8]
+    ensures { λ r. ⌜ r ≡ ids ⌝ }
+{
+    ids
+}
+
+// Row `row` of the column whose nodes begin at node `first` of the tables and whose words are those of `tree`. The ids of the unions on
+// the way to it are written to the front of the array, which is otherwise left as it was; a refusal leaves it whole.
+pub fn row_at(
+    tree: &[u64],
+    lengths: &[u64],
+    places: &[u32],
+    buffers: &[u32],
+    body: &[u8],
+    first: u32,
+    row: u64,
+    ids: &mut [u8; 8],
+) -> RowAnswer
+    ensures { λ r. ⌜ (r .read ≡ rowAt (now (tree .entry)) (column (now (lengths .entry)) (now (places .entry)) (now (buffers .entry)) (now (body .entry)) first) row .read) × (r .ids ≡ length (rowAt (now (tree .entry)) (column (now (lengths .entry)) (now (places .entry)) (now (buffers .entry)) (now (body .entry)) first) row .ids)) ⌝ }
+    ensures { λ r. ⌜ now (ids .exit) ≡ splice 0 (rowAt (now (tree .entry)) (column (now (lengths .entry)) (now (places .entry)) (now (buffers .entry)) (now (body .entry)) first) row .ids) (now (ids .entry)) ⌝ }
+{
+    if lent_entries::length_at(lengths, first, 0) <= row {
+        return RowAnswer {
+            read: RowRead::Refused(2),
+            ids: 0,
+        };
+    }
+    let old = copied(*ids);
+    let r = read_at(
+        tree,
+        lengths,
+        places,
+        buffers,
+        body,
+        first,
+        0,
+        row,
+        old,
+        0,
+        8,
+    );
+    let read = r.read;
+    if is_refused(read) {
+        return RowAnswer { read, ids: 0 };
+    }
+    let found = r.ids;
+    *ids = found;
+    RowAnswer {
+        read,
+        ids: r.count as u8,
     }
 }
