@@ -22,7 +22,7 @@ pub enum Step {
 }
 
 // A union's child.
-enum Child {
+pub enum Child {
     Node(usize),
     Missing,
 }

@@ -1,0 +1,4 @@
+-- Laws of `row_meaning`.
+pub mod Child
+pub mod Words
+pub mod Slots
