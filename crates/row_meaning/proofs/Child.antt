@@ -21,10 +21,10 @@ use Rattle.row_reader.specs.Walk.{endWord, childFrom, childOf}
 
 -- ---- words
 
-pub seg-at : (f : ℕ → ℕ) (a n k : ℕ) → k < n → getD (seg f a n) k 0 ≡ f (a + k)
-seg-at f a zero k h = absurd (omega arith)
-seg-at f a (suc n) zero h = let e : a + zero ≡ a = omega arith in ap f (sym e)
-seg-at f a (suc n) (suc k) h = let e : suc a + k ≡ a + suc k = omega arith in seg-at f (suc a) n k (omega arith) ∙ ap f e
+pub seg-at : {A : Type 0} (f : ℕ → A) (z : A) (a n k : ℕ) → k < n → getD (seg f a n) k z ≡ f (a + k)
+seg-at f z a zero k h = absurd (omega arith)
+seg-at f z a (suc n) zero h = let e : a + zero ≡ a = omega arith in ap f (sym e)
+seg-at f z a (suc n) (suc k) h = let e : suc a + k ≡ a + suc k = omega arith in seg-at f z (suc a) n k (omega arith) ∙ ap f e
 
 module _ (formats schema : List ℕ) (first n : ℕ) where
   abbrev pub words : List ℕ
@@ -35,7 +35,7 @@ module _ (formats schema : List ℕ) (first n : ℕ) where
   word-is i j h l =
       let a : (0 + (8 * i + j)) / 8 ≡ i = omega arith in
       let b : (0 + (8 * i + j)) % 8 ≡ j = omega arith in
-      seg-at (λ q. wordOf formats schema first n (q / 8) (q % 8)) 0 256 (8 * i + j) (omega arith) ∙ rw (a, b)
+      seg-at (λ q. wordOf formats schema first n (q / 8) (q % 8)) 0 0 256 (8 * i + j) (omega arith) ∙ rw (a, b)
 
   module _ (few : n ≤ 32) (i : ℕ) (l : i < n) where
     pub word-code : word words i 0 ≡ codeOf formats schema first i

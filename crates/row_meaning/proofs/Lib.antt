@@ -2,3 +2,6 @@
 pub mod Child
 pub mod Words
 pub mod Slots
+pub mod Views
+pub mod Runs
+pub mod Rows
