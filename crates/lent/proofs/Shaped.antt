@@ -39,26 +39,26 @@ later a b c d x h l =
 -- ---- the kind of each code
 
 module _ (code : ℕ) (single : Bool) (ids : Option (List ℕ)) (next : ℕ) where
-  kind-fixed : isFixed code ≡ true → kindOf code single ids next ≡ numberKind single (numberOr (numberOf code))
+  pub kind-fixed : isFixed code ≡ true → kindOf code single ids next ≡ numberKind single (numberOr (numberOf code))
   kind-fixed h = cond-yes (isFixed code) _ _ h
 
-  kind-string : isString code ≡ true → kindOf code single ids next ≡ stringNode (widthOf code)
+  pub kind-string : isString code ≡ true → kindOf code single ids next ≡ stringNode (widthOf code)
   kind-string h = cond-no (isFixed code) _ _ (later 1 10 11 14 code h (omega arith)) ∙ cond-yes (isString code) _ _ h
 
-  kind-view : isView code ≡ true → kindOf code single ids next ≡ viewNode
+  pub kind-view : isView code ≡ true → kindOf code single ids next ≡ viewNode
   kind-view h =
       cond-no (isFixed code) _ _ (later 1 10 15 16 code h (omega arith))
       ∙ cond-no (isString code) _ _ (later 11 14 15 16 code h (omega arith))
       ∙ cond-yes (isView code) _ _ h
 
-  kind-list : isListView code ≡ true → kindOf code single ids next ≡ listViewNode (widthOf code)
+  pub kind-list : isListView code ≡ true → kindOf code single ids next ≡ listViewNode (widthOf code)
   kind-list h =
       cond-no (isFixed code) _ _ (later 1 10 17 18 code h (omega arith))
       ∙ cond-no (isString code) _ _ (later 11 14 17 18 code h (omega arith))
       ∙ cond-no (isView code) _ _ (later 15 16 17 18 code h (omega arith))
       ∙ cond-yes (isListView code) _ _ h
 
-  kind-union : isUnion code ≡ true → kindOf code single ids next ≡ unionKind (eqb code 19) (idsOr ids)
+  pub kind-union : isUnion code ≡ true → kindOf code single ids next ≡ unionKind (eqb code 19) (idsOr ids)
   kind-union h =
       cond-no (isFixed code) _ _ (later 1 10 19 20 code h (omega arith))
       ∙ cond-no (isString code) _ _ (later 11 14 19 20 code h (omega arith))
@@ -66,7 +66,7 @@ module _ (code : ℕ) (single : Bool) (ids : Option (List ℕ)) (next : ℕ) whe
       ∙ cond-no (isListView code) _ _ (later 17 18 19 20 code h (omega arith))
       ∙ cond-yes (isUnion code) _ _ h
 
-  kind-run : isRunEnd code ≡ true → kindOf code single ids next ≡ runEndNode (widthOf next)
+  pub kind-run : isRunEnd code ≡ true → kindOf code single ids next ≡ runEndNode (widthOf next)
   kind-run h =
       cond-no (isFixed code) _ _ (later 1 10 21 21 code h (omega arith))
       ∙ cond-no (isString code) _ _ (later 11 14 21 21 code h (omega arith))

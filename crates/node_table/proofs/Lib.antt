@@ -1,0 +1,2 @@
+-- Laws of `node_table`.
+pub mod Laws
