@@ -31,7 +31,7 @@ and-no true b h = h
 and-no false b h = refl
 
 -- a code of a later range is none of an earlier one
-later : (a b c d x : ℕ) → between c d x ≡ true → b < c → between a b x ≡ false
+pub later : (a b c d x : ℕ) → between c d x ≡ true → b < c → between a b x ≡ false
 later a b c d x h l =
     let up = leb-true c x (both (leb c x) (leb x d) h .0) in
     and-no (leb a x) (leb x b) (lt-leb x b (omega arith))
@@ -39,26 +39,26 @@ later a b c d x h l =
 -- ---- the kind of each code
 
 module _ (code : ℕ) (single : Bool) (ids : Option (List ℕ)) (next : ℕ) where
-  kind-fixed : isFixed code ≡ true → kindOf code single ids next ≡ numberKind single (numberOr (numberOf code))
+  pub kind-fixed : isFixed code ≡ true → kindOf code single ids next ≡ numberKind single (numberOr (numberOf code))
   kind-fixed h = cond-yes (isFixed code) _ _ h
 
-  kind-string : isString code ≡ true → kindOf code single ids next ≡ stringNode (widthOf code)
+  pub kind-string : isString code ≡ true → kindOf code single ids next ≡ stringNode (widthOf code)
   kind-string h = cond-no (isFixed code) _ _ (later 1 10 11 14 code h (omega arith)) ∙ cond-yes (isString code) _ _ h
 
-  kind-view : isView code ≡ true → kindOf code single ids next ≡ viewNode
+  pub kind-view : isView code ≡ true → kindOf code single ids next ≡ viewNode
   kind-view h =
       cond-no (isFixed code) _ _ (later 1 10 15 16 code h (omega arith))
       ∙ cond-no (isString code) _ _ (later 11 14 15 16 code h (omega arith))
       ∙ cond-yes (isView code) _ _ h
 
-  kind-list : isListView code ≡ true → kindOf code single ids next ≡ listViewNode (widthOf code)
+  pub kind-list : isListView code ≡ true → kindOf code single ids next ≡ listViewNode (widthOf code)
   kind-list h =
       cond-no (isFixed code) _ _ (later 1 10 17 18 code h (omega arith))
       ∙ cond-no (isString code) _ _ (later 11 14 17 18 code h (omega arith))
       ∙ cond-no (isView code) _ _ (later 15 16 17 18 code h (omega arith))
       ∙ cond-yes (isListView code) _ _ h
 
-  kind-union : isUnion code ≡ true → kindOf code single ids next ≡ unionKind (eqb code 19) (idsOr ids)
+  pub kind-union : isUnion code ≡ true → kindOf code single ids next ≡ unionKind (eqb code 19) (idsOr ids)
   kind-union h =
       cond-no (isFixed code) _ _ (later 1 10 19 20 code h (omega arith))
       ∙ cond-no (isString code) _ _ (later 11 14 19 20 code h (omega arith))
@@ -66,7 +66,7 @@ module _ (code : ℕ) (single : Bool) (ids : Option (List ℕ)) (next : ℕ) whe
       ∙ cond-no (isListView code) _ _ (later 17 18 19 20 code h (omega arith))
       ∙ cond-yes (isUnion code) _ _ h
 
-  kind-run : isRunEnd code ≡ true → kindOf code single ids next ≡ runEndNode (widthOf next)
+  pub kind-run : isRunEnd code ≡ true → kindOf code single ids next ≡ runEndNode (widthOf next)
   kind-run h =
       cond-no (isFixed code) _ _ (later 1 10 21 21 code h (omega arith))
       ∙ cond-no (isString code) _ _ (later 11 14 21 21 code h (omega arith))
@@ -88,7 +88,7 @@ plainKind (string w) = stringNode w
 
 -- ---- the widths and keys of codes
 
-string-width : (c : ℕ) → isString c ≡ true → OffsetWidth (widthOf c)
+pub string-width : (c : ℕ) → isString c ≡ true → OffsetWidth (widthOf c)
 string-width c h = go (eqb c 11) refl (eqb c 12) refl (eqb c 13) refl
   where
     go : (x : Bool) → eqb c 11 ≡ x → (y : Bool) → eqb c 12 ≡ y → (z : Bool) → eqb c 13 ≡ z → OffsetWidth (widthOf c)
@@ -105,7 +105,7 @@ string-width c h = go (eqb c 11) refl (eqb c 12) refl (eqb c 13) refl
         let is : 14 ≡ c = omega arith in
         subst (λ k. OffsetWidth (widthOf k)) is eight
 
-list-width : (c : ℕ) → isListView c ≡ true → OffsetWidth (widthOf c)
+pub list-width : (c : ℕ) → isListView c ≡ true → OffsetWidth (widthOf c)
 list-width c h = go (eqb c 17) refl
   where
     go : (x : Bool) → eqb c 17 ≡ x → OffsetWidth (widthOf c)
@@ -202,27 +202,27 @@ module _ (formats schema : List ℕ) (first : ℕ) where
   abbrev numberAt : ℕ → Number
   numberAt i = numberOr (numberOf (code i))
 
-  at-fixed : (i : ℕ) → isFixed (code i) ≡ true → single i ≡ true → kindAt formats schema first i ≡ fixedNode (numberAt i)
+  pub at-fixed : (i : ℕ) → isFixed (code i) ≡ true → single i ≡ true → kindAt formats schema first i ≡ fixedNode (numberAt i)
   unfolding kindAt
   at-fixed i h s = kind-fixed (code i) (single i) (idsOf formats schema first i) (code (suc i)) h ∙ ap (λ b. numberKind b (numberAt i)) s
 
-  at-keys : (i : ℕ) → isFixed (code i) ≡ true → single i ≡ false → kindAt formats schema first i ≡ dictionaryNode (numberAt i)
+  pub at-keys : (i : ℕ) → isFixed (code i) ≡ true → single i ≡ false → kindAt formats schema first i ≡ dictionaryNode (numberAt i)
   unfolding kindAt
   at-keys i h s = kind-fixed (code i) (single i) (idsOf formats schema first i) (code (suc i)) h ∙ ap (λ b. numberKind b (numberAt i)) s
 
-  at-string : (i : ℕ) → isString (code i) ≡ true → kindAt formats schema first i ≡ stringNode (widthOf (code i))
+  pub at-string : (i : ℕ) → isString (code i) ≡ true → kindAt formats schema first i ≡ stringNode (widthOf (code i))
   unfolding kindAt
   at-string i h = kind-string (code i) (single i) (idsOf formats schema first i) (code (suc i)) h
 
-  at-view : (i : ℕ) → isView (code i) ≡ true → kindAt formats schema first i ≡ viewNode
+  pub at-view : (i : ℕ) → isView (code i) ≡ true → kindAt formats schema first i ≡ viewNode
   unfolding kindAt
   at-view i h = kind-view (code i) (single i) (idsOf formats schema first i) (code (suc i)) h
 
-  at-list : (i : ℕ) → isListView (code i) ≡ true → kindAt formats schema first i ≡ listViewNode (widthOf (code i))
+  pub at-list : (i : ℕ) → isListView (code i) ≡ true → kindAt formats schema first i ≡ listViewNode (widthOf (code i))
   unfolding kindAt
   at-list i h = kind-list (code i) (single i) (idsOf formats schema first i) (code (suc i)) h
 
-  at-union : (i : ℕ) → isUnion (code i) ≡ true → kindAt formats schema first i ≡ unionKind (eqb (code i) 19) (idsOr (idsOf formats schema first i))
+  pub at-union : (i : ℕ) → isUnion (code i) ≡ true → kindAt formats schema first i ≡ unionKind (eqb (code i) 19) (idsOr (idsOf formats schema first i))
   unfolding kindAt
   at-union i h = kind-union (code i) (single i) (idsOf formats schema first i) (code (suc i)) h
 

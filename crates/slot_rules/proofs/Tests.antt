@@ -1,6 +1,6 @@
 -- The row tests are the row lines of the columnar model's test, for buffers that are parts of the lent body. Assumes nothing.
 use mathlib.Core.Path.{_≡_, refl, sym, ap, ap₂, _∙_}
-use mathlib.Core.Bool.{Bool, true, false, cond, _&&_, _||_}
+use mathlib.Core.Bool.{Bool, true, false, _&&_}
 use mathlib.Core.Option.{none, some}
 use mathlib.Core.List.{List, [], _∷_}
 use Prim.Native.Nat.{ℕ, zero, suc, _+_, _*_, _/_, _%_, _≤_, _<_, min}
@@ -9,7 +9,7 @@ use native.Mathlib.Omega.{arith}
 use lib.ListN.{length, take, drop, getD, length-drop}
 use lib.Seq.{getD-take, getD-drop, drop-drop, take-take, length-take-le}
 use lib.Dec.{leb, ltb, eqb}
-use borrow.Author.Tests.{ltb-true, ltb-false, leb-true, lt-ltb, le-ltb, le-leb, eqb-true}
+use borrow.Author.Tests.{ltb-true, ltb-false, leb-true, lt-ltb, le-ltb, le-leb}
 use Rattle.number.specs.Number.{number, encode, entry}
 use Rattle.number.proofs.Laws.{encode-number}
 use Rattle.bits.proofs.Laws.{bit-at}
@@ -21,7 +21,6 @@ use Rattle.columnar.specs.Test.{every, member, same, onlyIf, oneViewTest}
 use Rattle.columnar.proofs.Items.{number-take, entry-end}
 use Rattle.columnar.proofs.Test.{Agrees, same-agrees, eqb-agrees}
 use Rattle.slot_rules.specs.Slots.{idsDeclared, fieldOf, positionsWithin, positionGood, validAt, keysBelow, validKeysBelow, liesIn, startAt, bytesAt, viewGood, viewsGood, validViewsGood, listed, parts}
-use Rattle.slot_rules.proofs.Laws.{field-member}
 
 -- ---- tests of every row
 
@@ -99,25 +98,9 @@ pub ids-test : (s : List ℕ) (start size off len : ℕ) (ids : List ℕ) → of
     → every (λ i. member (getD (take size (drop start s)) (off + i) 0) ids) len ≡ idsDeclared s (start + off) ids len
 ids-test s start size off len ids h = every-same _ _ len (λ i l. ap (λ (c : ℕ). member c ids) (byte-part s start size off len h i l))
 
--- the field that has a declared id
-field-id : (ids : List ℕ) (c : ℕ) → member c ids ≡ true → getD ids (fieldOf ids c) 0 ≡ c
-unfolding fieldOf
-field-id [] c h = absurd (let z : _≡_ {A = ℕ} 0 1 = cc in omega arith)
-field-id (d ∷ ds) c h = go (eqb c d) refl h (field-id ds c)
-  where
-    go : (b : Bool) → eqb c d ≡ b → b || member c ds ≡ true → (member c ds ≡ true → getD ds (fieldOf ds c) 0 ≡ c)
-        → getD (d ∷ ds) (cond b 0 (suc (fieldOf ds c))) 0 ≡ c
-    go true e g f = sym (eqb-true c d e)
-    go false e g f = f g
-
--- of a declared id's field, the length is the child's
-size-of : (ids lens : List ℕ) (size : ℕ → ℕ) → ((k : ℕ) → k < length ids → getD lens k 0 ≡ size (getD ids k 0))
-    → (c : ℕ) → member c ids ≡ true → getD lens (fieldOf ids c) 0 ≡ size c
-size-of ids lens size sizes c h = sizes (fieldOf ids c) (ltb-true _ _ (field-member ids c ∙ h)) ∙ ap size (field-id ids c h)
-
--- the type ids and positions of a dense union, whose child of id c has size c slots; x is what stands before them
+-- the type ids and positions of a dense union, whose child of a declared id c has size c slots; x is what stands before them
 pub positions-test : (s : List ℕ) (istart isize pstart psize off len : ℕ) (ids lens : List ℕ) (size : ℕ → ℕ)
-    → ((k : ℕ) → k < length ids → getD lens k 0 ≡ size (getD ids k 0)) → off + len ≤ isize → (off + len) * 4 ≤ psize → (x : Bool)
+    → ((c : ℕ) → member c ids ≡ true → getD lens (fieldOf ids c) 0 ≡ size c) → off + len ≤ isize → (off + len) * 4 ≤ psize → (x : Bool)
     → x
     && every (λ i. member (getD (take isize (drop istart s)) (off + i) 0) ids) len
     && every (λ i. ltb (item 4 (take psize (drop pstart s)) (off + i)) (half 4)) len
@@ -136,7 +119,7 @@ positions-test s istart isize pstart psize off len ids lens size sizes h k x =
       every-same (λ i. ltb (item 4 (take psize (drop pstart s)) (off + i)) (size (getD (take isize (drop istart s)) (off + i) 0))) d len (λ i l. ap₂ (λ (p c : ℕ). ltb p (size c)) (place i l) (byte i l)),
     )
     (and-four x (every a len) (every b len) (every d len)
-    ∙ ap (λ y. x && y) (every-under a b d g len (λ i l m. ap (λ (y : ℕ). b i && ltb (entry 4 s (pstart + 4 * off) i) y) (sym (size-of ids lens size sizes _ m))))
+    ∙ ap (λ y. x && y) (every-under a b d g len (λ i l m. ap (λ (y : ℕ). b i && ltb (entry 4 s (pstart + 4 * off) i) y) (sym (sizes _ m))))
     ∙ sym (and-assoc x (every a len) (every g len)))
   where
     and-four : (x a b d : Bool) → x && a && b && d ≡ x && (a && (b && d))

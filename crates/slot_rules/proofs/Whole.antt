@@ -15,11 +15,11 @@ use Rattle.columnar.specs.Array.{Array, ok}
 use Rattle.columnar.specs.Union.{Sparse, Dense}
 use Rattle.columnar.specs.Dictionary.{Dictionary}
 use Rattle.columnar.specs.View.{Views}
-use Rattle.columnar.specs.Test.{each, sparseTest, denseTest, dictionaryTest, viewTest}
-use Rattle.slot_rules.specs.Slots.{idsDeclared, positionsWithin, keysBelow, validKeysBelow, viewsGood, validViewsGood}
+use Rattle.columnar.specs.Test.{each, member, sparseTest, denseTest, dictionaryTest, viewTest}
+use Rattle.slot_rules.specs.Slots.{idsDeclared, fieldOf, positionsWithin, keysBelow, validKeysBelow, viewsGood, validViewsGood}
 use Rattle.slot_rules.proofs.Tests.{ids-test, positions-test, keys-test, valid-keys-test, Named, views-test, valid-views-test}
 
-length-part : (s : List ℕ) (start size : ℕ) → start + size ≤ length s → length (take size (drop start s)) ≡ size
+pub length-part : (s : List ℕ) (start size : ℕ) → start + size ≤ length s → length (take size (drop start s)) ≡ size
 length-part s start size h = length-take-le size (drop start s) (rw length-drop (omega arith))
 
 module _ (s : List ℕ) (off len : ℕ) where
@@ -31,11 +31,11 @@ module _ (s : List ℕ) (off len : ℕ) where
   sparse-test ids kid okay b start size e i h =
       rw (e, length-part s start size i, le-leb (off + len) size h, ids-test s start size off len ids h)
 
-  -- the positions too, of `psize` bytes at `pstart`; lens has the length of each child in field order
+  -- the positions too, of `psize` bytes at `pstart`; lens has the length of each declared id's child at its field
   pub dense-test : {P : ℕ → Type 0} (ids : List ℕ) (kid : (c : ℕ) → Array (P c) → Bool) (okay : ℕ → Bool) (b : Dense P) (start size pstart psize : ℕ) (lens : List ℕ)
       → b .ids ≡ take size (drop start s) → start + size ≤ length s → off + len ≤ size
       → b .positions ≡ take psize (drop pstart s) → pstart + psize ≤ length s → (off + len) * 4 ≤ psize
-      → ((k : ℕ) → k < length ids → getD lens k 0 ≡ b .children (getD ids k 0) .len)
+      → ((c : ℕ) → member c ids ≡ true → getD lens (fieldOf ids c) 0 ≡ b .children c .len)
       → denseTest ids kid okay b off len
       ≡ idsDeclared s (start + off) ids len && positionsWithin s (start + off) (pstart + 4 * off) ids lens len && each (λ c. kid c (b .children c)) ids
   dense-test ids kid okay b start size pstart psize lens e i h f j k sizes =

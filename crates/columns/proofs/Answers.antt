@@ -1,0 +1,109 @@
+-- Each answer of the grounds, by the first test that is not passed; and that the rules are tested where 9 and 10 do not stand. Assumes nothing.
+use mathlib.Core.Path.{_≡_, refl, sym, ap, subst, _∙_}
+use mathlib.Core.Bool.{Bool, true, false, cond, _&&_}
+use mathlib.Core.List.{List, []}
+use Prim.Native.Nat.{ℕ, _+_, _*_, _≤_, _<_, _^_}
+use native.Mathlib.Omega.{arith}
+use lib.Dec.{ltb}
+use borrow.Author.Tests.{ltb-true}
+use Rattle.schema.specs.Tree.{every, ceilings, typed}
+use Rattle.schema.proofs.Known.{every-at, within-nodes}
+use Rattle.array_data.specs.Tables.{Tables, lengthOf, offsetOf}
+use Rattle.lent.proofs.Ids.{both}
+use Rattle.lent_tables.specs.Lent.{tables}
+use Rattle.kind_rules.specs.Rows.{tablesOf}
+use Rattle.source_rules.specs.Source.{Ready}
+use Rattle.columns.specs.Grounds.{countFits, fewBuffers, nodeFits, smallBody, withinCeilings, obeys, columnGround, sourceCount, firstOf, nodesOf, fewSources, allTyped, allSame, allWithin, allObey, sourcesGround}
+use Rattle.columns.proofs.Grounds.{within-low, within-at, typed-at}
+
+-- ---- ground 9 is not about the body
+
+module _ (formats schema lengths places buffers body : List ℕ) where
+  pub within-as : (first n : ℕ) → withinCeilings formats schema (tables lengths places []) first n ≡ withinCeilings formats schema (tablesOf lengths places buffers body) first n
+  unfolding withinCeilings nodeFits countFits fewBuffers
+  within-as first n = refl
+
+  pub all-within-as : (sources : List ℕ) → allWithin formats schema (tables lengths places []) sources ≡ allWithin formats schema (tablesOf lengths places buffers body) sources
+  unfolding allWithin withinCeilings nodeFits countFits fewBuffers
+  all-within-as sources = refl
+
+-- ---- where the rules are tested
+
+module _ (formats schema : List ℕ) (x : Tables) where
+  sum-fits : (first n : ℕ) → withinCeilings formats schema x first n ≡ true → (j : ℕ) → j < n → offsetOf x (first + j) + lengthOf x (first + j) < 2 ^ 63
+  unfolding withinCeilings nodeFits countFits
+  sum-fits first n h j l =
+      let p = both (ceilings formats schema first n) (every (nodeFits formats schema x first) n) h in
+      let q = every-at (nodeFits formats schema x first) n j (p .1) l in
+      ltb-true (offsetOf x (first + j) + lengthOf x (first + j)) (2 ^ 63) (both (countFits x (first + j)) (fewBuffers formats schema x first j) q .0)
+
+  pub ready : (first n : ℕ) → first < 2 ^ 32 → withinCeilings formats schema x first n ≡ true → typed formats schema first n ≡ true → Ready formats schema x first n
+  ready first n l w t =
+      let few = within-nodes formats schema first n (within-low formats schema x first n w) in
+      record { few = few; low = l; is-typed = t; counted = λ j i. record { small = omega (arith, few, l, i); sum = sum-fits first n w j i } }
+
+  pub ready-at : (sources : List ℕ) → allWithin formats schema x sources ≡ true → allTyped formats schema sources ≡ true
+      → (s : ℕ) → s < sourceCount sources → (a b : ℕ) → a ≡ firstOf sources s → b ≡ nodesOf sources s → a < 2 ^ 32 → Ready formats schema x a b
+  ready-at sources w t s l a b e d h =
+      let r = ready (firstOf sources s) (nodesOf sources s) (subst (λ k. k < 2 ^ 32) e h) (within-at formats schema x sources w s l) (typed-at formats schema x sources t s l) in
+      subst (λ k. Ready formats schema x k b) (sym e) (subst (λ k. Ready formats schema x (firstOf sources s) k) (sym d) r)
+
+-- ---- one column
+
+module _ (formats schema : List ℕ) (x : Tables) (first n : ℕ) where
+  pub not-small : smallBody (x .body) ≡ false → 9 ≡ columnGround formats schema x first n
+  unfolding columnGround
+  not-small b = rw b
+
+  module _ (b : smallBody (x .body) ≡ true) where
+    pub not-within : withinCeilings formats schema x first n ≡ false → 9 ≡ columnGround formats schema x first n
+    unfolding columnGround
+    not-within w = rw (b, w)
+
+    module _ (w : withinCeilings formats schema x first n ≡ true) where
+      pub not-typed : typed formats schema first n ≡ false → 10 ≡ columnGround formats schema x first n
+      unfolding columnGround
+      not-typed t = rw (b, w, t)
+
+      pub not-obeying : typed formats schema first n ≡ true → obeys formats schema x first n ≡ false → 12 ≡ columnGround formats schema x first n
+      unfolding columnGround
+      not-obeying t o = rw (b, w, t, o)
+
+      pub one-good : typed formats schema first n ≡ true → obeys formats schema x first n ≡ true → 0 ≡ columnGround formats schema x first n
+      unfolding columnGround
+      one-good t o = rw (b, w, t, o)
+
+-- ---- all sources
+
+module _ (formats schema : List ℕ) (x : Tables) (sources : List ℕ) where
+  pub none-small : smallBody (x .body) ≡ false → 9 ≡ sourcesGround formats schema x sources
+  unfolding sourcesGround
+  none-small b = rw b
+
+  module _ (b : smallBody (x .body) ≡ true) where
+    pub not-few : fewSources sources ≡ false → 9 ≡ sourcesGround formats schema x sources
+    unfolding sourcesGround
+    not-few f = rw (b, f)
+
+    module _ (f : fewSources sources ≡ true) where
+      pub not-all-within : allWithin formats schema x sources ≡ false → 9 ≡ sourcesGround formats schema x sources
+      unfolding sourcesGround
+      not-all-within w = rw (b, f, w)
+
+      module _ (w : allWithin formats schema x sources ≡ true) where
+        pub not-all-typed : allTyped formats schema sources ≡ false → 10 ≡ sourcesGround formats schema x sources
+        unfolding sourcesGround
+        not-all-typed t = rw (b, f, w, t)
+
+        module _ (t : allTyped formats schema sources ≡ true) where
+          pub not-all-same : allSame formats schema sources ≡ false → 11 ≡ sourcesGround formats schema x sources
+          unfolding sourcesGround
+          not-all-same e = rw (b, f, w, t, e)
+
+          pub not-all-obey : allSame formats schema sources ≡ true → allObey formats schema x sources ≡ false → 12 ≡ sourcesGround formats schema x sources
+          unfolding sourcesGround
+          not-all-obey e o = rw (b, f, w, t, e, o)
+
+          pub all-good : allSame formats schema sources ≡ true → allObey formats schema x sources ≡ true → 0 ≡ sourcesGround formats schema x sources
+          unfolding sourcesGround
+          all-good e o = rw (b, f, w, t, e, o)

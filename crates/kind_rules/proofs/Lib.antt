@@ -1,0 +1,3 @@
+-- What the proofs of `kind_rules` go by.
+pub mod Laws
+pub mod Links

@@ -1,0 +1,2 @@
+-- Laws of `lent_entries`.
+pub mod Laws

@@ -1,0 +1,2 @@
+-- The definitions that the contracts of `lent_entries` cite.
+pub mod Entries

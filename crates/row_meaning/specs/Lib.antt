@@ -1,0 +1,2 @@
+-- The definitions that the laws of `row_meaning` cite.
+pub mod Meaning

@@ -1,0 +1,2 @@
+-- Laws of `row_reader`.
+pub mod Laws

@@ -1,0 +1,370 @@
+// One row of a lent column, read from the top of the tree downward, at most eight levels.
+ghost use mathlib.Core.Path.{_≡_};
+ghost use mathlib.Core.List.{[]};
+ghost use Prim.Native.Nat.{suc, _+_, _≤_, _<_, _^_};
+ghost use lib.ListN.{length};
+ghost use Rattle.number.specs.Number.{splice};
+ghost use Rattle.array_data.specs.Tables.{part, firstBuffer, secondBuffer};
+ghost use Rattle.lent_entries.specs.Entries.{column, entryIn};
+ghost use Rattle.lent_entries.specs.declared.Entry.the-variants.{Value};
+ghost use Rattle.row_reader.specs.Walk.{endWord, childOf, into, underId, codeWidth, runIn, runsStep, stepOn, stepAt, walk, isRefused, rowAt};
+use lent_entries::Entry;
+use lent_entries::Validity;
+use run_ends::Found;
+use run_ends::LogicalRow;
+use slot_reader::RowRead;
+
+// What a node says of a row: all there is, or the row of a child; of a union's child with its id.
+pub enum Step {
+    Done(RowRead),
+    Go { node: usize, row: u64 },
+    Choose { id: u8, node: usize, row: u64 },
+}
+
+// A union's child.
+pub enum Child {
+    Node(usize),
+    Missing,
+}
+
+// A row with the ids of the unions on the way to it: the first `count` of `ids`.
+struct Reading {
+    read: RowRead,
+    ids: [u8; 8],
+    count: usize,
+}
+
+// A row, and how many ids of unions were written.
+pub struct RowAnswer {
+    pub read: RowRead,
+    pub ids: u8,
+}
+
+// ---- unions
+
+// Where the subtree of node i ends, at most 32.
+fn end_word(tree: &[u64], i: usize) -> usize
+    requires { ⌜ i < 2 ^ 32 ⌝ }
+    ensures { λ r. ⌜ r ≡ endWord (now (tree .entry)) i ⌝ }
+    ensures { λ r. ⌜ r ≤ 32 ⌝ }
+{
+    let end = node_table::word(tree, i, 2);
+    if 32 < end {
+        return 32;
+    }
+    end as usize
+}
+
+// The child of the union node i that has this id.
+fn find_child(tree: &[u64], i: usize, id: u64) -> Child
+    requires { ⌜ i < 2 ^ 32 ⌝ }
+    ensures { λ r. ⌜ r ≡ childOf (now (tree .entry)) i id ⌝ }
+{
+    let end = end_word(tree, i);
+    let mut node = i + 1;
+    let mut c: usize = 0;
+    while c < 16 {
+        if end <= node {
+            return Child::Missing;
+        }
+        if node_table::word(tree, node, 3) == id {
+            return Child::Node(node);
+        }
+        node = node_table::word(tree, node, 2) as usize;
+        c += 1;
+    }
+    Child::Missing
+}
+
+// On to row `row` of the child with this id.
+fn step_into(tree: &[u64], i: usize, id: u64, row: u64) -> Step
+    requires { ⌜ i < 2 ^ 32 ⌝ }
+    ensures { λ r. ⌜ r ≡ into (now (tree .entry)) i id row ⌝ }
+{
+    if 127 < id {
+        return Step::Done(RowRead::Refused(12));
+    }
+    match find_child(tree, i, id) {
+        Child::Node(node) => Step::Choose {
+            id: id as u8,
+            node,
+            row,
+        },
+        Child::Missing => Step::Done(RowRead::Refused(12)),
+    }
+}
+
+// A sparse union's child has the row at the same slot.
+fn step_sparse(tree: &[u64], places: &[u32], body: &[u8], first: u32, i: usize, slot: u64) -> Step
+    requires { ⌜ i < 2 ^ 32 ⌝ }
+    ensures { λ r. ⌜ r ≡ underId (now (tree .entry)) i (entryIn 1 (firstBuffer (column [] (now (places .entry)) [] (now (body .entry)) first) i) slot) (Value slot) ⌝ }
+{
+    let start = lent_entries::place_at(places, first, i, 3);
+    let size = lent_entries::place_at(places, first, i, 4);
+    let Entry::Value(id) = lent_entries::read_entry(body, start, size, 1, slot) else {
+        return Step::Done(RowRead::Refused(12));
+    };
+    step_into(tree, i, id, slot)
+}
+
+// A dense union's child has the row at the position.
+fn step_dense(tree: &[u64], places: &[u32], body: &[u8], first: u32, i: usize, slot: u64) -> Step
+    requires { ⌜ i < 2 ^ 32 ⌝ }
+    ensures { λ r. ⌜ r ≡ underId (now (tree .entry)) i (entryIn 1 (firstBuffer (column [] (now (places .entry)) [] (now (body .entry)) first) i) slot) (entryIn 4 (secondBuffer (column [] (now (places .entry)) [] (now (body .entry)) first) i) slot) ⌝ }
+{
+    let start = lent_entries::place_at(places, first, i, 3);
+    let size = lent_entries::place_at(places, first, i, 4);
+    let Entry::Value(id) = lent_entries::read_entry(body, start, size, 1, slot) else {
+        return Step::Done(RowRead::Refused(12));
+    };
+    let from = lent_entries::place_at(places, first, i, 5);
+    let room = lent_entries::place_at(places, first, i, 6);
+    let Entry::Value(row) = lent_entries::read_entry(body, from, room, 4, slot) else {
+        return Step::Done(RowRead::Refused(12));
+    };
+    step_into(tree, i, id, row)
+}
+
+// ---- run ends
+
+// The run of a row among the len run ends of w bytes from entry `off` of the buffer on.
+fn find_run(body: &[u8], start: u32, size: u32, off: u64, len: u64, w: u8, row: LogicalRow) -> Found
+    ensures { λ r. ⌜ r ≡ runIn w (now (body .entry)) start (part (now (body .entry)) start size) off len (row .0) ⌝ }
+{
+    if len == 0 {
+        return Found::Past;
+    }
+    if u64::MAX - off < len {
+        return Found::Past;
+    }
+    if !lent_tables::rows_fit(off + len, w, lent_tables::part_len(body, start, size)) {
+        return Found::Past;
+    }
+    let at = start as usize;
+    match w {
+        2 => run_ends::find_run_i16(body, at + 2 * (off as usize), len as usize, row),
+        4 => run_ends::find_run_i32(body, at + 4 * (off as usize), len as usize, row),
+        8 => run_ends::find_run_i64(body, at + 8 * (off as usize), len as usize, row),
+        _ => Found::Past,
+    }
+}
+
+// The values' row is the run's number: the run ends are the next node, with their own offset, and the values the one after.
+fn step_runs(
+    tree: &[u64],
+    lengths: &[u64],
+    places: &[u32],
+    body: &[u8],
+    first: u32,
+    i: usize,
+    slot: u64,
+) -> Step
+    requires { ⌜ i + 2 < 2 ^ 32 ⌝ }
+    ensures { λ r. ⌜ r ≡ runsStep (column (now (lengths .entry)) (now (places .entry)) [] (now (body .entry)) first) i (codeWidth (now (tree .entry)) (suc i)) slot ⌝ }
+{
+    let e = i + 1;
+    let w = formats::width_of(slot_reader::code_word(tree, e));
+    let start = lent_entries::place_at(places, first, e, 3);
+    let size = lent_entries::place_at(places, first, e, 4);
+    let off = lent_entries::offset_at(lengths, first, e);
+    let len = lent_entries::length_at(lengths, first, e);
+    match find_run(body, start, size, off, len, w, LogicalRow(slot)) {
+        Found::Run { run, end: _ } => Step::Go {
+            node: i + 2,
+            row: run.0 as u64,
+        },
+        Found::Past => Step::Done(RowRead::Refused(12)),
+    }
+}
+
+// ---- one level
+
+// What a valid slot says.
+fn step_slot(
+    tree: &[u64],
+    lengths: &[u64],
+    places: &[u32],
+    buffers: &[u32],
+    body: &[u8],
+    first: u32,
+    i: usize,
+    slot: u64,
+) -> Step
+    requires { ⌜ i + 2 < 2 ^ 32 ⌝ }
+    ensures { λ r. ⌜ r ≡ stepOn (now (tree .entry)) (column (now (lengths .entry)) (now (places .entry)) (now (buffers .entry)) (now (body .entry)) first) i slot ⌝ }
+{
+    match slot_reader::code_word(tree, i) {
+        19 => step_sparse(tree, places, body, first, i, slot),
+        20 => step_dense(tree, places, body, first, i, slot),
+        21 => step_runs(tree, lengths, places, body, first, i, slot),
+        _ => Step::Done(slot_reader::read_slot(
+            tree,
+            lengths,
+            places,
+            buffers,
+            body,
+            first,
+            i,
+            slot,
+        )),
+    }
+}
+
+// What node i says of its row `row`: the one place where a node's offset is added.
+fn next_step(
+    tree: &[u64],
+    lengths: &[u64],
+    places: &[u32],
+    buffers: &[u32],
+    body: &[u8],
+    first: u32,
+    i: usize,
+    row: u64,
+) -> Step
+    ensures { λ r. ⌜ r ≡ stepAt (now (tree .entry)) (column (now (lengths .entry)) (now (places .entry)) (now (buffers .entry)) (now (body .entry)) first) i row ⌝ }
+{
+    if 32 <= i {
+        return Step::Done(RowRead::Refused(9));
+    }
+    let off = lent_entries::offset_at(lengths, first, i);
+    if u64::MAX - off < row {
+        return Step::Done(RowRead::Refused(12));
+    }
+    let slot = off + row;
+    match lent_entries::valid_at(places, body, first, i, slot) {
+        Validity::Valid => step_slot(tree, lengths, places, buffers, body, first, i, slot),
+        Validity::Null => Step::Done(RowRead::Null),
+        Validity::Outside => Step::Done(RowRead::Refused(12)),
+    }
+}
+
+// ---- the whole row
+
+// Row `row` of node i, at most `depth` levels down; the ids of unions are written from number `count` on.
+fn read_at(
+    tree: &[u64],
+    lengths: &[u64],
+    places: &[u32],
+    buffers: &[u32],
+    body: &[u8],
+    first: u32,
+    i: usize,
+    row: u64,
+    ids: [u8; 8],
+    count: usize,
+    depth: usize,
+) -> Reading
+    requires { ⌜ (count + depth ≤ 8) × (length ids ≡ 8) ⌝ }
+    ensures { λ r. ⌜ (r .read ≡ walk (now (tree .entry)) (column (now (lengths .entry)) (now (places .entry)) (now (buffers .entry)) (now (body .entry)) first) depth i row .read) × (r .count ≡ count + length (walk (now (tree .entry)) (column (now (lengths .entry)) (now (places .entry)) (now (buffers .entry)) (now (body .entry)) first) depth i row .ids)) × (r .ids ≡ splice count (walk (now (tree .entry)) (column (now (lengths .entry)) (now (places .entry)) (now (buffers .entry)) (now (body .entry)) first) depth i row .ids) ids) ⌝ }
+{
+    if depth == 0 {
+        return Reading {
+            read: RowRead::Refused(9),
+            ids,
+            count,
+        };
+    }
+    match next_step(tree, lengths, places, buffers, body, first, i, row) {
+        Step::Done(read) => Reading { read, ids, count },
+        Step::Go { node, row: r } => read_at(
+            tree,
+            lengths,
+            places,
+            buffers,
+            body,
+            first,
+            node,
+            r,
+            ids,
+            count,
+            depth - 1,
+        ),
+        Step::Choose { id, node, row: r } => {
+            let mut more = ids;
+            more[count] = id;
+            read_at(
+                tree,
+                lengths,
+                places,
+                buffers,
+                body,
+                first,
+                node,
+                r,
+                more,
+                count + 1,
+                depth - 1,
+            )
+        }
+    }
+}
+
+fn is_refused(read: RowRead) -> bool
+    ensures { λ r. ⌜ r ≡ isRefused read ⌝ }
+{
+    match read {
+        RowRead::Null => false,
+        RowRead::Number(_) => false,
+        RowRead::Bytes { at: _, len: _ } => false,
+        RowRead::List {
+            node: _,
+            start: _,
+            len: _,
+        } => false,
+        RowRead::Refused(_) => true,
+    }
+}
+
+// A copy; that it has 8 elements is known of an array that a call returns.
+fn copied(ids: [u8; 8]) -> [u8; 8]
+    ensures { λ r. ⌜ r ≡ ids ⌝ }
+{
+    ids
+}
+
+// Row `row` of the column whose nodes begin at node `first` of the tables and whose words are those of `tree`. The ids of the unions on
+// the way to it are written to the front of the array, which is otherwise left as it was; a refusal leaves it whole.
+pub fn row_at(
+    tree: &[u64],
+    lengths: &[u64],
+    places: &[u32],
+    buffers: &[u32],
+    body: &[u8],
+    first: u32,
+    row: u64,
+    ids: &mut [u8; 8],
+) -> RowAnswer
+    ensures { λ r. ⌜ (r .read ≡ rowAt (now (tree .entry)) (column (now (lengths .entry)) (now (places .entry)) (now (buffers .entry)) (now (body .entry)) first) row .read) × (r .ids ≡ length (rowAt (now (tree .entry)) (column (now (lengths .entry)) (now (places .entry)) (now (buffers .entry)) (now (body .entry)) first) row .ids)) ⌝ }
+    ensures { λ r. ⌜ now (ids .exit) ≡ splice 0 (rowAt (now (tree .entry)) (column (now (lengths .entry)) (now (places .entry)) (now (buffers .entry)) (now (body .entry)) first) row .ids) (now (ids .entry)) ⌝ }
+{
+    if lent_entries::length_at(lengths, first, 0) <= row {
+        return RowAnswer {
+            read: RowRead::Refused(2),
+            ids: 0,
+        };
+    }
+    let old = copied(*ids);
+    let r = read_at(
+        tree,
+        lengths,
+        places,
+        buffers,
+        body,
+        first,
+        0,
+        row,
+        old,
+        0,
+        8,
+    );
+    let read = r.read;
+    if is_refused(read) {
+        return RowAnswer { read, ids: 0 };
+    }
+    let found = r.ids;
+    *ids = found;
+    RowAnswer {
+        read,
+        ids: r.count as u8,
+    }
+}

@@ -1,0 +1,3 @@
+-- Laws of `slot_reader`.
+pub mod Codes
+pub mod Laws

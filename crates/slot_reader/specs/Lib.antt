@@ -1,0 +1,2 @@
+-- The definitions that the contracts of `slot_reader` cite.
+pub mod Slots

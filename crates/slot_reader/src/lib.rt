@@ -1,0 +1,269 @@
+// What one slot of a lent node reads as, by the node's kind: a number, bytes, or the place of a list's rows. Validity is not looked at.
+ghost use mathlib.Core.Path.{_≡_};
+ghost use mathlib.Core.List.{[]};
+ghost use Prim.Native.Nat.{suc, _+_, _≤_, _<_, _^_};
+ghost use lib.ListN.{length};
+ghost use Rattle.array_data.specs.Tables.{part, offsetOf, place, firstBuffer, secondBuffer};
+ghost use Rattle.lent_entries.specs.Entries.{column, spotIn, entryIn};
+ghost use Rattle.slot_reader.specs.Slots.{codeWord, codeNumber, numberRead, stretchIn, stringRead, dataPlace, viewAt, listed, storedNumber, storedAt, keyed, fixedRead, slotRead};
+use lent_entries::Entry;
+use lent_entries::Spot;
+
+// A row: null, a number, bytes that stand in the body, or rows of a child; or the ground of refusal.
+pub enum RowRead {
+    Null,
+    Number(leaf_row::Leaf),
+    Bytes { at: usize, len: usize },
+    List { node: usize, start: u64, len: u64 },
+    Refused(u8),
+}
+
+// The code of node i's format; 0 where it has none.
+pub fn code_word(tree: &[u64], i: usize) -> u8
+    requires { ⌜ i < 2 ^ 33 ⌝ }
+    ensures { λ r. ⌜ r ≡ codeWord (now (tree .entry)) i ⌝ }
+{
+    let code = node_table::word(tree, i, 0);
+    if 21 < code {
+        return 0;
+    }
+    code as u8
+}
+
+// ---- one kind each, in the buffer of `size` bytes from `start` on
+
+fn read_number(body: &[u8], start: u32, size: u32, code: u8, slot: u64) -> RowRead
+    requires { ⌜ (1 ≤ code) × (code ≤ 10) ⌝ }
+    ensures { λ r. ⌜ r ≡ numberRead (codeNumber code) (part (now (body .entry)) start size) slot ⌝ }
+{
+    let Spot::At(at) = lent_entries::find_spot(body, start, size, formats::width_of(code), slot)
+    else {
+        return RowRead::Refused(12);
+    };
+    RowRead::Number(leaf_row::read_leaf(body, at, code))
+}
+
+// The bytes a .. b - 1 of the buffer.
+fn read_stretch(body: &[u8], start: u32, size: u32, a: u64, b: u64) -> RowRead
+    ensures { λ r. ⌜ r ≡ stretchIn start (part (now (body .entry)) start size) a b ⌝ }
+{
+    if b < a {
+        return RowRead::Refused(12);
+    }
+    if (lent_tables::part_len(body, start, size) as u64) < b {
+        return RowRead::Refused(12);
+    }
+    RowRead::Bytes {
+        at: (start as usize) + (a as usize),
+        len: (b - a) as usize,
+    }
+}
+
+// A byte string of node i, whose offsets have w bytes.
+fn read_string(places: &[u32], body: &[u8], first: u32, i: usize, w: u8, slot: u64) -> RowRead
+    requires { ⌜ i < 2 ^ 32 ⌝ }
+    ensures { λ r. ⌜ r ≡ stringRead w (firstBuffer (column [] (now (places .entry)) [] (now (body .entry)) first) i) (place (column [] (now (places .entry)) [] [] first) i 5) (secondBuffer (column [] (now (places .entry)) [] (now (body .entry)) first) i) slot ⌝ }
+{
+    let start = lent_entries::place_at(places, first, i, 3);
+    let size = lent_entries::place_at(places, first, i, 4);
+    let Entry::Value(a) = lent_entries::read_entry(body, start, size, w, slot) else {
+        return RowRead::Refused(12);
+    };
+    let Entry::Value(b) = lent_entries::read_entry(body, start, size, w, slot + 1) else {
+        return RowRead::Refused(12);
+    };
+    let from = lent_entries::place_at(places, first, i, 5);
+    let len = lent_entries::place_at(places, first, i, 6);
+    read_stretch(body, from, len, a, b)
+}
+
+// Number j of data buffer b of node i: 0 where it begins, 1 its bytes; 0 where the node has no such buffer.
+fn data_place(places: &[u32], buffers: &[u32], first: u32, i: usize, b: u32, j: usize) -> u32
+    requires { ⌜ (i < 2 ^ 32) × (j < 2) ⌝ }
+    ensures { λ r. ⌜ r ≡ dataPlace (now (buffers .entry)) (place (column [] (now (places .entry)) [] [] first) i 7) (place (column [] (now (places .entry)) [] [] first) i 8) b j ⌝ }
+{
+    if lent_entries::place_at(places, first, i, 8) <= b {
+        return 0;
+    }
+    let a = lent_entries::place_at(places, first, i, 7) as usize;
+    lent_tables::at_u32(buffers, 2 * (a + (b as usize)) + j)
+}
+
+fn read_view(
+    places: &[u32],
+    buffers: &[u32],
+    body: &[u8],
+    first: u32,
+    i: usize,
+    slot: u64,
+) -> RowRead
+    requires { ⌜ i < 2 ^ 32 ⌝ }
+    ensures { λ r. ⌜ r ≡ viewAt (now (body .entry)) (now (buffers .entry)) (place (column [] (now (places .entry)) [] [] first) i 7) (place (column [] (now (places .entry)) [] [] first) i 8) (spotIn (place (column [] (now (places .entry)) [] [] first) i 3) 16 (firstBuffer (column [] (now (places .entry)) [] (now (body .entry)) first) i) slot) ⌝ }
+{
+    let start = lent_entries::place_at(places, first, i, 3);
+    let size = lent_entries::place_at(places, first, i, 4);
+    let Spot::At(at) = lent_entries::find_spot(body, start, size, 16, slot) else {
+        return RowRead::Refused(12);
+    };
+    let b = number::read_u32(body, at + 8);
+    let from = data_place(places, buffers, first, i, b, 0) as usize;
+    let len = data_place(places, buffers, first, i, b, 1) as usize;
+    match view_row::view_place(body, at, body, from, len) {
+        view_row::Place::Inline { at: p, len: n } => RowRead::Bytes { at: p, len: n },
+        view_row::Place::Data { at: p, len: n } => RowRead::Bytes { at: p, len: n },
+        view_row::Place::Outside => RowRead::Refused(12),
+    }
+}
+
+// Where the rows of a list stand in the child, which is the next node; offsets and sizes have w bytes.
+fn read_list(places: &[u32], body: &[u8], first: u32, i: usize, w: u8, slot: u64) -> RowRead
+    requires { ⌜ i < 2 ^ 32 ⌝ }
+    ensures { λ r. ⌜ r ≡ listed (suc i) (entryIn w (firstBuffer (column [] (now (places .entry)) [] (now (body .entry)) first) i) slot) (entryIn w (secondBuffer (column [] (now (places .entry)) [] (now (body .entry)) first) i) slot) ⌝ }
+{
+    let start = lent_entries::place_at(places, first, i, 3);
+    let size = lent_entries::place_at(places, first, i, 4);
+    let Entry::Value(a) = lent_entries::read_entry(body, start, size, w, slot) else {
+        return RowRead::Refused(12);
+    };
+    let from = lent_entries::place_at(places, first, i, 5);
+    let room = lent_entries::place_at(places, first, i, 6);
+    let Entry::Value(n) = lent_entries::read_entry(body, from, room, w, slot) else {
+        return RowRead::Refused(12);
+    };
+    RowRead::List {
+        node: i + 1,
+        start: a,
+        len: n,
+    }
+}
+
+// ---- dictionaries
+
+// The stored bytes of an entry of w bytes.
+fn read_fixed(body: &[u8], start: u32, size: u32, w: u8, slot: u64) -> RowRead
+    ensures { λ r. ⌜ r ≡ storedNumber start w (part (now (body .entry)) start size) slot ⌝ }
+{
+    let Spot::At(at) = lent_entries::find_spot(body, start, size, w, slot) else {
+        return RowRead::Refused(12);
+    };
+    RowRead::Bytes {
+        at,
+        len: w as usize,
+    }
+}
+
+// The stored bytes of a slot of node i, which is a dictionary's values.
+fn read_stored(
+    tree: &[u64],
+    places: &[u32],
+    body: &[u8],
+    first: u32,
+    i: usize,
+    slot: u64,
+) -> RowRead
+    requires { ⌜ i < 2 ^ 32 ⌝ }
+    ensures { λ r. ⌜ r ≡ storedAt (now (tree .entry)) (column [] (now (places .entry)) [] (now (body .entry)) first) i slot ⌝ }
+{
+    let code = code_word(tree, i);
+    if formats::is_string(code) {
+        return read_string(places, body, first, i, formats::width_of(code), slot);
+    }
+    if !formats::is_fixed(code) {
+        return RowRead::Refused(10);
+    }
+    if node_table::word(tree, i, 1) != 0 {
+        return RowRead::Refused(10);
+    }
+    let start = lent_entries::place_at(places, first, i, 3);
+    let size = lent_entries::place_at(places, first, i, 4);
+    read_fixed(body, start, size, formats::width_of(code), slot)
+}
+
+// The entry that a key of w bytes names.
+fn read_dictionary(
+    tree: &[u64],
+    lengths: &[u64],
+    places: &[u32],
+    body: &[u8],
+    first: u32,
+    i: usize,
+    w: u8,
+    slot: u64,
+) -> RowRead
+    requires { ⌜ i + 1 < 2 ^ 32 ⌝ }
+    ensures { λ r. ⌜ r ≡ keyed (offsetOf (column (now (lengths .entry)) [] [] [] first) (suc i)) (storedAt (now (tree .entry)) (column [] (now (places .entry)) [] (now (body .entry)) first) (suc i)) (entryIn w (firstBuffer (column [] (now (places .entry)) [] (now (body .entry)) first) i) slot) ⌝ }
+{
+    let start = lent_entries::place_at(places, first, i, 3);
+    let size = lent_entries::place_at(places, first, i, 4);
+    let Entry::Value(key) = lent_entries::read_entry(body, start, size, w, slot) else {
+        return RowRead::Refused(12);
+    };
+    let off = lent_entries::offset_at(lengths, first, i + 1);
+    if u64::MAX - off < key {
+        return RowRead::Refused(12);
+    }
+    read_stored(tree, places, body, first, i + 1, off + key)
+}
+
+// ---- by kind
+
+// A number, or an entry of a dictionary.
+fn read_integer(
+    tree: &[u64],
+    lengths: &[u64],
+    places: &[u32],
+    body: &[u8],
+    first: u32,
+    i: usize,
+    code: u8,
+    slot: u64,
+) -> RowRead
+    requires { ⌜ (i + 1 < 2 ^ 32) × (1 ≤ code) × (code ≤ 10) ⌝ }
+    ensures { λ r. ⌜ r ≡ fixedRead (now (tree .entry)) (column (now (lengths .entry)) (now (places .entry)) [] (now (body .entry)) first) i (codeNumber code) slot ⌝ }
+{
+    if node_table::word(tree, i, 1) != 0 {
+        return read_dictionary(
+            tree,
+            lengths,
+            places,
+            body,
+            first,
+            i,
+            formats::width_of(code),
+            slot,
+        );
+    }
+    let start = lent_entries::place_at(places, first, i, 3);
+    let size = lent_entries::place_at(places, first, i, 4);
+    read_number(body, start, size, code, slot)
+}
+
+// What slot `slot` of node i reads as, where the node is no union and has no run ends.
+pub fn read_slot(
+    tree: &[u64],
+    lengths: &[u64],
+    places: &[u32],
+    buffers: &[u32],
+    body: &[u8],
+    first: u32,
+    i: usize,
+    slot: u64,
+) -> RowRead
+    requires { ⌜ i + 1 < 2 ^ 32 ⌝ }
+    ensures { λ r. ⌜ r ≡ slotRead (now (tree .entry)) (column (now (lengths .entry)) (now (places .entry)) (now (buffers .entry)) (now (body .entry)) first) i slot ⌝ }
+{
+    let code = code_word(tree, i);
+    if formats::is_fixed(code) {
+        return read_integer(tree, lengths, places, body, first, i, code, slot);
+    }
+    if formats::is_string(code) {
+        return read_string(places, body, first, i, formats::width_of(code), slot);
+    }
+    if formats::is_view(code) {
+        return read_view(places, buffers, body, first, i, slot);
+    }
+    if formats::is_list_view(code) {
+        return read_list(places, body, first, i, formats::width_of(code), slot);
+    }
+    RowRead::Refused(10)
+}

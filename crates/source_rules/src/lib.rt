@@ -1,0 +1,192 @@
+// The rules of one source (ground 12; docs/FORMAT.md), node by node.
+ghost use mathlib.Core.Path.{_≡_};
+ghost use mathlib.Core.Bool.{true};
+ghost use mathlib.Core.Option.{some};
+ghost use mathlib.Core.List.{List, []};
+ghost use Prim.Native.Nat.{ℕ, _+_, _*_, _≤_, _<_, _^_};
+ghost use lib.ListN.{length, getD};
+ghost use lib.Dec.{eqb};
+ghost use Rattle.columnar.specs.Types.{Number};
+ghost use Rattle.formats.specs.Code.{isUnion};
+ghost use Rattle.formats.specs.Types.{numberOf};
+ghost use Rattle.schema.specs.Tree.{childAt, codeOf};
+ghost use Rattle.columnar.specs.Formed.{OffsetWidth, RunWidth};
+ghost use Rattle.array_data.specs.Tables.{lengthOf};
+ghost use Rattle.array_data.specs.Rules.{stringRule, listViewRule, runEndRule};
+ghost use Rattle.array_data.specs.Typed.{tablesFrom, nodeRule, sourceRule};
+ghost use Rattle.lent.specs.Lent.{treeOf};
+ghost use Rattle.lent_tables.specs.Lent.{tables, Counted};
+ghost use Rattle.kind_rules.specs.Rows.{tablesOf};
+ghost use Rattle.source_rules.specs.Source.{Ready, numberRule};
+
+// The rule of a node of a fixed-width format by its code: of numbers where it has no dictionary, and else of keys.
+fn number_ok(lengths: &[u64], places: &[u32], body: &[u8], k: usize, code: u8, single: bool) -> bool
+    requires { ⌜ Counted (tables (now lengths) (now places) (now body)) k × (k + 1 < 2 ^ 33) ⌝ }
+    ensures { λ r. ⌜ ((m : Number) → numberOf code ≡ some m → r ≡ numberRule (tables (now (lengths .entry)) (now (places .entry)) (now (body .entry))) k single m) ⌝ }
+{
+    if single {
+        return node_rules::fixed_rule(lengths, places, body, k, formats::width_of(code));
+    }
+    kind_rules::dictionary_rule(lengths, places, body, k, code)
+}
+
+// The rule of a node of byte strings with offsets of w bytes.
+fn string_ok(lengths: &[u64], places: &[u32], body: &[u8], k: usize, w: u8) -> bool
+    requires { ⌜ Counted (tables (now lengths) (now places) (now body)) k × OffsetWidth w ⌝ }
+    ensures { λ r. ⌜ r ≡ stringRule (tables (now (lengths .entry)) (now (places .entry)) (now (body .entry))) k w ⌝ }
+{
+    if w == 4 {
+        return node_rules::string_rule_i32(lengths, places, body, k);
+    }
+    node_rules::string_rule_i64(lengths, places, body, k)
+}
+
+// The rule of a list-view node with offsets and sizes of w bytes.
+fn list_view_ok(lengths: &[u64], places: &[u32], body: &[u8], k: usize, w: u8) -> bool
+    requires { ⌜ Counted (tables (now lengths) (now places) (now body)) k × (k + 1 < 2 ^ 33) × OffsetWidth w ⌝ }
+    ensures { λ r. ⌜ r ≡ listViewRule (tables (now (lengths .entry)) (now (places .entry)) (now (body .entry))) k w ⌝ }
+{
+    if w == 4 {
+        return node_rules::list_view_rule_i32(lengths, places, body, k);
+    }
+    node_rules::list_view_rule_i64(lengths, places, body, k)
+}
+
+// The rule of a run-end node with run ends of w bytes.
+fn run_end_ok(lengths: &[u64], places: &[u32], body: &[u8], k: usize, w: u8) -> bool
+    requires { ⌜ Counted (tables (now lengths) (now places) (now body)) k × Counted (tables (now lengths) (now places) (now body)) (k + 1) × (k + 2 < 2 ^ 33) × RunWidth w ⌝ }
+    ensures { λ r. ⌜ r ≡ runEndRule (tables (now (lengths .entry)) (now (places .entry)) (now (body .entry))) k w ⌝ }
+{
+    if w == 2 {
+        return node_rules::run_end_rule_i16(lengths, places, body, k);
+    }
+    if w == 4 {
+        return node_rules::run_end_rule_i32(lengths, places, body, k);
+    }
+    node_rules::run_end_rule_i64(lengths, places, body, k)
+}
+
+// The lengths of the first m children of node i, in field order.
+fn field_lengths(
+    schema: &[u32],
+    lengths: &[u64],
+    first: usize,
+    n: usize,
+    i: usize,
+    m: usize,
+) -> [u64; 16]
+    requires { ⌜ (first < 2 ^ 32) × (n ≤ 32) × (i < n) × (m ≤ 16) ⌝ }
+    ensures { λ r. ⌜ ((j : ℕ) → j < m → getD r j 0 ≡ lengthOf (tables (now (lengths .entry)) [] []) (first + childAt (now (schema .entry)) first n i j)) ⌝ }
+{
+    let mut lens = [0u64; 16];
+    let mut node = i + 1;
+    let mut j = 0;
+    while j < m {
+        lens[j] = lent_tables::length_of(lengths, first + node);
+        node = schema::end_of(schema, first, n, node);
+        j += 1;
+    }
+    lens
+}
+
+// The rule of a union node, which has no data buffers.
+fn union_ok(
+    formats: &[u8],
+    schema: &[u32],
+    lengths: &[u64],
+    places: &[u32],
+    body: &[u8],
+    first: usize,
+    n: usize,
+    i: usize,
+    sparse: bool,
+) -> bool
+    requires { ⌜ Ready (now formats) (now schema) (tables (now lengths) (now places) (now body)) first n × (i < n) × (isUnion (codeOf (now formats) (now schema) first i) ≡ true) × (sparse ≡ eqb (codeOf (now formats) (now schema) first i) 19) ⌝ }
+    ensures { λ r. ⌜ ((buffers : List ℕ) → r ≡ nodeRule (treeOf (now (formats .entry)) (now (schema .entry)) first n) (tablesFrom (tablesOf (now (lengths .entry)) (now (places .entry)) buffers (now (body .entry))) first) i) ⌝ }
+{
+    let at = schema::get(schema, first + i, 0) as usize;
+    let len = schema::get(schema, first + i, 1) as usize;
+    let mut ids = [0u8; 16];
+    let format_ids::Ids::Count(count) = format_ids::union_ids(formats, at, len, &mut ids) else {
+        return false;
+    };
+    let m = count as usize;
+    let lens = field_lengths(schema, lengths, first, n, i, m);
+    let front = 0;
+    if sparse {
+        return kind_rules::sparse_rule(lengths, places, body, first + i, &ids[front..m], &lens);
+    }
+    kind_rules::dense_rule(lengths, places, body, first + i, &ids[front..m], &lens)
+}
+
+// The rule of node i of a source.
+fn node_ok(
+    formats: &[u8],
+    schema: &[u32],
+    lengths: &[u64],
+    places: &[u32],
+    buffers: &[u32],
+    body: &[u8],
+    first: usize,
+    n: usize,
+    i: usize,
+) -> bool
+    requires { ⌜ Ready (now formats) (now schema) (tablesOf (now lengths) (now places) (now buffers) (now body)) first n × (i < n) ⌝ }
+    ensures { λ r. ⌜ r ≡ nodeRule (treeOf (now (formats .entry)) (now (schema .entry)) first n) (tablesFrom (tablesOf (now (lengths .entry)) (now (places .entry)) (now (buffers .entry)) (now (body .entry))) first) i ⌝ }
+{
+    let k = first + i;
+    let code = schema::code_of(formats, schema, first, i);
+    if formats::is_fixed(code) {
+        let single = schema::dictionary_of(schema, first, i) == 0;
+        return number_ok(lengths, places, body, k, code, single);
+    }
+    if formats::is_view(code) {
+        return kind_rules::view_rule(lengths, places, buffers, body, k);
+    }
+    if formats::is_union(code) {
+        return union_ok(
+            formats,
+            schema,
+            lengths,
+            places,
+            body,
+            first,
+            n,
+            i,
+            code == 19,
+        );
+    }
+    if formats::is_run_end(code) {
+        let ends = schema::code_of(formats, schema, first, i + 1);
+        return run_end_ok(lengths, places, body, k, formats::width_of(ends));
+    }
+    let w = formats::width_of(code);
+    if formats::is_string(code) {
+        return string_ok(lengths, places, body, k, w);
+    }
+    list_view_ok(lengths, places, body, k, w)
+}
+
+// Whether every node of a source obeys its rule: ground 12 where not.
+pub fn source_ok(
+    formats: &[u8],
+    schema: &[u32],
+    lengths: &[u64],
+    places: &[u32],
+    buffers: &[u32],
+    body: &[u8],
+    first: usize,
+    n: usize,
+) -> bool
+    requires { ⌜ Ready (now formats) (now schema) (tablesOf (now lengths) (now places) (now buffers) (now body)) first n ⌝ }
+    ensures { λ r. ⌜ r ≡ sourceRule (treeOf (now (formats .entry)) (now (schema .entry)) first n) (tablesFrom (tablesOf (now (lengths .entry)) (now (places .entry)) (now (buffers .entry)) (now (body .entry))) first) ⌝ }
+{
+    let mut i = 0;
+    while i < n {
+        if !node_ok(formats, schema, lengths, places, buffers, body, first, n, i) {
+            return false;
+        }
+        i += 1;
+    }
+    true
+}
