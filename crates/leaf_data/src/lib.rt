@@ -1,6 +1,5 @@
 // What a node holds by its format's code, where no child is walked for it: validity, and the data of leaves; the same for nulls.
 // The answer is 0 or the ground of refusal; a walk that only tries changes the counters alone.
-ghost use mathlib.Core.Path.{_≡_};
 ghost use mathlib.Core.Bool.{cond};
 ghost use mathlib.Core.List.{List};
 ghost use Prim.Native.Nat.{ℕ, _+_, _<_, _≤_, _^_};

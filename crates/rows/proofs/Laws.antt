@@ -1,11 +1,11 @@
 -- The walk's steps at a node with children, by the ways that the code goes. Assumes nothing.
 use mathlib.Core.Path.{_≡_, refl, sym, ap, _∙_}
-use mathlib.Core.Bool.{Bool, true, false, not, cond, _&&_, _||_}
+use mathlib.Core.Bool.{Bool, true, false, not, _&&_}
 use mathlib.Core.List.{List, [], _∷_}
-use Prim.Native.Nat.{ℕ, suc, _+_, _*_, _/_, _^_, _≤_, _<_}
+use Prim.Native.Nat.{ℕ, suc, _+_, _*_, _≤_, _<_}
 use native.Mathlib.Omega.{arith}
 use lib.ListN.{length, getD, replicate}
-use lib.Dec.{ltb, leb, eqb}
+use lib.Dec.{ltb, eqb}
 use borrow.Author.Tests.{lt-ltb, le-ltb, le-leb, lt-leb, ltb-true, ltb-false, eqb-true, eqb-false, ne-eqb}
 use Rattle.number.specs.Number.{encode, entry}
 use Rattle.columnar.specs.Types.{half}
@@ -15,7 +15,7 @@ use Rattle.run_ends.specs.Clip.{clipped}
 use Rattle.run_ends.specs.declared.Runs.{Runs}
 use Rattle.lent_tables.proofs.Laws.{no, yes, and-left, and-right}
 use Rattle.walk.specs.State.{Join, bytesOf, endOf, idOf, rows, addRows, place, lengthOf, offsetOf, rowsIn, scaled, grown}
-use Rattle.walk.specs.Log.{Entry, Out, Did, put, applyIf, done, wrote, need, next}
+use Rattle.walk.specs.Log.{Entry, Out, Did, put, applyIf, wrote, need, next}
 use Rattle.walk.specs.Copy.{Walk, isWidth, listViewRow, denseTo, idAt, positionAt, runsAt}
 use Rattle.walk.specs.Nulls.{nullableChild, noHome}
 use Rattle.walk.proofs.Laws.{done-did, wrote-did, need-no, need-ok, next-no, next-ok, next-need, next-wrote}

@@ -1,5 +1,4 @@
 -- `rows::dense_numbers` meets its contract. Assumes nothing.
-use native.Mathlib.Omega.{arith}
 use mathlib.Core.Path.{refl}
 use Rattle.rows.proofs.Laws.{dense-no, dense-yes}
 use borrow.Author.Needs.{needs}

@@ -1,5 +1,4 @@
 -- `rows::null_positions` meets its contract. Assumes nothing.
-use native.Mathlib.Omega.{arith}
 use Rattle.rows.proofs.Laws.{positions-no, positions-stop, positions-yes}
 use borrow.Author.Needs.{needs}
 use Rattle.rows.proofs.null_positions.Statement.{statement}

@@ -1,7 +1,7 @@
 -- `rows::runs_ready` meets its contract. Assumes nothing.
 use native.Mathlib.Omega.{arith}
 use native.Mathlib.Numerals.{add-one}
-use mathlib.Core.Path.{_∙_, sym, ap}
+use mathlib.Core.Path.{_∙_, ap}
 use Rattle.walk.specs.State.{bytesOf}
 use Rattle.leaf_walk.specs.Join.{join}
 use Rattle.rows.proofs.Laws.{ends-ready, wide-in, ready-none, ready-over, ready-out, ready-yes}
