@@ -1,6 +1,4 @@
 -- `steps::runs_of` meets its contract. Assumes nothing.
-use borrow.Author.Needs.{needs}
-use native.Mathlib.Omega.{arith}
 use Rattle.steps.proofs.runs_of.Statement.{statement}
 use Rattle.steps.proofs.runs_of.Tie as tie
 

@@ -1,0 +1,2 @@
+-- What the cycle of a copy goes by.
+pub mod Laws

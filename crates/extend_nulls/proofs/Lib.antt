@@ -1,0 +1,2 @@
+-- What the cycle of nulls goes by.
+pub mod Laws

@@ -1,0 +1,2 @@
+-- What a node's data goes by, code by code.
+pub mod Laws
