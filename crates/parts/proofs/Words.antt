@@ -53,7 +53,7 @@ module _ (state : List ℕ) (i : ℕ) (c : copied state i ≡ true) where
   unfolding hasPart bufferParts
   has-buffers b l = rw c (lt-ltb b (bufferCount (codeOf state i)) l)
 
--- a node behind one with no dictionary is copied, and so are the values of a joined one
+-- a node behind one with no dictionary is copied
 pub copied-plain : (state : List ℕ) (i : ℕ) → dictionaryOf state i ≡ 0 → copied state (suc i) ≡ true
 unfolding copied
 copied-plain state i e = rw e
