@@ -165,7 +165,7 @@ module _ (formats schema : List ℕ) (first first′ n : ℕ) (agree : (i : ℕ)
   end-from-same (suc f) (suc p) i l =
       ap (λ b. endFrom schema first f (p + b) (suc i)) (below-same i (omega arith)) ∙ end-from-same f (p + below schema first′ i) (suc i) (omega arith)
 
-  end-same : (i : ℕ) → i ≤ n → endOf schema first n i ≡ endOf schema first′ n i
+  pub end-same : (i : ℕ) → i ≤ n → endOf schema first n i ≡ endOf schema first′ n i
   unfolding endOf
   end-same i l = end-from-same (n - i) 1 i (omega arith)
 

@@ -2,7 +2,7 @@
 use mathlib.Core.Path.{_≡_, refl}
 use mathlib.Core.Bool.{true}
 use mathlib.Core.List.{List}
-use Prim.Native.Nat.{ℕ, zero, suc, _+_, _*_, _-_, _≤_, _<_}
+use Prim.Native.Nat.{ℕ, zero, suc, _+_, _*_, _-_, _<_}
 use native.Mathlib.Omega.{arith}
 use lib.ListN.{take, drop, replicate}
 use lib.Dec.{ltb, eqb}
@@ -41,7 +41,7 @@ module _ (x : Join) (In At : ℕ → Type 0) (closed : Closed (x .state) In At) 
         (λ g. uses-next U _ _ (uses-mask (x .state) At i small here (rows c i) (bitsAt (8 * place x i 1 + slot) n (x .body)) c (eqb-false (keepsOf (x .state) i) 0 e, h) (bits-part (8 * place x i 1 + slot) n (x .body)))
         (λ c2. uses-done U _))))
 
-    module _ (code : (1 ≤ codeOf (x .state) i) × (codeOf (x .state) i < 21)) where
+    module _ (code : HasBuffer (x .state) i 1) where
       uses-numbers : (w slot n : ℕ) (c : List ℕ) → Uses U (copyNumbers x i w slot n c)
       unfolding copyNumbers
       uses-numbers w slot n c = uses-need U _ 12 c _ (λ e. uses-put (x .state) At i small here 0 (rows c i * w) _ c code (bytes-part (place x i 3 + w * slot) (w * n) (x .body) body))
@@ -76,7 +76,7 @@ module _ (x : Join) (In At : ℕ → Type 0) (closed : Closed (x .state) In At) 
     unfolding copyListView listViewRow
     uses-list-view w slot n c h =
         let z = between-both 17 18 (codeOf (x .state) i) h in
-        let code : (1 ≤ codeOf (x .state) i) × (codeOf (x .state) i < 21) = (omega (arith, z .0), omega (arith, z .1)) in
+        let code : HasBuffer (x .state) i 1 = (omega (arith, z .0), omega (arith, z .1)) in
         uses-need U _ 12 c _
         (λ e. uses-need U _ 12 c _
         (λ f. uses-each U _
@@ -98,7 +98,7 @@ module _ (x : Join) (In At : ℕ → Type 0) (closed : Closed (x .state) In At) 
         (λ e. uses-done U c)
 
     module _ (union : isUnion (codeOf (x .state) i) ≡ true) where
-      union-code : (1 ≤ codeOf (x .state) i) × (codeOf (x .state) i < 21)
+      union-code : HasBuffer (x .state) i 1
       union-code = let z = between-both 19 20 (codeOf (x .state) i) union in (omega (arith, z .0), omega (arith, z .1))
 
       uses-sparse : (slot n : ℕ) (c : List ℕ) → Uses U (copySparse x walk i slot n c)
@@ -134,7 +134,8 @@ module _ (x : Join) (In At : ℕ → Type 0) (closed : Closed (x .state) In At) 
         (λ e. uses-need U (ltb (suc (suc i)) 32) 12 c _
         (λ f. uses-need U (ltb (rows c i + n) (half (bytesOf (x .state) (suc i)))) 7 c _
         (λ g. uses-need U _ 12 c _
-        (λ h. uses-runs-put (bytesOf (x .state) (suc i)) slot n (runsAt x walk (bytesOf (x .state) (suc i)) i slot n) c q (ltb-true (suc (suc i)) 32 f) (ends-code (rows c i + n) (codeOf (x .state) (suc i)) g)))))
+        (λ h. let z = ends-code (rows c i + n) (codeOf (x .state) (suc i)) g in
+        uses-runs-put (bytesOf (x .state) (suc i)) slot n (runsAt x walk (bytesOf (x .state) (suc i)) i slot n) c q (ltb-true (suc (suc i)) 32 f) (z .0, omega (arith, z .1))))))
 
     uses-data : (slot n : ℕ) (c : List ℕ) → Uses U (copyData x walk (codeOf (x .state) i) i slot n c)
     unfolding copyData

@@ -2,7 +2,7 @@
 use mathlib.Core.Path.{_≡_, refl}
 use mathlib.Core.Bool.{true}
 use mathlib.Core.List.{List}
-use Prim.Native.Nat.{ℕ, zero, suc, _+_, _*_, _%_, _≤_, _<_}
+use Prim.Native.Nat.{ℕ, zero, suc, _+_, _*_, _%_, _<_}
 use native.Mathlib.Omega.{arith}
 use lib.ListN.{replicate}
 use lib.Dec.{ltb, eqb}
@@ -66,7 +66,7 @@ module _ (x : Join) (In At : ℕ → Type 0) (closed : Closed (x .state) In At) 
         (λ e. uses-done U c)
 
     module _ (union : isUnion (codeOf (x .state) i) ≡ true) where
-      union-code : (1 ≤ codeOf (x .state) i) × (codeOf (x .state) i < 21)
+      union-code : HasBuffer (x .state) i 1
       union-code = let z = between-both 19 20 (codeOf (x .state) i) union in (omega (arith, z .0), omega (arith, z .1))
 
       uses-null-sparse : (n : ℕ) (c : List ℕ) → Uses U (nullSparse x walk i n c)
@@ -93,8 +93,11 @@ module _ (x : Join) (In At : ℕ → Type 0) (closed : Closed (x .state) In At) 
         uses-next U _ _ (below (suc (suc i)) 1 c (closed .values i here q))
         (λ c2. uses-need U (ltb (rows c2 i + n) (half (bytesOf (x .state) (suc i)))) 7 c2 _
         (λ g. uses-next U _ _
-        (uses-put (x .state) At (suc i) (omega arith) (closed .ends i here q) 0 _ _ c2 (ends-code (rows c2 i + n) (codeOf (x .state) (suc i)) g) (bytes-encode (bytesOf (x .state) (suc i)) (rows c2 i + n)))
+        (uses-put (x .state) At (suc i) (omega arith) (closed .ends i here q) 0 _ _ c2 (ends (rows c2 i + n) g) (bytes-encode (bytesOf (x .state) (suc i)) (rows c2 i + n)))
         (λ c3. uses-done U _))))
+      where
+        ends : (v : ℕ) → ltb v (half (bytesOf (x .state) (suc i))) ≡ true → HasBuffer (x .state) (suc i) 1
+        ends v g = let z = ends-code v (codeOf (x .state) (suc i)) g in (z .0, omega (arith, z .1))
 
     uses-null-data : (n : ℕ) (c : List ℕ) → Uses U (nullData x walk (codeOf (x .state) i) i n c)
     unfolding nullData

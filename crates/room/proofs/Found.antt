@@ -39,12 +39,12 @@ no-width z h =
 nothing-below : (v w : ℕ) → w ≡ 0 → ltb v (half w) ≡ true → ⊥
 nothing-below v w e h = let l : ltb v (half 0) ≡ true = rw e at h in omega (arith, ltb-true v (half 0) l)
 
-pub ends-code : (v z : ℕ) → ltb v (half (widthOf z)) ≡ true → (1 ≤ z) × (z < 21)
+pub ends-code : (v z : ℕ) → ltb v (half (widthOf z)) ≡ true → (1 ≤ z) × (z < 19)
 ends-code v zero h = absurd (nothing-below v (widthOf 0) refl h)
 ends-code v (suc z) h = (omega arith, go (ltb (suc z) 19) refl)
   where
-    go : (t : Bool) → ltb (suc z) 19 ≡ t → suc z < 21
-    go true e = omega (arith, ltb-true (suc z) 19 e)
+    go : (t : Bool) → ltb (suc z) 19 ≡ t → suc z < 19
+    go true e = ltb-true (suc z) 19 e
     go false e = absurd (nothing-below v (widthOf (suc z)) (no-width (suc z) (ltb-false (suc z) 19 e)) h)
 
 -- ---- children

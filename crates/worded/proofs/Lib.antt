@@ -5,4 +5,6 @@ pub mod Planted
 pub mod Worded
 pub mod Lent
 pub mod Self
+pub mod OneTree
 pub mod Opened
+pub mod Words

@@ -1,11 +1,11 @@
 -- Sources that an opening takes are what the walk of an order is given. Assumes nothing.
-use mathlib.Core.Path.{_≡_, refl, ap, sym, subst, _∙_}
-use mathlib.Core.Bool.{Bool, true, false}
+use mathlib.Core.Path.{_≡_, refl, sym, subst, _∙_}
+use mathlib.Core.Bool.{Bool, true}
 use mathlib.Core.List.{List, List·Memᴰ}
 use Prim.Native.Nat.{ℕ, zero, suc, _+_, _<_}
 use native.Mathlib.Omega.{arith}
 use lib.Dec.{T}
-use Rattle.columnar.specs.Reading.{Source}
+use Rattle.columnar.specs.Reading.{Column, Source}
 use Rattle.schema.specs.Tree.{below, ceilings, typed, sameType}
 use Rattle.schema.proofs.Known.{typed-whole, typed-shape, same-size, same-node}
 use Rattle.array_data.specs.Tables.{Tables, lengthOf, offsetOf}
@@ -22,11 +22,12 @@ use Rattle.link.specs.Holds.{childOf}
 use Rattle.link.specs.Lent.{Lent, Based}
 use Rattle.link.proofs.Types.{Opened}
 use Rattle.worded.specs.Planted.{Planted, joinOf}
-use Rattle.worded.specs.Taken.{typeIs, columns, Taken}
+use Rattle.worded.specs.Taken.{typeIs, columns, columnsAs, Taken}
 use Rattle.worded.proofs.Planted.{union-below, child-node}
 use Rattle.worded.proofs.Worded.{planted-worded}
 use Rattle.worded.proofs.Lent.{lent-at}
 use Rattle.worded.proofs.Self.{same-self}
+use Rattle.worded.proofs.OneTree.{same-column}
 
 module _ (formats schema : List ℕ) (first n : ℕ) (state : List ℕ)
     (t : typed formats schema first n ≡ true) (c : ceilings formats schema first n ≡ true) (p : Planted state formats schema first n)
@@ -66,23 +67,40 @@ module _ (formats schema : List ℕ) (x : Tables) (firstOf nodesOf : ℕ → ℕ
   all-alike zero l = same-self formats schema (firstOf 0) (nodesOf 0) (k .is-typed)
   all-alike (suc s) l = k .alike (suc s) (omega arith) l
 
-  pub all-obey : (s : ℕ) → s < m → Source (typeIs formats schema x firstOf nodesOf) (columns formats schema x firstOf nodesOf s)
+  pub all-obey : (s : ℕ) → s < m → Source (typeIs formats schema firstOf nodesOf) (columns formats schema x firstOf nodesOf s)
   all-obey s l =
       same-source formats schema (firstOf 0) (nodesOf 0) (tablesFrom x (firstOf s)) (k .is-typed) (k .low) (firstOf s) (nodesOf s) (all-alike s l) (k .rules s l)
 
-  -- WHAT AN ORDER WITH SOURCE s IS GIVEN
-  pub opened : (parts : List ℕ) (s : ℕ) → s < m
-      → Based state s (typeIs formats schema x firstOf nodesOf) 0 m (λ j. columns formats schema x firstOf nodesOf j .body)
-      → Ready (typeIs formats schema x firstOf nodesOf) m (λ j. columns formats schema x firstOf nodesOf j .body)
-      → Opened (joinOf x state parts (firstOf s) s) 8 (typeIs formats schema x firstOf nodesOf) 0 m (columns formats schema x firstOf nodesOf)
-  opened parts s l b r =
+  -- WHAT AN ORDER WITH SOURCE s IS GIVEN, for columns that are those of the sources
+  pub opened-as : (ss : ℕ → Column (typeIs formats schema firstOf nodesOf)) → ((j : ℕ) → j < m → ss j ≡ columns formats schema x firstOf nodesOf j) → (parts : List ℕ) (s : ℕ) → s < m
+      → Based state s (typeIs formats schema firstOf nodesOf) 0 m (λ j. ss j .body)
+      → Ready (typeIs formats schema firstOf nodesOf) m (λ j. ss j .body)
+      → Opened (joinOf x state parts (firstOf s) s) 8 (typeIs formats schema firstOf nodesOf) 0 m ss
+  opened-as ss e parts s l b r =
       record {
         worded = planted-worded formats schema (firstOf 0) (nodesOf 0) state (k .is-typed) (k .low) (k .planted);
         formed = formed formats schema (firstOf 0) (nodesOf 0) (k .is-typed) (k .low);
         known = l;
         body-small = k .body-small;
-        lent = lent-column formats schema (firstOf 0) (nodesOf 0) state (k .is-typed) (k .low) (k .planted) (firstOf s) (nodesOf s) (all-alike s l) x parts s (k .rules s l) (k .sums s l);
+        lent = subst (Lent (joinOf x state parts (firstOf s) s) (typeIs formats schema firstOf nodesOf) 0) (sym (e s l))
+            (lent-column formats schema (firstOf 0) (nodesOf 0) state (k .is-typed) (k .low) (k .planted) (firstOf s) (nodesOf s) (all-alike s l) x parts s (k .rules s l) (k .sums s l));
         based = b;
-        obey = all-obey;
+        obey = λ j h. subst (Source (typeIs formats schema firstOf nodesOf)) (sym (e j h)) (all-obey j h);
         ready = r;
       }
+
+  -- .. read by their own trees
+  pub opened : (parts : List ℕ) (s : ℕ) → s < m
+      → Based state s (typeIs formats schema firstOf nodesOf) 0 m (λ j. columns formats schema x firstOf nodesOf j .body)
+      → Ready (typeIs formats schema firstOf nodesOf) m (λ j. columns formats schema x firstOf nodesOf j .body)
+      → Opened (joinOf x state parts (firstOf s) s) 8 (typeIs formats schema firstOf nodesOf) 0 m (columns formats schema x firstOf nodesOf)
+  opened = opened-as (columns formats schema x firstOf nodesOf) (λ j h. refl)
+
+  -- .. or all by the first source's
+  pub opened-one : (parts : List ℕ) (s : ℕ) → s < m
+      → Based state s (typeIs formats schema firstOf nodesOf) 0 m (λ j. columnsAs formats schema x firstOf nodesOf j .body)
+      → Ready (typeIs formats schema firstOf nodesOf) m (λ j. columnsAs formats schema x firstOf nodesOf j .body)
+      → Opened (joinOf x state parts (firstOf s) s) 8 (typeIs formats schema firstOf nodesOf) 0 m (columnsAs formats schema x firstOf nodesOf)
+  opened-one =
+      opened-as (columnsAs formats schema x firstOf nodesOf)
+      (λ j h. same-column formats schema (firstOf 0) (nodesOf 0) (firstOf j) (nodesOf j) (all-alike j h) (tablesFrom x (firstOf j)) (typeIs formats schema firstOf nodesOf) 0)

@@ -1,12 +1,11 @@
 -- What a state that has a tree's words says of each node, and the children of its unions. Assumes nothing.
 use mathlib.Core.Path.{_≡_, refl, ap, sym, subst, _∙_}
 use mathlib.Core.Bool.{Bool, true, false, not, cond, _||_, false≢true}
-use mathlib.Core.Option.{Option}
 use mathlib.Core.List.{List, [], _∷_, List·Memᴰ, List·Memᴰ·head, List·Memᴰ·tail}
-use Prim.Native.Nat.{ℕ, zero, suc, _+_, _%_, min, _≤_, _<_}
+use Prim.Native.Nat.{ℕ, zero, suc, _+_, _%_, _≤_, _<_}
 use native.Mathlib.Omega.{arith}
 use lib.ListN.{length}
-use lib.Dec.{leb, ltb, eqb}
+use lib.Dec.{leb, eqb}
 use borrow.Author.Tests.{leb-true, lt-ltb, eqb-true, eqb-false, eq-eqb, ne-eqb}
 use Rattle.columnar.specs.Types.{fixed, string}
 use Rattle.columnar.specs.Formed.{Ids}
@@ -15,14 +14,14 @@ use Rattle.schema.specs.Tree.{flag, children, dictionary, below, endOf, childAt
 use Rattle.schema.proofs.Trees.{child-inside, children-end, end-after, end-inside}
 use Rattle.schema.proofs.Depth.{nested, child-before}
 use Rattle.schema.proofs.Known.{typed-whole, typed-shape, within-nodes, within-fields}
-use Rattle.array_data.specs.Typed.{NodeKind, fixedNode, stringNode, viewNode, listViewNode, sparseNode, denseNode, runEndNode, dictionaryNode, Tree, childNode, fieldOf, nodeOf}
-use Rattle.lent.specs.Lent.{idsOr, unionKind, kindAt, treeOf}
+use Rattle.array_data.specs.Typed.{NodeKind, fixedNode, stringNode, viewNode, listViewNode, sparseNode, denseNode, runEndNode, dictionaryNode, fieldOf, nodeOf}
+use Rattle.lent.specs.Lent.{unionKind, kindAt, treeOf}
 use Rattle.lent.proofs.Ids.{cond-yes, cond-no, field-in}
 use Rattle.lent.proofs.Shaped.{Shaped, of-plain, of-view, of-list, of-sparse, of-dense, of-run, of-dictionary, shaped}
 use Rattle.lent.proofs.Lent.{child-same, first-child}
-use Rattle.node_table.specs.Words.{wordOf, childId}
+use Rattle.node_table.specs.Words.{childId}
 use Rattle.node_table.proofs.Laws.{zeroth, first-word, second-word, third-word, fourth-word}
-use Rattle.walk.specs.State.{word, dictionaryOf, idOf, nullableOf, bytesOf}
+use Rattle.walk.specs.State.{word, dictionaryOf, idOf, nullableOf}
 use Rattle.walk.specs.Copy.{childWith}
 use Rattle.link.specs.Holds.{childOf, Fields}
 use Rattle.worded.specs.Planted.{Planted}

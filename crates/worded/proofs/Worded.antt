@@ -6,8 +6,8 @@ use Prim.Native.Nat.{ℕ, zero, suc, _+_, _≤_, _<_}
 use native.Mathlib.Omega.{arith}
 use lib.ListN.{length}
 use lib.Dec.{eqb}
-use borrow.Author.Tests.{eqb-true, eqb-false}
-use Rattle.columnar.specs.Types.{width, Plain, fixed, string}
+use borrow.Author.Tests.{eqb-false}
+use Rattle.columnar.specs.Types.{width, fixed, string}
 use Rattle.columnar.specs.Formed.{RunWidth, two, four, eight}
 use Rattle.formats.specs.Code.{isFixed, isString, isView, isListView, widthOf}
 use Rattle.schema.specs.Tree.{dictionary, below, endOf, childAt, depth, codeOf, idsOf, ceilings, typed}
@@ -23,7 +23,7 @@ use Rattle.walk.specs.Copy.{isWidth}
 use Rattle.link.specs.Holds.{Worded}
 use Rattle.worded.specs.Planted.{Planted}
 use Rattle.worded.proofs.Codes.{Coded, no-dictionary}
-use Rattle.worded.proofs.Planted.{whole-tree, in-state, code-is, dictionary-is, end-is, coded-is, few-ids, fields}
+use Rattle.worded.proofs.Planted.{in-state, code-is, dictionary-is, end-is, coded-is, few-ids, fields}
 
 run-width : (v : ℕ) → RunWidth v → isWidth v ≡ true
 unfolding isWidth

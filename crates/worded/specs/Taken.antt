@@ -14,15 +14,18 @@ use Rattle.lent.specs.Lent.{treeOf, typeOf}
 use Rattle.walk.specs.State.{far}
 use Rattle.worded.specs.Planted.{Planted}
 
--- source s: its first node in the tables, and how many it has
-module _ (formats schema : List ℕ) (x : Tables) (firstOf nodesOf : ℕ → ℕ) where
-  -- the type is the first source's
-  abbrev pub typeIs : Ty
-  typeIs = typeOf formats schema (firstOf 0) (nodesOf 0)
+-- source s: its first node in the tables, and how many it has; the type is that of the first source
+abbrev pub typeIs : List ℕ → List ℕ → (ℕ → ℕ) → (ℕ → ℕ) → Ty
+typeIs formats schema firstOf nodesOf = typeOf formats schema (firstOf 0) (nodesOf 0)
 
-  -- the column of each
-  abbrev pub columns : ℕ → Column typeIs
-  columns s = columnOf (treeOf formats schema (firstOf s) (nodesOf s)) (tablesFrom x (firstOf s)) typeIs 0
+module _ (formats schema : List ℕ) (x : Tables) (firstOf nodesOf : ℕ → ℕ) where
+  -- the column of each, by its own tree
+  abbrev pub columns : ℕ → Column (typeIs formats schema firstOf nodesOf)
+  columns s = columnOf (treeOf formats schema (firstOf s) (nodesOf s)) (tablesFrom x (firstOf s)) (typeIs formats schema firstOf nodesOf) 0
+
+  -- .. and by the first source's, whose children stand at the same nodes
+  abbrev pub columnsAs : ℕ → Column (typeIs formats schema firstOf nodesOf)
+  columnsAs s = columnOf (treeOf formats schema (firstOf 0) (nodesOf 0)) (tablesFrom x (firstOf s)) (typeIs formats schema firstOf nodesOf) 0
 
   -- m sources that pass grounds 9 to 12
   pub record Taken (state : List ℕ) (m : ℕ) : Type 0 where
