@@ -67,8 +67,8 @@ module _ (plan parts : List ℕ) (laid : Laid plan) (c : List ℕ) (μ : Memory)
   node-enough k t i ss d w free f h e below =
       let own = own-of plan parts c μ k t i m (λ j. ss j .body) _ (d .«data») (d .len) w (h .rows-are) (f .data-fine) (h .data-are) in
       let r =
-          own-enough plan parts c μ i (buffersOf t (d .«data»)) own free (masks t) (masks-code plan k t i w) (d .bits) (d .len) (h .rows-are) (h .bits-are)
-          (λ b g. e i b (omega arith) (worded-span plan k t i w) free g) in
+      own-enough plan parts c μ i (buffersOf t (d .«data»)) own free (masks t) (masks-code plan k t i w) (d .bits) (d .len) (h .rows-are) (h .bits-are)
+      (λ b g. e i b (omega arith) (worded-span plan k t i w) free g) in
       rw (r .0, r .1, below)
 
   union-here : (k : ℕ) (g : ℕ → Ty) (nullable : ℕ → Bool) (ids : List ℕ) (i : ℕ) → length ids ≤ 16 → Fields plan (λ z. Worded plan k (g z)) nullable (endOf plan i) ids (suc i)
@@ -114,7 +114,7 @@ module _ (plan parts : List ℕ) (laid : Laid plan) (c : List ℕ) (μ : Memory)
       let one = fixed-one (codeOf plan (suc i)) (r .0) in
       let n = e (suc i) 1 (omega arith) (omega arith) (at .1) (buffer-part plan (suc i) 0 (at .1) (omega arith)) in
       let q : needed plan c (suc i) 1 ≡ length (d .«data» .ends .«data») =
-          needed-fixed (codeOf plan (suc i)) (rows c (suc i)) (bytes c (suc i)) (r .0) ∙ times plan parts c μ (h .data-are .0) (w .3) ∙ sym (f .data-fine .ends-are) in
+      needed-fixed (codeOf plan (suc i)) (rows c (suc i)) (bytes c (suc i)) (r .0) ∙ times plan parts c μ (h .data-are .0) (w .3) ∙ sym (f .data-fine .ends-are) in
       let y : length (d .«data» .ends .«data») ≤ sizeOf plan parts (suc i) 1 = rw q at n in
       node-enough (suc k) (tRunEnd v t) i ss d w o f h e
       (rw (le-leb _ _ y)

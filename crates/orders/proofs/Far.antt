@@ -13,12 +13,19 @@ use Rattle.columnar.specs.Formed.{OffsetWidth, RunWidth, four, eight, two, Form
 use Rattle.walk.specs.State.{far}
 use Rattle.model.specs.Try.{Try, done, stop, then, guard}
 use Rattle.model.specs.Ordered.{home}
+use Rattle.model.proofs.Agree.{Agrees}
 use Rattle.model.specs.Grounds.{Counts, counts, rowsOf, kidOf, each, sparseAll, withKid, unlessNone, nullsAsk, askNulls}
 
 -- both done, or both stopped by one ground
 pub data Alike {A B : Type 0} : Try A → Try B → Type 0 where
   both : (x : A) (y : B) → Alike (done x) (done y)
   neither : (g : ℕ) → Alike (stop g) (stop g)
+
+-- what agrees with answers that are alike
+pub alike-by : {A B C D : Type 0} {see : A → C} {Q : A → Type 0} {look : B → D} {R : B → Type 0} {p : Try A} {q : Try B} {s : Try C} {r : Try D}
+    → Agrees see Q p s → Alike s r → Agrees look R q r → Alike p q
+alike-by (Agrees.both x h) (Alike.both _ _) (Agrees.both y k) = both x y
+alike-by (Agrees.neither g) (Alike.neither _) (Agrees.neither _) = neither g
 
 alike-then : {A B C D : Type 0} {s : Try A} {r : Try B} (f : A → Try C) (h : B → Try D) → Alike s r → ((x : A) (y : B) → Alike (f x) (h y)) → Alike (then s f) (then r h)
 alike-then f h (both x y) k = k x y

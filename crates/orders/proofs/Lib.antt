@@ -6,3 +6,4 @@ pub mod Enough
 pub mod Far
 pub mod Short
 pub mod Step
+pub mod Run

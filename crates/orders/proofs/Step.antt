@@ -1,13 +1,13 @@
 -- ONE ORDER on lent memory does what the model does. Assumes nothing.
 use mathlib.Core.Path.{_≡_, refl, sym, ap, subst, _∙_}
-use mathlib.Core.Bool.{Bool, true, false, cond, _&&_}
+use mathlib.Core.Bool.{Bool, true, false, not, cond, _&&_}
 use mathlib.Core.Option.{Option, none, some}
 use mathlib.Core.List.{List, [], _∷_}
 use Prim.Native.Nat.{ℕ, zero, suc, _+_, _*_, _-_, _≤_, _<_, min}
 use native.Mathlib.Nat.{add-zero}
 use native.Mathlib.Decide.{decLt}
 use native.Mathlib.Omega.{arith}
-use lib.ListN.{length, getD}
+use lib.ListN.{length, getD, replicate}
 use lib.Dec.{leb, ltb, eqb}
 use borrow.Author.Tests.{leb-true, ltb-true, eq-eqb, ne-eqb}
 use Rattle.lent_tables.proofs.Laws.{and-left, and-right}
@@ -15,7 +15,7 @@ use Rattle.columnar.specs.Types.{Ty}
 use Rattle.columnar.specs.Formed.{Formed}
 use Rattle.columnar.specs.Reading.{Column, masks, Source}
 use Rattle.model.specs.Try.{Try, done, stop, then, guard}
-use Rattle.model.specs.Mutable.{Mutable, keepsBits}
+use Rattle.model.specs.Mutable.{Mutable, keepsBits, grow, counted, nullsNode}
 use Rattle.model.specs.Transform.{Grown, Destination, keepsNulls, extend, nullsData}
 use Rattle.model.specs.Book.{Call, copy, nulls, answer}
 use Rattle.model.specs.Grounds.{Counts, askNulls}
@@ -23,7 +23,8 @@ use Rattle.model.specs.Held.{held}
 use Rattle.model.specs.Orders.{perform}
 use Rattle.model.proofs.Agree.{Agrees}
 use Rattle.model.proofs.Law.{Law, KeepNode}
-use Rattle.model.proofs.Nodes.{kindOf}
+use Rattle.model.proofs.Nodes.{kindOf, keepOf}
+use Rattle.model.proofs.Node.{node-fills}
 use Rattle.model.proofs.Types.{law}
 use Rattle.model.proofs.Book.{State, Did, one-order}
 use Rattle.walk.specs.State.{codeOf, endOf, keepsOf, far}
@@ -47,6 +48,7 @@ use Rattle.orders.proofs.Buffers.{buffer-part, has-part}
 use Rattle.orders.proofs.Own.{Bounded}
 use Rattle.orders.proofs.Cover.{Laid, covered}
 use Rattle.orders.proofs.Enough.{same-test}
+use Rattle.orders.proofs.Far.{Alike, both, neither, alike-by, alike-nulls}
 use Rattle.orders.proofs.Short.{short}
 
 -- ---- what an order is given
@@ -211,3 +213,113 @@ module _ (x : Lent) (t : Ty) (m : ℕ) (ss : ℕ → Column t) where
           same-guard (copy s a e) d counts room run (leb a e && leb e (ss s .len)) (leb a e && leb e (sourceLength x s)) 2 (extend t m ss s a (e - a) d)
           (settled x counts room (copyWalk (joinOf x s) 8 0 a (e - a) counts)) (ap (λ n. leb a e && leb e n) (length-is j)) (omega arith)
           (λ k. copy-walked j k h)))
+
+    -- ---- NULLS
+
+    -- where the node keeps nulls, by the plan's words
+    keeps-by : (b : Option (List Bool)) (v : Bool) (μ : Memory) → HoldsBits (x .plan) 0 v b μ → eqb (keepsOf (x .plan) 0) 0 ≡ not (keepsBits b)
+    keeps-by none v μ h = eq-eqb (keepsOf (x .plan) 0) 0 h
+    keeps-by (some l) true μ h = ne-eqb (keepsOf (x .plan) 0) 0 (h .0)
+    keeps-by (some l) false μ h = ne-eqb (keepsOf (x .plan) 0) 0 h
+
+    abbrev more-nulls : ℕ → Destination t → Grown t → Destination t
+    more-nulls n d b = record { len = d .len + suc n; null_count = d .null_count + counted (d .bits) (suc n); bits = grow (masks t) (replicate (suc n) false) (d .bits); «data» = b }
+
+    nulls-len : (n : ℕ) (d d′ : Destination t) → nullsNode (masks t) (nullsData t) (suc n) d ≡ done d′ → d′ .len ≡ d .len + suc n
+    nulls-len n d d′ e = go (nullsData t (suc n) (d .len) (d .«data»)) e
+      where
+        go : (p : Try (Grown t)) → then p (λ b. done (more-nulls n d b)) ≡ done d′ → d′ .len ≡ d .len + suc n
+        go (done b) q = let z : more-nulls n d b ≡ d′ = cc q in ap (λ v. v .len) (sym z)
+        go (stop g) q = absurd (let z : _≡_ {A = ℕ} 0 1 = cc q in omega arith)
+
+    module _ (n : ℕ) (d : Destination t) (counts room : List ℕ) (run : Running d counts room) (keeps : keepsNulls d ≡ true) where
+      kept : KeepNode (keepOf t) d
+      kept = record { here = keeps; below = run .state .keeps-below (sym (run .state .keeps-is) ∙ keeps) }
+
+      nulls-did : (k : ℕ) (d′ : Destination t) → nullsNode (masks t) (nullsData t) k d ≡ done d′ → Did t m ss lawful obeys keep (nulls k) d d′
+      nulls-did k d′ q = agrees-value (one-order t m ss lawful obeys keep (nulls k) d (run .state)) d′ (rw keeps q)
+
+      nulls-go : (k : ℕ) → k ≤ far
+          → Goes (run .memory) (λ d′ c′ μ′. Holds (x .plan) t 0 d′ c′ μ′ × Kept 0 (endOf (x .plan) 0) counts c′ (run .memory) μ′) (nullsNode (masks t) (nullsData t) k d) (nullWalk (joinOf x 0) 8 0 k counts)
+      nulls-go k l = fills (joinOf x 0) m 8 t 0 ss first-opened k d counts (run .memory) (run .state .fine) kept (omega (arith, run .short-of)) (run .long) (run .holds)
+
+      nulls-log : (k : ℕ) → AllUsed Own (nullWalk (joinOf x 0) 8 0 k counts .log)
+      nulls-log k = nulls-used (joinOf x 0) 8 t 0 (first-opened .worded) tt (join .laid .tabled) 8 k counts
+
+      -- a count that the walk takes as it is
+      near-step : n ≤ far → Answers (nulls n) d counts room (then (nullsNode (masks t) (nullsData t) n d) (tested (nulls n) d counts room run)) (settled x counts room (nullWalk (joinOf x 0) 8 0 n counts))
+      near-step l =
+          settle (nulls n) d counts room run (nullsNode (masks t) (nullsData t) n d) (nullWalk (joinOf x 0) 8 0 n counts) (nulls-go n l) (nulls-did n) (nulls-log n)
+
+      -- ---- a count beyond: no part holds its rows
+
+      small-room : 0 < bufferCount (codeOf (x .plan) 0) → sizeOf (x .plan) (x .parts) 0 1 < 4294967296
+      small-room p =
+          let u : Used (x .plan) 0 1 = record { node = omega (arith, join .all-nodes, worded-span (x .plan) 8 t 0 (first-opened .worded)); part = buffer-part (x .plan) 0 0 tt p } in
+          omega (arith, run .placed .inside 0 1 u, run .placed .small)
+
+      never-fits : (k : ℕ) → far ≤ suc k → (d′ : Destination t) → nullsNode (masks t) (nullsData t) (suc k) d ≡ done d′ → fits (x .plan) (x .parts) t 0 d′ ≡ false
+      never-fits k l d′ q = go (fits (x .plan) (x .parts) t 0 d′) refl
+        where
+          go : (b : Bool) → fits (x .plan) (x .parts) t 0 d′ ≡ b → fits (x .plan) (x .parts) t 0 d′ ≡ false
+          go true e =
+              let z = short (x .plan) (x .parts) m 8 t ss d′ (first-opened .worded) (first-opened .formed) (nulls-did (suc k) d′ q .state .fine) e small-room in
+              absurd (omega (arith, nulls-len k d d′ q))
+          go false e = e
+
+      alike-both : (k h : ℕ) → far ≤ suc k → far ≤ suc h → Alike (nullsNode (masks t) (nullsData t) (suc k) d) (nullsNode (masks t) (nullsData t) (suc h) d)
+      alike-both k h p q =
+          alike-by
+          (node-fills (kindOf t m (λ j. ss j .body)) m ss lawful (λ j l. obeys j l .mask) (suc k) d kept (run .state .fine))
+          (alike-nulls t k h (held t d) (first-opened .formed) p q)
+          (node-fills (kindOf t m (λ j. ss j .body)) m ss lawful (λ j l. obeys j l .mask) (suc h) d kept (run .state .fine))
+
+      by-far : {p r : Try (Destination t)} (w : Out) → Alike p r → Goes (run .memory) (λ d′ c′ μ′. Holds (x .plan) t 0 d′ c′ μ′ × Kept 0 (endOf (x .plan) 0) counts c′ (run .memory) μ′) r w
+          → ((d′ : Destination t) → p ≡ done d′ → fits (x .plan) (x .parts) t 0 d′ ≡ false)
+          → ((d′ : Destination t) → r ≡ done d′ → Answers (nulls n) d counts room (stop 13) (settled x counts room w))
+          → Answers (nulls n) d counts room (then p (tested (nulls n) d counts room run)) (settled x counts room w)
+      by-far w (both y z) g never h = rw (never y refl) (h z refl)
+      by-far _ (neither g) (over _ w e pos) never h = settled-stop (nulls n) d counts room run g w e pos
+
+      far-walk : (d′ : Destination t) → nullsNode (masks t) (nullsData t) far d ≡ done d′ → Answers (nulls n) d counts room (stop 13) (settled x counts room (nullWalk (joinOf x 0) 8 0 far counts))
+      far-walk d′ q =
+          let r = settle (nulls far) d counts room run (nullsNode (masks t) (nullsData t) far d) (nullWalk (joinOf x 0) 8 0 far counts) (nulls-go far (omega arith)) (nulls-did far) (nulls-log far) in
+          let f = never-fits 9223372036854775807 (omega arith) d′ q in
+          other (rw (q, f) at r)
+        where
+          other : {a : After} → Answers (nulls far) d counts room (stop 13) a → Answers (nulls n) d counts room (stop 13) a
+          other (not-made g a e p c r) = not-made g a e p c r
+
+      far-step : (k : ℕ) → n ≡ suc k → far < n → Answers (nulls n) d counts room (then (nullsNode (masks t) (nullsData t) n d) (tested (nulls n) d counts room run)) (settled x counts room (nullWalk (joinOf x 0) 8 0 far counts))
+      far-step k e l =
+          by-far {p = nullsNode (masks t) (nullsData t) n d} {r = nullsNode (masks t) (nullsData t) far d} (nullWalk (joinOf x 0) 8 0 far counts) (rw e (alike-both k 9223372036854775807 (omega arith) (omega arith))) (nulls-go far (omega arith))
+          (λ d′ q. never-fits k (omega arith) d′ (rw e at q)) far-walk
+
+      by-count : Answers (nulls n) d counts room (then (nullsNode (masks t) (nullsData t) n d) (tested (nulls n) d counts room run)) (settled x counts room (nullWalk (joinOf x 0) 8 0 (min n far) counts))
+      by-count = go (decLt far n)
+        where
+          some-count : (v : ℕ) → 0 < v → (v ≡ suc (v - 1))
+          some-count v p = omega arith
+
+          go : Dec (far < n)
+              → Answers (nulls n) d counts room (then (nullsNode (masks t) (nullsData t) n d) (tested (nulls n) d counts room run)) (settled x counts room (nullWalk (joinOf x 0) 8 0 (min n far) counts))
+          go (yes y) = let z : min n far ≡ far = omega arith in rw z (far-step (n - 1) (some-count n (omega arith)) y)
+          go (no y) = let z : min n far ≡ n = omega arith in rw z (near-step (omega arith))
+
+    pub nulls-step : (n : ℕ) (d : Destination t) (counts room : List ℕ) → Running d counts room
+        → Answers (nulls n) d counts room (answerIn (x .plan) (x .parts) t m ss (nulls n) d) (ordered x counts room (nulls n))
+    unfolding nullOrder
+    nulls-step n d counts room run =
+        rw (eq-eqb (length counts) 96 (run .long), keeps-by (d .bits) (masks t) (run .memory) (run .holds .bits-are)) (go (keepsNulls d) refl)
+      where
+        go : (b : Bool) → keepsNulls d ≡ b
+            → Answers (nulls n) d counts room (then (guard b 3 (nullsNode (masks t) (nullsData t) n d)) (tested (nulls n) d counts room run))
+            (cond (not b) (refused x counts room 3) (settled x counts room (nullWalk (joinOf x 0) 8 0 (min n far) counts)))
+        go true e = by-count n d counts room run e
+        go false e = refuse (nulls n) d counts room run 3 (omega arith)
+
+    -- ONE ORDER: the answer is the model's, and it is carried out as the model does, or changes nothing
+    pub order-step : (o : Call) (d : Destination t) (counts room : List ℕ) → Running d counts room
+        → Answers o d counts room (answerIn (x .plan) (x .parts) t m ss o d) (ordered x counts room o)
+    order-step (copy s a e) d counts room run = copy-step s a e d counts room run
+    order-step (nulls n) d counts room run = nulls-step n d counts room run

@@ -2,18 +2,19 @@
 -- dropped later included"). Assumes nothing.
 use mathlib.Core.Bool.{Bool, true, false, _&&_}
 use mathlib.Core.Option.{Option, none, some}
-use mathlib.Core.List.{List, [], _∷_}
+use mathlib.Core.List.{List, [], _∷_, _++_}
 use Prim.Native.Nat.{ℕ, zero, suc, _+_, _/_}
 use lib.ListN.{length}
 use lib.Dec.{leb}
+use Rattle.columnar.specs.Row.{Row}
 use Rattle.columnar.specs.Types.{Plain, fixed, string, Ty, tPlain, tView, tListView, tSparse, tDense, tRunEnd, tDictionary}
 use Rattle.columnar.specs.Plain.{PlainBody}
 use Rattle.columnar.specs.Reading.{Column, masks}
 use Rattle.columnar.specs.Test.{each}
-use Rattle.model.specs.Try.{Try, done, then, guard, after}
+use Rattle.model.specs.Try.{Try, done, stop, then, guard, after}
 use Rattle.model.specs.Mutable.{Mutable}
 use Rattle.model.specs.Transform.{Grown, Destination}
-use Rattle.model.specs.Book.{Call}
+use Rattle.model.specs.Book.{Call, entered}
 use Rattle.model.specs.Orders.{perform}
 use Rattle.link.specs.Holds.{childOf}
 use Rattle.parts.specs.Parts.{sizeOf}
@@ -74,3 +75,8 @@ module _ (plan parts : List ℕ) where
     abbrev pub answersIn : List Call → Destination t → Destination t
     answersIn [] d = d
     answersIn (o ∷ os) d = answersIn os (after (answerIn o d) d)
+
+    -- the book of the calls that are accepted here
+    abbrev pub bookIn : Bool → List Call → Destination t → List Row
+    bookIn keep [] d = []
+    bookIn keep (o ∷ os) d = elim (answerIn o d) [ done d′ ↦ entered t keep m ss o ++ bookIn keep os d′ | stop g ↦ bookIn keep os d ]
