@@ -7,3 +7,4 @@ pub mod Far
 pub mod Short
 pub mod Step
 pub mod Run
+pub mod Still
