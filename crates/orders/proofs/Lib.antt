@@ -5,6 +5,6 @@ pub mod Cover
 pub mod Enough
 pub mod Far
 pub mod Short
+pub mod Still
 pub mod Step
 pub mod Run
-pub mod Still

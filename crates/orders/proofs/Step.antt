@@ -27,34 +27,36 @@ use Rattle.model.proofs.Nodes.{kindOf, keepOf}
 use Rattle.model.proofs.Node.{node-fills}
 use Rattle.model.proofs.Types.{law}
 use Rattle.model.proofs.Book.{State, Did, one-order}
-use Rattle.walk.specs.State.{codeOf, endOf, keepsOf, far}
+use Rattle.walk.specs.State.{codeOf, endOf, keepsOf, rows, bytes, far}
 use Rattle.walk.specs.Log.{Log, Entry, put, mask, Out, apply}
 use Rattle.walk.specs.Copy.{copyWalk}
 use Rattle.walk.specs.Nulls.{nullWalk}
-use Rattle.link.specs.Memory.{Memory, after, AllInPlace}
+use Rattle.link.specs.Memory.{Memory, noted, after, AllInPlace}
 use Rattle.link.specs.Holds.{Worded, HoldsBits, Holds}
 use Rattle.link.proofs.Goes.{Goes, good, over}
 use Rattle.link.proofs.Frame.{Kept, worded-span}
 use Rattle.link.proofs.Types.{Opened, copies, fills}
 use Rattle.link.proofs.UnionFields.{agrees-value}
 use Rattle.room.specs.Room.{AllBelow, Placed, Lies, Fits, UsedEntry, AllUsed}
-use Rattle.room.specs.Reach.{UsedAt, Among, Free}
+use Rattle.room.specs.Reach.{UsedAt, Among, Free, Typed, typed}
+use Rattle.room.proofs.Closure.{closed-free}
 use Rattle.room.proofs.Applied.{room-lies, room-long}
 use Rattle.room.proofs.Orders.{copy-used, nulls-used}
-use Rattle.parts.specs.Parts.{nodesOf, bufferCount, hasPart, sizeOf, partsHold, partsWithin, Used}
+use Rattle.parts.specs.Parts.{nodesOf, bufferCount, hasPart, needed, neededBy, sizeOf, partsHold, partsWithin, Used}
 use Rattle.orders.specs.Order.{After, Lent, joinOf, sourceCount, sourceLength, refused, settled, copyOrder, nullOrder, ordered}
 use Rattle.orders.specs.Fits.{fits, answerIn}
 use Rattle.orders.proofs.Buffers.{buffer-part, has-part}
 use Rattle.orders.proofs.Own.{Bounded}
 use Rattle.orders.proofs.Cover.{Laid, covered}
-use Rattle.orders.proofs.Enough.{same-test}
+use Rattle.orders.proofs.Enough.{free-or, same-test}
+use Rattle.orders.proofs.Still.{Same, still-copies, still-nulls}
 use Rattle.orders.proofs.Far.{Alike, both, neither, alike-by, alike-nulls}
 use Rattle.orders.proofs.Short.{short}
 
 -- ---- what an order is given
 
 module _ (x : Lent) (t : Ty) (m : ℕ) (ss : ℕ → Column t) where
-  -- the plan, the parts and the sources of a join; no dictionary of it is a joined one, so that no part is a dictionary's values
+  -- the plan, the parts and the sources of a join
   pub record Joined : Type 0 where
     pub some-source : 0 < m
     pub count-is : sourceCount (x .plan) ≡ m
@@ -62,7 +64,6 @@ module _ (x : Lent) (t : Ty) (m : ℕ) (ss : ℕ → Column t) where
     pub laid : Laid (x .plan)
     pub all-nodes : nodesOf (x .plan) ≡ endOf (x .plan) 0
     pub body-bytes : AllBelow 256 (x .body)
-    pub kept-dictionaries : (i b : ℕ) → Used (x .plan) i b → Free (x .plan) i
 
   module _ (join : Joined) (keep : Bool) where
     pub first-opened : Opened (joinOf x 0) 8 t 0 m ss
@@ -84,6 +85,7 @@ module _ (x : Lent) (t : Ty) (m : ℕ) (ss : ℕ → Column t) where
       pub within : partsWithin (x .plan) (x .parts) (length room) ≡ true
       pub state : State t m ss lawful obeys keep d
       pub short-of : d .len < far
+      pub rest : (i b : ℕ) → Used (x .plan) i b → (Free (x .plan) i → ⊥) → Bounded (x .plan) (x .parts) counts memory i b  -- a joined dictionary's values
 
     -- an answer and what the order comes to: carried out, or refused with everything as it was
     pub data Answers (o : Call) (d : Destination t) (counts room : List ℕ) : Try (Destination t) → After → Type 0 where
@@ -101,6 +103,26 @@ module _ (x : Lent) (t : Ty) (m : ℕ) (ss : ℕ → Column t) where
     abbrev Own : ℕ → ℕ → Type 0
     Own = UsedAt (x .plan) (λ j. Among 0 (endOf (x .plan) 0) j × Free (x .plan) j)
 
+    -- the memory at a dictionary's values is left as it was
+    log-same : (l : Log) (μ : Memory) (j : ℕ) → AllUsed Own l → (Free (x .plan) j → ⊥) → ((b : ℕ) → after l μ .at j b ≡ μ .at j b) × (after l μ .bits j ≡ μ .bits j)
+    unfolding after AllUsed
+    log-same [] μ j h n = (λ b. refl, refl)
+    log-same (put i e o bs ∷ l) μ j h n =
+        let r = log-same l (noted (put i e o bs) μ) j (h .1) n in
+        let z = ne-eqb j i (λ q. n (subst (Free (x .plan)) (sym q) (h .0 .0 .node .1))) in
+        (λ b. r .0 b ∙ rw z, r .1)
+    log-same (mask i p vs ∷ l) μ j h n =
+        let r = log-same l (noted (mask i p vs) μ) j (h .1) n in
+        let z = ne-eqb j i (λ q. n (subst (Free (x .plan)) (sym q) (h .0 .0 .node .1))) in
+        (r .0, r .1 ∙ rw z)
+
+    needed-same : (c c′ : List ℕ) (j b : ℕ) → Same j c c′ → needed (x .plan) c′ j b ≡ needed (x .plan) c j b
+    needed-same c c′ j b h =
+        ap (λ r. neededBy (codeOf (x .plan) j) r (bytes c′ j) b) (h .rows-same) ∙ ap (λ n. neededBy (codeOf (x .plan) j) (rows c j) n b) (h .bytes-same)
+
+    root : Typed (x .plan) 0 (endOf (x .plan) 0) 0 × Free (x .plan) 0
+    root = (typed 8 t (first-opened .worded) (omega arith) (omega arith), tt)
+
     own-used : (i b : ℕ) → Own i b → Used (x .plan) i b
     own-used i b u = record { node = omega (arith, u .node .0 .1, join .all-nodes); part = has-part (x .plan) i b (u .node .1) (u .buffer) }
 
@@ -115,20 +137,34 @@ module _ (x : Lent) (t : Ty) (m : ℕ) (ss : ℕ → Column t) where
       refuse g p = not-made g (refused x counts room g) refl p refl refl
 
       module _ (d′ : Destination t) (did : Did t m ss lawful obeys keep o d d′) (w : Out) (in-place : AllInPlace (w .log) (run .memory))
-          (held′ : Holds (x .plan) t 0 d′ (w .counts) (after (w .log) (run .memory))) (long′ : length (w .counts) ≡ 96) (used : AllUsed Own (w .log)) where
+          (held′ : Holds (x .plan) t 0 d′ (w .counts) (after (w .log) (run .memory))) (long′ : length (w .counts) ≡ 96) (used : AllUsed Own (w .log)) (still : (j : ℕ) → (Free (x .plan) j → ⊥) → Same j counts (w .counts)) where
+        rest′ : (i b : ℕ) → Used (x .plan) i b → (Free (x .plan) i → ⊥) → Bounded (x .plan) (x .parts) (w .counts) (after (w .log) (run .memory)) i b
+        rest′ i b u n =
+            let r = run .rest i b u n in
+            let l = log-same (w .log) (run .memory) i used n in
+            record {
+              needs = subst (λ v. v ≤ sizeOf (x .plan) (x .parts) i b) (sym (needed-same counts (w .counts) i b (still i n))) (r .needs);
+              bytes-in = λ p. subst (λ s. length s ≤ sizeOf (x .plan) (x .parts) i b) (sym (l .0 b)) (r .bytes-in p);
+              bits-in = λ p. subst (λ s. length s ≤ 8 * sizeOf (x .plan) (x .parts) i 0) (sym (l .1)) (r .bits-in p);
+            }
+
         same : partsHold (x .plan) (w .counts) (x .parts) ≡ fits (x .plan) (x .parts) t 0 d′
         same =
             same-test (x .plan) (x .parts) (join .laid) (w .counts) (after (w .log) (run .memory)) m (join .all-nodes) 8 t ss d′ (first-opened .worded) (first-opened .formed) (did .state .fine) held′
-            (λ j b u n. absurd (n (join .kept-dictionaries j b u)))
+            (λ j b u n. rest′ j b u n .needs)
 
         abbrev room′ : List ℕ
         room′ = apply (x .plan) (x .parts) (w .log) room
 
         module _ (e : fits (x .plan) (x .parts) t 0 d′ ≡ true) where
           bounded : (i b : ℕ) → Used (x .plan) i b → Bounded (x .plan) (x .parts) (w .counts) (after (w .log) (run .memory)) i b
-          bounded i b u =
-              covered (x .plan) (x .parts) (join .laid) (w .counts) (after (w .log) (run .memory)) m 8 t 0 ss d′ (first-opened .worded) (first-opened .formed) (omega arith) (did .state .fine) held′ e
-              i b (omega arith) (omega (arith, u .node, join .all-nodes)) (join .kept-dictionaries i b u) (u .part)
+          bounded i b u = go (free-or (x .plan) i)
+            where
+              go : Dec (Free (x .plan) i) → Bounded (x .plan) (x .parts) (w .counts) (after (w .log) (run .memory)) i b
+              go (yes y) =
+                  covered (x .plan) (x .parts) (join .laid) (w .counts) (after (w .log) (run .memory)) m 8 t 0 ss d′ (first-opened .worded) (first-opened .formed) (omega arith) (did .state .fine) held′ e
+                  i b (omega arith) (omega (arith, u .node, join .all-nodes)) y (u .part)
+              go (no y) = rest′ i b u y
 
           small-part : 0 < bufferCount (codeOf (x .plan) 0) → sizeOf (x .plan) (x .parts) 0 1 < 4294967296
           small-part p =
@@ -155,6 +191,7 @@ module _ (x : Lent) (t : Ty) (m : ℕ) (ss : ℕ → Column t) where
                 within = subst (λ n. partsWithin (x .plan) (x .parts) n ≡ true) (sym long-room) (run .within);
                 state = did .state;
                 short-of = short (x .plan) (x .parts) m 8 t ss d′ (first-opened .worded) (first-opened .formed) (did .state .fine) e small-part;
+                rest = rest′;
               }
 
         by-test : (b f : Bool) → b ≡ f → (f ≡ true → Running d′ (w .counts) room′)
@@ -175,9 +212,9 @@ module _ (x : Lent) (t : Ty) (m : ℕ) (ss : ℕ → Column t) where
       -- A WALK THAT GOES WITH THE MODEL, settled
       settle : (p : Try (Destination t)) (w : Out)
           → Goes (run .memory) (λ d′ c′ μ′. Holds (x .plan) t 0 d′ c′ μ′ × Kept 0 (endOf (x .plan) 0) counts c′ (run .memory) μ′) p w
-          → ((d′ : Destination t) → p ≡ done d′ → Did t m ss lawful obeys keep o d d′) → AllUsed Own (w .log) → Answered (then p tested) (settled x counts room w)
-      settle _ _ (good d′ w e pl q) did used = settled-done d′ (did d′ refl) w pl (q .0) (q .1 .long ∙ run .long) used e
-      settle _ _ (over g w e pos) did used = settled-stop g w e pos
+          → ((d′ : Destination t) → p ≡ done d′ → Did t m ss lawful obeys keep o d d′) → AllUsed Own (w .log) → ((j : ℕ) → (Free (x .plan) j → ⊥) → Same j counts (w .counts)) → Answered (then p tested) (settled x counts room w)
+      settle _ _ (good d′ w e pl q) did used still = settled-done d′ (did d′ refl) w pl (q .0) (q .1 .long ∙ run .long) used still e
+      settle _ _ (over g w e pos) did used still = settled-stop g w e pos
 
       same-guard : (a b : Bool) (g : ℕ) (p : Try (Destination t)) (q : After) → b ≡ a → 0 < g → (a ≡ true → Answered (then p tested) q) → Answered (then (guard a g p) tested) (cond b q (refused x counts room g))
       same-guard true true g p q e l h = h refl
@@ -199,6 +236,7 @@ module _ (x : Lent) (t : Ty) (m : ℕ) (ss : ℕ → Column t) where
           (copies (joinOf x s) m 8 t 0 ss u a (e - a) d counts (run .memory) (omega arith) (run .state .fine) (omega (arith, run .short-of, u .lent .sum)) (run .long) (run .holds))
           (λ d′ q. agrees-value agreed d′ (rw (known, k) q))
           (copy-used (joinOf x s) 8 t 0 (u .worded) tt (join .laid .tabled) (join .body-bytes) 8 a (e - a) counts)
+          (λ j n. still-copies j (joinOf x s) _ _ (closed-free (x .plan) 0 (endOf (x .plan) 0) (join .laid .tabled)) (λ q. n (q .1)) 8 0 a (e - a) counts root)
 
       length-is : s < m → sourceLength x s ≡ ss s .len
       length-is j = let h = join .opened s j .lent .len-is in ap (λ n. getD (x .lengths) (2 * n) 0) (sym (add-zero (getD (x .sources) (2 * s) 0))) ∙ h
@@ -246,10 +284,13 @@ module _ (x : Lent) (t : Ty) (m : ℕ) (ss : ℕ → Column t) where
       nulls-log : (k : ℕ) → AllUsed Own (nullWalk (joinOf x 0) 8 0 k counts .log)
       nulls-log k = nulls-used (joinOf x 0) 8 t 0 (first-opened .worded) tt (join .laid .tabled) 8 k counts
 
+      nulls-still : (k j : ℕ) → (Free (x .plan) j → ⊥) → Same j counts (nullWalk (joinOf x 0) 8 0 k counts .counts)
+      nulls-still k j n = still-nulls j (joinOf x 0) _ _ (closed-free (x .plan) 0 (endOf (x .plan) 0) (join .laid .tabled)) (λ q. n (q .1)) 8 0 k counts root
+
       -- a count that the walk takes as it is
       near-step : n ≤ far → Answers (nulls n) d counts room (then (nullsNode (masks t) (nullsData t) n d) (tested (nulls n) d counts room run)) (settled x counts room (nullWalk (joinOf x 0) 8 0 n counts))
       near-step l =
-          settle (nulls n) d counts room run (nullsNode (masks t) (nullsData t) n d) (nullWalk (joinOf x 0) 8 0 n counts) (nulls-go n l) (nulls-did n) (nulls-log n)
+          settle (nulls n) d counts room run (nullsNode (masks t) (nullsData t) n d) (nullWalk (joinOf x 0) 8 0 n counts) (nulls-go n l) (nulls-did n) (nulls-log n) (nulls-still n)
 
       -- ---- a count beyond: no part holds its rows
 
@@ -283,7 +324,7 @@ module _ (x : Lent) (t : Ty) (m : ℕ) (ss : ℕ → Column t) where
 
       far-walk : (d′ : Destination t) → nullsNode (masks t) (nullsData t) far d ≡ done d′ → Answers (nulls n) d counts room (stop 13) (settled x counts room (nullWalk (joinOf x 0) 8 0 far counts))
       far-walk d′ q =
-          let r = settle (nulls far) d counts room run (nullsNode (masks t) (nullsData t) far d) (nullWalk (joinOf x 0) 8 0 far counts) (nulls-go far (omega arith)) (nulls-did far) (nulls-log far) in
+          let r = settle (nulls far) d counts room run (nullsNode (masks t) (nullsData t) far d) (nullWalk (joinOf x 0) 8 0 far counts) (nulls-go far (omega arith)) (nulls-did far) (nulls-log far) (nulls-still far) in
           let f = never-fits 9223372036854775807 (omega arith) d′ q in
           other (rw (q, f) at r)
         where

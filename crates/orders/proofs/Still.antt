@@ -200,3 +200,86 @@ module _ (j : ℕ) where
     unfolding copyWalk
     still-copies zero i a n c here = still-fail 12 c
     still-copies (suc depth) i a n c here = still-node (copyWalk x depth) (λ k b m d h. still-copies depth k b m d h) i here a n c
+
+    -- ---- nulls
+
+    still-null-mask : (i n : ℕ) (c : List ℕ) → Still c (nullMask x i n c)
+    unfolding nullMask
+    still-null-mask i n c = still-cond c (eqb (keepsOf (x .state) i) 0) _ _ (λ e. still-done c) (λ e. still-next c _ _ (still-wrote _ c) (λ c2. more-nulls i n c2))
+
+    still-count : (i n : ℕ) (c : List ℕ) → Still c (countNulls x i n c)
+    unfolding countNulls
+    still-count i n c = still-cond c (eqb (keepsOf (x .state) i) 0) _ _ (λ e. still-done c) (λ e. more-nulls i n c)
+
+    still-zeros : (i b w n : ℕ) (c : List ℕ) → Still c (nullNumbers x i b w n c)
+    unfolding nullNumbers
+    still-zeros i b w n c = still-wrote _ c
+
+    still-repeated : (i w n : ℕ) (c : List ℕ) → Still c (nullString x i w n c)
+    unfolding nullString
+    still-repeated i w n c = still-wrote _ c
+
+    module _ (walk : NullWalk) (below : (k n : ℕ) (c : List ℕ) → In k → Still c (walk k n c)) (i : ℕ) (here : In i) where
+      still-null-list : (w n : ℕ) (c : List ℕ) → Still c (nullListView x walk w i n c)
+      unfolding nullListView
+      still-null-list w n c = still-next c _ _ (still-zeros i 1 w n c) (λ c2. still-zeros i 2 w n c2)
+
+      still-null-fields : (n fuel k : ℕ) (c : List ℕ) → isUnion (codeOf (x .state) i) ≡ true → (k < endOf (x .state) i → Child (x .state) i k)
+          → Still c (nullFields x walk n (endOf (x .state) i) fuel k c)
+      unfolding nullFields
+      still-null-fields n zero k c h d = still-done c
+      still-null-fields n (suc fuel) k c h d =
+          still-cond c (ltb k (endOf (x .state) i)) _ _
+          (λ e. let f = d (ltb-true k (endOf (x .state) i) e) in
+          still-next c _ _ (below k n c (closed .child i k here h f)) (λ c2. still-null-fields n fuel (endOf (x .state) k) c2 h (child-later (x .state) i k f)))
+          (λ e. still-done c)
+
+      still-null-sparse : (n : ℕ) (c : List ℕ) → isUnion (codeOf (x .state) i) ≡ true → Still c (nullSparse x walk i n c)
+      unfolding nullSparse
+      still-null-sparse n c u = still-found 32 _ _ c _ (λ l. still-next c _ _ (still-wrote _ c) (λ c2. still-null-fields n 32 (suc i) c2 u (child-first (x .state) i)))
+
+      still-null-dense : (n : ℕ) (c : List ℕ) → isUnion (codeOf (x .state) i) ≡ true → Still c (nullDense x walk i n c)
+      unfolding nullDense
+      still-null-dense n c u =
+          still-found 32 _ _ c _
+          (λ l. still-need _ 6 c _
+          (λ e. still-next c _ _ (still-wrote _ c)
+          (λ c2. still-next c2 _ _ (still-wrote _ c2)
+          (λ c3. below _ n c3 (closed .child i _ here u (child-nullable (x .state) i 32 (suc i) (child-first (x .state) i) l))))))
+
+      still-null-runs : (n : ℕ) (c : List ℕ) → codeOf (x .state) i ≡ 21 → Still c (nullRuns x walk i n c)
+      unfolding nullRuns
+      still-null-runs n c q =
+          still-need _ 12 c _
+          (λ e. still-next c _ _ (below (suc (suc i)) 1 c (closed .values i here q))
+          (λ c2. still-need _ 7 c2 _ (λ g. still-next c2 _ _ (still-wrote _ c2) (λ c3. more-rows (suc i) 1 c3 (closed .ends i here q)))))
+
+      null-union : (v : ℕ) → eqb (codeOf (x .state) i) v ≡ true → isUnion v ≡ true → isUnion (codeOf (x .state) i) ≡ true
+      null-union v e h = rw (eqb-true (codeOf (x .state) i) v e) h
+
+      still-null-data : (n : ℕ) (c : List ℕ) → Still c (nullData x walk (codeOf (x .state) i) i n c)
+      unfolding nullData
+      still-null-data n c =
+          still-cond c (isFixed (codeOf (x .state) i)) _ _ (λ e. still-zeros i 1 _ n c)
+          (λ e1. still-cond c (isString (codeOf (x .state) i)) _ _ (λ e. still-repeated i _ n c)
+          (λ e2. still-cond c (isView (codeOf (x .state) i)) _ _ (λ e. still-zeros i 1 16 n c)
+          (λ e3. still-cond c (isListView (codeOf (x .state) i)) _ _ (λ e. still-null-list _ n c)
+          (λ e4. still-cond c (eqb (codeOf (x .state) i) 19) _ _ (λ e. still-null-sparse n c (null-union 19 e refl))
+          (λ e5. still-cond c (eqb (codeOf (x .state) i) 20) _ _ (λ e. still-null-dense n c (null-union 20 e refl))
+          (λ e6. still-cond c (eqb (codeOf (x .state) i) 21) _ _ (λ e. still-null-runs n c (eqb-true (codeOf (x .state) i) 21 e))
+          (λ e7. still-fail 12 c)))))))
+
+      still-null-node : (n : ℕ) (c : List ℕ) → Still c (nullNode x walk i n c)
+      unfolding nullNode
+      still-null-node n c =
+          still-cond c (eqb n 0) _ _ (λ e. still-done c)
+          (λ e. still-need _ 12 c _
+          (λ f. still-next c _ _ (still-null-data n c)
+          (λ c2. still-next c2 _ _ (still-cond c2 (masked (codeOf (x .state) i)) _ _ (λ g. still-null-mask i n c2) (λ g. still-count i n c2))
+          (λ c3. more-rows i n c3 (closed .own i here)))))
+
+    -- NULLS, likewise
+    pub still-nulls : (depth i n : ℕ) (c : List ℕ) → In i → Still c (nullWalk x depth i n c)
+    unfolding nullWalk
+    still-nulls zero i n c here = still-fail 12 c
+    still-nulls (suc depth) i n c here = still-null-node (nullWalk x depth) (λ k m d h. still-nulls depth k m d h) i here n c
