@@ -8,3 +8,4 @@ pub mod Short
 pub mod Still
 pub mod Step
 pub mod Run
+pub mod Placed
