@@ -1,2 +1,3 @@
--- What orders come to on lent memory.
+-- What orders come to on lent memory, and when the parts hold a destination.
 pub mod Order
+pub mod Fits

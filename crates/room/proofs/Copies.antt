@@ -18,12 +18,12 @@ use Rattle.run_ends.specs.declared.Runs.{Runs}
 use Rattle.run_ends.specs.declared.Runs.the-variants.{Range, None}
 use Rattle.walk.specs.State.{Join, codeOf, dictionaryOf, endOf, keepsOf, baseOf, bytesOf, rows, bytes, place, far}
 use Rattle.walk.specs.Leaves.{copyBits, copyMask, copyNumbers, copyKeys, copyViews, putString, putExtended, copyString}
-use Rattle.walk.specs.Copy.{Walk, masked, listViewRow, copyListView, copyFields, copySparse, idAt, denseTo, denseRow, copyDense, putRuns, runsAt, copyRuns, copyData, copySlots, copyNode, copyWalk}
+use Rattle.walk.specs.Copy.{Walk, isWidth, masked, listViewRow, copyListView, copyFields, copySparse, idAt, denseTo, denseRow, copyDense, putRuns, runsAt, copyRuns, copyData, copySlots, copyNode, copyWalk}
 use Rattle.room.specs.Room.{AllBelow, AllUsed}
 use Rattle.room.specs.Reach.{Second, chars, sizes, positions, HasBuffer, Child, Closed, UsedAt}
 use Rattle.room.proofs.Bytes.{bytes-encode, bytes-one, bytes-part, bytes-moved, bytes-rebased, bytes-reviewed, bytes-clipped, bits-part, bits-same}
 use Rattle.room.proofs.Uses.{Uses, uses-put, uses-mask, uses-done, uses-fail, uses-cond, uses-need, uses-found, uses-next, uses-each}
-use Rattle.room.proofs.Found.{between-both, ends-code, child-first, child-later, child-with}
+use Rattle.room.proofs.Found.{between-both, and-first, ends-code, child-first, child-later, child-with}
 
 module _ (x : Join) (In At : ℕ → Type 0) (closed : Closed (x .state) In At) (body : AllBelow 256 (x .body)) where
   abbrev U : ℕ → ℕ → Type 0
@@ -131,11 +131,11 @@ module _ (x : Join) (In At : ℕ → Type 0) (closed : Closed (x .state) In At) 
     unfolding copyRuns
     uses-runs slot n c q =
         uses-cond U (eqb n 0) _ _ (λ e. uses-done U c)
-        (λ e. uses-need U (ltb (suc (suc i)) 32) 12 c _
+        (λ e. uses-need U _ 12 c _
         (λ f. uses-need U (ltb (rows c i + n) (half (bytesOf (x .state) (suc i)))) 7 c _
         (λ g. uses-need U _ 12 c _
         (λ h. let z = ends-code (rows c i + n) (codeOf (x .state) (suc i)) g in
-        uses-runs-put (bytesOf (x .state) (suc i)) slot n (runsAt x walk (bytesOf (x .state) (suc i)) i slot n) c q (ltb-true (suc (suc i)) 32 f) (z .0, omega (arith, z .1))))))
+        uses-runs-put (bytesOf (x .state) (suc i)) slot n (runsAt x walk (bytesOf (x .state) (suc i)) i slot n) c q (ltb-true (suc (suc i)) 32 (and-first _ (isWidth (bytesOf (x .state) (suc i))) f)) (z .0, omega (arith, z .1))))))
 
     uses-data : (slot n : ℕ) (c : List ℕ) → Uses U (copyData x walk (codeOf (x .state) i) i slot n c)
     unfolding copyData

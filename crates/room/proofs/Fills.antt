@@ -11,13 +11,13 @@ use Rattle.columnar.specs.Types.{half}
 use Rattle.formats.specs.Code.{isFixed, isString, isView, isListView, isUnion}
 use Rattle.walk.specs.State.{Join, word, codeOf, endOf, idOf, keepsOf, bytesOf, rows, bytes}
 use Rattle.walk.specs.Leaves.{nullMask, countNulls, nullNumbers, nullString}
-use Rattle.walk.specs.Copy.{masked}
+use Rattle.walk.specs.Copy.{isWidth, masked}
 use Rattle.walk.specs.Nulls.{NullWalk, nullListView, nullFields, nullSparse, nullDense, nullRuns, nullData, nullNode, nullWalk}
 use Rattle.room.specs.Room.{AllUsed}
 use Rattle.room.specs.Reach.{sizes, positions, HasBuffer, Child, Closed, UsedAt}
 use Rattle.room.proofs.Bytes.{bytes-encode, bytes-same, bytes-repeated, bytes-counted, bits-same}
 use Rattle.room.proofs.Uses.{Uses, uses-put, uses-mask, uses-done, uses-fail, uses-cond, uses-need, uses-found, uses-next}
-use Rattle.room.proofs.Found.{between-both, ends-code, child-first, child-later, child-nullable}
+use Rattle.room.proofs.Found.{between-both, and-first, ends-code, child-first, child-later, child-nullable}
 
 module _ (x : Join) (In At : ℕ → Type 0) (closed : Closed (x .state) In At) where
   abbrev U : ℕ → ℕ → Type 0
@@ -88,8 +88,8 @@ module _ (x : Join) (In At : ℕ → Type 0) (closed : Closed (x .state) In At) 
     uses-null-runs : (n : ℕ) (c : List ℕ) → codeOf (x .state) i ≡ 21 → Uses U (nullRuns x walk i n c)
     unfolding nullRuns
     uses-null-runs n c q =
-        uses-need U (ltb (suc (suc i)) 32) 12 c _
-        (λ e. let s = ltb-true (suc (suc i)) 32 e in
+        uses-need U _ 12 c _
+        (λ e. let s = ltb-true (suc (suc i)) 32 (and-first _ (isWidth (bytesOf (x .state) (suc i))) e) in
         uses-next U _ _ (below (suc (suc i)) 1 c (closed .values i here q))
         (λ c2. uses-need U (ltb (rows c2 i + n) (half (bytesOf (x .state) (suc i)))) 7 c2 _
         (λ g. uses-next U _ _

@@ -23,6 +23,10 @@ between-both low high z h = go (leb low z) refl (leb z high) refl h
     go true p false q h = absurd (let y : _≡_ {A = ℕ} 0 1 = cc h in omega arith)
     go false p t q h = absurd (let y : _≡_ {A = ℕ} 0 1 = cc h in omega arith)
 
+pub and-first : (a b : Bool) → (a && b) ≡ true → a ≡ true
+and-first true b h = refl
+and-first false b h = h
+
 -- ---- run ends: a format whose numbers hold something has a first buffer
 
 no-widths : (d : ℕ) → getD (drop 19 widths) d 0 ≡ 0

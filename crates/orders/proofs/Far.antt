@@ -1,0 +1,87 @@
+-- Orders of nulls beyond every part: a count of 2^63 or more is answered alike, and no part holds its rows. Assumes nothing.
+use mathlib.Core.Path.{_≡_, refl, sym, ap, subst, _∙_}
+use mathlib.Core.Bool.{Bool, true, false, _&&_}
+use mathlib.Core.List.{List, [], _∷_, List·Memᴰ, List·Memᴰ·head, List·Memᴰ·tail}
+use Prim.Native.Nat.{ℕ, zero, suc, _+_, _*_, _≤_, _<_}
+use native.Mathlib.Nat.{mul-comm}
+use native.Mathlib.Omega.{arith}
+use lib.ListN.{length}
+use lib.Dec.{leb, ltb}
+use borrow.Author.Tests.{le-ltb, lt-leb}
+use Rattle.columnar.specs.Types.{Number, i8, u8, i16, u16, i32, u32, i64, u64, f32, f64, width, half, fixed, string, Ty, tPlain, tView, tListView, tSparse, tDense, tRunEnd, tDictionary}
+use Rattle.columnar.specs.Formed.{OffsetWidth, RunWidth, four, eight, two, Formed}
+use Rattle.walk.specs.State.{far}
+use Rattle.model.specs.Try.{Try, done, stop, then, guard}
+use Rattle.model.specs.Ordered.{home}
+use Rattle.model.proofs.Agree.{Agrees}
+use Rattle.model.specs.Grounds.{Counts, counts, rowsOf, kidOf, each, sparseAll, withKid, unlessNone, nullsAsk, askNulls}
+
+-- both done, or both stopped by one ground
+pub data Alike {A B : Type 0} : Try A → Try B → Type 0 where
+  both : (x : A) (y : B) → Alike (done x) (done y)
+  neither : (g : ℕ) → Alike (stop g) (stop g)
+
+-- what agrees with answers that are alike
+pub alike-by : {A B C D : Type 0} {see : A → C} {Q : A → Type 0} {look : B → D} {R : B → Type 0} {p : Try A} {q : Try B} {s : Try C} {r : Try D}
+    → Agrees see Q p s → Alike s r → Agrees look R q r → Alike p q
+alike-by (Agrees.both x h) (Alike.both _ _) (Agrees.both y k) = both x y
+alike-by (Agrees.neither g) (Alike.neither _) (Agrees.neither _) = neither g
+
+alike-then : {A B C D : Type 0} {s : Try A} {r : Try B} (f : A → Try C) (h : B → Try D) → Alike s r → ((x : A) (y : B) → Alike (f x) (h y)) → Alike (then s f) (then r h)
+alike-then f h (both x y) k = k x y
+alike-then f h (neither g) k = neither g
+
+-- the same answer, and then
+same-then : {A C D : Type 0} (t : Try A) (f : A → Try C) (h : A → Try D) → ((x : A) → Alike (f x) (h x)) → Alike (then t f) (then t h)
+same-then (done x) f h k = k x
+same-then (stop g) f h k = neither g
+
+alike-each : (f h : ℕ → Try Counts) (ids : List ℕ) (x y : Try Counts) → ((e : ℕ) → List·Memᴰ e ids → Alike (f e) (h e)) → Alike x y → Alike (each f ids x) (each h ids y)
+alike-each f h [] x y k z = z
+alike-each f h (c ∷ cs) x y k z =
+    alike-then (λ v. each f cs x) (λ v. each h cs y) (k c (List·Memᴰ·head refl)) (λ v w. alike-each f h cs x y (λ e q. k e (List·Memᴰ·tail q)) z)
+
+pub half-run : (w : ℕ) → RunWidth w → half w ≤ far
+half-run _ RunWidth.two = omega arith
+half-run _ RunWidth.four = omega arith
+half-run _ RunWidth.eight = omega arith
+
+-- what follows the home of a union's nulls, and a run-end node's values
+abbrev all-kids : List ℕ → (ℕ → Ty) → Counts → ℕ → ℕ → Try Counts
+all-kids ids f c n h = sparseAll ids (λ e. unlessNone (nullsAsk (f e)) n (kidOf c e)) (rowsOf c + n)
+
+abbrev one-kid : (ℕ → Ty) → Counts → ℕ → ℕ → Try Counts
+one-kid f c n h =
+    guard (leb (rowsOf (kidOf c h) + n) (half 4)) 6 (then (unlessNone (nullsAsk (f h)) n (kidOf c h)) (λ k. done (counts (rowsOf c + n) 0 (withKid c h k))))
+
+abbrev one-run : ℕ → Counts → ℕ → Counts → Try Counts
+one-run w c n k = guard (ltb (rowsOf c + n) (half w)) 7 (done (counts (rowsOf c + n) 0 (λ e. k)))
+
+never-kid : (f : ℕ → Ty) (c : Counts) (a b h : ℕ) → far ≤ a → far ≤ b → Alike (one-kid f c a h) (one-kid f c b h)
+never-kid f c a b h p q =
+    let x = lt-leb (rowsOf (kidOf c h) + a) (half 4) (omega arith) in
+    let y = lt-leb (rowsOf (kidOf c h) + b) (half 4) (omega arith) in
+    rw (x, y) (neither 6)
+
+never-run : (w : ℕ) (c : Counts) (a b : ℕ) (k : Counts) → RunWidth w → far ≤ a → far ≤ b → Alike (one-run w c a k) (one-run w c b k)
+never-run w c a b k o p q =
+    let h = half-run w o in
+    let x = le-ltb (rowsOf c + a) (half w) (omega arith) in
+    let y = le-ltb (rowsOf c + b) (half w) (omega arith) in
+    rw (x, y) (neither 7)
+
+-- A COUNT BEYOND EVERY PART is answered like any other such count
+pub alike-nulls : (t : Ty) (a b : ℕ) (c : Counts) → Formed t → far ≤ suc a → far ≤ suc b → Alike (nullsAsk t (suc a) c) (nullsAsk t (suc b) c)
+alike-nulls (tPlain (fixed n)) a b c o p q = both _ _
+alike-nulls (tPlain (string w)) a b c o p q = both _ _
+alike-nulls tView a b c o p q = both _ _
+alike-nulls (tListView w t) a b c o p q = both _ _
+alike-nulls (tSparse ids nullable f) a b c o p q =
+    same-then (home nullable ids) (all-kids ids f c (suc a)) (all-kids ids f c (suc b))
+    (λ h. alike-each (λ e. unlessNone (nullsAsk (f e)) (suc a) (kidOf c e)) (λ e. unlessNone (nullsAsk (f e)) (suc b) (kidOf c e)) ids _ _
+    (λ e m. alike-nulls (f e) a b (kidOf c e) (o .1 e m) p q) (both _ _))
+alike-nulls (tDense ids nullable f) a b c o p q =
+    same-then (home nullable ids) (one-kid f c (suc a)) (one-kid f c (suc b)) (λ h. never-kid f c (suc a) (suc b) h p q)
+alike-nulls (tRunEnd w t) a b c o p q =
+    same-then (unlessNone (nullsAsk t) 1 (kidOf c 0)) (one-run w c (suc a)) (one-run w c (suc b)) (λ k. never-run w c (suc a) (suc b) k (o .0) p q)
+alike-nulls (tDictionary n p) a b c o h q = both _ _

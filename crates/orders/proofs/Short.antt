@@ -1,0 +1,78 @@
+-- A destination that the parts hold has fewer rows than a slot counts. Assumes nothing.
+use mathlib.Core.Path.{_≡_, refl, sym, ap, subst, _∙_}
+use mathlib.Core.Bool.{Bool, true, false, _&&_}
+use mathlib.Core.List.{List, [], _∷_}
+use Prim.Native.Nat.{ℕ, zero, suc, _+_, _*_, _≤_, _<_}
+use native.Mathlib.Nat.{mul-suc}
+use native.Mathlib.Omega.{arith}
+use lib.ListN.{length}
+use lib.Dec.{leb}
+use borrow.Author.Tests.{leb-true}
+use Rattle.lent_tables.proofs.Laws.{and-left, and-right}
+use Rattle.columnar.specs.Types.{Number, i8, u8, i16, u16, i32, u32, i64, u64, f32, f64, width, half, fixed, string, Ty, tPlain, tView, tListView, tSparse, tDense, tRunEnd, tDictionary}
+use Rattle.columnar.specs.Formed.{OffsetWidth, RunWidth, Formed}
+use Rattle.columnar.specs.Reading.{Column, masks}
+use Rattle.walk.specs.State.{codeOf, far}
+use Rattle.model.specs.Transform.{Grown, Destination}
+use Rattle.model.proofs.Law.{FineNode}
+use Rattle.model.proofs.Nodes.{fineOf}
+use Rattle.link.specs.Holds.{Worded}
+use Rattle.parts.specs.Parts.{bufferCount, sizeOf}
+use Rattle.orders.specs.Fits.{buffersOf, fitsBits, fitsAll, fitsBelow, fits}
+use Rattle.orders.proofs.Buffers.{fixed-one, string-two, view-one, list-two}
+use Rattle.orders.proofs.Far.{half-run}
+
+le-mul : (l w : ℕ) → 0 < w → l ≤ l * w
+le-mul l zero p = absurd (omega arith)
+le-mul l (suc w) p = rw (mul-suc l w) (omega arith)
+
+width-pos : (n : Number) → 0 < width n
+width-pos i8 = omega arith
+width-pos u8 = omega arith
+width-pos i16 = omega arith
+width-pos u16 = omega arith
+width-pos i32 = omega arith
+width-pos u32 = omega arith
+width-pos i64 = omega arith
+width-pos u64 = omega arith
+width-pos f32 = omega arith
+width-pos f64 = omega arith
+
+offset-pos : (w : ℕ) → OffsetWidth w → 0 < w
+offset-pos _ OffsetWidth.four = omega arith
+offset-pos _ OffsetWidth.eight = omega arith
+
+module _ (plan parts : List ℕ) (m : ℕ) where
+  own-in : (t : Ty) (i : ℕ) (d : Destination t) → fits plan parts t i d ≡ true → fitsAll plan parts i 0 (buffersOf t (d .«data»)) ≡ true
+  own-in t i d h =
+      and-right (fitsBits plan parts i (masks t) (d .bits) (d .len)) (fitsAll plan parts i 0 (buffersOf t (d .«data»)))
+      (and-left (fitsBits plan parts i (masks t) (d .bits) (d .len) && fitsAll plan parts i 0 (buffersOf t (d .«data»))) (fitsBelow plan parts t i (d .«data»)) h)
+
+  first-in : (i : ℕ) (s : List ℕ) (rest : List (List ℕ)) → fitsAll plan parts i 0 (s ∷ rest) ≡ true → length s ≤ sizeOf plan parts i 1
+  first-in i s rest h = leb-true _ _ (and-left (leb (length s) (sizeOf plan parts i 1)) (fitsAll plan parts i 1 rest) h)
+
+  -- a part has fewer bytes than a room may have
+  pub short : (k : ℕ) (t : Ty) (ss : ℕ → Column t) (d : Destination t) → Worded plan k t 0 → Formed t → FineNode (masks t) (fineOf t m (λ j. ss j .body)) m ss d
+      → fits plan parts t 0 d ≡ true → (0 < bufferCount (codeOf plan 0) → sizeOf plan parts 0 1 < 4294967296) → d .len < far
+  short (suc k) (tPlain (fixed n)) ss d w o f h r =
+      let z = fixed-one (codeOf plan 0) (w .3 .0) in
+      omega (arith, r (omega arith), first-in 0 (d .«data») [] (own-in (tPlain (fixed n)) 0 d h), f .data-fine, le-mul (d .len) (width n) (width-pos n))
+  short (suc k) (tPlain (string v)) ss d w o f h r =
+      let z = string-two (codeOf plan 0) (w .3 .0) in
+      omega (arith, r (omega arith), first-in 0 (d .«data» .offsets) (d .«data» .chars ∷ []) (own-in (tPlain (string v)) 0 d h), f .data-fine .offsets-are, le-mul (suc (d .len)) v (offset-pos v o))
+  short (suc k) tView ss d w o f h r =
+      let z = view-one (codeOf plan 0) (w .2) in
+      omega (arith, r (omega arith), first-in 0 (d .«data») [] (own-in tView 0 d h), f .data-fine .views-are, le-mul (d .len) 16 (omega arith))
+  short (suc k) (tListView v t) ss d w o f h r =
+      let z = list-two (codeOf plan 0) (w .2) in
+      omega (arith, r (omega arith), first-in 0 (d .«data» .buffer1) (d .«data» .buffer2 ∷ []) (own-in (tListView v t) 0 d h), f .data-fine .offsets-are, le-mul (d .len) v (offset-pos v (o .0)))
+  short (suc k) (tSparse ids nullable g) ss d w o f h r =
+      let z : bufferCount (codeOf plan 0) ≡ 1 = ap bufferCount (w .1) in
+      omega (arith, r (omega arith), first-in 0 (d .«data» .buffer1) [] (own-in (tSparse ids nullable g) 0 d h), f .data-fine .ids-are)
+  short (suc k) (tDense ids nullable g) ss d w o f h r =
+      let z : bufferCount (codeOf plan 0) ≡ 2 = ap bufferCount (w .1) in
+      omega (arith, r (omega arith), first-in 0 (d .«data» .buffer1) (d .«data» .buffer2 ∷ []) (own-in (tDense ids nullable g) 0 d h), f .data-fine .ids-are)
+  short (suc k) (tRunEnd v t) ss d w o f h r = let z = half-run v (o .0) in omega (arith, f .data-fine .fits)
+  short (suc k) (tDictionary n p) ss d w o f h r =
+      let z = fixed-one (codeOf plan 0) (w .3) in
+      omega (arith, r (omega arith), first-in 0 (d .«data») [] (own-in (tDictionary n p) 0 d h), f .data-fine .keys-are, le-mul (d .len) (width n) (width-pos n))
