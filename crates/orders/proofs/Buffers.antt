@@ -1,12 +1,11 @@
 -- What a code says of a node's buffers: how many have a part, and the bytes of an entry. Assumes nothing.
-use mathlib.Core.Path.{_≡_, refl, sym, ap, subst, _∙_}
-use mathlib.Core.Bool.{Bool, true, false, not, cond, _&&_, _||_}
+use mathlib.Core.Path.{_≡_, refl, sym}
+use mathlib.Core.Bool.{Bool, true, false, not, cond, _&&_}
 use mathlib.Core.List.{List}
 use Prim.Native.Nat.{ℕ, zero, suc, _+_, _*_, _≤_, _<_}
 use native.Mathlib.Omega.{arith}
-use native.Mathlib.Decide.{decLt}
 use lib.Dec.{leb, ltb, eqb}
-use borrow.Author.Tests.{lt-ltb, le-ltb, le-leb, eq-eqb, ne-eqb, eqb-true, eqb-false, ltb-true, ltb-false}
+use borrow.Author.Tests.{lt-ltb, le-leb, eq-eqb, ne-eqb, eqb-true, eqb-false, ltb-true}
 use Rattle.columnar.specs.Test.{every, onlyIf}
 use Rattle.columnar.specs.Types.{Ty, tPlain, tView, tListView, tSparse, tDense, tRunEnd, tDictionary, fixed, string}
 use Rattle.columnar.specs.Reading.{masks}

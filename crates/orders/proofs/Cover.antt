@@ -1,38 +1,36 @@
 -- The parts of all nodes: they hold what is needed and what lies in the memory exactly where they hold the model's destination.
 -- Assumes nothing.
-use mathlib.Core.Path.{_≡_, refl, sym, ap, subst, _∙_}
-use mathlib.Core.Bool.{Bool, true, false, _&&_}
+use mathlib.Core.Path.{_≡_, refl, sym, subst, _∙_}
+use mathlib.Core.Bool.{Bool, true, _&&_}
 use mathlib.Core.Option.{none}
 use mathlib.Core.List.{List, [], _∷_, List·Memᴰ, List·Memᴰ·head, List·Memᴰ·tail}
-use Prim.Native.Nat.{ℕ, zero, suc, _+_, _*_, _≤_, _<_}
+use Prim.Native.Nat.{ℕ, zero, suc, _≤_, _<_}
 use native.Mathlib.Decide.{decLt}
 use native.Mathlib.Omega.{arith}
 use lib.ListN.{length}
-use lib.Dec.{leb, ltb}
+use lib.Dec.{leb}
 use borrow.Author.Tests.{leb-true, le-leb, lt-ltb}
 use Rattle.lent_tables.proofs.Laws.{and-left, and-right}
-use Rattle.columnar.specs.Types.{width, fixed, string, Ty, tPlain, tView, tListView, tSparse, tDense, tRunEnd, tDictionary}
+use Rattle.columnar.specs.Types.{fixed, string, Ty, tPlain, tView, tListView, tSparse, tDense, tRunEnd, tDictionary}
 use Rattle.columnar.specs.Formed.{Formed, Ids}
-use Rattle.columnar.specs.Reading.{Body, Column, masks}
+use Rattle.columnar.specs.Reading.{Column, masks}
 use Rattle.columnar.specs.Test.{each}
-use Rattle.formats.specs.Code.{isFixed, isView, isListView, isUnion}
-use Rattle.walk.specs.State.{codeOf, dictionaryOf, endOf, idOf, keepsOf, rows, bytes}
+use Rattle.formats.specs.Code.{isFixed, isView}
+use Rattle.walk.specs.State.{codeOf, dictionaryOf, endOf, keepsOf, rows, bytes}
 use Rattle.walk.specs.Copy.{childWith}
-use Rattle.model.specs.Mutable.{Mutable}
-use Rattle.model.specs.Transform.{Grown, Destination}
+use Rattle.model.specs.Transform.{Destination}
 use Rattle.model.proofs.Law.{FineNode}
 use Rattle.model.proofs.Nodes.{fineOf}
 use Rattle.link.specs.Memory.{Memory}
-use Rattle.link.specs.Holds.{childOf, Fields, Worded, HoldsData, Holds}
-use Rattle.link.proofs.Frame.{Field, field-of, worded-span}
+use Rattle.link.specs.Holds.{childOf, Fields, Worded, Holds}
+use Rattle.link.proofs.Frame.{field-of, worded-span}
 use Rattle.link.proofs.UnionFields.{with-first, with-later}
-use Rattle.room.specs.Reach.{Child, Typed, typed, Free, Tabled}
-use Rattle.room.proofs.Found.{between-both, child-first, child-with}
-use Rattle.room.proofs.Closure.{closed-free}
-use Rattle.parts.specs.Parts.{hasPart, needed, sizeOf}
-use Rattle.orders.specs.Fits.{buffersOf, fitsBits, fitsAll, fitsNode, fitsBelow, fits}
+use Rattle.room.specs.Reach.{Free, Tabled}
+use Rattle.room.proofs.Found.{between-both}
+use Rattle.parts.specs.Parts.{hasPart, sizeOf}
+use Rattle.orders.specs.Fits.{buffersOf, fitsBits, fitsAll, fitsBelow, fits}
 use Rattle.orders.proofs.Buffers.{fixed-one, needed-fixed, masks-code}
-use Rattle.orders.proofs.Own.{Bounded, Own, own-covers, own-enough, one-own, own-of, times}
+use Rattle.orders.proofs.Own.{Bounded, Own, own-covers, one-own, own-of, times}
 
 -- how the nodes of a plan stand: a node without children ends behind itself, run ends are numbers that keep no nulls
 pub record Laid (plan : List ℕ) : Type 0 where

@@ -1,36 +1,31 @@
 -- The other way round: where each part holds what the counters need, the parts hold the model's destination; and both tests are one.
 -- Assumes nothing.
-use mathlib.Core.Path.{_≡_, refl, sym, ap, subst, _∙_}
-use mathlib.Core.Bool.{Bool, true, false, _&&_}
-use mathlib.Core.Option.{none}
-use mathlib.Core.List.{List, [], _∷_, List·Memᴰ, List·Memᴰ·head, List·Memᴰ·tail}
-use Prim.Native.Nat.{ℕ, zero, suc, _+_, _*_, _≤_, _<_}
+use mathlib.Core.Path.{_≡_, refl, sym, ap, _∙_}
+use mathlib.Core.Bool.{Bool, true, false}
+use mathlib.Core.List.{List, List·Memᴰ}
+use Prim.Native.Nat.{ℕ, zero, suc, _≤_, _<_}
 use native.Mathlib.Omega.{arith}
 use lib.ListN.{length}
-use lib.Dec.{leb, ltb, eqb}
-use borrow.Author.Tests.{leb-true, le-leb, lt-ltb, eqb-true, eqb-false}
-use Rattle.columnar.specs.Types.{width, fixed, string, Ty, tPlain, tView, tListView, tSparse, tDense, tRunEnd, tDictionary}
-use Rattle.columnar.specs.Formed.{Formed, Ids}
-use Rattle.columnar.specs.Reading.{Body, Column, masks}
-use Rattle.columnar.specs.Test.{each, every, onlyIf}
-use Rattle.formats.specs.Code.{isFixed, isView, isListView, isUnion}
-use Rattle.walk.specs.State.{codeOf, dictionaryOf, endOf, idOf, keepsOf, rows, bytes}
-use Rattle.walk.specs.Copy.{childWith}
-use Rattle.model.specs.Mutable.{Mutable}
-use Rattle.model.specs.Transform.{Grown, Destination}
-use Rattle.model.proofs.Law.{FineNode}
-use Rattle.model.proofs.Nodes.{fineOf}
+use lib.Dec.{eqb}
+use borrow.Author.Tests.{le-leb, eqb-true, eqb-false}
+use Rattle.columnar.specs.Types.{Ty, tPlain, tView, tListView, tSparse, tDense, tRunEnd, tDictionary}
+use Rattle.columnar.specs.Formed.{Formed}
+use Rattle.columnar.specs.Reading.{Column, masks}
+use Rattle.columnar.specs.Test.{every, onlyIf}
+use Rattle.formats.specs.Code.{isUnion}
+use Rattle.walk.specs.State.{codeOf, dictionaryOf, endOf, rows, bytes}
+use Rattle.model.specs.Transform.{Destination}
 use Rattle.link.specs.Memory.{Memory}
-use Rattle.link.specs.Holds.{childOf, Fields, Worded, HoldsData, Holds}
-use Rattle.link.proofs.Frame.{Field, field-of, worded-span}
-use Rattle.room.specs.Reach.{Child, Typed, typed, Free, Tabled}
-use Rattle.room.proofs.Found.{between-both, child-first, child-with}
+use Rattle.link.specs.Holds.{childOf, Fields, Worded, Holds}
+use Rattle.link.proofs.Frame.{field-of, worded-span}
+use Rattle.room.specs.Reach.{Typed, typed, Free}
+use Rattle.room.proofs.Found.{child-first, child-with}
 use Rattle.room.proofs.Closure.{closed-free}
 use Rattle.parts.specs.Parts.{nodesOf, hasPart, needed, sizeOf, partHolds, partsHold, Used}
 use Rattle.parts.proofs.Placed.{used-holds}
-use Rattle.orders.specs.Fits.{buffersOf, fitsBits, fitsAll, fitsNode, fitsBelow, fits}
+use Rattle.orders.specs.Fits.{buffersOf, fitsBelow, fits}
 use Rattle.orders.proofs.Buffers.{fixed-one, needed-fixed, masks-code, buffer-part}
-use Rattle.orders.proofs.Own.{Bounded, Own, own-covers, own-enough, one-own, own-of, times}
+use Rattle.orders.proofs.Own.{own-enough, own-of, times}
 use Rattle.orders.proofs.Cover.{Laid, FineAt, each-all, covered}
 
 every-all : (p : ℕ → Bool) (n : ℕ) → ((i : ℕ) → i < n → p i ≡ true) → every p n ≡ true

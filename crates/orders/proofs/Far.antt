@@ -1,20 +1,17 @@
 -- Orders of nulls beyond every part: a count of 2^63 or more is answered alike, and no part holds its rows. Assumes nothing.
-use mathlib.Core.Path.{_≡_, refl, sym, ap, subst, _∙_}
-use mathlib.Core.Bool.{Bool, true, false, _&&_}
+use mathlib.Core.Path.{refl}
 use mathlib.Core.List.{List, [], _∷_, List·Memᴰ, List·Memᴰ·head, List·Memᴰ·tail}
-use Prim.Native.Nat.{ℕ, zero, suc, _+_, _*_, _≤_, _<_}
-use native.Mathlib.Nat.{mul-comm}
+use Prim.Native.Nat.{ℕ, suc, _+_, _≤_}
 use native.Mathlib.Omega.{arith}
-use lib.ListN.{length}
 use lib.Dec.{leb, ltb}
 use borrow.Author.Tests.{le-ltb, lt-leb}
-use Rattle.columnar.specs.Types.{Number, i8, u8, i16, u16, i32, u32, i64, u64, f32, f64, width, half, fixed, string, Ty, tPlain, tView, tListView, tSparse, tDense, tRunEnd, tDictionary}
-use Rattle.columnar.specs.Formed.{OffsetWidth, RunWidth, four, eight, two, Formed}
+use Rattle.columnar.specs.Types.{half, fixed, string, Ty, tPlain, tView, tListView, tSparse, tDense, tRunEnd, tDictionary}
+use Rattle.columnar.specs.Formed.{RunWidth, four, eight, two, Formed}
 use Rattle.walk.specs.State.{far}
 use Rattle.model.specs.Try.{Try, done, stop, then, guard}
 use Rattle.model.specs.Ordered.{home}
 use Rattle.model.proofs.Agree.{Agrees}
-use Rattle.model.specs.Grounds.{Counts, counts, rowsOf, kidOf, each, sparseAll, withKid, unlessNone, nullsAsk, askNulls}
+use Rattle.model.specs.Grounds.{Counts, counts, rowsOf, kidOf, each, sparseAll, withKid, unlessNone, nullsAsk}
 
 -- both done, or both stopped by one ground
 pub data Alike {A B : Type 0} : Try A → Try B → Type 0 where

@@ -1,6 +1,6 @@
 -- A node's own parts: they hold what the counters need and the memory has exactly where they hold the model's buffers. Assumes nothing.
 use mathlib.Core.Path.{_≡_, refl, sym, ap, subst, _∙_}
-use mathlib.Core.Bool.{Bool, true, false, _&&_}
+use mathlib.Core.Bool.{Bool, true, false}
 use mathlib.Core.Option.{Option, none, some}
 use mathlib.Core.List.{List, [], _∷_, map}
 use Prim.Native.Nat.{ℕ, zero, suc, _+_, _*_, _/_, _≤_, _<_}
@@ -9,11 +9,10 @@ use native.Mathlib.Numerals.{add-one}
 use native.Mathlib.Omega.{arith}
 use lib.ListN.{length, getD}
 use lib.Dec.{leb, ltb}
-use borrow.Author.Tests.{leb-true, le-leb, ltb-true, ltb-false, lt-ltb}
+use borrow.Author.Tests.{leb-true, le-leb, ltb-true, ltb-false}
 use Rattle.lent_tables.proofs.Laws.{and-left, and-right}
-use Rattle.columnar.specs.Types.{width, fixed, string, Ty, tPlain, tView, tListView, tSparse, tDense, tRunEnd, tDictionary}
-use Rattle.columnar.specs.Reading.{Body, masks}
-use Rattle.formats.specs.Code.{widthOf}
+use Rattle.columnar.specs.Types.{fixed, string, Ty, tPlain, tView, tListView, tSparse, tDense, tRunEnd, tDictionary}
+use Rattle.columnar.specs.Reading.{Body}
 use Rattle.walk.specs.State.{codeOf, keepsOf, rows, bytes}
 use Rattle.model.specs.Transform.{Grown}
 use Rattle.model.proofs.Law.{BitsFor}

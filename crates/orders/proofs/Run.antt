@@ -1,6 +1,6 @@
 -- ANY LIST OF CALLS on lent memory does what the model does: counters and room hold the model's destination, whose rows are the book's.
 -- Assumes nothing.
-use mathlib.Core.Path.{_≡_, refl, sym, ap, _∙_}
+use mathlib.Core.Path.{_≡_, sym, _∙_}
 use mathlib.Core.Bool.{Bool}
 use mathlib.Core.List.{List, [], _∷_, _++_, append-nil, append-assoc}
 use Prim.Native.Nat.{ℕ}
@@ -10,8 +10,8 @@ use Rattle.columnar.specs.Reading.{Column, readAll}
 use Rattle.model.specs.Try.{Try, done, stop, after}
 use Rattle.model.specs.Transform.{Destination, intoBuilder}
 use Rattle.model.specs.Book.{Call, entered}
-use Rattle.orders.specs.Order.{After, Lent, ordered, orderedAll}
-use Rattle.orders.specs.Fits.{answerIn, answersIn, bookIn}
+use Rattle.orders.specs.Order.{After, Lent, orderedAll}
+use Rattle.orders.specs.Fits.{answersIn, bookIn}
 use Rattle.orders.proofs.Step.{Joined, Running, Answers, made, not-made, order-step}
 
 module _ (x : Lent) (t : Ty) (m : ℕ) (ss : ℕ → Column t) (join : Joined x t m ss) (keep : Bool) where

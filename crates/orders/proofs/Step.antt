@@ -3,7 +3,7 @@ use mathlib.Core.Path.{_≡_, refl, sym, ap, subst, _∙_}
 use mathlib.Core.Bool.{Bool, true, false, not, cond, _&&_}
 use mathlib.Core.Option.{Option, none, some}
 use mathlib.Core.List.{List, [], _∷_}
-use Prim.Native.Nat.{ℕ, zero, suc, _+_, _*_, _-_, _≤_, _<_, min}
+use Prim.Native.Nat.{ℕ, suc, _+_, _*_, _-_, _≤_, _<_, min}
 use native.Mathlib.Nat.{add-zero}
 use native.Mathlib.Decide.{decLt}
 use native.Mathlib.Omega.{arith}
@@ -12,37 +12,33 @@ use lib.Dec.{leb, ltb, eqb}
 use borrow.Author.Tests.{leb-true, ltb-true, eq-eqb, ne-eqb}
 use Rattle.lent_tables.proofs.Laws.{and-left, and-right}
 use Rattle.columnar.specs.Types.{Ty}
-use Rattle.columnar.specs.Formed.{Formed}
 use Rattle.columnar.specs.Reading.{Column, masks, Source}
 use Rattle.model.specs.Try.{Try, done, stop, then, guard}
-use Rattle.model.specs.Mutable.{Mutable, keepsBits, grow, counted, nullsNode}
+use Rattle.model.specs.Mutable.{keepsBits, grow, counted, nullsNode}
 use Rattle.model.specs.Transform.{Grown, Destination, keepsNulls, extend, nullsData}
-use Rattle.model.specs.Book.{Call, copy, nulls, answer}
-use Rattle.model.specs.Grounds.{Counts, askNulls}
+use Rattle.model.specs.Book.{Call, copy, nulls}
 use Rattle.model.specs.Held.{held}
-use Rattle.model.specs.Orders.{perform}
-use Rattle.model.proofs.Agree.{Agrees}
 use Rattle.model.proofs.Law.{Law, KeepNode}
 use Rattle.model.proofs.Nodes.{kindOf, keepOf}
 use Rattle.model.proofs.Node.{node-fills}
 use Rattle.model.proofs.Types.{law}
 use Rattle.model.proofs.Book.{State, Did, one-order}
 use Rattle.walk.specs.State.{codeOf, endOf, keepsOf, rows, bytes, far}
-use Rattle.walk.specs.Log.{Log, Entry, put, mask, Out, apply}
+use Rattle.walk.specs.Log.{Log, put, mask, Out, apply}
 use Rattle.walk.specs.Copy.{copyWalk}
 use Rattle.walk.specs.Nulls.{nullWalk}
 use Rattle.link.specs.Memory.{Memory, noted, after, AllInPlace}
-use Rattle.link.specs.Holds.{Worded, HoldsBits, Holds}
+use Rattle.link.specs.Holds.{HoldsBits, Holds}
 use Rattle.link.proofs.Goes.{Goes, good, over}
 use Rattle.link.proofs.Frame.{Kept, worded-span}
 use Rattle.link.proofs.Types.{Opened, copies, fills}
 use Rattle.link.proofs.UnionFields.{agrees-value}
-use Rattle.room.specs.Room.{AllBelow, Placed, Lies, Fits, UsedEntry, AllUsed}
+use Rattle.room.specs.Room.{AllBelow, Placed, Lies, Fits, AllUsed}
 use Rattle.room.specs.Reach.{UsedAt, Among, Free, Typed, typed}
 use Rattle.room.proofs.Closure.{closed-free}
 use Rattle.room.proofs.Applied.{room-lies, room-long}
 use Rattle.room.proofs.Orders.{copy-used, nulls-used}
-use Rattle.parts.specs.Parts.{nodesOf, bufferCount, hasPart, needed, neededBy, sizeOf, partsHold, partsWithin, Used}
+use Rattle.parts.specs.Parts.{nodesOf, bufferCount, needed, neededBy, sizeOf, partsHold, partsWithin, Used}
 use Rattle.orders.specs.Order.{After, Lent, joinOf, sourceCount, sourceLength, refused, settled, copyOrder, nullOrder, ordered}
 use Rattle.orders.specs.Fits.{fits, answerIn}
 use Rattle.orders.proofs.Buffers.{buffer-part, has-part}
