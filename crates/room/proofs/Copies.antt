@@ -124,7 +124,7 @@ module _ (x : Join) (In At : ℕ → Type 0) (closed : Closed (x .state) In At) 
     uses-runs-put w slot n None c q s h = uses-fail U 12 c
     uses-runs-put w slot n (Range start count) c q s h =
         uses-next U _ _ (below (suc (suc i)) (start .0) count c (closed .values i here q))
-        (λ c2. uses-next U _ _ (uses-put (x .state) At (suc i) (omega arith) (closed .ends i here q) 0 _ _ c2 h (bytes-clipped w (x .body) _ count slot (slot + n) (rows c2 i)))
+        (λ c2. uses-next U _ _ (uses-put (x .state) At (suc i) (omega arith) (closed .ends i here q) 0 _ _ c2 h (bytes-clipped w (x .body) _ count slot (slot + n) (rows c i)))
         (λ c3. uses-done U _))
 
     uses-runs : (slot n : ℕ) (c : List ℕ) → codeOf (x .state) i ≡ 21 → Uses U (copyRuns x walk i slot n c)
