@@ -20,7 +20,7 @@ is-asked-requires : tie.Need-is-asked-requires
 is-asked-requires c κs = search needs
 
 keeps-requires : tie.Need-keeps-requires
-keeps-requires c κs = (omega arith, omega arith, c .before .before .before .before .before .before .before .pre .2)
+keeps-requires c κs = (omega arith, omega arith, λ s h. c .before .before .before .before .before .before .before .pre .2 s (omega arith))
 
 returns-2 : tie.Need-returns-2
 returns-2 c =
