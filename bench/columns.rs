@@ -129,10 +129,35 @@ struct Node<'a> {
     valid: Option<&'a [u8]>,
 }
 
-fn number<const W: usize>(s: &[u8]) -> u64 {
-    let mut word = [0; 8];
-    word[..W].copy_from_slice(&s[..W]);
-    u64::from_le_bytes(word)
+// A signed number of a buffer.
+trait Word: Copy + Ord + Into<i64> {
+    const W: usize;
+    fn read(s: &[u8]) -> Self;
+}
+
+macro_rules! word {
+    ($t:ty) => {
+        impl Word for $t {
+            const W: usize = size_of::<$t>();
+            fn read(s: &[u8]) -> $t {
+                <$t>::from_le_bytes(s[..Self::W].try_into().unwrap())
+            }
+        }
+    };
+}
+
+word!(i8);
+word!(i16);
+word!(i32);
+word!(i64);
+
+fn numbers<'a, T: Word + 'a>(s: &'a [u8]) -> impl Iterator<Item = T> + 'a {
+    s.chunks_exact(T::W).map(T::read)
+}
+
+// Whether all hold. It does not stop at the first that does not, so that it can be compiled to vectors.
+fn each(tests: impl Iterator<Item = bool>) -> bool {
+    tests.fold(0, |bad, t| bad | !t as u32) == 0
 }
 
 fn bit(s: Option<&[u8]>, k: usize) -> bool {
@@ -255,54 +280,49 @@ impl<'a> Check<'a> {
         match node.kind {
             Kind::Fixed(w) => {
                 let values = self.entries(i, 3, w, end)?;
-                Some(!node.keys || self.keys(i, w, values, &node))
+                Some(match w {
+                    _ if !node.keys => true,
+                    1 => self.keys::<i8>(i, values, &node),
+                    2 => self.keys::<i16>(i, values, &node),
+                    4 => self.keys::<i32>(i, values, &node),
+                    _ => self.keys::<i64>(i, values, &node),
+                })
             }
-            Kind::Strings(4) => self.strings::<4>(i, &node),
-            Kind::Strings(_) => self.strings::<8>(i, &node),
+            Kind::Strings(4) => self.strings::<i32>(i, &node),
+            Kind::Strings(_) => self.strings::<i64>(i, &node),
             Kind::Views => self.views(i, &node),
-            Kind::ListView(4) => self.lists::<4>(i, &node),
-            Kind::ListView(_) => self.lists::<8>(i, &node),
+            Kind::ListView(4) => self.lists::<i32>(i, &node),
+            Kind::ListView(_) => self.lists::<i64>(i, &node),
             Kind::Union { dense, ids } => self.unions(i, &node, dense, ids),
             Kind::Runs => match self.format(i + 1) {
-                b"s" => self.runs::<2>(i, &node),
-                b"i" => self.runs::<4>(i, &node),
-                _ => self.runs::<8>(i, &node),
+                b"s" => self.runs::<i16>(i, &node),
+                b"i" => self.runs::<i32>(i, &node),
+                _ => self.runs::<i64>(i, &node),
             },
         }
     }
 
-    fn keys(&self, i: usize, w: usize, values: &[u8], node: &Node) -> bool {
+    fn keys<T: Word>(&self, i: usize, values: &[u8], node: &Node) -> bool {
         let size = self.rows(i + 1) as u64;
-        // A negative key reads as a number above every length.
-        let signed = self.format(i)[0].is_ascii_lowercase();
-        let limit = if signed { size.min(1 << (8 * w - 1)) } else { size };
-        let key = |k: usize| match w {
-            1 => values[k] as u64,
-            2 => number::<2>(&values[2 * k..]),
-            4 => number::<4>(&values[4 * k..]),
-            _ => number::<8>(&values[8 * k..]),
-        };
-        node.slots.clone().all(|k| key(k) < limit || !bit(node.valid, k))
+        // A negative key of 64 bits is above every length; an unsigned one below 64 bits is read modulo its width.
+        let mask = if self.format(i)[0].is_ascii_lowercase() { u64::MAX } else { u64::MAX >> (64 - 8 * T::W) };
+        let fits = |key: T| (key.into() as u64 & mask) < size;
+        let keys = numbers::<T>(&values[T::W * node.slots.start..]);
+        match node.valid {
+            None => each(keys.map(fits)),
+            Some(_) => each(keys.zip(node.slots.clone()).map(|(key, k)| fits(key) | !bit(node.valid, k))),
+        }
     }
 
-    fn strings<const W: usize>(&self, i: usize, node: &Node) -> Option<bool> {
+    fn strings<T: Word>(&self, i: usize, node: &Node) -> Option<bool> {
         let (offsets, data) = (self.place(i, 3)?, self.place(i, 5)?);
         if node.slots.is_empty() && offsets.is_empty() {
             return Some(true);
         }
-        let offsets = &offsets.get(..(node.slots.end + 1).checked_mul(W)?)?[W * node.slots.start..];
-        let mut last = number::<W>(offsets);
-        if 1 << (8 * W - 1) <= last {
-            return Some(false);
-        }
-        for s in offsets.chunks_exact(W) {
-            let next = number::<W>(s);
-            if next < last {
-                return Some(false);
-            }
-            last = next;
-        }
-        Some(last <= data.len() as u64)
+        let offsets = &offsets.get(..(node.slots.end + 1).checked_mul(T::W)?)?[T::W * node.slots.start..];
+        let rising = each(numbers::<T>(offsets).zip(numbers::<T>(&offsets[T::W..])).map(|(a, b)| a <= b));
+        let (first, last) = (T::read(offsets), T::read(&offsets[offsets.len() - T::W..]));
+        Some(0 <= first.into() && rising && last.into() <= data.len() as i64)
     }
 
     fn views(&self, i: usize, node: &Node) -> Option<bool> {
@@ -314,7 +334,8 @@ impl<'a> Check<'a> {
             *d = self.lent.body.get(p[0] as usize..p[0] as usize + p[1] as usize)?;
         }
         let good = |v: &[u8]| {
-            let (len, buffer, at) = (number::<4>(v) as usize, number::<4>(&v[8..]) as usize, number::<4>(&v[12..]) as usize);
+            let word = |at: usize| i32::read(&v[at..]) as u32 as usize;
+            let (len, buffer, at) = (word(0), word(8), word(12));
             if len <= 12 {
                 return true;
             }
@@ -325,15 +346,14 @@ impl<'a> Check<'a> {
         Some(rows.into_iter().all(|(v, k)| !bit(node.valid, k) || good(v)))
     }
 
-    fn lists<const W: usize>(&self, i: usize, node: &Node) -> Option<bool> {
-        let offsets = &self.entries(i, 3, W, node.slots.end)?[W * node.slots.start..];
-        let sizes = &self.entries(i, 5, W, node.slots.end)?[W * node.slots.start..];
-        let child = self.rows(i + 1) as u64;
-        let top = 1 << (8 * W - 1);
-        Some(offsets.chunks_exact(W).zip(sizes.chunks_exact(W)).all(|(o, s)| {
-            let (o, s) = (number::<W>(o), number::<W>(s));
-            o < top && s < top && o + s <= child
-        }))
+    fn lists<T: Word>(&self, i: usize, node: &Node) -> Option<bool> {
+        let offsets = &self.entries(i, 3, T::W, node.slots.end)?[T::W * node.slots.start..];
+        let sizes = &self.entries(i, 5, T::W, node.slots.end)?[T::W * node.slots.start..];
+        let child = self.rows(i + 1) as i64;
+        Some(each(numbers::<T>(offsets).zip(numbers::<T>(sizes)).map(|(o, s)| {
+            let (o, s): (i64, i64) = (o.into(), s.into());
+            (0 <= o) & (0 <= s) & (s <= child.wrapping_sub(o))
+        })))
     }
 
     fn unions(&self, i: usize, node: &Node, dense: bool, ids: u128) -> Option<bool> {
@@ -341,14 +361,14 @@ impl<'a> Check<'a> {
         if node.valid.is_some() {
             return Some(false);
         }
-        let declared = |id: u8| id < 128 && ids >> id & 1 == 1;
+        let declared = |id: usize| id < 128 && ids >> id & 1 == 1;
         if dense {
             let positions = &self.entries(i, 5, 4, node.slots.end)?[4 * node.slots.start..];
             let mut sizes = [0; 256];
-            for id in (0..128).filter(|id| declared(*id as u8)) {
-                sizes[id] = self.rows(node.child[id] as usize).min(1 << 31) as u64;
+            for id in (0..128).filter(|id| declared(*id)) {
+                sizes[id] = self.rows(node.child[id] as usize).min(1 << 31) as u32;
             }
-            return Some(types.iter().zip(positions.chunks_exact(4)).all(|(t, p)| number::<4>(p) < sizes[*t as usize]));
+            return Some(each(types.iter().zip(numbers::<i32>(positions)).map(|(t, p)| (p as u32) < sizes[*t as usize])));
         }
         let mut c = i + 1;
         while c < self.ends[i] {
@@ -357,25 +377,23 @@ impl<'a> Check<'a> {
             }
             c = self.ends[c];
         }
-        Some(types.iter().all(|t| declared(*t)))
+        let known: [bool; 256] = std::array::from_fn(declared);
+        Some(each(types.iter().map(|t| known[*t as usize])))
     }
 
-    fn runs<const W: usize>(&self, i: usize, node: &Node) -> Option<bool> {
+    fn runs<T: Word>(&self, i: usize, node: &Node) -> Option<bool> {
         let slots = self.slots(i + 1)?;
-        let ends = &self.entries(i + 1, 3, W, slots.end)?[W * slots.start..];
+        let ends = &self.entries(i + 1, 3, T::W, slots.end)?[T::W * slots.start..];
         let valid = if self.lent.places[9 * (i + 1)] == 0 { None } else { Some(self.place(i + 1, 1)?.get(..slots.end.div_ceil(8))?) };
         if node.valid.is_some() || self.rows(i + 2) != slots.len() || !slots.clone().all(|k| bit(valid, k)) {
             return Some(false);
         }
-        let mut last = 0;
-        for s in ends.chunks_exact(W) {
-            let next = number::<W>(s);
-            if next <= last || 1 << (8 * W - 1) <= next {
-                return Some(false);
-            }
-            last = next;
+        if ends.is_empty() {
+            return Some(node.slots.end == 0);
         }
-        Some(node.slots.end as u64 <= last)
+        let rising = each(numbers::<T>(ends).zip(numbers::<T>(&ends[T::W..])).map(|(a, b)| a < b));
+        let (first, last) = (T::read(ends), T::read(&ends[ends.len() - T::W..]));
+        Some(1 <= first.into() && rising && node.slots.end as i64 <= last.into())
     }
 }
 
