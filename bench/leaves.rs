@@ -1,7 +1,9 @@
 // Times the leaves against plain Rust on the same bytes, interleaved in one run, and prints a table.
 // Both sides are first held to the same results. Run by bench/run.
+mod timing;
+
 use std::hint::black_box;
-use std::time::{Duration, Instant};
+use timing::{bytes, bytes_mut, compare, Random, NO_GOAL};
 
 // A slice passes as pointer and length.
 extern "C" {
@@ -20,7 +22,6 @@ extern "C" {
 
 const REFUSED: usize = usize::MAX;
 const ROWS: usize = 4096;
-const NO_GOAL: f64 = 0.0;
 
 // ---- the leaves, by slices
 
@@ -227,74 +228,6 @@ fn plain_count_zeros(body: &[u8], a: usize, n: usize) -> usize {
 #[inline(never)]
 fn plain_find_runs(ends: &[i32], rows: &[u64]) -> usize {
     rows.iter().fold(0, |sum: usize, row| sum.wrapping_add(ends.partition_point(|e| *e as u64 <= *row)))
-}
-
-// ---- bytes
-
-// Random numbers (xorshift).
-struct Random(u64);
-
-impl Random {
-    fn next(&mut self) -> u64 {
-        self.0 ^= self.0 << 13;
-        self.0 ^= self.0 >> 7;
-        self.0 ^= self.0 << 17;
-        self.0
-    }
-
-    fn below(&mut self, n: u64) -> u64 {
-        self.next() % n
-    }
-}
-
-// Numbers as bytes, in place. The machine is little-endian.
-trait Number: Copy {}
-impl Number for u8 {}
-impl Number for u16 {}
-impl Number for u32 {}
-impl Number for u128 {}
-impl Number for i32 {}
-impl Number for i64 {}
-
-fn bytes<T: Number>(s: &[T]) -> &[u8] {
-    unsafe { std::slice::from_raw_parts(s.as_ptr().cast(), size_of_val(s)) }
-}
-
-fn bytes_mut<T: Number>(s: &mut [T]) -> &mut [u8] {
-    unsafe { std::slice::from_raw_parts_mut(s.as_mut_ptr().cast(), size_of_val(s)) }
-}
-
-// ---- timing
-
-fn once<R>(f: &mut impl FnMut() -> R, calls: u32) -> f64 {
-    let start = Instant::now();
-    for _ in 0..calls {
-        black_box(f());
-    }
-    start.elapsed().as_nanos() as f64 / calls as f64
-}
-
-// Rounds of some 50 microseconds, one side after the other; the best of each side counts.
-fn compare<R, S>(name: &str, goal: f64, mut ours: impl FnMut() -> R, mut plain: impl FnMut() -> S) {
-    let mut calls = 1;
-    while once(&mut plain, calls) * (calls as f64) < 50_000.0 {
-        calls *= 2;
-    }
-    let (mut best, mut best_plain) = (f64::MAX, f64::MAX);
-    let start = Instant::now();
-    let mut rounds = 0;
-    while rounds < 1000 || start.elapsed() < Duration::from_millis(400) {
-        best = best.min(once(&mut ours, calls));
-        best_plain = best_plain.min(once(&mut plain, calls));
-        rounds += 1;
-    }
-    let ratio = best / best_plain;
-    let verdict = match goal {
-        NO_GOAL => "| |".to_string(),
-        _ if ratio <= goal => format!("{goal:.1} | met |"),
-        _ => format!("{goal:.1} | missed |"),
-    };
-    println!("| {name} | {best:.1} | {best_plain:.1} | {ratio:.2} | {verdict}");
 }
 
 // ---- the same results
