@@ -132,15 +132,18 @@ struct Node<'a> {
 // A signed number of a buffer.
 trait Word: Copy + Ord + Into<i64> {
     const W: usize;
-    fn read(s: &[u8]) -> Self;
+    fn numbers(s: &[u8]) -> impl Iterator<Item = Self>;
+    fn read(s: &[u8]) -> Self {
+        Self::numbers(&s[..Self::W]).next().unwrap()
+    }
 }
 
 macro_rules! word {
     ($t:ty) => {
         impl Word for $t {
             const W: usize = size_of::<$t>();
-            fn read(s: &[u8]) -> $t {
-                <$t>::from_le_bytes(s[..Self::W].try_into().unwrap())
+            fn numbers(s: &[u8]) -> impl Iterator<Item = Self> {
+                s.as_chunks().0.iter().map(|b| <$t>::from_le_bytes(*b))
             }
         }
     };
@@ -150,10 +153,6 @@ word!(i8);
 word!(i16);
 word!(i32);
 word!(i64);
-
-fn numbers<'a, T: Word + 'a>(s: &'a [u8]) -> impl Iterator<Item = T> + 'a {
-    s.chunks_exact(T::W).map(T::read)
-}
 
 // Whether all hold. It does not stop at the first that does not, so that it can be compiled to vectors.
 fn each(tests: impl Iterator<Item = bool>) -> bool {
@@ -307,7 +306,7 @@ impl<'a> Check<'a> {
         // A negative key of 64 bits is above every length; an unsigned one below 64 bits is read modulo its width.
         let mask = if self.format(i)[0].is_ascii_lowercase() { u64::MAX } else { u64::MAX >> (64 - 8 * T::W) };
         let fits = |key: T| (key.into() as u64 & mask) < size;
-        let keys = numbers::<T>(&values[T::W * node.slots.start..]);
+        let keys = T::numbers(&values[T::W * node.slots.start..]);
         match node.valid {
             None => each(keys.map(fits)),
             Some(_) => each(keys.zip(node.slots.clone()).map(|(key, k)| fits(key) | !bit(node.valid, k))),
@@ -320,7 +319,7 @@ impl<'a> Check<'a> {
             return Some(true);
         }
         let offsets = &offsets.get(..(node.slots.end + 1).checked_mul(T::W)?)?[T::W * node.slots.start..];
-        let rising = each(numbers::<T>(offsets).zip(numbers::<T>(&offsets[T::W..])).map(|(a, b)| a <= b));
+        let rising = each(T::numbers(offsets).zip(T::numbers(&offsets[T::W..])).map(|(a, b)| a <= b));
         let (first, last) = (T::read(offsets), T::read(&offsets[offsets.len() - T::W..]));
         Some(0 <= first.into() && rising && last.into() <= data.len() as i64)
     }
@@ -350,7 +349,7 @@ impl<'a> Check<'a> {
         let offsets = &self.entries(i, 3, T::W, node.slots.end)?[T::W * node.slots.start..];
         let sizes = &self.entries(i, 5, T::W, node.slots.end)?[T::W * node.slots.start..];
         let child = self.rows(i + 1) as i64;
-        Some(each(numbers::<T>(offsets).zip(numbers::<T>(sizes)).map(|(o, s)| {
+        Some(each(T::numbers(offsets).zip(T::numbers(sizes)).map(|(o, s)| {
             let (o, s): (i64, i64) = (o.into(), s.into());
             (0 <= o) & (0 <= s) & (s <= child.wrapping_sub(o))
         })))
@@ -368,7 +367,7 @@ impl<'a> Check<'a> {
             for id in (0..128).filter(|id| declared(*id)) {
                 sizes[id] = self.rows(node.child[id] as usize).min(1 << 31) as u32;
             }
-            return Some(each(types.iter().zip(numbers::<i32>(positions)).map(|(t, p)| (p as u32) < sizes[*t as usize])));
+            return Some(each(types.iter().zip(i32::numbers(positions)).map(|(t, p)| (p as u32) < sizes[*t as usize])));
         }
         let mut c = i + 1;
         while c < self.ends[i] {
@@ -391,7 +390,7 @@ impl<'a> Check<'a> {
         if ends.is_empty() {
             return Some(node.slots.end == 0);
         }
-        let rising = each(numbers::<T>(ends).zip(numbers::<T>(&ends[T::W..])).map(|(a, b)| a < b));
+        let rising = each(T::numbers(ends).zip(T::numbers(&ends[T::W..])).map(|(a, b)| a < b));
         let (first, last) = (T::read(ends), T::read(&ends[ends.len() - T::W..]));
         Some(1 <= first.into() && rising && node.slots.end as i64 <= last.into())
     }
