@@ -1,0 +1,2 @@
+-- What the two orders go by.
+pub mod Laws

@@ -1,0 +1,39 @@
+-- `transform::try_extend_nulls` meets its contract. Assumes nothing.
+use Rattle.transform.specs.Answer.{lent}
+use Rattle.transform.proofs.Laws.{null-counters, null-keeps, null-made}
+use borrow.Author.Needs.{needs}
+use Rattle.transform.proofs.try_extend_nulls.Statement.{statement}
+use Rattle.transform.proofs.try_extend_nulls.Tie as tie
+
+returns : tie.Need-returns
+returns c =
+    let z = c .before .before .before .before .before .args in
+    λ sources lengths places body. null-counters (lent (z .plan .now) (z .parts .now) sources lengths places body) (z .counters .now) (z .room .now) (z .n) (c .if1 .taken)
+
+keeps-of-requires : tie.Need-keeps-of-requires
+keeps-of-requires c κs = search needs
+
+returns-2 : tie.Need-returns-2
+returns-2 c =
+    let z = c .before .before .before .before .before .before .before .args in
+    λ sources lengths places body. null-keeps (lent (z .plan .now) (z .parts .now) sources lengths places body) (z .counters .now) (z .room .now) (z .n) (c .before .before .if1 .left) (c .before .keeps-of .ensures) (c .if2 .taken)
+
+at-most-far-requires : tie.Need-at-most-far-requires
+at-most-far-requires c κs = search needs
+
+add-nulls-requires : tie.Need-add-nulls-requires
+add-nulls-requires c κs = search needs
+
+same-length : tie.Need-same-length
+same-length c = search needs
+
+same-length-2 : tie.Need-same-length-2
+same-length-2 c = search needs
+
+returns-3 : tie.Need-returns-3
+returns-3 c =
+    let z = c .before .before .before .before .before .before .before .before .before .before .before .before .before .before .before .args in
+    λ sources lengths places body. null-made (lent (z .plan .now) (z .parts .now) sources lengths places body) (z .counters .now) (z .room .now) (z .n) (c .before .before .before .before .before .before .before .before .before .before .if1 .left) (c .before .before .before .before .before .before .before .before .before .keeps-of .ensures) (c .before .before .before .before .before .before .before .before .if2 .left) (c .before .before .before .before .before .at-most-far .ensures) (c .before .before .before .before .add-nulls .ensures sources lengths places body)
+
+pub try-extend-nulls-spec : {M : Type 1} → statement M
+try-extend-nulls-spec = tie.close (tie.spec returns keeps-of-requires returns-2 at-most-far-requires add-nulls-requires same-length same-length-2 returns-3)

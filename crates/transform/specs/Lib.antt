@@ -1,0 +1,2 @@
+-- What the contracts of `transform` cite beside the orders themselves, which are those of crate `orders`.
+pub mod Answer

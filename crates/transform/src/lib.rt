@@ -1,0 +1,234 @@
+// The two orders on lent memory: each is tried first, on a copy of the counters, and made where no ground is found. A refused one changes nothing.
+// Follows `try_extend` and `try_extend_nulls` of arrow-data 60.1.0 src/transform/mod.rs, Apache-2.0; see NOTICE.
+ghost use mathlib.Core.Path.{_≡_};
+ghost use mathlib.Core.List.{List, []};
+ghost use mathlib.Core.Bool.{cond, _&&_};
+ghost use Prim.Native.Nat.{ℕ, _+_, _*_, _<_, _^_, min};
+ghost use lib.ListN.{length, getD};
+ghost use lib.Dec.{leb};
+ghost use Rattle.walk.specs.State.{far};
+ghost use Rattle.walk.specs.Copy.{copyWalk};
+ghost use Rattle.walk.specs.Nulls.{nullWalk};
+ghost use Rattle.leaf_walk.specs.Join.{join};
+ghost use Rattle.parts.specs.Parts.{partsWithin, partsHold};
+ghost use Rattle.orders.specs.Order.{settled, copyOrder, nullOrder};
+ghost use Rattle.transform.specs.Answer.{lent, Answers};
+
+// ---- the counters
+
+// The counters as an array.
+fn load(counters: &[u64]) -> [u64; 96]
+    requires { ⌜ length (now counters) ≡ 96 ⌝ }
+    ensures { λ r. ⌜ r ≡ now (counters .entry) ⌝ }
+{
+    let mut counts = [0u64; 96];
+    let mut i = 0;
+    while i < 96 {
+        counts[i] = counters[i];
+        i += 1;
+    }
+    counts
+}
+
+// A copy; that it has 96 elements is known of an array that a call returns.
+fn copied(counts: [u64; 96]) -> [u64; 96]
+    ensures { λ r. ⌜ r ≡ counts ⌝ }
+{
+    counts
+}
+
+// The counters as the array has them.
+fn store(counters: &mut [u64], counts: &[u64; 96])
+    requires { ⌜ (length (now counters) ≡ 96) × (length (now counts) ≡ 96) ⌝ }
+    ensures { λ _. ⌜ now (counters .exit) ≡ now (counts .entry) ⌝ }
+{
+    let mut i = 0;
+    while i < 96 {
+        counters[i] = counts[i];
+        i += 1;
+    }
+}
+
+// ---- grounds
+
+// Ground 14 where a part does not lie in a room of m bytes, 13 where one cannot hold its bytes.
+fn parts_ground(plan: &[u64], parts: &[u32], counts: &[u64; 96], m: usize) -> u8
+    ensures { λ r. ⌜ r ≡ cond (partsWithin (now (plan .entry)) (now (parts .entry)) m) (cond (partsHold (now (plan .entry)) (now (counts .entry)) (now (parts .entry))) 0 13) 14 ⌝ }
+{
+    if !parts::parts_within(plan, parts, m) {
+        return 14;
+    }
+    if !parts::parts_hold(plan, counts, parts) {
+        return 13;
+    }
+    0
+}
+
+// Whether the rows start .. end - 1 are rows of the source whose first node is `first`.
+fn in_source(lengths: &[u64], first: usize, start: u64, end: u64) -> bool
+    requires { ⌜ first < 2 ^ 32 ⌝ }
+    ensures { λ r. ⌜ r ≡ (leb start end && leb end (getD (now (lengths .entry)) (2 * first) 0)) ⌝ }
+{
+    if end < start {
+        return false;
+    }
+    end <= lent_tables::at_u64(lengths, 2 * first)
+}
+
+// ---- copies
+
+// The rows start .. start + n - 1 of a source, whose first node is `first`.
+fn copy_rows(
+    plan: &[u64],
+    parts: &[u32],
+    lengths: &[u64],
+    places: &[u32],
+    body: &[u8],
+    counters: &mut [u64],
+    room: &mut [u8],
+    source: usize,
+    first: usize,
+    start: u64,
+    n: u64,
+) -> u8
+    requires { ⌜ (length (now counters) ≡ 96) × (first < 2 ^ 32) × (source < 2 ^ 32) ⌝ }
+    ensures { λ r. ⌜ ((sources : List ℕ) → Answers (settled (lent (now (plan .entry)) (now (parts .entry)) sources (now (lengths .entry)) (now (places .entry)) (now (body .entry))) (now (counters .entry)) (now (room .entry)) (copyWalk (join (now (plan .entry)) (now (parts .entry)) (now (lengths .entry)) (now (places .entry)) (now (body .entry)) first source) 8 0 start n (now (counters .entry)))) r (now (counters .exit)) (now (room .exit))) ⌝ }
+{
+    let mut tried = load(counters);
+    let g = extend::extend(
+        plan,
+        parts,
+        lengths,
+        places,
+        body,
+        &mut tried,
+        room,
+        false,
+        source,
+        first,
+        0,
+        start,
+        n,
+        8,
+    );
+    if g != 0 {
+        return g;
+    }
+    let g = parts_ground(plan, parts, &tried, room.len());
+    if g != 0 {
+        return g;
+    }
+    let mut counts = load(counters);
+    let g = extend::extend(
+        plan,
+        parts,
+        lengths,
+        places,
+        body,
+        &mut counts,
+        room,
+        true,
+        source,
+        first,
+        0,
+        start,
+        n,
+        8,
+    );
+    let made = copied(counts);
+    store(counters, &made);
+    g
+}
+
+// Copies the rows start .. end - 1 of a source behind the destination's rows: 0, or the ground of refusal.
+pub fn try_extend(
+    plan: &[u64],
+    parts: &[u32],
+    sources: &[u32],
+    lengths: &[u64],
+    places: &[u32],
+    body: &[u8],
+    counters: &mut [u64],
+    room: &mut [u8],
+    source: u32,
+    start: u64,
+    end: u64,
+) -> u8
+    ensures { λ r. ⌜ Answers (copyOrder (lent (now (plan .entry)) (now (parts .entry)) (now (sources .entry)) (now (lengths .entry)) (now (places .entry)) (now (body .entry))) (now (counters .entry)) (now (room .entry)) source start end) r (now (counters .exit)) (now (room .exit)) ⌝ }
+{
+    if counters.len() != 96 {
+        return 14;
+    }
+    if lent_tables::at_u64(plan, 864) <= source as u64 {
+        return 1;
+    }
+    let first = lent_tables::at_u32(sources, 2 * (source as usize)) as usize;
+    if !in_source(lengths, first, start, end) {
+        return 2;
+    }
+    copy_rows(
+        plan,
+        parts,
+        lengths,
+        places,
+        body,
+        counters,
+        room,
+        source as usize,
+        first,
+        start,
+        end - start,
+    )
+}
+
+// ---- nulls
+
+// At most 2^63 rows: no part holds as many.
+fn at_most_far(n: u64) -> u64
+    ensures { λ r. ⌜ r ≡ min n far ⌝ }
+{
+    if 9223372036854775808 < n {
+        return 9223372036854775808;
+    }
+    n
+}
+
+// n nulls.
+fn add_nulls(plan: &[u64], parts: &[u32], counters: &mut [u64], room: &mut [u8], n: u64) -> u8
+    requires { ⌜ length (now counters) ≡ 96 ⌝ }
+    ensures { λ r. ⌜ ((sources lengths places body : List ℕ) → Answers (settled (lent (now (plan .entry)) (now (parts .entry)) sources lengths places body) (now (counters .entry)) (now (room .entry)) (nullWalk (join (now (plan .entry)) (now (parts .entry)) [] [] [] 0 0) 8 0 n (now (counters .entry)))) r (now (counters .exit)) (now (room .exit))) ⌝ }
+{
+    let mut tried = load(counters);
+    let g = extend_nulls::extend_nulls(plan, parts, &mut tried, room, false, 0, n, 8);
+    if g != 0 {
+        return g;
+    }
+    let g = parts_ground(plan, parts, &tried, room.len());
+    if g != 0 {
+        return g;
+    }
+    let mut counts = load(counters);
+    let g = extend_nulls::extend_nulls(plan, parts, &mut counts, room, true, 0, n, 8);
+    let made = copied(counts);
+    store(counters, &made);
+    g
+}
+
+// Adds n nulls behind the destination's rows: 0, or the ground of refusal. No source is read.
+pub fn try_extend_nulls(
+    plan: &[u64],
+    parts: &[u32],
+    counters: &mut [u64],
+    room: &mut [u8],
+    n: u64,
+) -> u8
+    ensures { λ r. ⌜ ((sources lengths places body : List ℕ) → Answers (nullOrder (lent (now (plan .entry)) (now (parts .entry)) sources lengths places body) (now (counters .entry)) (now (room .entry)) n) r (now (counters .exit)) (now (room .exit))) ⌝ }
+{
+    if counters.len() != 96 {
+        return 14;
+    }
+    if growth::keeps_of(plan, 0) == 0 {
+        return 3;
+    }
+    add_nulls(plan, parts, counters, room, at_most_far(n))
+}
