@@ -6,7 +6,7 @@ use Prim.Native.Nat.{ℕ, zero, suc, _*_, _<_}
 use lib.ListN.{drop}
 use lib.Dec.{eqb}
 use Rattle.columnar.specs.Types.{Number, width, Plain, fixed, string, Ty, tPlain, tView, tListView, tSparse, tDense, tRunEnd, tDictionary}
-use Rattle.columnar.specs.Array.{Array}
+use Rattle.columnar.specs.Array.{Array, nullCount}
 use Rattle.columnar.specs.Plain.{PlainBody}
 use Rattle.columnar.specs.Reading.{Body, Column}
 use Rattle.columnar.specs.Test.{every}
@@ -83,8 +83,9 @@ tablesFrom x first = record { lengths = drop (2 * first) (x .lengths); places = 
 
 -- where the validity and the buffers begin, for `ptr_eq`
 module _ (x : Tables) where
+  -- one more than where the validity begins; 0 where there is none: "Validity with no zero bit among the rows counts as absent."
   abbrev pub validStart : ℕ → ℕ
-  validStart i = cond (eqb (place x i 0) 0) 0 (suc (place x i 1))
+  validStart i = cond (eqb (nullCount {B = Unit {0}} (arrayWith x tt i)) 0) 0 (suc (place x i 1))
 
   abbrev pub starts : Plain → ℕ → List ℕ
   starts (fixed n) i = validStart i ∷ place x i 3 ∷ []

@@ -30,7 +30,7 @@ module _ (formats schema lengths places buffers body : List ℕ) where
 -- ---- where the rules are tested
 
 module _ (formats schema : List ℕ) (x : Tables) where
-  sum-fits : (first n : ℕ) → withinCeilings formats schema x first n ≡ true → (j : ℕ) → j < n → offsetOf x (first + j) + lengthOf x (first + j) < 2 ^ 63
+  pub sum-fits : (first n : ℕ) → withinCeilings formats schema x first n ≡ true → (j : ℕ) → j < n → offsetOf x (first + j) + lengthOf x (first + j) < 2 ^ 63
   unfolding withinCeilings nodeFits countFits
   sum-fits first n h j l =
       let p = both (ceilings formats schema first n) (every (nodeFits formats schema x first) n) h in

@@ -36,7 +36,7 @@ module _ (formats schema : List ℕ) (x : Tables) where
   unfolding withinCeilings
   within-low first n h = both (ceilings formats schema first n) (every (nodeFits formats schema x first) n) h .0
 
-  obeys-is : (first n : ℕ) → obeys formats schema x first n ≡ Rattle.array_data.specs.Typed.sourceRule (treeOf formats schema first n) (tablesFrom x first)
+  pub obeys-is : (first n : ℕ) → obeys formats schema x first n ≡ Rattle.array_data.specs.Typed.sourceRule (treeOf formats schema first n) (tablesFrom x first)
   unfolding obeys
   obeys-is first n = refl
 
@@ -82,7 +82,7 @@ module _ (formats schema : List ℕ) (x : Tables) where
         (columnOf (treeOf formats schema (first s) (nodes s)) (tablesFrom x (first s)) (typeOf formats schema (first 0) (nodes 0)) 0)
 
     -- what each ground is about, where none stands
-    record Accepted : Type 0 where
+    pub record Accepted : Type 0 where
       pub small : smallBody (x .body) ≡ true
       pub few : fewSources sources ≡ true
       pub within : allWithin formats schema x sources ≡ true
@@ -90,7 +90,7 @@ module _ (formats schema : List ℕ) (x : Tables) where
       pub of-one-type : allSame formats schema sources ≡ true
       pub obey : allObey formats schema x sources ≡ true
 
-    accepted : sourcesGround formats schema x sources ≡ 0 → Accepted
+    pub accepted : sourcesGround formats schema x sources ≡ 0 → Accepted
     unfolding sourcesGround
     accepted h =
         let p = chosen (smallBody (x .body) && fewSources sources && allWithin formats schema x sources) _ 9 (omega arith) h in
@@ -101,7 +101,7 @@ module _ (formats schema : List ℕ) (x : Tables) where
         let d = both (smallBody (x .body)) (fewSources sources) (b .0) in
         record { small = d .0; few = d .1; within = b .1; of-types = q .0; of-one-type = r .0; obey = o .0 }
 
-    some-source : fewSources sources ≡ true → 0 < sourceCount sources
+    pub some-source : fewSources sources ≡ true → 0 < sourceCount sources
     unfolding fewSources
     some-source h = leb-true 1 (sourceCount sources) (both (leb 1 (sourceCount sources)) (leb (sourceCount sources) 16) h .0)
 
@@ -113,11 +113,11 @@ module _ (formats schema : List ℕ) (x : Tables) where
     unfolding allTyped
     typed-at h s l = every-at (of-source (typed formats schema) sources) (sourceCount sources) s h l
 
-    same-at : allSame formats schema sources ≡ true → (s : ℕ) → s < sourceCount sources → sameType formats schema (first 0) (nodes 0) (first s) (nodes s) ≡ true
+    pub same-at : allSame formats schema sources ≡ true → (s : ℕ) → s < sourceCount sources → sameType formats schema (first 0) (nodes 0) (first s) (nodes s) ≡ true
     unfolding allSame
     same-at h s l = every-at (of-source (sameType formats schema (first 0) (nodes 0)) sources) (sourceCount sources) s h l
 
-    obeys-at : allObey formats schema x sources ≡ true → (s : ℕ) → s < sourceCount sources → obeys formats schema x (first s) (nodes s) ≡ true
+    pub obeys-at : allObey formats schema x sources ≡ true → (s : ℕ) → s < sourceCount sources → obeys formats schema x (first s) (nodes s) ≡ true
     unfolding allObey
     obeys-at h s l = every-at (of-source (obeys formats schema x) sources) (sourceCount sources) s h l
 

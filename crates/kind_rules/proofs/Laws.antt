@@ -159,10 +159,11 @@ module _ (x : Tables) (k : ℕ) where
     pub ids-are : (ids : List ℕ) → r ≡ idsDeclared (x .body) (start + off) ids len → r ≡ idsDeclared (x .body) (place x k 3 + offsetOf x k) ids (lengthOf x k)
     ids-are ids e = rw (a, o, l) at e
 
-    pub positions-are : (ids lens : List ℕ) {begin : ℕ} → begin ≡ place x k 5
-        → r ≡ positionsWithin (x .body) (start + off) (begin + 4 * off) ids lens len
-        → r ≡ positionsWithin (x .body) (place x k 3 + offsetOf x k) (place x k 5 + 4 * offsetOf x k) ids lens (lengthOf x k)
-    positions-are ids lens b e = rw (a, o, l, b) at e
+    -- the type ids and positions of a dense union
+    pub slots-are : (ids lens : List ℕ) {begin : ℕ} → begin ≡ place x k 5
+        → r ≡ idsDeclared (x .body) (start + off) ids len && positionsWithin (x .body) (start + off) (begin + 4 * off) ids lens len
+        → r ≡ idsDeclared (x .body) (place x k 3 + offsetOf x k) ids (lengthOf x k) && positionsWithin (x .body) (place x k 3 + offsetOf x k) (place x k 5 + 4 * offsetOf x k) ids lens (lengthOf x k)
+    slots-are ids lens b e = rw (a, o, l, b) at e
 
   module _ {count size : ℕ} (c : count ≡ offsetOf x k + lengthOf x k) (s : size ≡ place x k 4) where
     pub ids-short : size < count → leb (offsetOf x k + lengthOf x k) (place x k 4) ≡ false

@@ -262,11 +262,8 @@ fn dense_rows(
     let off = lent_tables::offset_of(lengths, k) as usize;
     let n = lent_tables::length_of(lengths, k) as usize;
     let at = (lent_tables::place(places, k, 3) as usize) + off;
-    if !slot_rules::ids_declared(body, at, n, ids) {
-        return false;
-    }
     let too = (lent_tables::place(places, k, 5) as usize) + 4 * off;
-    slot_rules::positions_within(body, at, too, n, ids, lens)
+    slot_rules::dense_good(body, at, too, n, ids, lens)
 }
 
 // The rule of a dense union; lens has the lengths of its children in field order.

@@ -70,13 +70,13 @@ pub fn read_leaf(body: &[u8], at: usize, code: u8) -> Leaf
 }
 
 // The bits of an f32; those of the usual NaN for one that has none of its own.
-fn bits_f32(x: f32) -> u32
+pub fn bits_f32(x: f32) -> u32
     ensures { λ r. ⌜ r ≡ toBits binary32 x ⌝ }
 {
     if x != x { 0x7fc0_0000 } else { f32::to_bits(x) }
 }
 
-fn bits_f64(x: f64) -> u64
+pub fn bits_f64(x: f64) -> u64
     ensures { λ r. ⌜ r ≡ toBits binary64 x ⌝ }
 {
     if x != x {

@@ -18,7 +18,7 @@ use Rattle.columnar.specs.Plain.{PlainBody, stored, PlainRule}
 use Rattle.columnar.specs.Dictionary.{Dictionary, dictionaryAt, DictionaryRule}
 use Rattle.columnar.proofs.Items.{item-left, item-right, item-encodes-lt, length-encodes}
 use Rattle.model.specs.Try.{Try, done, then, guard, after}
-use Rattle.model.specs.Opening.{keeps, sameList, ptrEq, shared, entriesBefore, startOfKeys, keysFit, allKeysFit}
+use Rattle.model.specs.Opening.{present, keeps, sameList, ptrEq, shared, entriesBefore, startOfKeys, keysFit, allKeysFit}
 use Rattle.model.specs.Mutable.{Mutable, startNode, freezeNode}
 use Rattle.model.specs.Primitive.{plainStart, newKeys}
 use Rattle.model.specs.Transform.{joinedFrom, theDictionary, openData}
@@ -27,6 +27,7 @@ use Rattle.model.proofs.Law.{Put, Law}
 use Rattle.model.proofs.Bits.{length-seg, getD-seg}
 use Rattle.model.proofs.Nodes.{KeysFine, dictionaryKind}
 use Rattle.model.proofs.Owed.{SameEntries}
+use Rattle.model.proofs.Present.{present-obeys}
 use Rattle.model.proofs.Pieces.{below-add}
 use Rattle.model.proofs.Joined.{done-is, then-done, Joined, joined, joined-obeys, entries-before}
 
@@ -109,10 +110,10 @@ module _ (k : Number) (p : Plain) (m : ℕ) (ds : ℕ → Dictionary (PlainBody 
   small-keys : (j : ℕ) → j < m → (e : ℕ) → e < ds j .values .len → startOfKeys m ds j + e < limit k
   small-keys j q e t = key-small k m ds j e (keys-fit k m ds m fit j q) t
 
-  whole-shared : shared m ds ≡ true → SameEntries p m ds → Whole k p m ds (ds 0 .values)
+  whole-shared : shared m ds ≡ true → SameEntries p m ds → Whole k p m ds (present (ds 0 .values))
   whole-shared s h =
       record {
-        obeyed = λ q. g 0 q;
+        obeyed = λ q. present-obeys p (ds 0 .values) (g 0 q);
         known = λ j q e t. rw (start-shared k m ds j s, zero-add, ← as-first s h j q .as-long) t;
         same = λ j q e t. rw (start-shared k m ds j s, zero-add) (as-first s h j q .as-stored e t);
         small = small-keys;
@@ -138,7 +139,7 @@ module _ (k : Number) (p : Plain) (m : ℕ) (ds : ℕ → Dictionary (PlainBody 
 
       go : (b : Bool) → shared m ds ≡ b
           → elim b [
-            | true ↦ done (ds 0 .values)
+            | true ↦ done (present (ds 0 .values))
             | false ↦ then (joinedFrom p (λ i. ds i .values) m begin) (λ e. done (freezeNode true (λ b. b) e))
           ] ≡ done v
           → Whole k p m ds v

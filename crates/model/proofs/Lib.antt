@@ -16,6 +16,7 @@ pub mod Ends
 pub mod RunsLaw
 pub mod SameBody
 pub mod Start
+pub mod Present
 pub mod Rows
 pub mod Book
 pub mod Follow

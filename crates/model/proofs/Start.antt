@@ -29,7 +29,7 @@ use Rattle.model.proofs.Nodes.{plainFine, fineOf, keepOf}
 
 -- ---- no null at a node
 
-no-null-in : (f : ℕ → Bool) (a n : ℕ) → nullsIn f a n ≡ 0 → (i : ℕ) → i < n → f (a + i) ≡ true
+pub no-null-in : (f : ℕ → Bool) (a n : ℕ) → nullsIn f a n ≡ 0 → (i : ℕ) → i < n → f (a + i) ≡ true
 no-null-in f a zero e i q = absurd (omega arith)
 no-null-in f a (suc n) e zero q = rw add-zero (go (f a) (omega arith))
   where

@@ -19,7 +19,7 @@ use Rattle.columnar.proofs.Kept.{obeys-kept}
 use Rattle.columnar.proofs.WiderKinds.{plain-widens}
 use Rattle.model.specs.Try.{Try, done, stop, then}
 use Rattle.model.specs.Grounds.{Counts, counts, leaf, askOf, plainAsk}
-use Rattle.model.specs.Opening.{keeps, sameList, ptrEq, shared, entriesBefore, startOfKeys, keysFit, allKeysFit}
+use Rattle.model.specs.Opening.{present, keeps, sameList, ptrEq, shared, entriesBefore, startOfKeys, keysFit, allKeysFit}
 use Rattle.model.specs.Mutable.{Mutable, startNode, freezeNode}
 use Rattle.model.specs.Primitive.{plainStart}
 use Rattle.model.specs.Transform.{Destination, joinedFrom, theDictionary, openAll, openData, start, tryWithCapacities}
@@ -146,7 +146,7 @@ joining p m vs = joinedFrom p vs m (startNode (keeps false m vs) (plainStart p))
 abbrev keptOr : (p : Plain) → ℕ → (ℕ → Dictionary (PlainBody p)) → Bool → Try (Array (PlainBody p))
 keptOr p m ds b =
     elim b [
-      | true ↦ done (ds 0 .values)
+      | true ↦ done (present (ds 0 .values))
       | false ↦ then (joining p m (λ i. ds i .values)) (λ e. done (freezeNode true (λ b. b) e))
     ]
 

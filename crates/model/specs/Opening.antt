@@ -1,12 +1,17 @@
 -- What an opening settles before the first order: which nodes keep nulls, and which dictionaries are shared (01: "A node keeps
 -- nulls if ..", "Two dictionaries are shared if ..", ground 8). Assumes nothing.
 use mathlib.Core.Bool.{Bool, true, false, cond, _&&_, _||_}
+use mathlib.Core.Option.{none}
 use mathlib.Core.List.{List, [], _∷_}
 use Prim.Native.Nat.{ℕ, zero, suc, _+_, _-_}
 use lib.Dec.{ltb, eqb}
 use Rattle.columnar.specs.Types.{Number, limit}
 use Rattle.columnar.specs.Array.{Array, nullCount}
 use Rattle.columnar.specs.Dictionary.{Dictionary}
+
+-- "Validity with no zero bit among the rows counts as absent": the Rust's ArrayData is built without it
+abbrev pub present : {B : Type 0} → Array B → Array B
+present x = record { len = x .len; off = x .off; valid = cond (eqb (nullCount x) 0) none (x .valid); body = x .body }
 
 -- one of the first m has a null among its rows
 abbrev pub anyNull : {B : Type 0} → ℕ → (ℕ → Array B) → Bool

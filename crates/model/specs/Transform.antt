@@ -13,7 +13,7 @@ use Rattle.columnar.specs.View.{Views}
 use Rattle.columnar.specs.Dictionary.{Dictionary}
 use Rattle.columnar.specs.Reading.{Body, Column, masks}
 use Rattle.model.specs.Try.{Try, done, stop, then, guard, after}
-use Rattle.model.specs.Opening.{keeps, shared, allKeysFit}
+use Rattle.model.specs.Opening.{present, keeps, shared, allKeysFit}
 use Rattle.model.specs.Mutable.{Mutable, keepsBits, extendNode, nullsNode, startNode, freezeNode}
 use Rattle.model.specs.Primitive.{plainExtend, plainNull, plainStart, viewExtend, buffersBefore, keysExtend}
 use Rattle.model.specs.ListViews.{Lists, listExtend, listNulls, listFreeze}
@@ -64,10 +64,11 @@ joinedFrom p vs zero d = done d
 joinedFrom p vs (suc j) d = then (joinedFrom p vs j d) (λ e. extendNode true (λ ss i. plainExtend p (ss i)) vs j 0 (vs j .len) e)
 
 -- "Only if all neighbouring sources share is source 0's dictionary kept; else all are joined, in source order." 6 where that overflows.
+-- "Finished arrays drop validity if no bit is 0": a kept dictionary's too.
 abbrev pub theDictionary : (p : Plain) → ℕ → (ℕ → Dictionary (PlainBody p)) → Try (Array (PlainBody p))
 theDictionary p m ds =
     elim (shared m ds) [
-      | true ↦ done (ds 0 .values)
+      | true ↦ done (present (ds 0 .values))
       | false ↦ then (joinedFrom p (λ i. ds i .values) m (startNode (keeps false m (λ i. ds i .values)) (plainStart p))) (λ e. done (freezeNode true (λ b. b) e))
     ]
 

@@ -86,17 +86,19 @@ module _ (plan : List ℕ) where
   copied-free zero h = refl
   copied-free (suc i) h = rw (eq-eqb (dictionaryOf plan i) 0 h)
 
-  pub part-buffer : (i k : ℕ) → Free plan i → hasPart plan i (suc k) ≡ true → k < bufferCount (codeOf plan i)
-  unfolding hasPart bufferParts
-  part-buffer i k f h = let g : ltb k (bufferCount (codeOf plan i)) ≡ true = rw (copied-free i f) at h in ltb-true _ _ g
+  -- .. at a node that is copied, as a joined dictionary's values are
 
-  pub buffer-part : (i k : ℕ) → Free plan i → k < bufferCount (codeOf plan i) → hasPart plan i (suc k) ≡ true
+  pub copied-buffer : (i k : ℕ) → copied plan i ≡ true → hasPart plan i (suc k) ≡ true → k < bufferCount (codeOf plan i)
   unfolding hasPart bufferParts
-  buffer-part i k f h = rw (copied-free i f) (lt-ltb _ _ h)
+  copied-buffer i k f h = let g : ltb k (bufferCount (codeOf plan i)) ≡ true = rw f at h in ltb-true _ _ g
 
-  pub part-bits : (i : ℕ) → Free plan i → hasPart plan i 0 ≡ true → (keepsOf plan i ≡ 0 → ⊥) × (codeOf plan i < 19)
+  pub buffer-copied : (i k : ℕ) → copied plan i ≡ true → k < bufferCount (codeOf plan i) → hasPart plan i (suc k) ≡ true
+  unfolding hasPart bufferParts
+  buffer-copied i k f h = rw f (lt-ltb _ _ h)
+
+  pub copied-bits : (i : ℕ) → copied plan i ≡ true → hasPart plan i 0 ≡ true → (keepsOf plan i ≡ 0 → ⊥) × (codeOf plan i < 19)
   unfolding hasPart validityParts
-  part-bits i f h = let g = rw (copied-free i f) at h in go (eqb (keepsOf plan i) 0) refl (ltb (codeOf plan i) 19) refl g
+  copied-bits i f h = let g = rw f at h in go (eqb (keepsOf plan i) 0) refl (ltb (codeOf plan i) 19) refl g
     where
       go : (a : Bool) → eqb (keepsOf plan i) 0 ≡ a → (b : Bool) → ltb (codeOf plan i) 19 ≡ b → eqb (cond (true && not a && b) 1 0) 1 ≡ true
           → (keepsOf plan i ≡ 0 → ⊥) × (codeOf plan i < 19)
@@ -104,9 +106,37 @@ module _ (plan : List ℕ) where
       go false p true q e = (eqb-false _ _ p, ltb-true _ _ q)
       go false p false q e = absurd (let z : _≡_ {A = ℕ} 0 1 = cc e in omega arith)
 
-  pub bits-part : (i : ℕ) → Free plan i → (keepsOf plan i ≡ 0 → ⊥) → codeOf plan i < 19 → hasPart plan i 0 ≡ true
+  pub bits-copied : (i : ℕ) → copied plan i ≡ true → (keepsOf plan i ≡ 0 → ⊥) → codeOf plan i < 19 → hasPart plan i 0 ≡ true
   unfolding hasPart validityParts
-  bits-part i f k c = rw (copied-free i f, ne-eqb (keepsOf plan i) 0 k, lt-ltb (codeOf plan i) 19 c)
+  bits-copied i f k c = rw (f, ne-eqb (keepsOf plan i) 0 k, lt-ltb (codeOf plan i) 19 c)
+
+  -- a node with a part is copied
+  pub part-copied : (i b : ℕ) → hasPart plan i b ≡ true → copied plan i ≡ true
+  unfolding hasPart validityParts bufferParts
+  part-copied i zero h = go (copied plan i) (not (eqb (keepsOf plan i) 0)) (ltb (codeOf plan i) 19) h
+    where
+      go : (a b c : Bool) → eqb (cond (a && b && c) 1 0) 1 ≡ true → a ≡ true
+      go true b c e = refl
+      go false b c e = absurd (let z : _≡_ {A = ℕ} 0 1 = cc e in omega arith)
+  part-copied i (suc b) h = go (copied plan i) h
+    where
+      go : (a : Bool) → ltb b (cond a (bufferCount (codeOf plan i)) 0) ≡ true → a ≡ true
+      go true e = refl
+      go false e = absurd (omega (arith, ltb-true b 0 e))
+
+  -- .. and at one that is no dictionary's values
+
+  pub part-buffer : (i k : ℕ) → Free plan i → hasPart plan i (suc k) ≡ true → k < bufferCount (codeOf plan i)
+  part-buffer i k f = copied-buffer i k (copied-free i f)
+
+  pub buffer-part : (i k : ℕ) → Free plan i → k < bufferCount (codeOf plan i) → hasPart plan i (suc k) ≡ true
+  buffer-part i k f = buffer-copied i k (copied-free i f)
+
+  pub part-bits : (i : ℕ) → Free plan i → hasPart plan i 0 ≡ true → (keepsOf plan i ≡ 0 → ⊥) × (codeOf plan i < 19)
+  part-bits i f = copied-bits i (copied-free i f)
+
+  pub bits-part : (i : ℕ) → Free plan i → (keepsOf plan i ≡ 0 → ⊥) → codeOf plan i < 19 → hasPart plan i 0 ≡ true
+  bits-part i f = bits-copied i (copied-free i f)
 
   -- what a walk may write at has a part
   pub has-part : (i b : ℕ) → Free plan i → HasBuffer plan i b → hasPart plan i b ≡ true

@@ -41,7 +41,7 @@ pub record Laid (plan : List ℕ) : Type 0 where
 
 -- ---- all members
 
-each-at : (p : ℕ → Bool) (l : List ℕ) → each p l ≡ true → (e : ℕ) → List·Memᴰ e l → p e ≡ true
+pub each-at : (p : ℕ → Bool) (l : List ℕ) → each p l ≡ true → (e : ℕ) → List·Memᴰ e l → p e ≡ true
 each-at p (c ∷ cs) h e (List·Memᴰ·head q) = rw q (and-left (p c) (each p cs) h)
 each-at p (c ∷ cs) h e (List·Memᴰ·tail q) = each-at p cs (and-right (p c) (each p cs) h) e q
 
@@ -51,13 +51,13 @@ each-all p (c ∷ cs) h = rw (h c (List·Memᴰ·head refl)) (each-all p cs (λ 
 
 module _ (plan : List ℕ) where
   -- the child that a node below a union stands in
-  record Within (ids : List ℕ) (end fuel k j : ℕ) : Type 0 where
-    id : ℕ
-    member : List·Memᴰ id ids
-    from : childWith plan id end fuel k ≤ j
-    to : j < endOf plan (childWith plan id end fuel k)
+  pub record Within (ids : List ℕ) (end fuel k j : ℕ) : Type 0 where
+    pub id : ℕ
+    pub member : List·Memᴰ id ids
+    pub from : childWith plan id end fuel k ≤ j
+    pub to : j < endOf plan (childWith plan id end fuel k)
 
-  within : (kid : ℕ → ℕ → Type 0) (nullable : ℕ → Bool) (end : ℕ) (ids : List ℕ) (k fuel : ℕ) → Fields plan kid nullable end ids k → Ids ids → length ids ≤ fuel
+  pub within : (kid : ℕ → ℕ → Type 0) (nullable : ℕ → Bool) (end : ℕ) (ids : List ℕ) (k fuel : ℕ) → Fields plan kid nullable end ids k → Ids ids → length ids ≤ fuel
       → (j : ℕ) → k ≤ j → j < end → Within ids end fuel k j
   within kid nullable end [] k fuel f d l j p q = absurd (omega (arith, f))
   within kid nullable end (e ∷ es) k zero f d l j p q = absurd (omega arith)

@@ -28,11 +28,11 @@ use Rattle.orders.proofs.Buffers.{fixed-one, needed-fixed, masks-code, 
 use Rattle.orders.proofs.Own.{own-enough, own-of, times}
 use Rattle.orders.proofs.Cover.{Laid, FineAt, each-all, covered}
 
-every-all : (p : ℕ → Bool) (n : ℕ) → ((i : ℕ) → i < n → p i ≡ true) → every p n ≡ true
+pub every-all : (p : ℕ → Bool) (n : ℕ) → ((i : ℕ) → i < n → p i ≡ true) → every p n ≡ true
 every-all p zero h = refl
 every-all p (suc n) h = rw (every-all p n (λ i l. h i (omega arith)), h n (omega arith))
 
-only-if : (a : Bool) {b : Bool} → (a ≡ true → b ≡ true) → onlyIf a b ≡ true
+pub only-if : (a : Bool) {b : Bool} → (a ≡ true → b ≡ true) → onlyIf a b ≡ true
 only-if true h = h refl
 only-if false h = refl
 

@@ -20,9 +20,9 @@ use Rattle.model.proofs.Nodes.{fineOf}
 use Rattle.link.specs.Memory.{Memory}
 use Rattle.link.specs.Holds.{Worded, flag, HoldsBits, HoldsData}
 use Rattle.room.specs.Reach.{Free}
-use Rattle.parts.specs.Parts.{bufferCount, hasPart, needed, neededBy, sizeOf}
+use Rattle.parts.specs.Parts.{bufferCount, copied, hasPart, needed, neededBy, sizeOf}
 use Rattle.orders.specs.Fits.{buffersOf, fitsBits, fitsAll}
-use Rattle.orders.proofs.Buffers.{fixed-one, string-two, view-one, list-two, needed-fixed, needed-offsets, needed-chars, needed-views, needed-starts, needed-sizes, part-buffer, buffer-part, part-bits, bits-part}
+use Rattle.orders.proofs.Buffers.{fixed-one, string-two, view-one, list-two, needed-fixed, needed-offsets, needed-chars, needed-views, needed-starts, needed-sizes, copied-free, copied-buffer, buffer-copied, copied-bits, bits-copied}
 
 length-map : (l : List Bool) → length (map flag l) ≡ length l
 length-map [] = refl
@@ -58,7 +58,7 @@ module _ (plan parts : List ℕ) where
       pub needs-are : (k : ℕ) → k < length bs → needed plan c i (suc k) ≡ length (getD bs k [])
       pub lie : (k : ℕ) → k < length bs → μ .at i (suc k) ≡ getD bs k []
 
-    module _ (i : ℕ) (bs : List (List ℕ)) (own : Own i bs) (free : Free plan i) (valid : Bool) (code : valid ≡ ltb (codeOf plan i) 19)
+    module _ (i : ℕ) (bs : List (List ℕ)) (own : Own i bs) (whole : copied plan i ≡ true) (valid : Bool) (code : valid ≡ ltb (codeOf plan i) 19)
         (bits : Option (List Bool)) (n : ℕ) (rows-are : rows c i ≡ n) (held : HoldsBits plan i valid bits μ) where
       bits-cover : (v : Bool) → v ≡ ltb (codeOf plan i) 19 → (o : Option (List Bool)) → BitsFor v o n → HoldsBits plan i v o μ → fitsBits plan parts i v o n ≡ true
           → (keepsOf plan i ≡ 0 → ⊥) → codeOf plan i < 19 → Bounded i 0
@@ -70,10 +70,10 @@ module _ (plan parts : List ℕ) where
       bits-cover false e (some x) b h f k l = absurd (let z : codeOf plan i < 19 → ⊥ = λ q. omega (arith, ltb-false (codeOf plan i) 19 (sym e)) in z l)
 
       -- where the parts hold the model's buffers ..
-      pub own-covers : BitsFor valid bits n → fitsBits plan parts i valid bits n ≡ true → fitsAll plan parts i 0 bs ≡ true → (b : ℕ) → hasPart plan i b ≡ true → Bounded i b
-      own-covers g f a zero h = let p = part-bits plan i free h in bits-cover valid code bits g held f (p .0) (p .1)
-      own-covers g f a (suc k) h =
-          let l : k < length bs = omega (arith, part-buffer plan i k free h, own .count-is) in
+      pub whole-covers : BitsFor valid bits n → fitsBits plan parts i valid bits n ≡ true → fitsAll plan parts i 0 bs ≡ true → (b : ℕ) → hasPart plan i b ≡ true → Bounded i b
+      whole-covers g f a zero h = let p = copied-bits plan i whole h in bits-cover valid code bits g held f (p .0) (p .1)
+      whole-covers g f a (suc k) h =
+          let l : k < length bs = omega (arith, copied-buffer plan i k whole h, own .count-is) in
           let s : length (getD bs k []) ≤ sizeOf plan parts i (suc k) = subst (λ z. length (getD bs k []) ≤ sizeOf plan parts i (suc z)) (zero-add k) (all-in i 0 bs a k l) in
           record {
             needs = rw (own .needs-are k l) s;
@@ -85,19 +85,28 @@ module _ (plan parts : List ℕ) where
           → fitsBits plan parts i v o n ≡ true
       bits-enough v e none h f = refl
       bits-enough true e (some x) h f =
-          let g : (rows c i + 7) / 8 ≤ sizeOf plan parts i 0 = f 0 (bits-part plan i free (h .0) (ltb-true _ _ (sym e))) in
+          let g : (rows c i + 7) / 8 ≤ sizeOf plan parts i 0 = f 0 (bits-copied plan i whole (h .0) (ltb-true _ _ (sym e))) in
           le-leb _ _ (rw rows-are at g)
       bits-enough false e (some x) h f = refl
 
       -- .. and the other way round
-      pub own-enough : ((b : ℕ) → hasPart plan i b ≡ true → needed plan c i b ≤ sizeOf plan parts i b) → (fitsBits plan parts i valid bits n ≡ true) × (fitsAll plan parts i 0 bs ≡ true)
-      own-enough f = (
+      pub whole-enough : ((b : ℕ) → hasPart plan i b ≡ true → needed plan c i b ≤ sizeOf plan parts i b) → (fitsBits plan parts i valid bits n ≡ true) × (fitsAll plan parts i 0 bs ≡ true)
+      whole-enough f = (
         bits-enough valid code bits held f,
         in-all i 0 bs
-            (λ k l. let g = f (suc k) (buffer-part plan i k free (omega (arith, own .count-is))) in
+            (λ k l. let g = f (suc k) (buffer-copied plan i k whole (omega (arith, own .count-is))) in
             let h : length (getD bs k []) ≤ sizeOf plan parts i (suc k) = rw (own .needs-are k l) at g in
             subst (λ z. length (getD bs k []) ≤ sizeOf plan parts i (suc z)) (sym (zero-add k)) h),
       )
+
+    -- the same at a node that is no dictionary's values
+    module _ (i : ℕ) (bs : List (List ℕ)) (own : Own i bs) (free : Free plan i) (valid : Bool) (code : valid ≡ ltb (codeOf plan i) 19)
+        (bits : Option (List Bool)) (n : ℕ) (rows-are : rows c i ≡ n) (held : HoldsBits plan i valid bits μ) where
+      pub own-covers : BitsFor valid bits n → fitsBits plan parts i valid bits n ≡ true → fitsAll plan parts i 0 bs ≡ true → (b : ℕ) → hasPart plan i b ≡ true → Bounded i b
+      own-covers = whole-covers i bs own (copied-free plan i free) valid code bits n rows-are held
+
+      pub own-enough : ((b : ℕ) → hasPart plan i b ≡ true → needed plan c i b ≤ sizeOf plan parts i b) → (fitsBits plan parts i valid bits n ≡ true) × (fitsAll plan parts i 0 bs ≡ true)
+      own-enough = whole-enough i bs own (copied-free plan i free) valid code bits n rows-are held
 
     -- ---- every kind
 

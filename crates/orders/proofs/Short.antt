@@ -43,7 +43,7 @@ offset-pos _ OffsetWidth.four = omega arith
 offset-pos _ OffsetWidth.eight = omega arith
 
 module _ (plan parts : List ℕ) (m : ℕ) where
-  own-in : (t : Ty) (i : ℕ) (d : Destination t) → fits plan parts t i d ≡ true → fitsAll plan parts i 0 (buffersOf t (d .«data»)) ≡ true
+  pub own-in : (t : Ty) (i : ℕ) (d : Destination t) → fits plan parts t i d ≡ true → fitsAll plan parts i 0 (buffersOf t (d .«data»)) ≡ true
   own-in t i d h =
       and-right (fitsBits plan parts i (masks t) (d .bits) (d .len)) (fitsAll plan parts i 0 (buffersOf t (d .«data»)))
       (and-left (fitsBits plan parts i (masks t) (d .bits) (d .len) && fitsAll plan parts i 0 (buffersOf t (d .«data»))) (fitsBelow plan parts t i (d .«data»)) h)
@@ -51,28 +51,32 @@ module _ (plan parts : List ℕ) (m : ℕ) where
   first-in : (i : ℕ) (s : List ℕ) (rest : List (List ℕ)) → fitsAll plan parts i 0 (s ∷ rest) ≡ true → length s ≤ sizeOf plan parts i 1
   first-in i s rest h = leb-true _ _ (and-left (leb (length s) (sizeOf plan parts i 1)) (fitsAll plan parts i 1 rest) h)
 
-  -- a part has fewer bytes than a room may have
+  -- a part has fewer bytes than a room may have: the root's own buffers say so
+  pub short-own : (k : ℕ) (t : Ty) (ss : ℕ → Column t) (d : Destination t) → Worded plan k t 0 → Formed t → FineNode (masks t) (fineOf t m (λ j. ss j .body)) m ss d
+      → fitsAll plan parts 0 0 (buffersOf t (d .«data»)) ≡ true → (0 < bufferCount (codeOf plan 0) → sizeOf plan parts 0 1 < 4294967296) → d .len < far
+  short-own (suc k) (tPlain (fixed n)) ss d w o f h r =
+      let z = fixed-one (codeOf plan 0) (w .3 .0) in
+      omega (arith, r (omega arith), first-in 0 (d .«data») [] h, f .data-fine, le-mul (d .len) (width n) (width-pos n))
+  short-own (suc k) (tPlain (string v)) ss d w o f h r =
+      let z = string-two (codeOf plan 0) (w .3 .0) in
+      omega (arith, r (omega arith), first-in 0 (d .«data» .offsets) (d .«data» .chars ∷ []) h, f .data-fine .offsets-are, le-mul (suc (d .len)) v (offset-pos v o))
+  short-own (suc k) tView ss d w o f h r =
+      let z = view-one (codeOf plan 0) (w .2) in
+      omega (arith, r (omega arith), first-in 0 (d .«data») [] h, f .data-fine .views-are, le-mul (d .len) 16 (omega arith))
+  short-own (suc k) (tListView v t) ss d w o f h r =
+      let z = list-two (codeOf plan 0) (w .2) in
+      omega (arith, r (omega arith), first-in 0 (d .«data» .buffer1) (d .«data» .buffer2 ∷ []) h, f .data-fine .offsets-are, le-mul (d .len) v (offset-pos v (o .0)))
+  short-own (suc k) (tSparse ids nullable g) ss d w o f h r =
+      let z : bufferCount (codeOf plan 0) ≡ 1 = ap bufferCount (w .1) in
+      omega (arith, r (omega arith), first-in 0 (d .«data» .buffer1) [] h, f .data-fine .ids-are)
+  short-own (suc k) (tDense ids nullable g) ss d w o f h r =
+      let z : bufferCount (codeOf plan 0) ≡ 2 = ap bufferCount (w .1) in
+      omega (arith, r (omega arith), first-in 0 (d .«data» .buffer1) (d .«data» .buffer2 ∷ []) h, f .data-fine .ids-are)
+  short-own (suc k) (tRunEnd v t) ss d w o f h r = let z = half-run v (o .0) in omega (arith, f .data-fine .fits)
+  short-own (suc k) (tDictionary n p) ss d w o f h r =
+      let z = fixed-one (codeOf plan 0) (w .3) in
+      omega (arith, r (omega arith), first-in 0 (d .«data») [] h, f .data-fine .keys-are, le-mul (d .len) (width n) (width-pos n))
+
   pub short : (k : ℕ) (t : Ty) (ss : ℕ → Column t) (d : Destination t) → Worded plan k t 0 → Formed t → FineNode (masks t) (fineOf t m (λ j. ss j .body)) m ss d
       → fits plan parts t 0 d ≡ true → (0 < bufferCount (codeOf plan 0) → sizeOf plan parts 0 1 < 4294967296) → d .len < far
-  short (suc k) (tPlain (fixed n)) ss d w o f h r =
-      let z = fixed-one (codeOf plan 0) (w .3 .0) in
-      omega (arith, r (omega arith), first-in 0 (d .«data») [] (own-in (tPlain (fixed n)) 0 d h), f .data-fine, le-mul (d .len) (width n) (width-pos n))
-  short (suc k) (tPlain (string v)) ss d w o f h r =
-      let z = string-two (codeOf plan 0) (w .3 .0) in
-      omega (arith, r (omega arith), first-in 0 (d .«data» .offsets) (d .«data» .chars ∷ []) (own-in (tPlain (string v)) 0 d h), f .data-fine .offsets-are, le-mul (suc (d .len)) v (offset-pos v o))
-  short (suc k) tView ss d w o f h r =
-      let z = view-one (codeOf plan 0) (w .2) in
-      omega (arith, r (omega arith), first-in 0 (d .«data») [] (own-in tView 0 d h), f .data-fine .views-are, le-mul (d .len) 16 (omega arith))
-  short (suc k) (tListView v t) ss d w o f h r =
-      let z = list-two (codeOf plan 0) (w .2) in
-      omega (arith, r (omega arith), first-in 0 (d .«data» .buffer1) (d .«data» .buffer2 ∷ []) (own-in (tListView v t) 0 d h), f .data-fine .offsets-are, le-mul (d .len) v (offset-pos v (o .0)))
-  short (suc k) (tSparse ids nullable g) ss d w o f h r =
-      let z : bufferCount (codeOf plan 0) ≡ 1 = ap bufferCount (w .1) in
-      omega (arith, r (omega arith), first-in 0 (d .«data» .buffer1) [] (own-in (tSparse ids nullable g) 0 d h), f .data-fine .ids-are)
-  short (suc k) (tDense ids nullable g) ss d w o f h r =
-      let z : bufferCount (codeOf plan 0) ≡ 2 = ap bufferCount (w .1) in
-      omega (arith, r (omega arith), first-in 0 (d .«data» .buffer1) (d .«data» .buffer2 ∷ []) (own-in (tDense ids nullable g) 0 d h), f .data-fine .ids-are)
-  short (suc k) (tRunEnd v t) ss d w o f h r = let z = half-run v (o .0) in omega (arith, f .data-fine .fits)
-  short (suc k) (tDictionary n p) ss d w o f h r =
-      let z = fixed-one (codeOf plan 0) (w .3) in
-      omega (arith, r (omega arith), first-in 0 (d .«data») [] (own-in (tDictionary n p) 0 d h), f .data-fine .keys-are, le-mul (d .len) (width n) (width-pos n))
+  short k t ss d w o f h r = short-own k t ss d w o f (own-in t 0 d h) r

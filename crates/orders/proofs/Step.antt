@@ -30,7 +30,7 @@ use Rattle.walk.specs.Nulls.{nullWalk}
 use Rattle.link.specs.Memory.{Memory, noted, after, AllInPlace}
 use Rattle.link.specs.Holds.{HoldsBits, Holds}
 use Rattle.link.proofs.Goes.{Goes, good, over}
-use Rattle.link.proofs.Frame.{Kept, worded-span}
+use Rattle.link.proofs.Frame.{SameAt, same-then, Kept, worded-span}
 use Rattle.link.proofs.Types.{Opened, copies, fills}
 use Rattle.link.proofs.UnionFields.{agrees-value}
 use Rattle.room.specs.Room.{AllBelow, Placed, Lies, Fits, AllUsed}
@@ -61,7 +61,7 @@ module _ (x : Lent) (t : Ty) (m : ℕ) (ss : ℕ → Column t) where
     pub all-nodes : nodesOf (x .plan) ≡ endOf (x .plan) 0
     pub body-bytes : AllBelow 256 (x .body)
 
-  module _ (join : Joined) (keep : Bool) where
+  module _ (join : Joined) where
     pub first-opened : Opened (joinOf x 0) 8 t 0 m ss
     first-opened = join .opened 0 (join .some-source)
 
@@ -71,7 +71,8 @@ module _ (x : Lent) (t : Ty) (m : ℕ) (ss : ℕ → Column t) where
     pub lawful : Law (kindOf t m (λ j. ss j .body)) m ss
     lawful = law t m ss obeys (first-opened .ready)
 
-    -- BETWEEN TWO ORDERS: counters and room hold the destination
+  module _ (join : Joined) (keep : Bool) (c0 : List ℕ) (μ0 : Memory) where
+    -- BETWEEN TWO ORDERS: counters and room hold the destination; c0 and μ0 are the counters and the memory as the opening left them
     pub record Running (d : Destination t) (counts room : List ℕ) : Type 0 where
       pub long : length counts ≡ 96
       pub memory : Memory
@@ -79,13 +80,14 @@ module _ (x : Lent) (t : Ty) (m : ℕ) (ss : ℕ → Column t) where
       pub lies : Lies (x .plan) (x .parts) (Used (x .plan)) room memory
       pub placed : Placed (x .plan) (x .parts) (Used (x .plan)) (length room)
       pub within : partsWithin (x .plan) (x .parts) (length room) ≡ true
-      pub state : State t m ss lawful obeys keep d
+      pub state : State t m ss (lawful join) (obeys join) keep d
       pub short-of : d .len < far
       pub rest : (i b : ℕ) → Used (x .plan) i b → (Free (x .plan) i → ⊥) → Bounded (x .plan) (x .parts) counts memory i b  -- a joined dictionary's values
+      pub stay : (j : ℕ) → (Free (x .plan) j → ⊥) → SameAt c0 counts μ0 memory j  -- .. and they stay
 
     -- an answer and what the order comes to: carried out, or refused with everything as it was
     pub data Answers (o : Call) (d : Destination t) (counts room : List ℕ) : Try (Destination t) → After → Type 0 where
-      made : (d′ : Destination t) (a : After) → a .ground ≡ 0 → Running d′ (a .counts) (a .room) → Did t m ss lawful obeys keep o d d′ → Answers o d counts room (done d′) a
+      made : (d′ : Destination t) (a : After) → a .ground ≡ 0 → Running d′ (a .counts) (a .room) → Did t m ss (lawful join) (obeys join) keep o d d′ → Answers o d counts room (done d′) a
       not-made : (g : ℕ) (a : After) → a .ground ≡ g → 0 < g → a .counts ≡ counts → a .room ≡ room → Answers o d counts room (stop g) a
 
     -- ---- a walk and what it comes to
@@ -117,7 +119,7 @@ module _ (x : Lent) (t : Ty) (m : ℕ) (ss : ℕ → Column t) where
         ap (λ r. neededBy (codeOf (x .plan) j) r (bytes c′ j) b) (h .rows-same) ∙ ap (λ n. neededBy (codeOf (x .plan) j) (rows c j) n b) (h .bytes-same)
 
     root : Typed (x .plan) 0 (endOf (x .plan) 0) 0 × Free (x .plan) 0
-    root = (typed 8 t (first-opened .worded) (omega arith) (omega arith), tt)
+    root = (typed 8 t (first-opened join .worded) (omega arith) (omega arith), tt)
 
     own-used : (i b : ℕ) → Own i b → Used (x .plan) i b
     own-used i b u = record { node = omega (arith, u .node .0 .1, join .all-nodes); part = has-part (x .plan) i b (u .node .1) (u .buffer) }
@@ -132,7 +134,7 @@ module _ (x : Lent) (t : Ty) (m : ℕ) (ss : ℕ → Column t) where
       refuse : (g : ℕ) → 0 < g → Answered (stop g) (refused x counts room g)
       refuse g p = not-made g (refused x counts room g) refl p refl refl
 
-      module _ (d′ : Destination t) (did : Did t m ss lawful obeys keep o d d′) (w : Out) (in-place : AllInPlace (w .log) (run .memory))
+      module _ (d′ : Destination t) (did : Did t m ss (lawful join) (obeys join) keep o d d′) (w : Out) (in-place : AllInPlace (w .log) (run .memory))
           (held′ : Holds (x .plan) t 0 d′ (w .counts) (after (w .log) (run .memory))) (long′ : length (w .counts) ≡ 96) (used : AllUsed Own (w .log)) (still : (j : ℕ) → (Free (x .plan) j → ⊥) → Same j counts (w .counts)) where
         rest′ : (i b : ℕ) → Used (x .plan) i b → (Free (x .plan) i → ⊥) → Bounded (x .plan) (x .parts) (w .counts) (after (w .log) (run .memory)) i b
         rest′ i b u n =
@@ -144,9 +146,16 @@ module _ (x : Lent) (t : Ty) (m : ℕ) (ss : ℕ → Column t) where
               bits-in = λ p. subst (λ s. length s ≤ 8 * sizeOf (x .plan) (x .parts) i 0) (sym (l .1)) (r .bits-in p);
             }
 
+        stay′ : (j : ℕ) → (Free (x .plan) j → ⊥) → SameAt c0 (w .counts) μ0 (after (w .log) (run .memory)) j
+        stay′ j n =
+            let r = run .stay j n in
+            let l = log-same (w .log) (run .memory) j used n in
+            let c = still j n in
+            same-then r (record { rows-same = c .rows-same; nulls-same = c .nulls-same; bytes-same = c .bytes-same; at-same = l .0; bits-same = l .1 })
+
         same : partsHold (x .plan) (w .counts) (x .parts) ≡ fits (x .plan) (x .parts) t 0 d′
         same =
-            same-test (x .plan) (x .parts) (join .laid) (w .counts) (after (w .log) (run .memory)) m (join .all-nodes) 8 t ss d′ (first-opened .worded) (first-opened .formed) (did .state .fine) held′
+            same-test (x .plan) (x .parts) (join .laid) (w .counts) (after (w .log) (run .memory)) m (join .all-nodes) 8 t ss d′ (first-opened join .worded) (first-opened join .formed) (did .state .fine) held′
             (λ j b u n. rest′ j b u n .needs)
 
         abbrev room′ : List ℕ
@@ -158,13 +167,13 @@ module _ (x : Lent) (t : Ty) (m : ℕ) (ss : ℕ → Column t) where
             where
               go : Dec (Free (x .plan) i) → Bounded (x .plan) (x .parts) (w .counts) (after (w .log) (run .memory)) i b
               go (yes y) =
-                  covered (x .plan) (x .parts) (join .laid) (w .counts) (after (w .log) (run .memory)) m 8 t 0 ss d′ (first-opened .worded) (first-opened .formed) (omega arith) (did .state .fine) held′ e
+                  covered (x .plan) (x .parts) (join .laid) (w .counts) (after (w .log) (run .memory)) m 8 t 0 ss d′ (first-opened join .worded) (first-opened join .formed) (omega arith) (did .state .fine) held′ e
                   i b (omega arith) (omega (arith, u .node, join .all-nodes)) y (u .part)
               go (no y) = rest′ i b u y
 
           small-part : 0 < bufferCount (codeOf (x .plan) 0) → sizeOf (x .plan) (x .parts) 0 1 < 4294967296
           small-part p =
-              let u : Used (x .plan) 0 1 = record { node = omega (arith, join .all-nodes, worded-span (x .plan) 8 t 0 (first-opened .worded)); part = buffer-part (x .plan) 0 0 tt p } in
+              let u : Used (x .plan) 0 1 = record { node = omega (arith, join .all-nodes, worded-span (x .plan) 8 t 0 (first-opened join .worded)); part = buffer-part (x .plan) 0 0 tt p } in
               omega (arith, run .placed .inside 0 1 u, run .placed .small)
 
           fitting : Fits (x .plan) (x .parts) (Used (x .plan)) (after (w .log) (run .memory))
@@ -186,8 +195,9 @@ module _ (x : Lent) (t : Ty) (m : ℕ) (ss : ℕ → Column t) where
                 placed = subst (Placed (x .plan) (x .parts) (Used (x .plan))) (sym long-room) (run .placed);
                 within = subst (λ n. partsWithin (x .plan) (x .parts) n ≡ true) (sym long-room) (run .within);
                 state = did .state;
-                short-of = short (x .plan) (x .parts) m 8 t ss d′ (first-opened .worded) (first-opened .formed) (did .state .fine) e small-part;
+                short-of = short (x .plan) (x .parts) m 8 t ss d′ (first-opened join .worded) (first-opened join .formed) (did .state .fine) e small-part;
                 rest = rest′;
+                stay = stay′;
               }
 
         by-test : (b f : Bool) → b ≡ f → (f ≡ true → Running d′ (w .counts) room′)
@@ -208,7 +218,7 @@ module _ (x : Lent) (t : Ty) (m : ℕ) (ss : ℕ → Column t) where
       -- A WALK THAT GOES WITH THE MODEL, settled
       settle : (p : Try (Destination t)) (w : Out)
           → Goes (run .memory) (λ d′ c′ μ′. Holds (x .plan) t 0 d′ c′ μ′ × Kept 0 (endOf (x .plan) 0) counts c′ (run .memory) μ′) p w
-          → ((d′ : Destination t) → p ≡ done d′ → Did t m ss lawful obeys keep o d d′) → AllUsed Own (w .log) → ((j : ℕ) → (Free (x .plan) j → ⊥) → Same j counts (w .counts)) → Answered (then p tested) (settled x counts room w)
+          → ((d′ : Destination t) → p ≡ done d′ → Did t m ss (lawful join) (obeys join) keep o d d′) → AllUsed Own (w .log) → ((j : ℕ) → (Free (x .plan) j → ⊥) → Same j counts (w .counts)) → Answered (then p tested) (settled x counts room w)
       settle _ _ (good d′ w e pl q) did used still = settled-done d′ (did d′ refl) w pl (q .0) (q .1 .long ∙ run .long) used still e
       settle _ _ (over g w e pos) did used still = settled-stop g w e pos
 
@@ -227,7 +237,7 @@ module _ (x : Lent) (t : Ty) (m : ℕ) (ss : ℕ → Column t) where
           let u = join .opened s j in
           let le : a ≤ e = leb-true a e (and-left (leb a e) (leb e (ss s .len)) k) in
           let lt : e ≤ ss s .len = leb-true e (ss s .len) (and-right (leb a e) (leb e (ss s .len)) k) in
-          let agreed = one-order t m ss lawful obeys keep (copy s a e) d (run .state) in
+          let agreed = one-order t m ss (lawful join) (obeys join) keep (copy s a e) d (run .state) in
           settle (copy s a e) d counts room run (extend t m ss s a (e - a) d) (copyWalk (joinOf x s) 8 0 a (e - a) counts)
           (copies (joinOf x s) m 8 t 0 ss u a (e - a) d counts (run .memory) (omega arith) (run .state .fine) (omega (arith, run .short-of, u .lent .sum)) (run .long) (run .holds))
           (λ d′ q. agrees-value agreed d′ (rw (known, k) q))
@@ -259,7 +269,7 @@ module _ (x : Lent) (t : Ty) (m : ℕ) (ss : ℕ → Column t) where
     abbrev more-nulls : ℕ → Destination t → Grown t → Destination t
     more-nulls n d b = record { len = d .len + suc n; null_count = d .null_count + counted (d .bits) (suc n); bits = grow (masks t) (replicate (suc n) false) (d .bits); «data» = b }
 
-    nulls-len : (n : ℕ) (d d′ : Destination t) → nullsNode (masks t) (nullsData t) (suc n) d ≡ done d′ → d′ .len ≡ d .len + suc n
+    pub nulls-len : (n : ℕ) (d d′ : Destination t) → nullsNode (masks t) (nullsData t) (suc n) d ≡ done d′ → d′ .len ≡ d .len + suc n
     nulls-len n d d′ e = go (nullsData t (suc n) (d .len) (d .«data»)) e
       where
         go : (p : Try (Grown t)) → then p (λ b. done (more-nulls n d b)) ≡ done d′ → d′ .len ≡ d .len + suc n
@@ -267,18 +277,18 @@ module _ (x : Lent) (t : Ty) (m : ℕ) (ss : ℕ → Column t) where
         go (stop g) q = absurd (let z : _≡_ {A = ℕ} 0 1 = cc q in omega arith)
 
     module _ (n : ℕ) (d : Destination t) (counts room : List ℕ) (run : Running d counts room) (keeps : keepsNulls d ≡ true) where
-      kept : KeepNode (keepOf t) d
+      pub kept : KeepNode (keepOf t) d
       kept = record { here = keeps; below = run .state .keeps-below (sym (run .state .keeps-is) ∙ keeps) }
 
-      nulls-did : (k : ℕ) (d′ : Destination t) → nullsNode (masks t) (nullsData t) k d ≡ done d′ → Did t m ss lawful obeys keep (nulls k) d d′
-      nulls-did k d′ q = agrees-value (one-order t m ss lawful obeys keep (nulls k) d (run .state)) d′ (rw keeps q)
+      pub nulls-did : (k : ℕ) (d′ : Destination t) → nullsNode (masks t) (nullsData t) k d ≡ done d′ → Did t m ss (lawful join) (obeys join) keep (nulls k) d d′
+      nulls-did k d′ q = agrees-value (one-order t m ss (lawful join) (obeys join) keep (nulls k) d (run .state)) d′ (rw keeps q)
 
-      nulls-go : (k : ℕ) → k ≤ far
+      pub nulls-go : (k : ℕ) → k ≤ far
           → Goes (run .memory) (λ d′ c′ μ′. Holds (x .plan) t 0 d′ c′ μ′ × Kept 0 (endOf (x .plan) 0) counts c′ (run .memory) μ′) (nullsNode (masks t) (nullsData t) k d) (nullWalk (joinOf x 0) 8 0 k counts)
-      nulls-go k l = fills (joinOf x 0) m 8 t 0 ss first-opened k d counts (run .memory) (run .state .fine) kept (omega (arith, run .short-of)) (run .long) (run .holds)
+      nulls-go k l = fills (joinOf x 0) m 8 t 0 ss (first-opened join) k d counts (run .memory) (run .state .fine) kept (omega (arith, run .short-of)) (run .long) (run .holds)
 
       nulls-log : (k : ℕ) → AllUsed Own (nullWalk (joinOf x 0) 8 0 k counts .log)
-      nulls-log k = nulls-used (joinOf x 0) 8 t 0 (first-opened .worded) tt (join .laid .tabled) 8 k counts
+      nulls-log k = nulls-used (joinOf x 0) 8 t 0 (first-opened join .worded) tt (join .laid .tabled) 8 k counts
 
       nulls-still : (k j : ℕ) → (Free (x .plan) j → ⊥) → Same j counts (nullWalk (joinOf x 0) 8 0 k counts .counts)
       nulls-still k j n = still-nulls j (joinOf x 0) _ _ (closed-free (x .plan) 0 (endOf (x .plan) 0) (join .laid .tabled)) (λ q. n (q .1)) 8 0 k counts root
@@ -290,9 +300,9 @@ module _ (x : Lent) (t : Ty) (m : ℕ) (ss : ℕ → Column t) where
 
       -- ---- a count beyond: no part holds its rows
 
-      small-room : 0 < bufferCount (codeOf (x .plan) 0) → sizeOf (x .plan) (x .parts) 0 1 < 4294967296
+      pub small-room : 0 < bufferCount (codeOf (x .plan) 0) → sizeOf (x .plan) (x .parts) 0 1 < 4294967296
       small-room p =
-          let u : Used (x .plan) 0 1 = record { node = omega (arith, join .all-nodes, worded-span (x .plan) 8 t 0 (first-opened .worded)); part = buffer-part (x .plan) 0 0 tt p } in
+          let u : Used (x .plan) 0 1 = record { node = omega (arith, join .all-nodes, worded-span (x .plan) 8 t 0 (first-opened join .worded)); part = buffer-part (x .plan) 0 0 tt p } in
           omega (arith, run .placed .inside 0 1 u, run .placed .small)
 
       never-fits : (k : ℕ) → far ≤ suc k → (d′ : Destination t) → nullsNode (masks t) (nullsData t) (suc k) d ≡ done d′ → fits (x .plan) (x .parts) t 0 d′ ≡ false
@@ -300,16 +310,16 @@ module _ (x : Lent) (t : Ty) (m : ℕ) (ss : ℕ → Column t) where
         where
           go : (b : Bool) → fits (x .plan) (x .parts) t 0 d′ ≡ b → fits (x .plan) (x .parts) t 0 d′ ≡ false
           go true e =
-              let z = short (x .plan) (x .parts) m 8 t ss d′ (first-opened .worded) (first-opened .formed) (nulls-did (suc k) d′ q .state .fine) e small-room in
+              let z = short (x .plan) (x .parts) m 8 t ss d′ (first-opened join .worded) (first-opened join .formed) (nulls-did (suc k) d′ q .state .fine) e small-room in
               absurd (omega (arith, nulls-len k d d′ q))
           go false e = e
 
       alike-both : (k h : ℕ) → far ≤ suc k → far ≤ suc h → Alike (nullsNode (masks t) (nullsData t) (suc k) d) (nullsNode (masks t) (nullsData t) (suc h) d)
       alike-both k h p q =
           alike-by
-          (node-fills (kindOf t m (λ j. ss j .body)) m ss lawful (λ j l. obeys j l .mask) (suc k) d kept (run .state .fine))
-          (alike-nulls t k h (held t d) (first-opened .formed) p q)
-          (node-fills (kindOf t m (λ j. ss j .body)) m ss lawful (λ j l. obeys j l .mask) (suc h) d kept (run .state .fine))
+          (node-fills (kindOf t m (λ j. ss j .body)) m ss (lawful join) (λ j l. obeys join j l .mask) (suc k) d kept (run .state .fine))
+          (alike-nulls t k h (held t d) (first-opened join .formed) p q)
+          (node-fills (kindOf t m (λ j. ss j .body)) m ss (lawful join) (λ j l. obeys join j l .mask) (suc h) d kept (run .state .fine))
 
       by-far : {p r : Try (Destination t)} (w : Out) → Alike p r → Goes (run .memory) (λ d′ c′ μ′. Holds (x .plan) t 0 d′ c′ μ′ × Kept 0 (endOf (x .plan) 0) counts c′ (run .memory) μ′) r w
           → ((d′ : Destination t) → p ≡ done d′ → fits (x .plan) (x .parts) t 0 d′ ≡ false)

@@ -11,29 +11,30 @@ use Rattle.utils.specs.declared.Extended.{Extended}
 use Rattle.utils.specs.declared.Extended.the-variants.{Fits, Over, Falls}
 use Rattle.run_ends.specs.declared.Runs.{Runs}
 use Rattle.run_ends.specs.declared.Runs.the-variants.{Range, None}
-use Rattle.walk.specs.State.{Join, codeOf, dictionaryOf, endOf, keepsOf, bytesOf, rows, bytes, place, far, addRows, addNulls, setBytes}
+use Rattle.walk.specs.State.{Join, codeOf, dictionaryOf, endOf, keepsOf, bytesOf, rows, nulls, bytes, place, far, addRows, addNulls, setBytes}
 use Rattle.walk.specs.Log.{Entry, Out, fail, done, wrote, need, found, next, each}
 use Rattle.walk.specs.Leaves.{copyBits, copyMask, copyNumbers, copyKeys, copyViews, putString, putExtended, copyString, nullMask, countNulls, nullNumbers, nullString}
 use Rattle.walk.specs.Copy.{Walk, masked, listViewRow, copyListView, copyFields, copySparse, idAt, denseTo, denseRow, copyDense, putRuns, runsAt, copyRuns, copyData, copySlots, copyNode, copyWalk}
 use Rattle.walk.specs.Nulls.{NullWalk, nullListView, nullFields, nullSparse, nullDense, nullRuns, nullData, nullNode, nullWalk}
-use Rattle.link.proofs.Counters.{rows-other, bytes-of-rows, rows-of-nulls, bytes-of-nulls, bytes-other, rows-of-bytes}
+use Rattle.link.proofs.Counters.{rows-other, nulls-of-rows, bytes-of-rows, nulls-other, rows-of-nulls, bytes-of-nulls, bytes-other, rows-of-bytes, nulls-of-bytes}
 use Rattle.room.specs.Reach.{Child, Closed}
 use Rattle.room.proofs.Found.{child-first, child-later, child-with, child-nullable}
 
 module _ (j : ℕ) where
-  -- node j's rows and bytes are as they were
+  -- node j's rows, nulls and bytes are as they were
   pub record Same (c c′ : List ℕ) : Type 0 where
     pub rows-same : rows c′ j ≡ rows c j
+    pub nulls-same : nulls c′ j ≡ nulls c j
     pub bytes-same : bytes c′ j ≡ bytes c j
 
   abbrev Still : List ℕ → Out → Type 0
   Still c o = Same c (o .counts)
 
   same-refl : (c : List ℕ) → Same c c
-  same-refl c = record { rows-same = refl; bytes-same = refl }
+  same-refl c = record { rows-same = refl; nulls-same = refl; bytes-same = refl }
 
   same-then : {a b c : List ℕ} → Same a b → Same b c → Same a c
-  same-then p q = record { rows-same = q .rows-same ∙ p .rows-same; bytes-same = q .bytes-same ∙ p .bytes-same }
+  same-then p q = record { rows-same = q .rows-same ∙ p .rows-same; nulls-same = q .nulls-same ∙ p .nulls-same; bytes-same = q .bytes-same ∙ p .bytes-same }
 
   still-done : (c : List ℕ) → Still c (done c)
   unfolding done
@@ -77,13 +78,13 @@ module _ (j : ℕ) where
     apart i a e = out (subst At (sym e) a)
 
     more-rows : (i n : ℕ) (c : List ℕ) → At i → Still c (done (addRows i n c))
-    more-rows i n c a = still-to c (addRows i n c) (record { rows-same = rows-other c i n j (apart i a); bytes-same = bytes-of-rows c i n j })
+    more-rows i n c a = still-to c (addRows i n c) (record { rows-same = rows-other c i n j (apart i a); nulls-same = nulls-of-rows c i n j; bytes-same = bytes-of-rows c i n j })
 
-    more-nulls : (i n : ℕ) (c : List ℕ) → Still c (done (addNulls i n c))
-    more-nulls i n c = still-to c (addNulls i n c) (record { rows-same = rows-of-nulls c i n j; bytes-same = bytes-of-nulls c i n j })
+    more-nulls : (i n : ℕ) (c : List ℕ) → At i → Still c (done (addNulls i n c))
+    more-nulls i n c a = still-to c (addNulls i n c) (record { rows-same = rows-of-nulls c i n j; nulls-same = nulls-other c i n j (apart i a); bytes-same = bytes-of-nulls c i n j })
 
     more-bytes : (i n : ℕ) (c : List ℕ) → At i → Still c (done (setBytes i n c))
-    more-bytes i n c a = still-to c (setBytes i n c) (record { rows-same = rows-of-bytes c i n j; bytes-same = bytes-other c i n j (apart i a) })
+    more-bytes i n c a = still-to c (setBytes i n c) (record { rows-same = rows-of-bytes c i n j; nulls-same = nulls-of-bytes c i n j; bytes-same = bytes-other c i n j (apart i a) })
 
     -- ---- a copy
 
@@ -93,7 +94,7 @@ module _ (j : ℕ) where
       still-mask slot n c =
           still-cond c (eqb (keepsOf (x .state) i) 0) _ _ (λ e. still-done c)
           (λ e. still-cond c (eqb (place x i 0) 0) _ _ (λ f. still-wrote _ c)
-          (λ f. still-need _ 12 c _ (λ g. still-next c _ _ (still-wrote _ c) (λ c2. more-nulls i _ c2))))
+          (λ f. still-need _ 12 c _ (λ g. still-next c _ _ (still-wrote _ c) (λ c2. more-nulls i _ c2 here))))
 
       still-numbers : (w slot n : ℕ) (c : List ℕ) → Still c (copyNumbers x i w slot n c)
       unfolding copyNumbers
@@ -203,13 +204,13 @@ module _ (j : ℕ) where
 
     -- ---- nulls
 
-    still-null-mask : (i n : ℕ) (c : List ℕ) → Still c (nullMask x i n c)
+    still-null-mask : (i n : ℕ) (c : List ℕ) → At i → Still c (nullMask x i n c)
     unfolding nullMask
-    still-null-mask i n c = still-cond c (eqb (keepsOf (x .state) i) 0) _ _ (λ e. still-done c) (λ e. still-next c _ _ (still-wrote _ c) (λ c2. more-nulls i n c2))
+    still-null-mask i n c here = still-cond c (eqb (keepsOf (x .state) i) 0) _ _ (λ e. still-done c) (λ e. still-next c _ _ (still-wrote _ c) (λ c2. more-nulls i n c2 here))
 
-    still-count : (i n : ℕ) (c : List ℕ) → Still c (countNulls x i n c)
+    still-count : (i n : ℕ) (c : List ℕ) → At i → Still c (countNulls x i n c)
     unfolding countNulls
-    still-count i n c = still-cond c (eqb (keepsOf (x .state) i) 0) _ _ (λ e. still-done c) (λ e. more-nulls i n c)
+    still-count i n c here = still-cond c (eqb (keepsOf (x .state) i) 0) _ _ (λ e. still-done c) (λ e. more-nulls i n c here)
 
     still-zeros : (i b w n : ℕ) (c : List ℕ) → Still c (nullNumbers x i b w n c)
     unfolding nullNumbers
@@ -275,7 +276,7 @@ module _ (j : ℕ) where
           still-cond c (eqb n 0) _ _ (λ e. still-done c)
           (λ e. still-need _ 12 c _
           (λ f. still-next c _ _ (still-null-data n c)
-          (λ c2. still-next c2 _ _ (still-cond c2 (masked (codeOf (x .state) i)) _ _ (λ g. still-null-mask i n c2) (λ g. still-count i n c2))
+          (λ c2. still-next c2 _ _ (still-cond c2 (masked (codeOf (x .state) i)) _ _ (λ g. still-null-mask i n c2 (closed .own i here)) (λ g. still-count i n c2 (closed .own i here)))
           (λ c3. more-rows i n c3 (closed .own i here)))))
 
     -- NULLS, likewise

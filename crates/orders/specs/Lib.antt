@@ -1,3 +1,5 @@
 -- What orders come to on lent memory, and when the parts hold a destination.
 pub mod Order
 pub mod Fits
+pub mod Counted
+pub mod Measure

@@ -79,3 +79,8 @@ module _ (x : Lent) (counts room : List ℕ) where
 unfoldable pub orderedAll : Lent → List ℕ → List ℕ → List Call → After
 orderedAll x counts room [] = record { ground = 0; counts = counts; room = room }
 orderedAll x counts room (o ∷ os) = orderedAll x (ordered x counts room o .counts) (ordered x counts room o .room) os
+
+-- what each of them is answered
+unfoldable pub groundsOf : Lent → List ℕ → List ℕ → List Call → List ℕ
+groundsOf x counts room [] = []
+groundsOf x counts room (o ∷ os) = ordered x counts room o .ground ∷ groundsOf x (ordered x counts room o .counts) (ordered x counts room o .room) os

@@ -41,7 +41,7 @@ const BUFFERS: [u8; 22] = [
 // ---- which parts there are
 
 // How many nodes the type has, at most 32.
-fn node_count(state: &[u64]) -> usize
+pub fn node_count(state: &[u64]) -> usize
     ensures { λ r. ⌜ r ≡ nodesOf (now (state .entry)) ⌝ }
     ensures { λ r. ⌜ r ≤ 32 ⌝ }
 {
@@ -61,7 +61,7 @@ fn buffer_count(code: u8) -> u8
 }
 
 // Whether node i is copied: the values of a dictionary are, if it is joined.
-fn is_copied(state: &[u64], i: usize) -> bool
+pub fn is_copied(state: &[u64], i: usize) -> bool
     requires { ⌜ i < 32 ⌝ }
     ensures { λ r. ⌜ r ≡ copied (now (state .entry)) i ⌝ }
 {
@@ -111,7 +111,7 @@ fn part_count(state: &[u64], i: usize) -> usize
 }
 
 // Whether buffer b of node i has a part.
-fn has_part(state: &[u64], i: usize, b: usize) -> bool
+pub fn has_part(state: &[u64], i: usize, b: usize) -> bool
     requires { ⌜ i < 32 ⌝ }
     ensures { λ r. ⌜ r ≡ hasPart (now (state .entry)) i b ⌝ }
 {
@@ -176,7 +176,7 @@ pub fn part_at(state: &[u64], p: usize) -> Spot
 }
 
 // The part of buffer b of node i, by the state.
-fn number_of(state: &[u64], i: usize, b: usize) -> usize
+pub fn number_of(state: &[u64], i: usize, b: usize) -> usize
     requires { ⌜ (i < 32) × (b < 3) ⌝ }
     ensures { λ r. ⌜ r ≡ numberOf (now (state .entry)) i b ⌝ }
     ensures { λ r. ⌜ r < 4294967298 ⌝ }
@@ -191,7 +191,7 @@ fn number_of(state: &[u64], i: usize, b: usize) -> usize
 // ---- what each must hold
 
 // The bytes of an entry of the first buffer.
-fn entry_size(code: u8) -> u8
+pub fn entry_size(code: u8) -> u8
     ensures { λ r. ⌜ r ≡ entrySize code ⌝ }
 {
     if formats::is_view(code) {

@@ -1,7 +1,7 @@
 -- The words of a planned state as they are found. Assumes nothing.
 use mathlib.Core.Path.{_≡_, refl, ap, ap₂, _∙_}
 use mathlib.Core.Bool.{Bool, true, false, not}
-use mathlib.Core.List.{List, []}
+use mathlib.Core.List.{List}
 use Prim.Native.Nat.{ℕ, suc, _+_, _*_, _-_, _≤_, _<_}
 use native.Mathlib.Numerals.{add-one}
 use lib.ListN.{getD, set}
@@ -97,13 +97,13 @@ module _ (x : Tables) (sources : List ℕ) (m : ℕ) (state : List ℕ) (i : ℕ
   joined-by e h g = rw (← e, ne-eqb _ 0 h, g)
 
   pub shared-at : {string r : Bool} → string ≡ isString (codeOf state (suc i))
-      → r ≡ shared m (dictAt (tables (x .lengths) (x .places) []) sources string (i + 1)) → r ≡ shared m (dictionariesAt x sources m state i)
-  shared-at e h = h ∙ ap₂ (λ b k. shared m (dictAt (tables (x .lengths) (x .places) []) sources b k)) e (add-one i)
+      → r ≡ shared m (dictAt x sources string (i + 1)) → r ≡ shared m (dictionariesAt x sources m state i)
+  shared-at e h = h ∙ ap₂ (λ b k. shared m (dictAt x sources b k)) e (add-one i)
 
   pub start-at : (s : ℕ) {string : Bool} {r : ℕ} → string ≡ isString (codeOf state (suc i))
-      → r ≡ capped (startOfKeys m (dictAt (tables (x .lengths) (x .places) []) sources string (i + 1)) s)
+      → r ≡ capped (startOfKeys m (dictAt x sources string (i + 1)) s)
       → r ≡ capped (startOfKeys m (dictionariesAt x sources m state i) s)
-  start-at s e h = h ∙ ap₂ (λ b k. capped (startOfKeys m (dictAt (tables (x .lengths) (x .places) []) sources b k) s)) e (add-one i)
+  start-at s e h = h ∙ ap₂ (λ b k. capped (startOfKeys m (dictAt x sources b k) s)) e (add-one i)
 
   pub base-view : (s : ℕ) {c r : ℕ} {v : Bool} → c ≡ codeOf state i → v ≡ isView c → v ≡ true → r ≡ buffersUpTo (x .places) sources i s
       → r ≡ baseWord x sources m state s i
@@ -138,7 +138,7 @@ module _ (places sources : List ℕ) (i : ℕ) where
 module _ (formats schema lengths places body sources : List ℕ) (keep : Bool) where
   pub planned-by : {m n first r : ℕ} {a b c d e : List ℕ} → m ≡ sourceCount sources → first ≡ firstOf sources 0 → n ≡ nodesOf sources 0
       → a ≡ withCounts m n (withTree (planted formats schema first n)) → b ≡ withKeeps (tables lengths places body) sources m keep n a
-      → c ≡ withJoined (tables lengths places []) sources m n b → d ≡ withBases (tables lengths places []) sources m c → e ≡ withParts n d
+      → c ≡ withJoined (tables lengths places body) sources m n b → d ≡ withBases (tables lengths places body) sources m c → e ≡ withParts n d
       → r ≡ partTotal e → set e 866 r ≡ planned formats schema (tables lengths places body) sources keep
-  unfolding planned withTotal withJoined joinedWord withBases baseWord
+  unfolding planned withTotal
   planned-by f g h p q j k l t = rw (t, l, k, j, q, p, f, g, h)

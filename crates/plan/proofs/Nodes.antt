@@ -187,12 +187,12 @@ module _ (x : Tables) (sources : List ℕ) (m : ℕ) (state : List ℕ) where
   view-word s i v = rw v
 
   keys-word : (s i : ℕ) (strings : Bool) → isView (codeOf state i) ≡ false → (dictionaryOf state i ≡ 0 → ⊥) → isString (codeOf state (suc i)) ≡ strings
-      → baseWord x sources m state s i ≡ capped (startOfKeys m (dictAt (tables (x .lengths) (x .places) []) sources strings (suc i)) s)
+      → baseWord x sources m state s i ≡ capped (startOfKeys m (dictAt x sources strings (suc i)) s)
   unfolding baseWord
   keys-word s i strings v d q = rw (v, ne-eqb (dictionaryOf state i) 0 d, q)
 
   keys-joined : (i : ℕ) (strings : Bool) → (dictionaryOf state i ≡ 0 → ⊥) → isString (codeOf state (suc i)) ≡ strings
-      → joinedWord x sources m state i ≡ flag (not (shared m (dictAt (tables (x .lengths) (x .places) []) sources strings (suc i))))
+      → joinedWord x sources m state i ≡ flag (not (shared m (dictAt x sources strings (suc i))))
   unfolding joinedWord
   keys-joined i strings d q = rw (ne-eqb (dictionaryOf state i) 0 d, q)
 

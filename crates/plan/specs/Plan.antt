@@ -1,7 +1,7 @@
 -- The state of a join (walk/specs/State.antt) as the opening plans it, before any dictionary is joined: one kind of word after the other.
 -- Assumes nothing.
 use mathlib.Core.Bool.{Bool, false, not, cond}
-use mathlib.Core.List.{List, []}
+use mathlib.Core.List.{List}
 use Prim.Native.Nat.{ℕ, zero, suc, _+_, _*_, _/_, _%_, _≤_, _<_}
 use lib.ListN.{length, getD, set, replicate}
 use lib.Dec.{ltb, eqb}
@@ -9,7 +9,6 @@ use Rattle.formats.specs.Code.{isString, isView, isRunEnd}
 use Rattle.columnar.specs.Dictionary.{Dictionary}
 use Rattle.model.specs.Opening.{keeps, shared, startOfKeys}
 use Rattle.array_data.specs.Tables.{Tables}
-use Rattle.lent_tables.specs.Lent.{tables}
 use Rattle.sharing.specs.Sources.{firstOf, arrayAt, dictAt, Countable, capped}
 use Rattle.node_table.specs.Words.{planted}
 use Rattle.parts.specs.Parts.{partWord, partTotal}
@@ -77,7 +76,7 @@ module _ (x : Tables) (sources : List ℕ) (m : ℕ) where
 
   -- the dictionaries whose keys are node i, one for each source
   abbrev pub dictionariesAt : List ℕ → ℕ → ℕ → Dictionary (Unit {0})
-  dictionariesAt state i = dictAt (tables (x .lengths) (x .places) []) sources (isString (codeOf state (suc i))) (suc i)
+  dictionariesAt state i = dictAt x sources (isString (codeOf state (suc i))) (suc i)
 
   -- "Only if all neighbouring sources share is source 0's dictionary kept; else all are joined"
   unfoldable pub joinedWord : List ℕ → ℕ → ℕ

@@ -1,6 +1,5 @@
 // The state of a join as the opening plans it, before any dictionary is joined: one function for each kind of word.
 ghost use mathlib.Core.Path.{_≡_};
-ghost use mathlib.Core.List.{[]};
 ghost use Prim.Native.Nat.{ℕ, suc, _+_, _*_, _≤_, _<_};
 ghost use Rattle.formats.specs.Code.{isString};
 ghost use Rattle.walk.specs.State.{codeOf};
@@ -115,7 +114,7 @@ fn write_keeps(
 // ---- which dictionaries are joined
 
 // Whether the values of the dictionary whose keys are node i are byte strings.
-fn has_strings(state: &[u64; 872], i: usize) -> bool
+fn has_strings(state: &[u64], i: usize) -> bool
     requires { ⌜ i < 32 ⌝ }
     ensures { λ r. ⌜ r ≡ isString (codeOf (now (state .entry)) (suc i)) ⌝ }
 {
@@ -128,18 +127,19 @@ fn joined_word(
     sources: &[u32],
     lengths: &[u64],
     places: &[u32],
+    body: &[u8],
     m: usize,
     state: &[u64; 872],
     i: usize,
 ) -> u64
     requires { ⌜ (m ≤ 16) × (i < 32) ⌝ }
-    ensures { λ r. ⌜ r ≡ joinedWord (tables (now (lengths .entry)) (now (places .entry)) []) (now (sources .entry)) m (now (state .entry)) i ⌝ }
+    ensures { λ r. ⌜ r ≡ joinedWord (tables (now (lengths .entry)) (now (places .entry)) (now (body .entry))) (now (sources .entry)) m (now (state .entry)) i ⌝ }
 {
     if growth::dictionary_of(state, i) == 0 {
         return 0;
     }
     let string = has_strings(state, i);
-    if sharing::all_share(sources, lengths, places, m, i + 1, string) {
+    if sharing::all_share(sources, lengths, places, body, m, i + 1, string) {
         return 0;
     }
     1
@@ -150,16 +150,17 @@ fn write_joined(
     sources: &[u32],
     lengths: &[u64],
     places: &[u32],
+    body: &[u8],
     m: usize,
     n: usize,
     state: &mut [u64; 872],
 )
     requires { ⌜ (m ≤ 16) × (n ≤ 32) ⌝ }
-    ensures { λ _. ⌜ now (state .exit) ≡ withJoined (tables (now (lengths .entry)) (now (places .entry)) []) (now (sources .entry)) m n (now (state .entry)) ⌝ }
+    ensures { λ _. ⌜ now (state .exit) ≡ withJoined (tables (now (lengths .entry)) (now (places .entry)) (now (body .entry))) (now (sources .entry)) m n (now (state .entry)) ⌝ }
 {
     let mut i = 0;
     while i < n {
-        state[8 * i + 7] = joined_word(sources, lengths, places, m, state, i);
+        state[8 * i + 7] = joined_word(sources, lengths, places, body, m, state, i);
         i += 1;
     }
 }
@@ -167,9 +168,10 @@ fn write_joined(
 // ---- what is added to keys and buffer numbers
 
 // How many data buffers the sources before source s have at node i.
-fn buffers_up_to(sources: &[u32], places: &[u32], i: usize, s: usize) -> u64
+pub fn buffers_up_to(sources: &[u32], places: &[u32], i: usize, s: usize) -> u64
     requires { ⌜ (i < 32) × (s ≤ 16) ⌝ }
     ensures { λ r. ⌜ r ≡ buffersUpTo (now (places .entry)) (now (sources .entry)) i s ⌝ }
+    ensures { λ r. ⌜ r ≤ 4294967295 * s ⌝ }
 {
     let mut sum: u64 = 0;
     let mut t = 0;
@@ -186,13 +188,14 @@ fn base_word(
     sources: &[u32],
     lengths: &[u64],
     places: &[u32],
+    body: &[u8],
     m: usize,
     state: &[u64; 872],
     s: usize,
     i: usize,
 ) -> u64
     requires { ⌜ (m ≤ 16) × (s ≤ 16) × (i < 32) ⌝ }
-    ensures { λ r. ⌜ r ≡ baseWord (tables (now (lengths .entry)) (now (places .entry)) []) (now (sources .entry)) m (now (state .entry)) s i ⌝ }
+    ensures { λ r. ⌜ r ≡ baseWord (tables (now (lengths .entry)) (now (places .entry)) (now (body .entry))) (now (sources .entry)) m (now (state .entry)) s i ⌝ }
 {
     if formats::is_view(growth::code_of(state, i)) {
         return buffers_up_to(sources, places, i, s);
@@ -201,17 +204,24 @@ fn base_word(
         return 0;
     }
     let string = has_strings(state, i);
-    sharing::start_of_keys(sources, lengths, places, m, i + 1, string, s)
+    sharing::start_of_keys(sources, lengths, places, body, m, i + 1, string, s)
 }
 
 // What is added to each source's keys and buffer numbers, at each of 32 nodes.
-fn write_bases(sources: &[u32], lengths: &[u64], places: &[u32], m: usize, state: &mut [u64; 872])
+fn write_bases(
+    sources: &[u32],
+    lengths: &[u64],
+    places: &[u32],
+    body: &[u8],
+    m: usize,
+    state: &mut [u64; 872],
+)
     requires { ⌜ m ≤ 16 ⌝ }
-    ensures { λ _. ⌜ now (state .exit) ≡ withBases (tables (now (lengths .entry)) (now (places .entry)) []) (now (sources .entry)) m (now (state .entry)) ⌝ }
+    ensures { λ _. ⌜ now (state .exit) ≡ withBases (tables (now (lengths .entry)) (now (places .entry)) (now (body .entry))) (now (sources .entry)) m (now (state .entry)) ⌝ }
 {
     let mut q = 0;
     while q < 32 * m {
-        state[352 + q] = base_word(sources, lengths, places, m, state, q / 32, q % 32);
+        state[352 + q] = base_word(sources, lengths, places, body, m, state, q / 32, q % 32);
         q += 1;
     }
 }
@@ -268,8 +278,8 @@ pub fn plan(
     let n = lent_tables::at_u32(sources, 1) as usize;
     write_type(formats, schema, first, m, n, state);
     write_keeps(sources, lengths, places, body, m, keep, n, state);
-    write_joined(sources, lengths, places, m, n, state);
-    write_bases(sources, lengths, places, m, state);
+    write_joined(sources, lengths, places, body, m, n, state);
+    write_bases(sources, lengths, places, body, m, state);
     write_parts(n, state);
     state[866] = parts::part_total(state) as u64;
 }

@@ -1,15 +1,15 @@
 -- What the loops over rows go by, over the width. Assumes nothing.
-use mathlib.Core.Path.{_≡_, refl, sym, _∙_}
+use mathlib.Core.Path.{_≡_, refl, sym, ap₂, _∙_}
 use mathlib.Core.Logic.{⊎-elim}
 use mathlib.Core.Bool.{Bool, true, false, _&&_}
 use mathlib.Core.List.{List}
-use Prim.Native.Nat.{ℕ, zero, suc, _+_, _≤_, _<_}
+use Prim.Native.Nat.{ℕ, zero, suc, _+_, _%_, _^_, _≤_, _<_, min}
 use native.Mathlib.Nat.{add-zero, mul-zero, eq-or-lt-of-le}
 use native.Mathlib.Numerals.{add-one}
 use native.Mathlib.Omega.{arith}
 use lib.ListN.{drop}
 use lib.Dec.{T, leb, ltb, leb→le, ltb→lt, lt→ltb}
-use borrow.Author.Tests.{lt-ltb, le-ltb}
+use borrow.Author.Tests.{lt-ltb, le-ltb, le-leb, lt-leb, leb-true, leb-false, ltb-true}
 use Rattle.number.specs.Number.{number, entry}
 use Rattle.columnar.specs.Types.{half}
 use Rattle.columnar.specs.Test.{every}
@@ -146,3 +146,49 @@ module _ (w child o z : ℕ) where
   pub view-sum : o < half w → z < half w → leb (o + z) child ≡ viewRow w child o z
   unfolding viewRow
   view-sum h g = rw (lt-ltb o (half w) h, lt-ltb z (half w) g)
+
+-- ---- list-view rows of 4 bytes, offsets, sizes and sums tested apart
+
+-- the wrapped sum within what the child has, where the offset and the size are not negative
+sum-within : (o z child most : ℕ) → most ≡ min 4294967295 child → o < half 4 → z < half 4 → leb ((o + z) % 2 ^ 32) most ≡ leb (o + z) child
+sum-within o z child most e h g = go (leb (o + z) child) refl
+  where
+    go : (b : Bool) → leb (o + z) child ≡ b → leb ((o + z) % 2 ^ 32) most ≡ b
+    go true q = le-leb ((o + z) % 2 ^ 32) most (omega (arith, leb-true (o + z) child q))
+    go false q = lt-leb ((o + z) % 2 ^ 32) most (omega (arith, leb-false (o + z) child q))
+
+row-apart : (o z child most : ℕ) → most ≡ min 4294967295 child → ltb o (half 4) && ltb z (half 4) && leb ((o + z) % 2 ^ 32) most ≡ viewRow 4 child o z
+unfolding viewRow
+row-apart o z child most e = go (ltb o (half 4)) refl (ltb z (half 4)) refl
+  where
+    go : (a : Bool) → ltb o (half 4) ≡ a → (b : Bool) → ltb z (half 4) ≡ b → a && b && leb ((o + z) % 2 ^ 32) most ≡ a && b && leb (o + z) child
+    go true h true g = sum-within o z child most e (ltb-true o (half 4) h) (ltb-true z (half 4) g)
+    go true h false g = refl
+    go false h b g = refl
+
+and-apart : (a x b y c z : Bool) → a && x && (b && y) && (c && z) ≡ a && b && c && (x && y && z)
+and-apart true x true y true z = refl
+and-apart true x true y false z = and-false (x && y)
+and-apart true x false y c z = rw (and-false x)
+and-apart false x b y c z = refl
+
+module _ (o z : ℕ → ℕ) (child most : ℕ) where
+  -- what is gathered over the first i rows
+  pub record Apart (n i : ℕ) (offsets sizes sums : Bool) : Type 0 where
+    pub within : i ≤ n
+    pub offset : offsets ≡ every (λ k. ltb (o k) (half 4)) i
+    pub size : sizes ≡ every (λ k. ltb (z k) (half 4)) i
+    pub sum : sums ≡ every (λ k. leb ((o k + z k) % 2 ^ 32) most) i
+
+  apart-is : most ≡ min 4294967295 child → (n : ℕ)
+      → every (λ k. ltb (o k) (half 4)) n && every (λ k. ltb (z k) (half 4)) n && every (λ k. leb ((o k + z k) % 2 ^ 32) most) n
+      ≡ every (λ k. viewRow 4 child (o k) (z k)) n
+  apart-is e zero = refl
+  apart-is e (suc n) =
+      and-apart (every (λ k. ltb (o k) (half 4)) n) _ (every (λ k. ltb (z k) (half 4)) n) _ (every (λ k. leb ((o k + z k) % 2 ^ 32) most) n) _
+      ∙ ap₂ _&&_ (apart-is e n) (row-apart (o n) (z n) child most e)
+
+  pub apart-end : {n i : ℕ} {a b d : Bool} → most ≡ min 4294967295 child → Apart n i a b d → n ≤ i → a && b && d ≡ every (λ k. viewRow 4 child (o k) (z k)) n
+  apart-end {n} {i} e h l =
+      let q : i ≡ n = omega (arith, h .within) in
+      rw (h .offset, h .size, h .sum, q) (apart-is e n)

@@ -1,7 +1,7 @@
 // The rules that hold of every row of a source: offsets, list-views and run ends, each in one pass over the rows.
 // Each function answers whether n rows obey, whatever they hold. `at` is a byte's place, with the array's offset already in it.
 ghost use mathlib.Core.Path.{_≡_};
-ghost use Prim.Native.Nat.{_+_, _*_, _≤_};
+ghost use Prim.Native.Nat.{_+_, _*_, _≤_, min};
 ghost use lib.ListN.{length};
 ghost use Rattle.row_rules.specs.Rules.{offsetsRows, viewRow, listViewRows, endsRows};
 
@@ -11,17 +11,17 @@ pub fn offsets_i32(body: &[u8], at: usize, n: usize) -> bool
     requires { ⌜ at + 4 * (n + 1) ≤ length (now body) ⌝ }
     ensures { λ r. ⌜ r ≡ offsetsRows 4 (now (body .entry)) at n ⌝ }
 {
-    let mut last = number::read_u32(body, at);
     let mut good = true;
     let mut i = 0;
     while i < n {
+        let here = number::read_u32(body, at + 4 * i);
         let next = number::read_u32(body, at + 4 * (i + 1));
-        if next < last {
+        if next < here {
             good = false;
         }
-        last = next;
         i += 1;
     }
+    let last = number::read_u32(body, at + 4 * n);
     if 2147483647 < last {
         return false;
     }
@@ -51,34 +51,49 @@ pub fn offsets_i64(body: &[u8], at: usize, n: usize) -> bool
     good
 }
 
-// Whether offset and size are not negative and the rows that they name lie in a child of `child` rows.
-fn view_row_i32(o: u32, z: u32, child: u64) -> bool
-    ensures { λ r. ⌜ r ≡ viewRow 4 child o z ⌝ }
+// The most that a sum of two numbers of 31 bits may be, over a child of `child` rows.
+fn most_u32(child: u64) -> u32
+    ensures { λ r. ⌜ r ≡ min 4294967295 child ⌝ }
 {
-    if 2147483647 < o {
-        return false;
+    if child < 4294967295 {
+        child as u32
+    } else {
+        4294967295
     }
-    if 2147483647 < z {
-        return false;
-    }
-    (o as u64) + (z as u64) <= child
 }
 
-// Whether n list-view rows obey, with offsets from `at` on and sizes from `too` on, over a child of `child` rows.
+// Whether n list-view rows obey, with offsets from `at` on and sizes from `too` on, over a child of `child` rows. A sum wraps only where
+// the offset or the size is negative. The three tests are gathered apart: so the loop compiles to vectors.
 pub fn list_views_i32(body: &[u8], at: usize, too: usize, n: usize, child: u64) -> bool
     requires { ⌜ (at + 4 * n ≤ length (now body)) × (too + 4 * n ≤ length (now body)) ⌝ }
     ensures { λ r. ⌜ r ≡ listViewRows 4 (now (body .entry)) at too child n ⌝ }
 {
+    let most = most_u32(child);
+    let mut offsets = true;
+    let mut sizes = true;
+    let mut sums = true;
     let mut i = 0;
     while i < n {
         let o = number::read_u32(body, at + 4 * i);
         let z = number::read_u32(body, too + 4 * i);
-        if !view_row_i32(o, z, child) {
-            return false;
+        if 2147483647 < o {
+            offsets = false;
+        }
+        if 2147483647 < z {
+            sizes = false;
+        }
+        if most < std::num::wrapping_add_u32(o, z) {
+            sums = false;
         }
         i += 1;
     }
-    true
+    if !offsets {
+        return false;
+    }
+    if !sizes {
+        return false;
+    }
+    sums
 }
 
 // Whether offset and size are not negative and the rows that they name lie in a child of `child` rows.

@@ -4,7 +4,8 @@ use mathlib.Core.Bool.{Bool, true, false}
 use mathlib.Core.List.{List, [], _∷_}
 use Prim.Native.Nat.{ℕ}
 use Rattle.columnar.specs.Types.{Number, u8, u64}
-use Rattle.model.specs.Opening.{allKeysFit}
+use Rattle.columnar.specs.Array.{bit}
+use Rattle.model.specs.Opening.{shared, allKeysFit}
 use Rattle.lent_tables.specs.Lent.{tables}
 use Rattle.sharing.specs.Sources.{dictAt}
 
@@ -30,3 +31,19 @@ answers =
 
 pub checked : answers ≡ true ∷ false ∷ false ∷ true ∷ true ∷ false ∷ true ∷ false ∷ true ∷ false ∷ []
 checked = refl
+
+-- two sources of n entries from slot 1 on, whose buffers begin at 0; the first has a validity that begins at u, the second at v, where 0
+-- stands for none. Byte 1 of the body has ones for the slots 1 to 3, the bytes 2 and 3 have a zero for slot 3.
+abbrev share : ℕ → ℕ → ℕ → Bool
+share n u v =
+    shared 2
+    (dictAt (tables (n ∷ 1 ∷ n ∷ 1 ∷ []) (u ∷ u ∷ 1 ∷ 0 ∷ 9 ∷ 0 ∷ 0 ∷ 0 ∷ 0 ∷ v ∷ v ∷ 1 ∷ 0 ∷ 9 ∷ 0 ∷ 0 ∷ 0 ∷ 0 ∷ []) (0 ∷ 14 ∷ 6 ∷ 6 ∷ [])) (0 ∷ 1 ∷ 1 ∷ 1 ∷ []) false 0)
+
+-- "Validity with no zero bit among the rows counts as absent": none beside none, ones beside none, none beside ones, ones at two places;
+-- with a zero among the rows: beside none, at one place, at two
+abbrev sharing : List Bool
+sharing = share 3 0 0 ∷ share 3 0 1 ∷ share 3 1 0 ∷ share 2 1 2 ∷ share 3 0 2 ∷ share 3 2 2 ∷ share 3 2 3 ∷ []
+
+pub sharing-checked : sharing ≡ true ∷ true ∷ true ∷ true ∷ false ∷ true ∷ false ∷ []
+unfolding bit
+sharing-checked = refl

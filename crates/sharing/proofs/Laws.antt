@@ -2,13 +2,13 @@
 use mathlib.Core.Path.{_≡_, refl, sym, ap, ap₂, _∙_}
 use mathlib.Core.Bool.{Bool, true, false, cond, not, _&&_, _||_, and-false}
 use mathlib.Core.List.{List}
-use Prim.Native.Nat.{ℕ, zero, suc, _+_, _*_, _-_, min, _≤_, _<_}
-use native.Mathlib.Nat.{add-zero}
+use Prim.Native.Nat.{ℕ, zero, suc, _+_, _*_, _-_, _/_, _^_, min, _≤_, _<_}
+use native.Mathlib.Nat.{add-zero, zero-div}
 use native.Mathlib.Omega.{arith}
-use lib.ListN.{length, drop, getD, length-take, length-drop}
+use lib.ListN.{length, drop, getD, length-take, length-drop, List·getD-eq-default}
 use lib.Seq.{drop-cons, getD-take, getD-drop}
-use lib.Dec.{ltb, eqb}
-use borrow.Author.Tests.{leb-true, eqb-true, eqb-false, lt-ltb}
+use lib.Dec.{leb, ltb, eqb}
+use borrow.Author.Tests.{le-leb, lt-leb, leb-true, leb-false, eq-eqb, ne-eqb, eqb-true, eqb-false, lt-ltb}
 use Rattle.columnar.specs.Array.{Array, bit, nullsIn, nullCount}
 use Rattle.columnar.specs.Dictionary.{Dictionary}
 use Rattle.model.specs.Opening.{anyNull, sameList, ptrEq, shared}
@@ -19,7 +19,8 @@ use Rattle.bits.proofs.Steps.{zeros-none}
 use Rattle.array_data.specs.Tables.{Tables, lengthOf, offsetOf, place, part}
 use Rattle.array_data.specs.Typed.{tablesFrom, validStart}
 use Rattle.lent_tables.specs.Lent.{maskOf}
-use Rattle.sharing.specs.Sources.{firstOf, arrayOf, arrayAt, startsOf, dictWith, dictAt}
+use Rattle.lent_tables.proofs.Laws.{no, yes}
+use Rattle.sharing.specs.Sources.{firstOf, arrayOf, arrayAt, startsOf, dictWith, dictAt, Countable}
 
 -- ---- node i of the source whose first node is f
 
@@ -36,8 +37,11 @@ module _ (x : Tables) (f i : ℕ) where
   pub array-from : arrayOf (tablesFrom x f) i ≡ arrayOf x (f + i)
   array-from = rw (length-from, offset-from, place-from 0, place-from 1, place-from 2)
 
+  valid-from : validStart (tablesFrom x f) i ≡ validStart x (f + i)
+  valid-from = ap₂ (λ n p. cond (eqb n 0) 0 (suc p)) (ap nullCount array-from) (place-from 1)
+
   starts-from : (string : Bool) → startsOf (tablesFrom x f) string i ≡ startsOf x string (f + i)
-  starts-from string = rw (place-from 0, place-from 1, place-from 3, place-from 5)
+  starts-from string = rw (valid-from, place-from 3, place-from 5)
 
   pub dict-from : (string : Bool) → dictWith (tablesFrom x f) string i ≡ dictWith x string (f + i)
   dict-from string = rw (starts-from string, array-from)
@@ -101,6 +105,56 @@ module _ (x : Tables) (k : ℕ) where
       → from ≡ place x k 1 → off ≡ offsetOf x k → n ≡ lengthOf x k → r ≡ nullCount (arrayOf x k)
   count-some z m e f o l =
       rw (z, e, f, o, l) (zeros-nulls (x .body) (place x k 1) (place x k 2) (offsetOf x k) (lengthOf x k) (slots z m))
+
+-- ---- a sum that may be too large for 64 bits
+
+pub sum-is : (a b top : ℕ) → a ≤ top → leb b (top - a) ≡ leb (a + b) top
+sum-is a b top h = go (leb b (top - a)) refl
+  where
+    go : (t : Bool) → leb b (top - a) ≡ t → leb b (top - a) ≡ leb (a + b) top
+    go true z = z ∙ sym (le-leb (a + b) top (omega (arith, leb-true b (top - a) z)))
+    go false z = z ∙ sym (lt-leb (a + b) top (omega (arith, leb-false b (top - a) z)))
+
+-- ---- whether there is a null at all: a bit that the body does not have is a zero
+
+past-bit : (s : List ℕ) (i : ℕ) → 8 * length s ≤ i → bit s i ≡ false
+unfolding bit
+past-bit s i h =
+    let q : length s ≤ i / 8 = omega arith in
+    rw (List·getD-eq-default s 0 q, zero-div)
+
+past-null : (s : List ℕ) (a n : ℕ) → 0 < n → 8 * length s < a + n → 0 < nullsIn (bit s) a n
+past-null s a zero p h = absurd (omega arith)
+past-null s a (suc zero) p h = rw (past-bit s a (omega arith)) (omega arith)
+past-null s a (suc (suc n)) p h = omega (arith, past-null s (suc a) (suc n) (omega arith) (omega arith))
+
+module _ (x : Tables) (k : ℕ) where
+  pub absent-by : {r : ℕ} → r ≡ nullCount (arrayOf x k) → eqb r 0 ≡ eqb (nullCount (arrayOf x k)) 0
+  absent-by e = ap (λ n. eqb n 0) e
+
+  pub bytes-are : {r from size : ℕ} → r ≡ length (part (x .body) from size) → from ≡ place x k 1 → size ≡ place x k 2
+      → r ≡ length (part (x .body) (place x k 1) (place x k 2))
+  bytes-are e f g = e ∙ ap₂ (λ p q. length (part (x .body) p q)) f g
+
+  pub absent : 0 ≡ nullCount (arrayOf x k) → true ≡ eqb (nullCount (arrayOf x k)) 0
+  absent e = absent-by e
+
+  -- r is whether the slots up to off + n have a bit each
+  module _ {r : Bool} {off n bytes : ℕ} (z : eqb (place x k 0) 0 ≡ false) (e : r ≡ leb (off + n) (8 * bytes)) (o : off ≡ offsetOf x k) (l : n ≡ lengthOf x k)
+      (b : bytes ≡ length (part (x .body) (place x k 1) (place x k 2))) where
+    pub past-present : (n ≡ 0 → ⊥) → not r ≡ true → false ≡ eqb (nullCount (arrayOf x k)) 0
+    past-present p h =
+        let v = part (x .body) (place x k 1) (place x k 2) in
+        let q = past-null v (offsetOf x k) (lengthOf x k) (omega (arith, p)) (omega (arith, leb-false (off + n) (8 * bytes) (no e h))) in
+        rw z (sym (ne-eqb (nullsIn (bit v) (offsetOf x k) (lengthOf x k)) 0 (omega (arith, q))))
+
+    pub countable-by : k < 2 ^ 33 → bytes < 2 ^ 32 → not r ≡ false → Countable x k
+    countable-by s f h =
+        let q = leb-true (off + n) (8 * bytes) (yes e h) in
+        record {
+          counted = record { small = s; sum = omega (arith, q) };
+          bits = rw z (le-leb (offsetOf x k + lengthOf x k) (8 * length (part (x .body) (place x k 1) (place x k 2))) (omega (arith, q)));
+        }
 
 -- ---- where two dictionaries begin
 

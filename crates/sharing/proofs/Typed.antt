@@ -3,7 +3,7 @@
 use mathlib.Core.Path.{_≡_, refl, ap, ap₂}
 use mathlib.Core.Bool.{Bool, true, false, cond, _&&_, _||_, false≢true}
 use mathlib.Core.Option.{Option, none, some}
-use mathlib.Core.List.{List, []}
+use mathlib.Core.List.{List}
 use Prim.Native.Nat.{ℕ, zero, suc, _+_, _<_, _^_}
 use Rattle.columnar.specs.Types.{Number, Plain, fixed, string, Ty, tDictionary}
 use Rattle.columnar.specs.Array.{Array, nullCount}
@@ -11,7 +11,7 @@ use Rattle.columnar.specs.Plain.{PlainBody}
 use Rattle.columnar.specs.Dictionary.{Dictionary}
 use Rattle.columnar.specs.Reading.{Column}
 use Rattle.columnar.specs.Test.{maskTest}
-use Rattle.model.specs.Opening.{anyNull, keeps, ptrEq, shared, entriesBefore, startOfKeys, keysFit, allKeysFit}
+use Rattle.model.specs.Opening.{anyNull, keeps, ptrEq, shared, entriesBefore, startOfKeys}
 use Rattle.array_data.specs.Tables.{Tables, lengthOf, offsetOf, validOf}
 use Rattle.array_data.specs.Typed.{Tree, tablesFrom, starts, bodyOf, columnOf}
 use Rattle.lent_tables.specs.Lent.{tables, maskOf}
@@ -41,13 +41,6 @@ module _ {P Q : Type 0} (ds : ℕ → Dictionary P) (es : ℕ → Dictionary Q) 
   pub start-same : (m j : ℕ) → startOfKeys m ds j ≡ startOfKeys m es j
   start-same m j = ap₂ (λ b n. cond b 0 n) (shared-same m) (entries-same ds es (λ s. h s .same-len) j)
 
-  pub fit-same : (k : Number) (m j : ℕ) → keysFit k m ds j ≡ keysFit k m es j
-  fit-same k m j = rw (start-same m j, h j .same-len)
-
-  pub all-fit-same : (k : Number) (m j : ℕ) → allKeysFit k m j ds ≡ allKeysFit k m j es
-  all-fit-same k m zero = refl
-  all-fit-same k m (suc j) = ap₂ _&&_ (all-fit-same k m j) (fit-same k m j)
-
 -- ---- node i of typed sources
 
 module _ (t : Tree) (x : Tables) (sources : List ℕ) where
@@ -70,7 +63,7 @@ module _ (t : Tree) (x : Tables) (sources : List ℕ) where
 
   module _ (k : Number) (p : Plain) (i : ℕ) where
     abbrev pub lentAt : ℕ → Dictionary (Unit {0})
-    lentAt = dictAt (tables (x .lengths) (x .places) []) sources (ofStrings p) (suc i)
+    lentAt = dictAt (tables (x .lengths) (x .places) (x .body)) sources (ofStrings p) (suc i)
 
     pub alike : (s : ℕ) → Alike (dictionaryAt k p i s) (lentAt s)
     alike s = record { same-off = refl; same-len = refl; same-starts = starts-are p (tablesFrom x (firstOf sources s)) (suc i) }
@@ -86,9 +79,6 @@ module _ (t : Tree) (x : Tables) (sources : List ℕ) where
 
     pub start-typed : (m j : ℕ) → startOfKeys m (dictionaryAt k p i) j ≡ startOfKeys m lentAt j
     start-typed = start-same (dictionaryAt k p i) lentAt alike
-
-    pub fits-typed : (n : Number) (m j : ℕ) → allKeysFit n m j (dictionaryAt k p i) ≡ allKeysFit n m j lentAt
-    fits-typed = all-fit-same (dictionaryAt k p i) lentAt alike
 
 -- ---- what ground 12's test of node i of a source gives: its nulls can be counted
 

@@ -1,10 +1,11 @@
 -- Node i of each source, and the dictionary whose values stand there (docs/FORMAT.md): all that the tests of an opening look at. Assumes nothing.
 use mathlib.Core.Path.{_≡_}
-use mathlib.Core.Bool.{Bool, true, false, cond}
+use mathlib.Core.Bool.{Bool, true, false, cond, _&&_}
 use mathlib.Core.List.{List, [], _∷_}
-use Prim.Native.Nat.{ℕ, _*_, _-_, _^_, min}
+use Prim.Native.Nat.{ℕ, _+_, _*_, _-_, _^_, min}
 use lib.ListN.{getD}
-use Rattle.columnar.specs.Types.{Plain, fixed, string}
+use lib.Dec.{ltb}
+use Rattle.columnar.specs.Types.{Number, limit, Plain, fixed, string}
 use Rattle.columnar.specs.Array.{Array}
 use Rattle.columnar.specs.Dictionary.{Dictionary}
 use Rattle.array_data.specs.Tables.{Tables, place, arrayWith}
@@ -48,3 +49,7 @@ pub record Countable (x : Tables) (k : ℕ) : Type 0 where
 -- a number, or the largest of 64 bits where it is above that
 abbrev pub capped : ℕ → ℕ
 capped n = min n (2 ^ 64 - 1)
+
+-- ground 8 for one source: "(start + entries − 1, at least 0) or start does not fit the key"
+abbrev pub keyFits : Number → ℕ → ℕ → Bool
+keyFits k start n = ltb (start + n - 1) (limit k) && ltb start (limit k)

@@ -2,18 +2,18 @@
 // Node i of source s is node sources[2 * s] + i of the tables (docs/FORMAT.md).
 ghost use mathlib.Core.Path.{_≡_};
 ghost use mathlib.Core.Bool.{Bool, true};
-ghost use mathlib.Core.List.{List, []};
+ghost use mathlib.Core.List.{List};
 ghost use mathlib.Core.Option.{some};
-ghost use Prim.Native.Nat.{ℕ, _+_, _-_, _≤_, _<_, _^_};
-ghost use lib.Dec.{leb};
+ghost use Prim.Native.Nat.{ℕ, _+_, _<_, _^_};
+ghost use lib.Dec.{leb, eqb};
 ghost use Rattle.columnar.specs.Types.{Number, limit};
 ghost use Rattle.columnar.specs.Array.{nullCount};
-ghost use Rattle.model.specs.Opening.{anyNull, keeps, sameList, ptrEq, shared, entriesBefore, startOfKeys, allKeysFit};
+ghost use Rattle.model.specs.Opening.{anyNull, keeps, sameList, ptrEq, shared, entriesBefore, startOfKeys};
 ghost use Rattle.formats.specs.Code.{isInteger};
 ghost use Rattle.formats.specs.Types.{numberOf};
 ghost use Rattle.array_data.specs.Typed.{validStart};
 ghost use Rattle.lent_tables.specs.Lent.{tables};
-ghost use Rattle.sharing.specs.Sources.{firstOf, arrayOf, arrayAt, startsOf, dictWith, dictAt, Countable, capped};
+ghost use Rattle.sharing.specs.Sources.{firstOf, arrayOf, arrayAt, startsOf, dictWith, dictAt, Countable, capped, keyFits};
 
 // Which node of the tables is node i of source s.
 pub fn node_of(sources: &[u32], s: usize, i: usize) -> usize
@@ -22,6 +22,16 @@ pub fn node_of(sources: &[u32], s: usize, i: usize) -> usize
     ensures { λ r. ⌜ r < 2 ^ 33 ⌝ }
 {
     (lent_tables::at_u32(sources, 2 * s) as usize) + i
+}
+
+// Whether a + b is at most `top`.
+fn sum_fits(a: u64, b: u64, top: u64) -> bool
+    ensures { λ r. ⌜ r ≡ leb (a + b) top ⌝ }
+{
+    if top < a {
+        return false;
+    }
+    b <= top - a
 }
 
 // ---- nulls
@@ -87,36 +97,71 @@ pub fn keeps(
 
 // ---- dictionaries
 
-// One more than where the validity of node k begins; 0 where it has none.
-fn valid_start(places: &[u32], k: usize) -> u64
+// Whether no row of node k is null, whatever the tables hold: a bit that the body does not have is a zero.
+fn has_no_null(lengths: &[u64], places: &[u32], body: &[u8], k: usize) -> bool
     requires { ⌜ k < 2 ^ 33 ⌝ }
-    ensures { λ r. ⌜ r ≡ validStart (tables [] (now (places .entry)) []) k ⌝ }
+    ensures { λ r. ⌜ r ≡ eqb (nullCount (arrayOf (tables (now (lengths .entry)) (now (places .entry)) (now (body .entry))) k)) 0 ⌝ }
 {
     if lent_tables::place(places, k, 0) == 0 {
+        return true;
+    }
+    let n = lent_tables::length_of(lengths, k);
+    if n == 0 {
+        return true;
+    }
+    let off = lent_tables::offset_of(lengths, k);
+    let from = lent_tables::place(places, k, 1);
+    let bytes = lent_tables::part_len(body, from, lent_tables::place(places, k, 2));
+    if !sum_fits(off, n, 8 * (bytes as u64)) {
+        return false;
+    }
+    null_count(lengths, places, body, k) == 0
+}
+
+// One more than where the validity of node k begins; 0 where it has none, or none with a zero bit among the rows.
+fn valid_start(lengths: &[u64], places: &[u32], body: &[u8], k: usize) -> u64
+    requires { ⌜ k < 2 ^ 33 ⌝ }
+    ensures { λ r. ⌜ r ≡ validStart (tables (now (lengths .entry)) (now (places .entry)) (now (body .entry))) k ⌝ }
+{
+    if has_no_null(lengths, places, body, k) {
         return 0;
     }
     (lent_tables::place(places, k, 1) as u64) + 1
 }
 
 // Whether the values of two dictionaries, the nodes a and b, begin at the same places: byte strings where `string`, else numbers.
-fn same_starts(places: &[u32], a: usize, b: usize, string: bool) -> bool
+fn same_starts(
+    lengths: &[u64],
+    places: &[u32],
+    body: &[u8],
+    a: usize,
+    b: usize,
+    string: bool,
+) -> bool
     requires { ⌜ (a < 2 ^ 33) × (b < 2 ^ 33) ⌝ }
-    ensures { λ r. ⌜ r ≡ sameList (startsOf (tables [] (now (places .entry)) []) string a) (startsOf (tables [] (now (places .entry)) []) string b) ⌝ }
+    ensures { λ r. ⌜ r ≡ sameList (startsOf (tables (now (lengths .entry)) (now (places .entry)) (now (body .entry))) string a) (startsOf (tables (now (lengths .entry)) (now (places .entry)) (now (body .entry))) string b) ⌝ }
 {
-    let valid = valid_start(places, a) == valid_start(places, b);
+    let valid = valid_start(lengths, places, body, a) == valid_start(lengths, places, body, b);
     let first = lent_tables::place(places, a, 3) == lent_tables::place(places, b, 3);
     let second = lent_tables::place(places, a, 5) == lent_tables::place(places, b, 5);
     valid & first & (second | !string)
 }
 
 // Whether the dictionaries whose values are the nodes a and b are the same one.
-pub fn ptr_eq(lengths: &[u64], places: &[u32], a: usize, b: usize, string: bool) -> bool
+pub fn ptr_eq(
+    lengths: &[u64],
+    places: &[u32],
+    body: &[u8],
+    a: usize,
+    b: usize,
+    string: bool,
+) -> bool
     requires { ⌜ (a < 2 ^ 33) × (b < 2 ^ 33) ⌝ }
-    ensures { λ r. ⌜ r ≡ ptrEq (dictWith (tables (now (lengths .entry)) (now (places .entry)) []) string a) (dictWith (tables (now (lengths .entry)) (now (places .entry)) []) string b) ⌝ }
+    ensures { λ r. ⌜ r ≡ ptrEq (dictWith (tables (now (lengths .entry)) (now (places .entry)) (now (body .entry))) string a) (dictWith (tables (now (lengths .entry)) (now (places .entry)) (now (body .entry))) string b) ⌝ }
 {
     let offset = lent_tables::offset_of(lengths, a) == lent_tables::offset_of(lengths, b);
     let length = lent_tables::length_of(lengths, a) == lent_tables::length_of(lengths, b);
-    offset & length & same_starts(places, a, b, string)
+    offset & length & same_starts(lengths, places, body, a, b, string)
 }
 
 // Whether all neighbouring sources of the first m share the dictionary whose values are node i.
@@ -124,18 +169,19 @@ pub fn all_share(
     sources: &[u32],
     lengths: &[u64],
     places: &[u32],
+    body: &[u8],
     m: usize,
     i: usize,
     string: bool,
 ) -> bool
     requires { ⌜ (m < 2 ^ 32) × (i < 2 ^ 32) ⌝ }
-    ensures { λ r. ⌜ r ≡ shared m (dictAt (tables (now (lengths .entry)) (now (places .entry)) []) (now (sources .entry)) string i) ⌝ }
+    ensures { λ r. ⌜ r ≡ shared m (dictAt (tables (now (lengths .entry)) (now (places .entry)) (now (body .entry))) (now (sources .entry)) string i) ⌝ }
 {
     let mut s = 0;
     while s + 1 < m {
         let a = node_of(sources, s, i);
         let b = node_of(sources, s + 1, i);
-        if !ptr_eq(lengths, places, a, b, string) {
+        if !ptr_eq(lengths, places, body, a, b, string) {
             return false;
         }
         s += 1;
@@ -156,10 +202,10 @@ fn add_capped(a: u64, b: u64) -> u64
 }
 
 // How many entries the dictionaries of the sources before source j have, or the largest number of 64 bits where there are more.
-// It does not depend on the kind and the places of the entries.
+// It does not depend on the kind, the places and the bytes of the entries.
 pub fn entries_before(sources: &[u32], lengths: &[u64], i: usize, j: usize) -> u64
     requires { ⌜ (i < 2 ^ 32) × (j < 2 ^ 32) ⌝ }
-    ensures { λ r. ⌜ ((places : List ℕ) (string : Bool) → r ≡ capped (entriesBefore (dictAt (tables (now (lengths .entry)) places []) (now (sources .entry)) string i) j)) ⌝ }
+    ensures { λ r. ⌜ ((places body : List ℕ) (string : Bool) → r ≡ capped (entriesBefore (dictAt (tables (now (lengths .entry)) places body) (now (sources .entry)) string i) j)) ⌝ }
 {
     let mut sum: u64 = 0;
     let mut s = 0;
@@ -176,15 +222,16 @@ pub fn start_of_keys(
     sources: &[u32],
     lengths: &[u64],
     places: &[u32],
+    body: &[u8],
     m: usize,
     i: usize,
     string: bool,
     j: usize,
 ) -> u64
     requires { ⌜ (m < 2 ^ 32) × (i < 2 ^ 32) × (j < 2 ^ 32) ⌝ }
-    ensures { λ r. ⌜ r ≡ capped (startOfKeys m (dictAt (tables (now (lengths .entry)) (now (places .entry)) []) (now (sources .entry)) string i) j) ⌝ }
+    ensures { λ r. ⌜ r ≡ capped (startOfKeys m (dictAt (tables (now (lengths .entry)) (now (places .entry)) (now (body .entry))) (now (sources .entry)) string i) j) ⌝ }
 {
-    if all_share(sources, lengths, places, m, i, string) {
+    if all_share(sources, lengths, places, body, m, i, string) {
         return 0;
     }
     entries_before(sources, lengths, i, j)
@@ -211,48 +258,18 @@ fn largest_key(code: u8) -> u64
     LARGEST[k]
 }
 
-// Whether the last of n entries from `start` on is at most `top`; of no entries, whether the one before is.
-fn last_fits(start: u64, n: u64, top: u64) -> bool
-    requires { ⌜ start ≤ top ⌝ }
-    ensures { λ r. ⌜ r ≡ leb (start + n - 1) top ⌝ }
+// Whether the keys of a source fit the key format of this code, where `start` is added to them and its dictionary has n entries:
+// ground 8 where not.
+pub fn key_fits(start: u64, n: u64, code: u8) -> bool
+    requires { ⌜ isInteger code ≡ true ⌝ }
+    ensures { λ r. ⌜ ((k : Number) → numberOf code ≡ some k → r ≡ keyFits k start n) ⌝ }
 {
+    let top = largest_key(code);
+    if top < start {
+        return false;
+    }
     if n == 0 {
         return true;
     }
-    n - 1 <= top - start
-}
-
-// Whether the keys of each of the m sources fit the key format of this code, once they are rebased: ground 8 where not.
-// No sum passes the largest key: where the next start would, only the last source may stand.
-pub fn keys_fit(
-    sources: &[u32],
-    lengths: &[u64],
-    places: &[u32],
-    m: usize,
-    i: usize,
-    string: bool,
-    code: u8,
-) -> bool
-    requires { ⌜ (m < 2 ^ 32) × (i < 2 ^ 32) × (isInteger code ≡ true) ⌝ }
-    ensures { λ r. ⌜ ((n : Number) → numberOf code ≡ some n → r ≡ allKeysFit n m m (dictAt (tables (now (lengths .entry)) (now (places .entry)) []) (now (sources .entry)) string i)) ⌝ }
-{
-    let top = largest_key(code);
-    let share = all_share(sources, lengths, places, m, i, string);
-    let mut start: u64 = 0;
-    let mut s = 0;
-    while s < m {
-        let k = node_of(sources, s, i);
-        let n = lent_tables::length_of(lengths, k);
-        if !last_fits(start, n, top) {
-            return false;
-        }
-        if !share {
-            if top - start < n {
-                return s + 1 == m;
-            }
-            start += n;
-        }
-        s += 1;
-    }
-    true
+    sum_fits(start, n - 1, top)
 }

@@ -1,21 +1,19 @@
 -- Laws of the row tests: one more row passed, a row that fails. Assumes nothing.
 use mathlib.Core.Path.{_≡_, refl, sym, ap, _∙_}
-use mathlib.Core.Bool.{Bool, true, false, cond, _&&_, _||_}
-use mathlib.Core.List.{List, [], _∷_}
+use mathlib.Core.Bool.{Bool, true, false, _&&_}
+use mathlib.Core.List.{List}
 use Prim.Native.Nat.{ℕ, suc, _+_, _*_, _≤_, _<_}
 use native.Mathlib.Nat.{one-mul}
 use native.Mathlib.Numerals.{add-one}
-use native.Mathlib.Omega.{arith}
-use lib.ListN.{length, drop, getD, List·getD-eq-default}
+use lib.ListN.{length, drop, getD}
 use lib.Seq.{drop-cons, drop-length}
-use lib.Dec.{ltb, eqb, leb·suc-suc}
+use lib.Dec.{ltb}
 use borrow.Author.Tests.{lt-ltb, le-ltb, eq-eqb, ne-eqb}
-use Rattle.columnar.specs.Test.{every, member, onlyIf}
+use Rattle.columnar.specs.Test.{every, onlyIf}
 use Rattle.columnar.proofs.Test.{every-false}
 use Rattle.number.specs.Number.{number, entry}
 use Rattle.bits.specs.Bits.{bits}
-use Rattle.columnar.specs.Types.{half}
-use Rattle.slot_rules.specs.Slots.{fieldOf, idsDeclared, positionGood, positionsWithin, validAt, keysBelow, validKeysBelow}
+use Rattle.slot_rules.specs.Slots.{fieldOf, validAt, keysBelow, validKeysBelow}
 
 pub and-true : (b : Bool) → b && true ≡ b
 and-true true = refl
@@ -64,25 +62,6 @@ pub field-none : (ids : List ℕ) (c : ℕ) → fieldOf (drop (length ids) ids) 
 unfolding fieldOf
 field-none ids c = rw drop-length
 
--- an id is declared where a field has it
-pub field-member : (ids : List ℕ) (c : ℕ) → ltb (fieldOf ids c) (length ids) ≡ member c ids
-unfolding fieldOf
-field-member [] c = le-ltb 0 0 (omega arith)
-field-member (d ∷ ds) c = go (eqb c d) (field-member ds c)
-  where
-    go : (b : Bool) → ltb (fieldOf ds c) (length ds) ≡ member c ds → ltb (cond b 0 (suc (fieldOf ds c))) (suc (length ds)) ≡ b || member c ds
-    go true h = lt-ltb 0 (suc (length ds)) (omega arith)
-    go false h = leb·suc-suc (suc (fieldOf ds c)) (length ds) ∙ h
-
-pub field-within : (ids : List ℕ) (c : ℕ) → fieldOf ids c ≤ length ids
-unfolding fieldOf
-field-within [] c = omega arith
-field-within (d ∷ ds) c = go (eqb c d) (field-within ds c)
-  where
-    go : (b : Bool) → fieldOf ds c ≤ length ds → cond b 0 (suc (fieldOf ds c)) ≤ suc (length ds)
-    go true h = omega arith
-    go false h = omega arith
-
 -- ---- keys of w bytes
 
 pub entry-one : (s : List ℕ) (at i : ℕ) → entry 1 s at i ≡ number 1 (drop (at + i) s)
@@ -108,32 +87,3 @@ module _ (w : ℕ) (s : List ℕ) (at bound : ℕ) where
     -- a valid key that is not below bound
     pub valid-keys-fail : (i n : ℕ) → i < n → getD (bits s) (8 * from + (a + i)) 0 ≡ 1 → bound ≤ entry w s at i → false ≡ validKeysBelow w s at bound from a n
     valid-keys-fail i n l e h = fail _ i n l (valid-row _ _ _ (eq-eqb _ _ e) (le-ltb _ _ h))
-
--- ---- ids and positions
-
-module _ (s : List ℕ) (at : ℕ) (ids : List ℕ) where
-  pub ids-pass : (i : ℕ) → true ≡ idsDeclared s at ids i → fieldOf ids (getD s (at + i) 0) < length ids → true ≡ idsDeclared s at ids (i + 1)
-  ids-pass i e h = pass _ i e (sym (field-member ids _) ∙ lt-ltb _ _ h)
-
-  pub ids-fail : (i n : ℕ) → i < n → length ids ≤ fieldOf ids (getD s (at + i) 0) → false ≡ idsDeclared s at ids n
-  ids-fail i n l h = fail _ i n l (sym (field-member ids _) ∙ le-ltb _ _ h)
-
-module _ (ids lens : List ℕ) (c p : ℕ) where
-  pub position-negative : 2147483648 ≤ p → false ≡ positionGood ids lens c p
-  position-negative h = sym (rw (le-ltb p (half 4) h))
-
-  pub position-at : p < 2147483648 → ltb p (getD lens (fieldOf ids c) 0) ≡ positionGood ids lens c p
-  position-at h = sym (rw (lt-ltb p (half 4) h))
-
-  -- no field, no position
-  pub position-none : p < 2147483648 → length lens ≤ fieldOf ids c → false ≡ positionGood ids lens c p
-  position-none h l = sym (ap (ltb p) (List·getD-eq-default lens 0 l) ∙ le-ltb p 0 (omega arith)) ∙ position-at h
-
-module _ (s : List ℕ) (at too : ℕ) (ids lens : List ℕ) where
-  pub positions-pass : (i : ℕ) {g : Bool} → true ≡ positionsWithin s at too ids lens i → g ≡ positionGood ids lens (getD s (at + i) 0) (entry 4 s too i) → g ≡ true
-      → true ≡ positionsWithin s at too ids lens (i + 1)
-  positions-pass i e h t = pass _ i e (sym h ∙ t)
-
-  pub positions-fail : (i n : ℕ) {g : Bool} → i < n → g ≡ positionGood ids lens (getD s (at + i) 0) (entry 4 s too i) → g ≡ false
-      → false ≡ positionsWithin s at too ids lens n
-  positions-fail i n l h t = fail _ i n l (sym h ∙ t)

@@ -129,7 +129,7 @@ positions-test s istart isize pstart psize off len ids lens size sizes h k x =
 
 -- ---- dictionaries
 
-ltb-min : (k a b : ℕ) → ltb k a && ltb k b ≡ ltb k (min a b)
+pub ltb-min : (k a b : ℕ) → ltb k a && ltb k b ≡ ltb k (min a b)
 ltb-min k a b = go (ltb k a) refl (ltb k b) refl
   where
     go : (x : Bool) → ltb k a ≡ x → (y : Bool) → ltb k b ≡ y → x && y ≡ ltb k (min a b)

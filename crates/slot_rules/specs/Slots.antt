@@ -2,7 +2,7 @@
 -- body. Places count bytes of s and have the array's offset in them. Assumes nothing.
 use mathlib.Core.Bool.{Bool, cond, _&&_}
 use mathlib.Core.List.{List, [], _∷_}
-use Prim.Native.Nat.{ℕ, zero, suc, _+_, _*_}
+use Prim.Native.Nat.{ℕ, zero, suc, _+_, _*_, min}
 use lib.ListN.{length, take, drop, getD}
 use lib.Dec.{leb, ltb, eqb}
 use Rattle.number.specs.Number.{number, entry}
@@ -30,6 +30,11 @@ positionGood ids lens c p = ltb p (half 4) && ltb p (getD lens (fieldOf ids c) 0
 -- "dense positions within the child": type ids at `at`, positions at `too`, the length of field f at `getD lens f 0`
 abbrev pub positionsWithin : List ℕ → ℕ → ℕ → List ℕ → List ℕ → ℕ → Bool
 positionsWithin s at too ids lens n = every (λ i. positionGood ids lens (getD s (at + i) 0) (entry 4 s too i)) n
+
+-- what a position of the id c must be below, so that it is not negative and its id declared: the length of the id's field, at most 2^31; 0 where
+-- no field has the id
+abbrev pub boundOf : List ℕ → List ℕ → ℕ → ℕ
+boundOf ids lens c = cond (member c ids) (min (half 4) (getD lens (fieldOf ids c) 0)) 0
 
 -- ---- validity
 

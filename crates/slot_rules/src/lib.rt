@@ -1,9 +1,12 @@
 // The rules of a source whose kind is a union, a dictionary or a view array, row after row.
 // Places are bytes of the lent body; the caller has added the array's offset to them.
 ghost use mathlib.Core.Path.{_≡_};
-ghost use Prim.Native.Nat.{_+_, _*_, _^_, _≤_, _<_};
-ghost use lib.ListN.{length};
-ghost use Rattle.slot_rules.specs.Slots.{idsDeclared, fieldOf, positionGood, positionsWithin, keysBelow, validKeysBelow, liesIn, viewGood, viewsGood, validViewsGood};
+ghost use mathlib.Core.Bool.{cond, _&&_};
+ghost use Prim.Native.Nat.{ℕ, _+_, _*_, _^_, _≤_, _<_, min};
+ghost use lib.ListN.{length, getD};
+ghost use Rattle.columnar.specs.Types.{half};
+ghost use Rattle.columnar.specs.Test.{member};
+ghost use Rattle.slot_rules.specs.Slots.{idsDeclared, fieldOf, boundOf, positionsWithin, keysBelow, validKeysBelow, liesIn, viewGood, viewsGood, validViewsGood};
 use byte_view::ByteView;
 
 // The first field with that id, or the number of fields where none has it.
@@ -20,14 +23,30 @@ pub fn field_of(ids: &[u8], id: u8) -> usize
     i
 }
 
+// Of each byte: 1 where it is one of ids, else 0.
+fn declared(ids: &[u8]) -> [u8; 256]
+    ensures { λ r. ⌜ ((c : ℕ) → c < 256 → getD r c 0 ≡ cond (member c (now (ids .entry))) 1 0) ⌝ }
+{
+    let mut table = [0u8; 256];
+    let mut i = ids.len();
+    while 0 < i {
+        i -= 1;
+        let id = ids[i] as usize;
+        table[id] = 1;
+    }
+    table
+}
+
 // Whether each of the n type ids at `at` is one of ids.
 pub fn ids_declared(body: &[u8], at: usize, n: usize, ids: &[u8]) -> bool
     requires { ⌜ at + n ≤ length (now body) ⌝ }
     ensures { λ r. ⌜ r ≡ idsDeclared (now (body .entry)) at (now (ids .entry)) n ⌝ }
 {
+    let table = declared(ids);
     let mut i = 0;
     while i < n {
-        if field_of(ids, body[at + i]) == ids.len() {
+        let id = body[at + i] as usize;
+        if table[id] == 0 {
             return false;
         }
         i += 1;
@@ -35,36 +54,46 @@ pub fn ids_declared(body: &[u8], at: usize, n: usize, ids: &[u8]) -> bool
     true
 }
 
-// Whether a position of that id is not negative and lies within its field.
-fn position_good(ids: &[u8], lens: &[u64], id: u8, p: u64) -> bool
-    ensures { λ r. ⌜ r ≡ positionGood (now (ids .entry)) (now (lens .entry)) id p ⌝ }
+// The length of field f, at most 2^31; 0 where lens has none.
+fn field_bound(lens: &[u64], f: usize) -> u32
+    ensures { λ r. ⌜ r ≡ min (half 4) (getD (now (lens .entry)) f 0) ⌝ }
 {
-    if 2147483647 < p {
-        return false;
+    if lens.len() <= f {
+        return 0;
     }
-    let f = field_of(ids, id);
-    if f < lens.len() {
-        return p < lens[f];
+    let size = lens[f];
+    if size < 2147483648 {
+        size as u32
+    } else {
+        2147483648
     }
-    false
 }
 
-// Whether each of the n positions at `too` lies within the field of its type id, which stands at `at`.
-pub fn positions_within(
-    body: &[u8],
-    at: usize,
-    too: usize,
-    n: usize,
-    ids: &[u8],
-    lens: &[u64],
-) -> bool
-    requires { ⌜ (at + n ≤ length (now body)) × (too + 4 * n ≤ length (now body)) ⌝ }
-    ensures { λ r. ⌜ r ≡ positionsWithin (now (body .entry)) at too (now (ids .entry)) (now (lens .entry)) n ⌝ }
+// Of each byte: what its positions must be below.
+fn bounds(ids: &[u8], lens: &[u64]) -> [u32; 256]
+    ensures { λ r. ⌜ ((c : ℕ) → c < 256 → getD r c 0 ≡ boundOf (now (ids .entry)) (now (lens .entry)) c) ⌝ }
 {
+    let mut table = [0u32; 256];
+    let mut i = ids.len();
+    while 0 < i {
+        i -= 1;
+        let id = ids[i] as usize;
+        table[id] = field_bound(lens, i);
+    }
+    table
+}
+
+// Whether each of the n type ids at `at` is one of ids, and the positions at `too` lie within the fields of their ids.
+pub fn dense_good(body: &[u8], at: usize, too: usize, n: usize, ids: &[u8], lens: &[u64]) -> bool
+    requires { ⌜ (at + n ≤ length (now body)) × (too + 4 * n ≤ length (now body)) ⌝ }
+    ensures { λ r. ⌜ r ≡ idsDeclared (now (body .entry)) at (now (ids .entry)) n && positionsWithin (now (body .entry)) at too (now (ids .entry)) (now (lens .entry)) n ⌝ }
+{
+    let table = bounds(ids, lens);
     let mut i = 0;
     while i < n {
-        let p = number::read_u32(body, too + 4 * i) as u64;
-        if !position_good(ids, lens, body[at + i], p) {
+        let p = number::read_u32(body, too + 4 * i);
+        let id = body[at + i] as usize;
+        if table[id] <= p {
             return false;
         }
         i += 1;

@@ -17,7 +17,7 @@ ghost use Rattle.transform.specs.Answer.{lent, Answers};
 // ---- the counters
 
 // The counters as an array.
-fn load(counters: &[u64]) -> [u64; 96]
+pub fn load(counters: &[u64]) -> [u64; 96]
     requires { ⌜ length (now counters) ≡ 96 ⌝ }
     ensures { λ r. ⌜ r ≡ now (counters .entry) ⌝ }
 {
@@ -31,14 +31,14 @@ fn load(counters: &[u64]) -> [u64; 96]
 }
 
 // A copy; that it has 96 elements is known of an array that a call returns.
-fn copied(counts: [u64; 96]) -> [u64; 96]
+pub fn copied(counts: [u64; 96]) -> [u64; 96]
     ensures { λ r. ⌜ r ≡ counts ⌝ }
 {
     counts
 }
 
 // The counters as the array has them.
-fn store(counters: &mut [u64], counts: &[u64; 96])
+pub fn store(counters: &mut [u64], counts: &[u64; 96])
     requires { ⌜ (length (now counters) ≡ 96) × (length (now counts) ≡ 96) ⌝ }
     ensures { λ _. ⌜ now (counters .exit) ≡ now (counts .entry) ⌝ }
 {
@@ -65,7 +65,7 @@ fn parts_ground(plan: &[u64], parts: &[u32], counts: &[u64; 96], m: usize) -> u8
 }
 
 // Whether the rows start .. end - 1 are rows of the source whose first node is `first`.
-fn in_source(lengths: &[u64], first: usize, start: u64, end: u64) -> bool
+pub fn in_source(lengths: &[u64], first: usize, start: u64, end: u64) -> bool
     requires { ⌜ first < 2 ^ 32 ⌝ }
     ensures { λ r. ⌜ r ≡ (leb start end && leb end (getD (now (lengths .entry)) (2 * first) 0)) ⌝ }
 {
@@ -184,7 +184,7 @@ pub fn try_extend(
 // ---- nulls
 
 // At most 2^63 rows: no part holds as many.
-fn at_most_far(n: u64) -> u64
+pub fn at_most_far(n: u64) -> u64
     ensures { λ r. ⌜ r ≡ min n far ⌝ }
 {
     if 9223372036854775808 < n {

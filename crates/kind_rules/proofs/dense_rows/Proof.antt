@@ -4,9 +4,9 @@ use native.Mathlib.Omega.{arith}
 use borrow.Author.Tests.{leb-true}
 use Rattle.array_data.specs.Tables.{offsetOf, lengthOf, place}
 use Rattle.lent_tables.specs.Lent.{tables}
-use Rattle.lent_tables.proofs.Laws.{no, yes, two-one, first-in, second-in}
+use Rattle.lent_tables.proofs.Laws.{two-one, first-in, second-in}
 use Rattle.kind_rules.specs.Rows.{denseRows}
-use Rattle.kind_rules.proofs.Laws.{fit-no, fit-yes, ids-short, ids-fit, ids-are, positions-are}
+use Rattle.kind_rules.proofs.Laws.{fit-no, fit-yes, ids-short, ids-fit, slots-are}
 use borrow.Author.Needs.{needs}
 use Rattle.kind_rules.proofs.dense_rows.Statement.{statement}
 use Rattle.kind_rules.proofs.dense_rows.Tie as tie
@@ -58,19 +58,6 @@ add-at c =
     let x = tables (a .lengths .now) (a .places .now) (a .body .now) in
     omega (arith, first-in x (a .k) (two-one x (a .k) (c .before .before .before .before .before .before .before .before .before .before .before .before .before .before .pre .1)), c .before .before .before .before .before .before .before .before .count-of .ensures, c .before .before .before .before .before .before .before .place .ensures, c .place3 .ensures, c .before .before .offset-of .ensures)
 
-ids-declared-requires : tie.Need-ids-declared-requires
-ids-declared-requires c κs =
-    let a = c .before .before .before .before .before .before .before .before .before .before .before .before .before .before .args in
-    let x = tables (a .lengths .now) (a .places .now) (a .body .now) in
-    omega (arith, first-in x (a .k) (two-one x (a .k) (c .before .before .before .before .before .before .before .before .before .before .before .before .before .before .pre .1)), c .before .before .before .before .before .before .before .before .count-of .ensures, c .before .before .before .before .before .before .before .place .ensures, c .place3 .ensures, c .before .before .offset-of .ensures, c .before .length-of .ensures)
-
-returns-3 : tie.Need-returns-3
-unfolding denseRows
-returns-3 c =
-    let a = c .before .before .before .before .before .before .before .before .before .before .before .before .before .before .before .before .args in
-    let x = tables (a .lengths .now) (a .places .now) (a .body .now) in
-    rw ((ids-fit x (a .k) (c .before .before .before .before .before .before .before .before .before .before .count-of .ensures) (c .before .before .before .before .before .before .before .before .before .place .ensures) (omega arith)), fit-yes 4 (c .before .before .before .before .before .before .rows-fit .ensures) (c .before .before .before .before .before .before .before .before .before .before .count-of .ensures) (c .before .before .before .before .before .before .before .place2 .ensures) (c .before .before .before .before .before .if2 .left), no (ids-are x (a .k) (c .before .before .place3 .ensures) (c .before .before .before .before .offset-of .ensures) (c .before .before .before .length-of .ensures) (a .ids .now) (c .before .ids-declared .ensures)) (c .if3 .taken))
-
 place-requires-4 : tie.Need-place-requires-4
 place-requires-4 c κs = search needs
 
@@ -79,31 +66,31 @@ cast-too c = search needs
 
 mul-too : tie.Need-mul-too
 mul-too c =
-    let a = c .before .before .before .before .before .before .before .before .before .before .before .before .before .before .before .before .before .args in
+    let a = c .before .before .before .before .before .before .before .before .before .before .before .before .before .before .before .args in
     let x = tables (a .lengths .now) (a .places .now) (a .body .now) in
-    let h : (offsetOf x (a .k) + lengthOf x (a .k)) * 4 ≤ place x (a .k) 6 = leb-true _ _ (fit-yes 4 (c .before .before .before .before .before .before .before .rows-fit .ensures) (c .before .before .before .before .before .before .before .before .before .before .before .count-of .ensures) (c .before .before .before .before .before .before .before .before .place2 .ensures) (c .before .before .before .before .before .before .if2 .left)) in
-    omega (arith, second-in x (a .k) (c .before .before .before .before .before .before .before .before .before .before .before .before .before .before .before .before .before .pre .1), c .place4 .ensures, c .before .before .before .before .before .offset-of .ensures)
+    let h : (offsetOf x (a .k) + lengthOf x (a .k)) * 4 ≤ place x (a .k) 6 = leb-true _ _ (fit-yes 4 (c .before .before .before .before .before .rows-fit .ensures) (c .before .before .before .before .before .before .before .before .before .count-of .ensures) (c .before .before .before .before .before .before .place2 .ensures) (c .before .before .before .before .if2 .left)) in
+    omega (arith, second-in x (a .k) (c .before .before .before .before .before .before .before .before .before .before .before .before .before .before .before .pre .1), c .place4 .ensures, c .before .before .before .offset-of .ensures)
 
 add-too : tie.Need-add-too
 add-too c =
-    let a = c .before .before .before .before .before .before .before .before .before .before .before .before .before .before .before .before .before .args in
+    let a = c .before .before .before .before .before .before .before .before .before .before .before .before .before .before .before .args in
     let x = tables (a .lengths .now) (a .places .now) (a .body .now) in
-    let h : (offsetOf x (a .k) + lengthOf x (a .k)) * 4 ≤ place x (a .k) 6 = leb-true _ _ (fit-yes 4 (c .before .before .before .before .before .before .before .rows-fit .ensures) (c .before .before .before .before .before .before .before .before .before .before .before .count-of .ensures) (c .before .before .before .before .before .before .before .before .place2 .ensures) (c .before .before .before .before .before .before .if2 .left)) in
-    omega (arith, second-in x (a .k) (c .before .before .before .before .before .before .before .before .before .before .before .before .before .before .before .before .before .pre .1), c .place4 .ensures, c .before .before .before .before .before .offset-of .ensures)
+    let h : (offsetOf x (a .k) + lengthOf x (a .k)) * 4 ≤ place x (a .k) 6 = leb-true _ _ (fit-yes 4 (c .before .before .before .before .before .rows-fit .ensures) (c .before .before .before .before .before .before .before .before .before .count-of .ensures) (c .before .before .before .before .before .before .place2 .ensures) (c .before .before .before .before .if2 .left)) in
+    omega (arith, second-in x (a .k) (c .before .before .before .before .before .before .before .before .before .before .before .before .before .before .before .pre .1), c .place4 .ensures, c .before .before .before .offset-of .ensures)
 
-positions-within-requires : tie.Need-positions-within-requires
-positions-within-requires c κs =
-    let a = c .before .before .before .before .before .before .before .before .before .before .before .before .before .before .before .before .before .args in
+dense-good-requires : tie.Need-dense-good-requires
+dense-good-requires c κs =
+    let a = c .before .before .before .before .before .before .before .before .before .before .before .before .before .before .before .args in
     let x = tables (a .lengths .now) (a .places .now) (a .body .now) in
-    let h : (offsetOf x (a .k) + lengthOf x (a .k)) * 4 ≤ place x (a .k) 6 = leb-true _ _ (fit-yes 4 (c .before .before .before .before .before .before .before .rows-fit .ensures) (c .before .before .before .before .before .before .before .before .before .before .before .count-of .ensures) (c .before .before .before .before .before .before .before .before .place2 .ensures) (c .before .before .before .before .before .before .if2 .left)) in
-    (omega (arith, first-in x (a .k) (two-one x (a .k) (c .before .before .before .before .before .before .before .before .before .before .before .before .before .before .before .before .before .pre .1)), c .before .before .before .before .before .before .before .before .before .before .before .count-of .ensures, c .before .before .before .before .before .before .before .before .before .before .place .ensures, c .before .before .before .place3 .ensures, c .before .before .before .before .before .offset-of .ensures, c .before .before .before .before .length-of .ensures), omega (arith, second-in x (a .k) (c .before .before .before .before .before .before .before .before .before .before .before .before .before .before .before .before .before .pre .1), c .place4 .ensures, c .before .before .before .before .before .offset-of .ensures, c .before .before .before .before .length-of .ensures))
+    let h : (offsetOf x (a .k) + lengthOf x (a .k)) * 4 ≤ place x (a .k) 6 = leb-true _ _ (fit-yes 4 (c .before .before .before .before .before .rows-fit .ensures) (c .before .before .before .before .before .before .before .before .before .count-of .ensures) (c .before .before .before .before .before .before .place2 .ensures) (c .before .before .before .before .if2 .left)) in
+    (omega (arith, first-in x (a .k) (two-one x (a .k) (c .before .before .before .before .before .before .before .before .before .before .before .before .before .before .before .pre .1)), c .before .before .before .before .before .before .before .before .before .count-of .ensures, c .before .before .before .before .before .before .before .before .place .ensures, c .before .place3 .ensures, c .before .before .before .offset-of .ensures, c .before .before .length-of .ensures), omega (arith, second-in x (a .k) (c .before .before .before .before .before .before .before .before .before .before .before .before .before .before .before .pre .1), c .place4 .ensures, c .before .before .before .offset-of .ensures, c .before .before .length-of .ensures))
 
-returns-4 : tie.Need-returns-4
+returns-3 : tie.Need-returns-3
 unfolding denseRows
-returns-4 c =
-    let a = c .before .before .before .before .before .before .before .before .before .before .before .before .before .before .before .before .before .before .args in
+returns-3 c =
+    let a = c .before .before .before .before .before .before .before .before .before .before .before .before .before .before .before .before .args in
     let x = tables (a .lengths .now) (a .places .now) (a .body .now) in
-    rw ((ids-fit x (a .k) (c .before .before .before .before .before .before .before .before .before .before .before .before .count-of .ensures) (c .before .before .before .before .before .before .before .before .before .before .before .place .ensures) (omega arith)), fit-yes 4 (c .before .before .before .before .before .before .before .before .rows-fit .ensures) (c .before .before .before .before .before .before .before .before .before .before .before .before .count-of .ensures) (c .before .before .before .before .before .before .before .before .before .place2 .ensures) (c .before .before .before .before .before .before .before .if2 .left), yes (ids-are x (a .k) (c .before .before .before .before .place3 .ensures) (c .before .before .before .before .before .before .offset-of .ensures) (c .before .before .before .before .before .length-of .ensures) (a .ids .now) (c .before .before .before .ids-declared .ensures)) (c .before .before .if3 .left)) (positions-are x (a .k) (c .before .before .before .before .place3 .ensures) (c .before .before .before .before .before .before .offset-of .ensures) (c .before .before .before .before .before .length-of .ensures) (a .ids .now) (a .lens .now) (c .before .place4 .ensures) (c .positions-within .ensures))
+    rw ((ids-fit x (a .k) (c .before .before .before .before .before .before .before .before .before .before .count-of .ensures) (c .before .before .before .before .before .before .before .before .before .place .ensures) (omega arith)), fit-yes 4 (c .before .before .before .before .before .before .rows-fit .ensures) (c .before .before .before .before .before .before .before .before .before .before .count-of .ensures) (c .before .before .before .before .before .before .before .place2 .ensures) (c .before .before .before .before .before .if2 .left)) (slots-are x (a .k) (c .before .before .place3 .ensures) (c .before .before .before .before .offset-of .ensures) (c .before .before .before .length-of .ensures) (a .ids .now) (a .lens .now) (c .before .place4 .ensures) (c .dense-good .ensures))
 
 pub dense-rows-spec : {M : Type 1} → statement M
 dense-rows-spec =
@@ -121,11 +108,9 @@ dense-rows-spec =
     place-requires-3
     cast-at
     add-at
-    ids-declared-requires
-    returns-3
     place-requires-4
     cast-too
     mul-too
     add-too
-    positions-within-requires
-    returns-4)
+    dense-good-requires
+    returns-3)

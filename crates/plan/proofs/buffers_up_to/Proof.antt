@@ -46,7 +46,7 @@ returns : tie.Need-returns Inv-loop μ-loop
 returns c =
     let z = c .before .before .before .before .args in
     let l = c .before .loop in
-    up-to-all (z .places .now) (z .sources .now) (z .i) (z .s) (l .t) (omega arith) (l .inv .2)
+    (up-to-all (z .places .now) (z .sources .now) (z .i) (z .s) (l .t) (omega arith) (l .inv .2), omega arith)
 
 pub buffers-up-to-spec : {M : Type 1} → statement M
 buffers-up-to-spec =

@@ -1,6 +1,5 @@
 -- `plan::write_bases` meets its contract. The invariant: the first q words are written. Assumes nothing.
 use mathlib.Core.Path.{_≡_}
-use mathlib.Core.List.{[]}
 use Prim.Native.Nat.{_+_, _*_, _-_, _/_, _%_, _≤_}
 use native.Mathlib.Omega.{arith}
 use Rattle.lent_tables.specs.Lent.{tables}
@@ -10,15 +9,15 @@ use Rattle.plan.proofs.write_bases.Statement.{statement}
 use Rattle.plan.proofs.write_bases.Tie as tie
 
 abbrev Inv-loop : tie.InvT-loop
-Inv-loop sources lengths places m state₀ q₀ state q = (q ≤ 32 * m) × (state ≡ filled (λ k. 352 + k) (λ words k. baseWord (tables lengths places []) sources m words (k / 32) (k % 32)) q state₀)
+Inv-loop sources lengths places body m state₀ q₀ state q = (q ≤ 32 * m) × (state ≡ filled (λ k. 352 + k) (λ words k. baseWord (tables lengths places body) sources m words (k / 32) (k % 32)) q state₀)
 
 abbrev μ-loop : tie.MeasureT-loop
-μ-loop sources lengths places m state₀ q₀ state q = 32 * m - q
+μ-loop sources lengths places body m state₀ q₀ state q = 32 * m - q
 
 loop-holds : tie.Need-loop-holds Inv-loop μ-loop
 loop-holds c =
-    let z = c .before .before .before .args in
-    (omega arith, filled-none (λ k. 352 + k) (λ words k. baseWord (tables (z .lengths .now) (z .places .now) []) (z .sources .now) (z .m) words (k / 32) (k % 32)) (z .state .now))
+    let z = c .before .before .before .before .args in
+    (omega arith, filled-none (λ k. 352 + k) (λ words k. baseWord (tables (z .lengths .now) (z .places .now) (z .body .now)) (z .sources .now) (z .m) words (k / 32) (k % 32)) (z .state .now))
 
 mul-loop : tie.Need-mul-loop Inv-loop μ-loop
 mul-loop c = omega arith
@@ -43,16 +42,16 @@ loop-less c = omega arith
 
 loop-again : tie.Need-loop-again Inv-loop μ-loop
 loop-again c =
-    let z = c .before .before .before .before .before .before .before .args in
+    let z = c .before .before .before .before .before .before .before .before .args in
     let l = c .before .before .before .loop in
-    (omega arith, filled-more (λ k. 352 + k) (λ words k. baseWord (tables (z .lengths .now) (z .places .now) []) (z .sources .now) (z .m) words (k / 32) (k % 32)) (l .q) (z .state .now) (l .state) (l .inv .1) (c .base-word .ensures))
+    (omega arith, filled-more (λ k. 352 + k) (λ words k. baseWord (tables (z .lengths .now) (z .places .now) (z .body .now)) (z .sources .now) (z .m) words (k / 32) (k % 32)) (l .q) (z .state .now) (l .state) (l .inv .1) (c .base-word .ensures))
 
 returns : tie.Need-returns Inv-loop μ-loop
 unfolding withBases
 returns c =
-    let z = c .before .before .before .before .before .args in
+    let z = c .before .before .before .before .before .before .args in
     let l = c .before .loop in
-    filled-all (λ k. 352 + k) (λ words k. baseWord (tables (z .lengths .now) (z .places .now) []) (z .sources .now) (z .m) words (k / 32) (k % 32)) (l .q) (32 * z .m) (z .state .now) (l .state) (omega arith) (l .inv .1)
+    filled-all (λ k. 352 + k) (λ words k. baseWord (tables (z .lengths .now) (z .places .now) (z .body .now)) (z .sources .now) (z .m) words (k / 32) (k % 32)) (l .q) (32 * z .m) (z .state .now) (l .state) (omega arith) (l .inv .1)
 
 pub write-bases-spec : {M : Type 1} → statement M
 write-bases-spec =

@@ -1,6 +1,5 @@
 -- `plan::write_joined` meets its contract. The invariant: the first i nodes have their word. Assumes nothing.
 use mathlib.Core.Path.{_≡_}
-use mathlib.Core.List.{[]}
 use Prim.Native.Nat.{_+_, _*_, _-_, _≤_}
 use native.Mathlib.Omega.{arith}
 use Rattle.lent_tables.specs.Lent.{tables}
@@ -10,15 +9,15 @@ use Rattle.plan.proofs.write_joined.Statement.{statement}
 use Rattle.plan.proofs.write_joined.Tie as tie
 
 abbrev Inv-loop : tie.InvT-loop
-Inv-loop sources lengths places m n state₀ i₀ state i = (i ≤ n) × (state ≡ filled (λ k. 8 * k + 7) (joinedWord (tables lengths places []) sources m) i state₀)
+Inv-loop sources lengths places body m n state₀ i₀ state i = (i ≤ n) × (state ≡ filled (λ k. 8 * k + 7) (joinedWord (tables lengths places body) sources m) i state₀)
 
 abbrev μ-loop : tie.MeasureT-loop
-μ-loop sources lengths places m n state₀ i₀ state i = n - i
+μ-loop sources lengths places body m n state₀ i₀ state i = n - i
 
 loop-holds : tie.Need-loop-holds Inv-loop μ-loop
 loop-holds c =
-    let z = c .before .before .before .args in
-    (omega arith, filled-none (λ k. 8 * k + 7) (joinedWord (tables (z .lengths .now) (z .places .now) []) (z .sources .now) (z .m)) (z .state .now))
+    let z = c .before .before .before .before .args in
+    (omega arith, filled-none (λ k. 8 * k + 7) (joinedWord (tables (z .lengths .now) (z .places .now) (z .body .now)) (z .sources .now) (z .m)) (z .state .now))
 
 joined-word-requires : tie.Need-joined-word-requires Inv-loop μ-loop
 joined-word-requires c κs = omega arith
@@ -43,16 +42,16 @@ loop-less c = omega arith
 
 loop-again : tie.Need-loop-again Inv-loop μ-loop
 loop-again c =
-    let z = c .before .before .before .before .before .before .before .args in
+    let z = c .before .before .before .before .before .before .before .before .args in
     let l = c .before .before .before .loop in
-    (omega arith, filled-more (λ k. 8 * k + 7) (joinedWord (tables (z .lengths .now) (z .places .now) []) (z .sources .now) (z .m)) (l .i) (z .state .now) (l .state) (l .inv .1) (c .joined-word .ensures))
+    (omega arith, filled-more (λ k. 8 * k + 7) (joinedWord (tables (z .lengths .now) (z .places .now) (z .body .now)) (z .sources .now) (z .m)) (l .i) (z .state .now) (l .state) (l .inv .1) (c .joined-word .ensures))
 
 returns : tie.Need-returns Inv-loop μ-loop
 unfolding withJoined
 returns c =
-    let z = c .before .before .before .before .before .args in
+    let z = c .before .before .before .before .before .before .args in
     let l = c .before .loop in
-    filled-all (λ k. 8 * k + 7) (joinedWord (tables (z .lengths .now) (z .places .now) []) (z .sources .now) (z .m)) (l .i) (z .n) (z .state .now) (l .state) (omega arith) (l .inv .1)
+    filled-all (λ k. 8 * k + 7) (joinedWord (tables (z .lengths .now) (z .places .now) (z .body .now)) (z .sources .now) (z .m)) (l .i) (z .n) (z .state .now) (l .state) (omega arith) (l .inv .1)
 
 pub write-joined-spec : {M : Type 1} → statement M
 write-joined-spec =

@@ -2,7 +2,6 @@
 use Prim.Native.Nat.{suc, _-_, _≤_}
 use mathlib.Core.Path.{_≡_, refl, sym}
 use mathlib.Core.Bool.{true}
-use mathlib.Core.List.{[]}
 use native.Mathlib.Numerals.{add-one}
 use native.Mathlib.Omega.{arith}
 use Rattle.model.specs.Opening.{shared}
@@ -14,10 +13,10 @@ use Rattle.sharing.proofs.all_share.Statement.{statement}
 use Rattle.sharing.proofs.all_share.Tie as tie
 
 abbrev Inv-loop : tie.InvT-loop
-Inv-loop sources lengths places m i string s₀ s = (s ≤ m - 1) × (shared (suc s) (dictAt (tables lengths places []) sources string i) ≡ true)
+Inv-loop sources lengths places body m i string s₀ s = (s ≤ m - 1) × (shared (suc s) (dictAt (tables lengths places body) sources string i) ≡ true)
 
 abbrev μ-loop : tie.MeasureT-loop
-μ-loop sources lengths places m i string s₀ s = m - s
+μ-loop sources lengths places body m i string s₀ s = m - s
 
 loop-holds : tie.Need-loop-holds Inv-loop μ-loop
 loop-holds c = (omega arith, refl)
@@ -39,9 +38,9 @@ ptr-eq-requires c κs = omega arith
 
 returns : tie.Need-returns Inv-loop μ-loop
 returns c =
-    let a = c .before .before .before .before .before .before .before .before .before .args in
+    let a = c .before .before .before .before .before .before .before .before .before .before .args in
     let s = c .before .before .before .before .before .loop .s in
-    sym (share-not (dictAt (tables (a .lengths .now) (a .places .now) []) (a .sources .now) (a .string) (a .i)) s (a .m) (omega arith) (no (pair-at (tables (a .lengths .now) (a .places .now) []) (a .sources .now) (a .i) (a .string) (s) (c .before .ptr-eq .ensures) (add-one (s)) (c .before .before .before .node-of .ensures .0) (c .before .before .node-of2 .ensures .0)) (c .if1 .taken)))
+    sym (share-not (dictAt (tables (a .lengths .now) (a .places .now) (a .body .now)) (a .sources .now) (a .string) (a .i)) s (a .m) (omega arith) (no (pair-at (tables (a .lengths .now) (a .places .now) (a .body .now)) (a .sources .now) (a .i) (a .string) (s) (c .before .ptr-eq .ensures) (add-one (s)) (c .before .before .before .node-of .ensures .0) (c .before .before .node-of2 .ensures .0)) (c .if1 .taken)))
 
 add-s : tie.Need-add-s Inv-loop μ-loop
 add-s c = omega arith
@@ -51,15 +50,15 @@ loop-less c = omega arith
 
 loop-again : tie.Need-loop-again Inv-loop μ-loop
 loop-again c =
-    let a = c .before .before .before .before .before .before .before .before .before .args in
+    let a = c .before .before .before .before .before .before .before .before .before .before .args in
     let s = c .before .before .before .before .before .loop .s in
-    (omega arith, rw (add-one s) (share-more (dictAt (tables (a .lengths .now) (a .places .now) []) (a .sources .now) (a .string) (a .i)) s (c .before .before .before .before .before .loop .inv .1) (yes (pair-at (tables (a .lengths .now) (a .places .now) []) (a .sources .now) (a .i) (a .string) (s) (c .before .ptr-eq .ensures) (add-one (s)) (c .before .before .before .node-of .ensures .0) (c .before .before .node-of2 .ensures .0)) (c .if1 .left))))
+    (omega arith, rw (add-one s) (share-more (dictAt (tables (a .lengths .now) (a .places .now) (a .body .now)) (a .sources .now) (a .string) (a .i)) s (c .before .before .before .before .before .loop .inv .1) (yes (pair-at (tables (a .lengths .now) (a .places .now) (a .body .now)) (a .sources .now) (a .i) (a .string) (s) (c .before .ptr-eq .ensures) (add-one (s)) (c .before .before .before .node-of .ensures .0) (c .before .before .node-of2 .ensures .0)) (c .if1 .left))))
 
 returns-2 : tie.Need-returns-2 Inv-loop μ-loop
 returns-2 c =
-    let a = c .before .before .before .before .before .args in
+    let a = c .before .before .before .before .before .before .args in
     let s = c .before .loop .s in
-    sym (share-all (dictAt (tables (a .lengths .now) (a .places .now) []) (a .sources .now) (a .string) (a .i)) s (a .m) (omega arith) (omega arith) (c .before .loop .inv .1))
+    sym (share-all (dictAt (tables (a .lengths .now) (a .places .now) (a .body .now)) (a .sources .now) (a .string) (a .i)) s (a .m) (omega arith) (omega arith) (c .before .loop .inv .1))
 
 pub all-share-spec : {M : Type 1} → statement M
 all-share-spec =

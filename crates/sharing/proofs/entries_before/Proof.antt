@@ -47,7 +47,7 @@ returns : tie.Need-returns Inv-loop μ-loop
 returns c =
     let a = c .before .before .before .before .args in
     let e : c .before .loop .s ≡ a .j = omega arith in
-    λ places string. (rw e at (c .before .loop .inv .1)) ∙ ap capped (entries-same (dictAt (tables (a .lengths .now) [] []) (a .sources .now) true (a .i)) (dictAt (tables (a .lengths .now) places []) (a .sources .now) string (a .i)) (λ s. refl) (a .j))
+    λ places body string. (rw e at (c .before .loop .inv .1)) ∙ ap capped (entries-same (dictAt (tables (a .lengths .now) [] []) (a .sources .now) true (a .i)) (dictAt (tables (a .lengths .now) places body) (a .sources .now) string (a .i)) (λ s. refl) (a .j))
 
 pub entries-before-spec : {M : Type 1} → statement M
 entries-before-spec =

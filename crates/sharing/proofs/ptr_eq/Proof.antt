@@ -1,5 +1,4 @@
 -- `sharing::ptr_eq` meets its contract. Assumes nothing.
-use mathlib.Core.List.{[]}
 use Rattle.lent_tables.specs.Lent.{tables}
 use Rattle.sharing.proofs.Laws.{ptr-is}
 use borrow.Author.Needs.{needs}
@@ -23,8 +22,8 @@ same-starts-requires c κs = search needs
 
 returns : tie.Need-returns
 returns c =
-    let a = c .before .before .before .before .before .before .before .args in
-    ptr-is (tables (a .lengths .now) (a .places .now) []) (a .string) (a .a) (a .b) (c .before .before .before .before .offset-of .ensures) (c .before .before .before .offset-of2 .ensures) (c .before .before .length-of .ensures) (c .before .length-of2 .ensures) (c .same-starts .ensures)
+    let a = c .before .before .before .before .before .before .before .before .args in
+    ptr-is (tables (a .lengths .now) (a .places .now) (a .body .now)) (a .string) (a .a) (a .b) (c .before .before .before .before .offset-of .ensures) (c .before .before .before .offset-of2 .ensures) (c .before .before .length-of .ensures) (c .before .length-of2 .ensures) (c .same-starts .ensures)
 
 pub ptr-eq-spec : {M : Type 1} → statement M
 ptr-eq-spec =

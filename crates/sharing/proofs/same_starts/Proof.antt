@@ -1,6 +1,5 @@
 -- `sharing::same_starts` meets its contract. Assumes nothing.
 use Rattle.lent_tables.specs.Lent.{tables}
-use mathlib.Core.List.{[]}
 use Rattle.sharing.proofs.Laws.{starts-are}
 use borrow.Author.Needs.{needs}
 use Rattle.sharing.proofs.same_starts.Statement.{statement}
@@ -26,8 +25,8 @@ place-requires-4 c κs = search needs
 
 returns : tie.Need-returns
 returns c =
-    let a = c .before .before .before .before .before .before .before .args in
-    starts-are (tables [] (a .places .now) []) (a .string) (a .a) (a .b) (c .before .before .before .before .before .valid-start .ensures) (c .before .before .before .before .valid-start2 .ensures)
+    let a = c .before .before .before .before .before .before .before .before .before .args in
+    starts-are (tables (a .lengths .now) (a .places .now) (a .body .now)) (a .string) (a .a) (a .b) (c .before .before .before .before .before .valid-start .ensures) (c .before .before .before .before .valid-start2 .ensures)
     (c .before .before .before .place .ensures) (c .before .before .place2 .ensures) (c .before .place3 .ensures) (c .place4 .ensures)
 
 pub same-starts-spec : {M : Type 1} → statement M

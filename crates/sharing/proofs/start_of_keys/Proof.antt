@@ -1,5 +1,4 @@
 -- `sharing::start_of_keys` meets its contract. Assumes nothing.
-use mathlib.Core.List.{[]}
 use Rattle.lent_tables.specs.Lent.{tables}
 use Rattle.sharing.specs.Sources.{dictAt}
 use Rattle.sharing.proofs.Keys.{capped-shared, capped-joined}
@@ -12,16 +11,16 @@ all-share-requires c κs = search needs
 
 returns : tie.Need-returns
 returns c =
-    let a = c .before .before .before .before .before .args in
-    capped-shared (a .m) (dictAt (tables (a .lengths .now) (a .places .now) []) (a .sources .now) (a .string) (a .i)) (a .j) (c .before .all-share .ensures) (c .if1 .taken)
+    let a = c .before .before .before .before .before .before .args in
+    capped-shared (a .m) (dictAt (tables (a .lengths .now) (a .places .now) (a .body .now)) (a .sources .now) (a .string) (a .i)) (a .j) (c .before .all-share .ensures) (c .if1 .taken)
 
 entries-before-requires : tie.Need-entries-before-requires
 entries-before-requires c κs = search needs
 
 returns-2 : tie.Need-returns-2
 returns-2 c =
-    let a = c .before .before .before .before .before .before .args in
-    capped-joined (a .m) (dictAt (tables (a .lengths .now) (a .places .now) []) (a .sources .now) (a .string) (a .i)) (a .j) (c .before .before .all-share .ensures) (c .before .if1 .left) (c .entries-before .ensures (a .places .now) (a .string))
+    let a = c .before .before .before .before .before .before .before .args in
+    capped-joined (a .m) (dictAt (tables (a .lengths .now) (a .places .now) (a .body .now)) (a .sources .now) (a .string) (a .i)) (a .j) (c .before .before .all-share .ensures) (c .before .if1 .left) (c .entries-before .ensures (a .places .now) (a .body .now) (a .string))
 
 pub start-of-keys-spec : {M : Type 1} → statement M
 start-of-keys-spec =

@@ -1,28 +1,34 @@
 -- `sharing::valid_start` meets its contract. Assumes nothing.
+use mathlib.Core.Path.{sym, _∙_}
 use native.Mathlib.Omega.{arith}
-use Rattle.lent_tables.proofs.Laws.{is-none, is-some}
-use borrow.Author.Needs.{needs}
 use Rattle.sharing.proofs.valid_start.Statement.{statement}
 use Rattle.sharing.proofs.valid_start.Tie as tie
 
-place-requires : tie.Need-place-requires
-place-requires c κs = search needs
+has-no-null-requires : tie.Need-has-no-null-requires
+has-no-null-requires c κs = omega arith
 
 returns : tie.Need-returns
-returns c = rw (is-none (c .before .place .ensures) (c .if1 .taken))
+returns c = rw (sym (c .before .has-no-null .ensures) ∙ c .if1 .taken)
 
-place-requires-2 : tie.Need-place-requires-2
-place-requires-2 c κs = search needs
+place-requires : tie.Need-place-requires
+place-requires c κs = omega arith
 
 cast-result : tie.Need-cast-result
-cast-result c = search needs
+cast-result c = omega arith
 
 add-result : tie.Need-add-result
-add-result c = search needs
+add-result c = omega arith
 
 returns-2 : tie.Need-returns-2
-returns-2 c = rw (is-some (c .before .before .place .ensures) (c .before .if1 .left)) (omega (arith, c .place2 .ensures))
+returns-2 c = rw (sym (c .before .before .has-no-null .ensures) ∙ c .before .if1 .left) (omega (arith, c .place .ensures))
 
 pub valid-start-spec : {M : Type 1} → statement M
 valid-start-spec =
-    tie.close (tie.spec place-requires returns place-requires-2 cast-result add-result returns-2)
+    tie.close
+    (tie.spec
+    has-no-null-requires
+    returns
+    place-requires
+    cast-result
+    add-result
+    returns-2)

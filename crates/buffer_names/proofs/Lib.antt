@@ -1,0 +1,3 @@
+-- What the tables of the finished array go by.
+pub mod Written
+pub mod Names

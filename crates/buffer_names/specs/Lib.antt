@@ -1,0 +1,2 @@
+-- The definitions that the contracts of `buffer_names` cite.
+pub mod Names

@@ -1,0 +1,2 @@
+-- What the lengths and null counts of the finished array go by.
+pub mod Nulls

@@ -1,0 +1,2 @@
+-- What the places of the finished array go by.
+pub mod Spots

@@ -1,0 +1,2 @@
+-- What finishing goes by.
+pub mod Whole

@@ -1,0 +1,52 @@
+-- `into_builder::load` meets its contract. The invariant: the first i counters are written. Assumes nothing.
+use mathlib.Core.Path.{refl, _∙_}
+use Prim.Native.Nat.{_-_, _≤_}
+use lib.ListN.{getD, replicate}
+use Rattle.columnar.specs.Row.{seg}
+use Rattle.buffer_names.specs.Names.{Behind}
+use Rattle.buffer_names.proofs.Written.{behind-none, table-more, table-all, seg-self}
+use native.Mathlib.Omega.{arith}
+use Rattle.into_builder.proofs.load.Statement.{statement}
+use Rattle.into_builder.proofs.load.Tie as tie
+
+abbrev Inv-loop : tie.InvT-loop
+Inv-loop counters counts₀ i₀ counts i = (i ≤ 96) × Behind (replicate 96 0) counts 0 i (seg (λ q. getD counters q 0) 0 i)
+
+abbrev μ-loop : tie.MeasureT-loop
+μ-loop counters counts₀ i₀ counts i = 96 - i
+
+loop-holds : tie.Need-loop-holds Inv-loop μ-loop
+loop-holds c = (omega arith, behind-none (replicate 96 0) 0)
+
+mul-counts : tie.Need-mul-counts Inv-loop μ-loop
+mul-counts c = omega arith
+
+shared-slice-read-counts : tie.Need-shared-slice-read-counts Inv-loop μ-loop
+shared-slice-read-counts c = omega arith
+
+mul-counts-2 : tie.Need-mul-counts-2 Inv-loop μ-loop
+mul-counts-2 c = omega arith
+
+array-write-counts : tie.Need-array-write-counts Inv-loop μ-loop
+array-write-counts c = omega (arith, c .before .before .loop .inv .1 .same)
+
+add-i : tie.Need-add-i Inv-loop μ-loop
+add-i c = omega arith
+
+loop-less : tie.Need-loop-less Inv-loop μ-loop
+loop-less c = omega arith
+
+loop-again : tie.Need-loop-again Inv-loop μ-loop
+loop-again c =
+    let l = c .before .before .loop in
+    (omega arith, table-more (λ q. getD (c .before .before .before .args .counters .now) q 0) (replicate 96 0) (l .counts) (l .i) _ (omega arith) (l .inv .1) refl)
+
+returns : tie.Need-returns Inv-loop μ-loop
+returns c =
+    let l = c .before .loop in
+    table-all (λ q. getD (c .before .before .args .counters .now) q 0) (replicate 96 0) (l .counts) (l .i) 96 (omega arith) refl (l .inv .1) ∙ seg-self (c .before .before .args .counters .now) 96 (c .before .before .pre)
+
+pub load-spec : {M : Type 1} → statement M
+load-spec =
+    tie.close
+    (tie.spec Inv-loop μ-loop loop-holds mul-counts shared-slice-read-counts mul-counts-2 array-write-counts add-i loop-less loop-again returns)

@@ -1,0 +1,13 @@
+-- What a caller sees of finishing. Assumes nothing.
+use mathlib.Core.Path.{_≡_}
+use mathlib.Core.List.{List}
+use Prim.Native.Nat.{ℕ}
+use Rattle.finishing.specs.Finish.{Finished}
+
+-- the ground that is answered, and the four tables as they are left
+pub record Answers (a : Finished) (r : ℕ) (lengths nulls places buffers : List ℕ) : Type 0 where
+  pub ground : r ≡ a .ground
+  pub lengths-are : lengths ≡ a .lengths
+  pub nulls-are : nulls ≡ a .nulls
+  pub places-are : places ≡ a .places
+  pub buffers-are : buffers ≡ a .buffers

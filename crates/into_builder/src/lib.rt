@@ -1,0 +1,152 @@
+// The finished array of a join on lent memory: the tables that say where it stands (docs/FORMAT.md). No byte of it is moved.
+// Follows `into_builder` of arrow-data 60.1.0 src/transform/mod.rs, Apache-2.0; see NOTICE.
+ghost use mathlib.Core.Path.{_≡_};
+ghost use mathlib.Core.Bool.{_&&_};
+ghost use mathlib.Core.List.{List};
+ghost use Prim.Native.Nat.{ℕ, _+_, _*_};
+ghost use lib.ListN.{length};
+ghost use lib.Dec.{leb, eqb};
+ghost use Rattle.walk.specs.State.{nulls};
+ghost use Rattle.parts.specs.Parts.{nodesOf, partsWithin, partsHold};
+ghost use Rattle.finishing.specs.Finish.{buffersBefore, finishing};
+ghost use Rattle.buffer_names.specs.Names.{lent, countBefore};
+ghost use Rattle.into_builder.specs.Answer.{Answers};
+
+// ---- what is asked of a join
+
+// How many data buffers the finished array names: the table of them has two numbers for each.
+pub fn buffer_total(plan: &[u64], sources: &[u32], places: &[u32]) -> u64
+    ensures { λ r. ⌜ ((parts lengths body buffers counts room : List ℕ) (base : ℕ) → r ≡ buffersBefore (lent (now (plan .entry)) parts (now (sources .entry)) lengths (now (places .entry)) body) buffers counts room base (nodesOf (now (plan .entry)))) ⌝ }
+{
+    buffer_names::count_before(plan, sources, places, parts::node_count(plan))
+}
+
+// The running null count.
+pub fn running_nulls(counters: &[u64]) -> u64
+    ensures { λ r. ⌜ r ≡ nulls (now (counters .entry)) 0 ⌝ }
+{
+    lent_tables::at_u64(counters, 1)
+}
+
+// ---- tests
+
+// The counters as an array.
+fn load(counters: &[u64]) -> [u64; 96]
+    requires { ⌜ length (now counters) ≡ 96 ⌝ }
+    ensures { λ r. ⌜ r ≡ now (counters .entry) ⌝ }
+{
+    let mut counts = [0u64; 96];
+    let mut i = 0;
+    while i < 96 {
+        counts[i] = counters[i];
+        i += 1;
+    }
+    counts
+}
+
+// Whether a room of m bytes from `base` on ends in a body of at most 2^32 - 1 bytes: ground 9 where not.
+fn body_fits(base: u32, m: usize) -> bool
+    ensures { λ r. ⌜ r ≡ leb (base + m) 4294967295 ⌝ }
+{
+    m <= (4294967295 - base) as usize
+}
+
+// Whether counters, parts and a room of m bytes are those of a join.
+fn room_fits(plan: &[u64], parts: &[u32], counters: &[u64], m: usize) -> bool
+    ensures { λ r. ⌜ r ≡ (eqb (length (now (counters .entry))) 96 && partsWithin (now (plan .entry)) (now (parts .entry)) m && partsHold (now (plan .entry)) (now (counters .entry)) (now (parts .entry))) ⌝ }
+{
+    if counters.len() != 96 {
+        return false;
+    }
+    if !parts::parts_within(plan, parts, m) {
+        return false;
+    }
+    let counts = load(counters);
+    parts::parts_hold(plan, &counts, parts)
+}
+
+// Whether tables of these lengths are those that the finished array takes.
+fn tables_fit(
+    plan: &[u64],
+    sources: &[u32],
+    places: &[u32],
+    lengths: usize,
+    nulls: usize,
+    spots: usize,
+    names: usize,
+) -> bool
+    ensures { λ r. ⌜ r ≡ (eqb lengths (2 * nodesOf (now (plan .entry))) && eqb nulls (nodesOf (now (plan .entry))) && eqb spots (9 * nodesOf (now (plan .entry))) && eqb names (2 * countBefore (now (plan .entry)) (now (sources .entry)) (now (places .entry)) (nodesOf (now (plan .entry)))) && leb (countBefore (now (plan .entry)) (now (sources .entry)) (now (places .entry)) (nodesOf (now (plan .entry)))) 4294967295) ⌝ }
+{
+    let n = parts::node_count(plan);
+    let total = buffer_names::count_before(plan, sources, places, n);
+    let nodes = (lengths == 2 * n) & (nulls == n) & (spots == 9 * n);
+    nodes & (names as u64 == 2 * total) & (total <= 4294967295)
+}
+
+// ---- the whole
+
+// THE FINISHED ARRAY into the tables that are lent: 0, or the ground of refusal, with nothing written. The room begins at `base` in the body
+// that the tables are about.
+pub fn into_builder(
+    plan: &[u64],
+    parts: &[u32],
+    sources: &[u32],
+    lengths: &[u64],
+    places: &[u32],
+    buffers: &[u32],
+    body: &[u8],
+    counters: &[u64],
+    room: &[u8],
+    base: u32,
+    new_lengths: &mut [u64],
+    new_nulls: &mut [u64],
+    new_places: &mut [u32],
+    new_buffers: &mut [u32],
+) -> u8
+    ensures { λ r. ⌜ Answers (finishing (lent (now (plan .entry)) (now (parts .entry)) (now (sources .entry)) (now (lengths .entry)) (now (places .entry)) (now (body .entry))) (now (buffers .entry)) (now (counters .entry)) (now (room .entry)) base (now («new_lengths» .entry)) (now («new_nulls» .entry)) (now («new_places» .entry)) (now («new_buffers» .entry))) r (now («new_lengths» .exit)) (now («new_nulls» .exit)) (now («new_places» .exit)) (now («new_buffers» .exit)) ⌝ }
+{
+    if !body_fits(base, room.len()) {
+        return 9;
+    }
+    if !finished_counts::all_kept(plan, sources, lengths, places, body) {
+        return 12;
+    }
+    if !room_fits(plan, parts, counters, room.len()) {
+        return 14;
+    }
+    if !tables_fit(
+        plan,
+        sources,
+        places,
+        new_lengths.len(),
+        new_nulls.len(),
+        new_places.len(),
+        new_buffers.len(),
+    ) {
+        return 14;
+    }
+    finished_counts::write_lengths(plan, sources, lengths, counters, new_lengths);
+    finished_counts::write_nulls(
+        plan,
+        parts,
+        sources,
+        lengths,
+        places,
+        body,
+        counters,
+        room,
+        new_nulls,
+    );
+    finished_places::write_places(
+        plan,
+        parts,
+        sources,
+        places,
+        counters,
+        base,
+        new_nulls,
+        new_places,
+    );
+    buffer_names::write_buffers(plan, sources, places, buffers, new_buffers);
+    0
+}

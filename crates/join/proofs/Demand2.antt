@@ -1,0 +1,112 @@
+-- DEMAND 2: the finished array has the bytes, lengths and null counts of the Rust, and its rows read as asked. Assumes nothing.
+use mathlib.Core.Path.{_≡_, refl, sym, ap, subst, _∙_}
+use mathlib.Core.Bool.{Bool, true, false}
+use mathlib.Core.List.{List, [], _∷_}
+use Prim.Native.Nat.{ℕ, _+_, _*_, _≤_}
+use lib.ListN.{length, getD}
+use lib.Dec.{T}
+use native.Mathlib.Nat.{zero-add}
+use Rattle.columnar.specs.Array.{nullCount}
+use Rattle.columnar.specs.Reading.{readAll, masks}
+use Rattle.model.specs.Try.{Try, done, stop, then, guard, after}
+use Rattle.model.specs.Transform.{Destination, start, intoBuilder}
+use Rattle.model.specs.Book.{Call}
+use Rattle.model.specs.Orders.{perform, performAll}
+use Rattle.model.proofs.Book.{countedIf}
+use Rattle.model.proofs.Start.{held-start}
+use Rattle.array_data.specs.Tables.{lengthOf}
+use Rattle.array_data.specs.Typed.{sourceRule}
+use Rattle.walk.specs.State as walk
+use Rattle.parts.specs.Parts.{nodesOf}
+use Rattle.orders.specs.Fits.{fits, answerIn, answersIn}
+use Rattle.orders.specs.Counted.{nullsRoom}
+use Rattle.orders.proofs.Booked.{booked}
+use Rattle.opening.proofs.Opened.{Opened, orders-after}
+use Rattle.finishing.specs.Finish.{Finished, lengthTable, nullTable, placeTable, bufferTable, buffersBefore}
+use Rattle.finishing.specs.Shows.{Shows, Counts}
+use Rattle.finishing.proofs.Orders.{appended}
+use Rattle.finishing.proofs.Join.{finishing-accepted, join-shows, join-nulls, join-again}
+use Rattle.join.specs.Join.{Lending, Bytes, sourcesIn, treeIn, typeIn, columnsIn, keepsIn, openingOf, lentOf, afterCalls, finishingOf, tablesOf, finishedOf, nullsOf, reachedBy}
+use Rattle.join.proofs.Demand1.{runs}
+
+-- ---- the model's destination is that of the Rust's calls, those that are carried out
+
+module _ (l : Lending) where
+  abbrev first : Destination (typeIn l)
+  first = start (typeIn l) (l .keep) (sourcesIn l) (columnsIn l)
+
+  -- the calls of a list that are carried out, from a destination on
+  abbrev pub carriedOut : List Call → Destination (typeIn l) → List Call
+  carriedOut [] d = []
+  carriedOut (o ∷ os) d =
+      elim (answerIn (lentOf l .plan) (l .parts) (typeIn l) (sourcesIn l) (columnsIn l) o d) [ done e ↦ o ∷ carriedOut os e | stop g ↦ carriedOut os d ]
+
+  abbrev tested : Destination (typeIn l) → Try (Destination (typeIn l))
+  tested e = guard (fits (lentOf l .plan) (l .parts) (typeIn l) 0 e) 13 (done e)
+
+  carried : (os : List Call) (d : Destination (typeIn l))
+      → answersIn (lentOf l .plan) (l .parts) (typeIn l) (sourcesIn l) (columnsIn l) os d ≡ performAll (typeIn l) (sourcesIn l) (columnsIn l) (carriedOut os d) d
+  carried [] d = refl
+  carried (o ∷ os) d = go (perform (typeIn l) (sourcesIn l) (columnsIn l) o d) refl (carried os)
+    where
+      go : (p : Try (Destination (typeIn l))) → perform (typeIn l) (sourcesIn l) (columnsIn l) o d ≡ p
+          → ((e : Destination (typeIn l)) → answersIn (lentOf l .plan) (l .parts) (typeIn l) (sourcesIn l) (columnsIn l) os e ≡ performAll (typeIn l) (sourcesIn l) (columnsIn l) (carriedOut os e) e)
+          → answersIn (lentOf l .plan) (l .parts) (typeIn l) (sourcesIn l) (columnsIn l) os (after (then p tested) d)
+          ≡ performAll (typeIn l) (sourcesIn l) (columnsIn l) (elim (then p tested) [ done e ↦ o ∷ carriedOut os e | stop g ↦ carriedOut os d ]) d
+      go (stop g) q f = f d
+      go (done e) q f = by (fits (lentOf l .plan) (l .parts) (typeIn l) 0 e)
+        where
+          by : (b : Bool)
+              → answersIn (lentOf l .plan) (l .parts) (typeIn l) (sourcesIn l) (columnsIn l) os (after (guard b 13 (done e)) d)
+              ≡ performAll (typeIn l) (sourcesIn l) (columnsIn l) (elim (guard b 13 (done e)) [ done v ↦ o ∷ carriedOut os v | stop g ↦ carriedOut os d ]) d
+          by true =
+              subst (λ (v : Try (Destination (typeIn l))). answersIn (lentOf l .plan) (l .parts) (typeIn l) (sourcesIn l) (columnsIn l) os e ≡ performAll (typeIn l) (sourcesIn l) (columnsIn l) (carriedOut os e) (after v d)) (sym q) (f e)
+          by false = f d
+
+-- ---- after an accepted opening and any list of calls, refused ones included
+
+module _ (l : Lending) (b : Bytes l) (accepted : openingOf l .ground ≡ 0) (os : List Call) where
+  abbrev opens : Opened (l .formats) (l .schema) (l .sources) (l .tables) (l .keep) (l .parts) (openingOf l)
+  opens = runs l b accepted
+
+  -- what the model reaches is what `try_extend` and `try_extend_nulls` of the Rust make of the calls that are carried out
+  pub reached-is : reachedBy l os ≡ performAll (typeIn l) (sourcesIn l) (columnsIn l) (carriedOut l os (first l)) (first l)
+  reached-is = carried l os (first l)
+
+  -- THE BYTES, LENGTHS AND VALIDITY: the finished tables describe `into_builder` of it, byte for byte
+  pub finished-bytes : Shows (treeIn l) (tablesOf l os) (typeIn l) 0 (intoBuilder (typeIn l) (sourcesIn l) (columnsIn l) (reachedBy l os))
+  finished-bytes =
+      join-shows (l .formats) (l .schema) (l .sources) (l .tables) (l .keep) (l .parts) (openingOf l) opens os (length (l .tables .body)) _ (appended (lentOf l) (afterCalls l os .room))
+
+  -- THE NULL COUNTS of every node are those of its finished bits
+  pub finished-nulls : Counts (treeIn l) (nullTable (lentOf l) (l .tables .buffers) (afterCalls l os .counts) (afterCalls l os .room) (length (l .tables .body))) (typeIn l) 0
+      (intoBuilder (typeIn l) (sourcesIn l) (columnsIn l) (reachedBy l os))
+  finished-nulls =
+      join-nulls (l .formats) (l .schema) (l .sources) (l .tables) (l .keep) (l .parts) (openingOf l) opens os (length (l .tables .body)) _ (appended (lentOf l) (afterCalls l os .room))
+
+  -- THE RUNNING NULL COUNT is that of the accepted calls: a copy's zero bits, a null order's rows in full
+  pub running-nulls : walk.nulls (afterCalls l os .counts) 0 ≡ countedIf (keepsIn l) (nullsOf l os)
+  running-nulls =
+      orders-after (l .formats) (l .schema) (l .sources) (l .tables) (l .keep) (l .parts) (openingOf l) opens os .running .holds .nulls-are
+      ∙ booked (lentOf l) (typeIn l) (sourcesIn l) (columnsIn l) (opens .join) (keepsIn l) (openingOf l .counts) (opens .memory) os (first l) (openingOf l .counts) (openingOf l .room) (opens .running) .nulls-booked
+      ∙ zero-add _
+      ∙ ap (λ c. countedIf (keepsIn l) (nullsRoom (lentOf l .plan) (l .parts) (typeIn l) (keepsIn l) (sourcesIn l) (columnsIn l) os c)) (held-start (typeIn l) (keepsIn l) (sourcesIn l) (λ j. columnsIn l j .body))
+
+  -- FINISHING IS NEVER REFUSED where the tables are of the finished array's lengths and the body of at most 2^32 - 1 bytes
+  pub finishing-answered : (base : ℕ) (lengths nulls places names : List ℕ) → base + length (afterCalls l os .room) ≤ 4294967295
+      → length lengths ≡ 2 * nodesOf (lentOf l .plan) → length nulls ≡ nodesOf (lentOf l .plan) → length places ≡ 9 * nodesOf (lentOf l .plan)
+      → length names ≡ 2 * buffersBefore (lentOf l) (l .tables .buffers) (afterCalls l os .counts) (afterCalls l os .room) base (nodesOf (lentOf l .plan))
+      → finishingOf l os base lengths nulls places names
+      ≡ record {
+        ground = 0;
+        lengths = lengthTable (lentOf l) (l .tables .buffers) (afterCalls l os .counts) (afterCalls l os .room) base;
+        nulls = nullTable (lentOf l) (l .tables .buffers) (afterCalls l os .counts) (afterCalls l os .room) base;
+        places = placeTable (lentOf l) (l .tables .buffers) (afterCalls l os .counts) (afterCalls l os .room) base;
+        buffers = bufferTable (lentOf l) (l .tables .buffers) (afterCalls l os .counts) (afterCalls l os .room) base;
+      }
+  finishing-answered = finishing-accepted (l .formats) (l .schema) (l .sources) (l .tables) (l .keep) (l .parts) (openingOf l) opens os
+
+  -- LENT AGAIN, it passes ground 12
+  pub lent-again : T (sourceRule (treeIn l) (tablesOf l os))
+  lent-again =
+      join-again (l .formats) (l .schema) (l .sources) (l .tables) (l .keep) (l .parts) (openingOf l) opens os (length (l .tables .body)) _ (appended (lentOf l) (afterCalls l os .room))

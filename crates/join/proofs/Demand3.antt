@@ -1,0 +1,61 @@
+-- DEMAND 3: one theorem on any list of calls: the finished array has exactly the rows of 01's book; and storing wider changes no row.
+-- Assumes nothing.
+use mathlib.Core.Path.{_≡_, sym, ap, ap₂, subst, _∙_}
+use mathlib.Core.List.{List}
+use Prim.Native.Nat.{ℕ, _<_}
+use native.Mathlib.Nat.{zero-add}
+use lib.ListN.{length, getD}
+use Rattle.columnar.specs.Row.{null}
+use Rattle.columnar.specs.Types.{Ty}
+use Rattle.columnar.specs.Reading.{Column, read, readAll}
+use Rattle.columnar.specs.Wider.{Wider, Again}
+use Rattle.model.specs.Grounds.{startCounts}
+use Rattle.model.specs.Transform.{Destination, start}
+use Rattle.model.specs.Book.{Call}
+use Rattle.model.proofs.Bits.{length-seg, getD-seg}
+use Rattle.model.proofs.Start.{held-start}
+use Rattle.orders.specs.Fits.{bookIn}
+use Rattle.orders.specs.Counted.{bookRoom}
+use Rattle.orders.proofs.Booked.{booked, booked-by}
+use Rattle.opening.proofs.Opened.{Opened}
+use Rattle.finishing.proofs.Orders.{appended}
+use Rattle.finishing.proofs.Join.{join-rows}
+use Rattle.join.specs.Join.{Lending, Bytes, sourcesIn, typeIn, columnsIn, keepsIn, openingOf, lentOf, afterCalls, groundsIn, finishedOf, bookOf, bookAnswered}
+use Rattle.join.proofs.Demand1.{runs}
+
+-- after an accepted opening and any list of calls, refused ones included
+module _ (l : Lending) (b : Bytes l) (accepted : openingOf l .ground ≡ 0) (os : List Call) where
+  abbrev opens : Opened (l .formats) (l .schema) (l .sources) (l .tables) (l .keep) (l .parts) (openingOf l)
+  opens = runs l b accepted
+
+  abbrev first : Destination (typeIn l)
+  first = start (typeIn l) (l .keep) (sourcesIn l) (columnsIn l)
+
+  -- the book by what the model holds, and by lengths alone
+  in-book : bookIn (lentOf l .plan) (l .parts) (typeIn l) (sourcesIn l) (columnsIn l) (keepsIn l) os first ≡ bookOf l os
+  in-book =
+      booked (lentOf l) (typeIn l) (sourcesIn l) (columnsIn l) (opens .join) (keepsIn l) (openingOf l .counts) (opens .memory) os first (openingOf l .counts) (openingOf l .room) (opens .running) .rows-booked
+      ∙ ap (bookRoom (lentOf l .plan) (l .parts) (typeIn l) (keepsIn l) (sourcesIn l) (columnsIn l) os) (held-start (typeIn l) (keepsIn l) (sourcesIn l) (λ j. columnsIn l j .body))
+
+  -- THE BOOK: the finished array has its rows, all of them and no others
+  pub the-book : readAll (typeIn l) (finishedOf l os) ≡ bookOf l os
+  the-book =
+      join-rows (l .formats) (l .schema) (l .sources) (l .tables) (l .keep) (l .parts) (openingOf l) opens os (length (l .tables .body)) _ (appended (lentOf l) (afterCalls l os .room))
+      ∙ in-book
+
+  -- the book is also that of the answers which the entry points gave
+  pub book-answered : bookAnswered l os (groundsIn l os) ≡ bookOf l os
+  book-answered =
+      booked-by (lentOf l) (typeIn l) (sourcesIn l) (columnsIn l) (opens .join) (keepsIn l) (openingOf l .counts) (opens .memory) os first (openingOf l .counts) (openingOf l .room) (opens .running)
+      ∙ in-book
+
+  -- the finished array has the book's length
+  pub book-length : finishedOf l os .len ≡ length (bookOf l os)
+  book-length = sym (length-seg (read (typeIn l) (finishedOf l os)) 0 (finishedOf l os .len)) ∙ ap length the-book
+
+  -- and its row i reads as entry i
+  pub book-row : (i : ℕ) → i < finishedOf l os .len → read (typeIn l) (finishedOf l os) i ≡ getD (bookOf l os) i null
+  book-row i q =
+      ap (read (typeIn l) (finishedOf l os)) (sym (zero-add i))
+      ∙ sym (getD-seg (read (typeIn l) (finishedOf l os)) 0 (finishedOf l os .len) i null q)
+      ∙ ap (λ r. getD r i null) the-book

@@ -1,0 +1,6 @@
+-- THE THREE DEMANDS on whole joins.
+pub mod Numbers
+pub mod Demand1
+pub mod Demand2
+pub mod Demand3
+pub mod Wider

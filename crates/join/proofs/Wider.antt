@@ -1,0 +1,96 @@
+-- DEMAND 3, last sentence: storing wider changes no row. Assumes nothing.
+-- A narrow join and a wide one: the same rows with offsets and sizes, run ends or keys stored wider, alike in every source
+-- (columnar/specs/Wider.antt), the same sharing of dictionaries, the same choice at the opening.
+use mathlib.Core.Path.{_≡_, refl, sym, ap₂, subst, _∙_}
+use mathlib.Core.Bool.{Bool, true, false}
+use mathlib.Core.List.{List}
+use Prim.Native.Nat.{ℕ, _≤_}
+use lib.ListN.{length}
+use native.Mathlib.Omega.{arith}
+use Rattle.columnar.specs.Reading.{readAll}
+use Rattle.columnar.specs.Wider.{Wider, Again}
+use Rattle.model.specs.Try.{Try, done, stop, then, guard}
+use Rattle.model.specs.Opening.{keeps}
+use Rattle.model.specs.Grounds.{Counts, startCounts}
+use Rattle.model.specs.Transform.{openData, start}
+use Rattle.model.specs.Book.{Call}
+use Rattle.model.proofs.WiderAsks.{start-counts-wider}
+use Rattle.model.proofs.WiderAnswers.{keeps-wider}
+use Rattle.model.proofs.WiderOpening.{opening-wider}
+use Rattle.columns.specs.Grounds.{sourcesGround}
+use Rattle.orders.specs.Counted.{bookRoom, AllAcceptedRoom, RoomEnough}
+use Rattle.orders.proofs.Booked.{groundOf}
+use Rattle.orders.proofs.WiderRoom.{wide-room}
+use Rattle.opening.specs.Open.{roomPlaced}
+use Rattle.opening.specs.Fits.{openFits}
+use Rattle.opening.proofs.Taken.{sources-of}
+use Rattle.opening.proofs.Stay.{open-model}
+use Rattle.opening.proofs.Opened.{opening-ground}
+use Rattle.join.specs.Join.{Lending, Bytes, sourcesIn, typeIn, columnsIn, keepsIn, openingOf, lentOf, finishedOf, bookOf, acceptedOf, AllAccepted, Enough}
+use Rattle.join.proofs.Demand1.{runs}
+use Rattle.join.proofs.Demand3.{the-book}
+
+-- ---- THE OPENING of the wide join: where none of 9 to 12 and 14 stands, it is accepted, or 13 stands
+
+pub data OpensWide (g : ℕ) : Type 0 where
+  opens-wide : g ≡ 0 → OpensWide g
+  no-room : g ≡ 13 → OpensWide g
+
+opened-first : {A : Type 0} (a : Try (Unit {0})) (s d : A) → then a (λ x. done s) ≡ done d → a ≡ done tt
+opened-first (done x) s d e = refl
+opened-first (stop g) s d e = absurd (let z : _≡_ {A = ℕ} 0 1 = cc e in omega arith)
+
+tested-only : {A : Type 0} (a : Try (Unit {0})) (b : Bool) (s : A) → a ≡ done tt → OpensWide (groundOf (then a (λ y. guard b 13 (done s))))
+tested-only (done x) true s e = opens-wide refl
+tested-only (done x) false s e = no-room refl
+tested-only (stop g) b s e = absurd (let z : _≡_ {A = ℕ} 0 1 = cc e in omega arith)
+
+module _ (n w : Lending) (bytes-n : Bytes n) (bytes-w : Bytes w) (accepted-n : openingOf n .ground ≡ 0) (d : Wider (typeIn n) (typeIn w)) (same-count : sourcesIn n ≡ sourcesIn w) (same-choice : n .keep ≡ w .keep)
+    (again : Again d (sourcesIn n) (columnsIn n) (columnsIn w)) (small : length (w .room) ≤ 4294967295) (sources : sourcesGround (w .formats) (w .schema) (w .tables) (w .sources) ≡ 0)
+    (placed : roomPlaced (w .formats) (w .schema) (w .sources) (w .tables) (w .keep) (w .parts) (w .plan) (w .counters) (w .room) ≡ true) where
+  wide-done : openData (typeIn w) (sourcesIn w) (λ j. columnsIn w j .body) ≡ done tt
+  wide-done =
+      let o = runs n bytes-n accepted-n in
+      let given = sources-of (n .formats) (n .schema) (n .sources) (n .tables) (n .keep) (o .accepted) in
+      let given-w = sources-of (w .formats) (w .schema) (w .sources) (w .tables) (w .keep) sources in
+      let narrow = open-model (lentOf n .plan) (n .parts) (typeIn n) (n .keep) (sourcesIn n) (columnsIn n) (start (typeIn n) (n .keep) (sourcesIn n) (columnsIn n)) (o .model) in
+      let q = opening-wider d (given .formed) (given-w .formed) (sourcesIn n) (columnsIn n) (columnsIn w) again (given .obey) (n .keep) (start (typeIn n) (n .keep) (sourcesIn n) (columnsIn n)) narrow in
+      subst (λ k. openData (typeIn w) k (λ j. columnsIn w j .body) ≡ done tt) same-count (opened-first (openData (typeIn w) (sourcesIn n) (λ j. columnsIn w j .body)) _ _ q)
+
+  pub wide-opens : OpensWide (openingOf w .ground)
+  wide-opens =
+      subst OpensWide (sym (opening-ground (w .formats) (w .schema) (w .sources) (w .tables) (w .keep) (w .parts) (w .plan) (w .counters) (w .room) (bytes-w .body-bytes) (bytes-w .room-bytes) small sources placed))
+      (tested-only (openData (typeIn w) (sourcesIn w) (λ j. columnsIn w j .body)) (openFits (lentOf w .plan) (w .parts) (typeIn w) 0 (sourcesIn w) (λ j. columnsIn w j .body) (start (typeIn w) (w .keep) (sourcesIn w) (columnsIn w))) (start (typeIn w) (w .keep) (sourcesIn w) (columnsIn w)) wide-done)
+
+-- ---- THE CALLS
+
+-- n narrow, w wide; both openings are accepted
+module _ (n w : Lending) (bytes-n : Bytes n) (bytes-w : Bytes w) (accepted-n : openingOf n .ground ≡ 0) (accepted-w : openingOf w .ground ≡ 0)
+    (d : Wider (typeIn n) (typeIn w)) (same-count : sourcesIn n ≡ sourcesIn w) (same-choice : n .keep ≡ w .keep) (again : Again d (sourcesIn n) (columnsIn n) (columnsIn w)) where
+  same-keeps : keepsIn n ≡ keepsIn w
+  same-keeps = keeps-wider (n .keep) (sourcesIn n) (columnsIn n) (columnsIn w) (again .each) ∙ ap₂ (λ u k. keeps u k (columnsIn w)) same-choice same-count
+
+  moved : (P : Bool → ℕ → Counts → Type 0) → P (keepsIn n) (sourcesIn n) (startCounts (typeIn n)) → P (keepsIn w) (sourcesIn w) (startCounts (typeIn w))
+  moved P h = subst (P (keepsIn w) (sourcesIn w)) (start-counts-wider d) (subst (λ k. P (keepsIn w) k (startCounts (typeIn n))) same-count (subst (λ b. P b (sourcesIn n) (startCounts (typeIn n))) same-keeps h))
+
+  moved-back : (P : Bool → ℕ → Counts → Type 0) → P (keepsIn w) (sourcesIn w) (startCounts (typeIn w)) → P (keepsIn n) (sourcesIn n) (startCounts (typeIn n))
+  moved-back P h =
+      subst (λ b. P b (sourcesIn n) (startCounts (typeIn n))) (sym same-keeps) (subst (λ k. P (keepsIn w) k (startCounts (typeIn n))) (sym same-count) (subst (P (keepsIn w) (sourcesIn w)) (sym (start-counts-wider d)) h))
+
+  -- the accepted calls of a list, made again on the wide join
+  pub record Wide (os : List Call) : Type 0 where
+    pub all-accepted : AllAccepted w (acceptedOf n os)
+    pub same-rows : readAll (typeIn n) (finishedOf n os) ≡ readAll (typeIn w) (finishedOf w (acceptedOf n os))
+
+  -- STORING WIDER CHANGES NO ROW, where room is enough
+  pub stored-wider : (os : List Call) → Enough w (acceptedOf n os) → Wide os
+  stored-wider os enough =
+      let obey = sources-of (n .formats) (n .schema) (n .sources) (n .tables) (n .keep) (runs n bytes-n accepted-n .accepted) .obey in
+      let r = wide-room (lentOf n .plan) (n .parts) (lentOf w .plan) (w .parts) d (sourcesIn n) (columnsIn n) (columnsIn w) again obey (keepsIn n) os (startCounts (typeIn n))
+      (moved-back (λ b k c. RoomEnough (lentOf w .plan) (w .parts) (typeIn w) b k (columnsIn w) (acceptedOf n os) c) enough) in
+      record {
+        all-accepted = moved (λ b k c. AllAcceptedRoom (lentOf w .plan) (w .parts) (typeIn w) b k (columnsIn w) (acceptedOf n os) c) (r .all-accepted);
+        same-rows = the-book n bytes-n accepted-n os
+            ∙ moved (λ b k c. bookOf n os ≡ bookRoom (lentOf w .plan) (w .parts) (typeIn w) b k (columnsIn w) (acceptedOf n os) c) (r .same-book)
+            ∙ sym (the-book w bytes-w accepted-w (acceptedOf n os));
+      }

@@ -1,0 +1,142 @@
+-- A WHOLE JOIN as a caller makes it: an opening, any list of calls, finishing. Each step is what the contract of its entry point cites:
+-- `opening` (try_with_capacities), `copyOrder` and `nullOrder` (try_extend, try_extend_nulls), `finishing` (into_builder). Assumes nothing.
+use mathlib.Core.Bool.{Bool, cond}
+use mathlib.Core.List.{List, _++_}
+use Prim.Native.Nat.{ℕ, _<_}
+use lib.ListN.{length, getD}
+use lib.Dec.{leb, eqb}
+use Rattle.columnar.specs.Row.{Row}
+use Rattle.columnar.specs.Types.{Ty}
+use Rattle.columnar.specs.Reading.{Column}
+use Rattle.model.specs.Try.{Try, done, stop, then, guard}
+use Rattle.model.specs.Opening.{keeps}
+use Rattle.model.specs.Grounds.{Counts, startCounts}
+use Rattle.model.specs.Transform.{Destination, start}
+use Rattle.model.specs.Book.{Call}
+use Rattle.array_data.specs.Tables.{Tables}
+use Rattle.array_data.specs.Typed.{Tree, columnOf}
+use Rattle.lent.specs.Lent.{treeOf, typeOf}
+use Rattle.worded.specs.Taken.{columnsAs}
+use Rattle.columns.specs.Grounds.{sourceCount, firstOf, nodesOf, sourcesGround}
+use Rattle.orders.specs.Order.{After, Lent, orderedAll, ordered, groundsOf}
+use Rattle.orders.specs.Fits.{answersIn}
+use Rattle.orders.specs.Counted.{answerRoom, countsAfter, bookRoom, bookBy, nullsRoom, acceptedRoom, AllAcceptedRoom, RoomEnough}
+use Rattle.opening.specs.Open.{Opening, opened, roomPlaced, opening}
+use Rattle.opening.specs.Fits.{openIn}
+use Rattle.finishing.specs.Finish.{Finished, tablesFit, finishing}
+use Rattle.finishing.specs.Shows.{finishedTables}
+
+-- WHAT A CALLER LENDS to an opening (docs/FORMAT.md), and whether nulls are to be kept
+pub record Lending : Type 0 where
+  pub formats : List ℕ
+  pub schema : List ℕ
+  pub sources : List ℕ
+  pub tables : Tables
+  pub keep : Bool
+  pub parts : List ℕ
+  pub plan : List ℕ
+  pub counters : List ℕ
+  pub room : List ℕ
+
+-- bodies are bytes; the entry points' types say so
+pub record Bytes (l : Lending) : Type 0 where
+  pub body-bytes : (k : ℕ) → getD (l .tables .body) k 0 < 256
+  pub room-bytes : (k : ℕ) → getD (l .room) k 0 < 256
+
+module _ (l : Lending) where
+  -- ---- what is described: how many sources, their type tree, their type, and each one's column
+
+  abbrev pub sourcesIn : ℕ
+  sourcesIn = sourceCount (l .sources)
+
+  abbrev pub treeIn : Tree
+  treeIn = treeOf (l .formats) (l .schema) (firstOf (l .sources) 0) (nodesOf (l .sources) 0)
+
+  abbrev pub typeIn : Ty
+  typeIn = typeOf (l .formats) (l .schema) (firstOf (l .sources) 0) (nodesOf (l .sources) 0)
+
+  abbrev pub columnsIn : ℕ → Column typeIn
+  columnsIn = columnsAs (l .formats) (l .schema) (l .tables) (firstOf (l .sources)) (nodesOf (l .sources))
+
+  -- "A node keeps nulls if the caller says so or any source has a null at that node": the root
+  abbrev pub keepsIn : Bool
+  keepsIn = keeps (l .keep) sourcesIn columnsIn
+
+  -- ---- the steps
+
+  -- THE OPENING
+  abbrev pub openingOf : Opening
+  openingOf = opening (l .formats) (l .schema) (l .sources) (l .tables) (l .keep) (l .parts) (l .plan) (l .counters) (l .room)
+
+  -- what every call after it is lent: its plan, and the rest as it was
+  abbrev pub lentOf : Lent
+  lentOf = opened (l .formats) (l .schema) (l .sources) (l .tables) (l .keep) (l .parts)
+
+  -- ANY LIST OF CALLS, from the counters and the room that the opening leaves
+  abbrev pub afterCalls : List Call → After
+  afterCalls os = orderedAll lentOf (openingOf .counts) (openingOf .room) os
+
+  -- one call more
+  abbrev pub nextCall : List Call → Call → After
+  nextCall os o = ordered lentOf (afterCalls os .counts) (afterCalls os .room) o
+
+  -- what each of the calls is answered
+  abbrev pub groundsIn : List Call → List ℕ
+  groundsIn os = groundsOf lentOf (openingOf .counts) (openingOf .room) os
+
+  -- FINISHING, into tables that are lent; the room begins at `base` of the body that they are about
+  abbrev pub finishingOf : List Call → ℕ → List ℕ → List ℕ → List ℕ → List ℕ → Finished
+  finishingOf os base lengths nulls places names = finishing lentOf (l .tables .buffers) (afterCalls os .counts) (afterCalls os .room) base lengths nulls places names
+
+  -- the tables, over the sources' body with the room behind it
+  abbrev pub tablesOf : List Call → Tables
+  tablesOf os = finishedTables lentOf (l .tables .buffers) (afterCalls os .counts) (afterCalls os .room) (length (l .tables .body)) (l .tables .body ++ afterCalls os .room)
+
+  -- THE FINISHED ARRAY
+  abbrev pub finishedOf : List Call → Column typeIn
+  finishedOf os = columnOf treeIn (tablesOf os) typeIn 0
+
+  -- ---- what 01 says of them
+
+  -- "Opening: 9, 10, 11, 12, 14, then per dictionary in tree order 6 (joining), 8, and 13 last"
+  abbrev pub openAnswer : Try (Destination typeIn)
+  openAnswer =
+      guard (leb (length (l .room)) 4294967295) 9
+      (then (cond (eqb (sourcesGround (l .formats) (l .schema) (l .tables) (l .sources)) 0) (done tt) (stop (sourcesGround (l .formats) (l .schema) (l .tables) (l .sources))))
+      (λ (u : Unit {0}).
+      guard (roomPlaced (l .formats) (l .schema) (l .sources) (l .tables) (l .keep) (l .parts) (l .plan) (l .counters) (l .room)) 14
+      (openIn (lentOf .plan) (l .parts) typeIn (l .keep) sourcesIn columnsIn)))
+
+  -- what is held after these calls, by lengths alone
+  abbrev pub heldAfter : List Call → Counts
+  heldAfter os = countsAfter (lentOf .plan) (l .parts) typeIn keepsIn sourcesIn columnsIn os (startCounts typeIn)
+
+  -- the answer to one more call, by lengths and limits alone
+  abbrev pub callAnswer : List Call → Call → Try Counts
+  callAnswer os o = answerRoom (lentOf .plan) (l .parts) typeIn keepsIn sourcesIn columnsIn o (heldAfter os)
+
+  -- THE BOOK, "fed the calls alone"
+  abbrev pub bookOf : List Call → List Row
+  bookOf os = bookRoom (lentOf .plan) (l .parts) typeIn keepsIn sourcesIn columnsIn os (startCounts typeIn)
+
+  -- .. or the calls with what each was answered
+  abbrev pub bookAnswered : List Call → List ℕ → List Row
+  bookAnswered = bookBy (lentOf .plan) (l .parts) typeIn keepsIn sourcesIn columnsIn
+
+  -- the nulls that the calls count
+  abbrev pub nullsOf : List Call → ℕ
+  nullsOf os = nullsRoom (lentOf .plan) (l .parts) typeIn keepsIn sourcesIn columnsIn os (startCounts typeIn)
+
+  -- the calls that are accepted, whether all of a list are, and whether room is enough for them
+  abbrev pub acceptedOf : List Call → List Call
+  acceptedOf os = acceptedRoom (lentOf .plan) (l .parts) typeIn keepsIn sourcesIn columnsIn os (startCounts typeIn)
+
+  abbrev pub AllAccepted : List Call → Type 0
+  AllAccepted os = AllAcceptedRoom (lentOf .plan) (l .parts) typeIn keepsIn sourcesIn columnsIn os (startCounts typeIn)
+
+  abbrev pub Enough : List Call → Type 0
+  Enough os = RoomEnough (lentOf .plan) (l .parts) typeIn keepsIn sourcesIn columnsIn os (startCounts typeIn)
+
+  -- the model's destination after these calls (model/specs/Transform.antt follows the Rust)
+  abbrev pub reachedBy : List Call → Destination typeIn
+  reachedBy os = answersIn (lentOf .plan) (l .parts) typeIn sourcesIn columnsIn os (start typeIn (l .keep) sourcesIn columnsIn)

@@ -1,0 +1,2 @@
+-- A whole join as a caller makes it, over what the contracts of its entry points cite.
+pub mod Join

@@ -1,0 +1,61 @@
+-- `join_runs::add_words` is safe and ends. Assumes nothing.
+use Prim.Native.Nat.{_≤_, _-_}
+use lib.ListN.{length}
+use mathlib.Core.Path.{_≡_}
+use borrow.Author.Needs.{needs}
+use Rattle.join_runs.proofs.add_words.Statement.{statement}
+use Rattle.join_runs.proofs.add_words.Tie as tie
+use Rattle.join_runs.proofs.add_words.Reads as reads
+use Rattle.join_runs.proofs.add_words.Lts as lts
+use Rattle.join_runs.proofs.tables.plus.Reads as plus-reads
+use Rattle.join_runs.proofs.tables.put_word.Reads as put-word-reads
+use Rattle.lent_tables.proofs.at_u32.Reads as at-u32-reads
+
+abbrev Inv-loop : tie.InvT-loop
+Inv-loop words₀ from new n i₀ words i = (i ≤ n) × (length words ≡ length words₀)
+
+abbrev μ-loop : tie.MeasureT-loop
+μ-loop words₀ from new n i₀ words i = n - i
+
+loop-holds : tie.Need-loop-holds Inv-loop μ-loop
+loop-holds c = search needs
+
+plus-requires : tie.Need-plus-requires Inv-loop μ-loop
+plus-requires c κs = search needs
+
+at-u32-requires : tie.Need-at-u32-requires Inv-loop μ-loop
+at-u32-requires c κs = search needs
+
+put-word-requires : tie.Need-put-word-requires Inv-loop μ-loop
+put-word-requires c κs = search needs
+
+add-i : tie.Need-add-i Inv-loop μ-loop
+add-i c = search needs
+
+loop-less : tie.Need-loop-less Inv-loop μ-loop
+loop-less c = search needs
+
+loop-again : tie.Need-loop-again Inv-loop μ-loop
+loop-again c = search needs
+
+same-length : tie.Need-same-length Inv-loop μ-loop
+same-length c = search needs
+
+returns : tie.Need-returns Inv-loop μ-loop
+returns c = search needs
+
+pub add-words-spec : {M : Type 1} → statement M
+add-words-spec =
+    tie.close
+    (tie.spec
+    Inv-loop
+    μ-loop
+    loop-holds
+    plus-requires
+    at-u32-requires
+    put-word-requires
+    add-i
+    loop-less
+    loop-again
+    same-length
+    returns)

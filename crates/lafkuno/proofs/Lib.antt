@@ -1,0 +1,2 @@
+-- The laws of `lafkuno`.
+pub mod Laws

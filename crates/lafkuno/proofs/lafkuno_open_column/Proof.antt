@@ -1,0 +1,56 @@
+-- `lafkuno::lafkuno_open_column` meets its contract. Assumes nothing.
+use mathlib.Core.Path.{_≡_, sym, ap, _∙_}
+use Prim.Native.Nat.{_≤_}
+use native.Mathlib.Omega.{arith}
+use lib.ListN.{length}
+use borrow.Author.Needs.{needs}
+use Rattle.number.specs.Number.{splice}
+use Rattle.kind_rules.specs.Rows.{tablesOf}
+use Rattle.lafkuno.proofs.Laws.{short-ground, short-kept, ground-is, room-kept, tree-put, tree-is}
+use Rattle.lafkuno.proofs.lafkuno_open_column.Statement.{statement}
+use Rattle.lafkuno.proofs.lafkuno_open_column.Tie as tie
+
+returns : tie.Need-returns
+returns c =
+    let z = c .before .before .before .before .before .before .before .before .args in
+    let x = tablesOf (z .lengths .now) (z .places .now) (z .buffers .now) (z .body .now) in
+    (short-ground (z .formats .now) (z .schema .now) x (z .first) (z .n) (z .room .now) (omega arith), short-kept (z .formats .now) (z .schema .now) x (z .first) (z .n) (z .room .now) (omega arith))
+
+open-column-requires : tie.Need-open-column-requires
+open-column-requires c κs = search needs
+
+returns-2 : tie.Need-returns-2
+returns-2 c =
+    let z = c .before .before .before .before .before .before .before .before .before .before .before .args in
+    let x = tablesOf (z .lengths .now) (z .places .now) (z .buffers .now) (z .body .now) in
+    let h : 256 ≤ length (z .room .now) = omega arith in
+    let e = c .before .open-column .ensures .0 ∙ sym (ground-is (z .formats .now) (z .schema .now) x (z .first) (z .n) (z .room .now) h) in
+    (e, room-kept (z .formats .now) (z .schema .now) x (z .first) (z .n) (z .room .now) (λ q. c .if2 .taken (e ∙ q)))
+
+copied-requires : tie.Need-copied-requires
+copied-requires c κs = search needs
+
+slice-aggregate-copy-words : tie.Need-slice-aggregate-copy-words
+slice-aggregate-copy-words c = search needs
+
+copy-words-requires : tie.Need-copy-words-requires
+copy-words-requires c κs = search needs
+
+same-length : tie.Need-same-length
+same-length c = search needs
+
+returns-3 : tie.Need-returns-3
+returns-3 c =
+    let z = c .before .before .before .before .before .before .before .before .before .before .before .before .before .before .before .before .before .args in
+    let x = tablesOf (z .lengths .now) (z .places .now) (z .buffers .now) (z .body .now) in
+    let h : 256 ≤ length (z .room .now) = omega arith in
+    let o = c .before .before .before .before .before .before .before .open-column .ensures in
+    let g = sym (c .before .before .before .before .before .before .if2 .left) ∙ o .0 in
+    let e = g ∙ sym (ground-is (z .formats .now) (z .schema .now) x (z .first) (z .n) (z .room .now) h) in
+    let t = c .before .before .before .before .before .copied .ensures ∙ o .1 ∙ tree-is (z .formats .now) (z .schema .now) x (z .first) (z .n) (z .room .now) (sym g) _ in
+    (e, c .before .before .copy-words .ensures ∙ ap (λ w. splice 0 w (z .room .now)) t ∙ tree-put (z .formats .now) (z .schema .now) x (z .first) (z .n) (z .room .now) (sym e))
+
+pub lafkuno-open-column-spec : {M : Type 1} → statement M
+lafkuno-open-column-spec =
+    tie.close
+    (tie.spec returns open-column-requires returns-2 copied-requires slice-aggregate-copy-words copy-words-requires same-length returns-3)

@@ -1,0 +1,2 @@
+-- The definitions that the contracts of `lafkuno` cite.
+pub mod Calls

@@ -1,0 +1,10 @@
+-- What a caller sees of a question about room. Assumes nothing.
+use mathlib.Core.Path.{_≡_}
+use mathlib.Core.List.{List}
+use Prim.Native.Nat.{ℕ}
+use Rattle.orders.specs.Measure.{Measured}
+
+-- the ground that is answered, and the counters as they are left
+pub record Measures (a : Measured) (r : ℕ) (counters : List ℕ) : Type 0 where
+  pub ground : r ≡ a .ground
+  pub counts : counters ≡ a .counts

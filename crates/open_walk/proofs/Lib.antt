@@ -1,0 +1,2 @@
+-- What the walk of an opening goes by.
+pub mod Laws

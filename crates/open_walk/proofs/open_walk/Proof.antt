@@ -1,0 +1,23 @@
+-- `open_walk::open_walk` meets its contract. Assumes nothing.
+use Rattle.open_walk.specs.Lent.{lent}
+use Rattle.open_walk.proofs.Laws.{walk-did}
+use borrow.Author.Needs.{needs}
+use Rattle.open_walk.proofs.open_walk.Statement.{statement}
+use Rattle.open_walk.proofs.open_walk.Tie as tie
+
+first-offsets-requires : tie.Need-first-offsets-requires
+first-offsets-requires c κs = search needs
+
+open-dictionaries-requires : tie.Need-open-dictionaries-requires
+open-dictionaries-requires c κs = search needs
+
+same-length : tie.Need-same-length
+same-length c = search needs
+
+returns : tie.Need-returns
+returns c =
+    let z = c .before .before .before .before .before .before .before .before .before .before .before .before .before .before .before .before .args in
+    walk-did (lent (z .state .now) (z .parts .now) (z .sources .now) (z .lengths .now) (z .places .now) (z .body .now)) (z .write) (z .counts .now) (z .room .now) (c .before .before .before .before .before .before .before .first-offsets .ensures (z .sources .now) (z .lengths .now) (z .places .now) (z .body .now) (z .counts .now)) (c .before .before .open-dictionaries .ensures)
+
+pub open-walk-spec : {M : Type 1} → statement M
+open-walk-spec = tie.close (tie.spec first-offsets-requires open-dictionaries-requires same-length returns)

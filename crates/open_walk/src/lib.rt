@@ -1,0 +1,295 @@
+// The walk of an opening: the first zero offset of byte strings, then the dictionaries in tree order, joined where they are not shared.
+// The answer is 0 or the ground of refusal; a walk that only tries changes the counters alone.
+// Follows `try_with_capacities` of arrow-data 60.1.0 src/transform/mod.rs, Apache-2.0; see NOTICE.
+ghost use mathlib.Core.Path.{_≡_};
+ghost use mathlib.Core.List.{List};
+ghost use mathlib.Core.Bool.{cond};
+ghost use Prim.Native.Nat.{ℕ, suc, _≤_, _<_, _^_};
+ghost use lib.Dec.{eqb};
+ghost use Rattle.walk.specs.State.{word};
+ghost use Rattle.walk.specs.Log.{Did, done, each};
+ghost use Rattle.orders.specs.Order.{sourceCount};
+ghost use Rattle.parts.specs.Parts.{nodesOf};
+ghost use Rattle.opening.specs.Open.{firstOffset, joinSource, joinEntries, keysHold, openDictionary, openWalk};
+ghost use Rattle.open_walk.specs.Lent.{lent};
+
+// ---- first offsets
+
+// The first zero offset of node i, if it is a byte string that has parts. No counter changes.
+fn first_offset(state: &[u64], parts: &[u32], room: &mut [u8], write: bool, i: usize)
+    requires { ⌜ i < 32 ⌝ }
+    ensures { λ _. ⌜ ((sources lengths places body c : List ℕ) → Did (now (state .entry)) (now (parts .entry)) write (firstOffset (lent (now (state .entry)) (now (parts .entry)) sources lengths places body) i c) (now (room .entry)) 0 c (now (room .exit))) ⌝ }
+{
+    let code = growth::code_of(state, i);
+    if !formats::is_string(code) {
+        return;
+    }
+    if !parts::is_copied(state, i) {
+        return;
+    }
+    let w = formats::width_of(code) as u64;
+    puts::put_number(state, parts, room, write, i, 1, 0, w, 0)
+}
+
+// The first zero offset of every byte string that has parts.
+fn first_offsets(state: &[u64], parts: &[u32], room: &mut [u8], write: bool)
+    ensures { λ _. ⌜ ((sources lengths places body c : List ℕ) → Did (now (state .entry)) (now (parts .entry)) write (each (firstOffset (lent (now (state .entry)) (now (parts .entry)) sources lengths places body)) (nodesOf (now (state .entry))) 0 c) (now (room .entry)) 0 c (now (room .exit))) ⌝ }
+{
+    let n = parts::node_count(state);
+    let mut i = 0;
+    while i < n {
+        first_offset(state, parts, room, write, i);
+        i += 1;
+    }
+}
+
+// ---- dictionaries
+
+// How many sources the state was planned for.
+fn source_count(state: &[u64]) -> usize
+    requires { ⌜ sourceCount (now state) ≤ 16 ⌝ }
+    ensures { λ r. ⌜ r ≡ sourceCount (now (state .entry)) ⌝ }
+    ensures { λ r. ⌜ r ≤ 16 ⌝ }
+{
+    lent_tables::at_u64(state, 864) as usize
+}
+
+// All entries of source s at node i, behind those that are there.
+fn join_source(
+    state: &[u64],
+    parts: &[u32],
+    sources: &[u32],
+    lengths: &[u64],
+    places: &[u32],
+    body: &[u8],
+    counts: &mut [u64; 96],
+    room: &mut [u8],
+    write: bool,
+    i: usize,
+    s: usize,
+) -> u8
+    requires { ⌜ (i < 2 ^ 32) × (s < 2 ^ 32) ⌝ }
+    ensures { λ g. ⌜ Did (now (state .entry)) (now (parts .entry)) write (joinSource (lent (now (state .entry)) (now (parts .entry)) (now (sources .entry)) (now (lengths .entry)) (now (places .entry)) (now (body .entry))) i s (now (counts .entry))) (now (room .entry)) g (now (counts .exit)) (now (room .exit)) ⌝ }
+{
+    let first = lent_tables::at_u32(sources, 2 * s) as usize;
+    let n = lent_tables::length_of(lengths, first + i);
+    extend::extend(
+        state,
+        parts,
+        lengths,
+        places,
+        body,
+        counts,
+        room,
+        write,
+        s,
+        first,
+        i,
+        0,
+        n,
+        8,
+    )
+}
+
+// All entries at node i, in source order.
+fn join_entries(
+    state: &[u64],
+    parts: &[u32],
+    sources: &[u32],
+    lengths: &[u64],
+    places: &[u32],
+    body: &[u8],
+    counts: &mut [u64; 96],
+    room: &mut [u8],
+    write: bool,
+    i: usize,
+) -> u8
+    requires { ⌜ (i < 2 ^ 32) × (sourceCount (now state) ≤ 16) ⌝ }
+    ensures { λ g. ⌜ Did (now (state .entry)) (now (parts .entry)) write (joinEntries (lent (now (state .entry)) (now (parts .entry)) (now (sources .entry)) (now (lengths .entry)) (now (places .entry)) (now (body .entry))) i (now (counts .entry))) (now (room .entry)) g (now (counts .exit)) (now (room .exit)) ⌝ }
+{
+    let m = source_count(state);
+    let mut s = 0;
+    while s < m {
+        let g = join_source(
+            state,
+            parts,
+            sources,
+            lengths,
+            places,
+            body,
+            counts,
+            room,
+            write,
+            i,
+            s,
+        );
+        if g != 0 {
+            return g;
+        }
+        s += 1;
+    }
+    0
+}
+
+// The entries of the dictionary whose keys are node i, if it is joined.
+fn join_values(
+    state: &[u64],
+    parts: &[u32],
+    sources: &[u32],
+    lengths: &[u64],
+    places: &[u32],
+    body: &[u8],
+    counts: &mut [u64; 96],
+    room: &mut [u8],
+    write: bool,
+    i: usize,
+) -> u8
+    requires { ⌜ (i < 32) × (sourceCount (now state) ≤ 16) ⌝ }
+    ensures { λ g. ⌜ Did (now (state .entry)) (now (parts .entry)) write (cond (eqb (word (now (state .entry)) i 7) 0) (done (now (counts .entry))) (joinEntries (lent (now (state .entry)) (now (parts .entry)) (now (sources .entry)) (now (lengths .entry)) (now (places .entry)) (now (body .entry))) (suc i) (now (counts .entry)))) (now (room .entry)) g (now (counts .exit)) (now (room .exit)) ⌝ }
+{
+    if lent_tables::at_u64(state, 8 * i + 7) == 0 {
+        return 0;
+    }
+    join_entries(
+        state,
+        parts,
+        sources,
+        lengths,
+        places,
+        body,
+        counts,
+        room,
+        write,
+        i + 1,
+    )
+}
+
+// Whether the keys of node i have room for every entry: ground 8 where not.
+fn keys_hold(state: &[u64], sources: &[u32], lengths: &[u64], i: usize) -> bool
+    requires { ⌜ (i < 32) × (sourceCount (now state) ≤ 16) ⌝ }
+    ensures { λ r. ⌜ ((parts places body : List ℕ) → r ≡ keysHold (lent (now (state .entry)) parts (now (sources .entry)) (now (lengths .entry)) places body) i) ⌝ }
+{
+    let code = growth::code_of(state, i);
+    if !formats::is_integer(code) {
+        return false;
+    }
+    let m = source_count(state);
+    let mut s = 0;
+    while s < m {
+        let start = growth::base_of(state, s, i);
+        let k = sharing::node_of(sources, s, i + 1);
+        let n = lent_tables::length_of(lengths, k);
+        if !sharing::key_fits(start, n, code) {
+            return false;
+        }
+        s += 1;
+    }
+    true
+}
+
+// The dictionary whose keys are node i, if it has one: joined where it is not shared, then ground 8.
+fn open_dictionary(
+    state: &[u64],
+    parts: &[u32],
+    sources: &[u32],
+    lengths: &[u64],
+    places: &[u32],
+    body: &[u8],
+    counts: &mut [u64; 96],
+    room: &mut [u8],
+    write: bool,
+    i: usize,
+) -> u8
+    requires { ⌜ (i < 32) × (sourceCount (now state) ≤ 16) ⌝ }
+    ensures { λ g. ⌜ Did (now (state .entry)) (now (parts .entry)) write (openDictionary (lent (now (state .entry)) (now (parts .entry)) (now (sources .entry)) (now (lengths .entry)) (now (places .entry)) (now (body .entry))) i (now (counts .entry))) (now (room .entry)) g (now (counts .exit)) (now (room .exit)) ⌝ }
+{
+    if growth::dictionary_of(state, i) == 0 {
+        return 0;
+    }
+    let g = join_values(
+        state,
+        parts,
+        sources,
+        lengths,
+        places,
+        body,
+        counts,
+        room,
+        write,
+        i,
+    );
+    if g != 0 {
+        return g;
+    }
+    if !keys_hold(state, sources, lengths, i) {
+        return 8;
+    }
+    0
+}
+
+// Every dictionary, in tree order.
+fn open_dictionaries(
+    state: &[u64],
+    parts: &[u32],
+    sources: &[u32],
+    lengths: &[u64],
+    places: &[u32],
+    body: &[u8],
+    counts: &mut [u64; 96],
+    room: &mut [u8],
+    write: bool,
+) -> u8
+    requires { ⌜ sourceCount (now state) ≤ 16 ⌝ }
+    ensures { λ g. ⌜ Did (now (state .entry)) (now (parts .entry)) write (each (openDictionary (lent (now (state .entry)) (now (parts .entry)) (now (sources .entry)) (now (lengths .entry)) (now (places .entry)) (now (body .entry)))) (nodesOf (now (state .entry))) 0 (now (counts .entry))) (now (room .entry)) g (now (counts .exit)) (now (room .exit)) ⌝ }
+{
+    let n = parts::node_count(state);
+    let mut i = 0;
+    while i < n {
+        let g = open_dictionary(
+            state,
+            parts,
+            sources,
+            lengths,
+            places,
+            body,
+            counts,
+            room,
+            write,
+            i,
+        );
+        if g != 0 {
+            return g;
+        }
+        i += 1;
+    }
+    0
+}
+
+// THE WALK OF AN OPENING: first offsets, then the dictionaries. 0, or the ground of refusal.
+pub fn open_walk(
+    state: &[u64],
+    parts: &[u32],
+    sources: &[u32],
+    lengths: &[u64],
+    places: &[u32],
+    body: &[u8],
+    counts: &mut [u64; 96],
+    room: &mut [u8],
+    write: bool,
+) -> u8
+    requires { ⌜ sourceCount (now state) ≤ 16 ⌝ }
+    ensures { λ g. ⌜ Did (now (state .entry)) (now (parts .entry)) write (openWalk (lent (now (state .entry)) (now (parts .entry)) (now (sources .entry)) (now (lengths .entry)) (now (places .entry)) (now (body .entry))) (now (counts .entry))) (now (room .entry)) g (now (counts .exit)) (now (room .exit)) ⌝ }
+{
+    first_offsets(state, parts, room, write);
+    open_dictionaries(
+        state,
+        parts,
+        sources,
+        lengths,
+        places,
+        body,
+        counts,
+        room,
+        write,
+    )
+}

@@ -1,0 +1,159 @@
+-- The first zero offsets: what counters and memory are before any dictionary is joined. Assumes nothing.
+use mathlib.Core.Path.{_≡_, refl, sym, ap, subst, _∙_}
+use mathlib.Core.Bool.{Bool, true, false, not, cond, _&&_, false≢true}
+use mathlib.Core.List.{List, [], _++_}
+use Prim.Native.Nat.{ℕ, zero, suc, _+_, _≤_, _<_}
+use native.Mathlib.Nat.{add-zero, add-suc, suc-add}
+use native.Mathlib.Decide.{decLt}
+use native.Mathlib.Omega.{arith}
+use lib.ListN.{length, getD, replicate}
+use lib.Dec.{eqb}
+use borrow.Author.Tests.{ne-eqb}
+use Rattle.number.specs.Number.{encode}
+use Rattle.formats.specs.Code.{isString}
+use Rattle.walk.specs.State.{word, codeOf, dictionaryOf, bytesOf, rows, nulls, bytes}
+use Rattle.walk.specs.Log.{put, Out, wrote, each}
+use Rattle.link.specs.Memory.{Memory, putIn}
+use Rattle.link.specs.Holds.{flag}
+use Rattle.link.proofs.Goes.{Quiet, quiet-done, quiet-wrote, quiet-then}
+use Rattle.link.proofs.Frame.{SameAt}
+use Rattle.link.proofs.Writes.{put-own, put-other}
+use Rattle.parts.specs.Parts.{copied}
+use Rattle.orders.specs.Order.{Lent}
+use Rattle.opening.specs.Open.{firstOffset}
+
+-- nothing is written
+abbrev pub empty : Memory
+empty = record { at = λ i b. []; bits = λ i. [] }
+
+-- steps of the walk alone, one after the other
+quiet-each : (k : ℕ → List ℕ → Out) (I : ℕ → List ℕ → Memory → Type 0) (step : (r : ℕ) (c : List ℕ) (ν : Memory) → I r c ν → Quiet ν (I (suc r)) (k r c))
+    (n r : ℕ) (c : List ℕ) (μ : Memory) → I r c μ → Quiet μ (I (r + n)) (each k n r c)
+unfolding each
+quiet-each k I step zero r c μ i = quiet-done c (rw add-zero i)
+quiet-each k I step (suc n) r c μ i =
+    quiet-then (λ c2. each k n (suc r) c2) (step r c μ i) (λ c2 ν j. let g = quiet-each k I step n (suc r) c2 ν j in rw (add-suc r n, ← suc-add r n) g)
+
+-- node j with no rows
+pub record Fresh (plan c : List ℕ) (μ : Memory) (j : ℕ) : Type 0 where
+  pub no-rows : rows c j ≡ 0
+  pub no-nulls : nulls c j ≡ 0
+  pub no-bytes : bytes c j ≡ 0
+  pub no-bits : μ .bits j ≡ []
+  pub zero-offset : isString (codeOf plan j) ≡ true → μ .at j 1 ≡ encode (bytesOf plan j) 0
+  pub no-entries : isString (codeOf plan j) ≡ false → μ .at j 1 ≡ []
+  pub no-data : μ .at j 2 ≡ []
+
+pub fresh-same : (plan c c′ : List ℕ) (μ μ′ : Memory) (j : ℕ) → SameAt c c′ μ μ′ j → Fresh plan c μ j → Fresh plan c′ μ′ j
+fresh-same plan c c′ μ μ′ j s f =
+    record {
+      no-rows = s .rows-same ∙ f .no-rows;
+      no-nulls = s .nulls-same ∙ f .no-nulls;
+      no-bytes = s .bytes-same ∙ f .no-bytes;
+      no-bits = s .bits-same ∙ f .no-bits;
+      zero-offset = λ e. s .at-same 1 ∙ f .zero-offset e;
+      no-entries = λ e. s .at-same 1 ∙ f .no-entries e;
+      no-data = s .at-same 2 ∙ f .no-data;
+    }
+
+-- a dictionary's values, where it is joined and not shared (b)
+pub values-copied : (plan : List ℕ) (i : ℕ) (b : Bool) → (dictionaryOf plan i ≡ 0 → ⊥) → word plan i 7 ≡ flag (not b) → b ≡ false → copied plan (suc i) ≡ true
+unfolding copied
+values-copied plan i b d w e = rw (ne-eqb (dictionaryOf plan i) 0 d, w, e)
+
+-- another buffer of any node
+put-else : (i b : ℕ) (bs : List ℕ) (μ : Memory) (j e : ℕ) → (e ≡ b → ⊥) → putIn i b bs μ .at j e ≡ μ .at j e
+put-else i b bs μ j e h = rw (ne-eqb e b h) (go (eqb j i))
+  where
+    go : (z : Bool) → cond (z && false) (μ .at j e ++ bs) (μ .at j e) ≡ μ .at j e
+    go true = refl
+    go false = refl
+
+pub no-counters : (n q : ℕ) → _≡_ {A = ℕ} (getD (replicate n 0) q 0) 0
+no-counters zero q = refl
+no-counters (suc n) zero = refl
+no-counters (suc n) (suc q) = no-counters n q
+
+module _ (x : Lent) (c : List ℕ) where
+  -- the first r nodes have their zero offsets
+  record Zeroed (r : ℕ) (c′ : List ℕ) (μ : Memory) : Type 0 where
+    counts-are : c′ ≡ c
+    bits-none : (j : ℕ) → μ .bits j ≡ []
+    first : (j : ℕ) → j < r → isString (codeOf (x .plan) j) ≡ true → copied (x .plan) j ≡ true → μ .at j 1 ≡ encode (bytesOf (x .plan) j) 0
+    later : (j : ℕ) → r ≤ j → μ .at j 1 ≡ []
+    other : (j : ℕ) → isString (codeOf (x .plan) j) ≡ false → μ .at j 1 ≡ []
+    second : (j : ℕ) → μ .at j 2 ≡ []
+
+  module _ (r : ℕ) (c′ : List ℕ) (μ : Memory) (z : Zeroed r c′ μ) where
+    abbrev bs : List ℕ
+    bs = encode (bytesOf (x .plan) r) 0
+
+    put-apart : (j : ℕ) → (j ≡ r → ⊥) → putIn r 1 bs μ .at j 1 ≡ μ .at j 1
+    put-apart j h = put-other r 1 bs μ c′ j h .at-same 1
+
+    put-here : putIn r 1 bs μ .at r 1 ≡ bs
+    put-here = put-own r 1 bs μ ∙ ap (_++ bs) (z .later r (omega arith))
+
+    written : isString (codeOf (x .plan) r) ≡ true → Zeroed (suc r) c′ (putIn r 1 bs μ)
+    written s =
+        record {
+          counts-are = z .counts-are;
+          bits-none = z .bits-none;
+          first = λ j l e f. by-node j l e f (decLt j r);
+          later = λ j l. put-apart j (λ e. omega (arith, e)) ∙ z .later j (omega arith);
+          other = λ j e. put-apart j (λ q. false≢true (sym e ∙ ap (λ n. isString (codeOf (x .plan) n)) q ∙ s)) ∙ z .other j e;
+          second = λ j. put-else r 1 bs μ j 2 (λ e. omega (arith, e)) ∙ z .second j;
+        }
+      where
+        by-node : (j : ℕ) → j < suc r → isString (codeOf (x .plan) j) ≡ true → copied (x .plan) j ≡ true → Dec (j < r)
+            → putIn r 1 bs μ .at j 1 ≡ encode (bytesOf (x .plan) j) 0
+        by-node j l e f (yes y) = put-apart j (λ q. omega (arith, q)) ∙ z .first j y e f
+        by-node j l e f (no y) = let q : r ≡ j = omega arith in subst (λ n. putIn r 1 bs μ .at n 1 ≡ encode (bytesOf (x .plan) n) 0) q put-here
+
+    kept : isString (codeOf (x .plan) r) && copied (x .plan) r ≡ false → Zeroed (suc r) c′ μ
+    kept s =
+        record {
+          counts-are = z .counts-are;
+          bits-none = z .bits-none;
+          first = λ j l e f. by-node j l e f (decLt j r);
+          later = λ j l. z .later j (omega arith);
+          other = z .other;
+          second = z .second;
+        }
+      where
+        by-node : (j : ℕ) → j < suc r → isString (codeOf (x .plan) j) ≡ true → copied (x .plan) j ≡ true → Dec (j < r) → μ .at j 1 ≡ encode (bytesOf (x .plan) j) 0
+        by-node j l e f (yes y) = z .first j y e f
+        by-node j l e f (no y) =
+            let q : j ≡ r = omega arith in
+            let g : true ≡ false = sym (rw (e, f)) ∙ ap (λ n. isString (codeOf (x .plan) n) && copied (x .plan) n) q ∙ s in
+            absurd (false≢true (sym g))
+
+    zero-step : Quiet μ (Zeroed (suc r)) (firstOffset x r c′)
+    unfolding firstOffset
+    zero-step = go (isString (codeOf (x .plan) r)) refl (copied (x .plan) r) refl
+      where
+        go : (a : Bool) → isString (codeOf (x .plan) r) ≡ a → (b : Bool) → copied (x .plan) r ≡ b
+            → Quiet μ (Zeroed (suc r)) (cond (a && b) (wrote (put r 1 0 bs) c′) (Rattle.walk.specs.Log.done c′))
+        go true e true f = quiet-wrote (put r 1 0 bs) c′ (ap length (sym (z .later r (omega arith)))) (written e)
+        go true e false f = quiet-done c′ (kept (rw (e, f)))
+        go false e b f = quiet-done c′ (kept (rw e))
+
+  -- THE FIRST OFFSETS: the counters stay, and every node that is copied has no rows
+  pub zeros-go : ((q : ℕ) → getD c q 0 ≡ 0) → (n : ℕ) → Quiet empty (λ c′ μ. (c′ ≡ c) × ((j : ℕ) → j < n → copied (x .plan) j ≡ true → Fresh (x .plan) c′ μ j)) (each (firstOffset x) n 0 c)
+  zeros-go none n =
+      let q = quiet-each (firstOffset x) Zeroed (λ r c′ μ z. zero-step r c′ μ z) n 0 c empty
+      (record { counts-are = refl; bits-none = λ j. refl; first = λ j l. absurd (omega arith); later = λ j l. refl; other = λ j e. refl; second = λ j. refl }) in
+      record { is-done = q .is-done; in-place = q .in-place; leaves = (q .leaves .counts-are, λ j l f. fresh (q .leaves) j l f) }
+    where
+      fresh : {c′ : List ℕ} {μ : Memory} → Zeroed (0 + n) c′ μ → (j : ℕ) → j < n → copied (x .plan) j ≡ true → Fresh (x .plan) c′ μ j
+      fresh z j l f =
+          let e = z .counts-are in
+          record {
+            no-rows = ap (λ s. rows s j) e ∙ none _;
+            no-nulls = ap (λ s. nulls s j) e ∙ none _;
+            no-bytes = ap (λ s. bytes s j) e ∙ none _;
+            no-bits = z .bits-none j;
+            zero-offset = λ s. z .first j (omega arith) s f;
+            no-entries = z .other j;
+            no-data = z .second j;
+          }

@@ -1,0 +1,105 @@
+-- `vectors_joins::add_body` is safe and ends. Assumes nothing.
+use Prim.Native.Nat.{_≤_, _-_}
+use lib.ListN.{length}
+use mathlib.Core.Path.{_≡_}
+use borrow.Author.Needs.{needs}
+use Rattle.vectors_joins.proofs.add_body.Statement.{statement}
+use Rattle.vectors_joins.proofs.add_body.Tie as tie
+use Rattle.vectors_joins.proofs.add_body.Reads as reads
+use Rattle.vectors_joins.proofs.add_body.Lts as lts
+use Rattle.join_runs.proofs.put_byte.Reads as put-byte-reads
+use Rattle.join_runs.proofs.put_size.Reads as put-size-reads
+use Rattle.join_runs.proofs.size_of.Reads as size-of-reads
+use Rattle.vectors_joins.proofs.text.low_byte.Reads as low-byte-reads
+use Rattle.vectors_joins.proofs.text.place.Reads as place-reads
+use Rattle.vectors_joins.proofs.text.plus.Reads as plus-reads
+use Rattle.vectors_joins.proofs.text.read_number.Reads as read-number-reads
+
+abbrev Inv-loop : tie.InvT-loop
+Inv-loop text at bytes₀ sizes n from p₀ i₀ bytes p i = (i ≤ n) × (length bytes ≡ length bytes₀)
+
+abbrev μ-loop : tie.MeasureT-loop
+μ-loop text at bytes₀ sizes n from p₀ i₀ bytes p i = n - i
+
+read-number-requires : tie.Need-read-number-requires Inv-loop μ-loop
+read-number-requires c κs = search needs
+
+size-of-requires : tie.Need-size-of-requires Inv-loop μ-loop
+size-of-requires c κs = search needs
+
+plus-requires : tie.Need-plus-requires Inv-loop μ-loop
+plus-requires c κs = search needs
+
+loop-holds : tie.Need-loop-holds Inv-loop μ-loop
+loop-holds c = search needs
+
+read-number-requires-2 : tie.Need-read-number-requires-2 Inv-loop μ-loop
+read-number-requires-2 c κs = search needs
+
+place-requires : tie.Need-place-requires Inv-loop μ-loop
+place-requires c κs = search needs
+
+plus-requires-2 : tie.Need-plus-requires-2 Inv-loop μ-loop
+plus-requires-2 c κs = search needs
+
+low-byte-requires : tie.Need-low-byte-requires Inv-loop μ-loop
+low-byte-requires c κs = search needs
+
+put-byte-requires : tie.Need-put-byte-requires Inv-loop μ-loop
+put-byte-requires c κs = search needs
+
+add-i : tie.Need-add-i Inv-loop μ-loop
+add-i c = search needs
+
+loop-less : tie.Need-loop-less Inv-loop μ-loop
+loop-less c = search needs
+
+loop-again : tie.Need-loop-again Inv-loop μ-loop
+loop-again c = search needs
+
+size-of-requires-2 : tie.Need-size-of-requires-2 Inv-loop μ-loop
+size-of-requires-2 c κs = search needs
+
+place-requires-2 : tie.Need-place-requires-2 Inv-loop μ-loop
+place-requires-2 c κs = search needs
+
+plus-requires-3 : tie.Need-plus-requires-3 Inv-loop μ-loop
+plus-requires-3 c κs = search needs
+
+put-size-requires : tie.Need-put-size-requires Inv-loop μ-loop
+put-size-requires c κs = search needs
+
+same-length : tie.Need-same-length Inv-loop μ-loop
+same-length c = search needs
+
+same-length-2 : tie.Need-same-length-2 Inv-loop μ-loop
+same-length-2 c = search needs
+
+returns : tie.Need-returns Inv-loop μ-loop
+returns c = search needs
+
+pub add-body-spec : {M : Type 1} → statement M
+add-body-spec =
+    tie.close
+    (tie.spec
+    Inv-loop
+    μ-loop
+    read-number-requires
+    size-of-requires
+    plus-requires
+    loop-holds
+    read-number-requires-2
+    place-requires
+    plus-requires-2
+    low-byte-requires
+    put-byte-requires
+    add-i
+    loop-less
+    loop-again
+    size-of-requires-2
+    place-requires-2
+    plus-requires-3
+    put-size-requires
+    same-length
+    same-length-2
+    returns)

@@ -1,0 +1,2 @@
+-- What the opening goes by.
+pub mod Laws

@@ -1,0 +1,194 @@
+// The opening of a join on lent memory: it is tried first, on counters of its own, and made where no ground is found. A refused one changes nothing.
+// Follows `try_with_capacities` of arrow-data 60.1.0 src/transform/mod.rs, Apache-2.0; see NOTICE.
+ghost use mathlib.Core.Path.{_≡_};
+ghost use mathlib.Core.List.{List};
+ghost use mathlib.Core.Bool.{Bool, _&&_};
+ghost use Prim.Native.Nat.{ℕ, _≤_};
+ghost use lib.ListN.{length, replicate};
+ghost use lib.Dec.{eqb};
+ghost use Rattle.lent_tables.specs.Lent.{tables};
+ghost use Rattle.kind_rules.specs.Rows.{tablesOf};
+ghost use Rattle.orders.specs.Order.{sourceCount};
+ghost use Rattle.parts.specs.Parts.{partTotal, partsPlaced};
+ghost use Rattle.plan.specs.Plan.{planned, Plannable};
+ghost use Rattle.opening.specs.Open.{openWalk, settled, opening};
+ghost use Rattle.opening.specs.Ask.{asked};
+ghost use Rattle.open_walk.specs.Lent.{lent};
+ghost use Rattle.with_capacities.specs.Answer.{Answers, Plans};
+
+// The n numbers of a slice into another one.
+fn store(to: &mut [u64], from: &[u64], n: usize)
+    requires { ⌜ (length (now to) ≡ n) × (length (now from) ≡ n) ⌝ }
+    ensures { λ _. ⌜ now (to .exit) ≡ now (from .entry) ⌝ }
+{
+    let mut i = 0;
+    while i < n {
+        to[i] = from[i];
+        i += 1;
+    }
+}
+
+// A copy; that it has 96 elements is known of an array that a call returns.
+fn copied(counts: [u64; 96]) -> [u64; 96]
+    ensures { λ r. ⌜ r ≡ counts ⌝ }
+{
+    counts
+}
+
+// The state as it is planned.
+fn planned_state(
+    sources: &[u32],
+    formats: &[u8],
+    schema: &[u32],
+    lengths: &[u64],
+    places: &[u32],
+    body: &[u8],
+    keep: bool,
+) -> [u64; 872]
+    requires { ⌜ Plannable (tables (now lengths) (now places) (now body)) (now sources) ⌝ }
+    ensures { λ r. ⌜ r ≡ planned (now (formats .entry)) (now (schema .entry)) (tables (now (lengths .entry)) (now (places .entry)) (now (body .entry))) (now (sources .entry)) keep ⌝ }
+{
+    let mut state = [0u64; 872];
+    plan::plan(
+        sources,
+        formats,
+        schema,
+        lengths,
+        places,
+        body,
+        keep,
+        &mut state,
+    );
+    state
+}
+
+// Whether plan and counters, of so many numbers, are of a join's lengths and the parts lie in the room, apart: ground 14 where not.
+fn room_placed(state: &[u64], parts: &[u32], words: usize, counts: usize, m: usize) -> bool
+    ensures { λ r. ⌜ r ≡ (eqb words 872 && eqb counts 96 && partsPlaced (now (parts .entry)) (partTotal (now (state .entry))) m) ⌝ }
+{
+    if words != 872 {
+        return false;
+    }
+    if counts != 96 {
+        return false;
+    }
+    parts::parts_placed(parts, parts::part_total(state), m)
+}
+
+// The walk of an opening tried, the parts asked, and the walk made.
+fn make(
+    state: &[u64],
+    parts: &[u32],
+    sources: &[u32],
+    lengths: &[u64],
+    places: &[u32],
+    body: &[u8],
+    plan: &mut [u64],
+    counters: &mut [u64],
+    room: &mut [u8],
+) -> u8
+    requires { ⌜ (sourceCount (now state) ≤ 16) × (length (now state) ≡ 872) × (length (now plan) ≡ 872) × (length (now counters) ≡ 96) ⌝ }
+    ensures { λ r. ⌜ ((formats schema buffers : List ℕ) (keep : Bool) → now (state .entry) ≡ planned formats schema (tablesOf (now (lengths .entry)) (now (places .entry)) buffers (now (body .entry))) (now (sources .entry)) keep → Answers (settled formats schema (now (sources .entry)) (tablesOf (now (lengths .entry)) (now (places .entry)) buffers (now (body .entry))) keep (now (parts .entry)) (now (plan .entry)) (now (counters .entry)) (now (room .entry)) (openWalk (lent (now (state .entry)) (now (parts .entry)) (now (sources .entry)) (now (lengths .entry)) (now (places .entry)) (now (body .entry))) (replicate 96 0))) r (now (plan .exit)) (now (counters .exit)) (now (room .exit))) ⌝ }
+{
+    let mut tried = [0u64; 96];
+    let g = open_walk::open_walk(
+        state,
+        parts,
+        sources,
+        lengths,
+        places,
+        body,
+        &mut tried,
+        room,
+        false,
+    );
+    if g != 0 {
+        return g;
+    }
+    if !parts::parts_hold(state, &tried, parts) {
+        return 13;
+    }
+    let mut counts = [0u64; 96];
+    let g = open_walk::open_walk(
+        state,
+        parts,
+        sources,
+        lengths,
+        places,
+        body,
+        &mut counts,
+        room,
+        true,
+    );
+    let made = copied(counts);
+    store(counters, &made, 96);
+    store(plan, state, 872);
+    g
+}
+
+// Opens a join of lent columns: 0, or the ground of refusal. Plan and counters are then what every order is given.
+pub fn try_with_capacities(
+    sources: &[u32],
+    formats: &[u8],
+    schema: &[u32],
+    lengths: &[u64],
+    places: &[u32],
+    buffers: &[u32],
+    body: &[u8],
+    keep: bool,
+    parts: &[u32],
+    plan: &mut [u64],
+    counters: &mut [u64],
+    room: &mut [u8],
+) -> u8
+    ensures { λ r. ⌜ Answers (opening (now (formats .entry)) (now (schema .entry)) (now (sources .entry)) (tablesOf (now (lengths .entry)) (now (places .entry)) (now (buffers .entry)) (now (body .entry))) keep (now (parts .entry)) (now (plan .entry)) (now (counters .entry)) (now (room .entry))) r (now (plan .exit)) (now (counters .exit)) (now (room .exit)) ⌝ }
+{
+    if 4294967295 < room.len() {
+        return 9;
+    }
+    let g = columns::sources_ground(sources, formats, schema, lengths, places, buffers, body);
+    if g != 0 {
+        return g;
+    }
+    let state = planned_state(sources, formats, schema, lengths, places, body, keep);
+    if !room_placed(&state, parts, plan.len(), counters.len(), room.len()) {
+        return 14;
+    }
+    make(
+        &state,
+        parts,
+        sources,
+        lengths,
+        places,
+        body,
+        plan,
+        counters,
+        room,
+    )
+}
+
+// The question before any room is lent: the ground of the sources, or the plan, by which `parts::part_total` says how many parts there are.
+pub fn plan_parts(
+    sources: &[u32],
+    formats: &[u8],
+    schema: &[u32],
+    lengths: &[u64],
+    places: &[u32],
+    buffers: &[u32],
+    body: &[u8],
+    keep: bool,
+    plan: &mut [u64],
+) -> u8
+    ensures { λ r. ⌜ Plans (asked (now (formats .entry)) (now (schema .entry)) (now (sources .entry)) (tablesOf (now (lengths .entry)) (now (places .entry)) (now (buffers .entry)) (now (body .entry))) keep (now (plan .entry))) r (now (plan .exit)) ⌝ }
+{
+    let g = columns::sources_ground(sources, formats, schema, lengths, places, buffers, body);
+    if g != 0 {
+        return g;
+    }
+    if plan.len() != 872 {
+        return 14;
+    }
+    let state = planned_state(sources, formats, schema, lengths, places, body, keep);
+    store(plan, &state, 872);
+    0
+}
