@@ -17,9 +17,10 @@ extern "C" {
         places: *const u32, places_len: usize, buffers: *const u32, buffers_len: usize, body: *const u8, body_len: usize,
         first: u32, n: u32, room: *mut u64, room_len: usize,
     ) -> u8;
-    fn lafkuno_row_kind(
+    fn lafkuno_read_row(
         tree: *const u64, tree_len: usize, lengths: *const u64, lengths_len: usize, places: *const u32, places_len: usize,
-        buffers: *const u32, buffers_len: usize, body: *const u8, body_len: usize, first: u32, row: u64, number: *mut u64,
+        buffers: *const u32, buffers_len: usize, body: *const u8, body_len: usize, first: u32, row: u64,
+        answer: *mut u64, answer_len: usize,
     ) -> u8;
 }
 
@@ -97,14 +98,14 @@ impl Lent {
     }
 
     fn row(&self, tree: &[u64], row: u64) -> (u8, u64) {
-        let mut number = 0;
+        let mut answer = [0; 12];
         let kind = unsafe {
-            lafkuno_row_kind(
+            lafkuno_read_row(
                 tree.as_ptr(), tree.len(), self.lengths.as_ptr(), self.lengths.len(), self.places.as_ptr(), self.places.len(),
-                self.buffers.as_ptr(), self.buffers.len(), self.body.as_ptr(), self.body.len(), 0, row, &mut number,
+                self.buffers.as_ptr(), self.buffers.len(), self.body.as_ptr(), self.body.len(), 0, row, answer.as_mut_ptr(), answer.len(),
             )
         };
-        (kind, number)
+        (kind, answer[0])
     }
 }
 
@@ -455,10 +456,10 @@ fn array<'a>(check: &Check<'a>, i: usize) -> Array<'a> {
 }
 
 impl Array<'_> {
-    // The row's kind and its first number, as lafkuno_row_kind; 4 with 12 where a buffer does not hold it.
+    // The row's kind and its first number, as lafkuno_read_row; 7 with 12 where a buffer does not hold it.
     #[inline(never)]
     fn row(&self, row: usize) -> (u8, u64) {
-        self.read(row).unwrap_or((4, 12))
+        self.read(row).unwrap_or((7, 12))
     }
 
     fn read(&self, row: usize) -> Option<(u8, u64)> {
@@ -665,7 +666,7 @@ fn read(name: &str, lent: &Lent) {
     for row in 0..ROWS {
         assert_eq!(lent.row(&tree, row as u64), array.row(row), "{name} {row}");
     }
-    assert_eq!(lent.row(&tree, ROWS as u64), (4, 2));
+    assert_eq!(lent.row(&tree, ROWS as u64), (7, 2));
     compare(
         &format!("reading of {name}"),
         1.5,

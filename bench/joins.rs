@@ -1,0 +1,261 @@
+// Times whole orders on lent memory against the original's algorithm (bindings/rust/original) and prints a table. Both sides are first held
+// to the same bytes. Run by bench/run; built by cargo with bindings/rust.
+#[allow(dead_code)]
+mod timing;
+
+use lafkuno::calls::{self, COUNTERS, PLAN};
+use lafkuno::{Column, Join, Lent, Row, Type};
+use original::{ArrayData, MutableArrayData};
+use std::cell::RefCell;
+use std::hint::black_box;
+use std::time::{Duration, Instant};
+use timing::Random;
+use trials::convert::{difference, Convert};
+
+const ROWS: u64 = 4096;
+const OFFSET: u64 = 8;
+
+// ---- columns
+
+fn text(random: &mut Random, most: u64) -> Row {
+    Row::Bytes((0..random.below(most)).map(|_| b'a' + random.below(26) as u8).collect())
+}
+
+// A row of each type that is measured.
+fn row(random: &mut Random, ty: &Type) -> Row {
+    if ty.nullable && random.below(2) == 0 {
+        return Row::Null;
+    }
+    match ty.format.as_str() {
+        "i" | "l" => Row::Whole(random.below(1 << 31) as i128),
+        "g" => Row::Double(random.next() >> 12),
+        "u" => text(random, 20),
+        "vu" => text(random, 25),
+        "+vl" => Row::List((0..random.below(4)).map(|_| row(random, &ty.children[0])).collect()),
+        "+r" => row(random, &ty.children[1]),
+        "C" | "S" => Row::Bytes(format!("entry {}", random.below(200)).into_bytes()),
+        _ => {
+            let c = random.below(ty.children.len() as u64) as usize;
+            Row::Union(c as u8, Box::new(row(random, &ty.children[c])))
+        }
+    }
+}
+
+fn column(random: &mut Random, ty: &Type) -> Column {
+    let mut rows: Vec<Row> = vec![];
+    while rows.len() < (ROWS + OFFSET) as usize {
+        let n = if ty.format == "+r" { 1 + random.below(15) } else { 1 };
+        let next = row(random, ty);
+        rows.extend((0..n).map(|_| next.clone()));
+    }
+    rows.truncate((ROWS + OFFSET) as usize);
+    Column::build(ty, &rows).unwrap().slice(OFFSET, ROWS).unwrap()
+}
+
+// ---- the two sides
+
+// All orders of one join: pieces of ROWS / n rows.
+fn pieces(n: u64) -> Vec<(u64, u64)> {
+    (0..n).map(|k| (k * ROWS / n, (k + 1) * ROWS / n)).collect()
+}
+
+struct Ours {
+    lent: Lent,
+    plan: [u64; PLAN],
+    opened: [u64; COUNTERS],
+    parts: Vec<u32>,
+    room: Vec<u8>,
+}
+
+impl Ours {
+    fn new(sources: &[&Column]) -> Ours {
+        let lent = Lent::lay(sources).unwrap();
+        let (mut plan, mut counters) = ([0; PLAN], [0; COUNTERS]);
+        assert_eq!(calls::plan_parts(&lent.tables(), false, &mut plan), 0);
+        assert_eq!(calls::measure_open(&plan, &lent.tables(), &mut counters), 0);
+        // orders that cut runs make more of them
+        for (start, end) in pieces(64) {
+            assert_eq!(calls::measure_copy(&plan, &lent.tables(), &mut counters, sources.len() as u32 - 1, start, end), 0);
+        }
+        let (mut parts, mut end) = (vec![], 0u32);
+        for p in 0..calls::part_count(&plan) as u32 {
+            let size = calls::needed_bytes(&plan, &counters, p) as u32;
+            parts.extend([end, size]);
+            end = (end + size).next_multiple_of(64);
+        }
+        let mut ours = Ours { lent, plan, opened: [0; COUNTERS], parts, room: vec![0; end as usize] };
+        ours.opened = ours.open();
+        ours
+    }
+
+    fn open(&mut self) -> [u64; COUNTERS] {
+        let mut counters = [0; COUNTERS];
+        let answer = calls::open(&self.lent.tables(), false, &self.parts, &mut self.plan, &mut counters, &mut self.room);
+        assert_eq!(answer, 0);
+        counters
+    }
+
+    fn check(&self) -> u8 {
+        let mut plan = [0; PLAN];
+        calls::plan_parts(&self.lent.tables(), false, &mut plan)
+    }
+
+    fn orders(&mut self, list: &[(u64, u64)]) -> u64 {
+        let mut counters = self.opened;
+        let x = self.lent.tables();
+        let last = x.sources.len() as u32 / 2 - 1;
+        for (start, end) in list {
+            let answer = calls::copy(&self.plan, &self.parts, &x, &mut counters, &mut self.room, last, *start, *end);
+            assert_eq!(answer, 0);
+        }
+        counters[0]
+    }
+}
+
+fn open(arrays: &[ArrayData]) -> MutableArrayData<'_> {
+    MutableArrayData::try_new(arrays.iter().collect(), false, 0).unwrap()
+}
+
+fn orders<'a>(arrays: &'a [ArrayData], list: &[(u64, u64)]) -> MutableArrayData<'a> {
+    let mut mutable = open(arrays);
+    for (start, end) in list {
+        mutable.try_extend(arrays.len() - 1, *start as usize, *end as usize).unwrap();
+    }
+    mutable
+}
+
+// ---- timing
+
+// The best time of each, in rounds that alternate.
+fn best<const N: usize>(mut sides: [&mut dyn FnMut(); N]) -> [f64; N] {
+    let mut once = |side: usize, calls: u32| {
+        let start = Instant::now();
+        (0..calls).for_each(|_| sides[side]());
+        start.elapsed().as_nanos() as f64 / calls as f64
+    };
+    let mut calls = [1; N];
+    for (side, calls) in calls.iter_mut().enumerate() {
+        while once(side, *calls) * (*calls as f64) < 50_000.0 {
+            *calls *= 2;
+        }
+    }
+    let mut times = [f64::MAX; N];
+    let start = Instant::now();
+    let mut rounds = 0;
+    while rounds < 200 || start.elapsed() < Duration::from_millis(400) {
+        for side in 0..N {
+            times[side] = times[side].min(once(side, calls[side]));
+        }
+        rounds += 1;
+    }
+    times
+}
+
+fn verdict(ratio: f64, goal: f64) -> &'static str {
+    if ratio <= goal {
+        "met"
+    } else {
+        "missed"
+    }
+}
+
+fn measure(random: &mut Random, name: &str, ty: &str) {
+    let ty: Type = ty.parse().unwrap();
+    // two sources, of which the last is copied, so that dictionaries are joined; else one
+    let columns: Vec<Column> = (0..if name.contains("joined") { 2 } else { 1 }).map(|_| column(random, &ty)).collect();
+    let sources: Vec<&Column> = columns.iter().collect();
+    let mut convert = Convert::default();
+    let arrays: Vec<ArrayData> = sources.iter().map(|c| convert.array(c)).collect();
+    same(&sources, &arrays);
+    let (one, many) = (pieces(1), pieces(64));
+    let (mut ours, mut again, mut third) = (Ours::new(&sources), Ours::new(&sources), Ours::new(&sources));
+    let checked = Ours::new(&sources);
+    let [ours_one, ours_many, ours_open, check, plain_one, plain_many, plain_open] = best([
+        &mut || {
+            black_box(ours.orders(black_box(&one)));
+        },
+        &mut || {
+            black_box(again.orders(black_box(&many)));
+        },
+        &mut || {
+            black_box(third.open());
+        },
+        &mut || {
+            black_box(checked.check());
+        },
+        &mut || {
+            black_box(orders(black_box(&arrays), &one));
+        },
+        &mut || {
+            black_box(orders(black_box(&arrays), &many));
+        },
+        &mut || {
+            black_box(open(black_box(&arrays)));
+        },
+    ]);
+    for (count, ours, plain) in [(1, ours_one, plain_one - plain_open), (64, ours_many, plain_many - plain_open)] {
+        let ratio = ours / plain;
+        let orders = if count == 1 { "one order" } else { "64 orders" };
+        println!("| {name}, {orders} | {ours:.0} | {plain:.0} | {ratio:.2} | 1.0 | {} |", verdict(ratio, 1.0));
+    }
+    println!("| {name}, opening (of which checking {check:.0}) | {ours_open:.0} | {plain_open:.0} | | | |");
+}
+
+// The finished columns are the same. A kept dictionary stays in the body: then the rows are compared.
+fn same(sources: &[&Column], arrays: &[ArrayData]) {
+    let last = sources.len() - 1;
+    let mut join = Join::open(sources, false).unwrap();
+    join.copy(last, 0..ROWS).unwrap();
+    let joined = join.finish().unwrap().column;
+    assert_eq!(joined.rows(), sources[last].rows());
+    if last != 0 || joined.dictionary.is_none() {
+        let theirs = orders(arrays, &pieces(1)).freeze();
+        assert_eq!(difference(&joined, &theirs, sources[0], 0, "root"), None);
+    }
+}
+
+// A copy of numbers against the copy of their bytes, from and to the same places.
+fn against_memcpy(random: &mut Random) {
+    let column = column(random, &"i".parse().unwrap());
+    let ours = RefCell::new(Ours::new(&[&column]));
+    let from = (ours.borrow().lent.places[3] as u64 + 4 * OFFSET) as usize;
+    let to = ours.borrow().parts[0] as usize;
+    let n = 4 * ROWS as usize;
+    let one = pieces(1);
+    let [a, b] = best([
+        &mut || {
+            black_box(ours.borrow_mut().orders(black_box(&one)));
+        },
+        &mut || {
+            let Ours { lent, room, .. } = &mut *ours.borrow_mut();
+            black_box(&mut room[to..to + n]).copy_from_slice(black_box(&lent.body[from..from + n]));
+        },
+    ]);
+    let (ratio, goal) = (a / b, 1.2);
+    println!("| i32, one order against memcpy of {n} bytes | {a:.0} | {b:.0} | {ratio:.2} | {goal} | {} |", verdict(ratio, goal));
+}
+
+fn main() {
+    let mut random = Random(88172645463325252);
+    let random = &mut random;
+    println!("| {ROWS} rows, offset {OFFSET} | port, ns | original's algorithm, ns | ratio | goal | |");
+    println!("|---|---|---|---|---|---|");
+    against_memcpy(random);
+    for (name, ty) in [
+        ("i32", "i"),
+        ("i32 with validity", "i?"),
+        ("byte strings", "u"),
+        ("views", "vu"),
+        ("list-view of i32", "+vl(i)"),
+        ("sparse union of i32 and i64", "+us:0,1(i, l)"),
+        ("dense union of i32 and i64", "+ud:0,1(i, l)"),
+        ("run ends over i32", "+r(i, i)"),
+        ("dictionary, joined", "S[u]"),
+        ("dictionary, shared", "C[u]"),
+        ("list-view of byte strings", "+vl(u)"),
+        ("dense union of three", "+ud:0,1,2(i, u, g)"),
+        ("run ends over a dictionary, joined", "+r(i, S[u])"),
+    ] {
+        measure(random, name, ty);
+    }
+}

@@ -1,0 +1,293 @@
+//! The calls of the proved library (include/lafkuno.h) over slices. This is the one file that names them.
+//!
+//! Every call answers 0 or the number of a ground, and changes nothing where it is not 0. Whatever the slices hold, only they are read,
+//! and only those behind `&mut` are written.
+
+/// Numbers in a plan.
+pub const PLAN: usize = 872;
+/// Numbers in the counters of a join.
+pub const COUNTERS: usize = 96;
+/// Numbers in the tree of an opened column.
+pub const TREE: usize = 256;
+
+/// The tables of docs/FORMAT.md with the body that they are about.
+#[derive(Clone, Copy, Debug)]
+pub struct Tables<'a> {
+    pub sources: &'a [u32],
+    pub formats: &'a [u8],
+    pub schema: &'a [u32],
+    pub lengths: &'a [u64],
+    pub places: &'a [u32],
+    pub buffers: &'a [u32],
+    pub body: &'a [u8],
+}
+
+/// The tables that finishing fills: 2 lengths, 1 null count and 9 places a node, 2 numbers a data buffer.
+#[derive(Debug)]
+pub struct FinishedTables<'a> {
+    pub lengths: &'a mut [u64],
+    pub nulls: &'a mut [u64],
+    pub places: &'a mut [u32],
+    pub buffers: &'a mut [u32],
+}
+
+/// One row as a call answers it: bytes by their place in the body, a list by the child's node and rows.
+#[derive(Clone, Copy, Debug, PartialEq, Eq)]
+pub enum Read {
+    Null,
+    Signed(i64),
+    Unsigned(u64),
+    /// An f32, by its bits.
+    Single(u32),
+    /// An f64, by its bits.
+    Double(u64),
+    Bytes {
+        at: u64,
+        len: u64,
+    },
+    List {
+        node: u64,
+        start: u64,
+        len: u64,
+    },
+}
+
+/// A row that was read, with the ids of the unions on the way to it: the first `count` of `ids`.
+#[derive(Clone, Copy, Debug, PartialEq, Eq)]
+pub struct RowAnswer {
+    pub read: Read,
+    pub ids: [u8; 8],
+    pub count: u8,
+}
+
+// A slice passes as pointer and length.
+extern "C" {
+    fn lafkuno_plan_parts(
+        sources: *const u32, sources_len: usize, formats: *const u8, formats_len: usize, schema: *const u32, schema_len: usize,
+        lengths: *const u64, lengths_len: usize, places: *const u32, places_len: usize, buffers: *const u32, buffers_len: usize,
+        body: *const u8, body_len: usize, keep: u8, plan: *mut u64, plan_len: usize,
+    ) -> u8;
+    fn lafkuno_part_count(plan: *const u64, plan_len: usize) -> u32;
+    // u64::MAX where there is no such part
+    fn lafkuno_part_node(plan: *const u64, plan_len: usize, p: u32) -> u64;
+    fn lafkuno_part_buffer(plan: *const u64, plan_len: usize, p: u32) -> u64;
+    fn lafkuno_open(
+        sources: *const u32, sources_len: usize, formats: *const u8, formats_len: usize, schema: *const u32, schema_len: usize,
+        lengths: *const u64, lengths_len: usize, places: *const u32, places_len: usize, buffers: *const u32, buffers_len: usize,
+        body: *const u8, body_len: usize, keep: u8, parts: *const u32, parts_len: usize, plan: *mut u64, plan_len: usize,
+        counters: *mut u64, counters_len: usize, room: *mut u8, room_len: usize,
+    ) -> u8;
+    fn lafkuno_copy(
+        plan: *const u64, plan_len: usize, parts: *const u32, parts_len: usize, sources: *const u32, sources_len: usize,
+        lengths: *const u64, lengths_len: usize, places: *const u32, places_len: usize, body: *const u8, body_len: usize,
+        counters: *mut u64, counters_len: usize, room: *mut u8, room_len: usize, source: u32, start: u64, end: u64,
+    ) -> u8;
+    fn lafkuno_nulls(
+        plan: *const u64, plan_len: usize, parts: *const u32, parts_len: usize, counters: *mut u64, counters_len: usize,
+        room: *mut u8, room_len: usize, n: u64,
+    ) -> u8;
+    fn lafkuno_finish(
+        plan: *const u64, plan_len: usize, parts: *const u32, parts_len: usize, sources: *const u32, sources_len: usize,
+        lengths: *const u64, lengths_len: usize, places: *const u32, places_len: usize, buffers: *const u32, buffers_len: usize,
+        body: *const u8, body_len: usize, counters: *const u64, counters_len: usize, room: *const u8, room_len: usize, base: u32,
+        new_lengths: *mut u64, new_lengths_len: usize, new_nulls: *mut u64, new_nulls_len: usize,
+        new_places: *mut u32, new_places_len: usize, new_buffers: *mut u32, new_buffers_len: usize,
+    ) -> u8;
+    fn lafkuno_buffer_total(
+        plan: *const u64, plan_len: usize, sources: *const u32, sources_len: usize, places: *const u32, places_len: usize,
+    ) -> u64;
+    fn lafkuno_running_nulls(counters: *const u64, counters_len: usize) -> u64;
+    fn lafkuno_measure_open(
+        plan: *const u64, plan_len: usize, sources: *const u32, sources_len: usize, lengths: *const u64, lengths_len: usize,
+        places: *const u32, places_len: usize, body: *const u8, body_len: usize, counters: *mut u64, counters_len: usize,
+    ) -> u8;
+    fn lafkuno_measure_copy(
+        plan: *const u64, plan_len: usize, sources: *const u32, sources_len: usize, lengths: *const u64, lengths_len: usize,
+        places: *const u32, places_len: usize, body: *const u8, body_len: usize, counters: *mut u64, counters_len: usize,
+        source: u32, start: u64, end: u64,
+    ) -> u8;
+    fn lafkuno_measure_nulls(plan: *const u64, plan_len: usize, counters: *mut u64, counters_len: usize, n: u64) -> u8;
+    fn lafkuno_needed_bytes(plan: *const u64, plan_len: usize, counters: *const u64, counters_len: usize, p: u32) -> u64;
+    fn lafkuno_column_ground(
+        formats: *const u8, formats_len: usize, schema: *const u32, schema_len: usize, lengths: *const u64, lengths_len: usize,
+        places: *const u32, places_len: usize, buffers: *const u32, buffers_len: usize, body: *const u8, body_len: usize,
+        first: u32, n: u32,
+    ) -> u8;
+    fn lafkuno_open_column(
+        formats: *const u8, formats_len: usize, schema: *const u32, schema_len: usize, lengths: *const u64, lengths_len: usize,
+        places: *const u32, places_len: usize, buffers: *const u32, buffers_len: usize, body: *const u8, body_len: usize,
+        first: u32, n: u32, tree: *mut u64, tree_len: usize,
+    ) -> u8;
+    // answers the kind: 0 null, 1 signed, 2 unsigned, 3 f32, 4 f64, 5 bytes, 6 list, 7 refused, also where `answer` has not 12 numbers;
+    // answer: three numbers, how many ids there are, eight ids
+    fn lafkuno_read_row(
+        tree: *const u64, tree_len: usize, lengths: *const u64, lengths_len: usize, places: *const u32, places_len: usize,
+        buffers: *const u32, buffers_len: usize, body: *const u8, body_len: usize, first: u32, row: u64,
+        answer: *mut u64, answer_len: usize,
+    ) -> u8;
+}
+
+// ---- before any room is lent
+
+/// 9 to 12, or 14 where `plan` has not [`PLAN`] numbers; else the plan is written.
+pub fn plan_parts(x: &Tables, keep: bool, plan: &mut [u64]) -> u8 {
+    unsafe {
+        lafkuno_plan_parts(
+            x.sources.as_ptr(), x.sources.len(), x.formats.as_ptr(), x.formats.len(), x.schema.as_ptr(), x.schema.len(),
+            x.lengths.as_ptr(), x.lengths.len(), x.places.as_ptr(), x.places.len(), x.buffers.as_ptr(), x.buffers.len(),
+            x.body.as_ptr(), x.body.len(), keep as u8, plan.as_mut_ptr(), plan.len(),
+        )
+    }
+}
+
+/// How many parts a plan has.
+pub fn part_count(plan: &[u64]) -> usize {
+    unsafe { lafkuno_part_count(plan.as_ptr(), plan.len()) as usize }
+}
+
+/// The node and the buffer of part `p`; buffer 0 is the validity.
+pub fn part_at(plan: &[u64], p: usize) -> Option<(usize, usize)> {
+    let p = u32::try_from(p).ok()?;
+    let node = unsafe { lafkuno_part_node(plan.as_ptr(), plan.len(), p) };
+    let buffer = unsafe { lafkuno_part_buffer(plan.as_ptr(), plan.len(), p) };
+    (node != u64::MAX).then_some((node as usize, buffer as usize))
+}
+
+// ---- the join
+
+/// Opens a join over lent room: the plan, the counters and the parts are written.
+pub fn open(x: &Tables, keep: bool, parts: &[u32], plan: &mut [u64], counters: &mut [u64], room: &mut [u8]) -> u8 {
+    unsafe {
+        lafkuno_open(
+            x.sources.as_ptr(), x.sources.len(), x.formats.as_ptr(), x.formats.len(), x.schema.as_ptr(), x.schema.len(),
+            x.lengths.as_ptr(), x.lengths.len(), x.places.as_ptr(), x.places.len(), x.buffers.as_ptr(), x.buffers.len(),
+            x.body.as_ptr(), x.body.len(), keep as u8, parts.as_ptr(), parts.len(), plan.as_mut_ptr(), plan.len(),
+            counters.as_mut_ptr(), counters.len(), room.as_mut_ptr(), room.len(),
+        )
+    }
+}
+
+/// Copies the rows `start .. end` of a source behind the rows that are there.
+#[allow(clippy::too_many_arguments)]
+pub fn copy(plan: &[u64], parts: &[u32], x: &Tables, counters: &mut [u64], room: &mut [u8], source: u32, start: u64, end: u64) -> u8 {
+    unsafe {
+        lafkuno_copy(
+            plan.as_ptr(), plan.len(), parts.as_ptr(), parts.len(), x.sources.as_ptr(), x.sources.len(),
+            x.lengths.as_ptr(), x.lengths.len(), x.places.as_ptr(), x.places.len(), x.body.as_ptr(), x.body.len(),
+            counters.as_mut_ptr(), counters.len(), room.as_mut_ptr(), room.len(), source, start, end,
+        )
+    }
+}
+
+/// Adds n nulls.
+pub fn nulls(plan: &[u64], parts: &[u32], counters: &mut [u64], room: &mut [u8], n: u64) -> u8 {
+    unsafe {
+        lafkuno_nulls(
+            plan.as_ptr(), plan.len(), parts.as_ptr(), parts.len(), counters.as_mut_ptr(), counters.len(),
+            room.as_mut_ptr(), room.len(), n,
+        )
+    }
+}
+
+/// Describes the finished array. `base` is where the room begins in the body that the new tables are about.
+#[allow(clippy::too_many_arguments)]
+pub fn finish(plan: &[u64], parts: &[u32], x: &Tables, counters: &[u64], room: &[u8], base: u32, out: &mut FinishedTables) -> u8 {
+    unsafe {
+        lafkuno_finish(
+            plan.as_ptr(), plan.len(), parts.as_ptr(), parts.len(), x.sources.as_ptr(), x.sources.len(),
+            x.lengths.as_ptr(), x.lengths.len(), x.places.as_ptr(), x.places.len(), x.buffers.as_ptr(), x.buffers.len(),
+            x.body.as_ptr(), x.body.len(), counters.as_ptr(), counters.len(), room.as_ptr(), room.len(), base,
+            out.lengths.as_mut_ptr(), out.lengths.len(), out.nulls.as_mut_ptr(), out.nulls.len(),
+            out.places.as_mut_ptr(), out.places.len(), out.buffers.as_mut_ptr(), out.buffers.len(),
+        )
+    }
+}
+
+/// How many data buffers the finished array names.
+pub fn buffer_total(plan: &[u64], places: &[u32], sources: &[u32]) -> usize {
+    unsafe { lafkuno_buffer_total(plan.as_ptr(), plan.len(), sources.as_ptr(), sources.len(), places.as_ptr(), places.len()) as usize }
+}
+
+/// The running null count.
+pub fn running_nulls(counters: &[u64]) -> u64 {
+    unsafe { lafkuno_running_nulls(counters.as_ptr(), counters.len()) }
+}
+
+// ---- the same without room
+
+/// What an opening does to the counters.
+pub fn measure_open(plan: &[u64], x: &Tables, counters: &mut [u64]) -> u8 {
+    unsafe {
+        lafkuno_measure_open(
+            plan.as_ptr(), plan.len(), x.sources.as_ptr(), x.sources.len(), x.lengths.as_ptr(), x.lengths.len(),
+            x.places.as_ptr(), x.places.len(), x.body.as_ptr(), x.body.len(), counters.as_mut_ptr(), counters.len(),
+        )
+    }
+}
+
+/// What a copy does to them.
+pub fn measure_copy(plan: &[u64], x: &Tables, counters: &mut [u64], source: u32, start: u64, end: u64) -> u8 {
+    unsafe {
+        lafkuno_measure_copy(
+            plan.as_ptr(), plan.len(), x.sources.as_ptr(), x.sources.len(), x.lengths.as_ptr(), x.lengths.len(),
+            x.places.as_ptr(), x.places.len(), x.body.as_ptr(), x.body.len(), counters.as_mut_ptr(), counters.len(),
+            source, start, end,
+        )
+    }
+}
+
+/// What an order of nulls does to them.
+pub fn measure_nulls(plan: &[u64], counters: &mut [u64], n: u64) -> u8 {
+    unsafe { lafkuno_measure_nulls(plan.as_ptr(), plan.len(), counters.as_mut_ptr(), counters.len(), n) }
+}
+
+/// The bytes that part `p` must hold; 0 where there is no such part.
+pub fn needed_bytes(plan: &[u64], counters: &[u64], p: u32) -> u64 {
+    unsafe { lafkuno_needed_bytes(plan.as_ptr(), plan.len(), counters.as_ptr(), counters.len(), p) }
+}
+
+// ---- one column
+
+/// 9, 10 or 12 for the column of `n` nodes from node `first` on.
+pub fn column_ground(x: &Tables, first: u32, n: u32) -> u8 {
+    unsafe {
+        lafkuno_column_ground(
+            x.formats.as_ptr(), x.formats.len(), x.schema.as_ptr(), x.schema.len(), x.lengths.as_ptr(), x.lengths.len(),
+            x.places.as_ptr(), x.places.len(), x.buffers.as_ptr(), x.buffers.len(), x.body.as_ptr(), x.body.len(), first, n,
+        )
+    }
+}
+
+/// The same, or 14 where `tree` has fewer than [`TREE`] numbers; else the column's tree is written to its front.
+pub fn open_column(x: &Tables, first: u32, n: u32, tree: &mut [u64]) -> u8 {
+    unsafe {
+        lafkuno_open_column(
+            x.formats.as_ptr(), x.formats.len(), x.schema.as_ptr(), x.schema.len(), x.lengths.as_ptr(), x.lengths.len(),
+            x.places.as_ptr(), x.places.len(), x.buffers.as_ptr(), x.buffers.len(), x.body.as_ptr(), x.body.len(), first, n,
+            tree.as_mut_ptr(), tree.len(),
+        )
+    }
+}
+
+/// One row of an opened column: 2 where there is no such row.
+pub fn read_row(tree: &[u64], x: &Tables, first: u32, row: u64) -> Result<RowAnswer, u8> {
+    let mut answer = [0; 12];
+    let kind = unsafe {
+        lafkuno_read_row(
+            tree.as_ptr(), tree.len(), x.lengths.as_ptr(), x.lengths.len(), x.places.as_ptr(), x.places.len(),
+            x.buffers.as_ptr(), x.buffers.len(), x.body.as_ptr(), x.body.len(), first, row, answer.as_mut_ptr(), answer.len(),
+        )
+    };
+    let [a, b, c, count, ids @ ..] = answer;
+    let read = match kind {
+        0 => Read::Null,
+        1 => Read::Signed(a as i64),
+        2 => Read::Unsigned(a),
+        3 => Read::Single(a as u32),
+        4 => Read::Double(a),
+        5 => Read::Bytes { at: a, len: b },
+        6 => Read::List { node: a, start: b, len: c },
+        _ => return Err(a as u8),
+    };
+    Ok(RowAnswer { read, ids: ids.map(|id| id as u8), count: count as u8 })
+}

@@ -1,0 +1,226 @@
+//! A join over safe types. It never asks its user for room: orders are tried on the counters alone, and the room is lent when the
+//! sizes of all parts are known.
+
+use crate::calls::{self, FinishedTables, Read, RowAnswer, COUNTERS, PLAN, TREE};
+use crate::lent::Raise;
+use crate::{Buffer, Column, Error, Lent, Row};
+use std::collections::HashMap;
+use std::ops::Range;
+use std::sync::Arc;
+
+#[derive(Clone, Copy, Debug)]
+enum Order {
+    Copy { source: u32, start: u64, end: u64 },
+    Nulls(u64),
+}
+
+/// A join: sources, and the orders that were accepted so far. A refused order changes nothing.
+#[derive(Debug)]
+pub struct Join {
+    lent: Lent,
+    keep: bool,
+    plan: [u64; PLAN],
+    counters: [u64; COUNTERS],
+    orders: Vec<Order>,
+    room: u64,
+}
+
+/// A finished join.
+#[derive(Clone, Debug)]
+pub struct Joined {
+    pub column: Column,
+    /// The null count of each node in depth-first order, counted from the bits.
+    pub null_counts: Vec<u64>,
+    /// The running null count: nulls that were copied or ordered, also where no validity is held.
+    pub running_nulls: u64,
+}
+
+/// Parts begin at multiples of this.
+const ALIGN: u64 = 64;
+
+impl Join {
+    /// Opens a join over 1 to 16 columns of one type. With `keep_nulls` orders of nulls are taken even where no source has one.
+    pub fn open(sources: &[&Column], keep_nulls: bool) -> Result<Join, Error> {
+        Join::open_lent(Lent::lay(sources)?, keep_nulls)
+    }
+
+    /// The same over a body with its tables.
+    pub fn open_lent(lent: Lent, keep_nulls: bool) -> Result<Join, Error> {
+        let mut join = Join { lent, keep: keep_nulls, plan: [0; PLAN], counters: [0; COUNTERS], orders: vec![], room: 0 };
+        Error::check(calls::plan_parts(&join.lent.tables(), keep_nulls, &mut join.plan))?;
+        Error::check(calls::measure_open(&join.plan, &join.lent.tables(), &mut join.counters))?;
+        join.room = join.room_for(&join.counters)?;
+        Ok(join)
+    }
+
+    /// The parts for these counters, 2 numbers each, and the bytes of the room.
+    fn parts(&self, counters: &[u64; COUNTERS]) -> Result<(Vec<u32>, u64), Error> {
+        let mut parts = vec![];
+        let mut end = 0u64;
+        for p in 0..calls::part_count(&self.plan) {
+            let start = end.next_multiple_of(ALIGN);
+            let size = calls::needed_bytes(&self.plan, counters, p as u32);
+            end = start.saturating_add(size);
+            let all = end.saturating_add(self.lent.body.len() as u64);
+            if (u32::MAX as u64) < all {
+                return Err(Error::TooLarge { bytes: all });
+            }
+            parts.extend([start as u32, size as u32]);
+        }
+        Ok((parts, end))
+    }
+
+    fn room_for(&self, counters: &[u64; COUNTERS]) -> Result<u64, Error> {
+        Ok(self.parts(counters)?.1)
+    }
+
+    fn order(&mut self, order: Order) -> Result<(), Error> {
+        let mut counters = self.counters;
+        let x = self.lent.tables();
+        Error::check(match order {
+            Order::Copy { source, start, end } => calls::measure_copy(&self.plan, &x, &mut counters, source, start, end),
+            Order::Nulls(n) => calls::measure_nulls(&self.plan, &mut counters, n),
+        })?;
+        self.room = self.room_for(&counters)?;
+        self.counters = counters;
+        self.orders.push(order);
+        Ok(())
+    }
+
+    /// Copies rows of a source behind the rows that are there.
+    pub fn copy(&mut self, source: usize, rows: Range<u64>) -> Result<(), Error> {
+        let source = u32::try_from(source).unwrap_or(u32::MAX);
+        self.order(Order::Copy { source, start: rows.start, end: rows.end })
+    }
+
+    /// Adds n nulls.
+    pub fn nulls(&mut self, n: u64) -> Result<(), Error> {
+        self.order(Order::Nulls(n))
+    }
+
+    /// The rows so far.
+    pub fn len(&self) -> u64 {
+        self.counters[0]
+    }
+
+    pub fn is_empty(&self) -> bool {
+        self.len() == 0
+    }
+
+    /// The running null count.
+    pub fn null_count(&self) -> u64 {
+        calls::running_nulls(&self.counters)
+    }
+
+    /// The bytes that the joined column takes beside what it names in the sources.
+    pub fn room_bytes(&self) -> u64 {
+        self.room
+    }
+
+    /// Lends the room, carries out the orders and finishes the array. View data and a kept dictionary stay where the sources were laid.
+    pub fn finish(self) -> Result<Joined, Error> {
+        let inconsistent = |what: &str| Err(Error::Inconsistent(what.into()));
+        let (parts, bytes) = self.parts(&self.counters)?;
+        let x = self.lent.tables();
+        let (mut plan, mut counters) = ([0; PLAN], [0; COUNTERS]);
+        let mut room = vec![0; bytes as usize];
+        if calls::open(&x, self.keep, &parts, &mut plan, &mut counters, &mut room) != 0 {
+            return inconsistent("the opening was refused after it was measured");
+        }
+        for order in &self.orders {
+            let answer = match *order {
+                Order::Copy { source, start, end } => calls::copy(&plan, &parts, &x, &mut counters, &mut room, source, start, end),
+                Order::Nulls(n) => calls::nulls(&plan, &parts, &mut counters, &mut room, n),
+            };
+            if answer != 0 {
+                return inconsistent("an order was refused after it was measured");
+            }
+        }
+        if counters != self.counters {
+            return inconsistent("the counters differ from the measured ones");
+        }
+        let nodes = x.sources[1] as usize;
+        let named = calls::buffer_total(&plan, x.places, x.sources);
+        let (mut lengths, mut nulls) = (vec![0; 2 * nodes], vec![0; nodes]);
+        let (mut places, mut buffers) = (vec![0; 9 * nodes], vec![0; 2 * named]);
+        let base = x.body.len();
+        let mut out = FinishedTables { lengths: &mut lengths, nulls: &mut nulls, places: &mut places, buffers: &mut buffers };
+        if calls::finish(&plan, &parts, &x, &counters, &room, base as u32, &mut out) != 0 {
+            return inconsistent("finishing was refused");
+        }
+        let (body, room) = (&self.lent.body, Arc::new(room));
+        let part = |bytes: &Arc<Vec<u8>>, at: usize, len: usize| (at + len <= bytes.len()).then(|| Buffer::part(bytes.clone(), at, len));
+        let take = |at: usize, len: usize| if at < base { part(body, at, len) } else { part(&room, at - base, len) };
+        let raise = Raise { x, first: x.sources[0] as usize, lengths: &lengths, places: &places, buffers: &buffers, take: &take };
+        match raise.column(0) {
+            Some((column, _)) => Ok(Joined { column, null_counts: nulls, running_nulls: calls::running_nulls(&counters) }),
+            None => inconsistent("the finished tables name bytes that are not there"),
+        }
+    }
+}
+
+/// Reads the rows of one lent column by the library's reader.
+#[derive(Debug)]
+pub struct Reader {
+    lent: Lent,
+    /// The tree of the column and of the child of each list-view, which is read as a column of its own; by node from the first on.
+    trees: HashMap<u32, Box<[u64; TREE]>>,
+}
+
+impl Reader {
+    /// Opens a column: 9, 10 or 12 where it is malformed.
+    pub fn open(column: &Column) -> Result<Reader, Error> {
+        Reader::open_lent(Lent::lay(&[column])?)
+    }
+
+    /// The same over a body with its tables, of which source 0 is read.
+    pub fn open_lent(lent: Lent) -> Result<Reader, Error> {
+        let (Some(&first), Some(&n)) = (lent.sources.first(), lent.sources.get(1)) else {
+            return Err(Error::Column("there is no source to read".into()));
+        };
+        let mut reader = Reader { lent, trees: HashMap::new() };
+        reader.plant(0, n)?;
+        for child in first + 1..first + n {
+            if reader.lent.is_list(child - 1) {
+                reader.plant(child - first, reader.lent.below(child) - child)?;
+            }
+        }
+        Ok(reader)
+    }
+
+    /// Opens the n nodes from `node` on.
+    fn plant(&mut self, node: u32, n: u32) -> Result<(), Error> {
+        let mut tree = Box::new([0; TREE]);
+        Error::check(calls::open_column(&self.lent.tables(), self.lent.sources[0] + node, n, &mut tree[..]))?;
+        self.trees.insert(node, tree);
+        Ok(())
+    }
+
+    /// One row; ground 2 where there is no such row.
+    pub fn row(&self, i: u64) -> Result<Row, Error> {
+        self.read(0, i)
+    }
+
+    fn read(&self, column: u32, row: u64) -> Result<Row, Error> {
+        let x = self.lent.tables();
+        let inconsistent = |what: &str| Error::Inconsistent(what.into());
+        let tree = self.trees.get(&column).ok_or_else(|| inconsistent("a list's child is no list-view's"))?;
+        let RowAnswer { read, ids, count } = match calls::read_row(&tree[..], &x, x.sources[0] + column, row) {
+            Ok(answer) => answer,
+            Err(ground) => return Err(Error::check(ground).err().unwrap_or_else(|| inconsistent("a row was refused without a ground"))),
+        };
+        let inner = match read {
+            Read::Null => Row::Null,
+            Read::Signed(n) => Row::Whole(n as i128),
+            Read::Unsigned(n) => Row::Whole(n as i128),
+            Read::Single(bits) => Row::Single(bits),
+            Read::Double(bits) => Row::Double(bits),
+            Read::Bytes { at, len } => match x.body.get(at as usize..(at + len) as usize) {
+                Some(bytes) => Row::Bytes(bytes.to_vec()),
+                None => return Err(inconsistent("a row's bytes are not in the body")),
+            },
+            Read::List { node, start, len } => Row::List((start..start + len).map(|r| self.read(column + node as u32, r)).collect::<Result<_, _>>()?),
+        };
+        Ok(ids[..count as usize].iter().rev().fold(inner, |row, id| Row::Union(*id, Box::new(row))))
+    }
+}

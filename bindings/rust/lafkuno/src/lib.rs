@@ -1,0 +1,47 @@
+//! Joins ranges of Arrow columns into one column.
+//!
+//! The work is done by the proved library of this repository (`rt staticlib lafkuno`); this crate lays columns, lends memory and tells
+//! refusals by their meaning.
+//!
+//! ```
+//! use lafkuno::{Column, Join, Row, Type};
+//!
+//! let ty: Type = "i?".parse()?;
+//! let batch = Column::build(&ty, &[9, 9, 1, 2, 3].map(|n| Row::Whole(n)))?;
+//! let trip = batch.slice(2, 3)?; // the batch's rows from the third on
+//! let mut join = Join::open(&[&trip], true)?;
+//! join.copy(0, 1..3)?;
+//! join.nulls(1)?;
+//! assert_eq!(join.copy(0, 1..4).unwrap_err().ground().unwrap().number(), 2);
+//! let joined = join.finish()?.column;
+//! assert_eq!(joined.rows(), Some(vec![Row::Whole(2), Row::Whole(3), Row::Null]));
+//! # Ok::<(), lafkuno::Error>(())
+//! ```
+
+#[cfg(not(all(target_endian = "little", target_pointer_width = "64")))]
+compile_error!("lafkuno is for little-endian machines with pointers of 64 bits");
+
+mod build;
+pub mod c_data;
+#[rustfmt::skip]
+pub mod calls;
+mod column;
+mod join;
+mod lent;
+mod refusal;
+mod rows;
+pub mod text;
+mod types;
+mod values;
+
+pub use column::{Buffer, Column};
+pub use join::{Join, Joined, Reader};
+pub use lent::Lent;
+pub use refusal::{Cause, Error, Ground};
+pub use rows::Row;
+pub use types::Type;
+
+/// The examples of docs/USING.md.
+#[cfg(doctest)]
+#[doc = include_str!("../../../../docs/USING.md")]
+struct Using;

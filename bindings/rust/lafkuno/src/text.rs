@@ -1,0 +1,201 @@
+//! Columns and orders as text (docs/USING.md), and rows as text.
+
+use crate::build::shape;
+pub use crate::values::{rows, show};
+use crate::{Column, Row, Type};
+
+/// An order, with the line that gives it.
+#[derive(Clone, Debug, PartialEq, Eq)]
+pub struct Order {
+    pub line: usize,
+    pub text: String,
+    pub what: What,
+}
+
+#[derive(Clone, Debug, PartialEq, Eq)]
+pub enum What {
+    Copy { source: usize, start: u64, end: u64 },
+    Nulls(u64),
+}
+
+/// What a file describes: columns of one type, and orders.
+#[derive(Clone, Debug)]
+pub struct Description {
+    pub ty: Type,
+    pub keep_nulls: bool,
+    pub sources: Vec<(String, Column)>,
+    pub orders: Vec<Order>,
+}
+
+/// A mistake of the text, by its line.
+#[derive(Clone, Debug, PartialEq, Eq)]
+pub struct Mistake {
+    pub line: usize,
+    pub what: String,
+}
+
+impl std::fmt::Display for Mistake {
+    fn fmt(&self, f: &mut std::fmt::Formatter) -> std::fmt::Result {
+        write!(f, "line {}: {}", self.line, self.what)
+    }
+}
+
+impl std::error::Error for Mistake {}
+
+fn range(text: &str) -> Option<(u64, u64)> {
+    let (a, b) = text.split_once("..")?;
+    Some((a.trim().parse().ok()?, b.trim().parse().ok()?))
+}
+
+/// The line without a comment: a `#` outside of bytes begins one.
+fn without_comment(line: &str) -> &str {
+    let (mut quoted, mut escaped) = (false, false);
+    for (at, c) in line.char_indices() {
+        match c {
+            '#' if !quoted => return &line[..at],
+            '"' if !escaped => quoted = !quoted,
+            _ => {}
+        }
+        escaped = c == '\\' && !escaped;
+    }
+    line
+}
+
+#[derive(Default)]
+struct File {
+    ty: Option<Type>,
+    keep: bool,
+    share: bool,
+    names: Vec<String>,
+    rows: Vec<Vec<Row>>,
+    slices: Vec<Option<(u64, u64, usize)>>,
+    lines: Vec<usize>,
+    orders: Vec<Order>,
+}
+
+impl File {
+    fn line(&mut self, number: usize, line: &str) -> Result<(), String> {
+        let (word, rest) = line.split_once(char::is_whitespace).unwrap_or((line, ""));
+        let rest = rest.trim();
+        let ordered = !self.orders.is_empty();
+        match word {
+            "type" if self.ty.is_some() => return Err("the type is given twice".into()),
+            "type" => {
+                let ty: Type = rest.parse().map_err(|e: crate::Error| e.to_string())?;
+                shape(&ty).map_err(|e| e.to_string())?;
+                self.ty = Some(ty);
+            }
+            "keep" if rest == "nulls" => self.keep = true,
+            "share" if rest == "dictionaries" => self.share = true,
+            "source" if ordered => return Err("sources stand before the first order".into()),
+            "source" if rest.is_empty() || rest.contains(char::is_whitespace) => return Err("a source has a name of one word".into()),
+            "source" if self.names.iter().any(|n| n == rest) => return Err(format!("there is a source `{rest}` already")),
+            "source" => {
+                self.names.push(rest.into());
+                self.rows.push(vec![]);
+                self.slices.push(None);
+                self.lines.push(number);
+            }
+            "rows" => {
+                let ty = self.ty.as_ref().ok_or("the type stands before the first rows")?;
+                self.rows.last_mut().ok_or("`source NAME` stands before its rows")?.extend(rows(ty, rest)?);
+            }
+            "slice" => {
+                let (a, b) = range(rest).filter(|(a, b)| a <= b).ok_or("a slice is START..END, START not above END")?;
+                *self.slices.last_mut().ok_or("`source NAME` stands before its slice")? = Some((a, b, number));
+            }
+            "copy" => {
+                let (name, rows) = rest.split_once(char::is_whitespace).ok_or("a copy is: copy SOURCE START..END")?;
+                let (start, end) = range(rows).ok_or("a copy is: copy SOURCE START..END")?;
+                let found = self.names.iter().position(|n| n == name).or_else(|| name.parse().ok());
+                let source = found.ok_or_else(|| format!("there is no source `{name}`"))?;
+                self.orders.push(Order { line: number, text: line.into(), what: What::Copy { source, start, end } });
+            }
+            "nulls" => {
+                let n = rest.parse().map_err(|_| "a count is due: nulls N".to_string())?;
+                self.orders.push(Order { line: number, text: line.into(), what: What::Nulls(n) });
+            }
+            _ => return Err(format!("`{line}`: type, keep nulls, share dictionaries, source, rows, slice, copy or nulls is due")),
+        }
+        Ok(())
+    }
+
+    fn describe(self, last: usize) -> Result<Description, Mistake> {
+        let mistake = |line: usize, what: String| Mistake { line, what };
+        let ty = self.ty.ok_or_else(|| mistake(last, "no type is given: type FORMAT".into()))?;
+        let rows: Vec<&[Row]> = self.rows.iter().map(|r| &r[..]).collect();
+        let columns = Column::build_all(&ty, &rows, self.share).map_err(|e| mistake(self.lines.first().copied().unwrap_or(last), e.to_string()))?;
+        let mut sources = vec![];
+        for ((name, column), slice) in self.names.into_iter().zip(columns).zip(self.slices) {
+            let column = match slice {
+                Some((a, b, line)) => column.slice(a, b - a).map_err(|e| mistake(line, e.to_string()))?,
+                None => column,
+            };
+            sources.push((name, column));
+        }
+        Ok(Description { ty, keep_nulls: self.keep, sources, orders: self.orders })
+    }
+}
+
+/// Reads a description of columns and orders.
+pub fn read(text: &str) -> Result<Description, Mistake> {
+    let mut file = File::default();
+    let mut last = 1;
+    for (k, line) in text.lines().enumerate() {
+        let line = without_comment(line).trim();
+        last = k + 1;
+        if !line.is_empty() {
+            file.line(last, line).map_err(|what| Mistake { line: last, what })?;
+        }
+    }
+    file.describe(last)
+}
+
+#[cfg(test)]
+mod tests {
+    use super::*;
+
+    #[test]
+    fn rows_are_shown_as_they_are_read() {
+        for (ty, text) in [
+            ("i?", "1, null, -5"),
+            ("f", "1.5, -0.0, 0x7fc00001"),
+            ("u", r#""a\"b\\", "\x00\xff", "caf\u{e9}""#),
+            ("vu?", r#""a longer text than twelve bytes", null"#),
+            ("+vl?(u?)", r#"["a", null], null, []"#),
+            ("+ud:5,7(i?, u)", r#"5:null, 7:"x", 5:3"#),
+            ("+us:5,7(i?, u)", r#"5:null, 7:"x", 5:3"#),
+            ("+r(s, u?)", r#""A", "A", null"#),
+            ("C?[u]", r#""x", null, "y", "x""#),
+            ("S[i]", "7, -7, 7"),
+            ("+r(i, C[l])", "7, 7, -7"),
+            ("+vL(+r(i, C?[U]))", r#"["a", "a"], [], [null]"#),
+        ] {
+            let ty: Type = ty.parse().unwrap();
+            let text = text.replace("\\u{e9}", "é");
+            let column = Column::build(&ty, &rows(&ty, &text).unwrap()).unwrap();
+            let shown: Vec<String> = column.rows().unwrap().iter().map(|r| show(&ty, r)).collect();
+            assert_eq!(shown.join(", "), text, "{ty}");
+            assert_eq!(ty.to_string().parse::<Type>().unwrap(), ty);
+        }
+    }
+
+    #[test]
+    fn mistakes_name_their_line() {
+        for (text, line) in [
+            ("type i\nrows 1", 2),
+            ("type q", 1),
+            ("type +vl", 1),
+            ("type +r(i)", 1),
+            ("type i\nsource a\nrows 1 x", 3),
+            ("type i\nsource a\nrows null", 2),
+            ("type i\nsource a\nrows 1\nslice 0..2", 4),
+            ("type i\nsource a\ncopy b 0..1", 3),
+            ("type c\nsource a\nrows 128", 2),
+            ("source a", 1),
+            ("# nothing", 1),
+        ] {
+            assert_eq!(read(text).unwrap_err().line, line, "{text}");
+        }
+    }
+}

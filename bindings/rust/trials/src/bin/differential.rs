@@ -1,0 +1,39 @@
+//! Random joins against the original's algorithm. Arguments: how many (100000), the first seed (1).
+
+use std::fmt::Write;
+use std::process::ExitCode;
+use std::time::Instant;
+use trials::compare::{join, Seen};
+use trials::wider::wider;
+
+fn main() -> ExitCode {
+    let mut arguments = std::env::args().skip(1).map(|a| a.parse::<u64>().expect("a number"));
+    let (count, first) = (arguments.next().unwrap_or(100_000), arguments.next().unwrap_or(1));
+    let start = Instant::now();
+    let mut out = String::new();
+    let mut seen = Seen::default();
+    eprintln!("{count} random joins, seeds {first} to {}", first + count - 1);
+    let mut widened = 0;
+    for seed in first..first + count {
+        // every tenth is made with wider offsets, keys and run ends too
+        let answer = join(seed, &mut seen).and_then(|()| if seed % 10 == 0 { wider(seed) } else { Ok(false) });
+        match answer {
+            Ok(accepted) => widened += accepted as u64,
+            Err(what) => {
+                println!("{what}");
+                return ExitCode::FAILURE;
+            }
+        }
+    }
+    let Seen { joins, orders, rows, answers, joined_dictionaries, kept_dictionaries, depth_8 } = seen;
+    writeln!(out, "{joins} joins, {orders} orders, {rows} rows: no difference").unwrap();
+    writeln!(out, "{depth_8} types of depth 8; dictionaries: {joined_dictionaries} joined, {kept_dictionaries} kept").unwrap();
+    writeln!(out, "{widened} of them stored wider: the same rows").unwrap();
+    for ((what, answer), count) in answers {
+        writeln!(out, "{what} answered {answer}: {count}").unwrap();
+    }
+    // a reader that went away is no failure
+    let _ = std::io::Write::write_all(&mut std::io::stdout(), out.as_bytes());
+    eprintln!("{:.1} s", start.elapsed().as_secs_f64());
+    ExitCode::SUCCESS
+}

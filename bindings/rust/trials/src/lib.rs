@@ -1,0 +1,10 @@
+//! Random joins and damaged descriptions, by fixed seeds.
+
+pub mod compare;
+pub mod convert;
+pub mod damage;
+pub mod generate;
+pub mod guard;
+pub mod memory;
+pub mod random;
+pub mod wider;

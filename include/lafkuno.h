@@ -1,0 +1,219 @@
+/* Lafkuno: joins ranges of Arrow columns into one column. Link with liblafkuno.a (`rt staticlib lafkuno`).
+ *
+ * A call answers LAFKUNO_DONE or the number of a ground of refusal, and then has changed nothing. Whatever the numbers behind the
+ * pointers are, a call ends, reads only the slices it is lent and writes only those that are not const.
+ *
+ * What C must guarantee, since no call can test it:
+ * - each pointer leads to as many elements as the length behind it says; none is null, and where that length is 0, any aligned
+ *   pointer will do;
+ * - it is aligned for its type (uint64_t to 8, uint32_t to 4; bytes need no alignment);
+ * - a slice that is written (plan, counters, room, new_*, tree, answer) overlaps no other slice of the same call;
+ * - no other thread writes what a call is lent, or reads what it writes, before it returns.
+ * Nothing is allocated and no pointer is kept; a call uses less than 32 KiB of stack (docs/BENCHMARKS.md). Calls on different memory may
+ * run at the same time.
+ *
+ * The machine is little-endian with 64 bits. docs/FORMAT.md describes the tables, docs/USING.md shows a join in twenty lines.
+ * Apache-2.0; see LICENSE and NOTICE. */
+#ifndef LAFKUNO_H
+#define LAFKUNO_H
+
+#include <stddef.h>
+#include <stdint.h>
+
+#ifdef __cplusplus
+extern "C" {
+#endif
+
+/* Why a call is refused. */
+enum lafkuno_ground {
+    LAFKUNO_DONE = 0,
+
+    /* Whoever gives orders: */
+    LAFKUNO_NO_SUCH_SOURCE = 1,         /* the source's number is not below the count of sources */
+    LAFKUNO_NO_SUCH_ROWS = 2,           /* the end is before the start, or beyond the source's length; or no such row to read */
+    LAFKUNO_KEEPS_NO_NULLS = 3,         /* an order of nulls, also of none, where the destination keeps no nulls */
+    LAFKUNO_UNION_WITHOUT_FIELDS = 4,   /* nulls for a union without fields */
+    LAFKUNO_UNION_NOT_NULLABLE = 5,     /* nulls for a union none of whose fields is nullable */
+
+    /* Whoever has too much data: */
+    LAFKUNO_OFFSET_TOO_LARGE = 6,       /* an offset or a dense union's position does not fit its type */
+    LAFKUNO_RUN_END_TOO_LARGE = 7,      /* a run end does not fit its type */
+    LAFKUNO_TOO_MANY_ENTRIES = 8,       /* the dictionary has more entries than its keys can name */
+
+    /* Whoever prepares sources: */
+    LAFKUNO_CEILING_PASSED = 9,         /* no source; more than 16 sources, 32 nodes, depth 8, 16 union fields, 32 data buffers a
+                                           view node or 4,294,967,295 bytes a body; a negative length or offset */
+    LAFKUNO_UNKNOWN_TYPE = 10,          /* a format, a number of children or a union's ids that are not taken */
+    LAFKUNO_TYPES_DIFFER = 11,          /* formats, or flags of nodes other than the root and dictionary values */
+    LAFKUNO_BAD_SOURCE = 12,            /* a source breaks the rules of its type, or a table is too short for it */
+
+    /* Whoever lends room: */
+    LAFKUNO_ROOM_TOO_SMALL = 13,        /* a part can't hold its bytes after the call */
+    LAFKUNO_BAD_PARTS = 14              /* a wrong number of parts, a part outside the room, two that overlap, or a slice that is
+                                           not of the size that the call asks for */
+};
+
+/* The state of a join: two slices of these many numbers. The opening writes both, orders change the counters alone. */
+#define LAFKUNO_PLAN 872
+#define LAFKUNO_COUNTERS 96
+/* The tree of an opened column, and a row's answer. */
+#define LAFKUNO_TREE 256
+#define LAFKUNO_ANSWER 12
+
+/* Parameters that several calls share. X_len is how many elements X has.
+ *   sources   2 numbers a source: its first node in the tables, and how many nodes it has.
+ *   formats   the format strings of the Arrow C Data Interface, anywhere and in any order.
+ *   schema    5 numbers a node: where its format begins in formats, its bytes, flags, children, 1 if it has a dictionary and else 0.
+ *   lengths   2 numbers a node: length and offset, as two's complement.
+ *   places    9 numbers a node: 1 if it has validity and else 0, start and bytes of validity, of buffer 1 and of buffer 2 in the body,
+ *             its first data buffer in buffers, and how many it has.
+ *   buffers   2 numbers a data buffer of a view node: where it begins in the body, its bytes.
+ *   body      every buffer of every source.
+ *   keep      not 0: nulls are kept, so that orders of nulls are taken, even where no source has one.
+ *   parts     2 numbers a part: where it begins in the room, its bytes; in the order of lafkuno_part_node.
+ *   plan      LAFKUNO_PLAN numbers, as lafkuno_plan_parts or lafkuno_open wrote them.
+ *   counters  LAFKUNO_COUNTERS numbers, as the last call left them.
+ *   room      the bytes that the parts are in; need not be zero.
+ * Every call of a join is given the sources, tables, parts and room that the opening was given, the last two as the last call left
+ * them. Given others, a call answers what it can, or 12 or 14, and still touches nothing outside. */
+
+/* ---- before any room is lent */
+
+/* Checks the sources (9 to 12) and writes the plan, by which the parts can be asked. 14 where plan_len is not LAFKUNO_PLAN.
+ *   plan      is written. */
+uint8_t lafkuno_plan_parts(const uint32_t *sources, size_t sources_len, const uint8_t *formats, size_t formats_len,
+                           const uint32_t *schema, size_t schema_len, const uint64_t *lengths, size_t lengths_len,
+                           const uint32_t *places, size_t places_len, const uint32_t *buffers, size_t buffers_len,
+                           const uint8_t *body, size_t body_len, uint8_t keep, uint64_t *plan, size_t plan_len);
+
+/* How many parts there are, at most 96. */
+uint32_t lafkuno_part_count(const uint64_t *plan, size_t plan_len);
+
+/* Of which node a part is; UINT64_MAX where there is no such part.
+ *   p         the part's number. */
+uint64_t lafkuno_part_node(const uint64_t *plan, size_t plan_len, uint32_t p);
+
+/* Of which buffer of that node it is, 0 being the validity; UINT64_MAX where there is no such part.
+ *   p         the part's number. */
+uint64_t lafkuno_part_buffer(const uint64_t *plan, size_t plan_len, uint32_t p);
+
+/* What an opening does to the counters: 6, 8 (or 12), or the counters are written.
+ *   counters  is written; its numbers before are not read. */
+uint8_t lafkuno_measure_open(const uint64_t *plan, size_t plan_len, const uint32_t *sources, size_t sources_len,
+                             const uint64_t *lengths, size_t lengths_len, const uint32_t *places, size_t places_len,
+                             const uint8_t *body, size_t body_len, uint64_t *counters, size_t counters_len);
+
+/* What a copy does to the counters: its ground but for 13 and 14, or the counters are changed.
+ *   source    the number of the source.
+ *   start     its first row that is copied.
+ *   end       one past its last. */
+uint8_t lafkuno_measure_copy(const uint64_t *plan, size_t plan_len, const uint32_t *sources, size_t sources_len,
+                             const uint64_t *lengths, size_t lengths_len, const uint32_t *places, size_t places_len,
+                             const uint8_t *body, size_t body_len, uint64_t *counters, size_t counters_len,
+                             uint32_t source, uint64_t start, uint64_t end);
+
+/* What an order of nulls does to the counters: its ground but for 13 and 14, or the counters are changed.
+ *   n         how many nulls. */
+uint8_t lafkuno_measure_nulls(const uint64_t *plan, size_t plan_len, uint64_t *counters, size_t counters_len, uint64_t n);
+
+/* The bytes that a part must hold for these counters, at most UINT64_MAX; 0 where there is no such part.
+ *   p         the part's number. */
+uint64_t lafkuno_needed_bytes(const uint64_t *plan, size_t plan_len, const uint64_t *counters, size_t counters_len, uint32_t p);
+
+/* ---- the join */
+
+/* Opens a join: 9, 10, 11, 12, 14, then for each dictionary 6 and 8, and 13 last.
+ *   plan      is written: LAFKUNO_PLAN numbers.
+ *   counters  is written: LAFKUNO_COUNTERS numbers.
+ *   room      first offsets and joined dictionaries are written to their parts. */
+uint8_t lafkuno_open(const uint32_t *sources, size_t sources_len, const uint8_t *formats, size_t formats_len,
+                     const uint32_t *schema, size_t schema_len, const uint64_t *lengths, size_t lengths_len,
+                     const uint32_t *places, size_t places_len, const uint32_t *buffers, size_t buffers_len,
+                     const uint8_t *body, size_t body_len, uint8_t keep, const uint32_t *parts, size_t parts_len,
+                     uint64_t *plan, size_t plan_len, uint64_t *counters, size_t counters_len, uint8_t *room, size_t room_len);
+
+/* Copies rows of a source behind the destination's rows: 1, 2, then 6 and 7 as they are met, and 13 last.
+ *   source    the number of the source.
+ *   start     its first row that is copied.
+ *   end       one past its last. */
+uint8_t lafkuno_copy(const uint64_t *plan, size_t plan_len, const uint32_t *parts, size_t parts_len,
+                     const uint32_t *sources, size_t sources_len, const uint64_t *lengths, size_t lengths_len,
+                     const uint32_t *places, size_t places_len, const uint8_t *body, size_t body_len,
+                     uint64_t *counters, size_t counters_len, uint8_t *room, size_t room_len,
+                     uint32_t source, uint64_t start, uint64_t end);
+
+/* Adds nulls behind the destination's rows: 3, then 4, 5, 6 and 7 as they are met, and 13 last.
+ *   n         how many nulls. */
+uint8_t lafkuno_nulls(const uint64_t *plan, size_t plan_len, const uint32_t *parts, size_t parts_len,
+                      uint64_t *counters, size_t counters_len, uint8_t *room, size_t room_len, uint64_t n);
+
+/* Describes the finished array by tables like those of a source; its type is source 0's. 14 where a table is not of its size, 9 where
+ * base + room_len is above 4,294,967,295. It can be lent again over a body that holds the room at base, behind the old body.
+ *   base         where the room begins in the body that the new tables are about; the old body's bytes stay where they were.
+ *   new_lengths  is written: 2 numbers a node of source 0.
+ *   new_nulls    is written: the null count of each node, counted from the bits.
+ *   new_places   is written: 9 numbers a node. View data and a kept dictionary are named by their places in the old body.
+ *   new_buffers  is written: 2 numbers for each of lafkuno_buffer_total. */
+uint8_t lafkuno_finish(const uint64_t *plan, size_t plan_len, const uint32_t *parts, size_t parts_len,
+                       const uint32_t *sources, size_t sources_len, const uint64_t *lengths, size_t lengths_len,
+                       const uint32_t *places, size_t places_len, const uint32_t *buffers, size_t buffers_len,
+                       const uint8_t *body, size_t body_len, const uint64_t *counters, size_t counters_len,
+                       const uint8_t *room, size_t room_len, uint32_t base, uint64_t *new_lengths, size_t new_lengths_len,
+                       uint64_t *new_nulls, size_t new_nulls_len, uint32_t *new_places, size_t new_places_len,
+                       uint32_t *new_buffers, size_t new_buffers_len);
+
+/* How many data buffers the finished array names. */
+uint64_t lafkuno_buffer_total(const uint64_t *plan, size_t plan_len, const uint32_t *sources, size_t sources_len,
+                              const uint32_t *places, size_t places_len);
+
+/* The running null count: nulls that were copied or ordered, also at a root that holds no validity. */
+uint64_t lafkuno_running_nulls(const uint64_t *counters, size_t counters_len);
+
+/* ---- one column */
+
+/* The ground of one column: 9, 10 or 12.
+ *   first     its first node in the tables.
+ *   n         how many nodes it has. */
+uint8_t lafkuno_column_ground(const uint8_t *formats, size_t formats_len, const uint32_t *schema, size_t schema_len,
+                              const uint64_t *lengths, size_t lengths_len, const uint32_t *places, size_t places_len,
+                              const uint32_t *buffers, size_t buffers_len, const uint8_t *body, size_t body_len,
+                              uint32_t first, uint32_t n);
+
+/* The same, and writes the column's tree, over which its rows are read; 14 where tree_len is below LAFKUNO_TREE.
+ *   first     its first node in the tables.
+ *   n         how many nodes it has.
+ *   tree      its first LAFKUNO_TREE numbers are written. */
+uint8_t lafkuno_open_column(const uint8_t *formats, size_t formats_len, const uint32_t *schema, size_t schema_len,
+                            const uint64_t *lengths, size_t lengths_len, const uint32_t *places, size_t places_len,
+                            const uint32_t *buffers, size_t buffers_len, const uint8_t *body, size_t body_len,
+                            uint32_t first, uint32_t n, uint64_t *tree, size_t tree_len);
+
+/* What a row is. */
+enum lafkuno_kind {
+    LAFKUNO_NULL = 0,
+    LAFKUNO_SIGNED = 1,   /* a whole number, as two's complement */
+    LAFKUNO_UNSIGNED = 2, /* a whole number */
+    LAFKUNO_SINGLE = 3,   /* the bits of an f32 */
+    LAFKUNO_DOUBLE = 4,   /* the bits of an f64 */
+    LAFKUNO_BYTES = 5,    /* where they begin in the body, how many */
+    LAFKUNO_LIST = 6,     /* the child's node counted from the column's first, its first row, how many rows */
+    LAFKUNO_REFUSED = 7   /* the ground: 2 where there is no such row */
+};
+
+/* Reads one row of an opened column, and answers its kind: LAFKUNO_REFUSED, and nothing is written, where answer_len is not
+ * LAFKUNO_ANSWER. The rows of a list are those of its child, opened as a column of its own.
+ *   tree      as lafkuno_open_column wrote it.
+ *   first     the column's first node in the tables.
+ *   row       the row's number.
+ *   answer    is written: the three numbers of the kind (0 where it has fewer), how many unions are on the way to the row, and their
+ *             ids in that order, 0 up to eight. */
+uint8_t lafkuno_read_row(const uint64_t *tree, size_t tree_len, const uint64_t *lengths, size_t lengths_len,
+                         const uint32_t *places, size_t places_len, const uint32_t *buffers, size_t buffers_len,
+                         const uint8_t *body, size_t body_len, uint32_t first, uint64_t row,
+                         uint64_t *answer, size_t answer_len);
+
+#ifdef __cplusplus
+}
+#endif
+
+#endif

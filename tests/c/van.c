@@ -1,0 +1,253 @@
+/* One van, one stop, two kilometres: a box sends a batch of eight rows that begins in the yard, and the trip is its last four. Each column
+ * is joined (two rows, a null, two rows), finished and read back row by row; refused orders must change nothing.
+ *     gcc -Wall -Wextra -I include tests/c/van.c -L target/staticlib -llafkuno -o van && ./van
+ * Every slice is allocated at its own size, so that valgrind sees a step outside. */
+#include <lafkuno.h>
+#include <stdio.h>
+#include <stdlib.h>
+#include <string.h>
+
+/* A column and the tables that describe it (docs/FORMAT.md); the body is at most 512 bytes. */
+struct column {
+    uint8_t formats[32];
+    uint32_t formats_len, nodes, body_len;
+    uint32_t schema[5 * 4], places[9 * 4];
+    uint64_t lengths[2 * 4];
+    uint8_t body[512];
+};
+
+/* What a row must read as. */
+struct row {
+    uint8_t kind;
+    int id; /* of the union on the way, or -1 */
+    int64_t number;
+    const char *text;
+};
+
+static const uint32_t no_buffers[1];
+static int failed;
+
+static void expect(const char *what, uint64_t got, uint64_t wanted) {
+    if (got != wanted) {
+        fprintf(stderr, "%s: %llu, not %llu\n", what, (unsigned long long)got, (unsigned long long)wanted);
+        failed = 1;
+    }
+}
+
+/* A copy that is as large as it must be. */
+static void *lend(const void *from, size_t size) {
+    void *to = malloc(size ? size : 1);
+    if (!to) exit(2);
+    if (from) memcpy(to, from, size);
+    else memset(to, 0xa5, size);
+    return to;
+}
+
+/* A nullable node behind the others. */
+static uint32_t node(struct column *c, const char *format, uint32_t children, uint64_t length, uint64_t offset) {
+    uint32_t i = c->nodes++, len = (uint32_t)strlen(format);
+    const uint32_t schema[5] = {c->formats_len, len, 2, children, 0};
+    memcpy(c->formats + c->formats_len, format, len);
+    c->formats_len += len;
+    memcpy(c->schema + 5 * i, schema, sizeof schema);
+    c->lengths[2 * i] = length;
+    c->lengths[2 * i + 1] = offset;
+    return i;
+}
+
+/* Buffer b of node i; 0 is the validity. */
+static void buffer(struct column *c, uint32_t i, uint32_t b, const void *bytes, uint32_t size) {
+    if (b == 0) c->places[9 * i] = 1;
+    c->places[9 * i + 1 + 2 * b] = c->body_len;
+    c->places[9 * i + 2 + 2 * b] = size;
+    memcpy(c->body + c->body_len, bytes, size);
+    c->body_len += size;
+}
+
+/* Row r of the opened column against what it must be. */
+static void expect_row(const char *name, const struct column *c, const uint64_t *tree, uint32_t first, uint64_t r, struct row wanted) {
+    char what[64];
+    uint64_t *answer = lend(NULL, 8 * LAFKUNO_ANSWER);
+    uint8_t kind = lafkuno_read_row(tree, LAFKUNO_TREE, c->lengths, 2 * c->nodes, c->places, 9 * c->nodes, no_buffers, 0, c->body,
+                                    c->body_len, first, r, answer, LAFKUNO_ANSWER);
+    snprintf(what, sizeof what, "%s, row %d", name, (int)r);
+    expect(what, kind, wanted.kind);
+    expect(what, answer[3], wanted.id < 0 ? 0 : 1);
+    expect(what, answer[4], wanted.id < 0 ? 0 : (uint64_t)wanted.id);
+    if (wanted.text) {
+        expect(what, answer[1], strlen(wanted.text));
+        expect(what, memcmp(c->body + answer[0], wanted.text, strlen(wanted.text)) == 0, 1);
+    } else {
+        expect(what, answer[0], (uint64_t)wanted.number);
+    }
+    for (int k = 5; k < LAFKUNO_ANSWER; k++) expect(what, answer[k], 0);
+    free(answer);
+}
+
+#define TABLES sources, 2, formats, c->formats_len, schema, 5 * n, lengths, 2 * n, places, 9 * n, buffers, 0, body, c->body_len
+#define SOURCES sources, 2, lengths, 2 * n, places, 9 * n, body, c->body_len
+#define PLAN plan, LAFKUNO_PLAN
+#define COUNTERS counters, LAFKUNO_COUNTERS
+#define PARTS parts, 2 * count
+#define ROOM room, size
+
+/* Rows 0 and 1, a null, rows 2 and 3 of the column as the finished array, over a body that has the room behind the old body. */
+static struct column join(const char *name, const struct column *c, uint64_t nulls) {
+    const uint32_t n = c->nodes, one[2] = {0, n};
+    uint32_t *sources = lend(one, sizeof one), *schema = lend(c->schema, 20 * n), *places = lend(c->places, 36 * n), *buffers = lend(NULL, 0);
+    uint8_t *formats = lend(c->formats, c->formats_len), *body = lend(c->body, c->body_len);
+    uint64_t *lengths = lend(c->lengths, 16 * n), *plan = lend(NULL, 8 * LAFKUNO_PLAN), *counters = lend(NULL, 8 * LAFKUNO_COUNTERS);
+
+    /* the parts, each as large as the orders need */
+    expect(name, lafkuno_plan_parts(TABLES, 1, plan, LAFKUNO_PLAN - 1), LAFKUNO_BAD_PARTS);
+    expect(name, lafkuno_plan_parts(TABLES, 1, PLAN), LAFKUNO_DONE);
+    expect(name, lafkuno_measure_open(PLAN, SOURCES, COUNTERS), LAFKUNO_DONE);
+    expect(name, lafkuno_measure_copy(PLAN, SOURCES, COUNTERS, 0, 0, 2), LAFKUNO_DONE);
+    expect(name, lafkuno_measure_nulls(PLAN, COUNTERS, 1), LAFKUNO_DONE);
+    expect(name, lafkuno_measure_copy(PLAN, SOURCES, COUNTERS, 0, 2, 4), LAFKUNO_DONE);
+    uint32_t count = lafkuno_part_count(PLAN), size = 0, *parts = lend(NULL, 8 * count);
+    for (uint32_t p = 0; p < count; p++) {
+        parts[2 * p] = size;
+        size += parts[2 * p + 1] = (uint32_t)lafkuno_needed_bytes(PLAN, COUNTERS, p);
+        expect(name, lafkuno_part_node(PLAN, p) < n, 1);
+        expect(name, lafkuno_part_buffer(PLAN, p) < 3, 1);
+    }
+    expect(name, lafkuno_part_node(PLAN, count), UINT64_MAX);
+    uint8_t *room = lend(NULL, size);
+
+    /* the orders, refused ones among them */
+    expect(name, lafkuno_open(TABLES, 1, parts, 2 * count - 2, PLAN, COUNTERS, ROOM), LAFKUNO_BAD_PARTS);
+    expect(name, lafkuno_open(TABLES, 1, PARTS, PLAN, COUNTERS, ROOM), LAFKUNO_DONE);
+    expect(name, lafkuno_copy(PLAN, PARTS, SOURCES, COUNTERS, ROOM, 0, 0, 2), LAFKUNO_DONE);
+    expect(name, lafkuno_nulls(PLAN, PARTS, COUNTERS, ROOM, 1), LAFKUNO_DONE);
+    uint64_t *counters_before = lend(counters, 8 * LAFKUNO_COUNTERS);
+    uint8_t *room_before = lend(room, size);
+    expect(name, lafkuno_copy(PLAN, PARTS, SOURCES, COUNTERS, ROOM, 1, 0, 2), LAFKUNO_NO_SUCH_SOURCE);
+    expect(name, lafkuno_copy(PLAN, PARTS, SOURCES, COUNTERS, ROOM, 0, 2, 5), LAFKUNO_NO_SUCH_ROWS);
+    expect(name, lafkuno_nulls(PLAN, PARTS, COUNTERS, ROOM, 9), LAFKUNO_ROOM_TOO_SMALL);
+    expect(name, memcmp(counters, counters_before, 8 * LAFKUNO_COUNTERS) == 0 && memcmp(room, room_before, size) == 0, 1);
+    expect(name, lafkuno_copy(PLAN, PARTS, SOURCES, COUNTERS, ROOM, 0, 2, 4), LAFKUNO_DONE);
+    expect(name, lafkuno_running_nulls(COUNTERS), nulls);
+
+    /* the finished array */
+    struct column out = *c;
+    uint64_t *new_lengths = lend(NULL, 16 * n), *new_nulls = lend(NULL, 8 * n);
+    uint32_t *new_places = lend(NULL, 36 * n), *new_buffers = lend(NULL, 0);
+    expect(name, lafkuno_buffer_total(PLAN, sources, 2, places, 9 * n), 0);
+    expect(name, lafkuno_finish(PLAN, PARTS, sources, 2, lengths, 2 * n, places, 9 * n, buffers, 0, body, c->body_len, COUNTERS, ROOM, c->body_len,
+                                new_lengths, 2 * n, new_nulls, n, new_places, 9 * n, new_buffers, 0), LAFKUNO_DONE);
+    memcpy(out.lengths, new_lengths, 16 * n);
+    memcpy(out.places, new_places, 36 * n);
+    memcpy(out.body + c->body_len, room, size);
+    out.body_len += size;
+    expect(name, out.lengths[0], 5);
+    expect(name, out.lengths[1], 0);
+    void *lent[] = {sources, schema, places, buffers, formats, body, lengths, plan, counters, parts, room,
+                    counters_before, room_before, new_lengths, new_nulls, new_places, new_buffers};
+    for (size_t k = 0; k < sizeof lent / sizeof *lent; k++) free(lent[k]);
+    return out;
+}
+
+/* The tree of the column of n nodes from node `first` on. */
+static void open_column(const char *name, const struct column *c, uint32_t first, uint32_t n, uint64_t *tree) {
+    expect(name, lafkuno_open_column(c->formats, c->formats_len, c->schema, 5 * c->nodes, c->lengths, 2 * c->nodes, c->places, 9 * c->nodes,
+                                     no_buffers, 0, c->body, c->body_len, first, n, tree, LAFKUNO_TREE), LAFKUNO_DONE);
+}
+
+static void expect_rows(const char *name, const struct column *c, const struct row wanted[5]) {
+    uint64_t *tree = lend(NULL, 8 * LAFKUNO_TREE), answer[LAFKUNO_ANSWER] = {7};
+    const struct row none = {LAFKUNO_REFUSED, -1, LAFKUNO_NO_SUCH_ROWS, NULL};
+    open_column(name, c, 0, c->nodes, tree);
+    for (uint64_t r = 0; r < 5; r++) expect_row(name, c, tree, 0, r, wanted[r]);
+    expect_row(name, c, tree, 0, 5, none);
+    expect(name, lafkuno_read_row(tree, LAFKUNO_TREE, c->lengths, 2 * c->nodes, c->places, 9 * c->nodes, no_buffers, 0, c->body, c->body_len,
+                                  0, 0, answer, LAFKUNO_ANSWER - 1), LAFKUNO_REFUSED);
+    expect(name, answer[0], 7);
+    free(tree);
+}
+
+/* Metres since the last row: 50 in the yard, then two kilometres with a row that the box lost. */
+static void metres(void) {
+    struct column c = {0};
+    const int32_t values[8] = {10, 20, 15, 5, 800, -1, 700, 500};
+    const uint8_t valid = 0xdf;
+    uint32_t i = node(&c, "i", 0, 4, 4);
+    buffer(&c, i, 0, &valid, 1);
+    buffer(&c, i, 1, values, sizeof values);
+    const struct row wanted[5] = {{LAFKUNO_SIGNED, -1, 800, NULL}, {0, -1, 0, NULL}, {0, -1, 0, NULL},
+                                  {LAFKUNO_SIGNED, -1, 700, NULL}, {LAFKUNO_SIGNED, -1, 500, NULL}};
+    struct column out = join("metres", &c, 2);
+    expect_rows("metres", &out, wanted);
+    int64_t sum = 0;
+    for (int r = 0; r < 5; r++) sum += wanted[r].number;
+    expect("two kilometres", (uint64_t)sum, 2000);
+}
+
+/* Where the van is: byte strings. */
+static void names(void) {
+    struct column c = {0};
+    const int32_t offsets[9] = {0, 4, 8, 12, 16, 21, 25, 25, 30};
+    uint32_t i = node(&c, "u", 0, 4, 4);
+    buffer(&c, i, 1, offsets, sizeof offsets);
+    buffer(&c, i, 2, "yardyardyardyarddepotstopdepot", 30);
+    const struct row wanted[5] = {{LAFKUNO_BYTES, -1, 0, "depot"}, {LAFKUNO_BYTES, -1, 0, "stop"}, {0, -1, 0, NULL},
+                                  {LAFKUNO_BYTES, -1, 0, ""}, {LAFKUNO_BYTES, -1, 0, "depot"}};
+    struct column out = join("names", &c, 1);
+    expect_rows("names", &out, wanted);
+}
+
+/* Events: a dense union of speeds (id 5) and texts (id 7). */
+static void events(void) {
+    struct column c = {0};
+    const uint8_t ids[8] = {7, 7, 7, 7, 5, 7, 5, 7};
+    const int32_t positions[8] = {0, 0, 0, 0, 0, 1, 1, 2}, offsets[4] = {0, 4, 8, 13};
+    const float speeds[2] = {50.5f, -0.0f};
+    uint32_t i = node(&c, "+ud:5,7", 2, 4, 4), a = node(&c, "f", 0, 2, 0), b = node(&c, "u", 0, 3, 0);
+    buffer(&c, i, 1, ids, sizeof ids);
+    buffer(&c, i, 2, positions, sizeof positions);
+    buffer(&c, a, 1, speeds, sizeof speeds);
+    buffer(&c, b, 1, offsets, sizeof offsets);
+    buffer(&c, b, 2, "yardstopdepot", 13);
+    const struct row wanted[5] = {{LAFKUNO_SINGLE, 5, 0x424a0000, NULL}, {LAFKUNO_BYTES, 7, 0, "stop"}, {0, 5, 0, NULL},
+                                  {LAFKUNO_SINGLE, 5, 0x80000000, NULL}, {LAFKUNO_BYTES, 7, 0, "depot"}};
+    struct column out = join("events", &c, 1);
+    expect_rows("events", &out, wanted);
+}
+
+/* Parcels of each stop: list-views of numbers. */
+static void parcels(void) {
+    struct column c = {0};
+    const int32_t offsets[8] = {0, 0, 0, 0, 3, 0, 1, 0}, sizes[8] = {0, 0, 0, 0, 2, 1, 0, 3};
+    const uint64_t parcels[5] = {11, 12, 13, 14, UINT64_MAX};
+    uint32_t i = node(&c, "+vl", 1, 4, 4), a = node(&c, "L", 0, 5, 0);
+    buffer(&c, i, 1, offsets, sizeof offsets);
+    buffer(&c, i, 2, sizes, sizeof sizes);
+    buffer(&c, a, 1, parcels, sizeof parcels);
+    struct column out = join("parcels", &c, 1);
+    const uint64_t wanted[5][3] = {{14, UINT64_MAX}, {11}, {0}, {0}, {11, 12, 13}}, many[5] = {2, 1, 0, 0, 3};
+    uint64_t *tree = lend(NULL, 8 * LAFKUNO_TREE), *below = lend(NULL, 8 * LAFKUNO_TREE), answer[LAFKUNO_ANSWER];
+    open_column("parcels", &out, 0, 2, tree);
+    open_column("parcels", &out, 1, 1, below);
+    for (uint64_t r = 0; r < 5; r++) {
+        expect("parcels", lafkuno_read_row(tree, LAFKUNO_TREE, out.lengths, 4, out.places, 18, no_buffers, 0, out.body, out.body_len, 0, r,
+                                           answer, LAFKUNO_ANSWER), r == 2 ? LAFKUNO_NULL : LAFKUNO_LIST);
+        if (r == 2) continue;
+        expect("parcels", answer[0], a);
+        expect("parcels", answer[2], many[r]);
+        for (uint64_t k = 0; k < many[r] && k < 3; k++) {
+            const struct row one = {LAFKUNO_UNSIGNED, -1, (int64_t)wanted[r][k], NULL};
+            expect_row("parcels", &out, below, a, answer[1] + k, one);
+        }
+    }
+    free(tree);
+    free(below);
+}
+
+int main(void) {
+    metres();
+    names();
+    events();
+    parcels();
+    puts(failed ? "not as ordered" : "one van, one stop, two kilometres: as ordered");
+    return failed;
+}

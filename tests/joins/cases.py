@@ -1,0 +1,138 @@
+"""Writes crates/vectors_joins/stdin and stdout: python3 tests/joins/cases.py"""
+import os
+import sys
+sys.dont_write_bytecode = True
+from arrow import Column, Type, keyed, make, number, numbers, run_column, sliced
+from grounds import ground_cases
+from script import Script, run
+from table import checked_rows
+
+DONE = [('finish',), ('rows',)]
+
+
+# ---- each kind alone: two sources, the first one sliced in its middle, and a third without nulls
+
+def kinds():
+    for f in 'cCsSiIlL': yield Type(f), [1, 2, None, 100, 5, None, 7], [9, 8, 7]
+    yield Type('f'), [0x3f800000, None, 0x7fc00001, 0x80000000], [0xff800000, 0]
+    yield Type('g'), [0x3ff0000000000000, None, 0x7ff8000000000001, 1 << 63], [0xfff0000000000000, 0]
+    for f in 'zuZU': yield Type(f), [b'yard', b'', None, b'stop', b'van'], [b'x', b'depot']
+    for f in ('vz', 'vu'): yield Type(f), [b'twelve bytes', b'thirteen byte', None, b'', b'a long way from here'], [b'another long string', b'short']
+    for f in ('+vl', '+vL'): yield Type(f, Type('S')), [[1, 2], None, [], [3, None, 4], [5]], [[6], [7, 8]]
+    fields = Type('u'), Type('i', nullable=False)
+    yield Type('+us:5,7', *fields), [(5, b'a'), (7, 1), (5, None), (7, 2)], [(7, 3), (5, b'b')]
+    yield Type('+ud:5,7', *fields), [(5, b'a'), (7, 1), (5, None), (7, 2)], [(7, 3), (5, b'b')]
+    yield Type('+ud:9,0', fields[1], fields[0]), [(9, 4), (0, b'b')], [(0, b'c'), (0, None)]
+    for f in 'sil': yield Type('+r', Type(f, nullable=False), Type('C')), [1, 1, 2, None, None, 3], [3, 3, 4]
+    for f in 'cCsSiIlL': yield Type(f, dictionary=Type('u'), entries=[b'anna', b'', b'bo']), [0, 2, None, 1], [2, 2]
+    yield Type('C', dictionary=Type('l'), entries=[-1, None, 5]), [0, 2, None, 2], [2, 0]
+    yield Type('s', dictionary=Type('Z'), entries=[b'a', None, b'ccc']), [0, 2, None], [2, 0]
+
+
+def alone(script):
+    for t, rows, others in kinds():
+        name = t.format + (' with a dictionary of ' + t.dictionary.format if t.dictionary else '')
+        first, second = make(t, rows, before=rows[:2]), make(t, others)
+        n, m = first.length, second.length
+        steps = [('copy', 0, 1, n), ('copy', 1, 0, m), ('nulls', 0), ('copy', 0, n, n), ('copy', 2, 0, 0), ('copy', 0, 0, n + 1), ('copy', 1, 2, 1)]
+        full = steps + [('nulls', 3), ('copy', 0, 0, 2)] + DONE
+        later = (False, [('copy', 0, 1, n), ('copy', 0, 0, n - 1), ('nulls', 1)] + DONE)
+        run(script, name, [first, second], full, ask=True, again=later)
+        run(script, name + ', nulls kept by word', [second, second], [('nulls', 2), ('copy', 1, 1, m), ('nulls', 1), ('copy', 0, 0, 1)] + DONE, keep=True, again=(True, [('nulls', 1), ('copy', 0, 0, 4)] + DONE))
+        run(script, name + ', no rows', [sliced(first, 1, 0), second], [('copy', 0, 0, 0)] + DONE)
+        if not any(x.nulls() for x in second.nodes()):
+            run(script, name + ', no nulls', [second, second], [('nulls', 0), ('nulls', 1), ('copy', 0, 0, m)] + DONE)
+
+
+# ---- parts one byte short, outside the room, overlapping, too few and too many
+
+def rooms(script):
+    for t, rows, others in kinds():
+        if t.format in 'cCSIlL' and not t.dictionary: continue
+        columns = [make(t, rows, before=rows[1:]), make(t, others)]
+        steps = [('copy', 0, 0, 2), ('nulls', 1), ('copy', 1, 0, 2)]
+        join = run(Script(), '', columns, steps, keep=True)
+        for p, (a, size) in enumerate(join.table):
+            if size: run(script, '%s: part %d one byte short' % (t.format, p), columns, steps, keep=True, short=(p, 1))
+    t = Type('+vl', Type('u'))
+    columns, steps = [make(t, [[b'ab', None], None])], [('copy', 0, 0, 2)]
+    run(script, 'parts: as they are', columns, steps)
+    run(script, 'parts: one too few', columns, steps, table=lambda own: own[:-1])
+    run(script, 'parts: one too many', columns, steps, table=lambda own: own + [(0, 0)])
+    run(script, 'parts: none', columns, steps, table=lambda own: [])
+    whole = len(run(Script(), '', columns, steps).room)
+    run(script, 'parts: the last ends with the room', columns, steps, room=whole - 1)
+    run(script, 'parts: the last ends one past the room', columns, steps, room=whole - 2)
+    run(script, 'parts: two begin at one place', columns, steps, table=lambda own: [own[1] if p == 2 else x for p, x in enumerate(own)])
+    run(script, 'parts: one byte is shared', columns, steps, table=lambda own: [(x[0], x[1] + 2) if p == 1 else x for p, x in enumerate(own)])
+    run(script, 'parts: one ends where the next begins', columns, steps, table=lambda own: [(x[0], x[1] + 1) if p == 1 else x for p, x in enumerate(own)])
+    run(script, 'parts: an empty one within another', columns, [('copy', 0, 0, 0)], table=lambda own: [(own[0][0], 0) if p == 4 else x for p, x in enumerate(own)])
+    for plan, counters in ((871, 96), (873, 96), (872, 95), (872, 97), (0, 0)):
+        run(script, 'a plan of %d and counters of %d' % (plan, counters), columns, steps, plan=plan, counters=counters)
+
+
+# ---- nested to depth 8, and 16 sources
+
+def nested(script):
+    number_type, text = Type('s'), Type('u')
+    chains = {
+        'list-views': (lambda t: Type('+vl', t), lambda r: [r, r]),
+        'large list-views': (lambda t: Type('+vL', t), lambda r: [r]),
+        'sparse unions': (lambda t: Type('+us:3', t), lambda r: (3, r)),
+        'dense unions': (lambda t: Type('+ud:3', t), lambda r: (3, r)),
+        'run ends': (lambda t: Type('+r', Type('i', nullable=False), t), lambda r: r),
+    }
+    for name, (wrap, row) in chains.items():
+        t, a, b = number_type, 5, None
+        for _ in range(7): t, a, b = wrap(t), row(a), row(b)
+        columns = [make(t, [a, b, a], before=[b]), make(t, [b, a])]
+        run(script, 'depth 8: ' + name, columns, [('copy', 0, 1, 3), ('nulls', 2), ('copy', 1, 0, 2)] + DONE, keep=True, ask=True, again=(False, [('copy', 0, 1, 5)] + DONE))
+    t = Type('+vl', Type('+vL', Type('+us:1,2', Type('+ud:0,127', Type('+r', Type('s', nullable=False), Type('+vl', Type('+r', Type('l', nullable=False), text))), Type('vu')), Type('C', dictionary=text, entries=[b'no', b'yes'], nullable=False))))
+    deep = (1, (0, [b'a', b'a', None]))
+    rows = [[[deep, (2, 1)], []], None, [[(1, (127, b'thirteen byte')), (1, (0, None)), (2, 0)]]]
+    columns = [make(t, rows, before=rows[2:]), make(t, rows[1:]), make(t, rows[:1])]
+    run(script, 'depth 8: all kinds', columns, [('copy', 0, 0, 3), ('nulls', 2), ('copy', 2, 0, 1), ('copy', 1, 1, 2), ('copy', 0, 2, 3)] + DONE, ask=True, again=(True, [('copy', 0, 1, 7), ('nulls', 1)] + DONE))
+
+
+def sixteen(script):
+    t = Type('l')
+    orders = [('copy', s, 0, 2) for s in range(15, -1, -1)]
+    run(script, '16 sources of numbers', [make(t, [s, None if s == 3 else -s], before=[7] * s) for s in range(16)], orders + [('copy', 16, 0, 0)] + DONE)
+    t = Type('vu')
+    run(script, '16 sources of views', [make(t, [b'%02d long enough' % s, b'%02d again as long' % s]) for s in range(16)], orders + DONE, again=(False, [('copy', 0, 30, 32)] + DONE))
+    t = Type('C', dictionary=Type('u'))
+    columns = [keyed(t, [0, 1], make(t.dictionary, [b'a%d' % s, b'b%d' % s])) for s in range(16)]
+    run(script, '16 sources with dictionaries', columns, orders + DONE)
+    same = make(t.dictionary, [b'one', b'two'])
+    run(script, '16 sources with one dictionary', [keyed(t, [0, 1], same) for s in range(16)], orders + DONE, again=(False, [('copy', 0, 3, 9)] + DONE))
+    other = [keyed(t, [0, 1], same) for s in range(15)] + [keyed(t, [0, 1], sliced(same, 0, 2))]
+    run(script, '16 sources, the last with the same places', other, orders + DONE)
+    other = [keyed(t, [0, 1], same) for s in range(15)] + [keyed(t, [0, 1], make(t.dictionary, [b'one', b'two']))]
+    run(script, '16 sources, the last with equal contents', other, orders + DONE)
+    other = [keyed(t, [0, 1], same) for s in range(15)] + [keyed(t, [0, 0], sliced(same, 1, 1))]
+    run(script, '16 sources, the last with a slice of the dictionary', other, orders + DONE)
+
+
+def paged(commands):
+    """The program reads pages of 65,536 bytes: a case that would cross their bounds begins on the next."""
+    text, case = '', ''
+    for line in commands:
+        case += line + '\n'
+        if line == '.':
+            left = -len(text) % 65536 or 65536
+            text += ('\n' * left if len(case) > left else '') + case
+            case = ''
+    return text
+
+
+script = Script()
+checked_rows(script)
+alone(script)
+rooms(script)
+nested(script)
+sixteen(script)
+ground_cases(script)
+crate = os.path.join(os.path.dirname(os.path.abspath(__file__)), '..', '..', 'crates', 'vectors_joins')
+with open(os.path.join(crate, 'stdin'), 'w') as f: f.write(paged(script.text))
+with open(os.path.join(crate, 'stdout'), 'w') as f: f.write('\n'.join(script.lines) + '\n')
+print('%d cases, %d bytes' % (len(script.lines), len('\n'.join(script.text))))
