@@ -7,13 +7,16 @@ use Prim.Native.Nat.{ℕ, zero, suc, _+_, _*_, _^_, _≤_, _<_}
 use native.Mathlib.Nat.{add-zero, zero-add, add-assoc, mul-suc, le-refl}
 use native.Mathlib.Omega.{arith}
 use lib.ListN.{length, getD}
+use lib.Dec.{T}
 use Rattle.columnar.specs.Row.{seg}
-use Rattle.columnar.specs.Types.{Number, i8, u8, i16, u16, i32, u32, i64, u64, f32, f64, width, half, limit, Plain, Ty}
+use Rattle.columnar.specs.Types.{Number, i8, u8, i16, u16, i32, u32, i64, u64, f32, f64, width, half, limit, Plain, fixed, string, Ty, tPlain, tView, tListView, tSparse, tDense, tRunEnd, tDictionary}
 use Rattle.columnar.specs.Array.{Array, item, ok, Mask, Obeys}
 use Rattle.columnar.specs.Entries.{encodes}
 use Rattle.columnar.specs.Plain.{PlainBody, Offsets, StringRule, empty, full, PlainRule}
 use Rattle.columnar.specs.Reading.{Body, Column, readAll, masks, SlotRule, Source}
+use Rattle.columnar.specs.Test.{member}
 use Rattle.columnar.specs.Wider.{PlainWider, wFixed, wString, Wider, wPlain, wView, wListView, wSparse, wDense, wRunEnd, wDictionary, Entries, Validity, Kept, OffsetsKept, entries, no-entry, PlainKept, Same, Stored, SharedAlike, Again}
+use Rattle.columnar.proofs.Test.{member-agrees}
 use Rattle.columnar.proofs.Items.{length-encodes, item-encodes-lt}
 use Rattle.columnar.proofs.Kept.{half-mono}
 use Rattle.columnar.proofs.Wider.{rows-same, source-wider}
@@ -112,13 +115,45 @@ plain-stored (wString w w′ h) okay b off len s = record { same-offsets = text-
 
 -- ---- every type
 
+-- a column of no rows: what a wide union holds at ids that no field has
+abbrev blankPlain : (p : Plain) → PlainBody p
+blankPlain (fixed n) = []
+blankPlain (string w) = record { offsets = []; chars = [] }
+
+abbrev blank : {B : Type 0} → B → Array B
+blank b = record { len = 0; off = 0; valid = none; body = b }
+
+abbrev blankBody : (t : Ty) → Body t
+blankBody (tPlain p) = blankPlain p
+blankBody tView = record { views = []; buffers = [] }
+blankBody (tListView w t) = record { offsets = []; sizes = []; child = blank (blankBody t) }
+blankBody (tSparse ids nullable f) = record { ids = []; children = λ c. blank (blankBody (f c)) }
+blankBody (tDense ids nullable f) = record { ids = []; positions = []; children = λ c. blank (blankBody (f c)) }
+blankBody (tRunEnd w t) = record { ends = blank []; values = blank (blankBody t) }
+blankBody (tDictionary k p) = record { keys = []; values = blank (blankPlain p); starts = [] }
+
+-- one thing where the test holds, which it may use, and else another
+abbrev whereHolds : {A : Type 0} → (b : Bool) → (T b → A) → A → A
+whereHolds true f z = f tt
+whereHolds false f z = z
+
+where-held : {A : Type 0} (b : Bool) (f : T b → A) (z : A) (Q : T b → A → Type 0) → ((m : T b) → Q m (f m)) → (m : T b) → Q m (whereHolds b f z)
+where-held true f z Q h m = h m
+where-held false f z Q h m = absurd m
+
+where-all : {A : Type 0} (b : Bool) (f : ℕ → T b → A) (z : A) (Q : T b → (ℕ → A) → Type 0) → ((m : T b) → Q m (λ i. f i m)) → (m : T b) → Q m (λ i. whereHolds b (f i) z)
+where-all true f z Q h m = h m
+where-all false f z Q h m = absurd m
+
 abbrev widenBody : {t t′ : Ty} → Wider t t′ → Body t → ℕ → Body t′
 widenBody (wPlain d) = widenPlain d
 widenBody wView = λ b n. b
 widenBody (wListView w w′ h d) = λ b n.
     record { offsets = widenEntries w w′ (b .offsets) n; sizes = widenEntries w w′ (b .sizes) n; child = onArray (widenBody d) (b .child) }
-widenBody (wSparse ids nullable d) = λ b n. record { ids = b .ids; children = λ c. onArray (widenBody (d c)) (b .children c) }
-widenBody (wDense ids nullable d) = λ b n. record { ids = b .ids; positions = b .positions; children = λ c. onArray (widenBody (d c)) (b .children c) }
+widenBody (wSparse ids {nullable} {nullable′} {f} {f′} e d) = λ b n.
+    record { ids = b .ids; children = λ c. whereHolds (member c ids) (λ m. onArray (widenBody (d c m)) (b .children c)) (blank (blankBody (f′ c))) }
+widenBody (wDense ids {nullable} {nullable′} {f} {f′} e d) = λ b n.
+    record { ids = b .ids; positions = b .positions; children = λ c. whereHolds (member c ids) (λ m. onArray (widenBody (d c m)) (b .children c)) (blank (blankBody (f′ c))) }
 widenBody (wRunEnd w w′ h d) = λ b n. record { ends = onArray (widenEntries w w′) (b .ends); values = onArray (widenBody d) (b .values) }
 widenBody (wDictionary k k′ h d) = λ b n.
     record { keys = widenEntries (width k) (width k′) (b .keys) n; values = onArray (widenPlain d) (b .values); starts = b .starts }
@@ -132,16 +167,20 @@ body-stored (wListView w w′ {t} h d) okay b off len s =
       same-sizes = widen-entries w w′ (b .sizes) off len (λ i q. fits (item w (b .sizes) (off + i)) h (s .entries i q .size));
       same-child = array-stored (widenBody d) (SlotRule t) (Same d) (body-stored d) (masks t) (b .child) (s .child-rule);
     }
-body-stored (wSparse ids nullable {f} d) okay b off len s =
+body-stored (wSparse ids {nullable} {nullable′} {f} {f′} e d) okay b off len s =
     record {
       same-ids = record { hold = s .hold; kept = λ i q. refl };
-      same-children = λ c m. array-stored (widenBody (d c)) (SlotRule (f c)) (Same (d c)) (body-stored (d c)) (masks (f c)) (b .children c) (s .child-rule c m);
+      same-children = λ c.
+          where-held (member c ids) (λ m. onArray (widenBody (d c m)) (b .children c)) (blank (blankBody (f′ c))) (λ m. Kept (Same (d c m)) (b .children c))
+          (λ m. array-stored (widenBody (d c m)) (SlotRule (f c)) (Same (d c m)) (body-stored (d c m)) (masks (f c)) (b .children c) (s .child-rule c (member-agrees c ids .sound m)));
     }
-body-stored (wDense ids nullable {f} d) okay b off len s =
+body-stored (wDense ids {nullable} {nullable′} {f} {f′} e d) okay b off len s =
     record {
       same-ids = record { hold = s .hold-ids; kept = λ i q. refl };
       same-positions = record { hold = s .hold-positions; kept = λ i q. refl };
-      same-children = λ c m. array-stored (widenBody (d c)) (SlotRule (f c)) (Same (d c)) (body-stored (d c)) (masks (f c)) (b .children c) (s .child-rule c m);
+      same-children = λ c.
+          where-held (member c ids) (λ m. onArray (widenBody (d c m)) (b .children c)) (blank (blankBody (f′ c))) (λ m. Kept (Same (d c m)) (b .children c))
+          (λ m. array-stored (widenBody (d c m)) (SlotRule (f c)) (Same (d c m)) (body-stored (d c m)) (masks (f c)) (b .children c) (s .child-rule c (member-agrees c ids .sound m)));
     }
 body-stored (wRunEnd w w′ {t} h d) okay b off len s =
     record {
@@ -179,8 +218,12 @@ widen-shared : {t t′ : Ty} (d : Wider t t′) (n : ℕ) (ss : ℕ → Column t
 widen-shared (wPlain d) n ss = tt
 widen-shared wView n ss = tt
 widen-shared (wListView w w′ h d) n ss = widen-shared d n (λ i. ss i .body .child)
-widen-shared (wSparse ids nullable d) n ss = λ c m. widen-shared (d c) n (λ i. ss i .body .children c)
-widen-shared (wDense ids nullable d) n ss = λ c m. widen-shared (d c) n (λ i. ss i .body .children c)
+widen-shared (wSparse ids {nullable} {nullable′} {f} {f′} e d) n ss = λ c.
+    where-all (member c ids) (λ i m. onArray (widenBody (d c m)) (ss i .body .children c)) (blank (blankBody (f′ c))) (λ m. SharedAlike (d c m) n (λ i. ss i .body .children c))
+    (λ m. widen-shared (d c m) n (λ i. ss i .body .children c))
+widen-shared (wDense ids {nullable} {nullable′} {f} {f′} e d) n ss = λ c.
+    where-all (member c ids) (λ i m. onArray (widenBody (d c m)) (ss i .body .children c)) (blank (blankBody (f′ c))) (λ m. SharedAlike (d c m) n (λ i. ss i .body .children c))
+    (λ m. widen-shared (d c m) n (λ i. ss i .body .children c))
 widen-shared (wRunEnd w w′ h d) n ss = widen-shared d n (λ i. ss i .body .values)
 widen-shared (wDictionary k k′ h d) n ss = λ i j p q. (
   (λ h. record { same-starts = h .same-starts; same-off = h .same-off; same-len = h .same-len }),

@@ -16,8 +16,8 @@ pub widens : {t t′ : Ty} (d : Wider t t′) → Widens (masks t) (masks t′) 
 widens (wPlain d) = plain-widens d
 widens wView = view-widens
 widens (wListView w w′ h d) = list-view-widens w w′ h (widens d)
-widens (wSparse ids nullable d) = sparse-widens ids (λ c. widens (d c))
-widens (wDense ids nullable d) = dense-widens ids (λ c. widens (d c))
+widens (wSparse ids e d) = sparse-widens ids (λ c m. widens (d c m))
+widens (wDense ids e d) = dense-widens ids (λ c m. widens (d c m))
 widens (wRunEnd w w′ h d) = run-end-widens w w′ h (widens d)
 widens (wDictionary k k′ h d) = dictionary-widens k k′ h d
 

@@ -1,21 +1,23 @@
 -- Small columns stored wider, computed: each is a slice, so that its first row is not its buffers' first slot. Assumes nothing.
-use mathlib.Core.Path.{_≡_, refl, sym, ap, _∙_}
+use mathlib.Core.Path.{_≡_, refl, sym, ap, subst, _∙_}
+use mathlib.Core.Bool.{Bool}
 use mathlib.Core.Option.{none, some}
-use mathlib.Core.List.{List, [], _∷_}
+use mathlib.Core.List.{List, [], _∷_, List·Memᴰ, List·Memᴰ·head, List·Memᴰ·tail, List·Memᴰ·not-nil}
 use Prim.Native.Nat.{ℕ, zero, suc, _+_, _≤_, _<_}
 use native.Mathlib.Omega.{arith}
 use lib.IntN.{pos}
 use lib.Dec.{T}
 use Rattle.number.specs.Number.{number, encode}
 use Rattle.columnar.specs.Row.{Row, null, whole, bytes, list, rows}
-use Rattle.columnar.specs.Types.{tPlain, tListView, tRunEnd, tDictionary, fixed, string, u8, i16, half}
+use Rattle.columnar.specs.Types.{Ty, tPlain, tListView, tSparse, tDense, tRunEnd, tDictionary, fixed, string, u8, i16, half}
 use Rattle.columnar.specs.Array.{item, bit}
 use Rattle.columnar.specs.Entries.{encodes}
 use Rattle.columnar.specs.Plain.{full}
 use Rattle.columnar.specs.ListView.{Entry}
 use Rattle.columnar.specs.RunEnd.{startOf}
 use Rattle.columnar.specs.Reading.{Column, readAll, Source}
-use Rattle.columnar.specs.Wider.{Wider, wPlain, wListView, wRunEnd, wDictionary, wFixed, wString, entries, Stored, Again}
+use Rattle.columnar.specs.Wider.{Declared, Wider, wPlain, wListView, wSparse, wDense, wRunEnd, wDictionary, wFixed, wString, entries, Stored, Again}
+use Rattle.columnar.proofs.Test.{member-agrees}
 use Rattle.columnar.proofs.Wider.{rows-same}
 
 upto-1 : (Q : ℕ → Type 0) → Q 0 → (i : ℕ) → i < 1 → Q i
@@ -280,3 +282,19 @@ lists-rows = refl
 
 pub lists-wide-rows : readAll (tListView 8 (tPlain (string 8))) (lists 8) ≡ list (rows text-has) ∷ []
 lists-wide-rows = sym (rows-same lists-wider lists-stored lists-source) ∙ lists-rows
+
+-- ---- a union of one field: nothing is asked of types and flags at ids that no field has
+
+only-zero : (c : ℕ) → Declared (0 ∷ []) c → c ≡ 0
+only-zero c t = go c (member-agrees c (0 ∷ []) .sound t)
+  where
+    go : (c : ℕ) → List·Memᴰ c (0 ∷ []) → c ≡ 0
+    go c (List·Memᴰ·head e) = e
+    go c (List·Memᴰ·tail m) = absurd (List·Memᴰ·not-nil m)
+
+pub one-field : (nullable nullable′ : ℕ → Bool) (f f′ : ℕ → Ty) → nullable 0 ≡ nullable′ 0 → Wider (f 0) (f′ 0)
+    → Wider (tSparse (0 ∷ []) nullable f) (tSparse (0 ∷ []) nullable′ f′) × Wider (tDense (0 ∷ []) nullable f) (tDense (0 ∷ []) nullable′ f′)
+one-field nullable nullable′ f f′ n d =
+    let flags : (c : ℕ) → Declared (0 ∷ []) c → nullable c ≡ nullable′ c = λ c t. subst (λ k. nullable k ≡ nullable′ k) (sym (only-zero c t)) n in
+    let types : (c : ℕ) → Declared (0 ∷ []) c → Wider (f c) (f′ c) = λ c t. subst (λ k. Wider (f k) (f′ k)) (sym (only-zero c t)) d in
+    (wSparse (0 ∷ []) flags types, wDense (0 ∷ []) flags types)

@@ -17,9 +17,10 @@ use Rattle.columnar.specs.ListView.{listViewAt, ListViewRule}
 use Rattle.columnar.specs.Union.{sparseAt, denseAt, SparseRule, DenseRule}
 use Rattle.columnar.specs.RunEnd.{RunEnd, endOf, firstAbove, runEndAt, startOf, RunEndRule}
 use Rattle.columnar.specs.Dictionary.{dictionaryAt, DictionaryRule}
-use Rattle.columnar.specs.Wider.{KeyWider, PlainWider, wFixed, wString, Entries, Kept, FixedKept, OffsetsKept, entries, no-entry, TextKept, PlainKept, ViewsKept, ListViewKept, SparseKept, DenseKept, RunEndKept, DictionaryKept}
+use Rattle.columnar.specs.Wider.{Declared, KeyWider, PlainWider, wFixed, wString, Entries, Kept, FixedKept, OffsetsKept, entries, no-entry, TextKept, PlainKept, ViewsKept, ListViewKept, SparseKept, DenseKept, RunEndKept, DictionaryKept}
 use Rattle.columnar.proofs.Items.{number-take}
 use Rattle.columnar.proofs.FirstAbove.{first-same, first-below}
+use Rattle.columnar.proofs.Test.{member-agrees}
 use Rattle.columnar.proofs.Kept.{half-mono, seg-same, ok-kept, mask-kept, Widens, read-kept, obeys-kept}
 
 -- ---- numbers and byte strings
@@ -183,30 +184,34 @@ module _ (k k′ : Number) {p p′ : Plain} (kk : KeyWider k k′) (d : PlainWid
 
 -- ---- unions
 
+-- a member is declared
+pub declares : (c : ℕ) (ids : List ℕ) → List·Memᴰ c ids → Declared ids c
+declares c ids m = member-agrees c ids .complete m
+
 module _ {P P′ : ℕ → Type 0} (ids : List ℕ) {masks masks′ : ℕ → Bool} {at : (c : ℕ) → P c → ℕ → Row} {at′ : (c : ℕ) → P′ c → ℕ → Row}
     {rule : (c : ℕ) → (ℕ → Bool) → P c → ℕ → ℕ → Type 0} {rule′ : (c : ℕ) → (ℕ → Bool) → P′ c → ℕ → ℕ → Type 0}
-    {same : (c : ℕ) → (ℕ → Bool) → P c → P′ c → ℕ → ℕ → Type 0}
-    (u : (c : ℕ) → Widens (masks c) (masks′ c) (at c) (at′ c) (rule c) (rule′ c) (same c)) where
+    {same : (c : ℕ) → Declared ids c → (ℕ → Bool) → P c → P′ c → ℕ → ℕ → Type 0}
+    (u : (c : ℕ) (m : Declared ids c) → Widens (masks c) (masks′ c) (at c) (at′ c) (rule c) (rule′ c) (same c m)) where
   pub sparse-widens : Widens false false (sparseAt at) (sparseAt at′) (SparseRule ids (λ c. Obeys (masks c) (rule c))) (SparseRule ids (λ c. Obeys (masks′ c) (rule′ c)))
-      (SparseKept (λ c. List·Memᴰ c ids) (λ c. Kept (same c)))
+      (SparseKept (Declared ids) (λ c m. Kept (same c m)))
   sparse-widens =
       record {
         masks-same = refl;
         at-same = λ okay b b′ off len h s i q t.
             let c = getD (b .ids) (off + i) 0 in
             let m = s .declared i q in
-            rw (← h .same-ids .kept i q) (ap (union c) (read-kept (u c) (h .same-children c m) (s .child-rule c m) (off + i) (omega (arith, s .long c m))));
+            rw (← h .same-ids .kept i q) (ap (union c) (read-kept (u c (declares c ids m)) (h .same-children c (declares c ids m)) (s .child-rule c m) (off + i) (omega (arith, s .long c m))));
         rule-same = λ okay okay′ b b′ off len h o s.
             record {
               hold = h .same-ids .hold;
               declared = λ i q. rw (← h .same-ids .kept i q) (s .declared i q);
-              long = λ c m. rw (← h .same-children c m .same-len) (s .long c m);
-              child-rule = λ c m. obeys-kept (u c) (h .same-children c m) (s .child-rule c m);
+              long = λ c m. rw (← h .same-children c (declares c ids m) .same-len) (s .long c m);
+              child-rule = λ c m. obeys-kept (u c (declares c ids m)) (h .same-children c (declares c ids m)) (s .child-rule c m);
             };
       }
 
   pub dense-widens : Widens false false (denseAt at) (denseAt at′) (DenseRule ids (λ c. Obeys (masks c) (rule c))) (DenseRule ids (λ c. Obeys (masks′ c) (rule′ c)))
-      (DenseKept (λ c. List·Memᴰ c ids) (λ c. Kept (same c)))
+      (DenseKept (Declared ids) (λ c m. Kept (same c m)))
   dense-widens =
       record {
         masks-same = refl;
@@ -214,7 +219,7 @@ module _ {P P′ : ℕ → Type 0} (ids : List ℕ) {masks masks′ : ℕ → Bo
             let c = getD (b .ids) (off + i) 0 in
             let m = s .declared i q in
             rw (← h .same-ids .kept i q, ← h .same-positions .kept i q)
-            (ap (union c) (read-kept (u c) (h .same-children c m) (s .child-rule c m) (item 4 (b .positions) (off + i)) (s .within i q)));
+            (ap (union c) (read-kept (u c (declares c ids m)) (h .same-children c (declares c ids m)) (s .child-rule c m) (item 4 (b .positions) (off + i)) (s .within i q)));
         rule-same = λ okay okay′ b b′ off len h o s.
             record {
               hold-ids = h .same-ids .hold;
@@ -224,7 +229,7 @@ module _ {P P′ : ℕ → Type 0} (ids : List ℕ) {masks masks′ : ℕ → Bo
               within = λ i q.
                   let c = getD (b .ids) (off + i) 0 in
                   let m = s .declared i q in
-                  rw (← h .same-ids .kept i q, ← h .same-positions .kept i q, ← h .same-children c m .same-len) (s .within i q);
-              child-rule = λ c m. obeys-kept (u c) (h .same-children c m) (s .child-rule c m);
+                  rw (← h .same-ids .kept i q, ← h .same-positions .kept i q, ← h .same-children c (declares c ids m) .same-len) (s .within i q);
+              child-rule = λ c m. obeys-kept (u c (declares c ids m)) (h .same-children c (declares c ids m)) (s .child-rule c m);
             };
       }

@@ -4,7 +4,7 @@ use mathlib.Core.Path.{_≡_}
 use mathlib.Core.Logic.{_↔_}
 use mathlib.Core.Bool.{Bool, true, false}
 use mathlib.Core.Option.{Option, none, some}
-use mathlib.Core.List.{List, [], List·Memᴰ}
+use mathlib.Core.List.{List, []}
 use Prim.Native.Nat.{ℕ, _+_, _*_, _≤_, _<_}
 use lib.ListN.{length, getD}
 use lib.Dec.{T}
@@ -17,6 +17,7 @@ use Rattle.columnar.specs.Union.{Sparse, Dense}
 use Rattle.columnar.specs.RunEnd.{RunEnd}
 use Rattle.columnar.specs.Dictionary.{Dictionary}
 use Rattle.columnar.specs.Reading.{Body, Column}
+use Rattle.columnar.specs.Test.{member}
 
 -- ---- types
 
@@ -44,15 +45,19 @@ pub data PlainWider : Plain → Plain → Type 0 where
   wFixed : (n : Number) → PlainWider (fixed n) (fixed n)
   wString : (w w′ : ℕ) → w ≤ w′ → PlainWider (string w) (string w′)
 
+-- id c is one of the union's; of others nothing is asked, since no field has them
+abbrev pub Declared : List ℕ → ℕ → Type 0
+Declared ids c = T (member c ids)
+
 -- A type and the same one with wider offsets and sizes, run ends or keys, here or below: the same tree, ids and nullable flags.
 pub data Wider : Ty → Ty → Type 0 where
   wPlain : {p p′ : Plain} → PlainWider p p′ → Wider (tPlain p) (tPlain p′)
   wView : Wider tView tView
   wListView : (w w′ : ℕ) {t t′ : Ty} → w ≤ w′ → Wider t t′ → Wider (tListView w t) (tListView w′ t′)
-  wSparse : (ids : List ℕ) (nullable : ℕ → Bool) {f f′ : ℕ → Ty} → ((c : ℕ) → Wider (f c) (f′ c))
-      → Wider (tSparse ids nullable f) (tSparse ids nullable f′)
-  wDense : (ids : List ℕ) (nullable : ℕ → Bool) {f f′ : ℕ → Ty} → ((c : ℕ) → Wider (f c) (f′ c))
-      → Wider (tDense ids nullable f) (tDense ids nullable f′)
+  wSparse : (ids : List ℕ) {nullable nullable′ : ℕ → Bool} {f f′ : ℕ → Ty} → ((c : ℕ) → Declared ids c → nullable c ≡ nullable′ c)
+      → ((c : ℕ) → Declared ids c → Wider (f c) (f′ c)) → Wider (tSparse ids nullable f) (tSparse ids nullable′ f′)
+  wDense : (ids : List ℕ) {nullable nullable′ : ℕ → Bool} {f f′ : ℕ → Ty} → ((c : ℕ) → Declared ids c → nullable c ≡ nullable′ c)
+      → ((c : ℕ) → Declared ids c → Wider (f c) (f′ c)) → Wider (tDense ids nullable f) (tDense ids nullable′ f′)
   wRunEnd : (w w′ : ℕ) {t t′ : Ty} → w ≤ w′ → Wider t t′ → Wider (tRunEnd w t) (tRunEnd w′ t′)
   wDictionary : (k k′ : Number) {p p′ : Plain} → KeyWider k k′ → PlainWider p p′ → Wider (tDictionary k p) (tDictionary k′ p′)
 
@@ -119,16 +124,16 @@ pub record Ids (s s′ : List ℕ) (off len : ℕ) : Type 0 where
   pub hold : off + len ≤ length s′
   pub kept : (i : ℕ) → i < len → getD s (off + i) 0 ≡ getD s′ (off + i) 0
 
-module _ {P P′ : ℕ → Type 0} (declared : ℕ → Type 0) (kid : (c : ℕ) → Array (P c) → Array (P′ c) → Type 0) where
+module _ {P P′ : ℕ → Type 0} (declared : ℕ → Type 0) (kid : (c : ℕ) → declared c → Array (P c) → Array (P′ c) → Type 0) where
   pub record SparseKept (ok : ℕ → Bool) (b : Sparse P) (b′ : Sparse P′) (off len : ℕ) : Type 0 where
     pub same-ids : Ids (b .ids) (b′ .ids) off len
-    pub same-children : (c : ℕ) → declared c → kid c (b .children c) (b′ .children c)
+    pub same-children : (c : ℕ) (m : declared c) → kid c m (b .children c) (b′ .children c)
 
   -- positions have one format
   pub record DenseKept (ok : ℕ → Bool) (b : Dense P) (b′ : Dense P′) (off len : ℕ) : Type 0 where
     pub same-ids : Ids (b .ids) (b′ .ids) off len
     pub same-positions : Entries 4 4 (b .positions) (b′ .positions) off len
-    pub same-children : (c : ℕ) → declared c → kid c (b .children c) (b′ .children c)
+    pub same-children : (c : ℕ) (m : declared c) → kid c m (b .children c) (b′ .children c)
 
 -- run ends are an array of their own
 pub record RunEndKept (w w′ : ℕ) {P P′ : Type 0} (kid : Array P → Array P′ → Type 0) (ok : ℕ → Bool) (b : RunEnd P) (b′ : RunEnd P′) (off len : ℕ) : Type 0 where
@@ -145,8 +150,8 @@ abbrev pub Same : {t t′ : Ty} → Wider t t′ → (ℕ → Bool) → Body t �
 Same (wPlain d) = PlainKept d
 Same wView = ViewsKept
 Same (wListView w w′ h d) = ListViewKept w w′ (Kept (Same d))
-Same (wSparse ids nullable d) = SparseKept (λ c. List·Memᴰ c ids) (λ c. Kept (Same (d c)))
-Same (wDense ids nullable d) = DenseKept (λ c. List·Memᴰ c ids) (λ c. Kept (Same (d c)))
+Same (wSparse ids e d) = SparseKept (Declared ids) (λ c m. Kept (Same (d c m)))
+Same (wDense ids e d) = DenseKept (Declared ids) (λ c m. Kept (Same (d c m)))
 Same (wRunEnd w w′ h d) = RunEndKept w w′ (Kept (Same d))
 Same (wDictionary k k′ h d) = DictionaryKept k k′ (Kept (PlainKept d))
 
@@ -167,10 +172,10 @@ abbrev pub SharedAlike : {t t′ : Ty} → Wider t t′ → ℕ → (ℕ → Col
 SharedAlike (wPlain d) n ss ss′ = Unit {0}
 SharedAlike wView n ss ss′ = Unit {0}
 SharedAlike (wListView w w′ h d) n ss ss′ = SharedAlike d n (λ i. ss i .body .child) (λ i. ss′ i .body .child)
-SharedAlike (wSparse ids nullable d) n ss ss′ =
-    (c : ℕ) → List·Memᴰ c ids → SharedAlike (d c) n (λ i. ss i .body .children c) (λ i. ss′ i .body .children c)
-SharedAlike (wDense ids nullable d) n ss ss′ =
-    (c : ℕ) → List·Memᴰ c ids → SharedAlike (d c) n (λ i. ss i .body .children c) (λ i. ss′ i .body .children c)
+SharedAlike (wSparse ids e d) n ss ss′ =
+    (c : ℕ) (m : Declared ids c) → SharedAlike (d c m) n (λ i. ss i .body .children c) (λ i. ss′ i .body .children c)
+SharedAlike (wDense ids e d) n ss ss′ =
+    (c : ℕ) (m : Declared ids c) → SharedAlike (d c m) n (λ i. ss i .body .children c) (λ i. ss′ i .body .children c)
 SharedAlike (wRunEnd w w′ h d) n ss ss′ = SharedAlike d n (λ i. ss i .body .values) (λ i. ss′ i .body .values)
 SharedAlike (wDictionary k k′ h d) n ss ss′ = (i j : ℕ) → i < n → j < n → Shares (ss i .body) (ss j .body) ↔ Shares (ss′ i .body) (ss′ j .body)
 

@@ -50,7 +50,8 @@ module _ (l : Lending) where
   unfolding opening
   sources-next e f = rw (e, f) refl
 
-  parts-next : small ≡ true → eqb ground 0 ≡ true → placed ≡ false → openingOf l .ground ≡ 14
+  -- 14 where it stands and none of 9 to 12 does
+  pub parts-next : small ≡ true → eqb ground 0 ≡ true → placed ≡ false → openingOf l .ground ≡ 14
   unfolding opening
   parts-next e f g = rw (e, f, g) refl
 

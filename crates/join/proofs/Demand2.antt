@@ -13,6 +13,8 @@ use Rattle.model.specs.Transform.{Destination, start, intoBuilder}
 use Rattle.model.specs.Book.{Call}
 use Rattle.model.specs.Orders.{perform, performAll}
 use Rattle.model.proofs.Book.{countedIf}
+use Rattle.model.specs.Counters.{FinishedBy}
+use Rattle.model.proofs.Counters.{finished-by}
 use Rattle.model.proofs.Start.{held-start}
 use Rattle.array_data.specs.Tables.{lengthOf}
 use Rattle.array_data.specs.Typed.{sourceRule}
@@ -21,6 +23,8 @@ use Rattle.parts.specs.Parts.{nodesOf}
 use Rattle.orders.specs.Fits.{fits, answerIn, answersIn}
 use Rattle.orders.specs.Counted.{nullsRoom}
 use Rattle.orders.proofs.Booked.{booked}
+use Rattle.link.specs.Holds.{Holds}
+use Rattle.opening.proofs.Taken.{sources-of}
 use Rattle.opening.proofs.Opened.{Opened, orders-after}
 use Rattle.finishing.specs.Finish.{Finished, lengthTable, nullTable, placeTable, bufferTable, buffersBefore}
 use Rattle.finishing.specs.Shows.{Shows, Counts}
@@ -83,6 +87,17 @@ module _ (l : Lending) (b : Bytes l) (accepted : openingOf l .ground ≡ 0) (os 
       (intoBuilder (typeIn l) (sourcesIn l) (columnsIn l) (reachedBy l os))
   finished-nulls =
       join-nulls (l .formats) (l .schema) (l .sources) (l .tables) (l .keep) (l .parts) (openingOf l) opens os (length (l .tables .body)) _ (appended (lentOf l) (afterCalls l os .room))
+
+  -- .. AND THOSE OF THE RUST: of every node, validity is kept where its running null count is above 0, and that is its null count
+  pub finished-counters : FinishedBy (typeIn l) (sourcesIn l) (columnsIn l) (reachedBy l os) (intoBuilder (typeIn l) (sourcesIn l) (columnsIn l) (reachedBy l os))
+  finished-counters =
+      finished-by (typeIn l) (sourcesIn l) (columnsIn l) (sources-of (l .formats) (l .schema) (l .sources) (l .tables) (l .keep) (opens .accepted) .obey) (reachedBy l os)
+      (orders-after (l .formats) (l .schema) (l .sources) (l .tables) (l .keep) (l .parts) (openingOf l) opens os .running .state .fine)
+
+  -- the lent counters are the destination's, its lengths and running null counts, at every node
+  pub counters-are : Holds (lentOf l .plan) (typeIn l) 0 (reachedBy l os) (afterCalls l os .counts)
+      (orders-after (l .formats) (l .schema) (l .sources) (l .tables) (l .keep) (l .parts) (openingOf l) opens os .running .memory)
+  counters-are = orders-after (l .formats) (l .schema) (l .sources) (l .tables) (l .keep) (l .parts) (openingOf l) opens os .running .holds
 
   -- THE RUNNING NULL COUNT is that of the accepted calls: a copy's zero bits, a null order's rows in full
   pub running-nulls : walk.nulls (afterCalls l os .counts) 0 ≡ countedIf (keepsIn l) (nullsOf l os)

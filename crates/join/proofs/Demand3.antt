@@ -14,14 +14,16 @@ use Rattle.model.specs.Transform.{Destination, start}
 use Rattle.model.specs.Book.{Call}
 use Rattle.model.proofs.Bits.{length-seg, getD-seg}
 use Rattle.model.proofs.Start.{held-start}
+use Rattle.walk.specs.State as walk
 use Rattle.orders.specs.Fits.{bookIn}
 use Rattle.orders.specs.Counted.{bookRoom}
 use Rattle.orders.proofs.Booked.{booked, booked-by}
 use Rattle.opening.proofs.Opened.{Opened}
 use Rattle.finishing.proofs.Orders.{appended}
 use Rattle.finishing.proofs.Join.{join-rows}
-use Rattle.join.specs.Join.{Lending, Bytes, sourcesIn, typeIn, columnsIn, keepsIn, openingOf, lentOf, afterCalls, groundsIn, finishedOf, bookOf, bookAnswered}
+use Rattle.join.specs.Join.{Lending, Bytes, sourcesIn, typeIn, columnsIn, keepsIn, openingOf, lentOf, afterCalls, groundsIn, finishedOf, bookOf, bookAnswered, reachedBy}
 use Rattle.join.proofs.Demand1.{runs}
+use Rattle.join.proofs.Demand2.{finished-bytes, counters-are}
 
 -- after an accepted opening and any list of calls, refused ones included
 module _ (l : Lending) (b : Bytes l) (accepted : openingOf l .ground ≡ 0) (os : List Call) where
@@ -52,6 +54,13 @@ module _ (l : Lending) (b : Bytes l) (accepted : openingOf l .ground ≡ 0) (os 
   -- the finished array has the book's length
   pub book-length : finishedOf l os .len ≡ length (bookOf l os)
   book-length = sym (length-seg (read (typeIn l) (finishedOf l os)) 0 (finishedOf l os .len)) ∙ ap length the-book
+
+  -- AND SO HAS THE DESTINATION, after every call: the model's, and the lent counter of the root
+  pub reached-length : reachedBy l os .len ≡ length (bookOf l os)
+  reached-length = sym (finished-bytes l b accepted os .len-is) ∙ book-length
+
+  pub destination-length : walk.rows (afterCalls l os .counts) 0 ≡ length (bookOf l os)
+  destination-length = counters-are l b accepted os .rows-are ∙ reached-length
 
   -- and its row i reads as entry i
   pub book-row : (i : ℕ) → i < finishedOf l os .len → read (typeIn l) (finishedOf l os) i ≡ getD (bookOf l os) i null

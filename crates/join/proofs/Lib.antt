@@ -2,5 +2,9 @@
 pub mod Numbers
 pub mod Demand1
 pub mod Demand2
+pub mod Answered
 pub mod Demand3
+pub mod Stored
+pub mod StoredTypes
+pub mod StoredExample
 pub mod Wider

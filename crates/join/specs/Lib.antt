@@ -1,2 +1,3 @@
 -- A whole join as a caller makes it, over what the contracts of its entry points cite.
 pub mod Join
+pub mod Stored

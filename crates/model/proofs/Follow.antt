@@ -66,7 +66,7 @@ has-mem (c ∷ cs) e h = go (eqb e c) refl (has-mem cs e)
     go true z f = List·Memᴰ·head (eqb-true e c z)
     go false z f = List·Memᴰ·tail (f (rw z at h))
 
-among-same : (ids : List ℕ) (f g : ℕ → Counts) → ((c : ℕ) → List·Memᴰ c ids → f c ≡ g c) → among ids f ≡ among ids g
+pub among-same : (ids : List ℕ) (f g : ℕ → Counts) → ((c : ℕ) → List·Memᴰ c ids → f c ≡ g c) → among ids f ≡ among ids g
 among-same ids f g h = fun-ext (λ e. go e (has ids e) (λ z. h e (has-mem ids e z)))
   where
     go : (e : ℕ) (b : Bool) → (b ≡ true → f e ≡ g e) → cond b (f e) absent ≡ cond b (g e) absent

@@ -33,5 +33,6 @@ pub mod DictionaryLaw
 pub mod WiderOpening
 pub mod WiderOrders
 pub mod Types
+pub mod Counters
 pub mod Theorems
 pub mod WiderTheorem

@@ -66,7 +66,7 @@ grow-none masks vs none e = refl
 grow-none true vs (some l) e = cc
 grow-none false vs (some l) e = e
 
-grow-count : (masks : Bool) (vs : List Bool) (b : Option (List Bool)) (c : ℕ) → CountFor masks b c → CountFor masks (grow masks vs b) (c + counted b (zeros vs))
+pub grow-count : (masks : Bool) (vs : List Bool) (b : Option (List Bool)) (c : ℕ) → CountFor masks b c → CountFor masks (grow masks vs b) (c + counted b (zeros vs))
 grow-count masks vs none c h = omega arith
 grow-count false vs (some l) c h = tt
 grow-count true vs (some l) c h = rw zeros-append (omega arith)

@@ -1,9 +1,16 @@
 -- The definitions give 01's table of checked rows. Assumes nothing.
 use mathlib.Core.Path.{_≡_, refl}
 use Rattle.number.specs.Number.{number, encode}
-use Rattle.columnar.specs.Array.{item}
-use Rattle.model.specs.Table.{given, expected}
+use mathlib.Core.Bool.{true}
+use lib.ListN.{replicate}
+use Rattle.columnar.specs.Array.{item, bit}
+use Rattle.model.specs.Table.{given, expected, obeyed}
 
 pub the-table : given ≡ expected
 unfolding number encode item
 the-table = refl
+
+-- its sources pass ground 12
+pub the-sources : obeyed ≡ replicate 18 true
+unfolding number encode item bit
+the-sources = refl

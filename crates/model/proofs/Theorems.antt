@@ -1,36 +1,38 @@
 -- THE THEOREMS of the model, for every type at any depth, over any sources that the opening accepts and any list of orders, refused
 -- ones included. Assumes nothing.
-use mathlib.Core.Path.{_≡_, refl, sym, ap, ap₂, _∙_, subst}
+use mathlib.Core.Path.{_≡_, refl, sym, ap, _∙_, subst}
 use mathlib.Core.Bool.{Bool, true, false, cond}
 use mathlib.Core.Option.{Option, none, some}
-use mathlib.Core.List.{List, [], _∷_, _++_}
-use Prim.Native.Nat.{ℕ, zero, suc, _+_, _<_}
-use native.Mathlib.Nat.{zero-add, add-zero}
+use mathlib.Core.List.{List, []}
+use Prim.Native.Nat.{ℕ, _<_}
+use native.Mathlib.Nat.{zero-add}
 use native.Mathlib.Omega.{arith}
 use lib.ListN.{length, getD}
 use Rattle.columnar.specs.Row.{Row, null, seg}
 use Rattle.columnar.specs.Types.{Ty}
-use Rattle.columnar.specs.Array.{ok, nullsIn, nullCount}
+use Rattle.columnar.specs.Array.{nullCount}
 use Rattle.columnar.specs.Reading.{Column, read, readAll, masks, Source}
 use Rattle.model.specs.Try.{Try, done, stop, then, mapTry}
 use Rattle.model.specs.Grounds.{Counts, startCounts}
 use Rattle.model.specs.Book.{Call, answer, book, bookNulls}
 use Rattle.model.specs.Sources.{Sources}
 use Rattle.model.specs.Opening.{keeps}
-use Rattle.model.specs.Mutable.{Mutable, keepsBits, zeros, validity}
+use Rattle.model.specs.Mutable.{Mutable, keepsBits}
 use Rattle.model.specs.Transform.{Destination, openData, start, tryWithCapacities, intoBuilder}
 use Rattle.model.specs.Orders.{perform, performAll}
 use Rattle.model.specs.Held.{held}
+use Rattle.model.specs.Counters.{countBy, FinishedBy}
 use Rattle.model.proofs.Agree.{Agrees, both, neither}
-use Rattle.model.proofs.Law.{Law, BitsFor, CountFor}
+use Rattle.model.proofs.Law.{Law, CountFor}
 use Rattle.model.proofs.Nodes.{kindOf}
-use Rattle.model.proofs.Node.{valid-bit, node-obeys}
+use Rattle.model.proofs.Node.{node-obeys}
 use Rattle.model.proofs.Bits.{length-seg, getD-seg}
 use Rattle.model.proofs.Ready.{ready}
 use Rattle.model.proofs.SameBody.{same-entries}
 use Rattle.model.proofs.Start.{start-fine, start-keep, held-start}
 use Rattle.model.proofs.Book.{State, Did, Done, countedIf, one-order, all-orders}
 use Rattle.model.proofs.Types.{law}
+use Rattle.model.proofs.Counters.{finished-by}
 
 -- the same answer, in terms of what is held
 agrees-same : {A C : Type 0} {see : A → C} {Q : A → Type 0} {t : Try A} {s : Try C} → Agrees see Q t s → mapTry see t ≡ s
@@ -48,26 +50,6 @@ opened-is (stop g) s d e = absurd (let z : _≡_ {A = ℕ} 0 1 = cc in omega ari
 kept : (b : Bool) → keepsBits (cond b (some []) none) ≡ b
 kept true = refl
 kept false = refl
-
--- ---- null counts of finished bits
-
-list-nulls : (l : List Bool) (f : ℕ → Bool) (a : ℕ) → ((i : ℕ) → i < length l → f (a + i) ≡ getD l i false) → nullsIn f a (length l) ≡ zeros l
-list-nulls [] f a h = refl
-list-nulls (b ∷ l) f a h =
-    ap₂ (λ x y. cond x 0 1 + y) (ap f (sym (add-zero a)) ∙ h 0 (omega arith))
-    (list-nulls l f (suc a) (λ i q. let e : suc a + i ≡ a + suc i = omega arith in ap f e ∙ h (suc i) (omega arith)))
-
-none-null : (f : ℕ → Bool) (a n : ℕ) → ((i : ℕ) → f i ≡ true) → nullsIn f a n ≡ 0
-none-null f a zero h = refl
-none-null f a (suc n) h = rw (h a, none-null f (suc a) n h)
-
-bits-count : (masks : Bool) (b : Option (List Bool)) (n c : ℕ) → BitsFor masks b n → CountFor masks b c → nullsIn (ok (validity masks b)) 0 n ≡ cond masks c 0
-bits-count true none n c h e = none-null _ 0 n (λ i. refl) ∙ sym e
-bits-count false none n c h e = none-null _ 0 n (λ i. refl)
-bits-count false (some l) n c h e = none-null _ 0 n (λ i. refl)
-bits-count true (some l) n c h e =
-    subst (λ n. nullsIn (ok (validity true (some l))) 0 n ≡ c) h
-    (list-nulls l (ok (validity true (some l))) 0 (λ i q. ap (ok (validity true (some l))) (zero-add i) ∙ valid-bit true (some l) (length l) i refl q) ∙ sym e)
 
 module _ (t : Ty) (body : List ℕ) (m : ℕ) (ss : ℕ → Column t) (u : Bool) (given : Sources t body m ss) (d : Destination t) (opened : tryWithCapacities t u m ss ≡ done d) where
   abbrev keep : Bool
@@ -112,6 +94,10 @@ module _ (t : Ty) (body : List ℕ) (m : ℕ) (ss : ℕ → Column t) (u : Bool)
   pub book-length : (os : List Call) → finished os .len ≡ length (book t keep m ss os (startCounts t))
   book-length os = sym (length-seg (read t (finished os)) 0 (finished os .len)) ∙ ap length (the-book os)
 
+  -- .. and the destination's, after every call
+  pub destination-length : (os : List Call) → reached os .len ≡ length (book t keep m ss os (startCounts t))
+  destination-length os = book-length os
+
   -- finished row i reads as entry i
   pub book-row : (os : List Call) (i : ℕ) → i < finished os .len → read t (finished os) i ≡ getD (book t keep m ss os (startCounts t)) i null
   book-row os i q =
@@ -129,9 +115,19 @@ module _ (t : Ty) (body : List ℕ) (m : ℕ) (ss : ℕ → Column t) (u : Bool)
       subst (λ x. performAll t m ss os x .null_count ≡ countedIf keep (bookNulls t keep m ss os (startCounts t))) start-is
       (orders-from os .count-is ∙ zero-add _ ∙ ap (λ c. countedIf keep (bookNulls t keep m ss os c)) held-nothing)
 
+  -- EVERY NODE IS FINISHED AS THE RUST DOES, by its running null count: validity is kept where that is above 0, and it is the null count
+  pub finished-counters : (os : List Call) → FinishedBy t m ss (reached os) (finished os)
+  finished-counters os = finished-by t m ss (given .obey) (reached os) (state-after os .fine)
+
   -- THE FINISHED NULL COUNT is counted from the finished bits; it is the running one where the root has validity, else 0
   pub finished-nulls : (os : List Call) → nullCount (finished os) ≡ cond (masks t) (reached os .null_count) 0
-  finished-nulls os = bits-count (masks t) (reached os .bits) (reached os .len) (reached os .null_count) (state-after os .fine .bits-are) (state-after os .fine .count-is)
+  finished-nulls os = finished-counters os .count-is ∙ go (masks t) (reached os .bits) (reached os .null_count) (state-after os .fine .count-is)
+    where
+      go : (masks : Bool) (b : Option (List Bool)) (c : ℕ) → CountFor masks b c → countBy masks b c ≡ cond masks c 0
+      go true none c e = sym e
+      go false none c e = refl
+      go true (some l) c e = refl
+      go false (some l) c e = refl
 
   -- EVERY ANSWER depends on lengths and limits alone: on what is held, and not on any byte of the destination
   pub answers-are : (os : List Call) (o : Call) → mapTry (held t) (perform t m ss o (reached os)) ≡ answer t keep m ss o (held t (reached os))

@@ -1,12 +1,13 @@
 -- What is accepted of narrow sources is accepted of wide ones, with the same counts. Assumes nothing.
-use mathlib.Core.Path.{_≡_, refl, ap, fun-ext}
+use mathlib.Core.Path.{_≡_, refl, ap, ap₂}
 use mathlib.Core.Bool.{Bool, true, false}
-use mathlib.Core.List.{List, List·Memᴰ}
+use mathlib.Core.List.{List, [], _∷_, List·Memᴰ, List·Memᴰ·head, List·Memᴰ·tail}
 use Prim.Native.Nat.{ℕ, zero, suc, _+_, _-_, _≤_, _<_}
 use native.Mathlib.Nat.{zero-add, add-assoc}
 use native.Mathlib.Omega.{arith}
 use lib.ListN.{getD}
 use lib.Dec.{ltb, leb}
+use Rattle.columnar.specs.Row.{Row, union}
 use Rattle.columnar.specs.Types.{Plain, half, Ty}
 use Rattle.columnar.specs.Array.{Array, item, Obeys}
 use Rattle.columnar.specs.Plain.{Text, PlainBody}
@@ -14,14 +15,14 @@ use Rattle.columnar.specs.ListView.{ListView, ListViewRule}
 use Rattle.columnar.specs.Union.{Sparse, Dense, SparseRule, DenseRule}
 use Rattle.columnar.specs.RunEnd.{RunEnd, endOf, RunEndRule}
 use Rattle.columnar.specs.Reading.{Column, Source}
-use Rattle.columnar.specs.Wider.{PlainWider, wFixed, wString, Wider, wPlain, wView, wListView, wSparse, wDense, wRunEnd, wDictionary, Kept, OffsetsKept, entries, no-entry, PlainKept, ListViewKept, SparseKept, DenseKept, RunEndKept, Stored}
+use Rattle.columnar.specs.Wider.{Declared, PlainWider, wFixed, wString, Wider, wPlain, wView, wListView, wSparse, wDense, wRunEnd, wDictionary, Kept, OffsetsKept, entries, no-entry, PlainKept, ListViewKept, SparseKept, DenseKept, RunEndKept, Stored}
 use Rattle.columnar.proofs.Kept.{half-mono}
-use Rattle.columnar.proofs.WiderKinds.{ends-same}
+use Rattle.columnar.proofs.WiderKinds.{ends-same, declares}
 use Rattle.columnar.proofs.FirstAbove.{first-same, first-below}
-use Rattle.model.specs.Try.{done}
-use Rattle.model.specs.Ordered.{home, unionNull, nullRow}
-use Rattle.model.specs.Grounds.{Counts, counts, rowsOf, kidOf, Ask, AskNulls, askOf, plainAsk, listViewRow, listViewAsk, sparseAsk, withKid, denseRow, denseAsk, firstRun, runCount, runEndAsk, askCopy, among, sparseNulls, denseNulls, runEndNulls, plainNulls, unlessNone, nullsAsk, askNulls, startCounts}
-use Rattle.model.proofs.Follow.{Follows, same, follows-done, follows-refl, follows-then, follows-guard, ltb-up, follows-steps, follows-all}
+use Rattle.model.specs.Try.{Try, done, stop, then}
+use Rattle.model.specs.Ordered.{firstNullable, home, unionNull, nullRow}
+use Rattle.model.specs.Grounds.{Counts, counts, rowsOf, kidOf, Ask, AskNulls, askOf, plainAsk, listViewRow, listViewAsk, sparseAsk, withKid, denseRow, denseAsk, firstRun, runCount, runEndAsk, askCopy, sparseNulls, denseNulls, runEndNulls, plainNulls, unlessNone, nullsAsk, askNulls, startCounts}
+use Rattle.model.proofs.Follow.{Follows, same, free, among-same, follows-done, follows-refl, follows-then, follows-guard, ltb-up, follows-steps, follows-all}
 
 -- an array's slots a .. a + n - 1 ask the same of the counts, narrow and wide
 abbrev pub AsksAgain : {P P′ : Type 0} → (P → Ask) → (P′ → Ask) → Array P → Array P′ → Type 0
@@ -65,15 +66,15 @@ module _ {P P′ : Type 0} (w w′ : ℕ) (ww : w ≤ w′) {kept : Array P → 
 
 -- ---- unions
 
-module _ {P P′ : ℕ → Type 0} (ids : List ℕ) {kept : (c : ℕ) → Array (P c) → Array (P′ c) → Type 0} {kid : (c : ℕ) → Array (P c) → Type 0}
+module _ {P P′ : ℕ → Type 0} (ids : List ℕ) {kept : (c : ℕ) → Declared ids c → Array (P c) → Array (P′ c) → Type 0} {kid : (c : ℕ) → Array (P c) → Type 0}
     (ask : (c : ℕ) → P c → Ask) (ask′ : (c : ℕ) → P′ c → Ask) where
   -- a slot of a sparse union is the child's slot at the same place: off + a of the union is a row of the child
-  sparse-again : (x : Array (Sparse P)) (x′ : Array (Sparse P′)) → Kept (SparseKept (λ c. List·Memᴰ c ids) kept) x x′ → Obeys false (SparseRule ids kid) x
+  sparse-again : (x : Array (Sparse P)) (x′ : Array (Sparse P′)) → Kept (SparseKept (Declared ids) kept) x x′ → Obeys false (SparseRule ids kid) x
       → ((e : ℕ) → List·Memᴰ e ids → AsksAgain (ask e) (ask′ e) (x .body .children e) (x′ .body .children e)) → AsksAgain (sparseAsk ids ask) (sparseAsk ids ask′) x x′
   sparse-again x x′ h s k a n q c =
       rw (← h .same-off) (follows-all ids _ _ (rowsOf c + n) (λ e m. k e m (x .off + a) n (omega (arith, s .slots .long e m)) (kidOf c e)))
 
-  dense-row-again : (okay : ℕ → Bool) (b : Dense P) (b′ : Dense P′) (off len : ℕ) → DenseKept (λ c. List·Memᴰ c ids) kept okay b b′ off len → DenseRule ids kid okay b off len
+  dense-row-again : (okay : ℕ → Bool) (b : Dense P) (b′ : Dense P′) (off len : ℕ) → DenseKept (Declared ids) kept okay b b′ off len → DenseRule ids kid okay b off len
       → ((e : ℕ) → List·Memᴰ e ids → AsksAgain (ask e) (ask′ e) (b .children e) (b′ .children e)) → (i : ℕ) → i < len → (c : Counts)
       → Follows (denseRow ask b (off + i) c) (denseRow ask′ b′ (off + i) c)
   dense-row-again okay b b′ off len h s k i q c =
@@ -83,7 +84,7 @@ module _ {P P′ : ℕ → Type 0} (ids : List ℕ) {kept : (c : ℕ) → Array 
       (follows-then _ _ (k e (s .declared i q) (item 4 (b .positions) (off + i)) 1 (omega (arith, s .within i q)) (kidOf c e))
       (λ x. same (counts (suc (rowsOf c)) 0 (withKid c e x)))))
 
-  dense-again : (x : Array (Dense P)) (x′ : Array (Dense P′)) → Kept (DenseKept (λ c. List·Memᴰ c ids) kept) x x′ → Obeys false (DenseRule ids kid) x
+  dense-again : (x : Array (Dense P)) (x′ : Array (Dense P′)) → Kept (DenseKept (Declared ids) kept) x x′ → Obeys false (DenseRule ids kid) x
       → ((e : ℕ) → List·Memᴰ e ids → AsksAgain (ask e) (ask′ e) (x .body .children e) (x′ .body .children e)) → AsksAgain (denseAsk ask) (denseAsk ask′) x x′
   dense-again x x′ h s k a n q c =
       rw (← h .same-off)
@@ -125,12 +126,12 @@ copy-again (wPlain d) x x′ h s = plain-again d x x′ h
 copy-again wView x x′ h s = λ a n q c. same _
 copy-again (wListView w w′ {t} {t′} ww d) x x′ h s =
     list-again w w′ ww (askCopy t) (askCopy t′) x x′ h s (copy-again d (x .body .child) (x′ .body .child) (h .same-body .same-child) (s .slots .child-rule))
-copy-again (wSparse ids nullable {f} {f′} d) x x′ h s =
+copy-again (wSparse ids {nullable} {nullable′} {f} {f′} n d) x x′ h s =
     sparse-again ids (λ c. askCopy (f c)) (λ c. askCopy (f′ c)) x x′ h s
-    (λ e m. copy-again (d e) (x .body .children e) (x′ .body .children e) (h .same-body .same-children e m) (s .slots .child-rule e m))
-copy-again (wDense ids nullable {f} {f′} d) x x′ h s =
+    (λ e m. copy-again (d e (declares e ids m)) (x .body .children e) (x′ .body .children e) (h .same-body .same-children e (declares e ids m)) (s .slots .child-rule e m))
+copy-again (wDense ids {nullable} {nullable′} {f} {f′} n d) x x′ h s =
     dense-again ids (λ c. askCopy (f c)) (λ c. askCopy (f′ c)) x x′ h s
-    (λ e m. copy-again (d e) (x .body .children e) (x′ .body .children e) (h .same-body .same-children e m) (s .slots .child-rule e m))
+    (λ e m. copy-again (d e (declares e ids m)) (x .body .children e) (x′ .body .children e) (h .same-body .same-children e (declares e ids m)) (s .slots .child-rule e m))
 copy-again (wRunEnd w w′ {t} {t′} ww d) x x′ h s =
     runs-again w w′ ww (askCopy t) (askCopy t′) x x′ h s (copy-again d (x .body .values) (x′ .body .values) (h .same-body .same-values) (s .slots .child-rule))
 copy-again (wDictionary k k′ kk d) x x′ h s = λ a n q c. same _
@@ -154,16 +155,52 @@ plain-nulls : {p p′ : Plain} → PlainWider p p′ → NullsAgain (plainNulls 
 plain-nulls (wFixed k) n c = same _
 plain-nulls (wString w w′ h) n c = same _
 
-module _ (ids : List ℕ) (nullable : ℕ → Bool) (ask ask′ : ℕ → AskNulls) (k : (e : ℕ) → NullsAgain (ask e) (ask′ e)) where
-  sparse-nulls : NullsAgain (sparseNulls ids nullable ask) (sparseNulls ids nullable ask′)
-  sparse-nulls n c = follows-then _ _ (follows-refl (home nullable ids)) (λ h. follows-all ids _ _ (rowsOf c + n) (λ e m. k e n (kidOf c e)))
+-- flags that agree at a union's ids have the same first nullable one
+first-alike : (f g : ℕ → Bool) (ids : List ℕ) → ((c : ℕ) → List·Memᴰ c ids → f c ≡ g c) → firstNullable f ids ≡ firstNullable g ids
+first-alike f g [] h = refl
+first-alike f g (c ∷ cs) h = ap₂ (λ (b : Bool) (t : Try ℕ). elim b [ true ↦ done c | false ↦ t ]) (h c (List·Memᴰ·head refl)) (first-alike f g cs (λ e m. h e (List·Memᴰ·tail m)))
 
-  dense-nulls : NullsAgain (denseNulls ids nullable ask) (denseNulls ids nullable ask′)
+home-alike : (f g : ℕ → Bool) (ids : List ℕ) → ((c : ℕ) → Declared ids c → f c ≡ g c) → home f ids ≡ home g ids
+home-alike f g [] h = refl
+home-alike f g (c ∷ cs) h = first-alike f g (c ∷ cs) (λ e m. h e (declares e (c ∷ cs) m))
+
+-- and it is one of them
+abbrev HomeIn : List ℕ → Try ℕ → Type 0
+HomeIn ids (done c) = List·Memᴰ c ids
+HomeIn ids (stop g) = Unit {0}
+
+first-in : (f : ℕ → Bool) (ids : List ℕ) → HomeIn ids (firstNullable f ids)
+first-in f [] = tt
+first-in f (c ∷ cs) = go (f c) (firstNullable f cs) (first-in f cs)
+  where
+    go : (b : Bool) (t : Try ℕ) → HomeIn cs t → HomeIn (c ∷ cs) (elim b [ true ↦ done c | false ↦ t ])
+    go true t h = List·Memᴰ·head refl
+    go false (done e) h = List·Memᴰ·tail h
+    go false (stop g) h = tt
+
+home-in : (f : ℕ → Bool) (ids : List ℕ) → HomeIn ids (home f ids)
+home-in f [] = tt
+home-in f (c ∷ cs) = first-in f (c ∷ cs)
+
+-- what comes after it may use that
+follows-home : {A : Type 0} (ids : List ℕ) (t : Try ℕ) (p q : ℕ → Try A) → HomeIn ids t → ((h : ℕ) → List·Memᴰ h ids → Follows (p h) (q h)) → Follows (then t p) (then t q)
+follows-home ids (done c) p q m k = k c m
+follows-home ids (stop g) p q m k = free g (stop g)
+
+module _ (ids : List ℕ) (nullable nullable′ : ℕ → Bool) (alike : (c : ℕ) → Declared ids c → nullable c ≡ nullable′ c) (ask ask′ : ℕ → AskNulls)
+    (k : (e : ℕ) → List·Memᴰ e ids → NullsAgain (ask e) (ask′ e)) where
+  sparse-nulls : NullsAgain (sparseNulls ids nullable ask) (sparseNulls ids nullable′ ask′)
+  sparse-nulls n c =
+      rw (← home-alike nullable nullable′ ids alike)
+      (follows-then _ _ (follows-refl (home nullable ids)) (λ h. follows-all ids _ _ (rowsOf c + n) (λ e m. k e m n (kidOf c e))))
+
+  dense-nulls : NullsAgain (denseNulls ids nullable ask) (denseNulls ids nullable′ ask′)
   dense-nulls n c =
-      follows-then _ _ (follows-refl (home nullable ids))
-      (λ h.
+      rw (← home-alike nullable nullable′ ids alike)
+      (follows-home ids (home nullable ids) _ _ (home-in nullable ids)
+      (λ h m.
       follows-guard (leb (rowsOf (kidOf c h) + n) (half 4)) (leb (rowsOf (kidOf c h) + n) (half 4)) 6 6 (λ z. z)
-      (follows-then _ _ (k h n (kidOf c h)) (λ y. same (counts (rowsOf c + n) 0 (withKid c h y)))))
+      (follows-then _ _ (k h m n (kidOf c h)) (λ y. same (counts (rowsOf c + n) 0 (withKid c h y))))))
 
 runs-nulls : (w w′ : ℕ) → w ≤ w′ → (ask ask′ : AskNulls) → NullsAgain ask ask′ → NullsAgain (runEndNulls w ask) (runEndNulls w′ ask′)
 runs-nulls w w′ ww ask ask′ k n c = follows-then _ _ (k 1 (kidOf c 0)) (λ y. follows-guard _ _ 7 7 (ltb-up _ (half w) (half w′) (half-mono ww)) (same _))
@@ -172,10 +209,12 @@ nulls-again : {t t′ : Ty} → Wider t t′ → NullsAgain (nullsAsk t) (nullsA
 nulls-again (wPlain d) = plain-nulls d
 nulls-again wView = λ n c. same _
 nulls-again (wListView w w′ ww d) = λ n c. same _
-nulls-again (wSparse ids nullable {f} {f′} d) =
-    sparse-nulls ids nullable (λ e. unlessNone (nullsAsk (f e))) (λ e. unlessNone (nullsAsk (f′ e))) (λ e. unless-again (nullsAsk (f e)) (nullsAsk (f′ e)) (nulls-again (d e)))
-nulls-again (wDense ids nullable {f} {f′} d) =
-    dense-nulls ids nullable (λ e. unlessNone (nullsAsk (f e))) (λ e. unlessNone (nullsAsk (f′ e))) (λ e. unless-again (nullsAsk (f e)) (nullsAsk (f′ e)) (nulls-again (d e)))
+nulls-again (wSparse ids {nullable} {nullable′} {f} {f′} n d) =
+    sparse-nulls ids nullable nullable′ n (λ e. unlessNone (nullsAsk (f e))) (λ e. unlessNone (nullsAsk (f′ e)))
+    (λ e m. unless-again (nullsAsk (f e)) (nullsAsk (f′ e)) (nulls-again (d e (declares e ids m))))
+nulls-again (wDense ids {nullable} {nullable′} {f} {f′} n d) =
+    dense-nulls ids nullable nullable′ n (λ e. unlessNone (nullsAsk (f e))) (λ e. unlessNone (nullsAsk (f′ e)))
+    (λ e m. unless-again (nullsAsk (f e)) (nullsAsk (f′ e)) (nulls-again (d e (declares e ids m))))
 nulls-again (wRunEnd w w′ {t} {t′} ww d) =
     runs-nulls w w′ ww (unlessNone (nullsAsk t)) (unlessNone (nullsAsk t′)) (unless-again (nullsAsk t) (nullsAsk t′) (nulls-again d))
 nulls-again (wDictionary k k′ kk d) = λ n c. same _
@@ -193,16 +232,24 @@ pub start-counts-wider : {t t′ : Ty} → Wider t t′ → startCounts t ≡ st
 start-counts-wider (wPlain d) = refl
 start-counts-wider wView = refl
 start-counts-wider (wListView w w′ ww d) = ap (λ x. counts 0 0 (λ e. x)) (start-counts-wider d)
-start-counts-wider (wSparse ids nullable d) = ap (λ f. counts 0 0 (among ids f)) (fun-ext (λ e. start-counts-wider (d e)))
-start-counts-wider (wDense ids nullable d) = ap (λ f. counts 0 0 (among ids f)) (fun-ext (λ e. start-counts-wider (d e)))
+start-counts-wider (wSparse ids n d) = ap (counts 0 0) (among-same ids _ _ (λ e m. start-counts-wider (d e (declares e ids m))))
+start-counts-wider (wDense ids n d) = ap (counts 0 0) (among-same ids _ _ (λ e m. start-counts-wider (d e (declares e ids m))))
 start-counts-wider (wRunEnd w w′ ww d) = ap (λ x. counts 0 0 (λ e. x)) (start-counts-wider d)
 start-counts-wider (wDictionary k k′ kk d) = refl
+
+union-null-same : (ids : List ℕ) (r r′ : ℕ → Row) (t : Try ℕ) → HomeIn ids t → ((c : ℕ) → List·Memᴰ c ids → r c ≡ r′ c) → unionNull r t ≡ unionNull r′ t
+union-null-same ids r r′ (done c) m h = ap (union c) (h c m)
+union-null-same ids r r′ (stop g) m h = refl
 
 pub null-row-wider : {t t′ : Ty} → Wider t t′ → nullRow t ≡ nullRow t′
 null-row-wider (wPlain d) = refl
 null-row-wider wView = refl
 null-row-wider (wListView w w′ ww d) = refl
-null-row-wider (wSparse ids nullable d) = ap (λ r. unionNull r (home nullable ids)) (fun-ext (λ e. null-row-wider (d e)))
-null-row-wider (wDense ids nullable d) = ap (λ r. unionNull r (home nullable ids)) (fun-ext (λ e. null-row-wider (d e)))
+null-row-wider (wSparse ids {nullable} {nullable′} {f} {f′} n d) =
+    rw (← home-alike nullable nullable′ ids n)
+    (union-null-same ids (λ c. nullRow (f c)) (λ c. nullRow (f′ c)) (home nullable ids) (home-in nullable ids) (λ e m. null-row-wider (d e (declares e ids m))))
+null-row-wider (wDense ids {nullable} {nullable′} {f} {f′} n d) =
+    rw (← home-alike nullable nullable′ ids n)
+    (union-null-same ids (λ c. nullRow (f c)) (λ c. nullRow (f′ c)) (home nullable ids) (home-in nullable ids) (λ e m. null-row-wider (d e (declares e ids m))))
 null-row-wider (wRunEnd w w′ ww d) = null-row-wider d
 null-row-wider (wDictionary k k′ kk d) = refl

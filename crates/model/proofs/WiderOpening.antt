@@ -16,7 +16,7 @@ use Rattle.columnar.specs.Dictionary.{Dictionary}
 use Rattle.columnar.specs.Reading.{Column, Source}
 use Rattle.columnar.specs.Wider.{PlainWider, Wider, wPlain, wView, wListView, wSparse, wDense, wRunEnd, wDictionary, Kept, PlainKept, Stored, Shares, SharedAlike, Again}
 use Rattle.columnar.proofs.Kept.{obeys-kept}
-use Rattle.columnar.proofs.WiderKinds.{plain-widens}
+use Rattle.columnar.proofs.WiderKinds.{plain-widens, declares}
 use Rattle.model.specs.Try.{Try, done, stop, then}
 use Rattle.model.specs.Grounds.{Counts, counts, leaf, askOf, plainAsk}
 use Rattle.model.specs.Opening.{present, keeps, sameList, ptrEq, shared, entriesBefore, startOfKeys, keysFit, allKeysFit}
@@ -184,12 +184,16 @@ open-again (wPlain d) f f′ m ss ss′ h a s = same tt
 open-again wView f f′ m ss ss′ h a s = same tt
 open-again (wListView w w′ ww d) f f′ m ss ss′ h a s =
     open-again d (f .1) (f′ .1) m (λ i. ss i .body .child) (λ i. ss′ i .body .child) (λ i q. h i q .same-body .same-child) a (λ i q. s i q .slots .child-rule)
-open-again (wSparse ids nullable d) f f′ m ss ss′ h a s =
+open-again (wSparse ids e d) f f′ m ss ss′ h a s =
     follows-open ids _ _
-    (λ c y. open-again (d c) (f .1 c y) (f′ .1 c y) m (λ i. ss i .body .children c) (λ i. ss′ i .body .children c) (λ i q. h i q .same-body .same-children c y) (a c y) (λ i q. s i q .slots .child-rule c y))
-open-again (wDense ids nullable d) f f′ m ss ss′ h a s =
+    (λ c y.
+    open-again (d c (declares c ids y)) (f .1 c y) (f′ .1 c y) m (λ i. ss i .body .children c) (λ i. ss′ i .body .children c)
+    (λ i q. h i q .same-body .same-children c (declares c ids y)) (a c (declares c ids y)) (λ i q. s i q .slots .child-rule c y))
+open-again (wDense ids e d) f f′ m ss ss′ h a s =
     follows-open ids _ _
-    (λ c y. open-again (d c) (f .1 c y) (f′ .1 c y) m (λ i. ss i .body .children c) (λ i. ss′ i .body .children c) (λ i q. h i q .same-body .same-children c y) (a c y) (λ i q. s i q .slots .child-rule c y))
+    (λ c y.
+    open-again (d c (declares c ids y)) (f .1 c y) (f′ .1 c y) m (λ i. ss i .body .children c) (λ i. ss′ i .body .children c)
+    (λ i q. h i q .same-body .same-children c (declares c ids y)) (a c (declares c ids y)) (λ i q. s i q .slots .child-rule c y))
 open-again (wRunEnd w w′ ww d) f f′ m ss ss′ h a s =
     open-again d (f .1) (f′ .1) m (λ i. ss i .body .values) (λ i. ss′ i .body .values) (λ i q. h i q .same-body .same-values) a (λ i q. s i q .slots .child-rule)
 open-again (wDictionary k k′ {p} {p′} kk d) f f′ m ss ss′ h a s =

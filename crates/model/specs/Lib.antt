@@ -13,4 +13,5 @@ pub mod Runs
 pub mod Transform
 pub mod Orders
 pub mod Held
+pub mod Counters
 pub mod Table

@@ -1,5 +1,5 @@
 -- The starred rows K1 to K12 of 01's table of checked rows: what the definitions give, and what 01 says. Assumes nothing.
-use mathlib.Core.Bool.{Bool, true, false}
+use mathlib.Core.Bool.{Bool, true, false, cond}
 use mathlib.Core.Option.{Option, none, some}
 use mathlib.Core.List.{List, [], _∷_, _++_}
 use Prim.Native.Nat.{ℕ, zero, suc, _+_, _*_}
@@ -14,6 +14,7 @@ use Rattle.columnar.specs.Union.{Dense}
 use Rattle.columnar.specs.RunEnd.{RunEnd}
 use Rattle.columnar.specs.Dictionary.{Dictionary}
 use Rattle.columnar.specs.Reading.{Body, Column}
+use Rattle.columnar.specs.Test.{test}
 use Rattle.model.specs.Try.{Try, done, stop, then, mapTry}
 use Rattle.model.specs.Mutable.{Mutable}
 use Rattle.model.specs.Book.{Call, copy, nulls}
@@ -56,9 +57,19 @@ module _ (t : Ty) (keep : Bool) (m : ℕ) (ss : ℕ → Column t) where
 abbrev pub runs129 : Column (tRunEnd 4 (tPlain (fixed u8)))
 runs129 = record { len = 8; off = 1; valid = none; body = record { ends = whole 3 (coded 4 (2 ∷ 5 ∷ 9 ∷ [])); values = whole 3 (65 ∷ 66 ∷ 67 ∷ []) } }
 
--- its run ends, then its values, then how many nulls are counted
+-- bits, where they are kept
+abbrev pub shownBits : List Bool → List ℕ
+shownBits [] = []
+shownBits (b ∷ l) = cond b 1 0 ∷ shownBits l
+
+abbrev pub keptBits : Option (List Bool) → List ℕ
+keptBits none = []
+keptBits (some l) = shownBits l
+
+-- its run ends, then its values, then the values' bits, then how many nulls are counted
 abbrev pub runsShown : (w : ℕ) → Destination (tRunEnd w (tPlain (fixed u8))) → List ℕ
-runsShown w d = decoded w (d .«data» .ends .«data») (d .«data» .ends .len) ++ d .«data» .values .«data» ++ (d .null_count ∷ [])
+runsShown w d =
+    decoded w (d .«data» .ends .«data») (d .«data» .ends .len) ++ d .«data» .values .«data» ++ keptBits (d .«data» .values .bits) ++ (d .null_count ∷ [])
 
 abbrev pub k123 : List Call → Try (List ℕ)
 k123 os = mapTry (runsShown 4) (joined (tRunEnd 4 (tPlain (fixed u8))) true 1 (sources runs129 []) os)
@@ -89,14 +100,19 @@ k56 os = mapTry textShown (joined (tPlain (string 4)) true 2 (sources vanstop (t
 
 -- ---- dictionaries: K7 to K10
 
--- one key, over n entries of one byte that begin at a place of their own
+-- one key, over n entries of one byte that begin at a place of their own and have no validity
 abbrev pub keyed : (k : Number) → Option (List ℕ) → ℕ → ℕ → ℕ → Column (tDictionary k (fixed u8))
-keyed k v key n place = record { len = 1; off = 0; valid = v; body = record { keys = key ∷ []; values = whole n (replicate n 0); starts = place ∷ [] } }
+keyed k v key n place = record { len = 1; off = 0; valid = v; body = record { keys = key ∷ []; values = whole n (replicate n 0); starts = 0 ∷ place ∷ [] } }
+
+-- the first source has key 0, or under a null where it has no entry; the second one's row is copied
+abbrev pub firstKeyed : (k : Number) → ℕ → Column (tDictionary k (fixed u8))
+firstKeyed k zero = keyed k (some (0 ∷ [])) 0 0 0
+firstKeyed k (suc n) = keyed k none 0 (suc n) 0
 
 abbrev pub k79 : (k : Number) → Option (List ℕ) → ℕ → ℕ → ℕ → Try (List ℕ)
 k79 k v n key n′ =
     mapTry (λ (d : Destination (tDictionary k (fixed u8))). d .«data»)
-    (joined (tDictionary k (fixed u8)) false 2 (sources (keyed k none 0 n 0) (keyed k v key n′ 1000 ∷ [])) (copy 1 0 1 ∷ []))
+    (joined (tDictionary k (fixed u8)) false 2 (sources (firstKeyed k n) (keyed k v key n′ 1000 ∷ [])) (copy 1 0 1 ∷ []))
 
 -- ---- list-views and dense unions: K11, K12
 
@@ -147,7 +163,7 @@ given =
     ∷ k56 (nulls 2 ∷ [])  -- K6
     ∷ k79 u8 none 200 55 56  -- K7
     ∷ k79 u8 none 200 55 57  -- K8
-    ∷ k79 u8 none 256 0 0  -- K9
+    ∷ k79 u8 (some (0 ∷ [])) 256 0 0  -- K9: a key under a null, since there is no entry
     ∷ k79 u8 none 0 0 256
     ∷ k79 u8 (some (0 ∷ [])) 200 250 1  -- K10
     ∷ k79 i8 (some (0 ∷ [])) 100 100 1
@@ -158,9 +174,9 @@ given =
 -- and what 01 says, with what stood there before
 abbrev pub expected : List (Try (List ℕ))
 expected =
-    done (3 ∷ 4 ∷ 66 ∷ 67 ∷ 0 ∷ [])
-    ∷ done (3 ∷ 4 ∷ 7 ∷ 8 ∷ 66 ∷ 67 ∷ 66 ∷ 67 ∷ 0 ∷ [])
-    ∷ done (3 ∷ 4 ∷ 7 ∷ 8 ∷ 13 ∷ 66 ∷ 67 ∷ 66 ∷ 67 ∷ 0 ∷ 5 ∷ [])
+    done (3 ∷ 4 ∷ 66 ∷ 67 ∷ 1 ∷ 1 ∷ 0 ∷ [])
+    ∷ done (3 ∷ 4 ∷ 7 ∷ 8 ∷ 66 ∷ 67 ∷ 66 ∷ 67 ∷ 1 ∷ 1 ∷ 1 ∷ 1 ∷ 0 ∷ [])
+    ∷ done (3 ∷ 4 ∷ 7 ∷ 8 ∷ 13 ∷ 66 ∷ 67 ∷ 66 ∷ 67 ∷ 0 ∷ 1 ∷ 1 ∷ 1 ∷ 1 ∷ 0 ∷ 5 ∷ [])  -- the fifth value's bit is 0
     ∷ done (32766 ∷ 32767 ∷ 9 ∷ 9 ∷ 0 ∷ [])
     ∷ stop 7
     ∷ done (0 ∷ 10 ∷ 10 ∷ 14 ∷ replicate 10 46 ++ (115 ∷ 116 ∷ 111 ∷ 112 ∷ []))
@@ -173,4 +189,28 @@ expected =
     ∷ done (200 ∷ [])  -- -56 in two's complement
     ∷ done (0 ∷ 10 ∷ 12 ∷ 10 ∷ 2 ∷ 3 ∷ 15 ∷ [])
     ∷ done (0 ∷ 1 ∷ 0 ∷ 2 ∷ 1 ∷ [])
+    ∷ []
+
+-- ---- ground 12 of every source above: each obeys the rules of a source
+
+abbrev pub obeyed : List Bool
+obeyed =
+    test (tRunEnd 4 (tPlain (fixed u8))) runs129
+    ∷ test (tRunEnd 2 (tPlain (fixed u8))) runLong
+    ∷ test (tPlain (string 4)) vanstop
+    ∷ test (tPlain (string 4)) ten
+    ∷ test (tDictionary u8 (fixed u8)) (firstKeyed u8 200)
+    ∷ test (tDictionary u8 (fixed u8)) (keyed u8 none 55 56 1000)
+    ∷ test (tDictionary u8 (fixed u8)) (keyed u8 none 55 57 1000)
+    ∷ test (tDictionary u8 (fixed u8)) (firstKeyed u8 256)
+    ∷ test (tDictionary u8 (fixed u8)) (keyed u8 (some (0 ∷ [])) 0 0 1000)
+    ∷ test (tDictionary u8 (fixed u8)) (firstKeyed u8 0)
+    ∷ test (tDictionary u8 (fixed u8)) (keyed u8 none 0 256 1000)
+    ∷ test (tDictionary u8 (fixed u8)) (keyed u8 (some (0 ∷ [])) 250 1 1000)
+    ∷ test (tDictionary i8 (fixed u8)) (firstKeyed i8 100)
+    ∷ test (tDictionary i8 (fixed u8)) (keyed i8 (some (0 ∷ [])) 100 1 1000)
+    ∷ test (tListView 4 (tPlain (fixed u8))) lists
+    ∷ test (tListView 4 (tPlain (fixed u8))) listTen
+    ∷ test fives sevens
+    ∷ test fives twoFives
     ∷ []
