@@ -8,3 +8,5 @@ pub mod Stored
 pub mod StoredTypes
 pub mod StoredExample
 pub mod Wider
+pub mod CutShown
+pub mod Cut

@@ -26,11 +26,11 @@ use Rattle.model.proofs.Nodes.{fineOf, keepOf, kindOf, null-is}
 use Rattle.model.proofs.Node.{node-copies, node-fills}
 use Rattle.model.proofs.Rows.{seg-cong, seg-append, seg-same}
 
-and-left : (a b : Bool) → a && b ≡ true → a ≡ true
+pub and-left : (a b : Bool) → a && b ≡ true → a ≡ true
 and-left true b e = refl
 and-left false b e = e
 
-and-right : (a b : Bool) → a && b ≡ true → b ≡ true
+pub and-right : (a b : Bool) → a && b ≡ true → b ≡ true
 and-right true b e = e
 and-right false b e = absurd (let z : false ≡ true = e in let y : _≡_ {A = ℕ} 0 1 = cc in omega arith)
 

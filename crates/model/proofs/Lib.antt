@@ -36,3 +36,10 @@ pub mod Types
 pub mod Counters
 pub mod Theorems
 pub mod WiderTheorem
+pub mod CutTries
+pub mod CutKinds
+pub mod CutLess
+pub mod CutCopy
+pub mod CutOrder
+pub mod CutBytes
+pub mod CutFinish

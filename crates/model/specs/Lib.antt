@@ -14,4 +14,6 @@ pub mod Transform
 pub mod Orders
 pub mod Held
 pub mod Counters
+pub mod Cut
 pub mod Table
+pub mod CutTable

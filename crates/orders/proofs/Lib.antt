@@ -11,4 +11,6 @@ pub mod Step
 pub mod Run
 pub mod Booked
 pub mod WiderRoom
+pub mod CutRoom
+pub mod CutRun
 pub mod Placed

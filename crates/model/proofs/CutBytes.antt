@@ -1,0 +1,333 @@
+-- A COPY CUT IN TWO leaves the same bytes, where no run-end node stands outside list-views and dense unions. Assumes nothing.
+use mathlib.Core.Path.{_≡_, refl, sym, ap, ap₂, _∙_, subst}
+use mathlib.Core.Bool.{Bool, true, false}
+use mathlib.Core.Option.{Option, none, some}
+use mathlib.Core.List.{List, [], _∷_, _++_, append-nil, append-assoc, List·Memᴰ, List·Memᴰ·head, List·Memᴰ·tail, List·Memᴰ·not-nil}
+use Prim.Native.Nat.{ℕ, zero, suc, _+_, _-_, _*_, _≤_, _<_}
+use native.Mathlib.Nat.{add-zero, zero-add, add-assoc, add-mul}
+use native.Mathlib.Omega.{arith}
+use lib.ListN.{length, take, drop, length-append, length-drop}
+use lib.Seq.{take-add, drop-drop, length-take-le}
+use lib.Dec.{ltb}
+use borrow.Author.Tests.{ltb-true, lt-ltb}
+use Rattle.columnar.specs.Row.{seg}
+use Rattle.columnar.specs.Types.{width, half, Plain, fixed, string, Ty, tPlain, tView, tListView, tSparse, tDense, tRunEnd, tDictionary}
+use Rattle.columnar.specs.Array.{Array, item, ok}
+use Rattle.columnar.specs.Entries.{encodes}
+use Rattle.columnar.specs.Plain.{Text, PlainBody, StringRule, empty, full}
+use Rattle.columnar.specs.Reading.{Body, Column, Source, masks}
+use Rattle.columnar.proofs.Items.{encodes-append}
+use Rattle.model.specs.Try.{Try, done, stop, then, guard, after, stepsT}
+use Rattle.model.specs.Mutable.{Mutable, zeros, grow, counted, extendNode}
+use Rattle.model.specs.Primitive.{newOffsets, plainExtend, newViews, newKeys}
+use Rattle.model.specs.Unions.{Sparses, inOrder}
+use Rattle.model.specs.ListViews.{listRow}
+use Rattle.model.specs.Unions as unions
+use Rattle.model.specs.Transform.{Grown, Destination, extendData, extend}
+use Rattle.model.proofs.Bits.{zeros-append}
+use Rattle.model.proofs.Rows.{seg-append}
+use Rattle.model.proofs.Pieces.{seg-shift}
+use Rattle.model.proofs.Law.{FineNode}
+use Rattle.model.proofs.Nodes.{TextFine, fineOf}
+use Rattle.model.proofs.TextLaw.{Rising, rising-below, new-offsets}
+use Rattle.model.proofs.Follow.{guard-done}
+use Rattle.model.proofs.CutTries.{done-is, Then, then-done, then-is, guard-is, steps-cut, IsDone}
+use Rattle.model.proofs.CutLess.{Led}
+
+-- ---- the same destination, but for the children of ids that are not declared
+
+pub record SameNode {D : Type 0} (same : D → D → Type 0) (x y : Mutable D) : Type 0 where
+  pub len-same : x .len ≡ y .len
+  pub count-same : x .null_count ≡ y .null_count
+  pub bits-same : x .bits ≡ y .bits
+  pub data-same : same (x .«data») (y .«data»)
+
+abbrev pub SameGrown : (t : Ty) → Grown t → Grown t → Type 0
+SameGrown (tPlain p) x y = x ≡ y
+SameGrown tView x y = x ≡ y
+SameGrown (tListView w t) x y = x ≡ y
+SameGrown (tSparse ids nullable f) x y = (x .buffer1 ≡ y .buffer1) × ((e : ℕ) → List·Memᴰ e ids → SameNode (SameGrown (f e)) (x .children e) (y .children e))
+SameGrown (tDense ids nullable f) x y = x ≡ y
+SameGrown (tRunEnd w t) x y = x ≡ y
+SameGrown (tDictionary k p) x y = x ≡ y
+
+-- run-end nodes stand below list-views and dense unions alone
+abbrev pub Seamless : Ty → Type 0
+Seamless (tPlain p) = Unit {0}
+Seamless tView = Unit {0}
+Seamless (tListView w t) = Unit {0}
+Seamless (tSparse ids nullable f) = (e : ℕ) → List·Memᴰ e ids → Seamless (f e)
+Seamless (tDense ids nullable f) = Unit {0}
+Seamless (tRunEnd w t) = ⊥
+Seamless (tDictionary k p) = Unit {0}
+
+-- what a copy of the n slots from a on and then of the k behind them makes is what a copy of all of them makes
+abbrev pub Seam : (t : Ty) (m : ℕ) → (ℕ → Column t) → ℕ → Type 0
+Seam t m ss j =
+    (a n k l : ℕ) (b b₁ : ℕ → Bool) (d d₁ d₂ : Grown t) → ss j .off ≤ a → a + (n + k) ≤ ss j .off + ss j .len → fineOf t m (λ i. ss i .body) b d l → fineOf t m (λ i. ss i .body) b₁ d₁ (l + n)
+    → extendData t m (λ i. ss i .body) j a n l d ≡ done d₁ → extendData t m (λ i. ss i .body) j (a + n) k (l + n) d₁ ≡ done d₂
+    → Led (λ v. SameGrown t v d₂) (extendData t m (λ i. ss i .body) j a (n + k) l d)
+
+-- what is appended in two pieces
+two-pieces : {A : Type 0} (d x y z d₁ d₂ : List A) → done (d ++ x) ≡ done d₁ → done (d₁ ++ y) ≡ done d₂ → z ≡ x ++ y → d ++ z ≡ d₂
+two-pieces d x y z d₁ d₂ p q e = rw (e, ← append-assoc) (ap (_++ y) (done-is p) ∙ done-is q)
+
+-- neighbouring stretches
+stretch : {A : Type 0} (a n k : ℕ) (s : List A) → take (n + k) (drop a s) ≡ take n (drop a s) ++ take k (drop (a + n) s)
+stretch a n k s = take-add n k (drop a s) ∙ ap (λ x. take n (drop a s) ++ take k x) (drop-drop n a s)
+
+-- ---- numbers, views and keys
+
+wide-stretch : (w a n k : ℕ) (s : List ℕ) → take ((n + k) * w) (drop (a * w) s) ≡ take (n * w) (drop (a * w) s) ++ take (k * w) (drop ((a + n) * w) s)
+wide-stretch w a n k s = rw (add-mul n k w, add-mul a n w) (stretch (a * w) (n * w) (k * w) s)
+
+views-cut : (base : ℕ) (s : List ℕ) (a n k : ℕ) → newViews base s a (n + k) ≡ newViews base s a n ++ newViews base s (a + n) k
+views-cut base s a zero k = rw (zero-add, add-zero)
+views-cut base s a (suc n) k =
+    let e : suc n + k ≡ suc (n + k) = omega arith in
+    let g : a + suc n ≡ suc a + n = omega arith in
+    rw (e, g, views-cut base s (suc a) n k, append-assoc)
+
+keys-cut : (w base : ℕ) (s : List ℕ) (a n k : ℕ) → newKeys w base s a (n + k) ≡ newKeys w base s a n ++ newKeys w base s (a + n) k
+keys-cut w base s a zero k = rw (zero-add, add-zero)
+keys-cut w base s a (suc n) k =
+    let e : suc n + k ≡ suc (n + k) = omega arith in
+    let g : a + suc n ≡ suc a + n = omega arith in
+    rw (e, g, keys-cut w base s (suc a) n k, append-assoc)
+
+exactly : {A : Type 0} {v d : A} → v ≡ d → Led (λ x. x ≡ d) (done v)
+exactly {v = v} e = record { value = v; is = refl; holds = e }
+
+-- ---- row by row
+
+steps-seam : {A : Type 0} (f : ℕ → A → Try A) (a n k : ℕ) (d d₁ d₂ : A) → stepsT f a n d ≡ done d₁ → stepsT f (a + n) k d₁ ≡ done d₂ → Led (λ v. v ≡ d₂) (stepsT f a (n + k) d)
+steps-seam f a n k d d₁ d₂ p q = record { value = d₂; is = steps-cut f a n k d ∙ then-is (stepsT f a n d) (stepsT f (a + n) k) d₁ p ∙ q; holds = refl }
+
+-- ---- a node
+
+counted-grow : (m : Bool) (vs : List Bool) (b : Option (List Bool)) (n : ℕ) → counted (grow m vs b) n ≡ counted b n
+counted-grow m vs none n = refl
+counted-grow true vs (some l) n = refl
+counted-grow false vs (some l) n = refl
+
+counted-add : (b : Option (List Bool)) (n k : ℕ) → counted b (n + k) ≡ counted b n + counted b k
+counted-add none n k = refl
+counted-add (some l) n k = refl
+
+grow-grow : (m : Bool) (us vs : List Bool) (b : Option (List Bool)) → grow m (us ++ vs) b ≡ grow m vs (grow m us b)
+grow-grow m us vs none = refl
+grow-grow true us vs (some l) = ap some (sym (append-assoc l us vs))
+grow-grow false us vs (some l) = refl
+
+pub node-seam : (t : Ty) (m : ℕ) (ss : ℕ → Column t) (j : ℕ) → Seam t m ss j → (a n k : ℕ) → a + (n + k) ≤ ss j .len → (d d₁ d₂ : Destination t)
+    → FineNode (masks t) (fineOf t m (λ i. ss i .body)) m ss d → FineNode (masks t) (fineOf t m (λ i. ss i .body)) m ss d₁
+    → extend t m ss j a n d ≡ done d₁ → extend t m ss j (a + n) k d₁ ≡ done d₂ → Led (λ v. SameNode (SameGrown t) v d₂) (extend t m ss j a (n + k) d)
+node-seam t m ss j s a n k h d d₁ d₂ f f₁ p q =
+    let o = ss j .off in
+    let p′ = then-done (extendData t m (λ i. ss i .body) j (o + a) n (d .len) (d .«data»)) _ d₁ p in
+    let q′ = then-done (extendData t m (λ i. ss i .body) j (o + (a + n)) k (d₁ .len) (d₁ .«data»)) _ d₂ q in
+    let e = done-is (p′ .rest-done) in
+    let g = done-is (q′ .rest-done) in
+    let us = seg (ok (ss j .valid)) (o + a) n in
+    let vs = seg (ok (ss j .valid)) (o + (a + n)) k in
+    let near : o + (a + n) ≡ o + a + n = omega arith in
+    let all : seg (ok (ss j .valid)) (o + a) (n + k) ≡ us ++ vs = seg-append (ok (ss j .valid)) (o + a) n k ∙ ap (λ i. us ++ seg (ok (ss j .valid)) i k) (sym near) in
+    let len₁ : d .len + n ≡ d₁ .len = ap (λ (v : Destination t). v .len) e in
+    let bits₁ : grow (masks t) us (d .bits) ≡ d₁ .bits = ap (λ (v : Destination t). v .bits) e in
+    let count₁ : d .null_count + counted (d .bits) (zeros us) ≡ d₁ .null_count = ap (λ (v : Destination t). v .null_count) e in
+    let data₁ : p′ .first ≡ d₁ .«data» = ap (λ (v : Destination t). v .«data») e in
+    let l =
+    s (o + a) n k (d .len) _ _ (d .«data») (d₁ .«data») (q′ .first) (omega arith) (omega arith) (f .data-fine)
+    (subst (fineOf t m (λ i. ss i .body) _ (d₁ .«data»)) (sym len₁) (f₁ .data-fine))
+    (p′ .first-done ∙ ap done data₁)
+    (ap₂ (λ x y. extendData t m (λ i. ss i .body) j x k y (d₁ .«data»)) (sym near) len₁ ∙ q′ .first-done) in
+    let more : counted (d₁ .bits) (zeros vs) ≡ counted (d .bits) (zeros vs) = ap (λ b. counted b (zeros vs)) (sym bits₁) ∙ counted-grow (masks t) us (d .bits) (zeros vs) in
+    let both : counted (d .bits) (zeros (us ++ vs)) ≡ counted (d .bits) (zeros us) + counted (d .bits) (zeros vs) =
+    ap (counted (d .bits)) (zeros-append us vs) ∙ counted-add (d .bits) (zeros us) (zeros vs) in
+    record {
+      value = _;
+      is = then-is (extendData t m (λ i. ss i .body) j (o + a) (n + k) (d .len) (d .«data»)) _ (l .value) (l .is);
+      holds =
+          subst (SameNode (SameGrown t) _) g
+          (record {
+            len-same = omega (arith, len₁);
+            count-same = rw all (omega (arith, count₁, more, both));
+            bits-same = ap (λ z. grow (masks t) z (d .bits)) all ∙ grow-grow (masks t) us vs (d .bits) ∙ ap (grow (masks t) vs) bits₁;
+            data-same = l .holds;
+          });
+    }
+
+-- ---- byte strings
+
+-- the entries of a source that a copy reads never fall
+text-rising : (w : ℕ) (b : Text) (off len : ℕ) → StringRule w b off len → (a n : ℕ) → off ≤ a → a + n ≤ off + len → Rising (item w (b .offsets)) a n
+text-rising w b off len (empty e g) a n h k i q = absurd (omega arith)
+text-rising w b off len (full r) a n h k i q =
+    let z : off + (a + i - off) ≡ a + i = omega arith in
+    let y : off + (a + i - off) + 1 ≡ suc (a + i) = omega arith in
+    let x = r .rises (a + i - off) (omega arith) in
+    rw (y, z) at x
+
+-- .. and what they name is there
+text-within : (w : ℕ) (b : Text) (off len : ℕ) → StringRule w b off len → (a n : ℕ) → off ≤ a → a + suc n ≤ off + len → item w (b .offsets) (a + suc n) ≤ length (b .chars)
+text-within w b off len (empty e g) a n h k = absurd (omega arith)
+text-within w b off len (full r) a n h k =
+    let up = rising-below (item w (b .offsets)) (a + suc n) (off + len - (a + suc n)) (text-rising w b off len (full r) (a + suc n) (off + len - (a + suc n)) (omega arith) (omega arith)) 0 (off + len - (a + suc n)) (omega arith) (omega arith) in
+    let z : a + suc n + 0 ≡ a + suc n = omega arith in
+    let y : a + suc n + (off + len - (a + suc n)) ≡ off + len = omega arith in
+    let x : item w (b .offsets) (a + suc n) ≤ item w (b .offsets) (off + len) = rw (z, y) at up in
+    omega (arith, x, r .within)
+
+-- the bytes of n slots are as many as their offsets say
+text-bytes : (w : ℕ) (b : Text) (off len : ℕ) → StringRule w b off len → (a n : ℕ) → off ≤ a → a + n ≤ off + len
+    → length (take (item w (b .offsets) (a + n) - item w (b .offsets) a) (drop (item w (b .offsets) a) (b .chars))) ≡ item w (b .offsets) (a + n) - item w (b .offsets) a
+text-bytes w b off len r a zero h k = let z : item w (b .offsets) (a + 0) - item w (b .offsets) a ≡ 0 = rw add-zero (omega arith) in rw z
+text-bytes w b off len r a (suc n) h k =
+    length-take-le _ _ (rw length-drop (omega (arith, text-within w b off len r a n h k)))
+
+-- offsets that are done, of a source whose offsets never fall
+record Offset (w : ℕ) (s : List ℕ) (a n last : ℕ) (os : List ℕ) : Type 0 where
+  fits : last + (item w s (a + n) - item w s a) < half w
+  are : encodes w (seg (λ i. last + (item w s (a + i) - item w s a)) 1 n) ≡ os
+
+offset-done : (w : ℕ) (s : List ℕ) (a n last : ℕ) (os : List ℕ) → Rising (item w s) a n → last < half w → newOffsets w s a n last ≡ done os → Offset w s a n last os
+offset-done w s a n last os r h p =
+    let q = guard-done (ltb (last + (item w s (a + n) - item w s a)) (half w)) 6 _ os (sym (new-offsets w s a n last r h) ∙ p) in
+    record { fits = ltb-true _ _ (q .0); are = done-is (q .1) }
+
+offset-is : (w : ℕ) (s : List ℕ) (a n last : ℕ) (os : List ℕ) → Rising (item w s) a n → last < half w → Offset w s a n last os → newOffsets w s a n last ≡ done os
+offset-is w s a n last os r h o = new-offsets w s a n last r h ∙ guard-is _ 6 _ (lt-ltb _ _ (o .fits)) ∙ ap done (o .are)
+
+-- the offsets of neighbouring stretches
+offset-both : (w : ℕ) (s : List ℕ) (a n k last last₁ : ℕ) (os ps : List ℕ) → Rising (item w s) a (n + k) → last₁ ≡ last + (item w s (a + n) - item w s a) → Offset w s a n last os
+    → Offset w s (a + n) k last₁ ps → Offset w s a (n + k) last (os ++ ps)
+offset-both w s a n k last last₁ os ps r e o p =
+    let x : ℕ → ℕ = item w s in
+    let from : x a ≤ x (a + n) = rw (add-zero a) at (rising-below x a (n + k) r 0 n (omega arith) (omega arith)) in
+    let up : (i : ℕ) → i ≤ k → x (a + n) ≤ x (a + (n + i)) = λ i q. rising-below x a (n + k) r n (n + i) (omega arith) (omega arith) in
+    let z : a + n + k ≡ a + (n + k) = omega arith in
+    let y : x (a + n + k) ≡ x (a + (n + k)) = ap x z in
+    record {
+      fits = omega (arith, e, p .fits, from, up k (omega arith), y);
+      are =
+          ap (encodes w)
+          (seg-append (λ i. last + (x (a + i) - x a)) 1 n k
+          ∙ ap (seg (λ i. last + (x (a + i) - x a)) 1 n ++_)
+          (seg-shift (λ i. last + (x (a + i) - x a)) (λ i. last₁ + (x (a + n + i) - x (a + n))) (1 + n) 1 k
+          (λ i q.
+          let u : a + (1 + n + i) ≡ a + (n + (1 + i)) = omega arith in
+          let v : a + n + (1 + i) ≡ a + (n + (1 + i)) = omega arith in
+          rw (u, v) (omega (arith, e, from, up (1 + i) (omega arith))))))
+          ∙ encodes-append w (seg (λ i. last + (x (a + i) - x a)) 1 n) (seg (λ i. last₁ + (x (a + n + i) - x (a + n))) 1 k)
+          ∙ ap₂ _++_ (o .are) (p .are);
+    }
+
+text-same : (o o′ c c′ : List ℕ) → o ≡ o′ → c ≡ c′ → _≡_ {A = Text} (record { offsets = o; chars = c }) (record { offsets = o′; chars = c′ })
+text-same o o′ c c′ e f = ap₂ (λ o c. record { offsets = o; chars = c }) e f
+
+text-seam : (w m : ℕ) (ss : ℕ → Column (tPlain (string w))) (j : ℕ) → StringRule w (ss j .body) (ss j .off) (ss j .len) → Seam (tPlain (string w)) m ss j
+text-seam w m ss j r a n k l b b₁ d d₁ d₂ lo hi f f₁ p q =
+    let s = ss j .body in
+    let x : ℕ → ℕ = item w (s .offsets) in
+    let last = item w (d .offsets) l in
+    let last₁ = item w (d₁ .offsets) (l + n) in
+    let all = text-rising w s (ss j .off) (ss j .len) r a (n + k) lo hi in
+    let ra = text-rising w s (ss j .off) (ss j .len) r a n lo (omega arith) in
+    let rb = text-rising w s (ss j .off) (ss j .len) r (a + n) k (omega arith) (omega arith) in
+    let p′ = then-done (newOffsets w (s .offsets) a n last) _ d₁ p in
+    let q′ = then-done (newOffsets w (s .offsets) (a + n) k last₁) _ d₂ q in
+    let e = done-is (p′ .rest-done) in
+    let g = done-is (q′ .rest-done) in
+    let chars₁ : d .chars ++ take (x (a + n) - x a) (drop (x a) (s .chars)) ≡ d₁ .chars = ap (λ (v : Text). v .chars) e in
+    let long : length (d₁ .chars) ≡ length (d .chars) + (x (a + n) - x a) =
+    ap length (sym chars₁) ∙ length-append (d .chars) _ ∙ ap (length (d .chars) +_) (text-bytes w s (ss j .off) (ss j .len) r a n lo (omega arith)) in
+    let low : last < half w = omega (arith, f .last-is, f .fits) in
+    let low₁ : last₁ < half w = omega (arith, f₁ .last-is, f₁ .fits) in
+    let next : last₁ ≡ last + (x (a + n) - x a) = omega (arith, f .last-is, f₁ .last-is, long) in
+    let o = offset-done w (s .offsets) a n last (p′ .first) ra low (p′ .first-done) in
+    let o₁ = offset-done w (s .offsets) (a + n) k last₁ (q′ .first) rb low₁ (q′ .first-done) in
+    let both = offset-both w (s .offsets) a n k last last₁ (p′ .first) (q′ .first) all next o o₁ in
+    let from : x a ≤ x (a + n) = rw (add-zero a) at (rising-below x a (n + k) all 0 n (omega arith) (omega arith)) in
+    let up : x (a + n) ≤ x (a + (n + k)) = rising-below x a (n + k) all n (n + k) (omega arith) (omega arith) in
+    let z : x (a + n + k) ≡ x (a + (n + k)) = ap x (add-assoc a n k) in
+    let part : x (a + (n + k)) - x a ≡ (x (a + n) - x a) + (x (a + n + k) - x (a + n)) = omega (arith, from, up, z) in
+    let seam : x a + (x (a + n) - x a) ≡ x (a + n) = omega (arith, from) in
+    let bytes : take (x (a + (n + k)) - x a) (drop (x a) (s .chars)) ≡ take (x (a + n) - x a) (drop (x a) (s .chars)) ++ take (x (a + n + k) - x (a + n)) (drop (x (a + n)) (s .chars)) =
+    ap (λ i. take i (drop (x a) (s .chars))) part
+    ∙ stretch (x a) (x (a + n) - x a) (x (a + n + k) - x (a + n)) (s .chars)
+    ∙ ap (λ i. take (x (a + n) - x a) (drop (x a) (s .chars)) ++ take (x (a + n + k) - x (a + n)) (drop i (s .chars))) seam in
+    record {
+      value = _;
+      is = then-is (newOffsets w (s .offsets) a (n + k) last) _ (p′ .first ++ q′ .first) (offset-is w (s .offsets) a (n + k) last _ all low both);
+      holds =
+          text-same _ _ _ _ (sym (append-assoc (d .offsets) (p′ .first) (q′ .first)) ∙ ap (_++ q′ .first) (ap (λ (v : Text). v .offsets) e))
+          (ap (d .chars ++_) bytes ∙ sym (append-assoc (d .chars) _ _) ∙ ap (_++ take (x (a + n + k) - x (a + n)) (drop (x (a + n)) (s .chars))) chars₁)
+          ∙ g;
+    }
+
+plain-seam : (p : Plain) (m : ℕ) (ss : ℕ → Column (tPlain p)) (j : ℕ) → Source (tPlain p) (ss j) → Seam (tPlain p) m ss j
+plain-seam (fixed w) m ss j g a n k l b b₁ d d₁ d₂ lo hi f f₁ p q =
+    exactly (two-pieces d _ _ _ d₁ d₂ p q (wide-stretch (width w) a n k (ss j .body)))
+plain-seam (string w) m ss j g a n k l b b₁ d d₁ d₂ lo hi f f₁ p q = text-seam w m ss j (g .slots) a n k l b b₁ d d₁ d₂ lo hi f f₁ p q
+
+-- ---- sparse unions
+
+record Ordered {D : ℕ → Type 0} {A : Type 0} (f : (c : ℕ) → Try (Mutable (D c))) (ids : List ℕ) (x d : A) : Type 0 where
+  is-last : x ≡ d
+  all-done : (c : ℕ) → List·Memᴰ c ids → IsDone (f c)
+
+order-done : {D : ℕ → Type 0} {A : Type 0} (f : (c : ℕ) → Try (Mutable (D c))) (ids : List ℕ) (x d : A) → inOrder f ids x ≡ done d → Ordered f ids x d
+order-done f [] x d h = record { is-last = done-is h; all-done = λ c m. absurd (List·Memᴰ·not-nil m) }
+order-done {D} f (c ∷ cs) x d h =
+    let p = then-done (f c) (λ y. inOrder f cs x) d h in
+    let r = order-done f cs x d (p .rest-done) in
+    record { is-last = r .is-last; all-done = go (record { value = p .first; is = p .first-done }) (r .all-done) }
+  where
+    go : IsDone (f c) → ((e : ℕ) → List·Memᴰ e cs → IsDone (f e)) → (e : ℕ) → List·Memᴰ e (c ∷ cs) → IsDone (f e)
+    go p k e (List·Memᴰ·head z) = subst (λ e. IsDone (f e)) (sym z) p
+    go p k e (List·Memᴰ·tail m) = k e m
+
+order-is : {D : ℕ → Type 0} {A : Type 0} (f : (c : ℕ) → Try (Mutable (D c))) (ids : List ℕ) (x : A) → ((c : ℕ) → List·Memᴰ c ids → IsDone (f c)) → inOrder f ids x ≡ done x
+order-is f [] x k = refl
+order-is f (c ∷ cs) x k =
+    let p = k c (List·Memᴰ·head refl) in
+    then-is (f c) (λ y. inOrder f cs x) (p .value) (p .is) ∙ order-is f cs x (λ e m. k e (List·Memᴰ·tail m))
+
+-- an answer that is done, by what stands after it
+after-done : {A : Type 0} (t : Try A) (y : A) → IsDone t → t ≡ done (after t y)
+after-done t y p = p .is ∙ ap (λ s. done (after s y)) (sym (p .is))
+
+sparse-seam : (ids : List ℕ) (nullable : ℕ → Bool) (f : ℕ → Ty) (m : ℕ) (ss : ℕ → Column (tSparse ids nullable f)) (j : ℕ) → Source (tSparse ids nullable f) (ss j)
+    → ((c : ℕ) → List·Memᴰ c ids → Seam (f c) m (λ i. ss i .body .children c) j) → Seam (tSparse ids nullable f) m ss j
+sparse-seam ids nullable f m ss j g kid a n k l b b₁ d d₁ d₂ lo hi h h₁ p q =
+    let ext : (c : ℕ) → ℕ → ℕ → Destination (f c) → Try (Destination (f c)) = λ c. extend (f c) m (λ i. ss i .body .children c) j in
+    let p′ = order-done (λ c. ext c a n (d .children c)) ids _ d₁ p in
+    let q′ = order-done (λ c. ext c (a + n) k (d₁ .children c)) ids _ d₂ q in
+    let one : (c : ℕ) → List·Memᴰ c ids → ext c a n (d .children c) ≡ done (d₁ .children c) =
+    λ c v. after-done _ (d .children c) (p′ .all-done c v) ∙ ap (λ (z : Sparses (λ c. Grown (f c))). done (z .children c)) (p′ .is-last) in
+    let two : (c : ℕ) → List·Memᴰ c ids → ext c (a + n) k (d₁ .children c) ≡ done (d₂ .children c) =
+    λ c v. after-done _ (d₁ .children c) (q′ .all-done c v) ∙ ap (λ (z : Sparses (λ c. Grown (f c))). done (z .children c)) (q′ .is-last) in
+    let go : (c : ℕ) → List·Memᴰ c ids → Led (λ v. SameNode (SameGrown (f c)) v (d₂ .children c)) (ext c a (n + k) (d .children c)) =
+    λ c v.
+    node-seam (f c) m (λ i. ss i .body .children c) j (kid c v) a n k (omega (arith, hi, g .slots .long c v)) (d .children c) (d₁ .children c) (d₂ .children c) (h .kids-fine c v) (h₁ .kids-fine c v) (one c v) (two c v) in
+    record {
+      value = _;
+      is = order-is (λ c. ext c a (n + k) (d .children c)) ids _ (λ c v. record { value = go c v .value; is = go c v .is });
+      holds = (
+        two-pieces (d .buffer1) _ _ _ (d₁ .buffer1) (d₂ .buffer1) (ap (λ (z : Sparses (λ c. Grown (f c))). done (z .buffer1)) (p′ .is-last)) (ap (λ (z : Sparses (λ c. Grown (f c))). done (z .buffer1)) (q′ .is-last)) (stretch a n k (ss j .body .ids)),
+        λ c v. subst (λ z. SameNode (SameGrown (f c)) (after z (d .children c)) (d₂ .children c)) (sym (go c v .is)) (go c v .holds),
+      );
+    }
+
+-- ---- every type
+
+pub seams : (t : Ty) → Seamless t → (m : ℕ) (ss : ℕ → Column t) (j : ℕ) → Source t (ss j) → Seam t m ss j
+seams (tPlain p) z m ss j g = plain-seam p m ss j g
+seams tView z m ss j g = λ a n k l b b₁ d d₁ d₂ lo hi f f₁ p q. exactly (two-pieces d _ _ _ d₁ d₂ p q (views-cut _ (ss j .body .views) a n k))
+seams (tListView w t) z m ss j g = λ a n k l b b₁ d d₁ d₂ lo hi f f₁ p q. steps-seam (listRow w (extend t m (λ i. ss i .body .child) j) (ss j .body)) a n k d d₁ d₂ p q
+seams (tSparse ids nullable f) z m ss j g =
+    sparse-seam ids nullable f m ss j g (λ c v. seams (f c) (z c v) m (λ i. ss i .body .children c) j (g .slots .child-rule c v))
+seams (tDense ids nullable f) z m ss j g = λ a n k l b b₁ d d₁ d₂ lo hi h h₁ p q.
+    steps-seam (unions.denseRow (λ c. extend (f c) m (λ i. ss i .body .children c) j) (ss j .body)) a n k d d₁ d₂ p q
+seams (tRunEnd w t) z m ss j g = absurd z
+seams (tDictionary w p) z m ss j g = λ a n k l b b₁ d d₁ d₂ lo hi f f₁ p′ q. exactly (two-pieces d _ _ _ d₁ d₂ p′ q (keys-cut (width w) _ (ss j .body .keys) a n k))

@@ -1,0 +1,59 @@
+-- Orders cut in two, computed: K1's copy cut inside a run, at a run's end and with an empty half, and why runs below a list-view below a
+-- run-end node are not counted. Assumes nothing.
+use mathlib.Core.Bool.{false}
+use mathlib.Core.Option.{none}
+use mathlib.Core.List.{List, [], _∷_}
+use Prim.Native.Nat.{ℕ}
+use Rattle.columnar.specs.Types.{u8, fixed, Ty, tPlain, tListView, tRunEnd}
+use Rattle.columnar.specs.Reading.{Column}
+use Rattle.model.specs.Try.{Try, done, mapTry}
+use Rattle.model.specs.Book.{Call, copy}
+use Rattle.model.specs.Transform.{Destination}
+use Rattle.model.specs.Table.{coded, whole, sources, joined, k123}
+
+-- one run of two rows, each the list of two rows in two runs
+abbrev pub nested : Ty
+nested = tRunEnd 4 (tListView 4 (tRunEnd 4 (tPlain (fixed u8))))
+
+abbrev pub runOfLists : Column nested
+runOfLists =
+    whole 2
+    (record {
+      ends = whole 1 (coded 4 (2 ∷ []));
+      values = whole 1
+          (record {
+            offsets = coded 4 (0 ∷ []);
+            sizes = coded 4 (2 ∷ []);
+            child = whole 2 (record { ends = whole 2 (coded 4 (1 ∷ 2 ∷ [])); values = whole 2 (65 ∷ 66 ∷ []) });
+          });
+    })
+
+-- how many runs the outer node has, then how many the inner one
+abbrev pub runsCounted : Destination nested → List ℕ
+runsCounted d = d .«data» .ends .len ∷ d .«data» .values .«data» .child .«data» .ends .len ∷ []
+
+abbrev pub ofLists : List Call → Try (List ℕ)
+ofLists os = mapTry runsCounted (joined nested false 1 (sources runOfLists []) os)
+
+abbrev pub cutsGiven : List (Try (List ℕ))
+cutsGiven =
+    k123 (copy 0 1 5 ∷ [])
+    ∷ k123 (copy 0 1 3 ∷ copy 0 3 5 ∷ [])  -- inside B's run
+    ∷ k123 (copy 0 1 4 ∷ copy 0 4 5 ∷ [])  -- at its end
+    ∷ k123 (copy 0 1 1 ∷ copy 0 1 5 ∷ [])  -- an empty half
+    ∷ k123 (copy 0 1 5 ∷ copy 0 5 5 ∷ [])
+    ∷ ofLists (copy 0 0 2 ∷ [])
+    ∷ ofLists (copy 0 0 1 ∷ copy 0 1 2 ∷ [])
+    ∷ []
+
+-- run ends, values, the values' bits and null count; then the two counts of runs
+abbrev pub cutsExpected : List (Try (List ℕ))
+cutsExpected =
+    done (3 ∷ 4 ∷ 66 ∷ 67 ∷ 1 ∷ 1 ∷ 0 ∷ [])
+    ∷ done (2 ∷ 3 ∷ 4 ∷ 66 ∷ 66 ∷ 67 ∷ 1 ∷ 1 ∷ 1 ∷ 0 ∷ [])
+    ∷ done (3 ∷ 4 ∷ 66 ∷ 67 ∷ 1 ∷ 1 ∷ 0 ∷ [])
+    ∷ done (3 ∷ 4 ∷ 66 ∷ 67 ∷ 1 ∷ 1 ∷ 0 ∷ [])
+    ∷ done (3 ∷ 4 ∷ 66 ∷ 67 ∷ 1 ∷ 1 ∷ 0 ∷ [])
+    ∷ done (1 ∷ 2 ∷ [])
+    ∷ done (2 ∷ 4 ∷ [])
+    ∷ []
