@@ -1,7 +1,7 @@
 -- DEMAND 2: the finished array has the bytes, lengths and null counts of the Rust, and its rows read as asked. Assumes nothing.
 use mathlib.Core.Path.{_≡_, refl, sym, ap, subst, _∙_}
 use mathlib.Core.Bool.{Bool, true, false}
-use mathlib.Core.List.{List, [], _∷_}
+use mathlib.Core.List.{List, [], _∷_, _++_}
 use Prim.Native.Nat.{ℕ, _+_, _*_, _≤_}
 use lib.ListN.{length, getD}
 use lib.Dec.{T}
@@ -27,10 +27,10 @@ use Rattle.link.specs.Holds.{Holds}
 use Rattle.opening.proofs.Taken.{sources-of}
 use Rattle.opening.proofs.Opened.{Opened, orders-after}
 use Rattle.finishing.specs.Finish.{Finished, lengthTable, nullTable, placeTable, bufferTable, buffersBefore}
-use Rattle.finishing.specs.Shows.{Shows, Counts}
+use Rattle.finishing.specs.Shows.{Shows, Counts, Bodied}
 use Rattle.finishing.proofs.Orders.{appended}
 use Rattle.finishing.proofs.Join.{finishing-accepted, join-shows, join-nulls, join-again}
-use Rattle.join.specs.Join.{Lending, Bytes, sourcesIn, treeIn, typeIn, columnsIn, keepsIn, openingOf, lentOf, afterCalls, finishingOf, tablesOf, finishedOf, nullsOf, reachedBy}
+use Rattle.join.specs.Join.{Lending, Bytes, sourcesIn, treeIn, typeIn, columnsIn, keepsIn, openingOf, lentOf, afterCalls, finishingOf, tablesAt, tablesOf, finishedOf, nullsOf, reachedBy}
 use Rattle.join.proofs.Demand1.{runs}
 
 -- ---- the model's destination is that of the Rust's calls, those that are carried out
@@ -77,16 +77,31 @@ module _ (l : Lending) (b : Bytes l) (accepted : openingOf l .ground ≡ 0) (os 
   pub reached-is : reachedBy l os ≡ performAll (typeIn l) (sourcesIn l) (columnsIn l) (carriedOut l os (first l)) (first l)
   reached-is = carried l os (first l)
 
-  -- THE BYTES, LENGTHS AND VALIDITY: the finished tables describe `into_builder` of it, byte for byte
-  pub finished-bytes : Shows (treeIn l) (tablesOf l os) (typeIn l) 0 (intoBuilder (typeIn l) (sourcesIn l) (columnsIn l) (reachedBy l os))
-  finished-bytes =
-      join-shows (l .formats) (l .schema) (l .sources) (l .tables) (l .keep) (l .parts) (openingOf l) opens os (length (l .tables .body)) _ (appended (lentOf l) (afterCalls l os .room))
+  -- Over any body z in which the room stands from `base` on and the sources' body where it was:
+  module _ (base : ℕ) (z : List ℕ) (laid : Bodied z (lentOf l) (afterCalls l os .room) base) where
+    -- THE BYTES, LENGTHS AND VALIDITY: the finished tables describe `into_builder` of it, byte for byte
+    pub bytes-at : Shows (treeIn l) (tablesAt l os base z) (typeIn l) 0 (intoBuilder (typeIn l) (sourcesIn l) (columnsIn l) (reachedBy l os))
+    bytes-at = join-shows (l .formats) (l .schema) (l .sources) (l .tables) (l .keep) (l .parts) (openingOf l) opens os base z laid
 
-  -- THE NULL COUNTS of every node are those of its finished bits
+    -- THE NULL COUNTS of every node are those of its finished bits
+    pub nulls-at : Counts (treeIn l) (nullTable (lentOf l) (l .tables .buffers) (afterCalls l os .counts) (afterCalls l os .room) base) (typeIn l) 0
+        (intoBuilder (typeIn l) (sourcesIn l) (columnsIn l) (reachedBy l os))
+    nulls-at = join-nulls (l .formats) (l .schema) (l .sources) (l .tables) (l .keep) (l .parts) (openingOf l) opens os base z laid
+
+    -- LENT AGAIN, it passes ground 12
+    pub again-at : T (sourceRule (treeIn l) (tablesAt l os base z))
+    again-at = join-again (l .formats) (l .schema) (l .sources) (l .tables) (l .keep) (l .parts) (openingOf l) opens os base z laid
+
+  -- the sources' body with the room behind it is such a body
+  pub behind-body : Bodied (l .tables .body ++ afterCalls l os .room) (lentOf l) (afterCalls l os .room) (length (l .tables .body))
+  behind-body = appended (lentOf l) (afterCalls l os .room)
+
+  pub finished-bytes : Shows (treeIn l) (tablesOf l os) (typeIn l) 0 (intoBuilder (typeIn l) (sourcesIn l) (columnsIn l) (reachedBy l os))
+  finished-bytes = bytes-at (length (l .tables .body)) _ behind-body
+
   pub finished-nulls : Counts (treeIn l) (nullTable (lentOf l) (l .tables .buffers) (afterCalls l os .counts) (afterCalls l os .room) (length (l .tables .body))) (typeIn l) 0
       (intoBuilder (typeIn l) (sourcesIn l) (columnsIn l) (reachedBy l os))
-  finished-nulls =
-      join-nulls (l .formats) (l .schema) (l .sources) (l .tables) (l .keep) (l .parts) (openingOf l) opens os (length (l .tables .body)) _ (appended (lentOf l) (afterCalls l os .room))
+  finished-nulls = nulls-at (length (l .tables .body)) _ behind-body
 
   -- .. AND THOSE OF THE RUST: of every node, validity is kept where its running null count is above 0, and that is its null count
   pub finished-counters : FinishedBy (typeIn l) (sourcesIn l) (columnsIn l) (reachedBy l os) (intoBuilder (typeIn l) (sourcesIn l) (columnsIn l) (reachedBy l os))
@@ -121,7 +136,5 @@ module _ (l : Lending) (b : Bytes l) (accepted : openingOf l .ground ≡ 0) (os 
       }
   finishing-answered = finishing-accepted (l .formats) (l .schema) (l .sources) (l .tables) (l .keep) (l .parts) (openingOf l) opens os
 
-  -- LENT AGAIN, it passes ground 12
   pub lent-again : T (sourceRule (treeIn l) (tablesOf l os))
-  lent-again =
-      join-again (l .formats) (l .schema) (l .sources) (l .tables) (l .keep) (l .parts) (openingOf l) opens os (length (l .tables .body)) _ (appended (lentOf l) (afterCalls l os .room))
+  lent-again = again-at (length (l .tables .body)) _ behind-body

@@ -4,6 +4,8 @@ pub mod Demand1
 pub mod Demand2
 pub mod Answered
 pub mod Demand3
+pub mod Based
+pub mod Said
 pub mod Stored
 pub mod StoredTypes
 pub mod StoredExample

@@ -11,6 +11,7 @@ pub mod Frame
 pub mod Dictionaries
 pub mod Uses
 pub mod Walk
+pub mod PartsDue
 pub mod Fitting
 pub mod Runs
 pub mod Stay

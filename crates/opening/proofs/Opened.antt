@@ -55,7 +55,7 @@ module _ (formats schema sources : List ℕ) (x : Tables) (keep : Bool) (parts :
   lent = opened formats schema sources x keep parts
 
   -- what the walk of an opening is given
-  given : AllBelow 256 (x .body) → sourcesGround formats schema x sources ≡ 0 → Given lent t m ss keep
+  pub given : AllBelow 256 (x .body) → sourcesGround formats schema x sources ≡ 0 → Given lent t m ss keep
   given bytes ok =
       let all = sources-of formats schema sources x keep ok in
       let stands = stood formats schema x sources ok keep in
