@@ -4,6 +4,7 @@ use std::fmt::Write;
 use std::process::ExitCode;
 use std::time::Instant;
 use trials::compare::{join, Seen};
+use trials::cut::cut;
 use trials::wider::wider;
 
 fn main() -> ExitCode {
@@ -13,12 +14,19 @@ fn main() -> ExitCode {
     let mut out = String::new();
     let mut seen = Seen::default();
     eprintln!("{count} random joins, seeds {first} to {}", first + count - 1);
-    let mut widened = 0;
+    let (mut widened, mut cuts) = (0, 0);
     for seed in first..first + count {
-        // every tenth is made with wider offsets, keys and run ends too
-        let answer = join(seed, &mut seen).and_then(|()| if seed % 10 == 0 { wider(seed) } else { Ok(false) });
+        // of every tenth one is made with wider offsets, keys and run ends too, and one with its last copy cut in two
+        let answer = join(seed, &mut seen).and_then(|()| match seed % 10 {
+            0 => wider(seed).map(|accepted| (accepted, false)),
+            5 => cut(seed).map(|accepted| (false, accepted)),
+            _ => Ok((false, false)),
+        });
         match answer {
-            Ok(accepted) => widened += accepted as u64,
+            Ok((wide, halved)) => {
+                widened += wide as u64;
+                cuts += halved as u64;
+            }
             Err(what) => {
                 println!("{what}");
                 return ExitCode::FAILURE;
@@ -29,6 +37,7 @@ fn main() -> ExitCode {
     writeln!(out, "{joins} joins, {orders} orders, {rows} rows: no difference").unwrap();
     writeln!(out, "{depth_8} types of depth 8; dictionaries: {joined_dictionaries} joined, {kept_dictionaries} kept").unwrap();
     writeln!(out, "{widened} of them stored wider: the same rows").unwrap();
+    writeln!(out, "{cuts} copies cut in two: the same rows, and bytes where no run is").unwrap();
     for ((what, answer), count) in answers {
         writeln!(out, "{what} answered {answer}: {count}").unwrap();
     }
