@@ -10,5 +10,6 @@ pub mod Stored
 pub mod StoredTypes
 pub mod StoredExample
 pub mod Wider
+pub mod StoredJoin
 pub mod CutShown
 pub mod Cut
