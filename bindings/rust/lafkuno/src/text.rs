@@ -68,8 +68,9 @@ struct File {
     share: bool,
     names: Vec<String>,
     rows: Vec<Vec<Row>>,
+    /// Each line of rows: its number, its source, and how many rows that source then has.
+    fills: Vec<(usize, usize, usize)>,
     slices: Vec<Option<(u64, u64, usize)>>,
-    lines: Vec<usize>,
     orders: Vec<Order>,
 }
 
@@ -94,11 +95,14 @@ impl File {
                 self.names.push(rest.into());
                 self.rows.push(vec![]);
                 self.slices.push(None);
-                self.lines.push(number);
             }
             "rows" => {
                 let ty = self.ty.as_ref().ok_or("the type stands before the first rows")?;
-                self.rows.last_mut().ok_or("`source NAME` stands before its rows")?.extend(rows(ty, rest)?);
+                let all = self.rows.last_mut().ok_or("`source NAME` stands before its rows")?;
+                let more = rows(ty, rest)?;
+                Column::build(ty, &more).map_err(|e| e.to_string())?;
+                all.extend(more);
+                self.fills.push((number, self.rows.len() - 1, self.rows.last().map_or(0, Vec::len)));
             }
             "slice" => {
                 let (a, b) = range(rest).filter(|(a, b)| a <= b).ok_or("a slice is START..END, START not above END")?;
@@ -123,8 +127,18 @@ impl File {
     fn describe(self, last: usize) -> Result<Description, Mistake> {
         let mistake = |line: usize, what: String| Mistake { line, what };
         let ty = self.ty.ok_or_else(|| mistake(last, "no type is given: type FORMAT".into()))?;
-        let rows: Vec<&[Row]> = self.rows.iter().map(|r| &r[..]).collect();
-        let columns = Column::build_all(&ty, &rows, self.share).map_err(|e| mistake(self.lines.first().copied().unwrap_or(last), e.to_string()))?;
+        // the sources as the first n lines of rows make them
+        let build = |n: usize| {
+            let count = |s: usize| self.fills[..n].iter().rev().find(|f| f.1 == s).map_or(0, |f| f.2);
+            let rows: Vec<&[Row]> = self.rows.iter().enumerate().map(|(s, r)| &r[..count(s)]).collect();
+            Column::build_all(&ty, &rows, self.share)
+        };
+        // rows that fit line by line may be too many together: the first line that is too much is told
+        let columns = build(self.fills.len()).map_err(|e| {
+            let lines: Vec<usize> = (1..=self.fills.len()).collect();
+            let first = lines.partition_point(|n| build(*n).is_ok());
+            mistake(self.fills.get(first).map_or(last, |f| f.0), e.to_string())
+        })?;
         let mut sources = vec![];
         for ((name, column), slice) in self.names.into_iter().zip(columns).zip(self.slices) {
             let column = match slice {
@@ -135,6 +149,17 @@ impl File {
         }
         Ok(Description { ty, keep_nulls: self.keep, sources, orders: self.orders })
     }
+}
+
+/// Reads a description of columns and orders: UTF-8.
+pub fn read_bytes(bytes: &[u8]) -> Result<Description, Mistake> {
+    let text = std::str::from_utf8(bytes).map_err(|e| {
+        let before = &bytes[..e.valid_up_to()];
+        let line = 1 + before.iter().filter(|b| **b == b'\n').count();
+        let column = before.iter().rev().take_while(|b| **b != b'\n').count();
+        Mistake { line, what: format!("byte {} of the line is not UTF-8; write it as \\x{:02x}", column + 1, bytes[before.len()]) }
+    })?;
+    read(text)
 }
 
 /// Reads a description of columns and orders.
@@ -188,14 +213,18 @@ mod tests {
             ("type +vl", 1),
             ("type +r(i)", 1),
             ("type i\nsource a\nrows 1 x", 3),
-            ("type i\nsource a\nrows null", 2),
+            ("type i\nsource a\nrows null", 3),
+            ("type i\nsource a\nrows 1\n\nrows 2\nsource b\nrows 3 99999999999", 7),
+            ("type +r(s, i)\nsource a\nrows 30000*1\nsource b\nrows 9\nrows 32767*2\nrows 5", 6),
+            ("type +r(s, i)\nsource a\nrows 32767*1\nrows 5 6\nrows 7", 4),
             ("type i\nsource a\nrows 1\nslice 0..2", 4),
             ("type i\nsource a\ncopy b 0..1", 3),
-            ("type c\nsource a\nrows 128", 2),
+            ("type c\nsource a\nrows 128", 3),
             ("source a", 1),
             ("# nothing", 1),
         ] {
             assert_eq!(read(text).unwrap_err().line, line, "{text}");
         }
+        assert_eq!(read_bytes(b"type u\nsource a\nrows \"a\xff\"").unwrap_err().line, 3);
     }
 }
