@@ -6,7 +6,6 @@ use crate::lent::Raise;
 use crate::{Buffer, Column, Error, Lent, Row};
 use std::collections::HashMap;
 use std::ops::Range;
-use std::sync::Arc;
 
 #[derive(Clone, Copy, Debug)]
 enum Order {
@@ -148,10 +147,10 @@ impl Join {
         if calls::finish(&plan, &parts, &x, &counters, &room, base as u32, &mut out) != 0 {
             return inconsistent("finishing was refused");
         }
-        let (body, room) = (&self.lent.body, Arc::new(room));
-        let part = |bytes: &Arc<Vec<u8>>, at: usize, len: usize| (at + len <= bytes.len()).then(|| Buffer::part(bytes.clone(), at, len));
-        let take = |at: usize, len: usize| if at < base { part(body, at, len) } else { part(&room, at - base, len) };
-        let raise = Raise { x, first: x.sources[0] as usize, lengths: &lengths, places: &places, buffers: &buffers, take: &take };
+        let (body, room) = (&self.lent.body, Buffer::from(room));
+        let take = |at: usize, len: usize| if at < base { body.slice(at, len) } else { room.slice(at - base, len) };
+        let first = x.sources[0] as usize;
+        let raise = Raise { x, first, lengths: &lengths, places: &places, buffers: &buffers, fields: &self.lent.fields, take: &take };
         match raise.column(0) {
             Some((column, _)) => Ok(Joined { column, null_counts: nulls, running_nulls: calls::running_nulls(&counters) }),
             None => inconsistent("the finished tables name bytes that are not there"),

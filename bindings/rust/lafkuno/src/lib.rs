@@ -21,6 +21,7 @@
 #[cfg(not(all(target_endian = "little", target_pointer_width = "64")))]
 compile_error!("lafkuno is for little-endian machines with pointers of 64 bits");
 
+mod buffer;
 mod build;
 pub mod c_data;
 #[rustfmt::skip]
@@ -31,15 +32,17 @@ mod lent;
 mod refusal;
 mod rows;
 pub mod text;
+mod trim;
 mod types;
 mod values;
 
-pub use column::{Buffer, Column};
+pub use buffer::Buffer;
+pub use column::{Column, Field};
 pub use join::{Join, Joined, Reader};
 pub use lent::Lent;
 pub use refusal::{Cause, Error, Ground};
 pub use rows::Row;
-pub use types::Type;
+pub use types::{storage, Type};
 
 /// The examples of docs/USING.md.
 #[cfg(doctest)]

@@ -6,5 +6,6 @@ pub mod damage;
 pub mod generate;
 pub mod guard;
 pub mod memory;
+pub mod passage;
 pub mod random;
 pub mod wider;
