@@ -27,22 +27,26 @@ pub mod c_data;
 #[rustfmt::skip]
 pub mod calls;
 mod column;
+mod explain;
 mod join;
 mod lent;
 mod refusal;
 mod rows;
+mod rules;
 pub mod text;
 mod trim;
 mod types;
 mod values;
+mod work;
 
 pub use buffer::Buffer;
 pub use column::{Column, Field};
 pub use join::{Join, Joined, Reader};
 pub use lent::Lent;
-pub use refusal::{Cause, Error, Ground};
+pub use refusal::{Cause, Error, Ground, Place};
 pub use rows::Row;
 pub use types::{storage, Type};
+pub use work::WORK_LIMIT;
 
 /// The examples of docs/USING.md.
 #[cfg(doctest)]
