@@ -115,7 +115,10 @@ fn format_at(x: &Tables, at: usize) -> String {
 impl<'a> Source<'a> {
     pub(crate) fn new(x: Tables<'a>, first: usize, count: usize) -> Source<'a> {
         let mut source = Source { x, first, nodes: vec![], count };
-        source.walk(1);
+        // a source may say that it has more nodes than its tree
+        while source.nodes.len() < count.min(33) {
+            source.walk(1);
+        }
         source
     }
 
@@ -152,8 +155,8 @@ impl<'a> Source<'a> {
     /// Length and offset, where they are not negative.
     pub(crate) fn rows(&self, k: usize) -> Option<(u64, u64)> {
         let at = self.nodes[k].at;
-        let l = self.x.lengths.get(2 * at..2 * at + 2)?;
-        (l[0].checked_add(l[1])? <= i64::MAX as u64).then_some((l[0], l[1]))
+        let [length, offset] = [0, 1].map(|j| self.x.lengths.get(2 * at + j).copied().unwrap_or(0));
+        (length.checked_add(offset)? <= i64::MAX as u64).then_some((length, offset))
     }
 
     pub(crate) fn place(&self, k: usize, j: usize) -> u64 {
@@ -173,18 +176,18 @@ impl<'a> Source<'a> {
     }
 
     fn ceiling(&self) -> Found {
-        if 32 < self.count || self.count == 0 {
-            return Some((0, format!("{} nodes, and 1 to 32 are taken", self.count)));
+        if 32 < self.count {
+            return Some((0, format!("{} nodes, and 32 are taken", self.count)));
         }
         (0..self.nodes.len()).find_map(|k| {
             let node = &self.nodes[k];
             let [.., children, _] = entry(self.x.schema, node.at);
-            let (length, offset) = (self.x.lengths.get(2 * node.at)?, self.x.lengths.get(2 * node.at + 1)?);
+            let [length, offset] = [0, 1].map(|j| self.x.lengths.get(2 * node.at + j).map_or(0, |n| *n as i64));
             let views = if self.ty(k).kind() == Kind::Views { self.place(k, 8) } else { 0 };
             let found = if 8 < node.depth {
                 format!("depth {}, and 8 is taken", node.depth)
             } else if self.rows(k).is_none() {
-                format!("length {} and offset {}: neither is negative, and their sum fits 63 bits", *length as i64, *offset as i64)
+                format!("length {length} and offset {offset}: neither is negative, and their sum fits 63 bits")
             } else if 16 < children && self.ty(k).format.starts_with("+u") {
                 format!("{children} union fields, and 16 are taken")
             } else if 32 < views {

@@ -66,7 +66,11 @@ impl Source<'_> {
                 return Some(format!("{name} has {len} bytes, and {slots} slots need {bytes}"));
             }
         }
-        let views = if kind == Kind::Views { self.place(k, 8) } else { 0 };
+        let (first, views) = if kind == Kind::Views { (self.place(k, 7), self.place(k, 8)) } else { (0, 0) };
+        let named = self.x.buffers.len() as u64 / 2;
+        if named < first + views {
+            return Some(format!("data buffers {first}..{}, and {named} are named", first + views));
+        }
         (0..views).find(|b| self.data(k, *b).is_none()).map(|b| format!("data buffer {b} is not in the body"))
     }
 
@@ -85,7 +89,7 @@ impl Source<'_> {
         let mut slots = offset..offset + length;
         match ty.kind() {
             Kind::Fixed | Kind::Other => None,
-            Kind::Strings if length == 0 => None,
+            Kind::Strings if length == 0 && one.is_empty() => None,
             Kind::Strings => {
                 let first = signed(one, offset, w);
                 if first < 0 {
