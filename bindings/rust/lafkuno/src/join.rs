@@ -8,10 +8,25 @@ use crate::{explain, Buffer, Column, Error, Ground, Lent, Row};
 use std::collections::HashMap;
 use std::ops::Range;
 
-#[derive(Clone, Copy, Debug)]
-enum Order {
-    Copy { source: u32, start: u64, end: u64 },
+/// An order.
+#[derive(Clone, Copy, Debug, PartialEq, Eq)]
+pub enum Order {
+    /// Rows of a source.
+    Copy {
+        /// The source, counted from 0.
+        source: usize,
+        /// Its first row that is copied.
+        start: u64,
+        /// One past its last.
+        end: u64,
+    },
+    /// So many nulls.
     Nulls(u64),
+}
+
+/// A source's number as calls take it; one that is too large is none.
+fn number(source: usize) -> u32 {
+    u32::try_from(source).unwrap_or(u32::MAX)
 }
 
 /// A join: sources, and the orders that were accepted so far. A refused order changes nothing.
@@ -97,27 +112,27 @@ impl Join {
 
     /// Adds an order to the work; whether it was added.
     fn bounded(&mut self, order: Order) -> Result<bool, Error> {
-        let Order::Copy { source, start, end } = order else { return Ok(false) };
-        let s = source as usize;
+        let Order::Copy { source: s, start, end } = order else { return Ok(false) };
         // what is no order at all is refused by the library
-        let rows = self.lent.sources.get(2 * s).and_then(|first| self.lent.lengths.get(2 * *first as usize));
+        let rows = self.lent.sources.get(s.saturating_mul(2)).and_then(|first| self.lent.lengths.get(2 * *first as usize));
         if !rows.is_some_and(|rows| start <= end && end <= *rows) {
             return Ok(false);
         }
         let copies = self.orders.iter().filter_map(|o| match *o {
-            Order::Copy { source, start, end } => Some((source as usize, start..end)),
+            Order::Copy { source, start, end } => Some((source, start..end)),
             Order::Nulls(_) => None,
         });
         self.work.add(&self.lent, copies, s, &(start..end)).map(|()| true)
     }
 
-    fn order(&mut self, order: Order) -> Result<(), Error> {
+    /// Gives an order: it is carried out, or refused and nothing is changed.
+    pub fn order(&mut self, order: Order) -> Result<(), Error> {
         self.given += 1;
         let added = self.bounded(order)?;
         let mut counters = self.counters;
         let x = self.lent.tables();
         let answer = match order {
-            Order::Copy { source, start, end } => calls::measure_copy(&self.plan, &x, &mut counters, source, start, end),
+            Order::Copy { source, start, end } => calls::measure_copy(&self.plan, &x, &mut counters, number(source), start, end),
             Order::Nulls(n) => calls::measure_nulls(&self.plan, &mut counters, n),
         };
         Error::check(answer).map_err(|e| self.told(order, e))?;
@@ -137,7 +152,7 @@ impl Join {
             place.order = Some(number);
             place.found = match order {
                 Order::Nulls(n) => format!("{n} nulls behind {} rows", self.len()),
-                Order::Copy { source, start, end } => match self.lent.sources.get(2 * source as usize) {
+                Order::Copy { source, start, end } => match self.lent.sources.get(source.saturating_mul(2)) {
                     None => format!("rows {start}..{end} of source {source}, and there are {} sources", self.lent.sources.len() / 2),
                     Some(first) => {
                         let rows = self.lent.lengths.get(2 * *first as usize).copied().unwrap_or(0);
@@ -150,7 +165,6 @@ impl Join {
 
     /// Copies rows of a source behind the rows that are there.
     pub fn copy(&mut self, source: usize, rows: Range<u64>) -> Result<(), Error> {
-        let source = u32::try_from(source).unwrap_or(u32::MAX);
         self.order(Order::Copy { source, start: rows.start, end: rows.end })
     }
 
@@ -191,7 +205,7 @@ impl Join {
         }
         for order in &self.orders {
             let answer = match *order {
-                Order::Copy { source, start, end } => calls::copy(&plan, &parts, &x, &mut counters, &mut room, source, start, end),
+                Order::Copy { source, start, end } => calls::copy(&plan, &parts, &x, &mut counters, &mut room, number(source), start, end),
                 Order::Nulls(n) => calls::nulls(&plan, &parts, &mut counters, &mut room, n),
             };
             if answer != 0 {

@@ -21,6 +21,7 @@
 #[cfg(not(all(target_endian = "little", target_pointer_width = "64")))]
 compile_error!("lafkuno is for little-endian machines with pointers of 64 bits");
 
+mod batch;
 mod buffer;
 mod build;
 pub mod c_data;
@@ -28,6 +29,7 @@ pub mod c_data;
 pub mod calls;
 mod column;
 mod explain;
+pub mod ipc;
 mod join;
 mod lent;
 mod refusal;
@@ -39,9 +41,10 @@ mod types;
 mod values;
 mod work;
 
+pub use batch::{join_many, run_many, Batch, Job};
 pub use buffer::Buffer;
 pub use column::{Column, Field};
-pub use join::{Join, Joined, Reader};
+pub use join::{Join, Joined, Order, Reader};
 pub use lent::Lent;
 pub use refusal::{Cause, Error, Ground, Place};
 pub use rows::Row;

@@ -179,6 +179,8 @@ pub enum Error {
         /// So many bytes.
         bytes: u64,
     },
+    /// A file can't be read or written, or is not what it says.
+    File(String),
     /// The column's own description can't be laid, imported or built.
     Column(String),
     /// Two answers of the library do not fit together. This is a mistake of the library or of this binding.
@@ -232,7 +234,7 @@ impl fmt::Display for Error {
                 write!(f, "up to {bound} rows would be walked at node {node}, and the limit is {limit}: join fewer rows, or set a higher limit")
             }
             Error::TooLarge { bytes } => write!(f, "{bytes} bytes are needed, and positions of 32 bits reach 4294967295: join fewer rows at a time"),
-            Error::Column(why) => f.write_str(why),
+            Error::Column(why) | Error::File(why) => f.write_str(why),
             Error::Inconsistent(why) => write!(f, "a mistake of the library: {why}"),
         }
     }

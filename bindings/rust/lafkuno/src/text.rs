@@ -7,30 +7,36 @@ use crate::{Column, Row, Type};
 /// An order, with the line that gives it.
 #[derive(Clone, Debug, PartialEq, Eq)]
 pub struct Order {
+    /// Its line.
     pub line: usize,
+    /// The line itself.
     pub text: String,
+    /// What it asks for.
     pub what: What,
 }
 
-#[derive(Clone, Debug, PartialEq, Eq)]
-pub enum What {
-    Copy { source: usize, start: u64, end: u64 },
-    Nulls(u64),
-}
+/// What an order asks for.
+pub use crate::Order as What;
 
 /// What a file describes: columns of one type, and orders.
 #[derive(Clone, Debug)]
 pub struct Description {
+    /// The type of all sources.
     pub ty: Type,
+    /// Whether orders of nulls are taken even where no source has one.
     pub keep_nulls: bool,
+    /// The sources with their names.
     pub sources: Vec<(String, Column)>,
+    /// The orders.
     pub orders: Vec<Order>,
 }
 
 /// A mistake of the text, by its line.
 #[derive(Clone, Debug, PartialEq, Eq)]
 pub struct Mistake {
+    /// The line, counted from 1.
     pub line: usize,
+    /// What is wrong.
     pub what: String,
 }
 

@@ -3,6 +3,7 @@
 pub mod compare;
 pub mod convert;
 pub mod damage;
+pub mod files;
 pub mod generate;
 pub mod guard;
 pub mod memory;

@@ -1,7 +1,7 @@
 //! `lafkuno join FILE`: columns and orders as text.
 
 use super::{mistake, print, Command, Words, MISTAKE, REFUSED};
-use lafkuno::text::{self, What};
+use lafkuno::text;
 use lafkuno::{Column, Error, Join, Row, Type};
 use std::io::Read;
 
@@ -50,7 +50,7 @@ fn run(words: &[&str]) -> u8 {
 /// The exit status of an error: a refusal, or a mistake.
 fn status(error: &Error) -> u8 {
     match error {
-        Error::Column(_) | Error::Inconsistent(_) => MISTAKE,
+        Error::Column(_) | Error::File(_) | Error::Inconsistent(_) => MISTAKE,
         _ => REFUSED,
     }
 }
@@ -73,11 +73,7 @@ fn join(description: &text::Description, go_on: bool) -> Result<(Column, bool), 
     let mut join = Join::open(&sources, description.keep_nulls).map_err(|e| fail("the opening", e))?;
     let mut refused = 0;
     for (k, order) in description.orders.iter().enumerate() {
-        let answer = match order.what {
-            What::Copy { source, start, end } => join.copy(source, start..end),
-            What::Nulls(n) => join.nulls(n),
-        };
-        if let Err(error) = answer {
+        if let Err(error) = join.order(order.what) {
             let status = fail(&format!("order {}, line {} (`{}`)", k + 1, order.line, order.text), error);
             refused += 1;
             if !go_on || status == MISTAKE {
