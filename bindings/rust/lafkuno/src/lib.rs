@@ -18,6 +18,8 @@
 //! # Ok::<(), lafkuno::Error>(())
 //! ```
 
+#![deny(missing_docs)]
+
 #[cfg(not(all(target_endian = "little", target_pointer_width = "64")))]
 compile_error!("lafkuno is for little-endian machines with pointers of 64 bits");
 
@@ -32,6 +34,7 @@ mod explain;
 pub mod ipc;
 mod join;
 mod lent;
+mod orders;
 mod refusal;
 mod rows;
 mod rules;
@@ -50,8 +53,3 @@ pub use refusal::{Cause, Error, Ground, Place};
 pub use rows::Row;
 pub use types::{storage, Type};
 pub use work::WORK_LIMIT;
-
-/// The examples of docs/USING.md.
-#[cfg(doctest)]
-#[doc = include_str!("../../../../docs/USING.md")]
-struct Using;

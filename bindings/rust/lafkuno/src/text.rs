@@ -1,6 +1,7 @@
 //! Columns and orders as text (docs/USING.md), and rows as text.
 
 use crate::build::shape;
+pub use crate::orders::{read_orders, Orders, Trip};
 pub use crate::values::{rows, show};
 use crate::{Column, Row, Type};
 
@@ -48,13 +49,14 @@ impl std::fmt::Display for Mistake {
 
 impl std::error::Error for Mistake {}
 
-fn range(text: &str) -> Option<(u64, u64)> {
+/// Rows as text: START..END.
+pub fn range(text: &str) -> Option<(u64, u64)> {
     let (a, b) = text.split_once("..")?;
     Some((a.trim().parse().ok()?, b.trim().parse().ok()?))
 }
 
 /// The line without a comment: a `#` outside of bytes begins one.
-fn without_comment(line: &str) -> &str {
+pub(crate) fn without_comment(line: &str) -> &str {
     let (mut quoted, mut escaped) = (false, false);
     for (at, c) in line.char_indices() {
         match c {
@@ -157,15 +159,19 @@ impl File {
     }
 }
 
-/// Reads a description of columns and orders: UTF-8.
-pub fn read_bytes(bytes: &[u8]) -> Result<Description, Mistake> {
-    let text = std::str::from_utf8(bytes).map_err(|e| {
+/// The text, or the line that is not UTF-8.
+pub(crate) fn utf8(bytes: &[u8]) -> Result<&str, Mistake> {
+    std::str::from_utf8(bytes).map_err(|e| {
         let before = &bytes[..e.valid_up_to()];
         let line = 1 + before.iter().filter(|b| **b == b'\n').count();
         let column = before.iter().rev().take_while(|b| **b != b'\n').count();
         Mistake { line, what: format!("byte {} of the line is not UTF-8; write it as \\x{:02x}", column + 1, bytes[before.len()]) }
-    })?;
-    read(text)
+    })
+}
+
+/// Reads a description of columns and orders: UTF-8.
+pub fn read_bytes(bytes: &[u8]) -> Result<Description, Mistake> {
+    read(utf8(bytes)?)
 }
 
 /// Reads a description of columns and orders.

@@ -10,3 +10,8 @@ pub mod memory;
 pub mod passage;
 pub mod random;
 pub mod wider;
+
+/// The examples of docs/USING.md.
+#[cfg(doctest)]
+#[doc = include_str!("../../../../docs/USING.md")]
+struct Using;

@@ -1,10 +1,15 @@
 //! The commands, one file each, and what they share. A new command is a file with a `COMMAND` and a line in [`ALL`].
 
-use std::io::Write;
+use lafkuno::Error;
+use std::io::{IsTerminal, Write};
+use std::sync::Mutex;
+use std::time::{Duration, Instant};
 
+mod arrow;
 mod demo;
 mod grounds;
 mod join;
+mod show;
 
 /// A command by its word.
 pub struct Command {
@@ -15,7 +20,7 @@ pub struct Command {
     pub run: fn(&[&str]) -> u8,
 }
 
-pub const ALL: &[Command] = &[join::COMMAND, demo::COMMAND, grounds::COMMAND];
+pub const ALL: &[Command] = &[join::COMMAND, show::COMMAND, demo::COMMAND, grounds::COMMAND];
 
 /// Exit statuses: an order or the opening was refused; the command or a file has a mistake.
 pub const REFUSED: u8 = 1;
@@ -29,6 +34,46 @@ pub fn print(text: &str) -> u8 {
             MISTAKE
         }
         _ => 0,
+    }
+}
+
+/// The exit status of an error: a refusal, or a mistake.
+pub fn status(error: &Error) -> u8 {
+    match error {
+        Error::Column(_) | Error::File(_) | Error::Inconsistent(_) => MISTAKE,
+        _ => REFUSED,
+    }
+}
+
+/// How far long work is, on standard error where that is a terminal, and nothing where it is none.
+pub struct Progress {
+    all: usize,
+    what: &'static str,
+    start: Instant,
+    last: Mutex<Option<Instant>>,
+}
+
+impl Progress {
+    pub fn new(all: usize, what: &'static str) -> Progress {
+        Progress { all, what, start: Instant::now(), last: Mutex::new(None) }
+    }
+
+    /// So many are made.
+    pub fn show(&self, done: usize) {
+        let Ok(mut last) = self.last.try_lock() else { return };
+        let due = last.map_or(self.start + Duration::from_millis(500), |at| at + Duration::from_millis(100));
+        if due <= Instant::now() && std::io::stderr().is_terminal() {
+            *last = Some(Instant::now());
+            eprint!("\r{done} of {} {}", self.all, self.what);
+        }
+    }
+}
+
+impl Drop for Progress {
+    fn drop(&mut self) {
+        if self.last.lock().is_ok_and(|last| last.is_some()) {
+            eprint!("\r{:40}\r", "");
+        }
     }
 }
 
@@ -72,7 +117,6 @@ impl<'a> Words<'a> {
     }
 
     /// The value of an option; the last where it is given twice.
-    #[allow(dead_code)]
     pub fn value(&self, option: &str) -> Option<&'a str> {
         self.options.iter().rev().find(|(o, _)| *o == option)?.1
     }

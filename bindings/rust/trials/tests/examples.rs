@@ -1,11 +1,17 @@
 //! The examples of the repository, run by the command.
 
-use std::io::Write;
-use std::process::{Command, Output, Stdio};
+use std::path::PathBuf;
+use std::process::{Command, Output};
+
+/// The command, which stands beside the directory of this test's program.
+fn command() -> PathBuf {
+    let here = std::env::current_exe().unwrap();
+    here.parent().unwrap().parent().unwrap().join("lafkuno")
+}
 
 fn run(arguments: &[&str]) -> Output {
     let examples = concat!(env!("CARGO_MANIFEST_DIR"), "/../../../examples");
-    Command::new(env!("CARGO_BIN_EXE_lafkuno")).current_dir(examples).args(arguments).output().unwrap()
+    Command::new(command()).current_dir(examples).args(arguments).output().unwrap()
 }
 
 fn text(bytes: &[u8]) -> &str {
@@ -50,63 +56,12 @@ fn a_refusal_is_told() {
 }
 
 #[test]
-fn mistakes_are_told() {
-    for (arguments, told) in [
-        (&["join"][..], "one FILE is due"),
-        (&["join", "no-such-file"], "no-such-file: "),
-        (&["join", "--bufers", "van.join"], "unknown option --bufers"),
-        (&["van.c"], "there is no command van.c"),
-        (&["join", "van.c"], "van.c: line 1"),
-    ] {
-        let output = run(arguments);
-        assert_eq!(output.status.code(), Some(2));
-        assert!(output.stdout.is_empty());
-        assert!(text(&output.stderr).contains(told) && text(&output.stderr).lines().count() == 1, "{}", text(&output.stderr));
-    }
-    assert_eq!(text(&run(&["--version"]).stdout), concat!("lafkuno ", env!("CARGO_PKG_VERSION"), "\n"));
-}
-
-/// The command over a text on its standard input.
-fn told(arguments: &[&str], input: &[u8]) -> Output {
-    let mut command = Command::new(env!("CARGO_BIN_EXE_lafkuno"));
-    let pipes = command.args(arguments).stdin(Stdio::piped()).stdout(Stdio::piped()).stderr(Stdio::piped());
-    let mut child = pipes.spawn().unwrap();
-    child.stdin.take().unwrap().write_all(input).unwrap();
-    child.wait_with_output().unwrap()
-}
-
-#[test]
-fn the_line_of_a_mistake_is_told() {
-    let output = told(&["join", "-"], b"type i\nsource a\nrows 1\nsource b\n\n# more\nrows 2 null\ncopy a 0..1\n");
-    assert!(text(&output.stderr).contains("line 7: "), "{}", text(&output.stderr));
-    let output = told(&["join", "-"], b"type u\nsource a\nrows \"\xff\"\n");
-    assert!(text(&output.stderr).contains("line 3: ") && output.status.code() == Some(2));
-}
-
-#[test]
-fn the_status_is_the_same_with_and_without_go_on() {
-    let large = b"type i?\nkeep nulls\nsource a\nrows 1\nnulls 5000000000\ncopy a 0..1\n";
-    for (file, due) in [(&large[..], 1), (b"type i\nsource a\nrows 1\ncopy a 0..2\n", 1), (b"type i\nsource a\nrows 1\ncopy a 0..1\n", 0)] {
-        for flags in [&["join", "-"][..], &["join", "--go-on", "-"]] {
-            assert_eq!(told(flags, file).status.code(), Some(due));
-        }
-    }
-}
-
-#[test]
 fn the_nulls_of_the_summary_are_those_printed() {
     for file in ["van.join", "runs.join", "stops.join", "towns.join", "events.join"] {
         let output = run(&["join", file]);
         let printed = text(&output.stdout).lines().filter(|l| l.rsplit(':').next() == Some("null")).count();
         assert!(text(&output.stderr).contains(&format!("{printed} nulls\n")), "{file}: {}", text(&output.stderr));
     }
-}
-
-#[test]
-fn the_demo_books_two_kilometres() {
-    let output = run(&["demo"]);
-    assert!(text(&output.stdout).contains("Booked on the trip: 2000 m, 270 ml."));
-    assert!(output.status.success());
 }
 
 // docs/USING.md shows lines of the C example.
