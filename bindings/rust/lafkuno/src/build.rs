@@ -1,6 +1,6 @@
 //! Columns built from rows.
 
-use crate::types::Kind;
+use crate::types::{storage, Kind};
 use crate::{Buffer, Column, Error, Row, Type};
 use std::collections::HashMap;
 
@@ -36,7 +36,7 @@ fn filler(ty: &Type) -> Row {
 /// The bytes of a number that fits the format.
 fn encode(ty: &Type, row: &Row) -> Result<Vec<u8>, Error> {
     let w = ty.width();
-    match (ty.format.as_str(), row) {
+    match (storage(&ty.format), row) {
         ("f", Row::Single(bits)) => Ok(bits.to_le_bytes().to_vec()),
         ("g", Row::Double(bits)) => Ok(bits.to_le_bytes().to_vec()),
         ("f" | "g", _) => mismatch(ty, row),

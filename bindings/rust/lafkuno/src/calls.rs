@@ -3,6 +3,10 @@
 //! Every call answers 0 or the number of a ground, and changes nothing where it is not 0. Whatever the slices hold, only they are read,
 //! and only those behind `&mut` are written.
 
+/// A position in a body or a room, and a count of bytes there.
+pub type Position = u32;
+/// The bytes that a body or a room may have.
+pub const MOST_BYTES: u64 = Position::MAX as u64;
 /// Numbers in a plan.
 pub const PLAN: usize = 872;
 /// Numbers in the counters of a join.
@@ -13,41 +17,62 @@ pub const TREE: usize = 256;
 /// The tables of docs/FORMAT.md with the body that they are about.
 #[derive(Clone, Copy, Debug)]
 pub struct Tables<'a> {
+    /// 2 numbers a source: its first node, and how many it has.
     pub sources: &'a [u32],
+    /// The format strings.
     pub formats: &'a [u8],
+    /// 5 numbers a node: its format's start and bytes, flags, children, 1 where it has a dictionary.
     pub schema: &'a [u32],
+    /// 2 numbers a node: length and offset.
     pub lengths: &'a [u64],
-    pub places: &'a [u32],
-    pub buffers: &'a [u32],
+    /// 9 numbers a node: whether it has validity, start and bytes of validity and of two buffers, its first data buffer and their count.
+    pub places: &'a [Position],
+    /// 2 numbers a data buffer of views: start and bytes.
+    pub buffers: &'a [Position],
+    /// Every buffer of every source.
     pub body: &'a [u8],
 }
 
 /// The tables that finishing fills: 2 lengths, 1 null count and 9 places a node, 2 numbers a data buffer.
 #[derive(Debug)]
 pub struct FinishedTables<'a> {
+    /// Length and offset of each node.
     pub lengths: &'a mut [u64],
+    /// The null count of each node.
     pub nulls: &'a mut [u64],
-    pub places: &'a mut [u32],
-    pub buffers: &'a mut [u32],
+    /// The places of each node.
+    pub places: &'a mut [Position],
+    /// Start and bytes of each data buffer.
+    pub buffers: &'a mut [Position],
 }
 
 /// One row as a call answers it: bytes by their place in the body, a list by the child's node and rows.
 #[derive(Clone, Copy, Debug, PartialEq, Eq)]
 pub enum Read {
+    /// No value.
     Null,
+    /// A whole number of a signed type.
     Signed(i64),
+    /// A whole number of an unsigned type.
     Unsigned(u64),
     /// An f32, by its bits.
     Single(u32),
     /// An f64, by its bits.
     Double(u64),
+    /// Bytes in the body.
     Bytes {
+        /// Where they begin.
         at: u64,
+        /// How many.
         len: u64,
     },
+    /// Rows of the child.
     List {
+        /// The child's node, counted from the column's first.
         node: u64,
+        /// Its first row.
         start: u64,
+        /// How many rows.
         len: u64,
     },
 }
@@ -55,8 +80,11 @@ pub enum Read {
 /// A row that was read, with the ids of the unions on the way to it: the first `count` of `ids`.
 #[derive(Clone, Copy, Debug, PartialEq, Eq)]
 pub struct RowAnswer {
+    /// What was read.
     pub read: Read,
+    /// The ids, from the root downward.
     pub ids: [u8; 8],
+    /// How many there are.
     pub count: u8,
 }
 
@@ -130,6 +158,7 @@ extern "C" {
 // ---- before any room is lent
 
 /// 9 to 12, or 14 where `plan` has not [`PLAN`] numbers; else the plan is written.
+#[inline(always)]
 pub fn plan_parts(x: &Tables, keep: bool, plan: &mut [u64]) -> u8 {
     unsafe {
         lafkuno_plan_parts(
@@ -141,11 +170,13 @@ pub fn plan_parts(x: &Tables, keep: bool, plan: &mut [u64]) -> u8 {
 }
 
 /// How many parts a plan has.
+#[inline(always)]
 pub fn part_count(plan: &[u64]) -> usize {
     unsafe { lafkuno_part_count(plan.as_ptr(), plan.len()) as usize }
 }
 
 /// The node and the buffer of part `p`; buffer 0 is the validity.
+#[inline(always)]
 pub fn part_at(plan: &[u64], p: usize) -> Option<(usize, usize)> {
     let p = u32::try_from(p).ok()?;
     let node = unsafe { lafkuno_part_node(plan.as_ptr(), plan.len(), p) };
@@ -156,6 +187,7 @@ pub fn part_at(plan: &[u64], p: usize) -> Option<(usize, usize)> {
 // ---- the join
 
 /// Opens a join over lent room: the plan, the counters and the parts are written.
+#[inline(always)]
 pub fn open(x: &Tables, keep: bool, parts: &[u32], plan: &mut [u64], counters: &mut [u64], room: &mut [u8]) -> u8 {
     unsafe {
         lafkuno_open(
@@ -168,6 +200,7 @@ pub fn open(x: &Tables, keep: bool, parts: &[u32], plan: &mut [u64], counters: &
 }
 
 /// Copies the rows `start .. end` of a source behind the rows that are there.
+#[inline(always)]
 #[allow(clippy::too_many_arguments)]
 pub fn copy(plan: &[u64], parts: &[u32], x: &Tables, counters: &mut [u64], room: &mut [u8], source: u32, start: u64, end: u64) -> u8 {
     unsafe {
@@ -180,6 +213,7 @@ pub fn copy(plan: &[u64], parts: &[u32], x: &Tables, counters: &mut [u64], room:
 }
 
 /// Adds n nulls.
+#[inline(always)]
 pub fn nulls(plan: &[u64], parts: &[u32], counters: &mut [u64], room: &mut [u8], n: u64) -> u8 {
     unsafe {
         lafkuno_nulls(
@@ -190,6 +224,7 @@ pub fn nulls(plan: &[u64], parts: &[u32], counters: &mut [u64], room: &mut [u8],
 }
 
 /// Describes the finished array. `base` is where the room begins in the body that the new tables are about.
+#[inline(always)]
 #[allow(clippy::too_many_arguments)]
 pub fn finish(plan: &[u64], parts: &[u32], x: &Tables, counters: &[u64], room: &[u8], base: u32, out: &mut FinishedTables) -> u8 {
     unsafe {
@@ -204,11 +239,13 @@ pub fn finish(plan: &[u64], parts: &[u32], x: &Tables, counters: &[u64], room: &
 }
 
 /// How many data buffers the finished array names.
+#[inline(always)]
 pub fn buffer_total(plan: &[u64], places: &[u32], sources: &[u32]) -> usize {
     unsafe { lafkuno_buffer_total(plan.as_ptr(), plan.len(), sources.as_ptr(), sources.len(), places.as_ptr(), places.len()) as usize }
 }
 
 /// The running null count.
+#[inline(always)]
 pub fn running_nulls(counters: &[u64]) -> u64 {
     unsafe { lafkuno_running_nulls(counters.as_ptr(), counters.len()) }
 }
@@ -216,6 +253,7 @@ pub fn running_nulls(counters: &[u64]) -> u64 {
 // ---- the same without room
 
 /// What an opening does to the counters.
+#[inline(always)]
 pub fn measure_open(plan: &[u64], x: &Tables, counters: &mut [u64]) -> u8 {
     unsafe {
         lafkuno_measure_open(
@@ -226,6 +264,7 @@ pub fn measure_open(plan: &[u64], x: &Tables, counters: &mut [u64]) -> u8 {
 }
 
 /// What a copy does to them.
+#[inline(always)]
 pub fn measure_copy(plan: &[u64], x: &Tables, counters: &mut [u64], source: u32, start: u64, end: u64) -> u8 {
     unsafe {
         lafkuno_measure_copy(
@@ -237,11 +276,13 @@ pub fn measure_copy(plan: &[u64], x: &Tables, counters: &mut [u64], source: u32,
 }
 
 /// What an order of nulls does to them.
+#[inline(always)]
 pub fn measure_nulls(plan: &[u64], counters: &mut [u64], n: u64) -> u8 {
     unsafe { lafkuno_measure_nulls(plan.as_ptr(), plan.len(), counters.as_mut_ptr(), counters.len(), n) }
 }
 
 /// The bytes that part `p` must hold; 0 where there is no such part.
+#[inline(always)]
 pub fn needed_bytes(plan: &[u64], counters: &[u64], p: u32) -> u64 {
     unsafe { lafkuno_needed_bytes(plan.as_ptr(), plan.len(), counters.as_ptr(), counters.len(), p) }
 }
@@ -249,6 +290,7 @@ pub fn needed_bytes(plan: &[u64], counters: &[u64], p: u32) -> u64 {
 // ---- one column
 
 /// 9, 10 or 12 for the column of `n` nodes from node `first` on.
+#[inline(always)]
 pub fn column_ground(x: &Tables, first: u32, n: u32) -> u8 {
     unsafe {
         lafkuno_column_ground(
@@ -259,6 +301,7 @@ pub fn column_ground(x: &Tables, first: u32, n: u32) -> u8 {
 }
 
 /// The same, or 14 where `tree` has fewer than [`TREE`] numbers; else the column's tree is written to its front.
+#[inline(always)]
 pub fn open_column(x: &Tables, first: u32, n: u32, tree: &mut [u64]) -> u8 {
     unsafe {
         lafkuno_open_column(
@@ -270,6 +313,7 @@ pub fn open_column(x: &Tables, first: u32, n: u32, tree: &mut [u64]) -> u8 {
 }
 
 /// One row of an opened column: 2 where there is no such row.
+#[inline(always)]
 pub fn read_row(tree: &[u64], x: &Tables, first: u32, row: u64) -> Result<RowAnswer, u8> {
     let mut answer = [0; 12];
     let kind = unsafe {

@@ -1,58 +1,18 @@
 //! Owned columns.
 
-use crate::{Error, Type};
-use std::ops::Deref;
-use std::sync::Arc;
+use crate::{Buffer, Error, Type};
 
-/// Bytes, or a part of them, that columns share. Two buffers are the same one where they begin at the same byte in memory.
-#[derive(Clone, Default)]
-pub struct Buffer {
-    bytes: Arc<Vec<u8>>,
-    start: usize,
-    len: usize,
-}
-
-impl Buffer {
-    /// The bytes `start .. start + len` of an allocation.
-    ///
-    /// # Panics
-    /// Where they are not in it.
-    pub fn part(bytes: Arc<Vec<u8>>, start: usize, len: usize) -> Buffer {
-        assert!(start.checked_add(len).is_some_and(|end| end <= bytes.len()), "a buffer outside its bytes");
-        Buffer { bytes, start, len }
-    }
-
-    /// The allocation that it is a part of, and where it begins there.
-    pub fn whole(&self) -> (&Arc<Vec<u8>>, usize) {
-        (&self.bytes, self.start)
-    }
-}
-
-impl From<Vec<u8>> for Buffer {
-    fn from(bytes: Vec<u8>) -> Buffer {
-        let len = bytes.len();
-        Buffer { bytes: Arc::new(bytes), start: 0, len }
-    }
-}
-
-impl Deref for Buffer {
-    type Target = [u8];
-
-    fn deref(&self) -> &[u8] {
-        &self.bytes[self.start..self.start + self.len]
-    }
-}
-
-impl std::fmt::Debug for Buffer {
-    fn fmt(&self, f: &mut std::fmt::Formatter) -> std::fmt::Result {
-        write!(f, "{:02x?}", &**self)
-    }
-}
-
-impl PartialEq for Buffer {
-    fn eq(&self, other: &Buffer) -> bool {
-        **self == **other
-    }
+/// What a schema says of a field beside its type. A join carries source 0's to the result as they are.
+#[derive(Clone, Debug, Default, PartialEq, Eq)]
+pub struct Field {
+    /// The field's name; a union's child has the name of the union's field.
+    pub name: String,
+    /// Keys and values that somebody attached to the field.
+    pub metadata: Vec<(Vec<u8>, Vec<u8>)>,
+    /// Whether the order of the dictionary's entries has a meaning.
+    pub ordered: bool,
+    /// Whether a map's keys are sorted.
+    pub keys_sorted: bool,
 }
 
 /// A column as the Arrow C Data Interface has it. Nothing is checked before a join is opened over it: whatever the fields hold, the
@@ -61,19 +21,28 @@ impl PartialEq for Buffer {
 pub struct Column {
     /// The format string of the Arrow C Data Interface.
     pub format: String,
+    /// Whether the field may hold nulls.
     pub nullable: bool,
+    /// Its rows.
     pub length: u64,
+    /// How many slots of its buffers stand before its first row.
     pub offset: u64,
+    /// A bit a slot, 1 where the row is valid.
     pub validity: Option<Buffer>,
     /// The buffers of the format without validity and data buffers, at most two (docs/FORMAT.md).
     pub buffers: Vec<Buffer>,
     /// The data buffers of views.
     pub data: Vec<Buffer>,
+    /// The children in the format's order.
     pub children: Vec<Column>,
+    /// A dictionary's values, where the column holds keys.
     pub dictionary: Option<Box<Column>>,
+    /// Its name, and what else its schema says.
+    pub field: Field,
 }
 
 impl Column {
+    /// Its type.
     pub fn ty(&self) -> Type {
         Type {
             format: self.format.clone(),
@@ -101,10 +70,16 @@ impl Column {
 
     /// The zero bits among its rows; bits that are not there count as ones.
     pub fn null_count(&self) -> u64 {
-        match self.validity {
-            None => 0,
-            Some(_) => (0..self.length).filter(|r| self.valid(self.offset.wrapping_add(*r)) == Some(false)).count() as u64,
+        let Some(bits) = &self.validity else { return 0 };
+        let there = 8 * bits.len() as u64;
+        let (start, end) = (self.offset.min(there), self.offset.saturating_add(self.length).min(there));
+        let zeros = |slots: std::ops::Range<u64>| slots.filter(|k| bits[(k / 8) as usize] >> (k % 8) & 1 == 0).count() as u64;
+        let (whole, past) = (start.next_multiple_of(8), end & !7);
+        if past <= whole {
+            return zeros(start..end);
         }
+        let middle = bits[(whole / 8) as usize..(past / 8) as usize].iter().map(|b| b.count_zeros() as u64).sum::<u64>();
+        zeros(start..whole) + middle + zeros(past..end)
     }
 
     /// How many nodes it has.

@@ -3,15 +3,30 @@
 
 use crate::calls::{self, FinishedTables, Read, RowAnswer, COUNTERS, PLAN, TREE};
 use crate::lent::Raise;
-use crate::{Buffer, Column, Error, Lent, Row};
+use crate::work::Work;
+use crate::{explain, Buffer, Column, Error, Ground, Lent, Row};
 use std::collections::HashMap;
 use std::ops::Range;
-use std::sync::Arc;
 
-#[derive(Clone, Copy, Debug)]
-enum Order {
-    Copy { source: u32, start: u64, end: u64 },
+/// An order.
+#[derive(Clone, Copy, Debug, PartialEq, Eq)]
+pub enum Order {
+    /// Rows of a source.
+    Copy {
+        /// The source, counted from 0.
+        source: usize,
+        /// Its first row that is copied.
+        start: u64,
+        /// One past its last.
+        end: u64,
+    },
+    /// So many nulls.
     Nulls(u64),
+}
+
+/// A source's number as calls take it; one that is too large is none.
+fn number(source: usize) -> u32 {
+    u32::try_from(source).unwrap_or(u32::MAX)
 }
 
 /// A join: sources, and the orders that were accepted so far. A refused order changes nothing.
@@ -22,12 +37,16 @@ pub struct Join {
     plan: [u64; PLAN],
     counters: [u64; COUNTERS],
     orders: Vec<Order>,
+    /// The orders that were given, refused ones too.
+    given: usize,
+    work: Work,
     room: u64,
 }
 
 /// A finished join.
 #[derive(Clone, Debug)]
 pub struct Joined {
+    /// The joined rows; its type, names and metadata are source 0's.
     pub column: Column,
     /// The null count of each node in depth-first order, counted from the bits.
     pub null_counts: Vec<u64>,
@@ -46,11 +65,28 @@ impl Join {
 
     /// The same over a body with its tables.
     pub fn open_lent(lent: Lent, keep_nulls: bool) -> Result<Join, Error> {
-        let mut join = Join { lent, keep: keep_nulls, plan: [0; PLAN], counters: [0; COUNTERS], orders: vec![], room: 0 };
-        Error::check(calls::plan_parts(&join.lent.tables(), keep_nulls, &mut join.plan))?;
-        Error::check(calls::measure_open(&join.plan, &join.lent.tables(), &mut join.counters))?;
+        let mut plan = [0; PLAN];
+        let answer = calls::plan_parts(&lent.tables(), keep_nulls, &mut plan);
+        // logical types are not in the tables
+        if matches!(Ground::from_number(answer), None | Some(Ground::TypesDiffer | Ground::BadSource)) {
+            if let Some(place) = explain::differ(&lent) {
+                return Err(Error::RefusedAt(Ground::TypesDiffer, Box::new(place)));
+            }
+        }
+        let tell = |error: Error| error.ground().map_or(error, |ground| explain::opening(&lent, ground));
+        Error::check(answer).map_err(tell)?;
+        let mut counters = [0; COUNTERS];
+        Error::check(calls::measure_open(&plan, &lent.tables(), &mut counters)).map_err(tell)?;
+        let work = Work::new(&lent);
+        let mut join = Join { lent, keep: keep_nulls, plan, counters, orders: vec![], given: 0, work, room: 0 };
         join.room = join.room_for(&join.counters)?;
         Ok(join)
+    }
+
+    /// Sets how many rows the orders may walk at a node; 2^32 where it is not set. Lists that overlap can lead to more rows than any
+    /// machine could walk: an order that would pass the limit is [`Error::TooMuchWork`] before it begins.
+    pub fn limit_work(&mut self, rows: u64) {
+        self.work.limit = rows;
     }
 
     /// The parts for these counters, 2 numbers each, and the bytes of the room.
@@ -74,22 +110,61 @@ impl Join {
         Ok(self.parts(counters)?.1)
     }
 
-    fn order(&mut self, order: Order) -> Result<(), Error> {
+    /// Adds an order to the work; whether it was added.
+    fn bounded(&mut self, order: Order) -> Result<bool, Error> {
+        let Order::Copy { source: s, start, end } = order else { return Ok(false) };
+        // what is no order at all is refused by the library
+        let rows = self.lent.sources.get(s.saturating_mul(2)).and_then(|first| self.lent.lengths.get(2 * *first as usize));
+        if !rows.is_some_and(|rows| start <= end && end <= *rows) {
+            return Ok(false);
+        }
+        let copies = self.orders.iter().filter_map(|o| match *o {
+            Order::Copy { source, start, end } => Some((source, start..end)),
+            Order::Nulls(_) => None,
+        });
+        self.work.add(&self.lent, copies, s, &(start..end)).map(|()| true)
+    }
+
+    /// Gives an order: it is carried out, or refused and nothing is changed.
+    pub fn order(&mut self, order: Order) -> Result<(), Error> {
+        self.given += 1;
+        let added = self.bounded(order)?;
         let mut counters = self.counters;
         let x = self.lent.tables();
-        Error::check(match order {
-            Order::Copy { source, start, end } => calls::measure_copy(&self.plan, &x, &mut counters, source, start, end),
+        let answer = match order {
+            Order::Copy { source, start, end } => calls::measure_copy(&self.plan, &x, &mut counters, number(source), start, end),
             Order::Nulls(n) => calls::measure_nulls(&self.plan, &mut counters, n),
-        })?;
+        };
+        Error::check(answer).map_err(|e| self.told(order, e))?;
         self.room = self.room_for(&counters)?;
         self.counters = counters;
         self.orders.push(order);
+        if added {
+            self.work.accept();
+        }
         Ok(())
+    }
+
+    /// A refused order with its number and what it asked for.
+    fn told(&self, order: Order, error: Error) -> Error {
+        let number = self.given;
+        error.at(|place| {
+            place.order = Some(number);
+            place.found = match order {
+                Order::Nulls(n) => format!("{n} nulls behind {} rows", self.len()),
+                Order::Copy { source, start, end } => match self.lent.sources.get(source.saturating_mul(2)) {
+                    None => format!("rows {start}..{end} of source {source}, and there are {} sources", self.lent.sources.len() / 2),
+                    Some(first) => {
+                        let rows = self.lent.lengths.get(2 * *first as usize).copied().unwrap_or(0);
+                        format!("rows {start}..{end} of source {source}, which has {rows}, behind {} rows", self.len())
+                    }
+                },
+            };
+        })
     }
 
     /// Copies rows of a source behind the rows that are there.
     pub fn copy(&mut self, source: usize, rows: Range<u64>) -> Result<(), Error> {
-        let source = u32::try_from(source).unwrap_or(u32::MAX);
         self.order(Order::Copy { source, start: rows.start, end: rows.end })
     }
 
@@ -103,6 +178,7 @@ impl Join {
         self.counters[0]
     }
 
+    /// Whether there are none.
     pub fn is_empty(&self) -> bool {
         self.len() == 0
     }
@@ -129,7 +205,7 @@ impl Join {
         }
         for order in &self.orders {
             let answer = match *order {
-                Order::Copy { source, start, end } => calls::copy(&plan, &parts, &x, &mut counters, &mut room, source, start, end),
+                Order::Copy { source, start, end } => calls::copy(&plan, &parts, &x, &mut counters, &mut room, number(source), start, end),
                 Order::Nulls(n) => calls::nulls(&plan, &parts, &mut counters, &mut room, n),
             };
             if answer != 0 {
@@ -148,10 +224,10 @@ impl Join {
         if calls::finish(&plan, &parts, &x, &counters, &room, base as u32, &mut out) != 0 {
             return inconsistent("finishing was refused");
         }
-        let (body, room) = (&self.lent.body, Arc::new(room));
-        let part = |bytes: &Arc<Vec<u8>>, at: usize, len: usize| (at + len <= bytes.len()).then(|| Buffer::part(bytes.clone(), at, len));
-        let take = |at: usize, len: usize| if at < base { part(body, at, len) } else { part(&room, at - base, len) };
-        let raise = Raise { x, first: x.sources[0] as usize, lengths: &lengths, places: &places, buffers: &buffers, take: &take };
+        let (body, room) = (&self.lent.body, Buffer::from(room));
+        let take = |at: usize, len: usize| if at < base { body.slice(at, len) } else { room.slice(at - base, len) };
+        let first = x.sources[0] as usize;
+        let raise = Raise { x, first, lengths: &lengths, places: &places, buffers: &buffers, fields: &self.lent.fields, take: &take };
         match raise.column(0) {
             Some((column, _)) => Ok(Joined { column, null_counts: nulls, running_nulls: calls::running_nulls(&counters) }),
             None => inconsistent("the finished tables name bytes that are not there"),
@@ -191,7 +267,8 @@ impl Reader {
     /// Opens the n nodes from `node` on.
     fn plant(&mut self, node: u32, n: u32) -> Result<(), Error> {
         let mut tree = Box::new([0; TREE]);
-        Error::check(calls::open_column(&self.lent.tables(), self.lent.sources[0] + node, n, &mut tree[..]))?;
+        let answer = calls::open_column(&self.lent.tables(), self.lent.sources[0] + node, n, &mut tree[..]);
+        Error::check(answer).map_err(|e| e.ground().map_or(e, |ground| explain::opening(&self.lent, ground)))?;
         self.trees.insert(node, tree);
         Ok(())
     }

@@ -1,78 +1,151 @@
 //! Columns laid into one body and described by the tables of docs/FORMAT.md.
 
-use crate::calls::Tables;
-use crate::{Buffer, Column, Error};
+use crate::calls::{Position, Tables, MOST_BYTES};
+use crate::types::storage;
+use crate::{Buffer, Column, Error, Field};
 use std::collections::HashMap;
-use std::sync::Arc;
 
 /// The tables of the sources of a join, with the body that holds every buffer.
 #[derive(Clone, Debug, Default)]
 pub struct Lent {
+    /// 2 numbers a source: its first node, and how many it has.
     pub sources: Vec<u32>,
+    /// The format strings of the nodes, as they are stored.
     pub formats: Vec<u8>,
+    /// 5 numbers a node.
     pub schema: Vec<u32>,
+    /// 2 numbers a node: length and offset.
     pub lengths: Vec<u64>,
-    pub places: Vec<u32>,
-    pub buffers: Vec<u32>,
-    pub body: Arc<Vec<u8>>,
+    /// 9 numbers a node.
+    pub places: Vec<Position>,
+    /// 2 numbers a data buffer of views.
+    pub buffers: Vec<Position>,
+    /// Every buffer of every source.
+    pub body: Buffer,
+    /// What the schema says of each node beside the tables: its own format, and its field. May be shorter than the tables.
+    pub fields: Vec<(String, Field)>,
 }
 
-/// Where each buffer goes, by where it begins in memory.
+/// Where each byte of memory that is asked for goes.
 struct Layout {
-    align: usize,
-    longest: HashMap<*const u8, usize>,
-    places: HashMap<*const u8, u32>,
-    body: Vec<u8>,
+    body: Buffer,
+    /// Stretches of memory: first byte, one past the last, and where they begin in the body; in rising order.
+    stretches: Vec<(usize, usize, usize)>,
+    /// Buffers without a byte, by where they begin.
+    empty: HashMap<usize, usize>,
+}
+
+fn note<'a>(column: &'a Column, all: &mut Vec<&'a Buffer>) {
+    all.extend(column.validity.iter().chain(&column.buffers).chain(&column.data));
+    column.dictionary.iter().for_each(|d| note(d, all));
+    column.children.iter().for_each(|c| note(c, all));
+}
+
+fn buffers_of<'a>(columns: &[&'a Column]) -> Vec<&'a Buffer> {
+    let mut all = vec![];
+    columns.iter().for_each(|c| note(c, &mut all));
+    all
 }
 
 impl Layout {
-    fn note(&mut self, column: &Column) {
-        for buffer in column.validity.iter().chain(&column.buffers).chain(&column.data) {
-            let longest = self.longest.entry(buffer.as_ptr()).or_default();
-            *longest = buffer.len().max(*longest);
+    /// The part of one owner's memory that all buffers are in.
+    fn as_it_is(all: &[&Buffer]) -> Option<Layout> {
+        let some = all.iter().filter(|b| !b.is_empty());
+        let first = some.clone().next()?.region()?;
+        let (from, to) = first.span();
+        let (mut start, mut end) = (to, from);
+        for buffer in some {
+            let (a, b) = buffer.span();
+            if a < from || to < b || buffer.region()?.span() != (from, to) {
+                return None;
+            }
+            (start, end) = (start.min(a), end.max(b));
         }
-        column.dictionary.iter().for_each(|d| self.note(d));
-        column.children.iter().for_each(|c| self.note(c));
+        if MOST_BYTES < (end - start) as u64 {
+            return None;
+        }
+        Some(Layout { body: first.slice(start - from, end - start)?, stretches: vec![(start, end, 0)], empty: HashMap::new() })
     }
 
-    /// Where a buffer begins, and its bytes. A buffer that several columns share is laid once, and no two begin at the same place.
-    fn place(&mut self, buffer: &Buffer) -> Result<[u32; 2], Error> {
-        let key = buffer.as_ptr();
-        if let Some(at) = self.places.get(&key) {
-            return Ok([*at, buffer.len() as u32]);
+    /// Each byte is copied once, however many buffers share it.
+    fn copied(all: &[&Buffer], align: usize) -> Result<Layout, Error> {
+        let mut spans: Vec<(usize, usize)> = all.iter().filter(|b| !b.is_empty()).map(|b| b.span()).collect();
+        spans.sort_unstable();
+        let mut stretches: Vec<(usize, usize, usize)> = vec![];
+        for (a, b) in spans {
+            match stretches.last_mut() {
+                Some(last) if a < last.1 => last.1 = last.1.max(b),
+                _ => stretches.push((a, b, 0)),
+            }
         }
-        let at = self.body.len().next_multiple_of(self.align);
-        let (bytes, start) = buffer.whole();
-        let longest = self.longest[&key];
-        let end = at as u64 + longest.max(1) as u64;
-        if (u32::MAX as u64) < end {
-            return Err(Error::TooLarge { bytes: end });
+        let mut size = 0usize;
+        for (a, b, at) in &mut stretches {
+            // a stretch keeps its place between multiples of 8, so that what was aligned there is aligned here
+            *at = size.next_multiple_of(align) + *a % align.min(8);
+            size = *at + (*b - *a);
         }
-        self.body.resize(at, 0);
-        self.body.extend(&bytes[start..start + longest]);
-        self.body.resize(end as usize, 0);
-        self.places.insert(key, at as u32);
-        Ok([at as u32, buffer.len() as u32])
+        let mut layout = Layout { body: Buffer::default(), stretches, empty: HashMap::new() };
+        // no two begin at the same place
+        for buffer in all.iter().filter(|b| b.is_empty()) {
+            let at = buffer.span().0;
+            if layout.find(at).is_none() && !layout.empty.contains_key(&at) {
+                layout.empty.insert(at, size.next_multiple_of(align));
+                size = size.next_multiple_of(align) + 1;
+            }
+        }
+        if MOST_BYTES < size as u64 {
+            return Err(Error::TooLarge { bytes: size as u64 });
+        }
+        let mut body = Vec::with_capacity(size);
+        for (a, b, at) in &layout.stretches {
+            body.resize(*at, 0);
+            // each byte of a stretch is one of a buffer's
+            body.extend_from_slice(unsafe { std::slice::from_raw_parts(*a as *const u8, b - a) });
+        }
+        body.resize(size, 0);
+        layout.body = body.into();
+        Ok(layout)
+    }
+
+    fn find(&self, at: usize) -> Option<usize> {
+        let k = self.stretches.partition_point(|s| s.0 <= at).checked_sub(1)?;
+        let (a, b, place) = self.stretches[k];
+        (at < b).then_some(place + (at - a))
+    }
+
+    /// Where a buffer begins, and its bytes.
+    fn place(&self, buffer: &Buffer) -> [Position; 2] {
+        let at = buffer.span().0;
+        let place = self.find(at).or_else(|| self.empty.get(&at).copied()).unwrap_or(0);
+        [place as Position, buffer.len() as Position]
     }
 }
 
 impl Lent {
-    /// Lays columns into one body, each buffer at a multiple of 64.
+    /// Lays columns into one body. Buffers that all stand in one allocation or one mapped file are lent as they are; else the columns are
+    /// trimmed, and each byte that they reach is copied once, however many share it.
     pub fn lay(columns: &[&Column]) -> Result<Lent, Error> {
-        Lent::lay_aligned(columns, 64)
+        if let Some(layout) = Layout::as_it_is(&buffers_of(columns)) {
+            return Lent::describe(columns, layout);
+        }
+        let trimmed: Vec<Column> = columns.iter().map(|c| c.trimmed()).collect();
+        let columns: Vec<&Column> = trimmed.iter().collect();
+        Lent::lay_aligned(&columns, 64)
     }
 
-    /// The same with another alignment: no buffer need be aligned.
+    /// All bytes of the columns copied, none trimmed, with another alignment: no buffer need be aligned.
     pub fn lay_aligned(columns: &[&Column], align: usize) -> Result<Lent, Error> {
-        let mut layout = Layout { align: align.max(1), longest: HashMap::new(), places: HashMap::new(), body: vec![] };
-        columns.iter().for_each(|c| layout.note(c));
+        Lent::describe(columns, Layout::copied(&buffers_of(columns), align.max(1))?)
+    }
+
+    fn describe(columns: &[&Column], layout: Layout) -> Result<Lent, Error> {
         let mut lent = Lent::default();
         for column in columns {
             let first = lent.nodes();
-            lent.node(column, &mut layout)?;
+            lent.node(column, &layout)?;
             lent.sources.extend([first as u32, (lent.nodes() - first) as u32]);
         }
-        lent.body = Arc::new(layout.body);
+        lent.body = layout.body;
         Ok(lent)
     }
 
@@ -80,7 +153,7 @@ impl Lent {
         self.lengths.len() / 2
     }
 
-    fn node(&mut self, column: &Column, layout: &mut Layout) -> Result<(), Error> {
+    fn node(&mut self, column: &Column, layout: &Layout) -> Result<(), Error> {
         if 2 < column.buffers.len() {
             return Err(Error::Column(format!(
                 "a column of format {} has {} buffers, and at most two are taken",
@@ -88,29 +161,30 @@ impl Lent {
                 column.buffers.len()
             )));
         }
+        let format = if column.dictionary.is_some() { &column.format } else { storage(&column.format) };
         let (at, dictionary) = (self.formats.len() as u32, column.dictionary.is_some() as u32);
         let flags = if column.nullable { 2 } else { 0 };
-        self.schema.extend([at, column.format.len() as u32, flags, column.children.len() as u32, dictionary]);
-        self.formats.extend(column.format.bytes());
+        self.schema.extend([at, format.len() as u32, flags, column.children.len() as u32, dictionary]);
+        self.formats.extend(format.bytes());
+        self.fields.push((column.format.clone(), column.field.clone()));
         self.lengths.extend([column.length, column.offset]);
         let mut places = [0; 9];
         if let Some(validity) = &column.validity {
             places[0] = 1;
-            places[1..3].copy_from_slice(&layout.place(validity)?);
+            places[1..3].copy_from_slice(&layout.place(validity));
         }
         for (k, buffer) in column.buffers.iter().enumerate() {
-            places[3 + 2 * k..5 + 2 * k].copy_from_slice(&layout.place(buffer)?);
+            places[3 + 2 * k..5 + 2 * k].copy_from_slice(&layout.place(buffer));
         }
-        places[7] = (self.buffers.len() / 2) as u32;
-        places[8] = column.data.len() as u32;
-        for buffer in &column.data {
-            self.buffers.extend(layout.place(buffer)?);
-        }
+        places[7] = (self.buffers.len() / 2) as Position;
+        places[8] = column.data.len() as Position;
+        column.data.iter().for_each(|b| self.buffers.extend(layout.place(b)));
         self.places.extend(places);
         column.dictionary.iter().try_for_each(|d| self.node(d, layout))?;
         column.children.iter().try_for_each(|c| self.node(c, layout))
     }
 
+    /// The tables as calls take them.
     pub fn tables(&self) -> Tables<'_> {
         Tables {
             sources: &self.sources,
@@ -125,7 +199,7 @@ impl Lent {
 }
 
 /// The five numbers of a node; those that the schema is too short for are zeros.
-fn entry(schema: &[u32], i: usize) -> [u32; 5] {
+pub(crate) fn entry(schema: &[u32], i: usize) -> [u32; 5] {
     [0, 1, 2, 3, 4].map(|k| schema.get(5 * i + k).copied().unwrap_or(0))
 }
 
@@ -136,8 +210,10 @@ pub(crate) struct Raise<'a> {
     pub first: usize,
     /// The tables of the column, from their node 0 on.
     pub lengths: &'a [u64],
-    pub places: &'a [u32],
-    pub buffers: &'a [u32],
+    pub places: &'a [Position],
+    pub buffers: &'a [Position],
+    /// What the schema says of the type tree's nodes; may be shorter.
+    pub fields: &'a [(String, Field)],
     /// The bytes of a place.
     pub take: &'a dyn Fn(usize, usize) -> Option<Buffer>,
 }
@@ -165,6 +241,9 @@ impl Raise<'_> {
             column.data = named.chunks_exact(2).map(|b| (self.take)(b[0] as usize, b[1] as usize)).collect::<Option<_>>()?;
         }
         column.format = format;
+        if let Some((format, field)) = self.fields.get(self.first + i) {
+            (column.format, column.field) = (format.clone(), field.clone());
+        }
         let mut end = i + 1;
         if s[4] != 0 {
             let (values, e) = self.column(end)?;
@@ -196,8 +275,8 @@ impl Lent {
     /// Source s as a column over the same body; None where the tables do not hold it.
     pub fn source(&self, s: usize) -> Option<Column> {
         let first = *self.sources.get(2 * s)? as usize;
-        let take = |at: usize, len: usize| (at.checked_add(len)? <= self.body.len()).then(|| Buffer::part(self.body.clone(), at, len));
+        let take = |at: usize, len: usize| self.body.slice(at, len);
         let (lengths, places) = (self.lengths.get(2 * first..)?, self.places.get(9 * first..)?);
-        Some(Raise { x: self.tables(), first, lengths, places, buffers: &self.buffers, take: &take }.column(0)?.0)
+        Some(Raise { x: self.tables(), first, lengths, places, buffers: &self.buffers, fields: &self.fields, take: &take }.column(0)?.0)
     }
 }

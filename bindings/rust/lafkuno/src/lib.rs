@@ -18,30 +18,38 @@
 //! # Ok::<(), lafkuno::Error>(())
 //! ```
 
+#![deny(missing_docs)]
+
 #[cfg(not(all(target_endian = "little", target_pointer_width = "64")))]
 compile_error!("lafkuno is for little-endian machines with pointers of 64 bits");
 
+mod batch;
+mod buffer;
 mod build;
 pub mod c_data;
 #[rustfmt::skip]
 pub mod calls;
 mod column;
+mod explain;
+pub mod ipc;
 mod join;
 mod lent;
+mod orders;
 mod refusal;
 mod rows;
+mod rules;
 pub mod text;
+mod trim;
 mod types;
 mod values;
+mod work;
 
-pub use column::{Buffer, Column};
-pub use join::{Join, Joined, Reader};
+pub use batch::{join_many, run_many, Batch, Job};
+pub use buffer::Buffer;
+pub use column::{Column, Field};
+pub use join::{Join, Joined, Order, Reader};
 pub use lent::Lent;
-pub use refusal::{Cause, Error, Ground};
+pub use refusal::{Cause, Error, Ground, Place};
 pub use rows::Row;
-pub use types::Type;
-
-/// The examples of docs/USING.md.
-#[cfg(doctest)]
-#[doc = include_str!("../../../../docs/USING.md")]
-struct Using;
+pub use types::{storage, Type};
+pub use work::WORK_LIMIT;

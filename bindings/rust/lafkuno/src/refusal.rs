@@ -30,19 +30,33 @@ impl fmt::Display for Cause {
 #[derive(Clone, Copy, Debug, PartialEq, Eq, Hash)]
 #[repr(u8)]
 pub enum Ground {
+    /// The source's number is not below the count of sources.
     NoSuchSource = 1,
+    /// The end is before the start, or beyond the source's length.
     NoSuchRows = 2,
+    /// An order of nulls where no nulls are kept.
     KeepsNoNulls = 3,
+    /// Nulls for a union without fields.
     UnionWithoutFields = 4,
+    /// Nulls for a union none of whose fields is nullable.
     UnionWithoutNullableField = 5,
+    /// An offset or a dense union's position does not fit its type.
     OffsetTooLarge = 6,
+    /// A run end does not fit its type.
     RunEndTooLarge = 7,
+    /// The dictionary has more entries than its keys can name.
     TooManyEntries = 8,
+    /// No source, or a ceiling is passed.
     CeilingPassed = 9,
+    /// A type that is not taken.
     UnknownType = 10,
+    /// The sources are not of one type.
     TypesDiffer = 11,
+    /// A source breaks the rules of its type.
     BadSource = 12,
+    /// A part of the room can't hold its bytes.
     RoomTooSmall = 13,
+    /// Parts or tables that are not of the right number or size.
     BadParts = 14,
 }
 
@@ -65,14 +79,17 @@ impl Ground {
         Ground::BadParts,
     ];
 
+    /// The ground of a number.
     pub fn from_number(number: u8) -> Option<Ground> {
         Ground::ALL.get((number as usize).checked_sub(1)?).copied()
     }
 
+    /// Its number.
     pub fn number(self) -> u8 {
         self as u8
     }
 
+    /// What it means, in a sentence.
     pub fn meaning(self) -> &'static str {
         match self {
             Ground::NoSuchSource => "the source's number is not below the count of sources",
@@ -95,6 +112,7 @@ impl Ground {
         }
     }
 
+    /// Who caused it.
     pub fn cause(self) -> Cause {
         match self.number() {
             1..=5 => Cause::Orders,
@@ -111,13 +129,58 @@ impl fmt::Display for Ground {
     }
 }
 
+/// Where a refusal was met: what is known of it.
+#[derive(Clone, Debug, Default, PartialEq, Eq)]
+pub struct Place {
+    /// The column of a batch, by its name.
+    pub column: Option<String>,
+    /// The source, counted from 0.
+    pub source: Option<usize>,
+    /// The node of the source in depth-first order, the root being 0.
+    pub node: Option<usize>,
+    /// The order, counted from 1, refused ones included.
+    pub order: Option<usize>,
+    /// What was found, and what is allowed.
+    pub found: String,
+}
+
+impl fmt::Display for Place {
+    fn fmt(&self, f: &mut fmt::Formatter) -> fmt::Result {
+        let mut words = vec![];
+        words.extend(self.column.as_ref().map(|name| format!("column `{name}`")));
+        words.extend(self.source.map(|s| format!("source {s}")));
+        words.extend(self.node.map(|k| format!("node {k}")));
+        words.extend(self.order.map(|k| format!("order {k}")));
+        f.write_str(&words.join(", "))?;
+        f.write_str(if words.is_empty() || self.found.is_empty() { "" } else { ": " })?;
+        f.write_str(&self.found)
+    }
+}
+
+/// Why something was not done.
 #[derive(Clone, Debug, PartialEq, Eq)]
 #[non_exhaustive]
 pub enum Error {
     /// The call was refused, and changed nothing.
     Refused(Ground),
+    /// The same, where the place is known.
+    RefusedAt(Ground, Box<Place>),
+    /// An order that could take very long: more rows than the limit may be walked at a node.
+    TooMuchWork {
+        /// The node, in depth-first order.
+        node: usize,
+        /// So many rows at most, for all orders so far and this one.
+        bound: u64,
+        /// The limit.
+        limit: u64,
+    },
     /// The body, or the body with the joined column, would have more bytes than positions of 32 bits reach.
-    TooLarge { bytes: u64 },
+    TooLarge {
+        /// So many bytes.
+        bytes: u64,
+    },
+    /// A file can't be read or written, or is not what it says.
+    File(String),
     /// The column's own description can't be laid, imported or built.
     Column(String),
     /// Two answers of the library do not fit together. This is a mistake of the library or of this binding.
@@ -136,8 +199,28 @@ impl Error {
     /// The ground, where the library refused.
     pub fn ground(&self) -> Option<Ground> {
         match self {
-            Error::Refused(ground) => Some(*ground),
+            Error::Refused(ground) | Error::RefusedAt(ground, _) => Some(*ground),
             _ => None,
+        }
+    }
+
+    /// Where it was refused, as far as that is known.
+    pub fn place(&self) -> Option<&Place> {
+        match self {
+            Error::RefusedAt(_, place) => Some(place),
+            _ => None,
+        }
+    }
+
+    /// The same error with more of its place.
+    pub(crate) fn at(self, more: impl FnOnce(&mut Place)) -> Error {
+        match self {
+            Error::Refused(ground) => Error::RefusedAt(ground, Box::default()).at(more),
+            Error::RefusedAt(ground, mut place) => {
+                more(&mut place);
+                Error::RefusedAt(ground, place)
+            }
+            other => other,
         }
     }
 }
@@ -146,8 +229,12 @@ impl fmt::Display for Error {
     fn fmt(&self, f: &mut fmt::Formatter) -> fmt::Result {
         match self {
             Error::Refused(ground) => write!(f, "refused, {ground}"),
+            Error::RefusedAt(ground, place) => write!(f, "refused, {ground}; {place}"),
+            Error::TooMuchWork { node, bound, limit } => {
+                write!(f, "up to {bound} rows would be walked at node {node}, and the limit is {limit}: join fewer rows, or set a higher limit")
+            }
             Error::TooLarge { bytes } => write!(f, "{bytes} bytes are needed, and positions of 32 bits reach 4294967295: join fewer rows at a time"),
-            Error::Column(why) => f.write_str(why),
+            Error::Column(why) | Error::File(why) => f.write_str(why),
             Error::Inconsistent(why) => write!(f, "a mistake of the library: {why}"),
         }
     }

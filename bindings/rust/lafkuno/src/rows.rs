@@ -1,19 +1,24 @@
 //! How a row is read, written from the Arrow Columnar Format over owned columns.
 
-use crate::types::Kind;
+use crate::types::{storage, Kind};
 use crate::{Column, Type};
 
 /// A row. Floats are equal when their bits are; a dictionary's row is the stored bytes of its entry.
 #[derive(Clone, Debug, PartialEq, Eq, Hash, PartialOrd, Ord)]
 pub enum Row {
+    /// No value.
     Null,
+    /// A whole number.
     Whole(i128),
     /// An f32, by its bits.
     Single(u32),
     /// An f64, by its bits.
     Double(u64),
+    /// The bytes of a string, or of a dictionary's entry.
     Bytes(Vec<u8>),
+    /// The rows of a list.
     List(Vec<Row>),
+    /// The row of the union's field with this id.
     Union(u8, Box<Row>),
 }
 
@@ -42,7 +47,7 @@ impl Column {
             Kind::Fixed => {
                 let p = entry(self.buffers.first()?, slot, w)?;
                 let signed = (p << (64 - 8 * w)) as i64 >> (64 - 8 * w);
-                Some(match self.format.as_str() {
+                Some(match storage(&self.format) {
                     "f" => Row::Single(p as u32),
                     "g" => Row::Double(p),
                     "C" | "S" | "I" | "L" => Row::Whole(p as i128),

@@ -1,36 +1,43 @@
 //! Columns and orders as text (docs/USING.md), and rows as text.
 
 use crate::build::shape;
+pub use crate::orders::{read_orders, Orders, Trip};
 pub use crate::values::{rows, show};
 use crate::{Column, Row, Type};
 
 /// An order, with the line that gives it.
 #[derive(Clone, Debug, PartialEq, Eq)]
 pub struct Order {
+    /// Its line.
     pub line: usize,
+    /// The line itself.
     pub text: String,
+    /// What it asks for.
     pub what: What,
 }
 
-#[derive(Clone, Debug, PartialEq, Eq)]
-pub enum What {
-    Copy { source: usize, start: u64, end: u64 },
-    Nulls(u64),
-}
+/// What an order asks for.
+pub use crate::Order as What;
 
 /// What a file describes: columns of one type, and orders.
 #[derive(Clone, Debug)]
 pub struct Description {
+    /// The type of all sources.
     pub ty: Type,
+    /// Whether orders of nulls are taken even where no source has one.
     pub keep_nulls: bool,
+    /// The sources with their names.
     pub sources: Vec<(String, Column)>,
+    /// The orders.
     pub orders: Vec<Order>,
 }
 
 /// A mistake of the text, by its line.
 #[derive(Clone, Debug, PartialEq, Eq)]
 pub struct Mistake {
+    /// The line, counted from 1.
     pub line: usize,
+    /// What is wrong.
     pub what: String,
 }
 
@@ -42,13 +49,14 @@ impl std::fmt::Display for Mistake {
 
 impl std::error::Error for Mistake {}
 
-fn range(text: &str) -> Option<(u64, u64)> {
+/// Rows as text: START..END.
+pub fn range(text: &str) -> Option<(u64, u64)> {
     let (a, b) = text.split_once("..")?;
     Some((a.trim().parse().ok()?, b.trim().parse().ok()?))
 }
 
 /// The line without a comment: a `#` outside of bytes begins one.
-fn without_comment(line: &str) -> &str {
+pub(crate) fn without_comment(line: &str) -> &str {
     let (mut quoted, mut escaped) = (false, false);
     for (at, c) in line.char_indices() {
         match c {
@@ -68,8 +76,9 @@ struct File {
     share: bool,
     names: Vec<String>,
     rows: Vec<Vec<Row>>,
+    /// Each line of rows: its number, its source, and how many rows that source then has.
+    fills: Vec<(usize, usize, usize)>,
     slices: Vec<Option<(u64, u64, usize)>>,
-    lines: Vec<usize>,
     orders: Vec<Order>,
 }
 
@@ -94,11 +103,14 @@ impl File {
                 self.names.push(rest.into());
                 self.rows.push(vec![]);
                 self.slices.push(None);
-                self.lines.push(number);
             }
             "rows" => {
                 let ty = self.ty.as_ref().ok_or("the type stands before the first rows")?;
-                self.rows.last_mut().ok_or("`source NAME` stands before its rows")?.extend(rows(ty, rest)?);
+                let all = self.rows.last_mut().ok_or("`source NAME` stands before its rows")?;
+                let more = rows(ty, rest)?;
+                Column::build(ty, &more).map_err(|e| e.to_string())?;
+                all.extend(more);
+                self.fills.push((number, self.rows.len() - 1, self.rows.last().map_or(0, Vec::len)));
             }
             "slice" => {
                 let (a, b) = range(rest).filter(|(a, b)| a <= b).ok_or("a slice is START..END, START not above END")?;
@@ -123,8 +135,18 @@ impl File {
     fn describe(self, last: usize) -> Result<Description, Mistake> {
         let mistake = |line: usize, what: String| Mistake { line, what };
         let ty = self.ty.ok_or_else(|| mistake(last, "no type is given: type FORMAT".into()))?;
-        let rows: Vec<&[Row]> = self.rows.iter().map(|r| &r[..]).collect();
-        let columns = Column::build_all(&ty, &rows, self.share).map_err(|e| mistake(self.lines.first().copied().unwrap_or(last), e.to_string()))?;
+        // the sources as the first n lines of rows make them
+        let build = |n: usize| {
+            let count = |s: usize| self.fills[..n].iter().rev().find(|f| f.1 == s).map_or(0, |f| f.2);
+            let rows: Vec<&[Row]> = self.rows.iter().enumerate().map(|(s, r)| &r[..count(s)]).collect();
+            Column::build_all(&ty, &rows, self.share)
+        };
+        // rows that fit line by line may be too many together: the first line that is too much is told
+        let columns = build(self.fills.len()).map_err(|e| {
+            let lines: Vec<usize> = (1..=self.fills.len()).collect();
+            let first = lines.partition_point(|n| build(*n).is_ok());
+            mistake(self.fills.get(first).map_or(last, |f| f.0), e.to_string())
+        })?;
         let mut sources = vec![];
         for ((name, column), slice) in self.names.into_iter().zip(columns).zip(self.slices) {
             let column = match slice {
@@ -135,6 +157,21 @@ impl File {
         }
         Ok(Description { ty, keep_nulls: self.keep, sources, orders: self.orders })
     }
+}
+
+/// The text, or the line that is not UTF-8.
+pub(crate) fn utf8(bytes: &[u8]) -> Result<&str, Mistake> {
+    std::str::from_utf8(bytes).map_err(|e| {
+        let before = &bytes[..e.valid_up_to()];
+        let line = 1 + before.iter().filter(|b| **b == b'\n').count();
+        let column = before.iter().rev().take_while(|b| **b != b'\n').count();
+        Mistake { line, what: format!("byte {} of the line is not UTF-8; write it as \\x{:02x}", column + 1, bytes[before.len()]) }
+    })
+}
+
+/// Reads a description of columns and orders: UTF-8.
+pub fn read_bytes(bytes: &[u8]) -> Result<Description, Mistake> {
+    read(utf8(bytes)?)
 }
 
 /// Reads a description of columns and orders.
@@ -188,14 +225,18 @@ mod tests {
             ("type +vl", 1),
             ("type +r(i)", 1),
             ("type i\nsource a\nrows 1 x", 3),
-            ("type i\nsource a\nrows null", 2),
+            ("type i\nsource a\nrows null", 3),
+            ("type i\nsource a\nrows 1\n\nrows 2\nsource b\nrows 3 99999999999", 7),
+            ("type +r(s, i)\nsource a\nrows 30000*1\nsource b\nrows 9\nrows 32767*2\nrows 5", 6),
+            ("type +r(s, i)\nsource a\nrows 32767*1\nrows 5 6\nrows 7", 4),
             ("type i\nsource a\nrows 1\nslice 0..2", 4),
             ("type i\nsource a\ncopy b 0..1", 3),
-            ("type c\nsource a\nrows 128", 2),
+            ("type c\nsource a\nrows 128", 3),
             ("source a", 1),
             ("# nothing", 1),
         ] {
             assert_eq!(read(text).unwrap_err().line, line, "{text}");
         }
+        assert_eq!(read_bytes(b"type u\nsource a\nrows \"a\xff\"").unwrap_err().line, 3);
     }
 }

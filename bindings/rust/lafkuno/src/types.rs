@@ -8,10 +8,25 @@ use std::str::FromStr;
 /// A type tree.
 #[derive(Clone, Debug, PartialEq, Eq)]
 pub struct Type {
+    /// The format string of the Arrow C Data Interface.
     pub format: String,
+    /// Whether it may hold nulls.
     pub nullable: bool,
+    /// The types of its children.
     pub children: Vec<Type>,
+    /// The type of a dictionary's values.
     pub dictionary: Option<Box<Type>>,
+}
+
+/// The format that a logical type is stored as: dates, times, timestamps and durations are integers, half floats 16 bits.
+pub fn storage(format: &str) -> &str {
+    match format {
+        "tdD" | "tts" | "ttm" => "i",
+        "tdm" | "ttu" | "ttn" | "tDs" | "tDm" | "tDu" | "tDn" => "l",
+        "e" => "S",
+        f if ["tss:", "tsm:", "tsu:", "tsn:"].iter().any(|p| f.starts_with(p)) => "l",
+        f => f,
+    }
 }
 
 impl Type {
@@ -21,7 +36,7 @@ impl Type {
 
     /// The bytes of a number or of an offset.
     pub(crate) fn width(&self) -> usize {
-        match self.format.as_str() {
+        match storage(&self.format) {
             "c" | "C" => 1,
             "s" | "S" => 2,
             "i" | "I" | "f" | "z" | "u" | "+vl" => 4,
@@ -31,7 +46,7 @@ impl Type {
     }
 
     pub(crate) fn kind(&self) -> Kind {
-        match self.format.as_str() {
+        match storage(&self.format) {
             _ if self.dictionary.is_some() => Kind::Dictionary,
             "c" | "C" | "s" | "S" | "i" | "I" | "l" | "L" | "f" | "g" => Kind::Fixed,
             "z" | "u" | "Z" | "U" => Kind::Strings,
@@ -110,6 +125,9 @@ impl Parser<'_> {
         let rest = self.rest();
         let len = if rest.starts_with("+us:") || rest.starts_with("+ud:") {
             4 + rest[4..].find(|c: char| !c.is_ascii_digit() && c != ',').unwrap_or(rest.len() - 4)
+        } else if rest.starts_with("ts") {
+            // a time zone stands behind the colon
+            rest.find(|c: char| c.is_whitespace() || "?[](),".contains(c)).unwrap_or(rest.len())
         } else {
             rest.find(|c: char| !c.is_ascii_alphanumeric() && c != '+').unwrap_or(rest.len())
         };

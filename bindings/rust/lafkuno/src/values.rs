@@ -1,6 +1,7 @@
 //! Rows as text (docs/USING.md).
 
 use crate::build::shape;
+use crate::types::storage;
 use crate::{Column, Row, Type};
 use std::fmt::Write;
 
@@ -108,7 +109,7 @@ impl<'a> Values<'a> {
             return Ok(Row::Union(id, Box::new(self.value(&ty.children[c])?)));
         }
         let bits = word.strip_prefix("0x").map(|hex| u64::from_str_radix(hex, 16));
-        match ty.format.as_str() {
+        match storage(&ty.format) {
             "f" => match bits {
                 Some(bits) => bits.ok().and_then(|b| u32::try_from(b).ok()).map(Row::Single),
                 None => word.parse::<f32>().ok().map(|x| Row::Single(x.to_bits())),

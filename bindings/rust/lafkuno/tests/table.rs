@@ -207,3 +207,90 @@ fn grounds_of_the_opening() {
     let backwards = 1..0;
     assert_eq!(ground(Join::open(&[&good], true).unwrap().copy(0, backwards)), 2);
 }
+
+fn told<T>(answer: Result<T, Error>) -> String {
+    answer.err().map_or(String::new(), |e| e.to_string())
+}
+
+#[test]
+fn refusals_say_where() {
+    let good = strings(&["a"]);
+    let lists = |size: i32| {
+        let child = fixed("i", ints(&[0; 10]), 10);
+        Column { format: "+vl".into(), length: 1, buffers: vec![ints(&[4]), ints(&[size])], children: vec![child], ..Column::default() }
+    };
+    for (answer, due) in [
+        (Join::open(&[&lists(6), &lists(6), &lists(7)], false), "source 2, node 0: row 0 has offset 4 and size 7, and the child has 10 rows"),
+        (Join::open(&[&good, &Column { length: 2, ..good.clone() }], false), "source 1, node 0: buffer 1 has 8 bytes, and 2 slots need 12"),
+        (Join::open(&[&good, &Column { format: "q".into(), ..good.clone() }], false), "source 1, node 0: the format `q` is not taken"),
+        (Join::open(&[&good; 17], false), "17 sources, and 1 to 16 are taken"),
+        (
+            Join::open(&[&good, &Column { format: "z".into(), ..good.clone() }], false),
+            "source 1, node 0: `z`, nullable, and source 0 has `u`, nullable",
+        ),
+        (
+            Join::open(&[&keys("C", &[], 200), &keys("C", &[55], 57)], false),
+            "node 0: dictionaries of [200, 57] entries, and keys of format `C` name 2^8",
+        ),
+    ] {
+        let told = told(answer);
+        assert!(told.ends_with(due), "{told}");
+    }
+    let times = |format: &str| fixed(format, numbers(&[5i64], i64::to_le_bytes), 1);
+    let answer = Join::open(&[&times("tsu:UTC"), &times("tsu:")], false);
+    assert_eq!(ground(Join::open(&[&times("tsu:UTC"), &times("tsu:")], false)), 11);
+    assert!(told(answer).ends_with("source 1, node 0: `tsu:`, and source 0 has `tsu:UTC`"));
+    let mut join = Join::open(&[&good], true).unwrap();
+    join.copy(0, 0..1).unwrap();
+    assert!(told(join.copy(0, 1..5)).ends_with("order 2: rows 1..5 of source 0, which has 1, behind 1 rows"));
+    assert!(told(join.copy(3, 0..0)).ends_with("order 3: rows 0..0 of source 3, and there are 1 sources"));
+}
+
+// Lists whose rows each span the whole child, nested: the rows are those times those.
+fn spans(levels: usize, rows: i32) -> Column {
+    let mut column = fixed("i", ints(&vec![7; rows as usize]), rows as u64);
+    for _ in 0..levels {
+        let (offsets, sizes) = (ints(&vec![0; rows as usize]), ints(&vec![rows; rows as usize]));
+        column = Column { format: "+vl".into(), length: rows as u64, buffers: vec![offsets, sizes], children: vec![column], ..Column::default() };
+    }
+    column
+}
+
+#[test]
+fn work_is_bounded() {
+    let column = spans(5, 1000);
+    let mut join = Join::open(&[&column], false).unwrap();
+    let start = std::time::Instant::now();
+    assert_eq!(join.copy(0, 0..1000), Err(Error::TooMuchWork { node: 3, bound: 1_000_000_000_000, limit: 1 << 32 }));
+    assert_eq!(join.len(), 0);
+    assert!(start.elapsed().as_secs() < 5);
+    let mut join = Join::open(&[&spans(1, 1000)], false).unwrap();
+    join.limit_work(5000);
+    join.copy(0, 0..5).unwrap();
+    assert_eq!(join.copy(0, 5..6), Err(Error::TooMuchWork { node: 1, bound: 6000, limit: 5000 }));
+    // one long list among short ones is counted, not multiplied
+    let mut sizes = vec![1; 1000];
+    sizes[500] = 900;
+    let uneven = Column { buffers: vec![ints(&[0; 1000]), ints(&sizes)], ..spans(1, 1000) };
+    let mut join = Join::open(&[&uneven], false).unwrap();
+    join.limit_work(5000);
+    join.copy(0, 0..1000).unwrap();
+    assert_eq!(join.copy(0, 500..505), Ok(()));
+    assert_eq!(join.copy(0, 0..1000), Ok(()));
+    assert_eq!(join.copy(0, 0..1000), Err(Error::TooMuchWork { node: 1, bound: 6601, limit: 5000 }));
+}
+
+#[test]
+fn logical_types_travel_as_their_storage() {
+    for (format, w) in [("tdD", 4), ("tdm", 8), ("tts", 4), ("ttm", 4), ("ttu", 8), ("ttn", 8), ("tsn:Europe/Berlin", 8), ("tDu", 8), ("e", 2)] {
+        let bytes: Vec<u8> = (0..3 * w).map(|b| b as u8).collect();
+        let column = fixed(format, bytes.clone().into(), 3);
+        let mut join = Join::open(&[&column], true).unwrap();
+        join.copy(0, 1..3).unwrap();
+        join.nulls(1).unwrap();
+        let joined = join.finish().unwrap().column;
+        assert_eq!(joined.format, format);
+        assert_eq!(joined.buffers[0][..2 * w], bytes[w..]);
+        assert_eq!(joined.null_count(), 1);
+    }
+}

@@ -239,6 +239,7 @@ impl Trial<'_> {
             places: places.get().to_vec(),
             buffers: buffers.get().to_vec(),
             body: body.into(),
+            ..Lent::default()
         };
         let column = again.source(0).ok_or("the finished tables name bytes that are not there")?;
         // the data buffers of all sources can be more than a source may have

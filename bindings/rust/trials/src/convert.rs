@@ -66,9 +66,9 @@ pub struct Convert {
 impl Convert {
     fn buffer(&mut self, buffer: &lafkuno::Buffer, w: usize) -> Buffer {
         let len = buffer.len() / w * w;
-        let (bytes, start) = buffer.whole();
+        let (bytes, start) = buffer.whole().map_or_else(Default::default, |(bytes, start)| (bytes.clone(), start));
         if (buffer.as_ptr() as usize).is_multiple_of(16) || buffer.is_empty() {
-            return Buffer::new(bytes.clone(), start, len);
+            return Buffer::new(bytes, start, len);
         }
         let moved = self.moved.entry(buffer.as_ptr()).or_insert_with(|| Arc::new(bytes[start..].to_vec())).clone();
         Buffer::new(moved, 0, len)
@@ -140,7 +140,7 @@ pub fn difference(column: &Column, array: &ArrayData, kept: &Column, base: usize
 
 /// Whether a dictionary's values stand before the room.
 pub fn is_kept(values: &Column, base: usize) -> bool {
-    values.buffers.first().is_some_and(|b| b.whole().1 < base)
+    values.buffers.first().is_some_and(|b| b.whole().is_some_and(|w| w.1 < base))
 }
 
 /// What an ordered null reads as: the first nullable field's id with its null at a union, the value's at a run-end node.

@@ -165,6 +165,12 @@ pub fn damaged(seed: u64, answers: &mut Answers) -> Result<(), String> {
         let before = memory.picture();
         let answer = memory.check(call, answers).map_err(describe)?;
         match call {
+            Call::Plan(_) if [9, 10, 11, 12].contains(&answer) => {
+                let error = Join::open_lent(memory.lent(), keep).err().ok_or_else(|| describe("opened all the same".into()))?;
+                same("the ground", error.ground().map(|g| g.number()), Some(answer)).map_err(describe)?;
+                let told = error.place().is_some_and(|p| !p.found.is_empty());
+                same(&format!("a place for: {error}"), told, true).map_err(describe)?;
+            }
             Call::Plan(_) if answer == 0 => accepted(memory.lent(), keep).map_err(|e| describe(format!("accepted: {e}")))?,
             Call::MeasureOpen | Call::MeasureCopy(..) | Call::MeasureNulls(_) => memory.restore(&before),
             _ => {}

@@ -4,8 +4,15 @@ pub mod compare;
 pub mod convert;
 pub mod cut;
 pub mod damage;
+pub mod files;
 pub mod generate;
 pub mod guard;
 pub mod memory;
+pub mod passage;
 pub mod random;
 pub mod wider;
+
+/// The examples of docs/USING.md.
+#[cfg(doctest)]
+#[doc = include_str!("../../../../docs/USING.md")]
+struct Using;

@@ -113,6 +113,7 @@ impl Memory {
             places: self.places.get().to_vec(),
             buffers: self.buffers.get().to_vec(),
             body: self.body.get().to_vec().into(),
+            ..Lent::default()
         }
     }
 

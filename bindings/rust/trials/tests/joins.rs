@@ -51,6 +51,12 @@ fn stored_wider_the_rows_are_the_same() {
 }
 
 #[test]
+fn slices_pass_the_c_data_interface() {
+    let accepted = (1..=500).filter(|seed| trials::passage::passage(*seed).unwrap()).count();
+    assert!(400 < accepted);
+}
+
+#[test]
 fn damage_stays_inside() {
     let mut answers = trials::damage::Answers::new();
     for seed in 1..=500 {

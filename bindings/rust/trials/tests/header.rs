@@ -5,7 +5,7 @@ use lafkuno::Ground;
 use std::collections::BTreeMap;
 
 const HEADER: &str = include_str!("../../../../include/lafkuno.h");
-const RUST: &str = include_str!("../src/calls.rs");
+const RUST: &str = include_str!("../../lafkuno/src/calls.rs");
 const RATTLE: &str = include_str!("../../../../crates/lafkuno/src/lib.rt");
 
 /// Name, parameters as (type, name), answer.

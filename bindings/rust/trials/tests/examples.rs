@@ -1,10 +1,17 @@
 //! The examples of the repository, run by the command.
 
+use std::path::PathBuf;
 use std::process::{Command, Output};
+
+/// The command, which stands beside the directory of this test's program.
+fn command() -> PathBuf {
+    let here = std::env::current_exe().unwrap();
+    here.parent().unwrap().parent().unwrap().join("lafkuno")
+}
 
 fn run(arguments: &[&str]) -> Output {
     let examples = concat!(env!("CARGO_MANIFEST_DIR"), "/../../../examples");
-    Command::new(env!("CARGO_BIN_EXE_lafkuno")).current_dir(examples).args(arguments).output().unwrap()
+    Command::new(command()).current_dir(examples).args(arguments).output().unwrap()
 }
 
 fn text(bytes: &[u8]) -> &str {
@@ -49,19 +56,12 @@ fn a_refusal_is_told() {
 }
 
 #[test]
-fn mistakes_are_told() {
-    for arguments in [&["join"][..], &["join", "no-such-file"], &["join", "--bufers", "van.join"], &["van.c"], &["join", "van.c"]] {
-        let output = run(arguments);
-        assert_eq!(output.status.code(), Some(2));
-        assert!(output.stdout.is_empty() && !output.stderr.is_empty());
+fn the_nulls_of_the_summary_are_those_printed() {
+    for file in ["van.join", "runs.join", "stops.join", "towns.join", "events.join"] {
+        let output = run(&["join", file]);
+        let printed = text(&output.stdout).lines().filter(|l| l.rsplit(':').next() == Some("null")).count();
+        assert!(text(&output.stderr).contains(&format!("{printed} nulls\n")), "{file}: {}", text(&output.stderr));
     }
-}
-
-#[test]
-fn the_demo_books_two_kilometres() {
-    let output = run(&["demo"]);
-    assert!(text(&output.stdout).contains("Booked on the trip: 2000 m, 270 ml."));
-    assert!(output.status.success());
 }
 
 // docs/USING.md shows lines of the C example.
