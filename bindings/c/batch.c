@@ -66,7 +66,7 @@ static int check_columns_taken(struct batch *batch) {
     }
     if (first < 0) return 0;
     batch->report->error->column = first;
-    int code = refuse(batch->report, LAFKUNO_UNKNOWN_TYPE, NULL);
+    int code = refuse_plainly(batch->report, LAFKUNO_UNKNOWN_TYPE);
     snprintf(batch->report->error->message, LAFKUNO_MESSAGE, "columns of types that are not taken: %s (ground %d)", names, code);
     return code;
 }

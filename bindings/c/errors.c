@@ -56,7 +56,7 @@ void at_order(struct report *report, int64_t number, const struct lafkuno_order 
 }
 
 /* Adds to the message, as far as it has room. */
-static void say(struct report *report, const char *text, ...) {
+LIKE_PRINTF(2, 3) static void say(struct report *report, const char *text, ...) {
     char *message = report->error->message;
     size_t used = strlen(message);
     va_list values;
@@ -103,20 +103,18 @@ int refuse(struct report *report, int code, const char *text, ...) {
     error->code = code;
     error->message[0] = 0;
     say_place(report);
-    if (text) {
-        size_t used = strlen(error->message);
-        va_list values;
-        va_start(values, text);
-        vsnprintf(error->message + used, LAFKUNO_MESSAGE - used, text, values);
-        va_end(values);
-    } else {
-        say(report, "%s", lafkuno_meaning(code));
-    }
+    size_t used = strlen(error->message);
+    va_list values;
+    va_start(values, text);
+    vsnprintf(error->message + used, LAFKUNO_MESSAGE - used, text, values);
+    va_end(values);
     if (code < LAFKUNO_NO_MEMORY) say(report, " (ground %d)", code);
     return code;
 }
 
-int refuse_memory(struct report *report) { return refuse(report, LAFKUNO_NO_MEMORY, NULL); }
+int refuse_plainly(struct report *report, int code) { return refuse(report, code, "%s", lafkuno_meaning(code)); }
+
+int refuse_memory(struct report *report) { return refuse_plainly(report, LAFKUNO_NO_MEMORY); }
 
 int refuse_above(struct report *report, int code, uint64_t found, uint64_t allowed, const char *what) {
     report->error->found = found;

@@ -1,13 +1,26 @@
 /* The finished ArrowArray: its nodes own the room, and the body where they name it. */
+#define _DEFAULT_SOURCE /* madvise */
 #include "layer.h"
 
 #include <stdatomic.h>
 #include <stdlib.h>
 #include <string.h>
+#ifdef __linux__
+#include <sys/mman.h>
+#endif
+
+/* New memory costs more than copying into it, and less in large pages. */
+enum { PAGE = 1 << 21 };
 
 void *allocate_lines(uint64_t bytes) {
-    if (bytes > SIZE_MAX - 2 * LINE) return NULL;
-    return aligned_alloc(LINE, ((size_t)bytes + LINE - 1) / LINE * LINE + (bytes ? 0 : LINE));
+    size_t unit = bytes < 2 * PAGE ? LINE : PAGE;
+    if (bytes > SIZE_MAX - 2 * PAGE) return NULL;
+    size_t size = bytes ? ((size_t)bytes + unit - 1) / unit * unit : unit;
+    void *memory = aligned_alloc(unit, size);
+#ifdef MADV_HUGEPAGE
+    if (memory && unit == PAGE) madvise(memory, size, MADV_HUGEPAGE);
+#endif
+    return memory;
 }
 
 /* ---- owners */

@@ -72,10 +72,12 @@ bool union_children(const char *format, int8_t child_of[256]) {
 
 int64_t number_at(const void *from, uint64_t index, unsigned width) {
     const uint8_t *at = (const uint8_t *)from + index * width;
+    int8_t one;
     int16_t two;
     int32_t four;
     int64_t eight;
     switch (width) {
+        case 1: memcpy(&one, at, 1); return one;
         case 2: memcpy(&two, at, 2); return two;
         case 4: memcpy(&four, at, 4); return four;
         default: memcpy(&eight, at, 8); return eight;

@@ -17,6 +17,7 @@ static void *carve(uint8_t *block, size_t *used, size_t count, size_t size) {
 static size_t carve_all(struct import *t, uint8_t *block, size_t sources, const struct shape *shape) {
     size_t used = 0, nodes = (size_t)shape->nodes, data = (size_t)shape->data_buffers;
     t->lengths = carve(block, &used, 2 * nodes, sizeof *t->lengths);
+    t->firsts = carve(block, &used, nodes, sizeof *t->firsts);
     t->schemas = carve(block, &used, nodes, sizeof *t->schemas);
     t->rewrites = carve(block, &used, nodes, sizeof *t->rewrites);
     t->spreads = carve(block, &used, nodes, sizeof *t->spreads);
@@ -50,6 +51,15 @@ struct lafkuno_tables import_tables(const struct import *t) {
     return (struct lafkuno_tables){
         t->sources, 2 * t->source_count, t->formats, t->formats_len,      t->schema, 5 * t->node_count, t->lengths, 2 * t->node_count,
         t->places,  9 * t->node_count,   t->buffers, 2 * t->buffer_count, t->body,   (size_t)t->body_len};
+}
+
+uint32_t subtree_end(const struct import *import, uint32_t node) {
+    uint32_t due = 1;
+    while (due) {
+        const uint32_t *schema = import->schema + 5 * node++;
+        due += schema[3] + schema[4] - 1;
+    }
+    return node;
 }
 
 /* ---- stretches of memory */
@@ -151,6 +161,7 @@ static int import_node(struct import *import, const struct ArrowSchema *s, const
     if (window.rows) node.offset = (uint64_t)a->offset + window.first;
     if (node.format.kind != RUNS) node.cut = node.offset / 8 * 8;
     import_schema(import, &node);
+    import->firsts[node.index] = window.first;
     import->lengths[2 * node.index] = node.rows;
     import->lengths[2 * node.index + 1] = node.offset - node.cut;
     int code = import_validity(import, &node, import->places + 9 * node.index);

@@ -6,16 +6,6 @@
 
 /* ---- refused sources */
 
-/* One past the last node of the subtree of a node. */
-static uint32_t subtree_end(const struct import *import, uint32_t node) {
-    uint32_t due = 1;
-    while (due) {
-        const uint32_t *schema = import->schema + 5 * node++;
-        due += schema[3] + schema[4] - 1;
-    }
-    return node;
-}
-
 static uint8_t subtree_ground(const struct column *column, uint32_t node) {
     return lafkuno_tables_ground(&column->tables, node, subtree_end(&column->import, node) - node);
 }
@@ -45,10 +35,10 @@ static int refuse_sources(struct column *column, int code) {
         uint32_t node = refused_node(column, first);
         at_source(column->report, s);
         at_node(column->report, node - first, import->schemas[node]);
-        return refuse(column->report, ground, NULL);
+        return ground == LAFKUNO_BAD_SOURCE ? refuse_node(import, node) : refuse_plainly(column->report, ground);
     }
     at_source(column->report, -1);
-    return refuse(column->report, code, NULL);
+    return refuse_plainly(column->report, code);
 }
 
 /* ---- orders */
@@ -65,27 +55,35 @@ static uint8_t give_order(struct column *column, const struct lafkuno_order *ord
                    : lafkuno_state_copy(state, &column->tables, order->source, order->start, order->end);
 }
 
+/* Whether a node can be the cause of 6, 7 or 8. */
+static bool may_cause(const struct ArrowSchema *schema, int ground) {
+    enum kind kind = format_of(storage_of(schema->format)).kind;
+    if (ground == LAFKUNO_TOO_MANY_ENTRIES) return schema->dictionary != NULL;
+    if (ground == LAFKUNO_RUN_END_TOO_LARGE) return kind == RUNS;
+    return ground == LAFKUNO_OFFSET_TOO_LARGE && (kind == STRING || kind == LIST_VIEW || kind == DENSE);
+}
+
+/* The calls tell no node: it is known where only one can be the cause. */
+static int refuse_data(struct column *column, int ground) {
+    const struct import *import = &column->import;
+    uint32_t found = 0, at = 0;
+    for (uint32_t node = 0; node < import->sources[1]; node++)
+        if (may_cause(import->schemas[node], ground)) {
+            found++;
+            at = node;
+        }
+    if (found == 1) at_node(column->report, at, import->schemas[at]);
+    return refuse_plainly(column->report, ground);
+}
+
 static int give_orders(struct column *column, const struct task *task, bool measure) {
     for (size_t k = 0; k < task->order_count; k++) {
         uint8_t ground = give_order(column, &task->orders[k], measure);
         if (!ground) continue;
         at_order(column->report, (int64_t)k, &task->orders[k]);
-        return refuse(column->report, ground, NULL);
+        return refuse_data(column, ground);
     }
     return 0;
-}
-
-/* An opening is refused for a dictionary; which one is known where there is one only. */
-static int refuse_opening(struct column *column, int code) {
-    const struct import *import = &column->import;
-    uint32_t found = 0, at = 0;
-    for (uint32_t node = 0; node < import->sources[1]; node++)
-        if (import->schema[5 * node + 4]) {
-            found++;
-            at = node;
-        }
-    if (found == 1) at_node(column->report, at, import->schemas[at]);
-    return refuse(column->report, code, NULL);
 }
 
 /* ---- a column */
@@ -134,7 +132,7 @@ int column_prepare(struct column *column, struct report *report, const struct la
     code = bound_rows(&column->import, task->orders, task->order_count, task->most_rows);
     if (code) return code;
     ground = lafkuno_state_measure_open(&column->state, &column->tables);
-    if (ground) return refuse_opening(column, ground);
+    if (ground) return refuse_data(column, ground);
     return give_orders(column, task, true);
 }
 
@@ -159,7 +157,7 @@ static int finish_tables(struct column *column, struct lafkuno_finished *tables)
     uint8_t ground = lafkuno_state_finish(&column->state, &column->tables, 0, tables);
     if (!ground) return 0;
     free(block);
-    return refuse(column->report, ground, NULL);
+    return refuse_plainly(column->report, ground);
 }
 
 int column_finish(struct column *column, const struct task *task, struct ArrowArray *array) {
@@ -167,7 +165,7 @@ int column_finish(struct column *column, const struct task *task, struct ArrowAr
     int code = lend_room(column);
     if (code) return code;
     uint8_t ground = lafkuno_state_open(&column->state, &column->tables, column->keep);
-    if (ground) return refuse(column->report, ground, NULL);
+    if (ground) return refuse_plainly(column->report, ground);
     code = give_orders(column, task, false);
     if (!code) code = finish_tables(column, &finished.tables);
     if (code) return code;

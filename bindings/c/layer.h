@@ -3,7 +3,7 @@
  *   import.c    fills the tables of every source with the window that its slice reaches (windows.c: of children and data buffers)
  *   lay.c       copies the windows into one body, memory that is shared once
  *   bound.c     the most rows that the orders can come to
- *   join.c      the calls of lafkuno.h
+ *   join.c      the calls of lafkuno.h (diagnose.c: which row of a source is refused)
  *   export.c    the finished ArrowArray; schema.c its type */
 #ifndef LAFKUNO_LAYER_H
 #define LAFKUNO_LAYER_H
@@ -11,6 +11,12 @@
 #include <lafkuno_arrow.h>
 #include <lafkuno_tables.h>
 #include <stdbool.h>
+
+#ifdef __GNUC__
+#define LIKE_PRINTF(text, values) __attribute__((format(printf, text, values)))
+#else
+#define LIKE_PRINTF(text, values)
+#endif
 
 typedef lafkuno_position position;
 
@@ -51,8 +57,10 @@ struct report {
 
 /* No place yet. `spare` is written where the caller wants no error. */
 struct report report_to(struct lafkuno_error *error, struct lafkuno_error *spare);
-/* Writes the error, and answers its code. A text of NULL is the code's meaning. */
-int refuse(struct report *report, int code, const char *text, ...);
+/* Writes the error, and answers its code. */
+LIKE_PRINTF(3, 4) int refuse(struct report *report, int code, const char *text, ...);
+/* The same in the words of lafkuno_meaning. */
+int refuse_plainly(struct report *report, int code);
 int refuse_memory(struct report *report);
 /* The same, with what was found and the most that is allowed. */
 int refuse_above(struct report *report, int code, uint64_t found, uint64_t allowed, const char *what);
@@ -127,6 +135,7 @@ struct import {
     const struct ArrowSchema **schemas; /* of each node */
     struct rewrite *rewrites;           /* of each node */
     struct spread *spreads;             /* of each node */
+    uint64_t *firsts;                   /* of each node: the row of its array that is row 0 here */
     struct stretch *stretches;
     struct span *spans;
     uint8_t *body;
@@ -166,6 +175,14 @@ int import_views(struct import *import, const struct node *node);
 
 /* Lays every stretch into one body. */
 int lay(struct import *import);
+
+/* One past the last node of the subtree of a node. */
+uint32_t subtree_end(const struct import *import, uint32_t node);
+
+/* ---- diagnose.c */
+
+/* Ground 12 of a node, with the row that breaks its rule. */
+int refuse_node(const struct import *import, uint32_t node);
 
 /* ---- bound.c */
 

@@ -116,7 +116,7 @@ void mark_nullable(struct ArrowSchema *schema) {
 
 int export_schema(struct report *report, const struct lafkuno_source *sources, size_t count, bool keep, struct ArrowSchema *schema) {
     int code = lafkuno_copy_schema(sources[0].schema, schema);
-    if (code) return refuse(report, code, NULL);
+    if (code) return refuse_plainly(report, code);
     for (size_t s = 1; s < count; s++) join_flags(schema, sources[s].schema);
     if (keep) mark_nullable(schema);
     return 0;

@@ -42,7 +42,7 @@ static int check_type(struct walk *walk, const struct ArrowSchema *s, const stru
     if (joined && s->n_children > MOST_FIELDS)
         return refuse_above(walk->report, LAFKUNO_CEILING_PASSED, (uint64_t)s->n_children, MOST_FIELDS, "fields of a union");
     int64_t due = children_due(format, kind);
-    if (due < 0) return refuse(walk->report, LAFKUNO_UNKNOWN_TYPE, NULL);
+    if (due < 0) return refuse_plainly(walk->report, LAFKUNO_UNKNOWN_TYPE);
     if (s->n_children != due)
         return refuse(walk->report, LAFKUNO_UNKNOWN_TYPE, "%" PRId64 " children, and %" PRId64 " are due", s->n_children, due);
     if (s->n_children != a->n_children || !s->dictionary != !a->dictionary)

@@ -56,7 +56,7 @@ static void bad_source(void) {
         list[s] = source_of(made[s]);
     }
     struct lafkuno_error error = refused(list, 13, NULL, 0, NULL, LAFKUNO_BAD_SOURCE,
-                                         "source 11, node 1 'item' (C): the source breaks the rules of its type (ground 12)");
+                                         "source 11, node 1 'item' (C): row 1: key 2, and the dictionary has 2 entries (ground 12)");
     expect("source", error.source, 11);
     expect("node", error.node, 1);
     list[11] = list[0];
@@ -156,7 +156,45 @@ static void shapes(void) {
     add_buffer(m, "\1\0\0\0", 4);
     add_buffer(m, "\2\0\0\0", 4);
     add_child(m, numbers("i", "item", 0, 2, 0, values, 4, NULL));
-    one_source(m, LAFKUNO_BAD_SOURCE, "source 0, node 0 'stops' (+vl): the source breaks the rules of its type (ground 12)");
+    one_source(m, LAFKUNO_BAD_SOURCE, "source 0, node 0 'stops' (+vl): row 0: offset 1 and size 2, and the child has 2 rows (ground 12)");
+}
+
+/* Ground 12 of every kind, in a slice: the row is that of the slice. */
+static void broken_rows(void) {
+    const int32_t values[4] = {1, 2, 2, 4}, offsets[4] = {0, 3, 5, 4}, positions[3] = {0, 0, 4};
+    const uint32_t views[8] = {0, 0, 0, 0, 13, 0x64636261, 1, 0}, torn[4] = {13, 0x64636262, 0, 0};
+    const int64_t size = 13;
+    one_source(texts("u", "name", 2, 1, offsets, "abcd"), LAFKUNO_BAD_SOURCE,
+               "source 0, node 0 'name' (u): row 1: bytes 5 to 4 (ground 12)");
+    struct made *m = make("+ud:0,9", "event", 0, 2, 1);
+    add_buffer(m, "\1\0\11", 3);
+    add_buffer(m, positions, sizeof positions);
+    add_child(m, numbers("i", "a", 0, 4, 0, values, 4, NULL));
+    add_child(m, numbers("i", "b", 0, 4, 0, values, 4, NULL));
+    one_source(m, LAFKUNO_BAD_SOURCE, "source 0, node 0 'event' (+ud:0,9): row 1: position 4 of field 1, which has 4 rows (ground 12)");
+    m = make("+us:0", "event", 0, 1, 1);
+    add_buffer(m, "\0\3", 2);
+    add_child(m, numbers("i", "a", 0, 4, 0, values, 4, NULL));
+    one_source(m, LAFKUNO_BAD_SOURCE, "source 0, node 0 'event' (+us:0): row 0: the id 3 is not declared (ground 12)");
+    m = make("+r", "ignition", 0, 4, 0);
+    add_child(m, numbers("i", "run_ends", 0, 4, 0, values, 4, NULL));
+    add_child(m, numbers("i", "values", 0, 4, 0, values, 4, NULL));
+    m->array.length = 4;
+    one_source(m, LAFKUNO_BAD_SOURCE, "source 0, node 0 'ignition' (+r): run end 2 is 2 behind 2 (ground 12)");
+    m = make("+r", "ignition", 0, 5, 0);
+    add_child(m, numbers("i", "run_ends", 0, 2, 0, values, 4, NULL));
+    add_child(m, numbers("i", "values", 0, 2, 0, values, 4, NULL));
+    one_source(m, LAFKUNO_BAD_SOURCE, "source 0, node 0 'ignition' (+r): the last run ends at 2, and 5 rows are reached (ground 12)");
+    for (int k = 0; k < 2; k++) {
+        m = make("vu", "note", 0, 1, k ? 0 : 1);
+        add_buffer(m, NULL, 0);
+        add_buffer(m, k ? torn : views, k ? sizeof torn : sizeof views);
+        add_buffer(m, "abcdefghijklm", 13);
+        add_buffer(m, &size, 8);
+        one_source(m, LAFKUNO_BAD_SOURCE,
+                   k ? "source 0, node 0 'note' (vu): row 0: the prefix is not that of its bytes (ground 12)"
+                     : "source 0, node 0 'note' (vu): row 0: data buffer 1 has not 13 bytes from 0 on (ground 12)");
+    }
 }
 
 static void counts(void) {
@@ -241,15 +279,31 @@ static void too_many_entries(void) {
     for (int s = 0; s < 2; s++) discard(pair[s]);
 }
 
+/* The node is named where only one can be the cause. */
+static void run_ends(void) {
+    const int16_t ends[1] = {32767};
+    const int32_t value = 1;
+    struct made *m = make("+r", "ignition", 0, 32767, 0);
+    add_child(m, numbers("s", "run_ends", 0, 1, 0, ends, 2, NULL));
+    add_child(m, numbers("i", "values", 0, 1, 0, &value, 4, NULL));
+    struct lafkuno_source list[1] = {source_of(m)};
+    const struct lafkuno_order twice[2] = {lafkuno_rows(0, 0, 32767), lafkuno_rows(0, 0, 1)};
+    refused(list, 1, twice, 2, NULL, LAFKUNO_RUN_END_TOO_LARGE,
+            "node 0 'ignition' (+r), order 1 (copy 0 0..1): a run end does not fit its type (ground 7)");
+    discard(m);
+}
+
 int main(void) {
     orders();
     bad_source();
     types();
     shapes();
+    broken_rows();
     counts();
     work();
     no_needless_bound();
     too_many_entries();
+    run_ends();
     expect_text("meaning", lafkuno_meaning(LAFKUNO_RUN_END_TOO_LARGE), "a run end does not fit its type");
     if (!failed) puts("refusals say where");
     return failed;

@@ -101,6 +101,7 @@ def one_damaged(r):
         joined = lafkuno.join(columns, orders)
     except lafkuno.Error as error:
         assert error.code == 12 or may_be_refused(type, error.code), error
+        assert "breaks the rules" not in str(error), "a refused source without its row"
         return "refused"
     assert read_all(joined) == expected(columns, orders, type)
     return "joined"
