@@ -166,7 +166,8 @@ static void whole_columns(int validity) {
     }
     printf("| 2 x 5 million int64%s, against two copies into new memory | %.0f | %.0f | %.2f | 1.3 | %s | |\n", name, ours / 1e3,
            plain / 1e3, ours / plain, verdict(ours / plain <= 1.3));
-    printf("| the same, against two copies into memory that is there | %.0f | %.0f | %.2f | | | |\n", ours / 1e3, there / 1e3, ours / there);
+    printf("| the same, against two copies into memory that is there | %.0f | %.0f | %.2f | | | |\n", ours / 1e3, there / 1e3,
+           ours / there);
     free(body);
     free(room);
     for (int k = 0; k < 2; k++) {

@@ -114,7 +114,7 @@ enum lafkuno_failure {
 
 #define LAFKUNO_MESSAGE 512
 
-/* Why a call was refused, and where. A number that does not apply is -1. */
+/* Why a call was refused, and where. A number that does not apply is -1; after a call that answers 0 all are, and code is 0. */
 struct lafkuno_error {
     int code;         /* what the call answered */
     int64_t column;   /* of the batches, from 0 on */

@@ -1,5 +1,5 @@
 /* The calls of lafkuno.h over structs: the tables of the sources in one, the state of a join in another. Each function below is the
- * flat call of the same name, with the same answers; nothing is allocated and nothing is kept.
+ * flat call that its comment names, with the same answers; nothing is allocated and nothing is kept.
  *
  *     struct lafkuno_tables tables = {...};
  *     struct lafkuno_state state;

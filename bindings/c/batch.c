@@ -32,12 +32,14 @@ static int check_struct(struct batch *batch, size_t s) {
         (schema->n_children && (!schema->children || !array->children)))
         return refuse(batch->report, LAFKUNO_BAD_STRUCT, "schema and array differ in their columns, or the array has not one buffer");
     if (array->length < 0 || array->offset < 0 || array->offset > INT64_MAX - array->length)
-        return refuse(batch->report, LAFKUNO_CEILING_PASSED, "a length of %" PRId64 " and an offset of %" PRId64, array->length, array->offset);
+        return refuse(batch->report, LAFKUNO_CEILING_PASSED, "a length of %" PRId64 " and an offset of %" PRId64, array->length,
+                      array->offset);
     if (schema->n_children != batch->sources[0].schema->n_children)
         return refuse(batch->report, LAFKUNO_TYPES_DIFFER, "%" PRId64 " columns, and %" PRId64 " in source 0", schema->n_children,
                       batch->sources[0].schema->n_children);
     for (int64_t c = 0; c < schema->n_children; c++)
-        if (!schema->children[c] || !array->children[c]) return refuse(batch->report, LAFKUNO_BAD_STRUCT, "column %" PRId64 " is missing", c);
+        if (!schema->children[c] || !array->children[c])
+            return refuse(batch->report, LAFKUNO_BAD_STRUCT, "column %" PRId64 " is missing", c);
     return 0;
 }
 
@@ -61,7 +63,8 @@ static int check_columns_taken(struct batch *batch) {
         if (shape_of(&report, &column, &shape) != LAFKUNO_UNKNOWN_TYPE) continue;
         size_t used = strlen(names);
         const char *format = report.node && report.node->format ? report.node->format : "";
-        snprintf(names + used, sizeof names - used, "%s%" PRId64 " '%.40s' (%.40s)", first < 0 ? "" : ", ", c, name_of(column.schema), format);
+        snprintf(names + used, sizeof names - used, "%s%" PRId64 " '%.40s' (%.40s)", first < 0 ? "" : ", ", c, name_of(column.schema),
+                 format);
         if (first < 0) first = c;
     }
     if (first < 0) return 0;
@@ -194,10 +197,10 @@ static int finish_columns(struct batch *batch) {
     return code;
 }
 
-static int batch_schema(struct batch *batch, struct ArrowSchema *schema) {
+static int batch_schema(struct batch *batch, const struct ArrowArray *array, struct ArrowSchema *schema) {
     int code = export_schema(batch->report, batch->sources, batch->count, false, schema);
     if (code) return code;
-    if (batch->own && batch->width) schema->flags |= ARROW_FLAG_NULLABLE;
+    if (array->null_count) schema->flags |= ARROW_FLAG_NULLABLE;
     for (int64_t c = 0; batch->task->keep && c < batch->width; c++) mark_nullable(schema->children[c]);
     return 0;
 }
@@ -209,7 +212,7 @@ static int join_batch(struct batch *batch, struct ArrowSchema *schema, struct Ar
     struct ArrowArray *own = batch->own ? &batch->arrays[batch->width] : NULL;
     uint64_t rows = (uint64_t)batch->arrays[0].length;
     code = export_struct(batch->report, batch->arrays, batch->width, own, rows, array);
-    if (!code && schema && (code = batch_schema(batch, schema))) array->release(array);
+    if (!code && schema && (code = batch_schema(batch, array, schema))) array->release(array);
     return code;
 }
 
@@ -247,6 +250,7 @@ int lafkuno_join_batches(const struct lafkuno_source *batches, size_t count, con
     if (count > LAFKUNO_MOST_SOURCES) return refuse_above(&report, LAFKUNO_CEILING_PASSED, count, LAFKUNO_MOST_SOURCES, "sources");
     int code = run_batch(&batch, schema ? &type : NULL, &joined);
     if (code) return code;
+    report_to(error, &spare);
     if (schema) *schema = type;
     *array = joined;
     return 0;

@@ -35,7 +35,8 @@ static int in_string(const struct look *look) {
     for (uint64_t r = 0; r < look->rows; r++) {
         int64_t from = number_at(offsets, r, look->width), to = number_at(offsets, r + 1, look->width);
         if (from < 0 || to < from)
-            return refuse(look->import->report, LAFKUNO_BAD_SOURCE, "row %" PRIu64 ": bytes %" PRId64 " to %" PRId64, look->first + r, from, to);
+            return refuse(look->import->report, LAFKUNO_BAD_SOURCE, "row %" PRIu64 ": bytes %" PRId64 " to %" PRId64, look->first + r,
+                          from, to);
     }
     return 0;
 }
@@ -105,8 +106,8 @@ static int in_keys(const struct look *look) {
         if (key < entries || !row_valid(look, r)) continue;
         if (has_sign && number < 0)
             return refuse(look->import->report, LAFKUNO_BAD_SOURCE, "row %" PRIu64 ": the key is %" PRId64, look->first + r, number);
-        return refuse(look->import->report, LAFKUNO_BAD_SOURCE, "row %" PRIu64 ": key %" PRIu64 ", and the dictionary has %" PRIu64 " entries",
-                      look->first + r, key, entries);
+        return refuse(look->import->report, LAFKUNO_BAD_SOURCE,
+                      "row %" PRIu64 ": key %" PRIu64 ", and the dictionary has %" PRIu64 " entries", look->first + r, key, entries);
     }
     return 0;
 }
@@ -123,7 +124,8 @@ static int in_views(const struct look *look) {
                           "row %" PRIu64 ": data buffer %" PRIu32 " has not %" PRIu32 " bytes from %" PRIu32 " on", look->first + r,
                           word[2], word[0], word[3]);
         if (memcmp(look->import->body + data[0] + word[3], &word[1], 4))
-            return refuse(look->import->report, LAFKUNO_BAD_SOURCE, "row %" PRIu64 ": the prefix is not that of its bytes", look->first + r);
+            return refuse(look->import->report, LAFKUNO_BAD_SOURCE, "row %" PRIu64 ": the prefix is not that of its bytes",
+                          look->first + r);
     }
     return 0;
 }

@@ -33,7 +33,8 @@ static size_t carve_all(struct import *t, uint8_t *block, size_t sources, const 
 
 int import_begin(struct import *import, struct report *report, size_t sources, const struct shape *shape) {
     *import = (struct import){.report = report};
-    if (shape->data_buffers > INT32_MAX) return refuse_above(report, LAFKUNO_CEILING_PASSED, shape->data_buffers, INT32_MAX, "data buffers");
+    if (shape->data_buffers > INT32_MAX)
+        return refuse_above(report, LAFKUNO_CEILING_PASSED, shape->data_buffers, INT32_MAX, "data buffers");
     import->block = calloc(1, carve_all(import, NULL, sources, shape));
     if (!import->block) return refuse_memory(report);
     carve_all(import, import->block, sources, shape);

@@ -211,6 +211,7 @@ int lafkuno_join_arrays(const struct lafkuno_source *sources, size_t count, cons
     if (count > LAFKUNO_MOST_SOURCES) return refuse_above(&report, LAFKUNO_CEILING_PASSED, count, LAFKUNO_MOST_SOURCES, "sources");
     int code = join_columns(&report, sources, count, &task, schema ? &type : NULL, &joined);
     if (code) return code;
+    report_to(error, &spare);
     if (schema) *schema = type;
     *array = joined;
     return 0;

@@ -99,7 +99,8 @@ static void struct_validity(void) {
     release_both(&schema, &array);
 }
 
-static void refused(const struct lafkuno_source *list, size_t count, const struct lafkuno_order *some, size_t n, int code, const char *text) {
+static void refused(const struct lafkuno_source *list, size_t count, const struct lafkuno_order *some, size_t n, int code,
+                    const char *text) {
     struct lafkuno_error error;
     struct ArrowArray array = {.length = 77};
     expect(text, lafkuno_join_batches(list, count, some, n, NULL, NULL, &array, &error), code);

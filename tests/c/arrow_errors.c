@@ -229,8 +229,9 @@ static void work(void) {
     }
     struct lafkuno_source list[1] = {source_of(m)};
     struct lafkuno_order all = lafkuno_rows(0, 0, ROWS), one = lafkuno_rows(0, 0, 1);
-    struct lafkuno_error error = refused(list, 1, &all, 1, NULL, LAFKUNO_TOO_MUCH_WORK,
-                                         "node 2 'list' (+vl): 68719476736 rows are the bound of the orders here, and 4294967296 are allowed");
+    struct lafkuno_error error =
+        refused(list, 1, &all, 1, NULL, LAFKUNO_TOO_MUCH_WORK,
+                "node 2 'list' (+vl): 68719476736 rows are the bound of the orders here, and 4294967296 are allowed");
     expect("node", error.node, 2);
     expect("bound", (long long)error.found, 1LL << 36);
     struct lafkuno_options few = {.most_rows = 4095};

@@ -26,6 +26,30 @@ static void read_back(const struct lafkuno_tables *finished) {
     expect("no such row", lafkuno_tables_read_row(finished, tree, 0, 5, answer), LAFKUNO_REFUSED);
 }
 
+/* Four rows and a null, one behind the other. */
+static void measure(struct lafkuno_state *state, const struct lafkuno_tables *tables) {
+    expect("plan", lafkuno_state_plan(state, tables, 1), LAFKUNO_DONE);
+    expect("measure", lafkuno_state_measure_open(state, tables), LAFKUNO_DONE);
+    expect("measure", lafkuno_state_measure_copy(state, tables, 0, 0, 4), LAFKUNO_DONE);
+    expect("measure", lafkuno_state_measure_nulls(state, 1), LAFKUNO_DONE);
+    expect("bytes", lafkuno_state_parts(state), 64 + 20);
+    expect("parts", state->parts_len, 4);
+    state->room_len = 84;
+    state->room = malloc(state->room_len);
+    if (!state->room) exit(2);
+}
+
+static void join(struct lafkuno_state *state, const struct lafkuno_tables *tables) {
+    expect("open", lafkuno_state_open(state, tables, 1), LAFKUNO_DONE);
+    expect("copy", lafkuno_state_copy(state, tables, 0, 0, 3), LAFKUNO_DONE);
+    expect("nulls", lafkuno_state_nulls(state, 1), LAFKUNO_DONE);
+    expect("refused", lafkuno_state_copy(state, tables, 0, 3, 5), LAFKUNO_NO_SUCH_ROWS);
+    expect("copy", lafkuno_state_copy(state, tables, 0, 3, 4), LAFKUNO_DONE);
+    expect("full", lafkuno_state_nulls(state, 1), LAFKUNO_ROOM_TOO_SMALL);
+    expect("running nulls", lafkuno_state_running_nulls(state), 1);
+    expect("data buffers", lafkuno_state_buffer_total(state, tables), 0);
+}
+
 int main(void) {
     const int32_t batch[8] = {310, 305, 300, 298, 95, 102, 12, 61};
     const uint32_t sources[2] = {0, 1}, schema[5] = {0, 1, 2, 0, 0};
@@ -35,23 +59,8 @@ int main(void) {
                                           (const uint8_t *)batch, sizeof batch};
     struct lafkuno_state *state = malloc(sizeof *state);
     if (!state) return 2;
-    expect("plan", lafkuno_state_plan(state, &tables, 1), LAFKUNO_DONE);
-    expect("measure", lafkuno_state_measure_open(state, &tables), LAFKUNO_DONE);
-    expect("measure", lafkuno_state_measure_copy(state, &tables, 0, 0, 4), LAFKUNO_DONE);
-    expect("measure", lafkuno_state_measure_nulls(state, 1), LAFKUNO_DONE);
-    expect("bytes", lafkuno_state_parts(state), 64 + 20);
-    expect("parts", state->parts_len, 4);
-    state->room_len = 84;
-    state->room = malloc(state->room_len);
-    if (!state->room) return 2;
-    expect("open", lafkuno_state_open(state, &tables, 1), LAFKUNO_DONE);
-    expect("copy", lafkuno_state_copy(state, &tables, 0, 0, 3), LAFKUNO_DONE);
-    expect("nulls", lafkuno_state_nulls(state, 1), LAFKUNO_DONE);
-    expect("refused", lafkuno_state_copy(state, &tables, 0, 3, 5), LAFKUNO_NO_SUCH_ROWS);
-    expect("copy", lafkuno_state_copy(state, &tables, 0, 3, 4), LAFKUNO_DONE);
-    expect("full", lafkuno_state_nulls(state, 1), LAFKUNO_ROOM_TOO_SMALL);
-    expect("running nulls", lafkuno_state_running_nulls(state), 1);
-    expect("data buffers", lafkuno_state_buffer_total(state, &tables), 0);
+    measure(state, &tables);
+    join(state, &tables);
 
     uint64_t new_lengths[2], new_nulls[1];
     lafkuno_position new_places[9], new_buffers[1];

@@ -33,8 +33,8 @@ def _destructor(name):
     return _Destructor(destroy)
 
 
-# kept for as long as the process runs: a capsule may outlive this module
 _destructors = {name: _destructor(name) for name in (SCHEMA, ARRAY)}
+# names and destructors are kept for as long as the process runs: a capsule may outlive this module
 _api.Py_IncRef(py_object(_destructors))
 
 

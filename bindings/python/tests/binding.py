@@ -2,6 +2,7 @@
 
 import gc
 import struct
+from concurrent.futures import ThreadPoolExecutor
 
 import lafkuno
 from columns import Column, Type, read_all
@@ -45,6 +46,17 @@ def test_capsules_outlive_the_array():
 
     assert numbers(Holder()) == [1, 2, 3]
     assert numbers(lafkuno.join([Holder()], [(0, 2, 3)])) == [3]
+
+
+def test_threads():
+    source = i32(list(range(1000)))
+
+    def work(k):
+        joined = lafkuno.join([source, source], [(0, k, k + 100), (1, 0, k)])
+        return numbers(joined) == list(range(k, k + 100)) + list(range(k))
+
+    with ThreadPoolExecutor(4) as pool:
+        assert all(pool.map(work, range(200)))
 
 
 def refused(call, *text):
