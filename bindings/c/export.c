@@ -151,7 +151,7 @@ static bool names_body(const struct finished *f) {
     for (size_t k = 0; k < f->tables.buffers_len; k += 2)
         if (f->tables.buffers[k + 1]) return true;
     for (size_t node = 0; node < nodes; node++)
-        for (int b = 0; b < 3 && !f->copied[node]; b++)
+        for (size_t b = 0; b < 3 && !f->copied[node]; b++)
             if (f->tables.places[9 * node + 2 + 2 * b]) return true;
     return false;
 }

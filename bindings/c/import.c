@@ -106,10 +106,9 @@ static int import_string(struct import *import, const struct node *node, positio
     unsigned width = node->format.width;
     uint64_t slots = node->offset - node->cut + node->rows;
     const uint8_t *offsets = node->array->buffers[1];
-    if (!node->rows) return 0;
     int code = want_entries(import, node, 1, slots + 1, width, place, AS_THEY_ARE);
     if (code) return code;
-    int64_t first = number_at(offsets + node->cut * width, 0, width), last = number_at(offsets + node->cut * width, slots, width);
+    int64_t first = number_at(offsets, node->offset, width), last = number_at(offsets, node->offset + node->rows, width);
     if (first < 0 || last < first) return 0; /* no bytes are lent for such offsets: ground 12 */
     if (node->in_dictionary) first = 0;
     if (first) import->stretches[import->stretch_count - 1].change = LESS_FIRST;

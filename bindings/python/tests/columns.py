@@ -141,7 +141,7 @@ def _unpack(code, address, index):
     return struct.unpack("<" + code, ctypes.string_at(address + index * size, size))[0]
 
 
-def _valid(array, slot):
+def valid(array, slot):
     bits = array.buffers[0]
     return not bits or _unpack("B", bits, slot // 8) >> slot % 8 & 1 == 1
 
@@ -155,7 +155,7 @@ def read(schema, array, row):
         return _read_run(schema, array, slot)
     if format.startswith("+u"):
         return _read_union(format, schema, array, slot)
-    if not _valid(array, slot):
+    if not valid(array, slot):
         return None
     if schema.dictionary:
         key = _unpack(format.translate(str.maketrans("cCsSiIlL", "bBhHiIqQ")), array.buffers[1], slot)

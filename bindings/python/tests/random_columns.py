@@ -83,6 +83,8 @@ def fill_string(r, type, length, offset, bits):
     for _ in range(offset + length):
         data += text(r)
         offsets.append(at + len(data))
+    if r.random() < 0.5:
+        offsets[:offset] = [r.randrange(-5, 2**31) for _ in range(offset)]
     return ([struct.pack("<%d%s" % (len(offsets), "i" if type.format in "zu" else "q"), *offsets), r.randbytes(at) + data],)
 
 

@@ -5,8 +5,8 @@ import random
 import sys
 
 import lafkuno
-from columns import Column, Type, describe, ordered_null, read_all
-from lafkuno._capsule import SCHEMA, unwrap
+from columns import Column, Type, describe, ordered_null, read, read_all, valid
+from lafkuno._capsule import ARRAY, SCHEMA, unwrap
 from random_columns import fill, random_type
 
 
@@ -51,6 +51,25 @@ def may_be_refused(type, code):
     return (code == 8 and any(n.dictionary and n.format in "cC" for n in nodes)) or (code == 5 and any(n.format.startswith("+u") for n in nodes))
 
 
+def most_rows(array):
+    below = [array.children[k][0] for k in range(array.n_children)] + ([array.dictionary[0]] if array.dictionary else [])
+    return max([array.length] + [most_rows(a) for a in below])
+
+
+def bounded(columns, orders, keep, joined):
+    """The bound is one: less than the rows that a node has come to is refused."""
+    capsules = joined.__arrow_c_array__()
+    rows = most_rows(unwrap(capsules[1], ARRAY))
+    if rows < 2:
+        return
+    try:
+        lafkuno.join(columns, orders, keep_nulls=keep, most_rows=rows - 1)
+    except lafkuno.Error as error:
+        assert error.code == 102 and error.found >= rows, (error, rows)
+        return
+    raise AssertionError(f"{rows} rows were not bounded")
+
+
 def one(r):
     type = random_type(r)
     columns = random_sources(r, type)
@@ -62,6 +81,7 @@ def one(r):
         assert may_be_refused(type, error.code), (error, type.format)
         return "refused"
     wanted = expected(columns, orders, type)
+    bounded(columns, orders, keep, joined)
     del columns
     got = read_all(joined)
     assert got == wanted, (type.format, wanted, got)
@@ -131,15 +151,12 @@ def one_batch(r):
 
 
 def read_batch(source):
-    from columns import _valid, read
-    from lafkuno._capsule import ARRAY
-
     capsules = source.__arrow_c_array__()
     schema, array = unwrap(capsules[0], SCHEMA), unwrap(capsules[1], ARRAY)
     rows = []
     for k in range(array.length):
         slot = array.offset + k
-        rows.append((_valid(array, slot), [read(schema.children[c][0], array.children[c][0], slot) for c in range(schema.n_children)]))
+        rows.append((valid(array, slot), [read(schema.children[c][0], array.children[c][0], slot) for c in range(schema.n_children)]))
     return rows
 
 
