@@ -1,6 +1,7 @@
 -- THE THREE DEMANDS on whole joins.
 pub mod Numbers
 pub mod Demand1
+pub mod Written
 pub mod Demand2
 pub mod Answered
 pub mod Demand3

@@ -16,4 +16,5 @@ pub mod Fitting
 pub mod Runs
 pub mod Stay
 pub mod Opened
+pub mod Written
 pub mod Plannable

@@ -142,7 +142,7 @@ module _ (formats schema sources : List ℕ) (x : Tables) (keep : Bool) (parts :
         go true true true true true y q h = absurd (h q)
 
     -- the grounds before the walk
-    tests : answer .ground ≡ 0 → (length room ≤ 4294967295) × (sourcesGround formats schema x sources ≡ 0) × (placed-well ≡ true)
+    pub tests : answer .ground ≡ 0 → (length room ≤ 4294967295) × (sourcesGround formats schema x sources ≡ 0) × (placed-well ≡ true)
     unfolding opening
     tests h = go (leb (length room) 4294967295) refl (eqb (sourcesGround formats schema x sources) 0) refl placed-well refl _ h
       where
