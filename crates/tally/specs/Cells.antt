@@ -1,10 +1,9 @@
 -- Rows as what they add to a tally: numbers below zero are stored as two's complement, a modulus m more. Assumes nothing.
 use mathlib.Core.List.{List, [], _∷_}
-use Prim.Native.Nat.{ℕ, suc, _+_, _*_, _-_, _/_, _%_, _≤_}
+use Prim.Native.Nat.{ℕ, zero, suc, _+_, _*_, _-_, _/_, _%_, _≤_}
 use mathlib.Core.Path.{_≡_}
 use lib.IntN.{ℤ, pos, negsuc, _-ℤ_}
 use Rattle.columnar.specs.Row.{Row, null, whole, single, double, bytes, list, union}
-use Rattle.tally.specs.Sums.{countOf}
 use Rattle.tally.specs.declared.Cell.{Cell}
 use Rattle.tally.specs.declared.Tally.{Tally}
 
@@ -43,11 +42,16 @@ valueOf t = t .hi * 18446744073709551616 + t .lo
 abbrev pub talliedBy : ℕ → Tally → ℤ
 talliedBy lift t = pos (valueOf t) -ℤ pos (t .below * (18446744073709551616 - lift))
 
--- A TALLY OF n ROWS whose numbers below zero are stored m more
-pub record Tallied (m n : ℕ) (rs : List Row) (t : Tally) : Type 0 where
-  pub count : t .count ≡ countOf rs
-  pub below : t .below ≡ belowOf m rs
-  pub value : valueOf t ≡ bitsOf m rs
+-- what the cells a .. a + n - 1 add
+abbrev pub sumBy : (Cell → ℕ) → (ℕ → Cell) → ℕ → ℕ → ℕ
+sumBy p g a zero = 0
+sumBy p g a (suc n) = p (g a) + sumBy p g (suc a) n
+
+-- A TALLY OF THE CELLS a .. a + n - 1
+pub record Tallied (g : ℕ → Cell) (a n : ℕ) (t : Tally) : Type 0 where
+  pub count : t .count ≡ sumBy (λ c. c .count) g a n
+  pub below : t .below ≡ sumBy (λ c. c .below) g a n
+  pub value : valueOf t ≡ sumBy (λ c. c .bits) g a n
   pub few : t .count ≤ n
   pub few-below : t .below ≤ n
   pub low : valueOf t ≤ n * 18446744073709551615
