@@ -2,15 +2,16 @@
 use mathlib.Core.Path.{_≡_, refl, sym, ap, subst, _∙_}
 use mathlib.Core.Bool.{Bool, true, false}
 use mathlib.Core.List.{List, [], _∷_, _++_}
-use Prim.Native.Nat.{ℕ, _+_, _*_, _≤_}
+use Prim.Native.Nat.{ℕ, _+_, _*_, _-_, _≤_}
+use native.Mathlib.Omega.{arith}
 use lib.ListN.{length, getD}
 use lib.Dec.{T}
 use native.Mathlib.Nat.{zero-add}
-use Rattle.columnar.specs.Array.{nullCount}
+use Rattle.columnar.specs.Array.{nullCount, ok, nullsIn}
 use Rattle.columnar.specs.Reading.{readAll, masks}
 use Rattle.model.specs.Try.{Try, done, stop, then, guard, after}
 use Rattle.model.specs.Transform.{Destination, start, intoBuilder}
-use Rattle.model.specs.Book.{Call}
+use Rattle.model.specs.Book.{Call, copy, nullsEntered}
 use Rattle.model.specs.Orders.{perform, performAll}
 use Rattle.model.proofs.Book.{countedIf}
 use Rattle.model.specs.Counters.{FinishedBy}
@@ -20,8 +21,10 @@ use Rattle.array_data.specs.Tables.{lengthOf}
 use Rattle.array_data.specs.Typed.{sourceRule}
 use Rattle.walk.specs.State as walk
 use Rattle.parts.specs.Parts.{nodesOf}
+use Rattle.orders.specs.Order.{After}
 use Rattle.orders.specs.Fits.{fits, answerIn, answersIn}
 use Rattle.orders.specs.Counted.{nullsRoom}
+use Rattle.orders.proofs.Step.{Running, Answers, made, not-made, order-step}
 use Rattle.orders.proofs.Booked.{booked}
 use Rattle.link.specs.Holds.{Holds}
 use Rattle.opening.proofs.Taken.{sources-of}
@@ -30,7 +33,7 @@ use Rattle.finishing.specs.Finish.{Finished, lengthTable, nullTable, placeTable
 use Rattle.finishing.specs.Shows.{Shows, Counts, Bodied}
 use Rattle.finishing.proofs.Orders.{appended}
 use Rattle.finishing.proofs.Join.{finishing-accepted, join-shows, join-nulls, join-again}
-use Rattle.join.specs.Join.{Lending, Bytes, sourcesIn, treeIn, typeIn, columnsIn, keepsIn, openingOf, lentOf, afterCalls, finishingOf, tablesAt, tablesOf, finishedOf, nullsOf, reachedBy}
+use Rattle.join.specs.Join.{Lending, Bytes, sourcesIn, treeIn, typeIn, columnsIn, keepsIn, openingOf, lentOf, afterCalls, nextCall, finishingOf, tablesAt, tablesOf, finishedOf, nullsOf, reachedBy}
 use Rattle.join.proofs.Demand1.{runs}
 
 -- ---- the model's destination is that of the Rust's calls, those that are carried out
@@ -121,6 +124,33 @@ module _ (l : Lending) (b : Bytes l) (accepted : openingOf l .ground ≡ 0) (os 
       ∙ booked (lentOf l) (typeIn l) (sourcesIn l) (columnsIn l) (opens .join) (keepsIn l) (openingOf l .counts) (opens .memory) os (first l) (openingOf l .counts) (openingOf l .room) (opens .running) .nulls-booked
       ∙ zero-add _
       ∙ ap (λ c. countedIf (keepsIn l) (nullsRoom (lentOf l .plan) (l .parts) (typeIn l) (keepsIn l) (sourcesIn l) (columnsIn l) os c)) (held-start (typeIn l) (keepsIn l) (sourcesIn l) (λ j. columnsIn l j .body))
+
+  -- ONE CALL MORE that is accepted raises it by the nulls that the call enters ..
+  pub call-counts : (o : Call) → nextCall l os o .ground ≡ 0
+      → walk.nulls (nextCall l os o .counts) 0
+      ≡ walk.nulls (afterCalls l os .counts) 0 + countedIf (keepsIn l) (nullsEntered (typeIn l) (keepsIn l) (sourcesIn l) (columnsIn l) o)
+  call-counts o h =
+      go (order-step (lentOf l) (typeIn l) (sourcesIn l) (columnsIn l) (opens .join) (keepsIn l) (openingOf l .counts) (opens .memory) o (reachedBy l os) (afterCalls l os .counts) (afterCalls l os .room) before) h
+    where
+      before : Running (lentOf l) (typeIn l) (sourcesIn l) (columnsIn l) (opens .join) (keepsIn l) (openingOf l .counts) (opens .memory) (reachedBy l os) (afterCalls l os .counts) (afterCalls l os .room)
+      before = orders-after (l .formats) (l .schema) (l .sources) (l .tables) (l .keep) (l .parts) (openingOf l) opens os .running
+
+      go : {p : Try (Destination (typeIn l))} {a : After}
+          → Answers (lentOf l) (typeIn l) (sourcesIn l) (columnsIn l) (opens .join) (keepsIn l) (openingOf l .counts) (opens .memory) o (reachedBy l os) (afterCalls l os .counts) (afterCalls l os .room) p a
+          → a .ground ≡ 0
+          → walk.nulls (a .counts) 0 ≡ walk.nulls (afterCalls l os .counts) 0 + countedIf (keepsIn l) (nullsEntered (typeIn l) (keepsIn l) (sourcesIn l) (columnsIn l) o)
+      go (made d′ a e r did) q =
+          r .holds .nulls-are
+          ∙ did .count-is
+          ∙ ap (_+ countedIf (keepsIn l) (nullsEntered (typeIn l) (keepsIn l) (sourcesIn l) (columnsIn l) o)) (sym (before .holds .nulls-are))
+      go (not-made g a e p c s) q = absurd (omega (arith, e, q, p))
+
+  -- .. A COPY BY THE ZERO BITS OF ITS RANGE, where the root keeps nulls, else by none
+  pub copy-counts : (j a e : ℕ) → nextCall l os (copy j a e) .ground ≡ 0 → keepsIn l ≡ true
+      → walk.nulls (nextCall l os (copy j a e) .counts) 0 ≡ walk.nulls (afterCalls l os .counts) 0 + nullsIn (ok (columnsIn l j .valid)) (columnsIn l j .off + a) (e - a)
+  copy-counts j a e h k =
+      call-counts (copy j a e) h
+      ∙ ap (λ (b : Bool). walk.nulls (afterCalls l os .counts) 0 + countedIf b (nullsIn (ok (columnsIn l j .valid)) (columnsIn l j .off + a) (e - a))) k
 
   -- FINISHING IS NEVER REFUSED where the tables are of the finished array's lengths and the body of at most 2^32 - 1 bytes
   pub finishing-answered : (base : ℕ) (lengths nulls places names : List ℕ) → base + length (afterCalls l os .room) ≤ 4294967295
