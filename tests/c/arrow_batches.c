@@ -219,9 +219,9 @@ static struct made *large_list(void) {
     int32_t *starts = malloc(4 * LARGE), *sizes = malloc(4 * LARGE);
     int64_t *items = calloc(2 * LARGE, 8);
     if (!starts || !sizes || !items) exit(2);
-    for (int k = 0; k < LARGE; k++) {
-        starts[k] = 2 * k;
-        sizes[k] = 2;
+    for (int k = 0; k < LARGE; k++) { /* every tenth is empty, and begins at 0 */
+        starts[k] = k % 10 ? 2 * k : 0;
+        sizes[k] = k % 10 ? 2 : 0;
         items[2 * k] = k;
     }
     struct made *m = make("+vl", "stops", ARROW_FLAG_NULLABLE, LARGE, 0);
