@@ -6,6 +6,14 @@
 #include <stdlib.h>
 #include <string.h>
 
+/* The struct as a column of bytes, all of them 0, with the struct's validity. */
+struct own_column {
+    struct ArrowSchema schema;
+    struct ArrowArray arrays[LAFKUNO_MOST_SOURCES];
+    const void *buffers[LAFKUNO_MOST_SOURCES][2];
+    uint8_t *zeros;
+};
+
 /* A join of batches on its way. */
 struct batch {
     struct report *report;
@@ -16,8 +24,9 @@ struct batch {
     struct column *columns; /* prepared; the struct's own is the last */
     struct ArrowArray *arrays;
     int64_t prepared, finished;
-    bool own;       /* there is a column for the struct's validity */
-    uint8_t *zeros; /* its values */
+    bool keeps_nulls; /* the struct does */
+    bool has_own;     /* there is a column for its validity, or for want of another to try the orders on */
+    struct own_column own;
 };
 
 /* ---- shape */
@@ -106,29 +115,30 @@ static int check_batches(struct batch *batch) {
 
 /* ---- the struct's validity */
 
-/* Whether there is anything to join of it, or no other column to try the orders on. */
-static bool needs_own(const struct batch *batch) {
-    bool own = batch->width == 0;
-    for (size_t s = 0; s < batch->count; s++) {
-        const struct ArrowArray *array = batch->sources[s].array;
-        if (array->buffers[0] && array->null_count) own = true;
-        if (batch->task->keep && batch->sources[s].schema->flags & ARROW_FLAG_NULLABLE) own = true;
-    }
-    return own;
+static bool has_null(const struct ArrowArray *array) {
+    const uint8_t *bits = array->buffers[0];
+    if (!bits || array->null_count >= 0) return bits && array->null_count;
+    for (int64_t slot = array->offset; slot < array->offset + array->length; slot++)
+        if (!(bits[slot / 8] >> slot % 8 & 1)) return true;
+    return false;
 }
 
-/* The struct as a column of bytes, all of them 0, with the struct's validity. */
-struct own_column {
-    struct ArrowSchema schema;
-    struct ArrowArray arrays[LAFKUNO_MOST_SOURCES];
-    const void *buffers[LAFKUNO_MOST_SOURCES][2];
-};
+/* Whether a source has a null struct, or the caller wants nulls where structs can be null. */
+static bool keeps_nulls(const struct batch *batch) {
+    bool keeps = false;
+    for (size_t s = 0; s < batch->count; s++) {
+        if (has_null(batch->sources[s].array)) keeps = true;
+        if (batch->task->keep && batch->sources[s].schema->flags & ARROW_FLAG_NULLABLE) keeps = true;
+    }
+    return keeps;
+}
 
 static void keep_schema(struct ArrowSchema *schema) { (void)schema; }
 static void keep_array(struct ArrowArray *array) { (void)array; }
 
 /* Every struct's rows are lent from its first whole byte of bits on, so that the zeros need not be longer than the rows. */
-static int make_own(struct batch *batch, struct own_column *own, struct lafkuno_source *sources, struct window *windows) {
+static int make_own(struct batch *batch, struct lafkuno_source *sources, struct window *windows) {
+    struct own_column *own = &batch->own;
     uint64_t most = 0;
     own->schema = (struct ArrowSchema){.format = "c", .name = "", .flags = ARROW_FLAG_NULLABLE, .release = keep_schema};
     for (size_t s = 0; s < batch->count; s++) {
@@ -143,27 +153,21 @@ static int make_own(struct batch *batch, struct own_column *own, struct lafkuno_
         if (slots > most) most = slots;
     }
     if (most > LAFKUNO_MOST_BYTES) return refuse_above(batch->report, LAFKUNO_CEILING_PASSED, most, LAFKUNO_MOST_BYTES, "rows of a struct");
-    batch->zeros = calloc(1, (size_t)most + 1);
-    if (!batch->zeros) return refuse_memory(batch->report);
-    for (size_t s = 0; s < batch->count; s++) own->buffers[s][1] = batch->zeros;
+    own->zeros = calloc(1, (size_t)most + 1);
+    if (!own->zeros) return refuse_memory(batch->report);
+    for (size_t s = 0; s < batch->count; s++) own->buffers[s][1] = own->zeros;
     return 0;
 }
 
 static int prepare_own(struct batch *batch) {
-    struct own_column own;
     struct lafkuno_source sources[LAFKUNO_MOST_SOURCES];
     struct window windows[LAFKUNO_MOST_SOURCES];
-    struct task task = *batch->task;
-    struct column *column = &batch->columns[batch->width];
-    if (!batch->own) return 0;
+    if (!batch->has_own) return 0;
     at_column(batch, batch->width);
-    int code = make_own(batch, &own, sources, windows);
+    int code = make_own(batch, sources, windows);
     if (code) return code;
     batch->prepared++;
-    code = column_prepare(column, batch->report, sources, windows, batch->count, &task);
-    static const struct ArrowSchema type = {.format = "c"};
-    column->type = &type; /* outlives this function's structs */
-    return code;
+    return column_prepare(&batch->columns[batch->width], batch->report, sources, windows, batch->count, batch->task);
 }
 
 /* ---- the join */
@@ -209,7 +213,7 @@ static int join_batch(struct batch *batch, struct ArrowSchema *schema, struct Ar
     int code = prepare_columns(batch);
     if (!code) code = finish_columns(batch);
     if (code) return code;
-    struct ArrowArray *own = batch->own ? &batch->arrays[batch->width] : NULL;
+    struct ArrowArray *own = batch->keeps_nulls ? &batch->arrays[batch->width] : NULL;
     uint64_t rows = (uint64_t)batch->arrays[0].length;
     code = export_struct(batch->report, batch->arrays, batch->width, own, rows, array);
     if (!code && schema && (code = batch_schema(batch, array, schema))) array->release(array);
@@ -222,14 +226,15 @@ static void end_batch(struct batch *batch) {
         if (batch->arrays[c].release) batch->arrays[c].release(&batch->arrays[c]);
     free(batch->columns);
     free(batch->arrays);
-    free(batch->zeros);
+    free(batch->own.zeros);
 }
 
 static int run_batch(struct batch *batch, struct ArrowSchema *schema, struct ArrowArray *array) {
     int code = check_batches(batch);
     if (code) return code;
     at_column(batch, -1);
-    batch->own = needs_own(batch);
+    batch->keeps_nulls = keeps_nulls(batch);
+    batch->has_own = batch->keeps_nulls || !batch->width;
     batch->columns = calloc((size_t)batch->width + 1, sizeof *batch->columns);
     batch->arrays = calloc((size_t)batch->width + 1, sizeof *batch->arrays);
     code = batch->columns && batch->arrays ? join_batch(batch, schema, array) : refuse_memory(batch->report);

@@ -30,13 +30,15 @@ static bool row_valid(const struct look *look, uint64_t row) {
     return !look->place[0] || (look->import->body[look->place[1] + bit / 8] >> bit % 8 & 1);
 }
 
+/* The offsets are told as they were before they were lowered. */
 static int in_string(const struct look *look) {
     const uint8_t *offsets = rows_of(look, 1, look->width);
+    uint64_t lowered = look->import->rewrites[look->node].first;
     for (uint64_t r = 0; r < look->rows; r++) {
         int64_t from = number_at(offsets, r, look->width), to = number_at(offsets, r + 1, look->width);
         if (from < 0 || to < from)
             return refuse(look->import->report, LAFKUNO_BAD_SOURCE, "row %" PRIu64 ": bytes %" PRId64 " to %" PRId64, look->first + r,
-                          from, to);
+                          (int64_t)((uint64_t)from + lowered), (int64_t)((uint64_t)to + lowered));
     }
     return 0;
 }

@@ -99,6 +99,24 @@ static void struct_validity(void) {
     release_both(&schema, &array);
 }
 
+/* A validity without a zero bit counts as absent: a gap is a row of nulls, and no null struct. */
+static void all_valid(void) {
+    const int32_t fuel[4] = {1, 2, 3, 4};
+    const uint8_t bits = 0x0b, all = 0x0f;
+    struct made *batch = make("+s", "", ARROW_FLAG_NULLABLE, 4, 0);
+    add_buffer(batch, &all, 1);
+    add_child(batch, numbers("i", "fuel", ARROW_FLAG_NULLABLE, 4, 0, fuel, 4, &bits));
+    struct lafkuno_source list[1] = {source_of(batch)};
+    const struct lafkuno_order gap = lafkuno_gap(2);
+    struct ArrowSchema schema;
+    struct ArrowArray array;
+    expect("all valid", lafkuno_join_batches(list, 1, &gap, 1, NULL, &schema, &array, NULL), 0);
+    expect("struct nulls", array.null_count == 0 && !array.buffers[0], 1);
+    expect("fuel's nulls", array.children[0]->null_count, 2);
+    release_both(&schema, &array);
+    discard(batch);
+}
+
 static void refused(const struct lafkuno_source *list, size_t count, const struct lafkuno_order *some, size_t n, int code,
                     const char *text) {
     struct lafkuno_error error;
@@ -139,10 +157,13 @@ static void no_columns(void) {
     struct made *batch = make("+s", "", 0, 4, 4);
     add_buffer(batch, NULL, 0);
     struct lafkuno_source list[1] = {source_of(batch)};
-    const struct lafkuno_order some = lafkuno_rows(0, 1, 4), far = lafkuno_rows(0, 1, 5);
+    const struct lafkuno_order some = lafkuno_rows(0, 1, 4), far = lafkuno_rows(0, 1, 5), gap = lafkuno_gap(2);
     struct ArrowArray array;
     expect("no columns", lafkuno_join_batches(list, 1, &some, 1, NULL, NULL, &array, NULL), 0);
     expect("rows", array.length, 3);
+    array.release(&array);
+    expect("a gap", lafkuno_join_batches(list, 1, &gap, 1, &keep, NULL, &array, NULL), 0);
+    expect("rows", array.length == 2 && array.null_count == 0, 1);
     array.release(&array);
     expect("beyond", lafkuno_join_batches(list, 1, &far, 1, NULL, NULL, &array, NULL), LAFKUNO_NO_SUCH_ROWS);
     discard(batch);
@@ -198,9 +219,9 @@ static struct made *large_list(void) {
     int32_t *starts = malloc(4 * LARGE), *sizes = malloc(4 * LARGE);
     int64_t *items = calloc(2 * LARGE, 8);
     if (!starts || !sizes || !items) exit(2);
-    for (int k = 0; k < LARGE; k++) {
-        starts[k] = 2 * k;
-        sizes[k] = 2;
+    for (int k = 0; k < LARGE; k++) { /* every tenth is empty, and begins at 0 */
+        starts[k] = k % 10 ? 2 * k : 0;
+        sizes[k] = k % 10 ? 2 : 0;
         items[2 * k] = k;
     }
     struct made *m = make("+vl", "stops", ARROW_FLAG_NULLABLE, LARGE, 0);
@@ -285,6 +306,7 @@ static void slices(void) {
 int main(void) {
     whole_batches();
     struct_validity();
+    all_valid();
     batch_errors();
     no_columns();
     no_memory();

@@ -51,12 +51,12 @@ static void sliced_batch(void) {
 
 /* Two slices of one column share its dictionary, which is kept, body and all; another column's is joined. */
 static void dictionaries(void) {
-    const int32_t offsets[] = {0, 3, 7};
+    const int32_t offsets[] = {0, 2, 5, 9}, others[] = {0, 3, 7}; /* the shared one is a slice itself */
     const uint8_t keys[] = {0, 1, 1, 0}, bits = 0x0f;
     struct made *one = numbers("C", "driver", ARROW_FLAG_NULLABLE | ARROW_FLAG_DICTIONARY_ORDERED, 4, 0, keys, 1, &bits);
     struct made *other = numbers("C", "driver", ARROW_FLAG_NULLABLE | ARROW_FLAG_DICTIONARY_ORDERED, 2, 0, keys, 1, NULL);
-    set_dictionary(one, texts("u", "", 2, 0, offsets, "annbert"));
-    set_dictionary(other, texts("u", "", 2, 0, offsets, "eveleon"));
+    set_dictionary(one, texts("u", "", 2, 1, offsets, "--annbert"));
+    set_dictionary(other, texts("u", "", 2, 0, others, "eveleon"));
     struct made *cut = slice(one, 2, 2), *pair[2] = {one, cut};
     const struct lafkuno_order orders[] = {lafkuno_rows(1, 0, 2), lafkuno_rows(0, 1, 2)};
     struct ArrowSchema schema;

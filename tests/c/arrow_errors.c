@@ -280,6 +280,38 @@ static void too_many_entries(void) {
     for (int s = 0; s < 2; s++) discard(pair[s]);
 }
 
+/* A run that many lists name is copied for each of them, and what is in its value too. */
+static void runs_below_lists(void) {
+    enum { ROWS = 1000, ITEMS = 100 };
+    int32_t starts[ROWS], sizes[ROWS], start = 0, size = ITEMS, end = ROWS;
+    uint8_t leaves[ITEMS] = {0};
+    for (int k = 0; k < ROWS; k++) {
+        starts[k] = k;
+        sizes[k] = 1;
+    }
+    struct made *value = make("+vl", "values", 0, 1, 0), *runs = make("+r", "item", 0, ROWS, 0), *m = make("+vl", "list", 0, ROWS, 0);
+    add_buffer(value, NULL, 0);
+    add_buffer(value, &start, 4);
+    add_buffer(value, &size, 4);
+    add_child(value, numbers("C", "leaf", 0, ITEMS, 0, leaves, 1, NULL));
+    add_child(runs, numbers("i", "run_ends", 0, 1, 0, &end, 4, NULL));
+    add_child(runs, value);
+    add_buffer(m, NULL, 0);
+    add_buffer(m, starts, sizeof starts);
+    add_buffer(m, sizes, sizeof sizes);
+    add_child(m, runs);
+    struct lafkuno_source list[1] = {source_of(m)};
+    struct lafkuno_order all = lafkuno_rows(0, 0, ROWS);
+    struct lafkuno_options exactly = {.most_rows = ROWS * ITEMS}, less = {.most_rows = ROWS * ITEMS - 1};
+    struct ArrowArray array;
+    expect("runs", lafkuno_join_arrays(list, 1, &all, 1, &exactly, NULL, &array, NULL), 0);
+    expect("leaves", array.children[0]->children[1]->children[0]->length, ROWS * ITEMS);
+    array.release(&array);
+    refused(list, 1, &all, 1, &less, LAFKUNO_TOO_MUCH_WORK,
+            "node 4 'leaf' (C): 100000 rows are the bound of the orders here, and 99999 are allowed");
+    discard(m);
+}
+
 /* The node is named where only one can be the cause. */
 static void run_ends(void) {
     const int16_t ends[1] = {32767};
@@ -305,6 +337,7 @@ int main(void) {
     no_needless_bound();
     too_many_entries();
     run_ends();
+    runs_below_lists();
     expect_text("meaning", lafkuno_meaning(LAFKUNO_RUN_END_TOO_LARGE), "a run end does not fit its type");
     if (!failed) puts("refusals say where");
     return failed;

@@ -10,7 +10,7 @@ import ctypes
 from ctypes import byref
 from typing import NamedTuple
 
-from ._capsule import ARRAY, SCHEMA, release, unwrap, wrap
+from ._capsule import ARRAY, SCHEMA, fresh, release, unwrap
 from ._library import GAP, ArrowArray, ArrowSchema, Failure, Options, Order, Source, library
 
 __all__ = ["Array", "Error", "gap", "join", "rows", "version"]
@@ -58,6 +58,9 @@ class Array:
     def __len__(self):
         return self._array.length
 
+    def __repr__(self):
+        return f"<lafkuno.Array of {len(self)} rows, {self.null_count} of them null, format {self.format!r}>"
+
     @property
     def null_count(self):
         return self._array.null_count
@@ -68,15 +71,14 @@ class Array:
         return self._schema.format.decode()
 
     def __arrow_c_schema__(self):
-        schema = ArrowSchema()
+        capsule, schema = fresh(SCHEMA)
         _check(library.lafkuno_copy_schema(byref(self._schema), byref(schema)))
-        return wrap(schema, SCHEMA)
+        return capsule
 
     def __arrow_c_array__(self, requested_schema=None):
         """The schema and the array as capsules. The type is the array's own, whatever is requested."""
-        array = ArrowArray()
+        capsule, array = fresh(ARRAY)
         _check(library.lafkuno_share_array(byref(self._array), byref(array)))
-        capsule = wrap(array, ARRAY)
         return self.__arrow_c_schema__(), capsule
 
 
@@ -100,13 +102,19 @@ def _order(order):
     return Order(_number(source, GAP - 1), _number(start, 2**64 - 1), _number(end, 2**64 - 1))
 
 
+def _capsules(number, source):
+    if not hasattr(source, "__arrow_c_array__"):
+        raise TypeError(f"source {number} is a {type(source).__name__} without __arrow_c_array__")
+    return source.__arrow_c_array__()
+
+
 def join(sources, orders, *, keep_nulls=False, most_rows=0):
     """Carries the orders out, one after the other, over 1 to 16 sources of one type; record batches where the sources are structs.
 
     keep_nulls: orders of nulls (`gap`) are taken even where no source has a null.
     most_rows: the most rows that any node may come to, by a bound that is computed first; 0 stands for 2 ** 32.
     """
-    capsules = [source.__arrow_c_array__() for source in sources]  # kept until the call is over
+    capsules = [_capsules(k, source) for k, source in enumerate(sources)]  # kept until the call is over
     structs = [(unwrap(schema, SCHEMA), unwrap(array, ARRAY)) for schema, array in capsules]
     table = (Source * len(structs))(*(Source(ctypes.pointer(s), ctypes.pointer(a)) for s, a in structs))
     list_ = [_order(order) for order in orders]

@@ -111,3 +111,7 @@ library.lafkuno_copy_schema.argtypes = [POINTER(ArrowSchema), POINTER(ArrowSchem
 library.lafkuno_meaning.argtypes = [c_int]
 library.lafkuno_meaning.restype = c_char_p
 library.lafkuno_version.restype = c_char_p
+library.lafkuno_capsules_begin.argtypes = [c_void_p]
+library.lafkuno_capsules_begin.restype = None
+library.lafkuno_capsule_struct.argtypes = [c_size_t]
+library.lafkuno_capsule_struct.restype = c_void_p

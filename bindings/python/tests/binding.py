@@ -1,11 +1,14 @@
 """The Python binding: joins, ownership, errors; and, where it can be had, pyarrow's arrays against pyarrow's own slices."""
 
+import ctypes
 import gc
 import struct
 from concurrent.futures import ThreadPoolExecutor
 
 import lafkuno
 from columns import Column, Type, read_all
+from lafkuno._capsule import ARRAY, unwrap
+from lafkuno._library import ArrowArray, Release
 
 
 def i32(values, offset=0, name="fuel", nullable=True, format="i"):
@@ -23,7 +26,7 @@ def test_a_sliced_batch():
     del batch
     gc.collect()
     assert numbers(joined) == [95, 102, 12, None, 61]
-    assert (len(joined), joined.null_count, joined.format) == (5, 1, "i")
+    assert repr(joined) == "<lafkuno.Array of 5 rows, 1 of them null, format 'i'>"
 
 
 def test_a_result_is_a_source():
@@ -46,6 +49,20 @@ def test_capsules_outlive_the_array():
 
     assert numbers(Holder()) == [1, 2, 3]
     assert numbers(lafkuno.join([Holder()], [(0, 2, 3)])) == [3]
+
+
+def test_a_consumer_moves_the_struct():
+    joined = lafkuno.join([i32([1, 2, 3])], [(0, 0, 3)])
+    capsules = joined.__arrow_c_array__()
+    theirs = unwrap(capsules[1], ARRAY)
+    moved = ArrowArray()
+    ctypes.memmove(ctypes.addressof(moved), ctypes.addressof(theirs), ctypes.sizeof(ArrowArray))
+    theirs.release = Release()
+    del joined, capsules, theirs
+    gc.collect()
+    assert ctypes.string_at(moved.buffers[1], 12) == struct.pack("<3i", 1, 2, 3)
+    moved.release(ctypes.addressof(moved))
+    assert not moved.release
 
 
 def test_threads():
@@ -85,6 +102,12 @@ def test_errors():
         "node 0 'fuel' (i): 3 rows are the bound of the orders here, and 2 are allowed",
     )
     assert (error.code, error.found, error.allowed) == (102, 3, 2)
+    try:  # the capsules of source 0 die while the exception is on its way
+        lafkuno.join([lafkuno.join([a], [(0, 0, 3)]), [1, 2]], [])
+    except TypeError as error:
+        assert str(error) == "source 1 is a list without __arrow_c_array__"
+    else:
+        raise AssertionError("a list was taken")
     for order in [(0, -1, 2), lafkuno.gap(-1), (2**32, 0, 1)]:
         try:
             lafkuno.join([a], [order])

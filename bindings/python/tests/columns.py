@@ -7,7 +7,7 @@ import ctypes
 import struct
 from ctypes import POINTER, c_void_p, pointer
 
-from lafkuno._capsule import ARRAY, SCHEMA, unwrap, wrap
+from lafkuno._capsule import ARRAY, SCHEMA, borrow, unwrap
 from lafkuno._library import ArrowArray, ArrowSchema, Release
 
 _libc = ctypes.CDLL(None)
@@ -46,17 +46,7 @@ def metadata_bytes(pairs):
 
 @Release
 def _nothing(_):
-    pass
-
-
-@Release
-def _released_schema(address):
-    ArrowSchema.from_address(address).release = Release()
-
-
-@Release
-def _released_array(address):
-    ArrowArray.from_address(address).release = Release()
+    """The structs are kept by their column, and never released."""
 
 
 class Column:
@@ -65,6 +55,7 @@ class Column:
     def __init__(self, type, length, offset, buffers, children=(), dictionary=None, null_count=-1, blocks=None):
         self.type, self.length, self.offset, self.null_count = type, length, offset, null_count
         self.buffers, self.children, self.dictionary = buffers, list(children), dictionary
+        self.structs = []
         self.blocks = blocks if blocks is not None else [Block(b) if b is not None else None for b in buffers]
 
     def slice(self, start, length):
@@ -76,13 +67,14 @@ class Column:
         return [None if b is None else b.get() for b in self.blocks]
 
     def schema(self):
-        return make_schema(self.type, _released_schema)
+        return make_schema(self.type)
 
     def array(self):
-        return make_array(self, _released_array)
+        return make_array(self)
 
     def __arrow_c_array__(self, requested_schema=None):
-        return wrap(self.schema(), SCHEMA), wrap(self.array(), ARRAY)
+        self.structs = self.structs or [self.schema(), self.array()]
+        return borrow(self.structs[0], SCHEMA), borrow(self.structs[1], ARRAY)
 
 
 class Block:
@@ -101,9 +93,9 @@ class Block:
         free(self.address)
 
 
-def make_schema(type, release=_nothing):
+def make_schema(type):
     flags = (2 if type.nullable else 0) | (1 if type.ordered else 0)
-    out = ArrowSchema(format=type.format.encode(), name=type.name.encode(), flags=flags, release=release)
+    out = ArrowSchema(format=type.format.encode(), name=type.name.encode(), flags=flags, release=_nothing)
     out.keep = [make_schema(c) for c in type.children]
     if type.metadata is not None:
         out.text = ctypes.create_string_buffer(type.metadata, len(type.metadata))
@@ -117,10 +109,9 @@ def make_schema(type, release=_nothing):
     return out
 
 
-def make_array(column, release=_nothing):
+def make_array(column):
     addresses = [None if b is None else b.address for b in column.blocks]
-    out = ArrowArray(length=column.length, offset=column.offset, null_count=column.null_count, release=release)
-    out.owner = column
+    out = ArrowArray(length=column.length, offset=column.offset, null_count=column.null_count, release=_nothing)
     out.list = (c_void_p * max(len(addresses), 1))(*addresses)
     out.n_buffers, out.buffers = len(addresses), out.list
     out.keep = [make_array(c) for c in column.children]

@@ -162,7 +162,7 @@ def read_batch(source):
 
 def expected_batch(columns, orders, types, nullable):
     rows = [read_batch(c) for c in columns]
-    own = nullable or not types or any(not valid for column in rows for valid, _ in column)
+    own = nullable or any(not valid for column in rows for valid, _ in column)
     out = []
     for order in orders:
         if isinstance(order, lafkuno.gap):
