@@ -113,6 +113,20 @@ def sixteen(script):
     run(script, '16 sources, the last with a slice of the dictionary', other, orders + DONE)
 
 
+# ---- a validity whose only zeros stand before the offset or behind the rows: none is counted, also where the node keeps nulls
+
+def zeros_outside(script):
+    for t, rows, others in kinds():
+        if t.format not in ('C', 'u', 'vu', '+vl'): continue
+        m, holes = len(others), sum(x is None for x in rows)
+        columns = [make(t, rows, before=rows[:2]), sliced(make(t, [None] * 3 + others + [None]), 3, m)]
+        name = t.format + (' with a dictionary of ' + t.dictionary.format if t.dictionary else '') + ', zeros outside the rows'
+        run(script, name, columns, [('copy', 1, 0, m)] + DONE)
+        assert ' finish 0 0 | %d+0 0 no ' % m in script.lines[-1]
+        run(script, name + ', behind nulls', columns, [('copy', 0, 0, len(rows)), ('copy', 1, 0, m), ('copy', 1, 1, m)] + DONE)
+        assert ' finish 0 %d | ' % holes in script.lines[-1] and holes > 0
+
+
 def paged(commands):
     """The program reads pages of 65,536 bytes: a case that would cross their bounds begins on the next."""
     text, case = '', ''
@@ -132,6 +146,7 @@ rooms(script)
 nested(script)
 sixteen(script)
 ground_cases(script)
+zeros_outside(script)
 crate = os.path.join(os.path.dirname(os.path.abspath(__file__)), '..', '..', 'crates', 'vectors_joins')
 with open(os.path.join(crate, 'stdin'), 'w') as f: f.write(paged(script.text))
 with open(os.path.join(crate, 'stdout'), 'w') as f: f.write('\n'.join(script.lines) + '\n')
