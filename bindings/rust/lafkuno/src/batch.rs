@@ -171,20 +171,28 @@ pub fn join_many(jobs: &[Job], threads: usize, done: &(dyn Fn(usize) + Sync)) ->
 
 /// The same for any work: `make` of each job, on so many threads.
 pub fn run_many<J: Sync, T: Send>(jobs: &[J], threads: usize, make: impl Fn(&J) -> T + Sync, done: &(dyn Fn(usize) + Sync)) -> Vec<T> {
+    let threads = threads.clamp(1, jobs.len().max(1));
+    // small jobs are taken some at a time
+    let some = (jobs.len() / (8 * threads)).clamp(1, 64);
     let (next, made) = (AtomicUsize::new(0), AtomicUsize::new(0));
-    let answers: Vec<Mutex<Option<T>>> = jobs.iter().map(|_| Mutex::new(None)).collect();
-    let work = || {
-        while let Some((job, answer)) = Some(next.fetch_add(1, Ordering::Relaxed)).and_then(|k| Some((jobs.get(k)?, &answers[k]))) {
-            let made_one = make(job);
-            if let Ok(mut answer) = answer.lock() {
-                *answer = Some(made_one);
-            }
+    let answers: Mutex<Vec<(usize, Vec<T>)>> = Mutex::new(vec![]);
+    let work = || loop {
+        let k = next.fetch_add(1, Ordering::Relaxed);
+        let Some(mine) = jobs.get(k * some..).filter(|rest| !rest.is_empty()) else { break };
+        let make_one = |job| {
+            let answer = make(job);
             done(made.fetch_add(1, Ordering::Relaxed) + 1);
-        }
+            answer
+        };
+        let list = mine.iter().take(some).map(make_one).collect();
+        // a thread that panics ends the whole
+        answers.lock().unwrap_or_else(|e| e.into_inner()).push((k, list));
     };
     std::thread::scope(|scope| {
-        (1..threads.clamp(1, jobs.len().max(1))).for_each(|_| drop(scope.spawn(work)));
+        (1..threads).for_each(|_| drop(scope.spawn(work)));
         work();
     });
-    answers.into_iter().filter_map(|a| a.into_inner().ok().flatten()).collect()
+    let mut answers = answers.into_inner().unwrap_or_else(|e| e.into_inner());
+    answers.sort_by_key(|(k, _)| *k);
+    answers.into_iter().flat_map(|(_, list)| list).collect()
 }

@@ -193,6 +193,17 @@ impl Join {
         self.room
     }
 
+    /// Marks the column nullable where a source is, or nulls are kept; the values of runs too. The type depends on no data.
+    fn mark(&self, column: &mut Column) {
+        let flag = |s: &[u32]| self.lent.schema.get(5 * s[0] as usize + 2).is_some_and(|flags| flags & 2 != 0);
+        column.nullable |= self.keep || self.lent.sources.chunks_exact(2).any(flag);
+        let mut below = column;
+        while below.format == "+r" && below.children.len() == 2 {
+            below = &mut below.children[1];
+            below.nullable |= self.keep;
+        }
+    }
+
     /// Lends the room, carries out the orders and finishes the array. View data and a kept dictionary stay where the sources were laid.
     pub fn finish(self) -> Result<Joined, Error> {
         let inconsistent = |what: &str| Err(Error::Inconsistent(what.into()));
@@ -229,7 +240,10 @@ impl Join {
         let first = x.sources[0] as usize;
         let raise = Raise { x, first, lengths: &lengths, places: &places, buffers: &buffers, fields: &self.lent.fields, take: &take };
         match raise.column(0) {
-            Some((column, _)) => Ok(Joined { column, null_counts: nulls, running_nulls: calls::running_nulls(&counters) }),
+            Some((mut column, _)) => {
+                self.mark(&mut column);
+                Ok(Joined { column, null_counts: nulls, running_nulls: calls::running_nulls(&counters) })
+            }
             None => inconsistent("the finished tables name bytes that are not there"),
         }
     }

@@ -18,11 +18,11 @@ pub struct Type {
     pub dictionary: Option<Box<Type>>,
 }
 
-/// The format that a logical type is stored as: dates, times, timestamps and durations are integers, half floats 16 bits.
+/// The format that a logical type is stored as: dates, times, timestamps, durations and short intervals are integers, half floats 16 bits.
 pub fn storage(format: &str) -> &str {
     match format {
-        "tdD" | "tts" | "ttm" => "i",
-        "tdm" | "ttu" | "ttn" | "tDs" | "tDm" | "tDu" | "tDn" => "l",
+        "tdD" | "tts" | "ttm" | "tiM" => "i",
+        "tdm" | "tiD" | "ttu" | "ttn" | "tDs" | "tDm" | "tDu" | "tDn" => "l",
         "e" => "S",
         f if ["tss:", "tsm:", "tsu:", "tsn:"].iter().any(|p| f.starts_with(p)) => "l",
         f => f,

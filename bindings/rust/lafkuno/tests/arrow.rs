@@ -47,7 +47,7 @@ fn files_are_joined_over_every_column() {
     assert_eq!(text_of(&output.stderr), "c.arrow: 3 columns, 3 orders, 5 rows\n");
     assert_eq!(output.status.code(), Some(0));
     let output = run(&place, &["show", "c.arrow"]);
-    let due = "# van=7\n# fuel: i?, unit=ml\n# town: C?[u?], unit=ml\n# at: tsu:UTC, unit=ml\n95\tnull\t3\n102\t\"Granton\"\t4\nnull\tnull\tnull\n12\t\"Yard\"\t5\nnull\t\"Leith\"\t6\n";
+    let due = "# van=7\n# fuel: i?, unit=ml\n# town: C?[u?], unit=ml\n# at: tsu:UTC?, unit=ml\n95\tnull\t3\n102\t\"Granton\"\t4\nnull\tnull\tnull\n12\t\"Yard\"\t5\nnull\t\"Leith\"\t6\n";
     assert_eq!(text_of(&output.stdout), due);
     let output = run(&place, &["show", "--rows", "1..2", "c.arrow"]);
     assert!(text_of(&output.stdout).ends_with("unit=ml\n102\t\"Granton\"\t4\n"));

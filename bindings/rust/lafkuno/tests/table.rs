@@ -282,7 +282,9 @@ fn work_is_bounded() {
 
 #[test]
 fn logical_types_travel_as_their_storage() {
-    for (format, w) in [("tdD", 4), ("tdm", 8), ("tts", 4), ("ttm", 4), ("ttu", 8), ("ttn", 8), ("tsn:Europe/Berlin", 8), ("tDu", 8), ("e", 2)] {
+    for (format, w) in
+        [("tdD", 4), ("tdm", 8), ("tts", 4), ("ttm", 4), ("ttu", 8), ("ttn", 8), ("tsn:Europe/Berlin", 8), ("tDu", 8), ("tiD", 8), ("e", 2)]
+    {
         let bytes: Vec<u8> = (0..3 * w).map(|b| b as u8).collect();
         let column = fixed(format, bytes.clone().into(), 3);
         let mut join = Join::open(&[&column], true).unwrap();

@@ -205,6 +205,8 @@ fn flat_type(format: &str) -> Option<(u8, Flat)> {
         "+r" => (code::RUN_ENDS, none()),
         "tdD" => (code::DATE, short(0)),
         "tdm" => (code::DATE, short(1)),
+        "tiM" => (code::INTERVAL, short(0)),
+        "tiD" => (code::INTERVAL, short(1)),
         "tts" | "ttm" => (code::TIME, Flat::Table(vec![Cell::I16(unit(2)?), Cell::I32(32)])),
         "ttu" | "ttn" => (code::TIME, Flat::Table(vec![Cell::I16(unit(2)?), Cell::I32(64)])),
         "tDs" | "tDm" | "tDu" | "tDn" => (code::DURATION, short(unit(2)?)),

@@ -57,7 +57,7 @@ fn plain(column: &Column) -> Result<Column, Error> {
     }
     let mut plain = column.clone();
     if any(column, &moved) {
-        let mut join = Join::open(&[column], true)?;
+        let mut join = Join::open(&[column], false)?;
         join.copy(0, 0..column.length)?;
         plain = join.finish()?.column;
     }
@@ -68,7 +68,7 @@ fn plain(column: &Column) -> Result<Column, Error> {
 /// A dictionary that is kept may still begin in its middle.
 fn settle(column: &mut Column) -> Result<(), Error> {
     if let Some(values) = column.dictionary.as_mut().filter(|v| v.offset != 0) {
-        let mut join = Join::open(&[values], true)?;
+        let mut join = Join::open(&[values], false)?;
         join.copy(0, 0..values.length)?;
         **values = join.finish()?.column;
     }

@@ -1,0 +1,68 @@
+// How many joins a second one machine makes, by rows and kind, on one thread and on two. Run by bench/run; built by cargo with bindings/rust.
+
+use lafkuno::{join_many, text, Batch, Column, Field, Job, Order, Row, Type};
+use std::time::Instant;
+
+fn column(name: &str, ty: &str, rows: u64, row: &str) -> Column {
+    let ty: Type = ty.parse().unwrap();
+    let some: Vec<Row> = text::rows(&ty, row).unwrap();
+    let rows: Vec<Row> = (0..rows as usize).map(|k| some[k % some.len()].clone()).collect();
+    Column { field: Field { name: name.into(), ..Field::default() }, ..Column::build(&ty, &rows).unwrap() }
+}
+
+extern "C" {
+    fn clock_gettime(clock: i32, time: *mut [i64; 2]) -> i32;
+}
+
+// The processor time of all threads of this process, in seconds: what other work on the machine takes is not in it.
+fn processor() -> f64 {
+    let mut time = [0; 2];
+    unsafe { clock_gettime(2, &mut time) };
+    time[0] as f64 + time[1] as f64 / 1e9
+}
+
+// Joins a second of trips over two batches (two copies, a null, a copy), and microseconds of a processor a join.
+fn rate(batch: &Batch, threads: usize, jobs: usize) -> (f64, f64) {
+    let rows = batch.rows;
+    let copy = |source, start, end| Order::Copy { source, start, end };
+    let orders = vec![copy(0, rows / 4, rows), Order::Nulls(1), copy(1, 0, rows / 2), copy(0, 0, rows / 4)];
+    let jobs: Vec<Job> = (0..jobs).map(|_| Job { sources: vec![batch, batch], orders: orders.clone(), keep_nulls: true }).collect();
+    let (mut wall, mut used) = (f64::MAX, f64::MAX);
+    for _ in 0..7 {
+        let (start, before) = (Instant::now(), processor());
+        assert!(join_many(&jobs, threads, &|_| {}).iter().all(Result::is_ok));
+        (wall, used) = (wall.min(start.elapsed().as_secs_f64()), used.min(processor() - before));
+    }
+    (jobs.len() as f64 / wall, 1e6 * used / jobs.len() as f64)
+}
+
+fn main() {
+    println!(
+        "| rows a batch | columns | joins a second, 1 thread | 2 threads | ratio | processor us a join, 1 thread | 2 threads | ratio on free cores |"
+    );
+    println!("|---|---|---|---|---|---|---|---|");
+    for rows in [10u64, 1000, 100_000] {
+        let kinds: [(&str, Vec<Column>); 4] = [
+            ("one of int64", vec![column("n", "l?", rows, "1 2 null 4")]),
+            ("one of strings", vec![column("s", "u?", rows, "\"Leith\" \"Granton\" null")]),
+            ("one of list-views", vec![column("v", "+vl?(i?)", rows, "[1, 2] [] null [3]")]),
+            (
+                "six: numbers, strings, views, run ends, dictionary, union",
+                vec![
+                    column("a", "l?", rows, "1 2 null 4"),
+                    column("b", "u?", rows, "\"Leith\" \"Granton\" null"),
+                    column("c", "vu?", rows, "\"short\" \"a text of more than twelve bytes\""),
+                    column("d", "+r(i, u?)", rows, "5*\"driving\" 3*\"idle\""),
+                    column("e", "S?[u]", rows, "\"x\" \"y\" null"),
+                    column("f", "+us:0,1(i?, g?)", rows, "0:1 1:2.5 0:null"),
+                ],
+            ),
+        ];
+        for (name, columns) in kinds {
+            let batch = Batch { rows, columns, metadata: vec![] };
+            let jobs = (4_000_000 / (rows * batch.columns.len() as u64 + 2000)).max(8) as usize;
+            let ((one, used), (two, both)) = (rate(&batch, 1, jobs), rate(&batch, 2, jobs));
+            println!("| {rows} | {name} | {one:.0} | {two:.0} | {:.2} | {used:.1} | {both:.1} | {:.2} |", two / one, 2.0 * used / both);
+        }
+    }
+}
