@@ -24,6 +24,8 @@
 extern "C" {
 #endif
 
+#define LAFKUNO_VERSION "0.1.0"
+
 /* Why a call is refused. */
 enum lafkuno_ground {
     LAFKUNO_DONE = 0,

@@ -1,24 +1,22 @@
 -- DEMAND 1: every call is carried out or refused, exactly by 01's numbers, and a refusal changes nothing. Assumes nothing.
 use mathlib.Core.Path.{_≡_, refl, sym, ap, subst, _∙_}
-use mathlib.Core.Bool.{Bool, true, false, cond, _&&_}
+use mathlib.Core.Bool.{Bool, true, false, cond}
 use mathlib.Core.List.{List}
 use Prim.Native.Nat.{ℕ, _≤_, _<_}
 use native.Mathlib.Omega.{arith}
 use lib.ListN.{length}
-use lib.Dec.{leb, ltb, eqb}
+use lib.Dec.{leb, eqb}
 use borrow.Author.Tests.{leb-true, eqb-true, eqb-false}
 use Rattle.model.specs.Try.{Try, done, stop, then, guard}
 use Rattle.model.specs.Grounds.{Counts, startCounts}
 use Rattle.model.specs.Transform.{Destination, start}
-use Rattle.model.specs.Book.{Call, copy, nulls}
+use Rattle.model.specs.Book.{Call}
 use Rattle.model.specs.Held.{held}
 use Rattle.model.proofs.Start.{held-start}
 use Rattle.columns.specs.Grounds.{sourcesGround}
-use Rattle.parts.specs.Parts.{partsWithin, partsHold}
-use Rattle.walk.specs.State.{keepsOf}
-use Rattle.walk.specs.Log.{Out}
-use Rattle.orders.specs.Order.{After, Lent, sourceCount, sourceLength, refused, settled, copyOrder, nullOrder, ordered}
+use Rattle.orders.specs.Order.{Lent, ordered}
 use Rattle.orders.specs.Counted.{answerRoom, countsAfter}
+use Rattle.orders.proofs.Accepted.{order-keeps}
 use Rattle.orders.proofs.Booked.{groundOf, booked, ground-is}
 use Rattle.opening.specs.Open.{roomPlaced, opening}
 use Rattle.opening.specs.Fits.{openIn}
@@ -80,31 +78,8 @@ module _ (l : Lending) where
 
 -- REFUSED, A CALL CHANGES NOTHING, whatever plan, parts, sources, counters and room it is lent
 module _ (x : Lent) (counts room : List ℕ) where
-  abbrev Kept : After → Type 0
-  Kept a = (a .ground ≡ 0 → ⊥) → (a .counts ≡ counts) × (a .room ≡ room)
-
-  kept-refused : (g : ℕ) → Kept (refused x counts room g)
-  kept-refused g h = (refl, refl)
-
-  kept-if : (b : Bool) (a c : After) → Kept a → Kept c → Kept (cond b a c)
-  kept-if true a c h k = h
-  kept-if false a c h k = k
-
-  kept-settled : (o : Out) → Kept (settled x counts room o)
-  unfolding settled
-  kept-settled o =
-      kept-if (eqb (o .ans) 0) _ _
-      (kept-if (partsWithin (x .plan) (x .parts) (length room)) _ _ (kept-if (partsHold (x .plan) (o .counts) (x .parts)) _ _ (λ h. absurd (h refl)) (kept-refused 13)) (kept-refused 14))
-      (kept-refused (o .ans))
-
   pub call-keeps : (o : Call) → (ordered x counts room o .ground ≡ 0 → ⊥) → (ordered x counts room o .counts ≡ counts) × (ordered x counts room o .room ≡ room)
-  unfolding copyOrder nullOrder
-  call-keeps (copy s a e) =
-      kept-if (eqb (length counts) 96) _ _
-      (kept-if (ltb s (sourceCount (x .plan))) _ _ (kept-if (leb a e && leb e (sourceLength x s)) _ _ (kept-settled _) (kept-refused 2)) (kept-refused 1))
-      (kept-refused 14)
-  call-keeps (nulls n) =
-      kept-if (eqb (length counts) 96) _ _ (kept-if (eqb (keepsOf (x .plan) 0) 0) _ _ (kept-refused 3) (kept-settled _)) (kept-refused 14)
+  call-keeps = order-keeps x counts room
 
 -- after an accepted opening and any list of calls, refused ones included
 module _ (l : Lending) (b : Bytes l) (accepted : openingOf l .ground ≡ 0) (os : List Call) where

@@ -1,16 +1,17 @@
 -- DEMAND 2: the finished array has the bytes, lengths and null counts of the Rust, and its rows read as asked. Assumes nothing.
 use mathlib.Core.Path.{_≡_, refl, sym, ap, subst, _∙_}
 use mathlib.Core.Bool.{Bool, true, false}
-use mathlib.Core.List.{List, [], _∷_}
-use Prim.Native.Nat.{ℕ, _+_, _*_, _≤_}
+use mathlib.Core.List.{List, [], _∷_, _++_}
+use Prim.Native.Nat.{ℕ, _+_, _*_, _-_, _≤_}
+use native.Mathlib.Omega.{arith}
 use lib.ListN.{length, getD}
 use lib.Dec.{T}
 use native.Mathlib.Nat.{zero-add}
-use Rattle.columnar.specs.Array.{nullCount}
+use Rattle.columnar.specs.Array.{nullCount, ok, nullsIn}
 use Rattle.columnar.specs.Reading.{readAll, masks}
 use Rattle.model.specs.Try.{Try, done, stop, then, guard, after}
 use Rattle.model.specs.Transform.{Destination, start, intoBuilder}
-use Rattle.model.specs.Book.{Call}
+use Rattle.model.specs.Book.{Call, copy, nullsEntered}
 use Rattle.model.specs.Orders.{perform, performAll}
 use Rattle.model.proofs.Book.{countedIf}
 use Rattle.model.specs.Counters.{FinishedBy}
@@ -20,17 +21,19 @@ use Rattle.array_data.specs.Tables.{lengthOf}
 use Rattle.array_data.specs.Typed.{sourceRule}
 use Rattle.walk.specs.State as walk
 use Rattle.parts.specs.Parts.{nodesOf}
+use Rattle.orders.specs.Order.{After}
 use Rattle.orders.specs.Fits.{fits, answerIn, answersIn}
 use Rattle.orders.specs.Counted.{nullsRoom}
+use Rattle.orders.proofs.Step.{Running, Answers, made, not-made, order-step}
 use Rattle.orders.proofs.Booked.{booked}
 use Rattle.link.specs.Holds.{Holds}
 use Rattle.opening.proofs.Taken.{sources-of}
 use Rattle.opening.proofs.Opened.{Opened, orders-after}
 use Rattle.finishing.specs.Finish.{Finished, lengthTable, nullTable, placeTable, bufferTable, buffersBefore}
-use Rattle.finishing.specs.Shows.{Shows, Counts}
+use Rattle.finishing.specs.Shows.{Shows, Counts, Bodied}
 use Rattle.finishing.proofs.Orders.{appended}
 use Rattle.finishing.proofs.Join.{finishing-accepted, join-shows, join-nulls, join-again}
-use Rattle.join.specs.Join.{Lending, Bytes, sourcesIn, treeIn, typeIn, columnsIn, keepsIn, openingOf, lentOf, afterCalls, finishingOf, tablesOf, finishedOf, nullsOf, reachedBy}
+use Rattle.join.specs.Join.{Lending, Bytes, sourcesIn, treeIn, typeIn, columnsIn, keepsIn, openingOf, lentOf, afterCalls, nextCall, finishingOf, tablesAt, tablesOf, finishedOf, nullsOf, reachedBy}
 use Rattle.join.proofs.Demand1.{runs}
 
 -- ---- the model's destination is that of the Rust's calls, those that are carried out
@@ -77,16 +80,31 @@ module _ (l : Lending) (b : Bytes l) (accepted : openingOf l .ground ≡ 0) (os 
   pub reached-is : reachedBy l os ≡ performAll (typeIn l) (sourcesIn l) (columnsIn l) (carriedOut l os (first l)) (first l)
   reached-is = carried l os (first l)
 
-  -- THE BYTES, LENGTHS AND VALIDITY: the finished tables describe `into_builder` of it, byte for byte
-  pub finished-bytes : Shows (treeIn l) (tablesOf l os) (typeIn l) 0 (intoBuilder (typeIn l) (sourcesIn l) (columnsIn l) (reachedBy l os))
-  finished-bytes =
-      join-shows (l .formats) (l .schema) (l .sources) (l .tables) (l .keep) (l .parts) (openingOf l) opens os (length (l .tables .body)) _ (appended (lentOf l) (afterCalls l os .room))
+  -- Over any body z in which the room stands from `base` on and the sources' body where it was:
+  module _ (base : ℕ) (z : List ℕ) (laid : Bodied z (lentOf l) (afterCalls l os .room) base) where
+    -- THE BYTES, LENGTHS AND VALIDITY: the finished tables describe `into_builder` of it, byte for byte
+    pub bytes-at : Shows (treeIn l) (tablesAt l os base z) (typeIn l) 0 (intoBuilder (typeIn l) (sourcesIn l) (columnsIn l) (reachedBy l os))
+    bytes-at = join-shows (l .formats) (l .schema) (l .sources) (l .tables) (l .keep) (l .parts) (openingOf l) opens os base z laid
 
-  -- THE NULL COUNTS of every node are those of its finished bits
+    -- THE NULL COUNTS of every node are those of its finished bits
+    pub nulls-at : Counts (treeIn l) (nullTable (lentOf l) (l .tables .buffers) (afterCalls l os .counts) (afterCalls l os .room) base) (typeIn l) 0
+        (intoBuilder (typeIn l) (sourcesIn l) (columnsIn l) (reachedBy l os))
+    nulls-at = join-nulls (l .formats) (l .schema) (l .sources) (l .tables) (l .keep) (l .parts) (openingOf l) opens os base z laid
+
+    -- LENT AGAIN, it passes ground 12
+    pub again-at : T (sourceRule (treeIn l) (tablesAt l os base z))
+    again-at = join-again (l .formats) (l .schema) (l .sources) (l .tables) (l .keep) (l .parts) (openingOf l) opens os base z laid
+
+  -- the sources' body with the room behind it is such a body
+  pub behind-body : Bodied (l .tables .body ++ afterCalls l os .room) (lentOf l) (afterCalls l os .room) (length (l .tables .body))
+  behind-body = appended (lentOf l) (afterCalls l os .room)
+
+  pub finished-bytes : Shows (treeIn l) (tablesOf l os) (typeIn l) 0 (intoBuilder (typeIn l) (sourcesIn l) (columnsIn l) (reachedBy l os))
+  finished-bytes = bytes-at (length (l .tables .body)) _ behind-body
+
   pub finished-nulls : Counts (treeIn l) (nullTable (lentOf l) (l .tables .buffers) (afterCalls l os .counts) (afterCalls l os .room) (length (l .tables .body))) (typeIn l) 0
       (intoBuilder (typeIn l) (sourcesIn l) (columnsIn l) (reachedBy l os))
-  finished-nulls =
-      join-nulls (l .formats) (l .schema) (l .sources) (l .tables) (l .keep) (l .parts) (openingOf l) opens os (length (l .tables .body)) _ (appended (lentOf l) (afterCalls l os .room))
+  finished-nulls = nulls-at (length (l .tables .body)) _ behind-body
 
   -- .. AND THOSE OF THE RUST: of every node, validity is kept where its running null count is above 0, and that is its null count
   pub finished-counters : FinishedBy (typeIn l) (sourcesIn l) (columnsIn l) (reachedBy l os) (intoBuilder (typeIn l) (sourcesIn l) (columnsIn l) (reachedBy l os))
@@ -107,6 +125,33 @@ module _ (l : Lending) (b : Bytes l) (accepted : openingOf l .ground ≡ 0) (os 
       ∙ zero-add _
       ∙ ap (λ c. countedIf (keepsIn l) (nullsRoom (lentOf l .plan) (l .parts) (typeIn l) (keepsIn l) (sourcesIn l) (columnsIn l) os c)) (held-start (typeIn l) (keepsIn l) (sourcesIn l) (λ j. columnsIn l j .body))
 
+  -- ONE CALL MORE that is accepted raises it by the nulls that the call enters ..
+  pub call-counts : (o : Call) → nextCall l os o .ground ≡ 0
+      → walk.nulls (nextCall l os o .counts) 0
+      ≡ walk.nulls (afterCalls l os .counts) 0 + countedIf (keepsIn l) (nullsEntered (typeIn l) (keepsIn l) (sourcesIn l) (columnsIn l) o)
+  call-counts o h =
+      go (order-step (lentOf l) (typeIn l) (sourcesIn l) (columnsIn l) (opens .join) (keepsIn l) (openingOf l .counts) (opens .memory) o (reachedBy l os) (afterCalls l os .counts) (afterCalls l os .room) before) h
+    where
+      before : Running (lentOf l) (typeIn l) (sourcesIn l) (columnsIn l) (opens .join) (keepsIn l) (openingOf l .counts) (opens .memory) (reachedBy l os) (afterCalls l os .counts) (afterCalls l os .room)
+      before = orders-after (l .formats) (l .schema) (l .sources) (l .tables) (l .keep) (l .parts) (openingOf l) opens os .running
+
+      go : {p : Try (Destination (typeIn l))} {a : After}
+          → Answers (lentOf l) (typeIn l) (sourcesIn l) (columnsIn l) (opens .join) (keepsIn l) (openingOf l .counts) (opens .memory) o (reachedBy l os) (afterCalls l os .counts) (afterCalls l os .room) p a
+          → a .ground ≡ 0
+          → walk.nulls (a .counts) 0 ≡ walk.nulls (afterCalls l os .counts) 0 + countedIf (keepsIn l) (nullsEntered (typeIn l) (keepsIn l) (sourcesIn l) (columnsIn l) o)
+      go (made d′ a e r did) q =
+          r .holds .nulls-are
+          ∙ did .count-is
+          ∙ ap (_+ countedIf (keepsIn l) (nullsEntered (typeIn l) (keepsIn l) (sourcesIn l) (columnsIn l) o)) (sym (before .holds .nulls-are))
+      go (not-made g a e p c s) q = absurd (omega (arith, e, q, p))
+
+  -- .. A COPY BY THE ZERO BITS OF ITS RANGE, where the root keeps nulls, else by none
+  pub copy-counts : (j a e : ℕ) → nextCall l os (copy j a e) .ground ≡ 0 → keepsIn l ≡ true
+      → walk.nulls (nextCall l os (copy j a e) .counts) 0 ≡ walk.nulls (afterCalls l os .counts) 0 + nullsIn (ok (columnsIn l j .valid)) (columnsIn l j .off + a) (e - a)
+  copy-counts j a e h k =
+      call-counts (copy j a e) h
+      ∙ ap (λ (b : Bool). walk.nulls (afterCalls l os .counts) 0 + countedIf b (nullsIn (ok (columnsIn l j .valid)) (columnsIn l j .off + a) (e - a))) k
+
   -- FINISHING IS NEVER REFUSED where the tables are of the finished array's lengths and the body of at most 2^32 - 1 bytes
   pub finishing-answered : (base : ℕ) (lengths nulls places names : List ℕ) → base + length (afterCalls l os .room) ≤ 4294967295
       → length lengths ≡ 2 * nodesOf (lentOf l .plan) → length nulls ≡ nodesOf (lentOf l .plan) → length places ≡ 9 * nodesOf (lentOf l .plan)
@@ -121,7 +166,5 @@ module _ (l : Lending) (b : Bytes l) (accepted : openingOf l .ground ≡ 0) (os 
       }
   finishing-answered = finishing-accepted (l .formats) (l .schema) (l .sources) (l .tables) (l .keep) (l .parts) (openingOf l) opens os
 
-  -- LENT AGAIN, it passes ground 12
   pub lent-again : T (sourceRule (treeIn l) (tablesOf l os))
-  lent-again =
-      join-again (l .formats) (l .schema) (l .sources) (l .tables) (l .keep) (l .parts) (openingOf l) opens os (length (l .tables .body)) _ (appended (lentOf l) (afterCalls l os .room))
+  lent-again = again-at (length (l .tables .body)) _ behind-body

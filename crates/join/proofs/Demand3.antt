@@ -19,11 +19,11 @@ use Rattle.orders.specs.Fits.{bookIn}
 use Rattle.orders.specs.Counted.{bookRoom}
 use Rattle.orders.proofs.Booked.{booked, booked-by}
 use Rattle.opening.proofs.Opened.{Opened}
-use Rattle.finishing.proofs.Orders.{appended}
+use Rattle.finishing.specs.Shows.{Bodied}
 use Rattle.finishing.proofs.Join.{join-rows}
-use Rattle.join.specs.Join.{Lending, Bytes, sourcesIn, typeIn, columnsIn, keepsIn, openingOf, lentOf, afterCalls, groundsIn, finishedOf, bookOf, bookAnswered, reachedBy}
+use Rattle.join.specs.Join.{Lending, Bytes, sourcesIn, typeIn, columnsIn, keepsIn, openingOf, lentOf, afterCalls, groundsIn, finishedAt, finishedOf, bookOf, bookAnswered, reachedBy}
 use Rattle.join.proofs.Demand1.{runs}
-use Rattle.join.proofs.Demand2.{finished-bytes, counters-are}
+use Rattle.join.proofs.Demand2.{finished-bytes, counters-are, behind-body}
 
 -- after an accepted opening and any list of calls, refused ones included
 module _ (l : Lending) (b : Bytes l) (accepted : openingOf l .ground ≡ 0) (os : List Call) where
@@ -39,11 +39,14 @@ module _ (l : Lending) (b : Bytes l) (accepted : openingOf l .ground ≡ 0) (os 
       booked (lentOf l) (typeIn l) (sourcesIn l) (columnsIn l) (opens .join) (keepsIn l) (openingOf l .counts) (opens .memory) os first (openingOf l .counts) (openingOf l .room) (opens .running) .rows-booked
       ∙ ap (bookRoom (lentOf l .plan) (l .parts) (typeIn l) (keepsIn l) (sourcesIn l) (columnsIn l) os) (held-start (typeIn l) (keepsIn l) (sourcesIn l) (λ j. columnsIn l j .body))
 
-  -- THE BOOK: the finished array has its rows, all of them and no others
+  -- THE BOOK: the finished array has its rows, all of them and no others, over any body z in which the room stands from `base` on
+  -- and the sources' body where it was
+  pub book-at : (base : ℕ) (z : List ℕ) → Bodied z (lentOf l) (afterCalls l os .room) base → readAll (typeIn l) (finishedAt l os base z) ≡ bookOf l os
+  book-at base z laid = join-rows (l .formats) (l .schema) (l .sources) (l .tables) (l .keep) (l .parts) (openingOf l) opens os base z laid ∙ in-book
+
+  -- .. and so over the sources' body with the room behind it
   pub the-book : readAll (typeIn l) (finishedOf l os) ≡ bookOf l os
-  the-book =
-      join-rows (l .formats) (l .schema) (l .sources) (l .tables) (l .keep) (l .parts) (openingOf l) opens os (length (l .tables .body)) _ (appended (lentOf l) (afterCalls l os .room))
-      ∙ in-book
+  the-book = book-at (length (l .tables .body)) _ (behind-body l b accepted os)
 
   -- the book is also that of the answers which the entry points gave
   pub book-answered : bookAnswered l os (groundsIn l os) ≡ bookOf l os

@@ -88,13 +88,20 @@ module _ (l : Lending) where
   abbrev pub finishingOf : List Call → ℕ → List ℕ → List ℕ → List ℕ → List ℕ → Finished
   finishingOf os base lengths nulls places names = finishing lentOf (l .tables .buffers) (afterCalls os .counts) (afterCalls os .room) base lengths nulls places names
 
-  -- the tables, over the sources' body with the room behind it
+  -- its tables, over any body z in which the room stands from `base` on and the sources' body where it was (`Bodied`)
+  abbrev pub tablesAt : List Call → ℕ → List ℕ → Tables
+  tablesAt os base z = finishedTables lentOf (l .tables .buffers) (afterCalls os .counts) (afterCalls os .room) base z
+
+  abbrev pub finishedAt : List Call → ℕ → List ℕ → Column typeIn
+  finishedAt os base z = columnOf treeIn (tablesAt os base z) typeIn 0
+
+  -- .. over the sources' body with the room behind it
   abbrev pub tablesOf : List Call → Tables
-  tablesOf os = finishedTables lentOf (l .tables .buffers) (afterCalls os .counts) (afterCalls os .room) (length (l .tables .body)) (l .tables .body ++ afterCalls os .room)
+  tablesOf os = tablesAt os (length (l .tables .body)) (l .tables .body ++ afterCalls os .room)
 
   -- THE FINISHED ARRAY
   abbrev pub finishedOf : List Call → Column typeIn
-  finishedOf os = columnOf treeIn (tablesOf os) typeIn 0
+  finishedOf os = finishedAt os (length (l .tables .body)) (l .tables .body ++ afterCalls os .room)
 
   -- ---- what 01 says of them
 

@@ -1,15 +1,16 @@
 -- The walk at a leaf, by the ways that the code goes. Assumes nothing.
-use mathlib.Core.Path.{_≡_, refl, ap, _∙_}
-use mathlib.Core.Bool.{Bool, true, false, not}
+use mathlib.Core.Path.{_≡_, refl, sym, ap, subst, _∙_}
+use mathlib.Core.Bool.{Bool, true, false, not, _&&_}
 use mathlib.Core.List.{List, [], _∷_}
-use Prim.Native.Nat.{ℕ, _+_, _*_, _≤_, _<_}
-use lib.ListN.{length, replicate}
-use lib.Dec.{ltb, leb}
-use borrow.Author.Tests.{lt-ltb, le-ltb, le-leb, lt-leb, ltb-true, leb-true}
+use Prim.Native.Nat.{ℕ, zero, suc, _+_, _*_, _≤_, _<_}
+use native.Mathlib.Omega.{arith}
+use lib.ListN.{length, getD, set, replicate}
+use lib.Dec.{ltb, leb, eqb}
+use borrow.Author.Tests.{lt-ltb, le-ltb, le-leb, lt-leb, ltb-true, leb-true, eqb-true, not-true}
 use Rattle.bits.specs.Bits.{bitsAt, zeros}
 use Rattle.lent_tables.proofs.Laws.{no, yes, is-none, is-some, and-left, and-right}
-use Rattle.walk.specs.State.{Join, keepsOf, rows, addNulls, place, rowsIn, scaled, grown}
-use Rattle.walk.specs.Log.{Out, Did, put, mask, applyIf, wrote, need}
+use Rattle.walk.specs.State.{Join, keepsOf, rows, nulls, addNulls, top, place, rowsIn, scaled, grown}
+use Rattle.walk.specs.Log.{Out, Did, put, mask, applyIf, done, wrote, need}
 use Rattle.walk.specs.Leaves.{copyBits, copyMask, nullMask, countNulls}
 use Rattle.walk.proofs.Laws.{done-did, wrote-did, need-no, need-ok, next-ok}
 use Rattle.puts.proofs.Laws.{Alike, alike-scaled, alike-grown, alike-times, place-alike}
@@ -30,6 +31,18 @@ module _ (x : Join) (at w slot n : ℕ) where
   rows-in e f =
       let h = yes e f in
       (ltb-true _ _ (and-left (ltb (slot + n) 576460752303423488) _ h), leb-true _ _ (and-right (ltb (slot + n) 576460752303423488) _ h))
+
+-- ---- null counters
+
+set-same : (l : List ℕ) (k v : ℕ) → getD l k 0 ≡ v → l ≡ set l k v
+set-same [] k v h = refl
+set-same (y ∷ l) zero v h = ap (λ z. z ∷ l) h
+set-same (y ∷ l) (suc k) v h = ap (λ z. y ∷ z) (set-same l k v h)
+
+-- A FULL COUNTER STAYS, whatever is added
+pub full-stays : (i z : ℕ) (c : List ℕ) → nulls c i ≡ top → c ≡ addNulls i z c
+unfolding grown
+full-stays i z c h = set-same c (3 * i + 1) (grown (nulls c i) z) (omega (arith, h))
 
 -- entries with no base
 pub zero-same : _≡_ {A = ℕ} 0 0
@@ -78,6 +91,18 @@ module _ (x : Join) (i : ℕ) (wr : Bool) (c room : List ℕ) where
       need-ok 12 c (le-leb (8 * place x i 1 + slot + n) (8 * length (x .body)) (rw e at h))
       (next-ok _ (wrote-did wr _ c room room2 (rw (e, f) at g)) refl
       (rw (k ∙ ap (λ (v : ℕ). addNulls i v c) (z ∙ ap (λ (v : ℕ). zeros (bitsAt (8 * v + slot) n (x .body))) e)) (done-did wr _ room2)))
+
+  -- a walk that only tries, from a null counter that is full
+  pub bits-tried : (slot n : ℕ) {at : ℕ} {t : Bool} → at ≡ place x i 1 → 8 * at + slot + n ≤ 8 * length (x .body) → t ≡ (not wr && eqb (nulls c i) top) → t ≡ true
+      → Did (x .state) (x .parts) wr (copyBits x i slot n c) room 0 c room
+  unfolding copyBits applyIf
+  bits-tried slot n e h q f =
+      let k = sym q ∙ f in
+      let tries : wr ≡ false = not-true wr (and-left (not wr) _ k) in
+      let stays : c ≡ addNulls i (zeros (bitsAt (8 * place x i 1 + slot) n (x .body))) c = full-stays i _ c (eqb-true (nulls c i) top (and-right (not wr) _ k)) in
+      need-ok 12 c (le-leb (8 * place x i 1 + slot + n) (8 * length (x .body)) (rw e at h))
+      (next-ok _ (wrote-did wr _ c room room (rw tries)) refl
+      (subst (λ z. Did (x .state) (x .parts) wr (done z) room 0 c room) stays (done-did wr c room)))
 
   pub mask-off : (slot n : ℕ) {k : ℕ} → k ≡ keepsOf (x .state) i → k ≡ 0 → Did (x .state) (x .parts) wr (copyMask x i slot n c) room 0 c room
   unfolding copyMask

@@ -2,10 +2,11 @@
 // The answer is 0 or the ground of refusal; a walk that only tries changes the counters alone.
 // What a function does not read of the order stands in its contract for all values.
 ghost use mathlib.Core.Path.{_≡_};
-ghost use mathlib.Core.Bool.{Bool};
+ghost use mathlib.Core.Bool.{Bool, not, _&&_};
 ghost use mathlib.Core.List.{List};
 ghost use Prim.Native.Nat.{ℕ, _+_, _*_, _<_, _≤_, _^_};
-ghost use Rattle.walk.specs.State.{rowsIn};
+ghost use lib.Dec.{eqb};
+ghost use Rattle.walk.specs.State.{nulls, top, rowsIn};
 ghost use Rattle.walk.specs.Log.{Did};
 ghost use Rattle.walk.specs.Leaves.{copyBits, copyMask, nullMask, countNulls, copyNumbers, copyKeys, copyViews, nullNumbers};
 ghost use Rattle.leaf_walk.specs.Join.{join};
@@ -19,6 +20,17 @@ pub fn rows_in(body: &[u8], at: u32, w: u64, slot: u64, n: u64) -> bool
         return false;
     }
     (at as u64) + w * (slot + n) <= (body.len() as u64)
+}
+
+// Whether a walk that only tries need not look at node i's bits: its null counter is full, and stays so.
+fn is_uncounted(counts: &[u64; 96], write: bool, i: usize) -> bool
+    requires { ⌜ i < 32 ⌝ }
+    ensures { λ r. ⌜ r ≡ (not write && eqb (nulls (now (counts .entry)) i) top) ⌝ }
+{
+    if write {
+        return false;
+    }
+    counts[3 * i + 1] == u64::MAX
 }
 
 // The source's bits from `slot` on, with their zeros counted.
@@ -42,6 +54,9 @@ fn copy_bits(
     let end = 8 * (at as u64) + slot + n;
     if body.len() < utils::bit_room(end as usize) {
         return 12;
+    }
+    if is_uncounted(counts, write, i) {
+        return 0;
     }
     let p = growth::rows_of(counts, i);
     let zeros = puts::put_mask(state, parts, room, write, i, p, body, at as usize, slot, n);

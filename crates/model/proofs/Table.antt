@@ -12,7 +12,7 @@ unfolding number encode item
 the-table = refl
 
 -- its sources pass ground 12
-pub the-sources : obeyed ≡ replicate 18 true
+pub the-sources : obeyed ≡ replicate 22 true
 unfolding number encode item bit
 the-sources = refl
 

@@ -1,4 +1,4 @@
--- The starred rows K1 to K12 of 01's table of checked rows: what the definitions give, and what 01 says. Assumes nothing.
+-- The starred rows K1 to K12 of 01's table of checked rows, and K16: what the definitions give, and what 01 says. Assumes nothing.
 use mathlib.Core.Bool.{Bool, true, false, cond}
 use mathlib.Core.Option.{Option, none, some}
 use mathlib.Core.List.{List, [], _∷_, _++_}
@@ -114,11 +114,43 @@ k79 k v n key n′ =
     mapTry (λ (d : Destination (tDictionary k (fixed u8))). d .«data»)
     (joined (tDictionary k (fixed u8)) false 2 (sources (firstKeyed k n) (keyed k v key n′ 1000 ∷ [])) (copy 1 0 1 ∷ []))
 
+-- ---- one dictionary that both sources share: K16
+
+-- n entries that begin at the same place in both sources; the second one's row, of the last key, is copied
+abbrev pub k16 : ℕ → ℕ → Try (List ℕ)
+k16 n key =
+    mapTry (λ (d : Destination (tDictionary u8 (fixed u8))). d .«data»)
+    (joined (tDictionary u8 (fixed u8)) false 2 (sources (keyed u8 none 0 n 1000) (keyed u8 none key n 1000 ∷ [])) (copy 1 0 1 ∷ []))
+
+-- two entries, the second null, whose validity begins at a place of its own
+abbrev pub maskedAt : ℕ → Column (tDictionary u8 (fixed u8))
+maskedAt place =
+    record {
+      len = 1;
+      off = 0;
+      valid = none;
+      body = record { keys = 0 ∷ []; values = record { len = 2; off = 0; valid = some (1 ∷ []); body = 7 ∷ 7 ∷ [] }; starts = place ∷ 1000 ∷ [] };
+    }
+
+-- the entries begin at the same place; their validity at these
+abbrev pub k16masked : ℕ → ℕ → Try (List ℕ)
+k16masked first second =
+    mapTry (λ (d : Destination (tDictionary u8 (fixed u8))). d .«data»)
+    (joined (tDictionary u8 (fixed u8)) false 2 (sources (maskedAt first) (maskedAt second ∷ [])) (copy 1 0 1 ∷ []))
+
 -- ---- list-views and dense unions: K11, K12
 
--- offsets 4, 0, sizes 2, 3, over a child of 10 rows; and one row that is all of such a child
+-- over a child of 10 rows; and one row that is all of such a child
+abbrev pub listsOf : ℕ → List ℕ → List ℕ → Column (tListView 4 (tPlain (fixed u8)))
+listsOf n offsets sizes = whole n (record { offsets = coded 4 offsets; sizes = coded 4 sizes; child = whole 10 (seg (λ i. i) 0 10) })
+
+-- offsets 4, 0, sizes 2, 3
 abbrev pub lists : Column (tListView 4 (tPlain (fixed u8)))
-lists = whole 2 (record { offsets = coded 4 (4 ∷ 0 ∷ []); sizes = coded 4 (2 ∷ 3 ∷ []); child = whole 10 (seg (λ i. i) 0 10) })
+lists = listsOf 2 (4 ∷ 0 ∷ []) (2 ∷ 3 ∷ [])
+
+-- a row of size 0 between them, which names row 9 of the child
+abbrev pub emptyAmong : Column (tListView 4 (tPlain (fixed u8)))
+emptyAmong = listsOf 3 (4 ∷ 9 ∷ 0 ∷ []) (2 ∷ 0 ∷ 3 ∷ [])
 
 abbrev pub listTen : Column (tListView 4 (tPlain (fixed u8)))
 listTen = whole 1 (record { offsets = coded 4 (0 ∷ []); sizes = coded 4 (10 ∷ []); child = whole 10 (replicate 10 7) })
@@ -127,8 +159,8 @@ listTen = whole 1 (record { offsets = coded 4 (0 ∷ []); sizes = coded 4 (10 �
 abbrev pub listsShown : Destination (tListView 4 (tPlain (fixed u8))) → List ℕ
 listsShown d = decoded 4 (d .«data» .buffer1) (d .len) ++ decoded 4 (d .«data» .buffer2) (d .len) ++ (d .«data» .child .len ∷ [])
 
-abbrev pub k11 : Try (List ℕ)
-k11 = mapTry listsShown (joined (tListView 4 (tPlain (fixed u8))) false 2 (sources lists (listTen ∷ [])) (copy 1 0 1 ∷ copy 0 0 2 ∷ []))
+abbrev pub k11 : Column (tListView 4 (tPlain (fixed u8))) → Try (List ℕ)
+k11 x = mapTry listsShown (joined (tListView 4 (tPlain (fixed u8))) false 2 (sources x (listTen ∷ [])) (copy 1 0 1 ∷ copy 0 0 (x .len) ∷ []))
 
 abbrev pub fives : Ty
 fives = tDense (5 ∷ 7 ∷ []) (λ c. true) (λ c. tPlain (fixed u8))
@@ -167,8 +199,13 @@ given =
     ∷ k79 u8 none 0 0 256
     ∷ k79 u8 (some (0 ∷ [])) 200 250 1  -- K10
     ∷ k79 i8 (some (0 ∷ [])) 100 100 1
-    ∷ k11  -- K11
+    ∷ k11 lists  -- K11
+    ∷ k11 emptyAmong  -- .. "also for size 0"
     ∷ k12  -- K12
+    ∷ k16 256 255  -- K16
+    ∷ k16 257 255
+    ∷ k16masked 5 5  -- "validity likewise": shared, so the key stays
+    ∷ k16masked 5 6  -- not shared: it is rebased
     ∷ []
 
 -- and what 01 says, with what stood there before
@@ -188,7 +225,12 @@ expected =
     ∷ done (194 ∷ [])
     ∷ done (200 ∷ [])  -- -56 in two's complement
     ∷ done (0 ∷ 10 ∷ 12 ∷ 10 ∷ 2 ∷ 3 ∷ 15 ∷ [])
+    ∷ done (0 ∷ 10 ∷ 12 ∷ 12 ∷ 10 ∷ 2 ∷ 0 ∷ 3 ∷ 15 ∷ [])
     ∷ done (0 ∷ 1 ∷ 0 ∷ 2 ∷ 1 ∷ [])
+    ∷ done (255 ∷ [])
+    ∷ stop 8
+    ∷ done (0 ∷ [])
+    ∷ done (2 ∷ [])
     ∷ []
 
 -- ---- ground 12 of every source above: each obeys the rules of a source
@@ -209,7 +251,11 @@ obeyed =
     ∷ test (tDictionary u8 (fixed u8)) (keyed u8 (some (0 ∷ [])) 250 1 1000)
     ∷ test (tDictionary i8 (fixed u8)) (firstKeyed i8 100)
     ∷ test (tDictionary i8 (fixed u8)) (keyed i8 (some (0 ∷ [])) 100 1 1000)
+    ∷ test (tDictionary u8 (fixed u8)) (keyed u8 none 255 256 1000)
+    ∷ test (tDictionary u8 (fixed u8)) (keyed u8 none 255 257 1000)
+    ∷ test (tDictionary u8 (fixed u8)) (maskedAt 5)
     ∷ test (tListView 4 (tPlain (fixed u8))) lists
+    ∷ test (tListView 4 (tPlain (fixed u8))) emptyAmong
     ∷ test (tListView 4 (tPlain (fixed u8))) listTen
     ∷ test fives sevens
     ∷ test fives twoFives

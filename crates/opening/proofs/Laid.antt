@@ -2,37 +2,41 @@
 use mathlib.Core.Path.{_≡_, refl, ap, sym, subst, _∙_}
 use mathlib.Core.Bool.{Bool, true, false, cond, _&&_}
 use mathlib.Core.List.{List}
-use Prim.Native.Nat.{ℕ, suc, _/_, _≤_, _<_}
+use Prim.Native.Nat.{ℕ, zero, suc, _+_, _-_, _/_, _≤_, _<_}
 use native.Mathlib.Decide.{decLt}
 use native.Mathlib.Omega.{arith}
 use lib.ListN.{length, getD}
-use lib.Dec.{leb, eqb}
-use borrow.Author.Tests.{eqb-true, leb-true, le-leb, ne-eqb, eq-eqb}
+use lib.Dec.{leb, ltb, eqb}
+use borrow.Author.Tests.{eqb-true, eqb-false, leb-true, leb-false, le-leb, lt-ltb, ne-eqb, eq-eqb}
 use Rattle.columnar.specs.Types.{Number, fixed, string}
-use Rattle.formats.specs.Code.{isFixed, isView, isRunEnd}
+use Rattle.formats.specs.Code.{isFixed, isView, isListView, isRunEnd, widthOf}
 use Rattle.schema.specs.Tree.{dictionary, below, childAt, dueFrom, whole, idsOf, shape, ceilings, typed}
 use Rattle.schema.specs.Tree as schemaTree
-use Rattle.schema.proofs.Trees.{child-inside, children-end}
+use Rattle.schema.proofs.Trees.{end-inside, end-after, child-inside, children-end}
 use Rattle.schema.proofs.Depth as depths
 use Rattle.schema.proofs.Known.{typed-whole, typed-shape, within-nodes}
 use Rattle.array_data.specs.Tables.{Tables}
 use Rattle.array_data.specs.Typed.{NodeKind, fixedNode, stringNode, viewNode, listViewNode, sparseNode, denseNode, runEndNode, dictionaryNode}
 use Rattle.lent.specs.Lent.{kindAt}
 use Rattle.lent.proofs.Ids.{both}
-use Rattle.lent.proofs.Shaped.{Shaped, of-plain, of-view, of-list, of-sparse, of-dense, of-run, of-dictionary, shaped, at-fixed, at-keys, at-string, at-view, at-run}
+use Rattle.lent.proofs.Shaped.{Shaped, of-plain, of-view, of-list, of-sparse, of-dense, of-run, of-dictionary, shaped, at-fixed, at-keys, at-string, at-view, at-list, at-run}
 use Rattle.lent.proofs.Lent.{first-child, second-child, some-node}
 use Rattle.worded.specs.Planted.{Planted}
 use Rattle.worded.proofs.Codes.{Coded, low-code, shape-admitted, no-dictionary}
 use Rattle.worded.proofs.Planted.{code-is, dictionary-is, end-is, coded-is}
 use Rattle.walk.specs.State.{codeOf, dictionaryOf, endOf, keepsOf}
 use Rattle.room.specs.Room.{Placed}
-use Rattle.parts.specs.Parts.{nodesOf, partTotal, partsPlaced, partsWithin, Used, Numbered}
+use Rattle.room.proofs.Found.{between-both}
+use Rattle.columnar.specs.Test.{onlyIf}
+use Rattle.parts.specs.Parts.{nodesOf, copied, partTotal, partsPlaced, partsWithin, Used, Numbered}
 use Rattle.parts.proofs.Placed.{placed-within}
+use Rattle.orders.proofs.Sound.{every-all}
 use Rattle.columns.specs.Grounds.{smallBody, fewSources, allWithin, allTyped, sourcesGround}
 use Rattle.columns.proofs.Grounds.{within-low, within-at, typed-at}
 use Rattle.plan.specs.Plan.{keepWord, isEnds, planned}
 use Rattle.plan.proofs.Codes as kinds
 use Rattle.plan.proofs.Words.{state-length, word-is, keep-is, parts-are, sources-are, nodes-are, numbered-is}
+use Rattle.orders.specs.Sound.{nestedIn, endsSound, kindSound, nodeSound, planSound}
 use Rattle.orders.proofs.Cover.{Laid}
 use Rattle.orders.proofs.Placed.{placed-by}
 
@@ -50,7 +54,7 @@ module _ (formats schema : List ℕ) (first i : ℕ) where
   Next (fixedNode m) = below schema first i ≡ 0
   Next (stringNode w) = below schema first i ≡ 0
   Next viewNode = below schema first i ≡ 0
-  Next (listViewNode w) = Unit {0}
+  Next (listViewNode w) = below schema first i ≡ 1
   Next (sparseNode ids) = Unit {0}
   Next (denseNode ids) = Unit {0}
   Next (runEndNode w) = Ends
@@ -60,7 +64,7 @@ module _ (formats schema : List ℕ) (first i : ℕ) where
   next-of (of-plain (fixed m) e z d) = subst Next (sym e) z
   next-of (of-plain (string w) e z d) = subst Next (sym e) z
   next-of (of-view e z) = subst Next (sym e) z
-  next-of (of-list w e z d) = subst Next (sym e) tt
+  next-of (of-list w e z d) = subst Next (sym e) z
   next-of (of-sparse ids e z d o) = subst Next (sym e) tt
   next-of (of-dense ids e z d o) = subst Next (sym e) tt
   next-of (of-run m e z e1 z1 d) = subst Next (sym e) (record { number = m; kind = e1; two = z; none-below = z1 })
@@ -185,6 +189,89 @@ module _ (formats schema : List ℕ) (first n : ℕ) (state : List ℕ)
         run-ends = λ i l e. (run-fixed i (omega arith) e, keeps i (ends-in i (omega arith) e) e);
       }
 
+  -- ---- a walk stays in it
+
+  only-if : (a b : Bool) → (a ≡ true → b ≡ true) → onlyIf a b ≡ true
+  only-if true b h = h refl
+  only-if false b h = refl
+
+  module _ (i : ℕ) (l : i < n) where
+    rises : i < endOf state i
+    rises = let e = same-end i l in omega (arith, end-after schema first n i l)
+
+    inside : endOf state i ≤ n
+    inside = let e = same-end i l in omega (arith, end-inside schema first n i (omega arith))
+
+    child-in : (k : ℕ) → k < below schema first i → childAt schema first n i k < endOf state i
+    child-in k h = let e = same-end i l in omega (arith, depths.child-before schema first n tree i k l h)
+
+    list-in : isListView (codeOf state i) ≡ true → suc i < endOf state i
+    list-in h =
+        let e : below schema first i ≡ 1 = next-at i l (listViewNode (widthOf (code i))) (at-list formats schema first i (sym (ap isListView (same-code i l)) ∙ h)) in
+        subst (λ k. k < endOf state i) (first-child formats schema first n i) (child-in 0 (omega arith))
+
+    -- the last node of a subtree has no dictionary
+    last-single : (k : ℕ) → endOf state i ≡ suc k → dictionaryOf state k ≡ 0
+    last-single k e = go (eqb (dictionaryOf state k) 0) refl (decLt i k)
+      where
+        low : k < n
+        low = omega (arith, inside)
+
+        go : (b : Bool) → eqb (dictionaryOf state k) 0 ≡ b → Dec (i < k) → dictionaryOf state k ≡ 0
+        go true f d = eqb-true _ _ f
+        go false f (yes y) = absurd (omega (arith, inside, keys-end k low (eqb-false _ _ f), nested i k y (omega arith) inside))
+        go false f (no y) = let g : k ≡ i = omega (arith, rises) in absurd (let h : endOf state k ≡ suc k = rw g (rw g at e) in omega (arith, keys-end k low (eqb-false _ _ f)))
+
+    next-copied : (e : ℕ) → endOf state i ≡ e → copied state e ≡ true
+    unfolding copied
+    next-copied zero e = refl
+    next-copied (suc k) e = rw (last-single k e)
+
+    no-keys : 10 < codeOf state i → dictionaryOf state i ≡ 0
+    no-keys h = go (eqb (dictionaryOf state i) 0) refl
+      where
+        go : (b : Bool) → eqb (dictionaryOf state i) 0 ≡ b → dictionaryOf state i ≡ 0
+        go true f = eqb-true _ _ f
+        go false f = absurd (let z = between-both 1 10 (code i) (fixed-keys i l (eqb-false _ _ f)) in omega (arith, z .1, same-code i l))
+
+    run-in : codeOf state i ≡ 21 → suc (suc i) < endOf state i
+    run-in e =
+        let r = below-run i l e in
+        let two = r .two in
+        subst (λ k. k < endOf state i) (second-child formats schema first n i (ends-in i l e) (r .none-below)) (child-in 1 (omega arith))
+
+    ends-sound : codeOf state i ≡ 21 → endsSound state i ≡ true
+    unfolding endsSound
+    ends-sound e = rw (lt-ltb _ _ (run-in e), run-single i l e, run-fixed i l e)
+
+    kind-sound : kindSound state i ≡ true
+    unfolding kindSound
+    kind-sound = go (leb (codeOf state i) 10) refl
+      where
+        go : (b : Bool) → leb (codeOf state i) 10 ≡ b
+            → cond b true (eqb (dictionaryOf state i) 0 && onlyIf (isListView (codeOf state i)) (ltb (suc i) (endOf state i)) && onlyIf (isRunEnd (codeOf state i)) (endsSound state i)) ≡ true
+        go true e = refl
+        go false e =
+            rw (
+              no-keys (omega (arith, leb-false (codeOf state i) 10 e)),
+              only-if (isListView (codeOf state i)) (ltb (suc i) (endOf state i)) (λ h. lt-ltb (suc i) (endOf state i) (list-in h)),
+              only-if (isRunEnd (codeOf state i)) (endsSound state i) (λ h. ends-sound (let z = between-both 21 21 (codeOf state i) h in omega (arith, z .0, z .1))),
+            )
+
+    nest-sound : nestedIn state i ≡ true
+    unfolding nestedIn
+    nest-sound = every-all (λ k. leb (endOf state (suc i + k)) (endOf state i)) (endOf state i - suc i) (λ k h. le-leb _ _ (nested i (suc i + k) (omega arith) (omega arith) inside))
+
+    node-sound : nodeSound state n i ≡ true
+    unfolding nodeSound
+    node-sound =
+        rw (lt-ltb i (endOf state i) rises, le-leb (endOf state i) n inside, nest-sound, kind-sound) (only-if (ltb (endOf state i) n) (copied state (endOf state i)) (λ h. next-copied (endOf state i) refl))
+
+  -- A WALK STAYS IN THE PLAN
+  pub sound-by : nodesOf state ≡ n → planSound state ≡ true
+  unfolding planSound
+  sound-by e = rw (e, lt-ltb _ _ (some-node formats schema first n tree)) (every-all (nodeSound state n) n node-sound)
+
 -- ---- the planned state
 
 -- what is known of the plan of a join of m sources and n nodes
@@ -196,6 +283,7 @@ pub record Stood (plan : List ℕ) (m n : ℕ) : Type 0 where
   pub all-nodes : nodesOf plan ≡ endOf plan 0
   pub part-count : getD plan 866 0 ≡ partTotal plan
   pub laid : Laid plan
+  pub sound : planSound plan ≡ true
   pub numbered : Numbered plan
   pub placed : (parts : List ℕ) (r : ℕ) → partsPlaced parts (partTotal plan) r ≡ true → r ≤ 4294967295 → Placed plan parts (Used plan) r
   pub within : (parts : List ℕ) (r : ℕ) → partsPlaced parts (partTotal plan) r ≡ true → partsWithin plan parts r ≡ true
@@ -240,6 +328,10 @@ module _ (formats schema : List ℕ) (x : Tables) (sources : List ℕ) (keep : B
         laid-by formats schema first n plan t c planted
         (λ i l e. keep-is formats schema x sources keep few small (suc i) l ∙ ends-word i e)
 
+    -- A WALK STAYS IN THEM
+    pub sound : planSound plan ≡ true
+    sound = sound-by formats schema first n plan t c planted nodes-is
+
     -- THE PARTS ARE NUMBERED in tree order
     pub numbered : Numbered plan
     numbered = numbered-is formats schema x sources keep few small
@@ -262,6 +354,7 @@ module _ (formats schema : List ℕ) (x : Tables) (sources : List ℕ) (keep : B
           all-nodes = all-nodes;
           part-count = parts-are formats schema x sources keep few small;
           laid = laid;
+          sound = sound;
           numbered = numbered;
           placed = placed;
           within = within;

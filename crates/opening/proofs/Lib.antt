@@ -11,8 +11,10 @@ pub mod Frame
 pub mod Dictionaries
 pub mod Uses
 pub mod Walk
+pub mod PartsDue
 pub mod Fitting
 pub mod Runs
 pub mod Stay
 pub mod Opened
+pub mod Written
 pub mod Plannable

@@ -55,7 +55,7 @@ module _ (formats schema sources : List ℕ) (x : Tables) (keep : Bool) (parts :
   lent = opened formats schema sources x keep parts
 
   -- what the walk of an opening is given
-  given : AllBelow 256 (x .body) → sourcesGround formats schema x sources ≡ 0 → Given lent t m ss keep
+  pub given : AllBelow 256 (x .body) → sourcesGround formats schema x sources ≡ 0 → Given lent t m ss keep
   given bytes ok =
       let all = sources-of formats schema sources x keep ok in
       let stands = stood formats schema x sources ok keep in
@@ -142,7 +142,7 @@ module _ (formats schema sources : List ℕ) (x : Tables) (keep : Bool) (parts :
         go true true true true true y q h = absurd (h q)
 
     -- the grounds before the walk
-    tests : answer .ground ≡ 0 → (length room ≤ 4294967295) × (sourcesGround formats schema x sources ≡ 0) × (placed-well ≡ true)
+    pub tests : answer .ground ≡ 0 → (length room ≤ 4294967295) × (sourcesGround formats schema x sources ≡ 0) × (placed-well ≡ true)
     unfolding opening
     tests h = go (leb (length room) 4294967295) refl (eqb (sourcesGround formats schema x sources) 0) refl placed-well refl _ h
       where

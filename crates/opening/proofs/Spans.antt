@@ -1,25 +1,15 @@
 -- A walk over a range of nodes, split at a node. Assumes nothing.
 use mathlib.Core.Path.{_≡_, refl, sym, ap, fun-ext, _∙_}
-use mathlib.Core.Bool.{Bool, true, false}
-use mathlib.Core.List.{List, append-assoc}
+use mathlib.Core.List.{List}
 use Prim.Native.Nat.{ℕ, zero, suc, _+_, _-_, _≤_, _<_}
 use native.Mathlib.Nat.{add-zero, add-suc, suc-add, zero-add}
 use native.Mathlib.Omega.{arith}
-use lib.Dec.{eqb}
 use Rattle.walk.specs.Log.{Out, done, next, each}
+use Rattle.orders.proofs.Grows.{next-next}
 
 pub next-done : (c : List ℕ) (k : List ℕ → Out) → next (done c) k ≡ k c
 unfolding next done
 next-done c k = refl
-
-next-next : (o : Out) (k l : List ℕ → Out) → next (next o k) l ≡ next o (λ c. next (k c) l)
-unfolding next
-next-next o k l = go (eqb (o .ans) 0) refl (eqb (k (o .counts) .ans) 0) refl
-  where
-    go : (a : Bool) → eqb (o .ans) 0 ≡ a → (b : Bool) → eqb (k (o .counts) .ans) 0 ≡ b → next (next o k) l ≡ next o (λ c. next (k c) l)
-    go true e true f = rw (e, f, append-assoc)
-    go true e false f = rw (e, f)
-    go false e b f = rw (e, e)
 
 each-split : (f : ℕ → List ℕ → Out) (a b r : ℕ) (c : List ℕ) → each f (a + b) r c ≡ next (each f a r c) (λ c2. each f b (r + a) c2)
 unfolding each

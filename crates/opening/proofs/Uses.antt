@@ -20,14 +20,15 @@ use Rattle.link.specs.Holds.{childOf, flag, Fields, WordedPlain, Worded}
 use Rattle.link.proofs.Frame.{worded-span}
 use Rattle.link.proofs.UnionFields.{with-first, with-later}
 use Rattle.room.specs.Room.{AllBelow}
-use Rattle.room.specs.Reach.{Second, chars, sizes, positions, HasBuffer, Closed, UsedAt, Typed, typed}
+use Rattle.room.specs.Reach.{Closed, UsedAt, Typed, typed}
 use Rattle.room.proofs.Bytes.{bytes-encode}
 use Rattle.room.proofs.Copies.{used-copies}
 use Rattle.room.proofs.Found.{between-both}
 use Rattle.room.proofs.Uses.{used-wide, Uses, uses-done, uses-wrote, uses-cond, uses-need, uses-next, uses-each}
-use Rattle.parts.specs.Parts.{nodesOf, bufferCount, copied, hasPart, Used}
-use Rattle.parts.proofs.Words.{first-buffer, string-buffers, list-view-buffers, dense-buffers, has-bits, has-buffers}
+use Rattle.parts.specs.Parts.{nodesOf, copied, Used}
+use Rattle.parts.proofs.Words.{string-buffers, has-buffers}
 use Rattle.orders.specs.Order.{Lent, joinOf, sourceCount}
+use Rattle.orders.proofs.Buffers.{copied-part}
 use Rattle.orders.proofs.Cover.{Laid}
 use Rattle.opening.specs.Open.{firstOffset, joinSource, joinEntries, openDictionary}
 use Rattle.opening.specs.Kept.{Kept}
@@ -36,17 +37,6 @@ use Rattle.opening.proofs.Zeros.{values-copied}
 use Rattle.opening.proofs.Starts.{Here, closed-here, is-union, child-here}
 use Rattle.opening.proofs.Spans.{span, span-none, span-one, span-split}
 use Rattle.opening.proofs.Frame.{no-dictionary, not-fixed, keys-end}
-
--- a buffer of a node that is copied has a part
-copied-part : (plan : List ℕ) (i b : ℕ) → copied plan i ≡ true → HasBuffer plan i b → hasPart plan i b ≡ true
-copied-part plan i zero c h = has-bits plan i c (h .0) (h .1)
-copied-part plan i (suc zero) c h = has-buffers plan i c 0 (first-buffer (codeOf plan i) (h .0) (h .1))
-copied-part plan i (suc (suc b)) c h = let e : b ≡ 0 = h .0 in rw e (has-buffers plan i c 1 (second (codeOf plan i) (h .1)))
-  where
-    second : (z : ℕ) → Second z → 1 < bufferCount z
-    second z (chars s) = string-buffers z s
-    second z (sizes s) = list-view-buffers z s
-    second z (positions s) = dense-buffers z s
 
 ends-in : (plan : List ℕ) (i : ℕ) → Typed plan 0 (endOf plan 0) i → endOf plan i ≤ endOf plan 0
 ends-in plan i (typed k t w p q) = q

@@ -3,4 +3,5 @@ pub mod Open
 pub mod Kept
 pub mod Entries
 pub mod Fits
+pub mod PartsDue
 pub mod Ask

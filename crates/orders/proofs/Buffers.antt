@@ -138,19 +138,22 @@ module _ (plan : List ℕ) where
   pub bits-part : (i : ℕ) → Free plan i → (keepsOf plan i ≡ 0 → ⊥) → codeOf plan i < 19 → hasPart plan i 0 ≡ true
   bits-part i f = bits-copied i (copied-free i f)
 
-  -- what a walk may write at has a part
-  pub has-part : (i b : ℕ) → Free plan i → HasBuffer plan i b → hasPart plan i b ≡ true
-  has-part i zero f h = bits-part i f (h .0) (h .1)
-  has-part i (suc zero) f h = buffer-part i 0 f (first (codeOf plan i) (h .0) (h .1))
+  -- what a walk may write at has a part, at a node that is copied
+  pub copied-part : (i b : ℕ) → copied plan i ≡ true → HasBuffer plan i b → hasPart plan i b ≡ true
+  copied-part i zero f h = bits-copied i f (h .0) (h .1)
+  copied-part i (suc zero) f h = buffer-copied i 0 f (first (codeOf plan i) (h .0) (h .1))
     where
       first : (z : ℕ) → 1 ≤ z → z < 21 → 0 < bufferCount z
       first z p q = ltb-true _ _ (table (λ y. leb 1 y && ltb y 21) (λ y. ltb 0 (bufferCount y)) refl z (omega arith) (rw (le-leb 1 z p, lt-ltb z 21 q)))
-  has-part i (suc (suc b)) f h = let e : b ≡ 0 = h .0 in rw e (buffer-part i 1 f (second (codeOf plan i) (h .1)))
+  copied-part i (suc (suc b)) f h = let e : b ≡ 0 = h .0 in rw e (buffer-copied i 1 f (second (codeOf plan i) (h .1)))
     where
       second : (z : ℕ) → Second z → 1 < bufferCount z
       second z (chars s) = omega (arith, string-two z s)
       second z (sizes s) = omega (arith, list-two z s)
       second z (positions s) = rw s (omega arith)
+
+  pub has-part : (i b : ℕ) → Free plan i → HasBuffer plan i b → hasPart plan i b ≡ true
+  has-part i b f = copied-part i b (copied-free i f)
 
   -- a node has validity by its code
   pub masks-code : (k : ℕ) (t : Ty) (i : ℕ) → Worded plan k t i → masks t ≡ ltb (codeOf plan i) 19

@@ -14,3 +14,9 @@ pub mod WiderRoom
 pub mod CutRoom
 pub mod CutRun
 pub mod Placed
+pub mod Sound
+pub mod Grows
+pub mod GrowsCopies
+pub mod GrowsNulls
+pub mod Written
+pub mod Accepted

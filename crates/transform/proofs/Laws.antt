@@ -16,6 +16,8 @@ use Rattle.walk.specs.Copy.{copyWalk}
 use Rattle.walk.specs.Nulls.{NullWalk, nullableChild, noHome, nullListView, nullFields, nullSparse, nullDense, nullRuns, nullData, nullNode, nullWalk}
 use Rattle.leaf_walk.specs.Join.{join}
 use Rattle.parts.specs.Parts.{partsWithin, partsHold}
+use Rattle.trying.proofs.Laws.{hold-alike}
+use Rattle.trying.proofs.Near.{Near}
 use Rattle.orders.specs.Order.{After, Lent, sourceCount, sourceLength, refused, settled, copyOrder, nullOrder}
 use Rattle.transform.specs.Answer.{Answers}
 
@@ -53,34 +55,38 @@ module _ (x : Lent) (counts room : List ℕ) where
   parts-accept true false made e h d = let z : _≡_ {A = ℕ} 13 0 = sym e ∙ h in absurd (omega (arith, z))
   parts-accept false b made e h d = let z : _≡_ {A = ℕ} 14 0 = sym e ∙ h in absurd (omega (arith, z))
 
-  module _ (walk : List ℕ → Out) {l1 : List ℕ} (q1 : l1 ≡ counts) {g : ℕ} {c1 room1 : List ℕ} (d : Did (x .plan) (x .parts) false (walk l1) room g c1 room1) where
-    tried : Did (x .plan) (x .parts) false (walk counts) room g c1 room1
-    tried = subst (λ l. Did (x .plan) (x .parts) false (walk l) room g c1 room1) q1 d
+  -- tried from counters that answer alike
+  module _ (walk : List ℕ → Out) {l1 : List ℕ} (q1 : Near (walk l1) (walk counts)) {g : ℕ} {c1 room1 : List ℕ} (d : Did (x .plan) (x .parts) false (walk l1) room g c1 room1) where
+    answers : g ≡ walk counts .ans
+    answers = d .answer ∙ q1 .answer
+
+    holds : partsHold (x .plan) c1 (x .parts) ≡ partsHold (x .plan) (walk counts .counts) (x .parts)
+    holds = ap (λ z. partsHold (x .plan) z (x .parts)) (d .counters) ∙ hold-alike (x .plan) (x .parts) (q1 .counters)
 
     same-room : room1 ≡ room
     unfolding applyIf
-    same-room = tried .bytes
+    same-room = d .bytes
 
     pub settled-no : (g ≡ 0 → ⊥) → Answers (settled x counts room (walk counts)) g counts room1
     unfolding settled
-    settled-no h = rw (ne-eqb (walk counts .ans) 0 (λ z. h (tried .answer ∙ z))) (record { ground = tried .answer; counts = refl; room = same-room })
+    settled-no h = rw (ne-eqb (walk counts .ans) 0 (λ z. h (answers ∙ z))) (record { ground = answers; counts = refl; room = same-room })
 
     module _ (h : g ≡ 0) {p : ℕ} (e : p ≡ cond (partsWithin (x .plan) (x .parts) (length room1)) (cond (partsHold (x .plan) c1 (x .parts)) 0 13) 14) where
       asked : p ≡ cond (partsWithin (x .plan) (x .parts) (length room)) (cond (partsHold (x .plan) (walk counts .counts) (x .parts)) 0 13) 14
       asked =
           e
           ∙ ap (λ z. cond (partsWithin (x .plan) (x .parts) (length z)) (cond (partsHold (x .plan) c1 (x .parts)) 0 13) 14) same-room
-          ∙ ap (λ z. cond (partsWithin (x .plan) (x .parts) (length room)) (cond (partsHold (x .plan) z (x .parts)) 0 13) 14) (tried .counters)
+          ∙ ap (λ (z : Bool). cond (partsWithin (x .plan) (x .parts) (length room)) (cond z 0 13) 14) holds
 
       pub settled-parts : (p ≡ 0 → ⊥) → Answers (settled x counts room (walk counts)) p counts room1
       unfolding settled
-      settled-parts f = rw (eq-eqb (walk counts .ans) 0 (sym (tried .answer) ∙ h)) (parts-refuse (partsWithin (x .plan) (x .parts) (length room)) (partsHold (x .plan) (walk counts .counts) (x .parts)) (record { ground = 0; counts = walk counts .counts; room = apply (x .plan) (x .parts) (walk counts .log) room }) same-room asked f)
+      settled-parts f = rw (eq-eqb (walk counts .ans) 0 (sym answers ∙ h)) (parts-refuse (partsWithin (x .plan) (x .parts) (length room)) (partsHold (x .plan) (walk counts .counts) (x .parts)) (record { ground = 0; counts = walk counts .counts; room = apply (x .plan) (x .parts) (walk counts .log) room }) same-room asked f)
 
       pub settled-made : {l2 : List ℕ} {r : ℕ} {c2 room2 c3 : List ℕ} → p ≡ 0 → l2 ≡ counts → Did (x .plan) (x .parts) true (walk l2) room1 r c2 room2 → c3 ≡ c2
           → Answers (settled x counts room (walk counts)) r c3 room2
       unfolding settled applyIf
       settled-made {l2} {r} {c2} {room2} f q2 d2 s =
-          let ans : walk counts .ans ≡ 0 = sym (tried .answer) ∙ h in
+          let ans : walk counts .ans ≡ 0 = sym answers ∙ h in
           let made : Did (x .plan) (x .parts) true (walk counts) room1 r c2 room2 = subst (λ l. Did (x .plan) (x .parts) true (walk l) room1 r c2 room2) q2 d2 in
           rw (eq-eqb (walk counts .ans) 0 ans)
           (parts-accept (partsWithin (x .plan) (x .parts) (length room)) (partsHold (x .plan) (walk counts .counts) (x .parts)) (record { ground = 0; counts = walk counts .counts; room = apply (x .plan) (x .parts) (walk counts .log) room }) asked f

@@ -1,4 +1,5 @@
 // The two orders on lent memory: each is tried first, on a copy of the counters, and made where no ground is found. A refused one changes nothing.
+// A copy is tried without a look at validity bits, and counts its nulls where it is made.
 // Follows `try_extend` and `try_extend_nulls` of arrow-data 60.1.0 src/transform/mod.rs, Apache-2.0; see NOTICE.
 ghost use mathlib.Core.Path.{_≡_};
 ghost use mathlib.Core.List.{List, []};
@@ -11,6 +12,7 @@ ghost use Rattle.walk.specs.Copy.{copyWalk};
 ghost use Rattle.walk.specs.Nulls.{nullWalk};
 ghost use Rattle.leaf_walk.specs.Join.{join};
 ghost use Rattle.parts.specs.Parts.{partsWithin, partsHold};
+ghost use Rattle.trying.specs.Alike.{Alike};
 ghost use Rattle.orders.specs.Order.{settled, copyOrder, nullOrder};
 ghost use Rattle.transform.specs.Answer.{lent, Answers};
 
@@ -27,6 +29,16 @@ pub fn load(counters: &[u64]) -> [u64; 96]
         counts[i] = counters[i];
         i += 1;
     }
+    counts
+}
+
+// The counters with their nulls full: what a copy is tried on.
+fn uncounted(plan: &[u64], counters: &[u64]) -> [u64; 96]
+    requires { ⌜ length (now counters) ≡ 96 ⌝ }
+    ensures { λ r. ⌜ Alike r (now (counters .entry)) ⌝ }
+{
+    let mut counts = load(counters);
+    trying::uncount(&mut counts, parts::node_count(plan));
     counts
 }
 
@@ -94,7 +106,7 @@ fn copy_rows(
     requires { ⌜ (length (now counters) ≡ 96) × (first < 2 ^ 32) × (source < 2 ^ 32) ⌝ }
     ensures { λ r. ⌜ ((sources : List ℕ) → Answers (settled (lent (now (plan .entry)) (now (parts .entry)) sources (now (lengths .entry)) (now (places .entry)) (now (body .entry))) (now (counters .entry)) (now (room .entry)) (copyWalk (join (now (plan .entry)) (now (parts .entry)) (now (lengths .entry)) (now (places .entry)) (now (body .entry)) first source) 8 0 start n (now (counters .entry)))) r (now (counters .exit)) (now (room .exit))) ⌝ }
 {
-    let mut tried = load(counters);
+    let mut tried = uncounted(plan, counters);
     let g = extend::extend(
         plan,
         parts,

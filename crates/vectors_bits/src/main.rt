@@ -175,8 +175,111 @@ fn counts() {
     bit(20, 11);
 }
 
+// ---- all pairs of bit offsets: the answer against a count bit by bit
+
+// 1 where bit k is 0, else 0.
+fn zero_at(body: &[u8; 24], k: usize) -> usize
+    requires { ⌜ k < 192 ⌝ }
+    ensures { λ r. ⌜ r ≤ 1 ⌝ }
+{
+    let mut x = body[k / 8];
+    let mut i = 0;
+    while i < k % 8 {
+        x = x / 2;
+        i += 1;
+    }
+    if x % 2 == 0 {
+        return 1;
+    }
+    0
+}
+
+// The zeros of the n bits from bit p on.
+fn zeros_in(body: &[u8; 24], p: usize, n: usize) -> usize
+    requires { ⌜ p + n ≤ 192 ⌝ }
+    ensures { λ r. ⌜ r ≤ n ⌝ }
+{
+    let mut none = 0;
+    let mut i = 0;
+    while i < n {
+        none += zero_at(body, p + i);
+        i += 1;
+    }
+    none
+}
+
+// n bits from bit a to bit b; tells where the answer is not the count.
+fn pair(a: usize, b: usize, n: usize) -> usize
+    requires { ⌜ (a < 8) × (b < 8) × (n ≤ 130) ⌝ }
+    ensures { λ r. ⌜ r ≤ 130 ⌝ }
+{
+    let body = source();
+    let mut room = [170u8; 24];
+    let none = bits::copy_bits(&mut room, 0, b, &body, 0, a, n);
+    let counted = zeros_in(&body, a, n);
+    if none != counted {
+        io::write_all(1, b"wrong");
+        number(a);
+        number(b);
+        number(n);
+        io::write_all(1, b"\n");
+    }
+    counted
+}
+
+// All destinations of the n bits from bit a on.
+fn to_all(a: usize, n: usize) -> usize
+    requires { ⌜ (a < 8) × (n ≤ 130) ⌝ }
+    ensures { λ r. ⌜ r ≤ 1040 ⌝ }
+{
+    let mut none = 0;
+    let mut b = 0;
+    while b < 8 {
+        none += pair(a, b, n);
+        b += 1;
+    }
+    none
+}
+
+// All 64 pairs: the zeros of all of them.
+fn from_all(n: usize) -> usize
+    requires { ⌜ n ≤ 130 ⌝ }
+{
+    let mut none = 0;
+    let mut a = 0;
+    while a < 8 {
+        none += to_all(a, n);
+        a += 1;
+    }
+    none
+}
+
+fn pairs(n: usize)
+    requires { ⌜ n ≤ 130 ⌝ }
+{
+    io::write_all(1, b"pairs");
+    number(n);
+    let none = from_all(n);
+    io::write_all(1, b" :");
+    number(none);
+    io::write_all(1, b"\n");
+}
+
+fn all_pairs() {
+    pairs(0);
+    pairs(1);
+    pairs(7);
+    pairs(8);
+    pairs(9);
+    pairs(63);
+    pairs(64);
+    pairs(65);
+    pairs(130);
+}
+
 fn main() {
     copies();
     runs();
     counts();
+    all_pairs();
 }

@@ -16,6 +16,8 @@ use Rattle.kind_rules.specs.Rows.{tablesOf}
 use Rattle.walk.specs.Log.{Out, Did, apply, applyIf}
 use Rattle.columns.specs.Grounds.{sourcesGround}
 use Rattle.parts.specs.Parts.{partTotal, partsPlaced, partsHold}
+use Rattle.trying.proofs.Laws.{hold-alike}
+use Rattle.trying.proofs.Near.{Near}
 use Rattle.orders.specs.Order.{sourceCount}
 use Rattle.plan.specs.Plan.{keepWord, withKeeps, joinedWord, withJoined, baseWord, withBases, planned, Plannable}
 use Rattle.plan.proofs.Words.{sources-are}
@@ -66,31 +68,35 @@ module _ (formats schema lengths places buffers body sources : List ℕ) (keep :
         let w = can-plan in
         subst (λ z. sourceCount z ≤ 16) (sym q) (subst (λ z. z ≤ 16) (sym (sources-are formats schema (tables lengths places body) sources keep (w .few) (w .small))) (w .few))
 
--- ---- a walk that is tried, the parts asked, and the walk made
+-- ---- a walk that is tried from counters that answer alike, the parts asked, and the walk made
 
 module _ (formats schema sources : List ℕ) (x : Tables) (keep : Bool) (parts plan counts room : List ℕ)
-    {state : List ℕ} (q : state ≡ planned formats schema x sources keep) (o : Out) {g : ℕ} {c1 room1 : List ℕ} (d : Did state parts false o room g c1 room1) where
+    {state : List ℕ} (q : state ≡ planned formats schema x sources keep) (o : Out) {p : Out} (near : Near p o) {g : ℕ} {c1 room1 : List ℕ}
+    (d : Did state parts false p room g c1 room1) where
+  answers : g ≡ o .ans
+  answers = d .answer ∙ near .answer
+
   same-room : room1 ≡ room
   unfolding applyIf
   same-room = d .bytes
 
   pub settled-no : (g ≡ 0 → ⊥) → Answers (settled formats schema sources x keep parts plan counts room o) g plan counts room1
   unfolding settled
-  settled-no h = rw (ne-eqb (o .ans) 0 (λ z. h (d .answer ∙ z))) (record { ground = d .answer; plan = refl; counts = refl; room = same-room })
+  settled-no h = rw (ne-eqb (o .ans) 0 (λ z. h (answers ∙ z))) (record { ground = answers; plan = refl; counts = refl; room = same-room })
 
   module _ (h : g ≡ 0) {t : Bool} (e : t ≡ partsHold state c1 parts) where
     asked-of : t ≡ partsHold (planned formats schema x sources keep) (o .counts) parts
-    asked-of = e ∙ ap (λ z. partsHold state z parts) (d .counters) ∙ ap (λ z. partsHold z (o .counts) parts) q
+    asked-of = e ∙ ap (λ z. partsHold state z parts) (d .counters) ∙ hold-alike state parts (near .counters) ∙ ap (λ z. partsHold z (o .counts) parts) q
 
     pub settled-over : not t ≡ true → Answers (settled formats schema sources x keep parts plan counts room o) 13 plan counts room1
     unfolding settled
-    settled-over f = rw (eq-eqb (o .ans) 0 (sym (d .answer) ∙ h), no asked-of f) (record { ground = refl; plan = refl; counts = refl; room = same-room })
+    settled-over f = rw (eq-eqb (o .ans) 0 (sym answers ∙ h), no asked-of f) (record { ground = refl; plan = refl; counts = refl; room = same-room })
 
     pub settled-made : {r : ℕ} {c2 room2 c3 words : List ℕ} → not t ≡ false → Did state parts true o room1 r c2 room2 → c3 ≡ c2 → words ≡ state
         → Answers (settled formats schema sources x keep parts plan counts room o) r words c3 room2
     unfolding settled applyIf
     settled-made f m s w =
-        let ans : o .ans ≡ 0 = sym (d .answer) ∙ h in
+        let ans : o .ans ≡ 0 = sym answers ∙ h in
         rw (eq-eqb (o .ans) 0 ans, yes asked-of f)
         (record {
           ground = m .answer ∙ ans;

@@ -1,2 +1,3 @@
 -- What the opening goes by.
 pub mod Laws
+pub mod Tried

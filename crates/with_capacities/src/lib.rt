@@ -10,6 +10,7 @@ ghost use Rattle.lent_tables.specs.Lent.{tables};
 ghost use Rattle.kind_rules.specs.Rows.{tablesOf};
 ghost use Rattle.orders.specs.Order.{sourceCount};
 ghost use Rattle.parts.specs.Parts.{partTotal, partsPlaced};
+ghost use Rattle.trying.specs.Alike.{Alike};
 ghost use Rattle.plan.specs.Plan.{planned, Plannable};
 ghost use Rattle.opening.specs.Open.{openWalk, settled, opening};
 ghost use Rattle.opening.specs.Ask.{asked};
@@ -32,6 +33,15 @@ fn store(to: &mut [u64], from: &[u64], n: usize)
 fn copied(counts: [u64; 96]) -> [u64; 96]
     ensures { λ r. ⌜ r ≡ counts ⌝ }
 {
+    counts
+}
+
+// Counters of 0 with their nulls full: what an opening is tried on.
+fn uncounted(state: &[u64]) -> [u64; 96]
+    ensures { λ r. ⌜ Alike r (replicate 96 0) ⌝ }
+{
+    let mut counts = [0u64; 96];
+    trying::uncount(&mut counts, parts::node_count(state));
     counts
 }
 
@@ -90,7 +100,7 @@ fn make(
     requires { ⌜ (sourceCount (now state) ≤ 16) × (length (now state) ≡ 872) × (length (now plan) ≡ 872) × (length (now counters) ≡ 96) ⌝ }
     ensures { λ r. ⌜ ((formats schema buffers : List ℕ) (keep : Bool) → now (state .entry) ≡ planned formats schema (tablesOf (now (lengths .entry)) (now (places .entry)) buffers (now (body .entry))) (now (sources .entry)) keep → Answers (settled formats schema (now (sources .entry)) (tablesOf (now (lengths .entry)) (now (places .entry)) buffers (now (body .entry))) keep (now (parts .entry)) (now (plan .entry)) (now (counters .entry)) (now (room .entry)) (openWalk (lent (now (state .entry)) (now (parts .entry)) (now (sources .entry)) (now (lengths .entry)) (now (places .entry)) (now (body .entry))) (replicate 96 0))) r (now (plan .exit)) (now (counters .exit)) (now (room .exit))) ⌝ }
 {
-    let mut tried = [0u64; 96];
+    let mut tried = uncounted(state);
     let g = open_walk::open_walk(
         state,
         parts,

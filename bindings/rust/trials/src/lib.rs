@@ -2,6 +2,7 @@
 
 pub mod compare;
 pub mod convert;
+pub mod cut;
 pub mod damage;
 pub mod files;
 pub mod generate;

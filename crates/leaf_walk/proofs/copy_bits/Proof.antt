@@ -1,7 +1,7 @@
 -- `leaf_walk::copy_bits` meets its contract. Assumes nothing.
 use native.Mathlib.Omega.{arith}
 use Rattle.leaf_walk.specs.Join.{join}
-use Rattle.leaf_walk.proofs.Laws.{bits-no, bits-yes}
+use Rattle.leaf_walk.proofs.Laws.{bits-no, bits-tried, bits-yes}
 use borrow.Author.Needs.{needs}
 use Rattle.leaf_walk.proofs.copy_bits.Statement.{statement}
 use Rattle.leaf_walk.proofs.copy_bits.Tie as tie
@@ -32,6 +32,14 @@ returns c =
     let a = c .before .before .before .before .before .before .before .before .args in
     λ lengths source. bits-no (join (a .state .now) (a .parts .now) lengths (a .places .now) (a .body .now) (a .first) source) (a .i) (a .write) (a .counts .now) (a .room .now) (a .slot) (a .n) (c .before .before .place .ensures) (omega arith)
 
+is-uncounted-requires : tie.Need-is-uncounted-requires
+is-uncounted-requires c κs = search needs
+
+returns-2 : tie.Need-returns-2
+returns-2 c =
+    let a = c .before .before .before .before .before .before .before .before .before .before .before .args in
+    λ lengths source. bits-tried (join (a .state .now) (a .parts .now) lengths (a .places .now) (a .body .now) (a .first) source) (a .i) (a .write) (a .counts .now) (a .room .now) (a .slot) (a .n) (c .before .before .before .before .before .place .ensures) (omega arith) (c .before .is-uncounted .ensures) (c .if2 .taken)
+
 rows-of-requires : tie.Need-rows-of-requires
 rows-of-requires c κs = search needs
 
@@ -47,10 +55,10 @@ add-nulls-requires c κs = search needs
 same-length : tie.Need-same-length
 same-length c = search needs
 
-returns-2 : tie.Need-returns-2
-returns-2 c =
-    let a = c .before .before .before .before .before .before .before .before .before .before .before .before .before .before .before .before .args in
-    λ lengths source. bits-yes (join (a .state .now) (a .parts .now) lengths (a .places .now) (a .body .now) (a .first) source) (a .i) (a .write) (a .counts .now) (a .room .now) (a .slot) (a .n) (c .before .before .before .before .before .before .before .before .before .before .place .ensures) (omega arith) (c .before .before .before .before .before .before .rows-of .ensures) (c .before .before .before .before .put-mask .ensures .0) (c .before .before .before .before .put-mask .ensures .1) (c .add-nulls .ensures)
+returns-3 : tie.Need-returns-3
+returns-3 c =
+    let a = c .before .before .before .before .before .before .before .before .before .before .before .before .before .before .before .before .before .before .before .args in
+    λ lengths source. bits-yes (join (a .state .now) (a .parts .now) lengths (a .places .now) (a .body .now) (a .first) source) (a .i) (a .write) (a .counts .now) (a .room .now) (a .slot) (a .n) (c .before .before .before .before .before .before .before .before .before .before .before .before .before .place .ensures) (omega arith) (c .before .before .before .before .before .before .rows-of .ensures) (c .before .before .before .before .put-mask .ensures .0) (c .before .before .before .before .put-mask .ensures .1) (c .add-nulls .ensures)
 
 pub copy-bits-spec : {M : Type 1} → statement M
 copy-bits-spec =
@@ -64,9 +72,11 @@ copy-bits-spec =
     add-end-2
     bit-room-requires
     returns
+    is-uncounted-requires
+    returns-2
     rows-of-requires
     cast-put-mask
     put-mask-requires
     add-nulls-requires
     same-length
-    returns-2)
+    returns-3)

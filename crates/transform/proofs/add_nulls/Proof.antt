@@ -1,10 +1,11 @@
 -- `transform::add_nulls` meets its contract. Assumes nothing.
-use mathlib.Core.Path.{_∙_}
+use mathlib.Core.Path.{ap, _∙_}
 use mathlib.Core.List.{List, []}
 use Prim.Native.Nat.{ℕ}
 use Rattle.walk.specs.Log.{Out}
 use Rattle.walk.specs.Nulls.{nullWalk}
 use Rattle.leaf_walk.specs.Join.{join}
+use Rattle.trying.proofs.Near.{near-same}
 use Rattle.transform.specs.Answer.{lent}
 use Rattle.transform.proofs.Laws.{settled-no, settled-parts, settled-made}
 use borrow.Author.Needs.{needs}
@@ -27,7 +28,7 @@ returns : tie.Need-returns
 returns c =
     let z = c .before .before .before .before .before .before .before .before .before .before .before .before .args in
     let walk : List ℕ → Out = λ l. nullWalk (join (z .plan .now) (z .parts .now) [] [] [] 0 0) 8 0 (z .n) l in
-    λ sources lengths places body. settled-no (lent (z .plan .now) (z .parts .now) sources lengths places body) (z .counters .now) (z .room .now) walk (c .before .before .before .before .before .before .load .ensures) (c .before .before .before .extend-nulls .ensures) (c .if1 .taken)
+    λ sources lengths places body. settled-no (lent (z .plan .now) (z .parts .now) sources lengths places body) (z .counters .now) (z .room .now) walk (near-same (ap walk (c .before .before .before .before .before .before .load .ensures))) (c .before .before .before .extend-nulls .ensures) (c .if1 .taken)
 
 parts-ground-requires : tie.Need-parts-ground-requires
 parts-ground-requires c κs = search needs
@@ -42,7 +43,7 @@ returns-2 : tie.Need-returns-2
 returns-2 c =
     let z = c .before .before .before .before .before .before .before .before .before .before .before .before .before .before .before .args in
     let walk : List ℕ → Out = λ l. nullWalk (join (z .plan .now) (z .parts .now) [] [] [] 0 0) 8 0 (z .n) l in
-    λ sources lengths places body. settled-parts (lent (z .plan .now) (z .parts .now) sources lengths places body) (z .counters .now) (z .room .now) walk (c .before .before .before .before .before .before .before .before .before .load .ensures) (c .before .before .before .before .before .before .extend-nulls .ensures) (c .before .before .before .if1 .left) (c .before .parts-ground .ensures) (c .if2 .taken)
+    λ sources lengths places body. settled-parts (lent (z .plan .now) (z .parts .now) sources lengths places body) (z .counters .now) (z .room .now) walk (near-same (ap walk (c .before .before .before .before .before .before .before .before .before .load .ensures))) (c .before .before .before .before .before .before .extend-nulls .ensures) (c .before .before .before .if1 .left) (c .before .parts-ground .ensures) (c .if2 .taken)
 
 load-requires-2 : tie.Need-load-requires-2
 load-requires-2 c κs = search needs
@@ -66,7 +67,7 @@ returns-3 : tie.Need-returns-3
 returns-3 c =
     let z = c .before .before .before .before .before .before .before .before .before .before .before .before .before .before .before .before .before .before .before .before .before .before .before .before .before .before .before .before .args in
     let walk : List ℕ → Out = λ l. nullWalk (join (z .plan .now) (z .parts .now) [] [] [] 0 0) 8 0 (z .n) l in
-    λ sources lengths places body. settled-made (lent (z .plan .now) (z .parts .now) sources lengths places body) (z .counters .now) (z .room .now) walk (c .before .before .before .before .before .before .before .before .before .before .before .before .before .before .before .before .before .before .before .before .before .before .load .ensures) (c .before .before .before .before .before .before .before .before .before .before .before .before .before .before .before .before .before .before .before .extend-nulls .ensures) (c .before .before .before .before .before .before .before .before .before .before .before .before .before .before .before .before .if1 .left) (c .before .before .before .before .before .before .before .before .before .before .before .before .before .before .parts-ground .ensures) (c .before .before .before .before .before .before .before .before .before .before .before .before .before .if2 .left) (c .before .before .before .before .before .before .before .before .before .before .before .load2 .ensures) (c .before .before .before .before .before .before .before .before .extend-nulls2 .ensures) (c .before .before .store .ensures ∙ c .before .before .before .before .before .copied .ensures)
+    λ sources lengths places body. settled-made (lent (z .plan .now) (z .parts .now) sources lengths places body) (z .counters .now) (z .room .now) walk (near-same (ap walk (c .before .before .before .before .before .before .before .before .before .before .before .before .before .before .before .before .before .before .before .before .before .before .load .ensures))) (c .before .before .before .before .before .before .before .before .before .before .before .before .before .before .before .before .before .before .before .extend-nulls .ensures) (c .before .before .before .before .before .before .before .before .before .before .before .before .before .before .before .before .if1 .left) (c .before .before .before .before .before .before .before .before .before .before .before .before .before .before .parts-ground .ensures) (c .before .before .before .before .before .before .before .before .before .before .before .before .before .if2 .left) (c .before .before .before .before .before .before .before .before .before .before .before .load2 .ensures) (c .before .before .before .before .before .before .before .before .extend-nulls2 .ensures) (c .before .before .store .ensures ∙ c .before .before .before .before .before .copied .ensures)
 
 pub add-nulls-spec : {M : Type 1} → statement M
 add-nulls-spec = tie.close (tie.spec load-requires extend-nulls-requires same-length same-length-2 returns parts-ground-requires same-length-3 same-length-4 returns-2 load-requires-2 extend-nulls-requires-2 copied-requires store-requires same-length-5 same-length-6 returns-3)

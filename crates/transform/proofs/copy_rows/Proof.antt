@@ -5,14 +5,15 @@ use Prim.Native.Nat.{ℕ}
 use Rattle.walk.specs.Log.{Out}
 use Rattle.walk.specs.Copy.{copyWalk}
 use Rattle.leaf_walk.specs.Join.{join}
+use Rattle.trying.proofs.Near.{near-copy}
 use Rattle.transform.specs.Answer.{lent}
 use Rattle.transform.proofs.Laws.{settled-no, settled-parts, settled-made}
 use borrow.Author.Needs.{needs}
 use Rattle.transform.proofs.copy_rows.Statement.{statement}
 use Rattle.transform.proofs.copy_rows.Tie as tie
 
-load-requires : tie.Need-load-requires
-load-requires c κs = search needs
+uncounted-requires : tie.Need-uncounted-requires
+uncounted-requires c κs = search needs
 
 extend-requires : tie.Need-extend-requires
 extend-requires c κs = search needs
@@ -27,7 +28,7 @@ returns : tie.Need-returns
 returns c =
     let z = c .before .before .before .before .before .before .before .before .before .before .before .before .before .before .before .args in
     let walk : List ℕ → Out = λ l. copyWalk (join (z .plan .now) (z .parts .now) (z .lengths .now) (z .places .now) (z .body .now) (z .first) (z .source)) 8 0 (z .start) (z .n) l in
-    λ sources. settled-no (lent (z .plan .now) (z .parts .now) sources (z .lengths .now) (z .places .now) (z .body .now)) (z .counters .now) (z .room .now) walk (c .before .before .before .before .before .before .load .ensures) (c .before .before .before .extend .ensures) (c .if1 .taken)
+    λ sources. settled-no (lent (z .plan .now) (z .parts .now) sources (z .lengths .now) (z .places .now) (z .body .now)) (z .counters .now) (z .room .now) walk (near-copy (join (z .plan .now) (z .parts .now) (z .lengths .now) (z .places .now) (z .body .now) (z .first) (z .source)) 8 0 (z .start) (z .n) (c .before .before .before .before .before .before .uncounted .ensures)) (c .before .before .before .extend .ensures) (c .if1 .taken)
 
 parts-ground-requires : tie.Need-parts-ground-requires
 parts-ground-requires c κs = search needs
@@ -42,10 +43,10 @@ returns-2 : tie.Need-returns-2
 returns-2 c =
     let z = c .before .before .before .before .before .before .before .before .before .before .before .before .before .before .before .before .before .before .args in
     let walk : List ℕ → Out = λ l. copyWalk (join (z .plan .now) (z .parts .now) (z .lengths .now) (z .places .now) (z .body .now) (z .first) (z .source)) 8 0 (z .start) (z .n) l in
-    λ sources. settled-parts (lent (z .plan .now) (z .parts .now) sources (z .lengths .now) (z .places .now) (z .body .now)) (z .counters .now) (z .room .now) walk (c .before .before .before .before .before .before .before .before .before .load .ensures) (c .before .before .before .before .before .before .extend .ensures) (c .before .before .before .if1 .left) (c .before .parts-ground .ensures) (c .if2 .taken)
+    λ sources. settled-parts (lent (z .plan .now) (z .parts .now) sources (z .lengths .now) (z .places .now) (z .body .now)) (z .counters .now) (z .room .now) walk (near-copy (join (z .plan .now) (z .parts .now) (z .lengths .now) (z .places .now) (z .body .now) (z .first) (z .source)) 8 0 (z .start) (z .n) (c .before .before .before .before .before .before .before .before .before .uncounted .ensures)) (c .before .before .before .before .before .before .extend .ensures) (c .before .before .before .if1 .left) (c .before .parts-ground .ensures) (c .if2 .taken)
 
-load-requires-2 : tie.Need-load-requires-2
-load-requires-2 c κs = search needs
+load-requires : tie.Need-load-requires
+load-requires c κs = search needs
 
 extend-requires-2 : tie.Need-extend-requires-2
 extend-requires-2 c κs = search needs
@@ -66,7 +67,7 @@ returns-3 : tie.Need-returns-3
 returns-3 c =
     let z = c .before .before .before .before .before .before .before .before .before .before .before .before .before .before .before .before .before .before .before .before .before .before .before .before .before .before .before .before .before .before .before .args in
     let walk : List ℕ → Out = λ l. copyWalk (join (z .plan .now) (z .parts .now) (z .lengths .now) (z .places .now) (z .body .now) (z .first) (z .source)) 8 0 (z .start) (z .n) l in
-    λ sources. settled-made (lent (z .plan .now) (z .parts .now) sources (z .lengths .now) (z .places .now) (z .body .now)) (z .counters .now) (z .room .now) walk (c .before .before .before .before .before .before .before .before .before .before .before .before .before .before .before .before .before .before .before .before .before .before .load .ensures) (c .before .before .before .before .before .before .before .before .before .before .before .before .before .before .before .before .before .before .before .extend .ensures) (c .before .before .before .before .before .before .before .before .before .before .before .before .before .before .before .before .if1 .left) (c .before .before .before .before .before .before .before .before .before .before .before .before .before .before .parts-ground .ensures) (c .before .before .before .before .before .before .before .before .before .before .before .before .before .if2 .left) (c .before .before .before .before .before .before .before .before .before .before .before .load2 .ensures) (c .before .before .before .before .before .before .before .before .extend2 .ensures) (c .before .before .store .ensures ∙ c .before .before .before .before .before .copied .ensures)
+    λ sources. settled-made (lent (z .plan .now) (z .parts .now) sources (z .lengths .now) (z .places .now) (z .body .now)) (z .counters .now) (z .room .now) walk (near-copy (join (z .plan .now) (z .parts .now) (z .lengths .now) (z .places .now) (z .body .now) (z .first) (z .source)) 8 0 (z .start) (z .n) (c .before .before .before .before .before .before .before .before .before .before .before .before .before .before .before .before .before .before .before .before .before .before .uncounted .ensures)) (c .before .before .before .before .before .before .before .before .before .before .before .before .before .before .before .before .before .before .before .extend .ensures) (c .before .before .before .before .before .before .before .before .before .before .before .before .before .before .before .before .if1 .left) (c .before .before .before .before .before .before .before .before .before .before .before .before .before .before .parts-ground .ensures) (c .before .before .before .before .before .before .before .before .before .before .before .before .before .if2 .left) (c .before .before .before .before .before .before .before .before .before .before .before .load .ensures) (c .before .before .before .before .before .before .before .before .extend2 .ensures) (c .before .before .store .ensures ∙ c .before .before .before .before .before .copied .ensures)
 
 pub copy-rows-spec : {M : Type 1} → statement M
-copy-rows-spec = tie.close (tie.spec load-requires extend-requires same-length same-length-2 returns parts-ground-requires same-length-3 same-length-4 returns-2 load-requires-2 extend-requires-2 copied-requires store-requires same-length-5 same-length-6 returns-3)
+copy-rows-spec = tie.close (tie.spec uncounted-requires extend-requires same-length same-length-2 returns parts-ground-requires same-length-3 same-length-4 returns-2 load-requires extend-requires-2 copied-requires store-requires same-length-5 same-length-6 returns-3)

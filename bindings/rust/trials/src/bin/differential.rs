@@ -4,6 +4,7 @@ use std::fmt::Write;
 use std::process::ExitCode;
 use std::time::Instant;
 use trials::compare::{join, Seen};
+use trials::cut::cut;
 use trials::passage::passage;
 use trials::wider::wider;
 
@@ -14,12 +15,13 @@ fn main() -> ExitCode {
     let mut out = String::new();
     let mut seen = Seen::default();
     eprintln!("{count} random joins, seeds {first} to {}", first + count - 1);
-    let (mut widened, mut passed) = (0, 0);
+    let (mut widened, mut passed, mut cuts) = (0, 0, 0);
     for seed in first..first + count {
-        // every tenth is made with wider offsets, keys and run ends too, and another tenth of slices that pass the C Data Interface
+        // a tenth is made with wider offsets, keys and run ends too, one of slices that pass the C Data Interface, one with its last copy cut in two
         let answer = join(seed, &mut seen).and_then(|()| match seed % 10 {
             0 => wider(seed).map(|accepted| widened += accepted as u64),
             5 => passage(seed).map(|accepted| passed += accepted as u64),
+            7 => cut(seed).map(|accepted| cuts += accepted as u64),
             _ => Ok(()),
         });
         match answer {
@@ -34,6 +36,7 @@ fn main() -> ExitCode {
     writeln!(out, "{joins} joins, {orders} orders, {rows} rows: no difference").unwrap();
     writeln!(out, "{depth_8} types of depth 8; dictionaries: {joined_dictionaries} joined, {kept_dictionaries} kept").unwrap();
     writeln!(out, "{widened} of them stored wider: the same rows").unwrap();
+    writeln!(out, "{cuts} copies cut in two: the same rows, and bytes where no run is").unwrap();
     writeln!(out, "{passed} of slices through the C Data Interface: the same rows and names").unwrap();
     for ((what, answer), count) in answers {
         writeln!(out, "{what} answered {answer}: {count}").unwrap();

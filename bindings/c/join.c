@@ -1,0 +1,218 @@
+/* Joins of columns, over the calls of lafkuno.h. */
+#include "layer.h"
+
+#include <stdlib.h>
+#include <string.h>
+
+/* ---- refused sources */
+
+static uint8_t subtree_ground(const struct column *column, uint32_t node) {
+    return lafkuno_tables_ground(&column->tables, node, subtree_end(&column->import, node) - node);
+}
+
+/* Of a refused subtree the node that breaks a rule while all below it keep theirs. */
+static uint32_t refused_node(const struct column *column, uint32_t node) {
+    uint32_t end = subtree_end(&column->import, node), child = node + 1;
+    while (child < end) {
+        if (subtree_ground(column, child)) {
+            node = child;
+            end = subtree_end(&column->import, node);
+            child = node + 1;
+        } else {
+            child = subtree_end(&column->import, child);
+        }
+    }
+    return node;
+}
+
+/* Tells of the sources the one that is refused, and its node. */
+static int refuse_sources(struct column *column, int code) {
+    const struct import *import = &column->import;
+    for (uint32_t s = 0; s < import->source_count; s++) {
+        uint32_t first = import->sources[2 * s];
+        uint8_t ground = subtree_ground(column, first);
+        if (!ground) continue;
+        uint32_t node = refused_node(column, first);
+        at_source(column->report, s);
+        at_node(column->report, node - first, import->schemas[node]);
+        return ground == LAFKUNO_BAD_SOURCE ? refuse_node(import, node) : refuse_plainly(column->report, ground);
+    }
+    at_source(column->report, -1);
+    return refuse_plainly(column->report, code);
+}
+
+/* ---- orders */
+
+/* Tries an order on the counters, or carries it out. */
+static uint8_t give_order(struct column *column, const struct lafkuno_order *order, bool measure) {
+    struct lafkuno_state *state = &column->state;
+    if (order->source == LAFKUNO_GAP) {
+        if (order->end < order->start) return LAFKUNO_NO_SUCH_ROWS;
+        uint64_t n = order->end - order->start;
+        return measure ? lafkuno_state_measure_nulls(state, n) : lafkuno_state_nulls(state, n);
+    }
+    return measure ? lafkuno_state_measure_copy(state, &column->tables, order->source, order->start, order->end)
+                   : lafkuno_state_copy(state, &column->tables, order->source, order->start, order->end);
+}
+
+/* Whether a node can be the cause of 6, 7 or 8. */
+static bool may_cause(const struct ArrowSchema *schema, int ground) {
+    enum kind kind = format_of(storage_of(schema->format)).kind;
+    if (ground == LAFKUNO_TOO_MANY_ENTRIES) return schema->dictionary != NULL;
+    if (ground == LAFKUNO_RUN_END_TOO_LARGE) return kind == RUNS;
+    return ground == LAFKUNO_OFFSET_TOO_LARGE && (kind == STRING || kind == LIST_VIEW || kind == DENSE);
+}
+
+/* The calls tell no node: it is known where only one can be the cause. */
+static int refuse_data(struct column *column, int ground) {
+    const struct import *import = &column->import;
+    uint32_t found = 0, at = 0;
+    for (uint32_t node = 0; node < import->sources[1]; node++)
+        if (may_cause(import->schemas[node], ground)) {
+            found++;
+            at = node;
+        }
+    if (found == 1) at_node(column->report, at, import->schemas[at]);
+    return refuse_plainly(column->report, ground);
+}
+
+static int give_orders(struct column *column, const struct task *task, bool measure) {
+    for (size_t k = 0; k < task->order_count; k++) {
+        uint8_t ground = give_order(column, &task->orders[k], measure);
+        if (!ground) continue;
+        at_order(column->report, (int64_t)k, &task->orders[k]);
+        return refuse_data(column, ground);
+    }
+    return 0;
+}
+
+/* ---- a column */
+
+struct task task_of(const struct lafkuno_order *orders, size_t order_count, const struct lafkuno_options *options) {
+    struct task task = {orders, order_count, options && options->keep_nulls, LAFKUNO_MOST_ROWS};
+    if (options && options->most_rows) task.most_rows = options->most_rows;
+    return task;
+}
+
+static int check_sources(struct report *report, const struct lafkuno_source *sources, size_t count, struct shape *shape) {
+    int code = 0;
+    for (size_t s = 0; !code && s < count; s++) {
+        at_source(report, (int64_t)s);
+        code = shape_of(report, &sources[s], shape);
+        if (!code && s) code = same_types(report, sources[0].schema, sources[s].schema);
+    }
+    return code;
+}
+
+static int import_sources(struct column *column, const struct lafkuno_source *sources, const struct window *windows, size_t count,
+                          const struct shape *shape) {
+    int code = import_begin(&column->import, column->report, count, shape);
+    for (size_t s = 0; !code && s < count; s++) {
+        at_source(column->report, (int64_t)s);
+        code = import_source(&column->import, &sources[s], windows[s]);
+    }
+    at_source(column->report, -1);
+    return code ? code : lay(&column->import);
+}
+
+int column_prepare(struct column *column, struct report *report, const struct lafkuno_source *sources, const struct window *windows,
+                   size_t count, const struct task *task) {
+    struct shape shape = {0, 0, 0};
+    column->report = report;
+    column->import = (struct import){.report = report};
+    column->state.room = NULL;
+    column->type = sources[0].schema;
+    column->keep = task->keep;
+    int code = check_sources(report, sources, count, &shape);
+    if (!code) code = import_sources(column, sources, windows, count, &shape);
+    if (code) return code;
+    column->tables = import_tables(&column->import);
+    uint8_t ground = lafkuno_state_plan(&column->state, &column->tables, column->keep);
+    if (ground) return refuse_sources(column, ground);
+    code = bound_rows(&column->import, task->orders, task->order_count, task->most_rows);
+    if (code) return code;
+    ground = lafkuno_state_measure_open(&column->state, &column->tables);
+    if (ground) return refuse_data(column, ground);
+    return give_orders(column, task, true);
+}
+
+/* The room of all parts. */
+static int lend_room(struct column *column) {
+    uint64_t bytes = lafkuno_state_parts(&column->state);
+    if (bytes > LAFKUNO_MOST_BYTES)
+        return refuse_above(column->report, LAFKUNO_CEILING_PASSED, bytes, LAFKUNO_MOST_BYTES, "bytes of the result");
+    column->state.room = allocate_lines(bytes);
+    column->state.room_len = (size_t)bytes;
+    return column->state.room ? 0 : refuse_memory(column->report);
+}
+
+/* The tables of the finished array, in one block that is `tables->lengths`. */
+static int finish_tables(struct column *column, struct lafkuno_finished *tables) {
+    size_t nodes = column->import.sources[1];
+    size_t data = (size_t)lafkuno_state_buffer_total(&column->state, &column->tables);
+    uint64_t *block = malloc(3 * nodes * sizeof *block + (9 * nodes + 2 * data + 1) * sizeof(position));
+    if (!block) return refuse_memory(column->report);
+    position *places = (position *)(block + 3 * nodes);
+    *tables = (struct lafkuno_finished){block, 2 * nodes, block + 2 * nodes, nodes, places, 9 * nodes, places + 9 * nodes, 2 * data};
+    uint8_t ground = lafkuno_state_finish(&column->state, &column->tables, 0, tables);
+    if (!ground) return 0;
+    free(block);
+    return refuse_plainly(column->report, ground);
+}
+
+int column_finish(struct column *column, const struct task *task, struct ArrowArray *array) {
+    struct finished finished = {.body = column->import.body};
+    int code = lend_room(column);
+    if (code) return code;
+    uint8_t ground = lafkuno_state_open(&column->state, &column->tables, column->keep);
+    if (ground) return refuse_plainly(column->report, ground);
+    code = give_orders(column, task, false);
+    if (!code) code = finish_tables(column, &finished.tables);
+    if (code) return code;
+    for (uint32_t p = 0; p < column->state.parts_len / 2; p++)
+        finished.copied[lafkuno_part_node(column->state.plan, LAFKUNO_PLAN, p)] = true;
+    finished.room = column->state.room;
+    column->import.body = NULL;
+    column->state.room = NULL;
+    code = export_array(column->report, column->type, &finished, array);
+    free(finished.tables.lengths);
+    return code;
+}
+
+void column_end(struct column *column) {
+    import_end(&column->import);
+    free(column->state.room);
+    column->state.room = NULL;
+}
+
+static int join_columns(struct report *report, const struct lafkuno_source *sources, size_t count, const struct task *task,
+                        struct ArrowSchema *schema, struct ArrowArray *array) {
+    struct window windows[LAFKUNO_MOST_SOURCES];
+    struct column *column = malloc(sizeof *column);
+    if (!column) return refuse_memory(report);
+    for (size_t s = 0; s < count; s++) windows[s] = (struct window){0, sources[s].array ? (uint64_t)sources[s].array->length : 0};
+    int code = column_prepare(column, report, sources, windows, count, task);
+    if (!code) code = column_finish(column, task, array);
+    column_end(column);
+    free(column);
+    if (!code && schema && (code = export_schema(report, sources, count, task->keep, schema))) array->release(array);
+    return code;
+}
+
+int lafkuno_join_arrays(const struct lafkuno_source *sources, size_t count, const struct lafkuno_order *orders, size_t order_count,
+                        const struct lafkuno_options *options, struct ArrowSchema *schema, struct ArrowArray *array,
+                        struct lafkuno_error *error) {
+    struct lafkuno_error spare;
+    struct report report = report_to(error, &spare);
+    struct task task = task_of(orders, order_count, options);
+    struct ArrowSchema type;
+    struct ArrowArray joined;
+    if (!count) return refuse(&report, LAFKUNO_CEILING_PASSED, "there is no source");
+    if (count > LAFKUNO_MOST_SOURCES) return refuse_above(&report, LAFKUNO_CEILING_PASSED, count, LAFKUNO_MOST_SOURCES, "sources");
+    int code = join_columns(&report, sources, count, &task, schema ? &type : NULL, &joined);
+    if (code) return code;
+    report_to(error, &spare);
+    if (schema) *schema = type;
+    *array = joined;
+    return 0;
+}

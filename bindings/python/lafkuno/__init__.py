@@ -1,0 +1,130 @@
+"""Joins ranges of Arrow columns, or of record batches, into one.
+
+    joined = lafkuno.join([a, b], [lafkuno.rows(0, 10, 20), lafkuno.gap(1), lafkuno.rows(1, 0, 5)], keep_nulls=True)
+
+Sources are any objects of the Arrow PyCapsule protocol (`__arrow_c_array__`), and the result is one: arrays and record batches of any
+Arrow implementation go in and out without further code. All orders are carried out, or none: then `lafkuno.Error` says where and why.
+"""
+
+import ctypes
+from ctypes import byref
+from typing import NamedTuple
+
+from ._capsule import ARRAY, SCHEMA, fresh, release, unwrap
+from ._library import GAP, ArrowArray, ArrowSchema, Failure, Options, Order, Source, library
+
+__all__ = ["Array", "Error", "gap", "join", "rows", "version"]
+
+version = library.lafkuno_version().decode()
+__version__ = version
+
+
+class rows(NamedTuple):
+    """The order of rows start to end - 1 of a source."""
+
+    source: int
+    start: int
+    end: int
+
+
+class gap(NamedTuple):
+    """The order of n nulls."""
+
+    n: int
+
+
+class Error(Exception):
+    """A refusal. `code` is the ground or the failure of lafkuno_arrow.h; what does not apply is None."""
+
+    def __init__(self, failure):
+        super().__init__(failure.message.decode("utf-8", "replace"))
+        self.code = failure.code
+        for name in ("column", "source", "order", "node"):
+            value = getattr(failure, name)
+            setattr(self, name, None if value < 0 else value)
+        self.found, self.allowed = failure.found, failure.allowed
+
+
+class Array:
+    """A joined column or record batch. It owns its memory, and shares it with whoever takes `__arrow_c_array__`."""
+
+    def __init__(self, schema, array):
+        self._schema, self._array = schema, array
+
+    def __del__(self, release=release):
+        release(self._schema)
+        release(self._array)
+
+    def __len__(self):
+        return self._array.length
+
+    def __repr__(self):
+        return f"<lafkuno.Array of {len(self)} rows, {self.null_count} of them null, format {self.format!r}>"
+
+    @property
+    def null_count(self):
+        return self._array.null_count
+
+    @property
+    def format(self):
+        """The format string of the Arrow C Data Interface."""
+        return self._schema.format.decode()
+
+    def __arrow_c_schema__(self):
+        capsule, schema = fresh(SCHEMA)
+        _check(library.lafkuno_copy_schema(byref(self._schema), byref(schema)))
+        return capsule
+
+    def __arrow_c_array__(self, requested_schema=None):
+        """The schema and the array as capsules. The type is the array's own, whatever is requested."""
+        capsule, array = fresh(ARRAY)
+        _check(library.lafkuno_share_array(byref(self._array), byref(array)))
+        return self.__arrow_c_schema__(), capsule
+
+
+def _check(code):
+    if code:
+        failure = Failure(code, -1, -1, -1, -1, 0, 0, library.lafkuno_meaning(code))
+        raise MemoryError(str(Error(failure))) if code == 100 else Error(failure)
+
+
+def _number(value, top):
+    number = value.__index__()
+    if not 0 <= number <= top:
+        raise ValueError(f"{number} is not a number from 0 to {top}")
+    return number
+
+
+def _order(order):
+    if isinstance(order, gap):
+        return Order(GAP, 0, _number(order.n, 2**64 - 1))
+    source, start, end = order
+    return Order(_number(source, GAP - 1), _number(start, 2**64 - 1), _number(end, 2**64 - 1))
+
+
+def _capsules(number, source):
+    if not hasattr(source, "__arrow_c_array__"):
+        raise TypeError(f"source {number} is a {type(source).__name__} without __arrow_c_array__")
+    return source.__arrow_c_array__()
+
+
+def join(sources, orders, *, keep_nulls=False, most_rows=0):
+    """Carries the orders out, one after the other, over 1 to 16 sources of one type; record batches where the sources are structs.
+
+    keep_nulls: orders of nulls (`gap`) are taken even where no source has a null.
+    most_rows: the most rows that any node may come to, by a bound that is computed first; 0 stands for 2 ** 32.
+    """
+    capsules = [_capsules(k, source) for k, source in enumerate(sources)]  # kept until the call is over
+    structs = [(unwrap(schema, SCHEMA), unwrap(array, ARRAY)) for schema, array in capsules]
+    table = (Source * len(structs))(*(Source(ctypes.pointer(s), ctypes.pointer(a)) for s, a in structs))
+    list_ = [_order(order) for order in orders]
+    options = Options(bool(keep_nulls), _number(most_rows, 2**64 - 1))
+    schema, array, failure = ArrowSchema(), ArrowArray(), Failure()
+    batches = bool(structs) and structs[0][0].format == b"+s"
+    call = library.lafkuno_join_batches if batches else library.lafkuno_join_arrays
+    code = call(table, len(structs), (Order * len(list_))(*list_), len(list_), byref(options), byref(schema), byref(array), byref(failure))
+    if code == 100:
+        raise MemoryError(str(Error(failure)))
+    if code:
+        raise Error(failure)
+    return Array(schema, array)

@@ -1,0 +1,162 @@
+"""The Python binding: joins, ownership, errors; and, where it can be had, pyarrow's arrays against pyarrow's own slices."""
+
+import ctypes
+import gc
+import struct
+from concurrent.futures import ThreadPoolExecutor
+
+import lafkuno
+from columns import Column, Type, read_all
+from lafkuno._capsule import ARRAY, unwrap
+from lafkuno._library import ArrowArray, Release
+
+
+def i32(values, offset=0, name="fuel", nullable=True, format="i"):
+    width = {"i": "i", "l": "q", "tss:": "q"}[format]
+    return Column(Type(format, nullable, name=name), len(values) - offset, offset, [None, struct.pack(f"<{len(values)}{width}", *values)], null_count=0)
+
+
+def numbers(source):
+    return [None if row is None else int.from_bytes(row, "little", signed=True) for row in read_all(source)]
+
+
+def test_a_sliced_batch():
+    batch = i32([310, 305, 300, 298, 95, 102, 12, 61], offset=4)
+    joined = lafkuno.join([batch], [lafkuno.rows(0, 0, 3), lafkuno.gap(1), lafkuno.rows(0, 3, 4)], keep_nulls=True)
+    del batch
+    gc.collect()
+    assert numbers(joined) == [95, 102, 12, None, 61]
+    assert repr(joined) == "<lafkuno.Array of 5 rows, 1 of them null, format 'i'>"
+
+
+def test_a_result_is_a_source():
+    one = lafkuno.join([i32([1, 2, 3])], [(0, 1, 3)])
+    two = lafkuno.join([one, one], [(0, 0, 2), (1, 0, 1)])
+    del one
+    gc.collect()
+    assert numbers(two) == [2, 3, 2]
+
+
+def test_capsules_outlive_the_array():
+    joined = lafkuno.join([i32([1, 2, 3])], [(0, 0, 3)])
+    capsules = joined.__arrow_c_array__()
+    del joined
+    gc.collect()
+
+    class Holder:
+        def __arrow_c_array__(self, requested_schema=None):
+            return capsules
+
+    assert numbers(Holder()) == [1, 2, 3]
+    assert numbers(lafkuno.join([Holder()], [(0, 2, 3)])) == [3]
+
+
+def test_a_consumer_moves_the_struct():
+    joined = lafkuno.join([i32([1, 2, 3])], [(0, 0, 3)])
+    capsules = joined.__arrow_c_array__()
+    theirs = unwrap(capsules[1], ARRAY)
+    moved = ArrowArray()
+    ctypes.memmove(ctypes.addressof(moved), ctypes.addressof(theirs), ctypes.sizeof(ArrowArray))
+    theirs.release = Release()
+    del joined, capsules, theirs
+    gc.collect()
+    assert ctypes.string_at(moved.buffers[1], 12) == struct.pack("<3i", 1, 2, 3)
+    moved.release(ctypes.addressof(moved))
+    assert not moved.release
+
+
+def test_threads():
+    source = i32(list(range(1000)))
+
+    def work(k):
+        joined = lafkuno.join([source, source], [(0, k, k + 100), (1, 0, k)])
+        return numbers(joined) == list(range(k, k + 100)) + list(range(k))
+
+    with ThreadPoolExecutor(4) as pool:
+        assert all(pool.map(work, range(200)))
+
+
+def refused(call, *text):
+    try:
+        call()
+    except lafkuno.Error as error:
+        assert str(error) == "".join(text), str(error)
+        return error
+    raise AssertionError("not refused: " + "".join(text))
+
+
+def test_errors():
+    a = i32([1, 2, 3])
+    error = refused(
+        lambda: lafkuno.join([a], [lafkuno.rows(0, 0, 1), lafkuno.rows(0, 2, 4)]),
+        "order 1 (copy 0 2..4): the end is before the start, or beyond the source's length (ground 2)",
+    )
+    assert (error.code, error.order, error.source, error.column) == (2, 1, None, None)
+    error = refused(
+        lambda: lafkuno.join([i32([1], format="l"), i32([1], format="tss:")], []),
+        "source 1, node 0 'fuel' (tss:): the format is 'tss:', and 'l' in source 0 (ground 11)",
+    )
+    assert (error.code, error.source, error.node) == (11, 1, 0)
+    error = refused(
+        lambda: lafkuno.join([a], [(0, 0, 3)], most_rows=2),
+        "node 0 'fuel' (i): 3 rows are the bound of the orders here, and 2 are allowed",
+    )
+    assert (error.code, error.found, error.allowed) == (102, 3, 2)
+    try:  # the capsules of source 0 die while the exception is on its way
+        lafkuno.join([lafkuno.join([a], [(0, 0, 3)]), [1, 2]], [])
+    except TypeError as error:
+        assert str(error) == "source 1 is a list without __arrow_c_array__"
+    else:
+        raise AssertionError("a list was taken")
+    for order in [(0, -1, 2), lafkuno.gap(-1), (2**32, 0, 1)]:
+        try:
+            lafkuno.join([a], [order])
+        except ValueError:
+            continue
+        raise AssertionError(f"{order} was taken")
+
+
+def test_batches():
+    columns = [i32([1, 2, 3, 4], name="a"), i32([5, 6, 7, 8], name="b")]
+    batch = Column(Type("+s", children=[c.type for c in columns]), 2, 2, [None], columns, null_count=0)
+    joined = lafkuno.join([batch, batch], [(1, 0, 2), (0, 1, 2)])
+    assert joined.format == "+s" and len(joined) == 3
+    refused(lambda: lafkuno.join([batch], [lafkuno.gap(1)]), "column 0 'a', order 0 (nulls 1): ", no_nulls)
+
+
+no_nulls = "an order of nulls where no nulls are kept: no source has one, and keep_nulls is not set (ground 3)"
+
+
+def with_pyarrow():
+    """Joins of pyarrow's arrays have the rows of pyarrow's slices."""
+    try:
+        import pyarrow as pa
+    except ImportError:
+        print("pyarrow is missing: nothing was compared with it")
+        return
+    arrays = [
+        pa.array([1, None, 3, 4], pa.int64()),
+        pa.array(["a", None, "a longer text than twelve bytes", ""]),
+        pa.array(["a", None, "a longer text than twelve bytes", ""], pa.string_view()),
+        pa.array([1, 2, None, 4], pa.timestamp("us", "UTC")),
+        pa.array(["x", "y", None, "x"]).dictionary_encode(),
+        pa.array([[1], None, [2, 3], []], pa.list_view(pa.int32())),
+    ]
+    for array in arrays:
+        sources = [array.slice(1, 3), array]
+        orders = [(0, 0, 2), (1, 0, 3), (0, 2, 3)]
+        joined = pa.array(lafkuno.join(sources, orders))
+        wanted = [row for s, start, end in orders for row in sources[s].slice(start, end - start).to_pylist()]
+        assert joined.type == array.type and joined.to_pylist() == wanted, array.type
+        joined.validate(full=True)
+    batch = pa.record_batch([a for a in arrays], names=list("abcdef"))
+    joined = pa.record_batch(lafkuno.join([batch, batch.slice(2)], [(1, 0, 2), (0, 0, 1)]))
+    assert joined.schema == batch.schema and joined.to_pylist() == batch.slice(2).to_pylist() + batch.slice(0, 1).to_pylist()
+    print(f"{len(arrays)} types and a batch compared with pyarrow {pa.__version__}")
+
+
+for name, test in list(globals().items()):
+    if name.startswith("test_"):
+        test()
+with_pyarrow()
+print("the Python binding holds")

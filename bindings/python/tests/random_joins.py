@@ -1,0 +1,190 @@
+"""Random joins through the library, compared row by row with an independent reading; then the same with damaged buffers, which must be
+refused or read as the damaged source reads. `random_joins.py JOINS SEED`"""
+
+import random
+import sys
+
+import lafkuno
+from columns import Column, Type, describe, ordered_null, read, read_all, valid
+from lafkuno._capsule import ARRAY, SCHEMA, unwrap
+from random_columns import fill, random_type
+
+
+def random_sources(r, type):
+    """1 to 4 columns, some of them slices of one."""
+    columns = []
+    for _ in range(r.randrange(1, 5)):
+        if columns and r.random() < 0.5:
+            whole = r.choice(columns)
+        else:
+            whole = fill(r, type, r.randrange(40))
+        start = r.randrange(whole.length + 1) if r.random() < 0.7 else 0
+        length = r.randrange(whole.length - start + 1) if r.random() < 0.7 else whole.length - start
+        columns.append(whole.slice(start, length))
+    return columns
+
+
+def random_orders(r, columns, gaps):
+    orders = []
+    for _ in range(r.randrange(8)):
+        source = r.randrange(len(columns))
+        start = r.randrange(columns[source].length + 1)
+        order = lafkuno.rows(source, start, r.randrange(start, columns[source].length + 1))
+        orders.append(lafkuno.gap(r.randrange(4)) if gaps and r.random() < 0.3 else order)
+    return orders
+
+
+def expected(columns, orders, type):
+    rows = [read_all(c) for c in columns]
+    out = []
+    for order in orders:
+        if isinstance(order, lafkuno.gap):
+            out += [ordered_null(type) for _ in range(order.n)]
+        else:
+            out += rows[order.source][order.start : order.end]
+    return out
+
+
+def may_be_refused(type, code):
+    """Grounds that random sources of this type may meet: keys of a byte that are too few, nulls of a union without nullable field."""
+    nodes = type.nodes()
+    return (code == 8 and any(n.dictionary and n.format in "cC" for n in nodes)) or (code == 5 and any(n.format.startswith("+u") for n in nodes))
+
+
+def most_rows(array):
+    below = [array.children[k][0] for k in range(array.n_children)] + ([array.dictionary[0]] if array.dictionary else [])
+    return max([array.length] + [most_rows(a) for a in below])
+
+
+def bounded(columns, orders, keep, joined):
+    """The bound is one: less than the rows that a node has come to is refused."""
+    capsules = joined.__arrow_c_array__()
+    rows = most_rows(unwrap(capsules[1], ARRAY))
+    if rows < 2:
+        return
+    try:
+        lafkuno.join(columns, orders, keep_nulls=keep, most_rows=rows - 1)
+    except lafkuno.Error as error:
+        assert error.code == 102 and error.found >= rows, (error, rows)
+        return
+    raise AssertionError(f"{rows} rows were not bounded")
+
+
+def one(r):
+    type = random_type(r)
+    columns = random_sources(r, type)
+    keep = r.random() < 0.5
+    orders = random_orders(r, columns, keep)
+    try:
+        joined = lafkuno.join(columns, orders, keep_nulls=keep)
+    except lafkuno.Error as error:
+        assert may_be_refused(type, error.code), (error, type.format)
+        return "refused"
+    wanted = expected(columns, orders, type)
+    bounded(columns, orders, keep, joined)
+    del columns
+    got = read_all(joined)
+    assert got == wanted, (type.format, wanted, got)
+    if not keep:
+        capsule = joined.__arrow_c_schema__()
+        assert describe(unwrap(capsule, SCHEMA)) == describe(Column(type, 0, 0, []).schema())
+    again = lafkuno.join([joined], [lafkuno.rows(0, 0, len(joined))])
+    assert read_all(again) == wanted
+    return "joined"
+
+
+# the buffers whose numbers are checked before they are followed; a byte string's data has no length of its own
+CHECKED = {"+vl": (1, 2), "+vL": (1, 2), "vz": (1,), "vu": (1,), "+us": (0,), "+ud": (0, 1)}
+
+
+def damage(r, column):
+    targets = [column.blocks[b] for b in CHECKED.get(column.type.format[:3], ())]
+    if column.dictionary is not None:
+        targets.append(column.blocks[1])
+    if column.type.format == "+r":
+        targets.append(column.children[0].blocks[1])
+    for block in targets:
+        if block and block.size and r.random() < 0.5:
+            content = bytearray(block.get())
+            content[r.randrange(block.size)] = r.choice([0, 1, 127, 128, 255, r.randrange(256)])
+            block.put(bytes(content))
+    for child in column.children + ([column.dictionary] if column.dictionary else []):
+        damage(r, child)
+
+
+def one_damaged(r):
+    type = random_type(r)
+    columns = random_sources(r, type)
+    damage(r, r.choice(columns))
+    orders = random_orders(r, columns, False)
+    try:
+        joined = lafkuno.join(columns, orders)
+    except lafkuno.Error as error:
+        assert error.code == 12 or may_be_refused(type, error.code), error
+        assert "breaks the rules" not in str(error), "a refused source without its row"
+        return "refused"
+    assert read_all(joined) == expected(columns, orders, type)
+    return "joined"
+
+
+def one_batch(r):
+    types = [random_type(r, depth=3) for _ in range(r.randrange(4))]
+    for k, type in enumerate(types):
+        type.name = f"column {k}"
+    struct = Type("+s", r.random() < 0.5, types, name="batch")
+    columns = []
+    for _ in range(r.randrange(1, 4)):
+        length, offset = r.randrange(20), r.randrange(20)
+        bits = [r.random() < 0.8 for _ in range(offset + length)] if struct.nullable and r.random() < 0.7 else None
+        packed = None if bits is None else sum(b << k for k, b in enumerate(bits)).to_bytes((len(bits) + 7) // 8, "little")
+        children = [fill(r, t, offset + length + r.randrange(3)) for t in types]
+        columns.append(Column(struct, length, offset, [packed], children, null_count=-1 if bits else 0))
+    keep = r.random() < 0.5
+    orders = random_orders(r, columns, keep)
+    try:
+        joined = lafkuno.join(columns, orders, keep_nulls=keep)
+    except lafkuno.Error as error:
+        assert any(may_be_refused(t, error.code) for t in types), error
+        return "refused"
+    assert read_batch(joined) == expected_batch(columns, orders, types, struct.nullable and keep)
+    return "joined"
+
+
+def read_batch(source):
+    capsules = source.__arrow_c_array__()
+    schema, array = unwrap(capsules[0], SCHEMA), unwrap(capsules[1], ARRAY)
+    rows = []
+    for k in range(array.length):
+        slot = array.offset + k
+        rows.append((valid(array, slot), [read(schema.children[c][0], array.children[c][0], slot) for c in range(schema.n_children)]))
+    return rows
+
+
+def expected_batch(columns, orders, types, nullable):
+    rows = [read_batch(c) for c in columns]
+    own = nullable or any(not valid for column in rows for valid, _ in column)
+    out = []
+    for order in orders:
+        if isinstance(order, lafkuno.gap):
+            out += [(not own, [ordered_null(t) for t in types]) for _ in range(order.n)]
+        else:
+            out += rows[order.source][order.start : order.end]
+    return out
+
+
+def main():
+    count = int(sys.argv[1]) if len(sys.argv) > 1 else 2000
+    seed = int(sys.argv[2]) if len(sys.argv) > 2 else 20261
+    for name, test in [("joins", one), ("damaged joins", one_damaged), ("batches", one_batch)]:
+        told = {"joined": 0, "refused": 0}
+        for k in range(count):
+            r = random.Random(seed * 1000003 + k)
+            try:
+                told[test(r)] += 1
+            except BaseException:
+                print(f"{name}: seed {seed}, number {k}", file=sys.stderr)
+                raise
+        print(f"{count} random {name} through the C layer, seed {seed}: {told['joined']} joined, {told['refused']} refused")
+
+
+main()

@@ -1,0 +1,2 @@
+-- Laws of `cell_sums`.
+pub mod Laws

@@ -1,0 +1,232 @@
+// Tallies of the rows of one whole-number column, and of two at once.
+ghost use mathlib.Core.Path.{_≡_};
+ghost use mathlib.Core.Bool.{false};
+ghost use Prim.Native.Nat.{ℕ, _+_, _-_, _≤_, _<_, _^_, min};
+ghost use lib.ListN.{length};
+ghost use Rattle.tally.specs.Cells.{Tallied};
+ghost use Rattle.cell_sums.specs.Numbers.{cellIn, maskCell, bothCells, Bounded, Flat, Ready, AllReady};
+use run_reader::RowRun;
+use stretches::Ends;
+use tally::Cell;
+use tally::Tally;
+use whole_cells::Cells;
+
+// A column of whole numbers: of plain rows, or of runs, whose values then stand from `skip` on in the cells.
+pub struct Numbers {
+    pub runs: bool,
+    pub ends: Ends,
+    pub cells: Cells,
+    pub skip: u64,
+}
+
+// A cell that the rows have up to `until`.
+struct Stretch {
+    cell: Cell,
+    until: u64,
+}
+
+// The tallies of two columns.
+pub struct Tallies {
+    pub first: Tally,
+    pub second: Tally,
+}
+
+// ---- one row
+
+// A row of a column of plain rows.
+fn plain_cell(body: &[u8], n: Numbers, row: u64) -> Cell
+    requires { ⌜ (n .runs ≡ false) × Ready (now body) n row ⌝ }
+    ensures { λ r. ⌜ (r ≡ cellIn (now (body .entry)) n row) × Bounded r ⌝ }
+{
+    let c = n.cells;
+    whole_cells::cell_at(body, c, (n.skip + row) as usize)
+}
+
+// The stretch that begins at a row.
+fn find_stretch(body: &[u8], n: Numbers, row: u64) -> Stretch
+    requires { ⌜ (row < 2 ^ 63) × Ready (now body) n row ⌝ }
+    ensures { λ r. ⌜ (row < r .until) × Flat (cellIn (now (body .entry)) n) row r ⌝ }
+{
+    if !n.runs {
+        return Stretch {
+            cell: plain_cell(body, n, row),
+            until: row + 1,
+        };
+    }
+    let e = n.ends;
+    let c = n.cells;
+    match stretches::stretch_at(body, e, row) {
+        RowRun::Run { run, left } => Stretch {
+            cell: whole_cells::cell_at(body, c, (n.skip as usize) + run.0),
+            until: row + left,
+        },
+        RowRun::Refused(_) => Stretch {
+            cell: Cell {
+                count: 0,
+                bits: 0,
+                below: 0,
+            },
+            until: row + 1,
+        },
+    }
+}
+
+// A stretch of no rows.
+fn no_stretch(row: u64) -> Stretch
+    ensures { λ r. ⌜ (r .until ≡ row) × Bounded (r .cell) ⌝ }
+{
+    Stretch {
+        cell: Cell {
+            count: 0,
+            bits: 0,
+            below: 0,
+        },
+        until: row,
+    }
+}
+
+// The same stretch while it lasts, and else the one that begins at the row.
+fn next_stretch(body: &[u8], n: Numbers, s: Stretch, row: u64) -> Stretch
+    requires { ⌜ (row < 2 ^ 63) × Ready (now body) n row ⌝ }
+    requires { ⌜ Flat (cellIn (now body) n) row s ⌝ }
+    ensures { λ r. ⌜ (row < r .until) × Flat (cellIn (now (body .entry)) n) row r ⌝ }
+{
+    if row < s.until {
+        return s;
+    }
+    find_stretch(body, n, row)
+}
+
+fn lesser(a: u64, b: u64) -> u64
+    ensures { λ r. ⌜ r ≡ min a b ⌝ }
+{
+    if a < b { a } else { b }
+}
+
+// ---- one column
+
+// The rows start .. end - 1, one after the other.
+fn sum_plain(body: &[u8], n: Numbers, start: u64, end: u64) -> Tally
+    requires { ⌜ (start ≤ end) × (end < 2 ^ 63) × (n .runs ≡ false) ⌝ }
+    requires { ⌜ AllReady (now body) n start end ⌝ }
+    ensures { λ r. ⌜ Tallied (cellIn (now (body .entry)) n) start (end - start) r ⌝ }
+{
+    let mut t = tally::nothing();
+    let mut row = start;
+    while row < end {
+        t = tally::added(t, plain_cell(body, n, row), 1);
+        row += 1;
+    }
+    t
+}
+
+// The same, stretch by stretch.
+fn sum_stretches(body: &[u8], n: Numbers, start: u64, end: u64) -> Tally
+    requires { ⌜ (start ≤ end) × (end < 2 ^ 63) ⌝ }
+    requires { ⌜ AllReady (now body) n start end ⌝ }
+    ensures { λ r. ⌜ Tallied (cellIn (now (body .entry)) n) start (end - start) r ⌝ }
+{
+    let mut t = tally::nothing();
+    let mut row = start;
+    while row < end {
+        let s = find_stretch(body, n, row);
+        let c = s.cell;
+        let stop = lesser(s.until, end);
+        t = tally::added(t, c, stop - row);
+        row = stop;
+    }
+    t
+}
+
+// The tally of the rows start .. end - 1.
+pub fn sum_rows(body: &[u8], n: Numbers, start: u64, end: u64) -> Tally
+    requires { ⌜ (start ≤ end) × (end < 2 ^ 63) ⌝ }
+    requires { ⌜ AllReady (now body) n start end ⌝ }
+    ensures { λ r. ⌜ Tallied (cellIn (now (body .entry)) n) start (end - start) r ⌝ }
+{
+    if n.runs {
+        return sum_stretches(body, n, start, end);
+    }
+    sum_plain(body, n, start, end)
+}
+
+// ---- two columns
+
+// A cell where the other counts.
+fn masked(c: Cell, d: Cell) -> Cell
+    requires { ⌜ Bounded c ⌝ }
+    ensures { λ r. ⌜ (r ≡ maskCell c d) × Bounded r ⌝ }
+{
+    if d.count == 0 {
+        return Cell {
+            count: 0,
+            bits: 0,
+            below: 0,
+        };
+    }
+    c
+}
+
+// The rows start .. end - 1 of both, one after the other.
+fn sum_plain_both(body: &[u8], a: Numbers, b: Numbers, start: u64, end: u64) -> Tallies
+    requires { ⌜ (start ≤ end) × (end < 2 ^ 63) × (a .runs ≡ false) × (b .runs ≡ false) ⌝ }
+    requires { ⌜ AllReady (now body) a start end × AllReady (now body) b start end ⌝ }
+    ensures { λ r. ⌜ Tallied (bothCells (cellIn (now (body .entry)) a) (cellIn (now (body .entry)) b)) start (end - start) (r .first) × Tallied (bothCells (cellIn (now (body .entry)) b) (cellIn (now (body .entry)) a)) start (end - start) (r .second) ⌝ }
+{
+    let mut t = tally::nothing();
+    let mut u = tally::nothing();
+    let mut row = start;
+    while row < end {
+        let c = plain_cell(body, a, row);
+        let d = plain_cell(body, b, row);
+        t = tally::added(t, masked(c, d), 1);
+        u = tally::added(u, masked(d, c), 1);
+        row += 1;
+    }
+    Tallies {
+        first: t,
+        second: u,
+    }
+}
+
+// The same, by the stretches of both.
+fn sum_both_stretches(body: &[u8], a: Numbers, b: Numbers, start: u64, end: u64) -> Tallies
+    requires { ⌜ (start ≤ end) × (end < 2 ^ 63) ⌝ }
+    requires { ⌜ AllReady (now body) a start end × AllReady (now body) b start end ⌝ }
+    ensures { λ r. ⌜ Tallied (bothCells (cellIn (now (body .entry)) a) (cellIn (now (body .entry)) b)) start (end - start) (r .first) × Tallied (bothCells (cellIn (now (body .entry)) b) (cellIn (now (body .entry)) a)) start (end - start) (r .second) ⌝ }
+{
+    let mut t = tally::nothing();
+    let mut u = tally::nothing();
+    let mut row = start;
+    let mut p = no_stretch(start);
+    let mut q = no_stretch(start);
+    while row < end {
+        p = next_stretch(body, a, p, row);
+        q = next_stretch(body, b, q, row);
+        let c = p.cell;
+        let d = q.cell;
+        let stop = lesser(lesser(p.until, q.until), end);
+        t = tally::added(t, masked(c, d), stop - row);
+        u = tally::added(u, masked(d, c), stop - row);
+        row = stop;
+    }
+    Tallies {
+        first: t,
+        second: u,
+    }
+}
+
+// The tallies of the rows start .. end - 1 in which both columns have a number.
+pub fn sum_both(body: &[u8], a: Numbers, b: Numbers, start: u64, end: u64) -> Tallies
+    requires { ⌜ (start ≤ end) × (end < 2 ^ 63) ⌝ }
+    requires { ⌜ AllReady (now body) a start end × AllReady (now body) b start end ⌝ }
+    ensures { λ r. ⌜ Tallied (bothCells (cellIn (now (body .entry)) a) (cellIn (now (body .entry)) b)) start (end - start) (r .first) × Tallied (bothCells (cellIn (now (body .entry)) b) (cellIn (now (body .entry)) a)) start (end - start) (r .second) ⌝ }
+{
+    if a.runs {
+        return sum_both_stretches(body, a, b, start, end);
+    }
+    if b.runs {
+        return sum_both_stretches(body, a, b, start, end);
+    }
+    sum_plain_both(body, a, b, start, end)
+}

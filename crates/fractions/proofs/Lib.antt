@@ -1,0 +1,3 @@
+-- Laws of `fractions`.
+pub mod Euclid
+pub mod Terms

@@ -1,0 +1,42 @@
+-- WHAT IS WRITTEN: "An accepted order writes what it adds and otherwise only the last validity byte's free bits; bytes past the used part are
+-- not written." A refused call writes nothing (`call-keeps`, `opening-keeps` in Demand1.antt). Assumes nothing.
+use mathlib.Core.Path.{_≡_, refl, sym, subst}
+use mathlib.Core.Bool.{true}
+use mathlib.Core.List.{List}
+use Prim.Native.Nat.{ℕ}
+use lib.ListN.{length}
+use Rattle.model.specs.Book.{Call}
+use Rattle.orders.specs.Sound.{planSound}
+use Rattle.orders.specs.Written.{OnlyAdds, OnlyUsed, walkOf, AllMade}
+use Rattle.orders.proofs.Grows.{Fine}
+use Rattle.orders.proofs.Accepted.{fine-orders, order-adds, order-made}
+use Rattle.opening.proofs.Opened.{Opened, orders-after}
+use Rattle.opening.proofs.Written.{opening-fine, opening-sound, opening-writes, opening-made}
+use Rattle.join.specs.Join.{Lending, Bytes, openingOf, lentOf, afterCalls, nextCall}
+use Rattle.join.proofs.Demand1.{runs}
+
+module _ (l : Lending) (b : Bytes l) (accepted : openingOf l .ground ≡ 0) where
+  -- THE OPENING: every byte that is in no part's used length is as lent
+  pub opening-adds : OnlyUsed (lentOf l .plan) (l .parts) (l .room) (openingOf l .counts) (openingOf l .room)
+  opening-adds = opening-writes (l .formats) (l .schema) (l .sources) (l .tables) (l .keep) (l .parts) (l .plan) (l .counters) (l .room) accepted (b .body-bytes) (b .room-bytes)
+
+  -- the plan that every later call is lent passes its test
+  pub sound : planSound (lentOf l .plan) ≡ true
+  sound = opening-sound (l .formats) (l .schema) (l .sources) (l .tables) (l .keep) (l .parts) (l .plan) (l .counters) (l .room) accepted
+
+  -- after any list of calls, refused ones included
+  module _ (os : List Call) where
+    abbrev opens : Opened (l .formats) (l .schema) (l .sources) (l .tables) (l .keep) (l .parts) (openingOf l)
+    opens = runs l b accepted
+
+    pub fine : Fine (afterCalls l os .counts)
+    fine =
+        fine-orders (lentOf l) sound os (openingOf l .counts) (openingOf l .room)
+        (opening-fine (l .formats) (l .schema) (l .sources) (l .tables) (l .keep) (l .parts) (l .plan) (l .counters) (l .room) accepted)
+
+    -- ONE MORE CALL, accepted: every byte that no part has gained is as it was, and so is every bit of the rows before
+    pub call-adds : (o : Call) → nextCall l os o .ground ≡ 0
+        → OnlyAdds (lentOf l .plan) (l .parts) (afterCalls l os .counts) (afterCalls l os .room) (nextCall l os o .counts) (nextCall l os o .room)
+    call-adds o h =
+        let r = orders-after (l .formats) (l .schema) (l .sources) (l .tables) (l .keep) (l .parts) (openingOf l) opens os .running in
+        order-adds (lentOf l) sound (b .body-bytes) (afterCalls l os .counts) (afterCalls l os .room) fine (r .placed .small) o h (r .lies .are-bytes) (r .placed .apart)

@@ -1,0 +1,3 @@
+-- Laws of `stretches`.
+pub mod FirstAbove
+pub mod Stretch

@@ -1,0 +1,2 @@
+-- The definitions that the contracts of `stretches` cite.
+pub mod Ends

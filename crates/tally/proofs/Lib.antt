@@ -1,0 +1,4 @@
+-- Laws of `tally`.
+pub mod Integers
+pub mod Totals
+pub mod Sums

@@ -1,0 +1,3 @@
+-- The definitions that the contracts of `tally` cite.
+pub mod Sums
+pub mod Cells

@@ -1,0 +1,2 @@
+-- What a walk that only tries starts from.
+pub mod Alike

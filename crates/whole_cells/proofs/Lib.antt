@@ -1,0 +1,3 @@
+-- Laws of `whole_cells`.
+pub mod Codes
+pub mod Rows

@@ -1,0 +1,2 @@
+-- Laws of `wide`.
+pub mod Products

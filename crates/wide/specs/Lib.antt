@@ -1,0 +1,2 @@
+-- The definitions that the contracts of `wide` cite.
+pub mod Value

@@ -1,0 +1,38 @@
+-- The walk of an opening answers alike, whatever nulls are counted. Assumes nothing.
+use mathlib.Core.Path.{refl}
+use mathlib.Core.Bool.{_&&_}
+use mathlib.Core.List.{List}
+use Prim.Native.Nat.{ℕ, suc}
+use lib.Dec.{eqb}
+use Rattle.formats.specs.Code.{isString}
+use Rattle.walk.specs.State.{word, codeOf, dictionaryOf, lengthOf}
+use Rattle.parts.specs.Parts.{nodesOf, copied}
+use Rattle.trying.specs.Alike.{Alike}
+use Rattle.trying.proofs.Near.{Near, near-done, near-wrote, near-cond, near-need, near-next, near-each, near-copy}
+use Rattle.orders.specs.Order.{Lent, joinOf, sourceCount}
+use Rattle.opening.specs.Open.{firstOffset, joinSource, joinEntries, openDictionary, openWalk}
+
+module _ (x : Lent) where
+  near-offset : (i : ℕ) (c d : List ℕ) → Alike c d → Near (firstOffset x i c) (firstOffset x i d)
+  unfolding firstOffset
+  near-offset i c d h = near-cond (isString (codeOf (x .plan) i) && copied (x .plan) i) (near-wrote _ _ h) (near-done h)
+
+  near-source : (i s : ℕ) (c d : List ℕ) → Alike c d → Near (joinSource x i s c) (joinSource x i s d)
+  unfolding joinSource
+  near-source i s c d h = near-copy (joinOf x s) 8 i 0 (lengthOf (joinOf x s) i) h
+
+  near-entries : (i : ℕ) {c d : List ℕ} → Alike c d → Near (joinEntries x i c) (joinEntries x i d)
+  unfolding joinEntries
+  near-entries i h = near-each (joinSource x i) (near-source i) (sourceCount (x .plan)) 0 h
+
+  near-dictionary : (i : ℕ) (c d : List ℕ) → Alike c d → Near (openDictionary x i c) (openDictionary x i d)
+  unfolding openDictionary
+  near-dictionary i c d h =
+      near-cond (eqb (dictionaryOf (x .plan) i) 0) (near-done h)
+      (near-next _ _ (near-cond (eqb (word (x .plan) i 7) 0) (near-done h) (near-entries (suc i) h)) (λ c2 d2 g. near-need refl 8 g (near-done g)))
+
+  pub near-open : {c d : List ℕ} → Alike c d → Near (openWalk x c) (openWalk x d)
+  unfolding openWalk
+  near-open h =
+      near-next _ _ (near-each (firstOffset x) near-offset (nodesOf (x .plan)) 0 h)
+      (λ c2 d2 g. near-each (openDictionary x) near-dictionary (nodesOf (x .plan)) 0 g)

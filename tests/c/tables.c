@@ -1,0 +1,85 @@
+/* The calls of lafkuno.h over structs: the same trip as in van.c, measured, joined, finished and read back. */
+#include <lafkuno_tables.h>
+#include <stdio.h>
+#include <stdlib.h>
+#include <string.h>
+
+static int failed;
+
+static void expect(const char *what, uint64_t got, uint64_t wanted) {
+    if (got == wanted) return;
+    fprintf(stderr, "%s: %llu, not %llu\n", what, (unsigned long long)got, (unsigned long long)wanted);
+    failed = 1;
+}
+
+/* Row by row through the finished tables. */
+static void read_back(const struct lafkuno_tables *finished) {
+    const uint64_t wanted[5] = {95, 102, 12, 0, 61};
+    uint64_t tree[LAFKUNO_TREE], answer[LAFKUNO_ANSWER];
+    expect("ground", lafkuno_tables_ground(finished, 0, 1), LAFKUNO_DONE);
+    expect("open column", lafkuno_tables_open_column(finished, 0, 1, tree), LAFKUNO_DONE);
+    for (uint64_t row = 0; row < 5; row++) {
+        uint8_t kind = lafkuno_tables_read_row(finished, tree, 0, row, answer);
+        expect("kind", kind, row == 3 ? LAFKUNO_NULL : LAFKUNO_SIGNED);
+        if (kind == LAFKUNO_SIGNED) expect("row", answer[0], wanted[row]);
+    }
+    expect("no such row", lafkuno_tables_read_row(finished, tree, 0, 5, answer), LAFKUNO_REFUSED);
+}
+
+/* Four rows and a null, one behind the other. */
+static void measure(struct lafkuno_state *state, const struct lafkuno_tables *tables) {
+    expect("plan", lafkuno_state_plan(state, tables, 1), LAFKUNO_DONE);
+    expect("measure", lafkuno_state_measure_open(state, tables), LAFKUNO_DONE);
+    expect("measure", lafkuno_state_measure_copy(state, tables, 0, 0, 4), LAFKUNO_DONE);
+    expect("measure", lafkuno_state_measure_nulls(state, 1), LAFKUNO_DONE);
+    expect("bytes", lafkuno_state_parts(state), 64 + 20);
+    expect("parts", state->parts_len, 4);
+    state->room_len = 84;
+    state->room = malloc(state->room_len);
+    if (!state->room) exit(2);
+}
+
+static void join(struct lafkuno_state *state, const struct lafkuno_tables *tables) {
+    expect("open", lafkuno_state_open(state, tables, 1), LAFKUNO_DONE);
+    expect("copy", lafkuno_state_copy(state, tables, 0, 0, 3), LAFKUNO_DONE);
+    expect("nulls", lafkuno_state_nulls(state, 1), LAFKUNO_DONE);
+    expect("refused", lafkuno_state_copy(state, tables, 0, 3, 5), LAFKUNO_NO_SUCH_ROWS);
+    expect("copy", lafkuno_state_copy(state, tables, 0, 3, 4), LAFKUNO_DONE);
+    expect("full", lafkuno_state_nulls(state, 1), LAFKUNO_ROOM_TOO_SMALL);
+    expect("running nulls", lafkuno_state_running_nulls(state), 1);
+    expect("data buffers", lafkuno_state_buffer_total(state, tables), 0);
+}
+
+int main(void) {
+    const int32_t batch[8] = {310, 305, 300, 298, 95, 102, 12, 61};
+    const uint32_t sources[2] = {0, 1}, schema[5] = {0, 1, 2, 0, 0};
+    const lafkuno_position places[9] = {0, 0, 0, 0, sizeof batch, 0, 0, 0, 0}, buffers[1] = {0};
+    const uint64_t lengths[2] = {4, 4};
+    const struct lafkuno_tables tables = {sources, 2, (const uint8_t *)"i", 1, schema, 5, lengths, 2, places, 9, buffers, 0,
+                                          (const uint8_t *)batch, sizeof batch};
+    struct lafkuno_state *state = malloc(sizeof *state);
+    if (!state) return 2;
+    measure(state, &tables);
+    join(state, &tables);
+
+    uint64_t new_lengths[2], new_nulls[1];
+    lafkuno_position new_places[9], new_buffers[1];
+    struct lafkuno_finished finished = {new_lengths, 2, new_nulls, 1, new_places, 9, new_buffers, 0};
+    expect("finish", lafkuno_state_finish(state, &tables, 0, &finished), LAFKUNO_DONE);
+    expect("rows", new_lengths[0], 5);
+    expect("nulls", new_nulls[0], 1);
+    struct lafkuno_tables again = tables;
+    again.lengths = new_lengths;
+    again.places = new_places;
+    again.body = state->room;
+    again.body_len = state->room_len;
+    read_back(&again);
+
+    /* more than a room has: the parts are asked for, and none is laid */
+    expect("measure", lafkuno_state_measure_nulls(state, UINT64_MAX / 2), LAFKUNO_DONE);
+    expect("beyond", lafkuno_state_parts(state) > LAFKUNO_MOST_BYTES, 1);
+    free(state->room);
+    free(state);
+    if (!failed) puts("the calls over structs");
+    return failed;
+}
