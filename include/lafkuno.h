@@ -51,8 +51,8 @@ enum lafkuno_ground {
 
     /* Whoever lends room: */
     LAFKUNO_ROOM_TOO_SMALL = 13,        /* a part can't hold its bytes after the call */
-    LAFKUNO_BAD_PARTS = 14              /* a wrong number of parts, a part outside the room, two that overlap, or a slice that is
-                                           not of the size that the call asks for */
+    LAFKUNO_BAD_PARTS = 14              /* a wrong number of parts, a part outside the room, two that overlap, a slice that is not of
+                                           the size that the call asks for, or a plan that no opening wrote */
 };
 
 /* The state of a join: two slices of these many numbers. The opening writes both, orders change the counters alone. */
@@ -77,7 +77,7 @@ enum lafkuno_ground {
  *   counters  LAFKUNO_COUNTERS numbers, as the last call left them.
  *   room      the bytes that the parts are in; need not be zero.
  * Every call of a join is given the sources, tables, parts and room that the opening was given, the last two as the last call left
- * them. Given others, a call answers what it can, or 12 or 14, and still touches nothing outside. */
+ * them. Given others, a call is carried out whole or answers a refusal, 12 or 14 among them, and still touches nothing outside. */
 
 /* ---- before any room is lent */
 
@@ -105,7 +105,7 @@ uint8_t lafkuno_measure_open(const uint64_t *plan, size_t plan_len, const uint32
                              const uint64_t *lengths, size_t lengths_len, const uint32_t *places, size_t places_len,
                              const uint8_t *body, size_t body_len, uint64_t *counters, size_t counters_len);
 
-/* What a copy does to the counters: its ground but for 13 and 14, or the counters are changed.
+/* What a copy does to the counters: its ground but for 13 and 14 of the parts, or the counters are changed.
  *   source    the number of the source.
  *   start     its first row that is copied.
  *   end       one past its last. */
@@ -114,7 +114,7 @@ uint8_t lafkuno_measure_copy(const uint64_t *plan, size_t plan_len, const uint32
                              const uint8_t *body, size_t body_len, uint64_t *counters, size_t counters_len,
                              uint32_t source, uint64_t start, uint64_t end);
 
-/* What an order of nulls does to the counters: its ground but for 13 and 14, or the counters are changed.
+/* What an order of nulls does to the counters: its ground but for 13 and 14 of the parts, or the counters are changed.
  *   n         how many nulls. */
 uint8_t lafkuno_measure_nulls(const uint64_t *plan, size_t plan_len, uint64_t *counters, size_t counters_len, uint64_t n);
 

@@ -6,6 +6,7 @@
 #include <stdio.h>
 #include <stdlib.h>
 #include <string.h>
+#include <time.h>
 
 /* A column and the tables that describe it (docs/FORMAT.md); the body is at most 512 bytes. */
 struct column {
@@ -243,11 +244,48 @@ static void parcels(void) {
     free(below);
 }
 
+/* A plan that no opening wrote: a copy that could not be made in the lent room is refused, and one over a plan whose subtrees fall back ends at once. */
+static void foreign(void) {
+    struct column k = {0}, *c = &k;
+    const int32_t values[3] = {1, 2, 3};
+    buffer(c, node(c, "i", 0, 3, 0), 1, values, sizeof values);
+    const uint32_t n = 1, sources[2] = {0, 1}, count = 1, parts[2] = {0, 12}, *places = c->places;
+    const uint8_t *body = c->body;
+    const uint64_t *lengths = c->lengths;
+    const uint32_t *buffers = no_buffers, *schema = c->schema;
+    const uint8_t *formats = c->formats;
+    uint8_t *room = lend(NULL, 12);
+    uint64_t *plan = lend(NULL, 8 * LAFKUNO_PLAN), *counters = lend(NULL, 8 * LAFKUNO_COUNTERS);
+    expect("foreign", lafkuno_open(TABLES, 0, PARTS, PLAN, COUNTERS, room, 12), LAFKUNO_DONE);
+    plan[865] = 0; /* no node, so no part to ask */
+    expect("no node", lafkuno_copy(PLAN, PARTS, SOURCES, COUNTERS, room, 0, 0, 0, 3), LAFKUNO_BAD_PARTS);
+    expect("no node", lafkuno_measure_copy(PLAN, SOURCES, COUNTERS, 0, 0, 3), LAFKUNO_BAD_PARTS);
+    expect("no node", counters[0], 0);
+    memset(plan, 0, 8 * LAFKUNO_PLAN);
+    plan[864] = 1;
+    plan[865] = 32;
+    plan[5] = 1;
+    for (int i = 0; i < 32; i++) { /* sparse unions, one in the other; the child behind node k ends where k begins, so that k comes again */
+        plan[8 * i] = i < 7 ? 19 : 1;
+        plan[8 * i + 2] = i == 7 ? 7 : (uint64_t)(32 - i);
+        plan[8 * i + 4] = 1;
+    }
+    clock_t begun = clock();
+    expect("fallen", lafkuno_copy(PLAN, PARTS, SOURCES, COUNTERS, room, 12, 0, 0, 1), LAFKUNO_BAD_PARTS);
+    expect("fallen", lafkuno_nulls(PLAN, PARTS, COUNTERS, room, 12, 1), LAFKUNO_BAD_PARTS);
+    expect("fallen", lafkuno_measure_copy(PLAN, SOURCES, COUNTERS, 0, 0, 1), LAFKUNO_BAD_PARTS);
+    expect("at once", clock() - begun < CLOCKS_PER_SEC, 1);
+    free(room);
+    free(plan);
+    free(counters);
+}
+
 int main(void) {
     metres();
     names();
     events();
     parcels();
+    foreign();
     puts(failed ? "not as ordered" : "one van, one stop, two kilometres: as ordered");
     return failed;
 }
