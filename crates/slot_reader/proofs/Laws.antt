@@ -26,11 +26,12 @@ use Rattle.lent_entries.specs.declared.Spot.{Spot}
 use Rattle.lent_entries.specs.declared.Spot.the-variants as spot
 use Rattle.lent_entries.specs.declared.Entry.{Entry}
 use Rattle.lent_entries.specs.declared.Entry.the-variants as entry
+use Rattle.lent_entries.specs.declared.Validity.{Validity}
 use Rattle.lent_entries.proofs.Laws.{spot-at, spot-outside, holds-wide, inside, item-at}
 use Rattle.lent_tables.proofs.Laws.{and-right}
 use Rattle.slot_reader.specs.declared.RowRead.{RowRead}
 use Rattle.slot_reader.specs.declared.RowRead.the-variants as row
-use Rattle.slot_reader.specs.Slots.{codeWord, known, kindWord, codeNumber, numberRead, stretchIn, spanned, stringRead, dataPlace, viewed, viewAt, listed, storedNumber, storedBy, storedAt, keyed, dictionaryRead, fixedRead, slotBy, slotRead}
+use Rattle.slot_reader.specs.Slots.{codeWord, known, kindWord, codeNumber, numberRead, stretchIn, spanned, stringRead, dataPlace, viewed, viewAt, listed, storedNumber, storedBy, storedAt, entryBy, keyed, dictionaryRead, fixedRead, slotBy, slotRead}
 use Rattle.slot_reader.proofs.Codes.{number-same, code-width, range, knows, as-fixed, as-string, as-view, as-list, elsewhere}
 
 -- ---- numbers and stored numbers, by their place
@@ -126,6 +127,11 @@ module _ (off : ℕ) (f : ℕ → RowRead) (e : Entry) where
 
   pub keyed-in : (o key : ℕ) → o ≡ off → e ≡ entry.Value key → o + key < 2 ^ 64 → f (o + key) ≡ keyed off f e
   keyed-in o key q p h = let g : off + key < 2 ^ 64 = omega arith in rw (p, q, lt-ltb (off + key) (2 ^ 64) g)
+
+-- an entry by its bit v, where the key's entry is at `off + key`
+module _ (off o key : ℕ) (g : ℕ → Validity) (f : ℕ → RowRead) (e : Entry) (q : o ≡ off) (p : e ≡ entry.Value key) (h : o + key < 2 ^ 64) (v : Validity) (b : v ≡ g (o + key)) where
+  pub named : (u : Validity) → v ≡ u → entryBy u (f (o + key)) ≡ keyed off (λ k. entryBy (g k) (f k)) e
+  named u t = ap (λ y. entryBy y (f (o + key))) (sym t ∙ b) ∙ keyed-in off (λ k. entryBy (g k) (f k)) e o key q p h
 
 -- ---- data buffers and views
 
