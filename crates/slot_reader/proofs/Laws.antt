@@ -6,7 +6,7 @@ use Prim.Native.Nat.{ℕ, zero, suc, _+_, _*_, _-_, _^_, _≤_, _<_}
 use native.Mathlib.Nat.{mul-le-mul-right, mul-comm, one-mul}
 use native.Mathlib.Numerals.{add-one}
 use native.Mathlib.Omega.{arith}
-use lib.ListN.{length, drop, getD}
+use lib.ListN.{length, take, drop, getD, length-take, length-drop}
 use lib.Dec.{leb, ltb, eqb}
 use borrow.Author.Tests.{le-leb, lt-leb, lt-ltb, le-ltb, eq-eqb, ne-eqb}
 use Rattle.number.specs.Number.{number}
@@ -18,8 +18,9 @@ use Rattle.array_data.specs.Typed.{NodeKind, stringNode, viewNode, listViewNode
 use Rattle.lent.specs.Lent.{numberKind, unionKind}
 use Rattle.leaf_row.specs.declared.Leaf.{Leaf}
 use Rattle.leaf_row.specs.Reading as leaf
-use Rattle.view_row.specs.Place.{placeOf}
+use Rattle.view_row.specs.Place.{placeOf, partOf, Within}
 use Rattle.view_row.specs.declared.Place.{Place}
+use Rattle.view_row.specs.declared.Place.the-variants as seen
 use Rattle.node_table.specs.Words.{word}
 use Rattle.lent_entries.specs.Entries.{holds, spotIn, sized, entryIn}
 use Rattle.lent_entries.specs.declared.Spot.{Spot}
@@ -149,6 +150,21 @@ module _ (body buffers : List ℕ) (a n : ℕ) (sp : Spot) where
   pub view-in : (at b from len : ℕ) (v : Place) → sp ≡ spot.At at → b ≡ number 4 (drop (at + 8) body) → from ≡ dataPlace buffers a n b 0
       → len ≡ dataPlace buffers a n b 1 → v ≡ placeOf body at (length body) from len → viewed v ≡ viewAt body buffers a n sp
   view-in at b from len v o eb ef el ev = rw (o, ev, ef, el, eb)
+
+-- as many bytes are shown as the place has
+module _ (s : List ℕ) (p : Place) (w : Within (length s) (length s) p) (shown : List ℕ) (e : shown ≡ partOf s s p) where
+  taken : (at n : ℕ) → at + n ≤ length s → length (take n (drop at s)) ≡ n
+  taken at n h = omega (arith, length-take n (drop at s), length-drop at s)
+
+  pub bytes-inline : (at n : ℕ) → p ≡ seen.Inline at n → row.Bytes at (length shown) ≡ viewed p
+  bytes-inline at n q =
+      let h : at + n ≤ length s = subst (Within (length s) (length s)) q w in
+      ap (λ k. row.Bytes at k) (ap length (e ∙ ap (partOf s s) q) ∙ taken at n h) ∙ ap viewed (sym q)
+
+  pub bytes-data : (at n : ℕ) → p ≡ seen.Data at n → row.Bytes at (length shown) ≡ viewed p
+  bytes-data at n q =
+      let h : at + n ≤ length s = subst (Within (length s) (length s)) q w in
+      ap (λ k. row.Bytes at k) (ap length (e ∙ ap (partOf s s) q) ∙ taken at n h) ∙ ap viewed (sym q)
 
 -- ---- nodes by their code
 

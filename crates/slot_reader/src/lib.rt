@@ -110,9 +110,16 @@ fn read_view(
     let b = number::read_u32(body, at + 8);
     let from = data_place(places, buffers, first, i, b, 0) as usize;
     let len = data_place(places, buffers, first, i, b, 1) as usize;
+    let shown = view_row::view_bytes(body, at, body, from, len);
     match view_row::view_place(body, at, body, from, len) {
-        view_row::Place::Inline { at: p, len: n } => RowRead::Bytes { at: p, len: n },
-        view_row::Place::Data { at: p, len: n } => RowRead::Bytes { at: p, len: n },
+        view_row::Place::Inline { at: p, len: _ } => RowRead::Bytes {
+            at: p,
+            len: shown.len(),
+        },
+        view_row::Place::Data { at: p, len: _ } => RowRead::Bytes {
+            at: p,
+            len: shown.len(),
+        },
         view_row::Place::Outside => RowRead::Refused(12),
     }
 }
