@@ -192,7 +192,7 @@ uint8_t lafkuno_open_column(const uint8_t *formats, size_t formats_len, const ui
 
 /* What a row is. */
 enum lafkuno_kind {
-    LAFKUNO_NULL = 0,
+    LAFKUNO_NULL = 0,     /* also a dictionary's row whose key names a null entry */
     LAFKUNO_SIGNED = 1,   /* a whole number, as two's complement */
     LAFKUNO_UNSIGNED = 2, /* a whole number */
     LAFKUNO_SINGLE = 3,   /* the bits of an f32 */

@@ -25,8 +25,9 @@ def kinds():
     yield Type('+ud:9,0', fields[1], fields[0]), [(9, 4), (0, b'b')], [(0, b'c'), (0, None)]
     for f in 'sil': yield Type('+r', Type(f, nullable=False), Type('C')), [1, 1, 2, None, None, 3], [3, 3, 4]
     for f in 'cCsSiIlL': yield Type(f, dictionary=Type('u'), entries=[b'anna', b'', b'bo']), [0, 2, None, 1], [2, 2]
-    yield Type('C', dictionary=Type('l'), entries=[-1, None, 5]), [0, 2, None, 2], [2, 0]
-    yield Type('s', dictionary=Type('Z'), entries=[b'a', None, b'ccc']), [0, 2, None], [2, 0]
+    yield Type('C', dictionary=Type('l'), entries=[-1, None, 5]), [0, 1, None, 2], [2, 1]
+    yield Type('s', dictionary=Type('Z'), entries=[b'a', None, b'ccc']), [1, 2, None], [2, 1]
+    yield Type('+r', Type('s', nullable=False), Type('I', dictionary=Type('u'), entries=[b'a', None])), [0, 0, 1, 1, None], [1, 0]
 
 
 def alone(script):
