@@ -1,0 +1,2 @@
+-- The laws of `column_pair`.
+pub mod Pair
