@@ -26,6 +26,7 @@ pub mod c_data;
 #[rustfmt::skip]
 pub mod calls;
 mod column;
+mod frame;
 mod join;
 mod lent;
 mod refusal;
@@ -35,6 +36,7 @@ mod types;
 mod values;
 
 pub use column::{Buffer, Column};
+pub use frame::{frame, Frame};
 pub use join::{Join, Joined, Reader};
 pub use lent::Lent;
 pub use refusal::{Cause, Error, Ground};

@@ -1,4 +1,4 @@
-//! The command: `lafkuno join FILE`, `lafkuno demo`.
+//! The command: `lafkuno join FILE`, `lafkuno box FILE ..`, `lafkuno demo`.
 
 use lafkuno::text::{self, What};
 use lafkuno::{Column, Error, Ground, Join, Row, Type};
@@ -9,6 +9,8 @@ const USAGE: &str = "\
 lafkuno join [--buffers] [--go-on] FILE   joins the columns that FILE describes (- is standard input) and prints the rows
         --buffers   prints the finished column's buffers too
         --go-on     goes on after a refused order, which changes nothing
+lafkuno box FILE LATITUDE LONGITUDE START..END
+        the box around rows of two sources of FILE, both of type g: smallest and largest latitude and longitude
 lafkuno demo                              one van, one stop, two kilometres
 lafkuno grounds                           the grounds of refusal
 The format of FILE is in docs/USING.md, with examples in examples/.
@@ -29,6 +31,7 @@ fn main() -> ExitCode {
         }
         ["--help" | "-h" | "help"] => print(&format!("{USAGE}\n")),
         ["join", ref rest @ ..] => join(rest),
+        ["box", file, latitude, longitude, rows] => trip_box(file, latitude, longitude, rows),
         _ => {
             eprintln!("{USAGE}");
             MISTAKE
@@ -59,21 +62,9 @@ fn join(arguments: &[&str]) -> u8 {
         eprintln!("{USAGE}");
         return MISTAKE;
     }
-    let mut input = String::new();
-    let read = match file {
-        "-" => std::io::stdin().read_to_string(&mut input).map(|_| ()),
-        _ => std::fs::read_to_string(file).map(|text| input = text),
-    };
-    if let Err(e) = read {
-        eprintln!("{file}: {e}");
-        return MISTAKE;
-    }
-    let description = match text::read(&input) {
+    let description = match description(file) {
         Ok(description) => description,
-        Err(mistake) => {
-            eprintln!("{file}: {mistake}");
-            return MISTAKE;
-        }
+        Err(status) => return status,
     };
     match run(&description, flags.contains(&"--go-on")) {
         Ok((column, refused)) => {
@@ -85,6 +76,50 @@ fn join(arguments: &[&str]) -> u8 {
             print(&out).max(if refused { REFUSED } else { 0 })
         }
         Err(status) => status,
+    }
+}
+
+/// What a file describes; mistakes are told on standard error.
+fn description(file: &str) -> Result<text::Description, u8> {
+    let mut input = String::new();
+    let read = match file {
+        "-" => std::io::stdin().read_to_string(&mut input).map(|_| ()),
+        _ => std::fs::read_to_string(file).map(|text| input = text),
+    };
+    if let Err(e) = read {
+        eprintln!("{file}: {e}");
+        return Err(MISTAKE);
+    }
+    text::read(&input).map_err(|mistake| {
+        eprintln!("{file}: {mistake}");
+        MISTAKE
+    })
+}
+
+fn trip_box(file: &str, latitude: &str, longitude: &str, rows: &str) -> u8 {
+    let description = match description(file) {
+        Ok(description) => description,
+        Err(status) => return status,
+    };
+    let source = |name: &str| description.sources.iter().find(|(n, _)| n == name).map(|(_, column)| column);
+    let (Some(latitudes), Some(longitudes)) = (source(latitude), source(longitude)) else {
+        eprintln!("{file}: there is no source `{}`", if source(latitude).is_none() { latitude } else { longitude });
+        return MISTAKE;
+    };
+    let Some((start, end)) = text::range(rows) else {
+        eprintln!("{USAGE}");
+        return MISTAKE;
+    };
+    match lafkuno::frame(latitudes, longitudes, start..end) {
+        Ok(frame) => print(&format!("{frame}\n")),
+        Err(error) => {
+            eprintln!("the box around {start}..{end}: {error}");
+            if error.ground().is_some() {
+                REFUSED
+            } else {
+                MISTAKE
+            }
+        }
     }
 }
 

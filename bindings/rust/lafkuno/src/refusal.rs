@@ -44,11 +44,12 @@ pub enum Ground {
     BadSource = 12,
     RoomTooSmall = 13,
     BadParts = 14,
+    NothingCounted = 17,
 }
 
 impl Ground {
-    /// All of them, by number from 1 on.
-    pub const ALL: [Ground; 14] = [
+    /// All of them, by number.
+    pub const ALL: &[Ground] = &[
         Ground::NoSuchSource,
         Ground::NoSuchRows,
         Ground::KeepsNoNulls,
@@ -63,10 +64,11 @@ impl Ground {
         Ground::BadSource,
         Ground::RoomTooSmall,
         Ground::BadParts,
+        Ground::NothingCounted,
     ];
 
     pub fn from_number(number: u8) -> Option<Ground> {
-        Ground::ALL.get((number as usize).checked_sub(1)?).copied()
+        Ground::ALL.iter().copied().find(|g| g.number() == number)
     }
 
     pub fn number(self) -> u8 {
@@ -92,12 +94,13 @@ impl Ground {
             Ground::BadSource => "a source breaks the rules of its type: a buffer too short or outside the body, or an offset, id, position, run end, key or view that leads outside",
             Ground::RoomTooSmall => "a part of the room is too small for its bytes",
             Ground::BadParts => "a wrong number of parts, a part outside the room, two that overlap, or a table that is not of a join's size",
+            Ground::NothingCounted => "no row of the range counts: each has a null or a NaN in one of the two columns",
         }
     }
 
     pub fn cause(self) -> Cause {
         match self.number() {
-            1..=5 => Cause::Orders,
+            1..=5 | 17 => Cause::Orders,
             6..=8 => Cause::Data,
             9..=12 => Cause::Sources,
             _ => Cause::Room,

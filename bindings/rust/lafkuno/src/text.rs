@@ -42,7 +42,8 @@ impl std::fmt::Display for Mistake {
 
 impl std::error::Error for Mistake {}
 
-fn range(text: &str) -> Option<(u64, u64)> {
+/// `START..END`.
+pub fn range(text: &str) -> Option<(u64, u64)> {
     let (a, b) = text.split_once("..")?;
     Some((a.trim().parse().ok()?, b.trim().parse().ok()?))
 }
