@@ -6,7 +6,7 @@
  * What C must guarantee, since no call can test it:
  * - each pointer leads to as many elements as the length behind it says; none is null, and where that length is 0, any aligned
  *   pointer will do;
- * - it is aligned for its type (uint64_t to 8, uint32_t to 4; bytes need no alignment);
+ * - it is aligned for its type (uint64_t and double to 8, uint32_t to 4; bytes need no alignment);
  * - a slice that is written (plan, counters, room, new_*, tree, answer) overlaps no other slice of the same call;
  * - no other thread writes what a call is lent, or reads what it writes, before it returns.
  * Nothing is allocated and no pointer is kept; a call uses less than 32 KiB of stack (docs/BENCHMARKS.md). Calls on different memory may
@@ -51,8 +51,11 @@ enum lafkuno_ground {
 
     /* Whoever lends room: */
     LAFKUNO_ROOM_TOO_SMALL = 13,        /* a part can't hold its bytes after the call */
-    LAFKUNO_BAD_PARTS = 14              /* a wrong number of parts, a part outside the room, two that overlap, a slice that is not of
+    LAFKUNO_BAD_PARTS = 14,             /* a wrong number of parts, a part outside the room, two that overlap, a slice that is not of
                                            the size that the call asks for, or a plan that no opening wrote */
+
+    /* Whoever asks beside the join: */
+    LAFKUNO_NOTHING_COUNTED = 17        /* no row of the range counts */
 };
 
 /* The state of a join: two slices of these many numbers. The opening writes both, orders change the counters alone. */
@@ -213,6 +216,27 @@ uint8_t lafkuno_read_row(const uint64_t *tree, size_t tree_len, const uint64_t *
                          const uint32_t *places, size_t places_len, const uint32_t *buffers, size_t buffers_len,
                          const uint8_t *body, size_t body_len, uint32_t first, uint64_t row,
                          uint64_t *answer, size_t answer_len);
+
+/* ---- beside the join */
+
+/* The frame of the rows start .. end - 1 of a latitude and a longitude column, both of format g. Rows where either is null or not a
+ * number don't count; of equal values the first stays. 14 where room_len is not 4; then 9, 10 and 12 for a malformed column, 2 for a range
+ * outside either column, 10 for a column that is not of f64, 17 where no row counts, each asked of both columns before the next.
+ *   first_a   the first node of the latitudes; n_a, how many nodes they have.
+ *   first_b   the first node of the longitudes; n_b, how many nodes they have.
+ *   room      is written: smallest and largest latitude, smallest and largest longitude. */
+uint8_t lafkuno_frame(const uint8_t *formats, size_t formats_len, const uint32_t *schema, size_t schema_len,
+                      const uint64_t *lengths, size_t lengths_len, const uint32_t *places, size_t places_len,
+                      const uint32_t *buffers, size_t buffers_len, const uint8_t *body, size_t body_len,
+                      uint32_t first_a, uint32_t n_a, uint32_t first_b, uint32_t n_b, uint64_t start, uint64_t end,
+                      double *room, size_t room_len);
+
+/* The frame of two ranges from the frames of both; of equal sides the left one's stays. 14 where one of the three has not 4 numbers.
+ *   left      as lafkuno_frame wrote it.
+ *   right     likewise.
+ *   room      is written. */
+uint8_t lafkuno_join_frames(const double *left, size_t left_len, const double *right, size_t right_len,
+                            double *room, size_t room_len);
 
 #ifdef __cplusplus
 }

@@ -280,7 +280,45 @@ static void foreign(void) {
     free(counters);
 }
 
+/* The ground of the box around rows of both columns; the room must be left as it was where it is refused. */
+static uint8_t frame(const struct column *c, uint64_t start, uint64_t end, double *room) {
+    const double before = room[0];
+    uint8_t ground = lafkuno_frame(c->formats, c->formats_len, c->schema, 5 * c->nodes, c->lengths, 2 * c->nodes, c->places, 9 * c->nodes,
+                                   no_buffers, 0, c->body, c->body_len, 0, 1, 1, 1, start, end, room, 4);
+    if (ground) expect("frame, refused", room[0] == before, 1);
+    return ground;
+}
+
+/* Where the van was: the yard's places, of the rows before the slice, are in no box. */
+static void places(void) {
+    struct column c = {0};
+    const double latitudes[8] = {0, 0, 0, 0, 55.95, 55.97, 12.5, 55.94}, longitudes[8] = {0, 0, 0, 0, -3.19, -3.2, -9, -3.17};
+    const uint8_t bits = 0xbf;
+    uint32_t a = node(&c, "g", 0, 4, 4), b = node(&c, "g", 0, 4, 4);
+    buffer(&c, a, 1, latitudes, sizeof latitudes);
+    buffer(&c, b, 1, longitudes, sizeof longitudes);
+    buffer(&c, b, 0, &bits, 1);
+    double *left = lend(latitudes, 32), *right = lend(latitudes, 32), *both = lend(latitudes, 32), *joined = lend(latitudes, 32);
+    expect("frame", frame(&c, 0, 2, left), LAFKUNO_DONE);
+    expect("frame", frame(&c, 2, 4, right), LAFKUNO_DONE);
+    expect("frame", frame(&c, 0, 4, both), LAFKUNO_DONE);
+    expect("frames joined", lafkuno_join_frames(left, 4, right, 4, joined, 4), LAFKUNO_DONE);
+    expect("frames joined", memcmp(both, joined, 32), 0);
+    expect("south", both[0] == 55.94, 1);
+    expect("north", both[1] == 55.97, 1);
+    expect("west", both[2] == -3.2, 1);
+    expect("east", both[3] == -3.17, 1);
+    expect("frame, null", frame(&c, 2, 3, both), LAFKUNO_NOTHING_COUNTED);
+    expect("frame, past the slice", frame(&c, 2, 5, both), LAFKUNO_NO_SUCH_ROWS);
+    expect("frames joined, three numbers", lafkuno_join_frames(left, 3, right, 4, joined, 4), LAFKUNO_BAD_PARTS);
+    free(left);
+    free(right);
+    free(both);
+    free(joined);
+}
+
 int main(void) {
+    places();
     metres();
     names();
     events();

@@ -24,6 +24,8 @@ use leaf_row::Leaf;
 use parts::Spot;
 use slot_reader::RowRead;
 
+mod beside;
+
 // ---- columns
 
 // The ground of the column of n nodes from node `first` on; 0 where there is none.

@@ -153,6 +153,14 @@ extern "C" {
         buffers: *const u32, buffers_len: usize, body: *const u8, body_len: usize, first: u32, row: u64,
         answer: *mut u64, answer_len: usize,
     ) -> u8;
+    fn lafkuno_frame(
+        formats: *const u8, formats_len: usize, schema: *const u32, schema_len: usize, lengths: *const u64, lengths_len: usize,
+        places: *const u32, places_len: usize, buffers: *const u32, buffers_len: usize, body: *const u8, body_len: usize,
+        first_a: u32, n_a: u32, first_b: u32, n_b: u32, start: u64, end: u64, room: *mut f64, room_len: usize,
+    ) -> u8;
+    fn lafkuno_join_frames(
+        left: *const f64, left_len: usize, right: *const f64, right_len: usize, room: *mut f64, room_len: usize,
+    ) -> u8;
 }
 
 // ---- before any room is lent
@@ -334,4 +342,23 @@ pub fn read_row(tree: &[u64], x: &Tables, first: u32, row: u64) -> Result<RowAns
         _ => return Err(a as u8),
     };
     Ok(RowAnswer { read, ids: ids.map(|id| id as u8), count: count as u8 })
+}
+
+// ---- beside the join
+
+/// The frame of the rows `start .. end` of two columns, each by its first node and its count of nodes: smallest and largest of the first,
+/// smallest and largest of the second.
+pub fn frame(x: &Tables, [first_a, n_a]: [u32; 2], [first_b, n_b]: [u32; 2], start: u64, end: u64, room: &mut [f64]) -> u8 {
+    unsafe {
+        lafkuno_frame(
+            x.formats.as_ptr(), x.formats.len(), x.schema.as_ptr(), x.schema.len(), x.lengths.as_ptr(), x.lengths.len(),
+            x.places.as_ptr(), x.places.len(), x.buffers.as_ptr(), x.buffers.len(), x.body.as_ptr(), x.body.len(),
+            first_a, n_a, first_b, n_b, start, end, room.as_mut_ptr(), room.len(),
+        )
+    }
+}
+
+/// The frame of two ranges from the frames of both, the left range's first.
+pub fn join_frames(left: &[f64], right: &[f64], room: &mut [f64]) -> u8 {
+    unsafe { lafkuno_join_frames(left.as_ptr(), left.len(), right.as_ptr(), right.len(), room.as_mut_ptr(), room.len()) }
 }
