@@ -35,7 +35,7 @@ mod types;
 mod values;
 
 pub use column::{Buffer, Column};
-pub use join::{Join, Joined, Reader};
+pub use join::{Join, Joined, Reader, Runs};
 pub use lent::Lent;
 pub use refusal::{Cause, Error, Ground};
 pub use rows::Row;
