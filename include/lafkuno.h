@@ -61,9 +61,10 @@ enum lafkuno_ground {
 /* The state of a join: two slices of these many numbers. The opening writes both, orders change the counters alone. */
 #define LAFKUNO_PLAN 872
 #define LAFKUNO_COUNTERS 96
-/* The tree of an opened column, and a row's answer. */
+/* The tree of an opened column, a row's answer, and a run's. */
 #define LAFKUNO_TREE 256
 #define LAFKUNO_ANSWER 12
+#define LAFKUNO_RUN 2
 
 /* Parameters that several calls share. X_len is how many elements X has.
  *   sources   2 numbers a source: its first node in the tables, and how many nodes it has.
@@ -216,6 +217,28 @@ uint8_t lafkuno_read_row(const uint64_t *tree, size_t tree_len, const uint64_t *
                          const uint32_t *places, size_t places_len, const uint32_t *buffers, size_t buffers_len,
                          const uint8_t *body, size_t body_len, uint32_t first, uint64_t row,
                          uint64_t *answer, size_t answer_len);
+
+/* The run of a row of a run-end column, and how many rows of the column from that one on stand in it: whoever goes through the rows asks
+ * once a run. 14 where answer_len is not LAFKUNO_RUN; 9, 10 and 12 where the column is malformed; then 10 where it is no run-end column,
+ * and 2 where there is no such row.
+ *   first     its first node in the tables.
+ *   n         how many nodes it has.
+ *   row       the row's number.
+ *   answer    is written: the run, counted from the first run end, and how many rows are left in it, at least 1 and none past the
+ *             column's last. */
+uint8_t lafkuno_run_at(const uint8_t *formats, size_t formats_len, const uint32_t *schema, size_t schema_len,
+                       const uint64_t *lengths, size_t lengths_len, const uint32_t *places, size_t places_len,
+                       const uint32_t *buffers, size_t buffers_len, const uint8_t *body, size_t body_len,
+                       uint32_t first, uint32_t n, uint64_t row, uint64_t *answer, size_t answer_len);
+
+/* The same of an opened column, which is not checked again.
+ *   tree      as lafkuno_open_column wrote it.
+ *   first     the column's first node in the tables.
+ *   row       the row's number.
+ *   answer    is written as by lafkuno_run_at. */
+uint8_t lafkuno_read_run(const uint64_t *tree, size_t tree_len, const uint64_t *lengths, size_t lengths_len,
+                         const uint32_t *places, size_t places_len, const uint8_t *body, size_t body_len,
+                         uint32_t first, uint64_t row, uint64_t *answer, size_t answer_len);
 
 /* ---- beside the join */
 

@@ -7,6 +7,8 @@ ghost use Rattle.number.specs.Number.{splice, pattern};
 ghost use Rattle.kind_rules.specs.Rows.{tablesOf};
 ghost use Rattle.columns.specs.Grounds.{columnGround};
 ghost use Rattle.lent_entries.specs.Entries.{column};
+ghost use Rattle.row_reader.specs.Walk.{runAt};
+ghost use Rattle.column_runs.specs.Answers.{readRun, ground, numbers};
 ghost use Rattle.walk.specs.State.{nulls};
 ghost use Rattle.parts.specs.Parts.{nodesOf, partTotal, partAt};
 ghost use Rattle.orders.specs.Order.{copyOrder, nullOrder};
@@ -229,6 +231,57 @@ pub extern "C" fn lafkuno_read_row(
     let words = row_words(row_numbers(read), found.ids, copied_ids(ids));
     copy_words(answer, &words);
     row_kind(read)
+}
+
+// ---- runs
+
+// The ground of asking for the run of row `row` of the column; 0 where there is none, and then the answer's two numbers are the run and how
+// many rows of the column from that one on stand in it.
+#[no_mangle]
+pub extern "C" fn lafkuno_run_at(
+    formats: &[u8],
+    schema: &[u32],
+    lengths: &[u64],
+    places: &[u32],
+    buffers: &[u32],
+    body: &[u8],
+    first: u32,
+    n: u32,
+    row: u64,
+    answer: &mut [u64],
+) -> u8
+    ensures { λ r. ⌜ r ≡ ground (readRun (now (formats .entry)) (now (schema .entry)) (tablesOf (now (lengths .entry)) (now (places .entry)) (now (buffers .entry)) (now (body .entry))) first n row) (now (answer .entry)) ⌝ }
+    ensures { λ _. ⌜ now (answer .exit) ≡ numbers (readRun (now (formats .entry)) (now (schema .entry)) (tablesOf (now (lengths .entry)) (now (places .entry)) (now (buffers .entry)) (now (body .entry))) first n row) (now (answer .entry)) ⌝ }
+{
+    column_runs::run_at(
+        formats,
+        schema,
+        lengths,
+        places,
+        buffers,
+        body,
+        first,
+        n,
+        row,
+        answer,
+    )
+}
+
+// The same of an opened column.
+#[no_mangle]
+pub extern "C" fn lafkuno_read_run(
+    tree: &[u64],
+    lengths: &[u64],
+    places: &[u32],
+    body: &[u8],
+    first: u32,
+    row: u64,
+    answer: &mut [u64],
+) -> u8
+    ensures { λ r. ⌜ r ≡ ground (runAt (now (tree .entry)) (column (now (lengths .entry)) (now (places .entry)) [] (now (body .entry)) first) row) (now (answer .entry)) ⌝ }
+    ensures { λ _. ⌜ now (answer .exit) ≡ numbers (runAt (now (tree .entry)) (column (now (lengths .entry)) (now (places .entry)) [] (now (body .entry)) first) row) (now (answer .entry)) ⌝ }
+{
+    column_runs::run_of_opened(tree, lengths, places, body, first, row, answer)
 }
 
 // ---- opening a join

@@ -3,7 +3,7 @@ use mathlib.Core.Path.{_≡_, refl, ap, sym, subst, _∙_}
 use mathlib.Core.Bool.{Bool, true, false, cond, _&&_}
 use mathlib.Core.Option.{Option, none, some}
 use mathlib.Core.List.{List, [], _∷_, List·Memᴰ, List·Memᴰ·head, List·Memᴰ·tail, List·Memᴰ·not-nil}
-use Prim.Native.Nat.{ℕ, zero, suc, _+_, _*_, _^_, _≤_, _<_}
+use Prim.Native.Nat.{ℕ, zero, suc, _+_, _*_, _-_, _^_, _≤_, _<_}
 use native.Mathlib.Nat.{mul-one}
 use native.Mathlib.Omega.{arith}
 use lib.ListN.{length, getD}
@@ -41,7 +41,7 @@ use Rattle.node_table.specs.Words.{planted}
 use Rattle.row_reader.specs.declared.Step.{Step}
 use Rattle.row_reader.specs.declared.Step.the-variants as step
 use Rattle.row_reader.specs.declared.Child.the-variants as child
-use Rattle.row_reader.specs.Walk.{childOf, chosen, into, underId, stepBy, stepOn, sighted, stepAt, Walked, walkedTo, under, follow, walk, isRefused, kept, rowAt}
+use Rattle.row_reader.specs.Walk.{childOf, chosen, into, underId, ran, runOf, runsStep, stepBy, stepOn, sighted, stepAt, Walked, walkedTo, under, follow, walk, isRefused, kept, rowAt}
 use Rattle.row_reader.proofs.Laws.{at-slot}
 use Rattle.row_meaning.specs.Meaning.{flat, meaning}
 use Rattle.row_meaning.proofs.Child.{words, found-child}
@@ -200,10 +200,13 @@ module _ (formats schema : List ℕ) (first n : ℕ) (x : Tables) (t : typed for
         let ends = arrayWith x (firstBuffer x (suc i)) (suc i) in
         let u = tyOf tree f (suc (suc i)) in
         let o = s .slots in
-        let covers : slot < startOf (endOf v ends) (lengthOf x (suc i)) = omega (arith, o .covers) in
         let next : suc i < n = subst (λ z. z < n) (first-child formats schema first n i) (child-inside schema first n is-whole i 0 l (omega arith)) in
-        let z = ran-is v d (x .body) (place x (suc i) 3) (place x (suc i) 4) ends refl (o .hold) (o .positive) (o .rises) slot covers i in
-        let below-run = ran-below v d (x .body) (place x (suc i) 3) (place x (suc i) 4) ends refl (o .hold) (o .positive) (o .rises) slot covers in
+        let sum : offsetOf x i + lengthOf x i < 2 ^ 64 = omega (arith, sums i l) in
+        let small-ends : offsetOf x (suc i) + lengthOf x (suc i) < 2 ^ 64 = omega (arith, sums (suc i) next) in
+        let back : slot - offsetOf x i ≡ r = omega arith in
+        let z : runsStep x i v slot ≡ step.Go (suc (suc i)) (firstAbove (endOf v ends) slot 0 (lengthOf x (suc i))) =
+        ap (λ a. ran i (runOf x i v a)) back ∙ ran-is v d (firstBuffer x (suc i)) ends refl (o .hold) (o .positive) (o .rises) (offsetOf x i) (lengthOf x i) sum (o .covers) r q small-ends i in
+        let below-run = ran-below v d (firstBuffer x (suc i)) ends refl (o .hold) (o .positive) (o .rises) (offsetOf x i) (lengthOf x i) sum (o .covers) r q in
         let k = kid (suc (suc i)) 1 (omega arith) (sym (second-child formats schema first n i next none-below)) (firstAbove (endOf v ends) slot 0 (lengthOf x (suc i))) (o .child-rule) (omega (arith, below-run, o .as-many)) in
         subst (λ a. Shows (tRunEnd v u) (follow (walk w x f) a) (slotAt (tRunEnd v u) (bodyOf tree x (tRunEnd v u) i) slot)) (sym z)
         (record { accepted = k .accepted; means = k .means })

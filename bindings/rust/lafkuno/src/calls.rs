@@ -153,6 +153,16 @@ extern "C" {
         buffers: *const u32, buffers_len: usize, body: *const u8, body_len: usize, first: u32, row: u64,
         answer: *mut u64, answer_len: usize,
     ) -> u8;
+    // answer: the run and the rows left in it; 14 where it has not 2 numbers
+    fn lafkuno_run_at(
+        formats: *const u8, formats_len: usize, schema: *const u32, schema_len: usize, lengths: *const u64, lengths_len: usize,
+        places: *const u32, places_len: usize, buffers: *const u32, buffers_len: usize, body: *const u8, body_len: usize,
+        first: u32, n: u32, row: u64, answer: *mut u64, answer_len: usize,
+    ) -> u8;
+    fn lafkuno_read_run(
+        tree: *const u64, tree_len: usize, lengths: *const u64, lengths_len: usize, places: *const u32, places_len: usize,
+        body: *const u8, body_len: usize, first: u32, row: u64, answer: *mut u64, answer_len: usize,
+    ) -> u8;
     fn lafkuno_frame(
         formats: *const u8, formats_len: usize, schema: *const u32, schema_len: usize, lengths: *const u64, lengths_len: usize,
         places: *const u32, places_len: usize, buffers: *const u32, buffers_len: usize, body: *const u8, body_len: usize,
@@ -342,6 +352,49 @@ pub fn read_row(tree: &[u64], x: &Tables, first: u32, row: u64) -> Result<RowAns
         _ => return Err(a as u8),
     };
     Ok(RowAnswer { read, ids: ids.map(|id| id as u8), count: count as u8 })
+}
+
+/// The run of a row of a run-end column, and how many rows of the column from that one on stand in it: 9, 10, 12 where it is malformed, then 10
+/// where it is no run-end column, then 2.
+#[inline(always)]
+pub fn run_at(x: &Tables, first: u32, n: u32, row: u64) -> Result<RunAnswer, u8> {
+    let mut answer = [0; 2];
+    let ground = unsafe {
+        lafkuno_run_at(
+            x.formats.as_ptr(), x.formats.len(), x.schema.as_ptr(), x.schema.len(), x.lengths.as_ptr(), x.lengths.len(),
+            x.places.as_ptr(), x.places.len(), x.buffers.as_ptr(), x.buffers.len(), x.body.as_ptr(), x.body.len(), first, n,
+            row, answer.as_mut_ptr(), answer.len(),
+        )
+    };
+    RunAnswer::of(ground, answer)
+}
+
+/// The same of an opened column.
+#[inline(always)]
+pub fn read_run(tree: &[u64], x: &Tables, first: u32, row: u64) -> Result<RunAnswer, u8> {
+    let mut answer = [0; 2];
+    let ground = unsafe {
+        lafkuno_read_run(
+            tree.as_ptr(), tree.len(), x.lengths.as_ptr(), x.lengths.len(), x.places.as_ptr(), x.places.len(), x.body.as_ptr(),
+            x.body.len(), first, row, answer.as_mut_ptr(), answer.len(),
+        )
+    };
+    RunAnswer::of(ground, answer)
+}
+
+/// A run, counted from the first run end, and the rows left in it.
+#[derive(Clone, Copy, Debug, PartialEq, Eq)]
+pub struct RunAnswer {
+    /// The run.
+    pub run: u64,
+    /// The rows of the column from the one asked for on that stand in it.
+    pub left: u64,
+}
+
+impl RunAnswer {
+    fn of(ground: u8, [run, left]: [u64; 2]) -> Result<RunAnswer, u8> {
+        if ground == 0 { Ok(RunAnswer { run, left }) } else { Err(ground) }
+    }
 }
 
 // ---- beside the join

@@ -49,7 +49,7 @@ pub use batch::{join_many, run_many, Batch, Job};
 pub use buffer::Buffer;
 pub use column::{Column, Field};
 pub use frame::{frame, Frame};
-pub use join::{Join, Joined, Order, Reader};
+pub use join::{Join, Joined, Order, Reader, Runs};
 pub use lent::Lent;
 pub use refusal::{Cause, Error, Ground, Place};
 pub use rows::Row;
