@@ -185,7 +185,7 @@ uint8_t lafkuno_column_ground(const uint8_t *formats, size_t formats_len, const 
                               const uint32_t *buffers, size_t buffers_len, const uint8_t *body, size_t body_len,
                               uint32_t first, uint32_t n);
 
-/* The same, and writes the column's tree, over which its rows are read; 14 where tree_len is below LAFKUNO_TREE.
+/* The same, then 14 where tree_len is below LAFKUNO_TREE; else writes the column's tree, over which its rows are read.
  *   first     its first node in the tables.
  *   n         how many nodes it has.
  *   tree      its first LAFKUNO_TREE numbers are written. */
@@ -203,11 +203,11 @@ enum lafkuno_kind {
     LAFKUNO_DOUBLE = 4,   /* the bits of an f64 */
     LAFKUNO_BYTES = 5,    /* where they begin in the body, how many */
     LAFKUNO_LIST = 6,     /* the child's node counted from the column's first, its first row, how many rows */
-    LAFKUNO_REFUSED = 7   /* the ground: 2 where there is no such row */
+    LAFKUNO_REFUSED = 16  /* and above: the ground is added to it */
 };
 
-/* Reads one row of an opened column, and answers its kind: LAFKUNO_REFUSED, and nothing is written, where answer_len is not
- * LAFKUNO_ANSWER. The rows of a list are those of its child, opened as a column of its own.
+/* Reads one row of an opened column, and answers its kind; or LAFKUNO_REFUSED and a ground, and nothing is written: 2 where there is no
+ * such row, then 14 where answer_len is not LAFKUNO_ANSWER. The rows of a list are those of its child, opened as a column of its own.
  *   tree      as lafkuno_open_column wrote it.
  *   first     the column's first node in the tables.
  *   row       the row's number.

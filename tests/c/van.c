@@ -73,6 +73,10 @@ static void expect_row(const char *name, const struct column *c, const uint64_t 
                                     c->body_len, first, r, answer, LAFKUNO_ANSWER);
     snprintf(what, sizeof what, "%s, row %d", name, (int)r);
     expect(what, kind, wanted.kind);
+    if (LAFKUNO_REFUSED <= wanted.kind) {
+        free(answer);
+        return;
+    }
     expect(what, answer[3], wanted.id < 0 ? 0 : 1);
     expect(what, answer[4], wanted.id < 0 ? 0 : (uint64_t)wanted.id);
     if (wanted.text) {
@@ -157,12 +161,19 @@ static void open_column(const char *name, const struct column *c, uint32_t first
 
 static void expect_rows(const char *name, const struct column *c, const struct row wanted[5]) {
     uint64_t *tree = lend(NULL, 8 * LAFKUNO_TREE), answer[LAFKUNO_ANSWER] = {7};
-    const struct row none = {LAFKUNO_REFUSED, -1, LAFKUNO_NO_SUCH_ROWS, NULL};
+    const struct row none = {LAFKUNO_REFUSED + LAFKUNO_NO_SUCH_ROWS, -1, 0, NULL};
     open_column(name, c, 0, c->nodes, tree);
     for (uint64_t r = 0; r < 5; r++) expect_row(name, c, tree, 0, r, wanted[r]);
     expect_row(name, c, tree, 0, 5, none);
     expect(name, lafkuno_read_row(tree, LAFKUNO_TREE, c->lengths, 2 * c->nodes, c->places, 9 * c->nodes, no_buffers, 0, c->body, c->body_len,
-                                  0, 0, answer, LAFKUNO_ANSWER - 1), LAFKUNO_REFUSED);
+                                  0, 0, answer, LAFKUNO_ANSWER - 1), LAFKUNO_REFUSED + LAFKUNO_BAD_PARTS);
+    expect(name, lafkuno_read_row(tree, LAFKUNO_TREE, c->lengths, 2 * c->nodes, c->places, 9 * c->nodes, no_buffers, 0, c->body, c->body_len,
+                                  0, 5, answer, LAFKUNO_ANSWER - 1), LAFKUNO_REFUSED + LAFKUNO_NO_SUCH_ROWS);
+    expect(name, answer[0], 7);
+    expect(name, lafkuno_open_column(c->formats, c->formats_len, c->schema, 5 * c->nodes, c->lengths, 2 * c->nodes, c->places, 9 * c->nodes,
+                                     no_buffers, 0, c->body, c->body_len, 0, c->nodes, answer, LAFKUNO_ANSWER), LAFKUNO_BAD_PARTS);
+    expect(name, lafkuno_open_column(c->formats, c->formats_len, c->schema, 5 * c->nodes, c->lengths, 2 * c->nodes, c->places, 9 * c->nodes,
+                                     no_buffers, 0, c->body, 0, 0, c->nodes, answer, LAFKUNO_ANSWER), LAFKUNO_BAD_SOURCE);
     expect(name, answer[0], 7);
     free(tree);
 }

@@ -146,8 +146,8 @@ extern "C" {
         places: *const u32, places_len: usize, buffers: *const u32, buffers_len: usize, body: *const u8, body_len: usize,
         first: u32, n: u32, tree: *mut u64, tree_len: usize,
     ) -> u8;
-    // answers the kind: 0 null, 1 signed, 2 unsigned, 3 f32, 4 f64, 5 bytes, 6 list, 7 refused, also where `answer` has not 12 numbers;
-    // answer: three numbers, how many ids there are, eight ids
+    // answers the kind: 0 null, 1 signed, 2 unsigned, 3 f32, 4 f64, 5 bytes, 6 list; 16 and the ground where it is refused, 14 where
+    // `answer` has not 12 numbers; answer: three numbers, how many ids there are, eight ids
     fn lafkuno_read_row(
         tree: *const u64, tree_len: usize, lengths: *const u64, lengths_len: usize, places: *const u32, places_len: usize,
         buffers: *const u32, buffers_len: usize, body: *const u8, body_len: usize, first: u32, row: u64,
@@ -318,7 +318,7 @@ pub fn column_ground(x: &Tables, first: u32, n: u32) -> u8 {
     }
 }
 
-/// The same, or 14 where `tree` has fewer than [`TREE`] numbers; else the column's tree is written to its front.
+/// The same, then 14 where `tree` has fewer than [`TREE`] numbers; else the column's tree is written to its front.
 #[inline(always)]
 pub fn open_column(x: &Tables, first: u32, n: u32, tree: &mut [u64]) -> u8 {
     unsafe {
@@ -349,7 +349,7 @@ pub fn read_row(tree: &[u64], x: &Tables, first: u32, row: u64) -> Result<RowAns
         4 => Read::Double(a),
         5 => Read::Bytes { at: a, len: b },
         6 => Read::List { node: a, start: b, len: c },
-        _ => return Err(a as u8),
+        _ => return Err(kind.wrapping_sub(16)),
     };
     Ok(RowAnswer { read, ids: ids.map(|id| id as u8), count: count as u8 })
 }
