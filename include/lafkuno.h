@@ -219,8 +219,8 @@ uint8_t lafkuno_read_row(const uint64_t *tree, size_t tree_len, const uint64_t *
                          uint64_t *answer, size_t answer_len);
 
 /* The run of a row of a run-end column, and how many rows of the column from that one on stand in it: whoever goes through the rows asks
- * once a run. 14 where answer_len is not LAFKUNO_RUN; 9, 10 and 12 where the column is malformed; then 10 where it is no run-end column,
- * and 2 where there is no such row.
+ * once a run. 9, 10 and 12 where the column is malformed; then 10 where it is no run-end column, 2 where there is no such row, and 14 where
+ * answer_len is not LAFKUNO_RUN.
  *   first     its first node in the tables.
  *   n         how many nodes it has.
  *   row       the row's number.
@@ -243,8 +243,8 @@ uint8_t lafkuno_read_run(const uint64_t *tree, size_t tree_len, const uint64_t *
 /* ---- beside the join */
 
 /* The frame of the rows start .. end - 1 of a latitude and a longitude column, both of format g. Rows where either is null or not a
- * number don't count; of equal values the first stays. 14 where room_len is not 4; then 9, 10 and 12 for a malformed column, 2 for a range
- * outside either column, 10 for a column that is not of f64, 17 where no row counts, each asked of both columns before the next.
+ * number don't count; of equal values the first stays. 9, 10 and 12 for a malformed column, then 2 for a range outside either column, 10 for
+ * a column that is not of f64, 17 where no row counts, each asked of both columns before the next; last 14 where room_len is not 4.
  *   first_a   the first node of the latitudes; n_a, how many nodes they have.
  *   first_b   the first node of the longitudes; n_b, how many nodes they have.
  *   room      is written: smallest and largest latitude, smallest and largest longitude. */

@@ -1,6 +1,6 @@
 -- The answers of `column_runs` by the ground of the column and the length of the answer. Assumes nothing.
 use mathlib.Core.Path.{_≡_, refl, sym, ap, _∙_}
-use mathlib.Core.Bool.{cond}
+use mathlib.Core.Bool.{Bool, true, false, cond}
 use mathlib.Core.List.{List, [], _∷_}
 use Prim.Native.Nat.{ℕ, suc, _+_}
 use native.Mathlib.Omega.{arith}
@@ -44,11 +44,15 @@ module _ (formats schema lengths places buffers body : List ℕ) (first n g : �
 -- ---- the answer
 
 module _ (found : RowRun) (answer : List ℕ) where
-  pub no-room : (length answer ≡ 2 → ⊥) → (14 ≡ ground found answer) × (answer ≡ numbers found answer)
-  no-room h = (rw (ne-eqb (length answer) 2 h), rw (ne-eqb (length answer) 2 h))
+  pub no-room : (k : PhysicalRun) (left : ℕ) → (length answer ≡ 2 → ⊥) → found ≡ run.Run k left → (14 ≡ ground found answer) × (answer ≡ numbers found answer)
+  no-room k left h e = rw e (rw (ne-eqb (length answer) 2 h), rw (ne-eqb (length answer) 2 h))
 
-  pub refused-run : (g : ℕ) → length answer ≡ 2 → found ≡ run.Refused g → (g ≡ ground found answer) × (answer ≡ numbers found answer)
-  refused-run g h e = (rw (eq-eqb (length answer) 2 h, e), rw (eq-eqb (length answer) 2 h, e))
+  pub refused-run : (g : ℕ) → found ≡ run.Refused g → (g ≡ ground found answer) × (answer ≡ numbers found answer)
+  refused-run g e = rw e (refl, same (eqb (length answer) 2))
+    where
+      same : (b : Bool) → answer ≡ cond b answer answer
+      same true = refl
+      same false = refl
 
 both-set : (answer : List ℕ) (a b : ℕ) → length answer ≡ 2 → set (set answer 0 a) 1 b ≡ a ∷ b ∷ []
 both-set [] a b h = absurd (omega arith)
@@ -58,4 +62,4 @@ both-set (x ∷ y ∷ z ∷ s) a b h = absurd (omega arith)
 
 pub found-run : (found : RowRun) (answer : List ℕ) (k : PhysicalRun) (left : ℕ) → length answer ≡ 2 → found ≡ run.Run k left
     → (0 ≡ ground found answer) × (set (set answer 0 (k .0)) 1 left ≡ numbers found answer)
-found-run found answer k left h e = (rw (eq-eqb (length answer) 2 h, e), both-set answer (k .0) left h ∙ rw (eq-eqb (length answer) 2 h, e))
+found-run found answer k left h e = rw e (rw (eq-eqb (length answer) 2 h), both-set answer (k .0) left h ∙ rw (eq-eqb (length answer) 2 h))

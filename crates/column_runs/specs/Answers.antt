@@ -20,19 +20,15 @@ readRun formats schema x first n r =
     (runAt (planted formats schema first n) (tablesFrom x first) r)
     (run.Refused (columnGround formats schema x first n))
 
--- its number: 0 where there is a run
-abbrev pub refusal : RowRun → ℕ
-refusal (run.Run k left) = 0
-refusal (run.Refused g) = g
-
 -- what stands in the answer's two numbers: the run and the rows left, or what stood there
 abbrev pub runNumbers : RowRun → List ℕ → List ℕ
 runNumbers (run.Run k left) old = k .0 ∷ left ∷ []
 runNumbers (run.Refused g) old = old
 
--- .. 14 where the answer has not two numbers, and then it is left as it was
+-- .. then 14 where the answer has not two numbers, and then it is left as it was
 abbrev pub ground : RowRun → List ℕ → ℕ
-ground found answer = cond (eqb (length answer) 2) (refusal found) 14
+ground (run.Run k left) answer = cond (eqb (length answer) 2) 0 14
+ground (run.Refused g) answer = g
 
 abbrev pub numbers : RowRun → List ℕ → List ℕ
 numbers found answer = cond (eqb (length answer) 2) (runNumbers found answer) answer

@@ -50,17 +50,17 @@ pub fn read_run(
     row_reader::run_at(&words, lengths, places, body, first, row)
 }
 
-// The ground, 0 where there is none, 14 where the answer has not 2 numbers. They are the run and the rows left; a ground leaves them as they
+// The ground, then 14 where the answer has not 2 numbers, or 0. They are the run and the rows left; a ground leaves them as they
 // were.
 fn put_run(found: RowRun, answer: &mut [u64]) -> u8
     ensures { λ r. ⌜ r ≡ ground found (now (answer .entry)) ⌝ }
     ensures { λ _. ⌜ now (answer .exit) ≡ numbers found (now (answer .entry)) ⌝ }
 {
-    if answer.len() != 2 {
-        return 14;
-    }
     match found {
         RowRun::Run { run, left } => {
+            if answer.len() != 2 {
+                return 14;
+            }
             answer[0] = run.0 as u64;
             answer[1] = left;
             0

@@ -12,7 +12,6 @@ use Rattle.frames.specs.declared.Frame.{Frame}
 use Rattle.frames.specs.declared.Boxed.{Boxed}
 use Rattle.frames.specs.declared.Boxed.the-variants as boxed
 use Rattle.frames.specs.Frames.{joined}
-use Rattle.frames.specs.Box.{groundOf}
 use Rattle.lafkuno.specs.Beside.{sides, frameOf, four, sidesOr, frameGround, frameAfter, joinGround, joinAfter}
 
 pub set-four : (s : List Float) (a b c d : Float) → length s ≡ 4 → set (set (set (set s 0 a) 1 b) 2 c) 3 d ≡ a ∷ b ∷ c ∷ d ∷ []
@@ -24,17 +23,21 @@ set-four (p ∷ q ∷ r ∷ t ∷ []) a b c d e = refl
 set-four (p ∷ q ∷ r ∷ t ∷ u ∷ l) a b c d e = absurd (omega (arith, e))
 
 module _ (box : Boxed) (s : List Float) where
-  pub no-room : (length s ≡ 4 → ⊥) → (14 ≡ frameGround box s) × (s ≡ frameAfter box s)
+  pub no-room : (f : Frame) → (length s ≡ 4 → ⊥) → box ≡ boxed.Within f → (14 ≡ frameGround box s) × (s ≡ frameAfter box s)
   unfolding frameGround frameAfter
-  no-room h = (rw (ne-eqb (length s) 4 h), rw (ne-eqb (length s) 4 h))
+  no-room f h e = rw e (rw (ne-eqb (length s) 4 h), rw (ne-eqb (length s) 4 h))
 
   pub answered : length s ≡ 4 → (f : Frame) → box ≡ boxed.Within f → (t : List Float) → t ≡ sides f → (0 ≡ frameGround box s) × (t ≡ frameAfter box s)
   unfolding frameGround frameAfter
-  answered h f e t q = (rw (eq-eqb (length s) 4 h, e), rw (eq-eqb (length s) 4 h, e) q)
+  answered h f e t q = rw e (rw (eq-eqb (length s) 4 h), rw (eq-eqb (length s) 4 h) q)
 
-  pub refused : length s ≡ 4 → (g : ℕ) → box ≡ boxed.Refused g → (g ≡ frameGround box s) × (s ≡ frameAfter box s)
+  pub refused : (g : ℕ) → box ≡ boxed.Refused g → (g ≡ frameGround box s) × (s ≡ frameAfter box s)
   unfolding frameGround frameAfter
-  refused h g e = (rw (eq-eqb (length s) 4 h, e), rw (eq-eqb (length s) 4 h, e))
+  refused g e = rw e (refl, same (four s))
+    where
+      same : (b : Bool) → s ≡ cond b s s
+      same true = refl
+      same false = refl
 
 module _ (left right s : List Float) where
   pub not-four : four left && four right && four s ≡ false → (14 ≡ joinGround left right s) × (s ≡ joinAfter left right s)

@@ -9,7 +9,6 @@ use Rattle.frames.specs.declared.Frame.{Frame}
 use Rattle.frames.specs.declared.Boxed.{Boxed}
 use Rattle.frames.specs.declared.Boxed.the-variants as boxed
 use Rattle.frames.specs.Frames.{joined}
-use Rattle.frames.specs.Box.{groundOf}
 
 -- ---- frames as four floats
 
@@ -28,8 +27,10 @@ abbrev pub sidesOr : Boxed → List Float → List Float
 sidesOr (boxed.Within f) s = sides f
 sidesOr (boxed.Refused g) s = s
 
+-- the ground, then 14 where there is not room for a frame
 unfoldable pub frameGround : Boxed → List Float → ℕ
-frameGround box s = cond (four s) (groundOf box) 14
+frameGround (boxed.Within f) s = cond (four s) 0 14
+frameGround (boxed.Refused g) s = g
 
 unfoldable pub frameAfter : Boxed → List Float → List Float
 frameAfter box s = cond (four s) (sidesOr box s) s

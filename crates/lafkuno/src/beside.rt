@@ -39,7 +39,7 @@ fn get_frame(s: &[f64]) -> Frame
 }
 
 // The frame of the rows start .. end - 1 of a latitude and a longitude column, into the room: smallest and largest latitude, smallest and
-// largest longitude. 14 where the room has not four floats; the room is left as it was where the answer is not 0.
+// largest longitude. 14 last, where the room has not four floats; the room is left as it was where the answer is not 0.
 #[no_mangle]
 pub extern "C" fn lafkuno_frame(
     formats: &[u8],
@@ -59,9 +59,6 @@ pub extern "C" fn lafkuno_frame(
     ensures { λ r. ⌜ r ≡ frameGround (boxOf (now (formats .entry)) (now (schema .entry)) (tablesOf (now (lengths .entry)) (now (places .entry)) (now (buffers .entry)) (now (body .entry))) «first_a» «n_a» «first_b» «n_b» start end) (now (room .entry)) ⌝ }
     ensures { λ _. ⌜ now (room .exit) ≡ frameAfter (boxOf (now (formats .entry)) (now (schema .entry)) (tablesOf (now (lengths .entry)) (now (places .entry)) (now (buffers .entry)) (now (body .entry))) «first_a» «n_a» «first_b» «n_b» start end) (now (room .entry)) ⌝ }
 {
-    if room.len() != 4 {
-        return 14;
-    }
     let answer = frames::box_of(
         formats,
         schema,
@@ -78,6 +75,9 @@ pub extern "C" fn lafkuno_frame(
     );
     match answer {
         Boxed::Within(f) => {
+            if room.len() != 4 {
+                return 14;
+            }
             put_frame(room, f);
             0
         }
