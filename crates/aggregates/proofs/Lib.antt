@@ -1,0 +1,5 @@
+-- Laws of `aggregates`.
+pub mod Types
+pub mod Rows
+pub mod Tallies
+pub mod Answers
