@@ -2,4 +2,6 @@
 pub mod Types
 pub mod Rows
 pub mod Tallies
+pub mod Both
 pub mod Answers
+pub mod Theorems

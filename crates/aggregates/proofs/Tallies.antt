@@ -55,7 +55,7 @@ rows-numbers x s h = rw h
 
 -- ---- tallies
 
-above : (w : ℕ) → Sized w → 0 < 256 ^ w
+pub above : (w : ℕ) → Sized w → 0 < 256 ^ w
 above w h = go (eqb w 1) refl (eqb w 2) refl (eqb w 4) refl
   where
     go : (a : Bool) → eqb w 1 ≡ a → (b : Bool) → eqb w 2 ≡ b → (c : Bool) → eqb w 4 ≡ c → 0 < 256 ^ w
@@ -64,7 +64,7 @@ above w h = go (eqb w 1) refl (eqb w 2) refl (eqb w 4) refl
     go false p false q true r = subst (λ k. 0 < 256 ^ k) (sym (eqb-true w 4 r)) (omega arith)
     go false p false q false r = subst (λ k. 0 < 256 ^ k) (sym (h (eqb-false w 1 p) (eqb-false w 2 q) (eqb-false w 4 r))) (omega arith)
 
-few : (h b c n : ℕ) → h ≤ n → b ≤ n → c ≤ n → n < 9223372036854775808 → (h + b < 18446744073709551615) × (c < 9223372036854775808)
+pub few : (h b c n : ℕ) → h ≤ n → b ≤ n → c ≤ n → n < 9223372036854775808 → (h + b < 18446744073709551615) × (c < 9223372036854775808)
 few h b c n p q r l = (omega arith, omega arith)
 
 module _ (formats schema : List ℕ) (x : Tables) (first n : ℕ) (g : columnGround formats schema x first n ≡ 0) (small : (j : ℕ) → getD (x .body) j 0 < 256)

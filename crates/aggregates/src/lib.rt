@@ -9,7 +9,7 @@ ghost use Rattle.kind_rules.specs.Rows.{tablesOf};
 ghost use Rattle.lent_entries.specs.Entries.{column};
 ghost use Rattle.tally.specs.Cells.{talliedBy};
 ghost use Rattle.aggregates.specs.Shape.{wholeCode, shapeOf, plainNumbers, runNumbers, numbersOf};
-ghost use Rattle.aggregates.specs.Report.{meanBy, meanReport};
+ghost use Rattle.aggregates.specs.Report.{meanBy, meanReport, ratioBy, ratioReport};
 use cell_sums::Numbers;
 use stretches::Ends;
 use tally::Tally;
@@ -26,6 +26,21 @@ pub struct MeanReport {
 
 pub enum MeanAnswer {
     Done(MeanReport),
+    Refused(u8),
+}
+
+// The rows that both columns have, the two totals, and the first over the second in lowest terms.
+pub struct RatioReport {
+    pub count: u64,
+    pub first: i64,
+    pub second: i64,
+    pub minus: bool,
+    pub over: u64,
+    pub under: u64,
+}
+
+pub enum RatioAnswer {
+    Done(RatioReport),
     Refused(u8),
 }
 
@@ -178,4 +193,92 @@ pub fn mean(
     let t = cell_sums::sum_rows(body, numbers, start, end);
     let cells = numbers.cells;
     mean_of(t, whole_cells::lift_of(cells.width))
+}
+
+// ---- two columns
+
+// The answer of two tallies: 15 of either before 16.
+fn ratio_of(t: Tally, lift_t: u64, u: Tally, lift_u: u64) -> RatioAnswer
+    requires { ⌜ (t .hi + t .below < 18446744073709551615) × (u .hi + u .below < 18446744073709551615) ⌝ }
+    ensures { λ r. ⌜ r ≡ ratioBy (t .count) (talliedBy «lift_t» t) (talliedBy «lift_u» u) ⌝ }
+{
+    let Total::Fits(first) = tally::exact_sum(t, lift_t) else {
+        return RatioAnswer::Refused(15);
+    };
+    let Total::Fits(second) = tally::exact_sum(u, lift_u) else {
+        return RatioAnswer::Refused(15);
+    };
+    if second == 0 {
+        return RatioAnswer::Refused(16);
+    }
+    let f = fractions::reduced(first, second);
+    RatioAnswer::Done(RatioReport {
+        count: t.count,
+        first,
+        second,
+        minus: f.minus,
+        over: f.over,
+        under: f.under,
+    })
+}
+
+// TOTAL OVER TOTAL of the rows start .. end - 1 in which both columns have a number; each ground is asked of both before the next.
+pub fn ratio(
+    formats: &[u8],
+    schema: &[u32],
+    lengths: &[u64],
+    places: &[u32],
+    buffers: &[u32],
+    body: &[u8],
+    first_a: u32,
+    n_a: u32,
+    first_b: u32,
+    n_b: u32,
+    start: u64,
+    end: u64,
+) -> RatioAnswer
+    ensures { λ r. ⌜ r ≡ ratioReport (now (formats .entry)) (now (schema .entry)) (tablesOf (now (lengths .entry)) (now (places .entry)) (now (buffers .entry)) (now (body .entry))) «first_a» «n_a» «first_b» «n_b» start end ⌝ }
+{
+    let ground = column_pair::pair_ground(
+        formats,
+        schema,
+        lengths,
+        places,
+        buffers,
+        body,
+        first_a,
+        n_a,
+        first_b,
+        n_b,
+    );
+    if ground != 0 {
+        return RatioAnswer::Refused(ground);
+    }
+    if !column_pair::is_range(lengths, first_a, start, end) {
+        return RatioAnswer::Refused(2);
+    }
+    if !column_pair::is_range(lengths, first_b, start, end) {
+        return RatioAnswer::Refused(2);
+    }
+    let p = find_shape(formats, schema, first_a);
+    let q = find_shape(formats, schema, first_b);
+    if p.code == 0 {
+        return RatioAnswer::Refused(10);
+    }
+    if q.code == 0 {
+        return RatioAnswer::Refused(10);
+    }
+    let a = find_numbers(lengths, places, first_a, p);
+    let b = find_numbers(lengths, places, first_b, q);
+    let sums = cell_sums::sum_both(body, a, b, start, end);
+    let c = a.cells;
+    let d = b.cells;
+    let t = sums.first;
+    let u = sums.second;
+    ratio_of(
+        t,
+        whole_cells::lift_of(c.width),
+        u,
+        whole_cells::lift_of(d.width),
+    )
 }

@@ -24,7 +24,7 @@ to-pos l h = rw (lt-ltb l 9223372036854775808 h)
 pos-by : {a b : ℕ} → pos a ≡ pos b → a ≡ b
 pos-by e = cc
 
-its-fit : (z : ℤ) → fits z ≡ true → SFits w64 z
+pub its-fit : (z : ℤ) → fits z ≡ true → SFits w64 z
 its-fit (pos n) h = record { sfits = ltb-true n 9223372036854775808 h }
 its-fit (negsuc n) h = record { sfits = ltb-true n 9223372036854775808 h }
 
