@@ -49,8 +49,12 @@ enum lafkuno_ground {
 
     /* Whoever lends room: */
     LAFKUNO_ROOM_TOO_SMALL = 13,        /* a part can't hold its bytes after the call */
-    LAFKUNO_BAD_PARTS = 14              /* a wrong number of parts, a part outside the room, two that overlap, or a slice that is
+    LAFKUNO_BAD_PARTS = 14,             /* a wrong number of parts, a part outside the room, two that overlap, or a slice that is
                                            not of the size that the call asks for */
+
+    /* Whoever asks for sums: */
+    LAFKUNO_SUM_TOO_LARGE = 15,         /* an exact sum is outside -2^63 to 2^63-1 */
+    LAFKUNO_ZERO_DENOMINATOR = 16       /* no row counts, or the second column's total is 0 */
 };
 
 /* The state of a join: two slices of these many numbers. The opening writes both, orders change the counters alone. */
@@ -59,6 +63,9 @@ enum lafkuno_ground {
 /* The tree of an opened column, and a row's answer. */
 #define LAFKUNO_TREE 256
 #define LAFKUNO_ANSWER 12
+/* The numbers of a mean and of a ratio. */
+#define LAFKUNO_MEAN 5
+#define LAFKUNO_RATIO 6
 
 /* Parameters that several calls share. X_len is how many elements X has.
  *   sources   2 numbers a source: its first node in the tables, and how many nodes it has.
@@ -211,6 +218,27 @@ uint8_t lafkuno_read_row(const uint64_t *tree, size_t tree_len, const uint64_t *
                          const uint32_t *places, size_t places_len, const uint32_t *buffers, size_t buffers_len,
                          const uint8_t *body, size_t body_len, uint32_t first, uint64_t row,
                          uint64_t *answer, size_t answer_len);
+
+/* ---- exact sums of whole-number columns, or of run-end columns of whole-number values */
+
+/* The count of the rows start .. end - 1 that are not null, their exact sum, and the mean in lowest terms. Grounds: 14 where answer_len is
+ * not LAFKUNO_MEAN; 9, 10 or 12 of the column; then 2, 10 (no column of whole numbers), 15 and 16, and nothing is written.
+ *   first, n  the column's first node in the tables and how many nodes it has.
+ *   answer    is written: the count, the sum as two's complement, 1 for minus (else 0), and the fraction's two magnitudes, of which the
+ *             second is above 0; zero is 0, 0, 1. */
+uint8_t lafkuno_mean(const uint8_t *formats, size_t formats_len, const uint32_t *schema, size_t schema_len,
+                     const uint64_t *lengths, size_t lengths_len, const uint32_t *places, size_t places_len,
+                     const uint32_t *buffers, size_t buffers_len, const uint8_t *body, size_t body_len,
+                     uint32_t first, uint32_t n, uint64_t start, uint64_t end, uint64_t *answer, size_t answer_len);
+
+/* Total over total of two columns of the same tables, over the rows start .. end - 1 in which both are not null. The grounds are those of
+ * lafkuno_mean, each asked of both columns before the next; 14 where answer_len is not LAFKUNO_RATIO.
+ *   answer    is written: the count, both totals as two's complement, 1 for minus, and the fraction's two magnitudes. */
+uint8_t lafkuno_ratio(const uint8_t *formats, size_t formats_len, const uint32_t *schema, size_t schema_len,
+                      const uint64_t *lengths, size_t lengths_len, const uint32_t *places, size_t places_len,
+                      const uint32_t *buffers, size_t buffers_len, const uint8_t *body, size_t body_len,
+                      uint32_t first_a, uint32_t n_a, uint32_t first_b, uint32_t n_b, uint64_t start, uint64_t end,
+                      uint64_t *answer, size_t answer_len);
 
 #ifdef __cplusplus
 }

@@ -125,6 +125,16 @@ extern "C" {
         buffers: *const u32, buffers_len: usize, body: *const u8, body_len: usize, first: u32, row: u64,
         answer: *mut u64, answer_len: usize,
     ) -> u8;
+    fn lafkuno_mean(
+        formats: *const u8, formats_len: usize, schema: *const u32, schema_len: usize, lengths: *const u64, lengths_len: usize,
+        places: *const u32, places_len: usize, buffers: *const u32, buffers_len: usize, body: *const u8, body_len: usize,
+        first: u32, n: u32, start: u64, end: u64, answer: *mut u64, answer_len: usize,
+    ) -> u8;
+    fn lafkuno_ratio(
+        formats: *const u8, formats_len: usize, schema: *const u32, schema_len: usize, lengths: *const u64, lengths_len: usize,
+        places: *const u32, places_len: usize, buffers: *const u32, buffers_len: usize, body: *const u8, body_len: usize,
+        first_a: u32, n_a: u32, first_b: u32, n_b: u32, start: u64, end: u64, answer: *mut u64, answer_len: usize,
+    ) -> u8;
 }
 
 // ---- before any room is lent
@@ -290,4 +300,29 @@ pub fn read_row(tree: &[u64], x: &Tables, first: u32, row: u64) -> Result<RowAns
         _ => return Err(a as u8),
     };
     Ok(RowAnswer { read, ids: ids.map(|id| id as u8), count: count as u8 })
+}
+
+// ---- exact sums
+
+/// Count, sum, 1 for minus, and the two magnitudes of the mean: the ground where it is refused.
+pub fn mean(x: &Tables, first: u32, n: u32, start: u64, end: u64, answer: &mut [u64]) -> u8 {
+    unsafe {
+        lafkuno_mean(
+            x.formats.as_ptr(), x.formats.len(), x.schema.as_ptr(), x.schema.len(), x.lengths.as_ptr(), x.lengths.len(),
+            x.places.as_ptr(), x.places.len(), x.buffers.as_ptr(), x.buffers.len(), x.body.as_ptr(), x.body.len(),
+            first, n, start, end, answer.as_mut_ptr(), answer.len(),
+        )
+    }
+}
+
+/// Count, both totals, 1 for minus, and the two magnitudes of the first over the second: the ground where it is refused. A column is its
+/// first node and how many nodes it has.
+pub fn ratio(x: &Tables, a: (u32, u32), b: (u32, u32), start: u64, end: u64, answer: &mut [u64]) -> u8 {
+    unsafe {
+        lafkuno_ratio(
+            x.formats.as_ptr(), x.formats.len(), x.schema.as_ptr(), x.schema.len(), x.lengths.as_ptr(), x.lengths.len(),
+            x.places.as_ptr(), x.places.len(), x.buffers.as_ptr(), x.buffers.len(), x.body.as_ptr(), x.body.len(),
+            a.0, a.1, b.0, b.1, start, end, answer.as_mut_ptr(), answer.len(),
+        )
+    }
 }

@@ -30,6 +30,7 @@ mod join;
 mod lent;
 mod refusal;
 mod rows;
+mod sums;
 pub mod text;
 mod types;
 mod values;
@@ -39,6 +40,7 @@ pub use join::{Join, Joined, Reader};
 pub use lent::Lent;
 pub use refusal::{Cause, Error, Ground};
 pub use rows::Row;
+pub use sums::{mean, ratio, Fraction, Mean, Ratio};
 pub use types::Type;
 
 /// The examples of docs/USING.md.

@@ -1,4 +1,4 @@
-//! The command: `lafkuno join FILE`, `lafkuno demo`.
+//! The command: `lafkuno join FILE`, `lafkuno mean FILE ..`, `lafkuno fuel FILE ..`, `lafkuno demo`.
 
 use lafkuno::text::{self, What};
 use lafkuno::{Column, Error, Ground, Join, Row, Type};
@@ -10,6 +10,9 @@ lafkuno join [--buffers] [--go-on] FILE   joins the columns that FILE describes 
         --buffers   prints the finished column's buffers too
         --go-on     goes on after a refused order, which changes nothing
 lafkuno demo                              one van, one stop, two kilometres
+lafkuno mean FILE COLUMN START..END       count, exact sum and mean of rows of a column that FILE describes
+lafkuno fuel FILE FUEL DISTANCE START..END
+                                          total fuel over total distance, of the rows that have both
 lafkuno grounds                           the grounds of refusal
 The format of FILE is in docs/USING.md, with examples in examples/.
 Exit status: 0, or 1 where an order or the opening was refused, or 2 where the command or FILE has a mistake.";
@@ -29,6 +32,8 @@ fn main() -> ExitCode {
         }
         ["--help" | "-h" | "help"] => print(&format!("{USAGE}\n")),
         ["join", ref rest @ ..] => join(rest),
+        ["mean", file, column, rows] => sums(file, &[column], rows),
+        ["fuel", file, fuel, distance, rows] => sums(file, &[fuel, distance], rows),
         _ => {
             eprintln!("{USAGE}");
             MISTAKE
@@ -85,6 +90,53 @@ fn join(arguments: &[&str]) -> u8 {
             print(&out).max(if refused { REFUSED } else { 0 })
         }
         Err(status) => status,
+    }
+}
+
+/// The sums of one column, or of two and one over the other.
+fn sums(file: &str, names: &[&str], rows: &str) -> u8 {
+    let mistake = |what: String| {
+        eprintln!("{what}");
+        MISTAKE
+    };
+    let mut input = String::new();
+    let read = match file {
+        "-" => std::io::stdin().read_to_string(&mut input).map(|_| ()),
+        _ => std::fs::read_to_string(file).map(|text| input = text),
+    };
+    if let Err(e) = read {
+        return mistake(format!("{file}: {e}"));
+    }
+    let columns = match text::columns(&input) {
+        Ok(columns) => columns,
+        Err(e) => return mistake(format!("{file}: {e}")),
+    };
+    let Some(rows) = text::range_of(rows) else {
+        return mistake(format!("`{rows}`: rows are START..END"));
+    };
+    let mut named = vec![];
+    for name in names {
+        match columns.iter().find(|(n, _)| n == name) {
+            Some((_, column)) => named.push(column),
+            None => return mistake(format!("{file}: there is no column `{name}`")),
+        }
+    }
+    let told = match named[..] {
+        [column] => lafkuno::mean(column, rows).map(|m| format!("count {}\nsum {}\nmean {}\n", m.count, m.sum, m.mean)),
+        [fuel, distance] => lafkuno::ratio(fuel, distance, rows)
+            .map(|r| format!("count {}\n{} {}\n{} {}\nratio {}\n", r.count, names[0], r.first, names[1], r.second, r.ratio)),
+        _ => return MISTAKE,
+    };
+    match told {
+        Ok(text) => print(&text),
+        Err(error) => {
+            eprintln!("{error}");
+            if error.ground().is_some() {
+                REFUSED
+            } else {
+                MISTAKE
+            }
+        }
     }
 }
 

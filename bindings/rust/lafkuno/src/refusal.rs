@@ -44,11 +44,13 @@ pub enum Ground {
     BadSource = 12,
     RoomTooSmall = 13,
     BadParts = 14,
+    SumTooLarge = 15,
+    ZeroDenominator = 16,
 }
 
 impl Ground {
     /// All of them, by number from 1 on.
-    pub const ALL: [Ground; 14] = [
+    pub const ALL: [Ground; 16] = [
         Ground::NoSuchSource,
         Ground::NoSuchRows,
         Ground::KeepsNoNulls,
@@ -63,6 +65,8 @@ impl Ground {
         Ground::BadSource,
         Ground::RoomTooSmall,
         Ground::BadParts,
+        Ground::SumTooLarge,
+        Ground::ZeroDenominator,
     ];
 
     pub fn from_number(number: u8) -> Option<Ground> {
@@ -92,6 +96,8 @@ impl Ground {
             Ground::BadSource => "a source breaks the rules of its type: a buffer too short or outside the body, or an offset, id, position, run end, key or view that leads outside",
             Ground::RoomTooSmall => "a part of the room is too small for its bytes",
             Ground::BadParts => "a wrong number of parts, a part outside the room, two that overlap, or a table that is not of a join's size",
+            Ground::SumTooLarge => "an exact sum is outside -2^63 to 2^63-1: ask for fewer rows at a time",
+            Ground::ZeroDenominator => "a zero denominator: no row counts, or the second column's total is 0",
         }
     }
 
@@ -100,7 +106,9 @@ impl Ground {
             1..=5 => Cause::Orders,
             6..=8 => Cause::Data,
             9..=12 => Cause::Sources,
-            _ => Cause::Room,
+            13..=14 => Cause::Room,
+            15 => Cause::Data,
+            _ => Cause::Orders,
         }
     }
 }
