@@ -52,7 +52,7 @@ enum lafkuno_ground {
     LAFKUNO_BAD_PARTS = 14,             /* a wrong number of parts, a part outside the room, two that overlap, or a slice that is
                                            not of the size that the call asks for */
 
-    /* Whoever asks for sums: */
+    /* Exact sums (15: whoever has too much data; 16: whoever gives orders): */
     LAFKUNO_SUM_TOO_LARGE = 15,         /* an exact sum is outside -2^63 to 2^63-1 */
     LAFKUNO_ZERO_DENOMINATOR = 16       /* no row counts, or the second column's total is 0 */
 };
