@@ -54,7 +54,11 @@ enum lafkuno_ground {
     LAFKUNO_BAD_PARTS = 14,             /* a wrong number of parts, a part outside the room, two that overlap, a slice that is not of
                                            the size that the call asks for, or a plan that no opening wrote */
 
+    /* Whoever has too much data: */
+    LAFKUNO_SUM_TOO_LARGE = 15,         /* an exact sum is outside -2^63 to 2^63-1 */
+
     /* Whoever asks beside the join: */
+    LAFKUNO_ZERO_DENOMINATOR = 16,      /* no row counts, or the second column's total is 0 */
     LAFKUNO_NOTHING_COUNTED = 17        /* no row of the range counts */
 };
 
@@ -65,6 +69,10 @@ enum lafkuno_ground {
 #define LAFKUNO_TREE 256
 #define LAFKUNO_ANSWER 12
 #define LAFKUNO_RUN 2
+
+/* The numbers of a mean and of a ratio. */
+#define LAFKUNO_MEAN 5
+#define LAFKUNO_RATIO 6
 
 /* Parameters that several calls share. X_len is how many elements X has.
  *   sources   2 numbers a source: its first node in the tables, and how many nodes it has.
@@ -260,6 +268,27 @@ uint8_t lafkuno_frame(const uint8_t *formats, size_t formats_len, const uint32_t
  *   room      is written. */
 uint8_t lafkuno_join_frames(const double *left, size_t left_len, const double *right, size_t right_len,
                             double *room, size_t room_len);
+
+/* ---- exact sums of whole-number columns, or of run-end columns of whole-number values */
+
+/* The count of the rows start .. end - 1 that are not null, their exact sum, and the mean in lowest terms. Grounds: 9, 10 or 12 of the
+ * column; then 2, 10 (no column of whole numbers), 15 and 16; last 14 where answer_len is not LAFKUNO_MEAN. Nothing is written then.
+ *   first, n  the column's first node in the tables and how many nodes it has.
+ *   answer    is written: the count, the sum as two's complement, 1 for minus (else 0), and the fraction's two magnitudes, of which the
+ *             second is above 0; zero is 0, 0, 1. */
+uint8_t lafkuno_mean(const uint8_t *formats, size_t formats_len, const uint32_t *schema, size_t schema_len,
+                     const uint64_t *lengths, size_t lengths_len, const uint32_t *places, size_t places_len,
+                     const uint32_t *buffers, size_t buffers_len, const uint8_t *body, size_t body_len,
+                     uint32_t first, uint32_t n, uint64_t start, uint64_t end, uint64_t *answer, size_t answer_len);
+
+/* Total over total of two columns of the same tables, over the rows start .. end - 1 in which both are not null. The grounds are those of
+ * lafkuno_mean, each asked of both columns before the next; 14 where answer_len is not LAFKUNO_RATIO.
+ *   answer    is written: the count, both totals as two's complement, 1 for minus, and the fraction's two magnitudes. */
+uint8_t lafkuno_ratio(const uint8_t *formats, size_t formats_len, const uint32_t *schema, size_t schema_len,
+                      const uint64_t *lengths, size_t lengths_len, const uint32_t *places, size_t places_len,
+                      const uint32_t *buffers, size_t buffers_len, const uint8_t *body, size_t body_len,
+                      uint32_t first_a, uint32_t n_a, uint32_t first_b, uint32_t n_b, uint64_t start, uint64_t end,
+                      uint64_t *answer, size_t answer_len);
 
 #ifdef __cplusplus
 }

@@ -1,3 +1,4 @@
 -- The laws of `lafkuno`.
 pub mod Laws
 pub mod FrameCalls
+pub mod Sums

@@ -1,3 +1,4 @@
 -- The definitions that the contracts of `lafkuno` cite.
 pub mod Calls
 pub mod Beside
+pub mod Sums

@@ -58,6 +58,10 @@ pub enum Ground {
     RoomTooSmall = 13,
     /// Parts or tables that are not of the right number or size.
     BadParts = 14,
+    /// An exact sum is outside -2^63 to 2^63 - 1.
+    SumTooLarge = 15,
+    /// The denominator is zero.
+    ZeroDenominator = 16,
     /// No row of the range counts.
     NothingCounted = 17,
 }
@@ -79,6 +83,8 @@ impl Ground {
         Ground::BadSource,
         Ground::RoomTooSmall,
         Ground::BadParts,
+        Ground::SumTooLarge,
+        Ground::ZeroDenominator,
         Ground::NothingCounted,
     ];
 
@@ -112,6 +118,8 @@ impl Ground {
             Ground::BadSource => "a source breaks the rules of its type: a buffer too short or outside the body, or an offset, id, position, run end, key or view that leads outside",
             Ground::RoomTooSmall => "a part of the room is too small for its bytes",
             Ground::BadParts => "a wrong number of parts, a part outside the room, two that overlap, or a table that is not of a join's size",
+            Ground::SumTooLarge => "an exact sum is outside -2^63 to 2^63-1: ask for fewer rows at a time",
+            Ground::ZeroDenominator => "a zero denominator: no row counts, or the second column's total is 0",
             Ground::NothingCounted => "no row of the range counts: each has a null or a NaN in one of the two columns",
         }
     }
@@ -122,7 +130,9 @@ impl Ground {
             1..=5 | 17 => Cause::Orders,
             6..=8 => Cause::Data,
             9..=12 => Cause::Sources,
-            _ => Cause::Room,
+            13..=14 => Cause::Room,
+            15 => Cause::Data,
+            _ => Cause::Orders,
         }
     }
 }

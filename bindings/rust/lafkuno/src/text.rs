@@ -188,6 +188,58 @@ pub fn read(text: &str) -> Result<Description, Mistake> {
     file.describe(last)
 }
 
+/// Reads columns of their own types: `column NAME TYPE`, each with its rows and slice.
+pub fn columns(text: &str) -> Result<Vec<(String, Column)>, Mistake> {
+    type Slice = Option<(u64, u64, usize)>;
+    let mut found: Vec<(String, Type, Vec<Row>, Slice, usize)> = vec![];
+    let mut read = |number: usize, line: &str| -> Result<(), String> {
+        let (word, rest) = line.split_once(char::is_whitespace).unwrap_or((line, ""));
+        let rest = rest.trim();
+        match word {
+            "column" => {
+                let (name, ty) = rest.split_once(char::is_whitespace).ok_or("a column is: column NAME TYPE")?;
+                if found.iter().any(|c| c.0 == name) {
+                    return Err(format!("there is a column `{name}` already"));
+                }
+                let ty: Type = ty.trim().parse().map_err(|e: crate::Error| e.to_string())?;
+                shape(&ty).map_err(|e| e.to_string())?;
+                found.push((name.into(), ty, vec![], None, number));
+            }
+            "rows" => {
+                let (_, ty, all, _, _) = found.last_mut().ok_or("`column NAME TYPE` stands before its rows")?;
+                all.extend(rows(ty, rest)?);
+            }
+            "slice" => {
+                let (a, b) = range(rest).filter(|(a, b)| a <= b).ok_or("a slice is START..END, START not above END")?;
+                found.last_mut().ok_or("`column NAME TYPE` stands before its slice")?.3 = Some((a, b, number));
+            }
+            _ => return Err(format!("`{line}`: column, rows or slice is due")),
+        }
+        Ok(())
+    };
+    for (k, line) in text.lines().enumerate() {
+        let line = without_comment(line).trim();
+        if !line.is_empty() {
+            read(k + 1, line).map_err(|what| Mistake { line: k + 1, what })?;
+        }
+    }
+    let build = |(name, ty, rows, slice, line): (String, Type, Vec<Row>, Slice, usize)| {
+        let column = Column::build(&ty, &rows).map_err(|e| Mistake { line, what: e.to_string() })?;
+        let column = match slice {
+            Some((a, b, line)) => column.slice(a, b - a).map_err(|e| Mistake { line, what: e.to_string() })?,
+            None => column,
+        };
+        Ok((name, column))
+    };
+    found.into_iter().map(build).collect()
+}
+
+/// Whether a text describes columns of their own types: its first word is `column`.
+pub fn has_columns(text: &str) -> bool {
+    let first = text.lines().map(|line| without_comment(line).trim()).find(|line| !line.is_empty());
+    first.is_some_and(|line| line.split_whitespace().next() == Some("column"))
+}
+
 #[cfg(test)]
 mod tests {
     use super::*;

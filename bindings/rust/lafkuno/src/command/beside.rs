@@ -1,20 +1,48 @@
-//! Calls on sources of a file, beside the join: `lafkuno box FILE ..`.
+//! Calls on columns of a file, beside the join: `lafkuno box`, `lafkuno mean`, `lafkuno fuel`.
 
 use super::{join, mistake, print, status, Command, Words};
-use lafkuno::{text, Column, Error};
+use lafkuno::{mean, ratio, text, Column, Error};
 use std::ops::Range;
 
 pub const BOX: Command = Command {
     word: "box",
     usage: "\
 lafkuno box FILE LATITUDE LONGITUDE START..END
-                                          the box around rows of two sources of FILE, both of type g: smallest and largest latitude and longitude",
+                                          the box around rows of two columns of FILE, both of type g: smallest and largest latitude and longitude",
     run: |words| {
         asked("box", "LATITUDE LONGITUDE", words, |columns: [&Column; 2], rows| lafkuno::frame(columns[0], columns[1], rows).map(|frame| frame.to_string()))
     },
 };
 
-/// Takes `FILE NAME .. START..END`, finds the sources by their names and prints what `answer` makes of their rows.
+pub const MEAN: Command = Command {
+    word: "mean",
+    usage: "lafkuno mean FILE COLUMN START..END       count, exact sum and mean of rows of a column that FILE describes",
+    run: |words| asked("mean", "COLUMN", words, |[column]: [&Column; 1], rows| mean(column, rows).map(|m| format!("count {}\nsum {}\nmean {}", m.count, m.sum, m.mean))),
+};
+
+pub const FUEL: Command = Command {
+    word: "fuel",
+    usage: "\
+lafkuno fuel FILE FUEL DISTANCE START..END
+                                          total fuel over total distance, of the rows that have both",
+    run: |words| {
+        let names = [1, 2].map(|k| words.get(k).copied().unwrap_or_default());
+        asked("fuel", "FUEL DISTANCE", words, |[fuel, distance]: [&Column; 2], rows| {
+            ratio(fuel, distance, rows).map(|r| format!("count {}\n{} {}\n{} {}\nratio {}", r.count, names[0], r.first, names[1], r.second, r.ratio))
+        })
+    },
+};
+
+/// The columns of a file: `column NAME TYPE` with rows, or the sources of a join.
+fn columns(file: &str) -> Result<Vec<(String, Column)>, String> {
+    let bytes = join::bytes(file)?;
+    match std::str::from_utf8(&bytes) {
+        Ok(text) if text::has_columns(text) => text::columns(text).map_err(|e| e.to_string()),
+        _ => join::described(&bytes).map(|description| description.sources),
+    }
+}
+
+/// Takes `FILE NAME .. START..END`, finds the columns by their names and prints what `answer` makes of their rows.
 fn asked<const N: usize>(word: &str, names: &str, words: &[&str], answer: impl Fn([&Column; N], Range<u64>) -> Result<String, Error>) -> u8 {
     let words = match Words::parse(words, &[], &[]) {
         Ok(words) => words,
@@ -27,18 +55,18 @@ fn asked<const N: usize>(word: &str, names: &str, words: &[&str], answer: impl F
     let Some((start, end)) = text::range(rows) else {
         return mistake(format_args!("{word}: {rows} is no START..END"));
     };
-    let description = match join::description(file) {
-        Ok(description) => description,
+    let columns = match columns(file) {
+        Ok(columns) => columns,
         Err(what) => return mistake(format_args!("{file}: {what}")),
     };
-    let mut columns = vec![];
+    let mut named = vec![];
     for name in &words.files[1..=N] {
-        match description.sources.iter().find(|(n, _)| n == name) {
-            Some((_, column)) => columns.push(column),
-            None => return mistake(format_args!("{file}: there is no source `{name}`")),
+        match columns.iter().find(|(n, _)| n == name) {
+            Some((_, column)) => named.push(column),
+            None => return mistake(format_args!("{file}: there is no column `{name}`")),
         }
     }
-    let Ok(columns) = columns.try_into() else { return mistake(format_args!("{word}: FILE {names} START..END are due")) };
+    let Ok(columns) = named.try_into() else { return mistake(format_args!("{word}: FILE {names} START..END are due")) };
     match answer(columns, start..end) {
         Ok(text) => print(&format!("{text}\n")),
         Err(error) => {

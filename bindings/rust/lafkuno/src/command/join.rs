@@ -51,24 +51,29 @@ fn run(words: &[&str]) -> u8 {
     worst
 }
 
-/// What a file describes, or its mistake.
-pub fn description(file: &str) -> Result<text::Description, String> {
+/// The bytes of a file, or why it can't be read.
+pub fn bytes(file: &str) -> Result<Vec<u8>, String> {
     let mut input = vec![];
     match file {
         "-" => std::io::stdin().read_to_end(&mut input).map(|_| ()),
         _ => std::fs::read(file).map(|bytes| input = bytes),
     }
     .map_err(|e| e.to_string())?;
-    if ipc::is_arrow(&input) {
+    Ok(input)
+}
+
+/// What they describe, or their mistake.
+pub fn described(input: &[u8]) -> Result<text::Description, String> {
+    if ipc::is_arrow(input) {
         return Err("this is an Arrow file: --orders says what is joined of it".into());
     }
-    text::read_bytes(&input).map_err(|e| e.to_string())
+    text::read_bytes(input).map_err(|e| e.to_string())
 }
 
 /// The join of one file: what is printed, what is told on standard error, and the exit status.
 fn one(file: &str, buffers: bool, go_on: bool) -> (String, String, u8) {
     let mistake = |what: String| (String::new(), format!("lafkuno: {file}: {what}\n"), MISTAKE);
-    let description = match description(file) {
+    let description = match bytes(file).and_then(|input| described(&input)) {
         Ok(description) => description,
         Err(what) => return mistake(what),
     };

@@ -1,0 +1,3 @@
+-- The definitions that the contracts of `aggregates` cite.
+pub mod Report
+pub mod Shape
