@@ -46,7 +46,7 @@ mod work;
 
 pub use batch::{join_many, run_many, Batch, Job};
 pub use buffer::Buffer;
-pub use column::{Column, Field};
+pub use column::{Column, Field, Metadata};
 pub use join::{Join, Joined, Order, Reader};
 pub use lent::Lent;
 pub use refusal::{Cause, Error, Ground, Place};
