@@ -456,10 +456,10 @@ fn array<'a>(check: &Check<'a>, i: usize) -> Array<'a> {
 }
 
 impl Array<'_> {
-    // The row's kind and its first number, as lafkuno_read_row; 7 with 12 where a buffer does not hold it.
+    // The row's kind and its first number, as lafkuno_read_row; 16 and ground 12 where a buffer does not hold it.
     #[inline(never)]
     fn row(&self, row: usize) -> (u8, u64) {
-        self.read(row).unwrap_or((7, 12))
+        self.read(row).unwrap_or((16 + 12, 0))
     }
 
     fn read(&self, row: usize) -> Option<(u8, u64)> {
@@ -666,7 +666,7 @@ fn read(name: &str, lent: &Lent) {
     for row in 0..ROWS {
         assert_eq!(lent.row(&tree, row as u64), array.row(row), "{name} {row}");
     }
-    assert_eq!(lent.row(&tree, ROWS as u64), (7, 2));
+    assert_eq!(lent.row(&tree, ROWS as u64), (16 + 2, 0));
     compare(
         &format!("reading of {name}"),
         1.5,

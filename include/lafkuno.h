@@ -6,7 +6,7 @@
  * What C must guarantee, since no call can test it:
  * - each pointer leads to as many elements as the length behind it says; none is null, and where that length is 0, any aligned
  *   pointer will do;
- * - it is aligned for its type (uint64_t to 8, uint32_t to 4; bytes need no alignment);
+ * - it is aligned for its type (uint64_t and double to 8, uint32_t to 4; bytes need no alignment);
  * - a slice that is written (plan, counters, room, new_*, tree, answer) overlaps no other slice of the same call;
  * - no other thread writes what a call is lent, or reads what it writes, before it returns.
  * Nothing is allocated and no pointer is kept; a call uses less than 32 KiB of stack (docs/BENCHMARKS.md). Calls on different memory may
@@ -51,16 +51,20 @@ enum lafkuno_ground {
 
     /* Whoever lends room: */
     LAFKUNO_ROOM_TOO_SMALL = 13,        /* a part can't hold its bytes after the call */
-    LAFKUNO_BAD_PARTS = 14              /* a wrong number of parts, a part outside the room, two that overlap, or a slice that is
-                                           not of the size that the call asks for */
+    LAFKUNO_BAD_PARTS = 14,             /* a wrong number of parts, a part outside the room, two that overlap, a slice that is not of
+                                           the size that the call asks for, or a plan that no opening wrote */
+
+    /* Whoever asks beside the join: */
+    LAFKUNO_NOTHING_COUNTED = 17        /* no row of the range counts */
 };
 
 /* The state of a join: two slices of these many numbers. The opening writes both, orders change the counters alone. */
 #define LAFKUNO_PLAN 872
 #define LAFKUNO_COUNTERS 96
-/* The tree of an opened column, and a row's answer. */
+/* The tree of an opened column, a row's answer, and a run's. */
 #define LAFKUNO_TREE 256
 #define LAFKUNO_ANSWER 12
+#define LAFKUNO_RUN 2
 
 /* Parameters that several calls share. X_len is how many elements X has.
  *   sources   2 numbers a source: its first node in the tables, and how many nodes it has.
@@ -77,7 +81,7 @@ enum lafkuno_ground {
  *   counters  LAFKUNO_COUNTERS numbers, as the last call left them.
  *   room      the bytes that the parts are in; need not be zero.
  * Every call of a join is given the sources, tables, parts and room that the opening was given, the last two as the last call left
- * them. Given others, a call answers what it can, or 12 or 14, and still touches nothing outside. */
+ * them. Given others, a call is carried out whole or answers a refusal, 12 or 14 among them, and still touches nothing outside. */
 
 /* ---- before any room is lent */
 
@@ -105,7 +109,7 @@ uint8_t lafkuno_measure_open(const uint64_t *plan, size_t plan_len, const uint32
                              const uint64_t *lengths, size_t lengths_len, const uint32_t *places, size_t places_len,
                              const uint8_t *body, size_t body_len, uint64_t *counters, size_t counters_len);
 
-/* What a copy does to the counters: its ground but for 13 and 14, or the counters are changed.
+/* What a copy does to the counters: its ground but for 13 and 14 of the parts, or the counters are changed.
  *   source    the number of the source.
  *   start     its first row that is copied.
  *   end       one past its last. */
@@ -114,7 +118,7 @@ uint8_t lafkuno_measure_copy(const uint64_t *plan, size_t plan_len, const uint32
                              const uint8_t *body, size_t body_len, uint64_t *counters, size_t counters_len,
                              uint32_t source, uint64_t start, uint64_t end);
 
-/* What an order of nulls does to the counters: its ground but for 13 and 14, or the counters are changed.
+/* What an order of nulls does to the counters: its ground but for 13 and 14 of the parts, or the counters are changed.
  *   n         how many nulls. */
 uint8_t lafkuno_measure_nulls(const uint64_t *plan, size_t plan_len, uint64_t *counters, size_t counters_len, uint64_t n);
 
@@ -181,7 +185,7 @@ uint8_t lafkuno_column_ground(const uint8_t *formats, size_t formats_len, const 
                               const uint32_t *buffers, size_t buffers_len, const uint8_t *body, size_t body_len,
                               uint32_t first, uint32_t n);
 
-/* The same, and writes the column's tree, over which its rows are read; 14 where tree_len is below LAFKUNO_TREE.
+/* The same, then 14 where tree_len is below LAFKUNO_TREE; else writes the column's tree, over which its rows are read.
  *   first     its first node in the tables.
  *   n         how many nodes it has.
  *   tree      its first LAFKUNO_TREE numbers are written. */
@@ -192,18 +196,18 @@ uint8_t lafkuno_open_column(const uint8_t *formats, size_t formats_len, const ui
 
 /* What a row is. */
 enum lafkuno_kind {
-    LAFKUNO_NULL = 0,
+    LAFKUNO_NULL = 0,     /* also a dictionary's row whose key names a null entry */
     LAFKUNO_SIGNED = 1,   /* a whole number, as two's complement */
     LAFKUNO_UNSIGNED = 2, /* a whole number */
     LAFKUNO_SINGLE = 3,   /* the bits of an f32 */
     LAFKUNO_DOUBLE = 4,   /* the bits of an f64 */
     LAFKUNO_BYTES = 5,    /* where they begin in the body, how many */
     LAFKUNO_LIST = 6,     /* the child's node counted from the column's first, its first row, how many rows */
-    LAFKUNO_REFUSED = 7   /* the ground: 2 where there is no such row */
+    LAFKUNO_REFUSED = 16  /* and above: the ground is added to it */
 };
 
-/* Reads one row of an opened column, and answers its kind: LAFKUNO_REFUSED, and nothing is written, where answer_len is not
- * LAFKUNO_ANSWER. The rows of a list are those of its child, opened as a column of its own.
+/* Reads one row of an opened column, and answers its kind; or LAFKUNO_REFUSED and a ground, and nothing is written: 2 where there is no
+ * such row, then 14 where answer_len is not LAFKUNO_ANSWER. The rows of a list are those of its child, opened as a column of its own.
  *   tree      as lafkuno_open_column wrote it.
  *   first     the column's first node in the tables.
  *   row       the row's number.
@@ -213,6 +217,49 @@ uint8_t lafkuno_read_row(const uint64_t *tree, size_t tree_len, const uint64_t *
                          const uint32_t *places, size_t places_len, const uint32_t *buffers, size_t buffers_len,
                          const uint8_t *body, size_t body_len, uint32_t first, uint64_t row,
                          uint64_t *answer, size_t answer_len);
+
+/* The run of a row of a run-end column, and how many rows of the column from that one on stand in it: whoever goes through the rows asks
+ * once a run. 14 where answer_len is not LAFKUNO_RUN; 9, 10 and 12 where the column is malformed; then 10 where it is no run-end column,
+ * and 2 where there is no such row.
+ *   first     its first node in the tables.
+ *   n         how many nodes it has.
+ *   row       the row's number.
+ *   answer    is written: the run, counted from the first run end, and how many rows are left in it, at least 1 and none past the
+ *             column's last. */
+uint8_t lafkuno_run_at(const uint8_t *formats, size_t formats_len, const uint32_t *schema, size_t schema_len,
+                       const uint64_t *lengths, size_t lengths_len, const uint32_t *places, size_t places_len,
+                       const uint32_t *buffers, size_t buffers_len, const uint8_t *body, size_t body_len,
+                       uint32_t first, uint32_t n, uint64_t row, uint64_t *answer, size_t answer_len);
+
+/* The same of an opened column, which is not checked again.
+ *   tree      as lafkuno_open_column wrote it.
+ *   first     the column's first node in the tables.
+ *   row       the row's number.
+ *   answer    is written as by lafkuno_run_at. */
+uint8_t lafkuno_read_run(const uint64_t *tree, size_t tree_len, const uint64_t *lengths, size_t lengths_len,
+                         const uint32_t *places, size_t places_len, const uint8_t *body, size_t body_len,
+                         uint32_t first, uint64_t row, uint64_t *answer, size_t answer_len);
+
+/* ---- beside the join */
+
+/* The frame of the rows start .. end - 1 of a latitude and a longitude column, both of format g. Rows where either is null or not a
+ * number don't count; of equal values the first stays. 14 where room_len is not 4; then 9, 10 and 12 for a malformed column, 2 for a range
+ * outside either column, 10 for a column that is not of f64, 17 where no row counts, each asked of both columns before the next.
+ *   first_a   the first node of the latitudes; n_a, how many nodes they have.
+ *   first_b   the first node of the longitudes; n_b, how many nodes they have.
+ *   room      is written: smallest and largest latitude, smallest and largest longitude. */
+uint8_t lafkuno_frame(const uint8_t *formats, size_t formats_len, const uint32_t *schema, size_t schema_len,
+                      const uint64_t *lengths, size_t lengths_len, const uint32_t *places, size_t places_len,
+                      const uint32_t *buffers, size_t buffers_len, const uint8_t *body, size_t body_len,
+                      uint32_t first_a, uint32_t n_a, uint32_t first_b, uint32_t n_b, uint64_t start, uint64_t end,
+                      double *room, size_t room_len);
+
+/* The frame of two ranges from the frames of both; of equal sides the left one's stays. 14 where one of the three has not 4 numbers.
+ *   left      as lafkuno_frame wrote it.
+ *   right     likewise.
+ *   room      is written. */
+uint8_t lafkuno_join_frames(const double *left, size_t left_len, const double *right, size_t right_len,
+                            double *room, size_t room_len);
 
 #ifdef __cplusplus
 }

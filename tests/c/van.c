@@ -6,6 +6,7 @@
 #include <stdio.h>
 #include <stdlib.h>
 #include <string.h>
+#include <time.h>
 
 /* A column and the tables that describe it (docs/FORMAT.md); the body is at most 512 bytes. */
 struct column {
@@ -72,6 +73,10 @@ static void expect_row(const char *name, const struct column *c, const uint64_t 
                                     c->body_len, first, r, answer, LAFKUNO_ANSWER);
     snprintf(what, sizeof what, "%s, row %d", name, (int)r);
     expect(what, kind, wanted.kind);
+    if (LAFKUNO_REFUSED <= wanted.kind) {
+        free(answer);
+        return;
+    }
     expect(what, answer[3], wanted.id < 0 ? 0 : 1);
     expect(what, answer[4], wanted.id < 0 ? 0 : (uint64_t)wanted.id);
     if (wanted.text) {
@@ -156,12 +161,19 @@ static void open_column(const char *name, const struct column *c, uint32_t first
 
 static void expect_rows(const char *name, const struct column *c, const struct row wanted[5]) {
     uint64_t *tree = lend(NULL, 8 * LAFKUNO_TREE), answer[LAFKUNO_ANSWER] = {7};
-    const struct row none = {LAFKUNO_REFUSED, -1, LAFKUNO_NO_SUCH_ROWS, NULL};
+    const struct row none = {LAFKUNO_REFUSED + LAFKUNO_NO_SUCH_ROWS, -1, 0, NULL};
     open_column(name, c, 0, c->nodes, tree);
     for (uint64_t r = 0; r < 5; r++) expect_row(name, c, tree, 0, r, wanted[r]);
     expect_row(name, c, tree, 0, 5, none);
     expect(name, lafkuno_read_row(tree, LAFKUNO_TREE, c->lengths, 2 * c->nodes, c->places, 9 * c->nodes, no_buffers, 0, c->body, c->body_len,
-                                  0, 0, answer, LAFKUNO_ANSWER - 1), LAFKUNO_REFUSED);
+                                  0, 0, answer, LAFKUNO_ANSWER - 1), LAFKUNO_REFUSED + LAFKUNO_BAD_PARTS);
+    expect(name, lafkuno_read_row(tree, LAFKUNO_TREE, c->lengths, 2 * c->nodes, c->places, 9 * c->nodes, no_buffers, 0, c->body, c->body_len,
+                                  0, 5, answer, LAFKUNO_ANSWER - 1), LAFKUNO_REFUSED + LAFKUNO_NO_SUCH_ROWS);
+    expect(name, answer[0], 7);
+    expect(name, lafkuno_open_column(c->formats, c->formats_len, c->schema, 5 * c->nodes, c->lengths, 2 * c->nodes, c->places, 9 * c->nodes,
+                                     no_buffers, 0, c->body, c->body_len, 0, c->nodes, answer, LAFKUNO_ANSWER), LAFKUNO_BAD_PARTS);
+    expect(name, lafkuno_open_column(c->formats, c->formats_len, c->schema, 5 * c->nodes, c->lengths, 2 * c->nodes, c->places, 9 * c->nodes,
+                                     no_buffers, 0, c->body, 0, 0, c->nodes, answer, LAFKUNO_ANSWER), LAFKUNO_BAD_SOURCE);
     expect(name, answer[0], 7);
     free(tree);
 }
@@ -243,11 +255,86 @@ static void parcels(void) {
     free(below);
 }
 
+/* A plan that no opening wrote: a copy that could not be made in the lent room is refused, and one over a plan whose subtrees fall back ends at once. */
+static void foreign(void) {
+    struct column k = {0}, *c = &k;
+    const int32_t values[3] = {1, 2, 3};
+    buffer(c, node(c, "i", 0, 3, 0), 1, values, sizeof values);
+    const uint32_t n = 1, sources[2] = {0, 1}, count = 1, parts[2] = {0, 12}, *places = c->places;
+    const uint8_t *body = c->body;
+    const uint64_t *lengths = c->lengths;
+    const uint32_t *buffers = no_buffers, *schema = c->schema;
+    const uint8_t *formats = c->formats;
+    uint8_t *room = lend(NULL, 12);
+    uint64_t *plan = lend(NULL, 8 * LAFKUNO_PLAN), *counters = lend(NULL, 8 * LAFKUNO_COUNTERS);
+    expect("foreign", lafkuno_open(TABLES, 0, PARTS, PLAN, COUNTERS, room, 12), LAFKUNO_DONE);
+    plan[865] = 0; /* no node, so no part to ask */
+    expect("no node", lafkuno_copy(PLAN, PARTS, SOURCES, COUNTERS, room, 0, 0, 0, 3), LAFKUNO_BAD_PARTS);
+    expect("no node", lafkuno_measure_copy(PLAN, SOURCES, COUNTERS, 0, 0, 3), LAFKUNO_BAD_PARTS);
+    expect("no node", counters[0], 0);
+    memset(plan, 0, 8 * LAFKUNO_PLAN);
+    plan[864] = 1;
+    plan[865] = 32;
+    plan[5] = 1;
+    for (int i = 0; i < 32; i++) { /* sparse unions, one in the other; the child behind node k ends where k begins, so that k comes again */
+        plan[8 * i] = i < 7 ? 19 : 1;
+        plan[8 * i + 2] = i == 7 ? 7 : (uint64_t)(32 - i);
+        plan[8 * i + 4] = 1;
+    }
+    clock_t begun = clock();
+    expect("fallen", lafkuno_copy(PLAN, PARTS, SOURCES, COUNTERS, room, 12, 0, 0, 1), LAFKUNO_BAD_PARTS);
+    expect("fallen", lafkuno_nulls(PLAN, PARTS, COUNTERS, room, 12, 1), LAFKUNO_BAD_PARTS);
+    expect("fallen", lafkuno_measure_copy(PLAN, SOURCES, COUNTERS, 0, 0, 1), LAFKUNO_BAD_PARTS);
+    expect("at once", clock() - begun < CLOCKS_PER_SEC, 1);
+    free(room);
+    free(plan);
+    free(counters);
+}
+
+/* The ground of the box around rows of both columns; the room must be left as it was where it is refused. */
+static uint8_t frame(const struct column *c, uint64_t start, uint64_t end, double *room) {
+    const double before = room[0];
+    uint8_t ground = lafkuno_frame(c->formats, c->formats_len, c->schema, 5 * c->nodes, c->lengths, 2 * c->nodes, c->places, 9 * c->nodes,
+                                   no_buffers, 0, c->body, c->body_len, 0, 1, 1, 1, start, end, room, 4);
+    if (ground) expect("frame, refused", room[0] == before, 1);
+    return ground;
+}
+
+/* Where the van was: the yard's places, of the rows before the slice, are in no box. */
+static void places(void) {
+    struct column c = {0};
+    const double latitudes[8] = {0, 0, 0, 0, 55.95, 55.97, 12.5, 55.94}, longitudes[8] = {0, 0, 0, 0, -3.19, -3.2, -9, -3.17};
+    const uint8_t bits = 0xbf;
+    uint32_t a = node(&c, "g", 0, 4, 4), b = node(&c, "g", 0, 4, 4);
+    buffer(&c, a, 1, latitudes, sizeof latitudes);
+    buffer(&c, b, 1, longitudes, sizeof longitudes);
+    buffer(&c, b, 0, &bits, 1);
+    double *left = lend(latitudes, 32), *right = lend(latitudes, 32), *both = lend(latitudes, 32), *joined = lend(latitudes, 32);
+    expect("frame", frame(&c, 0, 2, left), LAFKUNO_DONE);
+    expect("frame", frame(&c, 2, 4, right), LAFKUNO_DONE);
+    expect("frame", frame(&c, 0, 4, both), LAFKUNO_DONE);
+    expect("frames joined", lafkuno_join_frames(left, 4, right, 4, joined, 4), LAFKUNO_DONE);
+    expect("frames joined", memcmp(both, joined, 32), 0);
+    expect("south", both[0] == 55.94, 1);
+    expect("north", both[1] == 55.97, 1);
+    expect("west", both[2] == -3.2, 1);
+    expect("east", both[3] == -3.17, 1);
+    expect("frame, null", frame(&c, 2, 3, both), LAFKUNO_NOTHING_COUNTED);
+    expect("frame, past the slice", frame(&c, 2, 5, both), LAFKUNO_NO_SUCH_ROWS);
+    expect("frames joined, three numbers", lafkuno_join_frames(left, 3, right, 4, joined, 4), LAFKUNO_BAD_PARTS);
+    free(left);
+    free(right);
+    free(both);
+    free(joined);
+}
+
 int main(void) {
+    places();
     metres();
     names();
     events();
     parcels();
+    foreign();
     puts(failed ? "not as ordered" : "one van, one stop, two kilometres: as ordered");
     return failed;
 }

@@ -1,7 +1,7 @@
 """Columns of the Arrow Columnar Format as plain buffers, made from rows, laid into one body, and read back.
 
 Rows: None; an int (for `f` and `g` the bits); bytes; a list of rows; (id, row) for a union. A dictionary's row is
-the stored bytes of its entry. Nothing here is taken from the port: it follows the format and document 01."""
+None where the entry that its key names is null, else the stored bytes of that entry. Nothing here is taken from the port: it follows the format and document 01."""
 import struct
 
 WIDTH = {'c': 1, 'C': 1, 's': 2, 'S': 2, 'i': 4, 'I': 4, 'l': 8, 'L': 8, 'f': 4, 'g': 8}
@@ -182,6 +182,7 @@ def read(c, row):
         return read(c.children[1], run)
     key = entry(c.one, WIDTH[c.type.format], slot, c.type.format in 'csil')
     d = c.children[0]
+    if not d.valid(d.offset + key): return None
     if d.type.kind() == 'number':
         w = WIDTH[d.type.format]
         return d.one[(d.offset + key) * w:(d.offset + key + 1) * w]

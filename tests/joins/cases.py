@@ -25,8 +25,9 @@ def kinds():
     yield Type('+ud:9,0', fields[1], fields[0]), [(9, 4), (0, b'b')], [(0, b'c'), (0, None)]
     for f in 'sil': yield Type('+r', Type(f, nullable=False), Type('C')), [1, 1, 2, None, None, 3], [3, 3, 4]
     for f in 'cCsSiIlL': yield Type(f, dictionary=Type('u'), entries=[b'anna', b'', b'bo']), [0, 2, None, 1], [2, 2]
-    yield Type('C', dictionary=Type('l'), entries=[-1, None, 5]), [0, 2, None, 2], [2, 0]
-    yield Type('s', dictionary=Type('Z'), entries=[b'a', None, b'ccc']), [0, 2, None], [2, 0]
+    yield Type('C', dictionary=Type('l'), entries=[-1, None, 5]), [0, 1, None, 2], [2, 1]
+    yield Type('s', dictionary=Type('Z'), entries=[b'a', None, b'ccc']), [1, 2, None], [2, 1]
+    yield Type('+r', Type('s', nullable=False), Type('I', dictionary=Type('u'), entries=[b'a', None])), [0, 0, 1, 1, None], [1, 0]
 
 
 def alone(script):
@@ -113,6 +114,20 @@ def sixteen(script):
     run(script, '16 sources, the last with a slice of the dictionary', other, orders + DONE)
 
 
+# ---- a validity whose only zeros stand before the offset or behind the rows: none is counted, also where the node keeps nulls
+
+def zeros_outside(script):
+    for t, rows, others in kinds():
+        if t.format not in ('C', 'u', 'vu', '+vl'): continue
+        m, holes = len(others), sum(x is None for x in rows)
+        columns = [make(t, rows, before=rows[:2]), sliced(make(t, [None] * 3 + others + [None]), 3, m)]
+        name = t.format + (' with a dictionary of ' + t.dictionary.format if t.dictionary else '') + ', zeros outside the rows'
+        run(script, name, columns, [('copy', 1, 0, m)] + DONE)
+        assert ' finish 0 0 | %d+0 0 no ' % m in script.lines[-1]
+        run(script, name + ', behind nulls', columns, [('copy', 0, 0, len(rows)), ('copy', 1, 0, m), ('copy', 1, 1, m)] + DONE)
+        assert ' finish 0 %d | ' % holes in script.lines[-1] and holes > 0
+
+
 def paged(commands):
     """The program reads pages of 65,536 bytes: a case that would cross their bounds begins on the next."""
     text, case = '', ''
@@ -132,6 +147,7 @@ rooms(script)
 nested(script)
 sixteen(script)
 ground_cases(script)
+zeros_outside(script)
 crate = os.path.join(os.path.dirname(os.path.abspath(__file__)), '..', '..', 'crates', 'vectors_joins')
 with open(os.path.join(crate, 'stdin'), 'w') as f: f.write(paged(script.text))
 with open(os.path.join(crate, 'stdout'), 'w') as f: f.write('\n'.join(script.lines) + '\n')

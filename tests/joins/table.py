@@ -1,5 +1,5 @@
 """Document 01's table of checked rows, through the entry points. What the table says is asserted of the expected columns here."""
-from arrow import Column, Type, entry, keyed, make, numbers, run_column
+from arrow import Column, Type, entry, keyed, make, numbers, read, run_column
 from script import run
 
 DONE = [('finish',), ('rows',)]
@@ -75,3 +75,12 @@ def checked_rows(script):
         same = entries(n)
         run(script, 'K16 of %d' % n, [keyed(keys, [3], same), keyed(keys, [255], same)], [('copy', 0, 0, 1), ('copy', 1, 0, 1)] + DONE)
         assert script.lines[-1].startswith('K16 of %d: open %d' % (n, says))
+
+    names = Type('C', dictionary=Type('u'))
+    ana = make(names.dictionary, [b'Ana', None, b'Bo'], before=[b'x'])
+    depot = keyed(names, [1], make(names.dictionary, [b'Cy', b'Di']))
+    drivers = keyed(names, [0, 1, 2], ana, before=[2])
+    f = run(script, 'K17', [depot, drivers], [('copy', 1, 0, 3)] + DONE, again=(False, [('copy', 0, 1, 3)] + DONE)).node.finished()
+    assert list(f.one) == [2, 3, 4] and [read(f, k) for k in range(3)] == [b'Ana', None, b'Bo'] and (f.nulls(), f.children[0].nulls()) == (0, 1)
+    f = run(script, 'K17 shared', [drivers, drivers], [('copy', 1, 0, 3), ('copy', 0, 1, 2)] + DONE, again=(False, [('copy', 0, 1, 4)] + DONE)).node.finished()
+    assert list(f.one) == [0, 1, 2, 1] and [read(f, k) for k in range(4)] == [b'Ana', None, b'Bo', None] and (f.nulls(), f.children[0].nulls()) == (0, 1)

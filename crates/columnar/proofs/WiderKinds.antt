@@ -16,7 +16,7 @@ use Rattle.columnar.specs.View.{shown, viewAt, ViewRule}
 use Rattle.columnar.specs.ListView.{listViewAt, ListViewRule}
 use Rattle.columnar.specs.Union.{sparseAt, denseAt, SparseRule, DenseRule}
 use Rattle.columnar.specs.RunEnd.{RunEnd, endOf, firstAbove, runEndAt, startOf, RunEndRule}
-use Rattle.columnar.specs.Dictionary.{dictionaryAt, DictionaryRule}
+use Rattle.columnar.specs.Dictionary.{entryAt, dictionaryAt, DictionaryRule}
 use Rattle.columnar.specs.Wider.{Declared, KeyWider, PlainWider, wFixed, wString, Entries, Kept, FixedKept, OffsetsKept, entries, no-entry, TextKept, PlainKept, ViewsKept, ListViewKept, SparseKept, DenseKept, RunEndKept, DictionaryKept}
 use Rattle.columnar.proofs.Items.{number-take}
 use Rattle.columnar.proofs.FirstAbove.{first-same, first-below}
@@ -162,6 +162,15 @@ module _ {P P′ : Type 0} (w w′ : ℕ) (ww : w ≤ w′) {masks masks′ : Bo
 
 -- ---- dictionaries
 
+-- entries show the same
+entries-widen : {p p′ : Plain} (d : PlainWider p p′) → Widens true true (entryAt p) (entryAt p′) (PlainRule p) (PlainRule p′) (PlainKept d)
+entries-widen d =
+    record {
+      masks-same = refl;
+      at-same = λ okay b b′ off len h s i q t. ap bytes (stored-same d okay b b′ off len h i q);
+      rule-same = plain-widens d .rule-same;
+    }
+
 module _ (k k′ : Number) {p p′ : Plain} (kk : KeyWider k k′) (d : PlainWider p p′) where
   pub dictionary-widens : Widens true true (dictionaryAt k p) (dictionaryAt k′ p′) (DictionaryRule k (Obeys true (PlainRule p))) (DictionaryRule k′ (Obeys true (PlainRule p′)))
       (DictionaryKept k k′ (Kept (PlainKept d)))
@@ -169,10 +178,7 @@ module _ (k k′ : Number) {p p′ : Plain} (kk : KeyWider k k′) (d : PlainWid
       record {
         masks-same = refl;
         at-same = λ okay b b′ off len h s i q t.
-            let v = h .same-values in
-            rw (← h .kept i q t, ← v .same-off)
-            (ap bytes (stored-same d (ok (b .values .valid)) (b .values .body) (b′ .values .body) (b .values .off) (b .values .len) (v .same-body)
-            (item (width k) (b .keys) (off + i)) (s .within i q t)));
+            rw (← h .kept i q t) (read-kept (entries-widen d) (h .same-values) (s .child-rule) (item (width k) (b .keys) (off + i)) (s .within i q t));
         rule-same = λ okay okay′ b b′ off len h o s.
             record {
               hold = h .hold;

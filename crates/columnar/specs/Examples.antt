@@ -310,6 +310,40 @@ dictionary-slice =
       reads = bytes (255 ∷ 255 ∷ []) ∷ bytes (10 ∷ 0 ∷ []) ∷ bytes (8 ∷ 2 ∷ []) ∷ [];
     }
 
+-- "a dictionary is permitted to contain duplicate values or nulls": indices 0, 1, 3, 1, 4, 2 of ['foo', 'bar', 'baz', 'foo', null]
+abbrev pub dictionary-nulls : Example
+dictionary-nulls =
+    record {
+      type = tDictionary i32 (string 4);
+      column = array 6 0 none
+          (record {
+            keys = pack 4 (0 ∷ 1 ∷ 3 ∷ 1 ∷ 4 ∷ 2 ∷ []);
+            values = array 5 0 (some (0b00001111 ∷ [])) (record { offsets = pack 4 (0 ∷ 3 ∷ 6 ∷ 9 ∷ 12 ∷ 12 ∷ []); chars = foo ++ bar ++ baz ++ foo });
+            starts = [];
+          });
+      reads = bytes foo ∷ bytes bar ∷ bytes foo ∷ bytes bar ∷ null ∷ bytes baz ∷ [];
+    }
+
+-- entries "Ana", null, "Bo" at offset 1, where the null's slot holds bytes; keys 0, 1, null, 2, 1 at offset 1
+abbrev pub ana : List ℕ
+ana = 65 ∷ 110 ∷ 97 ∷ []
+
+abbrev pub bo : List ℕ
+bo = 66 ∷ 111 ∷ []
+
+abbrev pub drivers : Example
+drivers =
+    record {
+      type = tDictionary u8 (string 4);
+      column = array 5 1 (some (0b00110111 ∷ []))
+          (record {
+            keys = 9 ∷ 0 ∷ 1 ∷ 9 ∷ 2 ∷ 1 ∷ [];
+            values = array 3 1 (some (0b00001011 ∷ [])) (record { offsets = pack 4 (0 ∷ 3 ∷ 6 ∷ 9 ∷ 11 ∷ []); chars = foo ++ ana ++ joe ++ bo });
+            starts = [];
+          });
+      reads = bytes ana ∷ null ∷ null ∷ bytes bo ∷ null ∷ [];
+    }
+
 abbrev pub examples : List Example
 examples =
     bitmap ∷ primitive ∷ no-nulls ∷ strings ∷ strings-slice ∷ no-strings ∷ view ∷ view-slice ∷ list-view ∷ out-of-order ∷ nested ∷ dense ∷ dense-slice ∷ sparse ∷ sparse-slice
@@ -319,6 +353,8 @@ examples =
     ∷ no-runs
     ∷ dictionary
     ∷ dictionary-slice
+    ∷ dictionary-nulls
+    ∷ drivers
     ∷ []
 
 -- a column of any type

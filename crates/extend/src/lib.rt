@@ -9,6 +9,7 @@ ghost use Rattle.walk.specs.State.{codeOf, place};
 ghost use Rattle.walk.specs.Log.{Did};
 ghost use Rattle.walk.specs.Copy.{listViewRow, copyListView, copySparse, denseRow, copyDense, copyRuns, copyData, copyWalk};
 ghost use Rattle.leaf_walk.specs.Join.{join};
+use run_ends::LogicalRow;
 use run_ends::Runs;
 
 // Row r of a list-view: its offset is the child's length before its copy.
@@ -310,7 +311,8 @@ fn extend_run(
     }
     let w = steps::width_at(state, i + 1);
     let last = growth::rows_of(counts, i);
-    match rows::runs_at(lengths, places, body, first, i, w, slot, n) {
+    let start = LogicalRow(slot);
+    match rows::runs_at(lengths, places, body, first, i, w, start, n) {
         Runs::Range { first: run, count } => {
             let g = extend(
                 state,
@@ -343,7 +345,7 @@ fn extend_run(
                 first,
                 i,
                 w,
-                slot,
+                start,
                 n,
                 last,
                 run,

@@ -118,7 +118,7 @@ module _ (x : Lent) (buffers : List ℕ) (tree : Tree) (root : Ty) (m : ℕ) (co
         → Holds (x .plan) (tPlain p) (suc i) e counts μ → Values (freezeNode true (λ b. b) e)
     joined-values s e q held =
         let c = values-copied (x .plan) i (shared m ds) dict (h .joined-word) s in
-        let j = joined p m ds obey (keeps false m (λ j. ds j .values)) m (omega arith) e q in
+        let j = joined p m ds obey m (omega arith) e q in
         let own = own-of (x .plan) (x .parts) counts μ 1 (tPlain p) (suc i) m (λ j. ds j .values .body) (λ z. true) (e .«data») (e .len) (h .words) (held .rows-are) (sound-fine p (λ z. true) (e .«data») (e .len) f (j .sound)) (held .data-are) in
         node-both (suc i) l c e true (masks-code (x .plan) 1 (tPlain p) (suc i) (h .words)) (held .rows-are) (j .bits-are) (held .bits-are) (λ b. b) (ShowsPlain tree Y p (suc i)) (λ b. Unit {0})
         (plain-at (suc i) l c p (e .«data») own) tt

@@ -1,15 +1,19 @@
 -- WHAT IS WRITTEN: "An accepted order writes what it adds and otherwise only the last validity byte's free bits; bytes past the used part are
--- not written." A refused call writes nothing (`call-keeps`, `opening-keeps` in Demand1.antt). Assumes nothing.
-use mathlib.Core.Path.{_≡_, refl, sym, subst}
+-- not written." A refused call writes nothing (`call-keeps`, `opening-keeps` in Demand1.antt). And nothing is left out, whatever is lent: "gets 12
+-- or 14 where it can't be carried out inside the lent memory". Assumes nothing.
+use mathlib.Core.Path.{_≡_}
 use mathlib.Core.Bool.{true}
 use mathlib.Core.List.{List}
-use Prim.Native.Nat.{ℕ}
-use lib.ListN.{length}
+use Prim.Native.Nat.{ℕ, _<_}
+use lib.ListN.{length, replicate}
 use Rattle.model.specs.Book.{Call}
 use Rattle.orders.specs.Sound.{planSound}
-use Rattle.orders.specs.Written.{OnlyAdds, OnlyUsed, walkOf, AllMade}
+use Rattle.orders.specs.Order.{Lent, ordered}
+use Rattle.orders.specs.Written.{walkOf, Counters, OnlyAdds, OnlyUsed, AllMade}
+use Rattle.room.specs.Room.{AllBelow}
+use Rattle.opening.specs.Open.{openWalk}
 use Rattle.orders.proofs.Grows.{Fine}
-use Rattle.orders.proofs.Accepted.{fine-orders, order-adds, order-made}
+use Rattle.orders.proofs.Accepted.{fine-orders, order-made, order-writes, order-adds}
 use Rattle.opening.proofs.Opened.{Opened, orders-after}
 use Rattle.opening.proofs.Written.{opening-fine, opening-sound, opening-writes, opening-made}
 use Rattle.join.specs.Join.{Lending, Bytes, openingOf, lentOf, afterCalls, nextCall}
@@ -39,4 +43,19 @@ module _ (l : Lending) (b : Bytes l) (accepted : openingOf l .ground ≡ 0) wher
         → OnlyAdds (lentOf l .plan) (l .parts) (afterCalls l os .counts) (afterCalls l os .room) (nextCall l os o .counts) (nextCall l os o .room)
     call-adds o h =
         let r = orders-after (l .formats) (l .schema) (l .sources) (l .tables) (l .keep) (l .parts) (openingOf l) opens os .running in
-        order-adds (lentOf l) sound (b .body-bytes) (afterCalls l os .counts) (afterCalls l os .room) fine (r .placed .small) o h (r .lies .are-bytes) (r .placed .apart)
+        order-adds (lentOf l) (b .body-bytes) (afterCalls l os .counts) (afterCalls l os .room) (record { rows-top = fine .rows-top }) o h (r .lies .are-bytes) (r .placed .apart)
+
+-- ---- NOTHING IS LEFT OUT: an answer of 0 says that every write was made
+
+-- AN OPENING, whatever is lent
+pub opening-complete : (l : Lending) → Bytes l → openingOf l .ground ≡ 0 → AllMade (lentOf l .plan) (l .parts) (length (l .room)) (openWalk (lentOf l) (replicate 96 0) .log)
+opening-complete l b h = opening-made (l .formats) (l .schema) (l .sources) (l .tables) (l .keep) (l .parts) (l .plan) (l .counters) (l .room) h (b .body-bytes)
+
+-- AN ORDER, whatever plan, parts, sources, counters and room it is lent: bodies are bytes and counters numbers of 64 bits
+module _ (x : Lent) (body : AllBelow 256 (x .body)) (counts room : List ℕ) (numbers : Counters counts) (o : Call) (answer : ordered x counts room o .ground ≡ 0) where
+  pub order-complete : AllMade (x .plan) (x .parts) (length room) (walkOf x counts o .log)
+  order-complete = order-made x body counts room numbers o answer
+
+  -- .. into used parts alone
+  pub order-inside : AllBelow 256 room → OnlyUsed (x .plan) (x .parts) room (ordered x counts room o .counts) (ordered x counts room o .room)
+  order-inside = order-writes x body counts room numbers o answer

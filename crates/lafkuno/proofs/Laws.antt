@@ -7,8 +7,8 @@ use native.Mathlib.Nat.{zero-add}
 use native.Mathlib.Omega.{arith}
 use lib.ListN.{length, take, drop, getD, set, replicate, drop-of-length-le}
 use lib.Seq.{ext-getD}
-use lib.Dec.{leb, eqb}
-use borrow.Author.Tests.{eq-eqb, ne-eqb, lt-leb, le-leb}
+use lib.Dec.{leb, ltb, eqb}
+use borrow.Author.Tests.{eq-eqb, ne-eqb, lt-leb, le-leb, lt-ltb, le-ltb}
 use Rattle.number.specs.Number.{splice}
 use Rattle.copy.proofs.Laws.{copy-step}
 use Rattle.columnar.specs.Row.{seg}
@@ -27,22 +27,24 @@ pub word-step : (d b : List ℕ) (i : ℕ) → i < length d → i < length b
 word-step d b i h k = rw zero-add at (copy-step d b 0 0 i (rw zero-add h) (rw zero-add k))
 
 module _ (formats schema : List ℕ) (x : Tables) (first n : ℕ) (room : List ℕ) where
-  -- a room that is too short
-  pub short-ground : length room < 256 → 14 ≡ openGround formats schema x first n room
+  -- the column's ground, whatever the room
+  pub column-refused : (g : ℕ) → g ≡ columnGround formats schema x first n → (g ≡ 0 → ⊥) → g ≡ openGround formats schema x first n room
   unfolding openGround
-  short-ground h = rw (lt-leb 256 (length room) h)
+  column-refused g e h = rw (ne-eqb (columnGround formats schema x first n) 0 (λ q. h (e ∙ q))) e
 
-  pub ground-is : 256 ≤ length room → openGround formats schema x first n room ≡ columnGround formats schema x first n
+  -- a room that is too short, or long enough
+  pub short-ground : columnGround formats schema x first n ≡ 0 → length room < 256 → 14 ≡ openGround formats schema x first n room
   unfolding openGround
-  ground-is h = rw (le-leb 256 (length room) h)
+  short-ground e h = rw (eq-eqb (columnGround formats schema x first n) 0 e, lt-leb 256 (length room) h)
+
+  pub no-ground : columnGround formats schema x first n ≡ 0 → 256 ≤ length room → 0 ≡ openGround formats schema x first n room
+  unfolding openGround
+  no-ground e h = rw (eq-eqb (columnGround formats schema x first n) 0 e, le-leb 256 (length room) h)
 
   -- a ground leaves the room as it was
   pub room-kept : (openGround formats schema x first n room ≡ 0 → ⊥) → room ≡ openTree formats schema x first n room
   unfolding openTree
   room-kept h = rw (ne-eqb (openGround formats schema x first n room) 0 h)
-
-  pub short-kept : length room < 256 → room ≡ openTree formats schema x first n room
-  short-kept h = room-kept (λ e. let z : 14 ≡ 0 = short-ground h ∙ e in omega arith)
 
   -- no ground: the tree stands in front
   pub tree-put : openGround formats schema x first n room ≡ 0 → splice 0 (planted formats schema first n) room ≡ openTree formats schema x first n room
@@ -72,32 +74,38 @@ unfolding splice
 splice-whole w d h = rw (drop-of-length-le d {i = 0 + length w} (omega arith)) (append-nil w)
 
 module _ (tree : List ℕ) (x : Tables) (r : ℕ) (answer : List ℕ) where
-  -- an answer of another length
-  pub short-kind : (length answer ≡ 12 → ⊥) → 7 ≡ readKind tree x r answer
-  unfolding readKind
-  short-kind h = rw (ne-eqb (length answer) 12 h)
+  -- the row's ground, an answer of another length, a row
+  module _ (k : ℕ) (e : k ≡ rowKind (rowAt tree x r .read)) where
+    pub kind-refused : 16 ≤ k → k ≡ readKind tree x r answer
+    unfolding readKind
+    kind-refused h = let g : 16 ≤ rowKind (rowAt tree x r .read) = omega arith in rw (le-ltb (rowKind (rowAt tree x r .read)) 16 g) e
 
-  pub short-numbers : (length answer ≡ 12 → ⊥) → answer ≡ readNumbers tree x r answer
+    pub kind-short : k < 16 → (length answer ≡ 12 → ⊥) → 30 ≡ readKind tree x r answer
+    unfolding readKind
+    kind-short h q = let g : rowKind (rowAt tree x r .read) < 16 = omega arith in rw (lt-ltb (rowKind (rowAt tree x r .read)) 16 g, ne-eqb (length answer) 12 q)
+
+    pub kind-read : k < 16 → length answer ≡ 12 → k ≡ readKind tree x r answer
+    unfolding readKind
+    kind-read h q = let g : rowKind (rowAt tree x r .read) < 16 = omega arith in rw (lt-ltb (rowKind (rowAt tree x r .read)) 16 g, eq-eqb (length answer) 12 q) e
+
+  -- a refusal leaves the answer as it was
+  pub answer-kept : (k : ℕ) → k ≡ readKind tree x r answer → 16 ≤ k → answer ≡ readNumbers tree x r answer
   unfolding readNumbers
-  short-numbers h = rw (ne-eqb (length answer) 12 h)
+  answer-kept k e h = let g : 16 ≤ readKind tree x r answer = omega arith in rw (le-ltb (readKind tree x r answer) 16 g)
 
-  pub kind-read : length answer ≡ 12 → rowKind (rowAt tree x r .read) ≡ readKind tree x r answer
-  unfolding readKind
-  kind-read h = rw (eq-eqb (length answer) 12 h)
-
-  numbers-read : length answer ≡ 12 → walkedNumbers (rowAt tree x r) ≡ readNumbers tree x r answer
+  numbers-read : (k : ℕ) → k ≡ readKind tree x r answer → k < 16 → walkedNumbers (rowAt tree x r) ≡ readNumbers tree x r answer
   unfolding readNumbers
-  numbers-read h = rw (eq-eqb (length answer) 12 h)
+  numbers-read k e h = let g : readKind tree x r answer < 16 = omega arith in rw (lt-ltb (readKind tree x r answer) 16 g)
 
   -- the words of what was read, in place of the answer
-  pub row-read : (read : RowRead) (n : ℕ) (ids kept numbers words : List ℕ) → length answer ≡ 12 → length words ≡ 12
+  pub row-read : (k : ℕ) → k ≡ readKind tree x r answer → k < 16 → (read : RowRead) (n : ℕ) (ids kept numbers words : List ℕ) → length answer ≡ 12 → length words ≡ 12
       → read ≡ rowAt tree x r .read → n ≡ length (rowAt tree x r .ids) → ids ≡ splice 0 (rowAt tree x r .ids) (replicate 8 0)
       → kept ≡ ids → numbers ≡ rowNumbers read → words ≡ numbers ++ (n ∷ kept)
       → splice 0 words answer ≡ readNumbers tree x r answer
-  row-read read n ids kept numbers words h l e1 e2 e3 e4 e5 e6 =
+  row-read k ek hk read n ids kept numbers words h l e1 e2 e3 e4 e5 e6 =
       splice-whole words answer (l ∙ sym h)
       ∙ e6
       ∙ ap (λ a. a ++ (n ∷ kept)) (e5 ∙ ap rowNumbers e1)
       ∙ ap (λ k. rowNumbers (rowAt tree x r .read) ++ (k ∷ kept)) e2
       ∙ ap (λ a. rowNumbers (rowAt tree x r .read) ++ (length (rowAt tree x r .ids) ∷ a)) (e4 ∙ e3)
-      ∙ numbers-read h
+      ∙ numbers-read k ek hk

@@ -1,2 +1,3 @@
 -- The laws of `lafkuno`.
 pub mod Laws
+pub mod FrameCalls

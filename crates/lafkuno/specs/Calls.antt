@@ -1,10 +1,10 @@
 -- What the calls over lent columns answer. Assumes nothing.
 use mathlib.Core.Bool.{Bool, not, cond}
 use mathlib.Core.List.{List, [], _∷_, _++_}
-use Prim.Native.Nat.{ℕ, _-_, _^_}
+use Prim.Native.Nat.{ℕ, _+_, _-_, _%_, _^_}
 use lib.ListN.{length, replicate}
 use lib.Ieee.{binary32, binary64, toBits}
-use lib.Dec.{leb, eqb}
+use lib.Dec.{leb, ltb, eqb}
 use Rattle.number.specs.Number.{splice, pattern}
 use Rattle.array_data.specs.Tables.{Tables}
 use Rattle.columns.specs.Grounds.{columnGround}
@@ -18,9 +18,9 @@ use Rattle.parts.specs.declared.Spot.{Spot}
 use Rattle.parts.specs.declared.Spot.the-variants as spot
 
 module _ (formats schema : List ℕ) (x : Tables) (first n : ℕ) where
-  -- the column's ground; 14 where the room does not hold a tree's 256 words
+  -- "9, 10 and 12 for a malformed column before any ground of its own"; then 14 where the room does not hold a tree's 256 words
   unfoldable pub openGround : List ℕ → ℕ
-  openGround room = cond (leb 256 (length room)) (columnGround formats schema x first n) 14
+  openGround room = cond (eqb (columnGround formats schema x first n) 0) (cond (leb 256 (length room)) 0 14) (columnGround formats schema x first n)
 
   -- the tree of an accepted column at the front of the room, which is otherwise left as it was
   unfoldable pub openTree : List ℕ → List ℕ
@@ -46,33 +46,34 @@ leafNumber (leaf.Double x) = toBits binary64 x
 leafNumber (leaf.SingleNan b) = b
 leafNumber (leaf.DoubleNan b) = b
 
--- the kind of what a row reads as: a leaf's, 5 bytes, 6 a list, 7 refused
+-- the kind of what a row reads as: a leaf's, 5 bytes, 6 a list; where it is refused, 16 and the ground
 abbrev pub rowKind : RowRead → ℕ
 rowKind row.Null = 0
 rowKind (row.Number l) = leafKind l
 rowKind (row.Bytes at len) = 5
 rowKind (row.List i a n) = 6
-rowKind (row.Refused g) = 7
+rowKind (row.Refused g) = 16 + g % 64
 
--- its three numbers: the number; where the bytes begin in the body and how many; the list's child node, its first row and how many; the ground
+-- its three numbers: the number; where the bytes begin in the body and how many; the list's child node, its first row and how many
 abbrev pub rowNumbers : RowRead → List ℕ
 rowNumbers row.Null = 0 ∷ 0 ∷ 0 ∷ []
 rowNumbers (row.Number l) = leafNumber l ∷ 0 ∷ 0 ∷ []
 rowNumbers (row.Bytes at len) = at ∷ len ∷ 0 ∷ []
 rowNumbers (row.List i a n) = i ∷ a ∷ n ∷ []
-rowNumbers (row.Refused g) = g ∷ 0 ∷ 0 ∷ []
+rowNumbers (row.Refused g) = 0 ∷ 0 ∷ 0 ∷ []
 
 -- all twelve: then how many unions are on the way to the row, and eight ids, of which those are the first and the rest 0
 abbrev pub walkedNumbers : Walked → List ℕ
 walkedNumbers w = rowNumbers (w .read) ++ (length (w .ids) ∷ splice 0 (w .ids) (replicate 8 0))
 
--- row r of an opened column; where the answer has not twelve numbers it is refused, and left as it was
+-- row r of an opened column: its own ground first, then 14 where the answer has not twelve numbers. A refusal leaves the answer as it was.
 module _ (tree : List ℕ) (x : Tables) (r : ℕ) (answer : List ℕ) where
   unfoldable pub readKind : ℕ
-  readKind = cond (eqb (length answer) 12) (rowKind (rowAt tree x r .read)) 7
+  readKind =
+      cond (ltb (rowKind (rowAt tree x r .read)) 16) (cond (eqb (length answer) 12) (rowKind (rowAt tree x r .read)) (16 + 14)) (rowKind (rowAt tree x r .read))
 
   unfoldable pub readNumbers : List ℕ
-  readNumbers = cond (eqb (length answer) 12) (walkedNumbers (rowAt tree x r)) answer
+  readNumbers = cond (ltb readKind 16) (walkedNumbers (rowAt tree x r)) answer
 
 -- 01: "A node keeps nulls if the caller says so": by a number that is not 0
 abbrev pub keeps : ℕ → Bool

@@ -1,2 +1,3 @@
 -- The definitions that the contracts of `lafkuno` cite.
 pub mod Calls
+pub mod Beside

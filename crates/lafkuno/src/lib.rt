@@ -7,6 +7,8 @@ ghost use Rattle.number.specs.Number.{splice, pattern};
 ghost use Rattle.kind_rules.specs.Rows.{tablesOf};
 ghost use Rattle.columns.specs.Grounds.{columnGround};
 ghost use Rattle.lent_entries.specs.Entries.{column};
+ghost use Rattle.row_reader.specs.Walk.{runAt};
+ghost use Rattle.column_runs.specs.Answers.{readRun, ground, numbers};
 ghost use Rattle.walk.specs.State.{nulls};
 ghost use Rattle.parts.specs.Parts.{nodesOf, partTotal, partAt};
 ghost use Rattle.orders.specs.Order.{copyOrder, nullOrder};
@@ -23,6 +25,8 @@ ghost use Rattle.lafkuno.specs.Calls.{openGround, openTree, leafKind, le
 use leaf_row::Leaf;
 use parts::Spot;
 use slot_reader::RowRead;
+
+mod beside;
 
 // ---- columns
 
@@ -62,7 +66,7 @@ fn copied(tree: [u64; 256]) -> [u64; 256]
     tree
 }
 
-// The ground of a column, 14 where the room for its tree has fewer than 256 words. The tree of an accepted column is written to the
+// The ground of a column, then 14 where the room for its tree has fewer than 256 words. The tree of an accepted column is written to the
 // front of the room, which is otherwise left as it was.
 #[no_mangle]
 pub extern "C" fn lafkuno_open_column(
@@ -79,9 +83,6 @@ pub extern "C" fn lafkuno_open_column(
     ensures { λ r. ⌜ r ≡ openGround (now (formats .entry)) (now (schema .entry)) (tablesOf (now (lengths .entry)) (now (places .entry)) (now (buffers .entry)) (now (body .entry))) first n (now (room .entry)) ⌝ }
     ensures { λ _. ⌜ now (room .exit) ≡ openTree (now (formats .entry)) (now (schema .entry)) (tablesOf (now (lengths .entry)) (now (places .entry)) (now (buffers .entry)) (now (body .entry))) first n (now (room .entry)) ⌝ }
 {
-    if room.len() < 256 {
-        return 14;
-    }
     let mut tree = [0u64; 256];
     let ground = column_reader::open_column(
         formats,
@@ -96,6 +97,9 @@ pub extern "C" fn lafkuno_open_column(
     );
     if ground != 0 {
         return ground;
+    }
+    if room.len() < 256 {
+        return 14;
     }
     let words = copied(tree);
     copy_words(room, &words);
@@ -144,7 +148,10 @@ fn leaf_number(leaf: Leaf) -> u64
     }
 }
 
-// A leaf's kind, 5 bytes, 6 a list, 7 refused.
+// 16 and ground 14.
+const ANSWER_REFUSED: u8 = 30;
+
+// A leaf's kind, 5 bytes, 6 a list; where it is refused, 16 and the ground.
 fn row_kind(read: RowRead) -> u8
     ensures { λ r. ⌜ r ≡ rowKind read ⌝ }
 {
@@ -157,11 +164,11 @@ fn row_kind(read: RowRead) -> u8
             start: _,
             len: _,
         } => 6,
-        RowRead::Refused(_) => 7,
+        RowRead::Refused(ground) => 16 + ground % 64,
     }
 }
 
-// The number; where the bytes begin and how many; the list's child node, its first row and how many; the ground.
+// The number; where the bytes begin and how many; the list's child node, its first row and how many.
 fn row_numbers(read: RowRead) -> [u64; 3]
     ensures { λ r. ⌜ r ≡ rowNumbers read ⌝ }
 {
@@ -170,7 +177,7 @@ fn row_numbers(read: RowRead) -> [u64; 3]
         RowRead::Number(leaf) => [leaf_number(leaf), 0, 0],
         RowRead::Bytes { at, len } => [at as u64, len as u64, 0],
         RowRead::List { node, start, len } => [node as u64, start, len],
-        RowRead::Refused(ground) => [ground as u64, 0, 0],
+        RowRead::Refused(_) => [0, 0, 0],
     }
 }
 
@@ -202,8 +209,8 @@ fn copied_ids(ids: [u8; 8]) -> [u8; 8]
     ids
 }
 
-// The kind of row `row` of an opened column, 7 where the answer has not 12 numbers; they are the row's three numbers, how many unions are on
-// the way to it, and their ids.
+// The kind of row `row` of an opened column: 16 and its ground where it is refused, then 16 and 14 where the answer has not 12 numbers; they are
+// the row's three numbers, how many unions are on the way to it, and their ids. A refusal leaves them as they were.
 #[no_mangle]
 pub extern "C" fn lafkuno_read_row(
     tree: &[u64],
@@ -218,15 +225,70 @@ pub extern "C" fn lafkuno_read_row(
     ensures { λ r. ⌜ r ≡ readKind (now (tree .entry)) (column (now (lengths .entry)) (now (places .entry)) (now (buffers .entry)) (now (body .entry)) first) row (now (answer .entry)) ⌝ }
     ensures { λ _. ⌜ now (answer .exit) ≡ readNumbers (now (tree .entry)) (column (now (lengths .entry)) (now (places .entry)) (now (buffers .entry)) (now (body .entry)) first) row (now (answer .entry)) ⌝ }
 {
-    if answer.len() != 12 {
-        return 7;
-    }
     let mut ids = [0u8; 8];
     let found = row_reader::row_at(tree, lengths, places, buffers, body, first, row, &mut ids);
     let read = found.read;
+    let kind = row_kind(read);
+    if 16 <= kind {
+        return kind;
+    }
+    if answer.len() != 12 {
+        return ANSWER_REFUSED;
+    }
     let words = row_words(row_numbers(read), found.ids, copied_ids(ids));
     copy_words(answer, &words);
-    row_kind(read)
+    kind
+}
+
+// ---- runs
+
+// The ground of asking for the run of row `row` of the column; 0 where there is none, and then the answer's two numbers are the run and how
+// many rows of the column from that one on stand in it.
+#[no_mangle]
+pub extern "C" fn lafkuno_run_at(
+    formats: &[u8],
+    schema: &[u32],
+    lengths: &[u64],
+    places: &[u32],
+    buffers: &[u32],
+    body: &[u8],
+    first: u32,
+    n: u32,
+    row: u64,
+    answer: &mut [u64],
+) -> u8
+    ensures { λ r. ⌜ r ≡ ground (readRun (now (formats .entry)) (now (schema .entry)) (tablesOf (now (lengths .entry)) (now (places .entry)) (now (buffers .entry)) (now (body .entry))) first n row) (now (answer .entry)) ⌝ }
+    ensures { λ _. ⌜ now (answer .exit) ≡ numbers (readRun (now (formats .entry)) (now (schema .entry)) (tablesOf (now (lengths .entry)) (now (places .entry)) (now (buffers .entry)) (now (body .entry))) first n row) (now (answer .entry)) ⌝ }
+{
+    column_runs::run_at(
+        formats,
+        schema,
+        lengths,
+        places,
+        buffers,
+        body,
+        first,
+        n,
+        row,
+        answer,
+    )
+}
+
+// The same of an opened column.
+#[no_mangle]
+pub extern "C" fn lafkuno_read_run(
+    tree: &[u64],
+    lengths: &[u64],
+    places: &[u32],
+    body: &[u8],
+    first: u32,
+    row: u64,
+    answer: &mut [u64],
+) -> u8
+    ensures { λ r. ⌜ r ≡ ground (runAt (now (tree .entry)) (column (now (lengths .entry)) (now (places .entry)) [] (now (body .entry)) first) row) (now (answer .entry)) ⌝ }
+    ensures { λ _. ⌜ now (answer .exit) ≡ numbers (runAt (now (tree .entry)) (column (now (lengths .entry)) (now (places .entry)) [] (now (body .entry)) first) row) (now (answer .entry)) ⌝ }
+{
+    column_runs::run_of_opened(tree, lengths, places, body, first, row, answer)
 }
 
 // ---- opening a join

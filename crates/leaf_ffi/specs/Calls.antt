@@ -1,10 +1,10 @@
 -- When a call of a leaf is done: where its ranges lie inside the slices that it is lent. Assumes nothing.
-use Prim.Native.Nat.{ℕ, zero, suc, _+_, _*_, _%_, _^_}
+use Prim.Native.Nat.{ℕ, zero, suc, _+_, _*_, _-_, _%_, _^_}
 use mathlib.Core.Bool.{Bool, _&&_}
 use mathlib.Core.List.{List}
 use lib.ListN.{getD}
 use lib.Dec.{leb}
-use Rattle.run_ends.specs.Lookup.{foundAt, bisect}
+use Rattle.run_ends.specs.Lookup.{foundRun}
 use Rattle.run_ends.specs.declared.Found.{Found}
 use Rattle.run_ends.specs.declared.Found.the-variants.{Run, Past}
 
@@ -26,11 +26,11 @@ insideBits len at b n = leb (8 * at + b + n) (8 * len)
 
 -- the run of a row, and n where the row is past the last of n runs
 abbrev pub runOf : ℕ → Found → ℕ
-runOf n (Run run end) = run .0
+runOf n (Run run left) = run .0
 runOf n Past = n
 
 -- the runs of the first k of the rows, added modulo 2 ^ 64: each is looked up among the n run ends of w bytes that stand in s from `from` on
 unfoldable pub runSum : ℕ → List ℕ → ℕ → ℕ → List ℕ → ℕ → ℕ
 runSum w s from n rows zero = 0
 runSum w s from n rows (suc k) =
-    (runSum w s from n rows k + runOf n (foundAt w s from n (bisect w s from n (getD rows k 0)))) % 2 ^ 64
+    (runSum w s from n rows k + runOf n (foundRun w s from n (2 ^ 64 - 1) (getD rows k 0))) % 2 ^ 64

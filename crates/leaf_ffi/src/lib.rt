@@ -248,7 +248,7 @@ fn run_of(found: run_ends::Found, n: usize) -> usize
     ensures { λ r. ⌜ r ≡ runOf n found ⌝ }
 {
     match found {
-        run_ends::Found::Run { run, end: _ } => run.0,
+        run_ends::Found::Run { run, left: _ } => run.0,
         run_ends::Found::Past => n,
     }
 }
@@ -263,7 +263,13 @@ fn run_sum_i32(body: &[u8], from: usize, n: usize, rows: &[u64]) -> usize
     while i < rows.len() {
         let row = rows[i];
         let run = run_of(
-            run_ends::find_run_i32(body, from, n, run_ends::LogicalRow(row)),
+            run_ends::find_run_i32(
+                body,
+                from,
+                n,
+                run_ends::LogicalRow(row),
+                run_ends::LogicalRow(u64::MAX),
+            ),
             n,
         );
         sum = std::num::wrapping_add_usize(sum, run);

@@ -1,5 +1,5 @@
--- Runs found by halves and clipped ends, as the model says them. Assumes nothing.
-use mathlib.Core.Path.{_≡_, refl, sym, ap, _∙_}
+-- Runs found by the search and clipped ends, as the model says them. Assumes nothing.
+use mathlib.Core.Path.{_≡_, refl, sym, ap, subst, _∙_}
 use mathlib.Core.Bool.{Bool, true, false, cond}
 use mathlib.Core.List.{List, _++_, append-nil, append-assoc}
 use Prim.Native.Nat.{ℕ, zero, suc, _+_, _-_, _≤_, _<_, min}
@@ -10,10 +10,11 @@ use lib.Dec.{ltb}
 use borrow.Author.Tests.{lt-ltb, le-ltb}
 use Rattle.number.specs.Number.{entry, encode}
 use Rattle.columnar.specs.RunEnd.{firstAbove, startOf}
-use Rattle.run_ends.specs.Lookup.{scan, halve, Climbs, foundAt, bisect, spanned, runsOf}
+use Rattle.run_ends.specs.Lookup.{scan, first, quarter, Climbs, foundAt, foundRun, formatRun, spanned, runsOf, runsBetween, shortened}
 use Rattle.run_ends.specs.declared.Runs.{Runs}
 use Rattle.run_ends.specs.declared.Runs.the-variants.{Range}
-use Rattle.run_ends.proofs.Search.{halve-first}
+use Rattle.run_ends.proofs.Search.{first-is, quarter-first}
+use Rattle.run_ends.proofs.Laws.{short-cut}
 use Rattle.model.specs.Runs.{clipped}
 use Rattle.model.proofs.Ends.{First, Last, Many, in-order, last-run}
 
@@ -44,23 +45,38 @@ module _ (e f : ℕ → ℕ) where
           rises = λ k q. rw (same k (omega arith), same (k + 1) q, add-one) (rises (suc k) (omega arith));
         }
 
-    -- a search by halves answers the first run above the row
-    pub halve-is : (x : ℕ) → halve e x n 0 n ≡ firstAbove f x 0 n
-    halve-is x = halve-first e n x climbs ∙ scan-first x n 0 (λ k q. rw zero-add (same k q))
+    -- the first run above the row, as the format says it
+    pub first-run : (x : ℕ) → first e n x ≡ firstAbove f x 0 n
+    first-run x = scan-first x n 0 (λ k q. rw zero-add (same k q))
+
+    -- the search answers it
+    pub search-is : (x : ℕ) → quarter e x n 0 n ≡ first e n x
+    search-is x = quarter-first e n x climbs
+
+    pub rising : Climbs e n
+    rising = climbs
 
 -- ---- the runs of a range
 
-module _ (w : ℕ) (s : List ℕ) (from n : ℕ) where
-  spans : (j k : ℕ) → j ≤ k → k < n → spanned (foundAt w s from n j) (foundAt w s from n k) ≡ Range (record { 0 = j }) (suc k - j)
-  spans j k h q =
-      rw (lt-ltb j n (omega arith), lt-ltb k n q, le-ltb k j h)
+module _ (w : ℕ) (s : List ℕ) (from n last : ℕ) where
+  spans : (j k x y : ℕ) → j ≤ k → k < n → x < entry w s from j → y < entry w s from k
+      → spanned (foundAt w s from n last x j) (foundAt w s from n last y k) ≡ Range (record { 0 = j }) (suc k - j)
+  spans j k x y h q a b =
+      rw (lt-ltb j n (omega arith), lt-ltb x (entry w s from j) a, lt-ltb k n q, lt-ltb y (entry w s from k) b, le-ltb k j h)
       (ap (Range (record { 0 = j })) (let z : k - j + 1 ≡ suc k - j = omega arith in z))
 
-  pub runs-are : (f : ℕ → ℕ) (a c : ℕ) → ((k : ℕ) → k < n → entry w s from k ≡ f k) → ((r : ℕ) → r < n → startOf f r < f r) → 0 < c → a + c ≤ startOf f n
-      → runsOf (λ r. foundAt w s from n (bisect w s from n r)) a (a + c) ≡ Range (record { 0 = First f n a c }) (Many f n a c)
-  runs-are f a c same rises some within =
-      rw (lt-ltb a (a + c) (omega arith), halve-is (entry w s from) f n same rises a, halve-is (entry w s from) f n same rises (a + c - 1))
-      (spans (First f n a c) (Last f n a c) (in-order f n a c rises some within) (last-run f n a c rises some within))
+pub runs-are : (w : ℕ) (s : List ℕ) (from n : ℕ) (f : ℕ → ℕ) (a c : ℕ) → ((k : ℕ) → k < n → entry w s from k ≡ f k) → ((r : ℕ) → r < n → startOf f r < f r) → 0 < c → a + c ≤ startOf f n
+    → runsOf (foundRun w s from n (a + c)) a (a + c) ≡ Range (record { 0 = First f n a c }) (Many f n a c)
+runs-are w s from n f a c same rises some within =
+    let e = entry w s from in
+    let go : (x : ℕ) → first e n x ≡ firstAbove f x 0 n = first-run e f n same rises in
+    let m : First f n a c ≤ Last f n a c = in-order f n a c rises some within in
+    let l : Last f n a c < n = last-run f n a c rises some within in
+    let above : (x : ℕ) → firstAbove f x 0 n < n → x < e (firstAbove f x 0 n) = λ x h. subst (λ (k : ℕ). k < n → x < e k) (go x) (first-is e n x .above) h in
+    rw (search-is e f n same rises a, search-is e f n same rises (a + c - 1))
+    (short-cut w s from n a (a + c) (rising e f n same rises)
+    ∙ rw (lt-ltb a (a + c) (omega arith), go a, go (a + c - 1))
+    (spans w s from n (a + c) (First f n a c) (Last f n a c) a (a + c - 1) m l (above a (omega arith)) (above (a + c - 1) l)))
 
 -- ---- clipped ends
 

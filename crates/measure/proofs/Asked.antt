@@ -17,11 +17,13 @@ use Rattle.walk.specs.Nulls.{nullWalk}
 use Rattle.parts.specs.Parts.{nodesOf, hasPart, partTotal, numberOf, partAt, needed, sizeAt, partHolds, partsHold, partsWithin, Used, Numbered}
 use Rattle.parts.proofs.Placed.{number-below, part-named}
 use Rattle.columns.specs.Grounds.{sourcesGround}
+use Rattle.orders.specs.Sound.{planSound, walkable}
 use Rattle.orders.specs.Order.{Lent, joinOf, sourceCount, sourceLength, settled, copyOrder, nullOrder}
 use Rattle.orders.specs.Measure.{Measured, measured, copyMeasure, nullMeasure, neededIn, neededBytes}
 use Rattle.opening.specs.Open as start
 use Rattle.opening.specs.Open.{firstOffset, joinSource, joinEntries, keysHold, openDictionary, openWalk, opened, roomPlaced, opening}
 use Rattle.opening.specs.Ask.{openMeasure}
+use Rattle.opening.proofs.Laid.{stood}
 use Rattle.transform.proofs.Laws.{null-state}
 use Rattle.measure.proofs.Placeless.{walk-same}
 
@@ -44,7 +46,12 @@ by-walk plan parts old o = go (eqb (o .ans) 0) refl
     go true e = rw e
     go false e = rw (e, e)
 
-module _ (x : Lent) (counts room : List ℕ) (within : partsWithin (x .plan) (x .parts) (length room) ≡ true) where
+-- the parts lie in a room that is a body
+module _ (x : Lent) (counts room : List ℕ) (within : partsWithin (x .plan) (x .parts) (length room) ≡ true) (small : length room ≤ 4294967295) where
+  walks : walkable (x .plan) (length room) ≡ planSound (x .plan)
+  unfolding walkable
+  walks = rw (le-leb (length room) 4294967295 small)
+
   settled-ground : (o : Out) → settled x counts room o .ground ≡ groundBy x (measured counts o)
   unfolding settled
   settled-ground o = go (eqb (o .ans) 0) (partsHold (x .plan) (o .counts) (x .parts)) refl refl ∙ by-walk (x .plan) (x .parts) counts o
@@ -58,30 +65,33 @@ module _ (x : Lent) (counts room : List ℕ) (within : partsWithin (x .plan) (x 
   -- THE QUESTION OF A COPY HAS THE COPY'S GROUND, 13 apart
   pub copy-asked : (s a e : ℕ) → copyOrder x counts room s a e .ground ≡ groundBy x (copyMeasure counts (unplaced x) s a e)
   unfolding copyOrder copyMeasure
-  copy-asked s a e = go (eqb (length counts) 96) (ltb s (sourceCount (x .plan))) (leb a e && leb e (sourceLength x s)) refl refl refl
+  copy-asked s a e = go (eqb (length counts) 96) (planSound (x .plan)) (ltb s (sourceCount (x .plan))) (leb a e && leb e (sourceLength x s)) refl refl refl refl
     where
       walk : copyWalk (joinOf x s) 8 0 a (e - a) counts ≡ copyWalk (joinOf (unplaced x) s) 8 0 a (e - a) counts
       walk = walk-same (x .plan) (x .parts) [] (x .lengths) (x .places) (x .body) (getD (x .sources) (2 * s) 0) s 8 0 a (e - a) counts
 
-      go : (p q r : Bool) → eqb (length counts) 96 ≡ p → ltb s (sourceCount (x .plan)) ≡ q → (leb a e && leb e (sourceLength x s)) ≡ r
+      go : (p o q r : Bool) → eqb (length counts) 96 ≡ p → planSound (x .plan) ≡ o → ltb s (sourceCount (x .plan)) ≡ q → (leb a e && leb e (sourceLength x s)) ≡ r
           → copyOrder x counts room s a e .ground ≡ groundBy x (copyMeasure counts (unplaced x) s a e)
-      go true true true f g h = rw (f, g, h) (settled-ground (copyWalk (joinOf x s) 8 0 a (e - a) counts) ∙ ap (λ o. groundBy x (measured counts o)) walk)
-      go true true false f g h = rw (f, g, h)
-      go true false r f g h = rw (f, g)
-      go false q r f g h = rw f
+      go true true true true f w g h = rw (f, walks, w, g, h) (settled-ground (copyWalk (joinOf x s) 8 0 a (e - a) counts) ∙ ap (λ o. groundBy x (measured counts o)) walk)
+      go true true true false f w g h = rw (f, walks, w, g, h)
+      go true true false r f w g h = rw (f, walks, w, g)
+      go true false q r f w g h = rw (f, walks, w)
+      go false o q r f w g h = rw f
 
   -- THE QUESTION OF NULLS HAS THEIR GROUND
   pub nulls-asked : (n : ℕ) → nullOrder x counts room n .ground ≡ groundBy x (nullMeasure counts (unplaced x) n)
   unfolding nullOrder nullMeasure
-  nulls-asked n = go (eqb (length counts) 96) (eqb (keepsOf (x .plan) 0) 0) refl refl
+  nulls-asked n = go (eqb (length counts) 96) (planSound (x .plan)) (eqb (keepsOf (x .plan) 0) 0) refl refl refl
     where
       walk : nullWalk (joinOf x 0) 8 0 (min n far) counts ≡ nullWalk (joinOf (unplaced x) 0) 8 0 (min n far) counts
       walk = null-state (x .plan) (x .parts) [] (x .lengths) (x .lengths) (x .places) (x .places) (x .body) (x .body) (getD (x .sources) 0 0) (getD (x .sources) 0 0) 0 0 8 0 (min n far) counts
 
-      go : (p q : Bool) → eqb (length counts) 96 ≡ p → eqb (keepsOf (x .plan) 0) 0 ≡ q → nullOrder x counts room n .ground ≡ groundBy x (nullMeasure counts (unplaced x) n)
-      go true true f g = rw (f, g)
-      go true false f g = rw (f, g) (settled-ground (nullWalk (joinOf x 0) 8 0 (min n far) counts) ∙ ap (λ o. groundBy x (measured counts o)) walk)
-      go false q f g = rw f
+      go : (p o q : Bool) → eqb (length counts) 96 ≡ p → planSound (x .plan) ≡ o → eqb (keepsOf (x .plan) 0) 0 ≡ q
+          → nullOrder x counts room n .ground ≡ groundBy x (nullMeasure counts (unplaced x) n)
+      go true true true f w g = rw (f, walks, w, g)
+      go true true false f w g = rw (f, walks, w, g) (settled-ground (nullWalk (joinOf x 0) 8 0 (min n far) counts) ∙ ap (λ o. groundBy x (measured counts o)) walk)
+      go true false q f w g = rw (f, walks, w)
+      go false o q f w g = rw f
 
 -- ---- the opening
 
@@ -114,7 +124,7 @@ module _ (formats schema sources : List ℕ) (x : Tables) (keep : Bool) (parts p
   unfolding opening start.settled openMeasure
   open-asked l s p few h =
       let o = openWalk lends (replicate 96 0) in
-      rw (l, eq-eqb (sourcesGround formats schema x sources) 0 s, p, eq-eqb (length counts) 96 h, le-leb (sourceCount (lends .plan)) 16 few)
+      rw (l, eq-eqb (sourcesGround formats schema x sources) 0 s, p, eq-eqb (length counts) 96 h, le-leb (sourceCount (lends .plan)) 16 few, stood formats schema x sources s keep .sound)
       (go o (eqb (o .ans) 0) (partsHold (lends .plan) (o .counts) parts) refl refl ∙ by-walk (lends .plan) parts counts o ∙ ap (λ z. groundBy lends (measured counts z)) (open-same lends (replicate 96 0)))
     where
       go : (o : Out) (t b : Bool) → eqb (o .ans) 0 ≡ t → partsHold (lends .plan) (o .counts) parts ≡ b

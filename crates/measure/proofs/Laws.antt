@@ -11,6 +11,7 @@ use Rattle.walk.specs.Log.{Out, Did}
 use Rattle.walk.specs.Copy.{copyWalk}
 use Rattle.walk.specs.Nulls.{nullWalk}
 use Rattle.leaf_walk.specs.Join.{join}
+use Rattle.orders.specs.Sound.{planSound}
 use Rattle.orders.specs.Order.{Lent, sourceCount, sourceLength}
 use Rattle.orders.specs.Measure.{measured, copyMeasure, nullMeasure}
 use Rattle.opening.specs.Open.{openWalk}
@@ -40,12 +41,16 @@ module _ (counts : List ℕ) (x : Lent) (s a e : ℕ) where
   unfolding copyMeasure
   copy-words h = rw (ne-eqb (length counts) 96 h) (record { ground = refl; counts = refl })
 
-  module _ (h : length counts ≡ 96) {m : ℕ} (q : m ≡ sourceCount (x .plan)) where
+  pub copy-foreign : length counts ≡ 96 → planSound (x .plan) ≡ false → Measures (copyMeasure counts x s a e) 14 counts
+  unfolding copyMeasure
+  copy-foreign h w = rw (eq-eqb (length counts) 96 h, w) (record { ground = refl; counts = refl })
+
+  module _ (h : length counts ≡ 96) (w : planSound (x .plan) ≡ true) {m : ℕ} (q : m ≡ sourceCount (x .plan)) where
     pub copy-source : m ≤ s → Measures (copyMeasure counts x s a e) 1 counts
     unfolding copyMeasure
     copy-source f =
         let g : sourceCount (x .plan) ≤ s = subst (λ z. z ≤ s) q f in
-        rw (eq-eqb (length counts) 96 h, le-ltb s (sourceCount (x .plan)) g) (record { ground = refl; counts = refl })
+        rw (eq-eqb (length counts) 96 h, w, le-ltb s (sourceCount (x .plan)) g) (record { ground = refl; counts = refl })
 
     module _ (f : s < m) {first : ℕ} (k : first ≡ getD (x .sources) (2 * s) 0) where
       known : s < sourceCount (x .plan)
@@ -55,7 +60,7 @@ module _ (counts : List ℕ) (x : Lent) (s a e : ℕ) where
       unfolding copyMeasure
       copy-range t =
           let u : (leb a e && leb e (sourceLength x s)) ≡ false = subst (λ z. (leb a e && leb e (getD (x .lengths) (2 * z) 0)) ≡ false) k t in
-          rw (eq-eqb (length counts) 96 h, lt-ltb s (sourceCount (x .plan)) known, u) (record { ground = refl; counts = refl })
+          rw (eq-eqb (length counts) 96 h, w, lt-ltb s (sourceCount (x .plan)) known, u) (record { ground = refl; counts = refl })
 
       pub copy-made : {r : ℕ} {c : List ℕ} → (leb a e && leb e (getD (x .lengths) (2 * first) 0)) ≡ true
           → Measures (measured counts (copyWalk (join (x .plan) (x .parts) (x .lengths) (x .places) (x .body) first s) 8 0 a (e - a) counts)) r c
@@ -63,7 +68,7 @@ module _ (counts : List ℕ) (x : Lent) (s a e : ℕ) where
       unfolding copyMeasure
       copy-made {r} {c} t d =
           let u : (leb a e && leb e (sourceLength x s)) ≡ true = subst (λ z. (leb a e && leb e (getD (x .lengths) (2 * z) 0)) ≡ true) k t in
-          rw (eq-eqb (length counts) 96 h, lt-ltb s (sourceCount (x .plan)) known, u)
+          rw (eq-eqb (length counts) 96 h, w, lt-ltb s (sourceCount (x .plan)) known, u)
           (subst (λ z. Measures (measured counts (copyWalk (join (x .plan) (x .parts) (x .lengths) (x .places) (x .body) z s) 8 0 a (e - a) counts)) r c) k d)
 
 -- ---- nulls
@@ -73,16 +78,20 @@ module _ (counts : List ℕ) (x : Lent) (n : ℕ) where
   unfolding nullMeasure
   null-words h = rw (ne-eqb (length counts) 96 h) (record { ground = refl; counts = refl })
 
-  module _ (h : length counts ≡ 96) {k : ℕ} (q : k ≡ keepsOf (x .plan) 0) where
+  pub null-foreign : length counts ≡ 96 → planSound (x .plan) ≡ false → Measures (nullMeasure counts x n) 14 counts
+  unfolding nullMeasure
+  null-foreign h w = rw (eq-eqb (length counts) 96 h, w) (record { ground = refl; counts = refl })
+
+  module _ (h : length counts ≡ 96) (w : planSound (x .plan) ≡ true) {k : ℕ} (q : k ≡ keepsOf (x .plan) 0) where
     pub null-keeps : k ≡ 0 → Measures (nullMeasure counts x n) 3 counts
     unfolding nullMeasure
-    null-keeps z = rw (eq-eqb (length counts) 96 h, eq-eqb (keepsOf (x .plan) 0) 0 (sym q ∙ z)) (record { ground = refl; counts = refl })
+    null-keeps z = rw (eq-eqb (length counts) 96 h, w, eq-eqb (keepsOf (x .plan) 0) 0 (sym q ∙ z)) (record { ground = refl; counts = refl })
 
     pub null-made : {m r : ℕ} {c : List ℕ} → (k ≡ 0 → ⊥) → m ≡ min n far
         → Measures (measured counts (nullWalk (join (x .plan) (x .parts) [] [] [] 0 0) 8 0 m counts)) r c → Measures (nullMeasure counts x n) r c
     unfolding nullMeasure
     null-made {m} {r} {c} z e d =
-        rw (eq-eqb (length counts) 96 h, ne-eqb (keepsOf (x .plan) 0) 0 (λ y. z (q ∙ y)))
+        rw (eq-eqb (length counts) 96 h, w, ne-eqb (keepsOf (x .plan) 0) 0 (λ y. z (q ∙ y)))
         (subst (λ o. Measures (measured counts o) r c)
         (ap (λ y. nullWalk (join (x .plan) (x .parts) [] [] [] 0 0) 8 0 y counts) e ∙ null-state (x .plan) (x .parts) (x .parts) [] (x .lengths) [] (x .places) [] (x .body) 0 (getD (x .sources) 0 0) 0 0 8 0 (min n far) counts)
         d)
@@ -101,8 +110,14 @@ module _ (counts : List ℕ) (x : Lent) where
         let g : 16 < sourceCount (x .plan) = subst (λ z. 16 < z) q f in
         rw (eq-eqb (length counts) 96 h, lt-leb (sourceCount (x .plan)) 16 g) (record { ground = refl; counts = refl })
 
-    pub open-made : {r : ℕ} {c : List ℕ} → m ≤ 16 → Measures (measured counts (openWalk x (replicate 96 0))) r c → Measures (openMeasure x counts) r c
+    pub open-foreign : m ≤ 16 → planSound (x .plan) ≡ false → Measures (openMeasure x counts) 12 counts
     unfolding openMeasure
-    open-made f d =
+    open-foreign f w =
         let g : sourceCount (x .plan) ≤ 16 = subst (λ z. z ≤ 16) q f in
-        rw (eq-eqb (length counts) 96 h, le-leb (sourceCount (x .plan)) 16 g) d
+        rw (eq-eqb (length counts) 96 h, le-leb (sourceCount (x .plan)) 16 g, w) (record { ground = refl; counts = refl })
+
+    pub open-made : {r : ℕ} {c : List ℕ} → m ≤ 16 → planSound (x .plan) ≡ true → Measures (measured counts (openWalk x (replicate 96 0))) r c → Measures (openMeasure x counts) r c
+    unfolding openMeasure
+    open-made f w d =
+        let g : sourceCount (x .plan) ≤ 16 = subst (λ z. z ≤ 16) q f in
+        rw (eq-eqb (length counts) 96 h, le-leb (sourceCount (x .plan)) 16 g, w) d

@@ -29,6 +29,9 @@ pub fn measure_open(
     if 16 < lent_tables::at_u64(plan, 864) {
         return 12;
     }
+    if !sound::plan_sound(plan) {
+        return 12;
+    }
     let parts = [0u32; 0];
     let mut room = [0u8; 0];
     let mut counts = [0u64; 96];
@@ -66,6 +69,9 @@ pub fn measure_extend(
     ensures { λ r. ⌜ Measures (copyMeasure (now (counters .entry)) (lent (now (plan .entry)) [] (now (sources .entry)) (now (lengths .entry)) (now (places .entry)) (now (body .entry))) source start end) r (now (counters .exit)) ⌝ }
 {
     if counters.len() != 96 {
+        return 14;
+    }
+    if !sound::plan_sound(plan) {
         return 14;
     }
     if lent_tables::at_u64(plan, 864) <= source as u64 {
@@ -107,6 +113,9 @@ pub fn measure_nulls(plan: &[u64], counters: &mut [u64], n: u64) -> u8
     ensures { λ r. ⌜ ((sources lengths places body : List ℕ) → Measures (nullMeasure (now (counters .entry)) (lent (now (plan .entry)) [] sources lengths places body) n) r (now (counters .exit))) ⌝ }
 {
     if counters.len() != 96 {
+        return 14;
+    }
+    if !sound::plan_sound(plan) {
         return 14;
     }
     if growth::keeps_of(plan, 0) == 0 {

@@ -106,7 +106,7 @@ module _ (p : Plain) (m : ℕ) (ds : ℕ → Dictionary (PlainBody p)) (g : (j :
   values-by : shared m ds ≡ false → (e : Mutable (PlainBody p)) → joinedFrom p (λ i. ds i .values) m begin ≡ done e → ByCounter true Bare e (after (theDictionary p m ds) (ds 0 .values))
   values-by s e h =
       subst (ByCounter true Bare e) (sym is-joined)
-      (node-by true (λ b. b) Bare e (joined p m ds g (keeps false m (λ i. ds i .values)) m (omega arith) e h .bits-are)
+      (node-by true (λ b. b) Bare e (joined p m ds g m (omega arith) e h .bits-are)
       (joined-right p (λ i. ds i .values) m begin e (start-right p (λ i. ds i .values) (keeps false m (λ i. ds i .values))) h) tt)
     where
       is-joined : after (theDictionary p m ds) (ds 0 .values) ≡ freezeNode true (λ b. b) e

@@ -10,12 +10,12 @@ use lib.ListN.{length, replicate, getD, length-append, length-replicate}
 use lib.Dec.{T, ltb, eqb}
 use borrow.Author.Tests.{ltb-true, eqb-true}
 use Rattle.number.specs.Number.{encode}
-use Rattle.columnar.specs.Row.{Row, null, bytes, seg}
+use Rattle.columnar.specs.Row.{Row, null, seg}
 use Rattle.columnar.specs.Types.{Number, i8, u8, i16, u16, i32, u32, i64, u64, f32, f64, width, limit, Plain, tDictionary}
-use Rattle.columnar.specs.Array.{Array, item, ok, Obeys}
+use Rattle.columnar.specs.Array.{Array, item, ok, readWith, Obeys}
 use Rattle.columnar.specs.Entries.{encodes}
-use Rattle.columnar.specs.Plain.{PlainBody, stored, PlainRule}
-use Rattle.columnar.specs.Dictionary.{Dictionary, dictionaryAt, DictionaryRule}
+use Rattle.columnar.specs.Plain.{PlainBody, PlainRule}
+use Rattle.columnar.specs.Dictionary.{Dictionary, entryAt, dictionaryAt, DictionaryRule}
 use Rattle.columnar.proofs.Items.{item-left, item-right, item-encodes-lt, length-encodes}
 use Rattle.model.specs.Try.{Try, done, then, guard, after}
 use Rattle.model.specs.Opening.{present, keeps, sameList, ptrEq, shared, entriesBefore, startOfKeys, keysFit, allKeysFit}
@@ -27,9 +27,9 @@ use Rattle.model.proofs.Law.{Put, Law}
 use Rattle.model.proofs.Bits.{length-seg, getD-seg}
 use Rattle.model.proofs.Nodes.{KeysFine, dictionaryKind}
 use Rattle.model.proofs.Owed.{SameEntries}
-use Rattle.model.proofs.Present.{present-obeys}
+use Rattle.model.proofs.Present.{present-obeys, present-read}
 use Rattle.model.proofs.Pieces.{below-add}
-use Rattle.model.proofs.Joined.{done-is, then-done, Joined, joined, joined-obeys, entries-before}
+use Rattle.model.proofs.Joined.{done-is, then-done, Joined, joined, joined-reads, joined-obeys, entries-before}
 
 and-left : (a b : Bool) → (a && b) ≡ true → a ≡ true
 and-left true b e = refl
@@ -50,7 +50,7 @@ pub record Whole (k : Number) (p : Plain) (m : ℕ) (ds : ℕ → Dictionary (Pl
   pub obeyed : 0 < m → Obeys true (PlainRule p) v
   pub known : (j : ℕ) → j < m → (e : ℕ) → e < ds j .values .len → startOfKeys m ds j + e < v .len
   pub same : (j : ℕ) → j < m → (e : ℕ) → e < ds j .values .len
-      → stored p (v .body) (v .off + (startOfKeys m ds j + e)) ≡ stored p (ds j .values .body) (ds j .values .off + e)
+      → readWith (entryAt p) v (startOfKeys m ds j + e) ≡ readWith (entryAt p) (ds j .values) e
   pub small : (j : ℕ) → j < m → (e : ℕ) → e < ds j .values .len → startOfKeys m ds j + e < limit k
 
 -- ground 8 does not stand
@@ -94,7 +94,7 @@ module _ (k : Number) (p : Plain) (m : ℕ) (ds : ℕ → Dictionary (PlainBody 
   -- source 0's dictionary has what source j's has
   record AsFirst (j : ℕ) : Type 0 where
     as-long : ds j .values .len ≡ ds 0 .values .len
-    as-stored : (e : ℕ) → e < ds j .values .len → stored p (ds 0 .values .body) (ds 0 .values .off + e) ≡ stored p (ds j .values .body) (ds j .values .off + e)
+    as-stored : (e : ℕ) → e < ds j .values .len → readWith (entryAt p) (ds 0 .values) e ≡ readWith (entryAt p) (ds j .values) e
 
   as-first : shared m ds ≡ true → SameEntries p m ds → (j : ℕ) → j < m → AsFirst j
   as-first s h zero q = record { as-long = refl; as-stored = λ e t. refl }
@@ -115,7 +115,7 @@ module _ (k : Number) (p : Plain) (m : ℕ) (ds : ℕ → Dictionary (PlainBody 
       record {
         obeyed = λ q. present-obeys p (ds 0 .values) (g 0 q);
         known = λ j q e t. rw (start-shared k m ds j s, zero-add, ← as-first s h j q .as-long) t;
-        same = λ j q e t. rw (start-shared k m ds j s, zero-add) (as-first s h j q .as-stored e t);
+        same = λ j q e t. rw (start-shared k m ds j s, zero-add) (present-read (ds 0 .values) (entryAt p) e (rw (← as-first s h j q .as-long) t) ∙ as-first s h j q .as-stored e t);
         small = small-keys;
       }
 
@@ -124,7 +124,7 @@ module _ (k : Number) (p : Plain) (m : ℕ) (ds : ℕ → Dictionary (PlainBody 
       record {
         obeyed = λ q. joined-obeys p ds m d h;
         known = λ j q e t. rw (start-joined k m ds j s, h .len-is) (omega (arith, entries-before p ds j m q));
-        same = λ j q e t. rw (start-joined k m ds j s, zero-add) (h .entries j q e t);
+        same = λ j q e t. rw (start-joined k m ds j s) (joined-reads p ds m d h j q e t);
         small = small-keys;
       }
 
@@ -146,7 +146,7 @@ module _ (k : Number) (p : Plain) (m : ℕ) (ds : ℕ → Dictionary (PlainBody 
       go true s e = subst (Whole k p m ds) (done-is e) (whole-shared s h)
       go false s e =
           let r = then-done (joinedFrom p (λ i. ds i .values) m begin) (λ e. done (freezeNode true (λ b. b) e)) v e in
-          subst (Whole k p m ds) (done-is (r .1 .1)) (whole-joined s (r .0) (joined p m ds g keep m (omega arith) (r .0) (r .1 .0)))
+          subst (Whole k p m ds) (done-is (r .1 .1)) (whole-joined s (r .0) (joined p m ds g m (omega arith) (r .0) (r .1 .0)))
 
 pub whole : (k : Number) (p : Plain) (m : ℕ) (ds : ℕ → Dictionary (PlainBody p)) → ((j : ℕ) → j < m → Obeys true (PlainRule p) (ds j .values))
     → openData (tDictionary k p) m ds ≡ done tt → SameEntries p m ds → Whole k p m ds (after (theDictionary p m ds) (ds 0 .values))
@@ -207,7 +207,7 @@ module _ (k : Number) (m entries : ℕ) (b : ℕ → Bool) (d : List ℕ) (l : �
 module _ (k : Number) (p : Plain) (m : ℕ) (xs : ℕ → Array (Dictionary (PlainBody p))) (g : (j : ℕ) → j < m → Obeys true (DictionaryRule k (Obeys true (PlainRule p))) (xs j))
     (v : Array (PlainBody p)) (h : Whole k p m (λ i. xs i .body) v) where
   abbrev see : List ℕ → ℕ → Row
-  see d i = bytes (stored p (v .body) (v .off + item (width k) d i))
+  see d i = readWith (entryAt p) v (item (width k) d i)
 
   abbrev PutKeys : (ℕ → Bool) → List ℕ → ℕ → ℕ → (ℕ → Bool) → (ℕ → Row) → List ℕ → Type 0
   PutKeys = Put see (KeysFine k m (v .len)) (λ d. Unit {0})
@@ -237,10 +237,10 @@ module _ (k : Number) (p : Plain) (m : ℕ) (xs : ℕ → Array (Dictionary (Pla
             (λ i r t.
             let u : T (ok (xs j .valid) (a + i)) = rw (e i r) at t in
             rw (key i r u) (h .small j q (keyOf j (a + i)) (inside i r u), h .known j q (keyOf j (a + i)) (inside i r u)));
-        old = λ i r. ap (λ x. bytes (stored p (v .body) (v .off + x))) (old-key k m (v .len) b d l f n new long i r);
+        old = λ i r. ap (readWith (entryAt p) v) (old-key k m (v .len) b d l f n new long i r);
         new = λ i r t.
-            ap (λ x. bytes (stored p (v .body) (v .off + x))) (put-key k m (v .len) b d l f n new long i ∙ key i r t)
-            ∙ ap bytes (h .same j q (keyOf j (a + i)) (inside i r t));
+            ap (readWith (entryAt p) v) (put-key k m (v .len) b d l f n new long i ∙ key i r t)
+            ∙ h .same j q (keyOf j (a + i)) (inside i r t);
         keeps = λ x. tt;
       }
 
@@ -249,7 +249,7 @@ module _ (k : Number) (p : Plain) (m : ℕ) (xs : ℕ → Array (Dictionary (Pla
       let w = length-replicate {A = ℕ} (n * width k) 0 in
       record {
         ends = λ b′ o e. keys-fine k m (v .len) b d l f n (replicate (n * width k) 0) w b′ o (λ i q t. absurd (rw (e i q) at t));
-        old = λ i q. ap (λ x. bytes (stored p (v .body) (v .off + x))) (old-key k m (v .len) b d l f n (replicate (n * width k) 0) w i q);
+        old = λ i q. ap (readWith (entryAt p) v) (old-key k m (v .len) b d l f n (replicate (n * width k) 0) w i q);
         new = λ i q t. absurd t;
         keeps = λ x. tt;
       }

@@ -1,5 +1,5 @@
 -- The dictionaries of all sources joined: each one's entries stand in it, null or not, from the entries of earlier sources on. Assumes nothing.
-use mathlib.Core.Path.{_≡_, refl, sym, ap, _∙_, subst}
+use mathlib.Core.Path.{_≡_, refl, sym, ap, ap₂, _∙_, subst}
 use mathlib.Core.Bool.{Bool, true, false, cond}
 use mathlib.Core.Option.{Option, none, some}
 use mathlib.Core.List.{List, [], append-nil}
@@ -10,23 +10,24 @@ use native.Mathlib.Omega.{arith}
 use lib.ListN.{length}
 use Rattle.number.specs.Number.{encode}
 use Rattle.number.proofs.Laws.{length-encode}
-use Rattle.columnar.specs.Row.{seg}
+use Rattle.columnar.specs.Row.{bytes, seg}
 use Rattle.columnar.specs.Types.{Plain, fixed, string}
-use Rattle.columnar.specs.Array.{Array, ok, Mask, Obeys}
+use Rattle.columnar.specs.Array.{Array, ok, sight, readWith, Mask, Obeys}
 use Rattle.columnar.specs.Plain.{Text, PlainBody, stored, StringRule, empty, full, PlainRule}
-use Rattle.columnar.specs.Dictionary.{Dictionary}
+use Rattle.columnar.specs.Dictionary.{Dictionary, entryAt}
 use Rattle.columnar.proofs.Items.{item-last}
 use Rattle.model.specs.Try.{Try, done, stop, then}
-use Rattle.model.specs.Opening.{entriesBefore}
+use Rattle.model.specs.Opening.{keeps, entriesBefore}
 use Rattle.model.specs.Mutable.{Mutable, zeros, counted, validity, pack, grow, startNode, extendNode, freezeNode}
 use Rattle.model.specs.Primitive.{plainExtend, plainStart}
 use Rattle.model.specs.Transform.{joinedFrom}
 use Rattle.model.proofs.Agree.{Agrees, both, neither}
-use Rattle.model.proofs.Law.{BitsFor}
+use Rattle.model.proofs.Law.{bitAt, BitsFor}
 use Rattle.model.proofs.Bits.{length-seg}
-use Rattle.model.proofs.Node.{grow-bits}
+use Rattle.model.proofs.Node.{valid-bit, grow-bits, grow-old, copied-bit}
 use Rattle.model.proofs.Nodes.{TextFine, plainFine}
 use Rattle.model.proofs.PlainLaw.{plain-copies, plain-obeys}
+use Rattle.model.proofs.Start.{no-null-in, none-has}
 
 -- ---- answers
 
@@ -126,26 +127,38 @@ module _ (p : Plain) (ds : ℕ → Dictionary (PlainBody p)) where
     pub sound : Sound p (d .«data») (d .len)
     pub entries : (i : ℕ) → i < j → (e : ℕ) → e < ds i .values .len
         → stored p (d .«data») (entriesBefore ds i + e) ≡ stored p (ds i .values .body) (ds i .values .off + e)
+    pub entry-bits : (i : ℕ) → i < j → (e : ℕ) → e < ds i .values .len → bitAt true (d .bits) (entriesBefore ds i + e) ≡ ok (ds i .values .valid) (ds i .values .off + e)
 
   start-bits : (b : Bool) → BitsFor true (cond b (some []) none) 0
   start-bits true = refl
   start-bits false = tt
 
   join-start : (b : Bool) → Joined 0 (startNode b (plainStart p))
-  join-start b = record { bits-are = start-bits b; len-is = refl; sound = sound-start p; entries = λ i q. absurd (omega arith) }
+  join-start b = record { bits-are = start-bits b; len-is = refl; sound = sound-start p; entries = λ i q. absurd (omega arith); entry-bits = λ i q. absurd (omega arith) }
 
   -- the next one behind
   join-step : (j : ℕ) (d : Mutable (PlainBody p)) → Joined j d → (x : PlainBody p) → Appended p (ds j .values .body) (ds j .values .off) (ds j .values .len) (d .«data») (d .len) x
       → (c : ℕ) (vs : List Bool) → length vs ≡ ds j .values .len
+      → ((e : ℕ) → e < ds j .values .len → bitAt true (grow true vs (d .bits)) (d .len + e) ≡ ok (ds j .values .valid) (ds j .values .off + e))
       → Joined (suc j) (record { len = d .len + ds j .values .len; null_count = c; bits = grow true vs (d .bits); «data» = x })
-  join-step j d h x a c vs lv =
+  join-step j d h x a c vs lv lb =
       record {
         bits-are = grow-bits true (d .bits) (d .len) (ds j .values .len) vs lv (h .bits-are);
         len-is = rw (h .len-is);
         sound = a .sound;
         entries = λ i r e t. go i r e t (decLt i j);
+        entry-bits = λ i r e t. bits-go i r e t (decLt i j);
       }
     where
+      bits-go : (i : ℕ) → i < suc j → (e : ℕ) → e < ds i .values .len → Dec (i < j)
+          → bitAt true (grow true vs (d .bits)) (entriesBefore ds i + e) ≡ ok (ds i .values .valid) (ds i .values .off + e)
+      bits-go i r e t (yes y) =
+          grow-old true (d .bits) (d .len) (entriesBefore ds i + e) vs (h .bits-are) (omega (arith, h .len-is, entries-before i j y)) ∙ h .entry-bits i y e t
+      bits-go i r e t (no y) =
+          let z : i ≡ j = omega arith in
+          let t′ : e < ds j .values .len = rw z at t in
+          rw (z, ← h .len-is) (lb e t′)
+
       go : (i : ℕ) → i < suc j → (e : ℕ) → e < ds i .values .len → Dec (i < j)
           → stored p x (entriesBefore ds i + e) ≡ stored p (ds i .values .body) (ds i .values .off + e)
       go i r e t (yes y) = a .old (entriesBefore ds i + e) (omega (arith, h .len-is, entries-before i j y)) ∙ h .entries i y e t
@@ -153,6 +166,13 @@ module _ (p : Plain) (ds : ℕ → Dictionary (PlainBody p)) where
           let z : i ≡ j = omega arith in
           let t′ : e < ds j .values .len = rw z at t in
           rw (z, ← h .len-is) (a .new e t′)
+
+  -- an entry of the finished dictionary reads as it did
+  pub joined-reads : (j : ℕ) (d : Mutable (PlainBody p)) → Joined j d → (i : ℕ) → i < j → (e : ℕ) → e < ds i .values .len
+      → readWith (entryAt p) (freezeNode true (λ b. b) d) (entriesBefore ds i + e) ≡ readWith (entryAt p) (ds i .values) e
+  joined-reads j d h i q e t =
+      rw zero-add
+      (ap₂ sight (valid-bit true (d .bits) (d .len) (entriesBefore ds i + e) (h .bits-are) (omega (arith, h .len-is, entries-before i j q)) ∙ h .entry-bits i q e t) (ap bytes (h .entries i q e t)))
 
   -- the finished dictionary obeys the rules of a source
   pub joined-obeys : (j : ℕ) (d : Mutable (PlainBody p)) → Joined j d → Obeys true (PlainRule p) (freezeNode true (λ b. b) d)
@@ -163,13 +183,14 @@ module _ (p : Plain) (ds : ℕ → Dictionary (PlainBody p)) where
       }
 
 -- joining the first j of m sources
-module _ (p : Plain) (m : ℕ) (ds : ℕ → Dictionary (PlainBody p)) (g : (j : ℕ) → j < m → Obeys true (PlainRule p) (ds j .values)) where
+module _ (p : Plain) (m : ℕ) (ds : ℕ → Dictionary (PlainBody p)) (g : (j : ℕ) → j < m → Obeys true (PlainRule p) (ds j .values))
+    (keep : Bool) (none-null : keep ≡ false → (j : ℕ) → j < m → (e : ℕ) → e < ds j .values .len → ok (ds j .values .valid) (ds j .values .off + e) ≡ true) where
   abbrev dicts : ℕ → Array (PlainBody p)
   dicts i = ds i .values
 
-  join-node : (j : ℕ) → j < m → (x : Mutable (PlainBody p)) → Joined p ds j x → (d : Mutable (PlainBody p))
+  join-node : (j : ℕ) → j < m → (x : Mutable (PlainBody p)) → (x .bits ≡ none → keep ≡ false) → Joined p ds j x → (d : Mutable (PlainBody p))
       → extendNode true (λ ss i. plainExtend p (ss i)) dicts j 0 (ds j .values .len) x ≡ done d → Joined p ds (suc j) d
-  join-node j q x h d e =
+  join-node j q x k h d e =
       let v = ds j .values in
       let vs = seg (ok (v .valid)) (v .off + 0) (v .len) in
       let c = x .null_count + counted (x .bits) (zeros vs) in
@@ -178,10 +199,41 @@ module _ (p : Plain) (m : ℕ) (ds : ℕ → Dictionary (PlainBody p)) (g : (j :
       let y : plainExtend p (v .body) (v .off) (v .len) (x .len) (x .«data») ≡ done (s .0)
       = ap (λ a. plainExtend p (v .body) a (v .len) (x .len) (x .«data»)) (sym (add-zero (v .off))) ∙ s .1 .0 in
       subst (Joined p ds (suc j)) (done-is (s .1 .1))
-      (join-step p ds j x h (s .0) (appended p (ok (v .valid)) (v .body) (v .off) (v .len) (x .len) (x .«data») (s .0) (g j q .slots) (h .sound) y) c vs (length-seg (ok (v .valid)) (v .off + 0) (v .len)))
+      (join-step p ds j x h (s .0) (appended p (ok (v .valid)) (v .body) (v .off) (v .len) (x .len) (x .«data») (s .0) (g j q .slots) (h .sound) y) c vs (length-seg (ok (v .valid)) (v .off + 0) (v .len))
+      (λ i r. copied-bit true (v .valid) (x .bits) (x .len) (v .off + 0) (v .len) i (v .off + v .len) (g j q .mask) (h .bits-are) (λ z. rw add-zero (none-null (k z) j q i r)) r ∙ rw add-zero))
 
-  pub joined : (keep : Bool) (j : ℕ) → j ≤ m → (d : Mutable (PlainBody p)) → joinedFrom p dicts j (startNode keep (plainStart p)) ≡ done d → Joined p ds j d
-  joined keep zero q d e = subst (Joined p ds 0) (done-is e) (join-start p ds keep)
-  joined keep (suc j) q d e =
+  kept-start : (b : Bool) → _≡_ {A = Option (List Bool)} (cond b (some []) none) none → b ≡ false
+  kept-start true e = cc
+  kept-start false e = refl
+
+  kept-grown : (vs : List Bool) (b : Option (List Bool)) → grow true vs b ≡ none → b ≡ none
+  kept-grown vs none e = refl
+  kept-grown vs (some l) e = cc
+
+  -- the bits are there where nulls are kept
+  kept-node : (j : ℕ) (x d : Mutable (PlainBody p)) → (x .bits ≡ none → keep ≡ false) → extendNode true (λ ss i. plainExtend p (ss i)) dicts j 0 (ds j .values .len) x ≡ done d
+      → d .bits ≡ none → keep ≡ false
+  kept-node j x d k e z =
+      let v = ds j .values in
+      let vs = seg (ok (v .valid)) (v .off + 0) (v .len) in
+      let s = then-done (plainExtend p (v .body) (v .off + 0) (v .len) (x .len) (x .«data»))
+      (λ b. done (record { len = x .len + v .len; null_count = x .null_count + counted (x .bits) (zeros vs); bits = grow true vs (x .bits); «data» = b })) d e in
+      k (kept-grown vs (x .bits) (ap (λ (y : Mutable (PlainBody p)). y .bits) (done-is (s .1 .1)) ∙ z))
+
+  record Both (j : ℕ) (d : Mutable (PlainBody p)) : Type 0 where
+    is-joined : Joined p ds j d
+    is-kept : d .bits ≡ none → keep ≡ false
+
+  joined-both : (j : ℕ) → j ≤ m → (d : Mutable (PlainBody p)) → joinedFrom p dicts j (startNode keep (plainStart p)) ≡ done d → Both j d
+  joined-both zero q d e = subst (Both 0) (done-is e) (record { is-joined = join-start p ds keep; is-kept = kept-start keep })
+  joined-both (suc j) q d e =
       let r = then-done (joinedFrom p dicts j (startNode keep (plainStart p))) (λ x. extendNode true (λ ss i. plainExtend p (ss i)) dicts j 0 (ds j .values .len) x) d e in
-      join-node j q (r .0) (joined keep j (omega arith) (r .0) (r .1 .0)) d (r .1 .1)
+      let b = joined-both j (omega arith) (r .0) (r .1 .0) in
+      record { is-joined = join-node j q (r .0) (b .is-kept) (b .is-joined) d (r .1 .1); is-kept = kept-node j (r .0) d (b .is-kept) (r .1 .1) }
+
+-- the first j of m dictionaries joined, from where an opening starts
+pub joined : (p : Plain) (m : ℕ) (ds : ℕ → Dictionary (PlainBody p)) → ((j : ℕ) → j < m → Obeys true (PlainRule p) (ds j .values)) → (j : ℕ) → j ≤ m → (d : Mutable (PlainBody p))
+    → joinedFrom p (λ i. ds i .values) j (startNode (keeps false m (λ i. ds i .values)) (plainStart p)) ≡ done d → Joined p ds j d
+joined p m ds g j q d e =
+    joined-both p m ds g (keeps false m (λ i. ds i .values))
+    (λ z i l. no-null-in (ok (ds i .values .valid)) (ds i .values .off) (ds i .values .len) (none-has m (λ i. ds i .values) z i l)) j q d e .is-joined

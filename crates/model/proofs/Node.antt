@@ -72,7 +72,7 @@ grow-count false vs (some l) c h = tt
 grow-count true vs (some l) c h = rw zeros-append (omega arith)
 
 -- a copied row's bit is its source's
-copied-bit : (masks : Bool) (v : Option (List ℕ)) (b : Option (List Bool)) (l s n i z : ℕ) → Mask masks v z → BitsFor masks b l → (b ≡ none → ok v (s + i) ≡ true) → i < n
+pub copied-bit : (masks : Bool) (v : Option (List ℕ)) (b : Option (List Bool)) (l s n i z : ℕ) → Mask masks v z → BitsFor masks b l → (b ≡ none → ok v (s + i) ≡ true) → i < n
     → bitAt masks (grow masks (seg (ok v) s n) b) (l + i) ≡ ok v (s + i)
 copied-bit masks v none l s n i z hm h e q = sym (e refl)
 copied-bit false none (some x) l s n i z hm h e q = refl

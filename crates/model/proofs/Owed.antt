@@ -3,11 +3,12 @@
 use mathlib.Core.Path.{_≡_}
 use mathlib.Core.Bool.{Bool, true}
 use mathlib.Core.List.{List, List·Memᴰ}
-use Prim.Native.Nat.{ℕ, _+_, _^_, _≤_, _<_}
+use Prim.Native.Nat.{ℕ, _^_, _≤_, _<_}
 use lib.ListN.{length}
 use Rattle.columnar.specs.Types.{Plain, Ty, tPlain, tView, tListView, tSparse, tDense, tRunEnd, tDictionary}
-use Rattle.columnar.specs.Plain.{PlainBody, stored}
-use Rattle.columnar.specs.Dictionary.{Dictionary}
+use Rattle.columnar.specs.Array.{readWith}
+use Rattle.columnar.specs.Plain.{PlainBody}
+use Rattle.columnar.specs.Dictionary.{Dictionary, entryAt}
 use Rattle.columnar.specs.Reading.{Body}
 use Rattle.model.specs.Try.{done}
 use Rattle.model.specs.Opening.{ptrEq}
@@ -18,7 +19,7 @@ use Rattle.model.specs.Transform.{openData}
 abbrev pub SameEntries : (p : Plain) → ℕ → (ℕ → Dictionary (PlainBody p)) → Type 0
 SameEntries p m ds =
     (i j : ℕ) → i < m → j < m → ptrEq (ds i) (ds j) ≡ true → (e : ℕ) → e < ds i .values .len
-    → stored p (ds i .values .body) (ds i .values .off + e) ≡ stored p (ds j .values .body) (ds j .values .off + e)
+    → readWith (entryAt p) (ds i .values) e ≡ readWith (entryAt p) (ds j .values) e
 
 abbrev pub Ready : (t : Ty) → ℕ → (ℕ → Body t) → Type 0
 Ready (tPlain p) = λ m ss. Unit {0}

@@ -1,23 +1,26 @@
 -- Two dictionaries that stand in one body from the same positions on, with the same offset and length, hold the same entries. Assumes nothing.
-use mathlib.Core.Path.{_≡_, refl, sym, ap, ap₂, _∙_}
+use mathlib.Core.Path.{_≡_, refl, sym, ap, ap₂, _∙_, subst}
 use mathlib.Core.Bool.{Bool, true, false, _&&_}
+use mathlib.Core.Option.{Option, none, some}
 use mathlib.Core.List.{List, [], _∷_}
-use Prim.Native.Nat.{ℕ, zero, suc, _+_, _-_, _*_, _≤_, _<_}
+use Prim.Native.Nat.{ℕ, zero, suc, _+_, _-_, _*_, _/_, _%_, _^_, _≤_, _<_}
 use native.Mathlib.Nat.{add-zero}
 use native.Mathlib.Numerals.{add-one}
 use native.Mathlib.Omega.{arith}
-use lib.ListN.{length, take, drop}
-use lib.Seq.{take-take}
+use lib.ListN.{length, take, drop, getD}
+use lib.Seq.{take-take, getD-take}
 use lib.Dec.{eqb}
 use borrow.Author.Tests.{eqb-true}
 use Rattle.number.specs.Number.{number}
 use Rattle.columnar.specs.Types.{Plain, fixed, string, width}
-use Rattle.columnar.specs.Array.{item, Obeys}
+use Rattle.columnar.specs.Row.{Row, bytes}
+use Rattle.columnar.specs.Array.{Array, item, bit, ok, sight, readWith, Mask, Obeys}
 use Rattle.columnar.specs.Plain.{Text, PlainBody, span, stored, Offsets, StringRule, empty, full, PlainRule}
-use Rattle.columnar.specs.Dictionary.{Dictionary}
+use Rattle.columnar.specs.Dictionary.{Dictionary, entryAt}
 use Rattle.columnar.proofs.Items.{number-take, entry-end}
 use Rattle.model.specs.Opening.{sameList, ptrEq}
-use Rattle.model.specs.Sources.{Stretch, Buffers, StandsFrom, Stands}
+use Rattle.model.specs.Sources.{Stretch, Buffers, ValidFrom, StandsFrom, Stands}
+use Rattle.model.proofs.Start.{no-null-in}
 use Rattle.model.proofs.Owed.{SameEntries}
 
 -- ---- what `ptr_eq` says
@@ -109,16 +112,45 @@ after-first : List ℕ → List ℕ
 after-first [] = []
 after-first (x ∷ l) = l
 
-entry-there : (body : List ℕ) (p : Plain) (b : PlainBody p) (l : List ℕ) → StandsFrom body p b l → (okay : ℕ → Bool) (off len e : ℕ) → PlainRule p okay b off len → e < len
-    → stored p b (off + e) ≡ stored p (rest body p (after-first l)) (off + e)
-unfolding after-first
-entry-there body p b [] s okay off len e r q = absurd s
-entry-there body p b (x ∷ l) s okay off len e r q = entry-part body p b l s okay off len e r q
+-- the validity that reaches to the end of the body; none where no row is null
+valid-rest : List ℕ → List ℕ → Option (List ℕ)
+valid-rest body [] = none
+valid-rest body (zero ∷ l) = none
+valid-rest body (suc at ∷ l) = some (drop at body)
 
--- TWO DICTIONARIES THAT ARE THE SAME ONE HOLD THE SAME ENTRIES
+-- a bit that the validity holds is the body's
+bit-part : (body : List ℕ) (at : ℕ) (m : List ℕ) → Stretch body at m → (i : ℕ) → i < 8 * length m → bit m i ≡ bit (drop at body) i
+unfolding bit
+bit-part body at m h i q =
+    let e : getD m (i / 8) 0 ≡ getD (drop at body) (i / 8) 0 = ap (λ s. getD s (i / 8) 0) h ∙ getD-take (length m) (drop at body) (i / 8) 0 (omega arith) in
+    ap (λ (x : ℕ). eqb (x / 2 ^ (i % 8) % 2) 1) e
+
+mask-in : (m : List ℕ) (o : Option (List ℕ)) (n : ℕ) → o ≡ some m → Mask true o n → n ≤ 8 * length m
+mask-in m none n e h = absurd (let z : _≡_ {A = ℕ} 0 1 = cc in omega arith)
+mask-in m (some x) n e h = let z : x ≡ m = cc in subst (λ (y : List ℕ). n ≤ 8 * length y) z h
+
+valid-there : {B : Type 0} (body : List ℕ) (v : Array B) (at : ℕ) (l : List ℕ) → ValidFrom body v at → Mask true (v .valid) (v .off + v .len) → (e : ℕ) → e < v .len
+    → ok (v .valid) (v .off + e) ≡ ok (valid-rest body (at ∷ l)) (v .off + e)
+unfolding valid-rest
+valid-there body v zero l h k e q = no-null-in (ok (v .valid)) (v .off) (v .len) h e q
+valid-there body v (suc at) l h k e q =
+    ap (λ o. ok o (v .off + e)) (h .1 .0) ∙ bit-part body at (h .0) (h .1 .1) (v .off + e) (omega (arith, mask-in (h .0) (v .valid) (v .off + v .len) (h .1 .0) k))
+
+-- entry e of values that stand in the body from these positions on
+shown-there : List ℕ → (p : Plain) → List ℕ → ℕ → Row
+shown-there body p l i = sight (ok (valid-rest body l) i) (bytes (stored p (rest body p (after-first l)) i))
+
+entry-there : (body : List ℕ) (p : Plain) (v : Array (PlainBody p)) (l : List ℕ) → StandsFrom body p v l → Obeys true (PlainRule p) v → (e : ℕ) → e < v .len
+    → readWith (entryAt p) v e ≡ shown-there body p l (v .off + e)
+unfolding after-first shown-there
+entry-there body p v [] s r e q = absurd s
+entry-there body p v (x ∷ l) s r e q =
+    ap₂ sight (valid-there body v x l (s .0) (r .mask) e q) (ap bytes (entry-part body p (v .body) l (s .1) (ok (v .valid)) (v .off) (v .len) e (r .slots) q))
+
+-- TWO DICTIONARIES THAT ARE THE SAME ONE HOLD THE SAME ENTRIES, null or not
 pub same-entries : (body : List ℕ) (m : ℕ) (p : Plain) (ds : ℕ → Dictionary (PlainBody p)) → ((j : ℕ) → j < m → Obeys true (PlainRule p) (ds j .values))
     → ((j : ℕ) → j < m → Stands body p (ds j)) → SameEntries p m ds
 same-entries body m p ds r s i j hi hj h e q =
-    entry-there body p (ds i .values .body) (ds i .starts) (s i hi) _ (ds i .values .off) (ds i .values .len) e (r i hi .slots) q
+    entry-there body p (ds i .values) (ds i .starts) (s i hi) (r i hi) e q
     ∙ rw (same-off (ds i) (ds j) h, same-starts (ds i) (ds j) h)
-    (sym (entry-there body p (ds j .values .body) (ds j .starts) (s j hj) _ (ds j .values .off) (ds j .values .len) e (r j hj .slots) (rw (← same-len (ds i) (ds j) h) q)))
+    (sym (entry-there body p (ds j .values) (ds j .starts) (s j hj) (r j hj) e (rw (← same-len (ds i) (ds j) h) q)))

@@ -46,7 +46,7 @@ or-right : (a b : Bool) → a || b ≡ false → b ≡ false
 or-right true b e = absurd (let z : true ≡ false = e in let y : _≡_ {A = ℕ} 0 1 = cc in omega arith)
 or-right false b e = e
 
-none-has : {B : Type 0} (m : ℕ) (xs : ℕ → Array B) → anyNull m xs ≡ false → (j : ℕ) → j < m → nullCount (xs j) ≡ 0
+pub none-has : {B : Type 0} (m : ℕ) (xs : ℕ → Array B) → anyNull m xs ≡ false → (j : ℕ) → j < m → nullCount (xs j) ≡ 0
 none-has zero xs e j q = absurd (omega arith)
 none-has (suc m) xs e j q = go (decLt j m) (none-has m xs (or-left (anyNull m xs) _ e) j)
   where

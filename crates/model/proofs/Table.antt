@@ -4,15 +4,16 @@ use Rattle.number.specs.Number.{number, encode}
 use mathlib.Core.Bool.{true}
 use lib.ListN.{replicate}
 use Rattle.columnar.specs.Array.{item, bit}
+use Rattle.model.specs.Mutable.{pack}
 use Rattle.model.specs.Table.{given, expected, obeyed}
 use Rattle.model.specs.CutTable.{cutsGiven, cutsExpected}
 
 pub the-table : given ≡ expected
-unfolding number encode item
+unfolding number encode item bit pack
 the-table = refl
 
 -- its sources pass ground 12
-pub the-sources : obeyed ≡ replicate 22 true
+pub the-sources : obeyed ≡ replicate 25 true
 unfolding number encode item bit
 the-sources = refl
 

@@ -15,5 +15,6 @@ pub mod Orders
 pub mod Held
 pub mod Counters
 pub mod Cut
+pub mod TableRows
 pub mod Table
 pub mod CutTable

@@ -3,10 +3,11 @@
 use mathlib.Core.Path.{_≡_}
 use mathlib.Core.Option.{Option, none, some}
 use mathlib.Core.List.{List, [], _∷_, List·Memᴰ}
-use Prim.Native.Nat.{ℕ, _≤_, _<_}
+use Prim.Native.Nat.{ℕ, zero, suc, _≤_, _<_}
 use lib.ListN.{length, take, drop}
 use Rattle.columnar.specs.Types.{Plain, fixed, string, Ty, tPlain, tView, tListView, tSparse, tDense, tRunEnd, tDictionary}
 use Rattle.columnar.specs.Formed.{Formed}
+use Rattle.columnar.specs.Array.{Array, nullCount}
 use Rattle.columnar.specs.Plain.{PlainBody}
 use Rattle.columnar.specs.View.{Views}
 use Rattle.columnar.specs.Dictionary.{Dictionary}
@@ -44,13 +45,18 @@ Buffers body (string w) b [] = ⊥
 Buffers body (string w) b (at ∷ []) = ⊥
 Buffers body (string w) b (at ∷ too ∷ l) = Stretch body at (b .offsets) × Stretch body too (b .chars)
 
+-- the validity begins one before this position; 0 where no row is null
+abbrev pub ValidFrom : {B : Type 0} → List ℕ → Array B → ℕ → Type 0
+ValidFrom body v zero = nullCount v ≡ 0
+ValidFrom body v (suc at) = (m : List ℕ) × ((v .valid ≡ some m) × Stretch body at m)
+
 -- "All sources are described by positions in one lent body": `starts` has where the values' validity begins, then their buffers
-abbrev pub StandsFrom : List ℕ → (p : Plain) → PlainBody p → List ℕ → Type 0
-StandsFrom body p b [] = ⊥
-StandsFrom body p b (at ∷ l) = Buffers body p b l
+abbrev pub StandsFrom : List ℕ → (p : Plain) → Array (PlainBody p) → List ℕ → Type 0
+StandsFrom body p v [] = ⊥
+StandsFrom body p v (at ∷ l) = ValidFrom body v at × Buffers body p (v .body) l
 
 abbrev pub Stands : List ℕ → (p : Plain) → Dictionary (PlainBody p) → Type 0
-Stands body p d = StandsFrom body p (d .values .body) (d .starts)
+Stands body p d = StandsFrom body p (d .values) (d .starts)
 
 -- M SOURCES OF A JOIN, in this body
 pub record Sources (t : Ty) (body : List ℕ) (m : ℕ) (ss : ℕ → Column t) : Type 0 where

@@ -1,4 +1,4 @@
--- The starred rows K1 to K12 of 01's table of checked rows, and K16: what the definitions give, and what 01 says. Assumes nothing.
+-- The starred rows K1 to K12 of 01's table of checked rows, K16 and K17: what the definitions give, and what 01 says. Assumes nothing.
 use mathlib.Core.Bool.{Bool, true, false, cond}
 use mathlib.Core.Option.{Option, none, some}
 use mathlib.Core.List.{List, [], _∷_, _++_}
@@ -7,18 +7,19 @@ use lib.ListN.{replicate}
 use Rattle.number.specs.Number.{encode}
 use Rattle.columnar.specs.Row.{seg}
 use Rattle.columnar.specs.Types.{Number, i8, u8, i32, Plain, fixed, string, Ty, tPlain, tListView, tDense, tRunEnd, tDictionary}
-use Rattle.columnar.specs.Array.{Array, item}
+use Rattle.columnar.specs.Array.{Array, item, nullCount}
 use Rattle.columnar.specs.Plain.{Text}
 use Rattle.columnar.specs.ListView.{ListView}
 use Rattle.columnar.specs.Union.{Dense}
 use Rattle.columnar.specs.RunEnd.{RunEnd}
 use Rattle.columnar.specs.Dictionary.{Dictionary}
-use Rattle.columnar.specs.Reading.{Body, Column}
+use Rattle.columnar.specs.Reading.{Body, Column, readAll}
 use Rattle.columnar.specs.Test.{test}
 use Rattle.model.specs.Try.{Try, done, stop, then, mapTry}
 use Rattle.model.specs.Mutable.{Mutable}
 use Rattle.model.specs.Book.{Call, copy, nulls}
-use Rattle.model.specs.Transform.{Destination, tryWithCapacities, tryExtend, tryExtendNulls}
+use Rattle.model.specs.Transform.{Destination, tryWithCapacities, tryExtend, tryExtendNulls, intoBuilder}
+use Rattle.model.specs.TableRows.{rowsShown}
 
 -- numbers of w bytes, and back: n of them
 abbrev pub coded : ℕ → List ℕ → List ℕ
@@ -138,6 +139,49 @@ k16masked first second =
     mapTry (λ (d : Destination (tDictionary u8 (fixed u8))). d .«data»)
     (joined (tDictionary u8 (fixed u8)) false 2 (sources (maskedAt first) (maskedAt second ∷ [])) (copy 1 0 1 ∷ []))
 
+-- ---- a dictionary with a null entry: K17
+
+abbrev pub named : Ty
+named = tDictionary u8 (string 4)
+
+-- keys 0, 1, 2 of the entries Ana, null and Bo; and the same behind another key and another entry, at offset 1
+abbrev pub drivers : Column named
+drivers =
+    whole 3
+    (record {
+      keys = 0 ∷ 1 ∷ 2 ∷ [];
+      values = record { len = 3; off = 0; valid = some (0b101 ∷ []); body = record { offsets = coded 4 (0 ∷ 3 ∷ 3 ∷ 5 ∷ []); chars = 65 ∷ 110 ∷ 97 ∷ 66 ∷ 111 ∷ [] } };
+      starts = 1 ∷ 8 ∷ 24 ∷ [];
+    })
+
+abbrev pub driversSliced : Column named
+driversSliced =
+    record {
+      len = 3;
+      off = 1;
+      valid = none;
+      body =
+          record {
+            keys = 2 ∷ 0 ∷ 1 ∷ 2 ∷ [];
+            values = record { len = 3; off = 1; valid = some (0b1011 ∷ []); body = record { offsets = coded 4 (0 ∷ 1 ∷ 4 ∷ 4 ∷ 6 ∷ []); chars = 46 ∷ 65 ∷ 110 ∷ 97 ∷ 66 ∷ 111 ∷ [] } };
+            starts = 33 ∷ 40 ∷ 60 ∷ [];
+          };
+    }
+
+-- another dictionary of two, without nulls
+abbrev pub depot : Column named
+depot = whole 1 (record { keys = 1 ∷ []; values = whole 2 (record { offsets = coded 4 (0 ∷ 1 ∷ 2 ∷ []); chars = 67 ∷ 68 ∷ [] }); starts = 0 ∷ 70 ∷ 82 ∷ [] })
+
+-- the keys, the running null count, the finished null counts of the keys and of the values, then the rows
+abbrev pub keysShown : (ℕ → Column named) → Destination named → List ℕ
+keysShown ss d =
+    let x = intoBuilder named 2 ss d in
+    d .«data» ++ (d .null_count ∷ nullCount x ∷ nullCount (x .body .values) ∷ []) ++ rowsShown (readAll named x)
+
+-- source 1's rows behind source 0's dictionary
+abbrev pub k17 : Column named → Column named → Try (List ℕ)
+k17 x y = let ss = sources x (y ∷ []) in mapTry (keysShown ss) (joined named false 2 ss (copy 1 0 3 ∷ []))
+
 -- ---- list-views and dense unions: K11, K12
 
 -- over a child of 10 rows; and one row that is all of such a child
@@ -206,6 +250,9 @@ given =
     ∷ k16 257 255
     ∷ k16masked 5 5  -- "validity likewise": shared, so the key stays
     ∷ k16masked 5 6  -- not shared: it is rebased
+    ∷ k17 depot drivers  -- K17
+    ∷ k17 depot driversSliced
+    ∷ k17 driversSliced driversSliced  -- shared: the dictionary is kept
     ∷ []
 
 -- and what 01 says, with what stood there before
@@ -231,6 +278,9 @@ expected =
     ∷ stop 8
     ∷ done (0 ∷ [])
     ∷ done (2 ∷ [])
+    ∷ done (2 ∷ 3 ∷ 4 ∷ 0 ∷ 0 ∷ 1 ∷ 4 ∷ 65 ∷ 110 ∷ 97 ∷ 0 ∷ 3 ∷ 66 ∷ 111 ∷ [])  -- Ana, null, Bo
+    ∷ done (2 ∷ 3 ∷ 4 ∷ 0 ∷ 0 ∷ 1 ∷ 4 ∷ 65 ∷ 110 ∷ 97 ∷ 0 ∷ 3 ∷ 66 ∷ 111 ∷ [])
+    ∷ done (0 ∷ 1 ∷ 2 ∷ 0 ∷ 0 ∷ 1 ∷ 4 ∷ 65 ∷ 110 ∷ 97 ∷ 0 ∷ 3 ∷ 66 ∷ 111 ∷ [])
     ∷ []
 
 -- ---- ground 12 of every source above: each obeys the rules of a source
@@ -259,4 +309,7 @@ obeyed =
     ∷ test (tListView 4 (tPlain (fixed u8))) listTen
     ∷ test fives sevens
     ∷ test fives twoFives
+    ∷ test named drivers
+    ∷ test named driversSliced
+    ∷ test named depot
     ∷ []

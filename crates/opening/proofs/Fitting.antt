@@ -75,7 +75,7 @@ module _ (x : Lent) (laid : Laid (x .plan)) (c : List ℕ) (μ : Memory) (m : �
 
     module _ (e : Mutable (PlainBody p)) (joined-is : joinedAll p m ds ≡ done e) (held : Holds (x .plan) (tPlain p) (suc i) e c μ) (whole : copied (x .plan) (suc i) ≡ true) where
       entries : Joined p ds m e
-      entries = joined p m ds obey (keeps false m (λ j. ds j .values)) m (omega arith) e joined-is
+      entries = joined p m ds obey m (omega arith) e joined-is
 
       own : Own (x .plan) (x .parts) c μ (suc i) (plainBuffers p (e .«data»))
       own =

@@ -41,6 +41,7 @@ use Rattle.plan.specs.Plan.{flag, keepWord, withKeeps, joinedWord, withJoined, 
 use Rattle.plan.specs.Opened.{OpenedBelow, Opened}
 use Rattle.plan.proofs.Words.{sources-are}
 use Rattle.plan.proofs.Typed as planned-words
+use Rattle.orders.specs.Sound.{planSound}
 use Rattle.orders.proofs.Cover.{Laid}
 use Rattle.orders.proofs.Step.{Joined}
 use Rattle.opening.specs.Open.{opened}
@@ -175,8 +176,8 @@ module _ (formats schema sources : List ℕ) (x : Tables) (keep : Bool) (ok : so
         ready (x .body) m (given .few) (same-entries (x .body) m) t ss (given .obey) (given .few-buffers) (given .stand) o
 
     -- WHAT EVERY ORDER IS LENT IS A JOIN of these sources
-    pub joined : (parts : List ℕ) → AllBelow 256 (x .body) → Laid plan → nodesOf plan ≡ endOf plan 0 → Joined (opened formats schema sources x keep parts) t m ss
-    joined parts bytes laid all =
+    pub joined : (parts : List ℕ) → AllBelow 256 (x .body) → Laid plan → nodesOf plan ≡ endOf plan 0 → planSound plan ≡ true → Joined (opened formats schema sources x keep parts) t m ss
+    joined parts bytes laid all sound =
         record {
           some-source = some-sources formats schema sources x keep ok;
           count-is = sources-are formats schema x sources keep (few-sources formats schema sources x keep ok) (few-nodes formats schema sources x keep ok);
@@ -184,5 +185,6 @@ module _ (formats schema sources : List ℕ) (x : Tables) (keep : Bool) (ok : so
               opened-one formats schema x (firstOf sources) (columns.nodesOf sources) plan m (taken formats schema sources x keep ok) parts s l (based s l) all-ready;
           laid = laid;
           all-nodes = all;
+          sound = sound;
           body-bytes = bytes;
         }

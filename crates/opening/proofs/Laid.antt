@@ -248,15 +248,15 @@ module _ (formats schema : List ℕ) (first n : ℕ) (state : List ℕ)
     unfolding kindSound
     kind-sound = go (leb (codeOf state i) 10) refl
       where
+        shaped-by : (a b : Bool) → isListView (codeOf state i) ≡ a → isRunEnd (codeOf state i) ≡ b → cond a (ltb (suc i) (endOf state i)) (cond b (endsSound state i) true) ≡ true
+        shaped-by true b f g = lt-ltb (suc i) (endOf state i) (list-in f)
+        shaped-by false true f g = ends-sound (let z = between-both 21 21 (codeOf state i) g in omega (arith, z .0, z .1))
+        shaped-by false false f g = refl
+
         go : (b : Bool) → leb (codeOf state i) 10 ≡ b
-            → cond b true (eqb (dictionaryOf state i) 0 && onlyIf (isListView (codeOf state i)) (ltb (suc i) (endOf state i)) && onlyIf (isRunEnd (codeOf state i)) (endsSound state i)) ≡ true
+            → cond b true (eqb (dictionaryOf state i) 0 && cond (isListView (codeOf state i)) (ltb (suc i) (endOf state i)) (cond (isRunEnd (codeOf state i)) (endsSound state i) true)) ≡ true
         go true e = refl
-        go false e =
-            rw (
-              no-keys (omega (arith, leb-false (codeOf state i) 10 e)),
-              only-if (isListView (codeOf state i)) (ltb (suc i) (endOf state i)) (λ h. lt-ltb (suc i) (endOf state i) (list-in h)),
-              only-if (isRunEnd (codeOf state i)) (endsSound state i) (λ h. ends-sound (let z = between-both 21 21 (codeOf state i) h in omega (arith, z .0, z .1))),
-            )
+        go false e = rw (no-keys (omega (arith, leb-false (codeOf state i) 10 e))) (shaped-by (isListView (codeOf state i)) (isRunEnd (codeOf state i)) refl refl)
 
     nest-sound : nestedIn state i ≡ true
     unfolding nestedIn

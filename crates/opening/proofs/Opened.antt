@@ -164,7 +164,7 @@ module _ (formats schema sources : List ℕ) (x : Tables) (keep : Bool) (parts :
           let lie : partsPlaced parts (partTotal (lent .plan)) (length room) ≡ true = and-right (eqb (length plan) 872 && eqb (length counts) 96) (partsPlaced parts (partTotal (lent .plan)) (length room)) placed in
           rw (le-leb _ _ small, eq-eqb _ _ ok, placed)
           (opening-step formats schema sources x keep parts t m ss plan counts room (g .kept) (g .entries) (stands .placed parts (length room) lie small) (stands .within parts (length room) lie) room-bytes
-          (λ o. joined formats schema sources x keep ok o parts body-bytes (stands .laid) (stands .all-nodes)) (walk.opens lent t m ss keep g) (opens-used lent t m ss keep g))
+          (λ o. joined formats schema sources x keep ok o parts body-bytes (stands .laid) (stands .all-nodes) (stands .sound)) (walk.opens lent t m ss keep g) (opens-used lent t m ss keep g))
 
       opens-ground : {p : Try (Destination t)} {a : Opening} → Opens formats schema sources x keep parts t m ss plan counts room p a → a .ground ≡ groundOf p
       opens-ground (opens d a g pl join μ run joins) = g

@@ -1,21 +1,24 @@
 -- What an accepted opening has found of the sources: they are those that the walk and the model ask for. Assumes nothing.
 use mathlib.Core.Path.{_≡_, refl, sym, ap, subst, _∙_}
-use mathlib.Core.Bool.{Bool, true, false, not, _||_, false≢true}
+use mathlib.Core.Bool.{Bool, true, false, not, cond, _||_, false≢true}
+use mathlib.Core.Option.{none, some}
 use mathlib.Core.List.{List, [], _∷_}
 use Prim.Native.Nat.{ℕ, zero, suc, _+_, _≤_, _<_}
+use native.Mathlib.Nat.{zero-add}
 use native.Mathlib.Omega.{arith}
 use lib.ListN.{length, take, drop}
-use lib.Dec.{T, leb}
-use borrow.Author.Tests.{leb-true}
+use lib.Dec.{T, leb, eqb}
+use borrow.Author.Tests.{leb-true, eqb-true, eqb-false}
 use Rattle.columnar.specs.Types.{Plain, fixed, string, Ty, tPlain, tView, tListView, tSparse, tDense, tRunEnd, tDictionary}
+use Rattle.columnar.specs.Array.{ok, nullsIn, nullCount}
 use Rattle.columnar.specs.Reading.{Column, Source}
 use Rattle.formats.specs.Code.{isView}
-use Rattle.model.specs.Sources.{EachView, EachDictionary, StandsFrom, Stands, Sources}
+use Rattle.model.specs.Sources.{EachView, EachDictionary, ValidFrom, StandsFrom, Stands, Sources}
 use Rattle.model.proofs.Bits.{length-seg}
 use Rattle.schema.specs.Tree.{every, codeOf, ceilings, typed}
 use Rattle.schema.proofs.Known.{every-at, within-nodes}
-use Rattle.array_data.specs.Tables.{Tables, place}
-use Rattle.array_data.specs.Typed.{Tree, nodeOf, Means, tablesFrom, starts, plainBody, bodyOf}
+use Rattle.array_data.specs.Tables.{Tables, lengthOf, offsetOf, place, part, arrayWith}
+use Rattle.array_data.specs.Typed.{Tree, nodeOf, Means, tablesFrom, validStart, starts, plainBody, bodyOf}
 use Rattle.lent.specs.Lent.{treeOf, typeOf}
 use Rattle.lent.proofs.Ids.{both}
 use Rattle.lent.proofs.Lent.{formed}
@@ -39,12 +42,33 @@ take-whole zero s = refl
 take-whole (suc n) [] = refl
 take-whole (suc n) (b ∷ s) = ap (b ∷_) (take-whole n s)
 
+no-nulls : (a n : ℕ) → nullsIn (ok none) a n ≡ 0
+no-nulls a zero = refl
+no-nulls a (suc n) = rw zero-add (no-nulls (suc a) n)
+
 module _ (tree : Tree) (own : Tables) where
+  -- validity begins where the tables say, or nowhere if no row of node k is null
+  valid-from : {B : Type 0} (b : B) (k : ℕ) → ValidFrom (own .body) (arrayWith own b k) (validStart own k)
+  valid-from b k = go (eqb (nullCount {B = Unit {0}} (arrayWith own tt k)) 0) refl (eqb (place own k 0) 0) refl
+    where
+      many : ℕ
+      many = nullCount {B = Unit {0}} (arrayWith own tt k)
+
+      go : (z : Bool) → eqb many 0 ≡ z → (v : Bool) → eqb (place own k 0) 0 ≡ v → ValidFrom (own .body) (arrayWith own b k) (cond z 0 (suc (place own k 1)))
+      go true e v f = eqb-true many 0 e
+      go false e true f =
+          let y : many ≡ 0 = ap (λ c. nullsIn (ok (cond c none (some (part (own .body) (place own k 1) (place own k 2))))) (offsetOf own k) (lengthOf own k)) f ∙ no-nulls (offsetOf own k) (lengthOf own k) in
+          absurd (eqb-false many 0 e y)
+      go false e false f = (
+        part (own .body) (place own k 1) (place own k 2),
+        (ap (λ c. cond c none (some (part (own .body) (place own k 1) (place own k 2)))) f, take-whole (place own k 2) (drop (place own k 1) (own .body))),
+      )
+
   -- the values at node k begin where the tables say
-  plain-stands : (p : Plain) (k : ℕ) → StandsFrom (own .body) p (plainBody tree own p k) (starts own p k)
-  plain-stands (fixed n) k = take-whole (place own k 4) (drop (place own k 3) (own .body))
+  plain-stands : (p : Plain) (k : ℕ) → StandsFrom (own .body) p (arrayWith own (plainBody tree own p k) k) (starts own p k)
+  plain-stands (fixed n) k = (valid-from (plainBody tree own (fixed n) k) k, take-whole (place own k 4) (drop (place own k 3) (own .body)))
   plain-stands (string w) k =
-      (take-whole (place own k 4) (drop (place own k 3) (own .body)), take-whole (place own k 6) (drop (place own k 5) (own .body)))
+      (valid-from (plainBody tree own (string w) k) k, (take-whole (place own k 4) (drop (place own k 3) (own .body)), take-whole (place own k 6) (drop (place own k 5) (own .body))))
 
   -- EVERY DICTIONARY STANDS IN THE BODY
   stands-at : (u : Ty) (i : ℕ) → EachDictionary (Stands (own .body)) u (bodyOf tree own u i)

@@ -1,5 +1,5 @@
 -- What is asked before any room is lent: which parts there will be, and how many bytes the opening itself puts there. Assumes nothing.
-use mathlib.Core.Bool.{Bool, cond}
+use mathlib.Core.Bool.{Bool, cond, _&&_}
 use mathlib.Core.List.{List}
 use Prim.Native.Nat.{ℕ}
 use lib.ListN.{length, replicate}
@@ -7,6 +7,7 @@ use lib.Dec.{leb, eqb}
 use Rattle.array_data.specs.Tables.{Tables}
 use Rattle.columns.specs.Grounds.{sourcesGround}
 use Rattle.plan.specs.Plan.{planned}
+use Rattle.orders.specs.Sound.{planSound}
 use Rattle.orders.specs.Order.{Lent, sourceCount}
 use Rattle.orders.specs.Measure.{Measured, unmeasured, measured}
 use Rattle.opening.specs.Open.{openWalk}
@@ -25,9 +26,9 @@ asked formats schema sources x keep plan =
     (record { ground = sourcesGround formats schema x sources; plan = plan })
 
 -- THE WALK OF AN OPENING, with no part asked, by the plan that the question left: 6 and 8; 12 where it can't be carried out with that plan,
--- as where it is for more than 16 sources; 14 where the counters are not those of a join
+-- as where it is for more than 16 sources or none that a walk stays in; 14 where the counters are not those of a join
 unfoldable pub openMeasure : Lent → List ℕ → Measured
 openMeasure x counts =
     cond (eqb (length counts) 96)
-    (cond (leb (sourceCount (x .plan)) 16) (measured counts (openWalk x (replicate 96 0))) (unmeasured counts 12))
+    (cond (leb (sourceCount (x .plan)) 16 && planSound (x .plan)) (measured counts (openWalk x (replicate 96 0))) (unmeasured counts 12))
     (unmeasured counts 14)

@@ -6,7 +6,8 @@ use Prim.Native.Nat.{ℕ, _-_, _<_, min}
 use native.Mathlib.Omega.{arith}
 use lib.ListN.{length}
 use lib.Dec.{leb, ltb, eqb}
-use borrow.Author.Tests.{eqb-true, eqb-false}
+use borrow.Author.Tests.{leb-true, eqb-true, eqb-false}
+use Rattle.lent_tables.proofs.Laws.{and-left, and-right}
 use Rattle.model.specs.Book.{Call, copy, nulls}
 use Rattle.walk.specs.State.{keepsOf, far}
 use Rattle.walk.specs.Log.{Out, startOf, apply}
@@ -17,14 +18,14 @@ use Rattle.room.proofs.Uses.{used-wide}
 use Rattle.room.proofs.Copies.{used-copies}
 use Rattle.room.proofs.Fills.{used-nulls}
 use Rattle.parts.specs.Parts.{sizeOf, partsWithin, partsHold, Used}
-use Rattle.orders.specs.Sound.{planSound}
+use Rattle.orders.specs.Sound.{planSound, walkable}
 use Rattle.orders.specs.Order.{After, Lent, joinOf, sourceCount, sourceLength, refused, settled, copyOrder, nullOrder, ordered, orderedAll}
-use Rattle.orders.specs.Written.{walkOf, OnlyAdds, AllMade}
+use Rattle.orders.specs.Written.{walkOf, Counters, OnlyAdds, OnlyUsed, AllMade}
 use Rattle.orders.proofs.Sound.{root-reached, closed-sound, run-ends-fixed, reached-used}
 use Rattle.orders.proofs.Grows.{Fine, Added, Adds}
 use Rattle.orders.proofs.GrowsCopies.{adds-copies}
 use Rattle.orders.proofs.GrowsNulls.{adds-fills}
-use Rattle.orders.proofs.Written.{all-made, only-adds}
+use Rattle.orders.proofs.Written.{all-made, only-used, only-adds}
 
 module _ (x : Lent) (counts room : List ℕ) where
   -- what an accepted order passed and did
@@ -56,12 +57,33 @@ module _ (x : Lent) (counts room : List ℕ) where
   unfolding copyOrder nullOrder
   accepted (copy s a e) =
       past (eqb (length counts) 96) _ _ 14 (omega arith)
-      (past (ltb s (sourceCount (x .plan))) _ _ 1 (omega arith) (past (leb a e && leb e (sourceLength x s)) _ _ 2 (omega arith) (settled-is _)))
-  accepted (nulls n) = past (eqb (length counts) 96) _ _ 14 (omega arith) (kept (eqb (keepsOf (x .plan) 0) 0) _ _ (settled-is _))
+      (past (walkable (x .plan) (length room)) _ _ 14 (omega arith)
+      (past (ltb s (sourceCount (x .plan))) _ _ 1 (omega arith) (past (leb a e && leb e (sourceLength x s)) _ _ 2 (omega arith) (settled-is _))))
+  accepted (nulls n) = past (eqb (length counts) 96) _ _ 14 (omega arith) (past (walkable (x .plan) (length room)) _ _ 14 (omega arith) (kept (eqb (keepsOf (x .plan) 0) 0) _ _ (settled-is _)))
     where
       kept : (b : Bool) (w : Out) (a : After) → (a .ground ≡ 0 → Settled w a) → cond b (refused x counts room 3) a .ground ≡ 0 → Settled w (cond b (refused x counts room 3) a)
       kept true w a f h = absurd (omega arith)
       kept false w a f h = f h
+
+  -- an accepted order was lent counters, a room and a plan that it can be walked in
+  pub record Walked : Type 0 where
+    pub long : length counts ≡ 96
+    pub small : length room < 4294967296
+    pub sound : planSound (x .plan) ≡ true
+
+  walked-by : (b d : Bool) (a : After) → eqb (length counts) 96 ≡ b → walkable (x .plan) (length room) ≡ d
+      → cond b (cond d a (refused x counts room 14)) (refused x counts room 14) .ground ≡ 0 → Walked
+  unfolding walkable
+  walked-by true true a e f h =
+      let l = leb-true (length room) 4294967295 (and-left (leb (length room) 4294967295) (planSound (x .plan)) f) in
+      record { long = eqb-true _ _ e; small = omega arith; sound = and-right (leb (length room) 4294967295) (planSound (x .plan)) f }
+  walked-by true false a e f h = absurd (omega arith)
+  walked-by false d a e f h = absurd (omega arith)
+
+  pub walked : (o : Call) → ordered x counts room o .ground ≡ 0 → Walked
+  unfolding copyOrder nullOrder
+  walked (copy s a e) h = walked-by (eqb (length counts) 96) (walkable (x .plan) (length room)) _ refl refl h
+  walked (nulls n) h = walked-by (eqb (length counts) 96) (walkable (x .plan) (length room)) _ refl refl h
 
 -- ---- refused
 
@@ -88,10 +110,14 @@ module _ (x : Lent) (counts room : List ℕ) where
   unfolding copyOrder nullOrder
   order-keeps (copy s a e) =
       kept-if (eqb (length counts) 96) _ _
+      (kept-if (walkable (x .plan) (length room)) _ _
       (kept-if (ltb s (sourceCount (x .plan))) _ _ (kept-if (leb a e && leb e (sourceLength x s)) _ _ (kept-settled _) (kept-refused 2)) (kept-refused 1))
+      (kept-refused 14))
       (kept-refused 14)
   order-keeps (nulls n) =
-      kept-if (eqb (length counts) 96) _ _ (kept-if (eqb (keepsOf (x .plan) 0) 0) _ _ (kept-refused 3) (kept-settled _)) (kept-refused 14)
+      kept-if (eqb (length counts) 96) _ _
+      (kept-if (walkable (x .plan) (length room)) _ _ (kept-if (eqb (keepsOf (x .plan) 0) 0) _ _ (kept-refused 3) (kept-settled _)) (kept-refused 14))
+      (kept-refused 14)
 
 -- ---- over a sound plan
 
@@ -123,24 +149,38 @@ module _ (x : Lent) (sound : planSound (x .plan) ≡ true) where
   fine-orders [] counts room f = f
   fine-orders (o ∷ os) counts room f = fine-orders os (ordered x counts room o .counts) (ordered x counts room o .room) (fine-order counts room o f)
 
-  module _ (body : AllBelow 256 (x .body)) (counts room : List ℕ) (fine : Fine counts) (small : length room < 4294967296) (o : Call) (answer : ordered x counts room o .ground ≡ 0) where
-    abbrev walk : Out
-    walk = walkOf x counts o
+-- ---- ANY PLAN, parts, sources, counters and room whatsoever, the answer being 0
 
-    made : Settled x counts room walk (ordered x counts room o)
-    made = accepted x counts room o answer
+module _ (x : Lent) (body : AllBelow 256 (x .body)) (counts room : List ℕ) (top : Counters counts) (o : Call) (answer : ordered x counts room o .ground ≡ 0) where
+  abbrev walk : Out
+  walk = walkOf x counts o
 
-    adds : Added (x .plan) true 0 0 counts (walk .counts) (walk .log)
-    adds = walk-adds counts o .added fine (made .no-ground)
+  lent : Walked x counts room
+  lent = walked x counts room o answer
 
-    -- EVERY WRITE IS MADE
-    pub order-made : AllMade (x .plan) (x .parts) (length room) (walk .log)
-    order-made = all-made (x .plan) (x .parts) counts (walk .counts) (length room) small (made .within) (made .holds) true 0 (walk .log) (walk-used body counts o) (adds .behind)
+  made : Settled x counts room walk (ordered x counts room o)
+  made = accepted x counts room o answer
 
-    -- ONLY WHAT THE PARTS GAIN IS WRITTEN, where they are apart
-    pub order-adds : AllBelow 256 room
-        → ((i b j k : ℕ) → Used (x .plan) i b → Used (x .plan) j k → (i ≡ j → b ≡ k → ⊥) → Apart (startOf (x .plan) (x .parts) i b) (sizeOf (x .plan) (x .parts) i b) (startOf (x .plan) (x .parts) j k) (sizeOf (x .plan) (x .parts) j k))
-        → OnlyAdds (x .plan) (x .parts) counts room (ordered x counts room o .counts) (ordered x counts room o .room)
-    order-adds bytes apart =
-        rw (made .counts-are, made .room-is)
-        (only-adds (x .plan) (x .parts) counts (walk .counts) (length room) small (made .within) (made .holds) true 0 apart (adds .longer .rows-grow) refl (walk .log) room refl bytes (walk-used body counts o) (adds .behind))
+  adds : Added (x .plan) true 0 0 counts (walk .counts) (walk .log)
+  adds = walk-adds x (lent .sound) counts o .added (record { long = lent .long; rows-top = top .rows-top }) (made .no-ground)
+
+  used : AllUsed (Used (x .plan)) (walk .log)
+  used = walk-used x (lent .sound) body counts o
+
+  -- EVERY WRITE IS MADE
+  pub order-made : AllMade (x .plan) (x .parts) (length room) (walk .log)
+  order-made = all-made (x .plan) (x .parts) counts (walk .counts) (length room) (lent .small) (made .within) (made .holds) true 0 (walk .log) used (adds .behind)
+
+  -- ONLY USED PARTS ARE WRITTEN
+  pub order-writes : AllBelow 256 room → OnlyUsed (x .plan) (x .parts) room (ordered x counts room o .counts) (ordered x counts room o .room)
+  order-writes bytes =
+      rw (made .counts-are, made .room-is)
+      (only-used (x .plan) (x .parts) counts (walk .counts) (length room) (lent .small) (made .within) (made .holds) true 0 (walk .log) room refl bytes used (adds .behind))
+
+  -- ONLY WHAT THE PARTS GAIN IS WRITTEN, where they are apart
+  pub order-adds : AllBelow 256 room
+      → ((i b j k : ℕ) → Used (x .plan) i b → Used (x .plan) j k → (i ≡ j → b ≡ k → ⊥) → Apart (startOf (x .plan) (x .parts) i b) (sizeOf (x .plan) (x .parts) i b) (startOf (x .plan) (x .parts) j k) (sizeOf (x .plan) (x .parts) j k))
+      → OnlyAdds (x .plan) (x .parts) counts room (ordered x counts room o .counts) (ordered x counts room o .room)
+  order-adds bytes apart =
+      rw (made .counts-are, made .room-is)
+      (only-adds (x .plan) (x .parts) counts (walk .counts) (length room) (lent .small) (made .within) (made .holds) true 0 apart (adds .longer .rows-grow) refl (walk .log) room refl bytes used (adds .behind))

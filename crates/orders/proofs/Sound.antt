@@ -40,12 +40,11 @@ module _ (plan : List ℕ) where
     pub next-copied : endOf plan i < n → copied plan (endOf plan i) ≡ true
 
   above : (i : ℕ) → kindSound plan i ≡ true → 10 < codeOf plan i
-      → (dictionaryOf plan i ≡ 0) × (onlyIf (isListView (codeOf plan i)) (ltb (suc i) (endOf plan i)) ≡ true) × (onlyIf (isRunEnd (codeOf plan i)) (endsSound plan i) ≡ true)
+      → (dictionaryOf plan i ≡ 0) × (cond (isListView (codeOf plan i)) (ltb (suc i) (endOf plan i)) (cond (isRunEnd (codeOf plan i)) (endsSound plan i) true) ≡ true)
   unfolding kindSound
   above i h l =
       let g = rw (lt-false (codeOf plan i) l) at h in
-      let a = and-left (eqb (dictionaryOf plan i) 0 && onlyIf (isListView (codeOf plan i)) (ltb (suc i) (endOf plan i))) _ g in
-      (eqb-true _ _ (and-left (eqb (dictionaryOf plan i) 0) _ a), and-right (eqb (dictionaryOf plan i) 0) _ a, and-right (eqb (dictionaryOf plan i) 0 && onlyIf (isListView (codeOf plan i)) (ltb (suc i) (endOf plan i))) _ g)
+      (eqb-true _ _ (and-left (eqb (dictionaryOf plan i) 0) _ g), and-right (eqb (dictionaryOf plan i) 0) _ g)
     where
       lt-false : (z : ℕ) → 10 < z → leb z 10 ≡ false
       lt-false z q = go (leb z 10) refl
@@ -74,8 +73,8 @@ module _ (plan : List ℕ) where
         inside = leb-true _ _ (and-right (ltb i (endOf plan i)) (leb (endOf plan i) n) b2);
         below-inside = λ j p q. in-nest a2 j p q;
         no-keys = λ l. above i a3 l .0;
-        list = λ e. let z = between-both 17 18 (codeOf plan i) e in ltb-true _ _ (only-in e (above i a3 (omega (arith, z .0)) .1));
-        runs = λ e. let r : isRunEnd (codeOf plan i) ≡ true = rw e refl in ends-of i (only-in r (above i a3 (omega arith) .2));
+        list = λ e. let z = between-both 17 18 (codeOf plan i) e in ltb-true _ _ (rw e at (above i a3 (omega (arith, z .0)) .1));
+        runs = λ e. ends-of i (rw e at (above i a3 (omega arith) .1));
         next-copied = λ l. only-in (lt-ltb _ _ l) a4;
       }
     where

@@ -9,7 +9,7 @@ use native.Mathlib.Decide.{decLt}
 use native.Mathlib.Omega.{arith}
 use lib.ListN.{length, getD, replicate}
 use lib.Dec.{leb, ltb, eqb}
-use borrow.Author.Tests.{leb-true, ltb-true, eq-eqb, ne-eqb}
+use borrow.Author.Tests.{leb-true, le-leb, ltb-true, eq-eqb, ne-eqb}
 use Rattle.lent_tables.proofs.Laws.{and-left, and-right}
 use Rattle.columnar.specs.Types.{Ty}
 use Rattle.columnar.specs.Reading.{Column, masks, Source}
@@ -39,6 +39,7 @@ use Rattle.room.proofs.Closure.{closed-free}
 use Rattle.room.proofs.Applied.{room-lies, room-long}
 use Rattle.room.proofs.Orders.{copy-used, nulls-used}
 use Rattle.parts.specs.Parts.{nodesOf, bufferCount, needed, neededBy, sizeOf, partsHold, partsWithin, Used}
+use Rattle.orders.specs.Sound.{planSound, walkable}
 use Rattle.orders.specs.Order.{After, Lent, joinOf, sourceCount, sourceLength, refused, settled, copyOrder, nullOrder, ordered}
 use Rattle.orders.specs.Fits.{fits, answerIn}
 use Rattle.orders.proofs.Buffers.{buffer-part, has-part}
@@ -59,6 +60,7 @@ module _ (x : Lent) (t : Ty) (m : ℕ) (ss : ℕ → Column t) where
     pub opened : (s : ℕ) → s < m → Opened (joinOf x s) 8 t 0 m ss
     pub laid : Laid (x .plan)
     pub all-nodes : nodesOf (x .plan) ≡ endOf (x .plan) 0
+    pub sound : planSound (x .plan) ≡ true
     pub body-bytes : AllBelow 256 (x .body)
 
   module _ (join : Joined) where
@@ -89,6 +91,10 @@ module _ (x : Lent) (t : Ty) (m : ℕ) (ss : ℕ → Column t) where
     pub data Answers (o : Call) (d : Destination t) (counts room : List ℕ) : Try (Destination t) → After → Type 0 where
       made : (d′ : Destination t) (a : After) → a .ground ≡ 0 → Running d′ (a .counts) (a .room) → Did t m ss (lawful join) (obeys join) keep o d d′ → Answers o d counts room (done d′) a
       not-made : (g : ℕ) (a : After) → a .ground ≡ g → 0 < g → a .counts ≡ counts → a .room ≡ room → Answers o d counts room (stop g) a
+
+    walks : (d : Destination t) (counts room : List ℕ) → Running d counts room → walkable (x .plan) (length room) ≡ true
+    unfolding walkable
+    walks d counts room run = let s = run .placed .small in rw (le-leb (length room) 4294967295 (omega arith)) (join .sound)
 
     -- ---- a walk and what it comes to
 
@@ -250,7 +256,7 @@ module _ (x : Lent) (t : Ty) (m : ℕ) (ss : ℕ → Column t) where
       pub copy-step : Answers (copy s a e) d counts room (answerIn (x .plan) (x .parts) t m ss (copy s a e) d) (ordered x counts room (copy s a e))
       unfolding copyOrder
       copy-step =
-          rw (eq-eqb (length counts) 96 (run .long))
+          rw (eq-eqb (length counts) 96 (run .long), walks d counts room run)
           (same-guard (copy s a e) d counts room run (ltb s m) (ltb s (sourceCount (x .plan))) 1 (guard (leb a e && leb e (ss s .len)) 2 (extend t m ss s a (e - a) d))
           (cond (leb a e && leb e (sourceLength x s)) (settled x counts room (copyWalk (joinOf x s) 8 0 a (e - a) counts)) (refused x counts room 2)) (ap (ltb s) (join .count-is)) (omega arith)
           (λ h. let j = ltb-true s m h in
@@ -357,7 +363,7 @@ module _ (x : Lent) (t : Ty) (m : ℕ) (ss : ℕ → Column t) where
         → Answers (nulls n) d counts room (answerIn (x .plan) (x .parts) t m ss (nulls n) d) (ordered x counts room (nulls n))
     unfolding nullOrder
     nulls-step n d counts room run =
-        rw (eq-eqb (length counts) 96 (run .long), keeps-by (d .bits) (masks t) (run .memory) (run .holds .bits-are)) (go (keepsNulls d) refl)
+        rw (eq-eqb (length counts) 96 (run .long), walks d counts room run, keeps-by (d .bits) (masks t) (run .memory) (run .holds .bits-are)) (go (keepsNulls d) refl)
       where
         go : (b : Bool) → keepsNulls d ≡ b
             → Answers (nulls n) d counts room (then (guard b 3 (nullsNode (masks t) (nullsData t) n d)) (tested (nulls n) d counts room run))

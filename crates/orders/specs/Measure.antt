@@ -11,6 +11,7 @@ use Rattle.walk.specs.Nulls.{nullWalk}
 use Rattle.parts.specs.Parts.{partAt, needed}
 use Rattle.parts.specs.declared.Spot.{Spot}
 use Rattle.parts.specs.declared.Spot.the-variants.{Of, Nothing}
+use Rattle.orders.specs.Sound.{planSound}
 use Rattle.orders.specs.Order.{Lent, joinOf, sourceCount, sourceLength}
 
 -- ground: 0, or the number of the refusal
@@ -32,16 +33,20 @@ module _ (counts : List ℕ) where
     unfoldable pub copyMeasure : ℕ → ℕ → ℕ → Measured
     copyMeasure s a e =
         cond (eqb (length counts) 96)
+        (cond (planSound (x .plan))
         (cond (ltb s (sourceCount (x .plan)))
         (cond (leb a e && leb e (sourceLength x s)) (measured (copyWalk (joinOf x s) 8 0 a (e - a) counts)) (unmeasured 2))
         (unmeasured 1))
+        (unmeasured 14))
         (unmeasured 14)
 
     -- `nullOrder` without them
     unfoldable pub nullMeasure : ℕ → Measured
     nullMeasure n =
         cond (eqb (length counts) 96)
+        (cond (planSound (x .plan))
         (cond (eqb (keepsOf (x .plan) 0) 0) (unmeasured 3) (measured (nullWalk (joinOf x 0) 8 0 (min n far) counts)))
+        (unmeasured 14))
         (unmeasured 14)
 
 -- ---- the bytes that a part must hold, by the counters: 0 where there is no such part

@@ -1,4 +1,5 @@
--- A PLAN THAT A WALK STAYS IN, tested at every order: its nodes are trees one in the other, and the nodes that a walk comes to have parts.
+-- A PLAN THAT A WALK STAYS IN, tested at every order: its nodes are trees one in the other, and the nodes that a walk comes to have parts
+-- (01: "An order given a state .. other than the last call left them gets 12 or 14 where it can't be carried out inside the lent memory").
 -- An opening writes no other plan. Assumes nothing.
 use mathlib.Core.Bool.{Bool, true, cond, _&&_}
 use mathlib.Core.List.{List}
@@ -22,11 +23,17 @@ module _ (plan : List ℕ) where
   unfoldable pub kindSound : ℕ → Bool
   kindSound i =
       cond (leb (codeOf plan i) 10) true
-      (eqb (dictionaryOf plan i) 0 && onlyIf (isListView (codeOf plan i)) (ltb (suc i) (endOf plan i)) && onlyIf (isRunEnd (codeOf plan i)) (endsSound i))
+      (eqb (dictionaryOf plan i) 0
+      && cond (isListView (codeOf plan i)) (ltb (suc i) (endOf plan i)) (cond (isRunEnd (codeOf plan i)) (endsSound i) true))
 
   -- node i of n: it ends behind itself, and what then stands there is no kept dictionary's values
   unfoldable pub nodeSound : ℕ → ℕ → Bool
   nodeSound n i = ltb i (endOf plan i) && leb (endOf plan i) n && nestedIn i && kindSound i && onlyIf (ltb (endOf plan i) n) (copied plan (endOf plan i))
 
+  -- every node, and there is one
   unfoldable pub planSound : Bool
   planSound = ltb 0 (nodesOf plan) && every (nodeSound (nodesOf plan)) (nodesOf plan)
+
+  -- an order can be walked: the plan is sound, and a room of m bytes is a body ("Each body has at most 4,294,967,295 bytes")
+  unfoldable pub walkable : ℕ → Bool
+  walkable m = leb m 4294967295 && planSound

@@ -332,45 +332,18 @@ fn write_run_ends(
     body: &[u8],
     from: usize,
     n: usize,
-    start: u64,
-    end: u64,
+    start: run_ends::LogicalRow,
+    end: run_ends::LogicalRow,
     last: u64,
 )
-    requires { ⌜ (at + w * n ≤ length (now room)) × (from + w * n ≤ length (now body)) × (last + (end - start) < 256 ^ w / 2) ⌝ }
+    requires { ⌜ (at + w * n ≤ length (now room)) × (from + w * n ≤ length (now body)) × (last + (end .0 - start .0) < 256 ^ w / 2) ⌝ }
     requires { ⌜ ((w ≡ 2 → ⊥) → (w ≡ 4 → ⊥) → w ≡ 8) ⌝ }
-    ensures { λ _. ⌜ now (room .exit) ≡ splice at (clipped w (now (body .entry)) from n start end last) (now (room .entry)) ⌝ }
+    ensures { λ _. ⌜ now (room .exit) ≡ splice at (clipped w (now (body .entry)) from n (start .0) (end .0) last) (now (room .entry)) ⌝ }
 {
     match w {
-        2 => run_ends::extend_run_ends_i16(
-            room,
-            at,
-            body,
-            from,
-            n,
-            run_ends::LogicalRow(start),
-            run_ends::LogicalRow(end),
-            last,
-        ),
-        4 => run_ends::extend_run_ends_i32(
-            room,
-            at,
-            body,
-            from,
-            n,
-            run_ends::LogicalRow(start),
-            run_ends::LogicalRow(end),
-            last,
-        ),
-        _ => run_ends::extend_run_ends_i64(
-            room,
-            at,
-            body,
-            from,
-            n,
-            run_ends::LogicalRow(start),
-            run_ends::LogicalRow(end),
-            last,
-        ),
+        2 => run_copy::extend_run_ends_i16(room, at, body, from, n, start, end, last),
+        4 => run_copy::extend_run_ends_i32(room, at, body, from, n, start, end, last),
+        _ => run_copy::extend_run_ends_i64(room, at, body, from, n, start, end, last),
     }
 }
 
@@ -387,13 +360,13 @@ pub fn put_run_ends(
     body: &[u8],
     from: usize,
     n: u64,
-    start: u64,
-    end: u64,
+    start: run_ends::LogicalRow,
+    end: run_ends::LogicalRow,
     last: u64,
 )
-    requires { ⌜ (i < 32) × (b < 3) × (from + w * n ≤ length (now body)) × (last + (end - start) < 256 ^ w / 2) ⌝ }
+    requires { ⌜ (i < 32) × (b < 3) × (from + w * n ≤ length (now body)) × (last + (end .0 - start .0) < 256 ^ w / 2) ⌝ }
     requires { ⌜ ((w ≡ 2 → ⊥) → (w ≡ 4 → ⊥) → w ≡ 8) ⌝ }
-    ensures { λ _. ⌜ now (room .exit) ≡ applyIf (now (state .entry)) (now (parts .entry)) write (put i b o (clipped w (now (body .entry)) from n start end last) ∷ []) (now (room .entry)) ⌝ }
+    ensures { λ _. ⌜ now (room .exit) ≡ applyIf (now (state .entry)) (now (parts .entry)) write (put i b o (clipped w (now (body .entry)) from n (start .0) (end .0) last) ∷ []) (now (room .entry)) ⌝ }
 {
     match growth::target(
         state,

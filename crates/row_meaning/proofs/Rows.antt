@@ -3,7 +3,7 @@ use mathlib.Core.Path.{_≡_, refl, ap, sym, subst, _∙_}
 use mathlib.Core.Bool.{Bool, true, false, cond, _&&_}
 use mathlib.Core.Option.{Option, none, some}
 use mathlib.Core.List.{List, [], _∷_, List·Memᴰ, List·Memᴰ·head, List·Memᴰ·tail, List·Memᴰ·not-nil}
-use Prim.Native.Nat.{ℕ, zero, suc, _+_, _*_, _^_, _≤_, _<_}
+use Prim.Native.Nat.{ℕ, zero, suc, _+_, _*_, _-_, _^_, _≤_, _<_}
 use native.Mathlib.Nat.{mul-one}
 use native.Mathlib.Omega.{arith}
 use lib.ListN.{length, getD}
@@ -36,17 +36,17 @@ use Rattle.lent_entries.specs.Entries.{entryIn, validBit}
 use Rattle.lent_entries.specs.declared.Entry.the-variants as entry
 use Rattle.slot_reader.specs.declared.RowRead.{RowRead}
 use Rattle.slot_reader.specs.declared.RowRead.the-variants as row
-use Rattle.slot_reader.specs.Slots.{known, kindWord, listed, storedBy, storedAt, keyed, dictionaryRead}
+use Rattle.slot_reader.specs.Slots.{known, kindWord, listed, storedBy, entryBy, namedAt, keyed, dictionaryRead}
 use Rattle.node_table.specs.Words.{planted}
 use Rattle.row_reader.specs.declared.Step.{Step}
 use Rattle.row_reader.specs.declared.Step.the-variants as step
 use Rattle.row_reader.specs.declared.Child.the-variants as child
-use Rattle.row_reader.specs.Walk.{childOf, chosen, into, underId, stepBy, stepOn, sighted, stepAt, Walked, walkedTo, under, follow, walk, isRefused, kept, rowAt}
+use Rattle.row_reader.specs.Walk.{childOf, chosen, into, underId, ran, runOf, runsStep, stepBy, stepOn, sighted, stepAt, Walked, walkedTo, under, follow, walk, isRefused, kept, rowAt}
 use Rattle.row_reader.proofs.Laws.{at-slot}
 use Rattle.row_meaning.specs.Meaning.{flat, meaning}
 use Rattle.row_meaning.proofs.Child.{words, found-child}
 use Rattle.row_meaning.proofs.Words.{plainer, ids-few, sparse-ids, dense-ids, node-shaped, kind-word, known-word}
-use Rattle.row_meaning.proofs.Slots.{Gives, wide, number-sized, offset-sized, offset-wide, entry-slot, number-gives, stored-gives, string-gives, valid-known}
+use Rattle.row_meaning.proofs.Slots.{Gives, wide, number-sized, offset-sized, offset-wide, entry-slot, number-gives, stored-gives, string-gives, entry-gives, valid-known}
 use Rattle.row_meaning.proofs.Views.{view-gives}
 use Rattle.row_meaning.proofs.Runs.{ran-is, ran-below}
 
@@ -200,10 +200,13 @@ module _ (formats schema : List ℕ) (first n : ℕ) (x : Tables) (t : typed for
         let ends = arrayWith x (firstBuffer x (suc i)) (suc i) in
         let u = tyOf tree f (suc (suc i)) in
         let o = s .slots in
-        let covers : slot < startOf (endOf v ends) (lengthOf x (suc i)) = omega (arith, o .covers) in
         let next : suc i < n = subst (λ z. z < n) (first-child formats schema first n i) (child-inside schema first n is-whole i 0 l (omega arith)) in
-        let z = ran-is v d (x .body) (place x (suc i) 3) (place x (suc i) 4) ends refl (o .hold) (o .positive) (o .rises) slot covers i in
-        let below-run = ran-below v d (x .body) (place x (suc i) 3) (place x (suc i) 4) ends refl (o .hold) (o .positive) (o .rises) slot covers in
+        let sum : offsetOf x i + lengthOf x i < 2 ^ 64 = omega (arith, sums i l) in
+        let small-ends : offsetOf x (suc i) + lengthOf x (suc i) < 2 ^ 64 = omega (arith, sums (suc i) next) in
+        let back : slot - offsetOf x i ≡ r = omega arith in
+        let z : runsStep x i v slot ≡ step.Go (suc (suc i)) (firstAbove (endOf v ends) slot 0 (lengthOf x (suc i))) =
+        ap (λ a. ran i (runOf x i v a)) back ∙ ran-is v d (firstBuffer x (suc i)) ends refl (o .hold) (o .positive) (o .rises) (offsetOf x i) (lengthOf x i) sum (o .covers) r q small-ends i in
+        let below-run = ran-below v d (firstBuffer x (suc i)) ends refl (o .hold) (o .positive) (o .rises) (offsetOf x i) (lengthOf x i) sum (o .covers) r q in
         let k = kid (suc (suc i)) 1 (omega arith) (sym (second-child formats schema first n i next none-below)) (firstAbove (endOf v ends) slot 0 (lengthOf x (suc i))) (o .child-rule) (omega (arith, below-run, o .as-many)) in
         subst (λ a. Shows (tRunEnd v u) (follow (walk w x f) a) (slotAt (tRunEnd v u) (bodyOf tree x (tRunEnd v u) i) slot)) (sym z)
         (record { accepted = k .accepted; means = k .means })
@@ -223,19 +226,21 @@ module _ (formats schema : List ℕ) (first n : ℕ) (x : Tables) (t : typed for
           → Shows (tDictionary m p) (walkedTo (dictionaryRead w x i (width m) slot)) (slotAt (tDictionary m p) (bodyOf tree x (tDictionary m p) i) slot)
 
       reads-key : (p : Plain) → kindAt formats schema first (suc i) ≡ plainKind p → Source (tDictionary m p) (column (tDictionary m p) i)
-          → dictionaryRead w x i (width m) slot ≡ storedBy (plainKind p) (place x (suc i) 3) (firstBuffer x (suc i)) (place x (suc i) 5) (secondBuffer x (suc i)) at
+          → dictionaryRead w x i (width m) slot
+          ≡ entryBy (validBit (ok (validOf x (suc i)) at)) (storedBy (plainKind p) (place x (suc i) 3) (firstBuffer x (suc i)) (place x (suc i) 5) (secondBuffer x (suc i)) at)
       reads-key p e s =
           let in-values : key < lengthOf x (suc i) = s .slots .within r q okay in
           let e1 = entry-slot (width m) (firstBuffer x i) slot (offsetOf x i + lengthOf x i) (wide m) (number-sized m) (s .slots .hold) (omega arith) in
           let low : at < 2 ^ 64 = omega (arith, sums (suc i) next, in-values) in
           let kind : kindWord w (suc i) ≡ plainKind p = kind-word formats schema first n t c (suc i) next ∙ ap plainer e ∙ plain-plainer p in
-          ap (keyed (offsetOf x (suc i)) (storedAt w x (suc i))) e1
-          ∙ rw (lt-ltb at (2 ^ 64) low, known-word formats schema first n t c (suc i) next, kind)
+          let bit = valid-known true (validOf x (suc i)) (offsetOf x (suc i) + lengthOf x (suc i)) at (s .slots .child-rule .mask) (omega arith) in
+          ap (keyed (offsetOf x (suc i)) (namedAt w x (suc i))) e1
+          ∙ rw (lt-ltb at (2 ^ 64) low, known-word formats schema first n t c (suc i) next, kind, bit)
 
       dictionary-level : (p : Plain) → FormedPlain p → kindAt formats schema first (suc i) ≡ plainKind p → DictionaryLevel p
       dictionary-level (fixed v) d e s =
           let in-values : key < lengthOf x (suc i) = s .slots .within r q okay in
-          let g = stored-gives (x .body) small v (place x (suc i) 3) (place x (suc i) 4) at (offsetOf x (suc i) + lengthOf x (suc i)) (s .slots .child-rule .slots) (omega arith) in
+          let g = entry-gives (x .body) (ok (validOf x (suc i)) at) _ _ (stored-gives (x .body) small v (place x (suc i) 3) (place x (suc i) 4) at (offsetOf x (suc i) + lengthOf x (suc i)) (s .slots .child-rule .slots) (omega arith)) in
           subst (λ a. Shows (tDictionary m (fixed v)) (walkedTo a) (slotAt (tDictionary m (fixed v)) (bodyOf tree x (tDictionary m (fixed v)) i) slot)) (sym (reads-key (fixed v) e s))
           (record { accepted = g .accepted; means = g .means })
       dictionary-level (string v) d e s = go (s .slots .child-rule .slots)
@@ -244,7 +249,7 @@ module _ (formats schema : List ℕ) (first n : ℕ) (x : Tables) (t : typed for
               → Shows (tDictionary m (string v)) (walkedTo (dictionaryRead w x i (width m) slot)) (slotAt (tDictionary m (string v)) (bodyOf tree x (tDictionary m (string v)) i) slot)
           go (empty z y) = absurd (omega (arith, z, s .slots .within r q okay))
           go (full h) =
-              let g = string-gives (x .body) small v (firstBuffer x (suc i)) (place x (suc i) 5) (place x (suc i) 6) (offsetOf x (suc i)) (lengthOf x (suc i)) key d h (s .slots .within r q okay) in
+              let g = entry-gives (x .body) (ok (validOf x (suc i)) at) _ _ (string-gives (x .body) small v (firstBuffer x (suc i)) (place x (suc i) 5) (place x (suc i) 6) (offsetOf x (suc i)) (lengthOf x (suc i)) key d h (s .slots .within r q okay)) in
               subst (λ a. Shows (tDictionary m (string v)) (walkedTo a) (slotAt (tDictionary m (string v)) (bodyOf tree x (tDictionary m (string v)) i) slot)) (sym (reads-key (string v) e s))
               (record { accepted = g .accepted; means = g .means })
 

@@ -14,7 +14,7 @@ use Rattle.number.specs.Number.{number}
 use Rattle.columnar.specs.Row.{Row, null, bytes}
 use Rattle.columnar.specs.Types.{Number, i8, u8, i16, u16, i32, u32, i64, u64, f32, f64, width}
 use Rattle.columnar.specs.Formed.{OffsetWidth, four, eight}
-use Rattle.columnar.specs.Array.{item, bit, ok, Mask}
+use Rattle.columnar.specs.Array.{item, bit, ok, sight, Mask}
 use Rattle.columnar.specs.Plain.{Text, value, span, Offsets}
 use Rattle.columnar.specs.View.{shown, viewOf, lengthOf, bufferOf, offsetOf, ViewGood}
 use Rattle.columnar.proofs.Items.{entry-end, item-lt}
@@ -34,7 +34,7 @@ use Rattle.lent_entries.specs.declared.Spot.the-variants as spot
 use Rattle.lent_entries.proofs.Laws.{cut, holds-in, holds-end, spot-yes, entry-yes, part-end}
 use Rattle.slot_reader.specs.declared.RowRead.{RowRead}
 use Rattle.slot_reader.specs.declared.RowRead.the-variants as row
-use Rattle.slot_reader.specs.Slots.{numberRead, stretchIn, spanned, stringRead, dataPlace, viewed, viewAt, storedNumber}
+use Rattle.slot_reader.specs.Slots.{numberRead, stretchIn, spanned, stringRead, dataPlace, viewed, viewAt, storedNumber, entryBy}
 use Rattle.slot_reader.proofs.Laws.{stretch-in}
 use Rattle.row_reader.specs.Walk.{isRefused}
 use Rattle.row_meaning.specs.Meaning.{flat}
@@ -151,6 +151,12 @@ module _ (body : List ℕ) (small : (j : ℕ) → getD body j 0 < 256) where
       let z : stringRead w s start c k ≡ row.Bytes (start + a) (b - a) = rw (e1, e2) (sym (stretch-in start c a b (length c) refl top up)) in
       subst (λ x. Gives body x (bytes (span w (record { offsets = s; chars = c }) k))) (sym z)
       (record { accepted = refl; means = ap bytes (part-of body start size a (b - a) (omega arith)) })
+
+-- ---- an entry of a dictionary, by its bit
+
+pub entry-gives : (body : List ℕ) (b : Bool) (r : RowRead) (want : Row) → Gives body r want → Gives body (entryBy (validBit b) r) (sight b want)
+entry-gives body true r want g = g
+entry-gives body false r want g = record { accepted = refl; means = refl }
 
 -- ---- a bit
 

@@ -3,11 +3,11 @@ use mathlib.Core.Path.{_≡_, refl, ap, sym, subst, _∙_}
 use mathlib.Core.Bool.{Bool, true, false, cond, _&&_, _||_, and-false}
 use mathlib.Core.List.{List, [], _∷_, _++_}
 use Prim.Native.Nat.{ℕ, zero, suc, _+_, _*_, _-_, _^_, _≤_, _<_, min}
-use native.Mathlib.Nat.{mul-le-mul-right, mul-comm, one-mul}
+use native.Mathlib.Nat.{add-mul}
 use native.Mathlib.Numerals.{add-one}
 use native.Mathlib.Omega.{arith}
 use lib.ListN.{length, take, drop, set, length-take, length-drop}
-use lib.Seq.{set-split, append-snoc}
+use lib.Seq.{set-split, append-snoc, drop-drop}
 use lib.Dec.{leb, ltb, eqb}
 use borrow.Author.Tests.{le-leb, lt-leb, leb-true, leb-false, lt-ltb, le-ltb, eq-eqb, ne-eqb}
 use Rattle.number.specs.Number.{splice}
@@ -16,14 +16,13 @@ use Rattle.formats.specs.Code.{between, isFixed, isString, isView, isListView, 
 use Rattle.array_data.specs.Tables.{Tables, part, lengthOf, offsetOf, place, validOf, firstBuffer, secondBuffer}
 use Rattle.array_data.specs.Typed.{NodeKind, fixedNode, stringNode, viewNode, listViewNode, sparseNode, denseNode, runEndNode, dictionaryNode}
 use Rattle.lent.specs.Lent.{numberKind, unionKind}
-use Rattle.run_ends.specs.Lookup.{bisect, foundAt}
-use Rattle.run_ends.specs.declared.Found.{Found}
-use Rattle.run_ends.specs.declared.Found.the-variants as found
 use Rattle.run_ends.specs.declared.PhysicalRun.{PhysicalRun}
-use Rattle.run_ends.specs.declared.LogicalRow.{LogicalRow}
-use Rattle.run_reader.specs.Rows.{isWidth}
+use Rattle.run_reader.specs.Rows.{rowRun}
+use Rattle.run_reader.specs.declared.RowRun.{RowRun}
+use Rattle.run_reader.specs.declared.RowRun.the-variants as run
 use Rattle.node_table.specs.Words.{word}
 use Rattle.lent_entries.specs.Entries.{entryIn, validIn}
+use Rattle.lent_entries.proofs.Laws.{cut}
 use Rattle.lent_entries.specs.declared.Entry.{Entry}
 use Rattle.lent_entries.specs.declared.Entry.the-variants as entry
 use Rattle.lent_entries.specs.declared.Validity.{Validity}
@@ -36,7 +35,7 @@ use Rattle.row_reader.specs.declared.Child.{Child}
 use Rattle.row_reader.specs.declared.Child.the-variants as child
 use Rattle.row_reader.specs.declared.Step.{Step}
 use Rattle.row_reader.specs.declared.Step.the-variants as step
-use Rattle.row_reader.specs.Walk.{refused, endWord, childFrom, childOf, chosen, into, underId, codeWidth, runIn, ran, runsStep, stepBy, stepOn, sighted, stepAt, Walked, walkedTo, under, follow, walk, isRefused, kept, rowAt}
+use Rattle.row_reader.specs.Walk.{refused, endWord, childFrom, childOf, chosen, into, underId, codeWidth, endsIn, runIn, ran, runOf, runsStep, runAt, stepBy, stepOn, sighted, stepAt, Walked, walkedTo, under, follow, walk, isRefused, kept, rowAt}
 
 -- ---- a union's child
 
@@ -87,62 +86,71 @@ module _ (tree : List ℕ) where
 
 -- ---- run ends
 
-wide-run : (w : ℕ) → isWidth w ≡ true → 1 ≤ w
-wide-run zero h = let z : _≡_ {A = Bool} false true = h in absurd (subst (λ b. cond b ⊥ (Unit {0})) z tt)
-wide-run (suc w) h = omega arith
+-- what the bytes of the run ends are, where their buffer holds them
+pub ends-room : (body : List ℕ) (start size off len w : ℕ) → leb ((off + len) * w) (length (part body start size)) ≡ true
+    → (off * w + len * w ≤ size) × (off * w + len * w ≤ length body - start)
+ends-room body start size off len w h =
+    let g : off * w + len * w ≤ length (part body start size) = rw add-mul at (leb-true ((off + len) * w) (length (part body start size)) h) in
+    (omega (arith, g, length-take size (drop start body)), omega (arith, g, length-take size (drop start body), length-drop start body))
 
-module _ (w : ℕ) (body : List ℕ) (start : ℕ) (s : List ℕ) (off len r : ℕ) where
-  pub run-none : len ≡ 0 → found.Past ≡ runIn w body start s off len r
+no-bytes : (s : List ℕ) → length s ≡ 0 → s ≡ []
+no-bytes [] e = refl
+no-bytes (x ∷ s) e = absurd (omega arith)
+
+pub part-short : (body : List ℕ) (start size : ℕ) → length (part body start size) ≤ size
+part-short body start size = omega (arith, length-take size (drop start body))
+
+module _ (w : ℕ) (body : List ℕ) (start size off len offset rows r : ℕ) where
+  pub run-over : 2 ^ 64 ≤ off + len → run.Refused 12 ≡ runIn w (part body start size) off len offset rows r
   unfolding runIn
-  run-none e = rw (lt-leb 1 len (omega arith), and-false)
+  run-over h = rw (le-ltb (off + len) (2 ^ 64) h)
 
-  pub run-long : leb ((off + len) * w) (length s) ≡ false → found.Past ≡ runIn w body start s off len r
+  pub run-long : leb ((off + len) * w) (length (part body start size)) ≡ false → run.Refused 12 ≡ runIn w (part body start size) off len offset rows r
   unfolding runIn
-  run-long e = rw (e, and-false, and-false)
+  run-long e = rw (e, and-false)
 
-  pub run-narrow : isWidth w ≡ false → found.Past ≡ runIn w body start s off len r
-  unfolding runIn
-  run-narrow e = rw e
+  module _ (l : off + len < 2 ^ 64) (f : leb ((off + len) * w) (length (part body start size)) ≡ true) where
+    by-reader : rowRun (endsIn w (part body start size) off len) offset rows w r ≡ runIn w (part body start size) off len offset rows r
+    unfolding runIn
+    by-reader = rw (f, lt-ltb (off + len) (2 ^ 64) l)
 
-  pub run-over : (m : ℕ) → length s < m → m ≤ off + len → found.Past ≡ runIn w body start s off len r
-  run-over m a b = go (isWidth w) refl
-    where
-      go : (t : Bool) → isWidth w ≡ t → found.Past ≡ runIn w body start s off len r
-      go false e = run-narrow e
-      go true e =
-          let k : 1 * (off + len) ≤ w * (off + len) = mul-le-mul-right (off + len) (wide-run w e) in
-          run-long (lt-leb ((off + len) * w) (length s) (omega (arith, k, one-mul (off + len), mul-comm w (off + len))))
+    pub run-none : (s : List ℕ) → length s ≡ 0 → len * w ≡ 0 → rowRun s offset rows w r ≡ runIn w (part body start size) off len offset rows r
+    run-none s e z =
+        let q : s ≡ endsIn w (part body start size) off len = no-bytes s e ∙ sym (ap (λ k. take k (drop (off * w) (part body start size))) z) in
+        ap (λ t. rowRun t offset rows w r) q ∙ by-reader
 
-  pub run-found : (k : ℕ) → w ≡ k → isWidth k ≡ true → (len ≡ 0 → ⊥) → leb ((off + len) * w) (length s) ≡ true
-      → foundAt k body (start + k * off) len (bisect k body (start + k * off) len r) ≡ runIn w body start s off len r
-  unfolding runIn
-  run-found k e h n l = rw (l, ap isWidth e ∙ h, le-leb 1 len (omega (arith, n)), e)
-
-  pub no-width : (w ≡ 2 → ⊥) → (w ≡ 4 → ⊥) → (w ≡ 8 → ⊥) → found.Past ≡ runIn w body start s off len r
-  no-width a b c = run-narrow (rw (ne-eqb w 2 a, ne-eqb w 4 b, ne-eqb w 8 c))
-
-pub ends-room : (body : List ℕ) (start size off len k w : ℕ) → w ≡ k → 1 ≤ k → (len ≡ 0 → ⊥) → leb ((off + len) * w) (length (part body start size)) ≡ true
-    → start + (off + len) * k ≤ length body
-ends-room body start size off len k w e l n h =
-    let g : (off + len) * k ≤ length (part body start size) = subst (λ v. (off + len) * v ≤ length (part body start size)) e (leb-true _ _ h) in
-    let m : 1 * (off + len) ≤ k * (off + len) = mul-le-mul-right (off + len) l in
-    omega (arith, n, g, m, one-mul (off + len), mul-comm k (off + len), length-take size (drop start body), length-drop start body)
-
-pub fits-part : (body : List ℕ) (start size m : ℕ) → size < m → length (part body start size) < m
-fits-part body start size m h = omega (arith, length-take size (drop start body))
+    pub run-some : (a e : ℕ) → a ≡ start + off * w → e ≡ a + len * w → rowRun (take (e - a) (drop a body)) offset rows w r ≡ runIn w (part body start size) off len offset rows r
+    run-some a e p q =
+        let n : e - a ≡ len * w = omega arith in
+        let g : off * w + len * w ≤ size = ends-room body start size off len w f .0 in
+        let t : take (e - a) (drop a body) ≡ endsIn w (part body start size) off len
+        = rw (n, p) (ap (take (len * w)) (sym (drop-drop (off * w) start body)) ∙ sym (cut (off * w) (len * w) size (drop start body) g)) in
+        ap (λ s. rowRun s offset rows w r) t ∙ by-reader
 
 -- the run ends as they are found in the tables
-pub runs-as : (tree : List ℕ) (x : Tables) (i e w c start size off len k : ℕ) → e ≡ suc i → w ≡ widthOf c → c ≡ codeWord tree e
-    → start ≡ place x e 3 → size ≡ place x e 4 → off ≡ offsetOf x e → len ≡ lengthOf x e
-    → runIn w (x .body) start (part (x .body) start size) off len k
-    ≡ runIn (codeWidth tree (suc i)) (x .body) (place x (suc i) 3) (firstBuffer x (suc i)) (offsetOf x (suc i)) (lengthOf x (suc i)) k
-runs-as tree x i e w c start size off len k p q r a b o l = rw (q, r, a, b, o, l, p)
+pub runs-as : (tree : List ℕ) (x : Tables) (i e w c start size off len offset rows r : ℕ) → e ≡ suc i → w ≡ widthOf c → c ≡ codeWord tree e
+    → start ≡ place x e 3 → size ≡ place x e 4 → off ≡ offsetOf x e → len ≡ lengthOf x e → offset ≡ offsetOf x i → rows ≡ lengthOf x i
+    → runIn w (part (x .body) start size) off len offset rows r ≡ runOf x i (codeWidth tree (suc i)) r
+runs-as tree x i e w c start size off len offset rows r p q s a b o l y z = rw (q, s, a, b, o, l, y, z, p)
 
-pub ran-run : (i j : ℕ) (f : Found) (k : PhysicalRun) (e : LogicalRow) → f ≡ found.Run k e → j ≡ suc (suc i) → step.Go j (k .0) ≡ ran i f
-ran-run i j f k e p q = rw (p, q)
+pub ran-run : (i j : ℕ) (f : RowRun) (k : PhysicalRun) (left : ℕ) → f ≡ run.Run k left → j ≡ suc (suc i) → step.Go j (k .0) ≡ ran i f
+ran-run i j f k left p q = rw (p, q)
 
-pub ran-past : (i : ℕ) (f : Found) → f ≡ found.Past → refused 12 ≡ ran i f
-ran-past i f p = ap (ran i) (sym p)
+pub ran-past : (i : ℕ) (f : RowRun) (g : ℕ) → f ≡ run.Refused g → refused 12 ≡ ran i f
+ran-past i f g p = ap (ran i) (sym p)
+
+module _ (tree : List ℕ) (x : Tables) (r code : ℕ) (e : code ≡ codeWord tree 0) where
+  pub at-other : (code ≡ 21 → ⊥) → run.Refused 10 ≡ runAt tree x r
+  unfolding runAt
+  at-other a = rw (← e) (go (isRunEnd code) refl)
+    where
+      go : (t : Bool) → isRunEnd code ≡ t → run.Refused 10 ≡ cond t (runOf x 0 (codeWidth tree 1) r) (run.Refused 10)
+      go true h = let p = range 21 21 code h in absurd (omega (arith, a))
+      go false h = refl
+
+  pub at-runs : code ≡ 21 → runOf x 0 (codeWidth tree 1) r ≡ runAt tree x r
+  unfolding runAt
+  at-runs q = rw (← e, q)
 
 -- ---- one level
 

@@ -2,16 +2,15 @@
 -- the slot with its offset added. Ground 12 where the body does not hold what is read. Assumes nothing.
 use mathlib.Core.Bool.{Bool, true, false, cond, _&&_}
 use mathlib.Core.List.{List, [], _∷_}
-use Prim.Native.Nat.{ℕ, zero, suc, _+_, _*_, _^_, min}
-use lib.ListN.{length}
+use Prim.Native.Nat.{ℕ, zero, suc, _+_, _*_, _-_, _^_, min}
+use lib.ListN.{length, take, drop}
 use lib.Dec.{leb, ltb, eqb}
-use Rattle.formats.specs.Code.{widthOf}
+use Rattle.formats.specs.Code.{isRunEnd, widthOf}
 use Rattle.array_data.specs.Tables.{Tables, lengthOf, offsetOf, place, validOf, firstBuffer, secondBuffer}
 use Rattle.array_data.specs.Typed.{NodeKind, fixedNode, stringNode, viewNode, listViewNode, sparseNode, denseNode, runEndNode, dictionaryNode}
-use Rattle.run_ends.specs.Lookup.{bisect, foundAt}
-use Rattle.run_ends.specs.declared.Found.{Found}
-use Rattle.run_ends.specs.declared.Found.the-variants as found
-use Rattle.run_reader.specs.Rows.{isWidth}
+use Rattle.run_reader.specs.Rows.{rowRun}
+use Rattle.run_reader.specs.declared.RowRun.{RowRun}
+use Rattle.run_reader.specs.declared.RowRun.the-variants as run
 use Rattle.node_table.specs.Words.{word}
 use Rattle.lent_entries.specs.Entries.{entryIn, validIn}
 use Rattle.lent_entries.specs.declared.Entry.{Entry}
@@ -67,23 +66,32 @@ module _ (tree : List ℕ) where
 
 -- ---- run ends
 
--- the run of row r among len run ends of w bytes, from entry `off` on of a buffer s that begins at `start`
-unfoldable pub runIn : ℕ → List ℕ → ℕ → List ℕ → ℕ → ℕ → ℕ → Found
-runIn w body start s off len r =
-    cond (isWidth w && (leb 1 len && leb ((off + len) * w) (length s)))
-    (foundAt w body (start + w * off) len (bisect w body (start + w * off) len r))
-    found.Past
+-- the len run ends of w bytes from entry `off` of the buffer s on
+abbrev pub endsIn : ℕ → List ℕ → ℕ → ℕ → List ℕ
+endsIn w s off len = take (len * w) (drop (off * w) s)
+
+-- the run of row r of a column of `rows` rows at `offset`, as the run reader answers it; ground 12 where the buffer does not hold the run ends
+unfoldable pub runIn : ℕ → List ℕ → ℕ → ℕ → ℕ → ℕ → ℕ → RowRun
+runIn w s off len offset rows r =
+    cond (ltb (off + len) (2 ^ 64) && leb ((off + len) * w) (length s)) (rowRun (endsIn w s off len) offset rows w r) (run.Refused 12)
 
 -- "a run-end row [is] the value of the first run whose end is above offset + row"
-abbrev pub ran : ℕ → Found → Step
-ran i (found.Run k e) = step.Go (suc (suc i)) (k .0)
-ran i found.Past = refused 12
+abbrev pub ran : ℕ → RowRun → Step
+ran i (run.Run k left) = step.Go (suc (suc i)) (k .0)
+ran i (run.Refused ground) = refused 12
 
 module _ (x : Tables) where
-  -- the run ends of node i are the next node, with their own offset
+  -- the run of row r of node i: its run ends are the next node, with their own offset
+  abbrev pub runOf : ℕ → ℕ → ℕ → RowRun
+  runOf i w r = runIn w (firstBuffer x (suc i)) (offsetOf x (suc i)) (lengthOf x (suc i)) (offsetOf x i) (lengthOf x i) r
+
+  -- slot k of node i: the run reader adds the offset itself
   abbrev pub runsStep : ℕ → ℕ → ℕ → Step
-  runsStep i w k =
-      ran i (runIn w (x .body) (place x (suc i) 3) (firstBuffer x (suc i)) (offsetOf x (suc i)) (lengthOf x (suc i)) k)
+  runsStep i w k = ran i (runOf i w (k - offsetOf x i))
+
+-- THE RUN OF ROW r of an opened run-end column, and the rows left in it; any other column is 10
+unfoldable pub runAt : List ℕ → Tables → ℕ → RowRun
+runAt tree x r = cond (isRunEnd (codeWord tree 0)) (runOf x 0 (codeWidth tree 1) r) (run.Refused 10)
 
 -- ---- one level
 

@@ -4,14 +4,14 @@ ghost use mathlib.Core.List.{[]};
 ghost use Prim.Native.Nat.{suc, _+_, _≤_, _<_, _^_};
 ghost use lib.ListN.{length};
 ghost use Rattle.number.specs.Number.{splice};
-ghost use Rattle.array_data.specs.Tables.{part, firstBuffer, secondBuffer};
+ghost use Rattle.array_data.specs.Tables.{part, offsetOf, firstBuffer, secondBuffer};
 ghost use Rattle.lent_entries.specs.Entries.{column, entryIn};
 ghost use Rattle.lent_entries.specs.declared.Entry.the-variants.{Value};
-ghost use Rattle.row_reader.specs.Walk.{endWord, childOf, into, underId, codeWidth, runIn, runsStep, stepOn, stepAt, walk, isRefused, rowAt};
+ghost use Rattle.row_reader.specs.Walk.{endWord, childOf, into, underId, codeWidth, runIn, runOf, runsStep, runAt, stepOn, stepAt, walk, isRefused, rowAt};
 use lent_entries::Entry;
 use lent_entries::Validity;
-use run_ends::Found;
-use run_ends::LogicalRow;
+use run_reader::ColumnRow;
+use run_reader::RowRun;
 use slot_reader::RowRead;
 
 // What a node says of a row: all there is, or the row of a child; of a union's child with its id.
@@ -127,29 +127,61 @@ fn step_dense(tree: &[u64], places: &[u32], body: &[u8], first: u32, i: usize, s
 
 // ---- run ends
 
-// The run of a row among the len run ends of w bytes from entry `off` of the buffer on.
-fn find_run(body: &[u8], start: u32, size: u32, off: u64, len: u64, w: u8, row: LogicalRow) -> Found
-    ensures { λ r. ⌜ r ≡ runIn w (now (body .entry)) start (part (now (body .entry)) start size) off len (row .0) ⌝ }
+// The run of a row of a column of `rows` rows at `offset`, whose run ends of w bytes are the len from entry `off` of the buffer on.
+fn find_run(
+    body: &[u8],
+    start: u32,
+    size: u32,
+    off: u64,
+    len: u64,
+    w: u8,
+    offset: u64,
+    rows: u64,
+    row: ColumnRow,
+) -> RowRun
+    ensures { λ r. ⌜ r ≡ runIn w (part (now (body .entry)) start size) off len offset rows (row .0) ⌝ }
 {
-    if len == 0 {
-        return Found::Past;
-    }
     if u64::MAX - off < len {
-        return Found::Past;
+        return RowRun::Refused(12);
     }
     if !lent_tables::rows_fit(off + len, w, lent_tables::part_len(body, start, size)) {
-        return Found::Past;
+        return RowRun::Refused(12);
     }
-    let at = start as usize;
-    match w {
-        2 => run_ends::find_run_i16(body, at + 2 * (off as usize), len as usize, row),
-        4 => run_ends::find_run_i32(body, at + 4 * (off as usize), len as usize, row),
-        8 => run_ends::find_run_i64(body, at + 8 * (off as usize), len as usize, row),
-        _ => Found::Past,
+    let n = len * (w as u64);
+    if n == 0 {
+        let none = [0u8; 0];
+        return run_reader::run_at(&none, offset, rows, w, row);
     }
+    let a = (start as u64 + off * (w as u64)) as usize;
+    let e = a + n as usize;
+    run_reader::run_at(&body[a..e], offset, rows, w, row)
 }
 
-// The values' row is the run's number: the run ends are the next node, with their own offset, and the values the one after.
+// The run of a row of the run-end node i, and the rows left in it: the run ends are the next node, with their own offset.
+fn run_of(
+    tree: &[u64],
+    lengths: &[u64],
+    places: &[u32],
+    body: &[u8],
+    first: u32,
+    i: usize,
+    row: ColumnRow,
+) -> RowRun
+    requires { ⌜ i + 2 < 2 ^ 32 ⌝ }
+    ensures { λ r. ⌜ r ≡ runOf (column (now (lengths .entry)) (now (places .entry)) [] (now (body .entry)) first) i (codeWidth (now (tree .entry)) (suc i)) (row .0) ⌝ }
+{
+    let e = i + 1;
+    let w = formats::width_of(slot_reader::code_word(tree, e));
+    let start = lent_entries::place_at(places, first, e, 3);
+    let size = lent_entries::place_at(places, first, e, 4);
+    let off = lent_entries::offset_at(lengths, first, e);
+    let len = lent_entries::length_at(lengths, first, e);
+    let offset = lent_entries::offset_at(lengths, first, i);
+    let rows = lent_entries::length_at(lengths, first, i);
+    find_run(body, start, size, off, len, w, offset, rows, row)
+}
+
+// The values' row is the run's number: the values are the node behind the run ends. The run reader adds the offset itself.
 fn step_runs(
     tree: &[u64],
     lengths: &[u64],
@@ -160,21 +192,35 @@ fn step_runs(
     slot: u64,
 ) -> Step
     requires { ⌜ i + 2 < 2 ^ 32 ⌝ }
+    requires { ⌜ offsetOf (column (now lengths) [] [] [] first) i ≤ slot ⌝ }
     ensures { λ r. ⌜ r ≡ runsStep (column (now (lengths .entry)) (now (places .entry)) [] (now (body .entry)) first) i (codeWidth (now (tree .entry)) (suc i)) slot ⌝ }
 {
-    let e = i + 1;
-    let w = formats::width_of(slot_reader::code_word(tree, e));
-    let start = lent_entries::place_at(places, first, e, 3);
-    let size = lent_entries::place_at(places, first, e, 4);
-    let off = lent_entries::offset_at(lengths, first, e);
-    let len = lent_entries::length_at(lengths, first, e);
-    match find_run(body, start, size, off, len, w, LogicalRow(slot)) {
-        Found::Run { run, end: _ } => Step::Go {
+    let row = ColumnRow(slot - lent_entries::offset_at(lengths, first, i));
+    match run_of(tree, lengths, places, body, first, i, row) {
+        RowRun::Run { run, left: _ } => Step::Go {
             node: i + 2,
             row: run.0 as u64,
         },
-        Found::Past => Step::Done(RowRead::Refused(12)),
+        RowRun::Refused(_) => Step::Done(RowRead::Refused(12)),
     }
+}
+
+// The run of a row of an opened column, and how many rows of the column from that one on stand in it: 10 where it is no run-end column, 2 where
+// there is no such row.
+pub fn run_at(
+    tree: &[u64],
+    lengths: &[u64],
+    places: &[u32],
+    body: &[u8],
+    first: u32,
+    row: ColumnRow,
+) -> RowRun
+    ensures { λ r. ⌜ r ≡ runAt (now (tree .entry)) (column (now (lengths .entry)) (now (places .entry)) [] (now (body .entry)) first) (row .0) ⌝ }
+{
+    if slot_reader::code_word(tree, 0) != 21 {
+        return RowRun::Refused(10);
+    }
+    run_of(tree, lengths, places, body, first, 0, row)
 }
 
 // ---- one level
@@ -191,6 +237,7 @@ fn step_slot(
     slot: u64,
 ) -> Step
     requires { ⌜ i + 2 < 2 ^ 32 ⌝ }
+    requires { ⌜ offsetOf (column (now lengths) [] [] [] first) i ≤ slot ⌝ }
     ensures { λ r. ⌜ r ≡ stepOn (now (tree .entry)) (column (now (lengths .entry)) (now (places .entry)) (now (buffers .entry)) (now (body .entry)) first) i slot ⌝ }
 {
     match slot_reader::code_word(tree, i) {

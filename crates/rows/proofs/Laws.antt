@@ -10,7 +10,7 @@ use borrow.Author.Tests.{lt-ltb, le-ltb, le-leb, lt-leb, ltb-true, ltb-false, eq
 use Rattle.number.specs.Number.{encode, entry}
 use Rattle.columnar.specs.Types.{half}
 use Rattle.utils.specs.Offsets.{countedUp}
-use Rattle.run_ends.specs.Lookup.{bisect, foundAt, runsOf}
+use Rattle.run_ends.specs.Lookup.{foundRun, runsOf}
 use Rattle.run_ends.specs.Clip.{clipped}
 use Rattle.run_ends.specs.declared.Runs.{Runs}
 use Rattle.lent_tables.proofs.Laws.{no, yes, and-left, and-right}
@@ -222,7 +222,7 @@ pub runs-from : (x : Join) (w i : ℕ) {k at m o : ℕ} → k ≡ x .first + suc
 runs-from x w i e f g l h = rw (l, e) (ends-from x w i (lengthOf x (suc i)) e f g h)
 
 pub runs-given : (x : Join) (child : Walk) (w i slot n : ℕ) {k at m o : ℕ} {r : Runs} → k ≡ x .first + suc i → at ≡ getD (x .places) (9 * k + 3) 0 → o ≡ getD (x .lengths) (2 * k + 1) 0 → m ≡ getD (x .lengths) (2 * k) 0
-    → r ≡ runsOf (λ y. foundAt w (x .body) (at + w * o) m (bisect w (x .body) (at + w * o) m y)) slot (slot + n) → r ≡ runsAt x child w i slot n
+    → r ≡ runsOf (foundRun w (x .body) (at + w * o) m (slot + n)) slot (slot + n) → r ≡ runsAt x child w i slot n
 runs-given x child w i slot n e f g h l = rw (f, g, h, e) at l
 
 pub run-did : (x : Join) (wr : Bool) (w i slot n last run count : ℕ) (c room : List ℕ) {j k at o p v : ℕ} {c2 room2 : List ℕ} → j ≡ suc i → k ≡ x .first + suc i → at ≡ getD (x .places) (9 * k + 3) 0

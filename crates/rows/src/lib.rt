@@ -165,7 +165,7 @@ pub fn runs_ready(
     0
 }
 
-// The runs of the rows slot .. slot + n - 1 of the run-end node i, whose ends have w bytes.
+// The runs of the n rows from `start` on of the run-end node i, whose ends have w bytes.
 pub fn runs_at(
     lengths: &[u64],
     places: &[u32],
@@ -173,13 +173,13 @@ pub fn runs_at(
     first: usize,
     i: usize,
     w: u64,
-    slot: u64,
+    start: LogicalRow,
     n: u64,
 ) -> Runs
-    requires { ⌜ (first < 2 ^ 32) × (i + 2 < 32) × (slot + n < 2 ^ 63) ⌝ }
+    requires { ⌜ (first < 2 ^ 32) × (i + 2 < 32) × (start .0 + n < 2 ^ 63) ⌝ }
     requires { ⌜ ((w ≡ 2 → ⊥) → (w ≡ 4 → ⊥) → w ≡ 8) ⌝ }
     requires { ⌜ place (join [] [] (now lengths) (now places) (now body) first 0) (suc i) 3 + w * (offsetOf (join [] [] (now lengths) (now places) (now body) first 0) (suc i) + lengthOf (join [] [] (now lengths) (now places) (now body) first 0) (suc i)) ≤ length (now body) ⌝ }
-    ensures { λ r. ⌜ ((state parts : List ℕ) (source : ℕ) (child : Walk) → r ≡ runsAt (join state parts (now (lengths .entry)) (now (places .entry)) (now (body .entry)) first source) child w i slot n) ⌝ }
+    ensures { λ r. ⌜ ((state parts : List ℕ) (source : ℕ) (child : Walk) → r ≡ runsAt (join state parts (now (lengths .entry)) (now (places .entry)) (now (body .entry)) first source) child w i (start .0) n) ⌝ }
 {
     let at = lent_tables::place(places, first + i + 1, 3) as u64;
     let from = at + w * lent_tables::offset_of(lengths, first + i + 1);
@@ -189,12 +189,12 @@ pub fn runs_at(
         from as usize,
         m as usize,
         w,
-        LogicalRow(slot),
-        LogicalRow(slot + n),
+        start,
+        LogicalRow(start.0 + n),
     )
 }
 
-// The ends of `count` runs from `run` on, clipped to the rows slot .. slot + n - 1 and put behind the row `last`.
+// The ends of `count` runs from `run` on, clipped to the n rows from `start` on and put behind the row `last`.
 pub fn run_numbers(
     state: &[u64],
     parts: &[u32],
@@ -207,20 +207,21 @@ pub fn run_numbers(
     first: usize,
     i: usize,
     w: u64,
-    slot: u64,
+    start: LogicalRow,
     n: u64,
     last: u64,
     run: PhysicalRun,
     count: usize,
 ) -> u8
-    requires { ⌜ (first < 2 ^ 32) × (i + 2 < 32) × (slot + n < 2 ^ 63) × (last + n < half w) ⌝ }
+    requires { ⌜ (first < 2 ^ 32) × (i + 2 < 32) × (start .0 + n < 2 ^ 63) × (last + n < half w) ⌝ }
     requires { ⌜ ((w ≡ 2 → ⊥) → (w ≡ 4 → ⊥) → w ≡ 8) ⌝ }
     requires { ⌜ place (join [] [] (now lengths) (now places) (now body) first 0) (suc i) 3 + w * (offsetOf (join [] [] (now lengths) (now places) (now body) first 0) (suc i) + (run .0 + count)) ≤ length (now body) ⌝ }
-    ensures { λ g. ⌜ ((source : ℕ) → Did (now (state .entry)) (now (parts .entry)) write (runNumbers (join (now (state .entry)) (now (parts .entry)) (now (lengths .entry)) (now (places .entry)) (now (body .entry)) first source) w i slot n last (run .0) count (now (counts .entry))) (now (room .entry)) g (now (counts .exit)) (now (room .exit))) ⌝ }
+    ensures { λ g. ⌜ ((source : ℕ) → Did (now (state .entry)) (now (parts .entry)) write (runNumbers (join (now (state .entry)) (now (parts .entry)) (now (lengths .entry)) (now (places .entry)) (now (body .entry)) first source) w i (start .0) n last (run .0) count (now (counts .entry))) (now (room .entry)) g (now (counts .exit)) (now (room .exit))) ⌝ }
 {
     let at = lent_tables::place(places, first + i + 1, 3) as u64;
-    let start = at + w * lent_tables::offset_of(lengths, first + i + 1);
-    let from = start + w * (run.0 as u64);
+    let ends = at + w * lent_tables::offset_of(lengths, first + i + 1);
+    let from = ends + w * (run.0 as u64);
+    let stop = start.0 + n;
     let o = growth::scale(growth::rows_of(counts, i + 1), w);
     puts::put_run_ends(
         state,
@@ -234,8 +235,8 @@ pub fn run_numbers(
         body,
         from as usize,
         count as u64,
-        slot,
-        slot + n,
+        start,
+        LogicalRow(stop),
         last,
     );
     growth::add_rows(counts, i + 1, count as u64);

@@ -7,26 +7,23 @@ use native.Mathlib.Numerals.{add-one}
 use native.Mathlib.Omega.{arith}
 use mathlib.Core.List.{List, _++_}
 use lib.ListN.{length, length-append}
-use lib.Dec.{ltb}
-use borrow.Author.Tests.{ltb-true, ltb-false, lt-ltb, le-ltb}
+use lib.Dec.{ltb, leb}
+use borrow.Author.Tests.{ltb-true, ltb-false, leb-true, lt-ltb, le-ltb, le-leb, lt-leb}
 use Rattle.number.specs.Number.{entry, encode, splice}
 use Rattle.number.proofs.Laws.{length-encode, splice-splice}
-use Rattle.run_ends.specs.Lookup.{firstAbove, bisect, foundAt, Rising, lastEnd, spanOf, spanned, runsOf}
-use Rattle.run_ends.specs.Clip.{clip, clipped, nextEnd}
-use Rattle.run_ends.specs.declared.LogicalRow.{LogicalRow}
+use Rattle.run_ends.specs.Lookup.{firstAbove, bisect, leftOf, answered, foundAt, foundRun, formatRun, Climbs, Rising, lastEnd, spanOf, spanned, shortened, runsOf, runsBetween}
+use Rattle.run_ends.specs.Clip.{clip, clipped}
 use Rattle.run_ends.specs.declared.PhysicalRun.{PhysicalRun}
 use Rattle.run_ends.specs.declared.Found.{Found}
 use Rattle.run_ends.specs.declared.Found.the-variants.{Run, Past}
 use Rattle.run_ends.specs.declared.Runs.{Runs}
 use Rattle.run_ends.specs.declared.Runs.the-variants.{Range, None}
-use Rattle.run_ends.specs.declared.NextEnd.{NextEnd}
-use Rattle.run_ends.specs.declared.NextEnd.the-variants.{End, Over}
-use Rattle.run_ends.proofs.Search.{halve-first}
+use Rattle.run_ends.proofs.Search.{First, first-is, first-of, quarter-first}
 
 module _ (w : ℕ) (s : List ℕ) (from n : ℕ) where
-  -- where the ends rise, the search by halves answers the format's run
+  -- where the ends rise, the search by quarters answers the format's run
   pub bisect-first : (x : ℕ) → Rising w s from n → bisect w s from n x ≡ firstAbove w s from n x
-  bisect-first x h = halve-first (entry w s from) n x (h .climbs)
+  bisect-first x h = quarter-first (entry w s from) n x (h .climbs)
 
   pub last-at : 0 < n → entry w s from (n - 1) ≡ lastEnd w s from n
   last-at h = go n h
@@ -36,55 +33,96 @@ module _ (w : ℕ) (s : List ℕ) (from n : ℕ) where
       go (suc k) g = let e : suc k - 1 ≡ k = omega arith in rw e
 
   -- what a lookup promises
-  abbrev pub Looked : ℕ → Found → Type 0
-  Looked x r =
-      (r ≡ foundAt w s from n (bisect w s from n x)) × (Rising w s from n → r ≡ foundAt w s from n (firstAbove w s from n x))
+  abbrev pub Looked : ℕ → ℕ → Found → Type 0
+  Looked last x r = (r ≡ foundRun w s from n last x) × (Rising w s from n → r ≡ formatRun w s from n last x)
 
-  looked : (x : ℕ) {r : Found} → r ≡ foundAt w s from n (bisect w s from n x) → Looked x r
-  looked x e = (e, λ h. e ∙ ap (foundAt w s from n) (bisect-first x h))
+  looked : (last x : ℕ) {r : Found} → r ≡ foundRun w s from n last x → Looked last x r
+  looked last x e = (e, λ h. e ∙ ap (foundAt w s from n last x) (bisect-first x h))
 
-  pub looked-run : (x : ℕ) (a : PhysicalRun) (end : LogicalRow) → a .0 ≡ bisect w s from n x → a .0 < n → end .0 ≡ entry w s from (a .0)
-      → Looked x (Run a end)
-  looked-run x a end e h g = looked x (rw (← e, lt-ltb (a .0) n h, ← g))
+  pub looked-past : (last x k : ℕ) → k ≡ bisect w s from n x → n ≤ k → Looked last x Past
+  looked-past last x k e h = looked last x (rw (← e, le-ltb k n h))
 
-  pub looked-past : (x k : ℕ) → k ≡ bisect w s from n x → n ≤ k → Looked x Past
-  looked-past x k e h = looked x (rw (← e, le-ltb k n h))
+  pub looked-run : (last x : ℕ) (k end : ℕ) {r : Found} → k ≡ bisect w s from n x → k < n → end ≡ entry w s from k → r ≡ answered k end last x → Looked last x r
+  looked-run last x k end e h g a = looked last x (a ∙ rw (← e, lt-ltb k n h, ← g))
 
   -- what a range promises
   abbrev pub Ranged : ℕ → ℕ → Runs → Type 0
   Ranged start end r =
-      (r ≡ runsOf (λ x. foundAt w s from n (bisect w s from n x)) start end)
-      × (Rising w s from n → r ≡ runsOf (λ x. foundAt w s from n (firstAbove w s from n x)) start end)
+      (r ≡ runsOf (foundRun w s from n end) start end) × (Rising w s from n → r ≡ runsBetween (formatRun w s from n end) start end)
 
-  ranged : (start end : ℕ) {r : Runs} → r ≡ runsOf (λ x. foundAt w s from n (bisect w s from n x)) start end → Ranged start end r
-  ranged start end e =
-      (e, λ h. e ∙ ap₂ (λ (j k : ℕ). cond (ltb start end) (spanned (foundAt w s from n j) (foundAt w s from n k)) None) (bisect-first start h) (bisect-first (end - 1) h))
+  module _ (start end : ℕ) (c : Climbs (entry w s from) n) where
+    abbrev E : ℕ → ℕ
+    E = entry w s from
+
+    abbrev A : ℕ
+    A = firstAbove w s from n start
+
+    -- where the rows are all left in the run of the first, the last one stands in it
+    same-run : start < end → A < n → end ≤ E A → firstAbove w s from n (end - 1) ≡ A
+    same-run l h g =
+        let f : First E n start A = first-is E n start in
+        first-of E n (end - 1) (record { within = f .within; before = λ k m. omega (arith, f .before k m); above = λ _. omega arith })
+
+    one-run : Range (record { 0 = A }) 1 ≡ spanOf (record { 0 = A }) (record { 0 = A })
+    one-run = let z : A - A + 1 ≡ 1 = omega arith in rw (le-ltb A A (omega arith), z)
+
+    -- where the ends rise, the search that is not made would have answered the same
+    pub short-cut : runsOf (formatRun w s from n end) start end ≡ runsBetween (formatRun w s from n end) start end
+    short-cut = go (ltb start end) refl (ltb A n) refl (ltb start (E A)) refl (leb (end - start) (leftOf (E A) end start)) refl
+      where
+        go : (a : Bool) → ltb start end ≡ a → (b : Bool) → ltb A n ≡ b → (t : Bool) → ltb start (E A) ≡ t → (u : Bool) → leb (end - start) (leftOf (E A) end start) ≡ u
+            → cond a (shortened (end - start) (cond b (cond t (Run (record { 0 = A }) (leftOf (E A) end start)) Past) Past) (formatRun w s from n end (end - 1))) None
+            ≡ cond a (spanned (cond b (cond t (Run (record { 0 = A }) (leftOf (E A) end start)) Past) Past) (formatRun w s from n end (end - 1))) None
+        go false p b q t r u v = refl
+        go true p false q t r u v = refl
+        go true p true q false r u v = refl
+        go true p true q true r false v = rw v
+        go true p true q true r true v =
+            let l : start < end = ltb-true _ _ p in
+            let h : A < n = ltb-true _ _ q in
+            let m : start < E A = ltb-true _ _ r in
+            let y : end - start ≤ leftOf (E A) end start = leb-true _ _ v in
+            let g : end ≤ E A = omega arith in
+            let k : end - 1 < E A = omega arith in
+            rw (v, same-run l h g, lt-ltb A n h, lt-ltb (end - 1) (E A) k) one-run
+
+  ranged : (start end : ℕ) {r : Runs} → r ≡ runsOf (foundRun w s from n end) start end → Ranged start end r
+  ranged start end e = (
+    e,
+    λ h. e ∙ ap₂ (λ (j k : ℕ). cond (ltb start end) (shortened (end - start) (foundAt w s from n end start j) (foundAt w s from n end (end - 1) k)) None) (bisect-first start h) (bisect-first (end - 1) h)
+        ∙ short-cut start end (h .climbs),
+  )
 
   pub ranged-none : (start end : ℕ) → end ≤ start → Ranged start end None
   ranged-none start end h = ranged start end (rw (le-ltb start end h))
 
   module _ (start end : ℕ) (h : start < end) where
-    pub ranged-past : {f : Found} → f ≡ foundAt w s from n (bisect w s from n start) → f ≡ Past → Ranged start end None
+    pub ranged-past : {f : Found} → f ≡ foundRun w s from n end start → f ≡ Past → Ranged start end None
     ranged-past e p = ranged start end (rw (lt-ltb start end h, ← e, p))
 
-    pub ranged-end-past : {f g : Found} {a : PhysicalRun} {x : LogicalRow} → f ≡ foundAt w s from n (bisect w s from n start)
-        → f ≡ Run a x → g ≡ foundAt w s from n (bisect w s from n (end - 1)) → g ≡ Past → Ranged start end None
-    ranged-end-past e p d q = ranged start end (rw (lt-ltb start end h, ← e, p, ← d, q))
+    module _ {f : Found} {a : PhysicalRun} {left : ℕ} (e : f ≡ foundRun w s from n end start) (p : f ≡ Run a left) where
+      -- the last row is left in the first row's run
+      pub ranged-one : end - 1 - start < left → Ranged start end (Range a 1)
+      ranged-one l = ranged start end (rw (lt-ltb start end h, ← e, p, le-leb (end - start) left (omega arith)))
 
-    pub ranged-span : {f g : Found} {a b : PhysicalRun} {x y : LogicalRow} {r : Runs} → f ≡ foundAt w s from n (bisect w s from n start)
-        → f ≡ Run a x → g ≡ foundAt w s from n (bisect w s from n (end - 1)) → g ≡ Run b y → r ≡ spanOf a b → Ranged start end r
-    ranged-span e p d q t = ranged start end (t ∙ rw (lt-ltb start end h, ← e, p, ← d, q))
+      module _ {g : Found} (m : left ≤ end - 1 - start) (d : g ≡ foundRun w s from n end (end - 1)) where
+        pub ranged-end-past : g ≡ Past → Ranged start end None
+        ranged-end-past q = ranged start end (rw (lt-ltb start end h, ← e, p, lt-leb (end - start) left (omega arith), ← d, q))
 
-  found-below : (k : ℕ) {a : PhysicalRun} {x : LogicalRow} → Run a x ≡ foundAt w s from n k → a .0 < n
-  found-below k {a} {x} e = go (ltb k n) refl e
+        pub ranged-span : {b : PhysicalRun} {y : ℕ} {r : Runs} → g ≡ Run b y → r ≡ spanOf a b → Ranged start end r
+        ranged-span q t = ranged start end (t ∙ rw (lt-ltb start end h, ← e, p, lt-leb (end - start) left (omega arith), ← d, q))
+
+  found-below : (last x k : ℕ) {a : PhysicalRun} {y : ℕ} → Run a y ≡ foundAt w s from n last x k → a .0 < n
+  found-below last x k {a} {y} e = go (ltb k n) refl (ltb x (entry w s from k)) e
     where
-      go : (t : Bool) → ltb k n ≡ t → Run a x ≡ cond t (Run (record { 0 = k }) (record { 0 = entry w s from k })) Past → a .0 < n
-      go true p q = let g : a ≡ record { 0 = k } = cc in rw g (ltb-true k n p)
-      go false p q = absurd (let z : _≡_ {A = ℕ} 0 1 = cc in omega arith)
+      go : (t : Bool) → ltb k n ≡ t → (u : Bool) → Run a y ≡ cond t (cond u (Run (record { 0 = k }) (leftOf (entry w s from k) last x)) Past) Past → a .0 < n
+      go true p true q = let g : a ≡ record { 0 = k } = cc in rw g (ltb-true k n p)
+      go true p false q = absurd (let z : _≡_ {A = ℕ} 0 1 = cc in omega arith)
+      go false p u q = absurd (let z : _≡_ {A = ℕ} 0 1 = cc in omega arith)
 
   -- a run that a lookup answers is one of the n
-  pub looked-below : (k : ℕ) {f : Found} {a : PhysicalRun} {x : LogicalRow} → f ≡ foundAt w s from n k → f ≡ Run a x → a .0 < n
-  looked-below k e p = found-below k (sym p ∙ e)
+  pub looked-below : (last x k : ℕ) {f : Found} {a : PhysicalRun} {y : ℕ} → f ≡ foundAt w s from n last x k → f ≡ Run a y → a .0 < n
+  looked-below last x k e p = found-below last x k (sym p ∙ e)
 
 -- ---- what a caller learns from an answer
 
@@ -95,31 +133,48 @@ pub record Within (n start end a m : ℕ) : Type 0 where
   pub within : a + m ≤ n
 
 module _ (w : ℕ) (s : List ℕ) (from n start end : ℕ) (look : ℕ → ℕ) where
-  pub range-within : {r : Runs} {a : PhysicalRun} {m : ℕ} → r ≡ runsOf (λ x. foundAt w s from n (look x)) start end → r ≡ Range a m
+  pub range-within : {r : Runs} {a : PhysicalRun} {m : ℕ} → r ≡ runsOf (λ x. foundAt w s from n end x (look x)) start end → r ≡ Range a m
       → Within n start end (a .0) m
   range-within {r} {a} {m} e f = go (ltb start end) refl (sym e ∙ f)
     where
-      spans : (j k : ℕ) → start < end → k < n → (t : Bool) → ltb k j ≡ t
-          → cond t None (Range (record { 0 = j }) (k - j + 1)) ≡ Range a m → Within n start end (a .0) m
-      spans j k l h true p q = absurd (let z : _≡_ {A = ℕ} 0 1 = cc in omega arith)
+      no : {x : Runs} → x ≡ Range a m → x ≡ None → Within n start end (a .0) m
+      no p q = absurd (let z : _≡_ {A = ℕ} 0 1 = cc in omega arith)
+
+      spans : (j k : PhysicalRun) → start < end → k .0 < n → (t : Bool) → ltb (k .0) (j .0) ≡ t
+          → cond t None (Range j (k .0 - j .0 + 1)) ≡ Range a m → Within n start end (a .0) m
+      spans j k l h true p q = no q refl
       spans j k l h false p q =
-          let b : j ≤ k = ltb-false k j p in
-          let u : record { 0 = j } ≡ a = cc in
-          let v : k - j + 1 ≡ m = cc in
-          let x : j ≡ a .0 = ap (λ (r : PhysicalRun). r .0) u in
+          let b : j .0 ≤ k .0 = ltb-false (k .0) (j .0) p in
+          let u : j ≡ a = cc in
+          let v : k .0 - j .0 + 1 ≡ m = cc in
+          let x : j .0 ≡ a .0 = ap (λ (r : PhysicalRun). r .0) u in
           record { rows = l; runs = omega arith; within = omega arith }
 
-      both : (j k : ℕ) → start < end → (t : Bool) → ltb j n ≡ t → (u : Bool) → ltb k n ≡ u
-          → spanned (cond t (Run (record { 0 = j }) (record { 0 = entry w s from j })) Past) (cond u (Run (record { 0 = k }) (record { 0 = entry w s from k })) Past) ≡ Range a m
-          → Within n start end (a .0) m
-      both j k l true p true g q = spans j k l (ltb-true k n g) (ltb k j) refl q
-      both j k l true p false g q = absurd (let z : _≡_ {A = ℕ} 0 1 = cc in omega arith)
-      both j k l false p u g q = absurd (let z : _≡_ {A = ℕ} 0 1 = cc in omega arith)
+      both : (j k : Found) → j ≡ foundAt w s from n end start (look start) → k ≡ foundAt w s from n end (end - 1) (look (end - 1)) → start < end
+          → spanned j k ≡ Range a m → Within n start end (a .0) m
+      both (Run j x) (Run k y) p g l q = spans j k l (found-below w s from n end (end - 1) (look (end - 1)) g) (ltb (k .0) (j .0)) refl q
+      both (Run j x) Past p g l q = no q refl
+      both Past k p g l q = no q refl
 
-      go : (t : Bool) → ltb start end ≡ t → cond t (spanned (foundAt w s from n (look start)) (foundAt w s from n (look (end - 1)))) None ≡ Range a m
+      short : (j k : Found) → j ≡ foundAt w s from n end start (look start) → k ≡ foundAt w s from n end (end - 1) (look (end - 1)) → start < end
+          → shortened (end - start) j k ≡ Range a m → Within n start end (a .0) m
+      short Past k p g l q = no q refl
+      short (Run j x) k p g l q = cut (leb (end - start) x) q
+        where
+          cut : (t : Bool) → cond t (Range j 1) (spanned (Run j x) k) ≡ Range a m → Within n start end (a .0) m
+          cut true z =
+              let u : j ≡ a = cc in
+              let v : 1 ≡ m = cc in
+              let i : j .0 ≡ a .0 = ap (λ (r : PhysicalRun). r .0) u in
+              let h : j .0 < n = found-below w s from n end start (look start) p in
+              record { rows = l; runs = omega arith; within = omega arith }
+          cut false z = both (Run j x) k p g l z
+
+      go : (t : Bool) → ltb start end ≡ t
+          → cond t (shortened (end - start) (foundAt w s from n end start (look start)) (foundAt w s from n end (end - 1) (look (end - 1)))) None ≡ Range a m
           → Within n start end (a .0) m
-      go true p q = both (look start) (look (end - 1)) (ltb-true start end p) (ltb (look start) n) refl (ltb (look (end - 1)) n) refl q
-      go false p q = absurd (let z : _≡_ {A = ℕ} 0 1 = cc in omega arith)
+      go true p q = short (foundAt w s from n end start (look start)) (foundAt w s from n end (end - 1) (look (end - 1))) refl refl (ltb-true start end p) q
+      go false p q = no q refl
 
 -- ---- clipped run ends
 
@@ -139,26 +194,3 @@ module _ (w : ℕ) (s : List ℕ) (from start end last : ℕ) where
       let g : w * (k + 1) ≡ w * k + w = rw (add-one, mul-suc) in
       rw add-one
       (rw e at (splice-splice at (clipped w s from k start end last) (encode w (last + clip (entry w s from k) start end)) room (simp (e, length-encode) (omega arith))))
-
--- ---- ground 7
-
-pub next-over : (w last n : ℕ) → 256 ^ w / 2 ≤ last + n → Over ≡ nextEnd w last n
-next-over w last n h = rw (le-ltb (last + n) (256 ^ w / 2) h)
-
--- an answer says that the run end fits, or that it does not
-pub next-fits : (w last n : ℕ) {r : NextEnd} {x : ℕ} → r ≡ nextEnd w last n → r ≡ End x → last + n < 256 ^ w / 2
-next-fits w last n {r} {x} e f = go (ltb (last + n) (256 ^ w / 2)) refl (sym e ∙ f)
-  where
-    go : (t : Bool) → ltb (last + n) (256 ^ w / 2) ≡ t → cond t (End (last + n)) Over ≡ End x → last + n < 256 ^ w / 2
-    go true p q = ltb-true _ _ p
-    go false p q = absurd (let z : _≡_ {A = ℕ} 0 1 = cc in omega arith)
-
-pub next-not : (w last n : ℕ) {r : NextEnd} → r ≡ nextEnd w last n → r ≡ Over → 256 ^ w / 2 ≤ last + n
-next-not w last n e f = go (ltb (last + n) (256 ^ w / 2)) refl (sym e ∙ f)
-  where
-    go : (t : Bool) → ltb (last + n) (256 ^ w / 2) ≡ t → cond t (End (last + n)) Over ≡ Over → 256 ^ w / 2 ≤ last + n
-    go true p q = absurd (let z : _≡_ {A = ℕ} 0 1 = cc in omega arith)
-    go false p q = ltb-false _ _ p
-
-pub next-end : (w last n : ℕ) → last + n < 256 ^ w / 2 → End (last + n) ≡ nextEnd w last n
-next-end w last n h = rw (lt-ltb (last + n) (256 ^ w / 2) h)

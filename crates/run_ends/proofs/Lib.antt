@@ -1,7 +1,5 @@
 -- The laws of `run_ends`.
 pub mod Search
+pub mod Left
 pub mod Laws
-pub mod Extend
-pub mod Joined
-pub mod Written
 pub mod Table

@@ -1,57 +1,62 @@
--- A search by halves, turn by turn; where the ends rise it answers the first run above the row. Assumes nothing.
+-- A search by quarters, turn by turn; where the ends rise it answers the first run above the row. Assumes nothing.
 use mathlib.Core.Path.{_≡_, refl, sym, ap, _∙_}
 use mathlib.Core.Logic.{⊎-elim}
 use mathlib.Core.Bool.{Bool, true, false, cond}
-use Prim.Native.Nat.{ℕ, zero, suc, _+_, _-_, _/_, _≤_, _<_}
-use native.Mathlib.Nat.{eq-or-lt-of-le}
+use Prim.Native.Nat.{ℕ, zero, suc, _+_, _*_, _-_, _/_, _≤_, _<_}
+use native.Mathlib.Nat.{eq-or-lt-of-le, mul-comm, mul-le-mul-right}
 use native.Mathlib.Numerals.{add-one}
 use native.Mathlib.Omega.{arith}
 use lib.Dec.{ltb}
 use borrow.Author.Tests.{ltb-true, ltb-false, lt-ltb, le-ltb}
-use Rattle.run_ends.specs.Lookup.{scan, first, middle, halve, Climbs}
+use Rattle.run_ends.specs.Lookup.{scan, first, notAbove, tally, passed, quarter, Climbs, Covers}
 
 -- what is left of a search is the whole search
-pub record Halving (e : ℕ → ℕ) (x n lo hi : ℕ) : Type 0 where
+pub record Quartering (e : ℕ → ℕ) (x n base size : ℕ) : Type 0 where
   pub turns : ℕ
-  pub order : lo ≤ hi
-  pub within : hi ≤ n
-  pub enough : hi - lo ≤ turns
-  pub same : halve e x turns lo hi ≡ halve e x n 0 n
+  pub within : base + size ≤ n
+  pub enough : size ≤ turns
+  pub same : quarter e x turns base size ≡ quarter e x n 0 n
 
-pub begin : (e : ℕ → ℕ) (x n : ℕ) → Halving e x n 0 n
-begin e x n = record { turns = n; order = omega arith; within = omega arith; enough = omega arith; same = refl }
+pub begin : (e : ℕ → ℕ) (x n : ℕ) → Quartering e x n 0 n
+begin e x n = record { turns = n; within = omega arith; enough = omega arith; same = refl }
 
-module _ (e : ℕ → ℕ) (x n lo hi : ℕ) where
-  low-turn : (t : ℕ) → lo < hi → x < e (middle lo hi) → halve e x (suc t) lo hi ≡ halve e x t lo (middle lo hi)
-  unfolding halve
-  low-turn t h g = rw (lt-ltb lo hi h, lt-ltb x (e (middle lo hi)) g)
+pub at-most-one : (x y : ℕ) → notAbove x y ≤ 1
+at-most-one x y = go (ltb x y)
+  where
+    go : (t : Bool) → cond t 0 1 ≤ 1
+    go true = omega arith
+    go false = omega arith
 
-  high-turn : (t : ℕ) → lo < hi → e (middle lo hi) ≤ x → halve e x (suc t) lo hi ≡ halve e x t (middle lo hi + 1) hi
-  unfolding halve
-  high-turn t h g = rw (lt-ltb lo hi h, le-ltb x (e (middle lo hi)) g)
+pub at-most-three : (e : ℕ → ℕ) (x base q : ℕ) → passed e x base q ≤ 3
+at-most-three e x base q = omega (arith, at-most-one x (e (base + q)), at-most-one x (e (base + 2 * q)), at-most-one x (e (base + 3 * q)))
 
-  last-turn : (t : ℕ) → hi ≤ lo → halve e x t lo hi ≡ lo
-  unfolding halve
+-- at most three quarters are passed
+pub quarters : (q t : ℕ) → t ≤ 3 → q * t ≤ 3 * q
+quarters q t h = omega (arith, mul-le-mul-right q h, mul-comm q t)
+
+module _ (e : ℕ → ℕ) (x n base size : ℕ) where
+  turn : (t : ℕ) → 4 ≤ size → quarter e x (suc t) base size ≡ quarter e x t (base + size / 4 * passed e x base (size / 4)) (size - 3 * (size / 4))
+  unfolding quarter
+  turn t h = rw (le-ltb size 4 h)
+
+  last-turn : (t : ℕ) → size < 4 → quarter e x t base size ≡ base + tally e x base size
+  unfolding quarter
   last-turn zero h = refl
-  last-turn (suc t) h = rw (le-ltb lo hi h)
+  last-turn (suc t) h = rw (lt-ltb size 4 h)
 
-  pub go-low : lo < hi → x < e (middle lo hi) → Halving e x n lo hi → Halving e x n lo (middle lo hi)
-  go-low h g b = go (b .turns) (b .enough) (b .same)
+  pub go-on : {t : ℕ} → 4 ≤ size → t ≡ passed e x base (size / 4) → Quartering e x n base size → Quartering e x n (base + size / 4 * t) (size - 3 * (size / 4))
+  go-on {t} h p b = rw p (go (b .turns) (b .enough) (b .same))
     where
-      go : (t : ℕ) → hi - lo ≤ t → halve e x t lo hi ≡ halve e x n 0 n → Halving e x n lo (middle lo hi)
-      go zero l p = absurd (omega arith)
-      go (suc t) l p =
-          record { turns = t; order = omega arith; within = omega arith; enough = omega arith; same = sym (low-turn t h g) ∙ p }
+      few : size / 4 * passed e x base (size / 4) ≤ 3 * (size / 4)
+      few = quarters (size / 4) _ (at-most-three e x base (size / 4))
 
-  pub go-high : lo < hi → e (middle lo hi) ≤ x → Halving e x n lo hi → Halving e x n (middle lo hi + 1) hi
-  go-high h g b = go (b .turns) (b .enough) (b .same)
-    where
-      go : (t : ℕ) → hi - lo ≤ t → halve e x t lo hi ≡ halve e x n 0 n → Halving e x n (middle lo hi + 1) hi
-      go zero l p = absurd (omega arith)
-      go (suc t) l p =
-          record { turns = t; order = omega arith; within = omega arith; enough = omega arith; same = sym (high-turn t h g) ∙ p }
+      go : (u : ℕ) → size ≤ u → quarter e x u base size ≡ quarter e x n 0 n
+          → Quartering e x n (base + size / 4 * passed e x base (size / 4)) (size - 3 * (size / 4))
+      go zero l q = absurd (omega arith)
+      go (suc u) l q =
+          record { turns = u; within = omega (arith, few, b .within); enough = omega arith; same = sym (turn u h) ∙ q }
 
-  pub stop : hi ≤ lo → Halving e x n lo hi → lo ≡ halve e x n 0 n
+  pub stop : size < 4 → Quartering e x n base size → base + tally e x base size ≡ quarter e x n 0 n
   stop h b = sym (last-turn (b .turns) h) ∙ b .same
 
 -- ---- the first run above a row
@@ -102,59 +107,92 @@ pub climbs-pos : {e : ℕ → ℕ} {n : ℕ} → Climbs e n → (k : ℕ) → k 
 climbs-pos c k h = omega (arith, c .start (omega arith), climbs-le c 0 k (omega arith) h)
 
 module _ (e : ℕ → ℕ) (n x : ℕ) (c : Climbs e n) where
-  -- what a search between lo and hi may go by
-  record Between (lo hi : ℕ) : Type 0 where
-    pub order : lo ≤ hi
-    pub within : hi ≤ n
-    pub below : (k : ℕ) → k < lo → e k ≤ x
-    pub beyond : (k : ℕ) → hi ≤ k → k < n → x < e k
+  -- what a search among `size` runs from `base` on may go by
+  record Between (base size : ℕ) : Type 0 where
+    pub within : base + size ≤ n
+    pub below : (k : ℕ) → k < base → e k ≤ x
+    pub beyond : (k : ℕ) → base + size ≤ k → k < n → x < e k
 
-  between-done : (t lo hi : ℕ) → hi ≤ lo → Between lo hi → First e n x (halve e x t lo hi)
-  between-done t lo hi h b =
-      rw (last-turn e x n lo hi t h)
-      (record { within = omega arith; before = b .below; above = λ g. b .beyond lo h g })
+  -- the runs up to one whose end is not above the row, and those from one on whose end is
+  up-to : (p : ℕ) → p < n → e p ≤ x → (k : ℕ) → k ≤ p → e k ≤ x
+  up-to p l h k m = omega (arith, climbs-le c k p m l)
 
-  between-low : (lo hi : ℕ) → lo < hi → x < e (middle lo hi) → Between lo hi → Between lo (middle lo hi)
-  between-low lo hi h g b = record {
-    order = omega arith;
-    within = omega arith;
-    below = b .below;
-    beyond = λ k m v. omega (arith, climbs-le c (middle lo hi) k m v);
-  }
+  from-on : (p : ℕ) → x < e p → (k : ℕ) → p ≤ k → k < n → x < e k
+  from-on p h k m l = omega (arith, climbs-le c p k m l)
 
-  between-high : (lo hi : ℕ) → lo < hi → e (middle lo hi) ≤ x → Between lo hi → Between (middle lo hi + 1) hi
-  between-high lo hi h g b = record {
-    order = omega arith;
-    within = omega arith;
-    below = λ k m. omega (arith, climbs-le c k (middle lo hi) (omega arith) (omega arith));
-    beyond = b .beyond;
-  }
+  -- ---- the last runs are counted
 
-  halve-from : (t lo hi : ℕ) → hi - lo ≤ t → Between lo hi → First e n x (halve e x t lo hi)
-  halve-from zero lo hi l b = between-done 0 lo hi (omega arith) b
-  halve-from (suc t) lo hi l b = go (halve-from t lo (middle lo hi)) (halve-from t (middle lo hi + 1) hi) (ltb lo hi) refl
+  tally-all : (base m : ℕ) → ((k : ℕ) → k < base + m → e k ≤ x) → tally e x base m ≡ m
+  unfolding tally
+  tally-all base zero h = refl
+  tally-all base (suc m) h = rw (tally-all base m (λ k l. h k (omega arith)), le-ltb x (e (base + m)) (h (base + m) (omega arith))) (add-one m)
+
+  counted : (m base : ℕ) → Between base m → First e n x (base + tally e x base m)
+  unfolding tally
+  counted zero base b = record { within = omega (arith, b .within); before = λ k h. b .below k (omega arith); above = λ h. b .beyond (base + 0) (omega arith) h }
+  counted (suc m) base b = go (counted m base) (ltb x (e (base + m))) refl
     where
-      turn : lo < hi
-          → (middle lo hi - lo ≤ t → Between lo (middle lo hi) → First e n x (halve e x t lo (middle lo hi)))
-          → (hi - (middle lo hi + 1) ≤ t → Between (middle lo hi + 1) hi → First e n x (halve e x t (middle lo hi + 1) hi))
-          → (s : Bool) → ltb x (e (middle lo hi)) ≡ s → First e n x (halve e x (suc t) lo hi)
-      turn h low high true p =
-          let g : x < e (middle lo hi) = ltb-true _ _ p in
-          rw (low-turn e x n lo hi t h g) (low (omega arith) (between-low lo hi h g b))
-      turn h low high false p =
-          let g : e (middle lo hi) ≤ x = ltb-false _ _ p in
-          rw (high-turn e x n lo hi t h g) (high (omega arith) (between-high lo hi h g b))
+      go : (Between base m → First e n x (base + tally e x base m)) → (t : Bool) → ltb x (e (base + m)) ≡ t → First e n x (base + (tally e x base m + cond t 0 1))
+      go rest true p =
+          let z : tally e x base m + 0 ≡ tally e x base m = omega arith in
+          rw z (rest (record { within = omega (arith, b .within); below = b .below; beyond = from-on (base + m) (ltb-true _ _ p) }))
+      go rest false p =
+          let low : (k : ℕ) → k ≤ base + m → e k ≤ x = up-to (base + m) (omega (arith, b .within)) (ltb-false _ _ p) in
+          rw (tally-all base m (λ k l. low k (omega arith)))
+          (record { within = omega (arith, b .within); before = λ k h. low k (omega arith); above = λ h. b .beyond (base + (m + 1)) (omega arith) h })
 
-      go : (middle lo hi - lo ≤ t → Between lo (middle lo hi) → First e n x (halve e x t lo (middle lo hi)))
-          → (hi - (middle lo hi + 1) ≤ t → Between (middle lo hi + 1) hi → First e n x (halve e x t (middle lo hi + 1) hi))
-          → (s : Bool) → ltb lo hi ≡ s → First e n x (halve e x (suc t) lo hi)
-      go low high false p = between-done (suc t) lo hi (ltb-false lo hi p) b
-      go low high true p = turn (ltb-true lo hi p) low high (ltb x (e (middle lo hi))) refl
+  -- ---- one turn
 
-  -- where the ends rise, the search by halves answers the first run above the row
-  pub halve-first : halve e x n 0 n ≡ first e n x
-  halve-first =
+  module _ (base size q : ℕ) (wide : 4 * q ≤ size) (some : 1 ≤ q) (b : Between base size) where
+    abbrev Next : ℕ → Type 0
+    Next t = Between (base + q * t) (size - 3 * q)
+
+    -- the t-th of the quarters' runs is not above the row, and the next one is
+    none-passed : x < e (base + q) → Next 0
+    none-passed h = record { within = omega (arith, b .within); below = λ k l. b .below k (omega arith); beyond = λ k l. from-on (base + q) h k (omega arith) }
+
+    one-passed : e (base + q) ≤ x → x < e (base + 2 * q) → Next 1
+    one-passed h g = record { within = omega (arith, b .within); below = λ k l. up-to (base + q) (omega (arith, b .within)) h k (omega arith); beyond = λ k l. from-on (base + 2 * q) g k (omega arith) }
+
+    two-passed : e (base + 2 * q) ≤ x → x < e (base + 3 * q) → Next 2
+    two-passed h g = record { within = omega (arith, b .within); below = λ k l. up-to (base + 2 * q) (omega (arith, b .within)) h k (omega arith); beyond = λ k l. from-on (base + 3 * q) g k (omega arith) }
+
+    all-passed : e (base + 3 * q) ≤ x → Next 3
+    all-passed h = record { within = omega (arith, b .within); below = λ k l. up-to (base + 3 * q) (omega (arith, b .within)) h k (omega arith); beyond = λ k l. b .beyond k (omega arith) }
+
+    between-turn : Next (passed e x base q)
+    between-turn = go (ltb x (e (base + q))) refl (ltb x (e (base + 2 * q))) refl (ltb x (e (base + 3 * q))) refl
+      where
+        go : (t : Bool) → ltb x (e (base + q)) ≡ t → (u : Bool) → ltb x (e (base + 2 * q)) ≡ u → (v : Bool) → ltb x (e (base + 3 * q)) ≡ v → Next (cond t 0 1 + cond u 0 1 + cond v 0 1)
+        go true f true g true h = none-passed (ltb-true _ _ f)
+        go false f true g true h = one-passed (ltb-false _ _ f) (ltb-true _ _ g)
+        go false f false g true h = two-passed (ltb-false _ _ g) (ltb-true _ _ h)
+        go false f false g false h = all-passed (ltb-false _ _ h)
+        go t f true g false h =
+            absurd (omega (arith, ltb-true x (e (base + 2 * q)) g, up-to (base + 3 * q) (omega (arith, b .within)) (ltb-false _ _ h) (base + 2 * q) (omega arith)))
+        go true f false g v h =
+            absurd (omega (arith, ltb-true x (e (base + q)) f, up-to (base + 2 * q) (omega (arith, b .within)) (ltb-false _ _ g) (base + q) (omega arith)))
+
+  -- ---- the whole search
+
+  quarter-from : (t base size : ℕ) → size ≤ t → Between base size → First e n x (quarter e x t base size)
+  quarter-from zero base size l b = rw (last-turn e x n base size 0 (omega arith)) (counted size base b)
+  quarter-from (suc t) base size l b = go (quarter-from t) (ltb size 4) refl
+    where
+      go : ((m s : ℕ) → s ≤ t → Between m s → First e n x (quarter e x t m s)) → (u : Bool) → ltb size 4 ≡ u → First e n x (quarter e x (suc t) base size)
+      go rest true p = rw (last-turn e x n base size (suc t) (ltb-true size 4 p)) (counted size base b)
+      go rest false p =
+          let h : 4 ≤ size = ltb-false size 4 p in
+          rw (turn e x n base size t h) (rest _ _ (omega arith) (between-turn base size (size / 4) (omega arith) (omega arith) b))
+
+  -- where the ends rise, the search by quarters answers the first run above the row
+  pub quarter-first : quarter e x n 0 n ≡ first e n x
+  quarter-first =
       first-unique
-      (halve-from n 0 n (omega arith)
-      (record { order = omega arith; within = omega arith; below = λ k h. absurd (omega arith); beyond = λ k h g. absurd (omega arith) }))
+      (quarter-from n 0 n (omega arith) (record { within = omega arith; below = λ k h. absurd (omega arith); beyond = λ k h g. absurd (omega arith) }))
       (first-is e n x)
+
+-- a row before the last that the runs cover has a run
+pub covers-lt : {e : ℕ → ℕ} {n end x r : ℕ} → Covers e n end → x < end → First e n x r → r < n
+covers-lt {e} {n} {end} {x} {r} v h f =
+    let p : n ≤ r → ⊥ = λ g. omega (arith, v .runs, v .last, f .before (n - 1) (omega arith)) in omega arith

@@ -1,6 +1,6 @@
 // The run reader: it keeps the run ends that it was given and answers for one row after another.
 ghost use mathlib.Core.Path.{_≡_};
-ghost use Rattle.run_reader.specs.Rows.{rowRun, foundRun, leftOf};
+ghost use Rattle.run_reader.specs.Rows.{rowRun, endsRun};
 use run_ends::Found;
 use run_ends::LogicalRow;
 use run_ends::PhysicalRun;
@@ -22,24 +22,16 @@ pub struct RunReader<'a> {
     pub width: u8,
 }
 
-// The run of a row that is counted with the offset added.
-fn found_run(ends: &[u8], width: u8, row: LogicalRow) -> Found
-    ensures { λ r. ⌜ r ≡ foundRun (now (ends .entry)) width (row .0) ⌝ }
+// The run of a row that is counted with the offset added, and the rows left in it before `last`.
+fn found_run(ends: &[u8], width: u8, row: LogicalRow, last: LogicalRow) -> Found
+    ensures { λ r. ⌜ r ≡ endsRun (now (ends .entry)) width (last .0) (row .0) ⌝ }
 {
     match width {
-        2 => run_ends::find_run_i16(ends, 0, ends.len() / 2, row),
-        4 => run_ends::find_run_i32(ends, 0, ends.len() / 4, row),
-        8 => run_ends::find_run_i64(ends, 0, ends.len() / 8, row),
+        2 => run_ends::find_run_i16(ends, 0, ends.len() / 2, row, last),
+        4 => run_ends::find_run_i32(ends, 0, ends.len() / 4, row, last),
+        8 => run_ends::find_run_i64(ends, 0, ends.len() / 8, row, last),
         _ => Found::Past,
     }
-}
-
-// The rows from `row` to where the run or the column ends.
-fn rows_left(end: LogicalRow, last: LogicalRow, row: LogicalRow) -> u64
-    ensures { λ r. ⌜ r ≡ leftOf (end .0) (last .0) (row .0) ⌝ }
-{
-    let stop = if end.0 < last.0 { end.0 } else { last.0 };
-    if stop < row.0 { 0 } else { stop - row.0 }
 }
 
 // The run of a row of the column whose run ends of `width` bytes are lent.
@@ -54,11 +46,9 @@ pub fn run_of_row(ends: &[u8], offset: u64, len: u64, width: u8, row: ColumnRow)
         return RowRun::Refused(12);
     }
     let x = LogicalRow(offset + i);
-    match found_run(ends, width, x) {
-        Found::Run { run, end } => RowRun::Run {
-            run,
-            left: rows_left(end, LogicalRow(offset + len), x),
-        },
+    let last = LogicalRow(offset + len);
+    match found_run(ends, width, x, last) {
+        Found::Run { run, left } => RowRun::Run { run, left },
         Found::Past => RowRun::Refused(12),
     }
 }

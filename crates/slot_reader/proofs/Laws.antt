@@ -6,7 +6,7 @@ use Prim.Native.Nat.{ℕ, zero, suc, _+_, _*_, _-_, _^_, _≤_, _<_}
 use native.Mathlib.Nat.{mul-le-mul-right, mul-comm, one-mul}
 use native.Mathlib.Numerals.{add-one}
 use native.Mathlib.Omega.{arith}
-use lib.ListN.{length, drop, getD}
+use lib.ListN.{length, take, drop, getD, length-take, length-drop}
 use lib.Dec.{leb, ltb, eqb}
 use borrow.Author.Tests.{le-leb, lt-leb, lt-ltb, le-ltb, eq-eqb, ne-eqb}
 use Rattle.number.specs.Number.{number}
@@ -18,19 +18,21 @@ use Rattle.array_data.specs.Typed.{NodeKind, stringNode, viewNode, listViewNode
 use Rattle.lent.specs.Lent.{numberKind, unionKind}
 use Rattle.leaf_row.specs.declared.Leaf.{Leaf}
 use Rattle.leaf_row.specs.Reading as leaf
-use Rattle.view_row.specs.Place.{placeOf}
+use Rattle.view_row.specs.Place.{placeOf, partOf, Within}
 use Rattle.view_row.specs.declared.Place.{Place}
+use Rattle.view_row.specs.declared.Place.the-variants as seen
 use Rattle.node_table.specs.Words.{word}
 use Rattle.lent_entries.specs.Entries.{holds, spotIn, sized, entryIn}
 use Rattle.lent_entries.specs.declared.Spot.{Spot}
 use Rattle.lent_entries.specs.declared.Spot.the-variants as spot
 use Rattle.lent_entries.specs.declared.Entry.{Entry}
 use Rattle.lent_entries.specs.declared.Entry.the-variants as entry
+use Rattle.lent_entries.specs.declared.Validity.{Validity}
 use Rattle.lent_entries.proofs.Laws.{spot-at, spot-outside, holds-wide, inside, item-at}
 use Rattle.lent_tables.proofs.Laws.{and-right}
 use Rattle.slot_reader.specs.declared.RowRead.{RowRead}
 use Rattle.slot_reader.specs.declared.RowRead.the-variants as row
-use Rattle.slot_reader.specs.Slots.{codeWord, known, kindWord, codeNumber, numberRead, stretchIn, spanned, stringRead, dataPlace, viewed, viewAt, listed, storedNumber, storedBy, storedAt, keyed, dictionaryRead, fixedRead, slotBy, slotRead}
+use Rattle.slot_reader.specs.Slots.{codeWord, known, kindWord, codeNumber, numberRead, stretchIn, spanned, stringRead, dataPlace, viewed, viewAt, listed, storedNumber, storedBy, storedAt, entryBy, keyed, dictionaryRead, fixedRead, slotBy, slotRead}
 use Rattle.slot_reader.proofs.Codes.{number-same, code-width, range, knows, as-fixed, as-string, as-view, as-list, elsewhere}
 
 -- ---- numbers and stored numbers, by their place
@@ -127,6 +129,11 @@ module _ (off : ℕ) (f : ℕ → RowRead) (e : Entry) where
   pub keyed-in : (o key : ℕ) → o ≡ off → e ≡ entry.Value key → o + key < 2 ^ 64 → f (o + key) ≡ keyed off f e
   keyed-in o key q p h = let g : off + key < 2 ^ 64 = omega arith in rw (p, q, lt-ltb (off + key) (2 ^ 64) g)
 
+-- an entry by its bit v, where the key's entry is at `off + key`
+module _ (off o key : ℕ) (g : ℕ → Validity) (f : ℕ → RowRead) (e : Entry) (q : o ≡ off) (p : e ≡ entry.Value key) (h : o + key < 2 ^ 64) (v : Validity) (b : v ≡ g (o + key)) where
+  pub named : (u : Validity) → v ≡ u → entryBy u (f (o + key)) ≡ keyed off (λ k. entryBy (g k) (f k)) e
+  named u t = ap (λ y. entryBy y (f (o + key))) (sym t ∙ b) ∙ keyed-in off (λ k. entryBy (g k) (f k)) e o key q p h
+
 -- ---- data buffers and views
 
 module _ (buffers : List ℕ) (a n b j m : ℕ) (e : m ≡ n) where
@@ -143,6 +150,21 @@ module _ (body buffers : List ℕ) (a n : ℕ) (sp : Spot) where
   pub view-in : (at b from len : ℕ) (v : Place) → sp ≡ spot.At at → b ≡ number 4 (drop (at + 8) body) → from ≡ dataPlace buffers a n b 0
       → len ≡ dataPlace buffers a n b 1 → v ≡ placeOf body at (length body) from len → viewed v ≡ viewAt body buffers a n sp
   view-in at b from len v o eb ef el ev = rw (o, ev, ef, el, eb)
+
+-- as many bytes are shown as the place has
+module _ (s : List ℕ) (p : Place) (w : Within (length s) (length s) p) (shown : List ℕ) (e : shown ≡ partOf s s p) where
+  taken : (at n : ℕ) → at + n ≤ length s → length (take n (drop at s)) ≡ n
+  taken at n h = omega (arith, length-take n (drop at s), length-drop at s)
+
+  pub bytes-inline : (at n : ℕ) → p ≡ seen.Inline at n → row.Bytes at (length shown) ≡ viewed p
+  bytes-inline at n q =
+      let h : at + n ≤ length s = subst (Within (length s) (length s)) q w in
+      ap (λ k. row.Bytes at k) (ap length (e ∙ ap (partOf s s) q) ∙ taken at n h) ∙ ap viewed (sym q)
+
+  pub bytes-data : (at n : ℕ) → p ≡ seen.Data at n → row.Bytes at (length shown) ≡ viewed p
+  bytes-data at n q =
+      let h : at + n ≤ length s = subst (Within (length s) (length s)) q w in
+      ap (λ k. row.Bytes at k) (ap length (e ∙ ap (partOf s s) q) ∙ taken at n h) ∙ ap viewed (sym q)
 
 -- ---- nodes by their code
 

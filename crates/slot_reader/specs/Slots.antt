@@ -10,7 +10,7 @@ use Rattle.number.specs.Number.{number}
 use Rattle.columnar.specs.Types.{Number, width}
 use Rattle.columnar.specs.Array.{item}
 use Rattle.formats.specs.Types.{numberOf}
-use Rattle.array_data.specs.Tables.{Tables, offsetOf, place, firstBuffer, secondBuffer}
+use Rattle.array_data.specs.Tables.{Tables, offsetOf, place, validOf, firstBuffer, secondBuffer}
 use Rattle.array_data.specs.Typed.{NodeKind, fixedNode, stringNode, viewNode, listViewNode, sparseNode, denseNode, runEndNode, dictionaryNode}
 use Rattle.lent.specs.Lent.{numberOr, kindOf}
 use Rattle.leaf_row.specs.Reading.{leafOf}
@@ -18,11 +18,13 @@ use Rattle.view_row.specs.Place.{placeOf}
 use Rattle.view_row.specs.declared.Place.{Place}
 use Rattle.view_row.specs.declared.Place.the-variants as seen
 use Rattle.node_table.specs.Words.{word}
-use Rattle.lent_entries.specs.Entries.{holds, spotIn, entryIn}
+use Rattle.lent_entries.specs.Entries.{holds, spotIn, entryIn, validIn}
 use Rattle.lent_entries.specs.declared.Spot.{Spot}
 use Rattle.lent_entries.specs.declared.Spot.the-variants as spot
 use Rattle.lent_entries.specs.declared.Entry.{Entry}
 use Rattle.lent_entries.specs.declared.Entry.the-variants as entry
+use Rattle.lent_entries.specs.declared.Validity.{Validity}
+use Rattle.lent_entries.specs.declared.Validity.the-variants as validity
 use Rattle.slot_reader.specs.declared.RowRead.{RowRead}
 use Rattle.slot_reader.specs.declared.RowRead.the-variants as row
 
@@ -100,6 +102,12 @@ storedBy (denseNode ids) a s b t i = row.Refused 10
 storedBy (runEndNode w) a s b t i = row.Refused 10
 storedBy (dictionaryNode m) a s b t i = row.Refused 10
 
+-- an entry by its own bit: null, or its stored bytes
+abbrev pub entryBy : Validity → RowRead → RowRead
+entryBy validity.Valid r = r
+entryBy validity.Null r = row.Null
+entryBy validity.Outside r = row.Refused 12
+
 -- the entry that a key names, with the values' own offset added
 abbrev pub keyed : ℕ → (ℕ → RowRead) → Entry → RowRead
 keyed off f (entry.Value key) = cond (ltb (off + key) (2 ^ 64)) (f (off + key)) (row.Refused 12)
@@ -112,8 +120,13 @@ module _ (tree : List ℕ) (x : Tables) where
   abbrev pub storedAt : ℕ → ℕ → RowRead
   storedAt i k = cond (known tree i) (storedBy (kindWord tree i) (place x i 3) (firstBuffer x i) (place x i 5) (secondBuffer x i) k) (row.Refused 10)
 
+  -- slot k of node i, a dictionary's values
+  abbrev pub namedAt : ℕ → ℕ → RowRead
+  namedAt i k = entryBy (validIn (validOf x i) k) (storedAt i k)
+
+  -- "null .. where the entry its key names is null; otherwise it is the stored bytes of that entry"
   abbrev pub dictionaryRead : ℕ → ℕ → ℕ → RowRead
-  dictionaryRead i w k = keyed (offsetOf x (suc i)) (storedAt (suc i)) (entryIn w (firstBuffer x i) k)
+  dictionaryRead i w k = keyed (offsetOf x (suc i)) (namedAt (suc i)) (entryIn w (firstBuffer x i) k)
 
   -- a fixed-width format: of numbers, or of keys where the node has a dictionary
   abbrev pub fixedRead : ℕ → Number → ℕ → RowRead

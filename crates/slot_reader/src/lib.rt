@@ -1,13 +1,15 @@
-// What one slot of a lent node reads as, by the node's kind: a number, bytes, or the place of a list's rows. Validity is not looked at.
+// What one slot of a lent node reads as, by the node's kind: a number, bytes, or the place of a list's rows. The node's own validity is not
+// looked at; that of a dictionary's values is.
 ghost use mathlib.Core.Path.{_≡_};
 ghost use mathlib.Core.List.{[]};
 ghost use Prim.Native.Nat.{suc, _+_, _≤_, _<_, _^_};
 ghost use lib.ListN.{length};
 ghost use Rattle.array_data.specs.Tables.{part, offsetOf, place, firstBuffer, secondBuffer};
 ghost use Rattle.lent_entries.specs.Entries.{column, spotIn, entryIn};
-ghost use Rattle.slot_reader.specs.Slots.{codeWord, codeNumber, numberRead, stretchIn, stringRead, dataPlace, viewAt, listed, storedNumber, storedAt, keyed, fixedRead, slotRead};
+ghost use Rattle.slot_reader.specs.Slots.{codeWord, codeNumber, numberRead, stretchIn, stringRead, dataPlace, viewAt, listed, storedNumber, storedAt, namedAt, keyed, fixedRead, slotRead};
 use lent_entries::Entry;
 use lent_entries::Spot;
+use lent_entries::Validity;
 
 // A row: null, a number, bytes that stand in the body, or rows of a child; or the ground of refusal.
 pub enum RowRead {
@@ -108,9 +110,16 @@ fn read_view(
     let b = number::read_u32(body, at + 8);
     let from = data_place(places, buffers, first, i, b, 0) as usize;
     let len = data_place(places, buffers, first, i, b, 1) as usize;
+    let shown = view_row::view_bytes(body, at, body, from, len);
     match view_row::view_place(body, at, body, from, len) {
-        view_row::Place::Inline { at: p, len: n } => RowRead::Bytes { at: p, len: n },
-        view_row::Place::Data { at: p, len: n } => RowRead::Bytes { at: p, len: n },
+        view_row::Place::Inline { at: p, len: _ } => RowRead::Bytes {
+            at: p,
+            len: shown.len(),
+        },
+        view_row::Place::Data { at: p, len: _ } => RowRead::Bytes {
+            at: p,
+            len: shown.len(),
+        },
         view_row::Place::Outside => RowRead::Refused(12),
     }
 }
@@ -179,7 +188,7 @@ fn read_stored(
     read_fixed(body, start, size, formats::width_of(code), slot)
 }
 
-// The entry that a key of w bytes names.
+// The entry that a key of w bytes names: null where its own bit is 0.
 fn read_dictionary(
     tree: &[u64],
     lengths: &[u64],
@@ -191,7 +200,7 @@ fn read_dictionary(
     slot: u64,
 ) -> RowRead
     requires { ⌜ i + 1 < 2 ^ 32 ⌝ }
-    ensures { λ r. ⌜ r ≡ keyed (offsetOf (column (now (lengths .entry)) [] [] [] first) (suc i)) (storedAt (now (tree .entry)) (column [] (now (places .entry)) [] (now (body .entry)) first) (suc i)) (entryIn w (firstBuffer (column [] (now (places .entry)) [] (now (body .entry)) first) i) slot) ⌝ }
+    ensures { λ r. ⌜ r ≡ keyed (offsetOf (column (now (lengths .entry)) [] [] [] first) (suc i)) (namedAt (now (tree .entry)) (column [] (now (places .entry)) [] (now (body .entry)) first) (suc i)) (entryIn w (firstBuffer (column [] (now (places .entry)) [] (now (body .entry)) first) i) slot) ⌝ }
 {
     let start = lent_entries::place_at(places, first, i, 3);
     let size = lent_entries::place_at(places, first, i, 4);
@@ -202,7 +211,12 @@ fn read_dictionary(
     if u64::MAX - off < key {
         return RowRead::Refused(12);
     }
-    read_stored(tree, places, body, first, i + 1, off + key)
+    let at = off + key;
+    match lent_entries::valid_at(places, body, first, i + 1, at) {
+        Validity::Valid => read_stored(tree, places, body, first, i + 1, at),
+        Validity::Null => RowRead::Null,
+        Validity::Outside => RowRead::Refused(12),
+    }
 }
 
 // ---- by kind

@@ -4,7 +4,7 @@ ghost use mathlib.Core.List.{List};
 ghost use Prim.Native.Nat.{ℕ, _+_, _*_, _^_, _<_, _≤_};
 ghost use lib.ListN.{length};
 ghost use Rattle.number.specs.Number.{entry};
-ghost use Rattle.run_ends.specs.Lookup.{bisect, foundAt, runsOf};
+ghost use Rattle.run_ends.specs.Lookup.{foundRun, runsOf};
 ghost use Rattle.walk.specs.State.{slotOf, bytesOf};
 ghost use Rattle.walk.specs.Copy.{childWith};
 ghost use Rattle.walk.specs.Nulls.{nullableChild};
@@ -99,7 +99,7 @@ pub fn runs_of(
 ) -> Runs
     requires { ⌜ ((w ≡ 2 → ⊥) → (w ≡ 4 → ⊥) → w ≡ 8) ⌝ }
     requires { ⌜ from + w * n ≤ length (now body) ⌝ }
-    ensures { λ r. ⌜ r ≡ runsOf (λ x. foundAt w (now (body .entry)) from n (bisect w (now (body .entry)) from n x)) (start .0) (end .0) ⌝ }
+    ensures { λ r. ⌜ r ≡ runsOf (foundRun w (now (body .entry)) from n (end .0)) (start .0) (end .0) ⌝ }
 {
     if w == 2 {
         return run_ends::runs_of_range_i16(body, from, n, start, end);

@@ -18,6 +18,7 @@ use Rattle.leaf_walk.specs.Join.{join}
 use Rattle.parts.specs.Parts.{partsWithin, partsHold}
 use Rattle.trying.proofs.Laws.{hold-alike}
 use Rattle.trying.proofs.Near.{Near}
+use Rattle.orders.specs.Sound.{walkable}
 use Rattle.orders.specs.Order.{After, Lent, sourceCount, sourceLength, refused, settled, copyOrder, nullOrder}
 use Rattle.transform.specs.Answer.{Answers}
 
@@ -134,13 +135,17 @@ module _ (x : Lent) (counts room : List ℕ) where
   unfolding copyOrder
   copy-counters s a e h = rw (ne-eqb (length counts) 96 h) (record { ground = refl; counts = refl; room = refl })
 
-  pub copy-source : (s a e : ℕ) → length counts ≡ 96 → {m : ℕ} → m ≡ sourceCount (x .plan) → m ≤ s → Answers (copyOrder x counts room s a e) 1 counts room
+  pub copy-foreign : (s a e : ℕ) → length counts ≡ 96 → walkable (x .plan) (length room) ≡ false → Answers (copyOrder x counts room s a e) 14 counts room
   unfolding copyOrder
-  copy-source s a e h {m} q f =
-      let g : sourceCount (x .plan) ≤ s = subst (λ z. z ≤ s) q f in
-      rw (eq-eqb (length counts) 96 h, le-ltb s (sourceCount (x .plan)) g) (record { ground = refl; counts = refl; room = refl })
+  copy-foreign s a e h w = rw (eq-eqb (length counts) 96 h, w) (record { ground = refl; counts = refl; room = refl })
 
-  module _ (s a e : ℕ) (h : length counts ≡ 96) {m : ℕ} (q : m ≡ sourceCount (x .plan)) (f : s < m) {first : ℕ} (k : first ≡ getD (x .sources) (2 * s) 0) where
+  pub copy-source : (s a e : ℕ) → length counts ≡ 96 → walkable (x .plan) (length room) ≡ true → {m : ℕ} → m ≡ sourceCount (x .plan) → m ≤ s → Answers (copyOrder x counts room s a e) 1 counts room
+  unfolding copyOrder
+  copy-source s a e h w {m} q f =
+      let g : sourceCount (x .plan) ≤ s = subst (λ z. z ≤ s) q f in
+      rw (eq-eqb (length counts) 96 h, w, le-ltb s (sourceCount (x .plan)) g) (record { ground = refl; counts = refl; room = refl })
+
+  module _ (s a e : ℕ) (h : length counts ≡ 96) (w : walkable (x .plan) (length room) ≡ true) {m : ℕ} (q : m ≡ sourceCount (x .plan)) (f : s < m) {first : ℕ} (k : first ≡ getD (x .sources) (2 * s) 0) where
     known : s < sourceCount (x .plan)
     known = subst (λ z. s < z) q f
 
@@ -148,7 +153,7 @@ module _ (x : Lent) (counts room : List ℕ) where
     unfolding copyOrder
     copy-range t =
         let u : (leb a e && leb e (sourceLength x s)) ≡ false = subst (λ z. (leb a e && leb e (getD (x .lengths) (2 * z) 0)) ≡ false) k t in
-        rw (eq-eqb (length counts) 96 h, lt-ltb s (sourceCount (x .plan)) known, u) (record { ground = refl; counts = refl; room = refl })
+        rw (eq-eqb (length counts) 96 h, w, lt-ltb s (sourceCount (x .plan)) known, u) (record { ground = refl; counts = refl; room = refl })
 
     pub copy-made : {r : ℕ} {c bytes : List ℕ} → (leb a e && leb e (getD (x .lengths) (2 * first) 0)) ≡ true
         → Answers (settled x counts room (copyWalk (join (x .plan) (x .parts) (x .lengths) (x .places) (x .body) first s) 8 0 a (e - a) counts)) r c bytes
@@ -156,22 +161,26 @@ module _ (x : Lent) (counts room : List ℕ) where
     unfolding copyOrder
     copy-made {r} {c} {bytes} t d =
         let u : (leb a e && leb e (sourceLength x s)) ≡ true = subst (λ z. (leb a e && leb e (getD (x .lengths) (2 * z) 0)) ≡ true) k t in
-        rw (eq-eqb (length counts) 96 h, lt-ltb s (sourceCount (x .plan)) known, u)
+        rw (eq-eqb (length counts) 96 h, w, lt-ltb s (sourceCount (x .plan)) known, u)
         (subst (λ z. Answers (settled x counts room (copyWalk (join (x .plan) (x .parts) (x .lengths) (x .places) (x .body) z s) 8 0 a (e - a) counts)) r c bytes) k d)
 
   pub null-counters : (n : ℕ) → (length counts ≡ 96 → ⊥) → Answers (nullOrder x counts room n) 14 counts room
   unfolding nullOrder
   null-counters n h = rw (ne-eqb (length counts) 96 h) (record { ground = refl; counts = refl; room = refl })
 
-  pub null-keeps : (n : ℕ) → length counts ≡ 96 → {k : ℕ} → k ≡ keepsOf (x .plan) 0 → k ≡ 0 → Answers (nullOrder x counts room n) 3 counts room
+  pub null-foreign : (n : ℕ) → length counts ≡ 96 → walkable (x .plan) (length room) ≡ false → Answers (nullOrder x counts room n) 14 counts room
   unfolding nullOrder
-  null-keeps n h q z = rw (eq-eqb (length counts) 96 h, eq-eqb (keepsOf (x .plan) 0) 0 (sym q ∙ z)) (record { ground = refl; counts = refl; room = refl })
+  null-foreign n h w = rw (eq-eqb (length counts) 96 h, w) (record { ground = refl; counts = refl; room = refl })
 
-  pub null-made : (n : ℕ) {m : ℕ} → length counts ≡ 96 → {k : ℕ} → k ≡ keepsOf (x .plan) 0 → (k ≡ 0 → ⊥) → m ≡ min n far → {r : ℕ} {c bytes : List ℕ}
+  pub null-keeps : (n : ℕ) → length counts ≡ 96 → walkable (x .plan) (length room) ≡ true → {k : ℕ} → k ≡ keepsOf (x .plan) 0 → k ≡ 0 → Answers (nullOrder x counts room n) 3 counts room
+  unfolding nullOrder
+  null-keeps n h w q z = rw (eq-eqb (length counts) 96 h, w, eq-eqb (keepsOf (x .plan) 0) 0 (sym q ∙ z)) (record { ground = refl; counts = refl; room = refl })
+
+  pub null-made : (n : ℕ) {m : ℕ} → length counts ≡ 96 → walkable (x .plan) (length room) ≡ true → {k : ℕ} → k ≡ keepsOf (x .plan) 0 → (k ≡ 0 → ⊥) → m ≡ min n far → {r : ℕ} {c bytes : List ℕ}
       → Answers (settled x counts room (nullWalk (join (x .plan) (x .parts) [] [] [] 0 0) 8 0 m counts)) r c bytes → Answers (nullOrder x counts room n) r c bytes
   unfolding nullOrder
-  null-made n {m} h q z e {r} {c} {bytes} d =
-      rw (eq-eqb (length counts) 96 h, ne-eqb (keepsOf (x .plan) 0) 0 (λ y. z (q ∙ y)))
+  null-made n {m} h w q z e {r} {c} {bytes} d =
+      rw (eq-eqb (length counts) 96 h, w, ne-eqb (keepsOf (x .plan) 0) 0 (λ y. z (q ∙ y)))
       (subst (λ o. Answers (settled x counts room o) r c bytes)
       (ap (λ y. nullWalk (join (x .plan) (x .parts) [] [] [] 0 0) 8 0 y counts) e ∙ null-state (x .plan) (x .parts) (x .parts) [] (x .lengths) [] (x .places) [] (x .body) 0 (getD (x .sources) 0 0) 0 0 8 0 (min n far) counts)
       d)

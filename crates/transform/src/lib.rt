@@ -171,6 +171,9 @@ pub fn try_extend(
     if counters.len() != 96 {
         return 14;
     }
+    if !sound::is_walkable(plan, room.len()) {
+        return 14;
+    }
     if lent_tables::at_u64(plan, 864) <= source as u64 {
         return 1;
     }
@@ -237,6 +240,9 @@ pub fn try_extend_nulls(
     ensures { λ r. ⌜ ((sources lengths places body : List ℕ) → Answers (nullOrder (lent (now (plan .entry)) (now (parts .entry)) sources lengths places body) (now (counters .entry)) (now (room .entry)) n) r (now (counters .exit)) (now (room .exit))) ⌝ }
 {
     if counters.len() != 96 {
+        return 14;
+    }
+    if !sound::is_walkable(plan, room.len()) {
         return 14;
     }
     if growth::keeps_of(plan, 0) == 0 {

@@ -275,7 +275,7 @@ fn rows(ends: &[u8], offset: u64, len: u64, width: u8) {
     line();
 }
 
-// K1's run ends 2, 5, 9 with offset 1 and length 8, at each width; then length 3, a width that run ends do not have, too many rows, a sum that does not fit.
+// K1's run ends 2, 5, 9 with offset 1 and length 8, at each width; then length 6, length 3, a width that run ends do not have, too many rows, a sum that does not fit.
 fn runs() {
     rows(&[2, 0, 5, 0, 9, 0], 1, 8, 2);
     let ends = [2u8, 0, 0, 0, 5, 0, 0, 0, 9, 0, 0, 0];
@@ -311,6 +311,7 @@ fn runs() {
         8,
         8,
     );
+    rows(&ends, 1, 6, 4);
     rows(&ends, 1, 3, 4);
     rows(&ends, 1, 8, 3);
     rows(&ends, 4, 9, 4);

@@ -1,9 +1,10 @@
-// Vectors of run ends: rows of the table (K1, K2, K4), and the run of each row at a boundary, at each width.
+// Vectors of run ends: rows of the table (K1, K2, K4), and the run of each row with the rows left in it, at each width.
+ghost use mathlib.Core.Path.{_≡_};
+ghost use mathlib.Core.Bool.{true};
 ghost use Prim.Native.Nat.{_+_, _*_, _-_, _/_, _^_, _≤_, _<_};
 ghost use lib.ListN.{length};
 use run_ends::Found;
 use run_ends::LogicalRow;
-use run_ends::NextEnd;
 use run_ends::PhysicalRun;
 use run_ends::Runs;
 
@@ -13,14 +14,13 @@ fn put(x: u64) {
     io::write_all(1, b" ");
 }
 
-// A run and its end, or that the row is past.
+// A run and the rows left in it, or that the row is past.
 fn put_found(found: Found) {
     match found {
-        Found::Run { run, end } => {
+        Found::Run { run, left } => {
             let k = run.0;
-            let x = end.0;
             put(k as u64);
-            put(x);
+            put(left);
         }
         Found::Past => {
             io::write_all(1, b"past ");
@@ -30,6 +30,19 @@ fn put_found(found: Found) {
 
 fn line() {
     io::write_all(1, b"\n");
+}
+
+// Whether n rows fit behind the run end `last`.
+fn fits(last: u64, n: u64, most: u64) -> bool
+    ensures { λ r. ⌜ (r ≡ true → last + n ≤ most) ⌝ }
+{
+    if most < last {
+        return false;
+    }
+    if most - last < n {
+        return false;
+    }
+    true
 }
 
 // The first m run ends.
@@ -58,7 +71,7 @@ fn clip_i16(
     let mut room = [0u8; 64];
     let a = first.0;
     if m <= 8 {
-        run_ends::extend_run_ends_i16(&mut room, 0, ends, 2 * a, m, start, end, last);
+        run_copy::extend_run_ends_i16(&mut room, 0, ends, 2 * a, m, start, end, last);
         put_ends_i16(&room, m);
     }
 }
@@ -71,13 +84,10 @@ fn copy_i16(ends: &[u8], n: usize, start: LogicalRow, end: LogicalRow, last: u64
         Runs::Range { first, count } => {
             put(first.0 as u64);
             put(count as u64);
-            match run_ends::next_run_end_i16(last, end.0 - start.0) {
-                NextEnd::End(_) => {
-                    clip_i16(ends, first, count, start, end, last);
-                }
-                NextEnd::Over => {
-                    io::write_all(1, b"over ");
-                }
+            if fits(last, end.0 - start.0, 32767) {
+                clip_i16(ends, first, count, start, end, last);
+            } else {
+                io::write_all(1, b"over ");
             }
         }
         Runs::None => {
@@ -98,13 +108,13 @@ fn copies_i16(ends: &[u8])
     copy_i16(ends, 3, LogicalRow(8), LogicalRow(10), 0);
 }
 
-// The runs of the rows 0 to 9 among the first n.
-fn finds_i16(ends: &[u8], n: usize)
+// The runs of the rows 0 to 9 among the first n, and the rows left in them before `last`.
+fn finds_i16(ends: &[u8], n: usize, last: u64)
     requires { ⌜ 2 * n ≤ length (now ends) ⌝ }
 {
     let mut row: u64 = 0;
     while row < 10 {
-        put_found(run_ends::find_run_i16(ends, 0, n, LogicalRow(row)));
+        put_found(run_ends::find_run_i16(ends, 0, n, LogicalRow(row), LogicalRow(last)));
         row += 1;
     }
     line();
@@ -113,8 +123,9 @@ fn finds_i16(ends: &[u8], n: usize)
 fn all_i16() {
     let ends: [u8; 6] = [2, 0, 5, 0, 9, 0];
     copies_i16(&ends);
-    finds_i16(&ends, 3);
-    finds_i16(&ends, 0);
+    finds_i16(&ends, 3, 9);
+    finds_i16(&ends, 3, 7);
+    finds_i16(&ends, 0, 9);
 }
 
 // The first m run ends.
@@ -143,7 +154,7 @@ fn clip_i32(
     let mut room = [0u8; 64];
     let a = first.0;
     if m <= 8 {
-        run_ends::extend_run_ends_i32(&mut room, 0, ends, 4 * a, m, start, end, last);
+        run_copy::extend_run_ends_i32(&mut room, 0, ends, 4 * a, m, start, end, last);
         put_ends_i32(&room, m);
     }
 }
@@ -156,13 +167,10 @@ fn copy_i32(ends: &[u8], n: usize, start: LogicalRow, end: LogicalRow, last: u64
         Runs::Range { first, count } => {
             put(first.0 as u64);
             put(count as u64);
-            match run_ends::next_run_end_i32(last, end.0 - start.0) {
-                NextEnd::End(_) => {
-                    clip_i32(ends, first, count, start, end, last);
-                }
-                NextEnd::Over => {
-                    io::write_all(1, b"over ");
-                }
+            if fits(last, end.0 - start.0, 2147483647) {
+                clip_i32(ends, first, count, start, end, last);
+            } else {
+                io::write_all(1, b"over ");
             }
         }
         Runs::None => {
@@ -183,13 +191,13 @@ fn copies_i32(ends: &[u8])
     copy_i32(ends, 3, LogicalRow(8), LogicalRow(10), 0);
 }
 
-// The runs of the rows 0 to 9 among the first n.
-fn finds_i32(ends: &[u8], n: usize)
+// The runs of the rows 0 to 9 among the first n, and the rows left in them before `last`.
+fn finds_i32(ends: &[u8], n: usize, last: u64)
     requires { ⌜ 4 * n ≤ length (now ends) ⌝ }
 {
     let mut row: u64 = 0;
     while row < 10 {
-        put_found(run_ends::find_run_i32(ends, 0, n, LogicalRow(row)));
+        put_found(run_ends::find_run_i32(ends, 0, n, LogicalRow(row), LogicalRow(last)));
         row += 1;
     }
     line();
@@ -198,8 +206,9 @@ fn finds_i32(ends: &[u8], n: usize)
 fn all_i32() {
     let ends: [u8; 12] = [2, 0, 0, 0, 5, 0, 0, 0, 9, 0, 0, 0];
     copies_i32(&ends);
-    finds_i32(&ends, 3);
-    finds_i32(&ends, 0);
+    finds_i32(&ends, 3, 9);
+    finds_i32(&ends, 3, 7);
+    finds_i32(&ends, 0, 9);
 }
 
 // The first m run ends.
@@ -228,7 +237,7 @@ fn clip_i64(
     let mut room = [0u8; 64];
     let a = first.0;
     if m <= 8 {
-        run_ends::extend_run_ends_i64(&mut room, 0, ends, 8 * a, m, start, end, last);
+        run_copy::extend_run_ends_i64(&mut room, 0, ends, 8 * a, m, start, end, last);
         put_ends_i64(&room, m);
     }
 }
@@ -241,13 +250,10 @@ fn copy_i64(ends: &[u8], n: usize, start: LogicalRow, end: LogicalRow, last: u64
         Runs::Range { first, count } => {
             put(first.0 as u64);
             put(count as u64);
-            match run_ends::next_run_end_i64(last, end.0 - start.0) {
-                NextEnd::End(_) => {
-                    clip_i64(ends, first, count, start, end, last);
-                }
-                NextEnd::Over => {
-                    io::write_all(1, b"over ");
-                }
+            if fits(last, end.0 - start.0, 9223372036854775807) {
+                clip_i64(ends, first, count, start, end, last);
+            } else {
+                io::write_all(1, b"over ");
             }
         }
         Runs::None => {
@@ -268,13 +274,13 @@ fn copies_i64(ends: &[u8])
     copy_i64(ends, 3, LogicalRow(8), LogicalRow(10), 0);
 }
 
-// The runs of the rows 0 to 9 among the first n.
-fn finds_i64(ends: &[u8], n: usize)
+// The runs of the rows 0 to 9 among the first n, and the rows left in them before `last`.
+fn finds_i64(ends: &[u8], n: usize, last: u64)
     requires { ⌜ 8 * n ≤ length (now ends) ⌝ }
 {
     let mut row: u64 = 0;
     while row < 10 {
-        put_found(run_ends::find_run_i64(ends, 0, n, LogicalRow(row)));
+        put_found(run_ends::find_run_i64(ends, 0, n, LogicalRow(row), LogicalRow(last)));
         row += 1;
     }
     line();
@@ -308,8 +314,9 @@ fn all_i64() {
         0,
     ];
     copies_i64(&ends);
-    finds_i64(&ends, 3);
-    finds_i64(&ends, 0);
+    finds_i64(&ends, 3, 9);
+    finds_i64(&ends, 3, 7);
+    finds_i64(&ends, 0, 9);
 }
 
 fn main() {

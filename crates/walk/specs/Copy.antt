@@ -8,7 +8,7 @@ use lib.Dec.{leb, ltb, eqb}
 use Rattle.number.specs.Number.{entry, encode}
 use Rattle.columnar.specs.Types.{half}
 use Rattle.formats.specs.Code.{isFixed, isString, isView, isListView}
-use Rattle.run_ends.specs.Lookup.{bisect, foundAt, runsOf}
+use Rattle.run_ends.specs.Lookup.{foundRun, runsOf}
 use Rattle.run_ends.specs.Clip.{clipped}
 use Rattle.run_ends.specs.declared.Runs.{Runs}
 use Rattle.run_ends.specs.declared.Runs.the-variants.{Range, None}
@@ -99,10 +99,10 @@ module _ (x : Join) (child : Walk) where
       (λ c2. next (wrote (put (suc i) 1 (rows c2 (suc i) * w) (clipped w (x .body) (endsAt w i + w * first .0) count slot (slot + n) (rows c i))) c2)
       (λ c3. done (addRows (suc i) count c3)))
 
-  -- the runs of the rows, by halves
+  -- the runs of the rows, by the search
   abbrev pub runsAt : ℕ → ℕ → ℕ → ℕ → Runs
   runsAt w i slot n =
-      runsOf (λ r. foundAt w (x .body) (endsAt w i) (lengthOf x (suc i)) (bisect w (x .body) (endsAt w i) (lengthOf x (suc i)) r)) slot (slot + n)
+      runsOf (foundRun w (x .body) (endsAt w i) (lengthOf x (suc i)) (slot + n)) slot (slot + n)
 
   -- "A copy of length 0 adds nothing"
   unfoldable pub copyRuns : ℕ → ℕ → ℕ → List ℕ → Out

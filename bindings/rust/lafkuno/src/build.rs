@@ -226,7 +226,7 @@ impl Dictionaries {
             Kind::Dictionary => {
                 let values = ty.dictionary.as_ref().unwrap();
                 if self.0.get(&node).is_some_and(|d| d.2.is_none()) {
-                    let entries = self.0[&node].1.clone();
+                    let entries: Vec<Row> = self.0[&node].1.iter().map(|r| if *r == Row::NullEntry { Row::Null } else { r.clone() }).collect();
                     let built = self.build(values, node + 1, &entries.iter().collect::<Vec<_>>())?.0;
                     self.0.get_mut(&node).unwrap().2 = Some(built);
                 }
@@ -260,7 +260,8 @@ impl Dictionaries {
 }
 
 impl Column {
-    /// A column of these rows. Rows of a dictionary are rows of its values; equal neighbours in a run-end column are one run.
+    /// A column of these rows. Rows of a dictionary are rows of its values, `NullEntry` one that is null; equal neighbours in a run-end
+    /// column are one run.
     pub fn build(ty: &Type, rows: &[Row]) -> Result<Column, Error> {
         Ok(Column::build_all(ty, &[rows], false)?.remove(0))
     }

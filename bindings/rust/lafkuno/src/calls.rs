@@ -146,12 +146,30 @@ extern "C" {
         places: *const u32, places_len: usize, buffers: *const u32, buffers_len: usize, body: *const u8, body_len: usize,
         first: u32, n: u32, tree: *mut u64, tree_len: usize,
     ) -> u8;
-    // answers the kind: 0 null, 1 signed, 2 unsigned, 3 f32, 4 f64, 5 bytes, 6 list, 7 refused, also where `answer` has not 12 numbers;
-    // answer: three numbers, how many ids there are, eight ids
+    // answers the kind: 0 null, 1 signed, 2 unsigned, 3 f32, 4 f64, 5 bytes, 6 list; 16 and the ground where it is refused, 14 where
+    // `answer` has not 12 numbers; answer: three numbers, how many ids there are, eight ids
     fn lafkuno_read_row(
         tree: *const u64, tree_len: usize, lengths: *const u64, lengths_len: usize, places: *const u32, places_len: usize,
         buffers: *const u32, buffers_len: usize, body: *const u8, body_len: usize, first: u32, row: u64,
         answer: *mut u64, answer_len: usize,
+    ) -> u8;
+    // answer: the run and the rows left in it; 14 where it has not 2 numbers
+    fn lafkuno_run_at(
+        formats: *const u8, formats_len: usize, schema: *const u32, schema_len: usize, lengths: *const u64, lengths_len: usize,
+        places: *const u32, places_len: usize, buffers: *const u32, buffers_len: usize, body: *const u8, body_len: usize,
+        first: u32, n: u32, row: u64, answer: *mut u64, answer_len: usize,
+    ) -> u8;
+    fn lafkuno_read_run(
+        tree: *const u64, tree_len: usize, lengths: *const u64, lengths_len: usize, places: *const u32, places_len: usize,
+        body: *const u8, body_len: usize, first: u32, row: u64, answer: *mut u64, answer_len: usize,
+    ) -> u8;
+    fn lafkuno_frame(
+        formats: *const u8, formats_len: usize, schema: *const u32, schema_len: usize, lengths: *const u64, lengths_len: usize,
+        places: *const u32, places_len: usize, buffers: *const u32, buffers_len: usize, body: *const u8, body_len: usize,
+        first_a: u32, n_a: u32, first_b: u32, n_b: u32, start: u64, end: u64, room: *mut f64, room_len: usize,
+    ) -> u8;
+    fn lafkuno_join_frames(
+        left: *const f64, left_len: usize, right: *const f64, right_len: usize, room: *mut f64, room_len: usize,
     ) -> u8;
 }
 
@@ -300,7 +318,7 @@ pub fn column_ground(x: &Tables, first: u32, n: u32) -> u8 {
     }
 }
 
-/// The same, or 14 where `tree` has fewer than [`TREE`] numbers; else the column's tree is written to its front.
+/// The same, then 14 where `tree` has fewer than [`TREE`] numbers; else the column's tree is written to its front.
 #[inline(always)]
 pub fn open_column(x: &Tables, first: u32, n: u32, tree: &mut [u64]) -> u8 {
     unsafe {
@@ -331,7 +349,69 @@ pub fn read_row(tree: &[u64], x: &Tables, first: u32, row: u64) -> Result<RowAns
         4 => Read::Double(a),
         5 => Read::Bytes { at: a, len: b },
         6 => Read::List { node: a, start: b, len: c },
-        _ => return Err(a as u8),
+        _ => return Err(kind.wrapping_sub(16)),
     };
     Ok(RowAnswer { read, ids: ids.map(|id| id as u8), count: count as u8 })
+}
+
+/// The run of a row of a run-end column, and how many rows of the column from that one on stand in it: 9, 10, 12 where it is malformed, then 10
+/// where it is no run-end column, then 2.
+#[inline(always)]
+pub fn run_at(x: &Tables, first: u32, n: u32, row: u64) -> Result<RunAnswer, u8> {
+    let mut answer = [0; 2];
+    let ground = unsafe {
+        lafkuno_run_at(
+            x.formats.as_ptr(), x.formats.len(), x.schema.as_ptr(), x.schema.len(), x.lengths.as_ptr(), x.lengths.len(),
+            x.places.as_ptr(), x.places.len(), x.buffers.as_ptr(), x.buffers.len(), x.body.as_ptr(), x.body.len(), first, n,
+            row, answer.as_mut_ptr(), answer.len(),
+        )
+    };
+    RunAnswer::of(ground, answer)
+}
+
+/// The same of an opened column.
+#[inline(always)]
+pub fn read_run(tree: &[u64], x: &Tables, first: u32, row: u64) -> Result<RunAnswer, u8> {
+    let mut answer = [0; 2];
+    let ground = unsafe {
+        lafkuno_read_run(
+            tree.as_ptr(), tree.len(), x.lengths.as_ptr(), x.lengths.len(), x.places.as_ptr(), x.places.len(), x.body.as_ptr(),
+            x.body.len(), first, row, answer.as_mut_ptr(), answer.len(),
+        )
+    };
+    RunAnswer::of(ground, answer)
+}
+
+/// A run, counted from the first run end, and the rows left in it.
+#[derive(Clone, Copy, Debug, PartialEq, Eq)]
+pub struct RunAnswer {
+    /// The run.
+    pub run: u64,
+    /// The rows of the column from the one asked for on that stand in it.
+    pub left: u64,
+}
+
+impl RunAnswer {
+    fn of(ground: u8, [run, left]: [u64; 2]) -> Result<RunAnswer, u8> {
+        if ground == 0 { Ok(RunAnswer { run, left }) } else { Err(ground) }
+    }
+}
+
+// ---- beside the join
+
+/// The frame of the rows `start .. end` of two columns, each by its first node and its count of nodes: smallest and largest of the first,
+/// smallest and largest of the second.
+pub fn frame(x: &Tables, [first_a, n_a]: [u32; 2], [first_b, n_b]: [u32; 2], start: u64, end: u64, room: &mut [f64]) -> u8 {
+    unsafe {
+        lafkuno_frame(
+            x.formats.as_ptr(), x.formats.len(), x.schema.as_ptr(), x.schema.len(), x.lengths.as_ptr(), x.lengths.len(),
+            x.places.as_ptr(), x.places.len(), x.buffers.as_ptr(), x.buffers.len(), x.body.as_ptr(), x.body.len(),
+            first_a, n_a, first_b, n_b, start, end, room.as_mut_ptr(), room.len(),
+        )
+    }
+}
+
+/// The frame of two ranges from the frames of both, the left range's first.
+pub fn join_frames(left: &[f64], right: &[f64], room: &mut [f64]) -> u8 {
+    unsafe { lafkuno_join_frames(left.as_ptr(), left.len(), right.as_ptr(), right.len(), room.as_mut_ptr(), room.len()) }
 }

@@ -1,7 +1,7 @@
 //! A join over safe types. It never asks its user for room: orders are tried on the counters alone, and the room is lent when the
 //! sizes of all parts are known.
 
-use crate::calls::{self, FinishedTables, Read, RowAnswer, COUNTERS, PLAN, TREE};
+use crate::calls::{self, FinishedTables, Read, RowAnswer, RunAnswer, COUNTERS, PLAN, TREE};
 use crate::lent::Raise;
 use crate::work::Work;
 use crate::{explain, Buffer, Column, Error, Ground, Lent, Row};
@@ -292,6 +292,29 @@ impl Reader {
         self.read(0, i)
     }
 
+    /// The run of a row of a run-end column, and how many rows of the column from that one on stand in it: ground 10 where it is no
+    /// run-end column, 2 where there is no such row.
+    pub fn run(&self, row: u64) -> Result<(u64, u64), Error> {
+        let x = self.lent.tables();
+        let refused = |ground| Error::check(ground).err().unwrap_or_else(|| Error::Inconsistent("a run was refused without a ground".into()));
+        let answer = self.trees.get(&0).map(|tree| calls::read_run(&tree[..], &x, x.sources[0], row));
+        let RunAnswer { run, left } = answer.unwrap_or(Err(0)).map_err(refused)?;
+        Ok((run, left))
+    }
+
+    /// The runs of a range of rows of a run-end column, each with how many rows of the range stand in it; the reader is asked once a run.
+    pub fn runs(&self, rows: Range<u64>) -> Result<Runs<'_>, Error> {
+        match self.run(rows.start) {
+            Err(e) if e.ground() != Some(Ground::NoSuchRows) => return Err(e),
+            _ => {}
+        }
+        let length = self.lent.lengths.get(2 * self.lent.sources[0] as usize).copied().unwrap_or(0);
+        if rows.end < rows.start || length < rows.end {
+            Error::check(Ground::NoSuchRows.number())?;
+        }
+        Ok(Runs { reader: self, rows })
+    }
+
     fn read(&self, column: u32, row: u64) -> Result<Row, Error> {
         let x = self.lent.tables();
         let inconsistent = |what: &str| Error::Inconsistent(what.into());
@@ -313,5 +336,26 @@ impl Reader {
             Read::List { node, start, len } => Row::List((start..start + len).map(|r| self.read(column + node as u32, r)).collect::<Result<_, _>>()?),
         };
         Ok(ids[..count as usize].iter().rev().fold(inner, |row, id| Row::Union(*id, Box::new(row))))
+    }
+}
+
+/// The runs of a range of rows: [`Reader::runs`].
+#[derive(Debug)]
+pub struct Runs<'a> {
+    reader: &'a Reader,
+    rows: Range<u64>,
+}
+
+impl Iterator for Runs<'_> {
+    type Item = (u64, u64);
+
+    fn next(&mut self) -> Option<(u64, u64)> {
+        if self.rows.is_empty() {
+            return None;
+        }
+        let (run, left) = self.reader.run(self.rows.start).ok()?;
+        let rows = left.min(self.rows.end - self.rows.start);
+        self.rows.start += rows;
+        Some((run, rows))
     }
 }

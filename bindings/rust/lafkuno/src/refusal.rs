@@ -58,11 +58,13 @@ pub enum Ground {
     RoomTooSmall = 13,
     /// Parts or tables that are not of the right number or size.
     BadParts = 14,
+    /// No row of the range counts.
+    NothingCounted = 17,
 }
 
 impl Ground {
-    /// All of them, by number from 1 on.
-    pub const ALL: [Ground; 14] = [
+    /// All of them, by number.
+    pub const ALL: &[Ground] = &[
         Ground::NoSuchSource,
         Ground::NoSuchRows,
         Ground::KeepsNoNulls,
@@ -77,11 +79,12 @@ impl Ground {
         Ground::BadSource,
         Ground::RoomTooSmall,
         Ground::BadParts,
+        Ground::NothingCounted,
     ];
 
     /// The ground of a number.
     pub fn from_number(number: u8) -> Option<Ground> {
-        Ground::ALL.get((number as usize).checked_sub(1)?).copied()
+        Ground::ALL.iter().copied().find(|g| g.number() == number)
     }
 
     /// Its number.
@@ -109,13 +112,14 @@ impl Ground {
             Ground::BadSource => "a source breaks the rules of its type: a buffer too short or outside the body, or an offset, id, position, run end, key or view that leads outside",
             Ground::RoomTooSmall => "a part of the room is too small for its bytes",
             Ground::BadParts => "a wrong number of parts, a part outside the room, two that overlap, or a table that is not of a join's size",
+            Ground::NothingCounted => "no row of the range counts: each has a null or a NaN in one of the two columns",
         }
     }
 
     /// Who caused it.
     pub fn cause(self) -> Cause {
         match self.number() {
-            1..=5 => Cause::Orders,
+            1..=5 | 17 => Cause::Orders,
             6..=8 => Cause::Data,
             9..=12 => Cause::Sources,
             _ => Cause::Room,

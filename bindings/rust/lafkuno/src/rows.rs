@@ -3,11 +3,14 @@
 use crate::types::{storage, Kind};
 use crate::{Column, Type};
 
-/// A row. Floats are equal when their bits are; a dictionary's row is the stored bytes of its entry.
+/// A row. Floats are equal when their bits are; a dictionary's row is null where its key or the entry that the key names is null, else
+/// the stored bytes of that entry.
 #[derive(Clone, Debug, PartialEq, Eq, Hash, PartialOrd, Ord)]
 pub enum Row {
     /// No value.
     Null,
+    /// A valid key of a null entry: columns are built from it, and it is read as `Null`.
+    NullEntry,
     /// A whole number.
     Whole(i128),
     /// An f32, by its bits.
@@ -93,6 +96,9 @@ impl Column {
                 let values = self.dictionary.as_ref()?;
                 let key = entry(self.buffers.first()?, slot, w)?;
                 let slot = values.offset.checked_add(key)?;
+                if !values.valid(slot)? {
+                    return Some(Row::Null);
+                }
                 let ty = values.head();
                 let w = ty.width();
                 let bytes = match ty.kind() {

@@ -218,6 +218,18 @@ mod tests {
     }
 
     #[test]
+    fn a_null_entry_is_no_null_key() {
+        let ty: Type = "C?[u?]".parse().unwrap();
+        let text = r#""Ana", entry:null, null, "Bo", 2*entry:null"#;
+        let column = Column::build(&ty, &rows(&ty, text).unwrap()).unwrap();
+        let shown: Vec<String> = column.rows().unwrap().iter().map(|r| show(&ty, r)).collect();
+        assert_eq!(shown.join(", "), r#""Ana", null, null, "Bo", null, null"#);
+        assert_eq!((column.null_count(), &column.buffers[0][..]), (1, &[0, 1, 0, 2, 1, 1][..]));
+        let values = column.dictionary.unwrap();
+        assert_eq!((values.length, values.null_count()), (3, 1));
+    }
+
+    #[test]
     fn mistakes_name_their_line() {
         for (text, line) in [
             ("type i\nrows 1", 2),
@@ -232,6 +244,9 @@ mod tests {
             ("type i\nsource a\nrows 1\nslice 0..2", 4),
             ("type i\nsource a\ncopy b 0..1", 3),
             ("type c\nsource a\nrows 128", 3),
+            ("type C[u]\nsource a\nrows entry:null", 3),
+            ("type C[u?]\nsource a\nrows entry:x", 3),
+            ("type u?\nsource a\nrows entry:null", 3),
             ("source a", 1),
             ("# nothing", 1),
         ] {

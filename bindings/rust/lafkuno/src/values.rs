@@ -65,10 +65,23 @@ impl<'a> Values<'a> {
         Err("a \" is due at the end of the bytes".into())
     }
 
+    /// `entry:null`, a valid key of a null entry.
+    fn null_entry(&mut self) -> Parsed<bool> {
+        let start = self.rest;
+        if self.word() != "entry" || !self.eat(':') {
+            self.rest = start;
+            return Ok(false);
+        }
+        match self.word() {
+            "null" => Ok(true),
+            word => Err(format!("`null` is due after `entry:`, not `{word}`")),
+        }
+    }
+
     /// A value of the type; rows of a dictionary are those of its values.
     fn value(&mut self, ty: &Type) -> Parsed<Row> {
         if let Some(values) = &ty.dictionary {
-            return self.value(values);
+            return if self.null_entry()? { Ok(Row::NullEntry) } else { self.value(values) };
         }
         if ty.format == "+r" {
             return self.value(&ty.children[1]);
@@ -192,6 +205,7 @@ fn show_into(ty: &Type, row: &Row, out: &mut String) {
         }
         (_, "+r") => show_into(&ty.children[1], row, out),
         (Row::Null, _) => out.push_str("null"),
+        (Row::NullEntry, _) => out.push_str("entry:null"),
         (Row::Whole(n), _) => write!(out, "{n}").unwrap(),
         (Row::Single(bits), _) if f32::from_bits(*bits).is_nan() => write!(out, "0x{bits:08x}").unwrap(),
         (Row::Double(bits), _) if f64::from_bits(*bits).is_nan() => write!(out, "0x{bits:016x}").unwrap(),

@@ -1,6 +1,6 @@
 //! Document 01's table of checked rows through the binding, and grounds at their edges.
 
-use lafkuno::{Buffer, Column, Error, Join, Row};
+use lafkuno::{Buffer, Column, Error, Join, Reader, Row};
 
 fn numbers<T: Copy, const W: usize>(values: &[T], bytes: fn(T) -> [u8; W]) -> Buffer {
     values.iter().flat_map(|v| bytes(*v)).collect::<Vec<u8>>().into()
@@ -294,5 +294,26 @@ fn logical_types_travel_as_their_storage() {
         assert_eq!(joined.format, format);
         assert_eq!(joined.buffers[0][..2 * w], bytes[w..]);
         assert_eq!(joined.null_count(), 1);
+    }
+}
+
+#[test]
+fn k17_null_entries() {
+    // the entries and the keys stand behind another one each
+    let values = strings(&["x", "Ana", "", "Bo"]);
+    let values = Column { validity: Some(vec![0b1011].into()), ..values.slice(1, 3).unwrap() };
+    let keyed =
+        |keys: &[u8], values: &Column| Column { dictionary: Some(Box::new(values.clone())), ..fixed("C", keys.to_vec().into(), keys.len() as u64) };
+    let drivers = keyed(&[2, 0, 1, 2], &values).slice(1, 3).unwrap();
+    let rows = [Row::Bytes(b"Ana".to_vec()), Row::Null, Row::Bytes(b"Bo".to_vec())];
+    for (first, keys) in [(keyed(&[1], &strings(&["Cy", "Di"])), [2, 3, 4]), (drivers.clone(), [0, 1, 2])] {
+        let mut join = Join::open(&[&first, &drivers], false).unwrap();
+        join.copy(1, 0..3).unwrap();
+        let joined = join.finish().unwrap();
+        assert_eq!(&*joined.column.buffers[0], &keys);
+        assert_eq!(joined.column.rows().unwrap(), rows);
+        assert_eq!((joined.column.null_count(), joined.column.dictionary.as_ref().unwrap().null_count()), (0, 1));
+        let reader = Reader::open(&joined.column).unwrap();
+        assert_eq!((0..3).map(|r| reader.row(r).unwrap()).collect::<Vec<_>>(), rows);
     }
 }

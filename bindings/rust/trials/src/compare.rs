@@ -19,6 +19,9 @@ pub struct Seen {
     pub answers: BTreeMap<(&'static str, u8), u64>,
     pub joined_dictionaries: u64,
     pub kept_dictionaries: u64,
+    /// Rows whose valid key names a null entry, in joined and in kept dictionaries.
+    pub joined_null_entries: u64,
+    pub kept_null_entries: u64,
     pub depth_8: u64,
 }
 
@@ -315,7 +318,11 @@ fn count_nulls(column: &Column, counts: &mut Vec<u64>) {
 
 fn count_dictionaries(column: &Column, base: usize, seen: &mut Seen) {
     if let Some(values) = &column.dictionary {
-        *if is_kept(values, base) { &mut seen.kept_dictionaries } else { &mut seen.joined_dictionaries } += 1;
+        let kept = is_kept(values, base);
+        *if kept { &mut seen.kept_dictionaries } else { &mut seen.joined_dictionaries } += 1;
+        let keys = Column { dictionary: None, ..column.clone() };
+        let named = (0..column.length).filter(|r| keys.row(*r) != Some(Row::Null) && column.row(*r) == Some(Row::Null)).count() as u64;
+        *if kept { &mut seen.kept_null_entries } else { &mut seen.joined_null_entries } += named;
     }
     column.children.iter().for_each(|c| count_dictionaries(c, base, seen));
 }

@@ -25,6 +25,7 @@ fn examples_give_their_rows() {
         ("runs.join", [vec!["\"B\""; 3], vec!["\"C\""], vec!["\"B\""; 3], vec!["\"C\""], vec!["null"; 5]].concat()),
         ("stops.join", vec![r#"["Depot", null, "Harbour"]"#, r#"["Depot", "Mill Lane"]"#, "[]", "null", r#"["Yard"]"#, "null"]),
         ("towns.join", vec!["\"Granton\"", "\"Newhaven\"", "\"Leith\"", "null", "\"Granton\""]),
+        ("drivers.join", vec!["\"Ana\"", "null", "\"Bo\"", "null", "\"Di\""]),
         ("events.join", vec!["7:\"engine on, doors shut\"", "7:\"engine on, doors shut\"", "5:null", "7:null", "5:null", "5:null"]),
     ] {
         let output = run(&["join", file]);

@@ -6,7 +6,7 @@ use std::collections::BTreeMap;
 
 const HEADER: &str = include_str!("../../../../include/lafkuno.h");
 const RUST: &str = include_str!("../../lafkuno/src/calls.rs");
-const RATTLE: &str = include_str!("../../../../crates/lafkuno/src/lib.rt");
+const RATTLE: &str = concat!(include_str!("../../../../crates/lafkuno/src/lib.rt"), include_str!("../../../../crates/lafkuno/src/beside.rt"));
 
 /// Name, parameters as (type, name), answer.
 type Calls = BTreeMap<String, (Vec<(String, String)>, String)>;
@@ -23,7 +23,7 @@ fn without_comments(text: &str) -> String {
 
 fn c_type(words: &str) -> String {
     let words = words.replace("const ", "const_").replace("uint8_t", "u8").replace("uint32_t", "u32").replace("uint64_t", "u64");
-    words.replace("size_t", "usize").replace(' ', "")
+    words.replace("size_t", "usize").replace("double", "f64").replace(' ', "")
 }
 
 fn header() -> Calls {
@@ -88,7 +88,7 @@ fn rattle() -> BTreeMap<String, (Vec<String>, String)> {
 #[test]
 fn the_same_calls() {
     let (header, library) = (header(), library());
-    assert_eq!(header.len(), 17);
+    assert_eq!(header.len(), 21);
     assert_eq!(header, library);
     let types = header.into_iter().map(|(name, (parameters, answer))| (name, (parameters.into_iter().map(|(ty, _)| ty).collect(), answer)));
     assert_eq!(types.collect::<BTreeMap<_, _>>(), rattle());

@@ -12,6 +12,7 @@ fn random_joins_are_the_originals() {
         join(seed, &mut seen).unwrap();
     }
     assert_eq!(seen.joins, 500);
+    assert!(0 < seen.joined_null_entries && 0 < seen.kept_null_entries);
 }
 
 // Validity without a zero bit counts as absent: u8 keys over one dictionary of 200 entries, which the second source has with such a

@@ -21,14 +21,11 @@ enum-known-read-2 c = search needs
 enum-known-read-3 : tie.Need-enum-known-read-3
 enum-known-read-3 c = search needs
 
-enum-known-read-4 : tie.Need-enum-known-read-4
-enum-known-read-4 c = search needs
-
-cast-t14 : tie.Need-cast-t14
-cast-t14 c = search needs
+enum-told-2 : tie.Need-enum-told-2
+enum-told-2 c = search needs
 
 returns : tie.Need-returns
-returns c = search needs
+returns c = ap rowNumbers (sym (c .enum-told .given .1))
 
 returns-2 : tie.Need-returns-2
 returns-2 c = ap (λ n. n ∷ 0 ∷ 0 ∷ []) (c .leaf-number .ensures) ∙ ap rowNumbers (sym (c .before .before .read .given .1))
@@ -40,7 +37,7 @@ returns-4 : tie.Need-returns-4
 returns-4 c = ap rowNumbers (sym (c .before .read3 .given .1))
 
 returns-5 : tie.Need-returns-5
-returns-5 c = ap rowNumbers (sym (c .before .read4 .given .1))
+returns-5 c = ap rowNumbers (sym (c .enum-told2 .given .1))
 
 pub row-numbers-spec : {M : Type 1} → statement M
 row-numbers-spec =
@@ -51,8 +48,7 @@ row-numbers-spec =
     leaf-number-requires
     enum-known-read-2
     enum-known-read-3
-    enum-known-read-4
-    cast-t14
+    enum-told-2
     returns
     returns-2
     returns-3

@@ -38,7 +38,7 @@ enum-told : tie.Need-enum-told
 enum-told c = search needs
 
 step-slot-requires : tie.Need-step-slot-requires
-step-slot-requires c κs = search needs
+step-slot-requires c κs = (omega arith, omega (arith, c .before .before .before .before .offset-at .ensures))
 
 enum-told-2 : tie.Need-enum-told-2
 enum-told-2 c = search needs

@@ -52,13 +52,13 @@ add-t15 c = search needs
 
 runs-of-requires : tie.Need-runs-of-requires
 runs-of-requires c κs =
-    let a = c .before .before .before .before .before .before .args in
-    (c .before .before .before .before .before .before .pre .1 .0, runs-from (join [] [] (a .lengths .now) (a .places .now) (a .body .now) (a .first) 0) (a .w) (a .i) (omega arith) (c .before .before .place .ensures) (c .before .offset-of .ensures) (c .length-of .ensures) (c .before .before .before .before .before .before .pre .1 .1))
+    let a = c .before .before .before .before .before .before .before .args in
+    (c .before .before .before .before .before .before .before .pre .1 .0, runs-from (join [] [] (a .lengths .now) (a .places .now) (a .body .now) (a .first) 0) (a .w) (a .i) (omega arith) (c .before .before .before .place .ensures) (c .before .before .offset-of .ensures) (c .before .length-of .ensures) (c .before .before .before .before .before .before .before .pre .1 .1))
 
 returns : tie.Need-returns
 returns c =
-    let a = c .before .before .before .before .before .before .before .args in
-    λ state parts source child. runs-given (join state parts (a .lengths .now) (a .places .now) (a .body .now) (a .first) source) child (a .w) (a .i) (a .slot) (a .n) (omega arith) (c .before .before .before .place .ensures) (c .before .before .offset-of .ensures) (c .before .length-of .ensures) (c .runs-of .ensures)
+    let a = c .before .before .before .before .before .before .before .before .args in
+    λ state parts source child. runs-given (join state parts (a .lengths .now) (a .places .now) (a .body .now) (a .first) source) child (a .w) (a .i) (a .start .0) (a .n) (omega arith) (c .before .before .before .before .place .ensures) (c .before .before .before .offset-of .ensures) (c .before .before .length-of .ensures) (c .runs-of .ensures)
 
 pub runs-at-spec : {M : Type 1} → statement M
 runs-at-spec = tie.close (tie.spec add-place add-place-2 place-requires cast-at add-offset-of add-offset-of-2 offset-of-requires mul-from add-from add-length-of add-length-of-2 length-of-requires add-t15 runs-of-requires returns)

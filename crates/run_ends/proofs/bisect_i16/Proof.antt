@@ -1,50 +1,54 @@
 -- `run_ends::bisect_i16` meets its contract: what is left of the search is the whole search. Assumes nothing.
-use Prim.Native.Nat.{_-_}
+use mathlib.Core.Path.{ap, _∙_}
+use Prim.Native.Nat.{ℕ, _+_, _/_}
 use native.Mathlib.Omega.{arith}
 use Rattle.number.specs.Number.{entry}
-use Rattle.run_ends.proofs.Search.{Halving, begin, go-low, go-high, stop}
+use Rattle.run_ends.proofs.Search.{Quartering, begin, quarters, go-on, stop}
 use Rattle.run_ends.proofs.bisect_i16.Statement.{statement}
 use Rattle.run_ends.proofs.bisect_i16.Tie as tie
 
 abbrev Inv-loop : tie.InvT-loop
-Inv-loop body from n x lo₀ hi₀ lo hi = Halving (entry 2 body from) x n lo hi
+Inv-loop body from n row base₀ size₀ base size = Quartering (entry 2 body from) (row .0) n base size
 
 abbrev μ-loop : tie.MeasureT-loop
-μ-loop body from n x lo₀ hi₀ lo hi = hi - lo
+μ-loop body from n row base₀ size₀ base size = size
 
 loop-holds : tie.Need-loop-holds Inv-loop μ-loop
 loop-holds c = begin _ _ _
 
-sub-mid : tie.Need-sub-mid Inv-loop μ-loop
-sub-mid c = omega arith
+passed-i16-requires : tie.Need-passed-i16-requires Inv-loop μ-loop
+passed-i16-requires c κs = omega arith
 
-add-mid : tie.Need-add-mid Inv-loop μ-loop
-add-mid c = omega arith
+mul-base : tie.Need-mul-base Inv-loop μ-loop
+mul-base c = omega (arith, quarters (c .before .before .loop .size / 4) (c .passed-i16 .result) (c .passed-i16 .ensures .1))
 
-run-end-i16-requires : tie.Need-run-end-i16-requires Inv-loop μ-loop
-run-end-i16-requires c κs = omega arith
+add-base : tie.Need-add-base Inv-loop μ-loop
+add-base c = omega (arith, quarters (c .before .before .loop .size / 4) (c .passed-i16 .result) (c .passed-i16 .ensures .1))
+
+mul-size : tie.Need-mul-size Inv-loop μ-loop
+mul-size c = omega arith
+
+sub-size : tie.Need-sub-size Inv-loop μ-loop
+sub-size c = omega arith
 
 loop-less : tie.Need-loop-less Inv-loop μ-loop
 loop-less c = omega arith
 
 loop-again : tie.Need-loop-again Inv-loop μ-loop
 loop-again c =
-    let l = c .before .before .before .before .loop in
-    go-low _ _ _ (l .lo) (l .hi) (omega arith) (omega arith) (l .inv)
+    let l = c .before .before .loop in
+    go-on _ _ _ (l .base) (l .size) (omega arith) (c .passed-i16 .ensures .0) (l .inv)
 
-add-lo : tie.Need-add-lo Inv-loop μ-loop
-add-lo c = omega arith
+tally-i16-requires : tie.Need-tally-i16-requires Inv-loop μ-loop
+tally-i16-requires c κs = omega arith
 
-loop-less-2 : tie.Need-loop-less-2 Inv-loop μ-loop
-loop-less-2 c = omega arith
-
-loop-again-2 : tie.Need-loop-again-2 Inv-loop μ-loop
-loop-again-2 c =
-    let l = c .before .before .before .before .loop in
-    go-high _ _ _ (l .lo) (l .hi) (omega arith) (omega arith) (l .inv)
+add-t12 : tie.Need-add-t12 Inv-loop μ-loop
+add-t12 c = omega arith
 
 returns : tie.Need-returns Inv-loop μ-loop
-returns c = stop _ _ _ _ _ (omega arith) (c .before .loop .inv)
+returns c =
+    let l = c .before .before .loop in
+    ap (λ (t : ℕ). l .base + t) (c .tally-i16 .ensures .0) ∙ stop _ _ _ (l .base) (l .size) (omega arith) (l .inv)
 
 pub bisect-i16-spec : {M : Type 1} → statement M
 bisect-i16-spec =
@@ -53,12 +57,13 @@ bisect-i16-spec =
     Inv-loop
     μ-loop
     loop-holds
-    sub-mid
-    add-mid
-    run-end-i16-requires
+    passed-i16-requires
+    mul-base
+    add-base
+    mul-size
+    sub-size
     loop-less
     loop-again
-    add-lo
-    loop-less-2
-    loop-again-2
+    tally-i16-requires
+    add-t12
     returns)

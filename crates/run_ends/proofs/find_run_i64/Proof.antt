@@ -7,18 +7,21 @@ use Rattle.run_ends.proofs.find_run_i64.Tie as tie
 bisect-i64-requires : tie.Need-bisect-i64-requires
 bisect-i64-requires c κs = omega arith
 
-run-end-i64-requires : tie.Need-run-end-i64-requires
-run-end-i64-requires c κs = omega arith
-
 returns : tie.Need-returns
 returns c =
     let z = c .before .before .before .before .args in
-    looked-run 8 (z .body .now) (z .from) (z .n) (z .row .0) (c .before .before .bisect-i64 .result) (c .run-end-i64 .result) (c .before .before .bisect-i64 .ensures) (omega arith) (c .run-end-i64 .ensures)
+    looked-past 8 (z .body .now) (z .from) (z .n) (z .last .0) (z .row .0) _ (c .before .before .bisect-i64 .ensures) (omega arith)
+
+run-end-i64-requires : tie.Need-run-end-i64-requires
+run-end-i64-requires c κs = omega arith
+
+found-at-requires : tie.Need-found-at-requires
+found-at-requires c κs = tt
 
 returns-2 : tie.Need-returns-2
 returns-2 c =
-    let z = c .before .before .before .args in
-    looked-past 8 (z .body .now) (z .from) (z .n) (z .row .0) _ (c .before .bisect-i64 .ensures) (omega arith)
+    let z = c .before .before .before .before .before .before .args in
+    looked-run 8 (z .body .now) (z .from) (z .n) (z .last .0) (z .row .0) _ _ (c .before .before .before .before .bisect-i64 .ensures) (omega arith) (c .before .run-end-i64 .ensures) (c .found-at .ensures)
 
 pub find-run-i64-spec : {M : Type 1} → statement M
-find-run-i64-spec = tie.close (tie.spec bisect-i64-requires run-end-i64-requires returns returns-2)
+find-run-i64-spec = tie.close (tie.spec bisect-i64-requires returns run-end-i64-requires found-at-requires returns-2)

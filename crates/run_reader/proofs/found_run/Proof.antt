@@ -1,7 +1,7 @@
 -- `run_reader::found_run` meets its contract. Assumes nothing.
 use mathlib.Core.Path.{sym, ap, _∙_}
 use Prim.Native.Nat.{ℕ}
-use Rattle.run_reader.specs.Rows.{foundRun}
+use Rattle.run_reader.specs.Rows.{endsRun}
 use Rattle.run_reader.proofs.Laws.{no-width}
 use borrow.Author.Needs.{needs}
 use Rattle.run_reader.proofs.found_run.Statement.{statement}
@@ -22,16 +22,16 @@ find-run-i64-requires : tie.Need-find-run-i64-requires
 find-run-i64-requires c κs = search needs
 
 returns : tie.Need-returns
-returns c = c .find-run-i16 .ensures .0 ∙ ap (λ (w : ℕ). foundRun (c .before .before .before .args .ends .now) w (c .before .before .before .args .row .0)) (sym (c .before .match .keys1))
+returns c = c .find-run-i16 .ensures .0 ∙ ap (λ (w : ℕ). endsRun (c .before .before .before .args .ends .now) w (c .before .before .before .args .last .0) (c .before .before .before .args .row .0)) (sym (c .before .match .keys1))
 
 returns-2 : tie.Need-returns-2
-returns-2 c = c .find-run-i32 .ensures .0 ∙ ap (λ (w : ℕ). foundRun (c .before .before .before .args .ends .now) w (c .before .before .before .args .row .0)) (sym (c .before .match .keys2))
+returns-2 c = c .find-run-i32 .ensures .0 ∙ ap (λ (w : ℕ). endsRun (c .before .before .before .args .ends .now) w (c .before .before .before .args .last .0) (c .before .before .before .args .row .0)) (sym (c .before .match .keys2))
 
 returns-3 : tie.Need-returns-3
-returns-3 c = c .find-run-i64 .ensures .0 ∙ ap (λ (w : ℕ). foundRun (c .before .before .before .args .ends .now) w (c .before .before .before .args .row .0)) (sym (c .before .match .keys3))
+returns-3 c = c .find-run-i64 .ensures .0 ∙ ap (λ (w : ℕ). endsRun (c .before .before .before .args .ends .now) w (c .before .before .before .args .last .0) (c .before .before .before .args .row .0)) (sym (c .before .match .keys3))
 
 returns-4 : tie.Need-returns-4
-returns-4 c = no-width (c .before .before .args .ends .now) (c .before .before .args .width) (c .before .before .args .row .0) (c .match .rest .0 .0 .1) (c .match .rest .0 .1) (c .match .rest .1)
+returns-4 c = no-width (c .before .before .args .ends .now) (c .before .before .args .width) (c .before .before .args .last .0) (c .before .before .args .row .0) (c .match .rest .0 .0 .1) (c .match .rest .0 .1) (c .match .rest .1)
 
 pub found-run-spec : {M : Type 1} → statement M
 found-run-spec =

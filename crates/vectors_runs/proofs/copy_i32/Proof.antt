@@ -2,7 +2,7 @@
 use native.Mathlib.Omega.{arith}
 use borrow.Author.Needs.{needs}
 use Rattle.run_ends.specs.Lookup.{bisect}
-use Rattle.run_ends.proofs.Laws.{range-within, next-fits}
+use Rattle.run_ends.proofs.Laws.{range-within}
 use Rattle.vectors_runs.proofs.copy_i32.Statement.{statement}
 use Rattle.vectors_runs.proofs.copy_i32.Tie as tie
 
@@ -18,29 +18,23 @@ put-requires c κs = tt
 put-requires-2 : tie.Need-put-requires-2
 put-requires-2 c κs = tt
 
-sub-next-run-end-i32 : tie.Need-sub-next-run-end-i32
-sub-next-run-end-i32 c =
+sub-fits : tie.Need-sub-fits
+sub-fits c =
     let r = c .before .before .before .before .before in
     let z = r .before .before .before .before .args in
     let h = range-within 4 (z .ends .now) 0 (z .n) (z .start .0) (z .end .0) (bisect 4 (z .ends .now) 0 (z .n)) (r .before .before .runs-of-range-i32 .ensures .0) (r .first .given .1) in
     omega arith
 
-next-run-end-i32-requires : tie.Need-next-run-end-i32-requires
-next-run-end-i32-requires c κs = tt
-
-enum-told : tie.Need-enum-told
-enum-told c = search needs
+fits-requires : tie.Need-fits-requires
+fits-requires c κs = tt
 
 clip-i32-requires : tie.Need-clip-i32-requires
 clip-i32-requires c κs =
-    let q = c .before .before in
+    let q = c .before in
     let r = q .before .before .before .before .before .before in
     let z = r .before .before .before .before .args in
     let h = range-within 4 (z .ends .now) 0 (z .n) (z .start .0) (z .end .0) (bisect 4 (z .ends .now) 0 (z .n)) (r .before .before .runs-of-range-i32 .ensures .0) (r .first .given .1) in
-    (omega arith, next-fits 4 (z .last) _ (q .next-run-end-i32 .ensures) (c .enum-told .given .1))
-
-enum-told-2 : tie.Need-enum-told-2
-enum-told-2 c = search needs
+    (omega arith, omega (arith, q .fits2 .ensures (c .if1 .taken)))
 
 slice-aggregate-write-all : tie.Need-slice-aggregate-write-all
 slice-aggregate-write-all c = search needs
@@ -48,8 +42,8 @@ slice-aggregate-write-all c = search needs
 write-all-requires : tie.Need-write-all-requires
 write-all-requires c κs = tt
 
-enum-told-3 : tie.Need-enum-told-3
-enum-told-3 c = search needs
+enum-told : tie.Need-enum-told
+enum-told c = search needs
 
 slice-aggregate-write-all-2 : tie.Need-slice-aggregate-write-all-2
 slice-aggregate-write-all-2 c = search needs
@@ -71,14 +65,12 @@ copy-i32-spec =
     enum-known-first
     put-requires
     put-requires-2
-    sub-next-run-end-i32
-    next-run-end-i32-requires
-    enum-told
+    sub-fits
+    fits-requires
     clip-i32-requires
-    enum-told-2
     slice-aggregate-write-all
     write-all-requires
-    enum-told-3
+    enum-told
     slice-aggregate-write-all-2
     write-all-requires-2
     line-requires

@@ -5,10 +5,10 @@ use Rattle.vectors_runs.proofs.finds_i32.Statement.{statement}
 use Rattle.vectors_runs.proofs.finds_i32.Tie as tie
 
 abbrev Inv-loop : tie.InvT-loop
-Inv-loop ends n row₀ row = row ≤ 10
+Inv-loop ends n last row₀ row = row ≤ 10
 
 abbrev μ-loop : tie.MeasureT-loop
-μ-loop ends n row₀ row = 10 - row
+μ-loop ends n last row₀ row = 10 - row
 
 loop-holds : tie.Need-loop-holds Inv-loop μ-loop
 loop-holds c = omega arith

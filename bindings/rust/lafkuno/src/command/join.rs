@@ -51,23 +51,26 @@ fn run(words: &[&str]) -> u8 {
     worst
 }
 
+/// What a file describes, or its mistake.
+pub fn description(file: &str) -> Result<text::Description, String> {
+    let mut input = vec![];
+    match file {
+        "-" => std::io::stdin().read_to_end(&mut input).map(|_| ()),
+        _ => std::fs::read(file).map(|bytes| input = bytes),
+    }
+    .map_err(|e| e.to_string())?;
+    if ipc::is_arrow(&input) {
+        return Err("this is an Arrow file: --orders says what is joined of it".into());
+    }
+    text::read_bytes(&input).map_err(|e| e.to_string())
+}
+
 /// The join of one file: what is printed, what is told on standard error, and the exit status.
 fn one(file: &str, buffers: bool, go_on: bool) -> (String, String, u8) {
     let mistake = |what: String| (String::new(), format!("lafkuno: {file}: {what}\n"), MISTAKE);
-    let mut input = vec![];
-    let read = match file {
-        "-" => std::io::stdin().read_to_end(&mut input).map(|_| ()),
-        _ => std::fs::read(file).map(|bytes| input = bytes),
-    };
-    if let Err(e) = read {
-        return mistake(e.to_string());
-    }
-    if ipc::is_arrow(&input) {
-        return mistake("this is an Arrow file: --orders says what is joined of it".into());
-    }
-    let description = match text::read_bytes(&input) {
+    let description = match description(file) {
         Ok(description) => description,
-        Err(e) => return mistake(e.to_string()),
+        Err(what) => return mistake(what),
     };
     let mut told = String::new();
     match join(&description, go_on, &mut told) {

@@ -6,6 +6,7 @@ use std::sync::Mutex;
 use std::time::{Duration, Instant};
 
 mod arrow;
+mod beside;
 mod demo;
 mod grounds;
 mod join;
@@ -20,7 +21,7 @@ pub struct Command {
     pub run: fn(&[&str]) -> u8,
 }
 
-pub const ALL: &[Command] = &[join::COMMAND, show::COMMAND, demo::COMMAND, grounds::COMMAND];
+pub const ALL: &[Command] = &[join::COMMAND, show::COMMAND, beside::BOX, demo::COMMAND, grounds::COMMAND];
 
 /// Exit statuses: an order or the opening was refused; the command or a file has a mistake.
 pub const REFUSED: u8 = 1;

@@ -32,9 +32,10 @@ fn main() -> ExitCode {
             }
         }
     }
-    let Seen { joins, orders, rows, answers, joined_dictionaries, kept_dictionaries, depth_8 } = seen;
+    let Seen { joins, orders, rows, answers, joined_dictionaries, kept_dictionaries, joined_null_entries, kept_null_entries, depth_8 } = seen;
     writeln!(out, "{joins} joins, {orders} orders, {rows} rows: no difference").unwrap();
     writeln!(out, "{depth_8} types of depth 8; dictionaries: {joined_dictionaries} joined, {kept_dictionaries} kept").unwrap();
+    writeln!(out, "rows of null entries: {joined_null_entries} in joined dictionaries, {kept_null_entries} in kept ones").unwrap();
     writeln!(out, "{widened} of them stored wider: the same rows").unwrap();
     writeln!(out, "{cuts} copies cut in two: the same rows, and bytes where no run is").unwrap();
     writeln!(out, "{passed} of slices through the C Data Interface: the same rows and names").unwrap();

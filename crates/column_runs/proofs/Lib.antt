@@ -1,0 +1,2 @@
+-- The laws of `column_runs`.
+pub mod Laws

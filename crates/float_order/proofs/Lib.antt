@@ -1,0 +1,3 @@
+-- The laws of `float_order`.
+pub mod Order
+pub mod Weak

@@ -1,0 +1,2 @@
+-- The definitions that the contracts and laws of `float_order` cite.
+pub mod Order

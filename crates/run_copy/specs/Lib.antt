@@ -1,0 +1,2 @@
+-- The definitions that the theorems of `run_copy` cite.
+pub mod Extend

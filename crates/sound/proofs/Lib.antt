@@ -1,0 +1,2 @@
+-- What the tests of a plan go by.
+pub mod Laws
