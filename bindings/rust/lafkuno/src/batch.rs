@@ -1,7 +1,7 @@
 //! Record batches: the same orders over every column, and many joins at once.
 
 use crate::types::Kind;
-use crate::{Column, Error, Ground, Join, Order, Place};
+use crate::{Column, Error, Ground, Join, Metadata, Order, Place};
 use std::sync::atomic::{AtomicUsize, Ordering};
 use std::sync::Mutex;
 
@@ -16,7 +16,7 @@ pub struct Batch {
     /// The columns.
     pub columns: Vec<Column>,
     /// Keys and values that somebody attached to the schema.
-    pub metadata: Vec<(Vec<u8>, Vec<u8>)>,
+    pub metadata: Metadata,
 }
 
 impl From<Column> for Batch {

@@ -2,13 +2,16 @@
 
 use crate::{Buffer, Error, Type};
 
+/// Keys and values that somebody attached to a field or a schema.
+pub type Metadata = Vec<(Vec<u8>, Vec<u8>)>;
+
 /// What a schema says of a field beside its type. A join carries source 0's to the result as they are.
 #[derive(Clone, Debug, Default, PartialEq, Eq)]
 pub struct Field {
     /// The field's name; a union's child has the name of the union's field.
     pub name: String,
     /// Keys and values that somebody attached to the field.
-    pub metadata: Vec<(Vec<u8>, Vec<u8>)>,
+    pub metadata: Metadata,
     /// Whether the order of the dictionary's entries has a meaning.
     pub ordered: bool,
     /// Whether a map's keys are sorted.

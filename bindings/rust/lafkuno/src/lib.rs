@@ -48,7 +48,7 @@ mod work;
 
 pub use batch::{join_many, run_many, Batch, Job};
 pub use buffer::Buffer;
-pub use column::{Column, Field};
+pub use column::{Column, Field, Metadata};
 pub use frame::{frame, Frame};
 pub use join::{Join, Joined, Order, Reader, Runs};
 pub use lent::Lent;

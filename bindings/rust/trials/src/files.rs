@@ -10,7 +10,7 @@ use std::collections::BTreeMap;
 pub type Outcomes = BTreeMap<String, u64>;
 
 fn named(column: Column, k: usize) -> Column {
-    let metadata = if k % 2 == 0 { vec![] } else { vec![(b"unit".to_vec(), b"ml".to_vec())] };
+    let metadata = if k.is_multiple_of(2) { vec![] } else { vec![(b"unit".to_vec(), b"ml".to_vec())] };
     let field = Field { name: format!("column {k}"), metadata, ordered: column.dictionary.is_some(), ..Field::default() };
     Column { field, ..column }
 }

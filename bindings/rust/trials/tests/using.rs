@@ -43,7 +43,7 @@ fn run(place: &PathBuf, line: &str) -> Output {
 fn documented_lines_run() {
     let place = place();
     let lines: Vec<&str> = blocks("sh").iter().flat_map(|b| b.lines()).filter(|l| l.starts_with("lafkuno ")).collect();
-    assert_eq!(lines.len(), 5);
+    assert!(5 <= lines.len());
     for line in lines {
         let output = run(&place, line);
         assert!(output.status.success(), "{line}: {}", String::from_utf8_lossy(&output.stderr));

@@ -3,7 +3,7 @@
 use super::{ArrowArray, ArrowSchema, FLAG_DICTIONARY_ORDERED, FLAG_MAP_KEYS_SORTED, FLAG_NULLABLE};
 use crate::buffer::Keep;
 use crate::types::Kind;
-use crate::{Buffer, Column, Error, Field};
+use crate::{Buffer, Column, Error, Field, Metadata};
 use std::collections::BTreeMap;
 use std::ffi::{c_char, c_void, CStr};
 use std::sync::Arc;
@@ -108,9 +108,9 @@ unsafe fn text(pointer: *const c_char, what: &str) -> Result<String, Error> {
 }
 
 /// Reads metadata: the count of its pairs, then each key and value with its bytes before it; numbers have four bytes.
-struct Metadata(*const u8);
+struct Encoded(*const u8);
 
-impl Metadata {
+impl Encoded {
     unsafe fn number(&mut self) -> Result<usize, Error> {
         let n = unsafe { self.0.cast::<i32>().read_unaligned() };
         self.0 = unsafe { self.0.add(4) };
@@ -124,7 +124,7 @@ impl Metadata {
         Ok(bytes)
     }
 
-    unsafe fn pairs(mut self) -> Result<Vec<(Vec<u8>, Vec<u8>)>, Error> {
+    unsafe fn pairs(mut self) -> Result<Metadata, Error> {
         if self.0.is_null() {
             return Ok(vec![]);
         }
@@ -153,7 +153,7 @@ unsafe fn node(schema: &ArrowSchema, array: &ArrowArray, keep: &Option<Arc<dyn K
     let mut column = Column { format, nullable: schema.flags & FLAG_NULLABLE != 0, length, offset, ..Column::default() };
     column.field = Field {
         name: unsafe { text(schema.name, "name") }?,
-        metadata: unsafe { Metadata(schema.metadata.cast()).pairs() }?,
+        metadata: unsafe { Encoded(schema.metadata.cast()).pairs() }?,
         ordered: schema.flags & FLAG_DICTIONARY_ORDERED != 0,
         keys_sorted: schema.flags & FLAG_MAP_KEYS_SORTED != 0,
     };

@@ -10,7 +10,9 @@ pub const BOX: Command = Command {
 lafkuno box FILE LATITUDE LONGITUDE START..END
                                           the box around rows of two columns of FILE, both of type g: smallest and largest latitude and longitude",
     run: |words| {
-        asked("box", "LATITUDE LONGITUDE", words, |columns: [&Column; 2], rows| lafkuno::frame(columns[0], columns[1], rows).map(|frame| frame.to_string()))
+        asked("box", "LATITUDE LONGITUDE", words, |columns: [&Column; 2], rows| {
+            lafkuno::frame(columns[0], columns[1], rows).map(|frame| frame.to_string())
+        })
     },
 };
 

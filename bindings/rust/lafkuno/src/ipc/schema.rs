@@ -1,7 +1,7 @@
 //! The schema of a file: fields as flatbuffers, and as columns without rows.
 
 use super::flat::{Cell, Flat, Read, Table};
-use crate::{Column, Field};
+use crate::{Column, Field, Metadata};
 
 /// Numbers of the type's table in Schema.fbs.
 mod code {
@@ -49,7 +49,7 @@ pub struct Shape {
 #[derive(Clone, Debug)]
 pub struct Schema {
     pub fields: Vec<Shape>,
-    pub metadata: Vec<(Vec<u8>, Vec<u8>)>,
+    pub metadata: Metadata,
 }
 
 fn unit(table: &Table, k: usize, default: i16) -> Read<&'static str> {
@@ -121,7 +121,7 @@ fn format(code: u8, table: &Table, children: usize) -> Read<String> {
     Ok(plain.to_string())
 }
 
-pub fn pairs(table: &Table, k: usize) -> Read<Vec<(Vec<u8>, Vec<u8>)>> {
+pub fn pairs(table: &Table, k: usize) -> Read<Metadata> {
     let pairs = table.vector(k, 4)?;
     (0..pairs.len).map(|k| pairs.table(k).and_then(|p| Ok((p.bytes(0)?.to_vec(), p.bytes(1)?.to_vec())))).collect()
 }
