@@ -17,34 +17,40 @@ use Rattle.lafkuno.specs.Sums.{flagOf, meanWords, ratioWords, meanGround
 use Rattle.lafkuno.proofs.Laws.{splice-whole}
 
 module _ (a : MeanAnswer) (answer : List ℕ) where
-  pub mean-short : (length answer ≡ 5 → ⊥) → (14 ≡ meanGround a answer) × (answer ≡ meanNumbers a answer)
+  pub mean-short : (length answer ≡ 5 → ⊥) → (r : MeanReport) → a ≡ mean.Done r → (14 ≡ meanGround a answer) × (answer ≡ meanNumbers a answer)
   unfolding meanGround meanNumbers
-  mean-short h = (rw (ne-eqb (length answer) 5 h), rw (ne-eqb (length answer) 5 h))
+  mean-short h r e = rw e (rw (ne-eqb (length answer) 5 h), rw (ne-eqb (length answer) 5 h))
 
-  pub mean-refused : length answer ≡ 5 → (g : ℕ) → a ≡ mean.Refused g → (g ≡ meanGround a answer) × (answer ≡ meanNumbers a answer)
+  pub mean-refused : (g : ℕ) → a ≡ mean.Refused g → (g ≡ meanGround a answer) × (answer ≡ meanNumbers a answer)
   unfolding meanGround meanNumbers
-  mean-refused h g e = (rw (eq-eqb (length answer) 5 h, e), rw (eq-eqb (length answer) 5 h, e))
+  mean-refused g e = rw e (refl, same (eqb (length answer) 5))
+    where
+      same : (b : Bool) → answer ≡ cond b answer answer
+      same true = refl
+      same false = refl
 
   pub mean-done : length answer ≡ 5 → (r : MeanReport) → a ≡ mean.Done r → (words new : List ℕ) → words ≡ meanWords r → new ≡ splice 0 words answer
       → (0 ≡ meanGround a answer) × (new ≡ meanNumbers a answer)
   unfolding meanGround meanNumbers
-  mean-done h r e words new w s =
-      (rw (eq-eqb (length answer) 5 h, e), s ∙ splice-whole words answer (ap length w ∙ sym h) ∙ w ∙ rw (eq-eqb (length answer) 5 h, e))
+  mean-done h r e words new w s = rw e (rw (eq-eqb (length answer) 5 h), s ∙ splice-whole words answer (ap length w ∙ sym h) ∙ w ∙ rw (eq-eqb (length answer) 5 h))
 
 module _ (a : RatioAnswer) (answer : List ℕ) where
-  pub ratio-short : (length answer ≡ 6 → ⊥) → (14 ≡ ratioGround a answer) × (answer ≡ ratioNumbers a answer)
+  pub ratio-short : (length answer ≡ 6 → ⊥) → (r : RatioReport) → a ≡ ratio.Done r → (14 ≡ ratioGround a answer) × (answer ≡ ratioNumbers a answer)
   unfolding ratioGround ratioNumbers
-  ratio-short h = (rw (ne-eqb (length answer) 6 h), rw (ne-eqb (length answer) 6 h))
+  ratio-short h r e = rw e (rw (ne-eqb (length answer) 6 h), rw (ne-eqb (length answer) 6 h))
 
-  pub ratio-refused : length answer ≡ 6 → (g : ℕ) → a ≡ ratio.Refused g → (g ≡ ratioGround a answer) × (answer ≡ ratioNumbers a answer)
+  pub ratio-refused : (g : ℕ) → a ≡ ratio.Refused g → (g ≡ ratioGround a answer) × (answer ≡ ratioNumbers a answer)
   unfolding ratioGround ratioNumbers
-  ratio-refused h g e = (rw (eq-eqb (length answer) 6 h, e), rw (eq-eqb (length answer) 6 h, e))
+  ratio-refused g e = rw e (refl, same (eqb (length answer) 6))
+    where
+      same : (b : Bool) → answer ≡ cond b answer answer
+      same true = refl
+      same false = refl
 
   pub ratio-done : length answer ≡ 6 → (r : RatioReport) → a ≡ ratio.Done r → (words new : List ℕ) → words ≡ ratioWords r → new ≡ splice 0 words answer
       → (0 ≡ ratioGround a answer) × (new ≡ ratioNumbers a answer)
   unfolding ratioGround ratioNumbers
-  ratio-done h r e words new w s =
-      (rw (eq-eqb (length answer) 6 h, e), s ∙ splice-whole words answer (ap length w ∙ sym h) ∙ w ∙ rw (eq-eqb (length answer) 6 h, e))
+  ratio-done h r e words new w s = rw e (rw (eq-eqb (length answer) 6 h), s ∙ splice-whole words answer (ap length w ∙ sym h) ∙ w ∙ rw (eq-eqb (length answer) 6 h))
 
 -- the numbers of an answer, one by one
 pub mean-list : (r : MeanReport) (a b : ℕ) → a ≡ pattern 8 (r .sum) → b ≡ flagOf (r .minus) → r .count ∷ a ∷ b ∷ r .over ∷ r .under ∷ [] ≡ meanWords r

@@ -23,31 +23,25 @@ meanWords r = r .count ∷ pattern 8 (r .sum) ∷ flagOf (r .minus) ∷ r .over 
 abbrev pub ratioWords : RatioReport → List ℕ
 ratioWords r = r .count ∷ pattern 8 (r .first) ∷ pattern 8 (r .second) ∷ flagOf (r .minus) ∷ r .over ∷ r .under ∷ []
 
-abbrev pub meanAs : MeanAnswer → ℕ
-meanAs (mean.Done r) = 0
-meanAs (mean.Refused g) = g
-
 abbrev pub meanOr : List ℕ → MeanAnswer → List ℕ
 meanOr answer (mean.Done r) = meanWords r
 meanOr answer (mean.Refused g) = answer
-
-abbrev pub ratioAs : RatioAnswer → ℕ
-ratioAs (ratio.Done r) = 0
-ratioAs (ratio.Refused g) = g
 
 abbrev pub ratioOr : List ℕ → RatioAnswer → List ℕ
 ratioOr answer (ratio.Done r) = ratioWords r
 ratioOr answer (ratio.Refused g) = answer
 
--- the ground, and the answer after the call: 14, first, where it is not of the call's size
+-- the ground, and the answer after the call: 14, last, where it is not of the call's size
 unfoldable pub meanGround : MeanAnswer → List ℕ → ℕ
-meanGround a answer = cond (eqb (length answer) 5) (meanAs a) 14
+meanGround (mean.Done r) answer = cond (eqb (length answer) 5) 0 14
+meanGround (mean.Refused g) answer = g
 
 unfoldable pub meanNumbers : MeanAnswer → List ℕ → List ℕ
 meanNumbers a answer = cond (eqb (length answer) 5) (meanOr answer a) answer
 
 unfoldable pub ratioGround : RatioAnswer → List ℕ → ℕ
-ratioGround a answer = cond (eqb (length answer) 6) (ratioAs a) 14
+ratioGround (ratio.Done r) answer = cond (eqb (length answer) 6) 0 14
+ratioGround (ratio.Refused g) answer = g
 
 unfoldable pub ratioNumbers : RatioAnswer → List ℕ → List ℕ
 ratioNumbers a answer = cond (eqb (length answer) 6) (ratioOr answer a) answer

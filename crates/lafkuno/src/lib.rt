@@ -585,7 +585,7 @@ fn flag(b: bool) -> u64
     if b { 1 } else { 0 }
 }
 
-// Count, sum and mean of the rows start .. end - 1 of a column: 0 and the five numbers, or the ground; 14, first, where the answer has not
+// Count, sum and mean of the rows start .. end - 1 of a column: 0 and the five numbers, or the ground; 14, last, where the answer has not
 // five numbers. The answer is left as it was where the call is refused.
 #[no_mangle]
 pub extern "C" fn lafkuno_mean(
@@ -604,9 +604,6 @@ pub extern "C" fn lafkuno_mean(
     ensures { λ r. ⌜ r ≡ meanGround (meanReport (now (formats .entry)) (now (schema .entry)) (tablesOf (now (lengths .entry)) (now (places .entry)) (now (buffers .entry)) (now (body .entry))) first n start end) (now (answer .entry)) ⌝ }
     ensures { λ _. ⌜ now (answer .exit) ≡ meanNumbers (meanReport (now (formats .entry)) (now (schema .entry)) (tablesOf (now (lengths .entry)) (now (places .entry)) (now (buffers .entry)) (now (body .entry))) first n start end) (now (answer .entry)) ⌝ }
 {
-    if answer.len() != 5 {
-        return 14;
-    }
     match aggregates::mean(
         formats,
         schema,
@@ -620,6 +617,9 @@ pub extern "C" fn lafkuno_mean(
         end,
     ) {
         MeanAnswer::Done(report) => {
+            if answer.len() != 5 {
+                return 14;
+            }
             let words = mean_words(report);
             copy_words(answer, &words);
             0
@@ -628,7 +628,7 @@ pub extern "C" fn lafkuno_mean(
     }
 }
 
-// Total over total of the rows start .. end - 1 in which two columns both have a number: 0 and the six numbers, or the ground; 14, first,
+// Total over total of the rows start .. end - 1 in which two columns both have a number: 0 and the six numbers, or the ground; 14, last,
 // where the answer has not six numbers. The answer is left as it was where the call is refused.
 #[no_mangle]
 pub extern "C" fn lafkuno_ratio(
@@ -649,9 +649,6 @@ pub extern "C" fn lafkuno_ratio(
     ensures { λ r. ⌜ r ≡ ratioGround (ratioReport (now (formats .entry)) (now (schema .entry)) (tablesOf (now (lengths .entry)) (now (places .entry)) (now (buffers .entry)) (now (body .entry))) «first_a» «n_a» «first_b» «n_b» start end) (now (answer .entry)) ⌝ }
     ensures { λ _. ⌜ now (answer .exit) ≡ ratioNumbers (ratioReport (now (formats .entry)) (now (schema .entry)) (tablesOf (now (lengths .entry)) (now (places .entry)) (now (buffers .entry)) (now (body .entry))) «first_a» «n_a» «first_b» «n_b» start end) (now (answer .entry)) ⌝ }
 {
-    if answer.len() != 6 {
-        return 14;
-    }
     match aggregates::ratio(
         formats,
         schema,
@@ -667,6 +664,9 @@ pub extern "C" fn lafkuno_ratio(
         end,
     ) {
         RatioAnswer::Done(report) => {
+            if answer.len() != 6 {
+                return 14;
+            }
             let words = ratio_words(report);
             copy_words(answer, &words);
             0

@@ -29,7 +29,7 @@ use Rattle.run_ends.specs.declared.Found.the-variants as found
 use Rattle.run_ends.proofs.Laws.{bisect-first}
 use Rattle.run_reader.specs.declared.RowRun.{RowRun}
 use Rattle.run_reader.specs.declared.RowRun.the-variants as answer
-use Rattle.run_reader.specs.Rows.{isWidth, answered, rowRun}
+use Rattle.run_reader.specs.Rows.{isWidth, rowRun}
 use Rattle.stretches.specs.declared.Ends.{Ends}
 use Rattle.stretches.specs.Ends.{endsOf}
 use Rattle.stretches.proofs.FirstAbove.{first-above, stays, scanned}
@@ -108,7 +108,7 @@ module _ (w : ℕ) (of-width : RunWidth w) (body : List ℕ) (from size : ℕ) (
 
     looked : rowRun handed off len w row ≡ answer.Run (record { 0 = run (off + row) }) left
     looked =
-        rw (lt-ltb row len inside, lt-ltb (off + len) (2 ^ 64) low, width-is w of-width, many, found-is (off + row), lt-ltb (run (off + row)) (ends .len) below, end-is (run (off + row)) below)
+        rw (lt-ltb row len inside, lt-ltb (off + len) (2 ^ 64) low, width-is w of-width, many, found-is (off + row), lt-ltb (run (off + row)) (ends .len) below, end-is (run (off + row)) below, lt-ltb (off + row) (endOf w ends (run (off + row))) above)
 
     some-left : 0 < left
     some-left = omega (arith, above)

@@ -88,7 +88,7 @@ fn rattle() -> BTreeMap<String, (Vec<String>, String)> {
 #[test]
 fn the_same_calls() {
     let (header, library) = (header(), library());
-    assert_eq!(header.len(), 21);
+    assert_eq!(header.len(), 23);
     assert_eq!(header, library);
     let types = header.into_iter().map(|(name, (parameters, answer))| (name, (parameters.into_iter().map(|(ty, _)| ty).collect(), answer)));
     assert_eq!(types.collect::<BTreeMap<_, _>>(), rattle());
