@@ -1,6 +1,6 @@
 -- THE PROMISES of the calls over whole-number columns, as theorems over what they answer. Assumes nothing.
 use mathlib.Core.Path.{_≡_, refl, sym, ap, ap₂, subst, _∙_}
-use mathlib.Core.Bool.{Bool, true, false, cond, _&&_}
+use mathlib.Core.Bool.{Bool, true, false, cond, _&&_, false≢true}
 use mathlib.Core.List.{List, _++_}
 use Prim.Native.Nat.{ℕ, zero, suc, _+_, _-_, _≤_, _<_}
 use native.Mathlib.Omega.{arith}
@@ -90,6 +90,55 @@ zero-denominator rows = (λ e. go (fits (sumOf rows)) refl (eqb (countOf rows) 0
     go true p true q e = (p, eqb-true (countOf rows) 0 q)
     go true p false q e = let z : _≡_ {A = ℕ} 0 1 = cc in absurd (omega arith)
     go false p d q e = absurd (omega (arith, by e))
+
+-- ---- the same of two columns: 15 exactly where a total is outside, 16 exactly where both are held and the second is 0
+
+module _ (f g : ℕ → Row) (a n : ℕ) where
+  abbrev held : Bool
+  held = fits (sumOf (seg (bothRows f g) a n)) && fits (sumOf (seg (bothRows g f) a n))
+
+  abbrev none : Bool
+  none = isZero (sumOf (seg (bothRows g f) a n))
+
+  abbrev report : RatioReport
+  report = ratioOf (countOf (seg (bothRows f g) a n)) (sumOf (seg (bothRows f g) a n)) (sumOf (seg (bothRows g f) a n))
+
+  refusals : {x y : ℕ} → ratio.Refused x ≡ ratio.Refused y → x ≡ y
+  refusals e = cc
+
+  pub exact-both : (ratioRows f g a n ≡ ratio.Refused 15 → held ≡ false) × (held ≡ false → ratioRows f g a n ≡ ratio.Refused 15)
+  unfolding ratioBy
+  exact-both = (λ e. go held none e, λ h. rw h)
+    where
+      go : (b d : Bool) → cond b (cond d (ratio.Refused 16) (ratio.Done report)) (ratio.Refused 15) ≡ ratio.Refused 15 → b ≡ false
+      go true true e = absurd (omega (arith, refusals e))
+      go true false e = let z : _≡_ {A = ℕ} 0 1 = cc in absurd (omega arith)
+      go false d e = refl
+
+  pub zero-both : (ratioRows f g a n ≡ ratio.Refused 16 → (held ≡ true) × (none ≡ true)) × ((held ≡ true) × (none ≡ true) → ratioRows f g a n ≡ ratio.Refused 16)
+  unfolding ratioBy
+  zero-both = (λ e. go held none e, λ h. rw (h .0, h .1))
+    where
+      go : (b d : Bool) → cond b (cond d (ratio.Refused 16) (ratio.Done report)) (ratio.Refused 15) ≡ ratio.Refused 16 → (b ≡ true) × (d ≡ true)
+      go true true e = (refl, refl)
+      go true false e = let z : _≡_ {A = ℕ} 0 1 = cc in absurd (omega arith)
+      go false d e = absurd (omega (arith, refusals e))
+
+  -- an answered ratio's second total is not 0 ..
+  some-second : (r : RatioReport) → ratioRows f g a n ≡ ratio.Done r → none ≡ false
+  unfolding ratioBy
+  some-second r e = go held none e
+    where
+      go : (b d : Bool) → cond b (cond d (ratio.Refused 16) (ratio.Done report)) (ratio.Refused 15) ≡ ratio.Done r → d ≡ false
+      go true false q = refl
+      go true true q = let z : _≡_ {A = ℕ} 0 1 = cc in absurd (omega arith)
+      go false d q = let z : _≡_ {A = ℕ} 0 1 = cc in absurd (omega arith)
+
+  -- .. and it is the first total over the second in lowest terms
+  pub lowest-both : (r : RatioReport) → ratioRows f g a n ≡ ratio.Done r → Lowest (r .first) (r .second) (fractionOf (r .first) (r .second))
+  lowest-both r e =
+      terms.lowest (r .first) (r .second)
+      (λ q. false≢true (sym (some-second r e) ∙ ap isZero (sym (rated f g a n r e .second) ∙ q)))
 
 -- ---- LOWEST: an answered mean is the sum over the count in lowest terms
 
