@@ -23,7 +23,7 @@ static void read_back(const struct lafkuno_tables *finished) {
         expect("kind", kind, row == 3 ? LAFKUNO_NULL : LAFKUNO_SIGNED);
         if (kind == LAFKUNO_SIGNED) expect("row", answer[0], wanted[row]);
     }
-    expect("no such row", lafkuno_tables_read_row(finished, tree, 0, 5, answer), LAFKUNO_REFUSED);
+    expect("no such row", lafkuno_tables_read_row(finished, tree, 0, 5, answer), LAFKUNO_REFUSED + LAFKUNO_NO_SUCH_ROWS);
 }
 
 /* Four rows and a null, one behind the other. */
