@@ -19,7 +19,7 @@ use Rattle.tally.specs.declared.Tally.{Tally}
 use Rattle.tally.specs.Sums.{countOf, sumOf, fits}
 use Rattle.tally.specs.Cells.{cellOf, talliedBy, Tallied}
 use Rattle.tally.proofs.Sums.{hi-low, counted, summed}
-use Rattle.whole_cells.specs.Cells.{Sized}
+use Rattle.pattern_sums.specs.Parts.{Sized}
 use Rattle.cell_sums.specs.Numbers.{maskCell, bothCells}
 use Rattle.aggregates.specs.declared.RatioAnswer.the-variants as ratio
 use Rattle.aggregates.specs.Report.{wholeType, beside, bothRows, isZero, ratioBy, ratioRows, rowOf, pairOf, ratioReport}

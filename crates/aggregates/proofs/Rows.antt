@@ -27,7 +27,8 @@ use Rattle.run_reader.specs.declared.RowRun.{RowRun}
 use Rattle.run_reader.specs.declared.RowRun.the-variants as answer
 use Rattle.stretches.proofs.Stretch.{ends-fit, ends-held, stretch-run, stretch-some}
 use Rattle.tally.specs.Cells.{cellOf}
-use Rattle.whole_cells.specs.Cells.{Sized, Held, numberAt, cellsOf, cellAt}
+use Rattle.pattern_sums.specs.Parts.{Sized}
+use Rattle.whole_cells.specs.Cells.{Held, numberAt, cellsOf, cellAt}
 use Rattle.whole_cells.proofs.Codes.{code-width, code-sized}
 use Rattle.whole_cells.proofs.Rows.{slot-held, slot-cell}
 use Rattle.cell_sums.specs.declared.Numbers.{Numbers}

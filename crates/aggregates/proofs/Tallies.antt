@@ -1,15 +1,15 @@
 -- The tally of an accepted whole-number column is that of its rows. Assumes nothing.
-use mathlib.Core.Path.{_≡_, refl, sym, ap, ap₂, subst, _∙_}
-use mathlib.Core.Bool.{Bool, true, false, not, cond}
+use mathlib.Core.Path.{_≡_, refl, sym, ap, subst, _∙_}
+use mathlib.Core.Bool.{true, false, not}
 use mathlib.Core.List.{List, []}
-use Prim.Native.Nat.{ℕ, zero, suc, _+_, _*_, _-_, _^_, _≤_, _<_}
+use Prim.Native.Nat.{ℕ, _+_, _-_, _^_, _≤_, _<_}
 use native.Mathlib.Omega.{arith}
 use lib.ListN.{getD}
 use lib.Dec.{eqb}
-use borrow.Author.Tests.{eq-eqb, ne-eqb, eqb-true, eqb-false}
+use borrow.Author.Tests.{eq-eqb, ne-eqb}
 use Rattle.columnar.specs.Row.{Row, seg}
 use Rattle.schema.specs.Tree.{typed}
-use Rattle.array_data.specs.Tables.{Tables, lengthOf, offsetOf}
+use Rattle.array_data.specs.Tables.{Tables, lengthOf}
 use Rattle.array_data.specs.Typed.{tablesFrom}
 use Rattle.lent.specs.Lent.{typeOf}
 use Rattle.lent_entries.specs.Entries.{column}
@@ -17,12 +17,12 @@ use Rattle.columns.specs.Grounds.{columnGround}
 use Rattle.column_pair.specs.Pair.{rangeIn}
 use Rattle.column_pair.proofs.Pair.{range-known}
 use Rattle.source_rules.proofs.From.{length-from}
-use Rattle.formats.specs.Code.{isInteger}
 use Rattle.tally.specs.declared.Tally.{Tally}
 use Rattle.tally.specs.Sums.{countOf, sumOf}
 use Rattle.tally.specs.Cells.{cellOf, talliedBy, Tallied}
 use Rattle.tally.proofs.Sums.{hi-low, counted, summed}
-use Rattle.whole_cells.specs.Cells.{Sized}
+use Rattle.pattern_sums.specs.Parts.{Sized}
+use Rattle.pattern_sums.proofs.Laws.{four}
 use Rattle.cell_sums.specs.declared.Numbers.{Numbers}
 use Rattle.cell_sums.specs.Numbers.{cellIn, Ready}
 use Rattle.aggregates.specs.declared.Shape.{Shape}
@@ -56,13 +56,7 @@ rows-numbers x s h = rw h
 -- ---- tallies
 
 pub above : (w : ℕ) → Sized w → 0 < 256 ^ w
-above w h = go (eqb w 1) refl (eqb w 2) refl (eqb w 4) refl
-  where
-    go : (a : Bool) → eqb w 1 ≡ a → (b : Bool) → eqb w 2 ≡ b → (c : Bool) → eqb w 4 ≡ c → 0 < 256 ^ w
-    go true p b q c r = subst (λ k. 0 < 256 ^ k) (sym (eqb-true w 1 p)) (omega arith)
-    go false p true q c r = subst (λ k. 0 < 256 ^ k) (sym (eqb-true w 2 q)) (omega arith)
-    go false p false q true r = subst (λ k. 0 < 256 ^ k) (sym (eqb-true w 4 r)) (omega arith)
-    go false p false q false r = subst (λ k. 0 < 256 ^ k) (sym (h (eqb-false w 1 p) (eqb-false w 2 q) (eqb-false w 4 r))) (omega arith)
+above = four (λ w. 0 < 256 ^ w) (omega arith) (omega arith) (omega arith) (omega arith)
 
 pub few : (h b c n : ℕ) → h ≤ n → b ≤ n → c ≤ n → n < 9223372036854775808 → (h + b < 18446744073709551615) × (c < 9223372036854775808)
 few h b c n p q r l = (omega arith, omega arith)

@@ -11,15 +11,15 @@ use borrow.Author.Tests.{eqb-true, ne-eqb, leb-true, le-leb, eq-eqb}
 use Rattle.columnar.specs.Types.{Number, width, Plain, fixed, string, Ty, tPlain, tRunEnd}
 use Rattle.columnar.specs.Formed.{RunWidth}
 use Rattle.columnar.specs.Wider.{integer}
-use Rattle.formats.specs.Code.{between, isInteger, isFixed, isString, isView, isListView, isUnion, isRunEnd, widthOf}
+use Rattle.formats.specs.Code.{between, isInteger, isFixed, isString, isView, isListView, isList, isUnion, isSparse, isRunEnd, widthOf}
 use Rattle.formats.specs.Types.{numberOf}
 use Rattle.schema.specs.Tree.{children, dictionary, below, bare, childForEach, codeOf, idsOf, valuesShape, endsShape, leafShape, keysShape, listShape, unionShape, runShape, shape, typed}
 use Rattle.schema.proofs.Trees.{child-inside}
 use Rattle.schema.proofs.Known.{typed-whole, typed-shape}
-use Rattle.array_data.specs.Typed.{NodeKind, fixedNode, stringNode, viewNode, listViewNode, sparseNode, denseNode, runEndNode, dictionaryNode, Tree}
+use Rattle.array_data.specs.Typed.{NodeKind, fixedNode, stringNode, viewNode, listViewNode, listNode, sparseNode, denseNode, runEndNode, dictionaryNode, Tree}
 use Rattle.lent.specs.Lent.{numberOr, idsOr, unionKind, kindAt, treeOf, tyAs, tyOf, typeOf}
 use Rattle.lent.proofs.Lent.{first-child, second-child, some-node}
-use Rattle.lent.proofs.Shaped.{Shaped, of-plain, of-view, of-list, of-sparse, of-dense, of-run, of-dictionary, shaped, five, later, plainKind, integer-fixed, at-fixed, at-keys, at-string, at-view, at-list, at-union, at-run}
+use Rattle.lent.proofs.Shaped.{Shaped, of-plain, of-view, of-list, of-lists, of-sparse, of-dense, of-run, of-dictionary, shaped, five, later, plainKind, integer-fixed, at-fixed, at-keys, at-string, at-view, at-list, at-lists, at-union, at-run}
 use Rattle.lent_tables.proofs.Laws.{and-left, and-right}
 use Rattle.whole_cells.specs.Cells.{numberAt}
 use Rattle.aggregates.specs.declared.Shape.{Shape}
@@ -33,6 +33,7 @@ wholeKind (fixedNode m) = integer m
 wholeKind (stringNode w) = false
 wholeKind viewNode = false
 wholeKind (listViewNode w) = false
+wholeKind (listNode w) = false
 wholeKind (sparseNode ids) = false
 wholeKind (denseNode ids) = false
 wholeKind (runEndNode w) = false
@@ -43,6 +44,7 @@ isRun (fixedNode m) = false
 isRun (stringNode w) = false
 isRun viewNode = false
 isRun (listViewNode w) = false
+isRun (listNode w) = false
 isRun (sparseNode ids) = false
 isRun (denseNode ids) = false
 isRun (runEndNode w) = true
@@ -53,6 +55,7 @@ plain-whole t sub (fixedNode m) i = refl
 plain-whole t sub (stringNode w) i = refl
 plain-whole t sub viewNode i = refl
 plain-whole t sub (listViewNode w) i = refl
+plain-whole t sub (listNode w) i = refl
 plain-whole t sub (sparseNode ids) i = refl
 plain-whole t sub (denseNode ids) i = refl
 plain-whole t sub (runEndNode w) i = refl
@@ -63,6 +66,7 @@ type-whole t sub (fixedNode m) i = refl
 type-whole t sub (stringNode w) i = refl
 type-whole t sub viewNode i = refl
 type-whole t sub (listViewNode w) i = refl
+type-whole t sub (listNode w) i = refl
 type-whole t sub (sparseNode ids) i = refl
 type-whole t sub (denseNode ids) i = refl
 type-whole t sub (runEndNode w) i = refl
@@ -124,11 +128,11 @@ module _ (formats schema : List ℕ) (first : ℕ) where
         of-runs = ap isRun e ∙ b ∙ sym r;
       }
 
-  -- a code up to 20 is no run-end node's
-  no-run : (i c d : ℕ) → between c d (code i) ≡ true → d < 21 → isRunEnd (code i) ≡ false
+  -- a code below 23 is no run-end node's
+  no-run : (i c d : ℕ) → between c d (code i) ≡ true → d < 23 → isRunEnd (code i) ≡ false
   no-run i c d h l =
       let top = leb-true (code i) d (and-right (leb c (code i)) (leb (code i) d) h) in
-      no-and (leb 21 (code i)) (leb (code i) 21) (borrow.Author.Tests.lt-leb 21 (code i) (omega arith))
+      no-and (leb 23 (code i)) (leb (code i) 23) (borrow.Author.Tests.lt-leb 23 (code i) (omega arith))
 
   says : (i : ℕ) → shape formats schema first i ≡ true → Says i
   unfolding shape leafShape keysShape listShape unionShape runShape bare
@@ -168,10 +172,13 @@ module _ (formats schema : List ℕ) (first : ℕ) where
           let e = at-keys formats schema first i f s in
           record { of-whole = ap wholeKind e ∙ sym (and-no (isInteger (code i)) (single i) s); of-runs = ap isRun e ∙ sym (no-run i 1 10 f (omega arith)) }
 
-      list : isListView (code i) && eqb (children schema first i) 1 && single i ≡ true → Says i
+      list : (isListView (code i) || isList (code i)) && eqb (children schema first i) 1 && single i ≡ true → Says i
       list q =
-          let l = and-left (isListView (code i)) (eqb (children schema first i) 1) (and-left (isListView (code i) && eqb (children schema first i) 1) (single i) q) in
-          other i _ 17 18 (at-list formats schema first i l) refl refl l (omega arith) (no-run i 17 18 l (omega arith))
+          by (either (isListView (code i)) (isList (code i)) (and-left (isListView (code i) || isList (code i)) (eqb (children schema first i) 1) (and-left ((isListView (code i) || isList (code i)) && eqb (children schema first i) 1) (single i) q)))
+        where
+          by : (isListView (code i) ≡ true) ⊎ (isList (code i) ≡ true) → Says i
+          by (inl l) = other i _ 17 18 (at-list formats schema first i l) refl refl l (omega arith) (no-run i 17 18 l (omega arith))
+          by (inr l) = other i _ 19 20 (at-lists formats schema first i l) refl refl l (omega arith) (no-run i 19 20 l (omega arith))
 
       union-kind : (b : Bool) (ids : List ℕ) → wholeKind (unionKind b ids) ≡ false
       union-kind true ids = refl
@@ -184,13 +191,13 @@ module _ (formats schema : List ℕ) (first : ℕ) where
       union : isUnion (code i) && childForEach schema first (idsOf formats schema first i) i && single i ≡ true → Says i
       union q =
           let l = and-left (isUnion (code i)) (childForEach schema first (idsOf formats schema first i) i) (and-left (isUnion (code i) && childForEach schema first (idsOf formats schema first i) i) (single i) q) in
-          other i _ 19 20 (at-union formats schema first i l) (union-kind (eqb (code i) 19) (idsOr (idsOf formats schema first i))) (union-run (eqb (code i) 19) (idsOr (idsOf formats schema first i))) l (omega arith) (no-run i 19 20 l (omega arith))
+          other i _ 21 22 (at-union formats schema first i l) (union-kind (isSparse (code i)) (idsOr (idsOf formats schema first i))) (union-run (isSparse (code i)) (idsOr (idsOf formats schema first i))) l (omega arith) (no-run i 21 22 l (omega arith))
 
       run : isRunEnd (code i) && eqb (children schema first i) 2 && single i && endsShape formats schema first (suc i) ≡ true → Says i
       run q =
           let l = and-left (isRunEnd (code i)) (eqb (children schema first i) 2) (and-left (isRunEnd (code i) && eqb (children schema first i) 2) (single i) (and-left (isRunEnd (code i) && eqb (children schema first i) 2 && single i) (endsShape formats schema first (suc i)) q)) in
           let e = at-run formats schema first i l in
-          record { of-whole = ap wholeKind e ∙ sym (no-and (isInteger (code i)) (single i) (later 1 8 21 21 (code i) l (omega arith))); of-runs = ap isRun e ∙ sym l }
+          record { of-whole = ap wholeKind e ∙ sym (no-and (isInteger (code i)) (single i) (later 1 8 23 23 (code i) l (omega arith))); of-runs = ap isRun e ∙ sym l }
 
 -- ---- a column's codes
 
@@ -234,6 +241,7 @@ module _ (formats schema : List ℕ) (first n : ℕ) (t : typed formats schema f
       by (of-plain p e z d) q = absurd (false≢true (sym (plain-no-run p) ∙ ap isRun (sym e ∙ q)))
       by (of-view e z) q = absurd (false≢true (ap isRun (sym e ∙ q)))
       by (of-list v e z d) q = absurd (false≢true (ap isRun (sym e ∙ q)))
+      by (of-lists v e z d) q = absurd (false≢true (ap isRun (sym e ∙ q)))
       by (of-sparse ids e z d o) q = absurd (false≢true (ap isRun (sym e ∙ q)))
       by (of-dense ids e z d o) q = absurd (false≢true (ap isRun (sym e ∙ q)))
       by (of-run m e z e1 z1 d) q =

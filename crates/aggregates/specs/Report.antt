@@ -6,7 +6,7 @@ use Prim.Native.Nat.{ℕ, _-_}
 use lib.Dec.{eqb}
 use lib.IntN.{ℤ, pos, negsuc}
 use Rattle.columnar.specs.Row.{Row, null, whole, single, double, bytes, list, union, seg}
-use Rattle.columnar.specs.Types.{fixed, string, Ty, tPlain, tView, tListView, tSparse, tDense, tRunEnd, tDictionary}
+use Rattle.columnar.specs.Types.{fixed, string, Ty, tPlain, tView, tListView, tList, tSparse, tDense, tRunEnd, tDictionary}
 use Rattle.columnar.specs.Wider.{integer}
 use Rattle.columnar.specs.Reading.{read}
 use Rattle.array_data.specs.Tables.{Tables}
@@ -29,6 +29,7 @@ wholePlain (tPlain (fixed m)) = integer m
 wholePlain (tPlain (string w)) = false
 wholePlain tView = false
 wholePlain (tListView w u) = false
+wholePlain (tList w u) = false
 wholePlain (tSparse ids nullable f) = false
 wholePlain (tDense ids nullable f) = false
 wholePlain (tRunEnd w u) = false
@@ -39,6 +40,7 @@ abbrev pub wholeType : Ty → Bool
 wholeType (tPlain p) = wholePlain (tPlain p)
 wholeType tView = false
 wholeType (tListView w u) = false
+wholeType (tList w u) = false
 wholeType (tSparse ids nullable f) = false
 wholeType (tDense ids nullable f) = false
 wholeType (tRunEnd w u) = wholePlain u

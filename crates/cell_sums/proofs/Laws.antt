@@ -1,11 +1,11 @@
 -- What a turn of each loop adds. Assumes nothing.
-use mathlib.Core.Path.{_≡_, refl, sym, ap, ap₂, subst, _∙_}
+use mathlib.Core.Path.{_≡_, refl, sym, ap, subst, _∙_}
 use mathlib.Core.Bool.{Bool, true, false, not, cond}
 use mathlib.Core.List.{List}
-use Prim.Native.Nat.{ℕ, zero, suc, _+_, _*_, _-_, _≤_, _<_, min}
+use Prim.Native.Nat.{ℕ, _+_, _*_, _-_, _≤_, _<_, min}
 use native.Mathlib.Omega.{arith}
-use lib.Dec.{eqb}
-use borrow.Author.Tests.{eq-eqb, ne-eqb}
+use lib.Dec.{ltb}
+use borrow.Author.Tests.{eq-eqb, ne-eqb, lt-ltb, le-ltb}
 use Rattle.tally.specs.declared.Cell.{Cell}
 use Rattle.tally.specs.declared.Tally.{Tally}
 use Rattle.tally.specs.Cells.{cell, valueOf, Tallied}
@@ -13,7 +13,10 @@ use Rattle.tally.proofs.Sums.{stretched, none-yet, hi-low}
 use Rattle.whole_cells.specs.Cells.{cellAt}
 use Rattle.cell_sums.specs.declared.Numbers.{Numbers}
 use Rattle.cell_sums.specs.declared.Stretch.{Stretch}
-use Rattle.cell_sums.specs.Numbers.{cellIn, maskCell, bothCells, Bounded, Flat}
+use Rattle.run_ends.specs.declared.PhysicalRun.{PhysicalRun}
+use Rattle.run_reader.specs.declared.RowRun.the-variants as answer
+use Rattle.cell_sums.specs.Steps.{untilBy, untilOf}
+use Rattle.cell_sums.specs.Numbers.{asked, cellIn, maskCell, bothCells, Bounded, Flat}
 
 -- what `added` ensures
 abbrev pub Adds : Tally → Cell → ℕ → Tally → Type 0
@@ -69,6 +72,22 @@ flip false false e = sym e
 pub plain-in : (body : List ℕ) (n : Numbers) (row : ℕ) → n .runs ≡ false → cellAt body (n .cells) (n .skip + row) ≡ cellIn body n row
 unfolding cellIn
 plain-in body n row h = rw h
+
+-- where a stretch ends
+
+pub until-plain : (body : List ℕ) (n : Numbers) (row : ℕ) → n .runs ≡ false → row + 1 ≡ untilOf body n row
+unfolding untilOf
+until-plain body n row h = rw h
+
+pub until-run : (body : List ℕ) (n : Numbers) (row left : ℕ) (k : PhysicalRun) → n .runs ≡ true → asked body n row ≡ answer.Run k left → row + left ≡ untilOf body n row
+unfolding untilOf
+until-run body n row left k h e = sym (ap (λ b. cond b (untilBy row (asked body n row)) (row + 1)) h ∙ ap (untilBy row) e)
+
+pub until-kept : (row u w : ℕ) → row < u → u ≡ cond (ltb row u) u w
+until-kept row u w l = rw (lt-ltb row u l)
+
+pub until-next : (row u v w : ℕ) → u ≤ row → v ≡ w → v ≡ cond (ltb row u) u w
+until-next row u v w l e = rw (le-ltb row u l) e
 
 pub mask-none : (c d : Cell) → d .count ≡ 0 → cell 0 0 0 ≡ maskCell c d
 unfolding maskCell

@@ -1,2 +1,4 @@
 -- Laws of `cell_sums`.
 pub mod Laws
+pub mod Plain
+pub mod Steps

@@ -1,10 +1,13 @@
 // Tallies of the rows of one whole-number column, and of two at once.
 ghost use mathlib.Core.Path.{_≡_};
-ghost use mathlib.Core.Bool.{false};
-ghost use Prim.Native.Nat.{ℕ, _+_, _-_, _≤_, _<_, _^_, min};
+ghost use mathlib.Core.Bool.{false, cond};
+ghost use Prim.Native.Nat.{ℕ, _+_, _*_, _-_, _≤_, _<_, _^_, min};
+ghost use lib.Dec.{ltb};
 ghost use lib.ListN.{length};
+ghost use Rattle.pattern_sums.specs.Parts.{blockRows};
 ghost use Rattle.tally.specs.Cells.{Tallied};
 ghost use Rattle.cell_sums.specs.Numbers.{cellIn, maskCell, bothCells, Bounded, Flat, Ready, AllReady};
+ghost use Rattle.cell_sums.specs.Steps.{untilOf};
 use run_reader::RowRun;
 use stretches::Ends;
 use tally::Cell;
@@ -45,7 +48,7 @@ fn plain_cell(body: &[u8], n: Numbers, row: u64) -> Cell
 // The stretch that begins at a row.
 fn find_stretch(body: &[u8], n: Numbers, row: u64) -> Stretch
     requires { ⌜ (row < 2 ^ 63) × Ready (now body) n row ⌝ }
-    ensures { λ r. ⌜ (row < r .until) × Flat (cellIn (now (body .entry)) n) row r ⌝ }
+    ensures { λ r. ⌜ (row < r .until) × Flat (cellIn (now (body .entry)) n) row r × (r .until ≡ untilOf (now (body .entry)) n row) ⌝ }
 {
     if !n.runs {
         return Stretch {
@@ -89,12 +92,27 @@ fn no_stretch(row: u64) -> Stretch
 fn next_stretch(body: &[u8], n: Numbers, s: Stretch, row: u64) -> Stretch
     requires { ⌜ (row < 2 ^ 63) × Ready (now body) n row ⌝ }
     requires { ⌜ Flat (cellIn (now body) n) row s ⌝ }
-    ensures { λ r. ⌜ (row < r .until) × Flat (cellIn (now (body .entry)) n) row r ⌝ }
+    ensures { λ r. ⌜ (row < r .until) × Flat (cellIn (now (body .entry)) n) row r × (r .until ≡ cond (ltb row (s .until)) (s .until) (untilOf (now (body .entry)) n row)) ⌝ }
 {
     if row < s.until {
         return s;
     }
     find_stretch(body, n, row)
+}
+
+// A cell where the other counts.
+fn masked(c: Cell, d: Cell) -> Cell
+    requires { ⌜ Bounded c ⌝ }
+    ensures { λ r. ⌜ (r ≡ maskCell c d) × Bounded r ⌝ }
+{
+    if d.count == 0 {
+        return Cell {
+            count: 0,
+            bits: 0,
+            below: 0,
+        };
+    }
+    c
 }
 
 fn lesser(a: u64, b: u64) -> u64
@@ -103,24 +121,111 @@ fn lesser(a: u64, b: u64) -> u64
     if a < b { a } else { b }
 }
 
-// ---- one column
+// ---- plain rows
 
-// The rows start .. end - 1, one after the other.
-fn sum_plain(body: &[u8], n: Numbers, start: u64, end: u64) -> Tally
-    requires { ⌜ (start ≤ end) × (end < 2 ^ 63) × (n .runs ≡ false) ⌝ }
-    requires { ⌜ AllReady (now body) n start end ⌝ }
-    ensures { λ r. ⌜ Tallied (cellIn (now (body .entry)) n) start (end - start) r ⌝ }
+// The rows row .. stop - 1, at most a block of them, of a column without validity.
+fn sum_block(body: &[u8], a: Numbers, row: u64, stop: u64) -> Tally
+    requires { ⌜ (row < stop) × (stop ≤ row + blockRows) × (a .runs ≡ false) × (a .cells .masked ≡ false) ⌝ }
+    requires { ⌜ AllReady (now body) a row stop ⌝ }
+    ensures { λ r. ⌜ Tallied (cellIn (now (body .entry)) a) row (stop - row) r ⌝ }
+{
+    let c = a.cells;
+    cell_blocks::sum_slots(body, c, (a.skip + row) as usize, (stop - row) as usize)
+}
+
+// The rows start .. end - 1 of such a column, block by block.
+fn sum_blocks(body: &[u8], a: Numbers, start: u64, end: u64) -> Tally
+    requires { ⌜ (start ≤ end) × (end < 2 ^ 63) × (a .runs ≡ false) × (a .cells .masked ≡ false) ⌝ }
+    requires { ⌜ AllReady (now body) a start end ⌝ }
+    ensures { λ r. ⌜ Tallied (cellIn (now (body .entry)) a) start (end - start) r ⌝ }
 {
     let mut t = tally::nothing();
     let mut row = start;
     while row < end {
-        t = tally::added(t, plain_cell(body, n, row), 1);
+        let stop = lesser(row + pattern_sums::BLOCK, end);
+        t = tally::joined(t, sum_block(body, a, row, stop));
+        row = stop;
+    }
+    t
+}
+
+// 64 rows of `a` where `b` counts, by the validity of both.
+fn sum_word(body: &[u8], a: Numbers, b: Numbers, row: u64) -> Tally
+    requires { ⌜ (a .runs ≡ false) × (b .runs ≡ false) ⌝ }
+    requires { ⌜ AllReady (now body) a row (row + 64) × AllReady (now body) b row (row + 64) ⌝ }
+    ensures { λ r. ⌜ Tallied (bothCells (cellIn (now (body .entry)) a) (cellIn (now (body .entry)) b)) row 64 r ⌝ }
+{
+    let c = a.cells;
+    let d = b.cells;
+    let i = (a.skip + row) as usize;
+    let j = (b.skip + row) as usize;
+    cell_blocks::sum_kept(body, c, i, cell_blocks::both_bits(body, c, i, d, j))
+}
+
+// The same of `words` times 64 rows.
+fn sum_words(body: &[u8], a: Numbers, b: Numbers, start: u64, words: u64) -> Tally
+    requires { ⌜ (start + 64 * words < 2 ^ 63) × (a .runs ≡ false) × (b .runs ≡ false) ⌝ }
+    requires { ⌜ AllReady (now body) a start (start + 64 * words) × AllReady (now body) b start (start + 64 * words) ⌝ }
+    ensures { λ r. ⌜ Tallied (bothCells (cellIn (now (body .entry)) a) (cellIn (now (body .entry)) b)) start (64 * words) r ⌝ }
+{
+    let mut t = tally::nothing();
+    let mut k = 0u64;
+    while k < words {
+        t = tally::joined(t, sum_word(body, a, b, start + 64 * k));
+        k += 1;
+    }
+    t
+}
+
+// The rows start .. end - 1, one after the other.
+fn sum_cells(body: &[u8], a: Numbers, b: Numbers, start: u64, end: u64) -> Tally
+    requires { ⌜ (start ≤ end) × (end < 2 ^ 63) × (a .runs ≡ false) × (b .runs ≡ false) ⌝ }
+    requires { ⌜ AllReady (now body) a start end × AllReady (now body) b start end ⌝ }
+    ensures { λ r. ⌜ Tallied (bothCells (cellIn (now (body .entry)) a) (cellIn (now (body .entry)) b)) start (end - start) r ⌝ }
+{
+    let mut t = tally::nothing();
+    let mut row = start;
+    while row < end {
+        let c = plain_cell(body, a, row);
+        let d = plain_cell(body, b, row);
+        t = tally::added(t, masked(c, d), 1);
         row += 1;
     }
     t
 }
 
-// The same, stretch by stretch.
+// The same by words, and the rest by rows.
+fn sum_masked(body: &[u8], a: Numbers, b: Numbers, start: u64, end: u64) -> Tally
+    requires { ⌜ (start ≤ end) × (end < 2 ^ 63) × (a .runs ≡ false) × (b .runs ≡ false) ⌝ }
+    requires { ⌜ AllReady (now body) a start end × AllReady (now body) b start end ⌝ }
+    ensures { λ r. ⌜ Tallied (bothCells (cellIn (now (body .entry)) a) (cellIn (now (body .entry)) b)) start (end - start) r ⌝ }
+{
+    let words = (end - start) / 64;
+    let t = sum_words(body, a, b, start, words);
+    let u = sum_cells(body, a, b, start + 64 * words, end);
+    tally::joined(t, u)
+}
+
+// The rows start .. end - 1 of `a` where `b` counts.
+fn sum_plain(body: &[u8], a: Numbers, b: Numbers, start: u64, end: u64) -> Tally
+    requires { ⌜ (start ≤ end) × (end < 2 ^ 63) × (a .runs ≡ false) × (b .runs ≡ false) ⌝ }
+    requires { ⌜ AllReady (now body) a start end × AllReady (now body) b start end ⌝ }
+    ensures { λ r. ⌜ Tallied (bothCells (cellIn (now (body .entry)) a) (cellIn (now (body .entry)) b)) start (end - start) r ⌝ }
+{
+    let c = a.cells;
+    let d = b.cells;
+    if c.masked {
+        return sum_masked(body, a, b, start, end);
+    }
+    if d.masked {
+        return sum_masked(body, a, b, start, end);
+    }
+    sum_blocks(body, a, start, end)
+}
+
+// ---- one column
+
+// The rows start .. end - 1, stretch by stretch.
 fn sum_stretches(body: &[u8], n: Numbers, start: u64, end: u64) -> Tally
     requires { ⌜ (start ≤ end) × (end < 2 ^ 63) ⌝ }
     requires { ⌜ AllReady (now body) n start end ⌝ }
@@ -147,49 +252,12 @@ pub fn sum_rows(body: &[u8], n: Numbers, start: u64, end: u64) -> Tally
     if n.runs {
         return sum_stretches(body, n, start, end);
     }
-    sum_plain(body, n, start, end)
+    sum_plain(body, n, n, start, end)
 }
 
 // ---- two columns
 
-// A cell where the other counts.
-fn masked(c: Cell, d: Cell) -> Cell
-    requires { ⌜ Bounded c ⌝ }
-    ensures { λ r. ⌜ (r ≡ maskCell c d) × Bounded r ⌝ }
-{
-    if d.count == 0 {
-        return Cell {
-            count: 0,
-            bits: 0,
-            below: 0,
-        };
-    }
-    c
-}
-
-// The rows start .. end - 1 of both, one after the other.
-fn sum_plain_both(body: &[u8], a: Numbers, b: Numbers, start: u64, end: u64) -> Tallies
-    requires { ⌜ (start ≤ end) × (end < 2 ^ 63) × (a .runs ≡ false) × (b .runs ≡ false) ⌝ }
-    requires { ⌜ AllReady (now body) a start end × AllReady (now body) b start end ⌝ }
-    ensures { λ r. ⌜ Tallied (bothCells (cellIn (now (body .entry)) a) (cellIn (now (body .entry)) b)) start (end - start) (r .first) × Tallied (bothCells (cellIn (now (body .entry)) b) (cellIn (now (body .entry)) a)) start (end - start) (r .second) ⌝ }
-{
-    let mut t = tally::nothing();
-    let mut u = tally::nothing();
-    let mut row = start;
-    while row < end {
-        let c = plain_cell(body, a, row);
-        let d = plain_cell(body, b, row);
-        t = tally::added(t, masked(c, d), 1);
-        u = tally::added(u, masked(d, c), 1);
-        row += 1;
-    }
-    Tallies {
-        first: t,
-        second: u,
-    }
-}
-
-// The same, by the stretches of both.
+// The rows start .. end - 1 of both, by the stretches of both.
 fn sum_both_stretches(body: &[u8], a: Numbers, b: Numbers, start: u64, end: u64) -> Tallies
     requires { ⌜ (start ≤ end) × (end < 2 ^ 63) ⌝ }
     requires { ⌜ AllReady (now body) a start end × AllReady (now body) b start end ⌝ }
@@ -228,5 +296,7 @@ pub fn sum_both(body: &[u8], a: Numbers, b: Numbers, start: u64, end: u64) -> Ta
     if b.runs {
         return sum_both_stretches(body, a, b, start, end);
     }
-    sum_plain_both(body, a, b, start, end)
+    let first = sum_plain(body, a, b, start, end);
+    let second = sum_plain(body, b, a, start, end);
+    Tallies { first, second }
 }

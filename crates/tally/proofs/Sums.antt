@@ -15,7 +15,7 @@ use Rattle.tally.proofs.Integers.{rows-add, less}
 -- ---- sums of cells
 
 module _ (p : Cell → ℕ) (g : ℕ → Cell) where
-  sums-add : (a n k : ℕ) → sumBy p g a (n + k) ≡ sumBy p g a n + sumBy p g (a + n) k
+  pub sums-add : (a n k : ℕ) → sumBy p g a (n + k) ≡ sumBy p g a n + sumBy p g (a + n) k
   sums-add a zero k =
       let e : zero + k ≡ k = omega arith in
       let d : a + zero ≡ a = omega arith in
@@ -33,6 +33,16 @@ module _ (p : Cell → ℕ) (g : ℕ → Cell) where
       let first : g a ≡ c = subst (λ i. g i ≡ c) e (h 0 (omega arith)) in
       let later : (j : ℕ) → j < k → g (suc a + j) ≡ c = λ j l. let d : a + suc j ≡ suc a + j = omega arith in subst (λ i. g i ≡ c) d (h (suc j) (omega arith)) in
       omega (arith, ap p first, sums-same c (suc a) k later, mul-suc (p c) k)
+
+-- cells that are alike
+sums-alike : (p : Cell → ℕ) (g h : ℕ → Cell) (a b k : ℕ) → ((j : ℕ) → j < k → g (a + j) ≡ h (b + j)) → sumBy p g a k ≡ sumBy p h b k
+sums-alike p g h a b zero e = refl
+sums-alike p g h a b (suc k) e =
+    let z : a + 0 ≡ a = omega arith in
+    let y : b + 0 ≡ b = omega arith in
+    let first : g a ≡ h b = subst (λ i. g i ≡ h b) z (subst (λ i. g (a + 0) ≡ h i) y (e 0 (omega arith))) in
+    let later : (j : ℕ) → j < k → g (suc a + j) ≡ h (suc b + j) = λ j l. let d : a + suc j ≡ suc a + j = omega arith in let f : b + suc j ≡ suc b + j = omega arith in subst (λ i. g i ≡ h (suc b + j)) d (subst (λ i. g (a + suc j) ≡ h i) f (e (suc j) (omega arith))) in
+    ap₂ _+_ (ap p first) (sums-alike p g h (suc a) (suc b) k later)
 
 -- ---- halves
 
@@ -68,6 +78,32 @@ stretched g a n k t r c s h p q u e1 e2 e3 =
       few = omega (arith, s .few, e1, at-most (c .count) k p);
       few-below = omega (arith, s .few-below, e2, at-most (c .below) k q);
       low = omega (arith, s .low, e3, mul-le-mul-right k u, add-mul n k 18446744073709551615, mul-comm k 18446744073709551615);
+    }
+
+-- a tally of the cells h b .. h (b + k - 1), which come next
+pub appended : (g h : ℕ → Cell) (a n b k : ℕ) (t u r : Tally) → Tallied g a n t → Tallied h b k u → ((j : ℕ) → j < k → g (a + n + j) ≡ h (b + j))
+    → r .count ≡ t .count + u .count → r .below ≡ t .below + u .below → valueOf r ≡ valueOf t + valueOf u
+    → Tallied g a (n + k) r
+appended g h a n b k t u r s v e e1 e2 e3 =
+    record {
+      count = e1 ∙ ap₂ _+_ (s .count) (v .count ∙ sym (sums-alike (λ y. y .count) g h (a + n) b k e)) ∙ sym (sums-add (λ y. y .count) g a n k);
+      below = e2 ∙ ap₂ _+_ (s .below) (v .below ∙ sym (sums-alike (λ y. y .below) g h (a + n) b k e)) ∙ sym (sums-add (λ y. y .below) g a n k);
+      value = e3 ∙ ap₂ _+_ (s .value) (v .value ∙ sym (sums-alike (λ y. y .bits) g h (a + n) b k e)) ∙ sym (sums-add (λ y. y .bits) g a n k);
+      few = omega (arith, s .few, v .few, e1);
+      few-below = omega (arith, s .few-below, v .few-below, e2);
+      low = omega (arith, s .low, v .low, e3, add-mul n k 18446744073709551615);
+    }
+
+-- a tally of cells that are alike
+pub alike : (g h : ℕ → Cell) (a b n : ℕ) (t : Tally) → Tallied h b n t → ((j : ℕ) → j < n → g (a + j) ≡ h (b + j)) → Tallied g a n t
+alike g h a b n t s e =
+    record {
+      count = s .count ∙ sym (sums-alike (λ y. y .count) g h a b n e);
+      below = s .below ∙ sym (sums-alike (λ y. y .below) g h a b n e);
+      value = s .value ∙ sym (sums-alike (λ y. y .bits) g h a b n e);
+      few = s .few;
+      few-below = s .few-below;
+      low = s .low;
     }
 
 -- ---- rows that the cells stand for

@@ -53,6 +53,37 @@ pub fn added(t: Tally, c: Cell, n: u64) -> Tally
     }
 }
 
+// Two tallies as one.
+pub fn joined(t: Tally, u: Tally) -> Tally
+    requires { ⌜ (t .count + u .count < 18446744073709551615) × (t .below + u .below < 18446744073709551615) × (t .hi + u .hi < 18446744073709551615) ⌝ }
+    ensures { λ r. ⌜ (r .count ≡ t .count + u .count) × (r .below ≡ t .below + u .below) × (valueOf r ≡ valueOf t + valueOf u) ⌝ }
+{
+    let sum = wide::sum(Wide { hi: t.hi, lo: t.lo }, Wide { hi: u.hi, lo: u.lo });
+    Tally {
+        count: t.count + u.count,
+        hi: sum.hi,
+        lo: sum.lo,
+        below: t.below + u.below,
+    }
+}
+
+// A tally by the sums of the patterns' halves of 32 bits.
+pub fn of_halves(count: u64, below: u64, high: u64, low: u64) -> Tally
+    ensures { λ r. ⌜ (r .count ≡ count) × (r .below ≡ below) × (valueOf r ≡ high * 4294967296 + low) ⌝ }
+{
+    let upper = Wide {
+        hi: high / 4294967296,
+        lo: high % 4294967296 * 4294967296,
+    };
+    let sum = wide::sum(upper, Wide { hi: 0, lo: low });
+    Tally {
+        count,
+        hi: sum.hi,
+        lo: sum.lo,
+        below,
+    }
+}
+
 // The sum, where a number below zero is stored as 2^64 - lift more.
 pub fn exact_sum(t: Tally, lift: u64) -> Total
     requires { ⌜ t .hi + t .below < 18446744073709551615 ⌝ }

@@ -1,7 +1,8 @@
 -- The eight whole-number formats by their codes. Assumes nothing.
 use mathlib.Core.Path.{_≡_, refl, sym, ap, subst, _∙_}
 use mathlib.Core.Bool.{Bool, true, false, _&&_}
-use Prim.Native.Nat.{ℕ, zero, suc, _+_, _≤_, _<_}
+use mathlib.Core.Logic.{_⊎_, inl, inr}
+use Prim.Native.Nat.{ℕ, zero, suc, _+_, _-_, _≤_, _<_}
 use native.Mathlib.Omega.{arith}
 use lib.Dec.{leb, eqb, T}
 use borrow.Author.Tests.{leb-true}
@@ -10,7 +11,8 @@ use Rattle.columnar.specs.Wider.{integer}
 use Rattle.formats.specs.Code.{isInteger, widthOf}
 use Rattle.formats.specs.Types.{numberOf}
 use Rattle.lent_tables.proofs.Laws.{and-left, and-right}
-use Rattle.whole_cells.specs.Cells.{Sized, numberAt}
+use Rattle.pattern_sums.specs.Parts.{Sized}
+use Rattle.whole_cells.specs.Cells.{Topped, numberAt}
 
 -- a fact of each of the eight
 pub eight : (P : ℕ → Type 0) → P 1 → P 2 → P 3 → P 4 → P 5 → P 6 → P 7 → P 8 → (c : ℕ) → isInteger c ≡ true → P c
@@ -39,6 +41,10 @@ code-integer = eight (λ c. integer (numberAt c) ≡ true) refl refl refl refl r
 pub code-sized : (c : ℕ) → isInteger c ≡ true → Sized (widthOf c)
 code-sized =
     eight (λ c. Sized (widthOf c)) (λ p q r. absurd (p refl)) (λ p q r. absurd (p refl)) (λ p q r. absurd (q refl)) (λ p q r. absurd (q refl)) (λ p q r. absurd (r refl)) (λ p q r. absurd (r refl)) (λ p q r. refl) (λ p q r. refl)
+
+pub code-topped : (c : ℕ) → isInteger c ≡ true → Topped (widthOf c) (limit (numberAt c) - 1)
+unfolding numberOf
+code-topped = eight (λ c. Topped (widthOf c) (limit (numberAt c) - 1)) (inr refl) (inl refl) (inr refl) (inl refl) (inr refl) (inl refl) (inr refl) (inl refl)
 
 pub code-wide : (c : ℕ) → isInteger c ≡ true → 1 ≤ width (numberAt c)
 unfolding numberOf

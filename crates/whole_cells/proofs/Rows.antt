@@ -24,8 +24,8 @@ use Rattle.lent_entries.proofs.Laws.{holds-in, item-at}
 use Rattle.tally.specs.declared.Cell.{Cell}
 use Rattle.tally.specs.Cells.{cell, wholeCell, cellOf}
 use Rattle.whole_cells.specs.declared.Cells.{Cells}
-use Rattle.whole_cells.specs.Cells.{Sized, Held, numberAt, cellsOf, validAt, belowAt, patternCell, patternAt, cellAt}
-use Rattle.whole_cells.proofs.Codes.{code-width, code-integer, code-sized, code-wide}
+use Rattle.whole_cells.specs.Cells.{Held, numberAt, cellsOf, validAt, belowAt, patternCell, patternAt, cellAt}
+use Rattle.whole_cells.proofs.Codes.{code-width, code-integer, code-sized, code-topped, code-wide}
 
 -- ---- a pattern
 
@@ -102,6 +102,7 @@ module _ (x : Tables) (i code : ℕ) (kind : isInteger code ≡ true) (n : ℕ) 
   slot-held slot l =
       record {
         sized = code-sized code kind;
+        topped = code-topped code kind;
         holds = rw (code-width code kind) (held-by (x .body) (place x i 3) (place x i 4) w slot n hold l (code-wide code kind));
         holds-bit = bit-held slot l;
       }

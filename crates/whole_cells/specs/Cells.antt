@@ -2,6 +2,7 @@
 use mathlib.Core.Path.{_≡_}
 use mathlib.Core.Bool.{Bool, true, not, cond}
 use mathlib.Core.List.{List}
+use mathlib.Core.Logic.{_⊎_}
 use Prim.Native.Nat.{ℕ, _+_, _*_, _-_, _/_, _%_, _^_, _≤_, _<_}
 use lib.ListN.{length, drop, getD}
 use lib.Dec.{ltb, eqb}
@@ -11,13 +12,14 @@ use Rattle.formats.specs.Code.{widthOf}
 use Rattle.formats.specs.Types.{numberOf}
 use Rattle.array_data.specs.Tables.{Tables, place}
 use Rattle.lent.specs.Lent.{numberOr}
+use Rattle.pattern_sums.specs.Parts.{Sized}
 use Rattle.tally.specs.declared.Cell.{Cell}
 use Rattle.tally.specs.Cells.{cell}
 use Rattle.whole_cells.specs.declared.Cells.{Cells}
 
--- 1, 2, 4 or 8 bytes
-abbrev pub Sized : ℕ → Type 0
-Sized w = (w ≡ 1 → ⊥) → (w ≡ 2 → ⊥) → (w ≡ 4 → ⊥) → w ≡ 8
+-- the largest number of w bytes, without a sign or with one
+abbrev pub Topped : ℕ → ℕ → Type 0
+Topped w top = (top ≡ 256 ^ w - 1) ⊎ (top ≡ 256 ^ w / 2 - 1)
 
 -- the number of a format's code
 abbrev pub numberAt : ℕ → Number
@@ -48,5 +50,6 @@ cellAt body c slot = cond (validAt body c slot) (patternCell (c .top) (patternAt
 -- the body holds the slot
 pub record Held (body : List ℕ) (c : Cells) (slot : ℕ) : Type 0 where
   pub sized : Sized (c .width)
+  pub topped : Topped (c .width) (c .top)
   pub holds : c .start + slot * c .width + c .width ≤ length body
   pub holds-bit : c .masked ≡ true → c .mask + slot / 8 < length body

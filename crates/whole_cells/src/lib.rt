@@ -2,14 +2,14 @@
 ghost use mathlib.Core.Path.{_≡_};
 ghost use mathlib.Core.List.{[]};
 ghost use mathlib.Core.Bool.{true};
-ghost use Prim.Native.Nat.{_+_, _*_, _-_, _/_, _%_, _^_, _≤_, _<_};
+ghost use Prim.Native.Nat.{_+_, _-_, _/_, _%_, _^_, _≤_, _<_};
 ghost use lib.Dec.{eqb};
-ghost use lib.ListN.{length, drop, getD};
-ghost use Rattle.number.specs.Number.{number};
+ghost use lib.ListN.{length, getD};
 ghost use Rattle.columnar.specs.Types.{limit};
 ghost use Rattle.formats.specs.Code.{isInteger};
 ghost use Rattle.lent_entries.specs.Entries.{column};
-ghost use Rattle.whole_cells.specs.Cells.{Sized, Held, numberAt, validAt, belowAt, cellAt, cellsOf};
+ghost use Rattle.pattern_sums.specs.Parts.{Sized};
+ghost use Rattle.whole_cells.specs.Cells.{Held, numberAt, validAt, belowAt, cellAt, cellsOf};
 use tally::Cell;
 
 // Where a node's rows stand in the body: numbers of `width` bytes from `start` on, below zero where the pattern is above `top`; where it is
@@ -71,19 +71,6 @@ pub fn find_cells(places: &[u32], first: u32, i: usize, code: u8) -> Cells
     }
 }
 
-// The number of w bytes at a position, without a sign.
-fn read_pattern(body: &[u8], at: usize, w: u8) -> u64
-    requires { ⌜ Sized w × (at + w ≤ length (now body)) ⌝ }
-    ensures { λ r. ⌜ r ≡ number w (drop at (now (body .entry))) ⌝ }
-{
-    match w {
-        1 => number::read_u8(body, at) as u64,
-        2 => number::read_u16(body, at) as u64,
-        4 => number::read_u32(body, at) as u64,
-        _ => number::read_u64(body, at),
-    }
-}
-
 // Bit `slot` of the map that begins at a position.
 fn is_set(body: &[u8], at: usize, slot: usize) -> bool
     requires { ⌜ at + slot / 8 < length (now body) ⌝ }
@@ -123,7 +110,7 @@ pub fn cell_at(body: &[u8], c: Cells, slot: usize) -> Cell
         };
     }
     let at = c.start + slot * (c.width as usize);
-    let bits = read_pattern(body, at, c.width);
+    let bits = pattern_sums::read_pattern(body, at, c.width);
     Cell {
         count: 1,
         bits,

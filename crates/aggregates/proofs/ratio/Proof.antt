@@ -13,7 +13,7 @@ use Rattle.columns.specs.Grounds.{columnGround}
 use Rattle.column_pair.specs.Pair.{rangeIn}
 use Rattle.column_pair.proofs.Pair.{pair-none}
 use Rattle.lent.specs.Lent.{typeOf}
-use Rattle.whole_cells.specs.Cells.{Sized}
+use Rattle.pattern_sums.specs.Parts.{Sized}
 use Rattle.aggregates.specs.Report.{wholeType, rowOf, pairOf}
 use Rattle.cell_sums.specs.Numbers.{cellIn}
 use Rattle.aggregates.specs.Shape.{numbersOf}

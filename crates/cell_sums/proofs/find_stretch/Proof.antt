@@ -1,11 +1,12 @@
 -- `cell_sums::find_stretch` meets its contract. Assumes nothing.
-use mathlib.Core.Path.{_≡_, refl, sym, ap, ap₂, subst, _∙_}
-use mathlib.Core.Bool.{Bool, true, false, not}
-use Prim.Native.Nat.{ℕ, _+_, _-_, _≤_, _<_}
+use mathlib.Core.Path.{_≡_, sym, _∙_}
+use mathlib.Core.Bool.{true}
+use Prim.Native.Nat.{_+_}
 use native.Mathlib.Omega.{arith}
 use borrow.Author.Needs.{needs}
-use Rattle.cell_sums.specs.Numbers.{cellIn, Found}
-use Rattle.cell_sums.proofs.Laws.{no-bounded, bounded-by, run-flat, one-flat, flip}
+use Rattle.cell_sums.specs.Numbers.{Found}
+use Rattle.cell_sums.specs.Steps.{untilOf}
+use Rattle.cell_sums.proofs.Laws.{bounded-by, run-flat, one-flat, flip, until-plain, until-run}
 use Rattle.cell_sums.proofs.find_stretch.Statement.{statement}
 use Rattle.cell_sums.proofs.find_stretch.Tie as tie
 
@@ -18,7 +19,7 @@ add-t10 c = search needs
 returns : tie.Need-returns
 returns c =
     let s = c .before .before .before .before in
-    (omega arith, one-flat _ (s .args .row) _ (c .plain-cell .ensures .0) (c .plain-cell .ensures .1))
+    (omega arith, one-flat _ (s .args .row) _ (c .plain-cell .ensures .0) (c .plain-cell .ensures .1), until-plain _ (s .args .n) (s .args .row) (flip _ _ (c .before .if1 .taken)))
 
 -- the column has runs
 ran : (c : tie.Else1) → c .before .before .before .args .n .runs ≡ true
@@ -35,6 +36,11 @@ found : (c : tie.After-run) → Found (c .before .before .before .before .before
 found c =
     let d = c .before .before .before .before .before in
     d .before .before .before .pre .1 .found (ran d) _ _ (sym (c .before .before .stretch-at .ensures) ∙ c .run .given .1)
+
+its-end : (c : tie.After-run) → c .before .before .before .before .before .before .before .before .args .row + c .run .given .0 .1 .0 ≡ untilOf (c .before .before .before .before .before .before .before .before .args .body .now) (c .before .before .before .before .before .before .before .before .args .n) (c .before .before .before .before .before .before .before .before .args .row)
+its-end c =
+    let d = c .before .before .before .before .before in
+    until-run _ (d .before .before .before .args .n) (d .before .before .before .args .row) _ _ (ran d) (sym (c .before .before .stretch-at .ensures) ∙ c .run .given .1)
 
 add-cell-at : tie.Need-add-cell-at
 add-cell-at c = record { fits = found (c .before .before) .low .1 }
@@ -54,7 +60,7 @@ add-t18 c = search needs
 returns-2 : tie.Need-returns-2
 returns-2 c =
     let f = found (c .before .before .before) in
-    (omega (arith, f .some-left), run-flat _ _ _ _ _ (f .same) (c .cell-at .ensures .0) (bounded-by _ (c .cell-at .ensures .1)))
+    (omega (arith, f .some-left), run-flat _ _ _ _ _ (f .same) (c .cell-at .ensures .0) (bounded-by _ (c .cell-at .ensures .1)), its-end (c .before .before .before))
 
 returns-3 : tie.Need-returns-3
 returns-3 c =

@@ -1,11 +1,13 @@
--- `cell_sums::sum_both_stretches` meets its contract. Assumes nothing.
-use mathlib.Core.Path.{_≡_, refl, sym, ap, ap₂, subst, _∙_}
-use Prim.Native.Nat.{ℕ, _+_, _-_, _≤_, _<_}
-use native.Mathlib.Omega.{arith}
+-- `cell_sums::sum_both_stretches` meets its contract; the loop turns at most once for each stretch of either column. Assumes nothing.
+use mathlib.Core.Path.{sym}
+use Prim.Native.Nat.{_-_, _≤_, _<_}
+use native.Mathlib.Nat.{le-of-eq}
 use borrow.Author.Needs.{needs}
 use Rattle.tally.specs.Cells.{Tallied}
 use Rattle.cell_sums.specs.Numbers.{cellIn, bothCells, Flat}
-use Rattle.cell_sums.proofs.Laws.{turn, room, room-of, before-any, at-end, nearer, row-low, same-start, stop-low, in-order, further, none-flat, later-flat, both-flat, least-above, least-first, least-second, least-end}
+use Rattle.cell_sums.specs.Steps.{untilOf, bothLeft}
+use Rattle.cell_sums.proofs.Steps.{fewer-of-both}
+use Rattle.cell_sums.proofs.Laws.{turn, room, room-of, before-any, at-end, row-low, same-start, stop-low, in-order, further, none-flat, later-flat, both-flat, least-above, least-first, least-second, least-end}
 use Rattle.cell_sums.proofs.sum_both_stretches.Statement.{statement}
 use Rattle.cell_sums.proofs.sum_both_stretches.Tie as tie
 
@@ -14,9 +16,11 @@ Inv-loop body a b start end t₀ u₀ row₀ p₀ q₀ t u row p q =
     (start ≤ row) × (row ≤ end) × Tallied (bothCells (cellIn body a) (cellIn body b)) start (row - start) t × Tallied (bothCells (cellIn body b) (cellIn body a)) start (row - start) u
     × Flat (cellIn body a) row p
     × Flat (cellIn body b) row q
+    × (row ≤ p .until)
+    × (row ≤ q .until)
 
 abbrev μ-loop : tie.MeasureT-loop
-μ-loop body a b start end t₀ u₀ row₀ p₀ q₀ t u row p q = end - row
+μ-loop body a b start end t₀ u₀ row₀ p₀ q₀ t u row p q = bothLeft (untilOf body a) (untilOf body b) end row (p .until) (q .until)
 
 nothing-requires : tie.Need-nothing-requires Inv-loop μ-loop
 nothing-requires c κs = search needs
@@ -41,6 +45,8 @@ loop-holds c =
       before-any _ (s .args .start) _ (c .before .before .nothing2 .ensures),
       none-flat _ _ (p .result) (p .ensures .0) (p .ensures .1),
       none-flat _ _ (q .result) (q .ensures .0) (q .ensures .1),
+      le-of-eq (sym (p .ensures .0)),
+      le-of-eq (sym (q .ensures .0)),
     )
 
 next-stretch-requires : tie.Need-next-stretch-requires Inv-loop μ-loop
@@ -95,7 +101,11 @@ added-requires-2 c κs =
 loop-less : tie.Need-loop-less Inv-loop μ-loop
 loop-less c =
     let d = c .before .before .before .before in
-    nearer _ _ _ (stops d) (least-end (d .before .before .before .before .before .before .before .loop .row) _ _ _ _ _ (d .before .lesser .ensures) (d .lesser2 .ensures))
+    let l = d .before .before .before .before .before .before .before .loop in
+    let s = d .before .before .before .before .before .before .before .before .before .before .before .before .before in
+    let p = d .before .before .before .before .before .next-stretch .ensures in
+    let q = d .before .before .before .before .next-stretch2 .ensures in
+    fewer-of-both (untilOf (s .args .body .now) (s .args .a)) (untilOf (s .args .body .now) (s .args .b)) (s .args .end) (l .row) _ (l .p .until) (l .q .until) _ _ _ (d .before .before .before .before .before .before .loop-test .taken) (l .inv .6) (l .inv .7) (p .0) (q .0) (p .2) (q .2) (d .before .lesser .ensures) (d .lesser2 .ensures)
 
 loop-again : tie.Need-loop-again Inv-loop μ-loop
 loop-again c =
@@ -115,6 +125,8 @@ loop-again c =
       turn _ (s .args .start) (l .row) _ _ _ _ (l .inv .0) far (l .inv .3) (k .1) (both-flat _ _ (l .row) _ (q .result) (p .result) (q .ensures .1) (p .ensures .1) two one _ (k .0)) (c .added2 .ensures),
       later-flat _ (l .row) _ (p .result) far (p .ensures .1),
       later-flat _ (l .row) _ (q .result) far (q .ensures .1),
+      one,
+      two,
     )
 
 returns : tie.Need-returns Inv-loop μ-loop

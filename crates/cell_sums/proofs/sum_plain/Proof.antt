@@ -1,70 +1,42 @@
 -- `cell_sums::sum_plain` meets its contract. Assumes nothing.
-use mathlib.Core.Path.{_≡_, refl, sym, ap, ap₂, subst, _∙_}
-use mathlib.Core.Bool.{Bool, true, false, not}
-use Prim.Native.Nat.{ℕ, _+_, _-_, _≤_, _<_}
-use native.Mathlib.Omega.{arith}
-use borrow.Author.Needs.{needs}
-use Rattle.tally.specs.Cells.{Tallied}
-use Rattle.cell_sums.specs.Numbers.{cellIn}
-use Rattle.cell_sums.proofs.Laws.{turn-one, room, room-of, before-any, at-end, fits-next, next-low, next-in, next-from, nearer, same-start}
+use Prim.Native.Nat.{_+_, _-_}
+use Rattle.tally.proofs.Sums.{alike}
+use Rattle.cell_sums.specs.Numbers.{cellIn, bothCells}
+use Rattle.cell_sums.proofs.Plain.{other-in}
 use Rattle.cell_sums.proofs.sum_plain.Statement.{statement}
 use Rattle.cell_sums.proofs.sum_plain.Tie as tie
 
-abbrev Inv-loop : tie.InvT-loop
-Inv-loop body n start end t₀ row₀ t row = (start ≤ row) × (row ≤ end) × Tallied (cellIn body n) start (row - start) t
+sum-masked-requires : tie.Need-sum-masked-requires
+sum-masked-requires c κs = c .before .before .before .before .pre
 
-abbrev μ-loop : tie.MeasureT-loop
-μ-loop body n start end t₀ row₀ t row = end - row
+returns : tie.Need-returns
+returns c = c .sum-masked .ensures
 
-nothing-requires : tie.Need-nothing-requires Inv-loop μ-loop
-nothing-requires c κs = search needs
+sum-masked-requires-2 : tie.Need-sum-masked-requires-2
+sum-masked-requires-2 c κs = c .before .before .before .before .before .pre
 
-loop-holds : tie.Need-loop-holds Inv-loop μ-loop
-loop-holds c = let s = c .before .before in (same-start (s .args .start), s .pre .0 .0, before-any _ (s .args .start) _ (c .nothing .ensures))
+returns-2 : tie.Need-returns-2
+returns-2 c = c .sum-masked2 .ensures
 
-plain-cell-requires : tie.Need-plain-cell-requires Inv-loop μ-loop
-plain-cell-requires c κs =
-    let l = c .before .loop in
-    let s = c .before .before .before .before in
-    (s .pre .0 .2, s .pre .1 (l .row) (l .inv .0) (c .loop-test .taken))
-
-added-requires : tie.Need-added-requires Inv-loop μ-loop
-added-requires c κs =
-    let l = c .before .before .loop in
+sum-blocks-requires : tie.Need-sum-blocks-requires
+sum-blocks-requires c κs =
     let s = c .before .before .before .before .before in
-    (room-of _ (c .plain-cell .ensures .1), room _ (s .args .start) (l .row) 1 _ (l .inv .2) (next-low _ _ (c .before .loop-test .taken) (s .pre .0 .1)))
+    ((s .pre .0 .0, s .pre .0 .1, s .pre .0 .2, c .before .if1 .left), s .pre .1 .0)
 
-add-row : tie.Need-add-row Inv-loop μ-loop
-add-row c =
+returns-3 : tie.Need-returns-3
+returns-3 c =
     let s = c .before .before .before .before .before .before in
-    record { fits = fits-next _ _ (c .before .before .loop-test .taken) (s .pre .0 .1) }
-
-loop-less : tie.Need-loop-less Inv-loop μ-loop
-loop-less c = nearer _ _ _ (omega-less _) (next-in _ _ (c .before .before .loop-test .taken))
-  where
-    omega-less : (a : ℕ) → a < a + 1
-    omega-less a = omega arith
-
-loop-again : tie.Need-loop-again Inv-loop μ-loop
-loop-again c =
-    let l = c .before .before .before .loop in
-    let s = c .before .before .before .before .before .before in
-    (next-from _ _ (l .inv .0), next-in _ _ (c .before .before .loop-test .taken), turn-one _ (s .args .start) (l .row) _ _ _ (l .inv .0) (l .inv .2) (c .before .plain-cell .ensures .1) (sym (c .before .plain-cell .ensures .0)) (c .added .ensures))
-
-returns : tie.Need-returns Inv-loop μ-loop
-returns c = let l = c .before .loop in let s = c .before .before .before .before in at-end _ (s .args .start) (l .row) _ _ (l .inv .1) (c .loop-test .left) (l .inv .2)
+    let f = cellIn (s .args .body .now) (s .args .a) in
+    alike (bothCells f (cellIn (s .args .body .now) (s .args .b))) f (s .args .start) (s .args .start) (s .args .end - s .args .start) _ (c .sum-blocks .ensures)
+    (λ j l. other-in (s .args .body .now) (s .args .a) (s .pre .0 .2) (s .args .b) (s .pre .0 .3) (c .before .if2 .left) (s .args .start + j))
 
 pub sum-plain-spec : {M : Type 1} → statement M
 sum-plain-spec =
     tie.close
     (tie.spec
-    Inv-loop
-    μ-loop
-    nothing-requires
-    loop-holds
-    plain-cell-requires
-    added-requires
-    add-row
-    loop-less
-    loop-again
-    returns)
+    sum-masked-requires
+    returns
+    sum-masked-requires-2
+    returns-2
+    sum-blocks-requires
+    returns-3)

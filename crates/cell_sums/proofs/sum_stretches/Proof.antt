@@ -1,11 +1,11 @@
--- `cell_sums::sum_stretches` meets its contract. Assumes nothing.
-use mathlib.Core.Path.{_≡_, refl, sym, ap, ap₂, subst, _∙_}
-use Prim.Native.Nat.{ℕ, _+_, _-_, _≤_, _<_}
-use native.Mathlib.Omega.{arith}
+-- `cell_sums::sum_stretches` meets its contract; the loop turns at most once for each stretch. Assumes nothing.
+use Prim.Native.Nat.{_-_, _≤_, _<_}
 use borrow.Author.Needs.{needs}
 use Rattle.tally.specs.Cells.{Tallied}
 use Rattle.cell_sums.specs.Numbers.{cellIn}
-use Rattle.cell_sums.proofs.Laws.{turn, room, room-of, before-any, at-end, nearer, row-low, same-start, stop-above, stop-until, stop-end, stop-low, in-order, further, flat-to}
+use Rattle.cell_sums.specs.Steps.{untilOf, stretchesOf}
+use Rattle.cell_sums.proofs.Steps.{fewer}
+use Rattle.cell_sums.proofs.Laws.{turn, room, room-of, before-any, at-end, row-low, same-start, stop-above, stop-until, stop-end, stop-low, in-order, further, flat-to}
 use Rattle.cell_sums.proofs.sum_stretches.Statement.{statement}
 use Rattle.cell_sums.proofs.sum_stretches.Tie as tie
 
@@ -13,7 +13,7 @@ abbrev Inv-loop : tie.InvT-loop
 Inv-loop body n start end t₀ row₀ t row = (start ≤ row) × (row ≤ end) × Tallied (cellIn body n) start (row - start) t
 
 abbrev μ-loop : tie.MeasureT-loop
-μ-loop body n start end t₀ row₀ t row = end - row
+μ-loop body n start end t₀ row₀ t row = stretchesOf (untilOf body n) end row
 
 nothing-requires : tie.Need-nothing-requires Inv-loop μ-loop
 nothing-requires c κs = search needs
@@ -44,7 +44,10 @@ added-requires c κs =
     (room-of _ (c .before .before .find-stretch .ensures .1 .bounded), room _ (s .args .start) (l .row) _ _ (l .inv .2) (stop-low _ _ _ (stops c) (stop-end _ _ _ (c .lesser .ensures)) (s .pre .0 .1)))
 
 loop-less : tie.Need-loop-less Inv-loop μ-loop
-loop-less c = nearer _ _ _ (stops (c .before)) (stop-end _ _ _ (c .before .lesser .ensures))
+loop-less c =
+    let d = c .before .before .before in
+    let s = d .before .before .before .before .before in
+    fewer (untilOf (s .args .body .now) (s .args .n)) (s .args .end) _ _ _ (d .before .loop-test .taken) (d .find-stretch .ensures .0) (d .find-stretch .ensures .2) (c .before .lesser .ensures)
 
 loop-again : tie.Need-loop-again Inv-loop μ-loop
 loop-again c =

@@ -1,13 +1,12 @@
--- `whole_cells::read_pattern` meets its contract. Assumes nothing.
-use mathlib.Core.Path.{_≡_, refl, sym, ap, ap₂, subst, _∙_}
+-- `pattern_sums::read_pattern` meets its contract. Assumes nothing.
+use mathlib.Core.Path.{_≡_, sym, ap, _∙_}
 use native.Mathlib.Omega.{arith}
-use Prim.Native.Nat.{ℕ, _+_, _≤_}
+use Prim.Native.Nat.{ℕ}
 use mathlib.Core.List.{List}
-use lib.ListN.{length, drop}
 use Rattle.number.specs.Number.{number}
 use borrow.Author.Needs.{needs}
-use Rattle.whole_cells.proofs.read_pattern.Statement.{statement}
-use Rattle.whole_cells.proofs.read_pattern.Tie as tie
+use Rattle.pattern_sums.proofs.read_pattern.Statement.{statement}
+use Rattle.pattern_sums.proofs.read_pattern.Tie as tie
 
 read-by : (s : List ℕ) (w k x : ℕ) → x ≡ number k s → w ≡ k → x ≡ number w s
 read-by s w k x e f = e ∙ ap (λ n. number n s) (sym f)

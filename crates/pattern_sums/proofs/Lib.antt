@@ -1,0 +1,2 @@
+-- Laws of `pattern_sums`.
+pub mod Laws

@@ -1,0 +1,2 @@
+-- The definitions that the contracts of `pattern_sums` cite.
+pub mod Parts
