@@ -7,15 +7,15 @@ use Prim.Native.Nat.{ℕ, zero, suc, _+_, _*_, _<_}
 use lib.ListN.{length, getD}
 use native.Mathlib.Omega.{arith}
 use lib.Dec.{T, leb, ltb, eqb}
-use Rattle.columnar.specs.Types.{Number, width, half, limit, Plain, fixed, string, Ty, tPlain, tView, tListView, tSparse, tDense, tRunEnd, tDictionary}
+use Rattle.columnar.specs.Types.{Number, width, half, limit, Plain, fixed, string, Ty, tPlain, tView, tListView, tList, tSparse, tDense, tRunEnd, tDictionary}
 use Rattle.columnar.specs.Reading.{Source}
-use Rattle.columnar.specs.Test.{every, each, member, onlyIf, maskTest, arrayTest, plainTest, viewTest, entryTest, listViewTest, sparseTest, denseTest, endsTest, runEndTest, dictionaryTest, test}
+use Rattle.columnar.specs.Test.{every, each, member, onlyIf, maskTest, arrayTest, plainTest, viewTest, entryTest, offsetsRule, listViewTest, listTest, sparseTest, denseTest, endsTest, runEndTest, dictionaryTest, test}
 use Rattle.columnar.specs.RunEnd.{startOf, endOf}
 use Rattle.columnar.specs.Array.{item, ok}
 use Rattle.columnar.proofs.Test.{test-sound, every-out, every-in}
 use Rattle.array_data.specs.Tables.{Tables, lengthOf, offsetOf, validOf, firstBuffer, secondBuffer, dataBuffers, arrayWith, held, validIn}
 use Rattle.array_data.specs.Rules.{oneIn, twoIn, buffersIn}
-use Rattle.array_data.specs.Typed.{NodeKind, fixedNode, stringNode, viewNode, listViewNode, sparseNode, denseNode, runEndNode, dictionaryNode, Tree, nodeOf, allOf, Is, MeansPlain, MeansEnds, Means, plainBody, bodyOf, columnOf, kindRule, nodeRule, sourceRule, placedAs, placed, nodes}
+use Rattle.array_data.specs.Typed.{NodeKind, fixedNode, stringNode, viewNode, listViewNode, listNode, sparseNode, denseNode, runEndNode, dictionaryNode, Tree, nodeOf, allOf, Is, MeansPlain, MeansEnds, Means, plainBody, bodyOf, columnOf, kindRule, nodeRule, sourceRule, placedAs, placed, nodes}
 
 and-in : (a b : Bool) → T a → T b → T (a && b)
 and-in true b p q = q
@@ -87,6 +87,9 @@ module _ (t : Tree) (x : Tables) where
       && leb ((offsetOf x i + lengthOf x i) * w) (length (b .sizes))
       && every (λ j. entryTest w b (offsetOf x i + j)) (lengthOf x i)
 
+  abbrev stretchRows : ℕ → ℕ → Bool
+  stretchRows w i = offsetsRule w (firstBuffer x i) (lengthOf x (suc i)) (offsetOf x i) (lengthOf x i)
+
   abbrev sparseRows : List ℕ → ℕ → Bool
   sparseRows ids i =
       leb (offsetOf x i + lengthOf x i) (length (firstBuffer x i))
@@ -148,6 +151,10 @@ module _ (t : Tree) (x : Tables) (all : T (sourceRule t x)) where
       lastly (mask t x true i) (listRows t x w u i) true (test u (columnOf t x u (suc i)))
       (and-two (twoIn x i) (mask t x true i && (listRows t x w u i && true)) (rule-at (listViewNode w) i (h .0)))
       (column-sound u (suc i) (h .1))
+  column-sound (tList w u) i h =
+      lastly (mask t x true i) (stretchRows t x w i) true (test u (columnOf t x u (suc i)))
+      (and-two (oneIn x i) (mask t x true i && (stretchRows t x w i && true)) (rule-at (listNode w) i (h .0)))
+      (column-sound u (suc i) (h .1))
   column-sound (tSparse ids nullable f) i h =
       lastly (mask t x false i) (sparseRows t x ids i) (each (λ c. true) ids) (kidsTest t x ids f i)
       (and-two (oneIn x i) (mask t x false i && (sparseRows t x ids i && each (λ c. true) ids)) (rule-at (sparseNode ids) i (h .0)))
@@ -195,6 +202,11 @@ module _ (t : Tree) (x : Tables) (lies : (j : ℕ) → j < t .count → T (place
       (λ p. and-in (twoIn x i) (mask t x true i && (listRows t x w u i && true)) p (firstly (mask t x true i) (listRows t x w u i) true (test u (columnOf t x u (suc i))) e tt))
   column-complete (tListView w u) i h e j (List·Memᴰ·tail q) =
       column-complete u (suc i) (h .1) (kid-of (mask t x true i) (listRows t x w u i) (test u (columnOf t x u (suc i))) e) j q
+  column-complete (tList w u) i h e j (List·Memᴰ·head z) =
+      rule-from (listNode w) i j z (h .0)
+      (λ p. and-in (oneIn x i) (mask t x true i && (stretchRows t x w i && true)) p (firstly (mask t x true i) (stretchRows t x w i) true (test u (columnOf t x u (suc i))) e tt))
+  column-complete (tList w u) i h e j (List·Memᴰ·tail q) =
+      column-complete u (suc i) (h .1) (kid-of (mask t x true i) (stretchRows t x w i) (test u (columnOf t x u (suc i))) e) j q
   column-complete (tSparse ids nullable f) i h e j (List·Memᴰ·head z) =
       rule-from (sparseNode ids) i j z (h .0)
       (λ p.

@@ -8,7 +8,7 @@ use lib.ListN.{length, getD}
 use lib.Dec.{leb, ltb, eqb}
 use Rattle.columnar.specs.Types.{Number, Plain, fixed, string}
 use Rattle.columnar.specs.Array.{Array}
-use Rattle.columnar.specs.Test.{every, arrayTest, plainTest, viewTest, listViewTest, sparseTest, denseTest, runEndTest, dictionaryTest}
+use Rattle.columnar.specs.Test.{every, arrayTest, plainTest, viewTest, listViewTest, listTest, sparseTest, denseTest, runEndTest, dictionaryTest}
 use Rattle.array_data.specs.Tables.{Tables, lengthOf, place, validOf, firstBuffer, secondBuffer, dataBuffers, arrayWith, held, inBody, validIn}
 
 -- a child of which only the length is looked at
@@ -40,6 +40,9 @@ module _ (x : Tables) (k : ℕ) where
   abbrev pub listViewRule : ℕ → Bool
   listViewRule w =
       twoIn && arrayTest true (listViewTest w (λ c. true)) (arrayWith x (record { offsets = firstBuffer x k; sizes = secondBuffer x k; child = childOf x (suc k) }) k)
+
+  abbrev pub listRule : ℕ → Bool
+  listRule w = oneIn && arrayTest true (listTest w (λ c. true)) (arrayWith x (record { offsets = firstBuffer x k; child = childOf x (suc k) }) k)
 
   -- a union's ids, and the node of each child
   abbrev pub sparseRule : List ℕ → (ℕ → ℕ) → Bool

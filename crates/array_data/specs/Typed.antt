@@ -5,13 +5,13 @@ use mathlib.Core.List.{List, [], _∷_, _++_, List·Memᴰ}
 use Prim.Native.Nat.{ℕ, zero, suc, _*_, _<_}
 use lib.ListN.{drop}
 use lib.Dec.{eqb}
-use Rattle.columnar.specs.Types.{Number, width, Plain, fixed, string, Ty, tPlain, tView, tListView, tSparse, tDense, tRunEnd, tDictionary}
+use Rattle.columnar.specs.Types.{Number, width, Plain, fixed, string, Ty, tPlain, tView, tListView, tList, tSparse, tDense, tRunEnd, tDictionary}
 use Rattle.columnar.specs.Array.{Array, nullCount}
 use Rattle.columnar.specs.Plain.{PlainBody}
 use Rattle.columnar.specs.Reading.{Body, Column}
 use Rattle.columnar.specs.Test.{every}
 use Rattle.array_data.specs.Tables.{Tables, place, firstBuffer, secondBuffer, dataBuffers, arrayWith, held, validIn}
-use Rattle.array_data.specs.Rules.{oneIn, twoIn, buffersIn, fixedRule, stringRule, viewRule, listViewRule, sparseRule, denseRule, runEndRule, dictionaryRule}
+use Rattle.array_data.specs.Rules.{oneIn, twoIn, buffersIn, fixedRule, stringRule, viewRule, listViewRule, listRule, sparseRule, denseRule, runEndRule, dictionaryRule}
 
 -- what a node's format says
 pub data NodeKind : Type 0 where
@@ -19,6 +19,7 @@ pub data NodeKind : Type 0 where
   stringNode : ℕ → NodeKind
   viewNode : NodeKind
   listViewNode : ℕ → NodeKind
+  listNode : ℕ → NodeKind
   sparseNode : List ℕ → NodeKind
   denseNode : List ℕ → NodeKind
   runEndNode : ℕ → NodeKind
@@ -63,6 +64,7 @@ abbrev pub Means : Tree → Ty → ℕ → Type 0
 Means t (tPlain p) i = MeansPlain t p i
 Means t tView i = Is t i viewNode
 Means t (tListView w u) i = Is t i (listViewNode w) × Means t u (suc i)
+Means t (tList w u) i = Is t i (listNode w) × Means t u (suc i)
 Means t (tSparse ids nullable f) i =
     Is t i (sparseNode ids) × ((c : ℕ) → List·Memᴰ c ids → (nullable c ≡ t .nullable (nodeOf t i ids c)) × Means t (f c) (nodeOf t i ids c))
 Means t (tDense ids nullable f) i =
@@ -100,6 +102,7 @@ module _ (t : Tree) (x : Tables) where
   bodyOf (tPlain p) i = plainBody p i
   bodyOf tView i = record { views = firstBuffer x i; buffers = dataBuffers x i }
   bodyOf (tListView w u) i = record { offsets = firstBuffer x i; sizes = secondBuffer x i; child = arrayWith x (bodyOf u (suc i)) (suc i) }
+  bodyOf (tList w u) i = record { offsets = firstBuffer x i; child = arrayWith x (bodyOf u (suc i)) (suc i) }
   bodyOf (tSparse ids nullable f) i = record { ids = firstBuffer x i; children = λ c. arrayWith x (bodyOf (f c) (nodeOf t i ids c)) (nodeOf t i ids c) }
   bodyOf (tDense ids nullable f) i =
       record { ids = firstBuffer x i; positions = secondBuffer x i; children = λ c. arrayWith x (bodyOf (f c) (nodeOf t i ids c)) (nodeOf t i ids c) }
@@ -117,6 +120,7 @@ module _ (t : Tree) (x : Tables) where
   kindRule (stringNode w) i = stringRule x i w
   kindRule viewNode i = viewRule x i
   kindRule (listViewNode w) i = listViewRule x i w
+  kindRule (listNode w) i = listRule x i w
   kindRule (sparseNode ids) i = sparseRule x i ids (nodeOf t i ids)
   kindRule (denseNode ids) i = denseRule x i ids (nodeOf t i ids)
   kindRule (runEndNode w) i = runEndRule x i w
@@ -136,6 +140,7 @@ module _ (t : Tree) (x : Tables) where
   placedAs (stringNode w) i = twoIn x i
   placedAs viewNode i = oneIn x i && buffersIn x i
   placedAs (listViewNode w) i = twoIn x i
+  placedAs (listNode w) i = oneIn x i
   placedAs (sparseNode ids) i = oneIn x i
   placedAs (denseNode ids) i = twoIn x i
   placedAs (runEndNode w) i = held x i && validIn x i
@@ -149,6 +154,7 @@ module _ (t : Tree) (x : Tables) where
   nodes (tPlain p) i = i ∷ []
   nodes tView i = i ∷ []
   nodes (tListView w u) i = i ∷ nodes u (suc i)
+  nodes (tList w u) i = i ∷ nodes u (suc i)
   nodes (tSparse ids nullable f) i = i ∷ allOf (λ c. nodes (f c) (nodeOf t i ids c)) ids
   nodes (tDense ids nullable f) i = i ∷ allOf (λ c. nodes (f c) (nodeOf t i ids c)) ids
   nodes (tRunEnd w u) i = i ∷ suc i ∷ nodes u (suc (suc i))

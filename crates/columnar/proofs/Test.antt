@@ -9,16 +9,17 @@ use native.Mathlib.Decide.{decLt}
 use native.Mathlib.Omega.{arith}
 use lib.ListN.{length}
 use lib.Dec.{T, leb, ltb, eqb, leb→le, le→leb, ltb→lt, lt→ltb, eqb→eq, eqb-refl}
-use Rattle.columnar.specs.Types.{Number, Plain, fixed, string, Ty, tPlain, tView, tListView, tSparse, tDense, tRunEnd, tDictionary}
+use Rattle.columnar.specs.Types.{Number, Plain, fixed, string, Ty, tPlain, tView, tListView, tList, tSparse, tDense, tRunEnd, tDictionary}
 use Rattle.columnar.specs.Array.{Array, ok, Mask, Obeys}
-use Rattle.columnar.specs.Plain.{Text, PlainBody, Offsets, StringRule, empty, full, PlainRule}
+use Rattle.columnar.specs.Plain.{PlainBody, OffsetsTo, OffsetsRule, empty, full, PlainRule}
 use Rattle.columnar.specs.View.{Views, lengthOf, Lies, ViewGood, ViewRule}
 use Rattle.columnar.specs.ListView.{ListView, Entry, ListViewRule}
+use Rattle.columnar.specs.List.{Listed, ListRule}
 use Rattle.columnar.specs.Union.{Sparse, Dense, SparseRule, DenseRule}
 use Rattle.columnar.specs.RunEnd.{RunEnd, RunEndRule}
 use Rattle.columnar.specs.Dictionary.{Dictionary, DictionaryRule}
 use Rattle.columnar.specs.Reading.{Body, Column, masks, SlotRule, Source}
-use Rattle.columnar.specs.Test.{every, each, member, same, onlyIf, maskTest, arrayTest, offsetsTest, plainTest, liesTest, oneViewTest, viewTest, entryTest, listViewTest, sparseTest, denseTest, runEndTest, dictionaryTest, slotTest, test}
+use Rattle.columnar.specs.Test.{every, each, member, same, onlyIf, maskTest, arrayTest, offsetsTo, offsetsRule, plainTest, liesTest, oneViewTest, viewTest, entryTest, listViewTest, listTest, sparseTest, denseTest, runEndTest, dictionaryTest, slotTest, test}
 
 -- a test passes exactly where P holds
 pub record Agrees (b : Bool) (P : Type 0) : Type 0 where
@@ -156,25 +157,28 @@ module _ {B : Type 0} (may : Bool) (rule : (ℕ → Bool) → B → ℕ → ℕ 
       turn (both (mask-agrees may (x .valid) (x .off + x .len)) (h (ok (x .valid)) (x .body) (x .off) (x .len)))
       (λ p. record { mask = p .0; slots = p .1 }) (λ r. (r .mask, r .slots))
 
-offsets-agree : (w : ℕ) (b : Text) (off len : ℕ) → Agrees (offsetsTest w b off len) (Offsets w b off len)
-offsets-agree w b off len =
+offsets-agree : (w : ℕ) (s : List ℕ) (most off len : ℕ) → Agrees (offsetsTo w s most off len) (OffsetsTo w s most off len)
+offsets-agree w s most off len =
     turn
     (both (both (both (leb-agrees _ _) (every-agrees (suc len) (λ i. ltb-agrees _ _))) (every-agrees len (λ i. leb-agrees _ _))) (leb-agrees _ _))
     (λ p. record { hold = p .0 .0 .0; positive = λ i q. p .0 .0 .1 i (omega arith); rises = p .0 .1; within = p .1 })
     (λ r. (((r .hold, λ i q. r .positive i (omega arith)), r .rises), r .within))
 
-pub plain-agrees : (p : Plain) (ok : ℕ → Bool) (b : PlainBody p) (off len : ℕ) → Agrees (plainTest p ok b off len) (PlainRule p ok b off len)
-plain-agrees (fixed n) ok b off len = leb-agrees _ _
-plain-agrees (string w) ok b off len =
-    turn (either (both (eqb-agrees len 0) (same-agrees (b .offsets) [])) (offsets-agree w b off len)) to from
+pub offsets-rule-agrees : (w : ℕ) (s : List ℕ) (most off len : ℕ) → Agrees (offsetsRule w s most off len) (OffsetsRule w s most off len)
+offsets-rule-agrees w s most off len =
+    turn (either (both (eqb-agrees len 0) (same-agrees s [])) (offsets-agree w s most off len)) to from
   where
-    to : ((len ≡ 0) × (b .offsets ≡ [])) ⊎ Offsets w b off len → StringRule w b off len
+    to : ((len ≡ 0) × (s ≡ [])) ⊎ OffsetsTo w s most off len → OffsetsRule w s most off len
     to (inl p) = empty (p .0) (p .1)
     to (inr r) = full r
 
-    from : StringRule w b off len → ((len ≡ 0) × (b .offsets ≡ [])) ⊎ Offsets w b off len
+    from : OffsetsRule w s most off len → ((len ≡ 0) × (s ≡ [])) ⊎ OffsetsTo w s most off len
     from (empty p q) = inl (p, q)
     from (full r) = inr r
+
+pub plain-agrees : (p : Plain) (ok : ℕ → Bool) (b : PlainBody p) (off len : ℕ) → Agrees (plainTest p ok b off len) (PlainRule p ok b off len)
+plain-agrees (fixed n) ok b off len = leb-agrees _ _
+plain-agrees (string w) ok b off len = offsets-rule-agrees w (b .offsets) (length (b .chars)) off len
 
 lies-agrees : (bufs : List (List ℕ)) (v : List ℕ) → Agrees (liesTest bufs v) (Lies bufs v)
 lies-agrees bufs v =
@@ -202,6 +206,11 @@ module _ {P : Type 0} (kid : Array P → Type 0) (kidTest : Array P → Bool) (c
       turn (both (both (both (leb-agrees _ _) (leb-agrees _ _)) (every-agrees len (λ i. entry-agrees w b (off + i)))) (child (b .child)))
       (λ p. record { hold-offsets = p .0 .0 .0; hold-sizes = p .0 .0 .1; entries = p .0 .1; child-rule = p .1 })
       (λ r. (((r .hold-offsets, r .hold-sizes), r .entries), r .child-rule))
+
+  pub list-agrees : (w : ℕ) (ok : ℕ → Bool) (b : Listed P) (off len : ℕ) → Agrees (listTest w kidTest ok b off len) (ListRule w kid ok b off len)
+  list-agrees w ok b off len =
+      turn (both (offsets-rule-agrees w (b .offsets) (b .child .len) off len) (child (b .child))) (λ p. record { offsets-rule = p .0; child-rule = p .1 })
+      (λ r. (r .offsets-rule, r .child-rule))
 
   pub run-end-agrees : (w : ℕ) (okay : ℕ → Bool) (b : RunEnd P) (off len : ℕ) → Agrees (runEndTest w kidTest okay b off len) (RunEndRule w kid okay b off len)
   run-end-agrees w okay b off len =
@@ -256,6 +265,7 @@ pub slots-agree : (t : Ty) (ok : ℕ → Bool) (b : Body t) (off len : ℕ) → 
 slots-agree (tPlain p) = plain-agrees p
 slots-agree tView = view-agrees
 slots-agree (tListView w t) = list-view-agrees _ _ (array-agrees (masks t) _ _ (slots-agree t)) w
+slots-agree (tList w t) = list-agrees _ _ (array-agrees (masks t) _ _ (slots-agree t)) w
 slots-agree (tSparse ids nullable f) = sparse-agrees ids _ _ (λ c. array-agrees (masks (f c)) _ _ (slots-agree (f c)))
 slots-agree (tDense ids nullable f) = dense-agrees ids _ _ (λ c. array-agrees (masks (f c)) _ _ (slots-agree (f c)))
 slots-agree (tRunEnd w t) = run-end-agrees _ _ (array-agrees (masks t) _ _ (slots-agree t)) w

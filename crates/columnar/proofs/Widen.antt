@@ -9,13 +9,13 @@ use native.Mathlib.Omega.{arith}
 use lib.ListN.{length, getD}
 use lib.Dec.{T}
 use Rattle.columnar.specs.Row.{seg}
-use Rattle.columnar.specs.Types.{Number, i8, u8, i16, u16, i32, u32, i64, u64, f32, f64, width, half, limit, Plain, fixed, string, Ty, tPlain, tView, tListView, tSparse, tDense, tRunEnd, tDictionary}
+use Rattle.columnar.specs.Types.{Number, i8, u8, i16, u16, i32, u32, i64, u64, f32, f64, width, half, limit, Plain, fixed, string, Ty, tPlain, tView, tListView, tList, tSparse, tDense, tRunEnd, tDictionary}
 use Rattle.columnar.specs.Array.{Array, item, ok, Mask, Obeys}
 use Rattle.columnar.specs.Entries.{encodes}
-use Rattle.columnar.specs.Plain.{PlainBody, Offsets, StringRule, empty, full, PlainRule}
+use Rattle.columnar.specs.Plain.{PlainBody, OffsetsTo, OffsetsRule, empty, full, PlainRule}
 use Rattle.columnar.specs.Reading.{Body, Column, readAll, masks, SlotRule, Source}
 use Rattle.columnar.specs.Test.{member}
-use Rattle.columnar.specs.Wider.{PlainWider, wFixed, wString, Wider, wPlain, wView, wListView, wSparse, wDense, wRunEnd, wDictionary, Entries, Validity, Kept, OffsetsKept, entries, no-entry, PlainKept, Same, Stored, SharedAlike, Again}
+use Rattle.columnar.specs.Wider.{PlainWider, wFixed, wString, Wider, wPlain, wView, wListView, wList, wSparse, wDense, wRunEnd, wDictionary, Entries, Validity, Kept, OffsetsKept, entries, no-entry, PlainKept, Same, Stored, SharedAlike, Again}
 use Rattle.columnar.proofs.Test.{member-agrees}
 use Rattle.columnar.proofs.Items.{length-encodes, item-encodes-lt}
 use Rattle.columnar.proofs.Kept.{half-mono}
@@ -96,22 +96,21 @@ widenPlain (wFixed m) = λ b n. b
 widenPlain (wString w w′ h) = λ b n. record { offsets = widenOffsets w w′ (b .offsets) (n + 1); chars = b .chars }
 
 -- a full offsets buffer is not empty
-not-empty : (w : ℕ) (chars : List ℕ) (off len : ℕ) → Offsets w (record { offsets = []; chars = chars }) off len → ⊥
-not-empty zero chars off len o = omega (arith, o .positive 0 (omega arith))
-not-empty (suc w) chars off len o = omega (arith, o .hold, mul-suc (off + len + 1) w)
+not-empty : (w most off len : ℕ) → OffsetsTo w [] most off len → ⊥
+not-empty zero most off len o = omega (arith, o .positive 0 (omega arith))
+not-empty (suc w) most off len o = omega (arith, o .hold, mul-suc (off + len + 1) w)
 
-text-stored : (w w′ : ℕ) → w ≤ w′ → (s chars : List ℕ) (off len : ℕ) → StringRule w (record { offsets = s; chars = chars }) off len
-    → OffsetsKept w w′ (record { offsets = s; chars = chars }) (record { offsets = widenOffsets w w′ s (off + len + 1); chars = chars }) off len
-text-stored w w′ ww [] chars off len (empty e x) = no-entry e refl (empty e refl)
-text-stored w w′ ww [] chars off len (full o) = absurd (not-empty w chars off len o)
-text-stored w w′ ww (y ∷ s) chars off len (empty e x) = absurd (omega (arith, ap length x))
-text-stored w w′ ww (y ∷ s) chars off len (full o) =
+offsets-stored : (w w′ : ℕ) → w ≤ w′ → (s : List ℕ) (most off len : ℕ) → OffsetsRule w s most off len → OffsetsKept w w′ s (widenOffsets w w′ s (off + len + 1)) most off len
+offsets-stored w w′ ww [] most off len (empty e x) = no-entry e refl (empty e refl)
+offsets-stored w w′ ww [] most off len (full o) = absurd (not-empty w most off len o)
+offsets-stored w w′ ww (y ∷ s) most off len (empty e x) = absurd (omega (arith, ap length x))
+offsets-stored w w′ ww (y ∷ s) most off len (full o) =
     entries (omega arith) (rw add-assoc (widen-entries w w′ (y ∷ s) off (len + 1) (λ i q. fits (item w (y ∷ s) (off + i)) ww (o .positive i (omega arith)))))
 
 plain-stored : {p p′ : Plain} (d : PlainWider p p′) (okay : ℕ → Bool) (b : PlainBody p) (off len : ℕ) → PlainRule p okay b off len
     → PlainKept d okay b (widenPlain d b (off + len)) off len
 plain-stored (wFixed n) okay b off len s = record { hold = s; kept = λ i q. refl }
-plain-stored (wString w w′ h) okay b off len s = record { same-offsets = text-stored w w′ h (b .offsets) (b .chars) off len s; same-chars = refl }
+plain-stored (wString w w′ h) okay b off len s = record { same-offsets = offsets-stored w w′ h (b .offsets) (length (b .chars)) off len s; same-chars = refl }
 
 -- ---- every type
 
@@ -127,6 +126,7 @@ abbrev blankBody : (t : Ty) → Body t
 blankBody (tPlain p) = blankPlain p
 blankBody tView = record { views = []; buffers = [] }
 blankBody (tListView w t) = record { offsets = []; sizes = []; child = blank (blankBody t) }
+blankBody (tList w t) = record { offsets = []; child = blank (blankBody t) }
 blankBody (tSparse ids nullable f) = record { ids = []; children = λ c. blank (blankBody (f c)) }
 blankBody (tDense ids nullable f) = record { ids = []; positions = []; children = λ c. blank (blankBody (f c)) }
 blankBody (tRunEnd w t) = record { ends = blank []; values = blank (blankBody t) }
@@ -150,6 +150,7 @@ widenBody (wPlain d) = widenPlain d
 widenBody wView = λ b n. b
 widenBody (wListView w w′ h d) = λ b n.
     record { offsets = widenEntries w w′ (b .offsets) n; sizes = widenEntries w w′ (b .sizes) n; child = onArray (widenBody d) (b .child) }
+widenBody (wList w w′ h d) = λ b n. record { offsets = widenOffsets w w′ (b .offsets) (n + 1); child = onArray (widenBody d) (b .child) }
 widenBody (wSparse ids {nullable} {nullable′} {f} {f′} e d) = λ b n.
     record { ids = b .ids; children = λ c. whereHolds (member c ids) (λ m. onArray (widenBody (d c m)) (b .children c)) (blank (blankBody (f′ c))) }
 widenBody (wDense ids {nullable} {nullable′} {f} {f′} e d) = λ b n.
@@ -165,6 +166,11 @@ body-stored (wListView w w′ {t} h d) okay b off len s =
     record {
       same-offsets = widen-entries w w′ (b .offsets) off len (λ i q. fits (item w (b .offsets) (off + i)) h (s .entries i q .offset));
       same-sizes = widen-entries w w′ (b .sizes) off len (λ i q. fits (item w (b .sizes) (off + i)) h (s .entries i q .size));
+      same-child = array-stored (widenBody d) (SlotRule t) (Same d) (body-stored d) (masks t) (b .child) (s .child-rule);
+    }
+body-stored (wList w w′ {t} h d) okay b off len s =
+    record {
+      same-offsets = offsets-stored w w′ h (b .offsets) (b .child .len) off len (s .offsets-rule);
       same-child = array-stored (widenBody d) (SlotRule t) (Same d) (body-stored d) (masks t) (b .child) (s .child-rule);
     }
 body-stored (wSparse ids {nullable} {nullable′} {f} {f′} e d) okay b off len s =
@@ -218,6 +224,7 @@ widen-shared : {t t′ : Ty} (d : Wider t t′) (n : ℕ) (ss : ℕ → Column t
 widen-shared (wPlain d) n ss = tt
 widen-shared wView n ss = tt
 widen-shared (wListView w w′ h d) n ss = widen-shared d n (λ i. ss i .body .child)
+widen-shared (wList w w′ h d) n ss = widen-shared d n (λ i. ss i .body .child)
 widen-shared (wSparse ids {nullable} {nullable′} {f} {f′} e d) n ss = λ c.
     where-all (member c ids) (λ i m. onArray (widenBody (d c m)) (ss i .body .children c)) (blank (blankBody (f′ c))) (λ m. SharedAlike (d c m) n (λ i. ss i .body .children c))
     (λ m. widen-shared (d c m) n (λ i. ss i .body .children c))

@@ -7,15 +7,16 @@ use native.Mathlib.Omega.{arith}
 use Rattle.columnar.specs.Types.{Number, Plain, Ty, tDictionary}
 use Rattle.columnar.specs.Array.{nullCount}
 use Rattle.columnar.specs.Reading.{Column, slotAt, read, readAll, masks, SlotRule, Source}
-use Rattle.columnar.specs.Wider.{Wider, wPlain, wView, wListView, wSparse, wDense, wRunEnd, wDictionary, KeyWider, PlainWider, Same, Stored, Shares, SharedAlike, Again}
+use Rattle.columnar.specs.Wider.{Wider, wPlain, wView, wListView, wList, wSparse, wDense, wRunEnd, wDictionary, KeyWider, PlainWider, Same, Stored, Shares, SharedAlike, Again}
 use Rattle.columnar.proofs.Kept.{seg-same, nulls-kept, Widens, read-kept, obeys-kept}
-use Rattle.columnar.proofs.WiderKinds.{plain-widens, view-widens, list-view-widens, sparse-widens, dense-widens, run-end-widens, dictionary-widens}
+use Rattle.columnar.proofs.WiderKinds.{plain-widens, view-widens, list-view-widens, list-widens, sparse-widens, dense-widens, run-end-widens, dictionary-widens}
 
 -- every type, any depth
 pub widens : {t t′ : Ty} (d : Wider t t′) → Widens (masks t) (masks t′) (slotAt t) (slotAt t′) (SlotRule t) (SlotRule t′) (Same d)
 widens (wPlain d) = plain-widens d
 widens wView = view-widens
 widens (wListView w w′ h d) = list-view-widens w w′ h (widens d)
+widens (wList w w′ h d) = list-widens w w′ h (widens d)
 widens (wSparse ids e d) = sparse-widens ids (λ c m. widens (d c m))
 widens (wDense ids e d) = dense-widens ids (λ c m. widens (d c m))
 widens (wRunEnd w w′ h d) = run-end-widens w w′ h (widens d)

@@ -9,14 +9,14 @@ use lib.IntN.{pos}
 use lib.Dec.{T}
 use Rattle.number.specs.Number.{number, encode}
 use Rattle.columnar.specs.Row.{Row, null, whole, bytes, list, rows}
-use Rattle.columnar.specs.Types.{Ty, tPlain, tListView, tSparse, tDense, tRunEnd, tDictionary, fixed, string, u8, i16, half}
+use Rattle.columnar.specs.Types.{Ty, tPlain, tListView, tList, tSparse, tDense, tRunEnd, tDictionary, fixed, string, u8, i16, half}
 use Rattle.columnar.specs.Array.{item, bit}
 use Rattle.columnar.specs.Entries.{encodes}
 use Rattle.columnar.specs.Plain.{full}
 use Rattle.columnar.specs.ListView.{Entry}
 use Rattle.columnar.specs.RunEnd.{startOf}
 use Rattle.columnar.specs.Reading.{Column, readAll, Source}
-use Rattle.columnar.specs.Wider.{Declared, Wider, wPlain, wListView, wSparse, wDense, wRunEnd, wDictionary, wFixed, wString, entries, Stored, Again}
+use Rattle.columnar.specs.Wider.{Declared, Wider, wPlain, wListView, wList, wSparse, wDense, wRunEnd, wDictionary, wFixed, wString, entries, Stored, Again}
 use Rattle.columnar.proofs.Test.{member-agrees}
 use Rattle.columnar.proofs.Wider.{rows-same}
 
@@ -282,6 +282,53 @@ lists-rows = refl
 
 pub lists-wide-rows : readAll (tListView 8 (tPlain (string 8))) (lists 8) ≡ list (rows text-has) ∷ []
 lists-wide-rows = sym (rows-same lists-wider lists-stored lists-source) ∙ lists-rows
+
+-- ---- a list over the byte strings, offsets of 4 and of 8 bytes: one row, behind another
+
+abbrev stops : (w : ℕ) → Column (tList w (tPlain (string w)))
+stops w = record { len = 1; off = 1; valid = none; body = record { offsets = encodes w (0 ∷ 0 ∷ 2 ∷ []); child = text w } }
+
+abbrev stops-wider : Wider (tList 4 (tPlain (string 4))) (tList 8 (tPlain (string 8)))
+stops-wider = wList 4 8 (omega arith) text-wider
+
+stops-stored : Stored stops-wider (stops 4) (stops 8)
+unfolding item number encode
+stops-stored =
+    record {
+      same-len = refl;
+      same-off = refl;
+      same-valid = tt;
+      same-body = record {
+        same-offsets = entries (omega arith) (record {
+          hold = omega arith;
+          kept = upto-2 (λ i. item 4 (encodes 4 (0 ∷ 0 ∷ 2 ∷ [])) (1 + i) ≡ item 8 (encodes 8 (0 ∷ 0 ∷ 2 ∷ [])) (1 + i)) refl refl;
+        });
+        same-child = text-stored;
+      };
+    }
+
+stops-source : Source (tList 4 (tPlain (string 4))) (stops 4)
+unfolding item number encode
+stops-source =
+    record {
+      mask = tt;
+      slots = record {
+        offsets-rule = full (record {
+          hold = omega arith;
+          positive = λ i q. upto-2 (λ i. item 4 (encodes 4 (0 ∷ 0 ∷ 2 ∷ [])) (1 + i) < half 4) (omega arith) (omega arith) i (omega arith);
+          rises = upto-1 (λ i. item 4 (encodes 4 (0 ∷ 0 ∷ 2 ∷ [])) (1 + i) ≤ item 4 (encodes 4 (0 ∷ 0 ∷ 2 ∷ [])) (1 + i + 1)) (omega arith);
+          within = omega arith;
+        });
+        child-rule = text-source;
+      };
+    }
+
+stops-rows : readAll (tList 4 (tPlain (string 4))) (stops 4) ≡ list (rows text-has) ∷ []
+unfolding item number encode bit
+stops-rows = refl
+
+pub stops-wide-rows : readAll (tList 8 (tPlain (string 8))) (stops 8) ≡ list (rows text-has) ∷ []
+stops-wide-rows = sym (rows-same stops-wider stops-stored stops-source) ∙ stops-rows
 
 -- ---- a union of one field: nothing is asked of types and flags at ids that no field has
 

@@ -2,22 +2,23 @@
 use mathlib.Core.Path.{_≡_, refl, sym, ap, ap₂, _∙_}
 use mathlib.Core.Bool.{Bool, true, false}
 use mathlib.Core.List.{List, List·Memᴰ}
-use Prim.Native.Nat.{ℕ, zero, suc, _+_, _*_, _≤_, _<_}
+use Prim.Native.Nat.{ℕ, zero, suc, _+_, _-_, _*_, _≤_, _<_}
 use native.Mathlib.Nat.{zero-add, add-assoc}
 use native.Mathlib.Omega.{arith}
-use lib.ListN.{drop, getD}
+use lib.ListN.{length, drop, getD}
 use lib.Dec.{T}
 use Rattle.number.specs.Number.{number}
 use Rattle.columnar.specs.Row.{Row, bytes, list, union, rows}
 use Rattle.columnar.specs.Types.{Number, width, Plain, fixed, string}
 use Rattle.columnar.specs.Array.{Array, item, ok, readWith, Obeys}
-use Rattle.columnar.specs.Plain.{Text, PlainBody, value, span, plainAt, stored, StringRule, empty, full, PlainRule}
+use Rattle.columnar.specs.Plain.{Text, PlainBody, value, span, plainAt, stored, OffsetsTo, OffsetsRule, empty, full, PlainRule}
 use Rattle.columnar.specs.View.{shown, viewAt, ViewRule}
 use Rattle.columnar.specs.ListView.{listViewAt, ListViewRule}
+use Rattle.columnar.specs.List.{listAt, ListRule}
 use Rattle.columnar.specs.Union.{sparseAt, denseAt, SparseRule, DenseRule}
 use Rattle.columnar.specs.RunEnd.{RunEnd, endOf, firstAbove, runEndAt, startOf, RunEndRule}
 use Rattle.columnar.specs.Dictionary.{entryAt, dictionaryAt, DictionaryRule}
-use Rattle.columnar.specs.Wider.{Declared, KeyWider, PlainWider, wFixed, wString, Entries, Kept, FixedKept, OffsetsKept, entries, no-entry, TextKept, PlainKept, ViewsKept, ListViewKept, SparseKept, DenseKept, RunEndKept, DictionaryKept}
+use Rattle.columnar.specs.Wider.{Declared, KeyWider, PlainWider, wFixed, wString, Entries, Kept, FixedKept, OffsetsKept, entries, no-entry, TextKept, PlainKept, ViewsKept, ListViewKept, ListKept, SparseKept, DenseKept, RunEndKept, DictionaryKept}
 use Rattle.columnar.proofs.Items.{number-take}
 use Rattle.columnar.proofs.FirstAbove.{first-same, first-below}
 use Rattle.columnar.proofs.Test.{member-agrees}
@@ -39,7 +40,7 @@ fixed-widens n =
       rule-same = λ okay okay′ b b′ off len h o s. h .hold;
     }
 
-span-same : (w w′ : ℕ) (b b′ : Text) (off len : ℕ) → OffsetsKept w w′ b b′ off len → b .chars ≡ b′ .chars → (i : ℕ) → i < len
+span-same : (w w′ : ℕ) (b b′ : Text) (off len : ℕ) → OffsetsKept w w′ (b .offsets) (b′ .offsets) (length (b′ .chars)) off len → b .chars ≡ b′ .chars → (i : ℕ) → i < len
     → span w b (off + i) ≡ span w′ b′ (off + i)
 span-same w w′ b b′ off len (entries p e) f i q =
     let z : suc (off + i) ≡ off + suc i = omega arith in
@@ -49,11 +50,11 @@ span-same w w′ b b′ off len (entries p e) f i q =
 span-same w w′ b b′ off len (no-entry e g r) f i q = absurd (omega arith)
 
 module _ (w w′ : ℕ) (ww : w ≤ w′) where
-  string-rule : (b b′ : Text) (off len : ℕ) → OffsetsKept w w′ b b′ off len → b .chars ≡ b′ .chars → StringRule w b off len → StringRule w′ b′ off len
-  string-rule b b′ off len (no-entry e g r) f (empty l x) = r
-  string-rule b b′ off len (no-entry e g r) f (full o) = r
-  string-rule b b′ off len (entries p e) f (empty l x) = absurd (omega (arith, rw x at p))
-  string-rule b b′ off len (entries p e) f (full o) =
+  offsets-rule : (s s′ : List ℕ) (most most′ off len : ℕ) → OffsetsKept w w′ s s′ most′ off len → most ≡ most′ → OffsetsRule w s most off len → OffsetsRule w′ s′ most′ off len
+  offsets-rule s s′ most most′ off len (no-entry e g r) f (empty l x) = r
+  offsets-rule s s′ most most′ off len (no-entry e g r) f (full o) = r
+  offsets-rule s s′ most most′ off len (entries p e) f (empty l x) = absurd (omega (arith, rw x at p))
+  offsets-rule s s′ most most′ off len (entries p e) f (full o) =
       full (record {
         hold = rw add-assoc (e .hold);
         positive = λ i q. rw (← e .kept i (omega arith)) (omega (arith, o .positive i q, half-mono ww));
@@ -66,7 +67,7 @@ module _ (w w′ : ℕ) (ww : w ≤ w′) where
       record {
         masks-same = refl;
         at-same = λ okay b b′ off len h s i q t. ap bytes (span-same w w′ b b′ off len (h .same-offsets) (h .same-chars) i q);
-        rule-same = λ okay okay′ b b′ off len h o s. string-rule b b′ off len (h .same-offsets) (h .same-chars) s;
+        rule-same = λ okay okay′ b b′ off len h o s. offsets-rule (b .offsets) (b′ .offsets) _ _ off len (h .same-offsets) (ap length (h .same-chars)) s;
       }
 
 pub plain-widens : {p p′ : Plain} (d : PlainWider p p′) → Widens true true (plainAt p) (plainAt p′) (PlainRule p) (PlainRule p′) (PlainKept d)
@@ -112,6 +113,47 @@ module _ {P P′ : Type 0} (w w′ : ℕ) (ww : w ≤ w′) {masks masks′ : Bo
                     size = rw (← h .same-sizes .kept i q) (omega (arith, s .entries i q .size, half-mono ww));
                     within = rw (← h .same-offsets .kept i q, ← h .same-sizes .kept i q, ← h .same-child .same-len) (s .entries i q .within);
                   };
+              child-rule = obeys-kept u (h .same-child) (s .child-rule);
+            };
+      }
+
+-- ---- lists
+
+-- the two offsets of a row
+offsets-same : (w w′ : ℕ) (s s′ : List ℕ) (most off len : ℕ) → OffsetsKept w w′ s s′ most off len → (i : ℕ) → i < len
+    → (item w s (off + i) ≡ item w′ s′ (off + i)) × (item w s (suc (off + i)) ≡ item w′ s′ (suc (off + i)))
+offsets-same w w′ s s′ most off len (entries p e) i q =
+    let z : suc (off + i) ≡ off + suc i = omega arith in (e .kept i (omega arith), rw z (e .kept (suc i) (omega arith)))
+offsets-same w w′ s s′ most off len (no-entry e g r) i q = absurd (omega arith)
+
+-- the last offset is the highest
+pub offsets-most : (w : ℕ) (s : List ℕ) (most off len : ℕ) → OffsetsTo w s most off len → (k i : ℕ) → i + k ≡ len → item w s (off + i) ≤ most
+offsets-most w s most off len o zero i e = let z : i ≡ len = omega arith in rw z (o .within)
+offsets-most w s most off len o (suc k) i e =
+    let z : off + i + 1 ≡ off + suc i = omega arith in omega (arith, rw z at (o .rises i (omega arith)), offsets-most w s most off len o k (suc i) (omega arith))
+
+-- where a row's stretch ends
+pub row-within : (w : ℕ) (s : List ℕ) (most off len : ℕ) → OffsetsRule w s most off len → (i : ℕ) → i < len → item w s (suc (off + i)) ≤ most
+row-within w s most off len (empty e x) i q = absurd (omega arith)
+row-within w s most off len (full o) i q =
+    let z : suc (off + i) ≡ off + suc i = omega arith in rw z (offsets-most w s most off len o (len - suc i) (suc i) (omega arith))
+
+module _ {P P′ : Type 0} (w w′ : ℕ) (ww : w ≤ w′) {masks masks′ : Bool} {at : P → ℕ → Row} {at′ : P′ → ℕ → Row}
+    {rule : (ℕ → Bool) → P → ℕ → ℕ → Type 0} {rule′ : (ℕ → Bool) → P′ → ℕ → ℕ → Type 0} {same : (ℕ → Bool) → P → P′ → ℕ → ℕ → Type 0}
+    (u : Widens masks masks′ at at′ rule rule′ same) where
+  pub list-widens : Widens true true (listAt w at) (listAt w′ at′) (ListRule w (Obeys masks rule)) (ListRule w′ (Obeys masks′ rule′)) (ListKept w w′ (Kept same))
+  list-widens =
+      record {
+        masks-same = refl;
+        at-same = λ okay b b′ off len h s i q t.
+            let e = offsets-same w w′ (b .offsets) (b′ .offsets) (b′ .child .len) off len (h .same-offsets) i q in
+            rw (← e .0, ← e .1)
+            (ap (λ r. list (rows r))
+            (seg-same (readWith at (b .child)) (readWith at′ (b′ .child)) (item w (b .offsets) (off + i)) (item w (b .offsets) (suc (off + i)) - item w (b .offsets) (off + i))
+            (λ j y. read-kept u (h .same-child) (s .child-rule) (item w (b .offsets) (off + i) + j) (omega (arith, row-within w (b .offsets) (b .child .len) off len (s .offsets-rule) i q)))));
+        rule-same = λ okay okay′ b b′ off len h o s.
+            record {
+              offsets-rule = offsets-rule w w′ ww (b .offsets) (b′ .offsets) _ _ off len (h .same-offsets) (h .same-child .same-len) (s .offsets-rule);
               child-rule = obeys-kept u (h .same-child) (s .child-rule);
             };
       }

@@ -7,7 +7,7 @@ use Prim.Native.Nat.{ℕ, zero, suc, _+_}
 use lib.IntN.{pos, negsuc}
 use Rattle.number.specs.Number.{encode}
 use Rattle.columnar.specs.Row.{Row, null, whole, single, bytes, list, union, rows}
-use Rattle.columnar.specs.Types.{i8, u8, i16, i32, f32, fixed, string, Ty, tPlain, tView, tListView, tSparse, tDense, tRunEnd, tDictionary}
+use Rattle.columnar.specs.Types.{i8, u8, i16, i32, f32, fixed, string, Ty, tPlain, tView, tListView, tList, tSparse, tDense, tRunEnd, tDictionary}
 use Rattle.columnar.specs.Array.{Array}
 use Rattle.columnar.specs.Reading.{Column}
 
@@ -183,6 +183,51 @@ nested =
           ∷ [];
     }
 
+-- "Variable-size List Layout": [[12, -7, 25], null, [0, -127, 127, 50], []]
+abbrev pub listed : List ℕ → Column (tList 4 (tPlain (fixed i8)))
+listed offsets =
+    array 4 0 (some (0b00001101 ∷ [])) (record { offsets = pack 4 offsets; child = array 7 0 none (12 ∷ 249 ∷ 25 ∷ 0 ∷ 129 ∷ 127 ∷ 50 ∷ []) })
+
+abbrev pub lists : Example
+lists =
+    record {
+      type = tList 4 (tPlain (fixed i8));
+      column = listed (0 ∷ 3 ∷ 3 ∷ 7 ∷ 7 ∷ []);
+      reads = list (rows (int 12 ∷ whole (negsuc 6) ∷ int 25 ∷ [])) ∷ null ∷ list (rows (int 0 ∷ whole (negsuc 126) ∷ int 127 ∷ int 50 ∷ [])) ∷ list (rows []) ∷ [];
+    }
+
+-- a null row may have rows of the child: they are not read
+abbrev pub lists-slice : Example
+lists-slice =
+    record {
+      type = tList 4 (tPlain (fixed i8));
+      column = slice 1 2 (listed (0 ∷ 1 ∷ 3 ∷ 5 ∷ 7 ∷ []));
+      reads = null ∷ list (rows (int 0 ∷ whole (negsuc 126) ∷ [])) ∷ [];
+    }
+
+-- its lists of lists, the second level large: [[[1, 2], [3, 4]], [[5, 6, 7], null, [8]], [[9, 10]]]
+abbrev pub lists-of-lists : Example
+lists-of-lists =
+    record {
+      type = tList 4 (tList 8 (tPlain (fixed i8)));
+      column =
+          array 3 0 none
+          (record {
+            offsets = pack 4 (0 ∷ 2 ∷ 5 ∷ 6 ∷ []);
+            child =
+                array 6 0 (some (0b00110111 ∷ []))
+                (record {
+                  offsets = pack 8 (0 ∷ 2 ∷ 4 ∷ 7 ∷ 7 ∷ 8 ∷ 10 ∷ []);
+                  child = array 10 0 none (1 ∷ 2 ∷ 3 ∷ 4 ∷ 5 ∷ 6 ∷ 7 ∷ 8 ∷ 9 ∷ 10 ∷ []);
+                });
+          });
+      reads = nested .reads;
+    }
+
+-- no rows, and no offsets
+abbrev pub no-lists : Example
+no-lists = record { type = tList 8 (tPlain (fixed u8)); column = array 0 0 none (record { offsets = []; child = array 1 0 none (7 ∷ []) }); reads = [] }
+
 -- "Dense Union": f: Float32, i: Int32; [{f=1.2}, null, {f=3.4}, {i=5}]
 abbrev pub f-or-i : ℕ → Ty
 f-or-i zero = tPlain (fixed f32)
@@ -346,7 +391,7 @@ drivers =
 
 abbrev pub examples : List Example
 examples =
-    bitmap ∷ primitive ∷ no-nulls ∷ strings ∷ strings-slice ∷ no-strings ∷ view ∷ view-slice ∷ list-view ∷ out-of-order ∷ nested ∷ dense ∷ dense-slice ∷ sparse ∷ sparse-slice
+    bitmap ∷ primitive ∷ no-nulls ∷ strings ∷ strings-slice ∷ no-strings ∷ view ∷ view-slice ∷ list-view ∷ out-of-order ∷ nested ∷ lists ∷ lists-slice ∷ lists-of-lists ∷ no-lists ∷ dense ∷ dense-slice ∷ sparse ∷ sparse-slice
     ∷ run-end
     ∷ run-end-slice
     ∷ run-end-offsets
@@ -372,6 +417,8 @@ broken =
     ∷ record { type = tView; column = views mark }  -- a long view's prefix
     ∷ record { type = tListView 4 (tPlain (fixed i8)); column = shuffled 1 }  -- a null row's entry within the child
     ∷ record { type = tListView 4 (tPlain (fixed i8)); column = shuffled 0xffffffff }  -- no negative size
+    ∷ record { type = tList 4 (tPlain (fixed i8)); column = listed (0 ∷ 3 ∷ 3 ∷ 7 ∷ 8 ∷ []) }  -- the last offset within the child's rows
+    ∷ record { type = tList 4 (tPlain (fixed i8)); column = listed (0 ∷ 3 ∷ 2 ∷ 7 ∷ 7 ∷ []) }  -- a null row's offset not falling
     ∷ record { type = dense-type; column = dense-column (0 ∷ 1 ∷ 3 ∷ 0 ∷ []) }  -- a position within the child
     ∷ record { type = dense-type; column = array 4 0 (some (255 ∷ [])) (dense-column (0 ∷ 1 ∷ 2 ∷ 0 ∷ []) .body) }  -- no validity on a union
     ∷ record { type = sparse-type; column = sparse-column (some (255 ∷ [])) sparse-children }  -- no validity on a union

@@ -3,10 +3,10 @@ use mathlib.Core.Path.{_≡_}
 use mathlib.Core.List.{List, [], _∷_, List·Memᴰ}
 use Prim.Native.Nat.{ℕ, _<_}
 use lib.Dec.{T}
-use Rattle.columnar.specs.Types.{Plain, fixed, string, Ty, tPlain, tView, tListView, tSparse, tDense, tRunEnd, tDictionary}
+use Rattle.columnar.specs.Types.{Plain, fixed, string, Ty, tPlain, tView, tListView, tList, tSparse, tDense, tRunEnd, tDictionary}
 use Rattle.columnar.specs.Wider.{integer}
 
--- offsets and sizes: four bytes (z u +vl) or eight (Z U +vL)
+-- offsets and sizes: four bytes (z u +vl +l) or eight (Z U +vL +L)
 pub data OffsetWidth : ℕ → Type 0 where
   four : OffsetWidth 4
   eight : OffsetWidth 8
@@ -30,6 +30,7 @@ abbrev pub Formed : Ty → Type 0
 Formed (tPlain p) = FormedPlain p
 Formed tView = Unit {0}
 Formed (tListView w t) = OffsetWidth w × Formed t
+Formed (tList w t) = OffsetWidth w × Formed t
 Formed (tSparse ids nullable f) = Ids ids × ((c : ℕ) → List·Memᴰ c ids → Formed (f c))
 Formed (tDense ids nullable f) = Ids ids × ((c : ℕ) → List·Memᴰ c ids → Formed (f c))
 Formed (tRunEnd w t) = RunWidth w × Formed t

@@ -7,6 +7,7 @@ pub mod Entries
 pub mod Plain
 pub mod View
 pub mod ListView
+pub mod List
 pub mod Union
 pub mod RunEnd
 pub mod Dictionary

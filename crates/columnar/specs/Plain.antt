@@ -45,18 +45,24 @@ abbrev pub stored : (p : Plain) → PlainBody p → ℕ → List ℕ
 stored (fixed n) b i = take (width n) (drop (i * width n) b)
 stored (string w) b i = span w b i
 
--- "byte-string offsets: first not negative, never falling, last within the data". With signed offsets, never falling from one that is
--- not negative means that none is negative.
-pub record Offsets (w : ℕ) (b : Text) (off len : ℕ) : Type 0 where
-  pub hold : (off + len + 1) * w ≤ length (b .offsets)
-  pub positive : (i : ℕ) → i ≤ len → item w (b .offsets) (off + i) < half w
-  pub rises : (i : ℕ) → i < len → item w (b .offsets) (off + i) ≤ item w (b .offsets) (off + i + 1)
-  pub within : item w (b .offsets) (off + len) ≤ length (b .chars)
+-- "byte-string offsets: first not negative, never falling, last within the data", which has `most` bytes; for a list (02, W4) "child rows
+-- in place of bytes". With signed offsets, never falling from one that is not negative means that none is negative.
+pub record OffsetsTo (w : ℕ) (s : List ℕ) (most off len : ℕ) : Type 0 where
+  pub hold : (off + len + 1) * w ≤ length s
+  pub positive : (i : ℕ) → i ≤ len → item w s (off + i) < half w
+  pub rises : (i : ℕ) → i < len → item w s (off + i) ≤ item w s (off + i + 1)
+  pub within : item w s (off + len) ≤ most
 
 -- "a byte string of length 0 may have an empty offsets buffer"
-pub data StringRule (w : ℕ) (b : Text) (off len : ℕ) : Type 0 where
-  empty : len ≡ 0 → b .offsets ≡ [] → StringRule w b off len
-  full : Offsets w b off len → StringRule w b off len
+pub data OffsetsRule (w : ℕ) (s : List ℕ) (most off len : ℕ) : Type 0 where
+  empty : len ≡ 0 → s ≡ [] → OffsetsRule w s most off len
+  full : OffsetsTo w s most off len → OffsetsRule w s most off len
+
+abbrev pub Offsets : ℕ → Text → ℕ → ℕ → Type 0
+Offsets w b off len = OffsetsTo w (b .offsets) (length (b .chars)) off len
+
+abbrev pub StringRule : ℕ → Text → ℕ → ℕ → Type 0
+StringRule w b off len = OffsetsRule w (b .offsets) (length (b .chars)) off len
 
 -- "every buffer .. with an entry per row hold[s] offset + length"
 abbrev pub PlainRule : (p : Plain) → (ℕ → Bool) → PlainBody p → ℕ → ℕ → Type 0

@@ -6,11 +6,12 @@ use mathlib.Core.List.{List, [], _∷_}
 use Prim.Native.Nat.{ℕ, zero, suc, _+_, _*_}
 use lib.ListN.{length, take, drop, getD}
 use lib.Dec.{leb, ltb, eqb}
-use Rattle.columnar.specs.Types.{Number, width, half, limit, Plain, fixed, string, Ty, tPlain, tView, tListView, tSparse, tDense, tRunEnd, tDictionary}
+use Rattle.columnar.specs.Types.{Number, width, half, limit, Plain, fixed, string, Ty, tPlain, tView, tListView, tList, tSparse, tDense, tRunEnd, tDictionary}
 use Rattle.columnar.specs.Array.{Array, item, ok}
 use Rattle.columnar.specs.Plain.{Text, PlainBody}
 use Rattle.columnar.specs.View.{Views, viewOf, lengthOf, bufferOf, offsetOf}
 use Rattle.columnar.specs.ListView.{ListView}
+use Rattle.columnar.specs.List.{Listed}
 use Rattle.columnar.specs.Union.{Sparse, Dense}
 use Rattle.columnar.specs.RunEnd.{RunEnd, endOf, startOf}
 use Rattle.columnar.specs.Dictionary.{Dictionary}
@@ -52,18 +53,24 @@ maskTest false (some m) n = false
 abbrev pub arrayTest : {B : Type 0} → Bool → ((ℕ → Bool) → B → ℕ → ℕ → Bool) → Array B → Bool
 arrayTest may slots x = maskTest may (x .valid) (x .off + x .len) && slots (ok (x .valid)) (x .body) (x .off) (x .len)
 
--- "byte-string offsets: first not negative, never falling, last within the data"
+-- "byte-string offsets: first not negative, never falling, last within the data", which has `most` bytes
+abbrev pub offsetsTo : ℕ → List ℕ → ℕ → ℕ → ℕ → Bool
+offsetsTo w s most off len =
+    leb ((off + len + 1) * w) (length s)
+    && every (λ i. ltb (item w s (off + i)) (half w)) (suc len)
+    && every (λ i. leb (item w s (off + i)) (item w s (off + i + 1))) len
+    && leb (item w s (off + len)) most
+
 abbrev pub offsetsTest : ℕ → Text → ℕ → ℕ → Bool
-offsetsTest w b off len =
-    leb ((off + len + 1) * w) (length (b .offsets))
-    && every (λ i. ltb (item w (b .offsets) (off + i)) (half w)) (suc len)
-    && every (λ i. leb (item w (b .offsets) (off + i)) (item w (b .offsets) (off + i + 1))) len
-    && leb (item w (b .offsets) (off + len)) (length (b .chars))
+offsetsTest w b off len = offsetsTo w (b .offsets) (length (b .chars)) off len
 
 -- "a byte string of length 0 may have an empty offsets buffer"
+abbrev pub offsetsRule : ℕ → List ℕ → ℕ → ℕ → ℕ → Bool
+offsetsRule w s most off len = eqb len 0 && same s [] || offsetsTo w s most off len
+
 abbrev pub plainTest : (p : Plain) → (ℕ → Bool) → PlainBody p → ℕ → ℕ → Bool
 plainTest (fixed n) ok b off len = leb ((off + len) * width n) (length b)
-plainTest (string w) ok b off len = eqb len 0 && same (b .offsets) [] || offsetsTest w b off len
+plainTest (string w) ok b off len = offsetsRule w (b .offsets) (length (b .chars)) off len
 
 -- "above 12, a known buffer, a range inside it, and a prefix equal to its first four bytes"
 abbrev pub liesTest : List (List ℕ) → List ℕ → Bool
@@ -93,6 +100,10 @@ listViewTest w kid ok b off len =
     && leb ((off + len) * w) (length (b .sizes))
     && every (λ i. entryTest w b (off + i)) len
     && kid (b .child)
+
+-- "offsets follow the byte-string rule, with child rows in place of bytes"
+abbrev pub listTest : {P : Type 0} → ℕ → (Array P → Bool) → (ℕ → Bool) → Listed P → ℕ → ℕ → Bool
+listTest w kid ok b off len = offsetsRule w (b .offsets) (b .child .len) off len && kid (b .child)
 
 -- "union ids declared; sparse children at least offset + length long"
 abbrev pub sparseTest : {P : ℕ → Type 0} → List ℕ → ((c : ℕ) → Array (P c) → Bool) → (ℕ → Bool) → Sparse P → ℕ → ℕ → Bool
@@ -142,6 +153,7 @@ abbrev pub slotTest : (t : Ty) → (ℕ → Bool) → Body t → ℕ → ℕ →
 slotTest (tPlain p) = plainTest p
 slotTest tView = viewTest
 slotTest (tListView w t) = listViewTest w (arrayTest (masks t) (slotTest t))
+slotTest (tList w t) = listTest w (arrayTest (masks t) (slotTest t))
 slotTest (tSparse ids nullable f) = sparseTest ids (λ c. arrayTest (masks (f c)) (slotTest (f c)))
 slotTest (tDense ids nullable f) = denseTest ids (λ c. arrayTest (masks (f c)) (slotTest (f c)))
 slotTest (tRunEnd w t) = runEndTest w (arrayTest (masks t) (slotTest t))

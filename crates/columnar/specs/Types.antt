@@ -56,6 +56,7 @@ pub data Ty : Type 0 where
   tPlain : Plain → Ty
   tView : Ty  -- vz vu
   tListView : ℕ → Ty → Ty  -- +vl +vL, by the bytes of an offset
+  tList : ℕ → Ty → Ty  -- +l +L, by the bytes of an offset
   tSparse : List ℕ → (ℕ → Bool) → (ℕ → Ty) → Ty  -- +us:
   tDense : List ℕ → (ℕ → Bool) → (ℕ → Ty) → Ty  -- +ud:
   tRunEnd : ℕ → Ty → Ty  -- +r, by the bytes of a run end

@@ -8,11 +8,12 @@ use mathlib.Core.List.{List, []}
 use Prim.Native.Nat.{ℕ, _+_, _*_, _≤_, _<_}
 use lib.ListN.{length, getD}
 use lib.Dec.{T}
-use Rattle.columnar.specs.Types.{Number, i8, u8, i16, u16, i32, u32, i64, u64, f32, f64, width, limit, Plain, fixed, string, Ty, tPlain, tView, tListView, tSparse, tDense, tRunEnd, tDictionary}
+use Rattle.columnar.specs.Types.{Number, i8, u8, i16, u16, i32, u32, i64, u64, f32, f64, width, limit, Plain, fixed, string, Ty, tPlain, tView, tListView, tList, tSparse, tDense, tRunEnd, tDictionary}
 use Rattle.columnar.specs.Array.{Array, item, bit, ok}
-use Rattle.columnar.specs.Plain.{Text, PlainBody, stored, StringRule}
+use Rattle.columnar.specs.Plain.{Text, PlainBody, stored, OffsetsRule}
 use Rattle.columnar.specs.View.{Views, viewOf}
 use Rattle.columnar.specs.ListView.{ListView}
+use Rattle.columnar.specs.List.{Listed}
 use Rattle.columnar.specs.Union.{Sparse, Dense}
 use Rattle.columnar.specs.RunEnd.{RunEnd}
 use Rattle.columnar.specs.Dictionary.{Dictionary}
@@ -54,6 +55,7 @@ pub data Wider : Ty → Ty → Type 0 where
   wPlain : {p p′ : Plain} → PlainWider p p′ → Wider (tPlain p) (tPlain p′)
   wView : Wider tView tView
   wListView : (w w′ : ℕ) {t t′ : Ty} → w ≤ w′ → Wider t t′ → Wider (tListView w t) (tListView w′ t′)
+  wList : (w w′ : ℕ) {t t′ : Ty} → w ≤ w′ → Wider t t′ → Wider (tList w t) (tList w′ t′)
   wSparse : (ids : List ℕ) {nullable nullable′ : ℕ → Bool} {f f′ : ℕ → Ty} → ((c : ℕ) → Declared ids c → nullable c ≡ nullable′ c)
       → ((c : ℕ) → Declared ids c → Wider (f c) (f′ c)) → Wider (tSparse ids nullable f) (tSparse ids nullable′ f′)
   wDense : (ids : List ℕ) {nullable nullable′ : ℕ → Bool} {f f′ : ℕ → Ty} → ((c : ℕ) → Declared ids c → nullable c ≡ nullable′ c)
@@ -94,14 +96,14 @@ pub record FixedKept (n : Number) (ok : ℕ → Bool) (b b′ : List ℕ) (off l
   pub hold : (off + len) * width n ≤ length b′
   pub kept : (i : ℕ) → i < len → stored (fixed n) b (off + i) ≡ stored (fixed n) b′ (off + i)
 
--- The offsets of a byte string are one more than its rows. Where one of length 0 has an empty offsets buffer there is no entry to
--- keep: the wide one is then empty, or has any that its rule allows.
-pub data OffsetsKept (w w′ : ℕ) (b b′ : Text) (off len : ℕ) : Type 0 where
-  entries : 0 < length (b .offsets) → Entries w w′ (b .offsets) (b′ .offsets) off (len + 1) → OffsetsKept w w′ b b′ off len
-  no-entry : len ≡ 0 → b .offsets ≡ [] → StringRule w′ b′ off len → OffsetsKept w w′ b b′ off len
+-- The offsets of a byte string or list are one more than its rows. Where one of length 0 has an empty offsets buffer there is no entry
+-- to keep: the wide one is then empty, or has any that its rule allows.
+pub data OffsetsKept (w w′ : ℕ) (s s′ : List ℕ) (most off len : ℕ) : Type 0 where
+  entries : 0 < length s → Entries w w′ s s′ off (len + 1) → OffsetsKept w w′ s s′ most off len
+  no-entry : len ≡ 0 → s ≡ [] → OffsetsRule w′ s′ most off len → OffsetsKept w w′ s s′ most off len
 
 pub record TextKept (w w′ : ℕ) (ok : ℕ → Bool) (b b′ : Text) (off len : ℕ) : Type 0 where
-  pub same-offsets : OffsetsKept w w′ b b′ off len
+  pub same-offsets : OffsetsKept w w′ (b .offsets) (b′ .offsets) (length (b′ .chars)) off len
   pub same-chars : b .chars ≡ b′ .chars
 
 abbrev pub PlainKept : {p p′ : Plain} → PlainWider p p′ → (ℕ → Bool) → PlainBody p → PlainBody p′ → ℕ → ℕ → Type 0
@@ -117,6 +119,10 @@ pub record ViewsKept (ok : ℕ → Bool) (b b′ : Views) (off len : ℕ) : Type
 pub record ListViewKept (w w′ : ℕ) {P P′ : Type 0} (kid : Array P → Array P′ → Type 0) (ok : ℕ → Bool) (b : ListView P) (b′ : ListView P′) (off len : ℕ) : Type 0 where
   pub same-offsets : Entries w w′ (b .offsets) (b′ .offsets) off len
   pub same-sizes : Entries w w′ (b .sizes) (b′ .sizes) off len
+  pub same-child : kid (b .child) (b′ .child)
+
+pub record ListKept (w w′ : ℕ) {P P′ : Type 0} (kid : Array P → Array P′ → Type 0) (ok : ℕ → Bool) (b : Listed P) (b′ : Listed P′) (off len : ℕ) : Type 0 where
+  pub same-offsets : OffsetsKept w w′ (b .offsets) (b′ .offsets) (b′ .child .len) off len
   pub same-child : kid (b .child) (b′ .child)
 
 -- type ids: a byte for each row
@@ -150,6 +156,7 @@ abbrev pub Same : {t t′ : Ty} → Wider t t′ → (ℕ → Bool) → Body t �
 Same (wPlain d) = PlainKept d
 Same wView = ViewsKept
 Same (wListView w w′ h d) = ListViewKept w w′ (Kept (Same d))
+Same (wList w w′ h d) = ListKept w w′ (Kept (Same d))
 Same (wSparse ids e d) = SparseKept (Declared ids) (λ c m. Kept (Same (d c m)))
 Same (wDense ids e d) = DenseKept (Declared ids) (λ c m. Kept (Same (d c m)))
 Same (wRunEnd w w′ h d) = RunEndKept w w′ (Kept (Same d))
@@ -172,6 +179,7 @@ abbrev pub SharedAlike : {t t′ : Ty} → Wider t t′ → ℕ → (ℕ → Col
 SharedAlike (wPlain d) n ss ss′ = Unit {0}
 SharedAlike wView n ss ss′ = Unit {0}
 SharedAlike (wListView w w′ h d) n ss ss′ = SharedAlike d n (λ i. ss i .body .child) (λ i. ss′ i .body .child)
+SharedAlike (wList w w′ h d) n ss ss′ = SharedAlike d n (λ i. ss i .body .child) (λ i. ss′ i .body .child)
 SharedAlike (wSparse ids e d) n ss ss′ =
     (c : ℕ) (m : Declared ids c) → SharedAlike (d c m) n (λ i. ss i .body .children c) (λ i. ss′ i .body .children c)
 SharedAlike (wDense ids e d) n ss ss′ =

@@ -7,7 +7,7 @@ use Prim.Native.Nat.{ℕ, _+_, _<_}
 use native.Mathlib.Omega.{arith}
 use lib.Dec.{leb, eqb}
 use borrow.Author.Tests.{leb-true, eq-eqb, ne-eqb}
-use Rattle.formats.specs.Code.{same, between, isFixed, isString, isView, isUnion}
+use Rattle.formats.specs.Code.{same, between, isFixed, isString, isView, isListView, isList, isUnion}
 use Rattle.format_ids.specs.Ids.{sameIds}
 use Rattle.schema.specs.Tree.{every, field, flag, children, dictionary, childForEach, isValues, codeOf, idsOf, shape, unionShape, typed, sameFlag, sameFormats, sameNode, sameType}
 use Rattle.schema.proofs.Laws.{every-all}
@@ -45,9 +45,9 @@ module _ (formats schema : List ℕ) (first : ℕ) where
       by-shape formats schema first i s
       (λ h. either (isFixed c || isString c) (isView c) h (λ g. either (isFixed c) (isString c) g (some-code 1 10 c (omega arith)) (some-code 11 14 c (omega arith))) (some-code 15 16 c (omega arith)))
       (some-code 1 8 c (omega arith))
-      (some-code 17 18 c (omega arith))
-      (λ h. some-code 19 20 c (omega arith) (both (isUnion c) _ (both (isUnion c && childForEach schema first (idsOf formats schema first i) i) _ h .0) .0))
-      (some-code 21 21 c (omega arith))
+      (λ h. either (isListView c) (isList c) h (some-code 17 18 c (omega arith)) (some-code 19 20 c (omega arith)))
+      (λ h. some-code 21 22 c (omega arith) (both (isUnion c) _ (both (isUnion c && childForEach schema first (idsOf formats schema first i) i) _ h .0) .0))
+      (some-code 23 23 c (omega arith))
 
   format-self : (i : ℕ) → shape formats schema first i ≡ true → sameFormats formats schema first first i ≡ true
   unfolding sameFormats codeOf idsOf

@@ -1,17 +1,17 @@
 -- The walk of a copy at a node, by the ways that the code goes. Assumes nothing.
 use mathlib.Core.Path.{_≡_, refl, sym, ap, subst, _∙_}
-use mathlib.Core.Bool.{Bool, true, false, not, cond, _&&_}
+use mathlib.Core.Bool.{Bool, true, false, not, cond, _&&_, _||_}
 use mathlib.Core.List.{List}
 use Prim.Native.Nat.{ℕ, zero, suc, _+_, _*_, _-_, _≤_, _<_}
 use native.Mathlib.Nat.{mul-one, one-mul, mul-le-mul-left}
 use native.Mathlib.Numerals.{sub-one}
 use native.Mathlib.Omega.{arith}
 use lib.ListN.{length}
-use lib.Dec.{ltb, leb}
-use borrow.Author.Tests.{lt-ltb, le-ltb, le-leb, ltb-true, leb-true, leb-false, ne-eqb}
+use lib.Dec.{ltb}
+use borrow.Author.Tests.{lt-ltb, le-ltb, le-leb, ltb-true, leb-false, ne-eqb}
 use Rattle.number.specs.Number.{entry}
 use Rattle.columnar.specs.Types.{half}
-use Rattle.formats.specs.Code.{isListView}
+use Rattle.formats.specs.Code.{isListView, isList}
 use Rattle.run_ends.specs.Lookup.{bisect}
 use Rattle.run_ends.specs.declared.Runs.{Runs}
 use Rattle.run_ends.specs.declared.Runs.the-variants.{Range, None}
@@ -24,12 +24,11 @@ use Rattle.walk.specs.Leaves.{copyMask, copyNumbers}
 use Rattle.walk.specs.Copy.{Walk, isWidth, masked, childWith, listViewRow, copyListView, copyFields, copySparse, idAt, denseRow, copyDense, endsAt, putRuns, runsAt, copyRuns, copyData, copySlots, copyNode, copyWalk}
 use Rattle.walk.proofs.Laws.{fail-did, done-did, need-no, need-ok, found-no, found-ok, next-no, next-ok, next-need}
 use Rattle.leaf_walk.proofs.Laws.{rows-in}
-use Rattle.leaf_walk.proofs.Widths.{list-width}
 use Rattle.rows.specs.Numbers.{listNumbers, denseNumbers, runsReady, runNumbers}
 use Rattle.rows.proofs.Laws.{list-row-is, dense-row-is, ends-ready}
-use Rattle.leaf_data.proofs.Laws.{data-list-view, data-sparse, data-dense, data-runs}
+use Rattle.leaf_data.proofs.Laws.{data-sparse, data-dense, data-runs}
 
-by : {state parts : List ℕ} {wr : Bool} {room : List ℕ} {r : ℕ} {c2 room2 : List ℕ} {o o2 : Out} → o ≡ o2 → Did state parts wr o room r c2 room2 → Did state parts wr o2 room r c2 room2
+pub by : {state parts : List ℕ} {wr : Bool} {room : List ℕ} {r : ℕ} {c2 room2 : List ℕ} {o o2 : Out} → o ≡ o2 → Did state parts wr o room r c2 room2 → Did state parts wr o2 room r c2 room2
 by {state} {parts} {wr} {room} {r} {c2} {room2} e d = subst (λ (o : Out). Did state parts wr o room r c2 room2) e d
 
 -- ---- a node
@@ -78,34 +77,36 @@ module _ (x : Join) (wr : Bool) (depth i a n : ℕ) (c room : List ℕ) where
 
 -- ---- its data by the code
 
-not-list : (code : ℕ) → isListView code ≡ false → 17 ≤ code → 18 < code
-not-list code e h = leb-false code 18 (rw (le-leb 17 code h) at e)
+or-left : (a b : Bool) → a || b ≡ false → a ≡ false
+or-left true b h = h
+or-left false b h = refl
 
--- what is none of list-view, union and run-end node
-pub leaf-code : (state : List ℕ) (i : ℕ) {code : ℕ} {t : Bool} → code ≡ codeOf state i → t ≡ isListView code → t ≡ false → (code ≡ 19 → ⊥) → (code ≡ 20 → ⊥) → (code ≡ 21 → ⊥)
-    → 17 ≤ codeOf state i → 21 < codeOf state i
-leaf-code state i {code} e f g a b d h =
-    let l = not-list code (sym f ∙ g) (omega (arith, e, h)) in
-    let m : 21 < code = omega (arith, l, a, b, d) in
+or-right : (a b : Bool) → a || b ≡ false → b ≡ false
+or-right true b h = absurd (let z : _≡_ {A = ℕ} 0 1 = cc in omega arith)
+or-right false b h = h
+
+-- a code from 17 on that is no list-view's and no list's
+not-listed : (code : ℕ) → isListView code ≡ false → isList code ≡ false → 17 ≤ code → 20 < code
+not-listed code e f h =
+    let l : 18 < code = leb-false code 18 (rw (le-leb 17 code h) at e) in
+    leb-false code 20 (rw (le-leb 19 code (omega (arith, l))) at f)
+
+-- what is none of list-view, list, union and run-end node
+pub leaf-code : (state : List ℕ) (i : ℕ) {code : ℕ} {t u : Bool} → code ≡ codeOf state i → t ≡ isListView code → u ≡ isList code → t || u ≡ false → (code ≡ 21 → ⊥) → (code ≡ 22 → ⊥) → (code ≡ 23 → ⊥)
+    → 17 ≤ codeOf state i → 23 < codeOf state i
+leaf-code state i {code} {t} {u} e f k g a b d h =
+    let l = not-listed code (sym f ∙ or-left t u g) (sym k ∙ or-right t u g) (omega (arith, e, h)) in
+    let m : 23 < code = omega (arith, l, a, b, d) in
     omega (arith, m, e)
 
-pub list-wide : (state : List ℕ) (i : ℕ) {code w : ℕ} {t : Bool} → code ≡ codeOf state i → t ≡ isListView code → t ≡ true → w ≡ bytesOf state i → (w ≡ 4 → ⊥) → w ≡ 8
-list-wide state i {code} e f g h k = h ∙ list-width (codeOf state i) (rw e at (sym f ∙ g)) (λ z. k (h ∙ z))
-
 module _ (x : Join) (child : Walk) (wr : Bool) (i slot n : ℕ) (c room : List ℕ) {code : ℕ} (e : code ≡ codeOf (x .state) i) {r : ℕ} {c2 room2 : List ℕ} where
-  pub to-list-view : {t : Bool} {w : ℕ} → t ≡ isListView code → t ≡ true → w ≡ bytesOf (x .state) i → Did (x .state) (x .parts) wr (copyListView x child w i slot n c) room r c2 room2
-      → Did (x .state) (x .parts) wr (copyData x child (codeOf (x .state) i) i slot n c) room r c2 room2
-  to-list-view f g h d =
-      let l = sym f ∙ g in
-      by (data-list-view x child (codeOf (x .state) i) i slot n c (rw e at (leb-true 17 code (and-left (leb 17 code) _ l))) (rw e at (leb-true code 18 (and-right (leb 17 code) _ l)))) (rw h at d)
-
-  pub to-sparse : code ≡ 19 → Did (x .state) (x .parts) wr (copySparse x child i slot n c) room r c2 room2 → Did (x .state) (x .parts) wr (copyData x child (codeOf (x .state) i) i slot n c) room r c2 room2
+  pub to-sparse : code ≡ 21 → Did (x .state) (x .parts) wr (copySparse x child i slot n c) room r c2 room2 → Did (x .state) (x .parts) wr (copyData x child (codeOf (x .state) i) i slot n c) room r c2 room2
   to-sparse f d = by (data-sparse x child (codeOf (x .state) i) i slot n c (sym e ∙ f)) d
 
-  pub to-dense : code ≡ 20 → Did (x .state) (x .parts) wr (copyDense x child i slot n c) room r c2 room2 → Did (x .state) (x .parts) wr (copyData x child (codeOf (x .state) i) i slot n c) room r c2 room2
+  pub to-dense : code ≡ 22 → Did (x .state) (x .parts) wr (copyDense x child i slot n c) room r c2 room2 → Did (x .state) (x .parts) wr (copyData x child (codeOf (x .state) i) i slot n c) room r c2 room2
   to-dense f d = by (data-dense x child (codeOf (x .state) i) i slot n c (sym e ∙ f)) d
 
-  pub to-runs : code ≡ 21 → Did (x .state) (x .parts) wr (copyRuns x child i slot n c) room r c2 room2 → Did (x .state) (x .parts) wr (copyData x child (codeOf (x .state) i) i slot n c) room r c2 room2
+  pub to-runs : code ≡ 23 → Did (x .state) (x .parts) wr (copyRuns x child i slot n c) room r c2 room2 → Did (x .state) (x .parts) wr (copyData x child (codeOf (x .state) i) i slot n c) room r c2 room2
   to-runs f d = by (data-runs x child (codeOf (x .state) i) i slot n c (sym e ∙ f)) d
 
 -- ---- rows of two buffers, and one of them

@@ -1,2 +1,3 @@
 -- What the cycle of a copy goes by.
 pub mod Laws
+pub mod Listed

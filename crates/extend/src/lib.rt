@@ -1,117 +1,34 @@
 // The walk of a copy: a node hands rows to its children, whose walk does the same one level down, so that the remaining depth falls.
 // The answer is 0 or the ground of refusal; a walk that only tries changes the counters alone.
-// Follows arrow-data 60.1.0 src/transform/mod.rs, list_view.rs, union.rs and run.rs, Apache-2.0; see NOTICE.
+// Follows arrow-data 60.1.0 src/transform/mod.rs and union.rs, Apache-2.0; see NOTICE.
 ghost use mathlib.Core.Path.{_≡_};
 ghost use mathlib.Core.List.{[]};
 ghost use Prim.Native.Nat.{_+_, _*_, _<_, _≤_, _^_};
 ghost use lib.ListN.{length};
 ghost use Rattle.walk.specs.State.{codeOf, place};
 ghost use Rattle.walk.specs.Log.{Did};
-ghost use Rattle.walk.specs.Copy.{listViewRow, copyListView, copySparse, denseRow, copyDense, copyRuns, copyData, copyWalk};
+ghost use Rattle.walk.specs.Copy.{copySparse, denseRow, copyDense, copyData, copyWalk};
 ghost use Rattle.leaf_walk.specs.Join.{join};
-use run_ends::LogicalRow;
-use run_ends::Runs;
 
-// Row r of a list-view: its offset is the child's length before its copy.
-fn extend_list_row(
-    state: &[u64],
-    parts: &[u32],
-    lengths: &[u64],
-    places: &[u32],
-    body: &[u8],
-    counts: &mut [u64; 96],
-    room: &mut [u8],
-    write: bool,
-    source: usize,
-    first: usize,
-    i: usize,
-    w: u64,
-    slot: u64,
-    r: u64,
-    depth: u32,
-) -> u8
-    requires { ⌜ (first < 2 ^ 32) × (source < 2 ^ 32) × (i + 1 < 32) × (slot + r + 1 < 2 ^ 63) ⌝ }
-    requires { ⌜ ((w ≡ 4 → ⊥) → w ≡ 8) ⌝ }
-    requires { ⌜ (place (join [] [] (now lengths) (now places) (now body) first 0) i 3 + w * (slot + r + 1) ≤ length (now body)) × (place (join [] [] (now lengths) (now places) (now body) first 0) i 5 + w * (slot + r + 1) ≤ length (now body)) ⌝ }
-    ensures { λ g. ⌜ Did (now (state .entry)) (now (parts .entry)) write (listViewRow (join (now (state .entry)) (now (parts .entry)) (now (lengths .entry)) (now (places .entry)) (now (body .entry)) first source) (copyWalk (join (now (state .entry)) (now (parts .entry)) (now (lengths .entry)) (now (places .entry)) (now (body .entry)) first source) depth) w i slot r (now (counts .entry))) (now (room .entry)) g (now (counts .exit)) (now (room .exit)) ⌝ }
+mod lists;
+mod runs;
+
+// The first of a sparse union's ids that is copied: at its slot, in which the array's offset is counted once.
+fn first_id(slot: u64) -> u64
+    requires { ⌜ slot < 2 ^ 63 ⌝ }
+    ensures { λ r. ⌜ r ≡ slot ⌝ }
 {
-    let offset = steps::entry_at(body, lent_tables::place(places, first + i, 3), w, slot + r);
-    let size = steps::entry_at(body, lent_tables::place(places, first + i, 5), w, slot + r);
-    let g = rows::list_numbers(state, parts, counts, room, write, i, w, r, size);
-    if g != 0 {
-        return g;
-    }
-    extend(
-        state,
-        parts,
-        lengths,
-        places,
-        body,
-        counts,
-        room,
-        write,
-        source,
-        first,
-        i + 1,
-        offset,
-        size,
-        depth,
-    )
+    let id = slot;
+    id
 }
 
-// A list-view with offsets of w bytes, row by row.
-fn extend_list_view(
-    state: &[u64],
-    parts: &[u32],
-    lengths: &[u64],
-    places: &[u32],
-    body: &[u8],
-    counts: &mut [u64; 96],
-    room: &mut [u8],
-    write: bool,
-    source: usize,
-    first: usize,
-    i: usize,
-    w: u64,
-    slot: u64,
-    n: u64,
-    depth: u32,
-) -> u8
-    requires { ⌜ (first < 2 ^ 32) × (source < 2 ^ 32) × (i < 32) × (slot + n < 2 ^ 63) ⌝ }
-    requires { ⌜ ((w ≡ 4 → ⊥) → w ≡ 8) ⌝ }
-    ensures { λ g. ⌜ Did (now (state .entry)) (now (parts .entry)) write (copyListView (join (now (state .entry)) (now (parts .entry)) (now (lengths .entry)) (now (places .entry)) (now (body .entry)) first source) (copyWalk (join (now (state .entry)) (now (parts .entry)) (now (lengths .entry)) (now (places .entry)) (now (body .entry)) first source) depth) w i slot n (now (counts .entry))) (now (room .entry)) g (now (counts .exit)) (now (room .exit)) ⌝ }
+// The first row of every child that is copied: at the union's slot likewise.
+fn first_row(slot: u64) -> u64
+    requires { ⌜ slot < 2 ^ 63 ⌝ }
+    ensures { λ r. ⌜ r ≡ slot ⌝ }
 {
-    if 32 <= i + 1 {
-        return 12;
-    }
-    if !rows::pairs_in(places, body, first, i, w, w, slot, n) {
-        return 12;
-    }
-    let mut r: u64 = 0;
-    while r < n {
-        let g = extend_list_row(
-            state,
-            parts,
-            lengths,
-            places,
-            body,
-            counts,
-            room,
-            write,
-            source,
-            first,
-            i,
-            w,
-            slot,
-            r,
-            depth,
-        );
-        if g != 0 {
-            return g;
-        }
-        r += 1;
-    }
-    0
+    let row = slot;
+    row
 }
 
 // A sparse union: its ids, then the same slots of every child.
@@ -134,6 +51,8 @@ fn extend_sparse(
     requires { ⌜ (first < 2 ^ 32) × (source < 2 ^ 32) × (i < 32) × (slot + n < 2 ^ 63) ⌝ }
     ensures { λ g. ⌜ Did (now (state .entry)) (now (parts .entry)) write (copySparse (join (now (state .entry)) (now (parts .entry)) (now (lengths .entry)) (now (places .entry)) (now (body .entry)) first source) (copyWalk (join (now (state .entry)) (now (parts .entry)) (now (lengths .entry)) (now (places .entry)) (now (body .entry)) first source) depth) i slot n (now (counts .entry))) (now (room .entry)) g (now (counts .exit)) (now (room .exit)) ⌝ }
 {
+    let ids = first_id(slot);
+    let row = first_row(slot);
     let g = leaf_walk::copy_numbers(
         state,
         parts,
@@ -145,7 +64,7 @@ fn extend_sparse(
         first,
         i,
         1,
-        slot,
+        ids,
         n,
     );
     if g != 0 {
@@ -170,7 +89,7 @@ fn extend_sparse(
             source,
             first,
             k,
-            slot,
+            row,
             n,
             depth,
         );
@@ -282,80 +201,6 @@ fn extend_dense(
     0
 }
 
-// A run-end node: the values of the runs of the rows, then the runs' ends.
-fn extend_run(
-    state: &[u64],
-    parts: &[u32],
-    lengths: &[u64],
-    places: &[u32],
-    body: &[u8],
-    counts: &mut [u64; 96],
-    room: &mut [u8],
-    write: bool,
-    source: usize,
-    first: usize,
-    i: usize,
-    slot: u64,
-    n: u64,
-    depth: u32,
-) -> u8
-    requires { ⌜ (first < 2 ^ 32) × (source < 2 ^ 32) × (i < 32) × (slot + n < 2 ^ 63) ⌝ }
-    ensures { λ g. ⌜ Did (now (state .entry)) (now (parts .entry)) write (copyRuns (join (now (state .entry)) (now (parts .entry)) (now (lengths .entry)) (now (places .entry)) (now (body .entry)) first source) (copyWalk (join (now (state .entry)) (now (parts .entry)) (now (lengths .entry)) (now (places .entry)) (now (body .entry)) first source) depth) i slot n (now (counts .entry))) (now (room .entry)) g (now (counts .exit)) (now (room .exit)) ⌝ }
-{
-    if n == 0 {
-        return 0;
-    }
-    let g = rows::runs_ready(state, lengths, places, body, counts, first, i, n);
-    if g != 0 {
-        return g;
-    }
-    let w = steps::width_at(state, i + 1);
-    let last = growth::rows_of(counts, i);
-    let start = LogicalRow(slot);
-    match rows::runs_at(lengths, places, body, first, i, w, start, n) {
-        Runs::Range { first: run, count } => {
-            let g = extend(
-                state,
-                parts,
-                lengths,
-                places,
-                body,
-                counts,
-                room,
-                write,
-                source,
-                first,
-                i + 2,
-                run.0 as u64,
-                count as u64,
-                depth,
-            );
-            if g != 0 {
-                return g;
-            }
-            rows::run_numbers(
-                state,
-                parts,
-                lengths,
-                places,
-                body,
-                counts,
-                room,
-                write,
-                first,
-                i,
-                w,
-                start,
-                n,
-                last,
-                run,
-                count,
-            )
-        }
-        Runs::None => 12,
-    }
-}
-
 // The data of a node by its format's code.
 fn extend_data(
     state: &[u64],
@@ -377,9 +222,8 @@ fn extend_data(
     ensures { λ g. ⌜ Did (now (state .entry)) (now (parts .entry)) write (copyData (join (now (state .entry)) (now (parts .entry)) (now (lengths .entry)) (now (places .entry)) (now (body .entry)) first source) (copyWalk (join (now (state .entry)) (now (parts .entry)) (now (lengths .entry)) (now (places .entry)) (now (body .entry)) first source) depth) (codeOf (now (state .entry)) i) i slot n (now (counts .entry))) (now (room .entry)) g (now (counts .exit)) (now (room .exit)) ⌝ }
 {
     let code = growth::code_of(state, i);
-    if formats::is_list_view(code) {
-        let w = steps::width_at(state, i);
-        return extend_list_view(
+    if formats::is_list_view(code) | formats::is_list(code) {
+        return lists::extend_listed(
             state,
             parts,
             lengths,
@@ -391,13 +235,12 @@ fn extend_data(
             source,
             first,
             i,
-            w,
             slot,
             n,
             depth,
         );
     }
-    if code == 19 {
+    if code == leaf_data::SPARSE {
         return extend_sparse(
             state,
             parts,
@@ -415,7 +258,7 @@ fn extend_data(
             depth,
         );
     }
-    if code == 20 {
+    if code == leaf_data::DENSE {
         return extend_dense(
             state,
             parts,
@@ -433,8 +276,8 @@ fn extend_data(
             depth,
         );
     }
-    if code == 21 {
-        return extend_run(
+    if code == leaf_data::RUN_END {
+        return runs::extend_run(
             state,
             parts,
             lengths,

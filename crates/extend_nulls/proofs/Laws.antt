@@ -64,19 +64,19 @@ module _ (x : Join) (wr : Bool) (depth i n : ℕ) (c room : List ℕ) where
 
 -- ---- its data by the code
 
-pub leaf-code : (state : List ℕ) (i : ℕ) {code : ℕ} → code ≡ codeOf state i → (code ≡ 19 → ⊥) → (code ≡ 20 → ⊥) → (code ≡ 21 → ⊥) → 19 ≤ codeOf state i → 21 < codeOf state i
+pub leaf-code : (state : List ℕ) (i : ℕ) {code : ℕ} → code ≡ codeOf state i → (code ≡ 21 → ⊥) → (code ≡ 22 → ⊥) → (code ≡ 23 → ⊥) → 21 ≤ codeOf state i → 23 < codeOf state i
 leaf-code state i {code} e a b d h =
-    let m : 21 < code = omega (arith, e, h, a, b, d) in
+    let m : 23 < code = omega (arith, e, h, a, b, d) in
     omega (arith, m, e)
 
 module _ (x : Join) (child : NullWalk) (wr : Bool) (i n : ℕ) (c room : List ℕ) {code : ℕ} (e : code ≡ codeOf (x .state) i) {r : ℕ} {c2 room2 : List ℕ} where
-  pub to-sparse : code ≡ 19 → Did (x .state) (x .parts) wr (nullSparse x child i n c) room r c2 room2 → Did (x .state) (x .parts) wr (nullData x child (codeOf (x .state) i) i n c) room r c2 room2
+  pub to-sparse : code ≡ 21 → Did (x .state) (x .parts) wr (nullSparse x child i n c) room r c2 room2 → Did (x .state) (x .parts) wr (nullData x child (codeOf (x .state) i) i n c) room r c2 room2
   to-sparse f d = by (null-sparse x child (codeOf (x .state) i) i n c (sym e ∙ f)) d
 
-  pub to-dense : code ≡ 20 → Did (x .state) (x .parts) wr (nullDense x child i n c) room r c2 room2 → Did (x .state) (x .parts) wr (nullData x child (codeOf (x .state) i) i n c) room r c2 room2
+  pub to-dense : code ≡ 22 → Did (x .state) (x .parts) wr (nullDense x child i n c) room r c2 room2 → Did (x .state) (x .parts) wr (nullData x child (codeOf (x .state) i) i n c) room r c2 room2
   to-dense f d = by (null-dense x child (codeOf (x .state) i) i n c (sym e ∙ f)) d
 
-  pub to-runs : code ≡ 21 → Did (x .state) (x .parts) wr (nullRuns x child i n c) room r c2 room2 → Did (x .state) (x .parts) wr (nullData x child (codeOf (x .state) i) i n c) room r c2 room2
+  pub to-runs : code ≡ 23 → Did (x .state) (x .parts) wr (nullRuns x child i n c) room r c2 room2 → Did (x .state) (x .parts) wr (nullData x child (codeOf (x .state) i) i n c) room r c2 room2
   to-runs f d = by (null-runs x child (codeOf (x .state) i) i n c (sym e ∙ f)) d
 
 -- ---- unions

@@ -111,13 +111,13 @@ fn extend_nulls_data(
     ensures { λ g. ⌜ Did (now (state .entry)) (now (parts .entry)) write (nullData (join (now (state .entry)) (now (parts .entry)) [] [] [] 0 0) (nullWalk (join (now (state .entry)) (now (parts .entry)) [] [] [] 0 0) depth) (codeOf (now (state .entry)) i) i n (now (counts .entry))) (now (room .entry)) g (now (counts .exit)) (now (room .exit)) ⌝ }
 {
     let code = growth::code_of(state, i);
-    if code == 19 {
+    if code == leaf_data::SPARSE {
         return extend_nulls_sparse(state, parts, counts, room, write, i, n, depth);
     }
-    if code == 20 {
+    if code == leaf_data::DENSE {
         return extend_nulls_dense(state, parts, counts, room, write, i, n, depth);
     }
-    if code == 21 {
+    if code == leaf_data::RUN_END {
         return extend_nulls_run(state, parts, counts, room, write, i, n, depth);
     }
     leaf_data::null_leaf(state, parts, counts, room, write, i, n)

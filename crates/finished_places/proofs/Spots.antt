@@ -14,7 +14,7 @@ use Rattle.model.proofs.Bits.{getD-seg}
 use Rattle.walk.specs.State.{codeOf, rows, bytes}
 use Rattle.walk.specs.Log.{startOf}
 use Rattle.sharing.specs.Sources.{firstOf}
-use Rattle.parts.specs.Parts.{nodesOf, copied, hasPart, entrySize, neededBy, needed, partsWithin, partsHold, Used}
+use Rattle.parts.specs.Parts.{nodesOf, copied, hasPart, hasOffsets, entrySize, neededBy, needed, partsWithin, partsHold, Used}
 use Rattle.parts.proofs.Placed.{within-used, used-holds, bits-held}
 use Rattle.orders.specs.Order.{Lent, sourceCount}
 use Rattle.finishing.specs.Finish.{zerosAt, nullsAt, buffersOf, validPlace, bufferStart, bufferSize, copiedPlace, keptPlace, placeAt, nullTable}
@@ -25,14 +25,15 @@ use Rattle.buffer_names.proofs.Names.{of-same, before-same}
 
 -- ---- the bytes of a buffer
 
-module _ (code r n : ℕ) {b : Bool} (e : b ≡ isString code) where
+module _ (code r n : ℕ) {b : Bool} (e : b ≡ hasOffsets code) where
   -- one offset more than rows
-  pub string-size : b ≡ true → {w : ℕ} → w ≡ widthOf code → r * w + w ≡ neededBy code r n 1
-  string-size h {w} f = rw (← e, h, add-one r, suc-mul, f)
+  pub offsets-size : b ≡ true → {w : ℕ} → w ≡ widthOf code → r * w + w ≡ neededBy code r n 1
+  offsets-size h {w} f = rw (← e, h, add-one r, suc-mul, f)
 
   pub first-size : b ≡ false → {w : ℕ} → w ≡ entrySize code → r * w ≡ neededBy code r n 1
   first-size h {w} f = rw (← e, h) (ap (λ k. r * k) f)
 
+module _ (code r n : ℕ) {b : Bool} (e : b ≡ isString code) where
   pub data-size : b ≡ true → n ≡ neededBy code r n 2
   data-size h = rw (← e, h)
 

@@ -22,7 +22,7 @@ fn first_size(code: u8, r: u64) -> u32
     requires { ⌜ neededBy code r 0 1 ≤ 4294967295 ⌝ }
     ensures { λ s. ⌜ s ≡ neededBy code r 0 1 ⌝ }
 {
-    if formats::is_string(code) {
+    if formats::is_string(code) | formats::is_list(code) {
         let w = formats::width_of(code) as u64;
         return (r * w + w) as u32;
     }

@@ -37,7 +37,7 @@ module _ (plan : List ℕ) (i : ℕ) (c : copied plan i ≡ true) where
   unfolding hasPart validityParts
   no-bits e = rw (c, eq-eqb (keepsOf plan i) 0 e)
 
-  no-mask : ltb (codeOf plan i) 19 ≡ false → hasPart plan i 0 ≡ false
+  no-mask : ltb (codeOf plan i) 21 ≡ false → hasPart plan i 0 ≡ false
   unfolding hasPart validityParts
   no-mask e = rw (c, e) (go (not (eqb (keepsOf plan i) 0)))
     where
@@ -107,12 +107,12 @@ module _ (x : Lent) (buffers counts room : List ℕ) (base : ℕ) (body : List �
     unfolding zerosAt
     none-at e = rw e
 
-    zeros-at : (w : Bool) → w ≡ ltb (codeOf (x .plan) i) 19 → (b : Option (List Bool)) → BitsFor w b n → HoldsBits (x .plan) i w b μ → zerosAt x buffers counts room base i ≡ zerosOf w b
+    zeros-at : (w : Bool) → w ≡ ltb (codeOf (x .plan) i) 21 → (b : Option (List Bool)) → BitsFor w b n → HoldsBits (x .plan) i w b μ → zerosAt x buffers counts room base i ≡ zerosOf w b
     unfolding zerosAt
     zeros-at w e none f h = none-at (no-bits (x .plan) i c h)
     zeros-at false e (some s) f h = none-at (no-mask (x .plan) i c (sym e))
     zeros-at true e (some s) f h =
-        let p = bits-copied (x .plan) i c (h .0) (ltb-true (codeOf (x .plan) i) 19 (sym e)) in
+        let p = bits-copied (x .plan) i c (h .0) (ltb-true (codeOf (x .plan) i) 21 (sym e)) in
         let g = rw (h .1) at (lies .bits-lie i (used 0 p) .run) in
         let k : rows counts i ≡ length (map flag s) = rows-are ∙ sym f ∙ sym (length-map s flag) in
         rw (p, k, g) (flag-zeros s)
@@ -130,13 +130,13 @@ module _ (x : Lent) (buffers counts room : List ℕ) (base : ℕ) (body : List �
         let r : place Y i 2 ≡ (rows counts i + 7) / 8 = place-is 2 (omega arith) ∙ rw t in
         rw (p, q, r)
 
-    valid-at : (w : Bool) → w ≡ ltb (codeOf (x .plan) i) 19 → (b : Option (List Bool)) → BitsFor w b n → HoldsBits (x .plan) i w b μ → validOf Y i ≡ validity w b
+    valid-at : (w : Bool) → w ≡ ltb (codeOf (x .plan) i) 21 → (b : Option (List Bool)) → BitsFor w b n → HoldsBits (x .plan) i w b μ → validOf Y i ≡ validity w b
     valid-at w e none f h = valid-zero (zeros-at w e none f h)
     valid-at false e (some s) f h = valid-zero (zeros-at false e (some s) f h)
     valid-at true e (some s) f h = go (zeros s) refl
       where
         p : hasPart (x .plan) i 0 ≡ true
-        p = bits-copied (x .plan) i c (h .0) (ltb-true (codeOf (x .plan) i) 19 (sym e))
+        p = bits-copied (x .plan) i c (h .0) (ltb-true (codeOf (x .plan) i) 21 (sym e))
 
         go : (z : ℕ) → zeros s ≡ z → validOf Y i ≡ elim z [ zero ↦ none | suc n ↦ some (pack s) ]
         go zero q = valid-zero (zeros-at true e (some s) f h ∙ q)
@@ -150,13 +150,13 @@ module _ (x : Lent) (buffers counts room : List ℕ) (base : ℕ) (body : List �
             ∙ ap (λ k. part room (startOf (x .plan) (x .parts) i 0) ((k + 7) / 8)) r
             ∙ lies-pack (x .plan) (x .parts) (Used (x .plan)) room μ placed lies fitting i u s (h .1))
 
-    nulls-at : (w : Bool) → w ≡ ltb (codeOf (x .plan) i) 19 → (b : Option (List Bool)) → BitsFor w b n → HoldsBits (x .plan) i w b μ → getD (nullTable x buffers counts room base) i 0 ≡ nullsIn (ok (validity w b)) 0 n
+    nulls-at : (w : Bool) → w ≡ ltb (codeOf (x .plan) i) 21 → (b : Option (List Bool)) → BitsFor w b n → HoldsBits (x .plan) i w b μ → getD (nullTable x buffers counts room base) i 0 ≡ nullsIn (ok (validity w b)) 0 n
     unfolding nullsAt
     nulls-at w e b f h = null-at x buffers counts room base body i l ∙ rw c (zeros-at w e b f h ∙ sym (nulls-zeros w b n f))
 
   -- ---- A COPIED NODE is the model's finished one
 
-  module _ {P D : Type 0} (d : Mutable D) (masks : Bool) (code : masks ≡ ltb (codeOf (x .plan) i) 19) (rows-are : rows counts i ≡ d .len)
+  module _ {P D : Type 0} (d : Mutable D) (masks : Bool) (code : masks ≡ ltb (codeOf (x .plan) i) 21) (rows-are : rows counts i ≡ d .len)
       (f : BitsFor masks (d .bits) (d .len)) (h : HoldsBits (x .plan) i masks (d .bits) μ) (freeze : D → P) where
     pub node-shows : (inner : P → Type 0) → inner (freeze (d .«data»)) → ShowsNode Y i inner (freezeNode masks freeze d)
     node-shows inner b =

@@ -7,7 +7,7 @@ use native.Mathlib.Omega.{arith}
 use lib.ListN.{length}
 use lib.Dec.{leb, eqb}
 use borrow.Author.Tests.{le-leb, eq-eqb}
-use Rattle.columnar.specs.Types.{Plain, fixed, string, Ty, tPlain, tView, tListView, tSparse, tDense, tRunEnd, tDictionary}
+use Rattle.columnar.specs.Types.{Plain, fixed, string, Ty, tPlain, tView, tListView, tList, tSparse, tDense, tRunEnd, tDictionary}
 use Rattle.columnar.specs.Reading.{Body, Column}
 use Rattle.formats.specs.Code.{isView}
 use Rattle.array_data.specs.Typed.{Tree}
@@ -44,9 +44,10 @@ module _ (x : Lent) (buffers : List ℕ) (tree : Tree) (root : Ty) (m : ℕ) (co
   own-few (suc k) (tPlain p) i ss w st = plain-few p i (w .3)
   own-few (suc k) tView i ss w st = λ h s l. let n = ap length (st s l .0 .buffers-are) ∙ length-seg _ (place (joinOf x s) i 7) (place (joinOf x s) i 8) in omega (arith, st s l .1)
   own-few (suc k) (tListView v t) i ss w st = let b = between-both 17 18 (codeOf (x .plan) i) (w .2) in other 17 18 i (b .0) (b .1) .1 (omega arith)
-  own-few (suc k) (tSparse ids nullable f) i ss w st = let e : codeOf (x .plan) i ≡ 19 = w .1 in other 19 19 i (omega arith) (omega arith) .1 (omega arith)
-  own-few (suc k) (tDense ids nullable f) i ss w st = let e : codeOf (x .plan) i ≡ 20 = w .1 in other 20 20 i (omega arith) (omega arith) .1 (omega arith)
-  own-few (suc k) (tRunEnd v t) i ss w st = let e : codeOf (x .plan) i ≡ 21 = w .2 in other 21 21 i (omega arith) (omega arith) .1 (omega arith)
+  own-few (suc k) (tList v t) i ss w st = let b = between-both 19 20 (codeOf (x .plan) i) (w .2) in other 19 20 i (b .0) (b .1) .1 (omega arith)
+  own-few (suc k) (tSparse ids nullable f) i ss w st = let e : codeOf (x .plan) i ≡ 21 = w .1 in other 21 21 i (omega arith) (omega arith) .1 (omega arith)
+  own-few (suc k) (tDense ids nullable f) i ss w st = let e : codeOf (x .plan) i ≡ 22 = w .1 in other 22 22 i (omega arith) (omega arith) .1 (omega arith)
+  own-few (suc k) (tRunEnd v t) i ss w st = let e : codeOf (x .plan) i ≡ 23 = w .2 in other 23 23 i (omega arith) (omega arith) .1 (omega arith)
   own-few (suc k) (tDictionary n p) i ss w st = let b = between-both 1 10 (codeOf (x .plan) i) (w .3) in other 1 10 i (b .0) (b .1) .0 (omega arith)
 
   all-few : (j : ℕ) → j < nodesOf (x .plan) → FewAt j

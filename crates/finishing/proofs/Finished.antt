@@ -7,9 +7,9 @@ use native.Mathlib.Omega.{arith}
 use lib.ListN.{length, getD}
 use lib.Dec.{ltb}
 use borrow.Author.Tests.{lt-ltb, ne-eqb}
-use Rattle.columnar.specs.Types.{Plain, fixed, string, Ty, tPlain, tView, tListView, tSparse, tDense, tRunEnd, tDictionary}
+use Rattle.columnar.specs.Types.{Plain, fixed, string, Ty, tPlain, tView, tListView, tList, tSparse, tDense, tRunEnd, tDictionary}
 use Rattle.columnar.specs.Formed.{FormedPlain, Formed}
-use Rattle.columnar.specs.Array.{Array, nullCount, Obeys}
+use Rattle.columnar.specs.Array.{Array, ok, nullCount, Obeys}
 use Rattle.columnar.specs.Plain.{PlainBody, PlainRule}
 use Rattle.columnar.specs.Dictionary.{Dictionary}
 use Rattle.columnar.specs.Reading.{Column, masks, Source}
@@ -25,13 +25,14 @@ use Rattle.model.specs.Transform.{Destination, joinedFrom, theDictionary, freez
 use Rattle.model.proofs.Law.{BitsFor, FineNode}
 use Rattle.model.proofs.Nodes.{fineOf}
 use Rattle.model.proofs.Joined.{joined}
+use Rattle.model.proofs.Start.{no-null-in, none-has}
 use Rattle.walk.specs.State.{word, codeOf, dictionaryOf, endOf, rows, bytes}
 use Rattle.link.specs.Memory.{Memory}
 use Rattle.link.specs.Holds.{childOf, Fields, Worded, HoldsBits, Holds}
 use Rattle.link.proofs.Frame.{field-of, worded-span}
 use Rattle.room.specs.Reach.{Typed, typed, Free}
 use Rattle.room.proofs.Closure.{closed-free}
-use Rattle.room.proofs.Found.{between-both, child-first, child-with}
+use Rattle.room.proofs.Found.{between-both, between-wide, child-first, child-with}
 use Rattle.parts.specs.Parts.{nodesOf, copied}
 use Rattle.orders.specs.Order.{Lent}
 use Rattle.orders.specs.Fits.{plainBuffers, buffersOf}
@@ -91,7 +92,7 @@ module _ (x : Lent) (buffers : List ℕ) (tree : Tree) (root : Ty) (m : ℕ) (co
     second-at : (bs : List (List ℕ)) → Own (x .plan) (x .parts) counts μ i bs → secondBuffer Y i ≡ getD bs 1 []
     second-at = second-is x buffers counts room base body bodied μ (given .lies) (given .placed) (given .bounded) i l c
 
-    node-both : {P D : Type 0} (d : Mutable D) (v : Bool) → v ≡ ltb (codeOf (x .plan) i) 19 → rows counts i ≡ d .len → BitsFor v (d .bits) (d .len) → HoldsBits (x .plan) i v (d .bits) μ
+    node-both : {P D : Type 0} (d : Mutable D) (v : Bool) → v ≡ ltb (codeOf (x .plan) i) 21 → rows counts i ≡ d .len → BitsFor v (d .bits) (d .len) → HoldsBits (x .plan) i v (d .bits) μ
         → (freeze : D → P) (inner below : P → Type 0) → inner (freeze (d .«data»)) → below (freeze (d .«data»)) → Both i inner below (freezeNode v freeze d)
     node-both d v code r f h freeze inner below p q = (
       node-shows x buffers counts room base body bodied μ (given .lies) (given .placed) (given .bounded) i l c d v code r f h freeze inner p,
@@ -175,10 +176,18 @@ module _ (x : Lent) (buffers : List ℕ) (tree : Tree) (root : Ty) (m : ℕ) (co
       let z : endOf (x .plan) i ≡ endOf (x .plan) (suc i) = w .1 in
       let n = in-table x buffers tree root m columns dest counts room μ given (suc k) (tListView v t) i w l in
       let c = copied-free (x .plan) i o in
-      let free = closed-free (x .plan) 0 (endOf (x .plan) 0) (given .laid .tabled) .item i (typed (suc k) (tListView v t) w (omega arith) l, o) (w .2) .1 in
+      let free = closed-free (x .plan) 0 (endOf (x .plan) 0) (given .laid .tabled) .item i (typed (suc k) (tListView v t) w (omega arith) l, o) (between-wide 17 18 17 20 (codeOf (x .plan) i) (omega arith) (omega arith) (w .2)) .1 in
       let r = whole k t (suc i) (λ j. ss j .body .child) (d .«data» .child) (w .4) (fm .1) free (omega arith) (mn .1) (f .data-fine .child-fine) (h .data-are .2) st (λ j q. ob j q .slots .child-rule) in
       let bs = d .«data» .buffer1 ∷ d .«data» .buffer2 ∷ [] in
       whole-node (suc k) (tListView v t) i ss d w o l f h (λ own. (first-at i n c bs own, second-at i n c bs own, r .0)) (r .1)
+  whole (suc k) (tList v t) i ss d w fm o l mn f h st ob =
+      let z : endOf (x .plan) i ≡ endOf (x .plan) (suc i) = w .1 in
+      let n = in-table x buffers tree root m columns dest counts room μ given (suc k) (tList v t) i w l in
+      let c = copied-free (x .plan) i o in
+      let free = closed-free (x .plan) 0 (endOf (x .plan) 0) (given .laid .tabled) .item i (typed (suc k) (tList v t) w (omega arith) l, o) (between-wide 19 20 17 20 (codeOf (x .plan) i) (omega arith) (omega arith) (w .2)) .1 in
+      let r = whole k t (suc i) (λ j. ss j .body .child) (d .«data» .child) (w .4) (fm .1) free (omega arith) (mn .1) (f .data-fine .child-fine) (h .data-are .1) st (λ j q. ob j q .slots .child-rule) in
+      let bs = d .«data» .buffer1 ∷ [] in
+      whole-node (suc k) (tList v t) i ss d w o l f h (λ own. (first-at i n c bs own, r .0)) (r .1)
   whole (suc k) (tSparse ids nullable g) i ss d w fm o l mn f h st ob =
       let u : isUnion (codeOf (x .plan) i) ≡ true = ap isUnion (w .1) in
       let n = in-table x buffers tree root m columns dest counts room μ given (suc k) (tSparse ids nullable g) i w l in
@@ -219,7 +228,7 @@ module _ (x : Lent) (buffers : List ℕ) (tree : Tree) (root : Ty) (m : ℕ) (co
       one-own (x .plan) (x .parts) counts μ (suc i) (ends .«data») (fixed-one (codeOf (x .plan) (suc i)) (e .0))
       (needed-fixed (codeOf (x .plan) (suc i)) (rows counts (suc i)) (bytes counts (suc i)) (e .0) ∙ times (x .plan) (x .parts) counts μ (h .data-are .0) (w .3) ∙ sym (f .data-fine .ends-are)) (h .data-are .1) in
       let a : Both (suc i) (λ s. firstBuffer Y (suc i) ≡ s) (λ s. Unit {0}) (freezeNode true (λ b. b) ends) =
-      node-both (suc i) n c ends true (sym (lt-ltb (codeOf (x .plan) (suc i)) 19 (omega (arith, y .1)))) (h .data-are .0)
+      node-both (suc i) n c ends true (sym (lt-ltb (codeOf (x .plan) (suc i)) 21 (omega (arith, y .1)))) (h .data-are .0)
       (subst (λ b. BitsFor true b (ends .len)) (sym (f .data-fine .no-bits)) tt) (subst (λ b. HoldsBits (x .plan) (suc i) true b μ) (sym (f .data-fine .no-bits)) (e .1)) (λ b. b)
       (λ s. firstBuffer Y (suc i) ≡ s) (λ s. Unit {0}) (first-at (suc i) n c (ends .«data» ∷ []) own) tt in
       let r = whole k t (suc (suc i)) (λ j. ss j .body .values) (d .«data» .values) (w .4) (fm .1) free (omega arith) (mn .2) (f .data-fine .values-fine) (h .data-are .2) st (λ j q. ob j q .slots .child-rule) in

@@ -7,7 +7,7 @@ use Prim.Native.Nat.{ℕ, suc, _+_, _*_, _≤_, _<_}
 use native.Mathlib.Omega.{arith}
 use lib.ListN.{length, getD}
 use Rattle.columnar.specs.Row.{seg}
-use Rattle.columnar.specs.Types.{Plain, Ty, tPlain, tView, tListView, tSparse, tDense, tRunEnd, tDictionary}
+use Rattle.columnar.specs.Types.{Plain, Ty, tPlain, tView, tListView, tList, tSparse, tDense, tRunEnd, tDictionary}
 use Rattle.columnar.specs.Formed.{Formed}
 use Rattle.columnar.specs.Plain.{PlainBody}
 use Rattle.columnar.specs.View.{Views}
@@ -50,6 +50,7 @@ module _ (x : Lent) (buffers : List ℕ) (s : ℕ) where
   NamesLent (tPlain p) i b = Unit {0}
   NamesLent tView i b = Named x buffers s i b
   NamesLent (tListView w t) i b = NamesLent t (suc i) (b .child .body)
+  NamesLent (tList w t) i b = NamesLent t (suc i) (b .child .body)
   NamesLent (tSparse ids nullable f) i b = (e : ℕ) → List·Memᴰ e ids → NamesLent (f e) (childOf (x .plan) i e) (b .children e .body)
   NamesLent (tDense ids nullable f) i b = (e : ℕ) → List·Memᴰ e ids → NamesLent (f e) (childOf (x .plan) i e) (b .children e .body)
   NamesLent (tRunEnd w t) i b = NamesLent t (suc (suc i)) (b .values .body)
@@ -70,6 +71,7 @@ module _ (x : Lent) (buffers : List ℕ) (m : ℕ) (counts : List ℕ) (μ : Mem
   Stands (tPlain p) i ss = Unit {0}
   Stands tView i ss = (s : ℕ) → s < m → Named x buffers s i (ss s) × (length (ss s .buffers) ≤ 32)
   Stands (tListView w t) i ss = Stands t (suc i) (λ j. ss j .child .body)
+  Stands (tList w t) i ss = Stands t (suc i) (λ j. ss j .child .body)
   Stands (tSparse ids nullable f) i ss = (e : ℕ) → List·Memᴰ e ids → Stands (f e) (childOf (x .plan) i e) (λ j. ss j .children e .body)
   Stands (tDense ids nullable f) i ss = (e : ℕ) → List·Memᴰ e ids → Stands (f e) (childOf (x .plan) i e) (λ j. ss j .children e .body)
   Stands (tRunEnd w t) i ss = Stands t (suc (suc i)) (λ j. ss j .values .body)
@@ -80,6 +82,7 @@ module _ (x : Lent) (buffers : List ℕ) (m : ℕ) (counts : List ℕ) (μ : Mem
   stands-by (tPlain p) i ss u l n v e j k = tt
   stands-by tView i ss u l n v e j k = λ s h. (n s h, v s h)
   stands-by (tListView w t) i ss u l n v e j k = stands-by t (suc i) (λ j. ss j .child .body) _ l n v e j (k .1)
+  stands-by (tList w t) i ss u l n v e j k = stands-by t (suc i) (λ j. ss j .child .body) _ l n v e j (k .1)
   stands-by (tSparse ids nullable f) i ss u l n v e j k =
       λ c q. stands-by (f c) (childOf (x .plan) i c) (λ j. ss j .children c .body) _ l (λ s h. n s h c q) (λ s h. v s h c q) (e c q) (j c q) (k c q .1)
   stands-by (tDense ids nullable f) i ss u l n v e j k =

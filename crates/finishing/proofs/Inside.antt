@@ -9,7 +9,7 @@ use native.Mathlib.Omega.{arith}
 use lib.ListN.{length, take, length-take}
 use lib.Dec.{T, eqb}
 use borrow.Author.Tests.{le-leb}
-use Rattle.columnar.specs.Types.{Plain, fixed, string, Ty, tPlain, tView, tListView, tSparse, tDense, tRunEnd, tDictionary}
+use Rattle.columnar.specs.Types.{Plain, fixed, string, Ty, tPlain, tView, tListView, tList, tSparse, tDense, tRunEnd, tDictionary}
 use Rattle.columnar.specs.Plain.{PlainBody}
 use Rattle.columnar.specs.Dictionary.{Dictionary}
 use Rattle.columnar.specs.Reading.{Body, Column}
@@ -173,6 +173,7 @@ module _ (x : Lent) (buffers : List ℕ) (tree : Tree) (root : Ty) (m : ℕ) (co
   own-placed (suc k) (tPlain p) i ss w l c mn st = plain-placed p i l c mn
   own-placed (suc k) tView i ss w l c mn st = subst (λ k. T (placedAs tree Y k i)) (sym (mn .1)) (holds {b = oneIn Y i && buffersIn Y i} (rw (copied-one i l c) (names-in i l c (w .2) ss (λ s q. st s q .0))))
   own-placed (suc k) (tListView v t) i ss w l c mn st = subst (λ k. T (placedAs tree Y k i)) (sym (mn .0 .1)) (holds (copied-two i l c))
+  own-placed (suc k) (tList v t) i ss w l c mn st = subst (λ k. T (placedAs tree Y k i)) (sym (mn .0 .1)) (holds (copied-one i l c))
   own-placed (suc k) (tSparse ids nullable f) i ss w l c mn st = subst (λ k. T (placedAs tree Y k i)) (sym (mn .0 .1)) (holds (copied-one i l c))
   own-placed (suc k) (tDense ids nullable f) i ss w l c mn st = subst (λ k. T (placedAs tree Y k i)) (sym (mn .0 .1)) (holds (copied-two i l c))
   own-placed (suc k) (tRunEnd v t) i ss w l c mn st = subst (λ k. T (placedAs tree Y k i)) (sym (mn .0 .1)) (holds {b = held Y i && validIn Y i} (rw (held-at i l) (valid-inside i l c)))

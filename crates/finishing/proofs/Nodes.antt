@@ -6,7 +6,7 @@ use Prim.Native.Nat.{ℕ, suc, _≤_, _<_}
 use native.Mathlib.Decide.{decLt}
 use native.Mathlib.Omega.{arith}
 use lib.ListN.{length}
-use Rattle.columnar.specs.Types.{Plain, fixed, string, Ty, tPlain, tView, tListView, tSparse, tDense, tRunEnd, tDictionary}
+use Rattle.columnar.specs.Types.{Plain, fixed, string, Ty, tPlain, tView, tListView, tList, tSparse, tDense, tRunEnd, tDictionary}
 use Rattle.columnar.specs.Formed.{Formed, Ids}
 use Rattle.columnar.specs.Array.{Obeys}
 use Rattle.columnar.specs.Plain.{PlainBody, PlainRule}
@@ -21,7 +21,7 @@ use Rattle.link.specs.Holds.{childOf, Fields, Worded}
 use Rattle.link.proofs.Frame.{field-of, worded-span}
 use Rattle.room.specs.Reach.{typed, Free}
 use Rattle.room.proofs.Closure.{closed-free}
-use Rattle.room.proofs.Found.{between-both}
+use Rattle.room.proofs.Found.{between-both, between-wide}
 use Rattle.parts.specs.Parts.{nodesOf}
 use Rattle.orders.specs.Order.{Lent}
 use Rattle.orders.proofs.Cover.{within}
@@ -70,9 +70,14 @@ module _ (x : Lent) (buffers : List ℕ) (tree : Tree) (root : Ty) (m : ℕ) (co
   from (suc k) tView i ss w fm o l mn st ob = one-node i (given .laid .view-ends i (omega (arith, w .1)) (w .2)) (here (suc k) tView i ss w o l mn st)
   from (suc k) (tListView v t) i ss w fm o l mn st ob =
       let z : endOf (x .plan) i ≡ endOf (x .plan) (suc i) = w .1 in
-      let free = closed-free (x .plan) 0 (endOf (x .plan) 0) (given .laid .tabled) .item i (typed (suc k) (tListView v t) w (omega arith) l, o) (w .2) .1 in
+      let free = closed-free (x .plan) 0 (endOf (x .plan) 0) (given .laid .tabled) .item i (typed (suc k) (tListView v t) w (omega arith) l, o) (between-wide 17 18 17 20 (codeOf (x .plan) i) (omega arith) (omega arith) (w .2)) .1 in
       let r = from k t (suc i) (λ j. ss j .body .child) (w .4) (fm .1) free (omega arith) (mn .1) st (λ j q. ob j q .slots .child-rule) in
       with-own i (here (suc k) (tListView v t) i ss w o l mn st) (λ j p q. r j (omega arith) (omega arith))
+  from (suc k) (tList v t) i ss w fm o l mn st ob =
+      let z : endOf (x .plan) i ≡ endOf (x .plan) (suc i) = w .1 in
+      let free = closed-free (x .plan) 0 (endOf (x .plan) 0) (given .laid .tabled) .item i (typed (suc k) (tList v t) w (omega arith) l, o) (between-wide 19 20 17 20 (codeOf (x .plan) i) (omega arith) (omega arith) (w .2)) .1 in
+      let r = from k t (suc i) (λ j. ss j .body .child) (w .4) (fm .1) free (omega arith) (mn .1) st (λ j q. ob j q .slots .child-rule) in
+      with-own i (here (suc k) (tList v t) i ss w o l mn st) (λ j p q. r j (omega arith) (omega arith))
   from (suc k) (tSparse ids nullable g) i ss w fm o l mn st ob =
       let u : isUnion (codeOf (x .plan) i) ≡ true = ap isUnion (w .1) in
       fields-from k g nullable ids i (fm .0) (w .2) (w .4) (here (suc k) (tSparse ids nullable g) i ss w o l mn st)

@@ -1,18 +1,19 @@
 -- Tables that describe a column read as the column does, row by row, and obey the rules of a source where it does. Assumes nothing.
 use mathlib.Core.Path.{_≡_, sym, ap, ap₂, subst, _∙_}
 use mathlib.Core.List.{List}
-use Prim.Native.Nat.{ℕ, suc, _+_, _<_}
+use Prim.Native.Nat.{ℕ, suc, _+_, _-_, _<_}
 use native.Mathlib.Nat.{zero-add}
 use native.Mathlib.Omega.{arith}
 use lib.ListN.{getD}
 use Rattle.columnar.specs.Row.{list, rows, union, seg}
-use Rattle.columnar.specs.Types.{Plain, fixed, string, Ty, tPlain, tView, tListView, tSparse, tDense, tRunEnd, tDictionary}
+use Rattle.columnar.specs.Types.{Plain, fixed, string, Ty, tPlain, tView, tListView, tList, tSparse, tDense, tRunEnd, tDictionary}
 use Rattle.columnar.specs.Array.{Array, item, ok, sight}
-use Rattle.columnar.specs.Plain.{PlainBody}
+use Rattle.columnar.specs.Plain.{PlainBody, OffsetsRule}
 use Rattle.columnar.specs.RunEnd.{endOf, firstAbove}
 use Rattle.columnar.specs.Reading.{Body, Column, slotAt, read, readAll, SlotRule, Source}
 use Rattle.columnar.proofs.FirstAbove.{first-below}
 use Rattle.columnar.proofs.Kept.{seg-same}
+use Rattle.columnar.proofs.WiderKinds.{row-within}
 use Rattle.array_data.specs.Tables.{Tables, firstBuffer, arrayWith}
 use Rattle.array_data.specs.Typed.{Tree, nodeOf, plainBody, bodyOf, columnOf}
 use Rattle.finishing.specs.Shows.{ShowsNode, ShowsPlain, ShowsData, Shows}
@@ -37,6 +38,9 @@ module _ (tree : Tree) (y : Tables) where
   list-body : (w : ℕ) (t : Ty) (i : ℕ) (b : Body (tListView w t)) → ShowsData tree y (tListView w t) i b
       → bodyOf tree y (tListView w t) i ≡ record { offsets = b .offsets; sizes = b .sizes; child = kid t (suc i) }
   list-body w t i b h = ap₂ (λ s r. record { offsets = s; sizes = r; child = kid t (suc i) }) (h .0) (h .1)
+
+  lists-body : (w : ℕ) (t : Ty) (i : ℕ) (b : Body (tList w t)) → ShowsData tree y (tList w t) i b → bodyOf tree y (tList w t) i ≡ record { offsets = b .offsets; child = kid t (suc i) }
+  lists-body w t i b h = ap (λ s. record { offsets = s; child = kid t (suc i) }) (h .0)
 
   ends-same : (i : ℕ) (a : Array (List ℕ)) → ShowsNode y i (λ s. firstBuffer y i ≡ s) a → arrayWith y (firstBuffer y i) i ≡ a
   ends-same i a h = as-array h (firstBuffer y i) ∙ ap (bodied a) (h .body-is)
@@ -63,6 +67,15 @@ module _ (tree : Tree) (y : Tables) where
       ∙ ap (λ rs. list (rows rs))
       (seg-same (read t (kid t (suc i))) (read t (b .child)) (item w (b .offsets) s) (item w (b .sizes) s)
       (λ j q. shows-read t (suc i) (b .child) (h .body-is .2) (o .slots .child-rule) (item w (b .offsets) s + j) (omega (arith, e .within)))))
+  shows-read (tList w t) i a h o r l =
+      let b = a .body in
+      let s = a .off + r in
+      node-read (tList w t) i a r h
+      (ap (λ b. slotAt (tList w t) b s) (lists-body w t i b (h .body-is))
+      ∙ ap (λ rs. list (rows rs))
+      (seg-same (read t (kid t (suc i))) (read t (b .child)) (item w (b .offsets) s) (item w (b .offsets) (suc s) - item w (b .offsets) s)
+      (λ j q. shows-read t (suc i) (b .child) (h .body-is .1) (o .slots .child-rule) (item w (b .offsets) s + j)
+      (omega (arith, row-within w (b .offsets) (b .child .len) (a .off) (a .len) (o .slots .offsets-rule) r l)))))
   shows-read (tSparse ids nullable f) i a h o r l =
       let b = a .body in
       let s = a .off + r in
@@ -121,6 +134,12 @@ module _ (tree : Tree) (y : Tables) where
         entries = λ r l. let e = o .slots .entries r l in record { offset = e .offset; size = e .size; within = rw (g .len-is) (e .within) };
         child-rule = k;
       }))
+  shows-obeys (tList w t) i a h o =
+      let g = h .body-is .1 in
+      let k = shows-obeys t (suc i) (a .body .child) g (o .slots .child-rule) in
+      node-obeys (tList w t) i a h o
+      (subst (λ b. SlotRule (tList w t) (ok (a .valid)) b (a .off) (a .len)) (sym (lists-body w t i (a .body) (h .body-is)))
+      (record { offsets-rule = subst (λ n. OffsetsRule w (a .body .offsets) n (a .off) (a .len)) (sym (g .len-is)) (o .slots .offsets-rule); child-rule = k }))
   shows-obeys (tSparse ids nullable f) i a h o =
       let g = h .body-is .1 in
       node-obeys (tSparse ids nullable f) i a h o

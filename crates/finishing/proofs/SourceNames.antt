@@ -9,7 +9,7 @@ use lib.Dec.{T, leb}
 use lib.Ieee.Bits.{is-true}
 use borrow.Author.Tests.{leb-true}
 use Rattle.columnar.specs.Row.{seg}
-use Rattle.columnar.specs.Types.{Ty, tPlain, tView, tListView, tSparse, tDense, tRunEnd, tDictionary}
+use Rattle.columnar.specs.Types.{Ty, tPlain, tView, tListView, tList, tSparse, tDense, tRunEnd, tDictionary}
 use Rattle.columnar.proofs.Test.{every-out}
 use Rattle.array_data.specs.Tables.{Tables, place, dataBuffer, inBody}
 use Rattle.array_data.specs.Rules.{oneIn, buffersIn, viewRule}
@@ -68,6 +68,7 @@ module _ (tree : Tree) (z : Tables) (plan parts sources : List ℕ) (s : ℕ) wh
     named-at (tPlain p) i h = tt
     named-at tView i h = view-named i h
     named-at (tListView w u) i h = named-at u (suc i) (h .1)
+    named-at (tList w u) i h = named-at u (suc i) (h .1)
     named-at (tSparse ids nullable f) i h = λ e q. child-named i true ids f (h .0) e q (named-at (f e) (nodeOf tree i ids e) (h .1 e q .1))
     named-at (tDense ids nullable f) i h = λ e q. child-named i false ids f (h .0) e q (named-at (f e) (nodeOf tree i ids e) (h .1 e q .1))
     named-at (tRunEnd w u) i h = named-at u (suc (suc i)) (h .2)

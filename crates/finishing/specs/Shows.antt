@@ -3,7 +3,7 @@ use mathlib.Core.Path.{_≡_}
 use mathlib.Core.List.{List, List·Memᴰ}
 use Prim.Native.Nat.{ℕ, suc, _+_, _≤_}
 use lib.ListN.{length, take, drop, getD}
-use Rattle.columnar.specs.Types.{Plain, fixed, string, Ty, tPlain, tView, tListView, tSparse, tDense, tRunEnd, tDictionary}
+use Rattle.columnar.specs.Types.{Plain, fixed, string, Ty, tPlain, tView, tListView, tList, tSparse, tDense, tRunEnd, tDictionary}
 use Rattle.columnar.specs.Array.{Array, nullCount}
 use Rattle.columnar.specs.Plain.{PlainBody}
 use Rattle.columnar.specs.Reading.{Body, Column}
@@ -29,6 +29,7 @@ module _ (tree : Tree) (y : Tables) where
   ShowsData (tPlain p) i b = ShowsPlain p i b
   ShowsData tView i b = (firstBuffer y i ≡ b .views) × (dataBuffers y i ≡ b .buffers)
   ShowsData (tListView w t) i b = (firstBuffer y i ≡ b .offsets) × (secondBuffer y i ≡ b .sizes) × ShowsNode y (suc i) (ShowsData t (suc i)) (b .child)
+  ShowsData (tList w t) i b = (firstBuffer y i ≡ b .offsets) × ShowsNode y (suc i) (ShowsData t (suc i)) (b .child)
   ShowsData (tSparse ids nullable f) i b =
       (firstBuffer y i ≡ b .ids) × ((c : ℕ) → List·Memᴰ c ids → ShowsNode y (nodeOf tree i ids c) (ShowsData (f c) (nodeOf tree i ids c)) (b .children c))
   ShowsData (tDense ids nullable f) i b =
@@ -52,6 +53,7 @@ module _ (tree : Tree) (nulls : List ℕ) where
   CountsData (tPlain p) i b = Unit {0}
   CountsData tView i b = Unit {0}
   CountsData (tListView w t) i b = CountsNode nulls (suc i) (CountsData t (suc i)) (b .child)
+  CountsData (tList w t) i b = CountsNode nulls (suc i) (CountsData t (suc i)) (b .child)
   CountsData (tSparse ids nullable f) i b = (c : ℕ) → List·Memᴰ c ids → CountsNode nulls (nodeOf tree i ids c) (CountsData (f c) (nodeOf tree i ids c)) (b .children c)
   CountsData (tDense ids nullable f) i b = (c : ℕ) → List·Memᴰ c ids → CountsNode nulls (nodeOf tree i ids c) (CountsData (f c) (nodeOf tree i ids c)) (b .children c)
   CountsData (tRunEnd w t) i b = CountsNode nulls (suc i) (λ s. Unit {0}) (b .ends) × CountsNode nulls (suc (suc i)) (CountsData t (suc (suc i))) (b .values)

@@ -86,7 +86,9 @@ unfolding codeOf
 short-2 a b =
     low (eqb b 122 && eqb a 118) 15 _ refl
     (low (eqb b 117 && eqb a 118) 16 _ refl
-    (low (eqb b 114 && eqb a 43) 21 0 refl refl))
+    (low (eqb b 108 && eqb a 43) 19 _ refl
+    (low (eqb b 76 && eqb a 43) 20 _ refl
+    (low (eqb b 114 && eqb a 43) 23 0 refl refl))))
 
 short-3 : (a b c : ℕ) → isUnion (codeOf (a ∷ b ∷ c ∷ [])) ≡ false
 unfolding codeOf

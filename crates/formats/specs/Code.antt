@@ -39,9 +39,11 @@ table =
     ∷ is (118 ∷ 117 ∷ []) 16  -- vu
     ∷ is (43 ∷ 118 ∷ 108 ∷ []) 17  -- +vl
     ∷ is (43 ∷ 118 ∷ 76 ∷ []) 18  -- +vL
-    ∷ begins (43 ∷ 117 ∷ 115 ∷ 58 ∷ []) 19  -- +us:
-    ∷ begins (43 ∷ 117 ∷ 100 ∷ 58 ∷ []) 20  -- +ud:
-    ∷ is (43 ∷ 114 ∷ []) 21  -- +r
+    ∷ is (43 ∷ 108 ∷ []) 19  -- +l
+    ∷ is (43 ∷ 76 ∷ []) 20  -- +L
+    ∷ begins (43 ∷ 117 ∷ 115 ∷ 58 ∷ []) 21  -- +us:
+    ∷ begins (43 ∷ 117 ∷ 100 ∷ 58 ∷ []) 22  -- +ud:
+    ∷ is (43 ∷ 114 ∷ []) 23  -- +r
     ∷ []
 
 -- the code of the first rule that the text t meets; 0 where there is none
@@ -63,6 +65,10 @@ abbrev pub codeAt : List ℕ → ℕ → ℕ → ℕ
 codeAt s at len = cond (inside (length s) at len) (codeOf (take len (drop at s))) 0
 
 -- ---- what a code means
+
+-- codes are 1 to 23
+abbrev pub lastCode : ℕ
+lastCode = 23
 
 -- x is one of the numbers from low to high
 abbrev pub between : ℕ → ℕ → ℕ → Bool
@@ -88,15 +94,23 @@ isView code = between 15 16 code
 abbrev pub isListView : ℕ → Bool
 isListView code = between 17 18 code
 
+-- +l +L
+abbrev pub isList : ℕ → Bool
+isList code = between 19 20 code
+
 -- +us: +ud:
 abbrev pub isUnion : ℕ → Bool
-isUnion code = between 19 20 code
+isUnion code = between 21 22 code
+
+-- +us:
+abbrev pub isSparse : ℕ → Bool
+isSparse code = eqb code 21
 
 -- +r
 abbrev pub isRunEnd : ℕ → Bool
-isRunEnd code = between 21 21 code
+isRunEnd code = between 23 23 code
 
--- bytes of one number (c C s S i I l L f g), or of one offset (z u Z U, +vl +vL), by code from 0 on
+-- bytes of one number (c C s S i I l L f g), or of one offset (z u Z U, +vl +vL, +l +L), by code from 0 on
 abbrev pub widths : List ℕ
 widths =
     0  -- no format
@@ -118,6 +132,8 @@ widths =
     ∷ 0  -- vu
     ∷ 4  -- +vl
     ∷ 8  -- +vL
+    ∷ 4  -- +l
+    ∷ 8  -- +L
     ∷ 0  -- +us:
     ∷ 0  -- +ud:
     ∷ 0  -- +r

@@ -3,10 +3,13 @@ ghost use mathlib.Core.Path.{_≡_};
 ghost use mathlib.Core.List.{[], _∷_};
 ghost use Prim.Native.Nat.{_+_, _-_, _≤_, _<_};
 ghost use lib.ListN.{length, take, drop};
-ghost use Rattle.formats.specs.Code.{codeOf, codeAt, between, isInteger, isFixed, isString, isView, isListView, isUnion, isRunEnd, widthOf};
+ghost use Rattle.formats.specs.Code.{codeOf, codeAt, between, isInteger, isFixed, isString, isView, isListView, isList, isUnion, isSparse, isRunEnd, widthOf};
+
+// Codes are 1 to LAST_CODE.
+pub const LAST_CODE: u64 = 23;
 
 // The bytes of one entry by code, from code 0 on.
-const WIDTHS: [u8; 22] = [
+const WIDTHS: [u8; 24] = [
     0, // none
     1, // c
     1, // C
@@ -26,6 +29,8 @@ const WIDTHS: [u8; 22] = [
     0, // vu
     4, // +vl
     8, // +vL
+    4, // +l
+    8, // +L
     0, // +us:
     0, // +ud:
     0, // +r
@@ -68,7 +73,12 @@ fn code_of_2(a: u8, b: u8) -> u8
     if a != b'+' {
         return 0;
     }
-    if b == b'r' { 21 } else { 0 }
+    match b {
+        b'l' => 19,
+        b'L' => 20,
+        b'r' => 23,
+        _ => 0,
+    }
 }
 
 fn code_of_3(a: u8, b: u8, c: u8) -> u8
@@ -100,8 +110,8 @@ fn code_of_4(a: u8, b: u8, c: u8, d: u8) -> u8
         return 0;
     }
     match c {
-        b's' => 19,
-        b'd' => 20,
+        b's' => 21,
+        b'd' => 22,
         _ => 0,
     }
 }
@@ -187,18 +197,32 @@ pub fn is_list_view(code: u8) -> bool
     within(code, 17, 18)
 }
 
+// +l +L.
+pub fn is_list(code: u8) -> bool
+    ensures { λ r. ⌜ r ≡ isList code ⌝ }
+{
+    within(code, 19, 20)
+}
+
 // +us: +ud:.
 pub fn is_union(code: u8) -> bool
     ensures { λ r. ⌜ r ≡ isUnion code ⌝ }
 {
-    within(code, 19, 20)
+    within(code, 21, 22)
+}
+
+// +us:.
+pub fn is_sparse(code: u8) -> bool
+    ensures { λ r. ⌜ r ≡ isSparse code ⌝ }
+{
+    code == 21
 }
 
 // +r.
 pub fn is_run_end(code: u8) -> bool
     ensures { λ r. ⌜ r ≡ isRunEnd code ⌝ }
 {
-    within(code, 21, 21)
+    within(code, 23, 23)
 }
 
 // The bytes of one number or one offset; 0 where the type has neither.
@@ -206,5 +230,5 @@ pub fn width_of(code: u8) -> u8
     ensures { λ r. ⌜ r ≡ widthOf code ⌝ }
 {
     let k = code as usize;
-    if k < 22 { WIDTHS[k] } else { 0 }
+    if k < 24 { WIDTHS[k] } else { 0 }
 }

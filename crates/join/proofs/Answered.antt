@@ -21,7 +21,7 @@ use Rattle.orders.specs.Counted.{AllAcceptedRoom, RoomEnough}
 use Rattle.orders.proofs.Step.{Joined, Running, Answers, made, not-made, order-step}
 use Rattle.orders.proofs.Booked.{answer-is}
 use Rattle.join.specs.Join.{Lending, Bytes, sourcesIn, typeIn, columnsIn, keepsIn, openingOf, lentOf, groundsIn, AllAccepted, Enough}
-use Rattle.join.proofs.Demand1.{runs}
+use Rattle.join.proofs.Opens.{runs}
 
 first-entry : {a b : ℕ} {r s : List ℕ} → _≡_ {A = List ℕ} (a ∷ r) (b ∷ s) → a ≡ b
 first-entry e = cc e

@@ -21,7 +21,8 @@ use Rattle.orders.proofs.CutRoom.{answer-room-cut, book-cut}
 use Rattle.orders.proofs.CutRun.{answers-behind, answers-one, carried-by, Carried, carried-out}
 use Rattle.opening.proofs.Opened.{Opened, orders-after}
 use Rattle.join.specs.Join.{Lending, Bytes, sourcesIn, treeIn, typeIn, columnsIn, keepsIn, openingOf, lentOf, afterCalls, nextCall, tablesOf, finishedOf, heldAfter, callAnswer, bookOf, reachedBy}
-use Rattle.join.proofs.Demand1.{runs, held-is, call-answered}
+use Rattle.join.proofs.Opens.{runs}
+use Rattle.join.proofs.Demand1.{held-is, call-answered}
 use Rattle.join.proofs.Demand2.{finished-bytes}
 use Rattle.join.proofs.Demand3.{the-book}
 use Rattle.join.proofs.CutShown.{column-shown, runs-shown}
@@ -117,7 +118,7 @@ module _ (l : Lending) (b : Bytes l) (accepted : openingOf l .ground ≡ 0) wher
     pub cut-rows : readAll (typeIn l) (finishedOf l halves) ≡ readAll (typeIn l) (finishedOf l single)
     cut-rows = the-book l b accepted halves ∙ cut-book ∙ sym (the-book l b accepted single)
 
-    -- EACH RUN-END NODE HAS AT MOST ONE RUN MORE, but for those below a list-view that itself stands below a run-end node
+    -- EACH RUN-END NODE HAS AT MOST ONE RUN MORE, but for those below a list-view or list that itself stands below a run-end node
     pub cut-runs : RunsCut (typeIn l) outside (finishedOf l single .body) (finishedOf l halves .body)
     cut-runs =
         runs-shown (treeIn l) (tablesOf l single) (tablesOf l halves) (typeIn l) outside 0 _ _ (finished-bytes l b accepted single .body-is) (finished-bytes l b accepted halves .body-is)

@@ -2,7 +2,7 @@
 use mathlib.Core.Path.{_≡_, refl, sym, ap, ap₂, _∙_, subst}
 use mathlib.Core.List.{List, List·Memᴰ}
 use Prim.Native.Nat.{ℕ, suc}
-use Rattle.columnar.specs.Types.{Plain, fixed, string, Ty, tPlain, tView, tListView, tSparse, tDense, tRunEnd, tDictionary}
+use Rattle.columnar.specs.Types.{Plain, fixed, string, Ty, tPlain, tView, tListView, tList, tSparse, tDense, tRunEnd, tDictionary}
 use Rattle.columnar.specs.Array.{Array}
 use Rattle.columnar.specs.Plain.{Text, PlainBody}
 use Rattle.columnar.specs.View.{Views}
@@ -51,6 +51,10 @@ module _ (tree : Tree) (x y : Tables) where
     h .1 ∙ s .1 ∙ sym (k .1),
     node-same (SameBody t) (suc i) _ _ (a .child) (b .child) _ _ (h .2) (k .2) (s .2) (body-shown t (suc i) (a .child .body) (b .child .body) (h .2 .body-is) (k .2 .body-is) (s .2 .body-same)),
   )
+  body-shown (tList w t) i a b h k s = (
+    h .0 ∙ s .0 ∙ sym (k .0),
+    node-same (SameBody t) (suc i) _ _ (a .child) (b .child) _ _ (h .1) (k .1) (s .1) (body-shown t (suc i) (a .child .body) (b .child .body) (h .1 .body-is) (k .1 .body-is) (s .1 .body-same)),
+  )
   body-shown (tSparse ids nullable f) i a b h k s = (
     h .0 ∙ s .0 ∙ sym (k .0),
     λ e m.
@@ -83,6 +87,7 @@ module _ (tree : Tree) (x y : Tables) where
   runs-shown (tPlain p) u i a b h k s = tt
   runs-shown tView u i a b h k s = tt
   runs-shown (tListView w t) u i a b h k s = runs-shown t (underList u) (suc i) (a .child .body) (b .child .body) (h .2 .body-is) (k .2 .body-is) s
+  runs-shown (tList w t) u i a b h k s = runs-shown t (underList u) (suc i) (a .child .body) (b .child .body) (h .1 .body-is) (k .1 .body-is) s
   runs-shown (tSparse ids nullable f) u i a b h k s = λ e m. runs-shown (f e) u (nodeOf tree i ids e) (a .children e .body) (b .children e .body) (h .1 e m .body-is) (k .1 e m .body-is) (s e m)
   runs-shown (tDense ids nullable f) u i a b h k s = λ e m. runs-shown (f e) u (nodeOf tree i ids e) (a .children e .body) (b .children e .body) (h .2 e m .body-is) (k .2 e m .body-is) (s e m)
   runs-shown (tRunEnd w t) u i a b h k s = (

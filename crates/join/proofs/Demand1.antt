@@ -20,8 +20,9 @@ use Rattle.orders.proofs.Accepted.{order-keeps}
 use Rattle.orders.proofs.Booked.{groundOf, booked, ground-is}
 use Rattle.opening.specs.Open.{roomPlaced, opening}
 use Rattle.opening.specs.Fits.{openIn}
-use Rattle.opening.proofs.Opened.{Opened, opening-refused, opening-ground, opening-runs, orders-after}
+use Rattle.opening.proofs.Opened.{Opened, opening-refused, opening-ground, orders-after}
 use Rattle.join.specs.Join.{Lending, Bytes, sourcesIn, typeIn, columnsIn, keepsIn, openingOf, lentOf, afterCalls, nextCall, openAnswer, heldAfter, callAnswer, reachedBy}
+use Rattle.join.proofs.Opens.{runs}
 use Rattle.join.proofs.Numbers.{Ordinary, number-among}
 
 -- ---- THE OPENING
@@ -66,13 +67,9 @@ module _ (l : Lending) where
       go true e true f true g =
           opening-ground (l .formats) (l .schema) (l .sources) (l .tables) (l .keep) (l .parts) (l .plan) (l .counters) (l .room) (b .body-bytes) (b .room-bytes) (leb-true _ _ e) (eqb-true _ _ f) g
 
-  -- what an accepted opening leaves
-  pub runs : Bytes l → openingOf l .ground ≡ 0 → Opened (l .formats) (l .schema) (l .sources) (l .tables) (l .keep) (l .parts) (openingOf l)
-  runs b = opening-runs (l .formats) (l .schema) (l .sources) (l .tables) (l .keep) (l .parts) (l .plan) (l .counters) (l .room) (b .body-bytes) (b .room-bytes)
-
   -- the plan that it leaves is the one that every later call is lent
   pub plan-left : Bytes l → openingOf l .ground ≡ 0 → openingOf l .plan ≡ lentOf l .plan
-  plan-left b h = runs b h .plan-is
+  plan-left b h = runs l b h .plan-is
 
 -- ---- THE CALLS
 

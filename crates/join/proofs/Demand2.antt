@@ -34,7 +34,7 @@ use Rattle.finishing.specs.Shows.{Shows, Counts, Bodied}
 use Rattle.finishing.proofs.Orders.{appended}
 use Rattle.finishing.proofs.Join.{finishing-accepted, join-shows, join-nulls, join-again}
 use Rattle.join.specs.Join.{Lending, Bytes, sourcesIn, treeIn, typeIn, columnsIn, keepsIn, openingOf, lentOf, afterCalls, nextCall, finishingOf, tablesAt, tablesOf, finishedOf, nullsOf, reachedBy}
-use Rattle.join.proofs.Demand1.{runs}
+use Rattle.join.proofs.Opens.{runs}
 
 -- ---- the model's destination is that of the Rust's calls, those that are carried out
 

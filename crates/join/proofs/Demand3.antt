@@ -22,7 +22,7 @@ use Rattle.opening.proofs.Opened.{Opened}
 use Rattle.finishing.specs.Shows.{Bodied}
 use Rattle.finishing.proofs.Join.{join-rows}
 use Rattle.join.specs.Join.{Lending, Bytes, sourcesIn, typeIn, columnsIn, keepsIn, openingOf, lentOf, afterCalls, groundsIn, finishedAt, finishedOf, bookOf, bookAnswered, reachedBy}
-use Rattle.join.proofs.Demand1.{runs}
+use Rattle.join.proofs.Opens.{runs}
 use Rattle.join.proofs.Demand2.{finished-bytes, counters-are, behind-body}
 
 -- after an accepted opening and any list of calls, refused ones included

@@ -1,5 +1,6 @@
 -- THE THREE DEMANDS on whole joins.
 pub mod Numbers
+pub mod Opens
 pub mod Demand1
 pub mod Written
 pub mod Demand2

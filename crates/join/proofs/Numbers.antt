@@ -6,16 +6,17 @@ use Prim.Native.Nat.{ℕ, zero, suc, _+_, _-_, _≤_}
 use native.Mathlib.Omega.{arith}
 use lib.ListN.{getD}
 use lib.Dec.{ltb, leb}
-use Rattle.columnar.specs.Types.{half, fixed, string, Ty, tPlain, tView, tListView, tSparse, tDense, tRunEnd, tDictionary}
+use Rattle.columnar.specs.Types.{half, fixed, string, Ty, tPlain, tView, tListView, tList, tSparse, tDense, tRunEnd, tDictionary}
 use Rattle.columnar.specs.Array.{item}
 use Rattle.columnar.specs.Plain.{PlainBody}
 use Rattle.columnar.specs.ListView.{ListView}
+use Rattle.columnar.specs.List.{Listed}
 use Rattle.columnar.specs.Union.{Dense}
 use Rattle.columnar.specs.RunEnd.{RunEnd}
 use Rattle.columnar.specs.Reading.{Body, Column}
 use Rattle.model.specs.Try.{Try, done, stop, then, guard, stepsT}
 use Rattle.model.specs.Ordered.{firstNullable, home}
-use Rattle.model.specs.Grounds.{Counts, counts, leaf, rowsOf, bytesOf, kidOf, withKid, Ask, askOf, each, sparseAll, plainAsk, listViewRow, listViewAsk, denseRow, denseAsk, firstRun, runCount, runEndAsk, askCopy, AskNulls, unlessNone, denseNulls, runEndNulls, nullsAsk, askNulls}
+use Rattle.model.specs.Grounds.{Counts, counts, leaf, rowsOf, bytesOf, kidOf, withKid, Ask, askOf, each, sparseAll, plainAsk, listViewRow, listViewAsk, listAsk, denseRow, denseAsk, firstRun, runCount, runEndAsk, askCopy, AskNulls, unlessNone, denseNulls, runEndNulls, nullsAsk, askNulls}
 use Rattle.model.specs.Book.{Call, copy, nulls, answer}
 use Rattle.orders.specs.Counted.{roomFor, answerRoom}
 use Rattle.orders.proofs.Booked.{groundOf}
@@ -76,6 +77,15 @@ list-low w ask h b =
     stops-guard Low (ltb (rowsOf (kidOf c 0) + item w (b .sizes) i) (half w)) 6 (then p f) (omega arith)
     (stops-then Low p f (h (b .child .body) (b .child .off + item w (b .offsets) i) (item w (b .sizes) i) (kidOf c 0)) (λ k. tt)))
 
+lists-low : {P : Type 0} (w : ℕ) (ask : P → Ask) → ((b : P) → LowAsk (ask b)) → (b : Listed P) → LowAsk (listAsk w ask b)
+lists-low w ask h b a zero c = tt
+lists-low w ask h b a (suc n) c =
+    let y = item w (b .offsets) (a + suc n) - item w (b .offsets) a in
+    let p = askOf ask (b .child) (item w (b .offsets) a) y (kidOf c 0) in
+    let f : Counts → Try Counts = λ k. done (counts (rowsOf c + suc n) 0 (λ e. k)) in
+    stops-guard Low (ltb (rowsOf (kidOf c 0) + y) (half w)) 6 (then p f) (omega arith)
+    (stops-then Low p f (h (b .child .body) (b .child .off + item w (b .offsets) a) y (kidOf c 0)) (λ k. tt))
+
 dense-low : {P : ℕ → Type 0} (ask : (c : ℕ) → P c → Ask) → ((e : ℕ) (b : P e) → LowAsk (ask e b)) → (b : Dense P) → LowAsk (denseAsk ask b)
 dense-low ask h b =
     stops-steps Low (denseRow ask b)
@@ -98,6 +108,7 @@ copy-low (tPlain (fixed k)) b = λ a n c. tt
 copy-low (tPlain (string w)) b = string-low w b
 copy-low tView b = λ a n c. tt
 copy-low (tListView w t) b = list-low w (askCopy t) (copy-low t) b
+copy-low (tList w t) b = lists-low w (askCopy t) (copy-low t) b
 copy-low (tSparse ids nullable f) b = λ a n c.
     stops-each Low (λ e. askOf (askCopy (f e)) (b .children e) a n (kidOf c e)) ids (done _) (λ e. copy-low (f e) (b .children e .body) (b .children e .off + a) n (kidOf c e)) tt
 copy-low (tDense ids nullable f) b = dense-low (λ e. askCopy (f e)) (λ e. copy-low (f e)) b
@@ -129,6 +140,7 @@ fill-low (tPlain (fixed k)) = λ n c. tt
 fill-low (tPlain (string w)) = λ n c. tt
 fill-low tView = λ n c. tt
 fill-low (tListView w t) = λ n c. tt
+fill-low (tList w t) = λ n c. tt
 fill-low (tSparse ids nullable f) = λ n c.
     stops-then Low (home nullable ids) (λ h. sparseAll ids (λ e. unlessNone (nullsAsk (f e)) n (kidOf c e)) (rowsOf c + n)) (home-low nullable ids)
     (λ h. stops-each Low (λ e. unlessNone (nullsAsk (f e)) n (kidOf c e)) ids (done _) (λ e. unless-low (nullsAsk (f e)) (fill-low (f e)) n (kidOf c e)) tt)

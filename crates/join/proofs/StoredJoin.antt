@@ -106,9 +106,9 @@ wide-taken = refl
 
 -- ---- the plan's words for one byte string that keeps nulls
 
-first-part : (plan : List ℕ) → keepsOf plan 0 ≡ 1 → codeOf plan 0 < 19 → partsBefore plan 0 + validityParts plan 0 ≡ 1
+first-part : (plan : List ℕ) → keepsOf plan 0 ≡ 1 → codeOf plan 0 < 21 → partsBefore plan 0 + validityParts plan 0 ≡ 1
 unfolding partsBefore validityParts copied
-first-part plan k c = rw (k, lt-ltb (codeOf plan 0) 19 c) refl
+first-part plan k c = rw (k, lt-ltb (codeOf plan 0) 21 c) refl
 
 record Words (l : Lending) : Type 0 where
   keeps-is : keepsOf (lentOf l .plan) 0 ≡ 1
@@ -116,7 +116,7 @@ record Words (l : Lending) : Type 0 where
 
 words : (l : Lending) → Taken l → keepsOf (lentOf l .plan) 0 ≡ 1 → isString (codeOf (lentOf l .plan) 0) ≡ true → 1 ≤ nodesOf (lentOf l .plan) → Words l
 words l ok k c n =
-    let low : codeOf (lentOf l .plan) 0 < 19 = omega (arith, between-both 11 14 (codeOf (lentOf l .plan) 0) c) in
+    let low : codeOf (lentOf l .plan) 0 < 21 = omega (arith, between-both 11 14 (codeOf (lentOf l .plan) 0) c) in
     let e : partOf (lentOf l .plan) 0 ≡ 1 = stood (l .formats) (l .schema) (l .tables) (l .sources) ok (l .keep) .numbered .word-is 0 n ∙ first-part (lentOf l .plan) k low in
     record { keeps-is = k; size-is = λ b. ap (λ p. sizeAt (l .parts) (p + b - 1)) e ∙ ap (sizeAt (l .parts)) (let z : 1 + b - 1 ≡ b = omega arith in z) }
 

@@ -10,25 +10,25 @@ use lib.ListN.{length}
 use lib.Dec.{T, eqb}
 use borrow.Author.Tests.{eqb-true, ne-eqb}
 use Rattle.columnar.specs.Types.{Number, limit, Plain, fixed, string}
-use Rattle.columnar.specs.Wider.{Declared, integer, KeyWider, PlainWider, wFixed, wString, Wider, wPlain, wView, wListView, wSparse, wDense, wRunEnd, wDictionary}
+use Rattle.columnar.specs.Wider.{Declared, integer, KeyWider, PlainWider, wFixed, wString, Wider, wPlain, wView, wListView, wList, wSparse, wDense, wRunEnd, wDictionary}
 use Rattle.columnar.proofs.Test.{member-agrees}
-use Rattle.formats.specs.Code.{between, isInteger, isFixed, isString, isView, isListView, isUnion, isRunEnd, widthOf}
+use Rattle.formats.specs.Code.{between, isInteger, isFixed, isString, isView, isListView, isList, isUnion, isRunEnd, widthOf}
 use Rattle.formats.specs.Types.{numberOf}
 use Rattle.schema.specs.Tree.{children, dictionary, below, bare, childForEach, isValues, endOf, childAt, depth, whole, codeOf, idsOf, valuesShape, endsShape, leafShape, keysShape, listShape, unionShape, runShape, shape, ceilings, typed}
 use Rattle.schema.proofs.Trees.{child-inside, child-is, end-up, end-after, end-inside}
 use Rattle.schema.proofs.Depth.{nested, child-before, child-depth}
 use Rattle.schema.proofs.Known.{typed-whole, typed-shape, within-depth}
 use Rattle.array_data.specs.Tables.{Tables}
-use Rattle.array_data.specs.Typed.{NodeKind, fixedNode, viewNode, listViewNode, sparseNode, denseNode, runEndNode, dictionaryNode, Tree, childNode, fieldOf}
+use Rattle.array_data.specs.Typed.{NodeKind, fixedNode, viewNode, listViewNode, listNode, sparseNode, denseNode, runEndNode, dictionaryNode, Tree, childNode, fieldOf}
 use Rattle.lent.specs.Lent.{numberOr, idsOr, unionKind, kindAt, treeOf, plainAs, tyAs, tyOf, typeOf}
 use Rattle.lent.proofs.Ids.{both, field-in}
-use Rattle.lent.proofs.Shaped.{five, integer-fixed, plainKind, at-fixed, at-keys, at-string, at-view, at-list, at-union, at-run}
+use Rattle.lent.proofs.Shaped.{five, integer-fixed, plainKind, at-fixed, at-keys, at-string, at-view, at-list, at-lists, at-union, at-run}
 use Rattle.lent.proofs.Lent.{child-same, first-child, second-child, some-node, root}
 use Rattle.columns.specs.Grounds.{firstOf, nodesOf, sourcesGround}
 use Rattle.columns.proofs.Grounds.{Accepted, accepted, some-source, within-low, within-at, typed-at}
 use Rattle.join.specs.Join.{Lending, typeIn}
-use Rattle.join.specs.Stored.{StoredWider, isEnds, CodeWider, same-code, strings, list-views, keys, run-ends, endsAt, NodeWider}
-use Rattle.join.proofs.Stored.{range, ends-range, near, view-kept, string-kept, list-kept, run-kept, end-same}
+use Rattle.join.specs.Stored.{StoredWider, isEnds, CodeWider, same-code, strings, list-views, plain-lists, keys, run-ends, endsAt, NodeWider}
+use Rattle.join.proofs.Stored.{range, ends-range, near, view-kept, string-kept, list-kept, plain-list-kept, run-kept, end-same}
 
 integer-number : (c : ℕ) → isInteger c ≡ true → T (integer (numberOr (numberOf c)))
 unfolding numberOf
@@ -124,6 +124,7 @@ module _ (formats schema : List ℕ) (x : Tables) (first : ℕ) (formats′ sche
           }
       go (strings a b r) = absurd (omega (arith, range 1 10 (code i) h .1, range 11 14 (code i) a .0))
       go (list-views a b r) = absurd (omega (arith, range 1 10 (code i) h .1, range 17 18 (code i) a .0))
+      go (plain-lists a b r) = absurd (omega (arith, range 1 10 (code i) h .1, range 19 20 (code i) a .0))
       go (keys k a b r) = absurd (not-keyed i z k)
       go (run-ends k a b r) = absurd (false≢true (sym o ∙ k))
 
@@ -141,6 +142,7 @@ module _ (formats schema : List ℕ) (x : Tables) (first : ℕ) (formats′ sche
       go (same-code e) = subst (λ c. widthOf (code i) ≤ widthOf c) e (le-refl (widthOf (code i)))
       go (strings a b r) = r
       go (list-views a b r) = absurd (omega (arith, range 11 14 (code i) h .1, range 17 18 (code i) a .0))
+      go (plain-lists a b r) = absurd (omega (arith, range 11 14 (code i) h .1, range 19 20 (code i) a .0))
       go (keys k a b r) = absurd (omega (arith, range 11 14 (code i) h .0, range 1 8 (code i) a .1))
       go (run-ends k a b r) = absurd (omega (arith, range 11 14 (code i) h .0, ends-range (code i) a .1))
 
@@ -156,6 +158,7 @@ module _ (formats schema : List ℕ) (x : Tables) (first : ℕ) (formats′ sche
     k-plain : PlainAt i → Kinds i
     k-view : kind i ≡ viewNode → kind′ i ≡ viewNode → Kinds i
     k-list : (v v′ : ℕ) → v ≤ v′ → kind i ≡ listViewNode v → kind′ i ≡ listViewNode v′ → below schema first i ≡ 1 → isRunEnd (code i) ≡ false → Kinds i
+    k-lists : (v v′ : ℕ) → v ≤ v′ → kind i ≡ listNode v → kind′ i ≡ listNode v′ → below schema first i ≡ 1 → isRunEnd (code i) ≡ false → Kinds i
     k-sparse : (ids : List ℕ) → kind i ≡ sparseNode ids → kind′ i ≡ sparseNode ids → below schema first i ≡ length ids → isRunEnd (code i) ≡ false → eqb (dictionary schema first i) 1 ≡ false → Kinds i
     k-dense : (ids : List ℕ) → kind i ≡ denseNode ids → kind′ i ≡ denseNode ids → below schema first i ≡ length ids → isRunEnd (code i) ≡ false → eqb (dictionary schema first i) 1 ≡ false → Kinds i
     k-run : (v v′ : ℕ) → v ≤ v′ → kind i ≡ runEndNode v → kind′ i ≡ runEndNode v′ → below schema first i ≡ 2 → below schema first (suc i) ≡ 0 → Kinds i
@@ -175,12 +178,12 @@ module _ (formats schema : List ℕ) (x : Tables) (first : ℕ) (formats′ sche
       let p = both (eqb (children schema first i) 0) (eqb (dictionary schema first i) 0) h in
       below-single i (p .1) ∙ eqb-true (children schema first i) 0 (p .0)
 
-  no-run : (a b c : ℕ) → between a b c ≡ true → b < 21 → isRunEnd c ≡ false
+  no-run : (a b c : ℕ) → between a b c ≡ true → b < 23 → isRunEnd c ≡ false
   no-run a b c h l = go (isRunEnd c) refl
     where
       go : (d : Bool) → isRunEnd c ≡ d → d ≡ false
       go false e = refl
-      go true e = absurd (omega (arith, range a b c h .1, range 21 21 c e .0))
+      go true e = absurd (omega (arith, range a b c h .1, range 23 23 c e .0))
 
   leaf-kinds : (i : ℕ) → i < n → ended i ≡ false → leafShape formats schema first i ≡ true → Kinds i
   unfolding leafShape
@@ -195,26 +198,42 @@ module _ (formats schema : List ℕ) (x : Tables) (first : ℕ) (formats′ sche
   list-kinds : (i : ℕ) → i < n → listShape formats schema first i ≡ true → Kinds i
   unfolding listShape
   list-kinds i l h =
-      let p = both (isListView (code i) && eqb (children schema first i) 1) (eqb (dictionary schema first i) 0) h in
-      let q = both (isListView (code i)) (eqb (children schema first i) 1) (p .0) in
-      k-list (widthOf (code i)) (widthOf (code′ i)) (go (q .0) (nodes i l .wider-code)) (at-list formats schema first i (q .0))
-      (at-list formats′ schema′ first′ i (list-kept (code i) (code′ i) (near (nodes i l .wider-code)) (q .0))) (below-single i (p .1) ∙ eqb-true (children schema first i) 1 (q .1))
-      (no-run 17 18 (code i) (q .0) (omega arith))
+      let p = both ((isListView (code i) || isList (code i)) && eqb (children schema first i) 1) (eqb (dictionary schema first i) 0) h in
+      let q = both (isListView (code i) || isList (code i)) (eqb (children schema first i) 1) (p .0) in
+      of (isListView (code i)) refl (q .0) (below-single i (p .1) ∙ eqb-true (children schema first i) 1 (q .1))
     where
       go : isListView (code i) ≡ true → CodeWider (eqb (dictionary schema first i) 1) (ended i) (code i) (code′ i) → widthOf (code i) ≤ widthOf (code′ i)
       go g (same-code e) = subst (λ c. widthOf (code i) ≤ widthOf c) e (le-refl (widthOf (code i)))
       go g (strings a b r) = absurd (omega (arith, range 17 18 (code i) g .0, range 11 14 (code i) a .1))
       go g (list-views a b r) = r
+      go g (plain-lists a b r) = r
       go g (keys k a b r) = absurd (omega (arith, range 17 18 (code i) g .0, range 1 8 (code i) a .1))
       go g (run-ends k a b r) = absurd (omega (arith, range 17 18 (code i) g .0, ends-range (code i) a .1))
+
+      go-list : isList (code i) ≡ true → CodeWider (eqb (dictionary schema first i) 1) (ended i) (code i) (code′ i) → widthOf (code i) ≤ widthOf (code′ i)
+      go-list g (same-code e) = subst (λ c. widthOf (code i) ≤ widthOf c) e (le-refl (widthOf (code i)))
+      go-list g (strings a b r) = r
+      go-list g (list-views a b r) = r
+      go-list g (plain-lists a b r) = r
+      go-list g (keys k a b r) = absurd (omega (arith, range 19 20 (code i) g .0, range 1 8 (code i) a .1))
+      go-list g (run-ends k a b r) = absurd (omega (arith, range 19 20 (code i) g .0, ends-range (code i) a .1))
+
+      of : (v : Bool) → isListView (code i) ≡ v → v || isList (code i) ≡ true → below schema first i ≡ 1 → Kinds i
+      of true e g z =
+          k-list (widthOf (code i)) (widthOf (code′ i)) (go e (nodes i l .wider-code)) (at-list formats schema first i e)
+          (at-list formats′ schema′ first′ i (list-kept (code i) (code′ i) (near (nodes i l .wider-code)) e)) z (no-run 17 18 (code i) e (omega arith))
+      of false e g z =
+          k-lists (widthOf (code i)) (widthOf (code′ i)) (go-list g (nodes i l .wider-code)) (at-lists formats schema first i g)
+          (at-lists formats′ schema′ first′ i (plain-list-kept (code i) (code′ i) (near (nodes i l .wider-code)) g)) z (no-run 19 20 (code i) g (omega arith))
 
   -- a union's code is the same
   union-code : (i : ℕ) → isUnion (code i) ≡ true → CodeWider (eqb (dictionary schema first i) 1) (ended i) (code i) (code′ i) → code i ≡ code′ i
   union-code i g (same-code e) = e
-  union-code i g (strings a b r) = absurd (omega (arith, range 19 20 (code i) g .0, range 11 14 (code i) a .1))
-  union-code i g (list-views a b r) = absurd (omega (arith, range 19 20 (code i) g .0, range 17 18 (code i) a .1))
-  union-code i g (keys k a b r) = absurd (omega (arith, range 19 20 (code i) g .0, range 1 8 (code i) a .1))
-  union-code i g (run-ends k a b r) = absurd (omega (arith, range 19 20 (code i) g .0, ends-range (code i) a .1))
+  union-code i g (strings a b r) = absurd (omega (arith, range 21 22 (code i) g .0, range 11 14 (code i) a .1))
+  union-code i g (list-views a b r) = absurd (omega (arith, range 21 22 (code i) g .0, range 17 18 (code i) a .1))
+  union-code i g (plain-lists a b r) = absurd (omega (arith, range 21 22 (code i) g .0, range 19 20 (code i) a .1))
+  union-code i g (keys k a b r) = absurd (omega (arith, range 21 22 (code i) g .0, range 1 8 (code i) a .1))
+  union-code i g (run-ends k a b r) = absurd (omega (arith, range 21 22 (code i) g .0, ends-range (code i) a .1))
 
   ids-children : (o : Option (List ℕ)) (i : ℕ) → childForEach schema first o i ≡ true → children schema first i ≡ length (idsOr o)
   ids-children none i h = absurd (false≢true h)
@@ -229,8 +248,8 @@ module _ (formats schema : List ℕ) (x : Tables) (first : ℕ) (formats′ sche
       let e = union-code i (q .0) (nodes i l .wider-code) in
       let b = below-single i (p .1) ∙ ids-children ids i (q .1) in
       let a = at-union formats schema first i (q .0) in
-      let a′ = at-union formats′ schema′ first′ i (subst (λ c. isUnion c ≡ true) e (q .0)) ∙ ap (λ c. unionKind (eqb c 19) (idsOr (idsOf formats′ schema′ first′ i))) (sym e) ∙ ap (λ o. unionKind (eqb (code i) 19) (idsOr o)) (sym (nodes i l .same-ids (q .0))) in
-      go (eqb (code i) 19) (idsOr ids) a a′ b (no-run 19 20 (code i) (q .0) (omega arith)) (ne-eqb (dictionary schema first i) 1 (λ z. not-keyed i (p .1) (subst (λ d. eqb d 1 ≡ true) (sym z) refl)))
+      let a′ = at-union formats′ schema′ first′ i (subst (λ c. isUnion c ≡ true) e (q .0)) ∙ ap (λ c. unionKind (eqb c 21) (idsOr (idsOf formats′ schema′ first′ i))) (sym e) ∙ ap (λ o. unionKind (eqb (code i) 21) (idsOr o)) (sym (nodes i l .same-ids (q .0))) in
+      go (eqb (code i) 21) (idsOr ids) a a′ b (no-run 21 22 (code i) (q .0) (omega arith)) (ne-eqb (dictionary schema first i) 1 (λ z. not-keyed i (p .1) (subst (λ d. eqb d 1 ≡ true) (sym z) refl)))
     where
       go : (b : Bool) (ids : List ℕ) → kind i ≡ unionKind b ids → kind′ i ≡ unionKind b ids → below schema first i ≡ length ids → isRunEnd (code i) ≡ false → eqb (dictionary schema first i) 1 ≡ false → Kinds i
       go true ids e e′ b r d = k-sparse ids e e′ b r d
@@ -271,6 +290,7 @@ module _ (formats schema : List ℕ) (x : Tables) (first : ℕ) (formats′ sche
         go g (same-code e) = (subst (λ c. isInteger c ≡ true) e g, subst (λ c. limit (numberOr (numberOf (code i))) ≤ limit (numberOr (numberOf c))) e (le-refl _))
         go g (strings a b r) = absurd (omega (arith, range 1 8 (code i) g .1, range 11 14 (code i) a .0))
         go g (list-views a b r) = absurd (omega (arith, range 1 8 (code i) g .1, range 17 18 (code i) a .0))
+        go g (plain-lists a b r) = absurd (omega (arith, range 1 8 (code i) g .1, range 19 20 (code i) a .0))
         go g (keys k a b r) = (b, r)
         go g (run-ends k a b r) = absurd (false≢true (sym o ∙ k))
 
@@ -295,6 +315,7 @@ module _ (formats schema : List ℕ) (x : Tables) (first : ℕ) (formats′ sche
         go g z (same-code e) = subst (λ c. widthOf (code (suc i)) ≤ widthOf c) e (le-refl (widthOf (code (suc i))))
         go g z (strings a b r) = r
         go g z (list-views a b r) = r
+        go g z (plain-lists a b r) = r
         go g z (keys k a b r) = absurd (not-keyed (suc i) z k)
         go g z (run-ends k a b r) = r
 
@@ -368,16 +389,16 @@ module _ (formats schema : List ℕ) (x : Tables) (first : ℕ) (formats′ sche
           (λ h. absurd (leaf (both (isFixed c || isString c || isView c) (bare schema first m) h .0)))
           (λ h. let p = both (isInteger c && eqb (children schema first m) 0 && eqb (dictionary schema first m) 1) (valuesShape formats schema first (suc m)) h in
           keys-below m (eqb-true _ 1 (both (isInteger c && eqb (children schema first m) 0) (eqb (dictionary schema first m) 1) (p .0) .1)))
-          (λ h. let p = both (isListView c && eqb (children schema first m) 1) (eqb (dictionary schema first m) 0) h in
-          let z = below-single m (p .1) ∙ eqb-true _ 1 (both (isListView c) (eqb (children schema first m) 1) (p .0) .1) in omega arith)
+          (λ h. let p = both ((isListView c || isList c) && eqb (children schema first m) 1) (eqb (dictionary schema first m) 0) h in
+          let z = below-single m (p .1) ∙ eqb-true _ 1 (both (isListView c || isList c) (eqb (children schema first m) 1) (p .0) .1) in omega arith)
           (λ h. let p = both (isUnion c && childForEach schema first (idsOf formats schema first m) m) (eqb (dictionary schema first m) 0) h in
-          absurd (omega (arith, range 21 21 c e .0, range 19 20 c (both (isUnion c) (childForEach schema first (idsOf formats schema first m) m) (p .0) .0) .1)))
+          absurd (omega (arith, range 23 23 c e .0, range 21 22 c (both (isUnion c) (childForEach schema first (idsOf formats schema first m) m) (p .0) .0) .1)))
           (λ h. let p = both (isRunEnd c && eqb (children schema first m) 2 && eqb (dictionary schema first m) 0) (endsShape formats schema first (suc m)) h in
           let q = both (isRunEnd c && eqb (children schema first m) 2) (eqb (dictionary schema first m) 0) (p .0) in
           let z = below-single m (q .1) ∙ eqb-true _ 2 (both (isRunEnd c) (eqb (children schema first m) 2) (q .0) .1) in omega arith)
         where
-          none-of : (a b : ℕ) → b < 21 → between a b (code m) ≡ true → ⊥
-          none-of a b s h = omega (arith, range 21 21 (code m) e .0, range a b (code m) h .1)
+          none-of : (a b : ℕ) → b < 23 → between a b (code m) ≡ true → ⊥
+          none-of a b s h = omega (arith, range 23 23 (code m) e .0, range a b (code m) h .1)
 
           leaf : isFixed (code m) || isString (code m) || isView (code m) ≡ true → ⊥
           leaf h = go (isFixed (code m)) refl (isString (code m)) refl (isView (code m)) refl h
@@ -404,6 +425,8 @@ module _ (formats schema : List ℕ) (x : Tables) (first : ℕ) (formats′ sche
       types-by f i l (k-view e e′) kid = moved f i e e′ wView
       types-by f i l (k-list v v′ r e e′ b o) kid =
           moved f i e e′ (wListView v v′ r (subst (WiderFrom f) (first-child formats schema first n i) (kid 0 (omega arith) (not-ended i 0 l (omega arith) o))))
+      types-by f i l (k-lists v v′ r e e′ b o) kid =
+          moved f i e e′ (wList v v′ r (subst (WiderFrom f) (first-child formats schema first n i) (kid 0 (omega arith) (not-ended i 0 l (omega arith) o))))
       types-by f i l (k-sparse ids e e′ b o d) kid =
           let each : (c : ℕ) → Declared ids c → _ = λ c m.
           let h : fieldOf ids c < below schema first i = omega (arith, field-in ids c (member-agrees c ids .sound m)) in

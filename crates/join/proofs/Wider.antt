@@ -30,7 +30,8 @@ use Rattle.opening.proofs.Stay.{open-model}
 use Rattle.opening.proofs.Opened.{opening-ground}
 use Rattle.join.specs.Join.{Lending, Bytes, sourcesIn, typeIn, columnsIn, keepsIn, openingOf, lentOf, groundsIn, finishedOf, bookOf, acceptedOf, AllAccepted, Enough}
 use Rattle.join.specs.Stored.{StoredWider}
-use Rattle.join.proofs.Demand1.{parts-next, runs}
+use Rattle.join.proofs.Opens.{runs}
+use Rattle.join.proofs.Demand1.{parts-next}
 use Rattle.join.proofs.Answered.{No13, AllZero, accepted-zero, enough-room}
 use Rattle.join.proofs.Stored.{sources-taken}
 use Rattle.join.proofs.Demand3.{the-book}
@@ -83,10 +84,10 @@ module _ (n w : Lending) (bytes-n : Bytes n) (bytes-w : Bytes w) (accepted-n : o
   same-keeps : keepsIn n ≡ keepsIn w
   same-keeps = keeps-wider (n .keep) (sourcesIn n) (columnsIn n) (columnsIn w) (again .each) ∙ ap₂ (λ u k. keeps u k (columnsIn w)) same-choice same-count
 
-  moved : (P : Bool → ℕ → Counts → Type 0) → P (keepsIn n) (sourcesIn n) (startCounts (typeIn n)) → P (keepsIn w) (sourcesIn w) (startCounts (typeIn w))
+  pub moved : (P : Bool → ℕ → Counts → Type 0) → P (keepsIn n) (sourcesIn n) (startCounts (typeIn n)) → P (keepsIn w) (sourcesIn w) (startCounts (typeIn w))
   moved P h = subst (P (keepsIn w) (sourcesIn w)) (start-counts-wider d) (subst (λ k. P (keepsIn w) k (startCounts (typeIn n))) same-count (subst (λ b. P b (sourcesIn n) (startCounts (typeIn n))) same-keeps h))
 
-  moved-back : (P : Bool → ℕ → Counts → Type 0) → P (keepsIn w) (sourcesIn w) (startCounts (typeIn w)) → P (keepsIn n) (sourcesIn n) (startCounts (typeIn n))
+  pub moved-back : (P : Bool → ℕ → Counts → Type 0) → P (keepsIn w) (sourcesIn w) (startCounts (typeIn w)) → P (keepsIn n) (sourcesIn n) (startCounts (typeIn n))
   moved-back P h =
       subst (λ b. P b (sourcesIn n) (startCounts (typeIn n))) (sym same-keeps) (subst (λ k. P (keepsIn w) k (startCounts (typeIn n))) (sym same-count) (subst (P (keepsIn w) (sourcesIn w)) (sym (start-counts-wider d)) h))
 

@@ -17,7 +17,7 @@ use Rattle.orders.proofs.Accepted.{fine-orders, order-made, order-writes, order
 use Rattle.opening.proofs.Opened.{Opened, orders-after}
 use Rattle.opening.proofs.Written.{opening-fine, opening-sound, opening-writes, opening-made}
 use Rattle.join.specs.Join.{Lending, Bytes, openingOf, lentOf, afterCalls, nextCall}
-use Rattle.join.proofs.Demand1.{runs}
+use Rattle.join.proofs.Opens.{runs}
 
 module _ (l : Lending) (b : Bytes l) (accepted : openingOf l .ground ≡ 0) where
   -- THE OPENING: every byte that is in no part's used length is as lent

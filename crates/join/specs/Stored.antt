@@ -6,7 +6,7 @@ use mathlib.Core.List.{List}
 use Prim.Native.Nat.{ℕ, zero, suc, _+_, _≤_, _<_}
 use lib.Dec.{T, eqb}
 use Rattle.columnar.specs.Types.{limit}
-use Rattle.formats.specs.Code.{isInteger, isString, isView, isListView, isUnion, isRunEnd, widthOf}
+use Rattle.formats.specs.Code.{isInteger, isString, isView, isListView, isList, isUnion, isRunEnd, widthOf}
 use Rattle.formats.specs.Types.{numberOf}
 use Rattle.schema.specs.Tree.{flag, children, dictionary, isValues, codeOf, idsOf, sameFormats}
 use Rattle.array_data.specs.Tables.{Tables, lengthOf, offsetOf, place}
@@ -20,11 +20,12 @@ abbrev pub isEnds : ℕ → Bool
 isEnds c = eqb c 3 || eqb c 5 || eqb c 7
 
 -- The codes of two formats (formats/specs/Code.antt): the same, or the second one reaches as high, where they are a byte string's offsets, a
--- list-view's, the keys of a node that has a dictionary, or run ends, which stand behind a run-end node.
+-- list-view's or list's, the keys of a node that has a dictionary, or run ends, which stand behind a run-end node.
 pub data CodeWider (keyed ended : Bool) (c c′ : ℕ) : Type 0 where
   same-code : c ≡ c′ → CodeWider keyed ended c c′
   strings : isString c ≡ true → isString c′ ≡ true → widthOf c ≤ widthOf c′ → CodeWider keyed ended c c′
   list-views : isListView c ≡ true → isListView c′ ≡ true → widthOf c ≤ widthOf c′ → CodeWider keyed ended c c′
+  plain-lists : isList c ≡ true → isList c′ ≡ true → widthOf c ≤ widthOf c′ → CodeWider keyed ended c c′
   keys : keyed ≡ true → isInteger c ≡ true → isInteger c′ ≡ true → limit (numberOr (numberOf c)) ≤ limit (numberOr (numberOf c′)) → CodeWider keyed ended c c′
   run-ends : ended ≡ true → isEnds c ≡ true → isEnds c′ ≡ true → widthOf c ≤ widthOf c′ → CodeWider keyed ended c c′
 

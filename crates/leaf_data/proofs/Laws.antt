@@ -1,20 +1,20 @@
 -- The walk at a node by its format's code. Assumes nothing.
 use mathlib.Core.Path.{_≡_, refl, sym, ap, subst, _∙_}
-use mathlib.Core.Bool.{Bool, true, false, cond, _&&_}
+use mathlib.Core.Bool.{Bool, true, false, not, cond, _&&_}
 use mathlib.Core.List.{List}
 use Prim.Native.Nat.{ℕ, _≤_, _<_}
 use native.Mathlib.Omega.{arith}
 use lib.Dec.{leb, eqb}
-use borrow.Author.Tests.{lt-ltb, le-ltb, le-leb, lt-leb, leb-true, leb-false, ne-eqb}
-use Rattle.formats.specs.Code.{between, isFixed, isString, isView, isListView}
-use Rattle.lent_tables.proofs.Laws.{is-none, is-some}
+use borrow.Author.Tests.{le-leb, lt-leb, leb-true, leb-false, ne-eqb}
+use Rattle.formats.specs.Code.{between, isFixed, isString, isView, isListView, isList}
+use Rattle.lent_tables.proofs.Laws.{no, yes, is-none, is-some}
 use Rattle.walk.specs.State.{Join, codeOf, dictionaryOf, bytesOf}
 use Rattle.walk.specs.Log.{Out, Did, fail, done}
 use Rattle.walk.specs.Leaves.{copyMask, nullMask, countNulls, copyNumbers, copyKeys, copyViews, copyString, nullNumbers, nullString}
-use Rattle.walk.specs.Copy.{Walk, masked, copyData, copyListView, copySparse, copyDense, copyRuns}
-use Rattle.walk.specs.Nulls.{NullWalk, nullData, nullListView, nullSparse, nullDense, nullRuns}
+use Rattle.walk.specs.Copy.{Walk, masked, copyData, copyListView, copyList, copySparse, copyDense, copyRuns}
+use Rattle.walk.specs.Nulls.{NullWalk, nullData, nullListView, nullList, nullSparse, nullDense, nullRuns}
 use Rattle.walk.proofs.Laws.{fail-did, done-did}
-use Rattle.leaf_walk.proofs.Widths.{fixed-width, string-width, list-width}
+use Rattle.leaf_walk.proofs.Widths.{fixed-width, string-width, list-width, lists-width}
 
 -- ---- codes
 
@@ -56,26 +56,30 @@ module _ (x : Join) (child : Walk) (code i slot n : ℕ) (c : List ℕ) where
   unfolding copyData
   data-views e h l = rw (e, h, l)
 
-  pub data-none : isFixed code ≡ false → isString code ≡ false → isView code ≡ false → (17 ≤ code → 21 < code) → fail 12 c ≡ copyData x child code i slot n c
+  pub data-none : isFixed code ≡ false → isString code ≡ false → isView code ≡ false → (17 ≤ code → 23 < code) → fail 12 c ≡ copyData x child code i slot n c
   unfolding copyData
   data-none e h l k =
-      let f : (m : ℕ) → 17 ≤ m → m ≤ 21 → eqb code m ≡ false = λ m p q. ne-eqb code m (λ z. absurd (omega (arith, k (omega arith)))) in
-      rw (e, h, l, outside 17 18 code (λ p. omega (arith, k p)), f 19 (omega arith) (omega arith), f 20 (omega arith) (omega arith), f 21 (omega arith) (omega arith))
+      let f : (m : ℕ) → 17 ≤ m → m ≤ 23 → eqb code m ≡ false = λ m p q. ne-eqb code m (λ z. absurd (omega (arith, k (omega arith)))) in
+      rw (e, h, l, outside 17 18 code (λ p. omega (arith, k p)), outside 19 20 code (λ p. omega (arith, k (omega arith))), f 21 (omega arith) (omega arith), f 22 (omega arith) (omega arith), f 23 (omega arith) (omega arith))
 
   -- a code from 17 on is none of a leaf's
   pub data-list-view : 17 ≤ code → code ≤ 18 → copyListView x child (bytesOf (x .state) i) i slot n c ≡ copyData x child code i slot n c
   unfolding copyData
   data-list-view h l = rw (above 1 10 code (omega arith), above 11 14 code (omega arith), above 15 16 code (omega arith), within 17 18 code h l)
 
-  pub data-sparse : code ≡ 19 → copySparse x child i slot n c ≡ copyData x child code i slot n c
+  pub data-list : 19 ≤ code → code ≤ 20 → copyList x child (bytesOf (x .state) i) i slot n c ≡ copyData x child code i slot n c
+  unfolding copyData
+  data-list h l = rw (above 1 10 code (omega arith), above 11 14 code (omega arith), above 15 16 code (omega arith), above 17 18 code (omega arith), within 19 20 code h l)
+
+  pub data-sparse : code ≡ 21 → copySparse x child i slot n c ≡ copyData x child code i slot n c
   unfolding copyData
   data-sparse h = rw h
 
-  pub data-dense : code ≡ 20 → copyDense x child i slot n c ≡ copyData x child code i slot n c
+  pub data-dense : code ≡ 22 → copyDense x child i slot n c ≡ copyData x child code i slot n c
   unfolding copyData
   data-dense h = rw h
 
-  pub data-runs : code ≡ 21 → copyRuns x child i slot n c ≡ copyData x child code i slot n c
+  pub data-runs : code ≡ 23 → copyRuns x child i slot n c ≡ copyData x child code i slot n c
   unfolding copyData
   data-runs h = rw h
 
@@ -96,21 +100,26 @@ module _ (x : Join) (child : NullWalk) (code i n : ℕ) (c : List ℕ) where
   unfolding nullData
   null-list-view e h l k = rw (e, h, l, k)
 
-  pub null-none : isFixed code ≡ false → isString code ≡ false → isView code ≡ false → isListView code ≡ false → (19 ≤ code → 21 < code) → fail 12 c ≡ nullData x child code i n c
+  pub null-list : isFixed code ≡ false → isString code ≡ false → isView code ≡ false → isListView code ≡ false → isList code ≡ true → nullList x child (bytesOf (x .state) i) i n c ≡ nullData x child code i n c
   unfolding nullData
-  null-none e h l k m =
-      let f : (j : ℕ) → 19 ≤ j → j ≤ 21 → eqb code j ≡ false = λ j p q. ne-eqb code j (λ z. absurd (omega (arith, m (omega arith)))) in
-      rw (e, h, l, k, f 19 (omega arith) (omega arith), f 20 (omega arith) (omega arith), f 21 (omega arith) (omega arith))
+  null-list e h l k o = rw (e, h, l, k, o)
 
-  pub null-sparse : code ≡ 19 → nullSparse x child i n c ≡ nullData x child code i n c
+  pub null-none : isFixed code ≡ false → isString code ≡ false → isView code ≡ false → isListView code ≡ false → isList code ≡ false → (21 ≤ code → 23 < code)
+      → fail 12 c ≡ nullData x child code i n c
+  unfolding nullData
+  null-none e h l k o m =
+      let f : (j : ℕ) → 21 ≤ j → j ≤ 23 → eqb code j ≡ false = λ j p q. ne-eqb code j (λ z. absurd (omega (arith, m (omega arith)))) in
+      rw (e, h, l, k, o, f 21 (omega arith) (omega arith), f 22 (omega arith) (omega arith), f 23 (omega arith) (omega arith))
+
+  pub null-sparse : code ≡ 21 → nullSparse x child i n c ≡ nullData x child code i n c
   unfolding nullData
   null-sparse h = rw h
 
-  pub null-dense : code ≡ 20 → nullDense x child i n c ≡ nullData x child code i n c
+  pub null-dense : code ≡ 22 → nullDense x child i n c ≡ nullData x child code i n c
   unfolding nullData
   null-dense h = rw h
 
-  pub null-runs : code ≡ 21 → nullRuns x child i n c ≡ nullData x child code i n c
+  pub null-runs : code ≡ 23 → nullRuns x child i n c ≡ nullData x child code i n c
   unfolding nullData
   null-runs h = rw h
 
@@ -133,22 +142,25 @@ module _ (state : List ℕ) (i : ℕ) {code w : ℕ} {t : Bool} (e : code ≡ co
   pub list-wide : t ≡ isListView code → t ≡ true → (w ≡ 4 → ⊥) → w ≡ 8
   list-wide g h a = f ∙ list-width (codeOf state i) (tested isListView e g h) (λ z. a (f ∙ z))
 
-module _ (x : Join) (wr : Bool) (i slot n : ℕ) (c room : List ℕ) {code : ℕ} (e : code ≡ codeOf (x .state) i) where
-  pub valid-none : 19 ≤ code → Did (x .state) (x .parts) wr (cond (masked (codeOf (x .state) i)) (copyMask x i slot n c) (done c)) room 0 c room
-  valid-none h = rw (le-ltb (codeOf (x .state) i) 19 (rw e at h)) (done-did wr c room)
+  pub lists-wide : t ≡ isList code → t ≡ true → (w ≡ 4 → ⊥) → w ≡ 8
+  lists-wide g h a = f ∙ lists-width (codeOf state i) (tested isList e g h) (λ z. a (f ∙ z))
 
-  pub valid-some : {r : ℕ} {c2 room2 : List ℕ} → code < 19 → Did (x .state) (x .parts) wr (copyMask x i slot n c) room r c2 room2
+module _ (x : Join) (wr : Bool) (i slot n : ℕ) (c room : List ℕ) {code : ℕ} {t : Bool} (e : code ≡ codeOf (x .state) i) (g : t ≡ masked code) where
+  pub valid-none : not t ≡ true → Did (x .state) (x .parts) wr (cond (masked (codeOf (x .state) i)) (copyMask x i slot n c) (done c)) room 0 c room
+  valid-none h = rw (rw e at (no g h)) (done-did wr c room)
+
+  pub valid-some : {r : ℕ} {c2 room2 : List ℕ} → not t ≡ false → Did (x .state) (x .parts) wr (copyMask x i slot n c) room r c2 room2
       → Did (x .state) (x .parts) wr (cond (masked (codeOf (x .state) i)) (copyMask x i slot n c) (done c)) room r c2 room2
-  valid-some h d = rw (lt-ltb (codeOf (x .state) i) 19 (rw e at h)) d
+  valid-some h d = rw (rw e at (yes g h)) d
 
-module _ (x : Join) (wr : Bool) (i n : ℕ) (c room : List ℕ) {code r : ℕ} {c2 room2 : List ℕ} (e : code ≡ codeOf (x .state) i) where
-  pub nulls-counted : 19 ≤ code → Did (x .state) (x .parts) wr (countNulls x i n c) room r c2 room2
+module _ (x : Join) (wr : Bool) (i n : ℕ) (c room : List ℕ) {code r : ℕ} {t : Bool} {c2 room2 : List ℕ} (e : code ≡ codeOf (x .state) i) (g : t ≡ masked code) where
+  pub nulls-counted : not t ≡ true → Did (x .state) (x .parts) wr (countNulls x i n c) room r c2 room2
       → Did (x .state) (x .parts) wr (cond (masked (codeOf (x .state) i)) (nullMask x i n c) (countNulls x i n c)) room r c2 room2
-  nulls-counted h d = rw (le-ltb (codeOf (x .state) i) 19 (rw e at h)) d
+  nulls-counted h d = rw (rw e at (no g h)) d
 
-  pub nulls-masked : code < 19 → Did (x .state) (x .parts) wr (nullMask x i n c) room r c2 room2
+  pub nulls-masked : not t ≡ false → Did (x .state) (x .parts) wr (nullMask x i n c) room r c2 room2
       → Did (x .state) (x .parts) wr (cond (masked (codeOf (x .state) i)) (nullMask x i n c) (countNulls x i n c)) room r c2 room2
-  nulls-masked h d = rw (lt-ltb (codeOf (x .state) i) 19 (rw e at h)) d
+  nulls-masked h d = rw (rw e at (yes g h)) d
 
 module _ (x : Join) (child : Walk) (wr : Bool) (i slot n : ℕ) (c room : List ℕ) {code w : ℕ} (e : code ≡ codeOf (x .state) i) (f : w ≡ bytesOf (x .state) i) {t : Bool} (g : t ≡ isFixed code) where
   abbrev Goes : ℕ → List ℕ → List ℕ → Type 0
@@ -168,7 +180,7 @@ module _ (x : Join) (child : Walk) (wr : Bool) (i slot n : ℕ) (c room : List �
       pub to-views : {r : ℕ} {c2 room2 : List ℕ} → v ≡ true → Did (x .state) (x .parts) wr (copyViews x i slot n c) room r c2 room2 → Goes r c2 room2
       to-views o d = by (data-views x child (codeOf (x .state) i) i slot n c (tested isFixed e g h) (tested isString e k l) (tested isView e m o)) d
 
-      pub to-none : v ≡ false → (17 ≤ codeOf (x .state) i → 21 < codeOf (x .state) i) → Goes 12 c room
+      pub to-none : v ≡ false → (17 ≤ codeOf (x .state) i → 23 < codeOf (x .state) i) → Goes 12 c room
       to-none o q = by (data-none x child (codeOf (x .state) i) i slot n c (tested isFixed e g h) (tested isString e k l) (tested isView e m o) q) (fail-did wr 12 c room)
 
 module _ (x : Join) (child : NullWalk) (wr : Bool) (i n : ℕ) (c room : List ℕ) {code w : ℕ} (e : code ≡ codeOf (x .state) i) (f : w ≡ bytesOf (x .state) i) {t : Bool} (g : t ≡ isFixed code) where
@@ -190,5 +202,12 @@ module _ (x : Join) (child : NullWalk) (wr : Bool) (i n : ℕ) (c room : List �
         pub on-list-view : {r : ℕ} {c2 room2 : List ℕ} → z ≡ true → Did (x .state) (x .parts) wr (nullListView x child w i n c) room r c2 room2 → Nulls r c2 room2
         on-list-view s d = by (null-list-view x child (codeOf (x .state) i) i n c (tested isFixed e g h) (tested isString e k l) (tested isView e m o) (tested isListView e q s)) (rw f at d)
 
-        pub on-none : z ≡ false → (19 ≤ codeOf (x .state) i → 21 < codeOf (x .state) i) → Nulls 12 c room
-        on-none s y = by (null-none x child (codeOf (x .state) i) i n c (tested isFixed e g h) (tested isString e k l) (tested isView e m o) (tested isListView e q s) y) (fail-did wr 12 c room)
+        module _ (s : z ≡ false) {y : Bool} (p : y ≡ isList code) where
+          pub on-list : {r : ℕ} {c2 room2 : List ℕ} → y ≡ true → Did (x .state) (x .parts) wr (nullList x child w i n c) room r c2 room2 → Nulls r c2 room2
+          on-list a d =
+              by (null-list x child (codeOf (x .state) i) i n c (tested isFixed e g h) (tested isString e k l) (tested isView e m o) (tested isListView e q s) (tested isList e p a)) (rw f at d)
+
+          pub on-none : y ≡ false → (21 ≤ codeOf (x .state) i → 23 < codeOf (x .state) i) → Nulls 12 c room
+          on-none a j =
+              by (null-none x child (codeOf (x .state) i) i n c (tested isFixed e g h) (tested isString e k l) (tested isView e m o) (tested isListView e q s) (tested isList e p a) j)
+              (fail-did wr 12 c room)

@@ -1,5 +1,6 @@
 // What a node holds by its format's code, where no child is walked for it: validity, and the data of leaves; the same for nulls.
 // The answer is 0 or the ground of refusal; a walk that only tries changes the counters alone.
+ghost use mathlib.Core.Path.{_≡_};
 ghost use mathlib.Core.Bool.{cond};
 ghost use mathlib.Core.List.{List};
 ghost use Prim.Native.Nat.{ℕ, _+_, _<_, _≤_, _^_};
@@ -9,6 +10,20 @@ ghost use Rattle.walk.specs.Leaves.{copyMask, nullMask, countNulls};
 ghost use Rattle.walk.specs.Copy.{Walk, masked, copyData};
 ghost use Rattle.walk.specs.Nulls.{NullWalk, nullListView, nullData};
 ghost use Rattle.leaf_walk.specs.Join.{join};
+
+// The codes of unions and run-end nodes.
+pub const SPARSE: u8 = 21;
+
+pub const DENSE: u8 = 22;
+
+pub const RUN_END: u8 = 23;
+
+// Whether a format has a validity buffer: those from SPARSE on have none.
+fn is_masked(code: u8) -> bool
+    ensures { λ r. ⌜ r ≡ masked code ⌝ }
+{
+    code < SPARSE
+}
 
 // The validity of n rows, where the format has one.
 pub fn copy_validity(
@@ -27,7 +42,7 @@ pub fn copy_validity(
     requires { ⌜ (first < 2 ^ 32) × (i < 32) × (slot + n < 2 ^ 63) ⌝ }
     ensures { λ r. ⌜ ((lengths : List ℕ) (source : ℕ) → Did (now (state .entry)) (now (parts .entry)) write (cond (masked (codeOf (now (state .entry)) i)) (copyMask (join (now (state .entry)) (now (parts .entry)) lengths (now (places .entry)) (now (body .entry)) first source) i slot n (now (counts .entry))) (done (now (counts .entry)))) (now (room .entry)) r (now (counts .exit)) (now (room .exit))) ⌝ }
 {
-    if 19 <= growth::code_of(state, i) {
+    if !is_masked(growth::code_of(state, i)) {
         return 0;
     }
     leaf_walk::copy_mask(
@@ -61,7 +76,7 @@ pub fn copy_leaf(
     n: u64,
 ) -> u8
     requires { ⌜ (first < 2 ^ 32) × (i < 32) × (slot + n < 2 ^ 63) × (source < 2 ^ 32) ⌝ }
-    requires { ⌜ (17 ≤ codeOf (now state) i → 21 < codeOf (now state) i) ⌝ }
+    requires { ⌜ (17 ≤ codeOf (now state) i → 23 < codeOf (now state) i) ⌝ }
     ensures { λ r. ⌜ ((lengths : List ℕ) (child : Walk) → Did (now (state .entry)) (now (parts .entry)) write (copyData (join (now (state .entry)) (now (parts .entry)) lengths (now (places .entry)) (now (body .entry)) first source) child (codeOf (now (state .entry)) i) i slot n (now (counts .entry))) (now (room .entry)) r (now (counts .exit)) (now (room .exit))) ⌝ }
 {
     let code = growth::code_of(state, i);
@@ -147,7 +162,7 @@ pub fn null_validity(
     requires { ⌜ i < 32 ⌝ }
     ensures { λ r. ⌜ ((lengths places body : List ℕ) (first source : ℕ) → Did (now (state .entry)) (now (parts .entry)) write (cond (masked (codeOf (now (state .entry)) i)) (nullMask (join (now (state .entry)) (now (parts .entry)) lengths places body first source) i n (now (counts .entry))) (countNulls (join (now (state .entry)) (now (parts .entry)) lengths places body first source) i n (now (counts .entry)))) (now (room .entry)) r (now (counts .exit)) (now (room .exit))) ⌝ }
 {
-    if 19 <= growth::code_of(state, i) {
+    if !is_masked(growth::code_of(state, i)) {
         return leaf_walk::count_nulls(state, counts, i, n);
     }
     leaf_walk::null_mask(state, parts, counts, room, write, i, n)
@@ -174,7 +189,7 @@ fn null_list_view(
     leaf_walk::null_numbers(state, parts, counts, room, write, i, 2, w, n)
 }
 
-// The data of n nulls of a leaf or a list-view.
+// The data of n nulls of a leaf, a list-view or a list, whose child gets none.
 pub fn null_leaf(
     state: &[u64],
     parts: &[u32],
@@ -185,7 +200,7 @@ pub fn null_leaf(
     n: u64,
 ) -> u8
     requires { ⌜ i < 32 ⌝ }
-    requires { ⌜ (19 ≤ codeOf (now state) i → 21 < codeOf (now state) i) ⌝ }
+    requires { ⌜ (21 ≤ codeOf (now state) i → 23 < codeOf (now state) i) ⌝ }
     ensures { λ r. ⌜ ((lengths places body : List ℕ) (first source : ℕ) (child : NullWalk) → Did (now (state .entry)) (now (parts .entry)) write (nullData (join (now (state .entry)) (now (parts .entry)) lengths places body first source) child (codeOf (now (state .entry)) i) i n (now (counts .entry))) (now (room .entry)) r (now (counts .exit)) (now (room .exit))) ⌝ }
 {
     let code = growth::code_of(state, i);
@@ -201,6 +216,9 @@ pub fn null_leaf(
     }
     if formats::is_list_view(code) {
         return null_list_view(state, parts, counts, room, write, i, w, n);
+    }
+    if formats::is_list(code) {
+        return string_walk::null_list(state, parts, counts, room, write, i, w, n);
     }
     12
 }

@@ -5,7 +5,7 @@ use Prim.Native.Nat.{ℕ, zero, suc, _<_}
 use native.Mathlib.Omega.{arith}
 use lib.Dec.{leb, eqb}
 use borrow.Author.Tests.{leb-true, eqb-true, eqb-false, ne-eqb}
-use Rattle.formats.specs.Code.{isFixed, isString, isListView, widthOf}
+use Rattle.formats.specs.Code.{isFixed, isString, isListView, isList, widthOf}
 use Rattle.lent_tables.proofs.Laws.{and-left, and-right}
 
 -- a test of the numbers below n, one by one
@@ -39,22 +39,30 @@ passed is ok k h e = rw e at h
 pub fixed-width : (code : ℕ) → isFixed code ≡ true → (widthOf code ≡ 1 → ⊥) → (widthOf code ≡ 2 → ⊥) → (widthOf code ≡ 4 → ⊥) → widthOf code ≡ 8
 unfolding below test one four
 fixed-width code h a b c =
-    let l : code < 22 = omega (arith, leb-true code 10 (and-right (leb 1 code) _ h)) in
+    let l : code < 24 = omega (arith, leb-true code 10 (and-right (leb 1 code) _ h)) in
     let w = widthOf code in
-    eqb-true w 8 (rw (ne-eqb w 1 a, ne-eqb w 2 b, ne-eqb w 4 c) at (passed isFixed one code (every (test isFixed one) 22 code refl l) h))
+    eqb-true w 8 (rw (ne-eqb w 1 a, ne-eqb w 2 b, ne-eqb w 4 c) at (passed isFixed one code (every (test isFixed one) 24 code refl l) h))
 
 -- offsets of byte strings
 pub string-width : (code : ℕ) → isString code ≡ true → (widthOf code ≡ 4 → ⊥) → widthOf code ≡ 8
 unfolding below test four
 string-width code h a =
-    let l : code < 22 = omega (arith, leb-true code 14 (and-right (leb 11 code) _ h)) in
+    let l : code < 24 = omega (arith, leb-true code 14 (and-right (leb 11 code) _ h)) in
     let w = widthOf code in
-    eqb-true w 8 (rw (ne-eqb w 4 a) at (passed isString four code (every (test isString four) 22 code refl l) h))
+    eqb-true w 8 (rw (ne-eqb w 4 a) at (passed isString four code (every (test isString four) 24 code refl l) h))
 
 -- offsets of list-views
 pub list-width : (code : ℕ) → isListView code ≡ true → (widthOf code ≡ 4 → ⊥) → widthOf code ≡ 8
 unfolding below test four
 list-width code h a =
-    let l : code < 22 = omega (arith, leb-true code 18 (and-right (leb 17 code) _ h)) in
+    let l : code < 24 = omega (arith, leb-true code 18 (and-right (leb 17 code) _ h)) in
     let w = widthOf code in
-    eqb-true w 8 (rw (ne-eqb w 4 a) at (passed isListView four code (every (test isListView four) 22 code refl l) h))
+    eqb-true w 8 (rw (ne-eqb w 4 a) at (passed isListView four code (every (test isListView four) 24 code refl l) h))
+
+-- offsets of lists
+pub lists-width : (code : ℕ) → isList code ≡ true → (widthOf code ≡ 4 → ⊥) → widthOf code ≡ 8
+unfolding below test four
+lists-width code h a =
+    let l : code < 24 = omega (arith, leb-true code 20 (and-right (leb 19 code) _ h)) in
+    let w = widthOf code in
+    eqb-true w 8 (rw (ne-eqb w 4 a) at (passed isList four code (every (test isList four) 24 code refl l) h))

@@ -6,7 +6,7 @@ ghost use mathlib.Core.Bool.{Bool, not, _&&_};
 ghost use mathlib.Core.List.{List};
 ghost use Prim.Native.Nat.{ℕ, _+_, _*_, _<_, _≤_, _^_};
 ghost use lib.Dec.{eqb};
-ghost use Rattle.walk.specs.State.{nulls, top, rowsIn};
+ghost use Rattle.walk.specs.State.{bytesOf, nulls, top, rowsIn};
 ghost use Rattle.walk.specs.Log.{Did};
 ghost use Rattle.walk.specs.Leaves.{copyBits, copyMask, nullMask, countNulls, copyNumbers, copyKeys, copyViews, nullNumbers};
 ghost use Rattle.leaf_walk.specs.Join.{join};
@@ -161,6 +161,7 @@ pub fn copy_keys(
 ) -> u8
     requires { ⌜ (first < 2 ^ 32) × (i < 32) × (slot + n < 2 ^ 63) × (source < 2 ^ 32) ⌝ }
     requires { ⌜ ((w ≡ 1 → ⊥) → (w ≡ 2 → ⊥) → (w ≡ 4 → ⊥) → w ≡ 8) ⌝ }
+    requires { ⌜ w ≡ bytesOf (now state) i ⌝ }
     ensures { λ r. ⌜ ((lengths : List ℕ) → Did (now (state .entry)) (now (parts .entry)) write (copyKeys (join (now (state .entry)) (now (parts .entry)) lengths (now (places .entry)) (now (body .entry)) first source) i w slot n (now (counts .entry))) (now (room .entry)) r (now (counts .exit)) (now (room .exit))) ⌝ }
 {
     let at = lent_tables::place(places, first + i, 3);

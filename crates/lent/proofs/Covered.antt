@@ -6,7 +6,7 @@ use Prim.Native.Nat.{ℕ, zero, suc, _+_, _≤_, _<_}
 use native.Mathlib.Omega.{arith}
 use lib.Dec.{ltb, eqb}
 use borrow.Author.Tests.{eqb-true, eqb-false, ltb-true, ltb-false}
-use Rattle.columnar.specs.Types.{width, Ty, tPlain, tView, tListView, tSparse, tDense, tRunEnd, tDictionary}
+use Rattle.columnar.specs.Types.{width, Ty, tPlain, tView, tListView, tList, tSparse, tDense, tRunEnd, tDictionary}
 use Rattle.schema.specs.Tree.{below, endOf, childAt, depth, whole, ceilings, typed}
 use Rattle.schema.proofs.Trees.{child-inside, children-end}
 use Rattle.schema.proofs.Depth.{child-depth}
@@ -15,7 +15,7 @@ use Rattle.array_data.specs.Tables.{Tables}
 use Rattle.array_data.specs.Typed.{NodeKind, runEndNode, childNode, fieldOf, nodeOf, allOf, nodes}
 use Rattle.lent.specs.Lent.{tyAs, tyOf}
 use Rattle.lent.proofs.Ids.{field-id}
-use Rattle.lent.proofs.Shaped.{Shaped, of-plain, of-view, of-list, of-sparse, of-dense, of-run, of-dictionary, shaped}
+use Rattle.lent.proofs.Shaped.{Shaped, of-plain, of-view, of-list, of-lists, of-sparse, of-dense, of-run, of-dictionary, shaped}
 use Rattle.lent.proofs.Lent.{tree, child-same, after-leaf, first-child, second-child, some-node, whole-end, root}
 
 all-in : (f : ℕ → List ℕ) (ids : List ℕ) (c j : ℕ) → List·Memᴰ c ids → List·Memᴰ j (f c) → List·Memᴰ j (allOf f ids)
@@ -54,6 +54,7 @@ module _ (formats schema : List ℕ) (first n : ℕ) where
     self (tPlain p) i = List·Memᴰ·head refl
     self tView i = List·Memᴰ·head refl
     self (tListView w u) i = List·Memᴰ·head refl
+    self (tList w u) i = List·Memᴰ·head refl
     self (tSparse ids nullable g) i = List·Memᴰ·head refl
     self (tDense ids nullable g) i = List·Memᴰ·head refl
     self (tRunEnd w u) i = List·Memᴰ·head refl
@@ -94,6 +95,11 @@ module _ (formats schema : List ℕ) (first n : ℕ) where
       covered-by f i j l (of-plain p e z d) r kid = let h = r .one-of in absurd (omega arith)
       covered-by f i j l (of-view e z) r kid = let h = r .one-of in absurd (omega arith)
       covered-by f i j l (of-list v e z d) r kid =
+          let h = r .one-of in
+          let zero-th : r .child ≡ 0 = omega arith in
+          let at : childAt schema first n i (r .child) ≡ suc i = ap (childAt schema first n i) zero-th ∙ first-child formats schema first n i in
+          subst (InKind f i j) (sym e) (List·Memᴰ·tail (subst (λ k. In f k j) at (kid (r .child) h (r .from) (r .to))))
+      covered-by f i j l (of-lists v e z d) r kid =
           let h = r .one-of in
           let zero-th : r .child ≡ 0 = omega arith in
           let at : childAt schema first n i (r .child) ≡ suc i = ap (childAt schema first n i) zero-th ∙ first-child formats schema first n i in

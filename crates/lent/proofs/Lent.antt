@@ -15,7 +15,7 @@ use Rattle.schema.proofs.Known.{typed-whole, typed-shape, within-depth}
 use Rattle.array_data.specs.Typed.{Tree, childNode, fieldOf, MeansPlain, Means}
 use Rattle.lent.specs.Lent.{kindAt, treeOf, plainAs, tyAs, tyOf, typeOf}
 use Rattle.lent.proofs.Ids.{both, field-in}
-use Rattle.lent.proofs.Shaped.{plainKind, Shaped, of-plain, of-view, of-list, of-sparse, of-dense, of-run, of-dictionary, shaped}
+use Rattle.lent.proofs.Shaped.{plainKind, Shaped, of-plain, of-view, of-list, of-lists, of-sparse, of-dense, of-run, of-dictionary, shaped}
 
 -- ---- a tree that passes
 
@@ -60,6 +60,8 @@ module _ (formats schema : List ℕ) (first n : ℕ) where
   means-by f i w l (of-view e z) kid = subst (λ k. Means tree (tyAs tree (tyOf tree f) k i) i) (sym e) (l, e)
   means-by f i w l (of-list v e z d) kid =
       subst (λ k. Means tree (tyAs tree (tyOf tree f) k i) i) (sym e) ((l, e), subst (MeansFrom f) (first-child i) (kid 0 (omega arith)))
+  means-by f i w l (of-lists v e z d) kid =
+      subst (λ k. Means tree (tyAs tree (tyOf tree f) k i) i) (sym e) ((l, e), subst (MeansFrom f) (first-child i) (kid 0 (omega arith)))
   means-by f i w l (of-sparse ids e z d o) kid =
       subst (λ k. Means tree (tyAs tree (tyOf tree f) k i) i) (sym e)
       ((l, e), λ c q. (refl, subst (MeansFrom f) (child-same i (fieldOf ids c)) (kid (fieldOf ids c) (omega (arith, field-in ids c q)))))
@@ -82,6 +84,8 @@ module _ (formats schema : List ℕ) (first n : ℕ) where
   formed-by f i w l (of-plain (string v) e z d) kid = subst (λ k. Formed (tyAs tree (tyOf tree f) k i)) (sym e) d
   formed-by f i w l (of-view e z) kid = subst (λ k. Formed (tyAs tree (tyOf tree f) k i)) (sym e) tt
   formed-by f i w l (of-list v e z d) kid =
+      subst (λ k. Formed (tyAs tree (tyOf tree f) k i)) (sym e) (d, subst (λ k. Formed (tyOf tree f k)) (first-child i) (kid 0 (omega arith)))
+  formed-by f i w l (of-lists v e z d) kid =
       subst (λ k. Formed (tyAs tree (tyOf tree f) k i)) (sym e) (d, subst (λ k. Formed (tyOf tree f k)) (first-child i) (kid 0 (omega arith)))
   formed-by f i w l (of-sparse ids e z d o) kid =
       subst (λ k. Formed (tyAs tree (tyOf tree f) k i)) (sym e)

@@ -8,17 +8,17 @@ use native.Mathlib.Omega.{arith}
 use lib.Dec.{eqb}
 use borrow.Author.Tests.{eqb-true, ne-eqb}
 use Rattle.columnar.specs.Types.{Plain, fixed, string}
-use Rattle.formats.specs.Code.{same, isFixed, isString, isView, isListView, isUnion, isRunEnd, widthOf}
+use Rattle.formats.specs.Code.{same, isFixed, isString, isView, isListView, isList, isUnion, isRunEnd, widthOf}
 use Rattle.format_ids.specs.Ids.{sameIds}
 use Rattle.schema.specs.Tree.{flag, children, dictionary, below, endFrom, endOf, childAt, depth, whole, isValues, codeOf, idsOf, ceilings, typed, sameFlag, sameFormats, sameNode, sameType}
 use Rattle.schema.proofs.Trees.{child-inside, child-is, end-up, end-after, end-inside}
 use Rattle.schema.proofs.Depth.{nested, child-before, child-depth}
 use Rattle.schema.proofs.Known.{typed-whole, typed-shape, within-depth, same-size, same-node}
 use Rattle.array_data.specs.Tables.{Tables}
-use Rattle.array_data.specs.Typed.{NodeKind, fixedNode, stringNode, viewNode, listViewNode, sparseNode, denseNode, runEndNode, dictionaryNode, Tree, childNode, fieldOf, allOf, MeansPlain, Means, nodes}
+use Rattle.array_data.specs.Typed.{NodeKind, fixedNode, stringNode, viewNode, listViewNode, listNode, sparseNode, denseNode, runEndNode, dictionaryNode, Tree, childNode, fieldOf, allOf, MeansPlain, Means, nodes}
 use Rattle.lent.specs.Lent.{idsOr, unionKind, kindOf, kindAt, treeOf, plainAs, tyAs, tyOf, typeOf}
 use Rattle.lent.proofs.Ids.{both, field-in}
-use Rattle.lent.proofs.Shaped.{plainKind, Shaped, of-plain, of-view, of-list, of-sparse, of-dense, of-run, of-dictionary, shaped, at-run}
+use Rattle.lent.proofs.Shaped.{plainKind, Shaped, of-plain, of-view, of-list, of-lists, of-sparse, of-dense, of-run, of-dictionary, shaped, at-run}
 use Rattle.lent.proofs.Lent.{child-same, first-child, second-child, some-node, root}
 use Rattle.lent.proofs.Covered.{covered}
 
@@ -38,21 +38,23 @@ same-ids (some a) none h = absurd (false≢true h)
 same-ids none o h = absurd (false≢true h)
 
 -- two chains of tests that differ in two answers
-chain : {A : Type 0} (a b c d u r : Bool) (p q s v x x′ y y′ z : A) → (u ≡ true → x ≡ x′) → (r ≡ true → y ≡ y′)
-    → cond a p (cond b q (cond c s (cond d v (cond u x (cond r y z))))) ≡ cond a p (cond b q (cond c s (cond d v (cond u x′ (cond r y′ z)))))
-chain true b c d u r p q s v x x′ y y′ z f g = refl
-chain false true c d u r p q s v x x′ y y′ z f g = refl
-chain false false true d u r p q s v x x′ y y′ z f g = refl
-chain false false false true u r p q s v x x′ y y′ z f g = refl
-chain false false false false true r p q s v x x′ y y′ z f g = f refl
-chain false false false false false true p q s v x x′ y y′ z f g = g refl
-chain false false false false false false p q s v x x′ y y′ z f g = refl
+chain : {A : Type 0} (a b c d e u r : Bool) (p q s v o x x′ y y′ z : A) → (u ≡ true → x ≡ x′) → (r ≡ true → y ≡ y′)
+    → cond a p (cond b q (cond c s (cond d v (cond e o (cond u x (cond r y z)))))) ≡ cond a p (cond b q (cond c s (cond d v (cond e o (cond u x′ (cond r y′ z))))))
+chain true b c d e u r p q s v o x x′ y y′ z f g = refl
+chain false true c d e u r p q s v o x x′ y y′ z f g = refl
+chain false false true d e u r p q s v o x x′ y y′ z f g = refl
+chain false false false true e u r p q s v o x x′ y y′ z f g = refl
+chain false false false false true u r p q s v o x x′ y y′ z f g = refl
+chain false false false false false true r p q s v o x x′ y y′ z f g = f refl
+chain false false false false false false true p q s v o x x′ y y′ z f g = g refl
+chain false false false false false false false p q s v o x x′ y y′ z f g = refl
 
 isRun : NodeKind → Bool
 isRun (fixedNode m) = false
 isRun (stringNode w) = false
 isRun viewNode = false
 isRun (listViewNode w) = false
+isRun (listNode w) = false
 isRun (sparseNode ids) = false
 isRun (denseNode ids) = false
 isRun (runEndNode w) = true
@@ -69,6 +71,7 @@ module _ (formats schema : List ℕ) (first : ℕ) where
   run-below i h (of-plain (string v) e z d) = absurd (false≢true (ap isRun (sym e ∙ at-run formats schema first i h)))
   run-below i h (of-view e z) = absurd (false≢true (ap isRun (sym e ∙ at-run formats schema first i h)))
   run-below i h (of-list v e z d) = omega arith
+  run-below i h (of-lists v e z d) = omega arith
   run-below i h (of-sparse ids e z d o) = absurd (false≢true (ap isRun (sym e ∙ at-run formats schema first i h)))
   run-below i h (of-dense ids e z d o) = absurd (false≢true (ap isRun (sym e ∙ at-run formats schema first i h)))
   run-below i h (of-run m e z e1 z1 d) = omega arith
@@ -188,8 +191,8 @@ module _ (formats schema : List ℕ) (first first′ n : ℕ) (agree : (i : ℕ)
         let next = codeOf formats schema first (suc i) in
         let next′ = codeOf formats schema first′ (suc i) in
         let step : kindOf c b o next ≡ kindOf c b o′ next′ =
-        chain (isFixed c) (isString c) (isView c) (isListView c) (isUnion c) (isRunEnd c) _ _ _ _ _ _ _ _ _
-        (λ u. ap (λ o. unionKind (eqb c 19) (idsOr o)) (g .ids u))
+        chain (isFixed c) (isString c) (isView c) (isListView c) (isList c) (isUnion c) (isRunEnd c) _ _ _ _ _ _ _ _ _ _
+        (λ u. ap (λ o. unionKind (eqb c 21) (idsOr o)) (g .ids u))
         (λ r. ap (λ k. runEndNode (widthOf k)) (agreed (suc i) (subst (λ k. k < n) (first-child formats schema first n i) (child-inside schema first n w i 0 l (run-below formats schema first i r s))) .code)) in
         step ∙ ap (λ k. kindOf k b o′ next′) (g .code) ∙ ap (λ d. kindOf (codeOf formats schema first′ i) (eqb d 0) o′ next′) (g .dict)
 
@@ -243,6 +246,9 @@ module _ (formats schema : List ℕ) (first first′ n : ℕ) (agree : (i : ℕ)
     there-by f i l (of-list v e z d) k k1 kid =
         subst (λ k. Means there (tyAs here (tyOf here f) k i) i) (sym e)
         ((l, sym k ∙ e), subst (MeansThere f) (first-child formats schema first n i) (kid 0 (omega arith)))
+    there-by f i l (of-lists v e z d) k k1 kid =
+        subst (λ k. Means there (tyAs here (tyOf here f) k i) i) (sym e)
+        ((l, sym k ∙ e), subst (MeansThere f) (first-child formats schema first n i) (kid 0 (omega arith)))
     there-by f i l (of-sparse ids e z d o) k k1 kid =
         subst (λ k. Means there (tyAs here (tyOf here f) k i) i) (sym e)
         ((l, sym k ∙ e), λ c q. let h : fieldOf ids c < below schema first i = omega (arith, field-in ids c q) in field-there f i l o (fieldOf ids c) h (kid (fieldOf ids c) h))
@@ -280,6 +286,7 @@ module _ (formats schema : List ℕ) (first first′ n : ℕ) (agree : (i : ℕ)
       nodes-by f i l (of-plain (string v) e z d) kid = subst (SameOf f i) (sym e) refl
       nodes-by f i l (of-view e z) kid = subst (SameOf f i) (sym e) refl
       nodes-by f i l (of-list v e z d) kid = subst (SameOf f i) (sym e) (ap (λ r. i ∷ r) (subst (SameNodes f) (first-child formats schema first n i) (kid 0 (omega arith))))
+      nodes-by f i l (of-lists v e z d) kid = subst (SameOf f i) (sym e) (ap (λ r. i ∷ r) (subst (SameNodes f) (first-child formats schema first n i) (kid 0 (omega arith))))
       nodes-by f i l (of-sparse ids e z d o) kid =
           subst (SameOf f i) (sym e)
           (ap (λ r. i ∷ r) (all-same _ _ ids (λ c q. let h : fieldOf ids c < below schema first i = omega (arith, field-in ids c q) in field-nodes f i l (fieldOf ids c) h (kid (fieldOf ids c) h))))

@@ -12,11 +12,11 @@ use borrow.Author.Tests.{leb-true, le-leb, lt-leb, eqb-true, eqb-false, ne-eqb}
 use Rattle.columnar.specs.Types.{Number, width, Plain, fixed, string}
 use Rattle.columnar.specs.Wider.{integer}
 use Rattle.columnar.specs.Formed.{OffsetWidth, four, eight, RunWidth, FormedPlain, Ids}
-use Rattle.formats.specs.Code.{between, isInteger, isFixed, isString, isView, isListView, isUnion, isRunEnd, widthOf}
+use Rattle.formats.specs.Code.{between, isInteger, isFixed, isString, isView, isListView, isList, isUnion, isRunEnd, widthOf}
 use Rattle.formats.specs.Types.{numberOf}
 use Rattle.formats.proofs.Types.{number-width, fixed-number}
 use Rattle.schema.specs.Tree.{field, children, dictionary, below, bare, childForEach, codeOf, idsOf, valuesShape, endsShape, leafShape, keysShape, listShape, unionShape, runShape, shape}
-use Rattle.array_data.specs.Typed.{NodeKind, fixedNode, stringNode, viewNode, listViewNode, sparseNode, denseNode, runEndNode, dictionaryNode}
+use Rattle.array_data.specs.Typed.{NodeKind, fixedNode, stringNode, viewNode, listViewNode, listNode, sparseNode, denseNode, runEndNode, dictionaryNode}
 use Rattle.lent.specs.Lent.{numberOr, idsOr, numberKind, unionKind, kindOf, kindAt}
 use Rattle.lent.proofs.Ids.{cond-yes, cond-no, both, ids-formed}
 
@@ -58,21 +58,31 @@ module _ (code : ℕ) (single : Bool) (ids : Option (List ℕ)) (next : ℕ) whe
       ∙ cond-no (isView code) _ _ (later 15 16 17 18 code h (omega arith))
       ∙ cond-yes (isListView code) _ _ h
 
-  pub kind-union : isUnion code ≡ true → kindOf code single ids next ≡ unionKind (eqb code 19) (idsOr ids)
-  kind-union h =
+  pub kind-lists : isList code ≡ true → kindOf code single ids next ≡ listNode (widthOf code)
+  kind-lists h =
       cond-no (isFixed code) _ _ (later 1 10 19 20 code h (omega arith))
       ∙ cond-no (isString code) _ _ (later 11 14 19 20 code h (omega arith))
       ∙ cond-no (isView code) _ _ (later 15 16 19 20 code h (omega arith))
       ∙ cond-no (isListView code) _ _ (later 17 18 19 20 code h (omega arith))
+      ∙ cond-yes (isList code) _ _ h
+
+  pub kind-union : isUnion code ≡ true → kindOf code single ids next ≡ unionKind (eqb code 21) (idsOr ids)
+  kind-union h =
+      cond-no (isFixed code) _ _ (later 1 10 21 22 code h (omega arith))
+      ∙ cond-no (isString code) _ _ (later 11 14 21 22 code h (omega arith))
+      ∙ cond-no (isView code) _ _ (later 15 16 21 22 code h (omega arith))
+      ∙ cond-no (isListView code) _ _ (later 17 18 21 22 code h (omega arith))
+      ∙ cond-no (isList code) _ _ (later 19 20 21 22 code h (omega arith))
       ∙ cond-yes (isUnion code) _ _ h
 
   pub kind-run : isRunEnd code ≡ true → kindOf code single ids next ≡ runEndNode (widthOf next)
   kind-run h =
-      cond-no (isFixed code) _ _ (later 1 10 21 21 code h (omega arith))
-      ∙ cond-no (isString code) _ _ (later 11 14 21 21 code h (omega arith))
-      ∙ cond-no (isView code) _ _ (later 15 16 21 21 code h (omega arith))
-      ∙ cond-no (isListView code) _ _ (later 17 18 21 21 code h (omega arith))
-      ∙ cond-no (isUnion code) _ _ (later 19 20 21 21 code h (omega arith))
+      cond-no (isFixed code) _ _ (later 1 10 23 23 code h (omega arith))
+      ∙ cond-no (isString code) _ _ (later 11 14 23 23 code h (omega arith))
+      ∙ cond-no (isView code) _ _ (later 15 16 23 23 code h (omega arith))
+      ∙ cond-no (isListView code) _ _ (later 17 18 23 23 code h (omega arith))
+      ∙ cond-no (isList code) _ _ (later 19 20 23 23 code h (omega arith))
+      ∙ cond-no (isUnion code) _ _ (later 21 22 23 23 code h (omega arith))
       ∙ cond-yes (isRunEnd code) _ _ h
 
 -- the number of a fixed-width code has its bytes
@@ -116,6 +126,19 @@ list-width c h = go (eqb c 17) refl
         let top = leb-true c 18 (p .1) in
         let a = eqb-false c 17 e in
         let is : 18 ≡ c = omega arith in
+        subst (λ k. OffsetWidth (widthOf k)) is eight
+
+pub lists-width : (c : ℕ) → isList c ≡ true → OffsetWidth (widthOf c)
+lists-width c h = go (eqb c 19) refl
+  where
+    go : (x : Bool) → eqb c 19 ≡ x → OffsetWidth (widthOf c)
+    go true e = subst (λ k. OffsetWidth (widthOf k)) (sym (eqb-true c 19 e)) four
+    go false e =
+        let p = both (leb 19 c) (leb c 20) h in
+        let low = leb-true 19 c (p .0) in
+        let top = leb-true c 20 (p .1) in
+        let a = eqb-false c 19 e in
+        let is : 20 ≡ c = omega arith in
         subst (λ k. OffsetWidth (widthOf k)) is eight
 
 -- s, i and l are fixed-width
@@ -164,6 +187,7 @@ module _ (formats schema : List ℕ) (first : ℕ) where
     of-plain : (p : Plain) → kindAt formats schema first i ≡ plainKind p → below schema first i ≡ 0 → FormedPlain p → Shaped i
     of-view : kindAt formats schema first i ≡ viewNode → below schema first i ≡ 0 → Shaped i
     of-list : (w : ℕ) → kindAt formats schema first i ≡ listViewNode w → below schema first i ≡ 1 → OffsetWidth w → Shaped i
+    of-lists : (w : ℕ) → kindAt formats schema first i ≡ listNode w → below schema first i ≡ 1 → OffsetWidth w → Shaped i
     of-sparse : (ids : List ℕ) → kindAt formats schema first i ≡ sparseNode ids → below schema first i ≡ length ids → Ids ids → eqb (dictionary schema first i) 0 ≡ true → Shaped i
     of-dense : (ids : List ℕ) → kindAt formats schema first i ≡ denseNode ids → below schema first i ≡ length ids → Ids ids → eqb (dictionary schema first i) 0 ≡ true → Shaped i
     of-run : (m : Number) → kindAt formats schema first i ≡ runEndNode (width m) → below schema first i ≡ 2
@@ -222,7 +246,11 @@ module _ (formats schema : List ℕ) (first : ℕ) where
   unfolding kindAt
   at-list i h = kind-list (code i) (single i) (idsOf formats schema first i) (code (suc i)) h
 
-  pub at-union : (i : ℕ) → isUnion (code i) ≡ true → kindAt formats schema first i ≡ unionKind (eqb (code i) 19) (idsOr (idsOf formats schema first i))
+  pub at-lists : (i : ℕ) → isList (code i) ≡ true → kindAt formats schema first i ≡ listNode (widthOf (code i))
+  unfolding kindAt
+  at-lists i h = kind-lists (code i) (single i) (idsOf formats schema first i) (code (suc i)) h
+
+  pub at-union : (i : ℕ) → isUnion (code i) ≡ true → kindAt formats schema first i ≡ unionKind (eqb (code i) 21) (idsOr (idsOf formats schema first i))
   unfolding kindAt
   at-union i h = kind-union (code i) (single i) (idsOf formats schema first i) (code (suc i)) h
 
@@ -279,9 +307,13 @@ module _ (formats schema : List ℕ) (first : ℕ) where
   list-shaped : (i : ℕ) → listShape formats schema first i ≡ true → Shaped i
   unfolding listShape
   list-shaped i h =
-      let p = both (isListView (code i) && eqb (children schema first i) 1) (single i) h in
-      let q = both (isListView (code i)) (eqb (children schema first i) 1) (p .0) in
-      of-list (widthOf (code i)) (at-list i (q .0)) (below-single i (p .1) ∙ eqb-true (children schema first i) 1 (q .1)) (list-width (code i) (q .0))
+      let p = both ((isListView (code i) || isList (code i)) && eqb (children schema first i) 1) (single i) h in
+      let q = both (isListView (code i) || isList (code i)) (eqb (children schema first i) 1) (p .0) in
+      go (either (isListView (code i)) (isList (code i)) (q .0)) (below-single i (p .1) ∙ eqb-true (children schema first i) 1 (q .1))
+    where
+      go : (isListView (code i) ≡ true) ⊎ (isList (code i) ≡ true) → below schema first i ≡ 1 → Shaped i
+      go (inl v) z = of-list (widthOf (code i)) (at-list i v) z (list-width (code i) v)
+      go (inr l) z = of-lists (widthOf (code i)) (at-lists i l) z (lists-width (code i) l)
 
   -- a union's ids are as many as its children
   ids-children : (o : Option (List ℕ)) (i : ℕ) → childForEach schema first o i ≡ true → length (idsOr o) ≡ children schema first i
@@ -302,7 +334,7 @@ module _ (formats schema : List ℕ) (first : ℕ) where
       let ids = idsOf formats schema first i in
       let p = both (isUnion (code i) && childForEach schema first ids i) (single i) h in
       let q = both (isUnion (code i)) (childForEach schema first ids i) (p .0) in
-      union-by i (idsOr ids) (eqb (code i) 19) (at-union i (q .0)) (below-single i (p .1) ∙ sym (ids-children ids i (q .1))) (ids-at i) (p .1)
+      union-by i (idsOr ids) (eqb (code i) 21) (at-union i (q .0)) (below-single i (p .1) ∙ sym (ids-children ids i (q .1))) (ids-at i) (p .1)
 
   run-shaped : (i : ℕ) → runShape formats schema first i ≡ true → Shaped i
   unfolding runShape endsShape

@@ -5,11 +5,11 @@ use mathlib.Core.List.{List, []}
 use mathlib.Core.Option.{Option, none, some}
 use Prim.Native.Nat.{ℕ, zero, suc}
 use lib.Dec.{eqb}
-use Rattle.columnar.specs.Types.{Number, i8, Plain, fixed, string, Ty, tPlain, tView, tListView, tSparse, tDense, tRunEnd, tDictionary}
-use Rattle.formats.specs.Code.{isFixed, isString, isView, isListView, isUnion, isRunEnd, widthOf}
+use Rattle.columnar.specs.Types.{Number, i8, Plain, fixed, string, Ty, tPlain, tView, tListView, tList, tSparse, tDense, tRunEnd, tDictionary}
+use Rattle.formats.specs.Code.{isFixed, isString, isView, isListView, isList, isUnion, isRunEnd, widthOf}
 use Rattle.formats.specs.Types.{numberOf}
 use Rattle.schema.specs.Tree.{dictionary, endOf, codeOf, idsOf}
-use Rattle.array_data.specs.Typed.{NodeKind, fixedNode, stringNode, viewNode, listViewNode, sparseNode, denseNode, runEndNode, dictionaryNode, Tree, nodeOf}
+use Rattle.array_data.specs.Typed.{NodeKind, fixedNode, stringNode, viewNode, listViewNode, listNode, sparseNode, denseNode, runEndNode, dictionaryNode, Tree, nodeOf}
 
 -- the number of a code; any where it has none
 abbrev pub numberOr : Option Number → Number
@@ -39,9 +39,10 @@ kindOf code single ids next =
     (cond (isString code) (stringNode (widthOf code))
     (cond (isView code) viewNode
     (cond (isListView code) (listViewNode (widthOf code))
-    (cond (isUnion code) (unionKind (eqb code 19) (idsOr ids))
+    (cond (isList code) (listNode (widthOf code))
+    (cond (isUnion code) (unionKind (eqb code 21) (idsOr ids))
     (cond (isRunEnd code) (runEndNode (widthOf next))
-    (fixedNode i8))))))
+    (fixedNode i8)))))))
 
 module _ (formats schema : List ℕ) (first : ℕ) where
   -- node i's kind
@@ -64,6 +65,7 @@ plainAs (fixedNode m) = fixed m
 plainAs (stringNode w) = string w
 plainAs viewNode = fixed i8
 plainAs (listViewNode w) = fixed i8
+plainAs (listNode w) = fixed i8
 plainAs (sparseNode ids) = fixed i8
 plainAs (denseNode ids) = fixed i8
 plainAs (runEndNode w) = fixed i8
@@ -75,6 +77,7 @@ tyAs t sub (fixedNode m) i = tPlain (fixed m)
 tyAs t sub (stringNode w) i = tPlain (string w)
 tyAs t sub viewNode i = tView
 tyAs t sub (listViewNode w) i = tListView w (sub (suc i))
+tyAs t sub (listNode w) i = tList w (sub (suc i))
 tyAs t sub (sparseNode ids) i = tSparse ids (λ c. t .nullable (nodeOf t i ids c)) (λ c. sub (nodeOf t i ids c))
 tyAs t sub (denseNode ids) i = tDense ids (λ c. t .nullable (nodeOf t i ids c)) (λ c. sub (nodeOf t i ids c))
 tyAs t sub (runEndNode w) i = tRunEnd w (sub (suc (suc i)))

@@ -118,7 +118,7 @@ row-is : (x : Join) (inner : Walk) (i slot r id at : ℕ) (c : List ℕ) → idA
 unfolding walkRow denseTo
 row-is x inner i slot r id at c e q = rw (e, q)
 
-dense-copy-is : (x : Join) (inner : Walk) (i slot n : ℕ) (c : List ℕ) → codeOf (x .state) i ≡ 20
+dense-copy-is : (x : Join) (inner : Walk) (i slot n : ℕ) (c : List ℕ) → codeOf (x .state) i ≡ 22
     → copyData x inner (codeOf (x .state) i) i slot n c ≡ need (rowsIn x (place x i 3) 1 slot n && rowsIn x (place x i 5) 4 slot n) 12 c (each (walkRow x inner i slot) n 0 c)
 unfolding copyData copyDense
 dense-copy-is x inner i slot n c e = ap (λ z. copyData x inner z i slot n c) e
@@ -197,7 +197,7 @@ module _ (x : Join) (inner : Walk) (k : ℕ) (ids : List ℕ) (nullable : ℕ �
 
 -- ---- nulls
 
-dense-null-is : (x : Join) (inner : NullWalk) (i n : ℕ) (c : List ℕ) → codeOf (x .state) i ≡ 20
+dense-null-is : (x : Join) (inner : NullWalk) (i n : ℕ) (c : List ℕ) → codeOf (x .state) i ≡ 22
     → nullData x inner (codeOf (x .state) i) i n c
     ≡ found 32 (nullableChild (x .state) (endOf (x .state) i) 32 (suc i)) (noHome (x .state) i) c
     (λ h. need (leb (rows c h + n) (half 4)) 6 c

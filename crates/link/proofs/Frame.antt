@@ -8,7 +8,7 @@ use native.Mathlib.Omega.{arith}
 use lib.ListN.{length}
 use lib.Dec.{ltb, eqb}
 use borrow.Author.Tests.{lt-ltb, eq-eqb, eqb-true, eqb-false}
-use Rattle.columnar.specs.Types.{Plain, fixed, string, Ty, tPlain, tView, tListView, tSparse, tDense, tRunEnd, tDictionary}
+use Rattle.columnar.specs.Types.{Plain, fixed, string, Ty, tPlain, tView, tListView, tList, tSparse, tDense, tRunEnd, tDictionary}
 use Rattle.columnar.specs.Reading.{masks}
 use Rattle.model.specs.Mutable.{Mutable}
 use Rattle.model.specs.Transform.{Grown, Destination}
@@ -58,6 +58,7 @@ module _ (state : List ℕ) where
   worded-span (suc k) (tPlain p) i w = w .1
   worded-span (suc k) tView i w = w .1
   worded-span (suc k) (tListView v t) i w = let s = worded-span k t (suc i) (w .4) in let e : endOf state i ≡ endOf state (suc i) = w .1 in omega arith
+  worded-span (suc k) (tList v t) i w = let s = worded-span k t (suc i) (w .4) in let e : endOf state i ≡ endOf state (suc i) = w .1 in omega arith
   worded-span (suc k) (tSparse ids nullable f) i w = w .3
   worded-span (suc k) (tDense ids nullable f) i w = w .3
   worded-span (suc k) (tRunEnd v t) i w = let s = worded-span k t (suc (suc i)) (w .4) in let e : endOf state i ≡ endOf state (suc (suc i)) = w .1 in omega arith
@@ -167,6 +168,11 @@ module _ (state : List ℕ) where
           s .at-same 1 ∙ h .0,
           s .at-same 2 ∙ h .1,
           below-held k t (suc i) (d .child) (w .4) (λ j a b. s .below-same j (omega arith) (omega arith)) (data-held k t (suc i) (d .child .«data») (w .4)) (h .2),
+        )
+    data-held (suc k) (tList v t) i d w s h =
+        let e : endOf state i ≡ endOf state (suc i) = w .1 in (
+          s .at-same 1 ∙ h .0,
+          below-held k t (suc i) (d .child) (w .4) (λ j a b. s .below-same j (omega arith) (omega arith)) (data-held k t (suc i) (d .child .«data») (w .4)) (h .1),
         )
     data-held (suc k) (tSparse ids nullable f) i d w s h = (
       s .at-same 1 ∙ h .0,

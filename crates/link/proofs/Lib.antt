@@ -17,6 +17,8 @@ pub mod Views
 pub mod Pairs
 pub mod Places
 pub mod ListViews
+pub mod Offsets
+pub mod Lists
 pub mod RunLookups
 pub mod RunEnds
 pub mod UnionFields

@@ -10,7 +10,7 @@ use lib.ListN.{length, replicate}
 use lib.Dec.{leb, ltb, eqb}
 use borrow.Author.Tests.{lt-ltb, le-ltb, eq-eqb, ne-eqb, leb-true, eqb-true}
 use Rattle.columnar.specs.Row.{seg}
-use Rattle.columnar.specs.Types.{Plain, fixed, string, Ty, tPlain, tView, tListView, tSparse, tDense, tRunEnd, tDictionary}
+use Rattle.columnar.specs.Types.{Plain, fixed, string, Ty, tPlain, tView, tListView, tList, tSparse, tDense, tRunEnd, tDictionary}
 use Rattle.columnar.specs.Array.{Array, ok, Mask}
 use Rattle.columnar.specs.Reading.{Column, masks, Source}
 use Rattle.formats.specs.Code.{between, isFixed, isString, isView, isListView}
@@ -39,20 +39,21 @@ both : (a b : Bool) → a && b ≡ true → (a ≡ true) × (b ≡ true)
 both true b h = (refl, h)
 both false b h = absurd (false≢true h)
 
-below-code : (a b n : ℕ) → b < 19 → between a b n ≡ true → ltb n 19 ≡ true
-below-code a b n h e = let q = leb-true n b (both (leb a n) (leb n b) e .1) in lt-ltb n 19 (omega arith)
+below-code : (a b n : ℕ) → b < 21 → between a b n ≡ true → ltb n 21 ≡ true
+below-code a b n h e = let q = leb-true n b (both (leb a n) (leb n b) e .1) in lt-ltb n 21 (omega arith)
 
 module _ (state : List ℕ) where
   pub worded-small : (k : ℕ) (t : Ty) (i : ℕ) → Worded state k t i → i < 32
   worded-small (suc k) (tPlain p) i w = w .0
   worded-small (suc k) tView i w = w .0
   worded-small (suc k) (tListView v t) i w = w .0
+  worded-small (suc k) (tList v t) i w = w .0
   worded-small (suc k) (tSparse ids nullable f) i w = w .0
   worded-small (suc k) (tDense ids nullable f) i w = w .0
   worded-small (suc k) (tRunEnd v t) i w = w .0
   worded-small (suc k) (tDictionary n p) i w = w .0
 
-  plain-code : (p : Plain) (i : ℕ) → WordedPlain state p i → ltb (codeOf state i) 19 ≡ true
+  plain-code : (p : Plain) (i : ℕ) → WordedPlain state p i → ltb (codeOf state i) 21 ≡ true
   plain-code (fixed n) i w = below-code 1 10 (codeOf state i) (omega arith) (w .0)
   plain-code (string n) i w = below-code 11 14 (codeOf state i) (omega arith) (w .0)
 
@@ -61,9 +62,10 @@ module _ (state : List ℕ) where
   masked-is (suc k) (tPlain p) i w = plain-code p i (w .3)
   masked-is (suc k) tView i w = below-code 15 16 (codeOf state i) (omega arith) (w .2)
   masked-is (suc k) (tListView v t) i w = below-code 17 18 (codeOf state i) (omega arith) (w .2)
-  masked-is (suc k) (tSparse ids nullable f) i w = le-ltb (codeOf state i) 19 (omega (arith, w .1))
-  masked-is (suc k) (tDense ids nullable f) i w = le-ltb (codeOf state i) 19 (omega (arith, w .1))
-  masked-is (suc k) (tRunEnd v t) i w = le-ltb (codeOf state i) 19 (omega (arith, w .2))
+  masked-is (suc k) (tList v t) i w = below-code 19 20 (codeOf state i) (omega arith) (w .2)
+  masked-is (suc k) (tSparse ids nullable f) i w = le-ltb (codeOf state i) 21 (omega (arith, w .1))
+  masked-is (suc k) (tDense ids nullable f) i w = le-ltb (codeOf state i) 21 (omega (arith, w .1))
+  masked-is (suc k) (tRunEnd v t) i w = le-ltb (codeOf state i) 21 (omega (arith, w .2))
   masked-is (suc k) (tDictionary n p) i w = below-code 1 10 (codeOf state i) (omega arith) (w .3)
 
 counted-few : (b : Option (List Bool)) (z n : ℕ) → z ≤ n → counted b z ≤ n

@@ -10,7 +10,7 @@ use lib.Seq.{drop-drop}
 use lib.Dec.{leb}
 use borrow.Author.Tests.{lt-ltb, le-leb, lt-leb, eq-eqb, ne-eqb, leb-true}
 use Rattle.number.specs.Number.{number, entry}
-use Rattle.columnar.specs.Types.{half, Ty, tPlain, tView, tListView, tSparse, tDense, tRunEnd, tDictionary}
+use Rattle.columnar.specs.Types.{half, Ty, tPlain, tView, tListView, tList, tSparse, tDense, tRunEnd, tDictionary}
 use Rattle.columnar.specs.Array.{item}
 use Rattle.columnar.proofs.Items.{number-take, entry-end}
 use Rattle.formats.specs.Code.{between, widths, widthOf}
@@ -83,6 +83,7 @@ pub worded-small : (state : List ℕ) (k : ℕ) (t : Ty) (i : ℕ) → Worded st
 worded-small state (suc k) (tPlain p) i w = w .0
 worded-small state (suc k) tView i w = w .0
 worded-small state (suc k) (tListView v t) i w = w .0
+worded-small state (suc k) (tList v t) i w = w .0
 worded-small state (suc k) (tSparse ids nullable f) i w = w .0
 worded-small state (suc k) (tDense ids nullable f) i w = w .0
 worded-small state (suc k) (tRunEnd v t) i w = w .0

@@ -110,7 +110,7 @@ module _ (x : Join) (k w : ℕ) (t : Ty) (i m : ℕ) (ss : ℕ → Column (tRunE
   half-small = rw (sym (g .worded .3)) (half-far (bytesOf (x .state) (suc i)) (width-small (codeOf (x .state) (suc i))))
 
   -- the walk of a run-end node's code
-  copy-code : (inner : Walk) (code slot n : ℕ) (c : List ℕ) → code ≡ 21 → copyData x inner code i slot n c ≡ copyRuns x inner i slot n c
+  copy-code : (inner : Walk) (code slot n : ℕ) (c : List ℕ) → code ≡ 23 → copyData x inner code i slot n c ≡ copyRuns x inner i slot n c
   unfolding copyData
   copy-code inner code slot n c e = rw e
 
@@ -126,7 +126,7 @@ module _ (x : Join) (k w : ℕ) (t : Ty) (i m : ℕ) (ss : ℕ → Column (tRunE
   unfolding copyRuns
   some-is inner slot n c = rw (ne-eqb (suc n) 0 (λ e. omega (arith, e)), g .worded .3, g .worded .5, and-true (ltb (suc (suc i)) 32))
 
-  null-code : (inner : NullWalk) (code n : ℕ) (c : List ℕ) → code ≡ 21 → nullData x inner code i n c ≡ nullRuns x inner i n c
+  null-code : (inner : NullWalk) (code n : ℕ) (c : List ℕ) → code ≡ 23 → nullData x inner code i n c ≡ nullRuns x inner i n c
   unfolding nullData
   null-code inner code n c e = rw e
 

@@ -25,7 +25,7 @@ use Rattle.link.proofs.UnionHome.{goes-home}
 use Rattle.link.proofs.UnionParts.{part-cut, part-rows}
 use Rattle.link.proofs.UnionOwn.{Left, put-own, own-put, own-kept, child-field, kids-held}
 
-sparse-copy-is : (x : Join) (inner : Walk) (i slot n : ℕ) (c : List ℕ) → codeOf (x .state) i ≡ 19
+sparse-copy-is : (x : Join) (inner : Walk) (i slot n : ℕ) (c : List ℕ) → codeOf (x .state) i ≡ 21
     → copyData x inner (codeOf (x .state) i) i slot n c
     ≡ need (rowsIn x (place x i 3) 1 slot n) 12 c
     (next (wrote (put i 1 (rows c i) (take n (drop (place x i 3 + slot) (x .body)))) c) (λ c2. visit (x .state) (λ k c. inner k slot n c) (endOf (x .state) i) 32 (suc i) c2))
@@ -35,7 +35,7 @@ sparse-copy-is x inner i slot n c e =
     ∙ ap (λ z. need (rowsIn x (place x i 3) 1 slot n) 12 c (next (wrote (put i 1 (rows c i) (take n (drop (place x i 3 + slot) (x .body)))) c) z))
     (fun-ext (λ c2. copy-visits x inner slot n (endOf (x .state) i) 32 (suc i) c2))
 
-sparse-null-is : (x : Join) (inner : NullWalk) (i n : ℕ) (c : List ℕ) → codeOf (x .state) i ≡ 19
+sparse-null-is : (x : Join) (inner : NullWalk) (i n : ℕ) (c : List ℕ) → codeOf (x .state) i ≡ 21
     → nullData x inner (codeOf (x .state) i) i n c
     ≡ found 32 (nullableChild (x .state) (endOf (x .state) i) 32 (suc i)) (noHome (x .state) i) c
     (λ h. next (wrote (put i 1 (rows c i) (replicate n (idOf (x .state) h))) c) (λ c2. visit (x .state) (λ k c. inner k n c) (endOf (x .state) i) 32 (suc i) c2))

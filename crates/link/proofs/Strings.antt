@@ -3,7 +3,7 @@ use mathlib.Core.Path.{_≡_, refl, sym, ap, _∙_}
 use mathlib.Core.Bool.{Bool, true, false}
 use mathlib.Core.List.{List, [], _++_, append-nil}
 use Prim.Native.Nat.{ℕ, zero, suc, _+_, _-_, _*_, _≤_, _<_}
-use native.Mathlib.Nat.{add-zero, mul-le-mul-right, le-trans}
+use native.Mathlib.Nat.{add-zero}
 use native.Mathlib.Omega.{arith}
 use lib.ListN.{length, take, drop, length-append, length-drop}
 use lib.Seq.{length-take-le}
@@ -14,17 +14,14 @@ use Rattle.columnar.specs.Row.{seg}
 use Rattle.columnar.specs.Types.{half, string, tPlain}
 use Rattle.columnar.specs.Array.{item}
 use Rattle.columnar.specs.Entries.{encodes}
-use Rattle.columnar.specs.Plain.{Text, StringRule, empty, full}
+use Rattle.columnar.specs.Plain.{Text}
 use Rattle.columnar.specs.Reading.{Column}
-use Rattle.columnar.proofs.Items.{entry-end}
-use Rattle.utils.specs.Offsets.{moved, movedOffsets, repeated}
+use Rattle.utils.specs.Offsets.{moved, repeated}
 use Rattle.utils.specs.Extension.{overAt, extended}
-use Rattle.utils.specs.TryExtendOffsets.{NeverFalls}
-use Rattle.utils.proofs.Pieces.{pieces-same}
-use Rattle.utils.proofs.TryExtendOffsets.{over-is, fits-is, no-wrap}
+use Rattle.utils.proofs.TryExtendOffsets.{over-is, fits-is}
 use Rattle.model.specs.Try.{done, then, guard}
 use Rattle.model.specs.Primitive.{plainExtend}
-use Rattle.model.proofs.TextLaw.{Rising, rising-below, new-offsets}
+use Rattle.model.proofs.TextLaw.{new-offsets}
 use Rattle.model.proofs.Nodes.{TextFine}
 use Rattle.walk.specs.State.{Join, codeOf, endOf, rows, bytes, setBytes, place, rowsIn}
 use Rattle.walk.specs.Log.{put, fail}
@@ -38,74 +35,24 @@ use Rattle.link.proofs.Goes.{Goes, over, goes-done, goes-need, goes-wro
 use Rattle.link.proofs.Counters.{bytes-set}
 use Rattle.link.proofs.Owed.{DataKept, Given, CopiesData, FillsData}
 use Rattle.link.proofs.Codes.{string-apart}
-use Rattle.link.proofs.Parts.{part-length, part-cut, part-entry, rows-in}
-use Rattle.link.proofs.Entries.{encodes-pieces, repeated-pieces}
+use Rattle.link.proofs.Parts.{part-length, part-cut, rows-in}
+use Rattle.link.proofs.Offsets.{Rows, rows-of, width-from, first-is, first-below, never-falls, last-is, new-are}
+use Rattle.link.proofs.Entries.{repeated-pieces}
 use Rattle.link.proofs.Writes.{goes-write, put-own, put-beside, data-put, data-none, data-then, data-bytes}
 
--- what a copy of n rows from `slot` on, one at least, asks of a source
-record Rows (w : ℕ) (s : Text) (slot n : ℕ) : Type 0 where
-  hold : (slot + suc n) * w ≤ length (s .offsets)
-  rises : Rising (item w (s .offsets)) slot n
-  within : item w (s .offsets) (slot + n) ≤ length (s .chars)
-
-rows-of : (w : ℕ) (s : Text) (off len slot n : ℕ) → StringRule w s off len → off ≤ slot → slot + n ≤ off + len → 0 < n → Rows w s slot n
-rows-of w s off len slot n (empty e f) p q h = absurd (omega arith)
-rows-of w s off len slot n (full r) p q h =
-    let o : ℕ → ℕ = item w (s .offsets) in
-    let rise : Rising o off len = λ i l. let e : suc (off + i) ≡ off + i + 1 = omega arith in rw e (r .rises i l) in
-    let y : off + (slot - off + n) ≡ slot + n = omega arith in
-    let last : o (slot + n) ≤ o (off + len) = rw y at (rising-below o off len rise (slot - off + n) len (omega arith) (omega arith)) in
-    let t : slot + suc n ≤ off + len + 1 = omega arith in
-    record {
-      hold = le-trans (mul-le-mul-right w t) (r .hold);
-      rises = λ i l. let e : off + (slot - off + i) ≡ slot + i = omega arith in rw e at (rise (slot - off + i) (omega arith));
-      within = omega (arith, r .within);
-    }
-
--- an offset has a width
-width-from : (w : ℕ) → 0 < half w → 0 < w
-width-from zero h = absurd (omega arith)
-width-from (suc w) h = omega arith
-
-module _ (x : Join) (i w slot n : ℕ) (s : Text) (p : First x i (s .offsets)) (p2 : Second x i (s .chars)) (r : Rows w s slot n) where
+module _ (x : Join) (i w slot n : ℕ) (s : Text) (p : First x i (s .offsets)) (p2 : Second x i (s .chars)) (r : Rows w (s .offsets) (length (s .chars)) slot n) where
   abbrev o : ℕ → ℕ
   o k = item w (s .offsets) k
 
   abbrev from : ℕ
   from = place x i 3 + w * slot
 
-  offset-is : (k : ℕ) → k ≤ n → entry w (x .body) from k ≡ o (slot + k)
-  offset-is k l =
-      let e : (slot + k) * w + w ≤ (slot + suc n) * w = entry-end w (omega arith) in
-      part-entry p w slot k (omega (arith, part-length p, r .hold))
-
-  first-is : entry w (x .body) from 0 ≡ o slot
-  first-is = offset-is 0 (omega arith) ∙ ap o (add-zero slot)
-
-  -- the bytes from the first offset to the last lie in the data
-  first-below : o slot ≤ o (slot + n)
-  first-below = rw add-zero at (rising-below o slot n (r .rises) 0 n (omega arith) (omega arith))
-
-  never-falls : NeverFalls (λ k. entry w (x .body) from k) n
-  never-falls k l =
-      let e : slot + (k + 1) ≡ suc (slot + k) = omega arith in
-      rw (offset-is k (omega arith), offset-is (k + 1) (omega arith), e) (r .rises k l)
-
-  -- the last new offset
-  last-is : (last : ℕ) → moved w (x .body) from last n ≡ last + (o (slot + n) - o slot)
-  last-is last = rw (first-is, offset-is n (omega arith))
-
-  new-are : (last : ℕ) → last + (o (slot + n) - o slot) < half w
-      → movedOffsets w (x .body) from last n ≡ encodes w (seg (λ k. last + (o (slot + k) - o slot)) 1 n)
-  new-are last h =
-      no-wrap w (x .body) from n last never-falls (omega (arith, last-is last))
-      ∙ pieces-same (λ k. encode w (moved w (x .body) from last (k + 1))) (λ k. encode w (last + (o (slot + (1 + k)) - o slot))) n
-      (λ k l. let e : k + 1 ≡ 1 + k = omega arith in rw (first-is, offset-is (k + 1) (omega arith), e))
-      ∙ sym (encodes-pieces w (λ k. last + (o (slot + k) - o slot)) 1 n)
+  abbrev most : ℕ
+  most = length (s .chars)
 
   -- the bytes
   copied : take (o (slot + n) - o slot) (drop (place x i 5 + o slot) (x .body)) ≡ take (o (slot + n) - o slot) (drop (o slot) (s .chars))
-  copied = sym (part-cut p2 (o (slot + n) - o slot) (o slot) (omega (arith, first-below, r .within, part-length p2)))
+  copied = sym (part-cut p2 (o (slot + n) - o slot) (o slot) (omega (arith, first-below x i w slot n (s .offsets) most p r, r .within, part-length p2)))
 
   module _ (d : Text) (l : ℕ) (fine : TextFine w d l) (c : List ℕ) (long : length c ≡ 96) (small : i < 32) (e : ℕ) (span : i < e) (μ : Memory) (at-row : rows c i ≡ l)
       (h : HoldsPlain (x .state) (string w) i d c μ) where
@@ -128,9 +75,9 @@ module _ (x : Join) (i w slot n : ℕ) (s : Text) (p : First x i (s .offsets)) (
         let z : bytes c i + more - bytes c i ≡ more = omega arith in
         let y : length (d .chars ++ bs) ≡ bytes c i + more
         = length-append (d .chars) bs ∙ rw (length-take-le more (drop (o slot) (s .chars)) (rw length-drop (omega (arith, r .within)))) (omega (arith, h .2)) in
-        rw (last-is (bytes c i), first-is, new-are (bytes c i) fits, z)
+        rw (last-is x i w slot n (s .offsets) most p r (bytes c i), first-is x i w slot n (s .offsets) most p r, new-are x i w slot n (s .offsets) most p r (bytes c i) fits, z)
         (goes-need (leb (place x i 5 + o slot + more) (length (x .body))) 12 c
-        (le-leb (place x i 5 + o slot + more) (length (x .body)) (omega (arith, first-below, r .within, part-length p2, p2 .inside)))
+        (le-leb (place x i 5 + o slot + more) (length (x .body)) (omega (arith, first-below x i w slot n (s .offsets) most p r, r .within, part-length p2, p2 .inside)))
         (goes-wrote (put i 1 (suc (rows c i) * w) os) c _ (rw (h .0, at-row) (sym (fine .offsets-are)))
         (rw (z, copied)
         (goes-wrote (put i 2 (bytes c i) bs) c _ (rw (put-beside i 1 os μ 2 (λ t. omega (arith, t)), h .1) (h .2))
@@ -156,10 +103,10 @@ module _ (x : Join) (i w slot n : ℕ) (s : Text) (p : First x i (s .offsets)) (
             (putExtended x i w from n (extended w (x .body) from n (bytes c i)) c)
         go true t =
             let fits = ltb-true (bytes c i + more) (half w) t in
-            rw (fits-is w (x .body) from n (bytes c i) never-falls (omega arith) (omega (arith, last-is (bytes c i)))) (put-goes fits)
+            rw (fits-is w (x .body) from n (bytes c i) (never-falls x i w slot n (s .offsets) most p r) (omega arith) (omega (arith, last-is x i w slot n (s .offsets) most p r (bytes c i)))) (put-goes fits)
         go false t =
             let no = ltb-false (bytes c i + more) (half w) t in
-            rw (over-is w (x .body) from n (bytes c i) never-falls (omega (arith, h .2, fine .fits)) (omega (arith, last-is (bytes c i), fine .fits)))
+            rw (over-is w (x .body) from n (bytes c i) (never-falls x i w slot n (s .offsets) most p r) (omega (arith, h .2, fine .fits)) (omega (arith, last-is x i w slot n (s .offsets) most p r (bytes c i), fine .fits)))
             (over 6 (fail 6 c) refl (omega arith))
 
 -- a copy of no rows
@@ -178,7 +125,7 @@ string-copies x inner k w i m ss g slot zero d c μ lo hi f small long e h =
 string-copies x inner k w i m ss g slot (suc n) d c μ lo hi f small long e h =
     let s = ss (x .source) .body in
     let p = g .lent .body-is in
-    let r = rows-of w s (ss (x .source) .off) (ss (x .source) .len) slot (suc n) (g .obey (x .source) (g .known) .slots) lo hi (omega arith) in
+    let r = rows-of w (s .offsets) (length (s .chars)) (ss (x .source) .off) (ss (x .source) .len) slot (suc n) (g .obey (x .source) (g .known) .slots) lo hi (omega arith) in
     rw (string-apart (codeOf (x .state) i) (g .worded .3 .0), g .worded .3 .0, g .worded .3 .1, ne-eqb (suc n) 0 (λ t. omega (arith, t)))
     (goes-need (rowsIn x (place x i 3) w slot (suc (suc n))) 12 c
     (rows-in x (place x i 3) (place x i 4) (s .offsets) w slot (suc (suc n)) (p .0) (g .body-small) (width-from w (omega (arith, f .data-fine .fits))) (r .hold))

@@ -4,7 +4,7 @@ use mathlib.Core.List.{List, [], List·Memᴰ}
 use Prim.Native.Nat.{ℕ, zero, suc, _+_, _≤_, _<_}
 use native.Mathlib.Omega.{arith}
 use lib.ListN.{length}
-use Rattle.columnar.specs.Types.{Ty, tPlain, tView, tListView, tSparse, tDense, tRunEnd, tDictionary}
+use Rattle.columnar.specs.Types.{Ty, tPlain, tView, tListView, tList, tSparse, tDense, tRunEnd, tDictionary}
 use Rattle.columnar.specs.Formed.{Formed}
 use Rattle.columnar.specs.Reading.{Column, Source}
 use Rattle.model.proofs.Owed.{Ready}
@@ -21,6 +21,7 @@ use Rattle.link.proofs.Plain.{plain-copies, plain-fills}
 use Rattle.link.proofs.Views.{view-copies, view-fills}
 use Rattle.link.proofs.Keys.{keys-copies, keys-fills}
 use Rattle.link.proofs.ListViews.{list-copies, list-fills}
+use Rattle.link.proofs.Lists.{lists-copies, lists-fills}
 use Rattle.link.proofs.RunEnds.{run-copies, run-fills}
 use Rattle.link.proofs.SparseGoes.{sparse-copies, sparse-fills}
 use Rattle.link.proofs.DenseGoes.{dense-copies, dense-fills}
@@ -60,6 +61,19 @@ module _ {x : Join} {k i m : ℕ} where
         known = o .known;
         body-small = o .body-small;
         lent = o .lent .body-is .2;
+        based = o .based;
+        obey = λ j h. o .obey j h .slots .child-rule;
+        ready = o .ready;
+      }
+
+  lists-down : {w : ℕ} {t : Ty} {ss : ℕ → Column (tList w t)} → Opened x (suc k) (tList w t) i m ss → Opened x k t (suc i) m (λ j. ss j .body .child)
+  lists-down o =
+      record {
+        worded = o .worded .4;
+        formed = o .formed .1;
+        known = o .known;
+        body-small = o .body-small;
+        lent = o .lent .body-is .1;
         based = o .based;
         obey = λ j h. o .obey j h .slots .child-rule;
         ready = o .ready;
@@ -114,6 +128,8 @@ module _ (x : Join) (m : ℕ) where
   copies (suc k) tView i ss o = node-copies x k tView i m ss (given o) (view-copies x (copyWalk x k) k i m ss (given o))
   copies (suc k) (tListView w t) i ss o =
       node-copies x k (tListView w t) i m ss (given o) (list-copies x (copyWalk x k) k w t i m ss (given o) (copies k t (suc i) (λ j. ss j .body .child) (list-down o)))
+  copies (suc k) (tList w t) i ss o =
+      node-copies x k (tList w t) i m ss (given o) (lists-copies x (copyWalk x k) k w t i m ss (given o) (copies k t (suc i) (λ j. ss j .body .child) (lists-down o)))
   copies (suc k) (tSparse ids nullable f) i ss o =
       node-copies x k (tSparse ids nullable f) i m ss (given o)
       (sparse-copies x (copyWalk x k) k ids nullable f i m ss (given o) (λ e p. copies k (f e) (childOf (x .state) i e) (λ j. ss j .body .children e) (sparse-down o e p)))
@@ -130,6 +146,7 @@ module _ (x : Join) (m : ℕ) where
   fills (suc k) (tPlain p) i ss o = node-fills x k (tPlain p) i m ss (given o) (plain-fills x (nullWalk x k) k p i m ss (given o))
   fills (suc k) tView i ss o = node-fills x k tView i m ss (given o) (view-fills x (nullWalk x k) k i m ss (given o))
   fills (suc k) (tListView w t) i ss o = node-fills x k (tListView w t) i m ss (given o) (list-fills x (nullWalk x k) k w t i m ss (given o))
+  fills (suc k) (tList w t) i ss o = node-fills x k (tList w t) i m ss (given o) (lists-fills x (nullWalk x k) k w t i m ss (given o))
   fills (suc k) (tSparse ids nullable f) i ss o =
       node-fills x k (tSparse ids nullable f) i m ss (given o)
       (sparse-fills x (nullWalk x k) k ids nullable f i m ss (given o) (λ e p. fills k (f e) (childOf (x .state) i e) (λ j. ss j .body .children e) (sparse-down o e p)))

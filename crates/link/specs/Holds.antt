@@ -7,9 +7,9 @@ use mathlib.Core.List.{List, [], _∷_, map, List·Memᴰ}
 use Prim.Native.Nat.{ℕ, zero, suc, _+_, _≤_, _<_}
 use lib.ListN.{length}
 use lib.Dec.{eqb}
-use Rattle.columnar.specs.Types.{Number, width, Plain, fixed, string, Ty, tPlain, tView, tListView, tSparse, tDense, tRunEnd, tDictionary}
+use Rattle.columnar.specs.Types.{Number, width, Plain, fixed, string, Ty, tPlain, tView, tListView, tList, tSparse, tDense, tRunEnd, tDictionary}
 use Rattle.columnar.specs.Reading.{masks}
-use Rattle.formats.specs.Code.{isFixed, isString, isView, isListView}
+use Rattle.formats.specs.Code.{isFixed, isString, isView, isListView, isList}
 use Rattle.model.specs.Mutable.{Mutable}
 use Rattle.model.specs.Transform.{Grown, Destination}
 use Rattle.walk.specs.State.{codeOf, dictionaryOf, endOf, idOf, nullableOf, keepsOf, bytesOf, rows, nulls, bytes}
@@ -44,12 +44,14 @@ module _ (state : List ℕ) where
   Worded (suc k) tView i = (i < 32) × (i < endOf state i) × (isView (codeOf state i) ≡ true)
   Worded (suc k) (tListView w t) i =
       (i < 32) × (endOf state i ≡ endOf state (suc i)) × (isListView (codeOf state i) ≡ true) × (bytesOf state i ≡ w) × Worded k t (suc i)
+  Worded (suc k) (tList w t) i =
+      (i < 32) × (endOf state i ≡ endOf state (suc i)) × (isList (codeOf state i) ≡ true) × (bytesOf state i ≡ w) × Worded k t (suc i)
   Worded (suc k) (tSparse ids nullable f) i =
-      (i < 32) × (codeOf state i ≡ 19) × (length ids ≤ 16) × (i < endOf state i) × Fields (λ c. Worded k (f c)) nullable (endOf state i) ids (suc i)
+      (i < 32) × (codeOf state i ≡ 21) × (length ids ≤ 16) × (i < endOf state i) × Fields (λ c. Worded k (f c)) nullable (endOf state i) ids (suc i)
   Worded (suc k) (tDense ids nullable f) i =
-      (i < 32) × (codeOf state i ≡ 20) × (length ids ≤ 16) × (i < endOf state i) × Fields (λ c. Worded k (f c)) nullable (endOf state i) ids (suc i)
+      (i < 32) × (codeOf state i ≡ 22) × (length ids ≤ 16) × (i < endOf state i) × Fields (λ c. Worded k (f c)) nullable (endOf state i) ids (suc i)
   Worded (suc k) (tRunEnd w t) i =
-      (i < 32) × (endOf state i ≡ endOf state (suc (suc i))) × (codeOf state i ≡ 21) × (bytesOf state (suc i) ≡ w) × Worded k t (suc (suc i)) × (isWidth w ≡ true)
+      (i < 32) × (endOf state i ≡ endOf state (suc (suc i))) × (codeOf state i ≡ 23) × (bytesOf state (suc i) ≡ w) × Worded k t (suc (suc i)) × (isWidth w ≡ true)
   Worded (suc k) (tDictionary n p) i =
       (i < 32) × (i < endOf state i) × (dictionaryOf state i ≡ 0 → ⊥) × (isFixed (codeOf state i) ≡ true) × (bytesOf state i ≡ width n)
 
@@ -80,6 +82,7 @@ module _ (state : List ℕ) where
   HoldsData (tPlain p) i d c μ = HoldsPlain p i d c μ
   HoldsData tView i d c μ = μ .at i 1 ≡ d
   HoldsData (tListView w t) i d c μ = (μ .at i 1 ≡ d .buffer1) × (μ .at i 2 ≡ d .buffer2) × HoldsNode state (suc i) (masks t) (HoldsData t (suc i)) (d .child) c μ
+  HoldsData (tList w t) i d c μ = (μ .at i 1 ≡ d .buffer1) × HoldsNode state (suc i) (masks t) (HoldsData t (suc i)) (d .child) c μ
   HoldsData (tSparse ids nullable f) i d c μ =
       (μ .at i 1 ≡ d .buffer1) × ((e : ℕ) → List·Memᴰ e ids → HoldsNode state (childOf state i e) (masks (f e)) (HoldsData (f e) (childOf state i e)) (d .children e) c μ)
   HoldsData (tDense ids nullable f) i d c μ =

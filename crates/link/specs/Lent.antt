@@ -6,7 +6,7 @@ use mathlib.Core.List.{List, [], _∷_, List·Memᴰ}
 use Prim.Native.Nat.{ℕ, zero, suc, _+_, _≤_, _<_}
 use lib.ListN.{length, take, drop}
 use lib.Dec.{eqb}
-use Rattle.columnar.specs.Types.{Plain, fixed, string, Ty, tPlain, tView, tListView, tSparse, tDense, tRunEnd, tDictionary}
+use Rattle.columnar.specs.Types.{Plain, fixed, string, Ty, tPlain, tView, tListView, tList, tSparse, tDense, tRunEnd, tDictionary}
 use Rattle.columnar.specs.Array.{Array}
 use Rattle.columnar.specs.Plain.{PlainBody}
 use Rattle.columnar.specs.Reading.{Body, Column}
@@ -47,6 +47,7 @@ module _ (x : Join) where
   LentData (tPlain p) i b = LentPlain p i b
   LentData tView i b = First i (b .views)
   LentData (tListView w t) i b = First i (b .offsets) × Second i (b .sizes) × LentNode x (suc i) (LentData t (suc i)) (b .child)
+  LentData (tList w t) i b = First i (b .offsets) × LentNode x (suc i) (LentData t (suc i)) (b .child)
   LentData (tSparse ids nullable f) i b =
       First i (b .ids) × ((e : ℕ) → List·Memᴰ e ids → LentNode x (childOf (x .state) i e) (LentData (f e) (childOf (x .state) i e)) (b .children e))
   LentData (tDense ids nullable f) i b =
@@ -63,6 +64,7 @@ abbrev pub Based : List ℕ → ℕ → (t : Ty) → ℕ → ℕ → (ℕ → Bo
 Based state s (tPlain p) i m ss = Unit {0}
 Based state s tView i m ss = baseOf state s i ≡ length (buffersBefore ss s)
 Based state s (tListView w t) i m ss = Based state s t (suc i) m (λ j. ss j .child .body)
+Based state s (tList w t) i m ss = Based state s t (suc i) m (λ j. ss j .child .body)
 Based state s (tSparse ids nullable f) i m ss = (e : ℕ) → List·Memᴰ e ids → Based state s (f e) (childOf state i e) m (λ j. ss j .children e .body)
 Based state s (tDense ids nullable f) i m ss = (e : ℕ) → List·Memᴰ e ids → Based state s (f e) (childOf state i e) m (λ j. ss j .children e .body)
 Based state s (tRunEnd w t) i m ss = Based state s t (suc (suc i)) m (λ j. ss j .values .body)

@@ -8,7 +8,7 @@ use native.Mathlib.Omega.{arith}
 use lib.Dec.{ltb}
 use Rattle.formats.specs.Code.{isString, isListView, widthOf}
 use Rattle.walk.specs.State.{codeOf, rows, bytes, top}
-use Rattle.parts.specs.Parts.{nodesOf, validityParts, partCount, partFrom, partAt, entrySize, neededBy, needed}
+use Rattle.parts.specs.Parts.{nodesOf, validityParts, partCount, partFrom, partAt, hasOffsets, entrySize, neededBy, needed}
 use Rattle.parts.specs.declared.Spot.{Spot}
 use Rattle.parts.specs.declared.Spot.the-variants.{Of, Nothing}
 use Rattle.orders.specs.Measure.{neededIn, neededBytes}
@@ -37,10 +37,10 @@ bits-are r h = omega arith
 -- ---- a buffer by its code
 
 module _ (code r n s : ℕ) where
-  pub first-string : {w : ℕ} {t : Bool} → t ≡ isString code → t ≡ true → w ≡ widthOf code → s ≡ min ((r + 1) * w) top → s ≡ min (neededBy code r n 1) top
-  first-string e h f d = rw (sym e ∙ h) (d ∙ ap (λ z. min ((r + 1) * z) top) f)
+  pub first-offsets : {w : ℕ} {t : Bool} → t ≡ hasOffsets code → t ≡ true → w ≡ widthOf code → s ≡ min ((r + 1) * w) top → s ≡ min (neededBy code r n 1) top
+  first-offsets e h f d = rw (sym e ∙ h) (d ∙ ap (λ z. min ((r + 1) * z) top) f)
 
-  pub first-other : {w : ℕ} {t : Bool} → t ≡ isString code → t ≡ false → w ≡ entrySize code → s ≡ min (r * w) top → s ≡ min (neededBy code r n 1) top
+  pub first-other : {w : ℕ} {t : Bool} → t ≡ hasOffsets code → t ≡ false → w ≡ entrySize code → s ≡ min (r * w) top → s ≡ min (neededBy code r n 1) top
   first-other e h f d = rw (sym e ∙ h) (d ∙ ap (λ z. min (r * z) top) f)
 
   module _ {t : Bool} (e : t ≡ isString code) where

@@ -14,7 +14,7 @@ use Rattle.run_ends.specs.declared.Runs.the-variants.{Range, None}
 use Rattle.walk.specs.State.{Join, codeOf, bytesOf, endOf, rows, bytes, addRows, place, lengthOf, offsetOf, slotOf, rowsIn, far}
 use Rattle.walk.specs.Log.{put, done, wrote, need, found, next}
 use Rattle.walk.specs.Leaves.{copyBits, copyMask, copyNumbers, copyKeys, copyViews, putString, putExtended, copyString}
-use Rattle.walk.specs.Copy.{Walk, masked, isWidth, listViewRow, copyListView, copyFields, copySparse, denseTo, denseRow, copyDense, putRuns, runsAt, copyRuns, copyData, copySlots, copyNode, copyWalk}
+use Rattle.walk.specs.Copy.{Walk, masked, isWidth, listViewRow, copyListView, putStretch, putList, copyList, copyFields, copySparse, denseTo, denseRow, copyDense, putRuns, runsAt, copyRuns, copyData, copySlots, copyNode, copyWalk}
 use Rattle.leaf_walk.specs.Join.{join}
 
 module _ (state parts parts2 lengths places body : List ℕ) (first source : ℕ) where
@@ -49,6 +49,18 @@ module _ (state parts parts2 lengths places body : List ℕ) (first source : ℕ
     unfolding copyListView listViewRow rowsIn
     list-same w i slot n c = refl
 
+    stretch-same : (w i from n : ℕ) (e : Extended) (c : List ℕ) → putList one child w i from n e c ≡ putList other child w i from n e c
+    unfolding putStretch
+    stretch-same w i from n (Fits last start) c = refl
+    stretch-same w i from n (Over row needed) c = refl
+    stretch-same w i from n Falls c = refl
+
+    lists-same : (w i slot n : ℕ) (c : List ℕ) → copyList one child w i slot n c ≡ copyList other child w i slot n c
+    unfolding copyList rowsIn
+    lists-same w i slot n c =
+        ap (λ z. cond (eqb n 0) (done c) (need (ltb (suc i) 32) 12 c (need (rowsIn one (place one i 3) w slot (suc n)) 12 c z)))
+        (stretch-same w i (place one i 3 + w * slot) n (extended w body (place one i 3 + w * slot) n (rows c (suc i))) c)
+
     fields-same : (slot n end f k : ℕ) (c : List ℕ) → copyFields one child slot n end f k c ≡ copyFields other child slot n end f k c
     unfolding copyFields
     fields-same slot n end zero k c = refl
@@ -81,7 +93,7 @@ module _ (state parts parts2 lengths places body : List ℕ) (first source : ℕ
     data-same : (code i slot n : ℕ) (c : List ℕ) → copyData one child code i slot n c ≡ copyData other child code i slot n c
     unfolding copyData copyNumbers copyKeys copyViews rowsIn
     data-same code i slot n c =
-        rw (string-same i (bytesOf state i) slot n c, list-same (bytesOf state i) i slot n c, sparse-same i slot n c, dense-same i slot n c, runs-same i slot n c)
+        rw (string-same i (bytesOf state i) slot n c, list-same (bytesOf state i) i slot n c, lists-same (bytesOf state i) i slot n c, sparse-same i slot n c, dense-same i slot n c, runs-same i slot n c)
 
     slots-same : (i slot n : ℕ) (c : List ℕ) → copySlots one child i slot n c ≡ copySlots other child i slot n c
     unfolding copySlots

@@ -173,7 +173,7 @@ fn bit_bytes(r: u64) -> u64
 fn first_bytes(code: u8, r: u64, n: u64) -> u64
     ensures { λ s. ⌜ s ≡ min (neededBy code r n 1) top ⌝ }
 {
-    if formats::is_string(code) {
+    if formats::is_string(code) | formats::is_list(code) {
         return times_more(r, formats::width_of(code));
     }
     times(r, parts::entry_size(code))

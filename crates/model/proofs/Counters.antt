@@ -8,7 +8,7 @@ use native.Mathlib.Nat.{zero-add, add-zero}
 use native.Mathlib.Omega.{arith}
 use lib.ListN.{length, getD}
 use Rattle.columnar.specs.Row.{seg}
-use Rattle.columnar.specs.Types.{Plain, Ty, tPlain, tView, tListView, tSparse, tDense, tRunEnd, tDictionary}
+use Rattle.columnar.specs.Types.{Plain, Ty, tPlain, tView, tListView, tList, tSparse, tDense, tRunEnd, tDictionary}
 use Rattle.columnar.specs.Array.{Array, ok, nullsIn, Obeys}
 use Rattle.columnar.specs.Plain.{PlainBody, PlainRule}
 use Rattle.columnar.specs.Dictionary.{Dictionary}
@@ -22,6 +22,7 @@ use Rattle.model.specs.Counters.{validityBy, countBy, ByCounter, Bare, B
 use Rattle.model.proofs.Law.{BitsFor, CountFor, FineNode}
 use Rattle.model.proofs.Nodes.{fineOf}
 use Rattle.model.proofs.Node.{valid-bit, grow-count}
+use Rattle.model.proofs.Start.{no-null-in, none-has}
 use Rattle.model.proofs.Joined.{joined}
 
 -- ---- null counts of finished bits
@@ -126,6 +127,8 @@ data-by : (t : Ty) (m : ℕ) (ss : ℕ → Column t) → ((j : ℕ) → j < m �
 data-by (tPlain p) m ss s b d l h = tt
 data-by tView m ss s b d l h = tt
 data-by (tListView w t) m ss s b d l h =
+    fine-by t m (λ i. ss i .body .child) (data-by t m (λ i. ss i .body .child) (λ j q. s j q .slots .child-rule)) (d .child) (h .child-fine)
+data-by (tList w t) m ss s b d l h =
     fine-by t m (λ i. ss i .body .child) (data-by t m (λ i. ss i .body .child) (λ j q. s j q .slots .child-rule)) (d .child) (h .child-fine)
 data-by (tSparse ids nullable f) m ss s b d l h = λ c q.
     fine-by (f c) m (λ i. ss i .body .children c) (data-by (f c) m (λ i. ss i .body .children c) (λ j y. s j y .slots .child-rule c q)) (d .children c) (h .kids-fine c q)

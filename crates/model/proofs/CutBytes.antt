@@ -11,10 +11,11 @@ use lib.Seq.{take-add, drop-drop, length-take-le}
 use lib.Dec.{ltb}
 use borrow.Author.Tests.{ltb-true, lt-ltb}
 use Rattle.columnar.specs.Row.{seg}
-use Rattle.columnar.specs.Types.{width, half, Plain, fixed, string, Ty, tPlain, tView, tListView, tSparse, tDense, tRunEnd, tDictionary}
+use Rattle.columnar.specs.Types.{width, half, Plain, fixed, string, Ty, tPlain, tView, tListView, tList, tSparse, tDense, tRunEnd, tDictionary}
 use Rattle.columnar.specs.Array.{Array, item, ok}
 use Rattle.columnar.specs.Entries.{encodes}
-use Rattle.columnar.specs.Plain.{Text, PlainBody, StringRule, empty, full}
+use Rattle.columnar.specs.Plain.{Text, PlainBody, OffsetsRule, StringRule, empty, full}
+use Rattle.columnar.specs.List.{Listed}
 use Rattle.columnar.specs.Reading.{Body, Column, Source, masks}
 use Rattle.columnar.proofs.Items.{encodes-append}
 use Rattle.model.specs.Try.{Try, done, stop, then, guard, after, stepsT}
@@ -22,6 +23,7 @@ use Rattle.model.specs.Mutable.{Mutable, zeros, grow, counted, extendNod
 use Rattle.model.specs.Primitive.{newOffsets, plainExtend, newViews, newKeys}
 use Rattle.model.specs.Unions.{Sparses, inOrder}
 use Rattle.model.specs.ListViews.{listRow}
+use Rattle.model.specs.Lists.{Listings, listsExtend}
 use Rattle.model.specs.Unions as unions
 use Rattle.model.specs.Transform.{Grown, Destination, extendData, extend}
 use Rattle.model.proofs.Bits.{zeros-append}
@@ -46,6 +48,7 @@ abbrev pub SameGrown : (t : Ty) → Grown t → Grown t → Type 0
 SameGrown (tPlain p) x y = x ≡ y
 SameGrown tView x y = x ≡ y
 SameGrown (tListView w t) x y = x ≡ y
+SameGrown (tList w t) x y = (x .buffer1 ≡ y .buffer1) × SameNode (SameGrown t) (x .child) (y .child)
 SameGrown (tSparse ids nullable f) x y = (x .buffer1 ≡ y .buffer1) × ((e : ℕ) → List·Memᴰ e ids → SameNode (SameGrown (f e)) (x .children e) (y .children e))
 SameGrown (tDense ids nullable f) x y = x ≡ y
 SameGrown (tRunEnd w t) x y = x ≡ y
@@ -56,10 +59,24 @@ abbrev pub Seamless : Ty → Type 0
 Seamless (tPlain p) = Unit {0}
 Seamless tView = Unit {0}
 Seamless (tListView w t) = Unit {0}
+Seamless (tList w t) = Seamless t
 Seamless (tSparse ids nullable f) = (e : ℕ) → List·Memᴰ e ids → Seamless (f e)
 Seamless (tDense ids nullable f) = Unit {0}
 Seamless (tRunEnd w t) = ⊥
 Seamless (tDictionary k p) = Unit {0}
+
+node-self : {D : Type 0} (R : D → D → Type 0) (x : Mutable D) → R (x .«data») (x .«data») → SameNode R x x
+node-self R x r = record { len-same = refl; count-same = refl; bits-same = refl; data-same = r }
+
+grown-self : (t : Ty) (x : Grown t) → SameGrown t x x
+grown-self (tPlain p) x = refl
+grown-self tView x = refl
+grown-self (tListView w t) x = refl
+grown-self (tList w t) x = (refl, node-self (SameGrown t) (x .child) (grown-self t (x .child .«data»)))
+grown-self (tSparse ids nullable f) x = (refl, λ e m. node-self (SameGrown (f e)) (x .children e) (grown-self (f e) (x .children e .«data»)))
+grown-self (tDense ids nullable f) x = refl
+grown-self (tRunEnd w t) x = refl
+grown-self (tDictionary k p) x = refl
 
 -- what a copy of the n slots from a on and then of the k behind them makes is what a copy of all of them makes
 abbrev pub Seam : (t : Ty) (m : ℕ) → (ℕ → Column t) → ℕ → Type 0
@@ -160,22 +177,22 @@ node-seam t m ss j s a n k h d d₁ d₂ f f₁ p q =
 -- ---- byte strings
 
 -- the entries of a source that a copy reads never fall
-text-rising : (w : ℕ) (b : Text) (off len : ℕ) → StringRule w b off len → (a n : ℕ) → off ≤ a → a + n ≤ off + len → Rising (item w (b .offsets)) a n
-text-rising w b off len (empty e g) a n h k i q = absurd (omega arith)
-text-rising w b off len (full r) a n h k i q =
+offsets-rising : (w : ℕ) (s : List ℕ) (most off len : ℕ) → OffsetsRule w s most off len → (a n : ℕ) → off ≤ a → a + n ≤ off + len → Rising (item w s) a n
+offsets-rising w s most off len (empty e g) a n h k i q = absurd (omega arith)
+offsets-rising w s most off len (full r) a n h k i q =
     let z : off + (a + i - off) ≡ a + i = omega arith in
     let y : off + (a + i - off) + 1 ≡ suc (a + i) = omega arith in
     let x = r .rises (a + i - off) (omega arith) in
     rw (y, z) at x
 
 -- .. and what they name is there
-text-within : (w : ℕ) (b : Text) (off len : ℕ) → StringRule w b off len → (a n : ℕ) → off ≤ a → a + suc n ≤ off + len → item w (b .offsets) (a + suc n) ≤ length (b .chars)
-text-within w b off len (empty e g) a n h k = absurd (omega arith)
-text-within w b off len (full r) a n h k =
-    let up = rising-below (item w (b .offsets)) (a + suc n) (off + len - (a + suc n)) (text-rising w b off len (full r) (a + suc n) (off + len - (a + suc n)) (omega arith) (omega arith)) 0 (off + len - (a + suc n)) (omega arith) (omega arith) in
-    let z : a + suc n + 0 ≡ a + suc n = omega arith in
-    let y : a + suc n + (off + len - (a + suc n)) ≡ off + len = omega arith in
-    let x : item w (b .offsets) (a + suc n) ≤ item w (b .offsets) (off + len) = rw (z, y) at up in
+offsets-within : (w : ℕ) (s : List ℕ) (most off len : ℕ) → OffsetsRule w s most off len → (a n : ℕ) → 0 < n → off ≤ a → a + n ≤ off + len → item w s (a + n) ≤ most
+offsets-within w s most off len (empty e g) a n p h k = absurd (omega arith)
+offsets-within w s most off len (full r) a n p h k =
+    let up = rising-below (item w s) (a + n) (off + len - (a + n)) (offsets-rising w s most off len (full r) (a + n) (off + len - (a + n)) (omega arith) (omega arith)) 0 (off + len - (a + n)) (omega arith) (omega arith) in
+    let z : a + n + 0 ≡ a + n = omega arith in
+    let y : a + n + (off + len - (a + n)) ≡ off + len = omega arith in
+    let x : item w s (a + n) ≤ item w s (off + len) = rw (z, y) at up in
     omega (arith, x, r .within)
 
 -- the bytes of n slots are as many as their offsets say
@@ -183,7 +200,7 @@ text-bytes : (w : ℕ) (b : Text) (off len : ℕ) → StringRule w b off len →
     → length (take (item w (b .offsets) (a + n) - item w (b .offsets) a) (drop (item w (b .offsets) a) (b .chars))) ≡ item w (b .offsets) (a + n) - item w (b .offsets) a
 text-bytes w b off len r a zero h k = let z : item w (b .offsets) (a + 0) - item w (b .offsets) a ≡ 0 = rw add-zero (omega arith) in rw z
 text-bytes w b off len r a (suc n) h k =
-    length-take-le _ _ (rw length-drop (omega (arith, text-within w b off len r a n h k)))
+    length-take-le _ _ (rw length-drop (omega (arith, offsets-within w (b .offsets) (length (b .chars)) off len r a (suc n) (omega arith) h k)))
 
 -- offsets that are done, of a source whose offsets never fall
 record Offset (w : ℕ) (s : List ℕ) (a n last : ℕ) (os : List ℕ) : Type 0 where
@@ -231,9 +248,9 @@ text-seam w m ss j r a n k l b b₁ d d₁ d₂ lo hi f f₁ p q =
     let x : ℕ → ℕ = item w (s .offsets) in
     let last = item w (d .offsets) l in
     let last₁ = item w (d₁ .offsets) (l + n) in
-    let all = text-rising w s (ss j .off) (ss j .len) r a (n + k) lo hi in
-    let ra = text-rising w s (ss j .off) (ss j .len) r a n lo (omega arith) in
-    let rb = text-rising w s (ss j .off) (ss j .len) r (a + n) k (omega arith) (omega arith) in
+    let all = offsets-rising w (s .offsets) (length (s .chars)) (ss j .off) (ss j .len) r a (n + k) lo hi in
+    let ra = offsets-rising w (s .offsets) (length (s .chars)) (ss j .off) (ss j .len) r a n lo (omega arith) in
+    let rb = offsets-rising w (s .offsets) (length (s .chars)) (ss j .off) (ss j .len) r (a + n) k (omega arith) (omega arith) in
     let p′ = then-done (newOffsets w (s .offsets) a n last) _ d₁ p in
     let q′ = then-done (newOffsets w (s .offsets) (a + n) k last₁) _ d₂ q in
     let e = done-is (p′ .rest-done) in
@@ -269,6 +286,96 @@ plain-seam : (p : Plain) (m : ℕ) (ss : ℕ → Column (tPlain p)) (j : ℕ) �
 plain-seam (fixed w) m ss j g a n k l b b₁ d d₁ d₂ lo hi f f₁ p q =
     exactly (two-pieces d _ _ _ d₁ d₂ p q (wide-stretch (width w) a n k (ss j .body)))
 plain-seam (string w) m ss j g a n k l b b₁ d d₁ d₂ lo hi f f₁ p q = text-seam w m ss j (g .slots) a n k l b b₁ d d₁ d₂ lo hi f f₁ p q
+
+-- ---- lists
+
+-- a copy of some rows that is done
+record Listing {P D : Type 0} (w : ℕ) (ext : ℕ → ℕ → Mutable D → Try (Mutable D)) (s : Listed P) (a n l : ℕ) (d e : Listings D) : Type 0 where
+  os : List ℕ
+  os-done : newOffsets w (s .offsets) a n (item w (d .buffer1) l) ≡ done os
+  kid-done : ext (item w (s .offsets) a) (item w (s .offsets) (a + n) - item w (s .offsets) a) (d .child) ≡ done (e .child)
+  os-are : d .buffer1 ++ os ≡ e .buffer1
+
+listing : {P D : Type 0} (w : ℕ) (ext : ℕ → ℕ → Mutable D → Try (Mutable D)) (s : Listed P) (a n l : ℕ) (d e : Listings D) → 0 < n → listsExtend w ext s a n l d ≡ done e → Listing w ext s a n l d e
+listing w ext s a zero l d e z h = absurd (omega arith)
+listing {P} {D} w ext s a (suc n) l d e z h =
+    let p = then-done (newOffsets w (s .offsets) a (suc n) (item w (d .buffer1) l)) _ e h in
+    let q = then-done (ext (item w (s .offsets) a) (item w (s .offsets) (a + suc n) - item w (s .offsets) a) (d .child)) _ e (p .rest-done) in
+    let g = done-is (q .rest-done) in
+    record { os = p .first; os-done = p .first-done; kid-done = q .first-done ∙ ap (λ (v : Listings D). done (v .child)) g; os-are = ap (λ (v : Listings D). v .buffer1) g }
+
+listing-is : {P D : Type 0} (w : ℕ) (ext : ℕ → ℕ → Mutable D → Try (Mutable D)) (s : Listed P) (a n l : ℕ) (d : Listings D) (os : List ℕ) (c : Mutable D) → 0 < n
+    → newOffsets w (s .offsets) a n (item w (d .buffer1) l) ≡ done os → ext (item w (s .offsets) a) (item w (s .offsets) (a + n) - item w (s .offsets) a) (d .child) ≡ done c
+    → listsExtend w ext s a n l d ≡ done (record { buffer1 = d .buffer1 ++ os; child = c })
+listing-is w ext s a zero l d os c z p q = absurd (omega arith)
+listing-is w ext s a (suc n) l d os c z p q =
+    then-is (newOffsets w (s .offsets) a (suc n) (item w (d .buffer1) l)) _ os p
+    ∙ then-is (ext (item w (s .offsets) a) (item w (s .offsets) (a + suc n) - item w (s .offsets) a) (d .child)) _ c q
+
+-- n rows more
+extended : (t : Ty) (m : ℕ) (ss : ℕ → Column t) (j a n : ℕ) (d e : Destination t) → extend t m ss j a n d ≡ done e → e .len ≡ d .len + n
+extended t m ss j a n d e h =
+    let p = then-done (extendData t m (λ i. ss i .body) j (ss j .off + a) n (d .len) (d .«data»)) _ e h in
+    sym (ap (λ (v : Destination t). v .len) (done-is (p .rest-done)))
+
+module _ (w : ℕ) (t : Ty) (m : ℕ) (ss : ℕ → Column (tList w t)) (j : ℕ) (r : OffsetsRule w (ss j .body .offsets) (ss j .body .child .len) (ss j .off) (ss j .len))
+    (kid : Seam t m (λ i. ss i .body .child) j) where
+  abbrev ext : ℕ → ℕ → Destination t → Try (Destination t)
+  ext = extend t m (λ i. ss i .body .child) j
+
+  -- two halves with rows
+  some-seam : (a n k l : ℕ) (b b₁ : ℕ → Bool) (d d₁ d₂ : Grown (tList w t)) → 0 < n → 0 < k → ss j .off ≤ a → a + (n + k) ≤ ss j .off + ss j .len
+      → fineOf (tList w t) m (λ i. ss i .body) b d l → fineOf (tList w t) m (λ i. ss i .body) b₁ d₁ (l + n)
+      → listsExtend w ext (ss j .body) a n l d ≡ done d₁ → listsExtend w ext (ss j .body) (a + n) k (l + n) d₁ ≡ done d₂
+      → Led (λ v. SameGrown (tList w t) v d₂) (listsExtend w ext (ss j .body) a (n + k) l d)
+  some-seam a n k l b b₁ d d₁ d₂ sn sk lo hi f f₁ p q =
+      let s = ss j .body in
+      let x : ℕ → ℕ = item w (s .offsets) in
+      let last = item w (d .buffer1) l in
+      let last₁ = item w (d₁ .buffer1) (l + n) in
+      let all = offsets-rising w (s .offsets) (s .child .len) (ss j .off) (ss j .len) r a (n + k) lo hi in
+      let ra = offsets-rising w (s .offsets) (s .child .len) (ss j .off) (ss j .len) r a n lo (omega arith) in
+      let rb = offsets-rising w (s .offsets) (s .child .len) (ss j .off) (ss j .len) r (a + n) k (omega arith) (omega arith) in
+      let p′ = listing w ext s a n l d d₁ sn p in
+      let q′ = listing w ext s (a + n) k (l + n) d₁ d₂ sk q in
+      let long : d₁ .child .len ≡ d .child .len + (x (a + n) - x a) = extended t m (λ i. ss i .body .child) j (x a) (x (a + n) - x a) (d .child) (d₁ .child) (p′ .kid-done) in
+      let low : last < half w = omega (arith, f .offsets-fine .last-is, f .offsets-fine .fits) in
+      let low₁ : last₁ < half w = omega (arith, f₁ .offsets-fine .last-is, f₁ .offsets-fine .fits) in
+      let next : last₁ ≡ last + (x (a + n) - x a) = omega (arith, f .offsets-fine .last-is, f₁ .offsets-fine .last-is, long) in
+      let o = offset-done w (s .offsets) a n last (p′ .os) ra low (p′ .os-done) in
+      let o₁ = offset-done w (s .offsets) (a + n) k last₁ (q′ .os) rb low₁ (q′ .os-done) in
+      let both = offset-both w (s .offsets) a n k last last₁ (p′ .os) (q′ .os) all next o o₁ in
+      let from : x a ≤ x (a + n) = rw (add-zero a) at (rising-below x a (n + k) all 0 n (omega arith) (omega arith)) in
+      let up : x (a + n) ≤ x (a + (n + k)) = rising-below x a (n + k) all n (n + k) (omega arith) (omega arith) in
+      let z : x (a + n + k) ≡ x (a + (n + k)) = ap x (add-assoc a n k) in
+      let part : x (a + (n + k)) - x a ≡ (x (a + n) - x a) + (x (a + n + k) - x (a + n)) = omega (arith, from, up, z) in
+      let seam : x a + (x (a + n) - x a) ≡ x (a + n) = omega (arith, from) in
+      let most : x (a + (n + k)) ≤ s .child .len = offsets-within w (s .offsets) (s .child .len) (ss j .off) (ss j .len) r a (n + k) (omega arith) lo hi in
+      let c =
+      node-seam t m (λ i. ss i .body .child) j kid (x a) (x (a + n) - x a) (x (a + n + k) - x (a + n)) (omega (arith, from, up, z, most)) (d .child) (d₁ .child) (d₂ .child) (f .child-fine) (f₁ .child-fine)
+      (p′ .kid-done) (ap (λ i. ext i (x (a + n + k) - x (a + n)) (d₁ .child)) seam ∙ q′ .kid-done) in
+      record {
+        value = _;
+        is =
+            listing-is w ext s a (n + k) l d (p′ .os ++ q′ .os) (c .value) (omega arith) (offset-is w (s .offsets) a (n + k) last _ all low both)
+            (ap (λ i. ext (x a) i (d .child)) part ∙ c .is);
+        holds = (sym (append-assoc (d .buffer1) (p′ .os) (q′ .os)) ∙ ap (_++ q′ .os) (p′ .os-are) ∙ q′ .os-are, c .holds);
+      }
+
+  lists-seam : Seam (tList w t) m ss j
+  lists-seam a zero k l b b₁ d d₁ d₂ lo hi f f₁ p q =
+      record {
+        value = d₂;
+        is =
+            ap (λ i. listsExtend w ext (ss j .body) a i l d) (zero-add k)
+            ∙ ap (listsExtend w ext (ss j .body) a k l) (done-is p)
+            ∙ sym (ap₂ (λ x y. listsExtend w ext (ss j .body) x k y d₁) (add-zero a) (add-zero l))
+            ∙ q;
+        holds = grown-self (tList w t) d₂;
+      }
+  lists-seam a (suc n) zero l b b₁ d d₁ d₂ lo hi f f₁ p q =
+      record { value = d₂; is = ap (λ i. listsExtend w ext (ss j .body) a i l d) (add-zero (suc n)) ∙ p ∙ q; holds = grown-self (tList w t) d₂ }
+  lists-seam a (suc n) (suc k) l b b₁ d d₁ d₂ lo hi f f₁ p q = some-seam a (suc n) (suc k) l b b₁ d d₁ d₂ (omega arith) (omega arith) lo hi f f₁ p q
 
 -- ---- sparse unions
 
@@ -325,6 +432,7 @@ pub seams : (t : Ty) → Seamless t → (m : ℕ) (ss : ℕ → Column t) (j : �
 seams (tPlain p) z m ss j g = plain-seam p m ss j g
 seams tView z m ss j g = λ a n k l b b₁ d d₁ d₂ lo hi f f₁ p q. exactly (two-pieces d _ _ _ d₁ d₂ p q (views-cut _ (ss j .body .views) a n k))
 seams (tListView w t) z m ss j g = λ a n k l b b₁ d d₁ d₂ lo hi f f₁ p q. steps-seam (listRow w (extend t m (λ i. ss i .body .child) j) (ss j .body)) a n k d d₁ d₂ p q
+seams (tList w t) z m ss j g = lists-seam w t m ss j (g .slots .offsets-rule) (seams t z m (λ i. ss i .body .child) j (g .slots .child-rule))
 seams (tSparse ids nullable f) z m ss j g =
     sparse-seam ids nullable f m ss j g (λ c v. seams (f c) (z c v) m (λ i. ss i .body .children c) j (g .slots .child-rule c v))
 seams (tDense ids nullable f) z m ss j g = λ a n k l b b₁ d d₁ d₂ lo hi h h₁ p q.

@@ -3,14 +3,14 @@ use mathlib.Core.Path.{_≡_, refl, sym, ap, ap₂, _∙_, subst}
 use mathlib.Core.Bool.{Bool, true, false}
 use mathlib.Core.List.{List, List·Memᴰ}
 use Prim.Native.Nat.{ℕ, zero, suc, _+_, _-_, _≤_, _<_}
-use native.Mathlib.Nat.{add-zero}
+use native.Mathlib.Nat.{add-zero, add-assoc}
 use native.Mathlib.Decide.{decLt}
 use native.Mathlib.Omega.{arith}
 use lib.Dec.{ltb}
 use borrow.Author.Tests.{lt-ltb}
-use Rattle.columnar.specs.Types.{Plain, fixed, string, half, Ty, tPlain, tView, tListView, tSparse, tDense, tRunEnd, tDictionary}
+use Rattle.columnar.specs.Types.{Plain, fixed, string, half, Ty, tPlain, tView, tListView, tList, tSparse, tDense, tRunEnd, tDictionary}
 use Rattle.columnar.specs.Array.{Array, item, Obeys}
-use Rattle.columnar.specs.Plain.{Text, PlainBody, StringRule, empty, full, PlainRule}
+use Rattle.columnar.specs.Plain.{Text, PlainBody, OffsetsRule, StringRule, empty, full, PlainRule}
 use Rattle.columnar.specs.ListView.{ListView}
 use Rattle.columnar.specs.Union.{Sparse, Dense}
 use Rattle.columnar.specs.RunEnd.{RunEnd, endOf, firstAbove, startOf, RunEndRule}
@@ -21,7 +21,7 @@ use Rattle.model.specs.Cut.{Under, outside, inRuns, exempt, underRuns, u
 use Rattle.model.proofs.Ids.{among-in}
 use Rattle.model.proofs.Ends.{Holds, found, start-le, find-le}
 use Rattle.model.proofs.CutTries.{done-is, Then, then-done, then-is, guard-is, steps-cut, each-is}
-use Rattle.model.proofs.CutKinds.{TextAsked, text-asked, SparseAsked, sparse-asked, RunsAsked, runs-asked, runs-ask, rows-after}
+use Rattle.model.proofs.CutKinds.{TextAsked, text-asked, SparseAsked, sparse-asked, ListsAsked, lists-asked, lists-ask, RunsAsked, runs-asked, runs-ask, rows-after}
 use Rattle.model.proofs.CutLess.{after-is, among-cut, Led, copy-again, Few, few-none, copy-more}
 
 -- the rows a .. a + n - 1 and then k .. k + m - 1, which begin o rows before the first ones end, against all s of them at once: o is 0
@@ -37,6 +37,12 @@ pub record Ranges (u : Under) (len o a n k m s : ℕ) : Type 0 where
 abbrev pub Cuts : (t : Ty) → Under → Column t → Type 0
 Cuts t u x =
     (o a n k m s : ℕ) → Ranges u (x .len) o a n k m s → 0 < n → 0 < m → (c d e : Counts) → askOf (askCopy t) x a n c ≡ done d → askOf (askCopy t) x k m d ≡ done e
+    → Led (λ v. Cut t u v e) (askOf (askCopy t) x a s c)
+
+-- .. with empty ones
+abbrev pub AnyCuts : (t : Ty) → Under → Column t → Type 0
+AnyCuts t u x =
+    (o a n k m s : ℕ) → Ranges u (x .len) o a n k m s → (c d e : Counts) → askOf (askCopy t) x a n c ≡ done d → askOf (askCopy t) x k m d ≡ done e
     → Led (λ v. Cut t u v e) (askOf (askCopy t) x a s c)
 
 -- ---- sums
@@ -81,14 +87,14 @@ rows-cut t u k n m s h c d e p q =
 -- ---- byte strings
 
 -- an offset is not above a later one
-later-offset : (w : ℕ) (b : Text) (off len : ℕ) → StringRule w b off len → (o k : ℕ) → k + o ≤ len → item w (b .offsets) (off + k) ≤ item w (b .offsets) (off + k + o)
-later-offset w b off len r zero k q = rw (add-zero (off + k)) (omega arith)
-later-offset w b off len (empty e f) (suc o) k q = absurd (omega arith)
-later-offset w b off len (full r) (suc o) k q =
+later-offset : (w : ℕ) (b : List ℕ) (most off len : ℕ) → OffsetsRule w b most off len → (o k : ℕ) → k + o ≤ len → item w b (off + k) ≤ item w b (off + k + o)
+later-offset w b most off len r zero k q = rw (add-zero (off + k)) (omega arith)
+later-offset w b most off len (empty e f) (suc o) k q = absurd (omega arith)
+later-offset w b most off len (full r) (suc o) k q =
     let y : off + k + suc o ≡ off + (k + o) + 1 = omega arith in
     let z : off + k + o ≡ off + (k + o) = omega arith in
-    let i : item w (b .offsets) (off + k + o) ≡ item w (b .offsets) (off + (k + o)) = ap (item w (b .offsets)) z in
-    rw y (omega (arith, later-offset w b off len (full r) o k (omega arith), r .rises (k + o) (omega arith), i))
+    let i : item w b (off + k + o) ≡ item w b (off + (k + o)) = ap (item w b) z in
+    rw y (omega (arith, later-offset w b most off len (full r) o k (omega arith), r .rises (k + o) (omega arith), i))
 
 -- the bytes of the two stretches are no fewer than those of the one: X and Y where the first begins and ends, Z and W where the second does
 bytes-cut : (c d x X Y Y′ Z W W′ : ℕ) → d ≡ c + (Y - X) → Y ≡ Y′ → Z ≤ Y′ → W ≡ W′ → x ≡ c + (W′ - X) → x ≤ d + (W - Z)
@@ -104,7 +110,7 @@ text-cut u w x r o a n k m s h _ _ c d e p q =
     let v = spread (x .off) (x .len) _ o a n k m s (h .meet) (h .all) (h .within) (le-same (x .off + x .len)) in
     let y =
     bytes-cut (bytesOf c) (bytesOf d) (bytesOf c + (i (A + s) - i A)) (i A) (i (A + n)) (i (K + o)) (i K) (i (K + m)) (i (A + s)) (ap bytesOf (f .is)) (ap i (sym (v .0)))
-    (later-offset w (x .body) (x .off) (x .len) r o k (in-reach o a n k m s _ (h .meet) (h .all) (h .back) (h .within))) (ap i (v .1)) refl in
+    (later-offset w (x .body .offsets) _ (x .off) (x .len) r o k (in-reach o a n k m s _ (h .meet) (h .all) (h .back) (h .within))) (ap i (v .1)) refl in
     record {
       value = counts (rowsOf c + s) (bytesOf c + (i (A + s) - i A)) leaf;
       is = guard-is _ 6 _ (le-lt (bytesOf c + (i (A + s) - i A)) _ (half w) y (g .fits));
@@ -139,6 +145,79 @@ steps-cuts t u x f same o a n k m s h _ _ c d e p q =
           ∙ sym (same (K + o) r d)
           ∙ l .is;
       holds = l .holds;
+    }
+
+-- ---- lists: the child's stretches may be empty
+
+-- a later place
+offset-up : (w : ℕ) (b : List ℕ) (most off len : ℕ) → OffsetsRule w b most off len → (k j : ℕ) → k ≤ j → j ≤ len → item w b (off + k) ≤ item w b (off + j)
+offset-up w b most off len r k j p q =
+    let z : off + k + (j - k) ≡ off + j = omega arith in
+    let y = later-offset w b most off len r (j - k) k (omega arith) in
+    rw z at y
+
+-- .. and the last
+offset-in : (w : ℕ) (b : List ℕ) (most off len : ℕ) → OffsetsRule w b most off len → 0 < len → (k : ℕ) → k ≤ len → item w b (off + k) ≤ most
+offset-in w b most off len (empty e f) s k q = absurd (omega arith)
+offset-in w b most off len (full r) s k q = omega (arith, offset-up w b most off len (full r) k len q (omega arith), r .within)
+
+-- O of the child's rows are handed down twice: none where no row is
+few-stretch : (u : Under) (o O : ℕ) → Few u o → (o ≡ 0 → O ≡ 0) → Few (underList u) O
+few-stretch outside o O h k = k h
+few-stretch inRuns o O h k = tt
+few-stretch exempt o O h k = tt
+
+-- F and L where the first stretch begins and ends, G and H where the second does
+stretched : (u : Under) (len o F L G H J S : ℕ) → Few u o → J ≡ L → H ≡ S → F ≤ G → G ≤ J → J ≤ H → S ≤ len → (o ≡ 0 → J ≡ G) → Ranges (underList u) len (J - G) F (L - F) G (H - G) (S - F)
+stretched u len o F L G H J S few e f a b c d z =
+    record {
+      few = few-stretch u o (J - G) few (λ y. let x = z y in omega arith);
+      front = omega arith;
+      back = omega arith;
+      meet = omega arith;
+      all = omega arith;
+      within = omega arith;
+    }
+
+-- the rows of the ranges
+reaches : (o a n k m s len : ℕ) → o ≤ n → o ≤ m → k + o ≡ a + n → s + o ≡ n + m → a + s ≤ len → (a ≤ k) × (k ≤ k + o) × (k + o ≤ k + m) × (k ≤ len) × (k + o ≤ len) × (k + m ≤ len)
+reaches o a n k m s len p q e f h = (omega arith, omega arith, omega arith, omega arith, omega arith, omega arith)
+
+some-len : (a s len : ℕ) → 0 < s → a + s ≤ len → 0 < len
+some-len a s len p q = omega arith
+
+lists-cut : (u : Under) (w : ℕ) (t : Ty) (x : Column (tList w t)) → Source (tList w t) x → AnyCuts t (underList u) (x .body .child) → Cuts (tList w t) u x
+lists-cut u w t x g kid o a n k m s h sn sm c d e p q =
+    let b = x .body in
+    let i : ℕ → ℕ = item w (b .offsets) in
+    let A = x .off + a in
+    let K = x .off + k in
+    let r = g .slots .offsets-rule in
+    let y = lists-asked w (askCopy t) b A c n sn d p in
+    let z = lists-asked w (askCopy t) b K d m sm e q in
+    let f = spread (x .off) (x .len) _ o a n k m s (h .meet) (h .all) (h .within) (le-same (x .off + x .len)) in
+    let v = reaches o a n k m s (x .len) (h .front) (h .back) (h .meet) (h .all) (h .within) in
+    let some = some-sum o n m s (h .all) (h .back) sn in
+    let near : i (K + o) ≡ i (x .off + (k + o)) = ap i (add-assoc (x .off) k o) in
+    let far : i (K + m) ≡ i (x .off + (k + m)) = ap i (add-assoc (x .off) k m) in
+    let end : i (A + s) ≡ i (x .off + (a + s)) = ap i (add-assoc (x .off) a s) in
+    let up : (j l : ℕ) → j ≤ l → l ≤ x .len → i (x .off + j) ≤ i (x .off + l) = offset-up w (b .offsets) (b .child .len) (x .off) (x .len) r in
+    let ranges =
+    stretched u (b .child .len) o (i A) (i (A + n)) (i K) (i (K + m)) (i (K + o)) (i (A + s)) (h .few) (ap i (f .0)) (ap i (f .1)) (up a k (v .0) (v .3))
+    (rw near (up k (k + o) (v .1) (v .4))) (rw (near, far) (up (k + o) (k + m) (v .2) (v .5)))
+    (rw end (offset-in w (b .offsets) (b .child .len) (x .off) (x .len) r (some-len a s (x .len) some (h .within)) (a + s) (h .within)))
+    (λ z. ap (λ j. i (K + j)) z ∙ ap i (add-zero K)) in
+    let l =
+    kid (i (K + o) - i K) (i A) (i (A + n) - i A) (i K) (i (K + m) - i K) (i (A + s) - i A) ranges (kidOf c 0) (y .kid) (z .kid) (y .kid-done)
+    (ap (askOf (askCopy t) (b .child) (i K) (i (K + m) - i K)) (sym (ap (λ j. kidOf j 0) (y .is))) ∙ z .kid-done) in
+    let rd : rowsOf d ≡ rowsOf c + n = ap rowsOf (y .is) in
+    let rk : rowsOf (kidOf d 0) ≡ rowsOf (kidOf c 0) + (i (A + n) - i A) = ap (λ j. rowsOf (kidOf j 0)) (y .is) ∙ rows-after t (b .child .body) _ _ (kidOf c 0) (y .kid) (y .kid-done) in
+    record {
+      value = counts (rowsOf c + s) 0 (λ j. l .value);
+      is =
+          lists-ask w (askCopy t) b A c s some (l .value)
+          (sum-fits (rowsOf (kidOf c 0)) (rowsOf (kidOf d 0)) (i (K + o) - i K) (i (A + n) - i A) (i (K + m) - i K) (i (A + s) - i A) (half w) rk (ranges .all) (z .fits)) (l .is);
+      holds = subst (Cut (tList w t) u _) (sym (z .is)) (record { rows-less = sum-less (rowsOf c) (rowsOf d) o n m s rd (h .all); below-less = l .holds });
     }
 
 -- ---- sparse unions
@@ -296,30 +375,35 @@ runs-cut u w t x g kid o a n k m s h sn sm c d e p q =
           });
     }
 
+-- ---- empty halves
+
+any-of : (u : Under) (t : Ty) (x : Column t) → Cuts t u x → AnyCuts t u x
+any-of u t x cuts o a zero k m s h c d e p q =
+    let less = copy-more u t (x .body) (x .off + a) 0 (few-none u) c d p in
+    let l = copy-again u t (x .body) (x .off + k) m c d e less q in
+    let y : a ≡ k = omega (arith, h .front, h .meet) in
+    let z : s ≡ m = omega (arith, h .front, h .all) in
+    record { value = l .value; is = ap₂ (λ i j. askOf (askCopy t) x i j c) y z ∙ l .is; holds = l .holds }
+any-of u t x cuts o a (suc n) k zero s h c d e p q =
+    let z : s ≡ suc n = omega (arith, h .back, h .all) in
+    record { value = d; is = ap (λ j. askOf (askCopy t) x a j c) z ∙ p; holds = copy-more u t (x .body) (x .off + k) 0 (few-none u) d e q }
+any-of u t x cuts o a (suc n) k (suc m) s h c d e p q = cuts o a (suc n) k (suc m) s h (omega arith) (omega arith) c d e p q
+
 -- ---- every type
 
 cuts : (u : Under) (t : Ty) (x : Column t) → Source t x → Cuts t u x
 cuts u (tPlain p) x g = plain-cut u p x g
 cuts u tView x g = λ o a n k m s h sn sm c d e p q. rows-cut tView u (λ x y. tt) n m s (omega (arith, h .all)) c d e p q
 cuts u (tListView w t) x g = steps-cuts (tListView w t) u x (listViewRow w (askCopy t) (x .body)) (λ a n c. refl)
+cuts u (tList w t) x g = lists-cut u w t x g (any-of (underList u) t (x .body .child) (cuts (underList u) t (x .body .child) (g .slots .child-rule)))
 cuts u (tSparse ids nullable f) x g = sparse-cut u ids nullable f x g (λ e v. cuts u (f e) (x .body .children e) (g .slots .child-rule e v))
 cuts u (tDense ids nullable f) x g = steps-cuts (tDense ids nullable f) u x (denseRow (λ e. askCopy (f e)) (x .body)) (λ a n c. refl)
 cuts u (tRunEnd w t) x g = runs-cut u w t x g (cuts (underRuns u) t (x .body .values) (g .slots .child-rule))
 cuts u (tDictionary k p) x g = λ o a n k′ m s h sn sm c d e p′ q. rows-cut (tDictionary k p) u (λ x y. tt) n m s (omega (arith, h .all)) c d e p′ q
 
 -- A COPY CUT IN TWO, an empty half included, wherever the node stands
-pub any-cut : (u : Under) (t : Ty) (x : Column t) → Source t x → (o a n k m s : ℕ) → Ranges u (x .len) o a n k m s → (c d e : Counts)
-    → askOf (askCopy t) x a n c ≡ done d → askOf (askCopy t) x k m d ≡ done e → Led (λ v. Cut t u v e) (askOf (askCopy t) x a s c)
-any-cut u t x g o a zero k m s h c d e p q =
-    let less = copy-more u t (x .body) (x .off + a) 0 (few-none u) c d p in
-    let l = copy-again u t (x .body) (x .off + k) m c d e less q in
-    let y : a ≡ k = omega (arith, h .front, h .meet) in
-    let z : s ≡ m = omega (arith, h .front, h .all) in
-    record { value = l .value; is = ap₂ (λ i j. askOf (askCopy t) x i j c) y z ∙ l .is; holds = l .holds }
-any-cut u t x g o a (suc n) k zero s h c d e p q =
-    let z : s ≡ suc n = omega (arith, h .back, h .all) in
-    record { value = d; is = ap (λ j. askOf (askCopy t) x a j c) z ∙ p; holds = copy-more u t (x .body) (x .off + k) 0 (few-none u) d e q }
-any-cut u t x g o a (suc n) k (suc m) s h c d e p q = cuts u t x g o a (suc n) k (suc m) s h (omega arith) (omega arith) c d e p q
+pub any-cut : (u : Under) (t : Ty) (x : Column t) → Source t x → AnyCuts t u x
+any-cut u t x g = any-of u t x (cuts u t x g)
 
 -- .. at the root
 pub copy-cut : (t : Ty) (x : Column t) → Source t x → (a n m : ℕ) → a + (n + m) ≤ x .len → (c d e : Counts)

@@ -6,7 +6,7 @@ use Prim.Native.Nat.{ℕ, _+_, _-_, _≤_, _<_}
 use native.Mathlib.Omega.{arith}
 use lib.Dec.{ltb, leb}
 use borrow.Author.Tests.{ltb-true, leb-true, lt-ltb, le-leb}
-use Rattle.columnar.specs.Types.{Plain, Ty, tPlain, tView, tListView, tSparse, tDense, tRunEnd, tDictionary}
+use Rattle.columnar.specs.Types.{Plain, Ty, tPlain, tView, tListView, tList, tSparse, tDense, tRunEnd, tDictionary}
 use Rattle.columnar.specs.Array.{Array}
 use Rattle.columnar.specs.Reading.{Body, Column, Source, masks}
 use Rattle.model.specs.Try.{Try, done, stop, guard}
@@ -32,6 +32,7 @@ no-runs : (t : Ty) → NoRuns t → Seamless t
 no-runs (tPlain p) h = tt
 no-runs tView h = tt
 no-runs (tListView w t) h = tt
+no-runs (tList w t) h = no-runs t h
 no-runs (tSparse ids nullable f) h = λ e m. no-runs (f e) (h e m)
 no-runs (tDense ids nullable f) h = tt
 no-runs (tRunEnd w t) h = h
@@ -44,6 +45,7 @@ body-same : (t : Ty) (x : Body t) → SameBody t x x
 body-same (tPlain p) x = refl
 body-same tView x = refl
 body-same (tListView w t) x = (refl, refl, array-same (SameBody t) (x .child) (body-same t (x .child .body)))
+body-same (tList w t) x = (refl, array-same (SameBody t) (x .child) (body-same t (x .child .body)))
 body-same (tSparse ids nullable f) x = (refl, λ e m. array-same (SameBody (f e)) (x .children e) (body-same (f e) (x .children e .body)))
 body-same (tDense ids nullable f) x = (refl, refl, λ e m. array-same (SameBody (f e)) (x .children e) (body-same (f e) (x .children e .body)))
 body-same (tRunEnd w t) x = (refl, array-same (SameBody t) (x .values) (body-same t (x .values .body)))
@@ -56,6 +58,15 @@ grown-same : (t : Ty) (m : ℕ) (ss : ℕ → Body t) (x y : Grown t) → SameGr
 grown-same (tPlain p) m ss x y h = h
 grown-same tView m ss x y h = body-equal tView _ _ (ap (freezeData tView m ss) h)
 grown-same (tListView w t) m ss x y h = body-equal (tListView w t) _ _ (ap (freezeData (tListView w t) m ss) h)
+grown-same (tList w t) m ss x y h = (
+  h .0,
+  record {
+    len-same = h .1 .len-same;
+    off-same = refl;
+    valid-same = ap (validity (masks t)) (h .1 .bits-same);
+    body-same = grown-same t m (λ i. ss i .child .body) (x .child .«data») (y .child .«data») (h .1 .data-same);
+  },
+)
 grown-same (tSparse ids nullable f) m ss x y h = (
   h .0,
   λ e v.
@@ -124,6 +135,8 @@ runs-less : (t : Ty) (u : Under) (m : ℕ) (ss : ℕ → Body t) (x y : Grown t)
 runs-less (tPlain p) u m ss x y i j b c f g h = tt
 runs-less tView u m ss x y i j b c f g h = tt
 runs-less (tListView w t) u m ss x y i j b c f g h =
+    runs-less t (underList u) m (λ i. ss i .child .body) (x .child .«data») (y .child .«data») _ _ _ _ (f .child-fine .data-fine) (g .child-fine .data-fine) (h .below-less)
+runs-less (tList w t) u m ss x y i j b c f g h =
     runs-less t (underList u) m (λ i. ss i .child .body) (x .child .«data») (y .child .«data») _ _ _ _ (f .child-fine .data-fine) (g .child-fine .data-fine) (h .below-less)
 runs-less (tSparse ids nullable k) u m ss x y i j b c f g h = λ e v.
     let z : Cut (k e) u (heldNode (heldData (k e)) (x .children e)) (heldNode (heldData (k e)) (y .children e)) =

@@ -8,15 +8,16 @@ use native.Mathlib.Omega.{arith}
 use lib.ListN.{getD}
 use lib.Dec.{ltb}
 use borrow.Author.Tests.{ltb-true, lt-ltb}
-use Rattle.columnar.specs.Types.{Plain, fixed, string, half, Ty, tPlain, tView, tListView, tSparse, tDense, tRunEnd, tDictionary}
+use Rattle.columnar.specs.Types.{Plain, fixed, string, half, Ty, tPlain, tView, tListView, tList, tSparse, tDense, tRunEnd, tDictionary}
 use Rattle.columnar.specs.Array.{Array, item}
 use Rattle.columnar.specs.Plain.{PlainBody}
 use Rattle.columnar.specs.ListView.{ListView}
+use Rattle.columnar.specs.List.{Listed}
 use Rattle.columnar.specs.Union.{Sparse, Dense}
 use Rattle.columnar.specs.RunEnd.{RunEnd}
 use Rattle.columnar.specs.Reading.{Body}
 use Rattle.model.specs.Try.{Try, done, stop, then, guard, after, stepsT}
-use Rattle.model.specs.Grounds.{Counts, counts, absent, rowsOf, bytesOf, kidOf, leaf, Ask, askOf, plainAsk, listViewRow, listViewAsk, among, sparseAll, sparseAsk, withKid, denseRow, denseAsk, firstRun, runCount, runEndAsk, askCopy}
+use Rattle.model.specs.Grounds.{Counts, counts, absent, rowsOf, bytesOf, kidOf, leaf, Ask, askOf, plainAsk, listViewRow, listViewAsk, listAsk, among, sparseAll, sparseAsk, withKid, denseRow, denseAsk, firstRun, runCount, runEndAsk, askCopy}
 use Rattle.model.proofs.Follow.{guard-done}
 use Rattle.model.proofs.CutTries.{done-is, Then, then-done, then-is, guard-is, IsDone, Each, each-done, each-is}
 
@@ -52,6 +53,31 @@ module _ {P : Type 0} (w : ℕ) (ask : P → Ask) (b : ListView P) (i : ℕ) (c 
   pub list-ask : (k : Counts) → rowsOf (kidOf c 0) + size < half w → askOf ask (b .child) (item w (b .offsets) i) size (kidOf c 0) ≡ done k
       → listViewRow w ask b i c ≡ done (counts (suc (rowsOf c)) 0 (λ e. k))
   list-ask k f e = guard-is _ 6 _ (lt-ltb _ _ f) ∙ then-is _ _ k e
+
+-- ---- lists, n not 0
+
+module _ {P : Type 0} (w : ℕ) (ask : P → Ask) (b : Listed P) (a : ℕ) (c : Counts) where
+  -- how many of the child's rows
+  abbrev pub stretchOf : ℕ → ℕ
+  stretchOf n = item w (b .offsets) (a + n) - item w (b .offsets) a
+
+  pub record ListsAsked (n : ℕ) (d : Counts) : Type 0 where
+    pub fits : rowsOf (kidOf c 0) + stretchOf n < half w
+    pub kid : Counts
+    pub kid-done : askOf ask (b .child) (item w (b .offsets) a) (stretchOf n) (kidOf c 0) ≡ done kid
+    pub is : d ≡ counts (rowsOf c + n) 0 (λ e. kid)
+
+  pub lists-asked : (n : ℕ) → 0 < n → (d : Counts) → listAsk w ask b a n c ≡ done d → ListsAsked n d
+  lists-asked zero z d h = absurd (omega arith)
+  lists-asked (suc n) z d h =
+      let p = guard-done (ltb (rowsOf (kidOf c 0) + stretchOf (suc n)) (half w)) 6 _ d h in
+      let q = then-done (askOf ask (b .child) (item w (b .offsets) a) (stretchOf (suc n)) (kidOf c 0)) _ d (p .1) in
+      record { fits = ltb-true _ _ (p .0); kid = q .first; kid-done = q .first-done; is = sym (done-is (q .rest-done)) }
+
+  pub lists-ask : (n : ℕ) → 0 < n → (k : Counts) → rowsOf (kidOf c 0) + stretchOf n < half w → askOf ask (b .child) (item w (b .offsets) a) (stretchOf n) (kidOf c 0) ≡ done k
+      → listAsk w ask b a n c ≡ done (counts (rowsOf c + n) 0 (λ e. k))
+  lists-ask zero z k f e = absurd (omega arith)
+  lists-ask (suc n) z k f e = guard-is _ 6 _ (lt-ltb _ _ f) ∙ then-is _ _ k e
 
 -- ---- sparse unions
 
@@ -128,6 +154,8 @@ rows-after (tPlain p) b a n c d h = plain-rows-after p b a n c d h
 rows-after tView b a n c d h = ap rowsOf (sym (done-is h))
 rows-after (tListView w t) b a n c d h =
     steps-rows (listViewRow w (askCopy t) b) (λ i c d h. ap rowsOf (list-asked w (askCopy t) b i c d h .is)) a n c d h
+rows-after (tList w t) b a zero c d h = ap rowsOf (sym (done-is h)) ∙ sym (add-zero (rowsOf c))
+rows-after (tList w t) b a (suc n) c d h = ap rowsOf (lists-asked w (askCopy t) b a c (suc n) (omega arith) d h .is)
 rows-after (tSparse ids nullable f) b a n c d h = ap rowsOf (sparse-asked ids _ (rowsOf c + n) d h .is)
 rows-after (tDense ids nullable f) b a n c d h =
     steps-rows (denseRow (λ e. askCopy (f e)) b) (λ i c d h. ap rowsOf (dense-asked (λ e. askCopy (f e)) b i c d h .is)) a n c d h

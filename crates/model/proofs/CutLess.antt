@@ -8,19 +8,20 @@ use native.Mathlib.Omega.{arith}
 use lib.ListN.{getD}
 use lib.Dec.{eqb, ltb}
 use borrow.Author.Tests.{eqb-true, lt-ltb}
-use Rattle.columnar.specs.Types.{Plain, fixed, string, half, Ty, tPlain, tView, tListView, tSparse, tDense, tRunEnd, tDictionary}
+use Rattle.columnar.specs.Types.{Plain, fixed, string, half, Ty, tPlain, tView, tListView, tList, tSparse, tDense, tRunEnd, tDictionary}
 use Rattle.columnar.specs.Array.{Array, item}
 use Rattle.columnar.specs.Plain.{PlainBody}
 use Rattle.columnar.specs.ListView.{ListView}
+use Rattle.columnar.specs.List.{Listed}
 use Rattle.columnar.specs.Union.{Sparse, Dense}
 use Rattle.columnar.specs.RunEnd.{RunEnd}
 use Rattle.columnar.specs.Reading.{Body}
 use Rattle.model.specs.Try.{Try, done, stop, then, guard, after, stepsT}
-use Rattle.model.specs.Grounds.{Counts, counts, absent, rowsOf, bytesOf, kidOf, leaf, Ask, askOf, plainAsk, listViewRow, among, sparseAll, withKid, denseRow, firstRun, runCount, runEndAsk, askCopy}
+use Rattle.model.specs.Grounds.{Counts, counts, absent, rowsOf, bytesOf, kidOf, leaf, Ask, askOf, plainAsk, listViewRow, listAsk, among, sparseAll, withKid, denseRow, firstRun, runCount, runEndAsk, askCopy}
 use Rattle.model.specs.Cut.{Under, outside, inRuns, exempt, underRuns, underList, OneRunMore, CutNode, CutPlain, CutBelow, Cut}
 use Rattle.model.proofs.Ids.{among-in}
 use Rattle.model.proofs.CutTries.{done-is, Then, then-done, then-is, guard-is, IsDone, each-is}
-use Rattle.model.proofs.CutKinds.{TextAsked, text-asked, ListAsked, list-asked, list-ask, SparseAsked, sparse-asked, DenseAsked, dense-asked, dense-ask, RunsAsked, runs-asked, runs-ask, rows-after}
+use Rattle.model.proofs.CutKinds.{TextAsked, text-asked, ListAsked, list-asked, list-ask, ListsAsked, lists-asked, lists-ask, SparseAsked, sparse-asked, DenseAsked, dense-asked, dense-ask, RunsAsked, runs-asked, runs-ask, rows-after}
 
 -- ---- as much
 
@@ -40,6 +41,7 @@ same-below : (t : Ty) (u : Under) (x : Counts) → CutBelow t u x x
 same-below (tPlain p) u x = plain-same p x
 same-below tView u x = tt
 same-below (tListView w t) u x = node-same (CutBelow t (underList u)) (kidOf x 0) (same-below t (underList u) (kidOf x 0))
+same-below (tList w t) u x = node-same (CutBelow t (underList u)) (kidOf x 0) (same-below t (underList u) (kidOf x 0))
 same-below (tSparse ids nullable f) u x = λ e m. node-same (CutBelow (f e) u) (kidOf x e) (same-below (f e) u (kidOf x e))
 same-below (tDense ids nullable f) u x = λ e. node-same (CutBelow (f e) u) (kidOf x e) (same-below (f e) u (kidOf x e))
 same-below (tRunEnd w t) u x = (one-same u (rowsOf (kidOf x 0)), node-same (CutBelow t (underRuns u)) (kidOf x 0) (same-below t (underRuns u) (kidOf x 0)))
@@ -62,6 +64,7 @@ less-below : (t : Ty) (x y z : Counts) → CutBelow t exempt x y → CutBelow t 
 less-below (tPlain p) x y z a b = plain-less p x y z a b
 less-below tView x y z a b = tt
 less-below (tListView w t) x y z a b = node-less (CutBelow t exempt) _ _ _ (less-below t (kidOf x 0) (kidOf y 0) (kidOf z 0)) a b
+less-below (tList w t) x y z a b = node-less (CutBelow t exempt) _ _ _ (less-below t (kidOf x 0) (kidOf y 0) (kidOf z 0)) a b
 less-below (tSparse ids nullable f) x y z a b = λ e m. node-less (CutBelow (f e) exempt) _ _ _ (less-below (f e) (kidOf x e) (kidOf y e) (kidOf z e)) (a e m) (b e m)
 less-below (tDense ids nullable f) x y z a b = λ e. node-less (CutBelow (f e) exempt) _ _ _ (less-below (f e) (kidOf x e) (kidOf y e) (kidOf z e)) (a e) (b e)
 less-below (tRunEnd w t) x y z a b = (tt, node-less (CutBelow t exempt) _ _ _ (less-below t (kidOf x 0) (kidOf y 0) (kidOf z 0)) (a .1) (b .1))
@@ -138,6 +141,18 @@ list-again u w t b k i x y z r h =
       holds = subst (Cut (tListView w t) u _) (sym (p .is)) (record { rows-less = omega (arith, r .rows-less); below-less = q .holds });
     }
 
+lists-again : (u : Under) (w : ℕ) (t : Ty) (b : Listed (Body t)) → ((a n : ℕ) → Leads (Cut t (underList u)) (askCopy t (b .child .body) a n))
+    → (a n : ℕ) → Leads (Cut (tList w t) u) (listAsk w (askCopy t) b a n)
+lists-again u w t b k a zero x y z r h = record { value = x; is = refl; holds = subst (Cut (tList w t) u x) (done-is h) r }
+lists-again u w t b k a (suc n) x y z r h =
+    let p = lists-asked w (askCopy t) b a y (suc n) (omega arith) z h in
+    let q = k _ _ (kidOf x 0) (kidOf y 0) (p .kid) (r .below-less) (p .kid-done) in
+    record {
+      value = counts (rowsOf x + suc n) 0 (λ e. q .value);
+      is = lists-ask w (askCopy t) b a x (suc n) (omega arith) (q .value) (omega (arith, p .fits, r .below-less .rows-less)) (q .is);
+      holds = subst (Cut (tList w t) u _) (sym (p .is)) (record { rows-less = omega (arith, r .rows-less); below-less = q .holds });
+    }
+
 sparse-again : (u : Under) (ids : List ℕ) (nullable : ℕ → Bool) (f : ℕ → Ty) (b : Sparse (λ e. Body (f e)))
     → ((e a n : ℕ) → Leads (Cut (f e) u) (askCopy (f e) (b .children e .body) a n)) → (a n : ℕ) → Leads (Cut (tSparse ids nullable f) u) (askCopy (tSparse ids nullable f) b a n)
 sparse-again u ids nullable f b k a n x y z r h =
@@ -200,6 +215,7 @@ pub copy-again : (u : Under) (t : Ty) (b : Body t) (a n : ℕ) → Leads (Cut t 
 copy-again u (tPlain p) b a n = plain-again u p b a n
 copy-again u tView b a n = more-again u tView n (λ x y. tt)
 copy-again u (tListView w t) b a n = steps-again (Cut (tListView w t) u) (listViewRow w (askCopy t) b) (list-again u w t b (copy-again (underList u) t (b .child .body))) a n
+copy-again u (tList w t) b a n = lists-again u w t b (copy-again (underList u) t (b .child .body)) a n
 copy-again u (tSparse ids nullable f) b a n = sparse-again u ids nullable f b (λ e. copy-again u (f e) (b .children e .body)) a n
 copy-again u (tDense ids nullable f) b a n =
     steps-again (Cut (tDense ids nullable f) u) (denseRow (λ e. askCopy (f e)) b) (dense-again u ids nullable f b (λ e. copy-again u (f e) (b .children e .body))) a n
@@ -213,10 +229,10 @@ Few outside n = n ≡ 0
 Few inRuns n = n ≤ 1
 Few exempt n = Unit {0}
 
-few-list : (u : Under) (n : ℕ) → Few u 1 → Few (underList u) n
-few-list outside n h = absurd (omega arith)
-few-list inRuns n h = tt
-few-list exempt n h = tt
+few-list : (u : Under) (m n : ℕ) → Few u (suc m) → Few (underList u) n
+few-list outside m n h = absurd (omega arith)
+few-list inRuns m n h = tt
+few-list exempt m n h = tt
 
 -- no row is few
 pub few-none : (u : Under) → Few u 0
@@ -253,7 +269,14 @@ list-more : (u : Under) (w : ℕ) (t : Ty) (b : ListView (Body t)) → ((a n : �
     → Few u 1 → (i : ℕ) → Mores (tListView w t) u (listViewRow w (askCopy t) b i)
 list-more u w t b k h i x y e =
     let p = list-asked w (askCopy t) b i x y e in
-    subst (Cut (tListView w t) u x) (sym (p .is)) (record { rows-less = omega arith; below-less = k _ _ (few-list u _ h) (kidOf x 0) (p .kid) (p .kid-done) })
+    subst (Cut (tListView w t) u x) (sym (p .is)) (record { rows-less = omega arith; below-less = k _ _ (few-list u 0 _ h) (kidOf x 0) (p .kid) (p .kid-done) })
+
+lists-more : (u : Under) (w : ℕ) (t : Ty) (b : Listed (Body t)) → ((a n : ℕ) → Few (underList u) n → Mores t (underList u) (askCopy t (b .child .body) a n))
+    → (a n : ℕ) → Few u n → Mores (tList w t) u (listAsk w (askCopy t) b a n)
+lists-more u w t b k a zero h x y e = subst (Cut (tList w t) u x) (done-is e) (cut-same (tList w t) u x)
+lists-more u w t b k a (suc n) h x y e =
+    let p = lists-asked w (askCopy t) b a x (suc n) (omega arith) y e in
+    subst (Cut (tList w t) u x) (sym (p .is)) (record { rows-less = omega arith; below-less = k _ _ (few-list u n _ h) (kidOf x 0) (p .kid) (p .kid-done) })
 
 sparse-more : (u : Under) (ids : List ℕ) (nullable : ℕ → Bool) (f : ℕ → Ty) (b : Sparse (λ e. Body (f e)))
     → ((e a n : ℕ) → Few u n → Mores (f e) u (askCopy (f e) (b .children e .body) a n)) → (a n : ℕ) → Few u n → Mores (tSparse ids nullable f) u (askCopy (tSparse ids nullable f) b a n)
@@ -319,6 +342,7 @@ copy-more u tView b a n h = few-rows tView u n (λ x y. tt)
 copy-more u (tListView w t) b a n h =
     steps-more (Cut (tListView w t) u) u (listViewRow w (askCopy t) b) (cut-same (tListView w t) u) (less-if (tListView w t) u)
     (list-more u w t b (copy-more (underList u) t (b .child .body))) a n h
+copy-more u (tList w t) b a n h = lists-more u w t b (copy-more (underList u) t (b .child .body)) a n h
 copy-more u (tSparse ids nullable f) b a n h = sparse-more u ids nullable f b (λ e. copy-more u (f e) (b .children e .body)) a n h
 copy-more u (tDense ids nullable f) b a n h =
     steps-more (Cut (tDense ids nullable f) u) u (denseRow (λ e. askCopy (f e)) b) (cut-same (tDense ids nullable f) u) (less-if (tDense ids nullable f) u)

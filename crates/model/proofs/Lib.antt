@@ -7,6 +7,8 @@ pub mod Node
 pub mod Nodes
 pub mod Steps
 pub mod ListLaw
+pub mod ListsLaw
+pub mod CopyNone
 pub mod Ids
 pub mod Children
 pub mod SparseLaw

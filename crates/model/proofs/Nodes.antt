@@ -7,11 +7,12 @@ use Prim.Native.Nat.{ℕ, zero, suc, _+_, _*_, _≤_, _<_}
 use lib.ListN.{length, getD, replicate}
 use lib.Dec.{T}
 use Rattle.columnar.specs.Row.{Row, null}
-use Rattle.columnar.specs.Types.{Number, width, half, limit, Plain, fixed, string, Ty, tPlain, tView, tListView, tSparse, tDense, tRunEnd, tDictionary}
+use Rattle.columnar.specs.Types.{Number, width, half, limit, Plain, fixed, string, Ty, tPlain, tView, tListView, tList, tSparse, tDense, tRunEnd, tDictionary}
 use Rattle.columnar.specs.Array.{Array, item, Obeys}
 use Rattle.columnar.specs.Plain.{Text, PlainBody, plainAt, PlainRule}
 use Rattle.columnar.specs.View.{Views, viewOf, viewAt, ViewGood, ViewRule}
 use Rattle.columnar.specs.ListView.{ListView, listViewAt, ListViewRule}
+use Rattle.columnar.specs.List.{Listed, listAt, ListRule}
 use Rattle.columnar.specs.Union.{Sparse, Dense, sparseAt, denseAt, SparseRule, DenseRule}
 use Rattle.columnar.specs.RunEnd.{RunEnd, runEndAt, startOf, RunEndRule}
 use Rattle.columnar.specs.Dictionary.{Dictionary, dictionaryAt, DictionaryRule}
@@ -19,10 +20,11 @@ use Rattle.columnar.specs.Reading.{Body, slotAt, masks, SlotRule}
 use Rattle.model.specs.Try.{Try, done, after}
 use Rattle.model.specs.Ordered.{home, unionNull, nullRow}
 use Rattle.model.specs.Opening.{shared}
-use Rattle.model.specs.Grounds.{counts, leaf, among, moreRows, rowsOf, kidOf, unlessNone, plainAsk, plainNulls, listViewAsk, sparseAsk, denseAsk, runEndAsk, sparseNulls, denseNulls, runEndNulls, askCopy, nullsAsk}
+use Rattle.model.specs.Grounds.{counts, leaf, among, moreRows, rowsOf, kidOf, unlessNone, plainAsk, plainNulls, listViewAsk, listAsk, sparseAsk, denseAsk, runEndAsk, sparseNulls, denseNulls, runEndNulls, askCopy, nullsAsk}
 use Rattle.model.specs.Mutable.{Mutable, extendNode, nullsNode, freezeNode}
 use Rattle.model.specs.Primitive.{plainExtend, plainNull, viewExtend, buffersBefore, keysExtend}
 use Rattle.model.specs.ListViews.{Lists, listExtend, listNulls, listFreeze}
+use Rattle.model.specs.Lists.{Listings, listsExtend, listsNulls, listsFreeze}
 use Rattle.model.specs.Unions.{Sparses, Denses, sparseExtend, denseExtend, sparseNull, denseNull, sparseFreeze, denseFreeze}
 use Rattle.model.specs.Runs.{Runs, runsExtend, runsNull, runsFreeze}
 use Rattle.model.specs.Transform.{Grown, extendData, nullsData, freezeData, theDictionary}
@@ -31,11 +33,15 @@ use Rattle.model.proofs.Law.{Kind, FineNode, KeepNode, nodeNull}
 
 -- ---- fixed-width numbers and byte strings
 
-pub record TextFine (w : ℕ) (d : Text) (l : ℕ) : Type 0 where
-  pub offsets-are : length (d .offsets) ≡ suc l * w
-  pub rises : (i : ℕ) → i < l → item w (d .offsets) i ≤ item w (d .offsets) (suc i)
-  pub last-is : item w (d .offsets) l ≡ length (d .chars)
-  pub fits : length (d .chars) < half w
+-- l + 1 offsets that never fall, the last of them `most`: the bytes of a byte string, the child's rows of a list
+pub record OffsetsFine (w : ℕ) (s : List ℕ) (most l : ℕ) : Type 0 where
+  pub offsets-are : length s ≡ suc l * w
+  pub rises : (i : ℕ) → i < l → item w s i ≤ item w s (suc i)
+  pub last-is : item w s l ≡ most
+  pub fits : most < half w
+
+abbrev pub TextFine : ℕ → Text → ℕ → Type 0
+TextFine w d l = OffsetsFine w (d .offsets) (length (d .chars)) l
 
 abbrev pub plainFine : (p : Plain) → (ℕ → Bool) → PlainBody p → ℕ → Type 0
 plainFine (fixed k) b d l = length d ≡ l * width k
@@ -112,6 +118,30 @@ listKind w k m kids =
       fine = λ b d l. ListFine w (FineNode (k .masks) (k .fine) m kids) d l;
       keep = λ d. Unit {0};
       rule = ListViewRule w (Obeys (k .masks) (k .rule));
+    }
+
+-- ---- lists; kid: a well formed child
+
+pub record ListsFine (w : ℕ) {D : Type 0} (kid : Mutable D → Type 0) (d : Listings D) (l : ℕ) : Type 0 where
+  pub offsets-fine : OffsetsFine w (d .buffer1) (d .child .len) l
+  pub child-fine : kid (d .child)
+
+abbrev pub listsKind : ℕ → {P D : Type 0} → Kind P D → ℕ → (ℕ → Array P) → Kind (Listed P) (Listings D)
+listsKind w k m kids =
+    record {
+      masks = true;
+      at = listAt w (k .at);
+      nrow = null;
+      frz = listsFreeze (freezeNode (k .masks) (k .frz));
+      ext = λ ss j a n l d. listsExtend w (extendNode (k .masks) (k .ext) (λ i. ss i .child) j) (ss j) a n l d;
+      nul = λ n l d. listsNulls w n l d;
+      ask = listAsk w (k .ask);
+      askN = λ n c. done (counts (rowsOf c + n) 0 (kidOf c));
+      held = λ d l. counts l 0 (λ e. heldNode (k .held) (d .child));
+      held-rows = λ d l. refl;
+      fine = λ b d l. ListsFine w (FineNode (k .masks) (k .fine) m kids) d l;
+      keep = λ d. Unit {0};
+      rule = ListRule w (Obeys (k .masks) (k .rule));
     }
 
 -- ---- unions; r: what an ordered null reads as at each child
@@ -228,6 +258,7 @@ abbrev pub fineOf : (t : Ty) → ℕ → (ℕ → Body t) → (ℕ → Bool) →
 fineOf (tPlain p) = λ m ss. plainFine p
 fineOf tView = λ m ss. ViewFine (buffersBefore ss m)
 fineOf (tListView w t) = λ m ss b d l. ListFine w (FineNode (masks t) (fineOf t m (λ i. ss i .child .body)) m (λ i. ss i .child)) d l
+fineOf (tList w t) = λ m ss b d l. ListsFine w (FineNode (masks t) (fineOf t m (λ i. ss i .child .body)) m (λ i. ss i .child)) d l
 fineOf (tSparse ids nullable f) = λ m ss b d l. SparseFine ids (λ c. FineNode (masks (f c)) (fineOf (f c) m (λ i. ss i .children c .body)) m (λ i. ss i .children c)) d l
 fineOf (tDense ids nullable f) = λ m ss b d l. DenseFine ids (λ c. FineNode (masks (f c)) (fineOf (f c) m (λ i. ss i .children c .body)) m (λ i. ss i .children c)) d l
 fineOf (tRunEnd w t) = λ m ss b d l. RunsFine w (FineNode (masks t) (fineOf t m (λ i. ss i .values .body)) m (λ i. ss i .values)) d l
@@ -237,6 +268,7 @@ abbrev pub keepOf : (t : Ty) → Grown t → Type 0
 keepOf (tPlain p) = λ d. Unit {0}
 keepOf tView = λ d. Unit {0}
 keepOf (tListView w t) = λ d. Unit {0}
+keepOf (tList w t) = λ d. Unit {0}
 keepOf (tSparse ids nullable f) = λ d. (c : ℕ) → List·Memᴰ c ids → KeepNode (keepOf (f c)) (d .children c)
 keepOf (tDense ids nullable f) = λ d. (c : ℕ) → List·Memᴰ c ids → KeepNode (keepOf (f c)) (d .children c)
 keepOf (tRunEnd w t) = λ d. KeepNode (keepOf t) (d .values)
@@ -246,6 +278,7 @@ abbrev pub rows-held : (t : Ty) (d : Grown t) (l : ℕ) → rowsOf (heldData t d
 rows-held (tPlain p) = plain-rows p
 rows-held tView = λ d l. refl
 rows-held (tListView w t) = λ d l. refl
+rows-held (tList w t) = λ d l. refl
 rows-held (tSparse ids nullable f) = λ d l. refl
 rows-held (tDense ids nullable f) = λ d l. refl
 rows-held (tRunEnd w t) = λ d l. refl
@@ -273,6 +306,7 @@ pub null-is : (t : Ty) (m : ℕ) (ss : ℕ → Body t) → nodeNull (kindOf t m 
 null-is (tPlain p) m ss = refl
 null-is tView m ss = refl
 null-is (tListView w t) m ss = refl
+null-is (tList w t) m ss = refl
 null-is (tSparse ids nullable f) m ss = refl
 null-is (tDense ids nullable f) m ss = refl
 null-is (tRunEnd w t) m ss = refl

@@ -5,7 +5,7 @@ use mathlib.Core.Bool.{Bool, true}
 use mathlib.Core.List.{List, List·Memᴰ}
 use Prim.Native.Nat.{ℕ, _^_, _≤_, _<_}
 use lib.ListN.{length}
-use Rattle.columnar.specs.Types.{Plain, Ty, tPlain, tView, tListView, tSparse, tDense, tRunEnd, tDictionary}
+use Rattle.columnar.specs.Types.{Plain, Ty, tPlain, tView, tListView, tList, tSparse, tDense, tRunEnd, tDictionary}
 use Rattle.columnar.specs.Array.{readWith}
 use Rattle.columnar.specs.Plain.{PlainBody}
 use Rattle.columnar.specs.Dictionary.{Dictionary, entryAt}
@@ -25,6 +25,7 @@ abbrev pub Ready : (t : Ty) → ℕ → (ℕ → Body t) → Type 0
 Ready (tPlain p) = λ m ss. Unit {0}
 Ready tView = λ m ss. length (buffersBefore ss m) ≤ 256 ^ 4
 Ready (tListView w t) = λ m ss. Ready t m (λ i. ss i .child .body)
+Ready (tList w t) = λ m ss. Ready t m (λ i. ss i .child .body)
 Ready (tSparse ids nullable f) = λ m ss. (c : ℕ) → List·Memᴰ c ids → Ready (f c) m (λ i. ss i .children c .body)
 Ready (tDense ids nullable f) = λ m ss. (c : ℕ) → List·Memᴰ c ids → Ready (f c) m (λ i. ss i .children c .body)
 Ready (tRunEnd w t) = λ m ss. Ready t m (λ i. ss i .values .body)

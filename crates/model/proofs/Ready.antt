@@ -6,7 +6,7 @@ use mathlib.Core.List.{List, [], _∷_, _++_, List·Memᴰ, List·Memᴰ·cases-
 use Prim.Native.Nat.{ℕ, zero, suc, _+_, _*_, _^_, _≤_, _<_}
 use native.Mathlib.Omega.{arith}
 use lib.ListN.{length, length-append}
-use Rattle.columnar.specs.Types.{Plain, Ty, tPlain, tView, tListView, tSparse, tDense, tRunEnd, tDictionary}
+use Rattle.columnar.specs.Types.{Plain, Ty, tPlain, tView, tListView, tList, tSparse, tDense, tRunEnd, tDictionary}
 use Rattle.columnar.specs.Array.{Obeys}
 use Rattle.columnar.specs.Plain.{PlainBody, PlainRule}
 use Rattle.columnar.specs.View.{Views}
@@ -47,6 +47,7 @@ module _ (body : List ℕ) (m : ℕ) (few : m ≤ 16)
   ready (tPlain p) ss g v d e = tt
   ready tView ss g v d e = omega (arith, few-before (λ i. ss i .body) m v)
   ready (tListView w t) ss g v d e = ready t (λ i. ss i .body .child) (λ j q. g j q .slots .child-rule) v d e
+  ready (tList w t) ss g v d e = ready t (λ i. ss i .body .child) (λ j q. g j q .slots .child-rule) v d e
   ready (tSparse ids nullable f) ss g v d e = λ c q.
       ready (f c) (λ i. ss i .body .children c) (λ j h. g j h .slots .child-rule c q) (λ j h. v j h c q) (λ j h. d j h c q)
       (opened-each ids (λ c. openData (f c) m (λ i. ss i .body .children c .body)) e c q)

@@ -12,7 +12,7 @@ use lib.Dec.{ltb}
 use borrow.Author.Tests.{ltb-false}
 use Rattle.number.specs.Number.{encode}
 use Rattle.number.proofs.Laws.{length-encode}
-use Rattle.columnar.specs.Types.{half, Plain, fixed, string, Ty, tPlain, tView, tListView, tSparse, tDense, tRunEnd, tDictionary}
+use Rattle.columnar.specs.Types.{half, Plain, fixed, string, Ty, tPlain, tView, tListView, tList, tSparse, tDense, tRunEnd, tDictionary}
 use Rattle.columnar.specs.Formed.{OffsetWidth, RunWidth, four, eight, two, FormedPlain, Formed}
 use Rattle.columnar.specs.Array.{Array, ok, nullsIn, nullCount}
 use Rattle.columnar.specs.Plain.{PlainBody}
@@ -25,7 +25,7 @@ use Rattle.model.specs.Primitive.{plainStart}
 use Rattle.model.specs.Transform.{startData, start}
 use Rattle.model.specs.Held.{heldNode, heldPlain, heldData, held}
 use Rattle.model.proofs.Law.{BitsFor, CountFor, FineNode, KeepNode, bitAt}
-use Rattle.model.proofs.Nodes.{plainFine, fineOf, keepOf}
+use Rattle.model.proofs.Nodes.{OffsetsFine, plainFine, fineOf, keepOf}
 
 -- ---- no null at a node
 
@@ -99,15 +99,19 @@ run-pos eight = omega arith
 half-le : (w : ℕ) → half w ≤ 256 ^ w
 half-le w = omega arith
 
-plain-start : (p : Plain) (b : ℕ → Bool) → FormedPlain p → plainFine p b (plainStart p) 0
-plain-start (fixed k) b f = sym (zero-mul _)
-plain-start (string w) b f =
+-- the one offset of no rows
+offsets-start : (w : ℕ) → OffsetWidth w → OffsetsFine w (encode w 0) 0 0
+offsets-start w f =
     record {
       offsets-are = length-encode w 0 ∙ sym (one-mul w);
       rises = λ i q. absurd (omega arith);
       last-is = item-last w [] 0 0 (sym (zero-mul w)) (omega (arith, half-pos f, half-le w));
       fits = half-pos f;
     }
+
+plain-start : (p : Plain) (b : ℕ → Bool) → FormedPlain p → plainFine p b (plainStart p) 0
+plain-start (fixed k) b f = sym (zero-mul _)
+plain-start (string w) b f = offsets-start w f
 
 pub start-data : (t : Ty) (u : Bool) (m : ℕ) (ss : ℕ → Body t) (b : ℕ → Bool) → 0 < m → Formed t → fineOf t m ss b (startData t u m ss) 0
 start-data (tPlain p) u m ss b z f = plain-start p b f
@@ -118,6 +122,11 @@ start-data (tListView w t) u m ss b z f =
       sizes-are = sym (zero-mul w);
       within = λ i q. absurd (omega arith);
       fits = half-pos (f .0);
+      child-fine = start-node (masks t) u (fineOf t m (λ i. ss i .child .body)) m (λ i. ss i .child) _ (λ b. start-data t _ m (λ i. ss i .child .body) b z (f .1));
+    }
+start-data (tList w t) u m ss b z f =
+    record {
+      offsets-fine = offsets-start w (f .0);
       child-fine = start-node (masks t) u (fineOf t m (λ i. ss i .child .body)) m (λ i. ss i .child) _ (λ b. start-data t _ m (λ i. ss i .child .body) b z (f .1));
     }
 start-data (tSparse ids nullable g) u m ss b z f =
@@ -158,6 +167,7 @@ keep-start : (t : Ty) (m : ℕ) (ss : ℕ → Body t) → keepOf t (startData t 
 keep-start (tPlain p) m ss = tt
 keep-start tView m ss = tt
 keep-start (tListView w t) m ss = tt
+keep-start (tList w t) m ss = tt
 keep-start (tSparse ids nullable g) m ss = λ c q. record { here = refl; below = keep-start (g c) m (λ i. ss i .children c .body) }
 keep-start (tDense ids nullable g) m ss = λ c q. record { here = refl; below = keep-start (g c) m (λ i. ss i .children c .body) }
 keep-start (tRunEnd w t) m ss = record { here = refl; below = keep-start t m (λ i. ss i .values .body) }
@@ -179,6 +189,7 @@ pub held-start : (t : Ty) (u : Bool) (m : ℕ) (ss : ℕ → Body t) → heldDat
 held-start (tPlain p) u m ss = held-plain p
 held-start tView u m ss = refl
 held-start (tListView w t) u m ss = ap (λ x. counts 0 0 (λ e. x)) (held-start t _ m (λ i. ss i .child .body))
+held-start (tList w t) u m ss = ap (λ x. counts 0 0 (λ e. x)) (held-start t _ m (λ i. ss i .child .body))
 held-start (tSparse ids nullable g) u m ss = ap (λ f. counts 0 0 (among ids f)) (fun-ext (λ e. held-start (g e) _ m (λ i. ss i .children e .body)))
 held-start (tDense ids nullable g) u m ss = ap (λ f. counts 0 0 (among ids f)) (fun-ext (λ e. held-start (g e) _ m (λ i. ss i .children e .body)))
 held-start (tRunEnd w t) u m ss = ap (λ x. counts 0 0 (λ e. x)) (held-start t _ m (λ i. ss i .values .body))

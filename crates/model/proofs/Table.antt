@@ -13,7 +13,7 @@ unfolding number encode item bit pack
 the-table = refl
 
 -- its sources pass ground 12
-pub the-sources : obeyed ≡ replicate 25 true
+pub the-sources : obeyed ≡ replicate 27 true
 unfolding number encode item bit
 the-sources = refl
 

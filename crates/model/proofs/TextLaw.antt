@@ -20,17 +20,25 @@ use Rattle.model.specs.Try.{Try, done, then, guard}
 use Rattle.model.specs.Primitive.{newOffsets, repeated}
 use Rattle.model.proofs.Bits.{shift, length-seg, getD-seg}
 use Rattle.model.proofs.Pieces.{below-add, seg-shift}
-use Rattle.model.proofs.Nodes.{TextFine}
+use Rattle.model.proofs.Nodes.{OffsetsFine, TextFine}
+
+-- offsets whose last is `most`, with n more: the i-th is `most` and g i
+abbrev pub offsetsWith : ℕ → List ℕ → ℕ → ℕ → (ℕ → ℕ) → List ℕ
+offsetsWith w s most n g = s ++ encodes w (seg (λ i. most + g i) 1 n)
 
 -- d with n slots more: slot i's bytes are those of x from g i up to g (i + 1)
 abbrev pub textWith : ℕ → Text → ℕ → (ℕ → ℕ) → List ℕ → Text
-textWith w d n g x = record { offsets = d .offsets ++ encodes w (seg (λ i. length (d .chars) + g i) 1 n); chars = d .chars ++ x }
+textWith w d n g x = record { offsets = offsetsWith w (d .offsets) (length (d .chars)) n g; chars = d .chars ++ x }
 
--- the steps of g from 0 to the length of x
-pub record Steps (n : ℕ) (g : ℕ → ℕ) (x : List ℕ) : Type 0 where
+-- the steps of g from 0 to x
+pub record StepsTo (n : ℕ) (g : ℕ → ℕ) (x : ℕ) : Type 0 where
   pub first : g 0 ≡ 0
   pub rises : (i : ℕ) → i < n → g i ≤ g (suc i)
-  pub last : g n ≡ length x
+  pub last : g n ≡ x
+
+-- the steps of g from 0 to the length of x
+abbrev pub Steps : ℕ → (ℕ → ℕ) → List ℕ → Type 0
+Steps n g x = StepsTo n g (length x)
 
 -- what rises by steps is below its last
 pub steps-below : (n : ℕ) (g : ℕ → ℕ) → ((i : ℕ) → i < n → g i ≤ g (suc i)) → (i : ℕ) → i ≤ n → g i ≤ g n
@@ -39,34 +47,44 @@ steps-below (suc n) g h i q = below-add (λ i. g i ≤ g (suc n)) (suc n) 1
     (λ i p. omega (arith, steps-below n g (λ j r. h j (omega arith)) i (omega arith), h n (omega arith)))
     (λ j p. let e : suc n + j ≡ suc n = omega arith in rw e (omega arith)) i (omega arith)
 
-module _ (w : ℕ) (d : Text) (l : ℕ) (h : TextFine w d l) (n : ℕ) (g : ℕ → ℕ) (x : List ℕ) (s : Steps n g x) (fits : length (d .chars) + length x < half w) where
-  old-offset : (i : ℕ) → i ≤ l → item w (textWith w d n g x .offsets) i ≡ item w (d .offsets) i
-  old-offset i q = item-left w (d .offsets) _ i (suc l) (omega (arith, h .offsets-are)) (omega arith)
+module _ (w : ℕ) (os : List ℕ) (most l : ℕ) (h : OffsetsFine w os most l) (n : ℕ) (g : ℕ → ℕ) (x : ℕ) (s : StepsTo n g x) (fits : most + x < half w) where
+  pub old-offset : (i : ℕ) → i ≤ l → item w (offsetsWith w os most n g) i ≡ item w os i
+  old-offset i q = item-left w os _ i (suc l) (omega (arith, h .offsets-are)) (omega arith)
 
-  new-offset : (i : ℕ) → i ≤ n → item w (textWith w d n g x .offsets) (l + i) ≡ length (d .chars) + g i
+  pub new-offset : (i : ℕ) → i ≤ n → item w (offsetsWith w os most n g) (l + i) ≡ most + g i
   new-offset zero q = rw add-zero (old-offset l (omega arith) ∙ h .last-is ∙ rw (s .first, add-zero))
   new-offset (suc i) q =
-      let f : ℕ → ℕ = λ i. length (d .chars) + g i in
+      let f : ℕ → ℕ = λ i. most + g i in
       let e : getD (seg f 1 n) i 0 ≡ f (1 + i) = getD-seg f 1 n i 0 q in
       let z : 1 + i ≡ suc i = omega arith in
       rw (← shift l i)
-      (item-right w (d .offsets) _ (suc l) i (h .offsets-are)
+      (item-right w os _ (suc l) i (h .offsets-are)
       ∙ item-encodes-lt w (seg f 1 n) i (rw length-seg q) (rw (e, z) (omega (arith, steps-below n g (s .rises) (suc i) q, s .last)))
       ∙ rw (e, z))
 
-  with-rises : (i : ℕ) → i < l + n → item w (textWith w d n g x .offsets) i ≤ item w (textWith w d n g x .offsets) (suc i)
-  with-rises = below-add (λ i. item w (textWith w d n g x .offsets) i ≤ item w (textWith w d n g x .offsets) (suc i)) l n
+  with-rises : (i : ℕ) → i < l + n → item w (offsetsWith w os most n g) i ≤ item w (offsetsWith w os most n g) (suc i)
+  with-rises = below-add (λ i. item w (offsetsWith w os most n g) i ≤ item w (offsetsWith w os most n g) (suc i)) l n
       (λ i q. rw (old-offset i (omega arith), old-offset (suc i) (omega arith)) (h .rises i q))
       (λ i q. let e : suc (l + i) ≡ l + suc i = omega arith in rw (e, new-offset i (omega arith), new-offset (suc i) (omega arith)) (omega (arith, s .rises i q)))
 
-  pub with-fine : TextFine w (textWith w d n g x) (l + n)
-  with-fine =
+  pub offsets-with-fine : OffsetsFine w (offsetsWith w os most n g) (most + x) (l + n)
+  offsets-with-fine =
       record {
         offsets-are = rw (length-append, length-encodes, length-seg, h .offsets-are) (omega arith);
         rises = with-rises;
-        last-is = rw (new-offset n (omega arith), s .last, length-append);
-        fits = rw length-append fits;
+        last-is = rw (new-offset n (omega arith), s .last);
+        fits = fits;
       }
+
+module _ (w : ℕ) (d : Text) (l : ℕ) (h : TextFine w d l) (n : ℕ) (g : ℕ → ℕ) (x : List ℕ) (s : Steps n g x) (fits : length (d .chars) + length x < half w) where
+  abbrev old : (i : ℕ) → i ≤ l → item w (textWith w d n g x .offsets) i ≡ item w (d .offsets) i
+  old = old-offset w (d .offsets) (length (d .chars)) l h n g (length x) s fits
+
+  abbrev new : (i : ℕ) → i ≤ n → item w (textWith w d n g x .offsets) (l + i) ≡ length (d .chars) + g i
+  new = new-offset w (d .offsets) (length (d .chars)) l h n g (length x) s fits
+
+  pub with-fine : TextFine w (textWith w d n g x) (l + n)
+  with-fine = rw length-append (offsets-with-fine w (d .offsets) (length (d .chars)) l h n g (length x) s fits)
 
   -- the slots before keep their bytes
   pub with-old : (i : ℕ) → i < l → span w (textWith w d n g x) i ≡ span w d i
@@ -76,18 +94,18 @@ module _ (w : ℕ) (d : Text) (l : ℕ) (h : TextFine w d l) (n : ℕ) (g : ℕ 
       let v : o i ≤ o (suc i) = h .rises i q in
       let y : o i ≤ length (d .chars) = omega arith in
       let z : o (suc i) - o i ≤ length (drop (o i) (d .chars)) = rw length-drop (omega arith) in
-      rw (old-offset i (omega arith), old-offset (suc i) (omega arith), drop-append-le, take-append-le)
+      rw (old i (omega arith), old (suc i) (omega arith), drop-append-le, take-append-le)
 
   -- the new ones
   pub with-new : (i : ℕ) → i < n → span w (textWith w d n g x) (l + i) ≡ take (g (suc i) - g i) (drop (g i) x)
   with-new i q =
       let e : suc (l + i) ≡ l + suc i = omega arith in
       let z : length (d .chars) + g (suc i) - (length (d .chars) + g i) ≡ g (suc i) - g i = omega arith in
-      rw (e, new-offset i (omega arith), new-offset (suc i) (omega arith), z, drop-append-add)
+      rw (e, new i (omega arith), new (suc i) (omega arith), z, drop-append-add)
 
 -- ---- new offsets
 
-guard-then : {A B : Type 0} (b : Bool) (g : ℕ) (x : A) (f : A → Try B) → then (guard b g (done x)) f ≡ guard b g (f x)
+pub guard-then : {A B : Type 0} (b : Bool) (g : ℕ) (x : A) (f : A → Try B) → then (guard b g (done x)) f ≡ guard b g (f x)
 guard-then true g x f = refl
 guard-then false g x f = refl
 

@@ -1,6 +1,6 @@
 -- EVERY TYPE IS LAWFUL. Assumes nothing.
 use Prim.Native.Nat.{ℕ, _<_}
-use Rattle.columnar.specs.Types.{Ty, tPlain, tView, tListView, tSparse, tDense, tRunEnd, tDictionary}
+use Rattle.columnar.specs.Types.{Ty, tPlain, tView, tListView, tList, tSparse, tDense, tRunEnd, tDictionary}
 use Rattle.columnar.specs.Reading.{Column, Source}
 use Rattle.model.specs.Ordered.{nullRow}
 use Rattle.model.proofs.Law.{Law}
@@ -9,6 +9,7 @@ use Rattle.model.proofs.Owed.{Ready}
 use Rattle.model.proofs.PlainLaw.{plain-law}
 use Rattle.model.proofs.ViewLaw.{view-law}
 use Rattle.model.proofs.ListLaw.{list-law}
+use Rattle.model.proofs.ListsLaw.{lists-law}
 use Rattle.model.proofs.SparseLaw.{sparse-law}
 use Rattle.model.proofs.DenseLaw.{dense-law}
 use Rattle.model.proofs.RunsLaw.{runs-law}
@@ -19,6 +20,8 @@ law (tPlain p) m ss g r = plain-law p m ss g
 law tView m ss g r = view-law m ss g r
 law (tListView w t) m ss g r =
     list-law w (kindOf t m (λ i. ss i .body .child .body)) m ss g (law t m (λ i. ss i .body .child) (λ j h. g j h .slots .child-rule) r)
+law (tList w t) m ss g r =
+    lists-law w (kindOf t m (λ i. ss i .body .child .body)) m ss g (law t m (λ i. ss i .body .child) (λ j h. g j h .slots .child-rule) r)
 law (tSparse ids nullable f) m ss g r =
     sparse-law ids nullable (λ c. kindOf (f c) m (λ i. ss i .body .children c .body)) (λ c. nullRow (f c)) m ss g
     (λ c q. law (f c) m (λ i. ss i .body .children c) (λ j h. g j h .slots .child-rule c q) (r c q))

@@ -10,18 +10,19 @@ use lib.Dec.{ltb, leb}
 use Rattle.columnar.specs.Row.{Row, union}
 use Rattle.columnar.specs.Types.{Plain, half, Ty}
 use Rattle.columnar.specs.Array.{Array, item, Obeys}
-use Rattle.columnar.specs.Plain.{Text, PlainBody}
+use Rattle.columnar.specs.Plain.{PlainBody, OffsetsRule, empty, full}
 use Rattle.columnar.specs.ListView.{ListView, ListViewRule}
+use Rattle.columnar.specs.List.{Listed, ListRule}
 use Rattle.columnar.specs.Union.{Sparse, Dense, SparseRule, DenseRule}
 use Rattle.columnar.specs.RunEnd.{RunEnd, endOf, RunEndRule}
 use Rattle.columnar.specs.Reading.{Column, Source}
-use Rattle.columnar.specs.Wider.{Declared, PlainWider, wFixed, wString, Wider, wPlain, wView, wListView, wSparse, wDense, wRunEnd, wDictionary, Kept, OffsetsKept, entries, no-entry, PlainKept, ListViewKept, SparseKept, DenseKept, RunEndKept, Stored}
+use Rattle.columnar.specs.Wider.{Declared, PlainWider, wFixed, wString, Wider, wPlain, wView, wListView, wList, wSparse, wDense, wRunEnd, wDictionary, Kept, OffsetsKept, entries, no-entry, PlainKept, ListViewKept, ListKept, SparseKept, DenseKept, RunEndKept, Stored}
 use Rattle.columnar.proofs.Kept.{half-mono}
-use Rattle.columnar.proofs.WiderKinds.{ends-same, declares}
+use Rattle.columnar.proofs.WiderKinds.{ends-same, declares, offsets-most}
 use Rattle.columnar.proofs.FirstAbove.{first-same, first-below}
 use Rattle.model.specs.Try.{Try, done, stop, then}
 use Rattle.model.specs.Ordered.{firstNullable, home, unionNull, nullRow}
-use Rattle.model.specs.Grounds.{Counts, counts, rowsOf, kidOf, Ask, AskNulls, askOf, plainAsk, listViewRow, listViewAsk, sparseAsk, withKid, denseRow, denseAsk, firstRun, runCount, runEndAsk, askCopy, sparseNulls, denseNulls, runEndNulls, plainNulls, unlessNone, nullsAsk, askNulls, startCounts}
+use Rattle.model.specs.Grounds.{Counts, counts, rowsOf, kidOf, Ask, AskNulls, askOf, plainAsk, listViewRow, listViewAsk, listAsk, sparseAsk, withKid, denseRow, denseAsk, firstRun, runCount, runEndAsk, askCopy, sparseNulls, denseNulls, runEndNulls, plainNulls, unlessNone, nullsAsk, askNulls, startCounts}
 use Rattle.model.proofs.Follow.{Follows, same, free, among-same, follows-done, follows-refl, follows-then, follows-guard, ltb-up, follows-steps, follows-all}
 
 -- an array's slots a .. a + n - 1 ask the same of the counts, narrow and wide
@@ -31,19 +32,19 @@ AsksAgain ask ask′ x x′ = (a n : ℕ) → a + n ≤ x .len → (c : Counts) 
 -- ---- byte strings
 
 -- the bytes of the n rows from a on are as many
-bytes-same : (w w′ : ℕ) (b b′ : Text) (off len : ℕ) → OffsetsKept w w′ b b′ off len → (a n : ℕ) → a + n ≤ len
-    → item w (b .offsets) (off + a + n) - item w (b .offsets) (off + a) ≡ item w′ (b′ .offsets) (off + a + n) - item w′ (b′ .offsets) (off + a)
-bytes-same w w′ b b′ off len (entries p e) a n q =
+bytes-same : (w w′ : ℕ) (s s′ : List ℕ) (most off len : ℕ) → OffsetsKept w w′ s s′ most off len → (a n : ℕ) → a + n ≤ len
+    → item w s (off + a + n) - item w s (off + a) ≡ item w′ s′ (off + a + n) - item w′ s′ (off + a)
+bytes-same w w′ s s′ most off len (entries p e) a n q =
     let z : off + a + n ≡ off + (a + n) = omega arith in
     rw (z, e .kept (a + n) (omega arith), e .kept a (omega arith))
-bytes-same w w′ b b′ off len (no-entry e g r) a n q =
+bytes-same w w′ s s′ most off len (no-entry e g r) a n q =
     let z : off + a + n ≡ off + a = omega arith in
     rw z (omega arith)
 
 pub plain-again : {p p′ : Plain} (d : PlainWider p p′) (x : Array (PlainBody p)) (x′ : Array (PlainBody p′)) → Kept (PlainKept d) x x′ → AsksAgain (plainAsk p) (plainAsk p′) x x′
 plain-again (wFixed n) x x′ h a k q c = same _
 plain-again (wString w w′ ww) x x′ h a n q c =
-    rw (← h .same-off, ← bytes-same w w′ (x .body) (x′ .body) (x .off) (x .len) (h .same-body .same-offsets) a n q)
+    rw (← h .same-off, ← bytes-same w w′ (x .body .offsets) (x′ .body .offsets) _ (x .off) (x .len) (h .same-body .same-offsets) a n q)
     (follows-guard _ _ 6 6 (ltb-up _ (half w) (half w′) (half-mono ww)) (same _))
 
 -- ---- list-views
@@ -63,6 +64,35 @@ module _ {P P′ : Type 0} (w w′ : ℕ) (ww : w ≤ w′) {kept : Array P → 
       rw (← h .same-off)
       (follows-steps (listViewRow w ask (x .body)) (listViewRow w′ ask′ (x′ .body)) (x .off + a) n
       (λ i y e. rw add-assoc (list-row-again _ (x .body) (x′ .body) (x .off) (x .len) (h .same-body) (s .slots) k (a + i) (omega arith) e)) c)
+
+-- ---- lists
+
+-- the first offset of a row
+offset-same : (w w′ : ℕ) (s s′ : List ℕ) (most off len : ℕ) → OffsetsKept w w′ s s′ most off len → (a : ℕ) → a < len → item w s (off + a) ≡ item w′ s′ (off + a)
+offset-same w w′ s s′ most off len (entries p e) a q = e .kept a (omega arith)
+offset-same w w′ s s′ most off len (no-entry e g r) a q = absurd (omega arith)
+
+-- the stretch of n rows, of which there is one, lies within the child
+rows-within : (w : ℕ) (s : List ℕ) (most off len : ℕ) → OffsetsRule w s most off len → (a n : ℕ) → a + suc n ≤ len
+    → item w s (off + a) + (item w s (off + a + suc n) - item w s (off + a)) ≤ most
+rows-within w s most off len (empty e x) a n q = absurd (omega arith)
+rows-within w s most off len (full o) a n q =
+    let z : off + a + suc n ≡ off + (a + suc n) = omega arith in
+    rw z (omega (arith, offsets-most w s most off len o (len - (a + suc n)) (a + suc n) (omega arith), offsets-most w s most off len o (len - a) a (omega arith)))
+
+module _ {P P′ : Type 0} (w w′ : ℕ) (ww : w ≤ w′) {kept : Array P → Array P′ → Type 0} {kid : Array P → Type 0} (ask : P → Ask) (ask′ : P′ → Ask) where
+  pub lists-again : (x : Array (Listed P)) (x′ : Array (Listed P′)) → Kept (ListKept w w′ kept) x x′ → Obeys true (ListRule w kid) x
+      → AsksAgain ask ask′ (x .body .child) (x′ .body .child) → AsksAgain (listAsk w ask) (listAsk w′ ask′) x x′
+  lists-again x x′ h s k a zero q c = same c
+  lists-again x x′ h s k a (suc n) q c =
+      let o = item w (x .body .offsets) in
+      rw (
+        ← h .same-off,
+        ← bytes-same w w′ (x .body .offsets) (x′ .body .offsets) _ (x .off) (x .len) (h .same-body .same-offsets) a (suc n) q,
+        ← offset-same w w′ (x .body .offsets) (x′ .body .offsets) _ (x .off) (x .len) (h .same-body .same-offsets) a (omega arith),
+      )
+      (follows-guard _ _ 6 6 (ltb-up _ (half w) (half w′) (half-mono ww))
+      (follows-then _ _ (k (o (x .off + a)) (o (x .off + a + suc n) - o (x .off + a)) (rows-within w (x .body .offsets) (x .body .child .len) (x .off) (x .len) (s .slots .offsets-rule) a n q) (kidOf c 0)) (λ y. same _)))
 
 -- ---- unions
 
@@ -126,6 +156,8 @@ copy-again (wPlain d) x x′ h s = plain-again d x x′ h
 copy-again wView x x′ h s = λ a n q c. same _
 copy-again (wListView w w′ {t} {t′} ww d) x x′ h s =
     list-again w w′ ww (askCopy t) (askCopy t′) x x′ h s (copy-again d (x .body .child) (x′ .body .child) (h .same-body .same-child) (s .slots .child-rule))
+copy-again (wList w w′ {t} {t′} ww d) x x′ h s =
+    lists-again w w′ ww (askCopy t) (askCopy t′) x x′ h s (copy-again d (x .body .child) (x′ .body .child) (h .same-body .same-child) (s .slots .child-rule))
 copy-again (wSparse ids {nullable} {nullable′} {f} {f′} n d) x x′ h s =
     sparse-again ids (λ c. askCopy (f c)) (λ c. askCopy (f′ c)) x x′ h s
     (λ e m. copy-again (d e (declares e ids m)) (x .body .children e) (x′ .body .children e) (h .same-body .same-children e (declares e ids m)) (s .slots .child-rule e m))
@@ -209,6 +241,7 @@ nulls-again : {t t′ : Ty} → Wider t t′ → NullsAgain (nullsAsk t) (nullsA
 nulls-again (wPlain d) = plain-nulls d
 nulls-again wView = λ n c. same _
 nulls-again (wListView w w′ ww d) = λ n c. same _
+nulls-again (wList w w′ ww d) = λ n c. same _
 nulls-again (wSparse ids {nullable} {nullable′} {f} {f′} n d) =
     sparse-nulls ids nullable nullable′ n (λ e. unlessNone (nullsAsk (f e))) (λ e. unlessNone (nullsAsk (f′ e)))
     (λ e m. unless-again (nullsAsk (f e)) (nullsAsk (f′ e)) (nulls-again (d e (declares e ids m))))
@@ -232,6 +265,7 @@ pub start-counts-wider : {t t′ : Ty} → Wider t t′ → startCounts t ≡ st
 start-counts-wider (wPlain d) = refl
 start-counts-wider wView = refl
 start-counts-wider (wListView w w′ ww d) = ap (λ x. counts 0 0 (λ e. x)) (start-counts-wider d)
+start-counts-wider (wList w w′ ww d) = ap (λ x. counts 0 0 (λ e. x)) (start-counts-wider d)
 start-counts-wider (wSparse ids n d) = ap (counts 0 0) (among-same ids _ _ (λ e m. start-counts-wider (d e (declares e ids m))))
 start-counts-wider (wDense ids n d) = ap (counts 0 0) (among-same ids _ _ (λ e m. start-counts-wider (d e (declares e ids m))))
 start-counts-wider (wRunEnd w w′ ww d) = ap (λ x. counts 0 0 (λ e. x)) (start-counts-wider d)
@@ -245,6 +279,7 @@ pub null-row-wider : {t t′ : Ty} → Wider t t′ → nullRow t ≡ nullRow t�
 null-row-wider (wPlain d) = refl
 null-row-wider wView = refl
 null-row-wider (wListView w w′ ww d) = refl
+null-row-wider (wList w w′ ww d) = refl
 null-row-wider (wSparse ids {nullable} {nullable′} {f} {f′} n d) =
     rw (← home-alike nullable nullable′ ids n)
     (union-null-same ids (λ c. nullRow (f c)) (λ c. nullRow (f′ c)) (home nullable ids) (home-in nullable ids) (λ e m. null-row-wider (d e (declares e ids m))))

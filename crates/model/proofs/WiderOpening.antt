@@ -14,7 +14,7 @@ use Rattle.columnar.specs.Array.{Array, Obeys}
 use Rattle.columnar.specs.Plain.{PlainBody, PlainRule}
 use Rattle.columnar.specs.Dictionary.{Dictionary}
 use Rattle.columnar.specs.Reading.{Column, Source}
-use Rattle.columnar.specs.Wider.{PlainWider, Wider, wPlain, wView, wListView, wSparse, wDense, wRunEnd, wDictionary, Kept, PlainKept, Stored, Shares, SharedAlike, Again}
+use Rattle.columnar.specs.Wider.{PlainWider, Wider, wPlain, wView, wListView, wList, wSparse, wDense, wRunEnd, wDictionary, Kept, PlainKept, Stored, Shares, SharedAlike, Again}
 use Rattle.columnar.proofs.Kept.{obeys-kept}
 use Rattle.columnar.proofs.WiderKinds.{plain-widens, declares}
 use Rattle.model.specs.Try.{Try, done, stop, then}
@@ -183,6 +183,8 @@ open-again : {t t′ : Ty} (d : Wider t t′) → Formed t → Formed t′ → (
 open-again (wPlain d) f f′ m ss ss′ h a s = same tt
 open-again wView f f′ m ss ss′ h a s = same tt
 open-again (wListView w w′ ww d) f f′ m ss ss′ h a s =
+    open-again d (f .1) (f′ .1) m (λ i. ss i .body .child) (λ i. ss′ i .body .child) (λ i q. h i q .same-body .same-child) a (λ i q. s i q .slots .child-rule)
+open-again (wList w w′ ww d) f f′ m ss ss′ h a s =
     open-again d (f .1) (f′ .1) m (λ i. ss i .body .child) (λ i. ss′ i .body .child) (λ i q. h i q .same-body .same-child) a (λ i q. s i q .slots .child-rule)
 open-again (wSparse ids e d) f f′ m ss ss′ h a s =
     follows-open ids _ _

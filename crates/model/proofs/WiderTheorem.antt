@@ -8,7 +8,7 @@ use Prim.Native.Nat.{ℕ, _≤_, _<_}
 use lib.ListN.{length}
 use Rattle.columnar.specs.Types.{Ty}
 use Rattle.columnar.specs.Formed.{Formed}
-use Rattle.columnar.specs.Wider.{Wider, wPlain, wView, wListView, wSparse, wDense, wRunEnd, wDictionary, Stored, Again}
+use Rattle.columnar.specs.Wider.{Wider, wPlain, wView, wListView, wList, wSparse, wDense, wRunEnd, wDictionary, Stored, Again}
 use Rattle.columnar.specs.Reading.{Column, readAll}
 use Rattle.columnar.proofs.WiderKinds.{declares}
 use Rattle.columnar.proofs.Wider.{again-sources}
@@ -28,6 +28,7 @@ few-wider : {t t′ : Ty} (d : Wider t t′) (x : Column t) (x′ : Column t′)
 few-wider (wPlain d) x x′ h v = tt
 few-wider wView x x′ h v = rw (← h .same-body .same-buffers) v
 few-wider (wListView n n′ e d) x x′ h v = few-wider d (x .body .child) (x′ .body .child) (h .same-body .same-child) v
+few-wider (wList n n′ e d) x x′ h v = few-wider d (x .body .child) (x′ .body .child) (h .same-body .same-child) v
 few-wider (wSparse ids e d) x x′ h v = λ c q.
     few-wider (d c (declares c ids q)) (x .body .children c) (x′ .body .children c) (h .same-body .same-children c (declares c ids q)) (v c q)
 few-wider (wDense ids e d) x x′ h v = λ c q.

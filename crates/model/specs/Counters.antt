@@ -6,7 +6,7 @@ use mathlib.Core.Bool.{Bool, true, false}
 use mathlib.Core.Option.{Option, none, some}
 use mathlib.Core.List.{List, List·Memᴰ}
 use Prim.Native.Nat.{ℕ, zero, suc}
-use Rattle.columnar.specs.Types.{Ty, tPlain, tView, tListView, tSparse, tDense, tRunEnd, tDictionary}
+use Rattle.columnar.specs.Types.{Ty, tPlain, tView, tListView, tList, tSparse, tDense, tRunEnd, tDictionary}
 use Rattle.columnar.specs.Array.{Array, nullCount}
 use Rattle.columnar.specs.Plain.{PlainBody}
 use Rattle.columnar.specs.Reading.{Body, Column, masks}
@@ -45,6 +45,7 @@ abbrev pub ByCounters : (t : Ty) → ℕ → (ℕ → Body t) → Grown t → Bo
 ByCounters (tPlain p) = λ m ss. Bare
 ByCounters tView = λ m ss. Bare
 ByCounters (tListView w t) = λ m ss d b. ByCounter (masks t) (ByCounters t m (λ i. ss i .child .body)) (d .child) (b .child)
+ByCounters (tList w t) = λ m ss d b. ByCounter (masks t) (ByCounters t m (λ i. ss i .child .body)) (d .child) (b .child)
 ByCounters (tSparse ids nullable f) = λ m ss d b. (c : ℕ) → List·Memᴰ c ids → ByCounter (masks (f c)) (ByCounters (f c) m (λ i. ss i .children c .body)) (d .children c) (b .children c)
 ByCounters (tDense ids nullable f) = λ m ss d b. (c : ℕ) → List·Memᴰ c ids → ByCounter (masks (f c)) (ByCounters (f c) m (λ i. ss i .children c .body)) (d .children c) (b .children c)
 ByCounters (tRunEnd w t) = λ m ss d b. ByCounter true Bare (d .ends) (b .ends) × ByCounter (masks t) (ByCounters t m (λ i. ss i .values .body)) (d .values) (b .values)

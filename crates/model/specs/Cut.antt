@@ -3,12 +3,12 @@
 use mathlib.Core.Path.{_≡_}
 use mathlib.Core.List.{List·Memᴰ}
 use Prim.Native.Nat.{ℕ, suc, _≤_}
-use Rattle.columnar.specs.Types.{Plain, fixed, string, Ty, tPlain, tView, tListView, tSparse, tDense, tRunEnd, tDictionary}
+use Rattle.columnar.specs.Types.{Plain, fixed, string, Ty, tPlain, tView, tListView, tList, tSparse, tDense, tRunEnd, tDictionary}
 use Rattle.columnar.specs.Array.{Array}
 use Rattle.columnar.specs.Reading.{Body, Column}
 use Rattle.model.specs.Grounds.{Counts, rowsOf, bytesOf, kidOf}
 
--- where a node stands: below no run-end node; below one; below a list-view that itself stands below one
+-- where a node stands: below no run-end node; below one; below a list-view or list that itself stands below one
 pub data Under : Type 0 where
   outside : Under
   inRuns : Under
@@ -45,13 +45,14 @@ abbrev pub CutBelow : (t : Ty) → Under → Counts → Counts → Type 0
 CutBelow (tPlain p) u x y = CutPlain p x y
 CutBelow tView u x y = Unit {0}
 CutBelow (tListView w t) u x y = CutNode (CutBelow t (underList u)) (kidOf x 0) (kidOf y 0)
+CutBelow (tList w t) u x y = CutNode (CutBelow t (underList u)) (kidOf x 0) (kidOf y 0)
 CutBelow (tSparse ids nullable f) u x y = (e : ℕ) → List·Memᴰ e ids → CutNode (CutBelow (f e) u) (kidOf x e) (kidOf y e)
 CutBelow (tDense ids nullable f) u x y = (e : ℕ) → CutNode (CutBelow (f e) u) (kidOf x e) (kidOf y e)
 CutBelow (tRunEnd w t) u x y = OneRunMore u (rowsOf (kidOf x 0)) (rowsOf (kidOf y 0)) × CutNode (CutBelow t (underRuns u)) (kidOf x 0) (kidOf y 0)
 CutBelow (tDictionary k p) u x y = Unit {0}
 
 -- WHAT IS HELD AFTER THE SINGLE ORDER AND AFTER ITS HALVES: no node of the single order has more, and of the halves no run-end node has
--- more than one run more, but for those below a list-view that itself stands below a run-end node
+-- more than one run more, but for those below a list-view or list that itself stands below a run-end node
 abbrev pub Cut : Ty → Under → Counts → Counts → Type 0
 Cut t u = CutNode (CutBelow t u)
 
@@ -60,6 +61,7 @@ abbrev pub RunsCut : (t : Ty) → Under → Body t → Body t → Type 0
 RunsCut (tPlain p) u x y = Unit {0}
 RunsCut tView u x y = Unit {0}
 RunsCut (tListView w t) u x y = RunsCut t (underList u) (x .child .body) (y .child .body)
+RunsCut (tList w t) u x y = RunsCut t (underList u) (x .child .body) (y .child .body)
 RunsCut (tSparse ids nullable f) u x y = (e : ℕ) → List·Memᴰ e ids → RunsCut (f e) u (x .children e .body) (y .children e .body)
 RunsCut (tDense ids nullable f) u x y = (e : ℕ) → List·Memᴰ e ids → RunsCut (f e) u (x .children e .body) (y .children e .body)
 RunsCut (tRunEnd w t) u x y = OneRunMore u (x .ends .len) (y .ends .len) × RunsCut t (underRuns u) (x .values .body) (y .values .body)
@@ -70,6 +72,7 @@ abbrev pub NoRuns : Ty → Type 0
 NoRuns (tPlain p) = Unit {0}
 NoRuns tView = Unit {0}
 NoRuns (tListView w t) = NoRuns t
+NoRuns (tList w t) = NoRuns t
 NoRuns (tSparse ids nullable f) = (e : ℕ) → List·Memᴰ e ids → NoRuns (f e)
 NoRuns (tDense ids nullable f) = (e : ℕ) → List·Memᴰ e ids → NoRuns (f e)
 NoRuns (tRunEnd w t) = ⊥
@@ -87,6 +90,7 @@ abbrev pub SameBody : (t : Ty) → Body t → Body t → Type 0
 SameBody (tPlain p) x y = x ≡ y
 SameBody tView x y = x ≡ y
 SameBody (tListView w t) x y = (x .offsets ≡ y .offsets) × (x .sizes ≡ y .sizes) × SameArray (SameBody t) (x .child) (y .child)
+SameBody (tList w t) x y = (x .offsets ≡ y .offsets) × SameArray (SameBody t) (x .child) (y .child)
 SameBody (tSparse ids nullable f) x y = (x .ids ≡ y .ids) × ((e : ℕ) → List·Memᴰ e ids → SameArray (SameBody (f e)) (x .children e) (y .children e))
 SameBody (tDense ids nullable f) x y =
     (x .ids ≡ y .ids) × (x .positions ≡ y .positions) × ((e : ℕ) → List·Memᴰ e ids → SameArray (SameBody (f e)) (x .children e) (y .children e))

@@ -5,11 +5,12 @@ use mathlib.Core.List.{List, [], _∷_}
 use Prim.Native.Nat.{ℕ, zero, suc, _+_, _-_, _*_, _≤_, _<_}
 use lib.ListN.{length, getD}
 use lib.Dec.{ltb, leb, eqb}
-use Rattle.columnar.specs.Types.{Plain, fixed, string, half, Ty, tPlain, tView, tListView, tSparse, tDense, tRunEnd, tDictionary}
+use Rattle.columnar.specs.Types.{Plain, fixed, string, half, Ty, tPlain, tView, tListView, tList, tSparse, tDense, tRunEnd, tDictionary}
 use Rattle.columnar.specs.Array.{Array, item}
 use Rattle.columnar.specs.Plain.{Text, PlainBody}
 use Rattle.columnar.specs.View.{Views}
 use Rattle.columnar.specs.ListView.{ListView}
+use Rattle.columnar.specs.List.{Listed}
 use Rattle.columnar.specs.Union.{Sparse, Dense}
 use Rattle.columnar.specs.RunEnd.{RunEnd, endOf, firstAbove}
 use Rattle.columnar.specs.Dictionary.{Dictionary}
@@ -65,6 +66,14 @@ listViewRow w ask b i c =
 abbrev pub listViewAsk : {P : Type 0} → ℕ → (P → Ask) → ListView P → Ask
 listViewAsk w ask b a n c = stepsT (listViewRow w ask b) a n c
 
+-- the offsets of all rows, which never fall, by their last; then the child; a copy of no rows adds nothing
+abbrev pub listAsk : {P : Type 0} → ℕ → (P → Ask) → Listed P → Ask
+listAsk w ask b a zero c = done c
+listAsk w ask b a (suc n) c =
+    let y = item w (b .offsets) (a + suc n) - item w (b .offsets) a in
+    guard (ltb (rowsOf (kidOf c 0) + y) (half w)) 6
+    (then (askOf ask (b .child) (item w (b .offsets) a) y (kidOf c 0)) (λ k. done (counts (rowsOf c + suc n) 0 (λ e. k))))
+
 -- each of the children in order: the first refusal, or done
 abbrev pub each : (ℕ → Try Counts) → List ℕ → Try Counts → Try Counts
 each f [] t = t
@@ -117,6 +126,7 @@ abbrev pub askCopy : (t : Ty) → Body t → Ask
 askCopy (tPlain p) = plainAsk p
 askCopy tView = λ b a n c. moreRows n c
 askCopy (tListView w t) = listViewAsk w (askCopy t)
+askCopy (tList w t) = listAsk w (askCopy t)
 askCopy (tSparse ids nullable f) = sparseAsk ids (λ c. askCopy (f c))
 askCopy (tDense ids nullable f) = denseAsk (λ c. askCopy (f c))
 askCopy (tRunEnd w t) = runEndAsk w (askCopy t)
@@ -157,6 +167,7 @@ abbrev pub nullsAsk : Ty → AskNulls
 nullsAsk (tPlain p) = plainNulls p
 nullsAsk tView = moreRows
 nullsAsk (tListView w t) = λ n c. done (counts (rowsOf c + n) 0 (kidOf c))
+nullsAsk (tList w t) = λ n c. done (counts (rowsOf c + n) 0 (kidOf c))
 nullsAsk (tSparse ids nullable f) = sparseNulls ids nullable (λ e. unlessNone (nullsAsk (f e)))
 nullsAsk (tDense ids nullable f) = denseNulls ids nullable (λ e. unlessNone (nullsAsk (f e)))
 nullsAsk (tRunEnd w t) = runEndNulls w (unlessNone (nullsAsk t))
@@ -171,6 +182,7 @@ abbrev pub startCounts : Ty → Counts
 startCounts (tPlain p) = counts 0 0 leaf
 startCounts tView = counts 0 0 leaf
 startCounts (tListView w t) = counts 0 0 (λ e. startCounts t)
+startCounts (tList w t) = counts 0 0 (λ e. startCounts t)
 startCounts (tSparse ids nullable f) = counts 0 0 (among ids (λ e. startCounts (f e)))
 startCounts (tDense ids nullable f) = counts 0 0 (among ids (λ e. startCounts (f e)))
 startCounts (tRunEnd w t) = counts 0 0 (λ e. startCounts t)

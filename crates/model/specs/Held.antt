@@ -2,7 +2,7 @@
 use mathlib.Core.List.{List}
 use Prim.Native.Nat.{ℕ}
 use lib.ListN.{length}
-use Rattle.columnar.specs.Types.{Plain, fixed, string, Ty, tPlain, tView, tListView, tSparse, tDense, tRunEnd, tDictionary}
+use Rattle.columnar.specs.Types.{Plain, fixed, string, Ty, tPlain, tView, tListView, tList, tSparse, tDense, tRunEnd, tDictionary}
 use Rattle.columnar.specs.Plain.{PlainBody}
 use Rattle.model.specs.Grounds.{Counts, counts, leaf, among}
 use Rattle.model.specs.Mutable.{Mutable}
@@ -20,6 +20,7 @@ abbrev pub heldData : (t : Ty) → Grown t → ℕ → Counts
 heldData (tPlain p) = heldPlain p
 heldData tView = λ d l. counts l 0 leaf
 heldData (tListView w t) = λ d l. counts l 0 (λ e. heldNode (heldData t) (d .child))
+heldData (tList w t) = λ d l. counts l 0 (λ e. heldNode (heldData t) (d .child))
 heldData (tSparse ids nullable f) = λ d l. counts l 0 (among ids (λ e. heldNode (heldData (f e)) (d .children e)))
 heldData (tDense ids nullable f) = λ d l. counts l 0 (among ids (λ e. heldNode (heldData (f e)) (d .children e)))
 heldData (tRunEnd w t) = λ d l. counts l 0 (λ e. heldNode (heldData t) (d .values))

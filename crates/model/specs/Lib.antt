@@ -8,6 +8,7 @@ pub mod Opening
 pub mod Mutable
 pub mod Primitive
 pub mod ListViews
+pub mod Lists
 pub mod Unions
 pub mod Runs
 pub mod Transform

@@ -3,7 +3,7 @@ use mathlib.Core.Bool.{Bool, true, false}
 use mathlib.Core.List.{List, [], _∷_}
 use Prim.Native.Nat.{ℕ}
 use Rattle.columnar.specs.Row.{Row, null, union}
-use Rattle.columnar.specs.Types.{Ty, tPlain, tView, tListView, tSparse, tDense, tRunEnd, tDictionary}
+use Rattle.columnar.specs.Types.{Ty, tPlain, tView, tListView, tList, tSparse, tDense, tRunEnd, tDictionary}
 use Rattle.model.specs.Try.{Try, done, stop}
 
 abbrev pub firstNullable : (ℕ → Bool) → List ℕ → Try ℕ
@@ -25,6 +25,7 @@ abbrev pub nullRow : Ty → Row
 nullRow (tPlain p) = null
 nullRow tView = null
 nullRow (tListView w t) = null
+nullRow (tList w t) = null
 nullRow (tSparse ids nullable f) = unionNull (λ c. nullRow (f c)) (home nullable ids)
 nullRow (tDense ids nullable f) = unionNull (λ c. nullRow (f c)) (home nullable ids)
 nullRow (tRunEnd w t) = nullRow t

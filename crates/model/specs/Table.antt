@@ -1,4 +1,4 @@
--- The starred rows K1 to K12 of 01's table of checked rows, K16 and K17: what the definitions give, and what 01 says. Assumes nothing.
+-- The starred rows K1 to K12 of 01's table of checked rows, K16, K17, and K18 of lists (02, W4): what the definitions give, and what 01 says. Assumes nothing.
 use mathlib.Core.Bool.{Bool, true, false, cond}
 use mathlib.Core.Option.{Option, none, some}
 use mathlib.Core.List.{List, [], _∷_, _++_}
@@ -6,7 +6,7 @@ use Prim.Native.Nat.{ℕ, zero, suc, _+_, _*_}
 use lib.ListN.{replicate}
 use Rattle.number.specs.Number.{encode}
 use Rattle.columnar.specs.Row.{seg}
-use Rattle.columnar.specs.Types.{Number, i8, u8, i32, Plain, fixed, string, Ty, tPlain, tListView, tDense, tRunEnd, tDictionary}
+use Rattle.columnar.specs.Types.{Number, i8, u8, i32, Plain, fixed, string, Ty, tPlain, tListView, tList, tDense, tRunEnd, tDictionary}
 use Rattle.columnar.specs.Array.{Array, item, nullCount}
 use Rattle.columnar.specs.Plain.{Text}
 use Rattle.columnar.specs.ListView.{ListView}
@@ -182,7 +182,7 @@ keysShown ss d =
 abbrev pub k17 : Column named → Column named → Try (List ℕ)
 k17 x y = let ss = sources x (y ∷ []) in mapTry (keysShown ss) (joined named false 2 ss (copy 1 0 3 ∷ []))
 
--- ---- list-views and dense unions: K11, K12
+-- ---- list-views: K11
 
 -- over a child of 10 rows; and one row that is all of such a child
 abbrev pub listsOf : ℕ → List ℕ → List ℕ → Column (tListView 4 (tPlain (fixed u8)))
@@ -205,6 +205,24 @@ listsShown d = decoded 4 (d .«data» .buffer1) (d .len) ++ decoded 4 (d .«data
 
 abbrev pub k11 : Column (tListView 4 (tPlain (fixed u8))) → Try (List ℕ)
 k11 x = mapTry listsShown (joined (tListView 4 (tPlain (fixed u8))) false 2 (sources x (listTen ∷ [])) (copy 1 0 1 ∷ copy 0 0 (x .len) ∷ []))
+
+-- ---- lists: K18
+
+-- offsets 0, 2, 2, 5 over a child of 5 rows; and one row of ten
+abbrev pub trips : Column (tList 4 (tPlain (fixed u8)))
+trips = whole 3 (record { offsets = coded 4 (0 ∷ 2 ∷ 2 ∷ 5 ∷ []); child = whole 5 (seg (λ i. i) 0 5) })
+
+abbrev pub tripTen : Column (tList 4 (tPlain (fixed u8)))
+tripTen = whole 1 (record { offsets = coded 4 (0 ∷ 10 ∷ []); child = whole 10 (replicate 10 7) })
+
+-- the offsets, then the child's rows
+abbrev pub tripsShown : Destination (tList 4 (tPlain (fixed u8))) → List ℕ
+tripsShown d = decoded 4 (d .«data» .buffer1) (suc (d .len)) ++ d .«data» .child .«data»
+
+abbrev pub k18 : List Call → Try (List ℕ)
+k18 os = mapTry tripsShown (joined (tList 4 (tPlain (fixed u8))) true 2 (sources trips (tripTen ∷ [])) (copy 1 0 1 ∷ copy 0 1 3 ∷ os))
+
+-- ---- dense unions: K12
 
 abbrev pub fives : Ty
 fives = tDense (5 ∷ 7 ∷ []) (λ c. true) (λ c. tPlain (fixed u8))
@@ -253,6 +271,8 @@ given =
     ∷ k17 depot drivers  -- K17
     ∷ k17 depot driversSliced
     ∷ k17 driversSliced driversSliced  -- shared: the dictionary is kept
+    ∷ k18 []  -- K18
+    ∷ k18 (nulls 2 ∷ [])
     ∷ []
 
 -- and what 01 says, with what stood there before
@@ -281,6 +301,8 @@ expected =
     ∷ done (2 ∷ 3 ∷ 4 ∷ 0 ∷ 0 ∷ 1 ∷ 4 ∷ 65 ∷ 110 ∷ 97 ∷ 0 ∷ 3 ∷ 66 ∷ 111 ∷ [])  -- Ana, null, Bo
     ∷ done (2 ∷ 3 ∷ 4 ∷ 0 ∷ 0 ∷ 1 ∷ 4 ∷ 65 ∷ 110 ∷ 97 ∷ 0 ∷ 3 ∷ 66 ∷ 111 ∷ [])
     ∷ done (0 ∷ 1 ∷ 2 ∷ 0 ∷ 0 ∷ 1 ∷ 4 ∷ 65 ∷ 110 ∷ 97 ∷ 0 ∷ 3 ∷ 66 ∷ 111 ∷ [])
+    ∷ done (0 ∷ 10 ∷ 10 ∷ 13 ∷ replicate 10 7 ++ (2 ∷ 3 ∷ 4 ∷ []))
+    ∷ done (0 ∷ 10 ∷ 10 ∷ 13 ∷ 13 ∷ 13 ∷ replicate 10 7 ++ (2 ∷ 3 ∷ 4 ∷ []))
     ∷ []
 
 -- ---- ground 12 of every source above: each obeys the rules of a source
@@ -312,4 +334,6 @@ obeyed =
     ∷ test named drivers
     ∷ test named driversSliced
     ∷ test named depot
+    ∷ test (tList 4 (tPlain (fixed u8))) trips
+    ∷ test (tList 4 (tPlain (fixed u8))) tripTen
     ∷ []

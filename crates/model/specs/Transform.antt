@@ -6,7 +6,8 @@ use mathlib.Core.List.{List, [], _∷_, _++_}
 use Prim.Native.Nat.{ℕ, zero, suc, _+_, _-_, _*_}
 use lib.ListN.{length, replicate}
 use lib.Dec.{ltb, leb}
-use Rattle.columnar.specs.Types.{Number, width, Plain, Ty, tPlain, tView, tListView, tSparse, tDense, tRunEnd, tDictionary}
+use Rattle.number.specs.Number.{encode}
+use Rattle.columnar.specs.Types.{Number, width, Plain, Ty, tPlain, tView, tListView, tList, tSparse, tDense, tRunEnd, tDictionary}
 use Rattle.columnar.specs.Array.{Array}
 use Rattle.columnar.specs.Plain.{PlainBody}
 use Rattle.columnar.specs.View.{Views}
@@ -17,6 +18,7 @@ use Rattle.model.specs.Opening.{present, keeps, shared, allKeysFit}
 use Rattle.model.specs.Mutable.{Mutable, keepsBits, extendNode, nullsNode, startNode, freezeNode}
 use Rattle.model.specs.Primitive.{plainExtend, plainNull, plainStart, viewExtend, buffersBefore, keysExtend}
 use Rattle.model.specs.ListViews.{Lists, listExtend, listNulls, listFreeze}
+use Rattle.model.specs.Lists.{Listings, listsExtend, listsNulls, listsFreeze}
 use Rattle.model.specs.Unions.{Sparses, Denses, inOrder, sparseExtend, denseExtend, sparseNull, denseNull, sparseFreeze, denseFreeze}
 use Rattle.model.specs.Runs.{Runs, runsExtend, runsNull, runsFreeze}
 
@@ -25,6 +27,7 @@ abbrev pub Grown : Ty → Type 0
 Grown (tPlain p) = PlainBody p
 Grown tView = List ℕ
 Grown (tListView w t) = Lists (Grown t)
+Grown (tList w t) = Listings (Grown t)
 Grown (tSparse ids nullable f) = Sparses (λ c. Grown (f c))
 Grown (tDense ids nullable f) = Denses (λ c. Grown (f c))
 Grown (tRunEnd w t) = Runs (Grown t)
@@ -38,6 +41,7 @@ abbrev pub extendData : (t : Ty) → ℕ → (ℕ → Body t) → ℕ → ℕ �
 extendData (tPlain p) = λ m ss j a n l d. plainExtend p (ss j) a n l d
 extendData tView = λ m ss j a n l d. viewExtend ss j a n l d
 extendData (tListView w t) = λ m ss j a n l d. listExtend w (extendNode (masks t) (extendData t m) (λ i. ss i .child) j) (ss j) a n d
+extendData (tList w t) = λ m ss j a n l d. listsExtend w (extendNode (masks t) (extendData t m) (λ i. ss i .child) j) (ss j) a n l d
 extendData (tSparse ids nullable f) = λ m ss j a n l d. sparseExtend ids (λ c. extendNode (masks (f c)) (extendData (f c) m) (λ i. ss i .children c) j) (ss j) a n d
 extendData (tDense ids nullable f) = λ m ss j a n l d. denseExtend (λ c. extendNode (masks (f c)) (extendData (f c) m) (λ i. ss i .children c) j) (ss j) a n d
 extendData (tRunEnd w t) = λ m ss j a n l d. runsExtend w (extendNode (masks t) (extendData t m) (λ i. ss i .values) j) (ss j) a n d
@@ -50,6 +54,7 @@ abbrev pub nullsData : (t : Ty) → ℕ → ℕ → Grown t → Try (Grown t)
 nullsData (tPlain p) = λ n l d. plainNull p n l d
 nullsData tView = λ n l d. done (d ++ replicate (n * 16) 0)
 nullsData (tListView w t) = λ n l d. listNulls w n d
+nullsData (tList w t) = λ n l d. listsNulls w n l d
 nullsData (tSparse ids nullable f) = λ n l d. sparseNull ids nullable (λ c. nullsNode (masks (f c)) (nullsData (f c))) n d
 nullsData (tDense ids nullable f) = λ n l d. denseNull ids nullable (λ c. nullsNode (masks (f c)) (nullsData (f c))) n d
 nullsData (tRunEnd w t) = λ n l d. runsNull w (nullsNode (masks t) (nullsData t)) n d
@@ -82,16 +87,18 @@ abbrev pub openData : (t : Ty) → ℕ → (ℕ → Body t) → Try (Unit {0})
 openData (tPlain p) = λ m ss. done tt
 openData tView = λ m ss. done tt
 openData (tListView w t) = λ m ss. openData t m (λ i. ss i .child .body)
+openData (tList w t) = λ m ss. openData t m (λ i. ss i .child .body)
 openData (tSparse ids nullable f) = λ m ss. openAll ids (λ c. openData (f c) m (λ i. ss i .children c .body))
 openData (tDense ids nullable f) = λ m ss. openAll ids (λ c. openData (f c) m (λ i. ss i .children c .body))
 openData (tRunEnd w t) = λ m ss. openData t m (λ i. ss i .values .body)
 openData (tDictionary k p) = λ m ss. then (theDictionary p m ss) (λ v. guard (allKeysFit k m m ss) 8 (done tt))
 
--- a node with no rows that keeps nulls or not; "this passes to union, list-view and run-value children, not to run ends and dictionaries"
+-- a node with no rows that keeps nulls or not; "this passes to union, list-view and run-value children, not to run ends and dictionaries"; a list's child keeps too
 abbrev pub startData : (t : Ty) → Bool → ℕ → (ℕ → Body t) → Grown t
 startData (tPlain p) = λ u m ss. plainStart p
 startData tView = λ u m ss. []
 startData (tListView w t) = λ u m ss. record { buffer1 = []; buffer2 = []; child = startNode (keeps u m (λ i. ss i .child)) (startData t (keeps u m (λ i. ss i .child)) m (λ i. ss i .child .body)) }
+startData (tList w t) = λ u m ss. record { buffer1 = encode w 0; child = startNode (keeps u m (λ i. ss i .child)) (startData t (keeps u m (λ i. ss i .child)) m (λ i. ss i .child .body)) }
 startData (tSparse ids nullable f) = λ u m ss. record { buffer1 = []; children = λ c. startNode (keeps u m (λ i. ss i .children c)) (startData (f c) (keeps u m (λ i. ss i .children c)) m (λ i. ss i .children c .body)) }
 startData (tDense ids nullable f) = λ u m ss. record { buffer1 = []; buffer2 = []; children = λ c. startNode (keeps u m (λ i. ss i .children c)) (startData (f c) (keeps u m (λ i. ss i .children c)) m (λ i. ss i .children c .body)) }
 startData (tRunEnd w t) = λ u m ss. record { ends = startNode false []; values = startNode (keeps u m (λ i. ss i .values)) (startData t (keeps u m (λ i. ss i .values)) m (λ i. ss i .values .body)) }
@@ -105,6 +112,7 @@ abbrev pub freezeData : (t : Ty) → ℕ → (ℕ → Body t) → Grown t → Bo
 freezeData (tPlain p) = λ m ss d. d
 freezeData tView = λ m ss d. record { views = d; buffers = buffersBefore ss m }
 freezeData (tListView w t) = λ m ss d. listFreeze (freezeNode (masks t) (freezeData t m (λ i. ss i .child .body))) d
+freezeData (tList w t) = λ m ss d. listsFreeze (freezeNode (masks t) (freezeData t m (λ i. ss i .child .body))) d
 freezeData (tSparse ids nullable f) = λ m ss d. sparseFreeze (λ c. freezeNode (masks (f c)) (freezeData (f c) m (λ i. ss i .children c .body))) d
 freezeData (tDense ids nullable f) = λ m ss d. denseFreeze (λ c. freezeNode (masks (f c)) (freezeData (f c) m (λ i. ss i .children c .body))) d
 freezeData (tRunEnd w t) = λ m ss d. runsFreeze (freezeNode (masks t) (freezeData t m (λ i. ss i .values .body))) d

@@ -11,9 +11,9 @@ use lib.Dec.{leb, ltb, eqb}
 use borrow.Author.Tests.{not-true, not-false, le-leb, lt-leb, leb-true, leb-false, eq-eqb, ne-eqb, eqb-true, eqb-false}
 use Rattle.columnar.specs.Types.{Number, width, fixed, string}
 use Rattle.columnar.specs.Array.{Array, ok}
-use Rattle.columnar.specs.Test.{same, plainTest, offsetsTest, listViewTest, arrayTest}
+use Rattle.columnar.specs.Test.{same, plainTest, offsetsRule, listViewTest, listTest, arrayTest}
 use Rattle.array_data.specs.Tables.{Tables, lengthOf, offsetOf, validOf, place, held, validIn, inBody, firstBuffer, part}
-use Rattle.array_data.specs.Rules.{childOf, oneIn, twoIn, fixedRule, stringRule, listViewRule}
+use Rattle.array_data.specs.Rules.{childOf, oneIn, twoIn, fixedRule, stringRule, listViewRule, listRule}
 use Rattle.row_rules.proofs.Links.{length-part, offsets-test, list-view-test}
 use Rattle.lent_tables.specs.Lent.{maskOf}
 use Rattle.lent_tables.proofs.Laws.{first-in, two-one, second-in}
@@ -34,19 +34,22 @@ choose true e false f g h d = g refl
 choose false e true f g h d = rw (h refl) d
 choose false e false f g h d = d
 
-module _ (w : ℕ) (s : List ℕ) (start size begin room : ℕ) (inside : start + size ≤ length s) (within : begin + room ≤ length s) where
-  pub string-test : 0 < w → (good : ℕ → Bool) (off len : ℕ)
-      → plainTest (string w) good (record { offsets = part s start size; chars = part s begin room }) off len ≡ stringRows w s start size off len room
+module _ (w : ℕ) (s : List ℕ) (start size : ℕ) (inside : start + size ≤ length s) where
+  offsets-rule : 0 < w → (most off len : ℕ) → offsetsRule w (part s start size) most off len ≡ stringRows w s start size off len most
   unfolding stringRows
-  string-test h good off len =
-      let t = offsets-test w s start size inside (record { offsets = part s start size; chars = part s begin room }) refl off len in
-      let l : length (part s begin room) ≡ room = length-part w s begin room within in
+  offsets-rule h most off len =
+      let t = offsets-test w s start size inside (part s start size) most refl off len in
       let m : length (part s start size) ≡ size = length-part w s start size inside in
       choose (eqb size 0) (same (part s start size) []) (eqb len 0)
       (λ z. let q : size ≡ 0 = eqb-true size 0 z in rw q)
       (λ z. let q : size ≡ 0 = eqb-true size 0 z in t ∙ rw (lt-leb ((off + len + 1) * w) size (rw q (mul-pos (omega arith) h))))
       (λ z. same-some (part s start size) (rw m (pos-of-ne-zero (eqb-false size 0 z))))
-      (t ∙ rw l)
+      t
+
+module _ (w : ℕ) (s : List ℕ) (start size begin room : ℕ) (inside : start + size ≤ length s) (within : begin + room ≤ length s) where
+  pub string-test : 0 < w → (good : ℕ → Bool) (off len : ℕ)
+      → plainTest (string w) good (record { offsets = part s start size; chars = part s begin room }) off len ≡ stringRows w s start size off len room
+  string-test h good off len = let l : length (part s begin room) ≡ room = length-part w s begin room within in rw l (offsets-rule w s start size inside h room off len)
 
   pub list-view-rows : {P : Type 0} (good : ℕ → Bool) (off len : ℕ) (child : Array P)
       → listViewTest w (λ c. true) good (record { offsets = part s start size; sizes = part s begin room; child = child }) off len
@@ -73,6 +76,17 @@ module _ (x : Tables) (k : ℕ) where
       let f : r ≡ stringRows w (x .body) (place x k 3) (place x k 4) (offsetOf x k) (lengthOf x k) (place x k 6) = rw (a, b, c, d, l) at e in
       rw (h, m)
       (f ∙ sym (string-test w (x .body) (place x k 3) (place x k 4) (place x k 5) (place x k 6) (first-in x k (two-one x k h)) (second-in x k h) p (ok (validOf x k)) (offsetOf x k) (lengthOf x k)))
+
+  -- lists; the child is the next node
+  pub list-last : (w : ℕ) {r : Bool} {start size off len child : ℕ} → 0 < w → oneIn x k ≡ true → maskOf x k true ≡ true
+      → r ≡ stringRows w (x .body) start size off len child
+      → start ≡ place x k 3 → size ≡ place x k 4 → off ≡ offsetOf x k → len ≡ lengthOf x k → child ≡ lengthOf x (k + 1) → r ≡ listRule x k w
+  list-last w {r} p h m e a b d l g =
+      let f : r ≡ stringRows w (x .body) (place x k 3) (place x k 4) (offsetOf x k) (lengthOf x k) (lengthOf x (suc k)) = rw (a, b, d, l, g, add-one k) at e in
+      rw (h, m)
+      (f
+      ∙ sym (and-true (stringRows w (x .body) (place x k 3) (place x k 4) (offsetOf x k) (lengthOf x k) (lengthOf x (suc k))))
+      ∙ sym (ap (λ b. b && true) (offsets-rule w (x .body) (place x k 3) (place x k 4) (first-in x k h) p (lengthOf x (suc k)) (offsetOf x k) (lengthOf x k))))
 
   -- list-views; the child is the next node
   pub list-view-last : (w : ℕ) {r : Bool} {start size begin room off len child : ℕ} → twoIn x k ≡ true → maskOf x k true ≡ true

@@ -8,7 +8,7 @@ ghost use lib.ListN.{length, getD};
 ghost use lib.Dec.{leb};
 ghost use Rattle.columnar.specs.Types.{Number, width};
 ghost use Rattle.array_data.specs.Tables.{part, lengthOf, offsetOf, place, held, inBody, validIn};
-ghost use Rattle.array_data.specs.Rules.{oneIn, twoIn, fixedRule, stringRule, listViewRule, runEndRule};
+ghost use Rattle.array_data.specs.Rules.{oneIn, twoIn, fixedRule, stringRule, listViewRule, listRule, runEndRule};
 ghost use Rattle.lent_tables.specs.Lent.{tables, Counted, maskOf};
 ghost use Rattle.node_rules.specs.Rows.{stringRows, viewsRows, startIn, validRows, runsValid, endsReach};
 
@@ -30,10 +30,10 @@ pub fn fixed_rule(lengths: &[u64], places: &[u32], body: &[u8], k: usize, w: u8)
     )
 }
 
-// The rows of a byte string whose offsets of 4 bytes are the range of `size` bytes from `start` on, over `chars` bytes of data.
-fn strings_i32(body: &[u8], start: u32, size: u32, off: u64, len: u64, chars: u32) -> bool
+// The rows of a byte string or list whose offsets of 4 bytes are the range of `size` bytes from `start` on, over `most` bytes of data or rows.
+fn strings_i32(body: &[u8], start: u32, size: u32, off: u64, len: u64, most: u64) -> bool
     requires { ⌜ (start + size ≤ length (now body)) × (off + len < 2 ^ 63) ⌝ }
-    ensures { λ r. ⌜ r ≡ stringRows 4 (now (body .entry)) start size off len chars ⌝ }
+    ensures { λ r. ⌜ r ≡ stringRows 4 (now (body .entry)) start size off len most ⌝ }
 {
     if size == 0 {
         return len == 0;
@@ -46,7 +46,7 @@ fn strings_i32(body: &[u8], start: u32, size: u32, off: u64, len: u64, chars: u3
     if !row_rules::offsets_i32(body, at, n) {
         return false;
     }
-    number::read_u32(body, at + 4 * n) <= chars
+    (number::read_u32(body, at + 4 * n) as u64) <= most
 }
 
 // The rule of a node of byte strings with offsets of 4 bytes.
@@ -65,13 +65,13 @@ pub fn string_rule_i32(lengths: &[u64], places: &[u32], body: &[u8], k: usize) -
     let chars = lent_tables::place(places, k, 6);
     let off = lent_tables::offset_of(lengths, k);
     let len = lent_tables::length_of(lengths, k);
-    strings_i32(body, start, size, off, len, chars)
+    strings_i32(body, start, size, off, len, chars as u64)
 }
 
-// The rows of a byte string whose offsets of 8 bytes are the range of `size` bytes from `start` on, over `chars` bytes of data.
-fn strings_i64(body: &[u8], start: u32, size: u32, off: u64, len: u64, chars: u32) -> bool
+// The rows of a byte string or list whose offsets of 8 bytes are the range of `size` bytes from `start` on, over `most` bytes of data or rows.
+fn strings_i64(body: &[u8], start: u32, size: u32, off: u64, len: u64, most: u64) -> bool
     requires { ⌜ (start + size ≤ length (now body)) × (off + len < 2 ^ 63) ⌝ }
-    ensures { λ r. ⌜ r ≡ stringRows 8 (now (body .entry)) start size off len chars ⌝ }
+    ensures { λ r. ⌜ r ≡ stringRows 8 (now (body .entry)) start size off len most ⌝ }
 {
     if size == 0 {
         return len == 0;
@@ -84,7 +84,7 @@ fn strings_i64(body: &[u8], start: u32, size: u32, off: u64, len: u64, chars: u3
     if !row_rules::offsets_i64(body, at, n) {
         return false;
     }
-    number::read_u64(body, at + 8 * n) <= (chars as u64)
+    number::read_u64(body, at + 8 * n) <= most
 }
 
 // The rule of a node of byte strings with offsets of 8 bytes.
@@ -103,7 +103,7 @@ pub fn string_rule_i64(lengths: &[u64], places: &[u32], body: &[u8], k: usize) -
     let chars = lent_tables::place(places, k, 6);
     let off = lent_tables::offset_of(lengths, k);
     let len = lent_tables::length_of(lengths, k);
-    strings_i64(body, start, size, off, len, chars)
+    strings_i64(body, start, size, off, len, chars as u64)
 }
 
 // The rows of a list-view whose offsets and sizes of 4 bytes are the ranges from `start` and from `begin` on, over `child` rows.
@@ -196,6 +196,44 @@ pub fn list_view_rule_i64(lengths: &[u64], places: &[u32], body: &[u8], k: usize
     let off = lent_tables::offset_of(lengths, k);
     let len = lent_tables::length_of(lengths, k);
     views_i64(body, start, size, begin, room, off, len, child)
+}
+
+// The rule of a list node with offsets of 4 bytes; its child is the next node.
+pub fn list_rule_i32(lengths: &[u64], places: &[u32], body: &[u8], k: usize) -> bool
+    requires { ⌜ Counted (tables (now lengths) (now places) (now body)) k × (k + 1 < 2 ^ 33) ⌝ }
+    ensures { λ r. ⌜ r ≡ listRule (tables (now (lengths .entry)) (now (places .entry)) (now (body .entry))) k 4 ⌝ }
+{
+    if !lent_tables::one_in(lengths, places, body, k) {
+        return false;
+    }
+    if !lent_tables::mask_holds(lengths, places, body, k, true) {
+        return false;
+    }
+    let start = lent_tables::place(places, k, 3);
+    let size = lent_tables::place(places, k, 4);
+    let child = lent_tables::length_of(lengths, k + 1);
+    let off = lent_tables::offset_of(lengths, k);
+    let len = lent_tables::length_of(lengths, k);
+    strings_i32(body, start, size, off, len, child)
+}
+
+// The rule of a list node with offsets of 8 bytes; its child is the next node.
+pub fn list_rule_i64(lengths: &[u64], places: &[u32], body: &[u8], k: usize) -> bool
+    requires { ⌜ Counted (tables (now lengths) (now places) (now body)) k × (k + 1 < 2 ^ 33) ⌝ }
+    ensures { λ r. ⌜ r ≡ listRule (tables (now (lengths .entry)) (now (places .entry)) (now (body .entry))) k 8 ⌝ }
+{
+    if !lent_tables::one_in(lengths, places, body, k) {
+        return false;
+    }
+    if !lent_tables::mask_holds(lengths, places, body, k, true) {
+        return false;
+    }
+    let start = lent_tables::place(places, k, 3);
+    let size = lent_tables::place(places, k, 4);
+    let child = lent_tables::length_of(lengths, k + 1);
+    let off = lent_tables::offset_of(lengths, k);
+    let len = lent_tables::length_of(lengths, k);
+    strings_i64(body, start, size, off, len, child)
 }
 
 // Where a range of the body begins, or the body's end where the range begins past it.

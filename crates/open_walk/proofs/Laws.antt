@@ -1,6 +1,6 @@
 -- The walk of an opening, by the ways that the code goes. Assumes nothing.
 use mathlib.Core.Path.{_≡_, refl, sym, ap, ap₂, subst, _∙_}
-use mathlib.Core.Bool.{Bool, true, false, not, cond, false≢true}
+use mathlib.Core.Bool.{Bool, true, false, not, cond, _||_, false≢true}
 use mathlib.Core.List.{List, [], _∷_}
 use mathlib.Core.Option.{some}
 use Prim.Native.Nat.{ℕ, zero, suc, _+_, _*_}
@@ -12,7 +12,7 @@ use borrow.Author.Tests.{leb-true, eq-eqb, ne-eqb}
 use Rattle.number.specs.Number.{encode}
 use Rattle.columnar.specs.Types.{Number, i8, u8, i16, u16, i32, u32, i64, u64}
 use Rattle.columnar.specs.Test.{every}
-use Rattle.formats.specs.Code.{isString, isInteger, widthOf}
+use Rattle.formats.specs.Code.{isString, isList, isInteger, widthOf}
 use Rattle.formats.specs.Types.{numberOf}
 use Rattle.lent_tables.proofs.Laws.{no, yes, and-right}
 use Rattle.sharing.specs.Sources.{keyFits}
@@ -21,37 +21,41 @@ use Rattle.walk.specs.Log.{Out, Did, put, applyIf, done, each}
 use Rattle.walk.specs.Copy.{copyWalk}
 use Rattle.walk.proofs.Laws.{done-did, wrote-did, need-no, need-ok, next-no, next-ok}
 use Rattle.leaf_walk.specs.Join.{join}
-use Rattle.leaf_walk.proofs.Widths.{string-width}
-use Rattle.parts.specs.Parts.{nodesOf, copied}
+use Rattle.leaf_walk.proofs.Widths.{string-width, lists-width}
+use Rattle.parts.specs.Parts.{nodesOf, copied, hasOffsets}
 use Rattle.orders.specs.Order.{Lent, sourceCount}
 use Rattle.opening.specs.Open.{firstOffset, joinSource, joinEntries, keyHolds, keysOf, keysHold, openDictionary, openWalk}
 
 -- ---- first offsets
 
-pub offset-width : (code : ℕ) {w : ℕ} {t : Bool} → t ≡ isString code → not t ≡ false → w ≡ widthOf code → (w ≡ 1 → ⊥) → (w ≡ 2 → ⊥) → (w ≡ 4 → ⊥) → w ≡ 8
-offset-width code e h f a b d = f ∙ string-width code (yes e h) (λ z. d (f ∙ z))
+pub offset-width : (code : ℕ) {w : ℕ} {t : Bool} → t ≡ hasOffsets code → not t ≡ false → w ≡ widthOf code → (w ≡ 1 → ⊥) → (w ≡ 2 → ⊥) → (w ≡ 4 → ⊥) → w ≡ 8
+offset-width code {w} e h f a b d = go (isString code) refl (yes e h)
+  where
+    go : (s : Bool) → isString code ≡ s → isString code || isList code ≡ true → w ≡ 8
+    go true k q = f ∙ string-width code k (λ z. d (f ∙ z))
+    go false k q = f ∙ lists-width code (rw k at q) (λ z. d (f ∙ z))
 
-module _ (x : Lent) (wr : Bool) (i : ℕ) (c room : List ℕ) {code : ℕ} (e : code ≡ codeOf (x .plan) i) {t : Bool} (f : t ≡ isString code) where
-  strings : {v : Bool} → isString code ≡ v → isString (codeOf (x .plan) i) ≡ v
-  strings {v} h = subst (λ k. isString k ≡ v) e h
+module _ (x : Lent) (wr : Bool) (i : ℕ) (c room : List ℕ) {code : ℕ} (e : code ≡ codeOf (x .plan) i) {t : Bool} (f : t ≡ hasOffsets code) where
+  offsets : {v : Bool} → hasOffsets code ≡ v → hasOffsets (codeOf (x .plan) i) ≡ v
+  offsets {v} h = subst (λ k. hasOffsets k ≡ v) e h
 
-  -- no byte string
+  -- no byte string and no list
   pub offset-none : not t ≡ true → Did (x .plan) (x .parts) wr (firstOffset x i c) room 0 c room
   unfolding firstOffset
-  offset-none h = rw (strings (no f h)) (done-did wr c room)
+  offset-none h = rw (offsets (no f h)) (done-did wr c room)
 
   module _ (h : not t ≡ false) {u : Bool} (g : u ≡ copied (x .plan) i) where
     -- one that has no part
     pub offset-kept : not u ≡ true → Did (x .plan) (x .parts) wr (firstOffset x i c) room 0 c room
     unfolding firstOffset
-    offset-kept k = rw (strings (yes f h), no g k) (done-did wr c room)
+    offset-kept k = rw (offsets (yes f h), no g k) (done-did wr c room)
 
     pub offset-put : {w : ℕ} {room2 : List ℕ} → not u ≡ false → w ≡ widthOf code → room2 ≡ applyIf (x .plan) (x .parts) wr (put i 1 0 (encode w 0) ∷ []) room
         → Did (x .plan) (x .parts) wr (firstOffset x i c) room 0 c room2
     unfolding firstOffset
     offset-put {w} {room2} k q d =
         let wide : w ≡ bytesOf (x .plan) i = q ∙ ap widthOf e in
-        rw (strings (yes f h), yes g k)
+        rw (offsets (yes f h), yes g k)
         (wrote-did wr (put i 1 0 (encode (bytesOf (x .plan) i) 0)) c room room2 (subst (λ z. room2 ≡ applyIf (x .plan) (x .parts) wr (put i 1 0 (encode z 0) ∷ []) room) wide d))
 
 -- ---- entries

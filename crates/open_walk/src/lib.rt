@@ -1,4 +1,4 @@
-// The walk of an opening: the first zero offset of byte strings, then the dictionaries in tree order, joined where they are not shared.
+// The walk of an opening: the first zero offset of byte strings and lists, then the dictionaries in tree order, joined where they are not shared.
 // The answer is 0 or the ground of refusal; a walk that only tries changes the counters alone.
 // Follows `try_with_capacities` of arrow-data 60.1.0 src/transform/mod.rs, Apache-2.0; see NOTICE.
 ghost use mathlib.Core.Path.{_≡_};
@@ -15,13 +15,13 @@ ghost use Rattle.open_walk.specs.Lent.{lent};
 
 // ---- first offsets
 
-// The first zero offset of node i, if it is a byte string that has parts. No counter changes.
+// The first zero offset of node i, if it is a byte string or list that has parts. No counter changes.
 fn first_offset(state: &[u64], parts: &[u32], room: &mut [u8], write: bool, i: usize)
     requires { ⌜ i < 32 ⌝ }
     ensures { λ _. ⌜ ((sources lengths places body c : List ℕ) → Did (now (state .entry)) (now (parts .entry)) write (firstOffset (lent (now (state .entry)) (now (parts .entry)) sources lengths places body) i c) (now (room .entry)) 0 c (now (room .exit))) ⌝ }
 {
     let code = growth::code_of(state, i);
-    if !formats::is_string(code) {
+    if !(formats::is_string(code) | formats::is_list(code)) {
         return;
     }
     if !parts::is_copied(state, i) {
@@ -31,7 +31,7 @@ fn first_offset(state: &[u64], parts: &[u32], room: &mut [u8], write: bool, i: u
     puts::put_number(state, parts, room, write, i, 1, 0, w, 0)
 }
 
-// The first zero offset of every byte string that has parts.
+// The first zero offset of every byte string and list that has parts.
 fn first_offsets(state: &[u64], parts: &[u32], room: &mut [u8], write: bool)
     ensures { λ _. ⌜ ((sources lengths places body c : List ℕ) → Did (now (state .entry)) (now (parts .entry)) write (each (firstOffset (lent (now (state .entry)) (now (parts .entry)) sources lengths places body)) (nodesOf (now (state .entry))) 0 c) (now (room .entry)) 0 c (now (room .exit))) ⌝ }
 {

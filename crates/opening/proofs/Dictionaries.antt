@@ -6,7 +6,7 @@ use Prim.Native.Nat.{ℕ, zero, suc, _-_, _≤_, _<_}
 use native.Mathlib.Omega.{arith}
 use lib.ListN.{length}
 use borrow.Author.Tests.{eq-eqb}
-use Rattle.columnar.specs.Types.{fixed, string, Ty, tPlain, tView, tListView, tSparse, tDense, tRunEnd, tDictionary}
+use Rattle.columnar.specs.Types.{fixed, string, Ty, tPlain, tView, tListView, tList, tSparse, tDense, tRunEnd, tDictionary}
 use Rattle.columnar.specs.Formed.{Ids, Formed}
 use Rattle.columnar.specs.Reading.{Body, Column, Source}
 use Rattle.formats.specs.Code.{isUnion}
@@ -21,7 +21,7 @@ use Rattle.link.specs.Holds.{childOf, Fields, Worded}
 use Rattle.link.proofs.Goes.{Goes, goes-done, goes-map, goes-then}
 use Rattle.link.proofs.Frame.{worded-span}
 use Rattle.link.proofs.UnionFields.{with-first, with-later}
-use Rattle.room.proofs.Found.{between-both}
+use Rattle.room.proofs.Found.{between-both, between-wide}
 use Rattle.orders.specs.Order.{Lent, sourceCount}
 use Rattle.orders.proofs.Cover.{Laid}
 use Rattle.opening.specs.Open.{openDictionary}
@@ -118,7 +118,7 @@ module _ (x : Lent) (m : ℕ) (few : m ≤ 16) (count-is : sourceCount (x .plan)
       → Goes μ (λ y c′ μ′. ((e : ℕ) → List·Memᴰ e ids → Joins plan (f e) (childOf plan i e) m (bodies e) c′ μ′) × Left plan i (endOf plan i) c c′ μ μ′) (openAll ids (λ e. openData (f e) m (bodies e)))
       (opening i (endOf plan i) c)
   union-opens k f nullable ids i bodies here u ds l s w kids c μ long fresh =
-      rw (skip i (endOf plan i) c s (no-dictionary plan laid i here (not-fixed plan laid i 19 20 (omega arith) u)))
+      rw (skip i (endOf plan i) c s (no-dictionary plan laid i here (not-fixed plan laid i 21 22 (omega arith) u)))
       (goes-map (λ y c′ μ′ q. (q .0, left-wide plan (suc i) (endOf plan i) i (endOf plan i) (omega arith) (omega arith) (q .1)))
       (fields-open k f nullable (endOf plan i) (childOf plan i) bodies ids (suc i) 32 w ds (omega arith) (λ e q. refl)
       (λ e q. (child-here plan laid k f nullable ids i here u l w e q .0, kids e q .0, kids e q .1)) c μ long (fresh-part plan i (endOf plan i) (suc i) (endOf plan i) (omega arith) (omega arith) fresh)))
@@ -145,17 +145,25 @@ module _ (x : Lent) (m : ℕ) (few : m ≤ 16) (count-is : sourceCount (x .plan)
       let s = worded-span plan (suc k) (tListView v t) i w in
       rw (skip i (endOf plan i) c s (no-dictionary plan laid i here (not-fixed plan laid i 17 18 (omega arith) (w .2))), e)
       (goes-map (λ y c′ μ′ r. (r .0, left-wide plan (suc i) (endOf plan (suc i)) i (endOf plan i) (omega arith) (omega arith) (r .1)))
-      (opens-at k t (suc i) (keeps u m (λ j. ss j .body .child)) (λ j. ss j .body .child) (w .4) (o .1) (closed-here plan laid .item i here (w .2)) (λ j h. g j h .slots .child-rule) l (q .1) c μ long
+      (opens-at k t (suc i) (keeps u m (λ j. ss j .body .child)) (λ j. ss j .body .child) (w .4) (o .1) (closed-here plan laid .item i here (between-wide 17 18 17 20 (codeOf plan i) (omega arith) (omega arith) (w .2))) (λ j h. g j h .slots .child-rule) l (q .1) c μ long
+      (fresh-part plan i (endOf plan i) (suc i) (endOf plan (suc i)) (omega arith) (omega arith) f)))
+  opens-at (suc k) (tList v t) i u ss w o here g l q =
+      λ c μ long f.
+      let e : endOf plan i ≡ endOf plan (suc i) = w .1 in
+      let s = worded-span plan (suc k) (tList v t) i w in
+      rw (skip i (endOf plan i) c s (no-dictionary plan laid i here (not-fixed plan laid i 19 20 (omega arith) (w .2))), e)
+      (goes-map (λ y c′ μ′ r. (r .0, left-wide plan (suc i) (endOf plan (suc i)) i (endOf plan i) (omega arith) (omega arith) (r .1)))
+      (opens-at k t (suc i) (keeps u m (λ j. ss j .body .child)) (λ j. ss j .body .child) (w .4) (o .1) (closed-here plan laid .item i here (between-wide 19 20 17 20 (codeOf plan i) (omega arith) (omega arith) (w .2))) (λ j h. g j h .slots .child-rule) l (q .1) c μ long
       (fresh-part plan i (endOf plan i) (suc i) (endOf plan (suc i)) (omega arith) (omega arith) f)))
   opens-at (suc k) (tSparse ids nullable f) i u ss w o here g l q =
-      union-opens k f nullable ids i (λ e j. ss j .body .children e .body) here (is-union plan i 19 (w .1) refl) (o .0) (w .2) (w .3) (w .4)
-      (λ e p. let d = child-here plan laid k f nullable ids i here (is-union plan i 19 (w .1) refl) (w .2) (w .4) e p in (
+      union-opens k f nullable ids i (λ e j. ss j .body .children e .body) here (is-union plan i 21 (w .1) refl) (o .0) (w .2) (w .3) (w .4)
+      (λ e p. let d = child-here plan laid k f nullable ids i here (is-union plan i 21 (w .1) refl) (w .2) (w .4) e p in (
         l e p,
         opens-at k (f e) (childOf plan i e) (keeps u m (λ j. ss j .body .children e)) (λ j. ss j .body .children e) (d .1) (o .1 e p) (d .0) (λ j h. g j h .slots .child-rule e p) (l e p) (q e p .1),
       ))
   opens-at (suc k) (tDense ids nullable f) i u ss w o here g l q =
-      union-opens k f nullable ids i (λ e j. ss j .body .children e .body) here (is-union plan i 20 (w .1) refl) (o .0) (w .2) (w .3) (w .4)
-      (λ e p. let d = child-here plan laid k f nullable ids i here (is-union plan i 20 (w .1) refl) (w .2) (w .4) e p in (
+      union-opens k f nullable ids i (λ e j. ss j .body .children e .body) here (is-union plan i 22 (w .1) refl) (o .0) (w .2) (w .3) (w .4)
+      (λ e p. let d = child-here plan laid k f nullable ids i here (is-union plan i 22 (w .1) refl) (w .2) (w .4) e p in (
         l e p,
         opens-at k (f e) (childOf plan i e) (keeps u m (λ j. ss j .body .children e)) (λ j. ss j .body .children e) (d .1) (o .1 e p) (d .0) (λ j h. g j h .slots .child-rule e p) (l e p) (q e p .1),
       ))
@@ -163,7 +171,7 @@ module _ (x : Lent) (m : ℕ) (few : m ≤ 16) (count-is : sourceCount (x .plan)
       λ c μ long f.
       let e : endOf plan i ≡ endOf plan (suc (suc i)) = w .1 in
       let s = worded-span plan k t (suc (suc i)) (w .4) in
-      let z : codeOf plan i ≡ 21 = w .2 in
+      let z : codeOf plan i ≡ 23 = w .2 in
       let d : dictionaryOf plan (suc i) ≡ 0 = laid .tabled .ends-plain i (closed-here plan laid .ends i here (w .2) .0 .1) (w .2) in
       rw (skip i (endOf plan i) c (omega arith) (closed-here plan laid .ends i here (w .2) .1), skip (suc i) (endOf plan i) c (omega arith) d, e)
       (goes-map (λ y c′ μ′ r. (r .0, left-wide plan (suc (suc i)) (endOf plan (suc (suc i))) i (endOf plan i) (omega arith) (omega arith) (r .1)))

@@ -8,9 +8,9 @@ use native.Mathlib.Omega.{arith}
 use lib.Dec.{eqb}
 use borrow.Author.Tests.{le-leb, ne-eqb}
 use Rattle.lent_tables.proofs.Laws.{and-left, and-right}
-use Rattle.columnar.specs.Types.{Number, Plain, fixed, string, Ty, tPlain, tView, tListView, tSparse, tDense, tRunEnd, tDictionary}
+use Rattle.columnar.specs.Types.{Number, Plain, fixed, string, Ty, tPlain, tView, tListView, tList, tSparse, tDense, tRunEnd, tDictionary}
 use Rattle.columnar.specs.Formed.{OffsetWidth, FormedPlain, Formed}
-use Rattle.columnar.specs.Array.{Obeys}
+use Rattle.columnar.specs.Array.{ok, Obeys}
 use Rattle.columnar.specs.Plain.{PlainBody, PlainRule}
 use Rattle.columnar.specs.Dictionary.{Dictionary}
 use Rattle.columnar.specs.Reading.{Column, Source}
@@ -22,6 +22,7 @@ use Rattle.model.specs.Mutable.{Mutable}
 use Rattle.model.specs.Transform.{Destination}
 use Rattle.model.proofs.Joined.{Sound, Joined, joined}
 use Rattle.model.proofs.Nodes.{plainFine}
+use Rattle.model.proofs.Start.{no-null-in, none-has}
 use Rattle.link.specs.Memory.{Memory}
 use Rattle.link.specs.Holds.{childOf, Worded, Holds}
 use Rattle.link.proofs.Frame.{field-of}
@@ -160,21 +161,25 @@ module _ (x : Lent) (laid : Laid (x .plan)) (c : List ℕ) (μ : Memory) (m : �
       let z : endOf (x .plan) i ≡ endOf (x .plan) (suc i) = w .1 in
       at-or-behind i h p (λ y. high h i y s l n 17 (between-both 17 18 (codeOf (x .plan) i) (w .2) .0) (omega arith))
       (λ y. entries-covered k t (suc i) _ (λ j. ss j .body .child) (w .4) (o .1) (omega arith) (λ j d. g j d .slots .child-rule) a (q .1) r e h (omega arith) (omega arith) n)
+  entries-covered (suc k) (tList v t) i u ss w o l g a q r e h p s n =
+      let z : endOf (x .plan) i ≡ endOf (x .plan) (suc i) = w .1 in
+      at-or-behind i h p (λ y. high h i y s l n 19 (between-both 19 20 (codeOf (x .plan) i) (w .2) .0) (omega arith))
+      (λ y. entries-covered k t (suc i) _ (λ j. ss j .body .child) (w .4) (o .1) (omega arith) (λ j d. g j d .slots .child-rule) a (q .1) r e h (omega arith) (omega arith) n)
   entries-covered (suc k) (tSparse ids nullable f) i u ss w o l g a q r e h p s n =
-      at-or-behind i h p (λ y. high h i y s l n 19 (omega (arith, w .1)) (omega arith))
+      at-or-behind i h p (λ y. high h i y s l n 21 (omega (arith, w .1)) (omega arith))
       (λ y. let z = within (x .plan) (λ z. Worded (x .plan) k (f z)) nullable (endOf (x .plan) i) ids (suc i) 32 (w .4) (o .0) (omega (arith, w .2)) h y s in
       let v = field-of (x .plan) (λ z. Worded (x .plan) k (f z)) nullable (endOf (x .plan) i) ids (suc i) 32 (z .id) (w .4) (omega (arith, w .2)) (z .member) in
       entries-covered k (f (z .id)) (childOf (x .plan) i (z .id)) _ (λ j. ss j .body .children (z .id)) (v .is-kid) (o .1 (z .id) (z .member)) (omega (arith, v .ends)) (λ j d. g j d .slots .child-rule (z .id) (z .member))
       (a (z .id) (z .member)) (q (z .id) (z .member) .1) (r (z .id) (z .member)) (each-at _ ids e (z .id) (z .member)) h (z .from) (z .to) n)
   entries-covered (suc k) (tDense ids nullable f) i u ss w o l g a q r e h p s n =
-      at-or-behind i h p (λ y. high h i y s l n 20 (omega (arith, w .1)) (omega arith))
+      at-or-behind i h p (λ y. high h i y s l n 22 (omega (arith, w .1)) (omega arith))
       (λ y. let z = within (x .plan) (λ z. Worded (x .plan) k (f z)) nullable (endOf (x .plan) i) ids (suc i) 32 (w .4) (o .0) (omega (arith, w .2)) h y s in
       let v = field-of (x .plan) (λ z. Worded (x .plan) k (f z)) nullable (endOf (x .plan) i) ids (suc i) 32 (z .id) (w .4) (omega (arith, w .2)) (z .member) in
       entries-covered k (f (z .id)) (childOf (x .plan) i (z .id)) _ (λ j. ss j .body .children (z .id)) (v .is-kid) (o .1 (z .id) (z .member)) (omega (arith, v .ends)) (λ j d. g j d .slots .child-rule (z .id) (z .member))
       (a (z .id) (z .member)) (q (z .id) (z .member) .1) (r (z .id) (z .member)) (each-at _ ids e (z .id) (z .member)) h (z .from) (z .to) n)
   entries-covered (suc k) (tRunEnd v t) i u ss w o l g a q r e h p s n =
       let z : endOf (x .plan) i ≡ endOf (x .plan) (suc (suc i)) = w .1 in
-      at-or-behind i h p (λ y. high h i y s l n 21 (omega (arith, w .2)) (omega arith))
+      at-or-behind i h p (λ y. high h i y s l n 23 (omega (arith, w .2)) (omega arith))
       (λ y. at-or-behind (suc i) h y
       (λ d. absurd (n (subst (λ b. dictionaryOf (x .plan) b ≡ 0) (sym d) (laid .tabled .ends-plain i (omega arith) (w .2)))))
       (λ d. entries-covered k t (suc (suc i)) _ (λ j. ss j .body .values) (w .4) (o .1) (omega arith) (λ j d. g j d .slots .child-rule) a (q .2) r e h d (omega arith) n))
@@ -192,6 +197,9 @@ module _ (x : Lent) (laid : Laid (x .plan)) (c : List ℕ) (μ : Memory) (m : �
   entries-enough (suc k) (tPlain p) i u ss w o l g a q r e = refl
   entries-enough (suc k) tView i u ss w o l g a q r e = refl
   entries-enough (suc k) (tListView v t) i u ss w o l g a q r e =
+      let z : endOf (x .plan) i ≡ endOf (x .plan) (suc i) = w .1 in
+      entries-enough k t (suc i) _ (λ j. ss j .body .child) (w .4) (o .1) (omega arith) (λ j d. g j d .slots .child-rule) a (q .1) r e
+  entries-enough (suc k) (tList v t) i u ss w o l g a q r e =
       let z : endOf (x .plan) i ≡ endOf (x .plan) (suc i) = w .1 in
       entries-enough k t (suc i) _ (λ j. ss j .body .child) (w .4) (o .1) (omega arith) (λ j d. g j d .slots .child-rule) a (q .1) r e
   entries-enough (suc k) (tSparse ids nullable f) i u ss w o l g a q r e =

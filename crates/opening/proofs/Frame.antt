@@ -7,7 +7,7 @@ use native.Mathlib.Omega.{arith}
 use lib.ListN.{length}
 use lib.Dec.{eqb}
 use borrow.Author.Tests.{eqb-true, eqb-false}
-use Rattle.columnar.specs.Types.{Ty, tPlain, tView, tListView, tSparse, tDense, tRunEnd, tDictionary}
+use Rattle.columnar.specs.Types.{Ty, tPlain, tView, tListView, tList, tSparse, tDense, tRunEnd, tDictionary}
 use Rattle.columnar.specs.Reading.{Body}
 use Rattle.formats.specs.Code.{isFixed}
 use Rattle.walk.specs.State.{codeOf, dictionaryOf, endOf}
@@ -16,6 +16,7 @@ use Rattle.link.specs.Holds.{childOf, Worded}
 use Rattle.link.proofs.Frame.{SameAt, same-refl, same-then, Kept, field-of, held-same}
 use Rattle.link.proofs.Codes.{between-apart}
 use Rattle.room.specs.Reach.{Free}
+use Rattle.room.proofs.Found.{between-wide}
 use Rattle.parts.specs.Parts.{copied}
 use Rattle.orders.specs.Order.{Lent}
 use Rattle.orders.proofs.Cover.{Laid}
@@ -88,14 +89,17 @@ module _ (x : Lent) (laid : Laid (x .plan)) (m : ℕ) (c c′ : List ℕ) (μ μ
   joins-same (suc k) tView i ss w here l s h = tt
   joins-same (suc k) (tListView v t) i ss w here l s h =
       let e : endOf plan i ≡ endOf plan (suc i) = w .1 in
-      joins-same k t (suc i) (λ j. ss j .child .body) (w .4) (closed-here plan laid .item i here (w .2)) l (λ j a b. s j (omega arith) (omega arith)) h
+      joins-same k t (suc i) (λ j. ss j .child .body) (w .4) (closed-here plan laid .item i here (between-wide 17 18 17 20 (codeOf plan i) (omega arith) (omega arith) (w .2))) l (λ j a b. s j (omega arith) (omega arith)) h
+  joins-same (suc k) (tList v t) i ss w here l s h =
+      let e : endOf plan i ≡ endOf plan (suc i) = w .1 in
+      joins-same k t (suc i) (λ j. ss j .child .body) (w .4) (closed-here plan laid .item i here (between-wide 19 20 17 20 (codeOf plan i) (omega arith) (omega arith) (w .2))) l (λ j a b. s j (omega arith) (omega arith)) h
   joins-same (suc k) (tSparse ids nullable f) i ss w here l s h =
       λ b q. let g = field-of plan (λ z. Worded plan k (f z)) nullable (endOf plan i) ids (suc i) 32 b (w .4) (omega (arith, w .2)) q in
-      joins-same k (f b) (childOf plan i b) (λ j. ss j .children b .body) (g .is-kid) (child-here plan laid k f nullable ids i here (is-union plan i 19 (w .1) refl) (w .2) (w .4) b q .0) (l b q)
+      joins-same k (f b) (childOf plan i b) (λ j. ss j .children b .body) (g .is-kid) (child-here plan laid k f nullable ids i here (is-union plan i 21 (w .1) refl) (w .2) (w .4) b q .0) (l b q)
       (λ j a z. s j (omega (arith, g .behind)) (omega (arith, g .ends))) (h b q)
   joins-same (suc k) (tDense ids nullable f) i ss w here l s h =
       λ b q. let g = field-of plan (λ z. Worded plan k (f z)) nullable (endOf plan i) ids (suc i) 32 b (w .4) (omega (arith, w .2)) q in
-      joins-same k (f b) (childOf plan i b) (λ j. ss j .children b .body) (g .is-kid) (child-here plan laid k f nullable ids i here (is-union plan i 20 (w .1) refl) (w .2) (w .4) b q .0) (l b q)
+      joins-same k (f b) (childOf plan i b) (λ j. ss j .children b .body) (g .is-kid) (child-here plan laid k f nullable ids i here (is-union plan i 22 (w .1) refl) (w .2) (w .4) b q .0) (l b q)
       (λ j a z. s j (omega (arith, g .behind)) (omega (arith, g .ends))) (h b q)
   joins-same (suc k) (tRunEnd v t) i ss w here l s h =
       let e : endOf plan i ≡ endOf plan (suc (suc i)) = w .1 in

@@ -7,7 +7,7 @@ use native.Mathlib.Decide.{decLt}
 use native.Mathlib.Omega.{arith}
 use lib.Dec.{ltb}
 use borrow.Author.Tests.{ltb-true}
-use Rattle.columnar.specs.Types.{Number, i8, u8, i16, u16, i32, u32, i64, u64, f32, f64, limit, Ty, tPlain, tView, tListView, tSparse, tDense, tRunEnd, tDictionary}
+use Rattle.columnar.specs.Types.{Number, i8, u8, i16, u16, i32, u32, i64, u64, f32, f64, limit, Ty, tPlain, tView, tListView, tList, tSparse, tDense, tRunEnd, tDictionary}
 use Rattle.columnar.specs.Dictionary.{Dictionary}
 use Rattle.columnar.specs.Reading.{Body, Column}
 use Rattle.model.specs.Try.{Try, done, then, guard}
@@ -62,6 +62,7 @@ module _ (formats schema : List ℕ) (first n : ℕ) (state : List ℕ)
   kept-below m (tPlain p) i b bodies h o = tt
   kept-below m tView i b bodies h o = o
   kept-below m (tListView w u) i b bodies h o = (o .0, kept-below m u (suc i) _ _ (h .1) (o .1))
+  kept-below m (tList w u) i b bodies h o = (o .0, kept-below m u (suc i) _ _ (h .1) (o .1))
   kept-below m (tSparse ids nullable f) i b bodies h o = λ c q.
       subst (λ k. (keepsOf state k ≡ flag (keeps b m (λ s. bodies s .children c))) × Kept state m (f c) k (keeps b m (λ s. bodies s .children c)) (λ s. bodies s .children c .body))
       (same-node i true ids (h .0) c q)
@@ -116,6 +117,7 @@ based-by : (state : List ℕ) (m : ℕ) (u : Ty) (i : ℕ) (b : Bool) (bodies : 
 based-by state m (tPlain p) i b bodies h o s l = tt
 based-by state m tView i b bodies h o s l = h s l
 based-by state m (tListView w u) i b bodies h o s l = based-by state m u (suc i) _ _ (h .1) o s l
+based-by state m (tList w u) i b bodies h o s l = based-by state m u (suc i) _ _ (h .1) o s l
 based-by state m (tSparse ids nullable f) i b bodies h o s l = λ c q.
     based-by state m (f c) (childOf state i c) _ _ (h c q .1) (opened-each ids (λ c. openData (f c) m (λ j. bodies j .children c .body)) o c q) s l
 based-by state m (tDense ids nullable f) i b bodies h o s l = λ c q.

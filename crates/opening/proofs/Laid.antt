@@ -9,22 +9,23 @@ use lib.ListN.{length, getD}
 use lib.Dec.{leb, ltb, eqb}
 use borrow.Author.Tests.{eqb-true, eqb-false, leb-true, leb-false, le-leb, lt-ltb, ne-eqb, eq-eqb}
 use Rattle.columnar.specs.Types.{Number, fixed, string}
-use Rattle.formats.specs.Code.{isFixed, isView, isListView, isRunEnd, widthOf}
+use Rattle.formats.specs.Code.{isFixed, isView, isListView, isList, isRunEnd, widthOf}
 use Rattle.schema.specs.Tree.{dictionary, below, childAt, dueFrom, whole, idsOf, shape, ceilings, typed}
 use Rattle.schema.specs.Tree as schemaTree
 use Rattle.schema.proofs.Trees.{end-inside, end-after, child-inside, children-end}
 use Rattle.schema.proofs.Depth as depths
 use Rattle.schema.proofs.Known.{typed-whole, typed-shape, within-nodes}
 use Rattle.array_data.specs.Tables.{Tables}
-use Rattle.array_data.specs.Typed.{NodeKind, fixedNode, stringNode, viewNode, listViewNode, sparseNode, denseNode, runEndNode, dictionaryNode}
+use Rattle.array_data.specs.Typed.{NodeKind, fixedNode, stringNode, viewNode, listViewNode, listNode, sparseNode, denseNode, runEndNode, dictionaryNode}
 use Rattle.lent.specs.Lent.{kindAt}
 use Rattle.lent.proofs.Ids.{both}
-use Rattle.lent.proofs.Shaped.{Shaped, of-plain, of-view, of-list, of-sparse, of-dense, of-run, of-dictionary, shaped, at-fixed, at-keys, at-string, at-view, at-list, at-run}
+use Rattle.lent.proofs.Shaped.{Shaped, of-plain, of-view, of-list, of-lists, of-sparse, of-dense, of-run, of-dictionary, shaped, at-fixed, at-keys, at-string, at-view, at-list, at-lists, at-run}
 use Rattle.lent.proofs.Lent.{first-child, second-child, some-node}
 use Rattle.worded.specs.Planted.{Planted}
 use Rattle.worded.proofs.Codes.{Coded, low-code, shape-admitted, no-dictionary}
 use Rattle.worded.proofs.Planted.{code-is, dictionary-is, end-is, coded-is}
 use Rattle.walk.specs.State.{codeOf, dictionaryOf, endOf, keepsOf}
+use Rattle.room.specs.Reach.{hasItem}
 use Rattle.room.specs.Room.{Placed}
 use Rattle.room.proofs.Found.{between-both}
 use Rattle.columnar.specs.Test.{onlyIf}
@@ -55,6 +56,7 @@ module _ (formats schema : List ℕ) (first i : ℕ) where
   Next (stringNode w) = below schema first i ≡ 0
   Next viewNode = below schema first i ≡ 0
   Next (listViewNode w) = below schema first i ≡ 1
+  Next (listNode w) = below schema first i ≡ 1
   Next (sparseNode ids) = Unit {0}
   Next (denseNode ids) = Unit {0}
   Next (runEndNode w) = Ends
@@ -65,6 +67,7 @@ module _ (formats schema : List ℕ) (first i : ℕ) where
   next-of (of-plain (string w) e z d) = subst Next (sym e) z
   next-of (of-view e z) = subst Next (sym e) z
   next-of (of-list w e z d) = subst Next (sym e) z
+  next-of (of-lists w e z d) = subst Next (sym e) z
   next-of (of-sparse ids e z d o) = subst Next (sym e) tt
   next-of (of-dense ids e z d o) = subst Next (sym e) tt
   next-of (of-run m e z e1 z1 d) = subst Next (sym e) (record { number = m; kind = e1; two = z; none-below = z1 })
@@ -131,7 +134,7 @@ module _ (formats schema : List ℕ) (first n : ℕ) (state : List ℕ)
           end-by 1 (below-keys .0) ∙ second-child formats schema first n i (next-in (omega (arith, below-keys .0))) (below-keys .1)
 
     -- a run-end node
-    module _ (e : codeOf state i ≡ 21) where
+    module _ (e : codeOf state i ≡ 23) where
       below-run : Ends formats schema first i
       below-run = next-at (runEndNode _) (at-run formats schema first i (ap isRunEnd (sym same-code ∙ e)))
 
@@ -155,7 +158,7 @@ module _ (formats schema : List ℕ) (first n : ℕ) (state : List ℕ)
     view-below : isView (codeOf state i) ≡ true → below schema first i ≡ 0
     view-below v = next-at viewNode (at-view formats schema first i (sym (ap isView same-code) ∙ v))
 
-  run-fixed : (i : ℕ) → i < n → codeOf state i ≡ 21 → isFixed (codeOf state (suc i)) ≡ true
+  run-fixed : (i : ℕ) → i < n → codeOf state i ≡ 23 → isFixed (codeOf state (suc i)) ≡ true
   run-fixed i l e =
       let r = below-run i l e in
       let h = ends-in i l e in
@@ -163,7 +166,7 @@ module _ (formats schema : List ℕ) (first n : ℕ) (state : List ℕ)
       ∙ subst (Coded (code (suc i)) (eqb (dictionary schema first (suc i)) 0) (idsOf formats schema first (suc i)) (code (suc (suc i)))) (r .kind)
       (coded-is formats schema first n state t c p (suc i) h) .0
 
-  run-single : (i : ℕ) → i < n → codeOf state i ≡ 21 → dictionaryOf state (suc i) ≡ 0
+  run-single : (i : ℕ) → i < n → codeOf state i ≡ 23 → dictionaryOf state (suc i) ≡ 0
   run-single i l e = same-dictionary (suc i) (ends-in i l e) ∙ no-dictionary formats schema first (suc i) (below-run i l e .none-below)
 
   nested : (i j : ℕ) → i < j → j < endOf state i → endOf state i ≤ n → endOf state j ≤ endOf state i
@@ -174,7 +177,7 @@ module _ (formats schema : List ℕ) (first n : ℕ) (state : List ℕ)
       omega (arith, same-end j k, depths.nested schema first n j i (omega arith) (omega arith))
 
   -- THE NODES STAND WELL, where run ends keep no nulls
-  pub laid-by : ((i : ℕ) → suc i < n → codeOf state i ≡ 21 → keepsOf state (suc i) ≡ 0) → Laid state
+  pub laid-by : ((i : ℕ) → suc i < n → codeOf state i ≡ 23 → keepsOf state (suc i) ≡ 0) → Laid state
   laid-by keeps =
       let r = root-end in
       record {
@@ -205,10 +208,23 @@ module _ (formats schema : List ℕ) (first n : ℕ) (state : List ℕ)
     child-in : (k : ℕ) → k < below schema first i → childAt schema first n i k < endOf state i
     child-in k h = let e = same-end i l in omega (arith, depths.child-before schema first n tree i k l h)
 
-    list-in : isListView (codeOf state i) ≡ true → suc i < endOf state i
-    list-in h =
-        let e : below schema first i ≡ 1 = next-at i l (listViewNode (widthOf (code i))) (at-list formats schema first i (sym (ap isListView (same-code i l)) ∙ h)) in
-        subst (λ k. k < endOf state i) (first-child formats schema first n i) (child-in 0 (omega arith))
+    -- a list-view or a list has one child
+    one-below : hasItem (codeOf state i) ≡ true → below schema first i ≡ 1
+    one-below h = go (leb (codeOf state i) 18) refl
+      where
+        b : (17 ≤ codeOf state i) × (codeOf state i ≤ 20)
+        b = between-both 17 20 (codeOf state i) h
+
+        go : (t : Bool) → leb (codeOf state i) 18 ≡ t → below schema first i ≡ 1
+        go true e =
+            let v : isListView (codeOf state i) ≡ true = rw (le-leb 17 (codeOf state i) (b .0), e) refl in
+            next-at i l (listViewNode (widthOf (code i))) (at-list formats schema first i (sym (ap isListView (same-code i l)) ∙ v))
+        go false e =
+            let v : isList (codeOf state i) ≡ true = rw (le-leb 19 (codeOf state i) (omega (arith, leb-false (codeOf state i) 18 e)), le-leb (codeOf state i) 20 (b .1)) refl in
+            next-at i l (listNode (widthOf (code i))) (at-lists formats schema first i (sym (ap isList (same-code i l)) ∙ v))
+
+    item-in : hasItem (codeOf state i) ≡ true → suc i < endOf state i
+    item-in h = let e = one-below h in subst (λ k. k < endOf state i) (first-child formats schema first n i) (child-in 0 (omega arith))
 
     -- the last node of a subtree has no dictionary
     last-single : (k : ℕ) → endOf state i ≡ suc k → dictionaryOf state k ≡ 0
@@ -234,13 +250,13 @@ module _ (formats schema : List ℕ) (first n : ℕ) (state : List ℕ)
         go true f = eqb-true _ _ f
         go false f = absurd (let z = between-both 1 10 (code i) (fixed-keys i l (eqb-false _ _ f)) in omega (arith, z .1, same-code i l))
 
-    run-in : codeOf state i ≡ 21 → suc (suc i) < endOf state i
+    run-in : codeOf state i ≡ 23 → suc (suc i) < endOf state i
     run-in e =
         let r = below-run i l e in
         let two = r .two in
         subst (λ k. k < endOf state i) (second-child formats schema first n i (ends-in i l e) (r .none-below)) (child-in 1 (omega arith))
 
-    ends-sound : codeOf state i ≡ 21 → endsSound state i ≡ true
+    ends-sound : codeOf state i ≡ 23 → endsSound state i ≡ true
     unfolding endsSound
     ends-sound e = rw (lt-ltb _ _ (run-in e), run-single i l e, run-fixed i l e)
 
@@ -248,15 +264,15 @@ module _ (formats schema : List ℕ) (first n : ℕ) (state : List ℕ)
     unfolding kindSound
     kind-sound = go (leb (codeOf state i) 10) refl
       where
-        shaped-by : (a b : Bool) → isListView (codeOf state i) ≡ a → isRunEnd (codeOf state i) ≡ b → cond a (ltb (suc i) (endOf state i)) (cond b (endsSound state i) true) ≡ true
-        shaped-by true b f g = lt-ltb (suc i) (endOf state i) (list-in f)
-        shaped-by false true f g = ends-sound (let z = between-both 21 21 (codeOf state i) g in omega (arith, z .0, z .1))
+        shaped-by : (a b : Bool) → hasItem (codeOf state i) ≡ a → isRunEnd (codeOf state i) ≡ b → cond a (ltb (suc i) (endOf state i)) (cond b (endsSound state i) true) ≡ true
+        shaped-by true b f g = lt-ltb (suc i) (endOf state i) (item-in f)
+        shaped-by false true f g = ends-sound (let z = between-both 23 23 (codeOf state i) g in omega (arith, z .0, z .1))
         shaped-by false false f g = refl
 
         go : (b : Bool) → leb (codeOf state i) 10 ≡ b
-            → cond b true (eqb (dictionaryOf state i) 0 && cond (isListView (codeOf state i)) (ltb (suc i) (endOf state i)) (cond (isRunEnd (codeOf state i)) (endsSound state i) true)) ≡ true
+            → cond b true (eqb (dictionaryOf state i) 0 && cond (hasItem (codeOf state i)) (ltb (suc i) (endOf state i)) (cond (isRunEnd (codeOf state i)) (endsSound state i) true)) ≡ true
         go true e = refl
-        go false e = rw (no-keys (omega (arith, leb-false (codeOf state i) 10 e))) (shaped-by (isListView (codeOf state i)) (isRunEnd (codeOf state i)) refl refl)
+        go false e = rw (no-keys (omega (arith, leb-false (codeOf state i) 10 e))) (shaped-by (hasItem (codeOf state i)) (isRunEnd (codeOf state i)) refl refl)
 
     nest-sound : nestedIn state i ≡ true
     unfolding nestedIn
@@ -318,7 +334,7 @@ module _ (formats schema : List ℕ) (x : Tables) (sources : List ℕ) (keep : B
     pub all-nodes : nodesOf plan ≡ endOf plan 0
     all-nodes = nodes-is ∙ sym root-is
 
-    ends-word : (i : ℕ) → codeOf plan i ≡ 21 → keepWord x sources m keep plan (suc i) ≡ 0
+    ends-word : (i : ℕ) → codeOf plan i ≡ 23 → keepWord x sources m keep plan (suc i) ≡ 0
     unfolding keepWord isEnds
     ends-word i e = rw e
 

@@ -8,7 +8,7 @@ use native.Mathlib.Omega.{arith}
 use lib.ListN.{length}
 use lib.Dec.{ltb, eqb}
 use borrow.Author.Tests.{eq-eqb, ne-eqb}
-use Rattle.columnar.specs.Types.{Plain, fixed, string, Ty, tPlain, tView, tListView, tSparse, tDense, tRunEnd, tDictionary}
+use Rattle.columnar.specs.Types.{Plain, fixed, string, Ty, tPlain, tView, tListView, tList, tSparse, tDense, tRunEnd, tDictionary}
 use Rattle.columnar.specs.Formed.{Formed, Ids}
 use Rattle.columnar.specs.Reading.{Body, Column, masks}
 use Rattle.formats.specs.Code.{isFixed, isString}
@@ -18,10 +18,10 @@ use Rattle.walk.specs.Copy.{childWith}
 use Rattle.link.specs.Holds.{childOf, flag, Fields, WordedPlain, Worded}
 use Rattle.link.proofs.UnionFields.{with-first, with-later}
 use Rattle.room.specs.Reach.{Free, typed}
-use Rattle.room.proofs.Found.{between-both}
+use Rattle.room.proofs.Found.{between-both, between-wide}
 use Rattle.parts.specs.Parts.{nodesOf, bufferCount, copied, validityParts, bufferParts, partCount, partsBefore, partTotal}
 use Rattle.orders.specs.Order.{Lent}
-use Rattle.orders.proofs.Buffers.{fixed-one, string-two, view-one, list-two, copied-free, masks-code}
+use Rattle.orders.proofs.Buffers.{fixed-one, string-two, view-one, list-two, lists-one, copied-free, masks-code}
 use Rattle.orders.proofs.Cover.{Laid}
 use Rattle.opening.specs.Kept.{Kept}
 use Rattle.opening.specs.Entries.{ValuesLent, EntriesLent}
@@ -32,9 +32,9 @@ use Rattle.opening.proofs.Walk.{Given}
 -- ---- one node
 
 module _ (plan : List ℕ) where
-  bits-due : (c w u : Bool) (k z : ℕ) → c ≡ true → k ≡ flag u → w ≡ ltb z 19 → cond (c && not (eqb k 0) && ltb z 19) 1 0 ≡ validityDue w u
-  bits-due c w u k z ec ek ew = subst (λ b. cond (b && not (eqb k 0) && ltb z 19) 1 0 ≡ validityDue w u) (sym ec)
-      (subst (λ n. cond (true && not (eqb n 0) && ltb z 19) 1 0 ≡ validityDue w u) (sym ek)
+  bits-due : (c w u : Bool) (k z : ℕ) → c ≡ true → k ≡ flag u → w ≡ ltb z 21 → cond (c && not (eqb k 0) && ltb z 21) 1 0 ≡ validityDue w u
+  bits-due c w u k z ec ek ew = subst (λ b. cond (b && not (eqb k 0) && ltb z 21) 1 0 ≡ validityDue w u) (sym ec)
+      (subst (λ n. cond (true && not (eqb n 0) && ltb z 21) 1 0 ≡ validityDue w u) (sym ek)
       (subst (λ b. cond (true && not (eqb (flag u) 0) && b) 1 0 ≡ validityDue w u) ew (go u w)))
     where
       go : (u w : Bool) → cond (true && not (eqb (flag u) 0) && w) 1 0 ≡ validityDue w u
@@ -44,7 +44,7 @@ module _ (plan : List ℕ) where
       go false false = refl
 
   -- its validity and its buffers
-  node-due : (i n : ℕ) (w u : Bool) → copied plan i ≡ true → keepsOf plan i ≡ flag u → w ≡ ltb (codeOf plan i) 19 → bufferCount (codeOf plan i) ≡ n
+  node-due : (i n : ℕ) (w u : Bool) → copied plan i ≡ true → keepsOf plan i ≡ flag u → w ≡ ltb (codeOf plan i) 21 → bufferCount (codeOf plan i) ≡ n
       → partsBefore plan (suc i) ≡ partsBefore plan i + (validityDue w u + n)
   unfolding partsBefore validityParts bufferParts
   node-due i n w u c k e h =
@@ -65,8 +65,8 @@ module _ (plan : List ℕ) where
   plain-low (fixed n) i w = omega (arith, between-both 1 10 (codeOf plan i) (w .0))
   plain-low (string v) i w = omega (arith, between-both 11 14 (codeOf plan i) (w .0))
 
-  plain-mask : (p : Plain) (i : ℕ) → WordedPlain plan p i → true ≡ ltb (codeOf plan i) 19
-  plain-mask p i w = sym (borrow.Author.Tests.lt-ltb (codeOf plan i) 19 (omega (arith, plain-low p i w)))
+  plain-mask : (p : Plain) (i : ℕ) → WordedPlain plan p i → true ≡ ltb (codeOf plan i) 21
+  plain-mask p i w = sym (borrow.Author.Tests.lt-ltb (codeOf plan i) 21 (omega (arith, plain-low p i w)))
 
   -- from node i to its end there are n parts
   abbrev Adds : ℕ → ℕ → Type 0
@@ -111,10 +111,14 @@ module _ (x : Lent) (laid : Laid (x .plan)) (m : ℕ) where
       rw (laid .view-ends i (inside i here) (w .2)) (node-due plan i 1 true u (whole i here) e (masks-code plan (suc k) tView i w) (view-one (codeOf plan i) (w .2)))
   due-at (suc k) (tListView v t) i u ss w fm here e q g =
       let own = node-due plan i 2 true u (whole i here) e (masks-code plan (suc k) (tListView v t) i w) (list-two (codeOf plan i) (w .2)) in
-      let kid = due-at k t (suc i) (keeps u m (λ s. ss s .child)) (λ s. ss s .child .body) (w .4) (fm .1) (closed-here plan laid .item i here (w .2)) (q .0) (q .1) g in
+      let kid = due-at k t (suc i) (keeps u m (λ s. ss s .child)) (λ s. ss s .child .body) (w .4) (fm .1) (closed-here plan laid .item i here (between-wide 17 18 17 20 (codeOf plan i) (omega arith) (omega arith) (w .2))) (q .0) (q .1) g in
+      rw (w .1) (omega (arith, own, kid))
+  due-at (suc k) (tList v t) i u ss w fm here e q g =
+      let own = node-due plan i 1 true u (whole i here) e (masks-code plan (suc k) (tList v t) i w) (lists-one (codeOf plan i) (w .2)) in
+      let kid = due-at k t (suc i) (keeps u m (λ s. ss s .child)) (λ s. ss s .child .body) (w .4) (fm .1) (closed-here plan laid .item i here (between-wide 19 20 17 20 (codeOf plan i) (omega arith) (omega arith) (w .2))) (q .0) (q .1) g in
       rw (w .1) (omega (arith, own, kid))
   due-at (suc k) (tSparse ids nullable f) i u ss w fm here e q g =
-      let z = is-union plan i 19 (w .1) refl in
+      let z = is-union plan i 21 (w .1) refl in
       let own = node-due plan i 1 false u (whole i here) e (masks-code plan (suc k) (tSparse ids nullable f) i w) (ap bufferCount (w .1)) in
       let kids = fields-due plan
       (λ c. validityDue (masks (f c)) (keeps u m (λ s. ss s .children c)) + dueBelow m (f c) (keeps u m (λ s. ss s .children c)) (λ s. ss s .children c .body))
@@ -123,7 +127,7 @@ module _ (x : Lent) (laid : Laid (x .plan)) (m : ℕ) where
       due-at k (f b) (childOf plan i b) (keeps u m (λ s. ss s .children b)) (λ s. ss s .children b .body) (d .1) (fm .1 b o) (d .0) (q b o .0) (q b o .1) (g b o)) in
       omega (arith, own, kids)
   due-at (suc k) (tDense ids nullable f) i u ss w fm here e q g =
-      let z = is-union plan i 20 (w .1) refl in
+      let z = is-union plan i 22 (w .1) refl in
       let own = node-due plan i 2 false u (whole i here) e (masks-code plan (suc k) (tDense ids nullable f) i w) (ap bufferCount (w .1)) in
       let kids = fields-due plan
       (λ c. validityDue (masks (f c)) (keeps u m (λ s. ss s .children c)) + dueBelow m (f c) (keeps u m (λ s. ss s .children c)) (λ s. ss s .children c .body))
@@ -135,7 +139,7 @@ module _ (x : Lent) (laid : Laid (x .plan)) (m : ℕ) where
       let own = node-due plan i 0 false u (whole i here) e (masks-code plan (suc k) (tRunEnd v t) i w) (ap bufferCount (w .2)) in
       let fix : isFixed (codeOf plan (suc i)) ≡ true = laid .run-ends i (inside i here) (w .2) .0 in
       let low = between-both 1 10 (codeOf plan (suc i)) fix in
-      let ends = node-due plan (suc i) 1 true false (copied-free plan (suc i) (closed-here plan laid .ends i here (w .2) .1)) (q .0) (sym (borrow.Author.Tests.lt-ltb (codeOf plan (suc i)) 19 (omega (arith, low)))) (fixed-one (codeOf plan (suc i)) fix) in
+      let ends = node-due plan (suc i) 1 true false (copied-free plan (suc i) (closed-here plan laid .ends i here (w .2) .1)) (q .0) (sym (borrow.Author.Tests.lt-ltb (codeOf plan (suc i)) 21 (omega (arith, low)))) (fixed-one (codeOf plan (suc i)) fix) in
       let vals = due-at k t (suc (suc i)) (keeps u m (λ s. ss s .values)) (λ s. ss s .values .body) (w .4) (fm .1) (closed-here plan laid .values i here (w .2)) (q .1) (q .2) g in
       rw (w .1) (omega (arith, own, ends, vals))
   due-at (suc k) (tDictionary n p) i u ss w fm here e q g =

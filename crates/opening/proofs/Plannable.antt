@@ -11,7 +11,7 @@ use Rattle.schema.specs.Tree.{every, sameNode, sameType}
 use Rattle.schema.proofs.Known.{within-nodes}
 use Rattle.array_data.specs.Tables.{Tables, held, validIn}
 use Rattle.array_data.specs.Rules.{oneIn, twoIn, buffersIn}
-use Rattle.array_data.specs.Typed.{NodeKind, fixedNode, stringNode, viewNode, listViewNode, sparseNode, denseNode, runEndNode, dictionaryNode, Tree, tablesFrom, kindRule, nodeRule}
+use Rattle.array_data.specs.Typed.{NodeKind, fixedNode, stringNode, viewNode, listViewNode, listNode, sparseNode, denseNode, runEndNode, dictionaryNode, Tree, tablesFrom, kindRule, nodeRule}
 use Rattle.lent.specs.Lent.{treeOf}
 use Rattle.lent.proofs.Ids.{both}
 use Rattle.lent_tables.specs.Lent.{tables, maskOf}
@@ -36,6 +36,7 @@ module _ (t : Tree) (x : Tables) where
   masked (stringNode w) i h = record { may = true; bits = both (maskOf x i true) _ (both (twoIn x i) _ h .1) .0 }
   masked viewNode i h = record { may = true; bits = both (maskOf x i true) _ (both (oneIn x i && buffersIn x i) _ h .1) .0 }
   masked (listViewNode w) i h = record { may = true; bits = both (maskOf x i true) _ (both (twoIn x i) _ h .1) .0 }
+  masked (listNode w) i h = record { may = true; bits = both (maskOf x i true) _ (both (oneIn x i) _ h .1) .0 }
   masked (sparseNode ids) i h = record { may = false; bits = both (maskOf x i false) _ (both (oneIn x i) _ h .1) .0 }
   masked (denseNode ids) i h = record { may = false; bits = both (maskOf x i false) _ (both (twoIn x i) _ h .1) .0 }
   masked (runEndNode w) i h = record { may = false; bits = both (maskOf x i false) _ (both (held x i && validIn x i) _ h .1) .0 }

@@ -4,7 +4,7 @@ use mathlib.Core.Bool.{Bool, true, false}
 use mathlib.Core.List.{List}
 use Prim.Native.Nat.{ℕ, suc, _≤_, _<_}
 use native.Mathlib.Omega.{arith}
-use Rattle.columnar.specs.Types.{Ty, tPlain, tView, tListView, tSparse, tDense, tRunEnd, tDictionary}
+use Rattle.columnar.specs.Types.{Ty, tPlain, tView, tListView, tList, tSparse, tDense, tRunEnd, tDictionary}
 use Rattle.columnar.specs.Reading.{Body, Column}
 use Rattle.walk.specs.State.{endOf}
 use Rattle.model.specs.Try.{Try, done, stop, then, guard}
@@ -23,6 +23,7 @@ module _ (x : Lent) (m : ℕ) (c c′ : List ℕ) (μ μ′ : Memory) (stay : (j
   joins-stay (suc k) (tPlain p) i ss w a h = tt
   joins-stay (suc k) tView i ss w a h = tt
   joins-stay (suc k) (tListView v t) i ss w a h = joins-stay k t (suc i) (λ j. ss j .child .body) (w .4) a h
+  joins-stay (suc k) (tList v t) i ss w a h = joins-stay k t (suc i) (λ j. ss j .child .body) (w .4) a h
   joins-stay (suc k) (tSparse ids nullable f) i ss w a h = λ e q.
       let v = field-of (x .plan) (λ z. Worded (x .plan) k (f z)) nullable (endOf (x .plan) i) ids (suc i) 32 e (w .4) (omega (arith, w .2)) q in
       joins-stay k (f e) (childOf (x .plan) i e) (λ j. ss j .children e .body) (v .is-kid) (a e q) (h e q)

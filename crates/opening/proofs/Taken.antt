@@ -9,7 +9,7 @@ use native.Mathlib.Omega.{arith}
 use lib.ListN.{length, take, drop}
 use lib.Dec.{T, leb, eqb}
 use borrow.Author.Tests.{leb-true, eqb-true, eqb-false}
-use Rattle.columnar.specs.Types.{Plain, fixed, string, Ty, tPlain, tView, tListView, tSparse, tDense, tRunEnd, tDictionary}
+use Rattle.columnar.specs.Types.{Plain, fixed, string, Ty, tPlain, tView, tListView, tList, tSparse, tDense, tRunEnd, tDictionary}
 use Rattle.columnar.specs.Array.{ok, nullsIn, nullCount}
 use Rattle.columnar.specs.Reading.{Column, Source}
 use Rattle.formats.specs.Code.{isView}
@@ -75,6 +75,7 @@ module _ (tree : Tree) (own : Tables) where
   stands-at (tPlain p) i = tt
   stands-at tView i = tt
   stands-at (tListView w u) i = stands-at u (suc i)
+  stands-at (tList w u) i = stands-at u (suc i)
   stands-at (tSparse ids nullable f) i = λ c q. stands-at (f c) (nodeOf tree i ids c)
   stands-at (tDense ids nullable f) i = λ c q. stands-at (f c) (nodeOf tree i ids c)
   stands-at (tRunEnd w u) i = stands-at u (suc (suc i))
@@ -107,6 +108,7 @@ module _ (formats schema : List ℕ) (x : Tables) (first n : ℕ) (within : with
   few-at (tPlain p) i h = tt
   few-at tView i h = rw (length-seg _ (place own i 7) (place own i 8)) (few-there i (h .0) (view-code formats schema first i (h .1)))
   few-at (tListView w u) i h = few-at u (suc i) (h .1)
+  few-at (tList w u) i h = few-at u (suc i) (h .1)
   few-at (tSparse ids nullable f) i h = λ c q. few-at (f c) (nodeOf tree i ids c) (h .1 c q .1)
   few-at (tDense ids nullable f) i h = λ c q. few-at (f c) (nodeOf tree i ids c) (h .1 c q .1)
   few-at (tRunEnd w u) i h = few-at u (suc (suc i)) (h .2)

@@ -8,10 +8,9 @@ use lib.ListN.{length}
 use lib.Dec.{eqb}
 use borrow.Author.Tests.{eqb-false}
 use Rattle.lent_tables.proofs.Laws.{and-left, and-right}
-use Rattle.columnar.specs.Types.{Plain, fixed, string, Ty, tPlain, tView, tListView, tSparse, tDense, tRunEnd, tDictionary}
+use Rattle.columnar.specs.Types.{Plain, fixed, string, Ty, tPlain, tView, tListView, tList, tSparse, tDense, tRunEnd, tDictionary}
 use Rattle.columnar.specs.Reading.{Body}
 use Rattle.columnar.specs.Formed.{Ids, Formed}
-use Rattle.formats.specs.Code.{isString}
 use Rattle.model.specs.Opening.{keeps, shared}
 use Rattle.walk.specs.State.{word, codeOf, dictionaryOf, endOf, lengthOf}
 use Rattle.walk.specs.Log.{Out, each}
@@ -23,10 +22,10 @@ use Rattle.room.specs.Room.{AllBelow}
 use Rattle.room.specs.Reach.{Closed, UsedAt, Typed, typed}
 use Rattle.room.proofs.Bytes.{bytes-encode}
 use Rattle.room.proofs.Copies.{used-copies}
-use Rattle.room.proofs.Found.{between-both}
+use Rattle.room.proofs.Found.{between-both, between-wide}
 use Rattle.room.proofs.Uses.{used-wide, Uses, uses-done, uses-wrote, uses-cond, uses-need, uses-next, uses-each}
-use Rattle.parts.specs.Parts.{nodesOf, copied, Used}
-use Rattle.parts.proofs.Words.{string-buffers, has-buffers}
+use Rattle.parts.specs.Parts.{nodesOf, copied, hasOffsets, Used}
+use Rattle.parts.proofs.Words.{offsets-buffer, has-buffers}
 use Rattle.orders.specs.Order.{Lent, joinOf, sourceCount}
 use Rattle.orders.proofs.Buffers.{copied-part}
 use Rattle.orders.proofs.Cover.{Laid}
@@ -55,8 +54,8 @@ closed-values : (plan : List ℕ) (v : ℕ) → codeOf plan v < 15 → Closed pl
 closed-values plan v l =
     record {
       own = λ i e. e;
-      item = λ i e h. absurd (let z = between-both 17 18 (codeOf plan i) h in low i e (omega (arith, z .0)));
-      child = λ i k e h d. absurd (let z = between-both 19 20 (codeOf plan i) h in low i e (omega (arith, z .0)));
+      item = λ i e h. absurd (let z = between-both 17 20 (codeOf plan i) h in low i e (omega (arith, z .0)));
+      child = λ i k e h d. absurd (let z = between-both 21 22 (codeOf plan i) h in low i e (omega (arith, z .0)));
       ends = λ i e h. absurd (low i e (omega (arith, h)));
       values = λ i e h. absurd (low i e (omega (arith, h)));
     }
@@ -78,9 +77,9 @@ module _ (x : Lent) where
   first-uses : (r : ℕ) (c : List ℕ) → r < nodesOf (x .plan) → Uses U (firstOffset x r c)
   unfolding firstOffset
   first-uses r c l =
-      uses-cond U (isString (codeOf (x .plan) r) && copied (x .plan) r) _ _
-      (λ e. let s = string-buffers (codeOf (x .plan) r) (and-left (isString (codeOf (x .plan) r)) (copied (x .plan) r) e) in
-      uses-wrote U _ c (record { node = l; part = has-buffers (x .plan) r (and-right (isString (codeOf (x .plan) r)) (copied (x .plan) r) e) 0 (omega arith) }, omega arith, bytes-encode _ 0))
+      uses-cond U (hasOffsets (codeOf (x .plan) r) && copied (x .plan) r) _ _
+      (λ e. let s = offsets-buffer (codeOf (x .plan) r) (and-left (hasOffsets (codeOf (x .plan) r)) (copied (x .plan) r) e) in
+      uses-wrote U _ c (record { node = l; part = has-buffers (x .plan) r (and-right (hasOffsets (codeOf (x .plan) r)) (copied (x .plan) r) e) 0 (omega arith) }, omega arith, bytes-encode _ 0))
       (λ e. uses-done U c)
 
   pub zeros-use : (c : List ℕ) → Uses U (each (firstOffset x) (nodesOf (x .plan)) 0 c)
@@ -160,16 +159,19 @@ module _ (x : Lent) where
         more-use i (endOf plan i) (w .1) (λ c. nothing-uses i c (no-dictionary plan laid i here (not-fixed plan laid i 15 16 (omega arith) (w .2)))) (none-use (suc i) (endOf plan i) (sym e))
     dictionaries-use (suc k) (tListView v t) i u ss w o here l q =
         more-use i (endOf plan i) (worded-span plan (suc k) (tListView v t) i w) (λ c. nothing-uses i c (no-dictionary plan laid i here (not-fixed plan laid i 17 18 (omega arith) (w .2))))
-        (subst (AllUse (suc i)) (sym (w .1)) (dictionaries-use k t (suc i) (keeps u m (λ j. ss j .child)) (λ j. ss j .child .body) (w .4) (o .1) (closed-here plan laid .item i here (w .2)) l (q .1)))
+        (subst (AllUse (suc i)) (sym (w .1)) (dictionaries-use k t (suc i) (keeps u m (λ j. ss j .child)) (λ j. ss j .child .body) (w .4) (o .1) (closed-here plan laid .item i here (between-wide 17 18 17 20 (codeOf plan i) (omega arith) (omega arith) (w .2))) l (q .1)))
+    dictionaries-use (suc k) (tList v t) i u ss w o here l q =
+        more-use i (endOf plan i) (worded-span plan (suc k) (tList v t) i w) (λ c. nothing-uses i c (no-dictionary plan laid i here (not-fixed plan laid i 19 20 (omega arith) (w .2))))
+        (subst (AllUse (suc i)) (sym (w .1)) (dictionaries-use k t (suc i) (keeps u m (λ j. ss j .child)) (λ j. ss j .child .body) (w .4) (o .1) (closed-here plan laid .item i here (between-wide 19 20 17 20 (codeOf plan i) (omega arith) (omega arith) (w .2))) l (q .1)))
     dictionaries-use (suc k) (tSparse ids nullable f) i u ss w o here l q =
-        let z = is-union plan i 19 (w .1) refl in
-        more-use i (endOf plan i) (w .3) (λ c. nothing-uses i c (no-dictionary plan laid i here (not-fixed plan laid i 19 20 (omega arith) z)))
+        let z = is-union plan i 21 (w .1) refl in
+        more-use i (endOf plan i) (w .3) (λ c. nothing-uses i c (no-dictionary plan laid i here (not-fixed plan laid i 21 22 (omega arith) z)))
         (fields-use k f nullable (endOf plan i) (childOf plan i) ids (suc i) 32 (w .4) (o .0) (omega (arith, w .2)) (λ e p. refl)
         (λ e p. let d = child-here plan laid k f nullable ids i here z (w .2) (w .4) e p in
         dictionaries-use k (f e) (childOf plan i e) (keeps u m (λ j. ss j .children e)) (λ j. ss j .children e .body) (d .1) (o .1 e p) (d .0) (l e p) (q e p .1)))
     dictionaries-use (suc k) (tDense ids nullable f) i u ss w o here l q =
-        let z = is-union plan i 20 (w .1) refl in
-        more-use i (endOf plan i) (w .3) (λ c. nothing-uses i c (no-dictionary plan laid i here (not-fixed plan laid i 19 20 (omega arith) z)))
+        let z = is-union plan i 22 (w .1) refl in
+        more-use i (endOf plan i) (w .3) (λ c. nothing-uses i c (no-dictionary plan laid i here (not-fixed plan laid i 21 22 (omega arith) z)))
         (fields-use k f nullable (endOf plan i) (childOf plan i) ids (suc i) 32 (w .4) (o .0) (omega (arith, w .2)) (λ e p. refl)
         (λ e p. let d = child-here plan laid k f nullable ids i here z (w .2) (w .4) e p in
         dictionaries-use k (f e) (childOf plan i e) (keeps u m (λ j. ss j .children e)) (λ j. ss j .children e .body) (d .1) (o .1 e p) (d .0) (l e p) (q e p .1)))

@@ -8,7 +8,7 @@ use native.Mathlib.Decide.{decLt}
 use native.Mathlib.Omega.{arith}
 use lib.Dec.{T, eqb}
 use borrow.Author.Tests.{le-leb, eqb-true, eqb-false}
-use Rattle.columnar.specs.Types.{Number, f32, f64, Plain, fixed, string, Ty, tPlain, tView, tListView, tSparse, tDense, tRunEnd, tDictionary}
+use Rattle.columnar.specs.Types.{Number, f32, f64, Plain, fixed, string, Ty, tPlain, tView, tListView, tList, tSparse, tDense, tRunEnd, tDictionary}
 use Rattle.columnar.specs.Wider.{integer}
 use Rattle.columnar.specs.Formed.{Formed}
 use Rattle.columnar.specs.Reading.{Column}
@@ -203,6 +203,7 @@ module _ (formats schema sources : List ℕ) (x : Tables) (keep : Bool) (ok : so
   entries-at (tPlain p) i o h = tt
   entries-at tView i o h = tt
   entries-at (tListView w u) i o h = entries-at u (suc i) (o .1) (λ s l. h s l .1)
+  entries-at (tList w u) i o h = entries-at u (suc i) (o .1) (λ s l. h s l .1)
   entries-at (tSparse ids nullable f) i o h = λ e q.
       let kid : (s : ℕ) → s < m → childOf plan i e ≡ nodeOf (tree s) i ids e = λ s l. same-kid s l i true ids (h s l .0) e q in
       subst (λ z. EntriesLent lent (f e) (childOf plan i e) m (λ s. bodyOf (tree 0) (own s) (f e) z)) (kid 0 (some-sources formats schema sources x keep ok))

@@ -11,17 +11,15 @@ use borrow.Author.Tests.{le-leb, eq-eqb, eqb-true, eqb-false}
 use Rattle.lent_tables.proofs.Laws.{and-left, and-right}
 use Rattle.number.specs.Number.{encode}
 use Rattle.number.proofs.Laws.{length-encode}
-use Rattle.formats.specs.Code.{isString}
 use Rattle.array_data.specs.Tables.{Tables}
 use Rattle.walk.specs.State.{word, codeOf, dictionaryOf, bytesOf, endOf, rows, bytes, lengthOf, top}
 use Rattle.walk.specs.Log.{put, Out, apply}
 use Rattle.room.specs.Room.{AllBelow, AllUsed}
 use Rattle.columns.specs.Grounds.{sourcesGround}
-use Rattle.parts.specs.Parts.{nodesOf, copied, partTotal, partsPlaced, partsWithin, partsHold, Used}
+use Rattle.parts.specs.Parts.{nodesOf, copied, hasOffsets, neededBy, partTotal, partsPlaced, partsWithin, partsHold, Used}
 use Rattle.orders.specs.Sound.{planSound}
 use Rattle.orders.specs.Order.{Lent, joinOf, sourceCount}
 use Rattle.orders.specs.Written.{OnlyUsed, AllMade}
-use Rattle.orders.proofs.Buffers.{needed-offsets}
 use Rattle.orders.proofs.Sound.{closed-nodes, ends-fixed, node-stands}
 use Rattle.orders.proofs.Grows.{Fine, Behind, Added, Adds, due, adds-done, adds-fail, adds-wrote, adds-cond, adds-need, adds-next, adds-each, adds-whole}
 use Rattle.orders.proofs.GrowsCopies.{adds-copies}
@@ -37,10 +35,10 @@ module _ (x : Lent) (sound : planSound (x .plan) ≡ true) (values : (i : ℕ) �
   abbrev P : List ℕ
   P = x .plan
 
-  offset-behind : (i : ℕ) (c : List ℕ) → isString (codeOf P i) ≡ true → Behind P false 0 0 c c (put i 1 0 (encode (bytesOf P i) 0))
+  offset-behind : (i : ℕ) (c : List ℕ) → hasOffsets (codeOf P i) ≡ true → Behind P false 0 0 c c (put i 1 0 (encode (bytesOf P i) 0))
   offset-behind i c h =
       let l = length-encode (bytesOf P i) 0 in
-      let n = needed-offsets (codeOf P i) (rows c i + due 0 0 i) (bytes c i) h in
+      let n : neededBy (codeOf P i) (rows c i + due 0 0 i) (bytes c i) 1 ≡ (rows c i + due 0 0 i + 1) * bytesOf P i = rw h in
       let p : 0 < rows c i + due 0 0 i + 1 = omega arith in
       let g = le-mul-of-pos-right (bytesOf P i) p in
       let f = mul-comm (bytesOf P i) (rows c i + due 0 0 i + 1) in
@@ -49,8 +47,8 @@ module _ (x : Lent) (sound : planSound (x .plan) ≡ true) (values : (i : ℕ) �
   adds-offset : (i : ℕ) (c : List ℕ) → Adds P false 0 0 c (firstOffset x i c)
   unfolding firstOffset
   adds-offset i c =
-      adds-cond P false 0 0 c (isString (codeOf P i) && copied P i) _ _
-      (λ e. adds-wrote P false 0 0 _ c (offset-behind i c (and-left (isString (codeOf P i)) (copied P i) e)))
+      adds-cond P false 0 0 c (hasOffsets (codeOf P i) && copied P i) _ _
+      (λ e. adds-wrote P false 0 0 _ c (offset-behind i c (and-left (hasOffsets (codeOf P i)) (copied P i) e)))
       (λ e. adds-done P false 0 0 c)
 
   adds-source : (i s : ℕ) (c : List ℕ) → i < nodesOf P → Adds P false 0 0 c (joinSource x i s c)

@@ -10,7 +10,6 @@ use lib.ListN.{length, getD, replicate}
 use lib.Dec.{eqb}
 use borrow.Author.Tests.{ne-eqb}
 use Rattle.number.specs.Number.{encode}
-use Rattle.formats.specs.Code.{isString}
 use Rattle.walk.specs.State.{word, codeOf, dictionaryOf, bytesOf, rows, nulls, bytes}
 use Rattle.walk.specs.Log.{put, Out, wrote, each}
 use Rattle.link.specs.Memory.{Memory, putIn}
@@ -18,7 +17,7 @@ use Rattle.link.specs.Holds.{flag}
 use Rattle.link.proofs.Goes.{Quiet, quiet-done, quiet-wrote, quiet-then}
 use Rattle.link.proofs.Frame.{SameAt}
 use Rattle.link.proofs.Writes.{put-own, put-other}
-use Rattle.parts.specs.Parts.{copied}
+use Rattle.parts.specs.Parts.{copied, hasOffsets}
 use Rattle.orders.specs.Order.{Lent}
 use Rattle.opening.specs.Open.{firstOffset}
 
@@ -40,8 +39,8 @@ pub record Fresh (plan c : List ℕ) (μ : Memory) (j : ℕ) : Type 0 where
   pub no-nulls : nulls c j ≡ 0
   pub no-bytes : bytes c j ≡ 0
   pub no-bits : μ .bits j ≡ []
-  pub zero-offset : isString (codeOf plan j) ≡ true → μ .at j 1 ≡ encode (bytesOf plan j) 0
-  pub no-entries : isString (codeOf plan j) ≡ false → μ .at j 1 ≡ []
+  pub zero-offset : hasOffsets (codeOf plan j) ≡ true → μ .at j 1 ≡ encode (bytesOf plan j) 0
+  pub no-entries : hasOffsets (codeOf plan j) ≡ false → μ .at j 1 ≡ []
   pub no-data : μ .at j 2 ≡ []
 
 pub fresh-same : (plan c c′ : List ℕ) (μ μ′ : Memory) (j : ℕ) → SameAt c c′ μ μ′ j → Fresh plan c μ j → Fresh plan c′ μ′ j
@@ -79,9 +78,9 @@ module _ (x : Lent) (c : List ℕ) where
   record Zeroed (r : ℕ) (c′ : List ℕ) (μ : Memory) : Type 0 where
     counts-are : c′ ≡ c
     bits-none : (j : ℕ) → μ .bits j ≡ []
-    first : (j : ℕ) → j < r → isString (codeOf (x .plan) j) ≡ true → copied (x .plan) j ≡ true → μ .at j 1 ≡ encode (bytesOf (x .plan) j) 0
+    first : (j : ℕ) → j < r → hasOffsets (codeOf (x .plan) j) ≡ true → copied (x .plan) j ≡ true → μ .at j 1 ≡ encode (bytesOf (x .plan) j) 0
     later : (j : ℕ) → r ≤ j → μ .at j 1 ≡ []
-    other : (j : ℕ) → isString (codeOf (x .plan) j) ≡ false → μ .at j 1 ≡ []
+    other : (j : ℕ) → hasOffsets (codeOf (x .plan) j) ≡ false → μ .at j 1 ≡ []
     second : (j : ℕ) → μ .at j 2 ≡ []
 
   module _ (r : ℕ) (c′ : List ℕ) (μ : Memory) (z : Zeroed r c′ μ) where
@@ -94,23 +93,23 @@ module _ (x : Lent) (c : List ℕ) where
     put-here : putIn r 1 bs μ .at r 1 ≡ bs
     put-here = put-own r 1 bs μ ∙ ap (_++ bs) (z .later r (omega arith))
 
-    written : isString (codeOf (x .plan) r) ≡ true → Zeroed (suc r) c′ (putIn r 1 bs μ)
+    written : hasOffsets (codeOf (x .plan) r) ≡ true → Zeroed (suc r) c′ (putIn r 1 bs μ)
     written s =
         record {
           counts-are = z .counts-are;
           bits-none = z .bits-none;
           first = λ j l e f. by-node j l e f (decLt j r);
           later = λ j l. put-apart j (λ e. omega (arith, e)) ∙ z .later j (omega arith);
-          other = λ j e. put-apart j (λ q. false≢true (sym e ∙ ap (λ n. isString (codeOf (x .plan) n)) q ∙ s)) ∙ z .other j e;
+          other = λ j e. put-apart j (λ q. false≢true (sym e ∙ ap (λ n. hasOffsets (codeOf (x .plan) n)) q ∙ s)) ∙ z .other j e;
           second = λ j. put-else r 1 bs μ j 2 (λ e. omega (arith, e)) ∙ z .second j;
         }
       where
-        by-node : (j : ℕ) → j < suc r → isString (codeOf (x .plan) j) ≡ true → copied (x .plan) j ≡ true → Dec (j < r)
+        by-node : (j : ℕ) → j < suc r → hasOffsets (codeOf (x .plan) j) ≡ true → copied (x .plan) j ≡ true → Dec (j < r)
             → putIn r 1 bs μ .at j 1 ≡ encode (bytesOf (x .plan) j) 0
         by-node j l e f (yes y) = put-apart j (λ q. omega (arith, q)) ∙ z .first j y e f
         by-node j l e f (no y) = let q : r ≡ j = omega arith in subst (λ n. putIn r 1 bs μ .at n 1 ≡ encode (bytesOf (x .plan) n) 0) q put-here
 
-    kept : isString (codeOf (x .plan) r) && copied (x .plan) r ≡ false → Zeroed (suc r) c′ μ
+    kept : hasOffsets (codeOf (x .plan) r) && copied (x .plan) r ≡ false → Zeroed (suc r) c′ μ
     kept s =
         record {
           counts-are = z .counts-are;
@@ -121,18 +120,18 @@ module _ (x : Lent) (c : List ℕ) where
           second = z .second;
         }
       where
-        by-node : (j : ℕ) → j < suc r → isString (codeOf (x .plan) j) ≡ true → copied (x .plan) j ≡ true → Dec (j < r) → μ .at j 1 ≡ encode (bytesOf (x .plan) j) 0
+        by-node : (j : ℕ) → j < suc r → hasOffsets (codeOf (x .plan) j) ≡ true → copied (x .plan) j ≡ true → Dec (j < r) → μ .at j 1 ≡ encode (bytesOf (x .plan) j) 0
         by-node j l e f (yes y) = z .first j y e f
         by-node j l e f (no y) =
             let q : j ≡ r = omega arith in
-            let g : true ≡ false = sym (rw (e, f)) ∙ ap (λ n. isString (codeOf (x .plan) n) && copied (x .plan) n) q ∙ s in
+            let g : true ≡ false = sym (rw (e, f)) ∙ ap (λ n. hasOffsets (codeOf (x .plan) n) && copied (x .plan) n) q ∙ s in
             absurd (false≢true (sym g))
 
     zero-step : Quiet μ (Zeroed (suc r)) (firstOffset x r c′)
     unfolding firstOffset
-    zero-step = go (isString (codeOf (x .plan) r)) refl (copied (x .plan) r) refl
+    zero-step = go (hasOffsets (codeOf (x .plan) r)) refl (copied (x .plan) r) refl
       where
-        go : (a : Bool) → isString (codeOf (x .plan) r) ≡ a → (b : Bool) → copied (x .plan) r ≡ b
+        go : (a : Bool) → hasOffsets (codeOf (x .plan) r) ≡ a → (b : Bool) → copied (x .plan) r ≡ b
             → Quiet μ (Zeroed (suc r)) (cond (a && b) (wrote (put r 1 0 bs) c′) (Rattle.walk.specs.Log.done c′))
         go true e true f = quiet-wrote (put r 1 0 bs) c′ (ap length (sym (z .later r (omega arith)))) (written e)
         go true e false f = quiet-done c′ (kept (rw (e, f)))

@@ -5,7 +5,7 @@ use mathlib.Core.Bool.{true, false}
 use mathlib.Core.Option.{some}
 use mathlib.Core.List.{List, List·Memᴰ}
 use Prim.Native.Nat.{ℕ, suc, _<_}
-use Rattle.columnar.specs.Types.{Number, Plain, Ty, tPlain, tView, tListView, tSparse, tDense, tRunEnd, tDictionary}
+use Rattle.columnar.specs.Types.{Number, Plain, Ty, tPlain, tView, tListView, tList, tSparse, tDense, tRunEnd, tDictionary}
 use Rattle.columnar.specs.Plain.{PlainBody}
 use Rattle.columnar.specs.Dictionary.{Dictionary}
 use Rattle.columnar.specs.Reading.{Body}
@@ -39,6 +39,7 @@ abbrev pub EntriesLent : Lent → (t : Ty) → ℕ → ℕ → (ℕ → Body t) 
 EntriesLent x (tPlain p) i m ss = Unit {0}
 EntriesLent x tView i m ss = Unit {0}
 EntriesLent x (tListView w t) i m ss = EntriesLent x t (suc i) m (λ j. ss j .child .body)
+EntriesLent x (tList w t) i m ss = EntriesLent x t (suc i) m (λ j. ss j .child .body)
 EntriesLent x (tSparse ids nullable f) i m ss = (e : ℕ) → List·Memᴰ e ids → EntriesLent x (f e) (childOf (x .plan) i e) m (λ j. ss j .children e .body)
 EntriesLent x (tDense ids nullable f) i m ss = (e : ℕ) → List·Memᴰ e ids → EntriesLent x (f e) (childOf (x .plan) i e) m (λ j. ss j .children e .body)
 EntriesLent x (tRunEnd w t) i m ss = EntriesLent x t (suc (suc i)) m (λ j. ss j .values .body)
@@ -51,6 +52,7 @@ abbrev pub Joins : List ℕ → (t : Ty) → ℕ → ℕ → (ℕ → Body t) �
 Joins plan (tPlain p) i m ss c μ = Unit {0}
 Joins plan tView i m ss c μ = Unit {0}
 Joins plan (tListView w t) i m ss c μ = Joins plan t (suc i) m (λ j. ss j .child .body) c μ
+Joins plan (tList w t) i m ss c μ = Joins plan t (suc i) m (λ j. ss j .child .body) c μ
 Joins plan (tSparse ids nullable f) i m ss c μ = (e : ℕ) → List·Memᴰ e ids → Joins plan (f e) (childOf plan i e) m (λ j. ss j .children e .body) c μ
 Joins plan (tDense ids nullable f) i m ss c μ = (e : ℕ) → List·Memᴰ e ids → Joins plan (f e) (childOf plan i e) m (λ j. ss j .children e .body) c μ
 Joins plan (tRunEnd w t) i m ss c μ = Joins plan t (suc (suc i)) m (λ j. ss j .values .body) c μ

@@ -3,7 +3,7 @@
 use mathlib.Core.Bool.{Bool, true, false, _&&_, _||_}
 use mathlib.Core.List.{List}
 use Prim.Native.Nat.{ℕ, suc}
-use Rattle.columnar.specs.Types.{Plain, Ty, tPlain, tView, tListView, tSparse, tDense, tRunEnd, tDictionary}
+use Rattle.columnar.specs.Types.{Plain, Ty, tPlain, tView, tListView, tList, tSparse, tDense, tRunEnd, tDictionary}
 use Rattle.columnar.specs.Plain.{PlainBody}
 use Rattle.columnar.specs.Dictionary.{Dictionary}
 use Rattle.columnar.specs.Reading.{Body, Column}
@@ -31,6 +31,7 @@ module _ (plan parts : List ℕ) where
   entriesFit (tPlain p) i m ss = true
   entriesFit tView i m ss = true
   entriesFit (tListView w t) i m ss = entriesFit t (suc i) m (λ j. ss j .child .body)
+  entriesFit (tList w t) i m ss = entriesFit t (suc i) m (λ j. ss j .child .body)
   entriesFit (tSparse ids nullable f) i m ss = each (λ e. entriesFit (f e) (childOf plan i e) m (λ j. ss j .children e .body)) ids
   entriesFit (tDense ids nullable f) i m ss = each (λ e. entriesFit (f e) (childOf plan i e) m (λ j. ss j .children e .body)) ids
   entriesFit (tRunEnd w t) i m ss = entriesFit t (suc (suc i)) m (λ j. ss j .values .body)

@@ -5,7 +5,7 @@ use mathlib.Core.Bool.{Bool, false, not}
 use mathlib.Core.List.{List, List·Memᴰ}
 use Prim.Native.Nat.{ℕ, suc, _<_}
 use lib.ListN.{length}
-use Rattle.columnar.specs.Types.{Ty, tPlain, tView, tListView, tSparse, tDense, tRunEnd, tDictionary}
+use Rattle.columnar.specs.Types.{Ty, tPlain, tView, tListView, tList, tSparse, tDense, tRunEnd, tDictionary}
 use Rattle.columnar.specs.Reading.{Body}
 use Rattle.model.specs.Opening.{keeps, shared, startOfKeys}
 use Rattle.model.specs.Primitive.{buffersBefore}
@@ -22,6 +22,8 @@ module _ (plan : List ℕ) (m : ℕ) where
   Kept (tPlain p) i u ss = Unit {0}
   Kept tView i u ss = (s : ℕ) → s < m → baseOf plan s i ≡ length (buffersBefore ss s)
   Kept (tListView w t) i u ss =
+      (keepsOf plan (suc i) ≡ flag (keeps u m (λ s. ss s .child))) × Kept t (suc i) (keeps u m (λ s. ss s .child)) (λ s. ss s .child .body)
+  Kept (tList w t) i u ss =
       (keepsOf plan (suc i) ≡ flag (keeps u m (λ s. ss s .child))) × Kept t (suc i) (keeps u m (λ s. ss s .child)) (λ s. ss s .child .body)
   Kept (tSparse ids nullable f) i u ss =
       (c : ℕ)

@@ -9,7 +9,7 @@ use lib.Dec.{leb, eqb}
 use Rattle.number.specs.Number.{encode}
 use Rattle.columnar.specs.Types.{Number}
 use Rattle.columnar.specs.Test.{every}
-use Rattle.formats.specs.Code.{isString, isInteger}
+use Rattle.formats.specs.Code.{isInteger}
 use Rattle.formats.specs.Types.{numberOf}
 use Rattle.array_data.specs.Tables.{Tables}
 use Rattle.walk.specs.State.{word, codeOf, dictionaryOf, bytesOf, baseOf, lengthOf}
@@ -17,7 +17,7 @@ use Rattle.walk.specs.Log.{Out, put, done, wrote, need, next, each, apply}
 use Rattle.walk.specs.Copy.{copyWalk}
 use Rattle.columns.specs.Grounds.{sourcesGround}
 use Rattle.sharing.specs.Sources.{keyFits}
-use Rattle.parts.specs.Parts.{nodesOf, copied, partTotal, partsPlaced, partsHold}
+use Rattle.parts.specs.Parts.{nodesOf, copied, hasOffsets, partTotal, partsPlaced, partsHold}
 use Rattle.plan.specs.Plan.{planned}
 use Rattle.orders.specs.Order.{Lent, joinOf, sourceCount}
 
@@ -31,9 +31,9 @@ pub record Opening : Type 0 where
 -- ---- the walk of an opening, by the plan
 
 module _ (x : Lent) where
-  -- "`new_buffers` for the first zero offset": a byte string's, where it has a part
+  -- "`new_buffers` for the first zero offset": a byte string's or list's, where it has a part
   unfoldable pub firstOffset : ℕ → List ℕ → Out
-  firstOffset i c = cond (isString (codeOf (x .plan) i) && copied (x .plan) i) (wrote (put i 1 0 (encode (bytesOf (x .plan) i) 0)) c) (done c)
+  firstOffset i c = cond (hasOffsets (codeOf (x .plan) i) && copied (x .plan) i) (wrote (put i 1 0 (encode (bytesOf (x .plan) i) 0)) c) (done c)
 
   -- all entries of source s at node i, behind those that are there
   unfoldable pub joinSource : ℕ → ℕ → List ℕ → Out

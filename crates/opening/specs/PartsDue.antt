@@ -4,7 +4,7 @@
 use mathlib.Core.Bool.{Bool, true, false, cond, _&&_}
 use mathlib.Core.List.{List, [], _∷_}
 use Prim.Native.Nat.{ℕ, _+_}
-use Rattle.columnar.specs.Types.{Plain, fixed, string, Ty, tPlain, tView, tListView, tSparse, tDense, tRunEnd, tDictionary}
+use Rattle.columnar.specs.Types.{Plain, fixed, string, Ty, tPlain, tView, tListView, tList, tSparse, tDense, tRunEnd, tDictionary}
 use Rattle.columnar.specs.Reading.{Body, Column, masks}
 use Rattle.model.specs.Opening.{keeps, shared}
 
@@ -23,12 +23,14 @@ plainDue (string w) = 2
 
 module _ (m : ℕ) where
   -- the buffers of a node that keeps nulls (u) or not, and all parts below it. "A node keeps nulls if the caller says so or any source has a
-  -- null at that node; this passes to union, list-view and run-value children, not to run ends and dictionaries."
+  -- null at that node; this passes to union, list-view, list and run-value children, not to run ends and dictionaries."
   abbrev pub dueBelow : (t : Ty) → Bool → (ℕ → Body t) → ℕ
   dueBelow (tPlain p) u ss = plainDue p
   dueBelow tView u ss = 1
   dueBelow (tListView w t) u ss =
       2 + (validityDue (masks t) (keeps u m (λ s. ss s .child)) + dueBelow t (keeps u m (λ s. ss s .child)) (λ s. ss s .child .body))
+  dueBelow (tList w t) u ss =
+      1 + (validityDue (masks t) (keeps u m (λ s. ss s .child)) + dueBelow t (keeps u m (λ s. ss s .child)) (λ s. ss s .child .body))
   dueBelow (tSparse ids nullable f) u ss =
       1
       + summed (λ c. validityDue (masks (f c)) (keeps u m (λ s. ss s .children c)) + dueBelow (f c) (keeps u m (λ s. ss s .children c)) (λ s. ss s .children c .body))

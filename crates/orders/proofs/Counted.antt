@@ -7,7 +7,7 @@ use Prim.Native.Nat.{ℕ, suc, _+_, _*_, _/_}
 use lib.ListN.{length}
 use lib.Dec.{leb, eqb}
 use borrow.Author.Tests.{eq-eqb, ne-eqb}
-use Rattle.columnar.specs.Types.{Plain, fixed, string, Ty, tPlain, tView, tListView, tSparse, tDense, tRunEnd, tDictionary}
+use Rattle.columnar.specs.Types.{Plain, fixed, string, Ty, tPlain, tView, tListView, tList, tSparse, tDense, tRunEnd, tDictionary}
 use Rattle.columnar.specs.Reading.{Body, Column, masks}
 use Rattle.columnar.specs.Test.{each}
 use Rattle.model.specs.Grounds.{Counts, rowsOf, bytesOf, kidOf, among}
@@ -40,6 +40,7 @@ sizes-are (tPlain (fixed n)) m ss b d l f = one f
 sizes-are (tPlain (string w)) m ss b d l f = two (f .offsets-are) refl
 sizes-are tView m ss b d l f = one (f .views-are)
 sizes-are (tListView w t) m ss b d l f = two (f .offsets-are) (f .sizes-are)
+sizes-are (tList w t) m ss b d l f = one (f .offsets-fine .offsets-are)
 sizes-are (tSparse ids nullable g) m ss b d l f = one (f .ids-are)
 sizes-are (tDense ids nullable g) m ss b d l f = two (f .ids-are) (f .positions-are)
 sizes-are (tRunEnd w t) m ss b d l f = refl
@@ -87,6 +88,8 @@ module _ (plan parts : List ℕ) (c : List ℕ) (μ : Memory) where
     fits-counted tView i ss d f h = node-same tView i m ss d f h true refl
     fits-counted (tListView w t) i ss d f h =
         node-same (tListView w t) i m ss d f h _ (fits-counted t (suc i) (λ j. ss j .body .child) (d .«data» .child) (f .data-fine .child-fine) (h .data-are .2))
+    fits-counted (tList w t) i ss d f h =
+        node-same (tList w t) i m ss d f h _ (fits-counted t (suc i) (λ j. ss j .body .child) (d .«data» .child) (f .data-fine .child-fine) (h .data-are .1))
     fits-counted (tSparse ids nullable g) i ss d f h =
         node-same (tSparse ids nullable g) i m ss d f h _
         (kids-same ids g i 0 (d .«data» .children) (λ e q. fits-counted (g e) (childOf plan i e) (λ j. ss j .body .children e) (d .«data» .children e) (f .data-fine .kids-fine e q) (h .data-are .1 e q)))

@@ -11,7 +11,7 @@ use lib.ListN.{length}
 use lib.Dec.{leb}
 use borrow.Author.Tests.{leb-true, le-leb, lt-ltb}
 use Rattle.lent_tables.proofs.Laws.{and-left, and-right}
-use Rattle.columnar.specs.Types.{fixed, string, Ty, tPlain, tView, tListView, tSparse, tDense, tRunEnd, tDictionary}
+use Rattle.columnar.specs.Types.{fixed, string, Ty, tPlain, tView, tListView, tList, tSparse, tDense, tRunEnd, tDictionary}
 use Rattle.columnar.specs.Formed.{Formed, Ids}
 use Rattle.columnar.specs.Reading.{Column, masks}
 use Rattle.columnar.specs.Test.{each}
@@ -37,7 +37,7 @@ pub record Laid (plan : List ℕ) : Type 0 where
   pub tabled : Tabled plan (endOf plan 0)
   pub plain-ends : (i : ℕ) → i < endOf plan 0 → codeOf plan i < 15 → dictionaryOf plan i ≡ 0 → endOf plan i ≡ suc i
   pub view-ends : (i : ℕ) → i < endOf plan 0 → isView (codeOf plan i) ≡ true → endOf plan i ≡ suc i
-  pub run-ends : (i : ℕ) → i < endOf plan 0 → codeOf plan i ≡ 21 → (isFixed (codeOf plan (suc i)) ≡ true) × (keepsOf plan (suc i) ≡ 0)
+  pub run-ends : (i : ℕ) → i < endOf plan 0 → codeOf plan i ≡ 23 → (isFixed (codeOf plan (suc i)) ≡ true) × (keepsOf plan (suc i) ≡ 0)
 
 -- ---- all members
 
@@ -131,6 +131,10 @@ module _ (plan parts : List ℕ) (laid : Laid plan) (c : List ℕ) (μ : Memory)
       node-covered (suc k) (tListView v t) i ss d w f h e
       (λ g j b p q. let z : endOf plan i ≡ endOf plan (suc i) = w .1 in
       covered k t (suc i) (λ j. ss j .body .child) (d .«data» .child) (w .4) (o .1) (omega arith) (f .data-fine .child-fine) (h .data-are .2) g j b (omega arith) (omega arith))
+  covered (suc k) (tList v t) i ss d w o l f h e =
+      node-covered (suc k) (tList v t) i ss d w f h e
+      (λ g j b p q. let z : endOf plan i ≡ endOf plan (suc i) = w .1 in
+      covered k t (suc i) (λ j. ss j .body .child) (d .«data» .child) (w .4) (o .1) (omega arith) (f .data-fine .child-fine) (h .data-are .1) g j b (omega arith) (omega arith))
   covered (suc k) (tSparse ids nullable g) i ss d w o l f h e =
       node-covered (suc k) (tSparse ids nullable g) i ss d w f h e
       (λ a. union-covered k g nullable ids i (o .0) (w .2) (w .4)
@@ -163,7 +167,7 @@ module _ (plan parts : List ℕ) (laid : Laid plan) (c : List ℕ) (μ : Memory)
       below : Covered (suc (suc i)) → length (d .«data» .ends .«data») ≤ sizeOf plan parts (suc i) 1 → CoveredBelow i
       below g s j b p q free has = go (decLt (suc i) j)
         where
-          low : codeOf plan (suc i) < 19
+          low : codeOf plan (suc i) < 21
           low = let z = between-both 1 10 (codeOf plan (suc i)) (ends .0) in omega (arith, z .1)
 
           go : Dec (suc i < j) → Bounded plan parts c μ j b
@@ -171,7 +175,7 @@ module _ (plan parts : List ℕ) (laid : Laid plan) (c : List ℕ) (μ : Memory)
           go (no y) =
               let z : suc i ≡ j = omega arith in
               subst (λ v. Bounded plan parts c μ v b) z
-              (own-covers plan parts c μ (suc i) (d .«data» .ends .«data» ∷ []) own (subst (Free plan) (sym z) free) true (sym (lt-ltb (codeOf plan (suc i)) 19 low)) none
+              (own-covers plan parts c μ (suc i) (d .«data» .ends .«data» ∷ []) own (subst (Free plan) (sym z) free) true (sym (lt-ltb (codeOf plan (suc i)) 21 low)) none
               (d .«data» .ends .len) (h .data-are .0) (ends .1) tt refl (rw (le-leb _ _ s)) b (subst (λ v. hasPart plan v b ≡ true) (sym z) has))
   covered (suc k) (tDictionary n p) i ss d w o l f h e =
       node-covered (suc k) (tDictionary n p) i ss d w f h e

@@ -9,7 +9,7 @@ use native.Mathlib.Omega.{arith}
 use lib.Dec.{leb, eqb}
 use borrow.Author.Tests.{leb-true, le-leb}
 use Rattle.columnar.specs.Row.{Row}
-use Rattle.columnar.specs.Types.{width, Plain, fixed, string, Ty, tPlain, tView, tListView, tSparse, tDense, tRunEnd, tDictionary}
+use Rattle.columnar.specs.Types.{width, Plain, fixed, string, Ty, tPlain, tView, tListView, tList, tSparse, tDense, tRunEnd, tDictionary}
 use Rattle.columnar.specs.Reading.{Column, Source, masks}
 use Rattle.columnar.specs.Test.{each}
 use Rattle.model.specs.Try.{Try, done, stop, then, guard, after}
@@ -49,6 +49,7 @@ sizes-less : (t : Ty) (u : Under) (x y : Counts) → Cut t u x y → AllLess (si
 sizes-less (tPlain p) u x y h = plain-sizes-less p u x y h
 sizes-less tView u x y h = (mul-le-mul-right 16 (h .rows-less), tt)
 sizes-less (tListView w t) u x y h = (mul-le-mul-right w (h .rows-less), (mul-le-mul-right w (h .rows-less), tt))
+sizes-less (tList w t) u x y h = (mul-le-mul-right w (omega (arith, h .rows-less)), tt)
 sizes-less (tSparse ids nullable f) u x y h = (h .rows-less, tt)
 sizes-less (tDense ids nullable f) u x y h = (h .rows-less, (mul-le-mul-right 4 (h .rows-less), tt))
 sizes-less (tRunEnd w t) u x y h = tt
@@ -86,6 +87,8 @@ module _ (plan parts : List ℕ) where
   below-less (tPlain p) u i x y h e = refl
   below-less tView u i x y h e = refl
   below-less (tListView w t) u i x y h e =
+      node-less t (underList u) (suc i) _ _ (kidOf x 0) (kidOf y 0) h (below-less t (underList u) (suc i) (kidOf x 0) (kidOf y 0) (h .below-less)) e
+  below-less (tList w t) u i x y h e =
       node-less t (underList u) (suc i) _ _ (kidOf x 0) (kidOf y 0) h (below-less t (underList u) (suc i) (kidOf x 0) (kidOf y 0) (h .below-less)) e
   below-less (tSparse ids nullable f) u i x y h e =
       each-less _ _ ids

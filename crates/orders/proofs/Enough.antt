@@ -8,7 +8,7 @@ use native.Mathlib.Omega.{arith}
 use lib.ListN.{length}
 use lib.Dec.{eqb}
 use borrow.Author.Tests.{le-leb, eqb-true, eqb-false}
-use Rattle.columnar.specs.Types.{Ty, tPlain, tView, tListView, tSparse, tDense, tRunEnd, tDictionary}
+use Rattle.columnar.specs.Types.{Ty, tPlain, tView, tListView, tList, tSparse, tDense, tRunEnd, tDictionary}
 use Rattle.columnar.specs.Formed.{Formed}
 use Rattle.columnar.specs.Reading.{Column, masks}
 use Rattle.columnar.specs.Test.{every, onlyIf}
@@ -19,7 +19,7 @@ use Rattle.link.specs.Memory.{Memory}
 use Rattle.link.specs.Holds.{childOf, Fields, Worded, Holds}
 use Rattle.link.proofs.Frame.{field-of, worded-span}
 use Rattle.room.specs.Reach.{Typed, typed, Free}
-use Rattle.room.proofs.Found.{child-first, child-with}
+use Rattle.room.proofs.Found.{between-wide, child-first, child-with}
 use Rattle.room.proofs.Closure.{closed-free}
 use Rattle.parts.specs.Parts.{nodesOf, hasPart, needed, sizeOf, partHolds, partsHold, Used}
 use Rattle.parts.proofs.Placed.{used-holds}
@@ -79,9 +79,14 @@ module _ (plan parts : List ℕ) (laid : Laid plan) (c : List ℕ) (μ : Memory)
   enough (suc k) tView i ss d w o l f h e = node-enough (suc k) tView i ss d w o f h e refl
   enough (suc k) (tListView v t) i ss d w o l f h e =
       let z : endOf plan i ≡ endOf plan (suc i) = w .1 in
-      let here = closed-free plan 0 (endOf plan 0) (laid .tabled) .item i (typed (suc k) (tListView v t) w (omega arith) l, o) (w .2) in
+      let here = closed-free plan 0 (endOf plan 0) (laid .tabled) .item i (typed (suc k) (tListView v t) w (omega arith) l, o) (between-wide 17 18 17 20 (codeOf plan i) (omega arith) (omega arith) (w .2)) in
       node-enough (suc k) (tListView v t) i ss d w o f h e
       (enough k t (suc i) (λ j. ss j .body .child) (d .«data» .child) (w .4) (here .1) (omega arith) (f .data-fine .child-fine) (h .data-are .2) (less (omega arith) (omega arith) e))
+  enough (suc k) (tList v t) i ss d w o l f h e =
+      let z : endOf plan i ≡ endOf plan (suc i) = w .1 in
+      let here = closed-free plan 0 (endOf plan 0) (laid .tabled) .item i (typed (suc k) (tList v t) w (omega arith) l, o) (between-wide 19 20 17 20 (codeOf plan i) (omega arith) (omega arith) (w .2)) in
+      node-enough (suc k) (tList v t) i ss d w o f h e
+      (enough k t (suc i) (λ j. ss j .body .child) (d .«data» .child) (w .4) (here .1) (omega arith) (f .data-fine .child-fine) (h .data-are .1) (less (omega arith) (omega arith) e))
   enough (suc k) (tSparse ids nullable g) i ss d w o l f h e =
       let u : isUnion (codeOf plan i) ≡ true = ap isUnion (w .1) in
       node-enough (suc k) (tSparse ids nullable g) i ss d w o f h e

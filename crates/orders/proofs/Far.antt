@@ -5,7 +5,7 @@ use Prim.Native.Nat.{ℕ, suc, _+_, _≤_}
 use native.Mathlib.Omega.{arith}
 use lib.Dec.{leb, ltb}
 use borrow.Author.Tests.{le-ltb, lt-leb}
-use Rattle.columnar.specs.Types.{half, fixed, string, Ty, tPlain, tView, tListView, tSparse, tDense, tRunEnd, tDictionary}
+use Rattle.columnar.specs.Types.{half, fixed, string, Ty, tPlain, tView, tListView, tList, tSparse, tDense, tRunEnd, tDictionary}
 use Rattle.columnar.specs.Formed.{RunWidth, four, eight, two, Formed}
 use Rattle.walk.specs.State.{far}
 use Rattle.model.specs.Try.{Try, done, stop, then, guard}
@@ -73,6 +73,7 @@ alike-nulls (tPlain (fixed n)) a b c o p q = both _ _
 alike-nulls (tPlain (string w)) a b c o p q = both _ _
 alike-nulls tView a b c o p q = both _ _
 alike-nulls (tListView w t) a b c o p q = both _ _
+alike-nulls (tList w t) a b c o p q = both _ _
 alike-nulls (tSparse ids nullable f) a b c o p q =
     same-then (home nullable ids) (all-kids ids f c (suc a)) (all-kids ids f c (suc b))
     (λ h. alike-each (λ e. unlessNone (nullsAsk (f e)) (suc a) (kidOf c e)) (λ e. unlessNone (nullsAsk (f e)) (suc b) (kidOf c e)) ids _ _

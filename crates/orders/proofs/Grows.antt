@@ -14,14 +14,14 @@ use Rattle.formats.specs.Code.{isString, isListView, widthOf}
 use Rattle.walk.specs.State.{codeOf, rows, nulls, bytes, top, grown, beyond, addRows, addNulls, setBytes}
 use Rattle.walk.specs.Log.{Entry, put, mask, Log, Out, fail, done, wrote, need, found, next, each}
 use Rattle.link.proofs.Counters.{rows-added, bytes-set, rows-other, bytes-of-rows, rows-of-nulls, bytes-of-nulls, bytes-other, rows-of-bytes, long-rows, long-nulls, long-bytes}
-use Rattle.parts.specs.Parts.{entrySize, needed, neededBy}
+use Rattle.parts.specs.Parts.{hasOffsets, entrySize, needed, neededBy}
 use Rattle.orders.specs.Written.{Ends}
 
 -- ---- the bytes that a buffer needs
 
 pub needed-more : (z r s m n b : ℕ) → r ≤ s → m ≤ n → neededBy z r m b ≤ neededBy z s n b
 needed-more z r s m n zero h k = omega arith
-needed-more z r s m n (suc zero) h k = go (isString z)
+needed-more z r s m n (suc zero) h k = go (hasOffsets z)
   where
     go : (t : Bool) → cond t ((r + 1) * widthOf z) (r * entrySize z) ≤ cond t ((s + 1) * widthOf z) (s * entrySize z)
     go true = mul-le-mul-right (widthOf z) (omega arith)
@@ -47,7 +47,7 @@ needed-cut z r m b h = go (decLt top r)
   where
     at-top : (b : ℕ) → neededBy z top m b < beyond → neededBy z r m b ≡ neededBy z top m b
     at-top zero g = absurd (omega arith)
-    at-top (suc zero) g = by (isString z) g
+    at-top (suc zero) g = by (hasOffsets z) g
       where
         by : (t : Bool) → cond t ((top + 1) * widthOf z) (top * entrySize z) < beyond → cond t ((r + 1) * widthOf z) (r * entrySize z) ≡ cond t ((top + 1) * widthOf z) (top * entrySize z)
         by true g = same-times (top + 1) (r + 1) (widthOf z) (omega arith) g

@@ -11,7 +11,7 @@ use borrow.Author.Tests.{ltb-true, eqb-true, eqb-false}
 use Rattle.number.specs.Number.{number, encode, entry}
 use Rattle.number.proofs.Laws.{length-encode}
 use Rattle.bits.specs.Bits.{bitsAt, bits}
-use Rattle.formats.specs.Code.{isFixed, isString, isView, isListView, isUnion, widthOf}
+use Rattle.formats.specs.Code.{isFixed, isString, isView, isListView, isList, isUnion, widthOf}
 use Rattle.utils.specs.Pieces.{pieces}
 use Rattle.utils.specs.Offsets.{largest, moved, movedOffsets}
 use Rattle.utils.specs.Extension.{pick, overAt, extended}
@@ -27,11 +27,11 @@ use Rattle.walk.specs.State.{Join, codeOf, dictionaryOf, endOf, keepsOf, baseOf
 use Rattle.walk.specs.Log.{put, done, wrote, next}
 use Rattle.link.proofs.Counters.{bytes-set}
 use Rattle.walk.specs.Leaves.{copyBits, copyMask, copyNumbers, copyKeys, copyViews, putString, putExtended, copyString}
-use Rattle.walk.specs.Copy.{Walk, isWidth, masked, listViewRow, copyListView, copyFields, copySparse, idAt, denseTo, denseRow, copyDense, putRuns, runsAt, copyRuns, copyData, copySlots, copyNode, copyWalk}
+use Rattle.walk.specs.Copy.{Walk, isWidth, masked, listViewRow, copyListView, putStretch, putList, copyList, copyFields, copySparse, idAt, denseTo, denseRow, copyDense, putRuns, runsAt, copyRuns, copyData, copySlots, copyNode, copyWalk}
 use Rattle.room.specs.Reach.{Child, Closed}
-use Rattle.room.proofs.Found.{and-first, child-first, child-later, child-with}
+use Rattle.room.proofs.Found.{between-wide, and-first, child-first, child-later, child-with}
 use Rattle.parts.specs.Parts.{neededBy}
-use Rattle.orders.proofs.Buffers.{needed-fixed, needed-offsets, needed-chars, needed-views, needed-starts, needed-sizes}
+use Rattle.orders.proofs.Buffers.{needed-fixed, needed-offsets, needed-chars, needed-views, needed-starts, needed-sizes, needed-ends}
 use Rattle.orders.proofs.Grows.{Fine, AllBehind, Behind, Adds, due, longer-same, behind-wide, longer-bytes, fine-bytes, behind-rows, behind-all, behind-offsets, behind-bits, adds-done, adds-nulls, adds-fail, adds-wrote, adds-cond, adds-need, adds-found, adds-next, adds-each, adds-whole, adds-close, adds-close-two}
 
 -- ---- lengths
@@ -95,7 +95,7 @@ last-after w s from n last = go (ltb (entry w s from n) (entry w s from 0)) (ltb
     go false false true = over _ _
     go false false false = let l : last ≤ moved w s from last n = omega arith in fits (moved w s from last n) (entry w s from 0) l
 
-module _ (x : Join) (In At : ℕ → Type 0) (closed : Closed (x .state) In At) (run-ends : (i : ℕ) → In i → codeOf (x .state) i ≡ 21 → isFixed (codeOf (x .state) (suc i)) ≡ true) (late : Bool) where
+module _ (x : Join) (In At : ℕ → Type 0) (closed : Closed (x .state) In At) (run-ends : (i : ℕ) → In i → codeOf (x .state) i ≡ 23 → isFixed (codeOf (x .state) (suc i)) ≡ true) (late : Bool) where
   abbrev S : List ℕ
   S = x .state
 
@@ -174,11 +174,28 @@ module _ (x : Join) (In At : ℕ → Type 0) (closed : Closed (x .state) In At) 
         (λ r c1 l. adds-need S late i n _ 6 c1 _ (omega arith)
         (λ g. adds-next S late i n c1 _ _ (adds-wrote S late i n _ c1 (behind-rows S late i n 1 (bytesOf S i) r 1 _ (encode (bytesOf S i) _) c1 (λ k m. needed-starts (codeOf S i) k m h) refl (one-entry _) (omega arith)))
         (λ c2. adds-next S late i n c2 _ _ (adds-wrote S late i n _ c2 (behind-rows S late i n 2 (bytesOf S i) r 1 _ (encode (bytesOf S i) _) c2 (λ k m. needed-sizes (codeOf S i) k m h) refl (one-entry _) (omega arith)))
-        (λ c3. kid (suc i) _ _ c3 (closed .item i here h)))))
+        (λ c3. kid (suc i) _ _ c3 (closed .item i here (between-wide 17 18 17 20 (codeOf S i) (omega arith) (omega arith) h))))))
         n 0 c (omega arith)))
       where
         one-entry : (v : ℕ) → length (encode (bytesOf S i) v) ≤ 1 * bytesOf S i
         one-entry v = let l = length-encode (bytesOf S i) v in let m = one-mul (bytesOf S i) in omega arith
+
+    adds-put-list : (from : ℕ) (e : Extended) (c : List ℕ) → isList (codeOf S i) ≡ true → Adds S late i n c (putList x walk (bytesOf S i) i from n e c)
+    unfolding putStretch
+    adds-put-list from (Fits last first) c h =
+        adds-next S late i n c _ _
+        (adds-wrote S late i n _ c (behind-offsets S late i n (bytesOf S i) (movedOffsets (bytesOf S i) (x .body) from (rows c (suc i)) n) c (λ k m. needed-ends (codeOf S i) k m h) (moved-all (bytesOf S i) (x .body) from (rows c (suc i)) n)))
+        (λ c2. kid (suc i) first _ c2 (closed .item i here (between-wide 19 20 17 20 (codeOf S i) (omega arith) (omega arith) h)))
+    adds-put-list from (Over row least) c h = adds-fail S late i n 6 c (omega arith)
+    adds-put-list from Falls c h = adds-fail S late i n 12 c (omega arith)
+
+    adds-list : (slot : ℕ) (c : List ℕ) → isList (codeOf S i) ≡ true → Adds S late i n c (copyList x walk (bytesOf S i) i slot n c)
+    unfolding copyList
+    adds-list slot c h =
+        adds-cond S late i n c (eqb n 0) _ _ (λ e. adds-done S late i n c)
+        (λ e. adds-need S late i n _ 12 c _ (omega arith)
+        (λ f. adds-need S late i n _ 12 c _ (omega arith)
+        (λ g. adds-put-list _ (extended (bytesOf S i) (x .body) (place x i 3 + bytesOf S i * slot) n (rows c (suc i))) c h)))
 
     adds-fields : (slot m fuel k : ℕ) (c : List ℕ) → isUnion (codeOf S i) ≡ true → (k < endOf S i → Child S i k) → Adds S late i n c (copyFields x walk slot m (endOf S i) fuel k c)
     unfolding copyFields
@@ -189,7 +206,7 @@ module _ (x : Join) (In At : ℕ → Type 0) (closed : Closed (x .state) In At) 
         adds-next S late i n c _ _ (kid k slot m c (closed .child i k here h f)) (λ c2. adds-fields slot m fuel (endOf S k) c2 h (child-later S i k f)))
         (λ e. adds-done S late i n c)
 
-    adds-sparse : (slot : ℕ) (c : List ℕ) → codeOf S i ≡ 19 → isUnion (codeOf S i) ≡ true → Adds S late i n c (copySparse x walk i slot n c)
+    adds-sparse : (slot : ℕ) (c : List ℕ) → codeOf S i ≡ 21 → isUnion (codeOf S i) ≡ true → Adds S late i n c (copySparse x walk i slot n c)
     unfolding copySparse
     adds-sparse slot c q u =
         adds-need S late i n _ 12 c _ (omega arith)
@@ -199,7 +216,7 @@ module _ (x : Join) (In At : ℕ → Type 0) (closed : Closed (x .state) In At) 
     four : (v : ℕ) → length (encode 4 v) ≤ 1 * 4
     four v = let l = length-encode 4 v in omega arith
 
-    adds-dense : (slot : ℕ) (c : List ℕ) → codeOf S i ≡ 20 → isUnion (codeOf S i) ≡ true → Adds S late i n c (copyDense x walk i slot n c)
+    adds-dense : (slot : ℕ) (c : List ℕ) → codeOf S i ≡ 22 → isUnion (codeOf S i) ≡ true → Adds S late i n c (copyDense x walk i slot n c)
     unfolding copyDense denseRow denseTo
     adds-dense slot c q u =
         adds-need S late i n _ 12 c _ (omega arith)
@@ -211,7 +228,7 @@ module _ (x : Join) (In At : ℕ → Type 0) (closed : Closed (x .state) In At) 
         (λ c3. kid _ _ 1 c3 (closed .child i _ here u (child-with S i (idAt x walk i (slot + r)) 32 (suc i) (child-first S i) l)))))))
         n 0 c (omega arith))
 
-    adds-put-runs : (slot : ℕ) (r : Runs) (c : List ℕ) → codeOf S i ≡ 21 → suc (suc i) < 32 → Adds S late i n c (putRuns x walk (bytesOf S (suc i)) i slot n r c)
+    adds-put-runs : (slot : ℕ) (r : Runs) (c : List ℕ) → codeOf S i ≡ 23 → suc (suc i) < 32 → Adds S late i n c (putRuns x walk (bytesOf S (suc i)) i slot n r c)
     adds-put-runs slot None c q s = adds-fail S late i n 12 c (omega arith)
     adds-put-runs slot (Range start count) c q s =
         adds-next S late i n c _ _ (kid (suc (suc i)) (start .0) count c (closed .values i here q))
@@ -220,7 +237,7 @@ module _ (x : Join) (In At : ℕ → Type 0) (closed : Closed (x .state) In At) 
         (needs-all (suc i) count (omega arith) 1 (bytesOf S (suc i)) _ c2 (λ k m. needed-fixed (codeOf S (suc i)) k m (run-ends i here q))
         (le-of-eq (length-clipped (bytesOf S (suc i)) (x .body) _ slot (slot + n) (rows c i) count ∙ mul-comm (bytesOf S (suc i)) count)))))
 
-    adds-runs : (slot : ℕ) (c : List ℕ) → codeOf S i ≡ 21 → Adds S late i n c (copyRuns x walk i slot n c)
+    adds-runs : (slot : ℕ) (c : List ℕ) → codeOf S i ≡ 23 → Adds S late i n c (copyRuns x walk i slot n c)
     unfolding copyRuns
     adds-runs slot c q =
         adds-cond S late i n c (eqb n 0) _ _ (λ e. adds-done S late i n c)
@@ -240,10 +257,11 @@ module _ (x : Join) (In At : ℕ → Type 0) (closed : Closed (x .state) In At) 
         (λ e1. adds-cond S late i n c (isString (codeOf S i)) _ _ (λ e. adds-string i n small slot c e)
         (λ e2. adds-cond S late i n c (isView (codeOf S i)) _ _ (λ e. adds-views i n small slot c e)
         (λ e3. adds-cond S late i n c (isListView (codeOf S i)) _ _ (λ e. adds-list-view slot c e)
-        (λ e4. adds-cond S late i n c (eqb (codeOf S i) 19) _ _ (λ e. adds-sparse slot c (eqb-true (codeOf S i) 19 e) (union 19 e refl))
-        (λ e5. adds-cond S late i n c (eqb (codeOf S i) 20) _ _ (λ e. adds-dense slot c (eqb-true (codeOf S i) 20 e) (union 20 e refl))
-        (λ e6. adds-cond S late i n c (eqb (codeOf S i) 21) _ _ (λ e. adds-runs slot c (eqb-true (codeOf S i) 21 e))
-        (λ e7. adds-fail S late i n 12 c (omega arith))))))))
+        (λ e4. adds-cond S late i n c (isList (codeOf S i)) _ _ (λ e. adds-list slot c e)
+        (λ e5. adds-cond S late i n c (eqb (codeOf S i) 21) _ _ (λ e. adds-sparse slot c (eqb-true (codeOf S i) 21 e) (union 21 e refl))
+        (λ e6. adds-cond S late i n c (eqb (codeOf S i) 22) _ _ (λ e. adds-dense slot c (eqb-true (codeOf S i) 22 e) (union 22 e refl))
+        (λ e7. adds-cond S late i n c (eqb (codeOf S i) 23) _ _ (λ e. adds-runs slot c (eqb-true (codeOf S i) 23 e))
+        (λ e8. adds-fail S late i n 12 c (omega arith)))))))))
 
   adds-node : (walk : Walk) (below : (k a n : ℕ) (c : List ℕ) → In k → Adds S late k 0 c (walk k a n c)) (i a n : ℕ) (c : List ℕ) → In i → Adds S late i 0 c (copyNode x walk i a n c)
   unfolding copyNode copySlots

@@ -10,18 +10,18 @@ use lib.Dec.{ltb, eqb}
 use borrow.Author.Tests.{ltb-true, eqb-true}
 use Rattle.number.specs.Number.{encode}
 use Rattle.number.proofs.Laws.{length-encode}
-use Rattle.formats.specs.Code.{isFixed, isString, isView, isListView, isUnion}
+use Rattle.formats.specs.Code.{isFixed, isString, isView, isListView, isList, isUnion}
 use Rattle.utils.specs.Offsets.{repeated, countedUp}
 use Rattle.utils.proofs.Pieces.{length-numbers}
 use Rattle.walk.specs.State.{Join, codeOf, endOf, keepsOf, idOf, bytesOf, rows, bytes}
 use Rattle.walk.specs.Log.{put, mask, wrote}
 use Rattle.walk.specs.Leaves.{nullMask, countNulls, nullNumbers, nullString}
 use Rattle.walk.specs.Copy.{isWidth, masked}
-use Rattle.walk.specs.Nulls.{NullWalk, nullableChild, noHome, nullListView, nullFields, nullSparse, nullDense, nullRuns, nullData, nullNode, nullWalk}
+use Rattle.walk.specs.Nulls.{NullWalk, nullableChild, noHome, nullListView, nullList, nullFields, nullSparse, nullDense, nullRuns, nullData, nullNode, nullWalk}
 use Rattle.room.specs.Reach.{Child, Closed}
 use Rattle.room.proofs.Found.{and-first, child-first, child-later, child-nullable}
 use Rattle.parts.specs.Parts.{neededBy}
-use Rattle.orders.proofs.Buffers.{needed-fixed, needed-offsets, needed-views, needed-starts, needed-sizes}
+use Rattle.orders.proofs.Buffers.{needed-fixed, needed-offsets, needed-views, needed-starts, needed-sizes, needed-ends}
 use Rattle.orders.proofs.Grows.{Adds, behind-rows, behind-all, behind-offsets, behind-bits, adds-done, adds-nulls, adds-fail, adds-wrote, adds-cond, adds-need, adds-found, adds-next, adds-whole, adds-close, adds-close-two}
 
 same : (n v : ℕ) → length (replicate n v) ≡ n
@@ -35,7 +35,7 @@ counted-all : (w v n : ℕ) → length (countedUp w v n) ≡ w * n
 unfolding countedUp
 counted-all w v n = length-numbers w _ n
 
-module _ (x : Join) (In At : ℕ → Type 0) (closed : Closed (x .state) In At) (run-ends : (i : ℕ) → In i → codeOf (x .state) i ≡ 21 → isFixed (codeOf (x .state) (suc i)) ≡ true) (late : Bool) where
+module _ (x : Join) (In At : ℕ → Type 0) (closed : Closed (x .state) In At) (run-ends : (i : ℕ) → In i → codeOf (x .state) i ≡ 23 → isFixed (codeOf (x .state) (suc i)) ≡ true) (late : Bool) where
   abbrev S : List ℕ
   S = x .state
 
@@ -64,11 +64,18 @@ module _ (x : Join) (In At : ℕ → Type 0) (closed : Closed (x .state) In At) 
     kid : (k m : ℕ) (c : List ℕ) → In k → Adds S late i n c (walk k m c)
     kid k m c h = adds-whole S late i n k c (walk k m c) (below k m c h)
 
-    adds-null-list : (c : List ℕ) → isListView (codeOf S i) ≡ true → Adds S late i n c (nullListView x walk (bytesOf S i) i n c)
+    adds-null-list-view : (c : List ℕ) → isListView (codeOf S i) ≡ true → Adds S late i n c (nullListView x walk (bytesOf S i) i n c)
     unfolding nullListView
-    adds-null-list c h =
+    adds-null-list-view c h =
         adds-next S late i n c _ _ (adds-zeros i n small 1 (bytesOf S i) c (λ k m. needed-starts (codeOf S i) k m h))
         (λ c2. adds-zeros i n small 2 (bytesOf S i) c2 (λ k m. needed-sizes (codeOf S i) k m h))
+
+    adds-null-list : (c : List ℕ) → isList (codeOf S i) ≡ true → Adds S late i n c (nullList x walk (bytesOf S i) i n c)
+    unfolding nullList
+    adds-null-list c h =
+        adds-need S late i n _ 12 c _ (omega arith)
+        (λ e. adds-wrote S late i n _ c
+        (behind-offsets S late i n (bytesOf S i) (repeated (bytesOf S i) (rows c (suc i)) n) c (λ k m. needed-ends (codeOf S i) k m h) (repeated-all (bytesOf S i) (rows c (suc i)) n)))
 
     adds-null-fields : (m fuel k : ℕ) (c : List ℕ) → isUnion (codeOf S i) ≡ true → (k < endOf S i → Child S i k) → Adds S late i n c (nullFields x walk m (endOf S i) fuel k c)
     unfolding nullFields
@@ -90,13 +97,13 @@ module _ (x : Join) (In At : ℕ → Type 0) (closed : Closed (x .state) In At) 
     ids : (c : List ℕ) (v : ℕ) → isUnion (codeOf S i) ≡ true → ((k m : ℕ) → neededBy (codeOf S i) k m 1 ≡ k * 1) → Adds S late i n c (wrote (put i 1 (rows c i) (replicate n v)) c)
     ids c v u h = adds-wrote S late i n _ c (behind-rows S late i n 1 1 0 n (rows c i) (replicate n v) c h (omega arith) (let l = same n v in omega arith) (omega arith))
 
-    adds-null-sparse : (c : List ℕ) → codeOf S i ≡ 19 → isUnion (codeOf S i) ≡ true → Adds S late i n c (nullSparse x walk i n c)
+    adds-null-sparse : (c : List ℕ) → codeOf S i ≡ 21 → isUnion (codeOf S i) ≡ true → Adds S late i n c (nullSparse x walk i n c)
     unfolding nullSparse
     adds-null-sparse c q u =
         adds-found S late i n 32 _ _ c _ some-ground
         (λ l. adds-next S late i n c _ _ (ids c _ u (λ k m. rw q refl)) (λ c2. adds-null-fields n 32 (suc i) c2 u (child-first S i)))
 
-    adds-null-dense : (c : List ℕ) → codeOf S i ≡ 20 → isUnion (codeOf S i) ≡ true → Adds S late i n c (nullDense x walk i n c)
+    adds-null-dense : (c : List ℕ) → codeOf S i ≡ 22 → isUnion (codeOf S i) ≡ true → Adds S late i n c (nullDense x walk i n c)
     unfolding nullDense
     adds-null-dense c q u =
         adds-found S late i n 32 _ _ c _ some-ground
@@ -105,7 +112,7 @@ module _ (x : Join) (In At : ℕ → Type 0) (closed : Closed (x .state) In At) 
         (λ c2. adds-next S late i n c2 _ _ (adds-wrote S late i n _ c2 (behind-all S late i n 2 4 (countedUp 4 _ n) c2 (λ k m. rw q refl) (le-of-eq (counted-all 4 _ n ∙ mul-comm 4 n))))
         (λ c3. kid _ n c3 (closed .child i _ here u (child-nullable S i 32 (suc i) (child-first S i) l))))))
 
-    adds-null-runs : (c : List ℕ) → codeOf S i ≡ 21 → Adds S late i n c (nullRuns x walk i n c)
+    adds-null-runs : (c : List ℕ) → codeOf S i ≡ 23 → Adds S late i n c (nullRuns x walk i n c)
     unfolding nullRuns
     adds-null-runs c q =
         adds-need S late i n _ 12 c _ (omega arith)
@@ -126,11 +133,12 @@ module _ (x : Join) (In At : ℕ → Type 0) (closed : Closed (x .state) In At) 
         adds-cond S late i n c (isFixed (codeOf S i)) _ _ (λ e. adds-zeros i n small 1 (bytesOf S i) c (λ k m. needed-fixed (codeOf S i) k m e))
         (λ e1. adds-cond S late i n c (isString (codeOf S i)) _ _ (λ e. adds-null-string i n small c e)
         (λ e2. adds-cond S late i n c (isView (codeOf S i)) _ _ (λ e. adds-zeros i n small 1 16 c (λ k m. needed-views (codeOf S i) k m e))
-        (λ e3. adds-cond S late i n c (isListView (codeOf S i)) _ _ (λ e. adds-null-list c e)
-        (λ e4. adds-cond S late i n c (eqb (codeOf S i) 19) _ _ (λ e. adds-null-sparse c (eqb-true (codeOf S i) 19 e) (union 19 e refl))
-        (λ e5. adds-cond S late i n c (eqb (codeOf S i) 20) _ _ (λ e. adds-null-dense c (eqb-true (codeOf S i) 20 e) (union 20 e refl))
-        (λ e6. adds-cond S late i n c (eqb (codeOf S i) 21) _ _ (λ e. adds-null-runs c (eqb-true (codeOf S i) 21 e))
-        (λ e7. adds-fail S late i n 12 c (omega arith))))))))
+        (λ e3. adds-cond S late i n c (isListView (codeOf S i)) _ _ (λ e. adds-null-list-view c e)
+        (λ e4. adds-cond S late i n c (isList (codeOf S i)) _ _ (λ e. adds-null-list c e)
+        (λ e5. adds-cond S late i n c (eqb (codeOf S i) 21) _ _ (λ e. adds-null-sparse c (eqb-true (codeOf S i) 21 e) (union 21 e refl))
+        (λ e6. adds-cond S late i n c (eqb (codeOf S i) 22) _ _ (λ e. adds-null-dense c (eqb-true (codeOf S i) 22 e) (union 22 e refl))
+        (λ e7. adds-cond S late i n c (eqb (codeOf S i) 23) _ _ (λ e. adds-null-runs c (eqb-true (codeOf S i) 23 e))
+        (λ e8. adds-fail S late i n 12 c (omega arith)))))))))
 
   adds-null-node : (walk : NullWalk) (below : (k n : ℕ) (c : List ℕ) → In k → Adds S late k 0 c (walk k n c)) (i n : ℕ) (c : List ℕ) → In i → Adds S late i 0 c (nullNode x walk i n c)
   unfolding nullNode

@@ -11,7 +11,7 @@ use lib.ListN.{length, getD}
 use lib.Dec.{leb, ltb}
 use borrow.Author.Tests.{leb-true, le-leb, ltb-true, ltb-false}
 use Rattle.lent_tables.proofs.Laws.{and-left, and-right}
-use Rattle.columnar.specs.Types.{fixed, string, Ty, tPlain, tView, tListView, tSparse, tDense, tRunEnd, tDictionary}
+use Rattle.columnar.specs.Types.{fixed, string, Ty, tPlain, tView, tListView, tList, tSparse, tDense, tRunEnd, tDictionary}
 use Rattle.columnar.specs.Reading.{Body}
 use Rattle.walk.specs.State.{codeOf, keepsOf, rows, bytes}
 use Rattle.model.specs.Transform.{Grown}
@@ -22,7 +22,7 @@ use Rattle.link.specs.Holds.{Worded, flag, HoldsBits, HoldsData}
 use Rattle.room.specs.Reach.{Free}
 use Rattle.parts.specs.Parts.{bufferCount, copied, hasPart, needed, neededBy, sizeOf}
 use Rattle.orders.specs.Fits.{buffersOf, fitsBits, fitsAll}
-use Rattle.orders.proofs.Buffers.{fixed-one, string-two, view-one, list-two, needed-fixed, needed-offsets, needed-chars, needed-views, needed-starts, needed-sizes, copied-free, copied-buffer, buffer-copied, copied-bits, bits-copied}
+use Rattle.orders.proofs.Buffers.{fixed-one, string-two, view-one, list-two, lists-one, needed-fixed, needed-offsets, needed-chars, needed-views, needed-starts, needed-ends, needed-sizes, copied-free, copied-buffer, buffer-copied, copied-bits, bits-copied}
 
 length-map : (l : List Bool) → length (map flag l) ≡ length l
 length-map [] = refl
@@ -58,16 +58,16 @@ module _ (plan parts : List ℕ) where
       pub needs-are : (k : ℕ) → k < length bs → needed plan c i (suc k) ≡ length (getD bs k [])
       pub lie : (k : ℕ) → k < length bs → μ .at i (suc k) ≡ getD bs k []
 
-    module _ (i : ℕ) (bs : List (List ℕ)) (own : Own i bs) (whole : copied plan i ≡ true) (valid : Bool) (code : valid ≡ ltb (codeOf plan i) 19)
+    module _ (i : ℕ) (bs : List (List ℕ)) (own : Own i bs) (whole : copied plan i ≡ true) (valid : Bool) (code : valid ≡ ltb (codeOf plan i) 21)
         (bits : Option (List Bool)) (n : ℕ) (rows-are : rows c i ≡ n) (held : HoldsBits plan i valid bits μ) where
-      bits-cover : (v : Bool) → v ≡ ltb (codeOf plan i) 19 → (o : Option (List Bool)) → BitsFor v o n → HoldsBits plan i v o μ → fitsBits plan parts i v o n ≡ true
-          → (keepsOf plan i ≡ 0 → ⊥) → codeOf plan i < 19 → Bounded i 0
+      bits-cover : (v : Bool) → v ≡ ltb (codeOf plan i) 21 → (o : Option (List Bool)) → BitsFor v o n → HoldsBits plan i v o μ → fitsBits plan parts i v o n ≡ true
+          → (keepsOf plan i ≡ 0 → ⊥) → codeOf plan i < 21 → Bounded i 0
       bits-cover v e none b h f k l = absurd (k h)
       bits-cover true e (some x) b h f k l =
           let g : (n + 7) / 8 ≤ sizeOf plan parts i 0 = leb-true _ _ f in
           let s : length (μ .bits i) ≡ n = ap length (h .1) ∙ length-map x ∙ b in
           record { needs = rw rows-are g; bytes-in = λ z. absurd (omega arith); bits-in = λ z. omega arith }
-      bits-cover false e (some x) b h f k l = absurd (let z : codeOf plan i < 19 → ⊥ = λ q. omega (arith, ltb-false (codeOf plan i) 19 (sym e)) in z l)
+      bits-cover false e (some x) b h f k l = absurd (let z : codeOf plan i < 21 → ⊥ = λ q. omega (arith, ltb-false (codeOf plan i) 21 (sym e)) in z l)
 
       -- where the parts hold the model's buffers ..
       pub whole-covers : BitsFor valid bits n → fitsBits plan parts i valid bits n ≡ true → fitsAll plan parts i 0 bs ≡ true → (b : ℕ) → hasPart plan i b ≡ true → Bounded i b
@@ -81,7 +81,7 @@ module _ (plan parts : List ℕ) where
             bits-in = λ z. absurd (omega arith);
           }
 
-      bits-enough : (v : Bool) → v ≡ ltb (codeOf plan i) 19 → (o : Option (List Bool)) → HoldsBits plan i v o μ → ((b : ℕ) → hasPart plan i b ≡ true → needed plan c i b ≤ sizeOf plan parts i b)
+      bits-enough : (v : Bool) → v ≡ ltb (codeOf plan i) 21 → (o : Option (List Bool)) → HoldsBits plan i v o μ → ((b : ℕ) → hasPart plan i b ≡ true → needed plan c i b ≤ sizeOf plan parts i b)
           → fitsBits plan parts i v o n ≡ true
       bits-enough v e none h f = refl
       bits-enough true e (some x) h f =
@@ -100,7 +100,7 @@ module _ (plan parts : List ℕ) where
       )
 
     -- the same at a node that is no dictionary's values
-    module _ (i : ℕ) (bs : List (List ℕ)) (own : Own i bs) (free : Free plan i) (valid : Bool) (code : valid ≡ ltb (codeOf plan i) 19)
+    module _ (i : ℕ) (bs : List (List ℕ)) (own : Own i bs) (free : Free plan i) (valid : Bool) (code : valid ≡ ltb (codeOf plan i) 21)
         (bits : Option (List Bool)) (n : ℕ) (rows-are : rows c i ≡ n) (held : HoldsBits plan i valid bits μ) where
       pub own-covers : BitsFor valid bits n → fitsBits plan parts i valid bits n ≡ true → fitsAll plan parts i 0 bs ≡ true → (b : ℕ) → hasPart plan i b ≡ true → Bounded i b
       own-covers = whole-covers i bs own (copied-free plan i free) valid code bits n rows-are held
@@ -153,11 +153,14 @@ module _ (plan parts : List ℕ) where
     own-of (suc k) (tListView v t) i m ss b d l w r f h =
         two-own i (d .buffer1) (d .buffer2) (list-two (codeOf plan i) (w .2)) (needed-starts (codeOf plan i) (rows c i) (bytes c i) (w .2) ∙ times r (w .3) ∙ sym (f .offsets-are))
         (needed-sizes (codeOf plan i) (rows c i) (bytes c i) (w .2) ∙ times r (w .3) ∙ sym (f .sizes-are)) (h .0) (h .1)
+    own-of (suc k) (tList v t) i m ss b d l w r f h =
+        one-own i (d .buffer1) (lists-one (codeOf plan i) (w .2))
+        (needed-ends (codeOf plan i) (rows c i) (bytes c i) (w .2) ∙ times (add-one (rows c i) ∙ ap suc r) (w .3) ∙ sym (f .offsets-fine .offsets-are)) (h .0)
     own-of (suc k) (tSparse ids nullable g) i m ss b d l w r f h =
-        let e : codeOf plan i ≡ 19 = w .1 in
+        let e : codeOf plan i ≡ 21 = w .1 in
         one-own i (d .buffer1) (ap bufferCount e) (ap (λ z. neededBy z (rows c i) (bytes c i) 1) e ∙ mul-one (rows c i) ∙ r ∙ sym (f .ids-are)) (h .0)
     own-of (suc k) (tDense ids nullable g) i m ss b d l w r f h =
-        let e : codeOf plan i ≡ 20 = w .1 in
+        let e : codeOf plan i ≡ 22 = w .1 in
         two-own i (d .buffer1) (d .buffer2) (ap bufferCount e) (ap (λ z. neededBy z (rows c i) (bytes c i) 1) e ∙ mul-one (rows c i) ∙ r ∙ sym (f .ids-are))
         (ap (λ z. neededBy z (rows c i) (bytes c i) 2) e ∙ times r refl ∙ sym (f .positions-are)) (h .0) (h .1)
     own-of (suc k) (tRunEnd v t) i m ss b d l w r f h = none-own i (ap bufferCount (w .2))

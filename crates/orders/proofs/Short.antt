@@ -9,7 +9,7 @@ use lib.ListN.{length}
 use lib.Dec.{leb}
 use borrow.Author.Tests.{leb-true}
 use Rattle.lent_tables.proofs.Laws.{and-left, and-right}
-use Rattle.columnar.specs.Types.{Number, i8, u8, i16, u16, i32, u32, i64, u64, f32, f64, width, fixed, string, Ty, tPlain, tView, tListView, tSparse, tDense, tRunEnd, tDictionary}
+use Rattle.columnar.specs.Types.{Number, i8, u8, i16, u16, i32, u32, i64, u64, f32, f64, width, fixed, string, Ty, tPlain, tView, tListView, tList, tSparse, tDense, tRunEnd, tDictionary}
 use Rattle.columnar.specs.Formed.{OffsetWidth, Formed}
 use Rattle.columnar.specs.Reading.{Column, masks}
 use Rattle.walk.specs.State.{codeOf, far}
@@ -19,7 +19,7 @@ use Rattle.model.proofs.Nodes.{fineOf}
 use Rattle.link.specs.Holds.{Worded}
 use Rattle.parts.specs.Parts.{bufferCount, sizeOf}
 use Rattle.orders.specs.Fits.{buffersOf, fitsBits, fitsAll, fitsBelow, fits}
-use Rattle.orders.proofs.Buffers.{fixed-one, string-two, view-one, list-two}
+use Rattle.orders.proofs.Buffers.{fixed-one, string-two, view-one, list-two, lists-one}
 use Rattle.orders.proofs.Far.{half-run}
 
 le-mul : (l w : ℕ) → 0 < w → l ≤ l * w
@@ -66,6 +66,9 @@ module _ (plan parts : List ℕ) (m : ℕ) where
   short-own (suc k) (tListView v t) ss d w o f h r =
       let z = list-two (codeOf plan 0) (w .2) in
       omega (arith, r (omega arith), first-in 0 (d .«data» .buffer1) (d .«data» .buffer2 ∷ []) h, f .data-fine .offsets-are, le-mul (d .len) v (offset-pos v (o .0)))
+  short-own (suc k) (tList v t) ss d w o f h r =
+      let z = lists-one (codeOf plan 0) (w .2) in
+      omega (arith, r (omega arith), first-in 0 (d .«data» .buffer1) [] h, f .data-fine .offsets-fine .offsets-are, le-mul (suc (d .len)) v (offset-pos v (o .0)))
   short-own (suc k) (tSparse ids nullable g) ss d w o f h r =
       let z : bufferCount (codeOf plan 0) ≡ 1 = ap bufferCount (w .1) in
       omega (arith, r (omega arith), first-in 0 (d .«data» .buffer1) [] h, f .data-fine .ids-are)

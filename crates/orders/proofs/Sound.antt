@@ -8,9 +8,9 @@ use lib.Dec.{leb, ltb, eqb}
 use borrow.Author.Tests.{leb-true, leb-false, le-leb, ltb-true, lt-ltb, eqb-true, eq-eqb, ne-eqb}
 use Rattle.columnar.specs.Test.{every, onlyIf}
 use Rattle.lent_tables.proofs.Laws.{and-left, and-right}
-use Rattle.formats.specs.Code.{isFixed, isListView, isUnion, isRunEnd}
+use Rattle.formats.specs.Code.{isFixed, isUnion, isRunEnd}
 use Rattle.walk.specs.State.{codeOf, dictionaryOf, endOf}
-use Rattle.room.specs.Reach.{Child, first, later, Closed, UsedAt}
+use Rattle.room.specs.Reach.{Child, first, later, hasItem, Closed, UsedAt}
 use Rattle.room.proofs.Found.{between-both}
 use Rattle.parts.specs.Parts.{nodesOf, copied, Used}
 use Rattle.parts.proofs.Placed.{every-at}
@@ -35,12 +35,12 @@ module _ (plan : List ℕ) where
     pub inside : endOf plan i ≤ n
     pub below-inside : (j : ℕ) → i < j → j < endOf plan i → endOf plan j ≤ endOf plan i
     pub no-keys : 10 < codeOf plan i → dictionaryOf plan i ≡ 0
-    pub list : isListView (codeOf plan i) ≡ true → suc i < endOf plan i
-    pub runs : codeOf plan i ≡ 21 → (suc (suc i) < endOf plan i) × (dictionaryOf plan (suc i) ≡ 0) × (isFixed (codeOf plan (suc i)) ≡ true)
+    pub list : hasItem (codeOf plan i) ≡ true → suc i < endOf plan i
+    pub runs : codeOf plan i ≡ 23 → (suc (suc i) < endOf plan i) × (dictionaryOf plan (suc i) ≡ 0) × (isFixed (codeOf plan (suc i)) ≡ true)
     pub next-copied : endOf plan i < n → copied plan (endOf plan i) ≡ true
 
   above : (i : ℕ) → kindSound plan i ≡ true → 10 < codeOf plan i
-      → (dictionaryOf plan i ≡ 0) × (cond (isListView (codeOf plan i)) (ltb (suc i) (endOf plan i)) (cond (isRunEnd (codeOf plan i)) (endsSound plan i) true) ≡ true)
+      → (dictionaryOf plan i ≡ 0) × (cond (hasItem (codeOf plan i)) (ltb (suc i) (endOf plan i)) (cond (isRunEnd (codeOf plan i)) (endsSound plan i) true) ≡ true)
   unfolding kindSound
   above i h l =
       let g = rw (lt-false (codeOf plan i) l) at h in
@@ -73,7 +73,7 @@ module _ (plan : List ℕ) where
         inside = leb-true _ _ (and-right (ltb i (endOf plan i)) (leb (endOf plan i) n) b2);
         below-inside = λ j p q. in-nest a2 j p q;
         no-keys = λ l. above i a3 l .0;
-        list = λ e. let z = between-both 17 18 (codeOf plan i) e in ltb-true _ _ (rw e at (above i a3 (omega (arith, z .0)) .1));
+        list = λ e. let z = between-both 17 20 (codeOf plan i) e in ltb-true _ _ (rw e at (above i a3 (omega (arith, z .0)) .1));
         runs = λ e. ends-of i (rw e at (above i a3 (omega arith) .1));
         next-copied = λ l. only-in (lt-ltb _ _ l) a4;
       }
@@ -111,7 +111,7 @@ module _ (plan : List ℕ) where
     child-reached i k l u (first h) =
         let s = node-stands i l in
         let a = s .inside in
-        let z = between-both 19 20 (codeOf plan i) u in
+        let z = between-both 21 22 (codeOf plan i) u in
         (omega arith, free-copied i (s .no-keys (omega (arith, z .0))))
     child-reached i _ l u (later k c h) =
         let a = node-stands i l .inside in
@@ -125,7 +125,7 @@ module _ (plan : List ℕ) where
           own = λ i r. r;
           item = λ i r h.
               let s = node-stands i (r .0) in
-              let z = between-both 17 18 (codeOf plan i) h in
+              let z = between-both 17 20 (codeOf plan i) h in
               let a = s .inside in
               let b = s .list h in
               (omega arith, free-copied i (s .no-keys (omega (arith, z .0))));
@@ -153,10 +153,10 @@ module _ (plan : List ℕ) where
           values = λ i r h. let s = node-stands i r in let a = s .inside in let b = s .runs h in omega (arith, b .0);
         }
 
-    pub ends-fixed : (i : ℕ) → i < nodesOf plan → codeOf plan i ≡ 21 → isFixed (codeOf plan (suc i)) ≡ true
+    pub ends-fixed : (i : ℕ) → i < nodesOf plan → codeOf plan i ≡ 23 → isFixed (codeOf plan (suc i)) ≡ true
     ends-fixed i l h = node-stands i l .runs h .2
 
-    pub run-ends-fixed : (i : ℕ) → Reached i → codeOf plan i ≡ 21 → isFixed (codeOf plan (suc i)) ≡ true
+    pub run-ends-fixed : (i : ℕ) → Reached i → codeOf plan i ≡ 23 → isFixed (codeOf plan (suc i)) ≡ true
     run-ends-fixed i r h = ends-fixed i (r .0) h
 
     -- and a buffer of such a node has a part

@@ -3,9 +3,10 @@ use mathlib.Core.Path.{_≡_, refl, sym, subst, _∙_}
 use mathlib.Core.Bool.{Bool, true, false, cond}
 use mathlib.Core.List.{List}
 use Prim.Native.Nat.{ℕ, zero, suc, _+_, _*_, _<_}
+use native.Mathlib.Omega.{arith}
 use lib.Dec.{ltb, eqb}
 use borrow.Author.Tests.{ltb-true, eqb-true}
-use Rattle.formats.specs.Code.{isFixed, isString, isView, isListView, isUnion}
+use Rattle.formats.specs.Code.{isFixed, isString, isView, isListView, isList, isUnion}
 use Rattle.utils.specs.Extension.{extended}
 use Rattle.utils.specs.declared.Extended.{Extended}
 use Rattle.utils.specs.declared.Extended.the-variants.{Fits, Over, Falls}
@@ -14,11 +15,11 @@ use Rattle.run_ends.specs.declared.Runs.the-variants.{Range, None}
 use Rattle.walk.specs.State.{Join, codeOf, dictionaryOf, endOf, keepsOf, bytesOf, rows, nulls, bytes, place, far, addRows, addNulls, setBytes}
 use Rattle.walk.specs.Log.{Entry, Out, fail, done, wrote, need, found, next, each}
 use Rattle.walk.specs.Leaves.{copyBits, copyMask, copyNumbers, copyKeys, copyViews, putString, putExtended, copyString, nullMask, countNulls, nullNumbers, nullString}
-use Rattle.walk.specs.Copy.{Walk, masked, listViewRow, copyListView, copyFields, copySparse, idAt, denseTo, denseRow, copyDense, putRuns, runsAt, copyRuns, copyData, copySlots, copyNode, copyWalk}
-use Rattle.walk.specs.Nulls.{NullWalk, nullListView, nullFields, nullSparse, nullDense, nullRuns, nullData, nullNode, nullWalk}
+use Rattle.walk.specs.Copy.{Walk, masked, listViewRow, copyListView, putStretch, putList, copyList, copyFields, copySparse, idAt, denseTo, denseRow, copyDense, putRuns, runsAt, copyRuns, copyData, copySlots, copyNode, copyWalk}
+use Rattle.walk.specs.Nulls.{NullWalk, nullListView, nullList, nullFields, nullSparse, nullDense, nullRuns, nullData, nullNode, nullWalk}
 use Rattle.link.proofs.Counters.{rows-other, nulls-of-rows, bytes-of-rows, nulls-other, rows-of-nulls, bytes-of-nulls, bytes-other, rows-of-bytes, nulls-of-bytes}
 use Rattle.room.specs.Reach.{Child, Closed}
-use Rattle.room.proofs.Found.{child-first, child-later, child-with, child-nullable}
+use Rattle.room.proofs.Found.{between-wide, child-first, child-later, child-with, child-nullable}
 
 module _ (j : ℕ) where
   -- node j's rows, nulls and bytes are as they were
@@ -129,8 +130,22 @@ module _ (j : ℕ) where
           (λ e. still-need _ 12 c _
           (λ f. still-each _
           (λ r c1. still-need _ 6 c1 _
-          (λ g. still-next c1 _ _ (still-wrote _ c1) (λ c2. still-next c2 _ _ (still-wrote _ c2) (λ c3. below (suc i) _ _ c3 (closed .item i here h)))))
+          (λ g. still-next c1 _ _ (still-wrote _ c1) (λ c2. still-next c2 _ _ (still-wrote _ c2) (λ c3. below (suc i) _ _ c3 (closed .item i here (between-wide 17 18 17 20 (codeOf (x .state) i) (omega arith) (omega arith) h))))))
           n 0 c))
+
+      still-stretch : (w from n : ℕ) (e : Extended) (c : List ℕ) → isList (codeOf (x .state) i) ≡ true → Still c (putList x walk w i from n e c)
+      unfolding putStretch
+      still-stretch w from n (Fits last first) c h =
+          still-next c _ _ (still-wrote _ c) (λ c2. below (suc i) _ _ c2 (closed .item i here (between-wide 19 20 17 20 (codeOf (x .state) i) (omega arith) (omega arith) h)))
+      still-stretch w from n (Over row needed) c h = still-fail 6 c
+      still-stretch w from n Falls c h = still-fail 12 c
+
+      still-lists : (w slot n : ℕ) (c : List ℕ) → isList (codeOf (x .state) i) ≡ true → Still c (copyList x walk w i slot n c)
+      unfolding copyList
+      still-lists w slot n c h =
+          still-cond c (eqb n 0) _ _ (λ e. still-done c)
+          (λ e. still-need _ 12 c _
+          (λ f. still-need _ 12 c _ (λ g. still-stretch w (place x i 3 + w * slot) n (extended w (x .body) (place x i 3 + w * slot) n (rows c (suc i))) c h)))
 
       still-fields : (slot n fuel k : ℕ) (c : List ℕ) → isUnion (codeOf (x .state) i) ≡ true → (k < endOf (x .state) i → Child (x .state) i k)
           → Still c (copyFields x walk slot n (endOf (x .state) i) fuel k c)
@@ -158,13 +173,13 @@ module _ (j : ℕ) where
           (λ c3. below _ _ 1 c3 (closed .child i _ here u (child-with (x .state) i (idAt x walk i (slot + r)) 32 (suc i) (child-first (x .state) i) l)))))))
           n 0 c)
 
-      still-put : (w slot n : ℕ) (r : Runs) (c : List ℕ) → codeOf (x .state) i ≡ 21 → Still c (putRuns x walk w i slot n r c)
+      still-put : (w slot n : ℕ) (r : Runs) (c : List ℕ) → codeOf (x .state) i ≡ 23 → Still c (putRuns x walk w i slot n r c)
       still-put w slot n None c q = still-fail 12 c
       still-put w slot n (Range start count) c q =
           still-next c _ _ (below (suc (suc i)) (start .0) count c (closed .values i here q))
           (λ c2. still-next c2 _ _ (still-wrote _ c2) (λ c3. more-rows (suc i) count c3 (closed .ends i here q)))
 
-      still-runs : (slot n : ℕ) (c : List ℕ) → codeOf (x .state) i ≡ 21 → Still c (copyRuns x walk i slot n c)
+      still-runs : (slot n : ℕ) (c : List ℕ) → codeOf (x .state) i ≡ 23 → Still c (copyRuns x walk i slot n c)
       unfolding copyRuns
       still-runs slot n c q =
           still-cond c (eqb n 0) _ _ (λ e. still-done c)
@@ -183,10 +198,11 @@ module _ (j : ℕ) where
           (λ e1. still-cond c (isString (codeOf (x .state) i)) _ _ (λ e. still-string i (closed .own i here) _ slot n c)
           (λ e2. still-cond c (isView (codeOf (x .state) i)) _ _ (λ e. still-views i (closed .own i here) slot n c)
           (λ e3. still-cond c (isListView (codeOf (x .state) i)) _ _ (λ e. still-list _ slot n c e)
-          (λ e4. still-cond c (eqb (codeOf (x .state) i) 19) _ _ (λ e. still-sparse slot n c (union 19 e refl))
-          (λ e5. still-cond c (eqb (codeOf (x .state) i) 20) _ _ (λ e. still-dense slot n c (union 20 e refl))
-          (λ e6. still-cond c (eqb (codeOf (x .state) i) 21) _ _ (λ e. still-runs slot n c (eqb-true (codeOf (x .state) i) 21 e))
-          (λ e7. still-fail 12 c)))))))
+          (λ e4. still-cond c (isList (codeOf (x .state) i)) _ _ (λ e. still-lists _ slot n c e)
+          (λ e5. still-cond c (eqb (codeOf (x .state) i) 21) _ _ (λ e. still-sparse slot n c (union 21 e refl))
+          (λ e6. still-cond c (eqb (codeOf (x .state) i) 22) _ _ (λ e. still-dense slot n c (union 22 e refl))
+          (λ e7. still-cond c (eqb (codeOf (x .state) i) 23) _ _ (λ e. still-runs slot n c (eqb-true (codeOf (x .state) i) 23 e))
+          (λ e8. still-fail 12 c))))))))
 
       still-node : (a n : ℕ) (c : List ℕ) → Still c (copyNode x walk i a n c)
       unfolding copyNode copySlots
@@ -225,6 +241,10 @@ module _ (j : ℕ) where
       unfolding nullListView
       still-null-list w n c = still-next c _ _ (still-zeros i 1 w n c) (λ c2. still-zeros i 2 w n c2)
 
+      still-null-lists : (w n : ℕ) (c : List ℕ) → Still c (nullList x walk w i n c)
+      unfolding nullList
+      still-null-lists w n c = still-need _ 12 c _ (λ e. still-wrote _ c)
+
       still-null-fields : (n fuel k : ℕ) (c : List ℕ) → isUnion (codeOf (x .state) i) ≡ true → (k < endOf (x .state) i → Child (x .state) i k)
           → Still c (nullFields x walk n (endOf (x .state) i) fuel k c)
       unfolding nullFields
@@ -248,7 +268,7 @@ module _ (j : ℕ) where
           (λ c2. still-next c2 _ _ (still-wrote _ c2)
           (λ c3. below _ n c3 (closed .child i _ here u (child-nullable (x .state) i 32 (suc i) (child-first (x .state) i) l))))))
 
-      still-null-runs : (n : ℕ) (c : List ℕ) → codeOf (x .state) i ≡ 21 → Still c (nullRuns x walk i n c)
+      still-null-runs : (n : ℕ) (c : List ℕ) → codeOf (x .state) i ≡ 23 → Still c (nullRuns x walk i n c)
       unfolding nullRuns
       still-null-runs n c q =
           still-need _ 12 c _
@@ -265,10 +285,11 @@ module _ (j : ℕ) where
           (λ e1. still-cond c (isString (codeOf (x .state) i)) _ _ (λ e. still-repeated i _ n c)
           (λ e2. still-cond c (isView (codeOf (x .state) i)) _ _ (λ e. still-zeros i 1 16 n c)
           (λ e3. still-cond c (isListView (codeOf (x .state) i)) _ _ (λ e. still-null-list _ n c)
-          (λ e4. still-cond c (eqb (codeOf (x .state) i) 19) _ _ (λ e. still-null-sparse n c (null-union 19 e refl))
-          (λ e5. still-cond c (eqb (codeOf (x .state) i) 20) _ _ (λ e. still-null-dense n c (null-union 20 e refl))
-          (λ e6. still-cond c (eqb (codeOf (x .state) i) 21) _ _ (λ e. still-null-runs n c (eqb-true (codeOf (x .state) i) 21 e))
-          (λ e7. still-fail 12 c)))))))
+          (λ e4. still-cond c (isList (codeOf (x .state) i)) _ _ (λ e. still-null-lists _ n c)
+          (λ e5. still-cond c (eqb (codeOf (x .state) i) 21) _ _ (λ e. still-null-sparse n c (null-union 21 e refl))
+          (λ e6. still-cond c (eqb (codeOf (x .state) i) 22) _ _ (λ e. still-null-dense n c (null-union 22 e refl))
+          (λ e7. still-cond c (eqb (codeOf (x .state) i) 23) _ _ (λ e. still-null-runs n c (eqb-true (codeOf (x .state) i) 23 e))
+          (λ e8. still-fail 12 c))))))))
 
       still-null-node : (n : ℕ) (c : List ℕ) → Still c (nullNode x walk i n c)
       unfolding nullNode

@@ -6,7 +6,7 @@ use mathlib.Core.List.{List, [], _∷_, _++_}
 use Prim.Native.Nat.{ℕ, suc, _+_, _*_, _/_}
 use lib.Dec.{leb, eqb}
 use Rattle.columnar.specs.Row.{Row}
-use Rattle.columnar.specs.Types.{width, Plain, fixed, string, Ty, tPlain, tView, tListView, tSparse, tDense, tRunEnd, tDictionary}
+use Rattle.columnar.specs.Types.{width, Plain, fixed, string, Ty, tPlain, tView, tListView, tList, tSparse, tDense, tRunEnd, tDictionary}
 use Rattle.columnar.specs.Reading.{Column, masks}
 use Rattle.columnar.specs.Test.{each}
 use Rattle.model.specs.Try.{Try, done, stop, then, guard, after}
@@ -25,6 +25,7 @@ abbrev pub sizesOf : Ty → Counts → List ℕ
 sizesOf (tPlain p) c = plainSizes p c
 sizesOf tView c = rowsOf c * 16 ∷ []
 sizesOf (tListView w t) c = rowsOf c * w ∷ rowsOf c * w ∷ []
+sizesOf (tList w t) c = suc (rowsOf c) * w ∷ []
 sizesOf (tSparse ids nullable f) c = rowsOf c ∷ []
 sizesOf (tDense ids nullable f) c = rowsOf c ∷ rowsOf c * 4 ∷ []
 sizesOf (tRunEnd w t) c = []
@@ -48,6 +49,7 @@ module _ (plan parts : List ℕ) where
   roomBelow (tPlain p) i c = true
   roomBelow tView i c = true
   roomBelow (tListView w t) i c = roomNode (suc i) t (roomBelow t (suc i) (kidOf c 0)) (kidOf c 0)
+  roomBelow (tList w t) i c = roomNode (suc i) t (roomBelow t (suc i) (kidOf c 0)) (kidOf c 0)
   roomBelow (tSparse ids nullable f) i c = each (λ e. roomNode (childOf plan i e) (f e) (roomBelow (f e) (childOf plan i e) (kidOf c e)) (kidOf c e)) ids
   roomBelow (tDense ids nullable f) i c = each (λ e. roomNode (childOf plan i e) (f e) (roomBelow (f e) (childOf plan i e) (kidOf c e)) (kidOf c e)) ids
   roomBelow (tRunEnd w t) i c =

@@ -7,7 +7,7 @@ use Prim.Native.Nat.{ℕ, suc, _+_, _/_}
 use lib.ListN.{length}
 use lib.Dec.{leb}
 use Rattle.columnar.specs.Row.{Row}
-use Rattle.columnar.specs.Types.{Plain, fixed, string, Ty, tPlain, tView, tListView, tSparse, tDense, tRunEnd, tDictionary}
+use Rattle.columnar.specs.Types.{Plain, fixed, string, Ty, tPlain, tView, tListView, tList, tSparse, tDense, tRunEnd, tDictionary}
 use Rattle.columnar.specs.Plain.{PlainBody}
 use Rattle.columnar.specs.Reading.{Column, masks}
 use Rattle.columnar.specs.Test.{each}
@@ -28,6 +28,7 @@ abbrev pub buffersOf : (t : Ty) → Grown t → List (List ℕ)
 buffersOf (tPlain p) d = plainBuffers p d
 buffersOf tView d = d ∷ []
 buffersOf (tListView w t) d = d .buffer1 ∷ d .buffer2 ∷ []
+buffersOf (tList w t) d = d .buffer1 ∷ []
 buffersOf (tSparse ids nullable f) d = d .buffer1 ∷ []
 buffersOf (tDense ids nullable f) d = d .buffer1 ∷ d .buffer2 ∷ []
 buffersOf (tRunEnd w t) d = []
@@ -53,6 +54,7 @@ module _ (plan parts : List ℕ) where
   fitsBelow (tPlain p) i d = true
   fitsBelow tView i d = true
   fitsBelow (tListView w t) i d = fitsNode (suc i) (masks t) (buffersOf t) (fitsBelow t (suc i)) (d .child)
+  fitsBelow (tList w t) i d = fitsNode (suc i) (masks t) (buffersOf t) (fitsBelow t (suc i)) (d .child)
   fitsBelow (tSparse ids nullable f) i d =
       each (λ e. fitsNode (childOf plan i e) (masks (f e)) (buffersOf (f e)) (fitsBelow (f e) (childOf plan i e)) (d .children e)) ids
   fitsBelow (tDense ids nullable f) i d =

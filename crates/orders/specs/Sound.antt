@@ -6,8 +6,9 @@ use mathlib.Core.List.{List}
 use Prim.Native.Nat.{ℕ, suc, _+_, _-_}
 use lib.Dec.{leb, ltb, eqb}
 use Rattle.columnar.specs.Test.{every, onlyIf}
-use Rattle.formats.specs.Code.{isFixed, isListView, isRunEnd}
+use Rattle.formats.specs.Code.{isFixed, isRunEnd}
 use Rattle.walk.specs.State.{codeOf, dictionaryOf, endOf}
+use Rattle.room.specs.Reach.{hasItem}
 use Rattle.parts.specs.Parts.{nodesOf, copied}
 
 module _ (plan : List ℕ) where
@@ -19,12 +20,12 @@ module _ (plan : List ℕ) where
   unfoldable pub endsSound : ℕ → Bool
   endsSound i = ltb (suc (suc i)) (endOf plan i) && eqb (dictionaryOf plan (suc i)) 0 && isFixed (codeOf plan (suc i))
 
-  -- only numbers have a dictionary (codes up to 10); a list-view has its child, a run-end node run ends and values
+  -- only numbers have a dictionary (codes up to 10); a list-view or list has its child, a run-end node run ends and values
   unfoldable pub kindSound : ℕ → Bool
   kindSound i =
       cond (leb (codeOf plan i) 10) true
       (eqb (dictionaryOf plan i) 0
-      && cond (isListView (codeOf plan i)) (ltb (suc i) (endOf plan i)) (cond (isRunEnd (codeOf plan i)) (endsSound i) true))
+      && cond (hasItem (codeOf plan i)) (ltb (suc i) (endOf plan i)) (cond (isRunEnd (codeOf plan i)) (endsSound i) true))
 
   -- node i of n: it ends behind itself, and what then stands there is no kept dictionary's values
   unfoldable pub nodeSound : ℕ → ℕ → Bool

@@ -55,7 +55,7 @@ module _ (state : List ℕ) where
 
   pub few-bits : (i : ℕ) → validityParts state i ≤ 1
   unfolding validityParts
-  few-bits i = go (copied state i && not (eqb (keepsOf state i) 0) && ltb (codeOf state i) 19)
+  few-bits i = go (copied state i && not (eqb (keepsOf state i) 0) && ltb (codeOf state i) 21)
     where
       go : (t : Bool) → cond t 1 0 ≤ 1
       go true = omega arith

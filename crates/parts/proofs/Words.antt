@@ -1,7 +1,7 @@
 -- The words of a state and its parts: which buffers of a kind have one, and that the words that name the parts decide none of it, so
 -- that an opening may write them one after the other. Assumes nothing.
 use mathlib.Core.Path.{_≡_, refl, ap, ap₂, sym, _∙_}
-use mathlib.Core.Bool.{Bool, true, not, cond, _&&_, _||_}
+use mathlib.Core.Bool.{Bool, true, false, not, cond, _&&_, _||_}
 use mathlib.Core.List.{List}
 use Prim.Native.Nat.{ℕ, zero, suc, _+_, _*_, _-_, _%_, _≤_, _<_, min}
 use native.Mathlib.Omega.{arith}
@@ -10,10 +10,10 @@ use lib.Seq.{getD-set-other}
 use lib.Dec.{leb, ltb, eqb}
 use borrow.Author.Tests.{lt-ltb, leb-true, ne-eqb}
 use Rattle.columnar.specs.Test.{every}
-use Rattle.formats.specs.Code.{isString, isListView}
+use Rattle.formats.specs.Code.{isString, isListView, isList}
 use Rattle.lent_tables.proofs.Laws.{and-left, and-right}
 use Rattle.walk.specs.State.{word, codeOf, dictionaryOf, keepsOf}
-use Rattle.parts.specs.Parts.{nodesOf, bufferCount, copied, validityParts, bufferParts, hasPart, partsBefore, partTotal, partWord, Numbered}
+use Rattle.parts.specs.Parts.{nodesOf, bufferCount, hasOffsets, copied, validityParts, bufferParts, hasPart, partsBefore, partTotal, partWord, Numbered}
 use Rattle.parts.proofs.Laws.{few-bits, few-parts}
 use Rattle.parts.proofs.Placed.{every-at}
 
@@ -26,8 +26,22 @@ range f low n h code l u =
     rw e at (every-at (λ k. f (low + k)) n h (code - low) (omega arith))
 
 -- all but a run-end node
-pub first-buffer : (code : ℕ) → 1 ≤ code → code < 21 → 1 ≤ bufferCount code
-first-buffer code l u = leb-true 1 (bufferCount code) (range (λ c. leb 1 (bufferCount c)) 1 20 refl code l (omega arith))
+pub first-buffer : (code : ℕ) → 1 ≤ code → code < 23 → 1 ≤ bufferCount code
+first-buffer code l u = leb-true 1 (bufferCount code) (range (λ c. leb 1 (bufferCount c)) 1 22 refl code l (omega arith))
+
+pub offsets-buffer : (code : ℕ) → hasOffsets code ≡ true → 1 ≤ bufferCount code
+offsets-buffer code h = go (isString code) refl (isList code) refl h
+  where
+    go : (a : Bool) → isString code ≡ a → (b : Bool) → isList code ≡ b → a || b ≡ true → 1 ≤ bufferCount code
+    go true e b f g =
+        let l = leb-true 11 code (and-left (leb 11 code) (leb code 14) e) in
+        let u = leb-true code 14 (and-right (leb 11 code) (leb code 14) e) in
+        first-buffer code (omega arith) (omega arith)
+    go false e true f g =
+        let l = leb-true 19 code (and-left (leb 19 code) (leb code 20) f) in
+        let u = leb-true code 20 (and-right (leb 19 code) (leb code 20) f) in
+        first-buffer code (omega arith) (omega arith)
+    go false e false f g = absurd (let z : _≡_ {A = ℕ} 0 1 = cc g in omega arith)
 
 pub string-buffers : (code : ℕ) → isString code ≡ true → 2 ≤ bufferCount code
 string-buffers code h =
@@ -41,13 +55,13 @@ list-view-buffers code h =
     let u = leb-true code 18 (and-right (leb 17 code) (leb code 18) h) in
     leb-true 2 (bufferCount code) (range (λ c. leb 2 (bufferCount c)) 17 2 refl code l (omega arith))
 
-pub dense-buffers : (code : ℕ) → code ≡ 20 → 2 ≤ bufferCount code
+pub dense-buffers : (code : ℕ) → code ≡ 22 → 2 ≤ bufferCount code
 dense-buffers code e = rw e (omega arith)
 
 module _ (state : List ℕ) (i : ℕ) (c : copied state i ≡ true) where
-  pub has-bits : (keepsOf state i ≡ 0 → ⊥) → codeOf state i < 19 → hasPart state i 0 ≡ true
+  pub has-bits : (keepsOf state i ≡ 0 → ⊥) → codeOf state i < 21 → hasPart state i 0 ≡ true
   unfolding hasPart validityParts
-  has-bits h l = rw (c, ne-eqb (keepsOf state i) 0 h, lt-ltb (codeOf state i) 19 l)
+  has-bits h l = rw (c, ne-eqb (keepsOf state i) 0 h, lt-ltb (codeOf state i) 21 l)
 
   pub has-buffers : (b : ℕ) → b < bufferCount (codeOf state i) → hasPart state i (suc b) ≡ true
   unfolding hasPart bufferParts
@@ -101,8 +115,8 @@ module _ (s t : List ℕ) (a : Alike s t) where
   alike-validity : (i : ℕ) → validityParts s i ≡ validityParts t i
   unfolding validityParts
   alike-validity i =
-      ap₂ (λ (x : Bool) (y : ℕ). cond (x && not (eqb (keepsOf s i) 0) && ltb (y % 256) 19) 1 0) (alike-copied i) (a .code i)
-      ∙ ap (λ (x : ℕ). cond (copied t i && not (eqb x 0) && ltb (codeOf t i) 19) 1 0) (a .keeps i)
+      ap₂ (λ (x : Bool) (y : ℕ). cond (x && not (eqb (keepsOf s i) 0) && ltb (y % 256) 21) 1 0) (alike-copied i) (a .code i)
+      ∙ ap (λ (x : ℕ). cond (copied t i && not (eqb x 0) && ltb (codeOf t i) 21) 1 0) (a .keeps i)
 
   alike-buffers : (i : ℕ) → bufferParts s i ≡ bufferParts t i
   unfolding bufferParts

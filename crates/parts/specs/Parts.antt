@@ -7,7 +7,7 @@ use Prim.Native.Nat.{ℕ, zero, suc, _+_, _*_, _-_, _/_, _≤_, _<_, min}
 use lib.ListN.{length, getD}
 use lib.Dec.{leb, ltb, eqb}
 use Rattle.columnar.specs.Test.{every, onlyIf}
-use Rattle.formats.specs.Code.{isString, isView, isListView, isUnion, widthOf}
+use Rattle.formats.specs.Code.{isString, isView, isListView, isList, isUnion, widthOf}
 use Rattle.walk.specs.State.{word, codeOf, dictionaryOf, keepsOf, partOf, rows, bytes}
 use Rattle.parts.specs.declared.Spot.{Spot}
 use Rattle.parts.specs.declared.Spot.the-variants.{Of, Nothing}
@@ -40,6 +40,8 @@ bufferCounts =
     ∷ 1  -- vu
     ∷ 2  -- +vl
     ∷ 2  -- +vL
+    ∷ 1  -- +l
+    ∷ 1  -- +L
     ∷ 1  -- +us:
     ∷ 2  -- +ud:
     ∷ 0  -- +r
@@ -56,7 +58,7 @@ module _ (state : List ℕ) where
 
   -- "a node's validity if it keeps nulls"; "Unions and run-end nodes hold no validity and have no part for it"
   unfoldable pub validityParts : ℕ → ℕ
-  validityParts i = cond (copied i && not (eqb (keepsOf state i) 0) && ltb (codeOf state i) 19) 1 0
+  validityParts i = cond (copied i && not (eqb (keepsOf state i) 0) && ltb (codeOf state i) 21) 1 0
 
   unfoldable pub bufferParts : ℕ → ℕ
   bufferParts i = cond (copied i) (bufferCount (codeOf state i)) 0
@@ -97,6 +99,10 @@ module _ (state : List ℕ) where
 
 -- ---- what each must hold
 
+-- byte strings and lists: one offset more than rows
+abbrev pub hasOffsets : ℕ → Bool
+hasOffsets code = isString code || isList code
+
 -- the bytes of an entry of the first buffer: a view has 16, a type id 1
 abbrev pub entrySize : ℕ → ℕ
 entrySize code = cond (isView code) 16 (cond (isUnion code) 1 (widthOf code))
@@ -105,7 +111,7 @@ entrySize code = cond (isView code) 16 (cond (isUnion code) 1 (widthOf code))
 -- offsets; a list-view's second buffer has its sizes, a dense union's its positions
 abbrev pub neededBy : ℕ → ℕ → ℕ → ℕ → ℕ
 neededBy code r n zero = (r + 7) / 8
-neededBy code r n (suc zero) = cond (isString code) ((r + 1) * widthOf code) (r * entrySize code)
+neededBy code r n (suc zero) = cond (hasOffsets code) ((r + 1) * widthOf code) (r * entrySize code)
 neededBy code r n (suc (suc b)) = cond (isString code) n (cond (isListView code) (r * widthOf code) (r * 4))
 
 abbrev pub needed : List ℕ → List ℕ → ℕ → ℕ → ℕ

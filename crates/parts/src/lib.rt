@@ -13,7 +13,7 @@ pub enum Spot {
 }
 
 // How many buffers have a part by code, from code 0 on.
-const BUFFERS: [u8; 22] = [
+const BUFFERS: [u8; 24] = [
     0, // none
     1, // c
     1, // C
@@ -33,6 +33,8 @@ const BUFFERS: [u8; 22] = [
     1, // vu
     2, // +vl
     2, // +vL
+    1, // +l
+    1, // +L
     1, // +us:
     2, // +ud:
     0, // +r
@@ -57,7 +59,7 @@ fn buffer_count(code: u8) -> u8
     ensures { λ r. ⌜ r ≡ bufferCount code ⌝ }
 {
     let k = code as usize;
-    if k < 22 { BUFFERS[k] } else { 0 }
+    if k < 24 { BUFFERS[k] } else { 0 }
 }
 
 // Whether node i is copied: the values of a dictionary are, if it is joined.
@@ -86,7 +88,7 @@ fn validity_parts(state: &[u64], i: usize) -> usize
     if growth::keeps_of(state, i) == 0 {
         return 0;
     }
-    if growth::code_of(state, i) < 19 { 1 } else { 0 }
+    if growth::code_of(state, i) < 21 { 1 } else { 0 }
 }
 
 // How many buffers of node i have a part.
@@ -224,7 +226,7 @@ fn bits_fit(r: u64, size: u32) -> bool
 fn first_fits(code: u8, r: u64, n: u64, size: u32) -> bool
     ensures { λ s. ⌜ s ≡ leb (neededBy code r n 1) size ⌝ }
 {
-    if formats::is_string(code) {
+    if formats::is_string(code) | formats::is_list(code) {
         return offsets_fit(r, formats::width_of(code), size);
     }
     lent_tables::rows_fit(r, entry_size(code), size)

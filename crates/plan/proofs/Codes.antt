@@ -8,69 +8,73 @@ use lib.ListN.{length}
 use lib.Dec.{leb, eqb}
 use borrow.Author.Tests.{eqb-true, eqb-false, leb-true, le-leb, not-true}
 use Rattle.columnar.specs.Types.{Number, i8, Plain, fixed, string}
-use Rattle.formats.specs.Code.{between, isInteger, isFixed, isString, isView, isListView, isUnion, isRunEnd, widthOf}
+use Rattle.formats.specs.Code.{between, isInteger, isFixed, isString, isView, isListView, isList, isUnion, isRunEnd, widthOf}
 use Rattle.formats.specs.Types.{numberOf}
 use Rattle.schema.specs.Tree.{children, dictionary, below, bare, codeOf, idsOf, childForEach, shape, leafShape, keysShape, listShape, unionShape, runShape}
-use Rattle.array_data.specs.Typed.{NodeKind, fixedNode, stringNode, viewNode, listViewNode, sparseNode, denseNode, runEndNode, dictionaryNode}
+use Rattle.array_data.specs.Typed.{NodeKind, fixedNode, stringNode, viewNode, listViewNode, listNode, sparseNode, denseNode, runEndNode, dictionaryNode}
 use Rattle.lent.specs.Lent.{numberOr, idsOr, numberKind, unionKind, kindAt}
-use Rattle.lent.proofs.Shaped.{plainKind, Shaped, of-plain, of-view, of-list, of-sparse, of-dense, of-run, of-dictionary}
+use Rattle.lent.proofs.Shaped.{plainKind, Shaped, of-plain, of-view, of-list, of-lists, of-sparse, of-dense, of-run, of-dictionary}
 use Rattle.lent_tables.proofs.Laws.{and-left, and-right}
 use Rattle.sharing.specs.Sources.{ofStrings}
 
--- ---- kinds by number: 0 numbers, 1 byte strings, 2 views, 3 list-views, 4 unions, 5 run-end nodes, 6 keys
+-- ---- kinds by number: 0 numbers, 1 byte strings, 2 views, 3 list-views, 4 lists, 5 unions, 6 run-end nodes, 7 keys
 
 abbrev sort : NodeKind → ℕ
 sort (fixedNode m) = 0
 sort (stringNode w) = 1
 sort viewNode = 2
 sort (listViewNode w) = 3
-sort (sparseNode ids) = 4
-sort (denseNode ids) = 4
-sort (runEndNode w) = 5
-sort (dictionaryNode m) = 6
+sort (listNode w) = 4
+sort (sparseNode ids) = 5
+sort (denseNode ids) = 5
+sort (runEndNode w) = 6
+sort (dictionaryNode m) = 7
 
 -- by the tests of a code, in their order, and whether there is no dictionary
-abbrev sortBy : Bool → Bool → Bool → Bool → Bool → Bool → Bool → ℕ
-sortBy f s v l u r single = cond f (cond single 0 6) (cond s 1 (cond v 2 (cond l 3 (cond u 4 (cond r 5 0)))))
+abbrev sortBy : Bool → Bool → Bool → Bool → Bool → Bool → Bool → Bool → ℕ
+sortBy f s v l o u r single = cond f (cond single 0 7) (cond s 1 (cond v 2 (cond l 3 (cond o 4 (cond u 5 (cond r 6 0))))))
 
-module _ (m : Number) (a b c : ℕ) (ids : List ℕ) where
-  sort-is : (f s v l u r single sparse : Bool)
-      → sort (cond f (numberKind single m) (cond s (stringNode a) (cond v viewNode (cond l (listViewNode b) (cond u (unionKind sparse ids) (cond r (runEndNode c) (fixedNode i8)))))))
-      ≡ sortBy f s v l u r single
-  sort-is true s v l u r true sparse = refl
-  sort-is true s v l u r false sparse = refl
-  sort-is false true v l u r single sparse = refl
-  sort-is false false true l u r single sparse = refl
-  sort-is false false false true u r single sparse = refl
-  sort-is false false false false true r single true = refl
-  sort-is false false false false true r single false = refl
-  sort-is false false false false false true single sparse = refl
-  sort-is false false false false false false single sparse = refl
+module _ (m : Number) (a b d c : ℕ) (ids : List ℕ) where
+  sort-is : (f s v l o u r single sparse : Bool)
+      → sort (cond f (numberKind single m) (cond s (stringNode a) (cond v viewNode (cond l (listViewNode b) (cond o (listNode d) (cond u (unionKind sparse ids) (cond r (runEndNode c) (fixedNode i8))))))))
+      ≡ sortBy f s v l o u r single
+  sort-is true s v l o u r true sparse = refl
+  sort-is true s v l o u r false sparse = refl
+  sort-is false true v l o u r single sparse = refl
+  sort-is false false true l o u r single sparse = refl
+  sort-is false false false true o u r single sparse = refl
+  sort-is false false false false true u r single sparse = refl
+  sort-is false false false false false true r single true = refl
+  sort-is false false false false false true r single false = refl
+  sort-is false false false false false false true single sparse = refl
+  sort-is false false false false false false false single sparse = refl
 
 -- the test of a sort from 1 on
-abbrev pick : ℕ → Bool → Bool → Bool → Bool → Bool → Bool → Bool
-pick zero s v l u r single = s
-pick (suc zero) s v l u r single = v
-pick (suc (suc zero)) s v l u r single = l
-pick (suc (suc (suc zero))) s v l u r single = u
-pick (suc (suc (suc (suc zero)))) s v l u r single = r
-pick (suc (suc (suc (suc (suc k))))) s v l u r single = not single
+abbrev pick : ℕ → Bool → Bool → Bool → Bool → Bool → Bool → Bool → Bool
+pick zero s v l o u r single = s
+pick (suc zero) s v l o u r single = v
+pick (suc (suc zero)) s v l o u r single = l
+pick (suc (suc (suc zero))) s v l o u r single = o
+pick (suc (suc (suc (suc zero)))) s v l o u r single = u
+pick (suc (suc (suc (suc (suc zero))))) s v l o u r single = r
+pick (suc (suc (suc (suc (suc (suc k)))))) s v l o u r single = not single
 
-sort-pick : (f s v l u r single : Bool) (k : ℕ) → sortBy f s v l u r single ≡ suc k → pick k s v l u r single ≡ true
-sort-pick true s v l u r true k e = absurd (omega arith)
-sort-pick true s v l u r false k e = let q : k ≡ 5 = omega arith in rw q
-sort-pick false true v l u r single k e = let q : k ≡ 0 = omega arith in rw q
-sort-pick false false true l u r single k e = let q : k ≡ 1 = omega arith in rw q
-sort-pick false false false true u r single k e = let q : k ≡ 2 = omega arith in rw q
-sort-pick false false false false true r single k e = let q : k ≡ 3 = omega arith in rw q
-sort-pick false false false false false true single k e = let q : k ≡ 4 = omega arith in rw q
-sort-pick false false false false false false single k e = absurd (omega arith)
+sort-pick : (f s v l o u r single : Bool) (k : ℕ) → sortBy f s v l o u r single ≡ suc k → pick k s v l o u r single ≡ true
+sort-pick true s v l o u r true k e = absurd (omega arith)
+sort-pick true s v l o u r false k e = let q : k ≡ 6 = omega arith in rw q
+sort-pick false true v l o u r single k e = let q : k ≡ 0 = omega arith in rw q
+sort-pick false false true l o u r single k e = let q : k ≡ 1 = omega arith in rw q
+sort-pick false false false true o u r single k e = let q : k ≡ 2 = omega arith in rw q
+sort-pick false false false false true u r single k e = let q : k ≡ 3 = omega arith in rw q
+sort-pick false false false false false true r single k e = let q : k ≡ 4 = omega arith in rw q
+sort-pick false false false false false false true single k e = let q : k ≡ 5 = omega arith in rw q
+sort-pick false false false false false false false single k e = absurd (omega arith)
 
 -- a number has no code of a byte string: the two ranges are apart
-sort-number : (f s v l u r single : Bool) → (f ≡ true → s ≡ false) → sortBy f s v l u r single ≡ 0 → s ≡ false
-sort-number true s v l u r single h e = h refl
-sort-number false true v l u r single h e = absurd (omega arith)
-sort-number false false v l u r single h e = refl
+sort-number : (f s v l o u r single : Bool) → (f ≡ true → s ≡ false) → sortBy f s v l o u r single ≡ 0 → s ≡ false
+sort-number true s v l o u r single h e = h refl
+sort-number false true v l o u r single h e = absurd (omega arith)
+sort-number false false v l o u r single h e = refl
 
 pub is-false : (b : Bool) → (b ≡ true → ⊥) → b ≡ false
 is-false true h = absurd (h refl)
@@ -90,17 +94,17 @@ module _ (formats schema : List ℕ) (first i : ℕ) where
   abbrev single : Bool
   single = eqb (dictionary schema first i) 0
 
-  sorted : {k : NodeKind} → kindAt formats schema first i ≡ k → sortBy (isFixed code) (isString code) (isView code) (isListView code) (isUnion code) (isRunEnd code) single ≡ sort k
+  sorted : {k : NodeKind} → kindAt formats schema first i ≡ k → sortBy (isFixed code) (isString code) (isView code) (isListView code) (isList code) (isUnion code) (isRunEnd code) single ≡ sort k
   unfolding kindAt
   sorted e =
       sym
-      (sort-is (numberOr (numberOf code)) (widthOf code) (widthOf code) (widthOf (codeOf formats schema first (suc i))) (idsOr (idsOf formats schema first i))
-      (isFixed code) (isString code) (isView code) (isListView code) (isUnion code) (isRunEnd code) single (eqb code 19))
+      (sort-is (numberOr (numberOf code)) (widthOf code) (widthOf code) (widthOf code) (widthOf (codeOf formats schema first (suc i))) (idsOr (idsOf formats schema first i))
+      (isFixed code) (isString code) (isView code) (isListView code) (isList code) (isUnion code) (isRunEnd code) single (eqb code 21))
       ∙ ap sort e
 
   picked : {k : NodeKind} (j : ℕ) → kindAt formats schema first i ≡ k → sort k ≡ suc j
-      → pick j (isString code) (isView code) (isListView code) (isUnion code) (isRunEnd code) single ≡ true
-  picked j e q = sort-pick (isFixed code) (isString code) (isView code) (isListView code) (isUnion code) (isRunEnd code) single j (sorted e ∙ q)
+      → pick j (isString code) (isView code) (isListView code) (isList code) (isUnion code) (isRunEnd code) single ≡ true
+  picked j e q = sort-pick (isFixed code) (isString code) (isView code) (isListView code) (isList code) (isUnion code) (isRunEnd code) single j (sorted e ∙ q)
 
   pub view-code : kindAt formats schema first i ≡ viewNode → isView code ≡ true
   view-code e = picked 1 e refl
@@ -108,22 +112,25 @@ module _ (formats schema : List ℕ) (first i : ℕ) where
   pub list-code : (w : ℕ) → kindAt formats schema first i ≡ listViewNode w → isListView code ≡ true
   list-code w e = picked 2 e refl
 
+  pub lists-code : (w : ℕ) → kindAt formats schema first i ≡ listNode w → isList code ≡ true
+  lists-code w e = picked 3 e refl
+
   pub sparse-code : (ids : List ℕ) → kindAt formats schema first i ≡ sparseNode ids → isUnion code ≡ true
-  sparse-code ids e = picked 3 e refl
+  sparse-code ids e = picked 4 e refl
 
   pub dense-code : (ids : List ℕ) → kindAt formats schema first i ≡ denseNode ids → isUnion code ≡ true
-  dense-code ids e = picked 3 e refl
+  dense-code ids e = picked 4 e refl
 
   pub run-code : (w : ℕ) → kindAt formats schema first i ≡ runEndNode w → isRunEnd code ≡ true
-  run-code w e = picked 4 e refl
+  run-code w e = picked 5 e refl
 
   pub keys-code : (m : Number) → kindAt formats schema first i ≡ dictionaryNode m → dictionary schema first i ≡ 0 → ⊥
-  keys-code m e = eqb-false (dictionary schema first i) 0 (not-true single (picked 5 e refl))
+  keys-code m e = eqb-false (dictionary schema first i) 0 (not-true single (picked 6 e refl))
 
   -- numbers and byte strings, as the values of a dictionary
   pub strings-code : (p : Plain) → kindAt formats schema first i ≡ plainKind p → isString code ≡ ofStrings p
   strings-code (fixed m) e =
-      sort-number (isFixed code) (isString code) (isView code) (isListView code) (isUnion code) (isRunEnd code) single
+      sort-number (isFixed code) (isString code) (isView code) (isListView code) (isList code) (isUnion code) (isRunEnd code) single
       (λ f. is-false (isString code) (apart 1 10 11 14 code (omega arith) f)) (sorted e)
   strings-code (string w) e = picked 0 e refl
 
@@ -133,6 +140,7 @@ module _ (formats schema : List ℕ) (first i : ℕ) where
   manyBelow (stringNode w) = 0
   manyBelow viewNode = 0
   manyBelow (listViewNode w) = 1
+  manyBelow (listNode w) = 1
   manyBelow (sparseNode ids) = length ids
   manyBelow (denseNode ids) = length ids
   manyBelow (runEndNode w) = 2
@@ -143,6 +151,7 @@ module _ (formats schema : List ℕ) (first i : ℕ) where
   many (of-plain (string w) e z d) = z ∙ sym (ap manyBelow e)
   many (of-view e z) = z ∙ sym (ap manyBelow e)
   many (of-list w e z d) = z ∙ sym (ap manyBelow e)
+  many (of-lists w e z d) = z ∙ sym (ap manyBelow e)
   many (of-sparse ids e z d o) = z ∙ sym (ap manyBelow e)
   many (of-dense ids e z d o) = z ∙ sym (ap manyBelow e)
   many (of-run m e z e1 z1 d) = z ∙ sym (ap manyBelow e)
@@ -177,9 +186,9 @@ module _ (formats schema : List ℕ) (first i : ℕ) where
       let high = leb-true c 8 (and-right (leb 1 c) (leb c 8) b) in
       rw (le-leb 1 c low, le-leb c 10 (omega arith))
 
-  of-lists : listShape formats schema first i ≡ true → (single formats schema first i) ≡ true
+  of-listed : listShape formats schema first i ≡ true → (single formats schema first i) ≡ true
   unfolding listShape
-  of-lists h = and-right (isListView (codeOf formats schema first i) && eqb (children schema first i) 1) (single formats schema first i) h
+  of-listed h = and-right ((isListView (codeOf formats schema first i) || isList (codeOf formats schema first i)) && eqb (children schema first i) 1) (single formats schema first i) h
 
   of-unions : unionShape formats schema first i ≡ true → (single formats schema first i) ≡ true
   unfolding unionShape
@@ -196,7 +205,7 @@ module _ (formats schema : List ℕ) (first i : ℕ) where
   no-dictionary h n =
       eqb-true (dictionary schema first i) 0
       (five (leafShape formats schema first i) (keysShape formats schema first i) (listShape formats schema first i) (unionShape formats schema first i)
-      (runShape formats schema first i) h of-leaf (λ k. absurd (false≢true (sym n ∙ of-keys k))) of-lists of-unions of-runs)
+      (runShape formats schema first i) h of-leaf (λ k. absurd (false≢true (sym n ∙ of-keys k))) of-listed of-unions of-runs)
 
 -- ---- formats of other ranges are not fixed-width and no run-end node
 
@@ -205,16 +214,22 @@ module _ (c : ℕ) where
   list-not-fixed e = is-false (isFixed c) (λ q. apart 1 10 17 18 c (omega arith) q e)
 
   pub union-not-fixed : isUnion c ≡ true → isFixed c ≡ false
-  union-not-fixed e = is-false (isFixed c) (λ q. apart 1 10 19 20 c (omega arith) q e)
+  union-not-fixed e = is-false (isFixed c) (λ q. apart 1 10 21 22 c (omega arith) q e)
 
   pub run-not-fixed : isRunEnd c ≡ true → isFixed c ≡ false
-  run-not-fixed e = is-false (isFixed c) (λ q. apart 1 10 21 21 c (omega arith) q e)
+  run-not-fixed e = is-false (isFixed c) (λ q. apart 1 10 23 23 c (omega arith) q e)
 
   pub view-not-fixed : isView c ≡ true → isFixed c ≡ false
   view-not-fixed e = is-false (isFixed c) (λ q. apart 1 10 15 16 c (omega arith) q e)
 
+  pub lists-not-fixed : isList c ≡ true → isFixed c ≡ false
+  lists-not-fixed e = is-false (isFixed c) (λ q. apart 1 10 19 20 c (omega arith) q e)
+
+  pub lists-not-run : isList c ≡ true → isRunEnd c ≡ false
+  lists-not-run e = is-false (isRunEnd c) (apart 19 20 23 23 c (omega arith) e)
+
   pub list-not-run : isListView c ≡ true → isRunEnd c ≡ false
-  list-not-run e = is-false (isRunEnd c) (apart 17 18 21 21 c (omega arith) e)
+  list-not-run e = is-false (isRunEnd c) (apart 17 18 23 23 c (omega arith) e)
 
   pub union-not-run : isUnion c ≡ true → isRunEnd c ≡ false
-  union-not-run e = is-false (isRunEnd c) (apart 19 20 21 21 c (omega arith) e)
+  union-not-run e = is-false (isRunEnd c) (apart 21 22 23 23 c (omega arith) e)

@@ -26,7 +26,7 @@ use Rattle.schema.proofs.Known.{typed-whole, typed-shape}
 use Rattle.array_data.specs.Tables.{Tables, place, dataBuffer}
 use Rattle.array_data.specs.Typed.{runEndNode, Tree, tablesFrom, bodyOf}
 use Rattle.lent.specs.Lent.{kindAt}
-use Rattle.lent.proofs.Shaped.{Shaped, of-plain, of-view, of-list, of-sparse, of-dense, of-run, of-dictionary, shaped, at-run}
+use Rattle.lent.proofs.Shaped.{Shaped, of-plain, of-view, of-list, of-lists, of-sparse, of-dense, of-run, of-dictionary, shaped, at-run}
 use Rattle.lent.proofs.Lent.{first-child, second-child}
 use Rattle.lent_tables.specs.Lent.{tables}
 use Rattle.lent_tables.proofs.Laws.{and-left, and-right}
@@ -54,10 +54,10 @@ look-small k (is s c ∷ rules) t h =
 look-small k (begins s c ∷ rules) t h =
     cond-le (same (take (length s) t) s) c (look rules t) k (leb-true c k (and-left (leb c k) (smallRules k rules) h)) (look-small k rules t (and-right (leb c k) (smallRules k rules) h))
 
-pub code-small : (s : List ℕ) (at len : ℕ) → codeAt s at len ≤ 21
+pub code-small : (s : List ℕ) (at len : ℕ) → codeAt s at len ≤ 23
 unfolding formatCode.codeOf
 code-small s at len =
-    cond-le (inside (length s) at len) (formatCode.codeOf (take len (drop at s))) 0 21 (look-small 21 table (take len (drop at s)) refl) (omega arith)
+    cond-le (inside (length s) at len) (formatCode.codeOf (take len (drop at s))) 0 23 (look-small 23 table (take len (drop at s)) refl) (omega arith)
 
 -- ---- a whole tree: what stands before a child
 
@@ -117,6 +117,7 @@ module _ (formats schema : List ℕ) (first : ℕ) where
   run-kind i v r (of-plain (string u) e z d) = let q : _≡_ {A = ℕ} 0 1 = cc in absurd (omega arith)
   run-kind i v r (of-view e z) = let q : _≡_ {A = ℕ} 0 1 = cc in absurd (omega arith)
   run-kind i v r (of-list u e z d) = let q : _≡_ {A = ℕ} 0 1 = cc in absurd (omega arith)
+  run-kind i v r (of-lists u e z d) = let q : _≡_ {A = ℕ} 0 1 = cc in absurd (omega arith)
   run-kind i v r (of-sparse ids e z d o) = let q : _≡_ {A = ℕ} 0 1 = cc in absurd (omega arith)
   run-kind i v r (of-dense ids e z d o) = let q : _≡_ {A = ℕ} 0 1 = cc in absurd (omega arith)
   run-kind i v r (of-run m e z e1 z1 d) = (z, z1)
@@ -264,7 +265,7 @@ module _ (formats schema : List ℕ) (y : Tables) (sources : List ℕ) (keep : B
   abbrev pub keptAt : ℕ → Bool
   keptAt i = not (eqb (keepsOf state i) 0)
 
-  byte : (i : ℕ) → schemaTree.codeOf formats schema first i ≤ 21
+  byte : (i : ℕ) → schemaTree.codeOf formats schema first i ≤ 23
   unfolding schemaTree.codeOf
   byte i = code-small formats _ _
 

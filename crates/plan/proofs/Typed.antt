@@ -6,7 +6,7 @@ use Prim.Native.Nat.{ℕ, suc, _≤_, _<_}
 use native.Mathlib.Omega.{arith}
 use lib.ListN.{length}
 use lib.Dec.{eqb}
-use Rattle.columnar.specs.Types.{Plain, fixed, string, Ty, tPlain, tView, tListView, tSparse, tDense, tRunEnd, tDictionary}
+use Rattle.columnar.specs.Types.{Plain, fixed, string, Ty, tPlain, tView, tListView, tList, tSparse, tDense, tRunEnd, tDictionary}
 use Rattle.columnar.specs.Reading.{Body}
 use Rattle.formats.specs.Code.{isString, isView, isUnion, isRunEnd}
 use Rattle.model.specs.Opening.{keeps}
@@ -25,7 +25,7 @@ use Rattle.sharing.proofs.Typed.{columnAt}
 use Rattle.walk.specs.State.{codeOf, dictionaryOf, keepsOf}
 use Rattle.plan.specs.Plan.{flag, sourceCount, nodesOf, planned}
 use Rattle.plan.specs.Opened.{OpenedBelow, Opened}
-use Rattle.plan.proofs.Codes.{view-code, list-code, sparse-code, dense-code, run-code, keys-code, strings-code, many-below, no-dictionary, list-not-fixed, union-not-fixed, list-not-run, union-not-run}
+use Rattle.plan.proofs.Codes.{view-code, list-code, lists-code, sparse-code, dense-code, run-code, keys-code, strings-code, many-below, no-dictionary, list-not-fixed, lists-not-fixed, union-not-fixed, list-not-run, lists-not-run, union-not-run}
 use Rattle.plan.proofs.Nodes.{keptAt, code-is, dictionary-is, root-keeps, child-keeps, run-values-keep, values-keep, ends-keep, view-base, dictionary-joined, dictionary-base}
 
 flag-back : (k : Bool) (v : ℕ) → v ≡ flag k → not (eqb v 0) ≡ k
@@ -90,6 +90,12 @@ module _ (formats schema : List ℕ) (y : Tables) (sources : List ℕ) (keep : B
       let v = list-code formats schema first i w (h .0 .1) in
       let one = many-below formats schema first i (shaped-at i l) (h .0 .1) in
       let e = down u i 0 (suc i) b l (omega arith) (no-dictionary formats schema first i (typed-shape formats schema first n t i l) (list-not-fixed (schemaTree.codeOf formats schema first i) v)) (list-not-run (schemaTree.codeOf formats schema first i) v) (first-child formats schema first n i) f in
+      (e, opened-below u (suc i) (keeps b m (columnAt tree y sources u (suc i))) (h .1) e)
+  opened-below (tList w u) i b h f =
+      let l = h .0 .0 in
+      let v = lists-code formats schema first i w (h .0 .1) in
+      let one = many-below formats schema first i (shaped-at i l) (h .0 .1) in
+      let e = down u i 0 (suc i) b l (omega arith) (no-dictionary formats schema first i (typed-shape formats schema first n t i l) (lists-not-fixed (schemaTree.codeOf formats schema first i) v)) (lists-not-run (schemaTree.codeOf formats schema first i) v) (first-child formats schema first n i) f in
       (e, opened-below u (suc i) (keeps b m (columnAt tree y sources u (suc i))) (h .1) e)
   opened-below (tSparse ids nullable g) i b h f =
       λ c q.

@@ -5,7 +5,7 @@ use mathlib.Core.Bool.{Bool, false, not}
 use mathlib.Core.List.{List, List·Memᴰ}
 use Prim.Native.Nat.{ℕ, suc, _<_}
 use lib.ListN.{length}
-use Rattle.columnar.specs.Types.{Ty, tPlain, tView, tListView, tSparse, tDense, tRunEnd, tDictionary}
+use Rattle.columnar.specs.Types.{Ty, tPlain, tView, tListView, tList, tSparse, tDense, tRunEnd, tDictionary}
 use Rattle.columnar.specs.Array.{Array}
 use Rattle.columnar.specs.Reading.{Body}
 use Rattle.model.specs.Opening.{keeps, shared, startOfKeys}
@@ -21,6 +21,8 @@ module _ (state : List ℕ) (tree : Tree) (m : ℕ) where
   OpenedBelow (tPlain p) i u ss = Unit {0}
   OpenedBelow tView i u ss = (s : ℕ) → s < m → baseOf state s i ≡ length (buffersBefore ss s)
   OpenedBelow (tListView w t) i u ss =
+      (keepsOf state (suc i) ≡ flag (keeps u m (λ s. ss s .child))) × OpenedBelow t (suc i) (keeps u m (λ s. ss s .child)) (λ s. ss s .child .body)
+  OpenedBelow (tList w t) i u ss =
       (keepsOf state (suc i) ≡ flag (keeps u m (λ s. ss s .child))) × OpenedBelow t (suc i) (keeps u m (λ s. ss s .child)) (λ s. ss s .child .body)
   OpenedBelow (tSparse ids nullable f) i u ss =
       (c : ℕ)

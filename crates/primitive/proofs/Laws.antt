@@ -1,21 +1,21 @@
 -- Laws of `rebased` and `wrappingAdd`, over every width. Assumes nothing.
 use mathlib.Core.Path.{_≡_, refl, ap, _∙_}
 use Prim.Native.Nat.{ℕ, zero, suc, _+_, _-_, _*_, _/_, _%_, _^_, _≤_, _<_}
-use native.Mathlib.Nat.{mod-mod, mul-suc, mul-add, mul-le-mul-left}
+use native.Mathlib.Nat.{mod-mod}
 use native.Mathlib.Omega.{arith}
 use mathlib.Core.List.{List}
 use mathlib.Core.Bool.{Bool, true, false}
-use lib.ListN.{length, take, drop, getD, replicate, length-drop, length-replicate, getD-replicate}
-use lib.Seq.{getD-drop, getD-take, length-take-le}
+use lib.ListN.{length, drop, getD}
+use lib.Seq.{getD-drop}
 use lib.IntN.{ℤ, pos, negsuc}
 use lib.Dec.{ltb}
-use mir.Syntax.{Width}
+use mir.Syntax.{Width, w8, w16, w32, w64, w128}
 use mir.Val.{Fits, SFits, bits, bytes, toZ, ofZ, sel}
-use mir.ValLaws.{toZ-ofZ}
+use mir.ValLaws.{toZ-ofZ, fits-wrap}
 use Rattle.number.proofs.Laws.{number-lt}
-use Rattle.number.proofs.Signs.{read-value}
+use Rattle.number.proofs.Signs.{read-value, read-back}
 use Rattle.number.specs.Number.{number, encode, entry, splice, signed, pattern}
-use Rattle.utils.proofs.Pieces.{pieces-none, numbers-step, entry-splice, number-same, getD-splice}
+use Rattle.utils.proofs.Pieces.{pieces-none, numbers-step, entry-splice}
 use Rattle.primitive.specs.Primitive.{rebased, wrappingAdd}
 
 pub rebased-none : (w : ℕ) (s : List ℕ) (from base at : ℕ) (room : List ℕ) → splice at (rebased w s from base 0) room ≡ room
@@ -44,6 +44,10 @@ pub rebase-signed : (w key base : ℕ) → key < 256 ^ w → base < 256 ^ w
     → signed w ((key + base) % 256 ^ w) ≡ wrappingAdd w (signed w key) (signed w base)
 rebase-signed w key base h g = rw (pattern-signed w key h, pattern-signed w base g)
 
+-- a key of bytes fits its width
+pub entry-lt : (w : ℕ) (s : List ℕ) (from k : ℕ) → ((i : ℕ) → getD s i 0 < 256) → entry w s from k < 256 ^ w
+entry-lt w s from k b = number-lt w (drop (from + w * k) s) (λ i. rw getD-drop (b (from + w * k + i)))
+
 -- so a key that was rebased is read back as that sum, and an unsigned one as the sum modulo 256 ^ w
 module _ (w : ℕ) (s room : List ℕ) (at from base n k : ℕ) (h : at + w * n ≤ length room) (l : k < n) where
   pub rebased-entry : entry w (splice at (rebased w s from base n) room) at k ≡ (entry w s from k + base) % 256 ^ w
@@ -52,9 +56,7 @@ module _ (w : ℕ) (s room : List ℕ) (at from base n k : ℕ) (h : at + w * n 
 
   pub rebased-signed : ((i : ℕ) → getD s i 0 < 256) → base < 256 ^ w
       → signed w (entry w (splice at (rebased w s from base n) room) at k) ≡ wrappingAdd w (signed w (entry w s from k)) (signed w base)
-  rebased-signed b g =
-      let e : entry w s from k < 256 ^ w = number-lt w (drop (from + w * k) s) (λ i. rw getD-drop (b (from + w * k + i))) in
-      ap (signed w) rebased-entry ∙ rebase-signed w (entry w s from k) base e g
+  rebased-signed b g = ap (signed w) rebased-entry ∙ rebase-signed w (entry w s from k) base (entry-lt w s from k b) g
 
 -- K10: the i8 key 100 with start 100
 pub key-100 : wrappingAdd 1 (pos 100) (pos 100) ≡ negsuc 55
@@ -66,50 +68,25 @@ pub sum-is : (w : Width) (x y z : ℤ) (p q r : ℕ) → SFits w x → SFits w y
     → toZ w (ofZ w z) ≡ toZ w ((pattern (bytes w) x + pattern (bytes w) y) % 2 ^ bits w)
 sum-is w x y z p q r fx fy fr ep eq er ez = read-value w z r _ fr ez (er ∙ rw (ep, eq, toZ-ofZ w x fx, toZ-ofZ w y fy))
 
--- ---- reading what was copied
+-- ---- as the machine has signed keys
 
-zeros : (w : ℕ) → number w (replicate w 0) ≡ 0
-unfolding number
-zeros zero = refl
-zeros (suc w) = omega (arith, zeros w)
-
--- an element that was copied is read as the source's
-pub copied-entry : (w : ℕ) (s room : List ℕ) (at from start len k : ℕ) → at + w * len ≤ length room → from + w * start + w * len ≤ length s → k < len
-    → entry w (splice at (take (w * len) (drop (from + w * start) s)) room) at k ≡ entry w s from (start + k)
-copied-entry w s room at from start len k h g l = number-same w _ _ same
+pattern-is : (w : Width) (z : ℤ) → pattern (bytes w) z ≡ ofZ w z
+pattern-is w (pos n) = refl
+pattern-is w (negsuc n) = ap (λ (m : ℕ). m - suc n) (top w)
   where
-    same : (i : ℕ) → i < w
-        → getD (drop (at + w * k) (splice at (take (w * len) (drop (from + w * start) s)) room)) i 0 ≡ getD (drop (from + w * (start + k)) s) i 0
-    same i j =
-        let p = take (w * len) (drop (from + w * start) s) in
-        let e : length p ≡ w * len = length-take-le (w * len) (drop (from + w * start) s) (simp length-drop (omega arith)) in
-        let m : w * k + i < w * len = omega (arith, mul-suc w k, mul-le-mul-left {m = suc k} {n = len} w l) in
-        let a : at + w * k + i ≡ at + (w * k + i) = omega arith in
-        let b : from + w * start + (w * k + i) ≡ from + w * (start + k) + i = omega (arith, mul-add w start k) in
-        rw (
-          getD-drop (at + w * k) (splice at p room) i 0,
-          a,
-          getD-splice at p room (omega arith) (w * k + i) (omega arith),
-          getD-take (w * len) (drop (from + w * start) s) (w * k + i) 0 m,
-          getD-drop (from + w * start) s (w * k + i) 0,
-          b,
-          getD-drop (from + w * (start + k)) s i 0,
-        )
+    top : (w : Width) → 256 ^ bytes w ≡ 2 ^ bits w
+    top w8 = refl
+    top w16 = refl
+    top w32 = refl
+    top w64 = refl
+    top w128 = refl
 
--- a null slot is read as 0
-pub null-entry : (w : ℕ) (room : List ℕ) (at len k : ℕ) → at + w * len ≤ length room → k < len
-    → entry w (splice at (replicate (w * len) 0) room) at k ≡ 0
-null-entry w room at len k h l = number-same w _ (replicate w 0) same ∙ zeros w
-  where
-    same : (i : ℕ) → i < w → getD (drop (at + w * k) (splice at (replicate (w * len) 0) room)) i 0 ≡ getD (replicate w 0) i 0
-    same i j =
-        let e = length-replicate {A = ℕ} (w * len) 0 in
-        let m : w * k + i < w * len = omega (arith, mul-suc w k, mul-le-mul-left {m = suc k} {n = len} w l) in
-        let a : at + w * k + i ≡ at + (w * k + i) = omega arith in
-        rw (
-          getD-drop (at + w * k) (splice at (replicate (w * len) 0) room) i 0,
-          a,
-          getD-splice at (replicate (w * len) 0) room (omega arith) (w * k + i) (omega arith),
-          getD-replicate {A = ℕ} (w * len) (w * k + i) 0 0 m,
-          getD-replicate {A = ℕ} w i 0 0 j,
-        )
+-- a number that was read from a pattern has that pattern
+pub pattern-read : (w : Width) (z : ℤ) (q : ℕ) → Fits w q → z ≡ toZ w q → pattern (bytes w) (toZ w (ofZ w z)) ≡ q
+pattern-read w z q f e = pattern-is w (toZ w (ofZ w z)) ∙ read-back w z q f e
+
+-- THE ONE LAW of both paths: a signed key k, plus base by the helper, has the pattern that the unsigned path writes
+pub same-pattern : (w : Width) (key p : ℕ) (k sum base : ℤ) → Fits w key → k ≡ toZ w key
+    → sum ≡ toZ w ((pattern (bytes w) (toZ w (ofZ w k)) + pattern (bytes w) base) % 2 ^ bits w) → p ≡ pattern (bytes w) (toZ w (ofZ w sum))
+    → p ≡ (key + pattern (bytes w) base) % 2 ^ bits w
+same-pattern w key p k sum base f ek es ep = ep ∙ pattern-read w sum _ (fits-wrap w _) es ∙ rw (pattern-read w k key f ek)

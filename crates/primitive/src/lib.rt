@@ -1,35 +1,10 @@
-// Copies of fixed-width elements, and of keys with an offset.
+// Copies of keys with an offset, which is added modulo 2 to the power of the width.
 // Follows arrow-data 60.1.0 src/transform/primitive.rs, Apache-2.0; see NOTICE.
 ghost use mathlib.Core.Path.{_≡_};
 ghost use Prim.Native.Nat.{_+_, _*_, _≤_};
-ghost use lib.ListN.{length, take, drop, replicate};
+ghost use lib.ListN.{length};
 ghost use Rattle.number.specs.Number.{splice};
 ghost use Rattle.primitive.specs.Primitive.{rebased, wrappingAdd};
-
-// len elements of `width` bytes of those that stand in body from `from` on, from element `start` on, into room at `at`.
-pub fn extend(
-    room: &mut [u8],
-    at: usize,
-    body: &[u8],
-    from: usize,
-    start: usize,
-    len: usize,
-    width: usize,
-)
-    requires { ⌜ at + width * len ≤ length (now room) ⌝ }
-    requires { ⌜ from + width * start + width * len ≤ length (now body) ⌝ }
-    ensures { λ _. ⌜ now (room .exit) ≡ splice at (take (width * len) (drop (from + width * start) (now (body .entry)))) (now (room .entry)) ⌝ }
-{
-    copy::copy_bytes(room, at, body, from + width * start, width * len);
-}
-
-// len null slots of `width` bytes at `at`: zeros.
-pub fn extend_nulls(room: &mut [u8], at: usize, len: usize, width: usize)
-    requires { ⌜ at + width * len ≤ length (now room) ⌝ }
-    ensures { λ _. ⌜ now (room .exit) ≡ splice at (replicate (width * len) 0) (now (room .entry)) ⌝ }
-{
-    copy::fill_zeros(room, at, width * len);
-}
 
 // The first n keys of those at `from`, each plus base, into room at `at`.
 pub fn extend_with_offset_u8(
@@ -116,29 +91,117 @@ pub fn extend_with_offset_u64(
 }
 
 // The sum of two signed keys, modulo 2^8.
-pub fn wrapping_add_i8(x: i8, y: i8) -> i8
+fn wrapping_add_i8(x: i8, y: i8) -> i8
     ensures { λ r. ⌜ r ≡ wrappingAdd 1 x y ⌝ }
 {
     number::value_i8(std::num::wrapping_add_u8(number::pattern_i8(x), number::pattern_i8(y)))
 }
 
 // The sum of two signed keys, modulo 2^16.
-pub fn wrapping_add_i16(x: i16, y: i16) -> i16
+fn wrapping_add_i16(x: i16, y: i16) -> i16
     ensures { λ r. ⌜ r ≡ wrappingAdd 2 x y ⌝ }
 {
     number::value_i16(std::num::wrapping_add_u16(number::pattern_i16(x), number::pattern_i16(y)))
 }
 
 // The sum of two signed keys, modulo 2^32.
-pub fn wrapping_add_i32(x: i32, y: i32) -> i32
+fn wrapping_add_i32(x: i32, y: i32) -> i32
     ensures { λ r. ⌜ r ≡ wrappingAdd 4 x y ⌝ }
 {
     number::value_i32(std::num::wrapping_add_u32(number::pattern_i32(x), number::pattern_i32(y)))
 }
 
 // The sum of two signed keys, modulo 2^64.
-pub fn wrapping_add_i64(x: i64, y: i64) -> i64
+fn wrapping_add_i64(x: i64, y: i64) -> i64
     ensures { λ r. ⌜ r ≡ wrappingAdd 8 x y ⌝ }
 {
     number::value_i64(std::num::wrapping_add_u64(number::pattern_i64(x), number::pattern_i64(y)))
+}
+
+// The same of signed keys, by the sum of signed numbers; base is given by its pattern.
+pub fn extend_with_offset_i8(
+    room: &mut [u8],
+    at: usize,
+    body: &[u8],
+    from: usize,
+    n: usize,
+    base: u8,
+)
+    requires { ⌜ at + n ≤ length (now room) ⌝ }
+    requires { ⌜ from + n ≤ length (now body) ⌝ }
+    ensures { λ _. ⌜ now (room .exit) ≡ splice at (rebased 1 (now (body .entry)) from base n) (now (room .entry)) ⌝ }
+{
+    let offset = number::value_i8(base);
+    let mut i = 0;
+    while i < n {
+        let key = wrapping_add_i8(number::read_i8(body, from + i), offset);
+        number::write_u8(room, at + i, number::pattern_i8(key));
+        i += 1;
+    }
+}
+
+// The same of signed keys, by the sum of signed numbers; base is given by its pattern.
+pub fn extend_with_offset_i16(
+    room: &mut [u8],
+    at: usize,
+    body: &[u8],
+    from: usize,
+    n: usize,
+    base: u16,
+)
+    requires { ⌜ at + 2 * n ≤ length (now room) ⌝ }
+    requires { ⌜ from + 2 * n ≤ length (now body) ⌝ }
+    ensures { λ _. ⌜ now (room .exit) ≡ splice at (rebased 2 (now (body .entry)) from base n) (now (room .entry)) ⌝ }
+{
+    let offset = number::value_i16(base);
+    let mut i = 0;
+    while i < n {
+        let key = wrapping_add_i16(number::read_i16(body, from + 2 * i), offset);
+        number::write_u16(room, at + 2 * i, number::pattern_i16(key));
+        i += 1;
+    }
+}
+
+// The same of signed keys, by the sum of signed numbers; base is given by its pattern.
+pub fn extend_with_offset_i32(
+    room: &mut [u8],
+    at: usize,
+    body: &[u8],
+    from: usize,
+    n: usize,
+    base: u32,
+)
+    requires { ⌜ at + 4 * n ≤ length (now room) ⌝ }
+    requires { ⌜ from + 4 * n ≤ length (now body) ⌝ }
+    ensures { λ _. ⌜ now (room .exit) ≡ splice at (rebased 4 (now (body .entry)) from base n) (now (room .entry)) ⌝ }
+{
+    let offset = number::value_i32(base);
+    let mut i = 0;
+    while i < n {
+        let key = wrapping_add_i32(number::read_i32(body, from + 4 * i), offset);
+        number::write_u32(room, at + 4 * i, number::pattern_i32(key));
+        i += 1;
+    }
+}
+
+// The same of signed keys, by the sum of signed numbers; base is given by its pattern.
+pub fn extend_with_offset_i64(
+    room: &mut [u8],
+    at: usize,
+    body: &[u8],
+    from: usize,
+    n: usize,
+    base: u64,
+)
+    requires { ⌜ at + 8 * n ≤ length (now room) ⌝ }
+    requires { ⌜ from + 8 * n ≤ length (now body) ⌝ }
+    ensures { λ _. ⌜ now (room .exit) ≡ splice at (rebased 8 (now (body .entry)) from base n) (now (room .entry)) ⌝ }
+{
+    let offset = number::value_i64(base);
+    let mut i = 0;
+    while i < n {
+        let key = wrapping_add_i64(number::read_i64(body, from + 8 * i), offset);
+        number::write_u64(room, at + 8 * i, number::pattern_i64(key));
+        i += 1;
+    }
 }

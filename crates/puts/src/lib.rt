@@ -9,6 +9,8 @@ ghost use Rattle.utils.specs.Offsets.{movedOffsets, repeated, countedUp};
 ghost use Rattle.primitive.specs.Primitive.{rebased};
 ghost use Rattle.byte_view.specs.View.{reviewed};
 ghost use Rattle.run_ends.specs.Clip.{clipped};
+ghost use Rattle.formats.specs.Code.{widthOf};
+ghost use Rattle.walk.specs.State.{bytesOf};
 ghost use Rattle.walk.specs.Log.{put, mask, applyIf};
 
 // n bytes of body from `from` on.
@@ -237,8 +239,16 @@ pub fn put_counted(
     }
 }
 
-// The first n keys of w bytes of those at `from`, each plus base, at `at`.
-fn write_keys(room: &mut [u8], at: usize, w: u64, body: &[u8], from: usize, n: usize, base: u64)
+// The first n unsigned keys of w bytes of those at `from`, each plus base, at `at`.
+fn write_unsigned_keys(
+    room: &mut [u8],
+    at: usize,
+    w: u64,
+    body: &[u8],
+    from: usize,
+    n: usize,
+    base: u64,
+)
     requires { ⌜ (at + w * n ≤ length (now room)) × (from + w * n ≤ length (now body)) ⌝ }
     requires { ⌜ ((w ≡ 1 → ⊥) → (w ≡ 2 → ⊥) → (w ≡ 4 → ⊥) → w ≡ 8) ⌝ }
     ensures { λ _. ⌜ now (room .exit) ≡ splice at (rebased w (now (body .entry)) from base n) (now (room .entry)) ⌝ }
@@ -251,7 +261,32 @@ fn write_keys(room: &mut [u8], at: usize, w: u64, body: &[u8], from: usize, n: u
     }
 }
 
-// The first n keys of w bytes of those at `from`, each plus base.
+// The first n keys of w bytes of those at `from`, each plus base, at `at`. The keys of the formats c, s, i and l are signed.
+fn write_keys(
+    room: &mut [u8],
+    at: usize,
+    code: u8,
+    w: u64,
+    body: &[u8],
+    from: usize,
+    n: usize,
+    base: u64,
+)
+    requires { ⌜ (at + w * n ≤ length (now room)) × (from + w * n ≤ length (now body)) ⌝ }
+    requires { ⌜ ((w ≡ 1 → ⊥) → (w ≡ 2 → ⊥) → (w ≡ 4 → ⊥) → w ≡ 8) ⌝ }
+    requires { ⌜ w ≡ widthOf code ⌝ }
+    ensures { λ _. ⌜ now (room .exit) ≡ splice at (rebased w (now (body .entry)) from base n) (now (room .entry)) ⌝ }
+{
+    match code {
+        1 => primitive::extend_with_offset_i8(room, at, body, from, n, (base % 256) as u8),
+        3 => primitive::extend_with_offset_i16(room, at, body, from, n, (base % 65536) as u16),
+        5 => primitive::extend_with_offset_i32(room, at, body, from, n, (base % 4294967296) as u32),
+        7 => primitive::extend_with_offset_i64(room, at, body, from, n, base),
+        _ => write_unsigned_keys(room, at, w, body, from, n, base),
+    }
+}
+
+// The first n keys of node i of those at `from`, w bytes each, each plus base.
 pub fn put_keys(
     state: &[u64],
     parts: &[u32],
@@ -268,8 +303,10 @@ pub fn put_keys(
 )
     requires { ⌜ (i < 32) × (b < 3) × (from + w * n ≤ length (now body)) ⌝ }
     requires { ⌜ ((w ≡ 1 → ⊥) → (w ≡ 2 → ⊥) → (w ≡ 4 → ⊥) → w ≡ 8) ⌝ }
+    requires { ⌜ w ≡ bytesOf (now state) i ⌝ }
     ensures { λ _. ⌜ now (room .exit) ≡ applyIf (now (state .entry)) (now (parts .entry)) write (put i b o (rebased w (now (body .entry)) from base n) ∷ []) (now (room .entry)) ⌝ }
 {
+    let code = growth::code_of(state, i);
     match growth::target(
         state,
         parts,
@@ -280,7 +317,7 @@ pub fn put_keys(
         o,
         growth::scale(n, w),
     ) {
-        growth::Goal::At(at) => write_keys(room, at, w, body, from, n as usize, base),
+        growth::Goal::At(at) => write_keys(room, at, code, w, body, from, n as usize, base),
         growth::Goal::Skip => {}
     }
 }

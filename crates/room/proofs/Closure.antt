@@ -6,12 +6,12 @@ use Prim.Native.Nat.{ℕ, zero, suc, _≤_, _<_}
 use native.Mathlib.Omega.{arith}
 use lib.Dec.{ltb, eqb}
 use borrow.Author.Tests.{ltb-true, ltb-false, eqb-true, eqb-false}
-use Rattle.columnar.specs.Types.{fixed, string, Ty, tPlain, tView, tListView, tSparse, tDense, tRunEnd, tDictionary}
-use Rattle.formats.specs.Code.{isListView, isUnion}
+use Rattle.columnar.specs.Types.{fixed, string, Ty, tPlain, tView, tListView, tList, tSparse, tDense, tRunEnd, tDictionary}
+use Rattle.formats.specs.Code.{isUnion}
 use Rattle.walk.specs.State.{codeOf, dictionaryOf, endOf}
 use Rattle.link.specs.Holds.{Fields, Worded}
 use Rattle.link.proofs.Frame.{worded-span}
-use Rattle.room.specs.Reach.{Child, first, later, Closed, Typed, typed, Among, Free, Tabled}
+use Rattle.room.specs.Reach.{hasItem, Child, first, later, Closed, Typed, typed, Among, Free, Tabled}
 use Rattle.room.proofs.Found.{between-both}
 
 module _ (state : List ℕ) where
@@ -23,9 +23,10 @@ module _ (state : List ℕ) where
   codes-from (tPlain (string w)) = 11
   codes-from tView = 15
   codes-from (tListView w t) = 17
-  codes-from (tSparse ids nullable f) = 19
-  codes-from (tDense ids nullable f) = 20
-  codes-from (tRunEnd w t) = 21
+  codes-from (tList w t) = 19
+  codes-from (tSparse ids nullable f) = 21
+  codes-from (tDense ids nullable f) = 22
+  codes-from (tRunEnd w t) = 23
   codes-from (tDictionary n p) = 1
 
   abbrev codes-to : Ty → ℕ
@@ -33,9 +34,10 @@ module _ (state : List ℕ) where
   codes-to (tPlain (string w)) = 14
   codes-to tView = 16
   codes-to (tListView w t) = 18
-  codes-to (tSparse ids nullable f) = 19
-  codes-to (tDense ids nullable f) = 20
-  codes-to (tRunEnd w t) = 21
+  codes-to (tList w t) = 20
+  codes-to (tSparse ids nullable f) = 21
+  codes-to (tDense ids nullable f) = 22
+  codes-to (tRunEnd w t) = 23
   codes-to (tDictionary n p) = 10
 
   worded-code : (k : ℕ) (t : Ty) (i : ℕ) → Worded state k t i → (codes-from t ≤ codeOf state i) × (codeOf state i ≤ codes-to t)
@@ -43,9 +45,10 @@ module _ (state : List ℕ) where
   worded-code (suc k) (tPlain (string v)) i w = between-both 11 14 (codeOf state i) (w .3 .0)
   worded-code (suc k) tView i w = between-both 15 16 (codeOf state i) (w .2)
   worded-code (suc k) (tListView v t) i w = between-both 17 18 (codeOf state i) (w .2)
-  worded-code (suc k) (tSparse ids nullable f) i w = let e : codeOf state i ≡ 19 = w .1 in (omega arith, omega arith)
-  worded-code (suc k) (tDense ids nullable f) i w = let e : codeOf state i ≡ 20 = w .1 in (omega arith, omega arith)
-  worded-code (suc k) (tRunEnd v t) i w = let e : codeOf state i ≡ 21 = w .2 in (omega arith, omega arith)
+  worded-code (suc k) (tList v t) i w = between-both 19 20 (codeOf state i) (w .2)
+  worded-code (suc k) (tSparse ids nullable f) i w = let e : codeOf state i ≡ 21 = w .1 in (omega arith, omega arith)
+  worded-code (suc k) (tDense ids nullable f) i w = let e : codeOf state i ≡ 22 = w .1 in (omega arith, omega arith)
+  worded-code (suc k) (tRunEnd v t) i w = let e : codeOf state i ≡ 23 = w .2 in (omega arith, omega arith)
   worded-code (suc k) (tDictionary n p) i w = between-both 1 10 (codeOf state i) (w .3)
 
   -- a type whose codes are all below or all above one of its node's
@@ -79,17 +82,18 @@ module _ (state : List ℕ) where
         go [] e = absurd (omega (arith, b .before-end, e))
         go (e ∷ es) g = typed k (f e) (g .4) (omega (arith, b .above)) (omega (arith, g .3))
 
-    typed-item : (i : ℕ) → Typed state lo hi i → isListView (codeOf state i) ≡ true → Typed state lo hi (suc i)
+    typed-item : (i : ℕ) → Typed state lo hi i → hasItem (codeOf state i) ≡ true → Typed state lo hi (suc i)
     typed-item i (typed k t w p q) h = go k t w
       where
-        never : (k : ℕ) (t : Ty) → Worded state k t i → (codes-to t < 17 → ⊥) × (18 < codes-from t → ⊥)
-        never k t w = let c = between-both 17 18 (codeOf state i) h in code-never k t i 17 18 w (c .0) (c .1)
+        never : (k : ℕ) (t : Ty) → Worded state k t i → (codes-to t < 17 → ⊥) × (20 < codes-from t → ⊥)
+        never k t w = let c = between-both 17 20 (codeOf state i) h in code-never k t i 17 20 w (c .0) (c .1)
 
         go : (k : ℕ) (t : Ty) → Worded state k t i → Typed state lo hi (suc i)
         go (suc k) (tPlain (fixed n)) w = absurd (never (suc k) (tPlain (fixed n)) w .0 (omega arith))
         go (suc k) (tPlain (string v)) w = absurd (never (suc k) (tPlain (string v)) w .0 (omega arith))
         go (suc k) tView w = absurd (never (suc k) tView w .0 (omega arith))
         go (suc k) (tListView v t) w = let e : endOf state i ≡ endOf state (suc i) = w .1 in typed k t (w .4) (omega arith) (omega arith)
+        go (suc k) (tList v t) w = let e : endOf state i ≡ endOf state (suc i) = w .1 in typed k t (w .4) (omega arith) (omega arith)
         go (suc k) (tSparse ids nullable f) w = absurd (never (suc k) (tSparse ids nullable f) w .1 (omega arith))
         go (suc k) (tDense ids nullable f) w = absurd (never (suc k) (tDense ids nullable f) w .1 (omega arith))
         go (suc k) (tRunEnd v t) w = absurd (never (suc k) (tRunEnd v t) w .1 (omega arith))
@@ -98,30 +102,32 @@ module _ (state : List ℕ) where
     typed-child : (i j : ℕ) → Typed state lo hi i → isUnion (codeOf state i) ≡ true → Child state i j → Typed state lo hi j
     typed-child i j (typed k t w p q) h d = go k t w
       where
-        never : (k : ℕ) (t : Ty) → Worded state k t i → (codes-to t < 19 → ⊥) × (20 < codes-from t → ⊥)
-        never k t w = let c = between-both 19 20 (codeOf state i) h in code-never k t i 19 20 w (c .0) (c .1)
+        never : (k : ℕ) (t : Ty) → Worded state k t i → (codes-to t < 21 → ⊥) × (22 < codes-from t → ⊥)
+        never k t w = let c = between-both 21 22 (codeOf state i) h in code-never k t i 21 22 w (c .0) (c .1)
 
         go : (k : ℕ) (t : Ty) → Worded state k t i → Typed state lo hi j
         go (suc k) (tPlain (fixed n)) w = absurd (never (suc k) (tPlain (fixed n)) w .0 (omega arith))
         go (suc k) (tPlain (string v)) w = absurd (never (suc k) (tPlain (string v)) w .0 (omega arith))
         go (suc k) tView w = absurd (never (suc k) tView w .0 (omega arith))
         go (suc k) (tListView v t) w = absurd (never (suc k) (tListView v t) w .0 (omega arith))
+        go (suc k) (tList v t) w = absurd (never (suc k) (tList v t) w .0 (omega arith))
         go (suc k) (tSparse ids nullable f) w = child-typed k f nullable i j p q (child-behind (λ c. Worded state k (f c)) nullable ids i j (w .4) d)
         go (suc k) (tDense ids nullable f) w = child-typed k f nullable i j p q (child-behind (λ c. Worded state k (f c)) nullable ids i j (w .4) d)
         go (suc k) (tRunEnd v t) w = absurd (never (suc k) (tRunEnd v t) w .1 (omega arith))
         go (suc k) (tDictionary n p) w = absurd (never (suc k) (tDictionary n p) w .0 (omega arith))
 
-    typed-values : (i : ℕ) → Typed state lo hi i → codeOf state i ≡ 21 → Typed state lo hi (suc (suc i))
+    typed-values : (i : ℕ) → Typed state lo hi i → codeOf state i ≡ 23 → Typed state lo hi (suc (suc i))
     typed-values i (typed k t w p q) h = go k t w
       where
-        never : (k : ℕ) (t : Ty) → Worded state k t i → (codes-to t < 21 → ⊥) × (21 < codes-from t → ⊥)
-        never k t w = code-never k t i 21 21 w (omega arith) (omega arith)
+        never : (k : ℕ) (t : Ty) → Worded state k t i → (codes-to t < 23 → ⊥) × (23 < codes-from t → ⊥)
+        never k t w = code-never k t i 23 23 w (omega arith) (omega arith)
 
         go : (k : ℕ) (t : Ty) → Worded state k t i → Typed state lo hi (suc (suc i))
         go (suc k) (tPlain (fixed n)) w = absurd (never (suc k) (tPlain (fixed n)) w .0 (omega arith))
         go (suc k) (tPlain (string v)) w = absurd (never (suc k) (tPlain (string v)) w .0 (omega arith))
         go (suc k) tView w = absurd (never (suc k) tView w .0 (omega arith))
         go (suc k) (tListView v t) w = absurd (never (suc k) (tListView v t) w .0 (omega arith))
+        go (suc k) (tList v t) w = absurd (never (suc k) (tList v t) w .0 (omega arith))
         go (suc k) (tSparse ids nullable f) w = absurd (never (suc k) (tSparse ids nullable f) w .0 (omega arith))
         go (suc k) (tDense ids nullable f) w = absurd (never (suc k) (tDense ids nullable f) w .0 (omega arith))
         go (suc k) (tRunEnd v t) w = let e : endOf state i ≡ endOf state (suc (suc i)) = w .1 in typed k t (w .4) (omega arith) (omega arith)
@@ -181,7 +187,7 @@ module _ (state : List ℕ) where
       free-at (suc k) f = f k refl
 
       child-free : (i j : ℕ) → Typed state lo hi i → isUnion (codeOf state i) ≡ true → Child state i j → Free state j
-      child-free i j t u (first h) = let z = between-both 19 20 (codeOf state i) u in other-free i (typed-among i t .1) (omega (arith, z .0))
+      child-free i j t u (first h) = let z = between-both 21 22 (codeOf state i) u in other-free i (typed-among i t .1) (omega (arith, z .0))
       child-free i j t u (later m c h) =
           let s = typed-span m (typed-child i m t u c) in
           free-at (endOf state m) (λ k e. last-free m k e (omega (arith, s .0)) (omega (arith, s .1)))
@@ -191,7 +197,7 @@ module _ (state : List ℕ) where
       closed-free =
           record {
             own = λ i t. (typed-among i (t .0), t .1);
-            item = λ i t h. let z = between-both 17 18 (codeOf state i) h in (typed-item i (t .0) h, other-free i (typed-among i (t .0) .1) (omega (arith, z .0)));
+            item = λ i t h. let z = between-both 17 20 (codeOf state i) h in (typed-item i (t .0) h, other-free i (typed-among i (t .0) .1) (omega (arith, z .0)));
             child = λ i k t h c. (typed-child i k (t .0) h c, child-free i k (t .0) h c);
             ends = λ i t h. (closed-typed .ends i (t .0) h, other-free i (typed-among i (t .0) .1) (omega arith));
             values = λ i t h.

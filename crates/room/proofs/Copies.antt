@@ -9,7 +9,7 @@ use lib.Dec.{ltb, eqb}
 use borrow.Author.Tests.{ltb-true, eqb-true, eqb-false}
 use Rattle.bits.specs.Bits.{bitsAt}
 use Rattle.columnar.specs.Types.{half}
-use Rattle.formats.specs.Code.{isFixed, isString, isView, isListView, isUnion}
+use Rattle.formats.specs.Code.{isFixed, isString, isView, isListView, isList, isUnion}
 use Rattle.utils.specs.Offsets.{movedOffsets}
 use Rattle.utils.specs.Extension.{extended}
 use Rattle.utils.specs.declared.Extended.{Extended}
@@ -18,12 +18,12 @@ use Rattle.run_ends.specs.declared.Runs.{Runs}
 use Rattle.run_ends.specs.declared.Runs.the-variants.{Range, None}
 use Rattle.walk.specs.State.{Join, codeOf, dictionaryOf, endOf, keepsOf, baseOf, bytesOf, rows, bytes, place, far}
 use Rattle.walk.specs.Leaves.{copyBits, copyMask, copyNumbers, copyKeys, copyViews, putString, putExtended, copyString}
-use Rattle.walk.specs.Copy.{Walk, isWidth, masked, listViewRow, copyListView, copyFields, copySparse, idAt, denseTo, denseRow, copyDense, putRuns, runsAt, copyRuns, copyData, copySlots, copyNode, copyWalk}
+use Rattle.walk.specs.Copy.{Walk, isWidth, masked, listViewRow, copyListView, putStretch, putList, copyList, copyFields, copySparse, idAt, denseTo, denseRow, copyDense, putRuns, runsAt, copyRuns, copyData, copySlots, copyNode, copyWalk}
 use Rattle.room.specs.Room.{AllBelow, AllUsed}
 use Rattle.room.specs.Reach.{Second, chars, sizes, positions, HasBuffer, Child, Closed, UsedAt}
 use Rattle.room.proofs.Bytes.{bytes-encode, bytes-one, bytes-part, bytes-moved, bytes-rebased, bytes-reviewed, bytes-clipped, bits-part, bits-same}
 use Rattle.room.proofs.Uses.{Uses, uses-put, uses-mask, uses-done, uses-fail, uses-cond, uses-need, uses-found, uses-next, uses-each}
-use Rattle.room.proofs.Found.{between-both, and-first, ends-code, child-first, child-later, child-with}
+use Rattle.room.proofs.Found.{between-both, between-wide, and-first, ends-code, child-first, child-later, child-with}
 
 module _ (x : Join) (In At : ℕ → Type 0) (closed : Closed (x .state) In At) (body : AllBelow 256 (x .body)) where
   abbrev U : ℕ → ℕ → Type 0
@@ -32,7 +32,7 @@ module _ (x : Join) (In At : ℕ → Type 0) (closed : Closed (x .state) In At) 
   -- ---- a node without children
 
   module _ (i : ℕ) (small : i < 32) (here : At i) where
-    uses-copy-mask : (slot n : ℕ) (c : List ℕ) → codeOf (x .state) i < 19 → Uses U (copyMask x i slot n c)
+    uses-copy-mask : (slot n : ℕ) (c : List ℕ) → codeOf (x .state) i < 21 → Uses U (copyMask x i slot n c)
     unfolding copyMask copyBits
     uses-copy-mask slot n c h =
         uses-cond U (eqb (keepsOf (x .state) i) 0) _ _ (λ e. uses-done U c)
@@ -83,8 +83,25 @@ module _ (x : Join) (In At : ℕ → Type 0) (closed : Closed (x .state) In At) 
         (λ r c1. uses-need U _ 6 c1 _
         (λ g. uses-next U _ _ (uses-put (x .state) At i small (closed .own i here) 0 _ _ c1 code (bytes-encode w _))
         (λ c2. uses-next U _ _ (uses-put (x .state) At i small (closed .own i here) 1 _ _ c2 (refl, sizes h) (bytes-encode w _))
-        (λ c3. below (suc i) _ _ c3 (closed .item i here h)))))
+        (λ c3. below (suc i) _ _ c3 (closed .item i here (between-wide 17 18 17 20 (codeOf (x .state) i) (omega arith) (omega arith) h))))))
         n 0 c))
+
+    uses-stretch : (w from n : ℕ) (e : Extended) (c : List ℕ) → isList (codeOf (x .state) i) ≡ true → Uses U (putList x walk w i from n e c)
+    unfolding putStretch
+    uses-stretch w from n (Fits last start) c h =
+        let z = between-both 19 20 (codeOf (x .state) i) h in
+        uses-next U _ _ (uses-put (x .state) At i small (closed .own i here) 0 _ _ c (omega (arith, z .0), omega (arith, z .1)) (bytes-moved w (x .body) from (rows c (suc i)) n))
+        (λ c2. below (suc i) start _ c2 (closed .item i here (between-wide 19 20 17 20 (codeOf (x .state) i) (omega arith) (omega arith) h)))
+    uses-stretch w from n (Over row needed) c h = uses-fail U 6 c
+    uses-stretch w from n Falls c h = uses-fail U 12 c
+
+    uses-list : (w slot n : ℕ) (c : List ℕ) → isList (codeOf (x .state) i) ≡ true → Uses U (copyList x walk w i slot n c)
+    unfolding copyList
+    uses-list w slot n c h =
+        uses-cond U (eqb n 0) _ _ (λ e. uses-done U c)
+        (λ e. uses-need U _ 12 c _
+        (λ f. uses-need U _ 12 c _
+        (λ g. uses-stretch w (place x i 3 + w * slot) n (extended w (x .body) (place x i 3 + w * slot) n (rows c (suc i))) c h)))
 
     uses-fields : (slot n fuel k : ℕ) (c : List ℕ) → isUnion (codeOf (x .state) i) ≡ true → (k < endOf (x .state) i → Child (x .state) i k)
         → Uses U (copyFields x walk slot n (endOf (x .state) i) fuel k c)
@@ -99,7 +116,7 @@ module _ (x : Join) (In At : ℕ → Type 0) (closed : Closed (x .state) In At) 
 
     module _ (union : isUnion (codeOf (x .state) i) ≡ true) where
       union-code : HasBuffer (x .state) i 1
-      union-code = let z = between-both 19 20 (codeOf (x .state) i) union in (omega (arith, z .0), omega (arith, z .1))
+      union-code = let z = between-both 21 22 (codeOf (x .state) i) union in (omega (arith, z .0), omega (arith, z .1))
 
       uses-sparse : (slot n : ℕ) (c : List ℕ) → Uses U (copySparse x walk i slot n c)
       unfolding copySparse
@@ -108,7 +125,7 @@ module _ (x : Join) (In At : ℕ → Type 0) (closed : Closed (x .state) In At) 
           (λ e. uses-next U _ _ (uses-put (x .state) At i small (closed .own i here) 0 (rows c i) _ c union-code (bytes-part (place x i 3 + slot) n (x .body) body))
           (λ c2. uses-fields slot n 32 (suc i) c2 union (child-first (x .state) i)))
 
-      uses-dense : (slot n : ℕ) (c : List ℕ) → codeOf (x .state) i ≡ 20 → Uses U (copyDense x walk i slot n c)
+      uses-dense : (slot n : ℕ) (c : List ℕ) → codeOf (x .state) i ≡ 22 → Uses U (copyDense x walk i slot n c)
       unfolding copyDense denseRow denseTo
       uses-dense slot n c q =
           uses-need U _ 12 c _
@@ -120,14 +137,14 @@ module _ (x : Join) (In At : ℕ → Type 0) (closed : Closed (x .state) In At) 
           (λ c3. below _ _ 1 c3 (closed .child i _ here union (child-with (x .state) i (idAt x walk i (slot + r)) 32 (suc i) (child-first (x .state) i) l)))))))
           n 0 c)
 
-    uses-runs-put : (w slot n : ℕ) (r : Runs) (c : List ℕ) → codeOf (x .state) i ≡ 21 → suc (suc i) < 32 → HasBuffer (x .state) (suc i) 1 → Uses U (putRuns x walk w i slot n r c)
+    uses-runs-put : (w slot n : ℕ) (r : Runs) (c : List ℕ) → codeOf (x .state) i ≡ 23 → suc (suc i) < 32 → HasBuffer (x .state) (suc i) 1 → Uses U (putRuns x walk w i slot n r c)
     uses-runs-put w slot n None c q s h = uses-fail U 12 c
     uses-runs-put w slot n (Range start count) c q s h =
         uses-next U _ _ (below (suc (suc i)) (start .0) count c (closed .values i here q))
         (λ c2. uses-next U _ _ (uses-put (x .state) At (suc i) (omega arith) (closed .ends i here q) 0 _ _ c2 h (bytes-clipped w (x .body) _ count slot (slot + n) (rows c i)))
         (λ c3. uses-done U _))
 
-    uses-runs : (slot n : ℕ) (c : List ℕ) → codeOf (x .state) i ≡ 21 → Uses U (copyRuns x walk i slot n c)
+    uses-runs : (slot n : ℕ) (c : List ℕ) → codeOf (x .state) i ≡ 23 → Uses U (copyRuns x walk i slot n c)
     unfolding copyRuns
     uses-runs slot n c q =
         uses-cond U (eqb n 0) _ _ (λ e. uses-done U c)
@@ -150,13 +167,15 @@ module _ (x : Join) (In At : ℕ → Type 0) (closed : Closed (x .state) In At) 
         (λ e. let b = between-both 15 16 z e in uses-views i small at (omega (arith, b .0), omega (arith, b .1)) slot n c)
         (λ e3. uses-cond U (isListView z) _ _
         (λ e. uses-list-view _ slot n c e)
-        (λ e4. uses-cond U (eqb z 19) _ _
-        (λ e. uses-sparse (union 19 e refl) slot n c)
-        (λ e5. uses-cond U (eqb z 20) _ _
-        (λ e. uses-dense (union 20 e refl) slot n c (eqb-true z 20 e))
-        (λ e6. uses-cond U (eqb z 21) _ _
-        (λ e. uses-runs slot n c (eqb-true z 21 e))
-        (λ e7. uses-fail U 12 c)))))))
+        (λ e4. uses-cond U (isList z) _ _
+        (λ e. uses-list _ slot n c e)
+        (λ e5. uses-cond U (eqb z 21) _ _
+        (λ e. uses-sparse (union 21 e refl) slot n c)
+        (λ e6. uses-cond U (eqb z 22) _ _
+        (λ e. uses-dense (union 22 e refl) slot n c (eqb-true z 22 e))
+        (λ e7. uses-cond U (eqb z 23) _ _
+        (λ e. uses-runs slot n c (eqb-true z 23 e))
+        (λ e8. uses-fail U 12 c))))))))
       where
         z : ℕ
         z = codeOf (x .state) i
@@ -174,7 +193,7 @@ module _ (x : Join) (In At : ℕ → Type 0) (closed : Closed (x .state) In At) 
       (λ e. let small = ltb-true i 32 e in
       uses-found U far _ 12 c _
       (λ f. uses-next U _ _
-      (uses-cond U (masked (codeOf (x .state) i)) _ _ (λ g. uses-copy-mask i small (closed .own i here) _ n c (ltb-true (codeOf (x .state) i) 19 g)) (λ g. uses-done U c))
+      (uses-cond U (masked (codeOf (x .state) i)) _ _ (λ g. uses-copy-mask i small (closed .own i here) _ n c (ltb-true (codeOf (x .state) i) 21 g)) (λ g. uses-done U c))
       (λ c2. uses-next U _ _ (uses-data walk below i small here _ n c2) (λ c3. uses-done U _))))
 
   uses-walk : (depth i a n : ℕ) (c : List ℕ) → In i → Uses U (copyWalk x depth i a n c)

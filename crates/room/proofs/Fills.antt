@@ -8,11 +8,11 @@ use lib.ListN.{replicate}
 use lib.Dec.{ltb, eqb}
 use borrow.Author.Tests.{ltb-true, eqb-true, eqb-false}
 use Rattle.columnar.specs.Types.{half}
-use Rattle.formats.specs.Code.{isFixed, isString, isView, isListView, isUnion}
+use Rattle.formats.specs.Code.{isFixed, isString, isView, isListView, isList, isUnion}
 use Rattle.walk.specs.State.{Join, word, codeOf, endOf, idOf, keepsOf, bytesOf, rows, bytes}
 use Rattle.walk.specs.Leaves.{nullMask, countNulls, nullNumbers, nullString}
 use Rattle.walk.specs.Copy.{isWidth, masked}
-use Rattle.walk.specs.Nulls.{NullWalk, nullListView, nullFields, nullSparse, nullDense, nullRuns, nullData, nullNode, nullWalk}
+use Rattle.walk.specs.Nulls.{NullWalk, nullListView, nullList, nullFields, nullSparse, nullDense, nullRuns, nullData, nullNode, nullWalk}
 use Rattle.room.specs.Room.{AllUsed}
 use Rattle.room.specs.Reach.{sizes, positions, HasBuffer, Child, Closed, UsedAt}
 use Rattle.room.proofs.Bytes.{bytes-encode, bytes-same, bytes-repeated, bytes-counted, bits-same}
@@ -27,7 +27,7 @@ module _ (x : Join) (In At : ℕ → Type 0) (closed : Closed (x .state) In At) 
   id-byte h = let e : word (x .state) h 3 % 256 < 256 = omega arith in e
 
   module _ (i : ℕ) (small : i < 32) (here : At i) where
-    uses-null-mask : (n : ℕ) (c : List ℕ) → codeOf (x .state) i < 19 → Uses U (nullMask x i n c)
+    uses-null-mask : (n : ℕ) (c : List ℕ) → codeOf (x .state) i < 21 → Uses U (nullMask x i n c)
     unfolding nullMask
     uses-null-mask n c h =
         uses-cond U (eqb (keepsOf (x .state) i) 0) _ _ (λ e. uses-done U c)
@@ -54,6 +54,13 @@ module _ (x : Join) (In At : ℕ → Type 0) (closed : Closed (x .state) In At) 
         uses-next U _ _ (uses-zeros i small (closed .own i here) 0 w n c (omega (arith, z .0), omega (arith, z .1)))
         (λ c2. uses-zeros i small (closed .own i here) 1 w n c2 (refl, sizes h))
 
+    uses-null-list : (w n : ℕ) (c : List ℕ) → isList (codeOf (x .state) i) ≡ true → Uses U (nullList x walk w i n c)
+    unfolding nullList
+    uses-null-list w n c h =
+        let z = between-both 19 20 (codeOf (x .state) i) h in
+        uses-need U _ 12 c _
+        (λ e. uses-put (x .state) At i small (closed .own i here) 0 (suc (rows c i) * w) _ c (omega (arith, z .0), omega (arith, z .1)) (bytes-repeated w (rows c (suc i)) n))
+
     uses-null-fields : (n fuel k : ℕ) (c : List ℕ) → isUnion (codeOf (x .state) i) ≡ true → (k < endOf (x .state) i → Child (x .state) i k)
         → Uses U (nullFields x walk n (endOf (x .state) i) fuel k c)
     unfolding nullFields
@@ -67,7 +74,7 @@ module _ (x : Join) (In At : ℕ → Type 0) (closed : Closed (x .state) In At) 
 
     module _ (union : isUnion (codeOf (x .state) i) ≡ true) where
       union-code : HasBuffer (x .state) i 1
-      union-code = let z = between-both 19 20 (codeOf (x .state) i) union in (omega (arith, z .0), omega (arith, z .1))
+      union-code = let z = between-both 21 22 (codeOf (x .state) i) union in (omega (arith, z .0), omega (arith, z .1))
 
       uses-null-sparse : (n : ℕ) (c : List ℕ) → Uses U (nullSparse x walk i n c)
       unfolding nullSparse
@@ -76,7 +83,7 @@ module _ (x : Join) (In At : ℕ → Type 0) (closed : Closed (x .state) In At) 
           (λ l. uses-next U _ _ (uses-put (x .state) At i small (closed .own i here) 0 (rows c i) _ c union-code (bytes-same n _ (id-byte _)))
           (λ c2. uses-null-fields n 32 (suc i) c2 union (child-first (x .state) i)))
 
-      uses-null-dense : (n : ℕ) (c : List ℕ) → codeOf (x .state) i ≡ 20 → Uses U (nullDense x walk i n c)
+      uses-null-dense : (n : ℕ) (c : List ℕ) → codeOf (x .state) i ≡ 22 → Uses U (nullDense x walk i n c)
       unfolding nullDense
       uses-null-dense n c q =
           uses-found U 32 _ _ c _
@@ -85,7 +92,7 @@ module _ (x : Join) (In At : ℕ → Type 0) (closed : Closed (x .state) In At) 
           (λ c2. uses-next U _ _ (uses-put (x .state) At i small (closed .own i here) 1 _ _ c2 (refl, positions q) (bytes-counted 4 _ n))
           (λ c3. below _ n c3 (closed .child i _ here union (child-nullable (x .state) i 32 (suc i) (child-first (x .state) i) l))))))
 
-    uses-null-runs : (n : ℕ) (c : List ℕ) → codeOf (x .state) i ≡ 21 → Uses U (nullRuns x walk i n c)
+    uses-null-runs : (n : ℕ) (c : List ℕ) → codeOf (x .state) i ≡ 23 → Uses U (nullRuns x walk i n c)
     unfolding nullRuns
     uses-null-runs n c q =
         uses-need U _ 12 c _
@@ -110,13 +117,15 @@ module _ (x : Join) (In At : ℕ → Type 0) (closed : Closed (x .state) In At) 
         (λ e. let b = between-both 15 16 z e in uses-zeros i small at 0 16 n c (omega (arith, b .0), omega (arith, b .1)))
         (λ e3. uses-cond U (isListView z) _ _
         (λ e. uses-null-views _ n c e)
-        (λ e4. uses-cond U (eqb z 19) _ _
-        (λ e. uses-null-sparse (union 19 e refl) n c)
-        (λ e5. uses-cond U (eqb z 20) _ _
-        (λ e. uses-null-dense (union 20 e refl) n c (eqb-true z 20 e))
-        (λ e6. uses-cond U (eqb z 21) _ _
-        (λ e. uses-null-runs n c (eqb-true z 21 e))
-        (λ e7. uses-fail U 12 c)))))))
+        (λ e4. uses-cond U (isList z) _ _
+        (λ e. uses-null-list _ n c e)
+        (λ e5. uses-cond U (eqb z 21) _ _
+        (λ e. uses-null-sparse (union 21 e refl) n c)
+        (λ e6. uses-cond U (eqb z 22) _ _
+        (λ e. uses-null-dense (union 22 e refl) n c (eqb-true z 22 e))
+        (λ e7. uses-cond U (eqb z 23) _ _
+        (λ e. uses-null-runs n c (eqb-true z 23 e))
+        (λ e8. uses-fail U 12 c))))))))
       where
         z : ℕ
         z = codeOf (x .state) i
@@ -135,7 +144,7 @@ module _ (x : Join) (In At : ℕ → Type 0) (closed : Closed (x .state) In At) 
       (λ f. let small = ltb-true i 32 f in
       uses-next U _ _ (uses-null-data walk below i small here n c)
       (λ c2. uses-next U _ _
-      (uses-cond U (masked (codeOf (x .state) i)) _ _ (λ g. uses-null-mask i small (closed .own i here) n c2 (ltb-true (codeOf (x .state) i) 19 g))
+      (uses-cond U (masked (codeOf (x .state) i)) _ _ (λ g. uses-null-mask i small (closed .own i here) n c2 (ltb-true (codeOf (x .state) i) 21 g))
       (λ g. uses-count i small (closed .own i here) n c2))
       (λ c3. uses-done U _))))
 

@@ -7,7 +7,7 @@ use native.Mathlib.Omega.{arith}
 use lib.ListN.{drop, getD}
 use lib.Seq.{getD-drop}
 use lib.Dec.{ltb, leb, eqb}
-use borrow.Author.Tests.{ltb-true, ltb-false, leb-true}
+use borrow.Author.Tests.{ltb-true, ltb-false, leb-true, le-leb}
 use Rattle.columnar.specs.Types.{half}
 use Rattle.formats.specs.Code.{between, widths, widthOf}
 use Rattle.walk.specs.State.{endOf, idOf, nullableOf}
@@ -23,33 +23,39 @@ between-both low high z h = go (leb low z) refl (leb z high) refl h
     go true p false q h = absurd (let y : _≡_ {A = ℕ} 0 1 = cc h in omega arith)
     go false p t q h = absurd (let y : _≡_ {A = ℕ} 0 1 = cc h in omega arith)
 
+-- a range within a wider one
+pub between-wide : (low high low2 high2 z : ℕ) → low2 ≤ low → high ≤ high2 → between low high z ≡ true → between low2 high2 z ≡ true
+between-wide low high low2 high2 z p q h =
+    let b = between-both low high z h in
+    rw (le-leb low2 z (omega (arith, b .0)), le-leb z high2 (omega (arith, b .1)))
+
 pub and-first : (a b : Bool) → (a && b) ≡ true → a ≡ true
 and-first true b h = refl
 and-first false b h = h
 
 -- ---- run ends: a format whose numbers hold something has a first buffer
 
-no-widths : (d : ℕ) → getD (drop 19 widths) d 0 ≡ 0
+no-widths : (d : ℕ) → getD (drop 21 widths) d 0 ≡ 0
 no-widths zero = refl
 no-widths (suc zero) = refl
 no-widths (suc (suc zero)) = refl
 no-widths (suc (suc (suc d))) = refl
 
-no-width : (z : ℕ) → 19 ≤ z → widthOf z ≡ 0
+no-width : (z : ℕ) → 21 ≤ z → widthOf z ≡ 0
 no-width z h =
-    let e : 19 + (z - 19) ≡ z = omega arith in
-    ap (λ y. getD widths y 0) (sym e) ∙ sym (getD-drop 19 widths (z - 19) 0) ∙ no-widths (z - 19)
+    let e : 21 + (z - 21) ≡ z = omega arith in
+    ap (λ y. getD widths y 0) (sym e) ∙ sym (getD-drop 21 widths (z - 21) 0) ∙ no-widths (z - 21)
 
 nothing-below : (v w : ℕ) → w ≡ 0 → ltb v (half w) ≡ true → ⊥
 nothing-below v w e h = let l : ltb v (half 0) ≡ true = rw e at h in omega (arith, ltb-true v (half 0) l)
 
-pub ends-code : (v z : ℕ) → ltb v (half (widthOf z)) ≡ true → (1 ≤ z) × (z < 19)
+pub ends-code : (v z : ℕ) → ltb v (half (widthOf z)) ≡ true → (1 ≤ z) × (z < 21)
 ends-code v zero h = absurd (nothing-below v (widthOf 0) refl h)
-ends-code v (suc z) h = (omega arith, go (ltb (suc z) 19) refl)
+ends-code v (suc z) h = (omega arith, go (ltb (suc z) 21) refl)
   where
-    go : (t : Bool) → ltb (suc z) 19 ≡ t → suc z < 19
-    go true e = ltb-true (suc z) 19 e
-    go false e = absurd (nothing-below v (widthOf (suc z)) (no-width (suc z) (ltb-false (suc z) 19 e)) h)
+    go : (t : Bool) → ltb (suc z) 21 ≡ t → suc z < 21
+    go true e = ltb-true (suc z) 21 e
+    go false e = absurd (nothing-below v (widthOf (suc z)) (no-width (suc z) (ltb-false (suc z) 21 e)) h)
 
 -- ---- children
 

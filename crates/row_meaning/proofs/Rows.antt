@@ -10,10 +10,10 @@ use lib.ListN.{length, getD}
 use lib.Dec.{T, leb, ltb}
 use borrow.Author.Tests.{le-leb, lt-ltb, leb-true}
 use Rattle.columnar.specs.Row.{Row, null, bytes, union}
-use Rattle.columnar.specs.Types.{Number, width, Plain, fixed, string, Ty, tPlain, tView, tListView, tSparse, tDense, tRunEnd, tDictionary}
+use Rattle.columnar.specs.Types.{Number, width, Plain, fixed, string, Ty, tPlain, tView, tListView, tList, tSparse, tDense, tRunEnd, tDictionary}
 use Rattle.columnar.specs.Formed.{OffsetWidth, RunWidth, FormedPlain, Ids}
 use Rattle.columnar.specs.Array.{Array, item, ok, sight}
-use Rattle.columnar.specs.Plain.{StringRule, empty, full}
+use Rattle.columnar.specs.Plain.{StringRule, OffsetsRule, empty, full}
 use Rattle.columnar.specs.Test.{every}
 use Rattle.columnar.specs.Reading.{masks, slotAt, read, Source}
 use Rattle.columnar.specs.RunEnd.{endOf, firstAbove, startOf}
@@ -25,18 +25,18 @@ use Rattle.schema.proofs.Depth.{child-depth}
 use Rattle.schema.proofs.Known.{typed-whole, within-nodes, within-depth}
 use Rattle.array_data.specs.Tables.{Tables, lengthOf, offsetOf, place, validOf, firstBuffer, secondBuffer, arrayWith, held, validIn, inBody}
 use Rattle.array_data.specs.Rules.{oneIn, buffersIn}
-use Rattle.array_data.specs.Typed.{NodeKind, fixedNode, stringNode, viewNode, listViewNode, sparseNode, denseNode, runEndNode, dictionaryNode, fieldOf, nodeOf, bodyOf, columnOf, kindRule, nodeRule, sourceRule, tablesFrom}
+use Rattle.array_data.specs.Typed.{NodeKind, fixedNode, stringNode, viewNode, listViewNode, listNode, sparseNode, denseNode, runEndNode, dictionaryNode, fieldOf, nodeOf, bodyOf, columnOf, kindRule, nodeRule, sourceRule, tablesFrom}
 use Rattle.lent.specs.Lent.{idsOr, kindAt, treeOf, plainAs, tyAs, tyOf, typeOf}
 use Rattle.lent.proofs.Ids.{field-in}
 use Rattle.lent.proofs.Lent.{child-same, first-child, second-child, some-node, root}
-use Rattle.lent.proofs.Shaped.{Shaped, of-plain, of-view, of-list, of-sparse, of-dense, of-run, of-dictionary, plainKind}
+use Rattle.lent.proofs.Shaped.{Shaped, of-plain, of-view, of-list, of-lists, of-sparse, of-dense, of-run, of-dictionary, plainKind}
 use Rattle.lent.proofs.Source.{lent-source}
 use Rattle.lent_tables.proofs.Laws.{and-left, and-right}
 use Rattle.lent_entries.specs.Entries.{entryIn, validBit}
 use Rattle.lent_entries.specs.declared.Entry.the-variants as entry
 use Rattle.slot_reader.specs.declared.RowRead.{RowRead}
 use Rattle.slot_reader.specs.declared.RowRead.the-variants as row
-use Rattle.slot_reader.specs.Slots.{known, kindWord, listed, storedBy, entryBy, namedAt, keyed, dictionaryRead}
+use Rattle.slot_reader.specs.Slots.{known, kindWord, listViewRead, listRead, storedBy, entryBy, namedAt, keyed, dictionaryRead}
 use Rattle.node_table.specs.Words.{planted}
 use Rattle.row_reader.specs.declared.Step.{Step}
 use Rattle.row_reader.specs.declared.Step.the-variants as step
@@ -46,7 +46,7 @@ use Rattle.row_reader.proofs.Laws.{at-slot}
 use Rattle.row_meaning.specs.Meaning.{flat, meaning}
 use Rattle.row_meaning.proofs.Child.{words, found-child}
 use Rattle.row_meaning.proofs.Words.{plainer, ids-few, sparse-ids, dense-ids, node-shaped, kind-word, known-word}
-use Rattle.row_meaning.proofs.Slots.{Gives, wide, number-sized, offset-sized, offset-wide, entry-slot, number-gives, stored-gives, string-gives, entry-gives, valid-known}
+use Rattle.row_meaning.proofs.Slots.{Gives, wide, number-sized, offset-sized, offset-wide, entry-slot, number-gives, stored-gives, list-rows, string-gives, entry-gives, valid-known}
 use Rattle.row_meaning.proofs.Views.{view-gives}
 use Rattle.row_meaning.proofs.Runs.{ran-is, ran-below}
 
@@ -94,6 +94,7 @@ module _ (formats schema : List ℕ) (first n : ℕ) (x : Tables) (t : typed for
   null-means (tPlain p) = refl
   null-means tView = refl
   null-means (tListView v u) = refl
+  null-means (tList v u) = refl
   null-means (tSparse ids nullable f) = refl
   null-means (tDense ids nullable f) = refl
   null-means (tRunEnd v u) = null-means u
@@ -132,7 +133,7 @@ module _ (formats schema : List ℕ) (first n : ℕ) (x : Tables) (t : typed for
             → Shows (tPlain (string v)) (follow (walk w x f) (stepBy w x (stringNode v) i slot)) (slotAt (tPlain (string v)) (bodyOf tree x (tPlain (string v)) i) slot)
         go (empty e z) = absurd (omega (arith, e))
         go (full h) =
-            let g = string-gives (x .body) small v (firstBuffer x i) (place x i 5) (place x i 6) (offsetOf x i) (lengthOf x i) r o h q in
+            let g = string-gives (x .body) v (firstBuffer x i) (place x i 5) (place x i 6) (offsetOf x i) (lengthOf x i) r o h q in
             record { accepted = g .accepted; means = g .means }
 
     -- the data buffers lie in the body
@@ -150,13 +151,23 @@ module _ (formats schema : List ℕ) (first n : ℕ) (x : Tables) (t : typed for
         let g = view-gives (x .body) (x .buffers) (place x i 7) (place x i 8) (buffers-lie e) (place x i 3) (place x i 4) slot (offsetOf x i + lengthOf x i) (s .slots .hold) (omega arith) (s .slots .good r q okay) in
         record { accepted = g .accepted; means = g .means }
 
-    list-level : (v : ℕ) → OffsetWidth v → Level (listViewNode v)
-    list-level v o s =
+    list-view-level : (v : ℕ) → OffsetWidth v → Level (listViewNode v)
+    list-view-level v o s =
         let e1 = entry-slot v (firstBuffer x i) slot (offsetOf x i + lengthOf x i) (offset-wide v o) (offset-sized v o) (s .slots .hold-offsets) (omega arith) in
         let e2 = entry-slot v (secondBuffer x i) slot (offsetOf x i + lengthOf x i) (offset-wide v o) (offset-sized v o) (s .slots .hold-sizes) (omega arith) in
-        let z : listed (suc i) (entryIn v (firstBuffer x i) slot) (entryIn v (secondBuffer x i) slot) ≡ row.List (suc i) (item v (firstBuffer x i) slot) (item v (secondBuffer x i) slot) = rw (e1, e2) in
+        let z : listViewRead v (firstBuffer x i) (secondBuffer x i) (suc i) slot ≡ row.List (suc i) (item v (firstBuffer x i) slot) (item v (secondBuffer x i) slot) = rw (e1, e2) in
         subst (λ a. Shows (tListView v (tyOf tree f (suc i))) (walkedTo a) (slotAt (tListView v (tyOf tree f (suc i))) (bodyOf tree x (tListView v (tyOf tree f (suc i))) i) slot)) (sym z)
         (record { accepted = refl; means = refl })
+
+    list-level : (v : ℕ) → OffsetWidth v → Level (listNode v)
+    list-level v o s = go (s .slots .offsets-rule)
+      where
+        go : OffsetsRule v (firstBuffer x i) (lengthOf x (suc i)) (offsetOf x i) (lengthOf x i)
+            → Shows (tList v (tyOf tree f (suc i))) (walkedTo (listRead v (firstBuffer x i) (suc i) (lengthOf x (suc i)) slot)) (slotAt (tList v (tyOf tree f (suc i))) (bodyOf tree x (tList v (tyOf tree f (suc i))) i) slot)
+        go (empty e z) = absurd (omega (arith, e))
+        go (full h) =
+            subst (λ a. Shows (tList v (tyOf tree f (suc i))) (walkedTo a) (slotAt (tList v (tyOf tree f (suc i))) (bodyOf tree x (tList v (tyOf tree f (suc i))) i) slot))
+            (sym (list-rows v (firstBuffer x i) (lengthOf x (suc i)) (offsetOf x i) (lengthOf x i) r o h q (suc i))) (record { accepted = refl; means = refl })
 
     -- a union's child, by the id of the slot
     abbrev id : ℕ
@@ -249,7 +260,7 @@ module _ (formats schema : List ℕ) (first n : ℕ) (x : Tables) (t : typed for
               → Shows (tDictionary m (string v)) (walkedTo (dictionaryRead w x i (width m) slot)) (slotAt (tDictionary m (string v)) (bodyOf tree x (tDictionary m (string v)) i) slot)
           go (empty z y) = absurd (omega (arith, z, s .slots .within r q okay))
           go (full h) =
-              let g = entry-gives (x .body) (ok (validOf x (suc i)) at) _ _ (string-gives (x .body) small v (firstBuffer x (suc i)) (place x (suc i) 5) (place x (suc i) 6) (offsetOf x (suc i)) (lengthOf x (suc i)) key d h (s .slots .within r q okay)) in
+              let g = entry-gives (x .body) (ok (validOf x (suc i)) at) _ _ (string-gives (x .body) v (firstBuffer x (suc i)) (place x (suc i) 5) (place x (suc i) 6) (offsetOf x (suc i)) (lengthOf x (suc i)) key d h (s .slots .within r q okay)) in
               subst (λ a. Shows (tDictionary m (string v)) (walkedTo a) (slotAt (tDictionary m (string v)) (bodyOf tree x (tDictionary m (string v)) i) slot)) (sym (reads-key (string v) e s))
               (record { accepted = g .accepted; means = g .means })
 
@@ -259,7 +270,8 @@ module _ (formats schema : List ℕ) (first n : ℕ) (x : Tables) (t : typed for
     level (of-plain (fixed m) e z d) = subst Level (sym e) (fixed-level m)
     level (of-plain (string v) e z d) = subst Level (sym e) (string-level v d)
     level (of-view e z) = subst Level (sym e) (view-level e)
-    level (of-list v e z d) = subst Level (sym e) (list-level v d)
+    level (of-list v e z d) = subst Level (sym e) (list-view-level v d)
+    level (of-lists v e z d) = subst Level (sym e) (list-level v d)
     level (of-sparse ids e z d o) = subst Level (sym e) (sparse-level ids e z d)
     level (of-dense ids e z d o) = subst Level (sym e) (dense-level ids e z d)
     level (of-run m e z e1 z1 d) = subst Level (sym e) (run-level (width m) d z z1)

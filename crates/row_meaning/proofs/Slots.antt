@@ -15,7 +15,7 @@ use Rattle.columnar.specs.Row.{Row, null, bytes}
 use Rattle.columnar.specs.Types.{Number, i8, u8, i16, u16, i32, u32, i64, u64, f32, f64, width}
 use Rattle.columnar.specs.Formed.{OffsetWidth, four, eight}
 use Rattle.columnar.specs.Array.{item, bit, ok, sight, Mask}
-use Rattle.columnar.specs.Plain.{Text, value, span, Offsets}
+use Rattle.columnar.specs.Plain.{Text, value, span, OffsetsTo, Offsets}
 use Rattle.columnar.specs.View.{shown, viewOf, lengthOf, bufferOf, offsetOf, ViewGood}
 use Rattle.columnar.proofs.Items.{entry-end, item-lt}
 use Rattle.array_data.specs.Tables.{part}
@@ -34,8 +34,8 @@ use Rattle.lent_entries.specs.declared.Spot.the-variants as spot
 use Rattle.lent_entries.proofs.Laws.{cut, holds-in, holds-end, spot-yes, entry-yes, part-end}
 use Rattle.slot_reader.specs.declared.RowRead.{RowRead}
 use Rattle.slot_reader.specs.declared.RowRead.the-variants as row
-use Rattle.slot_reader.specs.Slots.{numberRead, stretchIn, spanned, stringRead, dataPlace, viewed, viewAt, storedNumber, entryBy}
-use Rattle.slot_reader.proofs.Laws.{stretch-in}
+use Rattle.slot_reader.specs.Slots.{numberRead, stretchIn, stringRead, listRead, dataPlace, viewed, viewAt, storedNumber, entryBy}
+use Rattle.slot_reader.proofs.Laws.{stretch-in, rows-in}
 use Rattle.row_reader.specs.Walk.{isRefused}
 use Rattle.row_meaning.specs.Meaning.{flat}
 
@@ -126,31 +126,51 @@ module _ (body : List ℕ) (small : (j : ℕ) → getD body j 0 < 256) where
       (sym (holds-slot (width m) s k n (wide m) h l))
       (record { accepted = refl; means = ap bytes (part-of body start size (k * width m) (width m) (omega arith)) })
 
-  -- ---- byte strings
+-- ---- offsets that obey: from one to the next, within what they lead into
 
-  climbs : (f : ℕ → ℕ) (off len : ℕ) → ((i : ℕ) → i < len → f (off + i) ≤ f (off + i + 1)) → (i d : ℕ) → i + d ≤ len → f (off + i) ≤ f (off + (i + d))
-  climbs f off len h i zero l = let e : off + (i + zero) ≡ off + i = omega arith in omega (arith, ap f e)
-  climbs f off len h i (suc d) l =
-      let e : off + (i + suc d) ≡ off + (i + d) + 1 = omega arith in
-      omega (arith, ap f e, climbs f off len h i d (omega arith), h (i + d) (omega arith))
+climbs : (f : ℕ → ℕ) (off len : ℕ) → ((i : ℕ) → i < len → f (off + i) ≤ f (off + i + 1)) → (i d : ℕ) → i + d ≤ len → f (off + i) ≤ f (off + (i + d))
+climbs f off len h i zero l = let e : off + (i + zero) ≡ off + i = omega arith in omega (arith, ap f e)
+climbs f off len h i (suc d) l =
+    let e : off + (i + suc d) ≡ off + (i + d) + 1 = omega arith in
+    omega (arith, ap f e, climbs f off len h i d (omega arith), h (i + d) (omega arith))
 
-  pub string-gives : (w : ℕ) (s : List ℕ) (start size off len r : ℕ) → OffsetWidth w → Offsets w (record { offsets = s; chars = part body start size }) off len → r < len
-      → Gives body (stringRead w s start (part body start size) (off + r)) (bytes (span w (record { offsets = s; chars = part body start size }) (off + r)))
-  string-gives w s start size off len r ow o l =
-      let k = off + r in
-      let c = part body start size in
-      let a = item w s k in
-      let b = item w s (suc k) in
-      let up : a ≤ b = subst (λ z. a ≤ item w s z) (add-one k) (o .rises r l) in
+module _ (w : ℕ) (s : List ℕ) (most off len r : ℕ) (ow : OffsetWidth w) (o : OffsetsTo w s most off len) (l : r < len) where
+  first-entry : entryIn w s (off + r) ≡ entry.Value (item w s (off + r))
+  first-entry = entry-slot w s (off + r) (off + len + 1) (offset-wide w ow) (offset-sized w ow) (o .hold) (omega arith)
+
+  next-entry : entryIn w s (suc (off + r)) ≡ entry.Value (item w s (suc (off + r)))
+  next-entry = entry-slot w s (suc (off + r)) (off + len + 1) (offset-wide w ow) (offset-sized w ow) (o .hold) (omega arith)
+
+  rises : item w s (off + r) ≤ item w s (suc (off + r))
+  rises = subst (λ z. item w s (off + r) ≤ item w s z) (add-one (off + r)) (o .rises r l)
+
+  within : item w s (suc (off + r)) ≤ most
+  within =
       let f : off + (r + 1 + (len - (r + 1))) ≡ off + len = omega arith in
-      let g : off + (r + 1) ≡ suc k = omega arith in
+      let g : off + (r + 1) ≡ suc (off + r) = omega arith in
       let high : item w s (off + (r + 1)) ≤ item w s (off + (r + 1 + (len - (r + 1)))) = climbs (item w s) off len (o .rises) (r + 1) (len - (r + 1)) (omega arith) in
-      let top : b ≤ length c = omega (arith, high, ap (item w s) f, ap (item w s) g, o .within) in
-      let e1 = entry-slot w s k (off + len + 1) (offset-wide w ow) (offset-sized w ow) (o .hold) (omega arith) in
-      let e2 = entry-slot w s (suc k) (off + len + 1) (offset-wide w ow) (offset-sized w ow) (o .hold) (omega arith) in
-      let z : stringRead w s start c k ≡ row.Bytes (start + a) (b - a) = rw (e1, e2) (sym (stretch-in start c a b (length c) refl top up)) in
-      subst (λ x. Gives body x (bytes (span w (record { offsets = s; chars = c }) k))) (sym z)
-      (record { accepted = refl; means = ap bytes (part-of body start size a (b - a) (omega arith)) })
+      omega (arith, high, ap (item w s) f, ap (item w s) g, o .within)
+
+  -- a list: the rows that its two offsets say
+  pub list-rows : (child : ℕ) → listRead w s child most (off + r) ≡ row.List child (item w s (off + r)) (item w s (suc (off + r)) - item w s (off + r))
+  list-rows child = rw (first-entry, next-entry) (sym (rows-in child most (item w s (off + r)) (item w s (suc (off + r))) within rises))
+
+-- ---- byte strings
+
+pub string-gives : (body : List ℕ) (w : ℕ) (s : List ℕ) (start size off len r : ℕ) → OffsetWidth w
+    → Offsets w (record { offsets = s; chars = part body start size }) off len → r < len
+    → Gives body (stringRead w s start (part body start size) (off + r)) (bytes (span w (record { offsets = s; chars = part body start size }) (off + r)))
+string-gives body w s start size off len r ow o l =
+    let k = off + r in
+    let c = part body start size in
+    let a = item w s k in
+    let b = item w s (suc k) in
+    let up : a ≤ b = rises w s (length c) off len r ow o l in
+    let top : b ≤ length c = within w s (length c) off len r ow o l in
+    let z : stringRead w s start c k ≡ row.Bytes (start + a) (b - a) =
+    rw (first-entry w s (length c) off len r ow o l, next-entry w s (length c) off len r ow o l) (sym (stretch-in start c a b (length c) refl top up)) in
+    subst (λ x. Gives body x (bytes (span w (record { offsets = s; chars = c }) k))) (sym z)
+    (record { accepted = refl; means = ap bytes (part-of body start size a (b - a) (omega arith)) })
 
 -- ---- an entry of a dictionary, by its bit
 

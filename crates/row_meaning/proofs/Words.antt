@@ -10,43 +10,43 @@ use lib.Dec.{leb, eqb}
 use borrow.Author.Tests.{le-leb, leb-true, leb-false}
 use Rattle.columnar.specs.Types.{i8, Number, Plain, fixed, string}
 use Rattle.formats.specs.Code as code
-use Rattle.formats.specs.Code.{Rule, is, begins, same, look, table, isFixed, isString, isView, isListView, isUnion, isRunEnd, widthOf}
+use Rattle.formats.specs.Code.{Rule, is, begins, same, look, table, lastCode, isFixed, isString, isView, isListView, isList, isUnion, isSparse, isRunEnd, widthOf}
 use Rattle.formats.specs.Types.{numberOf}
 use Rattle.format_ids.specs.Ids.{idsAt}
 use Rattle.format_ids.proofs.Same.{Fine, fine}
 use Rattle.schema.specs.Tree.{field, dictionary, below, endOf, childAt, whole, codeOf, idsOf, leafShape, keysShape, listShape, unionShape, runShape, shape, ceilings, typed}
 use Rattle.schema.proofs.Trees.{child-inside}
 use Rattle.schema.proofs.Known.{typed-whole, typed-shape, within-nodes}
-use Rattle.array_data.specs.Typed.{NodeKind, fixedNode, stringNode, viewNode, listViewNode, sparseNode, denseNode, runEndNode, dictionaryNode}
+use Rattle.array_data.specs.Typed.{NodeKind, fixedNode, stringNode, viewNode, listViewNode, listNode, sparseNode, denseNode, runEndNode, dictionaryNode}
 use Rattle.lent.specs.Lent.{numberOr, idsOr, numberKind, unionKind, kindOf, kindAt}
 use Rattle.lent.proofs.Lent.{first-child}
-use Rattle.lent.proofs.Shaped.{Shaped, of-plain, of-view, of-list, of-sparse, of-dense, of-run, of-dictionary, shaped, at-run, plainKind}
+use Rattle.lent.proofs.Shaped.{Shaped, of-plain, of-view, of-list, of-lists, of-sparse, of-dense, of-run, of-dictionary, shaped, at-run, plainKind}
 use Rattle.node_table.specs.Words.{word}
 use Rattle.slot_reader.specs.Slots.{codeWord, known, kindWord}
 use Rattle.row_meaning.proofs.Child.{words, word-code, word-dictionary}
 
--- ---- codes are at most 21
+-- ---- codes are at most the last
 
 low : List Rule → Bool
 low [] = true
-low (is s c ∷ rules) = leb c 21 && low rules
-low (begins s c ∷ rules) = leb c 21 && low rules
+low (is s c ∷ rules) = leb c lastCode && low rules
+low (begins s c ∷ rules) = leb c lastCode && low rules
 
 cond-le : (b : Bool) (x y m : ℕ) → x ≤ m → y ≤ m → cond b x y ≤ m
 cond-le true x y m p q = p
 cond-le false x y m p q = q
 
-look-low : (rules : List Rule) (t : List ℕ) → low rules ≡ true → look rules t ≤ 21
+look-low : (rules : List Rule) (t : List ℕ) → low rules ≡ true → look rules t ≤ lastCode
 unfolding low
 look-low [] t h = omega arith
 look-low (is s c ∷ rules) t h =
-    let p = and-eq-true-iff (leb c 21) (low rules) .0 h in
-    cond-le (same t s) c (look rules t) 21 (leb-true c 21 (p .0)) (look-low rules t (p .1))
+    let p = and-eq-true-iff (leb c lastCode) (low rules) .0 h in
+    cond-le (same t s) c (look rules t) lastCode (leb-true c lastCode (p .0)) (look-low rules t (p .1))
 look-low (begins s c ∷ rules) t h =
-    let p = and-eq-true-iff (leb c 21) (low rules) .0 h in
-    cond-le (same (take (length s) t) s) c (look rules t) 21 (leb-true c 21 (p .0)) (look-low rules t (p .1))
+    let p = and-eq-true-iff (leb c lastCode) (low rules) .0 h in
+    cond-le (same (take (length s) t) s) c (look rules t) lastCode (leb-true c lastCode (p .0)) (look-low rules t (p .1))
 
-text-low : (t : List ℕ) → code.codeOf t ≤ 21
+text-low : (t : List ℕ) → code.codeOf t ≤ lastCode
 unfolding code.codeOf low
 text-low t = look-low table t refl
 
@@ -57,6 +57,7 @@ plainer (fixedNode m) = fixedNode m
 plainer (stringNode w) = stringNode w
 plainer viewNode = viewNode
 plainer (listViewNode w) = listViewNode w
+plainer (listNode w) = listNode w
 plainer (sparseNode ids) = sparseNode []
 plainer (denseNode ids) = denseNode []
 plainer (runEndNode w) = runEndNode w
@@ -72,18 +73,19 @@ union-plainer false ids = refl
 
 plain-kind : (c : ℕ) (s : Bool) (o : Option (List ℕ)) (next next′ : ℕ) → (isRunEnd c ≡ true → widthOf next′ ≡ widthOf next)
     → kindOf c s none next′ ≡ plainer (kindOf c s o next)
-plain-kind c s o next next′ h = go (isFixed c) (isString c) (isView c) (isListView c) (isUnion c) (isRunEnd c) h
+plain-kind c s o next next′ h = go (isFixed c) (isString c) (isView c) (isListView c) (isList c) (isUnion c) (isRunEnd c) h
   where
-    go : (f g v l u r : Bool) → (r ≡ true → widthOf next′ ≡ widthOf next)
-        → cond f (numberKind s (numberOr (numberOf c))) (cond g (stringNode (widthOf c)) (cond v viewNode (cond l (listViewNode (widthOf c)) (cond u (unionKind (eqb c 19) []) (cond r (runEndNode (widthOf next′)) (fixedNode i8))))))
-        ≡ plainer (cond f (numberKind s (numberOr (numberOf c))) (cond g (stringNode (widthOf c)) (cond v viewNode (cond l (listViewNode (widthOf c)) (cond u (unionKind (eqb c 19) (idsOr o)) (cond r (runEndNode (widthOf next)) (fixedNode i8)))))))
-    go true g v l u r k = number-plainer s (numberOr (numberOf c))
-    go false true v l u r k = refl
-    go false false true l u r k = refl
-    go false false false true u r k = refl
-    go false false false false true r k = union-plainer (eqb c 19) (idsOr o)
-    go false false false false false true k = ap runEndNode (k refl)
-    go false false false false false false k = refl
+    go : (f g v l m u r : Bool) → (r ≡ true → widthOf next′ ≡ widthOf next)
+        → cond f (numberKind s (numberOr (numberOf c))) (cond g (stringNode (widthOf c)) (cond v viewNode (cond l (listViewNode (widthOf c)) (cond m (listNode (widthOf c)) (cond u (unionKind (isSparse c) []) (cond r (runEndNode (widthOf next′)) (fixedNode i8)))))))
+        ≡ plainer (cond f (numberKind s (numberOr (numberOf c))) (cond g (stringNode (widthOf c)) (cond v viewNode (cond l (listViewNode (widthOf c)) (cond m (listNode (widthOf c)) (cond u (unionKind (isSparse c) (idsOr o)) (cond r (runEndNode (widthOf next)) (fixedNode i8))))))))
+    go true g v l m u r k = number-plainer s (numberOr (numberOf c))
+    go false true v l m u r k = refl
+    go false false true l m u r k = refl
+    go false false false true m u r k = refl
+    go false false false false true u r k = refl
+    go false false false false false true r k = union-plainer (isSparse c) (idsOr o)
+    go false false false false false false true k = ap runEndNode (k refl)
+    go false false false false false false false k = refl
 
 -- ---- a union's ids
 
@@ -92,6 +94,7 @@ idsIn (fixedNode m) = []
 idsIn (stringNode w) = []
 idsIn viewNode = []
 idsIn (listViewNode w) = []
+idsIn (listNode w) = []
 idsIn (sparseNode ids) = ids
 idsIn (denseNode ids) = ids
 idsIn (runEndNode w) = []
@@ -102,6 +105,7 @@ isUnionKind (fixedNode m) = false
 isUnionKind (stringNode w) = false
 isUnionKind viewNode = false
 isUnionKind (listViewNode w) = false
+isUnionKind (listNode w) = false
 isUnionKind (sparseNode ids) = true
 isUnionKind (denseNode ids) = true
 isUnionKind (runEndNode w) = false
@@ -112,6 +116,7 @@ isRunKind (fixedNode m) = false
 isRunKind (stringNode w) = false
 isRunKind viewNode = false
 isRunKind (listViewNode w) = false
+isRunKind (listNode w) = false
 isRunKind (sparseNode ids) = false
 isRunKind (denseNode ids) = false
 isRunKind (runEndNode w) = true
@@ -126,18 +131,19 @@ union-in true ids = refl
 union-in false ids = refl
 
 kind-ids : (c : ℕ) (s : Bool) (o : Option (List ℕ)) (next : ℕ) (k : NodeKind) → kindOf c s o next ≡ k → isUnionKind k ≡ true → idsOr o ≡ idsIn k
-kind-ids c s o next k e h = go (isFixed c) (isString c) (isView c) (isListView c) (isUnion c) (isRunEnd c) e
+kind-ids c s o next k e h = go (isFixed c) (isString c) (isView c) (isListView c) (isList c) (isUnion c) (isRunEnd c) e
   where
-    go : (f g v l u r : Bool)
-        → cond f (numberKind s (numberOr (numberOf c))) (cond g (stringNode (widthOf c)) (cond v viewNode (cond l (listViewNode (widthOf c)) (cond u (unionKind (eqb c 19) (idsOr o)) (cond r (runEndNode (widthOf next)) (fixedNode i8))))))
+    go : (f g v l m u r : Bool)
+        → cond f (numberKind s (numberOr (numberOf c))) (cond g (stringNode (widthOf c)) (cond v viewNode (cond l (listViewNode (widthOf c)) (cond m (listNode (widthOf c)) (cond u (unionKind (isSparse c) (idsOr o)) (cond r (runEndNode (widthOf next)) (fixedNode i8)))))))
         ≡ k → idsOr o ≡ idsIn k
-    go true g v l u r q = absurd (false≢true (sym (number-no-union s (numberOr (numberOf c))) ∙ ap isUnionKind q ∙ h))
-    go false true v l u r q = absurd (false≢true (ap isUnionKind q ∙ h))
-    go false false true l u r q = absurd (false≢true (ap isUnionKind q ∙ h))
-    go false false false true u r q = absurd (false≢true (ap isUnionKind q ∙ h))
-    go false false false false true r q = sym (union-in (eqb c 19) (idsOr o)) ∙ ap idsIn q
-    go false false false false false true q = absurd (false≢true (ap isUnionKind q ∙ h))
-    go false false false false false false q = absurd (false≢true (ap isUnionKind q ∙ h))
+    go true g v l m u r q = absurd (false≢true (sym (number-no-union s (numberOr (numberOf c))) ∙ ap isUnionKind q ∙ h))
+    go false true v l m u r q = absurd (false≢true (ap isUnionKind q ∙ h))
+    go false false true l m u r q = absurd (false≢true (ap isUnionKind q ∙ h))
+    go false false false true m u r q = absurd (false≢true (ap isUnionKind q ∙ h))
+    go false false false false true u r q = absurd (false≢true (ap isUnionKind q ∙ h))
+    go false false false false false true r q = sym (union-in (isSparse c) (idsOr o)) ∙ ap idsIn q
+    go false false false false false false true q = absurd (false≢true (ap isUnionKind q ∙ h))
+    go false false false false false false false q = absurd (false≢true (ap isUnionKind q ∙ h))
 
 few-by : (o : Option (List ℕ)) → Fine o → length (idsOr o) ≤ 16
 few-by none f = omega arith
@@ -146,12 +152,12 @@ few-by (some ids) f = f .few
 -- ---- the words of a tree that passes
 
 module _ (formats schema : List ℕ) (first n : ℕ) where
-  code-low : (i : ℕ) → codeOf formats schema first i ≤ 21
+  code-low : (i : ℕ) → codeOf formats schema first i ≤ lastCode
   unfolding codeOf
   code-low i =
       let at = field schema (first + i) 0 in
       let len = field schema (first + i) 1 in
-      cond-le (code.inside (length formats) at len) (code.codeOf (take len (drop at formats))) 0 21 (text-low (take len (drop at formats))) (omega arith)
+      cond-le (code.inside (length formats) at len) (code.codeOf (take len (drop at formats))) 0 lastCode (text-low (take len (drop at formats))) (omega arith)
 
   pub ids-few : (i : ℕ) → length (idsOr (idsOf formats schema first i)) ≤ 16
   unfolding idsOf
@@ -184,7 +190,7 @@ module _ (formats schema : List ℕ) (first n : ℕ) where
 
     code-word : (i : ℕ) → i < n → codeWord w i ≡ codeOf formats schema first i
     unfolding codeWord
-    code-word i l = rw (word-code formats schema first n few i l, le-leb (codeOf formats schema first i) 21 (code-low i))
+    code-word i l = rw (word-code formats schema first n few i l, le-leb (codeOf formats schema first i) lastCode (code-low i))
 
     pub node-shaped : (i : ℕ) → i < n → Shaped formats schema first i
     node-shaped i l = shaped formats schema first i (typed-shape formats schema first n t i l)
@@ -201,6 +207,7 @@ module _ (formats schema : List ℕ) (first n : ℕ) where
         by (of-plain p e z d) q = absurd (false≢true (sym (plain-no-run p) ∙ ap isRunKind (sym e ∙ q)))
         by (of-view e z) q = absurd (false≢true (ap isRunKind (sym e ∙ q)))
         by (of-list v e z d) q = absurd (false≢true (ap isRunKind (sym e ∙ q)))
+        by (of-lists v e z d) q = absurd (false≢true (ap isRunKind (sym e ∙ q)))
         by (of-sparse ids e z d o) q = absurd (false≢true (ap isRunKind (sym e ∙ q)))
         by (of-dense ids e z d o) q = absurd (false≢true (ap isRunKind (sym e ∙ q)))
         by (of-run m e z e1 z1 d) q = subst (λ k. k < n) (first-child formats schema first n i) (child-inside schema first n (typed-whole formats schema first n t) i 0 l (omega arith))

@@ -2,7 +2,7 @@
 use mathlib.Core.List.{List, [], _∷_}
 use Prim.Native.Nat.{ℕ}
 use Rattle.columnar.specs.Row.{Row, null, bytes, list, union, rows, seg}
-use Rattle.columnar.specs.Types.{Ty, tPlain, tView, tListView, tSparse, tDense, tRunEnd, tDictionary}
+use Rattle.columnar.specs.Types.{Ty, tPlain, tView, tListView, tList, tSparse, tDense, tRunEnd, tDictionary}
 use Rattle.columnar.specs.Reading.{read}
 use Rattle.array_data.specs.Tables.{Tables, part}
 use Rattle.array_data.specs.Typed.{Tree, columnOf}
@@ -32,6 +32,7 @@ module _ (t : Tree) (x : Tables) where
   meaning (tPlain p) ids r = flat (x .body) r
   meaning tView ids r = flat (x .body) r
   meaning (tListView w u) ids r = listRow (λ i. read u (columnOf t x u i)) r
+  meaning (tList w u) ids r = listRow (λ i. read u (columnOf t x u i)) r
   meaning (tSparse us nullable f) [] r = null
   meaning (tSparse us nullable f) (c ∷ ids) r = union c (meaning (f c) ids r)
   meaning (tDense us nullable f) [] r = null

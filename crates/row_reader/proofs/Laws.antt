@@ -9,12 +9,12 @@ use native.Mathlib.Omega.{arith}
 use lib.ListN.{length, take, drop, set, length-take, length-drop}
 use lib.Seq.{set-split, append-snoc, drop-drop}
 use lib.Dec.{leb, ltb, eqb}
-use borrow.Author.Tests.{le-leb, lt-leb, leb-true, leb-false, lt-ltb, le-ltb, eq-eqb, ne-eqb}
+use borrow.Author.Tests.{le-leb, lt-leb, leb-true, leb-false, lt-ltb, le-ltb, eq-eqb, ne-eqb, eqb-true}
 use Rattle.number.specs.Number.{splice}
 use Rattle.number.proofs.Laws.{splice-splice, splice-nil, length-splice}
-use Rattle.formats.specs.Code.{between, isFixed, isString, isView, isListView, isUnion, isRunEnd, widthOf}
+use Rattle.formats.specs.Code.{isFixed, isString, isView, isListView, isList, isUnion, isSparse, isRunEnd, widthOf}
 use Rattle.array_data.specs.Tables.{Tables, part, lengthOf, offsetOf, place, validOf, firstBuffer, secondBuffer}
-use Rattle.array_data.specs.Typed.{NodeKind, fixedNode, stringNode, viewNode, listViewNode, sparseNode, denseNode, runEndNode, dictionaryNode}
+use Rattle.array_data.specs.Typed.{NodeKind, fixedNode, stringNode, viewNode, listViewNode, listNode, sparseNode, denseNode, runEndNode, dictionaryNode}
 use Rattle.lent.specs.Lent.{numberKind, unionKind}
 use Rattle.run_ends.specs.declared.PhysicalRun.{PhysicalRun}
 use Rattle.run_reader.specs.Rows.{rowRun}
@@ -30,7 +30,7 @@ use Rattle.lent_entries.specs.declared.Validity.the-variants as validity
 use Rattle.slot_reader.specs.declared.RowRead.{RowRead}
 use Rattle.slot_reader.specs.declared.RowRead.the-variants as row
 use Rattle.slot_reader.specs.Slots.{codeWord, codeNumber, known, kindWord, slotBy, slotRead}
-use Rattle.slot_reader.proofs.Codes.{range, in-range, knows, as-fixed, as-string, as-view, as-list, as-union, as-run, unknown}
+use Rattle.slot_reader.proofs.Codes.{knows, as-fixed, as-string, as-view, as-list-view, as-list, as-union, as-run, unknown}
 use Rattle.row_reader.specs.declared.Child.{Child}
 use Rattle.row_reader.specs.declared.Child.the-variants as child
 use Rattle.row_reader.specs.declared.Step.{Step}
@@ -140,17 +140,13 @@ pub ran-past : (i : ℕ) (f : RowRun) (g : ℕ) → f ≡ run.Refused g → refu
 ran-past i f g p = ap (ran i) (sym p)
 
 module _ (tree : List ℕ) (x : Tables) (r code : ℕ) (e : code ≡ codeWord tree 0) where
-  pub at-other : (code ≡ 21 → ⊥) → run.Refused 10 ≡ runAt tree x r
+  pub at-other : isRunEnd code ≡ false → run.Refused 10 ≡ runAt tree x r
   unfolding runAt
-  at-other a = rw (← e) (go (isRunEnd code) refl)
-    where
-      go : (t : Bool) → isRunEnd code ≡ t → run.Refused 10 ≡ cond t (runOf x 0 (codeWidth tree 1) r) (run.Refused 10)
-      go true h = let p = range 21 21 code h in absurd (omega (arith, a))
-      go false h = refl
+  at-other h = rw (← e, h)
 
-  pub at-runs : code ≡ 21 → runOf x 0 (codeWidth tree 1) r ≡ runAt tree x r
+  pub at-runs : isRunEnd code ≡ true → runOf x 0 (codeWidth tree 1) r ≡ runAt tree x r
   unfolding runAt
-  at-runs q = rw (← e, q)
+  at-runs h = rw (← e, h)
 
 -- ---- one level
 
@@ -158,23 +154,17 @@ module _ (tree : List ℕ) (x : Tables) (i k code : ℕ) (e : code ≡ codeWord 
   step-as : (kind : NodeKind) → known tree i ≡ true → kindWord tree i ≡ kind → stepBy tree x kind i k ≡ stepOn tree x i k
   step-as kind h q = rw (h, q)
 
-  union-code : (c : ℕ) → code ≡ c → between 19 20 c ≡ true → isUnion code ≡ true
-  union-code c q h = ap isUnion q ∙ h
-
-  pub step-sparse : code ≡ 19 → underId tree i (entryIn 1 (firstBuffer x i) k) (entry.Value k) ≡ stepOn tree x i k
+  pub step-sparse : isSparse code ≡ true → underId tree i (entryIn 1 (firstBuffer x i) k) (entry.Value k) ≡ stepOn tree x i k
   step-sparse q =
-      let u = union-code 19 q refl in
-      step-as (sparseNode []) (knows tree i code e 19 20 u (omega arith)) (as-union tree i code e u ∙ ap (λ b. unionKind b []) (eq-eqb code 19 q))
+      let u : isUnion code ≡ true = ap isUnion (eqb-true code 21 q) in
+      step-as (sparseNode []) (knows tree i code e 21 22 u (omega arith)) (as-union tree i code e u ∙ ap (λ b. unionKind b []) q)
 
-  pub step-dense : code ≡ 20 → underId tree i (entryIn 1 (firstBuffer x i) k) (entryIn 4 (secondBuffer x i) k) ≡ stepOn tree x i k
-  step-dense q =
-      let u = union-code 20 q refl in
-      step-as (denseNode []) (knows tree i code e 19 20 u (omega arith)) (as-union tree i code e u ∙ ap (λ b. unionKind b []) (ne-eqb code 19 (λ z. omega arith)))
+  pub step-dense : isSparse code ≡ false → isUnion code ≡ true
+      → underId tree i (entryIn 1 (firstBuffer x i) k) (entryIn 4 (secondBuffer x i) k) ≡ stepOn tree x i k
+  step-dense q u = step-as (denseNode []) (knows tree i code e 21 22 u (omega arith)) (as-union tree i code e u ∙ ap (λ b. unionKind b []) q)
 
-  pub step-runs : code ≡ 21 → runsStep x i (codeWidth tree (suc i)) k ≡ stepOn tree x i k
-  step-runs q =
-      let u : isRunEnd code ≡ true = ap isRunEnd q in
-      step-as (runEndNode (codeWidth tree (suc i))) (knows tree i code e 21 21 u (omega arith)) (as-run tree i code e u)
+  pub step-runs : isRunEnd code ≡ true → runsStep x i (codeWidth tree (suc i)) k ≡ stepOn tree x i k
+  step-runs u = step-as (runEndNode (codeWidth tree (suc i))) (knows tree i code e 23 23 u (omega arith)) (as-run tree i code e u)
 
   -- a kind that has no child to go on to
   abbrev leafy : NodeKind → Bool
@@ -182,6 +172,7 @@ module _ (tree : List ℕ) (x : Tables) (i k code : ℕ) (e : code ≡ codeWord 
   leafy (stringNode w) = true
   leafy viewNode = true
   leafy (listViewNode w) = true
+  leafy (listNode w) = true
   leafy (sparseNode ids) = false
   leafy (denseNode ids) = false
   leafy (runEndNode w) = false
@@ -195,6 +186,7 @@ module _ (tree : List ℕ) (x : Tables) (i k code : ℕ) (e : code ≡ codeWord 
   leaf-step (stringNode w) h = refl
   leaf-step viewNode h = refl
   leaf-step (listViewNode w) h = refl
+  leaf-step (listNode w) h = refl
   leaf-step (sparseNode ids) h = no h
   leaf-step (denseNode ids) h = no h
   leaf-step (runEndNode w) h = no h
@@ -211,30 +203,17 @@ module _ (tree : List ℕ) (x : Tables) (i k code : ℕ) (e : code ≡ codeWord 
       go true = leaf-step (kindWord tree i) h
       go false = refl
 
-  union-not : (code ≡ 19 → ⊥) → (code ≡ 20 → ⊥) → isUnion code ≡ false
-  union-not a b = go (isUnion code) refl
-    where
-      go : (t : Bool) → isUnion code ≡ t → t ≡ false
-      go true h = let p = range 19 20 code h in absurd (omega (arith, a, b))
-      go false h = refl
-
-  run-not : (code ≡ 21 → ⊥) → isRunEnd code ≡ false
-  run-not a = go (isRunEnd code) refl
-    where
-      go : (t : Bool) → isRunEnd code ≡ t → t ≡ false
-      go true h = let p = range 21 21 code h in absurd (omega (arith, a))
-      go false h = refl
-
-  pub step-leaf : (code ≡ 19 → ⊥) → (code ≡ 20 → ⊥) → (code ≡ 21 → ⊥) → step.Done (slotRead tree x i k) ≡ stepOn tree x i k
-  step-leaf a b c = go (isFixed code) refl (isString code) refl (isView code) refl (isListView code) refl
+  pub step-leaf : isUnion code ≡ false → isRunEnd code ≡ false → step.Done (slotRead tree x i k) ≡ stepOn tree x i k
+  step-leaf n r = go (isFixed code) refl (isString code) refl (isView code) refl (isListView code) refl (isList code) refl
     where
       go : (f : Bool) → isFixed code ≡ f → (s : Bool) → isString code ≡ s → (v : Bool) → isView code ≡ v → (l : Bool) → isListView code ≡ l
-          → step.Done (slotRead tree x i k) ≡ stepOn tree x i k
-      go true f s t v u l w = leaf-on (ap leafy (as-fixed tree i code e f) ∙ number-leafy (eqb (word tree i 1) 0))
-      go false f true t v u l w = leaf-on (ap leafy (as-string tree i code e t))
-      go false f false t true u l w = leaf-on (ap leafy (as-view tree i code e u))
-      go false f false t false u true w = leaf-on (ap leafy (as-list tree i code e w))
-      go false f false t false u false w = rw (unknown tree i code e f t u w (union-not a b) (run-not c))
+          → (o : Bool) → isList code ≡ o → step.Done (slotRead tree x i k) ≡ stepOn tree x i k
+      go true f s t v u l w o p = leaf-on (ap leafy (as-fixed tree i code e f) ∙ number-leafy (eqb (word tree i 1) 0))
+      go false f true t v u l w o p = leaf-on (ap leafy (as-string tree i code e t))
+      go false f false t true u l w o p = leaf-on (ap leafy (as-view tree i code e u))
+      go false f false t false u true w o p = leaf-on (ap leafy (as-list-view tree i code e w))
+      go false f false t false u false w true p = leaf-on (ap leafy (as-list tree i code e p))
+      go false f false t false u false w false p = rw (unknown tree i code e f t u w p n r)
 
 module _ (tree : List ℕ) (x : Tables) (i r : ℕ) where
   pub at-deep : 32 ≤ i → refused 9 ≡ stepAt tree x i r

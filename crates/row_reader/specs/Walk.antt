@@ -7,7 +7,7 @@ use lib.ListN.{length, take, drop}
 use lib.Dec.{leb, ltb, eqb}
 use Rattle.formats.specs.Code.{isRunEnd, widthOf}
 use Rattle.array_data.specs.Tables.{Tables, lengthOf, offsetOf, place, validOf, firstBuffer, secondBuffer}
-use Rattle.array_data.specs.Typed.{NodeKind, fixedNode, stringNode, viewNode, listViewNode, sparseNode, denseNode, runEndNode, dictionaryNode}
+use Rattle.array_data.specs.Typed.{NodeKind, fixedNode, stringNode, viewNode, listViewNode, listNode, sparseNode, denseNode, runEndNode, dictionaryNode}
 use Rattle.run_reader.specs.Rows.{rowRun}
 use Rattle.run_reader.specs.declared.RowRun.{RowRun}
 use Rattle.run_reader.specs.declared.RowRun.the-variants as run
@@ -102,6 +102,7 @@ module _ (tree : List ℕ) (x : Tables) where
   stepBy (stringNode w) i k = step.Done (slotBy tree x (stringNode w) i k)
   stepBy viewNode i k = step.Done (slotBy tree x viewNode i k)
   stepBy (listViewNode w) i k = step.Done (slotBy tree x (listViewNode w) i k)
+  stepBy (listNode w) i k = step.Done (slotBy tree x (listNode w) i k)
   stepBy (sparseNode ids) i k = underId tree i (entryIn 1 (firstBuffer x i) k) (entry.Value k)
   stepBy (denseNode ids) i k = underId tree i (entryIn 1 (firstBuffer x i) k) (entryIn 4 (secondBuffer x i) k)
   stepBy (runEndNode w) i k = runsStep x i w k

@@ -217,7 +217,7 @@ pub fn run_at(
 ) -> RowRun
     ensures { λ r. ⌜ r ≡ runAt (now (tree .entry)) (column (now (lengths .entry)) (now (places .entry)) [] (now (body .entry)) first) (row .0) ⌝ }
 {
-    if slot_reader::code_word(tree, 0) != 21 {
+    if !formats::is_run_end(slot_reader::code_word(tree, 0)) {
         return RowRun::Refused(10);
     }
     run_of(tree, lengths, places, body, first, 0, row)
@@ -240,21 +240,17 @@ fn step_slot(
     requires { ⌜ offsetOf (column (now lengths) [] [] [] first) i ≤ slot ⌝ }
     ensures { λ r. ⌜ r ≡ stepOn (now (tree .entry)) (column (now (lengths .entry)) (now (places .entry)) (now (buffers .entry)) (now (body .entry)) first) i slot ⌝ }
 {
-    match slot_reader::code_word(tree, i) {
-        19 => step_sparse(tree, places, body, first, i, slot),
-        20 => step_dense(tree, places, body, first, i, slot),
-        21 => step_runs(tree, lengths, places, body, first, i, slot),
-        _ => Step::Done(slot_reader::read_slot(
-            tree,
-            lengths,
-            places,
-            buffers,
-            body,
-            first,
-            i,
-            slot,
-        )),
+    let code = slot_reader::code_word(tree, i);
+    if formats::is_sparse(code) {
+        return step_sparse(tree, places, body, first, i, slot);
     }
+    if formats::is_union(code) {
+        return step_dense(tree, places, body, first, i, slot);
+    }
+    if formats::is_run_end(code) {
+        return step_runs(tree, lengths, places, body, first, i, slot);
+    }
+    Step::Done(slot_reader::read_slot(tree, lengths, places, buffers, body, first, i, slot))
 }
 
 // What node i says of its row `row`: the one place where a node's offset is added.

@@ -13,10 +13,9 @@ use borrow.Author.Tests.{leb-true}
 use Rattle.number.specs.Number.{number, entry}
 use Rattle.columnar.specs.Types.{half}
 use Rattle.columnar.specs.Array.{Array, item, ok}
-use Rattle.columnar.specs.Plain.{Text}
 use Rattle.columnar.specs.ListView.{ListView}
 use Rattle.columnar.specs.RunEnd.{endOf, startOf}
-use Rattle.columnar.specs.Test.{every, maskTest, offsetsTest, entryTest, listViewTest, endsTest}
+use Rattle.columnar.specs.Test.{every, maskTest, offsetsTo, entryTest, listViewTest, endsTest}
 use Rattle.run_ends.specs.Lookup.{lastEnd}
 use Rattle.columnar.proofs.Items.{number-take, entry-end}
 use Rattle.row_rules.specs.Rules.{never-falls, offsetsRows, viewRow, listViewRows, rises, endsRows}
@@ -84,13 +83,13 @@ module _ (w : ℕ) (s : List ℕ) (start size : ℕ) (inside : start + size ≤ 
       (every-same (suc n) (λ i l. rw (offset-entry off n h i l)))
       (every-same n (λ i l. rw (add-assoc off i 1, offset-entry off n h i (omega arith), offset-entry off n h (i + 1) (omega arith))))
 
-  -- a byte string's offsets: the test of those in the buffer is that of the rows in the body
-  pub offsets-test : (b : Text) → b .offsets ≡ take size (drop start s) → (off n : ℕ)
-      → offsetsTest w b off n
-      ≡ leb ((off + n + 1) * w) size && offsetsRows w s (start + w * off) n && leb (entry w s (start + w * off) n) (length (b .chars))
-  offsets-test b e off n =
+  -- the offsets of a byte string or list: the test of those in the buffer is that of the rows in the body
+  pub offsets-test : (os : List ℕ) (most : ℕ) → os ≡ take size (drop start s) → (off n : ℕ)
+      → offsetsTo w os most off n
+      ≡ leb ((off + n + 1) * w) size && offsetsRows w s (start + w * off) n && leb (entry w s (start + w * off) n) most
+  offsets-test os most e off n =
       rw (e, length-part w s start size inside)
-      (behind (leb ((off + n + 1) * w) size) (positive w (take size (drop start s)) off n) (rising w (take size (drop start s)) off n) (leb (item w (take size (drop start s)) (off + n)) (length (b .chars)))
+      (behind (leb ((off + n + 1) * w) size) (positive w (take size (drop start s)) off n) (rising w (take size (drop start s)) off n) (leb (item w (take size (drop start s)) (off + n)) most)
       (λ t. offsets-rows off n (leb-true _ _ t))
       (λ t. rw (offset-entry off n (leb-true _ _ t) n (omega arith))))
 

@@ -6,7 +6,7 @@ use mathlib.Core.List.{List, []}
 use Prim.Native.Nat.{ℕ, zero, suc, _+_, _*_, _-_, _/_, _%_}
 use lib.ListN.{length, getD}
 use lib.Dec.{leb, ltb, eqb}
-use Rattle.formats.specs.Code.{codeAt, isInteger, isFixed, isString, isView, isListView, isUnion, isRunEnd}
+use Rattle.formats.specs.Code.{codeAt, isInteger, isFixed, isString, isView, isListView, isList, isUnion, isRunEnd}
 use Rattle.format_ids.specs.Ids.{idsAt, sameFormat}
 
 -- p holds of every i below n
@@ -120,9 +120,9 @@ module _ (formats schema : List ℕ) (first : ℕ) where
   unfoldable pub keysShape : ℕ → Bool
   keysShape i = isInteger (codeOf i) && eqb (children schema first i) 0 && eqb (dictionary schema first i) 1 && valuesShape (suc i)
 
-  -- a list-view has one child
+  -- a list-view or list has one child
   unfoldable pub listShape : ℕ → Bool
-  listShape i = isListView (codeOf i) && eqb (children schema first i) 1 && eqb (dictionary schema first i) 0
+  listShape i = (isListView (codeOf i) || isList (codeOf i)) && eqb (children schema first i) 1 && eqb (dictionary schema first i) 0
 
   -- a union has a child for each id
   unfoldable pub unionShape : ℕ → Bool

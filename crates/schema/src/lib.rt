@@ -206,12 +206,13 @@ fn is_keys(formats: &[u8], schema: &[u32], first: usize, i: usize) -> bool
     kind & childless & a_dictionary & is_values(formats, schema, first, i + 1)
 }
 
-// List-views with one child.
+// List-views and lists with one child.
 fn is_list(formats: &[u8], schema: &[u32], first: usize, i: usize) -> bool
     requires { ⌜ (first < 4294967296) × (i < 4294967296) ⌝ }
     ensures { λ r. ⌜ r ≡ listShape (now (formats .entry)) (now (schema .entry)) first i ⌝ }
 {
-    let kind = formats::is_list_view(code_of(formats, schema, first, i));
+    let code = code_of(formats, schema, first, i);
+    let kind = formats::is_list_view(code) | formats::is_list(code);
     let one_child = children_of(schema, first, i) == 1;
     let no_dictionary = dictionary_of(schema, first, i) == 0;
     kind & one_child & no_dictionary

@@ -8,11 +8,11 @@ use native.Mathlib.Omega.{arith}
 use lib.Dec.{leb, eqb}
 use borrow.Author.Tests.{le-leb, lt-leb, leb-true, leb-false, eq-eqb, ne-eqb}
 use Rattle.columnar.specs.Types.{Number, width}
-use Rattle.formats.specs.Code.{between, isFixed, isString, isView, isListView, isUnion, isRunEnd, widthOf}
+use Rattle.formats.specs.Code.{between, lastCode, isFixed, isString, isView, isListView, isList, isUnion, isSparse, isRunEnd, widthOf}
 use Rattle.formats.specs.Types as types
-use Rattle.array_data.specs.Typed.{NodeKind, fixedNode, stringNode, viewNode, listViewNode, sparseNode, denseNode, runEndNode, dictionaryNode}
+use Rattle.array_data.specs.Typed.{NodeKind, fixedNode, stringNode, viewNode, listViewNode, listNode, sparseNode, denseNode, runEndNode, dictionaryNode}
 use Rattle.lent.specs.Lent.{numberKind, unionKind, kindOf}
-use Rattle.lent.proofs.Shaped.{kind-fixed, kind-string, kind-view, kind-list, kind-union, kind-run, number-or}
+use Rattle.lent.proofs.Shaped.{kind-fixed, kind-string, kind-view, kind-list, kind-lists, kind-union, kind-run, number-or}
 use Rattle.lent_tables.proofs.Laws.{and-left, and-right}
 use Rattle.leaf_row.specs.Reading as leaf
 use Rattle.node_table.specs.Words.{word}
@@ -30,20 +30,20 @@ above : (low high x : ℕ) → between low high x ≡ false → low ≤ x → hi
 above low high x h l = leb-false x high (ap (λ b. b && leb x high) (sym (le-leb low x l)) ∙ h)
 
 module _ (tree : List ℕ) (i : ℕ) where
-  pub code-none : (c : ℕ) → c ≡ word tree i 0 → 21 < c → 0 ≡ codeWord tree i
+  pub code-none : (c : ℕ) → c ≡ word tree i 0 → lastCode < c → 0 ≡ codeWord tree i
   unfolding codeWord
-  code-none c e h = let g : 21 < word tree i 0 = omega arith in rw (lt-leb (word tree i 0) 21 g)
+  code-none c e h = let g : lastCode < word tree i 0 = omega arith in rw (lt-leb (word tree i 0) lastCode g)
 
-  pub code-some : (c : ℕ) → c ≡ word tree i 0 → c ≤ 21 → c ≡ codeWord tree i
+  pub code-some : (c : ℕ) → c ≡ word tree i 0 → c ≤ lastCode → c ≡ codeWord tree i
   unfolding codeWord
-  code-some c e h = let g : word tree i 0 ≤ 21 = omega arith in rw (le-leb (word tree i 0) 21 g) e
+  code-some c e h = let g : word tree i 0 ≤ lastCode = omega arith in rw (le-leb (word tree i 0) lastCode g) e
 
-  code-top : codeWord tree i ≤ 21
+  code-top : codeWord tree i ≤ lastCode
   unfolding codeWord
-  code-top = go (leb (word tree i 0) 21) refl
+  code-top = go (leb (word tree i 0) lastCode) refl
     where
-      go : (b : Bool) → leb (word tree i 0) 21 ≡ b → cond b (word tree i 0) 0 ≤ 21
-      go true e = leb-true (word tree i 0) 21 e
+      go : (b : Bool) → leb (word tree i 0) lastCode ≡ b → cond b (word tree i 0) 0 ≤ lastCode
+      go true e = leb-true (word tree i 0) lastCode e
       go false e = omega arith
 
 -- the two numbers of a code are one
@@ -83,11 +83,15 @@ module _ (tree : List ℕ) (i code : ℕ) (e : code ≡ codeWord tree i) where
   unfolding kindWord
   as-view h = rw (← e) (kind-view code (eqb (word tree i 1) 0) none (codeWord tree (suc i)) h)
 
-  pub as-list : isListView code ≡ true → kindWord tree i ≡ listViewNode (widthOf code)
+  pub as-list-view : isListView code ≡ true → kindWord tree i ≡ listViewNode (widthOf code)
   unfolding kindWord
-  as-list h = rw (← e) (kind-list code (eqb (word tree i 1) 0) none (codeWord tree (suc i)) h)
+  as-list-view h = rw (← e) (kind-list code (eqb (word tree i 1) 0) none (codeWord tree (suc i)) h)
 
-  pub as-union : isUnion code ≡ true → kindWord tree i ≡ unionKind (eqb code 19) []
+  pub as-list : isList code ≡ true → kindWord tree i ≡ listNode (widthOf code)
+  unfolding kindWord
+  as-list h = rw (← e) (kind-lists code (eqb (word tree i 1) 0) none (codeWord tree (suc i)) h)
+
+  pub as-union : isUnion code ≡ true → kindWord tree i ≡ unionKind (isSparse code) []
   unfolding kindWord
   as-union h = rw (← e) (kind-union code (eqb (word tree i 1) 0) none (codeWord tree (suc i)) h)
 
@@ -96,9 +100,9 @@ module _ (tree : List ℕ) (i code : ℕ) (e : code ≡ codeWord tree i) where
   as-run h = rw (← e) (kind-run code (eqb (word tree i 1) 0) none (codeWord tree (suc i)) h)
 
   -- a code that is none of these is none at all
-  pub unknown : isFixed code ≡ false → isString code ≡ false → isView code ≡ false → isListView code ≡ false → isUnion code ≡ false → isRunEnd code ≡ false
-      → known tree i ≡ false
-  unknown a b c d u r = lt-leb 1 (codeWord tree i) (go (leb 1 code) refl)
+  pub unknown : isFixed code ≡ false → isString code ≡ false → isView code ≡ false → isListView code ≡ false → isList code ≡ false → isUnion code ≡ false
+      → isRunEnd code ≡ false → known tree i ≡ false
+  unknown a b c d o u r = lt-leb 1 (codeWord tree i) (go (leb 1 code) refl)
     where
       go : (t : Bool) → leb 1 code ≡ t → codeWord tree i < 1
       go true h =
@@ -106,18 +110,19 @@ module _ (tree : List ℕ) (i code : ℕ) (e : code ≡ codeWord tree i) where
           let l2 = above 11 14 code b (omega arith) in
           let l3 = above 15 16 code c (omega arith) in
           let l4 = above 17 18 code d (omega arith) in
-          let l5 = above 19 20 code u (omega arith) in
-          let l6 = above 21 21 code r (omega arith) in
+          let l5 = above 19 20 code o (omega arith) in
+          let l6 = above 21 22 code u (omega arith) in
+          let l7 = above 23 23 code r (omega arith) in
           absurd (omega (arith, e, code-top tree i))
       go false h = omega (arith, e, leb-false 1 code h)
 
   -- what is left where some are not
-  pub elsewhere : (Q : Type 0) → isFixed code ≡ false → isString code ≡ false → isView code ≡ false → isListView code ≡ false
+  pub elsewhere : (Q : Type 0) → isFixed code ≡ false → isString code ≡ false → isView code ≡ false → isListView code ≡ false → isList code ≡ false
       → ((b : Bool) → known tree i ≡ true → kindWord tree i ≡ unionKind b [] → Q) → ((w : ℕ) → known tree i ≡ true → kindWord tree i ≡ runEndNode w → Q)
       → (known tree i ≡ false → Q) → Q
-  elsewhere Q a b c d on-union on-run on-none = go (isUnion code) refl (isRunEnd code) refl
+  elsewhere Q a b c d o on-union on-run on-none = go (isUnion code) refl (isRunEnd code) refl
     where
       go : (u : Bool) → isUnion code ≡ u → (r : Bool) → isRunEnd code ≡ r → Q
-      go true u r s = on-union (eqb code 19) (knows 19 20 u (omega arith)) (as-union u)
-      go false u true s = on-run _ (knows 21 21 s (omega arith)) (as-run s)
-      go false u false s = on-none (unknown a b c d u s)
+      go true u r s = on-union (isSparse code) (knows 21 22 u (omega arith)) (as-union u)
+      go false u true s = on-run _ (knows 23 23 s (omega arith)) (as-run s)
+      go false u false s = on-none (unknown a b c d o u s)

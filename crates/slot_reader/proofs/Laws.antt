@@ -12,9 +12,9 @@ use borrow.Author.Tests.{le-leb, lt-leb, lt-ltb, le-ltb, eq-eqb, ne-eqb}
 use Rattle.number.specs.Number.{number}
 use Rattle.columnar.specs.Types.{Number, width}
 use Rattle.columnar.specs.Array.{item}
-use Rattle.formats.specs.Code.{isFixed, isString, isView, isListView, widthOf}
-use Rattle.array_data.specs.Tables.{Tables, part, offsetOf, place, firstBuffer, secondBuffer}
-use Rattle.array_data.specs.Typed.{NodeKind, stringNode, viewNode, listViewNode, runEndNode}
+use Rattle.formats.specs.Code.{isFixed, isString, isView, isListView, isList, widthOf}
+use Rattle.array_data.specs.Tables.{Tables, part, lengthOf, offsetOf, place, firstBuffer, secondBuffer}
+use Rattle.array_data.specs.Typed.{NodeKind, stringNode, viewNode, listViewNode, listNode, runEndNode}
 use Rattle.lent.specs.Lent.{numberKind, unionKind}
 use Rattle.leaf_row.specs.declared.Leaf.{Leaf}
 use Rattle.leaf_row.specs.Reading as leaf
@@ -32,8 +32,8 @@ use Rattle.lent_entries.proofs.Laws.{spot-at, spot-outside, holds-wide, inside,
 use Rattle.lent_tables.proofs.Laws.{and-right}
 use Rattle.slot_reader.specs.declared.RowRead.{RowRead}
 use Rattle.slot_reader.specs.declared.RowRead.the-variants as row
-use Rattle.slot_reader.specs.Slots.{codeWord, known, kindWord, codeNumber, numberRead, stretchIn, spanned, stringRead, dataPlace, viewed, viewAt, listed, storedNumber, storedBy, storedAt, entryBy, keyed, dictionaryRead, fixedRead, slotBy, slotRead}
-use Rattle.slot_reader.proofs.Codes.{number-same, code-width, range, knows, as-fixed, as-string, as-view, as-list, elsewhere}
+use Rattle.slot_reader.specs.Slots.{codeWord, known, kindWord, codeNumber, numberRead, stretchIn, both, stringRead, dataPlace, viewed, viewAt, listViewRead, rowsIn, listRead, storedNumber, storedBy, storedAt, entryBy, keyed, dictionaryRead, fixedRead, slotBy, slotRead}
+use Rattle.slot_reader.proofs.Codes.{number-same, code-width, range, knows, as-fixed, as-string, as-view, as-list-view, as-list, elsewhere}
 
 -- ---- numbers and stored numbers, by their place
 
@@ -85,6 +85,24 @@ module _ (start : ℕ) (s : List ℕ) (a b : ℕ) where
   unfolding stretchIn
   stretch-in n e h l = let g : b ≤ length s = omega arith in rw (le-leb a b l, le-leb b (length s) g)
 
+-- ---- rows of a child
+
+module _ (child n a b : ℕ) where
+  pub rows-low : b < a → row.Refused 12 ≡ rowsIn child n a b
+  unfolding rowsIn
+  rows-low h = rw (lt-leb a b h)
+
+  pub rows-past : n < b → row.Refused 12 ≡ rowsIn child n a b
+  unfolding rowsIn
+  rows-past h = rw (lt-leb b n h, and-false)
+
+  pub rows-in : b ≤ n → a ≤ b → row.List child a (b - a) ≡ rowsIn child n a b
+  unfolding rowsIn
+  rows-in h l = rw (le-leb a b l, le-leb b n h)
+
+pub rows-as : (j child m n a b : ℕ) → j ≡ child → m ≡ n → rowsIn j m a b ≡ rowsIn child n a b
+rows-as j child m n a b p q = rw (p, q)
+
 -- ---- entries one after the other
 
 value-holds : (w : ℕ) (s : List ℕ) (i a : ℕ) (b : Bool) → cond b (entry.Value (item w s i)) entry.Outside ≡ entry.Value a → b ≡ true
@@ -99,25 +117,15 @@ entry-small body start size w i a r e v =
     let k : 1 * i ≤ w * i = mul-le-mul-right i (holds-wide w (part body start size) i h) in
     omega (arith, inside body start size w i h, holds-wide w (part body start size) i h, k, one-mul i, mul-comm w i)
 
-module _ (start : ℕ) (s : List ℕ) (e f : Entry) where
-  pub spanned-first : e ≡ entry.Outside → row.Refused 12 ≡ spanned start s e f
-  spanned-first p = ap (λ x. spanned start s x f) (sym p)
+module _ (g : ℕ → ℕ → RowRead) (e f : Entry) where
+  pub both-first : e ≡ entry.Outside → row.Refused 12 ≡ both g e f
+  both-first p = ap (λ x. both g x f) (sym p)
 
-  pub spanned-second : (a : ℕ) → e ≡ entry.Value a → f ≡ entry.Outside → row.Refused 12 ≡ spanned start s e f
-  spanned-second a p q = rw (p, q)
+  pub both-second : (a : ℕ) → e ≡ entry.Value a → f ≡ entry.Outside → row.Refused 12 ≡ both g e f
+  both-second a p q = rw (p, q)
 
-  pub spanned-both : (a b : ℕ) → e ≡ entry.Value a → f ≡ entry.Value b → stretchIn start s a b ≡ spanned start s e f
-  spanned-both a b p q = rw (p, q)
-
-module _ (child : ℕ) (e f : Entry) where
-  pub listed-first : e ≡ entry.Outside → row.Refused 12 ≡ listed child e f
-  listed-first p = ap (λ x. listed child x f) (sym p)
-
-  pub listed-second : (a : ℕ) → e ≡ entry.Value a → f ≡ entry.Outside → row.Refused 12 ≡ listed child e f
-  listed-second a p q = rw (p, q)
-
-  pub listed-both : (k a b : ℕ) → k ≡ child → e ≡ entry.Value a → f ≡ entry.Value b → row.List k a b ≡ listed child e f
-  listed-both k a b c p q = rw (c, p, q)
+  pub both-held : (a b : ℕ) → e ≡ entry.Value a → f ≡ entry.Value b → g a b ≡ both g e f
+  both-held a b p q = rw (p, q)
 
 module _ (off : ℕ) (f : ℕ → RowRead) (e : Entry) where
   pub keyed-out : e ≡ entry.Outside → row.Refused 12 ≡ keyed off f e
@@ -195,13 +203,14 @@ module _ (tree : List ℕ) (i code : ℕ) (e : code ≡ codeWord tree i) (a : �
   union-stored false = refl
 
   pub stored-none : isString code ≡ false → isFixed code ≡ false → row.Refused 10 ≡ stored
-  stored-none n f = go (isView code) refl (isListView code) refl
+  stored-none n f = go (isView code) refl (isListView code) refl (isList code) refl
     where
-      go : (v : Bool) → isView code ≡ v → (l : Bool) → isListView code ≡ l → row.Refused 10 ≡ stored
-      go true v l q = stored-as viewNode (knows tree i code e 15 16 v (omega arith)) (as-view tree i code e v)
-      go false v true q = stored-as (listViewNode (widthOf code)) (knows tree i code e 17 18 q (omega arith)) (as-list tree i code e q)
-      go false v false q =
-          elsewhere tree i code e (row.Refused 10 ≡ stored) f n v q (λ c h d. union-stored c ∙ stored-as (unionKind c []) h d) (λ w h d. stored-as (runEndNode w) h d)
+      go : (v : Bool) → isView code ≡ v → (l : Bool) → isListView code ≡ l → (o : Bool) → isList code ≡ o → row.Refused 10 ≡ stored
+      go true v l q o p = stored-as viewNode (knows tree i code e 15 16 v (omega arith)) (as-view tree i code e v)
+      go false v true q o p = stored-as (listViewNode (widthOf code)) (knows tree i code e 17 18 q (omega arith)) (as-list-view tree i code e q)
+      go false v false q true p = stored-as (listNode (widthOf code)) (knows tree i code e 19 20 p (omega arith)) (as-list tree i code e p)
+      go false v false q false p =
+          elsewhere tree i code e (row.Refused 10 ≡ stored) f n v q p (λ c h d. union-stored c ∙ stored-as (unionKind c []) h d) (λ w h d. stored-as (runEndNode w) h d)
           (λ h. rw h)
 
 module _ (tree : List ℕ) (x : Tables) (i code : ℕ) (e : code ≡ codeWord tree i) (k : ℕ) where
@@ -225,15 +234,19 @@ module _ (tree : List ℕ) (x : Tables) (i code : ℕ) (e : code ≡ codeWord tr
       → viewAt (x .body) (x .buffers) (place x i 7) (place x i 8) (spotIn (place x i 3) 16 (firstBuffer x i) k) ≡ slotRead tree x i k
   slot-view h = slot-as viewNode (knows tree i code e 15 16 h (omega arith)) (as-view tree i code e h)
 
-  pub slot-list : (w : ℕ) → isListView code ≡ true → w ≡ widthOf code
-      → listed (suc i) (entryIn w (firstBuffer x i) k) (entryIn w (secondBuffer x i) k) ≡ slotRead tree x i k
-  slot-list w h q = rw q (slot-as (listViewNode (widthOf code)) (knows tree i code e 17 18 h (omega arith)) (as-list tree i code e h))
+  pub slot-list-view : (w : ℕ) → isListView code ≡ true → w ≡ widthOf code
+      → listViewRead w (firstBuffer x i) (secondBuffer x i) (suc i) k ≡ slotRead tree x i k
+  slot-list-view w h q = rw q (slot-as (listViewNode (widthOf code)) (knows tree i code e 17 18 h (omega arith)) (as-list-view tree i code e h))
+
+  pub slot-list : (w : ℕ) → isList code ≡ true → w ≡ widthOf code → listRead w (firstBuffer x i) (suc i) (lengthOf x (suc i)) k ≡ slotRead tree x i k
+  slot-list w h q = rw q (slot-as (listNode (widthOf code)) (knows tree i code e 19 20 h (omega arith)) (as-list tree i code e h))
 
   union-slot : (c : Bool) → row.Refused 10 ≡ slotBy tree x (unionKind c []) i k
   union-slot true = refl
   union-slot false = refl
 
-  pub slot-none : isFixed code ≡ false → isString code ≡ false → isView code ≡ false → isListView code ≡ false → row.Refused 10 ≡ slotRead tree x i k
-  slot-none f n v l =
-      elsewhere tree i code e (row.Refused 10 ≡ slotRead tree x i k) f n v l (λ c h d. union-slot c ∙ slot-as (unionKind c []) h d) (λ w h d. slot-as (runEndNode w) h d)
+  pub slot-none : isFixed code ≡ false → isString code ≡ false → isView code ≡ false → isListView code ≡ false → isList code ≡ false
+      → row.Refused 10 ≡ slotRead tree x i k
+  slot-none f n v l o =
+      elsewhere tree i code e (row.Refused 10 ≡ slotRead tree x i k) f n v l o (λ c h d. union-slot c ∙ slot-as (unionKind c []) h d) (λ w h d. slot-as (runEndNode w) h d)
       (λ h. rw h)

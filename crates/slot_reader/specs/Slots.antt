@@ -9,9 +9,10 @@ use lib.Dec.{leb, ltb, eqb}
 use Rattle.number.specs.Number.{number}
 use Rattle.columnar.specs.Types.{Number, width}
 use Rattle.columnar.specs.Array.{item}
+use Rattle.formats.specs.Code.{lastCode}
 use Rattle.formats.specs.Types.{numberOf}
-use Rattle.array_data.specs.Tables.{Tables, offsetOf, place, validOf, firstBuffer, secondBuffer}
-use Rattle.array_data.specs.Typed.{NodeKind, fixedNode, stringNode, viewNode, listViewNode, sparseNode, denseNode, runEndNode, dictionaryNode}
+use Rattle.array_data.specs.Tables.{Tables, lengthOf, offsetOf, place, validOf, firstBuffer, secondBuffer}
+use Rattle.array_data.specs.Typed.{NodeKind, fixedNode, stringNode, viewNode, listViewNode, listNode, sparseNode, denseNode, runEndNode, dictionaryNode}
 use Rattle.lent.specs.Lent.{numberOr, kindOf}
 use Rattle.leaf_row.specs.Reading.{leafOf}
 use Rattle.view_row.specs.Place.{placeOf}
@@ -33,7 +34,7 @@ use Rattle.slot_reader.specs.declared.RowRead.the-variants as row
 module _ (tree : List ℕ) where
   -- the code of node i's format; 0 where it has none
   unfoldable pub codeWord : ℕ → ℕ
-  codeWord i = cond (leb (word tree i 0) 21) (word tree i 0) 0
+  codeWord i = cond (leb (word tree i 0) lastCode) (word tree i 0) 0
 
   abbrev pub known : ℕ → Bool
   known i = leb 1 (codeWord i)
@@ -55,14 +56,19 @@ numberRead m s i = cond (holds (width m) s i) (row.Number (leafOf m (item (width
 unfoldable pub stretchIn : ℕ → List ℕ → ℕ → ℕ → RowRead
 stretchIn start s a b = cond (leb a b && leb b (length s)) (row.Bytes (start + a) (b - a)) (row.Refused 12)
 
-abbrev pub spanned : ℕ → List ℕ → Entry → Entry → RowRead
-spanned start s (entry.Value a) (entry.Value b) = stretchIn start s a b
-spanned start s (entry.Value a) entry.Outside = row.Refused 12
-spanned start s entry.Outside e = row.Refused 12
+-- what two entries say
+abbrev pub both : (ℕ → ℕ → RowRead) → Entry → Entry → RowRead
+both f (entry.Value a) (entry.Value b) = f a b
+both f (entry.Value a) entry.Outside = row.Refused 12
+both f entry.Outside e = row.Refused 12
 
--- a byte string, from its offset to the next
+-- from an offset to the next
+abbrev pub toNext : (ℕ → ℕ → RowRead) → ℕ → List ℕ → ℕ → RowRead
+toNext f w offsets i = both f (entryIn w offsets i) (entryIn w offsets (suc i))
+
+-- a byte string
 abbrev pub stringRead : ℕ → List ℕ → ℕ → List ℕ → ℕ → RowRead
-stringRead w offsets start chars i = spanned start chars (entryIn w offsets i) (entryIn w offsets (suc i))
+stringRead w offsets start chars i = toNext (stretchIn start chars) w offsets i
 
 -- of data buffer b among the n that stand in the table from number a on: where it begins (j = 0), its bytes (j = 1)
 abbrev pub dataPlace : List ℕ → ℕ → ℕ → ℕ → ℕ → ℕ
@@ -81,11 +87,17 @@ abbrev pub viewAt : List ℕ → List ℕ → ℕ → ℕ → Spot → RowRead
 viewAt body buffers a n (spot.At at) = viewIn body buffers a n at (number 4 (drop (at + 8) body))
 viewAt body buffers a n spot.Outside = row.Refused 12
 
--- the rows of a list, in the child
-abbrev pub listed : ℕ → Entry → Entry → RowRead
-listed child (entry.Value a) (entry.Value n) = row.List child a n
-listed child (entry.Value a) entry.Outside = row.Refused 12
-listed child entry.Outside e = row.Refused 12
+-- a list-view: where its rows begin in the child, and how many they are
+abbrev pub listViewRead : ℕ → List ℕ → List ℕ → ℕ → ℕ → RowRead
+listViewRead w offsets sizes child i = both (λ a n. row.List child a n) (entryIn w offsets i) (entryIn w sizes i)
+
+-- the rows a .. b - 1 of a child of n rows
+unfoldable pub rowsIn : ℕ → ℕ → ℕ → ℕ → RowRead
+rowsIn child n a b = cond (leb a b && leb b n) (row.List child a (b - a)) (row.Refused 12)
+
+-- a list: "offsets follow the byte-string rule, with child rows in place of bytes"
+abbrev pub listRead : ℕ → List ℕ → ℕ → ℕ → ℕ → RowRead
+listRead w offsets child n i = toNext (rowsIn child n) w offsets i
 
 -- "the stored bytes of the entry": of a number's slot
 unfoldable pub storedNumber : ℕ → ℕ → List ℕ → ℕ → RowRead
@@ -97,6 +109,7 @@ storedBy (fixedNode m) a s b t i = storedNumber a (width m) s i
 storedBy (stringNode w) a s b t i = stringRead w s b t i
 storedBy viewNode a s b t i = row.Refused 10
 storedBy (listViewNode w) a s b t i = row.Refused 10
+storedBy (listNode w) a s b t i = row.Refused 10
 storedBy (sparseNode ids) a s b t i = row.Refused 10
 storedBy (denseNode ids) a s b t i = row.Refused 10
 storedBy (runEndNode w) a s b t i = row.Refused 10
@@ -137,7 +150,8 @@ module _ (tree : List ℕ) (x : Tables) where
   slotBy (fixedNode m) i k = numberRead m (firstBuffer x i) k
   slotBy (stringNode w) i k = stringRead w (firstBuffer x i) (place x i 5) (secondBuffer x i) k
   slotBy viewNode i k = viewAt (x .body) (x .buffers) (place x i 7) (place x i 8) (spotIn (place x i 3) 16 (firstBuffer x i) k)
-  slotBy (listViewNode w) i k = listed (suc i) (entryIn w (firstBuffer x i) k) (entryIn w (secondBuffer x i) k)
+  slotBy (listViewNode w) i k = listViewRead w (firstBuffer x i) (secondBuffer x i) (suc i) k
+  slotBy (listNode w) i k = listRead w (firstBuffer x i) (suc i) (lengthOf x (suc i)) k
   slotBy (sparseNode ids) i k = row.Refused 10
   slotBy (denseNode ids) i k = row.Refused 10
   slotBy (runEndNode w) i k = row.Refused 10

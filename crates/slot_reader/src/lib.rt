@@ -4,9 +4,9 @@ ghost use mathlib.Core.Path.{_≡_};
 ghost use mathlib.Core.List.{[]};
 ghost use Prim.Native.Nat.{suc, _+_, _≤_, _<_, _^_};
 ghost use lib.ListN.{length};
-ghost use Rattle.array_data.specs.Tables.{part, offsetOf, place, firstBuffer, secondBuffer};
+ghost use Rattle.array_data.specs.Tables.{part, lengthOf, offsetOf, place, firstBuffer, secondBuffer};
 ghost use Rattle.lent_entries.specs.Entries.{column, spotIn, entryIn};
-ghost use Rattle.slot_reader.specs.Slots.{codeWord, codeNumber, numberRead, stretchIn, stringRead, dataPlace, viewAt, listed, storedNumber, storedAt, namedAt, keyed, fixedRead, slotRead};
+ghost use Rattle.slot_reader.specs.Slots.{codeWord, codeNumber, numberRead, stretchIn, stringRead, dataPlace, viewAt, listViewRead, rowsIn, listRead, storedNumber, storedAt, namedAt, keyed, fixedRead, slotRead};
 use lent_entries::Entry;
 use lent_entries::Spot;
 use lent_entries::Validity;
@@ -26,7 +26,7 @@ pub fn code_word(tree: &[u64], i: usize) -> u8
     ensures { λ r. ⌜ r ≡ codeWord (now (tree .entry)) i ⌝ }
 {
     let code = node_table::word(tree, i, 0);
-    if 21 < code {
+    if formats::LAST_CODE < code {
         return 0;
     }
     code as u8
@@ -124,10 +124,10 @@ fn read_view(
     }
 }
 
-// Where the rows of a list stand in the child, which is the next node; offsets and sizes have w bytes.
-fn read_list(places: &[u32], body: &[u8], first: u32, i: usize, w: u8, slot: u64) -> RowRead
+// Where the rows of a list-view stand in the child, which is the next node; offsets and sizes have w bytes.
+fn read_list_view(places: &[u32], body: &[u8], first: u32, i: usize, w: u8, slot: u64) -> RowRead
     requires { ⌜ i < 2 ^ 32 ⌝ }
-    ensures { λ r. ⌜ r ≡ listed (suc i) (entryIn w (firstBuffer (column [] (now (places .entry)) [] (now (body .entry)) first) i) slot) (entryIn w (secondBuffer (column [] (now (places .entry)) [] (now (body .entry)) first) i) slot) ⌝ }
+    ensures { λ r. ⌜ r ≡ listViewRead w (firstBuffer (column [] (now (places .entry)) [] (now (body .entry)) first) i) (secondBuffer (column [] (now (places .entry)) [] (now (body .entry)) first) i) (suc i) slot ⌝ }
 {
     let start = lent_entries::place_at(places, first, i, 3);
     let size = lent_entries::place_at(places, first, i, 4);
@@ -144,6 +144,48 @@ fn read_list(places: &[u32], body: &[u8], first: u32, i: usize, w: u8, slot: u64
         start: a,
         len: n,
     }
+}
+
+// The rows a .. b - 1 of node i, which has n rows.
+fn rows_of(i: usize, n: u64, a: u64, b: u64) -> RowRead
+    ensures { λ r. ⌜ r ≡ rowsIn i n a b ⌝ }
+{
+    if b < a {
+        return RowRead::Refused(12);
+    }
+    if n < b {
+        return RowRead::Refused(12);
+    }
+    RowRead::List {
+        node: i,
+        start: a,
+        len: b - a,
+    }
+}
+
+// Where the rows of a list stand in the child, which is the next node: from the slot's offset to the next; offsets have w bytes.
+fn read_list(
+    lengths: &[u64],
+    places: &[u32],
+    body: &[u8],
+    first: u32,
+    i: usize,
+    w: u8,
+    slot: u64,
+) -> RowRead
+    requires { ⌜ i + 1 < 2 ^ 32 ⌝ }
+    ensures { λ r. ⌜ r ≡ listRead w (firstBuffer (column [] (now (places .entry)) [] (now (body .entry)) first) i) (suc i) (lengthOf (column (now (lengths .entry)) [] [] [] first) (suc i)) slot ⌝ }
+{
+    let start = lent_entries::place_at(places, first, i, 3);
+    let size = lent_entries::place_at(places, first, i, 4);
+    let Entry::Value(from) = lent_entries::read_entry(body, start, size, w, slot) else {
+        return RowRead::Refused(12);
+    };
+    let Entry::Value(to) = lent_entries::read_entry(body, start, size, w, slot + 1) else {
+        return RowRead::Refused(12);
+    };
+    let rows = lent_entries::length_at(lengths, first, i + 1);
+    rows_of(i + 1, rows, from, to)
 }
 
 // ---- dictionaries
@@ -277,7 +319,18 @@ pub fn read_slot(
         return read_view(places, buffers, body, first, i, slot);
     }
     if formats::is_list_view(code) {
-        return read_list(places, body, first, i, formats::width_of(code), slot);
+        return read_list_view(places, body, first, i, formats::width_of(code), slot);
+    }
+    if formats::is_list(code) {
+        return read_list(
+            lengths,
+            places,
+            body,
+            first,
+            i,
+            formats::width_of(code),
+            slot,
+        );
     }
     RowRead::Refused(10)
 }

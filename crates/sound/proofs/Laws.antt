@@ -1,19 +1,29 @@
 -- The tests of a node, one after the other: each value of the code is a variable with its equation. Assumes nothing.
-use mathlib.Core.Path.{_≡_, refl, sym, ap, subst, _∙_}
-use mathlib.Core.Bool.{Bool, true, false, cond, _&&_}
+use mathlib.Core.Path.{_≡_, refl, sym, ap, ap₂, subst, _∙_}
+use mathlib.Core.Bool.{Bool, true, false, cond, _&&_, _||_}
 use mathlib.Core.List.{List}
 use Prim.Native.Nat.{ℕ, suc, _+_, _-_, _≤_, _<_}
 use native.Mathlib.Numerals.{add-one}
 use native.Mathlib.Omega.{arith}
 use lib.Dec.{leb, ltb, eqb}
-use borrow.Author.Tests.{lt-ltb, le-ltb, le-leb, lt-leb, eq-eqb, ne-eqb}
+use borrow.Author.Tests.{lt-ltb, le-ltb, le-leb, lt-leb, leb-true, leb-false, eq-eqb, ne-eqb}
 use Rattle.columnar.specs.Test.{every}
 use Rattle.columnar.proofs.Test.{every-false}
-use Rattle.formats.specs.Code.{isFixed, isListView, isRunEnd}
+use Rattle.formats.specs.Code.{isFixed, isListView, isList, isRunEnd}
 use Rattle.walk.specs.State.{codeOf, dictionaryOf, endOf}
+use Rattle.room.specs.Reach.{hasItem}
 use Rattle.parts.specs.Parts.{nodesOf, copied}
 use Rattle.parts.proofs.Laws.{every-one, every-now}
 use Rattle.orders.specs.Sound.{nestedIn, endsSound, kindSound, nodeSound, planSound, walkable}
+
+-- a list-view or a list has its child behind it
+item-is : (z : ℕ) → isListView z || isList z ≡ hasItem z
+item-is z = go (leb 17 z) (leb z 18) refl refl
+  where
+    go : (a b : Bool) → leb 17 z ≡ a → leb z 18 ≡ b → isListView z || isList z ≡ hasItem z
+    go false b e f = rw (e, lt-leb 19 z (omega (arith, leb-false 17 z e)))
+    go true true e f = rw (e, f, le-leb z 20 (omega (arith, leb-true z 18 f)))
+    go true false e f = rw (e, f, le-leb 19 z (omega (arith, leb-false z 18 f)))
 
 module _ (plan : List ℕ) (i : ℕ) where
   -- ---- the nodes below
@@ -71,15 +81,15 @@ module _ (plan : List ℕ) (i : ℕ) where
       unfolding kindSound
       kind-keyed h = rw (lt-leb (codeOf plan i) 10 (omega arith), ne-eqb (dictionaryOf plan i) 0 (λ v. h (p ∙ v)))
 
-      module _ (h : d ≡ 0) {a : Bool} (f : a ≡ isListView z) where
-        list-is : isListView (codeOf plan i) ≡ a
-        list-is = ap isListView (sym q) ∙ sym f
+      module _ (h : d ≡ 0) {a u : Bool} (f : a ≡ isListView z) (o : u ≡ isList z) where
+        list-is : hasItem (codeOf plan i) ≡ a || u
+        list-is = ap hasItem (sym q) ∙ sym (item-is z) ∙ sym (ap₂ _||_ f o)
 
-        pub kind-list : {e : ℕ} → a ≡ true → e ≡ endOf plan i → ltb (i + 1) e ≡ kindSound plan i
+        pub kind-list : {e : ℕ} → a || u ≡ true → e ≡ endOf plan i → ltb (i + 1) e ≡ kindSound plan i
         unfolding kindSound
         kind-list {e} t g = rw (lt-leb (codeOf plan i) 10 (omega arith), eq-eqb (dictionaryOf plan i) 0 (sym p ∙ h), list-is ∙ t, add-one i, g)
 
-        module _ (t : a ≡ false) {b : Bool} (g : b ≡ isRunEnd z) where
+        module _ (t : a || u ≡ false) {b : Bool} (g : b ≡ isRunEnd z) where
           run-is : isRunEnd (codeOf plan i) ≡ b
           run-is = ap isRunEnd (sym q) ∙ sym g
 

@@ -48,7 +48,7 @@ fn kind_sound(plan: &[u64], i: usize) -> bool
     if growth::dictionary_of(plan, i) != 0 {
         return false;
     }
-    if formats::is_list_view(code) {
+    if formats::is_list_view(code) | formats::is_list(code) {
         return i + 1 < growth::end_of(plan, i);
     }
     if formats::is_run_end(code) {

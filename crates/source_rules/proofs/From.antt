@@ -14,7 +14,7 @@ use Rattle.columnar.specs.Types.{Number}
 use Rattle.columnar.specs.Array.{Array}
 use Rattle.columnar.specs.Test.{arrayTest, sparseTest, denseTest}
 use Rattle.array_data.specs.Tables.{Tables, lengthOf, offsetOf, place, firstBuffer, secondBuffer, arrayWith, held}
-use Rattle.array_data.specs.Rules.{oneIn, twoIn, fixedRule, stringRule, viewRule, listViewRule, sparseRule, denseRule, runEndRule, dictionaryRule}
+use Rattle.array_data.specs.Rules.{oneIn, twoIn, fixedRule, stringRule, viewRule, listViewRule, listRule, sparseRule, denseRule, runEndRule, dictionaryRule}
 use Rattle.array_data.specs.Typed.{tablesFrom}
 
 -- entry k behind the first m
@@ -59,6 +59,9 @@ module _ (x : Tables) (first : ℕ) where
 
   pub list-view-from : (i w : ℕ) → listViewRule (tablesFrom x first) i w ≡ listViewRule x (first + i) w
   list-view-from i w = rw (held-from i, place-from i 0, place-from i 1, place-from i 2, place-from i 3, place-from i 4, place-from i 5, place-from i 6, length-from i, offset-from i, length-from (suc i), add-suc first i)
+
+  pub list-from : (i w : ℕ) → listRule (tablesFrom x first) i w ≡ listRule x (first + i) w
+  list-from i w = rw (held-from i, place-from i 0, place-from i 1, place-from i 2, place-from i 3, place-from i 4, length-from i, offset-from i, length-from (suc i), add-suc first i)
 
   pub dictionary-from : (i : ℕ) (n : Number) → dictionaryRule (tablesFrom x first) i n ≡ dictionaryRule x (first + i) n
   dictionary-from i n = rw (held-from i, place-from i 0, place-from i 1, place-from i 2, place-from i 3, place-from i 4, length-from i, offset-from i, length-from (suc i), add-suc first i)

@@ -13,7 +13,7 @@ use borrow.Author.Tests.{eq-eqb, ne-eqb}
 use Rattle.columnar.specs.Types.{Number, width, Plain, fixed, string}
 use Rattle.columnar.specs.Test.{every}
 use Rattle.columnar.specs.Formed.{OffsetWidth, RunWidth}
-use Rattle.formats.specs.Code.{isInteger, isFixed, isString, isView, isListView, isUnion, isRunEnd, widthOf}
+use Rattle.formats.specs.Code.{isInteger, isFixed, isString, isView, isListView, isList, isUnion, isRunEnd, widthOf}
 use Rattle.formats.specs.Types.{numberOf}
 use Rattle.formats.proofs.Types.{number-width, fixed-number}
 use Rattle.format_ids.specs.Ids.{answerOf, written}
@@ -23,16 +23,16 @@ use Rattle.schema.specs.Tree.{field, children, dictionary, below, bare, childFo
 use Rattle.schema.proofs.Trees.{child-inside}
 use Rattle.schema.proofs.Known.{typed-whole, typed-shape}
 use Rattle.array_data.specs.Tables.{Tables, lengthOf}
-use Rattle.array_data.specs.Rules.{fixedRule, stringRule, viewRule, listViewRule, sparseRule, denseRule, runEndRule, dictionaryRule}
-use Rattle.array_data.specs.Typed.{NodeKind, fixedNode, stringNode, viewNode, listViewNode, sparseNode, denseNode, runEndNode, dictionaryNode, fieldOf, nodeOf, childNode, tablesFrom, kindRule, nodeRule}
+use Rattle.array_data.specs.Rules.{fixedRule, stringRule, viewRule, listViewRule, listRule, sparseRule, denseRule, runEndRule, dictionaryRule}
+use Rattle.array_data.specs.Typed.{NodeKind, fixedNode, stringNode, viewNode, listViewNode, listNode, sparseNode, denseNode, runEndNode, dictionaryNode, fieldOf, nodeOf, childNode, tablesFrom, kindRule, nodeRule}
 use Rattle.lent.specs.Lent.{numberOr, idsOr, unionKind, kindAt, treeOf}
 use Rattle.lent.proofs.Ids.{both, field-in}
-use Rattle.lent.proofs.Shaped.{later, string-width, list-width, integer-fixed, plainKind, Shaped, of-plain, of-view, of-list, of-sparse, of-dense, of-run, of-dictionary, at-fixed, at-keys, at-string, at-view, at-list, at-union, at-run, five, shaped}
+use Rattle.lent.proofs.Shaped.{later, string-width, list-width, lists-width, integer-fixed, plainKind, Shaped, of-plain, of-view, of-list, of-lists, of-sparse, of-dense, of-run, of-dictionary, at-fixed, at-keys, at-string, at-view, at-list, at-lists, at-union, at-run, five, shaped}
 use Rattle.lent.proofs.Lent.{child-same, first-child}
 use Rattle.lent_tables.specs.Lent.{tables, Counted}
 use Rattle.kind_rules.specs.Rows.{tablesOf}
 use Rattle.source_rules.specs.Source.{Ready, numberRule}
-use Rattle.source_rules.proofs.From.{fixed-from, string-from, view-from, list-view-from, sparse-from, dense-from, run-end-from, dictionary-from}
+use Rattle.source_rules.proofs.From.{fixed-from, string-from, view-from, list-view-from, list-from, sparse-from, dense-from, run-end-from, dictionary-from}
 
 -- ---- widths
 
@@ -69,6 +69,9 @@ string-widths c h e = subst OffsetWidth (sym e) (string-width c h)
 
 pub list-widths : (c : ℕ) {w : ℕ} → isListView c ≡ true → w ≡ widthOf c → OffsetWidth w
 list-widths c h e = subst OffsetWidth (sym e) (list-width c h)
+
+pub lists-widths : (c : ℕ) {w : ℕ} → isList c ≡ true → w ≡ widthOf c → OffsetWidth w
+lists-widths c h e = subst OffsetWidth (sym e) (lists-width c h)
 
 -- ---- one after the other
 
@@ -125,6 +128,9 @@ module _ (formats schema : List ℕ) (first n : ℕ) (x : Tables) (i : ℕ) wher
   pub list-view-node : isListView code ≡ true → rule ≡ listViewRule x (first + i) (widthOf code)
   list-view-node h = by-kind (listViewNode (widthOf code)) (at-list formats schema first i h) ∙ list-view-from x first i (widthOf code)
 
+  pub list-node : isList code ≡ true → rule ≡ listRule x (first + i) (widthOf code)
+  list-node h = by-kind (listNode (widthOf code)) (at-lists formats schema first i h) ∙ list-from x first i (widthOf code)
+
   pub run-end-node : isRunEnd code ≡ true → rule ≡ runEndRule x (first + i) (widthOf (codeOf formats schema first (suc i)))
   run-end-node h =
       by-kind (runEndNode (widthOf (codeOf formats schema first (suc i)))) (at-run formats schema first i h)
@@ -134,13 +140,13 @@ module _ (formats schema : List ℕ) (first n : ℕ) (x : Tables) (i : ℕ) wher
   abbrev pub childOfId : List ℕ → ℕ → ℕ
   childOfId ids c = first + nodeOf (treeOf formats schema first n) i ids c
 
-  pub sparse-node : isUnion code ≡ true → eqb code 19 ≡ true → (ids : List ℕ) → idsOf formats schema first i ≡ some ids
+  pub sparse-node : isUnion code ≡ true → eqb code 21 ≡ true → (ids : List ℕ) → idsOf formats schema first i ≡ some ids
       → rule ≡ sparseRule x (first + i) ids (childOfId ids)
   sparse-node h s ids e =
       by-kind (sparseNode ids) (at-union formats schema first i h ∙ ap (λ b. unionKind b (idsOr (idsOf formats schema first i))) s ∙ ap (λ o. sparseNode (idsOr o)) e)
       ∙ sparse-from x first i ids (nodeOf (treeOf formats schema first n) i ids)
 
-  pub dense-node : isUnion code ≡ true → eqb code 19 ≡ false → (ids : List ℕ) → idsOf formats schema first i ≡ some ids
+  pub dense-node : isUnion code ≡ true → eqb code 21 ≡ false → (ids : List ℕ) → idsOf formats schema first i ≡ some ids
       → rule ≡ denseRule x (first + i) ids (childOfId ids)
   dense-node h s ids e =
       by-kind (denseNode ids) (at-union formats schema first i h ∙ ap (λ b. unionKind b (idsOr (idsOf formats schema first i))) s ∙ ap (λ o. denseNode (idsOr o)) e)
@@ -153,7 +159,7 @@ module _ (formats schema : List ℕ) (first i : ℕ) (s : shape formats schema f
   here = codeOf formats schema first i
 
   -- one of the five shapes, by what each says of the code
-  pub by-shape : {A : Type 0} → (isFixed here || isString here || isView here ≡ true → A) → (isInteger here ≡ true → A) → (isListView here ≡ true → A)
+  pub by-shape : {A : Type 0} → (isFixed here || isString here || isView here ≡ true → A) → (isInteger here ≡ true → A) → (isListView here || isList here ≡ true → A)
       → (unionShape formats schema first i ≡ true → A) → (isRunEnd here ≡ true → A) → A
   unfolding shape leafShape keysShape listShape runShape
   by-shape leaf keys list union run =
@@ -166,18 +172,18 @@ module _ (formats schema : List ℕ) (first i : ℕ) (s : shape formats schema f
       s
       (λ h. leaf (both (isFixed here || isString here || isView here) _ h .0))
       (λ h. keys (both (isInteger here) _ (both (isInteger here && eqb (children schema first i) 0) _ (both (isInteger here && eqb (children schema first i) 0 && eqb (dictionary schema first i) 1) _ h .0) .0) .0))
-      (λ h. list (both (isListView here) _ (both (isListView here && eqb (children schema first i) 1) _ h .0) .0))
+      (λ h. list (both (isListView here || isList here) _ (both ((isListView here || isList here) && eqb (children schema first i) 1) _ h .0) .0))
       union
       (λ h. run (both (isRunEnd here) _ (both (isRunEnd here && eqb (children schema first i) 2) _ (both (isRunEnd here && eqb (children schema first i) 2 && eqb (dictionary schema first i) 0) _ h .0) .0) .0))
 
   -- what is none of the others is a list-view
-  pub list-left : isFixed here ≡ false → isView here ≡ false → isUnion here ≡ false → isRunEnd here ≡ false → isString here ≡ false → isListView here ≡ true
+  pub list-left : isFixed here ≡ false → isView here ≡ false → isUnion here ≡ false → isRunEnd here ≡ false → isString here ≡ false → isList here ≡ false → isListView here ≡ true
   unfolding unionShape
-  list-left f v u r t =
+  list-left f v u r t o =
       by-shape
       (λ h. either (isFixed here || isString here) (isView here) h (λ g. either (isFixed here) (isString here) g (λ q. clash q f) (λ q. clash q t)) (λ q. clash q v))
       (λ h. clash (integer-fixed here h) f)
-      (λ h. h)
+      (λ h. either (isListView here) (isList here) h (λ q. q) (λ q. clash q o))
       (λ h. clash (both (isUnion here) _ (both (isUnion here && childForEach schema first (idsOf formats schema first i) i) _ h .0) .0) u)
       (λ h. clash h r)
 
@@ -188,12 +194,12 @@ module _ (formats schema : List ℕ) (first i : ℕ) (s : shape formats schema f
       by-shape
       (λ h.
       either (isFixed here || isString here) (isView here) h
-      (λ g. either (isFixed here) (isString here) g (λ q. clash q (later 1 10 19 20 here u (omega arith))) (λ q. clash q (later 11 14 19 20 here u (omega arith))))
-      (λ q. clash q (later 15 16 19 20 here u (omega arith))))
-      (λ h. clash (integer-fixed here h) (later 1 10 19 20 here u (omega arith)))
-      (λ h. clash h (later 17 18 19 20 here u (omega arith)))
+      (λ g. either (isFixed here) (isString here) g (λ q. clash q (later 1 10 21 22 here u (omega arith))) (λ q. clash q (later 11 14 21 22 here u (omega arith))))
+      (λ q. clash q (later 15 16 21 22 here u (omega arith))))
+      (λ h. clash (integer-fixed here h) (later 1 10 21 22 here u (omega arith)))
+      (λ h. either (isListView here) (isList here) h (λ q. clash q (later 17 18 21 22 here u (omega arith))) (λ q. clash q (later 19 20 21 22 here u (omega arith))))
       (λ h. both (isUnion here) _ (both (isUnion here && childForEach schema first (idsOf formats schema first i) i) _ h .0) .1)
-      (λ h. clash u (later 19 20 21 21 here h (omega arith)))
+      (λ h. clash u (later 21 22 23 23 here h (omega arith)))
 
   -- run ends and values stand below a run-end node
   pub record Runs : Type 0 where
@@ -210,6 +216,7 @@ module _ (formats schema : List ℕ) (first i : ℕ) (s : shape formats schema f
       go k (of-plain p e z d) = absurd (run-not-plain p (sym k ∙ e))
       go k (of-view e z) = let z : _≡_ {A = ℕ} 0 1 = cc in absurd (omega arith)
       go k (of-list w e z d) = let z : _≡_ {A = ℕ} 0 1 = cc in absurd (omega arith)
+      go k (of-lists w e z d) = let z : _≡_ {A = ℕ} 0 1 = cc in absurd (omega arith)
       go k (of-sparse ids e z d o) = let z : _≡_ {A = ℕ} 0 1 = cc in absurd (omega arith)
       go k (of-dense ids e z d o) = let z : _≡_ {A = ℕ} 0 1 = cc in absurd (omega arith)
       go k (of-run m e z e1 z1 d) = let q : width m ≡ v = cc in record { two-below = z; ends-width = subst RunWidth q d }

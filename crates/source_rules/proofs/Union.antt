@@ -71,12 +71,12 @@ module _ (formats schema : List ℕ) (first n : ℕ) (x : Tables) (i at len : �
           ap (λ k. lengthOf x (first + k)) (sym (child-same formats schema first n i (fieldOf front c)))
           ∙ sym (written-lens (fieldOf front c) (omega (arith, field-in front c m, long)))
 
-      pub sparse-last : {b : Bool} → eqb (codeOf formats schema first i) 19 ≡ true
+      pub sparse-last : {b : Bool} → eqb (codeOf formats schema first i) 21 ≡ true
           → ((node : ℕ → ℕ) → ((c : ℕ) → List·Memᴰ c front → lengthOf x (node c) ≡ getD lens (fieldOf front c) 0) → b ≡ sparseRule x (first + i) front node)
           → b ≡ rule formats schema first n x i
       sparse-last t g = g (childOfId formats schema first n x i front) children ∙ sym (sparse-node formats schema first n x i u t front known)
 
-      pub dense-last : {b : Bool} → eqb (codeOf formats schema first i) 19 ≡ false
+      pub dense-last : {b : Bool} → eqb (codeOf formats schema first i) 21 ≡ false
           → ((node : ℕ → ℕ) → ((c : ℕ) → List·Memᴰ c front → lengthOf x (node c) ≡ getD lens (fieldOf front c) 0) → b ≡ denseRule x (first + i) front node)
           → b ≡ rule formats schema first n x i
       dense-last t g = g (childOfId formats schema first n x i front) children ∙ sym (dense-node formats schema first n x i u t front known)

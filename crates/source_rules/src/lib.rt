@@ -5,14 +5,13 @@ ghost use mathlib.Core.Option.{some};
 ghost use mathlib.Core.List.{List, []};
 ghost use Prim.Native.Nat.{ℕ, _+_, _*_, _≤_, _<_, _^_};
 ghost use lib.ListN.{length, getD};
-ghost use lib.Dec.{eqb};
 ghost use Rattle.columnar.specs.Types.{Number};
-ghost use Rattle.formats.specs.Code.{isUnion};
+ghost use Rattle.formats.specs.Code.{isUnion, isSparse};
 ghost use Rattle.formats.specs.Types.{numberOf};
 ghost use Rattle.schema.specs.Tree.{childAt, codeOf};
 ghost use Rattle.columnar.specs.Formed.{OffsetWidth, RunWidth};
 ghost use Rattle.array_data.specs.Tables.{lengthOf};
-ghost use Rattle.array_data.specs.Rules.{stringRule, listViewRule, runEndRule};
+ghost use Rattle.array_data.specs.Rules.{stringRule, listViewRule, listRule, runEndRule};
 ghost use Rattle.array_data.specs.Typed.{tablesFrom, nodeRule, sourceRule};
 ghost use Rattle.lent.specs.Lent.{treeOf};
 ghost use Rattle.lent_tables.specs.Lent.{tables, Counted};
@@ -50,6 +49,17 @@ fn list_view_ok(lengths: &[u64], places: &[u32], body: &[u8], k: usize, w: u8) -
         return node_rules::list_view_rule_i32(lengths, places, body, k);
     }
     node_rules::list_view_rule_i64(lengths, places, body, k)
+}
+
+// The rule of a list node with offsets of w bytes.
+fn list_ok(lengths: &[u64], places: &[u32], body: &[u8], k: usize, w: u8) -> bool
+    requires { ⌜ Counted (tables (now lengths) (now places) (now body)) k × (k + 1 < 2 ^ 33) × OffsetWidth w ⌝ }
+    ensures { λ r. ⌜ r ≡ listRule (tables (now (lengths .entry)) (now (places .entry)) (now (body .entry))) k w ⌝ }
+{
+    if w == 4 {
+        return node_rules::list_rule_i32(lengths, places, body, k);
+    }
+    node_rules::list_rule_i64(lengths, places, body, k)
 }
 
 // The rule of a run-end node with run ends of w bytes.
@@ -101,7 +111,7 @@ fn union_ok(
     i: usize,
     sparse: bool,
 ) -> bool
-    requires { ⌜ Ready (now formats) (now schema) (tables (now lengths) (now places) (now body)) first n × (i < n) × (isUnion (codeOf (now formats) (now schema) first i) ≡ true) × (sparse ≡ eqb (codeOf (now formats) (now schema) first i) 19) ⌝ }
+    requires { ⌜ Ready (now formats) (now schema) (tables (now lengths) (now places) (now body)) first n × (i < n) × (isUnion (codeOf (now formats) (now schema) first i) ≡ true) × (sparse ≡ isSparse (codeOf (now formats) (now schema) first i)) ⌝ }
     ensures { λ r. ⌜ ((buffers : List ℕ) → r ≡ nodeRule (treeOf (now (formats .entry)) (now (schema .entry)) first n) (tablesFrom (tablesOf (now (lengths .entry)) (now (places .entry)) buffers (now (body .entry))) first) i) ⌝ }
 {
     let at = schema::get(schema, first + i, 0) as usize;
@@ -153,7 +163,7 @@ fn node_ok(
             first,
             n,
             i,
-            code == 19,
+            formats::is_sparse(code),
         );
     }
     if formats::is_run_end(code) {
@@ -163,6 +173,9 @@ fn node_ok(
     let w = formats::width_of(code);
     if formats::is_string(code) {
         return string_ok(lengths, places, body, k, w);
+    }
+    if formats::is_list(code) {
+        return list_ok(lengths, places, body, k, w);
     }
     list_view_ok(lengths, places, body, k, w)
 }

@@ -1,2 +1,3 @@
--- What the walk at byte strings goes by.
+-- What the walk at byte strings and lists goes by.
 pub mod Laws
+pub mod Lists

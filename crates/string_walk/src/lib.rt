@@ -1,4 +1,4 @@
-// The walk at byte strings: offsets behind the last one, and the bytes that they reach.
+// The walk at byte strings and lists: offsets behind the last one, and the bytes that they reach.
 // The answer is 0 or the ground of refusal; a walk that only tries changes the counters alone.
 // What a function does not read of the order stands in its contract for all values.
 ghost use mathlib.Core.Path.{_≡_};
@@ -8,9 +8,11 @@ ghost use lib.ListN.{length};
 ghost use lib.Dec.{leb};
 ghost use Rattle.utils.specs.Extension.{extended};
 ghost use Rattle.walk.specs.State.{bytes};
-ghost use Rattle.walk.specs.Log.{Did};
+ghost use Rattle.walk.specs.Log.{Did, applyIf};
 ghost use Rattle.walk.specs.Leaves.{putString, putExtended, copyString, nullString};
+ghost use Rattle.walk.specs.Nulls.{NullWalk, nullList};
 ghost use Rattle.leaf_walk.specs.Join.{join};
+ghost use Rattle.string_walk.specs.Lists.{triedOffsets, offsetsLog};
 
 // Whether n offsets of w bytes after the first of those at `from` fit after `last`.
 fn try_offsets(body: &[u8], from: usize, w: u64, n: usize, last: u64) -> utils::Extended
@@ -183,6 +185,80 @@ pub fn null_string(
 {
     let o = growth::scale(growth::grow(growth::rows_of(counts, i), 1), w);
     let last = growth::bytes_of(counts, i);
+    puts::put_repeated(state, parts, room, write, i, 1, o, w, n, last);
+    0
+}
+
+// The offsets of n rows of a list, with w bytes each, behind its child's rows: all of them, or none where they do not fit.
+pub fn copy_offsets(
+    state: &[u64],
+    parts: &[u32],
+    places: &[u32],
+    body: &[u8],
+    counts: &[u64; 96],
+    room: &mut [u8],
+    write: bool,
+    first: usize,
+    i: usize,
+    w: u64,
+    slot: u64,
+    n: u64,
+) -> utils::Extended
+    requires { ⌜ (first < 2 ^ 32) × (i + 1 < 32) × (slot + n < 2 ^ 63) ⌝ }
+    requires { ⌜ ((w ≡ 4 → ⊥) → w ≡ 8) ⌝ }
+    ensures { λ r. ⌜ ((lengths : List ℕ) (source : ℕ) → r ≡ triedOffsets (join (now (state .entry)) (now (parts .entry)) lengths (now (places .entry)) (now (body .entry)) first source) w i slot n (now (counts .entry))) ⌝ }
+    ensures { λ r. ⌜ ((lengths : List ℕ) (source : ℕ) → now (room .exit) ≡ applyIf (now (state .entry)) (now (parts .entry)) write (offsetsLog (join (now (state .entry)) (now (parts .entry)) lengths (now (places .entry)) (now (body .entry)) first source) w i slot n (now (counts .entry)) r) (now (room .entry))) ⌝ }
+{
+    let at = lent_tables::place(places, first + i, 3);
+    if !leaf_walk::rows_in(body, at, w, slot, n + 1) {
+        return utils::Extended::Falls;
+    }
+    let from = (at as u64) + w * slot;
+    let old = growth::rows_of(counts, i + 1);
+    match try_offsets(body, from as usize, w, n as usize, old) {
+        utils::Extended::Fits { last, first: lead } => {
+            let o = growth::scale(growth::grow(growth::rows_of(counts, i), 1), w);
+            puts::put_offsets(
+                state,
+                parts,
+                room,
+                write,
+                i,
+                1,
+                o,
+                w,
+                body,
+                from as usize,
+                n,
+                old,
+            );
+            utils::Extended::Fits { last, first: lead }
+        }
+        utils::Extended::Over { row, needed } => utils::Extended::Over { row, needed },
+        utils::Extended::Falls => utils::Extended::Falls,
+    }
+}
+
+// n nulls of a list with offsets of w bytes: the last offset, n times.
+pub fn null_list(
+    state: &[u64],
+    parts: &[u32],
+    counts: &[u64; 96],
+    room: &mut [u8],
+    write: bool,
+    i: usize,
+    w: u64,
+    n: u64,
+) -> u8
+    requires { ⌜ i < 32 ⌝ }
+    requires { ⌜ ((w ≡ 4 → ⊥) → w ≡ 8) ⌝ }
+    ensures { λ r. ⌜ ((lengths places body : List ℕ) (first source : ℕ) (child : NullWalk) → Did (now (state .entry)) (now (parts .entry)) write (nullList (join (now (state .entry)) (now (parts .entry)) lengths places body first source) child w i n (now (counts .entry))) (now (room .entry)) r (now (counts .entry)) (now (room .exit))) ⌝ }
+{
+    if 32 <= i + 1 {
+        return 12;
+    }
+    let o = growth::scale(growth::grow(growth::rows_of(counts, i), 1), w);
+    let last = growth::rows_of(counts, i + 1);
     puts::put_repeated(state, parts, room, write, i, 1, o, w, n, last);
     0
 }

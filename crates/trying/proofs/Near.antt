@@ -7,7 +7,7 @@ use lib.ListN.{length}
 use lib.Dec.{leb, ltb, eqb}
 use Rattle.columnar.specs.Types.{half}
 use Rattle.number.specs.Number.{entry}
-use Rattle.formats.specs.Code.{isFixed, isString, isView, isListView}
+use Rattle.formats.specs.Code.{isFixed, isString, isView, isListView, isList}
 use Rattle.utils.specs.Extension.{extended}
 use Rattle.utils.specs.declared.Extended.{Extended}
 use Rattle.utils.specs.declared.Extended.the-variants.{Fits, Over, Falls}
@@ -16,7 +16,7 @@ use Rattle.run_ends.specs.declared.Runs.the-variants.{Range, None}
 use Rattle.walk.specs.State.{Join, codeOf, dictionaryOf, endOf, keepsOf, bytesOf, rows, bytes, place, far, addRows, addNulls, setBytes}
 use Rattle.walk.specs.Log.{Entry, Out, fail, done, wrote, need, found, next, each}
 use Rattle.walk.specs.Leaves.{copyBits, copyMask, copyNumbers, copyKeys, copyViews, putString, putExtended, copyString}
-use Rattle.walk.specs.Copy.{Walk, masked, listViewRow, copyListView, copyFields, copySparse, denseTo, denseRow, copyDense, putRuns, runsAt, copyRuns, copyData, copySlots, copyNode, copyWalk}
+use Rattle.walk.specs.Copy.{Walk, masked, listViewRow, copyListView, putStretch, putList, copyList, copyFields, copySparse, denseTo, denseRow, copyDense, putRuns, runsAt, copyRuns, copyData, copySlots, copyNode, copyWalk}
 use Rattle.trying.specs.Alike.{Alike}
 use Rattle.trying.proofs.Laws.{alike-refl, alike-rows, alike-bytes, alike-other}
 
@@ -116,6 +116,23 @@ module _ (x : Join) where
     unfolding copyListView
     near-list w slot n h = near-need refl 12 h (near-need refl 12 h (near-each _ (λ r c1 d1 g. near-row w slot r g) n 0 h))
 
+    near-stretch : (w from n : ℕ) (e : Extended) {c d : List ℕ} → Alike c d → Near (putList x walk w i from n e c) (putList x walk w i from n e d)
+    unfolding putStretch
+    near-stretch w from n (Fits last first) h =
+        near-next _ _ (near-wrote _ _ h)
+        (λ c2 d2 g. subst (λ v. Near (walk (suc i) first (last - rows c2 (suc i)) c2) (walk (suc i) first (last - v) d2)) (g .rows-same (suc i)) (below (suc i) first (last - rows c2 (suc i)) c2 d2 g))
+    near-stretch w from n (Over row needed) h = near-fail 6 h
+    near-stretch w from n Falls h = near-fail 12 h
+
+    near-lists : (w slot n : ℕ) {c d : List ℕ} → Alike c d → Near (copyList x walk w i slot n c) (copyList x walk w i slot n d)
+    unfolding copyList
+    near-lists w slot n {c} {d} h =
+        near-cond (eqb n 0) (near-done h)
+        (near-need refl 12 h
+        (near-need refl 12 h
+        (subst (λ v. Near (putList x walk w i (place x i 3 + w * slot) n (extended w (x .body) (place x i 3 + w * slot) n (rows c (suc i))) c) (putList x walk w i (place x i 3 + w * slot) n (extended w (x .body) (place x i 3 + w * slot) n v) d))
+        (h .rows-same (suc i)) (near-stretch w (place x i 3 + w * slot) n (extended w (x .body) (place x i 3 + w * slot) n (rows c (suc i))) h))))
+
     near-fields : (slot n end f k : ℕ) {c d : List ℕ} → Alike c d → Near (copyFields x walk slot n end f k c) (copyFields x walk slot n end f k d)
     unfolding copyFields
     near-fields slot n end zero k h = near-done h
@@ -156,10 +173,11 @@ module _ (x : Join) where
         (near-cond (isString code) (near-string i _ slot n h)
         (near-cond (isView code) (near-views i slot n h)
         (near-cond (isListView code) (near-list _ slot n h)
-        (near-cond (eqb code 19) (near-sparse slot n h)
-        (near-cond (eqb code 20) (near-dense slot n h)
-        (near-cond (eqb code 21) (near-runs slot n h)
-        (near-fail 12 h)))))))
+        (near-cond (isList code) (near-lists _ slot n h)
+        (near-cond (eqb code 21) (near-sparse slot n h)
+        (near-cond (eqb code 22) (near-dense slot n h)
+        (near-cond (eqb code 23) (near-runs slot n h)
+        (near-fail 12 h))))))))
 
     near-node : (a n : ℕ) {c d : List ℕ} → Alike c d → Near (copyNode x walk i a n c) (copyNode x walk i a n d)
     unfolding copyNode copySlots

@@ -1,6 +1,24 @@
 // Damaged descriptions: sound columns of each kind and format, with offset 0 and with offset 2, at the depths 1 to 3, and each with one
 // rule of 01 broken at a time. Every change has the ground that 01 names for it, 0 where 01 allows it. A line for each column says how
 // many changes there were and how many answers differ; before it stands what differs.
+mod offsets;
+mod rules;
+mod unions;
+
+use crate::offsets::column_of_list_views;
+use crate::offsets::column_of_lists;
+use crate::offsets::column_of_strings;
+use crate::offsets::lay_strings;
+use crate::offsets::strings;
+use crate::rules::any_node;
+use crate::rules::mask;
+use crate::rules::no_mask;
+use crate::rules::no_rows;
+use crate::rules::rows;
+use crate::rules::third_null;
+use crate::rules::whole_buffer;
+use crate::unions::column_of_dense;
+use crate::unions::column_of_sparse;
 use column_damage::Column;
 use column_damage::Slots;
 use column_damage::Tally;
@@ -14,13 +32,11 @@ use column_damage::change_schema;
 use column_damage::data;
 use column_damage::entries;
 use column_damage::finish;
-use column_damage::get_place;
 use column_damage::negative;
 use column_damage::node;
 use column_damage::numbers;
 use column_damage::plus;
 use column_damage::set_length;
-use column_damage::set_place;
 use column_damage::set_schema;
 use column_damage::slots_of;
 use column_damage::small;
@@ -29,79 +45,7 @@ use column_damage::validity;
 use column_damage::wide32;
 use column_damage::write;
 
-// ---- rules that all kinds have
-
-// Length, offset and type of node k.
-fn any_node(t: Tally, c: Column, k: usize, off: usize) -> Tally {
-    let shift = wide32(small(off));
-    let over = std::num::wrapping_sub_u64(0x8000_0000_0000_0000, shift);
-    let most = std::num::wrapping_sub_u64(0x7fff_ffff_ffff_ffff, shift);
-    let mut r = change_length(t, c, b"length of -1", k, 0, u64::MAX, 9);
-    r = change_length(r, c, b"negative offset", k, 1, 0x8000_0000_0000_0000, 9);
-    r = change_length(r, c, b"length and offset of 2^63", k, 0, over, 9);
-    r = change_length(r, c, b"length and offset of 2^63 - 1", k, 0, most, 12);
-    r = change_schema(r, c, b"no format", k, 1, 0, 10);
-    r = change_letter(r, c, b"unknown format", k, 0, b'x', 10);
-    r = change_schema(r, c, b"seven children", k, 3, 7, 10);
-    change_schema(r, c, b"a dictionary's number of 2", k, 4, 2, 10)
-}
-
-// The buffer of node k that stands at j of its places, whose bytes are all needed.
-fn whole_buffer(t: Tally, c: Column, k: usize, j: usize) -> Tally {
-    let size = get_place(c, k, plus(j, 1));
-    let past = std::num::wrapping_sub_u32(513, size);
-    let less = std::num::wrapping_sub_u32(size, 1);
-    let mut r = change_place(t, c, b"buffer leaves the body by one", k, j, past, 12);
-    r = change_place(r, c, b"buffer begins at 2^32 - 1", k, j, 0xffff_ffff, 12);
-    r = change_place(r, c, b"buffer of a byte less", k, plus(j, 1), less, 12);
-    change_place(
-        r,
-        c,
-        b"buffer of 2^32 - 1 bytes",
-        k,
-        plus(j, 1),
-        u32::MAX,
-        12,
-    )
-}
-
-// Node k's validity, for which `less` bytes are one too few; the body ends with ones.
-fn mask(t: Tally, c: Column, k: usize, less: u32) -> Tally {
-    let mut r = change_place(t, c, b"validity of a byte too few", k, 2, less, 12);
-    r = change_place(r, c, b"validity at the body's end", k, 1, 510, 0);
-    r = change_place(r, c, b"validity leaves the body by one", k, 1, 511, 12);
-    change_place(r, c, b"validity of 2^32 - 1 bytes", k, 2, 0xffff_ffff, 12)
-}
-
-// Validity without a zero bit, where there may be none.
-fn no_mask(t: Tally, c: Column, k: usize) -> Tally {
-    change_place(t, set_place(c, k, 2, 2), b"validity", k, 0, 1, 12)
-}
-
-// A root without rows: its buffers still hold as many entries as its offset says.
-fn no_rows(t: Tally, c: Column, depth: u8, off: usize) -> Tally {
-    if depth != 1 {
-        return t;
-    }
-    let n = wide32(small(plus(off, 9)));
-    let d = set_length(c, 0, 0, 0);
-    let past = std::num::wrapping_add_u64(n, 1);
-    let r = change_length(t, d, b"no rows at the buffers' end", 0, 1, n, 0);
-    change_length(r, d, b"no rows past the buffers' end", 0, 1, past, 12)
-}
-
-// The third row is null.
-fn third_null(c: Column, off: usize) -> Column {
-    if off == 0 {
-        return validity(c, b"\xfb\xff");
-    }
-    validity(c, b"\xef\xff")
-}
-
-// A node of nine rows.
-fn rows(c: Column, format: &[u8], children: u32, off: usize) -> Column {
-    node(c, format, children, 9, wide32(small(off)))
-}
+// ---- numbers
 
 // Each list has an entry for each of the 2 rows before the offset and the 9 rows of the column.
 fn column_of_numbers(depth: u8, off: usize, format: &[u8], w: u8) {
@@ -114,65 +58,6 @@ fn column_of_numbers(depth: u8, off: usize, format: &[u8], w: u8) {
     t = whole_buffer(t, c, k, 3);
     t = mask(t, c, k, 1);
     finish(no_rows(t, c, depth, off), format, depth, off);
-}
-
-// ---- byte strings
-
-// Row r has the bytes 2r and 2r + 1.
-fn lay_strings(c: Column, format: &[u8], w: u8, off: usize) -> Column {
-    let mut d = third_null(rows(c, format, 0, off), off);
-    let list = b"\x00\x02\x04\x06\x08\x0a\x0c\x0e\x10\x12\x14\x16";
-    d = numbers(d, 3, w, list, plus(off, 10));
-    numbers(d, 5, 1, b"abcdefghijklmnopqrstuv", entries(2, plus(off, 9)))
-}
-
-fn string_row(t: Tally, c: Column, s: Slots, row: usize) -> Tally {
-    let above_next = wide32(small(plus(entries(2, row), 3)));
-    let next = wide32(small(plus(entries(2, row), 2)));
-    let mut r = change_number(t, c, b"offset is negative", s, row, negative(s.width), 12);
-    r = change_number(r, c, b"offset is above the next", s, row, above_next, 12);
-    r = change_number(r, c, b"next offset past the data", s, plus(row, 1), 23, 12);
-    change_number(r, c, b"offset is the next one", s, row, next, 0)
-}
-
-fn strings(t: Tally, c: Column, k: usize, w: u8, off: usize) -> Tally {
-    let s = slots_of(c, k, 3, w);
-    let mut r = any_node(t, c, k, off);
-    r = mask(r, c, k, 1);
-    r = whole_buffer(r, c, k, 3);
-    r = whole_buffer(r, c, k, 5);
-    r = change_place(r, c, b"empty offsets buffer", k, 4, 0, 12);
-    r = string_row(r, c, s, off);
-    r = string_row(r, c, s, plus(off, 4));
-    r = string_row(r, c, s, plus(off, 8));
-    if off != 0 {
-        r = change_number(r, c, b"negative before the offset", s, 0, negative(w), 0);
-    }
-    r
-}
-
-// A root without rows: the offsets buffer may be empty, and else has the offset of no row.
-fn no_strings(t: Tally, c: Column, depth: u8, w: u8, off: usize) -> Tally {
-    if depth != 1 {
-        return t;
-    }
-    let d = set_length(c, 0, 0, 0);
-    let s = slots_of(c, 0, 3, w);
-    let one = small(entries(w, plus(off, 1)));
-    let less = std::num::wrapping_sub_u32(one, 1);
-    let mut r = no_rows(t, c, depth, off);
-    r = change_place(r, d, b"no rows and no offsets", 0, 4, 0, 0);
-    r = change_place(r, d, b"no rows and one offset", 0, 4, one, 0);
-    r = change_place(r, d, b"no rows and a byte less", 0, 4, less, 12);
-    change_number(r, d, b"no rows and an offset past the data", s, off, 23, 12)
-}
-
-fn column_of_strings(depth: u8, off: usize, format: &[u8], w: u8) {
-    let mut c = above(depth);
-    let k = c.nodes;
-    c = lay_strings(c, format, w, off);
-    let t = strings(start(c), c, k, w, off);
-    finish(no_strings(t, c, depth, w, off), format, depth, off);
 }
 
 // ---- views
@@ -278,137 +163,6 @@ fn column_of_views(depth: u8, off: usize, format: &[u8]) {
     t = view_prefix(view_row(t, c, s, plus(off, 8)), c, s, plus(off, 8));
     t = view_free(view_buffers(t, c, k), c, s, off);
     finish(no_rows(t, c, depth, off), format, depth, off);
-}
-
-// ---- list-views
-
-// Row r begins at row r of the child and reaches up to its last one, row 10.
-fn list_row(t: Tally, c: Column, at: Slots, size: Slots, row: usize) -> Tally {
-    let over = std::num::wrapping_sub_u64(12, wide32(small(row)));
-    let next = wide32(small(plus(row, 1)));
-    let w = at.width;
-    let most = std::num::wrapping_sub_u64(negative(w), 1);
-    let mut r = change_number(t, c, b"offset is negative", at, row, negative(w), 12);
-    r = change_number(r, c, b"size is negative", size, row, negative(w), 12);
-    r = change_number(r, c, b"size is one too large", size, row, over, 12);
-    r = change_number(r, c, b"offset is one too large", at, row, next, 12);
-    r = change_number(r, c, b"offset is the largest", at, row, most, 12);
-    r = change_number(r, c, b"size is the largest", size, row, most, 12);
-    change_number(r, c, b"size is 0", size, row, 0, 0)
-}
-
-fn column_of_lists(depth: u8, off: usize, format: &[u8], w: u8) {
-    let mut c = above(depth);
-    let k = c.nodes;
-    c = third_null(rows(c, format, 1, off), off);
-    let list = b"\x00\x01\x02\x03\x04\x05\x06\x07\x08\x09\x0a";
-    c = numbers(c, 3, w, list, plus(off, 9));
-    let list = b"\x0b\x0a\x09\x08\x07\x06\x05\x04\x03\x02\x01";
-    c = numbers(c, 5, w, list, plus(off, 9));
-    c = numbers(node(c, b"C", 0, 11, 1), 3, 1, b"", 12);
-    let at = slots_of(c, k, 3, w);
-    let size = slots_of(c, k, 5, w);
-    let mut t = mask(any_node(start(c), c, k, off), c, k, 1);
-    t = whole_buffer(whole_buffer(t, c, k, 3), c, k, 5);
-    t = whole_buffer(t, c, plus(k, 1), 3);
-    t = list_row(t, c, at, size, off);
-    t = list_row(t, c, at, size, plus(off, 2));
-    t = list_row(t, c, at, size, plus(off, 4));
-    t = list_row(t, c, at, size, plus(off, 8));
-    t = change_length(t, c, b"child is one row shorter", plus(k, 1), 0, 10, 12);
-    if off != 0 {
-        t = change_number(t, c, b"negative before the offset", at, 0, negative(w), 0);
-    }
-    finish(no_rows(t, c, depth, off), format, depth, off);
-}
-
-// ---- unions
-
-// The ids are 5 and 7.
-fn union_format(t: Tally, c: Column, k: usize) -> Tally {
-    let mut r = change_letter(t, c, b"neither sparse nor dense", k, 2, b'x', 10);
-    r = change_letter(r, c, b"an id twice", k, 4, b'7', 10);
-    r = change_letter(r, c, b"no comma", k, 5, b';', 10);
-    r = change_letter(r, c, b"one id of three digits", k, 5, b'0', 10);
-    r = change_letter(r, c, b"no digit", k, 6, b'a', 10);
-    change_schema(r, c, b"one child", k, 3, 1, 10)
-}
-
-fn union_row(t: Tally, c: Column, ids: Slots, row: usize) -> Tally {
-    let r = change_number(t, c, b"id is not declared", ids, row, 6, 12);
-    change_number(r, c, b"id is negative", ids, row, 0x85, 12)
-}
-
-fn lay_ids(c: Column, format: &[u8], off: usize) -> Column {
-    let list = b"\x05\x07\x05\x07\x05\x07\x05\x07\x05\x07\x05";
-    numbers(rows(c, format, 2, off), 3, 1, list, plus(off, 9))
-}
-
-fn unions(t: Tally, c: Column, k: usize, off: usize) -> Tally {
-    let ids = slots_of(c, k, 3, 1);
-    let mut r = no_mask(any_node(t, c, k, off), c, k);
-    r = union_format(whole_buffer(r, c, k, 3), c, k);
-    r = union_row(r, c, ids, off);
-    r = union_row(r, c, ids, plus(off, 4));
-    r = union_row(r, c, ids, plus(off, 8));
-    r = whole_buffer(r, c, plus(k, 1), 3);
-    r = whole_buffer(r, c, plus(k, 2), 3);
-    if off != 0 {
-        r = change_number(r, c, b"unknown id before the offset", ids, 0, 6, 0);
-    }
-    r
-}
-
-// Each child is as long as offset and length.
-fn column_of_sparse(depth: u8, off: usize) {
-    let mut c = above(depth);
-    let k = c.nodes;
-    let n = plus(off, 9);
-    let long = wide32(small(n));
-    let less = wide32(small(plus(off, 8)));
-    c = lay_ids(c, b"+us:5,7", off);
-    c = numbers(node(c, b"C", 0, long, 2), 3, 1, b"", plus(n, 2));
-    c = numbers(node(c, b"s", 0, long, 0), 3, 2, b"", n);
-    let mut t = unions(start(c), c, k, off);
-    t = change_length(t, c, b"first child is a row short", plus(k, 1), 0, less, 12);
-    t = change_length(
-        t,
-        c,
-        b"second child is a row short",
-        plus(k, 2),
-        0,
-        less,
-        12,
-    );
-    finish(no_rows(t, c, depth, off), b"+us:5,7", depth, off);
-}
-
-fn dense_row(t: Tally, c: Column, at: Slots, row: usize) -> Tally {
-    let mut r = change_number(t, c, b"position is the length", at, row, 6, 12);
-    r = change_number(r, c, b"position is the last", at, row, 5, 0);
-    change_number(r, c, b"position is negative", at, row, negative(4), 12)
-}
-
-// Each child has 6 rows.
-fn column_of_dense(depth: u8, off: usize) {
-    let mut c = above(depth);
-    let k = c.nodes;
-    c = lay_ids(c, b"+ud:5,7", off);
-    let list = b"\x00\x00\x01\x01\x02\x02\x03\x03\x04\x04\x05";
-    c = numbers(c, 5, 4, list, plus(off, 9));
-    c = numbers(node(c, b"C", 0, 6, 1), 3, 1, b"", 7);
-    c = numbers(node(c, b"l", 0, 6, 0), 3, 8, b"", 6);
-    let at = slots_of(c, k, 5, 4);
-    let mut t = whole_buffer(unions(start(c), c, k, off), c, k, 5);
-    t = dense_row(t, c, at, off);
-    t = dense_row(t, c, at, plus(off, 4));
-    t = dense_row(t, c, at, plus(off, 8));
-    t = change_length(t, c, b"first child is too short", plus(k, 1), 0, 4, 12);
-    t = change_length(t, c, b"second child is too short", plus(k, 2), 0, 3, 12);
-    if off != 0 {
-        t = change_number(t, c, b"negative before the offset", at, 0, negative(4), 0);
-    }
-    finish(no_rows(t, c, depth, off), b"+ud:5,7", depth, off);
 }
 
 // ---- run ends
@@ -551,8 +305,10 @@ fn kinds(depth: u8, off: usize) {
     column_of_strings(depth, off, b"U", 8);
     column_of_views(depth, off, b"vz");
     column_of_views(depth, off, b"vu");
-    column_of_lists(depth, off, b"+vl", 4);
-    column_of_lists(depth, off, b"+vL", 8);
+    column_of_list_views(depth, off, b"+vl", 4);
+    column_of_list_views(depth, off, b"+vL", 8);
+    column_of_lists(depth, off, b"+l", 4);
+    column_of_lists(depth, off, b"+L", 8);
     column_of_sparse(depth, off);
     column_of_dense(depth, off);
     column_of_runs(depth, off, b"s", 2);

@@ -95,6 +95,8 @@ fn plain() {
     format(b"vu");
     format(b"+vl");
     format(b"+vL");
+    format(b"+l");
+    format(b"+L");
     format(b"+r");
 }
 
@@ -125,7 +127,7 @@ fn others() {
     // Formats that are not ported, and texts that are none.
     format(b"b");
     format(b"n");
-    format(b"+l");
+    format(b"+lx");
     format(b"+s");
     format(b"+us");
     format(b"+uz:1");

@@ -95,15 +95,6 @@ fn put_extended(e: utils::Extended) {
     end_line();
 }
 
-// Four rows of two bytes from row 3 on: a batch of offset 3.
-fn sliced() {
-    let body = b"\x64\x00\x65\x00\x66\x00\x67\x01\x68\x01\x69\x01\x6a\x01\x6b\x01";
-    let mut room = [0u8; 8];
-    primitive::extend(&mut room, 0, body, 0, 3, 4, 2);
-    io::write_all(1, b"sliced: ");
-    put_bytes(&room);
-}
-
 // K5 and K6.
 fn byte_strings() {
     let offsets = [0u8, 0, 0, 0, 3, 0, 0, 0, 3, 0, 0, 0, 7, 0, 0, 0];
@@ -168,10 +159,22 @@ fn keys() {
     put_bytes(&room);
     io::write_all(1, b"K10, signed: ");
     put_i8(number::read_i8(&room, 2));
-    put_i8(primitive::wrapping_add_i8(100, 100));
-    put_i16(primitive::wrapping_add_i16(-32768, -1));
-    put_i32(primitive::wrapping_add_i32(2147483647, 1));
-    put_i64(primitive::wrapping_add_i64(-5, 7));
+    primitive::extend_with_offset_i8(&mut room, 2, &body, 2, 1, 100);
+    put_i8(number::read_i8(&room, 2));
+    end_line();
+}
+
+// The smallest i16 plus -1, the largest i32 plus 1, and -5 plus 7.
+fn signed_keys() {
+    let body = b"\x00\x80\xff\xff\xff\x7f\xfb\xff\xff\xff\xff\xff\xff\xff";
+    let mut room = [0u8; 14];
+    primitive::extend_with_offset_i16(&mut room, 0, body, 0, 1, 65535);
+    primitive::extend_with_offset_i32(&mut room, 2, body, 2, 1, 1);
+    primitive::extend_with_offset_i64(&mut room, 6, body, 6, 1, 7);
+    io::write_all(1, b"signed keys: ");
+    put_i16(number::read_i16(&room, 0));
+    put_i32(number::read_i32(&room, 2));
+    put_i64(number::read_i64(&room, 6));
     end_line();
 }
 
@@ -219,7 +222,7 @@ fn signed() {
 
 fn nulls() {
     let mut room = [7u8; 12];
-    primitive::extend_nulls(&mut room, 2, 2, 4);
+    copy::fill_zeros(&mut room, 2, 8);
     io::write_all(1, b"nulls: ");
     put_bytes(&room);
     copy::fill_bytes(&mut room, 0, 3, 9);
@@ -271,12 +274,12 @@ fn long() {
 }
 
 fn main() {
-    sliced();
     byte_strings();
     large_byte_strings();
     largest();
     largest_large();
     keys();
+    signed_keys();
     wide_keys();
     views();
     signed();

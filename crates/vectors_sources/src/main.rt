@@ -125,10 +125,16 @@ fn both(t: Tally, what: &[u8], c: Column, ground: u8) -> Tally {
 }
 
 // A list-view of one row of one row.
-fn one_list(c: Column) -> Column {
+fn one_list_view(c: Column) -> Column {
     let mut d = node(c, b"+vl", 1, 1, 0);
     d = numbers(d, 3, 4, b"\x00", 1);
     d = numbers(d, 5, 4, b"\x01", 1);
+    numbers(node(d, b"C", 0, 1, 0), 3, 1, b"\x07", 1)
+}
+
+// A list of one row of one row.
+fn one_list(c: Column) -> Column {
+    let d = numbers(node(c, b"+l", 1, 1, 0), 3, 4, b"\x00\x01", 2);
     numbers(node(d, b"C", 0, 1, 0), 3, 1, b"\x07", 1)
 }
 
@@ -154,6 +160,25 @@ fn differing(t: Tally, c: Column) -> Tally {
     both(r, b"other dictionary", with_letter(keys, 3, b'c'), 11)
 }
 
+// Types of lists. The formats of two are +lC+lC.
+fn differing_lists(t: Tally) -> Tally {
+    let lists = one_list(one_list(no_column()));
+    let mut r = both(t, b"lists", lists, 0);
+    r = both(r, b"list of 8 bytes", with_letter(lists, 4, b'L'), 11);
+    r = both(
+        r,
+        b"list's child of another format",
+        with_letter(lists, 5, b'c'),
+        11,
+    );
+    both(
+        r,
+        b"list-view and list",
+        one_list(one_list_view(no_column())),
+        11,
+    )
+}
+
 // 9 comes before 10, 10 before 11, 11 before 12, whichever source has it.
 fn order(t: Tally, c: Column) -> Tally {
     let broken = set_place(c, 0, 4, 3);
@@ -173,13 +198,13 @@ fn order(t: Tally, c: Column) -> Tally {
 }
 
 fn several() {
-    let c = one_list(one_list(no_column()));
+    let c = one_list_view(one_list_view(no_column()));
     let mut t = both(no_changes(), b"sound", c, 0);
     t = judge(t, b"no source", 9, copies(c, 0));
     t = judge(t, b"one source", 0, copies(c, 1));
     t = judge(t, b"16 sources", 0, copies(c, 16));
     t = judge(t, b"17 sources", 9, copies(c, 17));
-    t = order(differing(t, c), c);
+    t = order(differing_lists(differing(t, c)), c);
     finish(t, b"sources", 1, 0);
 }
 

@@ -1,5 +1,5 @@
 -- The walk of a copy: a node hands rows to its children, whose walk does the same one level down. Assumes nothing.
--- Follows arrow-data 60.1.0 src/transform/mod.rs, list_view.rs, union.rs and run.rs, Apache-2.0; see NOTICE.
+-- Follows arrow-data 60.1.0 src/transform/mod.rs, list.rs, list_view.rs, union.rs and run.rs, Apache-2.0; see NOTICE.
 use mathlib.Core.Bool.{Bool, true, false, cond, _&&_, _||_}
 use mathlib.Core.List.{List, [], _∷_}
 use Prim.Native.Nat.{ℕ, zero, suc, _+_, _*_, _-_}
@@ -7,7 +7,11 @@ use lib.ListN.{length, take, drop, getD}
 use lib.Dec.{leb, ltb, eqb}
 use Rattle.number.specs.Number.{entry, encode}
 use Rattle.columnar.specs.Types.{half}
-use Rattle.formats.specs.Code.{isFixed, isString, isView, isListView}
+use Rattle.formats.specs.Code.{isFixed, isString, isView, isListView, isList}
+use Rattle.utils.specs.Offsets.{movedOffsets}
+use Rattle.utils.specs.Extension.{extended}
+use Rattle.utils.specs.declared.Extended.{Extended}
+use Rattle.utils.specs.declared.Extended.the-variants.{Fits, Over, Falls}
 use Rattle.run_ends.specs.Lookup.{foundRun, runsOf}
 use Rattle.run_ends.specs.Clip.{clipped}
 use Rattle.run_ends.specs.declared.Runs.{Runs}
@@ -31,7 +35,7 @@ isWidth w = eqb w 2 || eqb w 4 || eqb w 8
 
 -- "no validity buffer on a union or run-end node"
 abbrev pub masked : ℕ → Bool
-masked code = ltb code 19
+masked code = ltb code 21
 
 module _ (x : Join) (child : Walk) where
   -- ---- list-views: "each row's new offset is the child's length before its copy", 6 before the child
@@ -48,6 +52,27 @@ module _ (x : Join) (child : Walk) where
       need (ltb (suc i) 32) 12 c
       (need (rowsIn x (place x i 3) w slot n && rowsIn x (place x i 5) w slot n) 12 c
       (each (listViewRow w i slot) n 0 c))
+
+  -- ---- lists: "one child stretch to a copy, all its offsets (6) before that stretch"; the last offset is the child's rows
+
+  unfoldable pub putStretch : ℕ → ℕ → ℕ → ℕ → ℕ → ℕ → List ℕ → Out
+  putStretch w i from n last first c =
+      next (wrote (put i 1 (suc (rows c i) * w) (movedOffsets w (x .body) from (rows c (suc i)) n)) c)
+      (λ c2. child (suc i) first (last - rows c2 (suc i)) c2)
+
+  -- 12 where offsets fall, which no accepted source has
+  abbrev pub putList : ℕ → ℕ → ℕ → ℕ → Extended → List ℕ → Out
+  putList w i from n (Fits last first) c = putStretch w i from n last first c
+  putList w i from n (Over row needed) c = fail 6 c
+  putList w i from n Falls c = fail 12 c
+
+  -- a copy of no rows reads no offset, as that of a byte string
+  unfoldable pub copyList : ℕ → ℕ → ℕ → ℕ → List ℕ → Out
+  copyList w i slot n c =
+      cond (eqb n 0) (done c)
+      (need (ltb (suc i) 32) 12 c
+      (need (rowsIn x (place x i 3) w slot (suc n)) 12 c
+      (putList w i (place x i 3 + w * slot) n (extended w (x .body) (place x i 3 + w * slot) n (rows c (suc i))) c)))
 
   -- ---- sparse unions: "copies offset + start onward from all children"
 
@@ -121,10 +146,11 @@ module _ (x : Join) (child : Walk) where
       (cond (isString code) (copyString x i (bytesOf (x .state) i) slot n c)
       (cond (isView code) (copyViews x i slot n c)
       (cond (isListView code) (copyListView (bytesOf (x .state) i) i slot n c)
-      (cond (eqb code 19) (copySparse i slot n c)
-      (cond (eqb code 20) (copyDense i slot n c)
-      (cond (eqb code 21) (copyRuns i slot n c)
-      (fail 12 c)))))))
+      (cond (isList code) (copyList (bytesOf (x .state) i) i slot n c)
+      (cond (eqb code 21) (copySparse i slot n c)
+      (cond (eqb code 22) (copyDense i slot n c)
+      (cond (eqb code 23) (copyRuns i slot n c)
+      (fail 12 c))))))))
 
   -- validity, data, and the rows counted
   unfoldable pub copySlots : ℕ → ℕ → ℕ → List ℕ → Out

@@ -1,5 +1,5 @@
 -- The walk of an order of nulls. Assumes nothing.
--- Follows the `extend_nulls` of arrow-data 60.1.0 src/transform/mod.rs, list_view.rs, union.rs and run.rs, Apache-2.0; see NOTICE.
+-- Follows the `extend_nulls` of arrow-data 60.1.0 src/transform/mod.rs, list.rs, list_view.rs, union.rs and run.rs, Apache-2.0; see NOTICE.
 use mathlib.Core.Bool.{Bool, true, false, cond, _&&_}
 use mathlib.Core.List.{List, [], _∷_}
 use Prim.Native.Nat.{ℕ, zero, suc, _+_, _*_, _-_}
@@ -7,8 +7,8 @@ use lib.ListN.{length, replicate}
 use lib.Dec.{leb, ltb, eqb}
 use Rattle.number.specs.Number.{encode}
 use Rattle.columnar.specs.Types.{half}
-use Rattle.formats.specs.Code.{isFixed, isString, isView, isListView}
-use Rattle.utils.specs.Offsets.{countedUp}
+use Rattle.formats.specs.Code.{isFixed, isString, isView, isListView, isList}
+use Rattle.utils.specs.Offsets.{countedUp, repeated}
 use Rattle.walk.specs.State.{Join, codeOf, endOf, idOf, nullableOf, bytesOf, rows, addRows}
 use Rattle.walk.specs.Log.{Out, put, fail, done, wrote, need, found, next}
 use Rattle.walk.specs.Leaves.{nullMask, countNulls, nullNumbers, nullString}
@@ -31,6 +31,10 @@ module _ (x : Join) (child : NullWalk) where
   -- "A null is offset 0, size 0"
   unfoldable pub nullListView : ℕ → ℕ → ℕ → List ℕ → Out
   nullListView w i n c = next (nullNumbers x i 1 w n c) (λ c2. nullNumbers x i 2 w n c2)
+
+  -- "a null repeats the last offset", which is the child's rows
+  unfoldable pub nullList : ℕ → ℕ → ℕ → List ℕ → Out
+  nullList w i n c = need (ltb (suc i) 32) 12 c (wrote (put i 1 (suc (rows c i) * w) (repeated w (rows c (suc i)) n)) c)
 
   unfoldable pub nullFields : ℕ → ℕ → ℕ → ℕ → List ℕ → Out
   nullFields n end zero k c = done c
@@ -67,10 +71,11 @@ module _ (x : Join) (child : NullWalk) where
       (cond (isString code) (nullString x i (bytesOf (x .state) i) n c)
       (cond (isView code) (nullNumbers x i 1 16 n c)
       (cond (isListView code) (nullListView (bytesOf (x .state) i) i n c)
-      (cond (eqb code 19) (nullSparse i n c)
-      (cond (eqb code 20) (nullDense i n c)
-      (cond (eqb code 21) (nullRuns i n c)
-      (fail 12 c)))))))
+      (cond (isList code) (nullList (bytesOf (x .state) i) i n c)
+      (cond (eqb code 21) (nullSparse i n c)
+      (cond (eqb code 22) (nullDense i n c)
+      (cond (eqb code 23) (nullRuns i n c)
+      (fail 12 c))))))))
 
   -- "count 0 accepted" before anything else; then data, validity, and the rows counted
   unfoldable pub nullNode : ℕ → ℕ → List ℕ → Out

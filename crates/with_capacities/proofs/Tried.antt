@@ -4,9 +4,8 @@ use mathlib.Core.Bool.{_&&_}
 use mathlib.Core.List.{List}
 use Prim.Native.Nat.{ℕ, suc}
 use lib.Dec.{eqb}
-use Rattle.formats.specs.Code.{isString}
 use Rattle.walk.specs.State.{word, codeOf, dictionaryOf, lengthOf}
-use Rattle.parts.specs.Parts.{nodesOf, copied}
+use Rattle.parts.specs.Parts.{nodesOf, copied, hasOffsets}
 use Rattle.trying.specs.Alike.{Alike}
 use Rattle.trying.proofs.Near.{Near, near-done, near-wrote, near-cond, near-need, near-next, near-each, near-copy}
 use Rattle.orders.specs.Order.{Lent, joinOf, sourceCount}
@@ -15,7 +14,7 @@ use Rattle.opening.specs.Open.{firstOffset, joinSource, joinEntries, openDictio
 module _ (x : Lent) where
   near-offset : (i : ℕ) (c d : List ℕ) → Alike c d → Near (firstOffset x i c) (firstOffset x i d)
   unfolding firstOffset
-  near-offset i c d h = near-cond (isString (codeOf (x .plan) i) && copied (x .plan) i) (near-wrote _ _ h) (near-done h)
+  near-offset i c d h = near-cond (hasOffsets (codeOf (x .plan) i) && copied (x .plan) i) (near-wrote _ _ h) (near-done h)
 
   near-source : (i s : ℕ) (c d : List ℕ) → Alike c d → Near (joinSource x i s c) (joinSource x i s d)
   unfolding joinSource

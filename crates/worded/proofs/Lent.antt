@@ -7,11 +7,11 @@ use Prim.Native.Nat.{ℕ, suc, _+_, _<_}
 use native.Mathlib.Omega.{arith}
 use lib.ListN.{length, take, drop}
 use lib.Dec.{T, leb, eqb, leb→le}
-use Rattle.columnar.specs.Types.{Plain, fixed, string, Ty, tPlain, tView, tListView, tSparse, tDense, tRunEnd, tDictionary}
+use Rattle.columnar.specs.Types.{Plain, fixed, string, Ty, tPlain, tView, tListView, tList, tSparse, tDense, tRunEnd, tDictionary}
 use Rattle.columnar.proofs.Test.{every-out}
 use Rattle.array_data.specs.Tables.{Tables, lengthOf, offsetOf, place, validOf, firstBuffer, secondBuffer, arrayWith, held, inBody, validIn}
 use Rattle.array_data.specs.Rules.{oneIn, twoIn, buffersIn}
-use Rattle.array_data.specs.Typed.{NodeKind, fixedNode, stringNode, viewNode, listViewNode, sparseNode, denseNode, runEndNode, dictionaryNode, Tree, nodeOf, Is, MeansPlain, Means, tablesFrom, plainBody, bodyOf, columnOf, kindRule, nodeRule, sourceRule, placedAs}
+use Rattle.array_data.specs.Typed.{NodeKind, fixedNode, stringNode, viewNode, listViewNode, listNode, sparseNode, denseNode, runEndNode, dictionaryNode, Tree, nodeOf, Is, MeansPlain, Means, tablesFrom, plainBody, bodyOf, columnOf, kindRule, nodeRule, sourceRule, placedAs}
 use Rattle.lent.specs.Lent.{unionKind}
 use Rattle.sharing.proofs.Laws.{length-from, offset-from, place-from}
 use Rattle.walk.specs.State.{Join, far}
@@ -33,6 +33,7 @@ rule-placed t y (fixedNode m) i h = left (oneIn y i) _ h
 rule-placed t y (stringNode w) i h = left (twoIn y i) _ h
 rule-placed t y viewNode i h = left (oneIn y i && buffersIn y i) _ h
 rule-placed t y (listViewNode w) i h = left (twoIn y i) _ h
+rule-placed t y (listNode w) i h = left (oneIn y i) _ h
 rule-placed t y (sparseNode ids) i h = left (oneIn y i) _ h
 rule-placed t y (denseNode ids) i h = left (twoIn y i) _ h
 rule-placed t y (runEndNode w) i h = left (held y i && validIn y i) _ h
@@ -115,6 +116,9 @@ module _ (t : Tree) (x : Tables) (first : ℕ) (state parts : List ℕ) (s : ℕ
     lent-at (tListView w u) i h =
         let q = two-held i (placed-at (listViewNode w) i (h .0)) in
         node i (LentData order (tListView w u) i) (bodyOf t own (tListView w u) i) (h .0 .0) (q .0) (q .1, q .2, lent-at u (suc i) (h .1))
+    lent-at (tList w u) i h =
+        let q = one-held i (placed-at (listNode w) i (h .0)) in
+        node i (LentData order (tList w u) i) (bodyOf t own (tList w u) i) (h .0 .0) (q .0) (q .1, lent-at u (suc i) (h .1))
     lent-at (tSparse ids nullable f) i h =
         let q = one-held i (placed-at (sparseNode ids) i (h .0)) in
         node i (LentData order (tSparse ids nullable f) i) (bodyOf t own (tSparse ids nullable f) i) (h .0 .0) (q .0)

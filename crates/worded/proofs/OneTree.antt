@@ -6,7 +6,7 @@ use Prim.Native.Nat.{ℕ, zero, suc, _≤_}
 use native.Mathlib.Omega.{arith}
 use lib.Dec.{leb}
 use borrow.Author.Tests.{leb-true, leb-false}
-use Rattle.columnar.specs.Types.{Ty, tPlain, tView, tListView, tSparse, tDense, tRunEnd, tDictionary, fixed, string}
+use Rattle.columnar.specs.Types.{Ty, tPlain, tView, tListView, tList, tSparse, tDense, tRunEnd, tDictionary, fixed, string}
 use Rattle.schema.specs.Tree.{endOf, sameType}
 use Rattle.schema.proofs.Laws.{end-last}
 use Rattle.schema.proofs.Known.{same-size, same-node}
@@ -28,6 +28,7 @@ module _ (t t′ : Tree) (ends : (i : ℕ) → t .end i ≡ t′ .end i) (x : Ta
   body-as (tPlain (string w)) i = refl
   body-as tView i = refl
   body-as (tListView w u) i = ap (λ b. record { offsets = firstBuffer x i; sizes = secondBuffer x i; child = b }) (array-as u (suc i) (suc i) refl (body-as u (suc i)))
+  body-as (tList w u) i = ap (λ b. record { offsets = firstBuffer x i; child = b }) (array-as u (suc i) (suc i) refl (body-as u (suc i)))
   body-as (tSparse ids nullable f) i =
       ap (λ g. record { ids = firstBuffer x i; children = g })
       (fun-ext (λ c. array-as (f c) (nodeOf t i ids c) (nodeOf t′ i ids c) (child-at i (fieldOf ids c)) (body-as (f c) (nodeOf t′ i ids c))))

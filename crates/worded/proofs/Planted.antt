@@ -14,10 +14,10 @@ use Rattle.schema.specs.Tree.{flag, children, dictionary, below, endOf, childAt
 use Rattle.schema.proofs.Trees.{child-inside, children-end, end-after, end-inside}
 use Rattle.schema.proofs.Depth.{nested, child-before}
 use Rattle.schema.proofs.Known.{typed-whole, typed-shape, within-nodes, within-fields}
-use Rattle.array_data.specs.Typed.{NodeKind, fixedNode, stringNode, viewNode, listViewNode, sparseNode, denseNode, runEndNode, dictionaryNode, fieldOf, nodeOf}
+use Rattle.array_data.specs.Typed.{NodeKind, fixedNode, stringNode, viewNode, listViewNode, listNode, sparseNode, denseNode, runEndNode, dictionaryNode, fieldOf, nodeOf}
 use Rattle.lent.specs.Lent.{unionKind, kindAt, treeOf}
 use Rattle.lent.proofs.Ids.{cond-yes, cond-no, field-in}
-use Rattle.lent.proofs.Shaped.{Shaped, of-plain, of-view, of-list, of-sparse, of-dense, of-run, of-dictionary, shaped}
+use Rattle.lent.proofs.Shaped.{Shaped, of-plain, of-view, of-list, of-lists, of-sparse, of-dense, of-run, of-dictionary, shaped}
 use Rattle.lent.proofs.Lent.{child-same, first-child}
 use Rattle.node_table.specs.Words.{childId}
 use Rattle.node_table.proofs.Laws.{zeroth, first-word, second-word, third-word, fourth-word}
@@ -43,6 +43,7 @@ module _ (formats schema : List ℕ) (first i : ℕ) where
   Union (stringNode w) = Unit {0}
   Union viewNode = Unit {0}
   Union (listViewNode w) = Unit {0}
+  Union (listNode w) = Unit {0}
   Union (sparseNode ids) = (below schema first i ≡ length ids) × Ids ids × (dictionary schema first i ≡ 0)
   Union (denseNode ids) = (below schema first i ≡ length ids) × Ids ids × (dictionary schema first i ≡ 0)
   Union (runEndNode w) = Unit {0}
@@ -53,6 +54,7 @@ module _ (formats schema : List ℕ) (first i : ℕ) where
   union-of (of-plain (string v) e z d) = subst Union (sym e) tt
   union-of (of-view e z) = subst Union (sym e) tt
   union-of (of-list v e z d) = subst Union (sym e) tt
+  union-of (of-lists v e z d) = subst Union (sym e) tt
   union-of (of-sparse ids e z d o) = subst Union (sym e) (z, d, eqb-true (dictionary schema first i) 0 o)
   union-of (of-dense ids e z d o) = subst Union (sym e) (z, d, eqb-true (dictionary schema first i) 0 o)
   union-of (of-run m e z e1 z1 d) = subst Union (sym e) tt

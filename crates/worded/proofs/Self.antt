@@ -7,7 +7,7 @@ use Prim.Native.Nat.{ℕ, suc, _≤_}
 use native.Mathlib.Omega.{arith}
 use lib.Dec.{eqb}
 use borrow.Author.Tests.{eq-eqb, ne-eqb}
-use Rattle.formats.specs.Code.{same, isInteger, isFixed, isString, isView, isListView, isUnion, isRunEnd}
+use Rattle.formats.specs.Code.{same, isInteger, isFixed, isString, isView, isListView, isList, isUnion, isRunEnd}
 use Rattle.format_ids.specs.Ids.{sameIds}
 use Rattle.schema.specs.Tree.{flag, children, dictionary, bare, childForEach, isValues, codeOf, idsOf, valuesShape, endsShape, leafShape, keysShape, listShape, unionShape, runShape, shape, typed, sameFlag, sameFormats, sameNode, sameType}
 use Rattle.schema.proofs.Laws.{all-same}
@@ -26,6 +26,11 @@ leaf-top z false true v a b c h = omega (arith, between-top 11 14 z b)
 leaf-top z false false true a b c h = omega (arith, between-top 15 16 z c)
 leaf-top z false false false a b c h = absurd (false≢true h)
 
+list-top : (z : ℕ) (l o : Bool) → isListView z ≡ l → isList z ≡ o → l || o ≡ true → z ≤ 20
+list-top z true o a b h = omega (arith, between-top 17 18 z a)
+list-top z false true a b h = omega (arith, between-top 19 20 z b)
+list-top z false false a b h = absurd (false≢true h)
+
 module _ (formats schema : List ℕ) (first i : ℕ) where
   abbrev code : ℕ
   code = codeOf formats schema first i
@@ -36,8 +41,8 @@ module _ (formats schema : List ℕ) (first i : ℕ) where
   has-ids : shape formats schema first i ≡ true → isUnion code ≡ true → childForEach schema first ids i ≡ true
   unfolding shape leafShape keysShape listShape unionShape runShape
   has-ids h u =
-      let low = between-low 19 20 code u in
-      let top = between-top 19 20 code u in
+      let low = between-low 21 22 code u in
+      let top = between-top 21 22 code u in
       five formats schema first
       (leafShape formats schema first i)
       (keysShape formats schema first i)
@@ -49,13 +54,13 @@ module _ (formats schema : List ℕ) (first i : ℕ) where
       (λ e. let a = both (isInteger code && eqb (children schema first i) 0 && eqb (dictionary schema first i) 1) (valuesShape formats schema first (suc i)) e .0 in
       let b = both (isInteger code && eqb (children schema first i) 0) (eqb (dictionary schema first i) 1) a .0 in
       absurd (omega (arith, between-top 1 8 code (both (isInteger code) (eqb (children schema first i) 0) b .0))))
-      (λ e. let a = both (isListView code && eqb (children schema first i) 1) (eqb (dictionary schema first i) 0) e .0 in
-      absurd (omega (arith, between-top 17 18 code (both (isListView code) (eqb (children schema first i) 1) a .0))))
+      (λ e. let a = both ((isListView code || isList code) && eqb (children schema first i) 1) (eqb (dictionary schema first i) 0) e .0 in
+      absurd (omega (arith, list-top code (isListView code) (isList code) refl refl (both (isListView code || isList code) (eqb (children schema first i) 1) a .0))))
       (λ e. let a = both (isUnion code && childForEach schema first ids i) (eqb (dictionary schema first i) 0) e .0 in
       both (isUnion code) (childForEach schema first ids i) a .1)
       (λ e. let a = both (isRunEnd code && eqb (children schema first i) 2 && eqb (dictionary schema first i) 0) (endsShape formats schema first (suc i)) e .0 in
       let b = both (isRunEnd code && eqb (children schema first i) 2) (eqb (dictionary schema first i) 0) a .0 in
-      absurd (omega (arith, between-low 21 21 code (both (isRunEnd code) (eqb (children schema first i) 2) b .0))))
+      absurd (omega (arith, between-low 23 23 code (both (isRunEnd code) (eqb (children schema first i) 2) b .0))))
 
   ids-self : (o : Option (List ℕ)) → childForEach schema first o i ≡ true → sameIds o o ≡ true
   ids-self none h = absurd (false≢true h)

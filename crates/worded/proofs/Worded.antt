@@ -9,7 +9,7 @@ use lib.Dec.{eqb}
 use borrow.Author.Tests.{eqb-false}
 use Rattle.columnar.specs.Types.{width, fixed, string}
 use Rattle.columnar.specs.Formed.{RunWidth, two, four, eight}
-use Rattle.formats.specs.Code.{isFixed, isString, isView, isListView, widthOf}
+use Rattle.formats.specs.Code.{isFixed, isString, isView, isListView, isList, widthOf}
 use Rattle.schema.specs.Tree.{dictionary, below, endOf, childAt, depth, codeOf, idsOf, ceilings, typed}
 use Rattle.schema.proofs.Trees.{child-inside, children-end, end-after}
 use Rattle.schema.proofs.Depth.{child-depth}
@@ -17,7 +17,7 @@ use Rattle.schema.proofs.Known.{typed-whole, typed-shape, within-depth}
 use Rattle.array_data.specs.Typed.{NodeKind, Tree, fieldOf, nodeOf}
 use Rattle.lent.specs.Lent.{kindAt, treeOf, tyAs, tyOf, typeOf}
 use Rattle.lent.proofs.Ids.{field-in}
-use Rattle.lent.proofs.Shaped.{Shaped, of-plain, of-view, of-list, of-sparse, of-dense, of-run, of-dictionary, shaped}
+use Rattle.lent.proofs.Shaped.{Shaped, of-plain, of-view, of-list, of-lists, of-sparse, of-dense, of-run, of-dictionary, shaped}
 use Rattle.lent.proofs.Lent.{child-same, first-child, second-child, some-node, root}
 use Rattle.walk.specs.Copy.{isWidth}
 use Rattle.link.specs.Holds.{Worded}
@@ -96,6 +96,11 @@ module _ (formats schema : List ℕ) (first n : ℕ) (state : List ℕ)
         let one : below schema first i ≡ 1 = z in
         subst Here (sym e)
         (small, ends-with i (suc i) l (next-in i l (omega arith)) (ap (childAt schema first n i) one), as-code isListView i l (k .0), as-bytes i v l (k .1), kid 0 (omega arith))
+    worded-by (of-lists v e z d) kid =
+        let k = known i l _ e in
+        let one : below schema first i ≡ 1 = z in
+        subst Here (sym e)
+        (small, ends-with i (suc i) l (next-in i l (omega arith)) (ap (childAt schema first n i) one), as-code isList i l (k .0), as-bytes i v l (k .1), kid 0 (omega arith))
     worded-by (of-sparse ids e z d o) kid =
         let k = known i l _ e in
         subst Here (sym e) (

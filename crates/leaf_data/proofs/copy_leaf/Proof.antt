@@ -35,7 +35,7 @@ returns c =
 copy-keys-requires : tie.Need-copy-keys-requires
 copy-keys-requires c κs =
     let a = c .before .before .before .before .before .before .before .before .before .before .before .before .before .args in
-    (search needs, fixed-wide (a .state .now) (a .i) (c .before .before .before .before .before .before .before .code-of .ensures) (c .before .before .before .before .before .before .width-at .ensures) (c .before .before .before .before .before .is-fixed .ensures) (c .before .before .before .before .if1 .taken))
+    (search needs, (fixed-wide (a .state .now) (a .i) (c .before .before .before .before .before .before .before .code-of .ensures) (c .before .before .before .before .before .before .width-at .ensures) (c .before .before .before .before .before .is-fixed .ensures) (c .before .before .before .before .if1 .taken), c .before .before .before .before .before .before .width-at .ensures))
 
 same-length-2 : tie.Need-same-length-2
 same-length-2 c = search needs

@@ -2,7 +2,7 @@
 use native.Mathlib.Omega.{arith}
 use Rattle.puts.proofs.Bytes.{width-in}
 use Rattle.leaf_walk.specs.Join.{join}
-use Rattle.leaf_data.proofs.Laws.{fixed-wide, string-wide, list-wide, on-numbers, on-string, on-views, on-list-view, on-none}
+use Rattle.leaf_data.proofs.Laws.{fixed-wide, string-wide, list-wide, lists-wide, on-numbers, on-string, on-views, on-list-view, on-list, on-none}
 use borrow.Author.Needs.{needs}
 use Rattle.leaf_data.proofs.null_leaf.Statement.{statement}
 use Rattle.leaf_data.proofs.null_leaf.Tie as tie
@@ -75,10 +75,26 @@ returns-4 c =
     let a = c .before .before .before .before .before .before .before .before .before .before .before .before .before .before .before .before .before .before .args in
     λ lengths places body first source child. on-list-view (join (a .state .now) (a .parts .now) lengths places body first source) child (a .write) (a .i) (a .n) (a .counts .now) (a .room .now) (c .before .before .before .before .before .before .before .before .before .before .before .before .before .before .code-of .ensures) (c .before .before .before .before .before .before .before .before .before .before .before .before .before .width-at .ensures) (c .before .before .before .before .before .before .before .before .before .before .before .before .is-fixed .ensures) (c .before .before .before .before .before .before .before .before .before .before .before .if1 .left) (c .before .before .before .before .before .before .before .before .before .before .is-string .ensures) (c .before .before .before .before .before .before .before .before .before .if2 .left) (c .before .before .before .before .before .before .before .before .is-view .ensures) (c .before .before .before .before .before .before .before .if3 .left) (c .before .before .before .before .before .before .is-list-view .ensures) (c .before .before .before .before .before .if4 .taken) (c .before .before .null-list-view .ensures lengths places body first source child)
 
+is-list-requires : tie.Need-is-list-requires
+is-list-requires c κs = search needs
+
+null-list-requires : tie.Need-null-list-requires
+null-list-requires c κs =
+    let a = c .before .before .before .before .before .before .before .before .before .before .before .before .before .before .before .before .before .args in
+    (search needs, lists-wide (a .state .now) (a .i) (c .before .before .before .before .before .before .before .before .before .before .before .before .before .code-of .ensures) (c .before .before .before .before .before .before .before .before .before .before .before .before .width-at .ensures) (c .before .before .before .is-list .ensures) (c .before .before .if5 .taken))
+
+same-length-5 : tie.Need-same-length-5
+same-length-5 c = search needs
+
 returns-5 : tie.Need-returns-5
 returns-5 c =
-    let a = c .before .before .before .before .before .before .before .before .before .before .before .before .before .args in
-    λ lengths places body first source child. on-none (join (a .state .now) (a .parts .now) lengths places body first source) child (a .write) (a .i) (a .n) (a .counts .now) (a .room .now) (c .before .before .before .before .before .before .before .before .before .code-of .ensures) (c .before .before .before .before .before .before .before .before .width-at .ensures) (c .before .before .before .before .before .before .before .is-fixed .ensures) (c .before .before .before .before .before .before .if1 .left) (c .before .before .before .before .before .is-string .ensures) (c .before .before .before .before .if2 .left) (c .before .before .before .is-view .ensures) (c .before .before .if3 .left) (c .before .is-list-view .ensures) (c .if4 .left) (c .before .before .before .before .before .before .before .before .before .before .before .before .before .pre .1)
+    let a = c .before .before .before .before .before .before .before .before .before .before .before .before .before .before .before .before .before .before .before .before .args in
+    λ lengths places body first source child. on-list (join (a .state .now) (a .parts .now) lengths places body first source) child (a .write) (a .i) (a .n) (a .counts .now) (a .room .now) (c .before .before .before .before .before .before .before .before .before .before .before .before .before .before .before .before .code-of .ensures) (c .before .before .before .before .before .before .before .before .before .before .before .before .before .before .before .width-at .ensures) (c .before .before .before .before .before .before .before .before .before .before .before .before .before .before .is-fixed .ensures) (c .before .before .before .before .before .before .before .before .before .before .before .before .before .if1 .left) (c .before .before .before .before .before .before .before .before .before .before .before .before .is-string .ensures) (c .before .before .before .before .before .before .before .before .before .before .before .if2 .left) (c .before .before .before .before .before .before .before .before .before .before .is-view .ensures) (c .before .before .before .before .before .before .before .before .before .if3 .left) (c .before .before .before .before .before .before .before .before .is-list-view .ensures) (c .before .before .before .before .before .before .before .if4 .left) (c .before .before .before .before .before .before .is-list .ensures) (c .before .before .before .before .before .if5 .taken) (c .before .before .null-list .ensures lengths places body first source child)
+
+returns-6 : tie.Need-returns-6
+returns-6 c =
+    let a = c .before .before .before .before .before .before .before .before .before .before .before .before .before .before .before .args in
+    λ lengths places body first source child. on-none (join (a .state .now) (a .parts .now) lengths places body first source) child (a .write) (a .i) (a .n) (a .counts .now) (a .room .now) (c .before .before .before .before .before .before .before .before .before .before .before .code-of .ensures) (c .before .before .before .before .before .before .before .before .before .before .width-at .ensures) (c .before .before .before .before .before .before .before .before .before .is-fixed .ensures) (c .before .before .before .before .before .before .before .before .if1 .left) (c .before .before .before .before .before .before .before .is-string .ensures) (c .before .before .before .before .before .before .if2 .left) (c .before .before .before .before .before .is-view .ensures) (c .before .before .before .before .if3 .left) (c .before .before .before .is-list-view .ensures) (c .before .before .if4 .left) (c .before .is-list .ensures) (c .if5 .left) (c .before .before .before .before .before .before .before .before .before .before .before .before .before .before .before .pre .1)
 
 pub null-leaf-spec : {M : Type 1} → statement M
-null-leaf-spec = tie.close (tie.spec code-of-requires width-at-requires is-fixed-requires null-numbers-requires same-length returns is-string-requires null-string-requires same-length-2 returns-2 is-view-requires null-numbers-requires-2 same-length-3 returns-3 is-list-view-requires null-list-view-requires same-length-4 returns-4 returns-5)
+null-leaf-spec = tie.close (tie.spec code-of-requires width-at-requires is-fixed-requires null-numbers-requires same-length returns is-string-requires null-string-requires same-length-2 returns-2 is-view-requires null-numbers-requires-2 same-length-3 returns-3 is-list-view-requires null-list-view-requires same-length-4 returns-4 is-list-requires null-list-requires same-length-5 returns-5 returns-6)

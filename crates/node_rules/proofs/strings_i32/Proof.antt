@@ -65,6 +65,9 @@ read-u32-requires c κs =
     let h : (a .off + a .len + 1) * 4 ≤ a .size = leb-true _ _ (yes (c .before .before .before .rows-fit .ensures) (c .before .before .if2 .left)) in
     omega arith
 
+cast-result : tie.Need-cast-result
+cast-result c = search needs
+
 returns-4 : tie.Need-returns-4
 unfolding stringRows
 returns-4 c = rw (ne-eqb (c .before .before .before .before .before .before .before .args .size) 0 (c .before .before .before .before .before .if1 .left), yes (c .before .before .before .before .rows-fit .ensures) (c .before .before .before .if2 .left), yes (c .before .before .offsets-i32 .ensures) (c .before .if3 .left)) (cc)
@@ -85,4 +88,5 @@ strings-i32-spec =
     mul-read-u32
     add-read-u32
     read-u32-requires
+    cast-result
     returns-4)

@@ -10,6 +10,9 @@ code-of-requires c κs = search needs
 is-list-view-requires : tie.Need-is-list-view-requires
 is-list-view-requires c κs = search needs
 
+is-list-requires : tie.Need-is-list-requires
+is-list-requires c κs = search needs
+
 children-of-requires : tie.Need-children-of-requires
 children-of-requires c κs = search needs
 
@@ -26,6 +29,7 @@ is-list-spec =
     (tie.spec
     code-of-requires
     is-list-view-requires
+    is-list-requires
     children-of-requires
     dictionary-of-requires
     returns)

@@ -3,7 +3,7 @@ use mathlib.Core.Path.{_≡_, sym, ap, _∙_}
 use native.Mathlib.Omega.{arith}
 use Rattle.lent_entries.specs.Entries.{column}
 use Rattle.slot_reader.proofs.Codes.{range}
-use Rattle.slot_reader.proofs.Laws.{slot-fixed, slot-string, slot-view, slot-list, slot-none}
+use Rattle.slot_reader.proofs.Laws.{slot-fixed, slot-string, slot-view, slot-list-view, slot-list, slot-none}
 use borrow.Author.Needs.{needs}
 use Rattle.slot_reader.proofs.read_slot.Statement.{statement}
 use Rattle.slot_reader.proofs.read_slot.Tie as tie
@@ -58,20 +58,35 @@ is-list-view-requires c κs = search needs
 width-of-requires-2 : tie.Need-width-of-requires-2
 width-of-requires-2 c κs = search needs
 
-read-list-requires : tie.Need-read-list-requires
-read-list-requires c κs = search needs
+read-list-view-requires : tie.Need-read-list-view-requires
+read-list-view-requires c κs = search needs
 
 returns-4 : tie.Need-returns-4
 returns-4 c =
     let z = c .before .before .before .before .before .before .before .before .before .before .before .before .before .before .before .before .args in
     let y = column (z .lengths .now) (z .places .now) (z .buffers .now) (z .body .now) (z .first) in
-    c .read-list .ensures ∙ slot-list (z .tree .now) y (z .i) _ (c .before .before .before .before .before .before .before .before .before .before .code-word .ensures) (z .slot) _ (sym (c .before .before .before .is-list-view .ensures) ∙ c .before .before .if4 .taken) (c .before .width-of2 .ensures)
+    c .read-list-view .ensures ∙ slot-list-view (z .tree .now) y (z .i) _ (c .before .before .before .before .before .before .before .before .before .before .code-word .ensures) (z .slot) _ (sym (c .before .before .before .is-list-view .ensures) ∙ c .before .before .if4 .taken) (c .before .width-of2 .ensures)
+
+is-list-requires : tie.Need-is-list-requires
+is-list-requires c κs = search needs
+
+width-of-requires-3 : tie.Need-width-of-requires-3
+width-of-requires-3 c κs = search needs
+
+read-list-requires : tie.Need-read-list-requires
+read-list-requires c κs = search needs
 
 returns-5 : tie.Need-returns-5
 returns-5 c =
-    let z = c .before .before .before .before .before .before .before .before .before .before .before .before .before .before .args in
+    let z = c .before .before .before .before .before .before .before .before .before .before .before .before .before .before .before .before .before .before .args in
     let y = column (z .lengths .now) (z .places .now) (z .buffers .now) (z .body .now) (z .first) in
-    slot-none (z .tree .now) y (z .i) _ (c .before .before .before .before .before .before .before .before .code-word .ensures) (z .slot) (sym (c .before .before .before .before .before .before .before .is-fixed .ensures) ∙ c .before .before .before .before .before .before .if1 .left) (sym (c .before .before .before .before .before .is-string .ensures) ∙ c .before .before .before .before .if2 .left) (sym (c .before .before .before .is-view .ensures) ∙ c .before .before .if3 .left) (sym (c .before .is-list-view .ensures) ∙ c .if4 .left)
+    c .read-list .ensures ∙ slot-list (z .tree .now) y (z .i) _ (c .before .before .before .before .before .before .before .before .before .before .before .before .code-word .ensures) (z .slot) _ (sym (c .before .before .before .is-list .ensures) ∙ c .before .before .if5 .taken) (c .before .width-of3 .ensures)
+
+returns-6 : tie.Need-returns-6
+returns-6 c =
+    let z = c .before .before .before .before .before .before .before .before .before .before .before .before .before .before .before .before .args in
+    let y = column (z .lengths .now) (z .places .now) (z .buffers .now) (z .body .now) (z .first) in
+    slot-none (z .tree .now) y (z .i) _ (c .before .before .before .before .before .before .before .before .before .before .code-word .ensures) (z .slot) (sym (c .before .before .before .before .before .before .before .before .before .is-fixed .ensures) ∙ c .before .before .before .before .before .before .before .before .if1 .left) (sym (c .before .before .before .before .before .before .before .is-string .ensures) ∙ c .before .before .before .before .before .before .if2 .left) (sym (c .before .before .before .before .before .is-view .ensures) ∙ c .before .before .before .before .if3 .left) (sym (c .before .before .before .is-list-view .ensures) ∙ c .before .before .if4 .left) (sym (c .before .is-list .ensures) ∙ c .if5 .left)
 
 pub read-slot-spec : {M : Type 1} → statement M
 read-slot-spec =
@@ -90,6 +105,10 @@ read-slot-spec =
     returns-3
     is-list-view-requires
     width-of-requires-2
-    read-list-requires
+    read-list-view-requires
     returns-4
-    returns-5)
+    is-list-requires
+    width-of-requires-3
+    read-list-requires
+    returns-5
+    returns-6)

@@ -6,7 +6,8 @@ use native.Mathlib.Numerals.{add-one}
 use native.Mathlib.Omega.{arith}
 use Rattle.array_data.specs.Tables.{part, place, secondBuffer}
 use Rattle.lent_entries.specs.Entries.{column, entryIn}
-use Rattle.slot_reader.proofs.Laws.{entry-small, spanned-first, spanned-second, spanned-both}
+use Rattle.slot_reader.proofs.Laws.{entry-small, both-first, both-second, both-held}
+use Rattle.slot_reader.specs.Slots.{stretchIn}
 use borrow.Author.Needs.{needs}
 use Rattle.slot_reader.proofs.read_string.Statement.{statement}
 use Rattle.slot_reader.proofs.read_string.Tie as tie
@@ -30,7 +31,7 @@ returns : tie.Need-returns
 returns c =
     let z = c .before .before .before .before .before .before .before .args in
     let s = part (z .body .now) (c .before .before .before .before .place-at .result) (c .before .before .before .place-at2 .result) in
-    rw (← c .before .before .before .before .place-at .ensures, ← c .before .before .before .place-at2 .ensures) (spanned-first _ _ (entryIn (z .w) s (z .slot)) (entryIn (z .w) s (suc (z .slot))) (sym (c .before .before .read-entry .ensures) ∙ c .enum-told .given .1))
+    rw (← c .before .before .before .before .place-at .ensures, ← c .before .before .before .place-at2 .ensures) (both-first _ (entryIn (z .w) s (z .slot)) (entryIn (z .w) s (suc (z .slot))) (sym (c .before .before .read-entry .ensures) ∙ c .enum-told .given .1))
 
 add-read-entry : tie.Need-add-read-entry
 add-read-entry c =
@@ -50,7 +51,7 @@ returns-2 : tie.Need-returns-2
 returns-2 c =
     let z = c .before .before .before .before .before .before .before .before .before .before .before .args in
     let s = part (z .body .now) (c .before .before .before .before .before .before .before .before .place-at .result) (c .before .before .before .before .before .before .before .place-at2 .result) in
-    rw (← c .before .before .before .before .before .before .before .before .place-at .ensures, ← c .before .before .before .before .before .before .before .place-at2 .ensures) (spanned-second _ _ (entryIn (z .w) s (z .slot)) (entryIn (z .w) s (suc (z .slot))) _ (sym (c .before .before .before .before .before .before .read-entry .ensures) ∙ c .before .before .before .before .a .given .1) (ap (entryIn (z .w) s) (sym (add-one (z .slot))) ∙ sym (c .before .before .read-entry2 .ensures) ∙ c .enum-told2 .given .1))
+    rw (← c .before .before .before .before .before .before .before .before .place-at .ensures, ← c .before .before .before .before .before .before .before .place-at2 .ensures) (both-second _ (entryIn (z .w) s (z .slot)) (entryIn (z .w) s (suc (z .slot))) _ (sym (c .before .before .before .before .before .before .read-entry .ensures) ∙ c .before .before .before .before .a .given .1) (ap (entryIn (z .w) s) (sym (add-one (z .slot))) ∙ sym (c .before .before .read-entry2 .ensures) ∙ c .enum-told2 .given .1))
 
 place-at-requires-3 : tie.Need-place-at-requires-3
 place-at-requires-3 c κs = search needs
@@ -65,7 +66,7 @@ returns-3 : tie.Need-returns-3
 returns-3 c =
     let z = c .before .before .before .before .before .before .before .before .before .before .before .before .before .before .before .args in
     let s = part (z .body .now) (c .before .before .before .before .before .before .before .before .before .before .before .before .place-at .result) (c .before .before .before .before .before .before .before .before .before .before .before .place-at2 .result) in
-    rw (← c .before .before .before .before .before .before .before .before .before .before .before .before .place-at .ensures, ← c .before .before .before .before .before .before .before .before .before .before .before .place-at2 .ensures, ← c .before .before .place-at3 .ensures, ← c .before .place-at4 .ensures) (c .read-stretch .ensures ∙ spanned-both (c .before .before .place-at3 .result) (part (z .body .now) (c .before .before .place-at3 .result) (c .before .place-at4 .result)) (entryIn (z .w) s (z .slot)) (entryIn (z .w) s (suc (z .slot))) _ _ (sym (c .before .before .before .before .before .before .before .before .before .before .read-entry .ensures) ∙ c .before .before .before .before .before .before .before .before .a .given .1) (ap (entryIn (z .w) s) (sym (add-one (z .slot))) ∙ sym (c .before .before .before .before .before .before .read-entry2 .ensures) ∙ c .before .before .before .before .b .given .1))
+    rw (← c .before .before .before .before .before .before .before .before .before .before .before .before .place-at .ensures, ← c .before .before .before .before .before .before .before .before .before .before .before .place-at2 .ensures, ← c .before .before .place-at3 .ensures, ← c .before .place-at4 .ensures) (c .read-stretch .ensures ∙ both-held (stretchIn (c .before .before .place-at3 .result) (part (z .body .now) (c .before .before .place-at3 .result) (c .before .place-at4 .result))) (entryIn (z .w) s (z .slot)) (entryIn (z .w) s (suc (z .slot))) _ _ (sym (c .before .before .before .before .before .before .before .before .before .before .read-entry .ensures) ∙ c .before .before .before .before .before .before .before .before .a .given .1) (ap (entryIn (z .w) s) (sym (add-one (z .slot))) ∙ sym (c .before .before .before .before .before .before .read-entry2 .ensures) ∙ c .before .before .before .before .b .given .1))
 
 pub read-string-spec : {M : Type 1} → statement M
 read-string-spec =

@@ -7,13 +7,13 @@ use native.Mathlib.Numerals.{add-one}
 use native.Mathlib.Nat.{add-suc}
 use lib.Dec.{eqb}
 use Rattle.columnar.specs.Formed.{RunWidth}
-use Rattle.formats.specs.Code.{isFixed, isString, isView, isListView, isUnion, isRunEnd, widthOf}
+use Rattle.formats.specs.Code.{isFixed, isString, isList, isView, isListView, isUnion, isSparse, isRunEnd, widthOf}
 use Rattle.schema.specs.Tree.{codeOf}
 use Rattle.schema.proofs.Known.{typed-shape}
-use Rattle.array_data.specs.Rules.{stringRule, listViewRule, runEndRule}
+use Rattle.array_data.specs.Rules.{stringRule, listViewRule, listRule, runEndRule}
 use Rattle.lent_tables.specs.Lent.{tables, Counted}
 use Rattle.kind_rules.specs.Rows.{tablesOf}
-use Rattle.source_rules.proofs.Node.{told, string-widths, list-widths, counted-as, ready-as, number-as, number-last, string-node, view-node, list-view-node, run-end-node, list-left, runs, ends-inside}
+use Rattle.source_rules.proofs.Node.{told, string-widths, list-widths, lists-widths, counted-as, ready-as, number-as, number-last, string-node, view-node, list-view-node, list-node, run-end-node, list-left, runs, ends-inside}
 use borrow.Author.Needs.{needs}
 use Rattle.source_rules.proofs.node_ok.Statement.{statement}
 use Rattle.source_rules.proofs.node_ok.Tie as tie
@@ -62,16 +62,19 @@ returns-2 c =
 is-union-requires : tie.Need-is-union-requires
 is-union-requires c κs = search needs
 
+is-sparse-requires : tie.Need-is-sparse-requires
+is-sparse-requires c κs = search needs
+
 union-ok-requires : tie.Need-union-ok-requires
 union-ok-requires c κs =
-    let z = c .before .before .before .before .before .before .before .before .before .before .before .before .before .args in
-    let h = c .before .before .before .before .before .before .before .before .before .before .before .before .before .pre in
+    let z = c .before .before .before .before .before .before .before .before .before .before .before .before .before .before .args in
+    let h = c .before .before .before .before .before .before .before .before .before .before .before .before .before .before .pre in
     let x = tablesOf (z .lengths .now) (z .places .now) (z .buffers .now) (z .body .now) in
     let y = tables (z .lengths .now) (z .places .now) (z .body .now) in
-    (ready-as (z .formats .now) (z .schema .now) x y (z .first) (z .n) refl (h .0), h .1, (told isUnion _ (c .before .before .before .before .before .before .code-of .ensures) (c .before .is-union .ensures) (c .if3 .taken)), ap (λ k. eqb k 19) (c .before .before .before .before .before .before .code-of .ensures))
+    (ready-as (z .formats .now) (z .schema .now) x y (z .first) (z .n) refl (h .0), h .1, (told isUnion _ (c .before .before .before .before .before .before .before .code-of .ensures) (c .before .before .is-union .ensures) (c .before .if3 .taken)), c .is-sparse .ensures ∙ ap isSparse (c .before .before .before .before .before .before .before .code-of .ensures))
 
 returns-3 : tie.Need-returns-3
-returns-3 c = c .union-ok .ensures (c .before .before .before .before .before .before .before .before .before .before .before .before .before .before .args .buffers .now)
+returns-3 c = c .union-ok .ensures (c .before .before .before .before .before .before .before .before .before .before .before .before .before .before .before .args .buffers .now)
 
 is-run-end-requires : tie.Need-is-run-end-requires
 is-run-end-requires c κs = search needs
@@ -133,25 +136,46 @@ returns-5 c =
     let y = tables (z .lengths .now) (z .places .now) (z .body .now) in
     c .string-ok .ensures ∙ ap (stringRule y (z .first + z .i)) (c .before .before .before .width-of2 .ensures ∙ ap widthOf (c .before .before .before .before .before .before .before .before .before .before .before .before .code-of .ensures)) ∙ sym (string-node (z .formats .now) (z .schema .now) (z .first) (z .n) x (z .i) (told isString _ (c .before .before .before .before .before .before .before .before .before .before .before .before .code-of .ensures) (c .before .before .is-string .ensures) (c .before .if5 .taken)))
 
-list-view-ok-requires : tie.Need-list-view-ok-requires
-list-view-ok-requires c κs =
-    let z = c .before .before .before .before .before .before .before .before .before .before .before .before .before .before .before .before .before .before .args in
-    let h = c .before .before .before .before .before .before .before .before .before .before .before .before .before .before .before .before .before .before .pre in
+is-list-requires : tie.Need-is-list-requires
+is-list-requires c κs = search needs
+
+list-ok-requires : tie.Need-list-ok-requires
+list-ok-requires c κs =
+    let z = c .before .before .before .before .before .before .before .before .before .before .before .before .before .before .before .before .before .before .before .before .args in
+    let h = c .before .before .before .before .before .before .before .before .before .before .before .before .before .before .before .before .before .before .before .before .pre in
     let x = tablesOf (z .lengths .now) (z .places .now) (z .buffers .now) (z .body .now) in
     let y = tables (z .lengths .now) (z .places .now) (z .body .now) in
-    let s = typed-shape (z .formats .now) (z .schema .now) (z .first) (z .n) (h .0 .is-typed) (z .i) (h .1) in
-    let is = list-left (z .formats .now) (z .schema .now) (z .first) (z .i) s (told isFixed _ (c .before .before .before .before .before .before .before .before .before .before .before .code-of .ensures) (c .before .before .before .before .before .before .before .before .before .before .is-fixed .ensures) (c .before .before .before .before .before .before .before .before .before .if1 .left)) (told isView _ (c .before .before .before .before .before .before .before .before .before .before .before .code-of .ensures) (c .before .before .before .before .before .before .before .before .is-view .ensures) (c .before .before .before .before .before .before .before .if2 .left)) (told isUnion _ (c .before .before .before .before .before .before .before .before .before .before .before .code-of .ensures) (c .before .before .before .before .before .before .is-union .ensures) (c .before .before .before .before .before .if3 .left)) (told isRunEnd _ (c .before .before .before .before .before .before .before .before .before .before .before .code-of .ensures) (c .before .before .before .before .is-run-end .ensures) (c .before .before .before .if4 .left)) (told isString _ (c .before .before .before .before .before .before .before .before .before .before .before .code-of .ensures) (c .before .is-string .ensures) (c .if5 .left)) in
-    (counted-as x y (z .first + z .i) refl (h .0 .counted (z .i) (h .1)), omega (arith, h .0 .few, h .0 .low, h .1), list-widths (codeOf (z .formats .now) (z .schema .now) (z .first) (z .i)) is (c .before .before .width-of2 .ensures ∙ ap widthOf (c .before .before .before .before .before .before .before .before .before .before .before .code-of .ensures)))
+    let is = told isList _ (c .before .before .before .before .before .before .before .before .before .before .before .before .before .code-of .ensures) (c .before .is-list .ensures) (c .if6 .taken) in
+    (counted-as x y (z .first + z .i) refl (h .0 .counted (z .i) (h .1)), omega (arith, h .0 .few, h .0 .low, h .1), lists-widths (codeOf (z .formats .now) (z .schema .now) (z .first) (z .i)) is (c .before .before .before .before .width-of2 .ensures ∙ ap widthOf (c .before .before .before .before .before .before .before .before .before .before .before .before .before .code-of .ensures)))
 
 returns-6 : tie.Need-returns-6
 returns-6 c =
-    let z = c .before .before .before .before .before .before .before .before .before .before .before .before .before .before .before .before .before .before .before .args in
-    let h = c .before .before .before .before .before .before .before .before .before .before .before .before .before .before .before .before .before .before .before .pre in
+    let z = c .before .before .before .before .before .before .before .before .before .before .before .before .before .before .before .before .before .before .before .before .before .args in
+    let h = c .before .before .before .before .before .before .before .before .before .before .before .before .before .before .before .before .before .before .before .before .before .pre in
+    let x = tablesOf (z .lengths .now) (z .places .now) (z .buffers .now) (z .body .now) in
+    let y = tables (z .lengths .now) (z .places .now) (z .body .now) in
+    let is = told isList _ (c .before .before .before .before .before .before .before .before .before .before .before .before .before .before .code-of .ensures) (c .before .before .is-list .ensures) (c .before .if6 .taken) in
+    c .list-ok .ensures ∙ ap (listRule y (z .first + z .i)) (c .before .before .before .before .before .width-of2 .ensures ∙ ap widthOf (c .before .before .before .before .before .before .before .before .before .before .before .before .before .before .code-of .ensures)) ∙ sym (list-node (z .formats .now) (z .schema .now) (z .first) (z .n) x (z .i) is)
+
+list-view-ok-requires : tie.Need-list-view-ok-requires
+list-view-ok-requires c κs =
+    let z = c .before .before .before .before .before .before .before .before .before .before .before .before .before .before .before .before .before .before .before .before .args in
+    let h = c .before .before .before .before .before .before .before .before .before .before .before .before .before .before .before .before .before .before .before .before .pre in
     let x = tablesOf (z .lengths .now) (z .places .now) (z .buffers .now) (z .body .now) in
     let y = tables (z .lengths .now) (z .places .now) (z .body .now) in
     let s = typed-shape (z .formats .now) (z .schema .now) (z .first) (z .n) (h .0 .is-typed) (z .i) (h .1) in
-    let is = list-left (z .formats .now) (z .schema .now) (z .first) (z .i) s (told isFixed _ (c .before .before .before .before .before .before .before .before .before .before .before .before .code-of .ensures) (c .before .before .before .before .before .before .before .before .before .before .before .is-fixed .ensures) (c .before .before .before .before .before .before .before .before .before .before .if1 .left)) (told isView _ (c .before .before .before .before .before .before .before .before .before .before .before .before .code-of .ensures) (c .before .before .before .before .before .before .before .before .before .is-view .ensures) (c .before .before .before .before .before .before .before .before .if2 .left)) (told isUnion _ (c .before .before .before .before .before .before .before .before .before .before .before .before .code-of .ensures) (c .before .before .before .before .before .before .before .is-union .ensures) (c .before .before .before .before .before .before .if3 .left)) (told isRunEnd _ (c .before .before .before .before .before .before .before .before .before .before .before .before .code-of .ensures) (c .before .before .before .before .before .is-run-end .ensures) (c .before .before .before .before .if4 .left)) (told isString _ (c .before .before .before .before .before .before .before .before .before .before .before .before .code-of .ensures) (c .before .before .is-string .ensures) (c .before .if5 .left)) in
-    c .list-view-ok .ensures ∙ ap (listViewRule y (z .first + z .i)) (c .before .before .before .width-of2 .ensures ∙ ap widthOf (c .before .before .before .before .before .before .before .before .before .before .before .before .code-of .ensures)) ∙ sym (list-view-node (z .formats .now) (z .schema .now) (z .first) (z .n) x (z .i) is)
+    let is = list-left (z .formats .now) (z .schema .now) (z .first) (z .i) s (told isFixed _ (c .before .before .before .before .before .before .before .before .before .before .before .before .before .code-of .ensures) (c .before .before .before .before .before .before .before .before .before .before .before .before .is-fixed .ensures) (c .before .before .before .before .before .before .before .before .before .before .before .if1 .left)) (told isView _ (c .before .before .before .before .before .before .before .before .before .before .before .before .before .code-of .ensures) (c .before .before .before .before .before .before .before .before .before .before .is-view .ensures) (c .before .before .before .before .before .before .before .before .before .if2 .left)) (told isUnion _ (c .before .before .before .before .before .before .before .before .before .before .before .before .before .code-of .ensures) (c .before .before .before .before .before .before .before .before .is-union .ensures) (c .before .before .before .before .before .before .before .if3 .left)) (told isRunEnd _ (c .before .before .before .before .before .before .before .before .before .before .before .before .before .code-of .ensures) (c .before .before .before .before .before .before .is-run-end .ensures) (c .before .before .before .before .before .if4 .left)) (told isString _ (c .before .before .before .before .before .before .before .before .before .before .before .before .before .code-of .ensures) (c .before .before .before .is-string .ensures) (c .before .before .if5 .left)) (told isList _ (c .before .before .before .before .before .before .before .before .before .before .before .before .before .code-of .ensures) (c .before .is-list .ensures) (c .if6 .left)) in
+    (counted-as x y (z .first + z .i) refl (h .0 .counted (z .i) (h .1)), omega (arith, h .0 .few, h .0 .low, h .1), list-widths (codeOf (z .formats .now) (z .schema .now) (z .first) (z .i)) is (c .before .before .before .before .width-of2 .ensures ∙ ap widthOf (c .before .before .before .before .before .before .before .before .before .before .before .before .before .code-of .ensures)))
+
+returns-7 : tie.Need-returns-7
+returns-7 c =
+    let z = c .before .before .before .before .before .before .before .before .before .before .before .before .before .before .before .before .before .before .before .before .before .args in
+    let h = c .before .before .before .before .before .before .before .before .before .before .before .before .before .before .before .before .before .before .before .before .before .pre in
+    let x = tablesOf (z .lengths .now) (z .places .now) (z .buffers .now) (z .body .now) in
+    let y = tables (z .lengths .now) (z .places .now) (z .body .now) in
+    let s = typed-shape (z .formats .now) (z .schema .now) (z .first) (z .n) (h .0 .is-typed) (z .i) (h .1) in
+    let is = list-left (z .formats .now) (z .schema .now) (z .first) (z .i) s (told isFixed _ (c .before .before .before .before .before .before .before .before .before .before .before .before .before .before .code-of .ensures) (c .before .before .before .before .before .before .before .before .before .before .before .before .before .is-fixed .ensures) (c .before .before .before .before .before .before .before .before .before .before .before .before .if1 .left)) (told isView _ (c .before .before .before .before .before .before .before .before .before .before .before .before .before .before .code-of .ensures) (c .before .before .before .before .before .before .before .before .before .before .before .is-view .ensures) (c .before .before .before .before .before .before .before .before .before .before .if2 .left)) (told isUnion _ (c .before .before .before .before .before .before .before .before .before .before .before .before .before .before .code-of .ensures) (c .before .before .before .before .before .before .before .before .before .is-union .ensures) (c .before .before .before .before .before .before .before .before .if3 .left)) (told isRunEnd _ (c .before .before .before .before .before .before .before .before .before .before .before .before .before .before .code-of .ensures) (c .before .before .before .before .before .before .before .is-run-end .ensures) (c .before .before .before .before .before .before .if4 .left)) (told isString _ (c .before .before .before .before .before .before .before .before .before .before .before .before .before .before .code-of .ensures) (c .before .before .before .before .is-string .ensures) (c .before .before .before .if5 .left)) (told isList _ (c .before .before .before .before .before .before .before .before .before .before .before .before .before .before .code-of .ensures) (c .before .before .is-list .ensures) (c .before .if6 .left)) in
+    c .list-view-ok .ensures ∙ ap (listViewRule y (z .first + z .i)) (c .before .before .before .before .before .width-of2 .ensures ∙ ap widthOf (c .before .before .before .before .before .before .before .before .before .before .before .before .before .before .code-of .ensures)) ∙ sym (list-view-node (z .formats .now) (z .schema .now) (z .first) (z .n) x (z .i) is)
 
 pub node-ok-spec : {M : Type 1} → statement M
 node-ok-spec =
@@ -167,6 +191,7 @@ node-ok-spec =
     view-rule-requires
     returns-2
     is-union-requires
+    is-sparse-requires
     union-ok-requires
     returns-3
     is-run-end-requires
@@ -179,5 +204,8 @@ node-ok-spec =
     is-string-requires
     string-ok-requires
     returns-5
+    is-list-requires
+    list-ok-requires
+    returns-6
     list-view-ok-requires
-    returns-6)
+    returns-7)

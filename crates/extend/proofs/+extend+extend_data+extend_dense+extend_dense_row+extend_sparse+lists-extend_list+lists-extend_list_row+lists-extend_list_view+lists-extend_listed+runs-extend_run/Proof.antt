@@ -14,34 +14,44 @@ use Rattle.walk.proofs.Laws.{Rest, each-none, each-stop, each-more}
 use Rattle.puts.proofs.Bytes.{width-in}
 use Rattle.leaf_walk.specs.Join.{join}
 use Rattle.steps.proofs.Laws.{slot-rows}
-use Rattle.extend.proofs.Laws.{at-none, at-out, at-far, at-valid, at-data, at-done, leaf-code, list-wide, to-list-view, to-sparse, to-dense, to-runs, pairs-row, list-out, list-short, list-rows, list-stop, list-go, fields-none, fields-over, fields-stop, fields-more, sparse-stop, sparse-go, dense-short, dense-rows, dense-none, dense-stop, dense-go, runs-none, runs-ready, runs-stop, runs-past, runs-values, runs-done, runs-wide, runs-inside, runs-fit, runs-found}
+use Rattle.extend.proofs.Laws.{at-none, at-out, at-far, at-valid, at-data, at-done, leaf-code, to-sparse, to-dense, to-runs, pairs-row, list-out, list-short, list-rows, list-stop, list-go, fields-none, fields-over, fields-stop, fields-more, sparse-stop, sparse-go, dense-short, dense-rows, dense-none, dense-stop, dense-go, runs-none, runs-ready, runs-stop, runs-past, runs-values, runs-done, runs-wide, runs-inside, runs-fit, runs-found}
+use Rattle.extend.proofs.Listed.{listed-code, list-wide, view-wide, to-list, to-list-view, lists-none, lists-out, lists-over, lists-fall, lists-less, lists-go}
 use Prim.Native.Nat.{ℕ, _<_}
 use borrow.Fn.Kinds.{In}
 use borrow.Fn.PlainCycle.{Measures, is, falls, and}
 use Rattle.extend.proofs.extend.Reads as extend
 use Rattle.extend.proofs.extend.Kinds as extend-kinds
-use Rattle.extend.proofs.+extend+extend_data+extend_dense+extend_dense_row+extend_list_row+extend_list_view+extend_run+extend_sparse.Lts-extend as extend-lts
+use Rattle.extend.proofs.+extend+extend_data+extend_dense+extend_dense_row+extend_sparse+lists-extend_list+lists-extend_list_row+lists-extend_list_view+lists-extend_listed+runs-extend_run.Lts-extend as extend-lts
 use Rattle.extend.proofs.extend_data.Reads as extend-data
 use Rattle.extend.proofs.extend_data.Kinds as extend-data-kinds
-use Rattle.extend.proofs.+extend+extend_data+extend_dense+extend_dense_row+extend_list_row+extend_list_view+extend_run+extend_sparse.Lts-extend_data as extend-data-lts
+use Rattle.extend.proofs.+extend+extend_data+extend_dense+extend_dense_row+extend_sparse+lists-extend_list+lists-extend_list_row+lists-extend_list_view+lists-extend_listed+runs-extend_run.Lts-extend_data as extend-data-lts
 use Rattle.extend.proofs.extend_dense.Reads as extend-dense
 use Rattle.extend.proofs.extend_dense.Kinds as extend-dense-kinds
-use Rattle.extend.proofs.+extend+extend_data+extend_dense+extend_dense_row+extend_list_row+extend_list_view+extend_run+extend_sparse.Lts-extend_dense as extend-dense-lts
+use Rattle.extend.proofs.+extend+extend_data+extend_dense+extend_dense_row+extend_sparse+lists-extend_list+lists-extend_list_row+lists-extend_list_view+lists-extend_listed+runs-extend_run.Lts-extend_dense as extend-dense-lts
 use Rattle.extend.proofs.extend_dense_row.Reads as extend-dense-row
 use Rattle.extend.proofs.extend_dense_row.Kinds as extend-dense-row-kinds
-use Rattle.extend.proofs.+extend+extend_data+extend_dense+extend_dense_row+extend_list_row+extend_list_view+extend_run+extend_sparse.Lts-extend_dense_row as extend-dense-row-lts
-use Rattle.extend.proofs.extend_list_row.Reads as extend-list-row
-use Rattle.extend.proofs.extend_list_row.Kinds as extend-list-row-kinds
-use Rattle.extend.proofs.+extend+extend_data+extend_dense+extend_dense_row+extend_list_row+extend_list_view+extend_run+extend_sparse.Lts-extend_list_row as extend-list-row-lts
-use Rattle.extend.proofs.extend_list_view.Reads as extend-list-view
-use Rattle.extend.proofs.extend_list_view.Kinds as extend-list-view-kinds
-use Rattle.extend.proofs.+extend+extend_data+extend_dense+extend_dense_row+extend_list_row+extend_list_view+extend_run+extend_sparse.Lts-extend_list_view as extend-list-view-lts
-use Rattle.extend.proofs.extend_run.Reads as extend-run
-use Rattle.extend.proofs.extend_run.Kinds as extend-run-kinds
-use Rattle.extend.proofs.+extend+extend_data+extend_dense+extend_dense_row+extend_list_row+extend_list_view+extend_run+extend_sparse.Lts-extend_run as extend-run-lts
+use Rattle.extend.proofs.+extend+extend_data+extend_dense+extend_dense_row+extend_sparse+lists-extend_list+lists-extend_list_row+lists-extend_list_view+lists-extend_listed+runs-extend_run.Lts-extend_dense_row as extend-dense-row-lts
+use Rattle.extend.proofs.lists.extend_list.Reads as extend-list
+use Rattle.extend.proofs.lists.extend_list.Kinds as extend-list-kinds
+use Rattle.extend.proofs.+extend+extend_data+extend_dense+extend_dense_row+extend_sparse+lists-extend_list+lists-extend_list_row+lists-extend_list_view+lists-extend_listed+runs-extend_run.Lts-lists-extend_list as extend-list-lts
+use Rattle.extend.proofs.lists.extend_list_row.Reads as extend-list-row
+use Rattle.extend.proofs.lists.extend_list_row.Kinds as extend-list-row-kinds
+use Rattle.extend.proofs.+extend+extend_data+extend_dense+extend_dense_row+extend_sparse+lists-extend_list+lists-extend_list_row+lists-extend_list_view+lists-extend_listed+runs-extend_run.Lts-lists-extend_list_row as extend-list-row-lts
+use Rattle.extend.proofs.lists.extend_list_view.Reads as extend-list-view
+use Rattle.extend.proofs.lists.extend_list_view.Kinds as extend-list-view-kinds
+use Rattle.extend.proofs.+extend+extend_data+extend_dense+extend_dense_row+extend_sparse+lists-extend_list+lists-extend_list_row+lists-extend_list_view+lists-extend_listed+runs-extend_run.Lts-lists-extend_list_view as extend-list-view-lts
+use Rattle.extend.proofs.lists.extend_listed.Reads as extend-listed
+use Rattle.extend.proofs.lists.extend_listed.Kinds as extend-listed-kinds
+use Rattle.extend.proofs.+extend+extend_data+extend_dense+extend_dense_row+extend_sparse+lists-extend_list+lists-extend_list_row+lists-extend_list_view+lists-extend_listed+runs-extend_run.Lts-lists-extend_listed as extend-listed-lts
+use Rattle.extend.proofs.runs.extend_run.Reads as extend-run
+use Rattle.extend.proofs.runs.extend_run.Kinds as extend-run-kinds
+use Rattle.extend.proofs.+extend+extend_data+extend_dense+extend_dense_row+extend_sparse+lists-extend_list+lists-extend_list_row+lists-extend_list_view+lists-extend_listed+runs-extend_run.Lts-runs-extend_run as extend-run-lts
 use Rattle.extend.proofs.extend_sparse.Reads as extend-sparse
 use Rattle.extend.proofs.extend_sparse.Kinds as extend-sparse-kinds
-use Rattle.extend.proofs.+extend+extend_data+extend_dense+extend_dense_row+extend_list_row+extend_list_view+extend_run+extend_sparse.Lts-extend_sparse as extend-sparse-lts
+use Rattle.extend.proofs.+extend+extend_data+extend_dense+extend_dense_row+extend_sparse+lists-extend_list+lists-extend_list_row+lists-extend_list_view+lists-extend_listed+runs-extend_run.Lts-extend_sparse as extend-sparse-lts
+use Rattle.extend.proofs.first_id.Reads as first-id-reads
+use Rattle.extend.proofs.first_row.Reads as first-row-reads
+use Rattle.formats.proofs.is_list.Reads as is-list-reads
 use Rattle.formats.proofs.is_list_view.Reads as is-list-view-reads
 use Rattle.growth.proofs.add_rows.Reads as add-rows-reads
 use Rattle.growth.proofs.code_of.Reads as code-of-reads
@@ -61,10 +71,11 @@ use Rattle.steps.proofs.child_with.Reads as child-with-reads
 use Rattle.steps.proofs.entry_at.Reads as entry-at-reads
 use Rattle.steps.proofs.slot_of.Reads as slot-of-reads
 use Rattle.steps.proofs.width_at.Reads as width-at-reads
-use Rattle.extend.proofs.+extend+extend_data+extend_dense+extend_dense_row+extend_list_row+extend_list_view+extend_run+extend_sparse.{
+use Rattle.string_walk.proofs.copy_offsets.Reads as copy-offsets-reads
+use Rattle.extend.proofs.+extend+extend_data+extend_dense+extend_dense_row+extend_sparse+lists-extend_list+lists-extend_list_row+lists-extend_list_view+lists-extend_listed+runs-extend_run.{
   statement,
 }
-use Rattle.extend.proofs.+extend+extend_data+extend_dense+extend_dense_row+extend_list_row+extend_list_view+extend_run+extend_sparse.Tie.{
+use Rattle.extend.proofs.+extend+extend_data+extend_dense+extend_dense_row+extend_sparse+lists-extend_list+lists-extend_list_row+lists-extend_list_view+lists-extend_listed+runs-extend_run.Tie.{
   close,
 }
 
@@ -72,28 +83,34 @@ add-two : (i : ℕ) → i + 2 ≡ suc (suc i)
 add-two i = omega arith
 
 abbrev μ-extend : Measures 7 extend-kinds.ps ℕ
-μ-extend κs a = a .1 .1 .1 .1 .1 .1 .1 .1 .1 .1 .1 .1 .1 .0 * 4
+μ-extend κs a = a .1 .1 .1 .1 .1 .1 .1 .1 .1 .1 .1 .1 .1 .0 * 5
 
 abbrev μ-extend-data : Measures 7 extend-data-kinds.ps ℕ
-μ-extend-data κs a = a .1 .1 .1 .1 .1 .1 .1 .1 .1 .1 .1 .1 .1 .0 * 4 + 3
+μ-extend-data κs a = a .1 .1 .1 .1 .1 .1 .1 .1 .1 .1 .1 .1 .1 .0 * 5 + 4
 
 abbrev μ-extend-dense : Measures 7 extend-dense-kinds.ps ℕ
-μ-extend-dense κs a = a .1 .1 .1 .1 .1 .1 .1 .1 .1 .1 .1 .1 .1 .0 * 4 + 2
+μ-extend-dense κs a = a .1 .1 .1 .1 .1 .1 .1 .1 .1 .1 .1 .1 .1 .0 * 5 + 2
 
 abbrev μ-extend-dense-row : Measures 7 extend-dense-row-kinds.ps ℕ
-μ-extend-dense-row κs a = a .1 .1 .1 .1 .1 .1 .1 .1 .1 .1 .1 .1 .1 .0 * 4 + 1
+μ-extend-dense-row κs a = a .1 .1 .1 .1 .1 .1 .1 .1 .1 .1 .1 .1 .1 .0 * 5 + 1
+
+abbrev μ-extend-list : Measures 7 extend-list-kinds.ps ℕ
+μ-extend-list κs a = a .1 .1 .1 .1 .1 .1 .1 .1 .1 .1 .1 .1 .1 .1 .0 * 5 + 2
 
 abbrev μ-extend-list-row : Measures 7 extend-list-row-kinds.ps ℕ
-μ-extend-list-row κs a = a .1 .1 .1 .1 .1 .1 .1 .1 .1 .1 .1 .1 .1 .1 .0 * 4 + 1
+μ-extend-list-row κs a = a .1 .1 .1 .1 .1 .1 .1 .1 .1 .1 .1 .1 .1 .1 .0 * 5 + 1
 
 abbrev μ-extend-list-view : Measures 7 extend-list-view-kinds.ps ℕ
-μ-extend-list-view κs a = a .1 .1 .1 .1 .1 .1 .1 .1 .1 .1 .1 .1 .1 .1 .0 * 4 + 2
+μ-extend-list-view κs a = a .1 .1 .1 .1 .1 .1 .1 .1 .1 .1 .1 .1 .1 .1 .0 * 5 + 2
+
+abbrev μ-extend-listed : Measures 7 extend-listed-kinds.ps ℕ
+μ-extend-listed κs a = a .1 .1 .1 .1 .1 .1 .1 .1 .1 .1 .1 .1 .1 .0 * 5 + 3
 
 abbrev μ-extend-run : Measures 7 extend-run-kinds.ps ℕ
-μ-extend-run κs a = a .1 .1 .1 .1 .1 .1 .1 .1 .1 .1 .1 .1 .1 .0 * 4 + 2
+μ-extend-run κs a = a .1 .1 .1 .1 .1 .1 .1 .1 .1 .1 .1 .1 .1 .0 * 5 + 2
 
 abbrev μ-extend-sparse : Measures 7 extend-sparse-kinds.ps ℕ
-μ-extend-sparse κs a = a .1 .1 .1 .1 .1 .1 .1 .1 .1 .1 .1 .1 .1 .0 * 4 + 2
+μ-extend-sparse κs a = a .1 .1 .1 .1 .1 .1 .1 .1 .1 .1 .1 .1 .1 .0 * 5 + 2
 
 abbrev extend-at : ℕ → In 7 extend-kinds.ps
 extend-at t = and 7 extend-kinds.ps (is 7 extend-kinds.ps μ-extend t) extend.Pre
@@ -137,6 +154,12 @@ extend-dense-row-below t =
     (falls 7 extend-dense-row-kinds.ps _<_ μ-extend-dense-row t)
     extend-dense-row.Pre
 
+abbrev extend-list-at : ℕ → In 7 extend-list-kinds.ps
+extend-list-at t = and 7 extend-list-kinds.ps (is 7 extend-list-kinds.ps μ-extend-list t) extend-list.Pre
+
+abbrev extend-list-below : ℕ → In 7 extend-list-kinds.ps
+extend-list-below t = and 7 extend-list-kinds.ps (falls 7 extend-list-kinds.ps _<_ μ-extend-list t) extend-list.Pre
+
 abbrev extend-list-row-at : ℕ → In 7 extend-list-row-kinds.ps
 extend-list-row-at t =
     and
@@ -169,6 +192,12 @@ extend-list-view-below t =
     (falls 7 extend-list-view-kinds.ps _<_ μ-extend-list-view t)
     extend-list-view.Pre
 
+abbrev extend-listed-at : ℕ → In 7 extend-listed-kinds.ps
+extend-listed-at t = and 7 extend-listed-kinds.ps (is 7 extend-listed-kinds.ps μ-extend-listed t) extend-listed.Pre
+
+abbrev extend-listed-below : ℕ → In 7 extend-listed-kinds.ps
+extend-listed-below t = and 7 extend-listed-kinds.ps (falls 7 extend-listed-kinds.ps _<_ μ-extend-listed t) extend-listed.Pre
+
 abbrev extend-run-at : ℕ → In 7 extend-run-kinds.ps
 extend-run-at t =
     and 7 extend-run-kinds.ps (is 7 extend-run-kinds.ps μ-extend-run t) extend-run.Pre
@@ -193,7 +222,7 @@ abbrev extend-cs : ℕ → extend-lts.Claims
 extend-cs t = (slot-of-reads.Asked, slot-of-reads.Learnt, copy-validity-reads.Asked, copy-validity-reads.Learnt, extend-data-below t, extend-data.Post, add-rows-reads.Asked, add-rows-reads.Learnt)
 
 abbrev extend-data-cs : ℕ → extend-data-lts.Claims
-extend-data-cs t = (code-of-reads.Asked, code-of-reads.Learnt, is-list-view-reads.Asked, is-list-view-reads.Learnt, width-at-reads.Asked, width-at-reads.Learnt, extend-list-view-below t, extend-list-view.Post, extend-sparse-below t, extend-sparse.Post, extend-dense-below t, extend-dense.Post, extend-run-below t, extend-run.Post, copy-leaf-reads.Asked, copy-leaf-reads.Learnt)
+extend-data-cs t = (code-of-reads.Asked, code-of-reads.Learnt, is-list-view-reads.Asked, is-list-view-reads.Learnt, is-list-reads.Asked, is-list-reads.Learnt, extend-listed-below t, extend-listed.Post, extend-sparse-below t, extend-sparse.Post, extend-dense-below t, extend-dense.Post, extend-run-below t, extend-run.Post, copy-leaf-reads.Asked, copy-leaf-reads.Learnt)
 
 abbrev extend-dense-cs : ℕ → extend-dense-lts.Claims
 extend-dense-cs t = (pairs-in-reads.Asked, pairs-in-reads.Learnt, extend-dense-row-below t, extend-dense-row.Post)
@@ -201,17 +230,23 @@ extend-dense-cs t = (pairs-in-reads.Asked, pairs-in-reads.Learnt, extend-dense-r
 abbrev extend-dense-row-cs : ℕ → extend-dense-row-lts.Claims
 extend-dense-row-cs t = (place-reads.Asked, place-reads.Learnt, end-of-reads.Asked, end-of-reads.Learnt, child-with-reads.Asked, child-with-reads.Learnt, dense-numbers-reads.Asked, dense-numbers-reads.Learnt, entry-at-reads.Asked, entry-at-reads.Learnt, extend-below t, extend.Post)
 
+abbrev extend-list-cs : ℕ → extend-list-lts.Claims
+extend-list-cs t = (copy-offsets-reads.Asked, copy-offsets-reads.Learnt, rows-of-reads.Asked, rows-of-reads.Learnt, extend-below t, extend.Post)
+
 abbrev extend-list-row-cs : ℕ → extend-list-row-lts.Claims
 extend-list-row-cs t = (place-reads.Asked, place-reads.Learnt, entry-at-reads.Asked, entry-at-reads.Learnt, list-numbers-reads.Asked, list-numbers-reads.Learnt, extend-below t, extend.Post)
 
 abbrev extend-list-view-cs : ℕ → extend-list-view-lts.Claims
 extend-list-view-cs t = (pairs-in-reads.Asked, pairs-in-reads.Learnt, extend-list-row-below t, extend-list-row.Post)
 
+abbrev extend-listed-cs : ℕ → extend-listed-lts.Claims
+extend-listed-cs t = (width-at-reads.Asked, width-at-reads.Learnt, code-of-reads.Asked, code-of-reads.Learnt, is-list-reads.Asked, is-list-reads.Learnt, extend-list-below t, extend-list.Post, extend-list-view-below t, extend-list-view.Post)
+
 abbrev extend-run-cs : ℕ → extend-run-lts.Claims
 extend-run-cs t = (runs-ready-reads.Asked, runs-ready-reads.Learnt, width-at-reads.Asked, width-at-reads.Learnt, rows-of-reads.Asked, rows-of-reads.Learnt, runs-at-reads.Asked, runs-at-reads.Learnt, extend-below t, extend.Post, run-numbers-reads.Asked, run-numbers-reads.Learnt)
 
 abbrev extend-sparse-cs : ℕ → extend-sparse-lts.Claims
-extend-sparse-cs t = (copy-numbers-reads.Asked, copy-numbers-reads.Learnt, end-of-reads.Asked, end-of-reads.Learnt, extend-below t, extend.Post)
+extend-sparse-cs t = (first-id-reads.Asked, first-id-reads.Learnt, first-row-reads.Asked, first-row-reads.Learnt, copy-numbers-reads.Asked, copy-numbers-reads.Learnt, end-of-reads.Asked, end-of-reads.Learnt, extend-below t, extend.Post)
 
 extend-returns : (t : ℕ) → extend-lts.Need-returns (extend-cs t) (extend-at t) extend.Post
 extend-returns t c =
@@ -277,21 +312,19 @@ extend-data-code-of-requires t c κs = search needs
 extend-data-is-list-view-requires : (t : ℕ) → extend-data-lts.Need-is-list-view-requires (extend-data-cs t) (extend-data-at t) extend-data.Post
 extend-data-is-list-view-requires t c κs = search needs
 
-extend-data-width-at-requires : (t : ℕ) → extend-data-lts.Need-width-at-requires (extend-data-cs t) (extend-data-at t) extend-data.Post
-extend-data-width-at-requires t c κs = search needs
+extend-data-is-list-requires : (t : ℕ) → extend-data-lts.Need-is-list-requires (extend-data-cs t) (extend-data-at t) extend-data.Post
+extend-data-is-list-requires t c κs = search needs
 
-extend-data-extend-list-view-requires : (t : ℕ) → extend-data-lts.Need-extend-list-view-requires (extend-data-cs t) (extend-data-at t) extend-data.Post
-extend-data-extend-list-view-requires t c κs =
+extend-data-extend-listed-requires : (t : ℕ) → extend-data-lts.Need-extend-listed-requires (extend-data-cs t) (extend-data-at t) extend-data.Post
+extend-data-extend-listed-requires t c κs =
     let a = c .before .before .before .before .before .before .before .before .before .before .before .before .args in
-    (omega arith, (search needs, list-wide (a .state .now) (a .i) (c .before .before .before .before .before .code-of .ensures) (c .before .before .before .before .is-list-view .ensures) (c .before .before .before .if1 .taken) (c .before .before .width-at .ensures)))
+    (omega arith, (search needs, listed-code (a .state .now) (a .i) (c .before .before .before .before .before .code-of .ensures) (c .before .before .before .before .is-list-view .ensures) (c .before .before .before .is-list .ensures) (c .before .before .if1 .taken)))
 
 extend-data-same-length : (t : ℕ) → extend-data-lts.Need-same-length (extend-data-cs t) (extend-data-at t) extend-data.Post
 extend-data-same-length t c = search needs
 
 extend-data-returns : (t : ℕ) → extend-data-lts.Need-returns (extend-data-cs t) (extend-data-at t) extend-data.Post
-extend-data-returns t c =
-    let a = c .before .before .before .before .before .before .before .before .before .before .before .before .before .before .before .args in
-    to-list-view (join (a .state .now) (a .parts .now) (a .lengths .now) (a .places .now) (a .body .now) (a .first) (a .source)) (copyWalk (join (a .state .now) (a .parts .now) (a .lengths .now) (a .places .now) (a .body .now) (a .first) (a .source)) (a .depth)) (a .write) (a .i) (a .slot) (a .n) (a .counts .now) (a .room .now) (c .before .before .before .before .before .before .before .before .code-of .ensures) (c .before .before .before .before .before .before .before .is-list-view .ensures) (c .before .before .before .before .before .before .if1 .taken) (c .before .before .before .before .before .width-at .ensures) (c .before .before .extend-list-view .ensures)
+extend-data-returns t c = c .before .before .extend-listed .ensures
 
 extend-data-extend-sparse-requires : (t : ℕ) → extend-data-lts.Need-extend-sparse-requires (extend-data-cs t) (extend-data-at t) extend-data.Post
 extend-data-extend-sparse-requires t c κs = omega arith
@@ -301,8 +334,8 @@ extend-data-same-length-2 t c = search needs
 
 extend-data-returns-2 : (t : ℕ) → extend-data-lts.Need-returns-2 (extend-data-cs t) (extend-data-at t) extend-data.Post
 extend-data-returns-2 t c =
-    let a = c .before .before .before .before .before .before .before .before .before .before .before .before .before .before .before .args in
-    to-sparse (join (a .state .now) (a .parts .now) (a .lengths .now) (a .places .now) (a .body .now) (a .first) (a .source)) (copyWalk (join (a .state .now) (a .parts .now) (a .lengths .now) (a .places .now) (a .body .now) (a .first) (a .source)) (a .depth)) (a .write) (a .i) (a .slot) (a .n) (a .counts .now) (a .room .now) (c .before .before .before .before .before .before .before .before .code-of .ensures) (c .before .before .before .before .before .if2 .taken) (c .before .before .extend-sparse .ensures)
+    let a = c .before .before .before .before .before .before .before .before .before .before .before .before .before .before .before .before .args in
+    to-sparse (join (a .state .now) (a .parts .now) (a .lengths .now) (a .places .now) (a .body .now) (a .first) (a .source)) (copyWalk (join (a .state .now) (a .parts .now) (a .lengths .now) (a .places .now) (a .body .now) (a .first) (a .source)) (a .depth)) (a .write) (a .i) (a .slot) (a .n) (a .counts .now) (a .room .now) (c .before .before .before .before .before .before .before .before .before .code-of .ensures) (c .before .before .before .before .before .if2 .taken) (c .before .before .extend-sparse .ensures)
 
 extend-data-extend-dense-requires : (t : ℕ) → extend-data-lts.Need-extend-dense-requires (extend-data-cs t) (extend-data-at t) extend-data.Post
 extend-data-extend-dense-requires t c κs = omega arith
@@ -312,8 +345,8 @@ extend-data-same-length-3 t c = search needs
 
 extend-data-returns-3 : (t : ℕ) → extend-data-lts.Need-returns-3 (extend-data-cs t) (extend-data-at t) extend-data.Post
 extend-data-returns-3 t c =
-    let a = c .before .before .before .before .before .before .before .before .before .before .before .before .before .before .before .before .args in
-    to-dense (join (a .state .now) (a .parts .now) (a .lengths .now) (a .places .now) (a .body .now) (a .first) (a .source)) (copyWalk (join (a .state .now) (a .parts .now) (a .lengths .now) (a .places .now) (a .body .now) (a .first) (a .source)) (a .depth)) (a .write) (a .i) (a .slot) (a .n) (a .counts .now) (a .room .now) (c .before .before .before .before .before .before .before .before .before .code-of .ensures) (c .before .before .before .before .before .if3 .taken) (c .before .before .extend-dense .ensures)
+    let a = c .before .before .before .before .before .before .before .before .before .before .before .before .before .before .before .before .before .args in
+    to-dense (join (a .state .now) (a .parts .now) (a .lengths .now) (a .places .now) (a .body .now) (a .first) (a .source)) (copyWalk (join (a .state .now) (a .parts .now) (a .lengths .now) (a .places .now) (a .body .now) (a .first) (a .source)) (a .depth)) (a .write) (a .i) (a .slot) (a .n) (a .counts .now) (a .room .now) (c .before .before .before .before .before .before .before .before .before .before .code-of .ensures) (c .before .before .before .before .before .if3 .taken) (c .before .before .extend-dense .ensures)
 
 extend-data-extend-run-requires : (t : ℕ) → extend-data-lts.Need-extend-run-requires (extend-data-cs t) (extend-data-at t) extend-data.Post
 extend-data-extend-run-requires t c κs = omega arith
@@ -323,20 +356,20 @@ extend-data-same-length-4 t c = search needs
 
 extend-data-returns-4 : (t : ℕ) → extend-data-lts.Need-returns-4 (extend-data-cs t) (extend-data-at t) extend-data.Post
 extend-data-returns-4 t c =
-    let a = c .before .before .before .before .before .before .before .before .before .before .before .before .before .before .before .before .before .args in
-    to-runs (join (a .state .now) (a .parts .now) (a .lengths .now) (a .places .now) (a .body .now) (a .first) (a .source)) (copyWalk (join (a .state .now) (a .parts .now) (a .lengths .now) (a .places .now) (a .body .now) (a .first) (a .source)) (a .depth)) (a .write) (a .i) (a .slot) (a .n) (a .counts .now) (a .room .now) (c .before .before .before .before .before .before .before .before .before .before .code-of .ensures) (c .before .before .before .before .before .if4 .taken) (c .before .before .extend-run .ensures)
+    let a = c .before .before .before .before .before .before .before .before .before .before .before .before .before .before .before .before .before .before .args in
+    to-runs (join (a .state .now) (a .parts .now) (a .lengths .now) (a .places .now) (a .body .now) (a .first) (a .source)) (copyWalk (join (a .state .now) (a .parts .now) (a .lengths .now) (a .places .now) (a .body .now) (a .first) (a .source)) (a .depth)) (a .write) (a .i) (a .slot) (a .n) (a .counts .now) (a .room .now) (c .before .before .before .before .before .before .before .before .before .before .before .code-of .ensures) (c .before .before .before .before .before .if4 .taken) (c .before .before .extend-run .ensures)
 
 extend-data-copy-leaf-requires : (t : ℕ) → extend-data-lts.Need-copy-leaf-requires (extend-data-cs t) (extend-data-at t) extend-data.Post
 extend-data-copy-leaf-requires t c κs =
-    let a = c .before .before .before .before .before .before .before .before .before .before .before .before .before .before .args in
-    (search needs, leaf-code (a .state .now) (a .i) (c .before .before .before .before .before .before .before .code-of .ensures) (c .before .before .before .before .before .before .is-list-view .ensures) (c .before .before .before .before .before .if1 .left) (c .before .before .before .before .if2 .left) (c .before .before .before .if3 .left) (c .before .before .if4 .left))
+    let a = c .before .before .before .before .before .before .before .before .before .before .before .before .before .before .before .args in
+    (search needs, leaf-code (a .state .now) (a .i) (c .before .before .before .before .before .before .before .before .code-of .ensures) (c .before .before .before .before .before .before .before .is-list-view .ensures) (c .before .before .before .before .before .before .is-list .ensures) (c .before .before .before .before .before .if1 .left) (c .before .before .before .before .if2 .left) (c .before .before .before .if3 .left) (c .before .before .if4 .left))
 
 extend-data-same-length-5 : (t : ℕ) → extend-data-lts.Need-same-length-5 (extend-data-cs t) (extend-data-at t) extend-data.Post
 extend-data-same-length-5 t c = search needs
 
 extend-data-returns-5 : (t : ℕ) → extend-data-lts.Need-returns-5 (extend-data-cs t) (extend-data-at t) extend-data.Post
 extend-data-returns-5 t c =
-    let a = c .before .before .before .before .before .before .before .before .before .before .before .before .before .before .before .before .before .args in
+    let a = c .before .before .before .before .before .before .before .before .before .before .before .before .before .before .before .before .before .before .args in
     c .before .before .copy-leaf .ensures (a .lengths .now) (copyWalk (join (a .state .now) (a .parts .now) (a .lengths .now) (a .places .now) (a .body .now) (a .first) (a .source)) (a .depth))
 
 abbrev extend-dense-Inv-loop : extend-dense-lts.InvT-loop
@@ -459,6 +492,72 @@ extend-dense-row-returns-3 t c =
     let a = c .before .before .before .before .before .before .before .before .before .before .before .before .before .before .before .before .before .before .before .before .before .before .before .before .args in
     dense-go (join (a .state .now) (a .parts .now) (a .lengths .now) (a .places .now) (a .body .now) (a .first) (a .source)) (copyWalk (join (a .state .now) (a .parts .now) (a .lengths .now) (a .places .now) (a .body .now) (a .first) (a .source)) (a .depth)) (a .write) (a .i) (a .slot) (a .counts .now) (a .room .now) (a .r) (ap (λ (z : ℕ). getD (a .body .now) (z + (a .slot + a .r)) 0) (c .before .before .before .before .before .before .before .before .before .before .before .before .before .before .before .before .before .place .ensures)) (c .before .before .before .before .before .before .before .before .before .before .before .before .before .before .before .end-of .ensures .0) (add-one (a .i)) (c .before .before .before .before .before .before .before .before .before .before .before .before .before .before .child-with .ensures .0) (c .before .before .before .before .before .before .before .before .before .before .before .before .before .if1 .left) (c .before .before .before .before .before .before .before .before .before .before .dense-numbers .ensures) (c .before .before .before .before .before .before .before .if2 .left) (c .before .before .before .before .before .before .place2 .ensures) (c .before .before .before .before .before .entry-at .ensures) (c .before .before .extend .ensures)
 
+extend-list-returns : (t : ℕ) → extend-list-lts.Need-returns (extend-list-cs t) (extend-list-at t) extend-list.Post
+extend-list-returns t c =
+    let a = c .before .before .before .before .before .before .before .args in
+    lists-none (join (a .state .now) (a .parts .now) (a .lengths .now) (a .places .now) (a .body .now) (a .first) (a .source)) (copyWalk (join (a .state .now) (a .parts .now) (a .lengths .now) (a .places .now) (a .body .now) (a .first) (a .source)) (a .depth)) (a .write) (a .w) (a .i) (a .slot) (a .n) (a .counts .now) (a .room .now) (c .if1 .taken)
+
+extend-list-add-if2 : (t : ℕ) → extend-list-lts.Need-add-if2 (extend-list-cs t) (extend-list-at t) extend-list.Post
+extend-list-add-if2 t c = search needs
+
+extend-list-returns-2 : (t : ℕ) → extend-list-lts.Need-returns-2 (extend-list-cs t) (extend-list-at t) extend-list.Post
+extend-list-returns-2 t c =
+    let a = c .before .before .before .before .before .before .before .before .args in
+    lists-out (join (a .state .now) (a .parts .now) (a .lengths .now) (a .places .now) (a .body .now) (a .first) (a .source)) (copyWalk (join (a .state .now) (a .parts .now) (a .lengths .now) (a .places .now) (a .body .now) (a .first) (a .source)) (a .depth)) (a .write) (a .w) (a .i) (a .slot) (a .n) (a .counts .now) (a .room .now) (c .before .if1 .left) (add-one (a .i)) (c .if2 .taken)
+
+extend-list-copy-offsets-requires : (t : ℕ) → extend-list-lts.Need-copy-offsets-requires (extend-list-cs t) (extend-list-at t) extend-list.Post
+extend-list-copy-offsets-requires t c κs = (omega arith, c .before .before .before .before .before .before .before .before .before .before .pre .1 .1)
+
+extend-list-enum-known-last : (t : ℕ) → extend-list-lts.Need-enum-known-last (extend-list-cs t) (extend-list-at t) extend-list.Post
+extend-list-enum-known-last t c = search needs
+
+extend-list-add-rows-of : (t : ℕ) → extend-list-lts.Need-add-rows-of (extend-list-cs t) (extend-list-at t) extend-list.Post
+extend-list-add-rows-of t c = search needs
+
+extend-list-rows-of-requires : (t : ℕ) → extend-list-lts.Need-rows-of-requires (extend-list-cs t) (extend-list-at t) extend-list.Post
+extend-list-rows-of-requires t c κs = search needs
+
+extend-list-sub-size : (t : ℕ) → extend-list-lts.Need-sub-size (extend-list-cs t) (extend-list-at t) extend-list.Post
+extend-list-sub-size t c =
+    let a = c .before .before .before .before .before .before .before .before .before .before .before .before .before .before .before .before .before .before .args in
+    omega (arith, lists-less (join (a .state .now) (a .parts .now) (a .lengths .now) (a .places .now) (a .body .now) (a .first) (a .source)) (copyWalk (join (a .state .now) (a .parts .now) (a .lengths .now) (a .places .now) (a .body .now) (a .first) (a .source)) (a .depth)) (a .write) (a .w) (a .i) (a .slot) (a .n) (a .counts .now) (a .room .now) (c .before .before .before .before .before .before .before .before .before .before .before .if1 .left) (add-one (a .i)) (c .before .before .before .before .before .before .before .before .before .before .if2 .left) (c .before .before .before .before .before .before .before .copy-offsets .ensures .0 (a .lengths .now) (a .source)) (c .before .before .before .before .before .before .before .copy-offsets .ensures .1 (a .lengths .now) (a .source)) (c .before .before .before .last .given .1) (c .rows-of .ensures))
+
+extend-list-add-extend : (t : ℕ) → extend-list-lts.Need-add-extend (extend-list-cs t) (extend-list-at t) extend-list.Post
+extend-list-add-extend t c = search needs
+
+extend-list-extend-requires : (t : ℕ) → extend-list-lts.Need-extend-requires (extend-list-cs t) (extend-list-at t) extend-list.Post
+extend-list-extend-requires t c κs = omega (arith, c .before .before .before .before .before .before .before .before .before .before .before .before .before .before .before .before .before .before .before .before .pre .0, c .before .before .before .before .before .before .before .before .before .before .before .before .before .before .before .before .before .before .before .before .pre .1 .0)
+
+extend-list-enum-told : (t : ℕ) → extend-list-lts.Need-enum-told (extend-list-cs t) (extend-list-at t) extend-list.Post
+extend-list-enum-told t c = search needs
+
+extend-list-enum-told-2 : (t : ℕ) → extend-list-lts.Need-enum-told-2 (extend-list-cs t) (extend-list-at t) extend-list.Post
+extend-list-enum-told-2 t c = search needs
+
+extend-list-same-length : (t : ℕ) → extend-list-lts.Need-same-length (extend-list-cs t) (extend-list-at t) extend-list.Post
+extend-list-same-length t c = search needs
+
+extend-list-returns-3 : (t : ℕ) → extend-list-lts.Need-returns-3 (extend-list-cs t) (extend-list-at t) extend-list.Post
+extend-list-returns-3 t c =
+    let a = c .before .before .before .before .before .before .before .before .before .before .before .before .before .before .before .before .before .before .before .before .before .before .before .args in
+    lists-go (join (a .state .now) (a .parts .now) (a .lengths .now) (a .places .now) (a .body .now) (a .first) (a .source)) (copyWalk (join (a .state .now) (a .parts .now) (a .lengths .now) (a .places .now) (a .body .now) (a .first) (a .source)) (a .depth)) (a .write) (a .w) (a .i) (a .slot) (a .n) (a .counts .now) (a .room .now) (c .before .before .before .before .before .before .before .before .before .before .before .before .before .before .before .before .if1 .left) (add-one (a .i)) (c .before .before .before .before .before .before .before .before .before .before .before .before .before .before .before .if2 .left) (c .before .before .before .before .before .before .before .before .before .before .before .before .copy-offsets .ensures .0 (a .lengths .now) (a .source)) (c .before .before .before .before .before .before .before .before .before .before .before .before .copy-offsets .ensures .1 (a .lengths .now) (a .source)) (c .before .before .before .before .before .before .before .before .last .given .1) (c .before .before .before .before .before .rows-of .ensures) (c .before .before .extend .ensures)
+
+extend-list-same-length-2 : (t : ℕ) → extend-list-lts.Need-same-length-2 (extend-list-cs t) (extend-list-at t) extend-list.Post
+extend-list-same-length-2 t c = search needs
+
+extend-list-returns-4 : (t : ℕ) → extend-list-lts.Need-returns-4 (extend-list-cs t) (extend-list-at t) extend-list.Post
+extend-list-returns-4 t c =
+    let a = c .before .before .before .before .before .before .before .before .before .before .before .before .before .before .before .args in
+    lists-over (join (a .state .now) (a .parts .now) (a .lengths .now) (a .places .now) (a .body .now) (a .first) (a .source)) (copyWalk (join (a .state .now) (a .parts .now) (a .lengths .now) (a .places .now) (a .body .now) (a .first) (a .source)) (a .depth)) (a .write) (a .w) (a .i) (a .slot) (a .n) (a .counts .now) (a .room .now) (c .before .before .before .before .before .before .before .before .if1 .left) (add-one (a .i)) (c .before .before .before .before .before .before .before .if2 .left) (c .before .before .before .before .copy-offsets .ensures .0 (a .lengths .now) (a .source)) (c .before .before .before .before .copy-offsets .ensures .1 (a .lengths .now) (a .source)) (c .enum-told .given .1)
+
+extend-list-same-length-3 : (t : ℕ) → extend-list-lts.Need-same-length-3 (extend-list-cs t) (extend-list-at t) extend-list.Post
+extend-list-same-length-3 t c = search needs
+
+extend-list-returns-5 : (t : ℕ) → extend-list-lts.Need-returns-5 (extend-list-cs t) (extend-list-at t) extend-list.Post
+extend-list-returns-5 t c =
+    let a = c .before .before .before .before .before .before .before .before .before .before .before .before .before .before .before .args in
+    lists-fall (join (a .state .now) (a .parts .now) (a .lengths .now) (a .places .now) (a .body .now) (a .first) (a .source)) (copyWalk (join (a .state .now) (a .parts .now) (a .lengths .now) (a .places .now) (a .body .now) (a .first) (a .source)) (a .depth)) (a .write) (a .w) (a .i) (a .slot) (a .n) (a .counts .now) (a .room .now) (c .before .before .before .before .before .before .before .before .if1 .left) (add-one (a .i)) (c .before .before .before .before .before .before .before .if2 .left) (c .before .before .before .before .copy-offsets .ensures .0 (a .lengths .now) (a .source)) (c .before .before .before .before .copy-offsets .ensures .1 (a .lengths .now) (a .source)) (c .enum-told2 .given .1)
+
 extend-list-row-add-place : (t : ℕ) → extend-list-row-lts.Need-add-place (extend-list-row-cs t) (extend-list-row-at t) extend-list-row.Post
 extend-list-row-add-place t c = search needs
 
@@ -569,6 +668,41 @@ extend-list-view-returns-4 t c =
     let l = c .before .loop in
     list-rows (join (a .state .now) (a .parts .now) (a .lengths .now) (a .places .now) (a .body .now) (a .first) (a .source)) (copyWalk (join (a .state .now) (a .parts .now) (a .lengths .now) (a .places .now) (a .body .now) (a .first) (a .source)) (a .depth)) (a .write) (a .w) (a .i) (a .slot) (a .counts .now) (a .room .now) (a .n) (add-one (a .i)) (c .before .before .before .before .if1 .left) (c .before .before .before .pairs-in .ensures (a .state .now) (a .parts .now) (a .lengths .now) (a .source)) (c .before .before .if2 .left) (l .inv .2 _ _ _ (each-none _ _ (a .n - l .r) _ _ _ (omega arith)))
 
+extend-listed-width-at-requires : (t : ℕ) → extend-listed-lts.Need-width-at-requires (extend-listed-cs t) (extend-listed-at t) extend-listed.Post
+extend-listed-width-at-requires t c κs = search needs
+
+extend-listed-code-of-requires : (t : ℕ) → extend-listed-lts.Need-code-of-requires (extend-listed-cs t) (extend-listed-at t) extend-listed.Post
+extend-listed-code-of-requires t c κs = search needs
+
+extend-listed-is-list-requires : (t : ℕ) → extend-listed-lts.Need-is-list-requires (extend-listed-cs t) (extend-listed-at t) extend-listed.Post
+extend-listed-is-list-requires t c κs = search needs
+
+extend-listed-extend-list-requires : (t : ℕ) → extend-listed-lts.Need-extend-list-requires (extend-listed-cs t) (extend-listed-at t) extend-listed.Post
+extend-listed-extend-list-requires t c κs =
+    let a = c .before .before .before .before .before .before .before .before .before .before .before .before .args in
+    (omega arith, (search needs, list-wide (a .state .now) (a .i) (c .before .before .before .before .code-of .ensures) (c .before .before .before .is-list .ensures) (c .before .before .before .before .before .width-at .ensures) (c .before .before .if1 .taken)))
+
+extend-listed-same-length : (t : ℕ) → extend-listed-lts.Need-same-length (extend-listed-cs t) (extend-listed-at t) extend-listed.Post
+extend-listed-same-length t c = search needs
+
+extend-listed-returns : (t : ℕ) → extend-listed-lts.Need-returns (extend-listed-cs t) (extend-listed-at t) extend-listed.Post
+extend-listed-returns t c =
+    let a = c .before .before .before .before .before .before .before .before .before .before .before .before .before .before .before .args in
+    to-list (join (a .state .now) (a .parts .now) (a .lengths .now) (a .places .now) (a .body .now) (a .first) (a .source)) (copyWalk (join (a .state .now) (a .parts .now) (a .lengths .now) (a .places .now) (a .body .now) (a .first) (a .source)) (a .depth)) (a .write) (a .i) (a .slot) (a .n) (a .counts .now) (a .room .now) (c .before .before .before .before .before .before .before .code-of .ensures) (c .before .before .before .before .before .before .is-list .ensures) (c .before .before .before .before .before .before .before .before .width-at .ensures) (c .before .before .before .before .before .if1 .taken) (c .before .before .extend-list .ensures)
+
+extend-listed-extend-list-view-requires : (t : ℕ) → extend-listed-lts.Need-extend-list-view-requires (extend-listed-cs t) (extend-listed-at t) extend-listed.Post
+extend-listed-extend-list-view-requires t c κs =
+    let a = c .before .before .before .before .before .before .before .before .before .before .before .before .args in
+    (omega arith, (search needs, view-wide (a .state .now) (a .i) (c .before .before .before .before .code-of .ensures) (c .before .before .before .is-list .ensures) (c .before .before .before .before .before .width-at .ensures) (c .before .before .before .before .before .before .before .before .before .before .before .before .pre .1 .1) (c .before .before .if1 .left)))
+
+extend-listed-same-length-2 : (t : ℕ) → extend-listed-lts.Need-same-length-2 (extend-listed-cs t) (extend-listed-at t) extend-listed.Post
+extend-listed-same-length-2 t c = search needs
+
+extend-listed-returns-2 : (t : ℕ) → extend-listed-lts.Need-returns-2 (extend-listed-cs t) (extend-listed-at t) extend-listed.Post
+extend-listed-returns-2 t c =
+    let a = c .before .before .before .before .before .before .before .before .before .before .before .before .before .before .before .args in
+    to-list-view (join (a .state .now) (a .parts .now) (a .lengths .now) (a .places .now) (a .body .now) (a .first) (a .source)) (copyWalk (join (a .state .now) (a .parts .now) (a .lengths .now) (a .places .now) (a .body .now) (a .first) (a .source)) (a .depth)) (a .write) (a .i) (a .slot) (a .n) (a .counts .now) (a .room .now) (c .before .before .before .before .before .before .before .code-of .ensures) (c .before .before .before .before .before .before .is-list .ensures) (c .before .before .before .before .before .before .before .before .width-at .ensures) (c .before .before .before .before .before .before .before .before .before .before .before .before .before .before .before .pre .1 .1) (c .before .before .before .before .before .if1 .left) (c .before .before .extend-list-view .ensures)
+
 extend-run-returns : (t : ℕ) → extend-run-lts.Need-returns (extend-run-cs t) (extend-run-at t) extend-run.Post
 extend-run-returns t c =
     let a = c .before .before .before .before .before .before .before .args in
@@ -637,10 +771,16 @@ extend-run-returns-5 t c =
     runs-past (join (a .state .now) (a .parts .now) (a .lengths .now) (a .places .now) (a .body .now) (a .first) (a .source)) (copyWalk (join (a .state .now) (a .parts .now) (a .lengths .now) (a .places .now) (a .body .now) (a .first) (a .source)) (a .depth)) (a .write) (a .i) (a .slot) (a .n) (a .counts .now) (a .room .now) (c .before .before .before .before .before .before .before .before .before .if1 .left) (c .before .before .before .before .before .before .before .runs-ready .ensures (a .parts .now) (a .room .now) (a .source) (a .write)) (c .before .before .before .before .before .before .if2 .left) (add-one (a .i)) (c .before .before .before .before .before .width-at .ensures) (c .before .before .runs-at .ensures (a .state .now) (a .parts .now) (a .source) (copyWalk (join (a .state .now) (a .parts .now) (a .lengths .now) (a .places .now) (a .body .now) (a .first) (a .source)) (a .depth))) (c .enum-told .given .1)
 
 abbrev extend-sparse-Inv-loop : extend-sparse-lts.InvT-loop
-extend-sparse-Inv-loop state parts lengths places body counts₀ room₀ write source first i slot n depth g end k₀ t₀ counts room k t = (t ≤ 32) × (length room ≡ length room₀) × Rest state parts write (copyFields (join state parts lengths places body first source) (copyWalk (join state parts lengths places body first source) depth) slot n end 32 k₀ counts₀) room₀ (copyFields (join state parts lengths places body first source) (copyWalk (join state parts lengths places body first source) depth) slot n end (32 - t) k counts) room
+extend-sparse-Inv-loop state parts lengths places body counts₀ room₀ write source first i slot n depth ids row g end k₀ t₀ counts room k t = (t ≤ 32) × (length room ≡ length room₀) × Rest state parts write (copyFields (join state parts lengths places body first source) (copyWalk (join state parts lengths places body first source) depth) slot n end 32 k₀ counts₀) room₀ (copyFields (join state parts lengths places body first source) (copyWalk (join state parts lengths places body first source) depth) slot n end (32 - t) k counts) room
 
 abbrev extend-sparse-μ-loop : extend-sparse-lts.MeasureT-loop
-extend-sparse-μ-loop state parts lengths places body counts₀ room₀ write source first i slot n depth g end k₀ t₀ counts room k t = 32 - t
+extend-sparse-μ-loop state parts lengths places body counts₀ room₀ write source first i slot n depth ids row g end k₀ t₀ counts room k t = 32 - t
+
+extend-sparse-first-id-requires : (t : ℕ) → extend-sparse-lts.Need-first-id-requires (extend-sparse-cs t) (extend-sparse-at t) extend-sparse.Post extend-sparse-Inv-loop extend-sparse-μ-loop
+extend-sparse-first-id-requires t c κs = omega arith
+
+extend-sparse-first-row-requires : (t : ℕ) → extend-sparse-lts.Need-first-row-requires (extend-sparse-cs t) (extend-sparse-at t) extend-sparse.Post extend-sparse-Inv-loop extend-sparse-μ-loop
+extend-sparse-first-row-requires t c κs = omega arith
 
 extend-sparse-copy-numbers-requires : (t : ℕ) → extend-sparse-lts.Need-copy-numbers-requires (extend-sparse-cs t) (extend-sparse-at t) extend-sparse.Post extend-sparse-Inv-loop extend-sparse-μ-loop
 extend-sparse-copy-numbers-requires t c κs = omega arith
@@ -650,8 +790,8 @@ extend-sparse-same-length t c = search needs
 
 extend-sparse-returns : (t : ℕ) → extend-sparse-lts.Need-returns (extend-sparse-cs t) (extend-sparse-at t) extend-sparse.Post extend-sparse-Inv-loop extend-sparse-μ-loop
 extend-sparse-returns t c =
-    let a = c .before .before .before .before .before .before .before .before .before .before .before .before .args in
-    sparse-stop (join (a .state .now) (a .parts .now) (a .lengths .now) (a .places .now) (a .body .now) (a .first) (a .source)) (copyWalk (join (a .state .now) (a .parts .now) (a .lengths .now) (a .places .now) (a .body .now) (a .first) (a .source)) (a .depth)) (a .write) (a .i) (a .slot) (a .n) (a .counts .now) (a .room .now) (c .before .before .before .copy-numbers .ensures (a .lengths .now) (a .source)) (c .if1 .taken)
+    let a = c .before .before .before .before .before .before .before .before .before .before .before .before .before .before .args in
+    sparse-stop (join (a .state .now) (a .parts .now) (a .lengths .now) (a .places .now) (a .body .now) (a .first) (a .source)) (copyWalk (join (a .state .now) (a .parts .now) (a .lengths .now) (a .places .now) (a .body .now) (a .first) (a .source)) (a .depth)) (a .write) (a .i) (a .slot) (a .n) (a .counts .now) (a .room .now) (rw (c .before .before .before .before .before .before .before .first-id .ensures) at (c .before .before .before .copy-numbers .ensures (a .lengths .now) (a .source))) (c .if1 .taken)
 
 extend-sparse-end-of-requires : (t : ℕ) → extend-sparse-lts.Need-end-of-requires (extend-sparse-cs t) (extend-sparse-at t) extend-sparse.Post extend-sparse-Inv-loop extend-sparse-μ-loop
 extend-sparse-end-of-requires t c κs = search needs
@@ -667,9 +807,9 @@ extend-sparse-same-length-2 t c = search needs
 
 extend-sparse-returns-2 : (t : ℕ) → extend-sparse-lts.Need-returns-2 (extend-sparse-cs t) (extend-sparse-at t) extend-sparse.Post extend-sparse-Inv-loop extend-sparse-μ-loop
 extend-sparse-returns-2 t c =
-    let a = c .before .before .before .before .before .before .before .before .before .before .before .before .before .before .before .before .args in
+    let a = c .before .before .before .before .before .before .before .before .before .before .before .before .before .before .before .before .before .before .args in
     let l = c .before .before .loop in
-    sparse-go (join (a .state .now) (a .parts .now) (a .lengths .now) (a .places .now) (a .body .now) (a .first) (a .source)) (copyWalk (join (a .state .now) (a .parts .now) (a .lengths .now) (a .places .now) (a .body .now) (a .first) (a .source)) (a .depth)) (a .write) (a .i) (a .slot) (a .n) (a .counts .now) (a .room .now) (c .before .before .before .before .before .before .before .copy-numbers .ensures (a .lengths .now) (a .source)) (c .before .before .before .before .if1 .left) (c .before .before .before .end-of .ensures .0) (add-one (a .i)) (l .inv .2 _ _ _ (fields-none (join (a .state .now) (a .parts .now) (a .lengths .now) (a .places .now) (a .body .now) (a .first) (a .source)) (copyWalk (join (a .state .now) (a .parts .now) (a .lengths .now) (a .places .now) (a .body .now) (a .first) (a .source)) (a .depth)) (a .write) (a .slot) (a .n) (c .before .before .before .end-of .result) (l .k) _ _ (32 - l .t) (c .if2 .taken)))
+    sparse-go (join (a .state .now) (a .parts .now) (a .lengths .now) (a .places .now) (a .body .now) (a .first) (a .source)) (copyWalk (join (a .state .now) (a .parts .now) (a .lengths .now) (a .places .now) (a .body .now) (a .first) (a .source)) (a .depth)) (a .write) (a .i) (a .slot) (a .n) (a .counts .now) (a .room .now) (rw (c .before .before .before .before .before .before .before .before .before .before .before .first-id .ensures) at (c .before .before .before .before .before .before .before .copy-numbers .ensures (a .lengths .now) (a .source))) (c .before .before .before .before .if1 .left) (c .before .before .before .end-of .ensures .0) (add-one (a .i)) (l .inv .2 _ _ _ (fields-none (join (a .state .now) (a .parts .now) (a .lengths .now) (a .places .now) (a .body .now) (a .first) (a .source)) (copyWalk (join (a .state .now) (a .parts .now) (a .lengths .now) (a .places .now) (a .body .now) (a .first) (a .source)) (a .depth)) (a .write) (a .slot) (a .n) (c .before .before .before .end-of .result) (l .k) _ _ (32 - l .t) (c .if2 .taken)))
 
 extend-sparse-extend-requires : (t : ℕ) → extend-sparse-lts.Need-extend-requires (extend-sparse-cs t) (extend-sparse-at t) extend-sparse.Post extend-sparse-Inv-loop extend-sparse-μ-loop
 extend-sparse-extend-requires t c κs = omega arith
@@ -679,10 +819,10 @@ extend-sparse-same-length-3 t c = search needs
 
 extend-sparse-returns-3 : (t : ℕ) → extend-sparse-lts.Need-returns-3 (extend-sparse-cs t) (extend-sparse-at t) extend-sparse.Post extend-sparse-Inv-loop extend-sparse-μ-loop
 extend-sparse-returns-3 t c =
-    let a = c .before .before .before .before .before .before .before .before .before .before .before .before .before .before .before .before .before .before .before .before .before .before .args in
+    let a = c .before .before .before .before .before .before .before .before .before .before .before .before .before .before .before .before .before .before .before .before .before .before .before .before .args in
     let l = c .before .before .before .before .before .before .before .before .loop in
     let z : 32 - l .t ≡ suc (32 - (l .t + 1)) = omega arith in
-    sparse-go (join (a .state .now) (a .parts .now) (a .lengths .now) (a .places .now) (a .body .now) (a .first) (a .source)) (copyWalk (join (a .state .now) (a .parts .now) (a .lengths .now) (a .places .now) (a .body .now) (a .first) (a .source)) (a .depth)) (a .write) (a .i) (a .slot) (a .n) (a .counts .now) (a .room .now) (c .before .before .before .before .before .before .before .before .before .before .before .before .before .copy-numbers .ensures (a .lengths .now) (a .source)) (c .before .before .before .before .before .before .before .before .before .before .if1 .left) (c .before .before .before .before .before .before .before .before .before .end-of .ensures .0) (add-one (a .i)) (l .inv .2 _ _ _ (fields-stop (join (a .state .now) (a .parts .now) (a .lengths .now) (a .places .now) (a .body .now) (a .first) (a .source)) (copyWalk (join (a .state .now) (a .parts .now) (a .lengths .now) (a .places .now) (a .body .now) (a .first) (a .source)) (a .depth)) (a .write) (a .slot) (a .n) (c .before .before .before .before .before .before .before .before .before .end-of .result) (l .k) _ _ z (c .before .before .before .before .before .before .if2 .left) (c .before .before .before .extend .ensures) (c .if3 .taken)))
+    sparse-go (join (a .state .now) (a .parts .now) (a .lengths .now) (a .places .now) (a .body .now) (a .first) (a .source)) (copyWalk (join (a .state .now) (a .parts .now) (a .lengths .now) (a .places .now) (a .body .now) (a .first) (a .source)) (a .depth)) (a .write) (a .i) (a .slot) (a .n) (a .counts .now) (a .room .now) (rw (c .before .before .before .before .before .before .before .before .before .before .before .before .before .before .before .before .before .first-id .ensures) at (c .before .before .before .before .before .before .before .before .before .before .before .before .before .copy-numbers .ensures (a .lengths .now) (a .source))) (c .before .before .before .before .before .before .before .before .before .before .if1 .left) (c .before .before .before .before .before .before .before .before .before .end-of .ensures .0) (add-one (a .i)) (l .inv .2 _ _ _ (fields-stop (join (a .state .now) (a .parts .now) (a .lengths .now) (a .places .now) (a .body .now) (a .first) (a .source)) (copyWalk (join (a .state .now) (a .parts .now) (a .lengths .now) (a .places .now) (a .body .now) (a .first) (a .source)) (a .depth)) (a .write) (a .slot) (a .n) (c .before .before .before .before .before .before .before .before .before .end-of .result) (l .k) _ _ z (c .before .before .before .before .before .before .if2 .left) (rw (c .before .before .before .before .before .before .before .before .before .before .before .before .before .before .before .before .first-row .ensures) at (c .before .before .before .extend .ensures)) (c .if3 .taken)))
 
 extend-sparse-end-of-requires-2 : (t : ℕ) → extend-sparse-lts.Need-end-of-requires-2 (extend-sparse-cs t) (extend-sparse-at t) extend-sparse.Post extend-sparse-Inv-loop extend-sparse-μ-loop
 extend-sparse-end-of-requires-2 t c κs = omega (arith, c .before .before .before .before .before .before .before .before .before .end-of .ensures .1)
@@ -695,32 +835,34 @@ extend-sparse-loop-less t c = search needs
 
 extend-sparse-loop-again : (t : ℕ) → extend-sparse-lts.Need-loop-again (extend-sparse-cs t) (extend-sparse-at t) extend-sparse.Post extend-sparse-Inv-loop extend-sparse-μ-loop
 extend-sparse-loop-again t c =
-    let a = c .before .before .before .before .before .before .before .before .before .before .before .before .before .before .before .before .before .before .before .before .before .before .before .args in
+    let a = c .before .before .before .before .before .before .before .before .before .before .before .before .before .before .before .before .before .before .before .before .before .before .before .before .before .args in
     let l = c .before .before .before .before .before .before .before .before .before .loop in
     let z : 32 - l .t ≡ suc (32 - (l .t + 1)) = omega arith in
-    (search needs, search needs, λ g c2 room2 d. l .inv .2 _ _ _ (fields-more (join (a .state .now) (a .parts .now) (a .lengths .now) (a .places .now) (a .body .now) (a .first) (a .source)) (copyWalk (join (a .state .now) (a .parts .now) (a .lengths .now) (a .places .now) (a .body .now) (a .first) (a .source)) (a .depth)) (a .write) (a .slot) (a .n) (c .before .before .before .before .before .before .before .before .before .before .end-of .result) (l .k) _ _ z (c .before .before .before .before .before .before .before .if2 .left) (c .before .before .before .before .extend .ensures) (c .before .if3 .left) (c .end-of2 .ensures .0) d))
+    (search needs, search needs, λ g c2 room2 d. l .inv .2 _ _ _ (fields-more (join (a .state .now) (a .parts .now) (a .lengths .now) (a .places .now) (a .body .now) (a .first) (a .source)) (copyWalk (join (a .state .now) (a .parts .now) (a .lengths .now) (a .places .now) (a .body .now) (a .first) (a .source)) (a .depth)) (a .write) (a .slot) (a .n) (c .before .before .before .before .before .before .before .before .before .before .end-of .result) (l .k) _ _ z (c .before .before .before .before .before .before .before .if2 .left) (rw (c .before .before .before .before .before .before .before .before .before .before .before .before .before .before .before .before .before .first-row .ensures) at (c .before .before .before .before .extend .ensures)) (c .before .if3 .left) (c .end-of2 .ensures .0) d))
 
 extend-sparse-same-length-4 : (t : ℕ) → extend-sparse-lts.Need-same-length-4 (extend-sparse-cs t) (extend-sparse-at t) extend-sparse.Post extend-sparse-Inv-loop extend-sparse-μ-loop
 extend-sparse-same-length-4 t c = search needs
 
 extend-sparse-returns-4 : (t : ℕ) → extend-sparse-lts.Need-returns-4 (extend-sparse-cs t) (extend-sparse-at t) extend-sparse.Post extend-sparse-Inv-loop extend-sparse-μ-loop
 extend-sparse-returns-4 t c =
-    let a = c .before .before .before .before .before .before .before .before .before .before .before .before .before .before .before .args in
+    let a = c .before .before .before .before .before .before .before .before .before .before .before .before .before .before .before .before .before .args in
     let l = c .before .loop in
-    sparse-go (join (a .state .now) (a .parts .now) (a .lengths .now) (a .places .now) (a .body .now) (a .first) (a .source)) (copyWalk (join (a .state .now) (a .parts .now) (a .lengths .now) (a .places .now) (a .body .now) (a .first) (a .source)) (a .depth)) (a .write) (a .i) (a .slot) (a .n) (a .counts .now) (a .room .now) (c .before .before .before .before .before .before .copy-numbers .ensures (a .lengths .now) (a .source)) (c .before .before .before .if1 .left) (c .before .before .end-of .ensures .0) (add-one (a .i)) (l .inv .2 _ _ _ (fields-over (join (a .state .now) (a .parts .now) (a .lengths .now) (a .places .now) (a .body .now) (a .first) (a .source)) (copyWalk (join (a .state .now) (a .parts .now) (a .lengths .now) (a .places .now) (a .body .now) (a .first) (a .source)) (a .depth)) (a .write) (a .slot) (a .n) (c .before .before .end-of .result) (l .k) _ _ (omega arith)))
+    sparse-go (join (a .state .now) (a .parts .now) (a .lengths .now) (a .places .now) (a .body .now) (a .first) (a .source)) (copyWalk (join (a .state .now) (a .parts .now) (a .lengths .now) (a .places .now) (a .body .now) (a .first) (a .source)) (a .depth)) (a .write) (a .i) (a .slot) (a .n) (a .counts .now) (a .room .now) (rw (c .before .before .before .before .before .before .before .before .before .before .first-id .ensures) at (c .before .before .before .before .before .before .copy-numbers .ensures (a .lengths .now) (a .source))) (c .before .before .before .if1 .left) (c .before .before .end-of .ensures .0) (add-one (a .i)) (l .inv .2 _ _ _ (fields-over (join (a .state .now) (a .parts .now) (a .lengths .now) (a .places .now) (a .body .now) (a .first) (a .source)) (copyWalk (join (a .state .now) (a .parts .now) (a .lengths .now) (a .places .now) (a .body .now) (a .first) (a .source)) (a .depth)) (a .write) (a .slot) (a .n) (c .before .before .end-of .result) (l .k) _ _ (omega arith)))
 
-pub +extend+extend-data+extend-dense+extend-dense-row+extend-list-row+extend-list-view+extend-run+extend-sparse-spec :
+pub +extend+extend-data+extend-dense+extend-dense-row+extend-sparse+lists·extend-list+lists·extend-list-row+lists·extend-list-view+lists·extend-listed+runs·extend-run-spec :
     {M : Type 1} → statement M
-+extend+extend-data+extend-dense+extend-dense-row+extend-list-row+extend-list-view+extend-run+extend-sparse-spec =
++extend+extend-data+extend-dense+extend-dense-row+extend-sparse+lists·extend-list+lists·extend-list-row+lists·extend-list-view+lists·extend-listed+runs·extend-run-spec =
     close
     μ-extend
     μ-extend-data
     μ-extend-dense
     μ-extend-dense-row
+    μ-extend-sparse
+    μ-extend-list
     μ-extend-list-row
     μ-extend-list-view
+    μ-extend-listed
     μ-extend-run
-    μ-extend-sparse
     (λ t. extend-lts.spec (extend-cs t)
     (extend-at t)
     extend.Post
@@ -743,8 +885,8 @@ pub +extend+extend-data+extend-dense+extend-dense-row+extend-list-row+extend-lis
     extend-data.Post
     (extend-data-code-of-requires t)
     (extend-data-is-list-view-requires t)
-    (extend-data-width-at-requires t)
-    (extend-data-extend-list-view-requires t)
+    (extend-data-is-list-requires t)
+    (extend-data-extend-listed-requires t)
     (extend-data-same-length t)
     (extend-data-returns t)
     (extend-data-extend-sparse-requires t)
@@ -798,6 +940,51 @@ pub +extend+extend-data+extend-dense+extend-dense-row+extend-list-row+extend-lis
     (extend-dense-row-extend-requires t)
     (extend-dense-row-same-length-2 t)
     (extend-dense-row-returns-3 t))
+    (λ t. extend-sparse-lts.spec (extend-sparse-cs t)
+    (extend-sparse-at t)
+    extend-sparse.Post
+    extend-sparse-Inv-loop
+    extend-sparse-μ-loop
+    (extend-sparse-first-id-requires t)
+    (extend-sparse-first-row-requires t)
+    (extend-sparse-copy-numbers-requires t)
+    (extend-sparse-same-length t)
+    (extend-sparse-returns t)
+    (extend-sparse-end-of-requires t)
+    (extend-sparse-add-k t)
+    (extend-sparse-loop-holds t)
+    (extend-sparse-same-length-2 t)
+    (extend-sparse-returns-2 t)
+    (extend-sparse-extend-requires t)
+    (extend-sparse-same-length-3 t)
+    (extend-sparse-returns-3 t)
+    (extend-sparse-end-of-requires-2 t)
+    (extend-sparse-add-t t)
+    (extend-sparse-loop-less t)
+    (extend-sparse-loop-again t)
+    (extend-sparse-same-length-4 t)
+    (extend-sparse-returns-4 t))
+    (λ t. extend-list-lts.spec (extend-list-cs t)
+    (extend-list-at t)
+    extend-list.Post
+    (extend-list-returns t)
+    (extend-list-add-if2 t)
+    (extend-list-returns-2 t)
+    (extend-list-copy-offsets-requires t)
+    (extend-list-enum-known-last t)
+    (extend-list-add-rows-of t)
+    (extend-list-rows-of-requires t)
+    (extend-list-sub-size t)
+    (extend-list-add-extend t)
+    (extend-list-extend-requires t)
+    (extend-list-enum-told t)
+    (extend-list-enum-told-2 t)
+    (extend-list-same-length t)
+    (extend-list-returns-3 t)
+    (extend-list-same-length-2 t)
+    (extend-list-returns-4 t)
+    (extend-list-same-length-3 t)
+    (extend-list-returns-5 t))
     (λ t. extend-list-row-lts.spec (extend-list-row-cs t)
     (extend-list-row-at t)
     extend-list-row.Post
@@ -834,7 +1021,19 @@ pub +extend+extend-data+extend-dense+extend-dense-row+extend-list-row+extend-lis
     (extend-list-view-loop-again t)
     (extend-list-view-same-length-2 t)
     (extend-list-view-returns-4 t))
-    (λ t. extend-run-lts.spec (extend-run-cs t)
+    (λ t. extend-listed-lts.spec (extend-listed-cs t)
+    (extend-listed-at t)
+    extend-listed.Post
+    (extend-listed-width-at-requires t)
+    (extend-listed-code-of-requires t)
+    (extend-listed-is-list-requires t)
+    (extend-listed-extend-list-requires t)
+    (extend-listed-same-length t)
+    (extend-listed-returns t)
+    (extend-listed-extend-list-view-requires t)
+    (extend-listed-same-length-2 t)
+    (extend-listed-returns-2 t))
+    λ t. extend-run-lts.spec (extend-run-cs t)
     (extend-run-at t)
     extend-run.Post
     (extend-run-returns t)
@@ -853,26 +1052,4 @@ pub +extend+extend-data+extend-dense+extend-dense-row+extend-list-row+extend-lis
     (extend-run-enum-told t)
     (extend-run-same-length-2 t)
     (extend-run-returns-4 t)
-    (extend-run-returns-5 t))
-    λ t. extend-sparse-lts.spec (extend-sparse-cs t)
-    (extend-sparse-at t)
-    extend-sparse.Post
-    extend-sparse-Inv-loop
-    extend-sparse-μ-loop
-    (extend-sparse-copy-numbers-requires t)
-    (extend-sparse-same-length t)
-    (extend-sparse-returns t)
-    (extend-sparse-end-of-requires t)
-    (extend-sparse-add-k t)
-    (extend-sparse-loop-holds t)
-    (extend-sparse-same-length-2 t)
-    (extend-sparse-returns-2 t)
-    (extend-sparse-extend-requires t)
-    (extend-sparse-same-length-3 t)
-    (extend-sparse-returns-3 t)
-    (extend-sparse-end-of-requires-2 t)
-    (extend-sparse-add-t t)
-    (extend-sparse-loop-less t)
-    (extend-sparse-loop-again t)
-    (extend-sparse-same-length-4 t)
-    (extend-sparse-returns-4 t)
+    (extend-run-returns-5 t)

@@ -1,0 +1,82 @@
+// The walk of a copy at run-end nodes.
+// Follows arrow-data 60.1.0 src/transform/run.rs, Apache-2.0; see NOTICE.
+ghost use Prim.Native.Nat.{_+_, _<_, _^_};
+ghost use Rattle.walk.specs.Log.{Did};
+ghost use Rattle.walk.specs.Copy.{copyRuns, copyWalk};
+ghost use Rattle.leaf_walk.specs.Join.{join};
+use run_ends::LogicalRow;
+use run_ends::Runs;
+
+// A run-end node: the values of the runs of the rows, then the runs' ends.
+pub fn extend_run(
+    state: &[u64],
+    parts: &[u32],
+    lengths: &[u64],
+    places: &[u32],
+    body: &[u8],
+    counts: &mut [u64; 96],
+    room: &mut [u8],
+    write: bool,
+    source: usize,
+    first: usize,
+    i: usize,
+    slot: u64,
+    n: u64,
+    depth: u32,
+) -> u8
+    requires { ⌜ (first < 2 ^ 32) × (source < 2 ^ 32) × (i < 32) × (slot + n < 2 ^ 63) ⌝ }
+    ensures { λ g. ⌜ Did (now (state .entry)) (now (parts .entry)) write (copyRuns (join (now (state .entry)) (now (parts .entry)) (now (lengths .entry)) (now (places .entry)) (now (body .entry)) first source) (copyWalk (join (now (state .entry)) (now (parts .entry)) (now (lengths .entry)) (now (places .entry)) (now (body .entry)) first source) depth) i slot n (now (counts .entry))) (now (room .entry)) g (now (counts .exit)) (now (room .exit)) ⌝ }
+{
+    if n == 0 {
+        return 0;
+    }
+    let g = rows::runs_ready(state, lengths, places, body, counts, first, i, n);
+    if g != 0 {
+        return g;
+    }
+    let w = steps::width_at(state, i + 1);
+    let last = growth::rows_of(counts, i);
+    let start = LogicalRow(slot);
+    match rows::runs_at(lengths, places, body, first, i, w, start, n) {
+        Runs::Range { first: run, count } => {
+            let g = crate::extend(
+                state,
+                parts,
+                lengths,
+                places,
+                body,
+                counts,
+                room,
+                write,
+                source,
+                first,
+                i + 2,
+                run.0 as u64,
+                count as u64,
+                depth,
+            );
+            if g != 0 {
+                return g;
+            }
+            rows::run_numbers(
+                state,
+                parts,
+                lengths,
+                places,
+                body,
+                counts,
+                room,
+                write,
+                first,
+                i,
+                w,
+                start,
+                n,
+                last,
+                run,
+                count,
+            )
+        }
+        Runs::None => 12,
+    }
+}
