@@ -70,12 +70,11 @@ static void strings(struct column *c) {
     c->buffers[2] = bytes_of(8 * (size_t)ROWS);
 }
 
-static void lists(struct column *c) {
-    int32_t *sizes = bytes_of(4 * (size_t)ROWS);
-    for (int32_t k = 0; k < ROWS; k++) sizes[k] = 2;
-    begin(c, "+vl", 3);
+/* Two items a row: `sizes` of a list-view. */
+static void lists(struct column *c, const char *format, int32_t *sizes) {
+    begin(c, format, sizes ? 3 : 2);
     c->buffers[1] = rising(2);
-    c->buffers[2] = sizes;
+    if (sizes) c->buffers[2] = sizes;
     c->child_schema = (struct ArrowSchema){.format = "i", .name = "item", .release = keep_schema};
     c->child = (struct ArrowArray){.length = 2 * (int64_t)ROWS, .n_buffers = 2, .buffers = c->child_buffers, .release = keep_array};
     c->child_buffers[0] = NULL;
@@ -85,6 +84,12 @@ static void lists(struct column *c) {
     c->schema.children = c->child_schemas;
     c->array.children = c->children;
     c->schema.n_children = c->array.n_children = 1;
+}
+
+static int32_t *twos(void) {
+    int32_t *sizes = bytes_of(4 * (size_t)ROWS);
+    for (int32_t k = 0; k < ROWS; k++) sizes[k] = 2;
+    return sizes;
 }
 
 static void views(struct column *c) {
@@ -204,7 +209,7 @@ static void few_rows(const char *name, struct column *c) {
 }
 
 int main(void) {
-    struct column c[4] = {{.size = 0}, {.size = 0}, {.size = 0}, {.size = 0}};
+    struct column c[5] = {{.size = 0}, {.size = 0}, {.size = 0}, {.size = 0}, {.size = 0}};
     puts("| import, join and export | port, us | plain, us | ratio | goal | | |");
     puts("|---|---|---|---|---|---|---|");
     whole_columns(0);
@@ -213,9 +218,11 @@ int main(void) {
     few_rows("int64 with validity", &c[0]);
     strings(&c[1]);
     few_rows("byte strings", &c[1]);
-    lists(&c[2]);
-    few_rows("list-view of i32", &c[2]);
-    views(&c[3]);
-    few_rows("views", &c[3]);
+    lists(&c[2], "+l", NULL);
+    few_rows("list of i32", &c[2]);
+    lists(&c[3], "+vl", twos());
+    few_rows("list-view of i32", &c[3]);
+    views(&c[4]);
+    few_rows("views", &c[4]);
     return 0;
 }

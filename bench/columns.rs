@@ -116,6 +116,7 @@ enum Kind {
     Fixed(usize),
     Strings(usize),
     Views,
+    List(usize),
     ListView(usize),
     Union { dense: bool, ids: u128 },
     Runs,
@@ -175,6 +176,8 @@ fn parse(format: &[u8], ids: &mut Vec<u8>) -> Option<Kind> {
         b"z" | b"u" => Kind::Strings(4),
         b"Z" | b"U" => Kind::Strings(8),
         b"vz" | b"vu" => Kind::Views,
+        b"+l" => Kind::List(4),
+        b"+L" => Kind::List(8),
         b"+vl" => Kind::ListView(4),
         b"+vL" => Kind::ListView(8),
         b"+r" => Kind::Runs,
@@ -253,7 +256,7 @@ impl<'a> Check<'a> {
                 plain && matches!(kind, Kind::Fixed(_)) && !matches!(self.format(i), b"f" | b"g")
             }
             Kind::Union { .. } => self.below(i) as usize == ids.len(),
-            Kind::ListView(_) => self.below(i) == 1,
+            Kind::List(_) | Kind::ListView(_) => self.below(i) == 1,
             Kind::Runs => self.below(i) == 2 && matches!(self.format(i + 1), b"s" | b"i" | b"l") && self.below(i + 1) == 0,
             _ => self.below(i) == 0,
         };
@@ -288,11 +291,13 @@ impl<'a> Check<'a> {
                     _ => self.keys::<i64>(i, values, &node),
                 })
             }
-            Kind::Strings(4) => self.strings::<i32>(i, &node),
-            Kind::Strings(_) => self.strings::<i64>(i, &node),
+            Kind::Strings(4) => self.offsets::<i32>(i, &node, self.place(i, 5)?.len()),
+            Kind::Strings(_) => self.offsets::<i64>(i, &node, self.place(i, 5)?.len()),
             Kind::Views => self.views(i, &node),
-            Kind::ListView(4) => self.lists::<i32>(i, &node),
-            Kind::ListView(_) => self.lists::<i64>(i, &node),
+            Kind::List(4) => self.offsets::<i32>(i, &node, self.rows(i + 1)),
+            Kind::List(_) => self.offsets::<i64>(i, &node, self.rows(i + 1)),
+            Kind::ListView(4) => self.list_views::<i32>(i, &node),
+            Kind::ListView(_) => self.list_views::<i64>(i, &node),
             Kind::Union { dense, ids } => self.unions(i, &node, dense, ids),
             Kind::Runs => match self.format(i + 1) {
                 b"s" => self.runs::<i16>(i, &node),
@@ -314,15 +319,16 @@ impl<'a> Check<'a> {
         }
     }
 
-    fn strings<T: Word>(&self, i: usize, node: &Node) -> Option<bool> {
-        let (offsets, data) = (self.place(i, 3)?, self.place(i, 5)?);
+    // Offsets up to `most`: of byte strings and of lists.
+    fn offsets<T: Word>(&self, i: usize, node: &Node, most: usize) -> Option<bool> {
+        let offsets = self.place(i, 3)?;
         if node.slots.is_empty() && offsets.is_empty() {
             return Some(true);
         }
         let offsets = &offsets.get(..(node.slots.end + 1).checked_mul(T::W)?)?[T::W * node.slots.start..];
         let rising = each(T::numbers(offsets).zip(T::numbers(&offsets[T::W..])).map(|(a, b)| a <= b));
         let (first, last) = (T::read(offsets), T::read(&offsets[offsets.len() - T::W..]));
-        Some(0 <= first.into() && rising && last.into() <= data.len() as i64)
+        Some(0 <= first.into() && rising && last.into() <= most as i64)
     }
 
     fn views(&self, i: usize, node: &Node) -> Option<bool> {
@@ -346,7 +352,7 @@ impl<'a> Check<'a> {
         Some(rows.into_iter().all(|(v, k)| !bit(node.valid, k) || good(v)))
     }
 
-    fn lists<T: Word>(&self, i: usize, node: &Node) -> Option<bool> {
+    fn list_views<T: Word>(&self, i: usize, node: &Node) -> Option<bool> {
         let offsets = &self.entries(i, 3, T::W, node.slots.end)?[T::W * node.slots.start..];
         let sizes = &self.entries(i, 5, T::W, node.slots.end)?[T::W * node.slots.start..];
         let child = self.rows(i + 1) as i64;
@@ -546,6 +552,21 @@ fn views(random: &mut Random) -> Lent {
     lent
 }
 
+fn list(random: &mut Random) -> Lent {
+    let mut lent = Lent::default();
+    lent.node("+l", 1, 0, ROWS, OFFSET);
+    let mut offsets = vec![0i32];
+    for i in 0..SLOTS {
+        offsets.push(offsets[i] + random.below(4) as i32);
+    }
+    let items = offsets[SLOTS] as usize;
+    lent.node("i", 0, 0, items, 0);
+    lent.validity(0, &some_bytes(random, SLOTS / 8));
+    lent.buffer(0, 1, bytes(&offsets));
+    lent.buffer(1, 1, bytes(&ints(random, items)));
+    lent
+}
+
 fn list_view(random: &mut Random) -> Lent {
     let mut lent = Lent::default();
     lent.node("+vl", 1, 0, ROWS, OFFSET);
@@ -686,6 +707,7 @@ fn main() {
         ("i32 with validity", fixed(random)),
         ("byte strings", strings(random)),
         ("views", views(random)),
+        ("list", list(random)),
         ("list-view", list_view(random)),
         ("sparse union", union(random, "+us:5,7", false)),
         ("dense union", dense.clone()),

@@ -31,7 +31,7 @@ fn row(random: &mut Random, ty: &Type) -> Row {
         "g" => Row::Double(random.next() >> 12),
         "u" => text(random, 20),
         "vu" => text(random, 25),
-        "+vl" => Row::List((0..random.below(4)).map(|_| row(random, &ty.children[0])).collect()),
+        "+l" | "+L" | "+vl" => Row::List((0..random.below(4)).map(|_| row(random, &ty.children[0])).collect()),
         "+r" => row(random, &ty.children[1]),
         "C" | "S" => Row::Bytes(format!("entry {}", random.below(200)).into_bytes()),
         _ => {
@@ -110,6 +110,14 @@ impl Ours {
         }
         counters[0]
     }
+
+    // the same orders as one list
+    fn list(&mut self, words: &[u64]) -> u64 {
+        let mut counters = self.opened;
+        let answer = calls::orders(&self.plan, &self.parts, &self.lent.tables(), &mut counters, &mut self.room, words);
+        assert_eq!(answer.ground, 0);
+        counters[0]
+    }
 }
 
 fn open(arrays: &[ArrayData]) -> MutableArrayData<'_> {
@@ -168,14 +176,19 @@ fn measure(random: &mut Random, name: &str, ty: &str) {
     let arrays: Vec<ArrayData> = sources.iter().map(|c| convert.array(c)).collect();
     same(&sources, &arrays);
     let (one, many) = (pieces(1), pieces(64));
-    let (mut ours, mut again, mut third) = (Ours::new(&sources), Ours::new(&sources), Ours::new(&sources));
+    let words: Vec<u64> = many.iter().flat_map(|(start, end)| [0, sources.len() as u64 - 1, *start, *end]).collect();
+    let (mut ours, mut again, mut third, mut fourth) = (Ours::new(&sources), Ours::new(&sources), Ours::new(&sources), Ours::new(&sources));
+    assert_eq!((again.orders(&many), &again.room), (fourth.list(&words), &fourth.room));
     let checked = Ours::new(&sources);
-    let [ours_one, ours_many, ours_open, check, plain_one, plain_many, plain_open] = best([
+    let [ours_one, ours_many, ours_list, ours_open, check, plain_one, plain_many, plain_open] = best([
         &mut || {
             black_box(ours.orders(black_box(&one)));
         },
         &mut || {
             black_box(again.orders(black_box(&many)));
+        },
+        &mut || {
+            black_box(fourth.list(black_box(&words)));
         },
         &mut || {
             black_box(third.open());
@@ -193,9 +206,11 @@ fn measure(random: &mut Random, name: &str, ty: &str) {
             black_box(open(black_box(&arrays)));
         },
     ]);
-    for (count, ours, plain) in [(1, ours_one, plain_one - plain_open), (64, ours_many, plain_many - plain_open)] {
+    let plain_many = plain_many - plain_open;
+    for (orders, ours, plain) in
+        [("one order", ours_one, plain_one - plain_open), ("64 orders", ours_many, plain_many), ("64 orders as one list", ours_list, plain_many)]
+    {
         let ratio = ours / plain;
-        let orders = if count == 1 { "one order" } else { "64 orders" };
         println!("| {name}, {orders} | {ours:.0} | {plain:.0} | {ratio:.2} | 1.0 | {} |", verdict(ratio, 1.0));
     }
     println!("| {name}, opening (of which checking {check:.0}) | {ours_open:.0} | {plain_open:.0} | | | |");
@@ -246,12 +261,15 @@ fn main() {
         ("i32 with validity", "i?"),
         ("byte strings", "u"),
         ("views", "vu"),
+        ("list of i32", "+l(i)"),
+        ("large list of i32", "+L(i)"),
         ("list-view of i32", "+vl(i)"),
         ("sparse union of i32 and i64", "+us:0,1(i, l)"),
         ("dense union of i32 and i64", "+ud:0,1(i, l)"),
         ("run ends over i32", "+r(i, i)"),
         ("dictionary, joined", "S[u]"),
         ("dictionary, shared", "C[u]"),
+        ("list of byte strings", "+l(u)"),
         ("list-view of byte strings", "+vl(u)"),
         ("dense union of three", "+ud:0,1,2(i, u, g)"),
         ("run ends over a dictionary, joined", "+r(i, S[u])"),

@@ -44,7 +44,8 @@ enum lafkuno_ground {
 
     /* Whoever prepares sources: */
     LAFKUNO_CEILING_PASSED = 9,         /* no source; more than 16 sources, 32 nodes, depth 8, 16 union fields, 32 data buffers a
-                                           view node or 4,294,967,295 bytes a body; a negative length or offset */
+                                           view node or 4,294,967,295 bytes a body; a negative length or offset; more than
+                                           256 orders in a list */
     LAFKUNO_UNKNOWN_TYPE = 10,          /* a format, a number of children or a union's ids that are not taken */
     LAFKUNO_TYPES_DIFFER = 11,          /* formats, or flags of nodes other than the root and dictionary values */
     LAFKUNO_BAD_SOURCE = 12,            /* a source breaks the rules of its type, or a table is too short for it */
@@ -69,6 +70,16 @@ enum lafkuno_ground {
 #define LAFKUNO_TREE 256
 #define LAFKUNO_ANSWER 12
 #define LAFKUNO_RUN 2
+
+/* A list of orders: the most that it has, and the numbers of each: LAFKUNO_ORDER_COPY, the source, start and end; or LAFKUNO_ORDER_NULLS,
+ * how many nulls, and two numbers that are not read. */
+#define LAFKUNO_MOST_ORDERS 256
+#define LAFKUNO_ORDER 4
+#define LAFKUNO_ORDER_COPY 0
+#define LAFKUNO_ORDER_NULLS 1
+/* Of the answer to a list: the ground, and the place of the order that it is of, counted from 0. */
+#define LAFKUNO_ANSWER_GROUND(answer) ((uint8_t)((answer) & 255))
+#define LAFKUNO_ANSWER_PLACE(answer) ((answer) >> 8)
 
 /* The numbers of a mean and of a ratio. */
 #define LAFKUNO_MEAN 5
@@ -130,6 +141,14 @@ uint8_t lafkuno_measure_copy(const uint64_t *plan, size_t plan_len, const uint32
  *   n         how many nulls. */
 uint8_t lafkuno_measure_nulls(const uint64_t *plan, size_t plan_len, uint64_t *counters, size_t counters_len, uint64_t n);
 
+/* What a list of orders does to the counters: the ground, but for 13 and 14 of the parts, and the place as lafkuno_orders answers them, or the
+ * counters are changed.
+ *   orders    LAFKUNO_ORDER numbers an order. */
+uint32_t lafkuno_measure_orders(const uint64_t *plan, size_t plan_len, const uint32_t *sources, size_t sources_len,
+                                const uint64_t *lengths, size_t lengths_len, const uint32_t *places, size_t places_len,
+                                const uint8_t *body, size_t body_len, uint64_t *counters, size_t counters_len,
+                                const uint64_t *orders, size_t orders_len);
+
 /* The bytes that a part must hold for these counters, at most UINT64_MAX; 0 where there is no such part.
  *   p         the part's number. */
 uint64_t lafkuno_needed_bytes(const uint64_t *plan, size_t plan_len, const uint64_t *counters, size_t counters_len, uint32_t p);
@@ -160,6 +179,17 @@ uint8_t lafkuno_copy(const uint64_t *plan, size_t plan_len, const uint32_t *part
  *   n         how many nulls. */
 uint8_t lafkuno_nulls(const uint64_t *plan, size_t plan_len, const uint32_t *parts, size_t parts_len,
                       uint64_t *counters, size_t counters_len, uint8_t *room, size_t room_len, uint64_t n);
+
+/* Carries out a list of up to LAFKUNO_MOST_ORDERS orders, all or none. Where each would be accepted when given one after the other, all are
+ * carried out, and what they leave is the same; otherwise nothing is changed, and the answer has the ground of the first that is refused
+ * (LAFKUNO_ANSWER_GROUND) and its place (LAFKUNO_ANSWER_PLACE). A longer list is 9 at place 0 before anything else; an empty one is
+ * accepted, whatever is lent.
+ *   orders    LAFKUNO_ORDER numbers an order; what is behind the last whole one is not read. A kind that is neither of the two is nulls. */
+uint32_t lafkuno_orders(const uint64_t *plan, size_t plan_len, const uint32_t *parts, size_t parts_len,
+                        const uint32_t *sources, size_t sources_len, const uint64_t *lengths, size_t lengths_len,
+                        const uint32_t *places, size_t places_len, const uint8_t *body, size_t body_len,
+                        uint64_t *counters, size_t counters_len, uint8_t *room, size_t room_len,
+                        const uint64_t *orders, size_t orders_len);
 
 /* Describes the finished array by tables like those of a source; its type is source 0's. 14 where a table is not of its size, 9 where
  * base + room_len is above 4,294,967,295. It can be lent again over a body that holds the room at base, behind the old body.
@@ -210,7 +240,7 @@ enum lafkuno_kind {
     LAFKUNO_SINGLE = 3,   /* the bits of an f32 */
     LAFKUNO_DOUBLE = 4,   /* the bits of an f64 */
     LAFKUNO_BYTES = 5,    /* where they begin in the body, how many */
-    LAFKUNO_LIST = 6,     /* the child's node counted from the column's first, its first row, how many rows */
+    LAFKUNO_LIST = 6,     /* of a list or list-view: the child's node counted from the column's first, its first row, how many rows */
     LAFKUNO_REFUSED = 16  /* and above: the ground is added to it */
 };
 

@@ -12,7 +12,8 @@
  * Sources are only read: whoever owns them releases them, at any time after the call. Of each buffer only what the slice reaches is
  * read and copied, once, and memory that several sources share is copied once for all. What the caller must guarantee is what the
  * Arrow C Data Interface asks of a producer: structs that are not released, and buffers that hold what format, length and offset ask
- * for. Everything else is checked before a row is read. UTF-8 is not checked.
+ * for. Everything else is checked before a row is read. UTF-8 is not checked. Types are those of docs/FORMAT.md: numbers, byte strings,
+ * views, lists and list-views, unions, run-end columns and dictionaries, and what is stored as numbers.
  *
  * No function keeps state: calls may run at the same time on several threads, also over the same sources. A joined array may be
  * released on any thread. Apache-2.0; see LICENSE and NOTICE. */

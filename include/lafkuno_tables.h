@@ -93,6 +93,12 @@ static inline uint8_t lafkuno_state_measure_nulls(struct lafkuno_state *s, uint6
     return lafkuno_measure_nulls(s->plan, LAFKUNO_PLAN, s->counters, LAFKUNO_COUNTERS, n);
 }
 
+/* lafkuno_measure_orders: what a list of n orders does to the counters. */
+static inline uint32_t lafkuno_state_measure_orders(struct lafkuno_state *s, const struct lafkuno_tables *t, const uint64_t *orders, size_t n) {
+    return lafkuno_measure_orders(s->plan, LAFKUNO_PLAN, t->sources, t->sources_len, t->lengths, t->lengths_len, t->places, t->places_len,
+                                  t->body, t->body_len, s->counters, LAFKUNO_COUNTERS, orders, LAFKUNO_ORDER * n);
+}
+
 /* Lays the parts for what was measured, each at a multiple of 64, and answers how many bytes the room must have; above
  * LAFKUNO_MOST_BYTES no room can be lent. */
 static inline uint64_t lafkuno_state_parts(struct lafkuno_state *s) {
@@ -128,6 +134,13 @@ static inline uint8_t lafkuno_state_copy(struct lafkuno_state *s, const struct l
 /* lafkuno_nulls: n nulls behind the destination's rows. */
 static inline uint8_t lafkuno_state_nulls(struct lafkuno_state *s, uint64_t n) {
     return lafkuno_nulls(s->plan, LAFKUNO_PLAN, s->parts, s->parts_len, s->counters, LAFKUNO_COUNTERS, s->room, s->room_len, n);
+}
+
+/* lafkuno_orders: a list of n orders, all or none; the ground and the place are LAFKUNO_ANSWER_GROUND and LAFKUNO_ANSWER_PLACE of the answer. */
+static inline uint32_t lafkuno_state_orders(struct lafkuno_state *s, const struct lafkuno_tables *t, const uint64_t *orders, size_t n) {
+    return lafkuno_orders(s->plan, LAFKUNO_PLAN, s->parts, s->parts_len, t->sources, t->sources_len, t->lengths, t->lengths_len, t->places,
+                          t->places_len, t->body, t->body_len, s->counters, LAFKUNO_COUNTERS, s->room, s->room_len, orders,
+                          LAFKUNO_ORDER * n);
 }
 
 /* lafkuno_buffer_total: how many data buffers the finished array names. */

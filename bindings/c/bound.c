@@ -14,7 +14,7 @@ struct bound {
     uint64_t rows[LAFKUNO_MOST_NODES];
     uint32_t first; /* the source's first node */
     uint32_t next;  /* the node that is met next */
-    bool nulls;     /* the flow is of ordered nulls, which add no rows below a list-view */
+    bool nulls;     /* the flow is of ordered nulls, which add no rows below a list or list-view */
 };
 
 static uint64_t plus(uint64_t a, uint64_t b) { return a > UINT64_MAX - b ? UINT64_MAX : a + b; }
@@ -24,10 +24,11 @@ static uint64_t less(uint64_t a, uint64_t b) { return a < b ? a : b; }
 /* What reaches the children of a node. */
 static struct flow flow_below(const struct bound *bound, uint32_t node, enum kind kind, struct flow flow) {
     const struct spread *spread = &bound->import->spreads[node];
-    if (kind == LIST_VIEW && bound->nulls) return (struct flow){0, 0, 0};
-    if (kind == LIST_VIEW) {
+    if ((kind == LIST || kind == LIST_VIEW) && bound->nulls) return (struct flow){0, 0, 0};
+    if (kind == LIST || kind == LIST_VIEW) {
         uint64_t rows = less(times(flow.rows, spread->largest), times(flow.times, spread->sum));
-        return (struct flow){rows, spread->again ? rows : flow.times, flow.rows};
+        /* neighbouring rows of a list are one stretch of its child */
+        return (struct flow){rows, spread->again ? rows : flow.times, kind == LIST ? flow.pieces : flow.rows};
     }
     if (kind == DENSE) return (struct flow){flow.rows, spread->again ? flow.rows : flow.times, flow.rows};
     if (kind == RUNS) { /* the first child's rows are the runs */

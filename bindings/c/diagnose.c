@@ -43,6 +43,19 @@ static int in_string(const struct look *look) {
     return 0;
 }
 
+static int in_list(const struct look *look) {
+    const uint8_t *offsets = rows_of(look, 1, look->width);
+    int64_t child = (int64_t)look->import->lengths[2 * (look->node + 1)];
+    for (uint64_t r = 0; r < look->rows; r++) {
+        int64_t from = number_at(offsets, r, look->width), to = number_at(offsets, r + 1, look->width);
+        if (from < 0 || to < from || to > child)
+            return refuse(look->import->report, LAFKUNO_BAD_SOURCE,
+                          "row %" PRIu64 ": offsets %" PRId64 " and %" PRId64 ", and the child has %" PRId64 " rows", look->first + r, from,
+                          to, child);
+    }
+    return 0;
+}
+
 static int in_list_view(const struct look *look) {
     const uint8_t *offsets = rows_of(look, 1, look->width), *sizes = rows_of(look, 2, look->width);
     int64_t child = (int64_t)look->import->lengths[2 * (look->node + 1)];
@@ -138,6 +151,7 @@ int refuse_node(const struct import *import, uint32_t node) {
     switch (format_of(look.format).kind) {
         case FIXED: code = import->schema[5 * node + 4] ? in_keys(&look) : 0; break;
         case STRING: code = in_string(&look); break;
+        case LIST: code = in_list(&look); break;
         case LIST_VIEW: code = in_list_view(&look); break;
         case SPARSE: code = in_union(&look, false); break;
         case DENSE: code = in_union(&look, true); break;

@@ -102,7 +102,7 @@ static const void *buffer_of(const struct walk *walk, size_t node, int b) {
 }
 
 static struct counts counts_of(const struct ArrowSchema *s, enum kind kind, const position *place) {
-    static const int64_t buffers[] = {[FIXED] = 2, [STRING] = 3, [VIEW] = 3, [LIST_VIEW] = 3, [SPARSE] = 1, [DENSE] = 2, [RUNS] = 0};
+    static const int64_t buffers[] = {[FIXED] = 2, [STRING] = 3, [VIEW] = 3, [LIST] = 2, [LIST_VIEW] = 3, [SPARSE] = 1, [DENSE] = 2, [RUNS] = 0};
     struct counts n = {buffers[kind], 0, s->n_children, s->dictionary != NULL};
     if (kind == VIEW) n.sizes = place[8];
     n.buffers += n.sizes;

@@ -44,6 +44,8 @@ struct format format_of(const char *format) {
         else if (format[0] == 'U' || format[0] == 'Z') answer = (struct format){STRING, 8};
     } else if (!strcmp(format, "vu") || !strcmp(format, "vz")) {
         answer = (struct format){VIEW, 16};
+    } else if (!strcmp(format, "+l") || !strcmp(format, "+L")) {
+        answer = (struct format){LIST, format[1] == 'l' ? 4 : 8};
     } else if (!strcmp(format, "+vl") || !strcmp(format, "+vL")) {
         answer = (struct format){LIST_VIEW, format[2] == 'l' ? 4 : 8};
     } else if (!strcmp(format, "+r")) {

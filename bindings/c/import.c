@@ -125,6 +125,7 @@ static int import_buffers(struct import *import, const struct node *node, struct
     switch (node->format.kind) {
         case FIXED: return want_entries(import, node, 1, slots, node->format.width, place, AS_THEY_ARE);
         case STRING: return import_string(import, node, place);
+        case LIST: return import_list(import, node, children);
         case LIST_VIEW: return import_list_view(import, node, children);
         case DENSE: return import_dense(import, node, children);
         case RUNS: return runs_window(import, node, children);

@@ -43,16 +43,18 @@ static int refuse_sources(struct column *column, int code) {
 
 /* ---- orders */
 
-/* Tries an order on the counters, or carries it out. */
-static uint8_t give_order(struct column *column, const struct lafkuno_order *order, bool measure) {
-    struct lafkuno_state *state = &column->state;
-    if (order->source == LAFKUNO_GAP) {
-        if (order->end < order->start) return LAFKUNO_NO_SUCH_ROWS;
-        uint64_t n = order->end - order->start;
-        return measure ? lafkuno_state_measure_nulls(state, n) : lafkuno_state_nulls(state, n);
-    }
-    return measure ? lafkuno_state_measure_copy(state, &column->tables, order->source, order->start, order->end)
-                   : lafkuno_state_copy(state, &column->tables, order->source, order->start, order->end);
+/* A gap that ends before it starts; what else is no order the library refuses. */
+static bool backwards(const struct lafkuno_order *order) {
+    return order->source == LAFKUNO_GAP && order->end < order->start;
+}
+
+/* The numbers of an order in a list. */
+static void put_order(const struct lafkuno_order *order, uint64_t *words) {
+    bool gap = order->source == LAFKUNO_GAP;
+    words[0] = gap ? LAFKUNO_ORDER_NULLS : LAFKUNO_ORDER_COPY;
+    words[1] = gap ? order->end - order->start : order->source;
+    words[2] = order->start;
+    words[3] = order->end;
 }
 
 /* Whether a node can be the cause of 6, 7 or 8. */
@@ -60,7 +62,7 @@ static bool may_cause(const struct ArrowSchema *schema, int ground) {
     enum kind kind = format_of(storage_of(schema->format)).kind;
     if (ground == LAFKUNO_TOO_MANY_ENTRIES) return schema->dictionary != NULL;
     if (ground == LAFKUNO_RUN_END_TOO_LARGE) return kind == RUNS;
-    return ground == LAFKUNO_OFFSET_TOO_LARGE && (kind == STRING || kind == LIST_VIEW || kind == DENSE);
+    return ground == LAFKUNO_OFFSET_TOO_LARGE && (kind == STRING || kind == LIST || kind == LIST_VIEW || kind == DENSE);
 }
 
 /* The calls tell no node: it is known where only one can be the cause. */
@@ -76,12 +78,22 @@ static int refuse_data(struct column *column, int ground) {
     return refuse_plainly(column->report, ground);
 }
 
+static int refuse_order(struct column *column, const struct task *task, size_t k, uint8_t ground) {
+    at_order(column->report, (int64_t)k, &task->orders[k]);
+    return refuse_data(column, ground);
+}
+
+/* Tries the orders on the counters, or carries them out, in lists as long as they may be. */
 static int give_orders(struct column *column, const struct task *task, bool measure) {
-    for (size_t k = 0; k < task->order_count; k++) {
-        uint8_t ground = give_order(column, &task->orders[k], measure);
-        if (!ground) continue;
-        at_order(column->report, (int64_t)k, &task->orders[k]);
-        return refuse_data(column, ground);
+    uint64_t words[LAFKUNO_ORDER * LAFKUNO_MOST_ORDERS];
+    for (size_t k = 0, n; k < task->order_count; k += n) {
+        for (n = 0; n < LAFKUNO_MOST_ORDERS && k + n < task->order_count && !backwards(&task->orders[k + n]); n++)
+            put_order(&task->orders[k + n], words + LAFKUNO_ORDER * n);
+        if (!n) return refuse_order(column, task, k, LAFKUNO_NO_SUCH_ROWS);
+        uint32_t answer = measure ? lafkuno_state_measure_orders(&column->state, &column->tables, words, n)
+                                  : lafkuno_state_orders(&column->state, &column->tables, words, n);
+        uint8_t ground = LAFKUNO_ANSWER_GROUND(answer);
+        if (ground) return refuse_order(column, task, k + LAFKUNO_ANSWER_PLACE(answer), ground);
     }
     return 0;
 }

@@ -13,8 +13,8 @@ static void lay_less(uint8_t *to, const struct stretch *s, const struct rewrite 
     for (uint64_t k = 0; k < n; k++) put_number(to, k, s->width, (uint64_t)number_at(s->from, k, s->width) - w->first);
 }
 
-/* A list of no rows begins at 0: nothing of it is read, and where it began need not be in the window. */
-static void lay_list_offsets(uint8_t *to, const struct stretch *s, const struct rewrite *w) {
+/* A list-view row of no rows begins at 0: nothing of it is read, and where it began need not be in the window. */
+static void lay_list_view_offsets(uint8_t *to, const struct stretch *s, const struct rewrite *w) {
     uint64_t n = s->bytes / s->width;
     for (uint64_t k = 0; k < n; k++) {
         uint64_t offset = (uint64_t)number_at(s->from, k, s->width) - w->first;
@@ -51,7 +51,7 @@ static void lay_changed(const struct import *import, const struct stretch *s) {
     uint8_t *to = import->body + s->place[0];
     switch (s->change) {
         case LESS_FIRST: lay_less(to, s, w); break;
-        case LIST_OFFSETS: lay_list_offsets(to, s, w); break;
+        case LIST_VIEW_OFFSETS: lay_list_view_offsets(to, s, w); break;
         case DENSE_POSITIONS: lay_positions(to, s, w); break;
         case VIEWS: lay_views(to, s, w, import->spans); break;
         default: break;

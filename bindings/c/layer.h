@@ -29,7 +29,7 @@ enum {
 
 /* ---- formats.c */
 
-enum kind { NOT_TAKEN, FIXED, STRING, VIEW, LIST_VIEW, SPARSE, DENSE, RUNS };
+enum kind { NOT_TAKEN, FIXED, STRING, VIEW, LIST, LIST_VIEW, SPARSE, DENSE, RUNS };
 
 struct format {
     enum kind kind;
@@ -89,7 +89,7 @@ int same_types(struct report *report, const struct ArrowSchema *first, const str
 /* ---- import.c, windows.c, lay.c */
 
 /* How the bytes of a buffer are changed as they are laid. */
-enum change { AS_THEY_ARE, LESS_FIRST, LIST_OFFSETS, DENSE_POSITIONS, VIEWS };
+enum change { AS_THEY_ARE, LESS_FIRST, LIST_VIEW_OFFSETS, DENSE_POSITIONS, VIEWS };
 
 /* What is subtracted, so that what a window does not reach need not be laid. */
 struct rewrite {
@@ -119,7 +119,7 @@ struct span {
 
 /* How the rows of a node spread to its children. */
 struct spread {
-    uint64_t largest, sum; /* of a list-view's sizes */
+    uint64_t largest, sum; /* of the sizes of a list or list-view */
     bool again;            /* list-view or dense union: rows of a child may be reached twice */
 };
 
@@ -167,7 +167,8 @@ int want_entries(struct import *import, const struct node *node, int64_t b, uint
 /* Bytes anywhere. */
 int want(struct import *import, const struct node *node, const void *from, uint64_t bytes, position *place);
 
-/* What is reached of the children of a list-view, a dense union and a run-end node; and the buffers that are changed by that. */
+/* What is reached of the children of a list, a list-view, a dense union and a run-end node; and the buffers that are changed by that. */
+int import_list(struct import *import, const struct node *node, struct window *child);
 int import_list_view(struct import *import, const struct node *node, struct window *child);
 int import_dense(struct import *import, const struct node *node, struct window *children);
 int runs_window(struct import *import, const struct node *node, struct window *child);

@@ -27,7 +27,7 @@ static int64_t children_due(const char *format, struct format kind) {
     int64_t due = 0;
     switch (kind.kind) {
         case NOT_TAKEN: return -1;
-        case LIST_VIEW: return 1;
+        case LIST: case LIST_VIEW: return 1;
         case RUNS: return 2;
         case SPARSE: case DENSE:
             if (!union_children(format, child_of)) return -1;
@@ -54,7 +54,7 @@ static int check_type(struct walk *walk, const struct ArrowSchema *s, const stru
 
 /* An older producer gives a run-end node one buffer, which is null. */
 static int check_buffers(struct walk *walk, const struct ArrowArray *a, enum kind kind) {
-    static const int64_t due[] = {[FIXED] = 2, [STRING] = 3, [VIEW] = 3, [LIST_VIEW] = 3, [SPARSE] = 1, [DENSE] = 2, [RUNS] = 0};
+    static const int64_t due[] = {[FIXED] = 2, [STRING] = 3, [VIEW] = 3, [LIST] = 2, [LIST_VIEW] = 3, [SPARSE] = 1, [DENSE] = 2, [RUNS] = 0};
     bool fits = kind == VIEW ? a->n_buffers >= 3 : a->n_buffers == due[kind];
     if (kind == RUNS && a->n_buffers == 1 && a->buffers && !a->buffers[0]) fits = true;
     if (!fits || (a->n_buffers && !a->buffers))

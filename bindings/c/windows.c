@@ -13,8 +13,6 @@ static const uint8_t *laid(const struct node *node, int64_t b, unsigned width) {
     return (const uint8_t *)node->array->buffers[b] + node->cut * width;
 }
 
-/* ---- list-views */
-
 /* What of a child is reached, and by which rows. */
 struct reach {
     uint64_t from, to;
@@ -22,7 +20,42 @@ struct reach {
     bool sound;
 };
 
+/* ---- lists */
+
+/* From the first offset of the window to its last. */
 static struct reach list_reach(const struct node *node, uint64_t child_rows) {
+    unsigned width = node->format.width;
+    const uint8_t *offsets = laid(node, 1, width);
+    int64_t last = number_at(offsets, slots_before(node), width);
+    struct reach reach = {(uint64_t)last, 0, {0, 0, false}, last >= 0};
+    for (uint64_t r = slots_before(node); reach.sound && r < slots_before(node) + node->rows; r++) {
+        int64_t next = number_at(offsets, r + 1, width);
+        reach.sound = next >= last && (uint64_t)next <= child_rows;
+        if (reach.sound && (uint64_t)(next - last) > reach.spread.largest) reach.spread.largest = (uint64_t)(next - last);
+        last = next;
+    }
+    reach.to = (uint64_t)last;
+    reach.spread.sum = reach.to - reach.from;
+    return reach;
+}
+
+int import_list(struct import *import, const struct node *node, struct window *child) {
+    uint64_t child_rows = (uint64_t)node->array->children[0]->length, slots = slots_before(node) + node->rows;
+    position *place = import->places + 9 * node->index + 3;
+    int code = want_entries(import, node, 1, slots + 1, node->format.width, place, AS_THEY_ARE);
+    if (code) return code;
+    struct reach reach = list_reach(node, child_rows);
+    *child = reach.sound ? (struct window){reach.from, reach.to - reach.from} : (struct window){0, child_rows};
+    if (!reach.sound) return 0;
+    import->spreads[node->index] = reach.spread;
+    if (reach.from) import->stretches[import->stretch_count - 1].change = LESS_FIRST;
+    import->rewrites[node->index].first = reach.from;
+    return 0;
+}
+
+/* ---- list-views */
+
+static struct reach list_view_reach(const struct node *node, uint64_t child_rows) {
     unsigned width = node->format.width;
     const uint8_t *offsets = laid(node, 1, width), *sizes = laid(node, 2, width);
     struct reach reach = {UINT64_MAX, 0, {0, 0, false}, true};
@@ -51,11 +84,11 @@ int import_list_view(struct import *import, const struct node *node, struct wind
     int code = want_entries(import, node, 2, slots, width, place + 2, AS_THEY_ARE);
     if (!code) code = want_entries(import, node, 1, slots, width, place, AS_THEY_ARE);
     if (code) return code;
-    struct reach reach = list_reach(node, child_rows);
+    struct reach reach = list_view_reach(node, child_rows);
     *child = reach.sound ? (struct window){reach.from, reach.to - reach.from} : (struct window){0, child_rows};
     import->spreads[node->index] = reach.spread;
     if (child->rows != child_rows) {
-        import->stretches[import->stretch_count - 1].change = LIST_OFFSETS;
+        import->stretches[import->stretch_count - 1].change = LIST_VIEW_OFFSETS;
         import->rewrites[node->index] = (struct rewrite){.beside = laid(node, 2, width), .first = child->first};
     }
     return 0;

@@ -84,6 +84,16 @@ static inline struct made *texts(const char *format, const char *name, int64_t l
     return m;
 }
 
+/* A column of lists with offsets of 4 bytes, or of 8. */
+static inline struct made *lists(const char *format, const char *name, int64_t length, int64_t offset, const void *offsets,
+                                 struct made *child) {
+    struct made *m = make(format, name, ARROW_FLAG_NULLABLE, length, offset);
+    add_buffer(m, NULL, 0);
+    add_buffer(m, offsets, (size_t)(offset + length + 1) * (format[1] == 'l' ? 4 : 8));
+    add_child(m, child);
+    return m;
+}
+
 static inline struct lafkuno_source source_of(const struct made *m) { return (struct lafkuno_source){&m->schema, &m->array}; }
 
 /* The same memory from another row on. Freed by `free_slice`. */

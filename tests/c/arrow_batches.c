@@ -215,6 +215,19 @@ static void no_memory(void) {
 
 enum { LARGE = 400000 };
 
+static struct made *large_plain_list(const char *format) {
+    int32_t *four = malloc(4 * (LARGE + 1));
+    int64_t *eight = malloc(8 * (LARGE + 1)), *items = calloc(2 * LARGE, 8);
+    if (!four || !eight || !items) exit(2);
+    for (int k = 0; k <= LARGE; k++) eight[k] = four[k] = 2 * k;
+    struct made *child = numbers("l", "item", 0, 2 * LARGE, 0, items, 8, NULL);
+    struct made *m = lists(format, "stops", LARGE, 0, format[1] == 'l' ? (void *)four : eight, child);
+    free(four);
+    free(eight);
+    free(items);
+    return m;
+}
+
 static struct made *large_list(void) {
     int32_t *starts = malloc(4 * LARGE), *sizes = malloc(4 * LARGE);
     int64_t *items = calloc(2 * LARGE, 8);
@@ -294,6 +307,8 @@ static void slices(void) {
     memset(bits, 0x77, LARGE / 8);
     slices_of(numbers("l", "fuel", ARROW_FLAG_NULLABLE, LARGE, 0, values, 8, bits));
     slices_of(large_texts());
+    slices_of(large_plain_list("+l"));
+    slices_of(large_plain_list("+L"));
     slices_of(large_list());
     slices_of(large_nested("+ud:0"));
     slices_of(large_nested("+us:0"));

@@ -49,6 +49,54 @@ static void sliced_batch(void) {
     expect("released", !schema.release && !array.release, 1);
 }
 
+/* The stops of each trip; the first trip is another day's, and the child begins in its middle too. */
+static void sliced_lists(void) {
+    const int32_t offsets[] = {0, 2, 2, 5}, ahead[] = {0, 10}, wanted[] = {0, 10, 10, 13, 13, 13};
+    const int64_t large[] = {0, 2, 2, 5}, due[] = {0, 3, 3, 6};
+    const uint8_t stops[] = {9, 20, 21, 22, 23, 24}, others[10] = {0};
+    struct made *pair[2] = {lists("+l", "stops", 1, 0, ahead, numbers("C", "item", 0, 10, 0, others, 1, NULL)),
+                            lists("+l", "stops", 2, 1, offsets, numbers("C", "item", 0, 5, 1, stops, 1, NULL))};
+    const struct lafkuno_order orders[] = {lafkuno_rows(0, 0, 1), lafkuno_rows(1, 0, 2), lafkuno_gap(2)};
+    struct ArrowSchema schema;
+    struct ArrowArray array, moved;
+    struct lafkuno_error error;
+    expect("lists", join(pair, 2, orders, LENGTH(orders), 1, &schema, &array, &error), 0);
+    for (int s = 0; s < 2; s++) discard(pair[s]);
+    expect_text("format", schema.format, "+l");
+    expect_text("item", schema.children[0]->name, "item");
+    expect("buffers", array.n_buffers, 2);
+    expect("nulls", array.null_count, 2);
+    expect("offsets", memcmp(array.buffers[1], wanted, sizeof wanted), 0);
+    expect("child", array.n_children == 1 && array.children[0]->length == 13 && array.children[0]->null_count == 0, 1);
+    moved = *array.children[0];
+    array.children[0]->release = NULL;
+    release_both(&schema, &array);
+    expect("moved child", memcmp((const uint8_t *)moved.buffers[1] + 10, stops + 3, 3), 0);
+    moved.release(&moved);
+    struct made *one = lists("+L", "stops", 2, 1, large, numbers("C", "item", 0, 5, 1, stops, 1, NULL));
+    const struct lafkuno_order twice[] = {lafkuno_rows(0, 1, 2), lafkuno_rows(0, 0, 2)};
+    expect("large lists", join(&one, 1, twice, LENGTH(twice), 0, NULL, &array, &error), 0);
+    expect("offsets", memcmp(array.buffers[1], due, sizeof due), 0);
+    array.release(&array);
+    discard(one);
+}
+
+/* A list without rows may have no offsets; its child need not be empty. */
+static void lists_without_rows(void) {
+    const uint8_t stops[] = {20, 21};
+    struct made *none = make("+l", "stops", 0, 0, 3);
+    const struct lafkuno_order order = lafkuno_rows(0, 0, 0);
+    struct ArrowArray array;
+    add_buffer(none, NULL, 0);
+    add_buffer(none, NULL, 0);
+    add_child(none, numbers("C", "item", 0, 2, 0, stops, 1, NULL));
+    expect("no offsets", join(&none, 1, &order, 1, 0, NULL, &array, NULL), 0);
+    expect("first offset", array.length == 0 && ((const int32_t *)array.buffers[1])[0] == 0, 1);
+    expect("no stops", array.children[0]->length, 0);
+    array.release(&array);
+    discard(none);
+}
+
 /* Two slices of one column share its dictionary, which is kept, body and all; another column's is joined. */
 static void dictionaries(void) {
     const int32_t offsets[] = {0, 2, 5, 9}, others[] = {0, 3, 7}; /* the shared one is a slice itself */
@@ -195,6 +243,8 @@ static void nullable(void) {
 
 int main(void) {
     sliced_batch();
+    sliced_lists();
+    lists_without_rows();
     dictionaries();
     many_view_buffers();
     unions();

@@ -151,6 +151,14 @@ static void shapes(void) {
     add_child(m, numbers("i", "a", 0, 2, 0, values, 4, NULL));
     add_child(m, numbers("i", "b", 0, 1, 0, values, 4, NULL));
     one_source(m, LAFKUNO_BAD_SOURCE, "source 0, node 0 'event' (+us:0,1): child 1 has 1 rows, and 2 are reached (ground 12)");
+    m = make("+l", "stops", 0, 1, 0);
+    add_buffer(m, NULL, 0);
+    add_buffer(m, values, 8);
+    one_source(m, LAFKUNO_UNKNOWN_TYPE, "source 0, node 0 'stops' (+l): 0 children, and 1 are due (ground 10)");
+    m = make("+l", "stops", 0, 1, 0);
+    add_buffer(m, NULL, 0);
+    add_child(m, numbers("i", "item", 0, 2, 0, values, 4, NULL));
+    one_source(m, LAFKUNO_BAD_STRUCT, "source 0, node 0 'stops' (+l): 1 buffers, and 2 are due");
     m = make("+vl", "stops", 0, 1, 0);
     add_buffer(m, NULL, 0);
     add_buffer(m, "\1\0\0\0", 4);
@@ -166,6 +174,13 @@ static void broken_rows(void) {
     const int64_t size = 13;
     one_source(texts("u", "name", 2, 1, offsets, "abcd"), LAFKUNO_BAD_SOURCE,
                "source 0, node 0 'name' (u): row 1: bytes 5 to 4 (ground 12)");
+    const int32_t falling[4] = {0, 3, 4, 2}, past[4] = {9, 1, 4, 5}, negative[3] = {0, -1, 1};
+    one_source(lists("+l", "stops", 2, 1, falling, numbers("i", "item", 0, 4, 0, values, 4, NULL)), LAFKUNO_BAD_SOURCE,
+               "source 0, node 0 'stops' (+l): row 1: offsets 4 and 2, and the child has 4 rows (ground 12)");
+    one_source(lists("+l", "stops", 2, 1, past, numbers("i", "item", 0, 4, 0, values, 4, NULL)), LAFKUNO_BAD_SOURCE,
+               "source 0, node 0 'stops' (+l): row 1: offsets 4 and 5, and the child has 4 rows (ground 12)");
+    one_source(lists("+l", "stops", 1, 1, negative, numbers("i", "item", 0, 4, 0, values, 4, NULL)), LAFKUNO_BAD_SOURCE,
+               "source 0, node 0 'stops' (+l): row 0: offsets -1 and 1, and the child has 4 rows (ground 12)");
     struct made *m = make("+ud:0,9", "event", 0, 2, 1);
     add_buffer(m, "\1\0\11", 3);
     add_buffer(m, positions, sizeof positions);
@@ -265,6 +280,46 @@ static void no_needless_bound(void) {
     discard(m);
 }
 
+/* A list's stretches stand one behind the other: the longest is not multiplied, and neighbours are one stretch of runs. */
+static void lists_are_not_multiplied(void) {
+    enum { ROWS = 1000, ITEMS = 100 };
+    int32_t offsets[ROWS + 1], end = 3 * ROWS, items[2] = {0, ITEMS};
+    uint8_t leaves[ITEMS] = {0};
+    for (int k = 0; k <= ROWS; k++) offsets[k] = k ? 2 * ROWS + k : 0;
+    struct made *runs = make("+r", "stop", 0, 3 * ROWS, 0);
+    add_child(runs, numbers("i", "run_ends", 0, 1, 0, &end, 4, NULL));
+    add_child(runs, lists("+l", "values", 1, 0, items, numbers("C", "leaf", 0, ITEMS, 0, leaves, 1, NULL)));
+    struct made *m = lists("+l", "stops", ROWS, 0, offsets, runs);
+    struct lafkuno_source list[1] = {source_of(m)};
+    struct lafkuno_order all = lafkuno_rows(0, 0, ROWS);
+    struct lafkuno_options exactly = {.most_rows = 3 * ROWS}, less = {.most_rows = 3 * ROWS - 1};
+    struct ArrowArray array;
+    expect("bound", lafkuno_join_arrays(list, 1, &all, 1, &exactly, NULL, &array, NULL), 0);
+    expect("runs", array.children[0]->children[0]->length, 1);
+    expect("leaves", array.children[0]->children[1]->children[0]->length, ITEMS);
+    array.release(&array);
+    refused(list, 1, &all, 1, &less, LAFKUNO_TOO_MUCH_WORK,
+            "node 1 'stop' (+r): 3000 rows are the bound of the orders here, and 2999 are allowed");
+    discard(m);
+}
+
+/* Offsets of four bytes end at 2^31 - 1: the node is named where only one can be the cause. */
+static void list_offsets(void) {
+    const int32_t offsets[3] = {0, 1, INT32_MAX};
+    const int64_t end = INT32_MAX;
+    uint8_t leaf = 7;
+    struct made *runs = make("+r", "stop", 0, INT32_MAX, 0);
+    add_child(runs, numbers("l", "run_ends", 0, 1, 0, &end, 8, NULL));
+    add_child(runs, numbers("C", "values", 0, 1, 0, &leaf, 1, NULL));
+    struct made *m = lists("+l", "stops", 2, 0, offsets, runs);
+    struct lafkuno_source list[1] = {source_of(m)};
+    const struct lafkuno_order orders[3] = {lafkuno_rows(0, 1, 2), lafkuno_rows(0, 0, 1), lafkuno_rows(0, 0, 1)};
+    const struct lafkuno_options many = {.most_rows = UINT64_C(1) << 40};
+    refused(list, 1, orders, 3, &many, LAFKUNO_OFFSET_TOO_LARGE,
+            "node 0 'stops' (+l), order 2 (copy 0 0..1): an offset or a dense union's position does not fit its type (ground 6)");
+    discard(m);
+}
+
 /* Two dictionaries of 200 and 57 entries: more than keys of a byte can name. */
 static void too_many_entries(void) {
     const uint8_t key = 0, values[200] = {0};
@@ -335,6 +390,8 @@ int main(void) {
     counts();
     work();
     no_needless_bound();
+    lists_are_not_multiplied();
+    list_offsets();
     too_many_entries();
     run_ends();
     runs_below_lists();

@@ -50,6 +50,36 @@ static void join(struct lafkuno_state *state, const struct lafkuno_tables *table
     expect("data buffers", lafkuno_state_buffer_total(state, tables), 0);
 }
 
+/* Lists of orders, all or none: a refused one leaves every byte, an accepted one what its orders leave. */
+static void trips(struct lafkuno_state *state, const struct lafkuno_tables *tables) {
+    enum { COPY = LAFKUNO_ORDER_COPY, NULLS = LAFKUNO_ORDER_NULLS };
+    const uint64_t stops[] = {COPY, 0, 0, 2, NULLS, 1, 0, 0, COPY, 0, 2, 3, COPY, 0, 3, 5, COPY, 0, 3, 4};
+    const uint64_t trip[] = {COPY, 0, 0, 3, NULLS, 1, 0, 0, COPY, 0, 3, 4, NULLS, 1, 0, 0};
+    static const uint64_t many[LAFKUNO_ORDER * (LAFKUNO_MOST_ORDERS + 1)];
+    uint64_t counters[LAFKUNO_COUNTERS];
+    uint8_t room[84];
+    memset(state->room, 238, sizeof room);
+    expect("open", lafkuno_state_open(state, tables, 1), LAFKUNO_DONE);
+    memcpy(counters, state->counters, sizeof counters);
+    memcpy(room, state->room, sizeof room);
+    uint32_t answer = lafkuno_state_orders(state, tables, stops, 5);
+    expect("ground of a list", LAFKUNO_ANSWER_GROUND(answer), LAFKUNO_NO_SUCH_ROWS);
+    expect("its place", LAFKUNO_ANSWER_PLACE(answer), 3);
+    answer = lafkuno_state_orders(state, tables, trip, 4);
+    expect("ground of a full list", LAFKUNO_ANSWER_GROUND(answer), LAFKUNO_ROOM_TOO_SMALL);
+    expect("its place", LAFKUNO_ANSWER_PLACE(answer), 3);
+    answer = lafkuno_state_orders(state, tables, many, LAFKUNO_MOST_ORDERS + 1);
+    expect("ground of a long list", LAFKUNO_ANSWER_GROUND(answer), LAFKUNO_CEILING_PASSED);
+    expect("its place", LAFKUNO_ANSWER_PLACE(answer), 0);
+    expect("an empty list", lafkuno_orders(many, 0, tables->sources, 0, tables->sources, 0, many, 0, tables->sources, 0,
+                                           room, 0, state->counters, 0, state->room, 0, many, 0), LAFKUNO_DONE);
+    expect("kept", !memcmp(counters, state->counters, sizeof counters) && !memcmp(room, state->room, sizeof room), 1);
+    expect("a list", lafkuno_state_orders(state, tables, trip, 3), LAFKUNO_DONE);
+    expect("its rows", state->counters[0], 5);
+    expect("measured", lafkuno_state_measure_orders(state, tables, many, LAFKUNO_MOST_ORDERS), LAFKUNO_DONE);
+    expect("measured", LAFKUNO_ANSWER_PLACE(lafkuno_state_measure_orders(state, tables, stops, 5)), 3);
+}
+
 int main(void) {
     const int32_t batch[8] = {310, 305, 300, 298, 95, 102, 12, 61};
     const uint32_t sources[2] = {0, 1}, schema[5] = {0, 1, 2, 0, 0};
@@ -60,6 +90,7 @@ int main(void) {
     struct lafkuno_state *state = malloc(sizeof *state);
     if (!state) return 2;
     measure(state, &tables);
+    trips(state, &tables);
     join(state, &tables);
 
     uint64_t new_lengths[2], new_nulls[1];

@@ -255,6 +255,35 @@ static void parcels(void) {
     free(below);
 }
 
+/* Stops of each trip: lists of numbers over a child that begins in its middle. */
+static void stops(void) {
+    struct column c = {0};
+    const int32_t offsets[9] = {9, 9, 9, 9, 1, 3, 4, 4, 6};
+    const uint64_t stops[7] = {0, 10, 11, 12, 13, 14, 15};
+    uint32_t i = node(&c, "+l", 1, 4, 4), a = node(&c, "L", 0, 6, 1);
+    buffer(&c, i, 1, offsets, sizeof offsets);
+    buffer(&c, a, 1, stops, sizeof stops);
+    struct column out = join("stops", &c, 1);
+    const uint64_t starts[5] = {0, 2, 0, 3, 3}, many[5] = {2, 1, 0, 0, 2}, wanted[5] = {11, 12, 13, 14, 15};
+    uint64_t *tree = lend(NULL, 8 * LAFKUNO_TREE), *below = lend(NULL, 8 * LAFKUNO_TREE), answer[LAFKUNO_ANSWER];
+    open_column("stops", &out, 0, 2, tree);
+    open_column("stops", &out, 1, 1, below);
+    for (uint64_t r = 0; r < 5; r++) {
+        expect("stops", lafkuno_read_row(tree, LAFKUNO_TREE, out.lengths, 4, out.places, 18, no_buffers, 0, out.body, out.body_len, 0, r,
+                                         answer, LAFKUNO_ANSWER), r == 2 ? LAFKUNO_NULL : LAFKUNO_LIST);
+        if (r == 2) continue;
+        expect("stops", answer[0], a);
+        expect("stops", answer[1], starts[r]);
+        expect("stops", answer[2], many[r]);
+    }
+    for (uint64_t k = 0; k < 5; k++) {
+        const struct row one = {LAFKUNO_UNSIGNED, -1, (int64_t)wanted[k], NULL};
+        expect_row("stops", &out, below, a, k, one);
+    }
+    free(tree);
+    free(below);
+}
+
 /* A plan that no opening wrote: a copy that could not be made in the lent room is refused, and one over a plan whose subtrees fall back ends at once. */
 static void foreign(void) {
     struct column k = {0}, *c = &k;
@@ -276,8 +305,9 @@ static void foreign(void) {
     plan[864] = 1;
     plan[865] = 32;
     plan[5] = 1;
+    enum { NUMBERS = 1, SPARSE = 21 }; /* codes of formats in a plan */
     for (int i = 0; i < 32; i++) { /* sparse unions, one in the other; the child behind node k ends where k begins, so that k comes again */
-        plan[8 * i] = i < 7 ? 19 : 1;
+        plan[8 * i] = i < 7 ? SPARSE : NUMBERS;
         plan[8 * i + 2] = i == 7 ? 7 : (uint64_t)(32 - i);
         plan[8 * i + 4] = 1;
     }
@@ -333,6 +363,7 @@ int main(void) {
     metres();
     names();
     events();
+    stops();
     parcels();
     foreign();
     puts(failed ? "not as ordered" : "one van, one stop, two kilometres: as ordered");

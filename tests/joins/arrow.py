@@ -5,7 +5,7 @@ None where the entry that its key names is null, else the stored bytes of that e
 import struct
 
 WIDTH = {'c': 1, 'C': 1, 's': 2, 'S': 2, 'i': 4, 'I': 4, 'l': 8, 'L': 8, 'f': 4, 'g': 8}
-OFFSETS = {'z': 4, 'u': 4, 'Z': 8, 'U': 8, '+vl': 4, '+vL': 8}
+OFFSETS = {'z': 4, 'u': 4, 'Z': 8, 'U': 8, '+l': 4, '+L': 8, '+vl': 4, '+vL': 8}
 
 
 def number(n, width):
@@ -31,7 +31,8 @@ class Type:
         if f in WIDTH: return 'number'
         if f in ('z', 'u', 'Z', 'U'): return 'string'
         if f in ('vz', 'vu'): return 'view'
-        if f in ('+vl', '+vL'): return 'list'
+        if f in ('+l', '+L'): return 'list'
+        if f in ('+vl', '+vL'): return 'list_view'
         return {'+us': 'sparse', '+ud': 'dense', '+r': 'runs'}[f[:3]]
 
     def ids(self):
@@ -94,6 +95,17 @@ def make(type, rows, before=()):
                 c.data.append(b'.' + s)
         masked(c, slots)
     elif kind == 'list':
+        # a child's row in front of the lists and one behind them, and one under each null
+        t = type.children[0]
+        edge = [filler(t)] if slots else []
+        child, offsets = edge + [], [len(edge)]
+        for s in slots:
+            child += [filler(t)] if s is None else s
+            offsets.append(len(child))
+        c.one = numbers(offsets, OFFSETS[type.format])
+        c.children = [make(t, child + edge)]
+        masked(c, slots)
+    elif kind == 'list_view':
         w, child, offsets, sizes = OFFSETS[type.format], [], [], []
         for s in slots:
             inner = s if s is not None else ['any']
@@ -129,7 +141,7 @@ def filler(type):
     kind = type.kind()
     if kind == 'number': return 7
     if kind in ('string', 'view'): return b'fill'
-    if kind == 'list': return []
+    if kind in ('list', 'list_view'): return []
     if kind in ('sparse', 'dense'): return (type.ids()[0], filler(type.children[0]))
     if kind == 'runs': return filler(type.children[1])
     return 0
@@ -171,6 +183,10 @@ def read(c, row):
         n = entry(v, 4, 0)
         return v[4:4 + n] if n <= 12 else c.data[entry(v, 4, 2)][entry(v, 4, 3):entry(v, 4, 3) + n]
     if kind == 'list':
+        w = OFFSETS[c.type.format]
+        a = entry(c.one, w, slot)
+        return Rows(c.children[0], a, entry(c.one, w, slot + 1) - a)
+    if kind == 'list_view':
         w = OFFSETS[c.type.format]
         a, n = entry(c.one, w, slot), entry(c.two, w, slot)
         return Rows(c.children[0], a, n)

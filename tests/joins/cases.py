@@ -4,6 +4,7 @@ import sys
 sys.dont_write_bytecode = True
 from arrow import Column, Type, keyed, make, number, numbers, run_column, sliced
 from grounds import ground_cases
+from kinds import kinds
 from script import Script, run
 from table import checked_rows
 
@@ -11,24 +12,6 @@ DONE = [('finish',), ('rows',)]
 
 
 # ---- each kind alone: two sources, the first one sliced in its middle, and a third without nulls
-
-def kinds():
-    for f in 'cCsSiIlL': yield Type(f), [1, 2, None, 100, 5, None, 7], [9, 8, 7]
-    yield Type('f'), [0x3f800000, None, 0x7fc00001, 0x80000000], [0xff800000, 0]
-    yield Type('g'), [0x3ff0000000000000, None, 0x7ff8000000000001, 1 << 63], [0xfff0000000000000, 0]
-    for f in 'zuZU': yield Type(f), [b'yard', b'', None, b'stop', b'van'], [b'x', b'depot']
-    for f in ('vz', 'vu'): yield Type(f), [b'twelve bytes', b'thirteen byte', None, b'', b'a long way from here'], [b'another long string', b'short']
-    for f in ('+vl', '+vL'): yield Type(f, Type('S')), [[1, 2], None, [], [3, None, 4], [5]], [[6], [7, 8]]
-    fields = Type('u'), Type('i', nullable=False)
-    yield Type('+us:5,7', *fields), [(5, b'a'), (7, 1), (5, None), (7, 2)], [(7, 3), (5, b'b')]
-    yield Type('+ud:5,7', *fields), [(5, b'a'), (7, 1), (5, None), (7, 2)], [(7, 3), (5, b'b')]
-    yield Type('+ud:9,0', fields[1], fields[0]), [(9, 4), (0, b'b')], [(0, b'c'), (0, None)]
-    for f in 'sil': yield Type('+r', Type(f, nullable=False), Type('C')), [1, 1, 2, None, None, 3], [3, 3, 4]
-    for f in 'cCsSiIlL': yield Type(f, dictionary=Type('u'), entries=[b'anna', b'', b'bo']), [0, 2, None, 1], [2, 2]
-    yield Type('C', dictionary=Type('l'), entries=[-1, None, 5]), [0, 1, None, 2], [2, 1]
-    yield Type('s', dictionary=Type('Z'), entries=[b'a', None, b'ccc']), [1, 2, None], [2, 1]
-    yield Type('+r', Type('s', nullable=False), Type('I', dictionary=Type('u'), entries=[b'a', None])), [0, 0, 1, 1, None], [1, 0]
-
 
 def alone(script):
     for t, rows, others in kinds():
@@ -41,6 +24,10 @@ def alone(script):
         run(script, name, [first, second], full, ask=True, again=later)
         run(script, name + ', nulls kept by word', [second, second], [('nulls', 2), ('copy', 1, 1, m), ('nulls', 1), ('copy', 0, 0, 1)] + DONE, keep=True, again=(True, [('nulls', 1), ('copy', 0, 0, 4)] + DONE))
         run(script, name + ', no rows', [sliced(first, 1, 0), second], [('copy', 0, 0, 0)] + DONE)
+        if t.kind() in ('string', 'list'):
+            bare = make(t, [])
+            bare.one, bare.offset = b'', 3
+            run(script, name + ', no rows and no offsets', [bare, second], [('copy', 0, 0, 0), ('copy', 1, 0, 1), ('copy', 0, 0, 0)] + DONE)
         if not any(x.nulls() for x in second.nodes()):
             run(script, name + ', no nulls', [second, second], [('nulls', 0), ('nulls', 1), ('copy', 0, 0, m)] + DONE)
 
@@ -79,6 +66,8 @@ def nested(script):
     chains = {
         'list-views': (lambda t: Type('+vl', t), lambda r: [r, r]),
         'large list-views': (lambda t: Type('+vL', t), lambda r: [r]),
+        'lists': (lambda t: Type('+l', t), lambda r: [r, r]),
+        'large lists': (lambda t: Type('+L', t), lambda r: [r]),
         'sparse unions': (lambda t: Type('+us:3', t), lambda r: (3, r)),
         'dense unions': (lambda t: Type('+ud:3', t), lambda r: (3, r)),
         'run ends': (lambda t: Type('+r', Type('i', nullable=False), t), lambda r: r),
@@ -93,6 +82,11 @@ def nested(script):
     rows = [[[deep, (2, 1)], []], None, [[(1, (127, b'thirteen byte')), (1, (0, None)), (2, 0)]]]
     columns = [make(t, rows, before=rows[2:]), make(t, rows[1:]), make(t, rows[:1])]
     run(script, 'depth 8: all kinds', columns, [('copy', 0, 0, 3), ('nulls', 2), ('copy', 2, 0, 1), ('copy', 1, 1, 2), ('copy', 0, 2, 3)] + DONE, ask=True, again=(True, [('copy', 0, 1, 7), ('nulls', 1)] + DONE))
+    t = Type('+l', Type('+r', Type('s', nullable=False), Type('+L', Type('+us:1,2', Type('+vl', Type('+ud:0,9', Type('+l', Type('C')), text)), Type('+l', Type('vu'), nullable=False)))))
+    deep = [(1, [(0, [4, None, 5]), (0, None), (9, b'a'), (0, [])]), (2, [b'thirteen byte', None])]
+    rows = [[deep, deep, None, []], None, [], [[(1, None), (1, [])], deep[:1]]]
+    columns = [make(t, rows, before=rows[2:]), make(t, rows[1:]), make(t, rows[:1])]
+    run(script, 'depth 8: lists in and around all kinds', columns, [('copy', 0, 0, 4), ('nulls', 2), ('copy', 2, 0, 1), ('copy', 1, 1, 3), ('copy', 0, 2, 4)] + DONE, ask=True, again=(True, [('copy', 0, 1, 9), ('nulls', 1)] + DONE))
 
 
 def sixteen(script):
@@ -118,7 +112,7 @@ def sixteen(script):
 
 def zeros_outside(script):
     for t, rows, others in kinds():
-        if t.format not in ('C', 'u', 'vu', '+vl'): continue
+        if t.format not in ('C', 'u', 'vu', '+l', '+vl'): continue
         m, holes = len(others), sum(x is None for x in rows)
         columns = [make(t, rows, before=rows[:2]), sliced(make(t, [None] * 3 + others + [None]), 3, m)]
         name = t.format + (' with a dictionary of ' + t.dictionary.format if t.dictionary else '') + ', zeros outside the rows'

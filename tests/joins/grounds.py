@@ -1,10 +1,11 @@
 """Each ground of document 01 through the entry points, at its edge and one past it. A `told` step has its answer by hand, from 01's words
 or, for a foreign state, from orders/specs/Order.antt and finishing/specs/Finish.antt."""
-from arrow import Column, Laid, Type, keyed, make, number, numbers, run_column
+from arrow import OFFSETS, Column, Laid, Type, keyed, make, number, numbers, run_column
 from script import refused, run
 
 DONE = [('finish',), ('rows',)]
 END = Type('i', nullable=False)
+STOPS = Type('+l', Type('C'))
 
 
 def laid_of(*columns):
@@ -41,11 +42,17 @@ def openings(script):
     refused(script, '10 a union id of 128', laid_of(make(odd, [])), 10)
     twice = Type('+us:5,5', Type('C'), Type('C'))
     refused(script, '10 a union id twice', laid_of(make(twice, [])), 10)
+    refused(script, '10 a list without a child', changed(laid_of(make(STOPS, [[1]])), 'schema', 3, 0), 10)
+    two_children = laid_of(make(Type('+us:1,2', Type('C'), Type('C')), []))
+    two_children.formats, two_children.schema[0], two_children.schema[1] = two_children.formats + b'+l', len(two_children.formats), 2
+    refused(script, '10 a list with two children', two_children, 10)
     refused(script, '10 run ends of bytes', laid_of(make(Type('+r', Type('C'), Type('C')), [])), 10)
     refused(script, '11 another format', laid_of(one(), make(Type('S'), [1])), 11)
     flat = lambda nullable: make(Type('+vl', Type('C', nullable=nullable)), [[1]])
     refused(script, '11 a child that is not nullable', laid_of(flat(True), flat(False)), 11)
     run(script, 'a root that is not nullable', [make(Type('C'), [1]), make(Type('C', nullable=False), [2])], [('copy', 1, 0, 1)] + DONE)
+    refused(script, '11 a list and a large list', laid_of(make(STOPS, [[1]]), make(Type('+L', Type('C')), [[1]])), 11)
+    refused(script, '11 a list and a list-view', laid_of(make(STOPS, [[1]]), make(Type('+vl', Type('C')), [[1]])), 11)
     refused(script, '12 a buffer of one byte less', changed(two(), 'places', 4, 3), 12)
     refused(script, '12 a buffer past the body', changed(two(), 'places', 3, 1000), 12)
     refused(script, '9 before 10', changed(changed(two(), 'schema', 1, 0), 'lengths', 2, 1 << 63), 9)
@@ -64,6 +71,7 @@ def openings(script):
     words = lambda *rows: make(text.dictionary, list(rows))
     run(script, '13 of the data of a joined dictionary', [keyed(text, [0], words(b'a', b'bc')), keyed(text, [1], words(b'd', b'ef'))], [], short=(2, 1))
     run(script, '13 of a first offset', [make(Type('u'), [])], [], short=(0, 1))
+    run(script, '13 of a first offset of a list', [make(STOPS, [])], [], short=(0, 1))
     for f, n in (('c', 128), ('C', 256)):
         t = Type(f, dictionary=Type('C'))
         for m in (n, n + 1):
@@ -72,6 +80,33 @@ def openings(script):
             run(script, 'dictionaries of %d and %d, keys %s' % (m - 1, 1, f), [keyed(t, [0], entries(m - 1)), keyed(t, [0], entries(1))], [('copy', 1, 0, 1)])
     both = Type('+us:0,1', Type('C', dictionary=Type('C'), entries=[1] * 200), Type('c', dictionary=Type('C'), entries=[1] * 60))
     run(script, '8 of the second dictionary in the tree', [make(both, [(0, 0)]), make(both, [(1, 0)])], [])
+
+
+# ---- 12 of lists: the rule of byte strings, with the child's rows in place of the bytes
+
+def lists_of(type, offsets, child, offset=0, length=None, nulls=None):
+    c = Column(type, len(offsets) - 1 - offset if length is None else length, offset)
+    c.one, c.children, c.validity = numbers(offsets, OFFSETS[type.format]), [child], nulls
+    return c
+
+
+def list_rules(script):
+    for f in ('+l', '+L'):
+        t = Type(f, Type('C'))
+        five = make(Type('C'), [1, 2, 3, 4, 5], before=[6])
+        laid = lambda *a, **k: laid_of(lists_of(t, *a, **k))
+        tell = lambda name, laid: refused(script, '12 %s: %s' % (f, name), laid, 12)
+        run(script, f + ': a slice whose offsets end with the child', [lists_of(t, [9, 0, 3, 3, 5], five, offset=1)], [('copy', 0, 1, 3), ('copy', 0, 0, 1)] + DONE)
+        tell('the last offset one past the child', laid([9, 0, 3, 3, 6], five, offset=1))
+        tell('the same under a null', laid([9, 0, 3, 3, 6], five, offset=1, nulls=b'\x07'))
+        tell('the first offset negative', laid([0, -1, 3], five, offset=1))
+        tell('offsets that fall', laid([0, 0, 3, 2, 5], five, offset=1))
+        tell('a null row that falls', laid([0, 0, 3, 2, 5], five, offset=1, nulls=b'\x0b'))
+        tell('one offset too few', laid([0, 1, 3], five, offset=1, length=2))
+        tell('no offsets and a row', laid([], five, length=1))
+        tell('a child without its bytes, which no row reaches', changed(laid([0, 0], five), 'places', 13, 5))
+        tell('no rows, and their one offset past the child', laid([0, 6], five, offset=1))
+        run(script, f + ': no rows, and their one offset at the end of the child', [lists_of(t, [0, 5], five, offset=1)], [('copy', 0, 0, 0)] + DONE)
 
 
 # ---- orders
@@ -89,6 +124,7 @@ def nulls(script):
     hard = Type('+ud:1', Type('C', nullable=False))
     run(script, '5 below run ends', [make(Type('+r', END, hard), [(1, 5)])], [('nulls', 1), ('copy', 0, 0, 1)] + DONE, keep=True)
     run(script, 'a list-view asks no child for nulls', [make(Type('+vl', hard), [[(1, 5)]])], [('nulls', 2), ('copy', 0, 0, 1)] + DONE, keep=True)
+    run(script, 'a list asks no child for nulls', [make(Type('+l', hard), [[(1, 5)]])], [('nulls', 2), ('copy', 0, 0, 1), ('nulls', 1)] + DONE, keep=True)
     short = Type('+r', Type('s', nullable=False), hard)
     run(script, '5 before 7', [make(short, [(1, 5)])], [('nulls', 40000), ('copy', 0, 0, 1)], keep=True)
     run(script, '3 on a destination without nulls', [make(Type('u'), [b'a'])], [('nulls', 0), ('nulls', 1), ('copy', 0, 0, 1)] + DONE)
@@ -127,6 +163,15 @@ def offsets(script):
     d.one, d.two = numbers([0, 0], 4), numbers([32767, 1], 4)
     d.children = [run_column(small.children[0], [32767], make(Type('C'), [9]), 0, 32767)]
     run(script, '7 below a list-view, after its first row', [d], [('copy', 0, 0, 2), ('copy', 0, 0, 1), ('copy', 0, 1, 2)] + DONE)
+    for f, w in (('+l', 4), ('+L', 8)):
+        top = (1 << 8 * w - 1) - 1
+        e = lists_of(Type(f, inner), [0, 0, top - 1, top, top], run_column(inner, [(1 << 63) - 1], make(Type('C'), [9]), 0, (1 << 63) - 1), offset=1)
+        run(script, '6 %s: offsets up to the last' % f, [e], [('copy', 0, 0, 1), ('copy', 0, 1, 3), ('copy', 0, 1, 2), ('copy', 0, 2, 3), ('nulls', 1)] + DONE, keep=True)
+        run(script, '6 %s: in one order' % f, [e], [('copy', 0, 1, 2), ('copy', 0, 0, 3), ('copy', 0, 0, 1)] + DONE)
+    ends = lambda f, n: lists_of(Type('+l', Type('+r', Type(f, nullable=False), Type('C'))), [0, n - 1, n], run_column(Type('+r', Type(f, nullable=False), Type('C')), [n], make(Type('C'), [9]), 0, n))
+    run(script, '7 below a list, in one stretch', [ends('s', 32767)], [('copy', 0, 0, 2), ('copy', 0, 1, 2), ('copy', 0, 0, 0)] + DONE)
+    run(script, '7 below a list, after its first row', [ends('s', 32767)], [('copy', 0, 1, 2), ('copy', 0, 0, 2), ('copy', 0, 0, 1)] + DONE)
+    run(script, '6 of a list before 7 below it', [ends('i', (1 << 31) - 1)], [('copy', 0, 0, 2), ('copy', 0, 1, 2)] + DONE)
     dense = Type('+ud:0', Type('C'))
     u = make(dense, [(0, 1)])
     run(script, '6 dense: nulls of 2^31 and one more', [u], [('told', 'N 2147483648', ' nulls 13 kept'), ('told', 'N 2147483649', ' nulls 6 kept'), ('copy', 0, 0, 1), ('told', 'N 2147483648', ' nulls 6 kept'), ('told', 'N 2147483647', ' nulls 13 kept')], keep=True)
@@ -186,6 +231,7 @@ def foreign(script):
 
 def ground_cases(script):
     openings(script)
+    list_rules(script)
     nulls(script)
     run_ends(script)
     offsets(script)

@@ -3,7 +3,11 @@ finishing with their grounds, and the text that the program prints for each call
 import copy
 from arrow import OFFSETS, WIDTH, Column, Rows, bits, entry, number, numbers, shown_rows
 
-BUFFERS = {'number': 1, 'dictionary': 1, 'string': 2, 'view': 1, 'list': 2, 'sparse': 1, 'dense': 2, 'runs': 0}
+BUFFERS = {'number': 1, 'dictionary': 1, 'string': 2, 'view': 1, 'list': 1, 'list_view': 2, 'sparse': 1, 'dense': 2, 'runs': 0}
+
+
+# offsets, sizes, positions and run ends of so many bytes stay below
+LIMIT = {2: 1 << 15, 4: 1 << 31, 8: 1 << 63}
 
 
 class Refused(Exception):
@@ -33,7 +37,7 @@ class Node:
         self.masks = self.kind not in ('sparse', 'dense', 'runs')
         self.rows, self.null_count, self.bits, self.kept = 0, 0, [], None
         self.one, self.two, self.children = bytearray(), bytearray(), []
-        if self.kind == 'string': self.one += number(0, OFFSETS[type.format])
+        if self.kind in ('string', 'list'): self.one += number(0, OFFSETS[type.format])
         if self.kind == 'dictionary':
             values = [s.children[0] for s in sources]
             node = Node(type.dictionary, values, False, same)
@@ -87,7 +91,7 @@ class Node:
         first, last = entry(c.one, w, slot), len(self.two)
         for k in range(slot + 1, slot + n + 1):
             new = last + entry(c.one, w, k) - first
-            if new >= 1 << 8 * w - 1: refuse(6)
+            if new >= LIMIT[w]: refuse(6)
             self.one += number(new, w)
         self.two += c.two[first:entry(c.one, w, slot + n)]
 
@@ -98,10 +102,21 @@ class Node:
             self.one += v
 
     def copy_list(self, s, c, slot, n):
+        """All offsets, then one stretch of the child."""
+        w, child = OFFSETS[self.type.format], self.children[0]
+        if n == 0: return
+        first, last = entry(c.one, w, slot), child.rows
+        for k in range(slot + 1, slot + n + 1):
+            new = last + entry(c.one, w, k) - first
+            if new >= LIMIT[w]: refuse(6)
+            self.one += number(new, w)
+        child.copy(s, first, entry(c.one, w, slot + n) - first)
+
+    def copy_list_view(self, s, c, slot, n):
         w, child = OFFSETS[self.type.format], self.children[0]
         for k in range(slot, slot + n):
             size = entry(c.two, w, k)
-            if child.rows + size >= 1 << 8 * w - 1: refuse(6)
+            if child.rows + size >= LIMIT[w]: refuse(6)
             self.one += number(child.rows, w)
             self.two += number(size, w)
             child.copy(s, entry(c.one, w, k), size)
@@ -113,7 +128,7 @@ class Node:
     def copy_dense(self, s, c, slot, n):
         for k in range(slot, slot + n):
             child = self.children[self.type.ids().index(c.one[k])]
-            if child.rows >= 1 << 31: refuse(6)
+            if child.rows >= LIMIT[4]: refuse(6)
             self.one.append(c.one[k])
             self.two += number(child.rows, 4)
             child.copy(s, entry(c.two, 4, k), 1)
@@ -122,7 +137,7 @@ class Node:
         if n == 0: return
         ends, values = self.children
         w, source = WIDTH[ends.type.format], c.children[0]
-        if self.rows + n >= 1 << 8 * w - 1: refuse(7)
+        if self.rows + n >= LIMIT[w]: refuse(7)
         at = [entry(source.one, w, source.offset + k) for k in range(source.length)]
         runs = [k for k, e in enumerate(at) if e > slot and (k == 0 or at[k - 1] < slot + n)]
         values.copy(s, runs[0], len(runs))
@@ -150,6 +165,9 @@ class Node:
         self.one += bytes(16 * n)
 
     def nulls_list(self, n):
+        self.one += number(self.children[0].rows, OFFSETS[self.type.format]) * n
+
+    def nulls_list_view(self, n):
         self.one += bytes(n * OFFSETS[self.type.format])
         self.two += bytes(n * OFFSETS[self.type.format])
 
@@ -166,7 +184,7 @@ class Node:
 
     def nulls_dense(self, n):
         i, c = self.home()
-        if c.rows + n > 1 << 31: refuse(6)
+        if c.rows + n > LIMIT[4]: refuse(6)
         self.one += bytes([i]) * n
         self.two += numbers(range(c.rows, c.rows + n), 4)
         c.nulls(n)
@@ -175,7 +193,7 @@ class Node:
         ends, values = self.children
         w = WIDTH[ends.type.format]
         values.nulls(1)
-        if self.rows + n >= 1 << 8 * w - 1: refuse(7)
+        if self.rows + n >= LIMIT[w]: refuse(7)
         ends.one += number(self.rows + n, w)
         ends.rows += 1
 
@@ -239,6 +257,17 @@ class Join:
     def nulls(self, n):
         if not self.node.keeps: return 3
         return self.tried(lambda node: node.nulls(n))
+
+    def trip(self, orders):
+        """A list of orders, all or none: the ground and the place of the first that is refused."""
+        if len(orders) > 256: return 9, 0
+        node, room = self.node, bytes(self.room)
+        for place, order in enumerate(orders):
+            ground = self.copy(*order[1:]) if order[0] == 'copy' else self.nulls(*order[1:])
+            if ground:
+                self.node, self.room[:] = node, room
+                return ground, place
+        return 0, 0
 
     def finish_text(self):
         text = ' finish 0 %d' % self.node.null_count

@@ -1,5 +1,6 @@
 """Document 01's table of checked rows, through the entry points. What the table says is asserted of the expected columns here."""
 from arrow import Column, Type, entry, keyed, make, numbers, read, run_column
+from grounds import lists_of
 from script import run
 
 DONE = [('finish',), ('rows',)]
@@ -84,3 +85,12 @@ def checked_rows(script):
     assert list(f.one) == [2, 3, 4] and [read(f, k) for k in range(3)] == [b'Ana', None, b'Bo'] and (f.nulls(), f.children[0].nulls()) == (0, 1)
     f = run(script, 'K17 shared', [drivers, drivers], [('copy', 1, 0, 3), ('copy', 0, 1, 2)] + DONE, again=(False, [('copy', 0, 1, 4)] + DONE)).node.finished()
     assert list(f.one) == [0, 1, 2, 1] and [read(f, k) for k in range(4)] == [b'Ana', None, b'Bo', None] and (f.nulls(), f.children[0].nulls()) == (0, 1)
+
+    stops = Type('+l', Type('C'))
+    ahead = lists_of(stops, [0, 10], make(Type('C'), list(range(10))))
+    trips = lists_of(stops, [0, 2, 2, 5], make(Type('C'), [20, 21, 22, 23, 24], before=[7]))
+    steps = [('copy', 0, 0, 1), ('copy', 1, 1, 3)]
+    f = run(script, 'K18', [ahead, trips], steps + DONE).node.finished()
+    assert [entry(f.one, 4, k) for k in range(4)] == [0, 10, 10, 13] and f.children[0].one[10:] == bytes([22, 23, 24])
+    f = run(script, 'K18 then 2 nulls', [ahead, trips], steps + [('nulls', 2)] + DONE, keep=True).node.finished()
+    assert [entry(f.one, 4, k) for k in range(6)] == [0, 10, 10, 13, 13, 13] and (f.nulls(), f.children[0].length) == (2, 13)

@@ -29,6 +29,19 @@ def test_a_sliced_batch():
     assert repr(joined) == "<lafkuno.Array of 5 rows, 1 of them null, format 'i'>"
 
 
+def test_sliced_lists():
+    for format, code in [("+l", "i"), ("+L", "q")]:
+        item = i32([9, 20, 21, 22, 23, 24], offset=1, name="item")
+        offsets = struct.pack("<4" + code, 0, 2, 2, 5)
+        trips = Column(Type(format, True, [item.type], name="stops"), 2, 1, [None, offsets], [item], null_count=0)
+        joined = lafkuno.join([trips], [(0, 1, 2), lafkuno.gap(1), (0, 0, 2)], keep_nulls=True)
+        del trips, item
+        gc.collect()
+        rows = [row and [int.from_bytes(stop, "little") for stop in row] for row in read_all(joined)]
+        assert rows == [[22, 23, 24], None, [], [22, 23, 24]], rows
+        assert joined.format == format
+
+
 def test_a_result_is_a_source():
     one = lafkuno.join([i32([1, 2, 3])], [(0, 1, 3)])
     two = lafkuno.join([one, one], [(0, 0, 2), (1, 0, 1)])
@@ -140,6 +153,8 @@ def with_pyarrow():
         pa.array(["a", None, "a longer text than twelve bytes", ""], pa.string_view()),
         pa.array([1, 2, None, 4], pa.timestamp("us", "UTC")),
         pa.array(["x", "y", None, "x"]).dictionary_encode(),
+        pa.array([[1], None, [2, 3], []], pa.list_(pa.int32())),
+        pa.array([[["a"], None], None, [[]], []], pa.large_list(pa.list_(pa.string()))),
         pa.array([[1], None, [2, 3], []], pa.list_view(pa.int32())),
     ]
     for array in arrays:
@@ -149,7 +164,7 @@ def with_pyarrow():
         wanted = [row for s, start, end in orders for row in sources[s].slice(start, end - start).to_pylist()]
         assert joined.type == array.type and joined.to_pylist() == wanted, array.type
         joined.validate(full=True)
-    batch = pa.record_batch([a for a in arrays], names=list("abcdef"))
+    batch = pa.record_batch([a for a in arrays], names=list("abcdefgh"))
     joined = pa.record_batch(lafkuno.join([batch, batch.slice(2)], [(1, 0, 2), (0, 0, 1)]))
     assert joined.schema == batch.schema and joined.to_pylist() == batch.slice(2).to_pylist() + batch.slice(0, 1).to_pylist()
     print(f"{len(arrays)} types and a batch compared with pyarrow {pa.__version__}")

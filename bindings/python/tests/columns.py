@@ -159,6 +159,10 @@ def read(schema, array, row):
         return ctypes.string_at(array.buffers[2] + start, end - start) if end > start else b""
     if format in ("vz", "vu"):
         return _read_view(array, slot)
+    if format in ("+l", "+L"):
+        code = "i" if format == "+l" else "q"
+        start, end = _unpack(code, array.buffers[1], slot), _unpack(code, array.buffers[1], slot + 1)
+        return [read(schema.children[0][0], array.children[0][0], k) for k in range(start, end)]
     code = "i" if format == "+vl" else "q"
     start, size = _unpack(code, array.buffers[1], slot), _unpack(code, array.buffers[2], slot)
     return [read(schema.children[0][0], array.children[0][0], start + k) for k in range(size)]

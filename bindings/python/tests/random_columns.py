@@ -11,7 +11,7 @@ def random_type(r, depth=1, nodes=None, dictionary=False):
     nodes = nodes if nodes is not None else [0]
     nodes[0] += 1
     leaf = dictionary or depth >= 5 or nodes[0] > 12
-    kind = r.choice(["fixed", "fixed", "string"] if leaf else ["fixed", "string", "view", "list", "sparse", "dense", "runs", "keys"])
+    kind = r.choice(["fixed", "fixed", "string"] if leaf else ["fixed", "string", "view", "list", "list-view", "sparse", "dense", "runs", "keys"])
     name = r.choice(["", "fuel", "stop", "\u00e4"])
     metadata = metadata_bytes([("k", "v" * r.randrange(5))]) if r.random() < 0.2 else None
     make = lambda format, **more: Type(format, r.random() < 0.6, name=name, metadata=metadata, **more)
@@ -23,6 +23,8 @@ def random_type(r, depth=1, nodes=None, dictionary=False):
     if kind == "view":
         return make(r.choice(["vz", "vu"]))
     if kind == "list":
+        return make(r.choice(["+l", "+L"]), children=[child()])
+    if kind == "list-view":
         return make(r.choice(["+vl", "+vL"]), children=[child()])
     if kind == "runs":
         nodes[0] += 1
@@ -107,6 +109,20 @@ def fill_view(r, type, length, offset, bits):
 
 
 def fill_list(r, type, length, offset, bits):
+    if not length and r.random() < 0.5:
+        return [b""], [fill(r, type.children[0], r.randrange(5))]
+    at = r.randrange(20)
+    offsets = [at]
+    for _ in range(offset + length):
+        at += r.randrange(4)
+        offsets.append(at)
+    if r.random() < 0.5:
+        offsets[:offset] = [r.randrange(-5, 2**31) for _ in range(offset)]
+    child = fill(r, type.children[0], at + r.randrange(3))
+    return [struct.pack("<%d%s" % (len(offsets), "i" if type.format == "+l" else "q"), *offsets)], [child]
+
+
+def fill_list_view(r, type, length, offset, bits):
     sequential = r.random() < 0.5
     child_rows = r.randrange(1 + 2 * length + 5)
     child = fill(r, type.children[0], child_rows)
@@ -175,8 +191,10 @@ FILLERS = {
     "fixed": fill_fixed,
     "string": fill_string,
     "view": fill_view,
-    "+vl": fill_list,
-    "+vL": fill_list,
+    "+l": fill_list,
+    "+L": fill_list,
+    "+vl": fill_list_view,
+    "+vL": fill_list_view,
     "+us": fill_sparse,
     "+ud": fill_dense,
     "runs": fill_runs,

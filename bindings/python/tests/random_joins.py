@@ -94,7 +94,7 @@ def one(r):
 
 
 # the buffers whose numbers are checked before they are followed; a byte string's data has no length of its own
-CHECKED = {"+vl": (1, 2), "+vL": (1, 2), "vz": (1,), "vu": (1,), "+us": (0,), "+ud": (0, 1)}
+CHECKED = {"+l": (1,), "+L": (1,), "+vl": (1, 2), "+vL": (1, 2), "vz": (1,), "vu": (1,), "+us": (0,), "+ud": (0, 1)}
 
 
 def damage(r, column):

@@ -15,3 +15,6 @@ pub mod Wider
 pub mod StoredJoin
 pub mod CutShown
 pub mod Cut
+pub mod Items
+pub mod ItemsJoin
+pub mod ItemsWider

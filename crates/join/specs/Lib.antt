@@ -3,3 +3,4 @@ pub mod Join
 pub mod Based
 pub mod Said
 pub mod Stored
+pub mod Items

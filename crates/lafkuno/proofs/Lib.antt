@@ -1,4 +1,5 @@
 -- The laws of `lafkuno`.
 pub mod Laws
 pub mod FrameCalls
+pub mod TripCalls
 pub mod Sums

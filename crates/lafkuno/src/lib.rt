@@ -33,6 +33,7 @@ use parts::Spot;
 use slot_reader::RowRead;
 
 mod beside;
+mod trips;
 
 // ---- columns
 

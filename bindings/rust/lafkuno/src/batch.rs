@@ -1,5 +1,6 @@
 //! Record batches: the same orders over every column, and many joins at once.
 
+use crate::calls::MOST_ORDERS;
 use crate::types::Kind;
 use crate::{Column, Error, Ground, Join, Metadata, Order, Place};
 use std::sync::atomic::{AtomicUsize, Ordering};
@@ -110,8 +111,8 @@ fn join_columns(sources: &[&Column], orders: &[Order], keep: bool, limit: u64) -
     if sources.len() <= SOURCES {
         let mut join = Join::open(sources, keep)?;
         join.limit_work(limit);
-        for order in orders {
-            join.order(*order)?;
+        for (k, list) in orders.chunks(MOST_ORDERS).enumerate() {
+            join.orders(list).map_err(|e| e.at(|p| p.order = p.place.take().map(|place| k * MOST_ORDERS + place + 1)))?;
         }
         return Ok(join.finish()?.column);
     }

@@ -28,7 +28,7 @@ fn filler(ty: &Type) -> Row {
         Kind::Fixed if ty.format == "f" => Row::Single(0),
         Kind::Fixed if ty.format == "g" => Row::Double(0),
         Kind::Fixed => Row::Whole(0),
-        Kind::ListView => Row::List(vec![]),
+        Kind::List | Kind::ListView => Row::List(vec![]),
         _ => Row::Bytes(vec![]),
     }
 }
@@ -66,7 +66,7 @@ fn offset(n: usize, w: usize) -> Result<Vec<u8>, Error> {
 /// The rows that go to each child.
 fn below(ty: &Type, rows: &[&Row]) -> Result<Vec<Vec<Row>>, Error> {
     match ty.kind() {
-        Kind::ListView => {
+        Kind::List | Kind::ListView => {
             let mut child = vec![];
             for row in rows {
                 match row {
@@ -105,10 +105,17 @@ fn below(ty: &Type, rows: &[&Row]) -> Result<Vec<Vec<Row>>, Error> {
 /// Whether a type has the children and the dictionary of its format.
 pub(crate) fn shape(ty: &Type) -> Result<(), Error> {
     let good = match ty.kind() {
-        Kind::ListView => ty.children.len() == 1,
+        Kind::List | Kind::ListView => ty.children.len() == 1,
         Kind::Sparse | Kind::Dense => ty.children.len() == ty.ids().len(),
         Kind::Runs => ty.children.len() == 2 && matches!(ty.children[0].format.as_str(), "s" | "i" | "l") && ty.children[0].dictionary.is_none(),
-        Kind::Dictionary => matches!(ty.dictionary.as_ref().unwrap().kind(), Kind::Fixed | Kind::Strings) && !matches!(ty.format.as_str(), "f" | "g"),
+        Kind::Dictionary => {
+            let keys = Type { dictionary: None, ..ty.clone() };
+            let values = ty.dictionary.as_ref().unwrap().kind();
+            keys.kind() == Kind::Fixed
+                && !matches!(ty.format.as_str(), "f" | "g")
+                && matches!(values, Kind::Fixed | Kind::Strings)
+                && ty.children.is_empty()
+        }
         Kind::Other => false,
         _ => ty.children.is_empty(),
     };
@@ -193,6 +200,14 @@ impl Dictionaries {
                     one.extend(view);
                 }
             }
+            Kind::List => {
+                let mut end = 0;
+                one.extend(offset(end, w)?);
+                for row in rows {
+                    end += if let Row::List(list) = row { list.len() } else { 0 };
+                    one.extend(offset(end, w)?);
+                }
+            }
             Kind::ListView => {
                 let mut end = 0;
                 for row in rows {
@@ -242,7 +257,7 @@ impl Dictionaries {
             Kind::Other => return Err(Error::Column(format!("{ty} is not a type that is taken"))),
         }
         column.buffers = match ty.kind() {
-            Kind::Fixed | Kind::Views | Kind::Sparse => vec![one.into()],
+            Kind::Fixed | Kind::Views | Kind::List | Kind::Sparse => vec![one.into()],
             Kind::Runs => vec![],
             _ => vec![one.into(), two.into()],
         };

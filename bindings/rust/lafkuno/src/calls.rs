@@ -1,7 +1,11 @@
-//! The calls of the proved library (include/lafkuno.h) over slices. This is the one file that names them.
+//! The calls of the proved library (include/lafkuno.h) over slices. This is the one module that names them.
 //!
 //! Every call answers 0 or the number of a ground, and changes nothing where it is not 0. Whatever the slices hold, only they are read,
 //! and only those behind `&mut` are written.
+
+mod trips;
+
+pub use trips::{measure_orders, orders, Ended, MOST_ORDERS, ORDER};
 
 /// A position in a body or a room, and a count of bytes there.
 pub type Position = u32;

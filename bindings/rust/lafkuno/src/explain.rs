@@ -209,7 +209,7 @@ impl<'a> Source<'a> {
             let distinct = ids.iter().enumerate().all(|(j, id)| id.parse::<u8>().is_ok_and(|n| n < 128) && !ids[..j].contains(id));
             let due = match plain.kind() {
                 Kind::Other => return Some((k, format!("the format `{}` is not taken", ty.format))),
-                Kind::ListView => 1,
+                Kind::List | Kind::ListView => 1,
                 Kind::Runs => 2,
                 Kind::Sparse | Kind::Dense => ids.len() as u32,
                 _ => 0,

@@ -1,12 +1,16 @@
 //! A join over safe types. It never asks its user for room: orders are tried on the counters alone, and the room is lent when the
 //! sizes of all parts are known.
 
-use crate::calls::{self, FinishedTables, Read, RowAnswer, RunAnswer, COUNTERS, PLAN, TREE};
+use crate::calls::{self, FinishedTables, Read, RowAnswer, RunAnswer, COUNTERS, MOST_ORDERS, PLAN, TREE};
 use crate::lent::Raise;
 use crate::work::Work;
 use crate::{explain, Buffer, Column, Error, Ground, Lent, Row};
 use std::collections::HashMap;
 use std::ops::Range;
+
+mod trips;
+
+use trips::words;
 
 /// An order.
 #[derive(Clone, Copy, Debug, PartialEq, Eq)]
@@ -135,7 +139,7 @@ impl Join {
             Order::Copy { source, start, end } => calls::measure_copy(&self.plan, &x, &mut counters, number(source), start, end),
             Order::Nulls(n) => calls::measure_nulls(&self.plan, &mut counters, n),
         };
-        Error::check(answer).map_err(|e| self.told(order, e))?;
+        Error::check(answer).map_err(|e| self.told(order, None, self.len(), e))?;
         self.room = self.room_for(&counters)?;
         self.counters = counters;
         self.orders.push(order);
@@ -145,18 +149,18 @@ impl Join {
         Ok(())
     }
 
-    /// A refused order with its number and what it asked for.
-    fn told(&self, order: Order, error: Error) -> Error {
+    /// A refused order with its number, its place in a list, and what it asked for behind so many rows.
+    fn told(&self, order: Order, list: Option<usize>, behind: u64, error: Error) -> Error {
         let number = self.given;
         error.at(|place| {
-            place.order = Some(number);
+            (place.order, place.place) = (Some(number), list);
             place.found = match order {
-                Order::Nulls(n) => format!("{n} nulls behind {} rows", self.len()),
+                Order::Nulls(n) => format!("{n} nulls behind {behind} rows"),
                 Order::Copy { source, start, end } => match self.lent.sources.get(source.saturating_mul(2)) {
                     None => format!("rows {start}..{end} of source {source}, and there are {} sources", self.lent.sources.len() / 2),
                     Some(first) => {
                         let rows = self.lent.lengths.get(2 * *first as usize).copied().unwrap_or(0);
-                        format!("rows {start}..{end} of source {source}, which has {rows}, behind {} rows", self.len())
+                        format!("rows {start}..{end} of source {source}, which has {rows}, behind {behind} rows")
                     }
                 },
             };
@@ -214,12 +218,8 @@ impl Join {
         if calls::open(&x, self.keep, &parts, &mut plan, &mut counters, &mut room) != 0 {
             return inconsistent("the opening was refused after it was measured");
         }
-        for order in &self.orders {
-            let answer = match *order {
-                Order::Copy { source, start, end } => calls::copy(&plan, &parts, &x, &mut counters, &mut room, number(source), start, end),
-                Order::Nulls(n) => calls::nulls(&plan, &parts, &mut counters, &mut room, n),
-            };
-            if answer != 0 {
+        for list in self.orders.chunks(MOST_ORDERS) {
+            if calls::orders(&plan, &parts, &x, &mut counters, &mut room, &words(list)).ground != 0 {
                 return inconsistent("an order was refused after it was measured");
             }
         }
@@ -253,7 +253,7 @@ impl Join {
 #[derive(Debug)]
 pub struct Reader {
     lent: Lent,
-    /// The tree of the column and of the child of each list-view, which is read as a column of its own; by node from the first on.
+    /// The tree of the column and of the child of each list and list-view, which is read as a column of its own; by node from the first on.
     trees: HashMap<u32, Box<[u64; TREE]>>,
 }
 
@@ -318,7 +318,7 @@ impl Reader {
     fn read(&self, column: u32, row: u64) -> Result<Row, Error> {
         let x = self.lent.tables();
         let inconsistent = |what: &str| Error::Inconsistent(what.into());
-        let tree = self.trees.get(&column).ok_or_else(|| inconsistent("a list's child is no list-view's"))?;
+        let tree = self.trees.get(&column).ok_or_else(|| inconsistent("a list's child was not opened"))?;
         let RowAnswer { read, ids, count } = match calls::read_row(&tree[..], &x, x.sources[0] + column, row) {
             Ok(answer) => answer,
             Err(ground) => return Err(Error::check(ground).err().unwrap_or_else(|| inconsistent("a row was refused without a ground"))),

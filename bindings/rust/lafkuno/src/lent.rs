@@ -266,10 +266,10 @@ impl Lent {
         (0..children + dictionary).fold(i + 1, |end, _| self.below(end))
     }
 
-    /// Whether node i is a list-view.
+    /// Whether node i is a list or a list-view.
     pub(crate) fn is_list(&self, i: u32) -> bool {
         let [at, bytes, ..] = entry(&self.schema, i as usize);
-        self.formats.get(at as usize..at as usize + bytes as usize).is_some_and(|f| f.starts_with(b"+v"))
+        self.formats.get(at as usize..at as usize + bytes as usize).is_some_and(|f| matches!(f, b"+l" | b"+L" | b"+vl" | b"+vL"))
     }
 
     /// Source s as a column over the same body; None where the tables do not hold it.

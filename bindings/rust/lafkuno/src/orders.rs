@@ -60,7 +60,7 @@ impl Orders {
             self.trips.push(Trip { line: number, out: None, orders: vec![] });
         }
         if let Some(trip) = self.trips.last_mut() {
-            trip.orders.push(Order { line: number, text: line.into(), what });
+            trip.orders.push(Order { line: number, text: line.into(), what, trip: None });
         }
         Ok(())
     }

@@ -111,7 +111,7 @@ impl Ground {
             Ground::TooManyEntries => "the joined dictionary has more entries than its keys can name: store keys wider, or share one dictionary",
             Ground::CeilingPassed => {
                 "no source, or a ceiling is passed: 16 sources, 32 nodes, depth 8, 16 union fields, 32 data buffers a view node, \
-                 4,294,967,295 bytes a body; or a length or offset is negative"
+                 4,294,967,295 bytes a body, 256 orders a list; or a length or offset is negative"
             }
             Ground::UnknownType => "a type that is not taken: a format, a wrong number of children, or a union's ids",
             Ground::TypesDiffer => "the sources are not of one type: a format or a nullable flag below the root differs",
@@ -152,8 +152,10 @@ pub struct Place {
     pub source: Option<usize>,
     /// The node of the source in depth-first order, the root being 0.
     pub node: Option<usize>,
-    /// The order, counted from 1, refused ones included.
+    /// The order, counted from 1, refused ones included; a list of orders counts as one.
     pub order: Option<usize>,
+    /// Where it stands in the list that it was given in, counted from 0.
+    pub place: Option<usize>,
     /// What was found, and what is allowed.
     pub found: String,
 }
@@ -165,6 +167,7 @@ impl fmt::Display for Place {
         words.extend(self.source.map(|s| format!("source {s}")));
         words.extend(self.node.map(|k| format!("node {k}")));
         words.extend(self.order.map(|k| format!("order {k}")));
+        words.extend(self.place.map(|k| format!("place {k}")));
         f.write_str(&words.join(", "))?;
         f.write_str(if words.is_empty() || self.found.is_empty() { "" } else { ": " })?;
         f.write_str(&self.found)

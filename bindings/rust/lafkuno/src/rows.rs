@@ -65,6 +65,12 @@ impl Column {
                 let bytes = if len <= 12 { &view[4..4 + len] } else { self.data.get(buffer)?.get(offset..offset + len)? };
                 Some(Row::Bytes(bytes.to_vec()))
             }
+            Kind::List => {
+                let (start, end) = self.ends(slot, w)?;
+                let child = self.children.first()?;
+                // offsets that fall hold no row
+                (0..end.checked_sub(start)?).map(|r| child.row(start + r)).collect::<Option<Vec<_>>>().map(Row::List)
+            }
             Kind::ListView => {
                 let (start, size) = (entry(self.buffers.first()?, slot, w)?, entry(self.buffers.get(1)?, slot, w)?);
                 let child = self.children.first()?;
@@ -117,10 +123,15 @@ impl Column {
         Type { format: self.format.clone(), nullable: self.nullable, children: vec![], dictionary: None }
     }
 
+    /// The offset of a slot, and the next one.
+    fn ends(&self, slot: u64, w: usize) -> Option<(u64, u64)> {
+        let offsets = self.buffers.first()?;
+        Some((entry(offsets, slot, w)?, entry(offsets, slot.checked_add(1)?, w)?))
+    }
+
     /// The bytes of a byte string's slot.
     fn span(&self, slot: u64, w: usize) -> Option<&[u8]> {
-        let offsets = self.buffers.first()?;
-        let (a, b) = (entry(offsets, slot, w)?, entry(offsets, slot.checked_add(1)?, w)?);
+        let (a, b) = self.ends(slot, w)?;
         self.buffers.get(1)?.get(usize::try_from(a).ok()?..usize::try_from(b).ok()?)
     }
 

@@ -50,6 +50,8 @@ impl Source<'_> {
             Kind::Fixed | Kind::Dictionary => due.push((1, slots * w)),
             Kind::Strings if length == 0 && self.place(k, 4) == 0 => due.extend([(1, 0), (2, 0)]),
             Kind::Strings => due.extend([(1, (slots + 1) * w), (2, 0)]),
+            Kind::List if length == 0 && self.place(k, 4) == 0 => due.push((1, 0)),
+            Kind::List => due.push((1, (slots + 1) * w)),
             Kind::Views => due.push((1, 16 * slots)),
             Kind::ListView => due.extend([(1, slots * w), (2, slots * w)]),
             Kind::Sparse => due.push((1, slots)),
@@ -89,8 +91,8 @@ impl Source<'_> {
         let mut slots = offset..offset + length;
         match ty.kind() {
             Kind::Fixed | Kind::Other => None,
-            Kind::Strings if length == 0 && one.is_empty() => None,
-            Kind::Strings => {
+            Kind::Strings | Kind::List if length == 0 && one.is_empty() => None,
+            kind @ (Kind::Strings | Kind::List) => {
                 let first = signed(one, offset, w);
                 if first < 0 {
                     return Some(format!("the first offset is {first}, which is negative"));
@@ -99,6 +101,10 @@ impl Source<'_> {
                     return Some(format!("row {} begins at {} and ends at {}", slot - offset, signed(one, slot, w), signed(one, slot + 1, w)));
                 }
                 let last = signed(one, offset + length, w);
+                if kind == Kind::List {
+                    let most = rows(below(0));
+                    return (most < last).then(|| format!("the last offset is {last}, and the child has {most} rows"));
+                }
                 ((two.len() as i128) < last).then(|| format!("the last offset is {last}, and there are {} bytes", two.len()))
             }
             Kind::Views => slots.find_map(|slot| self.view(k, one, slot).map(|found| format!("row {}: {found}", slot - offset))),

@@ -14,6 +14,8 @@ pub struct Order {
     pub text: String,
     /// What it asks for.
     pub what: What,
+    /// The line that begins the trip which it belongs to: all orders of a trip are carried out, or none.
+    pub trip: Option<usize>,
 }
 
 /// What an order asks for.
@@ -80,6 +82,7 @@ struct File {
     fills: Vec<(usize, usize, usize)>,
     slices: Vec<Option<(u64, u64, usize)>>,
     orders: Vec<Order>,
+    trip: Option<usize>,
 }
 
 impl File {
@@ -121,19 +124,27 @@ impl File {
                 let (start, end) = range(rows).ok_or("a copy is: copy SOURCE START..END")?;
                 let found = self.names.iter().position(|n| n == name).or_else(|| name.parse().ok());
                 let source = found.ok_or_else(|| format!("there is no source `{name}`"))?;
-                self.orders.push(Order { line: number, text: line.into(), what: What::Copy { source, start, end } });
+                self.orders.push(Order { line: number, text: line.into(), what: What::Copy { source, start, end }, trip: self.trip });
             }
             "nulls" => {
                 let n = rest.parse().map_err(|_| "a count is due: nulls N".to_string())?;
-                self.orders.push(Order { line: number, text: line.into(), what: What::Nulls(n) });
+                self.orders.push(Order { line: number, text: line.into(), what: What::Nulls(n), trip: self.trip });
             }
-            _ => return Err(format!("`{line}`: type, keep nulls, share dictionaries, source, rows, slice, copy or nulls is due")),
+            "trip" if !rest.is_empty() => return Err("`trip` stands alone before its orders".into()),
+            "trip" if self.trip.is_some() => return Err("the trip before this one has no `end`".into()),
+            "trip" => self.trip = Some(number),
+            "end" if self.trip.take().is_none() => return Err("`trip` stands before its `end`".into()),
+            "end" => {}
+            _ => return Err(format!("`{line}`: type, keep nulls, share dictionaries, source, rows, slice, copy, nulls, trip or end is due")),
         }
         Ok(())
     }
 
     fn describe(self, last: usize) -> Result<Description, Mistake> {
         let mistake = |line: usize, what: String| Mistake { line, what };
+        if let Some(line) = self.trip {
+            return Err(mistake(line, "this trip has no `end`".into()));
+        }
         let ty = self.ty.ok_or_else(|| mistake(last, "no type is given: type FORMAT".into()))?;
         // the sources as the first n lines of rows make them
         let build = |n: usize| {
@@ -251,6 +262,7 @@ mod tests {
             ("f", "1.5, -0.0, 0x7fc00001"),
             ("u", r#""a\"b\\", "\x00\xff", "caf\u{e9}""#),
             ("vu?", r#""a longer text than twelve bytes", null"#),
+            ("+l?(u?)", r#"["a", null], null, []"#),
             ("+vl?(u?)", r#"["a", null], null, []"#),
             ("+ud:5,7(i?, u)", r#"5:null, 7:"x", 5:3"#),
             ("+us:5,7(i?, u)", r#"5:null, 7:"x", 5:3"#),
@@ -258,6 +270,7 @@ mod tests {
             ("C?[u]", r#""x", null, "y", "x""#),
             ("S[i]", "7, -7, 7"),
             ("+r(i, C[l])", "7, 7, -7"),
+            ("+L(+r(i, C?[U]))", r#"["a", "a"], [], [null]"#),
             ("+vL(+r(i, C?[U]))", r#"["a", "a"], [], [null]"#),
         ] {
             let ty: Type = ty.parse().unwrap();
@@ -287,6 +300,10 @@ mod tests {
             ("type i\nrows 1", 2),
             ("type q", 1),
             ("type +vl", 1),
+            ("type +l", 1),
+            ("type +L(i, i)", 1),
+            ("type u[i]", 1),
+            ("type +l(i)\nsource a\nrows 1", 3),
             ("type +r(i)", 1),
             ("type i\nsource a\nrows 1 x", 3),
             ("type i\nsource a\nrows null", 3),
@@ -299,6 +316,10 @@ mod tests {
             ("type C[u]\nsource a\nrows entry:null", 3),
             ("type C[u?]\nsource a\nrows entry:x", 3),
             ("type u?\nsource a\nrows entry:null", 3),
+            ("type i\nsource a\ntrip\ncopy a 0..0", 3),
+            ("type i\nsource a\ntrip\ntrip", 4),
+            ("type i\nsource a\nend", 3),
+            ("type i\nsource a\ntrip home", 3),
             ("source a", 1),
             ("# nothing", 1),
         ] {

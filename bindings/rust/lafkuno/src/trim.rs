@@ -117,6 +117,26 @@ impl Window<'_> {
 
     fn lists(&self, out: &mut Column) -> Option<()> {
         let (w, child) = (self.column.ty().width(), self.column.children.first()?);
+        if self.length == 0 {
+            // as byte strings without rows
+            if !self.column.buffers.first()?.is_empty() {
+                self.entries(0, w, 1)?;
+            }
+            (out.buffers, out.children) = (vec![Buffer::default()], vec![child.window(0, 0)]);
+            (out.offset, out.validity) = (0, None);
+            return Some(());
+        }
+        let offsets = self.entries(0, w, 1)?;
+        let (first, last) = (natural(&offsets, self.offset, w)?, natural(&offsets, self.slots(), w)?);
+        let rows = last.checked_sub(first).filter(|_| last <= child.length)?;
+        let skipped = if self.slots() < first { first } else { 0 };
+        out.buffers = vec![if skipped == 0 { offsets } else { less(&offsets, w, skipped) }];
+        out.children = vec![child.window(skipped, rows + (first - skipped))];
+        Some(())
+    }
+
+    fn list_views(&self, out: &mut Column) -> Option<()> {
+        let (w, child) = (self.column.ty().width(), self.column.children.first()?);
         let (offsets, sizes) = (self.entries(0, w, 0)?, self.entries(1, w, 0)?);
         // rows of empty lists lead to no child's row, and are within it all the same
         let (mut reach, mut top) = (Reach::NONE, 0);
@@ -202,7 +222,8 @@ impl Column {
             }
             Kind::Strings => window.strings(&mut out)?,
             Kind::Views => window.views(&mut out)?,
-            Kind::ListView => window.lists(&mut out)?,
+            Kind::List => window.lists(&mut out)?,
+            Kind::ListView => window.list_views(&mut out)?,
             Kind::Dense => window.dense(&mut out)?,
             Kind::Sparse => {
                 out.buffers = vec![window.entries(0, 1, 0)?];

@@ -39,8 +39,8 @@ impl Type {
         match storage(&self.format) {
             "c" | "C" => 1,
             "s" | "S" => 2,
-            "i" | "I" | "f" | "z" | "u" | "+vl" => 4,
-            "l" | "L" | "g" | "Z" | "U" | "+vL" => 8,
+            "i" | "I" | "f" | "z" | "u" | "+l" | "+vl" => 4,
+            "l" | "L" | "g" | "Z" | "U" | "+L" | "+vL" => 8,
             _ => 0,
         }
     }
@@ -51,6 +51,7 @@ impl Type {
             "c" | "C" | "s" | "S" | "i" | "I" | "l" | "L" | "f" | "g" => Kind::Fixed,
             "z" | "u" | "Z" | "U" => Kind::Strings,
             "vz" | "vu" => Kind::Views,
+            "+l" | "+L" => Kind::List,
             "+vl" | "+vL" => Kind::ListView,
             "+r" => Kind::Runs,
             f if f.starts_with("+us:") => Kind::Sparse,
@@ -65,6 +66,7 @@ pub(crate) enum Kind {
     Fixed,
     Strings,
     Views,
+    List,
     ListView,
     Sparse,
     Dense,
@@ -134,7 +136,7 @@ impl Parser<'_> {
         let format = rest[..len].to_string();
         let known = Type { format: format.clone(), nullable: false, children: vec![], dictionary: None };
         if known.kind() == Kind::Other {
-            return self.fail("a format string such as i, u, vu, +vl, +ud:5,7 or +r is due");
+            return self.fail("a format string such as i, u, vu, +l, +vl, +ud:5,7 or +r is due");
         }
         self.skip(len);
         let nullable = self.eat('?');

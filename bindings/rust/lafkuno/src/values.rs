@@ -1,7 +1,7 @@
 //! Rows as text (docs/USING.md).
 
 use crate::build::shape;
-use crate::types::storage;
+use crate::types::{storage, Kind};
 use crate::{Column, Row, Type};
 use std::fmt::Write;
 
@@ -94,7 +94,7 @@ impl<'a> Values<'a> {
             };
         }
         if self.eat('[') {
-            if !ty.format.starts_with("+v") {
+            if !matches!(ty.kind(), Kind::List | Kind::ListView) {
                 return Err(format!("a list is no row of type {ty}"));
             }
             let mut rows = vec![];

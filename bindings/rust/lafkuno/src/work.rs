@@ -62,7 +62,24 @@ fn entry(s: &[u8], k: usize, w: usize) -> u64 {
     u64::from_le_bytes(word)
 }
 
+/// The largest step between neighbours.
+fn longest(offsets: impl Iterator<Item = u64> + Clone) -> u64 {
+    offsets.clone().skip(1).zip(offsets).map(|(end, start)| end.saturating_sub(start)).max().unwrap_or(0)
+}
+
 impl Source<'_> {
+    /// The largest stretch of a list's rows.
+    fn longest(&self, k: usize) -> u128 {
+        let (length, offset) = self.rows(k).unwrap_or_default();
+        let (w, offsets) = (self.ty(k).width(), self.buffer(k, 1).unwrap_or(&[]));
+        let offsets = offsets.get(w * offset as usize..w * (offset + length + 1) as usize).unwrap_or(&[]);
+        let longest = match w {
+            4 => longest(offsets.chunks_exact(4).map(|o| u32::from_le_bytes(*o.first_chunk().unwrap_or(&[0; 4])) as u64)),
+            _ => longest(offsets.chunks_exact(8).map(|o| u64::from_le_bytes(*o.first_chunk().unwrap_or(&[0; 8])))),
+        };
+        longest as u128
+    }
+
     /// The largest size of a list-view's rows.
     fn largest(&self, k: usize) -> u128 {
         let (length, offset) = self.rows(k).unwrap_or_default();
@@ -80,6 +97,7 @@ impl Source<'_> {
         let mut most = vec![1; self.nodes.len()];
         for k in 0..self.nodes.len() {
             let factor = match self.ty(k).kind() {
+                Kind::List => self.longest(k),
                 Kind::ListView => self.largest(k),
                 // entries are walked at the opening alone
                 Kind::Dictionary => 0,
@@ -107,6 +125,7 @@ impl Source<'_> {
         let mut out = vec![0; (offset + length) as usize + 1];
         for slot in offset as usize..(offset + length) as usize {
             let more = match ty.kind() {
+                Kind::List => rows(entry(one, slot, w), entry(one, slot + 1, w).saturating_sub(entry(one, slot, w))),
                 Kind::ListView => rows(entry(one, slot, w), entry(two, slot, w)),
                 Kind::Sparse => rows(slot as u64, 1),
                 Kind::Dense if one.get(slot).copied() == id => rows(entry(two, slot, 4), 1),
@@ -184,5 +203,15 @@ impl Work {
     /// The copy that was added last is carried out.
     pub fn accept(&mut self) {
         self.totals.copy_from_slice(&self.next);
+    }
+
+    /// What was carried out so far; [`Work::back`] takes back what came after.
+    pub fn so_far(&self) -> Vec<u128> {
+        self.totals.clone()
+    }
+
+    /// As it was then.
+    pub fn back(&mut self, then: Vec<u128>) {
+        self.totals = then;
     }
 }

@@ -49,6 +49,8 @@ pub enum DataType {
     LargeUtf8,
     BinaryView,
     Utf8View,
+    List(Box<Field>),
+    LargeList(Box<Field>),
     ListView(Box<Field>),
     LargeListView(Box<Field>),
     Union(Vec<(i8, Field)>, UnionMode),
@@ -299,6 +301,18 @@ pub(crate) fn new_buffers(data_type: &DataType, capacity: usize) -> [MutableBuff
             return [buffer, MutableBuffer::new(capacity)];
         }
         DataType::BinaryView | DataType::Utf8View => 16,
+        DataType::List(_) => {
+            // offset buffer always starts with a zero
+            let mut buffer = MutableBuffer::new((1 + capacity) * size_of::<i32>());
+            buffer.push(0i32);
+            return [buffer, MutableBuffer::new(0)];
+        }
+        DataType::LargeList(_) => {
+            // offset buffer always starts with a zero
+            let mut buffer = MutableBuffer::new((1 + capacity) * size_of::<i64>());
+            buffer.push(0i64);
+            return [buffer, MutableBuffer::new(0)];
+        }
         DataType::ListView(_) => return [MutableBuffer::new(4 * capacity), MutableBuffer::new(4 * capacity)],
         DataType::LargeListView(_) => return [MutableBuffer::new(8 * capacity), MutableBuffer::new(8 * capacity)],
         DataType::Union(_, UnionMode::Sparse) => 1,

@@ -23,6 +23,19 @@ pub struct Seen {
     pub joined_null_entries: u64,
     pub kept_null_entries: u64,
     pub depth_8: u64,
+    /// Types with a list, and those with one at depth 7, the deepest that has a child.
+    pub lists: u64,
+    pub deep_lists: u64,
+}
+
+/// Whether there is a list `down` levels below, or at any level.
+fn has_list(ty: &Type, down: Option<usize>) -> bool {
+    let here = matches!(ty.format.as_str(), "+l" | "+L");
+    match down {
+        Some(0) => here,
+        None if here => true,
+        _ => ty.children.iter().any(|c| has_list(c, down.map(|d| d - 1))),
+    }
 }
 
 fn depth(ty: &Type) -> usize {
@@ -68,6 +81,8 @@ pub fn join(seed: u64, seen: &mut Seen) -> Result<(), String> {
     let keep = random.chance(50);
     seen.joins += 1;
     seen.depth_8 += (depth(&ty) == 8) as u64;
+    seen.lists += has_list(&ty, None) as u64;
+    seen.deep_lists += has_list(&ty, Some(6)) as u64;
     let mut trial = Trial { ty: &ty, sources: &sources, keep, orders: &list, seen };
     trial.run(&mut random).map_err(|what| format!("seed {seed}, type {ty}, keep {keep}, {} sources, orders {list:?}\n  {what}", sources.len()))
 }

@@ -35,6 +35,8 @@ pub fn data_type(ty: &Type) -> DataType {
         "U" => DataType::LargeUtf8,
         "vz" => DataType::BinaryView,
         "vu" => DataType::Utf8View,
+        "+l" => DataType::List(field(&ty.children[0])),
+        "+L" => DataType::LargeList(field(&ty.children[0])),
         "+vl" => DataType::ListView(field(&ty.children[0])),
         "+vL" => DataType::LargeListView(field(&ty.children[0])),
         "+r" => DataType::RunEndEncoded(field(&ty.children[0]), field(&ty.children[1])),
@@ -48,8 +50,8 @@ pub fn data_type(ty: &Type) -> DataType {
 fn width(format: &str) -> usize {
     match format {
         "s" | "S" => 2,
-        "i" | "I" | "f" | "z" | "u" | "+vl" => 4,
-        "l" | "L" | "g" | "Z" | "U" | "+vL" => 8,
+        "i" | "I" | "f" | "z" | "u" | "+l" | "+vl" => 4,
+        "l" | "L" | "g" | "Z" | "U" | "+L" | "+vL" => 8,
         "vz" | "vu" => 16,
         _ => 1,
     }
@@ -90,7 +92,7 @@ impl Convert {
             };
             buffers.push(self.buffer(buffer, w));
         }
-        if strings && column.buffers[0].is_empty() {
+        if (strings || matches!(format, "+l" | "+L")) && column.buffers[0].is_empty() {
             let zeros = vec![0; (offset + 1) * w];
             let key = (column.buffers[0].as_ptr(), zeros.len());
             buffers[0] = Buffer::new(self.zeros.entry(key).or_insert_with(|| Arc::new(zeros)).clone(), 0, key.1);

@@ -16,13 +16,13 @@ fn has_runs(column: &Column) -> bool {
     column.format == "+r" || column.children.iter().any(has_runs)
 }
 
-/// Each run-end node has at most one run more, but below a list-view that itself stands below a run-end node.
+/// Each run-end node has at most one run more, but below a list or list-view that itself stands below a run-end node.
 fn runs(single: &Column, halves: &Column, below_runs: bool, exempt: bool) -> Result<(), String> {
     let is_run = single.format == "+r";
     if is_run && !exempt && single.children[0].length + 1 < halves.children[0].length {
         return Err(format!("{} runs, and {} of the single order", halves.children[0].length, single.children[0].length));
     }
-    let exempt = exempt || (below_runs && single.format.starts_with("+v"));
+    let exempt = exempt || (below_runs && matches!(single.format.as_str(), "+l" | "+L" | "+vl" | "+vL"));
     let pairs = single.children.iter().zip(&halves.children);
     pairs.map(|(a, b)| runs(a, b, below_runs || is_run, exempt)).collect()
 }

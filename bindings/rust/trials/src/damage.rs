@@ -45,6 +45,7 @@ impl Memory {
         let asked = match call {
             Call::Copy(source, start, end) => Call::MeasureCopy(source, start, end),
             Call::Nulls(n) => Call::MeasureNulls(n),
+            Call::List(words) => Call::MeasureList(words),
             Call::OpenColumn(first, n) if before.tree.len() >= TREE => Call::Ground(first, n),
             Call::Open(keep) if answer == 0 => Call::Plan(keep),
             _ => return Ok(()),
@@ -56,7 +57,9 @@ impl Memory {
         self.restore(&after);
         match call {
             Call::Open(_) => same("the plan", plan, after.plan),
-            Call::Copy(..) | Call::Nulls(_) if measured == 0 => {
+            // an order before the one that is refused may be too much for its part
+            Call::List(_) if measured != 0 => same("its answer", [measured, 13, 14].contains(&answer), true),
+            Call::Copy(..) | Call::Nulls(_) | Call::List(_) if measured == 0 => {
                 same("its answer", [0, 13, 14].contains(&answer), true)?;
                 same("its counters", &after.counters, if answer == 0 { &counters } else { &before.counters })
             }
@@ -155,6 +158,8 @@ pub fn damaged(seed: u64, answers: &mut Answers) -> Result<(), String> {
         let b = a + r.below(most + 1 - a) + if r.chance(10) { r.number() } else { 0 } % (1 << r.below(40));
         let many = r.pick(&[0, 1, 3, 20, 70000, u64::MAX]);
         list.extend([Call::MeasureCopy(source, a, b), Call::Copy(source, a, b), Call::MeasureNulls(many), Call::Nulls(many)]);
+        let words = [0, source as u64, a, b, 1, many % 4, 0, 0, 0, source as u64, a, b];
+        list.extend([Call::MeasureList(words), Call::List(words)]);
     }
     list.push(Call::Finish(base));
     let late = 5 + r.size(list.len() - 4);
@@ -172,7 +177,7 @@ pub fn damaged(seed: u64, answers: &mut Answers) -> Result<(), String> {
                 same(&format!("a place for: {error}"), told, true).map_err(describe)?;
             }
             Call::Plan(_) if answer == 0 => accepted(memory.lent(), keep).map_err(|e| describe(format!("accepted: {e}")))?,
-            Call::MeasureOpen | Call::MeasureCopy(..) | Call::MeasureNulls(_) => memory.restore(&before),
+            Call::MeasureOpen | Call::MeasureCopy(..) | Call::MeasureNulls(_) | Call::MeasureList(_) => memory.restore(&before),
             _ => {}
         }
     }

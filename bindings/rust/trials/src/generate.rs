@@ -21,8 +21,8 @@ fn leaf(format: &str, nullable: bool) -> Type {
 fn width(format: &str) -> usize {
     match format {
         "s" | "S" => 2,
-        "i" | "I" | "f" | "z" | "u" | "+vl" => 4,
-        "l" | "L" | "g" | "Z" | "U" | "+vL" => 8,
+        "i" | "I" | "f" | "z" | "u" | "+l" | "+vl" => 4,
+        "l" | "L" | "g" | "Z" | "U" | "+L" | "+vL" => 8,
         _ => 1,
     }
 }
@@ -57,14 +57,14 @@ impl<'a> Generate<'a> {
         let nullable = r.chance(60);
         let nest = if deep { 90 } else { 45 };
         if depth < 8 && 2 <= *left && r.chance(nest) {
-            match r.below(4) {
-                0 => {
+            match r.below(5) {
+                kind @ (0 | 1) => {
                     *left -= 1;
-                    let format = r.pick(&["+vl", "+vL"]);
+                    let format = if kind == 0 { r.pick(&["+vl", "+vL"]) } else { r.pick(&["+l", "+L"]) };
                     let children = vec![self.node(depth + 1, left, deep)];
                     return Type { children, ..leaf(format, nullable) };
                 }
-                1 => {
+                2 => {
                     *left -= 2;
                     let ends = r.pick(&["s", "i", "l"]);
                     let ends = leaf(ends, false);
@@ -152,6 +152,7 @@ impl<'a> Generate<'a> {
             _ if ty.dictionary.is_some() => self.keys(&mut column, ty, node, &valid),
             "z" | "u" | "Z" | "U" => self.strings(&mut column, w),
             "vz" | "vu" => self.views(&mut column, &valid),
+            "+l" | "+L" => self.lists(&mut column, ty, w),
             "+vl" | "+vL" => {
                 let rows = self.random.below(40);
                 let child = self.make(&ty.children[0], rows);
@@ -215,6 +216,28 @@ impl<'a> Generate<'a> {
             offsets.extend(r.bytes(3));
         }
         column.buffers = vec![offsets.into(), data.into()];
+    }
+
+    fn lists(&mut self, column: &mut Column, ty: &Type, w: usize) {
+        let rows = self.random.below(40);
+        let child = self.make(&ty.children[0], rows);
+        let r = &mut *self.random;
+        let mut offsets = vec![];
+        if column.length != 0 || r.chance(70) {
+            offsets = r.bytes(w * column.offset as usize);
+            let mut ends: Vec<u64> = (0..=column.length).map(|_| r.below(child.length + 1)).collect();
+            ends.sort_unstable();
+            if r.chance(30) {
+                // short rows, and a rest that no row reaches
+                ends = (0..=column.length).map(|k| (k / 2).min(child.length)).collect();
+            }
+            ends.iter().for_each(|end| Self::put(&mut offsets, *end, w));
+            if r.chance(20) {
+                offsets.extend(r.bytes(3));
+            }
+        }
+        column.buffers = vec![offsets.into()];
+        column.children = vec![child];
     }
 
     fn views(&mut self, column: &mut Column, valid: &[bool]) {

@@ -10,6 +10,7 @@ pub mod guard;
 pub mod memory;
 pub mod passage;
 pub mod random;
+pub mod trips;
 pub mod wider;
 
 /// The examples of docs/USING.md.

@@ -44,10 +44,12 @@ pub enum Call {
     Open(bool),
     Copy(u32, u64, u64),
     Nulls(u64),
+    List([u64; 12]),
     Finish(u32),
     MeasureOpen,
     MeasureCopy(u32, u64, u64),
     MeasureNulls(u64),
+    MeasureList([u64; 12]),
     Ground(u32, u32),
     OpenColumn(u32, u32),
 }
@@ -59,10 +61,12 @@ impl Call {
             Call::Open(_) => "open",
             Call::Copy(..) => "copy",
             Call::Nulls(_) => "nulls",
+            Call::List(_) => "orders",
             Call::Finish(_) => "finish",
             Call::MeasureOpen => "measure_open",
             Call::MeasureCopy(..) => "measure_copy",
             Call::MeasureNulls(_) => "measure_nulls",
+            Call::MeasureList(_) => "measure_orders",
             Call::Ground(..) => "column_ground",
             Call::OpenColumn(..) => "open_column",
         }
@@ -169,6 +173,7 @@ impl Memory {
             Call::Open(keep) => calls::open(&x, keep, parts, plan.get_mut(), counters.get_mut(), room.get_mut()),
             Call::Copy(source, start, end) => calls::copy(plan.get(), parts, &x, counters.get_mut(), room.get_mut(), source, start, end),
             Call::Nulls(n) => calls::nulls(plan.get(), parts, counters.get_mut(), room.get_mut(), n),
+            Call::List(words) => calls::orders(plan.get(), parts, &x, counters.get_mut(), room.get_mut(), &words).ground,
             Call::Finish(base) => {
                 let mut out = FinishedTables {
                     lengths: self.new_lengths.get_mut(),
@@ -181,6 +186,7 @@ impl Memory {
             Call::MeasureOpen => calls::measure_open(plan.get(), &x, counters.get_mut()),
             Call::MeasureCopy(source, start, end) => calls::measure_copy(plan.get(), &x, counters.get_mut(), source, start, end),
             Call::MeasureNulls(n) => calls::measure_nulls(plan.get(), counters.get_mut(), n),
+            Call::MeasureList(words) => calls::measure_orders(plan.get(), &x, counters.get_mut(), &words).ground,
             Call::Ground(first, n) => calls::column_ground(&x, first, n),
             Call::OpenColumn(first, n) => calls::open_column(&x, first, n, self.tree.get_mut()),
         }

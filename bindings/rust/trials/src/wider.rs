@@ -24,7 +24,7 @@ fn width(format: &str) -> usize {
     match format {
         "c" | "C" => 1,
         "s" | "S" => 2,
-        "l" | "L" | "Z" | "U" | "+vL" => 8,
+        "l" | "L" | "Z" | "U" | "+L" | "+vL" => 8,
         _ => 4,
     }
 }
@@ -60,6 +60,7 @@ impl Widen {
         let (format, wide) = match old {
             _ if column.dictionary.is_some() => (self.format(reaching(old)), 1),
             "z" | "u" => (self.format(&[old, if old == "z" { "Z" } else { "U" }]), 1),
+            "+l" => (self.format(&["+l", "+L"]), 1),
             "+vl" => (self.format(&["+vl", "+vL"]), 2),
             _ => (old.to_string(), 0),
         };

@@ -24,6 +24,7 @@ fn examples_give_their_rows() {
         ("van.join", vec!["95", "102", "12", "null", "61"]),
         ("runs.join", [vec!["\"B\""; 3], vec!["\"C\""], vec!["\"B\""; 3], vec!["\"C\""], vec!["null"; 5]].concat()),
         ("stops.join", vec![r#"["Depot", null, "Harbour"]"#, r#"["Depot", "Mill Lane"]"#, "[]", "null", r#"["Yard"]"#, "null"]),
+        ("routes.join", vec![r#"["Depot", null, "Harbour"]"#, r#"["Yard", "Granton"]"#, r#"["Depot", "Mill Lane"]"#, "[]", "null", "null"]),
         ("towns.join", vec!["\"Granton\"", "\"Newhaven\"", "\"Leith\"", "null", "\"Granton\""]),
         ("drivers.join", vec!["\"Ana\"", "null", "\"Bo\"", "null", "\"Di\""]),
         ("events.join", vec!["7:\"engine on, doors shut\"", "7:\"engine on, doors shut\"", "5:null", "7:null", "5:null", "5:null"]),
@@ -57,8 +58,21 @@ fn a_refusal_is_told() {
 }
 
 #[test]
+fn a_trip_is_all_or_none() {
+    let output = run(&["join", "trip.join"]);
+    assert_eq!((output.status.code(), text(&output.stdout)), (Some(1), ""));
+    let told = text(&output.stderr);
+    assert!(told.contains("the trip of line 14: order 5, line 16 (`copy stops 4..7`): refused, ground 2"), "{told}");
+    assert!(told.contains("place 1: rows 4..7 of source 0, which has 6, behind 5 rows"), "{told}");
+    let output = run(&["join", "--go-on", "trip.join"]);
+    assert_eq!(output.status.code(), Some(1));
+    assert_eq!(text(&output.stdout), "\"Depot\"\n\"Harbour\"\nnull\n\"Yard\"\n\"Leith\"\n");
+    assert!(text(&output.stderr).contains("7 orders, 1 refused; 5 rows, 1 nulls"), "{}", text(&output.stderr));
+}
+
+#[test]
 fn the_nulls_of_the_summary_are_those_printed() {
-    for file in ["van.join", "runs.join", "stops.join", "towns.join", "events.join"] {
+    for file in ["van.join", "runs.join", "stops.join", "routes.join", "towns.join", "events.join"] {
         let output = run(&["join", file]);
         let printed = text(&output.stdout).lines().filter(|l| l.rsplit(':').next() == Some("null")).count();
         assert!(text(&output.stderr).contains(&format!("{printed} nulls\n")), "{file}: {}", text(&output.stderr));

@@ -1,12 +1,16 @@
-//! include/lafkuno.h and src/calls.rs declare the calls that crates/lafkuno has, and the header's grounds are the binding's.
+//! include/lafkuno.h and src/calls declare the calls that crates/lafkuno has, and the header's grounds are the binding's.
 
-use lafkuno::calls::{COUNTERS, PLAN, TREE};
+use lafkuno::calls::{COUNTERS, MOST_ORDERS, ORDER, PLAN, TREE};
 use lafkuno::Ground;
 use std::collections::BTreeMap;
 
 const HEADER: &str = include_str!("../../../../include/lafkuno.h");
-const RUST: &str = include_str!("../../lafkuno/src/calls.rs");
-const RATTLE: &str = concat!(include_str!("../../../../crates/lafkuno/src/lib.rt"), include_str!("../../../../crates/lafkuno/src/beside.rt"));
+const RUST: &str = concat!(include_str!("../../lafkuno/src/calls.rs"), include_str!("../../lafkuno/src/calls/trips.rs"));
+const RATTLE: &str = concat!(
+    include_str!("../../../../crates/lafkuno/src/lib.rt"),
+    include_str!("../../../../crates/lafkuno/src/beside.rt"),
+    include_str!("../../../../crates/lafkuno/src/trips.rt")
+);
 
 /// Name, parameters as (type, name), answer.
 type Calls = BTreeMap<String, (Vec<(String, String)>, String)>;
@@ -27,7 +31,7 @@ fn c_type(words: &str) -> String {
 }
 
 fn header() -> Calls {
-    let text = without_comments(HEADER);
+    let text: String = without_comments(HEADER).lines().filter(|l| !l.starts_with('#')).map(|l| l.to_string() + "\n").collect();
     let declared = text.split(';').filter_map(|d| {
         let (head, parameters) = d.trim().split_once('(')?;
         let head = head.lines().last()?;
@@ -46,8 +50,8 @@ fn header() -> Calls {
 }
 
 fn library() -> Calls {
-    let block = RUST.split("extern \"C\" {").nth(1).unwrap().split("\n}").next().unwrap();
-    let lines: String = block.lines().filter(|l| !l.trim().starts_with("//")).collect();
+    let blocks = RUST.split("extern \"C\" {").skip(1).flat_map(|b| b.split("\n}").next().unwrap().lines());
+    let lines: String = blocks.filter(|l| !l.trim().starts_with("//")).collect();
     let declared = lines.split(';').filter_map(|d| {
         let (head, rest) = d.trim().strip_prefix("fn ")?.split_once('(')?;
         let (parameters, answer) = rest.split_once(')')?;
@@ -88,7 +92,7 @@ fn rattle() -> BTreeMap<String, (Vec<String>, String)> {
 #[test]
 fn the_same_calls() {
     let (header, library) = (header(), library());
-    assert_eq!(header.len(), 23);
+    assert_eq!(header.len(), 25);
     assert_eq!(header, library);
     let types = header.into_iter().map(|(name, (parameters, answer))| (name, (parameters.into_iter().map(|(ty, _)| ty).collect(), answer)));
     assert_eq!(types.collect::<BTreeMap<_, _>>(), rattle());
@@ -102,7 +106,7 @@ fn the_same_grounds() {
     let grounds: Vec<u8> = Ground::ALL.iter().map(|g| g.number()).collect();
     assert_eq!(numbers[0], 0);
     assert_eq!(numbers[1..], grounds);
-    for (name, value) in [("PLAN", PLAN), ("COUNTERS", COUNTERS), ("TREE", TREE)] {
+    for (name, value) in [("PLAN", PLAN), ("COUNTERS", COUNTERS), ("TREE", TREE), ("ORDER", ORDER), ("MOST_ORDERS", MOST_ORDERS)] {
         assert!(HEADER.contains(&format!("#define LAFKUNO_{name} {value}\n")));
     }
 }

@@ -13,6 +13,7 @@ fn random_joins_are_the_originals() {
     }
     assert_eq!(seen.joins, 500);
     assert!(0 < seen.joined_null_entries && 0 < seen.kept_null_entries);
+    assert!(50 < seen.lists && 0 < seen.deep_lists);
 }
 
 // Validity without a zero bit counts as absent: u8 keys over one dictionary of 200 entries, which the second source has with such a
@@ -82,6 +83,35 @@ fn list_view_sums_are_the_originals() {
                 MutableArrayData::try_new(vec![&array], false, 0).unwrap().try_extend(0, 0, rows as usize).map_or_else(|e| e.ground(), |()| 0);
             let ours = Join::open(&[&lists], false).unwrap().copy(0, 0..rows).map_or_else(|e| e.ground().unwrap().number(), |()| 0);
             assert_eq!(ours, theirs, "{rows} rows of {sizes:?}");
+        }
+    }
+}
+
+// The same of a list's offsets: all of them before the stretch of the child. The first row stands before the slice.
+#[test]
+fn list_offsets_are_the_originals() {
+    let most = i32::MAX as u32;
+    for (format, ends) in [("+l", [0, most - 1, most, most]), ("+l", [0, 0, 1, most]), ("+L", [0, 1, most - 1, most]), ("+l", [1, 1, most, most])] {
+        let offsets: Vec<u8> =
+            [&[5], &ends[..]].concat().iter().flat_map(|n| (*n as u64).to_le_bytes()[..if format == "+l" { 4 } else { 8 }].to_vec()).collect();
+        let leaf = |format: &str, bytes: Vec<u8>| Column { format: format.into(), length: 1, buffers: vec![bytes.into()], ..Column::default() };
+        let runs = vec![leaf("l", (most as u64).to_le_bytes().to_vec()), leaf("C", vec![7])];
+        let child = Column { format: "+r".into(), length: most as u64, children: runs, ..Column::default() };
+        let lists = Column { format: format.into(), length: 4, buffers: vec![offsets.into()], children: vec![child], ..Column::default() };
+        let lists = lists.slice(1, 3).unwrap();
+        let array = Convert::default().array(&lists);
+        for (start, end) in [(0, 3), (1, 3), (2, 3), (0, 1), (0, 0), (3, 3)] {
+            let mut theirs = MutableArrayData::try_new(vec![&array], false, 0).unwrap();
+            let mut ours = Join::open(&[&lists], false).unwrap();
+            ours.limit_work(1 << 40);
+            for (a, b) in [(1, 2), (start, end), (0, 1), (start, end)] {
+                let due = theirs.try_extend(0, a, b).map_or_else(|e| e.ground(), |()| 0);
+                let answer = ours.copy(0, a as u64..b as u64).map_or_else(|e| e.ground().unwrap().number(), |()| 0);
+                assert_eq!(answer, due, "{a}..{b} of {format} {ends:?}");
+                if due != 0 {
+                    break;
+                }
+            }
         }
     }
 }

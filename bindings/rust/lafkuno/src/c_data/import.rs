@@ -194,7 +194,7 @@ unsafe fn buffers(column: &mut Column, kind: Kind, array: &ArrowArray, keep: &Op
         return fail(format!("{format}: {} rows from {} on are more than a body holds", column.length, column.offset));
     };
     let due = match kind {
-        Kind::Fixed | Kind::Dictionary | Kind::Dense => 2..=2,
+        Kind::Fixed | Kind::Dictionary | Kind::List | Kind::Dense => 2..=2,
         Kind::Strings | Kind::ListView => 3..=3,
         Kind::Views => 3..=usize::MAX,
         Kind::Sparse => 1..=1,
@@ -234,6 +234,13 @@ unsafe fn buffers(column: &mut Column, kind: Kind, array: &ArrowArray, keep: &Op
             }
             vec![take(1, slots * 16)?]
         }
+        // and so may a list
+        Kind::List if column.length == 0 => {
+            column.offset = 0;
+            column.validity = None;
+            vec![Buffer::default()]
+        }
+        Kind::List => vec![take(1, slots * w + w)?],
         Kind::ListView => vec![take(1, slots * w)?, take(2, slots * w)?],
         Kind::Sparse => vec![take(0, slots)?],
         Kind::Dense => vec![take(0, slots)?, take(1, slots * 4)?],

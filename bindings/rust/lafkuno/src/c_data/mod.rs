@@ -82,16 +82,18 @@ mod tests {
             ("u?", "\"a\", null, \"\""),
             ("U", ""),
             ("vu", "\"short\", \"a longer text than twelve bytes\""),
+            ("+l?(u?)", "[\"a\", null], null, [], [\"b\"]"),
             ("+vl?(u?)", "[\"a\", null], null, []"),
             ("+us:5,7(i?, u)", "5:null, 7:\"x\", 5:3"),
             ("+ud:5,7(i?, u)", "5:null, 7:\"x\", 5:3"),
             ("+r(s, u?)", "\"A\", \"A\", null"),
             ("C?[u]", "\"x\", null, \"y\", \"x\""),
+            ("+L(+r(i, C?[U]))", "[\"a\", \"a\"], [], [null]"),
             ("+vL(+r(i, C?[U]))", "[\"a\", \"a\"], [], [null]"),
         ] {
             let whole = column(ty, rows);
             let slice = whole.slice(whole.length / 2, whole.length - whole.length / 2).unwrap();
-            for column in [&whole, &slice] {
+            for column in [&slice, &whole] {
                 let out = Exported::new(column).unwrap();
                 let back = unsafe { Import::new().column(&out.schema, &out.array) }.unwrap();
                 assert_eq!(back.ty(), column.ty());

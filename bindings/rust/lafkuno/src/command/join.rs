@@ -9,7 +9,7 @@ pub const COMMAND: Command = Command {
     usage: "\
 lafkuno join [--buffers] [--go-on] FILE   joins the columns that FILE describes (- is standard input) and prints the rows
         --buffers   prints the finished column's buffers too
-        --go-on     goes on after a refused order, which changes nothing
+        --go-on     goes on after a refused order or trip, which changes nothing
         --jobs N    several FILEs on N threads, each a join of its own
 lafkuno join --orders ORDERS --out OUT FILE ..
                                           joins rows of Arrow files, every column, into one; --jobs N where ORDERS names several",
@@ -107,15 +107,22 @@ fn join(description: &text::Description, go_on: bool, told: &mut String) -> Resu
         status(&error)
     };
     let mut join = Join::open(&sources, description.keep_nulls).map_err(|e| fail("the opening", e))?;
-    let mut refused = 0;
-    for (k, order) in description.orders.iter().enumerate() {
-        if let Err(error) = join.order(order.what) {
-            let status = fail(&format!("order {}, line {} (`{}`)", k + 1, order.line, order.text), error);
+    let (mut given, mut refused) = (0, 0);
+    for list in description.orders.chunk_by(|a, b| a.trip.is_some() && a.trip == b.trip) {
+        let answer = match list[0].trip {
+            None => join.order(list[0].what),
+            Some(_) => join.orders(&list.iter().map(|o| o.what).collect::<Vec<_>>()),
+        };
+        if let Err(error) = answer {
+            let place = error.place().and_then(|p| p.place).unwrap_or(0);
+            let trip = list[0].trip.map_or(String::new(), |line| format!("the trip of line {line}: "));
+            let status = fail(&format!("{trip}order {}, line {} (`{}`)", given + place + 1, list[place].line, list[place].text), error);
             refused += 1;
             if !go_on || status == MISTAKE {
                 return Err(status);
             }
         }
+        given += list.len();
     }
     let joined = join.finish().map_err(|e| fail("finishing", e))?;
     let (orders, rows) = (description.orders.len(), joined.column.length);

@@ -107,7 +107,7 @@ impl Batches<'_> {
             }
         }
         let count = match kind {
-            Kind::Fixed | Kind::Dictionary | Kind::Sparse | Kind::Views => 1,
+            Kind::Fixed | Kind::Dictionary | Kind::List | Kind::Sparse | Kind::Views => 1,
             Kind::Strings | Kind::ListView | Kind::Dense => 2,
             Kind::Runs => 0,
             Kind::Other if ["n", "+s"].contains(&format) || format.starts_with("+w:") => 0,

@@ -200,6 +200,8 @@ fn flat_type(format: &str) -> Option<(u8, Flat)> {
         "U" => (code::LARGE_UTF8, none()),
         "vz" => (code::BINARY_VIEW, none()),
         "vu" => (code::UTF8_VIEW, none()),
+        "+l" => (code::LIST, none()),
+        "+L" => (code::LARGE_LIST, none()),
         "+vl" => (code::LIST_VIEW, none()),
         "+vL" => (code::LARGE_LIST_VIEW, none()),
         "+r" => (code::RUN_ENDS, none()),

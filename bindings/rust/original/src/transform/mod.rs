@@ -20,6 +20,7 @@
 use crate::bit_mask::{set_bit, set_bits};
 use crate::data::{new_buffers, ArrayData, ArrowError, Buffer, DataType, MutableBuffer, NullBuffer, UnionMode};
 
+mod list;
 mod list_view;
 mod primitive;
 mod run;
@@ -161,6 +162,8 @@ fn build_extend(array: &ArrayData) -> Extend<'_> {
         DataType::Utf8 | DataType::Binary => variable_size::build_extend::<i32>(array),
         DataType::LargeUtf8 | DataType::LargeBinary => variable_size::build_extend::<i64>(array),
         DataType::BinaryView | DataType::Utf8View => unreachable!("should use build_extend_view"),
+        DataType::List(_) => list::build_extend::<i32>(array),
+        DataType::LargeList(_) => list::build_extend::<i64>(array),
         DataType::ListView(_) => list_view::build_extend::<i32>(array),
         DataType::LargeListView(_) => list_view::build_extend::<i64>(array),
         DataType::Dictionary(_, _) => unreachable!("should use build_extend_dictionary"),
@@ -179,6 +182,8 @@ fn build_extend_nulls(data_type: &DataType) -> ExtendNulls {
         DataType::Utf8 | DataType::Binary => variable_size::extend_nulls::<i32>,
         DataType::LargeUtf8 | DataType::LargeBinary => variable_size::extend_nulls::<i64>,
         DataType::BinaryView | DataType::Utf8View => primitive::extend_nulls::<u128>,
+        DataType::List(_) => list::extend_nulls::<i32>,
+        DataType::LargeList(_) => list::extend_nulls::<i64>,
         DataType::ListView(_) => list_view::extend_nulls::<i32>,
         DataType::LargeListView(_) => list_view::extend_nulls::<i64>,
         DataType::Dictionary(keys, _) => return build_extend_nulls(keys),
@@ -207,7 +212,7 @@ impl<'a> MutableArrayData<'a> {
         let [buffer1, buffer2] = new_buffers(data_type, capacity);
 
         let child_data = match data_type {
-            DataType::ListView(_) | DataType::LargeListView(_) => {
+            DataType::List(_) | DataType::LargeList(_) | DataType::ListView(_) | DataType::LargeListView(_) => {
                 vec![MutableArrayData::try_new(children(&arrays, 0), use_nulls, capacity)?]
             }
             DataType::RunEndEncoded(_, _) => {

@@ -6,6 +6,7 @@ use std::time::Instant;
 use trials::compare::{join, Seen};
 use trials::cut::cut;
 use trials::passage::passage;
+use trials::trips::{trips, Lists};
 use trials::wider::wider;
 
 fn main() -> ExitCode {
@@ -16,12 +17,15 @@ fn main() -> ExitCode {
     let mut seen = Seen::default();
     eprintln!("{count} random joins, seeds {first} to {}", first + count - 1);
     let (mut widened, mut passed, mut cuts) = (0, 0, 0);
+    let mut trips_given = Lists::default();
     for seed in first..first + count {
-        // a tenth is made with wider offsets, keys and run ends too, one of slices that pass the C Data Interface, one with its last copy cut in two
+        // a tenth is made with wider offsets, keys and run ends too, one of slices that pass the C Data Interface, one with its last copy cut in two,
+        // two with its orders in lists
         let answer = join(seed, &mut seen).and_then(|()| match seed % 10 {
             0 => wider(seed).map(|accepted| widened += accepted as u64),
             5 => passage(seed).map(|accepted| passed += accepted as u64),
             7 => cut(seed).map(|accepted| cuts += accepted as u64),
+            3 | 9 => trips(seed, &mut trips_given),
             _ => Ok(()),
         });
         match answer {
@@ -32,12 +36,15 @@ fn main() -> ExitCode {
             }
         }
     }
-    let Seen { joins, orders, rows, answers, joined_dictionaries, kept_dictionaries, joined_null_entries, kept_null_entries, depth_8 } = seen;
+    let Seen { joins, orders, rows, answers, joined_dictionaries, kept_dictionaries, joined_null_entries, kept_null_entries, .. } = seen;
+    let Seen { depth_8, lists, deep_lists, .. } = seen;
     writeln!(out, "{joins} joins, {orders} orders, {rows} rows: no difference").unwrap();
     writeln!(out, "{depth_8} types of depth 8; dictionaries: {joined_dictionaries} joined, {kept_dictionaries} kept").unwrap();
+    writeln!(out, "{lists} types with lists, {deep_lists} with one at depth 7").unwrap();
     writeln!(out, "rows of null entries: {joined_null_entries} in joined dictionaries, {kept_null_entries} in kept ones").unwrap();
     writeln!(out, "{widened} of them stored wider: the same rows").unwrap();
     writeln!(out, "{cuts} copies cut in two: the same rows, and bytes where no run is").unwrap();
+    writeln!(out, "lists of orders: {} carried out, {} refused: as their orders one after the other", trips_given.accepted, trips_given.refused).unwrap();
     writeln!(out, "{passed} of slices through the C Data Interface: the same rows and names").unwrap();
     for ((what, answer), count) in answers {
         writeln!(out, "{what} answered {answer}: {count}").unwrap();

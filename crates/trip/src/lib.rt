@@ -1,0 +1,424 @@
+// A trip's orders as one, all or none. Each is tried in turn, on a copy of the counters and without a look at validity bits, and only where
+// none is refused are they written, one after the other: every order is walked twice at most, and nothing is taken back.
+ghost use mathlib.Core.Path.{_≡_};
+ghost use mathlib.Core.List.{List, []};
+ghost use mathlib.Core.Bool.{true, cond};
+ghost use Prim.Native.Nat.{ℕ, _<_, _≤_, _/_, min};
+ghost use lib.ListN.{length};
+ghost use Rattle.model.specs.Book.{copy, nulls};
+ghost use Rattle.walk.specs.Log.{Did};
+ghost use Rattle.parts.specs.Parts.{partsHold};
+ghost use Rattle.orders.specs.Sound.{planSound, walkable};
+ghost use Rattle.transform.specs.Answer.{lent};
+ghost use Rattle.trip.specs.Trip.{callOf, callsOf, tripOrder, tripMeasure};
+ghost use Rattle.trip.specs.Walk.{orderWalk, stepAt, Stepped};
+ghost use Rattle.trip.specs.Answer.{Ends, Asks};
+
+// The ground, 0 where there is none, and the place of the order that got it.
+pub struct Ended {
+    pub ground: u8,
+    pub place: u32,
+}
+
+const LONGEST: usize = 256;
+
+const WORDS: usize = 4;
+
+const COPY: u64 = 0;
+
+const LARGEST_SOURCE: u64 = 4294967295;
+
+// Where the plan has its number of sources.
+const SOURCE_COUNT: usize = 864;
+
+const NO_SUCH_SOURCE: u8 = 1;
+
+const NO_SUCH_ROWS: u8 = 2;
+
+const KEEPS_NO_NULLS: u8 = 3;
+
+const TOO_MANY: u8 = 9;
+
+const TOO_SMALL: u8 = 13;
+
+const NOT_LENT: u8 = 14;
+
+// ---- one order
+
+// A source's number; no join has as many sources as 32 bits hold.
+fn source_of(a: u64) -> u32
+    ensures { λ r. ⌜ r ≡ min a 4294967295 ⌝ }
+{
+    if LARGEST_SOURCE < a {
+        return LARGEST_SOURCE as u32;
+    }
+    a as u32
+}
+
+// A copy of the rows start .. end - 1 of a source, tried or written.
+fn walk_copy(
+    plan: &[u64],
+    parts: &[u32],
+    sources: &[u32],
+    lengths: &[u64],
+    places: &[u32],
+    body: &[u8],
+    counts: &mut [u64; 96],
+    room: &mut [u8],
+    write: bool,
+    source: u32,
+    start: u64,
+    end: u64,
+) -> u8
+    ensures { λ g. ⌜ Did (now (plan .entry)) (now (parts .entry)) write (orderWalk (lent (now (plan .entry)) (now (parts .entry)) (now (sources .entry)) (now (lengths .entry)) (now (places .entry)) (now (body .entry))) (copy source start end) (now (counts .entry))) (now (room .entry)) g (now (counts .exit)) (now (room .exit)) ⌝ }
+{
+    if lent_tables::at_u64(plan, SOURCE_COUNT) <= source as u64 {
+        return NO_SUCH_SOURCE;
+    }
+    let first = lent_tables::at_u32(sources, 2 * (source as usize)) as usize;
+    if !transform::in_source(lengths, first, start, end) {
+        return NO_SUCH_ROWS;
+    }
+    extend::extend(
+        plan,
+        parts,
+        lengths,
+        places,
+        body,
+        counts,
+        room,
+        write,
+        source as usize,
+        first,
+        0,
+        start,
+        end - start,
+        8,
+    )
+}
+
+// n nulls, tried or written.
+fn walk_nulls(
+    plan: &[u64],
+    parts: &[u32],
+    counts: &mut [u64; 96],
+    room: &mut [u8],
+    write: bool,
+    n: u64,
+) -> u8
+    ensures { λ g. ⌜ ((sources lengths places body : List ℕ) → Did (now (plan .entry)) (now (parts .entry)) write (orderWalk (lent (now (plan .entry)) (now (parts .entry)) sources lengths places body) (nulls n) (now (counts .entry))) (now (room .entry)) g (now (counts .exit)) (now (room .exit))) ⌝ }
+{
+    if growth::keeps_of(plan, 0) == 0 {
+        return KEEPS_NO_NULLS;
+    }
+    let m = transform::at_most_far(n);
+    extend_nulls::extend_nulls(plan, parts, counts, room, write, 0, m, 8)
+}
+
+// The order of four words.
+fn walk_order(
+    plan: &[u64],
+    parts: &[u32],
+    sources: &[u32],
+    lengths: &[u64],
+    places: &[u32],
+    body: &[u8],
+    counts: &mut [u64; 96],
+    room: &mut [u8],
+    write: bool,
+    kind: u64,
+    a: u64,
+    b: u64,
+    c: u64,
+) -> u8
+    ensures { λ g. ⌜ Did (now (plan .entry)) (now (parts .entry)) write (orderWalk (lent (now (plan .entry)) (now (parts .entry)) (now (sources .entry)) (now (lengths .entry)) (now (places .entry)) (now (body .entry))) (callOf kind a b c) (now (counts .entry))) (now (room .entry)) g (now (counts .exit)) (now (room .exit)) ⌝ }
+{
+    if kind != COPY {
+        return walk_nulls(plan, parts, counts, room, write, a);
+    }
+    walk_copy(
+        plan,
+        parts,
+        sources,
+        lengths,
+        places,
+        body,
+        counts,
+        room,
+        write,
+        source_of(a),
+        b,
+        c,
+    )
+}
+
+// 14 where the parts do not lie in the room, 13 where one cannot hold its bytes.
+fn held_ground(plan: &[u64], parts: &[u32], counts: &[u64; 96], within: bool) -> u8
+    ensures { λ r. ⌜ r ≡ cond within (cond (partsHold (now (plan .entry)) (now (counts .entry)) (now (parts .entry))) 0 13) 14 ⌝ }
+{
+    if !within {
+        return NOT_LENT;
+    }
+    if !parts::parts_hold(plan, counts, parts) {
+        return TOO_SMALL;
+    }
+    0
+}
+
+// Order k of a list, and where it is asked, 14 and 13 behind it.
+fn walk_step(
+    plan: &[u64],
+    parts: &[u32],
+    sources: &[u32],
+    lengths: &[u64],
+    places: &[u32],
+    body: &[u8],
+    counts: &mut [u64; 96],
+    room: &mut [u8],
+    write: bool,
+    ask: bool,
+    within: bool,
+    orders: &[u64],
+    k: usize,
+) -> u8
+    requires { ⌜ k < 256 ⌝ }
+    ensures { λ g. ⌜ Did (now (plan .entry)) (now (parts .entry)) write (stepAt (lent (now (plan .entry)) (now (parts .entry)) (now (sources .entry)) (now (lengths .entry)) (now (places .entry)) (now (body .entry))) ask within (now (orders .entry)) k (now (counts .entry))) (now (room .entry)) g (now (counts .exit)) (now (room .exit)) ⌝ }
+{
+    let kind = lent_tables::at_u64(orders, 4 * k);
+    let a = lent_tables::at_u64(orders, 4 * k + 1);
+    let b = lent_tables::at_u64(orders, 4 * k + 2);
+    let c = lent_tables::at_u64(orders, 4 * k + 3);
+    let g = walk_order(
+        plan,
+        parts,
+        sources,
+        lengths,
+        places,
+        body,
+        counts,
+        room,
+        write,
+        kind,
+        a,
+        b,
+        c,
+    );
+    if g != 0 {
+        return g;
+    }
+    if !ask {
+        return 0;
+    }
+    held_ground(plan, parts, counts, within)
+}
+
+// ---- a list
+
+// The first n orders of a list, up to the first that is refused.
+fn walk_orders(
+    plan: &[u64],
+    parts: &[u32],
+    sources: &[u32],
+    lengths: &[u64],
+    places: &[u32],
+    body: &[u8],
+    counts: &mut [u64; 96],
+    room: &mut [u8],
+    write: bool,
+    ask: bool,
+    within: bool,
+    orders: &[u64],
+    n: usize,
+) -> Ended
+    requires { ⌜ n ≤ 256 ⌝ }
+    ensures { λ r. ⌜ Stepped (now (plan .entry)) (now (parts .entry)) write (stepAt (lent (now (plan .entry)) (now (parts .entry)) (now (sources .entry)) (now (lengths .entry)) (now (places .entry)) (now (body .entry))) ask within (now (orders .entry))) n 0 (now (counts .entry)) (now (room .entry)) (r .ground) (r .place) (now (counts .exit)) (now (room .exit)) ⌝ }
+{
+    let mut k: usize = 0;
+    while k < n {
+        let g = walk_step(
+            plan,
+            parts,
+            sources,
+            lengths,
+            places,
+            body,
+            counts,
+            room,
+            write,
+            ask,
+            within,
+            orders,
+            k,
+        );
+        if g != 0 {
+            return Ended {
+                ground: g,
+                place: k as u32,
+            };
+        }
+        k += 1;
+    }
+    Ended {
+        ground: 0,
+        place: 0,
+    }
+}
+
+// A refusal at the first order.
+fn refused(ground: u8) -> Ended
+    ensures { λ r. ⌜ (r .ground ≡ ground) × (r .place ≡ 0) ⌝ }
+{
+    Ended { ground, place: 0 }
+}
+
+// The orders, all tried and then all written.
+fn carry_out(
+    plan: &[u64],
+    parts: &[u32],
+    sources: &[u32],
+    lengths: &[u64],
+    places: &[u32],
+    body: &[u8],
+    counters: &mut [u64],
+    room: &mut [u8],
+    orders: &[u64],
+    n: usize,
+) -> Ended
+    requires { ⌜ (length (now counters) ≡ 96) × (n ≤ 256) × (n ≡ length (now orders) / 4) × (walkable (now plan) (length (now room)) ≡ true) ⌝ }
+    ensures { λ r. ⌜ Ends (tripOrder (lent (now (plan .entry)) (now (parts .entry)) (now (sources .entry)) (now (lengths .entry)) (now (places .entry)) (now (body .entry))) (now (counters .entry)) (now (room .entry)) (callsOf (now (orders .entry)))) r (now (counters .exit)) (now (room .exit)) ⌝ }
+{
+    let within = parts::parts_within(plan, parts, room.len());
+    let mut tried = transform::load(counters);
+    trying::uncount(&mut tried, parts::node_count(plan));
+    let mut none = [0u8; 0];
+    let e = walk_orders(
+        plan,
+        parts,
+        sources,
+        lengths,
+        places,
+        body,
+        &mut tried,
+        &mut none,
+        false,
+        true,
+        within,
+        orders,
+        n,
+    );
+    if e.ground != 0 {
+        return e;
+    }
+    let mut counts = transform::load(counters);
+    let e = walk_orders(
+        plan,
+        parts,
+        sources,
+        lengths,
+        places,
+        body,
+        &mut counts,
+        room,
+        true,
+        false,
+        within,
+        orders,
+        n,
+    );
+    let made = transform::copied(counts);
+    transform::store(counters, &made);
+    e
+}
+
+// Carries out the orders of a list, four words each, behind the destination's rows, or none of them: 0, or the ground of the first that is
+// refused and its place.
+pub fn orders(
+    plan: &[u64],
+    parts: &[u32],
+    sources: &[u32],
+    lengths: &[u64],
+    places: &[u32],
+    body: &[u8],
+    counters: &mut [u64],
+    room: &mut [u8],
+    orders: &[u64],
+) -> Ended
+    ensures { λ r. ⌜ Ends (tripOrder (lent (now (plan .entry)) (now (parts .entry)) (now (sources .entry)) (now (lengths .entry)) (now (places .entry)) (now (body .entry))) (now (counters .entry)) (now (room .entry)) (callsOf (now (orders .entry)))) r (now (counters .exit)) (now (room .exit)) ⌝ }
+{
+    let n = orders.len() / WORDS;
+    if LONGEST < n {
+        return refused(TOO_MANY);
+    }
+    if n == 0 {
+        return refused(0);
+    }
+    if counters.len() != 96 {
+        return refused(NOT_LENT);
+    }
+    if !sound::is_walkable(plan, room.len()) {
+        return refused(NOT_LENT);
+    }
+    carry_out(
+        plan,
+        parts,
+        sources,
+        lengths,
+        places,
+        body,
+        counters,
+        room,
+        orders,
+        n,
+    )
+}
+
+// What they come to in a room that is large enough: 0 and the counters after them, or the ground of the first that is refused and its place.
+pub fn measure_orders(
+    plan: &[u64],
+    sources: &[u32],
+    lengths: &[u64],
+    places: &[u32],
+    body: &[u8],
+    counters: &mut [u64],
+    orders: &[u64],
+) -> Ended
+    ensures { λ r. ⌜ Asks (tripMeasure (lent (now (plan .entry)) [] (now (sources .entry)) (now (lengths .entry)) (now (places .entry)) (now (body .entry))) (now (counters .entry)) (callsOf (now (orders .entry)))) r (now (counters .exit)) ⌝ }
+{
+    let n = orders.len() / WORDS;
+    if LONGEST < n {
+        return refused(TOO_MANY);
+    }
+    if n == 0 {
+        return refused(0);
+    }
+    if counters.len() != 96 {
+        return refused(NOT_LENT);
+    }
+    if !sound::plan_sound(plan) {
+        return refused(NOT_LENT);
+    }
+    let parts = [0u32; 0];
+    let mut none = [0u8; 0];
+    let mut counts = transform::load(counters);
+    let e = walk_orders(
+        plan,
+        &parts,
+        sources,
+        lengths,
+        places,
+        body,
+        &mut counts,
+        &mut none,
+        false,
+        false,
+        false,
+        orders,
+        n,
+    );
+    if e.ground != 0 {
+        return e;
+    }
+    let made = transform::copied(counts);
+    transform::store(counters, &made);
+    e
+}
