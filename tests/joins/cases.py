@@ -1,4 +1,4 @@
-"""Writes crates/vectors_joins/stdin and stdout: python3 tests/joins/cases.py"""
+"""Writes vectors.txt and vectors.out beside it: python3 tests/joins/cases.py"""
 import os
 import sys
 sys.dont_write_bytecode = True
@@ -122,18 +122,6 @@ def zeros_outside(script):
         assert ' finish 0 %d | ' % holes in script.lines[-1] and holes > 0
 
 
-def paged(commands):
-    """The program reads pages of 65,536 bytes: a case that would cross their bounds begins on the next."""
-    text, case = '', ''
-    for line in commands:
-        case += line + '\n'
-        if line == '.':
-            left = -len(text) % 65536 or 65536
-            text += ('\n' * left if len(case) > left else '') + case
-            case = ''
-    return text
-
-
 script = Script()
 checked_rows(script)
 alone(script)
@@ -142,7 +130,7 @@ nested(script)
 sixteen(script)
 ground_cases(script)
 zeros_outside(script)
-crate = os.path.join(os.path.dirname(os.path.abspath(__file__)), '..', '..', 'crates', 'vectors_joins')
-with open(os.path.join(crate, 'stdin'), 'w') as f: f.write(paged(script.text))
-with open(os.path.join(crate, 'stdout'), 'w') as f: f.write('\n'.join(script.lines) + '\n')
+here = os.path.dirname(os.path.abspath(__file__))
+with open(os.path.join(here, 'vectors.txt'), 'w') as f: f.write('\n'.join(script.text) + '\n')
+with open(os.path.join(here, 'vectors.out'), 'w') as f: f.write('\n'.join(script.lines) + '\n')
 print('%d cases, %d bytes' % (len(script.lines), len('\n'.join(script.text))))
