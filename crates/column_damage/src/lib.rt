@@ -10,7 +10,6 @@ pub struct Column {
     pub body: [u8; 512],
     pub nodes: usize,
     pub chars: usize,
-    pub ranges: usize,
     pub used: usize,
 }
 
@@ -49,7 +48,6 @@ pub fn no_column() -> Column {
         body: [0xffu8; 512],
         nodes: 0,
         chars: 0,
-        ranges: 0,
         used: 2,
     }
 }
@@ -109,15 +107,6 @@ pub fn set_length(c: Column, k: usize, j: usize, v: u64) -> Column {
     let mut d = c;
     let at = 2 * k + j;
     d.lengths[at] = v;
-    d
-}
-
-pub fn set_buffer(c: Column, at: usize, v: u32) -> Column {
-    if 65 < at {
-        return spoiled(c);
-    }
-    let mut d = c;
-    d.buffers[at] = v;
     d
 }
 
@@ -254,38 +243,6 @@ pub fn validity(c: Column, bits: &[u8]) -> Column {
     set_place(numbers(c, 1, 1, bits, 2), k, 0, 1)
 }
 
-// The next data buffer: 20 bytes from `first` on, each one more than the one before.
-pub fn data(c: Column, first: u8) -> Column {
-    let k = last_node(c);
-    let at = c.ranges;
-    let mut d = numbers(c, 5, 1, b"abcdefghijklmnopqrst", 20);
-    if first == 65 {
-        d = numbers(c, 5, 1, b"ABCDEFGHIJKLMNOPQRST", 20);
-    }
-    d = set_buffer(d, entries(2, at), get_place(d, k, 5));
-    d = set_buffer(d, plus(entries(2, at), 1), 20);
-    d.ranges = plus(at, 1);
-    set_place(d, k, 8, small(d.ranges))
-}
-
-// What stands above a node of 9 rows: nothing at depth 1, a list-view at depth 2, a list-view of runs at depth 3.
-pub fn above(depth: u8) -> Column {
-    let mut c = no_column();
-    if depth == 1 {
-        return c;
-    }
-    c = node(c, b"+vl", 1, 3, 1);
-    c = validity(c, b"\x0b\x00");
-    c = numbers(c, 3, 4, b"\x63\x00\x04\x09", 4);
-    c = numbers(c, 5, 4, b"\x63\x09\x02\x00", 4);
-    if depth == 2 {
-        return c;
-    }
-    c = node(c, b"+r", 2, 9, 0);
-    c = node(c, b"s", 0, 9, 0);
-    numbers(c, 3, 2, b"\x01\x02\x03\x04\x05\x06\x07\x08\x09", 9)
-}
-
 // ---- asking
 
 pub fn ground_of(c: Column) -> u8 {
@@ -316,30 +273,6 @@ pub fn judge(t: Tally, what: &[u8], ground: u8, answer: u8) -> Tally {
     }
 }
 
-pub fn change_schema(
-    t: Tally,
-    c: Column,
-    what: &[u8],
-    k: usize,
-    j: usize,
-    v: u32,
-    ground: u8,
-) -> Tally {
-    judge(t, what, ground, ground_of(set_schema(c, k, j, v)))
-}
-
-pub fn change_length(
-    t: Tally,
-    c: Column,
-    what: &[u8],
-    k: usize,
-    j: usize,
-    v: u64,
-    ground: u8,
-) -> Tally {
-    judge(t, what, ground, ground_of(set_length(c, k, j, v)))
-}
-
 pub fn change_place(
     t: Tally,
     c: Column,
@@ -350,58 +283,6 @@ pub fn change_place(
     ground: u8,
 ) -> Tally {
     judge(t, what, ground, ground_of(set_place(c, k, j, v)))
-}
-
-pub fn change_buffer(t: Tally, c: Column, what: &[u8], at: usize, v: u32, ground: u8) -> Tally {
-    judge(t, what, ground, ground_of(set_buffer(c, at, v)))
-}
-
-// Where a node's buffer begins, and an entry of it.
-pub struct Slots {
-    pub start: usize,
-    pub width: u8,
-}
-
-pub fn slots_of(c: Column, k: usize, j: usize, w: u8) -> Slots {
-    Slots {
-        start: place32(get_place(c, k, j)),
-        width: w,
-    }
-}
-
-pub fn change_number(
-    t: Tally,
-    c: Column,
-    what: &[u8],
-    e: Slots,
-    row: usize,
-    v: u64,
-    ground: u8,
-) -> Tally {
-    let at = plus(e.start, entries(e.width, row));
-    judge(t, what, ground, ground_of(set_number(c, at, e.width, v)))
-}
-
-// Character i of node k's format is another.
-pub fn change_letter(
-    t: Tally,
-    c: Column,
-    what: &[u8],
-    k: usize,
-    i: usize,
-    x: u8,
-    ground: u8,
-) -> Tally {
-    if 33 < k {
-        return judge(t, what, ground, 255);
-    }
-    let at = plus(place32(c.schema[5 * k]), i);
-    if 127 < at {
-        return judge(t, what, ground, 255);
-    }
-    let mut d = c;
-    d.formats[at] = x;
-    judge(t, what, ground, ground_of(d))
 }
 
 pub fn no_changes() -> Tally {
@@ -426,14 +307,4 @@ pub fn finish(t: Tally, name: &[u8], depth: u8, offset: usize) {
     io::write_all(1, b" changes,");
     put(t.wrong);
     io::write_all(1, b" differ\n");
-}
-
-// The least number of w bytes whose sign is negative.
-pub fn negative(w: u8) -> u64 {
-    match w {
-        1 => 0x80,
-        2 => 0x8000,
-        4 => 0x8000_0000,
-        _ => 0x8000_0000_0000_0000,
-    }
 }
