@@ -71,7 +71,7 @@ impl Ours {
     fn new(sources: &[&Column]) -> Ours {
         let lent = Lent::lay(sources).unwrap();
         let (mut plan, mut counters) = ([0; PLAN], [0; COUNTERS]);
-        assert_eq!(calls::plan_parts(&lent.tables(), false, &mut plan), 0);
+        assert_eq!(calls::plan_parts(&lent.tables(), false, false, &mut plan), 0);
         assert_eq!(calls::measure_open(&plan, &lent.tables(), &mut counters), 0);
         // orders that cut runs make more of them
         for (start, end) in pieces(64) {
@@ -90,14 +90,14 @@ impl Ours {
 
     fn open(&mut self) -> [u64; COUNTERS] {
         let mut counters = [0; COUNTERS];
-        let answer = calls::open(&self.lent.tables(), false, &self.parts, &mut self.plan, &mut counters, &mut self.room);
+        let answer = calls::open(&self.lent.tables(), false, false, &self.parts, &mut self.plan, &mut counters, &mut self.room);
         assert_eq!(answer, 0);
         counters
     }
 
     fn check(&self) -> u8 {
         let mut plan = [0; PLAN];
-        calls::plan_parts(&self.lent.tables(), false, &mut plan)
+        calls::plan_parts(&self.lent.tables(), false, false, &mut plan)
     }
 
     fn orders(&mut self, list: &[(u64, u64)]) -> u64 {

@@ -1,6 +1,6 @@
 // How many joins a second one machine makes, by rows and kind, on one thread and on two. Run by bench/run; built by cargo with bindings/rust.
 
-use lafkuno::{join_many, text, Batch, Column, Field, Job, Order, Row, Type};
+use lafkuno::{join_many, text, Batch, Choices, Column, Field, Job, Order, Row, Type};
 use std::time::Instant;
 
 fn column(name: &str, ty: &str, rows: u64, row: &str) -> Column {
@@ -26,7 +26,9 @@ fn rate(batch: &Batch, threads: usize, jobs: usize) -> (f64, f64) {
     let rows = batch.rows;
     let copy = |source, start, end| Order::Copy { source, start, end };
     let orders = vec![copy(0, rows / 4, rows), Order::Nulls(1), copy(1, 0, rows / 2), copy(0, 0, rows / 4)];
-    let jobs: Vec<Job> = (0..jobs).map(|_| Job { sources: vec![batch, batch], orders: orders.clone(), keep_nulls: true }).collect();
+    let jobs: Vec<Job> = (0..jobs)
+        .map(|_| Job { sources: vec![batch, batch], orders: orders.clone(), choices: Choices { keep_nulls: true, ..Choices::default() } })
+        .collect();
     let (mut wall, mut used) = (f64::MAX, f64::MAX);
     for _ in 0..7 {
         let (start, before) = (Instant::now(), processor());

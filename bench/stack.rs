@@ -54,7 +54,7 @@ fn join(seed: u64, most: &mut Most) {
     let lent = Lent::lay(&sources.iter().collect::<Vec<_>>()).unwrap();
     let x = lent.tables();
     let (mut plan, mut counters, mut tree) = ([0; PLAN], [0; COUNTERS], [0; TREE]);
-    most.note("plan_parts", || calls::plan_parts(&x, true, &mut plan));
+    most.note("plan_parts", || calls::plan_parts(&x, true, false, &mut plan));
     if most.note("measure_open", || calls::measure_open(&plan, &x, &mut counters)) != 0 {
         return;
     }
@@ -72,7 +72,7 @@ fn join(seed: u64, most: &mut Most) {
         end += size;
     }
     let mut room = vec![0; end as usize];
-    assert_eq!(most.note("open", || calls::open(&x, true, &parts, &mut plan, &mut counters, &mut room)), 0);
+    assert_eq!(most.note("open", || calls::open(&x, true, false, &parts, &mut plan, &mut counters, &mut room)), 0);
     for order in &list {
         match *order {
             Order::Copy { source, start, end } => most.note("copy", || calls::copy(&plan, &parts, &x, &mut counters, &mut room, source, start, end)),

@@ -47,7 +47,7 @@ int main(int argc, char **argv) {
     const uint32_t *schema = list ? both : both + 5, *placed = list ? places : places + 9;
 
     uint64_t plan[LAFKUNO_PLAN], counters[LAFKUNO_COUNTERS] = {0};
-    must("plan_parts", lafkuno_plan_parts(sources, 2, formats, 4, schema, 5 * nodes, lengths, 2 * nodes, placed, 9 * nodes, 0, 0, body, size, 0, plan, LAFKUNO_PLAN));
+    must("plan_parts", lafkuno_plan_parts(sources, 2, formats, 4, schema, 5 * nodes, lengths, 2 * nodes, placed, 9 * nodes, 0, 0, body, size, 0, 0, plan, LAFKUNO_PLAN));
     for (uint64_t k = 0; k < orders; k++)
         must("measure_copy", lafkuno_measure_copy(plan, LAFKUNO_PLAN, sources, 2, lengths, 2 * nodes, placed, 9 * nodes, body, size, counters, LAFKUNO_COUNTERS, 0, 0, rows));
     uint64_t measured = counters[1], room_size = 0;
@@ -58,7 +58,7 @@ int main(int argc, char **argv) {
         room_size += parts[2 * p + 1];
     }
     uint8_t *room = malloc(room_size + 1);
-    must("open", lafkuno_open(sources, 2, formats, 4, schema, 5 * nodes, lengths, 2 * nodes, placed, 9 * nodes, 0, 0, body, size, 0, parts, 2 * count, plan, LAFKUNO_PLAN, counters, LAFKUNO_COUNTERS, room, room_size));
+    must("open", lafkuno_open(sources, 2, formats, 4, schema, 5 * nodes, lengths, 2 * nodes, placed, 9 * nodes, 0, 0, body, size, 0, 0, parts, 2 * count, plan, LAFKUNO_PLAN, counters, LAFKUNO_COUNTERS, room, room_size));
     for (uint64_t k = 0; k < orders; k++)
         must("copy", lafkuno_copy(plan, LAFKUNO_PLAN, parts, 2 * count, sources, 2, lengths, 2 * nodes, placed, 9 * nodes, body, size, counters, LAFKUNO_COUNTERS, room, room_size, 0, 0, rows));
     printf("rows %llu nulls %llu of the child %llu measured %llu\n", (unsigned long long)counters[0], (unsigned long long)counters[1], (unsigned long long)counters[4], (unsigned long long)measured);

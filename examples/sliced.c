@@ -57,7 +57,7 @@ static uint64_t booked(const char *what, const uint8_t *body, uint64_t offset) {
     uint32_t new_places[9], new_buffers[1];
     uint8_t room[2 + ROWS];
     printf("%s\n   calls", what);
-    answered("open", lafkuno_open(LENT(sources), LENT(formats), LENT(schema), LENT(lengths), LENT(places), no_buffers, 0, body, FIRST + SECOND, 1,
+    answered("open", lafkuno_open(LENT(sources), LENT(formats), LENT(schema), LENT(lengths), LENT(places), no_buffers, 0, body, FIRST + SECOND, 1, 0,
                                   LENT(parts), LENT(plan), LENT(counters), LENT(room)));
     answered("copy", lafkuno_copy(LENT(plan), LENT(parts), SOURCES, LENT(counters), LENT(room), 0, 1, 6));
     answered("nulls", lafkuno_nulls(LENT(plan), LENT(parts), LENT(counters), LENT(room), 2));

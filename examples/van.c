@@ -30,7 +30,7 @@ int main(void) {
 
     /* what the orders need: 4 rows and a null */
     uint64_t plan[LAFKUNO_PLAN], counters[LAFKUNO_COUNTERS];
-    check("plan", lafkuno_plan_parts(TABLES, 1, PLAN));
+    check("plan", lafkuno_plan_parts(TABLES, 1, 0, PLAN));
     check("measure", lafkuno_measure_open(PLAN, SOURCES, COUNTERS));
     check("measure", lafkuno_measure_copy(PLAN, SOURCES, COUNTERS, 0, 0, 4));
     check("measure", lafkuno_measure_nulls(PLAN, COUNTERS, 1));
@@ -43,7 +43,7 @@ int main(void) {
     uint8_t *room = malloc(size);
 
     /* the join: rows 0 to 2, a null, row 3 */
-    check("open", lafkuno_open(TABLES, 1, PARTS, PLAN, COUNTERS, ROOM));
+    check("open", lafkuno_open(TABLES, 1, 0, PARTS, PLAN, COUNTERS, ROOM));
     check("copy", lafkuno_copy(PLAN, PARTS, SOURCES, COUNTERS, ROOM, 0, 0, 3));
     check("nulls", lafkuno_nulls(PLAN, PARTS, COUNTERS, ROOM, 1));
     check("copy", lafkuno_copy(PLAN, PARTS, SOURCES, COUNTERS, ROOM, 0, 3, 4));

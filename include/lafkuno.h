@@ -95,6 +95,9 @@ enum lafkuno_ground {
  *   buffers   2 numbers a data buffer of a view node: where it begins in the body, its bytes.
  *   body      every buffer of every source.
  *   keep      not 0: nulls are kept, so that orders of nulls are taken, even where no source has one.
+ *   gaps      not 0: one run for gaps. An order of nulls that reaches a run-end node lengthens the node's last run if an order of nulls
+ *             wrote that run and nothing but orders of nulls has added to the node since; the values are then asked for nothing. 0: each
+ *             such order adds a run.
  *   parts     2 numbers a part: where it begins in the room, its bytes; in the order of lafkuno_part_node.
  *   plan      LAFKUNO_PLAN numbers, as lafkuno_plan_parts or lafkuno_open wrote them.
  *   counters  LAFKUNO_COUNTERS numbers, as the last call left them.
@@ -109,7 +112,7 @@ enum lafkuno_ground {
 uint8_t lafkuno_plan_parts(const uint32_t *sources, size_t sources_len, const uint8_t *formats, size_t formats_len,
                            const uint32_t *schema, size_t schema_len, const uint64_t *lengths, size_t lengths_len,
                            const uint32_t *places, size_t places_len, const uint32_t *buffers, size_t buffers_len,
-                           const uint8_t *body, size_t body_len, uint8_t keep, uint64_t *plan, size_t plan_len);
+                           const uint8_t *body, size_t body_len, uint8_t keep, uint8_t gaps, uint64_t *plan, size_t plan_len);
 
 /* How many parts there are, at most 96. */
 uint32_t lafkuno_part_count(const uint64_t *plan, size_t plan_len);
@@ -162,7 +165,7 @@ uint64_t lafkuno_needed_bytes(const uint64_t *plan, size_t plan_len, const uint6
 uint8_t lafkuno_open(const uint32_t *sources, size_t sources_len, const uint8_t *formats, size_t formats_len,
                      const uint32_t *schema, size_t schema_len, const uint64_t *lengths, size_t lengths_len,
                      const uint32_t *places, size_t places_len, const uint32_t *buffers, size_t buffers_len,
-                     const uint8_t *body, size_t body_len, uint8_t keep, const uint32_t *parts, size_t parts_len,
+                     const uint8_t *body, size_t body_len, uint8_t keep, uint8_t gaps, const uint32_t *parts, size_t parts_len,
                      uint64_t *plan, size_t plan_len, uint64_t *counters, size_t counters_len, uint8_t *room, size_t room_len);
 
 /* Copies rows of a source behind the destination's rows: 1, 2, then 6 and 7 as they are met, and 13 last.
@@ -175,7 +178,8 @@ uint8_t lafkuno_copy(const uint64_t *plan, size_t plan_len, const uint32_t *part
                      uint64_t *counters, size_t counters_len, uint8_t *room, size_t room_len,
                      uint32_t source, uint64_t start, uint64_t end);
 
-/* Adds nulls behind the destination's rows: 3, then 4, 5, 6 and 7 as they are met, and 13 last.
+/* Adds nulls behind the destination's rows: 3, then 4, 5, 6 and 7 as they are met, and 13 last. It writes behind what is there; with one
+ * run for gaps it may write the last run end anew.
  *   n         how many nulls. */
 uint8_t lafkuno_nulls(const uint64_t *plan, size_t plan_len, const uint32_t *parts, size_t parts_len,
                       uint64_t *counters, size_t counters_len, uint8_t *room, size_t room_len, uint64_t n);

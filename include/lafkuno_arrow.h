@@ -102,8 +102,9 @@ static inline struct lafkuno_order lafkuno_gap(uint64_t n) {
 
 /* All zeros, or no options at all (NULL), is the common case. */
 struct lafkuno_options {
-    int keep_nulls;      /* not 0: orders of nulls are taken even where no source has a null */
-    uint64_t most_rows;  /* the most rows that any node may come to, by a bound that is computed first; 0: LAFKUNO_MOST_ROWS */
+    int keep_nulls;       /* not 0: orders of nulls are taken even where no source has a null */
+    int one_run_for_gaps; /* not 0: nulls lengthen the last run of a run-end node where orders of nulls alone have written it */
+    uint64_t most_rows;   /* the most rows that any node may come to, by a bound that is computed first; 0: LAFKUNO_MOST_ROWS */
 };
 
 /* What a call answers: 0, a ground of lafkuno.h (1 to 99), or one of these. */

@@ -3,10 +3,10 @@
  *
  *     struct lafkuno_tables tables = {...};
  *     struct lafkuno_state state;
- *     lafkuno_state_plan(&state, &tables, 1);            checks the sources, writes the plan
+ *     lafkuno_state_plan(&state, &tables, 1, 0);         checks the sources, writes the plan
  *     lafkuno_state_measure_open(&state, &tables);       then one measure_* for each order
  *     uint64_t size = lafkuno_state_parts(&state);       lays the parts: state.room is lent now
- *     lafkuno_state_open(&state, &tables, 1);            then the orders, then lafkuno_state_finish
+ *     lafkuno_state_open(&state, &tables, 1, 0);         then the orders, then lafkuno_state_finish
  *
  * Apache-2.0; see LICENSE and NOTICE. */
 #ifndef LAFKUNO_TABLES_H
@@ -69,10 +69,10 @@ struct lafkuno_finished {
 };
 
 /* lafkuno_plan_parts: checks the sources and writes the plan. */
-static inline uint8_t lafkuno_state_plan(struct lafkuno_state *s, const struct lafkuno_tables *t, uint8_t keep) {
+static inline uint8_t lafkuno_state_plan(struct lafkuno_state *s, const struct lafkuno_tables *t, uint8_t keep, uint8_t gaps) {
     return lafkuno_plan_parts(t->sources, t->sources_len, t->formats, t->formats_len, t->schema, t->schema_len, t->lengths,
-                              t->lengths_len, t->places, t->places_len, t->buffers, t->buffers_len, t->body, t->body_len, keep, s->plan,
-                              LAFKUNO_PLAN);
+                              t->lengths_len, t->places, t->places_len, t->buffers, t->buffers_len, t->body, t->body_len, keep, gaps,
+                              s->plan, LAFKUNO_PLAN);
 }
 
 /* lafkuno_measure_open: what an opening does to the counters. */
@@ -118,10 +118,10 @@ static inline uint64_t lafkuno_state_parts(struct lafkuno_state *s) {
 }
 
 /* lafkuno_open: opens the join over parts and room. */
-static inline uint8_t lafkuno_state_open(struct lafkuno_state *s, const struct lafkuno_tables *t, uint8_t keep) {
+static inline uint8_t lafkuno_state_open(struct lafkuno_state *s, const struct lafkuno_tables *t, uint8_t keep, uint8_t gaps) {
     return lafkuno_open(t->sources, t->sources_len, t->formats, t->formats_len, t->schema, t->schema_len, t->lengths, t->lengths_len,
-                        t->places, t->places_len, t->buffers, t->buffers_len, t->body, t->body_len, keep, s->parts, s->parts_len, s->plan,
-                        LAFKUNO_PLAN, s->counters, LAFKUNO_COUNTERS, s->room, s->room_len);
+                        t->places, t->places_len, t->buffers, t->buffers_len, t->body, t->body_len, keep, gaps, s->parts, s->parts_len,
+                        s->plan, LAFKUNO_PLAN, s->counters, LAFKUNO_COUNTERS, s->room, s->room_len);
 }
 
 /* lafkuno_copy: rows start to end - 1 of a source behind the destination's rows. */

@@ -101,7 +101,7 @@ static int give_orders(struct column *column, const struct task *task, bool meas
 /* ---- a column */
 
 struct task task_of(const struct lafkuno_order *orders, size_t order_count, const struct lafkuno_options *options) {
-    struct task task = {orders, order_count, options && options->keep_nulls, LAFKUNO_MOST_ROWS};
+    struct task task = {orders, order_count, options && options->keep_nulls, options && options->one_run_for_gaps, LAFKUNO_MOST_ROWS};
     if (options && options->most_rows) task.most_rows = options->most_rows;
     return task;
 }
@@ -135,11 +135,12 @@ int column_prepare(struct column *column, struct report *report, const struct la
     column->state.room = NULL;
     column->type = sources[0].schema;
     column->keep = task->keep;
+    column->gaps = task->gaps;
     int code = check_sources(report, sources, count, &shape);
     if (!code) code = import_sources(column, sources, windows, count, &shape);
     if (code) return code;
     column->tables = import_tables(&column->import);
-    uint8_t ground = lafkuno_state_plan(&column->state, &column->tables, column->keep);
+    uint8_t ground = lafkuno_state_plan(&column->state, &column->tables, column->keep, column->gaps);
     if (ground) return refuse_sources(column, ground);
     code = bound_rows(&column->import, task->orders, task->order_count, task->most_rows);
     if (code) return code;
@@ -176,7 +177,7 @@ int column_finish(struct column *column, const struct task *task, struct ArrowAr
     struct finished finished = {.body = column->import.body};
     int code = lend_room(column);
     if (code) return code;
-    uint8_t ground = lafkuno_state_open(&column->state, &column->tables, column->keep);
+    uint8_t ground = lafkuno_state_open(&column->state, &column->tables, column->keep, column->gaps);
     if (ground) return refuse_plainly(column->report, ground);
     code = give_orders(column, task, false);
     if (!code) code = finish_tables(column, &finished.tables);

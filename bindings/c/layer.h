@@ -199,14 +199,14 @@ struct column {
     struct lafkuno_tables tables;
     struct lafkuno_state state;
     const struct ArrowSchema *type; /* source 0's */
-    bool keep;
+    bool keep, gaps;
 };
 
 /* The orders of a call, with its options. */
 struct task {
     const struct lafkuno_order *orders;
     size_t order_count;
-    bool keep;
+    bool keep, gaps;
     uint64_t most_rows;
 };
 

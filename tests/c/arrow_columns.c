@@ -241,6 +241,28 @@ static void nullable(void) {
     discard(runs);
 }
 
+/* A gap that is reported twice is one run where the options say so. */
+static void one_run_for_gaps(void) {
+    const int32_t ends[] = {3}, each[] = {3, 5, 6, 7}, one[] = {3, 6, 7};
+    const uint8_t on[] = {1};
+    for (int chosen = 0; chosen < 2; chosen++) {
+        struct made *runs = make("+r", "ignition", 0, 3, 0);
+        add_child(runs, numbers("i", "run_ends", 0, 1, 0, ends, 4, NULL));
+        add_child(runs, numbers("C", "values", ARROW_FLAG_NULLABLE, 1, 0, on, 1, NULL));
+        const struct lafkuno_source source = source_of(runs);
+        const struct lafkuno_order orders[] = {lafkuno_rows(0, 0, 3), lafkuno_gap(2), lafkuno_gap(1), lafkuno_rows(0, 0, 1)};
+        const struct lafkuno_options options = {.keep_nulls = 1, .one_run_for_gaps = chosen};
+        struct ArrowArray array;
+        expect("gaps", lafkuno_join_arrays(&source, 1, orders, LENGTH(orders), &options, NULL, &array, NULL), 0);
+        expect("rows", array.length, 7);
+        expect("runs", array.children[0]->length, chosen ? 3 : 4);
+        expect("run ends", memcmp(array.children[0]->buffers[1], chosen ? one : each, chosen ? sizeof one : sizeof each), 0);
+        expect("null values", array.children[1]->null_count, chosen ? 1 : 2);
+        array.release(&array);
+        discard(runs);
+    }
+}
+
 int main(void) {
     sliced_batch();
     sliced_lists();
@@ -250,6 +272,7 @@ int main(void) {
     unions();
     logical_types();
     nullable();
+    one_run_for_gaps();
     expect_text("version", lafkuno_version(), LAFKUNO_VERSION);
     if (!failed) puts("columns go in and out");
     return failed;

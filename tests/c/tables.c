@@ -28,7 +28,7 @@ static void read_back(const struct lafkuno_tables *finished) {
 
 /* Four rows and a null, one behind the other. */
 static void measure(struct lafkuno_state *state, const struct lafkuno_tables *tables) {
-    expect("plan", lafkuno_state_plan(state, tables, 1), LAFKUNO_DONE);
+    expect("plan", lafkuno_state_plan(state, tables, 1, 0), LAFKUNO_DONE);
     expect("measure", lafkuno_state_measure_open(state, tables), LAFKUNO_DONE);
     expect("measure", lafkuno_state_measure_copy(state, tables, 0, 0, 4), LAFKUNO_DONE);
     expect("measure", lafkuno_state_measure_nulls(state, 1), LAFKUNO_DONE);
@@ -40,7 +40,7 @@ static void measure(struct lafkuno_state *state, const struct lafkuno_tables *ta
 }
 
 static void join(struct lafkuno_state *state, const struct lafkuno_tables *tables) {
-    expect("open", lafkuno_state_open(state, tables, 1), LAFKUNO_DONE);
+    expect("open", lafkuno_state_open(state, tables, 1, 0), LAFKUNO_DONE);
     expect("copy", lafkuno_state_copy(state, tables, 0, 0, 3), LAFKUNO_DONE);
     expect("nulls", lafkuno_state_nulls(state, 1), LAFKUNO_DONE);
     expect("refused", lafkuno_state_copy(state, tables, 0, 3, 5), LAFKUNO_NO_SUCH_ROWS);
@@ -59,7 +59,7 @@ static void trips(struct lafkuno_state *state, const struct lafkuno_tables *tabl
     uint64_t counters[LAFKUNO_COUNTERS];
     uint8_t room[84];
     memset(state->room, 238, sizeof room);
-    expect("open", lafkuno_state_open(state, tables, 1), LAFKUNO_DONE);
+    expect("open", lafkuno_state_open(state, tables, 1, 0), LAFKUNO_DONE);
     memcpy(counters, state->counters, sizeof counters);
     memcpy(room, state->room, sizeof room);
     uint32_t answer = lafkuno_state_orders(state, tables, stops, 5);

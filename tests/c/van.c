@@ -104,8 +104,8 @@ static struct column join(const char *name, const struct column *c, uint64_t nul
     uint64_t *lengths = lend(c->lengths, 16 * n), *plan = lend(NULL, 8 * LAFKUNO_PLAN), *counters = lend(NULL, 8 * LAFKUNO_COUNTERS);
 
     /* the parts, each as large as the orders need */
-    expect(name, lafkuno_plan_parts(TABLES, 1, plan, LAFKUNO_PLAN - 1), LAFKUNO_BAD_PARTS);
-    expect(name, lafkuno_plan_parts(TABLES, 1, PLAN), LAFKUNO_DONE);
+    expect(name, lafkuno_plan_parts(TABLES, 1, 0, plan, LAFKUNO_PLAN - 1), LAFKUNO_BAD_PARTS);
+    expect(name, lafkuno_plan_parts(TABLES, 1, 0, PLAN), LAFKUNO_DONE);
     expect(name, lafkuno_measure_open(PLAN, SOURCES, COUNTERS), LAFKUNO_DONE);
     expect(name, lafkuno_measure_copy(PLAN, SOURCES, COUNTERS, 0, 0, 2), LAFKUNO_DONE);
     expect(name, lafkuno_measure_nulls(PLAN, COUNTERS, 1), LAFKUNO_DONE);
@@ -121,8 +121,8 @@ static struct column join(const char *name, const struct column *c, uint64_t nul
     uint8_t *room = lend(NULL, size);
 
     /* the orders, refused ones among them */
-    expect(name, lafkuno_open(TABLES, 1, parts, 2 * count - 2, PLAN, COUNTERS, ROOM), LAFKUNO_BAD_PARTS);
-    expect(name, lafkuno_open(TABLES, 1, PARTS, PLAN, COUNTERS, ROOM), LAFKUNO_DONE);
+    expect(name, lafkuno_open(TABLES, 1, 0, parts, 2 * count - 2, PLAN, COUNTERS, ROOM), LAFKUNO_BAD_PARTS);
+    expect(name, lafkuno_open(TABLES, 1, 0, PARTS, PLAN, COUNTERS, ROOM), LAFKUNO_DONE);
     expect(name, lafkuno_copy(PLAN, PARTS, SOURCES, COUNTERS, ROOM, 0, 0, 2), LAFKUNO_DONE);
     expect(name, lafkuno_nulls(PLAN, PARTS, COUNTERS, ROOM, 1), LAFKUNO_DONE);
     uint64_t *counters_before = lend(counters, 8 * LAFKUNO_COUNTERS);
@@ -296,7 +296,7 @@ static void foreign(void) {
     const uint8_t *formats = c->formats;
     uint8_t *room = lend(NULL, 12);
     uint64_t *plan = lend(NULL, 8 * LAFKUNO_PLAN), *counters = lend(NULL, 8 * LAFKUNO_COUNTERS);
-    expect("foreign", lafkuno_open(TABLES, 0, PARTS, PLAN, COUNTERS, room, 12), LAFKUNO_DONE);
+    expect("foreign", lafkuno_open(TABLES, 0, 0, PARTS, PLAN, COUNTERS, room, 12), LAFKUNO_DONE);
     plan[865] = 0; /* no node, so no part to ask */
     expect("no node", lafkuno_copy(PLAN, PARTS, SOURCES, COUNTERS, room, 0, 0, 0, 3), LAFKUNO_BAD_PARTS);
     expect("no node", lafkuno_measure_copy(PLAN, SOURCES, COUNTERS, 0, 0, 3), LAFKUNO_BAD_PARTS);
@@ -319,6 +319,43 @@ static void foreign(void) {
     free(room);
     free(plan);
     free(counters);
+}
+
+/* K3 followed by 2 nulls: with one run for gaps the last run grows, and needs no more room. */
+static void gaps(void) {
+    const int32_t ends[3] = {2, 5, 9}, each[6] = {3, 4, 7, 8, 13, 15}, one[5] = {3, 4, 7, 8, 15};
+    for (uint8_t chosen = 0; chosen < 2; chosen++) {
+        struct column k = {0}, *c = &k;
+        node(c, "+r", 2, 8, 1);
+        buffer(c, node(c, "i", 0, 3, 0), 1, ends, sizeof ends);
+        buffer(c, node(c, "C", 0, 3, 0), 1, "ABC", 3);
+        const uint32_t n = 3, sources[2] = {0, 3}, count = 3, *places = c->places, *buffers = no_buffers, *schema = c->schema;
+        const uint32_t runs = chosen ? 5 : 6, parts[6] = {0, 4 * runs, 24, 1, 25, runs};
+        const uint64_t *lengths = c->lengths;
+        const uint8_t *body = c->body, *formats = c->formats;
+        uint8_t *room = lend(NULL, 31);
+        uint64_t *plan = lend(NULL, 8 * LAFKUNO_PLAN), *counters = lend(NULL, 8 * LAFKUNO_COUNTERS);
+        expect("gaps", lafkuno_plan_parts(TABLES, 1, chosen, PLAN), LAFKUNO_DONE);
+        expect("gaps, the plan's word", plan[867], chosen);
+        expect("gaps", lafkuno_open(TABLES, 1, chosen, PARTS, PLAN, COUNTERS, room, 31), LAFKUNO_DONE);
+        expect("gaps, at the opening", counters[2], chosen);
+        for (int twice = 0; twice < 2; twice++)
+            expect("gaps", lafkuno_copy(PLAN, PARTS, SOURCES, COUNTERS, room, 31, 0, 1, 5), LAFKUNO_DONE);
+        expect("gaps, after copies", counters[2], chosen);
+        expect("gaps", lafkuno_nulls(PLAN, PARTS, COUNTERS, room, 31, 5), LAFKUNO_DONE);
+        expect("gaps, after nulls", counters[2], 2 * chosen);
+        expect("gaps", lafkuno_nulls(PLAN, PARTS, COUNTERS, room, 31, 2), LAFKUNO_DONE);
+        expect("gaps, rows", counters[0], 15);
+        expect("gaps, runs", counters[3], runs);
+        expect("gaps, running nulls", lafkuno_running_nulls(COUNTERS), 7);
+        expect("gaps, the values' nulls", counters[7], chosen ? 1 : 2);
+        expect("gaps, run ends", memcmp(room, chosen ? one : each, 4 * runs), 0);
+        expect("gaps, too far", lafkuno_nulls(PLAN, PARTS, COUNTERS, room, 31, 2147483633), LAFKUNO_RUN_END_TOO_LARGE);
+        expect("gaps, the last row", lafkuno_nulls(PLAN, PARTS, COUNTERS, room, 31, 2147483632), chosen ? LAFKUNO_DONE : LAFKUNO_ROOM_TOO_SMALL);
+        free(room);
+        free(plan);
+        free(counters);
+    }
 }
 
 /* The ground of the box around rows of both columns; the room must be left as it was where it is refused. */
@@ -366,6 +403,7 @@ int main(void) {
     stops();
     parcels();
     foreign();
+    gaps();
     puts(failed ? "not as ordered" : "one van, one stop, two kilometres: as ordered");
     return failed;
 }

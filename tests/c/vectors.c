@@ -113,8 +113,8 @@ static void step(struct join *j, struct text *t) {
     case 'K': repeat(j, t, COUNTERS); break;
     case 'R': fresh_room(j, t); break;
     case 'H': slice_resize(&j->lent[ROOM], (size_t)number(t)); break;
-    case 'M': ask_parts(j, number(t) == 1); break;
-    case 'O': open_join(j, number(t) == 1); break;
+    case 'M': ask_parts(j, number(t)); break;
+    case 'O': open_join(j, number(t)); break;
     case 'E': copy(j, t); break;
     case 'N': add_nulls(j, number(t)); break;
     case 'W': finish(j, t); break;

@@ -25,9 +25,12 @@ struct join {
 uint32_t word_at(const struct join *j, int k, size_t i);
 uint64_t long_at(const struct join *j, int k, size_t i);
 
+/* The caller's choices, as bits of one number: nulls are kept, one run for gaps. */
+enum { KEEP = 1, GAPS = 2 };
+
 /* The calls; each prints its answer, and behind a refusal whether all stayed as it was. */
-void ask_parts(struct join *j, uint8_t keep);
-void open_join(struct join *j, uint8_t keep);
+void ask_parts(struct join *j, uint64_t choices);
+void open_join(struct join *j, uint64_t choices);
 void copy_rows(struct join *j, uint32_t source, uint64_t start, uint64_t end);
 void add_nulls(struct join *j, uint64_t n);
 /* Finishes into tables that are `more` nodes too long, with a base `beyond` behind the body's end. Where that is 0, the finished array is

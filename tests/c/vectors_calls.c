@@ -37,16 +37,16 @@ static void show_parts(struct join *j) {
     slices_kept(j->lent, SLICES, 0);
 }
 
-void ask_parts(struct join *j, uint8_t keep) {
+void ask_parts(struct join *j, uint64_t choices) {
     keep_all(j);
-    uint8_t g = lafkuno_plan_parts(TABLES, keep, LONGS(PLAN));
+    uint8_t g = lafkuno_plan_parts(TABLES, choices & KEEP, choices & GAPS, LONGS(PLAN));
     answered(j, "parts", g, SET(PLAN));
     if (g == LAFKUNO_DONE) show_parts(j);
 }
 
-void open_join(struct join *j, uint8_t keep) {
+void open_join(struct join *j, uint64_t choices) {
     keep_all(j);
-    uint8_t g = lafkuno_open(TABLES, keep, WORDS(PARTS), LONGS(PLAN), LONGS(COUNTERS), BYTES(ROOM));
+    uint8_t g = lafkuno_open(TABLES, choices & KEEP, choices & GAPS, WORDS(PARTS), LONGS(PLAN), LONGS(COUNTERS), BYTES(ROOM));
     answered(j, "open", g, SET(PLAN) | SET(COUNTERS) | SET(ROOM));
 }
 

@@ -6,7 +6,7 @@ from arrow import Column, Type, keyed, make, number, numbers, run_column, sliced
 from grounds import ground_cases
 from kinds import kinds
 from script import Script, run
-from table import checked_rows
+from table import checked_rows, ends_of
 
 DONE = [('finish',), ('rows',)]
 
@@ -108,6 +108,27 @@ def sixteen(script):
     run(script, '16 sources, the last with a slice of the dictionary', other, orders + DONE)
 
 
+# ---- one run for gaps: what leaves the last run open and what ends it, 7 at its limit, and run-end nodes below others
+
+def gaps(script):
+    ends = Type('i', nullable=False)
+    runs = Type('+r', ends, Type('u'))
+    column = make(runs, [b'A', b'A', None])
+    orders = [('nulls', 1), ('copy', 0, 2, 2), ('nulls', 0), ('copy', 1, 0, 1), ('copy', 0, 0, 4), ('nulls', 1), ('copy', 0, 1, 3), ('nulls', 1), ('nulls', 1)]
+    f = run(script, 'one run for gaps: open and ended', [column], orders + DONE, keep=True, ask=True, gaps=True).node.finished()
+    assert ends_of(f, 4) == [2, 3, 4, 6]
+    short = Type('+r', Type('s', nullable=False), Type('C'))
+    limit = [('nulls', 32764), ('nulls', 4), ('nulls', 2), ('nulls', 1), ('nulls', 1)]
+    f = run(script, 'one run for gaps: up to the last row', [make(short, [1])], limit + DONE, keep=True, gaps=True).node.finished()
+    assert ends_of(f, 2) == [32767] and script.lines[-1].split(' finish')[0].endswith('nulls 0 nulls 7 kept nulls 0 nulls 0 nulls 7 kept')
+    run(script, 'one run for gaps: no room for a run more', [column], [('nulls', 1), ('copy', 0, 0, 1), ('nulls', 1), ('nulls', 1)] + DONE, keep=True, gaps=True, short=(0, 4))
+    nulls = [('nulls', 1), ('nulls', 2), ('copy', 0, 0, 1), ('nulls', 3), ('copy', 0, 1, 2), ('nulls', 4), ('nulls', 5)]
+    dense = Type('+ud:1,2', Type('+r', ends, Type('C')), Type('C'))
+    sparse = Type('+us:1,2', Type('+r', ends, Type('C')), Type('+r', ends, Type('+r', ends, Type('u')), nullable=False))
+    for name, t, rows in (('a dense union', dense, [(2, 9), (1, 4)]), ('a sparse union', sparse, [(1, 4), (2, b'a')]), ('runs of a dense union', Type('+r', ends, dense), [(2, 9), (1, 4)])):
+        run(script, 'one run for gaps: ' + name, [make(t, rows)], nulls + DONE, keep=True, gaps=True, again=(True, nulls + DONE))
+
+
 # ---- a validity whose only zeros stand before the offset or behind the rows: none is counted, also where the node keeps nulls
 
 def zeros_outside(script):
@@ -128,6 +149,7 @@ alone(script)
 rooms(script)
 nested(script)
 sixteen(script)
+gaps(script)
 ground_cases(script)
 zeros_outside(script)
 here = os.path.dirname(os.path.abspath(__file__))

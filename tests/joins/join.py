@@ -1,5 +1,6 @@
 """A join as document 01 and the text of arrow-data 60.1.0's src/transform have it, on columns of arrow.py: opening, copies, nulls and
-finishing with their grounds, and the text that the program prints for each call."""
+finishing with their grounds, and the text that the program prints for each call. One run for gaps is W14's choice, which the Rust does not
+have."""
 import copy
 from arrow import OFFSETS, WIDTH, Column, Rows, bits, entry, number, numbers, shown_rows
 
@@ -31,12 +32,14 @@ def key_limit(format):
 
 
 class Node:
-    def __init__(self, type, sources, keep, same):
+    def __init__(self, type, sources, keep, same, gaps=False):
         self.type, self.sources, self.kind = type, sources, type.kind()
         self.keeps = keep or any(s.nulls() for s in sources)
         self.masks = self.kind not in ('sparse', 'dense', 'runs')
         self.rows, self.null_count, self.bits, self.kept = 0, 0, [], None
         self.one, self.two, self.children = bytearray(), bytearray(), []
+        # of a run-end node with one run for gaps: whether its last run was written by null orders alone
+        self.gaps, self.grows = gaps, False
         if self.kind in ('string', 'list'): self.one += number(0, OFFSETS[type.format])
         if self.kind == 'dictionary':
             values = [s.children[0] for s in sources]
@@ -47,7 +50,7 @@ class Node:
             self.bases = starts
         else:
             for k, t in enumerate(type.children):
-                self.children.append(Node(t, [s.children[k] for s in sources], self.keeps and not (self.kind == 'runs' and k == 0), same))
+                self.children.append(Node(t, [s.children[k] for s in sources], self.keeps and not (self.kind == 'runs' and k == 0), same, gaps))
         if self.kind == 'view':
             self.bases = [sum(len(s.data) for s in sources[:k]) for k in range(len(sources))]
 
@@ -143,6 +146,7 @@ class Node:
         values.copy(s, runs[0], len(runs))
         for k in runs: ends.one += number(self.rows + min(at[k], slot + n) - slot, w)
         ends.rows += len(runs)
+        self.grows = False
 
     # ---- nulls
 
@@ -192,10 +196,12 @@ class Node:
     def nulls_runs(self, n):
         ends, values = self.children
         w = WIDTH[ends.type.format]
-        values.nulls(1)
+        if not self.grows: values.nulls(1)
         if self.rows + n >= LIMIT[w]: refuse(7)
+        if self.grows: del ends.one[-w:]
+        else: ends.rows += 1
         ends.one += number(self.rows + n, w)
-        ends.rows += 1
+        self.grows = self.gaps
 
     # ---- parts, and the finished column
 
@@ -216,9 +222,9 @@ class Node:
 
 
 class Join:
-    """One join over lent room: `table` has a start and a size for each part."""
-    def __init__(self, columns, keep, same):
-        self.columns, self.node, self.table, self.room = columns, Node(columns[0].type, columns, keep, same), None, b''
+    """One join over lent room: `table` has a start and a size for each part. With `gaps` there is one run for a gap."""
+    def __init__(self, columns, keep, same, gaps=False):
+        self.columns, self.node, self.table, self.room = columns, Node(columns[0].type, columns, keep, same, gaps), None, b''
 
     def all_parts(self):
         return [(k, b, buffer) for k, n in enumerate(self.node.nodes()) for b, buffer in n.parts()]

@@ -1,5 +1,7 @@
 """Random joins of nested types on the model alone, with small limits in place of 2^15 and 2^31: the finished rows are the book's; an order
 cut in two gives the rows, the bytes and the runs that W12 says; stored wider, what was accepted is accepted and the rows are the same.
+Joins of odd seeds have one run for gaps (W14): a run grows exactly where the orders before say so, the rows are those without the choice in
+no more runs, and n nulls and then m leave the bytes of n + m.
 python3 tests/joins/random_joins.py JOINS FIRST-SEED"""
 import random
 import sys
@@ -163,40 +165,96 @@ def check_cut(r, made, columns, seen):
     seen['more runs where exempt'] += any(n > 1 for n, _ in more)
 
 
+# ---- one run for gaps
+
+def run_nodes(node):
+    return [(n.rows, n.children[0].rows) for n in node.nodes() if n.kind == 'runs']
+
+
+class History:
+    """Of each run-end node, seen from outside: what added its last rows. A null order that adds rows lengthens the last run exactly if it
+    was a null order too, and adds one else."""
+    def __init__(self, gaps):
+        self.gaps, self.last = gaps, {}
+
+    def check(self, order, before, after, seen):
+        for k, ((rows, runs), (more, now)) in enumerate(zip(before, after)):
+            if more == rows: assert now == runs, 'runs without rows'
+            else:
+                grows = self.gaps and order == 'nulls' and self.last.get(k) == 'nulls'
+                if order == 'nulls': assert now - runs == (0 if grows else 1), 'the runs of a null order'
+                else: assert now > runs, 'the runs of a copy'
+                seen['grown runs'] += grows
+                self.last[k] = order
+
+
+def check_sum(r, made):
+    """n nulls and then m: the bytes and the counts of n + m; accepted where n + m are."""
+    n, m = r.choice((0, 1, 2, 9)), r.choice((0, 1, 5))
+    once, twice = duplicate(made.node), duplicate(made.node)
+    try: once.nulls(n + m)
+    except Refused:
+        try: twice.nulls(n), twice.nulls(m)
+        except Refused: return
+        raise AssertionError('n + m nulls are refused')
+    twice.nulls(n)
+    twice.nulls(m)
+    state = lambda node: [(x.rows, x.null_count, x.grows, x.parts()) for x in node.nodes()]
+    assert state(once) == state(twice), 'n nulls and then m'
+
+
+def check_without(off, made, seen):
+    one, two = off.node.finished(), made.node.finished()
+    assert rows_of(one, 0, one.length) == rows_of(two, 0, two.length), 'the rows without the choice'
+    assert all(n <= 0 for n, _ in runs_more(one, two)), 'more runs than without the choice'
+    seen['fewer runs'] += any(n < 0 for n, _ in runs_more(one, two))
+
+
 def trial(seed, seen):
-    r = random.Random(seed)
-    t = type_of(r, 1)
+    r, gaps = random.Random(seed), seed % 2 == 1
+    t = Type('+r', Type(r.choice('sil'), nullable=False), type_of(r, 2)) if gaps and r.random() < 0.5 else type_of(r, 1)
     columns = [column_of(r, t, r.choice((0, 1, 5, 9))) for _ in range(r.choice((1, 2, 3)))]
-    keep = r.random() < 0.5
+    keep = gaps or r.random() < 0.5
     wide = wide_type(r, t)
     same = lambda a, b: a is b
-    made, wider = Join(columns, keep, same), Join([widened(c, wide) for c in columns], keep, same)
+    made, wider, off = Join(columns, keep, same, gaps), Join([widened(c, wide) for c in columns], keep, same, gaps), Join(columns, keep, same)
     if made.open(): return
     assert wider.open() == 0, 'the opening, stored wider'
-    book = []
-    for _ in range(r.randrange(6)):
-        if r.random() < 0.3:
+    assert off.open() == 0, 'the opening without the choice'
+    book, history = [], History(gaps)
+    for _ in range(r.randrange(8)):
+        before, order = run_nodes(made.node), 'copy'
+        if r.random() < (0.5 if gaps else 0.3):
+            order = 'nulls'
             n = r.choice((0, 1, 3, 20))
             answer, entered = made.nulls(n), lambda: [ordered_null(t) for _ in range(n)]
             later = wider.nulls(n) if answer == 0 else 0
+            without = off.nulls(n) if off else answer
         else:
             s = r.randrange(len(columns))
             a, e = sorted(r.randrange(columns[s].length + 1) for _ in range(2))
             answer, entered = made.copy(s, a, e), lambda: rows_of(columns[s], a, e)
             later = wider.copy(s, a, e) if answer == 0 else 0
+            without = off.copy(s, a, e) if off else answer
         assert later == 0, 'an order, stored wider'
         seen['answered %d' % answer] = seen.get('answered %d' % answer, 0) + 1
+        # where a run grows, its values can't stop the order
+        assert without == answer or (gaps and order == 'nulls' and without in (6, 7)), 'an answer without the choice'
+        if answer == 0 and without != 0: off, seen['accepted by the choice alone'] = None, seen['accepted by the choice alone'] + 1
         if answer == 0: book += entered()
+        history.check(order, before, run_nodes(made.node), seen)
     for what, j in (('the book', made), ('the rows, stored wider', wider)):
         f = j.node.finished()
         assert rows_of(f, 0, f.length) == book, what
     check_cut(r, made, columns, seen)
+    if off: check_without(off, made, seen)
+    if gaps and made.node.keeps: check_sum(r, made)
 
 
 count, first = [int(x) for x in sys.argv[1:]] + [2000, 1][len(sys.argv) - 1:]
-seen = {'cut': 0, 'more runs where exempt': 0}
+seen = {'cut': 0, 'more runs where exempt': 0, 'grown runs': 0, 'fewer runs': 0, 'accepted by the choice alone': 0}
 for seed in range(first, first + count):
     try: trial(seed, seen)
     except AssertionError as e: sys.exit('seed %d: %s' % (seed, e))
-assert seen['cut'] > count // 2 and seen['answered 6'] and seen['answered 7']
+assert seen['cut'] > count // 2 and seen['answered 6'] and seen['answered 7'] and seen['grown runs'] and seen['fewer runs']
 print('%d random joins on the model: %s' % (count, ', '.join('%s %d' % x for x in sorted(seen.items()))))

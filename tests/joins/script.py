@@ -88,13 +88,13 @@ def table_of(sizes, gap=1):
     return table, at
 
 
-def run(script, name, columns, steps, keep=False, short=None, table=None, room=None, ask=False, again=None, plan=872, counters=96, lay=None):
+def run(script, name, columns, steps, keep=False, short=None, table=None, room=None, ask=False, again=None, plan=872, counters=96, lay=None, gaps=False):
     """A case: parts that are exactly as long as the steps need, `short` = (part, bytes) shorter. `again` are the keep and the steps of a
     second join whose only source is the finished array."""
     laid = Laid()
     for c in columns: laid.add(c)
     if lay: lay(laid)
-    make_join = lambda: Join(columns, keep, laid.same)
+    make_join = lambda: Join(columns, keep, laid.same, gaps)
     sizes = needs(make_join, steps)
     if short: sizes[short[0]] -= short[1]
     own, end = table_of(sizes)
@@ -104,10 +104,10 @@ def run(script, name, columns, steps, keep=False, short=None, table=None, room=N
     script.tables(laid)
     script.state(plan, counters)
     if ask:
-        script.text.append('M %d' % keep)
+        script.text.append('M %d' % (keep + 2 * gaps))
         script.say(' parts 0 (' + ''.join(' %d.%d' % (k, b) for k, b, _ in join.all_parts()) + ' )')
     script.lend(join.table, len(join.room))
-    script.text.append('O %d' % keep)
+    script.text.append('O %d' % (keep + 2 * gaps))
     ground = 14 if (plan, counters) != (872, 96) else join.open()
     if script.answer('open', ground) == 0:
         for step in steps: script.step(join, step)

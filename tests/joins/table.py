@@ -27,6 +27,11 @@ def checked_rows(script):
     assert ends_of(f, 4) == [3, 4, 7, 8]
     f = run(script, 'K3', [van], [k1, k1, ('nulls', 5)] + DONE, keep=True).node.finished()
     assert ends_of(f, 4) == [3, 4, 7, 8, 13] and f.children[1].nulls() == 1 and f.children[1].length == 5
+    more = [k1, k1, ('nulls', 5), ('nulls', 2)]
+    f = run(script, 'K3 then 2 nulls', [van], more + DONE, keep=True).node.finished()
+    assert ends_of(f, 4) == [3, 4, 7, 8, 13, 15]
+    f = run(script, 'K3 then 2 nulls, one run for gaps', [van], more + DONE, keep=True, gaps=True).node.finished()
+    assert ends_of(f, 4) == [3, 4, 7, 8, 15] and f.children[1].nulls() == 1 and f.children[1].length == 5
 
     short = Type('+r', Type('s', nullable=False), Type('C'))
     long_run = run_column(short, [32766, 32767], make(short.children[1], [1, 2]), 0, 32767)

@@ -1,5 +1,6 @@
 """Random lists of orders through lafkuno_orders, all or none, against join.py: python3 tests/joins/trips.py LIBRARY [ROUNDS]
-Every kind of column, with enough room and with a part that is too small; the answer, the room and the counters are compared after each list."""
+Every kind of column, every second join with one run for gaps, with enough room and with a part that is too small; the answer, the room and
+the counters are compared after each list."""
 import ctypes
 import random
 import sys
@@ -31,7 +32,8 @@ def words(orders):
 
 class Lent:
     """A join of the library over lent memory."""
-    def __init__(self, library, laid, table, room):
+    def __init__(self, library, laid, table, room, gaps):
+        self.gaps = gaps
         self.library, self.room, self.size = library, (ctypes.c_uint8 * max(1, room))(*b'\xee' * room), ctypes.c_size_t(room)
         self.plan, self.counters = lend(ctypes.c_uint64, [7] * PLAN), lend(ctypes.c_uint64, [7] * COUNTERS)
         tables = [(ctypes.c_uint32, laid.sources), (ctypes.c_uint8, laid.formats), (ctypes.c_uint32, laid.schema), (ctypes.c_uint64, laid.lengths)]
@@ -44,7 +46,7 @@ class Lent:
 
     def open(self):
         self.library.lafkuno_open.restype = ctypes.c_uint8
-        return self.library.lafkuno_open(*self.flat(self.tables), ctypes.c_uint8(KEEP), *self.flat([self.parts, self.plan, self.counters]), self.room, self.size)
+        return self.library.lafkuno_open(*self.flat(self.tables), ctypes.c_uint8(KEEP), ctypes.c_uint8(self.gaps), *self.flat([self.parts, self.plan, self.counters]), self.room, self.size)
 
     def orders(self, orders):
         sources, _, _, lengths, places, _, body = self.tables
@@ -60,13 +62,14 @@ def trial(library, r, t, rows, others, seen):
     for c in columns: laid.add(c)
     lists = [[order(r, columns) for _ in range(r.choice((0, 1, 2, 3, 6)))] for _ in range(5)]
     lists.append([('nulls', 0)] * r.choice((255, 256, 257)))
-    make_join = lambda: Join(columns, True, laid.same)
+    gaps = r.random() < .5
+    make_join = lambda: Join(columns, True, laid.same, gaps)
     sizes = needs(make_join, [o for orders in lists for o in orders])
     if r.random() < .4:
         p = r.randrange(len(sizes))
         sizes[p] = r.randrange(sizes[p] + 1)
     table, room = table_of(sizes)
-    join, lent = make_join(), Lent(library, laid, table, room)
+    join, lent = make_join(), Lent(library, laid, table, room, gaps)
     join.table, join.room = table, bytearray(b'\xee' * room)
     due = join.open()
     assert lent.open() == due, (t.format, due)

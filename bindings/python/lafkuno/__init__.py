@@ -108,17 +108,18 @@ def _capsules(number, source):
     return source.__arrow_c_array__()
 
 
-def join(sources, orders, *, keep_nulls=False, most_rows=0):
+def join(sources, orders, *, keep_nulls=False, one_run_for_gaps=False, most_rows=0):
     """Carries the orders out, one after the other, over 1 to 16 sources of one type; record batches where the sources are structs.
 
     keep_nulls: orders of nulls (`gap`) are taken even where no source has a null.
+    one_run_for_gaps: a gap lengthens the last run of a run-end node where gaps alone have written it; else each gap adds a run.
     most_rows: the most rows that any node may come to, by a bound that is computed first; 0 stands for 2 ** 32.
     """
     capsules = [_capsules(k, source) for k, source in enumerate(sources)]  # kept until the call is over
     structs = [(unwrap(schema, SCHEMA), unwrap(array, ARRAY)) for schema, array in capsules]
     table = (Source * len(structs))(*(Source(ctypes.pointer(s), ctypes.pointer(a)) for s, a in structs))
     list_ = [_order(order) for order in orders]
-    options = Options(bool(keep_nulls), _number(most_rows, 2**64 - 1))
+    options = Options(bool(keep_nulls), bool(one_run_for_gaps), _number(most_rows, 2**64 - 1))
     schema, array, failure = ArrowSchema(), ArrowArray(), Failure()
     batches = bool(structs) and structs[0][0].format == b"+s"
     call = library.lafkuno_join_batches if batches else library.lafkuno_join_arrays

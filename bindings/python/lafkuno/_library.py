@@ -52,7 +52,7 @@ class Order(Structure):
 
 
 class Options(Structure):
-    _fields_ = [("keep_nulls", c_int), ("most_rows", c_uint64)]
+    _fields_ = [("keep_nulls", c_int), ("one_run_for_gaps", c_int), ("most_rows", c_uint64)]
 
 
 class Failure(Structure):

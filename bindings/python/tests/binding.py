@@ -29,6 +29,16 @@ def test_a_sliced_batch():
     assert repr(joined) == "<lafkuno.Array of 5 rows, 1 of them null, format 'i'>"
 
 
+def test_one_run_for_gaps():
+    van = Column(Type("+r", children=[Type("i", name="run_ends"), Type("i", True, name="values")], name="ignition"), 3, 0, [], [i32([3], name="run_ends"), i32([7])])
+    orders = [lafkuno.rows(0, 0, 3), lafkuno.gap(2), lafkuno.gap(1)]
+    for chosen, runs in [(False, 3), (True, 2)]:
+        joined = lafkuno.join([van], orders, keep_nulls=True, one_run_for_gaps=chosen)
+        capsules = joined.__arrow_c_array__()
+        assert unwrap(capsules[1], ARRAY).children[0][0].length == runs
+        assert numbers(joined) == [7, 7, 7, None, None, None]
+
+
 def test_sliced_lists():
     for format, code in [("+l", "i"), ("+L", "q")]:
         item = i32([9, 20, 21, 22, 23, 24], offset=1, name="item")

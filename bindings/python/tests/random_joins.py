@@ -142,7 +142,7 @@ def one_batch(r):
     keep = r.random() < 0.5
     orders = random_orders(r, columns, keep)
     try:
-        joined = lafkuno.join(columns, orders, keep_nulls=keep)
+        joined = lafkuno.join(columns, orders, keep_nulls=keep, one_run_for_gaps=r.random() < 0.5)
     except lafkuno.Error as error:
         assert any(may_be_refused(t, error.code) for t in types), error
         return "refused"

@@ -5,18 +5,18 @@ use mathlib.Core.List.{List}
 use Prim.Native.Nat.{ℕ, zero, suc, _+_, _*_, _-_, _≤_, _<_}
 use native.Mathlib.Numerals.{sub-one}
 use native.Mathlib.Omega.{arith}
-use lib.Dec.{ltb, leb}
-use borrow.Author.Tests.{lt-ltb, le-ltb, ne-eqb}
+use lib.Dec.{ltb, leb, eqb}
+use borrow.Author.Tests.{lt-ltb, le-ltb, eq-eqb, ne-eqb}
 use Rattle.columnar.specs.Types.{half}
 use Rattle.utils.specs.Offsets.{countedUp}
 use Rattle.lent_tables.proofs.Laws.{no, yes}
-use Rattle.walk.specs.State.{Join, codeOf, bytesOf, endOf, rows, addRows}
+use Rattle.walk.specs.State.{Join, codeOf, bytesOf, endOf, rows, gap, addRows}
 use Rattle.walk.specs.Log.{Out, Did, put, wrote, need, next}
 use Rattle.walk.specs.Leaves.{nullMask, countNulls}
 use Rattle.walk.specs.Copy.{isWidth, masked}
-use Rattle.walk.specs.Nulls.{NullWalk, nullableChild, noHome, nullFields, nullSparse, nullDense, nullRuns, nullData, nullNode, nullWalk}
+use Rattle.walk.specs.Nulls.{NullWalk, nullableChild, noHome, nullFields, nullSparse, nullDense, addRun, growRun, nullRuns, nullData, nullNode, nullWalk}
 use Rattle.walk.proofs.Laws.{fail-did, done-did, need-no, need-ok, found-no, found-ok, next-no, next-ok}
-use Rattle.rows.specs.Numbers.{nullIds, nullPositions, nullEnd}
+use Rattle.rows.specs.Numbers.{nullIds, nullPositions, nullEnd, longerEnd}
 use Rattle.rows.proofs.Laws.{then-child}
 use Rattle.leaf_data.proofs.Laws.{null-sparse, null-dense, null-runs}
 
@@ -144,11 +144,20 @@ module _ (x : Join) (child : NullWalk) (wr : Bool) (i n : ℕ) (c room : List �
   unfolding nullRuns
   runs-none h = need-no _ (no e h)
 
-  module _ (h : not t ≡ false) {k g : ℕ} {c1 room1 : List ℕ} (q : k ≡ suc (suc i)) (d : Did (x .state) (x .parts) wr (child k 1 c) room g c1 room1) where
+  module _ (h : not t ≡ false) {v : ℕ} (a : v ≡ gap c i) where
+    -- the last run grows
+    pub runs-grow : {g : ℕ} {c2 room2 : List ℕ} → v ≡ 2 → Did (x .state) (x .parts) wr (longerEnd (x .state) i n c) room g c2 room2 → Did (x .state) (x .parts) wr (nullRuns x child i n c) room g c2 room2
+    unfolding nullRuns growRun longerEnd
+    runs-grow f m = need-ok 12 c (yes e h) (rw (eq-eqb (gap c i) 2 (sym a ∙ f)) m)
+
+  module _ (h : not t ≡ false) {v : ℕ} (a : v ≡ gap c i) (f : v ≡ 2 → ⊥) {k g : ℕ} {c1 room1 : List ℕ} (q : k ≡ suc (suc i)) (d : Did (x .state) (x .parts) wr (child k 1 c) room g c1 room1) where
+    other : eqb (gap c i) 2 ≡ false
+    other = ne-eqb (gap c i) 2 (λ z. f (a ∙ z))
+
     pub runs-stop : (g ≡ 0 → ⊥) → Did (x .state) (x .parts) wr (nullRuns x child i n c) room g c1 room1
-    unfolding nullRuns
-    runs-stop z = need-ok 12 c (yes e h) (next-no _ (rw q at d) z)
+    unfolding nullRuns addRun
+    runs-stop z = need-ok 12 c (yes e h) (rw other (next-no _ (rw q at d) z))
 
     pub runs-go : {g2 : ℕ} {c2 room2 : List ℕ} → g ≡ 0 → Did (x .state) (x .parts) wr (nullEnd (x .state) i n c1) room1 g2 c2 room2 → Did (x .state) (x .parts) wr (nullRuns x child i n c) room g2 c2 room2
-    unfolding nullRuns nullEnd
-    runs-go z m = need-ok 12 c (yes e h) (next-ok _ (rw q at d) z m)
+    unfolding nullRuns addRun nullEnd
+    runs-go z m = need-ok 12 c (yes e h) (rw other (next-ok _ (rw q at d) z m))

@@ -72,7 +72,7 @@ fn extend_nulls_dense(
     extend_nulls(state, parts, counts, room, write, h, n, depth)
 }
 
-// A run-end node: one null value, and one run of n rows.
+// A run-end node: where its last run is one of null orders alone, it grows by n rows; else one null value, and one run of n rows.
 fn extend_nulls_run(
     state: &[u64],
     parts: &[u32],
@@ -88,6 +88,9 @@ fn extend_nulls_run(
 {
     if !rows::has_ends(state, i) {
         return 12;
+    }
+    if growth::bytes_of(counts, i) == 2 {
+        return rows::longer_end(state, parts, counts, room, write, i, n);
     }
     let g = extend_nulls(state, parts, counts, room, write, i + 2, 1, depth);
     if g != 0 {

@@ -69,7 +69,7 @@ module _ (plan parts : List ℕ) (t : Ty) (m : ℕ) (ss : ℕ → Column t) wher
   fits-first (done y) false d e = absurd (let z : _≡_ {A = ℕ} 0 1 = cc e in omega arith)
   fits-first (stop g) b d e = absurd (let z : _≡_ {A = ℕ} 0 1 = cc e in omega arith)
 
-module _ (formats schema sources : List ℕ) (x : Tables) (keep : Bool) (parts : List ℕ) (a : Opening) (o : Opened formats schema sources x keep parts a) (os : List Call) where
+module _ (formats schema sources : List ℕ) (x : Tables) (keep gaps : Bool) (parts : List ℕ) (a : Opening) (o : Opened formats schema sources x keep gaps parts a) (os : List Call) where
   abbrev m : ℕ
   m = sourceCount sources
 
@@ -83,33 +83,33 @@ module _ (formats schema sources : List ℕ) (x : Tables) (keep : Bool) (parts :
   ss = columnsAs formats schema x (firstOf sources) (nodesOf sources)
 
   abbrev lent : Lent
-  lent = opened formats schema sources x keep parts
+  lent = opened formats schema sources x keep gaps parts
 
   -- what the model has reached, and the counters and the room that the calls leave
   abbrev pub reached : Destination t
-  reached = answersIn (lent .plan) parts t m ss os (start t keep m ss)
+  reached = answersIn (lent .plan) parts t m ss os (start gaps t keep m ss)
 
   abbrev left : After
   left = orderedAll lent (a .counts) (a .room) os
 
   abbrev memory : Memory
-  memory = orders-after formats schema sources x keep parts a o os .running .memory
+  memory = orders-after formats schema sources x keep gaps parts a o os .running .memory
 
-  start-fits : fits (lent .plan) parts t 0 (start t keep m ss) ≡ true
+  start-fits : fits (lent .plan) parts t 0 (start gaps t keep m ss) ≡ true
   start-fits =
-      and-left (fits (lent .plan) parts t 0 (start t keep m ss)) (entriesFit (lent .plan) parts t 0 m (λ j. ss j .body))
-      (fits-first (lent .plan) parts t m ss (openData t m (λ j. ss j .body)) (openFits (lent .plan) parts t 0 m (λ j. ss j .body) (start t keep m ss)) (start t keep m ss) (o .model))
+      and-left (fits (lent .plan) parts t 0 (start gaps t keep m ss)) (entriesFit (lent .plan) parts t 0 m (λ j. ss j .body))
+      (fits-first (lent .plan) parts t m ss (openData t m (λ j. ss j .body)) (openFits (lent .plan) parts t 0 m (λ j. ss j .body) (start gaps t keep m ss)) (start gaps t keep m ss) (o .model))
 
   pub given : Given lent (x .buffers) tree t m ss reached (left .counts) (left .room) memory
   given =
       let ok = o .accepted in
-      let k = taken formats schema sources x keep ok in
+      let k = taken formats schema sources x keep gaps ok in
       let alike = all-alike formats schema x (firstOf sources) (nodesOf sources) (lent .plan) m k 0 (o .join .some-source) in
-      given-by lent t m ss (o .join) (keeps keep m ss) (a .counts) (o .memory) reached (left .counts) (left .room) (orders-after formats schema sources x keep parts a o os .running)
-      (fits-after (lent .plan) parts t m ss os (start t keep m ss) start-fits) (x .buffers) tree (few-sources formats schema sources x keep ok)
-      (means formats schema (firstOf sources 0) (nodesOf sources 0) (is-typed formats schema sources x keep ok) (is-low formats schema sources x keep ok))
-      (same-child formats schema (firstOf sources 0) (nodesOf sources 0) (lent .plan) (is-typed formats schema sources x keep ok) (is-low formats schema sources x keep ok) (planted formats schema sources x keep ok) (firstOf sources 0) (nodesOf sources 0) alike)
-      (taken-named formats schema x (lent .plan) parts sources (nodesOf sources) m k) (sources-of formats schema sources x keep ok .few-buffers) (entries-lent formats schema sources x keep ok parts) (o .joins) (keeps keep m ss) (kept formats schema sources x keep ok .1)
+      given-by lent t m ss (o .join) (keeps keep m ss) (a .counts) (o .memory) reached (left .counts) (left .room) (orders-after formats schema sources x keep gaps parts a o os .running)
+      (fits-after (lent .plan) parts t m ss os (start gaps t keep m ss) start-fits) (x .buffers) tree (few-sources formats schema sources x keep gaps ok)
+      (means formats schema (firstOf sources 0) (nodesOf sources 0) (is-typed formats schema sources x keep gaps ok) (is-low formats schema sources x keep gaps ok))
+      (same-child formats schema (firstOf sources 0) (nodesOf sources 0) (lent .plan) (is-typed formats schema sources x keep gaps ok) (is-low formats schema sources x keep gaps ok) (planted formats schema sources x keep gaps ok) (firstOf sources 0) (nodesOf sources 0) alike)
+      (taken-named formats schema x (lent .plan) parts sources (nodesOf sources) m k) (sources-of formats schema sources x keep gaps ok .few-buffers) (entries-lent formats schema sources x keep gaps ok parts) (o .joins) (keeps keep m ss) (kept formats schema sources x keep gaps ok .1)
 
   -- FINISHING IS ACCEPTED, where the body has at most 2^32 - 1 bytes and the tables are of the finished array's lengths
   pub finishing-accepted : (base : ℕ) (lengths nulls places names : List ℕ) → base + length (left .room) ≤ 4294967295
@@ -138,13 +138,13 @@ module _ (formats schema sources : List ℕ) (x : Tables) (keep : Bool) (parts :
     join-nulls = null-is lent (x .buffers) tree t m ss reached (left .counts) (left .room) memory given base body bodied
 
     -- ITS ROWS ARE THE BOOK'S
-    pub join-rows : readAll t (columnOf tree Y t 0) ≡ bookIn (lent .plan) parts t m ss (keeps keep m ss) os (start t keep m ss)
+    pub join-rows : readAll t (columnOf tree Y t 0) ≡ bookIn (lent .plan) parts t m ss (keeps keep m ss) os (start gaps t keep m ss)
     join-rows =
         finished-reads lent (x .buffers) tree t m ss reached (left .counts) (left .room) memory given (first-opened lent t m ss (o .join) .ready) base body bodied
-        ∙ orders-after formats schema sources x keep parts a o os .rows-are
+        ∙ orders-after formats schema sources x keep gaps parts a o os .rows-are
 
     -- .. and its length is the book's
-    pub join-length : lengthOf Y 0 ≡ length (bookIn (lent .plan) parts t m ss (keeps keep m ss) os (start t keep m ss))
+    pub join-length : lengthOf Y 0 ≡ length (bookIn (lent .plan) parts t m ss (keeps keep m ss) os (start gaps t keep m ss))
     join-length = sym (length-seg (read t (columnOf tree Y t 0)) 0 (lengthOf Y 0)) ∙ ap length join-rows
 
     -- IT PASSES GROUND 12 where it is lent again
@@ -152,4 +152,4 @@ module _ (formats schema sources : List ℕ) (x : Tables) (keep : Bool) (parts :
     join-again =
         let ok = o .accepted in
         lent-again lent (x .buffers) formats schema (firstOf sources 0) (nodesOf sources 0) m ss reached (left .counts) (left .room) memory given (first-opened lent t m ss (o .join) .ready) base body bodied
-        (is-typed formats schema sources x keep ok) (is-low formats schema sources x keep ok) (let e = stood formats schema x sources ok keep .node-count in omega arith)
+        (is-typed formats schema sources x keep gaps ok) (is-low formats schema sources x keep gaps ok) (let e = stood formats schema x sources ok keep gaps .node-count in omega arith)

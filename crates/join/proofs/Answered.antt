@@ -91,16 +91,16 @@ module _ (x : Lent) (t : Ty) (m : ℕ) (ss : ℕ → Column t) (join : Joined x 
 pub accepted-zero : (l : Lending) → Bytes l → openingOf l .ground ≡ 0 → (os : List Call) → AllZero (groundsIn l os) ↔ AllAccepted l os
 accepted-zero l b accepted os =
     let o = runs l b accepted in
-    let first : Destination (typeIn l) = start (typeIn l) (l .keep) (sourcesIn l) (columnsIn l) in
+    let first : Destination (typeIn l) = start (l .gaps) (typeIn l) (l .keep) (sourcesIn l) (columnsIn l) in
     subst (λ c. AllZero (groundsIn l os) ↔ AllAcceptedRoom (lentOf l .plan) (l .parts) (typeIn l) (keepsIn l) (sourcesIn l) (columnsIn l) os c)
-    (held-start (typeIn l) (keepsIn l) (sourcesIn l) (λ j. columnsIn l j .body))
+    (held-start (l .gaps) (typeIn l) (keepsIn l) (sourcesIn l) (λ j. columnsIn l j .body))
     (accepts (lentOf l) (typeIn l) (sourcesIn l) (columnsIn l) (o .join) (keepsIn l) (openingOf l .counts) (o .memory) os first (openingOf l .counts) (openingOf l .room) (o .running))
 
 -- ROOM IS ENOUGH exactly where no answer is 13
 pub enough-room : (l : Lending) → Bytes l → openingOf l .ground ≡ 0 → (os : List Call) → No13 (groundsIn l os) ↔ Enough l os
 enough-room l b accepted os =
     let o = runs l b accepted in
-    let first : Destination (typeIn l) = start (typeIn l) (l .keep) (sourcesIn l) (columnsIn l) in
+    let first : Destination (typeIn l) = start (l .gaps) (typeIn l) (l .keep) (sourcesIn l) (columnsIn l) in
     subst (λ c. No13 (groundsIn l os) ↔ RoomEnough (lentOf l .plan) (l .parts) (typeIn l) (keepsIn l) (sourcesIn l) (columnsIn l) os c)
-    (held-start (typeIn l) (keepsIn l) (sourcesIn l) (λ j. columnsIn l j .body))
+    (held-start (l .gaps) (typeIn l) (keepsIn l) (sourcesIn l) (λ j. columnsIn l j .body))
     (enough (lentOf l) (typeIn l) (sourcesIn l) (columnsIn l) (o .join) (keepsIn l) (openingOf l .counts) (o .memory) os first (openingOf l .counts) (openingOf l .room) (o .running))

@@ -29,17 +29,17 @@ use Rattle.join.proofs.CutShown.{column-shown, runs-shown}
 
 -- after an accepted opening and any list of calls, refused ones included
 module _ (l : Lending) (b : Bytes l) (accepted : openingOf l .ground ≡ 0) where
-  abbrev opens : Opened (l .formats) (l .schema) (l .sources) (l .tables) (l .keep) (l .parts) (openingOf l)
+  abbrev opens : Opened (l .formats) (l .schema) (l .sources) (l .tables) (l .keep) (l .gaps) (l .parts) (openingOf l)
   opens = runs l b accepted
 
   abbrev first : Destination (typeIn l)
-  first = start (typeIn l) (l .keep) (sourcesIn l) (columnsIn l)
+  first = start (l .gaps) (typeIn l) (l .keep) (sourcesIn l) (columnsIn l)
 
   abbrev between : List Call → Type 0
   between os = Running (lentOf l) (typeIn l) (sourcesIn l) (columnsIn l) (opens .join) (keepsIn l) (openingOf l .counts) (opens .memory) (reachedBy l os) (afterCalls l os .counts) (afterCalls l os .room)
 
   running : (os : List Call) → between os
-  running os = orders-after (l .formats) (l .schema) (l .sources) (l .tables) (l .keep) (l .parts) (openingOf l) opens os .running
+  running os = orders-after (l .formats) (l .schema) (l .sources) (l .tables) (l .keep) (l .gaps) (l .parts) (openingOf l) opens os .running
 
   -- a call that is answered 0
   record Taken (os : List Call) (o : Call) : Type 0 where
@@ -111,7 +111,7 @@ module _ (l : Lending) (b : Bytes l) (accepted : openingOf l .ground ≡ 0) wher
     -- THE ROWS are the same: those of the book ..
     pub cut-book : bookOf l halves ≡ bookOf l single
     cut-book =
-        book-cut (lentOf l .plan) (l .parts) (typeIn l) (keepsIn l) (sourcesIn l) (columnsIn l) good os j a k e (startCounts (typeIn l)) (heldAfter l (os ++ copy j a k ∷ [])) (heldAfter l halves)
+        book-cut (lentOf l .plan) (l .parts) (typeIn l) (keepsIn l) (sourcesIn l) (columnsIn l) good os j a k e (startCounts (l .gaps) (typeIn l)) (heldAfter l (os ++ copy j a k ∷ [])) (heldAfter l halves)
         (left .counted) right-counted
 
     -- .. and those of the finished arrays

@@ -30,7 +30,7 @@ use Rattle.join.proofs.Numbers.{Ordinary, number-among}
 module _ (l : Lending) where
   -- REFUSED, IT CHANGES NOTHING, whatever is lent: "State and every byte stay."
   pub opening-keeps : (openingOf l .ground ≡ 0 → ⊥) → (openingOf l .plan ≡ l .plan) × (openingOf l .counts ≡ l .counters) × (openingOf l .room ≡ l .room)
-  opening-keeps = opening-refused (l .formats) (l .schema) (l .sources) (l .tables) (l .keep) (l .parts) (l .plan) (l .counters) (l .room)
+  opening-keeps = opening-refused (l .formats) (l .schema) (l .sources) (l .tables) (l .keep) (l .gaps) (l .parts) (l .plan) (l .counters) (l .room)
 
   abbrev ground : ℕ
   ground = sourcesGround (l .formats) (l .schema) (l .tables) (l .sources)
@@ -39,7 +39,7 @@ module _ (l : Lending) where
   small = leb (length (l .room)) 4294967295
 
   abbrev placed : Bool
-  placed = roomPlaced (l .formats) (l .schema) (l .sources) (l .tables) (l .keep) (l .parts) (l .plan) (l .counters) (l .room)
+  placed = roomPlaced (l .formats) (l .schema) (l .sources) (l .tables) (l .keep) (l .gaps) (l .parts) (l .plan) (l .counters) (l .room)
 
   room-first : small ≡ false → openingOf l .ground ≡ 9
   unfolding opening
@@ -60,12 +60,12 @@ module _ (l : Lending) where
     where
       go : (x : Bool) → small ≡ x → (y : Bool) → eqb ground 0 ≡ y → (z : Bool) → placed ≡ z
           → openingOf l .ground
-          ≡ groundOf (guard x 9 (then (cond y (done tt) (stop ground)) (λ (u : Unit {0}). guard z 14 (openIn (lentOf l .plan) (l .parts) (typeIn l) (l .keep) (sourcesIn l) (columnsIn l)))))
+          ≡ groundOf (guard x 9 (then (cond y (done tt) (stop ground)) (λ (u : Unit {0}). guard z 14 (openIn (lentOf l .plan) (l .parts) (l .gaps) (typeIn l) (l .keep) (sourcesIn l) (columnsIn l)))))
       go false e y f z g = room-first e
       go true e false f z g = sources-next e f
       go true e true f false g = parts-next e f g
       go true e true f true g =
-          opening-ground (l .formats) (l .schema) (l .sources) (l .tables) (l .keep) (l .parts) (l .plan) (l .counters) (l .room) (b .body-bytes) (b .room-bytes) (leb-true _ _ e) (eqb-true _ _ f) g
+          opening-ground (l .formats) (l .schema) (l .sources) (l .tables) (l .keep) (l .gaps) (l .parts) (l .plan) (l .counters) (l .room) (b .body-bytes) (b .room-bytes) (leb-true _ _ e) (eqb-true _ _ f) g
 
   -- the plan that it leaves is the one that every later call is lent
   pub plan-left : Bytes l → openingOf l .ground ≡ 0 → openingOf l .plan ≡ lentOf l .plan
@@ -80,23 +80,23 @@ module _ (x : Lent) (counts room : List ℕ) where
 
 -- after an accepted opening and any list of calls, refused ones included
 module _ (l : Lending) (b : Bytes l) (accepted : openingOf l .ground ≡ 0) (os : List Call) where
-  abbrev opens : Opened (l .formats) (l .schema) (l .sources) (l .tables) (l .keep) (l .parts) (openingOf l)
+  abbrev opens : Opened (l .formats) (l .schema) (l .sources) (l .tables) (l .keep) (l .gaps) (l .parts) (openingOf l)
   opens = runs l b accepted
 
   abbrev first : Destination (typeIn l)
-  first = start (typeIn l) (l .keep) (sourcesIn l) (columnsIn l)
+  first = start (l .gaps) (typeIn l) (l .keep) (sourcesIn l) (columnsIn l)
 
   -- what the model holds, counted
   pub held-is : held (typeIn l) (reachedBy l os) ≡ heldAfter l os
   held-is =
       booked (lentOf l) (typeIn l) (sourcesIn l) (columnsIn l) (opens .join) (keepsIn l) (openingOf l .counts) (opens .memory) os first (openingOf l .counts) (openingOf l .room) (opens .running) .held-booked
-      ∙ ap (countsAfter (lentOf l .plan) (l .parts) (typeIn l) (keepsIn l) (sourcesIn l) (columnsIn l) os) (held-start (typeIn l) (keepsIn l) (sourcesIn l) (λ j. columnsIn l j .body))
+      ∙ ap (countsAfter (lentOf l .plan) (l .parts) (typeIn l) (keepsIn l) (sourcesIn l) (columnsIn l) os) (held-start (l .gaps) (typeIn l) (keepsIn l) (sourcesIn l) (λ j. columnsIn l j .body))
 
   -- THE ANSWER TO ONE MORE CALL is 0 where no ground of 01 stands, else the number of the first in 01's order, by lengths and limits alone
   pub call-answered : (o : Call) → nextCall l os o .ground ≡ groundOf (callAnswer l os o)
   call-answered o =
       ground-is (lentOf l) (typeIn l) (sourcesIn l) (columnsIn l) (opens .join) (keepsIn l) (openingOf l .counts) (opens .memory) (reachedBy l os) (afterCalls l os .counts) (afterCalls l os .room)
-      (orders-after (l .formats) (l .schema) (l .sources) (l .tables) (l .keep) (l .parts) (openingOf l) opens os .running) o
+      (orders-after (l .formats) (l .schema) (l .sources) (l .tables) (l .keep) (l .gaps) (l .parts) (openingOf l) opens os .running) o
       ∙ ap (λ c. groundOf (answerRoom (lentOf l .plan) (l .parts) (typeIn l) (keepsIn l) (sourcesIn l) (columnsIn l) o c)) held-is
 
   -- THE TESTS FOR FOREIGN MEMORY NEVER FIRE: the answer is 0 to 7, or 13

@@ -1,15 +1,22 @@
--- DEMAND 2: the finished array has the bytes, lengths and null counts of the Rust, and its rows read as asked. Assumes nothing.
+-- DEMAND 2: the finished array has the bytes, lengths and null counts of the Rust, where one run for a gap is not chosen, and its rows read as asked.
+-- Assumes nothing.
 use mathlib.Core.Path.{_≡_, refl, sym, ap, subst, _∙_}
 use mathlib.Core.Bool.{Bool, true, false}
 use mathlib.Core.List.{List, [], _∷_, _++_}
-use Prim.Native.Nat.{ℕ, _+_, _*_, _-_, _≤_}
+use Prim.Native.Nat.{ℕ, suc, _+_, _*_, _-_, _≤_}
 use native.Mathlib.Omega.{arith}
 use lib.ListN.{length, getD}
-use lib.Dec.{T}
+use lib.Dec.{T, ltb}
 use native.Mathlib.Nat.{zero-add}
+use Rattle.number.specs.Number.{encode}
+use Rattle.columnar.specs.Types.{half}
+use Rattle.columnar.specs.RunEnd.{RunEnd, endOf}
 use Rattle.columnar.specs.Array.{nullCount, ok, nullsIn}
 use Rattle.columnar.specs.Reading.{readAll, masks}
 use Rattle.model.specs.Try.{Try, done, stop, then, guard, after}
+use Rattle.model.specs.Grounds.{firstRun, runCount}
+use Rattle.model.specs.Mutable.{Mutable}
+use Rattle.model.specs.Runs.{Runs, lastEnd, clipped, moreEnds, runsExtend, runsNull}
 use Rattle.model.specs.Transform.{Destination, start, intoBuilder}
 use Rattle.model.specs.Book.{Call, copy, nullsEntered}
 use Rattle.model.specs.Orders.{perform, performAll}
@@ -36,11 +43,32 @@ use Rattle.finishing.proofs.Join.{finishing-accepted, join-shows, join-nulls, j
 use Rattle.join.specs.Join.{Lending, Bytes, sourcesIn, treeIn, typeIn, columnsIn, keepsIn, openingOf, lentOf, afterCalls, nextCall, finishingOf, tablesAt, tablesOf, finishedOf, nullsOf, reachedBy}
 use Rattle.join.proofs.Opens.{runs}
 
--- ---- the model's destination is that of the Rust's calls, those that are carried out
+-- ---- the model's destination is that of the Rust's calls, those that are carried out, with one run for a gap not chosen (`gaps` false): where it
+-- is chosen, a null order on a run-end node is not the Rust's, and the theorems below are about the model alone
+
+-- with a gap of 0 a null order on a run-end node is `extend_nulls` of the Rust's run.rs, and the gap stays 0
+pub nulls-as-rust : {D : Type 0} (w : ℕ) (fill : ℕ → Mutable D → Try (Mutable D)) (n : ℕ) (ends : Mutable (List ℕ)) (values : Mutable D)
+    → runsNull w fill n (record { ends = ends; values = values; gap = 0 })
+    ≡ then (fill 1 values) (λ v. guard (ltb (lastEnd w ends + n) (half w)) 7 (done (record { ends = moreEnds (encode w (lastEnd w ends + n)) 1 ends; values = v; gap = 0 })))
+nulls-as-rust w fill n ends values = refl
+
+-- .. as it does at a copy
+pub copies-as-rust : {P D : Type 0} (w : ℕ) (extend : ℕ → ℕ → Mutable D → Try (Mutable D)) (s : RunEnd P) (a n : ℕ) (ends : Mutable (List ℕ)) (values : Mutable D)
+    → runsExtend w extend s a (suc n) (record { ends = ends; values = values; gap = 0 })
+    ≡ guard (ltb (lastEnd w ends + suc n) (half w)) 7
+    (then (extend (firstRun w s a) (runCount w s a (suc n)) values)
+    (λ v.
+    done
+    (record {
+      ends = moreEnds (clipped w (endOf w (s .ends)) a (a + suc n) (lastEnd w ends) (firstRun w s a) (runCount w s a (suc n))) (runCount w s a (suc n)) ends;
+      values = v;
+      gap = 0;
+    })))
+copies-as-rust w extend s a n ends values = refl
 
 module _ (l : Lending) where
-  abbrev first : Destination (typeIn l)
-  first = start (typeIn l) (l .keep) (sourcesIn l) (columnsIn l)
+  abbrev pub first : Destination (typeIn l)
+  first = start (l .gaps) (typeIn l) (l .keep) (sourcesIn l) (columnsIn l)
 
   -- the calls of a list that are carried out, from a destination on
   abbrev pub carriedOut : List Call → Destination (typeIn l) → List Call
@@ -73,7 +101,7 @@ module _ (l : Lending) where
 -- ---- after an accepted opening and any list of calls, refused ones included
 
 module _ (l : Lending) (b : Bytes l) (accepted : openingOf l .ground ≡ 0) (os : List Call) where
-  abbrev opens : Opened (l .formats) (l .schema) (l .sources) (l .tables) (l .keep) (l .parts) (openingOf l)
+  abbrev opens : Opened (l .formats) (l .schema) (l .sources) (l .tables) (l .keep) (l .gaps) (l .parts) (openingOf l)
   opens = runs l b accepted
 
   -- what the model reaches is what `try_extend` and `try_extend_nulls` of the Rust make of the calls that are carried out
@@ -84,16 +112,16 @@ module _ (l : Lending) (b : Bytes l) (accepted : openingOf l .ground ≡ 0) (os 
   module _ (base : ℕ) (z : List ℕ) (laid : Bodied z (lentOf l) (afterCalls l os .room) base) where
     -- THE BYTES, LENGTHS AND VALIDITY: the finished tables describe `into_builder` of it, byte for byte
     pub bytes-at : Shows (treeIn l) (tablesAt l os base z) (typeIn l) 0 (intoBuilder (typeIn l) (sourcesIn l) (columnsIn l) (reachedBy l os))
-    bytes-at = join-shows (l .formats) (l .schema) (l .sources) (l .tables) (l .keep) (l .parts) (openingOf l) opens os base z laid
+    bytes-at = join-shows (l .formats) (l .schema) (l .sources) (l .tables) (l .keep) (l .gaps) (l .parts) (openingOf l) opens os base z laid
 
     -- THE NULL COUNTS of every node are those of its finished bits
     pub nulls-at : Counts (treeIn l) (nullTable (lentOf l) (l .tables .buffers) (afterCalls l os .counts) (afterCalls l os .room) base) (typeIn l) 0
         (intoBuilder (typeIn l) (sourcesIn l) (columnsIn l) (reachedBy l os))
-    nulls-at = join-nulls (l .formats) (l .schema) (l .sources) (l .tables) (l .keep) (l .parts) (openingOf l) opens os base z laid
+    nulls-at = join-nulls (l .formats) (l .schema) (l .sources) (l .tables) (l .keep) (l .gaps) (l .parts) (openingOf l) opens os base z laid
 
     -- LENT AGAIN, it passes ground 12
     pub again-at : T (sourceRule (treeIn l) (tablesAt l os base z))
-    again-at = join-again (l .formats) (l .schema) (l .sources) (l .tables) (l .keep) (l .parts) (openingOf l) opens os base z laid
+    again-at = join-again (l .formats) (l .schema) (l .sources) (l .tables) (l .keep) (l .gaps) (l .parts) (openingOf l) opens os base z laid
 
   -- the sources' body with the room behind it is such a body
   pub behind-body : Bodied (l .tables .body ++ afterCalls l os .room) (lentOf l) (afterCalls l os .room) (length (l .tables .body))
@@ -109,21 +137,21 @@ module _ (l : Lending) (b : Bytes l) (accepted : openingOf l .ground ≡ 0) (os 
   -- .. AND THOSE OF THE RUST: of every node, validity is kept where its running null count is above 0, and that is its null count
   pub finished-counters : FinishedBy (typeIn l) (sourcesIn l) (columnsIn l) (reachedBy l os) (intoBuilder (typeIn l) (sourcesIn l) (columnsIn l) (reachedBy l os))
   finished-counters =
-      finished-by (typeIn l) (sourcesIn l) (columnsIn l) (sources-of (l .formats) (l .schema) (l .sources) (l .tables) (l .keep) (opens .accepted) .obey) (reachedBy l os)
-      (orders-after (l .formats) (l .schema) (l .sources) (l .tables) (l .keep) (l .parts) (openingOf l) opens os .running .state .fine)
+      finished-by (typeIn l) (sourcesIn l) (columnsIn l) (sources-of (l .formats) (l .schema) (l .sources) (l .tables) (l .keep) (l .gaps) (opens .accepted) .obey) (reachedBy l os)
+      (orders-after (l .formats) (l .schema) (l .sources) (l .tables) (l .keep) (l .gaps) (l .parts) (openingOf l) opens os .running .state .fine)
 
   -- the lent counters are the destination's, its lengths and running null counts, at every node
   pub counters-are : Holds (lentOf l .plan) (typeIn l) 0 (reachedBy l os) (afterCalls l os .counts)
-      (orders-after (l .formats) (l .schema) (l .sources) (l .tables) (l .keep) (l .parts) (openingOf l) opens os .running .memory)
-  counters-are = orders-after (l .formats) (l .schema) (l .sources) (l .tables) (l .keep) (l .parts) (openingOf l) opens os .running .holds
+      (orders-after (l .formats) (l .schema) (l .sources) (l .tables) (l .keep) (l .gaps) (l .parts) (openingOf l) opens os .running .memory)
+  counters-are = orders-after (l .formats) (l .schema) (l .sources) (l .tables) (l .keep) (l .gaps) (l .parts) (openingOf l) opens os .running .holds
 
   -- THE RUNNING NULL COUNT is that of the accepted calls: a copy's zero bits, a null order's rows in full
   pub running-nulls : walk.nulls (afterCalls l os .counts) 0 ≡ countedIf (keepsIn l) (nullsOf l os)
   running-nulls =
-      orders-after (l .formats) (l .schema) (l .sources) (l .tables) (l .keep) (l .parts) (openingOf l) opens os .running .holds .nulls-are
+      orders-after (l .formats) (l .schema) (l .sources) (l .tables) (l .keep) (l .gaps) (l .parts) (openingOf l) opens os .running .holds .nulls-are
       ∙ booked (lentOf l) (typeIn l) (sourcesIn l) (columnsIn l) (opens .join) (keepsIn l) (openingOf l .counts) (opens .memory) os (first l) (openingOf l .counts) (openingOf l .room) (opens .running) .nulls-booked
       ∙ zero-add _
-      ∙ ap (λ c. countedIf (keepsIn l) (nullsRoom (lentOf l .plan) (l .parts) (typeIn l) (keepsIn l) (sourcesIn l) (columnsIn l) os c)) (held-start (typeIn l) (keepsIn l) (sourcesIn l) (λ j. columnsIn l j .body))
+      ∙ ap (λ c. countedIf (keepsIn l) (nullsRoom (lentOf l .plan) (l .parts) (typeIn l) (keepsIn l) (sourcesIn l) (columnsIn l) os c)) (held-start (l .gaps) (typeIn l) (keepsIn l) (sourcesIn l) (λ j. columnsIn l j .body))
 
   -- ONE CALL MORE that is accepted raises it by the nulls that the call enters ..
   pub call-counts : (o : Call) → nextCall l os o .ground ≡ 0
@@ -133,7 +161,7 @@ module _ (l : Lending) (b : Bytes l) (accepted : openingOf l .ground ≡ 0) (os 
       go (order-step (lentOf l) (typeIn l) (sourcesIn l) (columnsIn l) (opens .join) (keepsIn l) (openingOf l .counts) (opens .memory) o (reachedBy l os) (afterCalls l os .counts) (afterCalls l os .room) before) h
     where
       before : Running (lentOf l) (typeIn l) (sourcesIn l) (columnsIn l) (opens .join) (keepsIn l) (openingOf l .counts) (opens .memory) (reachedBy l os) (afterCalls l os .counts) (afterCalls l os .room)
-      before = orders-after (l .formats) (l .schema) (l .sources) (l .tables) (l .keep) (l .parts) (openingOf l) opens os .running
+      before = orders-after (l .formats) (l .schema) (l .sources) (l .tables) (l .keep) (l .gaps) (l .parts) (openingOf l) opens os .running
 
       go : {p : Try (Destination (typeIn l))} {a : After}
           → Answers (lentOf l) (typeIn l) (sourcesIn l) (columnsIn l) (opens .join) (keepsIn l) (openingOf l .counts) (opens .memory) o (reachedBy l os) (afterCalls l os .counts) (afterCalls l os .room) p a
@@ -164,7 +192,7 @@ module _ (l : Lending) (b : Bytes l) (accepted : openingOf l .ground ≡ 0) (os 
         places = placeTable (lentOf l) (l .tables .buffers) (afterCalls l os .counts) (afterCalls l os .room) base;
         buffers = bufferTable (lentOf l) (l .tables .buffers) (afterCalls l os .counts) (afterCalls l os .room) base;
       }
-  finishing-answered = finishing-accepted (l .formats) (l .schema) (l .sources) (l .tables) (l .keep) (l .parts) (openingOf l) opens os
+  finishing-answered = finishing-accepted (l .formats) (l .schema) (l .sources) (l .tables) (l .keep) (l .gaps) (l .parts) (openingOf l) opens os
 
   pub lent-again : T (sourceRule (treeIn l) (tablesOf l os))
   lent-again = again-at (length (l .tables .body)) _ behind-body

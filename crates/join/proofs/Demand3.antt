@@ -27,22 +27,22 @@ use Rattle.join.proofs.Demand2.{finished-bytes, counters-are, behind-bo
 
 -- after an accepted opening and any list of calls, refused ones included
 module _ (l : Lending) (b : Bytes l) (accepted : openingOf l .ground ≡ 0) (os : List Call) where
-  abbrev opens : Opened (l .formats) (l .schema) (l .sources) (l .tables) (l .keep) (l .parts) (openingOf l)
+  abbrev opens : Opened (l .formats) (l .schema) (l .sources) (l .tables) (l .keep) (l .gaps) (l .parts) (openingOf l)
   opens = runs l b accepted
 
   abbrev first : Destination (typeIn l)
-  first = start (typeIn l) (l .keep) (sourcesIn l) (columnsIn l)
+  first = start (l .gaps) (typeIn l) (l .keep) (sourcesIn l) (columnsIn l)
 
   -- the book by what the model holds, and by lengths alone
   in-book : bookIn (lentOf l .plan) (l .parts) (typeIn l) (sourcesIn l) (columnsIn l) (keepsIn l) os first ≡ bookOf l os
   in-book =
       booked (lentOf l) (typeIn l) (sourcesIn l) (columnsIn l) (opens .join) (keepsIn l) (openingOf l .counts) (opens .memory) os first (openingOf l .counts) (openingOf l .room) (opens .running) .rows-booked
-      ∙ ap (bookRoom (lentOf l .plan) (l .parts) (typeIn l) (keepsIn l) (sourcesIn l) (columnsIn l) os) (held-start (typeIn l) (keepsIn l) (sourcesIn l) (λ j. columnsIn l j .body))
+      ∙ ap (bookRoom (lentOf l .plan) (l .parts) (typeIn l) (keepsIn l) (sourcesIn l) (columnsIn l) os) (held-start (l .gaps) (typeIn l) (keepsIn l) (sourcesIn l) (λ j. columnsIn l j .body))
 
   -- THE BOOK: the finished array has its rows, all of them and no others, over any body z in which the room stands from `base` on
   -- and the sources' body where it was
   pub book-at : (base : ℕ) (z : List ℕ) → Bodied z (lentOf l) (afterCalls l os .room) base → readAll (typeIn l) (finishedAt l os base z) ≡ bookOf l os
-  book-at base z laid = join-rows (l .formats) (l .schema) (l .sources) (l .tables) (l .keep) (l .parts) (openingOf l) opens os base z laid ∙ in-book
+  book-at base z laid = join-rows (l .formats) (l .schema) (l .sources) (l .tables) (l .keep) (l .gaps) (l .parts) (openingOf l) opens os base z laid ∙ in-book
 
   -- .. and so over the sources' body with the room behind it
   pub the-book : readAll (typeIn l) (finishedOf l os) ≡ bookOf l os

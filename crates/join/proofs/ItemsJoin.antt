@@ -64,16 +64,16 @@ module _ (t : Ty) (keep : Bool) (m : ℕ) (ss : ℕ → Column t) (plan parts : 
 -- DEMAND 1: REFUSED, AN ITEM CHANGES NOTHING, whatever it is lent: `item-keeps` (Items.antt)
 
 module _ (l : Lending) (b : Bytes l) (accepted : openingOf l .ground ≡ 0) (is : List Item) where
-  abbrev opens : Opened (l .formats) (l .schema) (l .sources) (l .tables) (l .keep) (l .parts) (openingOf l)
+  abbrev opens : Opened (l .formats) (l .schema) (l .sources) (l .tables) (l .keep) (l .gaps) (l .parts) (openingOf l)
   opens = runs l b accepted
 
   abbrev first : Destination (typeIn l)
-  first = start (typeIn l) (l .keep) (sourcesIn l) (columnsIn l)
+  first = start (l .gaps) (typeIn l) (l .keep) (sourcesIn l) (columnsIn l)
 
-  ran : RanItems (lentOf l) (typeIn l) (sourcesIn l) (columnsIn l) (opens .join) (keepsIn l) (openingOf l .counts) (opens .memory) is (startCounts (typeIn l)) (openingOf l .counts) (openingOf l .room)
+  ran : RanItems (lentOf l) (typeIn l) (sourcesIn l) (columnsIn l) (opens .join) (keepsIn l) (openingOf l .counts) (opens .memory) is (startCounts (l .gaps) (typeIn l)) (openingOf l .counts) (openingOf l .room)
   ran =
       subst (λ c. RanItems (lentOf l) (typeIn l) (sourcesIn l) (columnsIn l) (opens .join) (keepsIn l) (openingOf l .counts) (opens .memory) is c (openingOf l .counts) (openingOf l .room))
-      (held-start (typeIn l) (keepsIn l) (sourcesIn l) (λ j. columnsIn l j .body))
+      (held-start (l .gaps) (typeIn l) (keepsIn l) (sourcesIn l) (λ j. columnsIn l j .body))
       (items-run (lentOf l) (typeIn l) (sourcesIn l) (columnsIn l) (opens .join) (keepsIn l) (openingOf l .counts) (opens .memory) is first (openingOf l .counts) (openingOf l .room) (opens .running))
 
   -- THE COUNTERS AND THE ROOM are those of the orders that are carried out, each given singly: "an accepted list counts as its single orders"
@@ -93,10 +93,10 @@ module _ (l : Lending) (b : Bytes l) (accepted : openingOf l .ground ≡ 0) (is 
   Holding = Running (lentOf l) (typeIn l) (sourcesIn l) (columnsIn l) (opens .join) (keepsIn l) (openingOf l .counts) (opens .memory)
 
   running : Holding (reachedBy l (callsCarried l is)) (afterItems l is .counts) (afterItems l is .room)
-  running = moved (Holding (reachedBy l (callsCarried l is))) (orders-after (l .formats) (l .schema) (l .sources) (l .tables) (l .keep) (l .parts) (openingOf l) opens (callsCarried l is) .running)
+  running = moved (Holding (reachedBy l (callsCarried l is))) (orders-after (l .formats) (l .schema) (l .sources) (l .tables) (l .keep) (l .gaps) (l .parts) (openingOf l) opens (callsCarried l is) .running)
 
   items-held : held (typeIn l) (reachedBy l (callsCarried l is)) ≡ heldItems l is
-  items-held = held-is l b accepted (callsCarried l is) ∙ sym (items-flat (lentOf l .plan) (l .parts) (typeIn l) (keepsIn l) (sourcesIn l) (columnsIn l) is (startCounts (typeIn l)) .flat-held)
+  items-held = held-is l b accepted (callsCarried l is) ∙ sym (items-flat (lentOf l .plan) (l .parts) (typeIn l) (keepsIn l) (sourcesIn l) (columnsIn l) is (startCounts (l .gaps) (typeIn l)) .flat-held)
 
   -- THE ANSWER TO ONE MORE ITEM is 0 where no ground stands, else the number that the first failing order would get, by lengths and limits alone
   pub item-answered : (i : Item) → nextItem l is i .ground ≡ groundOf (answerItem l is i)
@@ -119,7 +119,7 @@ module _ (l : Lending) (b : Bytes l) (accepted : openingOf l .ground ≡ 0) (is 
       (trip-among (typeIn l) (keepsIn l) (sourcesIn l) (columnsIn l) (lentOf l .plan) (l .parts) os (heldItems l is))
 
   -- the answers to the whole list
-  pub items-answered : groundsItems l is ≡ answersTo (lentOf l .plan) (l .parts) (typeIn l) (keepsIn l) (sourcesIn l) (columnsIn l) is (startCounts (typeIn l))
+  pub items-answered : groundsItems l is ≡ answersTo (lentOf l .plan) (l .parts) (typeIn l) (keepsIn l) (sourcesIn l) (columnsIn l) is (startCounts (l .gaps) (typeIn l))
   items-answered = ran .same-answers
 
   -- ---- demand 2: over any body z in which the room stands from `base` on and the sources' body where it was
@@ -149,7 +149,7 @@ module _ (l : Lending) (b : Bytes l) (accepted : openingOf l .ground ≡ 0) (is 
   items-running-nulls =
       ap (λ c. walk.nulls c 0) items-counts
       ∙ running-nulls l b accepted (callsCarried l is)
-      ∙ ap (countedIf (keepsIn l)) (sym (items-flat (lentOf l .plan) (l .parts) (typeIn l) (keepsIn l) (sourcesIn l) (columnsIn l) is (startCounts (typeIn l)) .flat-nulls))
+      ∙ ap (countedIf (keepsIn l)) (sym (items-flat (lentOf l .plan) (l .parts) (typeIn l) (keepsIn l) (sourcesIn l) (columnsIn l) is (startCounts (l .gaps) (typeIn l)) .flat-nulls))
 
   -- FINISHING IS NEVER REFUSED where the tables are of the finished array's lengths and the body of at most 2^32 - 1 bytes
   pub items-finishing : (base : ℕ) (lengths nulls places names : List ℕ) → base + length (afterItems l is .room) ≤ 4294967295
@@ -182,7 +182,7 @@ module _ (l : Lending) (b : Bytes l) (accepted : openingOf l .ground ≡ 0) (is 
   -- ---- demand 3
 
   same-book : bookOf l (callsCarried l is) ≡ bookItems l is
-  same-book = sym (items-flat (lentOf l .plan) (l .parts) (typeIn l) (keepsIn l) (sourcesIn l) (columnsIn l) is (startCounts (typeIn l)) .flat-rows)
+  same-book = sym (items-flat (lentOf l .plan) (l .parts) (typeIn l) (keepsIn l) (sourcesIn l) (columnsIn l) is (startCounts (l .gaps) (typeIn l)) .flat-rows)
 
   -- THE BOOK: the finished array has its rows, all of them and no others, over any such body
   pub items-book-at : (base : ℕ) (z : List ℕ) → Bodied z (lentOf l) (afterItems l is .room) base

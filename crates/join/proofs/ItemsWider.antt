@@ -134,7 +134,7 @@ module _ (plan parts plan′ parts′ : List ℕ) {t t′ : Ty} (w : Wider t t�
 -- ---- two joins, narrow and wide
 
 module _ (n w : Lending) (bytes-n : Bytes n) (bytes-w : Bytes w) (accepted-n : openingOf n .ground ≡ 0) (accepted-w : openingOf w .ground ≡ 0)
-    (d : Wider (typeIn n) (typeIn w)) (same-count : sourcesIn n ≡ sourcesIn w) (same-choice : n .keep ≡ w .keep) (again : Again d (sourcesIn n) (columnsIn n) (columnsIn w)) where
+    (d : Wider (typeIn n) (typeIn w)) (same-count : sourcesIn n ≡ sourcesIn w) (same-choice : n .keep ≡ w .keep) (same-gaps : n .gaps ≡ w .gaps) (again : Again d (sourcesIn n) (columnsIn n) (columnsIn w)) where
   -- the accepted items of a list, made again on the wide join
   pub record WideItems (is : List Item) : Type 0 where
     pub all-zero : AllZero (groundsItems w (itemsAccepted n is))
@@ -143,24 +143,24 @@ module _ (n w : Lending) (bytes-n : Bytes n) (bytes-w : Bytes w) (accepted-n : o
   -- STORING WIDER CHANGES NO ROW, where no item is answered 13
   pub items-wider : (is : List Item) → No13 (groundsItems w (itemsAccepted n is)) → WideItems is
   items-wider is room =
-      let obey = sources-of (n .formats) (n .schema) (n .sources) (n .tables) (n .keep) (runs n bytes-n accepted-n .accepted) .obey in
+      let obey = sources-of (n .formats) (n .schema) (n .sources) (n .tables) (n .keep) (n .gaps) (runs n bytes-n accepted-n .accepted) .obey in
       let said = items-answered w bytes-w accepted-w (itemsAccepted n is) in
       let r =
-      items-again (lentOf n .plan) (n .parts) (lentOf w .plan) (w .parts) d (sourcesIn n) (columnsIn n) (columnsIn w) again obey (keepsIn n) is (startCounts (typeIn n))
-      (moved-back n w bytes-n bytes-w accepted-n accepted-w d same-count same-choice again (λ b k c. No13 (answersTo (lentOf w .plan) (w .parts) (typeIn w) b k (columnsIn w) (itemsAccepted n is) c)) (subst No13 said room)) in
+      items-again (lentOf n .plan) (n .parts) (lentOf w .plan) (w .parts) d (sourcesIn n) (columnsIn n) (columnsIn w) again obey (keepsIn n) is (startCounts (n .gaps) (typeIn n))
+      (moved-back n w bytes-n bytes-w accepted-n accepted-w d same-count same-choice same-gaps again (λ b k c. No13 (answersTo (lentOf w .plan) (w .parts) (typeIn w) b k (columnsIn w) (itemsAccepted n is) c)) (subst No13 said room)) in
       record {
         all-zero = subst AllZero (sym said)
-            (moved n w bytes-n bytes-w accepted-n accepted-w d same-count same-choice again (λ b k c. AllZero (answersTo (lentOf w .plan) (w .parts) (typeIn w) b k (columnsIn w) (itemsAccepted n is) c)) (r .zeros));
+            (moved n w bytes-n bytes-w accepted-n accepted-w d same-count same-choice same-gaps again (λ b k c. AllZero (answersTo (lentOf w .plan) (w .parts) (typeIn w) b k (columnsIn w) (itemsAccepted n is) c)) (r .zeros));
         same-rows = items-book n bytes-n accepted-n is
-            ∙ moved n w bytes-n bytes-w accepted-n accepted-w d same-count same-choice again
+            ∙ moved n w bytes-n bytes-w accepted-n accepted-w d same-count same-choice same-gaps again
             (λ b k c. bookItems n is ≡ itemsBook (lentOf w .plan) (w .parts) (typeIn w) b k (columnsIn w) (itemsAccepted n is) c) (r .same-rows)
             ∙ sym (items-book w bytes-w accepted-w (itemsAccepted n is));
       }
 
 -- BOTH: where room is enough, the opening and every accepted item are accepted again, and the rows are the same
 module _ (n w : Lending) (bytes-n : Bytes n) (bytes-w : Bytes w) (accepted-n : openingOf n .ground ≡ 0) (d : Wider (typeIn n) (typeIn w)) (stored : StoredWider n w)
-    (again : Again d (sourcesIn n) (columnsIn n) (columnsIn w)) (same-choice : n .keep ≡ w .keep) (small : length (w .room) ≤ 4294967295)
+    (again : Again d (sourcesIn n) (columnsIn n) (columnsIn w)) (same-choice : n .keep ≡ w .keep) (same-gaps : n .gaps ≡ w .gaps) (small : length (w .room) ≤ 4294967295)
     (no-13 : openingOf w .ground ≡ 13 → ⊥) (no-14 : openingOf w .ground ≡ 14 → ⊥) where
   pub items-made-again : (is : List Item) → No13 (groundsItems w (itemsAccepted n is))
-      → WideItems n w bytes-n bytes-w accepted-n (opens-again n w bytes-n bytes-w accepted-n d stored again same-choice small no-13 no-14) d (stored .same-count) same-choice again is
-  items-made-again = items-wider n w bytes-n bytes-w accepted-n (opens-again n w bytes-n bytes-w accepted-n d stored again same-choice small no-13 no-14) d (stored .same-count) same-choice again
+      → WideItems n w bytes-n bytes-w accepted-n (opens-again n w bytes-n bytes-w accepted-n d stored again same-choice same-gaps small no-13 no-14) d (stored .same-count) same-choice same-gaps again is
+  items-made-again = items-wider n w bytes-n bytes-w accepted-n (opens-again n w bytes-n bytes-w accepted-n d stored again same-choice same-gaps small no-13 no-14) d (stored .same-count) same-choice same-gaps again

@@ -3,7 +3,16 @@ pub mod Numbers
 pub mod Opens
 pub mod Demand1
 pub mod Written
+pub mod WrittenOff
+pub mod Amends
+pub mod AmendsNulls
+pub mod WrittenRuns
 pub mod Demand2
+pub mod Gap
+pub mod GapOff
+pub mod GapSaid
+pub mod GapNodes
+pub mod GapJoin
 pub mod Answered
 pub mod Demand3
 pub mod Based

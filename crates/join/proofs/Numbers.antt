@@ -1,11 +1,11 @@
 -- Which numbers an order can be answered after an accepted opening: none of those for foreign memory. Assumes nothing.
-use mathlib.Core.Bool.{Bool, true, false, _&&_}
+use mathlib.Core.Bool.{Bool, true, false, cond, _&&_}
 use mathlib.Core.Path.{_≡_, refl}
 use mathlib.Core.List.{List, [], _∷_}
-use Prim.Native.Nat.{ℕ, zero, suc, _+_, _-_, _≤_}
+use Prim.Native.Nat.{ℕ, zero, suc, _+_, _-_, _≤_, min}
 use native.Mathlib.Omega.{arith}
 use lib.ListN.{getD}
-use lib.Dec.{ltb, leb}
+use lib.Dec.{ltb, leb, eqb}
 use Rattle.columnar.specs.Types.{half, fixed, string, Ty, tPlain, tView, tListView, tList, tSparse, tDense, tRunEnd, tDictionary}
 use Rattle.columnar.specs.Array.{item}
 use Rattle.columnar.specs.Plain.{PlainBody}
@@ -34,6 +34,10 @@ module _ (P : ℕ → Type 0) where
   stops-guard : {A : Type 0} (b : Bool) (g : ℕ) (p : Try A) → P g → Stops P p → Stops P (guard b g p)
   stops-guard true g p h k = k
   stops-guard false g p h k = h
+
+  stops-cond : {A : Type 0} (b : Bool) (p q : Try A) → Stops P p → Stops P q → Stops P (cond b p q)
+  stops-cond true p q h k = h
+  stops-cond false p q h k = k
 
   stops-steps : {A : Type 0} (f : ℕ → A → Try A) → ((i : ℕ) (x : A) → Stops P (f i x)) → (a n : ℕ) (x : A) → Stops P (stepsT f a n x)
   stops-steps f h a zero x = tt
@@ -99,7 +103,7 @@ run-low : {P : Type 0} (w : ℕ) (ask : P → Ask) → ((b : P) → LowAsk (ask 
 run-low w ask h b a zero c = tt
 run-low w ask h b a (suc n) c =
     let p = askOf ask (b .values) (firstRun w b a) (runCount w b a (suc n)) (kidOf c 0) in
-    let f : Counts → Try Counts = λ k. done (counts (rowsOf c + suc n) 0 (λ e. k)) in
+    let f : Counts → Try Counts = λ k. done (counts (rowsOf c + suc n) (min (bytesOf c) 1) (λ e. k)) in
     stops-guard Low (ltb (rowsOf c + suc n) (half w)) 7 (then p f) (omega arith)
     (stops-then Low p f (h (b .values .body) (b .values .off + firstRun w b a) (runCount w b a (suc n)) (kidOf c 0)) (λ k. tt))
 
@@ -132,8 +136,11 @@ dense-nulls-low ids nullable ask h n c =
 
 run-nulls-low : (w : ℕ) (ask : AskNulls) → LowNulls ask → LowNulls (runEndNulls w ask)
 run-nulls-low w ask h n c =
-    let f : Counts → Try Counts = λ k. done (counts (rowsOf c + n) 0 (λ e. k)) in
-    stops-then Low (ask 1 (kidOf c 0)) (λ k. guard (ltb (rowsOf c + n) (half w)) 7 (f k)) (h 1 (kidOf c 0)) (λ k. stops-guard Low (ltb (rowsOf c + n) (half w)) 7 (f k) (omega arith) tt)
+    let f : Counts → Try Counts = λ k. done (counts (rowsOf c + n) (cond (eqb (bytesOf c) 0) 0 2) (λ e. k)) in
+    let g : Try Counts = done (counts (rowsOf c + n) 2 (λ e. kidOf c 0)) in
+    stops-cond Low (eqb (bytesOf c) 2) (guard (ltb (rowsOf c + n) (half w)) 7 g) (then (ask 1 (kidOf c 0)) (λ k. guard (ltb (rowsOf c + n) (half w)) 7 (f k)))
+    (stops-guard Low (ltb (rowsOf c + n) (half w)) 7 g (omega arith) tt)
+    (stops-then Low (ask 1 (kidOf c 0)) (λ k. guard (ltb (rowsOf c + n) (half w)) 7 (f k)) (h 1 (kidOf c 0)) (λ k. stops-guard Low (ltb (rowsOf c + n) (half w)) 7 (f k) (omega arith) tt))
 
 fill-low : (t : Ty) → LowNulls (nullsAsk t)
 fill-low (tPlain (fixed k)) = λ n c. tt

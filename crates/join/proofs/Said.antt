@@ -92,12 +92,12 @@ turned (second-empty e) = first-empty e
 
 module _ (l : Lending) (b : Bytes l) (ok : sourcesGround (l .formats) (l .schema) (l .tables) (l .sources) ≡ 0) where
   abbrev placed : Bool
-  placed = roomPlaced (l .formats) (l .schema) (l .sources) (l .tables) (l .keep) (l .parts) (l .plan) (l .counters) (l .room)
+  placed = roomPlaced (l .formats) (l .schema) (l .sources) (l .tables) (l .keep) (l .gaps) (l .parts) (l .plan) (l .counters) (l .room)
 
   -- the parts that a plan numbers are those of the type
   pub parts-are : partTotal (lentOf l .plan) ≡ partsIn l
   parts-are =
-      parts-due (lentOf l) (typeIn l) (sourcesIn l) (columnsIn l) (l .keep) (given (l .formats) (l .schema) (l .sources) (l .tables) (l .keep) (l .parts) (b .body-bytes) ok)
+      parts-due (lentOf l) (typeIn l) (sourcesIn l) (columnsIn l) (l .keep) (l .gaps) (given (l .formats) (l .schema) (l .sources) (l .tables) (l .keep) (l .gaps) (l .parts) (b .body-bytes) ok)
 
   pub placed-lie : placed ≡ true → PartsLie l
   unfolding roomPlaced partsPlaced
@@ -147,9 +147,9 @@ module _ (l : Lending) (b : Bytes l) (ok : sourcesGround (l .formats) (l .schema
         go false e = parts-next l (le-leb (length (l .room)) 4294967295 small) (eq-eqb _ 0 ok) e
 
     -- .. AND ONLY THERE: else what is answered is the dictionaries' 6 or 8, 13, or 0
-    pub not-fourteen : PartsLie l → openingOf l .ground ≡ groundOf (openIn (lentOf l .plan) (l .parts) (typeIn l) (l .keep) (sourcesIn l) (columnsIn l))
+    pub not-fourteen : PartsLie l → openingOf l .ground ≡ groundOf (openIn (lentOf l .plan) (l .parts) (l .gaps) (typeIn l) (l .keep) (sourcesIn l) (columnsIn l))
     not-fourteen h =
-        opening-ground (l .formats) (l .schema) (l .sources) (l .tables) (l .keep) (l .parts) (l .plan) (l .counters) (l .room) (b .body-bytes) (b .room-bytes) small ok (lie-placed h)
+        opening-ground (l .formats) (l .schema) (l .sources) (l .tables) (l .keep) (l .gaps) (l .parts) (l .plan) (l .counters) (l .room) (b .body-bytes) (b .room-bytes) small ok (lie-placed h)
 
 -- ---- dictionaries
 

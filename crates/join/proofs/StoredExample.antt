@@ -35,6 +35,7 @@ lending schema places body =
       sources = 0 ∷ 2 ∷ [];
       tables = record { lengths = counts; places = places; buffers = []; body = body };
       keep = false;
+      gaps = false;
       parts = [];
       plan = [];
       counters = [];

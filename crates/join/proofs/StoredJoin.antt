@@ -53,6 +53,7 @@ lending schema places body parts room =
       sources = 0 ∷ 1 ∷ [];
       tables = record { lengths = 2 ∷ 1 ∷ []; places = places; buffers = []; body = body };
       keep = false;
+      gaps = false;
       parts = parts;
       plan = replicate 872 0;
       counters = replicate 96 0;
@@ -117,21 +118,21 @@ record Words (l : Lending) : Type 0 where
 words : (l : Lending) → Taken l → keepsOf (lentOf l .plan) 0 ≡ 1 → isString (codeOf (lentOf l .plan) 0) ≡ true → 1 ≤ nodesOf (lentOf l .plan) → Words l
 words l ok k c n =
     let low : codeOf (lentOf l .plan) 0 < 21 = omega (arith, between-both 11 14 (codeOf (lentOf l .plan) 0) c) in
-    let e : partOf (lentOf l .plan) 0 ≡ 1 = stood (l .formats) (l .schema) (l .tables) (l .sources) ok (l .keep) .numbered .word-is 0 n ∙ first-part (lentOf l .plan) k low in
+    let e : partOf (lentOf l .plan) 0 ≡ 1 = stood (l .formats) (l .schema) (l .tables) (l .sources) ok (l .keep) (l .gaps) .numbered .word-is 0 n ∙ first-part (lentOf l .plan) k low in
     record { keeps-is = k; size-is = λ b. ap (λ p. sizeAt (l .parts) (p + b - 1)) e ∙ ap (sizeAt (l .parts)) (let z : 1 + b - 1 ≡ b = omega arith in z) }
 
 narrow-words : Words narrow
 unfolding tyOf kindAt Tree.codeOf Code.codeOf bit
 narrow-words =
-    let g = given (narrow .formats) (narrow .schema) (narrow .sources) (narrow .tables) (narrow .keep) (narrow .parts) (narrow-bytes .body-bytes) narrow-taken in
-    let n = stood (narrow .formats) (narrow .schema) (narrow .tables) (narrow .sources) narrow-taken (narrow .keep) .node-count in
+    let g = given (narrow .formats) (narrow .schema) (narrow .sources) (narrow .tables) (narrow .keep) (narrow .gaps) (narrow .parts) (narrow-bytes .body-bytes) narrow-taken in
+    let n = stood (narrow .formats) (narrow .schema) (narrow .tables) (narrow .sources) narrow-taken (narrow .keep) (narrow .gaps) .node-count in
     words narrow narrow-taken (g .root-keeps) (g .worded .3 .0) (omega (arith, n))
 
 wide-words : Words wide
 unfolding tyOf kindAt Tree.codeOf Code.codeOf bit
 wide-words =
-    let g = given (wide .formats) (wide .schema) (wide .sources) (wide .tables) (wide .keep) (wide .parts) (wide-bytes .body-bytes) wide-taken in
-    let n = stood (wide .formats) (wide .schema) (wide .tables) (wide .sources) wide-taken (wide .keep) .node-count in
+    let g = given (wide .formats) (wide .schema) (wide .sources) (wide .tables) (wide .keep) (wide .gaps) (wide .parts) (wide-bytes .body-bytes) wide-taken in
+    let n = stood (wide .formats) (wide .schema) (wide .tables) (wide .sources) wide-taken (wide .keep) (wide .gaps) .node-count in
     words wide wide-taken (g .root-keeps) (g .worded .3 .0) (omega (arith, n))
 
 -- ---- 14 does not stand
@@ -195,7 +196,7 @@ text-room plan parts w c k a b d = rw (k, a, b, d) refl
 
 -- what is held after the copy
 abbrev after-copy : Lending → Counts
-after-copy l = after (answer (typeIn l) (keepsIn l) (sourcesIn l) (columnsIn l) (copy 0 0 2) (startCounts (typeIn l))) (startCounts (typeIn l))
+after-copy l = after (answer (typeIn l) (keepsIn l) (sourcesIn l) (columnsIn l) (copy 0 0 2) (startCounts (l .gaps) (typeIn l))) (startCounts (l .gaps) (typeIn l))
 
 narrow-room : roomFor (lentOf narrow .plan) (narrow .parts) (typeIn narrow) 0 (after-copy narrow) ≡ true
 unfolding tyOf kindAt Tree.codeOf Code.codeOf bit item number
@@ -261,6 +262,7 @@ pub record Premises (n w : Lending) (os : List Call) : Type 0 where
   pub tables-wider : StoredWider n w
   pub again : Again type-wider (sourcesIn n) (columnsIn n) (columnsIn w)
   pub same-choice : n .keep ≡ w .keep
+  pub same-gaps : n .gaps ≡ w .gaps
   pub small-room : length (w .room) ≤ 4294967295
   pub no-13 : openingOf w .ground ≡ 13 → ⊥
   pub no-14 : openingOf w .ground ≡ 14 → ⊥
@@ -296,6 +298,7 @@ example =
         sharing = tt;
       };
       same-choice = refl;
+      same-gaps = refl;
       small-room = omega arith;
       no-13 = λ e. omega (arith, e, wide-opens);
       no-14 = λ e. omega (arith, e, wide-opens);
@@ -310,4 +313,4 @@ rows-are = the-book narrow narrow-bytes narrow-opens calls ∙ ap {B = List Row}
 pub wide-rows-are : readAll (typeIn wide) (finishedOf wide (acceptedOf narrow calls)) ≡ bytes (115 ∷ 116 ∷ 111 ∷ 112 ∷ []) ∷ null ∷ []
 wide-rows-are =
     let p = example in
-    sym (made-again narrow wide (p .bytes-n) (p .bytes-w) (p .accepted-n) (p .type-wider) (p .tables-wider) (p .again) (p .same-choice) (p .small-room) (p .no-13) (p .no-14) calls (p .calls-no-13) .same-rows) ∙ rows-are
+    sym (made-again narrow wide (p .bytes-n) (p .bytes-w) (p .accepted-n) (p .type-wider) (p .tables-wider) (p .again) (p .same-choice) (p .same-gaps) (p .small-room) (p .no-13) (p .no-14) calls (p .calls-no-13) .same-rows) ∙ rows-are

@@ -1,7 +1,7 @@
 -- DEMAND 3, last sentence: storing wider changes no row. Assumes nothing.
 -- A narrow join and a wide one: the same rows with offsets and sizes, run ends or keys stored wider, alike in every source
 -- (columnar/specs/Wider.antt, and of the lent tables specs/Stored.antt), the same sharing of dictionaries, the same choice at the opening.
-use mathlib.Core.Path.{_≡_, refl, sym, ap₂, subst, _∙_}
+use mathlib.Core.Path.{_≡_, refl, sym, ap, ap₂, subst, _∙_}
 use mathlib.Core.Bool.{Bool, true, false}
 use mathlib.Core.List.{List}
 use Prim.Native.Nat.{ℕ, _≤_}
@@ -57,39 +57,42 @@ module _ (n w : Lending) (bytes-n : Bytes n) (bytes-w : Bytes w) (accepted-n : o
   pub wide-sources : sourcesGround (w .formats) (w .schema) (w .tables) (w .sources) ≡ 0
   wide-sources =
       let taken = runs n bytes-n accepted-n .accepted in
-      let obey = sources-of (n .formats) (n .schema) (n .sources) (n .tables) (n .keep) taken .obey in
+      let obey = sources-of (n .formats) (n .schema) (n .sources) (n .tables) (n .keep) (n .gaps) taken .obey in
       sources-taken n w stored taken (λ s l. let e = stored .same-count in again-sources d (sourcesIn n) (columnsIn n) (columnsIn w) again obey s (omega arith))
 
   wide-done : openData (typeIn w) (sourcesIn w) (λ j. columnsIn w j .body) ≡ done tt
   wide-done =
       let o = runs n bytes-n accepted-n in
-      let given = sources-of (n .formats) (n .schema) (n .sources) (n .tables) (n .keep) (o .accepted) in
-      let given-w = sources-of (w .formats) (w .schema) (w .sources) (w .tables) (w .keep) wide-sources in
-      let narrow = open-model (lentOf n .plan) (n .parts) (typeIn n) (n .keep) (sourcesIn n) (columnsIn n) (start (typeIn n) (n .keep) (sourcesIn n) (columnsIn n)) (o .model) in
-      let q = opening-wider d (given .formed) (given-w .formed) (sourcesIn n) (columnsIn n) (columnsIn w) again (given .obey) (n .keep) (start (typeIn n) (n .keep) (sourcesIn n) (columnsIn n)) narrow in
+      let given = sources-of (n .formats) (n .schema) (n .sources) (n .tables) (n .keep) (n .gaps) (o .accepted) in
+      let given-w = sources-of (w .formats) (w .schema) (w .sources) (w .tables) (w .keep) (w .gaps) wide-sources in
+      let narrow = open-model (lentOf n .plan) (n .parts) (n .gaps) (typeIn n) (n .keep) (sourcesIn n) (columnsIn n) (start (n .gaps) (typeIn n) (n .keep) (sourcesIn n) (columnsIn n)) (o .model) in
+      let q = opening-wider d (given .formed) (given-w .formed) (sourcesIn n) (columnsIn n) (columnsIn w) again (given .obey) (n .gaps) (n .keep) (start (n .gaps) (typeIn n) (n .keep) (sourcesIn n) (columnsIn n)) narrow in
       subst (λ k. openData (typeIn w) k (λ j. columnsIn w j .body) ≡ done tt) (stored .same-count) (opened-first (openData (typeIn w) (sourcesIn n) (λ j. columnsIn w j .body)) _ _ q)
 
   -- IT IS ACCEPTED, or 13 stands: a room of at most 2^32 - 1 bytes, where 14 does not stand
-  pub wide-opens : length (w .room) ≤ 4294967295 → roomPlaced (w .formats) (w .schema) (w .sources) (w .tables) (w .keep) (w .parts) (w .plan) (w .counters) (w .room) ≡ true
+  pub wide-opens : length (w .room) ≤ 4294967295 → roomPlaced (w .formats) (w .schema) (w .sources) (w .tables) (w .keep) (w .gaps) (w .parts) (w .plan) (w .counters) (w .room) ≡ true
       → OpensWide (openingOf w .ground)
   wide-opens small placed =
-      subst OpensWide (sym (opening-ground (w .formats) (w .schema) (w .sources) (w .tables) (w .keep) (w .parts) (w .plan) (w .counters) (w .room) (bytes-w .body-bytes) (bytes-w .room-bytes) small wide-sources placed))
-      (tested-only (openData (typeIn w) (sourcesIn w) (λ j. columnsIn w j .body)) (openFits (lentOf w .plan) (w .parts) (typeIn w) 0 (sourcesIn w) (λ j. columnsIn w j .body) (start (typeIn w) (w .keep) (sourcesIn w) (columnsIn w))) (start (typeIn w) (w .keep) (sourcesIn w) (columnsIn w)) wide-done)
+      subst OpensWide (sym (opening-ground (w .formats) (w .schema) (w .sources) (w .tables) (w .keep) (w .gaps) (w .parts) (w .plan) (w .counters) (w .room) (bytes-w .body-bytes) (bytes-w .room-bytes) small wide-sources placed))
+      (tested-only (openData (typeIn w) (sourcesIn w) (λ j. columnsIn w j .body)) (openFits (lentOf w .plan) (w .parts) (typeIn w) 0 (sourcesIn w) (λ j. columnsIn w j .body) (start (w .gaps) (typeIn w) (w .keep) (sourcesIn w) (columnsIn w))) (start (w .gaps) (typeIn w) (w .keep) (sourcesIn w) (columnsIn w)) wide-done)
 
 -- ---- THE CALLS
 
 -- n narrow, w wide; both openings are accepted
 module _ (n w : Lending) (bytes-n : Bytes n) (bytes-w : Bytes w) (accepted-n : openingOf n .ground ≡ 0) (accepted-w : openingOf w .ground ≡ 0)
-    (d : Wider (typeIn n) (typeIn w)) (same-count : sourcesIn n ≡ sourcesIn w) (same-choice : n .keep ≡ w .keep) (again : Again d (sourcesIn n) (columnsIn n) (columnsIn w)) where
+    (d : Wider (typeIn n) (typeIn w)) (same-count : sourcesIn n ≡ sourcesIn w) (same-choice : n .keep ≡ w .keep) (same-gaps : n .gaps ≡ w .gaps) (again : Again d (sourcesIn n) (columnsIn n) (columnsIn w)) where
   same-keeps : keepsIn n ≡ keepsIn w
   same-keeps = keeps-wider (n .keep) (sourcesIn n) (columnsIn n) (columnsIn w) (again .each) ∙ ap₂ (λ u k. keeps u k (columnsIn w)) same-choice same-count
 
-  pub moved : (P : Bool → ℕ → Counts → Type 0) → P (keepsIn n) (sourcesIn n) (startCounts (typeIn n)) → P (keepsIn w) (sourcesIn w) (startCounts (typeIn w))
-  moved P h = subst (P (keepsIn w) (sourcesIn w)) (start-counts-wider d) (subst (λ k. P (keepsIn w) k (startCounts (typeIn n))) same-count (subst (λ b. P b (sourcesIn n) (startCounts (typeIn n))) same-keeps h))
+  start-wide : startCounts (n .gaps) (typeIn n) ≡ startCounts (w .gaps) (typeIn w)
+  start-wide = start-counts-wider (n .gaps) d ∙ ap (λ g. startCounts g (typeIn w)) same-gaps
 
-  pub moved-back : (P : Bool → ℕ → Counts → Type 0) → P (keepsIn w) (sourcesIn w) (startCounts (typeIn w)) → P (keepsIn n) (sourcesIn n) (startCounts (typeIn n))
+  pub moved : (P : Bool → ℕ → Counts → Type 0) → P (keepsIn n) (sourcesIn n) (startCounts (n .gaps) (typeIn n)) → P (keepsIn w) (sourcesIn w) (startCounts (w .gaps) (typeIn w))
+  moved P h = subst (P (keepsIn w) (sourcesIn w)) start-wide (subst (λ k. P (keepsIn w) k (startCounts (n .gaps) (typeIn n))) same-count (subst (λ b. P b (sourcesIn n) (startCounts (n .gaps) (typeIn n))) same-keeps h))
+
+  pub moved-back : (P : Bool → ℕ → Counts → Type 0) → P (keepsIn w) (sourcesIn w) (startCounts (w .gaps) (typeIn w)) → P (keepsIn n) (sourcesIn n) (startCounts (n .gaps) (typeIn n))
   moved-back P h =
-      subst (λ b. P b (sourcesIn n) (startCounts (typeIn n))) (sym same-keeps) (subst (λ k. P (keepsIn w) k (startCounts (typeIn n))) (sym same-count) (subst (P (keepsIn w) (sourcesIn w)) (sym (start-counts-wider d)) h))
+      subst (λ b. P b (sourcesIn n) (startCounts (n .gaps) (typeIn n))) (sym same-keeps) (subst (λ k. P (keepsIn w) k (startCounts (n .gaps) (typeIn n))) (sym same-count) (subst (P (keepsIn w) (sourcesIn w)) (sym start-wide) h))
 
   -- the accepted calls of a list, made again on the wide join
   pub record Wide (os : List Call) : Type 0 where
@@ -100,8 +103,8 @@ module _ (n w : Lending) (bytes-n : Bytes n) (bytes-w : Bytes w) (accepted-n : o
   -- STORING WIDER CHANGES NO ROW, where room is enough
   pub stored-wider : (os : List Call) → Enough w (acceptedOf n os) → Wide os
   stored-wider os enough =
-      let obey = sources-of (n .formats) (n .schema) (n .sources) (n .tables) (n .keep) (runs n bytes-n accepted-n .accepted) .obey in
-      let r = wide-room (lentOf n .plan) (n .parts) (lentOf w .plan) (w .parts) d (sourcesIn n) (columnsIn n) (columnsIn w) again obey (keepsIn n) os (startCounts (typeIn n))
+      let obey = sources-of (n .formats) (n .schema) (n .sources) (n .tables) (n .keep) (n .gaps) (runs n bytes-n accepted-n .accepted) .obey in
+      let r = wide-room (lentOf n .plan) (n .parts) (lentOf w .plan) (w .parts) d (sourcesIn n) (columnsIn n) (columnsIn w) again obey (keepsIn n) os (startCounts (n .gaps) (typeIn n))
       (moved-back (λ b k c. RoomEnough (lentOf w .plan) (w .parts) (typeIn w) b k (columnsIn w) (acceptedOf n os) c) enough) in
       let all = moved (λ b k c. AllAcceptedRoom (lentOf w .plan) (w .parts) (typeIn w) b k (columnsIn w) (acceptedOf n os) c) (r .all-accepted) in
       record {
@@ -120,10 +123,10 @@ opens-then g (no-room e) h = absurd (h e)
 
 -- "room is enough where neither 13 nor 14 stands"; the room is a body, of at most 2^32 - 1 bytes
 module _ (n w : Lending) (bytes-n : Bytes n) (bytes-w : Bytes w) (accepted-n : openingOf n .ground ≡ 0) (d : Wider (typeIn n) (typeIn w)) (stored : StoredWider n w)
-    (again : Again d (sourcesIn n) (columnsIn n) (columnsIn w)) (same-choice : n .keep ≡ w .keep) (small : length (w .room) ≤ 4294967295)
+    (again : Again d (sourcesIn n) (columnsIn n) (columnsIn w)) (same-choice : n .keep ≡ w .keep) (same-gaps : n .gaps ≡ w .gaps) (small : length (w .room) ≤ 4294967295)
     (no-13 : openingOf w .ground ≡ 13 → ⊥) (no-14 : openingOf w .ground ≡ 14 → ⊥) where
   abbrev placed : Bool
-  placed = roomPlaced (w .formats) (w .schema) (w .sources) (w .tables) (w .keep) (w .parts) (w .plan) (w .counters) (w .room)
+  placed = roomPlaced (w .formats) (w .schema) (w .sources) (w .tables) (w .keep) (w .gaps) (w .parts) (w .plan) (w .counters) (w .room)
 
   -- THE OPENING IS ACCEPTED
   pub opens-again : openingOf w .ground ≡ 0
@@ -134,5 +137,5 @@ module _ (n w : Lending) (bytes-n : Bytes n) (bytes-w : Bytes w) (accepted-n : o
       go false e = absurd (no-14 (parts-next w (le-leb (length (w .room)) 4294967295 small) (eq-eqb _ 0 (wide-sources n w bytes-n bytes-w accepted-n d stored again)) e))
 
   -- AND ALL THE ACCEPTED CALLS, with the same rows
-  pub made-again : (os : List Call) → No13 (groundsIn w (acceptedOf n os)) → Wide n w bytes-n bytes-w accepted-n opens-again d (stored .same-count) same-choice again os
-  made-again os room = stored-wider n w bytes-n bytes-w accepted-n opens-again d (stored .same-count) same-choice again os (enough-room w bytes-w opens-again (acceptedOf n os) .0 room)
+  pub made-again : (os : List Call) → No13 (groundsIn w (acceptedOf n os)) → Wide n w bytes-n bytes-w accepted-n opens-again d (stored .same-count) same-choice same-gaps again os
+  made-again os room = stored-wider n w bytes-n bytes-w accepted-n opens-again d (stored .same-count) same-choice same-gaps again os (enough-room w bytes-w opens-again (acceptedOf n os) .0 room)

@@ -132,7 +132,7 @@ module _ (l : Lending) where
 
   -- by lengths alone
   abbrev pub heldItems : List Item → Counts
-  heldItems is = itemsHeld (lentOf l .plan) (l .parts) (typeIn l) (keepsIn l) (sourcesIn l) (columnsIn l) is (startCounts (typeIn l))
+  heldItems is = itemsHeld (lentOf l .plan) (l .parts) (typeIn l) (keepsIn l) (sourcesIn l) (columnsIn l) is (startCounts (l .gaps) (typeIn l))
 
   abbrev pub answerItem : List Item → Item → Try Counts
   answerItem is i = itemAnswer (lentOf l .plan) (l .parts) (typeIn l) (keepsIn l) (sourcesIn l) (columnsIn l) i (heldItems is)
@@ -141,13 +141,13 @@ module _ (l : Lending) where
   placeItem is os = tripPlace (lentOf l .plan) (l .parts) (typeIn l) (keepsIn l) (sourcesIn l) (columnsIn l) os (heldItems is)
 
   abbrev pub bookItems : List Item → List Row
-  bookItems is = itemsBook (lentOf l .plan) (l .parts) (typeIn l) (keepsIn l) (sourcesIn l) (columnsIn l) is (startCounts (typeIn l))
+  bookItems is = itemsBook (lentOf l .plan) (l .parts) (typeIn l) (keepsIn l) (sourcesIn l) (columnsIn l) is (startCounts (l .gaps) (typeIn l))
 
   abbrev pub nullsItems : List Item → ℕ
-  nullsItems is = itemsNulls (lentOf l .plan) (l .parts) (typeIn l) (keepsIn l) (sourcesIn l) (columnsIn l) is (startCounts (typeIn l))
+  nullsItems is = itemsNulls (lentOf l .plan) (l .parts) (typeIn l) (keepsIn l) (sourcesIn l) (columnsIn l) is (startCounts (l .gaps) (typeIn l))
 
   abbrev pub callsCarried : List Item → List Call
-  callsCarried is = carriedCalls (lentOf l .plan) (l .parts) (typeIn l) (keepsIn l) (sourcesIn l) (columnsIn l) is (startCounts (typeIn l))
+  callsCarried is = carriedCalls (lentOf l .plan) (l .parts) (typeIn l) (keepsIn l) (sourcesIn l) (columnsIn l) is (startCounts (l .gaps) (typeIn l))
 
   abbrev pub itemsAccepted : List Item → List Item
-  itemsAccepted is = acceptedItems (lentOf l .plan) (l .parts) (typeIn l) (keepsIn l) (sourcesIn l) (columnsIn l) is (startCounts (typeIn l))
+  itemsAccepted is = acceptedItems (lentOf l .plan) (l .parts) (typeIn l) (keepsIn l) (sourcesIn l) (columnsIn l) is (startCounts (l .gaps) (typeIn l))

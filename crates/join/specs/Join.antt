@@ -26,13 +26,15 @@ use Rattle.opening.specs.Fits.{openIn}
 use Rattle.finishing.specs.Finish.{Finished, tablesFit, finishing}
 use Rattle.finishing.specs.Shows.{finishedTables}
 
--- WHAT A CALLER LENDS to an opening (docs/FORMAT.md), and whether nulls are to be kept
+-- WHAT A CALLER LENDS to an opening (docs/FORMAT.md), whether nulls are to be kept, and whether one run for a gap is chosen: a null order then
+-- "lengthens the last run exactly if that run was itself written by an accepted null order and nothing but later null orders was added to that node since"
 pub record Lending : Type 0 where
   pub formats : List ℕ
   pub schema : List ℕ
   pub sources : List ℕ
   pub tables : Tables
   pub keep : Bool
+  pub gaps : Bool
   pub parts : List ℕ
   pub plan : List ℕ
   pub counters : List ℕ
@@ -66,11 +68,11 @@ module _ (l : Lending) where
 
   -- THE OPENING
   abbrev pub openingOf : Opening
-  openingOf = opening (l .formats) (l .schema) (l .sources) (l .tables) (l .keep) (l .parts) (l .plan) (l .counters) (l .room)
+  openingOf = opening (l .formats) (l .schema) (l .sources) (l .tables) (l .keep) (l .gaps) (l .parts) (l .plan) (l .counters) (l .room)
 
   -- what every call after it is lent: its plan, and the rest as it was
   abbrev pub lentOf : Lent
-  lentOf = opened (l .formats) (l .schema) (l .sources) (l .tables) (l .keep) (l .parts)
+  lentOf = opened (l .formats) (l .schema) (l .sources) (l .tables) (l .keep) (l .gaps) (l .parts)
 
   -- ANY LIST OF CALLS, from the counters and the room that the opening leaves
   abbrev pub afterCalls : List Call → After
@@ -111,12 +113,12 @@ module _ (l : Lending) where
       guard (leb (length (l .room)) 4294967295) 9
       (then (cond (eqb (sourcesGround (l .formats) (l .schema) (l .tables) (l .sources)) 0) (done tt) (stop (sourcesGround (l .formats) (l .schema) (l .tables) (l .sources))))
       (λ (u : Unit {0}).
-      guard (roomPlaced (l .formats) (l .schema) (l .sources) (l .tables) (l .keep) (l .parts) (l .plan) (l .counters) (l .room)) 14
-      (openIn (lentOf .plan) (l .parts) typeIn (l .keep) sourcesIn columnsIn)))
+      guard (roomPlaced (l .formats) (l .schema) (l .sources) (l .tables) (l .keep) (l .gaps) (l .parts) (l .plan) (l .counters) (l .room)) 14
+      (openIn (lentOf .plan) (l .parts) (l .gaps) typeIn (l .keep) sourcesIn columnsIn)))
 
   -- what is held after these calls, by lengths alone
   abbrev pub heldAfter : List Call → Counts
-  heldAfter os = countsAfter (lentOf .plan) (l .parts) typeIn keepsIn sourcesIn columnsIn os (startCounts typeIn)
+  heldAfter os = countsAfter (lentOf .plan) (l .parts) typeIn keepsIn sourcesIn columnsIn os (startCounts (l .gaps) typeIn)
 
   -- the answer to one more call, by lengths and limits alone
   abbrev pub callAnswer : List Call → Call → Try Counts
@@ -124,7 +126,7 @@ module _ (l : Lending) where
 
   -- THE BOOK, "fed the calls alone"
   abbrev pub bookOf : List Call → List Row
-  bookOf os = bookRoom (lentOf .plan) (l .parts) typeIn keepsIn sourcesIn columnsIn os (startCounts typeIn)
+  bookOf os = bookRoom (lentOf .plan) (l .parts) typeIn keepsIn sourcesIn columnsIn os (startCounts (l .gaps) typeIn)
 
   -- .. or the calls with what each was answered
   abbrev pub bookAnswered : List Call → List ℕ → List Row
@@ -132,18 +134,18 @@ module _ (l : Lending) where
 
   -- the nulls that the calls count
   abbrev pub nullsOf : List Call → ℕ
-  nullsOf os = nullsRoom (lentOf .plan) (l .parts) typeIn keepsIn sourcesIn columnsIn os (startCounts typeIn)
+  nullsOf os = nullsRoom (lentOf .plan) (l .parts) typeIn keepsIn sourcesIn columnsIn os (startCounts (l .gaps) typeIn)
 
   -- the calls that are accepted, whether all of a list are, and whether room is enough for them
   abbrev pub acceptedOf : List Call → List Call
-  acceptedOf os = acceptedRoom (lentOf .plan) (l .parts) typeIn keepsIn sourcesIn columnsIn os (startCounts typeIn)
+  acceptedOf os = acceptedRoom (lentOf .plan) (l .parts) typeIn keepsIn sourcesIn columnsIn os (startCounts (l .gaps) typeIn)
 
   abbrev pub AllAccepted : List Call → Type 0
-  AllAccepted os = AllAcceptedRoom (lentOf .plan) (l .parts) typeIn keepsIn sourcesIn columnsIn os (startCounts typeIn)
+  AllAccepted os = AllAcceptedRoom (lentOf .plan) (l .parts) typeIn keepsIn sourcesIn columnsIn os (startCounts (l .gaps) typeIn)
 
   abbrev pub Enough : List Call → Type 0
-  Enough os = RoomEnough (lentOf .plan) (l .parts) typeIn keepsIn sourcesIn columnsIn os (startCounts typeIn)
+  Enough os = RoomEnough (lentOf .plan) (l .parts) typeIn keepsIn sourcesIn columnsIn os (startCounts (l .gaps) typeIn)
 
   -- the model's destination after these calls (model/specs/Transform.antt follows the Rust)
   abbrev pub reachedBy : List Call → Destination typeIn
-  reachedBy os = answersIn (lentOf .plan) (l .parts) typeIn sourcesIn columnsIn os (start typeIn (l .keep) sourcesIn columnsIn)
+  reachedBy os = answersIn (lentOf .plan) (l .parts) typeIn sourcesIn columnsIn os (start (l .gaps) typeIn (l .keep) sourcesIn columnsIn)

@@ -4,3 +4,6 @@ pub mod Based
 pub mod Said
 pub mod Stored
 pub mod Items
+pub mod Rust
+pub mod Gap
+pub mod Written

@@ -79,6 +79,10 @@ module _ (tree : List ℕ) (x : Tables) (r : ℕ) (answer : List ℕ) where
 abbrev pub keeps : ℕ → Bool
 keeps k = not (eqb k 0)
 
+-- the choice of one run for a gap, by which a null order may lengthen the last run: by a number that is not 0
+abbrev pub grows : ℕ → Bool
+grows k = not (eqb k 0)
+
 -- the node of a part, and its buffer; the largest number of 64 bits where there is none
 abbrev pub spotNode : Spot → ℕ
 spotNode (spot.Of i b) = i

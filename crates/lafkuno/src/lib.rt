@@ -21,7 +21,7 @@ ghost use Rattle.with_capacities.specs.Answer.{Plans};
 ghost use Rattle.transform.specs.Answer.{lent, Answers};
 ghost use Rattle.into_builder.specs.Answer as Finished;
 ghost use Rattle.measure.specs.Answer.{Measures};
-ghost use Rattle.lafkuno.specs.Calls.{openGround, openTree, leafKind, leafNumber, rowKind, rowNumbers, readKind, readNumbers, keeps, spotNode, spotBuffer};
+ghost use Rattle.lafkuno.specs.Calls.{openGround, openTree, leafKind, leafNumber, rowKind, rowNumbers, readKind, readNumbers, keeps, grows, spotNode, spotBuffer};
 ghost use Rattle.aggregates.specs.Report.{meanReport, ratioReport};
 ghost use Rattle.lafkuno.specs.Sums.{flagOf, meanWords, ratioWords, meanGround, meanNumbers, ratioGround, ratioNumbers};
 use aggregates::MeanAnswer;
@@ -301,6 +301,7 @@ pub extern "C" fn lafkuno_read_run(
 // ---- opening a join
 
 // Which parts a join has, before any room is lent: 0 and the plan, or the ground of refusal. A node keeps nulls where it must, or keep is not 0.
+// Where gaps is not 0, there is one run for a gap.
 #[no_mangle]
 pub extern "C" fn lafkuno_plan_parts(
     sources: &[u32],
@@ -311,9 +312,10 @@ pub extern "C" fn lafkuno_plan_parts(
     buffers: &[u32],
     body: &[u8],
     keep: u8,
+    gaps: u8,
     plan: &mut [u64],
 ) -> u8
-    ensures { λ r. ⌜ Plans (asked (now (formats .entry)) (now (schema .entry)) (now (sources .entry)) (tablesOf (now (lengths .entry)) (now (places .entry)) (now (buffers .entry)) (now (body .entry))) (keeps keep) (now (plan .entry))) r (now (plan .exit)) ⌝ }
+    ensures { λ r. ⌜ Plans (asked (now (formats .entry)) (now (schema .entry)) (now (sources .entry)) (tablesOf (now (lengths .entry)) (now (places .entry)) (now (buffers .entry)) (now (body .entry))) (keeps keep) (grows gaps) (now (plan .entry))) r (now (plan .exit)) ⌝ }
 {
     with_capacities::plan_parts(
         sources,
@@ -324,6 +326,7 @@ pub extern "C" fn lafkuno_plan_parts(
         buffers,
         body,
         keep != 0,
+        gaps != 0,
         plan,
     )
 }
@@ -339,12 +342,13 @@ pub extern "C" fn lafkuno_open(
     buffers: &[u32],
     body: &[u8],
     keep: u8,
+    gaps: u8,
     parts: &[u32],
     plan: &mut [u64],
     counters: &mut [u64],
     room: &mut [u8],
 ) -> u8
-    ensures { λ r. ⌜ Opened.Answers (opening (now (formats .entry)) (now (schema .entry)) (now (sources .entry)) (tablesOf (now (lengths .entry)) (now (places .entry)) (now (buffers .entry)) (now (body .entry))) (keeps keep) (now (parts .entry)) (now (plan .entry)) (now (counters .entry)) (now (room .entry))) r (now (plan .exit)) (now (counters .exit)) (now (room .exit)) ⌝ }
+    ensures { λ r. ⌜ Opened.Answers (opening (now (formats .entry)) (now (schema .entry)) (now (sources .entry)) (tablesOf (now (lengths .entry)) (now (places .entry)) (now (buffers .entry)) (now (body .entry))) (keeps keep) (grows gaps) (now (parts .entry)) (now (plan .entry)) (now (counters .entry)) (now (room .entry))) r (now (plan .exit)) (now (counters .exit)) (now (room .exit)) ⌝ }
 {
     with_capacities::try_with_capacities(
         sources,
@@ -355,6 +359,7 @@ pub extern "C" fn lafkuno_open(
         buffers,
         body,
         keep != 0,
+        gaps != 0,
         parts,
         plan,
         counters,

@@ -194,6 +194,7 @@ module _ (state : List ℕ) where
           n .rows-same ∙ h .0,
           n .at-same 1 ∙ h .1,
           below-held k t (suc (suc i)) (d .values) (w .4) (λ j a b. s .below-same j (omega arith) (omega arith)) (data-held k t (suc (suc i)) (d .values .«data») (w .4)) (h .2),
+          s .bytes-same ∙ h .3,
         )
     data-held (suc k) (tDictionary n p) i d w s h = s .at-same 1 ∙ h
 

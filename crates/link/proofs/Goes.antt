@@ -51,6 +51,12 @@ goes-guard {A} {μ} {Q} {t} {o} b b′ g c p e h = subst (λ z. Goes μ Q (guard
     go true h = h refl
     go false h = over g (fail g c) refl p
 
+-- the same choice in both
+pub goes-cond : {A : Type 0} {μ : Memory} {Q : A → List ℕ → Memory → Type 0} {t t′ : Try A} {o o′ : Out} (b : Bool) → (b ≡ true → Goes μ Q t o) → (b ≡ false → Goes μ Q t′ o′)
+    → Goes μ Q (cond b t t′) (cond b o o′)
+goes-cond true h k = h refl
+goes-cond false h k = k refl
+
 -- a test of the walk alone, which holds
 pub goes-need : {A : Type 0} {μ : Memory} {Q : A → List ℕ → Memory → Type 0} {t : Try A} {o : Out} (b : Bool) (g : ℕ) (c : List ℕ) → b ≡ true
     → Goes μ Q t o → Goes μ Q t (need b g c o)

@@ -15,7 +15,7 @@ use Rattle.columnar.specs.Array.{item}
 use Rattle.columnar.proofs.Items.{number-take, entry-end}
 use Rattle.formats.specs.Code.{between, widths, widthOf}
 use Rattle.walk.specs.State.{Join, far, rowsIn}
-use Rattle.link.specs.Memory.{Memory, putIn}
+use Rattle.link.specs.Memory.{Memory, putIn, amendIn}
 use Rattle.link.specs.Holds.{Worded}
 use Rattle.link.specs.Lent.{Part}
 use Rattle.link.proofs.Frame.{SameAt, same-refl, same-then}
@@ -62,6 +62,14 @@ module _ (i b : ℕ) (bs : List ℕ) (μ : Memory) where
 
   pub put-other : (c : List ℕ) (j : ℕ) → (j ≡ i → ⊥) → SameAt c c μ (putIn i b bs μ) j
   put-other c j h = record { rows-same = refl; nulls-same = refl; bytes-same = refl; at-same = λ e. rw (ne-eqb j i h); bits-same = refl }
+
+-- .. a write over the last bytes
+module _ (i b o : ℕ) (bs : List ℕ) (μ : Memory) where
+  pub amend-here : amendIn i b o bs μ .at i b ≡ take o (μ .at i b) ++ bs
+  amend-here = rw (eq-eqb i i refl, eq-eqb b b refl)
+
+  pub amend-other : (c : List ℕ) (j : ℕ) → (j ≡ i → ⊥) → SameAt c c μ (amendIn i b o bs μ) j
+  amend-other c j h = record { rows-same = refl; nulls-same = refl; bytes-same = refl; at-same = λ e. rw (ne-eqb j i h); bits-same = refl }
 
 -- the data of a node, left as it was, and changed twice
 pub data-kept-refl : (i e : ℕ) (c : List ℕ) (μ : Memory) → DataKept i e c c μ μ

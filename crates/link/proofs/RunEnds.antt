@@ -1,80 +1,89 @@
 -- Run-end nodes: a copy of runs, and nulls. Assumes nothing.
-use mathlib.Core.Path.{_≡_, refl, sym, ap, _∙_}
-use mathlib.Core.Bool.{and-true}
+use mathlib.Core.Path.{_≡_, refl, sym, ap, ap₂, _∙_}
+use mathlib.Core.Bool.{and-true, cond}
 use mathlib.Core.List.{List, _++_}
-use Prim.Native.Nat.{ℕ, zero, suc, _+_, _-_, _*_, _≤_, _<_}
-use native.Mathlib.Nat.{mul-add}
+use Prim.Native.Nat.{ℕ, zero, suc, _+_, _-_, _*_, _≤_, _<_, min}
+use native.Mathlib.Nat.{mul-add, suc-mul}
 use native.Mathlib.Omega.{arith}
-use lib.ListN.{length, drop}
-use lib.Dec.{ltb}
-use borrow.Author.Tests.{ltb-true, lt-ltb, ne-eqb}
+use lib.ListN.{length, take, drop}
+use lib.Dec.{ltb, leb, eqb}
+use borrow.Author.Tests.{ltb-true, lt-ltb, le-leb, eqb-true, ne-eqb}
 use Rattle.number.specs.Number.{number, entry, encode}
 use Rattle.columnar.specs.Types.{half, Ty, tRunEnd}
-use Rattle.columnar.specs.Array.{item}
+use Rattle.number.proofs.Laws.{length-encode}
+use Rattle.columnar.specs.Array.{item, readWith}
 use Rattle.columnar.specs.RunEnd.{RunEnd, startOf}
-use Rattle.columnar.specs.Reading.{Column, masks}
+use Rattle.columnar.specs.Reading.{Column, masks, slotAt}
 use Rattle.run_ends.specs.declared.Runs.the-variants.{Range}
-use Rattle.model.specs.Try.{done}
+use Rattle.model.specs.Try.{done, then, guard}
+use Rattle.model.specs.Mutable.{freezeNode, nullsNode}
+use Rattle.model.specs.Ordered.{nullRow}
 use Rattle.model.specs.Grounds.{firstRun, runCount}
-use Rattle.model.specs.Runs.{Runs, lastEnd, clipped, moreEnds}
-use Rattle.model.specs.Transform.{Grown, Destination, extendData}
-use Rattle.model.proofs.Law.{FineNode}
-use Rattle.model.proofs.Nodes.{RunsFine, fineOf}
+use Rattle.model.specs.Runs.{Runs, lastEnd, clipped, moreEnds, overEnd}
+use Rattle.model.specs.Transform.{Grown, Destination, extendData, nullsData, freezeData}
+use Rattle.model.proofs.Law.{FineNode, KeepNode}
+use Rattle.model.proofs.Nodes.{RunsFine, fineOf, keepOf}
 use Rattle.model.proofs.Ends.{clip, clip-ends, in-order, last-run}
-use Rattle.walk.specs.State.{Join, far, codeOf, bytesOf, endOf, rows, addRows, top, place, lengthOf, offsetOf, rowsIn}
-use Rattle.walk.specs.Log.{put, wrote, need, next}
+use Rattle.walk.specs.State.{Join, far, codeOf, bytesOf, endOf, rows, bytes, gap, addRows, setBytes, endGap, beginGap, top, place, lengthOf, offsetOf, rowsIn}
+use Rattle.walk.specs.Log.{put, amend, wrote, need, next}
 use Rattle.walk.specs.Copy.{Walk, copyData, copyRuns, putRuns, runsAt}
-use Rattle.walk.specs.Nulls.{NullWalk, nullData, nullRuns}
-use Rattle.link.specs.Memory.{Memory, putIn}
+use Rattle.walk.specs.Nulls.{NullWalk, nullData, addRun, growRun, nullRuns}
+use Rattle.link.specs.Memory.{Memory, putIn, amendIn}
 use Rattle.link.specs.Holds.{Worded, HoldsData, Holds}
-use Rattle.link.proofs.Goes.{Goes, goes-done, goes-guard, goes-need, goes-wrote, goes-then}
+use Rattle.link.proofs.Goes.{Goes, goes-done, goes-guard, goes-cond, goes-need, goes-wrote, goes-then}
 use Rattle.link.proofs.Frame.{SameAt, same-then, Kept, worded-span, held-same}
-use Rattle.link.proofs.Counters.{grown-is, rows-added, rows-other, nulls-of-rows, bytes-of-rows, long-rows}
+use Rattle.link.proofs.Counters.{grown-is, rows-added, rows-other, nulls-of-rows, bytes-of-rows, bytes-set, bytes-other, rows-of-bytes, nulls-of-bytes, long-rows, long-bytes}
 use Rattle.link.proofs.Owed.{DataKept, Given, Copies, CopiesData, Fills, FillsData}
-use Rattle.link.proofs.Places.{data-kept-refl, part-entry, rows-in, put-here, put-other, worded-small, small-of, width-small, half-far, half-wide}
+use Rattle.link.proofs.Places.{data-kept-refl, part-entry, rows-in, put-here, put-other, amend-here, amend-other, worded-small, small-of, width-small, half-far, half-wide}
+use Rattle.link.proofs.Writes.{goes-write}
 use Rattle.link.proofs.RunLookups.{many-rows, runs-are, clipped-is}
 
 -- entries a on
 entry-from : (w : ℕ) (s : List ℕ) (from a k : ℕ) → entry w s (from + w * a) k ≡ entry w s from (a + k)
 entry-from w s from a k = ap (λ z. number w (drop z s)) (let e : w * (a + k) ≡ w * a + w * k = mul-add w a k in let z : from + w * a + w * k ≡ from + w * (a + k) = omega arith in z)
 
--- ---- `count` ends written behind those of node i + 1, where the values are done
+-- ---- `count` ends written behind those of node i + 1, where the values are done; y: the gap from then on
 
 module _ (state : List ℕ) (k w : ℕ) (t : Ty) (i : ℕ) (wd : Worded state (suc k) (tRunEnd w t) i) (c c2 : List ℕ) (μ ν : Memory)
-    (p : Kept (suc (suc i)) (endOf state (suc (suc i))) c c2 μ ν) (new : List ℕ) (count : ℕ) where
+    (p : Kept (suc (suc i)) (endOf state (suc (suc i))) c c2 μ ν) (new : List ℕ) (count y : ℕ) where
+  abbrev Added : List ℕ
+  Added = addRows (suc i) count c2
+
   abbrev Counted : List ℕ
-  Counted = addRows (suc i) count c2
+  Counted = setBytes i y Added
 
   abbrev Behind : Memory
   Behind = putIn (suc i) 1 new ν
 
-  ends-other : (j : ℕ) → (j ≡ suc i → ⊥) → SameAt c2 Counted ν Behind j
-  ends-other j h =
+  ends-other : (j : ℕ) → (j ≡ suc i → ⊥) → (j ≡ i → ⊥) → SameAt c2 Counted ν Behind j
+  ends-other j h g =
       let s = put-other (suc i) 1 new ν c2 j h in
       record {
-        rows-same = rows-other c2 (suc i) count j h;
-        nulls-same = nulls-of-rows c2 (suc i) count j;
-        bytes-same = bytes-of-rows c2 (suc i) count j;
+        rows-same = rows-of-bytes Added i y j ∙ rows-other c2 (suc i) count j h;
+        nulls-same = nulls-of-bytes Added i y j ∙ nulls-of-rows c2 (suc i) count j;
+        bytes-same = bytes-other Added i y j g ∙ bytes-of-rows c2 (suc i) count j;
         at-same = s .at-same;
         bits-same = s .bits-same;
       }
 
-  before : (j : ℕ) → j < suc i → SameAt c Counted μ Behind j
-  before j q = same-then (p .outside j (λ a b. omega arith)) (ends-other j (λ e. omega (arith, e)))
-
   ends-kept : DataKept i (endOf state i) c Counted μ Behind
   ends-kept =
-      let own = before i (omega arith) in
+      let own = p .outside i (λ a b. omega arith) in
       let e : endOf state i ≡ endOf state (suc (suc i)) = wd .1 in
       let z = worded-span state k t (suc (suc i)) (wd .4) in
       record {
-        long = long-rows (suc i) count c2 ∙ p .long;
-        rows-own = own .rows-same;
-        nulls-own = own .nulls-same;
+        long = long-bytes i y Added ∙ long-rows (suc i) count c2 ∙ p .long;
+        rows-own = rows-of-bytes Added i y i ∙ rows-other c2 (suc i) count i (λ z. omega (arith, z)) ∙ own .rows-same;
+        nulls-own = nulls-of-bytes Added i y i ∙ nulls-of-rows c2 (suc i) count i ∙ own .nulls-same;
         bits-own = own .bits-same;
         outside = λ j h.
-            same-then (p .outside j (λ a b. h (omega arith) (omega arith))) (ends-other j (λ y. h (omega (arith, y)) (omega (arith, y))));
+            same-then (p .outside j (λ a b. h (omega arith) (omega arith)))
+            (ends-other j (λ y. h (omega (arith, y)) (omega (arith, y))) (λ y. h (omega (arith, y)) (omega (arith, y))));
       }
+
+  -- the gap before
+  gap-was : bytes Added i ≡ bytes c i
+  gap-was = bytes-of-rows c2 (suc i) count i ∙ p .outside i (λ a b. omega arith) .bytes-same
 
   -- the ends as they were before
   ends-rows : rows c2 (suc i) ≡ rows c (suc i)
@@ -83,14 +92,15 @@ module _ (state : List ℕ) (k w : ℕ) (t : Ty) (i : ℕ) (wd : Worded state (s
   ends-at : ν .at (suc i) 1 ≡ μ .at (suc i) 1
   ends-at = p .outside (suc i) (λ a b. omega arith) .at-same 1
 
-  ends-held : (d : Runs (Grown t)) (v : Destination t) → length c ≡ 96 → rows c (suc i) ≡ d .ends .len → μ .at (suc i) 1 ≡ d .ends .«data» → d .ends .len + count ≤ top
-      → Holds state t (suc (suc i)) v c2 ν → HoldsData state (tRunEnd w t) i (record { ends = moreEnds new count (d .ends); values = v }) Counted Behind
-  ends-held d v long r b fits h =
+  ends-held : (d : Runs (Grown t)) (v : Destination t) (z : ℕ) → y ≡ z → length c ≡ 96 → rows c (suc i) ≡ d .ends .len → μ .at (suc i) 1 ≡ d .ends .«data» → d .ends .len + count ≤ top
+      → Holds state t (suc (suc i)) v c2 ν → HoldsData state (tRunEnd w t) i (record { ends = moreEnds new count (d .ends); values = v; gap = z }) Counted Behind
+  ends-held d v z f long r b fits h =
       let small : suc (suc i) < 32 = worded-small state k t (suc (suc i)) (wd .4) in
-      let z : rows c2 (suc i) ≡ d .ends .len = ends-rows ∙ r in (
-        rows-added c2 (p .long ∙ long) (suc i) (omega arith) count ∙ grown-is (rows c2 (suc i)) count (omega arith) ∙ ap (_+ count) z,
+      let q : rows c2 (suc i) ≡ d .ends .len = ends-rows ∙ r in (
+        rows-of-bytes Added i y (suc i) ∙ rows-added c2 (p .long ∙ long) (suc i) (omega arith) count ∙ grown-is (rows c2 (suc i)) count (omega arith) ∙ ap (_+ count) q,
         put-here (suc i) 1 new ν ∙ ap (_++ new) (ends-at ∙ b),
-        held-same state c2 Counted ν Behind k t (suc (suc i)) v (wd .4) (λ j a b. ends-other j (λ y. omega (arith, y))) h,
+        held-same state c2 Counted ν Behind k t (suc (suc i)) v (wd .4) (λ j a b. ends-other j (λ y. omega (arith, y)) (λ y. omega (arith, y))) h,
+        bytes-set Added (long-rows (suc i) count c2 ∙ p .long ∙ long) i (omega arith) y ∙ f,
       )
 
 module _ (x : Join) (k w : ℕ) (t : Ty) (i m : ℕ) (ss : ℕ → Column (tRunEnd w t)) (g : Given x (suc k) (tRunEnd w t) i m ss) where
@@ -101,7 +111,9 @@ module _ (x : Join) (k w : ℕ) (t : Ty) (i m : ℕ) (ss : ℕ → Column (tRunE
   kids j = ss j .body .values
 
   abbrev FineRuns : Runs (Grown t) → ℕ → Type 0
-  FineRuns = RunsFine w (FineNode (masks t) (fineOf t m (λ j. kids j .body)) m kids)
+  FineRuns =
+      RunsFine w (FineNode (masks t) (fineOf t m (λ j. kids j .body)) m kids)
+      (λ v. readWith (slotAt t) (freezeNode (masks t) (freezeData t m (λ j. kids j .body)) v)) (nullRow t)
 
   below : suc (suc i) < 32
   below = worded-small (x .state) k t (suc (suc i)) (g .worded .4)
@@ -133,9 +145,7 @@ module _ (x : Join) (k w : ℕ) (t : Ty) (i m : ℕ) (ss : ℕ → Column (tRunE
   null-is : (inner : NullWalk) (n : ℕ) (c : List ℕ)
       → nullRuns x inner i n c
       ≡ need (ltb (suc (suc i)) 32) 12 c
-      (next (inner (suc (suc i)) 1 c)
-      (λ c2. need (ltb (rows c2 i + n) (half w)) 7 c2
-      (next (wrote (put (suc i) 1 (rows c2 (suc i) * w) (encode w (rows c2 i + n))) c2) (λ c3. Rattle.walk.specs.Log.done (addRows (suc i) 1 c3)))))
+      (cond (eqb (gap c i) 2) (growRun x inner w i n c) (addRun x inner w i n c))
   unfolding nullRuns
   null-is inner n c = rw (g .worded .3, g .worded .5, and-true (ltb (suc (suc i)) 32))
 
@@ -224,10 +234,10 @@ module _ (x : Join) (k w : ℕ) (t : Ty) (i m : ℕ) (ss : ℕ → Column (tRunE
         (λ v c2 ν p.
         rw (last, ends-are (lastEnd w (d .«data» .ends)))
         (goes-wrote (put (suc i) 1 (rows c2 (suc i) * w) bytes) c2 _
-        (ap (_* w) (ends-rows (x .state) k w t i (g .worded) c c2 μ ν (p .1) bytes count ∙ h .0) ∙ sym (ap length (ends-at (x .state) k w t i (g .worded) c c2 μ ν (p .1) bytes count ∙ h .1) ∙ fine .ends-are))
-        (goes-done _ (addRows (suc i) count c2) (
-          ends-held (x .state) k w t i (g .worded) c c2 μ ν (p .1) bytes count (d .«data») v long (h .0) (h .1) (omega arith) (p .0),
-          ends-kept (x .state) k w t i (g .worded) c c2 μ ν (p .1) bytes count,
+        (ap (_* w) (ends-rows (x .state) k w t i (g .worded) c c2 μ ν (p .1) bytes count 0 ∙ h .0) ∙ sym (ap length (ends-at (x .state) k w t i (g .worded) c c2 μ ν (p .1) bytes count 0 ∙ h .1) ∙ fine .ends-are))
+        (goes-done _ (endGap i (addRows (suc i) count c2)) (
+          ends-held (x .state) k w t i (g .worded) c c2 μ ν (p .1) bytes count _ (d .«data») v _ (ap (λ z. min z 1) (gap-was (x .state) k w t i (g .worded) c c2 μ ν (p .1) bytes count 0 ∙ h .3)) long (h .0) (h .1) (omega arith) (p .0),
+          ends-kept (x .state) k w t i (g .worded) c c2 μ ν (p .1) bytes count _,
         ))))))))
 
   copies : (inner : Walk) → Copies x inner t (suc (suc i)) m kids → CopiesData x inner (tRunEnd w t) i m ss
@@ -238,26 +248,102 @@ module _ (x : Join) (k w : ℕ) (t : Ty) (i m : ℕ) (ss : ℕ → Column (tRunE
 
   -- ---- nulls
 
+  add-is : (inner : NullWalk) (n : ℕ) (c : List ℕ)
+      → addRun x inner w i n c
+      ≡ next (inner (suc (suc i)) 1 c)
+      (λ c2. need (ltb (rows c2 i + n) (half w)) 7 c2
+      (next (wrote (put (suc i) 1 (rows c2 (suc i) * w) (encode w (rows c2 i + n))) c2) (λ c3. Rattle.walk.specs.Log.done (beginGap i (addRows (suc i) 1 c3)))))
+  unfolding addRun
+  add-is inner n c = refl
+
+  grow-is : (inner : NullWalk) (n : ℕ) (c : List ℕ)
+      → growRun x inner w i n c
+      ≡ need (leb 1 (rows c (suc i))) 12 c
+      (need (ltb (rows c i + n) (half w)) 7 c (wrote (amend (suc i) 1 ((rows c (suc i) - 1) * w) (encode w (rows c i + n))) c))
+  unfolding growRun
+  grow-is inner n c = refl
+
+  module _ (inner : NullWalk) (n : ℕ) (d : Destination (tRunEnd w t)) (c : List ℕ) (μ : Memory) (f : FineRuns (d .«data») (d .len)) (h : Holds (x .state) (tRunEnd w t) i d c μ) where
+    abbrev Done : Runs (Grown t) → List ℕ → Memory → Type 0
+    Done e c′ μ′ = HoldsData (x .state) (tRunEnd w t) i e c′ μ′ × DataKept i (endOf (x .state) i) c c′ μ μ′
+
+    -- the end of the last run
+    abbrev end : List ℕ
+    end = encode w (lastEnd w (d .«data» .ends) + n)
+
+    last : rows c i ≡ lastEnd w (d .«data» .ends)
+    last = h .rows-are ∙ f .covers
+
+    -- a run more
+    added : Fills x inner t (suc (suc i)) m kids → KeepNode (keepOf t) (d .«data» .values) → length c ≡ 96
+        → Goes μ Done
+        (then (nullsNode (masks t) (nullsData t) 1 (d .«data» .values))
+        (λ v. guard (ltb (lastEnd w (d .«data» .ends) + n) (half w)) 7 (done (record { ends = moreEnds end 1 (d .«data» .ends); values = v; gap = cond (eqb (d .«data» .gap) 0) 0 2 }))))
+        (addRun x inner w i n c)
+    added go-on keep long =
+        let few : d .«data» .ends .len ≤ d .len = few-ends (d .«data») (d .len) f in
+        let room : d .«data» .ends .len + 1 ≤ far = omega (arith, few, f .fits, half-small) in
+        rw (add-is inner n c)
+        (goes-then _ _ (go-on 1 (d .«data» .values) c μ (f .values-fine) keep (small-of (d .«data» .values .len + 1) (rw (f .as-many) room)) long (h .data-are .2))
+        (λ v c2 ν p.
+        rw (p .1 .outside i (λ a b. omega arith) .rows-same ∙ last)
+        (goes-guard (ltb (lastEnd w (d .«data» .ends) + n) (half w)) (ltb (lastEnd w (d .«data» .ends) + n) (half w)) 7 c2 (omega arith) refl
+        (λ q.
+        goes-wrote (put (suc i) 1 (rows c2 (suc i) * w) end) c2 _
+        (ap (_* w) (ends-rows (x .state) k w t i (g .worded) c c2 μ ν (p .1) end 1 0 ∙ h .data-are .0) ∙ sym (ap length (ends-at (x .state) k w t i (g .worded) c c2 μ ν (p .1) end 1 0 ∙ h .data-are .1) ∙ f .ends-are))
+        (goes-done _ (beginGap i (addRows (suc i) 1 c2)) (
+          ends-held (x .state) k w t i (g .worded) c c2 μ ν (p .1) end 1 _ (d .«data») v _ (ap (λ z. cond (eqb z 0) 0 2) (gap-was (x .state) k w t i (g .worded) c c2 μ ν (p .1) end 1 0 ∙ h .data-are .3)) long (h .data-are .0) (h .data-are .1) (omega arith) (p .0),
+          ends-kept (x .state) k w t i (g .worded) c c2 μ ν (p .1) end 1 _,
+        ))))))
+
+    -- the last run longer
+    module _ (on : d .«data» .gap ≡ 2) where
+      abbrev from : ℕ
+      from = (rows c (suc i) - 1) * w
+
+      abbrev Over : Memory
+      Over = amendIn (suc i) 1 from end μ
+
+      from-is : from ≡ (d .«data» .ends .len - 1) * w
+      from-is = ap (λ z. (z - 1) * w) (h .data-are .0)
+
+      over-long : from + length end ≡ length (μ .at (suc i) 1)
+      over-long =
+          let z : suc (d .«data» .ends .len - 1) ≡ d .«data» .ends .len = omega (arith, f .some-run on) in
+          let y : d .«data» .ends .len * w ≡ (d .«data» .ends .len - 1) * w + w = ap (_* w) (sym z) ∙ suc-mul (d .«data» .ends .len - 1) w in
+          omega (arith, from-is, length-encode w (lastEnd w (d .«data» .ends) + n), ap length (h .data-are .1), f .ends-are, y)
+
+      over-other : (j : ℕ) → (j ≡ suc i → ⊥) → SameAt c c μ Over j
+      over-other = amend-other (suc i) 1 from end μ c
+
+      over-held : HoldsData (x .state) (tRunEnd w t) i (record { ends = overEnd w (lastEnd w (d .«data» .ends) + n) (d .«data» .ends); values = d .«data» .values; gap = 2 }) c Over
+      over-held = (
+        h .data-are .0,
+        amend-here (suc i) 1 from end μ ∙ ap₂ (λ a s. take a s ++ end) from-is (h .data-are .1),
+        held-same (x .state) c c μ Over k t (suc (suc i)) (d .«data» .values) (g .worded .4) (λ j a b. over-other j (λ y. omega (arith, y))) (h .data-are .2),
+        h .data-are .3 ∙ on,
+      )
+
+      over-kept : DataKept i (endOf (x .state) i) c c μ Over
+      over-kept =
+          let e : endOf (x .state) i ≡ endOf (x .state) (suc (suc i)) = g .worded .1 in
+          let z = worded-span (x .state) k t (suc (suc i)) (g .worded .4) in
+          record { long = refl; rows-own = refl; nulls-own = refl; bits-own = refl; outside = λ j h. over-other j (λ y. h (omega (arith, y)) (omega (arith, y))) }
+
+      grown : Goes μ Done
+          (guard (ltb (lastEnd w (d .«data» .ends) + n) (half w)) 7 (done (record { ends = overEnd w (lastEnd w (d .«data» .ends) + n) (d .«data» .ends); values = d .«data» .values; gap = 2 })))
+          (growRun x inner w i n c)
+      grown =
+          rw (grow-is inner n c, last)
+          (goes-need _ 12 c (le-leb 1 (rows c (suc i)) (omega (arith, h .data-are .0, f .some-run on)))
+          (goes-guard (ltb (lastEnd w (d .«data» .ends) + n) (half w)) (ltb (lastEnd w (d .«data» .ends) + n) (half w)) 7 c (omega arith) refl
+          (λ q. goes-write _ (amend (suc i) 1 from end) c over-long (over-held, over-kept))))
+
   fills : (inner : NullWalk) → Fills x inner t (suc (suc i)) m kids → FillsData x inner (tRunEnd w t) i m ss
   fills inner go-on n d c μ some fine keep small long h =
-      let f = fine .data-fine in
-      let last : rows c i ≡ lastEnd w (d .«data» .ends) = h .rows-are ∙ f .covers in
-      let bytes = encode w (lastEnd w (d .«data» .ends) + n) in
-      let few : d .«data» .ends .len ≤ d .len = few-ends (d .«data») (d .len) f in
-      let room : d .«data» .ends .len + 1 ≤ far = omega (arith, few, f .fits, half-small) in
-      rw (null-code inner (codeOf (x .state) i) n c (g .worded .2), null-is inner n c)
+      rw (null-code inner (codeOf (x .state) i) n c (g .worded .2), null-is inner n c, h .data-are .3)
       (goes-need _ 12 c (lt-ltb (suc (suc i)) 32 below)
-      (goes-then _ _ (go-on 1 (d .«data» .values) c μ (f .values-fine) (keep .below) (small-of (d .«data» .values .len + 1) (rw (f .as-many) room)) long (h .data-are .2))
-      (λ v c2 ν p.
-      rw (p .1 .outside i (λ a b. omega arith) .rows-same ∙ last)
-      (goes-guard (ltb (lastEnd w (d .«data» .ends) + n) (half w)) (ltb (lastEnd w (d .«data» .ends) + n) (half w)) 7 c2 (omega arith) refl
-      (λ q.
-      goes-wrote (put (suc i) 1 (rows c2 (suc i) * w) bytes) c2 _
-      (ap (_* w) (ends-rows (x .state) k w t i (g .worded) c c2 μ ν (p .1) bytes 1 ∙ h .data-are .0) ∙ sym (ap length (ends-at (x .state) k w t i (g .worded) c c2 μ ν (p .1) bytes 1 ∙ h .data-are .1) ∙ f .ends-are))
-      (goes-done _ (addRows (suc i) 1 c2) (
-        ends-held (x .state) k w t i (g .worded) c c2 μ ν (p .1) bytes 1 (d .«data») v long (h .data-are .0) (h .data-are .1) (omega arith) (p .0),
-        ends-kept (x .state) k w t i (g .worded) c c2 μ ν (p .1) bytes 1,
-      )))))))
+      (goes-cond (eqb (d .«data» .gap) 2) (λ b. grown inner n d c μ (fine .data-fine) h (eqb-true _ _ b)) (λ b. added inner n d c μ (fine .data-fine) h go-on (keep .below) long)))
 
 -- A RUN-END NODE'S COPY GOES WITH THE MODEL'S, where its values' does
 pub run-copies : (x : Join) (inner : Walk) (k w : ℕ) (t : Ty) (i m : ℕ) (ss : ℕ → Column (tRunEnd w t)) → Given x (suc k) (tRunEnd w t) i m ss

@@ -12,7 +12,7 @@ use Rattle.columnar.specs.Reading.{masks}
 use Rattle.formats.specs.Code.{isFixed, isString, isView, isListView, isList}
 use Rattle.model.specs.Mutable.{Mutable}
 use Rattle.model.specs.Transform.{Grown, Destination}
-use Rattle.walk.specs.State.{codeOf, dictionaryOf, endOf, idOf, nullableOf, keepsOf, bytesOf, rows, nulls, bytes}
+use Rattle.walk.specs.State.{codeOf, dictionaryOf, endOf, idOf, nullableOf, keepsOf, bytesOf, rows, nulls, bytes, gap}
 use Rattle.walk.specs.Copy.{isWidth, childWith}
 use Rattle.link.specs.Memory.{Memory}
 
@@ -89,7 +89,7 @@ module _ (state : List ℕ) where
       (μ .at i 1 ≡ d .buffer1) × (μ .at i 2 ≡ d .buffer2)
       × ((e : ℕ) → List·Memᴰ e ids → HoldsNode state (childOf state i e) (masks (f e)) (HoldsData (f e) (childOf state i e)) (d .children e) c μ)
   HoldsData (tRunEnd w t) i d c μ =
-      (rows c (suc i) ≡ d .ends .len) × (μ .at (suc i) 1 ≡ d .ends .«data») × HoldsNode state (suc (suc i)) (masks t) (HoldsData t (suc (suc i))) (d .values) c μ
+      (rows c (suc i) ≡ d .ends .len) × (μ .at (suc i) 1 ≡ d .ends .«data») × HoldsNode state (suc (suc i)) (masks t) (HoldsData t (suc (suc i))) (d .values) c μ × (gap c i ≡ d .gap)
   HoldsData (tDictionary n p) i d c μ = μ .at i 1 ≡ d
 
   -- THE COUNTERS AND MEMORY HOLD THE DESTINATION at node i

@@ -21,7 +21,7 @@ use Rattle.orders.specs.Sound.{planSound, walkable}
 use Rattle.orders.specs.Order.{Lent, joinOf, sourceCount, sourceLength, settled, copyOrder, nullOrder}
 use Rattle.orders.specs.Measure.{Measured, measured, copyMeasure, nullMeasure, neededIn, neededBytes}
 use Rattle.opening.specs.Open as start
-use Rattle.opening.specs.Open.{firstOffset, joinSource, joinEntries, keysHold, openDictionary, openWalk, opened, roomPlaced, opening}
+use Rattle.opening.specs.Open.{beginGaps, firstOffset, joinSource, joinEntries, keysHold, openDictionary, openWalk, opened, roomPlaced, opening}
 use Rattle.opening.specs.Ask.{openMeasure}
 use Rattle.opening.proofs.Laid.{stood}
 use Rattle.transform.proofs.Laws.{null-state}
@@ -109,26 +109,27 @@ module _ (x : Lent) where
       (fun-ext (λ s. fun-ext (λ c2. source-same (suc i) s c2)))
 
   pub open-same : (c : List ℕ) → openWalk x c ≡ openWalk (unplaced x) c
-  unfolding openWalk firstOffset
+  unfolding openWalk beginGaps firstOffset
   open-same c =
-      ap (λ f. next (each (firstOffset x) (nodesOf (x .plan)) 0 c) (λ c2. each f (nodesOf (x .plan)) 0 c2)) (fun-ext (λ i. fun-ext (λ c2. dictionary-same i c2)))
+      ap (λ f. next (each (beginGaps x) (nodesOf (x .plan)) 0 c) (λ c1. next (each (firstOffset x) (nodesOf (x .plan)) 0 c1) (λ c2. each f (nodesOf (x .plan)) 0 c2)))
+      (fun-ext (λ i. fun-ext (λ c2. dictionary-same i c2)))
 
-module _ (formats schema sources : List ℕ) (x : Tables) (keep : Bool) (parts plan counts room : List ℕ) where
+module _ (formats schema sources : List ℕ) (x : Tables) (keep gaps : Bool) (parts plan counts room : List ℕ) where
   abbrev lends : Lent
-  lends = opened formats schema sources x keep parts
+  lends = opened formats schema sources x keep gaps parts
 
   -- THE QUESTION OF AN OPENING HAS ITS GROUND, where 9 to 12 and 14 do not stand
-  pub open-asked : leb (length room) 4294967295 ≡ true → sourcesGround formats schema x sources ≡ 0 → roomPlaced formats schema sources x keep parts plan counts room ≡ true
+  pub open-asked : leb (length room) 4294967295 ≡ true → sourcesGround formats schema x sources ≡ 0 → roomPlaced formats schema sources x keep gaps parts plan counts room ≡ true
       → sourceCount (lends .plan) ≤ 16 → length counts ≡ 96
-      → opening formats schema sources x keep parts plan counts room .ground ≡ groundBy lends (openMeasure (unplaced lends) counts)
+      → opening formats schema sources x keep gaps parts plan counts room .ground ≡ groundBy lends (openMeasure (unplaced lends) counts)
   unfolding opening start.settled openMeasure
   open-asked l s p few h =
       let o = openWalk lends (replicate 96 0) in
-      rw (l, eq-eqb (sourcesGround formats schema x sources) 0 s, p, eq-eqb (length counts) 96 h, le-leb (sourceCount (lends .plan)) 16 few, stood formats schema x sources s keep .sound)
+      rw (l, eq-eqb (sourcesGround formats schema x sources) 0 s, p, eq-eqb (length counts) 96 h, le-leb (sourceCount (lends .plan)) 16 few, stood formats schema x sources s keep gaps .sound)
       (go o (eqb (o .ans) 0) (partsHold (lends .plan) (o .counts) parts) refl refl ∙ by-walk (lends .plan) parts counts o ∙ ap (λ z. groundBy lends (measured counts z)) (open-same lends (replicate 96 0)))
     where
       go : (o : Out) (t b : Bool) → eqb (o .ans) 0 ≡ t → partsHold (lends .plan) (o .counts) parts ≡ b
-          → start.settled formats schema sources x keep parts plan counts room o .ground ≡ cond (eqb (o .ans) 0) (cond (partsHold (lends .plan) (o .counts) parts) 0 13) (o .ans)
+          → start.settled formats schema sources x keep gaps parts plan counts room o .ground ≡ cond (eqb (o .ans) 0) (cond (partsHold (lends .plan) (o .counts) parts) 0 13) (o .ans)
       go o true true e f = rw (e, f)
       go o true false e f = rw (e, f)
       go o false b e f = rw e

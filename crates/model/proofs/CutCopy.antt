@@ -2,7 +2,7 @@
 use mathlib.Core.Path.{_≡_, refl, sym, ap, ap₂, _∙_, subst}
 use mathlib.Core.Bool.{Bool, true, false}
 use mathlib.Core.List.{List, List·Memᴰ}
-use Prim.Native.Nat.{ℕ, zero, suc, _+_, _-_, _≤_, _<_}
+use Prim.Native.Nat.{ℕ, zero, suc, _+_, _-_, _≤_, _<_, min}
 use native.Mathlib.Nat.{add-zero, add-assoc}
 use native.Mathlib.Decide.{decLt}
 use native.Mathlib.Omega.{arith}
@@ -360,7 +360,7 @@ runs-cut u w t x g kid o a n k m s h sn sm c d e p q =
     (kidOf c 0) (y .kid) (z .kid) (y .kid-done) (ap (askOf (askCopy t) (b .values) (firstRun w b K) (runCount w b K m)) (sym (ap (λ j. kidOf j 0) (y .is))) ∙ z .kid-done) in
     let rd : rowsOf d ≡ rowsOf c + n = ap rowsOf (y .is) in
     record {
-      value = counts (rowsOf c + s) 0 (λ j. l .value);
+      value = counts (rowsOf c + s) (min (bytesOf c) 1) (λ j. l .value);
       is = runs-ask w (askCopy t) b A c s (some-sum o n m s (h .all) (h .back) sn) (l .value) (sum-fits (rowsOf c) (rowsOf d) o n m s (half w) rd (h .all) (z .fits)) (l .is);
       holds =
           subst (Cut (tRunEnd w t) u _) (sym (z .is))

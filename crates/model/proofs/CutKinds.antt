@@ -2,7 +2,7 @@
 use mathlib.Core.Path.{_≡_, refl, sym, ap, _∙_, subst}
 use mathlib.Core.Bool.{Bool, true, false}
 use mathlib.Core.List.{List, List·Memᴰ}
-use Prim.Native.Nat.{ℕ, zero, suc, _+_, _-_, _≤_, _<_}
+use Prim.Native.Nat.{ℕ, zero, suc, _+_, _-_, _≤_, _<_, min}
 use native.Mathlib.Nat.{add-zero}
 use native.Mathlib.Omega.{arith}
 use lib.ListN.{getD}
@@ -119,7 +119,7 @@ module _ {P : Type 0} (w : ℕ) (ask : P → Ask) (b : RunEnd P) (a : ℕ) (c : 
     pub fits : rowsOf c + n < half w
     pub kid : Counts
     pub kid-done : askOf ask (b .values) (firstRun w b a) (runCount w b a n) (kidOf c 0) ≡ done kid
-    pub is : d ≡ counts (rowsOf c + n) 0 (λ e. kid)
+    pub is : d ≡ counts (rowsOf c + n) (min (bytesOf c) 1) (λ e. kid)
 
   pub runs-asked : (n : ℕ) → 0 < n → (d : Counts) → runEndAsk w ask b a n c ≡ done d → RunsAsked n d
   runs-asked zero z d h = absurd (omega arith)
@@ -129,7 +129,7 @@ module _ {P : Type 0} (w : ℕ) (ask : P → Ask) (b : RunEnd P) (a : ℕ) (c : 
       record { fits = ltb-true _ _ (p .0); kid = q .first; kid-done = q .first-done; is = sym (done-is (q .rest-done)) }
 
   pub runs-ask : (n : ℕ) → 0 < n → (k : Counts) → rowsOf c + n < half w → askOf ask (b .values) (firstRun w b a) (runCount w b a n) (kidOf c 0) ≡ done k
-      → runEndAsk w ask b a n c ≡ done (counts (rowsOf c + n) 0 (λ e. k))
+      → runEndAsk w ask b a n c ≡ done (counts (rowsOf c + n) (min (bytesOf c) 1) (λ e. k))
   runs-ask zero z k f e = absurd (omega arith)
   runs-ask (suc n) z k f e = guard-is _ 7 _ (lt-ltb _ _ f) ∙ then-is _ _ k e
 

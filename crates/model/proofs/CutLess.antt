@@ -2,7 +2,7 @@
 use mathlib.Core.Path.{_≡_, refl, sym, ap, _∙_, subst}
 use mathlib.Core.Bool.{Bool, true, false, cond}
 use mathlib.Core.List.{List, List·Memᴰ}
-use Prim.Native.Nat.{ℕ, zero, suc, _+_, _-_, _≤_, _<_}
+use Prim.Native.Nat.{ℕ, zero, suc, _+_, _-_, _≤_, _<_, min}
 use native.Mathlib.Nat.{add-zero}
 use native.Mathlib.Omega.{arith}
 use lib.ListN.{getD}
@@ -198,7 +198,7 @@ runs-again u w t b k a (suc n) x y z r h =
     let p = runs-asked w (askCopy t) b a y (suc n) (omega arith) z h in
     let q = k _ (runCount w b a (suc n)) (kidOf x 0) (kidOf y 0) (p .kid) (r .below-less .1) (p .kid-done) in
     record {
-      value = counts (rowsOf x + suc n) 0 (λ e. q .value);
+      value = counts (rowsOf x + suc n) (min (bytesOf x) 1) (λ e. q .value);
       is = runs-ask w (askCopy t) b a x (suc n) (omega arith) (q .value) (omega (arith, p .fits, r .rows-less)) (q .is);
       holds =
           subst (Cut (tRunEnd w t) u _) (sym (p .is))

@@ -3,12 +3,12 @@ use mathlib.Core.Path.{_≡_, refl}
 use mathlib.Core.Bool.{Bool, true, false}
 use mathlib.Core.Option.{none}
 use mathlib.Core.List.{List, [], _∷_, _++_, List·Memᴰ}
-use Prim.Native.Nat.{ℕ, zero, suc, _+_, _*_, _≤_, _<_}
+use Prim.Native.Nat.{ℕ, zero, suc, _+_, _-_, _*_, _≤_, _<_}
 use lib.ListN.{length, getD, replicate}
 use lib.Dec.{T}
 use Rattle.columnar.specs.Row.{Row, null}
 use Rattle.columnar.specs.Types.{Number, width, half, limit, Plain, fixed, string, Ty, tPlain, tView, tListView, tList, tSparse, tDense, tRunEnd, tDictionary}
-use Rattle.columnar.specs.Array.{Array, item, Obeys}
+use Rattle.columnar.specs.Array.{Array, item, readWith, Obeys}
 use Rattle.columnar.specs.Plain.{Text, PlainBody, plainAt, PlainRule}
 use Rattle.columnar.specs.View.{Views, viewOf, viewAt, ViewGood, ViewRule}
 use Rattle.columnar.specs.ListView.{ListView, listViewAt, ListViewRule}
@@ -29,7 +29,7 @@ use Rattle.model.specs.Unions.{Sparses, Denses, sparseExtend, denseExten
 use Rattle.model.specs.Runs.{Runs, runsExtend, runsNull, runsFreeze}
 use Rattle.model.specs.Transform.{Grown, extendData, nullsData, freezeData, theDictionary}
 use Rattle.model.specs.Held.{heldNode, heldPlain, heldData}
-use Rattle.model.proofs.Law.{Kind, FineNode, KeepNode, nodeNull}
+use Rattle.model.proofs.Law.{Kind, FineNode, KeepNode, rowAt, nodeNull}
 
 -- ---- fixed-width numbers and byte strings
 
@@ -199,13 +199,15 @@ module _ (ids : List ℕ) (nullable : ℕ → Bool) {P D : ℕ → Type 0} (k : 
 
 -- ---- run-end columns; r: what an ordered null reads as at the values
 
-pub record RunsFine (w : ℕ) {D : Type 0} (kid : Mutable D → Type 0) (d : Runs D) (l : ℕ) : Type 0 where
+pub record RunsFine (w : ℕ) {D : Type 0} (kid : Mutable D → Type 0) (shows : Mutable D → ℕ → Row) (r : Row) (d : Runs D) (l : ℕ) : Type 0 where
   pub no-bits : d .ends .bits ≡ none
   pub ends-are : length (d .ends .«data») ≡ d .ends .len * w
   pub rises : (i : ℕ) → i < d .ends .len → startOf (item w (d .ends .«data»)) i < item w (d .ends .«data») i
   pub covers : l ≡ startOf (item w (d .ends .«data»)) (d .ends .len)
   pub fits : l < half w
   pub as-many : d .values .len ≡ d .ends .len
+  pub some-run : d .gap ≡ 2 → 0 < d .ends .len  -- the last run is one of nulls
+  pub null-run : d .gap ≡ 2 → shows (d .values) (d .ends .len - 1) ≡ r
   pub values-fine : kid (d .values)
 
 abbrev pub runsKind : ℕ → {P D : Type 0} → Kind P D → Row → ℕ → (ℕ → Array P) → Kind (RunEnd P) (Runs D)
@@ -219,9 +221,9 @@ runsKind w k r m kids =
       nul = λ n l d. runsNull w (nullsNode (k .masks) (k .nul)) n d;
       ask = runEndAsk w (k .ask);
       askN = runEndNulls w (unlessNone (k .askN));
-      held = λ d l. counts l 0 (λ e. heldNode (k .held) (d .values));
+      held = λ d l. counts l (d .gap) (λ e. heldNode (k .held) (d .values));
       held-rows = λ d l. refl;
-      fine = λ b d l. RunsFine w (FineNode (k .masks) (k .fine) m kids) d l;
+      fine = λ b d l. RunsFine w (FineNode (k .masks) (k .fine) m kids) (rowAt k m kids) r d l;
       keep = λ d. KeepNode (k .keep) (d .values);
       rule = RunEndRule w (Obeys (k .masks) (k .rule));
     }
@@ -261,7 +263,9 @@ fineOf (tListView w t) = λ m ss b d l. ListFine w (FineNode (masks t) (fineOf t
 fineOf (tList w t) = λ m ss b d l. ListsFine w (FineNode (masks t) (fineOf t m (λ i. ss i .child .body)) m (λ i. ss i .child)) d l
 fineOf (tSparse ids nullable f) = λ m ss b d l. SparseFine ids (λ c. FineNode (masks (f c)) (fineOf (f c) m (λ i. ss i .children c .body)) m (λ i. ss i .children c)) d l
 fineOf (tDense ids nullable f) = λ m ss b d l. DenseFine ids (λ c. FineNode (masks (f c)) (fineOf (f c) m (λ i. ss i .children c .body)) m (λ i. ss i .children c)) d l
-fineOf (tRunEnd w t) = λ m ss b d l. RunsFine w (FineNode (masks t) (fineOf t m (λ i. ss i .values .body)) m (λ i. ss i .values)) d l
+fineOf (tRunEnd w t) = λ m ss b d l.
+    RunsFine w (FineNode (masks t) (fineOf t m (λ i. ss i .values .body)) m (λ i. ss i .values))
+    (λ v. readWith (slotAt t) (freezeNode (masks t) (freezeData t m (λ i. ss i .values .body)) v)) (nullRow t) d l
 fineOf (tDictionary k p) = λ m ss. KeysFine k m (after (theDictionary p m ss) (ss 0 .values) .len)
 
 abbrev pub keepOf : (t : Ty) → Grown t → Type 0

@@ -1,29 +1,32 @@
 -- Run-end columns are lawful over lawful values. Assumes nothing.
 use mathlib.Core.Path.{_≡_, refl, sym, ap, _∙_}
-use mathlib.Core.Bool.{Bool, true, false}
+use mathlib.Core.Bool.{Bool, true, false, cond}
 use mathlib.Core.List.{List, [], _++_}
 use Prim.Native.Nat.{ℕ, zero, suc, _+_, _-_, _*_, _^_, _≤_, _<_, min}
+use native.Mathlib.Decide.{decLt}
 use native.Mathlib.Nat.{zero-mul, one-mul, suc-mul, add-mul, add-zero, zero-add, add-comm}
 use native.Mathlib.Omega.{arith}
-use lib.ListN.{length, length-append}
-use lib.Dec.{ltb}
-use borrow.Author.Tests.{ltb-true}
+use lib.ListN.{length, take, drop, length-append}
+use lib.Dec.{ltb, eqb}
+use borrow.Author.Tests.{ltb-true, eqb-true}
 use Rattle.number.specs.Number.{encode}
 use Rattle.number.proofs.Laws.{length-encode}
 use Rattle.columnar.specs.Row.{Row}
 use Rattle.columnar.specs.Types.{half}
 use Rattle.columnar.specs.Array.{Array, item, ok, readWith, Mask, Obeys}
 use Rattle.columnar.specs.RunEnd.{RunEnd, endOf, firstAbove, runEndAt, startOf, RunEndRule}
-use Rattle.columnar.proofs.Items.{item-left, item-right, item-last, item-seam, number-encode-lt}
+use Rattle.columnar.proofs.Items.{item-left, item-right, item-last, item-seam, item-cut, length-cut, number-encode-lt}
 use Rattle.columnar.proofs.FirstAbove.{first-same}
-use Rattle.model.specs.Grounds.{firstRun, runCount, runEndAsk, runEndNulls, unlessNone}
+use Rattle.model.specs.Grounds.{Counts, counts, firstRun, runCount, runEndAsk, runEndNulls, unlessNone}
+use Rattle.model.specs.Try.{Try, done, then, guard}
+use Rattle.model.specs.Held.{heldNode}
 use Rattle.model.specs.Mutable.{Mutable, freezeNode, extendNode, nullsNode}
-use Rattle.model.specs.Runs.{Runs, lastEnd, clipped, moreEnds, runsExtend, runsNull, runsFreeze}
+use Rattle.model.specs.Runs.{Runs, lastEnd, clipped, moreEnds, overEnd, runsExtend, runsNull, runsFreeze}
 use Rattle.model.proofs.Agree.{Agrees, both, both-as, agrees-then, agrees-guard}
 use Rattle.model.proofs.Law.{Kind, Put, seen, Law, FineNode, KeepNode, Grew, rowAt, nodeNull}
 use Rattle.model.proofs.Node.{node-copies, node-fills, node-obeys}
 use Rattle.model.proofs.Nodes.{RunsFine, runsKind}
-use Rattle.model.proofs.Ends.{Ends, found, both-ends, find-old, find-new, start-le, clip, clip-ends, clip-find, in-order, last-run}
+use Rattle.model.proofs.Ends.{Holds, Ends, found, find-is, both-ends, find-old, find-new, start-le, clip, clip-ends, clip-find, in-order, last-run}
 
 -- ---- bytes of run ends
 
@@ -57,16 +60,17 @@ start-frozen w x (suc r) = rw zero-add
 module _ (w : ℕ) {P D : Type 0} (k : Kind P D) (r : Row) (m : ℕ) (kids : ℕ → Array P) where
   -- a well formed destination, and its ends as plain numbers
   abbrev FineRuns : Runs D → ℕ → Type 0
-  FineRuns d l = RunsFine w (FineNode (k .masks) (k .fine) m kids) d l
+  FineRuns d l = RunsFine w (FineNode (k .masks) (k .fine) m kids) (rowAt k m kids) r d l
 
   ends-of : (d : Runs D) (l : ℕ) → FineRuns d l → Ends (item w (d .ends .«data»)) (d .ends .len) l
   ends-of d l h = record { rises = h .rises; covers = h .covers }
 
   -- c runs with the ends t put behind d, and their values behind d's
   module _ (d : Runs D) (l n : ℕ) (h : FineRuns d l) (t : ℕ → ℕ) (c : ℕ) (ht : Ends t c n) (more : List ℕ) (long : length more ≡ c * w)
-      (reads : (i : ℕ) → i < c → item w more i ≡ l + t i) (v : Mutable D) (x : ℕ) (shows : ℕ → Row) (g : Grew k m kids (d .values) c x shows v) (fits : l + n < half w) where
+      (reads : (i : ℕ) → i < c → item w more i ≡ l + t i) (v : Mutable D) (x : ℕ) (shows : ℕ → Row) (g : Grew k m kids (d .values) c x shows v) (fits : l + n < half w)
+      (y : ℕ) (some-null : y ≡ 2 → 0 < c) (last-null : y ≡ 2 → shows (c - 1) ≡ r) where
     abbrev Longer : Runs D
-    Longer = record { ends = moreEnds more c (d .ends); values = v }
+    Longer = record { ends = moreEnds more c (d .ends); values = v; gap = y }
 
     all-ends : ℕ → ℕ
     all-ends = item w (d .ends .«data» ++ more)
@@ -92,6 +96,10 @@ module _ (w : ℕ) {P D : Type 0} (k : Kind P D) (r : Row) (m : ℕ) (kids : ℕ
           covers = longer-ends .covers;
           fits = fits;
           as-many = rw (g .len-is, h .as-many);
+          some-run = λ z. omega (arith, some-null z);
+          null-run = λ z.
+              let e : d .ends .len + c - 1 ≡ d .values .len + (c - 1) = omega (arith, h .as-many, some-null z) in
+              ap (rowAt k m kids v) e ∙ g .new (c - 1) (omega (arith, some-null z)) ∙ last-null z;
           values-fine = g .fine′;
         }
 
@@ -191,7 +199,7 @@ module _ (w : ℕ) {P D : Type 0} (k : Kind P D) (r : Row) (m : ℕ) (xs : ℕ �
         let fits : l + suc n < half w = omega (arith, ltb-true (lastEnd w (d .ends) + suc n) (half w) fit, h .covers) in
         agrees-then _ _ (node-copies k m Kids law masked j from count (d .values) hj in-values (h .values-fine))
         (λ v g.
-        both _ (runs-put w k r m Kids d l (suc n) h cut count cut-ends _ (length-clipped w ends a (a + suc n) (lastEnd w (d .ends)) from count) (cut-reads l d h fits) v _ _ g fits b _ _
+        both _ (runs-put w k r m Kids d l (suc n) h cut count cut-ends _ (length-clipped w ends a (a + suc n) (lastEnd w (d .ends)) from count) (cut-reads l d h fits) v _ _ g fits (min (d .gap) 1) (λ z. absurd (omega arith)) (λ z. absurd (omega arith)) b _ _
         (λ i q. ap (readWith (k .at) (Kids j)) (clip-find ends (xs j .body .ends .len) a (suc n) rises not-none within i q)))))
 
   -- no row more
@@ -212,19 +220,133 @@ module _ (w : ℕ) {P D : Type 0} (k : Kind P D) (r : Row) (m : ℕ) (xs : ℕ �
   one-reads v z h e zero q = item-last w [] 0 v (sym (zero-mul w)) h ∙ e
   one-reads v z h e (suc i) q = absurd (omega arith)
 
+  -- the last run grows by suc n rows
+  module _ (n l : ℕ) (b : ℕ → Bool) (d : Runs D) (on : d .gap ≡ 2) (h : FineRuns w k r m Kids d l) (fits : l + suc n < half w) where
+    abbrev bytes : List ℕ
+    bytes = d .ends .«data»
+
+    -- the runs but the last
+    abbrev q : ℕ
+    q = d .ends .len - 1
+
+    abbrev front : List ℕ
+    front = take (q * w) bytes
+
+    some-run : 0 < d .ends .len
+    some-run = h .some-run on
+
+    len-is : suc q ≡ d .ends .len
+    len-is = omega (arith, some-run)
+
+    wide : d .ends .len * w ≡ q * w + w
+    wide = ap (_* w) (sym len-is) ∙ suc-mul q w
+
+    front-is : take (q * w) (drop (0 * w) bytes) ≡ front
+    front-is = rw (zero-mul w)
+
+    front-long : length front ≡ q * w
+    front-long =
+        let e : (0 + q) * w ≤ length bytes = rw zero-add (omega (arith, h .ends-are, wide)) in
+        ap length (sym front-is) ∙ length-cut w 0 q bytes e
+
+    all : ℕ → ℕ
+    all = item w (front ++ encode w (lastEnd w (d .ends) + suc n))
+
+    all-old : (i : ℕ) → i < q → all i ≡ item w bytes i
+    unfolding all
+    all-old i p =
+        item-left w front (encode w (lastEnd w (d .ends) + suc n)) i q (omega (arith, front-long)) p
+        ∙ ap (λ s. item w s i) (sym front-is) ∙ item-cut w 0 q bytes i p ∙ ap (item w bytes) (zero-add i)
+
+    all-last : all q ≡ l + suc n
+    unfolding all
+    all-last = item-last w front q (lastEnd w (d .ends) + suc n) front-long (omega (arith, half-le w, h .covers)) ∙ ap (_+ suc n) (sym (h .covers))
+
+    starts : (i : ℕ) → i ≤ q → startOf all i ≡ startOf (item w bytes) i
+    starts zero p = refl
+    starts (suc i) p = all-old i p
+
+    last-end : l ≡ item w bytes q
+    last-end = h .covers ∙ ap (startOf (item w bytes)) (sym len-is)
+
+    all-rise : (i : ℕ) → i < d .ends .len → startOf all i < all i
+    all-rise i p = go (decLt i q)
+      where
+        go : Dec (i < q) → startOf all i < all i
+        go (yes y) = rw (starts i (omega arith), all-old i y) (h .rises i p)
+        go (no y) = let z : i ≡ q = omega (arith, len-is) in rw (z, starts q (omega arith), all-last) (omega (arith, h .rises q (omega (arith, some-run)), last-end))
+
+    abbrev Grown : Runs D
+    Grown = record { ends = overEnd w (lastEnd w (d .ends) + suc n) (d .ends); values = d .values; gap = 2 }
+
+    grown-fine : FineRuns w k r m Kids Grown (l + suc n)
+    unfolding all
+    grown-fine =
+        record {
+          no-bits = h .no-bits;
+          ends-are = length-append front _ ∙ omega (arith, front-long, length-encode w (lastEnd w (d .ends) + suc n), wide);
+          rises = all-rise;
+          covers = sym all-last ∙ ap (startOf all) len-is;
+          fits = fits;
+          as-many = h .as-many;
+          some-run = λ z. some-run;
+          null-run = λ z. h .null-run on;
+          values-fine = h .values-fine;
+        }
+
+    run-of : (i s : ℕ) → Holds all (d .ends .len) s i → firstAbove (endOf w (freezeNode true (λ b. b) (Grown .ends))) i 0 (d .ends .len) ≡ s
+    unfolding all
+    run-of i s a = first-frozen w (Grown .ends) i (d .ends .len) ∙ find-is all (d .ends .len) all-rise s i a
+
+    old-holds : (i s : ℕ) → i < l → Holds (item w bytes) (d .ends .len) s i → Holds all (d .ends .len) s i
+    old-holds i s p a = record { is-run = a .is-run; above = rw (starts s (omega (arith, a .is-run))) (a .above); below = go (decLt s q) }
+      where
+        go : Dec (s < q) → i < all s
+        go (yes y) = rw (all-old s y) (a .below)
+        go (no y) = let z : s ≡ q = omega (arith, len-is, a .is-run) in rw (z, all-last) (omega arith)
+
+    grown : Put (seen (runsKind w k r m Kids)) (runsKind w k r m Kids .fine) (runsKind w k r m Kids .keep) b d l (suc n) (λ i. true) (λ i. r) Grown
+    grown =
+        record {
+          ends = λ b′ o u. grown-fine;
+          old = λ i p.
+              let a = found (item w bytes) (d .ends .len) i (omega (arith, h .covers)) in
+              ap (rowAt k m Kids (d .values)) (run-of i _ (old-holds i _ p a) ∙ sym (first-frozen w (d .ends) i (d .ends .len)));
+          new = λ i p u.
+              ap (rowAt k m Kids (d .values)) (run-of (l + i) q (record { is-run = omega (arith, some-run); above = rw (starts q (omega arith)) (omega (arith, h .rises q (omega (arith, some-run)), last-end)); below = rw all-last (omega arith) }))
+              ∙ h .null-run on;
+          keeps = λ y. y;
+        }
+
   fills : (n l : ℕ) (b : ℕ → Bool) (d : Runs D) → KeepNode (k .keep) (d .values) → FineRuns w k r m Kids d l
       → Agrees (λ e. runsKind w k r m Kids .held e (l + suc n))
       (Put (seen (runsKind w k r m Kids)) (runsKind w k r m Kids .fine) (runsKind w k r m Kids .keep) b d l (suc n) (λ i. true) (λ i. r))
       (runsNull w (nullsNode (k .masks) (k .nul)) (suc n) d) (runEndNulls w (unlessNone (k .askN)) (suc n) (runsKind w k r m Kids .held d l))
-  fills n l b d hk h =
-      agrees-then _ _ (node-fills k m Kids law masked 1 (d .values) hk (h .values-fine))
-      (λ v g.
-      agrees-guard (ltb (lastEnd w (d .ends) + suc n) (half w)) (ltb (l + suc n) (half w)) 7 (ap (λ z. ltb (z + suc n) (half w)) (sym (h .covers)))
-      (λ fit.
-      let fits : l + suc n < half w = omega (arith, ltb-true (lastEnd w (d .ends) + suc n) (half w) fit, h .covers) in
-      both _
-      (runs-put w k r m Kids d l (suc n) h (λ i. suc n) 1 (one-end (suc n) (omega arith)) (encode w (lastEnd w (d .ends) + suc n)) (rw one-mul (length-encode w _))
-      (one-reads _ _ (omega (arith, half-le w, h .covers)) (ap (_+ suc n) (sym (h .covers)))) v _ _ g fits b _ _ (λ i q. null-is))))
+  fills n l b d hk h = go (eqb (d .gap) 2) refl
+    where
+      test : ltb (lastEnd w (d .ends) + suc n) (half w) ≡ ltb (l + suc n) (half w)
+      test = ap (λ z. ltb (z + suc n) (half w)) (sym (h .covers))
+
+      room : ltb (lastEnd w (d .ends) + suc n) (half w) ≡ true → l + suc n < half w
+      room fit = omega (arith, ltb-true (lastEnd w (d .ends) + suc n) (half w) fit, h .covers)
+
+      go : (t : Bool) → eqb (d .gap) 2 ≡ t
+          → Agrees (λ e. runsKind w k r m Kids .held e (l + suc n))
+          (Put (seen (runsKind w k r m Kids)) (runsKind w k r m Kids .fine) (runsKind w k r m Kids .keep) b d l (suc n) (λ i. true) (λ i. r))
+          (cond t (guard (ltb (lastEnd w (d .ends) + suc n) (half w)) 7 (done (record { ends = overEnd w (lastEnd w (d .ends) + suc n) (d .ends); values = d .values; gap = 2 })))
+          (then (nullsNode (k .masks) (k .nul) 1 (d .values)) (λ v. guard (ltb (lastEnd w (d .ends) + suc n) (half w)) 7 (done (record { ends = moreEnds (encode w (lastEnd w (d .ends) + suc n)) 1 (d .ends); values = v; gap = cond (eqb (d .gap) 0) 0 2 })))))
+          (cond t (guard (ltb (l + suc n) (half w)) 7 (done (counts (l + suc n) 2 (λ e. heldNode (k .held) (d .values)))))
+          (then (unlessNone (k .askN) 1 (heldNode (k .held) (d .values))) (λ x. guard (ltb (l + suc n) (half w)) 7 (done (counts (l + suc n) (cond (eqb (d .gap) 0) 0 2) (λ e. x))))))
+      go true e = agrees-guard (ltb (lastEnd w (d .ends) + suc n) (half w)) (ltb (l + suc n) (half w)) 7 test (λ fit. both _ (grown n l b d (eqb-true _ _ e) h (room fit)))
+      go false e =
+          agrees-then _ _ (node-fills k m Kids law masked 1 (d .values) hk (h .values-fine))
+          (λ v g.
+          agrees-guard (ltb (lastEnd w (d .ends) + suc n) (half w)) (ltb (l + suc n) (half w)) 7 test
+          (λ fit.
+          let fits : l + suc n < half w = room fit in
+          both _
+          (runs-put w k r m Kids d l (suc n) h (λ i. suc n) 1 (one-end (suc n) (omega arith)) (encode w (lastEnd w (d .ends) + suc n)) (rw one-mul (length-encode w _))
+          (one-reads _ _ (omega (arith, half-le w, h .covers)) (ap (_+ suc n) (sym (h .covers)))) v _ _ g fits (cond (eqb (d .gap) 0) 0 2) (λ z. omega arith) (λ z. null-is) b _ _ (λ i q. null-is))))
 
   obeys : (l : ℕ) (b : ℕ → Bool) (d : Runs D) → FineRuns w k r m Kids d l
       → RunEndRule w (Obeys (k .masks) (k .rule)) b (runsFreeze (freezeNode (k .masks) (k .frz)) d) 0 l

@@ -113,31 +113,35 @@ plain-start : (p : Plain) (b : ℕ → Bool) → FormedPlain p → plainFine p b
 plain-start (fixed k) b f = sym (zero-mul _)
 plain-start (string w) b f = offsets-start w f
 
-pub start-data : (t : Ty) (u : Bool) (m : ℕ) (ss : ℕ → Body t) (b : ℕ → Bool) → 0 < m → Formed t → fineOf t m ss b (startData t u m ss) 0
-start-data (tPlain p) u m ss b z f = plain-start p b f
-start-data tView u m ss b z f = record { views-are = refl; good = λ i q. absurd (omega arith) }
-start-data (tListView w t) u m ss b z f =
+not-two : (g : Bool) → _≡_ {A = ℕ} (cond g 1 0) 2 → ⊥
+not-two true e = omega arith
+not-two false e = omega arith
+
+pub start-data : (gaps : Bool) (t : Ty) (u : Bool) (m : ℕ) (ss : ℕ → Body t) (b : ℕ → Bool) → 0 < m → Formed t → fineOf t m ss b (startData gaps t u m ss) 0
+start-data gaps (tPlain p) u m ss b z f = plain-start p b f
+start-data gaps tView u m ss b z f = record { views-are = refl; good = λ i q. absurd (omega arith) }
+start-data gaps (tListView w t) u m ss b z f =
     record {
       offsets-are = sym (zero-mul w);
       sizes-are = sym (zero-mul w);
       within = λ i q. absurd (omega arith);
       fits = half-pos (f .0);
-      child-fine = start-node (masks t) u (fineOf t m (λ i. ss i .child .body)) m (λ i. ss i .child) _ (λ b. start-data t _ m (λ i. ss i .child .body) b z (f .1));
+      child-fine = start-node (masks t) u (fineOf t m (λ i. ss i .child .body)) m (λ i. ss i .child) _ (λ b. start-data gaps t _ m (λ i. ss i .child .body) b z (f .1));
     }
-start-data (tList w t) u m ss b z f =
+start-data gaps (tList w t) u m ss b z f =
     record {
       offsets-fine = offsets-start w (f .0);
-      child-fine = start-node (masks t) u (fineOf t m (λ i. ss i .child .body)) m (λ i. ss i .child) _ (λ b. start-data t _ m (λ i. ss i .child .body) b z (f .1));
+      child-fine = start-node (masks t) u (fineOf t m (λ i. ss i .child .body)) m (λ i. ss i .child) _ (λ b. start-data gaps t _ m (λ i. ss i .child .body) b z (f .1));
     }
-start-data (tSparse ids nullable g) u m ss b z f =
+start-data gaps (tSparse ids nullable g) u m ss b z f =
     record {
       ids-are = refl;
       declared = λ i q. absurd (omega arith);
       kids-are = λ c q. refl;
       kids-fine = λ c q.
-          start-node (masks (g c)) u (fineOf (g c) m (λ i. ss i .children c .body)) m (λ i. ss i .children c) _ (λ b. start-data (g c) _ m (λ i. ss i .children c .body) b z (f .1 c q));
+          start-node (masks (g c)) u (fineOf (g c) m (λ i. ss i .children c .body)) m (λ i. ss i .children c) _ (λ b. start-data gaps (g c) _ m (λ i. ss i .children c .body) b z (f .1 c q));
     }
-start-data (tDense ids nullable g) u m ss b z f =
+start-data gaps (tDense ids nullable g) u m ss b z f =
     record {
       ids-are = refl;
       positions-are = refl;
@@ -145,9 +149,9 @@ start-data (tDense ids nullable g) u m ss b z f =
       within = λ i q. absurd (omega arith);
       fits = λ c q. omega arith;
       kids-fine = λ c q.
-          start-node (masks (g c)) u (fineOf (g c) m (λ i. ss i .children c .body)) m (λ i. ss i .children c) _ (λ b. start-data (g c) _ m (λ i. ss i .children c .body) b z (f .1 c q));
+          start-node (masks (g c)) u (fineOf (g c) m (λ i. ss i .children c .body)) m (λ i. ss i .children c) _ (λ b. start-data gaps (g c) _ m (λ i. ss i .children c .body) b z (f .1 c q));
     }
-start-data (tRunEnd w t) u m ss b z f =
+start-data gaps (tRunEnd w t) u m ss b z f =
     record {
       no-bits = refl;
       ends-are = sym (zero-mul w);
@@ -155,29 +159,31 @@ start-data (tRunEnd w t) u m ss b z f =
       covers = refl;
       fits = run-pos (f .0);
       as-many = refl;
-      values-fine = start-node (masks t) u (fineOf t m (λ i. ss i .values .body)) m (λ i. ss i .values) _ (λ b. start-data t _ m (λ i. ss i .values .body) b z (f .1));
+      some-run = λ z. absurd (not-two gaps z);
+      null-run = λ z. absurd (not-two gaps z);
+      values-fine = start-node (masks t) u (fineOf t m (λ i. ss i .values .body)) m (λ i. ss i .values) _ (λ b. start-data gaps t _ m (λ i. ss i .values .body) b z (f .1));
     }
-start-data (tDictionary k p) u m ss b z f = record { sources = z; keys-are = sym (zero-mul _); positive = λ i q. absurd (omega arith); within = λ i q. absurd (omega arith) }
+start-data gaps (tDictionary k p) u m ss b z f = record { sources = z; keys-are = sym (zero-mul _); positive = λ i q. absurd (omega arith); within = λ i q. absurd (omega arith) }
 
-pub start-fine : (t : Ty) (u : Bool) (m : ℕ) (ss : ℕ → Column t) → 0 < m → Formed t → FineNode (masks t) (fineOf t m (λ i. ss i .body)) m ss (start t u m ss)
-start-fine t u m ss z f = start-node (masks t) u (fineOf t m (λ i. ss i .body)) m ss _ (λ b. start-data t _ m (λ i. ss i .body) b z f)
+pub start-fine : (gaps : Bool) (t : Ty) (u : Bool) (m : ℕ) (ss : ℕ → Column t) → 0 < m → Formed t → FineNode (masks t) (fineOf t m (λ i. ss i .body)) m ss (start gaps t u m ss)
+start-fine gaps t u m ss z f = start-node (masks t) u (fineOf t m (λ i. ss i .body)) m ss _ (λ b. start-data gaps t _ m (λ i. ss i .body) b z f)
 
 -- where the root keeps nulls, so do the nodes that an order of nulls reaches
-keep-start : (t : Ty) (m : ℕ) (ss : ℕ → Body t) → keepOf t (startData t true m ss)
-keep-start (tPlain p) m ss = tt
-keep-start tView m ss = tt
-keep-start (tListView w t) m ss = tt
-keep-start (tList w t) m ss = tt
-keep-start (tSparse ids nullable g) m ss = λ c q. record { here = refl; below = keep-start (g c) m (λ i. ss i .children c .body) }
-keep-start (tDense ids nullable g) m ss = λ c q. record { here = refl; below = keep-start (g c) m (λ i. ss i .children c .body) }
-keep-start (tRunEnd w t) m ss = record { here = refl; below = keep-start t m (λ i. ss i .values .body) }
-keep-start (tDictionary k p) m ss = tt
+keep-start : (gaps : Bool) (t : Ty) (m : ℕ) (ss : ℕ → Body t) → keepOf t (startData gaps t true m ss)
+keep-start gaps (tPlain p) m ss = tt
+keep-start gaps tView m ss = tt
+keep-start gaps (tListView w t) m ss = tt
+keep-start gaps (tList w t) m ss = tt
+keep-start gaps (tSparse ids nullable g) m ss = λ c q. record { here = refl; below = keep-start gaps (g c) m (λ i. ss i .children c .body) }
+keep-start gaps (tDense ids nullable g) m ss = λ c q. record { here = refl; below = keep-start gaps (g c) m (λ i. ss i .children c .body) }
+keep-start gaps (tRunEnd w t) m ss = record { here = refl; below = keep-start gaps t m (λ i. ss i .values .body) }
+keep-start gaps (tDictionary k p) m ss = tt
 
-pub start-keep : (t : Ty) (u : Bool) (m : ℕ) (ss : ℕ → Column t) → keeps u m ss ≡ true → KeepNode (keepOf t) (start t u m ss)
-start-keep t u m ss e = go (keeps u m ss) e
+pub start-keep : (gaps : Bool) (t : Ty) (u : Bool) (m : ℕ) (ss : ℕ → Column t) → keeps u m ss ≡ true → KeepNode (keepOf t) (start gaps t u m ss)
+start-keep gaps t u m ss e = go (keeps u m ss) e
   where
-    go : (b : Bool) → b ≡ true → KeepNode (keepOf t) (startNode b (startData t b m (λ i. ss i .body)))
-    go true e = record { here = refl; below = keep-start t m (λ i. ss i .body) }
+    go : (b : Bool) → b ≡ true → KeepNode (keepOf t) (startNode b (startData gaps t b m (λ i. ss i .body)))
+    go true e = record { here = refl; below = keep-start gaps t m (λ i. ss i .body) }
     go false e = absurd (let z : false ≡ true = e in let y : _≡_ {A = ℕ} 0 1 = cc in omega arith)
 
 -- it holds nothing
@@ -185,15 +191,15 @@ held-plain : (p : Plain) → heldPlain p (plainStart p) 0 ≡ counts 0 0 leaf
 held-plain (fixed k) = refl
 held-plain (string w) = refl
 
-pub held-start : (t : Ty) (u : Bool) (m : ℕ) (ss : ℕ → Body t) → heldData t (startData t u m ss) 0 ≡ startCounts t
-held-start (tPlain p) u m ss = held-plain p
-held-start tView u m ss = refl
-held-start (tListView w t) u m ss = ap (λ x. counts 0 0 (λ e. x)) (held-start t _ m (λ i. ss i .child .body))
-held-start (tList w t) u m ss = ap (λ x. counts 0 0 (λ e. x)) (held-start t _ m (λ i. ss i .child .body))
-held-start (tSparse ids nullable g) u m ss = ap (λ f. counts 0 0 (among ids f)) (fun-ext (λ e. held-start (g e) _ m (λ i. ss i .children e .body)))
-held-start (tDense ids nullable g) u m ss = ap (λ f. counts 0 0 (among ids f)) (fun-ext (λ e. held-start (g e) _ m (λ i. ss i .children e .body)))
-held-start (tRunEnd w t) u m ss = ap (λ x. counts 0 0 (λ e. x)) (held-start t _ m (λ i. ss i .values .body))
-held-start (tDictionary k p) u m ss = refl
+pub held-start : (gaps : Bool) (t : Ty) (u : Bool) (m : ℕ) (ss : ℕ → Body t) → heldData t (startData gaps t u m ss) 0 ≡ startCounts gaps t
+held-start gaps (tPlain p) u m ss = held-plain p
+held-start gaps tView u m ss = refl
+held-start gaps (tListView w t) u m ss = ap (λ x. counts 0 0 (λ e. x)) (held-start gaps t _ m (λ i. ss i .child .body))
+held-start gaps (tList w t) u m ss = ap (λ x. counts 0 0 (λ e. x)) (held-start gaps t _ m (λ i. ss i .child .body))
+held-start gaps (tSparse ids nullable g) u m ss = ap (λ f. counts 0 0 (among ids f)) (fun-ext (λ e. held-start gaps (g e) _ m (λ i. ss i .children e .body)))
+held-start gaps (tDense ids nullable g) u m ss = ap (λ f. counts 0 0 (among ids f)) (fun-ext (λ e. held-start gaps (g e) _ m (λ i. ss i .children e .body)))
+held-start gaps (tRunEnd w t) u m ss = ap (λ x. counts 0 (cond gaps 1 0) (λ e. x)) (held-start gaps t _ m (λ i. ss i .values .body))
+held-start gaps (tDictionary k p) u m ss = refl
 
 -- plain values, also of no source: a joined dictionary before the first
 pub start-plain : (p : Plain) (u : Bool) (m : ℕ) (vs : ℕ → Array (PlainBody p)) → FormedPlain p → FineNode true (plainFine p) m vs (startNode (keeps u m vs) (plainStart p))

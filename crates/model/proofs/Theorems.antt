@@ -51,7 +51,7 @@ kept : (b : Bool) → keepsBits (cond b (some []) none) ≡ b
 kept true = refl
 kept false = refl
 
-module _ (t : Ty) (body : List ℕ) (m : ℕ) (ss : ℕ → Column t) (u : Bool) (given : Sources t body m ss) (d : Destination t) (opened : tryWithCapacities t u m ss ≡ done d) where
+module _ (gaps : Bool) (t : Ty) (body : List ℕ) (m : ℕ) (ss : ℕ → Column t) (u : Bool) (given : Sources t body m ss) (d : Destination t) (opened : tryWithCapacities gaps t u m ss ≡ done d) where
   abbrev keep : Bool
   keep = keeps u m ss
 
@@ -59,20 +59,20 @@ module _ (t : Ty) (body : List ℕ) (m : ℕ) (ss : ℕ → Column t) (u : Bool)
   law-holds =
       law t m ss (given .obey)
       (ready body m (given .few) (same-entries body m) t ss (given .obey) (given .few-buffers) (given .stand)
-      (opened-first (openData t m (λ i. ss i .body)) (start t u m ss) d opened))
+      (opened-first (openData t m (λ i. ss i .body)) (start gaps t u m ss) d opened))
 
-  start-is : start t u m ss ≡ d
-  start-is = opened-is (openData t m (λ i. ss i .body)) (start t u m ss) d opened
+  start-is : start gaps t u m ss ≡ d
+  start-is = opened-is (openData t m (λ i. ss i .body)) (start gaps t u m ss) d opened
 
-  start-state : State t m ss law-holds (given .obey) keep (start t u m ss)
+  start-state : State t m ss law-holds (given .obey) keep (start gaps t u m ss)
   start-state =
-      record { fine = start-fine t u m ss (given .some) (given .formed); keeps-is = kept keep; keeps-below = λ e. start-keep t u m ss e .below }
+      record { fine = start-fine gaps t u m ss (given .some) (given .formed); keeps-is = kept keep; keeps-below = λ e. start-keep gaps t u m ss e .below }
 
-  orders-from : (os : List Call) → Done t m ss law-holds (given .obey) keep os (start t u m ss) (performAll t m ss os (start t u m ss))
-  orders-from os = all-orders t m ss law-holds (given .obey) keep os (start t u m ss) start-state
+  orders-from : (os : List Call) → Done t m ss law-holds (given .obey) keep os (start gaps t u m ss) (performAll t m ss os (start gaps t u m ss))
+  orders-from os = all-orders t m ss law-holds (given .obey) keep os (start gaps t u m ss) start-state
 
-  held-nothing : held t (start t u m ss) ≡ startCounts t
-  held-nothing = held-start t keep m (λ i. ss i .body)
+  held-nothing : held t (start gaps t u m ss) ≡ startCounts gaps t
+  held-nothing = held-start gaps t keep m (λ i. ss i .body)
 
   -- after these orders
   abbrev pub reached : List Call → Destination t
@@ -85,21 +85,21 @@ module _ (t : Ty) (body : List ℕ) (m : ℕ) (ss : ℕ → Column t) (u : Bool)
   state-after os = subst (λ x. State t m ss law-holds (given .obey) keep (performAll t m ss os x)) start-is (orders-from os .state)
 
   -- THE BOOK: the finished rows are the book's, row by row
-  pub the-book : (os : List Call) → readAll t (finished os) ≡ book t keep m ss os (startCounts t)
+  pub the-book : (os : List Call) → readAll t (finished os) ≡ book t keep m ss os (startCounts gaps t)
   the-book os =
-      subst (λ x. readAll t (intoBuilder t m ss (performAll t m ss os x)) ≡ book t keep m ss os (startCounts t)) start-is
+      subst (λ x. readAll t (intoBuilder t m ss (performAll t m ss os x)) ≡ book t keep m ss os (startCounts gaps t)) start-is
       (orders-from os .rows-are ∙ ap (book t keep m ss os) held-nothing)
 
   -- the book's length is the finished array's
-  pub book-length : (os : List Call) → finished os .len ≡ length (book t keep m ss os (startCounts t))
+  pub book-length : (os : List Call) → finished os .len ≡ length (book t keep m ss os (startCounts gaps t))
   book-length os = sym (length-seg (read t (finished os)) 0 (finished os .len)) ∙ ap length (the-book os)
 
   -- .. and the destination's, after every call
-  pub destination-length : (os : List Call) → reached os .len ≡ length (book t keep m ss os (startCounts t))
+  pub destination-length : (os : List Call) → reached os .len ≡ length (book t keep m ss os (startCounts gaps t))
   destination-length os = book-length os
 
   -- finished row i reads as entry i
-  pub book-row : (os : List Call) (i : ℕ) → i < finished os .len → read t (finished os) i ≡ getD (book t keep m ss os (startCounts t)) i null
+  pub book-row : (os : List Call) (i : ℕ) → i < finished os .len → read t (finished os) i ≡ getD (book t keep m ss os (startCounts gaps t)) i null
   book-row os i q =
       ap (read t (finished os)) (sym (zero-add i))
       ∙ sym (getD-seg (read t (finished os)) 0 (finished os .len) i null q)
@@ -110,9 +110,9 @@ module _ (t : Ty) (body : List ℕ) (m : ℕ) (ss : ℕ → Column t) (u : Bool)
   finished-obeys os = node-obeys (kindOf t m (λ i. ss i .body)) m ss law-holds (λ j q. given .obey j q .mask) (reached os) (state-after os .fine)
 
   -- THE RUNNING NULL COUNT is that of the accepted orders: a copy's zero bits, a null order's rows
-  pub running-nulls : (os : List Call) → reached os .null_count ≡ countedIf keep (bookNulls t keep m ss os (startCounts t))
+  pub running-nulls : (os : List Call) → reached os .null_count ≡ countedIf keep (bookNulls t keep m ss os (startCounts gaps t))
   running-nulls os =
-      subst (λ x. performAll t m ss os x .null_count ≡ countedIf keep (bookNulls t keep m ss os (startCounts t))) start-is
+      subst (λ x. performAll t m ss os x .null_count ≡ countedIf keep (bookNulls t keep m ss os (startCounts gaps t))) start-is
       (orders-from os .count-is ∙ zero-add _ ∙ ap (λ c. countedIf keep (bookNulls t keep m ss os c)) held-nothing)
 
   -- EVERY NODE IS FINISHED AS THE RUST DOES, by its running null count: validity is kept where that is above 0, and it is the null count

@@ -1,12 +1,12 @@
 -- What is accepted of narrow sources is accepted of wide ones, with the same counts. Assumes nothing.
 use mathlib.Core.Path.{_≡_, refl, ap, ap₂}
-use mathlib.Core.Bool.{Bool, true, false}
+use mathlib.Core.Bool.{Bool, true, false, cond}
 use mathlib.Core.List.{List, [], _∷_, List·Memᴰ, List·Memᴰ·head, List·Memᴰ·tail}
 use Prim.Native.Nat.{ℕ, zero, suc, _+_, _-_, _≤_, _<_}
 use native.Mathlib.Nat.{zero-add, add-assoc}
 use native.Mathlib.Omega.{arith}
 use lib.ListN.{getD}
-use lib.Dec.{ltb, leb}
+use lib.Dec.{ltb, leb, eqb}
 use Rattle.columnar.specs.Row.{Row, union}
 use Rattle.columnar.specs.Types.{Plain, half, Ty}
 use Rattle.columnar.specs.Array.{Array, item, Obeys}
@@ -20,9 +20,9 @@ use Rattle.columnar.specs.Wider.{Declared, PlainWider, wFixed, wString, Wider, 
 use Rattle.columnar.proofs.Kept.{half-mono}
 use Rattle.columnar.proofs.WiderKinds.{ends-same, declares, offsets-most}
 use Rattle.columnar.proofs.FirstAbove.{first-same, first-below}
-use Rattle.model.specs.Try.{Try, done, stop, then}
+use Rattle.model.specs.Try.{Try, done, stop, then, guard}
 use Rattle.model.specs.Ordered.{firstNullable, home, unionNull, nullRow}
-use Rattle.model.specs.Grounds.{Counts, counts, rowsOf, kidOf, Ask, AskNulls, askOf, plainAsk, listViewRow, listViewAsk, listAsk, sparseAsk, withKid, denseRow, denseAsk, firstRun, runCount, runEndAsk, askCopy, sparseNulls, denseNulls, runEndNulls, plainNulls, unlessNone, nullsAsk, askNulls, startCounts}
+use Rattle.model.specs.Grounds.{Counts, counts, rowsOf, bytesOf, kidOf, Ask, AskNulls, askOf, plainAsk, listViewRow, listViewAsk, listAsk, sparseAsk, withKid, denseRow, denseAsk, firstRun, runCount, runEndAsk, askCopy, sparseNulls, denseNulls, runEndNulls, plainNulls, unlessNone, nullsAsk, askNulls, startCounts}
 use Rattle.model.proofs.Follow.{Follows, same, free, among-same, follows-done, follows-refl, follows-then, follows-guard, ltb-up, follows-steps, follows-all}
 
 -- an array's slots a .. a + n - 1 ask the same of the counts, narrow and wide
@@ -235,7 +235,15 @@ module _ (ids : List ℕ) (nullable nullable′ : ℕ → Bool) (alike : (c : �
       (follows-then _ _ (k h m n (kidOf c h)) (λ y. same (counts (rowsOf c + n) 0 (withKid c h y))))))
 
 runs-nulls : (w w′ : ℕ) → w ≤ w′ → (ask ask′ : AskNulls) → NullsAgain ask ask′ → NullsAgain (runEndNulls w ask) (runEndNulls w′ ask′)
-runs-nulls w w′ ww ask ask′ k n c = follows-then _ _ (k 1 (kidOf c 0)) (λ y. follows-guard _ _ 7 7 (ltb-up _ (half w) (half w′) (half-mono ww)) (same _))
+runs-nulls w w′ ww ask ask′ k n c = go (eqb (bytesOf c) 2)
+  where
+    go : (t : Bool)
+        → Follows (cond t (guard (ltb (rowsOf c + n) (half w)) 7 (done (counts (rowsOf c + n) 2 (λ e. kidOf c 0))))
+        (then (ask 1 (kidOf c 0)) (λ x. guard (ltb (rowsOf c + n) (half w)) 7 (done (counts (rowsOf c + n) (cond (eqb (bytesOf c) 0) 0 2) (λ e. x))))))
+        (cond t (guard (ltb (rowsOf c + n) (half w′)) 7 (done (counts (rowsOf c + n) 2 (λ e. kidOf c 0))))
+        (then (ask′ 1 (kidOf c 0)) (λ x. guard (ltb (rowsOf c + n) (half w′)) 7 (done (counts (rowsOf c + n) (cond (eqb (bytesOf c) 0) 0 2) (λ e. x))))))
+    go true = follows-guard _ _ 7 7 (ltb-up _ (half w) (half w′) (half-mono ww)) (same _)
+    go false = follows-then _ _ (k 1 (kidOf c 0)) (λ y. follows-guard _ _ 7 7 (ltb-up _ (half w) (half w′) (half-mono ww)) (same _))
 
 nulls-again : {t t′ : Ty} → Wider t t′ → NullsAgain (nullsAsk t) (nullsAsk t′)
 nulls-again (wPlain d) = plain-nulls d
@@ -261,15 +269,15 @@ nulls-wider d n c c′ e = follows-done c′ (nulls-again d n c) e
 
 -- ---- the start, and what an ordered null reads as
 
-pub start-counts-wider : {t t′ : Ty} → Wider t t′ → startCounts t ≡ startCounts t′
-start-counts-wider (wPlain d) = refl
-start-counts-wider wView = refl
-start-counts-wider (wListView w w′ ww d) = ap (λ x. counts 0 0 (λ e. x)) (start-counts-wider d)
-start-counts-wider (wList w w′ ww d) = ap (λ x. counts 0 0 (λ e. x)) (start-counts-wider d)
-start-counts-wider (wSparse ids n d) = ap (counts 0 0) (among-same ids _ _ (λ e m. start-counts-wider (d e (declares e ids m))))
-start-counts-wider (wDense ids n d) = ap (counts 0 0) (among-same ids _ _ (λ e m. start-counts-wider (d e (declares e ids m))))
-start-counts-wider (wRunEnd w w′ ww d) = ap (λ x. counts 0 0 (λ e. x)) (start-counts-wider d)
-start-counts-wider (wDictionary k k′ kk d) = refl
+pub start-counts-wider : (gaps : Bool) {t t′ : Ty} → Wider t t′ → startCounts gaps t ≡ startCounts gaps t′
+start-counts-wider gaps (wPlain d) = refl
+start-counts-wider gaps wView = refl
+start-counts-wider gaps (wListView w w′ ww d) = ap (λ x. counts 0 0 (λ e. x)) (start-counts-wider gaps d)
+start-counts-wider gaps (wList w w′ ww d) = ap (λ x. counts 0 0 (λ e. x)) (start-counts-wider gaps d)
+start-counts-wider gaps (wSparse ids n d) = ap (counts 0 0) (among-same ids _ _ (λ e m. start-counts-wider gaps (d e (declares e ids m))))
+start-counts-wider gaps (wDense ids n d) = ap (counts 0 0) (among-same ids _ _ (λ e m. start-counts-wider gaps (d e (declares e ids m))))
+start-counts-wider gaps (wRunEnd w w′ ww d) = ap (λ x. counts 0 (cond gaps 1 0) (λ e. x)) (start-counts-wider gaps d)
+start-counts-wider gaps (wDictionary k k′ kk d) = refl
 
 union-null-same : (ids : List ℕ) (r r′ : ℕ → Row) (t : Try ℕ) → HomeIn ids t → ((c : ℕ) → List·Memᴰ c ids → r c ≡ r′ c) → unionNull r t ≡ unionNull r′ t
 union-null-same ids r r′ (done c) m h = ap (union c) (h c m)

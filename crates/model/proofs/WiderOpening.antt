@@ -152,7 +152,7 @@ keptOr p m ds b =
 
 joins-by-counts : (p : Plain) (m : ℕ) (vs : ℕ → Array (PlainBody p)) → FormedPlain p → ((j : ℕ) → j < m → Obeys true (PlainRule p) (vs j)) → Goes (joining p m vs) ↔ Goes (joinAsk p vs m (counts 0 0 leaf))
 joins-by-counts p m vs f g =
-    rw (← held-start (tPlain p) false m (λ i. vs i .body)) (goes-agrees (join-agrees p m vs g m (omega arith) (startNode (keeps false m vs) (plainStart p)) (start-plain p false m vs f)))
+    rw (← held-start false (tPlain p) false m (λ i. vs i .body)) (goes-agrees (join-agrees p m vs g m (omega arith) (startNode (keeps false m vs) (plainStart p)) (start-plain p false m vs f)))
 
 module _ {p p′ : Plain} (d : PlainWider p p′) (f : FormedPlain p) (f′ : FormedPlain p′) (m : ℕ) where
   joins-wider : (vs : ℕ → Array (PlainBody p)) (vs′ : ℕ → Array (PlainBody p′)) → ((i : ℕ) → i < m → Kept (PlainKept d) (vs i) (vs′ i))
@@ -215,5 +215,5 @@ module _ {t t′ : Ty} (d : Wider t t′) (f : Formed t) (f′ : Formed t′) (m
   pub open-wider : openData t m (λ i. ss i .body) ≡ done tt → openData t′ m (λ i. ss′ i .body) ≡ done tt
   open-wider e = follows-done tt (open-again d f f′ m ss ss′ (h .each) (h .sharing) s) e
 
-  pub opening-wider : (u : Bool) (x : Destination t) → tryWithCapacities t u m ss ≡ done x → tryWithCapacities t′ u m ss′ ≡ done (start t′ u m ss′)
-  opening-wider u x e = ap (λ a. then a (λ y. done (start t′ u m ss′))) (open-wider (opened (openData t m (λ i. ss i .body)) (start t u m ss) x e))
+  pub opening-wider : (gaps : Bool) (u : Bool) (x : Destination t) → tryWithCapacities gaps t u m ss ≡ done x → tryWithCapacities gaps t′ u m ss′ ≡ done (start gaps t′ u m ss′)
+  opening-wider gaps u x e = ap (λ a. then a (λ y. done (start gaps t′ u m ss′))) (open-wider (opened (openData t m (λ i. ss i .body)) (start gaps t u m ss) x e))

@@ -18,26 +18,26 @@ use Rattle.model.proofs.WiderAnswers.{keeps-wider, answer-wider, entere
 use Rattle.model.proofs.WiderBook.{accepted-again, book-again}
 use Rattle.model.proofs.WiderOpening.{opening-wider}
 
--- u: whether the caller asks that nulls are kept, "opened with the same choices"
-module _ {t t′ : Ty} (d : Wider t t′) (f : Formed t) (f′ : Formed t′) (u : Bool) (m : ℕ) (ss : ℕ → Column t) (ss′ : ℕ → Column t′) (h : Again d m ss ss′)
+-- gaps, u: whether null orders behind nulls grow their run, and whether the caller asks that nulls are kept, "opened with the same choices"
+module _ {t t′ : Ty} (d : Wider t t′) (f : Formed t) (f′ : Formed t′) (gaps u : Bool) (m : ℕ) (ss : ℕ → Column t) (ss′ : ℕ → Column t′) (h : Again d m ss ss′)
     (good : (i : ℕ) → i < m → Source t (ss i)) where
   -- the orders of a list that are accepted after the opening
   abbrev pub orders : List Call → List Call
-  orders os = accepted t (keeps u m ss) m ss os (startCounts t)
+  orders os = accepted t (keeps u m ss) m ss os (startCounts gaps t)
 
   pub record MadeAgain (os : List Call) : Type 0 where
-    pub opened : tryWithCapacities t′ u m ss′ ≡ done (start t′ u m ss′)
-    pub all-accepted : AllAccepted t′ (keeps u m ss′) m ss′ (orders os) (startCounts t′)
-    pub same-rows : book t (keeps u m ss) m ss os (startCounts t) ≡ book t′ (keeps u m ss′) m ss′ (orders os) (startCounts t′)
+    pub opened : tryWithCapacities gaps t′ u m ss′ ≡ done (start gaps t′ u m ss′)
+    pub all-accepted : AllAccepted t′ (keeps u m ss′) m ss′ (orders os) (startCounts gaps t′)
+    pub same-rows : book t (keeps u m ss) m ss os (startCounts gaps t) ≡ book t′ (keeps u m ss′) m ss′ (orders os) (startCounts gaps t′)
 
-  pub made-again : (x : Destination t) → tryWithCapacities t u m ss ≡ done x → (os : List Call) → MadeAgain os
+  pub made-again : (x : Destination t) → tryWithCapacities gaps t u m ss ≡ done x → (os : List Call) → MadeAgain os
   made-again x e os =
       let k : keeps u m ss ≡ keeps u m ss′ = keeps-wider u m ss ss′ (h .each) in
-      let c : startCounts t ≡ startCounts t′ = start-counts-wider d in
+      let c : startCounts gaps t ≡ startCounts gaps t′ = start-counts-wider gaps d in
       record {
-        opened = opening-wider d f f′ m ss ss′ h good u x e;
+        opened = opening-wider d f f′ m ss ss′ h good gaps u x e;
         all-accepted = subst₂ (λ b n. AllAccepted t′ b m ss′ (orders os) n) k c
-            (accepted-again t t′ (keeps u m ss) m ss ss′ (answer-wider d m ss ss′ h good (keeps u m ss)) (entered-wider d m ss ss′ h good (keeps u m ss)) os (startCounts t));
-        same-rows = subst₂ (λ b n. book t (keeps u m ss) m ss os (startCounts t) ≡ book t′ b m ss′ (orders os) n) k c
-            (book-again t t′ (keeps u m ss) m ss ss′ (answer-wider d m ss ss′ h good (keeps u m ss)) (entered-wider d m ss ss′ h good (keeps u m ss)) os (startCounts t));
+            (accepted-again t t′ (keeps u m ss) m ss ss′ (answer-wider d m ss ss′ h good (keeps u m ss)) (entered-wider d m ss ss′ h good (keeps u m ss)) os (startCounts gaps t));
+        same-rows = subst₂ (λ b n. book t (keeps u m ss) m ss os (startCounts gaps t) ≡ book t′ b m ss′ (orders os) n) k c
+            (book-again t t′ (keeps u m ss) m ss ss′ (answer-wider d m ss ss′ h good (keeps u m ss)) (entered-wider d m ss ss′ h good (keeps u m ss)) os (startCounts gaps t));
       }

@@ -37,9 +37,9 @@ few-wider (wRunEnd n n′ e d) x x′ h v = few-wider d (x .body .values) (x′ 
 few-wider (wDictionary k k′ e d) x x′ h v = tt
 
 -- "within 01's limits": the wide type is one of 01's, and the wide sources stand in one body
-module _ {t t′ : Ty} (w : Wider t t′) (u : Bool) (m : ℕ) (body body′ : List ℕ) (ss : ℕ → Column t) (ss′ : ℕ → Column t′)
+module _ {t t′ : Ty} (w : Wider t t′) (gaps u : Bool) (m : ℕ) (body body′ : List ℕ) (ss : ℕ → Column t) (ss′ : ℕ → Column t′)
     (given : Sources t body m ss) (formed′ : Formed t′) (stand′ : (j : ℕ) → j < m → EachDictionary (Stands body′) t′ (ss′ j .body)) (again : Again w m ss ss′)
-    (d : Destination t) (opened : tryWithCapacities t u m ss ≡ done d) where
+    (d : Destination t) (opened : tryWithCapacities gaps t u m ss ≡ done d) where
   -- then they are sources of a join too
   pub given′ : Sources t′ body′ m ss′
   given′ =
@@ -54,19 +54,19 @@ module _ {t t′ : Ty} (w : Wider t t′) (u : Bool) (m : ℕ) (body body′ : L
 
   -- the accepted ones of a list of orders
   abbrev pub made : List Call → List Call
-  made os = accepted t (keeps u m ss) m ss os (startCounts t)
+  made os = accepted t (keeps u m ss) m ss os (startCounts gaps t)
 
   pub record Wide (os : List Call) : Type 0 where
-    pub opens : tryWithCapacities t′ u m ss′ ≡ done (start t′ u m ss′)
-    pub accepts : AllAccepted t′ (keeps u m ss′) m ss′ (made os) (startCounts t′)
-    pub same-rows : readAll t (intoBuilder t m ss (performAll t m ss os d)) ≡ readAll t′ (intoBuilder t′ m ss′ (performAll t′ m ss′ (made os) (start t′ u m ss′)))
+    pub opens : tryWithCapacities gaps t′ u m ss′ ≡ done (start gaps t′ u m ss′)
+    pub accepts : AllAccepted t′ (keeps u m ss′) m ss′ (made os) (startCounts gaps t′)
+    pub same-rows : readAll t (intoBuilder t m ss (performAll t m ss os d)) ≡ readAll t′ (intoBuilder t′ m ss′ (performAll t′ m ss′ (made os) (start gaps t′ u m ss′)))
 
   pub stored-wider : (os : List Call) → Wide os
   stored-wider os =
-      let x = made-again w (given .formed) formed′ u m ss ss′ again (given .obey) d opened os in
+      let x = made-again w (given .formed) formed′ gaps u m ss ss′ again (given .obey) d opened os in
       record {
         opens = x .opened;
         accepts = x .all-accepted;
-        same-rows = the-book t body m ss u given d opened os ∙ x .same-rows
-            ∙ sym (the-book t′ body′ m ss′ u given′ (start t′ u m ss′) (x .opened) (made os));
+        same-rows = the-book gaps t body m ss u given d opened os ∙ x .same-rows
+            ∙ sym (the-book gaps t′ body′ m ss′ u given′ (start gaps t′ u m ss′) (x .opened) (made os));
       }

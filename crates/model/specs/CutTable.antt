@@ -33,7 +33,7 @@ abbrev pub runsCounted : Destination nested → List ℕ
 runsCounted d = d .«data» .ends .len ∷ d .«data» .values .«data» .child .«data» .ends .len ∷ []
 
 abbrev pub ofLists : List Call → Try (List ℕ)
-ofLists os = mapTry runsCounted (joined nested false 1 (sources runOfLists []) os)
+ofLists os = mapTry runsCounted (joined false nested false 1 (sources runOfLists []) os)
 
 -- two lists that begin and end inside one run: the child is copied in one stretch
 abbrev pub overRuns : Ty
@@ -43,7 +43,7 @@ abbrev pub listsOfRun : Column overRuns
 listsOfRun = whole 2 (record { offsets = coded 4 (0 ∷ 2 ∷ 4 ∷ []); child = whole 4 (record { ends = whole 1 (coded 4 (4 ∷ [])); values = whole 1 (65 ∷ []) }) })
 
 abbrev pub ofRun : List Call → Try (List ℕ)
-ofRun os = mapTry (λ (d : Destination overRuns). d .«data» .child .«data» .ends .len ∷ []) (joined overRuns false 1 (sources listsOfRun []) os)
+ofRun os = mapTry (λ (d : Destination overRuns). d .«data» .child .«data» .ends .len ∷ []) (joined false overRuns false 1 (sources listsOfRun []) os)
 
 -- one run of two rows, each the list of two rows in two runs
 abbrev pub deep : Ty
@@ -59,15 +59,15 @@ runOfPlain =
 
 abbrev pub ofPlain : List Call → Try (List ℕ)
 ofPlain os =
-    mapTry (λ (d : Destination deep). d .«data» .ends .len ∷ d .«data» .values .«data» .child .«data» .ends .len ∷ []) (joined deep false 1 (sources runOfPlain []) os)
+    mapTry (λ (d : Destination deep). d .«data» .ends .len ∷ d .«data» .values .«data» .child .«data» .ends .len ∷ []) (joined false deep false 1 (sources runOfPlain []) os)
 
 abbrev pub cutsGiven : List (Try (List ℕ))
 cutsGiven =
-    k123 (copy 0 1 5 ∷ [])
-    ∷ k123 (copy 0 1 3 ∷ copy 0 3 5 ∷ [])  -- inside B's run
-    ∷ k123 (copy 0 1 4 ∷ copy 0 4 5 ∷ [])  -- at its end
-    ∷ k123 (copy 0 1 1 ∷ copy 0 1 5 ∷ [])  -- an empty half
-    ∷ k123 (copy 0 1 5 ∷ copy 0 5 5 ∷ [])
+    k123 false (copy 0 1 5 ∷ [])
+    ∷ k123 false (copy 0 1 3 ∷ copy 0 3 5 ∷ [])  -- inside B's run
+    ∷ k123 false (copy 0 1 4 ∷ copy 0 4 5 ∷ [])  -- at its end
+    ∷ k123 false (copy 0 1 1 ∷ copy 0 1 5 ∷ [])  -- an empty half
+    ∷ k123 false (copy 0 1 5 ∷ copy 0 5 5 ∷ [])
     ∷ ofLists (copy 0 0 2 ∷ [])
     ∷ ofLists (copy 0 0 1 ∷ copy 0 1 2 ∷ [])
     ∷ ofRun (copy 0 0 2 ∷ [])

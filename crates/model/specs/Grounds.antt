@@ -2,7 +2,7 @@
 -- destination is looked at (01, "Grounds of refusal", 4 to 7, in the order that 01 gives). Assumes nothing.
 use mathlib.Core.Bool.{Bool, true, false, cond}
 use mathlib.Core.List.{List, [], _∷_}
-use Prim.Native.Nat.{ℕ, zero, suc, _+_, _-_, _*_, _≤_, _<_}
+use Prim.Native.Nat.{ℕ, zero, suc, _+_, _-_, _*_, _≤_, _<_, min}
 use lib.ListN.{length, getD}
 use lib.Dec.{ltb, leb, eqb}
 use Rattle.columnar.specs.Types.{Plain, fixed, string, half, Ty, tPlain, tView, tListView, tList, tSparse, tDense, tRunEnd, tDictionary}
@@ -119,7 +119,7 @@ abbrev pub runEndAsk : {P : Type 0} → ℕ → (P → Ask) → RunEnd P → Ask
 runEndAsk w ask b a zero c = done c
 runEndAsk w ask b a (suc n) c =
     guard (ltb (rowsOf c + suc n) (half w)) 7
-    (then (askOf ask (b .values) (firstRun w b a) (runCount w b a (suc n)) (kidOf c 0)) (λ k. done (counts (rowsOf c + suc n) 0 (λ e. k))))
+    (then (askOf ask (b .values) (firstRun w b a) (runCount w b a (suc n)) (kidOf c 0)) (λ k. done (counts (rowsOf c + suc n) (min (bytesOf c) 1) (λ e. k))))
 
 -- A COPY AT A NODE
 abbrev pub askCopy : (t : Ty) → Body t → Ask
@@ -148,10 +148,11 @@ denseNulls ids nullable ask n c =
     guard (leb (rowsOf (kidOf c h) + n) (half 4)) 6
     (then (ask h n (kidOf c h)) (λ k. done (counts (rowsOf c + n) 0 (withKid c h k)))))
 
--- "a run-end node asks its values before 7"
+-- "a run-end node asks its values before 7"; where its last run grows, it "asks the values for nothing"
 abbrev pub runEndNulls : ℕ → AskNulls → AskNulls
 runEndNulls w ask n c =
-    then (ask 1 (kidOf c 0)) (λ k. guard (ltb (rowsOf c + n) (half w)) 7 (done (counts (rowsOf c + n) 0 (λ e. k))))
+    cond (eqb (bytesOf c) 2) (guard (ltb (rowsOf c + n) (half w)) 7 (done (counts (rowsOf c + n) 2 (λ e. kidOf c 0))))
+    (then (ask 1 (kidOf c 0)) (λ k. guard (ltb (rowsOf c + n) (half w)) 7 (done (counts (rowsOf c + n) (cond (eqb (bytesOf c) 0) 0 2) (λ e. k)))))
 
 abbrev pub plainNulls : Plain → AskNulls
 plainNulls (fixed k) n c = moreRows n c
@@ -178,12 +179,12 @@ abbrev pub askNulls : Ty → AskNulls
 askNulls t = unlessNone (nullsAsk t)
 
 -- what a destination with no rows holds
-abbrev pub startCounts : Ty → Counts
-startCounts (tPlain p) = counts 0 0 leaf
-startCounts tView = counts 0 0 leaf
-startCounts (tListView w t) = counts 0 0 (λ e. startCounts t)
-startCounts (tList w t) = counts 0 0 (λ e. startCounts t)
-startCounts (tSparse ids nullable f) = counts 0 0 (among ids (λ e. startCounts (f e)))
-startCounts (tDense ids nullable f) = counts 0 0 (among ids (λ e. startCounts (f e)))
-startCounts (tRunEnd w t) = counts 0 0 (λ e. startCounts t)
-startCounts (tDictionary k p) = counts 0 0 leaf
+abbrev pub startCounts : Bool → Ty → Counts
+startCounts gaps (tPlain p) = counts 0 0 leaf
+startCounts gaps tView = counts 0 0 leaf
+startCounts gaps (tListView w t) = counts 0 0 (λ e. startCounts gaps t)
+startCounts gaps (tList w t) = counts 0 0 (λ e. startCounts gaps t)
+startCounts gaps (tSparse ids nullable f) = counts 0 0 (among ids (λ e. startCounts gaps (f e)))
+startCounts gaps (tDense ids nullable f) = counts 0 0 (among ids (λ e. startCounts gaps (f e)))
+startCounts gaps (tRunEnd w t) = counts 0 (cond gaps 1 0) (λ e. startCounts gaps t)
+startCounts gaps (tDictionary k p) = counts 0 0 leaf

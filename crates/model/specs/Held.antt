@@ -23,7 +23,7 @@ heldData (tListView w t) = λ d l. counts l 0 (λ e. heldNode (heldData t) (d .c
 heldData (tList w t) = λ d l. counts l 0 (λ e. heldNode (heldData t) (d .child))
 heldData (tSparse ids nullable f) = λ d l. counts l 0 (among ids (λ e. heldNode (heldData (f e)) (d .children e)))
 heldData (tDense ids nullable f) = λ d l. counts l 0 (among ids (λ e. heldNode (heldData (f e)) (d .children e)))
-heldData (tRunEnd w t) = λ d l. counts l 0 (λ e. heldNode (heldData t) (d .values))
+heldData (tRunEnd w t) = λ d l. counts l (d .gap) (λ e. heldNode (heldData t) (d .values))
 heldData (tDictionary k p) = λ d l. counts l 0 leaf
 
 abbrev pub held : (t : Ty) → Destination t → Counts

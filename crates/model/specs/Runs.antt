@@ -1,9 +1,10 @@
 -- Run-end columns. Follows arrow-data 60.1.0 src/transform/run.rs, Apache-2.0; see NOTICE. Assumes nothing.
-use mathlib.Core.Bool.{Bool, true}
+use mathlib.Core.Bool.{Bool, true, cond}
 use mathlib.Core.Option.{none}
 use mathlib.Core.List.{List, [], _++_}
-use Prim.Native.Nat.{ℕ, zero, suc, _+_, _-_, min}
-use lib.Dec.{ltb}
+use Prim.Native.Nat.{ℕ, zero, suc, _+_, _-_, _*_, min}
+use lib.ListN.{take}
+use lib.Dec.{ltb, eqb}
 use Rattle.number.specs.Number.{encode}
 use Rattle.columnar.specs.Types.{half}
 use Rattle.columnar.specs.Array.{Array, item}
@@ -16,6 +17,7 @@ use Rattle.model.specs.Mutable.{Mutable, freezeNode}
 pub record Runs (D : Type 0) : Type 0 where
   pub ends : Mutable (List ℕ)
   pub values : Mutable D
+  pub gap : ℕ  -- 0: each null order adds a run; 1: not where the last run is one of null orders alone; 2: and it is
 
 -- `get_last_run_end`: 0 where there is no run
 abbrev pub lastEnd : ℕ → Mutable (List ℕ) → ℕ
@@ -40,13 +42,20 @@ runsExtend w extend s a (suc n) d =
     (record {
       ends = moreEnds (clipped w (endOf w (s .ends)) a (a + suc n) (lastEnd w (d .ends)) (firstRun w s a) (runCount w s a (suc n))) (runCount w s a (suc n)) (d .ends);
       values = v;
+      gap = min (d .gap) 1;
     })))
 
--- "A nonempty null order adds one run and one null value."
+-- the last end is v now
+abbrev pub overEnd : ℕ → ℕ → Mutable (List ℕ) → Mutable (List ℕ)
+overEnd w v x = record { len = x .len; null_count = x .null_count; bits = x .bits; «data» = take ((x .len - 1) * w) (x .«data») ++ encode w v }
+
+-- "A nonempty null order adds one run and one null value"; with gap 2 it "lengthens the last run" and asks the values for nothing
 abbrev pub runsNull : {D : Type 0} → ℕ → (ℕ → Mutable D → Try (Mutable D)) → ℕ → Runs D → Try (Runs D)
 runsNull w nulls n d =
-    then (nulls 1 (d .values))
-    (λ v. guard (ltb (lastEnd w (d .ends) + n) (half w)) 7 (done (record { ends = moreEnds (encode w (lastEnd w (d .ends) + n)) 1 (d .ends); values = v })))
+    cond (eqb (d .gap) 2)
+    (guard (ltb (lastEnd w (d .ends) + n) (half w)) 7 (done (record { ends = overEnd w (lastEnd w (d .ends) + n) (d .ends); values = d .values; gap = 2 })))
+    (then (nulls 1 (d .values))
+    (λ v. guard (ltb (lastEnd w (d .ends) + n) (half w)) 7 (done (record { ends = moreEnds (encode w (lastEnd w (d .ends) + n)) 1 (d .ends); values = v; gap = cond (eqb (d .gap) 0) 0 2 }))))
 
 abbrev pub runsFreeze : {P D : Type 0} → (Mutable D → Array P) → Runs D → RunEnd P
 runsFreeze f d = record { ends = freezeNode true (λ b. b) (d .ends); values = f (d .values) }

@@ -1,4 +1,4 @@
--- The starred rows K1 to K12 of 01's table of checked rows, K16, K17, and K18 of lists (02, W4): what the definitions give, and what 01 says. Assumes nothing.
+-- The starred rows K1 to K12 of 01's table of checked rows, K16, K17, K18 of lists (02, W4), and K3 followed by 2 nulls (02, W14): what the definitions give, and what 01 says. Assumes nothing.
 use mathlib.Core.Bool.{Bool, true, false, cond}
 use mathlib.Core.Option.{Option, none, some}
 use mathlib.Core.List.{List, [], _∷_, _++_}
@@ -40,7 +40,7 @@ sources x (y ∷ l) zero = x
 sources x (y ∷ l) (suc j) = sources y l j
 
 -- the opening, then the orders up to the first refusal
-module _ (t : Ty) (keep : Bool) (m : ℕ) (ss : ℕ → Column t) where
+module _ (gaps : Bool) (t : Ty) (keep : Bool) (m : ℕ) (ss : ℕ → Column t) where
   abbrev pub one : Call → Destination t → Try (Destination t)
   one (copy j a e) d = tryExtend t m ss j a e d
   one (nulls n) d = tryExtendNulls t n d
@@ -50,7 +50,7 @@ module _ (t : Ty) (keep : Bool) (m : ℕ) (ss : ℕ → Column t) where
   all (o ∷ os) d = then (one o d) (all os)
 
   abbrev pub joined : List Call → Try (Destination t)
-  joined os = then (tryWithCapacities t keep m ss) (all os)
+  joined os = then (tryWithCapacities gaps t keep m ss) (all os)
 
 -- ---- run ends: K1 to K4
 
@@ -72,15 +72,15 @@ abbrev pub runsShown : (w : ℕ) → Destination (tRunEnd w (tPlain (fixed u8)))
 runsShown w d =
     decoded w (d .«data» .ends .«data») (d .«data» .ends .len) ++ d .«data» .values .«data» ++ keptBits (d .«data» .values .bits) ++ (d .null_count ∷ [])
 
-abbrev pub k123 : List Call → Try (List ℕ)
-k123 os = mapTry (runsShown 4) (joined (tRunEnd 4 (tPlain (fixed u8))) true 1 (sources runs129 []) os)
+abbrev pub k123 : Bool → List Call → Try (List ℕ)
+k123 gaps os = mapTry (runsShown 4) (joined gaps (tRunEnd 4 (tPlain (fixed u8))) true 1 (sources runs129 []) os)
 
 -- one run of 32,767 rows, value 9
 abbrev pub runLong : Column (tRunEnd 2 (tPlain (fixed u8)))
 runLong = record { len = 32767; off = 0; valid = none; body = record { ends = whole 1 (coded 2 (32767 ∷ [])); values = whole 1 (9 ∷ []) } }
 
 abbrev pub k4 : ℕ → Try (List ℕ)
-k4 n = mapTry (runsShown 2) (joined (tRunEnd 2 (tPlain (fixed u8))) false 1 (sources runLong []) (copy 0 0 32766 ∷ copy 0 0 n ∷ []))
+k4 n = mapTry (runsShown 2) (joined false (tRunEnd 2 (tPlain (fixed u8))) false 1 (sources runLong []) (copy 0 0 32766 ∷ copy 0 0 n ∷ []))
 
 -- ---- byte strings: K5, K6
 
@@ -97,7 +97,7 @@ abbrev pub textShown : Destination (tPlain (string 4)) → List ℕ
 textShown d = decoded 4 (d .«data» .offsets) (suc (d .len)) ++ d .«data» .chars
 
 abbrev pub k56 : List Call → Try (List ℕ)
-k56 os = mapTry textShown (joined (tPlain (string 4)) true 2 (sources vanstop (ten ∷ [])) (copy 1 0 1 ∷ copy 0 1 3 ∷ os))
+k56 os = mapTry textShown (joined false (tPlain (string 4)) true 2 (sources vanstop (ten ∷ [])) (copy 1 0 1 ∷ copy 0 1 3 ∷ os))
 
 -- ---- dictionaries: K7 to K10
 
@@ -113,7 +113,7 @@ firstKeyed k (suc n) = keyed k none 0 (suc n) 0
 abbrev pub k79 : (k : Number) → Option (List ℕ) → ℕ → ℕ → ℕ → Try (List ℕ)
 k79 k v n key n′ =
     mapTry (λ (d : Destination (tDictionary k (fixed u8))). d .«data»)
-    (joined (tDictionary k (fixed u8)) false 2 (sources (firstKeyed k n) (keyed k v key n′ 1000 ∷ [])) (copy 1 0 1 ∷ []))
+    (joined false (tDictionary k (fixed u8)) false 2 (sources (firstKeyed k n) (keyed k v key n′ 1000 ∷ [])) (copy 1 0 1 ∷ []))
 
 -- ---- one dictionary that both sources share: K16
 
@@ -121,7 +121,7 @@ k79 k v n key n′ =
 abbrev pub k16 : ℕ → ℕ → Try (List ℕ)
 k16 n key =
     mapTry (λ (d : Destination (tDictionary u8 (fixed u8))). d .«data»)
-    (joined (tDictionary u8 (fixed u8)) false 2 (sources (keyed u8 none 0 n 1000) (keyed u8 none key n 1000 ∷ [])) (copy 1 0 1 ∷ []))
+    (joined false (tDictionary u8 (fixed u8)) false 2 (sources (keyed u8 none 0 n 1000) (keyed u8 none key n 1000 ∷ [])) (copy 1 0 1 ∷ []))
 
 -- two entries, the second null, whose validity begins at a place of its own
 abbrev pub maskedAt : ℕ → Column (tDictionary u8 (fixed u8))
@@ -137,7 +137,7 @@ maskedAt place =
 abbrev pub k16masked : ℕ → ℕ → Try (List ℕ)
 k16masked first second =
     mapTry (λ (d : Destination (tDictionary u8 (fixed u8))). d .«data»)
-    (joined (tDictionary u8 (fixed u8)) false 2 (sources (maskedAt first) (maskedAt second ∷ [])) (copy 1 0 1 ∷ []))
+    (joined false (tDictionary u8 (fixed u8)) false 2 (sources (maskedAt first) (maskedAt second ∷ [])) (copy 1 0 1 ∷ []))
 
 -- ---- a dictionary with a null entry: K17
 
@@ -180,7 +180,7 @@ keysShown ss d =
 
 -- source 1's rows behind source 0's dictionary
 abbrev pub k17 : Column named → Column named → Try (List ℕ)
-k17 x y = let ss = sources x (y ∷ []) in mapTry (keysShown ss) (joined named false 2 ss (copy 1 0 3 ∷ []))
+k17 x y = let ss = sources x (y ∷ []) in mapTry (keysShown ss) (joined false named false 2 ss (copy 1 0 3 ∷ []))
 
 -- ---- list-views: K11
 
@@ -204,7 +204,7 @@ abbrev pub listsShown : Destination (tListView 4 (tPlain (fixed u8))) → List �
 listsShown d = decoded 4 (d .«data» .buffer1) (d .len) ++ decoded 4 (d .«data» .buffer2) (d .len) ++ (d .«data» .child .len ∷ [])
 
 abbrev pub k11 : Column (tListView 4 (tPlain (fixed u8))) → Try (List ℕ)
-k11 x = mapTry listsShown (joined (tListView 4 (tPlain (fixed u8))) false 2 (sources x (listTen ∷ [])) (copy 1 0 1 ∷ copy 0 0 (x .len) ∷ []))
+k11 x = mapTry listsShown (joined false (tListView 4 (tPlain (fixed u8))) false 2 (sources x (listTen ∷ [])) (copy 1 0 1 ∷ copy 0 0 (x .len) ∷ []))
 
 -- ---- lists: K18
 
@@ -220,7 +220,7 @@ abbrev pub tripsShown : Destination (tList 4 (tPlain (fixed u8))) → List ℕ
 tripsShown d = decoded 4 (d .«data» .buffer1) (suc (d .len)) ++ d .«data» .child .«data»
 
 abbrev pub k18 : List Call → Try (List ℕ)
-k18 os = mapTry tripsShown (joined (tList 4 (tPlain (fixed u8))) true 2 (sources trips (tripTen ∷ [])) (copy 1 0 1 ∷ copy 0 1 3 ∷ os))
+k18 os = mapTry tripsShown (joined false (tList 4 (tPlain (fixed u8))) true 2 (sources trips (tripTen ∷ [])) (copy 1 0 1 ∷ copy 0 1 3 ∷ os))
 
 -- ---- dense unions: K12
 
@@ -242,15 +242,17 @@ abbrev pub positionsShown : Destination fives → List ℕ
 positionsShown d = decoded 4 (d .«data» .buffer2) (d .len)
 
 abbrev pub k12 : Try (List ℕ)
-k12 = mapTry positionsShown (joined fives false 2 (sources sevens (twoFives ∷ [])) (copy 1 0 2 ∷ copy 0 0 3 ∷ []))
+k12 = mapTry positionsShown (joined false fives false 2 (sources sevens (twoFives ∷ [])) (copy 1 0 2 ∷ copy 0 0 3 ∷ []))
 
 -- ---- THE TABLE: what the definitions give
 
 abbrev pub given : List (Try (List ℕ))
 given =
-    k123 (copy 0 1 5 ∷ [])  -- K1
-    ∷ k123 (copy 0 1 5 ∷ copy 0 1 5 ∷ [])  -- K2
-    ∷ k123 (copy 0 1 5 ∷ copy 0 1 5 ∷ nulls 5 ∷ [])  -- K3
+    k123 false (copy 0 1 5 ∷ [])  -- K1
+    ∷ k123 false (copy 0 1 5 ∷ copy 0 1 5 ∷ [])  -- K2
+    ∷ k123 false (copy 0 1 5 ∷ copy 0 1 5 ∷ nulls 5 ∷ [])  -- K3
+    ∷ k123 true (copy 0 1 5 ∷ copy 0 1 5 ∷ nulls 5 ∷ nulls 2 ∷ [])  -- K3 followed by 2 nulls, one run for nulls
+    ∷ k123 false (copy 0 1 5 ∷ copy 0 1 5 ∷ nulls 5 ∷ nulls 2 ∷ [])  -- .. and a run for each order
     ∷ k4 1  -- K4
     ∷ k4 2
     ∷ k56 []  -- K5
@@ -281,6 +283,8 @@ expected =
     done (3 ∷ 4 ∷ 66 ∷ 67 ∷ 1 ∷ 1 ∷ 0 ∷ [])
     ∷ done (3 ∷ 4 ∷ 7 ∷ 8 ∷ 66 ∷ 67 ∷ 66 ∷ 67 ∷ 1 ∷ 1 ∷ 1 ∷ 1 ∷ 0 ∷ [])
     ∷ done (3 ∷ 4 ∷ 7 ∷ 8 ∷ 13 ∷ 66 ∷ 67 ∷ 66 ∷ 67 ∷ 0 ∷ 1 ∷ 1 ∷ 1 ∷ 1 ∷ 0 ∷ 5 ∷ [])  -- the fifth value's bit is 0
+    ∷ done (3 ∷ 4 ∷ 7 ∷ 8 ∷ 15 ∷ 66 ∷ 67 ∷ 66 ∷ 67 ∷ 0 ∷ 1 ∷ 1 ∷ 1 ∷ 1 ∷ 0 ∷ 7 ∷ [])
+    ∷ done (3 ∷ 4 ∷ 7 ∷ 8 ∷ 13 ∷ 15 ∷ 66 ∷ 67 ∷ 66 ∷ 67 ∷ 0 ∷ 0 ∷ 1 ∷ 1 ∷ 1 ∷ 1 ∷ 0 ∷ 0 ∷ 7 ∷ [])
     ∷ done (32766 ∷ 32767 ∷ 9 ∷ 9 ∷ 0 ∷ [])
     ∷ stop 7
     ∷ done (0 ∷ 10 ∷ 10 ∷ 14 ∷ replicate 10 46 ++ (115 ∷ 116 ∷ 111 ∷ 112 ∷ []))

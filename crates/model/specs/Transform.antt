@@ -94,18 +94,18 @@ openData (tRunEnd w t) = λ m ss. openData t m (λ i. ss i .values .body)
 openData (tDictionary k p) = λ m ss. then (theDictionary p m ss) (λ v. guard (allKeysFit k m m ss) 8 (done tt))
 
 -- a node with no rows that keeps nulls or not; "this passes to union, list-view and run-value children, not to run ends and dictionaries"; a list's child keeps too
-abbrev pub startData : (t : Ty) → Bool → ℕ → (ℕ → Body t) → Grown t
-startData (tPlain p) = λ u m ss. plainStart p
-startData tView = λ u m ss. []
-startData (tListView w t) = λ u m ss. record { buffer1 = []; buffer2 = []; child = startNode (keeps u m (λ i. ss i .child)) (startData t (keeps u m (λ i. ss i .child)) m (λ i. ss i .child .body)) }
-startData (tList w t) = λ u m ss. record { buffer1 = encode w 0; child = startNode (keeps u m (λ i. ss i .child)) (startData t (keeps u m (λ i. ss i .child)) m (λ i. ss i .child .body)) }
-startData (tSparse ids nullable f) = λ u m ss. record { buffer1 = []; children = λ c. startNode (keeps u m (λ i. ss i .children c)) (startData (f c) (keeps u m (λ i. ss i .children c)) m (λ i. ss i .children c .body)) }
-startData (tDense ids nullable f) = λ u m ss. record { buffer1 = []; buffer2 = []; children = λ c. startNode (keeps u m (λ i. ss i .children c)) (startData (f c) (keeps u m (λ i. ss i .children c)) m (λ i. ss i .children c .body)) }
-startData (tRunEnd w t) = λ u m ss. record { ends = startNode false []; values = startNode (keeps u m (λ i. ss i .values)) (startData t (keeps u m (λ i. ss i .values)) m (λ i. ss i .values .body)) }
-startData (tDictionary k p) = λ u m ss. []
+abbrev pub startData : Bool → (t : Ty) → Bool → ℕ → (ℕ → Body t) → Grown t
+startData gaps (tPlain p) = λ u m ss. plainStart p
+startData gaps tView = λ u m ss. []
+startData gaps (tListView w t) = λ u m ss. record { buffer1 = []; buffer2 = []; child = startNode (keeps u m (λ i. ss i .child)) (startData gaps t (keeps u m (λ i. ss i .child)) m (λ i. ss i .child .body)) }
+startData gaps (tList w t) = λ u m ss. record { buffer1 = encode w 0; child = startNode (keeps u m (λ i. ss i .child)) (startData gaps t (keeps u m (λ i. ss i .child)) m (λ i. ss i .child .body)) }
+startData gaps (tSparse ids nullable f) = λ u m ss. record { buffer1 = []; children = λ c. startNode (keeps u m (λ i. ss i .children c)) (startData gaps (f c) (keeps u m (λ i. ss i .children c)) m (λ i. ss i .children c .body)) }
+startData gaps (tDense ids nullable f) = λ u m ss. record { buffer1 = []; buffer2 = []; children = λ c. startNode (keeps u m (λ i. ss i .children c)) (startData gaps (f c) (keeps u m (λ i. ss i .children c)) m (λ i. ss i .children c .body)) }
+startData gaps (tRunEnd w t) = λ u m ss. record { ends = startNode false []; values = startNode (keeps u m (λ i. ss i .values)) (startData gaps t (keeps u m (λ i. ss i .values)) m (λ i. ss i .values .body)); gap = cond gaps 1 0 }
+startData gaps (tDictionary k p) = λ u m ss. []
 
-abbrev pub start : (t : Ty) → Bool → ℕ → (ℕ → Column t) → Destination t
-start t u m ss = startNode (keeps u m ss) (startData t (keeps u m ss) m (λ i. ss i .body))
+abbrev pub start : Bool → (t : Ty) → Bool → ℕ → (ℕ → Column t) → Destination t
+start gaps t u m ss = startNode (keeps u m ss) (startData gaps t (keeps u m ss) m (λ i. ss i .body))
 
 -- the finished data: a view's data buffers are those of all sources in order; a dictionary is the kept or the joined one
 abbrev pub freezeData : (t : Ty) → ℕ → (ℕ → Body t) → Grown t → Body t
@@ -119,8 +119,8 @@ freezeData (tRunEnd w t) = λ m ss d. runsFreeze (freezeNode (masks t) (freezeDa
 freezeData (tDictionary k p) = λ m ss d. record { keys = d; values = after (theDictionary p m ss) (ss 0 .values); starts = cond (shared m ss) (ss 0 .starts) [] }
 
 -- THE OPENING, of sources that obey the rules: `try_with_capacities`
-abbrev pub tryWithCapacities : (t : Ty) → Bool → ℕ → (ℕ → Column t) → Try (Destination t)
-tryWithCapacities t u m ss = then (openData t m (λ i. ss i .body)) (λ x. done (start t u m ss))
+abbrev pub tryWithCapacities : Bool → (t : Ty) → Bool → ℕ → (ℕ → Column t) → Try (Destination t)
+tryWithCapacities gaps t u m ss = then (openData t m (λ i. ss i .body)) (λ x. done (start gaps t u m ss))
 
 -- A COPY: 1, 2, then as the Rust meets them
 abbrev pub tryExtend : (t : Ty) → ℕ → (ℕ → Column t) → ℕ → ℕ → ℕ → Destination t → Try (Destination t)

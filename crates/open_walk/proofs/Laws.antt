@@ -12,11 +12,11 @@ use borrow.Author.Tests.{leb-true, eq-eqb, ne-eqb}
 use Rattle.number.specs.Number.{encode}
 use Rattle.columnar.specs.Types.{Number, i8, u8, i16, u16, i32, u32, i64, u64}
 use Rattle.columnar.specs.Test.{every}
-use Rattle.formats.specs.Code.{isString, isList, isInteger, widthOf}
+use Rattle.formats.specs.Code.{isString, isList, isInteger, isRunEnd, widthOf}
 use Rattle.formats.specs.Types.{numberOf}
 use Rattle.lent_tables.proofs.Laws.{no, yes, and-right}
 use Rattle.sharing.specs.Sources.{keyFits}
-use Rattle.walk.specs.State.{codeOf, dictionaryOf, bytesOf, baseOf, word}
+use Rattle.walk.specs.State.{codeOf, dictionaryOf, bytesOf, baseOf, setBytes, word}
 use Rattle.walk.specs.Log.{Out, Did, put, applyIf, done, each}
 use Rattle.walk.specs.Copy.{copyWalk}
 use Rattle.walk.proofs.Laws.{done-did, wrote-did, need-no, need-ok, next-no, next-ok}
@@ -24,7 +24,25 @@ use Rattle.leaf_walk.specs.Join.{join}
 use Rattle.leaf_walk.proofs.Widths.{string-width, lists-width}
 use Rattle.parts.specs.Parts.{nodesOf, copied, hasOffsets}
 use Rattle.orders.specs.Order.{Lent, sourceCount}
-use Rattle.opening.specs.Open.{firstOffset, joinSource, joinEntries, keyHolds, keysOf, keysHold, openDictionary, openWalk}
+use Rattle.opening.specs.Open.{beginGaps, firstOffset, joinSource, joinEntries, keyHolds, keysOf, keysHold, openDictionary, openWalk}
+
+-- ---- gaps
+
+module _ (x : Lent) (wr : Bool) (i : ℕ) (c room : List ℕ) {t : Bool} (f : t ≡ isRunEnd (codeOf (x .plan) i)) where
+  -- no run-end node
+  pub gap-none : not t ≡ true → Did (x .plan) (x .parts) wr (beginGaps x i c) room 0 c room
+  unfolding beginGaps
+  gap-none h = rw (no f h) (done-did wr c room)
+
+  module _ (h : not t ≡ false) {v : ℕ} (g : v ≡ getD (x .plan) 867 0) where
+    -- one, where the choice is off
+    pub gap-off : (v ≡ 1 → ⊥) → Did (x .plan) (x .parts) wr (beginGaps x i c) room 0 c room
+    unfolding beginGaps
+    gap-off k = rw (yes f h, ne-eqb (getD (x .plan) 867 0) 1 (λ z. k (g ∙ z))) (done-did wr c room)
+
+    pub gap-on : {c2 : List ℕ} → v ≡ 1 → c2 ≡ setBytes i 1 c → Did (x .plan) (x .parts) wr (beginGaps x i c) room 0 c2 room
+    unfolding beginGaps
+    gap-on k d = rw (yes f h, eq-eqb (getD (x .plan) 867 0) 1 (sym g ∙ k), d) (done-did wr (setBytes i 1 c) room)
 
 -- ---- first offsets
 
@@ -163,7 +181,8 @@ pub nodes-did : (x : Lent) (wr : Bool) (f : ℕ → List ℕ → Out) (c room : 
     → Did (x .plan) (x .parts) wr (each f n 0 c) room r c2 room2 → Did (x .plan) (x .parts) wr (each f (nodesOf (x .plan)) 0 c) room r c2 room2
 nodes-did x wr f c room {n} {r} {c2} {room2} e d = subst (λ k. Did (x .plan) (x .parts) wr (each f k 0 c) room r c2 room2) e d
 
-pub walk-did : (x : Lent) (wr : Bool) (c room : List ℕ) {r : ℕ} {room1 c2 room2 : List ℕ} → Did (x .plan) (x .parts) wr (each (firstOffset x) (nodesOf (x .plan)) 0 c) room 0 c room1
-    → Did (x .plan) (x .parts) wr (each (openDictionary x) (nodesOf (x .plan)) 0 c) room1 r c2 room2 → Did (x .plan) (x .parts) wr (openWalk x c) room r c2 room2
+pub walk-did : (x : Lent) (wr : Bool) (c room : List ℕ) {r : ℕ} {c1 room1 c2 room2 : List ℕ} → Did (x .plan) (x .parts) wr (each (beginGaps x) (nodesOf (x .plan)) 0 c) room 0 c1 room
+    → Did (x .plan) (x .parts) wr (each (firstOffset x) (nodesOf (x .plan)) 0 c1) room 0 c1 room1
+    → Did (x .plan) (x .parts) wr (each (openDictionary x) (nodesOf (x .plan)) 0 c1) room1 r c2 room2 → Did (x .plan) (x .parts) wr (openWalk x c) room r c2 room2
 unfolding openWalk
-walk-did x wr c room d e = next-ok _ d refl e
+walk-did x wr c room b d e = next-ok _ b refl (next-ok _ d refl e)

@@ -1,17 +1,47 @@
-// The walk of an opening: the first zero offset of byte strings and lists, then the dictionaries in tree order, joined where they are not shared.
+// The walk of an opening: the gaps of run-end nodes, the first zero offset of byte strings and lists, then the dictionaries in tree order, joined
+// where they are not shared.
 // The answer is 0 or the ground of refusal; a walk that only tries changes the counters alone.
 // Follows `try_with_capacities` of arrow-data 60.1.0 src/transform/mod.rs, Apache-2.0; see NOTICE.
 ghost use mathlib.Core.Path.{_≡_};
 ghost use mathlib.Core.List.{List};
-ghost use mathlib.Core.Bool.{cond};
+ghost use mathlib.Core.Bool.{Bool, cond};
 ghost use Prim.Native.Nat.{ℕ, suc, _≤_, _<_, _^_};
 ghost use lib.Dec.{eqb};
 ghost use Rattle.walk.specs.State.{word};
 ghost use Rattle.walk.specs.Log.{Did, done, each};
 ghost use Rattle.orders.specs.Order.{sourceCount};
 ghost use Rattle.parts.specs.Parts.{nodesOf};
-ghost use Rattle.opening.specs.Open.{firstOffset, joinSource, joinEntries, keysHold, openDictionary, openWalk};
+ghost use Rattle.opening.specs.Open.{beginGaps, firstOffset, joinSource, joinEntries, keysHold, openDictionary, openWalk};
 ghost use Rattle.open_walk.specs.Lent.{lent};
+
+// ---- gaps
+
+// The gap of node i begins at 1, if it is a run-end node and one run for a gap is chosen.
+fn begin_gap(state: &[u64], counts: &mut [u64; 96], i: usize)
+    requires { ⌜ i < 32 ⌝ }
+    ensures { λ _. ⌜ ((parts sources lengths places body room : List ℕ) (write : Bool) → Did (now (state .entry)) parts write (beginGaps (lent (now (state .entry)) parts sources lengths places body) i (now (counts .entry))) room 0 (now (counts .exit)) room) ⌝ }
+{
+    let code = growth::code_of(state, i);
+    if !formats::is_run_end(code) {
+        return;
+    }
+    if lent_tables::at_u64(state, 867) != 1 {
+        return;
+    }
+    growth::set_bytes(counts, i, 1)
+}
+
+// The gap of every run-end node. No byte changes.
+fn begin_gaps(state: &[u64], counts: &mut [u64; 96])
+    ensures { λ _. ⌜ ((parts sources lengths places body room : List ℕ) (write : Bool) → Did (now (state .entry)) parts write (each (beginGaps (lent (now (state .entry)) parts sources lengths places body)) (nodesOf (now (state .entry))) 0 (now (counts .entry))) room 0 (now (counts .exit)) room) ⌝ }
+{
+    let n = parts::node_count(state);
+    let mut i = 0;
+    while i < n {
+        begin_gap(state, counts, i);
+        i += 1;
+    }
+}
 
 // ---- first offsets
 
@@ -265,7 +295,7 @@ fn open_dictionaries(
     0
 }
 
-// THE WALK OF AN OPENING: first offsets, then the dictionaries. 0, or the ground of refusal.
+// THE WALK OF AN OPENING: gaps, first offsets, then the dictionaries. 0, or the ground of refusal.
 pub fn open_walk(
     state: &[u64],
     parts: &[u32],
@@ -280,6 +310,7 @@ pub fn open_walk(
     requires { ⌜ sourceCount (now state) ≤ 16 ⌝ }
     ensures { λ g. ⌜ Did (now (state .entry)) (now (parts .entry)) write (openWalk (lent (now (state .entry)) (now (parts .entry)) (now (sources .entry)) (now (lengths .entry)) (now (places .entry)) (now (body .entry))) (now (counts .entry))) (now (room .entry)) g (now (counts .exit)) (now (room .exit)) ⌝ }
 {
+    begin_gaps(state, counts);
     first_offsets(state, parts, room, write);
     open_dictionaries(
         state,

@@ -37,7 +37,7 @@ use Rattle.worded.specs.Taken.{columnsAs}
 use Rattle.worded.proofs.Planted.{child-node}
 use Rattle.worded.proofs.Opened.{opened-one}
 use Rattle.parts.specs.Parts.{nodesOf}
-use Rattle.plan.specs.Plan.{flag, keepWord, withKeeps, joinedWord, withJoined, baseWord, withBases, planned}
+use Rattle.plan.specs.Plan.{flag, keepWord, withKeeps, joinedWord, withJoined, baseWord, withBases, laidOut, planned}
 use Rattle.plan.specs.Opened.{OpenedBelow, Opened}
 use Rattle.plan.proofs.Words.{sources-are}
 use Rattle.plan.proofs.Typed as planned-words
@@ -128,12 +128,12 @@ based-by state m (tDictionary k p) i b bodies h o s l = h .2 s l ∙ not-capped 
 -- ---- an accepted opening
 
 -- the plan does not go by the data buffers of views
-pub without-buffers : (formats schema : List ℕ) (x : Tables) (sources : List ℕ) (keep : Bool)
-    → planned formats schema (tables (x .lengths) (x .places) (x .body)) sources keep ≡ planned formats schema x sources keep
-unfolding planned withKeeps keepWord withJoined joinedWord withBases baseWord
-without-buffers formats schema x sources keep = refl
+pub without-buffers : (formats schema : List ℕ) (x : Tables) (sources : List ℕ) (keep gaps : Bool)
+    → planned formats schema (tables (x .lengths) (x .places) (x .body)) sources keep gaps ≡ planned formats schema x sources keep gaps
+unfolding planned laidOut withKeeps keepWord withJoined joinedWord withBases baseWord
+without-buffers formats schema x sources keep gaps = refl
 
-module _ (formats schema sources : List ℕ) (x : Tables) (keep : Bool) (ok : sourcesGround formats schema x sources ≡ 0) where
+module _ (formats schema sources : List ℕ) (x : Tables) (keep gaps : Bool) (ok : sourcesGround formats schema x sources ≡ 0) where
   abbrev m : ℕ
   m = sourceCount sources
 
@@ -144,20 +144,20 @@ module _ (formats schema sources : List ℕ) (x : Tables) (keep : Bool) (ok : so
   ss = columnsAs formats schema x (firstOf sources) (columns.nodesOf sources)
 
   abbrev plan : List ℕ
-  plan = planned formats schema x sources keep
+  plan = planned formats schema x sources keep gaps
 
   opened-plan : Opened plan (treeOf formats schema (firstOf sources 0) (columns.nodesOf sources 0)) m t keep ss
   opened-plan =
-      subst (λ p. Opened p (treeOf formats schema (firstOf sources 0) (columns.nodesOf sources 0)) m t keep ss) (without-buffers formats schema x sources keep)
-      (planned-words.opened formats schema x sources keep (few-sources formats schema sources x keep ok) (few-nodes formats schema sources x keep ok) (is-typed formats schema sources x keep ok) (is-low formats schema sources x keep ok))
+      subst (λ p. Opened p (treeOf formats schema (firstOf sources 0) (columns.nodesOf sources 0)) m t keep ss) (without-buffers formats schema x sources keep gaps)
+      (planned-words.opened formats schema x sources keep gaps (few-sources formats schema sources x keep gaps ok) (few-nodes formats schema sources x keep gaps ok) (is-typed formats schema sources x keep gaps ok) (is-low formats schema sources x keep gaps ok))
 
   -- THE PLAN KEEPS NULLS AND JOINS DICTIONARIES where the model does
   pub kept : (keepsOf plan 0 ≡ flag (keeps keep m ss)) × Kept plan m t 0 (keeps keep m ss) (λ j. ss j .body)
   kept =
-      let ty = is-typed formats schema sources x keep ok in
-      let low = is-low formats schema sources x keep ok in (
+      let ty = is-typed formats schema sources x keep gaps ok in
+      let low = is-low formats schema sources x keep gaps ok in (
         opened-plan .0,
-        kept-below formats schema (firstOf sources 0) (columns.nodesOf sources 0) plan ty low (planted formats schema sources x keep ok) m t 0 (keeps keep m ss) (λ j. ss j .body)
+        kept-below formats schema (firstOf sources 0) (columns.nodesOf sources 0) plan ty low (planted formats schema sources x keep gaps ok) m t 0 (keeps keep m ss) (λ j. ss j .body)
             (means formats schema (firstOf sources 0) (columns.nodesOf sources 0) ty low) (opened-plan .1),
       )
 
@@ -174,17 +174,17 @@ module _ (formats schema sources : List ℕ) (x : Tables) (keep : Bool) (ok : so
     -- few data buffers, and dictionaries that are shared or joined
     pub all-ready : Ready t m (λ j. ss j .body)
     all-ready =
-        let given = sources-of formats schema sources x keep ok in
+        let given = sources-of formats schema sources x keep gaps ok in
         ready (x .body) m (given .few) (same-entries (x .body) m) t ss (given .obey) (given .few-buffers) (given .stand) o
 
     -- WHAT EVERY ORDER IS LENT IS A JOIN of these sources
-    pub joined : (parts : List ℕ) → AllBelow 256 (x .body) → Laid plan → nodesOf plan ≡ endOf plan 0 → planSound plan ≡ true → Joined (opened formats schema sources x keep parts) t m ss
+    pub joined : (parts : List ℕ) → AllBelow 256 (x .body) → Laid plan → nodesOf plan ≡ endOf plan 0 → planSound plan ≡ true → Joined (opened formats schema sources x keep gaps parts) t m ss
     joined parts bytes laid all sound =
         record {
-          some-source = some-sources formats schema sources x keep ok;
-          count-is = sources-are formats schema x sources keep (few-sources formats schema sources x keep ok) (few-nodes formats schema sources x keep ok);
+          some-source = some-sources formats schema sources x keep gaps ok;
+          count-is = sources-are formats schema x sources keep gaps (few-sources formats schema sources x keep gaps ok) (few-nodes formats schema sources x keep gaps ok);
           opened = λ s l.
-              opened-one formats schema x (firstOf sources) (columns.nodesOf sources) plan m (taken formats schema sources x keep ok) parts s l (based s l) all-ready;
+              opened-one formats schema x (firstOf sources) (columns.nodesOf sources) plan m (taken formats schema sources x keep gaps ok) parts s l (based s l) all-ready;
           laid = laid;
           all-nodes = all;
           sound = sound;

@@ -304,7 +304,7 @@ pub record Stood (plan : List ℕ) (m n : ℕ) : Type 0 where
   pub placed : (parts : List ℕ) (r : ℕ) → partsPlaced parts (partTotal plan) r ≡ true → r ≤ 4294967295 → Placed plan parts (Used plan) r
   pub within : (parts : List ℕ) (r : ℕ) → partsPlaced parts (partTotal plan) r ≡ true → partsWithin plan parts r ≡ true
 
-module _ (formats schema : List ℕ) (x : Tables) (sources : List ℕ) (keep : Bool) where
+module _ (formats schema : List ℕ) (x : Tables) (sources : List ℕ) (keep gaps : Bool) where
   abbrev first : ℕ
   first = getD sources 0 0
 
@@ -315,20 +315,20 @@ module _ (formats schema : List ℕ) (x : Tables) (sources : List ℕ) (keep : B
   m = length sources / 2
 
   abbrev plan : List ℕ
-  plan = planned formats schema x sources keep
+  plan = planned formats schema x sources keep gaps
 
   module _ (few : m ≤ 16) (t : typed formats schema first n ≡ true) (c : ceilings formats schema first n ≡ true) where
     pub small : n ≤ 32
     small = within-nodes formats schema first n c
 
     planted : Planted plan formats schema first n
-    planted = word-is formats schema x sources keep few small
+    planted = word-is formats schema x sources keep gaps few small
 
     pub root-is : endOf plan 0 ≡ n
     root-is = root-end formats schema first n plan t c planted
 
     pub nodes-is : nodesOf plan ≡ n
-    nodes-is = omega (arith, nodes-are formats schema x sources keep few small, small)
+    nodes-is = omega (arith, nodes-are formats schema x sources keep gaps few small, small)
 
     -- EVERY NODE STANDS BELOW THE ROOT
     pub all-nodes : nodesOf plan ≡ endOf plan 0
@@ -342,7 +342,7 @@ module _ (formats schema : List ℕ) (x : Tables) (sources : List ℕ) (keep : B
     pub laid : Laid plan
     laid =
         laid-by formats schema first n plan t c planted
-        (λ i l e. keep-is formats schema x sources keep few small (suc i) l ∙ ends-word i e)
+        (λ i l e. keep-is formats schema x sources keep gaps few small (suc i) l ∙ ends-word i e)
 
     -- A WALK STAYS IN THEM
     pub sound : planSound plan ≡ true
@@ -350,7 +350,7 @@ module _ (formats schema : List ℕ) (x : Tables) (sources : List ℕ) (keep : B
 
     -- THE PARTS ARE NUMBERED in tree order
     pub numbered : Numbered plan
-    numbered = numbered-is formats schema x sources keep few small
+    numbered = numbered-is formats schema x sources keep gaps few small
 
     -- THE PARTS LIE WELL where ground 14 lets them through, and pass the test of every order
     module _ (parts : List ℕ) (r : ℕ) (h : partsPlaced parts (partTotal plan) r ≡ true) where
@@ -364,11 +364,11 @@ module _ (formats schema : List ℕ) (x : Tables) (sources : List ℕ) (keep : B
     stands =
         record {
           few = small;
-          long = state-length formats schema x sources keep few small;
-          source-count = sources-are formats schema x sources keep few small;
+          long = state-length formats schema x sources keep gaps few small;
+          source-count = sources-are formats schema x sources keep gaps few small;
           node-count = nodes-is;
           all-nodes = all-nodes;
-          part-count = parts-are formats schema x sources keep few small;
+          part-count = parts-are formats schema x sources keep gaps few small;
           laid = laid;
           sound = sound;
           numbered = numbered;
@@ -411,5 +411,5 @@ module _ (formats schema : List ℕ) (x : Tables) (sources : List ℕ) (h : sour
   first-low = within-low formats schema x _ _ (within-at formats schema x sources (admitted .1) 0 (omega (arith, some-source)))
 
   -- THE PLAN OF SOURCES THAT THE GROUNDS 9 TO 12 LET THROUGH
-  pub stood : (keep : Bool) → Stood (planned formats schema x sources keep) (length sources / 2) (getD sources 1 0)
-  stood keep = stands formats schema x sources keep few-sources first-typed first-low
+  pub stood : (keep gaps : Bool) → Stood (planned formats schema x sources keep gaps) (length sources / 2) (getD sources 1 0)
+  stood keep gaps = stands formats schema x sources keep gaps few-sources first-typed first-low

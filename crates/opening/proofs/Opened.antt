@@ -24,6 +24,7 @@ use Rattle.columns.specs.Grounds.{sourceCount, firstOf, sourcesGround}
 use Rattle.worded.specs.Taken.{columnsAs}
 use Rattle.worded.proofs.Worded.{planted-worded}
 use Rattle.parts.specs.Parts.{partTotal, partsHold, partsPlaced}
+use Rattle.plan.proofs.Words.{choice-is}
 use Rattle.orders.specs.Order.{Lent, orderedAll}
 use Rattle.orders.proofs.Step.{Joined, first-opened, Running}
 use Rattle.orders.proofs.Run.{Ran, orders-run}
@@ -32,7 +33,7 @@ use Rattle.opening.specs.Open.{Opening, openWalk, opened, refused, settl
 use Rattle.opening.specs.Entries.{Joins}
 use Rattle.opening.specs.Fits.{openFits, openIn}
 use Rattle.opening.proofs.Laid.{stood}
-use Rattle.opening.proofs.Taken.{is-typed, is-low, planted, taken, sources-of}
+use Rattle.opening.proofs.Taken.{few-sources, few-nodes, is-typed, is-low, planted, taken, sources-of}
 use Rattle.opening.proofs.Joined.{kept, joined}
 use Rattle.opening.proofs.Values.{entries-lent}
 use Rattle.opening.proofs.Walk.{Given, opens-used}
@@ -40,7 +41,7 @@ use Rattle.opening.proofs.Walk as walk
 use Rattle.opening.proofs.Stay.{joins-stay}
 use Rattle.opening.proofs.Runs.{Opens, opens, not-opened, opening-step}
 
-module _ (formats schema sources : List ℕ) (x : Tables) (keep : Bool) (parts : List ℕ) where
+module _ (formats schema sources : List ℕ) (x : Tables) (keep gaps : Bool) (parts : List ℕ) where
   -- the sources' type and columns
   abbrev m : ℕ
   m = sourceCount sources
@@ -52,33 +53,34 @@ module _ (formats schema sources : List ℕ) (x : Tables) (keep : Bool) (parts :
   ss = columnsAs formats schema x (firstOf sources) (columns.nodesOf sources)
 
   abbrev lent : Lent
-  lent = opened formats schema sources x keep parts
+  lent = opened formats schema sources x keep gaps parts
 
   -- what the walk of an opening is given
-  pub given : AllBelow 256 (x .body) → sourcesGround formats schema x sources ≡ 0 → Given lent t m ss keep
+  pub given : AllBelow 256 (x .body) → sourcesGround formats schema x sources ≡ 0 → Given lent t m ss keep gaps
   given bytes ok =
-      let all = sources-of formats schema sources x keep ok in
-      let stands = stood formats schema x sources ok keep in
+      let all = sources-of formats schema sources x keep gaps ok in
+      let stands = stood formats schema x sources ok keep gaps in
       record {
-        worded = planted-worded formats schema (firstOf sources 0) (columns.nodesOf sources 0) (lent .plan) (is-typed formats schema sources x keep ok) (is-low formats schema sources x keep ok) (planted formats schema sources x keep ok);
+        worded = planted-worded formats schema (firstOf sources 0) (columns.nodesOf sources 0) (lent .plan) (is-typed formats schema sources x keep gaps ok) (is-low formats schema sources x keep gaps ok) (planted formats schema sources x keep gaps ok);
         formed = all .formed;
         laid = stands .laid;
         all-nodes = stands .all-nodes;
         count-is = stands .source-count;
         few = all .few;
-        body-small = taken formats schema sources x keep ok .body-small;
+        body-small = taken formats schema sources x keep gaps ok .body-small;
         body-bytes = bytes;
         obey = all .obey;
-        entries = entries-lent formats schema sources x keep ok parts;
-        root-keeps = kept formats schema sources x keep ok .0;
-        kept = kept formats schema sources x keep ok .1;
+        entries = entries-lent formats schema sources x keep gaps ok parts;
+        root-keeps = kept formats schema sources x keep gaps ok .0;
+        choice = choice-is formats schema x sources keep gaps (few-sources formats schema sources x keep gaps ok) (few-nodes formats schema sources x keep gaps ok);
+        kept = kept formats schema sources x keep gaps ok .1;
       }
 
   -- an opening that is done has the destination with no rows
-  begun : (d : Destination t) → openIn (lent .plan) parts t keep m ss ≡ done d → start t keep m ss ≡ d
-  begun d e = go (openData t m (λ j. ss j .body)) (openFits (lent .plan) parts t 0 m (λ j. ss j .body) (start t keep m ss)) e
+  begun : (d : Destination t) → openIn (lent .plan) parts gaps t keep m ss ≡ done d → start gaps t keep m ss ≡ d
+  begun d e = go (openData t m (λ j. ss j .body)) (openFits (lent .plan) parts t 0 m (λ j. ss j .body) (start gaps t keep m ss)) e
     where
-      go : (p : Try (Unit {0})) (b : Bool) → then p (λ y. guard b 13 (done (start t keep m ss))) ≡ done d → start t keep m ss ≡ d
+      go : (p : Try (Unit {0})) (b : Bool) → then p (λ y. guard b 13 (done (start gaps t keep m ss))) ≡ done d → start gaps t keep m ss ≡ d
       go (done y) true q = cc q
       go (done y) false q = absurd (let z : _≡_ {A = ℕ} 0 1 = cc q in omega arith)
       go (stop g) b q = absurd (let z : _≡_ {A = ℕ} 0 1 = cc q in omega arith)
@@ -87,32 +89,32 @@ module _ (formats schema sources : List ℕ) (x : Tables) (keep : Bool) (parts :
   pub record Opened (a : Opening) : Type 0 where
     pub accepted : sourcesGround formats schema x sources ≡ 0
     pub plan-is : a .plan ≡ lent .plan
-    pub model : openIn (lent .plan) parts t keep m ss ≡ done (start t keep m ss)
+    pub model : openIn (lent .plan) parts gaps t keep m ss ≡ done (start gaps t keep m ss)
     pub join : Joined lent t m ss
     pub memory : Memory
-    pub running : Running lent t m ss join (keeps keep m ss) (a .counts) memory (start t keep m ss) (a .counts) (a .room)
+    pub running : Running lent t m ss join (keeps keep m ss) (a .counts) memory (start gaps t keep m ss) (a .counts) (a .room)
     pub joins : Joins (lent .plan) t 0 m (λ j. ss j .body) (a .counts) memory
 
   -- ANY LIST OF CALLS after it, refused ones included ..
   module _ (a : Opening) (o : Opened a) (os : List Call) where
-    pub orders-after : Ran lent t m ss (o .join) (keeps keep m ss) (a .counts) (o .memory) os (start t keep m ss) (a .counts) (a .room)
-    orders-after = orders-run lent t m ss (o .join) (keeps keep m ss) (a .counts) (o .memory) os (start t keep m ss) (a .counts) (a .room) (o .running)
+    pub orders-after : Ran lent t m ss (o .join) (keeps keep m ss) (a .counts) (o .memory) os (start gaps t keep m ss) (a .counts) (a .room)
+    orders-after = orders-run lent t m ss (o .join) (keeps keep m ss) (a .counts) (o .memory) os (start gaps t keep m ss) (a .counts) (a .room) (o .running)
 
     -- .. leaves the joined dictionaries held
     pub joins-after : Joins (lent .plan) t 0 m (λ j. ss j .body) (orderedAll lent (a .counts) (a .room) os .counts) (orders-after .running .memory)
     joins-after =
         joins-stay lent m (a .counts) _ (o .memory) _ (orders-after .running .stay) 8 t 0 (λ j. ss j .body) (first-opened lent t m ss (o .join) .worded)
-        (entries-lent formats schema sources x keep (o .accepted) parts) (o .joins)
+        (entries-lent formats schema sources x keep gaps (o .accepted) parts) (o .joins)
 
   module _ (plan counts room : List ℕ) where
     abbrev answer : Opening
-    answer = opening formats schema sources x keep parts plan counts room
+    answer = opening formats schema sources x keep gaps parts plan counts room
 
     abbrev placed-well : Bool
-    placed-well = roomPlaced formats schema sources x keep parts plan counts room
+    placed-well = roomPlaced formats schema sources x keep gaps parts plan counts room
 
     abbrev no-change : ℕ → Opening
-    no-change = refused formats schema sources x keep parts plan counts room
+    no-change = refused formats schema sources x keep gaps parts plan counts room
 
     abbrev walked : Out
     walked = openWalk lent (replicate 96 0)
@@ -156,26 +158,26 @@ module _ (formats schema sources : List ℕ) (x : Tables) (keep : Bool) (parts :
     module _ (body-bytes : AllBelow 256 (x .body)) (room-bytes : AllBelow 256 room) where
       -- WHERE NONE OF 9 TO 12 AND 14 STANDS, the answer is the model's with 13, and orders run or nothing changes
       pub opening-opens : length room ≤ 4294967295 → sourcesGround formats schema x sources ≡ 0 → placed-well ≡ true
-          → Opens formats schema sources x keep parts t m ss plan counts room (openIn (lent .plan) parts t keep m ss) answer
+          → Opens formats schema sources x keep gaps parts t m ss plan counts room (openIn (lent .plan) parts gaps t keep m ss) answer
       unfolding opening roomPlaced
       opening-opens small ok placed =
-          let stands = stood formats schema x sources ok keep in
+          let stands = stood formats schema x sources ok keep gaps in
           let g = given body-bytes ok in
           let lie : partsPlaced parts (partTotal (lent .plan)) (length room) ≡ true = and-right (eqb (length plan) 872 && eqb (length counts) 96) (partsPlaced parts (partTotal (lent .plan)) (length room)) placed in
           rw (le-leb _ _ small, eq-eqb _ _ ok, placed)
-          (opening-step formats schema sources x keep parts t m ss plan counts room (g .kept) (g .entries) (stands .placed parts (length room) lie small) (stands .within parts (length room) lie) room-bytes
-          (λ o. joined formats schema sources x keep ok o parts body-bytes (stands .laid) (stands .all-nodes) (stands .sound)) (walk.opens lent t m ss keep g) (opens-used lent t m ss keep g))
+          (opening-step formats schema sources x keep gaps parts t m ss plan counts room (g .kept) (g .entries) (stands .placed parts (length room) lie small) (stands .within parts (length room) lie) room-bytes
+          (λ o. joined formats schema sources x keep gaps ok o parts body-bytes (stands .laid) (stands .all-nodes) (stands .sound)) (walk.opens lent t m ss keep gaps g) (opens-used lent t m ss keep gaps g))
 
-      opens-ground : {p : Try (Destination t)} {a : Opening} → Opens formats schema sources x keep parts t m ss plan counts room p a → a .ground ≡ groundOf p
+      opens-ground : {p : Try (Destination t)} {a : Opening} → Opens formats schema sources x keep gaps parts t m ss plan counts room p a → a .ground ≡ groundOf p
       opens-ground (opens d a g pl join μ run joins) = g
       opens-ground (not-opened g a q pos pl c r) = q
 
       -- .. its ground too
-      pub opening-ground : length room ≤ 4294967295 → sourcesGround formats schema x sources ≡ 0 → placed-well ≡ true → answer .ground ≡ groundOf (openIn (lent .plan) parts t keep m ss)
+      pub opening-ground : length room ≤ 4294967295 → sourcesGround formats schema x sources ≡ 0 → placed-well ≡ true → answer .ground ≡ groundOf (openIn (lent .plan) parts gaps t keep m ss)
       opening-ground small ok placed = opens-ground (opening-opens small ok placed)
 
-      opens-run : (p : Try (Destination t)) (a : Opening) → sourcesGround formats schema x sources ≡ 0 → Opens formats schema sources x keep parts t m ss plan counts room p a
-          → openIn (lent .plan) parts t keep m ss ≡ p → a .ground ≡ 0 → Opened a
+      opens-run : (p : Try (Destination t)) (a : Opening) → sourcesGround formats schema x sources ≡ 0 → Opens formats schema sources x keep gaps parts t m ss plan counts room p a
+          → openIn (lent .plan) parts gaps t keep m ss ≡ p → a .ground ≡ 0 → Opened a
       opens-run _ _ ok (opens d a g pl join μ run joins) e h =
           let z = begun d e in
           record {
@@ -193,4 +195,4 @@ module _ (formats schema sources : List ℕ) (x : Tables) (keep : Bool) (parts :
       pub opening-runs : answer .ground ≡ 0 → Opened answer
       opening-runs h =
           let g = tests h in
-          opens-run (openIn (lent .plan) parts t keep m ss) answer (g .1) (opening-opens (g .0) (g .1) (g .2)) refl h
+          opens-run (openIn (lent .plan) parts gaps t keep m ss) answer (g .1) (opening-opens (g .0) (g .1) (g .2)) refl h

@@ -152,8 +152,8 @@ unfolding partsBefore
 begins plan n = omega arith
 
 -- AS MANY PARTS as the type has
-pub parts-due : (x : Lent) (t : Ty) (m : ℕ) (ss : ℕ → Column t) (keep : Bool) → Given x t m ss keep → partTotal (x .plan) ≡ partsDue m t keep ss
-parts-due x t m ss keep g =
+pub parts-due : (x : Lent) (t : Ty) (m : ℕ) (ss : ℕ → Column t) (keep gaps : Bool) → Given x t m ss keep gaps → partTotal (x .plan) ≡ partsDue m t keep ss
+parts-due x t m ss keep gaps g =
     ap (partsBefore (x .plan)) (g .all-nodes)
     ∙ due-at x (g .laid) m 8 t 0 (keeps keep m ss) (λ s. ss s .body) (g .worded) (g .formed) (typed 8 t (g .worded) (omega arith) (omega arith), tt) (g .root-keeps) (g .kept) (g .entries)
     ∙ begins (x .plan) (partsDue m t keep ss)

@@ -51,17 +51,17 @@ kept-bits : (b : Bool) → keepsBits (cond b (some []) none) ≡ b
 kept-bits true = refl
 kept-bits false = refl
 
-module _ (formats schema sources : List ℕ) (x : Tables) (keep : Bool) (parts : List ℕ) (t : Ty) (m : ℕ) (ss : ℕ → Column t) where
+module _ (formats schema sources : List ℕ) (x : Tables) (keep gaps : Bool) (parts : List ℕ) (t : Ty) (m : ℕ) (ss : ℕ → Column t) where
   -- what every order is then lent
   abbrev lent : Lent
-  lent = opened formats schema sources x keep parts
+  lent = opened formats schema sources x keep gaps parts
 
   abbrev bodies : ℕ → Body t
   bodies j = ss j .body
 
   -- the model's destination with no rows
   abbrev begun : Destination t
-  begun = start t keep m ss
+  begun = start gaps t keep m ss
 
   module _ (plan counts room : List ℕ) where
     -- an answer and what the opening comes to: orders run from there, or plan, counters and room are as they were
@@ -71,10 +71,10 @@ module _ (formats schema sources : List ℕ) (x : Tables) (keep : Bool) (parts :
       not-opened : (g : ℕ) (a : Opening) → a .ground ≡ g → 0 < g → a .plan ≡ plan → a .counts ≡ counts → a .room ≡ room → Opens (stop g) a
 
     abbrev after-walk : Out → Opening
-    after-walk = settled formats schema sources x keep parts plan counts room
+    after-walk = settled formats schema sources x keep gaps parts plan counts room
 
     abbrev refuse-with : ℕ → Opening
-    refuse-with = refused formats schema sources x keep parts plan counts room
+    refuse-with = refused formats schema sources x keep gaps parts plan counts room
 
     -- what the walk of an opening leaves
     abbrev Begun : List ℕ → Memory → Type 0
@@ -87,7 +87,7 @@ module _ (formats schema sources : List ℕ) (x : Tables) (keep : Bool) (parts :
         μ = after (w .log) nothing
 
         fine : FineNode (masks t) (fineOf t m bodies) m ss begun
-        fine = start-fine t keep m ss (join .some-source) (first-opened lent t m ss join .formed)
+        fine = start-fine gaps t keep m ss (join .some-source) (first-opened lent t m ss join .formed)
 
         abbrev enough : Bool
         enough = openFits (lent .plan) parts t 0 m bodies begun
@@ -116,7 +116,7 @@ module _ (formats schema sources : List ℕ) (x : Tables) (keep : Bool) (parts :
           long-room = room-long (lent .plan) parts (Used (lent .plan)) (w .log) room nothing placed lies-first in-place used fitting
 
           begun-state : State t m ss (lawful lent t m ss join) (obeys lent t m ss join) (keeps keep m ss) begun
-          begun-state = record { fine = fine; keeps-is = kept-bits (keeps keep m ss); keeps-below = λ h. start-keep t keep m ss h .below }
+          begun-state = record { fine = fine; keeps-is = kept-bits (keeps keep m ss); keeps-below = λ h. start-keep gaps t keep m ss h .below }
 
           running : Running lent t m ss join (keeps keep m ss) (w .counts) μ begun (w .counts) room′
           running =
@@ -155,5 +155,5 @@ module _ (formats schema sources : List ℕ) (x : Tables) (keep : Bool) (parts :
 
       -- THE OPENING: its answer is the model's, and orders run from there, or it changes nothing
       pub opening-step : (openData t m bodies ≡ done tt → Joined lent t m ss) → Goes nothing (λ y c μ. Begun c μ) (openData t m bodies) (openWalk lent (replicate 96 0))
-          → AllUsed (Used (lent .plan)) (openWalk lent (replicate 96 0) .log) → Opens (openIn (lent .plan) parts t keep m ss) (after-walk (openWalk lent (replicate 96 0)))
+          → AllUsed (Used (lent .plan)) (openWalk lent (replicate 96 0) .log) → Opens (openIn (lent .plan) parts gaps t keep m ss) (after-walk (openWalk lent (replicate 96 0)))
       opening-step join goes used = settle (openData t m bodies) (openWalk lent (replicate 96 0)) join goes used

@@ -1,17 +1,17 @@
 -- Where the nodes have no rows, counters and memory hold the model's destination with no rows. Assumes nothing.
 use mathlib.Core.Path.{_≡_, refl, ap, _∙_}
-use mathlib.Core.Bool.{Bool, true, false, cond, _||_}
+use mathlib.Core.Bool.{Bool, true, false, cond, _&&_, _||_}
 use mathlib.Core.Option.{none, some}
 use mathlib.Core.List.{List, [], List·Memᴰ}
 use Prim.Native.Nat.{ℕ, suc, _≤_, _<_}
 use native.Mathlib.Omega.{arith}
-use lib.ListN.{length}
-use lib.Dec.{leb}
+use lib.ListN.{length, getD}
+use lib.Dec.{leb, eqb}
 use borrow.Author.Tests.{lt-leb}
 use Rattle.number.specs.Number.{encode}
 use Rattle.columnar.specs.Types.{Plain, fixed, string, Ty, tPlain, tView, tListView, tList, tSparse, tDense, tRunEnd, tDictionary}
 use Rattle.columnar.specs.Reading.{Body}
-use Rattle.formats.specs.Code.{isFixed, isList, isUnion}
+use Rattle.formats.specs.Code.{isFixed, isString, isList, isUnion, isRunEnd}
 use Rattle.model.specs.Opening.{keeps}
 use Rattle.model.specs.Mutable.{startNode}
 use Rattle.model.specs.Primitive.{plainStart}
@@ -29,7 +29,8 @@ use Rattle.parts.specs.Parts.{hasOffsets}
 use Rattle.orders.proofs.Buffers.{fixed-else}
 use Rattle.orders.proofs.Cover.{Laid}
 use Rattle.opening.specs.Kept.{Kept}
-use Rattle.opening.proofs.Zeros.{Fresh}
+use Rattle.opening.specs.Open.{chosen}
+use Rattle.opening.proofs.Zeros.{gapOf, Fresh}
 
 -- a node that a walk comes to
 abbrev pub Here : List ℕ → ℕ → Type 0
@@ -73,18 +74,22 @@ module _ (plan c : List ℕ) (μ : Memory) where
   start-node i m keep inner d f e h =
       record { rows-are = f .no-rows; nulls-are = f .no-nulls; few-nulls = omega arith; bits-are = start-bits i m keep e (f .no-bits); data-are = h }
 
+  -- a byte string is no run-end node
+  string-gap : (i : ℕ) → isString (codeOf plan i) ≡ true → gapOf plan i ≡ 0
+  string-gap i h = let b = between-both 11 14 (codeOf plan i) h in rw (lt-leb 23 (codeOf plan i) (omega (arith, b .1)))
+
   start-plain : (p : Plain) (i : ℕ) → WordedPlain plan p i → Fresh plan c μ i → HoldsPlain plan p i (plainStart p) c μ
   start-plain (fixed n) i w f = f .no-entries (fixed-offsets (codeOf plan i) (w .0))
-  start-plain (string v) i w f = (f .zero-offset (rw (w .0)) ∙ ap (λ n. encode n 0) (w .1), f .no-data, f .no-bytes)
+  start-plain (string v) i w f = (f .zero-offset (rw (w .0)) ∙ ap (λ n. encode n 0) (w .1), f .no-data, f .first-gap ∙ string-gap i (w .0))
 
   -- plain values with no rows: those of a joined dictionary before the first source
   pub start-values : (p : Plain) (i : ℕ) (keep : Bool) → WordedPlain plan p i → Fresh plan c μ i → keepsOf plan i ≡ flag keep
       → Holds plan (tPlain p) i (startNode keep (plainStart p)) c μ
   start-values p i keep w f e = start-node i true keep (HoldsData plan (tPlain p) i) (plainStart p) f e (start-plain p i w f)
 
-  module _ (laid : Laid plan) (m : ℕ) (fresh : (j : ℕ) → There plan j → Fresh plan c μ j) where
+  module _ (laid : Laid plan) (m : ℕ) (gaps : Bool) (choice : getD plan 867 0 ≡ flag gaps) (fresh : (j : ℕ) → There plan j → Fresh plan c μ j) where
     abbrev Started : (t : Ty) → ℕ → Bool → (ℕ → Body t) → Type 0
-    Started t i u ss = Holds plan t i (startNode u (startData t u m ss)) c μ
+    Started t i u ss = Holds plan t i (startNode u (startData gaps t u m ss)) c μ
 
     new : (i : ℕ) → Here plan i → Fresh plan c μ i
     new i here = fresh i (closed-here plan laid .own i here)
@@ -97,6 +102,14 @@ module _ (plan c : List ℕ) (μ : Memory) where
 
     union-offsets : (i : ℕ) → isUnion (codeOf plan i) ≡ true → hasOffsets (codeOf plan i) ≡ false
     union-offsets i h = neither (between-apart 21 22 11 14 (codeOf plan i) (omega arith) h) (between-apart 21 22 19 20 (codeOf plan i) (omega arith) h)
+
+    -- the choice at a run-end node
+    run-gap : (i : ℕ) → codeOf plan i ≡ 23 → gapOf plan i ≡ cond gaps 1 0
+    run-gap i q = ap (λ z. cond (isRunEnd z && chosen plan) 1 0) q ∙ ap (λ v. cond (eqb v 1) 1 0) choice ∙ go gaps
+      where
+        go : (g : Bool) → _≡_ {A = ℕ} (cond (eqb (flag g) 1) 1 0) (cond g 1 0)
+        go true = refl
+        go false = refl
 
     -- THE DESTINATION WITH NO ROWS is held, from node i on
     pub start-held : (k : ℕ) (t : Ty) (i : ℕ) (u : Bool) (ss : ℕ → Body t) → Worded plan k t i → Here plan i → keepsOf plan i ≡ flag u → Kept plan m t i u ss → Started t i u ss
@@ -133,6 +146,7 @@ module _ (plan c : List ℕ) (μ : Memory) where
           a .no-rows,
           a .no-entries (fixed-offsets (codeOf plan (suc i)) fix),
           start-held k t (suc (suc i)) (keeps u m (λ j. ss j .values)) (λ j. ss j .values .body) (w .4) (closed-here plan laid .values i here (w .2)) (q .1) (q .2),
+          new i here .first-gap ∙ run-gap i (w .2),
         )
     start-held (suc k) (tDictionary n p) i u ss w here e q =
         start-node i true u (HoldsData plan (tDictionary n p) i) [] (new i here) e (new i here .no-entries (fixed-offsets (codeOf plan i) (w .3)))

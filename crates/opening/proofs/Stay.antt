@@ -37,10 +37,10 @@ module _ (x : Lent) (m : ℕ) (c c′ : List ℕ) (μ μ′ : Memory) (stay : (j
       (r .0, r .1, held-same (x .plan) c c′ μ μ′ 1 (tPlain p) (suc i) (r .0) (a .small, omega (arith, a .ends), a .no-keys, a .plain-is) one (r .2))
 
 -- an opening that is done is the model's
-pub open-model : (plan parts : List ℕ) (t : Ty) (keep : Bool) (m : ℕ) (ss : ℕ → Column t) (d : Destination t) → openIn plan parts t keep m ss ≡ done d → tryWithCapacities t keep m ss ≡ done d
-open-model plan parts t keep m ss d e = go (openData t m (λ j. ss j .body)) (openFits plan parts t 0 m (λ j. ss j .body) (start t keep m ss)) e
+pub open-model : (plan parts : List ℕ) (gaps : Bool) (t : Ty) (keep : Bool) (m : ℕ) (ss : ℕ → Column t) (d : Destination t) → openIn plan parts gaps t keep m ss ≡ done d → tryWithCapacities gaps t keep m ss ≡ done d
+open-model plan parts gaps t keep m ss d e = go (openData t m (λ j. ss j .body)) (openFits plan parts t 0 m (λ j. ss j .body) (start gaps t keep m ss)) e
   where
-    go : (p : Try (Unit {0})) (b : Bool) → then p (λ y. guard b 13 (done (start t keep m ss))) ≡ done d → then p (λ y. done (start t keep m ss)) ≡ done d
+    go : (p : Try (Unit {0})) (b : Bool) → then p (λ y. guard b 13 (done (start gaps t keep m ss))) ≡ done d → then p (λ y. done (start gaps t keep m ss)) ≡ done d
     go (done y) true q = q
     go (done y) false q = absurd (let z : _≡_ {A = ℕ} 0 1 = cc q in omega arith)
     go (stop g) b q = q

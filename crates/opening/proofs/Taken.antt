@@ -116,7 +116,7 @@ module _ (formats schema : List ℕ) (x : Tables) (first n : ℕ) (within : with
 
 -- ---- an accepted opening
 
-module _ (formats schema sources : List ℕ) (x : Tables) (keep : Bool) (ok : sourcesGround formats schema x sources ≡ 0) where
+module _ (formats schema sources : List ℕ) (x : Tables) (keep gaps : Bool) (ok : sourcesGround formats schema x sources ≡ 0) where
   -- how many sources there are; each one's first node, and how many nodes it has
   abbrev m : ℕ
   m = sourceCount sources
@@ -135,7 +135,7 @@ module _ (formats schema sources : List ℕ) (x : Tables) (keep : Bool) (ok : so
   ss = columnsAs formats schema x first nodes
 
   abbrev plan : List ℕ
-  plan = planned formats schema x sources keep
+  plan = planned formats schema x sources keep gaps
 
   grounds : Accepted formats schema x sources
   grounds = accepted formats schema x sources ok
@@ -163,7 +163,7 @@ module _ (formats schema sources : List ℕ) (x : Tables) (keep : Bool) (ok : so
 
   -- the plan has the words of the first source's type tree
   pub planted : Planted plan formats schema (first 0) (nodes 0)
-  planted = word-is formats schema x sources keep few-sources few-nodes
+  planted = word-is formats schema x sources keep gaps few-sources few-nodes
 
   small-body : length (x .body) < 4294967296
   unfolding smallBody

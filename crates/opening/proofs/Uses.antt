@@ -22,6 +22,7 @@ use Rattle.room.specs.Room.{AllBelow}
 use Rattle.room.specs.Reach.{Closed, UsedAt, Typed, typed}
 use Rattle.room.proofs.Bytes.{bytes-encode}
 use Rattle.room.proofs.Copies.{used-copies}
+use Rattle.formats.specs.Code.{isRunEnd}
 use Rattle.room.proofs.Found.{between-both, between-wide}
 use Rattle.room.proofs.Uses.{used-wide, Uses, uses-done, uses-wrote, uses-cond, uses-need, uses-next, uses-each}
 use Rattle.parts.specs.Parts.{nodesOf, copied, hasOffsets, Used}
@@ -29,7 +30,7 @@ use Rattle.parts.proofs.Words.{offsets-buffer, has-buffers}
 use Rattle.orders.specs.Order.{Lent, joinOf, sourceCount}
 use Rattle.orders.proofs.Buffers.{copied-part}
 use Rattle.orders.proofs.Cover.{Laid}
-use Rattle.opening.specs.Open.{firstOffset, joinSource, joinEntries, openDictionary}
+use Rattle.opening.specs.Open.{chosen, beginGaps, firstOffset, joinSource, joinEntries, openDictionary}
 use Rattle.opening.specs.Kept.{Kept}
 use Rattle.opening.specs.Entries.{EntriesLent}
 use Rattle.opening.proofs.Zeros.{values-copied}
@@ -71,6 +72,15 @@ module _ (x : Lent) where
   unfolding each
   each-below f e h zero r c l = uses-done U c
   each-below f e h (suc n) r c l = uses-next U (f r c) (λ c2. each f n (suc r) c2) (h r c (omega arith)) (λ c2. each-below f e h n (suc r) c2 (omega arith))
+
+  -- ---- the first gaps
+
+  gap-uses : (r : ℕ) (c : List ℕ) → Uses U (beginGaps x r c)
+  unfolding beginGaps
+  gap-uses r c = uses-cond U (isRunEnd (codeOf (x .plan) r) && chosen (x .plan)) _ _ (λ e. uses-done U _) (λ e. uses-done U c)
+
+  pub gaps-use : (c : List ℕ) → Uses U (each (beginGaps x) (nodesOf (x .plan)) 0 c)
+  gaps-use c = each-below (beginGaps x) (nodesOf (x .plan)) (λ r c2 l. gap-uses r c2) (nodesOf (x .plan)) 0 c (omega arith)
 
   -- ---- the zero offsets
 

@@ -92,7 +92,7 @@ module _ (formats schema : List ℕ) (first i : ℕ) where
 
 -- ---- an accepted opening
 
-module _ (formats schema sources : List ℕ) (x : Tables) (keep : Bool) (ok : sourcesGround formats schema x sources ≡ 0) (parts : List ℕ) where
+module _ (formats schema sources : List ℕ) (x : Tables) (keep gaps : Bool) (ok : sourcesGround formats schema x sources ≡ 0) (parts : List ℕ) where
   abbrev m : ℕ
   m = sourceCount sources
 
@@ -103,10 +103,10 @@ module _ (formats schema sources : List ℕ) (x : Tables) (keep : Bool) (ok : so
   nodes s = columns.nodesOf sources s
 
   abbrev plan : List ℕ
-  plan = planned formats schema x sources keep
+  plan = planned formats schema x sources keep gaps
 
   abbrev lent : Lent
-  lent = opened formats schema sources x keep parts
+  lent = opened formats schema sources x keep gaps parts
 
   abbrev tree : ℕ → Tree
   tree s = treeOf formats schema (first s) (nodes s)
@@ -115,16 +115,16 @@ module _ (formats schema sources : List ℕ) (x : Tables) (keep : Bool) (ok : so
   own s = tablesFrom x (first s)
 
   ty : Rattle.schema.specs.Tree.typed formats schema (first 0) (nodes 0) ≡ true
-  ty = is-typed formats schema sources x keep ok
+  ty = is-typed formats schema sources x keep gaps ok
 
   low : Rattle.schema.specs.Tree.ceilings formats schema (first 0) (nodes 0) ≡ true
-  low = is-low formats schema sources x keep ok
+  low = is-low formats schema sources x keep gaps ok
 
   words : Rattle.worded.specs.Planted.Planted plan formats schema (first 0) (nodes 0)
-  words = planted formats schema sources x keep ok
+  words = planted formats schema sources x keep gaps ok
 
   stands : Stood plan m (nodes 0)
-  stands = stood formats schema x sources ok keep
+  stands = stood formats schema x sources ok keep gaps
 
   -- ---- by the plan's words
 
@@ -172,19 +172,19 @@ module _ (formats schema sources : List ℕ) (x : Tables) (keep : Bool) (ok : so
 
   same-kid : (s : ℕ) → s < m → (i : ℕ) (b : Bool) (ids : List ℕ) → Is (tree s) i (unionKind b ids) → (e : ℕ) → List·Memᴰ e ids → childOf plan i e ≡ nodeOf (tree s) i ids e
   same-kid s l =
-      same-child formats schema (first 0) (nodes 0) plan ty low words (first s) (nodes s) (all-alike formats schema x first nodes plan m (taken formats schema sources x keep ok) s l)
+      same-child formats schema (first 0) (nodes 0) plan ty low words (first s) (nodes s) (all-alike formats schema x first nodes plan m (taken formats schema sources x keep gaps ok) s l)
 
   values-lent : (p : Plain) (j s : ℕ) → s < m → MeansPlain (tree s) p j → LentNode (joinOf lent s) j (LentPlain (joinOf lent s) p j) (arrayWith (own s) (plainBody (tree 0) (own s) p j) j)
   values-lent (fixed n) j s l h =
-      lent-at (tree s) x (first s) plan parts s (taken formats schema sources x keep ok .rules s l) (taken formats schema sources x keep ok .sums s l) (same-kid s l) (tPlain (fixed n)) j h
+      lent-at (tree s) x (first s) plan parts s (taken formats schema sources x keep gaps ok .rules s l) (taken formats schema sources x keep gaps ok .sums s l) (same-kid s l) (tPlain (fixed n)) j h
   values-lent (string w) j s l h =
-      lent-at (tree s) x (first s) plan parts s (taken formats schema sources x keep ok .rules s l) (taken formats schema sources x keep ok .sums s l) (same-kid s l) (tPlain (string w)) j h
+      lent-at (tree s) x (first s) plan parts s (taken formats schema sources x keep gaps ok .rules s l) (taken formats schema sources x keep gaps ok .sums s l) (same-kid s l) (tPlain (string w)) j h
 
   -- ---- every dictionary
 
   values-at : (k : Number) (p : Plain) (i : ℕ) → Formed (tDictionary k p) → ((s : ℕ) → s < m → Means (tree s) (tDictionary k p) i) → ValuesLent lent k p i m (λ s. bodyOf (tree 0) (own s) (tDictionary k p) i)
   values-at k p i o h =
-      let z = h 0 (some-sources formats schema sources x keep ok) in
+      let z = h 0 (some-sources formats schema sources x keep gaps ok) in
       let l = z .0 .0 in
       let g = coded-at i l _ (z .0 .1) in
       let n = keys-number formats schema (first 0) i k (g .0) (g .2) (z .0 .1) in
@@ -206,11 +206,11 @@ module _ (formats schema sources : List ℕ) (x : Tables) (keep : Bool) (ok : so
   entries-at (tList w u) i o h = entries-at u (suc i) (o .1) (λ s l. h s l .1)
   entries-at (tSparse ids nullable f) i o h = λ e q.
       let kid : (s : ℕ) → s < m → childOf plan i e ≡ nodeOf (tree s) i ids e = λ s l. same-kid s l i true ids (h s l .0) e q in
-      subst (λ z. EntriesLent lent (f e) (childOf plan i e) m (λ s. bodyOf (tree 0) (own s) (f e) z)) (kid 0 (some-sources formats schema sources x keep ok))
+      subst (λ z. EntriesLent lent (f e) (childOf plan i e) m (λ s. bodyOf (tree 0) (own s) (f e) z)) (kid 0 (some-sources formats schema sources x keep gaps ok))
       (entries-at (f e) (childOf plan i e) (o .1 e q) (λ s l. subst (Means (tree s) (f e)) (sym (kid s l)) (h s l .1 e q .1)))
   entries-at (tDense ids nullable f) i o h = λ e q.
       let kid : (s : ℕ) → s < m → childOf plan i e ≡ nodeOf (tree s) i ids e = λ s l. same-kid s l i false ids (h s l .0) e q in
-      subst (λ z. EntriesLent lent (f e) (childOf plan i e) m (λ s. bodyOf (tree 0) (own s) (f e) z)) (kid 0 (some-sources formats schema sources x keep ok))
+      subst (λ z. EntriesLent lent (f e) (childOf plan i e) m (λ s. bodyOf (tree 0) (own s) (f e) z)) (kid 0 (some-sources formats schema sources x keep gaps ok))
       (entries-at (f e) (childOf plan i e) (o .1 e q) (λ s l. subst (Means (tree s) (f e)) (sym (kid s l)) (h s l .1 e q .1)))
   entries-at (tRunEnd w u) i o h = entries-at u (suc (suc i)) (o .1) (λ s l. h s l .2)
   entries-at (tDictionary k p) i o h = values-at k p i o h
@@ -225,4 +225,4 @@ module _ (formats schema sources : List ℕ) (x : Tables) (keep : Bool) (ok : so
   pub entries-lent : EntriesLent lent t 0 m (λ j. ss j .body)
   entries-lent =
       entries-at t 0 (formed formats schema (first 0) (nodes 0) ty low)
-      (λ s l. same-means formats schema (first 0) (nodes 0) (first s) (nodes s) ty low (all-alike formats schema x first nodes plan m (taken formats schema sources x keep ok) s l))
+      (λ s l. same-means formats schema (first 0) (nodes 0) (first s) (nodes s) ty low (all-alike formats schema x first nodes plan m (taken formats schema sources x keep gaps ok) s l))

@@ -12,6 +12,7 @@ use Rattle.lent_tables.proofs.Laws.{and-left, and-right}
 use Rattle.number.specs.Number.{encode}
 use Rattle.number.proofs.Laws.{length-encode}
 use Rattle.array_data.specs.Tables.{Tables}
+use Rattle.formats.specs.Code.{isRunEnd}
 use Rattle.walk.specs.State.{word, codeOf, dictionaryOf, bytesOf, endOf, rows, bytes, lengthOf, top}
 use Rattle.walk.specs.Log.{put, Out, apply}
 use Rattle.room.specs.Room.{AllBelow, AllUsed}
@@ -21,10 +22,11 @@ use Rattle.orders.specs.Sound.{planSound}
 use Rattle.orders.specs.Order.{Lent, joinOf, sourceCount}
 use Rattle.orders.specs.Written.{OnlyUsed, AllMade}
 use Rattle.orders.proofs.Sound.{closed-nodes, ends-fixed, node-stands}
-use Rattle.orders.proofs.Grows.{Fine, Behind, Added, Adds, due, adds-done, adds-fail, adds-wrote, adds-cond, adds-need, adds-next, adds-each, adds-whole}
+use Rattle.room.proofs.Found.{between-both}
+use Rattle.orders.proofs.Grows.{Fine, Behind, Added, Adds, due, adds-done, adds-gap, adds-fail, adds-wrote, adds-cond, adds-need, adds-next, adds-each, adds-whole}
 use Rattle.orders.proofs.GrowsCopies.{adds-copies}
 use Rattle.orders.proofs.Written.{all-made, only-used}
-use Rattle.opening.specs.Open.{Opening, firstOffset, joinSource, joinEntries, openDictionary, openWalk, opened, refused, settled, roomPlaced, opening}
+use Rattle.opening.specs.Open.{Opening, chosen, beginGaps, firstOffset, joinSource, joinEntries, openDictionary, openWalk, opened, refused, settled, roomPlaced, opening}
 use Rattle.opening.proofs.Laid.{Stood, stood}
 use Rattle.opening.proofs.Walk.{opens-used}
 use Rattle.opening.proofs.Opened.{given, tests}
@@ -67,11 +69,20 @@ module _ (x : Lent) (sound : planSound (x .plan) ≡ true) (values : (i : ℕ) �
       (adds-cond P false 0 0 c (eqb (word P i 7) 0) _ _ (λ f. adds-done P false 0 0 c) (λ f. adds-entries (suc i) c (values i l (eqb-false _ _ e))))
       (λ c2. adds-need P false 0 0 _ 8 c2 _ (omega arith) (λ f. adds-done P false 0 0 c2)))
 
+  adds-gaps : (i : ℕ) (c : List ℕ) → i < nodesOf P → Adds P false 0 0 c (beginGaps x i c)
+  unfolding beginGaps
+  adds-gaps i c l =
+      adds-cond P false 0 0 c (isRunEnd (codeOf P i) && chosen P) _ _
+      (λ e. let b = between-both 23 23 (codeOf P i) (and-left (isRunEnd (codeOf P i)) (chosen P) e) in
+      adds-gap P false 0 0 i 1 c (omega arith) (omega (arith, b .0, b .1)) (λ y z. absurd (let z : _≡_ {A = ℕ} 0 1 = cc y in omega arith)))
+      (λ e. adds-done P false 0 0 c)
+
   pub adds-opening : (c : List ℕ) → Adds P false 0 0 c (openWalk x c)
   unfolding openWalk
   adds-opening c =
-      adds-next P false 0 0 c _ _ (adds-each P false 0 0 (firstOffset x) (nodesOf P) (λ i c2 l. adds-offset i c2) (nodesOf P) 0 c (omega arith))
-      (λ c2. adds-each P false 0 0 (openDictionary x) (nodesOf P) adds-dictionary (nodesOf P) 0 c2 (omega arith))
+      adds-next P false 0 0 c _ _ (adds-each P false 0 0 (beginGaps x) (nodesOf P) (λ i c2 l. adds-gaps i c2 l) (nodesOf P) 0 c (omega arith))
+      (λ c1. adds-next P false 0 0 c1 _ _ (adds-each P false 0 0 (firstOffset x) (nodesOf P) (λ i c2 l. adds-offset i c2) (nodesOf P) 0 c1 (omega arith))
+      (λ c2. adds-each P false 0 0 (openDictionary x) (nodesOf P) adds-dictionary (nodesOf P) 0 c2 (omega arith)))
 
 -- the counters before any row
 pub fine-zeros : Fine (replicate {A = ℕ} 96 0)
@@ -84,12 +95,12 @@ fine-zeros = record { long = length-replicate {A = ℕ} 96 0; rows-top = λ i. n
 
 -- ---- an accepted opening
 
-module _ (formats schema sources : List ℕ) (x : Tables) (keep : Bool) (parts plan counts room : List ℕ) where
+module _ (formats schema sources : List ℕ) (x : Tables) (keep gaps : Bool) (parts plan counts room : List ℕ) where
   abbrev lent : Lent
-  lent = opened formats schema sources x keep parts
+  lent = opened formats schema sources x keep gaps parts
 
   abbrev answer : Opening
-  answer = opening formats schema sources x keep parts plan counts room
+  answer = opening formats schema sources x keep gaps parts plan counts room
 
   abbrev walk : Out
   walk = openWalk lent (replicate 96 0)
@@ -100,29 +111,29 @@ module _ (formats schema sources : List ℕ) (x : Tables) (keep : Bool) (parts p
     counts-are : a .counts ≡ walk .counts
     room-is : a .room ≡ apply (lent .plan) parts (walk .log) room
 
-  settled-is : settled formats schema sources x keep parts plan counts room walk .ground ≡ 0 → Settled (settled formats schema sources x keep parts plan counts room walk)
+  settled-is : settled formats schema sources x keep gaps parts plan counts room walk .ground ≡ 0 → Settled (settled formats schema sources x keep gaps parts plan counts room walk)
   unfolding settled
   settled-is = go (eqb (walk .ans) 0) refl (partsHold (lent .plan) (walk .counts) parts) refl
     where
       go : (a : Bool) → eqb (walk .ans) 0 ≡ a → (b : Bool) → partsHold (lent .plan) (walk .counts) parts ≡ b
-          → cond a (cond b (record { ground = 0; plan = lent .plan; counts = walk .counts; room = apply (lent .plan) parts (walk .log) room }) (refused formats schema sources x keep parts plan counts room 13))
-          (refused formats schema sources x keep parts plan counts room (walk .ans)) .ground ≡ 0
-          → Settled (cond a (cond b (record { ground = 0; plan = lent .plan; counts = walk .counts; room = apply (lent .plan) parts (walk .log) room }) (refused formats schema sources x keep parts plan counts room 13))
-          (refused formats schema sources x keep parts plan counts room (walk .ans)))
+          → cond a (cond b (record { ground = 0; plan = lent .plan; counts = walk .counts; room = apply (lent .plan) parts (walk .log) room }) (refused formats schema sources x keep gaps parts plan counts room 13))
+          (refused formats schema sources x keep gaps parts plan counts room (walk .ans)) .ground ≡ 0
+          → Settled (cond a (cond b (record { ground = 0; plan = lent .plan; counts = walk .counts; room = apply (lent .plan) parts (walk .log) room }) (refused formats schema sources x keep gaps parts plan counts room 13))
+          (refused formats schema sources x keep gaps parts plan counts room (walk .ans)))
       go true e true f h = record { no-ground = eqb-true _ _ e; holds = f; counts-are = refl; room-is = refl }
       go true e false f h = absurd (omega arith)
       go false e b f h = absurd (eqb-false _ _ e h)
 
   module _ (accepted : answer .ground ≡ 0) where
-    passed : (length room ≤ 4294967295) × (sourcesGround formats schema x sources ≡ 0) × (roomPlaced formats schema sources x keep parts plan counts room ≡ true)
-    passed = tests formats schema sources x keep parts plan counts room accepted
+    passed : (length room ≤ 4294967295) × (sourcesGround formats schema x sources ≡ 0) × (roomPlaced formats schema sources x keep gaps parts plan counts room ≡ true)
+    passed = tests formats schema sources x keep gaps parts plan counts room accepted
 
     made : Settled answer
     unfolding opening
     made = let p = passed in rw (le-leb _ _ (p .0), eq-eqb _ _ (p .1), p .2) (settled-is (rw (le-leb _ _ (p .0), eq-eqb _ _ (p .1), p .2) at accepted))
 
     stands : Stood (lent .plan) (length sources / 2) (getD sources 1 0)
-    stands = stood formats schema x sources (passed .1) keep
+    stands = stood formats schema x sources (passed .1) keep gaps
 
     values : (i : ℕ) → i < nodesOf (lent .plan) → (dictionaryOf (lent .plan) i ≡ 0 → ⊥) → suc i < nodesOf (lent .plan)
     values i l d =
@@ -147,7 +158,7 @@ module _ (formats schema sources : List ℕ) (x : Tables) (keep : Bool) (parts p
 
     module _ (body-bytes : AllBelow 256 (x .body)) where
       used : AllUsed (Used (lent .plan)) (walk .log)
-      used = opens-used lent _ _ _ keep (given formats schema sources x keep parts body-bytes (passed .1))
+      used = opens-used lent _ _ _ keep gaps (given formats schema sources x keep gaps parts body-bytes (passed .1))
 
       -- EVERY WRITE IS MADE
       pub opening-made : AllMade (lent .plan) parts (length room) (walk .log)

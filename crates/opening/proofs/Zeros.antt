@@ -10,16 +10,18 @@ use lib.ListN.{length, getD, replicate}
 use lib.Dec.{eqb}
 use borrow.Author.Tests.{ne-eqb}
 use Rattle.number.specs.Number.{encode}
-use Rattle.walk.specs.State.{word, codeOf, dictionaryOf, bytesOf, rows, nulls, bytes}
+use Rattle.formats.specs.Code.{isRunEnd}
+use Rattle.walk.specs.State.{word, codeOf, dictionaryOf, bytesOf, rows, nulls, bytes, setBytes}
 use Rattle.walk.specs.Log.{put, Out, wrote, each}
 use Rattle.link.specs.Memory.{Memory, putIn}
 use Rattle.link.specs.Holds.{flag}
 use Rattle.link.proofs.Goes.{Quiet, quiet-done, quiet-wrote, quiet-then}
 use Rattle.link.proofs.Frame.{SameAt}
+use Rattle.link.proofs.Counters.{bytes-set, bytes-other, rows-of-bytes, nulls-of-bytes, long-bytes}
 use Rattle.link.proofs.Writes.{put-own, put-other}
 use Rattle.parts.specs.Parts.{copied, hasOffsets}
 use Rattle.orders.specs.Order.{Lent}
-use Rattle.opening.specs.Open.{firstOffset}
+use Rattle.opening.specs.Open.{chosen, beginGaps, firstOffset}
 
 -- nothing is written
 abbrev pub empty : Memory
@@ -33,11 +35,15 @@ quiet-each k I step zero r c μ i = quiet-done c (rw add-zero i)
 quiet-each k I step (suc n) r c μ i =
     quiet-then (λ c2. each k n (suc r) c2) (step r c μ i) (λ c2 ν j. let g = quiet-each k I step n (suc r) c2 ν j in rw (add-suc r n, ← suc-add r n) g)
 
+-- the gap that node j begins with; 0 where it is no run-end node
+abbrev pub gapOf : List ℕ → ℕ → ℕ
+gapOf plan j = cond (isRunEnd (codeOf plan j) && chosen plan) 1 0
+
 -- node j with no rows
 pub record Fresh (plan c : List ℕ) (μ : Memory) (j : ℕ) : Type 0 where
   pub no-rows : rows c j ≡ 0
   pub no-nulls : nulls c j ≡ 0
-  pub no-bytes : bytes c j ≡ 0
+  pub first-gap : bytes c j ≡ gapOf plan j
   pub no-bits : μ .bits j ≡ []
   pub zero-offset : hasOffsets (codeOf plan j) ≡ true → μ .at j 1 ≡ encode (bytesOf plan j) 0
   pub no-entries : hasOffsets (codeOf plan j) ≡ false → μ .at j 1 ≡ []
@@ -48,7 +54,7 @@ fresh-same plan c c′ μ μ′ j s f =
     record {
       no-rows = s .rows-same ∙ f .no-rows;
       no-nulls = s .nulls-same ∙ f .no-nulls;
-      no-bytes = s .bytes-same ∙ f .no-bytes;
+      first-gap = s .bytes-same ∙ f .first-gap;
       no-bits = s .bits-same ∙ f .no-bits;
       zero-offset = λ e. s .at-same 1 ∙ f .zero-offset e;
       no-entries = λ e. s .at-same 1 ∙ f .no-entries e;
@@ -72,6 +78,76 @@ pub no-counters : (n q : ℕ) → _≡_ {A = ℕ} (getD (replicate n 0) q 0) 0
 no-counters zero q = refl
 no-counters (suc n) zero = refl
 no-counters (suc n) (suc q) = no-counters n q
+
+-- counters of node j before any row
+pub record NoRows (plan c : List ℕ) (j : ℕ) : Type 0 where
+  pub rows-none : rows c j ≡ 0
+  pub nulls-none : nulls c j ≡ 0
+  pub gap-first : bytes c j ≡ gapOf plan j
+
+-- the gaps of the first r nodes are set
+record Gapped (plan : List ℕ) (r : ℕ) (c : List ℕ) (μ : Memory) : Type 0 where
+  memory-none : μ ≡ empty
+  long : length c ≡ 96
+  no-rows : (j : ℕ) → rows c j ≡ 0
+  no-nulls : (j : ℕ) → nulls c j ≡ 0
+  early : (j : ℕ) → j < r → j < 32 → bytes c j ≡ gapOf plan j
+  late : (j : ℕ) → r ≤ j → bytes c j ≡ 0
+
+module _ (x : Lent) (r : ℕ) (c : List ℕ) (μ : Memory) (g : Gapped (x .plan) r c μ) where
+  gap-on : isRunEnd (codeOf (x .plan) r) && chosen (x .plan) ≡ true → Gapped (x .plan) (suc r) (setBytes r 1 c) μ
+  gap-on e =
+      record {
+        memory-none = g .memory-none;
+        long = long-bytes r 1 c ∙ g .long;
+        no-rows = λ j. rows-of-bytes c r 1 j ∙ g .no-rows j;
+        no-nulls = λ j. nulls-of-bytes c r 1 j ∙ g .no-nulls j;
+        early = λ j l s. by-node j l s (decLt j r);
+        late = λ j l. bytes-other c r 1 j (λ q. omega (arith, q)) ∙ g .late j (omega arith);
+      }
+    where
+      by-node : (j : ℕ) → j < suc r → j < 32 → Dec (j < r) → bytes (setBytes r 1 c) j ≡ gapOf (x .plan) j
+      by-node j l s (yes y) = bytes-other c r 1 j (λ q. omega (arith, q)) ∙ g .early j y s
+      by-node j l s (no y) =
+          let q : r ≡ j = omega arith in
+          subst (λ n. bytes (setBytes r 1 c) n ≡ gapOf (x .plan) n) q (bytes-set c (g .long) r (omega arith) 1 ∙ sym (ap (λ b. cond b 1 0) e))
+
+  gap-off : isRunEnd (codeOf (x .plan) r) && chosen (x .plan) ≡ false → Gapped (x .plan) (suc r) c μ
+  gap-off e =
+      record {
+        memory-none = g .memory-none;
+        long = g .long;
+        no-rows = g .no-rows;
+        no-nulls = g .no-nulls;
+        early = λ j l s. by-node j l s (decLt j r);
+        late = λ j l. g .late j (omega arith);
+      }
+    where
+      by-node : (j : ℕ) → j < suc r → j < 32 → Dec (j < r) → bytes c j ≡ gapOf (x .plan) j
+      by-node j l s (yes y) = g .early j y s
+      by-node j l s (no y) =
+          let q : r ≡ j = omega arith in
+          subst (λ n. bytes c n ≡ gapOf (x .plan) n) q (g .late r (omega arith) ∙ sym (ap (λ b. cond b 1 0) e))
+
+  gap-step : Quiet μ (Gapped (x .plan) (suc r)) (beginGaps x r c)
+  unfolding beginGaps
+  gap-step = go (isRunEnd (codeOf (x .plan) r) && chosen (x .plan)) refl
+    where
+      go : (b : Bool) → isRunEnd (codeOf (x .plan) r) && chosen (x .plan) ≡ b
+          → Quiet μ (Gapped (x .plan) (suc r)) (cond b (Rattle.walk.specs.Log.done (setBytes r 1 c)) (Rattle.walk.specs.Log.done c))
+      go true e = quiet-done (setBytes r 1 c) (gap-on e)
+      go false e = quiet-done c (gap-off e)
+
+-- THE FIRST GAPS: nothing is written, and no node has rows
+pub gaps-go : (x : Lent) (c : List ℕ) → length c ≡ 96 → ((q : ℕ) → getD c q 0 ≡ 0) → (n : ℕ) → n ≤ 32
+    → Quiet empty (λ c′ μ. (μ ≡ empty) × (length c′ ≡ 96) × ((j : ℕ) → j < n → NoRows (x .plan) c′ j)) (each (beginGaps x) n 0 c)
+gaps-go x c long none n few =
+    let q = quiet-each (beginGaps x) (Gapped (x .plan)) (λ r c′ μ g. gap-step x r c′ μ g) n 0 c empty
+    (record { memory-none = refl; long = long; no-rows = λ j. none _; no-nulls = λ j. none _; early = λ j l. absurd (omega arith); late = λ j l. none _ }) in
+    record { is-done = q .is-done; in-place = q .in-place; leaves = (q .leaves .memory-none, q .leaves .long, λ j l. rest (q .leaves) j l) }
+  where
+    rest : {c′ : List ℕ} {μ : Memory} → Gapped (x .plan) (0 + n) c′ μ → (j : ℕ) → j < n → NoRows (x .plan) c′ j
+    rest g j l = record { rows-none = g .no-rows j; nulls-none = g .no-nulls j; gap-first = g .early j (omega arith) (omega arith) }
 
 module _ (x : Lent) (c : List ℕ) where
   -- the first r nodes have their zero offsets
@@ -138,8 +214,9 @@ module _ (x : Lent) (c : List ℕ) where
         go false e b f = quiet-done c′ (kept (rw e))
 
   -- THE FIRST OFFSETS: the counters stay, and every node that is copied has no rows
-  pub zeros-go : ((q : ℕ) → getD c q 0 ≡ 0) → (n : ℕ) → Quiet empty (λ c′ μ. (c′ ≡ c) × ((j : ℕ) → j < n → copied (x .plan) j ≡ true → Fresh (x .plan) c′ μ j)) (each (firstOffset x) n 0 c)
-  zeros-go none n =
+  pub zeros-go : (n : ℕ) → ((j : ℕ) → j < n → NoRows (x .plan) c j)
+      → Quiet empty (λ c′ μ. (c′ ≡ c) × ((j : ℕ) → j < n → copied (x .plan) j ≡ true → Fresh (x .plan) c′ μ j)) (each (firstOffset x) n 0 c)
+  zeros-go n none =
       let q = quiet-each (firstOffset x) Zeroed (λ r c′ μ z. zero-step r c′ μ z) n 0 c empty
       (record { counts-are = refl; bits-none = λ j. refl; first = λ j l. absurd (omega arith); later = λ j l. refl; other = λ j e. refl; second = λ j. refl }) in
       record { is-done = q .is-done; in-place = q .in-place; leaves = (q .leaves .counts-are, λ j l f. fresh (q .leaves) j l f) }
@@ -148,9 +225,9 @@ module _ (x : Lent) (c : List ℕ) where
       fresh z j l f =
           let e = z .counts-are in
           record {
-            no-rows = ap (λ s. rows s j) e ∙ none _;
-            no-nulls = ap (λ s. nulls s j) e ∙ none _;
-            no-bytes = ap (λ s. bytes s j) e ∙ none _;
+            no-rows = ap (λ s. rows s j) e ∙ none j l .rows-none;
+            no-nulls = ap (λ s. nulls s j) e ∙ none j l .nulls-none;
+            first-gap = ap (λ s. bytes s j) e ∙ none j l .gap-first;
             no-bits = z .bits-none j;
             zero-offset = λ s. z .first j (omega arith) s f;
             no-entries = z .other j;

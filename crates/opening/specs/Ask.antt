@@ -19,10 +19,10 @@ pub record Asked : Type 0 where
 
 -- THE QUESTION: 9, 10, 11, 12 as at the opening, 14 where the plan is not of a join's length; else the state as it is planned, which says
 -- how many parts there are and of which buffer each is (`partTotal`, `partAt`)
-unfoldable pub asked : List ℕ → List ℕ → List ℕ → Tables → Bool → List ℕ → Asked
-asked formats schema sources x keep plan =
+unfoldable pub asked : List ℕ → List ℕ → List ℕ → Tables → Bool → Bool → List ℕ → Asked
+asked formats schema sources x keep gaps plan =
     cond (eqb (sourcesGround formats schema x sources) 0)
-    (cond (eqb (length plan) 872) (record { ground = 0; plan = planned formats schema x sources keep }) (record { ground = 14; plan = plan }))
+    (cond (eqb (length plan) 872) (record { ground = 0; plan = planned formats schema x sources keep gaps }) (record { ground = 14; plan = plan }))
     (record { ground = sourcesGround formats schema x sources; plan = plan })
 
 -- THE WALK OF AN OPENING, with no part asked, by the plan that the question left: 6 and 8; 12 where it can't be carried out with that plan,

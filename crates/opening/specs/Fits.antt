@@ -42,6 +42,6 @@ module _ (plan parts : List ℕ) where
   openFits t i m ss d = fits plan parts t i d && entriesFit t i m ss
 
   -- "then per dictionary in tree order 6 (joining), 8, and 13 last"
-  abbrev pub openIn : (t : Ty) → Bool → ℕ → (ℕ → Column t) → Try (Destination t)
-  openIn t keep m ss =
-      then (openData t m (λ j. ss j .body)) (λ y. guard (openFits t 0 m (λ j. ss j .body) (start t keep m ss)) 13 (done (start t keep m ss)))
+  abbrev pub openIn : Bool → (t : Ty) → Bool → ℕ → (ℕ → Column t) → Try (Destination t)
+  openIn gaps t keep m ss =
+      then (openData t m (λ j. ss j .body)) (λ y. guard (openFits t 0 m (λ j. ss j .body) (start gaps t keep m ss)) 13 (done (start gaps t keep m ss)))

@@ -4,15 +4,15 @@ use mathlib.Core.Bool.{Bool, false, cond, _&&_}
 use mathlib.Core.Option.{Option, none, some}
 use mathlib.Core.List.{List}
 use Prim.Native.Nat.{ℕ, suc}
-use lib.ListN.{length, replicate}
+use lib.ListN.{length, getD, replicate}
 use lib.Dec.{leb, eqb}
 use Rattle.number.specs.Number.{encode}
 use Rattle.columnar.specs.Types.{Number}
 use Rattle.columnar.specs.Test.{every}
-use Rattle.formats.specs.Code.{isInteger}
+use Rattle.formats.specs.Code.{isInteger, isRunEnd}
 use Rattle.formats.specs.Types.{numberOf}
 use Rattle.array_data.specs.Tables.{Tables}
-use Rattle.walk.specs.State.{word, codeOf, dictionaryOf, bytesOf, baseOf, lengthOf}
+use Rattle.walk.specs.State.{word, codeOf, dictionaryOf, bytesOf, baseOf, setBytes, lengthOf}
 use Rattle.walk.specs.Log.{Out, put, done, wrote, need, next, each, apply}
 use Rattle.walk.specs.Copy.{copyWalk}
 use Rattle.columns.specs.Grounds.{sourcesGround}
@@ -30,7 +30,15 @@ pub record Opening : Type 0 where
 
 -- ---- the walk of an opening, by the plan
 
+-- one run for a gap is chosen
+abbrev pub chosen : List ℕ → Bool
+chosen plan = eqb (getD plan 867 0) 1
+
 module _ (x : Lent) where
+  -- where one run for a gap is chosen, the gap of a run-end node begins at 1
+  unfoldable pub beginGaps : ℕ → List ℕ → Out
+  beginGaps i c = cond (isRunEnd (codeOf (x .plan) i) && chosen (x .plan)) (done (setBytes i 1 c)) (done c)
+
   -- "`new_buffers` for the first zero offset": a byte string's or list's, where it has a part
   unfoldable pub firstOffset : ℕ → List ℕ → Out
   firstOffset i c = cond (hasOffsets (codeOf (x .plan) i) && copied (x .plan) i) (wrote (put i 1 0 (encode (bytesOf (x .plan) i) 0)) c) (done c)
@@ -64,16 +72,18 @@ module _ (x : Lent) where
 
   -- "then per dictionary in tree order 6 (joining), 8"
   unfoldable pub openWalk : List ℕ → Out
-  openWalk c = next (each firstOffset (nodesOf (x .plan)) 0 c) (λ c2. each openDictionary (nodesOf (x .plan)) 0 c2)
+  openWalk c =
+      next (each beginGaps (nodesOf (x .plan)) 0 c)
+      (λ c1. next (each firstOffset (nodesOf (x .plan)) 0 c1) (λ c2. each openDictionary (nodesOf (x .plan)) 0 c2))
 
 -- ---- the opening
 
-module _ (formats schema sources : List ℕ) (x : Tables) (keep : Bool) (parts : List ℕ) where
+module _ (formats schema sources : List ℕ) (x : Tables) (keep gaps : Bool) (parts : List ℕ) where
   -- what every order is then lent
   abbrev pub opened : Lent
   opened =
       record {
-        plan = planned formats schema x sources keep;
+        plan = planned formats schema x sources keep gaps;
         parts = parts;
         sources = sources;
         lengths = x .lengths;

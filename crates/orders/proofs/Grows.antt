@@ -1,73 +1,26 @@
--- A walk only adds: counters grow, and every write lies behind what a buffer held before and before the end of what it holds after.
+-- A walk only adds: counters grow, and every write lies behind what a buffer held before, or over its last run end, and before the end of what it
+-- holds after.
 -- One rule for each step of a walk. Assumes nothing.
 use mathlib.Core.Path.{_≡_, refl, sym, ap, subst, _∙_}
 use mathlib.Core.Bool.{Bool, true, false, cond}
 use mathlib.Core.List.{List, [], _∷_, _++_, append-nil, append-assoc}
-use Prim.Native.Nat.{ℕ, zero, suc, _+_, _*_, _/_, _≤_, _<_, min}
-use native.Mathlib.Nat.{add-zero, mul-zero, add-mul, mul-comm, le-refl, le-trans, min-eq-left, min-eq-right, mul-le-mul-right, le-mul-of-pos-right}
-use native.Mathlib.Decide.{decLt}
+use Prim.Native.Nat.{ℕ, zero, suc, _+_, _-_, _*_, _≤_, _<_, min}
+use native.Mathlib.Nat.{suc-mul, add-zero, add-mul, mul-comm, le-refl, le-trans, min-eq-left, mul-le-mul-right}
 use native.Mathlib.Omega.{arith}
 use lib.ListN.{length}
 use lib.Dec.{ltb, eqb}
-use borrow.Author.Tests.{ltb-true, eq-eqb, ne-eqb, eqb-true, eqb-false}
-use Rattle.formats.specs.Code.{isString, isListView, widthOf}
-use Rattle.walk.specs.State.{codeOf, rows, nulls, bytes, top, grown, beyond, addRows, addNulls, setBytes}
-use Rattle.walk.specs.Log.{Entry, put, mask, Log, Out, fail, done, wrote, need, found, next, each}
+use borrow.Author.Tests.{ltb-true, eq-eqb, eqb-true, eqb-false}
+use Rattle.number.specs.Number.{encode}
+use Rattle.number.proofs.Laws.{length-encode}
+use Rattle.formats.specs.Code.{isString}
+use Rattle.walk.specs.State.{codeOf, bytesOf, rows, bytes, gap, top, grown, addRows, addNulls, setBytes}
+use Rattle.walk.specs.Log.{Entry, put, mask, amend, Log, Out, fail, done, wrote, need, found, next, each}
 use Rattle.link.proofs.Counters.{rows-added, bytes-set, rows-other, bytes-of-rows, rows-of-nulls, bytes-of-nulls, bytes-other, rows-of-bytes, long-rows, long-nulls, long-bytes}
-use Rattle.parts.specs.Parts.{hasOffsets, entrySize, needed, neededBy}
+use Rattle.parts.specs.Parts.{needed, neededBy}
 use Rattle.orders.specs.Written.{Ends}
+use Rattle.orders.proofs.Needed.{needed-more, needed-cut, ends-up}
 
--- ---- the bytes that a buffer needs
-
-pub needed-more : (z r s m n b : ℕ) → r ≤ s → m ≤ n → neededBy z r m b ≤ neededBy z s n b
-needed-more z r s m n zero h k = omega arith
-needed-more z r s m n (suc zero) h k = go (hasOffsets z)
-  where
-    go : (t : Bool) → cond t ((r + 1) * widthOf z) (r * entrySize z) ≤ cond t ((s + 1) * widthOf z) (s * entrySize z)
-    go true = mul-le-mul-right (widthOf z) (omega arith)
-    go false = mul-le-mul-right (entrySize z) h
-needed-more z r s m n (suc (suc b)) h k = go (isString z) (isListView z)
-  where
-    go : (t u : Bool) → cond t m (cond u (r * widthOf z) (r * 4)) ≤ cond t n (cond u (s * widthOf z) (s * 4))
-    go true u = k
-    go false true = mul-le-mul-right (widthOf z) h
-    go false false = omega arith
-
--- what is short of every room is of no width or of few rows
-no-width : (k w : ℕ) → top ≤ k → k * w < beyond → w ≡ 0
-no-width k zero l h = refl
-no-width k (suc w) l h = absurd (let p : 0 < suc w = omega arith in let g = le-mul-of-pos-right k p in omega arith)
-
-same-times : (k l w : ℕ) → top ≤ k → k * w < beyond → l * w ≡ k * w
-same-times k l w p h = let e = no-width k w p h in rw (e, mul-zero k, mul-zero l)
-
--- a counter that stays at the largest number needs more than any room, or as much as any other
-needed-cut : (z r m b : ℕ) → neededBy z (min r top) m b < beyond → neededBy z r m b ≡ neededBy z (min r top) m b
-needed-cut z r m b h = go (decLt top r)
-  where
-    at-top : (b : ℕ) → neededBy z top m b < beyond → neededBy z r m b ≡ neededBy z top m b
-    at-top zero g = absurd (omega arith)
-    at-top (suc zero) g = by (hasOffsets z) g
-      where
-        by : (t : Bool) → cond t ((top + 1) * widthOf z) (top * entrySize z) < beyond → cond t ((r + 1) * widthOf z) (r * entrySize z) ≡ cond t ((top + 1) * widthOf z) (top * entrySize z)
-        by true g = same-times (top + 1) (r + 1) (widthOf z) (omega arith) g
-        by false g = same-times top r (entrySize z) (omega arith) g
-    at-top (suc (suc b)) g = by (isString z) (isListView z) g
-      where
-        by : (t u : Bool) → cond t m (cond u (top * widthOf z) (top * 4)) < beyond → cond t m (cond u (r * widthOf z) (r * 4)) ≡ cond t m (cond u (top * widthOf z) (top * 4))
-        by true u g = refl
-        by false true g = same-times top r (widthOf z) (omega arith) g
-        by false false g = absurd (omega arith)
-
-    go : Dec (top < r) → neededBy z r m b ≡ neededBy z (min r top) m b
-    go (yes y) =
-        let e : min r top ≡ top = min-eq-right (omega arith) in
-        let g : neededBy z top m b < beyond = subst (λ v. neededBy z v m b < beyond) e h in
-        subst (λ v. neededBy z r m b ≡ neededBy z v m b) (sym e) (at-top b g)
-    go (no y) = let e : min r top ≡ r = min-eq-left (omega arith) in ap (λ v. neededBy z v m b) (sym e)
-
-ends-up : {n v w : ℕ} → Ends n v → v ≤ w → Ends n w
-ends-up f l h = let g = f (omega arith) in omega arith
+-- ---- rows that are due
 
 -- n rows more at node e
 abbrev pub due : ℕ → ℕ → ℕ → ℕ
@@ -90,17 +43,28 @@ pub record Fine (c : List ℕ) : Type 0 where
   pub long : length c ≡ 96
   pub rows-top : (i : ℕ) → rows c i ≤ top
 
-pub record Longer (c d : List ℕ) : Type 0 where
+-- late: an order, which leaves a gap of 0 at that; an opening sets it
+pub record Longer (state : List ℕ) (late : Bool) (c d : List ℕ) : Type 0 where
   pub rows-grow : (i : ℕ) → rows c i ≤ rows d i
-  pub bytes-grow : (i : ℕ) → bytes c i ≤ bytes d i
+  pub bytes-grow : (i : ℕ) → isString (codeOf state i) ≡ true → bytes c i ≤ bytes d i
+  pub gap-off : late ≡ true → (i : ℕ) → codeOf state i ≡ 23 → gap c i ≡ 0 → gap d i ≡ 0
 
-pub longer-same : (c : List ℕ) → Longer c c
-longer-same c = record { rows-grow = λ i. le-refl _; bytes-grow = λ i. le-refl _ }
+-- a run-end node is no byte string
+not-string : (z : ℕ) → z ≡ 23 → isString z ≡ true → ⊥
+not-string z e h = let f : isString 23 ≡ true = rw e at h in let y : _≡_ {A = ℕ} 0 1 = cc in omega arith
 
-pub longer-then : {a b c : List ℕ} → Longer a b → Longer b c → Longer a c
-longer-then p q = record { rows-grow = λ i. le-trans (p .rows-grow i) (q .rows-grow i); bytes-grow = λ i. le-trans (p .bytes-grow i) (q .bytes-grow i) }
+pub longer-same : (state : List ℕ) (late : Bool) (c : List ℕ) → Longer state late c c
+longer-same state late c = record { rows-grow = λ i. le-refl _; bytes-grow = λ i h. le-refl _; gap-off = λ l i h z. z }
 
-module _ (i n : ℕ) (c : List ℕ) (small : i < 32) (fine : Fine c) where
+pub longer-then : {state : List ℕ} {late : Bool} {a b c : List ℕ} → Longer state late a b → Longer state late b c → Longer state late a c
+longer-then p q =
+    record {
+      rows-grow = λ i. le-trans (p .rows-grow i) (q .rows-grow i);
+      bytes-grow = λ i h. le-trans (p .bytes-grow i h) (q .bytes-grow i h);
+      gap-off = λ l i h z. q .gap-off l i h (p .gap-off l i h z);
+    }
+
+module _ (state : List ℕ) (late : Bool) (i n : ℕ) (c : List ℕ) (small : i < 32) (fine : Fine c) where
   rows-now : (j : ℕ) → rows (addRows i n c) j ≡ min (rows c j + due i n j) top
   unfolding grown
   rows-now j = go (eqb j i) refl
@@ -112,24 +76,48 @@ module _ (i n : ℕ) (c : List ℕ) (small : i < 32) (fine : Fine c) where
   fine-rows : Fine (addRows i n c)
   fine-rows = record { long = long-rows i n c ∙ fine .long; rows-top = λ j. let e = rows-now j in omega arith }
 
-  longer-rows : Longer c (addRows i n c)
+  longer-rows : Longer state late c (addRows i n c)
   longer-rows =
       record {
         rows-grow = λ j. let e = rows-now j in let t = fine .rows-top j in omega arith;
-        bytes-grow = λ j. let e = bytes-of-rows c i n j in omega arith;
+        bytes-grow = λ j h. let e = bytes-of-rows c i n j in omega arith;
+        gap-off = λ l j h z. bytes-of-rows c i n j ∙ z;
       }
 
   fine-nulls : Fine (addNulls i n c)
   fine-nulls = record { long = long-nulls i n c ∙ fine .long; rows-top = λ j. let e = rows-of-nulls c i n j in let t = fine .rows-top j in omega arith }
 
-  longer-nulls : Longer c (addNulls i n c)
-  longer-nulls = record { rows-grow = λ j. let e = rows-of-nulls c i n j in omega arith; bytes-grow = λ j. let e = bytes-of-nulls c i n j in omega arith }
+  longer-nulls : Longer state late c (addNulls i n c)
+  longer-nulls =
+      record {
+        rows-grow = λ j. let e = rows-of-nulls c i n j in omega arith;
+        bytes-grow = λ j h. let e = bytes-of-nulls c i n j in omega arith;
+        gap-off = λ l j h z. bytes-of-nulls c i n j ∙ z;
+      }
 
   pub fine-bytes : Fine (setBytes i n c)
   fine-bytes = record { long = long-bytes i n c ∙ fine .long; rows-top = λ j. let e = rows-of-bytes c i n j in let t = fine .rows-top j in omega arith }
 
-  pub longer-bytes : bytes c i ≤ n → Longer c (setBytes i n c)
-  longer-bytes h = record { rows-grow = λ j. let e = rows-of-bytes c i n j in omega arith; bytes-grow = λ j. go j (eqb j i) refl }
+  -- a run-end node's gap
+  longer-gap : codeOf state i ≡ 23 → (late ≡ true → gap c i ≡ 0 → n ≡ 0) → Longer state late c (setBytes i n c)
+  longer-gap q f =
+      record {
+        rows-grow = λ j. let e = rows-of-bytes c i n j in omega arith;
+        bytes-grow = λ j h. let e = bytes-other c i n j (λ y. not-string (codeOf state j) (ap (codeOf state) y ∙ q) h) in omega arith;
+        gap-off = λ l j h z. go l j z (eqb j i) refl;
+      }
+    where
+      go : late ≡ true → (j : ℕ) → gap c j ≡ 0 → (b : Bool) → eqb j i ≡ b → gap (setBytes i n c) j ≡ 0
+      go l j z true e = let y = eqb-true j i e in rw y (bytes-set c (fine .long) i small n ∙ f l (rw y at z))
+      go l j z false e = bytes-other c i n j (eqb-false j i e) ∙ z
+
+  pub longer-bytes : isString (codeOf state i) ≡ true → bytes c i ≤ n → Longer state late c (setBytes i n c)
+  longer-bytes s h =
+      record {
+        rows-grow = λ j. let e = rows-of-bytes c i n j in omega arith;
+        bytes-grow = λ j t. go j (eqb j i) refl;
+        gap-off = λ l j q z. bytes-other c i n j (λ y. not-string (codeOf state i) (ap (codeOf state) (sym y) ∙ q) s) ∙ z;
+      }
     where
       go : (j : ℕ) → (b : Bool) → eqb j i ≡ b → bytes c j ≤ bytes (setBytes i n c) j
       go j true e = let z = eqb-true j i e in rw z (let g = bytes-set c (fine .long) i small n in omega arith)
@@ -149,26 +137,49 @@ next-next o k l = go (eqb (o .ans) 0) refl (eqb (k (o .counts) .ans) 0) refl
 module _ (state : List ℕ) (late : Bool) where
   -- ---- entries
 
+  -- a write over run ends: over the last one, where the gap is not 0
+  pub record Over (c : List ℕ) (j o : ℕ) : Type 0 where
+    pub node : ℕ
+    pub ends : j ≡ suc node
+    pub runs : codeOf state node ≡ 23
+    pub chosen : late ≡ true → gap c node ≡ 0 → ⊥
+    pub last : (rows c j - 1) * bytesOf state j ≤ o
+
   -- a write of a walk from counters c on that leaves d, with n rows more due at node e
   abbrev pub Behind : ℕ → ℕ → List ℕ → List ℕ → Entry → Type 0
   Behind e n c d (put j b o bs) = (late ≡ true → needed state c j b ≤ o) × Ends (o + length bs) (neededBy (codeOf state j) (rows d j + due e n j) (bytes d j) b)
   Behind e n c d (mask j p vs) = (rows c j ≤ p) × Ends (p + length vs) (rows d j + due e n j)
+  Behind e n c d (amend j b o bs) = Over c j o × (b ≡ 1) × Ends (o + length bs) (neededBy (codeOf state j) (rows d j + due e n j) (bytes d j) b)
 
   unfoldable pub AllBehind : ℕ → ℕ → List ℕ → List ℕ → Log → Type 0
   AllBehind e n c d [] = Unit {0}
   AllBehind e n c d (x ∷ l) = Behind e n c d x × AllBehind e n c d l
 
-  pub behind-wide : (e n : ℕ) (a b c d : List ℕ) → Longer a b → Longer c d → (x : Entry) → Behind e n b c x → Behind e n a d x
+  pub behind-wide : (e n : ℕ) (a b c d : List ℕ) → Longer state late a b → Longer state late c d → (x : Entry) → Behind e n b c x → Behind e n a d x
   behind-wide e n a b c d p q (put j k o bs) h =
       let l = needed-more (codeOf state j) (rows a j) (rows b j) (bytes a j) (bytes b j) k (p .rows-grow j) (p .bytes-grow j) in
       let r = q .rows-grow j in
       (λ y. let g = h .0 y in omega arith, ends-up (h .1) (needed-more (codeOf state j) _ _ _ _ k (omega arith) (q .bytes-grow j)))
+  behind-wide e n a b c d p q (amend j k o bs) h =
+      let l = p .rows-grow j in
+      let r = q .rows-grow j in
+      let m : (rows a j - 1) * bytesOf state j ≤ (rows b j - 1) * bytesOf state j = mul-le-mul-right (bytesOf state j) (omega arith) in (
+        record {
+          node = h .0 .node;
+          ends = h .0 .ends;
+          runs = h .0 .runs;
+          chosen = λ y z. h .0 .chosen y (p .gap-off y (h .0 .node) (h .0 .runs) z);
+          last = le-trans m (h .0 .last);
+        },
+        h .1,
+        ends-up (h .2) (needed-more (codeOf state j) _ _ _ _ k (omega arith) (q .bytes-grow j)),
+      )
   behind-wide e n a b c d p q (mask j k vs) h =
       let l = p .rows-grow j in
       let r = q .rows-grow j in
       (omega (arith, h .0), ends-up (h .1) (omega arith))
 
-  all-wide : (e n : ℕ) (a b c d : List ℕ) → Longer a b → Longer c d → (l : Log) → AllBehind e n b c l → AllBehind e n a d l
+  all-wide : (e n : ℕ) (a b c d : List ℕ) → Longer state late a b → Longer state late c d → (l : Log) → AllBehind e n b c l → AllBehind e n a d l
   unfolding AllBehind
   all-wide e n a b c d p q [] h = tt
   all-wide e n a b c d p q (x ∷ l) h = (behind-wide e n a b c d p q x (h .0), all-wide e n a b c d p q l (h .1))
@@ -182,7 +193,10 @@ module _ (state : List ℕ) (late : Bool) where
   behind-due : (e n f : ℕ) (c d : List ℕ) (x : Entry) → Behind f 0 c d x → Behind e n c d x
   behind-due e n f c d (put j k o bs) h =
       let z = due-none f j in
-      (h .0, ends-up (h .1) (needed-more (codeOf state j) _ _ _ _ k (omega arith) (le-refl _)))
+      (h .0, ends-up (h .1) (needed-more (codeOf state j) _ _ _ _ k (omega arith) (λ s. le-refl _)))
+  behind-due e n f c d (amend j k o bs) h =
+      let z = due-none f j in
+      (h .0, h .1, ends-up (h .2) (needed-more (codeOf state j) _ _ _ _ k (omega arith) (λ s. le-refl _)))
   behind-due e n f c d (mask j k vs) h = let z = due-none f j in (h .0, ends-up (h .1) (omega arith))
 
   all-due : (e n f : ℕ) (c d : List ℕ) (l : Log) → AllBehind f 0 c d l → AllBehind e n c d l
@@ -191,21 +205,23 @@ module _ (state : List ℕ) (late : Bool) where
   all-due e n f c d (x ∷ l) h = (behind-due e n f c d x (h .0), all-due e n f c d l (h .1))
 
   -- the rows that were due are counted
-  behind-close : (i n : ℕ) (c d : List ℕ) → i < 32 → Fine d → (x : Entry) → Behind i n c d x → Behind i 0 c (addRows i n d) x
-  behind-close i n c d small fine (put j k o bs) h =
-      let e = rows-now i n d small fine j in
+  ends-close : (i n : ℕ) (d : List ℕ) → i < 32 → Fine d → (j k m : ℕ) → Ends m (neededBy (codeOf state j) (rows d j + due i n j) (bytes d j) k)
+      → Ends m (neededBy (codeOf state j) (rows (addRows i n d) j + due i 0 j) (bytes (addRows i n d) j) k)
+  ends-close i n d small fine j k m h g =
+      let e = rows-now state late i n d small fine j in
       let f = bytes-of-rows d i n j in
       let z = due-none i j in
       let v : rows (addRows i n d) j + due i 0 j ≡ min (rows d j + due i n j) top = omega arith in
-      let w : neededBy (codeOf state j) (rows (addRows i n d) j + due i 0 j) (bytes (addRows i n d) j) k ≡ neededBy (codeOf state j) (min (rows d j + due i n j) top) (bytes d j) k = rw (v, f) in (
-        h .0,
-        λ g.
-            let s = needed-cut (codeOf state j) (rows d j + due i n j) (bytes d j) k (omega arith) in
-            let t = h .1 (omega arith) in
-            omega arith,
-      )
+      let w : neededBy (codeOf state j) (rows (addRows i n d) j + due i 0 j) (bytes (addRows i n d) j) k ≡ neededBy (codeOf state j) (min (rows d j + due i n j) top) (bytes d j) k = rw (v, f) in
+      let s = needed-cut (codeOf state j) (rows d j + due i n j) (bytes d j) k (omega arith) in
+      let t = h (omega arith) in
+      omega arith
+
+  behind-close : (i n : ℕ) (c d : List ℕ) → i < 32 → Fine d → (x : Entry) → Behind i n c d x → Behind i 0 c (addRows i n d) x
+  behind-close i n c d small fine (put j k o bs) h = (h .0, ends-close i n d small fine j k (o + length bs) (h .1))
+  behind-close i n c d small fine (amend j k o bs) h = (h .0, h .1, ends-close i n d small fine j k (o + length bs) (h .2))
   behind-close i n c d small fine (mask j k vs) h =
-      let e = rows-now i n d small fine j in
+      let e = rows-now state late i n d small fine j in
       let z = due-none i j in
       (h .0, λ g. let t = h .1 (omega arith) in omega arith)
 
@@ -219,7 +235,7 @@ module _ (state : List ℕ) (late : Bool) where
   -- what a walk that is done has added
   pub record Added (e n : ℕ) (c d : List ℕ) (l : Log) : Type 0 where
     pub fine : Fine d
-    pub longer : Longer c d
+    pub longer : Longer state late c d
     pub behind : AllBehind e n c d l
 
   pub record Adds (e n : ℕ) (c : List ℕ) (o : Out) : Type 0 where
@@ -228,11 +244,16 @@ module _ (state : List ℕ) (late : Bool) where
   module _ (e n : ℕ) where
     pub adds-done : (c : List ℕ) → Adds e n c (done c)
     unfolding done AllBehind
-    adds-done c = record { added = λ f h. record { fine = f; longer = longer-same c; behind = tt } }
+    adds-done c = record { added = λ f h. record { fine = f; longer = longer-same state late c; behind = tt } }
 
     pub adds-nulls : (i k : ℕ) (c : List ℕ) → i < 32 → Adds e n c (done (addNulls i k c))
     unfolding done AllBehind
-    adds-nulls i k c s = record { added = λ f h. record { fine = fine-nulls i k c s f; longer = longer-nulls i k c s f; behind = tt } }
+    adds-nulls i k c s = record { added = λ f h. record { fine = fine-nulls state late i k c s f; longer = longer-nulls state late i k c s f; behind = tt } }
+
+    -- a run-end node's gap is set; where it is 0, an order leaves it
+    pub adds-gap : (i v : ℕ) (c : List ℕ) → i < 32 → codeOf state i ≡ 23 → (late ≡ true → gap c i ≡ 0 → v ≡ 0) → Adds e n c (done (setBytes i v c))
+    unfolding done AllBehind
+    adds-gap i v c s q z = record { added = λ f h. record { fine = fine-bytes state late i v c s f; longer = longer-gap state late i v c s f q z; behind = tt } }
 
     pub adds-fail : (g : ℕ) (c : List ℕ) → 0 < g → Adds e n c (fail g c)
     unfolding fail
@@ -240,7 +261,7 @@ module _ (state : List ℕ) (late : Bool) where
 
     pub adds-wrote : (x : Entry) (c : List ℕ) → Behind e n c c x → Adds e n c (wrote x c)
     unfolding wrote AllBehind
-    adds-wrote x c h = record { added = λ f k. record { fine = f; longer = longer-same c; behind = (h, tt) } }
+    adds-wrote x c h = record { added = λ f k. record { fine = f; longer = longer-same state late c; behind = (h, tt) } }
 
     pub adds-cond : (c : List ℕ) (b : Bool) (o p : Out) → (b ≡ true → Adds e n c o) → (b ≡ false → Adds e n c p) → Adds e n c (cond b o p)
     adds-cond c true o p h k = h refl
@@ -268,11 +289,17 @@ module _ (state : List ℕ) (late : Bool) where
                     fine = b .fine;
                     longer = longer-then (a .longer) (b .longer);
                     behind = all-append e n c (k (o .counts) .counts) (o .log) (k (o .counts) .log)
-                        (all-wide e n c c (o .counts) (k (o .counts) .counts) (longer-same c) (b .longer) (o .log) (a .behind))
-                        (all-wide e n c (o .counts) (k (o .counts) .counts) (k (o .counts) .counts) (a .longer) (longer-same _) (k (o .counts) .log) (b .behind));
+                        (all-wide e n c c (o .counts) (k (o .counts) .counts) (longer-same state late c) (b .longer) (o .log) (a .behind))
+                        (all-wide e n c (o .counts) (k (o .counts) .counts) (k (o .counts) .counts) (a .longer) (longer-same state late _) (k (o .counts) .log) (b .behind));
                   };
             }
         go false q = u
+
+    -- counters changed twice
+    pub adds-done-two : (c : List ℕ) (o : Out) (g f : List ℕ → List ℕ) → Adds e n c (next o (λ d. done (g d))) → ((d : List ℕ) → Adds e n d (done (f d)))
+        → Adds e n c (next o (λ d. done (f (g d))))
+    unfolding done next
+    adds-done-two c o g f u h = subst (Adds e n c) (next-next o (λ d. done (g d)) (λ d. done (f d))) (adds-next c (next o (λ d. done (g d))) (λ d. done (f d)) u h)
 
     pub adds-each : (f : ℕ → List ℕ → Out) (m : ℕ) → ((r : ℕ) (c : List ℕ) → r < m → Adds e n c (f r c)) → (k r : ℕ) (c : List ℕ) → r + k ≤ m → Adds e n c (each f k r c)
     unfolding each
@@ -293,9 +320,9 @@ module _ (state : List ℕ) (late : Bool) where
           record {
             added = λ f z.
                 let a = u .added f (eqb-true _ _ q) in
-                let l = longer-rows i n (o .counts) s (a .fine) in
+                let l = longer-rows state late i n (o .counts) s (a .fine) in
                 record {
-                  fine = fine-rows i n (o .counts) s (a .fine);
+                  fine = fine-rows state late i n (o .counts) s (a .fine);
                   longer = longer-then (a .longer) l;
                   behind = subst (AllBehind i 0 c (addRows i n (o .counts))) (sym (append-nil (o .log))) (all-close i n c (o .counts) s (a .fine) (o .log) (a .behind));
                 };
@@ -340,3 +367,15 @@ module _ (state : List ℕ) (late : Bool) where
 
     pub behind-bits : (vs c : List ℕ) → length vs ≤ n → Behind i n c c (mask i (rows c i) vs)
     behind-bits vs c l = let d = due-here i n in (le-refl _, λ z. omega arith)
+
+    -- the last run end of node i written over
+    pub over-last : (v : ℕ) (c : List ℕ) → codeOf state i ≡ 23 → (late ≡ true → gap c i ≡ 0 → ⊥) → 1 ≤ rows c (suc i)
+        → ((k m : ℕ) → neededBy (codeOf state (suc i)) k m 1 ≡ k * bytesOf state (suc i)) → Behind i n c c (amend (suc i) 1 ((rows c (suc i) - 1) * bytesOf state (suc i)) (encode (bytesOf state (suc i)) v))
+    over-last v c q on some h =
+        let w = bytesOf state (suc i) in
+        let f = h (rows c (suc i) + due i n (suc i)) (bytes c (suc i)) in
+        let l = length-encode w v in
+        let z : suc (rows c (suc i) - 1) ≡ rows c (suc i) = omega arith in
+        let y : rows c (suc i) * w ≡ (rows c (suc i) - 1) * w + w = ap (_* w) (sym z) ∙ suc-mul (rows c (suc i) - 1) w in
+        let k : rows c (suc i) * w ≤ (rows c (suc i) + due i n (suc i)) * w = mul-le-mul-right w (omega arith) in
+        (record { node = i; ends = refl; runs = q; chosen = on; last = le-refl _ }, refl, λ g. omega arith)

@@ -2,7 +2,7 @@
 use mathlib.Core.Path.{_≡_, refl, sym, _∙_}
 use mathlib.Core.Bool.{Bool, true, false}
 use mathlib.Core.List.{List, [], _∷_, _++_}
-use Prim.Native.Nat.{ℕ, zero, suc, _+_, _*_, _-_, _≤_, _<_}
+use Prim.Native.Nat.{ℕ, zero, suc, _+_, _*_, _-_, _≤_, _<_, min}
 use native.Mathlib.Nat.{add-zero, mul-comm, suc-mul, one-mul, le-trans, le-of-eq}
 use native.Mathlib.Omega.{arith}
 use lib.ListN.{length, take, drop, replicate, length-take, length-append, length-replicate}
@@ -23,7 +23,7 @@ use Rattle.byte_view.specs.View.{pickBytes, reviewedOne, reviewed}
 use Rattle.run_ends.specs.declared.Runs.{Runs}
 use Rattle.run_ends.specs.declared.Runs.the-variants.{Range, None}
 use Rattle.run_ends.proofs.Laws.{length-clipped}
-use Rattle.walk.specs.State.{Join, codeOf, dictionaryOf, endOf, keepsOf, baseOf, bytesOf, rows, bytes, place, far, setBytes}
+use Rattle.walk.specs.State.{Join, codeOf, dictionaryOf, endOf, keepsOf, baseOf, bytesOf, rows, bytes, gap, place, far, addRows, setBytes, endGap}
 use Rattle.walk.specs.Log.{put, done, wrote, next}
 use Rattle.link.proofs.Counters.{bytes-set}
 use Rattle.walk.specs.Leaves.{copyBits, copyMask, copyNumbers, copyKeys, copyViews, putString, putExtended, copyString}
@@ -32,7 +32,7 @@ use Rattle.room.specs.Reach.{Child, Closed}
 use Rattle.room.proofs.Found.{between-wide, and-first, child-first, child-later, child-with}
 use Rattle.parts.specs.Parts.{neededBy}
 use Rattle.orders.proofs.Buffers.{needed-fixed, needed-offsets, needed-chars, needed-views, needed-starts, needed-sizes, needed-ends}
-use Rattle.orders.proofs.Grows.{Fine, AllBehind, Behind, Adds, due, longer-same, behind-wide, longer-bytes, fine-bytes, behind-rows, behind-all, behind-offsets, behind-bits, adds-done, adds-nulls, adds-fail, adds-wrote, adds-cond, adds-need, adds-found, adds-next, adds-each, adds-whole, adds-close, adds-close-two}
+use Rattle.orders.proofs.Grows.{Fine, AllBehind, Behind, Adds, due, longer-same, behind-wide, longer-bytes, fine-bytes, behind-rows, behind-all, behind-offsets, behind-bits, adds-done, adds-nulls, adds-gap, adds-done-two, adds-fail, adds-wrote, adds-cond, adds-need, adds-found, adds-next, adds-each, adds-whole, adds-close, adds-close-two}
 
 -- ---- lengths
 
@@ -138,15 +138,15 @@ module _ (x : Join) (In At : ℕ → Type 0) (closed : Closed (x .state) In At) 
         adds-need S late i n _ 12 c _ (omega arith)
         (λ e. record {
           added = λ f z.
-              let longer = longer-bytes i last c small f l in
+              let longer = longer-bytes S late i last c small f h l in
               let b = bytes-set c (f .long) i small last in
               let t = taken (last - bytes c i) (drop (place x i 5 + first) (x .body)) in
               let u = needed-chars (codeOf S i) (rows c i) (bytes c i) h in
               let v = needed-chars (codeOf S i) (rows (setBytes i last c) i + due i n i) (bytes (setBytes i last c) i) h in
               record {
-                fine = fine-bytes i last c small f;
+                fine = fine-bytes S late i last c small f;
                 longer = longer;
-                behind = (behind-wide S late i n c c c (setBytes i last c) (longer-same c) longer (put i 1 (suc (rows c i) * bytesOf S i) (movedOffsets (bytesOf S i) (x .body) from (bytes c i) n)) (behind-offsets S late i n (bytesOf S i) (movedOffsets (bytesOf S i) (x .body) from (bytes c i) n) c (λ k m. needed-offsets (codeOf S i) k m h) (moved-all (bytesOf S i) (x .body) from (bytes c i) n)), ((λ v. omega arith, λ y. omega arith), tt));
+                behind = (behind-wide S late i n c c c (setBytes i last c) (longer-same S late c) longer (put i 1 (suc (rows c i) * bytesOf S i) (movedOffsets (bytesOf S i) (x .body) from (bytes c i) n)) (behind-offsets S late i n (bytesOf S i) (movedOffsets (bytesOf S i) (x .body) from (bytes c i) n) c (λ k m. needed-offsets (codeOf S i) k m h) (moved-all (bytesOf S i) (x .body) from (bytes c i) n)), ((λ v. omega arith, λ y. omega arith), tt));
               };
         })
     adds-extended from _ c h (over row least) = adds-fail S late i n 6 c (omega arith)
@@ -232,10 +232,12 @@ module _ (x : Join) (In At : ℕ → Type 0) (closed : Closed (x .state) In At) 
     adds-put-runs slot None c q s = adds-fail S late i n 12 c (omega arith)
     adds-put-runs slot (Range start count) c q s =
         adds-next S late i n c _ _ (kid (suc (suc i)) (start .0) count c (closed .values i here q))
-        (λ c2. adds-whole S late i n (suc i) c2 _
+        (λ c2. adds-done-two S late i n c2 _ (λ d. addRows (suc i) count d) (λ d. endGap i d)
+        (adds-whole S late i n (suc i) c2 _
         (adds-close S late (suc i) count c2 _ (omega arith)
         (needs-all (suc i) count (omega arith) 1 (bytesOf S (suc i)) _ c2 (λ k m. needed-fixed (codeOf S (suc i)) k m (run-ends i here q))
         (le-of-eq (length-clipped (bytesOf S (suc i)) (x .body) _ slot (slot + n) (rows c i) count ∙ mul-comm (bytesOf S (suc i)) count)))))
+        (λ d. adds-gap S late i n i (min (gap d i) 1) d small q (λ l z. let y : gap d i ≡ 0 = z in omega arith)))
 
     adds-runs : (slot : ℕ) (c : List ℕ) → codeOf S i ≡ 23 → Adds S late i n c (copyRuns x walk i slot n c)
     unfolding copyRuns

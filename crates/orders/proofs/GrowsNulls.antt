@@ -7,22 +7,22 @@ use native.Mathlib.Nat.{mul-comm, one-mul, le-of-eq}
 use native.Mathlib.Omega.{arith}
 use lib.ListN.{length, replicate, length-replicate}
 use lib.Dec.{ltb, eqb}
-use borrow.Author.Tests.{ltb-true, eqb-true}
+use borrow.Author.Tests.{ltb-true, leb-true, eqb-true}
 use Rattle.number.specs.Number.{encode}
 use Rattle.number.proofs.Laws.{length-encode}
 use Rattle.formats.specs.Code.{isFixed, isString, isView, isListView, isList, isUnion}
 use Rattle.utils.specs.Offsets.{repeated, countedUp}
 use Rattle.utils.proofs.Pieces.{length-numbers}
-use Rattle.walk.specs.State.{Join, codeOf, endOf, keepsOf, idOf, bytesOf, rows, bytes}
+use Rattle.walk.specs.State.{Join, codeOf, endOf, keepsOf, idOf, bytesOf, rows, bytes, gap, addRows, beginGap}
 use Rattle.walk.specs.Log.{put, mask, wrote}
 use Rattle.walk.specs.Leaves.{nullMask, countNulls, nullNumbers, nullString}
 use Rattle.walk.specs.Copy.{isWidth, masked}
-use Rattle.walk.specs.Nulls.{NullWalk, nullableChild, noHome, nullListView, nullList, nullFields, nullSparse, nullDense, nullRuns, nullData, nullNode, nullWalk}
+use Rattle.walk.specs.Nulls.{NullWalk, nullableChild, noHome, nullListView, nullList, nullFields, nullSparse, nullDense, addRun, growRun, nullRuns, nullData, nullNode, nullWalk}
 use Rattle.room.specs.Reach.{Child, Closed}
 use Rattle.room.proofs.Found.{and-first, child-first, child-later, child-nullable}
 use Rattle.parts.specs.Parts.{neededBy}
 use Rattle.orders.proofs.Buffers.{needed-fixed, needed-offsets, needed-views, needed-starts, needed-sizes, needed-ends}
-use Rattle.orders.proofs.Grows.{Adds, behind-rows, behind-all, behind-offsets, behind-bits, adds-done, adds-nulls, adds-fail, adds-wrote, adds-cond, adds-need, adds-found, adds-next, adds-whole, adds-close, adds-close-two}
+use Rattle.orders.proofs.Grows.{Adds, behind-rows, behind-all, behind-offsets, behind-bits, over-last, adds-done, adds-done-two, adds-gap, adds-nulls, adds-fail, adds-wrote, adds-cond, adds-need, adds-found, adds-next, adds-whole, adds-close, adds-close-two}
 
 same : (n v : ℕ) → length (replicate n v) ≡ n
 same n v = length-replicate n v
@@ -112,17 +112,33 @@ module _ (x : Join) (In At : ℕ → Type 0) (closed : Closed (x .state) In At) 
         (λ c2. adds-next S late i n c2 _ _ (adds-wrote S late i n _ c2 (behind-all S late i n 2 4 (countedUp 4 _ n) c2 (λ k m. rw q refl) (le-of-eq (counted-all 4 _ n ∙ mul-comm 4 n))))
         (λ c3. kid _ n c3 (closed .child i _ here u (child-nullable S i 32 (suc i) (child-first S i) l))))))
 
+    adds-add-run : (c : List ℕ) → codeOf S i ≡ 23 → suc (suc i) < 32 → Adds S late i n c (addRun x walk (bytesOf S (suc i)) i n c)
+    unfolding addRun
+    adds-add-run c q s =
+        adds-next S late i n c _ _ (kid (suc (suc i)) 1 c (closed .values i here q))
+        (λ c2. adds-need S late i n _ 7 c2 _ (omega arith)
+        (λ g. adds-done-two S late i n c2 _ (λ d. addRows (suc i) 1 d) (λ d. beginGap i d)
+        (adds-whole S late i n (suc i) c2 _
+        (adds-close S late (suc i) 1 c2 _ (omega arith)
+        (adds-wrote S late (suc i) 1 _ c2 (behind-all S late (suc i) 1 1 (bytesOf S (suc i)) (encode (bytesOf S (suc i)) (rows c2 i + n)) c2 (λ k m. needed-fixed (codeOf S (suc i)) k m (run-ends i here q))
+        (let l = length-encode (bytesOf S (suc i)) (rows c2 i + n) in let o = one-mul (bytesOf S (suc i)) in omega arith)))))
+        (λ d. adds-gap S late i n i (cond (eqb (gap d i) 0) 0 2) d small q (λ l z. rw z))))
+
+    adds-grow-run : (c : List ℕ) → codeOf S i ≡ 23 → gap c i ≡ 2 → Adds S late i n c (growRun x walk (bytesOf S (suc i)) i n c)
+    unfolding growRun
+    adds-grow-run c q on =
+        adds-need S late i n _ 12 c _ (omega arith)
+        (λ e. adds-need S late i n _ 7 c _ (omega arith)
+        (λ g. adds-wrote S late i n _ c
+        (over-last S late i n (rows c i + n) c q (λ l z. let y : gap c i ≡ 2 = on in let x : gap c i ≡ 0 = z in omega arith) (leb-true 1 (rows c (suc i)) e)
+        (λ k m. needed-fixed (codeOf S (suc i)) k m (run-ends i here q)))))
+
     adds-null-runs : (c : List ℕ) → codeOf S i ≡ 23 → Adds S late i n c (nullRuns x walk i n c)
     unfolding nullRuns
     adds-null-runs c q =
         adds-need S late i n _ 12 c _ (omega arith)
         (λ e. let s = ltb-true (suc (suc i)) 32 (and-first _ (isWidth (bytesOf S (suc i))) e) in
-        adds-next S late i n c _ _ (kid (suc (suc i)) 1 c (closed .values i here q))
-        (λ c2. adds-need S late i n _ 7 c2 _ (omega arith)
-        (λ g. adds-whole S late i n (suc i) c2 _
-        (adds-close S late (suc i) 1 c2 _ (omega arith)
-        (adds-wrote S late (suc i) 1 _ c2 (behind-all S late (suc i) 1 1 (bytesOf S (suc i)) (encode (bytesOf S (suc i)) (rows c2 i + n)) c2 (λ k m. needed-fixed (codeOf S (suc i)) k m (run-ends i here q))
-        (let l = length-encode (bytesOf S (suc i)) (rows c2 i + n) in let o = one-mul (bytesOf S (suc i)) in omega arith)))))))
+        adds-cond S late i n c (eqb (gap c i) 2) _ _ (λ on. adds-grow-run c q (eqb-true (gap c i) 2 on)) (λ off. adds-add-run c q s))
 
     union : (v : ℕ) → eqb (codeOf S i) v ≡ true → isUnion v ≡ true → isUnion (codeOf S i) ≡ true
     union v e h = rw (eqb-true (codeOf S i) v e) h

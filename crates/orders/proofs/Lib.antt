@@ -15,6 +15,7 @@ pub mod CutRoom
 pub mod CutRun
 pub mod Placed
 pub mod Sound
+pub mod Needed
 pub mod Grows
 pub mod GrowsCopies
 pub mod GrowsNulls

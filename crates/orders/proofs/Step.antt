@@ -24,7 +24,7 @@ use Rattle.model.proofs.Node.{node-fills}
 use Rattle.model.proofs.Types.{law}
 use Rattle.model.proofs.Book.{State, Did, one-order}
 use Rattle.walk.specs.State.{codeOf, endOf, keepsOf, rows, bytes, far}
-use Rattle.walk.specs.Log.{Log, put, mask, Out, apply}
+use Rattle.walk.specs.Log.{Log, put, mask, amend, Out, apply}
 use Rattle.walk.specs.Copy.{copyWalk}
 use Rattle.walk.specs.Nulls.{nullWalk}
 use Rattle.link.specs.Memory.{Memory, noted, after, AllInPlace}
@@ -102,6 +102,7 @@ module _ (x : Lent) (t : Ty) (m : ℕ) (ss : ℕ → Column t) where
     unfolding AllUsed
     all-used U W f [] h = tt
     all-used U W f (put i b o bs ∷ l) h = ((f i b (h .0 .0), h .0 .1, h .0 .2), all-used U W f l (h .1))
+    all-used U W f (amend i b o bs ∷ l) h = ((f i b (h .0 .0), h .0 .1, h .0 .2), all-used U W f l (h .1))
     all-used U W f (mask i p vs ∷ l) h = ((f i 0 (h .0 .0), h .0 .1), all-used U W f l (h .1))
 
     abbrev Own : ℕ → ℕ → Type 0
@@ -113,6 +114,10 @@ module _ (x : Lent) (t : Ty) (m : ℕ) (ss : ℕ → Column t) where
     log-same [] μ j h n = (λ b. refl, refl)
     log-same (put i e o bs ∷ l) μ j h n =
         let r = log-same l (noted (put i e o bs) μ) j (h .1) n in
+        let z = ne-eqb j i (λ q. n (subst (Free (x .plan)) (sym q) (h .0 .0 .node .1))) in
+        (λ b. r .0 b ∙ rw z, r .1)
+    log-same (amend i e o bs ∷ l) μ j h n =
+        let r = log-same l (noted (amend i e o bs) μ) j (h .1) n in
         let z = ne-eqb j i (λ q. n (subst (Free (x .plan)) (sym q) (h .0 .0 .node .1))) in
         (λ b. r .0 b ∙ rw z, r .1)
     log-same (mask i p vs ∷ l) μ j h n =

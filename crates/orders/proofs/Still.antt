@@ -12,11 +12,11 @@ use Rattle.utils.specs.declared.Extended.{Extended}
 use Rattle.utils.specs.declared.Extended.the-variants.{Fits, Over, Falls}
 use Rattle.run_ends.specs.declared.Runs.{Runs}
 use Rattle.run_ends.specs.declared.Runs.the-variants.{Range, None}
-use Rattle.walk.specs.State.{Join, codeOf, dictionaryOf, endOf, keepsOf, bytesOf, rows, nulls, bytes, place, far, addRows, addNulls, setBytes}
+use Rattle.walk.specs.State.{Join, codeOf, dictionaryOf, endOf, keepsOf, bytesOf, rows, nulls, bytes, gap, place, far, addRows, addNulls, setBytes}
 use Rattle.walk.specs.Log.{Entry, Out, fail, done, wrote, need, found, next, each}
 use Rattle.walk.specs.Leaves.{copyBits, copyMask, copyNumbers, copyKeys, copyViews, putString, putExtended, copyString, nullMask, countNulls, nullNumbers, nullString}
 use Rattle.walk.specs.Copy.{Walk, masked, listViewRow, copyListView, putStretch, putList, copyList, copyFields, copySparse, idAt, denseTo, denseRow, copyDense, putRuns, runsAt, copyRuns, copyData, copySlots, copyNode, copyWalk}
-use Rattle.walk.specs.Nulls.{NullWalk, nullListView, nullList, nullFields, nullSparse, nullDense, nullRuns, nullData, nullNode, nullWalk}
+use Rattle.walk.specs.Nulls.{NullWalk, nullListView, nullList, nullFields, nullSparse, nullDense, addRun, growRun, nullRuns, nullData, nullNode, nullWalk}
 use Rattle.link.proofs.Counters.{rows-other, nulls-of-rows, bytes-of-rows, nulls-other, rows-of-nulls, bytes-of-nulls, bytes-other, rows-of-bytes, nulls-of-bytes}
 use Rattle.room.specs.Reach.{Child, Closed}
 use Rattle.room.proofs.Found.{between-wide, child-first, child-later, child-with, child-nullable}
@@ -86,6 +86,16 @@ module _ (j : ℕ) where
 
     more-bytes : (i n : ℕ) (c : List ℕ) → At i → Still c (done (setBytes i n c))
     more-bytes i n c a = still-to c (setBytes i n c) (record { rows-same = rows-of-bytes c i n j; nulls-same = nulls-of-bytes c i n j; bytes-same = bytes-other c i n j (apart i a) })
+
+    -- ends behind those of a run-end node, and its gap
+    more-runs : (i n v : ℕ) (c : List ℕ) → At i → At (suc i) → Still c (done (setBytes i v (addRows (suc i) n c)))
+    more-runs i n v c a b =
+        still-to c (setBytes i v (addRows (suc i) n c))
+        (record {
+          rows-same = rows-of-bytes (addRows (suc i) n c) i v j ∙ rows-other c (suc i) n j (apart (suc i) b);
+          nulls-same = nulls-of-bytes (addRows (suc i) n c) i v j ∙ nulls-of-rows c (suc i) n j;
+          bytes-same = bytes-other (addRows (suc i) n c) i v j (apart i a) ∙ bytes-of-rows c (suc i) n j;
+        })
 
     -- ---- a copy
 
@@ -177,7 +187,7 @@ module _ (j : ℕ) where
       still-put w slot n None c q = still-fail 12 c
       still-put w slot n (Range start count) c q =
           still-next c _ _ (below (suc (suc i)) (start .0) count c (closed .values i here q))
-          (λ c2. still-next c2 _ _ (still-wrote _ c2) (λ c3. more-rows (suc i) count c3 (closed .ends i here q)))
+          (λ c2. still-next c2 _ _ (still-wrote _ c2) (λ c3. more-runs i count _ c3 (closed .own i here) (closed .ends i here q)))
 
       still-runs : (slot n : ℕ) (c : List ℕ) → codeOf (x .state) i ≡ 23 → Still c (copyRuns x walk i slot n c)
       unfolding copyRuns
@@ -269,11 +279,12 @@ module _ (j : ℕ) where
           (λ c3. below _ n c3 (closed .child i _ here u (child-nullable (x .state) i 32 (suc i) (child-first (x .state) i) l))))))
 
       still-null-runs : (n : ℕ) (c : List ℕ) → codeOf (x .state) i ≡ 23 → Still c (nullRuns x walk i n c)
-      unfolding nullRuns
+      unfolding nullRuns growRun addRun
       still-null-runs n c q =
           still-need _ 12 c _
-          (λ e. still-next c _ _ (below (suc (suc i)) 1 c (closed .values i here q))
-          (λ c2. still-need _ 7 c2 _ (λ g. still-next c2 _ _ (still-wrote _ c2) (λ c3. more-rows (suc i) 1 c3 (closed .ends i here q)))))
+          (λ e. still-cond c (eqb (gap c i) 2) _ _ (λ on. still-need _ 12 c _ (λ f. still-need _ 7 c _ (λ g. still-wrote _ c)))
+          (λ off. still-next c _ _ (below (suc (suc i)) 1 c (closed .values i here q))
+          (λ c2. still-need _ 7 c2 _ (λ g. still-next c2 _ _ (still-wrote _ c2) (λ c3. more-runs i 1 _ c3 (closed .own i here) (closed .ends i here q))))))
 
       null-union : (v : ℕ) → eqb (codeOf (x .state) i) v ≡ true → isUnion v ≡ true → isUnion (codeOf (x .state) i) ≡ true
       null-union v e h = rw (eqb-true (codeOf (x .state) i) v e) h

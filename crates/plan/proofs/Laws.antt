@@ -15,7 +15,7 @@ use Rattle.sharing.specs.Sources.{firstOf, arrayAt, dictAt, capped}
 use Rattle.node_table.specs.Words.{planted}
 use Rattle.parts.specs.Parts.{partTotal}
 use Rattle.walk.specs.State.{codeOf, dictionaryOf, endOf, keepsOf}
-use Rattle.plan.specs.Plan.{filled, flag, sourceCount, nodesOf, withTree, holder, parentOf, asked, isEnds, keepWord, withKeeps, dictionariesAt, joinedWord, withJoined, buffersUpTo, baseWord, withBases, withCounts, withParts, withTotal, planned}
+use Rattle.plan.specs.Plan.{filled, flag, sourceCount, nodesOf, withTree, holder, parentOf, asked, isEnds, keepWord, withKeeps, dictionariesAt, joinedWord, withJoined, buffersUpTo, baseWord, withBases, withCounts, withParts, withTotal, laidOut, withChoice, planned}
 
 -- ---- one word more
 
@@ -136,9 +136,21 @@ module _ (places sources : List ℕ) (i : ℕ) where
 -- ---- one kind of word after the other
 
 module _ (formats schema lengths places body sources : List ℕ) (keep : Bool) where
-  pub planned-by : {m n first r : ℕ} {a b c d e : List ℕ} → m ≡ sourceCount sources → first ≡ firstOf sources 0 → n ≡ nodesOf sources 0
+  pub laid-by : {m n first r : ℕ} {a b c d e : List ℕ} → m ≡ sourceCount sources → first ≡ firstOf sources 0 → n ≡ nodesOf sources 0
       → a ≡ withCounts m n (withTree (planted formats schema first n)) → b ≡ withKeeps (tables lengths places body) sources m keep n a
       → c ≡ withJoined (tables lengths places body) sources m n b → d ≡ withBases (tables lengths places body) sources m c → e ≡ withParts n d
-      → r ≡ partTotal e → set e 866 r ≡ planned formats schema (tables lengths places body) sources keep
-  unfolding planned withTotal
-  planned-by f g h p q j k l t = rw (t, l, k, j, q, p, f, g, h)
+      → r ≡ partTotal e → set e 866 r ≡ laidOut formats schema (tables lengths places body) sources keep
+  unfolding laidOut withTotal
+  laid-by f g h p q j k l t = rw (t, l, k, j, q, p, f, g, h)
+
+  pub planned-by : (gaps : Bool) {e : List ℕ} {v : ℕ} → e ≡ laidOut formats schema (tables lengths places body) sources keep → v ≡ flag gaps
+      → set e 867 v ≡ planned formats schema (tables lengths places body) sources keep gaps
+  unfolding planned withChoice
+  planned-by gaps p q = rw (p, q)
+
+-- a choice as a word
+pub word-on : (gaps : Bool) → gaps ≡ true → 1 ≡ flag gaps
+word-on gaps e = rw e
+
+pub word-off : (gaps : Bool) → gaps ≡ false → 0 ≡ flag gaps
+word-off gaps e = rw e

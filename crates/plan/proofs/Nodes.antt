@@ -244,7 +244,7 @@ module _ (tree : Tree) (y : Tables) (sources : List ℕ) (i : ℕ) where
 
 -- ---- THE PLANNED STATE OF A TREE THAT PASSES
 
-module _ (formats schema : List ℕ) (y : Tables) (sources : List ℕ) (keep : Bool) (few : sourceCount sources ≤ 16) (small : nodesOf sources 0 ≤ 32)
+module _ (formats schema : List ℕ) (y : Tables) (sources : List ℕ) (keep gaps : Bool) (few : sourceCount sources ≤ 16) (small : nodesOf sources 0 ≤ 32)
     (t : typed formats schema (firstOf sources 0) (nodesOf sources 0) ≡ true) where
   abbrev m : ℕ
   m = sourceCount sources
@@ -259,7 +259,7 @@ module _ (formats schema : List ℕ) (y : Tables) (sources : List ℕ) (keep : B
   x = tables (y .lengths) (y .places) (y .body)
 
   abbrev state : List ℕ
-  state = planned formats schema x sources keep
+  state = planned formats schema x sources keep gaps
 
   -- whether node i keeps nulls
   abbrev pub keptAt : ℕ → Bool
@@ -271,15 +271,15 @@ module _ (formats schema : List ℕ) (y : Tables) (sources : List ℕ) (keep : B
 
   pub code-is : (i : ℕ) → i < n → codeOf state i ≡ schemaTree.codeOf formats schema first i
   code-is i l =
-      let e = word-is formats schema x sources keep few small i 0 (omega arith) (omega arith) ∙ zeroth formats schema first n i 0 l refl in
+      let e = word-is formats schema x sources keep gaps few small i 0 (omega arith) (omega arith) ∙ zeroth formats schema first n i 0 l refl in
       omega (arith, e, byte i)
 
   pub dictionary-is : (i : ℕ) → i < n → dictionaryOf state i ≡ dictionary schema first i
-  dictionary-is i l = word-is formats schema x sources keep few small i 1 (omega arith) (omega arith) ∙ first-word formats schema first n i 1 l refl
+  dictionary-is i l = word-is formats schema x sources keep gaps few small i 1 (omega arith) (omega arith) ∙ first-word formats schema first n i 1 l refl
 
   pub end-is : (i : ℕ) → i < n → endOf state i ≡ schemaTree.endOf schema first n i
   end-is i l =
-      let e = word-is formats schema x sources keep few small i 2 (omega arith) (omega arith) ∙ second-word formats schema first n i 2 l refl in
+      let e = word-is formats schema x sources keep gaps few small i 2 (omega arith) (omega arith) ∙ second-word formats schema first n i 2 l refl in
       omega (arith, e, end-inside schema first n i (omega arith))
 
   abbrev child : ℕ → ℕ → ℕ
@@ -317,7 +317,7 @@ module _ (formats schema : List ℕ) (y : Tables) (sources : List ℕ) (keep : B
   keeps-child i c l h d r =
       let k = child i c - 1 in
       let e : suc k ≡ child i c = omega (arith, child-up schema first n i c) in
-      keep-is formats schema x sources keep few small (child i c) (child-inside schema first n w i c l h)
+      keep-is formats schema x sources keep gaps few small (child i c) (child-inside schema first n w i c l h)
       ∙ child-word x sources m keep state (child i c) k (sym e) i (before-run i c k l h e r) (before-single i c k l h e d) (parent-is i c l h)
 
   -- a node with a dictionary has values behind it, and is no run-end node
@@ -346,7 +346,7 @@ module _ (formats schema : List ℕ) (y : Tables) (sources : List ℕ) (keep : B
     -- "if the caller says so or any source has a null at that node"
     pub root-keeps : 0 < n → keepsOf state 0 ≡ flag (keeps keep m (columnAt tree y sources u 0))
     root-keeps l =
-        keep-is formats schema x sources keep few small 0 l ∙ root-word x sources m keep state ∙ sym (ap flag (keeps-typed tree y sources keep u 0 m))
+        keep-is formats schema x sources keep gaps few small 0 l ∙ root-word x sources m keep state ∙ sym (ap flag (keeps-typed tree y sources keep u 0 m))
 
     -- "this passes to union, list-view .. children"
     pub child-keeps : (i c : ℕ) → i < n → c < below schema first i → dictionaryOf state i ≡ 0 → isRunEnd (codeOf state i) ≡ false
@@ -369,7 +369,7 @@ module _ (formats schema : List ℕ) (y : Tables) (sources : List ℕ) (keep : B
     -- "not to .. dictionaries"
     pub values-keep : (i : ℕ) → i < n → (dictionaryOf state i ≡ 0 → ⊥) → keepsOf state (suc i) ≡ flag (keeps false m (columnAt tree y sources u (suc i)))
     values-keep i l d =
-        keep-is formats schema x sources keep few small (suc i) (values-inside i l d)
+        keep-is formats schema x sources keep gaps few small (suc i) (values-inside i l d)
         ∙ values-word x sources m keep state (suc i) i refl (keys-no-run i l d) d
         ∙ sym (ap flag (keeps-typed tree y sources false u (suc i) m))
 
@@ -379,7 +379,7 @@ module _ (formats schema : List ℕ) (y : Tables) (sources : List ℕ) (keep : B
       let run : isRunEnd (schemaTree.codeOf formats schema first i) ≡ true = sym (ap isRunEnd (code-is i l)) ∙ r in
       let two = run-below formats schema first i (typed-shape formats schema first n t i l) run in
       let next : suc i < n = omega (arith, first-child formats schema first n i, child-inside schema first n w i 0 l (omega arith)) in
-      keep-is formats schema x sources keep few small (suc i) next ∙ ends-word x sources m keep state (suc i) i refl r
+      keep-is formats schema x sources keep gaps few small (suc i) next ∙ ends-word x sources m keep state (suc i) i refl r
 
   -- ---- bases, and word 7
 
@@ -387,7 +387,7 @@ module _ (formats schema : List ℕ) (y : Tables) (sources : List ℕ) (keep : B
     -- "A view's buffer index rises by the number of data buffers in earlier sources"
     pub view-base : (s i : ℕ) → s < m → i < 32 → isView (codeOf state i) ≡ true
         → baseOf state s i ≡ length (buffersBefore (λ j. bodyOf tree (tablesFrom y (firstOf sources j)) tView i) s)
-    view-base s i l h v = base-is formats schema x sources keep few small s i l h ∙ view-word x sources m state s i v ∙ buffers-typed tree y sources i s
+    view-base s i l h v = base-is formats schema x sources keep gaps few small s i l h ∙ view-word x sources m state s i v ∙ buffers-typed tree y sources i s
 
     module _ (k : Number) (p : Plain) (i : ℕ) (l : i < n) (d : dictionaryOf state i ≡ 0 → ⊥) (q : isString (codeOf state (suc i)) ≡ ofStrings p) where
       abbrev dictionaries : ℕ → Dictionary (PlainBody p)
@@ -396,13 +396,13 @@ module _ (formats schema : List ℕ) (y : Tables) (sources : List ℕ) (keep : B
       -- "Only if all neighbouring sources share is source 0's dictionary kept; else all are joined"
       pub dictionary-joined : word state i 7 ≡ flag (not (shared m dictionaries))
       dictionary-joined =
-          joined-is formats schema x sources keep few small i l ∙ keys-joined x sources m state i (ofStrings p) d q
+          joined-is formats schema x sources keep gaps few small i l ∙ keys-joined x sources m state i (ofStrings p) d q
           ∙ sym (ap (λ b. flag (not b)) (shared-typed tree y sources k p i m))
 
       -- "start is 0 if shared, else the entries of earlier sources"
       pub dictionary-base : (s : ℕ) → s < m → baseOf state s i ≡ capped (startOfKeys m dictionaries s)
       dictionary-base s h =
-          base-is formats schema x sources keep few small s i h (omega arith) ∙ keys-word x sources m state s i (ofStrings p) (keys-no-view i l d) d q
+          base-is formats schema x sources keep gaps few small s i h (omega arith) ∙ keys-word x sources m state s i (ofStrings p) (keys-no-view i l d) d q
           ∙ sym (ap capped (start-typed tree y sources k p i m s))
 
       -- .. as it is, where ground 8 lets it through

@@ -32,7 +32,7 @@ flag-back : (k : Bool) (v : ℕ) → v ≡ flag k → not (eqb v 0) ≡ k
 flag-back true v e = rw e
 flag-back false v e = rw e
 
-module _ (formats schema : List ℕ) (y : Tables) (sources : List ℕ) (keep : Bool) (few : sourceCount sources ≤ 16) (small : nodesOf sources 0 ≤ 32)
+module _ (formats schema : List ℕ) (y : Tables) (sources : List ℕ) (keep gaps : Bool) (few : sourceCount sources ≤ 16) (small : nodesOf sources 0 ≤ 32)
     (t : typed formats schema (firstOf sources 0) (nodesOf sources 0) ≡ true) where
   abbrev m : ℕ
   m = sourceCount sources
@@ -47,7 +47,7 @@ module _ (formats schema : List ℕ) (y : Tables) (sources : List ℕ) (keep : B
   tree = treeOf formats schema first n
 
   abbrev state : List ℕ
-  state = planned formats schema (tables (y .lengths) (y .places) (y .body)) sources keep
+  state = planned formats schema (tables (y .lengths) (y .places) (y .body)) sources keep gaps
 
   abbrev bodies : (u : Ty) → ℕ → ℕ → Body u
   bodies u i s = bodyOf tree (tablesFrom y (firstOf sources s)) u i
@@ -61,9 +61,9 @@ module _ (formats schema : List ℕ) (y : Tables) (sources : List ℕ) (keep : B
       → keepsOf state k ≡ flag (keeps b m (columnAt tree y sources u k))
   down u i c k b l h d r e f =
       sym (ap (keepsOf state) e)
-      ∙ child-keeps formats schema y sources keep few small t tree u i c l h (dictionary-is formats schema y sources keep few small t i l ∙ d)
-      (ap isRunEnd (code-is formats schema y sources keep few small t i l) ∙ r)
-      ∙ ap (λ k. flag (keeps (keptAt formats schema y sources keep few small t i) m (columnAt tree y sources u k))) e
+      ∙ child-keeps formats schema y sources keep gaps few small t tree u i c l h (dictionary-is formats schema y sources keep gaps few small t i l ∙ d)
+      (ap isRunEnd (code-is formats schema y sources keep gaps few small t i l) ∙ r)
+      ∙ ap (λ k. flag (keeps (keptAt formats schema y sources keep gaps few small t i) m (columnAt tree y sources u k))) e
       ∙ ap (λ b. flag (keeps b m (columnAt tree y sources u k))) (flag-back b (keepsOf state i) f)
 
   union-down : (u : Ty) (i c : ℕ) (ids : List ℕ) (b : Bool) → i < n → isUnion (schemaTree.codeOf formats schema first i) ≡ true → below schema first i ≡ length ids
@@ -83,8 +83,8 @@ module _ (formats schema : List ℕ) (y : Tables) (sources : List ℕ) (keep : B
   opened-below (tPlain p) i b h f = tt
   opened-below tView i b h f =
       λ s l.
-      view-base formats schema y sources keep few small t tree s i l (omega (arith, h .0))
-      (ap isView (code-is formats schema y sources keep few small t i (h .0)) ∙ view-code formats schema first i (h .1))
+      view-base formats schema y sources keep gaps few small t tree s i l (omega (arith, h .0))
+      (ap isView (code-is formats schema y sources keep gaps few small t i (h .0)) ∙ view-code formats schema first i (h .1))
   opened-below (tListView w u) i b h f =
       let l = h .0 .0 in
       let v = list-code formats schema first i w (h .0 .1) in
@@ -109,21 +109,21 @@ module _ (formats schema : List ℕ) (y : Tables) (sources : List ℕ) (keep : B
       (e, opened-below (g c) (nodeOf tree i ids c) (keeps b m (columnAt tree y sources (g c) (nodeOf tree i ids c))) (h .1 c q .1) e)
   opened-below (tRunEnd w u) i b h f =
       let l = h .0 .0 in
-      let r = ap isRunEnd (code-is formats schema y sources keep few small t i l) ∙ run-code formats schema first i w (h .0 .1) in
-      let e = run-values-keep formats schema y sources keep few small t tree u i l r ∙ ap (λ b. flag (keeps b m (columnAt tree y sources u (suc (suc i))))) (flag-back b (keepsOf state i) f) in
-      (ends-keep formats schema y sources keep few small t i l r, e, opened-below u (suc (suc i)) (keeps b m (columnAt tree y sources u (suc (suc i)))) (h .2) e)
+      let r = ap isRunEnd (code-is formats schema y sources keep gaps few small t i l) ∙ run-code formats schema first i w (h .0 .1) in
+      let e = run-values-keep formats schema y sources keep gaps few small t tree u i l r ∙ ap (λ b. flag (keeps b m (columnAt tree y sources u (suc (suc i))))) (flag-back b (keepsOf state i) f) in
+      (ends-keep formats schema y sources keep gaps few small t i l r, e, opened-below u (suc (suc i)) (keeps b m (columnAt tree y sources u (suc (suc i)))) (h .2) e)
   opened-below (tDictionary k p) i b h f =
       let l = h .0 .0 in
       let values = plain-kind p (suc i) (h .1) in
-      let d : dictionaryOf state i ≡ 0 → ⊥ = λ e. keys-code formats schema first i k (h .0 .1) (sym (dictionary-is formats schema y sources keep few small t i l) ∙ e) in
+      let d : dictionaryOf state i ≡ 0 → ⊥ = λ e. keys-code formats schema first i k (h .0 .1) (sym (dictionary-is formats schema y sources keep gaps few small t i l) ∙ e) in
       let q : isString (codeOf state (suc i)) ≡ ofStrings p =
-      ap isString (code-is formats schema y sources keep few small t (suc i) (values .0)) ∙ strings-code formats schema first (suc i) p (values .1) in
-      (values-keep formats schema y sources keep few small t tree (tPlain p) i l d, dictionary-joined formats schema y sources keep few small t tree k p i l d q, dictionary-base formats schema y sources keep few small t tree k p i l d q)
+      ap isString (code-is formats schema y sources keep gaps few small t (suc i) (values .0)) ∙ strings-code formats schema first (suc i) p (values .1) in
+      (values-keep formats schema y sources keep gaps few small t tree (tPlain p) i l d, dictionary-joined formats schema y sources keep gaps few small t tree k p i l d q, dictionary-base formats schema y sources keep gaps few small t tree k p i l d q)
 
   -- THE PLANNED STATE IS THE MODEL'S OPENING
   pub opened : ceilings formats schema first n ≡ true
       → Opened state tree m (typeOf formats schema first n) keep (columnAt tree y sources (typeOf formats schema first n) 0)
   opened c =
       let u = typeOf formats schema first n in
-      let e = root-keeps formats schema y sources keep few small t tree u (some-node formats schema first n (typed-whole formats schema first n t)) in
+      let e = root-keeps formats schema y sources keep gaps few small t tree u (some-node formats schema first n (typed-whole formats schema first n t)) in
       (e, opened-below u 0 (keeps keep m (columnAt tree y sources u 0)) (means formats schema first n t c) e)

@@ -17,7 +17,7 @@ use Rattle.parts.specs.Parts.{partWord, partTotal, Numbered}
 use Rattle.parts.proofs.Words.{Alike, alike-word, alike-total, numbered}
 use Rattle.walk.specs.State.{word, endOf, keepsOf, baseOf}
 use Rattle.plan.specs.Plan as plan
-use Rattle.plan.specs.Plan.{filled, sourceCount, withTree, holder, parentOf, asked, isEnds, keepWord, withKeeps, joinedWord, withJoined, baseWord, withBases, withCounts, withParts, withTotal, planned}
+use Rattle.plan.specs.Plan.{filled, sourceCount, withTree, holder, parentOf, asked, isEnds, keepWord, withKeeps, joinedWord, withJoined, baseWord, withBases, withCounts, withParts, withTotal, laidOut, withChoice, planned}
 
 -- ---- what a run of writes leaves
 
@@ -99,7 +99,7 @@ module _ (x : Tables) (sources : List ℕ) (m : ℕ) (s t : List ℕ) where
 
 -- ---- the planned state
 
-module _ (formats schema : List ℕ) (x : Tables) (sources : List ℕ) (keep : Bool) (few : sourceCount sources ≤ 16) (small : plan.nodesOf sources 0 ≤ 32) where
+module _ (formats schema : List ℕ) (x : Tables) (sources : List ℕ) (keep gaps : Bool) (few : sourceCount sources ≤ 16) (small : plan.nodesOf sources 0 ≤ 32) where
   abbrev m : ℕ
   m = sourceCount sources
 
@@ -107,7 +107,7 @@ module _ (formats schema : List ℕ) (x : Tables) (sources : List ℕ) (keep : B
   n = plan.nodesOf sources 0
 
   abbrev state : List ℕ
-  state = planned formats schema x sources keep
+  state = planned formats schema x sources keep gaps
 
   -- the stages
   abbrev tree : List ℕ
@@ -128,8 +128,8 @@ module _ (formats schema : List ℕ) (x : Tables) (sources : List ℕ) (keep : B
   abbrev named : List ℕ
   named = withParts n based
 
-  state-is : state ≡ set named 866 (partTotal named)
-  unfolding planned withTotal
+  state-is : state ≡ set (set named 866 (partTotal named)) 867 (plan.flag gaps)
+  unfolding planned withChoice laidOut withTotal
   state-is = refl
 
   -- ---- lengths
@@ -159,12 +159,15 @@ module _ (formats schema : List ℕ) (x : Tables) (sources : List ℕ) (keep : B
   named-length = filled-length (λ i. 8 * i + 6) partWord n based ∙ based-length
 
   pub state-length : length state ≡ 872
-  state-length = ap length state-is ∙ length-set named 866 (partTotal named) ∙ named-length
+  state-length = ap length state-is ∙ length-set (set named 866 (partTotal named)) 867 (plan.flag gaps) ∙ length-set named 866 (partTotal named) ∙ named-length
 
   -- ---- words that a stage leaves
 
-  after-parts : (p : ℕ) → (p ≡ 866 → ⊥) → getD state p 0 ≡ getD named p 0
-  after-parts p h = ap (λ l. getD l p 0) state-is ∙ getD-set-other named 866 p (partTotal named) 0 h
+  after-parts : (p : ℕ) → (p ≡ 866 → ⊥) → (p ≡ 867 → ⊥) → getD state p 0 ≡ getD named p 0
+  after-parts p h g =
+      ap (λ l. getD l p 0) state-is
+      ∙ getD-set-other (set named 866 (partTotal named)) 867 p (plan.flag gaps) 0 g
+      ∙ getD-set-other named 866 p (partTotal named) 0 h
 
   after-bases : (p : ℕ) → ((i : ℕ) → i < n → p ≡ 8 * i + 6 → ⊥) → getD named p 0 ≡ getD based p 0
   unfolding withParts
@@ -185,7 +188,7 @@ module _ (formats schema : List ℕ) (x : Tables) (sources : List ℕ) (keep : B
   -- words 0 to 5 and the counters stand when it is settled who keeps nulls
   late : (k j : ℕ) → k < 44 → j < 6 → word state k j ≡ word kept k j
   late k j l h =
-      after-parts (8 * k + j) (λ e. omega arith)
+      after-parts (8 * k + j) (λ e. omega arith) (λ e. omega arith)
       ∙ after-bases (8 * k + j) (λ i a e. omega arith)
       ∙ after-joined (8 * k + j) (λ q a e. omega arith)
       ∙ after-keeps (8 * k + j) (λ i a e. omega arith)
@@ -223,7 +226,7 @@ module _ (formats schema : List ℕ) (x : Tables) (sources : List ℕ) (keep : B
   pub counters-none : (p : ℕ) → 256 ≤ p → p < 352 → getD state p 0 ≡ 0
   unfolding withTree
   counters-none p l h =
-      after-parts p (λ e. omega arith)
+      after-parts p (λ e. omega arith) (λ e. omega arith)
       ∙ after-bases p (λ i a e. omega arith)
       ∙ after-joined p (λ q a e. omega arith)
       ∙ after-keeps p (λ i a e. omega arith)
@@ -281,7 +284,7 @@ module _ (formats schema : List ℕ) (x : Tables) (sources : List ℕ) (keep : B
   -- WORD 7: whether node i's dictionaries are joined
   pub joined-is : (i : ℕ) → i < n → word state i 7 ≡ joinedWord x sources m state i
   joined-is i l =
-      after-parts (8 * i + 7) (λ e. omega arith)
+      after-parts (8 * i + 7) (λ e. omega arith) (λ e. omega arith)
       ∙ after-bases (8 * i + 7) (λ k a e. omega arith)
       ∙ after-joined (8 * i + 7) (λ q a e. omega arith)
       ∙ joined-at i l
@@ -310,7 +313,7 @@ module _ (formats schema : List ℕ) (x : Tables) (sources : List ℕ) (keep : B
       let q = 32 * s + i in
       let a : (32 * s + i) / 32 ≡ s = omega arith in
       let b : (32 * s + i) % 32 ≡ i = omega arith in
-      after-parts (352 + q) (λ e. omega arith)
+      after-parts (352 + q) (λ e. omega arith) (λ e. omega arith)
       ∙ after-bases (352 + q) (λ k c e. omega arith)
       ∙ based-at q (omega arith)
       ∙ ap₂ (baseWord x sources m (basedUpTo q)) a b
@@ -322,20 +325,20 @@ module _ (formats schema : List ℕ) (x : Tables) (sources : List ℕ) (keep : B
   abbrev namedUpTo : ℕ → List ℕ
   namedUpTo i = filled (λ k. 8 * k + 6) partWord i based
 
-  still : (i p : ℕ) → i ≤ n → ((k : ℕ) → k < 32 → p ≡ 8 * k + 6 → ⊥) → (p ≡ 866 → ⊥) → getD (namedUpTo i) p 0 ≡ getD state p 0
-  still i p l h g =
+  still : (i p : ℕ) → i ≤ n → ((k : ℕ) → k < 32 → p ≡ 8 * k + 6 → ⊥) → (p ≡ 866 → ⊥) → (p ≡ 867 → ⊥) → getD (namedUpTo i) p 0 ≡ getD state p 0
+  still i p l h g f =
       filled-other (λ k. 8 * k + 6) partWord i based p (λ k a. h k (omega arith))
       ∙ sym (after-bases p (λ k a. h k (omega arith)))
-      ∙ sym (after-parts p g)
+      ∙ sym (after-parts p g f)
 
   named-alike : (i : ℕ) → i ≤ n → Alike (namedUpTo i) state
   named-alike i l =
       record {
-        nodes = still i 865 l (λ k a e. omega arith) (λ e. omega arith);
-        code = λ k. still i (8 * k + 0) l (λ a b e. omega arith) (λ e. omega arith);
-        dictionary = λ k. still i (8 * k + 1) l (λ a b e. omega arith) (λ e. omega arith);
-        keeps = λ k. still i (8 * k + 5) l (λ a b e. omega arith) (λ e. omega arith);
-        joined = λ k. still i (8 * k + 7) l (λ a b e. omega arith) (λ e. omega arith);
+        nodes = still i 865 l (λ k a e. omega arith) (λ e. omega arith) (λ e. omega arith);
+        code = λ k. still i (8 * k + 0) l (λ a b e. omega arith) (λ e. omega arith) (λ e. omega arith);
+        dictionary = λ k. still i (8 * k + 1) l (λ a b e. omega arith) (λ e. omega arith) (λ e. omega arith);
+        keeps = λ k. still i (8 * k + 5) l (λ a b e. omega arith) (λ e. omega arith) (λ e. omega arith);
+        joined = λ k. still i (8 * k + 7) l (λ a b e. omega arith) (λ e. omega arith) (λ e. omega arith);
       }
 
   named-is : named ≡ namedUpTo n
@@ -345,7 +348,7 @@ module _ (formats schema : List ℕ) (x : Tables) (sources : List ℕ) (keep : B
   -- WORD 6: the part of node i's first buffer
   pub part-is : (i : ℕ) → i < n → word state i 6 ≡ partWord state i
   part-is i l =
-      after-parts (8 * i + 6) (λ e. omega arith)
+      after-parts (8 * i + 6) (λ e. omega arith) (λ e. omega arith)
       ∙ ap (λ s. word s i 6) named-is
       ∙ filled-at (λ k. 8 * k + 6) partWord (λ a b e. omega arith) n based i l (omega (arith, based-length))
       ∙ alike-word (namedUpTo i) state (named-alike i (omega arith)) i
@@ -355,13 +358,14 @@ module _ (formats schema : List ℕ) (x : Tables) (sources : List ℕ) (keep : B
   pub parts-are : getD state 866 0 ≡ partTotal state
   parts-are =
       ap (λ l. getD l 866 0) state-is
+      ∙ getD-set-other (set named 866 (partTotal named)) 867 866 (plan.flag gaps) 0 (λ e. omega arith)
       ∙ getD-set-same named 866 (partTotal named) 0 (omega (arith, named-length))
       ∙ ap partTotal named-is
       ∙ alike-total (namedUpTo n) state (named-alike n (omega arith))
 
   counts-from : (p : ℕ) → 864 ≤ p → p < 866 → getD state p 0 ≡ getD bare p 0
   counts-from p l h =
-      after-parts p (λ e. omega arith)
+      after-parts p (λ e. omega arith) (λ e. omega arith)
       ∙ after-bases p (λ i a e. omega arith)
       ∙ after-joined p (λ q a e. omega arith)
       ∙ after-keeps p (λ i a e. omega arith)
@@ -379,6 +383,12 @@ module _ (formats schema : List ℕ) (x : Tables) (sources : List ℕ) (keep : B
   nodes-are =
       counts-from 865 (omega arith) (omega arith)
       ∙ getD-set-same (set (withTree tree) 864 m) 865 n 0 (omega (arith, length-set (withTree tree) 864 m, tree-length))
+
+  -- WORD 867: the choice
+  pub choice-is : getD state 867 0 ≡ plan.flag gaps
+  choice-is =
+      ap (λ l. getD l 867 0) state-is
+      ∙ getD-set-same (set named 866 (partTotal named)) 867 (plan.flag gaps) 0 (omega (arith, length-set named 866 (partTotal named), named-length))
 
   -- THE PARTS ARE NUMBERED in tree order
   pub numbered-is : Numbered state

@@ -109,13 +109,21 @@ withParts n state = filled (λ i. 8 * i + 6) partWord n state
 unfoldable pub withTotal : List ℕ → List ℕ
 withTotal state = set state 866 (partTotal state)
 
--- THE STATE AS IT IS PLANNED: the type tree is source 0's, and no node has rows yet
-unfoldable pub planned : List ℕ → List ℕ → Tables → List ℕ → Bool → List ℕ
-planned formats schema x sources keep =
+-- all words but the choice: the type tree is source 0's, and no node has rows yet
+unfoldable pub laidOut : List ℕ → List ℕ → Tables → List ℕ → Bool → List ℕ
+laidOut formats schema x sources keep =
     let m = sourceCount sources in
     let n = nodesOf sources 0 in
     let tree = withCounts m n (withTree (planted formats schema (firstOf sources 0) n)) in
     withTotal (withParts n (withBases x sources m (withJoined x sources m n (withKeeps x sources m keep n tree))))
+
+-- word 867: 1 where one run for a gap is chosen
+unfoldable pub withChoice : Bool → List ℕ → List ℕ
+withChoice gaps state = set state 867 (flag gaps)
+
+-- THE STATE AS IT IS PLANNED
+unfoldable pub planned : List ℕ → List ℕ → Tables → List ℕ → Bool → Bool → List ℕ
+planned formats schema x sources keep gaps = withChoice gaps (laidOut formats schema x sources keep)
 
 -- ---- what the grounds 9 to 12 give
 

@@ -6,7 +6,7 @@ ghost use Rattle.walk.specs.State.{codeOf};
 ghost use Rattle.lent_tables.specs.Lent.{tables};
 ghost use Rattle.node_table.specs.Words.{planted};
 ghost use Rattle.sharing.specs.Sources.{firstOf, Countable};
-ghost use Rattle.plan.specs.Plan.{withTree, parentOf, asked, isEnds, keepWord, withKeeps, joinedWord, withJoined, buffersUpTo, baseWord, withBases, withCounts, withParts, planned, Plannable};
+ghost use Rattle.plan.specs.Plan.{withTree, parentOf, asked, isEnds, keepWord, withKeeps, joinedWord, withJoined, buffersUpTo, baseWord, withBases, withCounts, withParts, flag, laidOut, planned, Plannable};
 
 // ---- the type tree
 
@@ -259,8 +259,8 @@ fn write_type(
     state[865] = n as u64;
 }
 
-// THE STATE AS IT IS PLANNED for sources that meet none of the grounds 9 to 12.
-pub fn plan(
+// All words but the choice.
+fn lay_out(
     sources: &[u32],
     formats: &[u8],
     schema: &[u32],
@@ -271,7 +271,7 @@ pub fn plan(
     state: &mut [u64; 872],
 )
     requires { ⌜ Plannable (tables (now lengths) (now places) (now body)) (now sources) ⌝ }
-    ensures { λ _. ⌜ now (state .exit) ≡ planned (now (formats .entry)) (now (schema .entry)) (tables (now (lengths .entry)) (now (places .entry)) (now (body .entry))) (now (sources .entry)) keep ⌝ }
+    ensures { λ _. ⌜ now (state .exit) ≡ laidOut (now (formats .entry)) (now (schema .entry)) (tables (now (lengths .entry)) (now (places .entry)) (now (body .entry))) (now (sources .entry)) keep ⌝ }
 {
     let m = sources.len() / 2;
     let first = lent_tables::at_u32(sources, 0) as usize;
@@ -282,4 +282,33 @@ pub fn plan(
     write_bases(sources, lengths, places, body, m, state);
     write_parts(n, state);
     state[866] = parts::part_total(state) as u64;
+}
+
+// 1 for true.
+fn choice_word(gaps: bool) -> u64
+    ensures { λ r. ⌜ r ≡ flag gaps ⌝ }
+{
+    if gaps {
+        return 1;
+    }
+    0
+}
+
+// THE STATE AS IT IS PLANNED for sources that meet none of the grounds 9 to 12.
+pub fn plan(
+    sources: &[u32],
+    formats: &[u8],
+    schema: &[u32],
+    lengths: &[u64],
+    places: &[u32],
+    body: &[u8],
+    keep: bool,
+    gaps: bool,
+    state: &mut [u64; 872],
+)
+    requires { ⌜ Plannable (tables (now lengths) (now places) (now body)) (now sources) ⌝ }
+    ensures { λ _. ⌜ now (state .exit) ≡ planned (now (formats .entry)) (now (schema .entry)) (tables (now (lengths .entry)) (now (places .entry)) (now (body .entry))) (now (sources .entry)) keep gaps ⌝ }
+{
+    lay_out(sources, formats, schema, lengths, places, body, keep, state);
+    state[867] = choice_word(gaps);
 }

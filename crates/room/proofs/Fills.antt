@@ -9,14 +9,14 @@ use lib.Dec.{ltb, eqb}
 use borrow.Author.Tests.{ltb-true, eqb-true, eqb-false}
 use Rattle.columnar.specs.Types.{half}
 use Rattle.formats.specs.Code.{isFixed, isString, isView, isListView, isList, isUnion}
-use Rattle.walk.specs.State.{Join, word, codeOf, endOf, idOf, keepsOf, bytesOf, rows, bytes}
+use Rattle.walk.specs.State.{Join, word, codeOf, endOf, idOf, keepsOf, bytesOf, rows, gap, bytes}
 use Rattle.walk.specs.Leaves.{nullMask, countNulls, nullNumbers, nullString}
 use Rattle.walk.specs.Copy.{isWidth, masked}
-use Rattle.walk.specs.Nulls.{NullWalk, nullListView, nullList, nullFields, nullSparse, nullDense, nullRuns, nullData, nullNode, nullWalk}
+use Rattle.walk.specs.Nulls.{NullWalk, nullListView, nullList, nullFields, nullSparse, nullDense, addRun, growRun, nullRuns, nullData, nullNode, nullWalk}
 use Rattle.room.specs.Room.{AllUsed}
 use Rattle.room.specs.Reach.{sizes, positions, HasBuffer, Child, Closed, UsedAt}
 use Rattle.room.proofs.Bytes.{bytes-encode, bytes-same, bytes-repeated, bytes-counted, bits-same}
-use Rattle.room.proofs.Uses.{Uses, uses-put, uses-mask, uses-done, uses-fail, uses-cond, uses-need, uses-found, uses-next}
+use Rattle.room.proofs.Uses.{Uses, uses-put, uses-amend, uses-mask, uses-done, uses-fail, uses-cond, uses-need, uses-found, uses-next}
 use Rattle.room.proofs.Found.{between-both, and-first, ends-code, child-first, child-later, child-nullable}
 
 module _ (x : Join) (In At : ℕ → Type 0) (closed : Closed (x .state) In At) where
@@ -92,19 +92,32 @@ module _ (x : Join) (In At : ℕ → Type 0) (closed : Closed (x .state) In At) 
           (λ c2. uses-next U _ _ (uses-put (x .state) At i small (closed .own i here) 1 _ _ c2 (refl, positions q) (bytes-counted 4 _ n))
           (λ c3. below _ n c3 (closed .child i _ here union (child-nullable (x .state) i 32 (suc i) (child-first (x .state) i) l))))))
 
+    -- where a number is tested against their width, run ends have a buffer
+    run-ends : (v : ℕ) → ltb v (half (bytesOf (x .state) (suc i))) ≡ true → HasBuffer (x .state) (suc i) 1
+    run-ends v g = let z = ends-code v (codeOf (x .state) (suc i)) g in (z .0, omega (arith, z .1))
+
+    uses-add-run : (n : ℕ) (c : List ℕ) → codeOf (x .state) i ≡ 23 → suc (suc i) < 32 → Uses U (addRun x walk (bytesOf (x .state) (suc i)) i n c)
+    unfolding addRun
+    uses-add-run n c q s =
+        uses-next U _ _ (below (suc (suc i)) 1 c (closed .values i here q))
+        (λ c2. uses-need U (ltb (rows c2 i + n) (half (bytesOf (x .state) (suc i)))) 7 c2 _
+        (λ g. uses-next U _ _
+        (uses-put (x .state) At (suc i) (omega arith) (closed .ends i here q) 0 _ _ c2 (run-ends (rows c2 i + n) g) (bytes-encode (bytesOf (x .state) (suc i)) (rows c2 i + n)))
+        (λ c3. uses-done U _)))
+
+    uses-grow-run : (n : ℕ) (c : List ℕ) → codeOf (x .state) i ≡ 23 → suc (suc i) < 32 → Uses U (growRun x walk (bytesOf (x .state) (suc i)) i n c)
+    unfolding growRun
+    uses-grow-run n c q s =
+        uses-need U _ 12 c _
+        (λ some. uses-need U (ltb (rows c i + n) (half (bytesOf (x .state) (suc i)))) 7 c _
+        (λ g. uses-amend (x .state) At (suc i) (omega arith) (closed .ends i here q) 0 _ _ c (run-ends (rows c i + n) g) (bytes-encode (bytesOf (x .state) (suc i)) (rows c i + n))))
+
     uses-null-runs : (n : ℕ) (c : List ℕ) → codeOf (x .state) i ≡ 23 → Uses U (nullRuns x walk i n c)
     unfolding nullRuns
     uses-null-runs n c q =
         uses-need U _ 12 c _
         (λ e. let s = ltb-true (suc (suc i)) 32 (and-first _ (isWidth (bytesOf (x .state) (suc i))) e) in
-        uses-next U _ _ (below (suc (suc i)) 1 c (closed .values i here q))
-        (λ c2. uses-need U (ltb (rows c2 i + n) (half (bytesOf (x .state) (suc i)))) 7 c2 _
-        (λ g. uses-next U _ _
-        (uses-put (x .state) At (suc i) (omega arith) (closed .ends i here q) 0 _ _ c2 (ends (rows c2 i + n) g) (bytes-encode (bytesOf (x .state) (suc i)) (rows c2 i + n)))
-        (λ c3. uses-done U _))))
-      where
-        ends : (v : ℕ) → ltb v (half (bytesOf (x .state) (suc i))) ≡ true → HasBuffer (x .state) (suc i) 1
-        ends v g = let z = ends-code v (codeOf (x .state) (suc i)) g in (z .0, omega (arith, z .1))
+        uses-cond U (eqb (gap c i) 2) _ _ (λ on. uses-grow-run n c q s) (λ off. uses-add-run n c q s))
 
     uses-null-data : (n : ℕ) (c : List ℕ) → Uses U (nullData x walk (codeOf (x .state) i) i n c)
     unfolding nullData

@@ -4,7 +4,7 @@ use mathlib.Core.Bool.{Bool, true, false, cond, _&&_}
 use mathlib.Core.List.{List, [], _∷_, _++_}
 use Prim.Native.Nat.{ℕ, _+_, _*_, _/_, _≤_, _<_}
 use native.Mathlib.Omega.{arith}
-use lib.ListN.{length, getD, length-append}
+use lib.ListN.{length, take, getD, length-append}
 use lib.Dec.{eqb}
 use borrow.Author.Tests.{lt-ltb, le-leb, eq-eqb, eqb-true, eqb-false}
 use Rattle.number.specs.Number.{splice}
@@ -12,10 +12,10 @@ use Rattle.bits.specs.Bits.{putBits}
 use Rattle.bits.proofs.Laws.{below-of}
 use Rattle.bits.proofs.Puts.{put-nil}
 use Rattle.walk.specs.State.{beyond}
-use Rattle.walk.specs.Log.{Entry, put, mask, startOf, inRoom, enter}
-use Rattle.link.specs.Memory.{Memory, putIn, maskIn, noted, InPlace}
+use Rattle.walk.specs.Log.{Entry, put, mask, amend, startOf, inRoom, enter}
+use Rattle.link.specs.Memory.{Memory, putIn, maskIn, amendIn, noted, InPlace}
 use Rattle.room.specs.Room.{sizeOf, AllBelow, HasBytes, HasBits, Placed, Lies, Fits, UsedEntry}
-use Rattle.room.proofs.Writes.{apart-never, Wrote, has-bytes-still, has-bits-still, put-wrote, put-own, mask-wrote, mask-own}
+use Rattle.room.proofs.Writes.{apart-never, Wrote, has-bytes-still, has-bits-still, put-wrote, put-own, amend-own, mask-wrote, mask-own}
 
 -- a test that holds
 in-room : (start o n m : ℕ) → o < beyond → n < beyond → start + o + n ≤ m → inRoom start o n m ≡ true
@@ -23,15 +23,21 @@ unfolding inRoom
 in-room start o n m p q r = rw (lt-ltb o beyond p, lt-ltb n beyond q, le-leb (start + o + n) m r)
 
 module _ (state parts : List ℕ) where
-  -- byte p is not among those that the entry adds, nor in the validity byte whose free bits it fills
+  -- byte p is not among those that the entry writes, nor in the validity byte whose free bits it fills
   abbrev pub Misses : Entry → ℕ → Type 0
   Misses (put i b o bs) p = startOf state parts i b + o ≤ p → p < startOf state parts i b + o + length bs → ⊥
   Misses (mask i q vs) p = 0 < length vs → startOf state parts i 0 + q / 8 ≤ p → p < startOf state parts i 0 + (q + length vs + 7) / 8 → ⊥
+  Misses (amend i b o bs) p = startOf state parts i b + o ≤ p → p < startOf state parts i b + o + length bs → ⊥
 
   enter-put : (i b o : ℕ) (bs room : List ℕ) → startOf state parts i b + o + length bs ≤ length room → length room < 4294967296
       → enter state parts (put i b o bs) room ≡ splice (startOf state parts i b + o) bs room
   unfolding enter
   enter-put i b o bs room h s = rw (in-room (startOf state parts i b) o (length bs) (length room) (omega arith) (omega arith) h)
+
+  enter-amend : (i b o : ℕ) (bs room : List ℕ) → startOf state parts i b + o + length bs ≤ length room → length room < 4294967296
+      → enter state parts (amend i b o bs) room ≡ splice (startOf state parts i b + o) bs room
+  unfolding enter
+  enter-amend i b o bs room h s = rw (in-room (startOf state parts i b) o (length bs) (length room) (omega arith) (omega arith) h)
 
   enter-mask : (i p : ℕ) (vs room : List ℕ) → 8 * startOf state parts i 0 + p + length vs ≤ 8 * length room → length room < 4294967296
       → enter state parts (mask i p vs) room ≡ putBits (8 * startOf state parts i 0 + p) vs room
@@ -104,6 +110,36 @@ module _ (state parts : List ℕ) (Used : ℕ → ℕ → Type 0) (room : List �
             rw (eqb-true j i p) (mask-own (startOf state parts i 0) (μ .bits i) vs room mask-fits below (held .are-bytes) (held .bits-lie i used))
         go j u false p = other-bits mask-changes i 0 used (omega arith) (omega arith) j u (λ x y. eqb-false j i p x)
 
+  -- over the last bytes
+  module _ (i b o : ℕ) (bs : List ℕ) (used : Used i b) (pos : 1 ≤ b) (below : AllBelow 256 bs) (whole : o + length bs ≡ length (μ .at i b)) where
+    abbrev amend-room : List ℕ
+    amend-room = splice (startOf state parts i b + o) bs room
+
+    amend-part : o + length bs ≤ sizeOf state parts i b
+    amend-part = let f = fits .bytes-fit i b used pos in omega arith
+
+    amend-fits : startOf state parts i b + o + length bs ≤ length room
+    amend-fits = let m = placed .inside i b used in let f = amend-part in omega arith
+
+    amend-changes : Wrote (startOf state parts i b + o) (startOf state parts i b + o + length bs) room amend-room
+    amend-changes = put-wrote (startOf state parts i b + o) bs room amend-fits below (held .are-bytes)
+
+    amend-lies : Lies state parts Used amend-room (amendIn i b o bs μ)
+    amend-lies =
+        let f = amend-part in
+        record {
+          are-bytes = amend-changes .still-bytes;
+          bytes-lie = λ j e u h. go j e u h (eqb j i) refl (eqb e b) refl;
+          bits-lie = λ j u. other-bits amend-changes i b used (omega arith) (omega arith) j u (λ x y. omega arith);
+        }
+      where
+        go : (j e : ℕ) → Used j e → 1 ≤ e → (s : Bool) → eqb j i ≡ s → (t : Bool) → eqb e b ≡ t → HasBytes (startOf state parts j e) (cond (s && t) (take o (μ .at j e) ++ bs) (μ .at j e)) amend-room
+        go j e u h true p true q =
+            rw (eqb-true j i p, eqb-true e b q)
+            (amend-own (startOf state parts i b) o (μ .at i b) bs room whole amend-fits below (held .are-bytes) (held .bytes-lie i b used pos))
+        go j e u h true p false q = let f = amend-part in other-bytes amend-changes i b used (omega arith) (omega arith) j e u h (λ x y. eqb-false e b q y)
+        go j e u h false p t q = let f = amend-part in other-bytes amend-changes i b used (omega arith) (omega arith) j e u h (λ x y. eqb-false j i p x)
+
   -- ---- an entry
 
   pub record Stepped (e : Entry) (room′ : List ℕ) : Type 0 where
@@ -134,4 +170,11 @@ module _ (state parts : List ℕ) (Used : ℕ → ℕ → Type 0) (room : List �
         long = mask-changes i vs (u .0) (u .1) enough .long;
         lies = mask-lies i vs (u .0) (u .1) enough;
         byte-same = mask-same i vs (mask-changes i vs (u .0) (u .1) enough);
+      })
+  stepped (amend i b o bs) q u f =
+      rw (enter-amend state parts i b o bs room (amend-fits i b o bs (u .0) (u .1) (u .2) q) (placed .small))
+      (record {
+        long = amend-changes i b o bs (u .0) (u .1) (u .2) q .long;
+        lies = amend-lies i b o bs (u .0) (u .1) (u .2) q;
+        byte-same = amend-changes i b o bs (u .0) (u .1) (u .2) q .byte-same;
       })

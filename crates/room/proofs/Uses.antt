@@ -6,13 +6,14 @@ use Prim.Native.Nat.{ℕ, zero, suc, _<_}
 use native.Mathlib.Omega.{arith}
 use lib.Dec.{ltb, eqb}
 use borrow.Author.Tests.{ltb-true}
-use Rattle.walk.specs.Log.{Entry, put, mask, Log, Out, fail, done, wrote, need, found, next, each}
+use Rattle.walk.specs.Log.{Entry, put, mask, amend, Log, Out, fail, done, wrote, need, found, next, each}
 use Rattle.room.specs.Room.{AllBelow, UsedEntry, AllUsed}
 use Rattle.room.specs.Reach.{HasBuffer, UsedAt}
 
 entry-wide : {Used Used2 : ℕ → ℕ → Type 0} → ((i b : ℕ) → Used i b → Used2 i b) → (e : Entry) → UsedEntry Used e → UsedEntry Used2 e
 entry-wide f (put i b o bs) u = (f i b (u .0), u .1, u .2)
 entry-wide f (mask i p vs) u = (f i 0 (u .0), u .1)
+entry-wide f (amend i b o bs) u = (f i b (u .0), u .1, u .2)
 
 -- parts that are used are used among more
 pub used-wide : {Used Used2 : ℕ → ℕ → Type 0} → ((i b : ℕ) → Used i b → Used2 i b) → (l : Log) → AllUsed Used l → AllUsed Used2 l
@@ -67,6 +68,9 @@ module _ (Used : ℕ → ℕ → Type 0) where
 module _ (state : List ℕ) (At : ℕ → Type 0) (i : ℕ) (small : i < 32) (here : At i) where
   pub uses-put : (b o : ℕ) (bs c : List ℕ) → HasBuffer state i (suc b) → AllBelow 256 bs → Uses (UsedAt state At) (wrote (put i (suc b) o bs) c)
   uses-put b o bs c h q = uses-wrote (UsedAt state At) (put i (suc b) o bs) c (record { node = here; small = small; buffer = h }, omega arith, q)
+
+  pub uses-amend : (b o : ℕ) (bs c : List ℕ) → HasBuffer state i (suc b) → AllBelow 256 bs → Uses (UsedAt state At) (wrote (amend i (suc b) o bs) c)
+  uses-amend b o bs c h q = uses-wrote (UsedAt state At) (amend i (suc b) o bs) c (record { node = here; small = small; buffer = h }, omega arith, q)
 
   pub uses-mask : (p : ℕ) (vs c : List ℕ) → HasBuffer state i 0 → AllBelow 2 vs → Uses (UsedAt state At) (wrote (mask i p vs) c)
   uses-mask p vs c h q = uses-wrote (UsedAt state At) (mask i p vs) c (record { node = here; small = small; buffer = h }, q)

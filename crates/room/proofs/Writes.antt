@@ -6,7 +6,7 @@ use Prim.Native.Nat.{ℕ, suc, _+_, _*_, _-_, _/_, _≤_, _<_}
 use native.Mathlib.Nat.{add-zero}
 use native.Mathlib.Omega.{arith}
 use lib.ListN.{length, take, drop, getD, length-append, length-drop}
-use lib.Seq.{take-add, drop-drop, take-at, getD-take, getD-drop, ext-getD, length-take-le}
+use lib.Seq.{take-add, take-take, drop-drop, take-at, getD-take, getD-drop, ext-getD, length-take-le}
 use lib.Dec.{ltb}
 use borrow.Author.Tests.{ltb-true, ltb-false}
 use Rattle.number.specs.Number.{splice}
@@ -106,6 +106,14 @@ put-own start d bs room fits b r h =
     let w = put-wrote (start + length d) bs room fits b r in
     let old : take (length d) (drop start (splice (start + length d) bs room)) ≡ d = bytes-same w start (length d) (omega arith) (λ p x y. λ z u. omega arith) ∙ h in
     rw (length-append, take-add, old, drop-drop, splice-mid (start + length d) bs room (omega arith), take-at bs (drop (start + length d + length bs) room) (length bs) refl)
+
+-- over the last of them
+pub amend-own : (start o : ℕ) (d bs room : List ℕ) → o + length bs ≡ length d → start + o + length bs ≤ length room → AllBelow 256 bs → AllBelow 256 room → HasBytes start d room
+    → HasBytes start (take o d ++ bs) (splice (start + o) bs room)
+amend-own start o d bs room e fits b r h =
+    let n : length (take o d) ≡ o = length-take-le o d (omega arith) in
+    let z : HasBytes start (take o d) room = ap (λ k. take k (drop start room)) n ∙ sym (take-take o (length d) (drop start room) (omega arith)) ∙ ap (take o) h in
+    rw n at (put-own start (take o d) bs room (omega (arith, n)) b r z)
 
 -- ---- bits
 

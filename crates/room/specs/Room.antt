@@ -5,7 +5,7 @@ use Prim.Native.Nat.{ℕ, _+_, _*_, _-_, _/_, _≤_, _<_}
 use lib.ListN.{length, take, drop, getD}
 use Rattle.bits.specs.Bits.{bits, bitsAt}
 use Rattle.walk.specs.State.{partOf}
-use Rattle.walk.specs.Log.{Entry, put, mask, Log, startOf}
+use Rattle.walk.specs.Log.{Entry, put, mask, amend, Log, startOf}
 use Rattle.link.specs.Memory.{Memory}
 
 -- the bytes of the part of buffer b of node i; it starts at `startOf`
@@ -32,6 +32,17 @@ pub record HasBits (start : ℕ) (vs room : List ℕ) : Type 0 where
   pub run : bitsAt (8 * start) (length vs) room ≡ vs
   pub rest : (p : ℕ) → length vs ≤ p → p < 8 * ((length vs + 7) / 8) → getD (bits room) (8 * start + p) 0 ≡ 0
 
+-- byte p is not one that a log writes over
+module _ (state parts : List ℕ) where
+  abbrev pub NotOver : Entry → ℕ → Type 0
+  NotOver (put i b o bs) p = Unit {0}
+  NotOver (mask i q vs) p = Unit {0}
+  NotOver (amend i b o bs) p = startOf state parts i b + o ≤ p → p < startOf state parts i b + o + length bs → ⊥
+
+  unfoldable pub NoneOver : Log → ℕ → Type 0
+  NoneOver [] p = Unit {0}
+  NoneOver (e ∷ l) p = NotOver e p × NoneOver l p
+
 -- Used: which buffer of which node has a part; buffer 0 is the validity
 module _ (state parts : List ℕ) (Used : ℕ → ℕ → Type 0) where
   -- the parts lie well in a room of m bytes: none of what ground 14 says, and "Each body has at most 4,294,967,295 bytes"
@@ -52,17 +63,19 @@ module _ (state parts : List ℕ) (Used : ℕ → ℕ → Type 0) where
     pub bytes-fit : (i b : ℕ) → Used i b → 1 ≤ b → length (μ .at i b) ≤ sizeOf state parts i b
     pub bits-fit : (i : ℕ) → Used i 0 → length (μ .bits i) ≤ 8 * sizeOf state parts i 0
 
-  -- byte p is none of those that are added from μ to ν, nor in the validity byte whose free bits are filled
-  pub record Outside (μ ν : Memory) (p : ℕ) : Type 0 where
+  -- byte p is none of those that a log adds from μ to ν or writes over, nor in the validity byte whose free bits are filled
+  pub record Outside (l : Log) (μ ν : Memory) (p : ℕ) : Type 0 where
     pub no-bytes : (i b : ℕ) → Used i b → 1 ≤ b → startOf state parts i b + length (μ .at i b) ≤ p → p < startOf state parts i b + length (ν .at i b) → ⊥
     pub no-bits : (i : ℕ) → Used i 0 → length (μ .bits i) < length (ν .bits i) → startOf state parts i 0 + length (μ .bits i) / 8 ≤ p
         → p < startOf state parts i 0 + (length (ν .bits i) + 7) / 8 → ⊥
+    pub not-over : NoneOver state parts l p
 
 module _ (Used : ℕ → ℕ → Type 0) where
   -- a write of bytes or bits into a part that there is
   abbrev pub UsedEntry : Entry → Type 0
   UsedEntry (put i b o bs) = Used i b × (1 ≤ b) × AllBelow 256 bs
   UsedEntry (mask i p vs) = Used i 0 × AllBelow 2 vs
+  UsedEntry (amend i b o bs) = Used i b × (1 ≤ b) × AllBelow 256 bs
 
   unfoldable pub AllUsed : Log → Type 0
   AllUsed [] = Unit {0}

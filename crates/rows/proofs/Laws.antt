@@ -1,11 +1,11 @@
 -- The walk's steps at a node with children, by the ways that the code goes. Assumes nothing.
 use mathlib.Core.Path.{_≡_, refl, sym, ap, _∙_}
-use mathlib.Core.Bool.{Bool, true, false, not, _&&_}
+use mathlib.Core.Bool.{Bool, true, false, not, cond, _&&_}
 use mathlib.Core.List.{List, [], _∷_}
-use Prim.Native.Nat.{ℕ, suc, _+_, _*_, _≤_, _<_}
+use Prim.Native.Nat.{ℕ, suc, _+_, _-_, _*_, _≤_, _<_, min}
 use native.Mathlib.Omega.{arith}
 use lib.ListN.{length, getD, replicate}
-use lib.Dec.{ltb, eqb}
+use lib.Dec.{ltb, leb, eqb}
 use borrow.Author.Tests.{lt-ltb, le-ltb, le-leb, lt-leb, ltb-true, ltb-false, eqb-true, eqb-false, ne-eqb}
 use Rattle.number.specs.Number.{encode, entry}
 use Rattle.columnar.specs.Types.{half}
@@ -14,14 +14,25 @@ use Rattle.run_ends.specs.Lookup.{foundRun, runsOf}
 use Rattle.run_ends.specs.Clip.{clipped}
 use Rattle.run_ends.specs.declared.Runs.{Runs}
 use Rattle.lent_tables.proofs.Laws.{no, yes, and-left, and-right}
-use Rattle.walk.specs.State.{Join, bytesOf, endOf, idOf, rows, addRows, place, lengthOf, offsetOf, rowsIn, scaled, grown}
-use Rattle.walk.specs.Log.{Entry, Out, Did, put, applyIf, wrote, need, next}
+use Rattle.walk.specs.State.{Join, bytesOf, endOf, idOf, rows, bytes, addRows, setBytes, endGap, beginGap, place, lengthOf, offsetOf, rowsIn, scaled, grown}
+use Rattle.walk.specs.Log.{Entry, Out, Did, put, amend, enter, apply, applyIf, wrote, need, next}
 use Rattle.walk.specs.Copy.{Walk, isWidth, listViewRow, denseTo, idAt, positionAt, runsAt}
 use Rattle.walk.specs.Nulls.{nullableChild, noHome}
 use Rattle.walk.proofs.Laws.{done-did, wrote-did, need-no, need-ok, next-no, next-ok, next-need, next-wrote}
 use Rattle.puts.proofs.Laws.{Alike, alike-grown}
 use Rattle.leaf_walk.proofs.Laws.{wrote-alike, wrote-at, wrote-behind}
-use Rattle.rows.specs.Numbers.{listNumbers, denseNumbers, runsReady, runNumbers, nullIds, nullPositions, nullEnd}
+use Rattle.rows.specs.Numbers.{listNumbers, denseNumbers, runsReady, runNumbers, nullIds, nullPositions, nullEnd, longerEnd}
+
+over-same : (state parts : List ℕ) (w : Bool) (i b o : ℕ) (bs room : List ℕ) → applyIf state parts w (put i b o bs ∷ []) room ≡ applyIf state parts w (amend i b o bs ∷ []) room
+unfolding applyIf apply enter
+over-same state parts true i b o bs room = refl
+over-same state parts false i b o bs room = refl
+
+-- a write over bytes is made as one behind them
+pub amend-did : {state parts : List ℕ} {wr : Bool} (i b o : ℕ) (bs c : List ℕ) {room room2 : List ℕ} → Did state parts wr (wrote (put i b o bs) c) room 0 c room2
+    → Did state parts wr (wrote (amend i b o bs) c) room 0 c room2
+unfolding wrote
+amend-did {state} {parts} {wr} i b o bs c {room} d = record { answer = d .answer; counters = d .counters; bytes = d .bytes ∙ over-same state parts wr i b o bs room }
 
 -- ---- the steps that a function takes together, and a child's walk behind them
 
@@ -156,13 +167,34 @@ module _ (state parts : List ℕ) (wr : Bool) (i : ℕ) (c room : List ℕ) wher
     end-no e f g h k = need-no _ (rw (g, f, e) at (no h k))
 
     pub end-yes : {j o p v w : ℕ} {t : Bool} {c2 room2 : List ℕ} → j ≡ suc i → w ≡ bytesOf state j → p ≡ rows c i → t ≡ ltb (p + n) (half w) → not t ≡ false
-        → v ≡ rows c j → o ≡ scaled v w → 1 ≤ w → room2 ≡ applyIf state parts wr (put j 1 o (encode w (p + n)) ∷ []) room → c2 ≡ addRows j 1 c → Did state parts wr (nullEnd state i n c) room 0 c2 room2
+        → v ≡ rows c j → o ≡ scaled v w → 1 ≤ w → room2 ≡ applyIf state parts wr (put j 1 o (encode w (p + n)) ∷ []) room → c2 ≡ beginGap i (addRows (suc i) 1 c) → Did state parts wr (nullEnd state i n c) room 0 c2 room2
     unfolding nullEnd
     end-yes {room2 = room2} e f g h k l m s a b =
         let y = f ∙ ap (λ (z : ℕ). bytesOf state z) e in
         need-ok 7 c (rw (g, y) at (yes h k))
         (next-ok _ (wrote-at state parts wr (suc i) 1 (rows c (suc i)) (bytesOf state (suc i)) (encode (bytesOf state (suc i)) (rows c i + n)) c room (l ∙ ap (λ (z : ℕ). rows c z) e) (rw y at m) (rw y at s) (rw (g, y, e) at a)) refl
-        (rw (b ∙ ap (λ (z : ℕ). addRows z 1 c) e) (done-did wr _ room2)))
+        (rw b (done-did wr _ room2)))
+
+    pub longer-none : {j r : ℕ} → j ≡ suc i → r ≡ rows c j → r ≡ 0 → Did state parts wr (longerEnd state i n c) room 12 c room
+    unfolding longerEnd
+    longer-none e f z = need-no _ (lt-leb 1 (rows c (suc i)) (omega (arith, f, ap (λ (z : ℕ). rows c z) e)))
+
+    module _ {j r : ℕ} (e : j ≡ suc i) (l : r ≡ rows c j) (some : r ≡ 0 → ⊥) where
+      is-some : leb 1 (rows c (suc i)) ≡ true
+      is-some = le-leb 1 (rows c (suc i)) (omega (arith, l, ap (λ (z : ℕ). rows c z) e))
+
+      pub longer-no : {p w : ℕ} {t : Bool} → w ≡ bytesOf state j → p ≡ rows c i → t ≡ ltb (p + n) (half w) → not t ≡ true → Did state parts wr (longerEnd state i n c) room 7 c room
+      unfolding longerEnd
+      longer-no f g h k = need-ok 12 c is-some (need-no _ (rw (g, f, e) at (no h k)))
+
+      pub longer-yes : {o p w : ℕ} {t : Bool} {room2 : List ℕ} → w ≡ bytesOf state j → p ≡ rows c i → t ≡ ltb (p + n) (half w) → not t ≡ false
+          → o ≡ scaled (r - 1) w → 1 ≤ w → room2 ≡ applyIf state parts wr (put j 1 o (encode w (p + n)) ∷ []) room → Did state parts wr (longerEnd state i n c) room 0 c room2
+      unfolding longerEnd
+      longer-yes {room2 = room2} f g h k m s a =
+          let y = f ∙ ap (λ (z : ℕ). bytesOf state z) e in
+          let v : r - 1 ≡ rows c (suc i) - 1 = ap (_- 1) (l ∙ ap (λ (z : ℕ). rows c z) e) in
+          let d = wrote-at state parts wr (suc i) 1 (rows c (suc i) - 1) (bytesOf state (suc i)) (encode (bytesOf state (suc i)) (rows c i + n)) c room v (rw y at m) (rw y at s) (rw (g, y, e) at a) in
+          need-ok 12 c is-some (need-ok 7 c (rw (g, y) at (yes h k)) (amend-did (suc i) 1 ((rows c (suc i) - 1) * bytesOf state (suc i)) (encode (bytesOf state (suc i)) (rows c i + n)) c d))
 
 -- ---- the home of nulls
 
@@ -227,9 +259,33 @@ runs-given x child w i slot n e f g h l = rw (f, g, h, e) at l
 
 pub run-did : (x : Join) (wr : Bool) (w i slot n last run count : ℕ) (c room : List ℕ) {j k at o p v : ℕ} {c2 room2 : List ℕ} → j ≡ suc i → k ≡ x .first + suc i → at ≡ getD (x .places) (9 * k + 3) 0
     → o ≡ getD (x .lengths) (2 * k + 1) 0 → v ≡ rows c j → p ≡ scaled v w → 1 ≤ w
-    → room2 ≡ applyIf (x .state) (x .parts) wr (put j 1 p (clipped w (x .body) (at + w * o + w * run) count slot (slot + n) last) ∷ []) room → c2 ≡ addRows j count c
+    → room2 ≡ applyIf (x .state) (x .parts) wr (put j 1 p (clipped w (x .body) (at + w * o + w * run) count slot (slot + n) last) ∷ []) room → c2 ≡ endGap i (addRows (suc i) count c)
     → Did (x .state) (x .parts) wr (runNumbers x w i slot n last run count c) room 0 c2 room2
 unfolding runNumbers
 run-did x wr w i slot n last run count c room {room2 = room2} e f g h l m s a b =
     next-ok _ (wrote-at (x .state) (x .parts) wr (suc i) 1 (rows c (suc i)) w (clipped w (x .body) (place x (suc i) 3 + w * offsetOf x (suc i) + w * run) count slot (slot + n) last) c room (l ∙ ap (λ (z : ℕ). rows c z) e) m s (rw (g, h, f, e) at a)) refl
-    (rw (b ∙ ap (λ (z : ℕ). addRows z count c) e) (done-did wr _ room2))
+    (rw b (done-did wr _ room2))
+
+-- ---- gaps
+
+pub gap-one : (g : ℕ) → 1 < g → _≡_ {A = ℕ} 1 (min g 1)
+gap-one g h = omega arith
+
+pub gap-low : (g : ℕ) → g ≤ 1 → g ≡ min g 1
+gap-low g h = omega arith
+
+pub gap-off : (g : ℕ) → g ≡ 0 → _≡_ {A = ℕ} 0 (cond (eqb g 0) 0 2)
+gap-off g e = rw e
+
+pub gap-on : (g : ℕ) → (g ≡ 0 → ⊥) → _≡_ {A = ℕ} 2 (cond (eqb g 0) 0 2)
+gap-on g h = rw (ne-eqb g 0 h)
+
+module _ (c c1 c2 : List ℕ) (i j n g v : ℕ) (e : j ≡ suc i) (h : c1 ≡ addRows j n c) (k : g ≡ bytes c1 i) (q : c2 ≡ setBytes i v c1) where
+  ends-rows : c1 ≡ addRows (suc i) n c
+  ends-rows = h ∙ ap (λ (z : ℕ). addRows z n c) e
+
+  pub counted-runs : v ≡ min g 1 → c2 ≡ endGap i (addRows (suc i) n c)
+  counted-runs f = q ∙ ap (λ (z : ℕ). setBytes i z c1) (f ∙ ap (λ (z : ℕ). min z 1) k) ∙ ap (endGap i) ends-rows
+
+  pub counted-nulls : v ≡ cond (eqb g 0) 0 2 → c2 ≡ beginGap i (addRows (suc i) n c)
+  counted-nulls f = q ∙ ap (λ (z : ℕ). setBytes i z c1) (f ∙ ap (λ (z : ℕ). cond (eqb z 0) 0 2) k) ∙ ap (beginGap i) ends-rows

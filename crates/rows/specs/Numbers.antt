@@ -1,15 +1,15 @@
 -- The walk's steps at a node with children that go before, or behind, the children's own. Assumes nothing.
 use mathlib.Core.Bool.{_&&_}
 use mathlib.Core.List.{List, [], _∷_}
-use Prim.Native.Nat.{ℕ, suc, _+_, _*_}
+use Prim.Native.Nat.{ℕ, suc, _+_, _-_, _*_}
 use lib.ListN.{replicate}
 use lib.Dec.{leb, ltb}
 use Rattle.number.specs.Number.{encode}
 use Rattle.columnar.specs.Types.{half}
 use Rattle.utils.specs.Offsets.{countedUp}
 use Rattle.run_ends.specs.Clip.{clipped}
-use Rattle.walk.specs.State.{Join, bytesOf, idOf, rows, addRows, place, lengthOf, offsetOf, rowsIn}
-use Rattle.walk.specs.Log.{Out, put, done, wrote, need, next}
+use Rattle.walk.specs.State.{Join, bytesOf, idOf, rows, addRows, endGap, beginGap, place, lengthOf, offsetOf, rowsIn}
+use Rattle.walk.specs.Log.{Out, put, amend, done, wrote, need, next}
 use Rattle.walk.specs.Copy.{isWidth}
 
 -- the offset and the size of row r of a list-view of node i: "Ground 6 if the sum after a row does not fit"
@@ -38,7 +38,7 @@ runsReady x i n c =
 unfoldable pub runNumbers : Join → ℕ → ℕ → ℕ → ℕ → ℕ → ℕ → ℕ → List ℕ → Out
 runNumbers x w i slot n last run count c =
     next (wrote (put (suc i) 1 (rows c (suc i) * w) (clipped w (x .body) (place x (suc i) 3 + w * offsetOf x (suc i) + w * run) count slot (slot + n) last)) c)
-    (λ c2. done (addRows (suc i) count c2))
+    (λ c2. done (endGap i (addRows (suc i) count c2)))
 
 -- n ids of the node h
 abbrev pub nullIds : List ℕ → ℕ → ℕ → ℕ → List ℕ → Out
@@ -55,4 +55,11 @@ unfoldable pub nullEnd : List ℕ → ℕ → ℕ → List ℕ → Out
 nullEnd state i n c =
     need (ltb (rows c i + n) (half (bytesOf state (suc i)))) 7 c
     (next (wrote (put (suc i) 1 (rows c (suc i) * bytesOf state (suc i)) (encode (bytesOf state (suc i)) (rows c i + n))) c)
-    (λ c2. done (addRows (suc i) 1 c2)))
+    (λ c2. done (beginGap i (addRows (suc i) 1 c2))))
+
+-- the end of the last run, n nulls later: it "lengthens the last run"
+unfoldable pub longerEnd : List ℕ → ℕ → ℕ → List ℕ → Out
+longerEnd state i n c =
+    need (leb 1 (rows c (suc i))) 12 c
+    (need (ltb (rows c i + n) (half (bytesOf state (suc i)))) 7 c
+    (wrote (amend (suc i) 1 ((rows c (suc i) - 1) * bytesOf state (suc i)) (encode (bytesOf state (suc i)) (rows c i + n))) c))

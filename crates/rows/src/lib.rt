@@ -12,7 +12,10 @@ ghost use Rattle.walk.specs.Log.{Did};
 ghost use Rattle.walk.specs.Copy.{Walk, isWidth, runsAt};
 ghost use Rattle.walk.specs.Nulls.{nullableChild, noHome};
 ghost use Rattle.leaf_walk.specs.Join.{join};
-ghost use Rattle.rows.specs.Numbers.{listNumbers, denseNumbers, runsReady, runNumbers, nullIds, nullPositions, nullEnd};
+ghost use Rattle.rows.specs.Numbers.{listNumbers, denseNumbers, runsReady, runNumbers, nullIds, nullPositions, nullEnd, longerEnd};
+
+mod gaps;
+
 use run_ends::LogicalRow;
 use run_ends::PhysicalRun;
 use run_ends::Runs;
@@ -239,7 +242,7 @@ pub fn run_numbers(
         LogicalRow(stop),
         last,
     );
-    growth::add_rows(counts, i + 1, count as u64);
+    gaps::count_runs(counts, i, count as u64);
     0
 }
 
@@ -340,6 +343,34 @@ pub fn null_end(
     }
     let o = growth::scale(growth::rows_of(counts, i + 1), w);
     puts::put_number(state, parts, room, write, i + 1, 1, o, w, last + n);
-    growth::add_rows(counts, i + 1, 1);
+    gaps::count_null_run(counts, i);
+    0
+}
+
+// The end of the last run, n nulls later: 12 where there is no run.
+pub fn longer_end(
+    state: &[u64],
+    parts: &[u32],
+    counts: &[u64; 96],
+    room: &mut [u8],
+    write: bool,
+    i: usize,
+    n: u64,
+) -> u8
+    requires { ⌜ i + 2 < 32 ⌝ }
+    requires { ⌜ ((bytesOf (now state) (suc i) ≡ 2 → ⊥) → (bytesOf (now state) (suc i) ≡ 4 → ⊥) → bytesOf (now state) (suc i) ≡ 8) ⌝ }
+    ensures { λ g. ⌜ Did (now (state .entry)) (now (parts .entry)) write (longerEnd (now (state .entry)) i n (now (counts .entry))) (now (room .entry)) g (now (counts .entry)) (now (room .exit)) ⌝ }
+{
+    let runs = growth::rows_of(counts, i + 1);
+    if runs == 0 {
+        return 12;
+    }
+    let w = steps::width_at(state, i + 1);
+    let last = growth::rows_of(counts, i);
+    if !sum_fits(w, last, n) {
+        return 7;
+    }
+    let o = growth::scale(runs - 1, w);
+    puts::put_number(state, parts, room, write, i + 1, 1, o, w, last + n);
     0
 }

@@ -13,7 +13,7 @@ use Rattle.walk.specs.State.{Join, codeOf, endOf, idOf, keepsOf, rows, far}
 use Rattle.walk.specs.Log.{Out, Did, apply, applyIf, put, done, wrote, found, next}
 use Rattle.walk.specs.Leaves.{nullMask, countNulls, nullNumbers, nullString}
 use Rattle.walk.specs.Copy.{copyWalk}
-use Rattle.walk.specs.Nulls.{NullWalk, nullableChild, noHome, nullListView, nullList, nullFields, nullSparse, nullDense, nullRuns, nullData, nullNode, nullWalk}
+use Rattle.walk.specs.Nulls.{NullWalk, nullableChild, noHome, nullListView, nullList, nullFields, nullSparse, nullDense, addRun, growRun, nullRuns, nullData, nullNode, nullWalk}
 use Rattle.leaf_walk.specs.Join.{join}
 use Rattle.parts.specs.Parts.{partsWithin, partsHold}
 use Rattle.trying.proofs.Laws.{hold-alike}
@@ -114,7 +114,7 @@ module _ (state parts parts2 lengths lengths2 places places2 body body2 : List �
       (fun-ext (λ h. ap (next (wrote (put i 1 (rows c i) (replicate n (idOf state h))) c)) (fun-ext (λ c2. fields-state child n (endOf state i) 32 (suc i) c2))))
 
   data-state : (child : NullWalk) (code i n : ℕ) (c : List ℕ) → nullData one child code i n c ≡ nullData other child code i n c
-  unfolding nullData nullNumbers nullString nullListView nullList nullDense nullRuns
+  unfolding nullData nullNumbers nullString nullListView nullList nullDense nullRuns addRun growRun
   data-state child code i n c = rw (sparse-state child i n c)
 
   node-state : (child : NullWalk) (i n : ℕ) (c : List ℕ) → nullNode one child i n c ≡ nullNode other child i n c

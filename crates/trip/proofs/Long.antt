@@ -19,11 +19,11 @@ use Rattle.utils.specs.declared.Extended.{Extended}
 use Rattle.utils.specs.declared.Extended.the-variants.{Fits, Over, Falls}
 use Rattle.run_ends.specs.declared.Runs.{Runs}
 use Rattle.run_ends.specs.declared.Runs.the-variants.{Range, None}
-use Rattle.walk.specs.State.{Join, codeOf, dictionaryOf, endOf, keepsOf, bytesOf, rows, bytes, place, far, beyond, addRows}
-use Rattle.walk.specs.Log.{Entry, put, mask, startOf, inRoom, enter, Log, apply, Out, fail, done, wrote, need, found, next, each}
+use Rattle.walk.specs.State.{Join, codeOf, dictionaryOf, endOf, keepsOf, bytesOf, rows, bytes, gap, place, far, beyond, addRows}
+use Rattle.walk.specs.Log.{Entry, put, mask, amend, startOf, inRoom, enter, Log, apply, Out, fail, done, wrote, need, found, next, each}
 use Rattle.walk.specs.Leaves.{copyBits, copyMask, nullMask, countNulls, copyNumbers, copyKeys, copyViews, nullNumbers, putString, putExtended, copyString, nullString}
 use Rattle.walk.specs.Copy.{Walk, masked, listViewRow, copyListView, putStretch, putList, copyList, copyFields, copySparse, denseTo, denseRow, copyDense, putRuns, runsAt, copyRuns, copyData, copySlots, copyNode, copyWalk}
-use Rattle.walk.specs.Nulls.{NullWalk, nullListView, nullList, nullFields, nullSparse, nullDense, nullRuns, nullData, nullNode, nullWalk}
+use Rattle.walk.specs.Nulls.{NullWalk, nullListView, nullList, nullFields, nullSparse, nullDense, addRun, growRun, nullRuns, nullData, nullNode, nullWalk}
 use Rattle.model.specs.Book.{Call, copy, nulls}
 use Rattle.orders.specs.Order.{Lent, joinOf}
 use Rattle.trip.specs.Walk.{orderWalk, orderStep}
@@ -142,7 +142,7 @@ module _ {m : ℕ} where
       long-put : (w slot n : ℕ) (r : Runs) {c : List ℕ} → Sized m c → Long m (putRuns x walk w i slot n r c)
       long-put w slot n None h = long-fail 12 h
       long-put w slot n (Range start count) h =
-          long-next _ (below (suc (suc i)) (start .0) count _ h) (λ c2 g. long-next _ (long-wrote _ g) (λ c3 k. long-done (sized-set (3 * suc i) _ k)))
+          long-next _ (below (suc (suc i)) (start .0) count _ h) (λ c2 g. long-next _ (long-wrote _ g) (λ c3 k. long-done (sized-set (3 * i + 2) _ (sized-set (3 * suc i) _ k))))
 
       long-runs : (slot n : ℕ) {c : List ℕ} → Sized m c → Long m (copyRuns x walk i slot n c)
       unfolding copyRuns
@@ -193,10 +193,11 @@ module _ {m : ℕ} where
       long-null-dense n h = long-found 32 _ _ _ h (long-need _ 6 h (long-next _ (long-wrote _ h) (λ c2 g. long-next _ (long-wrote _ g) (λ c3 k. below _ n c3 k))))
 
       long-null-runs : (n : ℕ) {c : List ℕ} → Sized m c → Long m (nullRuns x walk i n c)
-      unfolding nullRuns
-      long-null-runs n h =
+      unfolding nullRuns addRun growRun
+      long-null-runs n {c} h =
           long-need _ 12 h
-          (long-next _ (below (suc (suc i)) 1 _ h) (λ c2 g. long-need _ 7 g (long-next _ (long-wrote _ g) (λ c3 k. long-done (sized-set (3 * suc i) _ k)))))
+          (long-cond (eqb (gap c i) 2) (long-need _ 12 h (long-need _ 7 h (long-wrote _ h)))
+          (long-next _ (below (suc (suc i)) 1 _ h) (λ c2 g. long-need _ 7 g (long-next _ (long-wrote _ g) (λ c3 k. long-done (sized-set (3 * i + 2) _ (sized-set (3 * suc i) _ k)))))))
 
       long-null-data : (code n : ℕ) {c : List ℕ} → Sized m c → Long m (nullData x walk code i n c)
       unfolding nullData nullNumbers nullString nullListView nullList
@@ -246,13 +247,18 @@ put-long p vs s h =
     length-pack (length (splice p run (bits s)) / 8) (splice p run (bits s)) ∙ omega (arith, q)
 
 module _ (plan parts : List ℕ) where
+  splice-long : (at o : ℕ) (bs room : List ℕ) → length (cond (inRoom at o (length bs) (length room)) (splice (at + o) bs room) room) ≡ length room
+  unfolding inRoom
+  splice-long at o bs room = go (inRoom at o (length bs) (length room)) refl
+    where
+      go : (t : Bool) → inRoom at o (length bs) (length room) ≡ t → length (cond t (splice (at + o) bs room) room) ≡ length room
+      go true h = length-splice (at + o) bs room (leb-true _ _ (and-right (ltb o beyond && ltb (length bs) beyond) _ h))
+      go false h = refl
+
   enter-long : (e : Entry) (room : List ℕ) → length (enter plan parts e room) ≡ length room
   unfolding enter inRoom
-  enter-long (put i b o bs) room = go (inRoom (startOf plan parts i b) o (length bs) (length room)) refl
-    where
-      go : (t : Bool) → inRoom (startOf plan parts i b) o (length bs) (length room) ≡ t → length (cond t (splice (startOf plan parts i b + o) bs room) room) ≡ length room
-      go true h = length-splice (startOf plan parts i b + o) bs room (leb-true _ _ (and-right (ltb o beyond && ltb (length bs) beyond) _ h))
-      go false h = refl
+  enter-long (put i b o bs) room = splice-long (startOf plan parts i b) o bs room
+  enter-long (amend i b o bs) room = splice-long (startOf plan parts i b) o bs room
   enter-long (mask i p vs) room = go (inRoom (8 * startOf plan parts i 0) p (length vs) (8 * length room)) refl
     where
       go : (t : Bool) → inRoom (8 * startOf plan parts i 0) p (length vs) (8 * length room) ≡ t → length (cond t (putBits (8 * startOf plan parts i 0 + p) vs room) room) ≡ length room

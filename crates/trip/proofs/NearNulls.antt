@@ -7,16 +7,16 @@ use Prim.Native.Nat.{ℕ, zero, suc, _+_, _*_, _-_, min}
 use lib.Dec.{leb, ltb, eqb}
 use Rattle.columnar.specs.Types.{half}
 use Rattle.formats.specs.Code.{isFixed, isString, isView, isListView, isList}
-use Rattle.walk.specs.State.{Join, codeOf, endOf, keepsOf, bytesOf, rows, far, addRows}
+use Rattle.walk.specs.State.{Join, codeOf, endOf, keepsOf, bytesOf, rows, gap, far, addRows}
 use Rattle.walk.specs.Log.{Out, fail, done, need, found, next}
 use Rattle.walk.specs.Leaves.{nullMask, countNulls, nullNumbers, nullString}
 use Rattle.walk.specs.Copy.{isWidth, masked}
-use Rattle.walk.specs.Nulls.{NullWalk, nullableChild, noHome, nullListView, nullList, nullFields, nullSparse, nullDense, nullRuns, nullData, nullNode, nullWalk}
+use Rattle.walk.specs.Nulls.{NullWalk, nullableChild, noHome, nullListView, nullList, nullFields, nullSparse, nullDense, addRun, growRun, nullRuns, nullData, nullNode, nullWalk}
 use Rattle.parts.specs.Parts.{partsHold}
 use Rattle.model.specs.Book.{Call, copy, nulls}
 use Rattle.orders.specs.Order.{Lent, joinOf, sourceCount, sourceLength}
 use Rattle.trying.specs.Alike.{Alike}
-use Rattle.trying.proofs.Laws.{alike-rows, alike-other, hold-alike}
+use Rattle.trying.proofs.Laws.{alike-rows, alike-begun, alike-other, hold-alike}
 use Rattle.trying.proofs.Near.{Near, near-done, near-wrote, near-cond, near-need, near-next, near-copy}
 use Rattle.trip.specs.Walk.{orderWalk, orderStep}
 
@@ -75,13 +75,24 @@ module _ (x : Join) where
         (near-need (ap (λ v. leb (v + n) (half 4)) (h .rows-same _)) 6 h
         (near-next _ _ (near-wrote _ _ h) (λ c2 d2 g. near-next _ _ (near-wrote _ _ g) (λ c3 d3 q. below _ n c3 d3 q))))
 
+    near-add : (w n : ℕ) {c d : List ℕ} → Alike c d → Near (addRun x walk w i n c) (addRun x walk w i n d)
+    unfolding addRun
+    near-add w n h =
+        near-next _ _ (below (suc (suc i)) 1 _ _ h)
+        (λ c2 d2 g. near-need (ap (λ v. ltb (v + n) (half w)) (g .rows-same i)) 7 g
+        (near-next _ _ (near-wrote _ _ g) (λ c3 d3 q. near-done (alike-begun (alike-rows q (suc i) 1) i))))
+
+    near-grow : (w n : ℕ) {c d : List ℕ} → Alike c d → Near (growRun x walk w i n c) (growRun x walk w i n d)
+    unfolding growRun
+    near-grow w n h =
+        near-need (ap (leb 1) (h .rows-same (suc i))) 12 h (near-need (ap (λ v. ltb (v + n) (half w)) (h .rows-same i)) 7 h (near-wrote _ _ h))
+
     near-runs : (n : ℕ) {c d : List ℕ} → Alike c d → Near (nullRuns x walk i n c) (nullRuns x walk i n d)
     unfolding nullRuns
-    near-runs n h =
+    near-runs n {c} {d} h =
         near-need refl 12 h
-        (near-next _ _ (below (suc (suc i)) 1 _ _ h)
-        (λ c2 d2 g. near-need (ap (λ v. ltb (v + n) (half (bytesOf (x .state) (suc i)))) (g .rows-same i)) 7 g
-        (near-next _ _ (near-wrote _ _ g) (λ c3 d3 q. near-done (alike-rows q (suc i) 1)))))
+        (rw (ap (λ v. eqb v 2) (h .bytes-same i))
+        (near-cond (eqb (gap d i) 2) (near-grow (bytesOf (x .state) (suc i)) n h) (near-add (bytesOf (x .state) (suc i)) n h)))
 
     near-data : (code n : ℕ) {c d : List ℕ} → Alike c d → Near (nullData x walk code i n c) (nullData x walk code i n d)
     unfolding nullData

@@ -1,14 +1,15 @@
 -- Counters that agree in rows and bytes, and what is done to both of them. Assumes nothing.
 use mathlib.Core.Path.{_≡_, refl, sym, ap, ap₂, subst, _∙_}
-use mathlib.Core.Bool.{Bool, true}
+use mathlib.Core.Bool.{Bool, true, cond}
 use mathlib.Core.List.{List, [], _∷_}
-use Prim.Native.Nat.{ℕ, zero, suc, _+_, _*_, _≤_, _<_}
+use Prim.Native.Nat.{ℕ, zero, suc, _+_, _*_, _≤_, _<_, min}
 use native.Mathlib.Omega.{arith}
 use lib.ListN.{length, getD, set, length-set}
+use lib.Dec.{eqb}
 use lib.Seq.{getD-set-same, getD-set-other}
 use borrow.Author.Count.{below-more}
 use Rattle.columnar.specs.Test.{every}
-use Rattle.walk.specs.State.{rows, nulls, bytes, grown, top, addRows, addNulls, setBytes}
+use Rattle.walk.specs.State.{rows, nulls, bytes, grown, top, addRows, addNulls, setBytes, endGap, beginGap}
 use Rattle.parts.specs.Parts.{nodesOf, partHolds, partsHold}
 use Rattle.trying.specs.Alike.{Alike, Full}
 
@@ -42,6 +43,14 @@ module _ {c d : List ℕ} (h : Alike c d) (i : ℕ) where
 
   pub alike-bytes : (n : ℕ) → Alike (setBytes i n c) (setBytes i n d)
   alike-bytes n = written (3 * i + 2) n n refl
+
+  -- the gap of a run-end node behind a copy
+  pub alike-gap : Alike (endGap i c) (endGap i d)
+  alike-gap = written (3 * i + 2) _ _ (ap (λ v. min v 1) (h .bytes-same i))
+
+  -- .. and behind an order of nulls
+  pub alike-begun : Alike (beginGap i c) (beginGap i d)
+  alike-begun = written (3 * i + 2) _ _ (ap (λ v. cond (eqb v 0) 0 2) (h .bytes-same i))
 
   -- null counters may be set to anything
   pub alike-other : (v w : ℕ) → Alike (set c (3 * i + 1) v) (set d (3 * i + 1) w)

@@ -18,7 +18,7 @@ use Rattle.walk.specs.Log.{Entry, Out, fail, done, wrote, need, found, next, ea
 use Rattle.walk.specs.Leaves.{copyBits, copyMask, copyNumbers, copyKeys, copyViews, putString, putExtended, copyString}
 use Rattle.walk.specs.Copy.{Walk, masked, listViewRow, copyListView, putStretch, putList, copyList, copyFields, copySparse, denseTo, denseRow, copyDense, putRuns, runsAt, copyRuns, copyData, copySlots, copyNode, copyWalk}
 use Rattle.trying.specs.Alike.{Alike}
-use Rattle.trying.proofs.Laws.{alike-refl, alike-rows, alike-bytes, alike-other}
+use Rattle.trying.proofs.Laws.{alike-refl, alike-rows, alike-bytes, alike-gap, alike-other}
 
 -- ---- walks that answer alike
 
@@ -156,7 +156,7 @@ module _ (x : Join) where
     near-put : (w slot n : ℕ) (r : Runs) {c d : List ℕ} → Alike c d → Near (putRuns x walk w i slot n r c) (putRuns x walk w i slot n r d)
     near-put w slot n None h = near-fail 12 h
     near-put w slot n (Range start count) h =
-        near-next _ _ (below (suc (suc i)) (start .0) count _ _ h) (λ c2 d2 g. near-next _ _ (near-wrote _ _ g) (λ c3 d3 k. near-done (alike-rows k (suc i) count)))
+        near-next _ _ (below (suc (suc i)) (start .0) count _ _ h) (λ c2 d2 g. near-next _ _ (near-wrote _ _ g) (λ c3 d3 k. near-done (alike-gap (alike-rows k (suc i) count) i)))
 
     near-runs : (slot n : ℕ) {c d : List ℕ} → Alike c d → Near (copyRuns x walk i slot n c) (copyRuns x walk i slot n d)
     unfolding copyRuns

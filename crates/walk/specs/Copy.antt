@@ -16,7 +16,7 @@ use Rattle.run_ends.specs.Lookup.{foundRun, runsOf}
 use Rattle.run_ends.specs.Clip.{clipped}
 use Rattle.run_ends.specs.declared.Runs.{Runs}
 use Rattle.run_ends.specs.declared.Runs.the-variants.{Range, None}
-use Rattle.walk.specs.State.{Join, codeOf, dictionaryOf, endOf, idOf, bytesOf, rows, addRows, place, lengthOf, offsetOf, far, slotOf, rowsIn}
+use Rattle.walk.specs.State.{Join, codeOf, dictionaryOf, endOf, idOf, bytesOf, rows, addRows, endGap, place, lengthOf, offsetOf, far, slotOf, rowsIn}
 use Rattle.walk.specs.Log.{Out, put, fail, done, wrote, need, found, next, each}
 use Rattle.walk.specs.Leaves.{copyMask, copyNumbers, copyKeys, copyViews, copyString}
 
@@ -122,7 +122,7 @@ module _ (x : Join) (child : Walk) where
   putRuns w i slot n (Range first count) c =
       next (child (suc (suc i)) (first .0) count c)
       (λ c2. next (wrote (put (suc i) 1 (rows c2 (suc i) * w) (clipped w (x .body) (endsAt w i + w * first .0) count slot (slot + n) (rows c i))) c2)
-      (λ c3. done (addRows (suc i) count c3)))
+      (λ c3. done (endGap i (addRows (suc i) count c3))))
 
   -- the runs of the rows, by the search
   abbrev pub runsAt : ℕ → ℕ → ℕ → ℕ → Runs

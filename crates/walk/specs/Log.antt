@@ -9,10 +9,12 @@ use Rattle.number.specs.Number.{splice}
 use Rattle.bits.specs.Bits.{putBits}
 use Rattle.walk.specs.State.{partOf, beyond}
 
--- one write: bytes into buffer b of node i from its byte o on, or bits into the validity of node i from its bit p on
+-- one write: bytes into buffer b of node i from its byte o on, bits into the validity of node i from its bit p on, or bytes over the last ones of
+-- buffer b of node i, from its byte o on
 pub data Entry : Type 0 where
   put : ℕ → ℕ → ℕ → List ℕ → Entry
   mask : ℕ → ℕ → List ℕ → Entry
+  amend : ℕ → ℕ → ℕ → List ℕ → Entry
 
 abbrev pub Log : Type 0
 Log = List Entry
@@ -30,6 +32,7 @@ module _ (state parts : List ℕ) where
   unfoldable pub enter : Entry → List ℕ → List ℕ
   enter (put i b o bs) room = cond (inRoom (startOf state parts i b) o (length bs) (length room)) (splice (startOf state parts i b + o) bs room) room
   enter (mask i p vs) room = cond (inRoom (8 * startOf state parts i 0) p (length vs) (8 * length room)) (putBits (8 * startOf state parts i 0 + p) vs room) room
+  enter (amend i b o bs) room = cond (inRoom (startOf state parts i b) o (length bs) (length room)) (splice (startOf state parts i b + o) bs room) room
 
   unfoldable pub apply : Log → List ℕ → List ℕ
   apply [] room = room

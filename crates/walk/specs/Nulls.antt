@@ -9,8 +9,8 @@ use Rattle.number.specs.Number.{encode}
 use Rattle.columnar.specs.Types.{half}
 use Rattle.formats.specs.Code.{isFixed, isString, isView, isListView, isList}
 use Rattle.utils.specs.Offsets.{countedUp, repeated}
-use Rattle.walk.specs.State.{Join, codeOf, endOf, idOf, nullableOf, bytesOf, rows, addRows}
-use Rattle.walk.specs.Log.{Out, put, fail, done, wrote, need, found, next}
+use Rattle.walk.specs.State.{Join, codeOf, endOf, idOf, nullableOf, bytesOf, rows, gap, addRows, beginGap}
+use Rattle.walk.specs.Log.{Out, put, amend, fail, done, wrote, need, found, next}
 use Rattle.walk.specs.Leaves.{nullMask, countNulls, nullNumbers, nullString}
 use Rattle.walk.specs.Copy.{isWidth, masked}
 
@@ -57,13 +57,24 @@ module _ (x : Join) (child : NullWalk) where
       (λ c3. child h n c3))))
 
   -- "A nonempty null order adds one run and one null value"; "a run-end node asks its values before 7"
+  unfoldable pub addRun : ℕ → ℕ → ℕ → List ℕ → Out
+  addRun w i n c =
+      next (child (suc (suc i)) 1 c)
+      (λ c2. need (ltb (rows c2 i + n) (half w)) 7 c2
+      (next (wrote (put (suc i) 1 (rows c2 (suc i) * w) (encode w (rows c2 i + n))) c2)
+      (λ c3. done (beginGap i (addRows (suc i) 1 c3)))))
+
+  -- it "lengthens the last run" and "asks the values for nothing"; 12 where there is no run, which no join has
+  unfoldable pub growRun : ℕ → ℕ → ℕ → List ℕ → Out
+  growRun w i n c =
+      need (leb 1 (rows c (suc i))) 12 c
+      (need (ltb (rows c i + n) (half w)) 7 c
+      (wrote (amend (suc i) 1 ((rows c (suc i) - 1) * w) (encode w (rows c i + n))) c))
+
   unfoldable pub nullRuns : ℕ → ℕ → List ℕ → Out
   nullRuns i n c =
       need (ltb (suc (suc i)) 32 && isWidth (bytesOf (x .state) (suc i))) 12 c
-      (next (child (suc (suc i)) 1 c)
-      (λ c2. need (ltb (rows c2 i + n) (half (bytesOf (x .state) (suc i)))) 7 c2
-      (next (wrote (put (suc i) 1 (rows c2 (suc i) * bytesOf (x .state) (suc i)) (encode (bytesOf (x .state) (suc i)) (rows c2 i + n))) c2)
-      (λ c3. done (addRows (suc i) 1 c3)))))
+      (cond (eqb (gap c i) 2) (growRun (bytesOf (x .state) (suc i)) i n c) (addRun (bytesOf (x .state) (suc i)) i n c))
 
   unfoldable pub nullData : ℕ → ℕ → ℕ → List ℕ → Out
   nullData code i n c =

@@ -3,7 +3,7 @@ use mathlib.Core.Bool.{Bool, cond, _&&_}
 use mathlib.Core.List.{List}
 use Prim.Native.Nat.{ℕ, _+_, _*_, _%_, min}
 use lib.ListN.{length, getD, set}
-use lib.Dec.{leb, ltb}
+use lib.Dec.{leb, ltb, eqb}
 use Rattle.formats.specs.Code.{widthOf}
 
 -- ---- the state: 8 words a node for 32 nodes (crate `node_table`), 3 counters a node, and a base for each of 16 sources and 32 nodes
@@ -58,6 +58,10 @@ nulls c i = getD c (3 * i + 1) 0
 abbrev pub bytes : List ℕ → ℕ → ℕ
 bytes c i = getD c (3 * i + 2) 0
 
+-- the third of a run-end node: 0 where each null order adds a run; 1 where it lengthens a last run that null orders alone wrote; 2: and that run is one
+abbrev pub gap : List ℕ → ℕ → ℕ
+gap c i = bytes c i
+
 -- the largest number of 64 bits
 abbrev pub top : ℕ
 top = 18446744073709551615
@@ -74,6 +78,14 @@ addNulls i n c = set c (3 * i + 1) (grown (nulls c i) n)
 
 abbrev pub setBytes : ℕ → ℕ → List ℕ → List ℕ
 setBytes i n c = set c (3 * i + 2) n
+
+-- a copy wrote the last run
+abbrev pub endGap : ℕ → List ℕ → List ℕ
+endGap i c = setBytes i (min (gap c i) 1) c
+
+-- a null order wrote the last run
+abbrev pub beginGap : ℕ → List ℕ → List ℕ
+beginGap i c = setBytes i (cond (eqb (gap c i) 0) 0 2) c
 
 -- a counter or a place that is beyond every room
 abbrev pub beyond : ℕ

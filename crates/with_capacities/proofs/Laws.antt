@@ -19,7 +19,7 @@ use Rattle.parts.specs.Parts.{partTotal, partsPlaced, partsHold}
 use Rattle.trying.proofs.Laws.{hold-alike}
 use Rattle.trying.proofs.Near.{Near}
 use Rattle.orders.specs.Order.{sourceCount}
-use Rattle.plan.specs.Plan.{keepWord, withKeeps, joinedWord, withJoined, baseWord, withBases, planned, Plannable}
+use Rattle.plan.specs.Plan.{keepWord, withKeeps, joinedWord, withJoined, baseWord, withBases, laidOut, planned, Plannable}
 use Rattle.plan.proofs.Words.{sources-are}
 use Rattle.opening.specs.Open.{openWalk, settled, roomPlaced, opening}
 use Rattle.opening.specs.Ask.{asked}
@@ -49,29 +49,29 @@ written-all from to n i h l w = ext-getD 0 to from (w .0 ∙ sym l) (λ j q. w .
 -- ---- the plan
 
 -- it is not about the data buffers of views
-planned-as : (formats schema lengths places buffers body sources : List ℕ) (keep : Bool)
-    → planned formats schema (tables lengths places body) sources keep ≡ planned formats schema (tablesOf lengths places buffers body) sources keep
-unfolding planned withKeeps keepWord withJoined joinedWord withBases baseWord
-planned-as formats schema lengths places buffers body sources keep = refl
+planned-as : (formats schema lengths places buffers body sources : List ℕ) (keep gaps : Bool)
+    → planned formats schema (tables lengths places body) sources keep gaps ≡ planned formats schema (tablesOf lengths places buffers body) sources keep gaps
+unfolding planned laidOut withKeeps keepWord withJoined joinedWord withBases baseWord
+planned-as formats schema lengths places buffers body sources keep gaps = refl
 
-module _ (formats schema lengths places buffers body sources : List ℕ) (keep : Bool) (low : (s : ℕ) → getD sources (2 * s) 0 < 2 ^ 32)
+module _ (formats schema lengths places buffers body sources : List ℕ) (keep gaps : Bool) (low : (s : ℕ) → getD sources (2 * s) 0 < 2 ^ 32)
     {g : ℕ} (e : g ≡ sourcesGround formats schema (tablesOf lengths places buffers body) sources) (h : g ≡ 0) where
   pub can-plan : Plannable (tables lengths places body) sources
   can-plan = plannable formats schema (tablesOf lengths places buffers body) sources low (sym e ∙ h)
 
-  module _ {state : List ℕ} (q : state ≡ planned formats schema (tables lengths places body) sources keep) where
-    pub plan-is : state ≡ planned formats schema (tablesOf lengths places buffers body) sources keep
-    plan-is = q ∙ planned-as formats schema lengths places buffers body sources keep
+  module _ {state : List ℕ} (q : state ≡ planned formats schema (tables lengths places body) sources keep gaps) where
+    pub plan-is : state ≡ planned formats schema (tablesOf lengths places buffers body) sources keep gaps
+    plan-is = q ∙ planned-as formats schema lengths places buffers body sources keep gaps
 
     pub few-sources : sourceCount state ≤ 16
     few-sources =
         let w = can-plan in
-        subst (λ z. sourceCount z ≤ 16) (sym q) (subst (λ z. z ≤ 16) (sym (sources-are formats schema (tables lengths places body) sources keep (w .few) (w .small))) (w .few))
+        subst (λ z. sourceCount z ≤ 16) (sym q) (subst (λ z. z ≤ 16) (sym (sources-are formats schema (tables lengths places body) sources keep gaps (w .few) (w .small))) (w .few))
 
 -- ---- a walk that is tried from counters that answer alike, the parts asked, and the walk made
 
-module _ (formats schema sources : List ℕ) (x : Tables) (keep : Bool) (parts plan counts room : List ℕ)
-    {state : List ℕ} (q : state ≡ planned formats schema x sources keep) (o : Out) {p : Out} (near : Near p o) {g : ℕ} {c1 room1 : List ℕ}
+module _ (formats schema sources : List ℕ) (x : Tables) (keep gaps : Bool) (parts plan counts room : List ℕ)
+    {state : List ℕ} (q : state ≡ planned formats schema x sources keep gaps) (o : Out) {p : Out} (near : Near p o) {g : ℕ} {c1 room1 : List ℕ}
     (d : Did state parts false p room g c1 room1) where
   answers : g ≡ o .ans
   answers = d .answer ∙ near .answer
@@ -80,20 +80,20 @@ module _ (formats schema sources : List ℕ) (x : Tables) (keep : Bool) (parts p
   unfolding applyIf
   same-room = d .bytes
 
-  pub settled-no : (g ≡ 0 → ⊥) → Answers (settled formats schema sources x keep parts plan counts room o) g plan counts room1
+  pub settled-no : (g ≡ 0 → ⊥) → Answers (settled formats schema sources x keep gaps parts plan counts room o) g plan counts room1
   unfolding settled
   settled-no h = rw (ne-eqb (o .ans) 0 (λ z. h (answers ∙ z))) (record { ground = answers; plan = refl; counts = refl; room = same-room })
 
   module _ (h : g ≡ 0) {t : Bool} (e : t ≡ partsHold state c1 parts) where
-    asked-of : t ≡ partsHold (planned formats schema x sources keep) (o .counts) parts
+    asked-of : t ≡ partsHold (planned formats schema x sources keep gaps) (o .counts) parts
     asked-of = e ∙ ap (λ z. partsHold state z parts) (d .counters) ∙ hold-alike state parts (near .counters) ∙ ap (λ z. partsHold z (o .counts) parts) q
 
-    pub settled-over : not t ≡ true → Answers (settled formats schema sources x keep parts plan counts room o) 13 plan counts room1
+    pub settled-over : not t ≡ true → Answers (settled formats schema sources x keep gaps parts plan counts room o) 13 plan counts room1
     unfolding settled
     settled-over f = rw (eq-eqb (o .ans) 0 (sym answers ∙ h), no asked-of f) (record { ground = refl; plan = refl; counts = refl; room = same-room })
 
     pub settled-made : {r : ℕ} {c2 room2 c3 words : List ℕ} → not t ≡ false → Did state parts true o room1 r c2 room2 → c3 ≡ c2 → words ≡ state
-        → Answers (settled formats schema sources x keep parts plan counts room o) r words c3 room2
+        → Answers (settled formats schema sources x keep gaps parts plan counts room o) r words c3 room2
     unfolding settled applyIf
     settled-made f m s w =
         let ans : o .ans ≡ 0 = sym answers ∙ h in
@@ -107,39 +107,39 @@ module _ (formats schema sources : List ℕ) (x : Tables) (keep : Bool) (parts p
 
 -- ---- the grounds before the walk
 
-module _ (formats schema sources : List ℕ) (x : Tables) (keep : Bool) (parts plan counts room : List ℕ) where
-  pub open-large : 4294967295 < length room → Answers (opening formats schema sources x keep parts plan counts room) 9 plan counts room
+module _ (formats schema sources : List ℕ) (x : Tables) (keep gaps : Bool) (parts plan counts room : List ℕ) where
+  pub open-large : 4294967295 < length room → Answers (opening formats schema sources x keep gaps parts plan counts room) 9 plan counts room
   unfolding opening
   open-large h = rw (lt-leb (length room) 4294967295 h) (record { ground = refl; plan = refl; counts = refl; room = refl })
 
   module _ (h : length room ≤ 4294967295) {g : ℕ} (e : g ≡ sourcesGround formats schema x sources) where
-    pub open-sources : (g ≡ 0 → ⊥) → Answers (opening formats schema sources x keep parts plan counts room) g plan counts room
+    pub open-sources : (g ≡ 0 → ⊥) → Answers (opening formats schema sources x keep gaps parts plan counts room) g plan counts room
     unfolding opening
     open-sources f =
         rw (le-leb (length room) 4294967295 h, ne-eqb (sourcesGround formats schema x sources) 0 (λ z. f (e ∙ z)))
         (record { ground = e; plan = refl; counts = refl; room = refl })
 
-    module _ (f : g ≡ 0) {state : List ℕ} (q : state ≡ planned formats schema x sources keep) {t : Bool}
+    module _ (f : g ≡ 0) {state : List ℕ} (q : state ≡ planned formats schema x sources keep gaps) {t : Bool}
         (k : t ≡ (eqb (length plan) 872 && eqb (length counts) 96 && partsPlaced parts (partTotal state) (length room))) where
-      placed : t ≡ roomPlaced formats schema sources x keep parts plan counts room
+      placed : t ≡ roomPlaced formats schema sources x keep gaps parts plan counts room
       unfolding roomPlaced
       placed = k ∙ ap (λ z. eqb (length plan) 872 && eqb (length counts) 96 && partsPlaced parts (partTotal z) (length room)) q
 
       good : eqb (sourcesGround formats schema x sources) 0 ≡ true
       good = eq-eqb (sourcesGround formats schema x sources) 0 (sym e ∙ f)
 
-      pub open-room : not t ≡ true → Answers (opening formats schema sources x keep parts plan counts room) 14 plan counts room
+      pub open-room : not t ≡ true → Answers (opening formats schema sources x keep gaps parts plan counts room) 14 plan counts room
       unfolding opening
       open-room l =
           rw (le-leb (length room) 4294967295 h, good, no placed l) (record { ground = refl; plan = refl; counts = refl; room = refl })
 
       pub open-made : {r : ℕ} {words c bytes : List ℕ} → not t ≡ false
-          → Answers (settled formats schema sources x keep parts plan counts room (openWalk (lent state parts sources (x .lengths) (x .places) (x .body)) (replicate 96 0))) r words c bytes
-          → Answers (opening formats schema sources x keep parts plan counts room) r words c bytes
+          → Answers (settled formats schema sources x keep gaps parts plan counts room (openWalk (lent state parts sources (x .lengths) (x .places) (x .body)) (replicate 96 0))) r words c bytes
+          → Answers (opening formats schema sources x keep gaps parts plan counts room) r words c bytes
       unfolding opening
       open-made {r} {words} {c} {bytes} l d =
           rw (le-leb (length room) 4294967295 h, good, yes placed l)
-          (subst (λ z. Answers (settled formats schema sources x keep parts plan counts room (openWalk (lent z parts sources (x .lengths) (x .places) (x .body)) (replicate 96 0))) r words c bytes) q d)
+          (subst (λ z. Answers (settled formats schema sources x keep gaps parts plan counts room (openWalk (lent z parts sources (x .lengths) (x .places) (x .body)) (replicate 96 0))) r words c bytes) q d)
 
   -- the plan has a join's length, and so have the counters
   pub lengths-are : (b : Bool) {t : Bool} → t ≡ (eqb (length plan) 872 && eqb (length counts) 96 && b) → not t ≡ false → (length plan ≡ 872) × (length counts ≡ 96)
@@ -149,16 +149,16 @@ module _ (formats schema sources : List ℕ) (x : Tables) (keep : Bool) (parts p
 
 -- ---- the question
 
-module _ (formats schema sources : List ℕ) (x : Tables) (keep : Bool) (plan : List ℕ) {g : ℕ} (e : g ≡ sourcesGround formats schema x sources) where
-  pub ask-sources : (g ≡ 0 → ⊥) → Plans (asked formats schema sources x keep plan) g plan
+module _ (formats schema sources : List ℕ) (x : Tables) (keep gaps : Bool) (plan : List ℕ) {g : ℕ} (e : g ≡ sourcesGround formats schema x sources) where
+  pub ask-sources : (g ≡ 0 → ⊥) → Plans (asked formats schema sources x keep gaps plan) g plan
   unfolding asked
   ask-sources f = rw (ne-eqb (sourcesGround formats schema x sources) 0 (λ z. f (e ∙ z))) (record { ground = e; plan = refl })
 
   module _ (f : g ≡ 0) where
-    pub ask-words : (length plan ≡ 872 → ⊥) → Plans (asked formats schema sources x keep plan) 14 plan
+    pub ask-words : (length plan ≡ 872 → ⊥) → Plans (asked formats schema sources x keep gaps plan) 14 plan
     unfolding asked
     ask-words h = rw (eq-eqb (sourcesGround formats schema x sources) 0 (sym e ∙ f), ne-eqb (length plan) 872 h) (record { ground = refl; plan = refl })
 
-    pub ask-made : {state words : List ℕ} → length plan ≡ 872 → state ≡ planned formats schema x sources keep → words ≡ state → Plans (asked formats schema sources x keep plan) 0 words
+    pub ask-made : {state words : List ℕ} → length plan ≡ 872 → state ≡ planned formats schema x sources keep gaps → words ≡ state → Plans (asked formats schema sources x keep gaps plan) 0 words
     unfolding asked
     ask-made h q w = rw (eq-eqb (sourcesGround formats schema x sources) 0 (sym e ∙ f), eq-eqb (length plan) 872 h) (record { ground = refl; plan = w ∙ q })

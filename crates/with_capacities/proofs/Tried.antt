@@ -4,14 +4,20 @@ use mathlib.Core.Bool.{_&&_}
 use mathlib.Core.List.{List}
 use Prim.Native.Nat.{ℕ, suc}
 use lib.Dec.{eqb}
+use Rattle.formats.specs.Code.{isRunEnd}
 use Rattle.walk.specs.State.{word, codeOf, dictionaryOf, lengthOf}
 use Rattle.parts.specs.Parts.{nodesOf, copied, hasOffsets}
 use Rattle.trying.specs.Alike.{Alike}
+use Rattle.trying.proofs.Laws.{alike-bytes}
 use Rattle.trying.proofs.Near.{Near, near-done, near-wrote, near-cond, near-need, near-next, near-each, near-copy}
 use Rattle.orders.specs.Order.{Lent, joinOf, sourceCount}
-use Rattle.opening.specs.Open.{firstOffset, joinSource, joinEntries, openDictionary, openWalk}
+use Rattle.opening.specs.Open.{chosen, beginGaps, firstOffset, joinSource, joinEntries, openDictionary, openWalk}
 
 module _ (x : Lent) where
+  near-gap : (i : ℕ) (c d : List ℕ) → Alike c d → Near (beginGaps x i c) (beginGaps x i d)
+  unfolding beginGaps
+  near-gap i c d h = near-cond (isRunEnd (codeOf (x .plan) i) && chosen (x .plan)) (near-done (alike-bytes h i 1)) (near-done h)
+
   near-offset : (i : ℕ) (c d : List ℕ) → Alike c d → Near (firstOffset x i c) (firstOffset x i d)
   unfolding firstOffset
   near-offset i c d h = near-cond (hasOffsets (codeOf (x .plan) i) && copied (x .plan) i) (near-wrote _ _ h) (near-done h)
@@ -33,5 +39,6 @@ module _ (x : Lent) where
   pub near-open : {c d : List ℕ} → Alike c d → Near (openWalk x c) (openWalk x d)
   unfolding openWalk
   near-open h =
-      near-next _ _ (near-each (firstOffset x) near-offset (nodesOf (x .plan)) 0 h)
-      (λ c2 d2 g. near-each (openDictionary x) near-dictionary (nodesOf (x .plan)) 0 g)
+      near-next _ _ (near-each (beginGaps x) near-gap (nodesOf (x .plan)) 0 h)
+      (λ c1 d1 f. near-next _ _ (near-each (firstOffset x) near-offset (nodesOf (x .plan)) 0 f)
+      (λ c2 d2 g. near-each (openDictionary x) near-dictionary (nodesOf (x .plan)) 0 g))

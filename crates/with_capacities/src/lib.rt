@@ -54,9 +54,10 @@ fn planned_state(
     places: &[u32],
     body: &[u8],
     keep: bool,
+    gaps: bool,
 ) -> [u64; 872]
     requires { ⌜ Plannable (tables (now lengths) (now places) (now body)) (now sources) ⌝ }
-    ensures { λ r. ⌜ r ≡ planned (now (formats .entry)) (now (schema .entry)) (tables (now (lengths .entry)) (now (places .entry)) (now (body .entry))) (now (sources .entry)) keep ⌝ }
+    ensures { λ r. ⌜ r ≡ planned (now (formats .entry)) (now (schema .entry)) (tables (now (lengths .entry)) (now (places .entry)) (now (body .entry))) (now (sources .entry)) keep gaps ⌝ }
 {
     let mut state = [0u64; 872];
     plan::plan(
@@ -67,6 +68,7 @@ fn planned_state(
         places,
         body,
         keep,
+        gaps,
         &mut state,
     );
     state
@@ -98,7 +100,7 @@ fn make(
     room: &mut [u8],
 ) -> u8
     requires { ⌜ (sourceCount (now state) ≤ 16) × (length (now state) ≡ 872) × (length (now plan) ≡ 872) × (length (now counters) ≡ 96) ⌝ }
-    ensures { λ r. ⌜ ((formats schema buffers : List ℕ) (keep : Bool) → now (state .entry) ≡ planned formats schema (tablesOf (now (lengths .entry)) (now (places .entry)) buffers (now (body .entry))) (now (sources .entry)) keep → Answers (settled formats schema (now (sources .entry)) (tablesOf (now (lengths .entry)) (now (places .entry)) buffers (now (body .entry))) keep (now (parts .entry)) (now (plan .entry)) (now (counters .entry)) (now (room .entry)) (openWalk (lent (now (state .entry)) (now (parts .entry)) (now (sources .entry)) (now (lengths .entry)) (now (places .entry)) (now (body .entry))) (replicate 96 0))) r (now (plan .exit)) (now (counters .exit)) (now (room .exit))) ⌝ }
+    ensures { λ r. ⌜ ((formats schema buffers : List ℕ) (keep gaps : Bool) → now (state .entry) ≡ planned formats schema (tablesOf (now (lengths .entry)) (now (places .entry)) buffers (now (body .entry))) (now (sources .entry)) keep gaps → Answers (settled formats schema (now (sources .entry)) (tablesOf (now (lengths .entry)) (now (places .entry)) buffers (now (body .entry))) keep gaps (now (parts .entry)) (now (plan .entry)) (now (counters .entry)) (now (room .entry)) (openWalk (lent (now (state .entry)) (now (parts .entry)) (now (sources .entry)) (now (lengths .entry)) (now (places .entry)) (now (body .entry))) (replicate 96 0))) r (now (plan .exit)) (now (counters .exit)) (now (room .exit))) ⌝ }
 {
     let mut tried = uncounted(state);
     let g = open_walk::open_walk(
@@ -136,7 +138,7 @@ fn make(
     g
 }
 
-// Opens a join of lent columns: 0, or the ground of refusal. Plan and counters are then what every order is given.
+// Opens a join of lent columns: 0, or the ground of refusal. Plan and counters are then what every order is given. `gaps` chooses one run for a gap.
 pub fn try_with_capacities(
     sources: &[u32],
     formats: &[u8],
@@ -146,12 +148,13 @@ pub fn try_with_capacities(
     buffers: &[u32],
     body: &[u8],
     keep: bool,
+    gaps: bool,
     parts: &[u32],
     plan: &mut [u64],
     counters: &mut [u64],
     room: &mut [u8],
 ) -> u8
-    ensures { λ r. ⌜ Answers (opening (now (formats .entry)) (now (schema .entry)) (now (sources .entry)) (tablesOf (now (lengths .entry)) (now (places .entry)) (now (buffers .entry)) (now (body .entry))) keep (now (parts .entry)) (now (plan .entry)) (now (counters .entry)) (now (room .entry))) r (now (plan .exit)) (now (counters .exit)) (now (room .exit)) ⌝ }
+    ensures { λ r. ⌜ Answers (opening (now (formats .entry)) (now (schema .entry)) (now (sources .entry)) (tablesOf (now (lengths .entry)) (now (places .entry)) (now (buffers .entry)) (now (body .entry))) keep gaps (now (parts .entry)) (now (plan .entry)) (now (counters .entry)) (now (room .entry))) r (now (plan .exit)) (now (counters .exit)) (now (room .exit)) ⌝ }
 {
     if 4294967295 < room.len() {
         return 9;
@@ -160,7 +163,7 @@ pub fn try_with_capacities(
     if g != 0 {
         return g;
     }
-    let state = planned_state(sources, formats, schema, lengths, places, body, keep);
+    let state = planned_state(sources, formats, schema, lengths, places, body, keep, gaps);
     if !room_placed(&state, parts, plan.len(), counters.len(), room.len()) {
         return 14;
     }
@@ -187,9 +190,10 @@ pub fn plan_parts(
     buffers: &[u32],
     body: &[u8],
     keep: bool,
+    gaps: bool,
     plan: &mut [u64],
 ) -> u8
-    ensures { λ r. ⌜ Plans (asked (now (formats .entry)) (now (schema .entry)) (now (sources .entry)) (tablesOf (now (lengths .entry)) (now (places .entry)) (now (buffers .entry)) (now (body .entry))) keep (now (plan .entry))) r (now (plan .exit)) ⌝ }
+    ensures { λ r. ⌜ Plans (asked (now (formats .entry)) (now (schema .entry)) (now (sources .entry)) (tablesOf (now (lengths .entry)) (now (places .entry)) (now (buffers .entry)) (now (body .entry))) keep gaps (now (plan .entry))) r (now (plan .exit)) ⌝ }
 {
     let g = columns::sources_ground(sources, formats, schema, lengths, places, buffers, body);
     if g != 0 {
@@ -198,7 +202,7 @@ pub fn plan_parts(
     if plan.len() != 872 {
         return 14;
     }
-    let state = planned_state(sources, formats, schema, lengths, places, body, keep);
+    let state = planned_state(sources, formats, schema, lengths, places, body, keep, gaps);
     store(plan, &state, 872);
     0
 }

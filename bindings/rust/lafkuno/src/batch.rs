@@ -2,7 +2,7 @@
 
 use crate::calls::MOST_ORDERS;
 use crate::types::Kind;
-use crate::{Column, Error, Ground, Join, Metadata, Order, Place};
+use crate::{Choices, Column, Error, Ground, Join, Metadata, Order, Place};
 use std::sync::atomic::{AtomicUsize, Ordering};
 use std::sync::Mutex;
 
@@ -50,11 +50,16 @@ impl Batch {
     /// Joins rows of batches of one schema, which is the first one's: the same orders over every column, all or none. An error names its
     /// column. There may be more sources than a join of columns takes.
     pub fn join(sources: &[&Batch], orders: &[Order], keep_nulls: bool) -> Result<Batch, Error> {
-        Batch::join_limited(sources, orders, keep_nulls, crate::WORK_LIMIT)
+        Batch::join_limited(sources, orders, Choices { keep_nulls, ..Choices::default() }, crate::WORK_LIMIT)
+    }
+
+    /// The same with all choices. Where there are more sources than a join of columns takes, a gap may keep several runs.
+    pub fn join_with(sources: &[&Batch], orders: &[Order], choices: Choices) -> Result<Batch, Error> {
+        Batch::join_limited(sources, orders, choices, crate::WORK_LIMIT)
     }
 
     /// The same with another limit of the work (see [`Join::limit_work`]).
-    pub fn join_limited(sources: &[&Batch], orders: &[Order], keep_nulls: bool, limit: u64) -> Result<Batch, Error> {
+    pub fn join_limited(sources: &[&Batch], orders: &[Order], choices: Choices, limit: u64) -> Result<Batch, Error> {
         let Some(first) = sources.first() else { return Err(Error::Refused(Ground::CeilingPassed)) };
         first.taken()?;
         for (s, batch) in sources.iter().enumerate() {
@@ -64,7 +69,7 @@ impl Batch {
         let mut joined = Batch { rows: rows_of(orders), columns: vec![], metadata: first.metadata.clone() };
         for (k, head) in first.columns.iter().enumerate() {
             let columns: Vec<&Column> = sources.iter().map(|b| &b.columns[k]).collect();
-            let column = join_columns(&columns, orders, keep_nulls, limit).map_err(|e| e.at(|p| p.column = Some(head.field.name.clone())))?;
+            let column = join_columns(&columns, orders, choices, limit).map_err(|e| e.at(|p| p.column = Some(head.field.name.clone())))?;
             joined.columns.push(column);
         }
         Ok(joined)
@@ -107,9 +112,9 @@ fn rows_of(orders: &[Order]) -> u64 {
 }
 
 /// One column; more sources than a join takes are joined in turns.
-fn join_columns(sources: &[&Column], orders: &[Order], keep: bool, limit: u64) -> Result<Column, Error> {
+fn join_columns(sources: &[&Column], orders: &[Order], choices: Choices, limit: u64) -> Result<Column, Error> {
     if sources.len() <= SOURCES {
-        let mut join = Join::open(sources, keep)?;
+        let mut join = Join::open_with(sources, choices)?;
         join.limit_work(limit);
         for (k, list) in orders.chunks(MOST_ORDERS).enumerate() {
             join.orders(list).map_err(|e| e.at(|p| p.order = p.place.take().map(|place| k * MOST_ORDERS + place + 1)))?;
@@ -117,7 +122,7 @@ fn join_columns(sources: &[&Column], orders: &[Order], keep: bool, limit: u64) -
         return Ok(join.finish()?.column);
     }
     // source 0 gives the type; whether nulls are kept is settled by all
-    let keep = keep || sources.iter().any(|c| c.null_count() != 0);
+    let choices = Choices { keep_nulls: choices.keep_nulls || sources.iter().any(|c| c.null_count() != 0), ..choices };
     let mut turns: Vec<(Vec<usize>, Vec<Order>)> = vec![];
     for order in orders {
         let Order::Copy { source, start, end } = *order else {
@@ -141,33 +146,33 @@ fn join_columns(sources: &[&Column], orders: &[Order], keep: bool, limit: u64) -
     let mut parts = vec![];
     for (used, list) in &turns {
         let columns: Vec<&Column> = used.iter().map(|s| sources[*s]).collect();
-        parts.push(join_columns(&columns, list, keep, limit)?);
+        parts.push(join_columns(&columns, list, choices, limit)?);
     }
     if parts.len() < 2 {
         return match parts.pop() {
             Some(part) => Ok(part),
-            None => join_columns(&sources[..1], &[], keep, limit),
+            None => join_columns(&sources[..1], &[], choices, limit),
         };
     }
     let all: Vec<Order> = parts.iter().enumerate().map(|(source, p)| Order::Copy { source, start: 0, end: p.length }).collect();
-    join_columns(&parts.iter().collect::<Vec<_>>(), &all, keep, limit)
+    join_columns(&parts.iter().collect::<Vec<_>>(), &all, choices, limit)
 }
 
-/// One join of many: sources, orders, and whether nulls are kept.
+/// One join of many: sources, orders and choices.
 #[derive(Clone, Debug)]
 pub struct Job<'a> {
     /// The batches, the first of which gives the schema.
     pub sources: Vec<&'a Batch>,
     /// The orders, over every column.
     pub orders: Vec<Order>,
-    /// Whether orders of nulls are taken even where no source has one.
-    pub keep_nulls: bool,
+    /// What is chosen at the opening.
+    pub choices: Choices,
 }
 
 /// Makes many joins on so many threads; `done` is told how many are made. Each answer stands at its job's place: one that is refused
 /// stops no other.
 pub fn join_many(jobs: &[Job], threads: usize, done: &(dyn Fn(usize) + Sync)) -> Vec<Result<Batch, Error>> {
-    run_many(jobs, threads, |job| Batch::join(&job.sources, &job.orders, job.keep_nulls), done)
+    run_many(jobs, threads, |job| Batch::join_with(&job.sources, &job.orders, job.choices), done)
 }
 
 /// The same for any work: `make` of each job, on so many threads.

@@ -97,7 +97,7 @@ extern "C" {
     fn lafkuno_plan_parts(
         sources: *const u32, sources_len: usize, formats: *const u8, formats_len: usize, schema: *const u32, schema_len: usize,
         lengths: *const u64, lengths_len: usize, places: *const u32, places_len: usize, buffers: *const u32, buffers_len: usize,
-        body: *const u8, body_len: usize, keep: u8, plan: *mut u64, plan_len: usize,
+        body: *const u8, body_len: usize, keep: u8, gaps: u8, plan: *mut u64, plan_len: usize,
     ) -> u8;
     fn lafkuno_part_count(plan: *const u64, plan_len: usize) -> u32;
     // u64::MAX where there is no such part
@@ -106,7 +106,7 @@ extern "C" {
     fn lafkuno_open(
         sources: *const u32, sources_len: usize, formats: *const u8, formats_len: usize, schema: *const u32, schema_len: usize,
         lengths: *const u64, lengths_len: usize, places: *const u32, places_len: usize, buffers: *const u32, buffers_len: usize,
-        body: *const u8, body_len: usize, keep: u8, parts: *const u32, parts_len: usize, plan: *mut u64, plan_len: usize,
+        body: *const u8, body_len: usize, keep: u8, gaps: u8, parts: *const u32, parts_len: usize, plan: *mut u64, plan_len: usize,
         counters: *mut u64, counters_len: usize, room: *mut u8, room_len: usize,
     ) -> u8;
     fn lafkuno_copy(
@@ -189,14 +189,14 @@ extern "C" {
 
 // ---- before any room is lent
 
-/// 9 to 12, or 14 where `plan` has not [`PLAN`] numbers; else the plan is written.
+/// 9 to 12, or 14 where `plan` has not [`PLAN`] numbers; else the plan is written. `gaps`: one run for gaps.
 #[inline(always)]
-pub fn plan_parts(x: &Tables, keep: bool, plan: &mut [u64]) -> u8 {
+pub fn plan_parts(x: &Tables, keep: bool, gaps: bool, plan: &mut [u64]) -> u8 {
     unsafe {
         lafkuno_plan_parts(
             x.sources.as_ptr(), x.sources.len(), x.formats.as_ptr(), x.formats.len(), x.schema.as_ptr(), x.schema.len(),
             x.lengths.as_ptr(), x.lengths.len(), x.places.as_ptr(), x.places.len(), x.buffers.as_ptr(), x.buffers.len(),
-            x.body.as_ptr(), x.body.len(), keep as u8, plan.as_mut_ptr(), plan.len(),
+            x.body.as_ptr(), x.body.len(), keep as u8, gaps as u8, plan.as_mut_ptr(), plan.len(),
         )
     }
 }
@@ -218,14 +218,14 @@ pub fn part_at(plan: &[u64], p: usize) -> Option<(usize, usize)> {
 
 // ---- the join
 
-/// Opens a join over lent room: the plan, the counters and the parts are written.
+/// Opens a join over lent room: the plan, the counters and the parts are written. `gaps`: one run for gaps.
 #[inline(always)]
-pub fn open(x: &Tables, keep: bool, parts: &[u32], plan: &mut [u64], counters: &mut [u64], room: &mut [u8]) -> u8 {
+pub fn open(x: &Tables, keep: bool, gaps: bool, parts: &[u32], plan: &mut [u64], counters: &mut [u64], room: &mut [u8]) -> u8 {
     unsafe {
         lafkuno_open(
             x.sources.as_ptr(), x.sources.len(), x.formats.as_ptr(), x.formats.len(), x.schema.as_ptr(), x.schema.len(),
             x.lengths.as_ptr(), x.lengths.len(), x.places.as_ptr(), x.places.len(), x.buffers.as_ptr(), x.buffers.len(),
-            x.body.as_ptr(), x.body.len(), keep as u8, parts.as_ptr(), parts.len(), plan.as_mut_ptr(), plan.len(),
+            x.body.as_ptr(), x.body.len(), keep as u8, gaps as u8, parts.as_ptr(), parts.len(), plan.as_mut_ptr(), plan.len(),
             counters.as_mut_ptr(), counters.len(), room.as_mut_ptr(), room.len(),
         )
     }

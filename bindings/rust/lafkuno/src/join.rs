@@ -33,11 +33,20 @@ fn number(source: usize) -> u32 {
     u32::try_from(source).unwrap_or(u32::MAX)
 }
 
+/// What is chosen when a join is opened.
+#[derive(Clone, Copy, Debug, Default, PartialEq, Eq)]
+pub struct Choices {
+    /// Orders of nulls are taken even where no source has a null.
+    pub keep_nulls: bool,
+    /// An order of nulls lengthens the last run of a run-end node if orders of nulls alone have written it; else each one adds a run.
+    pub one_run_for_gaps: bool,
+}
+
 /// A join: sources, and the orders that were accepted so far. A refused order changes nothing.
 #[derive(Debug)]
 pub struct Join {
     lent: Lent,
-    keep: bool,
+    choices: Choices,
     plan: [u64; PLAN],
     counters: [u64; COUNTERS],
     orders: Vec<Order>,
@@ -67,10 +76,20 @@ impl Join {
         Join::open_lent(Lent::lay(sources)?, keep_nulls)
     }
 
-    /// The same over a body with its tables.
+    /// The same with all choices.
+    pub fn open_with(sources: &[&Column], choices: Choices) -> Result<Join, Error> {
+        Join::open_lent_with(Lent::lay(sources)?, choices)
+    }
+
+    /// [`Join::open`] over a body with its tables.
     pub fn open_lent(lent: Lent, keep_nulls: bool) -> Result<Join, Error> {
+        Join::open_lent_with(lent, Choices { keep_nulls, ..Choices::default() })
+    }
+
+    /// [`Join::open_with`] over a body with its tables.
+    pub fn open_lent_with(lent: Lent, choices: Choices) -> Result<Join, Error> {
         let mut plan = [0; PLAN];
-        let answer = calls::plan_parts(&lent.tables(), keep_nulls, &mut plan);
+        let answer = calls::plan_parts(&lent.tables(), choices.keep_nulls, choices.one_run_for_gaps, &mut plan);
         // logical types are not in the tables
         if matches!(Ground::from_number(answer), None | Some(Ground::TypesDiffer | Ground::BadSource)) {
             if let Some(place) = explain::differ(&lent) {
@@ -82,7 +101,7 @@ impl Join {
         let mut counters = [0; COUNTERS];
         Error::check(calls::measure_open(&plan, &lent.tables(), &mut counters)).map_err(tell)?;
         let work = Work::new(&lent);
-        let mut join = Join { lent, keep: keep_nulls, plan, counters, orders: vec![], given: 0, work, room: 0 };
+        let mut join = Join { lent, choices, plan, counters, orders: vec![], given: 0, work, room: 0 };
         join.room = join.room_for(&join.counters)?;
         Ok(join)
     }
@@ -200,11 +219,11 @@ impl Join {
     /// Marks the column nullable where a source is, or nulls are kept; the values of runs too. The type depends on no data.
     fn mark(&self, column: &mut Column) {
         let flag = |s: &[u32]| self.lent.schema.get(5 * s[0] as usize + 2).is_some_and(|flags| flags & 2 != 0);
-        column.nullable |= self.keep || self.lent.sources.chunks_exact(2).any(flag);
+        column.nullable |= self.choices.keep_nulls || self.lent.sources.chunks_exact(2).any(flag);
         let mut below = column;
         while below.format == "+r" && below.children.len() == 2 {
             below = &mut below.children[1];
-            below.nullable |= self.keep;
+            below.nullable |= self.choices.keep_nulls;
         }
     }
 
@@ -215,7 +234,8 @@ impl Join {
         let x = self.lent.tables();
         let (mut plan, mut counters) = ([0; PLAN], [0; COUNTERS]);
         let mut room = vec![0; bytes as usize];
-        if calls::open(&x, self.keep, &parts, &mut plan, &mut counters, &mut room) != 0 {
+        let Choices { keep_nulls, one_run_for_gaps } = self.choices;
+        if calls::open(&x, keep_nulls, one_run_for_gaps, &parts, &mut plan, &mut counters, &mut room) != 0 {
             return inconsistent("the opening was refused after it was measured");
         }
         for list in self.orders.chunks(MOST_ORDERS) {

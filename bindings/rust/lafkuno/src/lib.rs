@@ -50,7 +50,7 @@ pub use batch::{join_many, run_many, Batch, Job};
 pub use buffer::Buffer;
 pub use column::{Column, Field, Metadata};
 pub use frame::{frame, Frame};
-pub use join::{Join, Joined, Order, Reader, Runs};
+pub use join::{Choices, Join, Joined, Order, Reader, Runs};
 pub use lent::Lent;
 pub use refusal::{Cause, Error, Ground, Place};
 pub use rows::Row;

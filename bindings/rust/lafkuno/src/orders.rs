@@ -1,6 +1,7 @@
 //! Orders over Arrow files as text (docs/USING.md).
 
 use crate::text::{range, utf8, without_comment, Mistake, Order, What};
+use crate::Choices;
 
 /// One join of a list: where its rows go, and its orders.
 #[derive(Clone, Debug, PartialEq, Eq)]
@@ -16,8 +17,8 @@ pub struct Trip {
 /// What a file of orders says.
 #[derive(Clone, Debug, PartialEq, Eq)]
 pub struct Orders {
-    /// Whether orders of nulls are taken even where no source has one.
-    pub keep_nulls: bool,
+    /// What is chosen at the openings.
+    pub choices: Choices,
     /// The joins: one, or as many as `out FILE` begins.
     pub trips: Vec<Trip>,
 }
@@ -37,7 +38,11 @@ impl Orders {
         let rest = rest.trim();
         let what = match word {
             "keep" if rest == "nulls" => {
-                self.keep_nulls = true;
+                self.choices.keep_nulls = true;
+                return Ok(());
+            }
+            "one" if rest == "run for gaps" => {
+                self.choices.one_run_for_gaps = true;
                 return Ok(());
             }
             "out" if rest.is_empty() => return Err("a file is due: out FILE".into()),
@@ -54,7 +59,7 @@ impl Orders {
                 What::Copy { source, start, end }
             }
             "nulls" => What::Nulls(rest.parse().map_err(|_| "a count is due: nulls N".to_string())?),
-            _ => return Err(format!("`{line}`: keep nulls, out, copy or nulls is due")),
+            _ => return Err(format!("`{line}`: keep nulls, one run for gaps, out, copy or nulls is due")),
         };
         if self.trips.is_empty() {
             self.trips.push(Trip { line: number, out: None, orders: vec![] });
@@ -68,7 +73,7 @@ impl Orders {
 
 /// Reads a file of orders over these Arrow files.
 pub fn read_orders(bytes: &[u8], files: &[&str]) -> Result<Orders, Mistake> {
-    let mut orders = Orders { keep_nulls: false, trips: vec![] };
+    let mut orders = Orders { choices: Choices::default(), trips: vec![] };
     let mut last = 1;
     for (k, line) in utf8(bytes)?.lines().enumerate() {
         let line = without_comment(line).trim();
@@ -91,12 +96,22 @@ mod tests {
     fn orders_name_their_files() {
         let files = ["in/a.arrow", "in/b.arrow", "out/b.arrow"];
         let orders = read_orders(b"keep nulls\nout t1\ncopy a 1..2\ncopy a.arrow 3..4 # more\ncopy 2 0..1\n\nout t 2\nnulls 3", &files).unwrap();
-        assert!(orders.keep_nulls);
+        assert_eq!(orders.choices, Choices { keep_nulls: true, one_run_for_gaps: false });
+        let both = read_orders(b"one run for gaps\nnulls 3\nkeep nulls", &files).unwrap();
+        assert_eq!(both.choices, Choices { keep_nulls: true, one_run_for_gaps: true });
         let sources = |t: &Trip| t.orders.iter().map(|o| o.what).collect::<Vec<_>>();
         assert_eq!(sources(&orders.trips[1]), [What::Nulls(3)]);
         let copy = |source, start| What::Copy { source, start, end: start + 1 };
         assert_eq!(sources(&orders.trips[0]), [copy(0, 1), copy(0, 3), copy(2, 0)]);
-        for (text, line) in [("copy b 0..1", 1), ("\nnulls x", 2), ("out t\nout t", 2), ("keep nulls\n", 1), ("copy c 0..1", 1), ("type i", 1)] {
+        for (text, line) in [
+            ("copy b 0..1", 1),
+            ("\nnulls x", 2),
+            ("out t\nout t", 2),
+            ("keep nulls\n", 1),
+            ("copy c 0..1", 1),
+            ("type i", 1),
+            ("one run\nnulls 1", 1),
+        ] {
             assert_eq!(read_orders(text.as_bytes(), &files).unwrap_err().line, line, "{text}");
         }
     }

@@ -3,7 +3,7 @@
 use crate::build::shape;
 pub use crate::orders::{read_orders, Orders, Trip};
 pub use crate::values::{rows, show};
-use crate::{Column, Row, Type};
+use crate::{Choices, Column, Row, Type};
 
 /// An order, with the line that gives it.
 #[derive(Clone, Debug, PartialEq, Eq)]
@@ -26,8 +26,8 @@ pub use crate::Order as What;
 pub struct Description {
     /// The type of all sources.
     pub ty: Type,
-    /// Whether orders of nulls are taken even where no source has one.
-    pub keep_nulls: bool,
+    /// What is chosen at the opening.
+    pub choices: Choices,
     /// The sources with their names.
     pub sources: Vec<(String, Column)>,
     /// The orders.
@@ -74,7 +74,7 @@ pub(crate) fn without_comment(line: &str) -> &str {
 #[derive(Default)]
 struct File {
     ty: Option<Type>,
-    keep: bool,
+    choices: Choices,
     share: bool,
     names: Vec<String>,
     rows: Vec<Vec<Row>>,
@@ -97,7 +97,8 @@ impl File {
                 shape(&ty).map_err(|e| e.to_string())?;
                 self.ty = Some(ty);
             }
-            "keep" if rest == "nulls" => self.keep = true,
+            "keep" if rest == "nulls" => self.choices.keep_nulls = true,
+            "one" if rest == "run for gaps" => self.choices.one_run_for_gaps = true,
             "share" if rest == "dictionaries" => self.share = true,
             "source" if ordered => return Err("sources stand before the first order".into()),
             "source" if rest.is_empty() || rest.contains(char::is_whitespace) => return Err("a source has a name of one word".into()),
@@ -135,7 +136,7 @@ impl File {
             "trip" => self.trip = Some(number),
             "end" if self.trip.take().is_none() => return Err("`trip` stands before its `end`".into()),
             "end" => {}
-            _ => return Err(format!("`{line}`: type, keep nulls, share dictionaries, source, rows, slice, copy, nulls, trip or end is due")),
+            _ => return Err(format!("`{line}`: type, keep nulls, one run for gaps, share dictionaries, source, rows, slice, copy, nulls, trip or end is due")),
         }
         Ok(())
     }
@@ -166,7 +167,7 @@ impl File {
             };
             sources.push((name, column));
         }
-        Ok(Description { ty, keep_nulls: self.keep, sources, orders: self.orders })
+        Ok(Description { ty, choices: self.choices, sources, orders: self.orders })
     }
 }
 

@@ -1,6 +1,6 @@
 //! Arrow files by the command: joined over every column, shown, and refused as a whole.
 
-use lafkuno::{ipc, join_many, text, Batch, Column, Field, Job, Order, Type};
+use lafkuno::{ipc, join_many, text, Batch, Choices, Column, Field, Job, Order, Type};
 use std::path::PathBuf;
 use std::process::{Command, Output};
 
@@ -126,8 +126,9 @@ fn many_batches_are_joined_in_turns() {
 #[test]
 fn many_joins_answer_in_their_places() {
     let [a, b] = vans();
-    let jobs: Vec<Job> =
-        (0..50).map(|k| Job { sources: vec![&a, &b], orders: vec![Order::Copy { source: 1, start: k % 5, end: 3 }], keep_nulls: false }).collect();
+    let jobs: Vec<Job> = (0..50)
+        .map(|k| Job { sources: vec![&a, &b], orders: vec![Order::Copy { source: 1, start: k % 5, end: 3 }], choices: Choices::default() })
+        .collect();
     let told = std::sync::Mutex::new(vec![]);
     let answers = join_many(&jobs, 3, &|n| told.lock().unwrap().push(n));
     for (k, answer) in answers.iter().enumerate() {

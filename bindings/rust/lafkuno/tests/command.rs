@@ -61,3 +61,13 @@ fn the_demo_books_two_kilometres() {
     assert!(text(&output.stdout).contains("Booked on the trip: 2000 m, 270 ml."));
     assert!(output.status.success());
 }
+
+#[test]
+fn gaps_are_one_run_where_the_file_says_so() {
+    let file = |line: &str| format!("type +r(i, C?)\nkeep nulls\n{line}source a\nrows 1 1\ncopy a 0..2\nnulls 2\nnulls 1\n");
+    for (line, ends) in [("", "0200000004000000 05000000"), ("one run for gaps\n", "0200000005000000")] {
+        let output = told(&["join", "--buffers", "-"], file(line).as_bytes());
+        assert!(text(&output.stdout).contains(&format!("  buffer 1 {ends}\n")), "{}", text(&output.stdout));
+        assert!(text(&output.stdout).starts_with("1\n1\nnull\nnull\nnull\n\n") && output.status.success());
+    }
+}

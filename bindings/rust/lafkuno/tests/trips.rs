@@ -33,11 +33,11 @@ impl State {
     fn open(sources: &[&Column], size: u32) -> State {
         let lent = Lent::lay(sources).unwrap();
         let (mut plan, mut counters) = (vec![0; PLAN], vec![0; COUNTERS]);
-        assert_eq!(calls::plan_parts(&lent.tables(), true, &mut plan), 0);
+        assert_eq!(calls::plan_parts(&lent.tables(), true, false, &mut plan), 0);
         let count = calls::part_count(&plan) as u32;
         let parts: Vec<u32> = (0..count).flat_map(|p| [p * size, size]).collect();
         let mut room = vec![238; (count * size) as usize];
-        assert_eq!(calls::open(&lent.tables(), true, &parts, &mut plan, &mut counters, &mut room), 0);
+        assert_eq!(calls::open(&lent.tables(), true, false, &parts, &mut plan, &mut counters, &mut room), 0);
         State { lent, parts, plan, counters, room }
     }
 

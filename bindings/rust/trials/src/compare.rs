@@ -111,7 +111,7 @@ impl Trial<'_> {
         let arrays: Vec<ArrayData> = self.sources.iter().map(|c| convert.array(c)).collect();
         let opened = sizes(&arrays, self.keep, self.orders);
         let mut plan = Guard::new(&[7; PLAN]);
-        let answer = calls::plan_parts(&lent.tables(), self.keep, plan.get_mut());
+        let answer = calls::plan_parts(&lent.tables(), self.keep, false, plan.get_mut());
         same("plan_parts", answer, 0)?;
         let mut counters = Guard::new(&[9; COUNTERS]);
         let full = match opened {
@@ -159,7 +159,7 @@ impl Trial<'_> {
         let mut plan = Guard::new(&[7; PLAN]);
         let mut counters = Guard::new(&[9; COUNTERS]);
         let parts = Guard::new(parts);
-        let answer = calls::open(&x, self.keep, parts.get(), plan.get_mut(), counters.get_mut(), room.get_mut());
+        let answer = calls::open(&x, self.keep, false, parts.get(), plan.get_mut(), counters.get_mut(), room.get_mut());
         *self.seen.answers.entry(("opening", answer)).or_default() += 1;
         let due = if holds(&mutable.part_sizes()) { 0 } else { 13 };
         same("ground of the opening", answer, due)?;

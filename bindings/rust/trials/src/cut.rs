@@ -3,9 +3,9 @@
 use crate::compare::same;
 use crate::generate::{orders, Generate, Order};
 use crate::random::Random;
-use lafkuno::{Column, Error, Join};
+use lafkuno::{Choices, Column, Error, Join};
 
-fn give(join: &mut Join, order: Order) -> Result<(), Error> {
+pub fn give(join: &mut Join, order: Order) -> Result<(), Error> {
     match order {
         Order::Copy { source, start, end } => join.copy(source as usize, start..end),
         Order::Nulls(n) => join.nulls(n),
@@ -38,7 +38,8 @@ pub fn cut(seed: u64) -> Result<bool, String> {
     let Order::Copy { source, start, end } = list[last] else { return Ok(false) };
     let middle = start + random.below(end - start + 1);
     let describe = |what: String| format!("seed {seed}, type {ty}, {source}: {start}..{middle}..{end} after {:?}: {what}", &list[..last]);
-    let open = || Join::open(&sources.iter().collect::<Vec<_>>(), true);
+    let choices = Choices { keep_nulls: true, one_run_for_gaps: random.chance(50) };
+    let open = || Join::open_with(&sources.iter().collect::<Vec<_>>(), choices);
     let (Ok(mut single), Ok(mut halves)) = (open(), open()) else { return Ok(false) };
     for &order in &list[..last] {
         same("an earlier answer", give(&mut single, order).is_ok(), give(&mut halves, order).is_ok()).map_err(describe)?;

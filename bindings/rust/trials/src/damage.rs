@@ -47,7 +47,7 @@ impl Memory {
             Call::Nulls(n) => Call::MeasureNulls(n),
             Call::List(words) => Call::MeasureList(words),
             Call::OpenColumn(first, n) if before.tree.len() >= TREE => Call::Ground(first, n),
-            Call::Open(keep) if answer == 0 => Call::Plan(keep),
+            Call::Open(keep, gaps) if answer == 0 => Call::Plan(keep, gaps),
             _ => return Ok(()),
         };
         let after = self.picture();
@@ -56,7 +56,7 @@ impl Memory {
         let (plan, counters) = (self.plan.get().to_vec(), self.counters.get().to_vec());
         self.restore(&after);
         match call {
-            Call::Open(_) => same("the plan", plan, after.plan),
+            Call::Open(..) => same("the plan", plan, after.plan),
             // an order before the one that is refused may be too much for its part
             Call::List(_) if measured != 0 => same("its answer", [measured, 13, 14].contains(&answer), true),
             Call::Copy(..) | Call::Nulls(_) | Call::List(_) if measured == 0 => {
@@ -124,13 +124,13 @@ pub fn damaged(seed: u64, answers: &mut Answers) -> Result<(), String> {
     let rows: Vec<u64> = sources.iter().map(|c| c.length).collect();
     let align = r.pick(&[1, 8]);
     let lent = Lent::lay_aligned(&sources.iter().collect::<Vec<_>>(), align).map_err(|e| e.to_string())?;
-    let keep = r.chance(50);
+    let (keep, gaps) = (r.chance(50), r.chance(50));
     let describe = |what: String| format!("seed {seed}, type {ty}: {what}");
 
     // room for some rows
     let mut plan = [0; PLAN];
     let mut counters = [0; COUNTERS];
-    calls::plan_parts(&lent.tables(), keep, &mut plan);
+    calls::plan_parts(&lent.tables(), keep, gaps, &mut plan);
     calls::measure_open(&plan, &lent.tables(), &mut counters);
     let (mut parts, mut end) = (vec![], 0);
     for p in 0..calls::part_count(&plan) as u32 {
@@ -150,7 +150,7 @@ pub fn damaged(seed: u64, answers: &mut Answers) -> Result<(), String> {
     }
     let (first, n) = (lent.sources[0], lent.sources[1]);
     let base = lent.body.len() as u32;
-    let mut list = vec![Call::Ground(first, n), Call::OpenColumn(first, n), Call::Plan(keep), Call::MeasureOpen, Call::Open(keep)];
+    let mut list = vec![Call::Ground(first, n), Call::OpenColumn(first, n), Call::Plan(keep, gaps), Call::MeasureOpen, Call::Open(keep, gaps)];
     for _ in 0..r.below(5) {
         let source = r.below(sources.len() as u64 + 1) as u32;
         let most = rows.get(source as usize).copied().unwrap_or(3);
@@ -170,13 +170,13 @@ pub fn damaged(seed: u64, answers: &mut Answers) -> Result<(), String> {
         let before = memory.picture();
         let answer = memory.check(call, answers).map_err(describe)?;
         match call {
-            Call::Plan(_) if [9, 10, 11, 12].contains(&answer) => {
+            Call::Plan(..) if [9, 10, 11, 12].contains(&answer) => {
                 let error = Join::open_lent(memory.lent(), keep).err().ok_or_else(|| describe("opened all the same".into()))?;
                 same("the ground", error.ground().map(|g| g.number()), Some(answer)).map_err(describe)?;
                 let told = error.place().is_some_and(|p| !p.found.is_empty());
                 same(&format!("a place for: {error}"), told, true).map_err(describe)?;
             }
-            Call::Plan(_) if answer == 0 => accepted(memory.lent(), keep).map_err(|e| describe(format!("accepted: {e}")))?,
+            Call::Plan(..) if answer == 0 => accepted(memory.lent(), keep).map_err(|e| describe(format!("accepted: {e}")))?,
             Call::MeasureOpen | Call::MeasureCopy(..) | Call::MeasureNulls(_) | Call::MeasureList(_) => memory.restore(&before),
             _ => {}
         }

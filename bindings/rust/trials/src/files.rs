@@ -3,7 +3,7 @@
 use crate::compare::same;
 use crate::generate::Generate;
 use crate::random::Random;
-use lafkuno::{ipc, Batch, Column, Error, Field, Order};
+use lafkuno::{ipc, Batch, Choices, Column, Error, Field, Order};
 use std::collections::BTreeMap;
 
 /// How often each thing came of a damaged file.
@@ -102,7 +102,7 @@ fn damaged(mut bytes: Vec<u8>) -> Result<&'static str, String> {
     let sources: Vec<&Batch> = batches.iter().collect();
     let copies = sources.iter().enumerate().map(|(source, b)| Order::Copy { source, start: 0, end: b.rows.min(50) });
     let orders: Vec<Order> = copies.collect();
-    let joined = match Batch::join_limited(&sources, &orders, true, 1 << 20) {
+    let joined = match Batch::join_limited(&sources, &orders, Choices { keep_nulls: true, ..Choices::default() }, 1 << 20) {
         Ok(joined) => joined,
         Err(e) if e.ground().is_some() => return Ok("refused by the opening"),
         Err(Error::TooMuchWork { .. } | Error::TooLarge { .. }) => return Ok("too large"),

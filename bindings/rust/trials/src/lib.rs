@@ -5,6 +5,7 @@ pub mod convert;
 pub mod cut;
 pub mod damage;
 pub mod files;
+pub mod gaps;
 pub mod generate;
 pub mod guard;
 pub mod memory;

@@ -40,8 +40,9 @@ pub struct Picture {
 
 #[derive(Clone, Copy, Debug)]
 pub enum Call {
-    Plan(bool),
-    Open(bool),
+    /// Whether nulls are kept, and whether there is one run for gaps.
+    Plan(bool, bool),
+    Open(bool, bool),
     Copy(u32, u64, u64),
     Nulls(u64),
     List([u64; 12]),
@@ -57,8 +58,8 @@ pub enum Call {
 impl Call {
     pub fn name(self) -> &'static str {
         match self {
-            Call::Plan(_) => "plan_parts",
-            Call::Open(_) => "open",
+            Call::Plan(..) => "plan_parts",
+            Call::Open(..) => "open",
             Call::Copy(..) => "copy",
             Call::Nulls(_) => "nulls",
             Call::List(_) => "orders",
@@ -169,8 +170,8 @@ impl Memory {
         };
         let (plan, parts, counters, room) = (&mut self.plan, self.parts.get(), &mut self.counters, &mut self.room);
         match call {
-            Call::Plan(keep) => calls::plan_parts(&x, keep, plan.get_mut()),
-            Call::Open(keep) => calls::open(&x, keep, parts, plan.get_mut(), counters.get_mut(), room.get_mut()),
+            Call::Plan(keep, gaps) => calls::plan_parts(&x, keep, gaps, plan.get_mut()),
+            Call::Open(keep, gaps) => calls::open(&x, keep, gaps, parts, plan.get_mut(), counters.get_mut(), room.get_mut()),
             Call::Copy(source, start, end) => calls::copy(plan.get(), parts, &x, counters.get_mut(), room.get_mut(), source, start, end),
             Call::Nulls(n) => calls::nulls(plan.get(), parts, counters.get_mut(), room.get_mut(), n),
             Call::List(words) => calls::orders(plan.get(), parts, &x, counters.get_mut(), room.get_mut(), &words).ground,

@@ -4,7 +4,7 @@ use crate::compare::same;
 use crate::generate::{orders, Generate, Order};
 use crate::random::Random;
 use lafkuno::calls::{self, Ended, COUNTERS, PLAN};
-use lafkuno::{Join, Lent};
+use lafkuno::{Choices, Join, Lent};
 
 /// What a join changes.
 #[derive(Clone, Debug, PartialEq)]
@@ -45,11 +45,13 @@ pub fn trips(seed: u64, seen: &mut Lists) -> Result<(), String> {
     let ty = generate.ty();
     let sources = generate.sources(&ty);
     let list = orders(&mut random, &ty, &sources);
+    let choices = Choices { keep_nulls: true, one_run_for_gaps: random.chance(50) };
+    let gaps = choices.one_run_for_gaps;
     let describe = |what: String| format!("seed {seed}, type {ty}, lists of {list:?}: {what}");
     let Ok(lent) = Lent::lay(&sources.iter().collect::<Vec<_>>()) else { return Ok(()) };
     let x = lent.tables();
     let (mut plan, mut counters) = ([0; PLAN], vec![0; COUNTERS]);
-    if calls::plan_parts(&x, true, &mut plan) != 0 || calls::measure_open(&plan, &x, &mut counters) != 0 {
+    if calls::plan_parts(&x, true, gaps, &mut plan) != 0 || calls::measure_open(&plan, &x, &mut counters) != 0 {
         return Ok(());
     }
     let measure = |counters: &mut [u64], order: Order| match order {
@@ -73,11 +75,11 @@ pub fn trips(seed: u64, seen: &mut Lists) -> Result<(), String> {
     }
     let mut state = State { counters: vec![0; COUNTERS], room: vec![238; end as usize] };
     let mut opened = [0; PLAN];
-    if calls::open(&x, true, &parts, &mut opened, &mut state.counters, &mut state.room) != 0 {
+    if calls::open(&x, true, gaps, &parts, &mut opened, &mut state.counters, &mut state.room) != 0 {
         return Ok(());
     }
     same("the plan", opened, plan).map_err(describe)?;
-    let mut join = Join::open(&sources.iter().collect::<Vec<_>>(), true).map_err(|e| describe(e.to_string()))?;
+    let mut join = Join::open_with(&sources.iter().collect::<Vec<_>>(), choices).map_err(|e| describe(e.to_string()))?;
     let mut rest = &list[..];
     while !rest.is_empty() {
         let (trip, behind) = rest.split_at(1 + random.size(rest.len().min(6)));

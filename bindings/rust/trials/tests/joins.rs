@@ -47,6 +47,15 @@ fn a_kept_dictionary_drops_idle_validity() {
 }
 
 #[test]
+fn gaps_are_one_run() {
+    let mut grown = trials::gaps::Grown::default();
+    for seed in 1..=500 {
+        trials::gaps::gaps(seed, &mut grown).unwrap();
+    }
+    assert!(450 < grown.joins && 30 < grown.grown && 30 < grown.added);
+}
+
+#[test]
 fn stored_wider_the_rows_are_the_same() {
     let accepted = (1..=500).filter(|seed| trials::wider::wider(*seed).unwrap()).count();
     assert!(400 < accepted);

@@ -10,7 +10,7 @@ use Rattle.walk.specs.Nulls.{nullFields, nullWalk}
 use Rattle.walk.proofs.Laws.{Rest}
 use Rattle.leaf_walk.specs.Join.{join}
 use Rattle.rows.proofs.Laws.{ends-ready}
-use Rattle.extend_nulls.proofs.Laws.{at-none, at-zero, at-out, at-data, at-valid, at-done, leaf-code, to-sparse, to-dense, to-runs, fields-none, fields-over, fields-stop, fields-more, sparse-none, sparse-stop, sparse-go, dense-none, dense-stop, dense-go, runs-none, runs-stop, runs-go}
+use Rattle.extend_nulls.proofs.Laws.{at-none, at-zero, at-out, at-data, at-valid, at-done, leaf-code, to-sparse, to-dense, to-runs, fields-none, fields-over, fields-stop, fields-more, sparse-none, sparse-stop, sparse-go, dense-none, dense-stop, dense-go, runs-none, runs-grow, runs-stop, runs-go}
 use Prim.Native.Nat.{ℕ, _<_}
 use borrow.Fn.Kinds.{In}
 use borrow.Fn.PlainCycle.{Measures, is, falls, and}
@@ -30,11 +30,13 @@ use Rattle.extend_nulls.proofs.extend_nulls_sparse.Reads as extend-null
 use Rattle.extend_nulls.proofs.extend_nulls_sparse.Kinds as extend-nulls-sparse-kinds
 use Rattle.extend_nulls.proofs.+extend_nulls+extend_nulls_data+extend_nulls_dense+extend_nulls_run+extend_nulls_sparse.Lts-extend_nulls_sparse as extend-nulls-sparse-lts
 use Rattle.growth.proofs.add_rows.Reads as add-rows-reads
+use Rattle.growth.proofs.bytes_of.Reads as bytes-of-reads
 use Rattle.growth.proofs.code_of.Reads as code-of-reads
 use Rattle.growth.proofs.end_of.Reads as end-of-reads
 use Rattle.leaf_data.proofs.null_leaf.Reads as null-leaf-reads
 use Rattle.leaf_data.proofs.null_validity.Reads as null-validity-reads
 use Rattle.rows.proofs.has_ends.Reads as has-ends-reads
+use Rattle.rows.proofs.longer_end.Reads as longer-end-reads
 use Rattle.rows.proofs.no_home.Reads as no-home-reads
 use Rattle.rows.proofs.null_end.Reads as null-end-reads
 use Rattle.rows.proofs.null_home.Reads as null-home-reads
@@ -151,7 +153,7 @@ abbrev extend-nulls-dense-cs : ℕ → extend-nulls-dense-lts.Claims
 extend-nulls-dense-cs t = (null-home-reads.Asked, null-home-reads.Learnt, no-home-reads.Asked, no-home-reads.Learnt, null-positions-reads.Asked, null-positions-reads.Learnt, extend-nulls-below t, extend-nulls.Post)
 
 abbrev extend-nulls-run-cs : ℕ → extend-nulls-run-lts.Claims
-extend-nulls-run-cs t = (has-ends-reads.Asked, has-ends-reads.Learnt, extend-nulls-below t, extend-nulls.Post, null-end-reads.Asked, null-end-reads.Learnt)
+extend-nulls-run-cs t = (has-ends-reads.Asked, has-ends-reads.Learnt, bytes-of-reads.Asked, bytes-of-reads.Learnt, longer-end-reads.Asked, longer-end-reads.Learnt, extend-nulls-below t, extend-nulls.Post, null-end-reads.Asked, null-end-reads.Learnt)
 
 abbrev extend-nulls-sparse-cs : ℕ → extend-nulls-sparse-lts.Claims
 extend-nulls-sparse-cs t = (null-home-reads.Asked, null-home-reads.Learnt, no-home-reads.Asked, no-home-reads.Learnt, null-ids-reads.Asked, null-ids-reads.Learnt, end-of-reads.Asked, end-of-reads.Learnt, extend-nulls-below t, extend-nulls.Post)
@@ -297,32 +299,48 @@ extend-nulls-run-returns t c =
     let a = c .before .before .before .before .before .args in
     runs-none (join (a .state .now) (a .parts .now) [] [] [] 0 0) (nullWalk (join (a .state .now) (a .parts .now) [] [] [] 0 0) (a .depth)) (a .write) (a .i) (a .n) (a .counts .now) (a .room .now) (c .before .has-ends .ensures) (c .if1 .taken)
 
-extend-nulls-run-add-extend-nulls : (t : ℕ) → extend-nulls-run-lts.Need-add-extend-nulls (extend-nulls-run-cs t) (extend-nulls-run-at t) extend-nulls-run.Post
-extend-nulls-run-add-extend-nulls t c = search needs
+extend-nulls-run-bytes-of-requires : (t : ℕ) → extend-nulls-run-lts.Need-bytes-of-requires (extend-nulls-run-cs t) (extend-nulls-run-at t) extend-nulls-run.Post
+extend-nulls-run-bytes-of-requires t c κs = search needs
 
-extend-nulls-run-extend-nulls-requires : (t : ℕ) → extend-nulls-run-lts.Need-extend-nulls-requires (extend-nulls-run-cs t) (extend-nulls-run-at t) extend-nulls-run.Post
-extend-nulls-run-extend-nulls-requires t c κs = omega (arith, c .before .before .before .before .before .before .before .pre .0)
+extend-nulls-run-longer-end-requires : (t : ℕ) → extend-nulls-run-lts.Need-longer-end-requires (extend-nulls-run-cs t) (extend-nulls-run-at t) extend-nulls-run.Post
+extend-nulls-run-longer-end-requires t c κs =
+    let a = c .before .before .before .before .before .before .before .before .before .before .args in
+    ends-ready (a .i) _ (c .before .before .before .before .before .before .has-ends .ensures) (c .before .before .before .before .before .if1 .left)
 
 extend-nulls-run-same-length : (t : ℕ) → extend-nulls-run-lts.Need-same-length (extend-nulls-run-cs t) (extend-nulls-run-at t) extend-nulls-run.Post
 extend-nulls-run-same-length t c = search needs
 
 extend-nulls-run-returns-2 : (t : ℕ) → extend-nulls-run-lts.Need-returns-2 (extend-nulls-run-cs t) (extend-nulls-run-at t) extend-nulls-run.Post
 extend-nulls-run-returns-2 t c =
-    let a = c .before .before .before .before .before .before .before .before .before .before .before .args in
-    runs-stop (join (a .state .now) (a .parts .now) [] [] [] 0 0) (nullWalk (join (a .state .now) (a .parts .now) [] [] [] 0 0) (a .depth)) (a .write) (a .i) (a .n) (a .counts .now) (a .room .now) (c .before .before .before .before .before .before .before .has-ends .ensures) (c .before .before .before .before .before .before .if1 .left) (add-two (a .i)) (c .before .before .before .extend-nulls .ensures) (c .if2 .taken)
-
-extend-nulls-run-null-end-requires : (t : ℕ) → extend-nulls-run-lts.Need-null-end-requires (extend-nulls-run-cs t) (extend-nulls-run-at t) extend-nulls-run.Post
-extend-nulls-run-null-end-requires t c κs =
     let a = c .before .before .before .before .before .before .before .before .before .before .before .before .before .args in
-    ends-ready (a .i) _ (c .before .before .before .before .before .before .before .before .before .has-ends .ensures) (c .before .before .before .before .before .before .before .before .if1 .left)
+    runs-grow (join (a .state .now) (a .parts .now) [] [] [] 0 0) (nullWalk (join (a .state .now) (a .parts .now) [] [] [] 0 0) (a .depth)) (a .write) (a .i) (a .n) (a .counts .now) (a .room .now) (c .before .before .before .before .before .before .before .before .before .has-ends .ensures) (c .before .before .before .before .before .before .before .before .if1 .left) (c .before .before .before .before .before .before .bytes-of .ensures) (c .before .before .before .before .before .if2 .taken) (c .before .before .longer-end .ensures)
+
+extend-nulls-run-add-extend-nulls : (t : ℕ) → extend-nulls-run-lts.Need-add-extend-nulls (extend-nulls-run-cs t) (extend-nulls-run-at t) extend-nulls-run.Post
+extend-nulls-run-add-extend-nulls t c = search needs
+
+extend-nulls-run-extend-nulls-requires : (t : ℕ) → extend-nulls-run-lts.Need-extend-nulls-requires (extend-nulls-run-cs t) (extend-nulls-run-at t) extend-nulls-run.Post
+extend-nulls-run-extend-nulls-requires t c κs = omega (arith, c .before .before .before .before .before .before .before .before .before .before .pre .0)
 
 extend-nulls-run-same-length-2 : (t : ℕ) → extend-nulls-run-lts.Need-same-length-2 (extend-nulls-run-cs t) (extend-nulls-run-at t) extend-nulls-run.Post
 extend-nulls-run-same-length-2 t c = search needs
 
 extend-nulls-run-returns-3 : (t : ℕ) → extend-nulls-run-lts.Need-returns-3 (extend-nulls-run-cs t) (extend-nulls-run-at t) extend-nulls-run.Post
 extend-nulls-run-returns-3 t c =
+    let a = c .before .before .before .before .before .before .before .before .before .before .before .before .before .before .args in
+    runs-stop (join (a .state .now) (a .parts .now) [] [] [] 0 0) (nullWalk (join (a .state .now) (a .parts .now) [] [] [] 0 0) (a .depth)) (a .write) (a .i) (a .n) (a .counts .now) (a .room .now) (c .before .before .before .before .before .before .before .before .before .before .has-ends .ensures) (c .before .before .before .before .before .before .before .before .before .if1 .left) (c .before .before .before .before .before .before .before .bytes-of .ensures) (c .before .before .before .before .before .before .if2 .left) (add-two (a .i)) (c .before .before .before .extend-nulls .ensures) (c .if3 .taken)
+
+extend-nulls-run-null-end-requires : (t : ℕ) → extend-nulls-run-lts.Need-null-end-requires (extend-nulls-run-cs t) (extend-nulls-run-at t) extend-nulls-run.Post
+extend-nulls-run-null-end-requires t c κs =
     let a = c .before .before .before .before .before .before .before .before .before .before .before .before .before .before .before .before .args in
-    runs-go (join (a .state .now) (a .parts .now) [] [] [] 0 0) (nullWalk (join (a .state .now) (a .parts .now) [] [] [] 0 0) (a .depth)) (a .write) (a .i) (a .n) (a .counts .now) (a .room .now) (c .before .before .before .before .before .before .before .before .before .before .before .before .has-ends .ensures) (c .before .before .before .before .before .before .before .before .before .before .before .if1 .left) (add-two (a .i)) (c .before .before .before .before .before .before .before .before .extend-nulls .ensures) (c .before .before .before .before .before .if2 .left) (c .before .before .null-end .ensures)
+    ends-ready (a .i) _ (c .before .before .before .before .before .before .before .before .before .before .before .before .has-ends .ensures) (c .before .before .before .before .before .before .before .before .before .before .before .if1 .left)
+
+extend-nulls-run-same-length-3 : (t : ℕ) → extend-nulls-run-lts.Need-same-length-3 (extend-nulls-run-cs t) (extend-nulls-run-at t) extend-nulls-run.Post
+extend-nulls-run-same-length-3 t c = search needs
+
+extend-nulls-run-returns-4 : (t : ℕ) → extend-nulls-run-lts.Need-returns-4 (extend-nulls-run-cs t) (extend-nulls-run-at t) extend-nulls-run.Post
+extend-nulls-run-returns-4 t c =
+    let a = c .before .before .before .before .before .before .before .before .before .before .before .before .before .before .before .before .before .before .before .args in
+    runs-go (join (a .state .now) (a .parts .now) [] [] [] 0 0) (nullWalk (join (a .state .now) (a .parts .now) [] [] [] 0 0) (a .depth)) (a .write) (a .i) (a .n) (a .counts .now) (a .room .now) (c .before .before .before .before .before .before .before .before .before .before .before .before .before .before .before .has-ends .ensures) (c .before .before .before .before .before .before .before .before .before .before .before .before .before .before .if1 .left) (c .before .before .before .before .before .before .before .before .before .before .before .before .bytes-of .ensures) (c .before .before .before .before .before .before .before .before .before .before .before .if2 .left) (add-two (a .i)) (c .before .before .before .before .before .before .before .before .extend-nulls .ensures) (c .before .before .before .before .before .if3 .left) (c .before .before .null-end .ensures)
 
 abbrev extend-nulls-sparse-Inv-loop : extend-nulls-sparse-lts.InvT-loop
 extend-nulls-sparse-Inv-loop state parts counts₀ room₀ write i n depth h g end k₀ t₀ counts room k t = (t ≤ 32) × (length room ≡ length room₀) × Rest state parts write (nullFields (join state parts [] [] [] 0 0) (nullWalk (join state parts [] [] [] 0 0) depth) n end 32 k₀ counts₀) room₀ (nullFields (join state parts [] [] [] 0 0) (nullWalk (join state parts [] [] [] 0 0) depth) n end (32 - t) k counts) room
@@ -466,13 +484,17 @@ pub +extend-nulls+extend-nulls-data+extend-nulls-dense+extend-nulls-run+extend-n
     extend-nulls-run.Post
     (extend-nulls-run-has-ends-requires t)
     (extend-nulls-run-returns t)
-    (extend-nulls-run-add-extend-nulls t)
-    (extend-nulls-run-extend-nulls-requires t)
+    (extend-nulls-run-bytes-of-requires t)
+    (extend-nulls-run-longer-end-requires t)
     (extend-nulls-run-same-length t)
     (extend-nulls-run-returns-2 t)
-    (extend-nulls-run-null-end-requires t)
+    (extend-nulls-run-add-extend-nulls t)
+    (extend-nulls-run-extend-nulls-requires t)
     (extend-nulls-run-same-length-2 t)
-    (extend-nulls-run-returns-3 t))
+    (extend-nulls-run-returns-3 t)
+    (extend-nulls-run-null-end-requires t)
+    (extend-nulls-run-same-length-3 t)
+    (extend-nulls-run-returns-4 t))
     λ t. extend-nulls-sparse-lts.spec (extend-nulls-sparse-cs t)
     (extend-nulls-sparse-at t)
     extend-nulls-sparse.Post

@@ -5,6 +5,9 @@ use borrow.Author.Needs.{needs}
 use Rattle.open_walk.proofs.open_walk.Statement.{statement}
 use Rattle.open_walk.proofs.open_walk.Tie as tie
 
+begin-gaps-requires : tie.Need-begin-gaps-requires
+begin-gaps-requires c κs = search needs
+
 first-offsets-requires : tie.Need-first-offsets-requires
 first-offsets-requires c κs = search needs
 
@@ -16,8 +19,8 @@ same-length c = search needs
 
 returns : tie.Need-returns
 returns c =
-    let z = c .before .before .before .before .before .before .before .before .before .before .before .before .before .before .before .before .args in
-    walk-did (lent (z .state .now) (z .parts .now) (z .sources .now) (z .lengths .now) (z .places .now) (z .body .now)) (z .write) (z .counts .now) (z .room .now) (c .before .before .before .before .before .before .before .first-offsets .ensures (z .sources .now) (z .lengths .now) (z .places .now) (z .body .now) (z .counts .now)) (c .before .before .open-dictionaries .ensures)
+    let z = c .before .before .before .before .before .before .before .before .before .before .before .before .before .before .before .before .before .before .args in
+    walk-did (lent (z .state .now) (z .parts .now) (z .sources .now) (z .lengths .now) (z .places .now) (z .body .now)) (z .write) (z .counts .now) (z .room .now) (c .before .before .before .before .before .before .before .before .before .begin-gaps .ensures (z .parts .now) (z .sources .now) (z .lengths .now) (z .places .now) (z .body .now) (z .room .now) (z .write)) (c .before .before .before .before .before .before .before .first-offsets .ensures (z .sources .now) (z .lengths .now) (z .places .now) (z .body .now) _) (c .before .before .open-dictionaries .ensures)
 
 pub open-walk-spec : {M : Type 1} → statement M
-open-walk-spec = tie.close (tie.spec first-offsets-requires open-dictionaries-requires same-length returns)
+open-walk-spec = tie.close (tie.spec begin-gaps-requires first-offsets-requires open-dictionaries-requires same-length returns)

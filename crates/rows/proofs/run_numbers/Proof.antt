@@ -69,11 +69,8 @@ put-run-ends-requires c κs =
     let a = c .before .before .before .before .before .before .before .before .before .before .before .before .before .args in
     (omega (arith, ends-from (join [] [] (a .lengths .now) (a .places .now) (a .body .now) (a .first) 0) (a .w) (a .i) _ (omega arith) (c .before .before .before .before .before .before .place .ensures) (c .before .before .before .before .before .offset-of .ensures) (c .before .before .before .before .before .before .before .before .before .before .before .before .before .pre .1 .1)), c .before .before .before .before .before .before .before .before .before .before .before .before .before .pre .1 .0)
 
-add-add-rows : tie.Need-add-add-rows
-add-add-rows c = search needs
-
-add-rows-requires : tie.Need-add-rows-requires
-add-rows-requires c κs = search needs
+count-runs-requires : tie.Need-count-runs-requires
+count-runs-requires c κs = search needs
 
 same-length : tie.Need-same-length
 same-length c = search needs
@@ -81,7 +78,7 @@ same-length c = search needs
 returns : tie.Need-returns
 returns c =
     let a = c .before .before .before .before .before .before .before .before .before .before .before .before .before .before .before .before .before .before .args in
-    λ source. run-did (join (a .state .now) (a .parts .now) (a .lengths .now) (a .places .now) (a .body .now) (a .first) source) (a .write) (a .w) (a .i) (a .start .0) (a .n) (a .last) (a .run .0) (a .count) (a .counts .now) (a .room .now) (add-one (a .i)) (omega arith) (c .before .before .before .before .before .before .before .before .before .before .before .place .ensures) (c .before .before .before .before .before .before .before .before .before .before .offset-of .ensures) (c .before .before .before .before .before .before .before .rows-of .ensures) (c .before .before .before .before .before .before .scale .ensures) (omega (arith, wide-in (a .w) (c .before .before .before .before .before .before .before .before .before .before .before .before .before .before .before .before .before .before .pre .1 .0))) (c .before .before .before .before .put-run-ends .ensures) (c .add-rows .ensures)
+    λ source. run-did (join (a .state .now) (a .parts .now) (a .lengths .now) (a .places .now) (a .body .now) (a .first) source) (a .write) (a .w) (a .i) (a .start .0) (a .n) (a .last) (a .run .0) (a .count) (a .counts .now) (a .room .now) (add-one (a .i)) (omega arith) (c .before .before .before .before .before .before .before .before .before .before .before .place .ensures) (c .before .before .before .before .before .before .before .before .before .before .offset-of .ensures) (c .before .before .before .before .before .before .before .rows-of .ensures) (c .before .before .before .before .before .before .scale .ensures) (omega (arith, wide-in (a .w) (c .before .before .before .before .before .before .before .before .before .before .before .before .before .before .before .before .before .before .pre .1 .0))) (c .before .before .before .before .put-run-ends .ensures) (c .count-runs .ensures)
 
 pub run-numbers-spec : {M : Type 1} → statement M
-run-numbers-spec = tie.close (tie.spec add-place add-place-2 place-requires cast-at add-offset-of add-offset-of-2 offset-of-requires mul-ends add-ends mul-from add-from add-stop add-rows-of rows-of-requires scale-requires add-put-run-ends put-run-ends-requires add-add-rows add-rows-requires same-length returns)
+run-numbers-spec = tie.close (tie.spec add-place add-place-2 place-requires cast-at add-offset-of add-offset-of-2 offset-of-requires mul-ends add-ends mul-from add-from add-stop add-rows-of rows-of-requires scale-requires add-put-run-ends put-run-ends-requires count-runs-requires same-length returns)

@@ -13,17 +13,17 @@ sources-ground-requires c κs = search needs
 returns : tie.Need-returns
 returns c =
     let z = c .before .before .before .before .before .before .before .before .before .before .args in
-    ask-sources (z .formats .now) (z .schema .now) (z .sources .now) (tablesOf (z .lengths .now) (z .places .now) (z .buffers .now) (z .body .now)) (z .keep) (z .plan .now) (c .before .sources-ground .ensures) (c .if1 .taken)
+    ask-sources (z .formats .now) (z .schema .now) (z .sources .now) (tablesOf (z .lengths .now) (z .places .now) (z .buffers .now) (z .body .now)) (z .keep) (z .gaps) (z .plan .now) (c .before .sources-ground .ensures) (c .if1 .taken)
 
 returns-2 : tie.Need-returns-2
 returns-2 c =
     let z = c .before .before .before .before .before .before .before .before .before .before .before .args in
-    ask-words (z .formats .now) (z .schema .now) (z .sources .now) (tablesOf (z .lengths .now) (z .places .now) (z .buffers .now) (z .body .now)) (z .keep) (z .plan .now) (c .before .before .sources-ground .ensures) (c .before .if1 .left) (c .if2 .taken)
+    ask-words (z .formats .now) (z .schema .now) (z .sources .now) (tablesOf (z .lengths .now) (z .places .now) (z .buffers .now) (z .body .now)) (z .keep) (z .gaps) (z .plan .now) (c .before .before .sources-ground .ensures) (c .before .if1 .left) (c .if2 .taken)
 
 planned-state-requires : tie.Need-planned-state-requires
 planned-state-requires c κs =
     let z = c .before .before .before .before .before .before .before .before .before .before .before .args in
-    can-plan (z .formats .now) (z .schema .now) (z .lengths .now) (z .places .now) (z .buffers .now) (z .body .now) (z .sources .now) (z .keep) (λ s. omega (arith, c .before .before .before .before .before .before .before .before .before .before .shared-slice-known .given (2 * s))) (c .before .before .sources-ground .ensures) (c .before .if1 .left)
+    can-plan (z .formats .now) (z .schema .now) (z .lengths .now) (z .places .now) (z .buffers .now) (z .body .now) (z .sources .now) (z .keep) (z .gaps) (λ s. omega (arith, c .before .before .before .before .before .before .before .before .before .before .shared-slice-known .given (2 * s))) (c .before .before .sources-ground .ensures) (c .before .if1 .left)
 
 slice-aggregate-store : tie.Need-slice-aggregate-store
 slice-aggregate-store c = search needs
@@ -37,7 +37,7 @@ same-length c = search needs
 returns-3 : tie.Need-returns-3
 returns-3 c =
     let z = c .before .before .before .before .before .before .before .before .before .before .before .before .before .before .before .before .before .args in
-    ask-made (z .formats .now) (z .schema .now) (z .sources .now) (tablesOf (z .lengths .now) (z .places .now) (z .buffers .now) (z .body .now)) (z .keep) (z .plan .now) (c .before .before .before .before .before .before .before .before .sources-ground .ensures) (c .before .before .before .before .before .before .before .if1 .left) (c .before .before .before .before .before .before .if2 .left) (plan-is (z .formats .now) (z .schema .now) (z .lengths .now) (z .places .now) (z .buffers .now) (z .body .now) (z .sources .now) (z .keep) (λ s. omega (arith, c .before .before .before .before .before .before .before .before .before .before .before .before .before .before .before .before .shared-slice-known .given (2 * s))) (c .before .before .before .before .before .before .before .before .sources-ground .ensures) (c .before .before .before .before .before .before .before .if1 .left) (c .before .before .before .before .before .planned-state .ensures)) (c .before .before .store .ensures)
+    ask-made (z .formats .now) (z .schema .now) (z .sources .now) (tablesOf (z .lengths .now) (z .places .now) (z .buffers .now) (z .body .now)) (z .keep) (z .gaps) (z .plan .now) (c .before .before .before .before .before .before .before .before .sources-ground .ensures) (c .before .before .before .before .before .before .before .if1 .left) (c .before .before .before .before .before .before .if2 .left) (plan-is (z .formats .now) (z .schema .now) (z .lengths .now) (z .places .now) (z .buffers .now) (z .body .now) (z .sources .now) (z .keep) (z .gaps) (λ s. omega (arith, c .before .before .before .before .before .before .before .before .before .before .before .before .before .before .before .before .shared-slice-known .given (2 * s))) (c .before .before .before .before .before .before .before .before .sources-ground .ensures) (c .before .before .before .before .before .before .before .if1 .left) (c .before .before .before .before .before .planned-state .ensures)) (c .before .before .store .ensures)
 
 pub plan-parts-spec : {M : Type 1} → statement M
 plan-parts-spec = tie.close (tie.spec sources-ground-requires returns returns-2 planned-state-requires slice-aggregate-store store-requires same-length returns-3)

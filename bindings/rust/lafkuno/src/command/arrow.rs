@@ -1,7 +1,7 @@
 //! `lafkuno join --orders`: Arrow files, over every column.
 
 use super::{mistake, status, Progress, Words};
-use lafkuno::{ipc, text, Batch, Error, Job, Order};
+use lafkuno::{ipc, text, Batch, Choices, Error, Job, Order};
 
 /// Where a file's rows are: each batch, and the file's row that it begins with.
 struct Rows {
@@ -53,7 +53,7 @@ pub fn run(words: &Words, orders: &str) -> u8 {
     if let Some(trip) = trips.iter().find(|t| t.out.is_none()) {
         return mistake(format_args!("join: where the rows of line {} go is due: --out FILE, or `out FILE` among the orders", trip.line));
     }
-    match join(words, &trips, list.keep_nulls, jobs, orders) {
+    match join(words, &trips, list.choices, jobs, orders) {
         Ok(status) => status,
         Err(e) => {
             eprintln!("{e}");
@@ -62,7 +62,7 @@ pub fn run(words: &Words, orders: &str) -> u8 {
     }
 }
 
-fn join(words: &Words, trips: &[text::Trip], keep_nulls: bool, jobs: usize, orders: &str) -> Result<u8, Error> {
+fn join(words: &Words, trips: &[text::Trip], choices: Choices, jobs: usize, orders: &str) -> Result<u8, Error> {
     let batches = ipc::read_files(&words.files)?;
     let (mut files, mut first) = (vec![], 0);
     for list in &batches {
@@ -86,7 +86,7 @@ fn join(words: &Words, trips: &[text::Trip], keep_nulls: bool, jobs: usize, orde
         match trip.orders.iter().find(|o| !spread(&files, o.what, &mut spread_orders)) {
             None => {
                 made.push(trip);
-                list.push(Job { sources: sources.clone(), orders: spread_orders, keep_nulls });
+                list.push(Job { sources: sources.clone(), orders: spread_orders, choices });
             }
             Some(order) => {
                 let rows: Vec<String> = words.files.iter().zip(&files).map(|(name, f)| format!("{name} has {}", f.rows)).collect();
@@ -96,7 +96,7 @@ fn join(words: &Words, trips: &[text::Trip], keep_nulls: bool, jobs: usize, orde
         }
     }
     let progress = Progress::new(list.len(), "joins");
-    let answers = lafkuno::run_many(&list, jobs, |job| Batch::join(&job.sources, &job.orders, job.keep_nulls), &|n| progress.show(n));
+    let answers = lafkuno::run_many(&list, jobs, |job| Batch::join_with(&job.sources, &job.orders, job.choices), &|n| progress.show(n));
     drop(progress);
     for (trip, answer) in made.iter().zip(answers) {
         let out = trip.out.as_deref().unwrap_or_default();

@@ -106,7 +106,7 @@ fn join(description: &text::Description, go_on: bool, told: &mut String) -> Resu
         told.push_str(&format!("{what}: {error}\n"));
         status(&error)
     };
-    let mut join = Join::open(&sources, description.keep_nulls).map_err(|e| fail("the opening", e))?;
+    let mut join = Join::open_with(&sources, description.choices).map_err(|e| fail("the opening", e))?;
     let (mut given, mut refused) = (0, 0);
     for list in description.orders.chunk_by(|a, b| a.trip.is_some() && a.trip == b.trip) {
         let answer = match list[0].trip {
