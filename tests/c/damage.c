@@ -1,10 +1,9 @@
 /* Damaged descriptions: sound columns of each kind and format, with offset 0 and with offset 2, at the depths 1 to 3, and each with one
  * rule of 01 broken at a time. Every change has the ground that 01 names for it, 0 where 01 allows it. A line for each column says how
  * many changes there were and how many answers differ; before it stands what differs.
- *     cc -I include tests/c/damage*.c tests/c/lent.c -L target/staticlib -llafkuno -o damage && ./damage | diff - tests/c/damage.out
+ *     cc -I include tests/c/damage*.c tests/c/column.c tests/c/lent.c -L target/staticlib -llafkuno -o damage && ./damage | diff - tests/c/damage.out
  * Every slice is lent at its own size between guards; with --bare there are none, and valgrind sees every step outside. */
 #include "damage.h"
-#include "lent.h"
 #include <string.h>
 
 /* ---- numbers */
@@ -84,10 +83,6 @@ static void column_of_words(uint32_t depth, uint32_t off, const char *format, ui
 }
 
 /* ---- all */
-
-static uint32_t width(char format) {
-    return strchr("cC", format) ? 1 : strchr("sS", format) ? 2 : strchr("iIf", format) ? 4 : 8;
-}
 
 static void kinds(uint32_t depth, uint32_t off) {
     for (const char *f = "cCsSiIlLfg"; *f; f++) column_of_numbers(depth, off, (const char[2]){*f}, width(*f));
