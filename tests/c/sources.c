@@ -110,7 +110,7 @@ static uint8_t sources_of(const struct column *c, const uint32_t *list, size_t n
     lend_column(c);
     lend(SOURCES, list, 8 * n);
     lend_answer(LAFKUNO_PLAN);
-    uint8_t ground = lafkuno_plan_parts(WORDS(SOURCES), TABLES, 0, LONGS(ANSWER));
+    uint8_t ground = lafkuno_plan_parts(WORDS(SOURCES), TABLES, 0, 0, LONGS(ANSWER));
     return answer_kept() == (ground != FINE) ? ground : UINT8_MAX;
 }
 
