@@ -1,5 +1,5 @@
 """Each ground of document 01 through the entry points, at its edge and one past it. A `told` step has its answer by hand, from 01's words
-or, for a foreign state, from orders/specs/Order.antt and finishing/specs/Finish.antt."""
+or, for a foreign state, from refinement/specs/orders/Order.antt and refinement/specs/finishing/Finish.antt."""
 from arrow import OFFSETS, Column, Laid, Type, keyed, make, number, numbers, run_column
 from script import refused, run
 

@@ -9,13 +9,13 @@ use borrow.Author.Tests.{eq-eqb, ne-eqb, eqb-true, eqb-false}
 use lib.IntN.{ℤ, pos}
 use Rattle.columnar.specs.Row.{seg}
 use Rattle.array_data.specs.Tables.{Tables}
-use Rattle.lent.specs.Lent.{typeOf}
+use Rattle.array_data.specs.type_tree.Lent.{typeOf}
 use Rattle.columns.specs.Grounds.{columnGround}
 use Rattle.column_pair.specs.Pair.{rangeIn}
-use Rattle.fractions.specs.declared.Fraction.{Fraction}
-use Rattle.fractions.specs.Lowest.{fractionOf}
-use Rattle.tally.specs.declared.Total.the-variants as total
-use Rattle.tally.specs.Sums.{countOf, sumOf, fits, totalOf}
+use Rattle.sums.specs.declared.fractions.Fraction.{Fraction}
+use Rattle.sums.specs.fractions.Lowest.{fractionOf}
+use Rattle.sums.specs.declared.tally.Total.the-variants as total
+use Rattle.sums.specs.tally.Sums.{countOf, sumOf, fits, totalOf}
 use Rattle.aggregates.specs.declared.MeanAnswer.the-variants as mean
 use Rattle.aggregates.specs.Report.{wholeType, meanBy, rowOf, meanReport}
 

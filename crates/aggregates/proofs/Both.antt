@@ -9,17 +9,17 @@ use borrow.Author.Tests.{eq-eqb, ne-eqb}
 use lib.IntN.{ℤ, pos, negsuc}
 use Rattle.columnar.specs.Row.{Row, null, whole, single, double, bytes, list, union, seg}
 use Rattle.array_data.specs.Tables.{Tables}
-use Rattle.lent.specs.Lent.{typeOf}
+use Rattle.array_data.specs.type_tree.Lent.{typeOf}
 use Rattle.columns.specs.Grounds.{columnGround}
 use Rattle.column_pair.specs.Pair.{pairGround, rangeIn}
-use Rattle.fractions.specs.declared.Fraction.{Fraction}
-use Rattle.fractions.specs.Lowest.{fractionOf}
-use Rattle.tally.specs.declared.Cell.{Cell}
-use Rattle.tally.specs.declared.Tally.{Tally}
-use Rattle.tally.specs.Sums.{countOf, sumOf, fits}
-use Rattle.tally.specs.Cells.{cellOf, talliedBy, Tallied}
-use Rattle.tally.proofs.Sums.{hi-low, counted, summed}
-use Rattle.pattern_sums.specs.Parts.{Sized}
+use Rattle.sums.specs.declared.fractions.Fraction.{Fraction}
+use Rattle.sums.specs.fractions.Lowest.{fractionOf}
+use Rattle.sums.specs.declared.tally.Cell.{Cell}
+use Rattle.sums.specs.declared.tally.Tally.{Tally}
+use Rattle.sums.specs.tally.Sums.{countOf, sumOf, fits}
+use Rattle.sums.specs.tally.Cells.{cellOf, talliedBy, Tallied}
+use Rattle.sums.proofs.tally.Sums.{hi-low, counted, summed}
+use Rattle.sums.specs.patterns.Parts.{Sized}
 use Rattle.cell_sums.specs.Numbers.{maskCell, bothCells}
 use Rattle.aggregates.specs.declared.RatioAnswer.the-variants as ratio
 use Rattle.aggregates.specs.Report.{wholeType, beside, bothRows, isZero, ratioBy, ratioRows, rowOf, pairOf, ratioReport}

@@ -15,22 +15,22 @@ use Rattle.formats.specs.Code.{isInteger, isRunEnd, widthOf}
 use Rattle.schema.specs.Tree.{ceilings, typed}
 use Rattle.array_data.specs.Tables.{Tables, lengthOf, offsetOf, validOf, firstBuffer}
 use Rattle.array_data.specs.Typed.{Tree, columnOf, tablesFrom, sourceRule}
-use Rattle.lent.specs.Lent.{treeOf, typeOf}
-use Rattle.lent.proofs.Source.{lent-source}
-use Rattle.lent_tables.proofs.Laws.{and-left, and-right}
+use Rattle.array_data.specs.type_tree.Lent.{treeOf, typeOf}
+use Rattle.array_data.proofs.type_tree.Source.{lent-source}
+use Rattle.array_data.proofs.lent_tables.Laws.{and-left, and-right}
 use Rattle.columns.specs.Grounds.{smallBody, withinCeilings, obeys, columnGround}
 use Rattle.columns.proofs.Grounds.{within-low}
 use Rattle.columns.proofs.Answers.{sum-fits}
 use Rattle.source_rules.proofs.From.{length-from, offset-from}
 use Rattle.run_ends.specs.declared.PhysicalRun.{PhysicalRun}
-use Rattle.run_reader.specs.declared.RowRun.{RowRun}
-use Rattle.run_reader.specs.declared.RowRun.the-variants as answer
-use Rattle.stretches.proofs.Stretch.{ends-fit, ends-held, stretch-run, stretch-some}
-use Rattle.tally.specs.Cells.{cellOf}
-use Rattle.pattern_sums.specs.Parts.{Sized}
-use Rattle.whole_cells.specs.Cells.{Held, numberAt, cellsOf, cellAt}
-use Rattle.whole_cells.proofs.Codes.{code-width, code-sized}
-use Rattle.whole_cells.proofs.Rows.{slot-held, slot-cell}
+use Rattle.leaf_row.specs.declared.run.RowRun.{RowRun}
+use Rattle.leaf_row.specs.declared.run.RowRun.the-variants as answer
+use Rattle.cell_sums.proofs.stretches.Stretch.{ends-fit, ends-held, stretch-run, stretch-some}
+use Rattle.sums.specs.tally.Cells.{cellOf}
+use Rattle.sums.specs.patterns.Parts.{Sized}
+use Rattle.cell_sums.specs.cells.Cells.{Held, numberAt, cellsOf, cellAt}
+use Rattle.cell_sums.proofs.cells.Codes.{code-width, code-sized}
+use Rattle.cell_sums.proofs.cells.Rows.{slot-held, slot-cell}
 use Rattle.cell_sums.specs.declared.Numbers.{Numbers}
 use Rattle.cell_sums.specs.Numbers.{asked, valueAt, cellIn, Found, Ready}
 use Rattle.aggregates.specs.declared.Shape.{Shape}
@@ -91,10 +91,10 @@ module _ (formats schema : List ℕ) (x : Tables) (first n : ℕ) (g : columnGro
   source = lent-source formats schema first n xs (pass .of-type) (within-low formats schema x first n (pass .within)) (pass .obeying)
 
   pub row-count : lengthOf xs 0 < 2 ^ 63
-  row-count = omega (arith, sums 0 (Rattle.lent.proofs.Lent.some-node formats schema first n (Rattle.schema.proofs.Known.typed-whole formats schema first n (pass .of-type))))
+  row-count = omega (arith, sums 0 (Rattle.array_data.proofs.type_tree.Lent.some-node formats schema first n (Rattle.schema.proofs.Known.typed-whole formats schema first n (pass .of-type))))
 
   root-sum : offsetOf xs 0 + lengthOf xs 0 < 2 ^ 63
-  root-sum = sums 0 (Rattle.lent.proofs.Lent.some-node formats schema first n (Rattle.schema.proofs.Known.typed-whole formats schema first n (pass .of-type)))
+  root-sum = sums 0 (Rattle.array_data.proofs.type_tree.Lent.some-node formats schema first n (Rattle.schema.proofs.Known.typed-whole formats schema first n (pass .of-type)))
 
   -- ---- plain rows
 

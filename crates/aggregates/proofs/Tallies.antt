@@ -11,18 +11,18 @@ use Rattle.columnar.specs.Row.{Row, seg}
 use Rattle.schema.specs.Tree.{typed}
 use Rattle.array_data.specs.Tables.{Tables, lengthOf}
 use Rattle.array_data.specs.Typed.{tablesFrom}
-use Rattle.lent.specs.Lent.{typeOf}
-use Rattle.lent_entries.specs.Entries.{column}
+use Rattle.array_data.specs.type_tree.Lent.{typeOf}
+use Rattle.array_data.specs.entries.Entries.{column}
 use Rattle.columns.specs.Grounds.{columnGround}
 use Rattle.column_pair.specs.Pair.{rangeIn}
 use Rattle.column_pair.proofs.Pair.{range-known}
 use Rattle.source_rules.proofs.From.{length-from}
-use Rattle.tally.specs.declared.Tally.{Tally}
-use Rattle.tally.specs.Sums.{countOf, sumOf}
-use Rattle.tally.specs.Cells.{cellOf, talliedBy, Tallied}
-use Rattle.tally.proofs.Sums.{hi-low, counted, summed}
-use Rattle.pattern_sums.specs.Parts.{Sized}
-use Rattle.pattern_sums.proofs.Laws.{four}
+use Rattle.sums.specs.declared.tally.Tally.{Tally}
+use Rattle.sums.specs.tally.Sums.{countOf, sumOf}
+use Rattle.sums.specs.tally.Cells.{cellOf, talliedBy, Tallied}
+use Rattle.sums.proofs.tally.Sums.{hi-low, counted, summed}
+use Rattle.sums.specs.patterns.Parts.{Sized}
+use Rattle.sums.proofs.patterns.Laws.{four}
 use Rattle.cell_sums.specs.declared.Numbers.{Numbers}
 use Rattle.cell_sums.specs.Numbers.{cellIn, Ready}
 use Rattle.aggregates.specs.declared.Shape.{Shape}

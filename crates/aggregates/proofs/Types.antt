@@ -17,11 +17,11 @@ use Rattle.schema.specs.Tree.{children, dictionary, below, bare, childForEach, 
 use Rattle.schema.proofs.Trees.{child-inside}
 use Rattle.schema.proofs.Known.{typed-whole, typed-shape}
 use Rattle.array_data.specs.Typed.{NodeKind, fixedNode, stringNode, viewNode, listViewNode, listNode, sparseNode, denseNode, runEndNode, dictionaryNode, Tree}
-use Rattle.lent.specs.Lent.{numberOr, idsOr, unionKind, kindAt, treeOf, tyAs, tyOf, typeOf}
-use Rattle.lent.proofs.Lent.{first-child, second-child, some-node}
-use Rattle.lent.proofs.Shaped.{Shaped, of-plain, of-view, of-list, of-lists, of-sparse, of-dense, of-run, of-dictionary, shaped, five, later, plainKind, integer-fixed, at-fixed, at-keys, at-string, at-view, at-list, at-lists, at-union, at-run}
-use Rattle.lent_tables.proofs.Laws.{and-left, and-right}
-use Rattle.whole_cells.specs.Cells.{numberAt}
+use Rattle.array_data.specs.type_tree.Lent.{numberOr, idsOr, unionKind, kindAt, treeOf, tyAs, tyOf, typeOf}
+use Rattle.array_data.proofs.type_tree.Lent.{first-child, second-child, some-node}
+use Rattle.array_data.proofs.type_tree.Shaped.{Shaped, of-plain, of-view, of-list, of-lists, of-sparse, of-dense, of-run, of-dictionary, shaped, five, later, plainKind, integer-fixed, at-fixed, at-keys, at-string, at-view, at-list, at-lists, at-union, at-run}
+use Rattle.array_data.proofs.lent_tables.Laws.{and-left, and-right}
+use Rattle.cell_sums.specs.cells.Cells.{numberAt}
 use Rattle.aggregates.specs.declared.Shape.{Shape}
 use Rattle.aggregates.specs.Report.{wholePlain, wholeType}
 use Rattle.aggregates.specs.Shape.{wholeCode, shapeOf}

@@ -11,11 +11,11 @@ use Rattle.columnar.specs.Wider.{integer}
 use Rattle.columnar.specs.Reading.{read}
 use Rattle.array_data.specs.Tables.{Tables}
 use Rattle.array_data.specs.Typed.{columnOf, tablesFrom}
-use Rattle.lent.specs.Lent.{treeOf, typeOf}
+use Rattle.array_data.specs.type_tree.Lent.{treeOf, typeOf}
 use Rattle.columns.specs.Grounds.{columnGround}
 use Rattle.column_pair.specs.Pair.{pairGround, rangeIn}
-use Rattle.fractions.specs.Lowest.{fractionOf}
-use Rattle.tally.specs.Sums.{countOf, sumOf, fits}
+use Rattle.sums.specs.fractions.Lowest.{fractionOf}
+use Rattle.sums.specs.tally.Sums.{countOf, sumOf, fits}
 use Rattle.aggregates.specs.declared.MeanReport.{MeanReport}
 use Rattle.aggregates.specs.declared.MeanAnswer.{MeanAnswer}
 use Rattle.aggregates.specs.declared.MeanAnswer.the-variants as mean

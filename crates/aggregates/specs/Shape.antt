@@ -6,9 +6,9 @@ use lib.Dec.{eqb}
 use Rattle.formats.specs.Code.{isInteger, isRunEnd, widthOf}
 use Rattle.schema.specs.Tree.{dictionary, codeOf}
 use Rattle.array_data.specs.Tables.{Tables, offsetOf}
-use Rattle.stretches.specs.declared.Ends.{Ends}
-use Rattle.stretches.specs.Ends.{endsOf}
-use Rattle.whole_cells.specs.Cells.{cellsOf}
+use Rattle.cell_sums.specs.declared.stretches.Ends.{Ends}
+use Rattle.cell_sums.specs.stretches.Ends.{endsOf}
+use Rattle.cell_sums.specs.cells.Cells.{cellsOf}
 use Rattle.cell_sums.specs.declared.Numbers.{Numbers}
 use Rattle.aggregates.specs.declared.Shape.{Shape}
 

@@ -5,15 +5,20 @@ ghost use mathlib.Core.List.{[]};
 ghost use Prim.Native.Nat.{_+_, _*_, _≤_, _<_, _^_};
 ghost use Rattle.formats.specs.Code.{isInteger};
 ghost use Rattle.array_data.specs.Tables.{lengthOf, offsetOf};
-ghost use Rattle.kind_rules.specs.Rows.{tablesOf};
-ghost use Rattle.lent_entries.specs.Entries.{column};
-ghost use Rattle.tally.specs.Cells.{talliedBy};
+ghost use Rattle.source_rules.specs.kinds.Rows.{tablesOf};
+ghost use Rattle.array_data.specs.entries.Entries.{column};
+ghost use Rattle.sums.specs.tally.Cells.{talliedBy};
 ghost use Rattle.aggregates.specs.Shape.{wholeCode, shapeOf, plainNumbers, runNumbers, numbersOf};
 ghost use Rattle.aggregates.specs.Report.{meanBy, meanReport, ratioBy, ratioReport};
+use array_data::entries;
 use cell_sums::Numbers;
-use stretches::Ends;
-use tally::Tally;
-use tally::Total;
+use cell_sums::cells;
+use cell_sums::stretches;
+use cell_sums::stretches::Ends;
+use sums::fractions;
+use sums::tally;
+use sums::tally::Tally;
+use sums::tally::Total;
 
 // The rows that are not null, their sum, and the mean in lowest terms.
 pub struct MeanReport {
@@ -99,8 +104,8 @@ fn find_plain(lengths: &[u64], places: &[u32], first: u32, code: u8) -> Numbers
         offset: 0,
         len: 0,
     };
-    let cells = whole_cells::find_cells(places, first, 0, code);
-    let skip = lent_entries::offset_at(lengths, first, 0);
+    let cells = cells::find_cells(places, first, 0, code);
+    let skip = entries::offset_at(lengths, first, 0);
     Numbers {
         runs: false,
         ends,
@@ -116,8 +121,8 @@ fn find_runs(lengths: &[u64], places: &[u32], first: u32, code: u8, width: u8) -
     ensures { λ r. ⌜ r ≡ runNumbers (column (now (lengths .entry)) (now (places .entry)) [] [] first) code width ⌝ }
 {
     let ends = stretches::find_ends(lengths, places, first, width);
-    let cells = whole_cells::find_cells(places, first, 2, code);
-    let skip = lent_entries::offset_at(lengths, first, 2);
+    let cells = cells::find_cells(places, first, 2, code);
+    let skip = entries::offset_at(lengths, first, 2);
     Numbers {
         runs: true,
         ends,
@@ -192,7 +197,7 @@ pub fn mean(
     let numbers = find_numbers(lengths, places, first, shape);
     let t = cell_sums::sum_rows(body, numbers, start, end);
     let cells = numbers.cells;
-    mean_of(t, whole_cells::lift_of(cells.width))
+    mean_of(t, cells::lift_of(cells.width))
 }
 
 // ---- two columns
@@ -275,10 +280,5 @@ pub fn ratio(
     let d = b.cells;
     let t = sums.first;
     let u = sums.second;
-    ratio_of(
-        t,
-        whole_cells::lift_of(c.width),
-        u,
-        whole_cells::lift_of(d.width),
-    )
+    ratio_of(t, cells::lift_of(c.width), u, cells::lift_of(d.width))
 }

@@ -2,3 +2,7 @@
 pub mod Tables
 pub mod Rules
 pub mod Typed
+pub mod type_tree
+pub mod lent_tables
+pub mod entries
+pub mod node_words

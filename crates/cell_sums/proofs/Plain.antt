@@ -4,14 +4,14 @@ use mathlib.Core.Bool.{Bool, true, false, cond}
 use mathlib.Core.List.{List}
 use Prim.Native.Nat.{ℕ, _+_, _*_, _-_, _/_, _≤_, _<_, min}
 use native.Mathlib.Omega.{arith}
-use Rattle.pattern_sums.specs.Parts.{blockRows, bitOf}
-use Rattle.tally.specs.declared.Cell.{Cell}
-use Rattle.tally.specs.declared.Tally.{Tally}
-use Rattle.tally.specs.Cells.{cell, valueOf, Tallied}
-use Rattle.tally.proofs.Sums.{hi-low, appended}
-use Rattle.whole_cells.specs.declared.Cells.{Cells}
-use Rattle.whole_cells.specs.Cells.{Held, validAt, patternCell, cellAt}
-use Rattle.cell_blocks.specs.Blocks.{numberCell, keptCell, asBit, validBit}
+use Rattle.sums.specs.patterns.Parts.{blockRows, bitOf}
+use Rattle.sums.specs.declared.tally.Cell.{Cell}
+use Rattle.sums.specs.declared.tally.Tally.{Tally}
+use Rattle.sums.specs.tally.Cells.{cell, valueOf, Tallied}
+use Rattle.sums.proofs.tally.Sums.{hi-low, appended}
+use Rattle.cell_sums.specs.declared.cells.Cells.{Cells}
+use Rattle.cell_sums.specs.cells.Cells.{Held, validAt, patternCell, cellAt}
+use Rattle.cell_sums.specs.blocks.Blocks.{numberCell, keptCell, asBit, validBit}
 use Rattle.cell_sums.specs.declared.Numbers.{Numbers}
 use Rattle.cell_sums.specs.Numbers.{cellIn, maskCell, bothCells, AllReady}
 use Rattle.cell_sums.proofs.Laws.{plain-in}

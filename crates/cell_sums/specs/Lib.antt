@@ -1,3 +1,6 @@
 -- The definitions that the contracts of `cell_sums` cite.
 pub mod Numbers
 pub mod Steps
+pub mod cells
+pub mod blocks
+pub mod stretches

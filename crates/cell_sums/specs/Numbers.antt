@@ -7,13 +7,13 @@ use lib.ListN.{length}
 use lib.Dec.{eqb}
 use Rattle.array_data.specs.Tables.{part}
 use Rattle.run_ends.specs.declared.PhysicalRun.{PhysicalRun}
-use Rattle.run_reader.specs.declared.RowRun.{RowRun}
-use Rattle.run_reader.specs.declared.RowRun.the-variants as answer
-use Rattle.run_reader.specs.Rows.{rowRun}
-use Rattle.stretches.specs.declared.Ends.{Ends}
-use Rattle.tally.specs.declared.Cell.{Cell}
-use Rattle.tally.specs.Cells.{cell}
-use Rattle.whole_cells.specs.Cells.{Held, cellAt}
+use Rattle.leaf_row.specs.declared.run.RowRun.{RowRun}
+use Rattle.leaf_row.specs.declared.run.RowRun.the-variants as answer
+use Rattle.leaf_row.specs.run.Rows.{rowRun}
+use Rattle.cell_sums.specs.declared.stretches.Ends.{Ends}
+use Rattle.sums.specs.declared.tally.Cell.{Cell}
+use Rattle.sums.specs.tally.Cells.{cell}
+use Rattle.cell_sums.specs.cells.Cells.{Held, cellAt}
 use Rattle.cell_sums.specs.declared.Numbers.{Numbers}
 use Rattle.cell_sums.specs.declared.Stretch.{Stretch}
 

@@ -1,18 +1,24 @@
 // Tallies of the rows of one whole-number column, and of two at once.
+pub mod blocks;
+pub mod cells;
+pub mod stretches;
+
 ghost use mathlib.Core.Path.{_≡_};
 ghost use mathlib.Core.Bool.{false, cond};
 ghost use Prim.Native.Nat.{ℕ, _+_, _*_, _-_, _≤_, _<_, _^_, min};
 ghost use lib.Dec.{ltb};
 ghost use lib.ListN.{length};
-ghost use Rattle.pattern_sums.specs.Parts.{blockRows};
-ghost use Rattle.tally.specs.Cells.{Tallied};
+ghost use Rattle.sums.specs.patterns.Parts.{blockRows};
+ghost use Rattle.sums.specs.tally.Cells.{Tallied};
 ghost use Rattle.cell_sums.specs.Numbers.{cellIn, maskCell, bothCells, Bounded, Flat, Ready, AllReady};
 ghost use Rattle.cell_sums.specs.Steps.{untilOf};
-use run_reader::RowRun;
-use stretches::Ends;
-use tally::Cell;
-use tally::Tally;
-use whole_cells::Cells;
+use crate::cells::Cells;
+use crate::stretches::Ends;
+use leaf_row::run::RowRun;
+use sums::patterns;
+use sums::tally;
+use sums::tally::Cell;
+use sums::tally::Tally;
 
 // A column of whole numbers: of plain rows, or of runs, whose values then stand from `skip` on in the cells.
 pub struct Numbers {
@@ -42,7 +48,7 @@ fn plain_cell(body: &[u8], n: Numbers, row: u64) -> Cell
     ensures { λ r. ⌜ (r ≡ cellIn (now (body .entry)) n row) × Bounded r ⌝ }
 {
     let c = n.cells;
-    whole_cells::cell_at(body, c, (n.skip + row) as usize)
+    cells::cell_at(body, c, (n.skip + row) as usize)
 }
 
 // The stretch that begins at a row.
@@ -60,7 +66,7 @@ fn find_stretch(body: &[u8], n: Numbers, row: u64) -> Stretch
     let c = n.cells;
     match stretches::stretch_at(body, e, row) {
         RowRun::Run { run, left } => Stretch {
-            cell: whole_cells::cell_at(body, c, (n.skip as usize) + run.0),
+            cell: cells::cell_at(body, c, (n.skip as usize) + run.0),
             until: row + left,
         },
         RowRun::Refused(_) => Stretch {
@@ -130,7 +136,7 @@ fn sum_block(body: &[u8], a: Numbers, row: u64, stop: u64) -> Tally
     ensures { λ r. ⌜ Tallied (cellIn (now (body .entry)) a) row (stop - row) r ⌝ }
 {
     let c = a.cells;
-    cell_blocks::sum_slots(body, c, (a.skip + row) as usize, (stop - row) as usize)
+    blocks::sum_slots(body, c, (a.skip + row) as usize, (stop - row) as usize)
 }
 
 // The rows start .. end - 1 of such a column, block by block.
@@ -142,7 +148,7 @@ fn sum_blocks(body: &[u8], a: Numbers, start: u64, end: u64) -> Tally
     let mut t = tally::nothing();
     let mut row = start;
     while row < end {
-        let stop = lesser(row + pattern_sums::BLOCK, end);
+        let stop = lesser(row + patterns::BLOCK, end);
         t = tally::joined(t, sum_block(body, a, row, stop));
         row = stop;
     }
@@ -159,7 +165,7 @@ fn sum_word(body: &[u8], a: Numbers, b: Numbers, row: u64) -> Tally
     let d = b.cells;
     let i = (a.skip + row) as usize;
     let j = (b.skip + row) as usize;
-    cell_blocks::sum_kept(body, c, i, cell_blocks::both_bits(body, c, i, d, j))
+    blocks::sum_kept(body, c, i, blocks::both_bits(body, c, i, d, j))
 }
 
 // The same of `words` times 64 rows.

@@ -11,8 +11,8 @@ use Rattle.formats.specs.Code.{isFixed}
 use Rattle.formats.specs.Types.{numberOf}
 use Rattle.schema.specs.Tree.{every, shape, dictionary, below, dueFrom, endOf, whole, codeOf, typed}
 use Rattle.array_data.specs.Tables.{Tables, lengthOf}
-use Rattle.lent.specs.Lent.{numberOr, kindAt, tyOf, typeOf}
-use Rattle.lent_tables.proofs.Laws.{and-left, and-right}
+use Rattle.array_data.specs.type_tree.Lent.{numberOr, kindAt, tyOf, typeOf}
+use Rattle.array_data.proofs.lent_tables.Laws.{and-left, and-right}
 use Rattle.columns.specs.Grounds.{smallBody, withinCeilings, obeys, columnGround}
 use Rattle.column_pair.specs.Pair.{pairGround, plainCode, rangeIn}
 

@@ -1,10 +1,11 @@
 // What calls that read one or two lent columns outside a join ask first.
 ghost use mathlib.Core.Path.{_≡_};
 ghost use mathlib.Core.List.{[]};
-ghost use Rattle.lent_tables.specs.Lent.{tables};
-ghost use Rattle.kind_rules.specs.Rows.{tablesOf};
+ghost use Rattle.array_data.specs.lent_tables.Lent.{tables};
+ghost use Rattle.source_rules.specs.kinds.Rows.{tablesOf};
 ghost use Rattle.columns.specs.Grounds.{columnGround};
 ghost use Rattle.column_pair.specs.Pair.{pairGround, plainCode, rangeIn};
+use array_data::lent_tables;
 
 // The lesser ground that is not 0.
 fn first_ground(g: u8, h: u8) -> u8

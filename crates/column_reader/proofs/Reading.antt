@@ -9,14 +9,14 @@ use Rattle.columnar.specs.Reading.{read}
 use Rattle.schema.specs.Tree.{ceilings, typed}
 use Rattle.array_data.specs.Tables.{Tables, lengthOf, offsetOf}
 use Rattle.array_data.specs.Typed.{columnOf, tablesFrom, sourceRule}
-use Rattle.lent.specs.Lent.{treeOf, typeOf}
+use Rattle.array_data.specs.type_tree.Lent.{treeOf, typeOf}
 use Rattle.columns.specs.Grounds.{smallBody, withinCeilings, obeys, columnGround}
 use Rattle.columns.proofs.Grounds.{within-low}
 use Rattle.columns.proofs.Answers.{ready}
 use Rattle.source_rules.proofs.From.{length-from, offset-from}
 use Rattle.row_reader.specs.Walk.{isRefused}
-use Rattle.row_meaning.specs.Meaning.{meaning}
-use Rattle.row_meaning.proofs.Rows.{lent-row}
+use Rattle.row_reader.specs.meaning.Meaning.{meaning}
+use Rattle.row_reader.proofs.meaning.Rows.{lent-row}
 use Rattle.column_reader.specs.Column.{readRow}
 use Rattle.column_reader.proofs.Laws.{row-accepted}
 

@@ -7,7 +7,7 @@ use lib.Dec.{eqb}
 use Rattle.array_data.specs.Tables.{Tables}
 use Rattle.array_data.specs.Typed.{tablesFrom}
 use Rattle.columns.specs.Grounds.{columnGround}
-use Rattle.node_table.specs.Words.{planted}
+use Rattle.array_data.specs.node_words.Words.{planted}
 use Rattle.slot_reader.specs.declared.RowRead.the-variants as row
 use Rattle.row_reader.specs.Walk.{Walked, walkedTo, rowAt}
 

@@ -1,2 +1,3 @@
 -- The definitions that the contracts of `column_reader` cite.
 pub mod Column
+pub mod runs

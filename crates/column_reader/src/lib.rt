@@ -1,11 +1,14 @@
 // Reading a lent column outside a join (docs/FORMAT.md). A column is checked once with open_column and then read row by row with
 // row_reader::row_at over the tree that it wrote, or checked and read at one row with read_row.
+pub mod runs;
+
 ghost use mathlib.Core.Path.{_≡_};
 ghost use lib.ListN.{length};
 ghost use Rattle.number.specs.Number.{splice};
-ghost use Rattle.kind_rules.specs.Rows.{tablesOf};
+ghost use Rattle.source_rules.specs.kinds.Rows.{tablesOf};
 ghost use Rattle.columns.specs.Grounds.{columnGround};
 ghost use Rattle.column_reader.specs.Column.{openedTree, readRow};
+use array_data::node_words;
 use row_reader::RowAnswer;
 use slot_reader::RowRead;
 
@@ -27,7 +30,7 @@ pub fn open_column(
 {
     let ground = columns::column_ground(formats, schema, lengths, places, buffers, body, first, n);
     if ground == 0 {
-        node_table::plant(formats, schema, first as usize, n as usize, tree);
+        node_words::plant(formats, schema, first as usize, n as usize, tree);
     }
     ground
 }

@@ -9,9 +9,9 @@ use borrow.Author.Tests.{ltb-true}
 use Rattle.schema.specs.Tree.{every, ceilings, typed}
 use Rattle.schema.proofs.Known.{every-at, within-nodes}
 use Rattle.array_data.specs.Tables.{Tables, lengthOf, offsetOf}
-use Rattle.lent.proofs.Ids.{both}
-use Rattle.lent_tables.specs.Lent.{tables}
-use Rattle.kind_rules.specs.Rows.{tablesOf}
+use Rattle.array_data.proofs.type_tree.Ids.{both}
+use Rattle.array_data.specs.lent_tables.Lent.{tables}
+use Rattle.source_rules.specs.kinds.Rows.{tablesOf}
 use Rattle.source_rules.specs.Source.{Ready}
 use Rattle.columns.specs.Grounds.{countFits, fewBuffers, nodeFits, smallBody, withinCeilings, obeys, columnGround, sourceCount, firstOf, nodesOf, fewSources, allTyped, allSame, allWithin, allObey, sourcesGround}
 use Rattle.columns.proofs.Grounds.{within-low, within-at, typed-at}

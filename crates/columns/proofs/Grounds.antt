@@ -14,9 +14,9 @@ use Rattle.schema.proofs.Laws.{every-all}
 use Rattle.schema.proofs.Known.{every-at}
 use Rattle.array_data.specs.Tables.{Tables}
 use Rattle.array_data.specs.Typed.{columnOf, placed, tablesFrom}
-use Rattle.lent.specs.Lent.{treeOf, typeOf}
-use Rattle.lent.proofs.Ids.{both}
-use Rattle.lent.proofs.Source.{lent-source, lent-obeys, same-source, same-obeys}
+use Rattle.array_data.specs.type_tree.Lent.{treeOf, typeOf}
+use Rattle.array_data.proofs.type_tree.Ids.{both}
+use Rattle.array_data.proofs.type_tree.Source.{lent-source, lent-obeys, same-source, same-obeys}
 use Rattle.columns.specs.Grounds.{smallBody, nodeFits, withinCeilings, obeys, columnGround, sourceCount, firstOf, nodesOf, fewSources, allTyped, allSame, allWithin, allObey, sourcesGround}
 use Rattle.columns.proofs.Laws.{of-source}
 

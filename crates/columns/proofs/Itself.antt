@@ -8,12 +8,12 @@ use native.Mathlib.Omega.{arith}
 use lib.Dec.{leb, eqb}
 use borrow.Author.Tests.{leb-true, eq-eqb, ne-eqb}
 use Rattle.formats.specs.Code.{same, between, isFixed, isString, isView, isListView, isList, isUnion}
-use Rattle.format_ids.specs.Ids.{sameIds}
+use Rattle.formats.specs.union_ids.Ids.{sameIds}
 use Rattle.schema.specs.Tree.{every, field, flag, children, dictionary, childForEach, isValues, codeOf, idsOf, shape, unionShape, typed, sameFlag, sameFormats, sameNode, sameType}
 use Rattle.schema.proofs.Laws.{every-all}
 use Rattle.schema.proofs.Known.{typed-shape}
 use Rattle.array_data.specs.Tables.{Tables}
-use Rattle.lent.proofs.Ids.{both}
+use Rattle.array_data.proofs.type_tree.Ids.{both}
 use Rattle.source_rules.proofs.Node.{by-shape, union-each}
 use Rattle.columns.specs.Grounds.{smallBody, withinCeilings, obeys, columnGround, sourceCount, firstOf, nodesOf, fewSources, allTyped, allSame, allWithin, allObey, sourcesGround}
 

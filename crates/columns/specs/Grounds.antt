@@ -8,7 +8,7 @@ use Rattle.formats.specs.Code.{isView}
 use Rattle.schema.specs.Tree.{every, codeOf, ceilings, typed, sameType}
 use Rattle.array_data.specs.Tables.{Tables, lengthOf, offsetOf, place}
 use Rattle.array_data.specs.Typed.{tablesFrom, sourceRule}
-use Rattle.lent.specs.Lent.{treeOf}
+use Rattle.array_data.specs.type_tree.Lent.{treeOf}
 
 -- "Length and offset are not negative, their sum at most 2^63−1": both are two's complement, so that a negative one is 2^63 or more
 unfoldable pub countFits : Tables → ℕ → Bool

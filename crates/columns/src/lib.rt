@@ -5,9 +5,10 @@ ghost use mathlib.Core.List.{[]};
 ghost use Prim.Native.Nat.{_+_, _*_, _≤_, _<_, _^_};
 ghost use lib.ListN.{length};
 ghost use Rattle.schema.specs.Tree.{every};
-ghost use Rattle.lent_tables.specs.Lent.{tables};
-ghost use Rattle.kind_rules.specs.Rows.{tablesOf};
+ghost use Rattle.array_data.specs.lent_tables.Lent.{tables};
+ghost use Rattle.source_rules.specs.kinds.Rows.{tablesOf};
 ghost use Rattle.columns.specs.Grounds.{countFits, fewBuffers, nodeFits, smallBody, withinCeilings, columnGround, firstOf, nodesOf, fewSources, allWithin, allTyped, allSame, allObey, sourcesGround};
+use array_data::lent_tables;
 
 // ---- ground 9
 

@@ -17,16 +17,16 @@ use Rattle.run_ends.specs.declared.Runs.{Runs}
 use Rattle.run_ends.specs.declared.Runs.the-variants.{Range, None}
 use Rattle.run_ends.specs.declared.PhysicalRun.{PhysicalRun}
 use Rattle.run_ends.proofs.Laws.{range-within}
-use Rattle.lent_tables.proofs.Laws.{no, yes, and-left, and-right}
+use Rattle.array_data.proofs.lent_tables.Laws.{no, yes, and-left, and-right}
 use Rattle.walk.specs.State.{Join, codeOf, bytesOf, endOf, rows, addRows, place, lengthOf, offsetOf, rowsIn, slotOf, far}
 use Rattle.walk.specs.Log.{Out, Did, fail, done, need, found, next, each}
 use Rattle.walk.specs.Leaves.{copyMask, copyNumbers}
 use Rattle.walk.specs.Copy.{Walk, isWidth, masked, childWith, listViewRow, copyListView, copyFields, copySparse, idAt, denseRow, copyDense, endsAt, putRuns, runsAt, copyRuns, copyData, copySlots, copyNode, copyWalk}
 use Rattle.walk.proofs.Laws.{fail-did, done-did, need-no, need-ok, found-no, found-ok, next-no, next-ok, next-need}
 use Rattle.leaf_walk.proofs.Laws.{rows-in}
-use Rattle.rows.specs.Numbers.{listNumbers, denseNumbers, runsReady, runNumbers}
-use Rattle.rows.proofs.Laws.{list-row-is, dense-row-is, ends-ready}
-use Rattle.leaf_data.proofs.Laws.{data-sparse, data-dense, data-runs}
+use Rattle.nested_rows.specs.Numbers.{listNumbers, denseNumbers, runsReady, runNumbers}
+use Rattle.nested_rows.proofs.Laws.{list-row-is, dense-row-is, ends-ready}
+use Rattle.node_data.proofs.Laws.{data-sparse, data-dense, data-runs}
 
 pub by : {state parts : List ℕ} {wr : Bool} {room : List ℕ} {r : ℕ} {c2 room2 : List ℕ} {o o2 : Out} → o ≡ o2 → Did state parts wr o room r c2 room2 → Did state parts wr o2 room r c2 room2
 by {state} {parts} {wr} {room} {r} {c2} {room2} e d = subst (λ (o : Out). Did state parts wr o room r c2 room2) e d

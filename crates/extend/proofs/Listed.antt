@@ -10,16 +10,16 @@ use Rattle.formats.specs.Code.{isListView, isList}
 use Rattle.utils.specs.Extension.{extended, pick}
 use Rattle.utils.specs.declared.Extended.{Extended}
 use Rattle.utils.specs.declared.Extended.the-variants.{Fits, Over, Falls}
-use Rattle.lent_tables.proofs.Laws.{and-left, and-right}
+use Rattle.array_data.proofs.lent_tables.Laws.{and-left, and-right}
 use Rattle.walk.specs.State.{Join, codeOf, bytesOf, rows, place, rowsIn}
 use Rattle.walk.specs.Log.{Did, applyIf, need}
 use Rattle.walk.specs.Copy.{Walk, copyListView, putStretch, putList, copyList, copyData}
 use Rattle.walk.proofs.Laws.{fail-did, done-did, wrote-did, need-no, need-ok, next-ok}
 use Rattle.leaf_walk.proofs.Widths.{list-width, lists-width}
-use Rattle.string_walk.specs.Lists.{triedOffsets, offsetsLog}
-use Rattle.string_walk.proofs.Laws.{fits-is}
-use Rattle.string_walk.proofs.Lists.{untouched}
-use Rattle.leaf_data.proofs.Laws.{data-list-view, data-list}
+use Rattle.leaf_walk.specs.variable_size.Lists.{triedOffsets, offsetsLog}
+use Rattle.leaf_walk.proofs.variable_size.Laws.{fits-is}
+use Rattle.leaf_walk.proofs.variable_size.Lists.{untouched}
+use Rattle.node_data.proofs.Laws.{data-list-view, data-list}
 use Rattle.extend.proofs.Laws.{by}
 
 -- ---- by the code

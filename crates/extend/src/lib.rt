@@ -9,6 +9,9 @@ ghost use Rattle.walk.specs.State.{codeOf, place};
 ghost use Rattle.walk.specs.Log.{Did};
 ghost use Rattle.walk.specs.Copy.{copySparse, denseRow, copyDense, copyData, copyWalk};
 ghost use Rattle.leaf_walk.specs.Join.{join};
+use array_data::lent_tables;
+use nested_rows::lookups;
+use walk::plan_words;
 
 mod lists;
 mod runs;
@@ -70,7 +73,7 @@ fn extend_sparse(
     if g != 0 {
         return g;
     }
-    let end = growth::end_of(state, i);
+    let end = plan_words::end_of(state, i);
     let mut k = i + 1;
     let mut t: usize = 0;
     while t < 32 {
@@ -96,7 +99,7 @@ fn extend_sparse(
         if g != 0 {
             return g;
         }
-        k = growth::end_of(state, k);
+        k = plan_words::end_of(state, k);
         t += 1;
     }
     0
@@ -125,15 +128,15 @@ fn extend_dense_row(
 {
     let at = (lent_tables::place(places, first + i, 3) as u64) + (slot + r);
     let id = body[at as usize];
-    let k = steps::child_with(state, id, growth::end_of(state, i), i + 1);
+    let k = lookups::child_with(state, id, plan_words::end_of(state, i), i + 1);
     if 32 <= k {
         return 12;
     }
-    let g = rows::dense_numbers(state, parts, counts, room, write, i, r, k, id);
+    let g = nested_rows::dense_numbers(state, parts, counts, room, write, i, r, k, id);
     if g != 0 {
         return g;
     }
-    let position = steps::entry_at(body, lent_tables::place(places, first + i, 5), 4, slot + r);
+    let position = lookups::entry_at(body, lent_tables::place(places, first + i, 5), 4, slot + r);
     extend(
         state,
         parts,
@@ -172,7 +175,7 @@ fn extend_dense(
     requires { ⌜ (first < 2 ^ 32) × (source < 2 ^ 32) × (i < 32) × (slot + n < 2 ^ 63) ⌝ }
     ensures { λ g. ⌜ Did (now (state .entry)) (now (parts .entry)) write (copyDense (join (now (state .entry)) (now (parts .entry)) (now (lengths .entry)) (now (places .entry)) (now (body .entry)) first source) (copyWalk (join (now (state .entry)) (now (parts .entry)) (now (lengths .entry)) (now (places .entry)) (now (body .entry)) first source) depth) i slot n (now (counts .entry))) (now (room .entry)) g (now (counts .exit)) (now (room .exit)) ⌝ }
 {
-    if !rows::pairs_in(places, body, first, i, 1, 4, slot, n) {
+    if !nested_rows::pairs_in(places, body, first, i, 1, 4, slot, n) {
         return 12;
     }
     let mut r: u64 = 0;
@@ -221,7 +224,7 @@ fn extend_data(
     requires { ⌜ (first < 2 ^ 32) × (source < 2 ^ 32) × (i < 32) × (slot + n < 2 ^ 63) ⌝ }
     ensures { λ g. ⌜ Did (now (state .entry)) (now (parts .entry)) write (copyData (join (now (state .entry)) (now (parts .entry)) (now (lengths .entry)) (now (places .entry)) (now (body .entry)) first source) (copyWalk (join (now (state .entry)) (now (parts .entry)) (now (lengths .entry)) (now (places .entry)) (now (body .entry)) first source) depth) (codeOf (now (state .entry)) i) i slot n (now (counts .entry))) (now (room .entry)) g (now (counts .exit)) (now (room .exit)) ⌝ }
 {
-    let code = growth::code_of(state, i);
+    let code = plan_words::code_of(state, i);
     if formats::is_list_view(code) | formats::is_list(code) {
         return lists::extend_listed(
             state,
@@ -240,7 +243,7 @@ fn extend_data(
             depth,
         );
     }
-    if code == leaf_data::SPARSE {
+    if code == node_data::SPARSE {
         return extend_sparse(
             state,
             parts,
@@ -258,7 +261,7 @@ fn extend_data(
             depth,
         );
     }
-    if code == leaf_data::DENSE {
+    if code == node_data::DENSE {
         return extend_dense(
             state,
             parts,
@@ -276,7 +279,7 @@ fn extend_data(
             depth,
         );
     }
-    if code == leaf_data::RUN_END {
+    if code == node_data::RUN_END {
         return runs::extend_run(
             state,
             parts,
@@ -294,7 +297,7 @@ fn extend_data(
             depth,
         );
     }
-    leaf_data::copy_leaf(
+    node_data::copy_leaf(
         state,
         parts,
         places,
@@ -336,11 +339,11 @@ pub fn extend(
     if 32 <= i {
         return 12;
     }
-    let slot = steps::slot_of(lengths, first, i, a, n);
+    let slot = lookups::slot_of(lengths, first, i, a, n);
     if 9223372036854775808 <= slot {
         return 12;
     }
-    let g = leaf_data::copy_validity(
+    let g = node_data::copy_validity(
         state,
         parts,
         places,
@@ -375,6 +378,6 @@ pub fn extend(
     if g != 0 {
         return g;
     }
-    growth::add_rows(counts, i, n);
+    plan_words::add_rows(counts, i, n);
     0
 }

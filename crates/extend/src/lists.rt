@@ -10,7 +10,11 @@ ghost use Rattle.walk.specs.State.{codeOf, place};
 ghost use Rattle.walk.specs.Log.{Did};
 ghost use Rattle.walk.specs.Copy.{listViewRow, copyListView, copyList, copyData, copyWalk};
 ghost use Rattle.leaf_walk.specs.Join.{join};
+use array_data::lent_tables;
+use leaf_walk::variable_size;
+use nested_rows::lookups;
 use utils::Extended;
+use walk::plan_words;
 
 // Row r of a list-view: its offset is the child's length before its copy.
 fn extend_list_row(
@@ -35,9 +39,9 @@ fn extend_list_row(
     requires { ⌜ (place (join [] [] (now lengths) (now places) (now body) first 0) i 3 + w * (slot + r + 1) ≤ length (now body)) × (place (join [] [] (now lengths) (now places) (now body) first 0) i 5 + w * (slot + r + 1) ≤ length (now body)) ⌝ }
     ensures { λ g. ⌜ Did (now (state .entry)) (now (parts .entry)) write (listViewRow (join (now (state .entry)) (now (parts .entry)) (now (lengths .entry)) (now (places .entry)) (now (body .entry)) first source) (copyWalk (join (now (state .entry)) (now (parts .entry)) (now (lengths .entry)) (now (places .entry)) (now (body .entry)) first source) depth) w i slot r (now (counts .entry))) (now (room .entry)) g (now (counts .exit)) (now (room .exit)) ⌝ }
 {
-    let offset = steps::entry_at(body, lent_tables::place(places, first + i, 3), w, slot + r);
-    let size = steps::entry_at(body, lent_tables::place(places, first + i, 5), w, slot + r);
-    let g = rows::list_numbers(state, parts, counts, room, write, i, w, r, size);
+    let offset = lookups::entry_at(body, lent_tables::place(places, first + i, 3), w, slot + r);
+    let size = lookups::entry_at(body, lent_tables::place(places, first + i, 5), w, slot + r);
+    let g = nested_rows::list_numbers(state, parts, counts, room, write, i, w, r, size);
     if g != 0 {
         return g;
     }
@@ -84,7 +88,7 @@ fn extend_list_view(
     if 32 <= i + 1 {
         return 12;
     }
-    if !rows::pairs_in(places, body, first, i, w, w, slot, n) {
+    if !nested_rows::pairs_in(places, body, first, i, w, w, slot, n) {
         return 12;
     }
     let mut r: u64 = 0;
@@ -142,7 +146,7 @@ fn extend_list(
     if 32 <= i + 1 {
         return 12;
     }
-    match string_walk::copy_offsets(
+    match variable_size::copy_offsets(
         state,
         parts,
         places,
@@ -157,7 +161,7 @@ fn extend_list(
         n,
     ) {
         Extended::Fits { last, first: from } => {
-            let size = last - growth::rows_of(counts, i + 1);
+            let size = last - plan_words::rows_of(counts, i + 1);
             crate::extend(
                 state,
                 parts,
@@ -201,8 +205,8 @@ pub fn extend_listed(
     requires { ⌜ (isListView (codeOf (now state) i) || isList (codeOf (now state) i)) ≡ true ⌝ }
     ensures { λ g. ⌜ Did (now (state .entry)) (now (parts .entry)) write (copyData (join (now (state .entry)) (now (parts .entry)) (now (lengths .entry)) (now (places .entry)) (now (body .entry)) first source) (copyWalk (join (now (state .entry)) (now (parts .entry)) (now (lengths .entry)) (now (places .entry)) (now (body .entry)) first source) depth) (codeOf (now (state .entry)) i) i slot n (now (counts .entry))) (now (room .entry)) g (now (counts .exit)) (now (room .exit)) ⌝ }
 {
-    let w = steps::width_at(state, i);
-    if formats::is_list(growth::code_of(state, i)) {
+    let w = lookups::width_at(state, i);
+    if formats::is_list(plan_words::code_of(state, i)) {
         return extend_list(
             state,
             parts,

@@ -4,8 +4,10 @@ ghost use Prim.Native.Nat.{_+_, _<_, _^_};
 ghost use Rattle.walk.specs.Log.{Did};
 ghost use Rattle.walk.specs.Copy.{copyRuns, copyWalk};
 ghost use Rattle.leaf_walk.specs.Join.{join};
+use nested_rows::lookups;
 use run_ends::LogicalRow;
 use run_ends::Runs;
+use walk::plan_words;
 
 // A run-end node: the values of the runs of the rows, then the runs' ends.
 pub fn extend_run(
@@ -30,14 +32,14 @@ pub fn extend_run(
     if n == 0 {
         return 0;
     }
-    let g = rows::runs_ready(state, lengths, places, body, counts, first, i, n);
+    let g = nested_rows::runs_ready(state, lengths, places, body, counts, first, i, n);
     if g != 0 {
         return g;
     }
-    let w = steps::width_at(state, i + 1);
-    let last = growth::rows_of(counts, i);
+    let w = lookups::width_at(state, i + 1);
+    let last = plan_words::rows_of(counts, i);
     let start = LogicalRow(slot);
-    match rows::runs_at(lengths, places, body, first, i, w, start, n) {
+    match nested_rows::runs_at(lengths, places, body, first, i, w, start, n) {
         Runs::Range { first: run, count } => {
             let g = crate::extend(
                 state,
@@ -58,7 +60,7 @@ pub fn extend_run(
             if g != 0 {
                 return g;
             }
-            rows::run_numbers(
+            nested_rows::run_numbers(
                 state,
                 parts,
                 lengths,

@@ -9,16 +9,16 @@ use lib.Dec.{ltb, leb, eqb}
 use borrow.Author.Tests.{lt-ltb, le-ltb, eq-eqb, ne-eqb}
 use Rattle.columnar.specs.Types.{half}
 use Rattle.utils.specs.Offsets.{countedUp}
-use Rattle.lent_tables.proofs.Laws.{no, yes}
+use Rattle.array_data.proofs.lent_tables.Laws.{no, yes}
 use Rattle.walk.specs.State.{Join, codeOf, bytesOf, endOf, rows, gap, addRows}
 use Rattle.walk.specs.Log.{Out, Did, put, wrote, need, next}
 use Rattle.walk.specs.Leaves.{nullMask, countNulls}
 use Rattle.walk.specs.Copy.{isWidth, masked}
 use Rattle.walk.specs.Nulls.{NullWalk, nullableChild, noHome, nullFields, nullSparse, nullDense, addRun, growRun, nullRuns, nullData, nullNode, nullWalk}
 use Rattle.walk.proofs.Laws.{fail-did, done-did, need-no, need-ok, found-no, found-ok, next-no, next-ok}
-use Rattle.rows.specs.Numbers.{nullIds, nullPositions, nullEnd, longerEnd}
-use Rattle.rows.proofs.Laws.{then-child}
-use Rattle.leaf_data.proofs.Laws.{null-sparse, null-dense, null-runs}
+use Rattle.nested_rows.specs.Numbers.{nullIds, nullPositions, nullEnd, longerEnd}
+use Rattle.nested_rows.proofs.Laws.{then-child}
+use Rattle.node_data.proofs.Laws.{null-sparse, null-dense, null-runs}
 
 by : {state parts : List ℕ} {wr : Bool} {room : List ℕ} {r : ℕ} {c2 room2 : List ℕ} {o o2 : Out} → o ≡ o2 → Did state parts wr o room r c2 room2 → Did state parts wr o2 room r c2 room2
 by {state} {parts} {wr} {room} {r} {c2} {room2} e d = subst (λ (o : Out). Did state parts wr o room r c2 room2) e d

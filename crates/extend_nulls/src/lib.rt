@@ -7,6 +7,7 @@ ghost use Rattle.walk.specs.State.{codeOf};
 ghost use Rattle.walk.specs.Log.{Did};
 ghost use Rattle.walk.specs.Nulls.{nullSparse, nullDense, nullRuns, nullData, nullWalk};
 ghost use Rattle.leaf_walk.specs.Join.{join};
+use walk::plan_words;
 
 // A sparse union: n ids of its first nullable child, and n nulls in every child.
 fn extend_nulls_sparse(
@@ -22,15 +23,15 @@ fn extend_nulls_sparse(
     requires { ⌜ i < 32 ⌝ }
     ensures { λ g. ⌜ Did (now (state .entry)) (now (parts .entry)) write (nullSparse (join (now (state .entry)) (now (parts .entry)) [] [] [] 0 0) (nullWalk (join (now (state .entry)) (now (parts .entry)) [] [] [] 0 0) depth) i n (now (counts .entry))) (now (room .entry)) g (now (counts .exit)) (now (room .exit)) ⌝ }
 {
-    let h = rows::null_home(state, i);
+    let h = nested_rows::null_home(state, i);
     if 32 <= h {
-        return rows::no_home(state, i);
+        return nested_rows::no_home(state, i);
     }
-    let g = rows::null_ids(state, parts, counts, room, write, i, h, n);
+    let g = nested_rows::null_ids(state, parts, counts, room, write, i, h, n);
     if g != 0 {
         return g;
     }
-    let end = growth::end_of(state, i);
+    let end = plan_words::end_of(state, i);
     let mut k = i + 1;
     let mut t: usize = 0;
     while t < 32 {
@@ -41,7 +42,7 @@ fn extend_nulls_sparse(
         if g != 0 {
             return g;
         }
-        k = growth::end_of(state, k);
+        k = plan_words::end_of(state, k);
         t += 1;
     }
     0
@@ -61,11 +62,11 @@ fn extend_nulls_dense(
     requires { ⌜ i < 32 ⌝ }
     ensures { λ g. ⌜ Did (now (state .entry)) (now (parts .entry)) write (nullDense (join (now (state .entry)) (now (parts .entry)) [] [] [] 0 0) (nullWalk (join (now (state .entry)) (now (parts .entry)) [] [] [] 0 0) depth) i n (now (counts .entry))) (now (room .entry)) g (now (counts .exit)) (now (room .exit)) ⌝ }
 {
-    let h = rows::null_home(state, i);
+    let h = nested_rows::null_home(state, i);
     if 32 <= h {
-        return rows::no_home(state, i);
+        return nested_rows::no_home(state, i);
     }
-    let g = rows::null_positions(state, parts, counts, room, write, i, h, n);
+    let g = nested_rows::null_positions(state, parts, counts, room, write, i, h, n);
     if g != 0 {
         return g;
     }
@@ -86,17 +87,17 @@ fn extend_nulls_run(
     requires { ⌜ i < 32 ⌝ }
     ensures { λ g. ⌜ Did (now (state .entry)) (now (parts .entry)) write (nullRuns (join (now (state .entry)) (now (parts .entry)) [] [] [] 0 0) (nullWalk (join (now (state .entry)) (now (parts .entry)) [] [] [] 0 0) depth) i n (now (counts .entry))) (now (room .entry)) g (now (counts .exit)) (now (room .exit)) ⌝ }
 {
-    if !rows::has_ends(state, i) {
+    if !nested_rows::has_ends(state, i) {
         return 12;
     }
-    if growth::bytes_of(counts, i) == 2 {
-        return rows::longer_end(state, parts, counts, room, write, i, n);
+    if plan_words::bytes_of(counts, i) == 2 {
+        return nested_rows::longer_end(state, parts, counts, room, write, i, n);
     }
     let g = extend_nulls(state, parts, counts, room, write, i + 2, 1, depth);
     if g != 0 {
         return g;
     }
-    rows::null_end(state, parts, counts, room, write, i, n)
+    nested_rows::null_end(state, parts, counts, room, write, i, n)
 }
 
 // The data of a node by its format's code.
@@ -113,17 +114,17 @@ fn extend_nulls_data(
     requires { ⌜ i < 32 ⌝ }
     ensures { λ g. ⌜ Did (now (state .entry)) (now (parts .entry)) write (nullData (join (now (state .entry)) (now (parts .entry)) [] [] [] 0 0) (nullWalk (join (now (state .entry)) (now (parts .entry)) [] [] [] 0 0) depth) (codeOf (now (state .entry)) i) i n (now (counts .entry))) (now (room .entry)) g (now (counts .exit)) (now (room .exit)) ⌝ }
 {
-    let code = growth::code_of(state, i);
-    if code == leaf_data::SPARSE {
+    let code = plan_words::code_of(state, i);
+    if code == node_data::SPARSE {
         return extend_nulls_sparse(state, parts, counts, room, write, i, n, depth);
     }
-    if code == leaf_data::DENSE {
+    if code == node_data::DENSE {
         return extend_nulls_dense(state, parts, counts, room, write, i, n, depth);
     }
-    if code == leaf_data::RUN_END {
+    if code == node_data::RUN_END {
         return extend_nulls_run(state, parts, counts, room, write, i, n, depth);
     }
-    leaf_data::null_leaf(state, parts, counts, room, write, i, n)
+    node_data::null_leaf(state, parts, counts, room, write, i, n)
 }
 
 // n nulls of node i, at most `depth` levels down.
@@ -152,10 +153,10 @@ pub fn extend_nulls(
     if g != 0 {
         return g;
     }
-    let g = leaf_data::null_validity(state, parts, counts, room, write, i, n);
+    let g = node_data::null_validity(state, parts, counts, room, write, i, n);
     if g != 0 {
         return g;
     }
-    growth::add_rows(counts, i, n);
+    plan_words::add_rows(counts, i, n);
     0
 }

@@ -1,4 +1,6 @@
 // The format strings of the Arrow C Data Interface that document 01 admits, read from a slice of bytes.
+pub mod union_ids;
+
 ghost use mathlib.Core.Path.{_≡_};
 ghost use mathlib.Core.List.{[], _∷_};
 ghost use Prim.Native.Nat.{_+_, _-_, _≤_, _<_};

@@ -21,12 +21,12 @@ use Rattle.schema.specs.Tree.{ceilings, typed}
 use Rattle.array_data.specs.Tables.{Tables, part, lengthOf, offsetOf, place, validOf, firstBuffer, held, inBody, validIn}
 use Rattle.array_data.specs.Rules.{oneIn, fixedRule}
 use Rattle.array_data.specs.Typed.{NodeKind, fixedNode, Means, columnOf, tablesFrom, kindRule, nodeRule, sourceRule}
-use Rattle.lent.specs.Lent.{treeOf, typeOf}
-use Rattle.lent.proofs.Lent.{means}
-use Rattle.lent.proofs.Ids.{both}
-use Rattle.lent_tables.specs.Lent.{tables}
-use Rattle.lent_tables.proofs.Laws.{and-left, and-right}
-use Rattle.kind_rules.specs.Rows.{tablesOf}
+use Rattle.array_data.specs.type_tree.Lent.{treeOf, typeOf}
+use Rattle.array_data.proofs.type_tree.Lent.{means}
+use Rattle.array_data.proofs.type_tree.Ids.{both}
+use Rattle.array_data.specs.lent_tables.Lent.{tables}
+use Rattle.array_data.proofs.lent_tables.Laws.{and-left, and-right}
+use Rattle.source_rules.specs.kinds.Rows.{tablesOf}
 use Rattle.source_rules.proofs.From.{length-from, offset-from, place-from}
 use Rattle.columns.specs.Grounds.{smallBody, withinCeilings, obeys, columnGround}
 use Rattle.columns.proofs.Grounds.{within-low, obeys-is, column-accepted}

@@ -10,9 +10,9 @@ use lib.Ieee.{Float, binary64, nanBits, ofBits, isNan}
 use lib.Ieee.Bits.{nanBits-is}
 use borrow.Author.Tests.{not-true}
 use Rattle.columnar.specs.Row.{Row, null, whole, single, double, bytes, list, union}
-use Rattle.lent_tables.proofs.Laws.{and-left, and-right}
-use Rattle.float_order.specs.Order.{firstBy}
-use Rattle.float_order.proofs.Weak.{Weak, lt-weak, above-weak, asym, not-under, first-assoc, first-number}
+use Rattle.array_data.proofs.lent_tables.Laws.{and-left, and-right}
+use Rattle.frames.specs.float_order.Order.{firstBy}
+use Rattle.frames.proofs.float_order.Weak.{Weak, lt-weak, above-weak, asym, not-under, first-assoc, first-number}
 use Rattle.frames.specs.declared.Frame.{Frame}
 use Rattle.frames.specs.Frames.{joined, Stop, isNumber, floatOf, counts, frameOf, widened, widenedBy, framed, together}
 use Rattle.frames.specs.Sides.{Side, leastLatitude, mostLatitude, leastLongitude, mostLongitude, sideOf, outside, rowOf, valueOf, EachCounted, FirstMet}

@@ -14,7 +14,7 @@ use Rattle.columnar.specs.Row.{Row, null, double, seg}
 use Rattle.columnar.specs.Array.{item, ok, sight}
 use Rattle.columnar.proofs.Items.{item-lt}
 use Rattle.array_data.specs.Tables.{Tables, part, place, offsetOf, validOf, firstBuffer}
-use Rattle.lent_tables.proofs.Laws.{and-left, and-right}
+use Rattle.array_data.proofs.lent_tables.Laws.{and-left, and-right}
 use Rattle.columns.specs.Grounds.{columnGround}
 use Rattle.column_pair.specs.Pair.{rangeIn}
 use Rattle.column_pair.proofs.Pair.{pair-none, range-known}

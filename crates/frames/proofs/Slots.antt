@@ -14,7 +14,7 @@ use borrow.Author.Tests.{ltb-true, ltb-false, le-leb, lt-leb, not-true, not-fals
 use Rattle.columnar.specs.Row.{Row, double, seg}
 use Rattle.columnar.specs.Array.{item, bit, ok, sight}
 use Rattle.array_data.specs.Tables.{Tables, part, place, offsetOf, validOf, firstBuffer}
-use Rattle.lent_tables.proofs.Laws.{and-left, and-right, is-none, is-some}
+use Rattle.array_data.proofs.lent_tables.Laws.{and-left, and-right, is-none, is-some}
 use Rattle.frames.specs.declared.Frame.{Frame}
 use Rattle.frames.specs.declared.Mask.{Mask}
 use Rattle.frames.specs.declared.Boxed.the-variants as boxed

@@ -8,7 +8,7 @@ use Rattle.columnar.specs.Row.{Row, seg}
 use Rattle.columnar.specs.Reading.{read}
 use Rattle.array_data.specs.Tables.{Tables}
 use Rattle.array_data.specs.Typed.{columnOf, tablesFrom}
-use Rattle.lent.specs.Lent.{treeOf, typeOf}
+use Rattle.array_data.specs.type_tree.Lent.{treeOf, typeOf}
 use Rattle.columns.specs.Grounds.{columnGround}
 use Rattle.column_pair.specs.Pair.{pairGround, plainCode, rangeIn}
 use Rattle.frames.specs.declared.Frame.{Frame}

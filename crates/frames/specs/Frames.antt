@@ -4,7 +4,7 @@ use mathlib.Core.Option.{Option, none, some}
 use mathlib.Core.List.{List, [], _∷_}
 use lib.Ieee.{Float, nan, binary64, ofBits, nanBits}
 use Rattle.columnar.specs.Row.{Row, null, whole, single, double, bytes, list, union}
-use Rattle.float_order.specs.Order.{lesserOf, greaterOf}
+use Rattle.frames.specs.float_order.Order.{lesserOf, greaterOf}
 use Rattle.frames.specs.declared.Frame.{Frame}
 
 -- the frame of one place

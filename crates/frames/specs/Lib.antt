@@ -3,3 +3,4 @@ pub mod Frames
 pub mod Sides
 pub mod Slots
 pub mod Box
+pub mod float_order

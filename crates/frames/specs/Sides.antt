@@ -5,7 +5,7 @@ use mathlib.Core.List.{List, [], _∷_, _++_, List·Memᴰ}
 use Prim.Native.Nat.{ℕ, _≤_, _<_, _^_}
 use lib.Ieee.{Float, binary64, toBits, lt}
 use Rattle.columnar.specs.Row.{Row, double}
-use Rattle.float_order.specs.Order.{above}
+use Rattle.frames.specs.float_order.Order.{above}
 use Rattle.frames.specs.declared.Frame.{Frame}
 use Rattle.frames.specs.Frames.{Stop, floatOf, counts}
 

@@ -1,4 +1,6 @@
 // The box around a trip's stops: the smallest and largest latitude and longitude of a range of rows, as one frame.
+pub mod float_order;
+
 ghost use mathlib.Core.Path.{_≡_};
 ghost use mathlib.Core.Bool.{true, false, not, _&&_};
 ghost use mathlib.Core.List.{[]};
@@ -7,11 +9,12 @@ ghost use lib.ListN.{length};
 ghost use lib.Ieee.{binary64, nanBits, ofBits};
 ghost use Rattle.columnar.specs.Array.{item, ok};
 ghost use Rattle.array_data.specs.Tables.{offsetOf};
-ghost use Rattle.lent_tables.specs.Lent.{tables};
-ghost use Rattle.kind_rules.specs.Rows.{tablesOf};
+ghost use Rattle.array_data.specs.lent_tables.Lent.{tables};
+ghost use Rattle.source_rules.specs.kinds.Rows.{tablesOf};
 ghost use Rattle.frames.specs.Frames.{joined, around, counts, widened, widenedBy, framed};
 ghost use Rattle.frames.specs.Slots.{maskOf, Holds, slotStop, slotStops, Passed, maskPlace, Placed, lentStops};
 ghost use Rattle.frames.specs.Box.{isDouble, found, boxOf};
+use array_data::lent_tables;
 
 // Smallest and largest latitude, smallest and largest longitude.
 pub struct Frame {

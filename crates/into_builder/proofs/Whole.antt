@@ -8,14 +8,14 @@ use lib.ListN.{length}
 use lib.Dec.{leb, eqb}
 use borrow.Author.Tests.{le-leb, lt-leb, leb-true, leb-false, eqb-true, eq-eqb, ne-eqb}
 use Rattle.columnar.specs.Test.{every}
-use Rattle.lent_tables.proofs.Laws.{and-left, and-right}
+use Rattle.array_data.proofs.lent_tables.Laws.{and-left, and-right}
 use Rattle.parts.specs.Parts.{nodesOf, partsWithin, partsHold}
-use Rattle.orders.specs.Order.{Lent}
-use Rattle.finishing.specs.Finish.{Finished, zerosAt, nullsAt, keptIn, lengthTable, nullTable, placeTable, tablesFit, roomFits, finishing}
-use Rattle.buffer_names.specs.Names.{lent, countBefore, namesBefore}
-use Rattle.finished_counts.specs.Counts.{keptOf}
+use Rattle.refinement.specs.orders.Order.{Lent}
+use Rattle.refinement.specs.finishing.Finish.{Finished, zerosAt, nullsAt, keptIn, lengthTable, nullTable, placeTable, tablesFit, roomFits, finishing}
+use Rattle.into_builder.specs.buffers.Names.{lent, countBefore, namesBefore}
+use Rattle.into_builder.specs.counts.Counts.{keptOf}
 use Rattle.into_builder.specs.Answer.{Answers}
-use Rattle.buffer_names.proofs.Names.{before-same, names-same}
+use Rattle.into_builder.proofs.buffers.Names.{before-same, names-same}
 
 every-same : (p q : ℕ → Bool) → ((i : ℕ) → p i ≡ q i) → (n : ℕ) → every p n ≡ every q n
 every-same p q h zero = refl

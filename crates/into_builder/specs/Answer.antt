@@ -2,7 +2,7 @@
 use mathlib.Core.Path.{_≡_}
 use mathlib.Core.List.{List}
 use Prim.Native.Nat.{ℕ}
-use Rattle.finishing.specs.Finish.{Finished}
+use Rattle.refinement.specs.finishing.Finish.{Finished}
 
 -- the ground that is answered, and the four tables as they are left
 pub record Answers (a : Finished) (r : ℕ) (lengths nulls places buffers : List ℕ) : Type 0 where

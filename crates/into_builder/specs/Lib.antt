@@ -1,2 +1,5 @@
 -- What the contracts of `into_builder` cite beside finishing itself, which is that of crate `finishing`.
 pub mod Answer
+pub mod counts
+pub mod places
+pub mod buffers

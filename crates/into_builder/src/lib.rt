@@ -1,5 +1,9 @@
 // The finished array of a join on lent memory: the tables that say where it stands (docs/FORMAT.md). No byte of it is moved.
 // Follows `into_builder` of arrow-data 60.1.0 src/transform/mod.rs, Apache-2.0; see NOTICE.
+pub mod buffers;
+pub mod counts;
+pub mod places;
+
 ghost use mathlib.Core.Path.{_≡_};
 ghost use mathlib.Core.Bool.{_&&_};
 ghost use mathlib.Core.List.{List};
@@ -8,9 +12,10 @@ ghost use lib.ListN.{length};
 ghost use lib.Dec.{leb, eqb};
 ghost use Rattle.walk.specs.State.{nulls};
 ghost use Rattle.parts.specs.Parts.{nodesOf, partsWithin, partsHold};
-ghost use Rattle.finishing.specs.Finish.{buffersBefore, finishing};
-ghost use Rattle.buffer_names.specs.Names.{lent, countBefore};
+ghost use Rattle.refinement.specs.finishing.Finish.{buffersBefore, finishing};
+ghost use Rattle.into_builder.specs.buffers.Names.{lent, countBefore};
 ghost use Rattle.into_builder.specs.Answer.{Answers};
+use array_data::lent_tables;
 
 // ---- what is asked of a join
 
@@ -18,7 +23,7 @@ ghost use Rattle.into_builder.specs.Answer.{Answers};
 pub fn buffer_total(plan: &[u64], sources: &[u32], places: &[u32]) -> u64
     ensures { λ r. ⌜ ((parts lengths body buffers counts room : List ℕ) (base : ℕ) → r ≡ buffersBefore (lent (now (plan .entry)) parts (now (sources .entry)) lengths (now (places .entry)) body) buffers counts room base (nodesOf (now (plan .entry)))) ⌝ }
 {
-    buffer_names::count_before(plan, sources, places, parts::node_count(plan))
+    buffers::count_before(plan, sources, places, parts::node_count(plan))
 }
 
 // The running null count.
@@ -78,7 +83,7 @@ fn tables_fit(
     ensures { λ r. ⌜ r ≡ (eqb lengths (2 * nodesOf (now (plan .entry))) && eqb nulls (nodesOf (now (plan .entry))) && eqb spots (9 * nodesOf (now (plan .entry))) && eqb names (2 * countBefore (now (plan .entry)) (now (sources .entry)) (now (places .entry)) (nodesOf (now (plan .entry)))) && leb (countBefore (now (plan .entry)) (now (sources .entry)) (now (places .entry)) (nodesOf (now (plan .entry)))) 4294967295) ⌝ }
 {
     let n = parts::node_count(plan);
-    let total = buffer_names::count_before(plan, sources, places, n);
+    let total = buffers::count_before(plan, sources, places, n);
     let nodes = (lengths == 2 * n) & (nulls == n) & (spots == 9 * n);
     nodes & (names as u64 == 2 * total) & (total <= 4294967295)
 }
@@ -108,7 +113,7 @@ pub fn into_builder(
     if !body_fits(base, room.len()) {
         return 9;
     }
-    if !finished_counts::all_kept(plan, sources, lengths, places, body) {
+    if !counts::all_kept(plan, sources, lengths, places, body) {
         return 12;
     }
     if !room_fits(plan, parts, counters, room.len()) {
@@ -125,8 +130,8 @@ pub fn into_builder(
     ) {
         return 14;
     }
-    finished_counts::write_lengths(plan, sources, lengths, counters, new_lengths);
-    finished_counts::write_nulls(
+    counts::write_lengths(plan, sources, lengths, counters, new_lengths);
+    counts::write_nulls(
         plan,
         parts,
         sources,
@@ -137,7 +142,7 @@ pub fn into_builder(
         room,
         new_nulls,
     );
-    finished_places::write_places(
+    places::write_places(
         plan,
         parts,
         sources,
@@ -147,6 +152,6 @@ pub fn into_builder(
         new_nulls,
         new_places,
     );
-    buffer_names::write_buffers(plan, sources, places, buffers, new_buffers);
+    buffers::write_buffers(plan, sources, places, buffers, new_buffers);
     0
 }

@@ -13,12 +13,12 @@ use Rattle.walk.specs.Log.{put, mask, Out, fail, done, wrote, need, found, next
 use Rattle.walk.specs.Leaves.{nullMask, countNulls, nullNumbers, nullString}
 use Rattle.walk.specs.Copy.{masked}
 use Rattle.walk.specs.Nulls.{NullWalk, nullListView, nullList, nullFields, nullSparse, nullDense, addRun, growRun, nullRuns, nullData, nullNode, nullWalk}
-use Rattle.room.specs.Reach.{Child}
-use Rattle.room.proofs.Found.{child-first, child-later, child-nullable}
-use Rattle.link.proofs.Counters.{bytes-other, bytes-of-rows, bytes-of-nulls}
+use Rattle.refinement.specs.log_in_room.Reach.{Child}
+use Rattle.refinement.proofs.log_in_room.Found.{child-first, child-later, child-nullable}
+use Rattle.refinement.proofs.walk_is_model.Counters.{bytes-other, bytes-of-rows, bytes-of-nulls}
 use Rattle.parts.specs.Parts.{nodesOf}
-use Rattle.orders.specs.Sound.{planSound}
-use Rattle.orders.proofs.Sound.{Stands, node-stands, child-inside}
+use Rattle.refinement.specs.orders.Sound.{planSound}
+use Rattle.refinement.proofs.orders.Sound.{Stands, node-stands, child-inside}
 use Rattle.join.proofs.Amends.{AllAmended, amended-both, amended-wide}
 
 -- node h is among lo .. hi - 1, and its gap is 2

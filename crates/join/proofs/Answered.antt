@@ -15,11 +15,11 @@ use Rattle.model.specs.Transform.{Destination, start}
 use Rattle.model.specs.Book.{Call}
 use Rattle.model.specs.Held.{held}
 use Rattle.model.proofs.Start.{held-start}
-use Rattle.link.specs.Memory.{Memory}
-use Rattle.orders.specs.Order.{After, Lent, groundsOf}
-use Rattle.orders.specs.Counted.{AllAcceptedRoom, RoomEnough}
-use Rattle.orders.proofs.Step.{Joined, Running, Answers, made, not-made, order-step}
-use Rattle.orders.proofs.Booked.{answer-is}
+use Rattle.refinement.specs.walk_is_model.Memory.{Memory}
+use Rattle.refinement.specs.orders.Order.{After, Lent, groundsOf}
+use Rattle.refinement.specs.orders.Counted.{AllAcceptedRoom, RoomEnough}
+use Rattle.refinement.proofs.orders.Step.{Joined, Running, Answers, made, not-made, order-step}
+use Rattle.refinement.proofs.orders.Booked.{answer-is}
 use Rattle.join.specs.Join.{Lending, Bytes, sourcesIn, typeIn, columnsIn, keepsIn, openingOf, lentOf, groundsIn, AllAccepted, Enough}
 use Rattle.join.proofs.Opens.{runs}
 

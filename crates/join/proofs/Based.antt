@@ -14,11 +14,11 @@ use Rattle.walk.specs.State.{codeOf, rows}
 use Rattle.walk.specs.State as walk
 use Rattle.walk.specs.Log.{startOf}
 use Rattle.parts.specs.Parts.{nodesOf, copied, hasPart}
-use Rattle.orders.specs.Order.{Lent, joinOf}
+use Rattle.refinement.specs.orders.Order.{Lent, joinOf}
 use Rattle.model.specs.Book.{Call}
-use Rattle.finishing.specs.Finish.{zerosAt, nullsAt, buffersOf, buffersBefore, buffersFrom, buffersUpTo, copiedPlace, keptPlace, placeAt, sources, lengthTable, nullTable, bufferTable}
-use Rattle.finishing.specs.Shows.{Bodied}
-use Rattle.finishing.proofs.Lookups.{place-at, source-part, room-part}
+use Rattle.refinement.specs.finishing.Finish.{zerosAt, nullsAt, buffersOf, buffersBefore, buffersFrom, buffersUpTo, copiedPlace, keptPlace, placeAt, sources, lengthTable, nullTable, bufferTable}
+use Rattle.refinement.specs.finishing.Shows.{Bodied}
+use Rattle.refinement.proofs.finishing.Lookups.{place-at, source-part, room-part}
 use Rattle.join.specs.Join.{Lending, lentOf, afterCalls, tablesAt}
 use Rattle.join.specs.Based.{inRoom}
 

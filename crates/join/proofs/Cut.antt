@@ -14,12 +14,12 @@ use Rattle.model.specs.Cut.{outside, Cut, RunsCut, NoRuns, SameColumn}
 use Rattle.model.proofs.CutTries.{done-is}
 use Rattle.model.proofs.CutLess.{Led}
 use Rattle.model.proofs.CutFinish.{perform-cut, runs-cut}
-use Rattle.orders.specs.Counted.{answerRoom, countsAfter}
-use Rattle.orders.proofs.Booked.{groundOf}
-use Rattle.orders.proofs.Step.{Running, obeys}
-use Rattle.orders.proofs.CutRoom.{answer-room-cut, book-cut}
-use Rattle.orders.proofs.CutRun.{answers-behind, answers-one, carried-by, Carried, carried-out}
-use Rattle.opening.proofs.Opened.{Opened, orders-after}
+use Rattle.refinement.specs.orders.Counted.{answerRoom, countsAfter}
+use Rattle.refinement.proofs.orders.Booked.{groundOf}
+use Rattle.refinement.proofs.orders.Step.{Running, obeys}
+use Rattle.refinement.proofs.orders.CutRoom.{answer-room-cut, book-cut}
+use Rattle.refinement.proofs.orders.CutRun.{answers-behind, answers-one, carried-by, Carried, carried-out}
+use Rattle.refinement.proofs.opening.Opened.{Opened, orders-after}
 use Rattle.join.specs.Join.{Lending, Bytes, sourcesIn, treeIn, typeIn, columnsIn, keepsIn, openingOf, lentOf, afterCalls, nextCall, tablesOf, finishedOf, heldAfter, callAnswer, bookOf, reachedBy}
 use Rattle.join.proofs.Opens.{runs}
 use Rattle.join.proofs.Demand1.{held-is, call-answered}

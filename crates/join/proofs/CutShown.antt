@@ -10,7 +10,7 @@ use Rattle.columnar.specs.Reading.{Body, Column}
 use Rattle.model.specs.Cut.{Under, underRuns, underList, OneRunMore, RunsCut, SameArray, SameBody, SameColumn}
 use Rattle.array_data.specs.Tables.{Tables, lengthOf, arrayWith}
 use Rattle.array_data.specs.Typed.{Tree, nodeOf, plainBody, bodyOf, columnOf}
-use Rattle.finishing.specs.Shows.{ShowsNode, ShowsPlain, ShowsData, Shows}
+use Rattle.refinement.specs.finishing.Shows.{ShowsNode, ShowsPlain, ShowsData, Shows}
 
 array-is : {B : Type 0} (x y : Array B) → x .len ≡ y .len → x .off ≡ y .off → x .valid ≡ y .valid → x .body ≡ y .body → x ≡ y
 array-is x y e f g h =

@@ -14,13 +14,13 @@ use Rattle.model.specs.Book.{Call}
 use Rattle.model.specs.Held.{held}
 use Rattle.model.proofs.Start.{held-start}
 use Rattle.columns.specs.Grounds.{sourcesGround}
-use Rattle.orders.specs.Order.{Lent, ordered}
-use Rattle.orders.specs.Counted.{answerRoom, countsAfter}
-use Rattle.orders.proofs.Accepted.{order-keeps}
-use Rattle.orders.proofs.Booked.{groundOf, booked, ground-is}
-use Rattle.opening.specs.Open.{roomPlaced, opening}
-use Rattle.opening.specs.Fits.{openIn}
-use Rattle.opening.proofs.Opened.{Opened, opening-refused, opening-ground, orders-after}
+use Rattle.refinement.specs.orders.Order.{Lent, ordered}
+use Rattle.refinement.specs.orders.Counted.{answerRoom, countsAfter}
+use Rattle.refinement.proofs.orders.Accepted.{order-keeps}
+use Rattle.refinement.proofs.orders.Booked.{groundOf, booked, ground-is}
+use Rattle.refinement.specs.opening.Open.{roomPlaced, opening}
+use Rattle.refinement.specs.opening.Fits.{openIn}
+use Rattle.refinement.proofs.opening.Opened.{Opened, opening-refused, opening-ground, orders-after}
 use Rattle.join.specs.Join.{Lending, Bytes, sourcesIn, typeIn, columnsIn, keepsIn, openingOf, lentOf, afterCalls, nextCall, openAnswer, heldAfter, callAnswer, reachedBy}
 use Rattle.join.proofs.Opens.{runs}
 use Rattle.join.proofs.Numbers.{Ordinary, number-among}

@@ -28,18 +28,18 @@ use Rattle.array_data.specs.Tables.{lengthOf}
 use Rattle.array_data.specs.Typed.{sourceRule}
 use Rattle.walk.specs.State as walk
 use Rattle.parts.specs.Parts.{nodesOf}
-use Rattle.orders.specs.Order.{After}
-use Rattle.orders.specs.Fits.{fits, answerIn, answersIn}
-use Rattle.orders.specs.Counted.{nullsRoom}
-use Rattle.orders.proofs.Step.{Running, Answers, made, not-made, order-step}
-use Rattle.orders.proofs.Booked.{booked}
-use Rattle.link.specs.Holds.{Holds}
-use Rattle.opening.proofs.Taken.{sources-of}
-use Rattle.opening.proofs.Opened.{Opened, orders-after}
-use Rattle.finishing.specs.Finish.{Finished, lengthTable, nullTable, placeTable, bufferTable, buffersBefore}
-use Rattle.finishing.specs.Shows.{Shows, Counts, Bodied}
-use Rattle.finishing.proofs.Orders.{appended}
-use Rattle.finishing.proofs.Join.{finishing-accepted, join-shows, join-nulls, join-again}
+use Rattle.refinement.specs.orders.Order.{After}
+use Rattle.refinement.specs.orders.Fits.{fits, answerIn, answersIn}
+use Rattle.refinement.specs.orders.Counted.{nullsRoom}
+use Rattle.refinement.proofs.orders.Step.{Running, Answers, made, not-made, order-step}
+use Rattle.refinement.proofs.orders.Booked.{booked}
+use Rattle.refinement.specs.walk_is_model.Holds.{Holds}
+use Rattle.refinement.proofs.opening.Taken.{sources-of}
+use Rattle.refinement.proofs.opening.Opened.{Opened, orders-after}
+use Rattle.refinement.specs.finishing.Finish.{Finished, lengthTable, nullTable, placeTable, bufferTable, buffersBefore}
+use Rattle.refinement.specs.finishing.Shows.{Shows, Counts, Bodied}
+use Rattle.refinement.proofs.finishing.Orders.{appended}
+use Rattle.refinement.proofs.finishing.Join.{finishing-accepted, join-shows, join-nulls, join-again}
 use Rattle.join.specs.Join.{Lending, Bytes, sourcesIn, treeIn, typeIn, columnsIn, keepsIn, openingOf, lentOf, afterCalls, nextCall, finishingOf, tablesAt, tablesOf, finishedOf, nullsOf, reachedBy}
 use Rattle.join.proofs.Opens.{runs}
 

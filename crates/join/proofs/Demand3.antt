@@ -15,12 +15,12 @@ use Rattle.model.specs.Book.{Call}
 use Rattle.model.proofs.Bits.{length-seg, getD-seg}
 use Rattle.model.proofs.Start.{held-start}
 use Rattle.walk.specs.State as walk
-use Rattle.orders.specs.Fits.{bookIn}
-use Rattle.orders.specs.Counted.{bookRoom}
-use Rattle.orders.proofs.Booked.{booked, booked-by}
-use Rattle.opening.proofs.Opened.{Opened}
-use Rattle.finishing.specs.Shows.{Bodied}
-use Rattle.finishing.proofs.Join.{join-rows}
+use Rattle.refinement.specs.orders.Fits.{bookIn}
+use Rattle.refinement.specs.orders.Counted.{bookRoom}
+use Rattle.refinement.proofs.orders.Booked.{booked, booked-by}
+use Rattle.refinement.proofs.opening.Opened.{Opened}
+use Rattle.refinement.specs.finishing.Shows.{Bodied}
+use Rattle.refinement.proofs.finishing.Join.{join-rows}
 use Rattle.join.specs.Join.{Lending, Bytes, sourcesIn, typeIn, columnsIn, keepsIn, openingOf, lentOf, afterCalls, groundsIn, finishedAt, finishedOf, bookOf, bookAnswered, reachedBy}
 use Rattle.join.proofs.Opens.{runs}
 use Rattle.join.proofs.Demand2.{finished-bytes, counters-are, behind-body}

@@ -20,7 +20,7 @@ use Rattle.model.specs.Book.{Call, copy, nulls}
 use Rattle.model.specs.Orders.{perform}
 use Rattle.model.proofs.Follow.{guard-done}
 use Rattle.model.proofs.CutTries.{done-is, then-done}
-use Rattle.orders.specs.Fits.{fits, answerIn, answersIn}
+use Rattle.refinement.specs.orders.Fits.{fits, answerIn, answersIn}
 use Rattle.join.specs.Join.{Lending, sourcesIn, typeIn, columnsIn, lentOf, reachedBy}
 use Rattle.join.specs.Gap.{nullsLatest, Came, begun, Grows, Histories, noHistory, callAdds, callsAdd, EveryCame, Either, NullsGrow}
 use Rattle.join.proofs.Demand2.{first, carriedOut}

@@ -22,7 +22,7 @@ use Rattle.model.specs.Transform.{Grown, Destination, extendData, nullsData, st
 use Rattle.model.specs.Opening.{keeps}
 use Rattle.model.specs.Book.{Call, copy, nulls}
 use Rattle.model.specs.Orders.{perform, performAll}
-use Rattle.finishing.specs.Shows.{Shows, Bodied}
+use Rattle.refinement.specs.finishing.Shows.{Shows, Bodied}
 use Rattle.join.specs.Join.{Lending, Bytes, sourcesIn, treeIn, typeIn, columnsIn, openingOf, lentOf, afterCalls, tablesAt, tablesOf, reachedBy}
 use Rattle.join.specs.Rust.{rustNulls, rustPerform, rustAll, NoGaps}
 use Rattle.join.proofs.Demand2.{first, carriedOut, reached-is, bytes-at, behind-body}

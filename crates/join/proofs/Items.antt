@@ -17,14 +17,14 @@ use Rattle.model.specs.Transform.{Destination}
 use Rattle.model.specs.Book.{Call, entered, nullsEntered}
 use Rattle.model.specs.Held.{held}
 use Rattle.model.proofs.CutTries.{done-is}
-use Rattle.link.specs.Memory.{Memory}
-use Rattle.orders.specs.Order.{After, Lent, ordered, orderedAll}
-use Rattle.orders.specs.Fits.{answersIn}
-use Rattle.orders.specs.Counted.{answerRoom, countsAfter, bookRoom, nullsRoom, acceptedRoom}
-use Rattle.orders.proofs.Step.{Joined, Running, Answers, made, not-made, order-step}
-use Rattle.orders.proofs.Run.{orders-run}
-use Rattle.orders.proofs.Booked.{groundOf, answer-is, booked}
-use Rattle.orders.proofs.Accepted.{order-keeps}
+use Rattle.refinement.specs.walk_is_model.Memory.{Memory}
+use Rattle.refinement.specs.orders.Order.{After, Lent, ordered, orderedAll}
+use Rattle.refinement.specs.orders.Fits.{answersIn}
+use Rattle.refinement.specs.orders.Counted.{answerRoom, countsAfter, bookRoom, nullsRoom, acceptedRoom}
+use Rattle.refinement.proofs.orders.Step.{Joined, Running, Answers, made, not-made, order-step}
+use Rattle.refinement.proofs.orders.Run.{orders-run}
+use Rattle.refinement.proofs.orders.Booked.{groundOf, answer-is, booked}
+use Rattle.refinement.proofs.orders.Accepted.{order-keeps}
 use Rattle.trip.specs.Trip.{longest, AfterTrip, givenUp, carried, tripOrder}
 use Rattle.trip.proofs.Trip.{ordered-behind, trip-leaves, trip-keeps}
 use Rattle.join.specs.Items.{Item, one, trip, callsIn, itemOrder, itemsAll, itemGrounds, inTurn, placeIn, itemAnswer, tripPlace, itemsHeld, enteredAll, nullsAll, itemsBook, itemsNulls, carriedCalls}

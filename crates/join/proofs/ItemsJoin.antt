@@ -21,15 +21,15 @@ use Rattle.model.proofs.Start.{held-start}
 use Rattle.array_data.specs.Typed.{sourceRule, columnOf}
 use Rattle.walk.specs.State as walk
 use Rattle.parts.specs.Parts.{nodesOf}
-use Rattle.orders.specs.Order.{Lent}
-use Rattle.orders.specs.Counted.{answerRoom}
-use Rattle.orders.proofs.Step.{Running}
-use Rattle.orders.proofs.Booked.{groundOf}
-use Rattle.opening.proofs.Opened.{Opened, orders-after}
-use Rattle.finishing.specs.Finish.{finishing, lengthTable, nullTable, placeTable, bufferTable, buffersBefore}
-use Rattle.finishing.specs.Shows.{Shows, Bodied}
-use Rattle.finishing.specs.Shows as shown
-use Rattle.finishing.proofs.Orders.{appended}
+use Rattle.refinement.specs.orders.Order.{Lent}
+use Rattle.refinement.specs.orders.Counted.{answerRoom}
+use Rattle.refinement.proofs.orders.Step.{Running}
+use Rattle.refinement.proofs.orders.Booked.{groundOf}
+use Rattle.refinement.proofs.opening.Opened.{Opened, orders-after}
+use Rattle.refinement.specs.finishing.Finish.{finishing, lengthTable, nullTable, placeTable, bufferTable, buffersBefore}
+use Rattle.refinement.specs.finishing.Shows.{Shows, Bodied}
+use Rattle.refinement.specs.finishing.Shows as shown
+use Rattle.refinement.proofs.finishing.Orders.{appended}
 use Rattle.trip.specs.Trip.{longest}
 use Rattle.join.specs.Join.{Lending, Bytes, sourcesIn, treeIn, typeIn, columnsIn, keepsIn, openingOf, lentOf, afterCalls, finishedOf, bookOf, reachedBy}
 use Rattle.join.specs.Items.{Item, one, trip, itemOrder, inTurn, itemAnswer, tripPlace, afterItems, nextItem, nextPlace, groundsItems, finishingItems, tablesItems, finishedItems, heldItems, answerItem, placeItem, bookItems, nullsItems, callsCarried}

@@ -15,9 +15,9 @@ use Rattle.model.specs.Try.{Try, done, stop, then, guard, after}
 use Rattle.model.specs.Grounds.{Counts, startCounts}
 use Rattle.model.specs.Book.{Call, answer, entered}
 use Rattle.model.proofs.WiderAnswers.{answer-wider, entered-wider}
-use Rattle.orders.specs.Counted.{roomFor, answerRoom}
-use Rattle.orders.proofs.Booked.{groundOf}
-use Rattle.opening.proofs.Taken.{sources-of}
+use Rattle.refinement.specs.orders.Counted.{roomFor, answerRoom}
+use Rattle.refinement.proofs.orders.Booked.{groundOf}
+use Rattle.refinement.proofs.opening.Taken.{sources-of}
 use Rattle.trip.specs.Trip.{longest}
 use Rattle.join.specs.Join.{Lending, Bytes, sourcesIn, typeIn, columnsIn, keepsIn, openingOf, lentOf}
 use Rattle.join.specs.Stored.{StoredWider}

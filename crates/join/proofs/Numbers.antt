@@ -18,8 +18,8 @@ use Rattle.model.specs.Try.{Try, done, stop, then, guard, stepsT}
 use Rattle.model.specs.Ordered.{firstNullable, home}
 use Rattle.model.specs.Grounds.{Counts, counts, leaf, rowsOf, bytesOf, kidOf, withKid, Ask, askOf, each, sparseAll, plainAsk, listViewRow, listViewAsk, listAsk, denseRow, denseAsk, firstRun, runCount, runEndAsk, askCopy, AskNulls, unlessNone, denseNulls, runEndNulls, nullsAsk, askNulls}
 use Rattle.model.specs.Book.{Call, copy, nulls, answer}
-use Rattle.orders.specs.Counted.{roomFor, answerRoom}
-use Rattle.orders.proofs.Booked.{groundOf}
+use Rattle.refinement.specs.orders.Counted.{roomFor, answerRoom}
+use Rattle.refinement.proofs.orders.Booked.{groundOf}
 
 -- an answer that is a refusal is one of these numbers
 abbrev Stops : {A : Type 0} → (ℕ → Type 0) → Try A → Type 0

@@ -1,6 +1,6 @@
 -- What an accepted opening leaves, for the proofs of the demands. Assumes nothing.
 use mathlib.Core.Path.{_≡_}
-use Rattle.opening.proofs.Opened.{Opened, opening-runs}
+use Rattle.refinement.proofs.opening.Opened.{Opened, opening-runs}
 use Rattle.join.specs.Join.{Lending, Bytes, openingOf}
 
 pub runs : (l : Lending) → Bytes l → openingOf l .ground ≡ 0 → Opened (l .formats) (l .schema) (l .sources) (l .tables) (l .keep) (l .gaps) (l .parts) (openingOf l)

@@ -10,7 +10,7 @@ use native.Mathlib.Omega.{arith}
 use lib.ListN.{length}
 use lib.Dec.{leb, ltb, eqb}
 use borrow.Author.Tests.{leb-true, le-leb, eqb-true, eqb-false, eq-eqb, ne-eqb}
-use Rattle.lent_tables.proofs.Laws.{and-left, and-right}
+use Rattle.array_data.proofs.lent_tables.Laws.{and-left, and-right}
 use Rattle.columnar.specs.Types.{Number, Plain, fixed, string, Ty, tDictionary}
 use Rattle.columnar.specs.Array.{Array, nullCount}
 use Rattle.columnar.specs.Plain.{PlainBody}
@@ -28,11 +28,11 @@ use Rattle.array_data.specs.Typed.{Tree, validStart, starts, bodyOf}
 use Rattle.columns.specs.Grounds.{sourcesGround}
 use Rattle.parts.specs.Parts.{partTotal, startAt, sizeAt, inRoom, apart, Apart, before, behind, first-empty, second-empty, partsPlaced}
 use Rattle.parts.proofs.Placed.{every-at}
-use Rattle.orders.proofs.Booked.{groundOf}
-use Rattle.opening.specs.Open.{roomPlaced}
-use Rattle.opening.specs.Fits.{openIn}
-use Rattle.opening.proofs.Opened.{given, opening-ground}
-use Rattle.opening.proofs.PartsDue.{parts-due}
+use Rattle.refinement.proofs.orders.Booked.{groundOf}
+use Rattle.refinement.specs.opening.Open.{roomPlaced}
+use Rattle.refinement.specs.opening.Fits.{openIn}
+use Rattle.refinement.proofs.opening.Opened.{given, opening-ground}
+use Rattle.refinement.proofs.opening.PartsDue.{parts-due}
 use Rattle.join.specs.Join.{Lending, Bytes, sourcesIn, typeIn, columnsIn, openingOf, lentOf}
 use Rattle.join.specs.Said.{partsIn, PartsLie, nullsAt, SameMask, no-null, one-place, SameBuffers, OneDictionary}
 use Rattle.join.proofs.Demand1.{parts-next}

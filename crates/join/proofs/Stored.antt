@@ -18,8 +18,8 @@ use Rattle.array_data.specs.Tables.{Tables, lengthOf, offsetOf, place}
 use Rattle.array_data.specs.Typed.{tablesFrom}
 use Rattle.columns.specs.Grounds.{countFits, fewBuffers, nodeFits, withinCeilings, firstOf, nodesOf, fewSources, allTyped, allSame, allWithin, sourcesGround}
 use Rattle.columns.proofs.Grounds.{Accepted, accepted, some-source, within-at, typed-at, same-at, sources-source}
-use Rattle.worded.proofs.OneTree.{same-column}
-use Rattle.lent.proofs.Ids.{both}
+use Rattle.refinement.proofs.plan_is_type.OneTree.{same-column}
+use Rattle.array_data.proofs.type_tree.Ids.{both}
 use Rattle.join.specs.Join.{Lending, sourcesIn, typeIn, columnsIn}
 use Rattle.join.specs.Stored.{StoredWider, isEnds, CodeWider, same-code, strings, list-views, plain-lists, keys, run-ends, endsAt, NodeWider}
 

@@ -10,10 +10,10 @@ use Rattle.number.specs.Number.{number}
 use Rattle.columnar.specs.Array.{item}
 use Rattle.columnar.specs.Wider.{Wider}
 use Rattle.formats.specs.Code as Code
-use Rattle.format_ids.specs.Ids as Ids
+use Rattle.formats.specs.union_ids.Ids as Ids
 use Rattle.schema.specs.Tree as Tree
 use Rattle.array_data.specs.Typed.{placed, tablesFrom}
-use Rattle.lent.specs.Lent.{kindAt, treeOf}
+use Rattle.array_data.specs.type_tree.Lent.{kindAt, treeOf}
 use Rattle.columns.specs.Grounds as Grounds
 use Rattle.join.specs.Join.{Lending, typeIn}
 use Rattle.join.specs.Stored.{StoredWider, same-code, strings, NodeWider}

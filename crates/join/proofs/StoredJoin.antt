@@ -9,7 +9,7 @@ use native.Mathlib.Omega.{arith}
 use lib.ListN.{length, getD, replicate, length-replicate}
 use lib.Dec.{T, leb, ltb, eqb}
 use borrow.Author.Tests.{ltb-true, lt-ltb}
-use Rattle.lent_tables.proofs.Laws.{and-left, and-right}
+use Rattle.array_data.proofs.lent_tables.Laws.{and-left, and-right}
 use Rattle.number.specs.Number.{number, encode}
 use Rattle.columnar.specs.Row.{Row, null, bytes}
 use Rattle.columnar.specs.Types.{tPlain, string}
@@ -18,23 +18,23 @@ use Rattle.columnar.specs.Reading.{readAll}
 use Rattle.columnar.specs.Wider.{Wider, wPlain, wString, entries, Again}
 use Rattle.formats.specs.Code as Code
 use Rattle.formats.specs.Code.{isString}
-use Rattle.format_ids.specs.Ids as Ids
+use Rattle.formats.specs.union_ids.Ids as Ids
 use Rattle.schema.specs.Tree as Tree
 use Rattle.array_data.specs.Typed.{placed, tablesFrom}
-use Rattle.lent.specs.Lent.{kindAt, tyOf, treeOf}
+use Rattle.array_data.specs.type_tree.Lent.{kindAt, tyOf, treeOf}
 use Rattle.model.specs.Try.{done, stop, guard, after}
 use Rattle.model.specs.Grounds.{Counts, rowsOf, bytesOf, startCounts}
 use Rattle.model.specs.Book.{Call, copy, answer}
 use Rattle.walk.specs.State.{codeOf, keepsOf, partOf}
-use Rattle.link.specs.Holds.{WordedPlain, Worded}
-use Rattle.room.proofs.Found.{between-both}
+use Rattle.refinement.specs.walk_is_model.Holds.{WordedPlain, Worded}
+use Rattle.refinement.proofs.log_in_room.Found.{between-both}
 use Rattle.parts.specs.Parts.{nodesOf, copied, validityParts, partsBefore, sizeAt, sizeOf, Apart, before, behind}
 use Rattle.columns.specs.Grounds as Grounds
-use Rattle.orders.specs.Counted.{roomFor}
-use Rattle.orders.proofs.Booked.{groundOf}
-use Rattle.opening.specs.Fits.{openIn}
-use Rattle.opening.proofs.Laid.{stood}
-use Rattle.opening.proofs.Opened.{given}
+use Rattle.refinement.specs.orders.Counted.{roomFor}
+use Rattle.refinement.proofs.orders.Booked.{groundOf}
+use Rattle.refinement.specs.opening.Fits.{openIn}
+use Rattle.refinement.proofs.opening.Laid.{stood}
+use Rattle.refinement.proofs.opening.Opened.{given}
 use Rattle.join.specs.Join.{Lending, Bytes, sourcesIn, typeIn, columnsIn, keepsIn, openingOf, lentOf, finishedOf, groundsIn, acceptedOf, AllAccepted}
 use Rattle.join.specs.Stored.{StoredWider, strings, NodeWider}
 use Rattle.join.specs.Said.{PartsLie}

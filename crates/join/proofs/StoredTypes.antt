@@ -20,10 +20,10 @@ use Rattle.schema.proofs.Depth.{nested, child-before, child-depth}
 use Rattle.schema.proofs.Known.{typed-whole, typed-shape, within-depth}
 use Rattle.array_data.specs.Tables.{Tables}
 use Rattle.array_data.specs.Typed.{NodeKind, fixedNode, viewNode, listViewNode, listNode, sparseNode, denseNode, runEndNode, dictionaryNode, Tree, childNode, fieldOf}
-use Rattle.lent.specs.Lent.{numberOr, idsOr, unionKind, kindAt, treeOf, plainAs, tyAs, tyOf, typeOf}
-use Rattle.lent.proofs.Ids.{both, field-in}
-use Rattle.lent.proofs.Shaped.{five, integer-fixed, plainKind, at-fixed, at-keys, at-string, at-view, at-list, at-lists, at-union, at-run}
-use Rattle.lent.proofs.Lent.{child-same, first-child, second-child, some-node, root}
+use Rattle.array_data.specs.type_tree.Lent.{numberOr, idsOr, unionKind, kindAt, treeOf, plainAs, tyAs, tyOf, typeOf}
+use Rattle.array_data.proofs.type_tree.Ids.{both, field-in}
+use Rattle.array_data.proofs.type_tree.Shaped.{five, integer-fixed, plainKind, at-fixed, at-keys, at-string, at-view, at-list, at-lists, at-union, at-run}
+use Rattle.array_data.proofs.type_tree.Lent.{child-same, first-child, second-child, some-node, root}
 use Rattle.columns.specs.Grounds.{firstOf, nodesOf, sourcesGround}
 use Rattle.columns.proofs.Grounds.{Accepted, accepted, some-source, within-low, within-at, typed-at}
 use Rattle.join.specs.Join.{Lending, typeIn}

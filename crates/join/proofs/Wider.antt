@@ -20,14 +20,14 @@ use Rattle.model.proofs.WiderAsks.{start-counts-wider}
 use Rattle.model.proofs.WiderAnswers.{keeps-wider}
 use Rattle.model.proofs.WiderOpening.{opening-wider}
 use Rattle.columns.specs.Grounds.{sourcesGround}
-use Rattle.orders.specs.Counted.{bookRoom, AllAcceptedRoom, RoomEnough}
-use Rattle.orders.proofs.Booked.{groundOf}
-use Rattle.orders.proofs.WiderRoom.{wide-room}
-use Rattle.opening.specs.Open.{roomPlaced}
-use Rattle.opening.specs.Fits.{openFits}
-use Rattle.opening.proofs.Taken.{sources-of}
-use Rattle.opening.proofs.Stay.{open-model}
-use Rattle.opening.proofs.Opened.{opening-ground}
+use Rattle.refinement.specs.orders.Counted.{bookRoom, AllAcceptedRoom, RoomEnough}
+use Rattle.refinement.proofs.orders.Booked.{groundOf}
+use Rattle.refinement.proofs.orders.WiderRoom.{wide-room}
+use Rattle.refinement.specs.opening.Open.{roomPlaced}
+use Rattle.refinement.specs.opening.Fits.{openFits}
+use Rattle.refinement.proofs.opening.Taken.{sources-of}
+use Rattle.refinement.proofs.opening.Stay.{open-model}
+use Rattle.refinement.proofs.opening.Opened.{opening-ground}
 use Rattle.join.specs.Join.{Lending, Bytes, sourcesIn, typeIn, columnsIn, keepsIn, openingOf, lentOf, groundsIn, finishedOf, bookOf, acceptedOf, AllAccepted, Enough}
 use Rattle.join.specs.Stored.{StoredWider}
 use Rattle.join.proofs.Opens.{runs}

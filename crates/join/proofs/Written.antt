@@ -7,15 +7,15 @@ use mathlib.Core.List.{List}
 use Prim.Native.Nat.{ℕ, _<_}
 use lib.ListN.{length, replicate}
 use Rattle.model.specs.Book.{Call}
-use Rattle.orders.specs.Sound.{planSound}
-use Rattle.orders.specs.Order.{Lent, ordered}
-use Rattle.orders.specs.Written.{walkOf, Counters, OnlyAdds, OnlyUsed, AllMade}
-use Rattle.room.specs.Room.{AllBelow}
-use Rattle.opening.specs.Open.{openWalk}
-use Rattle.orders.proofs.Grows.{Fine}
-use Rattle.orders.proofs.Accepted.{fine-orders, order-made, order-writes, order-adds}
-use Rattle.opening.proofs.Opened.{Opened, orders-after}
-use Rattle.opening.proofs.Written.{opening-fine, opening-sound, opening-writes, opening-made}
+use Rattle.refinement.specs.orders.Sound.{planSound}
+use Rattle.refinement.specs.orders.Order.{Lent, ordered}
+use Rattle.refinement.specs.orders.Written.{walkOf, Counters, OnlyAdds, OnlyUsed, AllMade}
+use Rattle.refinement.specs.log_in_room.Room.{AllBelow}
+use Rattle.refinement.specs.opening.Open.{openWalk}
+use Rattle.refinement.proofs.orders.Grows.{Fine}
+use Rattle.refinement.proofs.orders.Accepted.{fine-orders, order-made, order-writes, order-adds}
+use Rattle.refinement.proofs.opening.Opened.{Opened, orders-after}
+use Rattle.refinement.proofs.opening.Written.{opening-fine, opening-sound, opening-writes, opening-made}
 use Rattle.join.specs.Join.{Lending, Bytes, openingOf, lentOf, afterCalls, nextCall}
 use Rattle.join.proofs.Opens.{runs}
 

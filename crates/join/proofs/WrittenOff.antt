@@ -13,17 +13,17 @@ use Rattle.walk.specs.Log.{Entry, Out, done, wrote, next, each, apply}
 use Rattle.parts.specs.Parts.{nodesOf, copied, hasOffsets, partsHold}
 use Rattle.model.specs.Book.{Call}
 use Rattle.columns.specs.Grounds.{sourcesGround}
-use Rattle.orders.specs.Sound.{planSound}
-use Rattle.orders.specs.Order.{Lent, joinOf, sourceCount, ordered, orderedAll}
-use Rattle.orders.specs.Written.{LastEnd}
-use Rattle.orders.proofs.Sound.{closed-nodes, ends-fixed, node-stands}
-use Rattle.orders.proofs.Grows.{Fine, Adds, adds-done, adds-cond, adds-need, adds-next, adds-each, adds-whole}
-use Rattle.orders.proofs.GrowsCopies.{adds-copies}
-use Rattle.orders.proofs.Accepted.{accepted, order-keeps, walk-adds, fine-order}
-use Rattle.opening.specs.Open.{Opening, chosen, beginGaps, firstOffset, joinSource, joinEntries, openDictionary, openWalk, refused, settled, roomPlaced, opening}
-use Rattle.opening.proofs.Laid.{stood}
-use Rattle.opening.proofs.Opened.{given, tests}
-use Rattle.opening.proofs.Written.{fine-zeros, opening-fine, opening-sound}
+use Rattle.refinement.specs.orders.Sound.{planSound}
+use Rattle.refinement.specs.orders.Order.{Lent, joinOf, sourceCount, ordered, orderedAll}
+use Rattle.refinement.specs.orders.Written.{LastEnd}
+use Rattle.refinement.proofs.orders.Sound.{closed-nodes, ends-fixed, node-stands}
+use Rattle.refinement.proofs.orders.Grows.{Fine, Adds, adds-done, adds-cond, adds-need, adds-next, adds-each, adds-whole}
+use Rattle.refinement.proofs.orders.GrowsCopies.{adds-copies}
+use Rattle.refinement.proofs.orders.Accepted.{accepted, order-keeps, walk-adds, fine-order}
+use Rattle.refinement.specs.opening.Open.{Opening, chosen, beginGaps, firstOffset, joinSource, joinEntries, openDictionary, openWalk, refused, settled, roomPlaced, opening}
+use Rattle.refinement.proofs.opening.Laid.{stood}
+use Rattle.refinement.proofs.opening.Opened.{given, tests}
+use Rattle.refinement.proofs.opening.Written.{fine-zeros, opening-fine, opening-sound}
 use Rattle.join.specs.Join.{Lending, Bytes, openingOf, lentOf, afterCalls, nextCall}
 use Rattle.join.specs.Written.{OnlyGains}
 use Rattle.join.proofs.Written.{call-adds}

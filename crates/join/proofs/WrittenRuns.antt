@@ -10,18 +10,18 @@ use lib.Dec.{eqb}
 use borrow.Author.Tests.{eqb-true, eqb-false, eq-eqb}
 use Rattle.walk.specs.State.{codeOf, bytesOf, endOf, far, rows, bytes, gap, setBytes}
 use Rattle.walk.specs.Log.{Entry, put, mask, amend, Log, startOf, apply}
-use Rattle.room.specs.Room.{AllBelow, Apart, AllUsed}
+use Rattle.refinement.specs.log_in_room.Room.{AllBelow, Apart, AllUsed}
 use Rattle.parts.specs.Parts.{needed, neededBy, sizeOf, partsWithin, partsHold, Used}
-use Rattle.link.proofs.Counters.{bytes-set, bytes-other, rows-of-bytes, long-bytes}
+use Rattle.refinement.proofs.walk_is_model.Counters.{bytes-set, bytes-other, rows-of-bytes, long-bytes}
 use Rattle.model.specs.Book.{Call, copy, nulls}
-use Rattle.orders.specs.Order.{Lent, joinOf, ordered}
-use Rattle.orders.specs.Written.{walkOf, Counters, Gained, LastEnd}
-use Rattle.orders.proofs.Sound.{root-reached}
-use Rattle.orders.proofs.Accepted.{accepted, walked, walk-adds, walk-used}
-use Rattle.orders.proofs.Step.{Running}
-use Rattle.opening.proofs.Opened.{Opened, orders-after}
-use Rattle.orders.proofs.Grows.{Behind, AllBehind}
-use Rattle.orders.proofs.Written.{only-adds}
+use Rattle.refinement.specs.orders.Order.{Lent, joinOf, ordered}
+use Rattle.refinement.specs.orders.Written.{walkOf, Counters, Gained, LastEnd}
+use Rattle.refinement.proofs.orders.Sound.{root-reached}
+use Rattle.refinement.proofs.orders.Accepted.{accepted, walked, walk-adds, walk-used}
+use Rattle.refinement.proofs.orders.Step.{Running}
+use Rattle.refinement.proofs.opening.Opened.{Opened, orders-after}
+use Rattle.refinement.proofs.orders.Grows.{Behind, AllBehind}
+use Rattle.refinement.proofs.orders.Written.{only-adds}
 use Rattle.join.specs.Join.{Lending, Bytes, sourcesIn, typeIn, columnsIn, keepsIn, openingOf, lentOf, afterCalls, nextCall, reachedBy}
 use Rattle.join.specs.Written.{OnlyGains, OnlyAmends}
 use Rattle.join.proofs.Opens.{runs}

@@ -7,7 +7,7 @@ use Prim.Native.Nat.{ℕ}
 use lib.Dec.{eqb}
 use Rattle.model.specs.Book.{Call}
 use Rattle.parts.specs.Parts.{copied, hasPart}
-use Rattle.finishing.specs.Finish.{zerosAt}
+use Rattle.refinement.specs.finishing.Finish.{zerosAt}
 use Rattle.join.specs.Join.{Lending, lentOf, afterCalls}
 
 module _ (l : Lending) (os : List Call) where

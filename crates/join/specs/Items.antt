@@ -13,11 +13,11 @@ use Rattle.model.specs.Grounds.{Counts, startCounts}
 use Rattle.model.specs.Book.{Call, entered, nullsEntered}
 use Rattle.array_data.specs.Tables.{Tables}
 use Rattle.array_data.specs.Typed.{columnOf}
-use Rattle.orders.specs.Order.{After, Lent, ordered}
-use Rattle.orders.specs.Counted.{answerRoom}
+use Rattle.refinement.specs.orders.Order.{After, Lent, ordered}
+use Rattle.refinement.specs.orders.Counted.{answerRoom}
 use Rattle.trip.specs.Trip.{longest, tripOrder}
-use Rattle.finishing.specs.Finish.{Finished, finishing}
-use Rattle.finishing.specs.Shows.{finishedTables}
+use Rattle.refinement.specs.finishing.Finish.{Finished, finishing}
+use Rattle.refinement.specs.finishing.Shows.{finishedTables}
 use Rattle.join.specs.Join.{Lending, sourcesIn, treeIn, typeIn, columnsIn, keepsIn, openingOf, lentOf}
 
 -- what a caller gives: an order, or a list of orders as one

@@ -15,16 +15,16 @@ use Rattle.model.specs.Transform.{Destination, start}
 use Rattle.model.specs.Book.{Call}
 use Rattle.array_data.specs.Tables.{Tables}
 use Rattle.array_data.specs.Typed.{Tree, columnOf}
-use Rattle.lent.specs.Lent.{treeOf, typeOf}
-use Rattle.worded.specs.Taken.{columnsAs}
+use Rattle.array_data.specs.type_tree.Lent.{treeOf, typeOf}
+use Rattle.refinement.specs.plan_is_type.Taken.{columnsAs}
 use Rattle.columns.specs.Grounds.{sourceCount, firstOf, nodesOf, sourcesGround}
-use Rattle.orders.specs.Order.{After, Lent, orderedAll, ordered, groundsOf}
-use Rattle.orders.specs.Fits.{answersIn}
-use Rattle.orders.specs.Counted.{answerRoom, countsAfter, bookRoom, bookBy, nullsRoom, acceptedRoom, AllAcceptedRoom, RoomEnough}
-use Rattle.opening.specs.Open.{Opening, opened, roomPlaced, opening}
-use Rattle.opening.specs.Fits.{openIn}
-use Rattle.finishing.specs.Finish.{Finished, tablesFit, finishing}
-use Rattle.finishing.specs.Shows.{finishedTables}
+use Rattle.refinement.specs.orders.Order.{After, Lent, orderedAll, ordered, groundsOf}
+use Rattle.refinement.specs.orders.Fits.{answersIn}
+use Rattle.refinement.specs.orders.Counted.{answerRoom, countsAfter, bookRoom, bookBy, nullsRoom, acceptedRoom, AllAcceptedRoom, RoomEnough}
+use Rattle.refinement.specs.opening.Open.{Opening, opened, roomPlaced, opening}
+use Rattle.refinement.specs.opening.Fits.{openIn}
+use Rattle.refinement.specs.finishing.Finish.{Finished, tablesFit, finishing}
+use Rattle.refinement.specs.finishing.Shows.{finishedTables}
 
 -- WHAT A CALLER LENDS to an opening (docs/FORMAT.md), whether nulls are to be kept, and whether one run for a gap is chosen: a null order then
 -- "lengthens the last run exactly if that run was itself written by an accepted null order and nothing but later null orders was added to that node since"

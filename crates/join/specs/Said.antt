@@ -8,7 +8,7 @@ use Rattle.columnar.specs.Types.{Plain, fixed, string}
 use Rattle.columnar.specs.Array.{nullCount}
 use Rattle.array_data.specs.Tables.{Tables, lengthOf, offsetOf, place, arrayWith}
 use Rattle.parts.specs.Parts.{startAt, sizeAt, Apart}
-use Rattle.opening.specs.PartsDue.{partsDue}
+use Rattle.refinement.specs.opening.PartsDue.{partsDue}
 use Rattle.join.specs.Join.{Lending, sourcesIn, typeIn, columnsIn}
 
 -- ---- "14 wrong number of parts, a part outside the room, or two nonempty parts overlapping": none of these. What is lent for plan and

@@ -11,7 +11,7 @@ use Rattle.formats.specs.Types.{numberOf}
 use Rattle.schema.specs.Tree.{flag, children, dictionary, isValues, codeOf, idsOf, sameFormats}
 use Rattle.array_data.specs.Tables.{Tables, lengthOf, offsetOf, place}
 use Rattle.array_data.specs.Typed.{tablesFrom, placed}
-use Rattle.lent.specs.Lent.{numberOr, treeOf}
+use Rattle.array_data.specs.type_tree.Lent.{numberOr, treeOf}
 use Rattle.columns.specs.Grounds.{firstOf, nodesOf, smallBody}
 use Rattle.join.specs.Join.{Lending, sourcesIn}
 

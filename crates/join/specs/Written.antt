@@ -1,4 +1,4 @@
--- WHAT AN ORDER WRITES, by the counters before and after it (orders/specs/Written.antt): which run ends may be written over is said of each order.
+-- WHAT AN ORDER WRITES, by the counters before and after it (refinement/specs/orders/Written.antt): which run ends may be written over is said of each order.
 -- Assumes nothing.
 use mathlib.Core.Path.{_≡_}
 use mathlib.Core.List.{List}
@@ -8,7 +8,7 @@ use Rattle.bits.specs.Bits.{bits}
 use Rattle.walk.specs.State.{rows}
 use Rattle.walk.specs.Log.{startOf}
 use Rattle.parts.specs.Parts.{Used}
-use Rattle.orders.specs.Written.{Gained, LastEnd}
+use Rattle.refinement.specs.orders.Written.{Gained, LastEnd}
 
 -- none: bytes that no part has gained are as they were, and so are the bits of the rows before
 pub record OnlyGains (plan parts c room d after : List ℕ) : Type 0 where

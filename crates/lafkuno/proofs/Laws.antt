@@ -15,7 +15,7 @@ use Rattle.columnar.specs.Row.{seg}
 use Rattle.model.proofs.Bits.{length-seg, getD-seg}
 use Rattle.array_data.specs.Tables.{Tables}
 use Rattle.columns.specs.Grounds.{columnGround}
-use Rattle.node_table.specs.Words.{planted}
+use Rattle.array_data.specs.node_words.Words.{planted}
 use Rattle.column_reader.specs.Column.{openedTree}
 use Rattle.slot_reader.specs.declared.RowRead.{RowRead}
 use Rattle.row_reader.specs.Walk.{rowAt}

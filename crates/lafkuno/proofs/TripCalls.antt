@@ -3,7 +3,7 @@ use mathlib.Core.Path.{_≡_, ap₂, _∙_}
 use mathlib.Core.List.{List}
 use Prim.Native.Nat.{ℕ, _+_, _*_, _≤_}
 use native.Mathlib.Omega.{arith}
-use Rattle.orders.specs.Order.{Lent}
+use Rattle.refinement.specs.orders.Order.{Lent}
 use Rattle.model.specs.Book.{Call}
 use Rattle.trip.specs.declared.Ended.{Ended}
 use Rattle.trip.specs.Trip.{longest, AfterTrip, tripOrder, AskedTrip, tripMeasure}

@@ -8,7 +8,7 @@ use lib.Dec.{leb, ltb, eqb}
 use Rattle.number.specs.Number.{splice, pattern}
 use Rattle.array_data.specs.Tables.{Tables}
 use Rattle.columns.specs.Grounds.{columnGround}
-use Rattle.node_table.specs.Words.{planted}
+use Rattle.array_data.specs.node_words.Words.{planted}
 use Rattle.leaf_row.specs.declared.Leaf.{Leaf}
 use Rattle.leaf_row.specs.declared.Leaf.the-variants as leaf
 use Rattle.slot_reader.specs.declared.RowRead.{RowRead}

@@ -2,7 +2,7 @@
 ghost use mathlib.Core.Path.{_≡_};
 ghost use mathlib.Core.Bool.{_&&_};
 ghost use lib.ListN.{length};
-ghost use Rattle.kind_rules.specs.Rows.{tablesOf};
+ghost use Rattle.source_rules.specs.kinds.Rows.{tablesOf};
 ghost use Rattle.frames.specs.Box.{boxOf};
 ghost use Rattle.lafkuno.specs.Beside.{sides, frameOf, four, frameGround, frameAfter, joinGround, joinAfter};
 use frames::Boxed;

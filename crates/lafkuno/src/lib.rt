@@ -4,18 +4,18 @@ ghost use mathlib.Core.List.{List, [], _∷_, _++_};
 ghost use Prim.Native.Nat.{ℕ, _≤_};
 ghost use lib.ListN.{length};
 ghost use Rattle.number.specs.Number.{splice, pattern};
-ghost use Rattle.kind_rules.specs.Rows.{tablesOf};
+ghost use Rattle.source_rules.specs.kinds.Rows.{tablesOf};
 ghost use Rattle.columns.specs.Grounds.{columnGround};
-ghost use Rattle.lent_entries.specs.Entries.{column};
+ghost use Rattle.array_data.specs.entries.Entries.{column};
 ghost use Rattle.row_reader.specs.Walk.{runAt};
-ghost use Rattle.column_runs.specs.Answers.{readRun, ground, numbers};
+ghost use Rattle.column_reader.specs.runs.Answers.{readRun, ground, numbers};
 ghost use Rattle.walk.specs.State.{nulls};
 ghost use Rattle.parts.specs.Parts.{nodesOf, partTotal, partAt};
-ghost use Rattle.orders.specs.Order.{copyOrder, nullOrder};
-ghost use Rattle.orders.specs.Measure.{copyMeasure, nullMeasure, neededBytes};
-ghost use Rattle.opening.specs.Open.{opening};
-ghost use Rattle.opening.specs.Ask.{asked, openMeasure};
-ghost use Rattle.finishing.specs.Finish.{buffersBefore, finishing};
+ghost use Rattle.refinement.specs.orders.Order.{copyOrder, nullOrder};
+ghost use Rattle.refinement.specs.orders.Measure.{copyMeasure, nullMeasure, neededBytes};
+ghost use Rattle.refinement.specs.opening.Open.{opening};
+ghost use Rattle.refinement.specs.opening.Ask.{asked, openMeasure};
+ghost use Rattle.refinement.specs.finishing.Finish.{buffersBefore, finishing};
 ghost use Rattle.with_capacities.specs.Answer as Opened;
 ghost use Rattle.with_capacities.specs.Answer.{Plans};
 ghost use Rattle.transform.specs.Answer.{lent, Answers};
@@ -28,6 +28,7 @@ use aggregates::MeanAnswer;
 use aggregates::MeanReport;
 use aggregates::RatioAnswer;
 use aggregates::RatioReport;
+use column_reader::runs;
 use leaf_row::Leaf;
 use parts::Spot;
 use slot_reader::RowRead;
@@ -267,7 +268,7 @@ pub extern "C" fn lafkuno_run_at(
     ensures { λ r. ⌜ r ≡ ground (readRun (now (formats .entry)) (now (schema .entry)) (tablesOf (now (lengths .entry)) (now (places .entry)) (now (buffers .entry)) (now (body .entry))) first n row) (now (answer .entry)) ⌝ }
     ensures { λ _. ⌜ now (answer .exit) ≡ numbers (readRun (now (formats .entry)) (now (schema .entry)) (tablesOf (now (lengths .entry)) (now (places .entry)) (now (buffers .entry)) (now (body .entry))) first n row) (now (answer .entry)) ⌝ }
 {
-    column_runs::run_at(
+    runs::run_at(
         formats,
         schema,
         lengths,
@@ -295,7 +296,7 @@ pub extern "C" fn lafkuno_read_run(
     ensures { λ r. ⌜ r ≡ ground (runAt (now (tree .entry)) (column (now (lengths .entry)) (now (places .entry)) [] (now (body .entry)) first) row) (now (answer .entry)) ⌝ }
     ensures { λ _. ⌜ now (answer .exit) ≡ numbers (runAt (now (tree .entry)) (column (now (lengths .entry)) (now (places .entry)) [] (now (body .entry)) first) row) (now (answer .entry)) ⌝ }
 {
-    column_runs::run_of_opened(tree, lengths, places, body, first, row, answer)
+    runs::run_of_opened(tree, lengths, places, body, first, row, answer)
 }
 
 // ---- opening a join

@@ -1,4 +1,7 @@
 // A leaf's row: null, a whole number, an f32 or an f64, read from its bytes, and compared by bits.
+pub mod run;
+pub mod view;
+
 ghost use mathlib.Core.Path.{_≡_};
 ghost use mathlib.Core.Bool.{true};
 ghost use Prim.Native.Nat.{_+_, _≤_, _<_};

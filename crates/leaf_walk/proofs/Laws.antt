@@ -8,12 +8,12 @@ use lib.ListN.{length, getD, set, replicate}
 use lib.Dec.{ltb, leb, eqb}
 use borrow.Author.Tests.{lt-ltb, le-ltb, le-leb, lt-leb, ltb-true, leb-true, eqb-true, not-true}
 use Rattle.bits.specs.Bits.{bitsAt, zeros}
-use Rattle.lent_tables.proofs.Laws.{no, yes, is-none, is-some, and-left, and-right}
+use Rattle.array_data.proofs.lent_tables.Laws.{no, yes, is-none, is-some, and-left, and-right}
 use Rattle.walk.specs.State.{Join, keepsOf, rows, nulls, addNulls, top, place, rowsIn, scaled, grown}
 use Rattle.walk.specs.Log.{Out, Did, put, mask, applyIf, done, wrote, need}
 use Rattle.walk.specs.Leaves.{copyBits, copyMask, nullMask, countNulls}
 use Rattle.walk.proofs.Laws.{done-did, wrote-did, need-no, need-ok, next-ok}
-use Rattle.puts.proofs.Laws.{Alike, alike-scaled, alike-grown, alike-times, place-alike}
+use Rattle.room_writes.proofs.Laws.{Alike, alike-scaled, alike-grown, alike-times, place-alike}
 
 -- ---- entries of w bytes in the body
 

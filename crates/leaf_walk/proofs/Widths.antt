@@ -6,7 +6,7 @@ use native.Mathlib.Omega.{arith}
 use lib.Dec.{leb, eqb}
 use borrow.Author.Tests.{leb-true, eqb-true, eqb-false, ne-eqb}
 use Rattle.formats.specs.Code.{isFixed, isString, isListView, isList, widthOf}
-use Rattle.lent_tables.proofs.Laws.{and-left, and-right}
+use Rattle.array_data.proofs.lent_tables.Laws.{and-left, and-right}
 
 -- a test of the numbers below n, one by one
 below : (ℕ → Bool) → ℕ → Bool

@@ -1,2 +1,3 @@
 -- What the contracts of `leaf_walk` cite beside the walk itself, which is that of crate `walk`.
 pub mod Join
+pub mod variable_size

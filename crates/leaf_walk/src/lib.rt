@@ -1,6 +1,8 @@
 // The walk at nodes that have no children: validity, numbers, keys and views, and the nulls of them.
 // The answer is 0 or the ground of refusal; a walk that only tries changes the counters alone.
 // What a function does not read of the order stands in its contract for all values.
+pub mod variable_size;
+
 ghost use mathlib.Core.Path.{_≡_};
 ghost use mathlib.Core.Bool.{Bool, not, _&&_};
 ghost use mathlib.Core.List.{List};
@@ -10,6 +12,8 @@ ghost use Rattle.walk.specs.State.{bytesOf, nulls, top, rowsIn};
 ghost use Rattle.walk.specs.Log.{Did};
 ghost use Rattle.walk.specs.Leaves.{copyBits, copyMask, nullMask, countNulls, copyNumbers, copyKeys, copyViews, nullNumbers};
 ghost use Rattle.leaf_walk.specs.Join.{join};
+use array_data::lent_tables;
+use walk::plan_words;
 
 // Whether the entries of w bytes of the slots slot .. slot + n - 1 stand in the body from `at` on.
 pub fn rows_in(body: &[u8], at: u32, w: u64, slot: u64, n: u64) -> bool
@@ -58,9 +62,9 @@ fn copy_bits(
     if is_uncounted(counts, write, i) {
         return 0;
     }
-    let p = growth::rows_of(counts, i);
-    let zeros = puts::put_mask(state, parts, room, write, i, p, body, at as usize, slot, n);
-    growth::add_nulls(counts, i, zeros);
+    let p = plan_words::rows_of(counts, i);
+    let zeros = room_writes::put_mask(state, parts, room, write, i, p, body, at as usize, slot, n);
+    plan_words::add_nulls(counts, i, zeros);
     0
 }
 
@@ -81,12 +85,12 @@ pub fn copy_mask(
     requires { ⌜ (first < 2 ^ 32) × (i < 32) × (slot + n < 2 ^ 63) ⌝ }
     ensures { λ r. ⌜ ((lengths : List ℕ) (source : ℕ) → Did (now (state .entry)) (now (parts .entry)) write (copyMask (join (now (state .entry)) (now (parts .entry)) lengths (now (places .entry)) (now (body .entry)) first source) i slot n (now (counts .entry))) (now (room .entry)) r (now (counts .exit)) (now (room .exit))) ⌝ }
 {
-    if growth::keeps_of(state, i) == 0 {
+    if plan_words::keeps_of(state, i) == 0 {
         return 0;
     }
     if lent_tables::place(places, first + i, 0) == 0 {
-        let p = growth::rows_of(counts, i);
-        puts::put_ones(state, parts, room, write, i, p, n);
+        let p = plan_words::rows_of(counts, i);
+        room_writes::put_ones(state, parts, room, write, i, p, n);
         return 0;
     }
     copy_bits(
@@ -126,9 +130,9 @@ pub fn copy_numbers(
     if !rows_in(body, at, w, slot, n) {
         return 12;
     }
-    let o = growth::scale(growth::rows_of(counts, i), w);
+    let o = plan_words::scale(plan_words::rows_of(counts, i), w);
     let from = (at as u64) + w * slot;
-    puts::put_copy(
+    room_writes::put_copy(
         state,
         parts,
         room,
@@ -168,10 +172,10 @@ pub fn copy_keys(
     if !rows_in(body, at, w, slot, n) {
         return 12;
     }
-    let o = growth::scale(growth::rows_of(counts, i), w);
+    let o = plan_words::scale(plan_words::rows_of(counts, i), w);
     let from = (at as u64) + w * slot;
-    let base = growth::base_of(state, source, i);
-    puts::put_keys(
+    let base = plan_words::base_of(state, source, i);
+    room_writes::put_keys(
         state,
         parts,
         room,
@@ -210,10 +214,10 @@ pub fn copy_views(
     if !rows_in(body, at, 16, slot, n) {
         return 12;
     }
-    let o = growth::scale(growth::rows_of(counts, i), 16);
+    let o = plan_words::scale(plan_words::rows_of(counts, i), 16);
     let from = (at as u64) + 16 * slot;
-    let base = growth::base_of(state, source, i);
-    puts::put_views(
+    let base = plan_words::base_of(state, source, i);
+    room_writes::put_views(
         state,
         parts,
         room,
@@ -242,12 +246,12 @@ pub fn null_mask(
     requires { ⌜ i < 32 ⌝ }
     ensures { λ r. ⌜ ((lengths places body : List ℕ) (first source : ℕ) → Did (now (state .entry)) (now (parts .entry)) write (nullMask (join (now (state .entry)) (now (parts .entry)) lengths places body first source) i n (now (counts .entry))) (now (room .entry)) r (now (counts .exit)) (now (room .exit))) ⌝ }
 {
-    if growth::keeps_of(state, i) == 0 {
+    if plan_words::keeps_of(state, i) == 0 {
         return 0;
     }
-    let p = growth::rows_of(counts, i);
-    puts::put_null_bits(state, parts, room, write, i, p, n);
-    growth::add_nulls(counts, i, n);
+    let p = plan_words::rows_of(counts, i);
+    room_writes::put_null_bits(state, parts, room, write, i, p, n);
+    plan_words::add_nulls(counts, i, n);
     0
 }
 
@@ -256,10 +260,10 @@ pub fn count_nulls(state: &[u64], counts: &mut [u64; 96], i: usize, n: u64) -> u
     requires { ⌜ i < 32 ⌝ }
     ensures { λ r. ⌜ ((parts lengths places body room : List ℕ) (first source : ℕ) (write : Bool) → Did (now (state .entry)) parts write (countNulls (join (now (state .entry)) parts lengths places body first source) i n (now (counts .entry))) room r (now (counts .exit)) room) ⌝ }
 {
-    if growth::keeps_of(state, i) == 0 {
+    if plan_words::keeps_of(state, i) == 0 {
         return 0;
     }
-    growth::add_nulls(counts, i, n);
+    plan_words::add_nulls(counts, i, n);
     0
 }
 
@@ -278,7 +282,7 @@ pub fn null_numbers(
     requires { ⌜ (i < 32) × (b < 3) × (1 ≤ w) × (w ≤ 16) ⌝ }
     ensures { λ r. ⌜ ((lengths places body : List ℕ) (first source : ℕ) → Did (now (state .entry)) (now (parts .entry)) write (nullNumbers (join (now (state .entry)) (now (parts .entry)) lengths places body first source) i b w n (now (counts .entry))) (now (room .entry)) r (now (counts .exit)) (now (room .exit))) ⌝ }
 {
-    let o = growth::scale(growth::rows_of(counts, i), w);
-    puts::put_zeros(state, parts, room, write, i, b, o, w, n);
+    let o = plan_words::scale(plan_words::rows_of(counts, i), w);
+    room_writes::put_zeros(state, parts, room, write, i, b, o, w, n);
     0
 }

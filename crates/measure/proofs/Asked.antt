@@ -17,13 +17,13 @@ use Rattle.walk.specs.Nulls.{nullWalk}
 use Rattle.parts.specs.Parts.{nodesOf, hasPart, partTotal, numberOf, partAt, needed, sizeAt, partHolds, partsHold, partsWithin, Used, Numbered}
 use Rattle.parts.proofs.Placed.{number-below, part-named}
 use Rattle.columns.specs.Grounds.{sourcesGround}
-use Rattle.orders.specs.Sound.{planSound, walkable}
-use Rattle.orders.specs.Order.{Lent, joinOf, sourceCount, sourceLength, settled, copyOrder, nullOrder}
-use Rattle.orders.specs.Measure.{Measured, measured, copyMeasure, nullMeasure, neededIn, neededBytes}
-use Rattle.opening.specs.Open as start
-use Rattle.opening.specs.Open.{beginGaps, firstOffset, joinSource, joinEntries, keysHold, openDictionary, openWalk, opened, roomPlaced, opening}
-use Rattle.opening.specs.Ask.{openMeasure}
-use Rattle.opening.proofs.Laid.{stood}
+use Rattle.refinement.specs.orders.Sound.{planSound, walkable}
+use Rattle.refinement.specs.orders.Order.{Lent, joinOf, sourceCount, sourceLength, settled, copyOrder, nullOrder}
+use Rattle.refinement.specs.orders.Measure.{Measured, measured, copyMeasure, nullMeasure, neededIn, neededBytes}
+use Rattle.refinement.specs.opening.Open as start
+use Rattle.refinement.specs.opening.Open.{beginGaps, firstOffset, joinSource, joinEntries, keysHold, openDictionary, openWalk, opened, roomPlaced, opening}
+use Rattle.refinement.specs.opening.Ask.{openMeasure}
+use Rattle.refinement.proofs.opening.Laid.{stood}
 use Rattle.transform.proofs.Laws.{null-state}
 use Rattle.measure.proofs.Placeless.{walk-same}
 

@@ -11,7 +11,7 @@ use Rattle.walk.specs.State.{codeOf, rows, bytes, top}
 use Rattle.parts.specs.Parts.{nodesOf, validityParts, partCount, partFrom, partAt, hasOffsets, entrySize, neededBy, needed}
 use Rattle.parts.specs.declared.Spot.{Spot}
 use Rattle.parts.specs.declared.Spot.the-variants.{Of, Nothing}
-use Rattle.orders.specs.Measure.{neededIn, neededBytes}
+use Rattle.refinement.specs.orders.Measure.{neededIn, neededBytes}
 
 -- ---- r entries of w bytes
 

@@ -11,11 +11,11 @@ use Rattle.walk.specs.Log.{Out, Did}
 use Rattle.walk.specs.Copy.{copyWalk}
 use Rattle.walk.specs.Nulls.{nullWalk}
 use Rattle.leaf_walk.specs.Join.{join}
-use Rattle.orders.specs.Sound.{planSound}
-use Rattle.orders.specs.Order.{Lent, sourceCount, sourceLength}
-use Rattle.orders.specs.Measure.{measured, copyMeasure, nullMeasure}
-use Rattle.opening.specs.Open.{openWalk}
-use Rattle.opening.specs.Ask.{openMeasure}
+use Rattle.refinement.specs.orders.Sound.{planSound}
+use Rattle.refinement.specs.orders.Order.{Lent, sourceCount, sourceLength}
+use Rattle.refinement.specs.orders.Measure.{measured, copyMeasure, nullMeasure}
+use Rattle.refinement.specs.opening.Open.{openWalk}
+use Rattle.refinement.specs.opening.Ask.{openMeasure}
 use Rattle.transform.proofs.Laws.{null-state}
 use Rattle.measure.specs.Answer.{Measures}
 

@@ -2,7 +2,7 @@
 use mathlib.Core.Path.{_≡_}
 use mathlib.Core.List.{List}
 use Prim.Native.Nat.{ℕ}
-use Rattle.orders.specs.Measure.{Measured}
+use Rattle.refinement.specs.orders.Measure.{Measured}
 
 -- the ground that is answered, and the counters as they are left
 pub record Measures (a : Measured) (r : ℕ) (counters : List ℕ) : Type 0 where

@@ -5,10 +5,12 @@ ghost use mathlib.Core.List.{List, []};
 ghost use Prim.Native.Nat.{ℕ, _+_, _*_, _/_, _<_, min};
 ghost use Rattle.walk.specs.State.{top};
 ghost use Rattle.parts.specs.Parts.{neededBy, needed};
-ghost use Rattle.orders.specs.Measure.{copyMeasure, nullMeasure, neededBytes};
-ghost use Rattle.opening.specs.Ask.{openMeasure};
+ghost use Rattle.refinement.specs.orders.Measure.{copyMeasure, nullMeasure, neededBytes};
+ghost use Rattle.refinement.specs.opening.Ask.{openMeasure};
 ghost use Rattle.open_walk.specs.Lent.{lent};
 ghost use Rattle.measure.specs.Answer.{Measures};
+use array_data::lent_tables;
+use walk::plan_words;
 
 // ---- counters
 
@@ -118,7 +120,7 @@ pub fn measure_nulls(plan: &[u64], counters: &mut [u64], n: u64) -> u8
     if !sound::plan_sound(plan) {
         return 14;
     }
-    if growth::keeps_of(plan, 0) == 0 {
+    if plan_words::keeps_of(plan, 0) == 0 {
         return 3;
     }
     let parts = [0u32; 0];
@@ -201,7 +203,7 @@ fn buffer_bytes(plan: &[u64], counters: &[u64], i: usize, b: usize) -> u64
     if b == 0 {
         return bit_bytes(r);
     }
-    let code = growth::code_of(plan, i);
+    let code = plan_words::code_of(plan, i);
     let n = lent_tables::at_u64(counters, 3 * i + 2);
     if b == 1 {
         return first_bytes(code, r, n);

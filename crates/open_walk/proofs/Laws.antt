@@ -14,8 +14,8 @@ use Rattle.columnar.specs.Types.{Number, i8, u8, i16, u16, i32, u32, i64, u64}
 use Rattle.columnar.specs.Test.{every}
 use Rattle.formats.specs.Code.{isString, isList, isInteger, isRunEnd, widthOf}
 use Rattle.formats.specs.Types.{numberOf}
-use Rattle.lent_tables.proofs.Laws.{no, yes, and-right}
-use Rattle.sharing.specs.Sources.{keyFits}
+use Rattle.array_data.proofs.lent_tables.Laws.{no, yes, and-right}
+use Rattle.plan.specs.dictionaries.Sources.{keyFits}
 use Rattle.walk.specs.State.{codeOf, dictionaryOf, bytesOf, baseOf, setBytes, word}
 use Rattle.walk.specs.Log.{Out, Did, put, applyIf, done, each}
 use Rattle.walk.specs.Copy.{copyWalk}
@@ -23,8 +23,8 @@ use Rattle.walk.proofs.Laws.{done-did, wrote-did, need-no, need-ok, next-no, ne
 use Rattle.leaf_walk.specs.Join.{join}
 use Rattle.leaf_walk.proofs.Widths.{string-width, lists-width}
 use Rattle.parts.specs.Parts.{nodesOf, copied, hasOffsets}
-use Rattle.orders.specs.Order.{Lent, sourceCount}
-use Rattle.opening.specs.Open.{beginGaps, firstOffset, joinSource, joinEntries, keyHolds, keysOf, keysHold, openDictionary, openWalk}
+use Rattle.refinement.specs.orders.Order.{Lent, sourceCount}
+use Rattle.refinement.specs.opening.Open.{beginGaps, firstOffset, joinSource, joinEntries, keyHolds, keysOf, keysHold, openDictionary, openWalk}
 
 -- ---- gaps
 

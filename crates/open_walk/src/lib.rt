@@ -9,10 +9,13 @@ ghost use Prim.Native.Nat.{ℕ, suc, _≤_, _<_, _^_};
 ghost use lib.Dec.{eqb};
 ghost use Rattle.walk.specs.State.{word};
 ghost use Rattle.walk.specs.Log.{Did, done, each};
-ghost use Rattle.orders.specs.Order.{sourceCount};
+ghost use Rattle.refinement.specs.orders.Order.{sourceCount};
 ghost use Rattle.parts.specs.Parts.{nodesOf};
-ghost use Rattle.opening.specs.Open.{beginGaps, firstOffset, joinSource, joinEntries, keysHold, openDictionary, openWalk};
+ghost use Rattle.refinement.specs.opening.Open.{beginGaps, firstOffset, joinSource, joinEntries, keysHold, openDictionary, openWalk};
 ghost use Rattle.open_walk.specs.Lent.{lent};
+use array_data::lent_tables;
+use plan::dictionaries;
+use walk::plan_words;
 
 // ---- gaps
 
@@ -21,14 +24,14 @@ fn begin_gap(state: &[u64], counts: &mut [u64; 96], i: usize)
     requires { ⌜ i < 32 ⌝ }
     ensures { λ _. ⌜ ((parts sources lengths places body room : List ℕ) (write : Bool) → Did (now (state .entry)) parts write (beginGaps (lent (now (state .entry)) parts sources lengths places body) i (now (counts .entry))) room 0 (now (counts .exit)) room) ⌝ }
 {
-    let code = growth::code_of(state, i);
+    let code = plan_words::code_of(state, i);
     if !formats::is_run_end(code) {
         return;
     }
     if lent_tables::at_u64(state, 867) != 1 {
         return;
     }
-    growth::set_bytes(counts, i, 1)
+    plan_words::set_bytes(counts, i, 1)
 }
 
 // The gap of every run-end node. No byte changes.
@@ -50,7 +53,7 @@ fn first_offset(state: &[u64], parts: &[u32], room: &mut [u8], write: bool, i: u
     requires { ⌜ i < 32 ⌝ }
     ensures { λ _. ⌜ ((sources lengths places body c : List ℕ) → Did (now (state .entry)) (now (parts .entry)) write (firstOffset (lent (now (state .entry)) (now (parts .entry)) sources lengths places body) i c) (now (room .entry)) 0 c (now (room .exit))) ⌝ }
 {
-    let code = growth::code_of(state, i);
+    let code = plan_words::code_of(state, i);
     if !(formats::is_string(code) | formats::is_list(code)) {
         return;
     }
@@ -58,7 +61,7 @@ fn first_offset(state: &[u64], parts: &[u32], room: &mut [u8], write: bool, i: u
         return;
     }
     let w = formats::width_of(code) as u64;
-    puts::put_number(state, parts, room, write, i, 1, 0, w, 0)
+    room_writes::put_number(state, parts, room, write, i, 1, 0, w, 0)
 }
 
 // The first zero offset of every byte string and list that has parts.
@@ -199,17 +202,17 @@ fn keys_hold(state: &[u64], sources: &[u32], lengths: &[u64], i: usize) -> bool
     requires { ⌜ (i < 32) × (sourceCount (now state) ≤ 16) ⌝ }
     ensures { λ r. ⌜ ((parts places body : List ℕ) → r ≡ keysHold (lent (now (state .entry)) parts (now (sources .entry)) (now (lengths .entry)) places body) i) ⌝ }
 {
-    let code = growth::code_of(state, i);
+    let code = plan_words::code_of(state, i);
     if !formats::is_integer(code) {
         return false;
     }
     let m = source_count(state);
     let mut s = 0;
     while s < m {
-        let start = growth::base_of(state, s, i);
-        let k = sharing::node_of(sources, s, i + 1);
+        let start = plan_words::base_of(state, s, i);
+        let k = dictionaries::node_of(sources, s, i + 1);
         let n = lent_tables::length_of(lengths, k);
-        if !sharing::key_fits(start, n, code) {
+        if !dictionaries::key_fits(start, n, code) {
             return false;
         }
         s += 1;
@@ -233,7 +236,7 @@ fn open_dictionary(
     requires { ⌜ (i < 32) × (sourceCount (now state) ≤ 16) ⌝ }
     ensures { λ g. ⌜ Did (now (state .entry)) (now (parts .entry)) write (openDictionary (lent (now (state .entry)) (now (parts .entry)) (now (sources .entry)) (now (lengths .entry)) (now (places .entry)) (now (body .entry))) i (now (counts .entry))) (now (room .entry)) g (now (counts .exit)) (now (room .exit)) ⌝ }
 {
-    if growth::dictionary_of(state, i) == 0 {
+    if plan_words::dictionary_of(state, i) == 0 {
         return 0;
     }
     let g = join_values(

@@ -9,7 +9,7 @@ use lib.ListN.{length, getD}
 use lib.Dec.{leb, ltb, eqb}
 use borrow.Author.Tests.{lt-ltb, le-ltb, le-leb, lt-leb, leb-true, leb-false}
 use Rattle.columnar.specs.Test.{every}
-use Rattle.lent_tables.proofs.Laws.{fits-more, and-left, and-right}
+use Rattle.array_data.proofs.lent_tables.Laws.{fits-more, and-left, and-right}
 use Rattle.walk.specs.State.{word, codeOf, dictionaryOf, keepsOf, rows, bytes}
 use Rattle.parts.specs.Parts.{bufferCounts, bufferCount, copied, validityParts, bufferParts, partCount, hasPart, partsBefore, partFrom, numberOf, neededBy, needed, startAt, sizeAt, sizeOf, inRoom, apart, partWithin}
 use Rattle.parts.specs.declared.Spot.the-variants.{Of, Nothing}

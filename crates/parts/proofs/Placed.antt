@@ -11,7 +11,7 @@ use lib.ListN.{length}
 use lib.Dec.{ltb, eqb}
 use borrow.Author.Tests.{lt-ltb, le-leb, leb-true, ltb-true, eqb-true, eq-eqb}
 use Rattle.columnar.specs.Test.{every, onlyIf}
-use Rattle.lent_tables.proofs.Laws.{and-left, and-right}
+use Rattle.array_data.proofs.lent_tables.Laws.{and-left, and-right}
 use Rattle.walk.specs.State.{rows}
 use Rattle.walk.specs.Log.{startOf}
 use Rattle.parts.specs.Parts.{nodesOf, validityParts, bufferParts, partCount, hasPart, partsBefore, partTotal, numberOf, partFrom, partAt, needed, startAt, sizeAt, sizeOf, inRoom, apart, Apart, before, behind, first-empty, second-empty, partHolds, partsHold, partsPlaced, partWithin, partsWithin, Used, Numbered, Named}

@@ -11,7 +11,7 @@ use lib.Dec.{leb, ltb, eqb}
 use borrow.Author.Tests.{lt-ltb, leb-true, ne-eqb}
 use Rattle.columnar.specs.Test.{every}
 use Rattle.formats.specs.Code.{isString, isListView, isList}
-use Rattle.lent_tables.proofs.Laws.{and-left, and-right}
+use Rattle.array_data.proofs.lent_tables.Laws.{and-left, and-right}
 use Rattle.walk.specs.State.{word, codeOf, dictionaryOf, keepsOf}
 use Rattle.parts.specs.Parts.{nodesOf, bufferCount, hasOffsets, copied, validityParts, bufferParts, hasPart, partsBefore, partTotal, partWord, Numbered}
 use Rattle.parts.proofs.Laws.{few-bits, few-parts}

@@ -5,6 +5,8 @@ ghost use Prim.Native.Nat.{_+_, _*_, _≤_, _<_, _/_};
 ghost use lib.Dec.{leb};
 ghost use Rattle.columnar.specs.Test.{every};
 ghost use Rattle.parts.specs.Parts.{nodesOf, bufferCount, copied, validityParts, bufferParts, partCount, hasPart, partsBefore, partTotal, partWord, numberOf, partAt, entrySize, neededBy, inRoom, apart, partHolds, partsHold, partsPlaced, partWithin, partsWithin};
+use array_data::lent_tables;
+use walk::plan_words;
 
 // The node and the buffer of a part; buffer 0 is the validity.
 pub enum Spot {
@@ -70,7 +72,7 @@ pub fn is_copied(state: &[u64], i: usize) -> bool
     if i == 0 {
         return true;
     }
-    if growth::dictionary_of(state, i - 1) == 0 {
+    if plan_words::dictionary_of(state, i - 1) == 0 {
         return true;
     }
     lent_tables::at_u64(state, 8 * (i - 1) + 7) == 1
@@ -85,10 +87,14 @@ fn validity_parts(state: &[u64], i: usize) -> usize
     if !is_copied(state, i) {
         return 0;
     }
-    if growth::keeps_of(state, i) == 0 {
+    if plan_words::keeps_of(state, i) == 0 {
         return 0;
     }
-    if growth::code_of(state, i) < 21 { 1 } else { 0 }
+    if plan_words::code_of(state, i) < 21 {
+        1
+    } else {
+        0
+    }
 }
 
 // How many buffers of node i have a part.
@@ -100,7 +106,7 @@ fn buffer_parts(state: &[u64], i: usize) -> usize
     if !is_copied(state, i) {
         return 0;
     }
-    buffer_count(growth::code_of(state, i)) as usize
+    buffer_count(plan_words::code_of(state, i)) as usize
 }
 
 // How many parts node i has.
@@ -183,7 +189,7 @@ pub fn number_of(state: &[u64], i: usize, b: usize) -> usize
     ensures { λ r. ⌜ r ≡ numberOf (now (state .entry)) i b ⌝ }
     ensures { λ r. ⌜ r < 4294967298 ⌝ }
 {
-    let p = growth::part_of(state, i) + b;
+    let p = plan_words::part_of(state, i) + b;
     if p == 0 {
         return 0;
     }
@@ -270,9 +276,9 @@ fn part_holds(state: &[u64], counts: &[u64; 96], parts: &[u32], i: usize, b: usi
         return true;
     }
     let size = lent_tables::at_u32(parts, 2 * number_of(state, i, b) + 1);
-    let code = growth::code_of(state, i);
-    let r = growth::rows_of(counts, i);
-    let n = growth::bytes_of(counts, i);
+    let code = plan_words::code_of(state, i);
+    let r = plan_words::rows_of(counts, i);
+    let n = plan_words::bytes_of(counts, i);
     fits(code, r, n, b, size)
 }
 

@@ -10,9 +10,9 @@ use borrow.Author.Tests.{lt-ltb, le-ltb, ne-eqb}
 use Rattle.formats.specs.Code.{isString, isView, isRunEnd}
 use Rattle.model.specs.Opening.{keeps, shared, startOfKeys}
 use Rattle.array_data.specs.Tables.{Tables}
-use Rattle.lent_tables.specs.Lent.{tables}
-use Rattle.sharing.specs.Sources.{firstOf, arrayAt, dictAt, capped}
-use Rattle.node_table.specs.Words.{planted}
+use Rattle.array_data.specs.lent_tables.Lent.{tables}
+use Rattle.plan.specs.dictionaries.Sources.{firstOf, arrayAt, dictAt, capped}
+use Rattle.array_data.specs.node_words.Words.{planted}
 use Rattle.parts.specs.Parts.{partTotal}
 use Rattle.walk.specs.State.{codeOf, dictionaryOf, endOf, keepsOf}
 use Rattle.plan.specs.Plan.{filled, flag, sourceCount, nodesOf, withTree, holder, parentOf, asked, isEnds, keepWord, withKeeps, dictionariesAt, joinedWord, withJoined, buffersUpTo, baseWord, withBases, withCounts, withParts, withTotal, laidOut, withChoice, planned}

@@ -25,15 +25,15 @@ use Rattle.schema.proofs.Depth.{nested, child-before}
 use Rattle.schema.proofs.Known.{typed-whole, typed-shape}
 use Rattle.array_data.specs.Tables.{Tables, place, dataBuffer}
 use Rattle.array_data.specs.Typed.{runEndNode, Tree, tablesFrom, bodyOf}
-use Rattle.lent.specs.Lent.{kindAt}
-use Rattle.lent.proofs.Shaped.{Shaped, of-plain, of-view, of-list, of-lists, of-sparse, of-dense, of-run, of-dictionary, shaped, at-run}
-use Rattle.lent.proofs.Lent.{first-child, second-child}
-use Rattle.lent_tables.specs.Lent.{tables}
-use Rattle.lent_tables.proofs.Laws.{and-left, and-right}
-use Rattle.sharing.specs.Sources.{firstOf, arrayAt, dictAt, ofStrings, capped}
-use Rattle.sharing.proofs.Laws.{place-from}
-use Rattle.sharing.proofs.Typed.{columnAt, dictionaryAt, keeps-typed, shared-typed, start-typed}
-use Rattle.node_table.proofs.Laws.{zeroth, first-word, second-word}
+use Rattle.array_data.specs.type_tree.Lent.{kindAt}
+use Rattle.array_data.proofs.type_tree.Shaped.{Shaped, of-plain, of-view, of-list, of-lists, of-sparse, of-dense, of-run, of-dictionary, shaped, at-run}
+use Rattle.array_data.proofs.type_tree.Lent.{first-child, second-child}
+use Rattle.array_data.specs.lent_tables.Lent.{tables}
+use Rattle.array_data.proofs.lent_tables.Laws.{and-left, and-right}
+use Rattle.plan.specs.dictionaries.Sources.{firstOf, arrayAt, dictAt, ofStrings, capped}
+use Rattle.plan.proofs.dictionaries.Laws.{place-from}
+use Rattle.plan.proofs.dictionaries.Typed.{columnAt, dictionaryAt, keeps-typed, shared-typed, start-typed}
+use Rattle.array_data.proofs.node_words.Laws.{zeroth, first-word, second-word}
 use Rattle.walk.specs.State.{word, codeOf, dictionaryOf, endOf, keepsOf, baseOf}
 use Rattle.plan.specs.Plan.{flag, sourceCount, nodesOf, holder, parentOf, asked, isEnds, keepWord, buffersUpTo, joinedWord, baseWord, planned}
 use Rattle.plan.proofs.Laws.{holds, holds-not}

@@ -15,13 +15,13 @@ use Rattle.schema.specs.Tree.{below, childAt, ceilings, typed}
 use Rattle.schema.proofs.Known.{typed-whole, typed-shape}
 use Rattle.array_data.specs.Tables.{Tables}
 use Rattle.array_data.specs.Typed.{Tree, fieldOf, nodeOf, MeansPlain, Means, tablesFrom, bodyOf}
-use Rattle.lent.specs.Lent.{kindAt, treeOf, typeOf}
-use Rattle.lent.proofs.Ids.{field-in}
-use Rattle.lent.proofs.Shaped.{plainKind, Shaped, shaped}
-use Rattle.lent.proofs.Lent.{child-same, first-child, some-node, means}
-use Rattle.lent_tables.specs.Lent.{tables}
-use Rattle.sharing.specs.Sources.{firstOf, ofStrings}
-use Rattle.sharing.proofs.Typed.{columnAt}
+use Rattle.array_data.specs.type_tree.Lent.{kindAt, treeOf, typeOf}
+use Rattle.array_data.proofs.type_tree.Ids.{field-in}
+use Rattle.array_data.proofs.type_tree.Shaped.{plainKind, Shaped, shaped}
+use Rattle.array_data.proofs.type_tree.Lent.{child-same, first-child, some-node, means}
+use Rattle.array_data.specs.lent_tables.Lent.{tables}
+use Rattle.plan.specs.dictionaries.Sources.{firstOf, ofStrings}
+use Rattle.plan.proofs.dictionaries.Typed.{columnAt}
 use Rattle.walk.specs.State.{codeOf, dictionaryOf, keepsOf}
 use Rattle.plan.specs.Plan.{flag, sourceCount, nodesOf, planned}
 use Rattle.plan.specs.Opened.{OpenedBelow, Opened}

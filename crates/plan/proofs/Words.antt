@@ -11,8 +11,8 @@ use borrow.Author.Tests.{eqb-true, eqb-false}
 use Rattle.columnar.specs.Row.{seg}
 use Rattle.model.specs.Opening.{keeps}
 use Rattle.array_data.specs.Tables.{Tables}
-use Rattle.sharing.specs.Sources.{firstOf}
-use Rattle.node_table.specs.Words.{wordOf, planted}
+use Rattle.plan.specs.dictionaries.Sources.{firstOf}
+use Rattle.array_data.specs.node_words.Words.{wordOf, planted}
 use Rattle.parts.specs.Parts.{partWord, partTotal, Numbered}
 use Rattle.parts.proofs.Words.{Alike, alike-word, alike-total, numbered}
 use Rattle.walk.specs.State.{word, endOf, keepsOf, baseOf}

@@ -11,7 +11,7 @@ use Rattle.columnar.specs.Reading.{Body}
 use Rattle.model.specs.Opening.{keeps, shared, startOfKeys}
 use Rattle.model.specs.Primitive.{buffersBefore}
 use Rattle.array_data.specs.Typed.{Tree, nodeOf}
-use Rattle.sharing.specs.Sources.{capped}
+use Rattle.plan.specs.dictionaries.Sources.{capped}
 use Rattle.walk.specs.State.{word, keepsOf, baseOf}
 use Rattle.plan.specs.Plan.{flag}
 

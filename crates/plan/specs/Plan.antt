@@ -9,8 +9,8 @@ use Rattle.formats.specs.Code.{isString, isView, isRunEnd}
 use Rattle.columnar.specs.Dictionary.{Dictionary}
 use Rattle.model.specs.Opening.{keeps, shared, startOfKeys}
 use Rattle.array_data.specs.Tables.{Tables}
-use Rattle.sharing.specs.Sources.{firstOf, arrayAt, dictAt, Countable, capped}
-use Rattle.node_table.specs.Words.{planted}
+use Rattle.plan.specs.dictionaries.Sources.{firstOf, arrayAt, dictAt, Countable, capped}
+use Rattle.array_data.specs.node_words.Words.{planted}
 use Rattle.parts.specs.Parts.{partWord, partTotal}
 use Rattle.walk.specs.State.{codeOf, dictionaryOf, endOf, keepsOf}
 
@@ -32,7 +32,7 @@ sourceCount sources = length sources / 2
 abbrev pub nodesOf : List ℕ → ℕ → ℕ
 nodesOf sources s = getD sources (2 * s + 1) 0
 
--- ---- the type tree: crate `node_table`; all else is 0
+-- ---- the type tree: crate `array_data::node_words`; all else is 0
 
 unfoldable pub withTree : List ℕ → List ℕ
 withTree tree = filled (λ q. q) (λ state q. getD tree q 0) 256 (replicate 872 0)

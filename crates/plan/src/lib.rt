@@ -1,12 +1,17 @@
 // The state of a join as the opening plans it, before any dictionary is joined: one function for each kind of word.
+pub mod dictionaries;
+
 ghost use mathlib.Core.Path.{_≡_};
 ghost use Prim.Native.Nat.{ℕ, suc, _+_, _*_, _≤_, _<_};
 ghost use Rattle.formats.specs.Code.{isString};
 ghost use Rattle.walk.specs.State.{codeOf};
-ghost use Rattle.lent_tables.specs.Lent.{tables};
-ghost use Rattle.node_table.specs.Words.{planted};
-ghost use Rattle.sharing.specs.Sources.{firstOf, Countable};
+ghost use Rattle.array_data.specs.lent_tables.Lent.{tables};
+ghost use Rattle.array_data.specs.node_words.Words.{planted};
+ghost use Rattle.plan.specs.dictionaries.Sources.{firstOf, Countable};
 ghost use Rattle.plan.specs.Plan.{withTree, parentOf, asked, isEnds, keepWord, withKeeps, joinedWord, withJoined, buffersUpTo, baseWord, withBases, withCounts, withParts, flag, laidOut, planned, Plannable};
+use array_data::lent_tables;
+use array_data::node_words;
+use walk::plan_words;
 
 // ---- the type tree
 
@@ -34,7 +39,7 @@ fn parent_of(state: &[u64; 872], i: usize) -> usize
     let mut p = i;
     while 0 < p {
         p -= 1;
-        if i < growth::end_of(state, p) {
+        if i < plan_words::end_of(state, p) {
             return p;
         }
     }
@@ -49,10 +54,10 @@ fn is_asked(state: &[u64; 872], keep: bool, i: usize) -> bool
     if i == 0 {
         return keep;
     }
-    if growth::dictionary_of(state, i - 1) != 0 {
+    if plan_words::dictionary_of(state, i - 1) != 0 {
         return false;
     }
-    growth::keeps_of(state, parent_of(state, i)) != 0
+    plan_words::keeps_of(state, parent_of(state, i)) != 0
 }
 
 // Whether node i is the run ends of the node before it.
@@ -63,7 +68,7 @@ fn is_ends(state: &[u64; 872], i: usize) -> bool
     if i == 0 {
         return false;
     }
-    formats::is_run_end(growth::code_of(state, i - 1))
+    formats::is_run_end(plan_words::code_of(state, i - 1))
 }
 
 // 1 if node i keeps nulls and else 0.
@@ -84,7 +89,7 @@ fn keep_word(
         return 0;
     }
     let above = is_asked(state, keep, i);
-    if sharing::keeps(above, sources, lengths, places, body, m, i) {
+    if dictionaries::keeps(above, sources, lengths, places, body, m, i) {
         return 1;
     }
     0
@@ -135,11 +140,11 @@ fn joined_word(
     requires { ⌜ (m ≤ 16) × (i < 32) ⌝ }
     ensures { λ r. ⌜ r ≡ joinedWord (tables (now (lengths .entry)) (now (places .entry)) (now (body .entry))) (now (sources .entry)) m (now (state .entry)) i ⌝ }
 {
-    if growth::dictionary_of(state, i) == 0 {
+    if plan_words::dictionary_of(state, i) == 0 {
         return 0;
     }
     let string = has_strings(state, i);
-    if sharing::all_share(sources, lengths, places, body, m, i + 1, string) {
+    if dictionaries::all_share(sources, lengths, places, body, m, i + 1, string) {
         return 0;
     }
     1
@@ -176,7 +181,7 @@ pub fn buffers_up_to(sources: &[u32], places: &[u32], i: usize, s: usize) -> u64
     let mut sum: u64 = 0;
     let mut t = 0;
     while t < s {
-        let k = sharing::node_of(sources, t, i);
+        let k = dictionaries::node_of(sources, t, i);
         sum += lent_tables::place(places, k, 8) as u64;
         t += 1;
     }
@@ -197,14 +202,14 @@ fn base_word(
     requires { ⌜ (m ≤ 16) × (s ≤ 16) × (i < 32) ⌝ }
     ensures { λ r. ⌜ r ≡ baseWord (tables (now (lengths .entry)) (now (places .entry)) (now (body .entry))) (now (sources .entry)) m (now (state .entry)) s i ⌝ }
 {
-    if formats::is_view(growth::code_of(state, i)) {
+    if formats::is_view(plan_words::code_of(state, i)) {
         return buffers_up_to(sources, places, i, s);
     }
-    if growth::dictionary_of(state, i) == 0 {
+    if plan_words::dictionary_of(state, i) == 0 {
         return 0;
     }
     let string = has_strings(state, i);
-    sharing::start_of_keys(sources, lengths, places, body, m, i + 1, string, s)
+    dictionaries::start_of_keys(sources, lengths, places, body, m, i + 1, string, s)
 }
 
 // What is added to each source's keys and buffer numbers, at each of 32 nodes.
@@ -253,7 +258,7 @@ fn write_type(
     ensures { λ _. ⌜ now (state .exit) ≡ withCounts m n (withTree (planted (now (formats .entry)) (now (schema .entry)) first n)) ⌝ }
 {
     let mut tree = [0u64; 256];
-    node_table::plant(formats, schema, first, n, &mut tree);
+    node_words::plant(formats, schema, first, n, &mut tree);
     write_tree(&tree, state);
     state[864] = m as u64;
     state[865] = n as u64;

@@ -15,18 +15,18 @@ use Rattle.number.proofs.Laws.{splice-splice, splice-nil, length-splice}
 use Rattle.formats.specs.Code.{isFixed, isString, isView, isListView, isList, isUnion, isSparse, isRunEnd, widthOf}
 use Rattle.array_data.specs.Tables.{Tables, part, lengthOf, offsetOf, place, validOf, firstBuffer, secondBuffer}
 use Rattle.array_data.specs.Typed.{NodeKind, fixedNode, stringNode, viewNode, listViewNode, listNode, sparseNode, denseNode, runEndNode, dictionaryNode}
-use Rattle.lent.specs.Lent.{numberKind, unionKind}
+use Rattle.array_data.specs.type_tree.Lent.{numberKind, unionKind}
 use Rattle.run_ends.specs.declared.PhysicalRun.{PhysicalRun}
-use Rattle.run_reader.specs.Rows.{rowRun}
-use Rattle.run_reader.specs.declared.RowRun.{RowRun}
-use Rattle.run_reader.specs.declared.RowRun.the-variants as run
-use Rattle.node_table.specs.Words.{word}
-use Rattle.lent_entries.specs.Entries.{entryIn, validIn}
-use Rattle.lent_entries.proofs.Laws.{cut}
-use Rattle.lent_entries.specs.declared.Entry.{Entry}
-use Rattle.lent_entries.specs.declared.Entry.the-variants as entry
-use Rattle.lent_entries.specs.declared.Validity.{Validity}
-use Rattle.lent_entries.specs.declared.Validity.the-variants as validity
+use Rattle.leaf_row.specs.run.Rows.{rowRun}
+use Rattle.leaf_row.specs.declared.run.RowRun.{RowRun}
+use Rattle.leaf_row.specs.declared.run.RowRun.the-variants as run
+use Rattle.array_data.specs.node_words.Words.{word}
+use Rattle.array_data.specs.entries.Entries.{entryIn, validIn}
+use Rattle.array_data.proofs.entries.Laws.{cut}
+use Rattle.array_data.specs.declared.entries.Entry.{Entry}
+use Rattle.array_data.specs.declared.entries.Entry.the-variants as entry
+use Rattle.array_data.specs.declared.entries.Validity.{Validity}
+use Rattle.array_data.specs.declared.entries.Validity.the-variants as validity
 use Rattle.slot_reader.specs.declared.RowRead.{RowRead}
 use Rattle.slot_reader.specs.declared.RowRead.the-variants as row
 use Rattle.slot_reader.specs.Slots.{codeWord, codeNumber, known, kindWord, slotBy, slotRead}

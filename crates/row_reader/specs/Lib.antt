@@ -1,2 +1,3 @@
 -- The definitions that the contracts of `row_reader` cite.
 pub mod Walk
+pub mod meaning

@@ -8,15 +8,15 @@ use lib.Dec.{leb, ltb, eqb}
 use Rattle.formats.specs.Code.{isRunEnd, widthOf}
 use Rattle.array_data.specs.Tables.{Tables, lengthOf, offsetOf, place, validOf, firstBuffer, secondBuffer}
 use Rattle.array_data.specs.Typed.{NodeKind, fixedNode, stringNode, viewNode, listViewNode, listNode, sparseNode, denseNode, runEndNode, dictionaryNode}
-use Rattle.run_reader.specs.Rows.{rowRun}
-use Rattle.run_reader.specs.declared.RowRun.{RowRun}
-use Rattle.run_reader.specs.declared.RowRun.the-variants as run
-use Rattle.node_table.specs.Words.{word}
-use Rattle.lent_entries.specs.Entries.{entryIn, validIn}
-use Rattle.lent_entries.specs.declared.Entry.{Entry}
-use Rattle.lent_entries.specs.declared.Entry.the-variants as entry
-use Rattle.lent_entries.specs.declared.Validity.{Validity}
-use Rattle.lent_entries.specs.declared.Validity.the-variants as validity
+use Rattle.leaf_row.specs.run.Rows.{rowRun}
+use Rattle.leaf_row.specs.declared.run.RowRun.{RowRun}
+use Rattle.leaf_row.specs.declared.run.RowRun.the-variants as run
+use Rattle.array_data.specs.node_words.Words.{word}
+use Rattle.array_data.specs.entries.Entries.{entryIn, validIn}
+use Rattle.array_data.specs.declared.entries.Entry.{Entry}
+use Rattle.array_data.specs.declared.entries.Entry.the-variants as entry
+use Rattle.array_data.specs.declared.entries.Validity.{Validity}
+use Rattle.array_data.specs.declared.entries.Validity.the-variants as validity
 use Rattle.slot_reader.specs.declared.RowRead.{RowRead}
 use Rattle.slot_reader.specs.declared.RowRead.the-variants as row
 use Rattle.slot_reader.specs.Slots.{codeWord, known, kindWord, slotBy}

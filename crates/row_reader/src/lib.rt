@@ -1,17 +1,23 @@
 // One row of a lent column, read from the top of the tree downward, at most eight levels.
+pub mod meaning;
+
 ghost use mathlib.Core.Path.{_≡_};
 ghost use mathlib.Core.List.{[]};
 ghost use Prim.Native.Nat.{suc, _+_, _≤_, _<_, _^_};
 ghost use lib.ListN.{length};
 ghost use Rattle.number.specs.Number.{splice};
 ghost use Rattle.array_data.specs.Tables.{part, offsetOf, firstBuffer, secondBuffer};
-ghost use Rattle.lent_entries.specs.Entries.{column, entryIn};
-ghost use Rattle.lent_entries.specs.declared.Entry.the-variants.{Value};
+ghost use Rattle.array_data.specs.entries.Entries.{column, entryIn};
+ghost use Rattle.array_data.specs.declared.entries.Entry.the-variants.{Value};
 ghost use Rattle.row_reader.specs.Walk.{endWord, childOf, into, underId, codeWidth, runIn, runOf, runsStep, runAt, stepOn, stepAt, walk, isRefused, rowAt};
-use lent_entries::Entry;
-use lent_entries::Validity;
-use run_reader::ColumnRow;
-use run_reader::RowRun;
+use array_data::entries;
+use array_data::entries::Entry;
+use array_data::entries::Validity;
+use array_data::lent_tables;
+use array_data::node_words;
+use leaf_row::run;
+use leaf_row::run::ColumnRow;
+use leaf_row::run::RowRun;
 use slot_reader::RowRead;
 
 // What a node says of a row: all there is, or the row of a child; of a union's child with its id.
@@ -48,7 +54,7 @@ fn end_word(tree: &[u64], i: usize) -> usize
     ensures { λ r. ⌜ r ≡ endWord (now (tree .entry)) i ⌝ }
     ensures { λ r. ⌜ r ≤ 32 ⌝ }
 {
-    let end = node_table::word(tree, i, 2);
+    let end = node_words::word(tree, i, 2);
     if 32 < end {
         return 32;
     }
@@ -67,10 +73,10 @@ fn find_child(tree: &[u64], i: usize, id: u64) -> Child
         if end <= node {
             return Child::Missing;
         }
-        if node_table::word(tree, node, 3) == id {
+        if node_words::word(tree, node, 3) == id {
             return Child::Node(node);
         }
-        node = node_table::word(tree, node, 2) as usize;
+        node = node_words::word(tree, node, 2) as usize;
         c += 1;
     }
     Child::Missing
@@ -99,9 +105,9 @@ fn step_sparse(tree: &[u64], places: &[u32], body: &[u8], first: u32, i: usize, 
     requires { ⌜ i < 2 ^ 32 ⌝ }
     ensures { λ r. ⌜ r ≡ underId (now (tree .entry)) i (entryIn 1 (firstBuffer (column [] (now (places .entry)) [] (now (body .entry)) first) i) slot) (Value slot) ⌝ }
 {
-    let start = lent_entries::place_at(places, first, i, 3);
-    let size = lent_entries::place_at(places, first, i, 4);
-    let Entry::Value(id) = lent_entries::read_entry(body, start, size, 1, slot) else {
+    let start = entries::place_at(places, first, i, 3);
+    let size = entries::place_at(places, first, i, 4);
+    let Entry::Value(id) = entries::read_entry(body, start, size, 1, slot) else {
         return Step::Done(RowRead::Refused(12));
     };
     step_into(tree, i, id, slot)
@@ -112,14 +118,14 @@ fn step_dense(tree: &[u64], places: &[u32], body: &[u8], first: u32, i: usize, s
     requires { ⌜ i < 2 ^ 32 ⌝ }
     ensures { λ r. ⌜ r ≡ underId (now (tree .entry)) i (entryIn 1 (firstBuffer (column [] (now (places .entry)) [] (now (body .entry)) first) i) slot) (entryIn 4 (secondBuffer (column [] (now (places .entry)) [] (now (body .entry)) first) i) slot) ⌝ }
 {
-    let start = lent_entries::place_at(places, first, i, 3);
-    let size = lent_entries::place_at(places, first, i, 4);
-    let Entry::Value(id) = lent_entries::read_entry(body, start, size, 1, slot) else {
+    let start = entries::place_at(places, first, i, 3);
+    let size = entries::place_at(places, first, i, 4);
+    let Entry::Value(id) = entries::read_entry(body, start, size, 1, slot) else {
         return Step::Done(RowRead::Refused(12));
     };
-    let from = lent_entries::place_at(places, first, i, 5);
-    let room = lent_entries::place_at(places, first, i, 6);
-    let Entry::Value(row) = lent_entries::read_entry(body, from, room, 4, slot) else {
+    let from = entries::place_at(places, first, i, 5);
+    let room = entries::place_at(places, first, i, 6);
+    let Entry::Value(row) = entries::read_entry(body, from, room, 4, slot) else {
         return Step::Done(RowRead::Refused(12));
     };
     step_into(tree, i, id, row)
@@ -150,11 +156,11 @@ fn find_run(
     let n = len * (w as u64);
     if n == 0 {
         let none = [0u8; 0];
-        return run_reader::run_at(&none, offset, rows, w, row);
+        return run::run_at(&none, offset, rows, w, row);
     }
     let a = (start as u64 + off * (w as u64)) as usize;
     let e = a + n as usize;
-    run_reader::run_at(&body[a..e], offset, rows, w, row)
+    run::run_at(&body[a..e], offset, rows, w, row)
 }
 
 // The run of a row of the run-end node i, and the rows left in it: the run ends are the next node, with their own offset.
@@ -172,12 +178,12 @@ fn run_of(
 {
     let e = i + 1;
     let w = formats::width_of(slot_reader::code_word(tree, e));
-    let start = lent_entries::place_at(places, first, e, 3);
-    let size = lent_entries::place_at(places, first, e, 4);
-    let off = lent_entries::offset_at(lengths, first, e);
-    let len = lent_entries::length_at(lengths, first, e);
-    let offset = lent_entries::offset_at(lengths, first, i);
-    let rows = lent_entries::length_at(lengths, first, i);
+    let start = entries::place_at(places, first, e, 3);
+    let size = entries::place_at(places, first, e, 4);
+    let off = entries::offset_at(lengths, first, e);
+    let len = entries::length_at(lengths, first, e);
+    let offset = entries::offset_at(lengths, first, i);
+    let rows = entries::length_at(lengths, first, i);
     find_run(body, start, size, off, len, w, offset, rows, row)
 }
 
@@ -195,7 +201,7 @@ fn step_runs(
     requires { ⌜ offsetOf (column (now lengths) [] [] [] first) i ≤ slot ⌝ }
     ensures { λ r. ⌜ r ≡ runsStep (column (now (lengths .entry)) (now (places .entry)) [] (now (body .entry)) first) i (codeWidth (now (tree .entry)) (suc i)) slot ⌝ }
 {
-    let row = ColumnRow(slot - lent_entries::offset_at(lengths, first, i));
+    let row = ColumnRow(slot - entries::offset_at(lengths, first, i));
     match run_of(tree, lengths, places, body, first, i, row) {
         RowRun::Run { run, left: _ } => Step::Go {
             node: i + 2,
@@ -269,12 +275,12 @@ fn next_step(
     if 32 <= i {
         return Step::Done(RowRead::Refused(9));
     }
-    let off = lent_entries::offset_at(lengths, first, i);
+    let off = entries::offset_at(lengths, first, i);
     if u64::MAX - off < row {
         return Step::Done(RowRead::Refused(12));
     }
     let slot = off + row;
-    match lent_entries::valid_at(places, body, first, i, slot) {
+    match entries::valid_at(places, body, first, i, slot) {
         Validity::Valid => step_slot(tree, lengths, places, buffers, body, first, i, slot),
         Validity::Null => Step::Done(RowRead::Null),
         Validity::Outside => Step::Done(RowRead::Refused(12)),
@@ -380,7 +386,7 @@ pub fn row_at(
     ensures { λ r. ⌜ (r .read ≡ rowAt (now (tree .entry)) (column (now (lengths .entry)) (now (places .entry)) (now (buffers .entry)) (now (body .entry)) first) row .read) × (r .ids ≡ length (rowAt (now (tree .entry)) (column (now (lengths .entry)) (now (places .entry)) (now (buffers .entry)) (now (body .entry)) first) row .ids)) ⌝ }
     ensures { λ r. ⌜ now (ids .exit) ≡ splice 0 (rowAt (now (tree .entry)) (column (now (lengths .entry)) (now (places .entry)) (now (buffers .entry)) (now (body .entry)) first) row .ids) (now (ids .entry)) ⌝ }
 {
-    if lent_entries::length_at(lengths, first, 0) <= row {
+    if entries::length_at(lengths, first, 0) <= row {
         return RowAnswer {
             read: RowRead::Refused(2),
             ids: 0,

@@ -1,5 +1,7 @@
 // The rules that hold of every row of a source: offsets, list-views and run ends, each in one pass over the rows.
 // Each function answers whether n rows obey, whatever they hold. `at` is a byte's place, with the array's offset already in it.
+pub mod slots;
+
 ghost use mathlib.Core.Path.{_≡_};
 ghost use Prim.Native.Nat.{_+_, _*_, _≤_, min};
 ghost use lib.ListN.{length};

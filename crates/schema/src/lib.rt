@@ -2,6 +2,7 @@
 ghost use mathlib.Core.Path.{_≡_};
 ghost use Prim.Native.Nat.{_≤_, _<_};
 ghost use Rattle.schema.specs.Tree.{field, flag, nullable, children, dictionary, below, bare, endOf, depth, whole, codeOf, fewFields, valuesShape, endsShape, leafShape, keysShape, listShape, childForEach, idsOf, unionShape, runShape, shape, ceilings, typed, sameFlag, sameFormats, sameNode, sameType};
+use formats::union_ids;
 
 // ---- the numbers of a node
 
@@ -227,7 +228,7 @@ fn has_child_for_each(formats: &[u8], schema: &[u32], first: usize, i: usize) ->
     let len = get(schema, first + i, 1) as usize;
     let n = children_of(schema, first, i);
     let mut ids = [0u8; 16];
-    let format_ids::Ids::Count(k) = format_ids::union_ids(formats, at, len, &mut ids) else {
+    let union_ids::Ids::Count(k) = union_ids::union_ids(formats, at, len, &mut ids) else {
         return false;
     };
     k as u32 == n
@@ -308,7 +309,7 @@ fn has_same_format(formats: &[u8], schema: &[u32], first: usize, first2: usize, 
     let len = get(schema, first + i, 1) as usize;
     let at2 = get(schema, first2 + i, 0) as usize;
     let len2 = get(schema, first2 + i, 1) as usize;
-    format_ids::same_format(formats, at, len, at2, len2)
+    union_ids::same_format(formats, at, len, at2, len2)
 }
 
 // Whether the nodes i of two trees are of the same type.

@@ -11,11 +11,11 @@ use Rattle.columnar.specs.Types.{Number, width}
 use Rattle.formats.specs.Code.{between, lastCode, isFixed, isString, isView, isListView, isList, isUnion, isSparse, isRunEnd, widthOf}
 use Rattle.formats.specs.Types as types
 use Rattle.array_data.specs.Typed.{NodeKind, fixedNode, stringNode, viewNode, listViewNode, listNode, sparseNode, denseNode, runEndNode, dictionaryNode}
-use Rattle.lent.specs.Lent.{numberKind, unionKind, kindOf}
-use Rattle.lent.proofs.Shaped.{kind-fixed, kind-string, kind-view, kind-list, kind-lists, kind-union, kind-run, number-or}
-use Rattle.lent_tables.proofs.Laws.{and-left, and-right}
+use Rattle.array_data.specs.type_tree.Lent.{numberKind, unionKind, kindOf}
+use Rattle.array_data.proofs.type_tree.Shaped.{kind-fixed, kind-string, kind-view, kind-list, kind-lists, kind-union, kind-run, number-or}
+use Rattle.array_data.proofs.lent_tables.Laws.{and-left, and-right}
 use Rattle.leaf_row.specs.Reading as leaf
-use Rattle.node_table.specs.Words.{word}
+use Rattle.array_data.specs.node_words.Words.{word}
 use Rattle.slot_reader.specs.Slots.{codeWord, known, kindWord, codeNumber}
 
 -- ---- codes by range

@@ -15,21 +15,21 @@ use Rattle.columnar.specs.Array.{item}
 use Rattle.formats.specs.Code.{isFixed, isString, isView, isListView, isList, widthOf}
 use Rattle.array_data.specs.Tables.{Tables, part, lengthOf, offsetOf, place, firstBuffer, secondBuffer}
 use Rattle.array_data.specs.Typed.{NodeKind, stringNode, viewNode, listViewNode, listNode, runEndNode}
-use Rattle.lent.specs.Lent.{numberKind, unionKind}
+use Rattle.array_data.specs.type_tree.Lent.{numberKind, unionKind}
 use Rattle.leaf_row.specs.declared.Leaf.{Leaf}
 use Rattle.leaf_row.specs.Reading as leaf
-use Rattle.view_row.specs.Place.{placeOf, partOf, Within}
-use Rattle.view_row.specs.declared.Place.{Place}
-use Rattle.view_row.specs.declared.Place.the-variants as seen
-use Rattle.node_table.specs.Words.{word}
-use Rattle.lent_entries.specs.Entries.{holds, spotIn, sized, entryIn}
-use Rattle.lent_entries.specs.declared.Spot.{Spot}
-use Rattle.lent_entries.specs.declared.Spot.the-variants as spot
-use Rattle.lent_entries.specs.declared.Entry.{Entry}
-use Rattle.lent_entries.specs.declared.Entry.the-variants as entry
-use Rattle.lent_entries.specs.declared.Validity.{Validity}
-use Rattle.lent_entries.proofs.Laws.{spot-at, spot-outside, holds-wide, inside, item-at}
-use Rattle.lent_tables.proofs.Laws.{and-right}
+use Rattle.leaf_row.specs.view.Place.{placeOf, partOf, Within}
+use Rattle.leaf_row.specs.declared.view.Place.{Place}
+use Rattle.leaf_row.specs.declared.view.Place.the-variants as seen
+use Rattle.array_data.specs.node_words.Words.{word}
+use Rattle.array_data.specs.entries.Entries.{holds, spotIn, sized, entryIn}
+use Rattle.array_data.specs.declared.entries.Spot.{Spot}
+use Rattle.array_data.specs.declared.entries.Spot.the-variants as spot
+use Rattle.array_data.specs.declared.entries.Entry.{Entry}
+use Rattle.array_data.specs.declared.entries.Entry.the-variants as entry
+use Rattle.array_data.specs.declared.entries.Validity.{Validity}
+use Rattle.array_data.proofs.entries.Laws.{spot-at, spot-outside, holds-wide, inside, item-at}
+use Rattle.array_data.proofs.lent_tables.Laws.{and-right}
 use Rattle.slot_reader.specs.declared.RowRead.{RowRead}
 use Rattle.slot_reader.specs.declared.RowRead.the-variants as row
 use Rattle.slot_reader.specs.Slots.{codeWord, known, kindWord, codeNumber, numberRead, stretchIn, both, stringRead, dataPlace, viewed, viewAt, listViewRead, rowsIn, listRead, storedNumber, storedBy, storedAt, entryBy, keyed, dictionaryRead, fixedRead, slotBy, slotRead}

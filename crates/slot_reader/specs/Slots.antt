@@ -13,19 +13,19 @@ use Rattle.formats.specs.Code.{lastCode}
 use Rattle.formats.specs.Types.{numberOf}
 use Rattle.array_data.specs.Tables.{Tables, lengthOf, offsetOf, place, validOf, firstBuffer, secondBuffer}
 use Rattle.array_data.specs.Typed.{NodeKind, fixedNode, stringNode, viewNode, listViewNode, listNode, sparseNode, denseNode, runEndNode, dictionaryNode}
-use Rattle.lent.specs.Lent.{numberOr, kindOf}
+use Rattle.array_data.specs.type_tree.Lent.{numberOr, kindOf}
 use Rattle.leaf_row.specs.Reading.{leafOf}
-use Rattle.view_row.specs.Place.{placeOf}
-use Rattle.view_row.specs.declared.Place.{Place}
-use Rattle.view_row.specs.declared.Place.the-variants as seen
-use Rattle.node_table.specs.Words.{word}
-use Rattle.lent_entries.specs.Entries.{holds, spotIn, entryIn, validIn}
-use Rattle.lent_entries.specs.declared.Spot.{Spot}
-use Rattle.lent_entries.specs.declared.Spot.the-variants as spot
-use Rattle.lent_entries.specs.declared.Entry.{Entry}
-use Rattle.lent_entries.specs.declared.Entry.the-variants as entry
-use Rattle.lent_entries.specs.declared.Validity.{Validity}
-use Rattle.lent_entries.specs.declared.Validity.the-variants as validity
+use Rattle.leaf_row.specs.view.Place.{placeOf}
+use Rattle.leaf_row.specs.declared.view.Place.{Place}
+use Rattle.leaf_row.specs.declared.view.Place.the-variants as seen
+use Rattle.array_data.specs.node_words.Words.{word}
+use Rattle.array_data.specs.entries.Entries.{holds, spotIn, entryIn, validIn}
+use Rattle.array_data.specs.declared.entries.Spot.{Spot}
+use Rattle.array_data.specs.declared.entries.Spot.the-variants as spot
+use Rattle.array_data.specs.declared.entries.Entry.{Entry}
+use Rattle.array_data.specs.declared.entries.Entry.the-variants as entry
+use Rattle.array_data.specs.declared.entries.Validity.{Validity}
+use Rattle.array_data.specs.declared.entries.Validity.the-variants as validity
 use Rattle.slot_reader.specs.declared.RowRead.{RowRead}
 use Rattle.slot_reader.specs.declared.RowRead.the-variants as row
 

@@ -5,11 +5,15 @@ ghost use mathlib.Core.List.{[]};
 ghost use Prim.Native.Nat.{suc, _+_, _≤_, _<_, _^_};
 ghost use lib.ListN.{length};
 ghost use Rattle.array_data.specs.Tables.{part, lengthOf, offsetOf, place, firstBuffer, secondBuffer};
-ghost use Rattle.lent_entries.specs.Entries.{column, spotIn, entryIn};
+ghost use Rattle.array_data.specs.entries.Entries.{column, spotIn, entryIn};
 ghost use Rattle.slot_reader.specs.Slots.{codeWord, codeNumber, numberRead, stretchIn, stringRead, dataPlace, viewAt, listViewRead, rowsIn, listRead, storedNumber, storedAt, namedAt, keyed, fixedRead, slotRead};
-use lent_entries::Entry;
-use lent_entries::Spot;
-use lent_entries::Validity;
+use array_data::entries;
+use array_data::entries::Entry;
+use array_data::entries::Spot;
+use array_data::entries::Validity;
+use array_data::lent_tables;
+use array_data::node_words;
+use leaf_row::view;
 
 // A row: null, a number, bytes that stand in the body, or rows of a child; or the ground of refusal.
 pub enum RowRead {
@@ -25,7 +29,7 @@ pub fn code_word(tree: &[u64], i: usize) -> u8
     requires { ⌜ i < 2 ^ 33 ⌝ }
     ensures { λ r. ⌜ r ≡ codeWord (now (tree .entry)) i ⌝ }
 {
-    let code = node_table::word(tree, i, 0);
+    let code = node_words::word(tree, i, 0);
     if formats::LAST_CODE < code {
         return 0;
     }
@@ -38,8 +42,7 @@ fn read_number(body: &[u8], start: u32, size: u32, code: u8, slot: u64) -> RowRe
     requires { ⌜ (1 ≤ code) × (code ≤ 10) ⌝ }
     ensures { λ r. ⌜ r ≡ numberRead (codeNumber code) (part (now (body .entry)) start size) slot ⌝ }
 {
-    let Spot::At(at) = lent_entries::find_spot(body, start, size, formats::width_of(code), slot)
-    else {
+    let Spot::At(at) = entries::find_spot(body, start, size, formats::width_of(code), slot) else {
         return RowRead::Refused(12);
     };
     RowRead::Number(leaf_row::read_leaf(body, at, code))
@@ -66,16 +69,16 @@ fn read_string(places: &[u32], body: &[u8], first: u32, i: usize, w: u8, slot: u
     requires { ⌜ i < 2 ^ 32 ⌝ }
     ensures { λ r. ⌜ r ≡ stringRead w (firstBuffer (column [] (now (places .entry)) [] (now (body .entry)) first) i) (place (column [] (now (places .entry)) [] [] first) i 5) (secondBuffer (column [] (now (places .entry)) [] (now (body .entry)) first) i) slot ⌝ }
 {
-    let start = lent_entries::place_at(places, first, i, 3);
-    let size = lent_entries::place_at(places, first, i, 4);
-    let Entry::Value(a) = lent_entries::read_entry(body, start, size, w, slot) else {
+    let start = entries::place_at(places, first, i, 3);
+    let size = entries::place_at(places, first, i, 4);
+    let Entry::Value(a) = entries::read_entry(body, start, size, w, slot) else {
         return RowRead::Refused(12);
     };
-    let Entry::Value(b) = lent_entries::read_entry(body, start, size, w, slot + 1) else {
+    let Entry::Value(b) = entries::read_entry(body, start, size, w, slot + 1) else {
         return RowRead::Refused(12);
     };
-    let from = lent_entries::place_at(places, first, i, 5);
-    let len = lent_entries::place_at(places, first, i, 6);
+    let from = entries::place_at(places, first, i, 5);
+    let len = entries::place_at(places, first, i, 6);
     read_stretch(body, from, len, a, b)
 }
 
@@ -84,10 +87,10 @@ fn data_place(places: &[u32], buffers: &[u32], first: u32, i: usize, b: u32, j: 
     requires { ⌜ (i < 2 ^ 32) × (j < 2) ⌝ }
     ensures { λ r. ⌜ r ≡ dataPlace (now (buffers .entry)) (place (column [] (now (places .entry)) [] [] first) i 7) (place (column [] (now (places .entry)) [] [] first) i 8) b j ⌝ }
 {
-    if lent_entries::place_at(places, first, i, 8) <= b {
+    if entries::place_at(places, first, i, 8) <= b {
         return 0;
     }
-    let a = lent_entries::place_at(places, first, i, 7) as usize;
+    let a = entries::place_at(places, first, i, 7) as usize;
     lent_tables::at_u32(buffers, 2 * (a + (b as usize)) + j)
 }
 
@@ -102,25 +105,25 @@ fn read_view(
     requires { ⌜ i < 2 ^ 32 ⌝ }
     ensures { λ r. ⌜ r ≡ viewAt (now (body .entry)) (now (buffers .entry)) (place (column [] (now (places .entry)) [] [] first) i 7) (place (column [] (now (places .entry)) [] [] first) i 8) (spotIn (place (column [] (now (places .entry)) [] [] first) i 3) 16 (firstBuffer (column [] (now (places .entry)) [] (now (body .entry)) first) i) slot) ⌝ }
 {
-    let start = lent_entries::place_at(places, first, i, 3);
-    let size = lent_entries::place_at(places, first, i, 4);
-    let Spot::At(at) = lent_entries::find_spot(body, start, size, 16, slot) else {
+    let start = entries::place_at(places, first, i, 3);
+    let size = entries::place_at(places, first, i, 4);
+    let Spot::At(at) = entries::find_spot(body, start, size, 16, slot) else {
         return RowRead::Refused(12);
     };
     let b = number::read_u32(body, at + 8);
     let from = data_place(places, buffers, first, i, b, 0) as usize;
     let len = data_place(places, buffers, first, i, b, 1) as usize;
-    let shown = view_row::view_bytes(body, at, body, from, len);
-    match view_row::view_place(body, at, body, from, len) {
-        view_row::Place::Inline { at: p, len: _ } => RowRead::Bytes {
+    let shown = view::view_bytes(body, at, body, from, len);
+    match view::view_place(body, at, body, from, len) {
+        view::Place::Inline { at: p, len: _ } => RowRead::Bytes {
             at: p,
             len: shown.len(),
         },
-        view_row::Place::Data { at: p, len: _ } => RowRead::Bytes {
+        view::Place::Data { at: p, len: _ } => RowRead::Bytes {
             at: p,
             len: shown.len(),
         },
-        view_row::Place::Outside => RowRead::Refused(12),
+        view::Place::Outside => RowRead::Refused(12),
     }
 }
 
@@ -129,14 +132,14 @@ fn read_list_view(places: &[u32], body: &[u8], first: u32, i: usize, w: u8, slot
     requires { ⌜ i < 2 ^ 32 ⌝ }
     ensures { λ r. ⌜ r ≡ listViewRead w (firstBuffer (column [] (now (places .entry)) [] (now (body .entry)) first) i) (secondBuffer (column [] (now (places .entry)) [] (now (body .entry)) first) i) (suc i) slot ⌝ }
 {
-    let start = lent_entries::place_at(places, first, i, 3);
-    let size = lent_entries::place_at(places, first, i, 4);
-    let Entry::Value(a) = lent_entries::read_entry(body, start, size, w, slot) else {
+    let start = entries::place_at(places, first, i, 3);
+    let size = entries::place_at(places, first, i, 4);
+    let Entry::Value(a) = entries::read_entry(body, start, size, w, slot) else {
         return RowRead::Refused(12);
     };
-    let from = lent_entries::place_at(places, first, i, 5);
-    let room = lent_entries::place_at(places, first, i, 6);
-    let Entry::Value(n) = lent_entries::read_entry(body, from, room, w, slot) else {
+    let from = entries::place_at(places, first, i, 5);
+    let room = entries::place_at(places, first, i, 6);
+    let Entry::Value(n) = entries::read_entry(body, from, room, w, slot) else {
         return RowRead::Refused(12);
     };
     RowRead::List {
@@ -176,15 +179,15 @@ fn read_list(
     requires { ⌜ i + 1 < 2 ^ 32 ⌝ }
     ensures { λ r. ⌜ r ≡ listRead w (firstBuffer (column [] (now (places .entry)) [] (now (body .entry)) first) i) (suc i) (lengthOf (column (now (lengths .entry)) [] [] [] first) (suc i)) slot ⌝ }
 {
-    let start = lent_entries::place_at(places, first, i, 3);
-    let size = lent_entries::place_at(places, first, i, 4);
-    let Entry::Value(from) = lent_entries::read_entry(body, start, size, w, slot) else {
+    let start = entries::place_at(places, first, i, 3);
+    let size = entries::place_at(places, first, i, 4);
+    let Entry::Value(from) = entries::read_entry(body, start, size, w, slot) else {
         return RowRead::Refused(12);
     };
-    let Entry::Value(to) = lent_entries::read_entry(body, start, size, w, slot + 1) else {
+    let Entry::Value(to) = entries::read_entry(body, start, size, w, slot + 1) else {
         return RowRead::Refused(12);
     };
-    let rows = lent_entries::length_at(lengths, first, i + 1);
+    let rows = entries::length_at(lengths, first, i + 1);
     rows_of(i + 1, rows, from, to)
 }
 
@@ -194,7 +197,7 @@ fn read_list(
 fn read_fixed(body: &[u8], start: u32, size: u32, w: u8, slot: u64) -> RowRead
     ensures { λ r. ⌜ r ≡ storedNumber start w (part (now (body .entry)) start size) slot ⌝ }
 {
-    let Spot::At(at) = lent_entries::find_spot(body, start, size, w, slot) else {
+    let Spot::At(at) = entries::find_spot(body, start, size, w, slot) else {
         return RowRead::Refused(12);
     };
     RowRead::Bytes {
@@ -222,11 +225,11 @@ fn read_stored(
     if !formats::is_fixed(code) {
         return RowRead::Refused(10);
     }
-    if node_table::word(tree, i, 1) != 0 {
+    if node_words::word(tree, i, 1) != 0 {
         return RowRead::Refused(10);
     }
-    let start = lent_entries::place_at(places, first, i, 3);
-    let size = lent_entries::place_at(places, first, i, 4);
+    let start = entries::place_at(places, first, i, 3);
+    let size = entries::place_at(places, first, i, 4);
     read_fixed(body, start, size, formats::width_of(code), slot)
 }
 
@@ -244,17 +247,17 @@ fn read_dictionary(
     requires { ⌜ i + 1 < 2 ^ 32 ⌝ }
     ensures { λ r. ⌜ r ≡ keyed (offsetOf (column (now (lengths .entry)) [] [] [] first) (suc i)) (namedAt (now (tree .entry)) (column [] (now (places .entry)) [] (now (body .entry)) first) (suc i)) (entryIn w (firstBuffer (column [] (now (places .entry)) [] (now (body .entry)) first) i) slot) ⌝ }
 {
-    let start = lent_entries::place_at(places, first, i, 3);
-    let size = lent_entries::place_at(places, first, i, 4);
-    let Entry::Value(key) = lent_entries::read_entry(body, start, size, w, slot) else {
+    let start = entries::place_at(places, first, i, 3);
+    let size = entries::place_at(places, first, i, 4);
+    let Entry::Value(key) = entries::read_entry(body, start, size, w, slot) else {
         return RowRead::Refused(12);
     };
-    let off = lent_entries::offset_at(lengths, first, i + 1);
+    let off = entries::offset_at(lengths, first, i + 1);
     if u64::MAX - off < key {
         return RowRead::Refused(12);
     }
     let at = off + key;
-    match lent_entries::valid_at(places, body, first, i + 1, at) {
+    match entries::valid_at(places, body, first, i + 1, at) {
         Validity::Valid => read_stored(tree, places, body, first, i + 1, at),
         Validity::Null => RowRead::Null,
         Validity::Outside => RowRead::Refused(12),
@@ -277,7 +280,7 @@ fn read_integer(
     requires { ⌜ (i + 1 < 2 ^ 32) × (1 ≤ code) × (code ≤ 10) ⌝ }
     ensures { λ r. ⌜ r ≡ fixedRead (now (tree .entry)) (column (now (lengths .entry)) (now (places .entry)) [] (now (body .entry)) first) i (codeNumber code) slot ⌝ }
 {
-    if node_table::word(tree, i, 1) != 0 {
+    if node_words::word(tree, i, 1) != 0 {
         return read_dictionary(
             tree,
             lengths,
@@ -289,8 +292,8 @@ fn read_integer(
             slot,
         );
     }
-    let start = lent_entries::place_at(places, first, i, 3);
-    let size = lent_entries::place_at(places, first, i, 4);
+    let start = entries::place_at(places, first, i, 3);
+    let size = entries::place_at(places, first, i, 4);
     read_number(body, start, size, code, slot)
 }
 

@@ -11,10 +11,10 @@ use Rattle.columnar.specs.Test.{every}
 use Rattle.columnar.proofs.Test.{every-false}
 use Rattle.formats.specs.Code.{isFixed, isListView, isList, isRunEnd}
 use Rattle.walk.specs.State.{codeOf, dictionaryOf, endOf}
-use Rattle.room.specs.Reach.{hasItem}
+use Rattle.refinement.specs.log_in_room.Reach.{hasItem}
 use Rattle.parts.specs.Parts.{nodesOf, copied}
 use Rattle.parts.proofs.Laws.{every-one, every-now}
-use Rattle.orders.specs.Sound.{nestedIn, endsSound, kindSound, nodeSound, planSound, walkable}
+use Rattle.refinement.specs.orders.Sound.{nestedIn, endsSound, kindSound, nodeSound, planSound, walkable}
 
 -- a list-view or a list has its child behind it
 item-is : (z : ℕ) → isListView z || isList z ≡ hasItem z

@@ -1,20 +1,23 @@
 // Whether a walk stays in a plan: its nodes are trees one in the other, and those that a walk comes to have parts. Every order asks this of
 // the plan that it is lent; an opening writes no other.
+pub mod trying;
+
 ghost use mathlib.Core.Path.{_≡_};
 ghost use mathlib.Core.Bool.{_&&_};
 ghost use Prim.Native.Nat.{_≤_, _<_};
 ghost use lib.Dec.{leb};
-ghost use Rattle.orders.specs.Sound.{nestedIn, endsSound, kindSound, nodeSound, planSound, walkable};
+ghost use Rattle.refinement.specs.orders.Sound.{nestedIn, endsSound, kindSound, nodeSound, planSound, walkable};
+use walk::plan_words;
 
 // Whether the nodes below node i end where it ends, or before.
 fn is_nested(plan: &[u64], i: usize) -> bool
     requires { ⌜ i < 32 ⌝ }
     ensures { λ r. ⌜ r ≡ nestedIn (now (plan .entry)) i ⌝ }
 {
-    let end = growth::end_of(plan, i);
+    let end = plan_words::end_of(plan, i);
     let mut k = 0;
     while i + 1 + k < end {
-        if end < growth::end_of(plan, i + 1 + k) {
+        if end < plan_words::end_of(plan, i + 1 + k) {
             return false;
         }
         k += 1;
@@ -27,13 +30,13 @@ fn ends_sound(plan: &[u64], i: usize) -> bool
     requires { ⌜ i < 32 ⌝ }
     ensures { λ r. ⌜ r ≡ endsSound (now (plan .entry)) i ⌝ }
 {
-    if growth::end_of(plan, i) <= i + 2 {
+    if plan_words::end_of(plan, i) <= i + 2 {
         return false;
     }
-    if growth::dictionary_of(plan, i + 1) != 0 {
+    if plan_words::dictionary_of(plan, i + 1) != 0 {
         return false;
     }
-    formats::is_fixed(growth::code_of(plan, i + 1))
+    formats::is_fixed(plan_words::code_of(plan, i + 1))
 }
 
 // Whether what its code wants stands below node i.
@@ -41,15 +44,15 @@ fn kind_sound(plan: &[u64], i: usize) -> bool
     requires { ⌜ i < 32 ⌝ }
     ensures { λ r. ⌜ r ≡ kindSound (now (plan .entry)) i ⌝ }
 {
-    let code = growth::code_of(plan, i);
+    let code = plan_words::code_of(plan, i);
     if code <= 10 {
         return true;
     }
-    if growth::dictionary_of(plan, i) != 0 {
+    if plan_words::dictionary_of(plan, i) != 0 {
         return false;
     }
     if formats::is_list_view(code) | formats::is_list(code) {
-        return i + 1 < growth::end_of(plan, i);
+        return i + 1 < plan_words::end_of(plan, i);
     }
     if formats::is_run_end(code) {
         return ends_sound(plan, i);
@@ -62,7 +65,7 @@ fn node_sound(plan: &[u64], n: usize, i: usize) -> bool
     requires { ⌜ (i < 32) × (n ≤ 32) ⌝ }
     ensures { λ r. ⌜ r ≡ nodeSound (now (plan .entry)) n i ⌝ }
 {
-    let end = growth::end_of(plan, i);
+    let end = plan_words::end_of(plan, i);
     if end <= i {
         return false;
     }

@@ -16,21 +16,21 @@ use Rattle.columnar.specs.Formed.{OffsetWidth, RunWidth}
 use Rattle.formats.specs.Code.{isInteger, isFixed, isString, isView, isListView, isList, isUnion, isRunEnd, widthOf}
 use Rattle.formats.specs.Types.{numberOf}
 use Rattle.formats.proofs.Types.{number-width, fixed-number}
-use Rattle.format_ids.specs.Ids.{answerOf, written}
-use Rattle.format_ids.specs.declared.Ids.{Ids}
-use Rattle.format_ids.specs.declared.Ids.the-variants.{Count, Bad}
+use Rattle.formats.specs.union_ids.Ids.{answerOf, written}
+use Rattle.formats.specs.declared.union_ids.Ids.{Ids}
+use Rattle.formats.specs.declared.union_ids.Ids.the-variants.{Count, Bad}
 use Rattle.schema.specs.Tree.{field, children, dictionary, below, bare, childForEach, endOf, childAt, whole, codeOf, idsOf, valuesShape, leafShape, keysShape, listShape, unionShape, runShape, shape, typed}
 use Rattle.schema.proofs.Trees.{child-inside}
 use Rattle.schema.proofs.Known.{typed-whole, typed-shape}
 use Rattle.array_data.specs.Tables.{Tables, lengthOf}
 use Rattle.array_data.specs.Rules.{fixedRule, stringRule, viewRule, listViewRule, listRule, sparseRule, denseRule, runEndRule, dictionaryRule}
 use Rattle.array_data.specs.Typed.{NodeKind, fixedNode, stringNode, viewNode, listViewNode, listNode, sparseNode, denseNode, runEndNode, dictionaryNode, fieldOf, nodeOf, childNode, tablesFrom, kindRule, nodeRule}
-use Rattle.lent.specs.Lent.{numberOr, idsOr, unionKind, kindAt, treeOf}
-use Rattle.lent.proofs.Ids.{both, field-in}
-use Rattle.lent.proofs.Shaped.{later, string-width, list-width, lists-width, integer-fixed, plainKind, Shaped, of-plain, of-view, of-list, of-lists, of-sparse, of-dense, of-run, of-dictionary, at-fixed, at-keys, at-string, at-view, at-list, at-lists, at-union, at-run, five, shaped}
-use Rattle.lent.proofs.Lent.{child-same, first-child}
-use Rattle.lent_tables.specs.Lent.{tables, Counted}
-use Rattle.kind_rules.specs.Rows.{tablesOf}
+use Rattle.array_data.specs.type_tree.Lent.{numberOr, idsOr, unionKind, kindAt, treeOf}
+use Rattle.array_data.proofs.type_tree.Ids.{both, field-in}
+use Rattle.array_data.proofs.type_tree.Shaped.{later, string-width, list-width, lists-width, integer-fixed, plainKind, Shaped, of-plain, of-view, of-list, of-lists, of-sparse, of-dense, of-run, of-dictionary, at-fixed, at-keys, at-string, at-view, at-list, at-lists, at-union, at-run, five, shaped}
+use Rattle.array_data.proofs.type_tree.Lent.{child-same, first-child}
+use Rattle.array_data.specs.lent_tables.Lent.{tables, Counted}
+use Rattle.source_rules.specs.kinds.Rows.{tablesOf}
 use Rattle.source_rules.specs.Source.{Ready, numberRule}
 use Rattle.source_rules.proofs.From.{fixed-from, string-from, view-from, list-view-from, list-from, sparse-from, dense-from, run-end-from, dictionary-from}
 

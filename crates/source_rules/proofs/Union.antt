@@ -9,17 +9,17 @@ use lib.ListN.{length, take, drop, getD}
 use lib.Seq.{take-at}
 use lib.Dec.{eqb}
 use Rattle.formats.specs.Code.{isUnion}
-use Rattle.format_ids.specs.Ids.{idsAt, answerOf, written}
-use Rattle.format_ids.specs.declared.Ids.{Ids}
-use Rattle.format_ids.specs.declared.Ids.the-variants.{Count, Bad}
+use Rattle.formats.specs.union_ids.Ids.{idsAt, answerOf, written}
+use Rattle.formats.specs.declared.union_ids.Ids.{Ids}
+use Rattle.formats.specs.declared.union_ids.Ids.the-variants.{Count, Bad}
 use Rattle.schema.specs.Tree.{field, childAt, codeOf, idsOf, shape}
 use Rattle.schema.proofs.Laws.{no-ids}
 use Rattle.array_data.specs.Tables.{Tables, lengthOf}
 use Rattle.array_data.specs.Rules.{sparseRule, denseRule}
 use Rattle.array_data.specs.Typed.{fieldOf, childNode}
-use Rattle.lent.specs.Lent.{idsOr, treeOf}
-use Rattle.lent.proofs.Ids.{field-in}
-use Rattle.lent.proofs.Lent.{child-same}
+use Rattle.array_data.specs.type_tree.Lent.{idsOr, treeOf}
+use Rattle.array_data.proofs.type_tree.Ids.{field-in}
+use Rattle.array_data.proofs.type_tree.Lent.{child-same}
 use Rattle.source_rules.proofs.Node.{rule, childOfId, sparse-node, dense-node, union-each}
 
 bad-count : (k : ℕ) → Bad ≡ Count k → ⊥

@@ -7,7 +7,7 @@ use Rattle.columnar.specs.Types.{Number}
 use Rattle.schema.specs.Tree.{typed}
 use Rattle.array_data.specs.Tables.{Tables}
 use Rattle.array_data.specs.Rules.{fixedRule, dictionaryRule}
-use Rattle.lent_tables.specs.Lent.{Counted}
+use Rattle.array_data.specs.lent_tables.Lent.{Counted}
 
 -- n nodes from node `first` on that 9 and 10 let through: at most 32, of a type that 01 admits, each with a length and an offset
 pub record Ready (formats schema : List ℕ) (x : Tables) (first n : ℕ) : Type 0 where

@@ -1,4 +1,7 @@
 // The rules of one source (ground 12; docs/FORMAT.md), node by node.
+pub mod kinds;
+pub mod nodes;
+
 ghost use mathlib.Core.Path.{_≡_};
 ghost use mathlib.Core.Bool.{true};
 ghost use mathlib.Core.Option.{some};
@@ -13,10 +16,12 @@ ghost use Rattle.columnar.specs.Formed.{OffsetWidth, RunWidth};
 ghost use Rattle.array_data.specs.Tables.{lengthOf};
 ghost use Rattle.array_data.specs.Rules.{stringRule, listViewRule, listRule, runEndRule};
 ghost use Rattle.array_data.specs.Typed.{tablesFrom, nodeRule, sourceRule};
-ghost use Rattle.lent.specs.Lent.{treeOf};
-ghost use Rattle.lent_tables.specs.Lent.{tables, Counted};
-ghost use Rattle.kind_rules.specs.Rows.{tablesOf};
+ghost use Rattle.array_data.specs.type_tree.Lent.{treeOf};
+ghost use Rattle.array_data.specs.lent_tables.Lent.{tables, Counted};
+ghost use Rattle.source_rules.specs.kinds.Rows.{tablesOf};
 ghost use Rattle.source_rules.specs.Source.{Ready, numberRule};
+use array_data::lent_tables;
+use formats::union_ids;
 
 // The rule of a node of a fixed-width format by its code: of numbers where it has no dictionary, and else of keys.
 fn number_ok(lengths: &[u64], places: &[u32], body: &[u8], k: usize, code: u8, single: bool) -> bool
@@ -24,9 +29,9 @@ fn number_ok(lengths: &[u64], places: &[u32], body: &[u8], k: usize, code: u8, s
     ensures { λ r. ⌜ ((m : Number) → numberOf code ≡ some m → r ≡ numberRule (tables (now (lengths .entry)) (now (places .entry)) (now (body .entry))) k single m) ⌝ }
 {
     if single {
-        return node_rules::fixed_rule(lengths, places, body, k, formats::width_of(code));
+        return nodes::fixed_rule(lengths, places, body, k, formats::width_of(code));
     }
-    kind_rules::dictionary_rule(lengths, places, body, k, code)
+    kinds::dictionary_rule(lengths, places, body, k, code)
 }
 
 // The rule of a node of byte strings with offsets of w bytes.
@@ -35,9 +40,9 @@ fn string_ok(lengths: &[u64], places: &[u32], body: &[u8], k: usize, w: u8) -> b
     ensures { λ r. ⌜ r ≡ stringRule (tables (now (lengths .entry)) (now (places .entry)) (now (body .entry))) k w ⌝ }
 {
     if w == 4 {
-        return node_rules::string_rule_i32(lengths, places, body, k);
+        return nodes::string_rule_i32(lengths, places, body, k);
     }
-    node_rules::string_rule_i64(lengths, places, body, k)
+    nodes::string_rule_i64(lengths, places, body, k)
 }
 
 // The rule of a list-view node with offsets and sizes of w bytes.
@@ -46,9 +51,9 @@ fn list_view_ok(lengths: &[u64], places: &[u32], body: &[u8], k: usize, w: u8) -
     ensures { λ r. ⌜ r ≡ listViewRule (tables (now (lengths .entry)) (now (places .entry)) (now (body .entry))) k w ⌝ }
 {
     if w == 4 {
-        return node_rules::list_view_rule_i32(lengths, places, body, k);
+        return nodes::list_view_rule_i32(lengths, places, body, k);
     }
-    node_rules::list_view_rule_i64(lengths, places, body, k)
+    nodes::list_view_rule_i64(lengths, places, body, k)
 }
 
 // The rule of a list node with offsets of w bytes.
@@ -57,9 +62,9 @@ fn list_ok(lengths: &[u64], places: &[u32], body: &[u8], k: usize, w: u8) -> boo
     ensures { λ r. ⌜ r ≡ listRule (tables (now (lengths .entry)) (now (places .entry)) (now (body .entry))) k w ⌝ }
 {
     if w == 4 {
-        return node_rules::list_rule_i32(lengths, places, body, k);
+        return nodes::list_rule_i32(lengths, places, body, k);
     }
-    node_rules::list_rule_i64(lengths, places, body, k)
+    nodes::list_rule_i64(lengths, places, body, k)
 }
 
 // The rule of a run-end node with run ends of w bytes.
@@ -68,12 +73,12 @@ fn run_end_ok(lengths: &[u64], places: &[u32], body: &[u8], k: usize, w: u8) -> 
     ensures { λ r. ⌜ r ≡ runEndRule (tables (now (lengths .entry)) (now (places .entry)) (now (body .entry))) k w ⌝ }
 {
     if w == 2 {
-        return node_rules::run_end_rule_i16(lengths, places, body, k);
+        return nodes::run_end_rule_i16(lengths, places, body, k);
     }
     if w == 4 {
-        return node_rules::run_end_rule_i32(lengths, places, body, k);
+        return nodes::run_end_rule_i32(lengths, places, body, k);
     }
-    node_rules::run_end_rule_i64(lengths, places, body, k)
+    nodes::run_end_rule_i64(lengths, places, body, k)
 }
 
 // The lengths of the first m children of node i, in field order.
@@ -117,16 +122,16 @@ fn union_ok(
     let at = schema::get(schema, first + i, 0) as usize;
     let len = schema::get(schema, first + i, 1) as usize;
     let mut ids = [0u8; 16];
-    let format_ids::Ids::Count(count) = format_ids::union_ids(formats, at, len, &mut ids) else {
+    let union_ids::Ids::Count(count) = union_ids::union_ids(formats, at, len, &mut ids) else {
         return false;
     };
     let m = count as usize;
     let lens = field_lengths(schema, lengths, first, n, i, m);
     let front = 0;
     if sparse {
-        return kind_rules::sparse_rule(lengths, places, body, first + i, &ids[front..m], &lens);
+        return kinds::sparse_rule(lengths, places, body, first + i, &ids[front..m], &lens);
     }
-    kind_rules::dense_rule(lengths, places, body, first + i, &ids[front..m], &lens)
+    kinds::dense_rule(lengths, places, body, first + i, &ids[front..m], &lens)
 }
 
 // The rule of node i of a source.
@@ -151,7 +156,7 @@ fn node_ok(
         return number_ok(lengths, places, body, k, code, single);
     }
     if formats::is_view(code) {
-        return kind_rules::view_rule(lengths, places, buffers, body, k);
+        return kinds::view_rule(lengths, places, buffers, body, k);
     }
     if formats::is_union(code) {
         return union_ok(

@@ -16,10 +16,10 @@ use Rattle.walk.specs.Copy.{copyWalk}
 use Rattle.walk.specs.Nulls.{NullWalk, nullableChild, noHome, nullListView, nullList, nullFields, nullSparse, nullDense, addRun, growRun, nullRuns, nullData, nullNode, nullWalk}
 use Rattle.leaf_walk.specs.Join.{join}
 use Rattle.parts.specs.Parts.{partsWithin, partsHold}
-use Rattle.trying.proofs.Laws.{hold-alike}
-use Rattle.trying.proofs.Near.{Near}
-use Rattle.orders.specs.Sound.{walkable}
-use Rattle.orders.specs.Order.{After, Lent, sourceCount, sourceLength, refused, settled, copyOrder, nullOrder}
+use Rattle.sound.proofs.trying.Laws.{hold-alike}
+use Rattle.sound.proofs.trying.Near.{Near}
+use Rattle.refinement.specs.orders.Sound.{walkable}
+use Rattle.refinement.specs.orders.Order.{After, Lent, sourceCount, sourceLength, refused, settled, copyOrder, nullOrder}
 use Rattle.transform.specs.Answer.{Answers}
 
 -- ---- counters one after the other

@@ -2,7 +2,7 @@
 use mathlib.Core.Path.{_≡_}
 use mathlib.Core.List.{List}
 use Prim.Native.Nat.{ℕ}
-use Rattle.orders.specs.Order.{After, Lent}
+use Rattle.refinement.specs.orders.Order.{After, Lent}
 
 -- the slices that are lent to every order
 abbrev pub lent : List ℕ → List ℕ → List ℕ → List ℕ → List ℕ → List ℕ → Lent

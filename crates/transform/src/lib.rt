@@ -12,9 +12,12 @@ ghost use Rattle.walk.specs.Copy.{copyWalk};
 ghost use Rattle.walk.specs.Nulls.{nullWalk};
 ghost use Rattle.leaf_walk.specs.Join.{join};
 ghost use Rattle.parts.specs.Parts.{partsWithin, partsHold};
-ghost use Rattle.trying.specs.Alike.{Alike};
-ghost use Rattle.orders.specs.Order.{settled, copyOrder, nullOrder};
+ghost use Rattle.sound.specs.trying.Alike.{Alike};
+ghost use Rattle.refinement.specs.orders.Order.{settled, copyOrder, nullOrder};
 ghost use Rattle.transform.specs.Answer.{lent, Answers};
+use array_data::lent_tables;
+use sound::trying;
+use walk::plan_words;
 
 // ---- the counters
 
@@ -245,7 +248,7 @@ pub fn try_extend_nulls(
     if !sound::is_walkable(plan, room.len()) {
         return 14;
     }
-    if growth::keeps_of(plan, 0) == 0 {
+    if plan_words::keeps_of(plan, 0) == 0 {
         return 3;
     }
     add_nulls(plan, parts, counters, room, at_most_far(n))

@@ -17,10 +17,10 @@ use Rattle.leaf_walk.specs.Join.{join}
 use Rattle.transform.proofs.Laws.{null-state}
 use Rattle.parts.specs.Parts.{partsWithin, partsHold}
 use Rattle.model.specs.Book.{Call, copy, nulls}
-use Rattle.orders.specs.Sound.{planSound, walkable}
-use Rattle.orders.specs.Order.{Lent, sourceCount, ordered, copyOrder, nullOrder}
-use Rattle.orders.specs.Measure.{copyMeasure, nullMeasure}
-use Rattle.trying.specs.Alike.{Alike}
+use Rattle.refinement.specs.orders.Sound.{planSound, walkable}
+use Rattle.refinement.specs.orders.Order.{Lent, sourceCount, ordered, copyOrder, nullOrder}
+use Rattle.refinement.specs.orders.Measure.{copyMeasure, nullMeasure}
+use Rattle.sound.specs.trying.Alike.{Alike}
 use Rattle.trip.specs.declared.Ended.{Ended}
 use Rattle.trip.specs.Trip.{longest, callOf, callAt, callsFrom, callsOf, AfterTrip, givenUp, carried, tripOrder, orderMeasure, AskedTrip, unasked, measuredTrip, tripMeasure}
 use Rattle.trip.specs.Walk.{orderWalk, orderStep, stepAt, stopsAt, Stepped}

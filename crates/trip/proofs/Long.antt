@@ -13,7 +13,7 @@ use Rattle.bits.specs.Bits.{bits, pack, packed, pad, putBits}
 use Rattle.bits.proofs.Laws.{length-bits}
 use Rattle.bits.proofs.Puts.{pad-fits}
 use Rattle.formats.specs.Code.{isFixed, isString, isView, isListView, isList}
-use Rattle.lent_tables.proofs.Laws.{and-right}
+use Rattle.array_data.proofs.lent_tables.Laws.{and-right}
 use Rattle.utils.specs.Extension.{extended}
 use Rattle.utils.specs.declared.Extended.{Extended}
 use Rattle.utils.specs.declared.Extended.the-variants.{Fits, Over, Falls}
@@ -25,7 +25,7 @@ use Rattle.walk.specs.Leaves.{copyBits, copyMask, nullMask, countNulls, copyNum
 use Rattle.walk.specs.Copy.{Walk, masked, listViewRow, copyListView, putStretch, putList, copyList, copyFields, copySparse, denseTo, denseRow, copyDense, putRuns, runsAt, copyRuns, copyData, copySlots, copyNode, copyWalk}
 use Rattle.walk.specs.Nulls.{NullWalk, nullListView, nullList, nullFields, nullSparse, nullDense, addRun, growRun, nullRuns, nullData, nullNode, nullWalk}
 use Rattle.model.specs.Book.{Call, copy, nulls}
-use Rattle.orders.specs.Order.{Lent, joinOf}
+use Rattle.refinement.specs.orders.Order.{Lent, joinOf}
 use Rattle.trip.specs.Walk.{orderWalk, orderStep}
 
 -- ---- counters

@@ -1,5 +1,5 @@
 -- Orders from counters that agree in rows and bytes have the same answer, and leave such counters: nulls, as copies do
--- (trying/proofs/Near.antt), and a step of a list. Assumes nothing.
+-- (sound/proofs/trying/Near.antt), and a step of a list. Assumes nothing.
 use mathlib.Core.Path.{_≡_, refl, ap}
 use mathlib.Core.Bool.{Bool, true, false, not, cond, _&&_}
 use mathlib.Core.List.{List}
@@ -14,10 +14,10 @@ use Rattle.walk.specs.Copy.{isWidth, masked}
 use Rattle.walk.specs.Nulls.{NullWalk, nullableChild, noHome, nullListView, nullList, nullFields, nullSparse, nullDense, addRun, growRun, nullRuns, nullData, nullNode, nullWalk}
 use Rattle.parts.specs.Parts.{partsHold}
 use Rattle.model.specs.Book.{Call, copy, nulls}
-use Rattle.orders.specs.Order.{Lent, joinOf, sourceCount, sourceLength}
-use Rattle.trying.specs.Alike.{Alike}
-use Rattle.trying.proofs.Laws.{alike-rows, alike-begun, alike-other, hold-alike}
-use Rattle.trying.proofs.Near.{Near, near-done, near-wrote, near-cond, near-need, near-next, near-copy}
+use Rattle.refinement.specs.orders.Order.{Lent, joinOf, sourceCount, sourceLength}
+use Rattle.sound.specs.trying.Alike.{Alike}
+use Rattle.sound.proofs.trying.Laws.{alike-rows, alike-begun, alike-other, hold-alike}
+use Rattle.sound.proofs.trying.Near.{Near, near-done, near-wrote, near-cond, near-need, near-next, near-copy}
 use Rattle.trip.specs.Walk.{orderWalk, orderStep}
 
 near-fail : (g : ℕ) {c d : List ℕ} → Alike c d → Near (fail g c) (fail g d)

@@ -14,12 +14,12 @@ use Rattle.walk.specs.Copy.{copyWalk}
 use Rattle.walk.specs.Nulls.{nullWalk}
 use Rattle.walk.proofs.Laws.{apply-append}
 use Rattle.parts.specs.Parts.{partsWithin, partsHold}
-use Rattle.orders.specs.Sound.{planSound, walkable}
-use Rattle.orders.specs.Order.{After, Lent, joinOf, sourceCount, sourceLength, refused, settled, copyOrder, nullOrder, ordered}
-use Rattle.orders.specs.Measure.{Measured, measured, copyMeasure, nullMeasure}
-use Rattle.orders.proofs.Accepted.{Walked, walked}
-use Rattle.trying.specs.Alike.{Alike}
-use Rattle.trying.proofs.Laws.{alike-to}
+use Rattle.refinement.specs.orders.Sound.{planSound, walkable}
+use Rattle.refinement.specs.orders.Order.{After, Lent, joinOf, sourceCount, sourceLength, refused, settled, copyOrder, nullOrder, ordered}
+use Rattle.refinement.specs.orders.Measure.{Measured, measured, copyMeasure, nullMeasure}
+use Rattle.refinement.proofs.orders.Accepted.{Walked, walked}
+use Rattle.sound.specs.trying.Alike.{Alike}
+use Rattle.sound.proofs.trying.Laws.{alike-to}
 use Rattle.trip.specs.Trip.{callAt, callsFrom, AfterTrip, givenUp, carried, orderMeasure, AskedTrip, unasked, measuredTrip}
 use Rattle.trip.specs.Walk.{orderWalk, orderStep, stepAt, stopsAt}
 use Rattle.trip.proofs.NearNulls.{near-step}

@@ -10,7 +10,7 @@ use lib.ListN.{length, replicate}
 use lib.Dec.{leb, eqb}
 use borrow.Author.Tests.{eq-eqb, ne-eqb, eqb-true, eqb-false, leb-true, le-leb, lt-leb}
 use Rattle.model.specs.Book.{Call}
-use Rattle.orders.specs.Order.{After, Lent, ordered, orderedAll, groundsOf}
+use Rattle.refinement.specs.orders.Order.{After, Lent, ordered, orderedAll, groundsOf}
 use Rattle.trip.specs.Trip.{longest, AfterTrip, givenUp, carried, tripOrder, orderMeasure, unasked, measuredTrip, tripMeasure}
 use Rattle.trip.specs.Said.{EachAccepted, FirstRefused, Trip, all-made, none-made, too-long}
 

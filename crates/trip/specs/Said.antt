@@ -1,11 +1,11 @@
--- The request's sentence once more, over single calls alone (orders/specs/Order.antt): what a list comes to. proofs/Trip.antt has that it
+-- The request's sentence once more, over single calls alone (refinement/specs/orders/Order.antt): what a list comes to. proofs/Trip.antt has that it
 -- does. Assumes nothing.
 use mathlib.Core.Path.{_≡_}
 use mathlib.Core.List.{List, _∷_, _++_}
 use Prim.Native.Nat.{ℕ, _≤_, _<_}
 use lib.ListN.{length, replicate}
 use Rattle.model.specs.Book.{Call}
-use Rattle.orders.specs.Order.{Lent, ordered, orderedAll, groundsOf}
+use Rattle.refinement.specs.orders.Order.{Lent, ordered, orderedAll, groundsOf}
 use Rattle.trip.specs.Trip.{longest, AfterTrip}
 
 module _ (x : Lent) (counts room : List ℕ) where

@@ -7,8 +7,8 @@ use Prim.Native.Nat.{ℕ, zero, suc, _+_, _*_, _/_, min}
 use lib.ListN.{length, getD}
 use lib.Dec.{leb, eqb}
 use Rattle.model.specs.Book.{Call, copy, nulls}
-use Rattle.orders.specs.Order.{Lent, ordered}
-use Rattle.orders.specs.Measure.{Measured, copyMeasure, nullMeasure}
+use Rattle.refinement.specs.orders.Order.{Lent, ordered}
+use Rattle.refinement.specs.orders.Measure.{Measured, copyMeasure, nullMeasure}
 
 -- "up to 256 orders"
 abbrev pub longest : ℕ

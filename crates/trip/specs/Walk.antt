@@ -10,7 +10,7 @@ use Rattle.walk.specs.Copy.{copyWalk}
 use Rattle.walk.specs.Nulls.{nullWalk}
 use Rattle.parts.specs.Parts.{partsHold}
 use Rattle.model.specs.Book.{Call, copy, nulls}
-use Rattle.orders.specs.Order.{Lent, joinOf, sourceCount, sourceLength}
+use Rattle.refinement.specs.orders.Order.{Lent, joinOf, sourceCount, sourceLength}
 use Rattle.trip.specs.Trip.{callAt}
 
 module _ (x : Lent) where

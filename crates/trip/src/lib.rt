@@ -8,11 +8,14 @@ ghost use lib.ListN.{length};
 ghost use Rattle.model.specs.Book.{copy, nulls};
 ghost use Rattle.walk.specs.Log.{Did};
 ghost use Rattle.parts.specs.Parts.{partsHold};
-ghost use Rattle.orders.specs.Sound.{planSound, walkable};
+ghost use Rattle.refinement.specs.orders.Sound.{planSound, walkable};
 ghost use Rattle.transform.specs.Answer.{lent};
 ghost use Rattle.trip.specs.Trip.{callOf, callsOf, tripOrder, tripMeasure};
 ghost use Rattle.trip.specs.Walk.{orderWalk, stepAt, Stepped};
 ghost use Rattle.trip.specs.Answer.{Ends, Asks};
+use array_data::lent_tables;
+use sound::trying;
+use walk::plan_words;
 
 // The ground, 0 where there is none, and the place of the order that got it.
 pub struct Ended {
@@ -108,7 +111,7 @@ fn walk_nulls(
 ) -> u8
     ensures { λ g. ⌜ ((sources lengths places body : List ℕ) → Did (now (plan .entry)) (now (parts .entry)) write (orderWalk (lent (now (plan .entry)) (now (parts .entry)) sources lengths places body) (nulls n) (now (counts .entry))) (now (room .entry)) g (now (counts .exit)) (now (room .exit))) ⌝ }
 {
-    if growth::keeps_of(plan, 0) == 0 {
+    if plan_words::keeps_of(plan, 0) == 0 {
         return KEEPS_NO_NULLS;
     }
     let m = transform::at_most_far(n);

@@ -1,5 +1,6 @@
 // Vectors of format strings: each line has a text, its code, the bytes of an entry, the ids of a union or `bad`, and the array of ids.
-use format_ids::Ids;
+use formats::union_ids;
+use formats::union_ids::Ids;
 
 fn wide(x: u8) -> u64 {
     x as u64
@@ -23,7 +24,7 @@ fn put_all(ids: &[u8; 16]) {
 // What a union's format says of its fields; the array is 255 where nothing is written.
 fn put_ids(s: &[u8], at: usize, len: usize) {
     let mut ids = [255u8; 16];
-    match format_ids::union_ids(s, at, len, &mut ids) {
+    match union_ids::union_ids(s, at, len, &mut ids) {
         Ids::Count(k) => {
             put(wide(k));
         }
@@ -73,7 +74,7 @@ fn same(s: &[u8], at: usize, len: usize, at2: usize, len2: usize) {
     put(len as u64);
     put(at2 as u64);
     put(len2 as u64);
-    put_same(format_ids::same_format(s, at, len, at2, len2));
+    put_same(union_ids::same_format(s, at, len, at2, len2));
 }
 
 fn plain() {

@@ -2,9 +2,11 @@
 ghost use Prim.Native.Nat.{_+_, _≤_};
 ghost use lib.ListN.{length};
 use leaf_row::Leaf;
-use run_reader::ColumnRow;
-use run_reader::RowRun;
-use view_row::Place;
+use leaf_row::run;
+use leaf_row::run::ColumnRow;
+use leaf_row::run::RowRun;
+use leaf_row::view;
+use leaf_row::view::Place;
 
 fn word(s: &[u8]) {
     io::write_all(1, s);
@@ -231,9 +233,9 @@ fn put_place(p: Place) {
 fn put_view<'a>(views: &'a [u8], at: usize, body: &'a [u8], from: usize, size: usize)
     requires { ⌜ at + 16 ≤ length (now views) ⌝ }
 {
-    put_place(view_row::view_place(views, at, body, from, size));
+    put_place(view::view_place(views, at, body, from, size));
     io::write_all(1, b"'");
-    io::write_all(1, view_row::view_bytes(views, at, body, from, size));
+    io::write_all(1, view::view_bytes(views, at, body, from, size));
     io::write_all(1, b"'\n");
 }
 
@@ -269,7 +271,7 @@ fn put_run(r: RowRun) {
 fn rows(ends: &[u8], offset: u64, len: u64, width: u8) {
     let mut row: u64 = 0;
     while row < 9 {
-        put_run(run_reader::run_at(ends, offset, len, width, ColumnRow(row)));
+        put_run(run::run_at(ends, offset, len, width, ColumnRow(row)));
         row += 1;
     }
     line();

@@ -7,6 +7,7 @@ use run_ends::Found;
 use run_ends::LogicalRow;
 use run_ends::PhysicalRun;
 use run_ends::Runs;
+use run_ends::copies;
 
 // A number and a blank.
 fn put(x: u64) {
@@ -71,7 +72,7 @@ fn clip_i16(
     let mut room = [0u8; 64];
     let a = first.0;
     if m <= 8 {
-        run_copy::extend_run_ends_i16(&mut room, 0, ends, 2 * a, m, start, end, last);
+        copies::extend_run_ends_i16(&mut room, 0, ends, 2 * a, m, start, end, last);
         put_ends_i16(&room, m);
     }
 }
@@ -154,7 +155,7 @@ fn clip_i32(
     let mut room = [0u8; 64];
     let a = first.0;
     if m <= 8 {
-        run_copy::extend_run_ends_i32(&mut room, 0, ends, 4 * a, m, start, end, last);
+        copies::extend_run_ends_i32(&mut room, 0, ends, 4 * a, m, start, end, last);
         put_ends_i32(&room, m);
     }
 }
@@ -237,7 +238,7 @@ fn clip_i64(
     let mut room = [0u8; 64];
     let a = first.0;
     if m <= 8 {
-        run_copy::extend_run_ends_i64(&mut room, 0, ends, 8 * a, m, start, end, last);
+        copies::extend_run_ends_i64(&mut room, 0, ends, 8 * a, m, start, end, last);
         put_ends_i64(&room, m);
     }
 }

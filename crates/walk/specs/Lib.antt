@@ -4,3 +4,4 @@ pub mod Log
 pub mod Leaves
 pub mod Copy
 pub mod Nulls
+pub mod plan_words

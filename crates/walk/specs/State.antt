@@ -6,7 +6,7 @@ use lib.ListN.{length, getD, set}
 use lib.Dec.{leb, ltb, eqb}
 use Rattle.formats.specs.Code.{widthOf}
 
--- ---- the state: 8 words a node for 32 nodes (crate `node_table`), 3 counters a node, and a base for each of 16 sources and 32 nodes
+-- ---- the state: 8 words a node for 32 nodes (crate `array_data::node_words`), 3 counters a node, and a base for each of 16 sources and 32 nodes
 
 abbrev pub word : List ℕ → ℕ → ℕ → ℕ
 word state i j = getD state (8 * i + j) 0

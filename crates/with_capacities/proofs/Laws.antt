@@ -10,20 +10,20 @@ use lib.Dec.{eqb}
 use borrow.Author.Count.{below-more}
 use borrow.Author.Tests.{eq-eqb, ne-eqb, le-leb, lt-leb, eqb-true}
 use Rattle.array_data.specs.Tables.{Tables}
-use Rattle.lent_tables.specs.Lent.{tables}
-use Rattle.lent_tables.proofs.Laws.{no, yes, and-left, and-right}
-use Rattle.kind_rules.specs.Rows.{tablesOf}
+use Rattle.array_data.specs.lent_tables.Lent.{tables}
+use Rattle.array_data.proofs.lent_tables.Laws.{no, yes, and-left, and-right}
+use Rattle.source_rules.specs.kinds.Rows.{tablesOf}
 use Rattle.walk.specs.Log.{Out, Did, apply, applyIf}
 use Rattle.columns.specs.Grounds.{sourcesGround}
 use Rattle.parts.specs.Parts.{partTotal, partsPlaced, partsHold}
-use Rattle.trying.proofs.Laws.{hold-alike}
-use Rattle.trying.proofs.Near.{Near}
-use Rattle.orders.specs.Order.{sourceCount}
+use Rattle.sound.proofs.trying.Laws.{hold-alike}
+use Rattle.sound.proofs.trying.Near.{Near}
+use Rattle.refinement.specs.orders.Order.{sourceCount}
 use Rattle.plan.specs.Plan.{keepWord, withKeeps, joinedWord, withJoined, baseWord, withBases, laidOut, planned, Plannable}
 use Rattle.plan.proofs.Words.{sources-are}
-use Rattle.opening.specs.Open.{openWalk, settled, roomPlaced, opening}
-use Rattle.opening.specs.Ask.{asked}
-use Rattle.opening.proofs.Plannable.{plannable}
+use Rattle.refinement.specs.opening.Open.{openWalk, settled, roomPlaced, opening}
+use Rattle.refinement.specs.opening.Ask.{asked}
+use Rattle.refinement.proofs.opening.Plannable.{plannable}
 use Rattle.open_walk.specs.Lent.{lent}
 use Rattle.with_capacities.specs.Answer.{Answers, Plans}
 

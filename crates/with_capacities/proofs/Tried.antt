@@ -7,11 +7,11 @@ use lib.Dec.{eqb}
 use Rattle.formats.specs.Code.{isRunEnd}
 use Rattle.walk.specs.State.{word, codeOf, dictionaryOf, lengthOf}
 use Rattle.parts.specs.Parts.{nodesOf, copied, hasOffsets}
-use Rattle.trying.specs.Alike.{Alike}
-use Rattle.trying.proofs.Laws.{alike-bytes}
-use Rattle.trying.proofs.Near.{Near, near-done, near-wrote, near-cond, near-need, near-next, near-each, near-copy}
-use Rattle.orders.specs.Order.{Lent, joinOf, sourceCount}
-use Rattle.opening.specs.Open.{chosen, beginGaps, firstOffset, joinSource, joinEntries, openDictionary, openWalk}
+use Rattle.sound.specs.trying.Alike.{Alike}
+use Rattle.sound.proofs.trying.Laws.{alike-bytes}
+use Rattle.sound.proofs.trying.Near.{Near, near-done, near-wrote, near-cond, near-need, near-next, near-each, near-copy}
+use Rattle.refinement.specs.orders.Order.{Lent, joinOf, sourceCount}
+use Rattle.refinement.specs.opening.Open.{chosen, beginGaps, firstOffset, joinSource, joinEntries, openDictionary, openWalk}
 
 module _ (x : Lent) where
   near-gap : (i : ℕ) (c d : List ℕ) → Alike c d → Near (beginGaps x i c) (beginGaps x i d)

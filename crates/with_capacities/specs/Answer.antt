@@ -2,8 +2,8 @@
 use mathlib.Core.Path.{_≡_}
 use mathlib.Core.List.{List}
 use Prim.Native.Nat.{ℕ}
-use Rattle.opening.specs.Open.{Opening}
-use Rattle.opening.specs.Ask.{Asked}
+use Rattle.refinement.specs.opening.Open.{Opening}
+use Rattle.refinement.specs.opening.Ask.{Asked}
 
 -- the ground that is answered, and the plan, the counters and the room as they are left
 pub record Answers (a : Opening) (r : ℕ) (words counters bytes : List ℕ) : Type 0 where

@@ -6,16 +6,17 @@ ghost use mathlib.Core.Bool.{Bool, _&&_};
 ghost use Prim.Native.Nat.{ℕ, _≤_};
 ghost use lib.ListN.{length, replicate};
 ghost use lib.Dec.{eqb};
-ghost use Rattle.lent_tables.specs.Lent.{tables};
-ghost use Rattle.kind_rules.specs.Rows.{tablesOf};
-ghost use Rattle.orders.specs.Order.{sourceCount};
+ghost use Rattle.array_data.specs.lent_tables.Lent.{tables};
+ghost use Rattle.source_rules.specs.kinds.Rows.{tablesOf};
+ghost use Rattle.refinement.specs.orders.Order.{sourceCount};
 ghost use Rattle.parts.specs.Parts.{partTotal, partsPlaced};
-ghost use Rattle.trying.specs.Alike.{Alike};
+ghost use Rattle.sound.specs.trying.Alike.{Alike};
 ghost use Rattle.plan.specs.Plan.{planned, Plannable};
-ghost use Rattle.opening.specs.Open.{openWalk, settled, opening};
-ghost use Rattle.opening.specs.Ask.{asked};
+ghost use Rattle.refinement.specs.opening.Open.{openWalk, settled, opening};
+ghost use Rattle.refinement.specs.opening.Ask.{asked};
 ghost use Rattle.open_walk.specs.Lent.{lent};
 ghost use Rattle.with_capacities.specs.Answer.{Answers, Plans};
+use sound::trying;
 
 // The n numbers of a slice into another one.
 fn store(to: &mut [u64], from: &[u64], n: usize)

@@ -7,10 +7,10 @@ use native.Mathlib.Omega.{arith}
 use borrow.Author.Needs.{needs}
 use lib.ListN.{getD}
 use Rattle.array_data.specs.Tables.{Tables}
-use Rattle.kind_rules.specs.Rows.{tablesOf}
+use Rattle.source_rules.specs.kinds.Rows.{tablesOf}
 use Rattle.columns.specs.Grounds.{columnGround}
 use Rattle.column_pair.specs.Pair.{rangeIn}
-use Rattle.lent.specs.Lent.{typeOf}
+use Rattle.array_data.specs.type_tree.Lent.{typeOf}
 use Rattle.aggregates.specs.Report.{wholeType, meanBy}
 use Rattle.aggregates.proofs.Rows.{column-typed}
 use Rattle.aggregates.proofs.Tallies.{shape-none, shape-some, numbers-same, in-range, its-sound, all-ready, its-sized, its-count, its-sum, its-room}

@@ -8,12 +8,12 @@ use borrow.Author.Needs.{needs}
 use lib.ListN.{getD}
 use Rattle.array_data.specs.Tables.{Tables}
 use Rattle.array_data.specs.Typed.{tablesFrom}
-use Rattle.kind_rules.specs.Rows.{tablesOf}
+use Rattle.source_rules.specs.kinds.Rows.{tablesOf}
 use Rattle.columns.specs.Grounds.{columnGround}
 use Rattle.column_pair.specs.Pair.{rangeIn}
 use Rattle.column_pair.proofs.Pair.{pair-none}
-use Rattle.lent.specs.Lent.{typeOf}
-use Rattle.pattern_sums.specs.Parts.{Sized}
+use Rattle.array_data.specs.type_tree.Lent.{typeOf}
+use Rattle.sums.specs.patterns.Parts.{Sized}
 use Rattle.aggregates.specs.Report.{wholeType, rowOf, pairOf}
 use Rattle.cell_sums.specs.Numbers.{cellIn}
 use Rattle.aggregates.specs.Shape.{numbersOf}

@@ -1,6 +1,6 @@
 -- `column_reader::read_row` meets its contract. Assumes nothing.
 use borrow.Author.Needs.{needs}
-use Rattle.kind_rules.specs.Rows.{tablesOf}
+use Rattle.source_rules.specs.kinds.Rows.{tablesOf}
 use Rattle.column_reader.proofs.Laws.{refused-answer, read-answer}
 use Rattle.column_reader.proofs.read_row.Statement.{statement}
 use Rattle.column_reader.proofs.read_row.Tie as tie

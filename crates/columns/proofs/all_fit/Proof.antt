@@ -6,8 +6,8 @@ use Prim.Native.Nat.{ℕ, _+_, _-_, _≤_, _<_}
 use native.Mathlib.Omega.{arith}
 use borrow.Author.Count.{below-more}
 use Rattle.schema.proofs.Laws.{every-all, every-not}
-use Rattle.lent_tables.specs.Lent.{tables}
-use Rattle.lent_tables.proofs.Laws.{no, yes}
+use Rattle.array_data.specs.lent_tables.Lent.{tables}
+use Rattle.array_data.proofs.lent_tables.Laws.{no, yes}
 use Rattle.columns.specs.Grounds.{countFits, fewBuffers, nodeFits}
 use Rattle.columns.proofs.Laws.{count-not, buffers-not, node-fits}
 use Rattle.columns.proofs.all_fit.Statement.{statement}

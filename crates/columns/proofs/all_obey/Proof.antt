@@ -6,10 +6,10 @@ use native.Mathlib.Omega.{arith}
 use lib.ListN.{length}
 use borrow.Author.Count.{below-more}
 use mathlib.Core.Path.{_∙_}
-use Rattle.kind_rules.specs.Rows.{tablesOf}
+use Rattle.source_rules.specs.kinds.Rows.{tablesOf}
 use Rattle.columns.proofs.Answers.{all-within-as, ready-at}
 use Rattle.schema.proofs.Laws.{every-all, every-not}
-use Rattle.lent_tables.proofs.Laws.{no, yes}
+use Rattle.array_data.proofs.lent_tables.Laws.{no, yes}
 use Rattle.columns.specs.Grounds.{obeys, sourceCount, allObey}
 use Rattle.columns.proofs.Laws.{at-source, of-source}
 use Rattle.columns.proofs.all_obey.Statement.{statement}

@@ -6,9 +6,9 @@ use native.Mathlib.Omega.{arith}
 use lib.ListN.{length}
 use borrow.Author.Count.{below-more}
 use mathlib.Core.List.{[]}
-use Rattle.lent_tables.specs.Lent.{tables}
+use Rattle.array_data.specs.lent_tables.Lent.{tables}
 use Rattle.schema.proofs.Laws.{every-all, every-not}
-use Rattle.lent_tables.proofs.Laws.{no, yes}
+use Rattle.array_data.proofs.lent_tables.Laws.{no, yes}
 use Rattle.columns.specs.Grounds.{withinCeilings, sourceCount, allWithin}
 use Rattle.columns.proofs.Laws.{at-source, of-source}
 use Rattle.columns.proofs.all_within.Statement.{statement}

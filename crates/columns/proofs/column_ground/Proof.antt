@@ -1,8 +1,8 @@
 -- `columns::column_ground` meets its contract. Assumes nothing.
 use mathlib.Core.Path.{sym, _∙_}
 use native.Mathlib.Omega.{arith}
-use Rattle.lent_tables.proofs.Laws.{no, yes}
-use Rattle.kind_rules.specs.Rows.{tablesOf}
+use Rattle.array_data.proofs.lent_tables.Laws.{no, yes}
+use Rattle.source_rules.specs.kinds.Rows.{tablesOf}
 use Rattle.columns.specs.Grounds.{obeys}
 use Rattle.columns.proofs.Answers.{within-as, ready, not-small, not-within, not-typed, not-obeying, one-good}
 use borrow.Author.Needs.{needs}

@@ -1,7 +1,7 @@
 -- `columns::count_fits` meets its contract. Assumes nothing.
 use mathlib.Core.Path.{sym}
 use mathlib.Core.List.{[]}
-use Rattle.lent_tables.specs.Lent.{tables}
+use Rattle.array_data.specs.lent_tables.Lent.{tables}
 use Rattle.columns.proofs.Laws.{count-over, count-under}
 use borrow.Author.Needs.{needs}
 use Rattle.columns.proofs.count_fits.Statement.{statement}

@@ -4,8 +4,8 @@ use mathlib.Core.List.{[]}
 use native.Mathlib.Omega.{arith}
 use Rattle.schema.specs.Tree.{ceilings}
 use Rattle.schema.proofs.Known.{within-nodes}
-use Rattle.lent_tables.specs.Lent.{tables}
-use Rattle.lent_tables.proofs.Laws.{no, yes}
+use Rattle.array_data.specs.lent_tables.Lent.{tables}
+use Rattle.array_data.proofs.lent_tables.Laws.{no, yes}
 use Rattle.columns.proofs.Laws.{over-ceilings, under-ceilings}
 use borrow.Author.Needs.{needs}
 use Rattle.columns.proofs.is_within.Statement.{statement}

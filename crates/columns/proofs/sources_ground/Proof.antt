@@ -1,7 +1,7 @@
 -- `columns::sources_ground` meets its contract. Assumes nothing.
 use mathlib.Core.Path.{sym, _∙_}
-use Rattle.lent_tables.proofs.Laws.{no, yes}
-use Rattle.kind_rules.specs.Rows.{tablesOf}
+use Rattle.array_data.proofs.lent_tables.Laws.{no, yes}
+use Rattle.source_rules.specs.kinds.Rows.{tablesOf}
 use Rattle.columns.proofs.Answers.{all-within-as, none-small, not-few, not-all-within, not-all-typed, not-all-same, not-all-obey, all-good}
 use borrow.Author.Needs.{needs}
 use Rattle.columns.proofs.sources_ground.Statement.{statement}

@@ -11,9 +11,9 @@ use Rattle.walk.specs.State.{place}
 use Rattle.walk.specs.Log.{each}
 use Rattle.walk.specs.Copy.{listViewRow, denseRow, copyFields, copyWalk}
 use Rattle.walk.proofs.Laws.{Rest, each-none, each-stop, each-more}
-use Rattle.puts.proofs.Bytes.{width-in}
+use Rattle.room_writes.proofs.Bytes.{width-in}
 use Rattle.leaf_walk.specs.Join.{join}
-use Rattle.steps.proofs.Laws.{slot-rows}
+use Rattle.nested_rows.proofs.lookups.Laws.{slot-rows}
 use Rattle.extend.proofs.Laws.{at-none, at-out, at-far, at-valid, at-data, at-done, leaf-code, to-sparse, to-dense, to-runs, pairs-row, list-out, list-short, list-rows, list-stop, list-go, fields-none, fields-over, fields-stop, fields-more, sparse-stop, sparse-go, dense-short, dense-rows, dense-none, dense-stop, dense-go, runs-none, runs-ready, runs-stop, runs-past, runs-values, runs-done, runs-wide, runs-inside, runs-fit, runs-found}
 use Rattle.extend.proofs.Listed.{listed-code, list-wide, view-wide, to-list, to-list-view, lists-none, lists-out, lists-over, lists-fall, lists-less, lists-go}
 use Prim.Native.Nat.{ℕ, _<_}
@@ -53,25 +53,25 @@ use Rattle.extend.proofs.first_id.Reads as first-id-reads
 use Rattle.extend.proofs.first_row.Reads as first-row-reads
 use Rattle.formats.proofs.is_list.Reads as is-list-reads
 use Rattle.formats.proofs.is_list_view.Reads as is-list-view-reads
-use Rattle.growth.proofs.add_rows.Reads as add-rows-reads
-use Rattle.growth.proofs.code_of.Reads as code-of-reads
-use Rattle.growth.proofs.end_of.Reads as end-of-reads
-use Rattle.growth.proofs.rows_of.Reads as rows-of-reads
-use Rattle.leaf_data.proofs.copy_leaf.Reads as copy-leaf-reads
-use Rattle.leaf_data.proofs.copy_validity.Reads as copy-validity-reads
+use Rattle.walk.proofs.plan_words.add_rows.Reads as add-rows-reads
+use Rattle.walk.proofs.plan_words.code_of.Reads as code-of-reads
+use Rattle.walk.proofs.plan_words.end_of.Reads as end-of-reads
+use Rattle.walk.proofs.plan_words.rows_of.Reads as rows-of-reads
+use Rattle.node_data.proofs.copy_leaf.Reads as copy-leaf-reads
+use Rattle.node_data.proofs.copy_validity.Reads as copy-validity-reads
 use Rattle.leaf_walk.proofs.copy_numbers.Reads as copy-numbers-reads
-use Rattle.lent_tables.proofs.place.Reads as place-reads
-use Rattle.rows.proofs.dense_numbers.Reads as dense-numbers-reads
-use Rattle.rows.proofs.list_numbers.Reads as list-numbers-reads
-use Rattle.rows.proofs.pairs_in.Reads as pairs-in-reads
-use Rattle.rows.proofs.run_numbers.Reads as run-numbers-reads
-use Rattle.rows.proofs.runs_at.Reads as runs-at-reads
-use Rattle.rows.proofs.runs_ready.Reads as runs-ready-reads
-use Rattle.steps.proofs.child_with.Reads as child-with-reads
-use Rattle.steps.proofs.entry_at.Reads as entry-at-reads
-use Rattle.steps.proofs.slot_of.Reads as slot-of-reads
-use Rattle.steps.proofs.width_at.Reads as width-at-reads
-use Rattle.string_walk.proofs.copy_offsets.Reads as copy-offsets-reads
+use Rattle.array_data.proofs.lent_tables.place.Reads as place-reads
+use Rattle.nested_rows.proofs.dense_numbers.Reads as dense-numbers-reads
+use Rattle.nested_rows.proofs.list_numbers.Reads as list-numbers-reads
+use Rattle.nested_rows.proofs.pairs_in.Reads as pairs-in-reads
+use Rattle.nested_rows.proofs.run_numbers.Reads as run-numbers-reads
+use Rattle.nested_rows.proofs.runs_at.Reads as runs-at-reads
+use Rattle.nested_rows.proofs.runs_ready.Reads as runs-ready-reads
+use Rattle.nested_rows.proofs.lookups.child_with.Reads as child-with-reads
+use Rattle.nested_rows.proofs.lookups.entry_at.Reads as entry-at-reads
+use Rattle.nested_rows.proofs.lookups.slot_of.Reads as slot-of-reads
+use Rattle.nested_rows.proofs.lookups.width_at.Reads as width-at-reads
+use Rattle.leaf_walk.proofs.variable_size.copy_offsets.Reads as copy-offsets-reads
 use Rattle.extend.proofs.+extend+extend_data+extend_dense+extend_dense_row+extend_sparse+lists-extend_list+lists-extend_list_row+lists-extend_list_view+lists-extend_listed+runs-extend_run.{
   statement,
 }

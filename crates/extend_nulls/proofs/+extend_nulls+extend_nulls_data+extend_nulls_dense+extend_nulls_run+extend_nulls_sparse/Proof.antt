@@ -9,7 +9,7 @@ use native.Mathlib.Numerals.{add-one}
 use Rattle.walk.specs.Nulls.{nullFields, nullWalk}
 use Rattle.walk.proofs.Laws.{Rest}
 use Rattle.leaf_walk.specs.Join.{join}
-use Rattle.rows.proofs.Laws.{ends-ready}
+use Rattle.nested_rows.proofs.Laws.{ends-ready}
 use Rattle.extend_nulls.proofs.Laws.{at-none, at-zero, at-out, at-data, at-valid, at-done, leaf-code, to-sparse, to-dense, to-runs, fields-none, fields-over, fields-stop, fields-more, sparse-none, sparse-stop, sparse-go, dense-none, dense-stop, dense-go, runs-none, runs-grow, runs-stop, runs-go}
 use Prim.Native.Nat.{ℕ, _<_}
 use borrow.Fn.Kinds.{In}
@@ -29,19 +29,19 @@ use Rattle.extend_nulls.proofs.+extend_nulls+extend_nulls_data+extend_n
 use Rattle.extend_nulls.proofs.extend_nulls_sparse.Reads as extend-nulls-sparse
 use Rattle.extend_nulls.proofs.extend_nulls_sparse.Kinds as extend-nulls-sparse-kinds
 use Rattle.extend_nulls.proofs.+extend_nulls+extend_nulls_data+extend_nulls_dense+extend_nulls_run+extend_nulls_sparse.Lts-extend_nulls_sparse as extend-nulls-sparse-lts
-use Rattle.growth.proofs.add_rows.Reads as add-rows-reads
-use Rattle.growth.proofs.bytes_of.Reads as bytes-of-reads
-use Rattle.growth.proofs.code_of.Reads as code-of-reads
-use Rattle.growth.proofs.end_of.Reads as end-of-reads
-use Rattle.leaf_data.proofs.null_leaf.Reads as null-leaf-reads
-use Rattle.leaf_data.proofs.null_validity.Reads as null-validity-reads
-use Rattle.rows.proofs.has_ends.Reads as has-ends-reads
-use Rattle.rows.proofs.longer_end.Reads as longer-end-reads
-use Rattle.rows.proofs.no_home.Reads as no-home-reads
-use Rattle.rows.proofs.null_end.Reads as null-end-reads
-use Rattle.rows.proofs.null_home.Reads as null-home-reads
-use Rattle.rows.proofs.null_ids.Reads as null-ids-reads
-use Rattle.rows.proofs.null_positions.Reads as null-positions-reads
+use Rattle.walk.proofs.plan_words.add_rows.Reads as add-rows-reads
+use Rattle.walk.proofs.plan_words.bytes_of.Reads as bytes-of-reads
+use Rattle.walk.proofs.plan_words.code_of.Reads as code-of-reads
+use Rattle.walk.proofs.plan_words.end_of.Reads as end-of-reads
+use Rattle.node_data.proofs.null_leaf.Reads as null-leaf-reads
+use Rattle.node_data.proofs.null_validity.Reads as null-validity-reads
+use Rattle.nested_rows.proofs.has_ends.Reads as has-ends-reads
+use Rattle.nested_rows.proofs.longer_end.Reads as longer-end-reads
+use Rattle.nested_rows.proofs.no_home.Reads as no-home-reads
+use Rattle.nested_rows.proofs.null_end.Reads as null-end-reads
+use Rattle.nested_rows.proofs.null_home.Reads as null-home-reads
+use Rattle.nested_rows.proofs.null_ids.Reads as null-ids-reads
+use Rattle.nested_rows.proofs.null_positions.Reads as null-positions-reads
 use Rattle.extend_nulls.proofs.+extend_nulls+extend_nulls_data+extend_nulls_dense+extend_nulls_run+extend_nulls_sparse.{
   statement,
 }

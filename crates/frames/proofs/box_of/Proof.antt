@@ -3,8 +3,8 @@ use mathlib.Core.Path.{_≡_, sym, ap, ap₂, subst, _∙_}
 use mathlib.Core.Bool.{_&&_}
 use Prim.Native.Nat.{_+_, _-_}
 use native.Mathlib.Omega.{arith}
-use Rattle.kind_rules.specs.Rows.{tablesOf}
-use Rattle.lent_tables.proofs.Laws.{no, yes, and-left, and-right}
+use Rattle.source_rules.specs.kinds.Rows.{tablesOf}
+use Rattle.array_data.proofs.lent_tables.Laws.{no, yes, and-left, and-right}
 use Rattle.column_pair.proofs.Pair.{pair-none, range-known}
 use Rattle.column_pair.specs.Pair.{rangeIn}
 use Rattle.columns.specs.Grounds.{columnGround}

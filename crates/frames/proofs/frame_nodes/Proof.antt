@@ -3,7 +3,7 @@ use mathlib.Core.Path.{_≡_, sym, ap, subst, _∙_}
 use Prim.Native.Nat.{_≤_}
 use native.Mathlib.Omega.{arith}
 use lib.ListN.{length}
-use Rattle.lent_tables.specs.Lent.{tables}
+use Rattle.array_data.specs.lent_tables.Lent.{tables}
 use Rattle.frames.specs.Frames.{framed}
 use Rattle.frames.specs.Box.{found}
 use Rattle.frames.proofs.Slots.{fewer, mask-order, values-are, masks-are, node-holds, lent-rows}

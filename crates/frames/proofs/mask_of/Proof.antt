@@ -1,7 +1,7 @@
 -- `frames::mask_of` meets its contract. Assumes nothing.
 use native.Mathlib.Omega.{arith}
 use mathlib.Core.List.{[]}
-use Rattle.lent_tables.specs.Lent.{tables}
+use Rattle.array_data.specs.lent_tables.Lent.{tables}
 use Rattle.frames.proofs.Slots.{mask-none, mask-given}
 use borrow.Author.Needs.{needs}
 use Rattle.frames.proofs.mask_of.Statement.{statement}

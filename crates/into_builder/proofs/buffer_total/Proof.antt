@@ -1,8 +1,8 @@
 -- `into_builder::buffer_total` meets its contract. Assumes nothing.
 use mathlib.Core.Path.{sym, ap, _∙_}
 use Rattle.parts.specs.Parts.{nodesOf}
-use Rattle.buffer_names.specs.Names.{lent, countBefore}
-use Rattle.buffer_names.proofs.Names.{before-same}
+use Rattle.into_builder.specs.buffers.Names.{lent, countBefore}
+use Rattle.into_builder.proofs.buffers.Names.{before-same}
 use borrow.Author.Needs.{needs}
 use Rattle.into_builder.proofs.buffer_total.Statement.{statement}
 use Rattle.into_builder.proofs.buffer_total.Tie as tie

@@ -1,8 +1,8 @@
 -- `into_builder::into_builder` meets its contract. Assumes nothing.
-use Rattle.lent_tables.proofs.Laws.{no, yes}
+use Rattle.array_data.proofs.lent_tables.Laws.{no, yes}
 use lib.ListN.{length}
 use borrow.Author.Tests.{leb-true}
-use Rattle.finished_places.proofs.Spots.{bits-in, placed-in}
+use Rattle.into_builder.proofs.places.Spots.{bits-in, placed-in}
 use Rattle.into_builder.proofs.Whole.{fit-is, holds-within, holds-hold, finish-far, finish-kept, finish-room, finish-tables, finish-made}
 use borrow.Author.Needs.{needs}
 use Rattle.into_builder.proofs.into_builder.Statement.{statement}

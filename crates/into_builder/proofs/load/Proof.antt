@@ -3,8 +3,8 @@ use mathlib.Core.Path.{refl, _∙_}
 use Prim.Native.Nat.{_-_, _≤_}
 use lib.ListN.{getD, replicate}
 use Rattle.columnar.specs.Row.{seg}
-use Rattle.buffer_names.specs.Names.{Behind}
-use Rattle.buffer_names.proofs.Written.{behind-none, table-more, table-all, seg-self}
+use Rattle.into_builder.specs.buffers.Names.{Behind}
+use Rattle.into_builder.proofs.buffers.Written.{behind-none, table-more, table-all, seg-self}
 use native.Mathlib.Omega.{arith}
 use Rattle.into_builder.proofs.load.Statement.{statement}
 use Rattle.into_builder.proofs.load.Tie as tie

@@ -1,5 +1,5 @@
 -- `into_builder::room_fits` meets its contract. Assumes nothing.
-use Rattle.lent_tables.proofs.Laws.{no, yes}
+use Rattle.array_data.proofs.lent_tables.Laws.{no, yes}
 use Rattle.into_builder.proofs.Whole.{holds-not, holds-out, holds-by}
 use borrow.Author.Needs.{needs}
 use Rattle.into_builder.proofs.room_fits.Statement.{statement}

@@ -4,7 +4,7 @@ use Prim.Native.Nat.{_≤_}
 use native.Mathlib.Omega.{arith}
 use lib.ListN.{length}
 use Rattle.number.specs.Number.{splice}
-use Rattle.kind_rules.specs.Rows.{tablesOf}
+use Rattle.source_rules.specs.kinds.Rows.{tablesOf}
 use Rattle.lafkuno.proofs.Laws.{column-refused, short-ground, no-ground, room-kept, tree-put, tree-is}
 use borrow.Author.Needs.{needs}
 use Rattle.lafkuno.proofs.lafkuno_open_column.Statement.{statement}

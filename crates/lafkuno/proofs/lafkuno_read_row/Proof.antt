@@ -1,7 +1,7 @@
 -- `lafkuno::lafkuno_read_row` meets its contract. Assumes nothing.
 use mathlib.Core.Path.{_≡_, sym, ap, _∙_}
 use native.Mathlib.Omega.{arith}
-use Rattle.lent_entries.specs.Entries.{column}
+use Rattle.array_data.specs.entries.Entries.{column}
 use Rattle.lafkuno.specs.Calls.{rowKind}
 use Rattle.lafkuno.proofs.Laws.{kind-refused, kind-short, kind-read, answer-kept, row-read}
 use borrow.Author.Needs.{needs}

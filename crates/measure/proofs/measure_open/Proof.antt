@@ -3,9 +3,9 @@ use mathlib.Core.List.{List, []}
 use mathlib.Core.Path.{refl, _∙_}
 use Prim.Native.Nat.{ℕ}
 use lib.ListN.{replicate}
-use Rattle.lent_tables.proofs.Laws.{no, yes}
+use Rattle.array_data.proofs.lent_tables.Laws.{no, yes}
 use Rattle.walk.specs.Log.{Out}
-use Rattle.opening.specs.Open.{openWalk}
+use Rattle.refinement.specs.opening.Open.{openWalk}
 use Rattle.open_walk.specs.Lent.{lent}
 use Rattle.measure.proofs.Laws.{measured-no, measured-made, open-words, open-many, open-foreign, open-made}
 use borrow.Author.Needs.{needs}

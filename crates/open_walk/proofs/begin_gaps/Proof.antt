@@ -7,7 +7,7 @@ use native.Mathlib.Nat.{sub-zero}
 use native.Mathlib.Omega.{arith}
 use Rattle.walk.specs.Log.{each}
 use Rattle.walk.proofs.Laws.{each-none, each-more, Rest}
-use Rattle.opening.specs.Open.{beginGaps}
+use Rattle.refinement.specs.opening.Open.{beginGaps}
 use Rattle.open_walk.specs.Lent.{lent}
 use Rattle.open_walk.proofs.Laws.{nodes-did}
 use borrow.Author.Needs.{needs}

@@ -6,7 +6,7 @@ use native.Mathlib.Omega.{arith}
 use lib.ListN.{length}
 use Rattle.walk.specs.Log.{each}
 use Rattle.walk.proofs.Laws.{each-none, each-stop, each-more, Rest}
-use Rattle.opening.specs.Open.{joinSource}
+use Rattle.refinement.specs.opening.Open.{joinSource}
 use Rattle.open_walk.specs.Lent.{lent}
 use Rattle.open_walk.proofs.Laws.{entries-did}
 use borrow.Author.Needs.{needs}

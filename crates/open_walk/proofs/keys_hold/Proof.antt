@@ -9,9 +9,9 @@ use Rattle.columnar.specs.Types.{Number}
 use Rattle.columnar.specs.Test.{every}
 use Rattle.columnar.proofs.Test.{every-false}
 use Rattle.formats.specs.Types.{numberOf}
-use Rattle.lent_tables.proofs.Laws.{no, yes}
+use Rattle.array_data.proofs.lent_tables.Laws.{no, yes}
 use Rattle.parts.proofs.Laws.{every-one, every-now}
-use Rattle.opening.specs.Open.{keyHolds}
+use Rattle.refinement.specs.opening.Open.{keyHolds}
 use Rattle.open_walk.specs.Lent.{lent}
 use Rattle.open_walk.proofs.Laws.{keys-none, keys-are, key-at}
 use borrow.Author.Needs.{needs}

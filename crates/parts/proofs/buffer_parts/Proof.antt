@@ -1,7 +1,7 @@
 -- `parts::buffer_parts` meets its contract. Assumes nothing.
 use mathlib.Core.Path.{ap, _∙_}
 use native.Mathlib.Omega.{arith}
-use Rattle.lent_tables.proofs.Laws.{no, yes}
+use Rattle.array_data.proofs.lent_tables.Laws.{no, yes}
 use Rattle.parts.specs.Parts.{bufferCount, bufferParts}
 use Rattle.parts.proofs.Laws.{few-buffers}
 use borrow.Author.Needs.{needs}

@@ -5,7 +5,7 @@ use mathlib.Core.Bool.{true}
 use native.Mathlib.Omega.{arith}
 use Rattle.columnar.specs.Test.{every}
 use Rattle.columnar.proofs.Test.{every-false}
-use Rattle.lent_tables.proofs.Laws.{no, yes}
+use Rattle.array_data.proofs.lent_tables.Laws.{no, yes}
 use Rattle.parts.specs.Parts.{apart}
 use Rattle.parts.proofs.Laws.{every-one, every-now}
 use Rattle.parts.proofs.is_apart.Statement.{statement}

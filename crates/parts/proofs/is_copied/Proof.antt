@@ -1,7 +1,7 @@
 -- `parts::is_copied` meets its contract. Assumes nothing.
 use mathlib.Core.Path.{ap}
 use lib.Dec.{eqb}
-use Rattle.lent_tables.proofs.Laws.{is-none, is-some}
+use Rattle.array_data.proofs.lent_tables.Laws.{is-none, is-some}
 use Rattle.parts.proofs.Laws.{copied-root, copied-other}
 use borrow.Author.Needs.{needs}
 use Rattle.parts.proofs.is_copied.Statement.{statement}

@@ -1,7 +1,7 @@
 -- `parts::offsets_fit` meets its contract. Assumes nothing.
 use Prim.Native.Nat.{_+_}
 use native.Mathlib.Omega.{arith}
-use Rattle.lent_tables.proofs.Laws.{fits-none}
+use Rattle.array_data.proofs.lent_tables.Laws.{fits-none}
 use Rattle.parts.proofs.Laws.{offsets-more}
 use borrow.Author.Needs.{needs}
 use Rattle.parts.proofs.offsets_fit.Statement.{statement}

@@ -1,6 +1,6 @@
 -- `parts::part_holds` meets its contract. Assumes nothing.
 use mathlib.Core.Path.{_∙_}
-use Rattle.lent_tables.proofs.Laws.{no, yes}
+use Rattle.array_data.proofs.lent_tables.Laws.{no, yes}
 use Rattle.parts.specs.Parts.{partHolds}
 use Rattle.parts.proofs.Laws.{holds-by}
 use borrow.Author.Needs.{needs}

@@ -1,7 +1,7 @@
 -- `parts::part_within` meets its contract. Assumes nothing.
 use mathlib.Core.Path.{_∙_}
 use native.Mathlib.Omega.{arith}
-use Rattle.lent_tables.proofs.Laws.{no, yes}
+use Rattle.array_data.proofs.lent_tables.Laws.{no, yes}
 use Rattle.parts.proofs.Laws.{within-none, within-past, within-in}
 use borrow.Author.Needs.{needs}
 use Rattle.parts.proofs.part_within.Statement.{statement}

@@ -2,7 +2,7 @@
 use native.Mathlib.Omega.{arith}
 use Rattle.walk.specs.State.{codeOf}
 use borrow.Author.Tests.{lt-ltb, le-ltb}
-use Rattle.lent_tables.proofs.Laws.{no, yes, is-none, is-some}
+use Rattle.array_data.proofs.lent_tables.Laws.{no, yes, is-none, is-some}
 use Rattle.parts.specs.Parts.{validityParts}
 use borrow.Author.Needs.{needs}
 use Rattle.parts.proofs.validity_parts.Statement.{statement}

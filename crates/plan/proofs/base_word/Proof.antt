@@ -1,6 +1,6 @@
 -- `plan::base_word` meets its contract. Assumes nothing.
 use borrow.Author.Needs.{needs}
-use Rattle.lent_tables.specs.Lent.{tables}
+use Rattle.array_data.specs.lent_tables.Lent.{tables}
 use Rattle.plan.proofs.Laws.{base-view, base-none, base-keys, start-at}
 use Rattle.plan.proofs.base_word.Statement.{statement}
 use Rattle.plan.proofs.base_word.Tie as tie

@@ -2,7 +2,7 @@
 use mathlib.Core.Path.{sym, ap, _∙_}
 use mathlib.Core.Bool.{not}
 use borrow.Author.Needs.{needs}
-use Rattle.lent_tables.specs.Lent.{tables}
+use Rattle.array_data.specs.lent_tables.Lent.{tables}
 use Rattle.plan.specs.Plan.{flag}
 use Rattle.plan.proofs.Laws.{joined-none, joined-by, shared-at}
 use Rattle.plan.proofs.joined_word.Statement.{statement}

@@ -2,7 +2,7 @@
 use mathlib.Core.Path.{sym, ap, _∙_}
 use native.Mathlib.Omega.{arith}
 use borrow.Author.Needs.{needs}
-use Rattle.lent_tables.specs.Lent.{tables}
+use Rattle.array_data.specs.lent_tables.Lent.{tables}
 use Rattle.plan.specs.Plan.{flag}
 use Rattle.plan.proofs.Laws.{keep-ends, keep-by}
 use Rattle.plan.proofs.keep_word.Statement.{statement}

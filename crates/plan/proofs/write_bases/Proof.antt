@@ -2,7 +2,7 @@
 use mathlib.Core.Path.{_≡_}
 use Prim.Native.Nat.{_+_, _*_, _-_, _/_, _%_, _≤_}
 use native.Mathlib.Omega.{arith}
-use Rattle.lent_tables.specs.Lent.{tables}
+use Rattle.array_data.specs.lent_tables.Lent.{tables}
 use Rattle.plan.specs.Plan.{filled, baseWord, withBases}
 use Rattle.plan.proofs.Laws.{filled-none, filled-more, filled-all}
 use Rattle.plan.proofs.write_bases.Statement.{statement}

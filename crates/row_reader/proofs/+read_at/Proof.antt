@@ -3,7 +3,7 @@ use mathlib.Core.Path.{_≡_, refl, sym, ap, subst, _∙_}
 use Prim.Native.Nat.{_+_, _-_}
 use native.Mathlib.Omega.{arith}
 use lib.ListN.{length, length-set}
-use Rattle.lent_entries.specs.Entries.{column}
+use Rattle.array_data.specs.entries.Entries.{column}
 use Rattle.row_reader.specs.Walk.{walk, follow}
 use Rattle.row_reader.proofs.Laws.{no-deeper, deeper, walk-short, Read, read-done, read-under}
 use borrow.Author.Needs.{needs}

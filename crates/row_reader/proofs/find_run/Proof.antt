@@ -4,7 +4,7 @@ use mathlib.Core.List.{[]}
 use Prim.Native.Nat.{_+_, _*_, _^_}
 use native.Mathlib.Omega.{arith}
 use lib.Dec.{leb}
-use Rattle.lent_tables.proofs.Laws.{no, yes}
+use Rattle.array_data.proofs.lent_tables.Laws.{no, yes}
 use Rattle.row_reader.proofs.Laws.{ends-room, run-over, run-long, run-none, run-some}
 use borrow.Author.Needs.{needs}
 use Rattle.row_reader.proofs.find_run.Statement.{statement}

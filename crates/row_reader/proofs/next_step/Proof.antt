@@ -3,7 +3,7 @@ use mathlib.Core.Path.{_≡_, refl, sym, ap, _∙_}
 use Prim.Native.Nat.{_+_}
 use native.Mathlib.Omega.{arith}
 use Rattle.array_data.specs.Tables.{validOf}
-use Rattle.lent_entries.specs.Entries.{column}
+use Rattle.array_data.specs.entries.Entries.{column}
 use Rattle.row_reader.specs.Walk.{sighted, stepOn}
 use Rattle.row_reader.proofs.Laws.{at-deep, at-over, at-slot}
 use borrow.Author.Needs.{needs}

@@ -3,7 +3,7 @@ use mathlib.Core.Path.{_≡_, sym, subst, _∙_}
 use Prim.Native.Nat.{_+_, _≤_}
 use native.Mathlib.Omega.{arith}
 use lib.ListN.{length}
-use Rattle.lent_entries.specs.Entries.{column}
+use Rattle.array_data.specs.entries.Entries.{column}
 use Rattle.row_reader.specs.Walk.{walk}
 use Rattle.row_reader.proofs.Laws.{walk-short, Read, past-last, answer-none, answer-some}
 use borrow.Author.Needs.{needs}

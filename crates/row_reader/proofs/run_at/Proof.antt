@@ -1,8 +1,8 @@
 -- `row_reader::run_at` meets its contract. Assumes nothing.
 use mathlib.Core.Path.{_≡_, _∙_}
 use mathlib.Core.List.{[]}
-use Rattle.lent_tables.proofs.Laws.{no, yes}
-use Rattle.lent_entries.specs.Entries.{column}
+use Rattle.array_data.proofs.lent_tables.Laws.{no, yes}
+use Rattle.array_data.specs.entries.Entries.{column}
 use Rattle.row_reader.proofs.Laws.{at-other, at-runs}
 use borrow.Author.Needs.{needs}
 use Rattle.row_reader.proofs.run_at.Statement.{statement}

@@ -2,7 +2,7 @@
 use mathlib.Core.Path.{_≡_, _∙_}
 use mathlib.Core.List.{[]}
 use native.Mathlib.Numerals.{add-one}
-use Rattle.lent_entries.specs.Entries.{column}
+use Rattle.array_data.specs.entries.Entries.{column}
 use Rattle.row_reader.proofs.Laws.{runs-as}
 use borrow.Author.Needs.{needs}
 use Rattle.row_reader.proofs.run_of.Statement.{statement}

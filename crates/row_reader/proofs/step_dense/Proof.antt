@@ -1,7 +1,7 @@
 -- `row_reader::step_dense` meets its contract. Assumes nothing.
 use mathlib.Core.Path.{_≡_, sym, _∙_}
 use Rattle.array_data.specs.Tables.{part, place}
-use Rattle.lent_entries.specs.Entries.{entryIn}
+use Rattle.array_data.specs.entries.Entries.{entryIn}
 use Rattle.row_reader.proofs.Laws.{no-id, no-row, both-held}
 use borrow.Author.Needs.{needs}
 use Rattle.row_reader.proofs.step_dense.Statement.{statement}

@@ -3,7 +3,7 @@ use mathlib.Core.Path.{_≡_, ap, _∙_}
 use mathlib.Core.List.{[]}
 use Prim.Native.Nat.{ℕ, suc, _-_}
 use native.Mathlib.Omega.{arith}
-use Rattle.lent_entries.specs.Entries.{column}
+use Rattle.array_data.specs.entries.Entries.{column}
 use Rattle.row_reader.specs.Walk.{codeWidth, runOf, ran}
 use Rattle.row_reader.proofs.Laws.{ran-run, ran-past}
 use borrow.Author.Needs.{needs}

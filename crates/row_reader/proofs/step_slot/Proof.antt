@@ -1,7 +1,7 @@
 -- `row_reader::step_slot` meets its contract. Assumes nothing.
 use mathlib.Core.Path.{_≡_, sym, ap, _∙_}
 use native.Mathlib.Omega.{arith}
-use Rattle.lent_entries.specs.Entries.{column}
+use Rattle.array_data.specs.entries.Entries.{column}
 use Rattle.row_reader.specs.declared.Step.the-variants as step
 use Rattle.row_reader.proofs.Laws.{step-sparse, step-dense, step-runs, step-leaf}
 use borrow.Author.Needs.{needs}

@@ -1,8 +1,8 @@
 -- `row_reader::step_sparse` meets its contract. Assumes nothing.
 use mathlib.Core.Path.{_≡_, refl, sym, _∙_}
 use Rattle.array_data.specs.Tables.{part, place}
-use Rattle.lent_entries.specs.Entries.{entryIn}
-use Rattle.lent_entries.specs.declared.Entry.the-variants.{Value}
+use Rattle.array_data.specs.entries.Entries.{entryIn}
+use Rattle.array_data.specs.declared.entries.Entry.the-variants.{Value}
 use Rattle.row_reader.proofs.Laws.{no-id, both-held}
 use borrow.Author.Needs.{needs}
 use Rattle.row_reader.proofs.step_sparse.Statement.{statement}

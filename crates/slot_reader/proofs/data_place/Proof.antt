@@ -1,7 +1,7 @@
 -- `slot_reader::data_place` meets its contract. Assumes nothing.
 use mathlib.Core.List.{[]}
 use Rattle.array_data.specs.Tables.{place}
-use Rattle.lent_entries.specs.Entries.{column}
+use Rattle.array_data.specs.entries.Entries.{column}
 use native.Mathlib.Omega.{arith}
 use Rattle.slot_reader.proofs.Laws.{no-data, some-data}
 use borrow.Author.Needs.{needs}

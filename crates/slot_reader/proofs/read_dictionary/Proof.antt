@@ -5,7 +5,7 @@ use Prim.Native.Nat.{suc, _+_}
 use native.Mathlib.Numerals.{add-one}
 use native.Mathlib.Omega.{arith}
 use Rattle.array_data.specs.Tables.{part, place, offsetOf, validOf}
-use Rattle.lent_entries.specs.Entries.{column, entryIn, validIn}
+use Rattle.array_data.specs.entries.Entries.{column, entryIn, validIn}
 use Rattle.slot_reader.specs.Slots.{storedAt, namedAt}
 use Rattle.slot_reader.proofs.Laws.{keyed-out, keyed-over, named}
 use borrow.Author.Needs.{needs}

@@ -4,8 +4,8 @@ use mathlib.Core.List.{[]}
 use native.Mathlib.Omega.{arith}
 use borrow.Author.Tests.{eq-eqb, ne-eqb}
 use Rattle.array_data.specs.Tables.{part, place}
-use Rattle.lent_entries.specs.Entries.{column}
-use Rattle.node_table.specs.Words.{word}
+use Rattle.array_data.specs.entries.Entries.{column}
+use Rattle.array_data.specs.node_words.Words.{word}
 use Rattle.slot_reader.specs.Slots.{dictionaryRead}
 use Rattle.slot_reader.proofs.Codes.{code-width}
 use borrow.Author.Needs.{needs}

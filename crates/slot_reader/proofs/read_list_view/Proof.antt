@@ -3,7 +3,7 @@ use mathlib.Core.Path.{_≡_, sym, ap, _∙_}
 use Prim.Native.Nat.{suc}
 use native.Mathlib.Numerals.{add-one}
 use Rattle.array_data.specs.Tables.{part, place}
-use Rattle.lent_entries.specs.Entries.{entryIn}
+use Rattle.array_data.specs.entries.Entries.{entryIn}
 use Rattle.slot_reader.proofs.Laws.{both-first, both-second, both-held}
 use Rattle.slot_reader.specs.declared.RowRead.the-variants as row
 use borrow.Author.Needs.{needs}

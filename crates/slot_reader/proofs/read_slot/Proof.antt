@@ -1,7 +1,7 @@
 -- `slot_reader::read_slot` meets its contract. Assumes nothing.
 use mathlib.Core.Path.{_≡_, sym, ap, _∙_}
 use native.Mathlib.Omega.{arith}
-use Rattle.lent_entries.specs.Entries.{column}
+use Rattle.array_data.specs.entries.Entries.{column}
 use Rattle.slot_reader.proofs.Codes.{range}
 use Rattle.slot_reader.proofs.Laws.{slot-fixed, slot-string, slot-view, slot-list-view, slot-list, slot-none}
 use borrow.Author.Needs.{needs}

@@ -2,8 +2,8 @@
 use mathlib.Core.Path.{_≡_, sym, _∙_}
 use mathlib.Core.List.{[]}
 use Rattle.array_data.specs.Tables.{part, place, firstBuffer, secondBuffer}
-use Rattle.lent_entries.specs.Entries.{column}
-use Rattle.lent_tables.proofs.Laws.{no, yes}
+use Rattle.array_data.specs.entries.Entries.{column}
+use Rattle.array_data.proofs.lent_tables.Laws.{no, yes}
 use Rattle.slot_reader.proofs.Laws.{stored-string, stored-keys, stored-fixed, stored-none}
 use borrow.Author.Needs.{needs}
 use Rattle.slot_reader.proofs.read_stored.Statement.{statement}

@@ -5,7 +5,7 @@ use Prim.Native.Nat.{suc}
 use native.Mathlib.Numerals.{add-one}
 use native.Mathlib.Omega.{arith}
 use Rattle.array_data.specs.Tables.{part, place, secondBuffer}
-use Rattle.lent_entries.specs.Entries.{column, entryIn}
+use Rattle.array_data.specs.entries.Entries.{column, entryIn}
 use Rattle.slot_reader.proofs.Laws.{entry-small, both-first, both-second, both-held}
 use Rattle.slot_reader.specs.Slots.{stretchIn}
 use borrow.Author.Needs.{needs}

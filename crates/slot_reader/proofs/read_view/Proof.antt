@@ -3,9 +3,9 @@ use mathlib.Core.Path.{_≡_, sym, ap, _∙_}
 use mathlib.Core.List.{[]}
 use native.Mathlib.Omega.{arith}
 use Rattle.array_data.specs.Tables.{part, place}
-use Rattle.view_row.specs.Place.{partOf}
-use Rattle.lent_entries.specs.Entries.{column, spotIn}
-use Rattle.lent_entries.proofs.Laws.{room}
+use Rattle.leaf_row.specs.view.Place.{partOf}
+use Rattle.array_data.specs.entries.Entries.{column, spotIn}
+use Rattle.array_data.proofs.entries.Laws.{room}
 use Rattle.slot_reader.specs.Slots.{viewed}
 use Rattle.slot_reader.proofs.Laws.{view-out, view-in, bytes-inline, bytes-data}
 use borrow.Author.Needs.{needs}

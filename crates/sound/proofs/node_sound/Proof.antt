@@ -1,5 +1,5 @@
 -- `sound::node_sound` meets its contract. Assumes nothing.
-use Rattle.lent_tables.proofs.Laws.{no, yes}
+use Rattle.array_data.proofs.lent_tables.Laws.{no, yes}
 use Rattle.sound.proofs.Laws.{node-low, node-past, node-loose, node-other, node-last, node-next}
 use borrow.Author.Needs.{needs}
 use Rattle.sound.proofs.node_sound.Statement.{statement}

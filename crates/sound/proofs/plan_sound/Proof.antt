@@ -4,9 +4,9 @@ use mathlib.Core.Path.{_≡_, refl}
 use mathlib.Core.Bool.{true}
 use native.Mathlib.Omega.{arith}
 use Rattle.columnar.specs.Test.{every}
-use Rattle.lent_tables.proofs.Laws.{no, yes}
+use Rattle.array_data.proofs.lent_tables.Laws.{no, yes}
 use Rattle.parts.proofs.Laws.{every-one}
-use Rattle.orders.specs.Sound.{nodeSound}
+use Rattle.refinement.specs.orders.Sound.{nodeSound}
 use Rattle.sound.proofs.Laws.{plan-none, plan-no, plan-all}
 use Rattle.sound.proofs.plan_sound.Statement.{statement}
 use Rattle.sound.proofs.plan_sound.Tie as tie

@@ -6,7 +6,7 @@ use native.Mathlib.Omega.{arith}
 use lib.ListN.{length, getD, length-set}
 use Rattle.schema.specs.Tree.{childAt}
 use Rattle.array_data.specs.Tables.{lengthOf}
-use Rattle.lent_tables.specs.Lent.{tables}
+use Rattle.array_data.specs.lent_tables.Lent.{tables}
 use Rattle.source_rules.proofs.Fields.{child-first, child-next, child-below, set-more}
 use Rattle.source_rules.proofs.field_lengths.Statement.{statement}
 use Rattle.source_rules.proofs.field_lengths.Tie as tie

@@ -11,8 +11,8 @@ use Rattle.formats.specs.Code.{isFixed, isString, isList, isView, isListView, i
 use Rattle.schema.specs.Tree.{codeOf}
 use Rattle.schema.proofs.Known.{typed-shape}
 use Rattle.array_data.specs.Rules.{stringRule, listViewRule, listRule, runEndRule}
-use Rattle.lent_tables.specs.Lent.{tables, Counted}
-use Rattle.kind_rules.specs.Rows.{tablesOf}
+use Rattle.array_data.specs.lent_tables.Lent.{tables, Counted}
+use Rattle.source_rules.specs.kinds.Rows.{tablesOf}
 use Rattle.source_rules.proofs.Node.{told, string-widths, list-widths, lists-widths, counted-as, ready-as, number-as, number-last, string-node, view-node, list-view-node, list-node, run-end-node, list-left, runs, ends-inside}
 use borrow.Author.Needs.{needs}
 use Rattle.source_rules.proofs.node_ok.Statement.{statement}

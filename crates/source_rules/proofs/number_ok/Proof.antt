@@ -1,7 +1,7 @@
 -- `source_rules::number_ok` meets its contract. Assumes nothing.
 use mathlib.Core.Path.{ap, sym, _∙_}
 use Rattle.formats.proofs.Types.{number-width}
-use Rattle.lent_tables.specs.Lent.{tables}
+use Rattle.array_data.specs.lent_tables.Lent.{tables}
 use Rattle.source_rules.specs.Source.{numberRule}
 use borrow.Author.Needs.{needs}
 use Rattle.source_rules.proofs.number_ok.Statement.{statement}

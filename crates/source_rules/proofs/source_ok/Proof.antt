@@ -6,9 +6,9 @@ use native.Mathlib.Omega.{arith}
 use borrow.Author.Count.{below-more}
 use Rattle.columnar.proofs.Test.{every-false}
 use Rattle.array_data.specs.Typed.{tablesFrom, nodeRule}
-use Rattle.lent.specs.Lent.{treeOf}
-use Rattle.lent_tables.proofs.Laws.{no, yes}
-use Rattle.kind_rules.specs.Rows.{tablesOf}
+use Rattle.array_data.specs.type_tree.Lent.{treeOf}
+use Rattle.array_data.proofs.lent_tables.Laws.{no, yes}
+use Rattle.source_rules.specs.kinds.Rows.{tablesOf}
 use Rattle.source_rules.proofs.Node.{every-true}
 use Rattle.source_rules.proofs.source_ok.Statement.{statement}
 use Rattle.source_rules.proofs.source_ok.Tie as tie

@@ -1,7 +1,7 @@
 -- `source_rules::string_ok` meets its contract. Assumes nothing.
 use mathlib.Core.Path.{ap, sym, _∙_}
 use Rattle.array_data.specs.Rules.{stringRule}
-use Rattle.lent_tables.specs.Lent.{tables}
+use Rattle.array_data.specs.lent_tables.Lent.{tables}
 use Rattle.source_rules.proofs.Node.{not-four}
 use borrow.Author.Needs.{needs}
 use Rattle.source_rules.proofs.string_ok.Statement.{statement}

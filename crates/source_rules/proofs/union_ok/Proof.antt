@@ -2,10 +2,10 @@
 use mathlib.Core.Path.{ap, refl, sym, _∙_}
 use native.Mathlib.Omega.{arith}
 use lib.ListN.{length, replicate}
-use Rattle.format_ids.specs.Ids.{idsAt}
-use Rattle.format_ids.proofs.Same.{fine, written-length, count-fine}
+use Rattle.formats.specs.union_ids.Ids.{idsAt}
+use Rattle.formats.proofs.union_ids.Same.{fine, written-length, count-fine}
 use Rattle.schema.proofs.Known.{typed-shape}
-use Rattle.kind_rules.specs.Rows.{tablesOf}
+use Rattle.source_rules.specs.kinds.Rows.{tablesOf}
 use Rattle.source_rules.proofs.Union.{ids-part, no-bad, sparse-last, dense-last}
 use borrow.Author.Needs.{needs}
 use Rattle.source_rules.proofs.union_ok.Statement.{statement}

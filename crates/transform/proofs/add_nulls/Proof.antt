@@ -5,7 +5,7 @@ use Prim.Native.Nat.{ℕ}
 use Rattle.walk.specs.Log.{Out}
 use Rattle.walk.specs.Nulls.{nullWalk}
 use Rattle.leaf_walk.specs.Join.{join}
-use Rattle.trying.proofs.Near.{near-same}
+use Rattle.sound.proofs.trying.Near.{near-same}
 use Rattle.transform.specs.Answer.{lent}
 use Rattle.transform.proofs.Laws.{settled-no, settled-parts, settled-made}
 use borrow.Author.Needs.{needs}

@@ -1,5 +1,5 @@
 -- `transform::parts_ground` meets its contract. Assumes nothing.
-use Rattle.lent_tables.proofs.Laws.{no, yes}
+use Rattle.array_data.proofs.lent_tables.Laws.{no, yes}
 use borrow.Author.Needs.{needs}
 use Rattle.transform.proofs.parts_ground.Statement.{statement}
 use Rattle.transform.proofs.parts_ground.Tie as tie

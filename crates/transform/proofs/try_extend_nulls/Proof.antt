@@ -1,6 +1,6 @@
 -- `transform::try_extend_nulls` meets its contract. Assumes nothing.
 use Rattle.transform.specs.Answer.{lent}
-use Rattle.lent_tables.proofs.Laws.{no, yes}
+use Rattle.array_data.proofs.lent_tables.Laws.{no, yes}
 use Rattle.transform.proofs.Laws.{null-counters, null-foreign, null-keeps, null-made}
 use borrow.Author.Needs.{needs}
 use Rattle.transform.proofs.try_extend_nulls.Statement.{statement}

@@ -1,5 +1,5 @@
 -- `transform::uncounted` meets its contract. Assumes nothing.
-use Rattle.trying.proofs.Laws.{alike-to}
+use Rattle.sound.proofs.trying.Laws.{alike-to}
 use borrow.Author.Needs.{needs}
 use Rattle.transform.proofs.uncounted.Statement.{statement}
 use Rattle.transform.proofs.uncounted.Tie as tie

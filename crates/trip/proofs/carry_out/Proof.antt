@@ -1,7 +1,7 @@
 -- `trip::carry_out` meets its contract. Assumes nothing.
 use mathlib.Core.Path.{_∙_}
 use Rattle.transform.specs.Answer.{lent}
-use Rattle.trying.proofs.Laws.{alike-to}
+use Rattle.sound.proofs.trying.Laws.{alike-to}
 use Rattle.trip.proofs.Laws.{given-up, carried-out}
 use borrow.Author.Needs.{needs}
 use Rattle.trip.proofs.carry_out.Statement.{statement}

@@ -1,7 +1,7 @@
 -- `trip::held_ground` meets its contract. Assumes nothing.
 use mathlib.Core.Path.{_≡_, refl}
 use mathlib.Core.Bool.{true, false}
-use Rattle.lent_tables.proofs.Laws.{no, yes}
+use Rattle.array_data.proofs.lent_tables.Laws.{no, yes}
 use borrow.Author.Needs.{needs}
 use Rattle.trip.proofs.held_ground.Statement.{statement}
 use Rattle.trip.proofs.held_ground.Tie as tie

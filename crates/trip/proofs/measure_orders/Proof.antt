@@ -1,7 +1,7 @@
 -- `trip::measure_orders` meets its contract. Assumes nothing.
 use mathlib.Core.Path.{refl, _∙_}
 use mathlib.Core.List.{[]}
-use Rattle.lent_tables.proofs.Laws.{no, yes}
+use Rattle.array_data.proofs.lent_tables.Laws.{no, yes}
 use Rattle.transform.specs.Answer.{lent}
 use Rattle.trip.proofs.Laws.{measures-too-many, measures-none, measures-counters, measures-plan, measures-refused, measures-made}
 use borrow.Author.Needs.{needs}

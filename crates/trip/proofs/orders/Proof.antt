@@ -1,6 +1,6 @@
 -- `trip::orders` meets its contract. Assumes nothing.
 use mathlib.Core.Path.{refl}
-use Rattle.lent_tables.proofs.Laws.{no, yes}
+use Rattle.array_data.proofs.lent_tables.Laws.{no, yes}
 use Rattle.transform.specs.Answer.{lent}
 use Rattle.trip.proofs.Laws.{too-many, no-orders, foreign-counters, foreign-plan}
 use borrow.Author.Needs.{needs}

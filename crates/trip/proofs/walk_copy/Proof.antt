@@ -3,7 +3,7 @@ use Prim.Native.Nat.{_≤_}
 use native.Mathlib.Omega.{arith}
 use lib.Dec.{leb}
 use borrow.Author.Tests.{leb-true}
-use Rattle.lent_tables.proofs.Laws.{no, yes, and-left}
+use Rattle.array_data.proofs.lent_tables.Laws.{no, yes, and-left}
 use Rattle.transform.specs.Answer.{lent}
 use Rattle.trip.proofs.Laws.{walk-no-source, walk-no-rows, walk-copied}
 use borrow.Author.Needs.{needs}

@@ -1,6 +1,6 @@
 -- `trip::walk_step` meets its contract. Assumes nothing.
 use mathlib.Core.Path.{refl}
-use Rattle.lent_tables.proofs.Laws.{no, yes}
+use Rattle.array_data.proofs.lent_tables.Laws.{no, yes}
 use Rattle.transform.specs.Answer.{lent}
 use Rattle.trip.specs.Trip.{callAt}
 use Rattle.trip.proofs.Laws.{call-words, step-refused, step-unasked, step-asked}

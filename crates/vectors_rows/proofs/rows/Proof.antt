@@ -5,7 +5,7 @@ use Rattle.vectors_rows.proofs.rows.Statement.{statement}
 use Rattle.vectors_rows.proofs.rows.Tie as tie
 use Rattle.vectors_rows.proofs.rows.Reads as reads
 use Rattle.vectors_rows.proofs.rows.Lts as lts
-use Rattle.run_reader.proofs.run_at.Reads as run-at-reads
+use Rattle.leaf_row.proofs.run.run_at.Reads as run-at-reads
 use Rattle.vectors_rows.proofs.line.Reads as line-reads
 use Rattle.vectors_rows.proofs.put_run.Reads as put-run-reads
 

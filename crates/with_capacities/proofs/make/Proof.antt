@@ -1,9 +1,9 @@
 -- `with_capacities::make` meets its contract. Assumes nothing.
 use mathlib.Core.Path.{_∙_}
 use lib.ListN.{replicate}
-use Rattle.kind_rules.specs.Rows.{tablesOf}
+use Rattle.source_rules.specs.kinds.Rows.{tablesOf}
 use Rattle.walk.specs.Log.{Out}
-use Rattle.opening.specs.Open.{openWalk}
+use Rattle.refinement.specs.opening.Open.{openWalk}
 use Rattle.open_walk.specs.Lent.{lent}
 use Rattle.with_capacities.proofs.Tried.{near-open}
 use Rattle.with_capacities.proofs.Laws.{settled-no, settled-over, settled-made}

@@ -1,7 +1,7 @@
 -- `with_capacities::plan_parts` meets its contract. Assumes nothing.
 use Prim.Native.Nat.{_*_}
 use native.Mathlib.Omega.{arith}
-use Rattle.kind_rules.specs.Rows.{tablesOf}
+use Rattle.source_rules.specs.kinds.Rows.{tablesOf}
 use Rattle.with_capacities.proofs.Laws.{can-plan, plan-is, ask-sources, ask-words, ask-made}
 use borrow.Author.Needs.{needs}
 use Rattle.with_capacities.proofs.plan_parts.Statement.{statement}

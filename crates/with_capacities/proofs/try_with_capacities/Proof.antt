@@ -1,7 +1,7 @@
 -- `with_capacities::try_with_capacities` meets its contract. Assumes nothing.
 use Prim.Native.Nat.{_*_}
 use native.Mathlib.Omega.{arith}
-use Rattle.kind_rules.specs.Rows.{tablesOf}
+use Rattle.source_rules.specs.kinds.Rows.{tablesOf}
 use lib.ListN.{length}
 use Rattle.parts.specs.Parts.{partTotal, partsPlaced}
 use Rattle.with_capacities.proofs.Laws.{can-plan, plan-is, few-sources, open-large, open-sources, open-room, open-made, lengths-are}

@@ -2,7 +2,7 @@
 use mathlib.Core.Path.{sym, ap, ap₂, _∙_}
 use lib.ListN.{length}
 use borrow.Author.Tests.{eqb-true, eq-eqb, ne-eqb}
-use Rattle.lent_tables.proofs.Laws.{no, yes}
+use Rattle.array_data.proofs.lent_tables.Laws.{no, yes}
 use Rattle.frames.specs.Frames.{joined}
 use Rattle.lafkuno.specs.Beside.{sides, four}
 use Rattle.lafkuno.proofs.FrameCalls.{first-not, second-not, third-not, three, not-four, all-four}

@@ -1,0 +1,2 @@
+-- Laws of `array_data::entries`.
+pub mod Laws

@@ -1,0 +1,2 @@
+-- Laws of `array_data::node_words`.
+pub mod Laws

@@ -1,0 +1,2 @@
+-- The definitions that the contracts of `array_data::entries` cite.
+pub mod Entries

@@ -1,0 +1,2 @@
+-- The definitions that the laws of `type_tree` cite.
+pub mod Lent

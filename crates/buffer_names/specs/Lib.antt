@@ -1,2 +1,0 @@
--- The definitions that the contracts of `buffer_names` cite.
-pub mod Names

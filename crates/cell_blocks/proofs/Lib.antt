@@ -1,3 +1,0 @@
--- Laws of `cell_blocks`.
-pub mod Words
-pub mod Sums

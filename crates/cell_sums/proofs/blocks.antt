@@ -1,0 +1,3 @@
+-- Laws of `cell_sums::blocks`.
+pub mod Words
+pub mod Sums

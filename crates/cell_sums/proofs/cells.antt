@@ -1,0 +1,3 @@
+-- Laws of `cell_sums::cells`.
+pub mod Codes
+pub mod Rows

@@ -1,0 +1,2 @@
+-- The definitions that the contracts of `cell_sums::blocks` cite.
+pub mod Blocks

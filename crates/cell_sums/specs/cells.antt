@@ -1,0 +1,2 @@
+-- The definitions that the contracts of `cell_sums::cells` cite.
+pub mod Cells

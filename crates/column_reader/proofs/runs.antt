@@ -1,0 +1,2 @@
+-- The laws of `column_reader::runs`.
+pub mod Laws

@@ -1,2 +1,0 @@
--- The laws of `column_runs`.
-pub mod Laws

@@ -1,2 +1,0 @@
--- The definitions that the contracts of `finished_places` cite.
-pub mod Places

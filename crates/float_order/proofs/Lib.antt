@@ -1,3 +1,0 @@
--- The laws of `float_order`.
-pub mod Order
-pub mod Weak

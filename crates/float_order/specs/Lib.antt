@@ -1,2 +1,0 @@
--- The definitions that the contracts and laws of `float_order` cite.
-pub mod Order

@@ -1,2 +1,0 @@
--- The definitions that the contracts of `format_ids` cite.
-pub mod Ids

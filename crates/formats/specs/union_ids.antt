@@ -1,0 +1,2 @@
+-- The definitions that the contracts of `formats::union_ids` cite.
+pub mod Ids

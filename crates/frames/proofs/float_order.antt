@@ -1,0 +1,3 @@
+-- The laws of `frames::float_order`.
+pub mod Order
+pub mod Weak

@@ -1,0 +1,2 @@
+-- The definitions that the contracts and laws of `frames::float_order` cite.
+pub mod Order

@@ -1,0 +1,2 @@
+-- The definitions that the contracts of `into_builder::buffers` cite.
+pub mod Names

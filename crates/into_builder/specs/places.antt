@@ -1,0 +1,2 @@
+-- The definitions that the contracts of `into_builder::places` cite.
+pub mod Places

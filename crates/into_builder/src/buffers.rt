@@ -1,0 +1,134 @@
+// The data buffers of views as the finished array names them: those of all sources, in order.
+// Follows `into_builder` of arrow-data 60.1.0 src/transform/mod.rs, Apache-2.0; see NOTICE.
+ghost use mathlib.Core.Path.{_≡_};
+ghost use mathlib.Core.List.{[]};
+ghost use Prim.Native.Nat.{_+_, _*_, _<_, _≤_, _^_, min};
+ghost use lib.ListN.{length, getD};
+ghost use Rattle.columnar.specs.Row.{seg};
+ghost use Rattle.parts.specs.Parts.{nodesOf};
+ghost use Rattle.refinement.specs.orders.Order.{sourceCount};
+ghost use Rattle.refinement.specs.finishing.Finish.{buffersOf, buffersFrom};
+ghost use Rattle.into_builder.specs.buffers.Names.{lent, countAt, countBefore, namesAt, namesBefore, Behind};
+use array_data::lent_tables;
+use plan::dictionaries;
+use walk::plan_words;
+
+// ---- how many
+
+// How many sources the plan was made for, at most 16.
+fn source_count(plan: &[u64]) -> usize
+    ensures { λ r. ⌜ r ≡ min (sourceCount (now (plan .entry))) 16 ⌝ }
+    ensures { λ r. ⌜ r ≤ 16 ⌝ }
+{
+    let m = lent_tables::at_u64(plan, 864);
+    if 16 < m {
+        return 16;
+    }
+    m as usize
+}
+
+// How many data buffers node i names.
+pub fn count_at(plan: &[u64], sources: &[u32], places: &[u32], i: usize) -> u64
+    requires { ⌜ i < 32 ⌝ }
+    ensures { λ r. ⌜ r ≡ countAt (now (plan .entry)) (now (sources .entry)) (now (places .entry)) i ⌝ }
+    ensures { λ r. ⌜ r ≤ 68719476720 ⌝ }
+{
+    if !formats::is_view(plan_words::code_of(plan, i)) {
+        return 0;
+    }
+    plan::buffers_up_to(sources, places, i, source_count(plan))
+}
+
+// How many data buffers the nodes before node n name.
+pub fn count_before(plan: &[u64], sources: &[u32], places: &[u32], n: usize) -> u64
+    requires { ⌜ n ≤ 32 ⌝ }
+    ensures { λ r. ⌜ r ≡ countBefore (now (plan .entry)) (now (sources .entry)) (now (places .entry)) n ⌝ }
+    ensures { λ r. ⌜ r ≤ 2199023255040 ⌝ }
+{
+    let mut sum: u64 = 0;
+    let mut i = 0;
+    while i < n {
+        sum += count_at(plan, sources, places, i);
+        i += 1;
+    }
+    sum
+}
+
+// ---- which
+
+// n numbers of a table from number `from` on, 0 past its end, into another at number `at`.
+fn copy_names(buffers: &[u32], from: usize, n: usize, names: &mut [u32], at: usize)
+    requires { ⌜ (at + n ≤ length (now names)) × (from < 2 ^ 34) × (n < 2 ^ 34) ⌝ }
+    ensures { λ _. ⌜ Behind (now (names .entry)) (now (names .exit)) at n (seg (λ q. getD (now (buffers .entry)) q 0) from n) ⌝ }
+{
+    let mut q = 0;
+    while q < n {
+        names[at + q] = lent_tables::at_u32(buffers, from + q);
+        q += 1;
+    }
+}
+
+// The data buffers of node i, a view node, at number `at`.
+fn view_names(
+    plan: &[u64],
+    sources: &[u32],
+    places: &[u32],
+    buffers: &[u32],
+    i: usize,
+    names: &mut [u32],
+    at: usize,
+)
+    requires { ⌜ (i < 32) × (at + 2 * buffersOf (lent (now plan) [] (now sources) [] (now places) []) [] [] [] 0 i (min (sourceCount (now plan)) 16) ≤ length (now names)) ⌝ }
+    ensures { λ _. ⌜ Behind (now (names .entry)) (now (names .exit)) at (2 * buffersOf (lent (now (plan .entry)) [] (now (sources .entry)) [] (now (places .entry)) []) [] [] [] 0 i (min (sourceCount (now (plan .entry))) 16)) (buffersFrom (lent (now (plan .entry)) [] (now (sources .entry)) [] (now (places .entry)) []) (now (buffers .entry)) [] [] 0 i (min (sourceCount (now (plan .entry))) 16)) ⌝ }
+{
+    let m = source_count(plan);
+    let mut end = at;
+    let mut s = 0;
+    while s < m {
+        let k = dictionaries::node_of(sources, s, i);
+        let from = lent_tables::place(places, k, 7) as usize;
+        let n = lent_tables::place(places, k, 8) as usize;
+        copy_names(buffers, 2 * from, 2 * n, names, end);
+        end += 2 * n;
+        s += 1;
+    }
+}
+
+// The data buffers of node i, if it is a view node, at number `at`.
+fn node_names(
+    plan: &[u64],
+    sources: &[u32],
+    places: &[u32],
+    buffers: &[u32],
+    i: usize,
+    names: &mut [u32],
+    at: usize,
+)
+    requires { ⌜ (i < 32) × (at + 2 * countAt (now plan) (now sources) (now places) i ≤ length (now names)) ⌝ }
+    ensures { λ _. ⌜ Behind (now (names .entry)) (now (names .exit)) at (2 * countAt (now (plan .entry)) (now (sources .entry)) (now (places .entry)) i) (namesAt (now (plan .entry)) (now (sources .entry)) (now (places .entry)) (now (buffers .entry)) i) ⌝ }
+{
+    if formats::is_view(plan_words::code_of(plan, i)) {
+        view_names(plan, sources, places, buffers, i, names, at);
+    }
+}
+
+// The data buffers of every node.
+pub fn write_buffers(
+    plan: &[u64],
+    sources: &[u32],
+    places: &[u32],
+    buffers: &[u32],
+    names: &mut [u32],
+)
+    requires { ⌜ length (now names) ≡ 2 * countBefore (now plan) (now sources) (now places) (nodesOf (now plan)) ⌝ }
+    ensures { λ _. ⌜ now (names .exit) ≡ namesBefore (now (plan .entry)) (now (sources .entry)) (now (places .entry)) (now (buffers .entry)) (nodesOf (now (plan .entry))) ⌝ }
+{
+    let n = parts::node_count(plan);
+    let mut at = 0;
+    let mut i = 0;
+    while i < n {
+        node_names(plan, sources, places, buffers, i, names, at);
+        at += 2 * (count_at(plan, sources, places, i) as usize);
+        i += 1;
+    }
+}

@@ -1,0 +1,3 @@
+-- The laws of `leaf_row::run`.
+pub mod Laws
+pub mod Format

@@ -1,0 +1,2 @@
+-- The laws of `leaf_row::view`.
+pub mod Laws

@@ -1,0 +1,266 @@
+// The walk at byte strings and lists: offsets behind the last one, and the bytes that they reach.
+// The answer is 0 or the ground of refusal; a walk that only tries changes the counters alone.
+// What a function does not read of the order stands in its contract for all values.
+ghost use mathlib.Core.Path.{_≡_};
+ghost use mathlib.Core.List.{List};
+ghost use Prim.Native.Nat.{ℕ, _+_, _*_, _<_, _≤_, _^_};
+ghost use lib.ListN.{length};
+ghost use lib.Dec.{leb};
+ghost use Rattle.utils.specs.Extension.{extended};
+ghost use Rattle.walk.specs.State.{bytes};
+ghost use Rattle.walk.specs.Log.{Did, applyIf};
+ghost use Rattle.walk.specs.Leaves.{putString, putExtended, copyString, nullString};
+ghost use Rattle.walk.specs.Nulls.{NullWalk, nullList};
+ghost use Rattle.leaf_walk.specs.Join.{join};
+ghost use Rattle.leaf_walk.specs.variable_size.Lists.{triedOffsets, offsetsLog};
+use array_data::lent_tables;
+use walk::plan_words;
+
+// Whether n offsets of w bytes after the first of those at `from` fit after `last`.
+fn try_offsets(body: &[u8], from: usize, w: u64, n: usize, last: u64) -> utils::Extended
+    requires { ⌜ from + w * (n + 1) ≤ length (now body) ⌝ }
+    requires { ⌜ ((w ≡ 4 → ⊥) → w ≡ 8) ⌝ }
+    ensures { λ r. ⌜ r ≡ extended w (now (body .entry)) from n last ⌝ }
+{
+    if w == 4 {
+        return utils::try_offsets_i32(body, from, n, last);
+    }
+    utils::try_offsets_i64(body, from, n, last)
+}
+
+// Whether n bytes from the byte `lead` of the data at `at` on lie in the body.
+fn bytes_in(body: &[u8], at: u32, lead: u64, n: u64) -> bool
+    requires { ⌜ n < 2 ^ 63 ⌝ }
+    ensures { λ r. ⌜ r ≡ leb (at + lead + n) (length (now (body .entry))) ⌝ }
+{
+    let m = body.len() as u64;
+    if m < lead {
+        return false;
+    }
+    (at as u64) + n <= m - lead
+}
+
+// The n offsets of w bytes after the first of those at `from`, and the bytes from the source's offset `lead` on: `last` is the offset behind them.
+fn put_string(
+    state: &[u64],
+    parts: &[u32],
+    places: &[u32],
+    body: &[u8],
+    counts: &mut [u64; 96],
+    room: &mut [u8],
+    write: bool,
+    first: usize,
+    i: usize,
+    w: u64,
+    from: usize,
+    n: u64,
+    last: u64,
+    lead: u64,
+) -> u8
+    requires { ⌜ (first < 2 ^ 32) × (i < 32) × (from + w * (n + 1) ≤ length (now body)) × (bytes (now counts) i ≤ last) × (last < 2 ^ 63) ⌝ }
+    requires { ⌜ ((w ≡ 4 → ⊥) → w ≡ 8) ⌝ }
+    ensures { λ r. ⌜ ((lengths : List ℕ) (source : ℕ) → Did (now (state .entry)) (now (parts .entry)) write (putString (join (now (state .entry)) (now (parts .entry)) lengths (now (places .entry)) (now (body .entry)) first source) i w from n last lead (now (counts .entry))) (now (room .entry)) r (now (counts .exit)) (now (room .exit))) ⌝ }
+{
+    let at = lent_tables::place(places, first + i, 5);
+    let old = plan_words::bytes_of(counts, i);
+    if !bytes_in(body, at, lead, last - old) {
+        return 12;
+    }
+    let o = plan_words::scale(plan_words::grow(plan_words::rows_of(counts, i), 1), w);
+    room_writes::put_offsets(state, parts, room, write, i, 1, o, w, body, from, n, old);
+    let begin = (at as u64) + lead;
+    room_writes::put_copy(
+        state,
+        parts,
+        room,
+        write,
+        i,
+        2,
+        old,
+        body,
+        begin as usize,
+        last - old,
+    );
+    plan_words::set_bytes(counts, i, last);
+    0
+}
+
+// The offsets tried, and then put.
+fn put_extended(
+    state: &[u64],
+    parts: &[u32],
+    places: &[u32],
+    body: &[u8],
+    counts: &mut [u64; 96],
+    room: &mut [u8],
+    write: bool,
+    first: usize,
+    i: usize,
+    w: u64,
+    from: usize,
+    n: u64,
+) -> u8
+    requires { ⌜ (first < 2 ^ 32) × (i < 32) × (from + w * (n + 1) ≤ length (now body)) ⌝ }
+    requires { ⌜ ((w ≡ 4 → ⊥) → w ≡ 8) ⌝ }
+    ensures { λ r. ⌜ ((lengths : List ℕ) (source : ℕ) → Did (now (state .entry)) (now (parts .entry)) write (putExtended (join (now (state .entry)) (now (parts .entry)) lengths (now (places .entry)) (now (body .entry)) first source) i w from n (extended w (now (body .entry)) from n (bytes (now (counts .entry)) i)) (now (counts .entry))) (now (room .entry)) r (now (counts .exit)) (now (room .exit))) ⌝ }
+{
+    let last = plan_words::bytes_of(counts, i);
+    match try_offsets(body, from, w, n as usize, last) {
+        utils::Extended::Fits { last, first: lead } => put_string(
+            state,
+            parts,
+            places,
+            body,
+            counts,
+            room,
+            write,
+            first,
+            i,
+            w,
+            from,
+            n,
+            last,
+            lead,
+        ),
+        utils::Extended::Over { .. } => 6,
+        utils::Extended::Falls => 12,
+    }
+}
+
+// Byte strings with offsets of w bytes.
+pub fn copy_string(
+    state: &[u64],
+    parts: &[u32],
+    places: &[u32],
+    body: &[u8],
+    counts: &mut [u64; 96],
+    room: &mut [u8],
+    write: bool,
+    first: usize,
+    i: usize,
+    w: u64,
+    slot: u64,
+    n: u64,
+) -> u8
+    requires { ⌜ (first < 2 ^ 32) × (i < 32) × (slot + n < 2 ^ 63) ⌝ }
+    requires { ⌜ ((w ≡ 4 → ⊥) → w ≡ 8) ⌝ }
+    ensures { λ r. ⌜ ((lengths : List ℕ) (source : ℕ) → Did (now (state .entry)) (now (parts .entry)) write (copyString (join (now (state .entry)) (now (parts .entry)) lengths (now (places .entry)) (now (body .entry)) first source) i w slot n (now (counts .entry))) (now (room .entry)) r (now (counts .exit)) (now (room .exit))) ⌝ }
+{
+    if n == 0 {
+        return 0;
+    }
+    let at = lent_tables::place(places, first + i, 3);
+    if !crate::rows_in(body, at, w, slot, n + 1) {
+        return 12;
+    }
+    let from = (at as u64) + w * slot;
+    put_extended(
+        state,
+        parts,
+        places,
+        body,
+        counts,
+        room,
+        write,
+        first,
+        i,
+        w,
+        from as usize,
+        n,
+    )
+}
+
+// n nulls of w bytes an offset: the last offset, n times.
+pub fn null_string(
+    state: &[u64],
+    parts: &[u32],
+    counts: &mut [u64; 96],
+    room: &mut [u8],
+    write: bool,
+    i: usize,
+    w: u64,
+    n: u64,
+) -> u8
+    requires { ⌜ i < 32 ⌝ }
+    requires { ⌜ ((w ≡ 4 → ⊥) → w ≡ 8) ⌝ }
+    ensures { λ r. ⌜ ((lengths places body : List ℕ) (first source : ℕ) → Did (now (state .entry)) (now (parts .entry)) write (nullString (join (now (state .entry)) (now (parts .entry)) lengths places body first source) i w n (now (counts .entry))) (now (room .entry)) r (now (counts .exit)) (now (room .exit))) ⌝ }
+{
+    let o = plan_words::scale(plan_words::grow(plan_words::rows_of(counts, i), 1), w);
+    let last = plan_words::bytes_of(counts, i);
+    room_writes::put_repeated(state, parts, room, write, i, 1, o, w, n, last);
+    0
+}
+
+// The offsets of n rows of a list, with w bytes each, behind its child's rows: all of them, or none where they do not fit.
+pub fn copy_offsets(
+    state: &[u64],
+    parts: &[u32],
+    places: &[u32],
+    body: &[u8],
+    counts: &[u64; 96],
+    room: &mut [u8],
+    write: bool,
+    first: usize,
+    i: usize,
+    w: u64,
+    slot: u64,
+    n: u64,
+) -> utils::Extended
+    requires { ⌜ (first < 2 ^ 32) × (i + 1 < 32) × (slot + n < 2 ^ 63) ⌝ }
+    requires { ⌜ ((w ≡ 4 → ⊥) → w ≡ 8) ⌝ }
+    ensures { λ r. ⌜ ((lengths : List ℕ) (source : ℕ) → r ≡ triedOffsets (join (now (state .entry)) (now (parts .entry)) lengths (now (places .entry)) (now (body .entry)) first source) w i slot n (now (counts .entry))) ⌝ }
+    ensures { λ r. ⌜ ((lengths : List ℕ) (source : ℕ) → now (room .exit) ≡ applyIf (now (state .entry)) (now (parts .entry)) write (offsetsLog (join (now (state .entry)) (now (parts .entry)) lengths (now (places .entry)) (now (body .entry)) first source) w i slot n (now (counts .entry)) r) (now (room .entry))) ⌝ }
+{
+    let at = lent_tables::place(places, first + i, 3);
+    if !crate::rows_in(body, at, w, slot, n + 1) {
+        return utils::Extended::Falls;
+    }
+    let from = (at as u64) + w * slot;
+    let old = plan_words::rows_of(counts, i + 1);
+    match try_offsets(body, from as usize, w, n as usize, old) {
+        utils::Extended::Fits { last, first: lead } => {
+            let o = plan_words::scale(plan_words::grow(plan_words::rows_of(counts, i), 1), w);
+            room_writes::put_offsets(
+                state,
+                parts,
+                room,
+                write,
+                i,
+                1,
+                o,
+                w,
+                body,
+                from as usize,
+                n,
+                old,
+            );
+            utils::Extended::Fits { last, first: lead }
+        }
+        utils::Extended::Over { row, needed } => utils::Extended::Over { row, needed },
+        utils::Extended::Falls => utils::Extended::Falls,
+    }
+}
+
+// n nulls of a list with offsets of w bytes: the last offset, n times.
+pub fn null_list(
+    state: &[u64],
+    parts: &[u32],
+    counts: &[u64; 96],
+    room: &mut [u8],
+    write: bool,
+    i: usize,
+    w: u64,
+    n: u64,
+) -> u8
+    requires { ⌜ i < 32 ⌝ }
+    requires { ⌜ ((w ≡ 4 → ⊥) → w ≡ 8) ⌝ }
+    ensures { λ r. ⌜ ((lengths places body : List ℕ) (first source : ℕ) (child : NullWalk) → Did (now (state .entry)) (now (parts .entry)) write (nullList (join (now (state .entry)) (now (parts .entry)) lengths places body first source) child w i n (now (counts .entry))) (now (room .entry)) r (now (counts .entry)) (now (room .exit))) ⌝ }
+{
+    if 32 <= i + 1 {
+        return 12;
+    }
+    let o = plan_words::scale(plan_words::grow(plan_words::rows_of(counts, i), 1), w);
+    let last = plan_words::rows_of(counts, i + 1);
+    room_writes::put_repeated(state, parts, room, write, i, 1, o, w, n, last);
+    0
+}

@@ -1,2 +1,0 @@
--- The definitions that the laws of `lent` cite.
-pub mod Lent

@@ -1,2 +1,0 @@
--- Laws of `lent_entries`.
-pub mod Laws

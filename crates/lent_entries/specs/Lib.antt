@@ -1,2 +1,0 @@
--- The definitions that the contracts of `lent_entries` cite.
-pub mod Entries

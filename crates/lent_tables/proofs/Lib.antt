@@ -1,2 +1,0 @@
--- What the proofs of `lent_tables`, and of code over the lent tables, go by.
-pub mod Laws

@@ -1,2 +1,0 @@
--- The definitions that the contracts of `lent_tables` cite.
-pub mod Lent

@@ -1,0 +1,380 @@
+// What a walk does at a node with children beside their own walk: the numbers of a row, the ends of runs, ids and positions of nulls.
+// The answer is 0 or the ground of refusal; a walk that only tries changes the counters alone.
+pub mod lookups;
+
+ghost use mathlib.Core.Path.{_≡_};
+ghost use mathlib.Core.Bool.{Bool, _&&_};
+ghost use mathlib.Core.List.{List, []};
+ghost use Prim.Native.Nat.{ℕ, suc, _+_, _*_, _<_, _≤_, _^_};
+ghost use lib.ListN.{length};
+ghost use lib.Dec.{ltb};
+ghost use Rattle.columnar.specs.Types.{half};
+ghost use Rattle.walk.specs.State.{bytesOf, endOf, rows, place, lengthOf, offsetOf, rowsIn};
+ghost use Rattle.walk.specs.Log.{Did};
+ghost use Rattle.walk.specs.Copy.{Walk, isWidth, runsAt};
+ghost use Rattle.walk.specs.Nulls.{nullableChild, noHome};
+ghost use Rattle.leaf_walk.specs.Join.{join};
+ghost use Rattle.nested_rows.specs.Numbers.{listNumbers, denseNumbers, runsReady, runNumbers, nullIds, nullPositions, nullEnd, longerEnd};
+
+mod gaps;
+
+use array_data::lent_tables;
+use run_ends::LogicalRow;
+use run_ends::PhysicalRun;
+use run_ends::Runs;
+use walk::plan_words;
+
+// Whether v + n is below half of the numbers of w bytes.
+pub fn sum_fits(w: u64, v: u64, n: u64) -> bool
+    requires { ⌜ ((w ≡ 2 → ⊥) → (w ≡ 4 → ⊥) → w ≡ 8) ⌝ }
+    ensures { λ r. ⌜ r ≡ ltb (v + n) (half w) ⌝ }
+{
+    let sum = plan_words::grow(v, n);
+    if w == 2 {
+        return sum < 32768;
+    }
+    if w == 4 {
+        return sum < 2147483648;
+    }
+    sum < 9223372036854775808
+}
+
+// Whether the rows of both buffers of node i stand in the body: entries of v bytes and of w bytes.
+pub fn pairs_in(
+    places: &[u32],
+    body: &[u8],
+    first: usize,
+    i: usize,
+    v: u64,
+    w: u64,
+    slot: u64,
+    n: u64,
+) -> bool
+    requires { ⌜ (first < 2 ^ 32) × (i < 32) × (slot + n < 2 ^ 63) × (v ≤ 16) × (w ≤ 16) ⌝ }
+    ensures { λ r. ⌜ ((state parts lengths : List ℕ) (source : ℕ) → r ≡ (rowsIn (join state parts lengths (now (places .entry)) (now (body .entry)) first source) (place (join state parts lengths (now (places .entry)) (now (body .entry)) first source) i 3) v slot n && rowsIn (join state parts lengths (now (places .entry)) (now (body .entry)) first source) (place (join state parts lengths (now (places .entry)) (now (body .entry)) first source) i 5) w slot n)) ⌝ }
+{
+    if !leaf_walk::rows_in(body, lent_tables::place(places, first + i, 3), v, slot, n) {
+        return false;
+    }
+    leaf_walk::rows_in(body, lent_tables::place(places, first + i, 5), w, slot, n)
+}
+
+// The offset and the size of row r of a list-view.
+pub fn list_numbers(
+    state: &[u64],
+    parts: &[u32],
+    counts: &[u64; 96],
+    room: &mut [u8],
+    write: bool,
+    i: usize,
+    w: u64,
+    r: u64,
+    size: u64,
+) -> u8
+    requires { ⌜ i + 1 < 32 ⌝ }
+    requires { ⌜ ((w ≡ 4 → ⊥) → w ≡ 8) ⌝ }
+    ensures { λ g. ⌜ Did (now (state .entry)) (now (parts .entry)) write (listNumbers w i r size (now (counts .entry))) (now (room .entry)) g (now (counts .entry)) (now (room .exit)) ⌝ }
+{
+    let offset = plan_words::rows_of(counts, i + 1);
+    if !sum_fits(w, offset, size) {
+        return 6;
+    }
+    let o = plan_words::scale(plan_words::grow(plan_words::rows_of(counts, i), r), w);
+    room_writes::put_number(state, parts, room, write, i, 1, o, w, offset);
+    room_writes::put_number(state, parts, room, write, i, 2, o, w, size);
+    0
+}
+
+// The id and the position of row r of a dense union, whose child is node k.
+pub fn dense_numbers(
+    state: &[u64],
+    parts: &[u32],
+    counts: &[u64; 96],
+    room: &mut [u8],
+    write: bool,
+    i: usize,
+    r: u64,
+    k: usize,
+    id: u8,
+) -> u8
+    requires { ⌜ (i < 32) × (k < 32) ⌝ }
+    ensures { λ g. ⌜ Did (now (state .entry)) (now (parts .entry)) write (denseNumbers i r k id (now (counts .entry))) (now (room .entry)) g (now (counts .entry)) (now (room .exit)) ⌝ }
+{
+    let position = plan_words::rows_of(counts, k);
+    if 2147483648 <= position {
+        return 6;
+    }
+    let behind = plan_words::grow(plan_words::rows_of(counts, i), r);
+    room_writes::put_same(state, parts, room, write, i, 1, behind, 1, id);
+    let o = plan_words::scale(behind, 4);
+    room_writes::put_number(state, parts, room, write, i, 2, o, 4, position);
+    0
+}
+
+// Whether nodes i + 1 and i + 2 may be the run ends and the values of a run-end node.
+pub fn has_ends(state: &[u64], i: usize) -> bool
+    requires { ⌜ i < 32 ⌝ }
+    ensures { λ r. ⌜ r ≡ (ltb (suc (suc i)) 32 && isWidth (bytesOf (now (state .entry)) (suc i))) ⌝ }
+{
+    if 30 <= i {
+        return false;
+    }
+    let w = lookups::width_at(state, i + 1);
+    if w == 2 {
+        return true;
+    }
+    if w == 4 {
+        return true;
+    }
+    w == 8
+}
+
+// Whether the run ends of w bytes of node i stand in the body.
+fn ends_in(lengths: &[u64], places: &[u32], body: &[u8], first: usize, i: usize, w: u64) -> bool
+    requires { ⌜ (first < 2 ^ 32) × (i < 32) × (w ≤ 16) ⌝ }
+    ensures { λ r. ⌜ ((state parts : List ℕ) (source : ℕ) → r ≡ rowsIn (join state parts (now (lengths .entry)) (now (places .entry)) (now (body .entry)) first source) (place (join state parts (now (lengths .entry)) (now (places .entry)) (now (body .entry)) first source) i 3) w (offsetOf (join state parts (now (lengths .entry)) (now (places .entry)) (now (body .entry)) first source) i) (lengthOf (join state parts (now (lengths .entry)) (now (places .entry)) (now (body .entry)) first source) i)) ⌝ }
+{
+    let offset = lent_tables::offset_of(lengths, first + i);
+    let n = lent_tables::length_of(lengths, first + i);
+    if 9223372036854775808 <= offset {
+        return false;
+    }
+    if 9223372036854775808 <= n {
+        return false;
+    }
+    leaf_walk::rows_in(body, lent_tables::place(places, first + i, 3), w, offset, n)
+}
+
+// What is asked of a run-end node before its values are copied.
+pub fn runs_ready(
+    state: &[u64],
+    lengths: &[u64],
+    places: &[u32],
+    body: &[u8],
+    counts: &[u64; 96],
+    first: usize,
+    i: usize,
+    n: u64,
+) -> u8
+    requires { ⌜ (first < 2 ^ 32) × (i < 32) ⌝ }
+    ensures { λ g. ⌜ ((parts room : List ℕ) (source : ℕ) (write : Bool) → Did (now (state .entry)) parts write (runsReady (join (now (state .entry)) parts (now (lengths .entry)) (now (places .entry)) (now (body .entry)) first source) i n (now (counts .entry))) room g (now (counts .entry)) room) ⌝ }
+{
+    if !has_ends(state, i) {
+        return 12;
+    }
+    let w = lookups::width_at(state, i + 1);
+    if !sum_fits(w, plan_words::rows_of(counts, i), n) {
+        return 7;
+    }
+    if !ends_in(lengths, places, body, first, i + 1, w) {
+        return 12;
+    }
+    0
+}
+
+// The runs of the n rows from `start` on of the run-end node i, whose ends have w bytes.
+pub fn runs_at(
+    lengths: &[u64],
+    places: &[u32],
+    body: &[u8],
+    first: usize,
+    i: usize,
+    w: u64,
+    start: LogicalRow,
+    n: u64,
+) -> Runs
+    requires { ⌜ (first < 2 ^ 32) × (i + 2 < 32) × (start .0 + n < 2 ^ 63) ⌝ }
+    requires { ⌜ ((w ≡ 2 → ⊥) → (w ≡ 4 → ⊥) → w ≡ 8) ⌝ }
+    requires { ⌜ place (join [] [] (now lengths) (now places) (now body) first 0) (suc i) 3 + w * (offsetOf (join [] [] (now lengths) (now places) (now body) first 0) (suc i) + lengthOf (join [] [] (now lengths) (now places) (now body) first 0) (suc i)) ≤ length (now body) ⌝ }
+    ensures { λ r. ⌜ ((state parts : List ℕ) (source : ℕ) (child : Walk) → r ≡ runsAt (join state parts (now (lengths .entry)) (now (places .entry)) (now (body .entry)) first source) child w i (start .0) n) ⌝ }
+{
+    let at = lent_tables::place(places, first + i + 1, 3) as u64;
+    let from = at + w * lent_tables::offset_of(lengths, first + i + 1);
+    let m = lent_tables::length_of(lengths, first + i + 1);
+    lookups::runs_of(
+        body,
+        from as usize,
+        m as usize,
+        w,
+        start,
+        LogicalRow(start.0 + n),
+    )
+}
+
+// The ends of `count` runs from `run` on, clipped to the n rows from `start` on and put behind the row `last`.
+pub fn run_numbers(
+    state: &[u64],
+    parts: &[u32],
+    lengths: &[u64],
+    places: &[u32],
+    body: &[u8],
+    counts: &mut [u64; 96],
+    room: &mut [u8],
+    write: bool,
+    first: usize,
+    i: usize,
+    w: u64,
+    start: LogicalRow,
+    n: u64,
+    last: u64,
+    run: PhysicalRun,
+    count: usize,
+) -> u8
+    requires { ⌜ (first < 2 ^ 32) × (i + 2 < 32) × (start .0 + n < 2 ^ 63) × (last + n < half w) ⌝ }
+    requires { ⌜ ((w ≡ 2 → ⊥) → (w ≡ 4 → ⊥) → w ≡ 8) ⌝ }
+    requires { ⌜ place (join [] [] (now lengths) (now places) (now body) first 0) (suc i) 3 + w * (offsetOf (join [] [] (now lengths) (now places) (now body) first 0) (suc i) + (run .0 + count)) ≤ length (now body) ⌝ }
+    ensures { λ g. ⌜ ((source : ℕ) → Did (now (state .entry)) (now (parts .entry)) write (runNumbers (join (now (state .entry)) (now (parts .entry)) (now (lengths .entry)) (now (places .entry)) (now (body .entry)) first source) w i (start .0) n last (run .0) count (now (counts .entry))) (now (room .entry)) g (now (counts .exit)) (now (room .exit))) ⌝ }
+{
+    let at = lent_tables::place(places, first + i + 1, 3) as u64;
+    let ends = at + w * lent_tables::offset_of(lengths, first + i + 1);
+    let from = ends + w * (run.0 as u64);
+    let stop = start.0 + n;
+    let o = plan_words::scale(plan_words::rows_of(counts, i + 1), w);
+    room_writes::put_run_ends(
+        state,
+        parts,
+        room,
+        write,
+        i + 1,
+        1,
+        o,
+        w,
+        body,
+        from as usize,
+        count as u64,
+        start,
+        LogicalRow(stop),
+        last,
+    );
+    gaps::count_runs(counts, i, count as u64);
+    0
+}
+
+// The child that a union's nulls go to: the first nullable one, or 32.
+pub fn null_home(state: &[u64], i: usize) -> usize
+    requires { ⌜ i < 32 ⌝ }
+    ensures { λ r. ⌜ r ≡ nullableChild (now (state .entry)) (endOf (now (state .entry)) i) 32 (suc i) ⌝ }
+    ensures { λ r. ⌜ r ≤ 32 ⌝ }
+{
+    lookups::nullable_child(state, plan_words::end_of(state, i), i + 1)
+}
+
+// The ground where there is none.
+pub fn no_home(state: &[u64], i: usize) -> u8
+    requires { ⌜ i < 32 ⌝ }
+    ensures { λ r. ⌜ r ≡ noHome (now (state .entry)) i ⌝ }
+{
+    if i + 1 < plan_words::end_of(state, i) {
+        return 5;
+    }
+    4
+}
+
+// n ids of node h.
+pub fn null_ids(
+    state: &[u64],
+    parts: &[u32],
+    counts: &[u64; 96],
+    room: &mut [u8],
+    write: bool,
+    i: usize,
+    h: usize,
+    n: u64,
+) -> u8
+    requires { ⌜ (i < 32) × (h < 32) ⌝ }
+    ensures { λ g. ⌜ Did (now (state .entry)) (now (parts .entry)) write (nullIds (now (state .entry)) i h n (now (counts .entry))) (now (room .entry)) g (now (counts .entry)) (now (room .exit)) ⌝ }
+{
+    let o = plan_words::rows_of(counts, i);
+    room_writes::put_same(
+        state,
+        parts,
+        room,
+        write,
+        i,
+        1,
+        o,
+        n,
+        plan_words::id_of(state, h),
+    );
+    0
+}
+
+// n ids and positions of node h.
+pub fn null_positions(
+    state: &[u64],
+    parts: &[u32],
+    counts: &[u64; 96],
+    room: &mut [u8],
+    write: bool,
+    i: usize,
+    h: usize,
+    n: u64,
+) -> u8
+    requires { ⌜ (i < 32) × (h < 32) ⌝ }
+    ensures { λ g. ⌜ Did (now (state .entry)) (now (parts .entry)) write (nullPositions (now (state .entry)) i h n (now (counts .entry))) (now (room .entry)) g (now (counts .entry)) (now (room .exit)) ⌝ }
+{
+    let position = plan_words::rows_of(counts, h);
+    if 2147483648 < plan_words::grow(position, n) {
+        return 6;
+    }
+    let r = null_ids(state, parts, counts, room, write, i, h, n);
+    if r != 0 {
+        return r;
+    }
+    let o = plan_words::scale(plan_words::rows_of(counts, i), 4);
+    room_writes::put_counted(state, parts, room, write, i, 2, o, n, position);
+    0
+}
+
+// The end of a run of n nulls.
+pub fn null_end(
+    state: &[u64],
+    parts: &[u32],
+    counts: &mut [u64; 96],
+    room: &mut [u8],
+    write: bool,
+    i: usize,
+    n: u64,
+) -> u8
+    requires { ⌜ i + 2 < 32 ⌝ }
+    requires { ⌜ ((bytesOf (now state) (suc i) ≡ 2 → ⊥) → (bytesOf (now state) (suc i) ≡ 4 → ⊥) → bytesOf (now state) (suc i) ≡ 8) ⌝ }
+    ensures { λ g. ⌜ Did (now (state .entry)) (now (parts .entry)) write (nullEnd (now (state .entry)) i n (now (counts .entry))) (now (room .entry)) g (now (counts .exit)) (now (room .exit)) ⌝ }
+{
+    let w = lookups::width_at(state, i + 1);
+    let last = plan_words::rows_of(counts, i);
+    if !sum_fits(w, last, n) {
+        return 7;
+    }
+    let o = plan_words::scale(plan_words::rows_of(counts, i + 1), w);
+    room_writes::put_number(state, parts, room, write, i + 1, 1, o, w, last + n);
+    gaps::count_null_run(counts, i);
+    0
+}
+
+// The end of the last run, n nulls later: 12 where there is no run.
+pub fn longer_end(
+    state: &[u64],
+    parts: &[u32],
+    counts: &[u64; 96],
+    room: &mut [u8],
+    write: bool,
+    i: usize,
+    n: u64,
+) -> u8
+    requires { ⌜ i + 2 < 32 ⌝ }
+    requires { ⌜ ((bytesOf (now state) (suc i) ≡ 2 → ⊥) → (bytesOf (now state) (suc i) ≡ 4 → ⊥) → bytesOf (now state) (suc i) ≡ 8) ⌝ }
+    ensures { λ g. ⌜ Did (now (state .entry)) (now (parts .entry)) write (longerEnd (now (state .entry)) i n (now (counts .entry))) (now (room .entry)) g (now (counts .entry)) (now (room .exit)) ⌝ }
+{
+    let runs = plan_words::rows_of(counts, i + 1);
+    if runs == 0 {
+        return 12;
+    }
+    let w = lookups::width_at(state, i + 1);
+    let last = plan_words::rows_of(counts, i);
+    if !sum_fits(w, last, n) {
+        return 7;
+    }
+    let o = plan_words::scale(runs - 1, w);
+    room_writes::put_number(state, parts, room, write, i + 1, 1, o, w, last + n);
+    0
+}

@@ -1,2 +1,0 @@
--- Laws of `node_table`.
-pub mod Laws

@@ -1,2 +1,0 @@
--- The definitions that the contracts of `node_table` cite.
-pub mod Words

@@ -1,2 +1,0 @@
--- Laws of `pattern_sums`.
-pub mod Laws

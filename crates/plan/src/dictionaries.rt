@@ -1,0 +1,276 @@
+// What an opening settles before the first order: which nodes keep nulls, which dictionaries are shared, and whether the keys fit.
+// Node i of source s is node sources[2 * s] + i of the tables (docs/FORMAT.md).
+ghost use mathlib.Core.Path.{_≡_};
+ghost use mathlib.Core.Bool.{Bool, true};
+ghost use mathlib.Core.List.{List};
+ghost use mathlib.Core.Option.{some};
+ghost use Prim.Native.Nat.{ℕ, _+_, _<_, _^_};
+ghost use lib.Dec.{leb, eqb};
+ghost use Rattle.columnar.specs.Types.{Number, limit};
+ghost use Rattle.columnar.specs.Array.{nullCount};
+ghost use Rattle.model.specs.Opening.{anyNull, keeps, sameList, ptrEq, shared, entriesBefore, startOfKeys};
+ghost use Rattle.formats.specs.Code.{isInteger};
+ghost use Rattle.formats.specs.Types.{numberOf};
+ghost use Rattle.array_data.specs.Typed.{validStart};
+ghost use Rattle.array_data.specs.lent_tables.Lent.{tables};
+ghost use Rattle.plan.specs.dictionaries.Sources.{firstOf, arrayOf, arrayAt, startsOf, dictWith, dictAt, Countable, capped, keyFits};
+use array_data::lent_tables;
+
+// Which node of the tables is node i of source s.
+pub fn node_of(sources: &[u32], s: usize, i: usize) -> usize
+    requires { ⌜ (s < 2 ^ 32) × (i < 2 ^ 32) ⌝ }
+    ensures { λ r. ⌜ r ≡ firstOf (now (sources .entry)) s + i ⌝ }
+    ensures { λ r. ⌜ r < 2 ^ 33 ⌝ }
+{
+    (lent_tables::at_u32(sources, 2 * s) as usize) + i
+}
+
+// Whether a + b is at most `top`.
+fn sum_fits(a: u64, b: u64, top: u64) -> bool
+    ensures { λ r. ⌜ r ≡ leb (a + b) top ⌝ }
+{
+    if top < a {
+        return false;
+    }
+    b <= top - a
+}
+
+// ---- nulls
+
+// How many rows of node k are null.
+pub fn null_count(lengths: &[u64], places: &[u32], body: &[u8], k: usize) -> u64
+    requires { ⌜ Countable (tables (now lengths) (now places) (now body)) k ⌝ }
+    ensures { λ r. ⌜ r ≡ nullCount (arrayOf (tables (now (lengths .entry)) (now (places .entry)) (now (body .entry))) k) ⌝ }
+{
+    if lent_tables::place(places, k, 0) == 0 {
+        return 0;
+    }
+    let n = lent_tables::length_of(lengths, k);
+    if n == 0 {
+        return 0;
+    }
+    let from = lent_tables::place(places, k, 1);
+    let off = lent_tables::offset_of(lengths, k);
+    bits::count_zeros(body, from as usize, off as usize, n as usize) as u64
+}
+
+// Whether one of the first m sources has a null at node i.
+pub fn any_null(
+    sources: &[u32],
+    lengths: &[u64],
+    places: &[u32],
+    body: &[u8],
+    m: usize,
+    i: usize,
+) -> bool
+    requires { ⌜ (m < 2 ^ 32) × (i < 2 ^ 32) × ((s : ℕ) → s < m → Countable (tables (now lengths) (now places) (now body)) (firstOf (now sources) s + i)) ⌝ }
+    ensures { λ r. ⌜ r ≡ anyNull m (arrayAt (tables (now (lengths .entry)) (now (places .entry)) (now (body .entry))) (now (sources .entry)) i) ⌝ }
+{
+    let mut s = 0;
+    while s < m {
+        let k = node_of(sources, s, i);
+        if null_count(lengths, places, body, k) != 0 {
+            return true;
+        }
+        s += 1;
+    }
+    false
+}
+
+// Whether node i keeps nulls, where `above` says that the caller or the node above it asks for them.
+pub fn keeps(
+    above: bool,
+    sources: &[u32],
+    lengths: &[u64],
+    places: &[u32],
+    body: &[u8],
+    m: usize,
+    i: usize,
+) -> bool
+    requires { ⌜ (m < 2 ^ 32) × (i < 2 ^ 32) × ((s : ℕ) → s < m → Countable (tables (now lengths) (now places) (now body)) (firstOf (now sources) s + i)) ⌝ }
+    ensures { λ r. ⌜ r ≡ keeps above m (arrayAt (tables (now (lengths .entry)) (now (places .entry)) (now (body .entry))) (now (sources .entry)) i) ⌝ }
+{
+    if above {
+        return true;
+    }
+    any_null(sources, lengths, places, body, m, i)
+}
+
+// ---- dictionaries
+
+// Whether no row of node k is null, whatever the tables hold: a bit that the body does not have is a zero.
+fn has_no_null(lengths: &[u64], places: &[u32], body: &[u8], k: usize) -> bool
+    requires { ⌜ k < 2 ^ 33 ⌝ }
+    ensures { λ r. ⌜ r ≡ eqb (nullCount (arrayOf (tables (now (lengths .entry)) (now (places .entry)) (now (body .entry))) k)) 0 ⌝ }
+{
+    if lent_tables::place(places, k, 0) == 0 {
+        return true;
+    }
+    let n = lent_tables::length_of(lengths, k);
+    if n == 0 {
+        return true;
+    }
+    let off = lent_tables::offset_of(lengths, k);
+    let from = lent_tables::place(places, k, 1);
+    let bytes = lent_tables::part_len(body, from, lent_tables::place(places, k, 2));
+    if !sum_fits(off, n, 8 * (bytes as u64)) {
+        return false;
+    }
+    null_count(lengths, places, body, k) == 0
+}
+
+// One more than where the validity of node k begins; 0 where it has none, or none with a zero bit among the rows.
+fn valid_start(lengths: &[u64], places: &[u32], body: &[u8], k: usize) -> u64
+    requires { ⌜ k < 2 ^ 33 ⌝ }
+    ensures { λ r. ⌜ r ≡ validStart (tables (now (lengths .entry)) (now (places .entry)) (now (body .entry))) k ⌝ }
+{
+    if has_no_null(lengths, places, body, k) {
+        return 0;
+    }
+    (lent_tables::place(places, k, 1) as u64) + 1
+}
+
+// Whether the values of two dictionaries, the nodes a and b, begin at the same places: byte strings where `string`, else numbers.
+fn same_starts(
+    lengths: &[u64],
+    places: &[u32],
+    body: &[u8],
+    a: usize,
+    b: usize,
+    string: bool,
+) -> bool
+    requires { ⌜ (a < 2 ^ 33) × (b < 2 ^ 33) ⌝ }
+    ensures { λ r. ⌜ r ≡ sameList (startsOf (tables (now (lengths .entry)) (now (places .entry)) (now (body .entry))) string a) (startsOf (tables (now (lengths .entry)) (now (places .entry)) (now (body .entry))) string b) ⌝ }
+{
+    let valid = valid_start(lengths, places, body, a) == valid_start(lengths, places, body, b);
+    let first = lent_tables::place(places, a, 3) == lent_tables::place(places, b, 3);
+    let second = lent_tables::place(places, a, 5) == lent_tables::place(places, b, 5);
+    valid & first & (second | !string)
+}
+
+// Whether the dictionaries whose values are the nodes a and b are the same one.
+pub fn ptr_eq(
+    lengths: &[u64],
+    places: &[u32],
+    body: &[u8],
+    a: usize,
+    b: usize,
+    string: bool,
+) -> bool
+    requires { ⌜ (a < 2 ^ 33) × (b < 2 ^ 33) ⌝ }
+    ensures { λ r. ⌜ r ≡ ptrEq (dictWith (tables (now (lengths .entry)) (now (places .entry)) (now (body .entry))) string a) (dictWith (tables (now (lengths .entry)) (now (places .entry)) (now (body .entry))) string b) ⌝ }
+{
+    let offset = lent_tables::offset_of(lengths, a) == lent_tables::offset_of(lengths, b);
+    let length = lent_tables::length_of(lengths, a) == lent_tables::length_of(lengths, b);
+    offset & length & same_starts(lengths, places, body, a, b, string)
+}
+
+// Whether all neighbouring sources of the first m share the dictionary whose values are node i.
+pub fn all_share(
+    sources: &[u32],
+    lengths: &[u64],
+    places: &[u32],
+    body: &[u8],
+    m: usize,
+    i: usize,
+    string: bool,
+) -> bool
+    requires { ⌜ (m < 2 ^ 32) × (i < 2 ^ 32) ⌝ }
+    ensures { λ r. ⌜ r ≡ shared m (dictAt (tables (now (lengths .entry)) (now (places .entry)) (now (body .entry))) (now (sources .entry)) string i) ⌝ }
+{
+    let mut s = 0;
+    while s + 1 < m {
+        let a = node_of(sources, s, i);
+        let b = node_of(sources, s + 1, i);
+        if !ptr_eq(lengths, places, body, a, b, string) {
+            return false;
+        }
+        s += 1;
+    }
+    true
+}
+
+// ---- keys
+
+// The sum of two numbers, or the largest of 64 bits where it is above that.
+fn add_capped(a: u64, b: u64) -> u64
+    ensures { λ r. ⌜ r ≡ capped (a + b) ⌝ }
+{
+    if 18446744073709551615 - a < b {
+        return 18446744073709551615;
+    }
+    a + b
+}
+
+// How many entries the dictionaries of the sources before source j have, or the largest number of 64 bits where there are more.
+// It does not depend on the kind, the places and the bytes of the entries.
+pub fn entries_before(sources: &[u32], lengths: &[u64], i: usize, j: usize) -> u64
+    requires { ⌜ (i < 2 ^ 32) × (j < 2 ^ 32) ⌝ }
+    ensures { λ r. ⌜ ((places body : List ℕ) (string : Bool) → r ≡ capped (entriesBefore (dictAt (tables (now (lengths .entry)) places body) (now (sources .entry)) string i) j)) ⌝ }
+{
+    let mut sum: u64 = 0;
+    let mut s = 0;
+    while s < j {
+        let k = node_of(sources, s, i);
+        sum = add_capped(sum, lent_tables::length_of(lengths, k));
+        s += 1;
+    }
+    sum
+}
+
+// What is added to the keys of source j: 0 if all m share, else the entries of earlier sources, or the largest number of 64 bits.
+pub fn start_of_keys(
+    sources: &[u32],
+    lengths: &[u64],
+    places: &[u32],
+    body: &[u8],
+    m: usize,
+    i: usize,
+    string: bool,
+    j: usize,
+) -> u64
+    requires { ⌜ (m < 2 ^ 32) × (i < 2 ^ 32) × (j < 2 ^ 32) ⌝ }
+    ensures { λ r. ⌜ r ≡ capped (startOfKeys m (dictAt (tables (now (lengths .entry)) (now (places .entry)) (now (body .entry))) (now (sources .entry)) string i) j) ⌝ }
+{
+    if all_share(sources, lengths, places, body, m, i, string) {
+        return 0;
+    }
+    entries_before(sources, lengths, i, j)
+}
+
+// The largest key of each integer format, by its code.
+const LARGEST: [u64; 9] = [
+    0,
+    127,
+    255,
+    32767,
+    65535,
+    2147483647,
+    4294967295,
+    9223372036854775807,
+    18446744073709551615,
+];
+
+fn largest_key(code: u8) -> u64
+    requires { ⌜ isInteger code ≡ true ⌝ }
+    ensures { λ r. ⌜ ((n : Number) → numberOf code ≡ some n → limit n ≡ r + 1) ⌝ }
+{
+    let k = code as usize;
+    LARGEST[k]
+}
+
+// Whether the keys of a source fit the key format of this code, where `start` is added to them and its dictionary has n entries:
+// ground 8 where not.
+pub fn key_fits(start: u64, n: u64, code: u8) -> bool
+    requires { ⌜ isInteger code ≡ true ⌝ }
+    ensures { λ r. ⌜ ((k : Number) → numberOf code ≡ some k → r ≡ keyFits k start n) ⌝ }
+{
+    let top = largest_key(code);
+    if top < start {
+        return false;
+    }
+    if n == 0 {
+        return true;
+    }
+    sum_fits(start, n - 1, top)
+}

@@ -1,2 +1,0 @@
--- What the contracts of `rows` cite beside the walk itself: its steps that a function takes together.
-pub mod Numbers

@@ -1,2 +1,0 @@
--- The definitions that the theorems of `run_copy` cite.
-pub mod Extend

@@ -1,0 +1,5 @@
+-- The laws of `run_ends::copies`.
+pub mod Extend
+pub mod Joined
+pub mod Written
+pub mod Table

@@ -1,0 +1,2 @@
+-- The definitions that the theorems of `run_ends::copies` cite.
+pub mod Extend

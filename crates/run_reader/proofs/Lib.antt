@@ -1,3 +1,0 @@
--- The laws of `run_reader`.
-pub mod Laws
-pub mod Format

@@ -1,0 +1,2 @@
+-- The definitions that the contracts of `sound` cite.
+pub mod trying

@@ -1,0 +1,18 @@
+// What a walk that only tries starts from: counters whose nulls are full, so that it reads no validity bit.
+ghost use mathlib.Core.Path.{_≡_};
+ghost use Prim.Native.Nat.{_≤_};
+ghost use lib.ListN.{length};
+ghost use Rattle.sound.specs.trying.Alike.{Alike, Full};
+
+// Fills the null counters of the first n nodes.
+pub fn uncount(counts: &mut [u64; 96], n: usize)
+    requires { ⌜ n ≤ 32 ⌝ }
+    ensures { λ _. ⌜ Alike (now (counts .exit)) (now (counts .entry)) ⌝ }
+    ensures { λ _. ⌜ (length (now (counts .entry)) ≡ 96 → Full n (now (counts .exit))) ⌝ }
+{
+    let mut i = 0;
+    while i < n {
+        counts[3 * i + 1] = u64::MAX;
+        i += 1;
+    }
+}

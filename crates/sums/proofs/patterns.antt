@@ -1,0 +1,2 @@
+-- Laws of `sums::patterns`.
+pub mod Laws

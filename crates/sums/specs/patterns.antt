@@ -1,0 +1,2 @@
+-- The definitions that the contracts of `sums::patterns` cite.
+pub mod Parts

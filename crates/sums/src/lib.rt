@@ -1,0 +1,5 @@
+// sums
+pub mod fractions;
+pub mod patterns;
+pub mod tally;
+pub mod wide;

@@ -1,2 +1,0 @@
--- The laws of `view_row`.
-pub mod Laws

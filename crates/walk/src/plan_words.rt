@@ -1,0 +1,214 @@
+// The state and the counters of a join as numbers, and where a write goes.
+// A walk that only tries makes no write; nor is a write made that would leave the room.
+ghost use mathlib.Core.Path.{_≡_};
+ghost use Prim.Native.Nat.{_+_, _*_, _<_, _≤_, _^_};
+ghost use lib.ListN.{getD};
+ghost use Rattle.walk.specs.State.{codeOf, dictionaryOf, endOf, idOf, nullableOf, keepsOf, partOf, baseOf, rows, bytes, grown, addRows, addNulls, setBytes, scaled};
+ghost use Rattle.walk.specs.Log.{startOf};
+ghost use Rattle.walk.specs.plan_words.Target.{targetOf, maskTargetOf};
+use array_data::lent_tables;
+
+// Where a write goes in the room, if it is made.
+pub enum Goal {
+    At(usize),
+    Skip,
+}
+
+// The code of node i's format.
+pub fn code_of(state: &[u64], i: usize) -> u8
+    requires { ⌜ i < 32 ⌝ }
+    ensures { λ r. ⌜ r ≡ codeOf (now (state .entry)) i ⌝ }
+{
+    (lent_tables::at_u64(state, 8 * i) % 256) as u8
+}
+
+pub fn dictionary_of(state: &[u64], i: usize) -> u64
+    requires { ⌜ i < 32 ⌝ }
+    ensures { λ r. ⌜ r ≡ dictionaryOf (now (state .entry)) i ⌝ }
+{
+    lent_tables::at_u64(state, 8 * i + 1)
+}
+
+// Where node i's subtree ends, at most 32.
+pub fn end_of(state: &[u64], i: usize) -> usize
+    requires { ⌜ i < 32 ⌝ }
+    ensures { λ r. ⌜ r ≡ endOf (now (state .entry)) i ⌝ }
+    ensures { λ r. ⌜ r ≤ 32 ⌝ }
+{
+    let e = lent_tables::at_u64(state, 8 * i + 2);
+    if 32 < e {
+        return 32;
+    }
+    e as usize
+}
+
+// The id that node i has as the child of a union.
+pub fn id_of(state: &[u64], i: usize) -> u8
+    requires { ⌜ i < 32 ⌝ }
+    ensures { λ r. ⌜ r ≡ idOf (now (state .entry)) i ⌝ }
+{
+    (lent_tables::at_u64(state, 8 * i + 3) % 256) as u8
+}
+
+pub fn nullable_of(state: &[u64], i: usize) -> u64
+    requires { ⌜ i < 32 ⌝ }
+    ensures { λ r. ⌜ r ≡ nullableOf (now (state .entry)) i ⌝ }
+{
+    lent_tables::at_u64(state, 8 * i + 4)
+}
+
+// 0 where node i keeps no nulls.
+pub fn keeps_of(state: &[u64], i: usize) -> u64
+    requires { ⌜ i < 32 ⌝ }
+    ensures { λ r. ⌜ r ≡ keepsOf (now (state .entry)) i ⌝ }
+{
+    lent_tables::at_u64(state, 8 * i + 5)
+}
+
+// The part of node i's first buffer.
+pub fn part_of(state: &[u64], i: usize) -> usize
+    requires { ⌜ i < 32 ⌝ }
+    ensures { λ r. ⌜ r ≡ partOf (now (state .entry)) i ⌝ }
+    ensures { λ r. ⌜ r < 4294967296 ⌝ }
+{
+    (lent_tables::at_u64(state, 8 * i + 6) % 4294967296) as usize
+}
+
+// What is added to source s's keys or buffer numbers at node i.
+pub fn base_of(state: &[u64], s: usize, i: usize) -> u64
+    requires { ⌜ (s < 4294967296) × (i < 32) ⌝ }
+    ensures { λ r. ⌜ r ≡ baseOf (now (state .entry)) s i ⌝ }
+{
+    lent_tables::at_u64(state, 352 + (32 * s + i))
+}
+
+pub fn rows_of(counts: &[u64; 96], i: usize) -> u64
+    requires { ⌜ i < 32 ⌝ }
+    ensures { λ r. ⌜ r ≡ rows (now (counts .entry)) i ⌝ }
+{
+    counts[3 * i]
+}
+
+pub fn bytes_of(counts: &[u64; 96], i: usize) -> u64
+    requires { ⌜ i < 32 ⌝ }
+    ensures { λ r. ⌜ r ≡ bytes (now (counts .entry)) i ⌝ }
+{
+    counts[3 * i + 2]
+}
+
+// A counter n higher; it stays at the largest number.
+pub fn grow(v: u64, n: u64) -> u64
+    ensures { λ r. ⌜ r ≡ grown v n ⌝ }
+{
+    if u64::MAX - v < n {
+        return u64::MAX;
+    }
+    v + n
+}
+
+// n rows more at node i.
+pub fn add_rows(counts: &mut [u64; 96], i: usize, n: u64)
+    requires { ⌜ i < 32 ⌝ }
+    ensures { λ _. ⌜ now (counts .exit) ≡ addRows i n (now (counts .entry)) ⌝ }
+{
+    counts[3 * i] = grow(counts[3 * i], n);
+}
+
+// n nulls more at node i.
+pub fn add_nulls(counts: &mut [u64; 96], i: usize, n: u64)
+    requires { ⌜ i < 32 ⌝ }
+    ensures { λ _. ⌜ now (counts .exit) ≡ addNulls i n (now (counts .entry)) ⌝ }
+{
+    counts[3 * i + 1] = grow(counts[3 * i + 1], n);
+}
+
+// The bytes of node i's data.
+pub fn set_bytes(counts: &mut [u64; 96], i: usize, n: u64)
+    requires { ⌜ i < 32 ⌝ }
+    ensures { λ _. ⌜ now (counts .exit) ≡ setBytes i n (now (counts .entry)) ⌝ }
+{
+    counts[3 * i + 2] = n;
+}
+
+// r entries of w bytes, or a number that is beyond every room.
+pub fn scale(r: u64, w: u64) -> u64
+    requires { ⌜ (1 ≤ w) × (w ≤ 16) ⌝ }
+    ensures { λ s. ⌜ s ≡ scaled r w ⌝ }
+{
+    if r < 1152921504606846976 {
+        return r * w;
+    }
+    u64::MAX
+}
+
+// Where the part of buffer b of node i starts; buffer 0 is the validity.
+fn start_of(state: &[u64], parts: &[u32], i: usize, b: usize) -> u32
+    requires { ⌜ (i < 32) × (b < 3) ⌝ }
+    ensures { λ r. ⌜ r ≡ startOf (now (state .entry)) (now (parts .entry)) i b ⌝ }
+{
+    let p = part_of(state, i) + b;
+    if p == 0 {
+        return lent_tables::at_u32(parts, 0);
+    }
+    lent_tables::at_u32(parts, 2 * (p - 1))
+}
+
+// Where n bytes from byte o of buffer b of node i on are written in a room of m bytes.
+pub fn target(
+    state: &[u64],
+    parts: &[u32],
+    m: usize,
+    write: bool,
+    i: usize,
+    b: usize,
+    o: u64,
+    n: u64,
+) -> Goal
+    requires { ⌜ (i < 32) × (b < 3) ⌝ }
+    ensures { λ r. ⌜ r ≡ targetOf (now (state .entry)) (now (parts .entry)) m write i b o n ⌝ }
+{
+    if !write {
+        return Goal::Skip;
+    }
+    if 1152921504606846976 <= o {
+        return Goal::Skip;
+    }
+    if 1152921504606846976 <= n {
+        return Goal::Skip;
+    }
+    let at = (start_of(state, parts, i, b) as u64) + o;
+    if (m as u64) < at + n {
+        return Goal::Skip;
+    }
+    Goal::At(at as usize)
+}
+
+// The validity of node i, where n bits from its bit p on are written in a room of m bytes.
+pub fn mask_target(
+    state: &[u64],
+    parts: &[u32],
+    m: usize,
+    write: bool,
+    i: usize,
+    p: u64,
+    n: u64,
+) -> Goal
+    requires { ⌜ i < 32 ⌝ }
+    ensures { λ r. ⌜ r ≡ maskTargetOf (now (state .entry)) (now (parts .entry)) m write i p n ⌝ }
+{
+    if !write {
+        return Goal::Skip;
+    }
+    if 1152921504606846976 <= p {
+        return Goal::Skip;
+    }
+    if 1152921504606846976 <= n {
+        return Goal::Skip;
+    }
+    let start = start_of(state, parts, i, 0) as u64;
+    let bits = 8 * start + p + n;
+    if m < utils::bit_room(bits as usize) {
+        return Goal::Skip;
+    }
+    Goal::At(start as usize)
+}

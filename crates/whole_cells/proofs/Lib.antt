@@ -1,3 +1,0 @@
--- Laws of `whole_cells`.
-pub mod Codes
-pub mod Rows

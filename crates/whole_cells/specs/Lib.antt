@@ -1,2 +1,0 @@
--- The definitions that the contracts of `whole_cells` cite.
-pub mod Cells
