@@ -1,7 +1,2 @@
-// refinement
-pub mod finishing;
-pub mod log_in_room;
-pub mod opening;
-pub mod orders;
-pub mod plan_is_type;
-pub mod walk_is_model;
+// Theory: that the walk of an order does what the model does, that the lent room holds what a walk writes, that a plan's numbers stand
+// for a type, and what orders, openings and finishing come to on lent memory.

@@ -1,4 +1,4 @@
-// The walk of an order over the nodes of a column, as definitions: this crate has no code of its own.
+// The walk of an order over the nodes of a column, as definitions, and the words of the plan and the counters that it reads and raises.
 pub mod plan_words;
 
 // How many counters a node has: rows, nulls and bytes.
