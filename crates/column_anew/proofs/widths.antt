@@ -1,0 +1,20 @@
+-- The laws of the converter between widths.
+pub mod Fits
+pub mod Cut
+pub mod Plain
+pub mod Node
+pub mod Lists
+pub mod Unions
+pub mod Runs
+pub mod Keys
+pub mod Types
+pub mod Convert
+pub mod Kept
+pub mod Decide
+pub mod Grounds
+pub mod Widen
+pub mod Narrow
+pub mod Back
+pub mod Wider
+pub mod OneCopy
+pub mod Examples
