@@ -3,7 +3,8 @@
 #     make                          builds target/c/liblafkuno.a and target/c/liblafkuno.so
 #     make install PREFIX=/usr      headers, libraries, lafkuno.pc, a CMake config; DESTDIR is put in front
 VERSION := $(shell sed -n 's/^.define LAFKUNO_VERSION "\(.*\)"/\1/p' include/lafkuno.h)
-MAJOR := $(firstword $(subst ., ,$(VERSION)))
+# the soname: while the first number is 0, the second one changes with the calls
+SERIES := $(word 1,$(subst ., ,$(VERSION))).$(word 2,$(subst ., ,$(VERSION)))
 LAFKUNO_LIB_DIR ?= target/staticlib
 CORE := $(LAFKUNO_LIB_DIR)/liblafkuno.a
 OUT ?= target/c
@@ -41,16 +42,16 @@ $(OUT)/liblafkuno.a: $(OUT)/layer/arrow.o $(CORE)
 	$(AR) rcs $@ $< $(OUT)/core/*.o
 
 $(OUT)/$(SHARED): $(OUT)/layer/arrow.o $(CORE)
-	$(CC) -shared -Wl,-soname,liblafkuno.so.$(MAJOR) -Wl,-z,defs $(CFLAGS) $(LDFLAGS) -o $@ $< \
+	$(CC) -shared -Wl,-soname,liblafkuno.so.$(SERIES) -Wl,-z,defs $(CFLAGS) $(LDFLAGS) -o $@ $< \
 	    -Wl,--whole-archive $(CORE) -Wl,--no-whole-archive
-	ln -sf $(SHARED) $(OUT)/liblafkuno.so.$(MAJOR)
-	ln -sf liblafkuno.so.$(MAJOR) $(OUT)/liblafkuno.so
+	ln -sf $(SHARED) $(OUT)/liblafkuno.so.$(SERIES)
+	ln -sf liblafkuno.so.$(SERIES) $(OUT)/liblafkuno.so
 
 # what names the places of an installation
 $(OUT)/package/%: bindings/c/%.in include/lafkuno.h FORCE
 	@mkdir -p $(OUT)/package
 	sed -e 's|@VERSION@|$(VERSION)|g' -e 's|@PREFIX@|$(PREFIX)|g' -e 's|@LIBDIR@|$(LIBDIR)|g' -e 's|@INCLUDEDIR@|$(INCLUDEDIR)|g' \
-	    -e 's|@MAJOR@|$(MAJOR)|g' $< >$@
+	    -e 's|@SERIES@|$(SERIES)|g' $< >$@
 
 PACKAGE := lafkuno.pc lafkunoConfig.cmake lafkunoConfigVersion.cmake
 
@@ -59,8 +60,8 @@ install: all $(addprefix $(OUT)/package/,$(PACKAGE))
 	install -m 644 $(HEADERS) $(DESTDIR)$(INCLUDEDIR)
 	install -m 644 $(OUT)/liblafkuno.a $(DESTDIR)$(LIBDIR)
 	install -m 755 $(OUT)/$(SHARED) $(DESTDIR)$(LIBDIR)
-	ln -sf $(SHARED) $(DESTDIR)$(LIBDIR)/liblafkuno.so.$(MAJOR)
-	ln -sf liblafkuno.so.$(MAJOR) $(DESTDIR)$(LIBDIR)/liblafkuno.so
+	ln -sf $(SHARED) $(DESTDIR)$(LIBDIR)/liblafkuno.so.$(SERIES)
+	ln -sf liblafkuno.so.$(SERIES) $(DESTDIR)$(LIBDIR)/liblafkuno.so
 	install -m 644 $(OUT)/package/lafkuno.pc $(DESTDIR)$(LIBDIR)/pkgconfig
 	install -m 644 $(OUT)/package/lafkunoConfig.cmake $(OUT)/package/lafkunoConfigVersion.cmake $(DESTDIR)$(LIBDIR)/cmake/lafkuno
 

@@ -9,17 +9,17 @@ use timing::{bytes, compare, Random};
 extern "C" {
     fn lafkuno_column_ground(
         formats: *const u8, formats_len: usize, schema: *const u32, schema_len: usize, lengths: *const u64, lengths_len: usize,
-        places: *const u32, places_len: usize, buffers: *const u32, buffers_len: usize, body: *const u8, body_len: usize,
+        places: *const u64, places_len: usize, buffers: *const u64, buffers_len: usize, body: *const u8, body_len: usize,
         first: u32, n: u32,
     ) -> u8;
     fn lafkuno_open_column(
         formats: *const u8, formats_len: usize, schema: *const u32, schema_len: usize, lengths: *const u64, lengths_len: usize,
-        places: *const u32, places_len: usize, buffers: *const u32, buffers_len: usize, body: *const u8, body_len: usize,
+        places: *const u64, places_len: usize, buffers: *const u64, buffers_len: usize, body: *const u8, body_len: usize,
         first: u32, n: u32, room: *mut u64, room_len: usize,
     ) -> u8;
     fn lafkuno_read_row(
-        tree: *const u64, tree_len: usize, lengths: *const u64, lengths_len: usize, places: *const u32, places_len: usize,
-        buffers: *const u32, buffers_len: usize, body: *const u8, body_len: usize, first: u32, row: u64,
+        tree: *const u64, tree_len: usize, lengths: *const u64, lengths_len: usize, places: *const u64, places_len: usize,
+        buffers: *const u64, buffers_len: usize, body: *const u8, body_len: usize, first: u32, row: u64,
         answer: *mut u64, answer_len: usize,
     ) -> u8;
 }
@@ -35,8 +35,8 @@ struct Lent {
     formats: Vec<u8>,
     schema: Vec<u32>,
     lengths: Vec<u64>,
-    places: Vec<u32>,
-    buffers: Vec<u32>,
+    places: Vec<u64>,
+    buffers: Vec<u64>,
     body: Vec<u8>,
 }
 
@@ -54,11 +54,16 @@ impl Lent {
     }
 
     // At a multiple of 64, as Arrow's buffers.
-    fn lay(&mut self, s: &[u8]) -> [u32; 2] {
+    fn lay(&mut self, s: &[u8]) -> [u64; 2] {
         self.body.resize(self.body.len().next_multiple_of(64), 0);
         let at = self.body.len();
         self.body.extend(s);
-        [at as u32, s.len() as u32]
+        [at as u64, s.len() as u64]
+    }
+
+    // The bytes of a place, its start and how many.
+    fn part(&self, p: &[u64]) -> Option<&[u8]> {
+        self.body.get(p[0] as usize..p[0].checked_add(p[1])? as usize)
     }
 
     fn buffer(&mut self, node: usize, number: usize, s: &[u8]) {
@@ -238,7 +243,7 @@ impl<'a> Check<'a> {
 
     fn place(&self, i: usize, j: usize) -> Option<&'a [u8]> {
         let p = &self.lent.places[9 * i + j..9 * i + j + 2];
-        self.lent.body.get(p[0] as usize..p[0] as usize + p[1] as usize)
+        self.lent.part(p)
     }
 
     // The entries of w bytes up to the last slot, and one more for offsets.
@@ -334,10 +339,10 @@ impl<'a> Check<'a> {
     fn views(&self, i: usize, node: &Node) -> Option<bool> {
         let views = self.entries(i, 3, 16, node.slots.end)?;
         let (a, n) = (self.lent.places[9 * i + 7] as usize, self.lent.places[9 * i + 8] as usize);
-        let places = self.lent.buffers.get(2 * a..2 * (a + n))?;
+        let places = self.lent.buffers.get(a.checked_mul(2)?..a.checked_add(n)?.checked_mul(2)?)?;
         let mut datas: [&[u8]; 32] = [&[]; 32];
         for (d, p) in datas.iter_mut().zip(places.chunks_exact(2)) {
-            *d = self.lent.body.get(p[0] as usize..p[0] as usize + p[1] as usize)?;
+            *d = self.lent.part(p)?;
         }
         let good = |v: &[u8]| {
             let word = |at: usize| i32::read(&v[at..]) as u32 as usize;
@@ -407,7 +412,7 @@ impl<'a> Check<'a> {
 fn plain_ground(lent: &Lent) -> u8 {
     let n = lent.nodes();
     let mut check = Check { lent, ends: [0; 33] };
-    if u32::MAX as usize <= lent.body.len() || check.shape(0, 1) != Some(n) || (0..n).any(|i| check.slots(i).is_none()) {
+    if check.shape(0, 1) != Some(n) || (0..n).any(|i| check.slots(i).is_none()) {
         return 9;
     }
     let mut ids = Vec::with_capacity(16);
@@ -648,7 +653,7 @@ fn check_damaged(random: &mut Random, whole: &Lent, name: &str) {
             }
             1 => {
                 let k = random.below(lent.places.len() as u64) as usize;
-                lent.places[k] = other(lent.places[k] as u64, random) as u32;
+                lent.places[k] = other(lent.places[k], random);
             }
             _ => {
                 let k = random.below(lent.body.len() as u64) as usize;

@@ -9,7 +9,7 @@ use timing::{bytes, compare, Random};
 extern "C" {
     fn lafkuno_frame(
         formats: *const u8, formats_len: usize, schema: *const u32, schema_len: usize, lengths: *const u64, lengths_len: usize,
-        places: *const u32, places_len: usize, buffers: *const u32, buffers_len: usize, body: *const u8, body_len: usize,
+        places: *const u64, places_len: usize, buffers: *const u64, buffers_len: usize, body: *const u8, body_len: usize,
         first_a: u32, n_a: u32, first_b: u32, n_b: u32, start: u64, end: u64, room: *mut f64, room_len: usize,
     ) -> u8;
 }
@@ -45,13 +45,13 @@ impl Trip {
 
     fn frame(&self) -> (u8, [f64; 4]) {
         let (schema, lengths) = ([0, 1, 2, 0, 0, 0, 1, 2, 0, 0], [ROWS as u64, OFFSET as u64, ROWS as u64, OFFSET as u64]);
-        let m = self.masked as u32;
-        let [v, b, k] = [LONGITUDES, BITS, MASK].map(|n| n as u32);
+        let m = self.masked as u64;
+        let [v, b, k] = [LONGITUDES, BITS, MASK].map(|n| n as u64);
         let places = [m, b, k, 0, v, 0, 0, 0, 0, m, b + k, k, v, v, 0, 0, 0, 0];
         let mut room = [0.0; 4];
         let ground = unsafe {
             lafkuno_frame(
-                b"g".as_ptr(), 1, schema.as_ptr(), 10, lengths.as_ptr(), 4, places.as_ptr(), 18, [0u32; 0].as_ptr(), 0,
+                b"g".as_ptr(), 1, schema.as_ptr(), 10, lengths.as_ptr(), 4, places.as_ptr(), 18, [0u64; 0].as_ptr(), 0,
                 self.body.as_ptr(), self.body.len(), 0, 1, 1, 1, 0, ROWS as u64, room.as_mut_ptr(), 4,
             )
         };

@@ -63,7 +63,7 @@ struct Ours {
     lent: Lent,
     plan: [u64; PLAN],
     opened: [u64; COUNTERS],
-    parts: Vec<u32>,
+    parts: Vec<calls::Position>,
     room: Vec<u8>,
 }
 
@@ -77,9 +77,9 @@ impl Ours {
         for (start, end) in pieces(64) {
             assert_eq!(calls::measure_copy(&plan, &lent.tables(), &mut counters, sources.len() as u32 - 1, start, end), 0);
         }
-        let (mut parts, mut end) = (vec![], 0u32);
+        let (mut parts, mut end) = (vec![], 0);
         for p in 0..calls::part_count(&plan) as u32 {
-            let size = calls::needed_bytes(&plan, &counters, p) as u32;
+            let size = calls::needed_bytes(&plan, &counters, p);
             parts.extend([end, size]);
             end = (end + size).next_multiple_of(64);
         }

@@ -67,7 +67,7 @@ fn join(seed: u64, most: &mut Most) {
     let (mut parts, mut end) = (vec![], 0);
     for p in 0..most.note("part_count", || calls::part_count(&plan)) {
         most.note("part_node, part_buffer", || calls::part_at(&plan, p));
-        let size = most.note("needed_bytes", || calls::needed_bytes(&plan, &counters, p as u32)) as u32;
+        let size = most.note("needed_bytes", || calls::needed_bytes(&plan, &counters, p as u32));
         parts.extend([end, size]);
         end += size;
     }

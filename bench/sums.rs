@@ -8,12 +8,12 @@ use timing::{bytes, compare, Random};
 extern "C" {
     fn lafkuno_mean(
         formats: *const u8, formats_len: usize, schema: *const u32, schema_len: usize, lengths: *const u64, lengths_len: usize,
-        places: *const u32, places_len: usize, buffers: *const u32, buffers_len: usize, body: *const u8, body_len: usize,
+        places: *const u64, places_len: usize, buffers: *const u64, buffers_len: usize, body: *const u8, body_len: usize,
         first: u32, n: u32, start: u64, end: u64, answer: *mut u64, answer_len: usize,
     ) -> u8;
     fn lafkuno_ratio(
         formats: *const u8, formats_len: usize, schema: *const u32, schema_len: usize, lengths: *const u64, lengths_len: usize,
-        places: *const u32, places_len: usize, buffers: *const u32, buffers_len: usize, body: *const u8, body_len: usize,
+        places: *const u64, places_len: usize, buffers: *const u64, buffers_len: usize, body: *const u8, body_len: usize,
         first_a: u32, n_a: u32, first_b: u32, n_b: u32, start: u64, end: u64, answer: *mut u64, answer_len: usize,
     ) -> u8;
 }
@@ -25,7 +25,7 @@ const OFFSET: usize = 8;
 struct Two {
     formats: Vec<u8>,
     lengths: [u64; 4],
-    places: [u32; 18],
+    places: [u64; 18],
     body: Vec<u8>,
 }
 
@@ -37,7 +37,7 @@ impl Two {
         let mut lay = |s: &[u8]| {
             two.body.resize(two.body.len().next_multiple_of(64), 0);
             two.body.extend(s);
-            [(two.body.len() - s.len()) as u32, s.len() as u32]
+            [(two.body.len() - s.len()) as u64, s.len() as u64]
         };
         for (k, s) in numbers.into_iter().enumerate() {
             let place = lay(s);

@@ -43,18 +43,20 @@ int main(int argc, char **argv) {
     uint32_t sources[2] = {0, (uint32_t)nodes};
     uint32_t both[10] = {0, 3, 2, 1, 0, 3, 1, 2, 0, 0};
     uint64_t lengths[4] = {ROWS, OFFSET, SLOTS, 0};
-    uint32_t places[18] = {0, 0, 0, BITS + 4 * SLOTS, 4 * SLOTS, BITS + 8 * SLOTS, 4 * SLOTS, 0, 0, valid, 0, BITS, BITS, 4 * SLOTS};
-    const uint32_t *schema = list ? both : both + 5, *placed = list ? places : places + 9;
+    uint64_t places[18] = {0, 0, 0, BITS + 4 * SLOTS, 4 * SLOTS, BITS + 8 * SLOTS, 4 * SLOTS, 0, 0, valid, 0, BITS, BITS, 4 * SLOTS};
+    const uint32_t *schema = list ? both : both + 5;
+    const uint64_t *placed = list ? places : places + 9;
 
     uint64_t plan[LAFKUNO_PLAN], counters[LAFKUNO_COUNTERS] = {0};
     must("plan_parts", lafkuno_plan_parts(sources, 2, formats, 4, schema, 5 * nodes, lengths, 2 * nodes, placed, 9 * nodes, 0, 0, body, size, 0, 0, plan, LAFKUNO_PLAN));
     for (uint64_t k = 0; k < orders; k++)
         must("measure_copy", lafkuno_measure_copy(plan, LAFKUNO_PLAN, sources, 2, lengths, 2 * nodes, placed, 9 * nodes, body, size, counters, LAFKUNO_COUNTERS, 0, 0, rows));
     uint64_t measured = counters[1], room_size = 0;
-    uint32_t parts[2 * 96], count = lafkuno_part_count(plan, LAFKUNO_PLAN);
+    uint64_t parts[2 * 96];
+    uint32_t count = lafkuno_part_count(plan, LAFKUNO_PLAN);
     for (uint32_t p = 0; p < count; p++) {
-        parts[2 * p] = (uint32_t)room_size;
-        parts[2 * p + 1] = (uint32_t)lafkuno_needed_bytes(plan, LAFKUNO_PLAN, counters, LAFKUNO_COUNTERS, p);
+        parts[2 * p] = room_size;
+        parts[2 * p + 1] = lafkuno_needed_bytes(plan, LAFKUNO_PLAN, counters, LAFKUNO_COUNTERS, p);
         room_size += parts[2 * p + 1];
     }
     uint8_t *room = malloc(room_size + 1);

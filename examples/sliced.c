@@ -16,8 +16,8 @@ static const uint8_t fuel[FIRST + SECOND] = {95, 90, 85, 80, 75, 48, 50, 47, 46,
 
 /* Two sources of a node each, of unsigned bytes (docs/FORMAT.md); parts for the validity and the values of 11 rows. */
 static const uint8_t formats[1] = {'C'};
-static const uint32_t sources[4] = {0, 1, 1, 1}, schema[10] = {0, 1, 2, 0, 0, 0, 1, 2, 0, 0}, no_buffers[1];
-static const uint32_t places[18] = {0, 0, 0, 0, FIRST, 0, 0, 0, 0, 0, 0, 0, FIRST, SECOND, 0, 0, 0, 0}, parts[4] = {0, 2, 2, ROWS};
+static const uint32_t sources[4] = {0, 1, 1, 1}, schema[10] = {0, 1, 2, 0, 0, 0, 1, 2, 0, 0};
+static const uint64_t places[18] = {0, 0, 0, 0, FIRST, 0, 0, 0, 0, 0, 0, 0, FIRST, SECOND, 0, 0, 0, 0}, parts[4] = {0, 2, 2, ROWS}, no_buffers[1];
 
 static void show_slots(const char *what, const uint8_t *slots, int n) {
     printf("   %s", what);
@@ -30,7 +30,7 @@ static void answered(const char *call, uint8_t ground) {
 }
 
 /* Prints the rows of the finished array, whose body is the room; answers their sum. */
-static uint64_t show_rows(const uint64_t lengths[2], const uint32_t column[9], const uint8_t *room, size_t size) {
+static uint64_t show_rows(const uint64_t lengths[2], const uint64_t column[9], const uint8_t *room, size_t size) {
     uint64_t tree[LAFKUNO_TREE], answer[LAFKUNO_ANSWER], sum = 0;
     uint8_t ground = lafkuno_open_column(LENT(formats), schema, 5, lengths, 2, column, 9, no_buffers, 0, room, size, 0, 1, LENT(tree));
     if (ground != LAFKUNO_DONE) answered("read", ground);
@@ -53,8 +53,7 @@ static uint64_t show_rows(const uint64_t lengths[2], const uint32_t column[9], c
  * to 3 of the second. Each call prints its answer: 0 is accepted. */
 static uint64_t booked(const char *what, const uint8_t *body, uint64_t offset) {
     const uint64_t lengths[4] = {6, offset, SECOND, 0};
-    uint64_t plan[LAFKUNO_PLAN], counters[LAFKUNO_COUNTERS], new_lengths[2], new_nulls[1];
-    uint32_t new_places[9], new_buffers[1];
+    uint64_t plan[LAFKUNO_PLAN], counters[LAFKUNO_COUNTERS], new_lengths[2], new_nulls[1], new_places[9], new_buffers[1];
     uint8_t room[2 + ROWS];
     printf("%s\n   calls", what);
     answered("open", lafkuno_open(LENT(sources), LENT(formats), LENT(schema), LENT(lengths), LENT(places), no_buffers, 0, body, FIRST + SECOND, 1, 0,

@@ -25,8 +25,9 @@ int main(void) {
     uint8_t body[sizeof batch];
     memcpy(body, batch, sizeof batch);
     const uint8_t formats[] = "i";
-    const uint32_t sources[] = {0, 1}, schema[] = {0, 1, 2, 0, 0}, places[] = {0, 0, 0, 0, sizeof body, 0, 0, 0, 0}, buffers[] = {0};
+    const uint32_t sources[] = {0, 1}, schema[] = {0, 1, 2, 0, 0};
     const uint64_t lengths[] = {4, 4}; /* length and offset of the slice */
+    const uint64_t places[] = {0, 0, 0, 0, sizeof body, 0, 0, 0, 0}, buffers[] = {0};
 
     /* what the orders need: 4 rows and a null */
     uint64_t plan[LAFKUNO_PLAN], counters[LAFKUNO_COUNTERS];
@@ -34,11 +35,11 @@ int main(void) {
     check("measure", lafkuno_measure_open(PLAN, SOURCES, COUNTERS));
     check("measure", lafkuno_measure_copy(PLAN, SOURCES, COUNTERS, 0, 0, 4));
     check("measure", lafkuno_measure_nulls(PLAN, COUNTERS, 1));
-    uint32_t parts[2 * 96], size = 0;
+    uint64_t parts[2 * 96], size = 0;
     uint32_t count = lafkuno_part_count(PLAN);
     for (uint32_t p = 0; p < count; p++) {
         parts[2 * p] = size;
-        size += parts[2 * p + 1] = (uint32_t)lafkuno_needed_bytes(PLAN, COUNTERS, p);
+        size += parts[2 * p + 1] = lafkuno_needed_bytes(PLAN, COUNTERS, p);
     }
     uint8_t *room = malloc(size);
 
@@ -49,8 +50,7 @@ int main(void) {
     check("copy", lafkuno_copy(PLAN, PARTS, SOURCES, COUNTERS, ROOM, 0, 3, 4));
 
     /* the finished array; with base 0 the new places are places in the room */
-    uint64_t new_lengths[2], new_nulls[1];
-    uint32_t new_places[9], new_buffers[1];
+    uint64_t new_lengths[2], new_nulls[1], new_places[9], new_buffers[1];
     check("finish", lafkuno_finish(PLAN, PARTS, sources, 2, lengths, 2, places, 9, buffers, 0, body, sizeof body, COUNTERS, ROOM, 0,
                                    new_lengths, 2, new_nulls, 1, new_places, 9, new_buffers, 0));
     printf("%d rows, %d null\n", (int)new_lengths[0], (int)new_nulls[0]);

@@ -24,7 +24,7 @@
 extern "C" {
 #endif
 
-#define LAFKUNO_VERSION "0.1.0"
+#define LAFKUNO_VERSION "0.2.0"
 
 /* Why a call is refused. */
 enum lafkuno_ground {
@@ -44,7 +44,7 @@ enum lafkuno_ground {
 
     /* Whoever prepares sources: */
     LAFKUNO_CEILING_PASSED = 9,         /* no source; more than 16 sources, 32 nodes, depth 8, 16 union fields, 32 data buffers a
-                                           view node or 4,294,967,295 bytes a body; a negative length or offset; more than
+                                           view node or 2^63-1 bytes a body; a negative length or offset; more than
                                            256 orders in a list */
     LAFKUNO_UNKNOWN_TYPE = 10,          /* a format, a number of children or a union's ids that are not taken */
     LAFKUNO_TYPES_DIFFER = 11,          /* formats, or flags of nodes other than the root and dictionary values */
@@ -111,7 +111,7 @@ enum lafkuno_ground {
  *   plan      is written. */
 uint8_t lafkuno_plan_parts(const uint32_t *sources, size_t sources_len, const uint8_t *formats, size_t formats_len,
                            const uint32_t *schema, size_t schema_len, const uint64_t *lengths, size_t lengths_len,
-                           const uint32_t *places, size_t places_len, const uint32_t *buffers, size_t buffers_len,
+                           const uint64_t *places, size_t places_len, const uint64_t *buffers, size_t buffers_len,
                            const uint8_t *body, size_t body_len, uint8_t keep, uint8_t gaps, uint64_t *plan, size_t plan_len);
 
 /* How many parts there are, at most 96. */
@@ -128,7 +128,7 @@ uint64_t lafkuno_part_buffer(const uint64_t *plan, size_t plan_len, uint32_t p);
 /* What an opening does to the counters: 6, 8 (or 12), or the counters are written.
  *   counters  is written; its numbers before are not read. */
 uint8_t lafkuno_measure_open(const uint64_t *plan, size_t plan_len, const uint32_t *sources, size_t sources_len,
-                             const uint64_t *lengths, size_t lengths_len, const uint32_t *places, size_t places_len,
+                             const uint64_t *lengths, size_t lengths_len, const uint64_t *places, size_t places_len,
                              const uint8_t *body, size_t body_len, uint64_t *counters, size_t counters_len);
 
 /* What a copy does to the counters: its ground but for 13 and 14 of the parts, or the counters are changed.
@@ -136,7 +136,7 @@ uint8_t lafkuno_measure_open(const uint64_t *plan, size_t plan_len, const uint32
  *   start     its first row that is copied.
  *   end       one past its last. */
 uint8_t lafkuno_measure_copy(const uint64_t *plan, size_t plan_len, const uint32_t *sources, size_t sources_len,
-                             const uint64_t *lengths, size_t lengths_len, const uint32_t *places, size_t places_len,
+                             const uint64_t *lengths, size_t lengths_len, const uint64_t *places, size_t places_len,
                              const uint8_t *body, size_t body_len, uint64_t *counters, size_t counters_len,
                              uint32_t source, uint64_t start, uint64_t end);
 
@@ -148,7 +148,7 @@ uint8_t lafkuno_measure_nulls(const uint64_t *plan, size_t plan_len, uint64_t *c
  * counters are changed.
  *   orders    LAFKUNO_ORDER numbers an order. */
 uint32_t lafkuno_measure_orders(const uint64_t *plan, size_t plan_len, const uint32_t *sources, size_t sources_len,
-                                const uint64_t *lengths, size_t lengths_len, const uint32_t *places, size_t places_len,
+                                const uint64_t *lengths, size_t lengths_len, const uint64_t *places, size_t places_len,
                                 const uint8_t *body, size_t body_len, uint64_t *counters, size_t counters_len,
                                 const uint64_t *orders, size_t orders_len);
 
@@ -164,24 +164,24 @@ uint64_t lafkuno_needed_bytes(const uint64_t *plan, size_t plan_len, const uint6
  *   room      first offsets and joined dictionaries are written to their parts. */
 uint8_t lafkuno_open(const uint32_t *sources, size_t sources_len, const uint8_t *formats, size_t formats_len,
                      const uint32_t *schema, size_t schema_len, const uint64_t *lengths, size_t lengths_len,
-                     const uint32_t *places, size_t places_len, const uint32_t *buffers, size_t buffers_len,
-                     const uint8_t *body, size_t body_len, uint8_t keep, uint8_t gaps, const uint32_t *parts, size_t parts_len,
+                     const uint64_t *places, size_t places_len, const uint64_t *buffers, size_t buffers_len,
+                     const uint8_t *body, size_t body_len, uint8_t keep, uint8_t gaps, const uint64_t *parts, size_t parts_len,
                      uint64_t *plan, size_t plan_len, uint64_t *counters, size_t counters_len, uint8_t *room, size_t room_len);
 
 /* Copies rows of a source behind the destination's rows: 1, 2, then 6 and 7 as they are met, and 13 last.
  *   source    the number of the source.
  *   start     its first row that is copied.
  *   end       one past its last. */
-uint8_t lafkuno_copy(const uint64_t *plan, size_t plan_len, const uint32_t *parts, size_t parts_len,
+uint8_t lafkuno_copy(const uint64_t *plan, size_t plan_len, const uint64_t *parts, size_t parts_len,
                      const uint32_t *sources, size_t sources_len, const uint64_t *lengths, size_t lengths_len,
-                     const uint32_t *places, size_t places_len, const uint8_t *body, size_t body_len,
+                     const uint64_t *places, size_t places_len, const uint8_t *body, size_t body_len,
                      uint64_t *counters, size_t counters_len, uint8_t *room, size_t room_len,
                      uint32_t source, uint64_t start, uint64_t end);
 
 /* Adds nulls behind the destination's rows: 3, then 4, 5, 6 and 7 as they are met, and 13 last. It writes behind what is there; with one
  * run for gaps it may write the last run end anew.
  *   n         how many nulls. */
-uint8_t lafkuno_nulls(const uint64_t *plan, size_t plan_len, const uint32_t *parts, size_t parts_len,
+uint8_t lafkuno_nulls(const uint64_t *plan, size_t plan_len, const uint64_t *parts, size_t parts_len,
                       uint64_t *counters, size_t counters_len, uint8_t *room, size_t room_len, uint64_t n);
 
 /* Carries out a list of up to LAFKUNO_MOST_ORDERS orders, all or none. Where each would be accepted when given one after the other, all are
@@ -189,30 +189,30 @@ uint8_t lafkuno_nulls(const uint64_t *plan, size_t plan_len, const uint32_t *par
  * (LAFKUNO_ANSWER_GROUND) and its place (LAFKUNO_ANSWER_PLACE). A longer list is 9 at place 0 before anything else; an empty one is
  * accepted, whatever is lent.
  *   orders    LAFKUNO_ORDER numbers an order; what is behind the last whole one is not read. A kind that is neither of the two is nulls. */
-uint32_t lafkuno_orders(const uint64_t *plan, size_t plan_len, const uint32_t *parts, size_t parts_len,
+uint32_t lafkuno_orders(const uint64_t *plan, size_t plan_len, const uint64_t *parts, size_t parts_len,
                         const uint32_t *sources, size_t sources_len, const uint64_t *lengths, size_t lengths_len,
-                        const uint32_t *places, size_t places_len, const uint8_t *body, size_t body_len,
+                        const uint64_t *places, size_t places_len, const uint8_t *body, size_t body_len,
                         uint64_t *counters, size_t counters_len, uint8_t *room, size_t room_len,
                         const uint64_t *orders, size_t orders_len);
 
 /* Describes the finished array by tables like those of a source; its type is source 0's. 14 where a table is not of its size, 9 where
- * base + room_len is above 4,294,967,295. It can be lent again over a body that holds the room at base, behind the old body.
+ * base is above 2^63-1. It can be lent again over a body that holds the room at base, behind the old body.
  *   base         where the room begins in the body that the new tables are about; the old body's bytes stay where they were.
  *   new_lengths  is written: 2 numbers a node of source 0.
  *   new_nulls    is written: the null count of each node, counted from the bits.
  *   new_places   is written: 9 numbers a node. View data and a kept dictionary are named by their places in the old body.
  *   new_buffers  is written: 2 numbers for each of lafkuno_buffer_total. */
-uint8_t lafkuno_finish(const uint64_t *plan, size_t plan_len, const uint32_t *parts, size_t parts_len,
+uint8_t lafkuno_finish(const uint64_t *plan, size_t plan_len, const uint64_t *parts, size_t parts_len,
                        const uint32_t *sources, size_t sources_len, const uint64_t *lengths, size_t lengths_len,
-                       const uint32_t *places, size_t places_len, const uint32_t *buffers, size_t buffers_len,
+                       const uint64_t *places, size_t places_len, const uint64_t *buffers, size_t buffers_len,
                        const uint8_t *body, size_t body_len, const uint64_t *counters, size_t counters_len,
-                       const uint8_t *room, size_t room_len, uint32_t base, uint64_t *new_lengths, size_t new_lengths_len,
-                       uint64_t *new_nulls, size_t new_nulls_len, uint32_t *new_places, size_t new_places_len,
-                       uint32_t *new_buffers, size_t new_buffers_len);
+                       const uint8_t *room, size_t room_len, uint64_t base, uint64_t *new_lengths, size_t new_lengths_len,
+                       uint64_t *new_nulls, size_t new_nulls_len, uint64_t *new_places, size_t new_places_len,
+                       uint64_t *new_buffers, size_t new_buffers_len);
 
 /* How many data buffers the finished array names. */
 uint64_t lafkuno_buffer_total(const uint64_t *plan, size_t plan_len, const uint32_t *sources, size_t sources_len,
-                              const uint32_t *places, size_t places_len);
+                              const uint64_t *places, size_t places_len);
 
 /* The running null count: nulls that were copied or ordered, also at a root that holds no validity. */
 uint64_t lafkuno_running_nulls(const uint64_t *counters, size_t counters_len);
@@ -223,8 +223,8 @@ uint64_t lafkuno_running_nulls(const uint64_t *counters, size_t counters_len);
  *   first     its first node in the tables.
  *   n         how many nodes it has. */
 uint8_t lafkuno_column_ground(const uint8_t *formats, size_t formats_len, const uint32_t *schema, size_t schema_len,
-                              const uint64_t *lengths, size_t lengths_len, const uint32_t *places, size_t places_len,
-                              const uint32_t *buffers, size_t buffers_len, const uint8_t *body, size_t body_len,
+                              const uint64_t *lengths, size_t lengths_len, const uint64_t *places, size_t places_len,
+                              const uint64_t *buffers, size_t buffers_len, const uint8_t *body, size_t body_len,
                               uint32_t first, uint32_t n);
 
 /* The same, then 14 where tree_len is below LAFKUNO_TREE; else writes the column's tree, over which its rows are read.
@@ -232,8 +232,8 @@ uint8_t lafkuno_column_ground(const uint8_t *formats, size_t formats_len, const 
  *   n         how many nodes it has.
  *   tree      its first LAFKUNO_TREE numbers are written. */
 uint8_t lafkuno_open_column(const uint8_t *formats, size_t formats_len, const uint32_t *schema, size_t schema_len,
-                            const uint64_t *lengths, size_t lengths_len, const uint32_t *places, size_t places_len,
-                            const uint32_t *buffers, size_t buffers_len, const uint8_t *body, size_t body_len,
+                            const uint64_t *lengths, size_t lengths_len, const uint64_t *places, size_t places_len,
+                            const uint64_t *buffers, size_t buffers_len, const uint8_t *body, size_t body_len,
                             uint32_t first, uint32_t n, uint64_t *tree, size_t tree_len);
 
 /* What a row is. */
@@ -256,7 +256,7 @@ enum lafkuno_kind {
  *   answer    is written: the three numbers of the kind (0 where it has fewer), how many unions are on the way to the row, and their
  *             ids in that order, 0 up to eight. */
 uint8_t lafkuno_read_row(const uint64_t *tree, size_t tree_len, const uint64_t *lengths, size_t lengths_len,
-                         const uint32_t *places, size_t places_len, const uint32_t *buffers, size_t buffers_len,
+                         const uint64_t *places, size_t places_len, const uint64_t *buffers, size_t buffers_len,
                          const uint8_t *body, size_t body_len, uint32_t first, uint64_t row,
                          uint64_t *answer, size_t answer_len);
 
@@ -269,8 +269,8 @@ uint8_t lafkuno_read_row(const uint64_t *tree, size_t tree_len, const uint64_t *
  *   answer    is written: the run, counted from the first run end, and how many rows are left in it, at least 1 and none past the
  *             column's last. */
 uint8_t lafkuno_run_at(const uint8_t *formats, size_t formats_len, const uint32_t *schema, size_t schema_len,
-                       const uint64_t *lengths, size_t lengths_len, const uint32_t *places, size_t places_len,
-                       const uint32_t *buffers, size_t buffers_len, const uint8_t *body, size_t body_len,
+                       const uint64_t *lengths, size_t lengths_len, const uint64_t *places, size_t places_len,
+                       const uint64_t *buffers, size_t buffers_len, const uint8_t *body, size_t body_len,
                        uint32_t first, uint32_t n, uint64_t row, uint64_t *answer, size_t answer_len);
 
 /* The same of an opened column, which is not checked again.
@@ -279,7 +279,7 @@ uint8_t lafkuno_run_at(const uint8_t *formats, size_t formats_len, const uint32_
  *   row       the row's number.
  *   answer    is written as by lafkuno_run_at. */
 uint8_t lafkuno_read_run(const uint64_t *tree, size_t tree_len, const uint64_t *lengths, size_t lengths_len,
-                         const uint32_t *places, size_t places_len, const uint8_t *body, size_t body_len,
+                         const uint64_t *places, size_t places_len, const uint8_t *body, size_t body_len,
                          uint32_t first, uint64_t row, uint64_t *answer, size_t answer_len);
 
 /* ---- beside the join */
@@ -291,8 +291,8 @@ uint8_t lafkuno_read_run(const uint64_t *tree, size_t tree_len, const uint64_t *
  *   first_b   the first node of the longitudes; n_b, how many nodes they have.
  *   room      is written: smallest and largest latitude, smallest and largest longitude. */
 uint8_t lafkuno_frame(const uint8_t *formats, size_t formats_len, const uint32_t *schema, size_t schema_len,
-                      const uint64_t *lengths, size_t lengths_len, const uint32_t *places, size_t places_len,
-                      const uint32_t *buffers, size_t buffers_len, const uint8_t *body, size_t body_len,
+                      const uint64_t *lengths, size_t lengths_len, const uint64_t *places, size_t places_len,
+                      const uint64_t *buffers, size_t buffers_len, const uint8_t *body, size_t body_len,
                       uint32_t first_a, uint32_t n_a, uint32_t first_b, uint32_t n_b, uint64_t start, uint64_t end,
                       double *room, size_t room_len);
 
@@ -311,16 +311,16 @@ uint8_t lafkuno_join_frames(const double *left, size_t left_len, const double *r
  *   answer    is written: the count, the sum as two's complement, 1 for minus (else 0), and the fraction's two magnitudes, of which the
  *             second is above 0; zero is 0, 0, 1. */
 uint8_t lafkuno_mean(const uint8_t *formats, size_t formats_len, const uint32_t *schema, size_t schema_len,
-                     const uint64_t *lengths, size_t lengths_len, const uint32_t *places, size_t places_len,
-                     const uint32_t *buffers, size_t buffers_len, const uint8_t *body, size_t body_len,
+                     const uint64_t *lengths, size_t lengths_len, const uint64_t *places, size_t places_len,
+                     const uint64_t *buffers, size_t buffers_len, const uint8_t *body, size_t body_len,
                      uint32_t first, uint32_t n, uint64_t start, uint64_t end, uint64_t *answer, size_t answer_len);
 
 /* Total over total of two columns of the same tables, over the rows start .. end - 1 in which both are not null. The grounds are those of
  * lafkuno_mean, each asked of both columns before the next; 14 where answer_len is not LAFKUNO_RATIO.
  *   answer    is written: the count, both totals as two's complement, 1 for minus, and the fraction's two magnitudes. */
 uint8_t lafkuno_ratio(const uint8_t *formats, size_t formats_len, const uint32_t *schema, size_t schema_len,
-                      const uint64_t *lengths, size_t lengths_len, const uint32_t *places, size_t places_len,
-                      const uint32_t *buffers, size_t buffers_len, const uint8_t *body, size_t body_len,
+                      const uint64_t *lengths, size_t lengths_len, const uint64_t *places, size_t places_len,
+                      const uint64_t *buffers, size_t buffers_len, const uint8_t *body, size_t body_len,
                       uint32_t first_a, uint32_t n_a, uint32_t first_b, uint32_t n_b, uint64_t start, uint64_t end,
                       uint64_t *answer, size_t answer_len);
 

@@ -19,10 +19,10 @@ extern "C" {
 #endif
 
 /* A place or a number of bytes in a body or in the room: the numbers of places, buffers, parts and base. */
-typedef uint32_t lafkuno_position;
+typedef uint64_t lafkuno_position;
 
 /* The most bytes that a body or a room has. */
-#define LAFKUNO_MOST_BYTES UINT32_MAX
+#define LAFKUNO_MOST_BYTES ((uint64_t)INT64_MAX)
 /* The most parts of a join, nodes of a source, and sources. */
 #define LAFKUNO_MOST_PARTS 96
 #define LAFKUNO_MOST_NODES 32
@@ -109,8 +109,8 @@ static inline uint64_t lafkuno_state_parts(struct lafkuno_state *s) {
         uint64_t bytes = lafkuno_needed_bytes(s->plan, LAFKUNO_PLAN, s->counters, LAFKUNO_COUNTERS, p);
         uint64_t start = size + (64 - size % 64) % 64;
         if (start > LAFKUNO_MOST_BYTES || bytes > LAFKUNO_MOST_BYTES - start) return start + bytes < start ? UINT64_MAX : start + bytes;
-        s->parts[2 * p] = (lafkuno_position)start;
-        s->parts[2 * p + 1] = (lafkuno_position)bytes;
+        s->parts[2 * p] = start;
+        s->parts[2 * p + 1] = bytes;
         size = start + bytes;
     }
     s->parts_len = 2 * (size_t)count;

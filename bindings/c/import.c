@@ -69,7 +69,7 @@ int want(struct import *import, const struct node *node, const void *from, uint6
     if (!bytes) return 0;
     if (!from) return refuse(import->report, LAFKUNO_BAD_STRUCT, "a buffer is null, and %" PRIu64 " bytes are asked of it", bytes);
     if (bytes > LAFKUNO_MOST_BYTES) return refuse_above(import->report, LAFKUNO_CEILING_PASSED, bytes, LAFKUNO_MOST_BYTES, "bytes");
-    place[1] = (position)bytes;
+    place[1] = bytes;
     import->stretches[import->stretch_count++] = (struct stretch){from, bytes, place, AS_THEY_ARE, 1, node->index};
     return 0;
 }

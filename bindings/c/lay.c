@@ -77,13 +77,14 @@ static size_t group_end(const struct import *import, size_t i, uint64_t *bytes) 
     *bytes = s[i].bytes;
     if (s[i].change != AS_THEY_ARE) return k;
     for (; k < import->stretch_count && s[k].change == AS_THEY_ARE && (uintptr_t)s[k].from - start < *bytes; k++) {
-        uint64_t end = (uintptr_t)s[k].from - start + s[k].bytes;
+        uint64_t before = (uintptr_t)s[k].from - start, end = s[k].bytes < UINT64_MAX - before ? before + s[k].bytes : UINT64_MAX;
         if (end > *bytes) *bytes = end;
     }
     return k;
 }
 
-/* Places every stretch, and answers the bytes of the body. No buffer begins at 0, where empty ones do; each keeps its alignment. */
+/* Places every stretch, and answers the bytes of the body, UINT64_MAX where they are too many to be placed. No buffer begins at 0, where
+ * empty ones do; each keeps its alignment. */
 static uint64_t place_all(struct import *import) {
     uint64_t at = LINE, bytes;
     for (size_t i = 0, end; i < import->stretch_count; i = end) {
@@ -91,7 +92,8 @@ static uint64_t place_all(struct import *import) {
         uintptr_t start = (uintptr_t)s[i].from;
         end = group_end(import, i, &bytes);
         at = (at + LINE - 1) / LINE * LINE + (s[i].change == AS_THEY_ARE ? start % LINE : 0);
-        for (size_t k = i; k < end; k++) s[k].place[0] = (position)(at + ((uintptr_t)s[k].from - start));
+        for (size_t k = i; k < end; k++) s[k].place[0] = at + ((uintptr_t)s[k].from - start);
+        if (at > LAFKUNO_MOST_BYTES || bytes > LAFKUNO_MOST_BYTES - at) return UINT64_MAX;
         at += bytes;
     }
     return at;

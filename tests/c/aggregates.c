@@ -29,7 +29,7 @@ enum { NONE = -1 };
  * numbers stand behind them. */
 static void add(struct column *c, const char *format, uint64_t length, uint64_t offset, int bits, const uint64_t *values) {
     const uint64_t word = bits == NONE ? 0 : (uint64_t)bits;
-    uint32_t *places = c->places + 9 * c->nodes;
+    uint64_t *places = c->places + 9 * c->nodes;
     node(c, format, 0, length, offset);
     wide_numbers(c, VALIDITY, 8, &word, 1);
     places[HAS_VALIDITY] = bits != NONE;

@@ -216,14 +216,15 @@ static void counts(void) {
     const int64_t value = 1;
     struct made *m = numbers("l", "at", 0, 1, 0, &value, 8, NULL);
     struct lafkuno_source list[17];
-    const struct lafkuno_order gap = lafkuno_gap(1u << 31);
-    const struct lafkuno_options keep = {.keep_nulls = 1};
+    const struct lafkuno_order gap = lafkuno_gap((uint64_t)1 << 60), lesser = lafkuno_gap((uint64_t)1 << 58);
+    const struct lafkuno_options keep = {.keep_nulls = 1, .most_rows = UINT64_MAX};
     for (int s = 0; s < 17; s++) list[s] = source_of(m);
     refused(list, 0, NULL, 0, NULL, LAFKUNO_CEILING_PASSED, "there is no source (ground 9)");
     struct lafkuno_error error = refused(list, 17, NULL, 0, NULL, LAFKUNO_CEILING_PASSED, "17 sources, and 16 are allowed (ground 9)");
     expect("found", (long long)error.found, 17);
     expect("allowed", (long long)error.allowed, 16);
-    refused(list, 1, &gap, 1, &keep, LAFKUNO_CEILING_PASSED, "17448304640 bytes of the result, and 4294967295 are allowed (ground 9)");
+    refused(list, 1, &gap, 1, &keep, LAFKUNO_CEILING_PASSED, "9367487224930631680 bytes of the result, and 9223372036854775807 are allowed (ground 9)");
+    refused(list, 1, &lesser, 1, &keep, LAFKUNO_NO_MEMORY, "there is no memory left");
     discard(m);
 }
 

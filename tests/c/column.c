@@ -42,7 +42,8 @@ void put_number(struct column *c, uint32_t at, uint32_t w, uint64_t v) {
 
 /* The body's next bytes as a buffer of the last node, and where they begin. */
 static uint32_t next_bytes(struct column *c, uint32_t buffer, uint32_t size) {
-    uint32_t *place = c->places + 9 * (c->nodes - 1) + buffer, at = c->used;
+    uint64_t *place = c->places + 9 * (c->nodes - 1) + buffer;
+    uint32_t at = c->used;
     place[0] = at;
     place[1] = size;
     c->used += size;
@@ -67,12 +68,12 @@ void validity(struct column *c, uint8_t bits, uint8_t more) {
 }
 
 void data(struct column *c, uint8_t first) {
-    uint32_t *places = c->places + 9 * (c->nodes - 1);
+    uint64_t *places = c->places + 9 * (c->nodes - 1);
     uint8_t bytes[20];
     ask_for(c->ranges < RANGES);
     for (uint8_t i = 0; i < 20; i++) bytes[i] = (uint8_t)(first + i);
     numbers(c, BUFFER_2, 1, bytes, 20);
-    memcpy(c->buffers + 2 * c->ranges, places + BUFFER_2, 8);
+    memcpy(c->buffers + 2 * c->ranges, places + BUFFER_2, 16);
     places[DATA_COUNT] = ++c->ranges;
 }
 
@@ -87,8 +88,8 @@ static void lend_tables(const struct column *c, size_t nodes, size_t ranges, siz
     lend(FORMATS, c->formats, chars);
     lend(SCHEMA, c->schema, 20 * nodes);
     lend(LENGTHS, c->lengths, 16 * nodes);
-    lend(PLACES, c->places, 36 * nodes);
-    lend(BUFFERS, c->buffers, 8 * ranges);
+    lend(PLACES, c->places, 72 * nodes);
+    lend(BUFFERS, c->buffers, 16 * ranges);
     lend(BYTES_OF_BODY, c->body, bytes);
     slice_resize(&lent[SOURCES], 0);
 }

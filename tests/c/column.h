@@ -15,8 +15,8 @@ enum { FINE = LAFKUNO_DONE, CEILING = LAFKUNO_CEILING_PASSED, TYPE = LAFKUNO_UNK
 
 /* A column in the tables of docs/FORMAT.md, and how much of each is used. */
 struct column {
-    uint32_t schema[5 * NODES], places[9 * NODES], buffers[2 * RANGES];
-    uint64_t lengths[2 * NODES];
+    uint32_t schema[5 * NODES];
+    uint64_t lengths[2 * NODES], places[9 * NODES], buffers[2 * RANGES];
     uint8_t formats[CHARS], body[BODY];
     uint32_t nodes, chars, ranges, used;
 };
@@ -57,7 +57,7 @@ extern struct slice lent[SLICES];
 #define BYTES(k) lent[k].start, lent[k].size
 #define WORDS(k) (uint32_t *)lent[k].start, lent[k].size / 4
 #define LONGS(k) (uint64_t *)lent[k].start, lent[k].size / 8
-#define TABLES BYTES(FORMATS), WORDS(SCHEMA), LONGS(LENGTHS), WORDS(PLACES), WORDS(BUFFERS), BYTES(BYTES_OF_BODY)
+#define TABLES BYTES(FORMATS), WORDS(SCHEMA), LONGS(LENGTHS), LONGS(PLACES), LONGS(BUFFERS), BYTES(BYTES_OF_BODY)
 
 /* The column as far as it is used, and no sources. */
 void lend_column(const struct column *c);

@@ -26,8 +26,8 @@ uint64_t negative(uint32_t w);
 void sound(struct test *t);
 void change_schema(struct test *t, const char *what, uint32_t k, uint32_t i, uint32_t v, uint8_t ground);
 void change_length(struct test *t, const char *what, uint32_t k, uint32_t i, uint64_t v, uint8_t ground);
-void change_place(struct test *t, const char *what, uint32_t k, uint32_t i, uint32_t v, uint8_t ground);
-void change_buffer(struct test *t, const char *what, uint32_t i, uint32_t v, uint8_t ground);
+void change_place(struct test *t, const char *what, uint32_t k, uint32_t i, uint64_t v, uint8_t ground);
+void change_buffer(struct test *t, const char *what, uint32_t i, uint64_t v, uint8_t ground);
 void change_number(struct test *t, const char *what, struct slots s, uint32_t row, uint64_t v, uint8_t ground);
 /* Character i of node k's format. */
 void change_letter(struct test *t, const char *what, uint32_t k, uint32_t i, char letter, uint8_t ground);

@@ -27,7 +27,7 @@ struct test above(uint32_t depth, uint32_t off) {
 }
 
 struct slots slots_of(const struct column *c, uint32_t k, uint32_t buffer, uint32_t w) {
-    return (struct slots){c->places[9 * k + buffer], w};
+    return (struct slots){(uint32_t)c->places[9 * k + buffer], w};
 }
 
 uint64_t negative(uint32_t w) {
@@ -57,13 +57,13 @@ void change_length(struct test *t, const char *what, uint32_t k, uint32_t i, uin
     ask(t, what, ground, &d);
 }
 
-void change_place(struct test *t, const char *what, uint32_t k, uint32_t i, uint32_t v, uint8_t ground) {
+void change_place(struct test *t, const char *what, uint32_t k, uint32_t i, uint64_t v, uint8_t ground) {
     struct column d = t->c;
     d.places[9 * k + i] = v;
     ask(t, what, ground, &d);
 }
 
-void change_buffer(struct test *t, const char *what, uint32_t i, uint32_t v, uint8_t ground) {
+void change_buffer(struct test *t, const char *what, uint32_t i, uint64_t v, uint8_t ground) {
     struct column d = t->c;
     d.buffers[i] = v;
     ask(t, what, ground, &d);

@@ -13,18 +13,20 @@ void any_node(struct test *t, uint32_t k, uint32_t off) {
 }
 
 void whole_buffer(struct test *t, uint32_t k, uint32_t buffer) {
-    uint32_t size = t->c.places[9 * k + buffer + 1];
+    uint64_t size = t->c.places[9 * k + buffer + 1];
     change_place(t, "buffer leaves the body by one", k, buffer, BODY + 1 - size, BAD);
-    change_place(t, "buffer begins at 2^32 - 1", k, buffer, UINT32_MAX, BAD);
+    change_place(t, "buffer begins at 2^64 - 1", k, buffer, UINT64_MAX, BAD);
+    change_place(t, "buffer ends at 2^64 + 2", k, buffer, 2 - size, BAD);
     change_place(t, "buffer of a byte less", k, buffer + 1, size - 1, BAD);
-    change_place(t, "buffer of 2^32 - 1 bytes", k, buffer + 1, UINT32_MAX, BAD);
+    change_place(t, "buffer of 2^64 - 1 bytes", k, buffer + 1, UINT64_MAX, BAD);
 }
 
 void mask(struct test *t, uint32_t k, uint32_t less) {
     change_place(t, "validity of a byte too few", k, VALIDITY + 1, less, BAD);
     change_place(t, "validity at the body's end", k, VALIDITY, BODY - 2, FINE);
     change_place(t, "validity leaves the body by one", k, VALIDITY, BODY - 1, BAD);
-    change_place(t, "validity of 2^32 - 1 bytes", k, VALIDITY + 1, UINT32_MAX, BAD);
+    change_place(t, "validity ends at 2^64", k, VALIDITY, UINT64_MAX - 1, BAD);
+    change_place(t, "validity of 2^64 - 1 bytes", k, VALIDITY + 1, UINT64_MAX, BAD);
 }
 
 void no_mask(struct test *t, uint32_t k) {

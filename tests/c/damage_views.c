@@ -59,8 +59,12 @@ static void view_buffers(struct test *t, uint32_t k) {
     change_place(t, "one data buffer", k, DATA_COUNT, 1, BAD);
     change_place(t, "33 data buffers", k, DATA_COUNT, 33, CEILING);
     change_place(t, "data buffers past the table", k, FIRST_DATA, RANGES - 1, BAD);
+    change_place(t, "data buffers whose double wraps", k, FIRST_DATA, negative(8), BAD);
+    change_place(t, "data buffers whose sum wraps", k, FIRST_DATA, UINT64_MAX, BAD);
     change_buffer(t, "first data buffer leaves the body", 0, BODY - 19, BAD);
     change_buffer(t, "second data buffer leaves the body", 2, BODY - 19, BAD);
+    change_buffer(t, "second data buffer ends at 2^64", 2, UINT64_MAX - 19, BAD);
+    change_buffer(t, "first data buffer of 2^64 - 1 bytes", 1, UINT64_MAX, BAD);
     change_buffer(t, "first data buffer is short", 1, 18, BAD);
     change_buffer(t, "second data buffer is short", 3, 18, BAD);
 }

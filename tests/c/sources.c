@@ -98,8 +98,8 @@ static void short_tables(void) {
     cut(&t, "formats too short", FORMATS, 1, TYPE);
     cut(&t, "schema too short", SCHEMA, 16, TYPE);
     cut(&t, "lengths too short", LENGTHS, 8, BAD);
-    cut(&t, "places too short", PLACES, 4, BAD);
-    cut(&t, "buffers too short", BUFFERS, 4, BAD);
+    cut(&t, "places too short", PLACES, 8, BAD);
+    cut(&t, "buffers too short", BUFFERS, 8, BAD);
     finish(&t, "", "tables");
 }
 

@@ -71,7 +71,7 @@ static void trips(struct lafkuno_state *state, const struct lafkuno_tables *tabl
     answer = lafkuno_state_orders(state, tables, many, LAFKUNO_MOST_ORDERS + 1);
     expect("ground of a long list", LAFKUNO_ANSWER_GROUND(answer), LAFKUNO_CEILING_PASSED);
     expect("its place", LAFKUNO_ANSWER_PLACE(answer), 0);
-    expect("an empty list", lafkuno_orders(many, 0, tables->sources, 0, tables->sources, 0, many, 0, tables->sources, 0,
+    expect("an empty list", lafkuno_orders(many, 0, many, 0, tables->sources, 0, many, 0, many, 0,
                                            room, 0, state->counters, 0, state->room, 0, many, 0), LAFKUNO_DONE);
     expect("kept", !memcmp(counters, state->counters, sizeof counters) && !memcmp(room, state->room, sizeof room), 1);
     expect("a list", lafkuno_state_orders(state, tables, trip, 3), LAFKUNO_DONE);

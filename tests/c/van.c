@@ -12,8 +12,8 @@
 struct column {
     uint8_t formats[32];
     uint32_t formats_len, nodes, body_len;
-    uint32_t schema[5 * 4], places[9 * 4];
-    uint64_t lengths[2 * 4];
+    uint32_t schema[5 * 4];
+    uint64_t lengths[2 * 4], places[9 * 4];
     uint8_t body[512];
 };
 
@@ -25,7 +25,7 @@ struct row {
     const char *text;
 };
 
-static const uint32_t no_buffers[1];
+static const uint64_t no_buffers[1];
 static int failed;
 
 static void expect(const char *what, uint64_t got, uint64_t wanted) {
@@ -99,7 +99,8 @@ static void expect_row(const char *name, const struct column *c, const uint64_t 
 /* Rows 0 and 1, a null, rows 2 and 3 of the column as the finished array, over a body that has the room behind the old body. */
 static struct column join(const char *name, const struct column *c, uint64_t nulls) {
     const uint32_t n = c->nodes, one[2] = {0, n};
-    uint32_t *sources = lend(one, sizeof one), *schema = lend(c->schema, 20 * n), *places = lend(c->places, 36 * n), *buffers = lend(NULL, 0);
+    uint32_t *sources = lend(one, sizeof one), *schema = lend(c->schema, 20 * n);
+    uint64_t *places = lend(c->places, 72 * n), *buffers = lend(NULL, 0);
     uint8_t *formats = lend(c->formats, c->formats_len), *body = lend(c->body, c->body_len);
     uint64_t *lengths = lend(c->lengths, 16 * n), *plan = lend(NULL, 8 * LAFKUNO_PLAN), *counters = lend(NULL, 8 * LAFKUNO_COUNTERS);
 
@@ -110,10 +111,11 @@ static struct column join(const char *name, const struct column *c, uint64_t nul
     expect(name, lafkuno_measure_copy(PLAN, SOURCES, COUNTERS, 0, 0, 2), LAFKUNO_DONE);
     expect(name, lafkuno_measure_nulls(PLAN, COUNTERS, 1), LAFKUNO_DONE);
     expect(name, lafkuno_measure_copy(PLAN, SOURCES, COUNTERS, 0, 2, 4), LAFKUNO_DONE);
-    uint32_t count = lafkuno_part_count(PLAN), size = 0, *parts = lend(NULL, 8 * count);
+    uint32_t count = lafkuno_part_count(PLAN), size = 0;
+    uint64_t *parts = lend(NULL, 16 * count);
     for (uint32_t p = 0; p < count; p++) {
         parts[2 * p] = size;
-        size += parts[2 * p + 1] = (uint32_t)lafkuno_needed_bytes(PLAN, COUNTERS, p);
+        size += (uint32_t)(parts[2 * p + 1] = lafkuno_needed_bytes(PLAN, COUNTERS, p));
         expect(name, lafkuno_part_node(PLAN, p) < n, 1);
         expect(name, lafkuno_part_buffer(PLAN, p) < 3, 1);
     }
@@ -137,12 +139,12 @@ static struct column join(const char *name, const struct column *c, uint64_t nul
     /* the finished array */
     struct column out = *c;
     uint64_t *new_lengths = lend(NULL, 16 * n), *new_nulls = lend(NULL, 8 * n);
-    uint32_t *new_places = lend(NULL, 36 * n), *new_buffers = lend(NULL, 0);
+    uint64_t *new_places = lend(NULL, 72 * n), *new_buffers = lend(NULL, 0);
     expect(name, lafkuno_buffer_total(PLAN, sources, 2, places, 9 * n), 0);
     expect(name, lafkuno_finish(PLAN, PARTS, sources, 2, lengths, 2 * n, places, 9 * n, buffers, 0, body, c->body_len, COUNTERS, ROOM, c->body_len,
                                 new_lengths, 2 * n, new_nulls, n, new_places, 9 * n, new_buffers, 0), LAFKUNO_DONE);
     memcpy(out.lengths, new_lengths, 16 * n);
-    memcpy(out.places, new_places, 36 * n);
+    memcpy(out.places, new_places, 72 * n);
     memcpy(out.body + c->body_len, room, size);
     out.body_len += size;
     expect(name, out.lengths[0], 5);
@@ -289,10 +291,9 @@ static void foreign(void) {
     struct column k = {0}, *c = &k;
     const int32_t values[3] = {1, 2, 3};
     buffer(c, node(c, "i", 0, 3, 0), 1, values, sizeof values);
-    const uint32_t n = 1, sources[2] = {0, 1}, count = 1, parts[2] = {0, 12}, *places = c->places;
+    const uint32_t n = 1, sources[2] = {0, 1}, count = 1, *schema = c->schema;
     const uint8_t *body = c->body;
-    const uint64_t *lengths = c->lengths;
-    const uint32_t *buffers = no_buffers, *schema = c->schema;
+    const uint64_t *lengths = c->lengths, *places = c->places, *buffers = no_buffers, parts[2] = {0, 12};
     const uint8_t *formats = c->formats;
     uint8_t *room = lend(NULL, 12);
     uint64_t *plan = lend(NULL, 8 * LAFKUNO_PLAN), *counters = lend(NULL, 8 * LAFKUNO_COUNTERS);
@@ -329,9 +330,8 @@ static void gaps(void) {
         node(c, "+r", 2, 8, 1);
         buffer(c, node(c, "i", 0, 3, 0), 1, ends, sizeof ends);
         buffer(c, node(c, "C", 0, 3, 0), 1, "ABC", 3);
-        const uint32_t n = 3, sources[2] = {0, 3}, count = 3, *places = c->places, *buffers = no_buffers, *schema = c->schema;
-        const uint32_t runs = chosen ? 5 : 6, parts[6] = {0, 4 * runs, 24, 1, 25, runs};
-        const uint64_t *lengths = c->lengths;
+        const uint32_t n = 3, sources[2] = {0, 3}, count = 3, runs = chosen ? 5 : 6, *schema = c->schema;
+        const uint64_t *lengths = c->lengths, *places = c->places, *buffers = no_buffers, parts[6] = {0, 4 * runs, 24, 1, 25, runs};
         const uint8_t *body = c->body, *formats = c->formats;
         uint8_t *room = lend(NULL, 31);
         uint64_t *plan = lend(NULL, 8 * LAFKUNO_PLAN), *counters = lend(NULL, 8 * LAFKUNO_COUNTERS);

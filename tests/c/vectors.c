@@ -101,10 +101,10 @@ static void step(struct join *j, struct text *t) {
     case 'C': name(t); break;
     case '.': putchar('\n'); break;
     case 'S': fill(j, t, SOURCES, 4, 0); break;
-    case 'A': fill(j, t, PARTS, 4, 0); break;
+    case 'A': fill(j, t, PARTS, 8, 0); break;
     case 'Y': fill(j, t, SCHEMA, 4, 0); break;
-    case 'P': fill(j, t, PLACES, 4, 0); break;
-    case 'D': fill(j, t, BUFFERS, 4, 0); break;
+    case 'P': fill(j, t, PLACES, 8, 0); break;
+    case 'D': fill(j, t, BUFFERS, 8, 0); break;
     case 'L': fill(j, t, LENGTHS, 8, 0); break;
     case 'F': formats(j, t); break;
     case 'T': slice_resize(&j->lent[BODY], 0); break;

@@ -6,7 +6,7 @@
 enum { NODES_AT = 865, MOST_NODES = 32, MOST_NAMES = 128 };
 
 #define SET(k) ((uint32_t)1 << (k))
-#define TABLES WORDS(SOURCES), BYTES(FORMATS), WORDS(SCHEMA), LONGS(LENGTHS), WORDS(PLACES), WORDS(BUFFERS), BYTES(BODY)
+#define TABLES WORDS(SOURCES), BYTES(FORMATS), WORDS(SCHEMA), LONGS(LENGTHS), LONGS(PLACES), LONGS(BUFFERS), BYTES(BODY)
 
 uint32_t word_at(const struct join *j, int k, size_t i) {
     return i < j->lent[k].size / 4 ? ((uint32_t *)j->lent[k].start)[i] : 0;
@@ -46,20 +46,20 @@ void ask_parts(struct join *j, uint64_t choices) {
 
 void open_join(struct join *j, uint64_t choices) {
     keep_all(j);
-    uint8_t g = lafkuno_open(TABLES, choices & KEEP, choices & GAPS, WORDS(PARTS), LONGS(PLAN), LONGS(COUNTERS), BYTES(ROOM));
+    uint8_t g = lafkuno_open(TABLES, choices & KEEP, choices & GAPS, LONGS(PARTS), LONGS(PLAN), LONGS(COUNTERS), BYTES(ROOM));
     answered(j, "open", g, SET(PLAN) | SET(COUNTERS) | SET(ROOM));
 }
 
 void copy_rows(struct join *j, uint32_t source, uint64_t start, uint64_t end) {
     keep_all(j);
-    uint8_t g = lafkuno_copy(LONGS(PLAN), WORDS(PARTS), WORDS(SOURCES), LONGS(LENGTHS), WORDS(PLACES), BYTES(BODY), LONGS(COUNTERS), BYTES(ROOM),
+    uint8_t g = lafkuno_copy(LONGS(PLAN), LONGS(PARTS), WORDS(SOURCES), LONGS(LENGTHS), LONGS(PLACES), BYTES(BODY), LONGS(COUNTERS), BYTES(ROOM),
                              source, start, end);
     answered(j, "copy", g, SET(COUNTERS) | SET(ROOM));
 }
 
 void add_nulls(struct join *j, uint64_t n) {
     keep_all(j);
-    uint8_t g = lafkuno_nulls(LONGS(PLAN), WORDS(PARTS), LONGS(COUNTERS), BYTES(ROOM), n);
+    uint8_t g = lafkuno_nulls(LONGS(PLAN), LONGS(PARTS), LONGS(COUNTERS), BYTES(ROOM), n);
     answered(j, "nulls", g, SET(COUNTERS) | SET(ROOM));
 }
 
@@ -74,13 +74,13 @@ static void lend_blank(struct join *j, int k, size_t n) {
 /* New tables of n nodes, and of as many data buffers as the finished array names. */
 static void lend_new(struct join *j, size_t n) {
     keep_all(j);
-    uint64_t names = lafkuno_buffer_total(LONGS(PLAN), WORDS(SOURCES), WORDS(PLACES));
+    uint64_t names = lafkuno_buffer_total(LONGS(PLAN), WORDS(SOURCES), LONGS(PLACES));
     slices_kept(j->lent, SLICES, 0);
     if (names > MOST_NAMES) names = MOST_NAMES;
     lend_blank(j, NEW_LENGTHS, 16 * n);
     lend_blank(j, NEW_NULLS, 8 * n);
-    lend_blank(j, NEW_PLACES, 36 * n);
-    lend_blank(j, NEW_BUFFERS, 8 * (size_t)names);
+    lend_blank(j, NEW_PLACES, 72 * n);
+    lend_blank(j, NEW_BUFFERS, 16 * (size_t)names);
 }
 
 /* n bytes of slice `from`, from byte `at` on, behind slice `to`. */
@@ -96,25 +96,25 @@ static void append(struct join *j, int to, int from, size_t at, size_t n) {
 
 /* The finished array behind the tables, with source 0's type, and the room behind the body. */
 static void add_finished(struct join *j) {
-    size_t n = j->lent[NEW_NULLS].size / 8, places = j->lent[PLACES].size / 4;
-    uint32_t names = (uint32_t)(j->lent[BUFFERS].size / 8);
+    size_t n = j->lent[NEW_NULLS].size / 8, places = j->lent[PLACES].size / 8;
+    uint64_t names = j->lent[BUFFERS].size / 16;
     j->first = (uint32_t)(j->lent[LENGTHS].size / 16);
     j->nodes = (uint32_t)n;
     append(j, SCHEMA, SCHEMA, 20 * (size_t)word_at(j, SOURCES, 0), 20 * n);
     append(j, LENGTHS, NEW_LENGTHS, 0, 16 * n);
-    append(j, PLACES, NEW_PLACES, 0, 36 * n);
+    append(j, PLACES, NEW_PLACES, 0, 72 * n);
     append(j, BUFFERS, NEW_BUFFERS, 0, j->lent[NEW_BUFFERS].size);
     append(j, BODY, ROOM, 0, j->lent[ROOM].size);
-    for (size_t i = 0; i < n; i++) ((uint32_t *)j->lent[PLACES].start)[places + 9 * i + 7] += names;
+    for (size_t i = 0; i < n; i++) ((uint64_t *)j->lent[PLACES].start)[places + 9 * i + 7] += names;
 }
 
 void finish_join(struct join *j, uint64_t more, uint64_t beyond) {
     uint64_t nodes = long_at(j, PLAN, NODES_AT);
-    uint32_t base = (uint32_t)(j->lent[BODY].size + beyond);
+    uint64_t base = j->lent[BODY].size + beyond;
     lend_new(j, (size_t)((nodes < MOST_NODES ? nodes : MOST_NODES) + more));
     keep_all(j);
-    uint8_t g = lafkuno_finish(LONGS(PLAN), WORDS(PARTS), WORDS(SOURCES), LONGS(LENGTHS), WORDS(PLACES), WORDS(BUFFERS), BYTES(BODY),
-                               LONGS(COUNTERS), BYTES(ROOM), base, LONGS(NEW_LENGTHS), LONGS(NEW_NULLS), WORDS(NEW_PLACES), WORDS(NEW_BUFFERS));
+    uint8_t g = lafkuno_finish(LONGS(PLAN), LONGS(PARTS), WORDS(SOURCES), LONGS(LENGTHS), LONGS(PLACES), LONGS(BUFFERS), BYTES(BODY),
+                               LONGS(COUNTERS), BYTES(ROOM), base, LONGS(NEW_LENGTHS), LONGS(NEW_NULLS), LONGS(NEW_PLACES), LONGS(NEW_BUFFERS));
     answered(j, "finish", g, SET(NEW_LENGTHS) | SET(NEW_NULLS) | SET(NEW_PLACES) | SET(NEW_BUFFERS));
     if (g != LAFKUNO_DONE || beyond != 0) return;
     add_finished(j);

@@ -47,8 +47,8 @@ static void put_bytes(const struct join *j, uint64_t at, uint64_t n) {
 
 /* The buffer whose two numbers stand in a table from number `at` on. */
 static void show_place(const struct join *j, int table, size_t at) {
-    uint64_t n = word_at(j, table, at + 1);
-    const uint8_t *s = body_at(j, word_at(j, table, at), &n);
+    uint64_t n = long_at(j, table, at + 1);
+    const uint8_t *s = body_at(j, long_at(j, table, at), &n);
     put_buffer(s, n);
 }
 
@@ -56,13 +56,13 @@ static void show_node(const struct join *j, size_t i) {
     size_t node = j->first + i, at = 9 * node;
     printf(" | %llu+%llu %llu", (unsigned long long)long_at(j, LENGTHS, 2 * node), (unsigned long long)long_at(j, LENGTHS, 2 * node + 1),
            (unsigned long long)long_at(j, NEW_NULLS, i));
-    if (word_at(j, PLACES, at) == 0) fputs(" no", stdout);
+    if (long_at(j, PLACES, at) == 0) fputs(" no", stdout);
     else show_place(j, PLACES, at + 1);
     show_place(j, PLACES, at + 3);
     show_place(j, PLACES, at + 5);
-    for (uint32_t d = 0; d < word_at(j, PLACES, at + 8); d++) {
+    for (uint64_t d = 0; d < long_at(j, PLACES, at + 8); d++) {
         fputs(" d", stdout);
-        show_place(j, BUFFERS, 2 * ((size_t)word_at(j, PLACES, at + 7) + d));
+        show_place(j, BUFFERS, 2 * (size_t)(long_at(j, PLACES, at + 7) + d));
     }
 }
 
@@ -89,11 +89,11 @@ static uint8_t read_row(struct join *j, uint32_t first, uint32_t n, uint64_t row
     slice_resize(&j->lent[TREE], 8 * LAFKUNO_TREE);
     slice_resize(&j->lent[ANSWER], 8 * LAFKUNO_ANSWER);
     slices_keep(j->lent, SLICES);
-    uint8_t g = lafkuno_open_column(BYTES(FORMATS), WORDS(SCHEMA), LONGS(LENGTHS), WORDS(PLACES), WORDS(BUFFERS), BYTES(BODY), first, n, LONGS(TREE));
+    uint8_t g = lafkuno_open_column(BYTES(FORMATS), WORDS(SCHEMA), LONGS(LENGTHS), LONGS(PLACES), LONGS(BUFFERS), BYTES(BODY), first, n, LONGS(TREE));
     int kept = slices_kept(j->lent, SLICES, (uint32_t)1 << TREE);
     if (g != LAFKUNO_DONE) return kept ? LAFKUNO_REFUSED + g : UINT8_MAX;
     slices_keep(j->lent, SLICES);
-    uint8_t kind = lafkuno_read_row(LONGS(TREE), LONGS(LENGTHS), WORDS(PLACES), WORDS(BUFFERS), BYTES(BODY), first, row, LONGS(ANSWER));
+    uint8_t kind = lafkuno_read_row(LONGS(TREE), LONGS(LENGTHS), LONGS(PLACES), LONGS(BUFFERS), BYTES(BODY), first, row, LONGS(ANSWER));
     kept = slices_kept(j->lent, SLICES, (uint32_t)1 << ANSWER);
     return kind < LAFKUNO_REFUSED || kept ? kind : UINT8_MAX;
 }

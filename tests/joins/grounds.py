@@ -1,11 +1,12 @@
 """Each ground of document 01 through the entry points, at its edge and one past it. A `told` step has its answer by hand, from 01's words
 or, for a foreign state, from refinement/specs/orders/Order.antt and refinement/specs/finishing/Finish.antt."""
 from arrow import OFFSETS, Column, Laid, Type, keyed, make, number, numbers, run_column
-from script import refused, run
+from script import Script, refused, run
 
 DONE = [('finish',), ('rows',)]
 END = Type('i', nullable=False)
 STOPS = Type('+l', Type('C'))
+TOP = (1 << 64) - 1
 
 
 def laid_of(*columns):
@@ -201,6 +202,66 @@ def many_bytes(script):
     script.end()
 
 
+# ---- numbers near 2^64: no sum of a start and a size, nor entries times their width, wraps into the body or the room
+
+def far_places(script, c):
+    """Each buffer that a node has, at the body's end by a sum that wraps."""
+    places = laid_of(c).places
+    for at in [9 * node + j for node in range(len(places) // 9) for j in (1, 3, 5)]:
+        start, size = places[at:at + 2]
+        if not size: continue
+        tell = lambda what, k, value: refused(script, '12 %s: place %d %s' % (c.type.format, at, what), changed(laid_of(c), 'places', at + k, value), 12)
+        tell('ends at 2^64', 0, TOP + 1 - size)
+        tell('begins at 2^64 - 1', 0, TOP)
+        tell('wraps into the body', 1, TOP)
+        tell('ends at 2^63', 1, (1 << 63) - start)
+
+
+def far_rows(script):
+    """As many slots as wrap to a few bytes when they are multiplied."""
+    for f, w in (('s', 2), ('i', 4), ('l', 8), ('vu', 16)):
+        c = make(Type(f), [b'a' if f == 'vu' else 1])
+        refused(script, '12 %s: 2^64 bytes of rows' % f, changed(laid_of(c), 'lengths', 0, (1 << 64) // w if w > 2 else (1 << 63) - 1), 12)
+        refused(script, '12 %s: 2^64 bytes and a row' % f, changed(changed(laid_of(c), 'lengths', 0, 1), 'lengths', 1, (1 << 64) // w if w > 2 else (1 << 63) - 2), 12)
+    c = make(Type('C'), [1, None])
+    refused(script, '12 C: 2^63 - 1 bits of validity', changed(laid_of(c), 'lengths', 0, (1 << 63) - 1), 12)
+
+
+def far_parts(script):
+    t = Type('+vl', Type('u'))
+    columns, steps = [make(t, [[b'ab', None], None])], [('copy', 0, 0, 2)]
+    far = lambda q, start, size: lambda own: [(start(x), size(x)) if p == q else x for p, x in enumerate(own)]
+    for q in range(6):
+        run(script, '14 part %d begins at 2^64 - 1' % q, columns, steps, table=far(q, lambda x: TOP, lambda x: x[1]))
+        run(script, '14 part %d ends at 2^64' % q, columns, steps, table=far(q, lambda x: TOP + 1 - x[1], lambda x: x[1]))
+        run(script, '14 part %d wraps into the room' % q, columns, steps, table=far(q, lambda x: x[0], lambda x: TOP))
+        run(script, '14 part %d ends at 2^63' % q, columns, steps, table=far(q, lambda x: x[0], lambda x: (1 << 63) - x[0]))
+    own = run(Script(), '', columns, steps).table
+    for word in range(12):
+        parts = [x for part in own for x in part]
+        parts[word] = TOP
+        run(script, 'foreign: number %d of the parts is 2^64 - 1' % word, columns, steps + [('told', 'A 12 %s E 0 0 1' % ' '.join(map(str, parts)), ' copy 14 kept'), ('told', 'W 0 0', ' finish 14 kept')])
+
+
+def far_numbers(script):
+    views = make(Type('vu'), [b'thirteen byte', b'a', b'another long one'])
+    for c in (make(Type('i'), [1, None]), make(Type('u'), [b'ab', None]), views, make(STOPS, [[1], None]), make(Type('+vL', Type('s')), [[1], None]), make(Type('+ud:5', Type('C')), [(5, 1)]), make(Type('+r', END, Type('u')), [b'a', None])):
+        far_places(script, c)
+    for at, value in ((0, TOP), (0, TOP - 13), (1, TOP), (1, TOP + 1 - laid_of(views).buffers[0])):
+        refused(script, '12 vu: data buffer, number %d is %d' % (at, value), changed(laid_of(views), 'buffers', at, value), 12)
+    for first in (TOP, 1 << 63, (1 << 63) - 1, 1 << 62):
+        refused(script, '12 vu: data buffers from %d on' % first, changed(laid_of(views), 'places', 7, first), 12)
+    refused(script, '9 vu: 2^64 - 1 data buffers', changed(laid_of(views), 'places', 8, TOP), 9)
+    far_rows(script)
+    far_parts(script)
+    c = make(Type('C'), [1, 2, None])
+    for j in (1, 2, 3, 4):
+        places = list(laid_of(c).places)
+        places[j] = TOP
+        told = 'P 9 %s E 0 0 3' % ' '.join(map(str, places))
+        run(script, 'foreign: place %d is 2^64 - 1' % j, [c], [('copy', 0, 0, 3), ('told', told, ' copy 12 kept' if j in (1, 3) else ' copy 13 kept')])
+
+
 # ---- a state, sources or room other than the last call left them
 
 def foreign(script):
@@ -218,9 +279,9 @@ def foreign(script):
     tell('another source', ('S 2 9 1 E 0 0 1', ' copy 2 kept'), ('E 0 0 0', ' copy 0'))
     tell('no tables', ('L 0 P 0 E 0 0 1', ' copy 2 kept'))
     tell('a finished table too long', ('W 1 0', ' finish 14 kept'))
-    room = 3 + 1 + 1 + 3 + 1
-    base = 2 + 3 + 1 + 1 + 1 + 1
-    tell('a base that leaves 32 bits', ('W 0 %d' % ((1 << 32) - base - room), ' finish 9 kept'), ('W 0 %d' % ((1 << 32) - 1 - base - room), ' finish 0'))
+    base = lambda n: 'W 0 %d' % (n - len(laid_of(c).body))
+    tell('a base above 32 bits', (base(1 << 32), ' finish 0'), (base(1 << 40), ' finish 0'))
+    tell('a base above the ceiling', (base((1 << 63) - 1), ' finish 0'), (base(1 << 63), ' finish 9 kept'), (base(TOP), ' finish 9 kept'))
     t = Type('u')
     d = make(t, [b'ab'])
     run(script, 'foreign: counters of ones at a byte string', [d], [('copy', 0, 0, 1), ('told', 'K 96 18446744073709551615 E 0 0 1', ' copy 12 kept')])
@@ -236,4 +297,5 @@ def ground_cases(script):
     run_ends(script)
     offsets(script)
     many_bytes(script)
+    far_numbers(script)
     foreign(script)

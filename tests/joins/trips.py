@@ -37,9 +37,9 @@ class Lent:
         self.library, self.room, self.size = library, (ctypes.c_uint8 * max(1, room))(*b'\xee' * room), ctypes.c_size_t(room)
         self.plan, self.counters = lend(ctypes.c_uint64, [7] * PLAN), lend(ctypes.c_uint64, [7] * COUNTERS)
         tables = [(ctypes.c_uint32, laid.sources), (ctypes.c_uint8, laid.formats), (ctypes.c_uint32, laid.schema), (ctypes.c_uint64, laid.lengths)]
-        tables += [(ctypes.c_uint32, laid.places), (ctypes.c_uint32, laid.buffers), (ctypes.c_uint8, laid.body)]
+        tables += [(ctypes.c_uint64, laid.places), (ctypes.c_uint64, laid.buffers), (ctypes.c_uint8, laid.body)]
         self.tables = [lend(kind, [x % (1 << 64) for x in table]) for kind, table in tables]
-        self.parts = lend(ctypes.c_uint32, [x for part in table for x in part])
+        self.parts = lend(ctypes.c_uint64, [x for part in table for x in part])
 
     def flat(self, slices):
         return [x for s in slices for x in s]

@@ -80,7 +80,7 @@ def _candidates():
     for path in (here / "liblafkuno.so", here.parents[2] / "target" / "c" / "liblafkuno.so"):
         if path.exists():
             yield str(path)
-    yield "liblafkuno.so.0"
+    yield "liblafkuno.so.0.2"
 
 
 def _load():

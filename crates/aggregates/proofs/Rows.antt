@@ -13,12 +13,12 @@ use Rattle.columnar.specs.Formed.{RunWidth}
 use Rattle.columnar.specs.Reading.{read, Source}
 use Rattle.formats.specs.Code.{isInteger, isRunEnd, widthOf}
 use Rattle.schema.specs.Tree.{ceilings, typed}
-use Rattle.array_data.specs.Tables.{Tables, lengthOf, offsetOf, validOf, firstBuffer}
+use Rattle.array_data.specs.Tables.{Tables, lengthOf, offsetOf, place, validOf, firstBuffer}
 use Rattle.array_data.specs.Typed.{Tree, columnOf, tablesFrom, sourceRule}
 use Rattle.array_data.specs.type_tree.Lent.{treeOf, typeOf}
 use Rattle.array_data.proofs.type_tree.Source.{lent-source}
 use Rattle.array_data.proofs.lent_tables.Laws.{and-left, and-right}
-use Rattle.columns.specs.Grounds.{smallBody, withinCeilings, obeys, columnGround}
+use Rattle.columns.specs.Grounds.{ceiling, smallBody, withinCeilings, obeys, columnGround}
 use Rattle.columns.proofs.Grounds.{within-low}
 use Rattle.columns.proofs.Answers.{sum-fits}
 use Rattle.source_rules.proofs.From.{length-from, offset-from}
@@ -47,7 +47,7 @@ true-is b e = subst T (sym e) tt
 
 -- what an accepted column has passed
 record Passed (formats schema : List ℕ) (x : Tables) (first n : ℕ) : Type 0 where
-  pub low-body : length (x .body) ≤ 4294967295
+  pub low-body : length (x .body) ≤ ceiling
   pub within : withinCeilings formats schema x first n ≡ true
   pub of-type : typed formats schema first n ≡ true
   pub obeying : T (sourceRule (treeOf formats schema first n) (tablesFrom x first))
@@ -59,7 +59,7 @@ passed formats schema x first n h =
     let q = chosen (typed formats schema first n) _ 10 (omega arith) (p .1) in
     let r = chosen (obeys formats schema x first n) 0 12 (omega arith) (q .1) in
     record {
-      low-body = leb-true (length (x .body)) 4294967295 (and-left (smallBody (x .body)) (withinCeilings formats schema x first n) (p .0));
+      low-body = leb-true (length (x .body)) ceiling (and-left (smallBody (x .body)) (withinCeilings formats schema x first n) (p .0));
       within = and-right (smallBody (x .body)) (withinCeilings formats schema x first n) (p .0);
       of-type = q .0;
       obeying = true-is _ (r .0);
@@ -163,8 +163,8 @@ module _ (formats schema : List ℕ) (x : Tables) (first n : ℕ) (g : columnGro
     ends-sum : offsetOf xs 1 + lengthOf xs 1 < 2 ^ 63
     ends-sum = sums 1 (omega (arith, values-in))
 
-    ends-bytes : v * (offsetOf xs 1 + lengthOf xs 1) < 2 ^ 63
-    ends-bytes = omega (arith, ends-fit tree xs v of-width values source2 low64, pass .low-body)
+    ends-bytes : 0 < v * (offsetOf xs 1 + lengthOf xs 1) → place xs 1 3 + v * (offsetOf xs 1 + lengthOf xs 1) < 2 ^ 64
+    ends-bytes more = omega (arith, ends-fit tree xs v of-width values source2 low64 more, pass .low-body)
 
     abbrev nums : Numbers
     nums = runNumbers xs c2 v
@@ -222,7 +222,7 @@ module _ (formats schema : List ℕ) (x : Tables) (first n : ℕ) (g : columnGro
   pub record Sound (s : Shape) : Type 0 where
     pub is-integer : isInteger (s .code) ≡ true
     pub runs-sum : s .runs ≡ true → offsetOf xs 1 + lengthOf xs 1 < 2 ^ 63
-    pub runs-bytes : s .runs ≡ true → s .width * (offsetOf xs 1 + lengthOf xs 1) < 2 ^ 63
+    pub runs-bytes : s .runs ≡ true → 0 < s .width * (offsetOf xs 1 + lengthOf xs 1) → place xs 1 3 + s .width * (offsetOf xs 1 + lengthOf xs 1) < 2 ^ 64
     pub good : Good (x .body) (rowOf formats schema x first n) (lengthOf xs 0) (numbersOf xs s)
 
   plain-sound : (e : isRunEnd (code formats schema first 0) ≡ false) → (h : rows-whole formats schema first n (pass .of-type) ≡ true) → Sound (record { runs = false; code = code formats schema first 0; width = 0 })

@@ -4,7 +4,7 @@ ghost use mathlib.Core.Bool.{true};
 ghost use mathlib.Core.List.{[]};
 ghost use Prim.Native.Nat.{_+_, _*_, _≤_, _<_, _^_};
 ghost use Rattle.formats.specs.Code.{isInteger};
-ghost use Rattle.array_data.specs.Tables.{lengthOf, offsetOf};
+ghost use Rattle.array_data.specs.Tables.{lengthOf, offsetOf, place};
 ghost use Rattle.source_rules.specs.kinds.Rows.{tablesOf};
 ghost use Rattle.array_data.specs.entries.Entries.{column};
 ghost use Rattle.sums.specs.tally.Cells.{talliedBy};
@@ -93,7 +93,7 @@ fn find_shape(formats: &[u8], schema: &[u32], first: u32) -> Shape
 
 // ---- where their rows stand
 
-fn find_plain(lengths: &[u64], places: &[u32], first: u32, code: u8) -> Numbers
+fn find_plain(lengths: &[u64], places: &[u64], first: u32, code: u8) -> Numbers
     requires { ⌜ isInteger code ≡ true ⌝ }
     ensures { λ r. ⌜ r ≡ plainNumbers (column (now (lengths .entry)) (now (places .entry)) [] [] first) code ⌝ }
 {
@@ -114,10 +114,10 @@ fn find_plain(lengths: &[u64], places: &[u32], first: u32, code: u8) -> Numbers
     }
 }
 
-fn find_runs(lengths: &[u64], places: &[u32], first: u32, code: u8, width: u8) -> Numbers
+fn find_runs(lengths: &[u64], places: &[u64], first: u32, code: u8, width: u8) -> Numbers
     requires { ⌜ isInteger code ≡ true ⌝ }
     requires { ⌜ offsetOf (column (now lengths) [] [] [] first) 1 + lengthOf (column (now lengths) [] [] [] first) 1 < 2 ^ 63 ⌝ }
-    requires { ⌜ width * (offsetOf (column (now lengths) [] [] [] first) 1 + lengthOf (column (now lengths) [] [] [] first) 1) < 2 ^ 63 ⌝ }
+    requires { ⌜ (0 < width * (offsetOf (column (now lengths) [] [] [] first) 1 + lengthOf (column (now lengths) [] [] [] first) 1) → place (column [] (now places) [] [] first) 1 3 + width * (offsetOf (column (now lengths) [] [] [] first) 1 + lengthOf (column (now lengths) [] [] [] first) 1) < 2 ^ 64) ⌝ }
     ensures { λ r. ⌜ r ≡ runNumbers (column (now (lengths .entry)) (now (places .entry)) [] [] first) code width ⌝ }
 {
     let ends = stretches::find_ends(lengths, places, first, width);
@@ -131,10 +131,10 @@ fn find_runs(lengths: &[u64], places: &[u32], first: u32, code: u8, width: u8) -
     }
 }
 
-fn find_numbers(lengths: &[u64], places: &[u32], first: u32, s: Shape) -> Numbers
+fn find_numbers(lengths: &[u64], places: &[u64], first: u32, s: Shape) -> Numbers
     requires { ⌜ isInteger (s .code) ≡ true ⌝ }
     requires { ⌜ (s .runs ≡ true → offsetOf (column (now lengths) [] [] [] first) 1 + lengthOf (column (now lengths) [] [] [] first) 1 < 2 ^ 63) ⌝ }
-    requires { ⌜ (s .runs ≡ true → s .width * (offsetOf (column (now lengths) [] [] [] first) 1 + lengthOf (column (now lengths) [] [] [] first) 1) < 2 ^ 63) ⌝ }
+    requires { ⌜ (s .runs ≡ true → 0 < s .width * (offsetOf (column (now lengths) [] [] [] first) 1 + lengthOf (column (now lengths) [] [] [] first) 1) → place (column [] (now places) [] [] first) 1 3 + s .width * (offsetOf (column (now lengths) [] [] [] first) 1 + lengthOf (column (now lengths) [] [] [] first) 1) < 2 ^ 64) ⌝ }
     ensures { λ r. ⌜ r ≡ numbersOf (column (now (lengths .entry)) (now (places .entry)) [] [] first) s ⌝ }
 {
     if s.runs {
@@ -173,8 +173,8 @@ pub fn mean(
     formats: &[u8],
     schema: &[u32],
     lengths: &[u64],
-    places: &[u32],
-    buffers: &[u32],
+    places: &[u64],
+    buffers: &[u64],
     body: &[u8],
     first: u32,
     n: u32,
@@ -232,8 +232,8 @@ pub fn ratio(
     formats: &[u8],
     schema: &[u32],
     lengths: &[u64],
-    places: &[u32],
-    buffers: &[u32],
+    places: &[u64],
+    buffers: &[u64],
     body: &[u8],
     first_a: u32,
     n_a: u32,

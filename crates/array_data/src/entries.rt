@@ -42,7 +42,7 @@ pub fn offset_at(lengths: &[u64], first: u32, i: usize) -> u64
 }
 
 // Number j of its nine places.
-pub fn place_at(places: &[u32], first: u32, i: usize, j: usize) -> u32
+pub fn place_at(places: &[u64], first: u32, i: usize, j: usize) -> u64
     requires { ⌜ (i < 2 ^ 32) × (j < 9) ⌝ }
     ensures { λ r. ⌜ r ≡ place (column [] (now (places .entry)) [] [] first) i j ⌝ }
 {
@@ -52,13 +52,13 @@ pub fn place_at(places: &[u32], first: u32, i: usize, j: usize) -> u32
 // ---- entries of the buffer of `size` bytes from `start` on, as far as the body reaches
 
 // Where entry `slot` of w bytes begins.
-pub fn find_spot(body: &[u8], start: u32, size: u32, w: u8, slot: u64) -> Spot
+pub fn find_spot(body: &[u8], start: u64, size: u64, w: u8, slot: u64) -> Spot
     ensures { λ r. ⌜ r ≡ spotIn start w (part (now (body .entry)) start size) slot ⌝ }
 {
     if w == 0 {
         return Spot::Outside;
     }
-    let len = lent_tables::part_len(body, start, size) as u64;
+    let len = lent_tables::part_len(body, start, size);
     if len / (w as u64) <= slot {
         return Spot::Outside;
     }
@@ -66,7 +66,7 @@ pub fn find_spot(body: &[u8], start: u32, size: u32, w: u8, slot: u64) -> Spot
 }
 
 // The number in entry `slot` of w bytes, without a sign.
-pub fn read_entry(body: &[u8], start: u32, size: u32, w: u8, slot: u64) -> Entry
+pub fn read_entry(body: &[u8], start: u64, size: u64, w: u8, slot: u64) -> Entry
     ensures { λ r. ⌜ r ≡ entryIn w (part (now (body .entry)) start size) slot ⌝ }
 {
     let Spot::At(at) = find_spot(body, start, size, w, slot) else {
@@ -82,7 +82,7 @@ pub fn read_entry(body: &[u8], start: u32, size: u32, w: u8, slot: u64) -> Entry
 }
 
 // Whether slot `slot` of node i is valid.
-pub fn valid_at(places: &[u32], body: &[u8], first: u32, i: usize, slot: u64) -> Validity
+pub fn valid_at(places: &[u64], body: &[u8], first: u32, i: usize, slot: u64) -> Validity
     requires { ⌜ i < 2 ^ 32 ⌝ }
     ensures { λ r. ⌜ r ≡ validIn (validOf (column [] (now (places .entry)) [] (now (body .entry)) first) i) slot ⌝ }
 {

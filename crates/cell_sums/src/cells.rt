@@ -55,7 +55,7 @@ pub fn lift_of(w: u8) -> u64
 }
 
 // Node i of the column that begins at node `first` of the tables.
-pub fn find_cells(places: &[u32], first: u32, i: usize, code: u8) -> Cells
+pub fn find_cells(places: &[u64], first: u32, i: usize, code: u8) -> Cells
     requires { ⌜ (i < 2 ^ 32) × (isInteger code ≡ true) ⌝ }
     ensures { λ r. ⌜ r ≡ cellsOf (column [] (now (places .entry)) [] [] first) i code ⌝ }
 {

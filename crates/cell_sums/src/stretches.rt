@@ -3,7 +3,7 @@ ghost use mathlib.Core.Path.{_≡_};
 ghost use mathlib.Core.List.{[]};
 ghost use Prim.Native.Nat.{_+_, _*_, _-_, _≤_, _<_, _^_};
 ghost use lib.ListN.{length};
-ghost use Rattle.array_data.specs.Tables.{part, lengthOf, offsetOf};
+ghost use Rattle.array_data.specs.Tables.{part, lengthOf, offsetOf, place};
 ghost use Rattle.array_data.specs.entries.Entries.{column};
 ghost use Rattle.leaf_row.specs.run.Rows.{rowRun};
 ghost use Rattle.cell_sums.specs.stretches.Ends.{endsOf};
@@ -22,9 +22,9 @@ pub struct Ends {
 }
 
 // Those of the column that begins at node `first` of the tables.
-pub fn find_ends(lengths: &[u64], places: &[u32], first: u32, width: u8) -> Ends
+pub fn find_ends(lengths: &[u64], places: &[u64], first: u32, width: u8) -> Ends
     requires { ⌜ offsetOf (column (now lengths) [] [] [] first) 1 + lengthOf (column (now lengths) [] [] [] first) 1 < 2 ^ 63 ⌝ }
-    requires { ⌜ width * (offsetOf (column (now lengths) [] [] [] first) 1 + lengthOf (column (now lengths) [] [] [] first) 1) < 2 ^ 63 ⌝ }
+    requires { ⌜ (0 < width * (offsetOf (column (now lengths) [] [] [] first) 1 + lengthOf (column (now lengths) [] [] [] first) 1) → place (column [] (now places) [] [] first) 1 3 + width * (offsetOf (column (now lengths) [] [] [] first) 1 + lengthOf (column (now lengths) [] [] [] first) 1) < 2 ^ 64) ⌝ }
     ensures { λ r. ⌜ r ≡ endsOf (column (now (lengths .entry)) (now (places .entry)) [] [] first) width ⌝ }
 {
     let w = width as usize;

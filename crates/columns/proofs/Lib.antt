@@ -3,3 +3,4 @@ pub mod Laws
 pub mod Grounds
 pub mod Itself
 pub mod Answers
+pub mod Before

@@ -1,7 +1,7 @@
 -- Grounds 9, 10, 11 and 12 of lent columns (01, "Grounds of refusal"; docs/FORMAT.md). Assumes nothing.
 use mathlib.Core.Bool.{Bool, true, false, not, cond, _&&_, _||_}
 use mathlib.Core.List.{List}
-use Prim.Native.Nat.{ℕ, _+_, _*_, _/_, _^_}
+use Prim.Native.Nat.{ℕ, _+_, _-_, _*_, _/_, _^_}
 use lib.ListN.{length, getD}
 use lib.Dec.{leb, ltb}
 use Rattle.formats.specs.Code.{isView}
@@ -14,9 +14,12 @@ use Rattle.array_data.specs.type_tree.Lent.{treeOf}
 unfoldable pub countFits : Tables → ℕ → Bool
 countFits x k = ltb (offsetOf x k + lengthOf x k) (2 ^ 63)
 
--- "Each body has at most 4,294,967,295 bytes"
+-- "Each body has at most 2^63−1 bytes"
+abbrev pub ceiling : ℕ
+ceiling = 2 ^ 63 - 1
+
 unfoldable pub smallBody : List ℕ → Bool
-smallBody body = leb (length body) 4294967295
+smallBody body = leb (length body) ceiling
 
 module _ (formats schema : List ℕ) (x : Tables) where
   -- "at most 32 data buffers per view node and source"

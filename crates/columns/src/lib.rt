@@ -26,7 +26,7 @@ fn count_fits(lengths: &[u64], k: usize) -> bool
 }
 
 // Whether node i is no view node, or one of at most 32 data buffers.
-fn has_few_buffers(formats: &[u8], schema: &[u32], places: &[u32], first: usize, i: usize) -> bool
+fn has_few_buffers(formats: &[u8], schema: &[u32], places: &[u64], first: usize, i: usize) -> bool
     requires { ⌜ (first < 2 ^ 32) × (i < 32) ⌝ }
     ensures { λ r. ⌜ r ≡ fewBuffers (now (formats .entry)) (now (schema .entry)) (tables [] (now (places .entry)) []) first i ⌝ }
 {
@@ -40,7 +40,7 @@ fn all_fit(
     formats: &[u8],
     schema: &[u32],
     lengths: &[u64],
-    places: &[u32],
+    places: &[u64],
     first: usize,
     n: usize,
 ) -> bool
@@ -65,7 +65,7 @@ fn is_within(
     formats: &[u8],
     schema: &[u32],
     lengths: &[u64],
-    places: &[u32],
+    places: &[u64],
     first: u32,
     n: u32,
 ) -> bool
@@ -79,11 +79,11 @@ fn is_within(
     all_fit(formats, schema, lengths, places, from, nodes)
 }
 
-// Whether a body has at most 4,294,967,295 bytes.
+// Whether a body has at most 2^63 - 1 bytes.
 fn is_small(body: &[u8]) -> bool
     ensures { λ r. ⌜ r ≡ smallBody (now (body .entry)) ⌝ }
 {
-    body.len() <= 4294967295
+    body.len() <= 9223372036854775807
 }
 
 // THE GROUND OF ONE COLUMN of n nodes from node `first` on: 9, 10 or 12, and 0 where it is accepted.
@@ -91,8 +91,8 @@ pub fn column_ground(
     formats: &[u8],
     schema: &[u32],
     lengths: &[u64],
-    places: &[u32],
-    buffers: &[u32],
+    places: &[u64],
+    buffers: &[u64],
     body: &[u8],
     first: u32,
     n: u32,
@@ -140,7 +140,7 @@ fn all_within(
     formats: &[u8],
     schema: &[u32],
     lengths: &[u64],
-    places: &[u32],
+    places: &[u64],
 ) -> bool
     ensures { λ r. ⌜ r ≡ allWithin (now (formats .entry)) (now (schema .entry)) (tables (now (lengths .entry)) (now (places .entry)) []) (now (sources .entry)) ⌝ }
 {
@@ -199,8 +199,8 @@ fn all_obey(
     formats: &[u8],
     schema: &[u32],
     lengths: &[u64],
-    places: &[u32],
-    buffers: &[u32],
+    places: &[u64],
+    buffers: &[u64],
     body: &[u8],
 ) -> bool
     requires { ⌜ (allWithin (now formats) (now schema) (tables (now lengths) (now places) []) (now sources) ≡ true) × (allTyped (now formats) (now schema) (now sources) ≡ true) ⌝ }
@@ -235,8 +235,8 @@ pub fn sources_ground(
     formats: &[u8],
     schema: &[u32],
     lengths: &[u64],
-    places: &[u32],
-    buffers: &[u32],
+    places: &[u64],
+    buffers: &[u64],
     body: &[u8],
 ) -> u8
     ensures { λ r. ⌜ r ≡ sourcesGround (now (formats .entry)) (now (schema .entry)) (tablesOf (now (lengths .entry)) (now (places .entry)) (now (buffers .entry)) (now (body .entry))) (now (sources .entry)) ⌝ }

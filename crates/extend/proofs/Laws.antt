@@ -117,7 +117,7 @@ pairs-row x at at2 v w slot n r e h l =
     let p = rows-in x at v slot n (sym (and-left (rowsIn x at v slot n) _ (yes e h))) refl in
     let q = rows-in x at2 w slot n (sym (and-right (rowsIn x at v slot n) _ (yes e h))) refl in
     let k : slot + r + 1 ≤ slot + n = omega arith in
-    (omega (arith, p .1, mul-le-mul-left v k), omega (arith, q .1, mul-le-mul-left w k))
+    (omega (arith, mul-le-mul-left v k), omega (arith, mul-le-mul-left w k))
 
 -- ---- list-views
 
@@ -237,7 +237,7 @@ module _ (x : Join) (child : Walk) (wr : Bool) (i slot n : ℕ) (c room : List �
             → 0 ≡ need t 12 c (need u 7 c (need v 12 c (done c))) .ans → Ready x i n c
         go true true true e f h q =
             let a = ends-ready i W (sym e) refl in
-            record { low = a .0; wide = a .1; fits = ltb-true (rows c i + n) (half W) f; inside = rows-in x (place x (suc i) 3) W (offsetOf x (suc i)) (lengthOf x (suc i)) (sym h) refl .1 }
+            record { low = a .0; wide = a .1; fits = ltb-true (rows c i + n) (half W) f; inside = rows-in x (place x (suc i) 3) W (offsetOf x (suc i)) (lengthOf x (suc i)) (sym h) refl }
         go true true false e f h q = absurd (omega arith)
         go true false v e f h q = absurd (omega arith)
         go false u v e f h q = absurd (omega arith)

@@ -37,9 +37,9 @@ fn first_row(slot: u64) -> u64
 // A sparse union: its ids, then the same slots of every child.
 fn extend_sparse(
     state: &[u64],
-    parts: &[u32],
+    parts: &[u64],
     lengths: &[u64],
-    places: &[u32],
+    places: &[u64],
     body: &[u8],
     counts: &mut [u64; 96],
     room: &mut [u8],
@@ -108,9 +108,9 @@ fn extend_sparse(
 // Row r of a dense union: one row of the child with its id.
 fn extend_dense_row(
     state: &[u64],
-    parts: &[u32],
+    parts: &[u64],
     lengths: &[u64],
-    places: &[u32],
+    places: &[u64],
     body: &[u8],
     counts: &mut [u64; 96],
     room: &mut [u8],
@@ -126,7 +126,7 @@ fn extend_dense_row(
     requires { ⌜ (place (join [] [] (now lengths) (now places) (now body) first 0) i 3 + (slot + r + 1) ≤ length (now body)) × (place (join [] [] (now lengths) (now places) (now body) first 0) i 5 + 4 * (slot + r + 1) ≤ length (now body)) ⌝ }
     ensures { λ g. ⌜ Did (now (state .entry)) (now (parts .entry)) write (denseRow (join (now (state .entry)) (now (parts .entry)) (now (lengths .entry)) (now (places .entry)) (now (body .entry)) first source) (copyWalk (join (now (state .entry)) (now (parts .entry)) (now (lengths .entry)) (now (places .entry)) (now (body .entry)) first source) depth) i slot r (now (counts .entry))) (now (room .entry)) g (now (counts .exit)) (now (room .exit)) ⌝ }
 {
-    let at = (lent_tables::place(places, first + i, 3) as u64) + (slot + r);
+    let at = lent_tables::place(places, first + i, 3) + (slot + r);
     let id = body[at as usize];
     let k = lookups::child_with(state, id, plan_words::end_of(state, i), i + 1);
     if 32 <= k {
@@ -158,9 +158,9 @@ fn extend_dense_row(
 // A dense union, row by row.
 fn extend_dense(
     state: &[u64],
-    parts: &[u32],
+    parts: &[u64],
     lengths: &[u64],
-    places: &[u32],
+    places: &[u64],
     body: &[u8],
     counts: &mut [u64; 96],
     room: &mut [u8],
@@ -207,9 +207,9 @@ fn extend_dense(
 // The data of a node by its format's code.
 fn extend_data(
     state: &[u64],
-    parts: &[u32],
+    parts: &[u64],
     lengths: &[u64],
-    places: &[u32],
+    places: &[u64],
     body: &[u8],
     counts: &mut [u64; 96],
     room: &mut [u8],
@@ -316,9 +316,9 @@ fn extend_data(
 // The rows a .. a + n - 1 of node i, at most `depth` levels down.
 pub fn extend(
     state: &[u64],
-    parts: &[u32],
+    parts: &[u64],
     lengths: &[u64],
-    places: &[u32],
+    places: &[u64],
     body: &[u8],
     counts: &mut [u64; 96],
     room: &mut [u8],

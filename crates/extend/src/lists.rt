@@ -19,9 +19,9 @@ use walk::plan_words;
 // Row r of a list-view: its offset is the child's length before its copy.
 fn extend_list_row(
     state: &[u64],
-    parts: &[u32],
+    parts: &[u64],
     lengths: &[u64],
-    places: &[u32],
+    places: &[u64],
     body: &[u8],
     counts: &mut [u64; 96],
     room: &mut [u8],
@@ -66,9 +66,9 @@ fn extend_list_row(
 // A list-view with offsets of w bytes, row by row.
 fn extend_list_view(
     state: &[u64],
-    parts: &[u32],
+    parts: &[u64],
     lengths: &[u64],
-    places: &[u32],
+    places: &[u64],
     body: &[u8],
     counts: &mut [u64; 96],
     room: &mut [u8],
@@ -121,9 +121,9 @@ fn extend_list_view(
 // A list with offsets of w bytes: all its offsets, then one stretch of its child.
 fn extend_list(
     state: &[u64],
-    parts: &[u32],
+    parts: &[u64],
     lengths: &[u64],
-    places: &[u32],
+    places: &[u64],
     body: &[u8],
     counts: &mut [u64; 96],
     room: &mut [u8],
@@ -187,9 +187,9 @@ fn extend_list(
 // A list-view or a list.
 pub fn extend_listed(
     state: &[u64],
-    parts: &[u32],
+    parts: &[u64],
     lengths: &[u64],
-    places: &[u32],
+    places: &[u64],
     body: &[u8],
     counts: &mut [u64; 96],
     room: &mut [u8],

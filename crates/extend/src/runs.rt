@@ -12,9 +12,9 @@ use walk::plan_words;
 // A run-end node: the values of the runs of the rows, then the runs' ends.
 pub fn extend_run(
     state: &[u64],
-    parts: &[u32],
+    parts: &[u64],
     lengths: &[u64],
-    places: &[u32],
+    places: &[u64],
     body: &[u8],
     counts: &mut [u64; 96],
     room: &mut [u8],

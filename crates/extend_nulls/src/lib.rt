@@ -12,7 +12,7 @@ use walk::plan_words;
 // A sparse union: n ids of its first nullable child, and n nulls in every child.
 fn extend_nulls_sparse(
     state: &[u64],
-    parts: &[u32],
+    parts: &[u64],
     counts: &mut [u64; 96],
     room: &mut [u8],
     write: bool,
@@ -51,7 +51,7 @@ fn extend_nulls_sparse(
 // A dense union: n ids and positions of its first nullable child, and n nulls in it.
 fn extend_nulls_dense(
     state: &[u64],
-    parts: &[u32],
+    parts: &[u64],
     counts: &mut [u64; 96],
     room: &mut [u8],
     write: bool,
@@ -76,7 +76,7 @@ fn extend_nulls_dense(
 // A run-end node: where its last run is one of null orders alone, it grows by n rows; else one null value, and one run of n rows.
 fn extend_nulls_run(
     state: &[u64],
-    parts: &[u32],
+    parts: &[u64],
     counts: &mut [u64; 96],
     room: &mut [u8],
     write: bool,
@@ -103,7 +103,7 @@ fn extend_nulls_run(
 // The data of a node by its format's code.
 fn extend_nulls_data(
     state: &[u64],
-    parts: &[u32],
+    parts: &[u64],
     counts: &mut [u64; 96],
     room: &mut [u8],
     write: bool,
@@ -130,7 +130,7 @@ fn extend_nulls_data(
 // n nulls of node i, at most `depth` levels down.
 pub fn extend_nulls(
     state: &[u64],
-    parts: &[u32],
+    parts: &[u64],
     counts: &mut [u64; 96],
     room: &mut [u8],
     write: bool,

@@ -262,8 +262,9 @@ fn frame_rows(
 // ---- rows of lent columns
 
 // Where the validity of node k stands in the body; an empty range where it has none.
-fn mask_of(places: &[u32], k: usize) -> Mask
+fn mask_of(places: &[u64], k: usize) -> Mask
     requires { ⌜ k < 2 ^ 33 ⌝ }
+    requires { ⌜ maskPlace (tables [] (now places) []) k .end < 2 ^ 64 ⌝ }
     ensures { λ r. ⌜ r ≡ maskPlace (tables [] (now (places .entry)) []) k ⌝ }
 {
     if lent_tables::place(places, k, 0) == 0 {
@@ -285,7 +286,7 @@ fn mask_of(places: &[u32], k: usize) -> Mask
 // The frame of the n rows from row `start` on of the columns at the nodes a and b.
 fn frame_nodes(
     lengths: &[u64],
-    places: &[u32],
+    places: &[u64],
     body: &[u8],
     a: usize,
     b: usize,
@@ -343,8 +344,8 @@ pub fn box_of(
     formats: &[u8],
     schema: &[u32],
     lengths: &[u64],
-    places: &[u32],
-    buffers: &[u32],
+    places: &[u64],
+    buffers: &[u64],
     body: &[u8],
     first_a: u32,
     n_a: u32,

@@ -2,16 +2,18 @@
 use mathlib.Core.Path.{_≡_, refl, sym, ap, ap₂, _∙_}
 use mathlib.Core.Bool.{Bool, true, false, _&&_}
 use mathlib.Core.List.{List, []}
-use Prim.Native.Nat.{ℕ, zero, suc, _+_, _*_, _-_, _≤_}
+use Prim.Native.Nat.{ℕ, zero, suc, _+_, _*_, _≤_}
 use native.Mathlib.Omega.{arith}
 use lib.ListN.{length}
 use lib.Dec.{leb, eqb}
-use borrow.Author.Tests.{le-leb, lt-leb, leb-true, leb-false, eqb-true, eq-eqb, ne-eqb}
+use borrow.Author.Tests.{leb-true, eqb-true, eq-eqb, ne-eqb}
 use Rattle.columnar.specs.Test.{every}
 use Rattle.array_data.proofs.lent_tables.Laws.{and-left, and-right}
+use Rattle.walk.specs.State.{top}
 use Rattle.parts.specs.Parts.{nodesOf, partsWithin, partsHold}
+use Rattle.columns.specs.Grounds.{ceiling}
 use Rattle.refinement.specs.orders.Order.{Lent}
-use Rattle.refinement.specs.finishing.Finish.{Finished, zerosAt, nullsAt, keptIn, lengthTable, nullTable, placeTable, tablesFit, roomFits, finishing}
+use Rattle.refinement.specs.finishing.Finish.{Finished, zerosAt, nullsAt, keptIn, lengthTable, nullTable, placeTable, tablesFit, roomFits, sizesFit, finishing}
 use Rattle.into_builder.specs.buffers.Names.{lent, countBefore, namesBefore}
 use Rattle.into_builder.specs.counts.Counts.{keptOf}
 use Rattle.into_builder.specs.Answer.{Answers}
@@ -21,14 +23,14 @@ every-same : (p q : ℕ → Bool) → ((i : ℕ) → p i ≡ q i) → (n : ℕ) 
 every-same p q h zero = refl
 every-same p q h (suc n) = ap₂ (λ a b. a && b) (every-same p q h n) (h n)
 
--- ---- the end of the body
+-- ---- sizes
 
-pub ends-by : (base m : ℕ) → base ≤ 4294967295 → leb m (4294967295 - base) ≡ leb (base + m) 4294967295
-ends-by base m b = go (leb m (4294967295 - base)) refl
-  where
-    go : (t : Bool) → leb m (4294967295 - base) ≡ t → leb m (4294967295 - base) ≡ leb (base + m) 4294967295
-    go true e = let h = leb-true m (4294967295 - base) e in e ∙ sym (le-leb (base + m) 4294967295 (omega arith))
-    go false e = let h = leb-false m (4294967295 - base) e in e ∙ sym (lt-leb (base + m) 4294967295 (omega arith))
+-- so that a position in the room is one of 64 bits
+pub ends-in : (base m : ℕ) → leb base ceiling && leb m ceiling ≡ true → base + m ≤ top
+ends-in base m h =
+    let a = leb-true base ceiling (and-left (leb base ceiling) (leb m ceiling) h) in
+    let b = leb-true m ceiling (and-right (leb base ceiling) (leb m ceiling) h) in
+    omega arith
 
 -- ---- the lengths of the tables
 
@@ -40,14 +42,12 @@ module _ (plan sources places : List ℕ) (a b c d : ℕ) where
       && eqb b (nodesOf plan)
       && eqb c (9 * nodesOf plan)
       && eqb d (2 * countBefore plan sources places (nodesOf plan))
-      && leb (countBefore plan sources places (nodesOf plan)) 4294967295
 
   pub record Fit : Type 0 where
     pub lengths : a ≡ 2 * nodesOf plan
     pub nulls : b ≡ nodesOf plan
     pub places-are : c ≡ 9 * nodesOf plan
     pub names : d ≡ 2 * countBefore plan sources places (nodesOf plan)
-    pub few : countBefore plan sources places (nodesOf plan) ≤ 4294967295
 
   pub fit-is : fit ≡ true → Fit
   fit-is h =
@@ -55,20 +55,18 @@ module _ (plan sources places : List ℕ) (a b c d : ℕ) where
       let u = eqb b (nodesOf plan) in
       let v = eqb c (9 * nodesOf plan) in
       let w = eqb d (2 * countBefore plan sources places (nodesOf plan)) in
-      let h4 = and-left (t && u && v && w) _ h in
-      let h3 = and-left (t && u && v) w h4 in
+      let h3 = and-left (t && u && v) w h in
       let h2 = and-left (t && u) v h3 in
       record {
         lengths = eqb-true _ _ (and-left t u h2);
         nulls = eqb-true _ _ (and-right t u h2);
         places-are = eqb-true _ _ (and-right (t && u) v h3);
-        names = eqb-true _ _ (and-right (t && u && v) w h4);
-        few = leb-true _ _ (and-right (t && u && v && w) _ h);
+        names = eqb-true _ _ (and-right (t && u && v) w h);
       }
 
   -- as they are asked
   pub fit-by : {n s : ℕ} → n ≡ nodesOf plan → s ≡ countBefore plan sources places n
-      → eqb a (2 * n) && eqb b n && eqb c (9 * n) && eqb d (2 * s) && leb s 4294967295 ≡ fit
+      → eqb a (2 * n) && eqb b n && eqb c (9 * n) && eqb d (2 * s) ≡ fit
   fit-by {n} {s} e f = let g : s ≡ countBefore plan sources places (nodesOf plan) = f ∙ ap (countBefore plan sources places) e in rw (g, e)
 
 -- ---- counters, parts and room
@@ -102,8 +100,8 @@ module _ (plan parts sources lengths places body buffers counts room : List ℕ)
   abbrev pub end : Finished
   end = finishing x buffers counts room base ls ns ps bs
 
-  pub finish-far : leb (base + length room) 4294967295 ≡ false → Answers end 9 ls ns ps bs
-  unfolding finishing
+  pub finish-far : leb base ceiling && leb (length room) ceiling ≡ false → Answers end 9 ls ns ps bs
+  unfolding finishing sizesFit
   finish-far h =
       rw h
       (record { ground = refl; lengths-are = refl; nulls-are = refl; places-are = refl; buffers-are = refl })
@@ -116,23 +114,23 @@ module _ (plan parts sources lengths places body buffers counts room : List ℕ)
   unfolding tablesFit
   fit-same = rw (before-same x buffers counts room base (nodesOf plan))
 
-  module _ (near : leb (base + length room) 4294967295 ≡ true) where
+  module _ (near : leb base ceiling && leb (length room) ceiling ≡ true) where
     pub finish-kept : every (keptOf plan sources lengths places body) (nodesOf plan) ≡ false → Answers end 12 ls ns ps bs
-    unfolding finishing
+    unfolding finishing sizesFit
     finish-kept k =
         rw (near, kept-same, k)
         (record { ground = refl; lengths-are = refl; nulls-are = refl; places-are = refl; buffers-are = refl })
 
     module _ (k : every (keptOf plan sources lengths places body) (nodesOf plan) ≡ true) where
       pub finish-room : holds plan parts counts (length room) ≡ false → Answers end 14 ls ns ps bs
-      unfolding finishing roomFits
+      unfolding finishing sizesFit roomFits
       finish-room r =
           rw (near, kept-same, k, r)
           (record { ground = refl; lengths-are = refl; nulls-are = refl; places-are = refl; buffers-are = refl })
 
       module _ (r : holds plan parts counts (length room) ≡ true) where
         pub finish-tables : fit plan sources places (length ls) (length ns) (length ps) (length bs) ≡ false → Answers end 14 ls ns ps bs
-        unfolding finishing roomFits
+        unfolding finishing sizesFit roomFits
         finish-tables t =
             rw (near, kept-same, k, r, fit-same, t)
             (record { ground = refl; lengths-are = refl; nulls-are = refl; places-are = refl; buffers-are = refl })
@@ -141,7 +139,7 @@ module _ (plan parts sources lengths places body buffers counts room : List ℕ)
             → ls2 ≡ lengthTable (lent plan [] sources lengths [] []) [] counts [] 0 → ns2 ≡ nullTable x [] counts room 0
             → ps2 ≡ placeTable x buffers counts room base → bs2 ≡ namesBefore plan sources places buffers (nodesOf plan)
             → Answers end 0 ls2 ns2 ps2 bs2
-        unfolding finishing roomFits lengthTable nullTable nullsAt zerosAt
+        unfolding finishing sizesFit roomFits lengthTable nullTable nullsAt zerosAt
         finish-made t e f g n =
             rw (near, kept-same, k, r, fit-same, t)
             (record { ground = refl; lengths-are = e; nulls-are = f; places-are = g; buffers-are = n ∙ sym (names-same x buffers counts room base (nodesOf plan)) })

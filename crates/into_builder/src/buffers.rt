@@ -28,10 +28,10 @@ fn source_count(plan: &[u64]) -> usize
 }
 
 // How many data buffers node i names.
-pub fn count_at(plan: &[u64], sources: &[u32], places: &[u32], i: usize) -> u64
+pub fn count_at(plan: &[u64], sources: &[u32], places: &[u64], i: usize) -> u64
     requires { ⌜ i < 32 ⌝ }
     ensures { λ r. ⌜ r ≡ countAt (now (plan .entry)) (now (sources .entry)) (now (places .entry)) i ⌝ }
-    ensures { λ r. ⌜ r ≤ 68719476720 ⌝ }
+    ensures { λ r. ⌜ r ≤ 528 ⌝ }
 {
     if !formats::is_view(plan_words::code_of(plan, i)) {
         return 0;
@@ -40,10 +40,10 @@ pub fn count_at(plan: &[u64], sources: &[u32], places: &[u32], i: usize) -> u64
 }
 
 // How many data buffers the nodes before node n name.
-pub fn count_before(plan: &[u64], sources: &[u32], places: &[u32], n: usize) -> u64
+pub fn count_before(plan: &[u64], sources: &[u32], places: &[u64], n: usize) -> u64
     requires { ⌜ n ≤ 32 ⌝ }
     ensures { λ r. ⌜ r ≡ countBefore (now (plan .entry)) (now (sources .entry)) (now (places .entry)) n ⌝ }
-    ensures { λ r. ⌜ r ≤ 2199023255040 ⌝ }
+    ensures { λ r. ⌜ r ≤ 16896 ⌝ }
 {
     let mut sum: u64 = 0;
     let mut i = 0;
@@ -56,14 +56,14 @@ pub fn count_before(plan: &[u64], sources: &[u32], places: &[u32], n: usize) -> 
 
 // ---- which
 
-// n numbers of a table from number `from` on, 0 past its end, into another at number `at`.
-fn copy_names(buffers: &[u32], from: usize, n: usize, names: &mut [u32], at: usize)
-    requires { ⌜ (at + n ≤ length (now names)) × (from < 2 ^ 34) × (n < 2 ^ 34) ⌝ }
-    ensures { λ _. ⌜ Behind (now (names .entry)) (now (names .exit)) at n (seg (λ q. getD (now (buffers .entry)) q 0) from n) ⌝ }
+// n numbers of a table from pair `from` on, 0 past its end, into another at number `at`.
+fn copy_names(buffers: &[u64], from: u64, n: usize, names: &mut [u64], at: usize)
+    requires { ⌜ at + n ≤ length (now names) ⌝ }
+    ensures { λ _. ⌜ Behind (now (names .entry)) (now (names .exit)) at n (seg (λ q. getD (now (buffers .entry)) q 0) (2 * from) n) ⌝ }
 {
     let mut q = 0;
     while q < n {
-        names[at + q] = lent_tables::at_u32(buffers, from + q);
+        names[at + q] = lent_tables::pair_at(buffers, from, (q / 2) as u64, q % 2);
         q += 1;
     }
 }
@@ -72,10 +72,10 @@ fn copy_names(buffers: &[u32], from: usize, n: usize, names: &mut [u32], at: usi
 fn view_names(
     plan: &[u64],
     sources: &[u32],
-    places: &[u32],
-    buffers: &[u32],
+    places: &[u64],
+    buffers: &[u64],
     i: usize,
-    names: &mut [u32],
+    names: &mut [u64],
     at: usize,
 )
     requires { ⌜ (i < 32) × (at + 2 * buffersOf (lent (now plan) [] (now sources) [] (now places) []) [] [] [] 0 i (min (sourceCount (now plan)) 16) ≤ length (now names)) ⌝ }
@@ -86,9 +86,9 @@ fn view_names(
     let mut s = 0;
     while s < m {
         let k = dictionaries::node_of(sources, s, i);
-        let from = lent_tables::place(places, k, 7) as usize;
-        let n = lent_tables::place(places, k, 8) as usize;
-        copy_names(buffers, 2 * from, 2 * n, names, end);
+        let from = lent_tables::place(places, k, 7);
+        let n = plan::buffers_of(places, k) as usize;
+        copy_names(buffers, from, 2 * n, names, end);
         end += 2 * n;
         s += 1;
     }
@@ -98,10 +98,10 @@ fn view_names(
 fn node_names(
     plan: &[u64],
     sources: &[u32],
-    places: &[u32],
-    buffers: &[u32],
+    places: &[u64],
+    buffers: &[u64],
     i: usize,
-    names: &mut [u32],
+    names: &mut [u64],
     at: usize,
 )
     requires { ⌜ (i < 32) × (at + 2 * countAt (now plan) (now sources) (now places) i ≤ length (now names)) ⌝ }
@@ -116,9 +116,9 @@ fn node_names(
 pub fn write_buffers(
     plan: &[u64],
     sources: &[u32],
-    places: &[u32],
-    buffers: &[u32],
-    names: &mut [u32],
+    places: &[u64],
+    buffers: &[u64],
+    names: &mut [u64],
 )
     requires { ⌜ length (now names) ≡ 2 * countBefore (now plan) (now sources) (now places) (nodesOf (now plan)) ⌝ }
     ensures { λ _. ⌜ now (names .exit) ≡ namesBefore (now (plan .entry)) (now (sources .entry)) (now (places .entry)) (now (buffers .entry)) (nodesOf (now (plan .entry))) ⌝ }

@@ -90,7 +90,7 @@ fn kept_in(
     plan: &[u64],
     sources: &[u32],
     lengths: &[u64],
-    places: &[u32],
+    places: &[u64],
     body: &[u8],
     i: usize,
 ) -> bool
@@ -108,7 +108,7 @@ fn kept_in(
 }
 
 // Whether that holds of every node: ground 12 where not.
-pub fn all_kept(plan: &[u64], sources: &[u32], lengths: &[u64], places: &[u32], body: &[u8]) -> bool
+pub fn all_kept(plan: &[u64], sources: &[u32], lengths: &[u64], places: &[u64], body: &[u8]) -> bool
     ensures { λ r. ⌜ r ≡ every (keptOf (now (plan .entry)) (now (sources .entry)) (now (lengths .entry)) (now (places .entry)) (now (body .entry))) (nodesOf (now (plan .entry))) ⌝ }
 {
     let n = parts::node_count(plan);
@@ -123,15 +123,15 @@ pub fn all_kept(plan: &[u64], sources: &[u32], lengths: &[u64], places: &[u32], 
 }
 
 // Where the part of buffer b of node i starts in the room.
-pub fn part_start(plan: &[u64], parts: &[u32], i: usize, b: usize) -> u32
+pub fn part_start(plan: &[u64], parts: &[u64], i: usize, b: usize) -> u64
     requires { ⌜ (i < 32) × (b < 3) ⌝ }
     ensures { λ r. ⌜ r ≡ startOf (now (plan .entry)) (now (parts .entry)) i b ⌝ }
 {
-    lent_tables::at_u32(parts, 2 * parts::number_of(plan, i, b))
+    lent_tables::at_u64(parts, 2 * parts::number_of(plan, i, b))
 }
 
 // The zero bits among the rows of node i.
-fn zeros_at(plan: &[u64], parts: &[u32], counters: &[u64], room: &[u8], i: usize) -> u64
+fn zeros_at(plan: &[u64], parts: &[u64], counters: &[u64], room: &[u8], i: usize) -> u64
     requires { ⌜ (i < 32) × BitsIn (now plan) (now parts) (now counters) (length (now room)) i ⌝ }
     ensures { λ r. ⌜ r ≡ zerosOf (now (plan .entry)) (now (parts .entry)) (now (counters .entry)) (now (room .entry)) i ⌝ }
 {
@@ -146,10 +146,10 @@ fn zeros_at(plan: &[u64], parts: &[u32], counters: &[u64], room: &[u8], i: usize
 // The null count of node i.
 fn nulls_at(
     plan: &[u64],
-    parts: &[u32],
+    parts: &[u64],
     sources: &[u32],
     lengths: &[u64],
-    places: &[u32],
+    places: &[u64],
     body: &[u8],
     counters: &[u64],
     room: &[u8],
@@ -168,10 +168,10 @@ fn nulls_at(
 // The null count of every node.
 pub fn write_nulls(
     plan: &[u64],
-    parts: &[u32],
+    parts: &[u64],
     sources: &[u32],
     lengths: &[u64],
-    places: &[u32],
+    places: &[u64],
     body: &[u8],
     counters: &[u64],
     room: &[u8],

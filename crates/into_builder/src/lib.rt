@@ -7,11 +7,12 @@ pub mod places;
 ghost use mathlib.Core.Path.{_≡_};
 ghost use mathlib.Core.Bool.{_&&_};
 ghost use mathlib.Core.List.{List};
-ghost use Prim.Native.Nat.{ℕ, _+_, _*_};
+ghost use Prim.Native.Nat.{ℕ, _*_};
 ghost use lib.ListN.{length};
 ghost use lib.Dec.{leb, eqb};
 ghost use Rattle.walk.specs.State.{nulls};
 ghost use Rattle.parts.specs.Parts.{nodesOf, partsWithin, partsHold};
+ghost use Rattle.columns.specs.Grounds.{ceiling};
 ghost use Rattle.refinement.specs.finishing.Finish.{buffersBefore, finishing};
 ghost use Rattle.into_builder.specs.buffers.Names.{lent, countBefore};
 ghost use Rattle.into_builder.specs.Answer.{Answers};
@@ -20,7 +21,7 @@ use array_data::lent_tables;
 // ---- what is asked of a join
 
 // How many data buffers the finished array names: the table of them has two numbers for each.
-pub fn buffer_total(plan: &[u64], sources: &[u32], places: &[u32]) -> u64
+pub fn buffer_total(plan: &[u64], sources: &[u32], places: &[u64]) -> u64
     ensures { λ r. ⌜ ((parts lengths body buffers counts room : List ℕ) (base : ℕ) → r ≡ buffersBefore (lent (now (plan .entry)) parts (now (sources .entry)) lengths (now (places .entry)) body) buffers counts room base (nodesOf (now (plan .entry)))) ⌝ }
 {
     buffers::count_before(plan, sources, places, parts::node_count(plan))
@@ -49,15 +50,18 @@ fn load(counters: &[u64]) -> [u64; 96]
     counts
 }
 
-// Whether a room of m bytes from `base` on ends in a body of at most 2^32 - 1 bytes: ground 9 where not.
-fn body_fits(base: u32, m: usize) -> bool
-    ensures { λ r. ⌜ r ≡ leb (base + m) 4294967295 ⌝ }
+// The most bytes of a body.
+const CEILING: u64 = 9223372036854775807;
+
+// Whether the room begins where a body may end, and its m bytes are a body: ground 9 where not. Then no position passes 64 bits.
+fn sizes_fit(base: u64, m: usize) -> bool
+    ensures { λ r. ⌜ r ≡ (leb base ceiling && leb m ceiling) ⌝ }
 {
-    m <= (4294967295 - base) as usize
+    (base <= CEILING) & (m as u64 <= CEILING)
 }
 
 // Whether counters, parts and a room of m bytes are those of a join.
-fn room_fits(plan: &[u64], parts: &[u32], counters: &[u64], m: usize) -> bool
+fn room_fits(plan: &[u64], parts: &[u64], counters: &[u64], m: usize) -> bool
     ensures { λ r. ⌜ r ≡ (eqb (length (now (counters .entry))) 96 && partsWithin (now (plan .entry)) (now (parts .entry)) m && partsHold (now (plan .entry)) (now (counters .entry)) (now (parts .entry))) ⌝ }
 {
     if counters.len() != 96 {
@@ -74,18 +78,18 @@ fn room_fits(plan: &[u64], parts: &[u32], counters: &[u64], m: usize) -> bool
 fn tables_fit(
     plan: &[u64],
     sources: &[u32],
-    places: &[u32],
+    places: &[u64],
     lengths: usize,
     nulls: usize,
     spots: usize,
     names: usize,
 ) -> bool
-    ensures { λ r. ⌜ r ≡ (eqb lengths (2 * nodesOf (now (plan .entry))) && eqb nulls (nodesOf (now (plan .entry))) && eqb spots (9 * nodesOf (now (plan .entry))) && eqb names (2 * countBefore (now (plan .entry)) (now (sources .entry)) (now (places .entry)) (nodesOf (now (plan .entry)))) && leb (countBefore (now (plan .entry)) (now (sources .entry)) (now (places .entry)) (nodesOf (now (plan .entry)))) 4294967295) ⌝ }
+    ensures { λ r. ⌜ r ≡ (eqb lengths (2 * nodesOf (now (plan .entry))) && eqb nulls (nodesOf (now (plan .entry))) && eqb spots (9 * nodesOf (now (plan .entry))) && eqb names (2 * countBefore (now (plan .entry)) (now (sources .entry)) (now (places .entry)) (nodesOf (now (plan .entry))))) ⌝ }
 {
     let n = parts::node_count(plan);
     let total = buffers::count_before(plan, sources, places, n);
     let nodes = (lengths == 2 * n) & (nulls == n) & (spots == 9 * n);
-    nodes & (names as u64 == 2 * total) & (total <= 4294967295)
+    nodes & (names as u64 == 2 * total)
 }
 
 // ---- the whole
@@ -94,23 +98,23 @@ fn tables_fit(
 // that the tables are about.
 pub fn into_builder(
     plan: &[u64],
-    parts: &[u32],
+    parts: &[u64],
     sources: &[u32],
     lengths: &[u64],
-    places: &[u32],
-    buffers: &[u32],
+    places: &[u64],
+    buffers: &[u64],
     body: &[u8],
     counters: &[u64],
     room: &[u8],
-    base: u32,
+    base: u64,
     new_lengths: &mut [u64],
     new_nulls: &mut [u64],
-    new_places: &mut [u32],
-    new_buffers: &mut [u32],
+    new_places: &mut [u64],
+    new_buffers: &mut [u64],
 ) -> u8
     ensures { λ r. ⌜ Answers (finishing (lent (now (plan .entry)) (now (parts .entry)) (now (sources .entry)) (now (lengths .entry)) (now (places .entry)) (now (body .entry))) (now (buffers .entry)) (now (counters .entry)) (now (room .entry)) base (now («new_lengths» .entry)) (now («new_nulls» .entry)) (now («new_places» .entry)) (now («new_buffers» .entry))) r (now («new_lengths» .exit)) (now («new_nulls» .exit)) (now («new_places» .exit)) (now («new_buffers» .exit)) ⌝ }
 {
-    if !body_fits(base, room.len()) {
+    if !sizes_fit(base, room.len()) {
         return 9;
     }
     if !counts::all_kept(plan, sources, lengths, places, body) {

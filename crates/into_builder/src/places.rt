@@ -6,7 +6,7 @@ ghost use mathlib.Core.List.{List, []};
 ghost use Prim.Native.Nat.{ℕ, _+_, _*_, _<_, _≤_};
 ghost use lib.ListN.{length};
 ghost use lib.Dec.{eqb};
-ghost use Rattle.walk.specs.State.{codeOf};
+ghost use Rattle.walk.specs.State.{codeOf, top};
 ghost use Rattle.walk.specs.Log.{startOf};
 ghost use Rattle.formats.specs.Code.{isView};
 ghost use Rattle.parts.specs.Parts.{nodesOf, hasPart, neededBy, needed};
@@ -23,39 +23,39 @@ use walk::plan_words;
 // ---- the bytes of each buffer
 
 // The bytes of the first buffer of r rows.
-fn first_size(code: u8, r: u64) -> u32
-    requires { ⌜ neededBy code r 0 1 ≤ 4294967295 ⌝ }
+fn first_size(code: u8, r: u64) -> u64
+    requires { ⌜ neededBy code r 0 1 ≤ top ⌝ }
     ensures { λ s. ⌜ s ≡ neededBy code r 0 1 ⌝ }
 {
     if formats::is_string(code) | formats::is_list(code) {
         let w = formats::width_of(code) as u64;
-        return (r * w + w) as u32;
+        return r * w + w;
     }
-    (r * (parts::entry_size(code) as u64)) as u32
+    r * (parts::entry_size(code) as u64)
 }
 
 // The bytes of the second buffer of r rows with n bytes of data.
-fn second_size(code: u8, r: u64, n: u64) -> u32
-    requires { ⌜ neededBy code r n 2 ≤ 4294967295 ⌝ }
+fn second_size(code: u8, r: u64, n: u64) -> u64
+    requires { ⌜ neededBy code r n 2 ≤ top ⌝ }
     ensures { λ s. ⌜ s ≡ neededBy code r n 2 ⌝ }
 {
     if formats::is_string(code) {
-        return n as u32;
+        return n;
     }
     if formats::is_list_view(code) {
-        return (r * (formats::width_of(code) as u64)) as u32;
+        return r * (formats::width_of(code) as u64);
     }
-    (r * 4) as u32
+    r * 4
 }
 
 // The bytes of buffer b of node i.
-fn part_size(plan: &[u64], counters: &[u64], i: usize, b: usize) -> u32
-    requires { ⌜ (i < 32) × (b < 3) × (needed (now plan) (now counters) i b ≤ 4294967295) ⌝ }
+fn part_size(plan: &[u64], counters: &[u64], i: usize, b: usize) -> u64
+    requires { ⌜ (i < 32) × (b < 3) × (needed (now plan) (now counters) i b ≤ top) ⌝ }
     ensures { λ s. ⌜ s ≡ needed (now (plan .entry)) (now (counters .entry)) i b ⌝ }
 {
     let r = lent_tables::at_u64(counters, 3 * i);
     if b == 0 {
-        return utils::bit_room(r as usize) as u32;
+        return utils::bit_room(r as usize) as u64;
     }
     let code = plan_words::code_of(plan, i);
     if b == 1 {
@@ -69,13 +69,13 @@ fn part_size(plan: &[u64], counters: &[u64], i: usize, b: usize) -> u32
 // Number j of the validity of node i.
 fn valid_place(
     plan: &[u64],
-    parts: &[u32],
+    parts: &[u64],
     counters: &[u64],
-    base: u32,
+    base: u64,
     zeros: u64,
     i: usize,
     j: usize,
-) -> u32
+) -> u64
     requires { ⌜ (i < 32) × (j < 3) × Placed (now plan) (now parts) (now counters) base i ⌝ }
     ensures { λ r. ⌜ ((room : List ℕ) → zeros ≡ zerosOf (now (plan .entry)) (now (parts .entry)) (now (counters .entry)) room i → r ≡ cond (eqb zeros 0) 0 (validPlace (lent (now (plan .entry)) (now (parts .entry)) [] [] [] []) [] (now (counters .entry)) room base i j)) ⌝ }
 {
@@ -95,8 +95,8 @@ fn valid_place(
 }
 
 // Where buffer b of node i begins; 0 where there is none.
-fn buffer_start(plan: &[u64], parts: &[u32], base: u32, i: usize, b: usize) -> u32
-    requires { ⌜ (i < 32) × (b < 3) × (hasPart (now plan) i b ≡ true → base + startOf (now plan) (now parts) i b ≤ 4294967295) ⌝ }
+fn buffer_start(plan: &[u64], parts: &[u64], base: u64, i: usize, b: usize) -> u64
+    requires { ⌜ (i < 32) × (b < 3) × (hasPart (now plan) i b ≡ true → base + startOf (now plan) (now parts) i b ≤ top) ⌝ }
     ensures { λ r. ⌜ r ≡ bufferStart (lent (now (plan .entry)) (now (parts .entry)) [] [] [] []) [] [] [] base i b ⌝ }
 {
     if !parts::has_part(plan, i, b) {
@@ -106,8 +106,8 @@ fn buffer_start(plan: &[u64], parts: &[u32], base: u32, i: usize, b: usize) -> u
 }
 
 // The bytes of buffer b of node i; 0 where there is none.
-fn buffer_size(plan: &[u64], counters: &[u64], i: usize, b: usize) -> u32
-    requires { ⌜ (i < 32) × (b < 3) × (hasPart (now plan) i b ≡ true → needed (now plan) (now counters) i b ≤ 4294967295) ⌝ }
+fn buffer_size(plan: &[u64], counters: &[u64], i: usize, b: usize) -> u64
+    requires { ⌜ (i < 32) × (b < 3) × (hasPart (now plan) i b ≡ true → needed (now plan) (now counters) i b ≤ top) ⌝ }
     ensures { λ r. ⌜ r ≡ bufferSize (lent (now (plan .entry)) [] [] [] [] []) [] (now (counters .entry)) [] 0 i b ⌝ }
 {
     if !parts::has_part(plan, i, b) {
@@ -117,32 +117,32 @@ fn buffer_size(plan: &[u64], counters: &[u64], i: usize, b: usize) -> u32
 }
 
 // Number j, 7 or 8, of node i: its first data buffer and how many it names; 0 where it is no view node.
-fn view_place(plan: &[u64], sources: &[u32], places: &[u32], i: usize, j: usize) -> u32
-    requires { ⌜ (i < nodesOf (now plan)) × (countBefore (now plan) (now sources) (now places) (nodesOf (now plan)) ≤ 4294967295) ⌝ }
+fn view_place(plan: &[u64], sources: &[u32], places: &[u64], i: usize, j: usize) -> u64
+    requires { ⌜ i < nodesOf (now plan) ⌝ }
     ensures { λ r. ⌜ r ≡ cond (isView (codeOf (now (plan .entry)) i)) (cond (eqb j 7) (countBefore (now (plan .entry)) (now (sources .entry)) (now (places .entry)) i) (countAt (now (plan .entry)) (now (sources .entry)) (now (places .entry)) i)) 0 ⌝ }
 {
     if !formats::is_view(plan_words::code_of(plan, i)) {
         return 0;
     }
     if j == 7 {
-        return buffers::count_before(plan, sources, places, i) as u32;
+        return buffers::count_before(plan, sources, places, i);
     }
-    buffers::count_at(plan, sources, places, i) as u32
+    buffers::count_at(plan, sources, places, i)
 }
 
 // Number j of the nine of node i, whose buffers are copied.
 fn copied_place(
     plan: &[u64],
-    parts: &[u32],
+    parts: &[u64],
     sources: &[u32],
-    places: &[u32],
+    places: &[u64],
     counters: &[u64],
-    base: u32,
+    base: u64,
     zeros: u64,
     i: usize,
     j: usize,
-) -> u32
-    requires { ⌜ (i < nodesOf (now plan)) × Placed (now plan) (now parts) (now counters) base i × (countBefore (now plan) (now sources) (now places) (nodesOf (now plan)) ≤ 4294967295) ⌝ }
+) -> u64
+    requires { ⌜ (i < nodesOf (now plan)) × Placed (now plan) (now parts) (now counters) base i ⌝ }
     ensures { λ r. ⌜ ((lengths body buffers room : List ℕ) → zeros ≡ zerosOf (now (plan .entry)) (now (parts .entry)) (now (counters .entry)) room i → r ≡ copiedPlace (lent (now (plan .entry)) (now (parts .entry)) (now (sources .entry)) lengths (now (places .entry)) body) buffers (now (counters .entry)) room base i j) ⌝ }
 {
     if j < 3 {
@@ -164,7 +164,7 @@ fn copied_place(
 }
 
 // Number j of the nine of node i, a kept dictionary with `count` nulls: the places of source 0, those of its validity only if a bit is 0.
-fn kept_place(sources: &[u32], places: &[u32], count: u64, i: usize, j: usize) -> u32
+fn kept_place(sources: &[u32], places: &[u64], count: u64, i: usize, j: usize) -> u64
     requires { ⌜ (i < 32) × (j < 9) ⌝ }
     ensures { λ r. ⌜ ((plan parts lengths body buffers counts room : List ℕ) (base : ℕ) → count ≡ nullsAt (lent plan parts (now (sources .entry)) lengths (now (places .entry)) body) buffers counts room base i → r ≡ keptPlace (lent plan parts (now (sources .entry)) lengths (now (places .entry)) body) buffers counts room base i j) ⌝ }
 {
@@ -184,16 +184,16 @@ fn kept_place(sources: &[u32], places: &[u32], count: u64, i: usize, j: usize) -
 // Number j of the nine of node i.
 fn place_at(
     plan: &[u64],
-    parts: &[u32],
+    parts: &[u64],
     sources: &[u32],
-    places: &[u32],
+    places: &[u64],
     counters: &[u64],
-    base: u32,
+    base: u64,
     nulls: &[u64],
     i: usize,
     j: usize,
-) -> u32
-    requires { ⌜ (i < nodesOf (now plan)) × (j < 9) × Placed (now plan) (now parts) (now counters) base i × (countBefore (now plan) (now sources) (now places) (nodesOf (now plan)) ≤ 4294967295) ⌝ }
+) -> u64
+    requires { ⌜ (i < nodesOf (now plan)) × (j < 9) × Placed (now plan) (now parts) (now counters) base i ⌝ }
     ensures { λ r. ⌜ ((lengths body buffers room : List ℕ) → now (nulls .entry) ≡ nullTable (lent (now (plan .entry)) (now (parts .entry)) (now (sources .entry)) lengths (now (places .entry)) body) [] (now (counters .entry)) room 0 → r ≡ placeAt (lent (now (plan .entry)) (now (parts .entry)) (now (sources .entry)) lengths (now (places .entry)) body) buffers (now (counters .entry)) room base i j) ⌝ }
 {
     let count = lent_tables::at_u64(nulls, i);
@@ -206,15 +206,15 @@ fn place_at(
 // The places of every node.
 pub fn write_places(
     plan: &[u64],
-    parts: &[u32],
+    parts: &[u64],
     sources: &[u32],
-    places: &[u32],
+    places: &[u64],
     counters: &[u64],
-    base: u32,
+    base: u64,
     nulls: &[u64],
-    table: &mut [u32],
+    table: &mut [u64],
 )
-    requires { ⌜ (length (now table) ≡ 9 * nodesOf (now plan)) × ((i : ℕ) → i < nodesOf (now plan) → Placed (now plan) (now parts) (now counters) base i) × (countBefore (now plan) (now sources) (now places) (nodesOf (now plan)) ≤ 4294967295) ⌝ }
+    requires { ⌜ (length (now table) ≡ 9 * nodesOf (now plan)) × ((i : ℕ) → i < nodesOf (now plan) → Placed (now plan) (now parts) (now counters) base i) ⌝ }
     ensures { λ _. ⌜ ((lengths body buffers room : List ℕ) → now (nulls .entry) ≡ nullTable (lent (now (plan .entry)) (now (parts .entry)) (now (sources .entry)) lengths (now (places .entry)) body) [] (now (counters .entry)) room 0 → now (table .exit) ≡ placeTable (lent (now (plan .entry)) (now (parts .entry)) (now (sources .entry)) lengths (now (places .entry)) body) buffers (now (counters .entry)) room base) ⌝ }
 {
     let n = 9 * parts::node_count(plan);

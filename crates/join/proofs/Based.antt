@@ -2,7 +2,7 @@
 use mathlib.Core.Path.{_≡_, refl, sym, ap, ap₂, _∙_}
 use mathlib.Core.Bool.{Bool, true, false, not, cond, _&&_}
 use mathlib.Core.List.{List, [], _++_}
-use Prim.Native.Nat.{ℕ, zero, suc, _+_, _*_, _≤_, _<_}
+use Prim.Native.Nat.{ℕ, zero, suc, _+_, _*_, _≤_, _<_, min}
 use native.Mathlib.Nat.{zero-add}
 use native.Mathlib.Omega.{arith}
 use lib.ListN.{length, getD}
@@ -36,7 +36,7 @@ module _ (x : Lent) (buffers counts room : List ℕ) (base : ℕ) where
   of-same : (i s : ℕ) → buffersOf x buffers counts room base i s ≡ buffersOf x buffers counts room 0 i s
   unfolding buffersOf
   of-same i zero = refl
-  of-same i (suc s) = ap (λ k. k + walk.place (joinOf x s) i 8) (of-same i s)
+  of-same i (suc s) = ap (λ k. k + min (walk.place (joinOf x s) i 8) 33) (of-same i s)
 
   before-same : (i : ℕ) → buffersBefore x buffers counts room base i ≡ buffersBefore x buffers counts room 0 i
   unfolding buffersBefore
@@ -82,7 +82,7 @@ module _ (x : Lent) (buffers counts room : List ℕ) (base : ℕ) where
   from-same : (i s : ℕ) → buffersFrom x buffers counts room base i s ≡ buffersFrom x buffers counts room 0 i s
   unfolding buffersFrom
   from-same i zero = refl
-  from-same i (suc s) = ap (λ k. k ++ seg (λ q. getD buffers q 0) (2 * walk.place (joinOf x s) i 7) (2 * walk.place (joinOf x s) i 8)) (from-same i s)
+  from-same i (suc s) = ap (λ k. k ++ seg (λ q. getD buffers q 0) (2 * walk.place (joinOf x s) i 7) (2 * min (walk.place (joinOf x s) i 8) 33)) (from-same i s)
 
   names-same : (i : ℕ) → buffersUpTo x buffers counts room base i ≡ buffersUpTo x buffers counts room 0 i
   unfolding buffersUpTo

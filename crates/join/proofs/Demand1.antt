@@ -13,7 +13,7 @@ use Rattle.model.specs.Transform.{Destination, start}
 use Rattle.model.specs.Book.{Call}
 use Rattle.model.specs.Held.{held}
 use Rattle.model.proofs.Start.{held-start}
-use Rattle.columns.specs.Grounds.{sourcesGround}
+use Rattle.columns.specs.Grounds.{ceiling, sourcesGround}
 use Rattle.refinement.specs.orders.Order.{Lent, ordered}
 use Rattle.refinement.specs.orders.Counted.{answerRoom, countsAfter}
 use Rattle.refinement.proofs.orders.Accepted.{order-keeps}
@@ -36,7 +36,7 @@ module _ (l : Lending) where
   ground = sourcesGround (l .formats) (l .schema) (l .tables) (l .sources)
 
   abbrev small : Bool
-  small = leb (length (l .room)) 4294967295
+  small = leb (length (l .room)) ceiling
 
   abbrev placed : Bool
   placed = roomPlaced (l .formats) (l .schema) (l .sources) (l .tables) (l .keep) (l .gaps) (l .parts) (l .plan) (l .counters) (l .room)

@@ -34,7 +34,8 @@ use Rattle.refinement.specs.orders.Counted.{nullsRoom}
 use Rattle.refinement.proofs.orders.Step.{Running, Answers, made, not-made, order-step}
 use Rattle.refinement.proofs.orders.Booked.{booked}
 use Rattle.refinement.specs.walk_is_model.Holds.{Holds}
-use Rattle.refinement.proofs.opening.Taken.{sources-of}
+use Rattle.refinement.proofs.opening.Taken.{taken, sources-of}
+use Rattle.columns.specs.Grounds.{ceiling}
 use Rattle.refinement.proofs.opening.Opened.{Opened, orders-after}
 use Rattle.refinement.specs.finishing.Finish.{Finished, lengthTable, nullTable, placeTable, bufferTable, buffersBefore}
 use Rattle.refinement.specs.finishing.Shows.{Shows, Counts, Bodied}
@@ -180,8 +181,8 @@ module _ (l : Lending) (b : Bytes l) (accepted : openingOf l .ground ≡ 0) (os 
       call-counts (copy j a e) h
       ∙ ap (λ (b : Bool). walk.nulls (afterCalls l os .counts) 0 + countedIf b (nullsIn (ok (columnsIn l j .valid)) (columnsIn l j .off + a) (e - a))) k
 
-  -- FINISHING IS NEVER REFUSED where the tables are of the finished array's lengths and the body of at most 2^32 - 1 bytes
-  pub finishing-answered : (base : ℕ) (lengths nulls places names : List ℕ) → base + length (afterCalls l os .room) ≤ 4294967295
+  -- FINISHING IS NEVER REFUSED where the tables are of the finished array's lengths and the room begins within a body's ceiling
+  pub finishing-answered : (base : ℕ) (lengths nulls places names : List ℕ) → base ≤ ceiling
       → length lengths ≡ 2 * nodesOf (lentOf l .plan) → length nulls ≡ nodesOf (lentOf l .plan) → length places ≡ 9 * nodesOf (lentOf l .plan)
       → length names ≡ 2 * buffersBefore (lentOf l) (l .tables .buffers) (afterCalls l os .counts) (afterCalls l os .room) base (nodesOf (lentOf l .plan))
       → finishingOf l os base lengths nulls places names
@@ -193,6 +194,10 @@ module _ (l : Lending) (b : Bytes l) (accepted : openingOf l .ground ≡ 0) (os 
         buffers = bufferTable (lentOf l) (l .tables .buffers) (afterCalls l os .counts) (afterCalls l os .room) base;
       }
   finishing-answered = finishing-accepted (l .formats) (l .schema) (l .sources) (l .tables) (l .keep) (l .gaps) (l .parts) (openingOf l) opens os
+
+  -- the sources' body does, so that behind it finishing is refused for no size
+  pub behind-sources : length (l .tables .body) ≤ ceiling
+  behind-sources = omega (arith, taken (l .formats) (l .schema) (l .sources) (l .tables) (l .keep) (l .gaps) (opens .accepted) .body-small)
 
   pub lent-again : T (sourceRule (treeIn l) (tablesOf l os))
   lent-again = again-at (length (l .tables .body)) _ behind-body

@@ -12,6 +12,7 @@ use Rattle.columnar.specs.Types.{Ty}
 use Rattle.columnar.specs.Reading.{Column, read, readAll}
 use Rattle.model.specs.Try.{Try, done, stop, then, guard}
 use Rattle.model.specs.Grounds.{Counts, startCounts}
+use Rattle.columns.specs.Grounds.{ceiling}
 use Rattle.model.specs.Transform.{Destination, start, intoBuilder}
 use Rattle.model.specs.Book.{Call}
 use Rattle.model.specs.Held.{held}
@@ -151,8 +152,8 @@ module _ (l : Lending) (b : Bytes l) (accepted : openingOf l .ground ≡ 0) (is 
       ∙ running-nulls l b accepted (callsCarried l is)
       ∙ ap (countedIf (keepsIn l)) (sym (items-flat (lentOf l .plan) (l .parts) (typeIn l) (keepsIn l) (sourcesIn l) (columnsIn l) is (startCounts (l .gaps) (typeIn l)) .flat-nulls))
 
-  -- FINISHING IS NEVER REFUSED where the tables are of the finished array's lengths and the body of at most 2^32 - 1 bytes
-  pub items-finishing : (base : ℕ) (lengths nulls places names : List ℕ) → base + length (afterItems l is .room) ≤ 4294967295
+  -- FINISHING IS NEVER REFUSED where the tables are of the finished array's lengths and the room begins within a body's ceiling
+  pub items-finishing : (base : ℕ) (lengths nulls places names : List ℕ) → base ≤ ceiling
       → length lengths ≡ 2 * nodesOf (lentOf l .plan) → length nulls ≡ nodesOf (lentOf l .plan) → length places ≡ 9 * nodesOf (lentOf l .plan)
       → length names ≡ 2 * buffersBefore (lentOf l) (l .tables .buffers) (afterItems l is .counts) (afterItems l is .room) base (nodesOf (lentOf l .plan))
       → finishingItems l is base lengths nulls places names
@@ -166,7 +167,7 @@ module _ (l : Lending) (b : Bytes l) (accepted : openingOf l .ground ≡ 0) (is 
   items-finishing base lengths nulls places names =
       moved
       (λ c r.
-      base + length r ≤ 4294967295
+      base ≤ ceiling
       → length lengths ≡ 2 * nodesOf (lentOf l .plan) → length nulls ≡ nodesOf (lentOf l .plan) → length places ≡ 9 * nodesOf (lentOf l .plan)
       → length names ≡ 2 * buffersBefore (lentOf l) (l .tables .buffers) c r base (nodesOf (lentOf l .plan))
       → finishing (lentOf l) (l .tables .buffers) c r base lengths nulls places names

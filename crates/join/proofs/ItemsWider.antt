@@ -17,6 +17,7 @@ use Rattle.model.specs.Book.{Call, answer, entered}
 use Rattle.model.proofs.WiderAnswers.{answer-wider, entered-wider}
 use Rattle.refinement.specs.orders.Counted.{roomFor, answerRoom}
 use Rattle.refinement.proofs.orders.Booked.{groundOf}
+use Rattle.columns.specs.Grounds.{ceiling}
 use Rattle.refinement.proofs.opening.Taken.{sources-of}
 use Rattle.trip.specs.Trip.{longest}
 use Rattle.join.specs.Join.{Lending, Bytes, sourcesIn, typeIn, columnsIn, keepsIn, openingOf, lentOf}
@@ -159,7 +160,7 @@ module _ (n w : Lending) (bytes-n : Bytes n) (bytes-w : Bytes w) (accepted-n : o
 
 -- BOTH: where room is enough, the opening and every accepted item are accepted again, and the rows are the same
 module _ (n w : Lending) (bytes-n : Bytes n) (bytes-w : Bytes w) (accepted-n : openingOf n .ground ≡ 0) (d : Wider (typeIn n) (typeIn w)) (stored : StoredWider n w)
-    (again : Again d (sourcesIn n) (columnsIn n) (columnsIn w)) (same-choice : n .keep ≡ w .keep) (same-gaps : n .gaps ≡ w .gaps) (small : length (w .room) ≤ 4294967295)
+    (again : Again d (sourcesIn n) (columnsIn n) (columnsIn w)) (same-choice : n .keep ≡ w .keep) (same-gaps : n .gaps ≡ w .gaps) (small : length (w .room) ≤ ceiling)
     (no-13 : openingOf w .ground ≡ 13 → ⊥) (no-14 : openingOf w .ground ≡ 14 → ⊥) where
   pub items-made-again : (is : List Item) → No13 (groundsItems w (itemsAccepted n is))
       → WideItems n w bytes-n bytes-w accepted-n (opens-again n w bytes-n bytes-w accepted-n d stored again same-choice same-gaps small no-13 no-14) d (stored .same-count) same-choice same-gaps again is

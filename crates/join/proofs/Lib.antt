@@ -27,3 +27,4 @@ pub mod Cut
 pub mod Items
 pub mod ItemsJoin
 pub mod ItemsWider
+pub mod Before

@@ -25,7 +25,7 @@ use Rattle.model.specs.Counters.{ByCounter}
 use Rattle.model.proofs.Joined.{done-is, then-done}
 use Rattle.array_data.specs.Tables.{Tables, place}
 use Rattle.array_data.specs.Typed.{Tree, validStart, starts, bodyOf}
-use Rattle.columns.specs.Grounds.{sourcesGround}
+use Rattle.columns.specs.Grounds.{ceiling, sourcesGround}
 use Rattle.parts.specs.Parts.{partTotal, startAt, sizeAt, inRoom, apart, Apart, before, behind, first-empty, second-empty, partsPlaced}
 use Rattle.parts.proofs.Placed.{every-at}
 use Rattle.refinement.proofs.orders.Booked.{groundOf}
@@ -137,14 +137,14 @@ module _ (l : Lending) (b : Bytes l) (ok : sourcesGround (l .formats) (l .schema
       (every-all (λ p. every (λ q. apart (l .parts) p q) p) n
       (λ p lp. every-all (λ q. apart (l .parts) p q) p (λ q lq. is-apart (l .parts) p q (h .apart p q (omega (arith, lp, parts-are)) (omega (arith, lp, lq, parts-are)) (λ e. omega (arith, e, lq)))))))
 
-  module _ (small : length (l .room) ≤ 4294967295) where
+  module _ (small : length (l .room) ≤ ceiling) where
     -- 14 STANDS where the parts do not lie well ..
     pub fourteen : (PartsLie l → ⊥) → openingOf l .ground ≡ 14
     fourteen never = go placed refl
       where
         go : (z : Bool) → placed ≡ z → openingOf l .ground ≡ 14
         go true e = absurd (never (placed-lie e))
-        go false e = parts-next l (le-leb (length (l .room)) 4294967295 small) (eq-eqb _ 0 ok) e
+        go false e = parts-next l (le-leb (length (l .room)) ceiling small) (eq-eqb _ 0 ok) e
 
     -- .. AND ONLY THERE: else what is answered is the dictionaries' 6 or 8, 13, or 0
     pub not-fourteen : PartsLie l → openingOf l .ground ≡ groundOf (openIn (lentOf l .plan) (l .parts) (l .gaps) (typeIn l) (l .keep) (sourcesIn l) (columnsIn l))

@@ -263,7 +263,7 @@ pub record Premises (n w : Lending) (os : List Call) : Type 0 where
   pub again : Again type-wider (sourcesIn n) (columnsIn n) (columnsIn w)
   pub same-choice : n .keep ≡ w .keep
   pub same-gaps : n .gaps ≡ w .gaps
-  pub small-room : length (w .room) ≤ 4294967295
+  pub small-room : length (w .room) ≤ Grounds.ceiling
   pub no-13 : openingOf w .ground ≡ 13 → ⊥
   pub no-14 : openingOf w .ground ≡ 14 → ⊥
   pub calls-no-13 : No13 (groundsIn w (acceptedOf n os))

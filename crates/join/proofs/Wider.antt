@@ -19,7 +19,7 @@ use Rattle.model.specs.Book.{Call}
 use Rattle.model.proofs.WiderAsks.{start-counts-wider}
 use Rattle.model.proofs.WiderAnswers.{keeps-wider}
 use Rattle.model.proofs.WiderOpening.{opening-wider}
-use Rattle.columns.specs.Grounds.{sourcesGround}
+use Rattle.columns.specs.Grounds.{ceiling, sourcesGround}
 use Rattle.refinement.specs.orders.Counted.{bookRoom, AllAcceptedRoom, RoomEnough}
 use Rattle.refinement.proofs.orders.Booked.{groundOf}
 use Rattle.refinement.proofs.orders.WiderRoom.{wide-room}
@@ -69,8 +69,8 @@ module _ (n w : Lending) (bytes-n : Bytes n) (bytes-w : Bytes w) (accepted-n : o
       let q = opening-wider d (given .formed) (given-w .formed) (sourcesIn n) (columnsIn n) (columnsIn w) again (given .obey) (n .gaps) (n .keep) (start (n .gaps) (typeIn n) (n .keep) (sourcesIn n) (columnsIn n)) narrow in
       subst (λ k. openData (typeIn w) k (λ j. columnsIn w j .body) ≡ done tt) (stored .same-count) (opened-first (openData (typeIn w) (sourcesIn n) (λ j. columnsIn w j .body)) _ _ q)
 
-  -- IT IS ACCEPTED, or 13 stands: a room of at most 2^32 - 1 bytes, where 14 does not stand
-  pub wide-opens : length (w .room) ≤ 4294967295 → roomPlaced (w .formats) (w .schema) (w .sources) (w .tables) (w .keep) (w .gaps) (w .parts) (w .plan) (w .counters) (w .room) ≡ true
+  -- IT IS ACCEPTED, or 13 stands: a room of at most 2^63 - 1 bytes, where 14 does not stand
+  pub wide-opens : length (w .room) ≤ ceiling → roomPlaced (w .formats) (w .schema) (w .sources) (w .tables) (w .keep) (w .gaps) (w .parts) (w .plan) (w .counters) (w .room) ≡ true
       → OpensWide (openingOf w .ground)
   wide-opens small placed =
       subst OpensWide (sym (opening-ground (w .formats) (w .schema) (w .sources) (w .tables) (w .keep) (w .gaps) (w .parts) (w .plan) (w .counters) (w .room) (bytes-w .body-bytes) (bytes-w .room-bytes) small wide-sources placed))
@@ -121,9 +121,9 @@ opens-then : (g : ℕ) → OpensWide g → (g ≡ 13 → ⊥) → g ≡ 0
 opens-then g (opens-wide e) h = e
 opens-then g (no-room e) h = absurd (h e)
 
--- "room is enough where neither 13 nor 14 stands"; the room is a body, of at most 2^32 - 1 bytes
+-- "room is enough where neither 13 nor 14 stands"; the room is a body, of at most 2^63 - 1 bytes
 module _ (n w : Lending) (bytes-n : Bytes n) (bytes-w : Bytes w) (accepted-n : openingOf n .ground ≡ 0) (d : Wider (typeIn n) (typeIn w)) (stored : StoredWider n w)
-    (again : Again d (sourcesIn n) (columnsIn n) (columnsIn w)) (same-choice : n .keep ≡ w .keep) (same-gaps : n .gaps ≡ w .gaps) (small : length (w .room) ≤ 4294967295)
+    (again : Again d (sourcesIn n) (columnsIn n) (columnsIn w)) (same-choice : n .keep ≡ w .keep) (same-gaps : n .gaps ≡ w .gaps) (small : length (w .room) ≤ ceiling)
     (no-13 : openingOf w .ground ≡ 13 → ⊥) (no-14 : openingOf w .ground ≡ 14 → ⊥) where
   abbrev placed : Bool
   placed = roomPlaced (w .formats) (w .schema) (w .sources) (w .tables) (w .keep) (w .gaps) (w .parts) (w .plan) (w .counters) (w .room)
@@ -134,7 +134,7 @@ module _ (n w : Lending) (bytes-n : Bytes n) (bytes-w : Bytes w) (accepted-n : o
     where
       go : (b : Bool) → placed ≡ b → openingOf w .ground ≡ 0
       go true e = opens-then (openingOf w .ground) (wide-opens n w bytes-n bytes-w accepted-n d stored again small e) no-13
-      go false e = absurd (no-14 (parts-next w (le-leb (length (w .room)) 4294967295 small) (eq-eqb _ 0 (wide-sources n w bytes-n bytes-w accepted-n d stored again)) e))
+      go false e = absurd (no-14 (parts-next w (le-leb (length (w .room)) ceiling small) (eq-eqb _ 0 (wide-sources n w bytes-n bytes-w accepted-n d stored again)) e))
 
   -- AND ALL THE ACCEPTED CALLS, with the same rows
   pub made-again : (os : List Call) → No13 (groundsIn w (acceptedOf n os)) → Wide n w bytes-n bytes-w accepted-n opens-again d (stored .same-count) same-choice same-gaps again os

@@ -12,7 +12,7 @@ use Rattle.walk.specs.State.{word, codeOf, dictionaryOf, gap, lengthOf}
 use Rattle.walk.specs.Log.{Entry, Out, done, wrote, next, each, apply}
 use Rattle.parts.specs.Parts.{nodesOf, copied, hasOffsets, partsHold}
 use Rattle.model.specs.Book.{Call}
-use Rattle.columns.specs.Grounds.{sourcesGround}
+use Rattle.columns.specs.Grounds.{ceiling, sourcesGround}
 use Rattle.refinement.specs.orders.Sound.{planSound}
 use Rattle.refinement.specs.orders.Order.{Lent, joinOf, sourceCount, ordered, orderedAll}
 use Rattle.refinement.specs.orders.Written.{LastEnd}
@@ -104,9 +104,10 @@ module _ (x : Lent) where
     unfolding openDictionary
     adds-dictionary i c l =
         adds-cond P true 0 0 c (eqb (dictionaryOf P i) 0) _ _ (λ e. adds-done P true 0 0 c)
-        (λ e. adds-next P true 0 0 c _ _
+        (λ e. adds-need P true 0 0 _ 6 c _ (omega arith)
+        (λ g. adds-next P true 0 0 c _ _
         (adds-cond P true 0 0 c (eqb (word P i 7) 0) _ _ (λ f. adds-done P true 0 0 c) (λ f. adds-entries (suc i) c (values i l (eqb-false _ _ e))))
-        (λ c2. adds-need P true 0 0 _ 8 c2 _ (omega arith) (λ f. adds-done P true 0 0 c2)))
+        (λ c2. adds-need P true 0 0 _ 8 c2 _ (omega arith) (λ f. adds-done P true 0 0 c2))))
 
     -- from counters whose gaps are 0
     opens-off : chosen P ≡ false → (c : List ℕ) → Fine c → Off P c → openWalk x c .ans ≡ 0 → Off P (openWalk x c .counts)
@@ -138,7 +139,7 @@ module _ (x : Lent) (sound : planSound (x .plan) ≡ true) where
 -- ---- a whole join
 
 module _ (l : Lending) (b : Bytes l) (accepted-l : openingOf l .ground ≡ 0) (off : l .gaps ≡ false) where
-  passed : (length (l .room) ≤ 4294967295) × (sourcesGround (l .formats) (l .schema) (l .tables) (l .sources) ≡ 0) × (roomPlaced (l .formats) (l .schema) (l .sources) (l .tables) (l .keep) (l .gaps) (l .parts) (l .plan) (l .counters) (l .room) ≡ true)
+  passed : (length (l .room) ≤ ceiling) × (sourcesGround (l .formats) (l .schema) (l .tables) (l .sources) ≡ 0) × (roomPlaced (l .formats) (l .schema) (l .sources) (l .tables) (l .keep) (l .gaps) (l .parts) (l .plan) (l .counters) (l .room) ≡ true)
   passed = tests (l .formats) (l .schema) (l .sources) (l .tables) (l .keep) (l .gaps) (l .parts) (l .plan) (l .counters) (l .room) accepted-l
 
   abbrev walk : Out

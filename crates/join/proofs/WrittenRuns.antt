@@ -2,7 +2,7 @@
 use mathlib.Core.Path.{_≡_, refl, sym, ap, ap₂, subst, _∙_}
 use mathlib.Core.Bool.{Bool, true, false, not, cond, _&&_, false≢true}
 use mathlib.Core.List.{List, [], _∷_}
-use Prim.Native.Nat.{ℕ, zero, suc, _+_, _*_, _-_, _/_, _≤_, _<_, min}
+use Prim.Native.Nat.{ℕ, zero, suc, _+_, _*_, _-_, _/_, _≤_, _<_, _^_, min}
 use native.Mathlib.Decide.{decLt}
 use native.Mathlib.Omega.{arith}
 use lib.ListN.{length, getD}
@@ -94,7 +94,7 @@ needed-runs r m k zero = refl
 needed-runs r m k (suc zero) = refl
 needed-runs r m k (suc (suc b)) = refl
 
-module _ (plan parts c d : List ℕ) (m : ℕ) (small : m < 4294967296) (within : partsWithin plan parts m ≡ true) (holds : partsHold plan d parts ≡ true) (long : length c ≡ 96) (K : ℕ → Bool)
+module _ (plan parts c d : List ℕ) (m : ℕ) (small : m < 2 ^ 63) (within : partsWithin plan parts m ≡ true) (holds : partsHold plan d parts ≡ true) (long : length c ≡ 96) (K : ℕ → Bool)
     (some : (h : ℕ) → K h ≡ true → gap c h ≡ 0 → ⊥) where
   abbrev c′ : List ℕ
   c′ = zeroed plan K 32 c
@@ -111,7 +111,7 @@ module _ (plan parts c d : List ℕ) (m : ℕ) (small : m < 4294967296) (within 
 
   moved-entry : (e : Entry) → Amended (λ h. K h ≡ true) e → Behind plan true 0 0 c d e → Behind plan true 0 0 c′ d e
   moved-entry (put j b o bs) a h = (λ y. subst (λ v. v ≤ o) (sym (needed-same j b)) (h .0 y), h .1)
-  moved-entry (mask j p vs) a h = (subst (λ v. v ≤ p) (sym (as-c .rows-are j)) (h .0), h .1)
+  moved-entry (mask j p vs) a h = (subst (λ v. v ≤ p) (sym (as-c .rows-are j)) (h .0), h .1, h .2)
   moved-entry (amend j b o bs) a h = (
     record {
       node = h .0 .node;

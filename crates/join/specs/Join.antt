@@ -17,7 +17,7 @@ use Rattle.array_data.specs.Tables.{Tables}
 use Rattle.array_data.specs.Typed.{Tree, columnOf}
 use Rattle.array_data.specs.type_tree.Lent.{treeOf, typeOf}
 use Rattle.refinement.specs.plan_is_type.Taken.{columnsAs}
-use Rattle.columns.specs.Grounds.{sourceCount, firstOf, nodesOf, sourcesGround}
+use Rattle.columns.specs.Grounds.{ceiling, sourceCount, firstOf, nodesOf, sourcesGround}
 use Rattle.refinement.specs.orders.Order.{After, Lent, orderedAll, ordered, groundsOf}
 use Rattle.refinement.specs.orders.Fits.{answersIn}
 use Rattle.refinement.specs.orders.Counted.{answerRoom, countsAfter, bookRoom, bookBy, nullsRoom, acceptedRoom, AllAcceptedRoom, RoomEnough}
@@ -110,7 +110,7 @@ module _ (l : Lending) where
   -- "Opening: 9, 10, 11, 12, 14, then per dictionary in tree order 6 (joining), 8, and 13 last"
   abbrev pub openAnswer : Try (Destination typeIn)
   openAnswer =
-      guard (leb (length (l .room)) 4294967295) 9
+      guard (leb (length (l .room)) ceiling) 9
       (then (cond (eqb (sourcesGround (l .formats) (l .schema) (l .tables) (l .sources)) 0) (done tt) (stop (sourcesGround (l .formats) (l .schema) (l .tables) (l .sources))))
       (λ (u : Unit {0}).
       guard (roomPlaced (l .formats) (l .schema) (l .sources) (l .tables) (l .keep) (l .gaps) (l .parts) (l .plan) (l .counters) (l .room)) 14

@@ -44,8 +44,8 @@ pub extern "C" fn lafkuno_column_ground(
     formats: &[u8],
     schema: &[u32],
     lengths: &[u64],
-    places: &[u32],
-    buffers: &[u32],
+    places: &[u64],
+    buffers: &[u64],
     body: &[u8],
     first: u32,
     n: u32,
@@ -81,8 +81,8 @@ pub extern "C" fn lafkuno_open_column(
     formats: &[u8],
     schema: &[u32],
     lengths: &[u64],
-    places: &[u32],
-    buffers: &[u32],
+    places: &[u64],
+    buffers: &[u64],
     body: &[u8],
     first: u32,
     n: u32,
@@ -223,8 +223,8 @@ fn copied_ids(ids: [u8; 8]) -> [u8; 8]
 pub extern "C" fn lafkuno_read_row(
     tree: &[u64],
     lengths: &[u64],
-    places: &[u32],
-    buffers: &[u32],
+    places: &[u64],
+    buffers: &[u64],
     body: &[u8],
     first: u32,
     row: u64,
@@ -257,8 +257,8 @@ pub extern "C" fn lafkuno_run_at(
     formats: &[u8],
     schema: &[u32],
     lengths: &[u64],
-    places: &[u32],
-    buffers: &[u32],
+    places: &[u64],
+    buffers: &[u64],
     body: &[u8],
     first: u32,
     n: u32,
@@ -287,7 +287,7 @@ pub extern "C" fn lafkuno_run_at(
 pub extern "C" fn lafkuno_read_run(
     tree: &[u64],
     lengths: &[u64],
-    places: &[u32],
+    places: &[u64],
     body: &[u8],
     first: u32,
     row: u64,
@@ -309,8 +309,8 @@ pub extern "C" fn lafkuno_plan_parts(
     formats: &[u8],
     schema: &[u32],
     lengths: &[u64],
-    places: &[u32],
-    buffers: &[u32],
+    places: &[u64],
+    buffers: &[u64],
     body: &[u8],
     keep: u8,
     gaps: u8,
@@ -339,12 +339,12 @@ pub extern "C" fn lafkuno_open(
     formats: &[u8],
     schema: &[u32],
     lengths: &[u64],
-    places: &[u32],
-    buffers: &[u32],
+    places: &[u64],
+    buffers: &[u64],
     body: &[u8],
     keep: u8,
     gaps: u8,
-    parts: &[u32],
+    parts: &[u64],
     plan: &mut [u64],
     counters: &mut [u64],
     room: &mut [u8],
@@ -404,10 +404,10 @@ pub extern "C" fn lafkuno_part_buffer(plan: &[u64], p: u32) -> u64
 #[no_mangle]
 pub extern "C" fn lafkuno_copy(
     plan: &[u64],
-    parts: &[u32],
+    parts: &[u64],
     sources: &[u32],
     lengths: &[u64],
-    places: &[u32],
+    places: &[u64],
     body: &[u8],
     counters: &mut [u64],
     room: &mut [u8],
@@ -436,7 +436,7 @@ pub extern "C" fn lafkuno_copy(
 #[no_mangle]
 pub extern "C" fn lafkuno_nulls(
     plan: &[u64],
-    parts: &[u32],
+    parts: &[u64],
     counters: &mut [u64],
     room: &mut [u8],
     n: u64,
@@ -452,19 +452,19 @@ pub extern "C" fn lafkuno_nulls(
 #[no_mangle]
 pub extern "C" fn lafkuno_finish(
     plan: &[u64],
-    parts: &[u32],
+    parts: &[u64],
     sources: &[u32],
     lengths: &[u64],
-    places: &[u32],
-    buffers: &[u32],
+    places: &[u64],
+    buffers: &[u64],
     body: &[u8],
     counters: &[u64],
     room: &[u8],
-    base: u32,
+    base: u64,
     new_lengths: &mut [u64],
     new_nulls: &mut [u64],
-    new_places: &mut [u32],
-    new_buffers: &mut [u32],
+    new_places: &mut [u64],
+    new_buffers: &mut [u64],
 ) -> u8
     ensures { λ r. ⌜ Finished.Answers (finishing (lent (now (plan .entry)) (now (parts .entry)) (now (sources .entry)) (now (lengths .entry)) (now (places .entry)) (now (body .entry))) (now (buffers .entry)) (now (counters .entry)) (now (room .entry)) base (now («new_lengths» .entry)) (now («new_nulls» .entry)) (now («new_places» .entry)) (now («new_buffers» .entry))) r (now («new_lengths» .exit)) (now («new_nulls» .exit)) (now («new_places» .exit)) (now («new_buffers» .exit)) ⌝ }
 {
@@ -488,7 +488,7 @@ pub extern "C" fn lafkuno_finish(
 
 // How many data buffers the finished array names: the table of them has two numbers for each.
 #[no_mangle]
-pub extern "C" fn lafkuno_buffer_total(plan: &[u64], sources: &[u32], places: &[u32]) -> u64
+pub extern "C" fn lafkuno_buffer_total(plan: &[u64], sources: &[u32], places: &[u64]) -> u64
     ensures { λ r. ⌜ ((parts lengths body buffers counts room : List ℕ) (base : ℕ) → r ≡ buffersBefore (lent (now (plan .entry)) parts (now (sources .entry)) lengths (now (places .entry)) body) buffers counts room base (nodesOf (now (plan .entry)))) ⌝ }
 {
     into_builder::buffer_total(plan, sources, places)
@@ -510,7 +510,7 @@ pub extern "C" fn lafkuno_measure_open(
     plan: &[u64],
     sources: &[u32],
     lengths: &[u64],
-    places: &[u32],
+    places: &[u64],
     body: &[u8],
     counters: &mut [u64],
 ) -> u8
@@ -525,7 +525,7 @@ pub extern "C" fn lafkuno_measure_copy(
     plan: &[u64],
     sources: &[u32],
     lengths: &[u64],
-    places: &[u32],
+    places: &[u64],
     body: &[u8],
     counters: &mut [u64],
     source: u32,
@@ -599,8 +599,8 @@ pub extern "C" fn lafkuno_mean(
     formats: &[u8],
     schema: &[u32],
     lengths: &[u64],
-    places: &[u32],
-    buffers: &[u32],
+    places: &[u64],
+    buffers: &[u64],
     body: &[u8],
     first: u32,
     n: u32,
@@ -642,8 +642,8 @@ pub extern "C" fn lafkuno_ratio(
     formats: &[u8],
     schema: &[u32],
     lengths: &[u64],
-    places: &[u32],
-    buffers: &[u32],
+    places: &[u64],
+    buffers: &[u64],
     body: &[u8],
     first_a: u32,
     n_a: u32,

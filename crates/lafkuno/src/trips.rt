@@ -18,10 +18,10 @@ fn answer_word(e: Ended) -> u32
 #[no_mangle]
 pub extern "C" fn lafkuno_orders(
     plan: &[u64],
-    parts: &[u32],
+    parts: &[u64],
     sources: &[u32],
     lengths: &[u64],
-    places: &[u32],
+    places: &[u64],
     body: &[u8],
     counters: &mut [u64],
     room: &mut [u8],
@@ -48,7 +48,7 @@ pub extern "C" fn lafkuno_measure_orders(
     plan: &[u64],
     sources: &[u32],
     lengths: &[u64],
-    places: &[u32],
+    places: &[u64],
     body: &[u8],
     counters: &mut [u64],
     orders: &[u64],

@@ -5,8 +5,8 @@ use mathlib.Core.List.{List, [], _∷_}
 use Prim.Native.Nat.{ℕ, zero, suc, _+_, _*_, _≤_, _<_}
 use native.Mathlib.Omega.{arith}
 use lib.ListN.{length, getD, set, replicate}
-use lib.Dec.{ltb, leb, eqb}
-use borrow.Author.Tests.{lt-ltb, le-ltb, le-leb, lt-leb, ltb-true, leb-true, eqb-true, not-true}
+use lib.Dec.{leb, eqb}
+use borrow.Author.Tests.{leb-true, eqb-true, not-true}
 use Rattle.bits.specs.Bits.{bitsAt, zeros}
 use Rattle.array_data.proofs.lent_tables.Laws.{no, yes, is-none, is-some, and-left, and-right}
 use Rattle.walk.specs.State.{Join, keepsOf, rows, nulls, addNulls, top, place, rowsIn, scaled, grown}
@@ -18,19 +18,13 @@ use Rattle.room_writes.proofs.Laws.{Alike, alike-scaled, alike-grown, alike-tim
 -- ---- entries of w bytes in the body
 
 module _ (x : Join) (at w slot n : ℕ) where
-  pub rows-far : 576460752303423488 ≤ slot + n → false ≡ rowsIn x at w slot n
+  pub rows-is : leb (at + w * (slot + n)) (length (x .body)) ≡ rowsIn x at w slot n
   unfolding rowsIn
-  rows-far h = rw (le-ltb (slot + n) 576460752303423488 h)
+  rows-is = refl
 
-  pub rows-near : slot + n < 576460752303423488 → leb (at + w * (slot + n)) (length (x .body)) ≡ rowsIn x at w slot n
+  pub rows-in : {r : Bool} → r ≡ rowsIn x at w slot n → not r ≡ false → at + w * (slot + n) ≤ length (x .body)
   unfolding rowsIn
-  rows-near h = rw (lt-ltb (slot + n) 576460752303423488 h)
-
-  pub rows-in : {r : Bool} → r ≡ rowsIn x at w slot n → not r ≡ false → (slot + n < 576460752303423488) × (at + w * (slot + n) ≤ length (x .body))
-  unfolding rowsIn
-  rows-in e f =
-      let h = yes e f in
-      (ltb-true _ _ (and-left (ltb (slot + n) 576460752303423488) _ h), leb-true _ _ (and-right (ltb (slot + n) 576460752303423488) _ h))
+  rows-in e f = leb-true _ _ (yes e f)
 
 -- ---- null counters
 
@@ -49,21 +43,21 @@ pub zero-same : _≡_ {A = ℕ} 0 0
 zero-same = refl
 
 -- a write whose place is a number of 64 bits that stands for o2
-pub wrote-alike : (state parts : List ℕ) (wr : Bool) (i b o o2 : ℕ) (bs c room : List ℕ) {room2 : List ℕ} → Alike o o2
+pub wrote-alike : (state parts : List ℕ) (wr : Bool) (i b o o2 : ℕ) (bs c room : List ℕ) {room2 : List ℕ} → length room < top → Alike o o2
     → room2 ≡ applyIf state parts wr (put i b o bs ∷ []) room → Did state parts wr (wrote (put i b o2 bs) c) room 0 c room2
-wrote-alike state parts wr i b o o2 bs c room a g = wrote-did wr (put i b o2 bs) c room _ (g ∙ place-alike state parts wr i b o o2 bs room a)
+wrote-alike state parts wr i b o o2 bs c room n a g = wrote-did wr (put i b o2 bs) c room _ (g ∙ place-alike state parts wr i b o o2 bs room n a)
 
 -- behind r entries of w bytes
-pub wrote-at : (state parts : List ℕ) (wr : Bool) (i b r w : ℕ) (bs c room : List ℕ) {o p : ℕ} {room2 : List ℕ} → p ≡ r → o ≡ scaled p w → 1 ≤ w
+pub wrote-at : (state parts : List ℕ) (wr : Bool) (i b r w : ℕ) (bs c room : List ℕ) {o p : ℕ} {room2 : List ℕ} → p ≡ r → o ≡ scaled p w → length room < top
     → room2 ≡ applyIf state parts wr (put i b o bs ∷ []) room → Did state parts wr (wrote (put i b (r * w) bs) c) room 0 c room2
-wrote-at state parts wr i b r w bs c room {o} e f h g = wrote-alike state parts wr i b o (r * w) bs c room (rw (f, e) (alike-scaled r w h)) g
+wrote-at state parts wr i b r w bs c room {o} e f h g = wrote-alike state parts wr i b o (r * w) bs c room h (rw (f, e) (alike-scaled r w)) g
 
 -- behind r + k entries of w bytes
-pub wrote-behind : (state parts : List ℕ) (wr : Bool) (i b r k w : ℕ) (bs c room : List ℕ) {o p q : ℕ} {room2 : List ℕ} → p ≡ r → q ≡ grown p k → o ≡ scaled q w → 1 ≤ w
+pub wrote-behind : (state parts : List ℕ) (wr : Bool) (i b r k w : ℕ) (bs c room : List ℕ) {o p q : ℕ} {room2 : List ℕ} → p ≡ r → q ≡ grown p k → o ≡ scaled q w → 1 ≤ w → length room < top
     → room2 ≡ applyIf state parts wr (put i b o bs ∷ []) room → Did state parts wr (wrote (put i b ((r + k) * w) bs) c) room 0 c room2
-wrote-behind state parts wr i b r k w bs c room {o} {p} {q} e f l h g =
+wrote-behind state parts wr i b r k w bs c room {o} {p} {q} e f l h n g =
     let s : Alike q (r + k) = rw (f, e) (alike-grown r k) in
-    wrote-alike state parts wr i b o ((r + k) * w) bs c room (rw l (alike-times q (r + k) w s h)) g
+    wrote-alike state parts wr i b o ((r + k) * w) bs c room n (rw l (alike-times q (r + k) w s h)) g
 
 module _ (x : Join) (i : ℕ) (wr : Bool) (c room : List ℕ) where
   pub entries-no : (w slot n : ℕ) (o : Out) {at : ℕ} {r : Bool} → at ≡ place x i 3 → r ≡ rowsIn x at w slot n → not r ≡ true
@@ -72,35 +66,35 @@ module _ (x : Join) (i : ℕ) (wr : Bool) (c room : List ℕ) where
 
   -- f: the bytes of the entries at a place, with a base
   pub entries-yes : (w slot n : ℕ) (f : ℕ → ℕ → List ℕ) {at base base2 o p : ℕ} {r : Bool} {room2 : List ℕ} → at ≡ place x i 3 → base ≡ base2 → r ≡ rowsIn x at w slot n → not r ≡ false
-      → p ≡ rows c i → o ≡ scaled p w → 1 ≤ w → room2 ≡ applyIf (x .state) (x .parts) wr (put i 1 o (f at base) ∷ []) room
+      → p ≡ rows c i → o ≡ scaled p w → length room < top → room2 ≡ applyIf (x .state) (x .parts) wr (put i 1 o (f at base) ∷ []) room
       → Did (x .state) (x .parts) wr (need (rowsIn x (place x i 3) w slot n) 12 c (wrote (put i 1 (rows c i * w) (f (place x i 3) base2)) c)) room 0 c room2
   entries-yes w slot n f e k q h l m s g =
       need-ok 12 c (rw e at (yes q h)) (wrote-at (x .state) (x .parts) wr i 1 (rows c i) w (f (place x i 3) _) c room l m s (rw (e, k) at g))
 
   -- ---- validity
 
-  pub bits-no : (slot n : ℕ) {at : ℕ} → at ≡ place x i 1 → 8 * length (x .body) < 8 * at + slot + n → Did (x .state) (x .parts) wr (copyBits x i slot n c) room 12 c room
+  pub bits-no : (slot n : ℕ) {at : ℕ} {r : Bool} → at ≡ place x i 1 → r ≡ leb (8 * at + slot + n) (8 * length (x .body)) → not r ≡ true → Did (x .state) (x .parts) wr (copyBits x i slot n c) room 12 c room
   unfolding copyBits
-  bits-no slot n e h = need-no _ (lt-leb (8 * place x i 1 + slot + n) (8 * length (x .body)) (rw e at h))
+  bits-no slot n e q h = need-no _ (rw e at (no q h))
 
-  pub bits-yes : (slot n : ℕ) {at p z : ℕ} {c2 room2 : List ℕ} → at ≡ place x i 1 → 8 * at + slot + n ≤ 8 * length (x .body) → p ≡ rows c i
+  pub bits-yes : (slot n : ℕ) {at p z : ℕ} {r : Bool} {c2 room2 : List ℕ} → at ≡ place x i 1 → r ≡ leb (8 * at + slot + n) (8 * length (x .body)) → not r ≡ false → p ≡ rows c i
       → room2 ≡ applyIf (x .state) (x .parts) wr (mask i p (bitsAt (8 * at + slot) n (x .body)) ∷ []) room → z ≡ zeros (bitsAt (8 * at + slot) n (x .body)) → c2 ≡ addNulls i z c
       → Did (x .state) (x .parts) wr (copyBits x i slot n c) room 0 c2 room2
   unfolding copyBits
-  bits-yes slot n {room2 = room2} e h f g z k =
-      need-ok 12 c (le-leb (8 * place x i 1 + slot + n) (8 * length (x .body)) (rw e at h))
+  bits-yes slot n {room2 = room2} e q h f g z k =
+      need-ok 12 c (rw e at (yes q h))
       (next-ok _ (wrote-did wr _ c room room2 (rw (e, f) at g)) refl
       (rw (k ∙ ap (λ (v : ℕ). addNulls i v c) (z ∙ ap (λ (v : ℕ). zeros (bitsAt (8 * v + slot) n (x .body))) e)) (done-did wr _ room2)))
 
   -- a walk that only tries, from a null counter that is full
-  pub bits-tried : (slot n : ℕ) {at : ℕ} {t : Bool} → at ≡ place x i 1 → 8 * at + slot + n ≤ 8 * length (x .body) → t ≡ (not wr && eqb (nulls c i) top) → t ≡ true
+  pub bits-tried : (slot n : ℕ) {at : ℕ} {r t : Bool} → at ≡ place x i 1 → r ≡ leb (8 * at + slot + n) (8 * length (x .body)) → not r ≡ false → t ≡ (not wr && eqb (nulls c i) top) → t ≡ true
       → Did (x .state) (x .parts) wr (copyBits x i slot n c) room 0 c room
   unfolding copyBits applyIf
-  bits-tried slot n e h q f =
+  bits-tried slot n e b h q f =
       let k = sym q ∙ f in
       let tries : wr ≡ false = not-true wr (and-left (not wr) _ k) in
       let stays : c ≡ addNulls i (zeros (bitsAt (8 * place x i 1 + slot) n (x .body))) c = full-stays i _ c (eqb-true (nulls c i) top (and-right (not wr) _ k)) in
-      need-ok 12 c (le-leb (8 * place x i 1 + slot + n) (8 * length (x .body)) (rw e at h))
+      need-ok 12 c (rw e at (yes b h))
       (next-ok _ (wrote-did wr _ c room room (rw tries)) refl
       (subst (λ z. Did (x .state) (x .parts) wr (done z) room 0 c room) stays (done-did wr c room)))
 

@@ -16,14 +16,11 @@ use array_data::lent_tables;
 use walk::plan_words;
 
 // Whether the entries of w bytes of the slots slot .. slot + n - 1 stand in the body from `at` on.
-pub fn rows_in(body: &[u8], at: u32, w: u64, slot: u64, n: u64) -> bool
+pub fn rows_in(body: &[u8], at: u64, w: u64, slot: u64, n: u64) -> bool
     requires { ⌜ (w ≤ 16) × (slot + n < 2 ^ 64) ⌝ }
     ensures { λ r. ⌜ ((state parts lengths places : List ℕ) (first source : ℕ) → r ≡ rowsIn (join state parts lengths places (now (body .entry)) first source) at w slot n) ⌝ }
 {
-    if 576460752303423488 <= slot + n {
-        return false;
-    }
-    (at as u64) + w * (slot + n) <= (body.len() as u64)
+    lent_tables::rows_fit_behind(at, slot + n, w as u8, body.len() as u64)
 }
 
 // Whether a walk that only tries need not look at node i's bits: its null counter is full, and stays so.
@@ -40,8 +37,8 @@ fn is_uncounted(counts: &[u64; 96], write: bool, i: usize) -> bool
 // The source's bits from `slot` on, with their zeros counted.
 fn copy_bits(
     state: &[u64],
-    parts: &[u32],
-    places: &[u32],
+    parts: &[u64],
+    places: &[u64],
     body: &[u8],
     counts: &mut [u64; 96],
     room: &mut [u8],
@@ -55,8 +52,7 @@ fn copy_bits(
     ensures { λ r. ⌜ ((lengths : List ℕ) (source : ℕ) → Did (now (state .entry)) (now (parts .entry)) write (copyBits (join (now (state .entry)) (now (parts .entry)) lengths (now (places .entry)) (now (body .entry)) first source) i slot n (now (counts .entry))) (now (room .entry)) r (now (counts .exit)) (now (room .exit))) ⌝ }
 {
     let at = lent_tables::place(places, first + i, 1);
-    let end = 8 * (at as u64) + slot + n;
-    if body.len() < utils::bit_room(end as usize) {
+    if !lent_tables::bits_fit_behind(at, slot, n, body.len() as u64) {
         return 12;
     }
     if is_uncounted(counts, write, i) {
@@ -71,8 +67,8 @@ fn copy_bits(
 // The validity of n rows: the source's, or ones where it has none.
 pub fn copy_mask(
     state: &[u64],
-    parts: &[u32],
-    places: &[u32],
+    parts: &[u64],
+    places: &[u64],
     body: &[u8],
     counts: &mut [u64; 96],
     room: &mut [u8],
@@ -111,8 +107,8 @@ pub fn copy_mask(
 // Numbers of w bytes.
 pub fn copy_numbers(
     state: &[u64],
-    parts: &[u32],
-    places: &[u32],
+    parts: &[u64],
+    places: &[u64],
     body: &[u8],
     counts: &mut [u64; 96],
     room: &mut [u8],
@@ -131,7 +127,7 @@ pub fn copy_numbers(
         return 12;
     }
     let o = plan_words::scale(plan_words::rows_of(counts, i), w);
-    let from = (at as u64) + w * slot;
+    let from = at + w * slot;
     room_writes::put_copy(
         state,
         parts,
@@ -150,8 +146,8 @@ pub fn copy_numbers(
 // Keys of w bytes, each plus the source's base.
 pub fn copy_keys(
     state: &[u64],
-    parts: &[u32],
-    places: &[u32],
+    parts: &[u64],
+    places: &[u64],
     body: &[u8],
     counts: &mut [u64; 96],
     room: &mut [u8],
@@ -173,7 +169,7 @@ pub fn copy_keys(
         return 12;
     }
     let o = plan_words::scale(plan_words::rows_of(counts, i), w);
-    let from = (at as u64) + w * slot;
+    let from = at + w * slot;
     let base = plan_words::base_of(state, source, i);
     room_writes::put_keys(
         state,
@@ -195,8 +191,8 @@ pub fn copy_keys(
 // Views, the buffer numbers raised by the source's base.
 pub fn copy_views(
     state: &[u64],
-    parts: &[u32],
-    places: &[u32],
+    parts: &[u64],
+    places: &[u64],
     body: &[u8],
     counts: &mut [u64; 96],
     room: &mut [u8],
@@ -215,7 +211,7 @@ pub fn copy_views(
         return 12;
     }
     let o = plan_words::scale(plan_words::rows_of(counts, i), 16);
-    let from = (at as u64) + 16 * slot;
+    let from = at + 16 * slot;
     let base = plan_words::base_of(state, source, i);
     room_writes::put_views(
         state,
@@ -236,7 +232,7 @@ pub fn copy_views(
 // The validity of n nulls: zeros, all counted.
 pub fn null_mask(
     state: &[u64],
-    parts: &[u32],
+    parts: &[u64],
     counts: &mut [u64; 96],
     room: &mut [u8],
     write: bool,
@@ -270,7 +266,7 @@ pub fn count_nulls(state: &[u64], counts: &mut [u64; 96], i: usize, n: u64) -> u
 // n null slots of w bytes in buffer b.
 pub fn null_numbers(
     state: &[u64],
-    parts: &[u32],
+    parts: &[u64],
     counts: &mut [u64; 96],
     room: &mut [u8],
     write: bool,

@@ -29,22 +29,17 @@ fn try_offsets(body: &[u8], from: usize, w: u64, n: usize, last: u64) -> utils::
 }
 
 // Whether n bytes from the byte `lead` of the data at `at` on lie in the body.
-fn bytes_in(body: &[u8], at: u32, lead: u64, n: u64) -> bool
-    requires { ⌜ n < 2 ^ 63 ⌝ }
+fn bytes_in(body: &[u8], at: u64, lead: u64, n: u64) -> bool
     ensures { λ r. ⌜ r ≡ leb (at + lead + n) (length (now (body .entry))) ⌝ }
 {
-    let m = body.len() as u64;
-    if m < lead {
-        return false;
-    }
-    (at as u64) + n <= m - lead
+    lent_tables::fits_behind(at, lead, n, body.len() as u64)
 }
 
 // The n offsets of w bytes after the first of those at `from`, and the bytes from the source's offset `lead` on: `last` is the offset behind them.
 fn put_string(
     state: &[u64],
-    parts: &[u32],
-    places: &[u32],
+    parts: &[u64],
+    places: &[u64],
     body: &[u8],
     counts: &mut [u64; 96],
     room: &mut [u8],
@@ -68,7 +63,7 @@ fn put_string(
     }
     let o = plan_words::scale(plan_words::grow(plan_words::rows_of(counts, i), 1), w);
     room_writes::put_offsets(state, parts, room, write, i, 1, o, w, body, from, n, old);
-    let begin = (at as u64) + lead;
+    let begin = at + lead;
     room_writes::put_copy(
         state,
         parts,
@@ -88,8 +83,8 @@ fn put_string(
 // The offsets tried, and then put.
 fn put_extended(
     state: &[u64],
-    parts: &[u32],
-    places: &[u32],
+    parts: &[u64],
+    places: &[u64],
     body: &[u8],
     counts: &mut [u64; 96],
     room: &mut [u8],
@@ -130,8 +125,8 @@ fn put_extended(
 // Byte strings with offsets of w bytes.
 pub fn copy_string(
     state: &[u64],
-    parts: &[u32],
-    places: &[u32],
+    parts: &[u64],
+    places: &[u64],
     body: &[u8],
     counts: &mut [u64; 96],
     room: &mut [u8],
@@ -153,7 +148,7 @@ pub fn copy_string(
     if !crate::rows_in(body, at, w, slot, n + 1) {
         return 12;
     }
-    let from = (at as u64) + w * slot;
+    let from = at + w * slot;
     put_extended(
         state,
         parts,
@@ -173,7 +168,7 @@ pub fn copy_string(
 // n nulls of w bytes an offset: the last offset, n times.
 pub fn null_string(
     state: &[u64],
-    parts: &[u32],
+    parts: &[u64],
     counts: &mut [u64; 96],
     room: &mut [u8],
     write: bool,
@@ -194,8 +189,8 @@ pub fn null_string(
 // The offsets of n rows of a list, with w bytes each, behind its child's rows: all of them, or none where they do not fit.
 pub fn copy_offsets(
     state: &[u64],
-    parts: &[u32],
-    places: &[u32],
+    parts: &[u64],
+    places: &[u64],
     body: &[u8],
     counts: &[u64; 96],
     room: &mut [u8],
@@ -215,7 +210,7 @@ pub fn copy_offsets(
     if !crate::rows_in(body, at, w, slot, n + 1) {
         return utils::Extended::Falls;
     }
-    let from = (at as u64) + w * slot;
+    let from = at + w * slot;
     let old = plan_words::rows_of(counts, i + 1);
     match try_offsets(body, from as usize, w, n as usize, old) {
         utils::Extended::Fits { last, first: lead } => {
@@ -244,7 +239,7 @@ pub fn copy_offsets(
 // n nulls of a list with offsets of w bytes: the last offset, n times.
 pub fn null_list(
     state: &[u64],
-    parts: &[u32],
+    parts: &[u64],
     counts: &[u64; 96],
     room: &mut [u8],
     write: bool,

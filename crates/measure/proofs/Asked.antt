@@ -17,11 +17,11 @@ use Rattle.walk.specs.Nulls.{nullWalk}
 use Rattle.parts.specs.Parts.{nodesOf, hasPart, partTotal, numberOf, partAt, needed, sizeAt, partHolds, partsHold, partsWithin, Used, Numbered}
 use Rattle.parts.proofs.Placed.{number-below, part-named}
 use Rattle.columns.specs.Grounds.{sourcesGround}
-use Rattle.refinement.specs.orders.Sound.{planSound, walkable}
+use Rattle.refinement.specs.orders.Sound.{ceiling, planSound, walkable}
 use Rattle.refinement.specs.orders.Order.{Lent, joinOf, sourceCount, sourceLength, settled, copyOrder, nullOrder}
 use Rattle.refinement.specs.orders.Measure.{Measured, measured, copyMeasure, nullMeasure, neededIn, neededBytes}
 use Rattle.refinement.specs.opening.Open as start
-use Rattle.refinement.specs.opening.Open.{beginGaps, firstOffset, joinSource, joinEntries, keysHold, openDictionary, openWalk, opened, roomPlaced, opening}
+use Rattle.refinement.specs.opening.Open.{beginGaps, firstOffset, joinSource, joinEntries, entriesHold, keysHold, openDictionary, openWalk, opened, roomPlaced, opening}
 use Rattle.refinement.specs.opening.Ask.{openMeasure}
 use Rattle.refinement.proofs.opening.Laid.{stood}
 use Rattle.transform.proofs.Laws.{null-state}
@@ -47,10 +47,10 @@ by-walk plan parts old o = go (eqb (o .ans) 0) refl
     go false e = rw (e, e)
 
 -- the parts lie in a room that is a body
-module _ (x : Lent) (counts room : List ℕ) (within : partsWithin (x .plan) (x .parts) (length room) ≡ true) (small : length room ≤ 4294967295) where
+module _ (x : Lent) (counts room : List ℕ) (within : partsWithin (x .plan) (x .parts) (length room) ≡ true) (small : length room ≤ ceiling) where
   walks : walkable (x .plan) (length room) ≡ planSound (x .plan)
   unfolding walkable
-  walks = rw (le-leb (length room) 4294967295 small)
+  walks = rw (le-leb (length room) ceiling small)
 
   settled-ground : (o : Out) → settled x counts room o .ground ≡ groundBy x (measured counts o)
   unfolding settled
@@ -103,9 +103,9 @@ module _ (x : Lent) where
       walk-same (x .plan) (x .parts) [] (x .lengths) (x .places) (x .body) first s 8 i 0 (getD (x .lengths) (2 * (first + i)) 0) c
 
   dictionary-same : (i : ℕ) (c : List ℕ) → openDictionary x i c ≡ openDictionary (unplaced x) i c
-  unfolding openDictionary joinEntries keysHold
+  unfolding openDictionary joinEntries entriesHold keysHold
   dictionary-same i c =
-      ap (λ f. cond (eqb (dictionaryOf (x .plan) i) 0) (done c) (next (cond (eqb (word (x .plan) i 7) 0) (done c) (each f (sourceCount (x .plan)) 0 c)) (λ c2. need (keysHold x i) 8 c2 (done c2))))
+      ap (λ f. cond (eqb (dictionaryOf (x .plan) i) 0) (done c) (need (entriesHold x i) 6 c (next (cond (eqb (word (x .plan) i 7) 0) (done c) (each f (sourceCount (x .plan)) 0 c)) (λ c2. need (keysHold x i) 8 c2 (done c2)))))
       (fun-ext (λ s. fun-ext (λ c2. source-same (suc i) s c2)))
 
   pub open-same : (c : List ℕ) → openWalk x c ≡ openWalk (unplaced x) c
@@ -119,7 +119,7 @@ module _ (formats schema sources : List ℕ) (x : Tables) (keep gaps : Bool) (pa
   lends = opened formats schema sources x keep gaps parts
 
   -- THE QUESTION OF AN OPENING HAS ITS GROUND, where 9 to 12 and 14 do not stand
-  pub open-asked : leb (length room) 4294967295 ≡ true → sourcesGround formats schema x sources ≡ 0 → roomPlaced formats schema sources x keep gaps parts plan counts room ≡ true
+  pub open-asked : leb (length room) ceiling ≡ true → sourcesGround formats schema x sources ≡ 0 → roomPlaced formats schema sources x keep gaps parts plan counts room ≡ true
       → sourceCount (lends .plan) ≤ 16 → length counts ≡ 96
       → opening formats schema sources x keep gaps parts plan counts room .ground ≡ groundBy lends (openMeasure (unplaced lends) counts)
   unfolding opening start.settled openMeasure
@@ -144,7 +144,7 @@ only : (b q : Bool) → (b ≡ true → q ≡ true) → onlyIf b q ≡ true
 only true q h = h refl
 only false q h = refl
 
--- PARTS OF THE BYTES THAT ARE ANSWERED HOLD: sizes are numbers of 32 bits
+-- PARTS OF THE BYTES THAT ARE ANSWERED HOLD: a part that lies in a room has fewer bytes than the largest number
 pub asked-hold : (plan counts parts : List ℕ) → Numbered plan → ((p : ℕ) → sizeAt parts p < top) → ((p : ℕ) → p < partTotal plan → neededBytes plan counts p ≤ sizeAt parts p)
     → partsHold plan counts parts ≡ true
 unfolding partsHold partHolds neededBytes

@@ -19,7 +19,7 @@ pub fn measure_open(
     plan: &[u64],
     sources: &[u32],
     lengths: &[u64],
-    places: &[u32],
+    places: &[u64],
     body: &[u8],
     counters: &mut [u64],
 ) -> u8
@@ -34,7 +34,7 @@ pub fn measure_open(
     if !sound::plan_sound(plan) {
         return 12;
     }
-    let parts = [0u32; 0];
+    let parts = [0u64; 0];
     let mut room = [0u8; 0];
     let mut counts = [0u64; 96];
     let g = open_walk::open_walk(
@@ -61,7 +61,7 @@ pub fn measure_extend(
     plan: &[u64],
     sources: &[u32],
     lengths: &[u64],
-    places: &[u32],
+    places: &[u64],
     body: &[u8],
     counters: &mut [u64],
     source: u32,
@@ -83,7 +83,7 @@ pub fn measure_extend(
     if !transform::in_source(lengths, first, start, end) {
         return 2;
     }
-    let parts = [0u32; 0];
+    let parts = [0u64; 0];
     let mut room = [0u8; 0];
     let mut counts = transform::load(counters);
     let g = extend::extend(
@@ -123,7 +123,7 @@ pub fn measure_nulls(plan: &[u64], counters: &mut [u64], n: u64) -> u8
     if plan_words::keeps_of(plan, 0) == 0 {
         return 3;
     }
-    let parts = [0u32; 0];
+    let parts = [0u64; 0];
     let mut room = [0u8; 0];
     let mut counts = transform::load(counters);
     let m = transform::at_most_far(n);

@@ -18,7 +18,7 @@ use Rattle.columnar.specs.Plain.{PlainBody, PlainRule}
 use Rattle.columnar.specs.Dictionary.{Dictionary, entryAt, dictionaryAt, DictionaryRule}
 use Rattle.columnar.proofs.Items.{item-left, item-right, item-encodes-lt, length-encodes}
 use Rattle.model.specs.Try.{Try, done, then, guard, after}
-use Rattle.model.specs.Opening.{present, keeps, sameList, ptrEq, shared, entriesBefore, startOfKeys, keysFit, allKeysFit}
+use Rattle.model.specs.Opening.{present, keeps, sameList, ptrEq, shared, entriesBefore, startOfKeys, keysFit, allKeysFit, entriesFit}
 use Rattle.model.specs.Mutable.{Mutable, startNode, freezeNode}
 use Rattle.model.specs.Primitive.{plainStart, newKeys}
 use Rattle.model.specs.Transform.{joinedFrom, theDictionary, openData}
@@ -38,6 +38,10 @@ and-left false b e = e
 and-right : (a b : Bool) → (a && b) ≡ true → b ≡ true
 and-right true b e = e
 and-right false b e = absurd (let z : _≡_ {A = ℕ} 0 1 = cc in omega arith)
+
+guard-rest : {A : Type 0} (b : Bool) (g : ℕ) (t : Try A) (x : A) → guard b g t ≡ done x → t ≡ done x
+guard-rest true g t x e = e
+guard-rest false g t x e = absurd (let z : _≡_ {A = ℕ} 0 1 = cc in omega arith)
 
 guard-true : {A : Type 0} (b : Bool) (g : ℕ) (t : Try A) (x : A) → guard b g t ≡ done x → b ≡ true
 guard-true true g t x e = refl
@@ -151,7 +155,7 @@ module _ (k : Number) (p : Plain) (m : ℕ) (ds : ℕ → Dictionary (PlainBody 
 pub whole : (k : Number) (p : Plain) (m : ℕ) (ds : ℕ → Dictionary (PlainBody p)) → ((j : ℕ) → j < m → Obeys true (PlainRule p) (ds j .values))
     → openData (tDictionary k p) m ds ≡ done tt → SameEntries p m ds → Whole k p m ds (after (theDictionary p m ds) (ds 0 .values))
 whole k p m ds g o h =
-    let r = then-done (theDictionary p m ds) (λ v. guard (allKeysFit k m m ds) 8 (done tt)) tt o in
+    let r = then-done (theDictionary p m ds) (λ v. guard (allKeysFit k m m ds) 8 (done tt)) tt (guard-rest (entriesFit m ds) 6 _ tt o) in
     subst (λ t. Whole k p m ds (after t (ds 0 .values))) (sym (r .1 .0)) (whole-is k p m ds g (guard-true (allKeysFit k m m ds) 8 (done tt) tt (r .1 .1)) h (r .0) (r .1 .0))
 
 -- ---- keys

@@ -1,12 +1,12 @@
 -- An opening that narrow sources pass is passed by wide ones: sharing is the same, keys reach higher, and what joins narrow joins wide.
 -- Assumes nothing.
-use mathlib.Core.Path.{_≡_, refl, sym, ap, ap₂, subst}
+use mathlib.Core.Path.{_≡_, refl, sym, ap, ap₂, subst, _∙_}
 use mathlib.Core.Logic.{_↔_}
-use mathlib.Core.Bool.{Bool, true, false, cond, _&&_}
+use mathlib.Core.Bool.{Bool, true, false, cond, _&&_, _||_}
 use mathlib.Core.List.{List, [], _∷_, List·Memᴰ, List·Memᴰ·head, List·Memᴰ·tail}
-use Prim.Native.Nat.{ℕ, zero, suc, _+_, _-_, _≤_, _<_}
+use Prim.Native.Nat.{ℕ, zero, suc, _+_, _-_, _^_, _≤_, _<_}
 use native.Mathlib.Omega.{arith}
-use lib.Dec.{ltb}
+use lib.Dec.{leb, ltb}
 use borrow.Author.Tests.{eq-eqb}
 use Rattle.columnar.specs.Types.{Number, limit, Plain, Ty, tPlain}
 use Rattle.columnar.specs.Formed.{FormedPlain, Formed}
@@ -19,7 +19,7 @@ use Rattle.columnar.proofs.Kept.{obeys-kept}
 use Rattle.columnar.proofs.WiderKinds.{plain-widens, declares}
 use Rattle.model.specs.Try.{Try, done, stop, then}
 use Rattle.model.specs.Grounds.{Counts, counts, leaf, askOf, plainAsk}
-use Rattle.model.specs.Opening.{present, keeps, sameList, ptrEq, shared, entriesBefore, startOfKeys, keysFit, allKeysFit}
+use Rattle.model.specs.Opening.{present, keeps, sameList, ptrEq, shared, entriesBefore, startOfKeys, entriesFit, keysFit, allKeysFit}
 use Rattle.model.specs.Mutable.{Mutable, startNode, freezeNode}
 use Rattle.model.specs.Primitive.{plainStart}
 use Rattle.model.specs.Transform.{Destination, joinedFrom, theDictionary, openAll, openData, start, tryWithCapacities}
@@ -202,9 +202,12 @@ open-again (wDictionary k k′ {p} {p′} kk d) f f′ m ss ss′ h a s =
     let ds : ℕ → Dictionary (PlainBody p) = λ i. ss i .body in
     let ds′ : ℕ → Dictionary (PlainBody p′) = λ i. ss′ i .body in
     let e : shared m ds ≡ shared m ds′ = shared-same m ds ds′ a in
-    follows-across (theDictionary p m ds) (theDictionary p′ m ds′) _ _
+    let n : entriesBefore ds m ≡ entriesBefore ds′ m = before-same ds ds′ m (λ i q. h i q .same-body .same-values .same-len) in
+    let u : entriesFit m ds ≡ entriesFit m ds′ = ap₂ (λ b n. b || leb n (2 ^ 64 - 1)) e n in
+    follows-guard (entriesFit m ds) (entriesFit m ds′) 6 6 (λ z. sym u ∙ z)
+    (follows-across (theDictionary p m ds) (theDictionary p′ m ds′) _ _
     (dictionary-wider d (f .1) (f′ .1) m ds ds′ (λ i q. h i q .same-body .same-values) (λ i q. s i q .slots .child-rule) e)
-    (λ x y. follows-guard (allKeysFit k m m ds) (allKeysFit k′ m m ds′) 8 8 (all-keys-up k k′ (kk .reach) m ds ds′ (λ i q. h i q .same-body .same-values .same-len) e m (omega arith)) (same tt))
+    (λ x y. follows-guard (allKeysFit k m m ds) (allKeysFit k′ m m ds′) 8 8 (all-keys-up k k′ (kk .reach) m ds ds′ (λ i q. h i q .same-body .same-values .same-len) e m (omega arith)) (same tt)))
 
 opened : {A : Type 0} (a : Try (Unit {0})) (y z : A) → then a (λ x. done y) ≡ done z → a ≡ done tt
 opened (done x) y z e = refl

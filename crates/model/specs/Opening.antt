@@ -3,8 +3,8 @@
 use mathlib.Core.Bool.{Bool, true, false, cond, _&&_, _||_}
 use mathlib.Core.Option.{none}
 use mathlib.Core.List.{List, [], _∷_}
-use Prim.Native.Nat.{ℕ, zero, suc, _+_, _-_}
-use lib.Dec.{ltb, eqb}
+use Prim.Native.Nat.{ℕ, zero, suc, _+_, _-_, _^_}
+use lib.Dec.{leb, ltb, eqb}
 use Rattle.columnar.specs.Types.{Number, limit}
 use Rattle.columnar.specs.Array.{Array, nullCount}
 use Rattle.columnar.specs.Dictionary.{Dictionary}
@@ -42,6 +42,10 @@ shared (suc (suc m)) ds = shared (suc m) ds && ptrEq (ds m) (ds (suc m))
 abbrev pub entriesBefore : {P : Type 0} → (ℕ → Dictionary P) → ℕ → ℕ
 entriesBefore ds zero = 0
 entriesBefore ds (suc j) = entriesBefore ds j + ds j .values .len
+
+-- "A joined dictionary that overflows panics; the port gives 6": so many entries are counted in 64 bits
+abbrev pub entriesFit : {P : Type 0} → ℕ → (ℕ → Dictionary P) → Bool
+entriesFit m ds = shared m ds || leb (entriesBefore ds m) (2 ^ 64 - 1)
 
 -- "start is 0 if shared, else the entries of earlier sources"
 abbrev pub startOfKeys : {P : Type 0} → ℕ → (ℕ → Dictionary P) → ℕ → ℕ

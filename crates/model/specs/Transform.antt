@@ -14,7 +14,7 @@ use Rattle.columnar.specs.View.{Views}
 use Rattle.columnar.specs.Dictionary.{Dictionary}
 use Rattle.columnar.specs.Reading.{Body, Column, masks}
 use Rattle.model.specs.Try.{Try, done, stop, then, guard, after}
-use Rattle.model.specs.Opening.{present, keeps, shared, allKeysFit}
+use Rattle.model.specs.Opening.{present, keeps, shared, entriesFit, allKeysFit}
 use Rattle.model.specs.Mutable.{Mutable, keepsBits, extendNode, nullsNode, startNode, freezeNode}
 use Rattle.model.specs.Primitive.{plainExtend, plainNull, plainStart, viewExtend, buffersBefore, keysExtend}
 use Rattle.model.specs.ListViews.{Lists, listExtend, listNulls, listFreeze}
@@ -91,7 +91,7 @@ openData (tList w t) = λ m ss. openData t m (λ i. ss i .child .body)
 openData (tSparse ids nullable f) = λ m ss. openAll ids (λ c. openData (f c) m (λ i. ss i .children c .body))
 openData (tDense ids nullable f) = λ m ss. openAll ids (λ c. openData (f c) m (λ i. ss i .children c .body))
 openData (tRunEnd w t) = λ m ss. openData t m (λ i. ss i .values .body)
-openData (tDictionary k p) = λ m ss. then (theDictionary p m ss) (λ v. guard (allKeysFit k m m ss) 8 (done tt))
+openData (tDictionary k p) = λ m ss. guard (entriesFit m ss) 6 (then (theDictionary p m ss) (λ v. guard (allKeysFit k m m ss) 8 (done tt)))
 
 -- a node with no rows that keeps nulls or not; "this passes to union, list-view and run-value children, not to run ends and dictionaries"; a list's child keeps too
 abbrev pub startData : Bool → (t : Ty) → Bool → ℕ → (ℕ → Body t) → Grown t

@@ -3,6 +3,7 @@ use mathlib.Core.Path.{_≡_, refl, sym, ap, _∙_}
 use mathlib.Core.Bool.{Bool, true, false, not, cond, _&&_}
 use mathlib.Core.List.{List, [], _∷_}
 use Prim.Native.Nat.{ℕ, suc, _+_, _-_, _*_, _≤_, _<_, min}
+use native.Mathlib.Nat.{mul-le-mul-right}
 use native.Mathlib.Omega.{arith}
 use lib.ListN.{length, getD, replicate}
 use lib.Dec.{ltb, leb, eqb}
@@ -14,7 +15,7 @@ use Rattle.run_ends.specs.Lookup.{foundRun, runsOf}
 use Rattle.run_ends.specs.Clip.{clipped}
 use Rattle.run_ends.specs.declared.Runs.{Runs}
 use Rattle.array_data.proofs.lent_tables.Laws.{no, yes, and-left, and-right}
-use Rattle.walk.specs.State.{Join, bytesOf, endOf, idOf, rows, bytes, addRows, setBytes, endGap, beginGap, place, lengthOf, offsetOf, rowsIn, scaled, grown}
+use Rattle.walk.specs.State.{Join, bytesOf, endOf, idOf, rows, bytes, addRows, setBytes, endGap, beginGap, place, lengthOf, offsetOf, rowsIn, scaled, grown, top}
 use Rattle.walk.specs.Log.{Entry, Out, Did, put, amend, enter, apply, applyIf, wrote, need, next}
 use Rattle.walk.specs.Copy.{Walk, isWidth, listViewRow, denseTo, idAt, positionAt, runsAt}
 use Rattle.walk.specs.Nulls.{nullableChild, noHome}
@@ -111,13 +112,13 @@ module _ (state parts : List ℕ) (wr : Bool) (i : ℕ) (c room : List ℕ) wher
     list-no e f g h = need-no _ (rw (f, e) at (no g h))
 
     pub list-yes : {j off o p q : ℕ} {t : Bool} {room1 room2 : List ℕ} → j ≡ suc i → off ≡ rows c j → t ≡ ltb (off + size) (half w) → not t ≡ false
-        → p ≡ rows c i → q ≡ grown p r → o ≡ scaled q w → 1 ≤ w → room1 ≡ applyIf state parts wr (put i 1 o (encode w off) ∷ []) room
+        → p ≡ rows c i → q ≡ grown p r → o ≡ scaled q w → 1 ≤ w → length room < top → length room1 < top → room1 ≡ applyIf state parts wr (put i 1 o (encode w off) ∷ []) room
         → room2 ≡ applyIf state parts wr (put i 2 o (encode w size) ∷ []) room1 → Did state parts wr (listNumbers w i r size c) room 0 c room2
     unfolding listNumbers
-    list-yes {room1 = room1} e f g h k l m s a b =
+    list-yes {room1 = room1} e f g h k l m s y z a b =
         need-ok 6 c (rw (f, e) at (yes g h))
-        (next-ok _ (wrote-behind state parts wr i 1 (rows c i) r w (encode w (rows c (suc i))) c room k l m s (rw (f, e) at a)) refl
-        (wrote-behind state parts wr i 2 (rows c i) r w (encode w size) c room1 k l m s b))
+        (next-ok _ (wrote-behind state parts wr i 1 (rows c i) r w (encode w (rows c (suc i))) c room k l m s y (rw (f, e) at a)) refl
+        (wrote-behind state parts wr i 2 (rows c i) r w (encode w size) c room1 k l m s z b))
 
   -- ---- dense unions
 
@@ -126,15 +127,15 @@ module _ (state parts : List ℕ) (wr : Bool) (i : ℕ) (c room : List ℕ) wher
     unfolding denseNumbers
     dense-no e h = need-no _ (le-ltb (rows c k) (half 4) (rw e at h))
 
-    pub dense-yes : {o p q v : ℕ} {room1 room2 : List ℕ} → v ≡ rows c k → v < half 4 → p ≡ rows c i → q ≡ grown p r → o ≡ scaled q 4
+    pub dense-yes : {o p q v : ℕ} {room1 room2 : List ℕ} → v ≡ rows c k → v < half 4 → p ≡ rows c i → q ≡ grown p r → o ≡ scaled q 4 → length room < top → length room1 < top
         → room1 ≡ applyIf state parts wr (put i 1 q (replicate 1 id) ∷ []) room → room2 ≡ applyIf state parts wr (put i 2 o (encode 4 v) ∷ []) room1
         → Did state parts wr (denseNumbers i r k id c) room 0 c room2
     unfolding denseNumbers
-    dense-yes {q = q} {room1 = room1} e h l m s a b =
+    dense-yes {q = q} {room1 = room1} e h l m s x y a b =
         let z : Alike q (rows c i + r) = rw (m, l) (alike-grown (rows c i) r) in
         need-ok 6 c (lt-ltb (rows c k) (half 4) (rw e at h))
-        (next-ok _ (wrote-alike state parts wr i 1 q (rows c i + r) (id ∷ []) c room z a) refl
-        (wrote-behind state parts wr i 2 (rows c i) r 4 (encode 4 (rows c k)) c room1 l m s (omega arith) (rw e at b)))
+        (next-ok _ (wrote-alike state parts wr i 1 q (rows c i + r) (id ∷ []) c room x z a) refl
+        (wrote-behind state parts wr i 2 (rows c i) r 4 (encode 4 (rows c k)) c room1 l m s (omega arith) y (rw e at b)))
 
   -- ---- nulls of unions
 
@@ -153,11 +154,11 @@ module _ (state parts : List ℕ) (wr : Bool) (i : ℕ) (c room : List ℕ) wher
     positions-stop e f g d z = need-ok 6 c (le-leb (rows c h + n) (half 4) (omega (arith, e, f))) (next-no _ d z)
 
     pub positions-yes : {o p q r v : ℕ} {room1 room2 : List ℕ} → p ≡ rows c h → q ≡ grown p n → q ≤ half 4 → Did state parts wr (nullIds state i h n c) room r c room1 → r ≡ 0
-        → v ≡ rows c i → o ≡ scaled v 4 → room2 ≡ applyIf state parts wr (put i 2 o (countedUp 4 p n) ∷ []) room1 → Did state parts wr (nullPositions state i h n c) room 0 c room2
+        → v ≡ rows c i → o ≡ scaled v 4 → length room1 < top → room2 ≡ applyIf state parts wr (put i 2 o (countedUp 4 p n) ∷ []) room1 → Did state parts wr (nullPositions state i h n c) room 0 c room2
     unfolding nullPositions grown
-    positions-yes {room1 = room1} e f g d z k l m =
+    positions-yes {room1 = room1} e f g d z k l s m =
         need-ok 6 c (le-leb (rows c h + n) (half 4) (omega (arith, e, f)))
-        (next-ok _ d z (wrote-at state parts wr i 2 (rows c i) 4 (countedUp 4 (rows c h) n) c room1 k l (omega arith) (rw e at m)))
+        (next-ok _ d z (wrote-at state parts wr i 2 (rows c i) 4 (countedUp 4 (rows c h) n) c room1 k l s (rw e at m)))
 
   -- ---- the run of nulls
 
@@ -167,12 +168,12 @@ module _ (state parts : List ℕ) (wr : Bool) (i : ℕ) (c room : List ℕ) wher
     end-no e f g h k = need-no _ (rw (g, f, e) at (no h k))
 
     pub end-yes : {j o p v w : ℕ} {t : Bool} {c2 room2 : List ℕ} → j ≡ suc i → w ≡ bytesOf state j → p ≡ rows c i → t ≡ ltb (p + n) (half w) → not t ≡ false
-        → v ≡ rows c j → o ≡ scaled v w → 1 ≤ w → room2 ≡ applyIf state parts wr (put j 1 o (encode w (p + n)) ∷ []) room → c2 ≡ beginGap i (addRows (suc i) 1 c) → Did state parts wr (nullEnd state i n c) room 0 c2 room2
+        → v ≡ rows c j → o ≡ scaled v w → length room < top → room2 ≡ applyIf state parts wr (put j 1 o (encode w (p + n)) ∷ []) room → c2 ≡ beginGap i (addRows (suc i) 1 c) → Did state parts wr (nullEnd state i n c) room 0 c2 room2
     unfolding nullEnd
     end-yes {room2 = room2} e f g h k l m s a b =
         let y = f ∙ ap (λ (z : ℕ). bytesOf state z) e in
         need-ok 7 c (rw (g, y) at (yes h k))
-        (next-ok _ (wrote-at state parts wr (suc i) 1 (rows c (suc i)) (bytesOf state (suc i)) (encode (bytesOf state (suc i)) (rows c i + n)) c room (l ∙ ap (λ (z : ℕ). rows c z) e) (rw y at m) (rw y at s) (rw (g, y, e) at a)) refl
+        (next-ok _ (wrote-at state parts wr (suc i) 1 (rows c (suc i)) (bytesOf state (suc i)) (encode (bytesOf state (suc i)) (rows c i + n)) c room (l ∙ ap (λ (z : ℕ). rows c z) e) (rw y at m) s (rw (g, y, e) at a)) refl
         (rw b (done-did wr _ room2)))
 
     pub longer-none : {j r : ℕ} → j ≡ suc i → r ≡ rows c j → r ≡ 0 → Did state parts wr (longerEnd state i n c) room 12 c room
@@ -188,12 +189,12 @@ module _ (state parts : List ℕ) (wr : Bool) (i : ℕ) (c room : List ℕ) wher
       longer-no f g h k = need-ok 12 c is-some (need-no _ (rw (g, f, e) at (no h k)))
 
       pub longer-yes : {o p w : ℕ} {t : Bool} {room2 : List ℕ} → w ≡ bytesOf state j → p ≡ rows c i → t ≡ ltb (p + n) (half w) → not t ≡ false
-          → o ≡ scaled (r - 1) w → 1 ≤ w → room2 ≡ applyIf state parts wr (put j 1 o (encode w (p + n)) ∷ []) room → Did state parts wr (longerEnd state i n c) room 0 c room2
+          → o ≡ scaled (r - 1) w → length room < top → room2 ≡ applyIf state parts wr (put j 1 o (encode w (p + n)) ∷ []) room → Did state parts wr (longerEnd state i n c) room 0 c room2
       unfolding longerEnd
       longer-yes {room2 = room2} f g h k m s a =
           let y = f ∙ ap (λ (z : ℕ). bytesOf state z) e in
           let v : r - 1 ≡ rows c (suc i) - 1 = ap (_- 1) (l ∙ ap (λ (z : ℕ). rows c z) e) in
-          let d = wrote-at state parts wr (suc i) 1 (rows c (suc i) - 1) (bytesOf state (suc i)) (encode (bytesOf state (suc i)) (rows c i + n)) c room v (rw y at m) (rw y at s) (rw (g, y, e) at a) in
+          let d = wrote-at state parts wr (suc i) 1 (rows c (suc i) - 1) (bytesOf state (suc i)) (encode (bytesOf state (suc i)) (rows c i + n)) c room v (rw y at m) s (rw (g, y, e) at a) in
           need-ok 12 c is-some (need-ok 7 c (rw (g, y) at (yes h k)) (amend-did (suc i) 1 ((rows c (suc i) - 1) * bytesOf state (suc i)) (encode (bytesOf state (suc i)) (rows c i + n)) c d))
 
 -- ---- the home of nulls
@@ -218,6 +219,13 @@ module _ (x : Join) (i v w slot n : ℕ) where
   pairs-yes e f h g l = rw (rw e at (yes f h)) (rw g at l)
 
 -- ---- run ends
+
+-- so many entries are in no body
+pub ends-past : (x : Join) (at w o n : ℕ) → 1 ≤ w → length (x .body) < o + n → false ≡ rowsIn x at w o n
+unfolding rowsIn
+ends-past x at w o n h l =
+    let m : 1 * (o + n) ≤ w * (o + n) = mul-le-mul-right (o + n) h in
+    sym (lt-leb (at + w * (o + n)) (length (x .body)) (omega arith))
 
 pub ends-given : (x : Join) (i w : ℕ) {at n o : ℕ} {r : Bool} → at ≡ place x i 3 → o ≡ offsetOf x i → n ≡ lengthOf x i → r ≡ rowsIn x at w o n
     → r ≡ rowsIn x (place x i 3) w (offsetOf x i) (lengthOf x i)
@@ -258,7 +266,7 @@ pub runs-given : (x : Join) (child : Walk) (w i slot n : ℕ) {k at m o : ℕ} {
 runs-given x child w i slot n e f g h l = rw (f, g, h, e) at l
 
 pub run-did : (x : Join) (wr : Bool) (w i slot n last run count : ℕ) (c room : List ℕ) {j k at o p v : ℕ} {c2 room2 : List ℕ} → j ≡ suc i → k ≡ x .first + suc i → at ≡ getD (x .places) (9 * k + 3) 0
-    → o ≡ getD (x .lengths) (2 * k + 1) 0 → v ≡ rows c j → p ≡ scaled v w → 1 ≤ w
+    → o ≡ getD (x .lengths) (2 * k + 1) 0 → v ≡ rows c j → p ≡ scaled v w → length room < top
     → room2 ≡ applyIf (x .state) (x .parts) wr (put j 1 p (clipped w (x .body) (at + w * o + w * run) count slot (slot + n) last) ∷ []) room → c2 ≡ endGap i (addRows (suc i) count c)
     → Did (x .state) (x .parts) wr (runNumbers x w i slot n last run count c) room 0 c2 room2
 unfolding runNumbers

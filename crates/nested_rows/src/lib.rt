@@ -41,7 +41,7 @@ pub fn sum_fits(w: u64, v: u64, n: u64) -> bool
 
 // Whether the rows of both buffers of node i stand in the body: entries of v bytes and of w bytes.
 pub fn pairs_in(
-    places: &[u32],
+    places: &[u64],
     body: &[u8],
     first: usize,
     i: usize,
@@ -62,7 +62,7 @@ pub fn pairs_in(
 // The offset and the size of row r of a list-view.
 pub fn list_numbers(
     state: &[u64],
-    parts: &[u32],
+    parts: &[u64],
     counts: &[u64; 96],
     room: &mut [u8],
     write: bool,
@@ -88,7 +88,7 @@ pub fn list_numbers(
 // The id and the position of row r of a dense union, whose child is node k.
 pub fn dense_numbers(
     state: &[u64],
-    parts: &[u32],
+    parts: &[u64],
     counts: &[u64; 96],
     room: &mut [u8],
     write: bool,
@@ -130,8 +130,8 @@ pub fn has_ends(state: &[u64], i: usize) -> bool
 }
 
 // Whether the run ends of w bytes of node i stand in the body.
-fn ends_in(lengths: &[u64], places: &[u32], body: &[u8], first: usize, i: usize, w: u64) -> bool
-    requires { ⌜ (first < 2 ^ 32) × (i < 32) × (w ≤ 16) ⌝ }
+fn ends_in(lengths: &[u64], places: &[u64], body: &[u8], first: usize, i: usize, w: u64) -> bool
+    requires { ⌜ (first < 2 ^ 32) × (i < 32) × (1 ≤ w) × (w ≤ 16) ⌝ }
     ensures { λ r. ⌜ ((state parts : List ℕ) (source : ℕ) → r ≡ rowsIn (join state parts (now (lengths .entry)) (now (places .entry)) (now (body .entry)) first source) (place (join state parts (now (lengths .entry)) (now (places .entry)) (now (body .entry)) first source) i 3) w (offsetOf (join state parts (now (lengths .entry)) (now (places .entry)) (now (body .entry)) first source) i) (lengthOf (join state parts (now (lengths .entry)) (now (places .entry)) (now (body .entry)) first source) i)) ⌝ }
 {
     let offset = lent_tables::offset_of(lengths, first + i);
@@ -149,7 +149,7 @@ fn ends_in(lengths: &[u64], places: &[u32], body: &[u8], first: usize, i: usize,
 pub fn runs_ready(
     state: &[u64],
     lengths: &[u64],
-    places: &[u32],
+    places: &[u64],
     body: &[u8],
     counts: &[u64; 96],
     first: usize,
@@ -175,7 +175,7 @@ pub fn runs_ready(
 // The runs of the n rows from `start` on of the run-end node i, whose ends have w bytes.
 pub fn runs_at(
     lengths: &[u64],
-    places: &[u32],
+    places: &[u64],
     body: &[u8],
     first: usize,
     i: usize,
@@ -188,25 +188,19 @@ pub fn runs_at(
     requires { ⌜ place (join [] [] (now lengths) (now places) (now body) first 0) (suc i) 3 + w * (offsetOf (join [] [] (now lengths) (now places) (now body) first 0) (suc i) + lengthOf (join [] [] (now lengths) (now places) (now body) first 0) (suc i)) ≤ length (now body) ⌝ }
     ensures { λ r. ⌜ ((state parts : List ℕ) (source : ℕ) (child : Walk) → r ≡ runsAt (join state parts (now (lengths .entry)) (now (places .entry)) (now (body .entry)) first source) child w i (start .0) n) ⌝ }
 {
-    let at = lent_tables::place(places, first + i + 1, 3) as u64;
+    let at = lent_tables::place(places, first + i + 1, 3);
     let from = at + w * lent_tables::offset_of(lengths, first + i + 1);
     let m = lent_tables::length_of(lengths, first + i + 1);
-    lookups::runs_of(
-        body,
-        from as usize,
-        m as usize,
-        w,
-        start,
-        LogicalRow(start.0 + n),
-    )
+    let stop = start.0 + n;
+    lookups::runs_of(body, from as usize, m as usize, w, start, LogicalRow(stop))
 }
 
 // The ends of `count` runs from `run` on, clipped to the n rows from `start` on and put behind the row `last`.
 pub fn run_numbers(
     state: &[u64],
-    parts: &[u32],
+    parts: &[u64],
     lengths: &[u64],
-    places: &[u32],
+    places: &[u64],
     body: &[u8],
     counts: &mut [u64; 96],
     room: &mut [u8],
@@ -225,7 +219,7 @@ pub fn run_numbers(
     requires { ⌜ place (join [] [] (now lengths) (now places) (now body) first 0) (suc i) 3 + w * (offsetOf (join [] [] (now lengths) (now places) (now body) first 0) (suc i) + (run .0 + count)) ≤ length (now body) ⌝ }
     ensures { λ g. ⌜ ((source : ℕ) → Did (now (state .entry)) (now (parts .entry)) write (runNumbers (join (now (state .entry)) (now (parts .entry)) (now (lengths .entry)) (now (places .entry)) (now (body .entry)) first source) w i (start .0) n last (run .0) count (now (counts .entry))) (now (room .entry)) g (now (counts .exit)) (now (room .exit))) ⌝ }
 {
-    let at = lent_tables::place(places, first + i + 1, 3) as u64;
+    let at = lent_tables::place(places, first + i + 1, 3);
     let ends = at + w * lent_tables::offset_of(lengths, first + i + 1);
     let from = ends + w * (run.0 as u64);
     let stop = start.0 + n;
@@ -273,7 +267,7 @@ pub fn no_home(state: &[u64], i: usize) -> u8
 // n ids of node h.
 pub fn null_ids(
     state: &[u64],
-    parts: &[u32],
+    parts: &[u64],
     counts: &[u64; 96],
     room: &mut [u8],
     write: bool,
@@ -302,7 +296,7 @@ pub fn null_ids(
 // n ids and positions of node h.
 pub fn null_positions(
     state: &[u64],
-    parts: &[u32],
+    parts: &[u64],
     counts: &[u64; 96],
     room: &mut [u8],
     write: bool,
@@ -329,7 +323,7 @@ pub fn null_positions(
 // The end of a run of n nulls.
 pub fn null_end(
     state: &[u64],
-    parts: &[u32],
+    parts: &[u64],
     counts: &mut [u64; 96],
     room: &mut [u8],
     write: bool,
@@ -354,7 +348,7 @@ pub fn null_end(
 // The end of the last run, n nulls later: 12 where there is no run.
 pub fn longer_end(
     state: &[u64],
-    parts: &[u32],
+    parts: &[u64],
     counts: &[u64; 96],
     room: &mut [u8],
     write: bool,

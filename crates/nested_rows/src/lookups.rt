@@ -36,7 +36,7 @@ pub fn width_at(state: &[u64], i: usize) -> u64
 }
 
 // Entry k of those of w bytes at `at`.
-pub fn entry_at(body: &[u8], at: u32, w: u64, k: u64) -> u64
+pub fn entry_at(body: &[u8], at: u64, w: u64, k: u64) -> u64
     requires { ⌜ ((w ≡ 4 → ⊥) → w ≡ 8) ⌝ }
     requires { ⌜ at + w * (k + 1) ≤ length (now body) ⌝ }
     ensures { λ r. ⌜ r ≡ entry w (now (body .entry)) at k ⌝ }

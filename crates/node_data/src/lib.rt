@@ -32,8 +32,8 @@ fn is_masked(code: u8) -> bool
 // The validity of n rows, where the format has one.
 pub fn copy_validity(
     state: &[u64],
-    parts: &[u32],
-    places: &[u32],
+    parts: &[u64],
+    places: &[u64],
     body: &[u8],
     counts: &mut [u64; 96],
     room: &mut [u8],
@@ -67,8 +67,8 @@ pub fn copy_validity(
 // The data of n rows of a leaf: numbers, keys, byte strings or views.
 pub fn copy_leaf(
     state: &[u64],
-    parts: &[u32],
-    places: &[u32],
+    parts: &[u64],
+    places: &[u64],
     body: &[u8],
     counts: &mut [u64; 96],
     room: &mut [u8],
@@ -156,7 +156,7 @@ pub fn copy_leaf(
 // The validity of n nulls; a union's or run-end node's are only counted.
 pub fn null_validity(
     state: &[u64],
-    parts: &[u32],
+    parts: &[u64],
     counts: &mut [u64; 96],
     room: &mut [u8],
     write: bool,
@@ -175,7 +175,7 @@ pub fn null_validity(
 // n nulls of a list-view with offsets of w bytes.
 fn null_list_view(
     state: &[u64],
-    parts: &[u32],
+    parts: &[u64],
     counts: &mut [u64; 96],
     room: &mut [u8],
     write: bool,
@@ -196,7 +196,7 @@ fn null_list_view(
 // The data of n nulls of a leaf, a list-view or a list, whose child gets none.
 pub fn null_leaf(
     state: &[u64],
-    parts: &[u32],
+    parts: &[u64],
     counts: &mut [u64; 96],
     room: &mut [u8],
     write: bool,

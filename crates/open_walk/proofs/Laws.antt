@@ -16,15 +16,15 @@ use Rattle.formats.specs.Code.{isString, isList, isInteger, isRunEnd, widthOf}
 use Rattle.formats.specs.Types.{numberOf}
 use Rattle.array_data.proofs.lent_tables.Laws.{no, yes, and-right}
 use Rattle.plan.specs.dictionaries.Sources.{keyFits}
-use Rattle.walk.specs.State.{codeOf, dictionaryOf, bytesOf, baseOf, setBytes, word}
+use Rattle.walk.specs.State.{codeOf, dictionaryOf, bytesOf, baseOf, setBytes, lengthOf, top, word}
 use Rattle.walk.specs.Log.{Out, Did, put, applyIf, done, each}
 use Rattle.walk.specs.Copy.{copyWalk}
 use Rattle.walk.proofs.Laws.{done-did, wrote-did, need-no, need-ok, next-no, next-ok}
 use Rattle.leaf_walk.specs.Join.{join}
 use Rattle.leaf_walk.proofs.Widths.{string-width, lists-width}
 use Rattle.parts.specs.Parts.{nodesOf, copied, hasOffsets}
-use Rattle.refinement.specs.orders.Order.{Lent, sourceCount}
-use Rattle.refinement.specs.opening.Open.{beginGaps, firstOffset, joinSource, joinEntries, keyHolds, keysOf, keysHold, openDictionary, openWalk}
+use Rattle.refinement.specs.orders.Order.{Lent, joinOf, sourceCount}
+use Rattle.refinement.specs.opening.Open.{beginGaps, firstOffset, joinSource, joinEntries, entriesHold, keyHolds, keysOf, keysHold, openDictionary, openWalk}
 
 -- ---- gaps
 
@@ -105,6 +105,23 @@ module _ (x : Lent) (wr : Bool) (i : ℕ) (c room : List ℕ) {v : ℕ} (e : v �
   values-some {j} {r} {c2} {room2} h q d =
       rw (ne-eqb (word (x .plan) i 7) 0 (λ z. h (e ∙ z))) (subst (λ k. Did (x .plan) (x .parts) wr (joinEntries x k c) room r c2 room2) q d)
 
+-- ---- entries counted in 64 bits
+
+-- the entries of source s, node i, end there
+abbrev pub entryHolds : Lent → ℕ → ℕ → Bool
+entryHolds x i s = leb (baseOf (x .plan) s i + lengthOf (joinOf x s) (suc i)) top
+
+pub entry-at : (x : Lent) (i s : ℕ) {start node n : ℕ} {r : Bool} → start ≡ baseOf (x .plan) s i → node ≡ getD (x .sources) (2 * s) 0 + (i + 1)
+    → n ≡ getD (x .lengths) (2 * node) 0 → r ≡ leb (start + n) top → r ≡ entryHolds x i s
+entry-at x i s a b c d =
+    let e : getD (x .sources) (2 * s) 0 + (i + 1) ≡ getD (x .sources) (2 * s) 0 + suc i = ap (getD (x .sources) (2 * s) 0 +_) (add-one i) in
+    d ∙ ap₂ (λ k l. leb (k + l) top) a (c ∙ ap (λ j. getD (x .lengths) (2 * j) 0) (b ∙ e))
+
+-- r is what the sources below m come to
+pub entries-are : (x : Lent) (i : ℕ) {r : Bool} {m : ℕ} → m ≡ sourceCount (x .plan) → r ≡ every (entryHolds x i) m → r ≡ entriesHold x i
+unfolding entriesHold
+entries-are x i p d = d ∙ ap (every (entryHolds x i)) p
+
 -- ---- keys
 
 -- the number of a code
@@ -158,22 +175,27 @@ module _ (x : Lent) (wr : Bool) (i : ℕ) (c room : List ℕ) {d : ℕ} (e : d �
   unfolding openDictionary
   dictionary-none h = rw (eq-eqb (dictionaryOf (x .plan) i) 0 (sym e ∙ h)) (done-did wr c room)
 
-  module _ (h : d ≡ 0 → ⊥) {g : ℕ} {c1 room1 : List ℕ} (v : Did (x .plan) (x .parts) wr (values x i c) room g c1 room1) where
+  module _ (h : d ≡ 0 → ⊥) {u : Bool} (f : u ≡ entriesHold x i) where
     has : eqb (dictionaryOf (x .plan) i) 0 ≡ false
     has = ne-eqb (dictionaryOf (x .plan) i) 0 (λ z. h (e ∙ z))
 
-    pub dictionary-stop : (g ≡ 0 → ⊥) → Did (x .plan) (x .parts) wr (openDictionary x i c) room g c1 room1
+    pub dictionary-many : not u ≡ true → Did (x .plan) (x .parts) wr (openDictionary x i c) room 6 c room
     unfolding openDictionary
-    dictionary-stop k = rw has (next-no _ v k)
+    dictionary-many m = rw has (need-no _ (no f m))
 
-    module _ (k : g ≡ 0) {t : Bool} (q : t ≡ keysHold x i) where
-      pub dictionary-over : not t ≡ true → Did (x .plan) (x .parts) wr (openDictionary x i c) room 8 c1 room1
+    module _ (m : not u ≡ false) {g : ℕ} {c1 room1 : List ℕ} (v : Did (x .plan) (x .parts) wr (values x i c) room g c1 room1) where
+      pub dictionary-stop : (g ≡ 0 → ⊥) → Did (x .plan) (x .parts) wr (openDictionary x i c) room g c1 room1
       unfolding openDictionary
-      dictionary-over l = rw has (next-ok _ v k (need-no _ (no q l)))
+      dictionary-stop k = rw has (need-ok 6 c (yes f m) (next-no _ v k))
 
-      pub dictionary-done : not t ≡ false → Did (x .plan) (x .parts) wr (openDictionary x i c) room 0 c1 room1
-      unfolding openDictionary
-      dictionary-done l = rw has (next-ok _ v k (need-ok 8 c1 (yes q l) (done-did wr c1 room1)))
+      module _ (k : g ≡ 0) {t : Bool} (q : t ≡ keysHold x i) where
+        pub dictionary-over : not t ≡ true → Did (x .plan) (x .parts) wr (openDictionary x i c) room 8 c1 room1
+        unfolding openDictionary
+        dictionary-over l = rw has (need-ok 6 c (yes f m) (next-ok _ v k (need-no _ (no q l))))
+
+        pub dictionary-done : not t ≡ false → Did (x .plan) (x .parts) wr (openDictionary x i c) room 0 c1 room1
+        unfolding openDictionary
+        dictionary-done l = rw has (need-ok 6 c (yes f m) (next-ok _ v k (need-ok 8 c1 (yes q l) (done-did wr c1 room1))))
 
 -- ---- all nodes
 

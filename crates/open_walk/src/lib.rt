@@ -11,7 +11,7 @@ ghost use Rattle.walk.specs.State.{word};
 ghost use Rattle.walk.specs.Log.{Did, done, each};
 ghost use Rattle.refinement.specs.orders.Order.{sourceCount};
 ghost use Rattle.parts.specs.Parts.{nodesOf};
-ghost use Rattle.refinement.specs.opening.Open.{beginGaps, firstOffset, joinSource, joinEntries, keysHold, openDictionary, openWalk};
+ghost use Rattle.refinement.specs.opening.Open.{beginGaps, firstOffset, joinSource, joinEntries, entriesHold, keysHold, openDictionary, openWalk};
 ghost use Rattle.open_walk.specs.Lent.{lent};
 use array_data::lent_tables;
 use plan::dictionaries;
@@ -49,7 +49,7 @@ fn begin_gaps(state: &[u64], counts: &mut [u64; 96])
 // ---- first offsets
 
 // The first zero offset of node i, if it is a byte string or list that has parts. No counter changes.
-fn first_offset(state: &[u64], parts: &[u32], room: &mut [u8], write: bool, i: usize)
+fn first_offset(state: &[u64], parts: &[u64], room: &mut [u8], write: bool, i: usize)
     requires { ⌜ i < 32 ⌝ }
     ensures { λ _. ⌜ ((sources lengths places body c : List ℕ) → Did (now (state .entry)) (now (parts .entry)) write (firstOffset (lent (now (state .entry)) (now (parts .entry)) sources lengths places body) i c) (now (room .entry)) 0 c (now (room .exit))) ⌝ }
 {
@@ -65,7 +65,7 @@ fn first_offset(state: &[u64], parts: &[u32], room: &mut [u8], write: bool, i: u
 }
 
 // The first zero offset of every byte string and list that has parts.
-fn first_offsets(state: &[u64], parts: &[u32], room: &mut [u8], write: bool)
+fn first_offsets(state: &[u64], parts: &[u64], room: &mut [u8], write: bool)
     ensures { λ _. ⌜ ((sources lengths places body c : List ℕ) → Did (now (state .entry)) (now (parts .entry)) write (each (firstOffset (lent (now (state .entry)) (now (parts .entry)) sources lengths places body)) (nodesOf (now (state .entry))) 0 c) (now (room .entry)) 0 c (now (room .exit))) ⌝ }
 {
     let n = parts::node_count(state);
@@ -90,10 +90,10 @@ fn source_count(state: &[u64]) -> usize
 // All entries of source s at node i, behind those that are there.
 fn join_source(
     state: &[u64],
-    parts: &[u32],
+    parts: &[u64],
     sources: &[u32],
     lengths: &[u64],
-    places: &[u32],
+    places: &[u64],
     body: &[u8],
     counts: &mut [u64; 96],
     room: &mut [u8],
@@ -127,10 +127,10 @@ fn join_source(
 // All entries at node i, in source order.
 fn join_entries(
     state: &[u64],
-    parts: &[u32],
+    parts: &[u64],
     sources: &[u32],
     lengths: &[u64],
-    places: &[u32],
+    places: &[u64],
     body: &[u8],
     counts: &mut [u64; 96],
     room: &mut [u8],
@@ -167,10 +167,10 @@ fn join_entries(
 // The entries of the dictionary whose keys are node i, if it is joined.
 fn join_values(
     state: &[u64],
-    parts: &[u32],
+    parts: &[u64],
     sources: &[u32],
     lengths: &[u64],
-    places: &[u32],
+    places: &[u64],
     body: &[u8],
     counts: &mut [u64; 96],
     room: &mut [u8],
@@ -197,6 +197,23 @@ fn join_values(
     )
 }
 
+// Whether the entries of the dictionary whose keys are node i are counted in 64 bits: ground 6 where not.
+fn entries_hold(state: &[u64], sources: &[u32], lengths: &[u64], i: usize) -> bool
+    requires { ⌜ (i < 32) × (sourceCount (now state) ≤ 16) ⌝ }
+    ensures { λ r. ⌜ ((parts places body : List ℕ) → r ≡ entriesHold (lent (now (state .entry)) parts (now (sources .entry)) (now (lengths .entry)) places body) i) ⌝ }
+{
+    let m = source_count(state);
+    let mut s = 0;
+    while s < m {
+        let n = lent_tables::length_of(lengths, dictionaries::node_of(sources, s, i + 1));
+        if !lent_tables::fits(plan_words::base_of(state, s, i), n, u64::MAX) {
+            return false;
+        }
+        s += 1;
+    }
+    true
+}
+
 // Whether the keys of node i have room for every entry: ground 8 where not.
 fn keys_hold(state: &[u64], sources: &[u32], lengths: &[u64], i: usize) -> bool
     requires { ⌜ (i < 32) × (sourceCount (now state) ≤ 16) ⌝ }
@@ -220,13 +237,13 @@ fn keys_hold(state: &[u64], sources: &[u32], lengths: &[u64], i: usize) -> bool
     true
 }
 
-// The dictionary whose keys are node i, if it has one: joined where it is not shared, then ground 8.
+// The dictionary whose keys are node i, if it has one: ground 6, joined where it is not shared, then ground 8.
 fn open_dictionary(
     state: &[u64],
-    parts: &[u32],
+    parts: &[u64],
     sources: &[u32],
     lengths: &[u64],
-    places: &[u32],
+    places: &[u64],
     body: &[u8],
     counts: &mut [u64; 96],
     room: &mut [u8],
@@ -238,6 +255,9 @@ fn open_dictionary(
 {
     if plan_words::dictionary_of(state, i) == 0 {
         return 0;
+    }
+    if !entries_hold(state, sources, lengths, i) {
+        return 6;
     }
     let g = join_values(
         state,
@@ -263,10 +283,10 @@ fn open_dictionary(
 // Every dictionary, in tree order.
 fn open_dictionaries(
     state: &[u64],
-    parts: &[u32],
+    parts: &[u64],
     sources: &[u32],
     lengths: &[u64],
-    places: &[u32],
+    places: &[u64],
     body: &[u8],
     counts: &mut [u64; 96],
     room: &mut [u8],
@@ -301,10 +321,10 @@ fn open_dictionaries(
 // THE WALK OF AN OPENING: gaps, first offsets, then the dictionaries. 0, or the ground of refusal.
 pub fn open_walk(
     state: &[u64],
-    parts: &[u32],
+    parts: &[u64],
     sources: &[u32],
     lengths: &[u64],
-    places: &[u32],
+    places: &[u64],
     body: &[u8],
     counts: &mut [u64; 96],
     room: &mut [u8],

@@ -212,24 +212,24 @@ pub fn entry_size(code: u8) -> u8
 }
 
 // Whether the offsets of r rows, one more than rows, fit into a size; no sum and no product is made.
-fn offsets_fit(r: u64, w: u8, size: u32) -> bool
+fn offsets_fit(r: u64, w: u8, size: u64) -> bool
     ensures { λ s. ⌜ s ≡ leb ((r + 1) * w) size ⌝ }
 {
     if w == 0 {
         return true;
     }
-    r < (size as u64) / (w as u64)
+    r < size / (w as u64)
 }
 
 // Whether the bits of r rows fit into a size.
-fn bits_fit(r: u64, size: u32) -> bool
+fn bits_fit(r: u64, size: u64) -> bool
     ensures { λ s. ⌜ s ≡ leb ((r + 7) / 8) size ⌝ }
 {
-    r <= 8 * (size as u64)
+    lent_tables::bits_fit(r, 0, size)
 }
 
 // Whether the first buffer of r rows fits into a size.
-fn first_fits(code: u8, r: u64, n: u64, size: u32) -> bool
+fn first_fits(code: u8, r: u64, n: u64, size: u64) -> bool
     ensures { λ s. ⌜ s ≡ leb (neededBy code r n 1) size ⌝ }
 {
     if formats::is_string(code) | formats::is_list(code) {
@@ -239,11 +239,11 @@ fn first_fits(code: u8, r: u64, n: u64, size: u32) -> bool
 }
 
 // Whether the second buffer of r rows with n bytes of data fits into a size.
-fn second_fits(code: u8, r: u64, n: u64, size: u32) -> bool
+fn second_fits(code: u8, r: u64, n: u64, size: u64) -> bool
     ensures { λ s. ⌜ s ≡ leb (neededBy code r n 2) size ⌝ }
 {
     if formats::is_string(code) {
-        return n <= size as u64;
+        return n <= size;
     }
     if formats::is_list_view(code) {
         return lent_tables::rows_fit(r, formats::width_of(code), size);
@@ -252,7 +252,7 @@ fn second_fits(code: u8, r: u64, n: u64, size: u32) -> bool
 }
 
 // Whether buffer b of r rows with n bytes of data fits into a size.
-fn fits(code: u8, r: u64, n: u64, b: usize, size: u32) -> bool
+fn fits(code: u8, r: u64, n: u64, b: usize, size: u64) -> bool
     requires { ⌜ b < 3 ⌝ }
     ensures { λ s. ⌜ s ≡ leb (neededBy code r n b) size ⌝ }
 {
@@ -268,14 +268,14 @@ fn fits(code: u8, r: u64, n: u64, b: usize, size: u32) -> bool
 // ---- ground 13
 
 // Whether buffer b of node i has no part, or one that holds its bytes.
-fn part_holds(state: &[u64], counts: &[u64; 96], parts: &[u32], i: usize, b: usize) -> bool
+fn part_holds(state: &[u64], counts: &[u64; 96], parts: &[u64], i: usize, b: usize) -> bool
     requires { ⌜ (i < 32) × (b < 3) ⌝ }
     ensures { λ r. ⌜ r ≡ partHolds (now (state .entry)) (now (counts .entry)) (now (parts .entry)) i b ⌝ }
 {
     if !has_part(state, i, b) {
         return true;
     }
-    let size = lent_tables::at_u32(parts, 2 * number_of(state, i, b) + 1);
+    let size = lent_tables::at_u64(parts, 2 * number_of(state, i, b) + 1);
     let code = plan_words::code_of(state, i);
     let r = plan_words::rows_of(counts, i);
     let n = plan_words::bytes_of(counts, i);
@@ -283,7 +283,7 @@ fn part_holds(state: &[u64], counts: &[u64; 96], parts: &[u32], i: usize, b: usi
 }
 
 // Whether every part of node i holds its bytes.
-fn node_holds(state: &[u64], counts: &[u64; 96], parts: &[u32], i: usize) -> bool
+fn node_holds(state: &[u64], counts: &[u64; 96], parts: &[u64], i: usize) -> bool
     requires { ⌜ i < 32 ⌝ }
     ensures { λ r. ⌜ r ≡ every (λ b. partHolds (now (state .entry)) (now (counts .entry)) (now (parts .entry)) i b) 3 ⌝ }
 {
@@ -294,7 +294,7 @@ fn node_holds(state: &[u64], counts: &[u64; 96], parts: &[u32], i: usize) -> boo
 }
 
 // Whether every part holds its bytes: ground 13 where not.
-pub fn parts_hold(state: &[u64], counts: &[u64; 96], parts: &[u32]) -> bool
+pub fn parts_hold(state: &[u64], counts: &[u64; 96], parts: &[u64]) -> bool
     ensures { λ r. ⌜ r ≡ partsHold (now (state .entry)) (now (counts .entry)) (now (parts .entry)) ⌝ }
 {
     let n = node_count(state);
@@ -311,32 +311,34 @@ pub fn parts_hold(state: &[u64], counts: &[u64; 96], parts: &[u32]) -> bool
 // ---- ground 14
 
 // Whether part p lies in the room.
-fn in_room(parts: &[u32], m: usize, p: usize) -> bool
+fn in_room(parts: &[u64], m: usize, p: usize) -> bool
     requires { ⌜ p < 4294967298 ⌝ }
     ensures { λ r. ⌜ r ≡ inRoom (now (parts .entry)) m p ⌝ }
 {
-    let start = lent_tables::at_u32(parts, 2 * p) as usize;
-    let size = lent_tables::at_u32(parts, 2 * p + 1) as usize;
-    start + size <= m
+    let start = lent_tables::at_u64(parts, 2 * p);
+    let size = lent_tables::at_u64(parts, 2 * p + 1);
+    lent_tables::fits(start, size, m as u64)
 }
 
 // Whether part p or part q is empty, or one lies behind the other.
-fn are_apart(parts: &[u32], p: usize, q: usize) -> bool
+fn are_apart(parts: &[u64], p: usize, q: usize) -> bool
     requires { ⌜ (p < 96) × (q < 96) ⌝ }
     ensures { λ r. ⌜ r ≡ apart (now (parts .entry)) p q ⌝ }
 {
-    let size = lent_tables::at_u32(parts, 2 * p + 1) as u64;
-    let other_size = lent_tables::at_u32(parts, 2 * q + 1) as u64;
+    let size = lent_tables::at_u64(parts, 2 * p + 1);
+    let other_size = lent_tables::at_u64(parts, 2 * q + 1);
     if (size == 0) | (other_size == 0) {
         return true;
     }
-    let start = lent_tables::at_u32(parts, 2 * p) as u64;
-    let other = lent_tables::at_u32(parts, 2 * q) as u64;
-    (start + size <= other) | (other + other_size <= start)
+    let start = lent_tables::at_u64(parts, 2 * p);
+    let other = lent_tables::at_u64(parts, 2 * q);
+    let before = lent_tables::fits(start, size, other);
+    let behind = lent_tables::fits(other, other_size, start);
+    before | behind
 }
 
 // Whether part p is apart from the parts before it.
-fn is_apart(parts: &[u32], p: usize) -> bool
+fn is_apart(parts: &[u64], p: usize) -> bool
     requires { ⌜ p < 96 ⌝ }
     ensures { λ r. ⌜ r ≡ every (λ q. apart (now (parts .entry)) p q) p ⌝ }
 {
@@ -351,7 +353,7 @@ fn is_apart(parts: &[u32], p: usize) -> bool
 }
 
 // Whether every part lies in the room.
-fn all_in_room(parts: &[u32], m: usize, count: usize) -> bool
+fn all_in_room(parts: &[u64], m: usize, count: usize) -> bool
     requires { ⌜ count ≤ 96 ⌝ }
     ensures { λ r. ⌜ r ≡ every (inRoom (now (parts .entry)) m) count ⌝ }
 {
@@ -366,7 +368,7 @@ fn all_in_room(parts: &[u32], m: usize, count: usize) -> bool
 }
 
 // Whether no two nonempty parts overlap.
-fn all_apart(parts: &[u32], count: usize) -> bool
+fn all_apart(parts: &[u64], count: usize) -> bool
     requires { ⌜ count ≤ 96 ⌝ }
     ensures { λ r. ⌜ r ≡ every (λ p. every (λ q. apart (now (parts .entry)) p q) p) count ⌝ }
 {
@@ -381,7 +383,7 @@ fn all_apart(parts: &[u32], count: usize) -> bool
 }
 
 // Whether these are the parts of an opening, in the room and apart: ground 14 where not.
-pub fn parts_placed(parts: &[u32], count: usize, m: usize) -> bool
+pub fn parts_placed(parts: &[u64], count: usize, m: usize) -> bool
     requires { ⌜ count ≤ 96 ⌝ }
     ensures { λ r. ⌜ r ≡ partsPlaced (now (parts .entry)) count m ⌝ }
 {
@@ -395,7 +397,7 @@ pub fn parts_placed(parts: &[u32], count: usize, m: usize) -> bool
 }
 
 // Whether buffer b of node i has no part, or one that is in the table and lies in the room.
-fn part_within(state: &[u64], parts: &[u32], m: usize, i: usize, b: usize) -> bool
+fn part_within(state: &[u64], parts: &[u64], m: usize, i: usize, b: usize) -> bool
     requires { ⌜ (i < 32) × (b < 3) ⌝ }
     ensures { λ r. ⌜ r ≡ partWithin (now (state .entry)) (now (parts .entry)) m i b ⌝ }
 {
@@ -410,7 +412,7 @@ fn part_within(state: &[u64], parts: &[u32], m: usize, i: usize, b: usize) -> bo
 }
 
 // Whether every part of node i is in the table and lies in the room.
-fn node_within(state: &[u64], parts: &[u32], m: usize, i: usize) -> bool
+fn node_within(state: &[u64], parts: &[u64], m: usize, i: usize) -> bool
     requires { ⌜ i < 32 ⌝ }
     ensures { λ r. ⌜ r ≡ every (λ b. partWithin (now (state .entry)) (now (parts .entry)) m i b) 3 ⌝ }
 {
@@ -421,7 +423,7 @@ fn node_within(state: &[u64], parts: &[u32], m: usize, i: usize) -> bool
 }
 
 // Whether every part is in the table and lies in the room: ground 14 where not, at an order.
-pub fn parts_within(state: &[u64], parts: &[u32], m: usize) -> bool
+pub fn parts_within(state: &[u64], parts: &[u64], m: usize) -> bool
     ensures { λ r. ⌜ r ≡ partsWithin (now (state .entry)) (now (parts .entry)) m ⌝ }
 {
     let n = node_count(state);

@@ -2,7 +2,7 @@
 use mathlib.Core.Path.{_≡_, refl, ap, ap₂, _∙_}
 use mathlib.Core.Bool.{Bool, true, false, not}
 use mathlib.Core.List.{List}
-use Prim.Native.Nat.{ℕ, suc, _+_, _*_, _-_, _≤_, _<_}
+use Prim.Native.Nat.{ℕ, suc, _+_, _*_, _-_, _≤_, _<_, min}
 use native.Mathlib.Numerals.{add-one}
 use lib.ListN.{getD, set}
 use lib.Dec.{eqb}
@@ -125,7 +125,7 @@ module _ (places sources : List ℕ) (i : ℕ) where
   unfolding buffersUpTo
   up-to-none = refl
 
-  pub up-to-more : (s : ℕ) {k sum p : ℕ} → sum ≡ buffersUpTo places sources i s → k ≡ firstOf sources s + i → p ≡ getD places (9 * k + 8) 0
+  pub up-to-more : (s : ℕ) {k sum p : ℕ} → sum ≡ buffersUpTo places sources i s → k ≡ firstOf sources s + i → p ≡ min (getD places (9 * k + 8) 0) 33
       → sum + p ≡ buffersUpTo places sources i (s + 1)
   unfolding buffersUpTo
   up-to-more s e f g = rw (add-one s, e, g, f)

@@ -4,6 +4,7 @@ use mathlib.Core.Path.{_≡_, refl, sym, ap, _∙_}
 use mathlib.Core.Bool.{Bool, true, false, not, _&&_}
 use mathlib.Core.List.{List, [], _∷_}
 use Prim.Native.Nat.{ℕ, zero, suc, _+_, _*_, _-_, _^_, _≤_, _<_}
+use native.Mathlib.Nat.{min-eq-left}
 use native.Mathlib.Omega.{arith}
 use lib.ListN.{length, take, drop, getD, length-append}
 use lib.Dec.{leb, ltb, eqb}
@@ -231,15 +232,20 @@ module _ (tree : Tree) (y : Tables) (sources : List ℕ) (i : ℕ) where
   abbrev viewsAt : ℕ → Views
   viewsAt j = bodyOf tree (tablesFrom y (firstOf sources j)) tView i
 
-  buffers-typed : (s : ℕ) → buffersUpTo (y .places) sources i s ≡ length (buffersBefore viewsAt s)
+  -- "at most 32 data buffers per view node and source"
+  abbrev pub Named : ℕ → Type 0
+  Named s = (j : ℕ) → j < s → getD (y .places) (9 * (firstOf sources j + i) + 8) 0 ≤ 33
+
+  buffers-typed : (s : ℕ) → Named s → buffersUpTo (y .places) sources i s ≡ length (buffersBefore viewsAt s)
   unfolding buffersUpTo
-  buffers-typed zero = refl
-  buffers-typed (suc s) =
+  buffers-typed zero h = refl
+  buffers-typed (suc s) h =
       let z = tablesFrom y (firstOf sources s) in
       let here : length (viewsAt s .buffers) ≡ getD (y .places) (9 * (firstOf sources s + i) + 8) 0 =
       length-seg (dataBuffer z) (place z i 7) (place z i 8) ∙ place-from y (firstOf sources s) i 8 in
       let more = length-append (buffersBefore viewsAt s) (viewsAt s .buffers) in
-      let before = buffers-typed s in
+      let before = buffers-typed s (λ j l. h j (omega arith)) in
+      let all = min-eq-left (h s (omega arith)) in
       omega arith
 
 -- ---- THE PLANNED STATE OF A TREE THAT PASSES
@@ -385,9 +391,9 @@ module _ (formats schema : List ℕ) (y : Tables) (sources : List ℕ) (keep gap
 
   module _ (tree : Tree) where
     -- "A view's buffer index rises by the number of data buffers in earlier sources"
-    pub view-base : (s i : ℕ) → s < m → i < 32 → isView (codeOf state i) ≡ true
+    pub view-base : (s i : ℕ) → s < m → i < 32 → isView (codeOf state i) ≡ true → Named tree y sources i s
         → baseOf state s i ≡ length (buffersBefore (λ j. bodyOf tree (tablesFrom y (firstOf sources j)) tView i) s)
-    view-base s i l h v = base-is formats schema x sources keep gaps few small s i l h ∙ view-word x sources m state s i v ∙ buffers-typed tree y sources i s
+    view-base s i l h v g = base-is formats schema x sources keep gaps few small s i l h ∙ view-word x sources m state s i v ∙ buffers-typed tree y sources i s g
 
     module _ (k : Number) (p : Plain) (i : ℕ) (l : i < n) (d : dictionaryOf state i ≡ 0 → ⊥) (q : isString (codeOf state (suc i)) ≡ ofStrings p) where
       abbrev dictionaries : ℕ → Dictionary (PlainBody p)

@@ -2,9 +2,9 @@
 use mathlib.Core.Path.{_≡_, sym, ap, _∙_}
 use mathlib.Core.Bool.{Bool, true, false, not}
 use mathlib.Core.List.{List, List·Memᴰ}
-use Prim.Native.Nat.{ℕ, suc, _≤_, _<_}
+use Prim.Native.Nat.{ℕ, suc, _+_, _*_, _≤_, _<_}
 use native.Mathlib.Omega.{arith}
-use lib.ListN.{length}
+use lib.ListN.{length, getD}
 use lib.Dec.{eqb}
 use Rattle.columnar.specs.Types.{Plain, fixed, string, Ty, tPlain, tView, tListView, tList, tSparse, tDense, tRunEnd, tDictionary}
 use Rattle.columnar.specs.Reading.{Body}
@@ -14,7 +14,7 @@ use Rattle.schema.specs.Tree as schemaTree
 use Rattle.schema.specs.Tree.{below, childAt, ceilings, typed}
 use Rattle.schema.proofs.Known.{typed-whole, typed-shape}
 use Rattle.array_data.specs.Tables.{Tables}
-use Rattle.array_data.specs.Typed.{Tree, fieldOf, nodeOf, MeansPlain, Means, tablesFrom, bodyOf}
+use Rattle.array_data.specs.Typed.{Tree, viewNode, fieldOf, nodeOf, MeansPlain, Means, tablesFrom, bodyOf}
 use Rattle.array_data.specs.type_tree.Lent.{kindAt, treeOf, typeOf}
 use Rattle.array_data.proofs.type_tree.Ids.{field-in}
 use Rattle.array_data.proofs.type_tree.Shaped.{plainKind, Shaped, shaped}
@@ -33,7 +33,8 @@ flag-back true v e = rw e
 flag-back false v e = rw e
 
 module _ (formats schema : List ℕ) (y : Tables) (sources : List ℕ) (keep gaps : Bool) (few : sourceCount sources ≤ 16) (small : nodesOf sources 0 ≤ 32)
-    (t : typed formats schema (firstOf sources 0) (nodesOf sources 0) ≡ true) where
+    (t : typed formats schema (firstOf sources 0) (nodesOf sources 0) ≡ true)
+    (named : (s i : ℕ) → s < sourceCount sources → i < nodesOf sources 0 → kindAt formats schema (firstOf sources 0) i ≡ viewNode → getD (y .places) (9 * (firstOf sources s + i) + 8) 0 ≤ 33) where
   abbrev m : ℕ
   m = sourceCount sources
 
@@ -85,6 +86,7 @@ module _ (formats schema : List ℕ) (y : Tables) (sources : List ℕ) (keep gap
       λ s l.
       view-base formats schema y sources keep gaps few small t tree s i l (omega (arith, h .0))
       (ap isView (code-is formats schema y sources keep gaps few small t i (h .0)) ∙ view-code formats schema first i (h .1))
+      (λ j q. named j i (omega arith) (h .0) (h .1))
   opened-below (tListView w u) i b h f =
       let l = h .0 .0 in
       let v = list-code formats schema first i w (h .0 .1) in

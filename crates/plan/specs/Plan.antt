@@ -2,7 +2,7 @@
 -- Assumes nothing.
 use mathlib.Core.Bool.{Bool, false, not, cond}
 use mathlib.Core.List.{List}
-use Prim.Native.Nat.{ℕ, zero, suc, _+_, _*_, _/_, _%_, _≤_, _<_}
+use Prim.Native.Nat.{ℕ, zero, suc, _+_, _*_, _/_, _%_, _≤_, _<_, min}
 use lib.ListN.{length, getD, set, replicate}
 use lib.Dec.{ltb, eqb}
 use Rattle.formats.specs.Code.{isString, isView, isRunEnd}
@@ -59,10 +59,10 @@ unfoldable pub isEnds : List ℕ → ℕ → Bool
 isEnds state zero = false
 isEnds state (suc i) = isRunEnd (codeOf state i)
 
--- "the number of data buffers in earlier sources" than source s, at node i
+-- "the number of data buffers in earlier sources" than source s, at node i; a source has at most 32, so that 33 stands for any number above
 unfoldable pub buffersUpTo : List ℕ → List ℕ → ℕ → ℕ → ℕ
 buffersUpTo places sources i zero = 0
-buffersUpTo places sources i (suc s) = buffersUpTo places sources i s + getD places (9 * (firstOf sources s + i) + 8) 0
+buffersUpTo places sources i (suc s) = buffersUpTo places sources i s + min (getD places (9 * (firstOf sources s + i) + 8) 0) 33
 
 module _ (x : Tables) (sources : List ℕ) (m : ℕ) where
   -- "A node keeps nulls if the caller says so or any source has a null at that node"; run ends keep none

@@ -25,20 +25,10 @@ pub fn node_of(sources: &[u32], s: usize, i: usize) -> usize
     (lent_tables::at_u32(sources, 2 * s) as usize) + i
 }
 
-// Whether a + b is at most `top`.
-fn sum_fits(a: u64, b: u64, top: u64) -> bool
-    ensures { λ r. ⌜ r ≡ leb (a + b) top ⌝ }
-{
-    if top < a {
-        return false;
-    }
-    b <= top - a
-}
-
 // ---- nulls
 
 // How many rows of node k are null.
-pub fn null_count(lengths: &[u64], places: &[u32], body: &[u8], k: usize) -> u64
+pub fn null_count(lengths: &[u64], places: &[u64], body: &[u8], k: usize) -> u64
     requires { ⌜ Countable (tables (now lengths) (now places) (now body)) k ⌝ }
     ensures { λ r. ⌜ r ≡ nullCount (arrayOf (tables (now (lengths .entry)) (now (places .entry)) (now (body .entry))) k) ⌝ }
 {
@@ -58,7 +48,7 @@ pub fn null_count(lengths: &[u64], places: &[u32], body: &[u8], k: usize) -> u64
 pub fn any_null(
     sources: &[u32],
     lengths: &[u64],
-    places: &[u32],
+    places: &[u64],
     body: &[u8],
     m: usize,
     i: usize,
@@ -82,7 +72,7 @@ pub fn keeps(
     above: bool,
     sources: &[u32],
     lengths: &[u64],
-    places: &[u32],
+    places: &[u64],
     body: &[u8],
     m: usize,
     i: usize,
@@ -99,7 +89,7 @@ pub fn keeps(
 // ---- dictionaries
 
 // Whether no row of node k is null, whatever the tables hold: a bit that the body does not have is a zero.
-fn has_no_null(lengths: &[u64], places: &[u32], body: &[u8], k: usize) -> bool
+fn has_no_null(lengths: &[u64], places: &[u64], body: &[u8], k: usize) -> bool
     requires { ⌜ k < 2 ^ 33 ⌝ }
     ensures { λ r. ⌜ r ≡ eqb (nullCount (arrayOf (tables (now (lengths .entry)) (now (places .entry)) (now (body .entry))) k)) 0 ⌝ }
 {
@@ -113,27 +103,30 @@ fn has_no_null(lengths: &[u64], places: &[u32], body: &[u8], k: usize) -> bool
     let off = lent_tables::offset_of(lengths, k);
     let from = lent_tables::place(places, k, 1);
     let bytes = lent_tables::part_len(body, from, lent_tables::place(places, k, 2));
-    if !sum_fits(off, n, 8 * (bytes as u64)) {
+    if !lent_tables::bits_fit(off, n, bytes) {
         return false;
     }
     null_count(lengths, places, body, k) == 0
 }
 
-// One more than where the validity of node k begins; 0 where it has none, or none with a zero bit among the rows.
-fn valid_start(lengths: &[u64], places: &[u32], body: &[u8], k: usize) -> u64
-    requires { ⌜ k < 2 ^ 33 ⌝ }
-    ensures { λ r. ⌜ r ≡ validStart (tables (now (lengths .entry)) (now (places .entry)) (now (body .entry))) k ⌝ }
+// Whether the validity of the nodes a and b begins at the same place; one without a zero bit among the rows begins nowhere.
+fn same_valid(lengths: &[u64], places: &[u64], body: &[u8], a: usize, b: usize) -> bool
+    requires { ⌜ (a < 2 ^ 33) × (b < 2 ^ 33) ⌝ }
+    ensures { λ r. ⌜ r ≡ eqb (validStart (tables (now (lengths .entry)) (now (places .entry)) (now (body .entry))) a) (validStart (tables (now (lengths .entry)) (now (places .entry)) (now (body .entry))) b) ⌝ }
 {
-    if has_no_null(lengths, places, body, k) {
-        return 0;
+    if has_no_null(lengths, places, body, a) {
+        return has_no_null(lengths, places, body, b);
     }
-    (lent_tables::place(places, k, 1) as u64) + 1
+    if has_no_null(lengths, places, body, b) {
+        return false;
+    }
+    lent_tables::place(places, a, 1) == lent_tables::place(places, b, 1)
 }
 
 // Whether the values of two dictionaries, the nodes a and b, begin at the same places: byte strings where `string`, else numbers.
 fn same_starts(
     lengths: &[u64],
-    places: &[u32],
+    places: &[u64],
     body: &[u8],
     a: usize,
     b: usize,
@@ -142,7 +135,7 @@ fn same_starts(
     requires { ⌜ (a < 2 ^ 33) × (b < 2 ^ 33) ⌝ }
     ensures { λ r. ⌜ r ≡ sameList (startsOf (tables (now (lengths .entry)) (now (places .entry)) (now (body .entry))) string a) (startsOf (tables (now (lengths .entry)) (now (places .entry)) (now (body .entry))) string b) ⌝ }
 {
-    let valid = valid_start(lengths, places, body, a) == valid_start(lengths, places, body, b);
+    let valid = same_valid(lengths, places, body, a, b);
     let first = lent_tables::place(places, a, 3) == lent_tables::place(places, b, 3);
     let second = lent_tables::place(places, a, 5) == lent_tables::place(places, b, 5);
     valid & first & (second | !string)
@@ -151,7 +144,7 @@ fn same_starts(
 // Whether the dictionaries whose values are the nodes a and b are the same one.
 pub fn ptr_eq(
     lengths: &[u64],
-    places: &[u32],
+    places: &[u64],
     body: &[u8],
     a: usize,
     b: usize,
@@ -169,7 +162,7 @@ pub fn ptr_eq(
 pub fn all_share(
     sources: &[u32],
     lengths: &[u64],
-    places: &[u32],
+    places: &[u64],
     body: &[u8],
     m: usize,
     i: usize,
@@ -222,7 +215,7 @@ pub fn entries_before(sources: &[u32], lengths: &[u64], i: usize, j: usize) -> u
 pub fn start_of_keys(
     sources: &[u32],
     lengths: &[u64],
-    places: &[u32],
+    places: &[u64],
     body: &[u8],
     m: usize,
     i: usize,
@@ -272,5 +265,5 @@ pub fn key_fits(start: u64, n: u64, code: u8) -> bool
     if n == 0 {
         return true;
     }
-    sum_fits(start, n - 1, top)
+    lent_tables::fits(start, n - 1, top)
 }

@@ -2,7 +2,8 @@
 pub mod dictionaries;
 
 ghost use mathlib.Core.Path.{_≡_};
-ghost use Prim.Native.Nat.{ℕ, suc, _+_, _*_, _≤_, _<_};
+ghost use Prim.Native.Nat.{ℕ, suc, _+_, _*_, _^_, _≤_, _<_, min};
+ghost use lib.ListN.{getD};
 ghost use Rattle.formats.specs.Code.{isString};
 ghost use Rattle.walk.specs.State.{codeOf};
 ghost use Rattle.array_data.specs.lent_tables.Lent.{tables};
@@ -75,7 +76,7 @@ fn is_ends(state: &[u64; 872], i: usize) -> bool
 fn keep_word(
     sources: &[u32],
     lengths: &[u64],
-    places: &[u32],
+    places: &[u64],
     body: &[u8],
     m: usize,
     keep: bool,
@@ -99,7 +100,7 @@ fn keep_word(
 fn write_keeps(
     sources: &[u32],
     lengths: &[u64],
-    places: &[u32],
+    places: &[u64],
     body: &[u8],
     m: usize,
     keep: bool,
@@ -131,7 +132,7 @@ fn has_strings(state: &[u64], i: usize) -> bool
 fn joined_word(
     sources: &[u32],
     lengths: &[u64],
-    places: &[u32],
+    places: &[u64],
     body: &[u8],
     m: usize,
     state: &[u64; 872],
@@ -154,7 +155,7 @@ fn joined_word(
 fn write_joined(
     sources: &[u32],
     lengths: &[u64],
-    places: &[u32],
+    places: &[u64],
     body: &[u8],
     m: usize,
     n: usize,
@@ -172,17 +173,30 @@ fn write_joined(
 
 // ---- what is added to keys and buffer numbers
 
+// How many data buffers node k has; 33 stands for any number above.
+pub fn buffers_of(places: &[u64], k: usize) -> u64
+    requires { ⌜ k < 2 ^ 33 ⌝ }
+    ensures { λ r. ⌜ r ≡ min (getD (now (places .entry)) (9 * k + 8) 0) 33 ⌝ }
+    ensures { λ r. ⌜ r ≤ 33 ⌝ }
+{
+    let count = lent_tables::place(places, k, 8);
+    if count < 33 {
+        return count;
+    }
+    33
+}
+
 // How many data buffers the sources before source s have at node i.
-pub fn buffers_up_to(sources: &[u32], places: &[u32], i: usize, s: usize) -> u64
+pub fn buffers_up_to(sources: &[u32], places: &[u64], i: usize, s: usize) -> u64
     requires { ⌜ (i < 32) × (s ≤ 16) ⌝ }
     ensures { λ r. ⌜ r ≡ buffersUpTo (now (places .entry)) (now (sources .entry)) i s ⌝ }
-    ensures { λ r. ⌜ r ≤ 4294967295 * s ⌝ }
+    ensures { λ r. ⌜ r ≤ 33 * s ⌝ }
 {
     let mut sum: u64 = 0;
     let mut t = 0;
     while t < s {
         let k = dictionaries::node_of(sources, t, i);
-        sum += lent_tables::place(places, k, 8) as u64;
+        sum += buffers_of(places, k);
         t += 1;
     }
     sum
@@ -192,7 +206,7 @@ pub fn buffers_up_to(sources: &[u32], places: &[u32], i: usize, s: usize) -> u64
 fn base_word(
     sources: &[u32],
     lengths: &[u64],
-    places: &[u32],
+    places: &[u64],
     body: &[u8],
     m: usize,
     state: &[u64; 872],
@@ -216,7 +230,7 @@ fn base_word(
 fn write_bases(
     sources: &[u32],
     lengths: &[u64],
-    places: &[u32],
+    places: &[u64],
     body: &[u8],
     m: usize,
     state: &mut [u64; 872],
@@ -270,7 +284,7 @@ fn lay_out(
     formats: &[u8],
     schema: &[u32],
     lengths: &[u64],
-    places: &[u32],
+    places: &[u64],
     body: &[u8],
     keep: bool,
     state: &mut [u64; 872],
@@ -305,7 +319,7 @@ pub fn plan(
     formats: &[u8],
     schema: &[u32],
     lengths: &[u64],
-    places: &[u32],
+    places: &[u64],
     body: &[u8],
     keep: bool,
     gaps: bool,

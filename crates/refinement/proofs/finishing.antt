@@ -10,7 +10,6 @@ pub mod Finished
 pub mod Again
 pub mod Orders
 pub mod Nodes
-pub mod Few
 pub mod Accepted
 pub mod Inside
 pub mod Join

@@ -19,7 +19,7 @@ use walk::plan_words;
 // n bytes of body from `from` on.
 pub fn put_copy(
     state: &[u64],
-    parts: &[u32],
+    parts: &[u64],
     room: &mut [u8],
     write: bool,
     i: usize,
@@ -41,7 +41,7 @@ pub fn put_copy(
 // n entries of w bytes, all zeros.
 pub fn put_zeros(
     state: &[u64],
-    parts: &[u32],
+    parts: &[u64],
     room: &mut [u8],
     write: bool,
     i: usize,
@@ -63,7 +63,7 @@ pub fn put_zeros(
 // The byte v, n times.
 pub fn put_same(
     state: &[u64],
-    parts: &[u32],
+    parts: &[u64],
     room: &mut [u8],
     write: bool,
     i: usize,
@@ -98,7 +98,7 @@ fn write_number(room: &mut [u8], at: usize, w: u64, v: u64)
 // The w lowest bytes of v.
 pub fn put_number(
     state: &[u64],
-    parts: &[u32],
+    parts: &[u64],
     room: &mut [u8],
     write: bool,
     i: usize,
@@ -132,7 +132,7 @@ fn write_offsets(room: &mut [u8], at: usize, w: u64, body: &[u8], from: usize, n
 // The n offsets of w bytes after the first of those at `from`, moved to follow `last`.
 pub fn put_offsets(
     state: &[u64],
-    parts: &[u32],
+    parts: &[u64],
     room: &mut [u8],
     write: bool,
     i: usize,
@@ -178,7 +178,7 @@ fn write_repeated(room: &mut [u8], at: usize, w: u64, n: usize, v: u64)
 // The offset v of w bytes, n times.
 pub fn put_repeated(
     state: &[u64],
-    parts: &[u32],
+    parts: &[u64],
     room: &mut [u8],
     write: bool,
     i: usize,
@@ -210,7 +210,7 @@ pub fn put_repeated(
 // first, first + 1, and so on, n of them: positions of 4 bytes.
 pub fn put_counted(
     state: &[u64],
-    parts: &[u32],
+    parts: &[u64],
     room: &mut [u8],
     write: bool,
     i: usize,
@@ -292,7 +292,7 @@ fn write_keys(
 // The first n keys of node i of those at `from`, w bytes each, each plus base.
 pub fn put_keys(
     state: &[u64],
-    parts: &[u32],
+    parts: &[u64],
     room: &mut [u8],
     write: bool,
     i: usize,
@@ -328,7 +328,7 @@ pub fn put_keys(
 // The first n views of those at `from`, the buffer number of each raised by base.
 pub fn put_views(
     state: &[u64],
-    parts: &[u32],
+    parts: &[u64],
     room: &mut [u8],
     write: bool,
     i: usize,
@@ -390,7 +390,7 @@ fn write_run_ends(
 // The n run ends of w bytes of those at `from`, clipped to the rows start .. end - 1, after the run end `last`.
 pub fn put_run_ends(
     state: &[u64],
-    parts: &[u32],
+    parts: &[u64],
     room: &mut [u8],
     write: bool,
     i: usize,
@@ -436,7 +436,7 @@ pub fn put_run_ends(
 // n bits of body, from the bit a of the byte `from` on. How many of them are 0.
 pub fn put_mask(
     state: &[u64],
-    parts: &[u32],
+    parts: &[u64],
     room: &mut [u8],
     write: bool,
     i: usize,
@@ -467,7 +467,7 @@ pub fn put_mask(
 // n ones.
 pub fn put_ones(
     state: &[u64],
-    parts: &[u32],
+    parts: &[u64],
     room: &mut [u8],
     write: bool,
     i: usize,
@@ -486,7 +486,7 @@ pub fn put_ones(
 // n zeros.
 pub fn put_null_bits(
     state: &[u64],
-    parts: &[u32],
+    parts: &[u64],
     room: &mut [u8],
     write: bool,
     i: usize,

@@ -101,7 +101,7 @@ fn step_into(tree: &[u64], i: usize, id: u64, row: u64) -> Step
 }
 
 // A sparse union's child has the row at the same slot.
-fn step_sparse(tree: &[u64], places: &[u32], body: &[u8], first: u32, i: usize, slot: u64) -> Step
+fn step_sparse(tree: &[u64], places: &[u64], body: &[u8], first: u32, i: usize, slot: u64) -> Step
     requires { ⌜ i < 2 ^ 32 ⌝ }
     ensures { λ r. ⌜ r ≡ underId (now (tree .entry)) i (entryIn 1 (firstBuffer (column [] (now (places .entry)) [] (now (body .entry)) first) i) slot) (Value slot) ⌝ }
 {
@@ -114,7 +114,7 @@ fn step_sparse(tree: &[u64], places: &[u32], body: &[u8], first: u32, i: usize, 
 }
 
 // A dense union's child has the row at the position.
-fn step_dense(tree: &[u64], places: &[u32], body: &[u8], first: u32, i: usize, slot: u64) -> Step
+fn step_dense(tree: &[u64], places: &[u64], body: &[u8], first: u32, i: usize, slot: u64) -> Step
     requires { ⌜ i < 2 ^ 32 ⌝ }
     ensures { λ r. ⌜ r ≡ underId (now (tree .entry)) i (entryIn 1 (firstBuffer (column [] (now (places .entry)) [] (now (body .entry)) first) i) slot) (entryIn 4 (secondBuffer (column [] (now (places .entry)) [] (now (body .entry)) first) i) slot) ⌝ }
 {
@@ -136,8 +136,8 @@ fn step_dense(tree: &[u64], places: &[u32], body: &[u8], first: u32, i: usize, s
 // The run of a row of a column of `rows` rows at `offset`, whose run ends of w bytes are the len from entry `off` of the buffer on.
 fn find_run(
     body: &[u8],
-    start: u32,
-    size: u32,
+    start: u64,
+    size: u64,
     off: u64,
     len: u64,
     w: u8,
@@ -158,7 +158,7 @@ fn find_run(
         let none = [0u8; 0];
         return run::run_at(&none, offset, rows, w, row);
     }
-    let a = (start as u64 + off * (w as u64)) as usize;
+    let a = (start + off * (w as u64)) as usize;
     let e = a + n as usize;
     run::run_at(&body[a..e], offset, rows, w, row)
 }
@@ -167,7 +167,7 @@ fn find_run(
 fn run_of(
     tree: &[u64],
     lengths: &[u64],
-    places: &[u32],
+    places: &[u64],
     body: &[u8],
     first: u32,
     i: usize,
@@ -191,7 +191,7 @@ fn run_of(
 fn step_runs(
     tree: &[u64],
     lengths: &[u64],
-    places: &[u32],
+    places: &[u64],
     body: &[u8],
     first: u32,
     i: usize,
@@ -216,7 +216,7 @@ fn step_runs(
 pub fn run_at(
     tree: &[u64],
     lengths: &[u64],
-    places: &[u32],
+    places: &[u64],
     body: &[u8],
     first: u32,
     row: ColumnRow,
@@ -235,8 +235,8 @@ pub fn run_at(
 fn step_slot(
     tree: &[u64],
     lengths: &[u64],
-    places: &[u32],
-    buffers: &[u32],
+    places: &[u64],
+    buffers: &[u64],
     body: &[u8],
     first: u32,
     i: usize,
@@ -263,8 +263,8 @@ fn step_slot(
 fn next_step(
     tree: &[u64],
     lengths: &[u64],
-    places: &[u32],
-    buffers: &[u32],
+    places: &[u64],
+    buffers: &[u64],
     body: &[u8],
     first: u32,
     i: usize,
@@ -293,8 +293,8 @@ fn next_step(
 fn read_at(
     tree: &[u64],
     lengths: &[u64],
-    places: &[u32],
-    buffers: &[u32],
+    places: &[u64],
+    buffers: &[u64],
     body: &[u8],
     first: u32,
     i: usize,
@@ -376,8 +376,8 @@ fn copied(ids: [u8; 8]) -> [u8; 8]
 pub fn row_at(
     tree: &[u64],
     lengths: &[u64],
-    places: &[u32],
-    buffers: &[u32],
+    places: &[u64],
+    buffers: &[u64],
     body: &[u8],
     first: u32,
     row: u64,

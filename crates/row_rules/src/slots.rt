@@ -7,6 +7,7 @@ ghost use lib.ListN.{length, getD};
 ghost use Rattle.columnar.specs.Types.{half};
 ghost use Rattle.columnar.specs.Test.{member};
 ghost use Rattle.row_rules.specs.slots.Slots.{idsDeclared, fieldOf, boundOf, positionsWithin, keysBelow, validKeysBelow, liesIn, viewGood, viewsGood, validViewsGood};
+use array_data::lent_tables;
 use byte_view::ByteView;
 
 // The first field with that id, or the number of fields where none has it.
@@ -266,15 +267,15 @@ pub fn valid_keys_below_u64(
 }
 
 // Whether the view's bytes lie in the data buffer of so many bytes at `start`, which lies in body, and start with the view's prefix.
-fn lies_in(body: &[u8], start: u32, bytes: u32, v: ByteView) -> bool
+fn lies_in(body: &[u8], start: u64, bytes: u64, v: ByteView) -> bool
     requires { ⌜ 4 ≤ v .length ⌝ }
     ensures { λ r. ⌜ r ≡ liesIn (now (body .entry)) start bytes v ⌝ }
 {
-    let size = bytes as usize;
-    let from = start as usize;
-    if body.len() < from + size {
+    if !lent_tables::fits(start, bytes, body.len() as u64) {
         return false;
     }
+    let from = start as usize;
+    let size = bytes as usize;
     let offset = v.offset as usize;
     if size < offset + v.length as usize {
         return false;
@@ -283,7 +284,7 @@ fn lies_in(body: &[u8], start: u32, bytes: u32, v: ByteView) -> bool
 }
 
 // Whether the view is good over the `count` data buffers whose places stand in `buffers` from number `first` on: start and bytes of each.
-fn view_good(body: &[u8], buffers: &[u32], first: usize, count: usize, v: ByteView) -> bool
+fn view_good(body: &[u8], buffers: &[u64], first: usize, count: usize, v: ByteView) -> bool
     requires { ⌜ 2 * (first + count) ≤ length (now buffers) ⌝ }
     ensures { λ r. ⌜ r ≡ viewGood (now (body .entry)) (now (buffers .entry)) first count v ⌝ }
 {
@@ -307,7 +308,7 @@ pub fn views_good(
     body: &[u8],
     at: usize,
     n: usize,
-    buffers: &[u32],
+    buffers: &[u64],
     first: usize,
     count: usize,
 ) -> bool
@@ -330,7 +331,7 @@ pub fn valid_views_good(
     body: &[u8],
     at: usize,
     n: usize,
-    buffers: &[u32],
+    buffers: &[u64],
     first: usize,
     count: usize,
     from: usize,

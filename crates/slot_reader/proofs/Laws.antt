@@ -142,6 +142,10 @@ module _ (off o key : ℕ) (g : ℕ → Validity) (f : ℕ → RowRead) (e : Ent
   pub named : (u : Validity) → v ≡ u → entryBy u (f (o + key)) ≡ keyed off (λ k. entryBy (g k) (f k)) e
   named u t = ap (λ y. entryBy y (f (o + key))) (sym t ∙ b) ∙ keyed-in off (λ k. entryBy (g k) (f k)) e o key q p h
 
+-- the sum of a buffer's start and a place within its bytes; the start alone may be past the body
+pub stretch-sum : (body : List ℕ) (start size a n : ℕ) → n ≡ length (part body start size) → a ≤ n → start < 2 ^ 64 → length body < 2 ^ 64 → start + a < 2 ^ 64
+stretch-sum body start size a n e h l m = omega (arith, length-take size (drop start body), length-drop start body)
+
 -- ---- data buffers and views
 
 module _ (buffers : List ℕ) (a n b j m : ℕ) (e : m ≡ n) where

@@ -38,7 +38,7 @@ pub fn code_word(tree: &[u64], i: usize) -> u8
 
 // ---- one kind each, in the buffer of `size` bytes from `start` on
 
-fn read_number(body: &[u8], start: u32, size: u32, code: u8, slot: u64) -> RowRead
+fn read_number(body: &[u8], start: u64, size: u64, code: u8, slot: u64) -> RowRead
     requires { ⌜ (1 ≤ code) × (code ≤ 10) ⌝ }
     ensures { λ r. ⌜ r ≡ numberRead (codeNumber code) (part (now (body .entry)) start size) slot ⌝ }
 {
@@ -49,13 +49,13 @@ fn read_number(body: &[u8], start: u32, size: u32, code: u8, slot: u64) -> RowRe
 }
 
 // The bytes a .. b - 1 of the buffer.
-fn read_stretch(body: &[u8], start: u32, size: u32, a: u64, b: u64) -> RowRead
+fn read_stretch(body: &[u8], start: u64, size: u64, a: u64, b: u64) -> RowRead
     ensures { λ r. ⌜ r ≡ stretchIn start (part (now (body .entry)) start size) a b ⌝ }
 {
     if b < a {
         return RowRead::Refused(12);
     }
-    if (lent_tables::part_len(body, start, size) as u64) < b {
+    if lent_tables::part_len(body, start, size) < b {
         return RowRead::Refused(12);
     }
     RowRead::Bytes {
@@ -65,7 +65,7 @@ fn read_stretch(body: &[u8], start: u32, size: u32, a: u64, b: u64) -> RowRead
 }
 
 // A byte string of node i, whose offsets have w bytes.
-fn read_string(places: &[u32], body: &[u8], first: u32, i: usize, w: u8, slot: u64) -> RowRead
+fn read_string(places: &[u64], body: &[u8], first: u32, i: usize, w: u8, slot: u64) -> RowRead
     requires { ⌜ i < 2 ^ 32 ⌝ }
     ensures { λ r. ⌜ r ≡ stringRead w (firstBuffer (column [] (now (places .entry)) [] (now (body .entry)) first) i) (place (column [] (now (places .entry)) [] [] first) i 5) (secondBuffer (column [] (now (places .entry)) [] (now (body .entry)) first) i) slot ⌝ }
 {
@@ -83,20 +83,20 @@ fn read_string(places: &[u32], body: &[u8], first: u32, i: usize, w: u8, slot: u
 }
 
 // Number j of data buffer b of node i: 0 where it begins, 1 its bytes; 0 where the node has no such buffer.
-fn data_place(places: &[u32], buffers: &[u32], first: u32, i: usize, b: u32, j: usize) -> u32
+fn data_place(places: &[u64], buffers: &[u64], first: u32, i: usize, b: u32, j: usize) -> u64
     requires { ⌜ (i < 2 ^ 32) × (j < 2) ⌝ }
     ensures { λ r. ⌜ r ≡ dataPlace (now (buffers .entry)) (place (column [] (now (places .entry)) [] [] first) i 7) (place (column [] (now (places .entry)) [] [] first) i 8) b j ⌝ }
 {
-    if entries::place_at(places, first, i, 8) <= b {
+    if entries::place_at(places, first, i, 8) <= b as u64 {
         return 0;
     }
-    let a = entries::place_at(places, first, i, 7) as usize;
-    lent_tables::at_u32(buffers, 2 * (a + (b as usize)) + j)
+    let a = entries::place_at(places, first, i, 7);
+    lent_tables::pair_at(buffers, a, b as u64, j)
 }
 
 fn read_view(
-    places: &[u32],
-    buffers: &[u32],
+    places: &[u64],
+    buffers: &[u64],
     body: &[u8],
     first: u32,
     i: usize,
@@ -128,7 +128,7 @@ fn read_view(
 }
 
 // Where the rows of a list-view stand in the child, which is the next node; offsets and sizes have w bytes.
-fn read_list_view(places: &[u32], body: &[u8], first: u32, i: usize, w: u8, slot: u64) -> RowRead
+fn read_list_view(places: &[u64], body: &[u8], first: u32, i: usize, w: u8, slot: u64) -> RowRead
     requires { ⌜ i < 2 ^ 32 ⌝ }
     ensures { λ r. ⌜ r ≡ listViewRead w (firstBuffer (column [] (now (places .entry)) [] (now (body .entry)) first) i) (secondBuffer (column [] (now (places .entry)) [] (now (body .entry)) first) i) (suc i) slot ⌝ }
 {
@@ -169,7 +169,7 @@ fn rows_of(i: usize, n: u64, a: u64, b: u64) -> RowRead
 // Where the rows of a list stand in the child, which is the next node: from the slot's offset to the next; offsets have w bytes.
 fn read_list(
     lengths: &[u64],
-    places: &[u32],
+    places: &[u64],
     body: &[u8],
     first: u32,
     i: usize,
@@ -194,7 +194,7 @@ fn read_list(
 // ---- dictionaries
 
 // The stored bytes of an entry of w bytes.
-fn read_fixed(body: &[u8], start: u32, size: u32, w: u8, slot: u64) -> RowRead
+fn read_fixed(body: &[u8], start: u64, size: u64, w: u8, slot: u64) -> RowRead
     ensures { λ r. ⌜ r ≡ storedNumber start w (part (now (body .entry)) start size) slot ⌝ }
 {
     let Spot::At(at) = entries::find_spot(body, start, size, w, slot) else {
@@ -209,7 +209,7 @@ fn read_fixed(body: &[u8], start: u32, size: u32, w: u8, slot: u64) -> RowRead
 // The stored bytes of a slot of node i, which is a dictionary's values.
 fn read_stored(
     tree: &[u64],
-    places: &[u32],
+    places: &[u64],
     body: &[u8],
     first: u32,
     i: usize,
@@ -237,7 +237,7 @@ fn read_stored(
 fn read_dictionary(
     tree: &[u64],
     lengths: &[u64],
-    places: &[u32],
+    places: &[u64],
     body: &[u8],
     first: u32,
     i: usize,
@@ -270,7 +270,7 @@ fn read_dictionary(
 fn read_integer(
     tree: &[u64],
     lengths: &[u64],
-    places: &[u32],
+    places: &[u64],
     body: &[u8],
     first: u32,
     i: usize,
@@ -301,8 +301,8 @@ fn read_integer(
 pub fn read_slot(
     tree: &[u64],
     lengths: &[u64],
-    places: &[u32],
-    buffers: &[u32],
+    places: &[u64],
+    buffers: &[u64],
     body: &[u8],
     first: u32,
     i: usize,

@@ -14,7 +14,7 @@ use Rattle.walk.specs.State.{codeOf, dictionaryOf, endOf}
 use Rattle.refinement.specs.log_in_room.Reach.{hasItem}
 use Rattle.parts.specs.Parts.{nodesOf, copied}
 use Rattle.parts.proofs.Laws.{every-one, every-now}
-use Rattle.refinement.specs.orders.Sound.{nestedIn, endsSound, kindSound, nodeSound, planSound, walkable}
+use Rattle.refinement.specs.orders.Sound.{ceiling, nestedIn, endsSound, kindSound, nodeSound, planSound, walkable}
 
 -- a list-view or a list has its child behind it
 item-is : (z : ℕ) → isListView z || isList z ≡ hasItem z
@@ -156,10 +156,10 @@ module _ (plan : List ℕ) {n : ℕ} (q : n ≡ nodesOf plan) where
     plan-all i h g f = rw some-node (sym (every-now (nodeSound plan (nodesOf plan)) (nodesOf plan) i (omega arith) (omega arith) (subst (λ k. every (nodeSound plan k) i ≡ true) q f)))
 
 module _ (plan : List ℕ) (m : ℕ) where
-  pub walk-large : 4294967295 < m → false ≡ walkable plan m
+  pub walk-large : ceiling < m → false ≡ walkable plan m
   unfolding walkable
-  walk-large h = rw (lt-leb m 4294967295 h)
+  walk-large h = rw (lt-leb m ceiling h)
 
-  pub walk-by : {r : Bool} → m ≤ 4294967295 → r ≡ planSound plan → r ≡ walkable plan m
+  pub walk-by : {r : Bool} → m ≤ ceiling → r ≡ planSound plan → r ≡ walkable plan m
   unfolding walkable
-  walk-by h f = rw (le-leb m 4294967295 h) f
+  walk-by h f = rw (le-leb m ceiling h) f

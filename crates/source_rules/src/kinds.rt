@@ -33,18 +33,18 @@ const LIMITS: [u64; 11] = [
 ];
 
 // Whether the data buffers of node k stand in the table, and each in the body.
-fn buffers_in(places: &[u32], buffers: &[u32], body: &[u8], k: usize) -> bool
+fn buffers_in(places: &[u64], buffers: &[u64], body: &[u8], k: usize) -> bool
     requires { ⌜ k < 2 ^ 33 ⌝ }
     ensures { λ r. ⌜ r ≡ buffersIn (tablesOf [] (now (places .entry)) (now (buffers .entry)) (now (body .entry))) k ⌝ }
 {
-    let first = lent_tables::place(places, k, 7) as usize;
-    let count = lent_tables::place(places, k, 8) as usize;
-    if buffers.len() < 2 * (first + count) {
+    let first = lent_tables::place(places, k, 7);
+    let count = lent_tables::place(places, k, 8);
+    if !lent_tables::fits(first, count, (buffers.len() / 2) as u64) {
         return false;
     }
     let mut i = 0;
-    while i < count {
-        let at = 2 * (first + i);
+    while i < count as usize {
+        let at = 2 * ((first as usize) + i);
         if !lent_tables::in_body(body, buffers[at], buffers[at + 1]) {
             return false;
         }
@@ -54,7 +54,7 @@ fn buffers_in(places: &[u32], buffers: &[u32], body: &[u8], k: usize) -> bool
 }
 
 // Whether the views of node k are good, null rows left out.
-fn view_rows(lengths: &[u64], places: &[u32], buffers: &[u32], body: &[u8], k: usize) -> bool
+fn view_rows(lengths: &[u64], places: &[u64], buffers: &[u64], body: &[u8], k: usize) -> bool
     requires { ⌜ Ready (tablesOf (now lengths) (now places) (now buffers) (now body)) k × (buffersIn (tablesOf [] (now places) (now buffers) (now body)) k ≡ true) ⌝ }
     ensures { λ r. ⌜ r ≡ viewRows (tablesOf (now (lengths .entry)) (now (places .entry)) (now (buffers .entry)) (now (body .entry))) k ⌝ }
 {
@@ -75,7 +75,7 @@ fn view_rows(lengths: &[u64], places: &[u32], buffers: &[u32], body: &[u8], k: u
 }
 
 // The rule of a node of views.
-pub fn view_rule(lengths: &[u64], places: &[u32], buffers: &[u32], body: &[u8], k: usize) -> bool
+pub fn view_rule(lengths: &[u64], places: &[u64], buffers: &[u64], body: &[u8], k: usize) -> bool
     requires { ⌜ Counted (tablesOf (now lengths) (now places) (now buffers) (now body)) k ⌝ }
     ensures { λ r. ⌜ r ≡ viewRule (tablesOf (now (lengths .entry)) (now (places .entry)) (now (buffers .entry)) (now (body .entry))) k ⌝ }
 {
@@ -140,7 +140,7 @@ fn valid_keys_below(
 }
 
 // Whether the keys of node k, of w bytes, are below bound, null rows left out.
-fn key_rows(lengths: &[u64], places: &[u32], body: &[u8], k: usize, w: u8, bound: u64) -> bool
+fn key_rows(lengths: &[u64], places: &[u64], body: &[u8], k: usize, w: u8, bound: u64) -> bool
     requires { ⌜ Ready (tables (now lengths) (now places) (now body)) k ⌝ }
     ensures { λ r. ⌜ ((m : Number) → width m ≡ w → r ≡ keyRows (tables (now (lengths .entry)) (now (places .entry)) (now (body .entry))) k w bound) ⌝ }
 {
@@ -159,7 +159,7 @@ fn key_rows(lengths: &[u64], places: &[u32], body: &[u8], k: usize, w: u8, bound
 }
 
 // The rule of a dictionary node by the code of its keys' format; its values are the next node.
-pub fn dictionary_rule(lengths: &[u64], places: &[u32], body: &[u8], k: usize, code: u8) -> bool
+pub fn dictionary_rule(lengths: &[u64], places: &[u64], body: &[u8], k: usize, code: u8) -> bool
     requires { ⌜ Counted (tables (now lengths) (now places) (now body)) k × (k + 1 < 2 ^ 33) ⌝ }
     ensures { λ r. ⌜ ((n : Number) → numberOf code ≡ some n → r ≡ dictionaryRule (tables (now (lengths .entry)) (now (places .entry)) (now (body .entry))) k n) ⌝ }
 {
@@ -174,7 +174,7 @@ pub fn dictionary_rule(lengths: &[u64], places: &[u32], body: &[u8], k: usize, c
 }
 
 // "no validity buffer on a union"
-fn no_mask(lengths: &[u64], places: &[u32], body: &[u8], k: usize) -> bool
+fn no_mask(lengths: &[u64], places: &[u64], body: &[u8], k: usize) -> bool
     requires { ⌜ Counted (tables (now lengths) (now places) (now body)) k ⌝ }
     ensures { λ r. ⌜ r ≡ maskOf (tables (now (lengths .entry)) (now (places .entry)) (now (body .entry))) k false ⌝ }
 {
@@ -199,7 +199,7 @@ fn children_reach(ids: &[u8], lens: &[u64], count: u64) -> bool
 // Whether the type ids of node k are declared, and its children long enough.
 fn sparse_rows(
     lengths: &[u64],
-    places: &[u32],
+    places: &[u64],
     body: &[u8],
     k: usize,
     ids: &[u8],
@@ -209,7 +209,7 @@ fn sparse_rows(
     ensures { λ r. ⌜ r ≡ sparseRows (tables (now (lengths .entry)) (now (places .entry)) (now (body .entry))) k (now (ids .entry)) (now (lens .entry)) ⌝ }
 {
     let count = lent_tables::count_of(lengths, k);
-    if (lent_tables::place(places, k, 4) as u64) < count {
+    if lent_tables::place(places, k, 4) < count {
         return false;
     }
     let off = lent_tables::offset_of(lengths, k) as usize;
@@ -224,7 +224,7 @@ fn sparse_rows(
 // The rule of a sparse union; lens has the lengths of its children in field order.
 pub fn sparse_rule(
     lengths: &[u64],
-    places: &[u32],
+    places: &[u64],
     body: &[u8],
     k: usize,
     ids: &[u8],
@@ -245,7 +245,7 @@ pub fn sparse_rule(
 // Whether the type ids of node k are declared, and its positions within its children.
 fn dense_rows(
     lengths: &[u64],
-    places: &[u32],
+    places: &[u64],
     body: &[u8],
     k: usize,
     ids: &[u8],
@@ -255,7 +255,7 @@ fn dense_rows(
     ensures { λ r. ⌜ r ≡ denseRows (tables (now (lengths .entry)) (now (places .entry)) (now (body .entry))) k (now (ids .entry)) (now (lens .entry)) ⌝ }
 {
     let count = lent_tables::count_of(lengths, k);
-    if (lent_tables::place(places, k, 4) as u64) < count {
+    if lent_tables::place(places, k, 4) < count {
         return false;
     }
     if !lent_tables::rows_fit(count, 4, lent_tables::place(places, k, 6)) {
@@ -271,7 +271,7 @@ fn dense_rows(
 // The rule of a dense union; lens has the lengths of its children in field order.
 pub fn dense_rule(
     lengths: &[u64],
-    places: &[u32],
+    places: &[u64],
     body: &[u8],
     k: usize,
     ids: &[u8],

@@ -24,7 +24,7 @@ use array_data::lent_tables;
 use formats::union_ids;
 
 // The rule of a node of a fixed-width format by its code: of numbers where it has no dictionary, and else of keys.
-fn number_ok(lengths: &[u64], places: &[u32], body: &[u8], k: usize, code: u8, single: bool) -> bool
+fn number_ok(lengths: &[u64], places: &[u64], body: &[u8], k: usize, code: u8, single: bool) -> bool
     requires { ⌜ Counted (tables (now lengths) (now places) (now body)) k × (k + 1 < 2 ^ 33) ⌝ }
     ensures { λ r. ⌜ ((m : Number) → numberOf code ≡ some m → r ≡ numberRule (tables (now (lengths .entry)) (now (places .entry)) (now (body .entry))) k single m) ⌝ }
 {
@@ -35,7 +35,7 @@ fn number_ok(lengths: &[u64], places: &[u32], body: &[u8], k: usize, code: u8, s
 }
 
 // The rule of a node of byte strings with offsets of w bytes.
-fn string_ok(lengths: &[u64], places: &[u32], body: &[u8], k: usize, w: u8) -> bool
+fn string_ok(lengths: &[u64], places: &[u64], body: &[u8], k: usize, w: u8) -> bool
     requires { ⌜ Counted (tables (now lengths) (now places) (now body)) k × OffsetWidth w ⌝ }
     ensures { λ r. ⌜ r ≡ stringRule (tables (now (lengths .entry)) (now (places .entry)) (now (body .entry))) k w ⌝ }
 {
@@ -46,7 +46,7 @@ fn string_ok(lengths: &[u64], places: &[u32], body: &[u8], k: usize, w: u8) -> b
 }
 
 // The rule of a list-view node with offsets and sizes of w bytes.
-fn list_view_ok(lengths: &[u64], places: &[u32], body: &[u8], k: usize, w: u8) -> bool
+fn list_view_ok(lengths: &[u64], places: &[u64], body: &[u8], k: usize, w: u8) -> bool
     requires { ⌜ Counted (tables (now lengths) (now places) (now body)) k × (k + 1 < 2 ^ 33) × OffsetWidth w ⌝ }
     ensures { λ r. ⌜ r ≡ listViewRule (tables (now (lengths .entry)) (now (places .entry)) (now (body .entry))) k w ⌝ }
 {
@@ -57,7 +57,7 @@ fn list_view_ok(lengths: &[u64], places: &[u32], body: &[u8], k: usize, w: u8) -
 }
 
 // The rule of a list node with offsets of w bytes.
-fn list_ok(lengths: &[u64], places: &[u32], body: &[u8], k: usize, w: u8) -> bool
+fn list_ok(lengths: &[u64], places: &[u64], body: &[u8], k: usize, w: u8) -> bool
     requires { ⌜ Counted (tables (now lengths) (now places) (now body)) k × (k + 1 < 2 ^ 33) × OffsetWidth w ⌝ }
     ensures { λ r. ⌜ r ≡ listRule (tables (now (lengths .entry)) (now (places .entry)) (now (body .entry))) k w ⌝ }
 {
@@ -68,7 +68,7 @@ fn list_ok(lengths: &[u64], places: &[u32], body: &[u8], k: usize, w: u8) -> boo
 }
 
 // The rule of a run-end node with run ends of w bytes.
-fn run_end_ok(lengths: &[u64], places: &[u32], body: &[u8], k: usize, w: u8) -> bool
+fn run_end_ok(lengths: &[u64], places: &[u64], body: &[u8], k: usize, w: u8) -> bool
     requires { ⌜ Counted (tables (now lengths) (now places) (now body)) k × Counted (tables (now lengths) (now places) (now body)) (k + 1) × (k + 2 < 2 ^ 33) × RunWidth w ⌝ }
     ensures { λ r. ⌜ r ≡ runEndRule (tables (now (lengths .entry)) (now (places .entry)) (now (body .entry))) k w ⌝ }
 {
@@ -109,7 +109,7 @@ fn union_ok(
     formats: &[u8],
     schema: &[u32],
     lengths: &[u64],
-    places: &[u32],
+    places: &[u64],
     body: &[u8],
     first: usize,
     n: usize,
@@ -139,8 +139,8 @@ fn node_ok(
     formats: &[u8],
     schema: &[u32],
     lengths: &[u64],
-    places: &[u32],
-    buffers: &[u32],
+    places: &[u64],
+    buffers: &[u64],
     body: &[u8],
     first: usize,
     n: usize,
@@ -190,8 +190,8 @@ pub fn source_ok(
     formats: &[u8],
     schema: &[u32],
     lengths: &[u64],
-    places: &[u32],
-    buffers: &[u32],
+    places: &[u64],
+    buffers: &[u64],
     body: &[u8],
     first: usize,
     n: usize,

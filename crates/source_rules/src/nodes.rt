@@ -14,7 +14,7 @@ ghost use Rattle.source_rules.specs.nodes.Rows.{stringRows, viewsRows, s
 use array_data::lent_tables;
 
 // The rule of a node of numbers of w bytes.
-pub fn fixed_rule(lengths: &[u64], places: &[u32], body: &[u8], k: usize, w: u8) -> bool
+pub fn fixed_rule(lengths: &[u64], places: &[u64], body: &[u8], k: usize, w: u8) -> bool
     requires { ⌜ Counted (tables (now lengths) (now places) (now body)) k ⌝ }
     ensures { λ r. ⌜ ((n : Number) → width n ≡ w → r ≡ fixedRule (tables (now (lengths .entry)) (now (places .entry)) (now (body .entry))) k n) ⌝ }
 {
@@ -32,7 +32,7 @@ pub fn fixed_rule(lengths: &[u64], places: &[u32], body: &[u8], k: usize, w: u8)
 }
 
 // The rows of a byte string or list whose offsets of 4 bytes are the range of `size` bytes from `start` on, over `most` bytes of data or rows.
-fn strings_i32(body: &[u8], start: u32, size: u32, off: u64, len: u64, most: u64) -> bool
+fn strings_i32(body: &[u8], start: u64, size: u64, off: u64, len: u64, most: u64) -> bool
     requires { ⌜ (start + size ≤ length (now body)) × (off + len < 2 ^ 63) ⌝ }
     ensures { λ r. ⌜ r ≡ stringRows 4 (now (body .entry)) start size off len most ⌝ }
 {
@@ -51,7 +51,7 @@ fn strings_i32(body: &[u8], start: u32, size: u32, off: u64, len: u64, most: u64
 }
 
 // The rule of a node of byte strings with offsets of 4 bytes.
-pub fn string_rule_i32(lengths: &[u64], places: &[u32], body: &[u8], k: usize) -> bool
+pub fn string_rule_i32(lengths: &[u64], places: &[u64], body: &[u8], k: usize) -> bool
     requires { ⌜ Counted (tables (now lengths) (now places) (now body)) k ⌝ }
     ensures { λ r. ⌜ r ≡ stringRule (tables (now (lengths .entry)) (now (places .entry)) (now (body .entry))) k 4 ⌝ }
 {
@@ -66,11 +66,11 @@ pub fn string_rule_i32(lengths: &[u64], places: &[u32], body: &[u8], k: usize) -
     let chars = lent_tables::place(places, k, 6);
     let off = lent_tables::offset_of(lengths, k);
     let len = lent_tables::length_of(lengths, k);
-    strings_i32(body, start, size, off, len, chars as u64)
+    strings_i32(body, start, size, off, len, chars)
 }
 
 // The rows of a byte string or list whose offsets of 8 bytes are the range of `size` bytes from `start` on, over `most` bytes of data or rows.
-fn strings_i64(body: &[u8], start: u32, size: u32, off: u64, len: u64, most: u64) -> bool
+fn strings_i64(body: &[u8], start: u64, size: u64, off: u64, len: u64, most: u64) -> bool
     requires { ⌜ (start + size ≤ length (now body)) × (off + len < 2 ^ 63) ⌝ }
     ensures { λ r. ⌜ r ≡ stringRows 8 (now (body .entry)) start size off len most ⌝ }
 {
@@ -89,7 +89,7 @@ fn strings_i64(body: &[u8], start: u32, size: u32, off: u64, len: u64, most: u64
 }
 
 // The rule of a node of byte strings with offsets of 8 bytes.
-pub fn string_rule_i64(lengths: &[u64], places: &[u32], body: &[u8], k: usize) -> bool
+pub fn string_rule_i64(lengths: &[u64], places: &[u64], body: &[u8], k: usize) -> bool
     requires { ⌜ Counted (tables (now lengths) (now places) (now body)) k ⌝ }
     ensures { λ r. ⌜ r ≡ stringRule (tables (now (lengths .entry)) (now (places .entry)) (now (body .entry))) k 8 ⌝ }
 {
@@ -104,16 +104,16 @@ pub fn string_rule_i64(lengths: &[u64], places: &[u32], body: &[u8], k: usize) -
     let chars = lent_tables::place(places, k, 6);
     let off = lent_tables::offset_of(lengths, k);
     let len = lent_tables::length_of(lengths, k);
-    strings_i64(body, start, size, off, len, chars as u64)
+    strings_i64(body, start, size, off, len, chars)
 }
 
 // The rows of a list-view whose offsets and sizes of 4 bytes are the ranges from `start` and from `begin` on, over `child` rows.
 fn views_i32(
     body: &[u8],
-    start: u32,
-    size: u32,
-    begin: u32,
-    room: u32,
+    start: u64,
+    size: u64,
+    begin: u64,
+    room: u64,
     off: u64,
     len: u64,
     child: u64,
@@ -133,7 +133,7 @@ fn views_i32(
 }
 
 // The rule of a list-view node with offsets and sizes of 4 bytes; its child is the next node.
-pub fn list_view_rule_i32(lengths: &[u64], places: &[u32], body: &[u8], k: usize) -> bool
+pub fn list_view_rule_i32(lengths: &[u64], places: &[u64], body: &[u8], k: usize) -> bool
     requires { ⌜ Counted (tables (now lengths) (now places) (now body)) k × (k + 1 < 2 ^ 33) ⌝ }
     ensures { λ r. ⌜ r ≡ listViewRule (tables (now (lengths .entry)) (now (places .entry)) (now (body .entry))) k 4 ⌝ }
 {
@@ -156,10 +156,10 @@ pub fn list_view_rule_i32(lengths: &[u64], places: &[u32], body: &[u8], k: usize
 // The rows of a list-view whose offsets and sizes of 8 bytes are the ranges from `start` and from `begin` on, over `child` rows.
 fn views_i64(
     body: &[u8],
-    start: u32,
-    size: u32,
-    begin: u32,
-    room: u32,
+    start: u64,
+    size: u64,
+    begin: u64,
+    room: u64,
     off: u64,
     len: u64,
     child: u64,
@@ -179,7 +179,7 @@ fn views_i64(
 }
 
 // The rule of a list-view node with offsets and sizes of 8 bytes; its child is the next node.
-pub fn list_view_rule_i64(lengths: &[u64], places: &[u32], body: &[u8], k: usize) -> bool
+pub fn list_view_rule_i64(lengths: &[u64], places: &[u64], body: &[u8], k: usize) -> bool
     requires { ⌜ Counted (tables (now lengths) (now places) (now body)) k × (k + 1 < 2 ^ 33) ⌝ }
     ensures { λ r. ⌜ r ≡ listViewRule (tables (now (lengths .entry)) (now (places .entry)) (now (body .entry))) k 8 ⌝ }
 {
@@ -200,7 +200,7 @@ pub fn list_view_rule_i64(lengths: &[u64], places: &[u32], body: &[u8], k: usize
 }
 
 // The rule of a list node with offsets of 4 bytes; its child is the next node.
-pub fn list_rule_i32(lengths: &[u64], places: &[u32], body: &[u8], k: usize) -> bool
+pub fn list_rule_i32(lengths: &[u64], places: &[u64], body: &[u8], k: usize) -> bool
     requires { ⌜ Counted (tables (now lengths) (now places) (now body)) k × (k + 1 < 2 ^ 33) ⌝ }
     ensures { λ r. ⌜ r ≡ listRule (tables (now (lengths .entry)) (now (places .entry)) (now (body .entry))) k 4 ⌝ }
 {
@@ -219,7 +219,7 @@ pub fn list_rule_i32(lengths: &[u64], places: &[u32], body: &[u8], k: usize) -> 
 }
 
 // The rule of a list node with offsets of 8 bytes; its child is the next node.
-pub fn list_rule_i64(lengths: &[u64], places: &[u32], body: &[u8], k: usize) -> bool
+pub fn list_rule_i64(lengths: &[u64], places: &[u64], body: &[u8], k: usize) -> bool
     requires { ⌜ Counted (tables (now lengths) (now places) (now body)) k × (k + 1 < 2 ^ 33) ⌝ }
     ensures { λ r. ⌜ r ≡ listRule (tables (now (lengths .entry)) (now (places .entry)) (now (body .entry))) k 8 ⌝ }
 {
@@ -238,7 +238,7 @@ pub fn list_rule_i64(lengths: &[u64], places: &[u32], body: &[u8], k: usize) -> 
 }
 
 // Where a range of the body begins, or the body's end where the range begins past it.
-fn part_start(body: &[u8], at: u32) -> usize
+fn part_start(body: &[u8], at: u64) -> usize
     ensures { λ r. ⌜ r ≡ startIn (now (body .entry)) at ⌝ }
 {
     let start = at as usize;
@@ -249,7 +249,7 @@ fn part_start(body: &[u8], at: u32) -> usize
 }
 
 // Whether no bit of node k's rows is zero, where its validity has a bit for each slot.
-fn all_valid(lengths: &[u64], places: &[u32], body: &[u8], k: usize) -> bool
+fn all_valid(lengths: &[u64], places: &[u64], body: &[u8], k: usize) -> bool
     requires { ⌜ Counted (tables (now lengths) (now places) (now body)) k × (maskOf (tables (now lengths) (now places) (now body)) k true ≡ true) ⌝ }
     ensures { λ r. ⌜ r ≡ validRows (tables (now (lengths .entry)) (now (places .entry)) (now (body .entry))) k ⌝ }
 {
@@ -266,7 +266,7 @@ fn all_valid(lengths: &[u64], places: &[u32], body: &[u8], k: usize) -> bool
 }
 
 // Whether node k has no validity, and the run ends behind it have a bit for each slot and no null.
-fn runs_valid(lengths: &[u64], places: &[u32], body: &[u8], k: usize) -> bool
+fn runs_valid(lengths: &[u64], places: &[u64], body: &[u8], k: usize) -> bool
     requires { ⌜ (k < 2 ^ 33) × Counted (tables (now lengths) (now places) (now body)) (k + 1) ⌝ }
     ensures { λ r. ⌜ r ≡ runsValid (tables (now (lengths .entry)) (now (places .entry)) (now (body .entry))) k (k + 1) ⌝ }
 {
@@ -283,7 +283,7 @@ fn runs_valid(lengths: &[u64], places: &[u32], body: &[u8], k: usize) -> bool
 }
 
 // Run ends of 2 bytes in the range of `size` bytes from `start` on: they fit, rise strictly from at least 1, and the last is at least `reach`.
-fn ends_i16(body: &[u8], start: usize, size: u32, off: u64, len: u64, reach: u64) -> bool
+fn ends_i16(body: &[u8], start: usize, size: u64, off: u64, len: u64, reach: u64) -> bool
     requires { ⌜ (start + size ≤ length (now body)) × (off + len < 2 ^ 63) ⌝ }
     ensures { λ r. ⌜ r ≡ endsReach 2 (now (body .entry)) start size off len reach ⌝ }
 {
@@ -300,7 +300,7 @@ fn ends_i16(body: &[u8], start: usize, size: u32, off: u64, len: u64, reach: u64
 }
 
 // The rule of a run-end node with run ends of 2 bytes: the run ends are the next node, the values the one after.
-pub fn run_end_rule_i16(lengths: &[u64], places: &[u32], body: &[u8], k: usize) -> bool
+pub fn run_end_rule_i16(lengths: &[u64], places: &[u64], body: &[u8], k: usize) -> bool
     requires { ⌜ Counted (tables (now lengths) (now places) (now body)) k × Counted (tables (now lengths) (now places) (now body)) (k + 1) × (k + 2 < 2 ^ 33) ⌝ }
     ensures { λ r. ⌜ r ≡ runEndRule (tables (now (lengths .entry)) (now (places .entry)) (now (body .entry))) k 2 ⌝ }
 {
@@ -321,7 +321,7 @@ pub fn run_end_rule_i16(lengths: &[u64], places: &[u32], body: &[u8], k: usize) 
 }
 
 // Run ends of 4 bytes in the range of `size` bytes from `start` on: they fit, rise strictly from at least 1, and the last is at least `reach`.
-fn ends_i32(body: &[u8], start: usize, size: u32, off: u64, len: u64, reach: u64) -> bool
+fn ends_i32(body: &[u8], start: usize, size: u64, off: u64, len: u64, reach: u64) -> bool
     requires { ⌜ (start + size ≤ length (now body)) × (off + len < 2 ^ 63) ⌝ }
     ensures { λ r. ⌜ r ≡ endsReach 4 (now (body .entry)) start size off len reach ⌝ }
 {
@@ -338,7 +338,7 @@ fn ends_i32(body: &[u8], start: usize, size: u32, off: u64, len: u64, reach: u64
 }
 
 // The rule of a run-end node with run ends of 4 bytes: the run ends are the next node, the values the one after.
-pub fn run_end_rule_i32(lengths: &[u64], places: &[u32], body: &[u8], k: usize) -> bool
+pub fn run_end_rule_i32(lengths: &[u64], places: &[u64], body: &[u8], k: usize) -> bool
     requires { ⌜ Counted (tables (now lengths) (now places) (now body)) k × Counted (tables (now lengths) (now places) (now body)) (k + 1) × (k + 2 < 2 ^ 33) ⌝ }
     ensures { λ r. ⌜ r ≡ runEndRule (tables (now (lengths .entry)) (now (places .entry)) (now (body .entry))) k 4 ⌝ }
 {
@@ -359,7 +359,7 @@ pub fn run_end_rule_i32(lengths: &[u64], places: &[u32], body: &[u8], k: usize) 
 }
 
 // Run ends of 8 bytes in the range of `size` bytes from `start` on: they fit, rise strictly from at least 1, and the last is at least `reach`.
-fn ends_i64(body: &[u8], start: usize, size: u32, off: u64, len: u64, reach: u64) -> bool
+fn ends_i64(body: &[u8], start: usize, size: u64, off: u64, len: u64, reach: u64) -> bool
     requires { ⌜ (start + size ≤ length (now body)) × (off + len < 2 ^ 63) ⌝ }
     ensures { λ r. ⌜ r ≡ endsReach 8 (now (body .entry)) start size off len reach ⌝ }
 {
@@ -376,7 +376,7 @@ fn ends_i64(body: &[u8], start: usize, size: u32, off: u64, len: u64, reach: u64
 }
 
 // The rule of a run-end node with run ends of 8 bytes: the run ends are the next node, the values the one after.
-pub fn run_end_rule_i64(lengths: &[u64], places: &[u32], body: &[u8], k: usize) -> bool
+pub fn run_end_rule_i64(lengths: &[u64], places: &[u64], body: &[u8], k: usize) -> bool
     requires { ⌜ Counted (tables (now lengths) (now places) (now body)) k × Counted (tables (now lengths) (now places) (now body)) (k + 1) × (k + 2 < 2 ^ 33) ⌝ }
     ensures { λ r. ⌜ r ≡ runEndRule (tables (now (lengths .entry)) (now (places .entry)) (now (body .entry))) k 8 ⌝ }
 {

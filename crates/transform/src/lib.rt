@@ -67,7 +67,7 @@ pub fn store(counters: &mut [u64], counts: &[u64; 96])
 // ---- grounds
 
 // Ground 14 where a part does not lie in a room of m bytes, 13 where one cannot hold its bytes.
-fn parts_ground(plan: &[u64], parts: &[u32], counts: &[u64; 96], m: usize) -> u8
+fn parts_ground(plan: &[u64], parts: &[u64], counts: &[u64; 96], m: usize) -> u8
     ensures { λ r. ⌜ r ≡ cond (partsWithin (now (plan .entry)) (now (parts .entry)) m) (cond (partsHold (now (plan .entry)) (now (counts .entry)) (now (parts .entry))) 0 13) 14 ⌝ }
 {
     if !parts::parts_within(plan, parts, m) {
@@ -95,9 +95,9 @@ pub fn in_source(lengths: &[u64], first: usize, start: u64, end: u64) -> bool
 // The rows start .. start + n - 1 of a source, whose first node is `first`.
 fn copy_rows(
     plan: &[u64],
-    parts: &[u32],
+    parts: &[u64],
     lengths: &[u64],
-    places: &[u32],
+    places: &[u64],
     body: &[u8],
     counters: &mut [u64],
     room: &mut [u8],
@@ -158,10 +158,10 @@ fn copy_rows(
 // Copies the rows start .. end - 1 of a source behind the destination's rows: 0, or the ground of refusal.
 pub fn try_extend(
     plan: &[u64],
-    parts: &[u32],
+    parts: &[u64],
     sources: &[u32],
     lengths: &[u64],
-    places: &[u32],
+    places: &[u64],
     body: &[u8],
     counters: &mut [u64],
     room: &mut [u8],
@@ -212,7 +212,7 @@ pub fn at_most_far(n: u64) -> u64
 }
 
 // n nulls.
-fn add_nulls(plan: &[u64], parts: &[u32], counters: &mut [u64], room: &mut [u8], n: u64) -> u8
+fn add_nulls(plan: &[u64], parts: &[u64], counters: &mut [u64], room: &mut [u8], n: u64) -> u8
     requires { ⌜ length (now counters) ≡ 96 ⌝ }
     ensures { λ r. ⌜ ((sources lengths places body : List ℕ) → Answers (settled (lent (now (plan .entry)) (now (parts .entry)) sources lengths places body) (now (counters .entry)) (now (room .entry)) (nullWalk (join (now (plan .entry)) (now (parts .entry)) [] [] [] 0 0) 8 0 n (now (counters .entry)))) r (now (counters .exit)) (now (room .exit))) ⌝ }
 {
@@ -235,7 +235,7 @@ fn add_nulls(plan: &[u64], parts: &[u32], counters: &mut [u64], room: &mut [u8],
 // Adds n nulls behind the destination's rows: 0, or the ground of refusal. No source is read.
 pub fn try_extend_nulls(
     plan: &[u64],
-    parts: &[u32],
+    parts: &[u64],
     counters: &mut [u64],
     room: &mut [u8],
     n: u64,

@@ -13,13 +13,12 @@ use Rattle.bits.specs.Bits.{bits, pack, packed, pad, putBits}
 use Rattle.bits.proofs.Laws.{length-bits}
 use Rattle.bits.proofs.Puts.{pad-fits}
 use Rattle.formats.specs.Code.{isFixed, isString, isView, isListView, isList}
-use Rattle.array_data.proofs.lent_tables.Laws.{and-right}
 use Rattle.utils.specs.Extension.{extended}
 use Rattle.utils.specs.declared.Extended.{Extended}
 use Rattle.utils.specs.declared.Extended.the-variants.{Fits, Over, Falls}
 use Rattle.run_ends.specs.declared.Runs.{Runs}
 use Rattle.run_ends.specs.declared.Runs.the-variants.{Range, None}
-use Rattle.walk.specs.State.{Join, codeOf, dictionaryOf, endOf, keepsOf, bytesOf, rows, bytes, gap, place, far, beyond, addRows}
+use Rattle.walk.specs.State.{Join, codeOf, dictionaryOf, endOf, keepsOf, bytesOf, rows, bytes, gap, place, far, addRows}
 use Rattle.walk.specs.Log.{Entry, put, mask, amend, startOf, inRoom, enter, Log, apply, Out, fail, done, wrote, need, found, next, each}
 use Rattle.walk.specs.Leaves.{copyBits, copyMask, nullMask, countNulls, copyNumbers, copyKeys, copyViews, nullNumbers, putString, putExtended, copyString, nullString}
 use Rattle.walk.specs.Copy.{Walk, masked, listViewRow, copyListView, putStretch, putList, copyList, copyFields, copySparse, denseTo, denseRow, copyDense, putRuns, runsAt, copyRuns, copyData, copySlots, copyNode, copyWalk}
@@ -252,7 +251,7 @@ module _ (plan parts : List ℕ) where
   splice-long at o bs room = go (inRoom at o (length bs) (length room)) refl
     where
       go : (t : Bool) → inRoom at o (length bs) (length room) ≡ t → length (cond t (splice (at + o) bs room) room) ≡ length room
-      go true h = length-splice (at + o) bs room (leb-true _ _ (and-right (ltb o beyond && ltb (length bs) beyond) _ h))
+      go true h = length-splice (at + o) bs room (leb-true _ _ h)
       go false h = refl
 
   enter-long : (e : Entry) (room : List ℕ) → length (enter plan parts e room) ≡ length room
@@ -262,7 +261,7 @@ module _ (plan parts : List ℕ) where
   enter-long (mask i p vs) room = go (inRoom (8 * startOf plan parts i 0) p (length vs) (8 * length room)) refl
     where
       go : (t : Bool) → inRoom (8 * startOf plan parts i 0) p (length vs) (8 * length room) ≡ t → length (cond t (putBits (8 * startOf plan parts i 0 + p) vs room) room) ≡ length room
-      go true h = put-long (8 * startOf plan parts i 0 + p) vs room (leb-true _ _ (and-right (ltb p beyond && ltb (length vs) beyond) _ h))
+      go true h = put-long (8 * startOf plan parts i 0 + p) vs room (leb-true _ _ h)
       go false h = refl
 
   -- WHAT A LOG WRITES LEAVES AS MANY BYTES

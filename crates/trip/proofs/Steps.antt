@@ -14,7 +14,7 @@ use Rattle.walk.specs.Copy.{copyWalk}
 use Rattle.walk.specs.Nulls.{nullWalk}
 use Rattle.walk.proofs.Laws.{apply-append}
 use Rattle.parts.specs.Parts.{partsWithin, partsHold}
-use Rattle.refinement.specs.orders.Sound.{planSound, walkable}
+use Rattle.refinement.specs.orders.Sound.{ceiling, planSound, walkable}
 use Rattle.refinement.specs.orders.Order.{After, Lent, joinOf, sourceCount, sourceLength, refused, settled, copyOrder, nullOrder, ordered}
 use Rattle.refinement.specs.orders.Measure.{Measured, measured, copyMeasure, nullMeasure}
 use Rattle.refinement.proofs.orders.Accepted.{Walked, walked}
@@ -142,7 +142,7 @@ module _ (x : Lent) (c r : List ℕ) (w : Out) where
 
 walked-in : (x : Lent) (c r : List ℕ) → Walked x c r → walkable (x .plan) (length r) ≡ true
 unfolding walkable
-walked-in x c r v = rw (le-leb (length r) 4294967295 (omega (arith, v .small)), v .sound) refl
+walked-in x c r v = rw (le-leb (length r) ceiling (omega (arith, v .small)), v .sound) refl
 
 -- ---- a list
 

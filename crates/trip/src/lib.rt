@@ -61,10 +61,10 @@ fn source_of(a: u64) -> u32
 // A copy of the rows start .. end - 1 of a source, tried or written.
 fn walk_copy(
     plan: &[u64],
-    parts: &[u32],
+    parts: &[u64],
     sources: &[u32],
     lengths: &[u64],
-    places: &[u32],
+    places: &[u64],
     body: &[u8],
     counts: &mut [u64; 96],
     room: &mut [u8],
@@ -103,7 +103,7 @@ fn walk_copy(
 // n nulls, tried or written.
 fn walk_nulls(
     plan: &[u64],
-    parts: &[u32],
+    parts: &[u64],
     counts: &mut [u64; 96],
     room: &mut [u8],
     write: bool,
@@ -121,10 +121,10 @@ fn walk_nulls(
 // The order of four words.
 fn walk_order(
     plan: &[u64],
-    parts: &[u32],
+    parts: &[u64],
     sources: &[u32],
     lengths: &[u64],
-    places: &[u32],
+    places: &[u64],
     body: &[u8],
     counts: &mut [u64; 96],
     room: &mut [u8],
@@ -156,7 +156,7 @@ fn walk_order(
 }
 
 // 14 where the parts do not lie in the room, 13 where one cannot hold its bytes.
-fn held_ground(plan: &[u64], parts: &[u32], counts: &[u64; 96], within: bool) -> u8
+fn held_ground(plan: &[u64], parts: &[u64], counts: &[u64; 96], within: bool) -> u8
     ensures { λ r. ⌜ r ≡ cond within (cond (partsHold (now (plan .entry)) (now (counts .entry)) (now (parts .entry))) 0 13) 14 ⌝ }
 {
     if !within {
@@ -171,10 +171,10 @@ fn held_ground(plan: &[u64], parts: &[u32], counts: &[u64; 96], within: bool) ->
 // Order k of a list, and where it is asked, 14 and 13 behind it.
 fn walk_step(
     plan: &[u64],
-    parts: &[u32],
+    parts: &[u64],
     sources: &[u32],
     lengths: &[u64],
-    places: &[u32],
+    places: &[u64],
     body: &[u8],
     counts: &mut [u64; 96],
     room: &mut [u8],
@@ -220,10 +220,10 @@ fn walk_step(
 // The first n orders of a list, up to the first that is refused.
 fn walk_orders(
     plan: &[u64],
-    parts: &[u32],
+    parts: &[u64],
     sources: &[u32],
     lengths: &[u64],
-    places: &[u32],
+    places: &[u64],
     body: &[u8],
     counts: &mut [u64; 96],
     room: &mut [u8],
@@ -277,10 +277,10 @@ fn refused(ground: u8) -> Ended
 // The orders, all tried and then all written.
 fn carry_out(
     plan: &[u64],
-    parts: &[u32],
+    parts: &[u64],
     sources: &[u32],
     lengths: &[u64],
-    places: &[u32],
+    places: &[u64],
     body: &[u8],
     counters: &mut [u64],
     room: &mut [u8],
@@ -337,10 +337,10 @@ fn carry_out(
 // refused and its place.
 pub fn orders(
     plan: &[u64],
-    parts: &[u32],
+    parts: &[u64],
     sources: &[u32],
     lengths: &[u64],
-    places: &[u32],
+    places: &[u64],
     body: &[u8],
     counters: &mut [u64],
     room: &mut [u8],
@@ -380,7 +380,7 @@ pub fn measure_orders(
     plan: &[u64],
     sources: &[u32],
     lengths: &[u64],
-    places: &[u32],
+    places: &[u64],
     body: &[u8],
     counters: &mut [u64],
     orders: &[u64],
@@ -400,7 +400,7 @@ pub fn measure_orders(
     if !sound::plan_sound(plan) {
         return refused(NOT_LENT);
     }
-    let parts = [0u32; 0];
+    let parts = [0u64; 0];
     let mut none = [0u8; 0];
     let mut counts = transform::load(counters);
     let e = walk_orders(

@@ -1,13 +1,13 @@
 -- What a walk comes to: its answer, the counters that it leaves, and the log of what it writes. Assumes nothing.
 use mathlib.Core.Path.{_≡_}
-use mathlib.Core.Bool.{Bool, true, false, cond, _&&_}
+use mathlib.Core.Bool.{Bool, true, false, cond}
 use mathlib.Core.List.{List, [], _∷_, _++_}
 use Prim.Native.Nat.{ℕ, zero, suc, _+_, _*_, _-_}
 use lib.ListN.{length, getD}
 use lib.Dec.{leb, ltb, eqb}
 use Rattle.number.specs.Number.{splice}
 use Rattle.bits.specs.Bits.{putBits}
-use Rattle.walk.specs.State.{partOf, beyond}
+use Rattle.walk.specs.State.{partOf}
 
 -- one write: bytes into buffer b of node i from its byte o on, bits into the validity of node i from its bit p on, or bytes over the last ones of
 -- buffer b of node i, from its byte o on
@@ -25,7 +25,7 @@ startOf state parts i b = getD parts (2 * (partOf state i + b - 1)) 0
 
 -- n bytes from byte o of a part on lie in a room of m bytes
 unfoldable pub inRoom : ℕ → ℕ → ℕ → ℕ → Bool
-inRoom start o n m = ltb o beyond && ltb n beyond && leb (start + o + n) m
+inRoom start o n m = leb (start + o + n) m
 
 -- a write that would leave the room is not made
 module _ (state parts : List ℕ) where

@@ -1,5 +1,5 @@
 -- The state of a join as numbers, and what an order reads beside it. Assumes nothing.
-use mathlib.Core.Bool.{Bool, cond, _&&_}
+use mathlib.Core.Bool.{Bool, cond}
 use mathlib.Core.List.{List}
 use Prim.Native.Nat.{ℕ, _+_, _*_, _%_, min}
 use lib.ListN.{length, getD, set}
@@ -87,13 +87,9 @@ endGap i c = setBytes i (min (gap c i) 1) c
 abbrev pub beginGap : ℕ → List ℕ → List ℕ
 beginGap i c = setBytes i (cond (eqb (gap c i) 0) 0 2) c
 
--- a counter or a place that is beyond every room
-abbrev pub beyond : ℕ
-beyond = 1152921504606846976
-
--- r entries of w bytes, as a number of 64 bits; where r is beyond every room, so is it
+-- the bytes of r entries of w bytes; it stays at the largest number, which no part holds
 unfoldable pub scaled : ℕ → ℕ → ℕ
-scaled r w = cond (ltb r beyond) (r * w) top
+scaled r w = min (r * w) top
 
 -- one past the largest slot
 abbrev pub far : ℕ
@@ -127,4 +123,4 @@ module _ (x : Join) where
 
   -- the entries of w bytes of the slots slot .. slot + n - 1 stand in the body from `at` on
   unfoldable pub rowsIn : ℕ → ℕ → ℕ → ℕ → Bool
-  rowsIn at w slot n = ltb (slot + n) 576460752303423488 && leb (at + w * (slot + n)) (length (x .body))
+  rowsIn at w slot n = leb (at + w * (slot + n)) (length (x .body))

@@ -14,6 +14,9 @@ pub enum Goal {
     Skip,
 }
 
+// So many entries of at most 16 bytes each have fewer than 2^64 bytes.
+const FEW: u64 = 1152921504606846976;
+
 // The code of node i's format.
 pub fn code_of(state: &[u64], i: usize) -> u8
     requires { ⌜ i < 32 ⌝ }
@@ -130,33 +133,36 @@ pub fn set_bytes(counts: &mut [u64; 96], i: usize, n: u64)
     counts[3 * i + 2] = n;
 }
 
-// r entries of w bytes, or a number that is beyond every room.
+// The bytes of r entries of w bytes; it stays at the largest number.
 pub fn scale(r: u64, w: u64) -> u64
     requires { ⌜ (1 ≤ w) × (w ≤ 16) ⌝ }
     ensures { λ s. ⌜ s ≡ scaled r w ⌝ }
 {
-    if r < 1152921504606846976 {
+    if r < FEW {
         return r * w;
     }
-    u64::MAX
+    if u64::MAX / w < r {
+        return u64::MAX;
+    }
+    r * w
 }
 
 // Where the part of buffer b of node i starts; buffer 0 is the validity.
-fn start_of(state: &[u64], parts: &[u32], i: usize, b: usize) -> u32
+fn start_of(state: &[u64], parts: &[u64], i: usize, b: usize) -> u64
     requires { ⌜ (i < 32) × (b < 3) ⌝ }
     ensures { λ r. ⌜ r ≡ startOf (now (state .entry)) (now (parts .entry)) i b ⌝ }
 {
     let p = part_of(state, i) + b;
     if p == 0 {
-        return lent_tables::at_u32(parts, 0);
+        return lent_tables::at_u64(parts, 0);
     }
-    lent_tables::at_u32(parts, 2 * (p - 1))
+    lent_tables::at_u64(parts, 2 * (p - 1))
 }
 
 // Where n bytes from byte o of buffer b of node i on are written in a room of m bytes.
 pub fn target(
     state: &[u64],
-    parts: &[u32],
+    parts: &[u64],
     m: usize,
     write: bool,
     i: usize,
@@ -170,23 +176,18 @@ pub fn target(
     if !write {
         return Goal::Skip;
     }
-    if 1152921504606846976 <= o {
+    let start = start_of(state, parts, i, b);
+    if !lent_tables::fits_behind(start, o, n, m as u64) {
         return Goal::Skip;
     }
-    if 1152921504606846976 <= n {
-        return Goal::Skip;
-    }
-    let at = (start_of(state, parts, i, b) as u64) + o;
-    if (m as u64) < at + n {
-        return Goal::Skip;
-    }
+    let at = start + o;
     Goal::At(at as usize)
 }
 
 // The validity of node i, where n bits from its bit p on are written in a room of m bytes.
 pub fn mask_target(
     state: &[u64],
-    parts: &[u32],
+    parts: &[u64],
     m: usize,
     write: bool,
     i: usize,
@@ -199,15 +200,8 @@ pub fn mask_target(
     if !write {
         return Goal::Skip;
     }
-    if 1152921504606846976 <= p {
-        return Goal::Skip;
-    }
-    if 1152921504606846976 <= n {
-        return Goal::Skip;
-    }
-    let start = start_of(state, parts, i, 0) as u64;
-    let bits = 8 * start + p + n;
-    if m < utils::bit_room(bits as usize) {
+    let start = start_of(state, parts, i, 0);
+    if !lent_tables::bits_fit_behind(start, p, n, m as u64) {
         return Goal::Skip;
     }
     Goal::At(start as usize)

@@ -14,7 +14,7 @@ use Rattle.array_data.specs.lent_tables.Lent.{tables}
 use Rattle.array_data.proofs.lent_tables.Laws.{no, yes, and-left, and-right}
 use Rattle.source_rules.specs.kinds.Rows.{tablesOf}
 use Rattle.walk.specs.Log.{Out, Did, apply, applyIf}
-use Rattle.columns.specs.Grounds.{sourcesGround}
+use Rattle.columns.specs.Grounds.{ceiling, sourcesGround}
 use Rattle.parts.specs.Parts.{partTotal, partsPlaced, partsHold}
 use Rattle.sound.proofs.trying.Laws.{hold-alike}
 use Rattle.sound.proofs.trying.Near.{Near}
@@ -108,15 +108,15 @@ module _ (formats schema sources : List ℕ) (x : Tables) (keep gaps : Bool) (pa
 -- ---- the grounds before the walk
 
 module _ (formats schema sources : List ℕ) (x : Tables) (keep gaps : Bool) (parts plan counts room : List ℕ) where
-  pub open-large : 4294967295 < length room → Answers (opening formats schema sources x keep gaps parts plan counts room) 9 plan counts room
+  pub open-large : ceiling < length room → Answers (opening formats schema sources x keep gaps parts plan counts room) 9 plan counts room
   unfolding opening
-  open-large h = rw (lt-leb (length room) 4294967295 h) (record { ground = refl; plan = refl; counts = refl; room = refl })
+  open-large h = rw (lt-leb (length room) ceiling h) (record { ground = refl; plan = refl; counts = refl; room = refl })
 
-  module _ (h : length room ≤ 4294967295) {g : ℕ} (e : g ≡ sourcesGround formats schema x sources) where
+  module _ (h : length room ≤ ceiling) {g : ℕ} (e : g ≡ sourcesGround formats schema x sources) where
     pub open-sources : (g ≡ 0 → ⊥) → Answers (opening formats schema sources x keep gaps parts plan counts room) g plan counts room
     unfolding opening
     open-sources f =
-        rw (le-leb (length room) 4294967295 h, ne-eqb (sourcesGround formats schema x sources) 0 (λ z. f (e ∙ z)))
+        rw (le-leb (length room) ceiling h, ne-eqb (sourcesGround formats schema x sources) 0 (λ z. f (e ∙ z)))
         (record { ground = e; plan = refl; counts = refl; room = refl })
 
     module _ (f : g ≡ 0) {state : List ℕ} (q : state ≡ planned formats schema x sources keep gaps) {t : Bool}
@@ -131,14 +131,14 @@ module _ (formats schema sources : List ℕ) (x : Tables) (keep gaps : Bool) (pa
       pub open-room : not t ≡ true → Answers (opening formats schema sources x keep gaps parts plan counts room) 14 plan counts room
       unfolding opening
       open-room l =
-          rw (le-leb (length room) 4294967295 h, good, no placed l) (record { ground = refl; plan = refl; counts = refl; room = refl })
+          rw (le-leb (length room) ceiling h, good, no placed l) (record { ground = refl; plan = refl; counts = refl; room = refl })
 
       pub open-made : {r : ℕ} {words c bytes : List ℕ} → not t ≡ false
           → Answers (settled formats schema sources x keep gaps parts plan counts room (openWalk (lent state parts sources (x .lengths) (x .places) (x .body)) (replicate 96 0))) r words c bytes
           → Answers (opening formats schema sources x keep gaps parts plan counts room) r words c bytes
       unfolding opening
       open-made {r} {words} {c} {bytes} l d =
-          rw (le-leb (length room) 4294967295 h, good, yes placed l)
+          rw (le-leb (length room) ceiling h, good, yes placed l)
           (subst (λ z. Answers (settled formats schema sources x keep gaps parts plan counts room (openWalk (lent z parts sources (x .lengths) (x .places) (x .body)) (replicate 96 0))) r words c bytes) q d)
 
   -- the plan has a join's length, and so have the counters

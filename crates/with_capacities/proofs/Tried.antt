@@ -34,7 +34,8 @@ module _ (x : Lent) where
   unfolding openDictionary
   near-dictionary i c d h =
       near-cond (eqb (dictionaryOf (x .plan) i) 0) (near-done h)
-      (near-next _ _ (near-cond (eqb (word (x .plan) i 7) 0) (near-done h) (near-entries (suc i) h)) (λ c2 d2 g. near-need refl 8 g (near-done g)))
+      (near-need refl 6 h
+      (near-next _ _ (near-cond (eqb (word (x .plan) i 7) 0) (near-done h) (near-entries (suc i) h)) (λ c2 d2 g. near-need refl 8 g (near-done g))))
 
   pub near-open : {c d : List ℕ} → Alike c d → Near (openWalk x c) (openWalk x d)
   unfolding openWalk

@@ -52,7 +52,7 @@ fn planned_state(
     formats: &[u8],
     schema: &[u32],
     lengths: &[u64],
-    places: &[u32],
+    places: &[u64],
     body: &[u8],
     keep: bool,
     gaps: bool,
@@ -76,7 +76,7 @@ fn planned_state(
 }
 
 // Whether plan and counters, of so many numbers, are of a join's lengths and the parts lie in the room, apart: ground 14 where not.
-fn room_placed(state: &[u64], parts: &[u32], words: usize, counts: usize, m: usize) -> bool
+fn room_placed(state: &[u64], parts: &[u64], words: usize, counts: usize, m: usize) -> bool
     ensures { λ r. ⌜ r ≡ (eqb words 872 && eqb counts 96 && partsPlaced (now (parts .entry)) (partTotal (now (state .entry))) m) ⌝ }
 {
     if words != 872 {
@@ -91,10 +91,10 @@ fn room_placed(state: &[u64], parts: &[u32], words: usize, counts: usize, m: usi
 // The walk of an opening tried, the parts asked, and the walk made.
 fn make(
     state: &[u64],
-    parts: &[u32],
+    parts: &[u64],
     sources: &[u32],
     lengths: &[u64],
-    places: &[u32],
+    places: &[u64],
     body: &[u8],
     plan: &mut [u64],
     counters: &mut [u64],
@@ -139,25 +139,28 @@ fn make(
     g
 }
 
+// The most bytes of a body; the room is one.
+const CEILING: usize = 9223372036854775807;
+
 // Opens a join of lent columns: 0, or the ground of refusal. Plan and counters are then what every order is given. `gaps` chooses one run for a gap.
 pub fn try_with_capacities(
     sources: &[u32],
     formats: &[u8],
     schema: &[u32],
     lengths: &[u64],
-    places: &[u32],
-    buffers: &[u32],
+    places: &[u64],
+    buffers: &[u64],
     body: &[u8],
     keep: bool,
     gaps: bool,
-    parts: &[u32],
+    parts: &[u64],
     plan: &mut [u64],
     counters: &mut [u64],
     room: &mut [u8],
 ) -> u8
     ensures { λ r. ⌜ Answers (opening (now (formats .entry)) (now (schema .entry)) (now (sources .entry)) (tablesOf (now (lengths .entry)) (now (places .entry)) (now (buffers .entry)) (now (body .entry))) keep gaps (now (parts .entry)) (now (plan .entry)) (now (counters .entry)) (now (room .entry))) r (now (plan .exit)) (now (counters .exit)) (now (room .exit)) ⌝ }
 {
-    if 4294967295 < room.len() {
+    if CEILING < room.len() {
         return 9;
     }
     let g = columns::sources_ground(sources, formats, schema, lengths, places, buffers, body);
@@ -187,8 +190,8 @@ pub fn plan_parts(
     formats: &[u8],
     schema: &[u32],
     lengths: &[u64],
-    places: &[u32],
-    buffers: &[u32],
+    places: &[u64],
+    buffers: &[u64],
     body: &[u8],
     keep: bool,
     gaps: bool,

@@ -1,5 +1,6 @@
 //! Bytes that columns share, wherever they stand.
 
+use std::alloc::{alloc_zeroed, Layout};
 use std::ops::Deref;
 use std::ptr::NonNull;
 use std::sync::Arc;
@@ -80,6 +81,18 @@ impl Buffer {
     pub(crate) fn span(&self) -> (usize, usize) {
         (self.start as usize, self.start as usize + self.len)
     }
+}
+
+/// So many bytes of 0; None where the machine can't lend them.
+pub(crate) fn zeros(bytes: u64) -> Option<Vec<u8>> {
+    let len = usize::try_from(bytes).ok()?;
+    let layout = Layout::array::<u8>(len).ok()?;
+    if len == 0 {
+        return Some(vec![]);
+    }
+    let start = unsafe { alloc_zeroed(layout) };
+    // an allocation of the layout that a vector of so many bytes has
+    (!start.is_null()).then(|| unsafe { Vec::from_raw_parts(start, len, len) })
 }
 
 impl Default for Buffer {

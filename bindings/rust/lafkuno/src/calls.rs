@@ -8,9 +8,9 @@ mod trips;
 pub use trips::{measure_orders, orders, Ended, MOST_ORDERS, ORDER};
 
 /// A position in a body or a room, and a count of bytes there.
-pub type Position = u32;
+pub type Position = u64;
 /// The bytes that a body or a room may have.
-pub const MOST_BYTES: u64 = Position::MAX as u64;
+pub const MOST_BYTES: u64 = i64::MAX as u64;
 /// Numbers in a plan.
 pub const PLAN: usize = 872;
 /// Numbers in the counters of a join.
@@ -96,7 +96,7 @@ pub struct RowAnswer {
 extern "C" {
     fn lafkuno_plan_parts(
         sources: *const u32, sources_len: usize, formats: *const u8, formats_len: usize, schema: *const u32, schema_len: usize,
-        lengths: *const u64, lengths_len: usize, places: *const u32, places_len: usize, buffers: *const u32, buffers_len: usize,
+        lengths: *const u64, lengths_len: usize, places: *const Position, places_len: usize, buffers: *const Position, buffers_len: usize,
         body: *const u8, body_len: usize, keep: u8, gaps: u8, plan: *mut u64, plan_len: usize,
     ) -> u8;
     fn lafkuno_part_count(plan: *const u64, plan_len: usize) -> u32;
@@ -105,71 +105,71 @@ extern "C" {
     fn lafkuno_part_buffer(plan: *const u64, plan_len: usize, p: u32) -> u64;
     fn lafkuno_open(
         sources: *const u32, sources_len: usize, formats: *const u8, formats_len: usize, schema: *const u32, schema_len: usize,
-        lengths: *const u64, lengths_len: usize, places: *const u32, places_len: usize, buffers: *const u32, buffers_len: usize,
-        body: *const u8, body_len: usize, keep: u8, gaps: u8, parts: *const u32, parts_len: usize, plan: *mut u64, plan_len: usize,
+        lengths: *const u64, lengths_len: usize, places: *const Position, places_len: usize, buffers: *const Position, buffers_len: usize,
+        body: *const u8, body_len: usize, keep: u8, gaps: u8, parts: *const Position, parts_len: usize, plan: *mut u64, plan_len: usize,
         counters: *mut u64, counters_len: usize, room: *mut u8, room_len: usize,
     ) -> u8;
     fn lafkuno_copy(
-        plan: *const u64, plan_len: usize, parts: *const u32, parts_len: usize, sources: *const u32, sources_len: usize,
-        lengths: *const u64, lengths_len: usize, places: *const u32, places_len: usize, body: *const u8, body_len: usize,
+        plan: *const u64, plan_len: usize, parts: *const Position, parts_len: usize, sources: *const u32, sources_len: usize,
+        lengths: *const u64, lengths_len: usize, places: *const Position, places_len: usize, body: *const u8, body_len: usize,
         counters: *mut u64, counters_len: usize, room: *mut u8, room_len: usize, source: u32, start: u64, end: u64,
     ) -> u8;
     fn lafkuno_nulls(
-        plan: *const u64, plan_len: usize, parts: *const u32, parts_len: usize, counters: *mut u64, counters_len: usize,
+        plan: *const u64, plan_len: usize, parts: *const Position, parts_len: usize, counters: *mut u64, counters_len: usize,
         room: *mut u8, room_len: usize, n: u64,
     ) -> u8;
     fn lafkuno_finish(
-        plan: *const u64, plan_len: usize, parts: *const u32, parts_len: usize, sources: *const u32, sources_len: usize,
-        lengths: *const u64, lengths_len: usize, places: *const u32, places_len: usize, buffers: *const u32, buffers_len: usize,
-        body: *const u8, body_len: usize, counters: *const u64, counters_len: usize, room: *const u8, room_len: usize, base: u32,
+        plan: *const u64, plan_len: usize, parts: *const Position, parts_len: usize, sources: *const u32, sources_len: usize,
+        lengths: *const u64, lengths_len: usize, places: *const Position, places_len: usize, buffers: *const Position, buffers_len: usize,
+        body: *const u8, body_len: usize, counters: *const u64, counters_len: usize, room: *const u8, room_len: usize, base: Position,
         new_lengths: *mut u64, new_lengths_len: usize, new_nulls: *mut u64, new_nulls_len: usize,
-        new_places: *mut u32, new_places_len: usize, new_buffers: *mut u32, new_buffers_len: usize,
+        new_places: *mut Position, new_places_len: usize, new_buffers: *mut Position, new_buffers_len: usize,
     ) -> u8;
     fn lafkuno_buffer_total(
-        plan: *const u64, plan_len: usize, sources: *const u32, sources_len: usize, places: *const u32, places_len: usize,
+        plan: *const u64, plan_len: usize, sources: *const u32, sources_len: usize, places: *const Position, places_len: usize,
     ) -> u64;
     fn lafkuno_running_nulls(counters: *const u64, counters_len: usize) -> u64;
     fn lafkuno_measure_open(
         plan: *const u64, plan_len: usize, sources: *const u32, sources_len: usize, lengths: *const u64, lengths_len: usize,
-        places: *const u32, places_len: usize, body: *const u8, body_len: usize, counters: *mut u64, counters_len: usize,
+        places: *const Position, places_len: usize, body: *const u8, body_len: usize, counters: *mut u64, counters_len: usize,
     ) -> u8;
     fn lafkuno_measure_copy(
         plan: *const u64, plan_len: usize, sources: *const u32, sources_len: usize, lengths: *const u64, lengths_len: usize,
-        places: *const u32, places_len: usize, body: *const u8, body_len: usize, counters: *mut u64, counters_len: usize,
+        places: *const Position, places_len: usize, body: *const u8, body_len: usize, counters: *mut u64, counters_len: usize,
         source: u32, start: u64, end: u64,
     ) -> u8;
     fn lafkuno_measure_nulls(plan: *const u64, plan_len: usize, counters: *mut u64, counters_len: usize, n: u64) -> u8;
     fn lafkuno_needed_bytes(plan: *const u64, plan_len: usize, counters: *const u64, counters_len: usize, p: u32) -> u64;
     fn lafkuno_column_ground(
         formats: *const u8, formats_len: usize, schema: *const u32, schema_len: usize, lengths: *const u64, lengths_len: usize,
-        places: *const u32, places_len: usize, buffers: *const u32, buffers_len: usize, body: *const u8, body_len: usize,
+        places: *const Position, places_len: usize, buffers: *const Position, buffers_len: usize, body: *const u8, body_len: usize,
         first: u32, n: u32,
     ) -> u8;
     fn lafkuno_open_column(
         formats: *const u8, formats_len: usize, schema: *const u32, schema_len: usize, lengths: *const u64, lengths_len: usize,
-        places: *const u32, places_len: usize, buffers: *const u32, buffers_len: usize, body: *const u8, body_len: usize,
+        places: *const Position, places_len: usize, buffers: *const Position, buffers_len: usize, body: *const u8, body_len: usize,
         first: u32, n: u32, tree: *mut u64, tree_len: usize,
     ) -> u8;
     // answers the kind: 0 null, 1 signed, 2 unsigned, 3 f32, 4 f64, 5 bytes, 6 list; 16 and the ground where it is refused, 14 where
     // `answer` has not 12 numbers; answer: three numbers, how many ids there are, eight ids
     fn lafkuno_read_row(
-        tree: *const u64, tree_len: usize, lengths: *const u64, lengths_len: usize, places: *const u32, places_len: usize,
-        buffers: *const u32, buffers_len: usize, body: *const u8, body_len: usize, first: u32, row: u64,
+        tree: *const u64, tree_len: usize, lengths: *const u64, lengths_len: usize, places: *const Position, places_len: usize,
+        buffers: *const Position, buffers_len: usize, body: *const u8, body_len: usize, first: u32, row: u64,
         answer: *mut u64, answer_len: usize,
     ) -> u8;
     // answer: the run and the rows left in it; 14 where it has not 2 numbers
     fn lafkuno_run_at(
         formats: *const u8, formats_len: usize, schema: *const u32, schema_len: usize, lengths: *const u64, lengths_len: usize,
-        places: *const u32, places_len: usize, buffers: *const u32, buffers_len: usize, body: *const u8, body_len: usize,
+        places: *const Position, places_len: usize, buffers: *const Position, buffers_len: usize, body: *const u8, body_len: usize,
         first: u32, n: u32, row: u64, answer: *mut u64, answer_len: usize,
     ) -> u8;
     fn lafkuno_read_run(
-        tree: *const u64, tree_len: usize, lengths: *const u64, lengths_len: usize, places: *const u32, places_len: usize,
+        tree: *const u64, tree_len: usize, lengths: *const u64, lengths_len: usize, places: *const Position, places_len: usize,
         body: *const u8, body_len: usize, first: u32, row: u64, answer: *mut u64, answer_len: usize,
     ) -> u8;
     fn lafkuno_frame(
         formats: *const u8, formats_len: usize, schema: *const u32, schema_len: usize, lengths: *const u64, lengths_len: usize,
-        places: *const u32, places_len: usize, buffers: *const u32, buffers_len: usize, body: *const u8, body_len: usize,
+        places: *const Position, places_len: usize, buffers: *const Position, buffers_len: usize, body: *const u8, body_len: usize,
         first_a: u32, n_a: u32, first_b: u32, n_b: u32, start: u64, end: u64, room: *mut f64, room_len: usize,
     ) -> u8;
     fn lafkuno_join_frames(
@@ -177,12 +177,12 @@ extern "C" {
     ) -> u8;
     fn lafkuno_mean(
         formats: *const u8, formats_len: usize, schema: *const u32, schema_len: usize, lengths: *const u64, lengths_len: usize,
-        places: *const u32, places_len: usize, buffers: *const u32, buffers_len: usize, body: *const u8, body_len: usize,
+        places: *const Position, places_len: usize, buffers: *const Position, buffers_len: usize, body: *const u8, body_len: usize,
         first: u32, n: u32, start: u64, end: u64, answer: *mut u64, answer_len: usize,
     ) -> u8;
     fn lafkuno_ratio(
         formats: *const u8, formats_len: usize, schema: *const u32, schema_len: usize, lengths: *const u64, lengths_len: usize,
-        places: *const u32, places_len: usize, buffers: *const u32, buffers_len: usize, body: *const u8, body_len: usize,
+        places: *const Position, places_len: usize, buffers: *const Position, buffers_len: usize, body: *const u8, body_len: usize,
         first_a: u32, n_a: u32, first_b: u32, n_b: u32, start: u64, end: u64, answer: *mut u64, answer_len: usize,
     ) -> u8;
 }
@@ -220,7 +220,7 @@ pub fn part_at(plan: &[u64], p: usize) -> Option<(usize, usize)> {
 
 /// Opens a join over lent room: the plan, the counters and the parts are written. `gaps`: one run for gaps.
 #[inline(always)]
-pub fn open(x: &Tables, keep: bool, gaps: bool, parts: &[u32], plan: &mut [u64], counters: &mut [u64], room: &mut [u8]) -> u8 {
+pub fn open(x: &Tables, keep: bool, gaps: bool, parts: &[Position], plan: &mut [u64], counters: &mut [u64], room: &mut [u8]) -> u8 {
     unsafe {
         lafkuno_open(
             x.sources.as_ptr(), x.sources.len(), x.formats.as_ptr(), x.formats.len(), x.schema.as_ptr(), x.schema.len(),
@@ -234,7 +234,7 @@ pub fn open(x: &Tables, keep: bool, gaps: bool, parts: &[u32], plan: &mut [u64],
 /// Copies the rows `start .. end` of a source behind the rows that are there.
 #[inline(always)]
 #[allow(clippy::too_many_arguments)]
-pub fn copy(plan: &[u64], parts: &[u32], x: &Tables, counters: &mut [u64], room: &mut [u8], source: u32, start: u64, end: u64) -> u8 {
+pub fn copy(plan: &[u64], parts: &[Position], x: &Tables, counters: &mut [u64], room: &mut [u8], source: u32, start: u64, end: u64) -> u8 {
     unsafe {
         lafkuno_copy(
             plan.as_ptr(), plan.len(), parts.as_ptr(), parts.len(), x.sources.as_ptr(), x.sources.len(),
@@ -246,7 +246,7 @@ pub fn copy(plan: &[u64], parts: &[u32], x: &Tables, counters: &mut [u64], room:
 
 /// Adds n nulls.
 #[inline(always)]
-pub fn nulls(plan: &[u64], parts: &[u32], counters: &mut [u64], room: &mut [u8], n: u64) -> u8 {
+pub fn nulls(plan: &[u64], parts: &[Position], counters: &mut [u64], room: &mut [u8], n: u64) -> u8 {
     unsafe {
         lafkuno_nulls(
             plan.as_ptr(), plan.len(), parts.as_ptr(), parts.len(), counters.as_mut_ptr(), counters.len(),
@@ -258,7 +258,7 @@ pub fn nulls(plan: &[u64], parts: &[u32], counters: &mut [u64], room: &mut [u8],
 /// Describes the finished array. `base` is where the room begins in the body that the new tables are about.
 #[inline(always)]
 #[allow(clippy::too_many_arguments)]
-pub fn finish(plan: &[u64], parts: &[u32], x: &Tables, counters: &[u64], room: &[u8], base: u32, out: &mut FinishedTables) -> u8 {
+pub fn finish(plan: &[u64], parts: &[Position], x: &Tables, counters: &[u64], room: &[u8], base: Position, out: &mut FinishedTables) -> u8 {
     unsafe {
         lafkuno_finish(
             plan.as_ptr(), plan.len(), parts.as_ptr(), parts.len(), x.sources.as_ptr(), x.sources.len(),
@@ -272,7 +272,7 @@ pub fn finish(plan: &[u64], parts: &[u32], x: &Tables, counters: &[u64], room: &
 
 /// How many data buffers the finished array names.
 #[inline(always)]
-pub fn buffer_total(plan: &[u64], places: &[u32], sources: &[u32]) -> usize {
+pub fn buffer_total(plan: &[u64], places: &[Position], sources: &[u32]) -> usize {
     unsafe { lafkuno_buffer_total(plan.as_ptr(), plan.len(), sources.as_ptr(), sources.len(), places.as_ptr(), places.len()) as usize }
 }
 

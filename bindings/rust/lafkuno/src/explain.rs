@@ -160,7 +160,7 @@ impl<'a> Source<'a> {
     }
 
     pub(crate) fn place(&self, k: usize, j: usize) -> u64 {
-        self.x.places.get(9 * self.nodes[k].at + j).map_or(0, |p| *p as u64)
+        self.x.places.get(9 * self.nodes[k].at + j).copied().unwrap_or(0)
     }
 
     /// Buffer j: 0 is the validity.
@@ -170,9 +170,10 @@ impl<'a> Source<'a> {
     }
 
     pub(crate) fn data(&self, k: usize, b: u64) -> Option<&'a [u8]> {
-        let at = usize::try_from(2 * (self.place(k, 7) + b)).ok()?;
-        let place = self.x.buffers.get(at..at + 2)?;
-        self.x.body.get(place[0] as usize..(place[0] as usize).checked_add(place[1] as usize)?)
+        let at = usize::try_from(self.place(k, 7).checked_add(b)?).ok()?.checked_mul(2)?;
+        let place = self.x.buffers.get(at..)?.get(..2)?;
+        let [start, len] = [place[0], place[1]].map(|n| usize::try_from(n).ok());
+        self.x.body.get(start?..start?.checked_add(len?)?)
     }
 
     fn ceiling(&self) -> Found {

@@ -1,7 +1,8 @@
 //! A join over safe types. It never asks its user for room: orders are tried on the counters alone, and the room is lent when the
 //! sizes of all parts are known.
 
-use crate::calls::{self, FinishedTables, Read, RowAnswer, RunAnswer, COUNTERS, MOST_ORDERS, PLAN, TREE};
+use crate::buffer::zeros;
+use crate::calls::{self, FinishedTables, Position, Read, RowAnswer, RunAnswer, COUNTERS, MOST_BYTES, MOST_ORDERS, PLAN, TREE};
 use crate::lent::Raise;
 use crate::work::Work;
 use crate::{explain, Buffer, Column, Error, Ground, Lent, Row};
@@ -113,18 +114,17 @@ impl Join {
     }
 
     /// The parts for these counters, 2 numbers each, and the bytes of the room.
-    fn parts(&self, counters: &[u64; COUNTERS]) -> Result<(Vec<u32>, u64), Error> {
+    fn parts(&self, counters: &[u64; COUNTERS]) -> Result<(Vec<Position>, u64), Error> {
         let mut parts = vec![];
         let mut end = 0u64;
         for p in 0..calls::part_count(&self.plan) {
             let start = end.next_multiple_of(ALIGN);
             let size = calls::needed_bytes(&self.plan, counters, p as u32);
             end = start.saturating_add(size);
-            let all = end.saturating_add(self.lent.body.len() as u64);
-            if (u32::MAX as u64) < all {
-                return Err(Error::TooLarge { bytes: all });
+            if MOST_BYTES < end {
+                return Err(Error::TooLarge { bytes: end });
             }
-            parts.extend([start as u32, size as u32]);
+            parts.extend([start, size]);
         }
         Ok((parts, end))
     }
@@ -233,7 +233,7 @@ impl Join {
         let (parts, bytes) = self.parts(&self.counters)?;
         let x = self.lent.tables();
         let (mut plan, mut counters) = ([0; PLAN], [0; COUNTERS]);
-        let mut room = vec![0; bytes as usize];
+        let mut room = zeros(bytes).ok_or(Error::TooLarge { bytes })?;
         let Choices { keep_nulls, one_run_for_gaps } = self.choices;
         if calls::open(&x, keep_nulls, one_run_for_gaps, &parts, &mut plan, &mut counters, &mut room) != 0 {
             return inconsistent("the opening was refused after it was measured");
@@ -252,7 +252,7 @@ impl Join {
         let (mut places, mut buffers) = (vec![0; 9 * nodes], vec![0; 2 * named]);
         let base = x.body.len();
         let mut out = FinishedTables { lengths: &mut lengths, nulls: &mut nulls, places: &mut places, buffers: &mut buffers };
-        if calls::finish(&plan, &parts, &x, &counters, &room, base as u32, &mut out) != 0 {
+        if calls::finish(&plan, &parts, &x, &counters, &room, base as Position, &mut out) != 0 {
             return inconsistent("finishing was refused");
         }
         let (body, room) = (&self.lent.body, Buffer::from(room));

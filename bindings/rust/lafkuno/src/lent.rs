@@ -1,6 +1,6 @@
 //! Columns laid into one body and described by the tables of docs/FORMAT.md.
 
-use crate::calls::{Position, Tables, MOST_BYTES};
+use crate::calls::{Position, Tables};
 use crate::types::storage;
 use crate::{Buffer, Column, Error, Field};
 use std::collections::HashMap;
@@ -61,9 +61,6 @@ impl Layout {
             }
             (start, end) = (start.min(a), end.max(b));
         }
-        if MOST_BYTES < (end - start) as u64 {
-            return None;
-        }
         Some(Layout { body: first.slice(start - from, end - start)?, stretches: vec![(start, end, 0)], empty: HashMap::new() })
     }
 
@@ -93,10 +90,10 @@ impl Layout {
                 size = size.next_multiple_of(align) + 1;
             }
         }
-        if MOST_BYTES < size as u64 {
+        let mut body = Vec::new();
+        if body.try_reserve_exact(size).is_err() {
             return Err(Error::TooLarge { bytes: size as u64 });
         }
-        let mut body = Vec::with_capacity(size);
         for (a, b, at) in &layout.stretches {
             body.resize(*at, 0);
             // each byte of a stretch is one of a buffer's
@@ -237,7 +234,8 @@ impl Raise<'_> {
         column.validity = if p[0] == 0 { None } else { Some(buffer(1)?) };
         column.buffers = (0..count).map(|k| buffer(3 + 2 * k)).collect::<Option<_>>()?;
         if format.starts_with('v') {
-            let named = self.buffers.get(2 * p[7] as usize..2 * (p[7] as usize + p[8] as usize))?;
+            let named = [p[7], p[7].checked_add(p[8])?].map(|k| usize::try_from(k).ok()?.checked_mul(2));
+            let named = self.buffers.get(named[0]?..named[1]?)?;
             column.data = named.chunks_exact(2).map(|b| (self.take)(b[0] as usize, b[1] as usize)).collect::<Option<_>>()?;
         }
         column.format = format;

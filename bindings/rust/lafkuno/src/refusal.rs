@@ -111,7 +111,7 @@ impl Ground {
             Ground::TooManyEntries => "the joined dictionary has more entries than its keys can name: store keys wider, or share one dictionary",
             Ground::CeilingPassed => {
                 "no source, or a ceiling is passed: 16 sources, 32 nodes, depth 8, 16 union fields, 32 data buffers a view node, \
-                 4,294,967,295 bytes a body, 256 orders a list; or a length or offset is negative"
+                 2^63-1 bytes a body, 256 orders a list; or a length or offset is negative"
             }
             Ground::UnknownType => "a type that is not taken: a format, a wrong number of children, or a union's ids",
             Ground::TypesDiffer => "the sources are not of one type: a format or a nullable flag below the root differs",
@@ -191,7 +191,7 @@ pub enum Error {
         /// The limit.
         limit: u64,
     },
-    /// The body, or the body with the joined column, would have more bytes than positions of 32 bits reach.
+    /// The body or the joined column would have more bytes than the machine can lend.
     TooLarge {
         /// So many bytes.
         bytes: u64,
@@ -250,7 +250,7 @@ impl fmt::Display for Error {
             Error::TooMuchWork { node, bound, limit } => {
                 write!(f, "up to {bound} rows would be walked at node {node}, and the limit is {limit}: join fewer rows, or set a higher limit")
             }
-            Error::TooLarge { bytes } => write!(f, "{bytes} bytes are needed, and positions of 32 bits reach 4294967295: join fewer rows at a time"),
+            Error::TooLarge { bytes } => write!(f, "{bytes} bytes are needed, and the machine can't lend them: join fewer rows at a time"),
             Error::Column(why) | Error::File(why) => f.write_str(why),
             Error::Inconsistent(why) => write!(f, "a mistake of the library: {why}"),
         }

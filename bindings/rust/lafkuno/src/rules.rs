@@ -70,8 +70,9 @@ impl Source<'_> {
         }
         let (first, views) = if kind == Kind::Views { (self.place(k, 7), self.place(k, 8)) } else { (0, 0) };
         let named = self.x.buffers.len() as u64 / 2;
-        if named < first + views {
-            return Some(format!("data buffers {first}..{}, and {named} are named", first + views));
+        let last = first as u128 + views as u128;
+        if (named as u128) < last {
+            return Some(format!("data buffers {first}..{last}, and {named} are named"));
         }
         (0..views).find(|b| self.data(k, *b).is_none()).map(|b| format!("data buffer {b} is not in the body"))
     }

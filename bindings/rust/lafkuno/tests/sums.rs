@@ -157,10 +157,10 @@ fn edges() {
 fn a_run_of_two_to_the_62_rows() {
     use lafkuno::calls::{self, Tables};
     let rows = 1u64 << 62;
-    let tables = |ends: &[u64], values: &[i64]| -> (Vec<u64>, Vec<u32>, Vec<u8>) {
+    let tables = |ends: &[u64], values: &[i64]| -> (Vec<u64>, Vec<u64>, Vec<u8>) {
         let runs = ends.len() as u64;
         let body: Vec<u8> = ends.iter().flat_map(|e| e.to_le_bytes()).chain(values.iter().flat_map(|v| v.to_le_bytes())).collect();
-        let size = 8 * runs as u32;
+        let size = 8 * runs as u64;
         let mut places = vec![0; 27];
         places[9 + 3..9 + 5].copy_from_slice(&[0, size]);
         places[18 + 3..18 + 5].copy_from_slice(&[size, size]);

@@ -180,11 +180,23 @@ fn dense_nulls_at_their_edge() {
     let union = Column { buffers: vec![Buffer::default(), Buffer::default()], ..long("+ud:0", 1) };
     let mut join = Join::open(&[&union], true).unwrap();
     assert_eq!(ground(join.nulls((1 << 31) + 1)), 6);
-    // the positions fit, and their bytes pass what 32 bits reach
-    assert!(matches!(join.nulls(1 << 31), Err(Error::TooLarge { .. })));
-    assert!(matches!(Join::open(&[&strings(&["a"])], true).unwrap().nulls(u64::MAX), Err(Error::TooLarge { .. })));
-    join.nulls(3).unwrap();
-    assert_eq!(join.null_count(), 3);
+    // the positions fit, and so do their bytes, which pass four gigabytes
+    join.nulls(1 << 31).unwrap();
+    assert!(u32::MAX as u64 * 2 < join.room_bytes());
+    assert_eq!(join.null_count(), 1 << 31);
+}
+
+#[test]
+fn what_no_machine_lends() {
+    let strings = strings(&["a"]);
+    let mut join = Join::open(&[&strings], true).unwrap();
+    assert!(matches!(join.nulls(u64::MAX), Err(Error::TooLarge { .. })));
+    // the offsets would end at 2^63
+    assert!(matches!(join.nulls((1 << 61) - 1), Err(Error::TooLarge { bytes }) if i64::MAX as u64 <= bytes));
+    assert!(join.is_empty());
+    // a room of 2^61 bytes is none that is refused when it is ordered
+    join.nulls(1 << 59).unwrap();
+    assert!(matches!(join.finish(), Err(Error::TooLarge { bytes }) if 1 << 61 <= bytes));
 }
 
 #[test]

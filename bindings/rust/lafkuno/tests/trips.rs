@@ -22,7 +22,7 @@ fn nulls(n: u64) -> [u64; 4] {
 /// A join over lent memory, its state compared after every call.
 struct State {
     lent: Lent,
-    parts: Vec<u32>,
+    parts: Vec<calls::Position>,
     plan: Vec<u64>,
     counters: Vec<u64>,
     room: Vec<u8>,
@@ -30,12 +30,12 @@ struct State {
 
 impl State {
     /// With parts of so many bytes.
-    fn open(sources: &[&Column], size: u32) -> State {
+    fn open(sources: &[&Column], size: u64) -> State {
         let lent = Lent::lay(sources).unwrap();
         let (mut plan, mut counters) = (vec![0; PLAN], vec![0; COUNTERS]);
         assert_eq!(calls::plan_parts(&lent.tables(), true, false, &mut plan), 0);
-        let count = calls::part_count(&plan) as u32;
-        let parts: Vec<u32> = (0..count).flat_map(|p| [p * size, size]).collect();
+        let count = calls::part_count(&plan) as u64;
+        let parts: Vec<calls::Position> = (0..count).flat_map(|p| [p * size, size]).collect();
         let mut room = vec![238; (count * size) as usize];
         assert_eq!(calls::open(&lent.tables(), true, false, &parts, &mut plan, &mut counters, &mut room), 0);
         State { lent, parts, plan, counters, room }

@@ -4,7 +4,7 @@ use crate::convert::{difference, is_kept, ordered_null, Convert};
 use crate::generate::{orders, Generate, Order};
 use crate::guard::{Guard, Guarded};
 use crate::random::Random;
-use lafkuno::calls::{self, FinishedTables, COUNTERS, PLAN};
+use lafkuno::calls::{self, FinishedTables, Position, COUNTERS, PLAN};
 use lafkuno::{Column, Join, Lent, Reader, Row, Type};
 use original::{ArrayData, MutableArrayData};
 use std::collections::BTreeMap;
@@ -133,7 +133,7 @@ impl Trial<'_> {
     }
 
     /// Parts for these sizes, in any order in the room and with gaps; now and then one is too small.
-    fn lend(&self, random: &mut Random, full: &[usize]) -> (Vec<u32>, usize) {
+    fn lend(&self, random: &mut Random, full: &[usize]) -> (Vec<Position>, usize) {
         let mut order: Vec<usize> = (0..full.len()).collect();
         for k in (1..order.len()).rev() {
             order.swap(k, random.size(k + 1));
@@ -144,13 +144,13 @@ impl Trial<'_> {
         for p in order {
             end += random.size(4);
             let size = if p == short { random.size(full[p] + 1) } else { full[p] + random.size(3) };
-            parts[2 * p..2 * p + 2].copy_from_slice(&[end as u32, size as u32]);
+            parts[2 * p..2 * p + 2].copy_from_slice(&[end as Position, size as Position]);
             end += size;
         }
         (parts, end + random.size(3))
     }
 
-    fn orders_in_room(&mut self, random: &mut Random, lent: &Lent, arrays: &[ArrayData], parts: &[u32], room: usize) -> Result<(), String> {
+    fn orders_in_room(&mut self, random: &mut Random, lent: &Lent, arrays: &[ArrayData], parts: &[Position], room: usize) -> Result<(), String> {
         let x = lent.tables();
         let holds = |sizes: &[usize]| sizes.iter().zip(parts.chunks(2)).all(|(need, part)| *need <= part[1] as usize);
         let mut mutable = again(arrays, self.keep, &[]);
@@ -231,7 +231,7 @@ impl Trial<'_> {
         self.judge(random, &column, &nulls, &book)
     }
 
-    fn finish(&self, lent: &Lent, plan: &[u64], parts: &[u32], counters: &[u64], room: &[u8]) -> Result<(Column, Vec<u64>), String> {
+    fn finish(&self, lent: &Lent, plan: &[u64], parts: &[Position], counters: &[u64], room: &[u8]) -> Result<(Column, Vec<u64>), String> {
         let x = lent.tables();
         let nodes = x.sources[1] as usize;
         let named = calls::buffer_total(plan, x.places, x.sources);
@@ -240,7 +240,7 @@ impl Trial<'_> {
         let mut places = Guard::new(&vec![5; 9 * nodes]);
         let mut buffers = Guard::new(&vec![5; 2 * named]);
         let mut out = FinishedTables { lengths: lengths.get_mut(), nulls: nulls.get_mut(), places: places.get_mut(), buffers: buffers.get_mut() };
-        let base = x.body.len() as u32;
+        let base = x.body.len() as Position;
         same("ground of finishing", calls::finish(plan, parts, &x, counters, room, base, &mut out), 0)?;
         if !(lengths.whole() && nulls.whole() && places.whole() && buffers.whole()) {
             return Err("a canary round the finished tables was written".into());

@@ -6,7 +6,7 @@ use crate::generate::Generate;
 use crate::memory::{Call, Memory, Picture};
 use crate::random::Random;
 use lafkuno::calls::{self, Read, COUNTERS, PLAN, TREE};
-use lafkuno::{Error, Join, Lent, Reader};
+use lafkuno::{Error, Join, Lent, Reader, Type};
 use std::collections::BTreeMap;
 
 /// How often each call answered each number.
@@ -14,7 +14,7 @@ pub type Answers = BTreeMap<(&'static str, u8), u64>;
 
 impl Memory {
     /// One call, made twice from the same memory with other canaries.
-    fn check(&mut self, call: Call, answers: &mut Answers) -> Result<u8, String> {
+    pub(crate) fn check(&mut self, call: Call, answers: &mut Answers) -> Result<u8, String> {
         let (before, lent) = (self.picture(), self.read_only());
         self.guards().into_iter().for_each(|g| g.paint(0));
         let first = self.make(call);
@@ -113,10 +113,18 @@ fn accepted(lent: Lent, keep: bool) -> Result<(), String> {
     same("the joined rows", join.finish().map_err(tell)?.column.rows(), Some(book))
 }
 
-/// One damaged join by its seed.
-pub fn damaged(seed: u64, answers: &mut Answers) -> Result<(), String> {
-    let mut random = Random::new(seed);
-    let r = &mut random;
+/// A random join whose memory is lent, with room for some rows.
+pub(crate) struct Prepared {
+    pub ty: Type,
+    /// The rows of each source.
+    pub rows: Vec<u64>,
+    pub lent: Lent,
+    pub keep: bool,
+    pub gaps: bool,
+    pub memory: Memory,
+}
+
+pub(crate) fn prepare(r: &mut Random) -> Result<Prepared, String> {
     let mut generate = Generate::new(r);
     let ty = generate.ty();
     let mut sources = generate.sources(&ty);
@@ -125,23 +133,29 @@ pub fn damaged(seed: u64, answers: &mut Answers) -> Result<(), String> {
     let align = r.pick(&[1, 8]);
     let lent = Lent::lay_aligned(&sources.iter().collect::<Vec<_>>(), align).map_err(|e| e.to_string())?;
     let (keep, gaps) = (r.chance(50), r.chance(50));
-    let describe = |what: String| format!("seed {seed}, type {ty}: {what}");
-
-    // room for some rows
     let mut plan = [0; PLAN];
     let mut counters = [0; COUNTERS];
     calls::plan_parts(&lent.tables(), keep, gaps, &mut plan);
     calls::measure_open(&plan, &lent.tables(), &mut counters);
     let (mut parts, mut end) = (vec![], 0);
     for p in 0..calls::part_count(&plan) as u32 {
-        let size = calls::needed_bytes(&plan, &counters, p) as u32 + r.pick(&[0, 40, 400, 1000]);
+        let size = calls::needed_bytes(&plan, &counters, p) + r.pick(&[0, 40, 400, 1000]);
         parts.extend([end, size]);
         end += size;
     }
     let room = r.bytes(end as usize);
     let nodes = lent.sources[1] as usize;
     let named = calls::buffer_total(&plan, &lent.places, &lent.sources);
-    let mut memory = Memory::new(&lent, &parts, &room, nodes, named);
+    let memory = Memory::new(&lent, &parts, &room, nodes, named);
+    Ok(Prepared { ty, rows, lent, keep, gaps, memory })
+}
+
+/// One damaged join by its seed.
+pub fn damaged(seed: u64, answers: &mut Answers) -> Result<(), String> {
+    let mut random = Random::new(seed);
+    let r = &mut random;
+    let Prepared { ty, rows, lent, keep, gaps, mut memory } = prepare(r)?;
+    let describe = |what: String| format!("seed {seed}, type {ty}: {what}");
 
     // damage at the opening, or between the orders
     let early = r.chance(50);
@@ -149,10 +163,10 @@ pub fn damaged(seed: u64, answers: &mut Answers) -> Result<(), String> {
         memory.hurt(r, 85);
     }
     let (first, n) = (lent.sources[0], lent.sources[1]);
-    let base = lent.body.len() as u32;
+    let base = lent.body.len() as u64;
     let mut list = vec![Call::Ground(first, n), Call::OpenColumn(first, n), Call::Plan(keep, gaps), Call::MeasureOpen, Call::Open(keep, gaps)];
     for _ in 0..r.below(5) {
-        let source = r.below(sources.len() as u64 + 1) as u32;
+        let source = r.below(rows.len() as u64 + 1) as u32;
         let most = rows.get(source as usize).copied().unwrap_or(3);
         let a = r.below(most + 1);
         let b = a + r.below(most + 1 - a) + if r.chance(10) { r.number() } else { 0 } % (1 << r.below(40));

@@ -4,6 +4,7 @@ pub mod compare;
 pub mod convert;
 pub mod cut;
 pub mod damage;
+pub mod far;
 pub mod files;
 pub mod gaps;
 pub mod generate;

@@ -2,7 +2,7 @@
 
 use crate::guard::{Guard, Guarded};
 use crate::random::Random;
-use lafkuno::calls::{self, FinishedTables, Tables, COUNTERS, PLAN, TREE};
+use lafkuno::calls::{self, FinishedTables, Position, Tables, COUNTERS, PLAN, TREE};
 use lafkuno::Lent;
 
 /// All that a join is lent.
@@ -11,17 +11,17 @@ pub struct Memory {
     pub formats: Guard<u8>,
     pub schema: Guard<u32>,
     pub lengths: Guard<u64>,
-    pub places: Guard<u32>,
-    pub buffers: Guard<u32>,
+    pub places: Guard<Position>,
+    pub buffers: Guard<Position>,
     pub body: Guard<u8>,
-    pub parts: Guard<u32>,
+    pub parts: Guard<Position>,
     pub plan: Guard<u64>,
     pub counters: Guard<u64>,
     pub room: Guard<u8>,
     pub new_lengths: Guard<u64>,
     pub new_nulls: Guard<u64>,
-    pub new_places: Guard<u32>,
-    pub new_buffers: Guard<u32>,
+    pub new_places: Guard<Position>,
+    pub new_buffers: Guard<Position>,
     pub tree: Guard<u64>,
 }
 
@@ -33,8 +33,8 @@ pub struct Picture {
     pub room: Vec<u8>,
     pub new_lengths: Vec<u64>,
     pub new_nulls: Vec<u64>,
-    pub new_places: Vec<u32>,
-    pub new_buffers: Vec<u32>,
+    pub new_places: Vec<Position>,
+    pub new_buffers: Vec<Position>,
     pub tree: Vec<u64>,
 }
 
@@ -46,7 +46,7 @@ pub enum Call {
     Copy(u32, u64, u64),
     Nulls(u64),
     List([u64; 12]),
-    Finish(u32),
+    Finish(Position),
     MeasureOpen,
     MeasureCopy(u32, u64, u64),
     MeasureNulls(u64),
@@ -75,7 +75,7 @@ impl Call {
 }
 
 impl Memory {
-    pub fn new(lent: &Lent, parts: &[u32], room: &[u8], nodes: usize, named: usize) -> Memory {
+    pub fn new(lent: &Lent, parts: &[Position], room: &[u8], nodes: usize, named: usize) -> Memory {
         Memory {
             sources: Guard::new(&lent.sources),
             formats: Guard::new(&lent.formats),
@@ -147,9 +147,9 @@ impl Memory {
     }
 
     pub fn read_only(&self) -> (Vec<u8>, Vec<u32>, Vec<u64>) {
-        let words = [&self.sources, &self.schema, &self.places, &self.buffers, &self.parts];
-        let bytes = [self.formats.get(), self.body.get()].concat();
-        (bytes, words.iter().flat_map(|g| g.get().to_vec()).collect(), self.lengths.get().to_vec())
+        let words = [self.sources.get(), self.schema.get()].concat();
+        let longs = [self.lengths.get(), self.places.get(), self.buffers.get(), self.parts.get()].concat();
+        ([self.formats.get(), self.body.get()].concat(), words, longs)
     }
 
     pub fn guards(&mut self) -> [&mut dyn Guarded; 16] {
@@ -234,23 +234,23 @@ impl Memory {
             1 => hurt!(r, self.formats, u8),
             2 | 3 => hurt!(r, self.schema, u32),
             4 => hurt!(r, self.lengths, u64),
-            5 | 6 => hurt!(r, self.places, u32),
-            7 => hurt!(r, self.buffers, u32),
+            5 | 6 => hurt!(r, self.places, Position),
+            7 => hurt!(r, self.buffers, Position),
             _ => hurt!(r, self.body, u8),
         }
     }
 
     fn hurt_state(&mut self, r: &mut Random) {
         match r.below(6) {
-            0 => hurt!(r, self.parts, u32),
+            0 => hurt!(r, self.parts, Position),
             1 | 2 => hurt!(r, self.plan, u64),
             3 => hurt!(r, self.counters, u64),
             4 => hurt!(r, self.room, u8),
             _ => match r.below(5) {
                 0 => hurt!(r, self.new_lengths, u64),
                 1 => hurt!(r, self.new_nulls, u64),
-                2 => hurt!(r, self.new_places, u32),
-                3 => hurt!(r, self.new_buffers, u32),
+                2 => hurt!(r, self.new_places, Position),
+                3 => hurt!(r, self.new_buffers, Position),
                 _ => hurt!(r, self.tree, u64),
             },
         }

@@ -66,9 +66,9 @@ pub fn trips(seed: u64, seen: &mut Lists) -> Result<(), String> {
     let small = random.chance(33).then(|| random.size(count.max(1)));
     let (mut parts, mut end) = (vec![], 0);
     for p in 0..count {
-        let mut size = calls::needed_bytes(&plan, &counters, p as u32).min(1 << 16) as u32;
+        let mut size = calls::needed_bytes(&plan, &counters, p as u32).min(1 << 16);
         if small == Some(p) {
-            size = random.below(size as u64 + 1) as u32;
+            size = random.below(size + 1);
         }
         parts.extend([end, size]);
         end += size;

@@ -1,6 +1,6 @@
 //! include/lafkuno.h and src/calls declare the calls that crates/lafkuno has, and the header's grounds are the binding's.
 
-use lafkuno::calls::{COUNTERS, MOST_ORDERS, ORDER, PLAN, TREE};
+use lafkuno::calls::{Position, COUNTERS, MOST_ORDERS, ORDER, PLAN, TREE};
 use lafkuno::Ground;
 use std::collections::BTreeMap;
 
@@ -57,7 +57,7 @@ fn library() -> Calls {
         let (parameters, answer) = rest.split_once(')')?;
         let parameters = parameters.split(',').map(str::trim).filter(|p| !p.is_empty()).map(|p| {
             let (name, ty) = p.split_once(':').unwrap();
-            let ty = ty.trim();
+            let ty = ty.trim().replace("Position", "u64");
             let ty = match (ty.strip_prefix("*const "), ty.strip_prefix("*mut ")) {
                 (Some(t), _) => format!("const_{t}*"),
                 (_, Some(t)) => format!("{t}*"),
@@ -91,6 +91,7 @@ fn rattle() -> BTreeMap<String, (Vec<String>, String)> {
 
 #[test]
 fn the_same_calls() {
+    let _: u64 = Position::MAX;
     let (header, library) = (header(), library());
     assert_eq!(header.len(), 25);
     assert_eq!(header, library);

@@ -146,9 +146,9 @@ module _ (tree : Tree) (x : Tables) (w : ℕ) (of-width : RunWidth w) (u : Ty) (
   abbrev e : Ends
   e = endsOf x w
 
-  -- how many bytes the run ends reach over
-  pub ends-fit : w * (offsetOf x 1 + lengthOf x 1) ≤ length (x .body)
-  ends-fit =
+  -- how many bytes the run ends reach over, and where they end
+  pub ends-fit : 0 < w * (offsetOf x 1 + lengthOf x 1) → place x 1 3 + w * (offsetOf x 1 + lengthOf x 1) ≤ length (x .body)
+  ends-fit more =
       let rule = src .slots in
       let f = fits w of-width (x .body) (place x 1 3) (place x 1 4) ends refl (rule .hold) (rule .positive) (rule .rises) in
       omega (arith, f, mul-add w (offsetOf x 1) (lengthOf x 1), length-take (place x 1 4) (drop (place x 1 3) (x .body)), length-drop (place x 1 3) (x .body))

@@ -432,14 +432,11 @@ extend-dense-row-add-place t c = search needs
 extend-dense-row-place-requires : (t : ℕ) → extend-dense-row-lts.Need-place-requires (extend-dense-row-cs t) (extend-dense-row-at t) extend-dense-row.Post
 extend-dense-row-place-requires t c κs = search needs
 
-extend-dense-row-cast-at : (t : ℕ) → extend-dense-row-lts.Need-cast-at (extend-dense-row-cs t) (extend-dense-row-at t) extend-dense-row.Post
-extend-dense-row-cast-at t c = search needs
-
 extend-dense-row-add-at : (t : ℕ) → extend-dense-row-lts.Need-add-at (extend-dense-row-cs t) (extend-dense-row-at t) extend-dense-row.Post
 extend-dense-row-add-at t c = omega (arith, c .place .ensures, c .before .before .before .before .before .before .before .pre .1 .1)
 
 extend-dense-row-add-at-2 : (t : ℕ) → extend-dense-row-lts.Need-add-at-2 (extend-dense-row-cs t) (extend-dense-row-at t) extend-dense-row.Post
-extend-dense-row-add-at-2 t c = search needs
+extend-dense-row-add-at-2 t c = omega (arith, c .place .ensures, c .before .before .before .before .before .before .before .pre .1 .1, c .before .before .before .before .before .before .before .good)
 
 extend-dense-row-shared-slice-read-id : (t : ℕ) → extend-dense-row-lts.Need-shared-slice-read-id (extend-dense-row-cs t) (extend-dense-row-at t) extend-dense-row.Post
 extend-dense-row-shared-slice-read-id t c = omega (arith, c .before .place .ensures, c .before .before .before .before .before .before .before .before .pre .1 .1)
@@ -922,7 +919,6 @@ pub +extend+extend-data+extend-dense+extend-dense-row+extend-sparse+lists·exten
     extend-dense-row.Post
     (extend-dense-row-add-place t)
     (extend-dense-row-place-requires t)
-    (extend-dense-row-cast-at t)
     (extend-dense-row-add-at t)
     (extend-dense-row-add-at-2 t)
     (extend-dense-row-shared-slice-read-id t)

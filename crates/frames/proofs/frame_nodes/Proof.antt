@@ -14,14 +14,8 @@ use Rattle.frames.proofs.frame_nodes.Tie as tie
 place-requires : tie.Need-place-requires
 place-requires c κs = search needs
 
-cast-lat : tie.Need-cast-lat
-cast-lat c = search needs
-
 place-requires-2 : tie.Need-place-requires-2
 place-requires-2 c κs = search needs
-
-cast-lat-end : tie.Need-cast-lat-end
-cast-lat-end c = search needs
 
 add-lat-end : tie.Need-add-lat-end
 add-lat-end c = omega (arith, c .before .place .ensures, c .place2 .ensures, c .before .before .before .before .before .pre .1 .0 .values-in)
@@ -29,23 +23,17 @@ add-lat-end c = omega (arith, c .before .place .ensures, c .place2 .ensures, c .
 place-requires-3 : tie.Need-place-requires-3
 place-requires-3 c κs = search needs
 
-cast-lon : tie.Need-cast-lon
-cast-lon c = search needs
-
 place-requires-4 : tie.Need-place-requires-4
 place-requires-4 c κs = search needs
-
-cast-lon-end : tie.Need-cast-lon-end
-cast-lon-end c = search needs
 
 add-lon-end : tie.Need-add-lon-end
 add-lon-end c = omega (arith, c .before .place3 .ensures, c .place4 .ensures, c .before .before .before .before .before .before .before .pre .1 .1 .values-in)
 
 mask-of-requires : tie.Need-mask-of-requires
-mask-of-requires c κs = c .before .before .before .before .before .before .before .pre .0 .0
+mask-of-requires c κs = (c .before .before .before .before .before .before .before .pre .0 .0, omega (arith, c .before .before .before .before .before .before .before .pre .1 .0 .mask-in))
 
 mask-of-requires-2 : tie.Need-mask-of-requires-2
-mask-of-requires-2 c κs = c .before .before .before .before .before .before .before .before .pre .0 .1
+mask-of-requires-2 c κs = (c .before .before .before .before .before .before .before .before .pre .0 .1, omega (arith, c .before .before .before .before .before .before .before .before .pre .1 .1 .mask-in))
 
 sub-frame-rows : tie.Need-sub-frame-rows
 sub-frame-rows c = omega arith
@@ -115,14 +103,10 @@ frame-nodes-spec =
     tie.close
     (tie.spec
     place-requires
-    cast-lat
     place-requires-2
-    cast-lat-end
     add-lat-end
     place-requires-3
-    cast-lon
     place-requires-4
-    cast-lon-end
     add-lon-end
     mask-of-requires
     mask-of-requires-2

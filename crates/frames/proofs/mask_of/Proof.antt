@@ -1,4 +1,6 @@
 -- `frames::mask_of` meets its contract. Assumes nothing.
+use mathlib.Core.Path.{sym, subst}
+use Prim.Native.Nat.{_<_, _^_}
 use native.Mathlib.Omega.{arith}
 use mathlib.Core.List.{[]}
 use Rattle.array_data.specs.lent_tables.Lent.{tables}
@@ -16,17 +18,11 @@ returns c = mask-none (tables [] (c .before .before .before .args .places .now) 
 place-requires-2 : tie.Need-place-requires-2
 place-requires-2 c κs = search needs
 
-cast-at : tie.Need-cast-at
-cast-at c = search needs
-
 place-requires-3 : tie.Need-place-requires-3
 place-requires-3 c κs = search needs
 
-cast-size : tie.Need-cast-size
-cast-size c = search needs
-
 add-t7 : tie.Need-add-t7
-add-t7 c = search needs
+add-t7 c = record { fits = subst (λ z. z .end < 2 ^ 64) (sym (mask-given (tables [] (c .before .before .before .before .before .args .places .now) []) (c .before .before .before .before .before .args .k) (c .before .before .before .place .ensures) (c .before .before .if1 .left) (c .before .place2 .ensures) (c .place3 .ensures))) (c .before .before .before .before .before .pre .1) }
 
 returns-2 : tie.Need-returns-2
 returns-2 c = mask-given (tables [] (c .before .before .before .before .before .args .places .now) []) (c .before .before .before .before .before .args .k) (c .before .before .before .place .ensures) (c .before .before .if1 .left) (c .before .place2 .ensures) (c .place3 .ensures)
@@ -38,8 +34,6 @@ mask-of-spec =
     place-requires
     returns
     place-requires-2
-    cast-at
     place-requires-3
-    cast-size
     add-t7
     returns-2)

@@ -13,7 +13,7 @@ use Rattle.walk.specs.State.{codeOf, place}
 use Rattle.plan.specs.dictionaries.Sources.{firstOf}
 use Rattle.refinement.specs.orders.Order.{Lent, joinOf, sourceCount}
 use Rattle.plan.specs.Plan as plan
-use Rattle.refinement.specs.finishing.Finish.{buffersOf, buffersBefore, buffersFrom, buffersUpTo}
+use Rattle.refinement.specs.finishing.Finish.{dataCount, buffersOf, buffersBefore, buffersFrom, buffersUpTo}
 use Rattle.into_builder.specs.buffers.Names.{lent, countAt, countBefore, namesAt, namesBefore, Behind}
 use Rattle.into_builder.proofs.buffers.Written.{behind-none, behind-then, behind-all}
 
@@ -22,7 +22,7 @@ use Rattle.into_builder.proofs.buffers.Written.{behind-none, behind-the
 pub of-is : (x : Lent) (bs c r : List ℕ) (b i s : ℕ) → buffersOf x bs c r b i s ≡ plan.buffersUpTo (x .places) (x .sources) i s
 unfolding buffersOf plan.buffersUpTo
 of-is x bs c r b i zero = refl
-of-is x bs c r b i (suc s) = ap (λ k. k + getD (x .places) (9 * (firstOf (x .sources) s + i) + 8) 0) (of-is x bs c r b i s)
+of-is x bs c r b i (suc s) = ap (λ k. k + min (getD (x .places) (9 * (firstOf (x .sources) s + i) + 8) 0) 33) (of-is x bs c r b i s)
 
 module _ (x : Lent) (bs c r : List ℕ) (b : ℕ) where
   pub of-same : (i s : ℕ) → buffersOf x bs c r b i s ≡ buffersOf (lent (x .plan) [] (x .sources) [] (x .places) []) [] [] [] 0 i s
@@ -38,7 +38,7 @@ module _ (x : Lent) (bs c r : List ℕ) (b : ℕ) where
   unfolding buffersFrom
   from-same i zero = refl
   from-same i (suc s) =
-      ap (λ l. l ++ seg (λ q. getD bs q 0) (2 * place (joinOf x s) i 7) (2 * place (joinOf x s) i 8)) (from-same i s)
+      ap (λ l. l ++ seg (λ q. getD bs q 0) (2 * place (joinOf x s) i 7) (2 * min (place (joinOf x s) i 8) 33)) (from-same i s)
 
   pub names-same : (n : ℕ) → buffersUpTo x bs c r b n ≡ namesBefore (x .plan) (x .sources) (x .places) bs n
   unfolding buffersUpTo
@@ -85,13 +85,13 @@ module _ (state sources places : List ℕ) where
       go (no y) f = let e : i ≡ n = omega arith in rw e (omega arith)
 
   -- those of source s are among those of the first m
-  pub of-within : (i s m : ℕ) → s < m → buffersOf x [] [] [] 0 i s + place (joinOf x s) i 8 ≤ buffersOf x [] [] [] 0 i m
+  pub of-within : (i s m : ℕ) → s < m → buffersOf x [] [] [] 0 i s + dataCount x [] [] [] 0 i s ≤ buffersOf x [] [] [] 0 i m
   unfolding buffersOf
   of-within i s zero l = absurd (omega arith)
   of-within i s (suc m) l = go (decLt s m) (of-within i s m)
     where
-      go : Dec (s < m) → (s < m → buffersOf x [] [] [] 0 i s + place (joinOf x s) i 8 ≤ buffersOf x [] [] [] 0 i m)
-          → buffersOf x [] [] [] 0 i s + place (joinOf x s) i 8 ≤ buffersOf x [] [] [] 0 i m + place (joinOf x m) i 8
+      go : Dec (s < m) → (s < m → buffersOf x [] [] [] 0 i s + dataCount x [] [] [] 0 i s ≤ buffersOf x [] [] [] 0 i m)
+          → buffersOf x [] [] [] 0 i s + dataCount x [] [] [] 0 i s ≤ buffersOf x [] [] [] 0 i m + dataCount x [] [] [] 0 i m
       go (yes y) f = let h = f y in omega arith
       go (no y) f = let e : s ≡ m = omega arith in rw e (omega arith)
 
@@ -99,7 +99,7 @@ module _ (state sources places : List ℕ) where
   unfolding buffersOf
   of-none i = refl
 
-  pub of-more : (i s : ℕ) → buffersOf x [] [] [] 0 i (s + 1) ≡ buffersOf x [] [] [] 0 i s + place (joinOf x s) i 8
+  pub of-more : (i s : ℕ) → buffersOf x [] [] [] 0 i (s + 1) ≡ buffersOf x [] [] [] 0 i s + dataCount x [] [] [] 0 i s
   unfolding buffersOf
   of-more i s = rw (add-one s)
 
@@ -114,14 +114,14 @@ module _ (state sources places : List ℕ) where
     sources-none l at i = behind-none l at
 
     pub sources-more : (i s : ℕ) {l m n : List ℕ} {at k end from count : ℕ} → Sources l m at i s → end ≡ at + 2 * buffersOf x [] [] [] 0 i s
-        → k ≡ firstOf sources s + i → from ≡ getD places (9 * k + 7) 0 → count ≡ getD places (9 * k + 8) 0
+        → k ≡ firstOf sources s + i → from ≡ getD places (9 * k + 7) 0 → count ≡ min (getD places (9 * k + 8) 0) 33
         → Behind m n end (2 * count) (seg (λ q. getD bs q 0) (2 * from) (2 * count)) → Sources l n at i (s + 1)
     unfolding buffersOf buffersFrom
     sources-more i s {l} {m} {n} {at} {k} {end} {from} {count} b e f g h d =
         let p : from ≡ place (joinOf x s) i 7 = g ∙ ap (λ a. getD places (9 * a + 7) 0) f in
-        let q : count ≡ place (joinOf x s) i 8 = h ∙ ap (λ a. getD places (9 * a + 8) 0) f in
-        let t : 2 * buffersOf x [] [] [] 0 i s + 2 * place (joinOf x s) i 8 ≡ 2 * (buffersOf x [] [] [] 0 i s + place (joinOf x s) i 8) = omega arith in
-        let d2 : Behind m n (at + 2 * buffersOf x [] [] [] 0 i s) (2 * place (joinOf x s) i 8) (seg (λ a. getD bs a 0) (2 * place (joinOf x s) i 7) (2 * place (joinOf x s) i 8)) = rw (e, p, q) at d in
+        let q : count ≡ dataCount x [] [] [] 0 i s = h ∙ ap (λ a. min (getD places (9 * a + 8) 0) 33) f in
+        let t : 2 * buffersOf x [] [] [] 0 i s + 2 * dataCount x [] [] [] 0 i s ≡ 2 * (buffersOf x [] [] [] 0 i s + dataCount x [] [] [] 0 i s) = omega arith in
+        let d2 : Behind m n (at + 2 * buffersOf x [] [] [] 0 i s) (2 * dataCount x [] [] [] 0 i s) (seg (λ a. getD bs a 0) (2 * place (joinOf x s) i 7) (2 * dataCount x [] [] [] 0 i s)) = rw (e, p, q) at d in
         rw (add-one s, ← t) (behind-then b d2)
 
     pub sources-all : (i : ℕ) {l m : List ℕ} {at s t : ℕ} → s ≡ t → Sources l m at i s → Sources l m at i t

@@ -85,8 +85,7 @@ module _ (plan sources lengths places body : List ℕ) (i : ℕ) where
         let x = tables lengths places body in
         let p : ltb (offsetOf x (firstOf sources 0 + i) + lengthOf x (firstOf sources 0 + i)) far && maskOf x (firstOf sources 0 + i) true ≡ true = rw (← e, h) at q in
         let a : ltb (offsetOf x k + lengthOf x k) far && maskOf x k true ≡ true = rw (← f) at p in
-        let l : offsetOf x k + lengthOf x k < far = ltb-true _ _ (and-left (ltb (offsetOf x k + lengthOf x k) far) (maskOf x k true) a) in
-        record { counted = record { small = s; sum = l }; bits = and-right (ltb (offsetOf x k + lengthOf x k) far) (maskOf x k true) a }
+        record { small = s; bits = and-right (ltb (offsetOf x k + lengthOf x k) far) (maskOf x k true) a }
 
 -- ---- zero bits
 

@@ -11,7 +11,7 @@ use lib.Dec.{eqb}
 use borrow.Author.Tests.{lt-ltb, le-ltb, ne-eqb}
 use Rattle.formats.specs.Code.{isString, isListView, isView, widthOf}
 use Rattle.model.proofs.Bits.{getD-seg}
-use Rattle.walk.specs.State.{codeOf, rows, bytes}
+use Rattle.walk.specs.State.{codeOf, rows, bytes, top}
 use Rattle.walk.specs.Log.{startOf}
 use Rattle.plan.specs.dictionaries.Sources.{firstOf}
 use Rattle.parts.specs.Parts.{nodesOf, copied, hasPart, hasOffsets, entrySize, neededBy, needed, partsWithin, partsHold, Used}
@@ -65,7 +65,7 @@ module _ (plan parts counts : List ℕ) (m : ℕ) (w : partsWithin plan parts m 
       let b = bits-held plan counts parts h i u in
       omega arith
 
-  pub placed-in : (base : ℕ) → base + m ≤ 4294967295 → Placed plan parts counts base i
+  pub placed-in : (base : ℕ) → base + m ≤ top → Placed plan parts counts base i
   placed-in base g =
       record {
         start = λ b k p. let a = within-used plan parts m w i b (record { node = l; part = p }) in omega arith;

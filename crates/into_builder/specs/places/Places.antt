@@ -3,10 +3,11 @@ use mathlib.Core.Path.{_≡_}
 use mathlib.Core.Bool.{true}
 use mathlib.Core.List.{List}
 use Prim.Native.Nat.{ℕ, _+_, _≤_, _<_}
+use Rattle.walk.specs.State.{top}
 use Rattle.walk.specs.Log.{startOf}
 use Rattle.parts.specs.Parts.{hasPart, needed}
 
--- the parts of node i start at positions of 32 bits in the body, and the numbers of their bytes are such too
+-- the parts of node i start at positions of 64 bits in the body, and the numbers of their bytes are such too
 pub record Placed (plan parts counts : List ℕ) (base i : ℕ) : Type 0 where
-  pub start : (b : ℕ) → b < 3 → hasPart plan i b ≡ true → base + startOf plan parts i b ≤ 4294967295
-  pub size : (b : ℕ) → b < 3 → hasPart plan i b ≡ true → needed plan counts i b ≤ 4294967295
+  pub start : (b : ℕ) → b < 3 → hasPart plan i b ≡ true → base + startOf plan parts i b ≤ top
+  pub size : (b : ℕ) → b < 3 → hasPart plan i b ≡ true → needed plan counts i b ≤ top

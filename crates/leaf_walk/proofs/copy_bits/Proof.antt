@@ -1,5 +1,7 @@
 -- `leaf_walk::copy_bits` meets its contract. Assumes nothing.
 use native.Mathlib.Omega.{arith}
+use borrow.Author.Tests.{leb-true}
+use Rattle.array_data.proofs.lent_tables.Laws.{yes}
 use Rattle.leaf_walk.specs.Join.{join}
 use Rattle.leaf_walk.proofs.Laws.{bits-no, bits-tried, bits-yes}
 use borrow.Author.Needs.{needs}
@@ -12,25 +14,13 @@ add-place c = search needs
 place-requires : tie.Need-place-requires
 place-requires c κs = search needs
 
-cast-end : tie.Need-cast-end
-cast-end c = search needs
-
-mul-end : tie.Need-mul-end
-mul-end c = search needs
-
-add-end : tie.Need-add-end
-add-end c = search needs
-
-add-end-2 : tie.Need-add-end-2
-add-end-2 c = search needs
-
-bit-room-requires : tie.Need-bit-room-requires
-bit-room-requires c κs = search needs
+bits-fit-behind-requires : tie.Need-bits-fit-behind-requires
+bits-fit-behind-requires c κs = search needs
 
 returns : tie.Need-returns
 returns c =
     let a = c .before .before .before .before .before .before .before .before .args in
-    λ lengths source. bits-no (join (a .state .now) (a .parts .now) lengths (a .places .now) (a .body .now) (a .first) source) (a .i) (a .write) (a .counts .now) (a .room .now) (a .slot) (a .n) (c .before .before .place .ensures) (omega arith)
+    λ lengths source. bits-no (join (a .state .now) (a .parts .now) lengths (a .places .now) (a .body .now) (a .first) source) (a .i) (a .write) (a .counts .now) (a .room .now) (a .slot) (a .n) (c .before .before .place .ensures) (c .before .bits-fit-behind .ensures) (c .if1 .taken)
 
 is-uncounted-requires : tie.Need-is-uncounted-requires
 is-uncounted-requires c κs = search needs
@@ -38,16 +28,14 @@ is-uncounted-requires c κs = search needs
 returns-2 : tie.Need-returns-2
 returns-2 c =
     let a = c .before .before .before .before .before .before .before .before .before .before .before .args in
-    λ lengths source. bits-tried (join (a .state .now) (a .parts .now) lengths (a .places .now) (a .body .now) (a .first) source) (a .i) (a .write) (a .counts .now) (a .room .now) (a .slot) (a .n) (c .before .before .before .before .before .place .ensures) (omega arith) (c .before .is-uncounted .ensures) (c .if2 .taken)
+    λ lengths source. bits-tried (join (a .state .now) (a .parts .now) lengths (a .places .now) (a .body .now) (a .first) source) (a .i) (a .write) (a .counts .now) (a .room .now) (a .slot) (a .n) (c .before .before .before .before .before .place .ensures) (c .before .before .before .before .bits-fit-behind .ensures) (c .before .before .before .if1 .left) (c .before .is-uncounted .ensures) (c .if2 .taken)
 
 rows-of-requires : tie.Need-rows-of-requires
 rows-of-requires c κs = search needs
 
-cast-put-mask : tie.Need-cast-put-mask
-cast-put-mask c = search needs
-
 put-mask-requires : tie.Need-put-mask-requires
-put-mask-requires c κs = search needs
+put-mask-requires c κs =
+    (omega (arith, c .before .before .before .before .before .before .before .before .before .before .before .before .before .before .pre), leb-true _ _ (yes (c .before .before .before .before .before .before .before .bits-fit-behind .ensures) (c .before .before .before .before .before .before .if1 .left)))
 
 add-nulls-requires : tie.Need-add-nulls-requires
 add-nulls-requires c κs = search needs
@@ -58,7 +46,7 @@ same-length c = search needs
 returns-3 : tie.Need-returns-3
 returns-3 c =
     let a = c .before .before .before .before .before .before .before .before .before .before .before .before .before .before .before .before .before .before .before .args in
-    λ lengths source. bits-yes (join (a .state .now) (a .parts .now) lengths (a .places .now) (a .body .now) (a .first) source) (a .i) (a .write) (a .counts .now) (a .room .now) (a .slot) (a .n) (c .before .before .before .before .before .before .before .before .before .before .before .before .before .place .ensures) (omega arith) (c .before .before .before .before .before .before .rows-of .ensures) (c .before .before .before .before .put-mask .ensures .0) (c .before .before .before .before .put-mask .ensures .1) (c .add-nulls .ensures)
+    λ lengths source. bits-yes (join (a .state .now) (a .parts .now) lengths (a .places .now) (a .body .now) (a .first) source) (a .i) (a .write) (a .counts .now) (a .room .now) (a .slot) (a .n) (c .before .before .before .before .before .before .before .before .before .before .before .before .before .place .ensures) (c .before .before .before .before .before .before .before .before .before .before .before .before .bits-fit-behind .ensures) (c .before .before .before .before .before .before .before .before .before .before .before .if1 .left) (c .before .before .before .before .before .before .rows-of .ensures) (c .before .before .before .before .put-mask .ensures .0) (c .before .before .before .before .put-mask .ensures .1) (c .add-nulls .ensures)
 
 pub copy-bits-spec : {M : Type 1} → statement M
 copy-bits-spec =
@@ -66,16 +54,11 @@ copy-bits-spec =
     (tie.spec
     add-place
     place-requires
-    cast-end
-    mul-end
-    add-end
-    add-end-2
-    bit-room-requires
+    bits-fit-behind-requires
     returns
     is-uncounted-requires
     returns-2
     rows-of-requires
-    cast-put-mask
     put-mask-requires
     add-nulls-requires
     same-length

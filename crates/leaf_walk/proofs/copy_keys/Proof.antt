@@ -36,9 +36,6 @@ scale-requires c κs =
     let a = c .before .before .before .before .before .before .before .before .before .before .args in
     width-in (a .w) (c .before .before .before .before .before .before .before .before .before .before .pre .1 .0)
 
-cast-from : tie.Need-cast-from
-cast-from c = search needs
-
 mul-from : tie.Need-mul-from
 mul-from c =
     let a = c .before .before .before .before .before .before .before .before .before .before .before .args in
@@ -64,7 +61,7 @@ returns-2 : tie.Need-returns-2
 unfolding copyKeys
 returns-2 c =
     let a = c .before .before .before .before .before .before .before .before .before .before .before .before .before .before .before .before .args in
-    λ lengths. entries-yes (join (a .state .now) (a .parts .now) lengths (a .places .now) (a .body .now) (a .first) (a .source)) (a .i) (a .write) (a .counts .now) (a .room .now) (a .w) (a .slot) (a .n) (λ at base. rebased (a .w) (a .body .now) (at + a .w * a .slot) base (a .n)) (c .before .before .before .before .before .before .before .before .before .before .place .ensures) (c .before .before .before .before .base-of .ensures) (c .before .before .before .before .before .before .before .before .before .rows-in .ensures (a .state .now) (a .parts .now) lengths (a .places .now) (a .first) (a .source)) (c .before .before .before .before .before .before .before .before .if1 .left) (c .before .before .before .before .before .before .rows-of .ensures) (c .before .before .before .before .before .scale .ensures) (width-in (a .w) (c .before .before .before .before .before .before .before .before .before .before .before .before .before .before .before .before .pre .1 .0) .0) (c .before .before .put-keys .ensures)
+    λ lengths. entries-yes (join (a .state .now) (a .parts .now) lengths (a .places .now) (a .body .now) (a .first) (a .source)) (a .i) (a .write) (a .counts .now) (a .room .now) (a .w) (a .slot) (a .n) (λ at base. rebased (a .w) (a .body .now) (at + a .w * a .slot) base (a .n)) (c .before .before .before .before .before .before .before .before .before .before .place .ensures) (c .before .before .before .before .base-of .ensures) (c .before .before .before .before .before .before .before .before .before .rows-in .ensures (a .state .now) (a .parts .now) lengths (a .places .now) (a .first) (a .source)) (c .before .before .before .before .before .before .before .before .if1 .left) (c .before .before .before .before .before .before .rows-of .ensures) (c .before .before .before .before .before .scale .ensures) (omega (arith, c .before .before .before .before .before .before .before .before .before .before .before .before .before .before .before .before .good)) (c .before .before .put-keys .ensures)
 
 pub copy-keys-spec : {M : Type 1} → statement M
 copy-keys-spec =
@@ -76,7 +73,6 @@ copy-keys-spec =
     returns
     rows-of-requires
     scale-requires
-    cast-from
     mul-from
     add-from
     base-of-requires

@@ -31,9 +31,6 @@ rows-of-requires c κs = search needs
 scale-requires : tie.Need-scale-requires
 scale-requires c κs = search needs
 
-cast-from : tie.Need-cast-from
-cast-from c = search needs
-
 mul-from : tie.Need-mul-from
 mul-from c =
     let a = c .before .before .before .before .before .before .before .before .before .before .before .args in
@@ -61,7 +58,7 @@ returns-2 : tie.Need-returns-2
 unfolding copyNumbers
 returns-2 c =
     let a = c .before .before .before .before .before .before .before .before .before .before .before .before .before .before .before .args in
-    λ lengths source. entries-yes (join (a .state .now) (a .parts .now) lengths (a .places .now) (a .body .now) (a .first) source) (a .i) (a .write) (a .counts .now) (a .room .now) (a .w) (a .slot) (a .n) (λ at base. take (a .w * a .n) (drop (at + a .w * a .slot) (a .body .now))) (c .before .before .before .before .before .before .before .before .before .place .ensures) zero-same (c .before .before .before .before .before .before .before .before .rows-in .ensures (a .state .now) (a .parts .now) lengths (a .places .now) (a .first) source) (c .before .before .before .before .before .before .before .if1 .left) (c .before .before .before .before .before .rows-of .ensures) (c .before .before .before .before .scale .ensures) (c .before .before .before .before .before .before .before .before .before .before .before .before .before .before .before .pre .3) (c .before .before .put-copy .ensures)
+    λ lengths source. entries-yes (join (a .state .now) (a .parts .now) lengths (a .places .now) (a .body .now) (a .first) source) (a .i) (a .write) (a .counts .now) (a .room .now) (a .w) (a .slot) (a .n) (λ at base. take (a .w * a .n) (drop (at + a .w * a .slot) (a .body .now))) (c .before .before .before .before .before .before .before .before .before .place .ensures) zero-same (c .before .before .before .before .before .before .before .before .rows-in .ensures (a .state .now) (a .parts .now) lengths (a .places .now) (a .first) source) (c .before .before .before .before .before .before .before .if1 .left) (c .before .before .before .before .before .rows-of .ensures) (c .before .before .before .before .scale .ensures) (omega (arith, c .before .before .before .before .before .before .before .before .before .before .before .before .before .before .before .good)) (c .before .before .put-copy .ensures)
 
 pub copy-numbers-spec : {M : Type 1} → statement M
 copy-numbers-spec =
@@ -73,7 +70,6 @@ copy-numbers-spec =
     returns
     rows-of-requires
     scale-requires
-    cast-from
     mul-from
     add-from
     mul-put-copy

@@ -7,14 +7,14 @@ use native.Mathlib.Numerals.{add-one}
 use native.Mathlib.Omega.{arith}
 use lib.ListN.{length, take, drop}
 use lib.Dec.{ltb, leb, eqb}
-use borrow.Author.Tests.{le-leb, lt-leb, leb-true, leb-false, ltb-false, eq-eqb, ne-eqb, eqb-true, eqb-false}
+use borrow.Author.Tests.{leb-true, ltb-false, eq-eqb, ne-eqb, eqb-true, eqb-false}
 use Rattle.number.specs.Number.{entry}
 use Rattle.utils.specs.Offsets.{largest, moved, movedOffsets}
 use Rattle.utils.specs.Extension.{extended, overAt, pick}
 use Rattle.utils.specs.declared.Extended.{Extended}
 use Rattle.utils.specs.declared.Extended.the-variants.{Fits, Over, Falls}
 use Rattle.array_data.proofs.lent_tables.Laws.{no, yes}
-use Rattle.walk.specs.State.{Join, rows, bytes, setBytes, place, rowsIn, scaled, grown}
+use Rattle.walk.specs.State.{Join, rows, bytes, setBytes, place, rowsIn, scaled, grown, top}
 use Rattle.walk.specs.Log.{Did, put, applyIf, wrote}
 use Rattle.walk.specs.Leaves.{putString, putExtended, copyString}
 use Rattle.walk.proofs.Laws.{fail-did, done-did, wrote-did, need-no, need-ok, next-ok}
@@ -23,16 +23,6 @@ use Rattle.leaf_walk.proofs.Laws.{wrote-behind}
 -- ---- what the tests say
 
 module _ (m at lead n : ℕ) where
-  pub bytes-far : m < lead → false ≡ leb (at + lead + n) m
-  bytes-far h = sym (lt-leb (at + lead + n) m (omega arith))
-
-  pub bytes-near : lead ≤ m → leb (at + n) (m - lead) ≡ leb (at + lead + n) m
-  bytes-near h = go (leb (at + n) (m - lead)) refl
-    where
-      go : (t : Bool) → leb (at + n) (m - lead) ≡ t → leb (at + n) (m - lead) ≡ leb (at + lead + n) m
-      go true e = e ∙ sym (le-leb (at + lead + n) m (omega (arith, leb-true (at + n) (m - lead) e)))
-      go false e = e ∙ sym (lt-leb (at + lead + n) m (omega (arith, leb-false (at + n) (m - lead) e)))
-
   pub bytes-in : {r : Bool} → r ≡ leb (at + lead + n) m → not r ≡ false → at + lead + n ≤ m
   bytes-in e h = leb-true _ _ (yes e h)
 
@@ -58,9 +48,9 @@ largest-in w h = go (eqb w 4) refl
     go false e = rw (h (eqb-false w 4 e)) (omega arith)
 
 -- a write behind the first entry and r others
-pub wrote-next : (state parts : List ℕ) (wr : Bool) (i b r w : ℕ) (bs c room : List ℕ) {o p q : ℕ} {room2 : List ℕ} → p ≡ r → q ≡ grown p 1 → o ≡ scaled q w → 1 ≤ w
+pub wrote-next : (state parts : List ℕ) (wr : Bool) (i b r w : ℕ) (bs c room : List ℕ) {o p q : ℕ} {room2 : List ℕ} → p ≡ r → q ≡ grown p 1 → o ≡ scaled q w → 1 ≤ w → length room < top
     → room2 ≡ applyIf state parts wr (put i b o bs ∷ []) room → Did state parts wr (wrote (put i b (suc r * w) bs) c) room 0 c room2
-wrote-next state parts wr i b r w bs c room e f l h g = rw (← add-one r) (wrote-behind state parts wr i b r 1 w bs c room e f l h g)
+wrote-next state parts wr i b r w bs c room e f l h n g = rw (← add-one r) (wrote-behind state parts wr i b r 1 w bs c room e f l h n g)
 
 module _ (x : Join) (i : ℕ) (wr : Bool) (c room : List ℕ) where
   pub string-no : (w from n last lead : ℕ) {at old : ℕ} {t : Bool} → at ≡ place x i 5 → old ≡ bytes c i → t ≡ leb (at + lead + (last - old)) (length (x .body)) → not t ≡ true
@@ -69,14 +59,14 @@ module _ (x : Join) (i : ℕ) (wr : Bool) (c room : List ℕ) where
   string-no w from n last lead e f q h = need-no _ (rw (e, f) at (no q h))
 
   pub string-yes : (w from n last lead : ℕ) {at old p q o : ℕ} {t : Bool} {room1 room2 c2 : List ℕ} → at ≡ place x i 5 → old ≡ bytes c i
-      → t ≡ leb (at + lead + (last - old)) (length (x .body)) → not t ≡ false → p ≡ rows c i → q ≡ grown p 1 → o ≡ scaled q w → 1 ≤ w
+      → t ≡ leb (at + lead + (last - old)) (length (x .body)) → not t ≡ false → p ≡ rows c i → q ≡ grown p 1 → o ≡ scaled q w → 1 ≤ w → length room < top
       → room1 ≡ applyIf (x .state) (x .parts) wr (put i 1 o (movedOffsets w (x .body) from old n) ∷ []) room
       → room2 ≡ applyIf (x .state) (x .parts) wr (put i 2 old (take (last - old) (drop (at + lead) (x .body))) ∷ []) room1 → c2 ≡ setBytes i last c
       → Did (x .state) (x .parts) wr (putString x i w from n last lead c) room 0 c2 room2
   unfolding putString
-  string-yes w from n last lead {room1 = room1} {room2 = room2} e f t h p q o l g k s =
+  string-yes w from n last lead {room1 = room1} {room2 = room2} e f t h p q o l m g k s =
       need-ok 12 c (rw (e, f) at (yes t h))
-      (next-ok _ (wrote-next (x .state) (x .parts) wr i 1 (rows c i) w (movedOffsets w (x .body) from (bytes c i) n) c room p q o l (rw f at g)) refl
+      (next-ok _ (wrote-next (x .state) (x .parts) wr i 1 (rows c i) w (movedOffsets w (x .body) from (bytes c i) n) c room p q o l m (rw f at g)) refl
       (next-ok _ (wrote-did wr _ c room1 room2 (rw (e, f) at k)) refl
       (rw s (done-did wr _ room2))))
 

@@ -1,8 +1,7 @@
 -- `rows::ends_in` meets its contract. Assumes nothing.
 use native.Mathlib.Omega.{arith}
 use Rattle.leaf_walk.specs.Join.{join}
-use Rattle.leaf_walk.proofs.Laws.{rows-far}
-use Rattle.nested_rows.proofs.Laws.{ends-given}
+use Rattle.nested_rows.proofs.Laws.{ends-past, ends-given}
 use borrow.Author.Needs.{needs}
 use Rattle.nested_rows.proofs.ends_in.Statement.{statement}
 use Rattle.nested_rows.proofs.ends_in.Tie as tie
@@ -22,12 +21,12 @@ length-of-requires c κs = search needs
 returns : tie.Need-returns
 returns c =
     let a = c .before .before .before .before .before .before .args in
-    λ state parts source. rows-far (join state parts (a .lengths .now) (a .places .now) (a .body .now) (a .first) source) _ (a .w) _ _ (omega (arith, c .before .before .offset-of .ensures))
+    λ state parts source. ends-past (join state parts (a .lengths .now) (a .places .now) (a .body .now) (a .first) source) _ (a .w) _ _ (c .before .before .before .before .before .before .pre .2) (omega (arith, c .before .before .offset-of .ensures, c .before .before .before .before .before .before .good))
 
 returns-2 : tie.Need-returns-2
 returns-2 c =
     let a = c .before .before .before .before .before .before .before .args in
-    λ state parts source. rows-far (join state parts (a .lengths .now) (a .places .now) (a .body .now) (a .first) source) _ (a .w) _ _ (omega (arith, c .before .before .length-of .ensures))
+    λ state parts source. ends-past (join state parts (a .lengths .now) (a .places .now) (a .body .now) (a .first) source) _ (a .w) _ _ (c .before .before .before .before .before .before .before .pre .2) (omega (arith, c .before .before .length-of .ensures, c .before .before .before .before .before .before .before .good))
 
 add-place : tie.Need-add-place
 add-place c = search needs

@@ -60,7 +60,7 @@ returns-3 : tie.Need-returns-3
 returns-3 c =
     let a = c .before .before .before .before .before .before .before .before .before .before .before .before .before .before .args in
     longer-yes (a .state .now) (a .parts .now) (a .write) (a .i) (a .counts .now) (a .room .now) (a .n) (add-one (a .i)) (c .before .before .before .before .before .before .before .before .before .before .rows-of .ensures) (c .before .before .before .before .before .before .before .before .before .if1 .left) (c .before .before .before .before .before .before .before .before .width-at .ensures) (c .before .before .before .before .before .before .before .rows-of2 .ensures) (c .before .before .before .before .before .before .sum-fits .ensures) (c .before .before .before .before .before .if2 .left) (c .before .before .before .before .scale .ensures)
-    (omega (arith, wide-in (c .before .before .before .before .before .before .before .before .width-at .result) (rw (← add-one (c .before .before .before .before .before .before .before .before .before .before .before .before .before .before .args .i), ← c .before .before .before .before .before .before .before .before .width-at .ensures) at (c .before .before .before .before .before .before .before .before .before .before .before .before .before .before .pre .1)))) (c .before .before .put-number .ensures)
+    (omega (arith, c .before .before .before .before .before .before .before .before .before .before .before .before .before .before .good)) (c .before .before .put-number .ensures)
 
 pub longer-end-spec : {M : Type 1} → statement M
 longer-end-spec =

@@ -1,4 +1,5 @@
 -- `rows::null_positions` meets its contract. Assumes nothing.
+use native.Mathlib.Omega.{arith}
 use Rattle.nested_rows.proofs.Laws.{positions-no, positions-stop, positions-yes}
 use borrow.Author.Needs.{needs}
 use Rattle.nested_rows.proofs.null_positions.Statement.{statement}
@@ -41,7 +42,7 @@ same-length-2 c = search needs
 returns-3 : tie.Need-returns-3
 returns-3 c =
     let a = c .before .before .before .before .before .before .before .before .before .before .before .before .before .before .before .before .before .args in
-    positions-yes (a .state .now) (a .parts .now) (a .write) (a .i) (a .counts .now) (a .room .now) (a .h) (a .n) (c .before .before .before .before .before .before .before .before .before .before .before .before .before .rows-of .ensures) (c .before .before .before .before .before .before .before .before .before .before .before .before .grow .ensures) (c .before .before .before .before .before .before .before .before .before .before .before .if1 .left) (c .before .before .before .before .before .before .before .before .before .null-ids .ensures) (c .before .before .before .before .before .before .if2 .left) (c .before .before .before .before .before .rows-of2 .ensures) (c .before .before .before .before .scale .ensures) (c .before .before .put-counted .ensures)
+    positions-yes (a .state .now) (a .parts .now) (a .write) (a .i) (a .counts .now) (a .room .now) (a .h) (a .n) (c .before .before .before .before .before .before .before .before .before .before .before .before .before .rows-of .ensures) (c .before .before .before .before .before .before .before .before .before .before .before .before .grow .ensures) (c .before .before .before .before .before .before .before .before .before .before .before .if1 .left) (c .before .before .before .before .before .before .before .before .before .null-ids .ensures) (c .before .before .before .before .before .before .if2 .left) (c .before .before .before .before .before .rows-of2 .ensures) (c .before .before .before .before .scale .ensures) (omega (arith, c .before .before .before .before .before .before .before .before .before .before .before .before .before .before .before .before .before .good, c .before .before .before .before .before .before .before .before .room)) (c .before .before .put-counted .ensures)
 
 pub null-positions-spec : {M : Type 1} → statement M
 null-positions-spec = tie.close (tie.spec rows-of-requires grow-requires returns null-ids-requires same-length returns-2 rows-of-requires-2 scale-requires put-counted-requires same-length-2 returns-3)

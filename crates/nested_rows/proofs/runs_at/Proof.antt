@@ -16,9 +16,6 @@ add-place-2 c = search needs
 place-requires : tie.Need-place-requires
 place-requires c κs = search needs
 
-cast-at : tie.Need-cast-at
-cast-at c = search needs
-
 add-offset-of : tie.Need-add-offset-of
 add-offset-of c = search needs
 
@@ -47,8 +44,8 @@ add-length-of-2 c = search needs
 length-of-requires : tie.Need-length-of-requires
 length-of-requires c κs = search needs
 
-add-t15 : tie.Need-add-t15
-add-t15 c = search needs
+add-stop : tie.Need-add-stop
+add-stop c = search needs
 
 runs-of-requires : tie.Need-runs-of-requires
 runs-of-requires c κs =
@@ -61,4 +58,4 @@ returns c =
     λ state parts source child. runs-given (join state parts (a .lengths .now) (a .places .now) (a .body .now) (a .first) source) child (a .w) (a .i) (a .start .0) (a .n) (omega arith) (c .before .before .before .before .place .ensures) (c .before .before .before .offset-of .ensures) (c .before .before .length-of .ensures) (c .runs-of .ensures)
 
 pub runs-at-spec : {M : Type 1} → statement M
-runs-at-spec = tie.close (tie.spec add-place add-place-2 place-requires cast-at add-offset-of add-offset-of-2 offset-of-requires mul-from add-from add-length-of add-length-of-2 length-of-requires add-t15 runs-of-requires returns)
+runs-at-spec = tie.close (tie.spec add-place add-place-2 place-requires add-offset-of add-offset-of-2 offset-of-requires mul-from add-from add-length-of add-length-of-2 length-of-requires add-stop runs-of-requires returns)

@@ -1,45 +1,38 @@
 -- `parts::in_room` meets its contract. Assumes nothing.
+use mathlib.Core.Path.{_∙_}
 use borrow.Author.Needs.{needs}
 use Rattle.parts.proofs.in_room.Statement.{statement}
 use Rattle.parts.proofs.in_room.Tie as tie
 
-mul-at-u32 : tie.Need-mul-at-u32
-mul-at-u32 c = search needs
+mul-at-u64 : tie.Need-mul-at-u64
+mul-at-u64 c = search needs
 
-at-u32-requires : tie.Need-at-u32-requires
-at-u32-requires c κs = search needs
+at-u64-requires : tie.Need-at-u64-requires
+at-u64-requires c κs = search needs
 
-cast-start : tie.Need-cast-start
-cast-start c = search needs
+mul-at-u64-2 : tie.Need-mul-at-u64-2
+mul-at-u64-2 c = search needs
 
-mul-at-u32-2 : tie.Need-mul-at-u32-2
-mul-at-u32-2 c = search needs
+add-at-u64 : tie.Need-add-at-u64
+add-at-u64 c = search needs
 
-add-at-u32 : tie.Need-add-at-u32
-add-at-u32 c = search needs
+at-u64-requires-2 : tie.Need-at-u64-requires-2
+at-u64-requires-2 c κs = search needs
 
-at-u32-requires-2 : tie.Need-at-u32-requires-2
-at-u32-requires-2 c κs = search needs
-
-cast-size : tie.Need-cast-size
-cast-size c = search needs
-
-add-result : tie.Need-add-result
-add-result c = search needs
+fits-requires : tie.Need-fits-requires
+fits-requires c κs = search needs
 
 returns : tie.Need-returns
-returns c = rw (c .before .at-u32 .ensures, c .at-u322 .ensures)
+returns c = c .fits2 .ensures ∙ rw (c .before .before .at-u64 .ensures, c .before .at-u642 .ensures)
 
 pub in-room-spec : {M : Type 1} → statement M
 in-room-spec =
     tie.close
     (tie.spec
-    mul-at-u32
-    at-u32-requires
-    cast-start
-    mul-at-u32-2
-    add-at-u32
-    at-u32-requires-2
-    cast-size
-    add-result
+    mul-at-u64
+    at-u64-requires
+    mul-at-u64-2
+    add-at-u64
+    at-u64-requires-2
+    fits-requires
     returns)

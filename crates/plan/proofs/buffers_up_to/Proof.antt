@@ -8,7 +8,7 @@ use Rattle.plan.proofs.buffers_up_to.Statement.{statement}
 use Rattle.plan.proofs.buffers_up_to.Tie as tie
 
 abbrev Inv-loop : tie.InvT-loop
-Inv-loop sources places i s sum₀ t₀ sum t = (t ≤ s) × (sum ≤ 4294967295 * t) × (sum ≡ buffersUpTo places sources i t)
+Inv-loop sources places i s sum₀ t₀ sum t = (t ≤ s) × (sum ≤ 33 * t) × (sum ≡ buffersUpTo places sources i t)
 
 abbrev μ-loop : tie.MeasureT-loop
 μ-loop sources places i s sum₀ t₀ sum t = s - t
@@ -21,11 +21,8 @@ loop-holds c =
 node-of-requires : tie.Need-node-of-requires Inv-loop μ-loop
 node-of-requires c κs = omega arith
 
-place-requires : tie.Need-place-requires Inv-loop μ-loop
-place-requires c κs = omega arith
-
-cast-sum : tie.Need-cast-sum Inv-loop μ-loop
-cast-sum c = omega arith
+buffers-of-requires : tie.Need-buffers-of-requires Inv-loop μ-loop
+buffers-of-requires c κs = omega arith
 
 add-sum : tie.Need-add-sum Inv-loop μ-loop
 add-sum c = omega arith
@@ -40,7 +37,7 @@ loop-again : tie.Need-loop-again Inv-loop μ-loop
 loop-again c =
     let z = c .before .before .before .before .before .before .args in
     let l = c .before .before .before .loop in
-    (omega arith, omega arith, up-to-more (z .places .now) (z .sources .now) (z .i) (l .t) (l .inv .2) (c .before .node-of .ensures .0) (c .place .ensures))
+    (omega arith, omega arith, up-to-more (z .places .now) (z .sources .now) (z .i) (l .t) (l .inv .2) (c .before .node-of .ensures .0) (c .buffers-of .ensures .0))
 
 returns : tie.Need-returns Inv-loop μ-loop
 returns c =
@@ -56,8 +53,7 @@ buffers-up-to-spec =
     μ-loop
     loop-holds
     node-of-requires
-    place-requires
-    cast-sum
+    buffers-of-requires
     add-sum
     add-t
     loop-less

@@ -7,7 +7,7 @@ use native.Mathlib.Nat.{add-zero, zero-div}
 use native.Mathlib.Omega.{arith}
 use lib.ListN.{length, drop, getD, length-take, length-drop, List·getD-eq-default}
 use lib.Seq.{drop-cons, getD-take, getD-drop}
-use lib.Dec.{leb, ltb, eqb}
+use lib.Dec.{leb, ltb, eqb, eqb·zero-suc, eqb·suc-zero, eqb·suc-suc}
 use borrow.Author.Tests.{le-leb, lt-leb, leb-true, leb-false, eq-eqb, ne-eqb, eqb-true, eqb-false, lt-ltb}
 use Rattle.columnar.specs.Array.{Array, bit, nullsIn, nullCount}
 use Rattle.columnar.specs.Dictionary.{Dictionary}
@@ -106,15 +106,6 @@ module _ (x : Tables) (k : ℕ) where
   count-some z m e f o l =
       rw (z, e, f, o, l) (zeros-nulls (x .body) (place x k 1) (place x k 2) (offsetOf x k) (lengthOf x k) (slots z m))
 
--- ---- a sum that may be too large for 64 bits
-
-pub sum-is : (a b top : ℕ) → a ≤ top → leb b (top - a) ≡ leb (a + b) top
-sum-is a b top h = go (leb b (top - a)) refl
-  where
-    go : (t : Bool) → leb b (top - a) ≡ t → leb b (top - a) ≡ leb (a + b) top
-    go true z = z ∙ sym (le-leb (a + b) top (omega (arith, leb-true b (top - a) z)))
-    go false z = z ∙ sym (lt-leb (a + b) top (omega (arith, leb-false b (top - a) z)))
-
 -- ---- whether there is a null at all: a bit that the body does not have is a zero
 
 past-bit : (s : List ℕ) (i : ℕ) → 8 * length s ≤ i → bit s i ≡ false
@@ -148,11 +139,11 @@ module _ (x : Tables) (k : ℕ) where
         let q = past-null v (offsetOf x k) (lengthOf x k) (omega (arith, p)) (omega (arith, leb-false (off + n) (8 * bytes) (no e h))) in
         rw z (sym (ne-eqb (nullsIn (bit v) (offsetOf x k) (lengthOf x k)) 0 (omega (arith, q))))
 
-    pub countable-by : k < 2 ^ 33 → bytes < 2 ^ 32 → not r ≡ false → Countable x k
-    countable-by s f h =
+    pub countable-by : k < 2 ^ 33 → not r ≡ false → Countable x k
+    countable-by s h =
         let q = leb-true (off + n) (8 * bytes) (yes e h) in
         record {
-          counted = record { small = s; sum = omega (arith, q) };
+          small = s;
           bits = rw z (le-leb (offsetOf x k + lengthOf x k) (8 * length (part (x .body) (place x k 1) (place x k 2))) (omega (arith, q)));
         }
 
@@ -166,15 +157,31 @@ tests true true false false = refl
 tests true false g string = refl
 tests false f g string = refl
 
+-- a validity without a zero begins nowhere
+module _ (x : Tables) (a b : ℕ) where
+  pub begin-none : {r : Bool} → eqb (nullCount (arrayOf x a)) 0 ≡ true → r ≡ eqb (nullCount (arrayOf x b)) 0 → r ≡ eqb (validStart x a) (validStart x b)
+  begin-none {r} h e = rw h (e ∙ go (eqb (nullCount (arrayOf x b)) 0))
+    where
+      go : (z : Bool) → z ≡ eqb 0 (cond z 0 (suc (place x b 1)))
+      go true = refl
+      go false = sym (eqb·zero-suc (place x b 1))
+
+  module _ (h : eqb (nullCount (arrayOf x a)) 0 ≡ false) where
+    pub begin-one : eqb (nullCount (arrayOf x b)) 0 ≡ true → false ≡ eqb (validStart x a) (validStart x b)
+    begin-one e = rw (h, e) (sym (eqb·suc-zero (place x a 1)))
+
+    pub begin-both : {p q : ℕ} → eqb (nullCount (arrayOf x b)) 0 ≡ false → p ≡ place x a 1 → q ≡ place x b 1 → eqb p q ≡ eqb (validStart x a) (validStart x b)
+    begin-both e f g = rw (h, e, f, g) (sym (eqb·suc-suc (place x a 1) (place x b 1)))
+
 module _ (x : Tables) where
   same-starts : (string : Bool) (a b : ℕ) → eqb (validStart x a) (validStart x b) && eqb (place x a 3) (place x b 3) && (eqb (place x a 5) (place x b 5) || not string)
       ≡ sameList (startsOf x string a) (startsOf x string b)
   same-starts true a b = tests (eqb (validStart x a) (validStart x b)) (eqb (place x a 3) (place x b 3)) (eqb (place x a 5) (place x b 5)) true
   same-starts false a b = tests (eqb (validStart x a) (validStart x b)) (eqb (place x a 3) (place x b 3)) (eqb (place x a 5) (place x b 5)) false
 
-  pub starts-are : (string : Bool) (a b : ℕ) {u v p q o r : ℕ} → u ≡ validStart x a → v ≡ validStart x b → p ≡ place x a 3 → q ≡ place x b 3 → o ≡ place x a 5 → r ≡ place x b 5
-      → eqb u v && eqb p q && (eqb o r || not string) ≡ sameList (startsOf x string a) (startsOf x string b)
-  starts-are string a b e f g h k l = rw (e, f, g, h, k, l) (same-starts string a b)
+  pub starts-are : (string : Bool) (a b : ℕ) {v : Bool} {p q o r : ℕ} → v ≡ eqb (validStart x a) (validStart x b) → p ≡ place x a 3 → q ≡ place x b 3
+      → o ≡ place x a 5 → r ≡ place x b 5 → v && eqb p q && (eqb o r || not string) ≡ sameList (startsOf x string a) (startsOf x string b)
+  starts-are string a b e g h k l = rw (e, g, h, k, l) (same-starts string a b)
 
   pub ptr-is : (string : Bool) (a b : ℕ) {o p l q : ℕ} {t : Bool} → o ≡ offsetOf x a → p ≡ offsetOf x b → l ≡ lengthOf x a → q ≡ lengthOf x b
       → t ≡ sameList (startsOf x string a) (startsOf x string b) → eqb o p && eqb l q && t ≡ ptrEq (dictWith x string a) (dictWith x string b)

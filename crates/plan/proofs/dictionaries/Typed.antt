@@ -87,11 +87,11 @@ mask-true true v n h = h
 mask-true false none n h = h
 mask-true false (some b) n h = absurd (false≢true h)
 
-pub countable-at : (x : Tables) (f i : ℕ) (may : Bool) → f + i < 2 ^ 33 → offsetOf (tablesFrom x f) i + lengthOf (tablesFrom x f) i < 2 ^ 63
-    → maskOf (tablesFrom x f) i may ≡ true → Countable (tables (x .lengths) (x .places) (x .body)) (f + i)
-countable-at x f i may h l e =
+pub countable-at : (x : Tables) (f i : ℕ) (may : Bool) → f + i < 2 ^ 33 → maskOf (tablesFrom x f) i may ≡ true
+    → Countable (tables (x .lengths) (x .places) (x .body)) (f + i)
+countable-at x f i may h e =
     let m : maskOf (tablesFrom x f) i true ≡ true = mask-true may (validOf (tablesFrom x f) i) (offsetOf (tablesFrom x f) i + lengthOf (tablesFrom x f) i) e in
     record {
-      counted = record { small = h; sum = rw (length-from x f i, offset-from x f i) at l };
+      small = h;
       bits = rw (length-from x f i, offset-from x f i, place-from x f i 0, place-from x f i 1, place-from x f i 2) at m;
     }

@@ -2,7 +2,7 @@
 use mathlib.Core.Path.{_≡_}
 use mathlib.Core.Bool.{Bool, true, false, cond, _&&_}
 use mathlib.Core.List.{List, [], _∷_}
-use Prim.Native.Nat.{ℕ, _+_, _*_, _-_, _^_, min}
+use Prim.Native.Nat.{ℕ, _+_, _*_, _-_, _^_, min, _<_}
 use lib.ListN.{getD}
 use lib.Dec.{ltb}
 use Rattle.columnar.specs.Types.{Number, limit, Plain, fixed, string}
@@ -10,7 +10,7 @@ use Rattle.columnar.specs.Array.{Array}
 use Rattle.columnar.specs.Dictionary.{Dictionary}
 use Rattle.array_data.specs.Tables.{Tables, place, arrayWith}
 use Rattle.array_data.specs.Typed.{tablesFrom, validStart}
-use Rattle.array_data.specs.lent_tables.Lent.{Counted, maskOf}
+use Rattle.array_data.specs.lent_tables.Lent.{maskOf}
 
 -- the first node of source s
 abbrev pub firstOf : List ℕ → ℕ → ℕ
@@ -41,9 +41,9 @@ dictWith x strings k = record { keys = []; values = arrayOf x k; starts = starts
 abbrev pub dictAt : Tables → List ℕ → Bool → ℕ → ℕ → Dictionary (Unit {0})
 dictAt x sources strings i s = dictWith (tablesFrom x (firstOf sources s)) strings i
 
--- the nulls of node k can be counted: ground 9 let its length and offset through, and its validity has a bit for each slot
+-- the nulls of node k can be counted: it is a node number, and its validity has a bit for each slot
 pub record Countable (x : Tables) (k : ℕ) : Type 0 where
-  pub counted : Counted x k
+  pub small : k < 2 ^ 33
   pub bits : maskOf x k true ≡ true
 
 -- a number, or the largest of 64 bits where it is above that

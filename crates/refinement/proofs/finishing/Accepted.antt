@@ -4,6 +4,7 @@ use mathlib.Core.Path.{_≡_, refl, _∙_}
 use mathlib.Core.Bool.{Bool, true, false}
 use mathlib.Core.List.{List}
 use Prim.Native.Nat.{ℕ, suc, _+_, _*_, _≤_, _<_}
+use native.Mathlib.Omega.{arith}
 use lib.ListN.{length}
 use borrow.Author.Tests.{le-leb, eq-eqb}
 use Rattle.columnar.specs.Types.{Plain, Ty}
@@ -18,16 +19,16 @@ use Rattle.model.specs.Transform.{Destination}
 use Rattle.walk.specs.State.{dictionaryOf}
 use Rattle.refinement.specs.walk_is_model.Memory.{Memory}
 use Rattle.parts.specs.Parts.{nodesOf, copied, hasPart, partHolds, partsHold}
+use Rattle.columns.specs.Grounds.{ceiling}
 use Rattle.refinement.specs.orders.Order.{Lent}
 use Rattle.refinement.proofs.orders.Buffers.{copied-free}
 use Rattle.refinement.proofs.orders.Enough.{every-all, only-if}
 use Rattle.refinement.proofs.opening.Zeros.{values-copied}
-use Rattle.refinement.specs.finishing.Finish.{keptIn, nullTable, lengthTable, placeTable, bufferTable, buffersBefore, roomFits, finishing}
+use Rattle.refinement.specs.finishing.Finish.{keptIn, nullTable, lengthTable, placeTable, bufferTable, buffersBefore, tablesFit, roomFits, sizesFit, finishing}
 use Rattle.refinement.proofs.finishing.Given.{Valued, Given}
 use Rattle.refinement.proofs.finishing.KeptValues.{kept-in}
 use Rattle.refinement.proofs.finishing.Finished.{kept-not}
 use Rattle.refinement.proofs.finishing.Nodes.{every-node}
-use Rattle.refinement.proofs.finishing.Few.{tables-fit}
 
 module _ (x : Lent) (buffers : List ℕ) (tree : Tree) (root : Ty) (m : ℕ) (columns : ℕ → Column root) (dest : Destination root) (counts room : List ℕ) (μ : Memory)
     (given : Given x buffers tree root m columns dest counts room μ) (base : ℕ) where
@@ -66,8 +67,19 @@ module _ (x : Lent) (buffers : List ℕ) (tree : Tree) (root : Ty) (m : ℕ) (co
       (λ w i l o code mn. copied-in i (copied-free (x .plan) i o))
       (λ p i ds l dict mn o h. values-in p i ds l dict o h))
 
-  -- FINISHING IS NEVER REFUSED, where the body has at most 2^32 - 1 bytes and the tables are of the finished array's lengths
-  pub never-refused : (lengths nulls places names : List ℕ) → base + length room ≤ 4294967295 → length lengths ≡ 2 * nodesOf (x .plan)
+  -- ---- the lent tables, and sizes
+
+  tables-fit : (lengths nulls places names : List ℕ) → length lengths ≡ 2 * nodesOf (x .plan) → length nulls ≡ nodesOf (x .plan) → length places ≡ 9 * nodesOf (x .plan)
+      → length names ≡ 2 * buffersBefore x buffers counts room base (nodesOf (x .plan)) → tablesFit x buffers counts room base lengths nulls places names ≡ true
+  unfolding tablesFit
+  tables-fit lengths nulls places names a b c d = rw (eq-eqb _ _ a, eq-eqb _ _ b, eq-eqb _ _ c, eq-eqb _ _ d)
+
+  sizes-fit : (lengths nulls places names : List ℕ) → base ≤ ceiling → sizesFit x buffers counts room base lengths nulls places names ≡ true
+  unfolding sizesFit
+  sizes-fit lengths nulls places names l = rw (le-leb base ceiling l, le-leb (length room) ceiling (omega (arith, given .placed .small)))
+
+  -- FINISHING IS NEVER REFUSED, where the room begins within a body's ceiling and the tables are of the finished array's lengths
+  pub never-refused : (lengths nulls places names : List ℕ) → base ≤ ceiling → length lengths ≡ 2 * nodesOf (x .plan)
       → length nulls ≡ nodesOf (x .plan) → length places ≡ 9 * nodesOf (x .plan) → length names ≡ 2 * buffersBefore x buffers counts room base (nodesOf (x .plan))
       → finishing x buffers counts room base lengths nulls places names
       ≡ record {
@@ -79,4 +91,4 @@ module _ (x : Lent) (buffers : List ℕ) (tree : Tree) (root : Ty) (m : ℕ) (co
       }
   unfolding finishing
   never-refused lengths nulls places names l a b c d =
-      rw (le-leb _ _ l, all-kept, room-fits lengths nulls places names, tables-fit x buffers tree root m columns dest counts room μ given base lengths nulls places names a b c d)
+      rw (sizes-fit lengths nulls places names l, all-kept, room-fits lengths nulls places names, tables-fit lengths nulls places names a b c d)

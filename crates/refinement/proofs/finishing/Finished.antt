@@ -43,7 +43,7 @@ use Rattle.refinement.proofs.opening.Fitting.{sound-fine}
 use Rattle.refinement.specs.finishing.Finish.{nullTable, sources}
 use Rattle.refinement.specs.finishing.Shows.{ShowsNode, ShowsPlain, ShowsData, Shows, CountsNode, CountsData, Counts, finishedTables, Bodied}
 use Rattle.refinement.proofs.finishing.Copied.{first-is, second-is, node-shows, node-counts}
-use Rattle.refinement.proofs.finishing.Given.{Valued, Stands, Given, stands}
+use Rattle.refinement.proofs.finishing.Given.{named-few, Valued, Stands, Given, stands}
 use Rattle.refinement.proofs.finishing.KeptValues.{kept-shows, kept-counts}
 use Rattle.refinement.proofs.finishing.Names.{buffers-shown}
 
@@ -171,7 +171,7 @@ module _ (x : Lent) (buffers : List ℕ) (tree : Tree) (root : Ty) (m : ℕ) (co
       let n = in-table x buffers tree root m columns dest counts room μ given (suc k) tView i w l in
       let c = copied-free (x .plan) i o in
       whole-node (suc k) tView i ss d w o l f h
-      (λ own. (first-at i n c (d .«data» ∷ []) own, buffers-shown x buffers counts room base body bodied m all-sources i n c (w .2) (λ j. ss j .body) (λ s q. st s q .0))) tt
+      (λ own. (first-at i n c (d .«data» ∷ []) own, buffers-shown x buffers counts room base body bodied m all-sources i n c (w .2) (λ j. ss j .body) (λ s q. st s q .0) (λ s q. named-few x buffers s i (ss s .body) (st s q .0) (st s q .1)))) tt
   whole (suc k) (tListView v t) i ss d w fm o l mn f h st ob =
       let z : endOf (x .plan) i ≡ endOf (x .plan) (suc i) = w .1 in
       let n = in-table x buffers tree root m columns dest counts room μ given (suc k) (tListView v t) i w l in

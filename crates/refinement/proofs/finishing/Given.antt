@@ -1,6 +1,6 @@
 -- What finishing is given after an accepted opening and any orders: the plan's words, counters, memory and room that hold a destination,
 -- and tables that name the sources' data buffers and kept dictionaries. Assumes nothing.
-use mathlib.Core.Path.{_≡_}
+use mathlib.Core.Path.{_≡_, ap, _∙_}
 use mathlib.Core.Bool.{Bool, true, false, not}
 use mathlib.Core.List.{List, List·Memᴰ}
 use Prim.Native.Nat.{ℕ, suc, _+_, _*_, _≤_, _<_}
@@ -24,6 +24,7 @@ use Rattle.model.specs.Primitive.{plainStart}
 use Rattle.model.specs.Transform.{Destination, joinedFrom}
 use Rattle.model.proofs.Law.{FineNode}
 use Rattle.model.proofs.Nodes.{fineOf}
+use Rattle.model.proofs.Bits.{length-seg}
 use Rattle.walk.specs.State.{word, place, endOf}
 use Rattle.refinement.specs.walk_is_model.Memory.{Memory}
 use Rattle.refinement.specs.walk_is_model.Holds.{childOf, Worded, flag, Holds}
@@ -43,6 +44,9 @@ pub record Named (x : Lent) (buffers : List ℕ) (s i : ℕ) (b : Views) : Type 
   pub buffers-are : b .buffers ≡ seg (λ q. part (x .body) (getD buffers (2 * q) 0) (getD buffers (2 * q + 1) 0)) (place (joinOf x s) i 7) (place (joinOf x s) i 8)
   pub inside : (q : ℕ) → q < place (joinOf x s) i 8
       → getD buffers (2 * (place (joinOf x s) i 7 + q)) 0 + getD buffers (2 * (place (joinOf x s) i 7 + q) + 1) 0 ≤ length (x .body)
+
+pub named-few : (x : Lent) (buffers : List ℕ) (s i : ℕ) (b : Views) → Named x buffers s i b → length (b .buffers) ≤ 32 → place (joinOf x s) i 8 ≤ 32
+named-few x buffers s i b h l = let n = ap length (h .buffers-are) ∙ length-seg _ (place (joinOf x s) i 7) (place (joinOf x s) i 8) in omega (arith, l)
 
 -- so at every view node from node i on
 module _ (x : Lent) (buffers : List ℕ) (s : ℕ) where

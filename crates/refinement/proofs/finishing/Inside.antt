@@ -38,7 +38,7 @@ use Rattle.refinement.proofs.opening.Zeros.{values-copied}
 use Rattle.refinement.specs.finishing.Finish.{zerosAt, nullsAt, sources, buffersOf, buffersBefore, bufferStart, bufferSize, copiedPlace, placeAt, lengthTable, placeTable}
 use Rattle.refinement.specs.finishing.Shows.{finishedTables, Bodied}
 use Rattle.refinement.proofs.finishing.Lookups.{place-at}
-use Rattle.refinement.proofs.finishing.Given.{Named, Valued, Stands, Given}
+use Rattle.refinement.proofs.finishing.Given.{named-few, Named, Valued, Stands, Given}
 use Rattle.refinement.proofs.finishing.KeptValues.{valid-place, place-is}
 use Rattle.refinement.proofs.finishing.Names.{all-long, before-in, buffers-lie, from-place, many-place}
 use Rattle.refinement.proofs.finishing.Finished.{kept-not, all-sources}
@@ -122,14 +122,16 @@ module _ (x : Lent) (buffers : List ℕ) (tree : Tree) (root : Ty) (m : ℕ) (co
     copied-two = two-in i l copied-one (rw (copied-place 5 (omega arith), copied-place 6 (omega arith)) (buffer-inside 2))
 
     -- its data buffers
-    names-in : isView (codeOf (x .plan) i) ≡ true → (ss : ℕ → Body tView) → ((s : ℕ) → s < m → Named x buffers s i (ss s)) → buffersIn Y i ≡ true
-    names-in v ss h =
+    names-in : isView (codeOf (x .plan) i) ≡ true → (ss : ℕ → Body tView) → ((s : ℕ) → s < m → Named x buffers s i (ss s) × (length (ss s .buffers) ≤ 32)) → buffersIn Y i ≡ true
+    names-in v ss st =
+        let h : (s : ℕ) → s < m → Named x buffers s i (ss s) = λ s q. st s q .0 in
+        let short : (s : ℕ) → s < m → Rattle.walk.specs.State.place (joinOf x s) i 8 ≤ 32 = λ s q. named-few x buffers s i (ss s) (st s q .0) (st s q .1) in
         let few = all-sources x buffers tree root m columns dest counts room μ given base body bodied in
-        let p = from-place x buffers counts room base body bodied m few i l c v ss h in
-        let q = many-place x buffers counts room base body bodied m few i l c v ss h in
+        let p = from-place x buffers counts room base body bodied m few i l c v ss h short in
+        let q = many-place x buffers counts room base body bodied m few i l c v ss h short in
         let a = before-in x buffers counts room base i (nodesOf (x .plan)) l v in
         let b = all-long x buffers counts room base (nodesOf (x .plan)) in
-        let g = buffers-lie x buffers counts room base body bodied m few i l c v ss h in
+        let g = buffers-lie x buffers counts room base body bodied m few i l c v ss h short in
         rw (p, q, le-leb (2 * (buffersBefore x buffers counts room base i + buffersOf x buffers counts room base i (sources x buffers counts room base))) (length (Y .buffers)) (omega arith))
         (every-all _ _ (λ k n. in-source _ _ (g k n)))
 
@@ -171,7 +173,7 @@ module _ (x : Lent) (buffers : List ℕ) (tree : Tree) (root : Ty) (m : ℕ) (co
 
   own-placed : (k : ℕ) (t : Ty) (i : ℕ) (ss : ℕ → Body t) → Worded (x .plan) k t i → i < nodesOf (x .plan) → copied (x .plan) i ≡ true → Means tree t i → Stands x buffers m counts μ t i ss → T (placed tree Y i)
   own-placed (suc k) (tPlain p) i ss w l c mn st = plain-placed p i l c mn
-  own-placed (suc k) tView i ss w l c mn st = subst (λ k. T (placedAs tree Y k i)) (sym (mn .1)) (holds {b = oneIn Y i && buffersIn Y i} (rw (copied-one i l c) (names-in i l c (w .2) ss (λ s q. st s q .0))))
+  own-placed (suc k) tView i ss w l c mn st = subst (λ k. T (placedAs tree Y k i)) (sym (mn .1)) (holds {b = oneIn Y i && buffersIn Y i} (rw (copied-one i l c) (names-in i l c (w .2) ss st)))
   own-placed (suc k) (tListView v t) i ss w l c mn st = subst (λ k. T (placedAs tree Y k i)) (sym (mn .0 .1)) (holds (copied-two i l c))
   own-placed (suc k) (tList v t) i ss w l c mn st = subst (λ k. T (placedAs tree Y k i)) (sym (mn .0 .1)) (holds (copied-one i l c))
   own-placed (suc k) (tSparse ids nullable f) i ss w l c mn st = subst (λ k. T (placedAs tree Y k i)) (sym (mn .0 .1)) (holds (copied-one i l c))

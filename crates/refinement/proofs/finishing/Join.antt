@@ -24,7 +24,7 @@ use Rattle.refinement.specs.walk_is_model.Memory.{Memory}
 use Rattle.refinement.specs.plan_is_type.Taken.{columnsAs}
 use Rattle.refinement.proofs.plan_is_type.Opened.{same-child, all-alike}
 use Rattle.parts.specs.Parts as Parts
-use Rattle.columns.specs.Grounds.{sourceCount, firstOf, nodesOf}
+use Rattle.columns.specs.Grounds.{ceiling, sourceCount, firstOf, nodesOf}
 use Rattle.refinement.specs.orders.Order.{After, Lent, orderedAll}
 use Rattle.refinement.specs.orders.Fits.{fits, answersIn, bookIn}
 use Rattle.refinement.proofs.orders.Step.{first-opened}
@@ -111,8 +111,8 @@ module _ (formats schema sources : List ℕ) (x : Tables) (keep gaps : Bool) (pa
       (same-child formats schema (firstOf sources 0) (nodesOf sources 0) (lent .plan) (is-typed formats schema sources x keep gaps ok) (is-low formats schema sources x keep gaps ok) (planted formats schema sources x keep gaps ok) (firstOf sources 0) (nodesOf sources 0) alike)
       (taken-named formats schema x (lent .plan) parts sources (nodesOf sources) m k) (sources-of formats schema sources x keep gaps ok .few-buffers) (entries-lent formats schema sources x keep gaps ok parts) (o .joins) (keeps keep m ss) (kept formats schema sources x keep gaps ok .1)
 
-  -- FINISHING IS ACCEPTED, where the body has at most 2^32 - 1 bytes and the tables are of the finished array's lengths
-  pub finishing-accepted : (base : ℕ) (lengths nulls places names : List ℕ) → base + length (left .room) ≤ 4294967295
+  -- FINISHING IS ACCEPTED, where the room begins within a body's ceiling and the tables are of the finished array's lengths
+  pub finishing-accepted : (base : ℕ) (lengths nulls places names : List ℕ) → base ≤ ceiling
       → length lengths ≡ 2 * Parts.nodesOf (lent .plan) → length nulls ≡ Parts.nodesOf (lent .plan) → length places ≡ 9 * Parts.nodesOf (lent .plan)
       → length names ≡ 2 * buffersBefore lent (x .buffers) (left .counts) (left .room) base (Parts.nodesOf (lent .plan))
       → finishing lent (x .buffers) (left .counts) (left .room) base lengths nulls places names

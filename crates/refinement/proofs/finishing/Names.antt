@@ -3,6 +3,7 @@ use mathlib.Core.Path.{_≡_, refl, sym, ap, ap₂, subst, _∙_}
 use mathlib.Core.Bool.{Bool, true, false, cond}
 use mathlib.Core.List.{List, [], _++_}
 use Prim.Native.Nat.{ℕ, zero, suc, _+_, _*_, _-_, _≤_, _<_}
+use native.Mathlib.Nat.{min-eq-left}
 use native.Mathlib.Decide.{decLt}
 use native.Mathlib.Omega.{arith}
 use lib.ListN.{length, getD, length-append, List·getD-append}
@@ -16,7 +17,7 @@ use Rattle.model.proofs.Rows.{seg-append}
 use Rattle.walk.specs.State.{codeOf, place}
 use Rattle.parts.specs.Parts.{nodesOf, copied}
 use Rattle.refinement.specs.orders.Order.{Lent, joinOf}
-use Rattle.refinement.specs.finishing.Finish.{sources, buffersOf, buffersBefore, buffersFrom, buffersUpTo, copiedPlace, placeAt}
+use Rattle.refinement.specs.finishing.Finish.{sources, dataCount, buffersOf, buffersBefore, buffersFrom, buffersUpTo, copiedPlace, placeAt}
 use Rattle.refinement.specs.finishing.Shows.{finishedTables, Bodied}
 use Rattle.refinement.proofs.finishing.Given.{Named}
 use Rattle.refinement.proofs.finishing.Lookups.{place-at, source-part}
@@ -38,6 +39,9 @@ module _ (x : Lent) (buffers counts room : List ℕ) (base : ℕ) where
   abbrev many : ℕ → ℕ → ℕ
   many = buffersOf x buffers counts room base
 
+  abbrev count : ℕ → ℕ → ℕ
+  count = dataCount x buffers counts room base
+
   abbrev names : ℕ → ℕ → List ℕ
   names = buffersFrom x buffers counts room base
 
@@ -54,36 +58,51 @@ module _ (x : Lent) (buffers counts room : List ℕ) (base : ℕ) where
   names-long i zero = refl
   names-long i (suc s) =
       let a = names-long i s in
-      let b = length-seg (λ q. getD buffers q 0) (2 * place (joinOf x s) i 7) (2 * place (joinOf x s) i 8) in
+      let b = length-seg (λ q. getD buffers q 0) (2 * place (joinOf x s) i 7) (2 * count i s) in
       rw length-append (omega (arith, a, b))
 
-  many-in : (i s n : ℕ) → s < n → many i s + place (joinOf x s) i 8 ≤ many i n
+  many-in : (i s n : ℕ) → s < n → many i s + count i s ≤ many i n
   unfolding buffersOf
   many-in i s zero l = absurd (omega arith)
   many-in i s (suc n) l = go (decLt s n) (many-in i s n)
     where
-      go : Dec (s < n) → (s < n → many i s + place (joinOf x s) i 8 ≤ many i n) → many i s + place (joinOf x s) i 8 ≤ many i n + place (joinOf x n) i 8
+      go : Dec (s < n) → (s < n → many i s + count i s ≤ many i n) → many i s + count i s ≤ many i n + count i n
       go (yes y) f = omega (arith, f y)
       go (no y) f = let e : s ≡ n = omega arith in rw e (omega arith)
 
   -- number r of source s
-  name-of : (i s n r : ℕ) → s < n → r < 2 * place (joinOf x s) i 8 → getD (names i n) (2 * many i s + r) 0 ≡ getD buffers (2 * place (joinOf x s) i 7 + r) 0
+  name-of : (i s n r : ℕ) → s < n → r < 2 * count i s → getD (names i n) (2 * many i s + r) 0 ≡ getD buffers (2 * place (joinOf x s) i 7 + r) 0
   unfolding buffersFrom
   name-of i s zero r l q = absurd (omega arith)
   name-of i s (suc n) r l q = go (decLt s n) (λ y. name-of i s n r y q)
     where
       new : List ℕ
-      new = seg (λ q. getD buffers q 0) (2 * place (joinOf x n) i 7) (2 * place (joinOf x n) i 8)
+      new = seg (λ q. getD buffers q 0) (2 * place (joinOf x n) i 7) (2 * count i n)
 
       go : Dec (s < n) → (s < n → getD (names i n) (2 * many i s + r) 0 ≡ getD buffers (2 * place (joinOf x s) i 7 + r) 0)
           → getD (names i n ++ new) (2 * many i s + r) 0 ≡ getD buffers (2 * place (joinOf x s) i 7 + r) 0
       go (yes y) f = List·getD-append (names i n) new 0 (2 * many i s + r) (omega (arith, names-long i n, many-in i s n y)) ∙ f y
       go (no y) f =
           let e : s ≡ n = omega arith in
-          let q2 : r < 2 * place (joinOf x n) i 8 = rw e at q in
-          rw e (getD-behind (names i n) new (2 * many i n) r (names-long i n) ∙ getD-seg _ (2 * place (joinOf x n) i 7) (2 * place (joinOf x n) i 8) r 0 q2)
+          let q2 : r < 2 * count i n = rw e at q in
+          rw e (getD-behind (names i n) new (2 * many i n) r (names-long i n) ∙ getD-seg _ (2 * place (joinOf x n) i 7) (2 * count i n) r 0 q2)
+
+  -- few, whatever the tables hold
+  many-small : (i s : ℕ) → many i s ≤ 33 * s
+  unfolding buffersOf
+  many-small i zero = omega arith
+  many-small i (suc s) = omega (arith, many-small i s)
 
   -- ---- of all nodes
+
+  pub before-small : (n : ℕ) → before n ≤ 528 * n
+  unfolding buffersBefore
+  before-small zero = omega arith
+  before-small (suc n) = go (isView (codeOf (x .plan) n)) (before-small n)
+    where
+      go : (b : Bool) → before n ≤ 528 * n → before n + cond b (many n top) 0 ≤ 528 * suc n
+      go true e = omega (arith, e, many-small n top)
+      go false e = omega arith
 
   pub all-long : (i : ℕ) → length (all i) ≡ 2 * before i
   unfolding buffersUpTo buffersBefore
@@ -120,15 +139,16 @@ module _ (x : Lent) (buffers counts room : List ℕ) (base : ℕ) where
   -- ---- the buffers that the sources name
 
   module _ (body : List ℕ) (bodied : Bodied body x room base) (m : ℕ) (few : top ≡ m) (i : ℕ) (l : i < nodesOf (x .plan)) (c : copied (x .plan) i ≡ true)
-      (v : isView (codeOf (x .plan) i) ≡ true) (ss : ℕ → Views) (h : (s : ℕ) → s < m → Named x buffers s i (ss s)) where
+      (v : isView (codeOf (x .plan) i) ≡ true) (ss : ℕ → Views) (h : (s : ℕ) → s < m → Named x buffers s i (ss s))
+      (short : (s : ℕ) → s < m → place (joinOf x s) i 8 ≤ 32) where
     abbrev Y : Tables
     Y = finishedTables x buffers counts room base body
 
     -- number e of the numbers that name the buffers of source s
     number-at : (s e : ℕ) → s < m → e < 2 * place (joinOf x s) i 8 → getD (Y .buffers) (2 * before i + (2 * many i s + e)) 0 ≡ getD buffers (2 * place (joinOf x s) i 7 + e) 0
     number-at s e q k =
-        name-in i (nodesOf (x .plan)) (2 * many i s + e) l v (omega (arith, many-in i s top (omega arith)))
-        ∙ name-of i s top e (omega arith) k
+        name-in i (nodesOf (x .plan)) (2 * many i s + e) l v (omega (arith, k, short s q, many-in i s top (omega arith)))
+        ∙ name-of i s top e (omega arith) (omega (arith, k, short s q))
 
     first-number : (s r : ℕ) → s < m → r < place (joinOf x s) i 8 → getD (Y .buffers) (2 * (before i + many i s + r)) 0 ≡ getD buffers (2 * (place (joinOf x s) i 7 + r)) 0
     first-number s r q k =
@@ -172,7 +192,9 @@ module _ (x : Lent) (buffers counts room : List ℕ) (base : ℕ) where
     unfolding buffersOf
     buffers-up zero q = refl
     buffers-up (suc s) q =
-        seg-append (dataBuffer Y) (before i) (many i s) (place (joinOf x s) i 8)
+        let e : count i s ≡ place (joinOf x s) i 8 = min-eq-left (omega (arith, short s (omega arith))) in
+        ap (λ n. seg (dataBuffer Y) (before i) (many i s + n)) e
+        ∙ seg-append (dataBuffer Y) (before i) (many i s) (place (joinOf x s) i 8)
         ∙ ap₂ _++_ (buffers-up s (omega arith))
         (seg-moved [] (dataBuffer Y) _ (before i + many i s) (place (joinOf x s) i 7) (place (joinOf x s) i 8) (λ r k. buffer-at s r (omega arith) k) ∙ sym (h s (omega arith) .buffers-are))
 

@@ -6,21 +6,20 @@ use Prim.Native.Nat.{ℕ, _+_, _*_, _/_, _≤_, _<_}
 use native.Mathlib.Omega.{arith}
 use lib.ListN.{length, take, getD, length-append}
 use lib.Dec.{eqb}
-use borrow.Author.Tests.{lt-ltb, le-leb, eq-eqb, eqb-true, eqb-false}
+use borrow.Author.Tests.{le-leb, eq-eqb, eqb-true, eqb-false}
 use Rattle.number.specs.Number.{splice}
 use Rattle.bits.specs.Bits.{putBits}
 use Rattle.bits.proofs.Laws.{below-of}
 use Rattle.bits.proofs.Puts.{put-nil}
-use Rattle.walk.specs.State.{beyond}
 use Rattle.walk.specs.Log.{Entry, put, mask, amend, startOf, inRoom, enter}
 use Rattle.refinement.specs.walk_is_model.Memory.{Memory, putIn, maskIn, amendIn, noted, InPlace}
 use Rattle.refinement.specs.log_in_room.Room.{sizeOf, AllBelow, HasBytes, HasBits, Placed, Lies, Fits, UsedEntry}
 use Rattle.refinement.proofs.log_in_room.Writes.{apart-never, Wrote, has-bytes-still, has-bits-still, put-wrote, put-own, amend-own, mask-wrote, mask-own}
 
 -- a test that holds
-in-room : (start o n m : ℕ) → o < beyond → n < beyond → start + o + n ≤ m → inRoom start o n m ≡ true
+in-room : (start o n m : ℕ) → start + o + n ≤ m → inRoom start o n m ≡ true
 unfolding inRoom
-in-room start o n m p q r = rw (lt-ltb o beyond p, lt-ltb n beyond q, le-leb (start + o + n) m r)
+in-room start o n m r = le-leb (start + o + n) m r
 
 module _ (state parts : List ℕ) where
   -- byte p is not among those that the entry writes, nor in the validity byte whose free bits it fills
@@ -29,20 +28,20 @@ module _ (state parts : List ℕ) where
   Misses (mask i q vs) p = 0 < length vs → startOf state parts i 0 + q / 8 ≤ p → p < startOf state parts i 0 + (q + length vs + 7) / 8 → ⊥
   Misses (amend i b o bs) p = startOf state parts i b + o ≤ p → p < startOf state parts i b + o + length bs → ⊥
 
-  enter-put : (i b o : ℕ) (bs room : List ℕ) → startOf state parts i b + o + length bs ≤ length room → length room < 4294967296
+  enter-put : (i b o : ℕ) (bs room : List ℕ) → startOf state parts i b + o + length bs ≤ length room
       → enter state parts (put i b o bs) room ≡ splice (startOf state parts i b + o) bs room
   unfolding enter
-  enter-put i b o bs room h s = rw (in-room (startOf state parts i b) o (length bs) (length room) (omega arith) (omega arith) h)
+  enter-put i b o bs room h = rw (in-room (startOf state parts i b) o (length bs) (length room) h)
 
-  enter-amend : (i b o : ℕ) (bs room : List ℕ) → startOf state parts i b + o + length bs ≤ length room → length room < 4294967296
+  enter-amend : (i b o : ℕ) (bs room : List ℕ) → startOf state parts i b + o + length bs ≤ length room
       → enter state parts (amend i b o bs) room ≡ splice (startOf state parts i b + o) bs room
   unfolding enter
-  enter-amend i b o bs room h s = rw (in-room (startOf state parts i b) o (length bs) (length room) (omega arith) (omega arith) h)
+  enter-amend i b o bs room h = rw (in-room (startOf state parts i b) o (length bs) (length room) h)
 
-  enter-mask : (i p : ℕ) (vs room : List ℕ) → 8 * startOf state parts i 0 + p + length vs ≤ 8 * length room → length room < 4294967296
+  enter-mask : (i p : ℕ) (vs room : List ℕ) → 8 * startOf state parts i 0 + p + length vs ≤ 8 * length room
       → enter state parts (mask i p vs) room ≡ putBits (8 * startOf state parts i 0 + p) vs room
   unfolding enter
-  enter-mask i p vs room h s = rw (in-room (8 * startOf state parts i 0) p (length vs) (8 * length room) (omega arith) (omega arith) h)
+  enter-mask i p vs room h = rw (in-room (8 * startOf state parts i 0) p (length vs) (8 * length room) h)
 
 module _ (state parts : List ℕ) (Used : ℕ → ℕ → Type 0) (room : List ℕ) (μ : Memory)
     (placed : Placed state parts Used (length room)) (held : Lies state parts Used room μ) (fits : Fits state parts Used μ) where
@@ -156,7 +155,7 @@ module _ (state parts : List ℕ) (Used : ℕ → ℕ → Type 0) (room : List �
   stepped (put i b o bs) q u f =
       let n : length (putIn i b bs μ .at i b) ≡ length (μ .at i b) + length bs = rw (eq-eqb i i refl, eq-eqb b b refl) (length-append (μ .at i b) bs) in
       let enough : length (μ .at i b) + length bs ≤ sizeOf state parts i b = rw n at (f .bytes-fit i b (u .0) (u .1)) in
-      rw (q, enter-put state parts i b (length (μ .at i b)) bs room (put-fits i b bs (u .0) (u .1) (u .2) enough) (placed .small))
+      rw (q, enter-put state parts i b (length (μ .at i b)) bs room (put-fits i b bs (u .0) (u .1) (u .2) enough))
       (record {
         long = put-changes i b bs (u .0) (u .1) (u .2) enough .long;
         lies = put-lies i b bs (u .0) (u .1) (u .2) enough;
@@ -165,14 +164,14 @@ module _ (state parts : List ℕ) (Used : ℕ → ℕ → Type 0) (room : List �
   stepped (mask i p vs) q u f =
       let n : length (maskIn i vs μ .bits i) ≡ length (μ .bits i) + length vs = rw (eq-eqb i i refl) (length-append (μ .bits i) vs) in
       let enough : length (μ .bits i) + length vs ≤ 8 * sizeOf state parts i 0 = rw n at (f .bits-fit i (u .0)) in
-      rw (q, enter-mask state parts i (length (μ .bits i)) vs room (mask-fits i vs (u .0) (u .1) enough) (placed .small))
+      rw (q, enter-mask state parts i (length (μ .bits i)) vs room (mask-fits i vs (u .0) (u .1) enough))
       (record {
         long = mask-changes i vs (u .0) (u .1) enough .long;
         lies = mask-lies i vs (u .0) (u .1) enough;
         byte-same = mask-same i vs (mask-changes i vs (u .0) (u .1) enough);
       })
   stepped (amend i b o bs) q u f =
-      rw (enter-amend state parts i b o bs room (amend-fits i b o bs (u .0) (u .1) (u .2) q) (placed .small))
+      rw (enter-amend state parts i b o bs room (amend-fits i b o bs (u .0) (u .1) (u .2) q))
       (record {
         long = amend-changes i b o bs (u .0) (u .1) (u .2) q .long;
         lies = amend-lies i b o bs (u .0) (u .1) (u .2) q;

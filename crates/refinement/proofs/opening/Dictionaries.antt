@@ -2,7 +2,7 @@
 use mathlib.Core.Path.{_≡_, refl, sym, ap, subst, _∙_}
 use mathlib.Core.Bool.{Bool, true}
 use mathlib.Core.List.{List, [], _∷_, List·Memᴰ, List·Memᴰ·head, List·Memᴰ·tail, List·Memᴰ·not-nil}
-use Prim.Native.Nat.{ℕ, zero, suc, _-_, _≤_, _<_}
+use Prim.Native.Nat.{ℕ, zero, suc, _-_, _^_, _≤_, _<_}
 use native.Mathlib.Omega.{arith}
 use lib.ListN.{length}
 use borrow.Author.Tests.{eq-eqb}
@@ -32,7 +32,7 @@ use Rattle.refinement.proofs.opening.Entries.{then-done, dictionary-goe
 use Rattle.refinement.proofs.opening.Spans.{span, span-none, span-one, span-skip, span-split}
 use Rattle.refinement.proofs.opening.Frame.{Left, left-refl, left-then, left-wide, left-values, AllFresh, fresh-part, fresh-left, no-dictionary, not-fixed, keys-end, joins-same}
 
-module _ (x : Lent) (m : ℕ) (few : m ≤ 16) (count-is : sourceCount (x .plan) ≡ m) (body-small : length (x .body) < 4294967296) (laid : Laid (x .plan)) where
+module _ (x : Lent) (m : ℕ) (few : m ≤ 16) (count-is : sourceCount (x .plan) ≡ m) (body-small : length (x .body) < 2 ^ 63) (laid : Laid (x .plan)) where
   abbrev plan : List ℕ
   plan = x .plan
 

@@ -11,7 +11,7 @@ use Rattle.columnar.specs.Types.{Number, i8, u8, i16, u16, i32, u32, i64, u64, 
 use Rattle.columnar.specs.Dictionary.{Dictionary}
 use Rattle.columnar.specs.Reading.{Body, Column}
 use Rattle.model.specs.Try.{Try, done, then, guard}
-use Rattle.model.specs.Opening.{keeps, startOfKeys, keysFit, allKeysFit}
+use Rattle.model.specs.Opening.{keeps, entriesFit, startOfKeys, keysFit, allKeysFit}
 use Rattle.model.specs.Transform.{theDictionary, openData}
 use Rattle.model.proofs.Follow.{guard-done}
 use Rattle.model.proofs.Joined.{then-done}
@@ -46,7 +46,7 @@ use Rattle.refinement.proofs.orders.Cover.{Laid}
 use Rattle.refinement.proofs.orders.Step.{Joined}
 use Rattle.refinement.specs.opening.Open.{opened}
 use Rattle.refinement.specs.opening.Kept.{Kept}
-use Rattle.refinement.proofs.opening.Taken.{some-sources, few-sources, is-typed, is-low, few-nodes, planted, taken, sources-of}
+use Rattle.refinement.proofs.opening.Taken.{some-sources, few-sources, is-typed, is-low, few-nodes, few-named, planted, taken, sources-of}
 
 -- ---- the children of unions by the plan
 
@@ -123,7 +123,7 @@ based-by state m (tSparse ids nullable f) i b bodies h o s l = λ c q.
 based-by state m (tDense ids nullable f) i b bodies h o s l = λ c q.
     based-by state m (f c) (childOf state i c) _ _ (h c q .1) (opened-each ids (λ c. openData (f c) m (λ j. bodies j .children c .body)) o c q) s l
 based-by state m (tRunEnd w u) i b bodies h o s l = based-by state m u (suc (suc i)) _ _ (h .2) o s l
-based-by state m (tDictionary k p) i b bodies h o s l = h .2 s l ∙ not-capped k m bodies (then-guard (theDictionary p m bodies) (allKeysFit k m m bodies) 8 o) s l
+based-by state m (tDictionary k p) i b bodies h o s l = h .2 s l ∙ not-capped k m bodies (then-guard (theDictionary p m bodies) (allKeysFit k m m bodies) 8 (guard-done (entriesFit m bodies) 6 _ tt o .1)) s l
 
 -- ---- an accepted opening
 
@@ -149,7 +149,7 @@ module _ (formats schema sources : List ℕ) (x : Tables) (keep gaps : Bool) (ok
   opened-plan : Opened plan (treeOf formats schema (firstOf sources 0) (columns.nodesOf sources 0)) m t keep ss
   opened-plan =
       subst (λ p. Opened p (treeOf formats schema (firstOf sources 0) (columns.nodesOf sources 0)) m t keep ss) (without-buffers formats schema x sources keep gaps)
-      (planned-words.opened formats schema x sources keep gaps (few-sources formats schema sources x keep gaps ok) (few-nodes formats schema sources x keep gaps ok) (is-typed formats schema sources x keep gaps ok) (is-low formats schema sources x keep gaps ok))
+      (planned-words.opened formats schema x sources keep gaps (few-sources formats schema sources x keep gaps ok) (few-nodes formats schema sources x keep gaps ok) (is-typed formats schema sources x keep gaps ok) (few-named formats schema sources x keep gaps ok) (is-low formats schema sources x keep gaps ok))
 
   -- THE PLAN KEEPS NULLS AND JOINS DICTIONARIES where the model does
   pub kept : (keepsOf plan 0 ≡ flag (keeps keep m ss)) × Kept plan m t 0 (keeps keep m ss) (λ j. ss j .body)

@@ -32,7 +32,7 @@ use Rattle.columnar.specs.Test.{onlyIf}
 use Rattle.parts.specs.Parts.{nodesOf, copied, partTotal, partsPlaced, partsWithin, Used, Numbered}
 use Rattle.parts.proofs.Placed.{placed-within}
 use Rattle.refinement.proofs.orders.Sound.{every-all}
-use Rattle.columns.specs.Grounds.{smallBody, fewSources, allWithin, allTyped, sourcesGround}
+use Rattle.columns.specs.Grounds.{ceiling, smallBody, fewSources, allWithin, allTyped, sourcesGround}
 use Rattle.columns.proofs.Grounds.{within-low, within-at, typed-at}
 use Rattle.plan.specs.Plan.{keepWord, isEnds, planned}
 use Rattle.plan.proofs.Codes as kinds
@@ -301,7 +301,7 @@ pub record Stood (plan : List ℕ) (m n : ℕ) : Type 0 where
   pub laid : Laid plan
   pub sound : planSound plan ≡ true
   pub numbered : Numbered plan
-  pub placed : (parts : List ℕ) (r : ℕ) → partsPlaced parts (partTotal plan) r ≡ true → r ≤ 4294967295 → Placed plan parts (Used plan) r
+  pub placed : (parts : List ℕ) (r : ℕ) → partsPlaced parts (partTotal plan) r ≡ true → r ≤ ceiling → Placed plan parts (Used plan) r
   pub within : (parts : List ℕ) (r : ℕ) → partsPlaced parts (partTotal plan) r ≡ true → partsWithin plan parts r ≡ true
 
 module _ (formats schema : List ℕ) (x : Tables) (sources : List ℕ) (keep gaps : Bool) where
@@ -354,7 +354,7 @@ module _ (formats schema : List ℕ) (x : Tables) (sources : List ℕ) (keep gap
 
     -- THE PARTS LIE WELL where ground 14 lets them through, and pass the test of every order
     module _ (parts : List ℕ) (r : ℕ) (h : partsPlaced parts (partTotal plan) r ≡ true) where
-      pub placed : r ≤ 4294967295 → Placed plan parts (Used plan) r
+      pub placed : r ≤ ceiling → Placed plan parts (Used plan) r
       placed l = placed-by plan parts r numbered h (omega arith)
 
       pub within : partsWithin plan parts r ≡ true

@@ -20,7 +20,7 @@ use Rattle.walk.specs.Log.{Out}
 use Rattle.refinement.specs.walk_is_model.Memory.{Memory}
 use Rattle.refinement.specs.log_in_room.Room.{AllBelow}
 use Rattle.columns.specs.Grounds as columns
-use Rattle.columns.specs.Grounds.{sourceCount, firstOf, sourcesGround}
+use Rattle.columns.specs.Grounds.{ceiling, sourceCount, firstOf, sourcesGround}
 use Rattle.refinement.specs.plan_is_type.Taken.{columnsAs}
 use Rattle.refinement.proofs.plan_is_type.Worded.{planted-worded}
 use Rattle.parts.specs.Parts.{partTotal, partsHold, partsPlaced}
@@ -133,7 +133,7 @@ module _ (formats schema sources : List ℕ) (x : Tables) (keep gaps : Bool) (pa
     pub opening-refused : (answer .ground ≡ 0 → ⊥) → (answer .plan ≡ plan) × (answer .counts ≡ counts) × (answer .room ≡ room)
     unfolding opening settled
     opening-refused =
-        go (leb (length room) 4294967295) (eqb (sourcesGround formats schema x sources) 0) placed-well (eqb (walked .ans) 0) (partsHold (lent .plan) (walked .counts) parts) _ refl
+        go (leb (length room) ceiling) (eqb (sourcesGround formats schema x sources) 0) placed-well (eqb (walked .ans) 0) (partsHold (lent .plan) (walked .counts) parts) _ refl
       where
         go : (a b c d e : Bool) (y : Opening) → y .ground ≡ 0 → (chosen a b c (chosen-last d e y) .ground ≡ 0 → ⊥) → Unchanged (chosen a b c (chosen-last d e y))
         go false b c d e y q h = (refl, refl, refl)
@@ -144,12 +144,12 @@ module _ (formats schema sources : List ℕ) (x : Tables) (keep gaps : Bool) (pa
         go true true true true true y q h = absurd (h q)
 
     -- the grounds before the walk
-    pub tests : answer .ground ≡ 0 → (length room ≤ 4294967295) × (sourcesGround formats schema x sources ≡ 0) × (placed-well ≡ true)
+    pub tests : answer .ground ≡ 0 → (length room ≤ ceiling) × (sourcesGround formats schema x sources ≡ 0) × (placed-well ≡ true)
     unfolding opening
-    tests h = go (leb (length room) 4294967295) refl (eqb (sourcesGround formats schema x sources) 0) refl placed-well refl _ h
+    tests h = go (leb (length room) ceiling) refl (eqb (sourcesGround formats schema x sources) 0) refl placed-well refl _ h
       where
-        go : (a : Bool) → leb (length room) 4294967295 ≡ a → (b : Bool) → eqb (sourcesGround formats schema x sources) 0 ≡ b → (c : Bool) → placed-well ≡ c → (y : Opening)
-            → chosen a b c y .ground ≡ 0 → (length room ≤ 4294967295) × (sourcesGround formats schema x sources ≡ 0) × (placed-well ≡ true)
+        go : (a : Bool) → leb (length room) ceiling ≡ a → (b : Bool) → eqb (sourcesGround formats schema x sources) 0 ≡ b → (c : Bool) → placed-well ≡ c → (y : Opening)
+            → chosen a b c y .ground ≡ 0 → (length room ≤ ceiling) × (sourcesGround formats schema x sources ≡ 0) × (placed-well ≡ true)
         go true e true f true g y h = (leb-true _ _ e, eqb-true _ _ f, g)
         go true e true f false g y h = absurd (omega arith)
         go true e false f c g y h = absurd (eqb-false _ _ f h)
@@ -157,7 +157,7 @@ module _ (formats schema sources : List ℕ) (x : Tables) (keep gaps : Bool) (pa
 
     module _ (body-bytes : AllBelow 256 (x .body)) (room-bytes : AllBelow 256 room) where
       -- WHERE NONE OF 9 TO 12 AND 14 STANDS, the answer is the model's with 13, and orders run or nothing changes
-      pub opening-opens : length room ≤ 4294967295 → sourcesGround formats schema x sources ≡ 0 → placed-well ≡ true
+      pub opening-opens : length room ≤ ceiling → sourcesGround formats schema x sources ≡ 0 → placed-well ≡ true
           → Opens formats schema sources x keep gaps parts t m ss plan counts room (openIn (lent .plan) parts gaps t keep m ss) answer
       unfolding opening roomPlaced
       opening-opens small ok placed =
@@ -173,7 +173,7 @@ module _ (formats schema sources : List ℕ) (x : Tables) (keep gaps : Bool) (pa
       opens-ground (not-opened g a q pos pl c r) = q
 
       -- .. its ground too
-      pub opening-ground : length room ≤ 4294967295 → sourcesGround formats schema x sources ≡ 0 → placed-well ≡ true → answer .ground ≡ groundOf (openIn (lent .plan) parts gaps t keep m ss)
+      pub opening-ground : length room ≤ ceiling → sourcesGround formats schema x sources ≡ 0 → placed-well ≡ true → answer .ground ≡ groundOf (openIn (lent .plan) parts gaps t keep m ss)
       opening-ground small ok placed = opens-ground (opening-opens small ok placed)
 
       opens-run : (p : Try (Destination t)) (a : Opening) → sourcesGround formats schema x sources ≡ 0 → Opens formats schema sources x keep gaps parts t m ss plan counts room p a

@@ -17,10 +17,8 @@ use Rattle.array_data.proofs.type_tree.Ids.{both}
 use Rattle.array_data.specs.lent_tables.Lent.{tables, maskOf}
 use Rattle.columns.specs.Grounds.{sourceCount, firstOf, nodesOf, fewSources, sourcesGround}
 use Rattle.columns.proofs.Grounds.{accepted, some-source, within-low, within-at, same-at, obeys-at, obeys-is}
-use Rattle.columns.proofs.Answers.{sum-fits}
 use Rattle.parts.proofs.Placed.{every-at}
 use Rattle.plan.specs.dictionaries.Sources.{Countable}
-use Rattle.plan.proofs.dictionaries.Laws.{length-from, offset-from}
 use Rattle.plan.proofs.dictionaries.Typed.{countable-at}
 use Rattle.plan.specs.Plan.{Plannable}
 
@@ -64,7 +62,7 @@ module _ (formats schema : List ℕ) (x : Tables) (sources : List ℕ) (low : (s
       let tree = treeOf formats schema f n in
       let rule = every-at (nodeRule tree (tablesFrom x f)) n (sym (obeys-is formats schema x f n) ∙ obeys-at formats schema x sources (a .obey) s l) i p in
       let m = masked tree (tablesFrom x f) (tree .kind i) i rule in
-      countable-at x f i (m .may) (omega (arith, low s, p, small)) (rw (length-from x f i, offset-from x f i) (sum-fits formats schema x f n w i p)) (m .bits)
+      countable-at x f i (m .may) (omega (arith, low s, p, small)) (m .bits)
 
   -- SOURCES WITHOUT A GROUND CAN BE PLANNED FOR
   pub plannable : Plannable (tables (x .lengths) (x .places) (x .body)) sources

@@ -3,10 +3,10 @@ use mathlib.Core.Path.{_≡_, refl, sym, ap, subst, _∙_}
 use mathlib.Core.Bool.{Bool, true, false, not, cond, _||_, false≢true}
 use mathlib.Core.Option.{none, some}
 use mathlib.Core.List.{List, [], _∷_}
-use Prim.Native.Nat.{ℕ, zero, suc, _+_, _≤_, _<_}
+use Prim.Native.Nat.{ℕ, zero, suc, _+_, _-_, _*_, _^_, _≤_, _<_}
 use native.Mathlib.Nat.{zero-add}
 use native.Mathlib.Omega.{arith}
-use lib.ListN.{length, take, drop}
+use lib.ListN.{length, take, drop, getD}
 use lib.Dec.{T, leb, eqb}
 use borrow.Author.Tests.{leb-true, eqb-true, eqb-false}
 use Rattle.columnar.specs.Types.{Plain, fixed, string, Ty, tPlain, tView, tListView, tList, tSparse, tDense, tRunEnd, tDictionary}
@@ -15,16 +15,17 @@ use Rattle.columnar.specs.Reading.{Column, Source}
 use Rattle.formats.specs.Code.{isView}
 use Rattle.model.specs.Sources.{EachView, EachDictionary, ValidFrom, StandsFrom, Stands, Sources}
 use Rattle.model.proofs.Bits.{length-seg}
-use Rattle.schema.specs.Tree.{every, codeOf, ceilings, typed}
-use Rattle.schema.proofs.Known.{every-at, within-nodes}
+use Rattle.schema.specs.Tree.{every, codeOf, ceilings, typed, sameNode, sameType}
+use Rattle.schema.proofs.Known.{every-at, within-nodes, typed-whole, typed-shape}
 use Rattle.array_data.specs.Tables.{Tables, lengthOf, offsetOf, place, part, arrayWith}
-use Rattle.array_data.specs.Typed.{Tree, nodeOf, Means, tablesFrom, validStart, starts, plainBody, bodyOf}
-use Rattle.array_data.specs.type_tree.Lent.{treeOf, typeOf}
+use Rattle.array_data.specs.Typed.{Tree, viewNode, nodeOf, Means, tablesFrom, validStart, starts, plainBody, bodyOf}
+use Rattle.array_data.specs.type_tree.Lent.{kindAt, treeOf, typeOf}
 use Rattle.array_data.proofs.type_tree.Ids.{both}
 use Rattle.array_data.proofs.type_tree.Lent.{formed}
-use Rattle.array_data.proofs.type_tree.Same.{same-means}
+use Rattle.array_data.proofs.type_tree.Same.{kind-same, same-means}
+use Rattle.array_data.proofs.type_tree.Shaped.{shaped}
 use Rattle.plan.proofs.dictionaries.Laws.{length-from, offset-from, place-from}
-use Rattle.columns.specs.Grounds.{countFits, fewBuffers, nodeFits, smallBody, withinCeilings, sourceCount, firstOf, nodesOf, fewSources, sourcesGround}
+use Rattle.columns.specs.Grounds.{countFits, fewBuffers, nodeFits, ceiling, smallBody, withinCeilings, sourceCount, firstOf, nodesOf, fewSources, sourcesGround}
 use Rattle.columns.proofs.Grounds.{Accepted, accepted, some-source, within-low, within-at, typed-at, same-at, obeys-at, obeys-is}
 use Rattle.columns.proofs.Answers.{sum-fits}
 use Rattle.refinement.specs.plan_is_type.Planted.{Planted}
@@ -165,9 +166,21 @@ module _ (formats schema sources : List ℕ) (x : Tables) (keep gaps : Bool) (ok
   pub planted : Planted plan formats schema (first 0) (nodes 0)
   planted = word-is formats schema x sources keep gaps few-sources few-nodes
 
-  small-body : length (x .body) < 4294967296
+  small-body : length (x .body) < 2 ^ 63
   unfolding smallBody
-  small-body = omega (arith, leb-true (length (x .body)) 4294967295 (grounds .small))
+  small-body = omega (arith, leb-true (length (x .body)) ceiling (grounds .small))
+
+  -- "at most 32 data buffers per view node and source", by the first source's nodes
+  pub few-named : (s i : ℕ) → s < m → i < nodes 0 → kindAt formats schema (first 0) i ≡ viewNode → getD (x .places) (9 * (first s + i) + 8) 0 ≤ 33
+  unfolding sameType
+  few-named s i l h v =
+      let p = both (eqb (nodes 0) (nodes s)) (every (sameNode formats schema (first 0) (first s)) (nodes 0)) (same-at formats schema x sources (grounds .of-one-type) s l) in
+      let e = eqb-true (nodes 0) (nodes s) (p .0) in
+      let agree : (j : ℕ) → j < nodes 0 → sameNode formats schema (first 0) (first s) j ≡ true = λ j q. every-at (sameNode formats schema (first 0) (first s)) (nodes 0) j (p .1) q in
+      let k = kind-same formats schema (first 0) (first s) (nodes 0) agree (typed-whole formats schema (first 0) (nodes 0) is-typed) i h
+      (shaped formats schema (first 0) i (typed-shape formats schema (first 0) (nodes 0) is-typed i h)) in
+      let b = few-there formats schema x (first s) (nodes s) (within-ceilings s l) i (omega arith) (view-code formats schema (first s) i (sym k ∙ v)) in
+      omega (arith, b, place-from x (first s) i 8)
 
   -- THE SOURCES ARE THOSE THAT AN OPENING TAKES, by the words of its plan
   pub taken : Taken formats schema x first nodes plan m

@@ -121,10 +121,11 @@ module _ (x : Lent) where
     unfolding openDictionary
     dictionary-uses i b c l low d w =
         uses-cond U (eqb (dictionaryOf plan i) 0) _ _ (λ e. uses-done U c)
-        (λ e. uses-next U _ _
+        (λ e. uses-need U _ 6 c _
+        (λ g. uses-next U _ _
         (uses-cond U (eqb (word plan i 7) 0) _ _ (λ f. uses-done U c)
         (λ f. entries-use (suc i) c l low (values-copied plan i b d w (not-shared b (word plan i 7) w f))))
-        (λ c2. uses-need U _ 8 c2 _ (λ f. uses-done U c2)))
+        (λ c2. uses-need U _ 8 c2 _ (λ f. uses-done U c2))))
 
     -- a node with no dictionary
     nothing-uses : (i : ℕ) (c : List ℕ) → dictionaryOf plan i ≡ 0 → Uses U (openDictionary x i c)

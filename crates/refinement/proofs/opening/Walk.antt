@@ -2,7 +2,7 @@
 use mathlib.Core.Path.{_≡_, sym, ap, subst, _∙_}
 use mathlib.Core.Bool.{Bool, true}
 use mathlib.Core.List.{List}
-use Prim.Native.Nat.{ℕ, _-_, _≤_, _<_}
+use Prim.Native.Nat.{ℕ, _-_, _^_, _≤_, _<_}
 use native.Mathlib.Omega.{arith}
 use lib.ListN.{length, getD, replicate, length-replicate}
 use Rattle.columnar.specs.Types.{Ty}
@@ -39,7 +39,7 @@ pub record Given (x : Lent) (t : Ty) (m : ℕ) (ss : ℕ → Column t) (keep gap
   pub all-nodes : nodesOf (x .plan) ≡ endOf (x .plan) 0
   pub count-is : sourceCount (x .plan) ≡ m
   pub few : m ≤ 16
-  pub body-small : length (x .body) < 4294967296
+  pub body-small : length (x .body) < 2 ^ 63
   pub body-bytes : AllBelow 256 (x .body)
   pub obey : (j : ℕ) → j < m → Source t (ss j)
   pub entries : EntriesLent x t 0 m (λ j. ss j .body)

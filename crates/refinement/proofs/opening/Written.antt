@@ -16,7 +16,7 @@ use Rattle.formats.specs.Code.{isRunEnd}
 use Rattle.walk.specs.State.{word, codeOf, dictionaryOf, bytesOf, endOf, rows, bytes, lengthOf, top}
 use Rattle.walk.specs.Log.{put, Out, apply}
 use Rattle.refinement.specs.log_in_room.Room.{AllBelow, AllUsed}
-use Rattle.columns.specs.Grounds.{sourcesGround}
+use Rattle.columns.specs.Grounds.{ceiling, sourcesGround}
 use Rattle.parts.specs.Parts.{nodesOf, copied, hasOffsets, neededBy, partTotal, partsPlaced, partsWithin, partsHold, Used}
 use Rattle.refinement.specs.orders.Sound.{planSound}
 use Rattle.refinement.specs.orders.Order.{Lent, joinOf, sourceCount}
@@ -65,9 +65,10 @@ module _ (x : Lent) (sound : planSound (x .plan) ≡ true) (values : (i : ℕ) �
   unfolding openDictionary
   adds-dictionary i c l =
       adds-cond P false 0 0 c (eqb (dictionaryOf P i) 0) _ _ (λ e. adds-done P false 0 0 c)
-      (λ e. adds-next P false 0 0 c _ _
+      (λ e. adds-need P false 0 0 _ 6 c _ (omega arith)
+      (λ g. adds-next P false 0 0 c _ _
       (adds-cond P false 0 0 c (eqb (word P i 7) 0) _ _ (λ f. adds-done P false 0 0 c) (λ f. adds-entries (suc i) c (values i l (eqb-false _ _ e))))
-      (λ c2. adds-need P false 0 0 _ 8 c2 _ (omega arith) (λ f. adds-done P false 0 0 c2)))
+      (λ c2. adds-need P false 0 0 _ 8 c2 _ (omega arith) (λ f. adds-done P false 0 0 c2))))
 
   adds-gaps : (i : ℕ) (c : List ℕ) → i < nodesOf P → Adds P false 0 0 c (beginGaps x i c)
   unfolding beginGaps
@@ -125,7 +126,7 @@ module _ (formats schema sources : List ℕ) (x : Tables) (keep gaps : Bool) (pa
       go false e b f h = absurd (eqb-false _ _ e h)
 
   module _ (accepted : answer .ground ≡ 0) where
-    passed : (length room ≤ 4294967295) × (sourcesGround formats schema x sources ≡ 0) × (roomPlaced formats schema sources x keep gaps parts plan counts room ≡ true)
+    passed : (length room ≤ ceiling) × (sourcesGround formats schema x sources ≡ 0) × (roomPlaced formats schema sources x keep gaps parts plan counts room ≡ true)
     passed = tests formats schema sources x keep gaps parts plan counts room accepted
 
     made : Settled answer

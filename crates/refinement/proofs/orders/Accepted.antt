@@ -2,7 +2,7 @@
 use mathlib.Core.Path.{_≡_, refl, sym, subst, _∙_}
 use mathlib.Core.Bool.{Bool, true, false, cond, _&&_}
 use mathlib.Core.List.{List, [], _∷_}
-use Prim.Native.Nat.{ℕ, _-_, _<_, min}
+use Prim.Native.Nat.{ℕ, _-_, _<_, _^_, min}
 use native.Mathlib.Omega.{arith}
 use lib.ListN.{length}
 use lib.Dec.{leb, ltb, eqb}
@@ -18,7 +18,7 @@ use Rattle.refinement.proofs.log_in_room.Uses.{used-wide}
 use Rattle.refinement.proofs.log_in_room.Copies.{used-copies}
 use Rattle.refinement.proofs.log_in_room.Fills.{used-nulls}
 use Rattle.parts.specs.Parts.{sizeOf, partsWithin, partsHold, Used}
-use Rattle.refinement.specs.orders.Sound.{planSound, walkable}
+use Rattle.refinement.specs.orders.Sound.{ceiling, planSound, walkable}
 use Rattle.refinement.specs.orders.Order.{After, Lent, joinOf, sourceCount, sourceLength, refused, settled, copyOrder, nullOrder, ordered, orderedAll}
 use Rattle.refinement.specs.orders.Written.{walkOf, Counters, OnlyAdds, OnlyUsed, AllMade}
 use Rattle.refinement.proofs.orders.Sound.{root-reached, closed-sound, run-ends-fixed, reached-used}
@@ -68,15 +68,15 @@ module _ (x : Lent) (counts room : List ℕ) where
   -- an accepted order was lent counters, a room and a plan that it can be walked in
   pub record Walked : Type 0 where
     pub long : length counts ≡ 96
-    pub small : length room < 4294967296
+    pub small : length room < 2 ^ 63
     pub sound : planSound (x .plan) ≡ true
 
   walked-by : (b d : Bool) (a : After) → eqb (length counts) 96 ≡ b → walkable (x .plan) (length room) ≡ d
       → cond b (cond d a (refused x counts room 14)) (refused x counts room 14) .ground ≡ 0 → Walked
   unfolding walkable
   walked-by true true a e f h =
-      let l = leb-true (length room) 4294967295 (and-left (leb (length room) 4294967295) (planSound (x .plan)) f) in
-      record { long = eqb-true _ _ e; small = omega arith; sound = and-right (leb (length room) 4294967295) (planSound (x .plan)) f }
+      let l = leb-true (length room) ceiling (and-left (leb (length room) ceiling) (planSound (x .plan)) f) in
+      record { long = eqb-true _ _ e; small = omega arith; sound = and-right (leb (length room) ceiling) (planSound (x .plan)) f }
   walked-by true false a e f h = absurd (omega arith)
   walked-by false d a e f h = absurd (omega arith)
 

@@ -3,6 +3,7 @@ use mathlib.Core.Path.{_≡_, refl, sym}
 use mathlib.Core.Bool.{Bool, true, false, not, cond, _&&_}
 use mathlib.Core.List.{List}
 use Prim.Native.Nat.{ℕ, zero, suc, _+_, _*_, _≤_, _<_}
+use native.Mathlib.Nat.{le-mul-of-pos-right}
 use native.Mathlib.Omega.{arith}
 use lib.Dec.{leb, ltb, eqb}
 use borrow.Author.Tests.{lt-ltb, le-leb, eq-eqb, ne-eqb, eqb-true, eqb-false, ltb-true}
@@ -14,7 +15,7 @@ use Rattle.walk.specs.State.{codeOf, dictionaryOf, keepsOf}
 use Rattle.refinement.specs.walk_is_model.Holds.{Worded}
 use Rattle.refinement.specs.log_in_room.Reach.{HasBuffer, Second, chars, sizes, positions, Free}
 use Rattle.refinement.proofs.log_in_room.Found.{between-both}
-use Rattle.parts.specs.Parts.{bufferCount, copied, validityParts, bufferParts, hasPart, neededBy}
+use Rattle.parts.specs.Parts.{bufferCount, copied, validityParts, bufferParts, hasPart, hasOffsets, entrySize, neededBy}
 use Rattle.parts.proofs.Placed.{every-at}
 
 -- a test of the 24 codes
@@ -35,6 +36,26 @@ list-two z h = let b = between-both 17 18 z h in eqb-true _ _ (table isListView 
 
 pub lists-one : (z : ℕ) → isList z ≡ true → bufferCount z ≡ 1
 lists-one z h = let b = between-both 19 20 z h in eqb-true _ _ (table isList (λ y. eqb (bufferCount y) 1) refl z (omega (arith, b .1)) h)
+
+-- a code with validity has a buffer with a part, and in it a byte a row at least
+bits-code : ℕ → Bool
+bits-code z = not (eqb z 0) && ltb z 21
+
+in-masks : (z : ℕ) → (z ≡ 0 → ⊥) → z < 21 → bits-code z ≡ true
+unfolding bits-code
+in-masks z q l = rw (ne-eqb z 0 q, lt-ltb z 21 l)
+
+pub some-buffer : (z : ℕ) → (z ≡ 0 → ⊥) → z < 21 → 0 < bufferCount z
+unfolding bits-code
+some-buffer z q l = ltb-true _ _ (table bits-code (λ y. ltb 0 (bufferCount y)) refl z (omega arith) (in-masks z q l))
+
+pub row-bytes : (z r n : ℕ) → (z ≡ 0 → ⊥) → z < 21 → r ≤ neededBy z r n 1
+unfolding bits-code
+row-bytes z r n q l = go (hasOffsets z) (ltb-true _ _ (table bits-code (λ y. ltb 0 (cond (hasOffsets y) (widthOf y) (entrySize y))) refl z (omega arith) (in-masks z q l)))
+  where
+    go : (t : Bool) → 0 < cond t (widthOf z) (entrySize z) → r ≤ cond t ((r + 1) * widthOf z) (r * entrySize z)
+    go true p = let h = le-mul-of-pos-right (r + 1) p in omega arith
+    go false p = le-mul-of-pos-right r p
 
 -- a code of one kind is of no other
 pub fixed-else : (z : ℕ) → isFixed z ≡ true → (isString z ≡ false) × (isView z ≡ false) × (isUnion z ≡ false) × (isList z ≡ false)
@@ -116,6 +137,14 @@ module _ (plan : List ℕ) where
       go true p b q e = absurd (let z : _≡_ {A = ℕ} 0 1 = cc e in omega arith)
       go false p true q e = (eqb-false _ _ p, ltb-true _ _ q)
       go false p false q e = absurd (let z : _≡_ {A = ℕ} 0 1 = cc e in omega arith)
+
+  pub bits-known : (i : ℕ) → hasPart plan i 0 ≡ true → (copied plan i ≡ true) × (codeOf plan i < 21)
+  unfolding hasPart validityParts
+  bits-known i h = go (copied plan i) refl
+    where
+      go : (b : Bool) → copied plan i ≡ b → (copied plan i ≡ true) × (codeOf plan i < 21)
+      go true e = (e, copied-bits i e h .1)
+      go false e = absurd (let g : eqb (cond (false && not (eqb (keepsOf plan i) 0) && ltb (codeOf plan i) 21) 1 0) 1 ≡ true = rw e at h in let z : _≡_ {A = ℕ} 0 1 = cc g in omega arith)
 
   pub bits-copied : (i : ℕ) → copied plan i ≡ true → (keepsOf plan i ≡ 0 → ⊥) → codeOf plan i < 21 → hasPart plan i 0 ≡ true
   unfolding hasPart validityParts

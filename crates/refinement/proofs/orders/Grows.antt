@@ -133,6 +133,15 @@ next-next o k l = go (eqb (o .ans) 0) refl (eqb (k (o .counts) .ans) 0) refl
     go true e false f = rw (e, f)
     go false e b f = rw (e, e)
 
+-- what follows is refused
+pub next-never : (o : Out) (k : List ℕ → Out) → ((c : List ℕ) → k c .ans ≡ 0 → ⊥) → next o k .ans ≡ 0 → ⊥
+unfolding next
+next-never o k q = go (eqb (o .ans) 0) refl
+  where
+    go : (b : Bool) → eqb (o .ans) 0 ≡ b → cond b (record { ans = k (o .counts) .ans; counts = k (o .counts) .counts; log = o .log ++ k (o .counts) .log }) o .ans ≡ 0 → ⊥
+    go true e = q (o .counts)
+    go false e = eqb-false _ _ e
+
 -- late: whether a write stands behind what was there, as those of orders do; an opening writes the first offsets
 module _ (state : List ℕ) (late : Bool) where
   -- ---- entries
@@ -147,8 +156,8 @@ module _ (state : List ℕ) (late : Bool) where
 
   -- a write of a walk from counters c on that leaves d, with n rows more due at node e
   abbrev pub Behind : ℕ → ℕ → List ℕ → List ℕ → Entry → Type 0
-  Behind e n c d (put j b o bs) = (late ≡ true → needed state c j b ≤ o) × Ends (o + length bs) (neededBy (codeOf state j) (rows d j + due e n j) (bytes d j) b)
-  Behind e n c d (mask j p vs) = (rows c j ≤ p) × Ends (p + length vs) (rows d j + due e n j)
+  Behind e n c d (put j b o bs) = (late ≡ true → needed state c j b ≤ o) × (1 ≤ b → Ends (o + length bs) (neededBy (codeOf state j) (rows d j + due e n j) (bytes d j) b))
+  Behind e n c d (mask j p vs) = (rows c j ≤ p) × Ends (p + length vs) (rows d j + due e n j) × (codeOf state j ≡ 0 → ⊥)
   Behind e n c d (amend j b o bs) = Over c j o × (b ≡ 1) × Ends (o + length bs) (neededBy (codeOf state j) (rows d j + due e n j) (bytes d j) b)
 
   unfoldable pub AllBehind : ℕ → ℕ → List ℕ → List ℕ → Log → Type 0
@@ -159,7 +168,7 @@ module _ (state : List ℕ) (late : Bool) where
   behind-wide e n a b c d p q (put j k o bs) h =
       let l = needed-more (codeOf state j) (rows a j) (rows b j) (bytes a j) (bytes b j) k (p .rows-grow j) (p .bytes-grow j) in
       let r = q .rows-grow j in
-      (λ y. let g = h .0 y in omega arith, ends-up (h .1) (needed-more (codeOf state j) _ _ _ _ k (omega arith) (q .bytes-grow j)))
+      (λ y. let g = h .0 y in omega arith, λ one. ends-up (h .1 one) (needed-more (codeOf state j) _ _ _ _ k (omega arith) (q .bytes-grow j)))
   behind-wide e n a b c d p q (amend j k o bs) h =
       let l = p .rows-grow j in
       let r = q .rows-grow j in
@@ -177,7 +186,7 @@ module _ (state : List ℕ) (late : Bool) where
   behind-wide e n a b c d p q (mask j k vs) h =
       let l = p .rows-grow j in
       let r = q .rows-grow j in
-      (omega (arith, h .0), ends-up (h .1) (omega arith))
+      (omega (arith, h .0), ends-up (h .1) (omega arith), h .2)
 
   all-wide : (e n : ℕ) (a b c d : List ℕ) → Longer state late a b → Longer state late c d → (l : Log) → AllBehind e n b c l → AllBehind e n a d l
   unfolding AllBehind
@@ -193,11 +202,11 @@ module _ (state : List ℕ) (late : Bool) where
   behind-due : (e n f : ℕ) (c d : List ℕ) (x : Entry) → Behind f 0 c d x → Behind e n c d x
   behind-due e n f c d (put j k o bs) h =
       let z = due-none f j in
-      (h .0, ends-up (h .1) (needed-more (codeOf state j) _ _ _ _ k (omega arith) (λ s. le-refl _)))
+      (h .0, λ one. ends-up (h .1 one) (needed-more (codeOf state j) _ _ _ _ k (omega arith) (λ s. le-refl _)))
   behind-due e n f c d (amend j k o bs) h =
       let z = due-none f j in
       (h .0, h .1, ends-up (h .2) (needed-more (codeOf state j) _ _ _ _ k (omega arith) (λ s. le-refl _)))
-  behind-due e n f c d (mask j k vs) h = let z = due-none f j in (h .0, ends-up (h .1) (omega arith))
+  behind-due e n f c d (mask j k vs) h = let z = due-none f j in (h .0, ends-up (h .1) (omega arith), h .2)
 
   all-due : (e n f : ℕ) (c d : List ℕ) (l : Log) → AllBehind f 0 c d l → AllBehind e n c d l
   unfolding AllBehind
@@ -205,25 +214,25 @@ module _ (state : List ℕ) (late : Bool) where
   all-due e n f c d (x ∷ l) h = (behind-due e n f c d x (h .0), all-due e n f c d l (h .1))
 
   -- the rows that were due are counted
-  ends-close : (i n : ℕ) (d : List ℕ) → i < 32 → Fine d → (j k m : ℕ) → Ends m (neededBy (codeOf state j) (rows d j + due i n j) (bytes d j) k)
+  ends-close : (i n : ℕ) (d : List ℕ) → i < 32 → Fine d → (j k m : ℕ) → 1 ≤ k → Ends m (neededBy (codeOf state j) (rows d j + due i n j) (bytes d j) k)
       → Ends m (neededBy (codeOf state j) (rows (addRows i n d) j + due i 0 j) (bytes (addRows i n d) j) k)
-  ends-close i n d small fine j k m h g =
+  ends-close i n d small fine j k m one h g =
       let e = rows-now state late i n d small fine j in
       let f = bytes-of-rows d i n j in
       let z = due-none i j in
       let v : rows (addRows i n d) j + due i 0 j ≡ min (rows d j + due i n j) top = omega arith in
       let w : neededBy (codeOf state j) (rows (addRows i n d) j + due i 0 j) (bytes (addRows i n d) j) k ≡ neededBy (codeOf state j) (min (rows d j + due i n j) top) (bytes d j) k = rw (v, f) in
-      let s = needed-cut (codeOf state j) (rows d j + due i n j) (bytes d j) k (omega arith) in
+      let s = needed-cut (codeOf state j) (rows d j + due i n j) (bytes d j) k one (omega arith) in
       let t = h (omega arith) in
       omega arith
 
   behind-close : (i n : ℕ) (c d : List ℕ) → i < 32 → Fine d → (x : Entry) → Behind i n c d x → Behind i 0 c (addRows i n d) x
-  behind-close i n c d small fine (put j k o bs) h = (h .0, ends-close i n d small fine j k (o + length bs) (h .1))
-  behind-close i n c d small fine (amend j k o bs) h = (h .0, h .1, ends-close i n d small fine j k (o + length bs) (h .2))
+  behind-close i n c d small fine (put j k o bs) h = (h .0, λ one. ends-close i n d small fine j k (o + length bs) one (h .1 one))
+  behind-close i n c d small fine (amend j k o bs) h = (h .0, h .1, ends-close i n d small fine j k (o + length bs) (omega (arith, h .1)) (h .2))
   behind-close i n c d small fine (mask j k vs) h =
       let e = rows-now state late i n d small fine j in
       let z = due-none i j in
-      (h .0, λ g. let t = h .1 (omega arith) in omega arith)
+      (h .0, λ g. let t = h .1 (omega arith) in omega arith, h .2)
 
   all-close : (i n : ℕ) (c d : List ℕ) → i < 32 → Fine d → (l : Log) → AllBehind i n c d l → AllBehind i 0 c (addRows i n d) l
   unfolding AllBehind
@@ -258,6 +267,10 @@ module _ (state : List ℕ) (late : Bool) where
     pub adds-fail : (g : ℕ) (c : List ℕ) → 0 < g → Adds e n c (fail g c)
     unfolding fail
     adds-fail g c p = record { added = λ f h. absurd (omega arith) }
+
+    -- a walk that is refused has nothing to add
+    pub adds-never : (c : List ℕ) (o : Out) → (o .ans ≡ 0 → ⊥) → Adds e n c o
+    adds-never c o q = record { added = λ f h. absurd (q h) }
 
     pub adds-wrote : (x : Entry) (c : List ℕ) → Behind e n c c x → Adds e n c (wrote x c)
     unfolding wrote AllBehind
@@ -346,7 +359,7 @@ module _ (state : List ℕ) (late : Bool) where
         let k1 : rows c i * w ≤ (rows c i + r) * w = mul-le-mul-right w (omega arith) in
         let k2 : (rows c i + r + q) * w ≤ (rows c i + due i n i) * w = mul-le-mul-right w (omega arith) in
         let k3 = add-mul (rows c i + r) q w in
-        (λ y. omega arith, λ z. omega arith)
+        (λ y. omega arith, λ one z. omega arith)
 
     -- n entries of w bytes
     pub behind-all : (b w : ℕ) (bs c : List ℕ) → ((k m : ℕ) → neededBy (codeOf state i) k m b ≡ k * w) → length bs ≤ n * w → Behind i n c c (put i b (rows c i * w) bs)
@@ -363,10 +376,10 @@ module _ (state : List ℕ) (late : Bool) where
         let k2 : (suc (rows c i) + n) * w ≤ (rows c i + due i n i + 1) * w = mul-le-mul-right w (omega arith) in
         let k3 = add-mul (suc (rows c i)) n w in
         let k4 = mul-comm w n in
-        (λ y. omega arith, λ z. omega arith)
+        (λ y. omega arith, λ one z. omega arith)
 
-    pub behind-bits : (vs c : List ℕ) → length vs ≤ n → Behind i n c c (mask i (rows c i) vs)
-    behind-bits vs c l = let d = due-here i n in (le-refl _, λ z. omega arith)
+    pub behind-bits : (vs c : List ℕ) → length vs ≤ n → (codeOf state i ≡ 0 → ⊥) → Behind i n c c (mask i (rows c i) vs)
+    behind-bits vs c l q = let d = due-here i n in (le-refl _, λ z. omega arith, q)
 
     -- the last run end of node i written over
     pub over-last : (v : ℕ) (c : List ℕ) → codeOf state i ≡ 23 → (late ≡ true → gap c i ≡ 0 → ⊥) → 1 ≤ rows c (suc i)

@@ -24,7 +24,7 @@ use Rattle.run_ends.specs.declared.Runs.{Runs}
 use Rattle.run_ends.specs.declared.Runs.the-variants.{Range, None}
 use Rattle.run_ends.proofs.Laws.{length-clipped}
 use Rattle.walk.specs.State.{Join, codeOf, dictionaryOf, endOf, keepsOf, baseOf, bytesOf, rows, bytes, gap, place, far, addRows, setBytes, endGap}
-use Rattle.walk.specs.Log.{put, done, wrote, next}
+use Rattle.walk.specs.Log.{put, Out, fail, done, wrote, next}
 use Rattle.refinement.proofs.walk_is_model.Counters.{bytes-set}
 use Rattle.walk.specs.Leaves.{copyBits, copyMask, copyNumbers, copyKeys, copyViews, putString, putExtended, copyString}
 use Rattle.walk.specs.Copy.{Walk, isWidth, masked, listViewRow, copyListView, putStretch, putList, copyList, copyFields, copySparse, idAt, denseTo, denseRow, copyDense, putRuns, runsAt, copyRuns, copyData, copySlots, copyNode, copyWalk}
@@ -32,7 +32,7 @@ use Rattle.refinement.specs.log_in_room.Reach.{Child, Closed}
 use Rattle.refinement.proofs.log_in_room.Found.{between-wide, and-first, child-first, child-later, child-with}
 use Rattle.parts.specs.Parts.{neededBy}
 use Rattle.refinement.proofs.orders.Buffers.{needed-fixed, needed-offsets, needed-chars, needed-views, needed-starts, needed-sizes, needed-ends}
-use Rattle.refinement.proofs.orders.Grows.{Fine, AllBehind, Behind, Adds, due, longer-same, behind-wide, longer-bytes, fine-bytes, behind-rows, behind-all, behind-offsets, behind-bits, adds-done, adds-nulls, adds-gap, adds-done-two, adds-fail, adds-wrote, adds-cond, adds-need, adds-found, adds-next, adds-each, adds-whole, adds-close, adds-close-two}
+use Rattle.refinement.proofs.orders.Grows.{Fine, AllBehind, Behind, Adds, due, longer-same, behind-wide, longer-bytes, fine-bytes, behind-rows, behind-all, behind-offsets, behind-bits, adds-done, adds-nulls, adds-gap, adds-done-two, adds-fail, adds-never, next-never, adds-wrote, adds-cond, adds-need, adds-found, adds-next, adds-each, adds-whole, adds-close, adds-close-two}
 
 -- ---- lengths
 
@@ -102,13 +102,13 @@ module _ (x : Join) (In At : ℕ → Type 0) (closed : Closed (x .state) In At) 
   -- ---- a node without children
 
   module _ (i n : ℕ) (small : i < 32) where
-    adds-copy-mask : (slot : ℕ) (c : List ℕ) → Adds S late i n c (copyMask x i slot n c)
+    adds-copy-mask : (slot : ℕ) (c : List ℕ) → (codeOf S i ≡ 0 → ⊥) → Adds S late i n c (copyMask x i slot n c)
     unfolding copyMask copyBits
-    adds-copy-mask slot c =
+    adds-copy-mask slot c q =
         adds-cond S late i n c (eqb (keepsOf S i) 0) _ _ (λ e. adds-done S late i n c)
-        (λ e. adds-cond S late i n c (eqb (place x i 0) 0) _ _ (λ f. adds-wrote S late i n _ c (behind-bits S late i n (replicate n 1) c (ones n)))
+        (λ e. adds-cond S late i n c (eqb (place x i 0) 0) _ _ (λ f. adds-wrote S late i n _ c (behind-bits S late i n (replicate n 1) c (ones n) q))
         (λ f. adds-need S late i n _ 12 c _ (omega arith)
-        (λ g. adds-next S late i n c _ _ (adds-wrote S late i n _ c (behind-bits S late i n (bitsAt (8 * place x i 1 + slot) n (x .body)) c (taken-bits _ n (x .body))))
+        (λ g. adds-next S late i n c _ _ (adds-wrote S late i n _ c (behind-bits S late i n (bitsAt (8 * place x i 1 + slot) n (x .body)) c (taken-bits _ n (x .body)) q))
         (λ c2. adds-nulls S late i n i _ c2 small))))
 
     needs-all : (b w : ℕ) (bs c : List ℕ) → ((k m : ℕ) → neededBy (codeOf S i) k m b ≡ k * w) → length bs ≤ n * w → Adds S late i n c (wrote (put i b (rows c i * w) bs) c)
@@ -146,7 +146,7 @@ module _ (x : Join) (In At : ℕ → Type 0) (closed : Closed (x .state) In At) 
               record {
                 fine = fine-bytes S late i last c small f;
                 longer = longer;
-                behind = (behind-wide S late i n c c c (setBytes i last c) (longer-same S late c) longer (put i 1 (suc (rows c i) * bytesOf S i) (movedOffsets (bytesOf S i) (x .body) from (bytes c i) n)) (behind-offsets S late i n (bytesOf S i) (movedOffsets (bytesOf S i) (x .body) from (bytes c i) n) c (λ k m. needed-offsets (codeOf S i) k m h) (moved-all (bytesOf S i) (x .body) from (bytes c i) n)), ((λ v. omega arith, λ y. omega arith), tt));
+                behind = (behind-wide S late i n c c c (setBytes i last c) (longer-same S late c) longer (put i 1 (suc (rows c i) * bytesOf S i) (movedOffsets (bytesOf S i) (x .body) from (bytes c i) n)) (behind-offsets S late i n (bytesOf S i) (movedOffsets (bytesOf S i) (x .body) from (bytes c i) n) c (λ k m. needed-offsets (codeOf S i) k m h) (moved-all (bytesOf S i) (x .body) from (bytes c i) n)), ((λ v. omega arith, λ one y. omega arith), tt));
               };
         })
     adds-extended from _ c h (over row least) = adds-fail S late i n 6 c (omega arith)
@@ -265,15 +265,27 @@ module _ (x : Join) (In At : ℕ → Type 0) (closed : Closed (x .state) In At) 
         (λ e7. adds-cond S late i n c (eqb (codeOf S i) 23) _ _ (λ e. adds-runs slot c (eqb-true (codeOf S i) 23 e))
         (λ e8. adds-fail S late i n 12 c (omega arith)))))))))
 
+  -- a node of no code is refused
+  no-code : (walk : Walk) (i slot n : ℕ) (c : List ℕ) (k : List ℕ → Out) → codeOf S i ≡ 0 → next (copyData x walk (codeOf S i) i slot n c) k .ans ≡ 12
+  unfolding copyData next fail
+  no-code walk i slot n c k e = rw e
+
+  adds-slots : (walk : Walk) (below : (k a n : ℕ) (c : List ℕ) → In k → Adds S late k 0 c (walk k a n c)) (i slot n : ℕ) (c : List ℕ) → i < 32 → In i → Adds S late i 0 c (copySlots x walk i slot n c)
+  unfolding copySlots
+  adds-slots walk below i slot n c small here = go (eqb (codeOf S i) 0) refl
+    where
+      go : (b : Bool) → eqb (codeOf S i) 0 ≡ b → Adds S late i 0 c (copySlots x walk i slot n c)
+      go true e = adds-never S late i 0 c _ (next-never _ _ (λ c2 h. let z = no-code walk i slot n c2 (λ c3. done (addRows i n c3)) (eqb-true (codeOf S i) 0 e) in omega arith))
+      go false e =
+          adds-close-two S late i n c _ _ small
+          (adds-cond S late i n c (masked (codeOf S i)) _ _ (λ g. adds-copy-mask i n small slot c (eqb-false (codeOf S i) 0 e)) (λ g. adds-done S late i n c))
+          (λ c2. adds-data walk below i n small here slot c2)
+
   adds-node : (walk : Walk) (below : (k a n : ℕ) (c : List ℕ) → In k → Adds S late k 0 c (walk k a n c)) (i a n : ℕ) (c : List ℕ) → In i → Adds S late i 0 c (copyNode x walk i a n c)
-  unfolding copyNode copySlots
+  unfolding copyNode
   adds-node walk below i a n c here =
       adds-need S late i 0 (ltb i 32) 12 c _ (omega arith)
-      (λ e. let small = ltb-true i 32 e in
-      adds-found S late i 0 far _ 12 c _ (omega arith)
-      (λ f. adds-close-two S late i n c _ _ small
-      (adds-cond S late i n c (masked (codeOf S i)) _ _ (λ g. adds-copy-mask i n small _ c) (λ g. adds-done S late i n c))
-      (λ c2. adds-data walk below i n small here _ c2)))
+      (λ e. adds-found S late i 0 far _ 12 c _ (omega arith) (λ f. adds-slots walk below i _ n c (ltb-true i 32 e) here))
 
   -- A COPY ONLY ADDS
   pub adds-copies : (depth i a n : ℕ) (c : List ℕ) → In i → Adds S late i 0 c (copyWalk x depth i a n c)

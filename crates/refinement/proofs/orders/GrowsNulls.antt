@@ -7,14 +7,14 @@ use native.Mathlib.Nat.{mul-comm, one-mul, le-of-eq}
 use native.Mathlib.Omega.{arith}
 use lib.ListN.{length, replicate, length-replicate}
 use lib.Dec.{ltb, eqb}
-use borrow.Author.Tests.{ltb-true, leb-true, eqb-true}
+use borrow.Author.Tests.{ltb-true, leb-true, eqb-true, eqb-false}
 use Rattle.number.specs.Number.{encode}
 use Rattle.number.proofs.Laws.{length-encode}
 use Rattle.formats.specs.Code.{isFixed, isString, isView, isListView, isList, isUnion}
 use Rattle.utils.specs.Offsets.{repeated, countedUp}
 use Rattle.utils.proofs.Pieces.{length-numbers}
 use Rattle.walk.specs.State.{Join, codeOf, endOf, keepsOf, idOf, bytesOf, rows, bytes, gap, addRows, beginGap}
-use Rattle.walk.specs.Log.{put, mask, wrote}
+use Rattle.walk.specs.Log.{put, mask, Out, fail, done, wrote, next}
 use Rattle.walk.specs.Leaves.{nullMask, countNulls, nullNumbers, nullString}
 use Rattle.walk.specs.Copy.{isWidth, masked}
 use Rattle.walk.specs.Nulls.{NullWalk, nullableChild, noHome, nullListView, nullList, nullFields, nullSparse, nullDense, addRun, growRun, nullRuns, nullData, nullNode, nullWalk}
@@ -22,7 +22,7 @@ use Rattle.refinement.specs.log_in_room.Reach.{Child, Closed}
 use Rattle.refinement.proofs.log_in_room.Found.{and-first, child-first, child-later, child-nullable}
 use Rattle.parts.specs.Parts.{neededBy}
 use Rattle.refinement.proofs.orders.Buffers.{needed-fixed, needed-offsets, needed-views, needed-starts, needed-sizes, needed-ends}
-use Rattle.refinement.proofs.orders.Grows.{Adds, behind-rows, behind-all, behind-offsets, behind-bits, over-last, adds-done, adds-done-two, adds-gap, adds-nulls, adds-fail, adds-wrote, adds-cond, adds-need, adds-found, adds-next, adds-whole, adds-close, adds-close-two}
+use Rattle.refinement.proofs.orders.Grows.{Adds, behind-rows, behind-all, behind-offsets, behind-bits, over-last, adds-done, adds-done-two, adds-gap, adds-nulls, adds-fail, adds-never, adds-wrote, adds-cond, adds-need, adds-found, adds-next, adds-whole, adds-close, adds-close-two}
 
 same : (n v : ℕ) → length (replicate n v) ≡ n
 same n v = length-replicate n v
@@ -40,11 +40,11 @@ module _ (x : Join) (In At : ℕ → Type 0) (closed : Closed (x .state) In At) 
   S = x .state
 
   module _ (i n : ℕ) (small : i < 32) where
-    adds-null-mask : (c : List ℕ) → Adds S late i n c (nullMask x i n c)
+    adds-null-mask : (c : List ℕ) → (codeOf S i ≡ 0 → ⊥) → Adds S late i n c (nullMask x i n c)
     unfolding nullMask
-    adds-null-mask c =
+    adds-null-mask c q =
         adds-cond S late i n c (eqb (keepsOf S i) 0) _ _ (λ e. adds-done S late i n c)
-        (λ e. adds-next S late i n c _ _ (adds-wrote S late i n (mask i (rows c i) (replicate n 0)) c (behind-bits S late i n (replicate n 0) c (le-of-eq (same n 0)))) (λ c2. adds-nulls S late i n i n c2 small))
+        (λ e. adds-next S late i n c _ _ (adds-wrote S late i n (mask i (rows c i) (replicate n 0)) c (behind-bits S late i n (replicate n 0) c (le-of-eq (same n 0)) q)) (λ c2. adds-nulls S late i n i n c2 small))
 
     adds-count : (c : List ℕ) → Adds S late i n c (countNulls x i n c)
     unfolding countNulls
@@ -156,14 +156,28 @@ module _ (x : Join) (In At : ℕ → Type 0) (closed : Closed (x .state) In At) 
         (λ e7. adds-cond S late i n c (eqb (codeOf S i) 23) _ _ (λ e. adds-null-runs c (eqb-true (codeOf S i) 23 e))
         (λ e8. adds-fail S late i n 12 c (omega arith)))))))))
 
+  -- a node of no code is refused
+  no-code : (walk : NullWalk) (i n : ℕ) (c : List ℕ) (k : List ℕ → Out) → codeOf S i ≡ 0 → next (nullData x walk (codeOf S i) i n c) k .ans ≡ 12
+  unfolding nullData next fail
+  no-code walk i n c k e = rw e
+
+  adds-null-rows : (walk : NullWalk) (below : (k n : ℕ) (c : List ℕ) → In k → Adds S late k 0 c (walk k n c)) (i n : ℕ) (c : List ℕ) → i < 32 → In i
+      → Adds S late i 0 c (next (nullData x walk (codeOf S i) i n c) (λ c2. next (cond (masked (codeOf S i)) (nullMask x i n c2) (countNulls x i n c2)) (λ c3. done (addRows i n c3))))
+  adds-null-rows walk below i n c small here = go (eqb (codeOf S i) 0) refl
+    where
+      go : (b : Bool) → eqb (codeOf S i) 0 ≡ b
+          → Adds S late i 0 c (next (nullData x walk (codeOf S i) i n c) (λ c2. next (cond (masked (codeOf S i)) (nullMask x i n c2) (countNulls x i n c2)) (λ c3. done (addRows i n c3))))
+      go true e = adds-never S late i 0 c _ (λ h. let z = no-code walk i n c (λ c2. next (cond (masked (codeOf S i)) (nullMask x i n c2) (countNulls x i n c2)) (λ c3. done (addRows i n c3))) (eqb-true (codeOf S i) 0 e) in omega arith)
+      go false e =
+          adds-close-two S late i n c _ _ small (adds-null-data walk below i n small here c)
+          (λ c2. adds-cond S late i n c2 (masked (codeOf S i)) _ _ (λ g. adds-null-mask i n small c2 (eqb-false (codeOf S i) 0 e)) (λ g. adds-count i n small c2))
+
   adds-null-node : (walk : NullWalk) (below : (k n : ℕ) (c : List ℕ) → In k → Adds S late k 0 c (walk k n c)) (i n : ℕ) (c : List ℕ) → In i → Adds S late i 0 c (nullNode x walk i n c)
   unfolding nullNode
   adds-null-node walk below i n c here =
       adds-cond S late i 0 c (eqb n 0) _ _ (λ e. adds-done S late i 0 c)
       (λ e. adds-need S late i 0 (ltb i 32) 12 c _ (omega arith)
-      (λ f. let small = ltb-true i 32 f in
-      adds-close-two S late i n c _ _ small (adds-null-data walk below i n small here c)
-      (λ c2. adds-cond S late i n c2 (masked (codeOf S i)) _ _ (λ g. adds-null-mask i n small c2) (λ g. adds-count i n small c2))))
+      (λ f. adds-null-rows walk below i n c (ltb-true i 32 f) here))
 
   -- NULLS ONLY ADD
   pub adds-fills : (depth i n : ℕ) (c : List ℕ) → In i → Adds S late i 0 c (nullWalk x depth i n c)

@@ -2,7 +2,7 @@
 use mathlib.Core.Path.{_≡_, ap}
 use mathlib.Core.Bool.{true, _&&_}
 use mathlib.Core.List.{List, [], _∷_}
-use Prim.Native.Nat.{ℕ, zero, suc, _*_, _≤_, _<_}
+use Prim.Native.Nat.{ℕ, zero, suc, _*_, _≤_, _<_, _^_}
 use native.Mathlib.Nat.{mul-suc}
 use native.Mathlib.Omega.{arith}
 use lib.ListN.{length}
@@ -53,7 +53,7 @@ module _ (plan parts : List ℕ) (m : ℕ) where
 
   -- a part has fewer bytes than a room may have: the root's own buffers say so
   pub short-own : (k : ℕ) (t : Ty) (ss : ℕ → Column t) (d : Destination t) → Worded plan k t 0 → Formed t → FineNode (masks t) (fineOf t m (λ j. ss j .body)) m ss d
-      → fitsAll plan parts 0 0 (buffersOf t (d .«data»)) ≡ true → (0 < bufferCount (codeOf plan 0) → sizeOf plan parts 0 1 < 4294967296) → d .len < far
+      → fitsAll plan parts 0 0 (buffersOf t (d .«data»)) ≡ true → (0 < bufferCount (codeOf plan 0) → sizeOf plan parts 0 1 < 2 ^ 63) → d .len < far
   short-own (suc k) (tPlain (fixed n)) ss d w o f h r =
       let z = fixed-one (codeOf plan 0) (w .3 .0) in
       omega (arith, r (omega arith), first-in 0 (d .«data») [] h, f .data-fine, le-mul (d .len) (width n) (width-pos n))
@@ -81,5 +81,5 @@ module _ (plan parts : List ℕ) (m : ℕ) where
       omega (arith, r (omega arith), first-in 0 (d .«data») [] h, f .data-fine .keys-are, le-mul (d .len) (width n) (width-pos n))
 
   pub short : (k : ℕ) (t : Ty) (ss : ℕ → Column t) (d : Destination t) → Worded plan k t 0 → Formed t → FineNode (masks t) (fineOf t m (λ j. ss j .body)) m ss d
-      → fits plan parts t 0 d ≡ true → (0 < bufferCount (codeOf plan 0) → sizeOf plan parts 0 1 < 4294967296) → d .len < far
+      → fits plan parts t 0 d ≡ true → (0 < bufferCount (codeOf plan 0) → sizeOf plan parts 0 1 < 2 ^ 63) → d .len < far
   short k t ss d w o f h r = short-own k t ss d w o f (own-in t 0 d h) r

@@ -3,7 +3,7 @@ use mathlib.Core.Path.{_≡_, refl, sym, ap, subst, _∙_}
 use mathlib.Core.Bool.{Bool, true, false, not, cond, _&&_}
 use mathlib.Core.Option.{Option, none, some}
 use mathlib.Core.List.{List, [], _∷_}
-use Prim.Native.Nat.{ℕ, suc, _+_, _*_, _-_, _≤_, _<_, min}
+use Prim.Native.Nat.{ℕ, suc, _+_, _*_, _-_, _≤_, _<_, _^_, min}
 use native.Mathlib.Nat.{add-zero}
 use native.Mathlib.Decide.{decLt}
 use native.Mathlib.Omega.{arith}
@@ -39,7 +39,7 @@ use Rattle.refinement.proofs.log_in_room.Closure.{closed-free}
 use Rattle.refinement.proofs.log_in_room.Applied.{room-lies, room-long}
 use Rattle.refinement.proofs.log_in_room.Orders.{copy-used, nulls-used}
 use Rattle.parts.specs.Parts.{nodesOf, bufferCount, needed, neededBy, sizeOf, partsHold, partsWithin, Used}
-use Rattle.refinement.specs.orders.Sound.{planSound, walkable}
+use Rattle.refinement.specs.orders.Sound.{ceiling, planSound, walkable}
 use Rattle.refinement.specs.orders.Order.{After, Lent, joinOf, sourceCount, sourceLength, refused, settled, copyOrder, nullOrder, ordered}
 use Rattle.refinement.specs.orders.Fits.{fits, answerIn}
 use Rattle.refinement.proofs.orders.Buffers.{buffer-part, has-part}
@@ -94,7 +94,7 @@ module _ (x : Lent) (t : Ty) (m : ℕ) (ss : ℕ → Column t) where
 
     walks : (d : Destination t) (counts room : List ℕ) → Running d counts room → walkable (x .plan) (length room) ≡ true
     unfolding walkable
-    walks d counts room run = let s = run .placed .small in rw (le-leb (length room) 4294967295 (omega arith)) (join .sound)
+    walks d counts room run = let s = run .placed .small in rw (le-leb (length room) ceiling (omega arith)) (join .sound)
 
     -- ---- a walk and what it comes to
 
@@ -182,7 +182,7 @@ module _ (x : Lent) (t : Ty) (m : ℕ) (ss : ℕ → Column t) where
                   i b (omega arith) (omega (arith, u .node, join .all-nodes)) y (u .part)
               go (no y) = rest′ i b u y
 
-          small-part : 0 < bufferCount (codeOf (x .plan) 0) → sizeOf (x .plan) (x .parts) 0 1 < 4294967296
+          small-part : 0 < bufferCount (codeOf (x .plan) 0) → sizeOf (x .plan) (x .parts) 0 1 < 2 ^ 63
           small-part p =
               let u : Used (x .plan) 0 1 = record { node = omega (arith, join .all-nodes, worded-span (x .plan) 8 t 0 (first-opened join .worded)); part = buffer-part (x .plan) 0 0 tt p } in
               omega (arith, run .placed .inside 0 1 u, run .placed .small)
@@ -311,7 +311,7 @@ module _ (x : Lent) (t : Ty) (m : ℕ) (ss : ℕ → Column t) where
 
       -- ---- a count beyond: no part holds its rows
 
-      pub small-room : 0 < bufferCount (codeOf (x .plan) 0) → sizeOf (x .plan) (x .parts) 0 1 < 4294967296
+      pub small-room : 0 < bufferCount (codeOf (x .plan) 0) → sizeOf (x .plan) (x .parts) 0 1 < 2 ^ 63
       small-room p =
           let u : Used (x .plan) 0 1 = record { node = omega (arith, join .all-nodes, worded-span (x .plan) 8 t 0 (first-opened join .worded)); part = buffer-part (x .plan) 0 0 tt p } in
           omega (arith, run .placed .inside 0 1 u, run .placed .small)

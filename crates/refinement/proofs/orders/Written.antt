@@ -3,31 +3,32 @@
 use mathlib.Core.Path.{_≡_, refl, sym, subst, _∙_}
 use mathlib.Core.Bool.{Bool, true, false}
 use mathlib.Core.List.{List, [], _∷_}
-use Prim.Native.Nat.{ℕ, zero, suc, _+_, _-_, _*_, _/_, _≤_, _<_}
+use Prim.Native.Nat.{ℕ, zero, suc, _+_, _-_, _*_, _/_, _≤_, _<_, _^_}
 use native.Mathlib.Nat.{add-zero}
 use native.Mathlib.Decide.{decLt}
 use native.Mathlib.Omega.{arith}
 use lib.ListN.{length, getD}
 use lib.Dec.{eqb}
-use borrow.Author.Tests.{lt-ltb, le-leb, eqb-true, eqb-false}
+use borrow.Author.Tests.{le-leb, eqb-true, eqb-false}
 use Rattle.bits.specs.Bits.{bits, putBits}
 use Rattle.bits.proofs.Laws.{below-of}
 use Rattle.bits.proofs.Puts.{put-nil, put-below}
 use Rattle.number.specs.Number.{splice}
-use Rattle.walk.specs.State.{codeOf, bytesOf, rows, bytes, gap, beyond}
+use Rattle.walk.specs.State.{codeOf, bytesOf, rows, bytes, gap}
 use Rattle.walk.specs.Log.{Entry, put, mask, amend, Log, startOf, inRoom, enter, apply}
 use Rattle.refinement.specs.log_in_room.Room.{AllBelow, Apart, UsedEntry, AllUsed}
 use Rattle.refinement.proofs.log_in_room.Writes.{apart-never, Wrote, put-wrote, mask-wrote, bit-same}
 use Rattle.parts.specs.Parts.{needed, neededBy, sizeOf, partsWithin, partsHold, Used}
 use Rattle.parts.proofs.Placed.{within-used, used-holds, bits-held}
 use Rattle.refinement.specs.orders.Written.{Gained, LastEnd, OnlyAdds, OnlyUsed, Made, AllMade, Ends}
+use Rattle.refinement.proofs.orders.Buffers.{bits-known, buffer-copied, some-buffer, row-bytes}
 use Rattle.refinement.proofs.orders.Grows.{due, due-none, Over, Behind, AllBehind}
 
-in-room : (start o n m : ℕ) → o < beyond → n < beyond → start + o + n ≤ m → inRoom start o n m ≡ true
+in-room : (start o n m : ℕ) → start + o + n ≤ m → inRoom start o n m ≡ true
 unfolding inRoom
-in-room start o n m p q r = rw (lt-ltb o beyond p, lt-ltb n beyond q, le-leb (start + o + n) m r)
+in-room start o n m r = le-leb (start + o + n) m r
 
-module _ (plan parts c d : List ℕ) (m : ℕ) (small : m < 4294967296) (within : partsWithin plan parts m ≡ true) (holds : partsHold plan d parts ≡ true) (late : Bool) (e : ℕ) where
+module _ (plan parts c d : List ℕ) (m : ℕ) (small : m < 2 ^ 63) (within : partsWithin plan parts m ≡ true) (holds : partsHold plan d parts ≡ true) (late : Bool) (e : ℕ) where
   abbrev U : Entry → Type 0
   U = UsedEntry (Used plan)
 
@@ -45,18 +46,29 @@ module _ (plan parts c d : List ℕ) (m : ℕ) (small : m < 4294967296) (within 
       let l = h (omega arith) in
       (omega arith, omega arith)
 
+  -- a node with a part for its validity has one with a byte a row
+  few-rows : (i : ℕ) → Used plan i 0 → (codeOf plan i ≡ 0 → ⊥) → rows d i < 2 ^ 63
+  few-rows i u q =
+      let b = bits-known plan i (u .part) in
+      let v : Used plan i 1 = record { node = u .node; part = buffer-copied plan i 0 (b .0) (some-buffer (codeOf plan i) q (b .1)) } in
+      let k = used-holds plan d parts holds i 1 v in
+      let w = within-used plan parts m within i 1 v .1 in
+      let r = row-bytes (codeOf plan i) (rows d i) (bytes d i) q (b .1) in
+      omega (arith, k, w, r, small)
+
   mask-ends : (i p : ℕ) (vs : List ℕ) → Used plan i 0 → B (mask i p vs) → (p + length vs ≤ rows d i) × (8 * startOf plan parts i 0 + rows d i ≤ 8 * m)
   mask-ends i p vs u h =
       let z = due-none e i in
       let w = within-used plan parts m within i 0 u .1 in
       let k = bits-held plan d parts holds i u in
+      let s = few-rows i u (h .2) in
       let l = h .1 (omega arith) in
       (omega arith, omega arith)
 
   made : (x : Entry) → U x → B x → Made plan parts m x
-  made (put i b o bs) u h = let z = put-ends i b o bs (u .0) (h .1) in in-room (startOf plan parts i b) o (length bs) m (omega (arith, z .0, z .1)) (omega (arith, z .0, z .1)) (omega (arith, z .0, z .1))
-  made (amend i b o bs) u h = let z = put-ends i b o bs (u .0) (h .2) in in-room (startOf plan parts i b) o (length bs) m (omega (arith, z .0, z .1)) (omega (arith, z .0, z .1)) (omega (arith, z .0, z .1))
-  made (mask i p vs) u h = let z = mask-ends i p vs (u .0) h in in-room (8 * startOf plan parts i 0) p (length vs) (8 * m) (omega (arith, z .0, z .1)) (omega (arith, z .0, z .1)) (omega (arith, z .0, z .1))
+  made (put i b o bs) u h = let z = put-ends i b o bs (u .0) (h .1 (u .1)) in in-room (startOf plan parts i b) o (length bs) m (omega (arith, z .0, z .1))
+  made (amend i b o bs) u h = let z = put-ends i b o bs (u .0) (h .2) in in-room (startOf plan parts i b) o (length bs) m (omega (arith, z .0, z .1))
+  made (mask i p vs) u h = let z = mask-ends i p vs (u .0) h in in-room (8 * startOf plan parts i 0) p (length vs) (8 * m) (omega (arith, z .0, z .1))
 
   -- EVERY WRITE IS MADE
   pub all-made : (l : Log) → AllUsed (Used plan) l → AllBehind plan late e 0 c d l → AllMade plan parts m l
@@ -70,7 +82,7 @@ module _ (plan parts c d : List ℕ) (m : ℕ) (small : m < 4294967296) (within 
       → Wrote (startOf plan parts i b + o) (startOf plan parts i b + o + length bs) room (enter plan parts (put i b o bs) room)
   unfolding enter
   step-put i b o bs room n r u h =
-      let z = put-ends i b o bs (u .0) (h .1) in
+      let z = put-ends i b o bs (u .0) (h .1 (u .1)) in
       let t : inRoom (startOf plan parts i b) o (length bs) (length room) ≡ true = subst (λ v. inRoom (startOf plan parts i b) o (length bs) v ≡ true) (sym n) (made (put i b o bs) u h) in
       rw t (put-wrote (startOf plan parts i b + o) bs room (omega (arith, z .0, z .1)) (u .2) r)
 
@@ -109,7 +121,7 @@ module _ (plan parts c d : List ℕ) (m : ℕ) (small : m < 4294967296) (within 
 
   gained : (i b o p : ℕ) (bs : List ℕ) → 1 ≤ b → U (put i b o bs) → B (put i b o bs) → startOf plan parts i b + o ≤ p → p < startOf plan parts i b + o + length bs → late ≡ true → Gained plan parts c d p i b
   gained i zero o p bs q u h x y t = absurd (omega arith)
-  gained i (suc b) o p bs q u h x y t = let z = put-ends i (suc b) o bs (u .0) (h .1) in let g = h .0 t in (omega arith, omega (arith, z .0))
+  gained i (suc b) o p bs q u h x y t = let z = put-ends i (suc b) o bs (u .0) (h .1 (u .1)) in let g = h .0 t in (omega arith, omega (arith, z .0))
 
   -- a byte that is written over is of the last run end, or gained
   abbrev OverAt : ℕ → ℕ → ℕ → ℕ → ℕ → Type 0
@@ -136,7 +148,7 @@ module _ (plan parts c d : List ℕ) (m : ℕ) (small : m < 4294967296) (within 
   step-after : (x : Entry) (room : List ℕ) → length room ≡ m → AllBelow 256 room → U x → B x → After room (enter plan parts x room)
   step-after (put i b o bs) room n r u h =
       let w = step-put i b o bs room n r u h in
-      let z = put-ends i b o bs (u .0) (h .1) in
+      let z = put-ends i b o bs (u .0) (h .1 (u .1)) in
       record {
         long = w .long ∙ n;
         still-bytes = w .still-bytes;
@@ -188,7 +200,7 @@ module _ (plan parts c d : List ℕ) (m : ℕ) (small : m < 4294967296) (within 
       bit-step : (x : Entry) (room : List ℕ) → length room ≡ m → AllBelow 256 room → U x → B x → getD (bits (enter plan parts x room)) at 0 ≡ getD (bits room) at 0
       bit-step (put i b o bs) room n r u h =
           let w = step-put i b o bs room n r u h in
-          let z = put-ends i b o bs (u .0) (h .1) in
+          let z = put-ends i b o bs (u .0) (h .1 (u .1)) in
           let k = used-holds plan d parts holds i b (u .0) in
           let one = u .1 in
           bit-same w at (λ x y. apart-never (apart j 0 i b used (u .0) (λ f g. omega arith)) (at / 8) (omega arith) in-part (omega arith) (omega (arith, z .0)))

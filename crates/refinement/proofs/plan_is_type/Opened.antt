@@ -81,7 +81,6 @@ module _ (formats schema : List ℕ) (x : Tables) (firstOf nodesOf : ℕ → ℕ
         worded = planted-worded formats schema (firstOf 0) (nodesOf 0) state (k .is-typed) (k .low) (k .planted);
         formed = formed formats schema (firstOf 0) (nodesOf 0) (k .is-typed) (k .low);
         known = l;
-        body-small = k .body-small;
         lent = subst (Lent (joinOf x state parts (firstOf s) s) (typeIs formats schema firstOf nodesOf) 0) (sym (e s l))
             (lent-column formats schema (firstOf 0) (nodesOf 0) state (k .is-typed) (k .low) (k .planted) (firstOf s) (nodesOf s) (all-alike s l) x parts s (k .rules s l) (k .sums s l));
         based = b;

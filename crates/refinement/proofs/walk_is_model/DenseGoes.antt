@@ -176,8 +176,8 @@ module _ (x : Join) (inner : Walk) (k : ℕ) (ids : List ℕ) (nullable : ℕ �
       let rule = g .obey (x .source) (g .known) .slots in
       let both : rowsIn x (place x i 3) 1 slot n && rowsIn x (place x i 5) 4 slot n ≡ true
       = rw (
-        part-rows x (place x i 3) (place x i 4) 1 slot n (s .ids) (g .lent .body-is .0) (g .body-small) (omega arith) (omega (arith, rule .hold-ids)),
-        part-rows x (place x i 5) (place x i 6) 4 slot n (s .positions) (g .lent .body-is .1) (g .body-small) (omega arith) (omega (arith, rule .hold-positions)),
+        part-rows x (place x i 3) (place x i 4) 1 slot n (s .ids) (g .lent .body-is .0) (omega (arith, rule .hold-ids)),
+        part-rows x (place x i 5) (place x i 6) 4 slot n (s .positions) (g .lent .body-is .1) (omega (arith, rule .hold-positions)),
       ) in
       rw (dense-copy-is x inner i slot n c (g .worded .1))
       (goes-need _ 12 c both

@@ -12,7 +12,7 @@ use Rattle.walk.specs.Nulls.{NullWalk, nullData}
 use Rattle.walk.specs.Leaves.{copyNumbers, nullNumbers}
 use Rattle.refinement.proofs.walk_is_model.Goes.{goes-need}
 use Rattle.refinement.proofs.walk_is_model.Owed.{Given, CopiesData, FillsData}
-use Rattle.refinement.proofs.walk_is_model.Parts.{part-length, part-cut, rows-in, width-above}
+use Rattle.refinement.proofs.walk_is_model.Parts.{part-length, part-cut, rows-in}
 use Rattle.refinement.proofs.walk_is_model.Writes.{first-grows}
 
 pub fixed-copies : (x : Join) (inner : Walk) (k : ℕ) (q : Number) (i m : ℕ) (ss : ℕ → Column (tPlain (fixed q))) → Given x (suc k) (tPlain (fixed q)) i m ss
@@ -26,7 +26,7 @@ fixed-copies x inner k q i m ss g slot n d c μ lo hi f small long e h =
     let z : take (w * n) (drop (place x i 3 + w * slot) (x .body)) ≡ take (n * w) (drop (slot * w) s)
     = rw (mul-comm w n, mul-comm w slot) (sym (part-cut p (n * w) (slot * w) (omega (arith, add-mul slot n w, part-length p, y)))) in
     rw (g .worded .3 .0, g .worded .2, g .worded .3 .1)
-    (goes-need (rowsIn x (place x i 3) w slot n) 12 c (rows-in x (place x i 3) (place x i 4) s w slot n p (g .body-small) (width-above q) y)
+    (goes-need (rowsIn x (place x i 3) w slot n) 12 c (rows-in x (place x i 3) (place x i 4) s w slot n p y)
     (first-grows i (endOf (x .state) i) (rows c i * w) (d .«data») _ _ c μ (g .worded .1) h (rw e (sym (f .data-fine))) z))
 
 pub fixed-fills : (x : Join) (inner : NullWalk) (k : ℕ) (q : Number) (i m : ℕ) (ss : ℕ → Column (tPlain (fixed q))) → Given x (suc k) (tPlain (fixed q)) i m ss

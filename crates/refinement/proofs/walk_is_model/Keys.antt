@@ -22,7 +22,7 @@ use Rattle.walk.specs.Leaves.{copyKeys, nullNumbers}
 use Rattle.refinement.specs.walk_is_model.Lent.{Part}
 use Rattle.refinement.proofs.walk_is_model.Goes.{goes-need}
 use Rattle.refinement.proofs.walk_is_model.Owed.{Given, CopiesData, FillsData}
-use Rattle.refinement.proofs.walk_is_model.Parts.{part-length, part-entry, rows-in, width-above}
+use Rattle.refinement.proofs.walk_is_model.Parts.{part-length, part-entry, rows-in}
 use Rattle.refinement.proofs.walk_is_model.Entries.{keys-pieces}
 use Rattle.refinement.proofs.walk_is_model.Writes.{first-grows}
 
@@ -45,7 +45,7 @@ keys-copies x inner k q p i m ss g slot n d c μ lo hi f small long e h =
     let s = ss (x .source) .body .keys in
     let y : (slot + n) * w ≤ length s = le-trans (mul-le-mul-right w hi) (g .obey (x .source) (g .known) .slots .hold) in
     rw (g .worded .3, ne-eqb (dictionaryOf (x .state) i) 0 (g .worded .2), g .worded .4, g .based)
-    (goes-need (rowsIn x (place x i 3) w slot n) 12 c (rows-in x (place x i 3) (place x i 4) s w slot n (g .lent .body-is) (g .body-small) (width-above q) y)
+    (goes-need (rowsIn x (place x i 3) w slot n) 12 c (rows-in x (place x i 3) (place x i 4) s w slot n (g .lent .body-is) y)
     (first-grows i (endOf (x .state) i) (rows c i * w) (d .«data») _ _ c μ (g .worded .1) h (rw e (sym (f .data-fine .keys-are))) (rebased-is w _ slot n (g .lent .body-is) y)))
 
 pub keys-fills : (x : Join) (inner : NullWalk) (k : ℕ) (q : Number) (p : Plain) (i m : ℕ) (ss : ℕ → Column (tDictionary q p)) → Given x (suc k) (tDictionary q p) i m ss

@@ -31,7 +31,7 @@ use Rattle.refinement.proofs.walk_is_model.Goes.{Goes, goes-guard, goes
 use Rattle.refinement.proofs.walk_is_model.Frame.{SameAt, same-then, Kept, kept-refl, worded-span, held-same}
 use Rattle.refinement.proofs.walk_is_model.Owed.{DataKept, Given, Copies, CopiesData, FillsData}
 use Rattle.refinement.proofs.walk_is_model.Pairs.{goes-both, goes-wrap, goes-last, goes-rows}
-use Rattle.refinement.proofs.walk_is_model.Places.{data-kept-refl, data-kept-then, part-entry, rows-in, put-here, put-beside, put-other, worded-small, small-of, width-small, half-far, half-wide, between-apart}
+use Rattle.refinement.proofs.walk_is_model.Places.{data-kept-refl, data-kept-then, part-entry, rows-in, put-here, put-beside, put-other, worded-small, small-of, width-small, half-far, between-apart}
 
 -- ---- both buffers of a node written, then its child
 
@@ -161,12 +161,11 @@ module _ (x : Join) (k w : ℕ) (t : Ty) (i m : ℕ) (ss : ℕ → Column (tList
   copies : (inner : Walk) → Copies x inner t (suc i) m kids → CopiesData x inner (tListView w t) i m ss
   copies inner go-on slot n d c μ low high fine small long rows-are h =
       let s = g .obey (x .source) (g .known) .slots in
-      let wide : 0 < w = half-wide w (d .«data» .child .len) (fine .data-fine .fits) in
       let q : (slot + n) * w ≤ (Src .off + Src .len) * w = mul-le-mul-right w high in
       rw (copy-is inner slot n c)
       (goes-need _ 12 c (lt-ltb (suc i) 32 (worded-small (x .state) k t (suc i) (g .worded .4)))
-      (goes-need _ 12 c (both-in (rows-in x (place x i 3) (place x i 4) (Src .body .offsets) w slot n (g .lent .body-is .0) wide (omega (arith, s .hold-offsets)) (g .body-small))
-      (rows-in x (place x i 5) (place x i 6) (Src .body .sizes) w slot n (g .lent .body-is .1) wide (omega (arith, s .hold-sizes)) (g .body-small)))
+      (goes-need _ 12 c (both-in (rows-in x (place x i 3) (place x i 4) (Src .body .offsets) w slot n (g .lent .body-is .0) (omega (arith, s .hold-offsets)))
+      (rows-in x (place x i 5) (place x i 6) (Src .body .sizes) w slot n (g .lent .body-is .1) (omega (arith, s .hold-sizes))))
       (goes-map (λ e c′ ν p. (p .1, p .2)) (rw (add-zero slot, zero-add n) at
       (goes-rows slot n (listRow w (extendNode (masks t) (extendData t m) kids (x .source)) (Src .body)) (listViewRow x inner w i slot) (Going (d .len) c μ) step n 0 (d .«data») c μ (omega arith)
       (rw (add-zero (d .len)) (fine .data-fine), h, data-kept-refl i (endOf (x .state) i) c μ))))))

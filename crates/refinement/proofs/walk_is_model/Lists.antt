@@ -36,7 +36,7 @@ use Rattle.refinement.proofs.walk_is_model.Owed.{DataKept, Given, Copie
 use Rattle.refinement.proofs.walk_is_model.Pairs.{goes-wrap, goes-last}
 use Rattle.refinement.proofs.walk_is_model.Places.{data-kept-refl, put-here, put-other, worded-small, small-of, width-small, half-far, between-apart}
 use Rattle.refinement.proofs.walk_is_model.Parts.{rows-in}
-use Rattle.refinement.proofs.walk_is_model.Offsets.{Rows, rows-of, width-from, first-is, first-below, never-falls, last-is, new-are}
+use Rattle.refinement.proofs.walk_is_model.Offsets.{Rows, rows-of, first-is, first-below, never-falls, last-is, new-are}
 use Rattle.refinement.proofs.walk_is_model.Entries.{repeated-pieces}
 
 -- the first buffer of a node written, then what is below it
@@ -201,7 +201,7 @@ module _ (x : Join) (k w : ℕ) (t : Ty) (i m : ℕ) (ss : ℕ → Column (tList
       rw (copy-is inner slot (suc n) c, some-is inner slot n c)
       (goes-need _ 12 c (lt-ltb (suc i) 32 (worded-small (x .state) k t (suc i) (g .worded .4)))
       (goes-need _ 12 c
-      (rows-in x (place x i 3) (place x i 4) (Src .body .offsets) w slot (suc (suc n)) (g .lent .body-is .0) (g .body-small) (width-from w (omega (arith, fine .data-fine .offsets-fine .fits))) (r .hold))
+      (rows-in x (place x i 3) (place x i 4) (Src .body .offsets) w slot (suc (suc n)) (g .lent .body-is .0) (r .hold))
       (rows-go inner go-on slot n r (d .len) (d .«data») c μ (fine .data-fine) rows-are long h)))
 
   -- ---- nulls

@@ -42,11 +42,6 @@ rows-of w s most off len slot n (full r) p q h =
       within = omega (arith, r .within);
     }
 
--- an offset has a width
-pub width-from : (w : ℕ) → 0 < half w → 0 < w
-width-from zero h = absurd (omega arith)
-width-from (suc w) h = omega arith
-
 module _ (x : Join) (i w slot n : ℕ) (s : List ℕ) (most : ℕ) (p : First x i s) (r : Rows w s most slot n) where
   abbrev pub o : ℕ → ℕ
   o k = item w s k

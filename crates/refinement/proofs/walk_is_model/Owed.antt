@@ -37,7 +37,6 @@ pub record Given (x : Join) (k : ℕ) (t : Ty) (i m : ℕ) (ss : ℕ → Column 
   pub worded : Worded (x .state) k t i
   pub formed : Formed t
   pub known : x .source < m
-  pub body-small : length (x .body) < 4294967296
   pub lent : Lent x t i (ss (x .source))
   pub based : Based (x .state) (x .source) t i m (λ j. ss j .body)
   pub obey : (j : ℕ) → j < m → Source t (ss j)

@@ -2,12 +2,12 @@
 use mathlib.Core.Path.{_≡_, sym, ap, _∙_}
 use mathlib.Core.Bool.{true}
 use mathlib.Core.List.{List}
-use Prim.Native.Nat.{ℕ, zero, suc, _+_, _*_, _≤_, _<_}
-use native.Mathlib.Nat.{mul-suc, mul-comm, add-mul, add-assoc}
+use Prim.Native.Nat.{ℕ, _+_, _*_, _≤_, _<_}
+use native.Mathlib.Nat.{mul-comm, add-mul, add-assoc}
 use native.Mathlib.Omega.{arith}
 use lib.ListN.{length, take, drop, length-drop}
 use lib.Seq.{length-take-le, drop-drop}
-use borrow.Author.Tests.{lt-ltb, le-leb}
+use borrow.Author.Tests.{le-leb}
 use Rattle.number.specs.Number.{number, entry}
 use Rattle.columnar.specs.Types.{Number, width, i8, u8, i16, u16, i32, u32, i64, u64, f32, f64}
 use Rattle.columnar.specs.Array.{item}
@@ -36,15 +36,12 @@ module _ {body : List ℕ} {at size : ℕ} {s : List ℕ} (p : Part body at size
       ap (λ z. number w (drop z body)) e ∙ sym (part-number w ((slot + k) * w) h)
 
 -- the walk's own test of a source's rows, which holds
-pub rows-in : (x : Join) (at size : ℕ) (s : List ℕ) (w slot n : ℕ) → Part (x .body) at size s → length (x .body) < 4294967296 → 0 < w → (slot + n) * w ≤ length s
-    → rowsIn x at w slot n ≡ true
+pub rows-in : (x : Join) (at size : ℕ) (s : List ℕ) (w slot n : ℕ) → Part (x .body) at size s → (slot + n) * w ≤ length s → rowsIn x at w slot n ≡ true
 unfolding rowsIn
-rows-in x at size s zero slot n p b h g = absurd (omega arith)
-rows-in x at size s (suc v) slot n p b h g =
+rows-in x at size s w slot n p g =
     let l = part-length p in
-    let e : (slot + n) * suc v ≡ (slot + n) * v + (slot + n) = mul-suc (slot + n) v in
-    let y : suc v * (slot + n) ≡ (slot + n) * suc v = mul-comm (suc v) (slot + n) in
-    rw (lt-ltb (slot + n) 576460752303423488 (omega (arith, p .inside)), le-leb (at + suc v * (slot + n)) (length (x .body)) (omega (arith, p .inside)))
+    let y : w * (slot + n) ≡ (slot + n) * w = mul-comm w (slot + n) in
+    le-leb (at + w * (slot + n)) (length (x .body)) (omega (arith, p .inside))
 
 pub width-above : (n : Number) → 0 < width n
 width-above i8 = omega arith

@@ -3,12 +3,12 @@ use mathlib.Core.Path.{_≡_, refl, _∙_}
 use mathlib.Core.Bool.{Bool, true, false, _&&_}
 use mathlib.Core.List.{List, [], _∷_, _++_}
 use Prim.Native.Nat.{ℕ, zero, suc, _+_, _-_, _*_, _^_, _≤_, _<_}
-use native.Mathlib.Nat.{mul-comm, le-mul-of-pos-right, pow-le-pow-right}
+use native.Mathlib.Nat.{mul-comm, pow-le-pow-right}
 use native.Mathlib.Omega.{arith}
 use lib.ListN.{length, take, drop, getD, length-take, length-drop}
 use lib.Seq.{drop-drop}
 use lib.Dec.{leb}
-use borrow.Author.Tests.{lt-ltb, le-leb, lt-leb, eq-eqb, ne-eqb, leb-true}
+use borrow.Author.Tests.{le-leb, lt-leb, eq-eqb, ne-eqb, leb-true}
 use Rattle.number.specs.Number.{number, entry}
 use Rattle.columnar.specs.Types.{half, Ty, tPlain, tView, tListView, tList, tSparse, tDense, tRunEnd, tDictionary}
 use Rattle.columnar.specs.Array.{item}
@@ -42,14 +42,12 @@ module _ {body : List ℕ} {at size : ℕ} {s : List ℕ} (p : Part body at size
       rw (p .bytes-are, number-of-take (k * w) size w (drop at body) (omega (arith, part-long)), drop-drop, mul-comm w k)
 
 -- the rows of a lent buffer lie in the body
-pub rows-in : (x : Join) (at size : ℕ) (s : List ℕ) (w slot n : ℕ) → Part (x .body) at size s → 0 < w → (slot + n) * w ≤ length s → length (x .body) < 4294967296
-    → rowsIn x at w slot n ≡ true
+pub rows-in : (x : Join) (at size : ℕ) (s : List ℕ) (w slot n : ℕ) → Part (x .body) at size s → (slot + n) * w ≤ length s → rowsIn x at w slot n ≡ true
 unfolding rowsIn
-rows-in x at size s w slot n p wide h small =
-    let a : slot + n ≤ (slot + n) * w = le-mul-of-pos-right (slot + n) wide in
+rows-in x at size s w slot n p h =
     let b : w * (slot + n) ≡ (slot + n) * w = mul-comm w (slot + n) in
     let l : length s ≡ size = part-long p in
-    rw (lt-ltb (slot + n) 576460752303423488 (omega (arith, p .inside)), le-leb (at + w * (slot + n)) (length (x .body)) (omega (arith, p .inside)))
+    le-leb (at + w * (slot + n)) (length (x .body)) (omega (arith, p .inside))
 
 -- ---- what a write leaves
 
@@ -126,11 +124,6 @@ width-small code = get-small widths code refl
 
 pub half-far : (w : ℕ) → w ≤ 8 → half w ≤ far
 half-far w h = let e : 256 ^ w ≤ 256 ^ 8 = pow-le-pow-right (omega arith) h in omega arith
-
--- entries that hold a number have bytes
-pub half-wide : (w n : ℕ) → n < half w → 0 < w
-half-wide zero n h = absurd (omega arith)
-half-wide (suc w) n h = omega arith
 
 -- a code is in one range only
 pub between-apart : (low high low2 high2 code : ℕ) → between low high code ≡ true → high2 < low → between low2 high2 code ≡ false

@@ -34,7 +34,7 @@ use Rattle.refinement.proofs.walk_is_model.Goes.{Goes, goes-done, goes-
 use Rattle.refinement.proofs.walk_is_model.Frame.{SameAt, same-then, Kept, worded-span, held-same}
 use Rattle.refinement.proofs.walk_is_model.Counters.{grown-is, rows-added, rows-other, nulls-of-rows, bytes-of-rows, bytes-set, bytes-other, rows-of-bytes, nulls-of-bytes, long-rows, long-bytes}
 use Rattle.refinement.proofs.walk_is_model.Owed.{DataKept, Given, Copies, CopiesData, Fills, FillsData}
-use Rattle.refinement.proofs.walk_is_model.Places.{data-kept-refl, part-entry, rows-in, put-here, put-other, amend-here, amend-other, worded-small, small-of, width-small, half-far, half-wide}
+use Rattle.refinement.proofs.walk_is_model.Places.{data-kept-refl, part-entry, rows-in, put-here, put-other, amend-here, amend-other, worded-small, small-of, width-small, half-far}
 use Rattle.refinement.proofs.walk_is_model.Writes.{goes-write}
 use Rattle.refinement.proofs.walk_is_model.RunLookups.{many-rows, runs-are, clipped-is}
 
@@ -220,7 +220,6 @@ module _ (x : Join) (k w : ℕ) (t : Ty) (i m : ℕ) (ss : ℕ → Column (tRunE
         let last : rows c i ≡ lastEnd w (d .«data» .ends) = rows-are ∙ fine .covers in
         let bytes = more (d .«data») in
         let lent = g .lent .body-is .0 in
-        let wide : 0 < w = half-wide w (d .len) (fine .fits) in
         let few : d .«data» .ends .len ≤ d .len = few-ends (d .«data») (d .len) fine in
         rw (some-is inner slot n c, runs-found inner)
         (goes-need _ 12 c (lt-ltb (suc (suc i)) 32 below)
@@ -229,7 +228,7 @@ module _ (x : Join) (k w : ℕ) (t : Ty) (i m : ℕ) (ss : ℕ → Column (tRunE
         let fits : d .len + suc n < half w = omega (arith, ltb-true (lastEnd w (d .«data» .ends) + suc n) (half w) q, fine .covers) in
         let room : d .«data» .ends .len + count ≤ far = omega (arith, few, few-runs, half-small) in
         goes-need _ 12 c
-        (rw (lent .off-is, lent .len-is) (rows-in x (place x (suc i) 3) (place x (suc i) 4) (Src .body .ends .body) w (Src .body .ends .off) many (lent .body-is) wide (g .obey (x .source) (g .known) .slots .hold) (g .body-small)))
+        (rw (lent .off-is, lent .len-is) (rows-in x (place x (suc i) 3) (place x (suc i) 4) (Src .body .ends .body) w (Src .body .ends .off) many (lent .body-is) (g .obey (x .source) (g .known) .slots .hold)))
         (goes-then _ _ (go-on first count (d .«data» .values) c μ in-values (fine .values-fine) (small-of (d .«data» .values .len + count) (rw (fine .as-many) room)) long (h .2))
         (λ v c2 ν p.
         rw (last, ends-are (lastEnd w (d .«data» .ends)))

@@ -75,7 +75,7 @@ sparse-copies x inner k ids nullable f i m ss g kids slot n d c μ low high fine
     let fits : slot + n ≤ length (s .ids) = omega (arith, rule .hold) in
     let fit = fine .data-fine in
     rw (sparse-copy-is x inner i slot n c (g .worded .1))
-    (goes-need _ 12 c (part-rows x (place x i 3) (place x i 4) 1 slot n (s .ids) part (g .body-small) (omega arith) (omega arith))
+    (goes-need _ 12 c (part-rows x (place x i 3) (place x i 4) 1 slot n (s .ids) part (omega arith))
     (rw (← part-cut (x .body) (place x i 3) (place x i 4) (s .ids) part slot n fits)
     (sparse-with (x .state) k ids nullable f i (g .worded) (g .formed .0) (λ k c. inner k slot n c) (d .«data»)
     (λ e. extendNode (masks (f e)) (extendData (f e) m) (λ j. ss j .body .children e) (x .source) slot n (d .«data» .children e))

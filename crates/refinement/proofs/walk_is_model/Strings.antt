@@ -36,7 +36,7 @@ use Rattle.refinement.proofs.walk_is_model.Counters.{bytes-set}
 use Rattle.refinement.proofs.walk_is_model.Owed.{DataKept, Given, CopiesData, FillsData}
 use Rattle.refinement.proofs.walk_is_model.Codes.{string-apart}
 use Rattle.refinement.proofs.walk_is_model.Parts.{part-length, part-cut, rows-in}
-use Rattle.refinement.proofs.walk_is_model.Offsets.{Rows, rows-of, width-from, first-is, first-below, never-falls, last-is, new-are}
+use Rattle.refinement.proofs.walk_is_model.Offsets.{Rows, rows-of, first-is, first-below, never-falls, last-is, new-are}
 use Rattle.refinement.proofs.walk_is_model.Entries.{repeated-pieces}
 use Rattle.refinement.proofs.walk_is_model.Writes.{goes-write, put-own, put-beside, data-put, data-none, data-then, data-bytes}
 
@@ -128,7 +128,7 @@ string-copies x inner k w i m ss g slot (suc n) d c μ lo hi f small long e h =
     let r = rows-of w (s .offsets) (length (s .chars)) (ss (x .source) .off) (ss (x .source) .len) slot (suc n) (g .obey (x .source) (g .known) .slots) lo hi (omega arith) in
     rw (string-apart (codeOf (x .state) i) (g .worded .3 .0), g .worded .3 .0, g .worded .3 .1, ne-eqb (suc n) 0 (λ t. omega (arith, t)))
     (goes-need (rowsIn x (place x i 3) w slot (suc (suc n))) 12 c
-    (rows-in x (place x i 3) (place x i 4) (s .offsets) w slot (suc (suc n)) (p .0) (g .body-small) (width-from w (omega (arith, f .data-fine .fits))) (r .hold))
+    (rows-in x (place x i 3) (place x i 4) (s .offsets) w slot (suc (suc n)) (p .0) (r .hold))
     (rows-go x i w slot (suc n) s (p .0) (p .1) r (d .«data») (d .len) (f .data-fine) c long (g .worded .0) (endOf (x .state) i) (g .worded .1) μ e h))
 
 pub string-fills : (x : Join) (inner : NullWalk) (k w i m : ℕ) (ss : ℕ → Column (tPlain (string w))) → Given x (suc k) (tPlain (string w)) i m ss

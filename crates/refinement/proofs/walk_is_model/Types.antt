@@ -31,7 +31,6 @@ pub record Opened (x : Join) (k : ℕ) (t : Ty) (i m : ℕ) (ss : ℕ → Column
   pub worded : Worded (x .state) k t i
   pub formed : Formed t
   pub known : x .source < m
-  pub body-small : length (x .body) < 4294967296
   pub lent : Lent x t i (ss (x .source))
   pub based : Based (x .state) (x .source) t i m (λ j. ss j .body)
   pub obey : (j : ℕ) → j < m → Source t (ss j)
@@ -43,7 +42,6 @@ given {x} {k} {t} {i} {m} {ss} o =
       worded = o .worded;
       formed = o .formed;
       known = o .known;
-      body-small = o .body-small;
       lent = o .lent;
       based = o .based;
       obey = o .obey;
@@ -59,7 +57,6 @@ module _ {x : Join} {k i m : ℕ} where
         worded = o .worded .4;
         formed = o .formed .1;
         known = o .known;
-        body-small = o .body-small;
         lent = o .lent .body-is .2;
         based = o .based;
         obey = λ j h. o .obey j h .slots .child-rule;
@@ -72,7 +69,6 @@ module _ {x : Join} {k i m : ℕ} where
         worded = o .worded .4;
         formed = o .formed .1;
         known = o .known;
-        body-small = o .body-small;
         lent = o .lent .body-is .1;
         based = o .based;
         obey = λ j h. o .obey j h .slots .child-rule;
@@ -85,7 +81,6 @@ module _ {x : Join} {k i m : ℕ} where
         worded = o .worded .4;
         formed = o .formed .1;
         known = o .known;
-        body-small = o .body-small;
         lent = o .lent .body-is .1;
         based = o .based;
         obey = λ j h. o .obey j h .slots .child-rule;
@@ -99,7 +94,6 @@ module _ {x : Join} {k i m : ℕ} where
         worded = field-of (x .state) (λ c. Worded (x .state) k (f c)) nullable (endOf (x .state) i) ids (suc i) 32 e (o .worded .4) (omega (arith, o .worded .2)) p .is-kid;
         formed = o .formed .1 e p;
         known = o .known;
-        body-small = o .body-small;
         lent = o .lent .body-is .1 e p;
         based = o .based e p;
         obey = λ j h. o .obey j h .slots .child-rule e p;
@@ -113,7 +107,6 @@ module _ {x : Join} {k i m : ℕ} where
         worded = field-of (x .state) (λ c. Worded (x .state) k (f c)) nullable (endOf (x .state) i) ids (suc i) 32 e (o .worded .4) (omega (arith, o .worded .2)) p .is-kid;
         formed = o .formed .1 e p;
         known = o .known;
-        body-small = o .body-small;
         lent = o .lent .body-is .2 e p;
         based = o .based e p;
         obey = λ j h. o .obey j h .slots .child-rule e p;

@@ -7,7 +7,7 @@ use native.Mathlib.Nat.{add-zero, add-suc, suc-add, mul-comm}
 use native.Mathlib.Omega.{arith}
 use lib.ListN.{length, take, drop, getD, length-drop}
 use lib.Seq.{length-take-le, getD-take, getD-drop, drop-drop}
-use borrow.Author.Tests.{lt-ltb, le-leb}
+use borrow.Author.Tests.{le-leb}
 use Rattle.number.specs.Number.{number, encode, entry}
 use Rattle.number.proofs.Laws.{encode-mod}
 use Rattle.columnar.specs.Types.{Ty, tPlain, tView, tListView, tSparse, tDense, tRunEnd, tDictionary}
@@ -48,13 +48,12 @@ module _ (body : List ℕ) (at size : ℕ) (s : List ℕ) (part : Part body at s
       ∙ ap (λ z. number w (drop (at + z) body)) (mul-comm k w)
 
 -- rows of a part stand in the body
-pub part-rows : (x : Join) (at size w slot n : ℕ) (s : List ℕ) → Part (x .body) at size s → length (x .body) < 4294967296 → slot + n ≤ w * (slot + n) → w * (slot + n) ≤ length s
-    → rowsIn x at w slot n ≡ true
+pub part-rows : (x : Join) (at size w slot n : ℕ) (s : List ℕ) → Part (x .body) at size s → w * (slot + n) ≤ length s → rowsIn x at w slot n ≡ true
 unfolding rowsIn
-part-rows x at size w slot n s part small more h =
+part-rows x at size w slot n s part h =
     let e = part-size (x .body) at size s part in
     let i : at + size ≤ length (x .body) = part .inside in
-    rw (lt-ltb (slot + n) 576460752303423488 (omega arith), le-leb (at + w * (slot + n)) (length (x .body)) (omega arith))
+    le-leb (at + w * (slot + n)) (length (x .body)) (omega arith)
 
 -- ---- positions
 

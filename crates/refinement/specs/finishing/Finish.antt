@@ -16,6 +16,7 @@ use Rattle.plan.specs.dictionaries.Sources.{firstOf, arrayOf}
 use Rattle.walk.specs.State.{codeOf, rows, place, lengthOf, offsetOf, far}
 use Rattle.walk.specs.Log.{startOf}
 use Rattle.parts.specs.Parts.{nodesOf, copied, hasPart, needed, partsHold, partsWithin}
+use Rattle.columns.specs.Grounds.{ceiling}
 use Rattle.refinement.specs.orders.Order.{Lent, joinOf, sourceCount}
 
 -- the tables as they are left; ground: 0, or the number of the refusal
@@ -61,10 +62,14 @@ module _ (x : Lent) (buffers counts room : List ℕ) (base : ℕ) where
   abbrev pub sources : ℕ
   sources = min (sourceCount (x .plan)) 16
 
+  -- how many source s has at node i: at most 32, so that 33 stands for any number above
+  abbrev pub dataCount : ℕ → ℕ → ℕ
+  dataCount i s = min (place (joinOf x s) i 8) 33
+
   -- how many the first s sources have at node i
   unfoldable pub buffersOf : ℕ → ℕ → ℕ
   buffersOf i zero = 0
-  buffersOf i (suc s) = buffersOf i s + place (joinOf x s) i 8
+  buffersOf i (suc s) = buffersOf i s + dataCount i s
 
   -- how many the view nodes before node i have
   unfoldable pub buffersBefore : ℕ → ℕ
@@ -74,7 +79,7 @@ module _ (x : Lent) (buffers counts room : List ℕ) (base : ℕ) where
   -- their numbers, 2 each
   unfoldable pub buffersFrom : ℕ → ℕ → List ℕ
   buffersFrom i zero = []
-  buffersFrom i (suc s) = buffersFrom i s ++ seg (λ q. getD buffers q 0) (2 * place (joinOf x s) i 7) (2 * place (joinOf x s) i 8)
+  buffersFrom i (suc s) = buffersFrom i s ++ seg (λ q. getD buffers q 0) (2 * place (joinOf x s) i 7) (2 * dataCount i s)
 
   unfoldable pub buffersUpTo : ℕ → List ℕ
   buffersUpTo zero = []
@@ -133,23 +138,26 @@ module _ (x : Lent) (buffers counts room : List ℕ) (base : ℕ) where
     abbrev pub refused : ℕ → Finished
     refused g = record { ground = g; lengths = lengths; nulls = nulls; places = places; buffers = names }
 
-    -- each of the lengths that the finished array takes, and "positions are held in 32 bits"
+    -- each of the lengths that the finished array takes
     unfoldable pub tablesFit : Bool
     tablesFit =
         eqb (length lengths) (2 * nodesOf (x .plan))
         && eqb (length nulls) (nodesOf (x .plan))
         && eqb (length places) (9 * nodesOf (x .plan))
         && eqb (length names) (2 * buffersBefore (nodesOf (x .plan)))
-        && leb (buffersBefore (nodesOf (x .plan))) 4294967295
 
     -- counters, parts and room are those of a join
     unfoldable pub roomFits : Bool
     roomFits = eqb (length counts) 96 && partsWithin (x .plan) (x .parts) (length room) && partsHold (x .plan) counts (x .parts)
 
-    -- FINISHING: never refused after an accepted opening, where the tables are of these lengths and the body of at most 2^32 - 1 bytes
+    -- the sources' body ends at the base or before, and with the room behind it no position passes 64 bits
+    unfoldable pub sizesFit : Bool
+    sizesFit = leb base ceiling && leb (length room) ceiling
+
+    -- FINISHING: never refused after an accepted opening, where the tables are of these lengths
     unfoldable pub finishing : Finished
     finishing =
-        cond (leb (base + length room) 4294967295)
+        cond sizesFit
         (cond (every keptIn (nodesOf (x .plan)))
         (cond (roomFits && tablesFit) (record { ground = 0; lengths = lengthTable; nulls = nullTable; places = placeTable; buffers = bufferTable }) (refused 14))
         (refused 12))

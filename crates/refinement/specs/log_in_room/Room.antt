@@ -1,7 +1,7 @@
 -- A destination's parts in the lent room: where they lie, and when the room holds a memory. Assumes nothing.
 use mathlib.Core.Path.{_≡_}
 use mathlib.Core.List.{List, [], _∷_}
-use Prim.Native.Nat.{ℕ, _+_, _*_, _-_, _/_, _≤_, _<_}
+use Prim.Native.Nat.{ℕ, _+_, _*_, _-_, _/_, _≤_, _<_, _^_}
 use lib.ListN.{length, take, drop, getD}
 use Rattle.bits.specs.Bits.{bits, bitsAt}
 use Rattle.walk.specs.State.{partOf}
@@ -45,9 +45,9 @@ module _ (state parts : List ℕ) where
 
 -- Used: which buffer of which node has a part; buffer 0 is the validity
 module _ (state parts : List ℕ) (Used : ℕ → ℕ → Type 0) where
-  -- the parts lie well in a room of m bytes: none of what ground 14 says, and "Each body has at most 4,294,967,295 bytes"
+  -- the parts lie well in a room of m bytes: none of what ground 14 says, and "Each body has at most 2^63−1 bytes"
   pub record Placed (m : ℕ) : Type 0 where
-    pub small : m < 4294967296
+    pub small : m < 2 ^ 63
     pub inside : (i b : ℕ) → Used i b → startOf state parts i b + sizeOf state parts i b ≤ m
     pub apart : (i b j e : ℕ) → Used i b → Used j e → (i ≡ j → b ≡ e → ⊥)
         → Apart (startOf state parts i b) (sizeOf state parts i b) (startOf state parts j e) (sizeOf state parts j e)

@@ -3,7 +3,7 @@
 use mathlib.Core.Bool.{Bool, false, cond, _&&_}
 use mathlib.Core.Option.{Option, none, some}
 use mathlib.Core.List.{List}
-use Prim.Native.Nat.{ℕ, suc}
+use Prim.Native.Nat.{ℕ, suc, _+_}
 use lib.ListN.{length, getD, replicate}
 use lib.Dec.{leb, eqb}
 use Rattle.number.specs.Number.{encode}
@@ -12,10 +12,10 @@ use Rattle.columnar.specs.Test.{every}
 use Rattle.formats.specs.Code.{isInteger, isRunEnd}
 use Rattle.formats.specs.Types.{numberOf}
 use Rattle.array_data.specs.Tables.{Tables}
-use Rattle.walk.specs.State.{word, codeOf, dictionaryOf, bytesOf, baseOf, setBytes, lengthOf}
+use Rattle.walk.specs.State.{word, codeOf, dictionaryOf, bytesOf, baseOf, setBytes, lengthOf, top}
 use Rattle.walk.specs.Log.{Out, put, done, wrote, need, next, each, apply}
 use Rattle.walk.specs.Copy.{copyWalk}
-use Rattle.columns.specs.Grounds.{sourcesGround}
+use Rattle.columns.specs.Grounds.{ceiling, sourcesGround}
 use Rattle.plan.specs.dictionaries.Sources.{keyFits}
 use Rattle.parts.specs.Parts.{nodesOf, copied, hasOffsets, partTotal, partsPlaced, partsHold}
 use Rattle.plan.specs.Plan.{planned}
@@ -51,6 +51,10 @@ module _ (x : Lent) where
   unfoldable pub joinEntries : ℕ → List ℕ → Out
   joinEntries i c = each (joinSource i) (sourceCount (x .plan)) 0 c
 
+  -- "A joined dictionary that overflows panics; the port gives 6": the entries of all sources are counted in 64 bits; the plan has where each begins
+  unfoldable pub entriesHold : ℕ → Bool
+  entriesHold i = every (λ s. leb (baseOf (x .plan) s i + lengthOf (joinOf x s) (suc i)) top) (sourceCount (x .plan))
+
   -- the keys of source s, node i, have room for the entries behind them; the plan has their start
   abbrev pub keyHolds : Number → ℕ → ℕ → Bool
   keyHolds k i s = keyFits k (baseOf (x .plan) s i) (lengthOf (joinOf x s) (suc i))
@@ -68,7 +72,8 @@ module _ (x : Lent) where
   unfoldable pub openDictionary : ℕ → List ℕ → Out
   openDictionary i c =
       cond (eqb (dictionaryOf (x .plan) i) 0) (done c)
-      (next (cond (eqb (word (x .plan) i 7) 0) (done c) (joinEntries (suc i) c)) (λ c2. need (keysHold i) 8 c2 (done c2)))
+      (need (entriesHold i) 6 c
+      (next (cond (eqb (word (x .plan) i 7) 0) (done c) (joinEntries (suc i) c)) (λ c2. need (keysHold i) 8 c2 (done c2))))
 
   -- "then per dictionary in tree order 6 (joining), 8"
   unfoldable pub openWalk : List ℕ → Out
@@ -111,7 +116,7 @@ module _ (formats schema sources : List ℕ) (x : Tables) (keep gaps : Bool) (pa
     -- THE OPENING: "9, 10, 11, 12, 14, then per dictionary in tree order 6 (joining), 8, and 13 last". The room is a body too.
     unfoldable pub opening : Opening
     opening =
-        cond (leb (length room) 4294967295)
+        cond (leb (length room) ceiling)
         (cond (eqb (sourcesGround formats schema x sources) 0)
         (cond roomPlaced (settled (openWalk opened (replicate 96 0))) (refused 14))
         (refused (sourcesGround formats schema x sources)))

@@ -8,7 +8,7 @@ use Prim.Native.Nat.{ℕ, zero, suc, _+_, _*_, _-_, _/_, _≤_, _<_, min}
 use lib.ListN.{length, getD}
 use Rattle.bits.specs.Bits.{bits}
 use Rattle.model.specs.Book.{Call, copy, nulls}
-use Rattle.walk.specs.State.{codeOf, bytesOf, rows, gap, top, far, beyond}
+use Rattle.walk.specs.State.{codeOf, bytesOf, rows, gap, top, far}
 use Rattle.walk.specs.Log.{Entry, put, mask, amend, Log, startOf, inRoom, Out}
 use Rattle.walk.specs.Copy.{copyWalk}
 use Rattle.walk.specs.Nulls.{nullWalk}
@@ -60,6 +60,6 @@ module _ (plan parts : List ℕ) where
   AllMade m [] = Unit {0}
   AllMade m (e ∷ l) = Made m e × AllMade m l
 
--- n is at most v, where v is not beyond every room: a counter that would pass 64 bits stays at the largest number
+-- n is at most v, where v is not the largest number: a counter that would pass 64 bits stays at it
 abbrev pub Ends : ℕ → ℕ → Type 0
-Ends n v = v < beyond → n ≤ v
+Ends n v = v < top → n ≤ v

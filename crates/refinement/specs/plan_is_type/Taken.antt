@@ -2,7 +2,7 @@
 use mathlib.Core.Path.{_≡_}
 use mathlib.Core.Bool.{true}
 use mathlib.Core.List.{List}
-use Prim.Native.Nat.{ℕ, _+_, _<_}
+use Prim.Native.Nat.{ℕ, _+_, _<_, _^_}
 use lib.ListN.{length}
 use lib.Dec.{T}
 use Rattle.columnar.specs.Types.{Ty}
@@ -32,7 +32,7 @@ module _ (formats schema : List ℕ) (x : Tables) (firstOf nodesOf : ℕ → ℕ
     pub is-typed : typed formats schema (firstOf 0) (nodesOf 0) ≡ true
     pub low : ceilings formats schema (firstOf 0) (nodesOf 0) ≡ true
     pub planted : Planted state formats schema (firstOf 0) (nodesOf 0)
-    pub body-small : length (x .body) < 4294967296
+    pub body-small : length (x .body) < 2 ^ 63
     pub alike : (s : ℕ) → 0 < s → s < m → sameType formats schema (firstOf 0) (nodesOf 0) (firstOf s) (nodesOf s) ≡ true
     pub rules : (s : ℕ) → s < m → T (sourceRule (treeOf formats schema (firstOf s) (nodesOf s)) (tablesFrom x (firstOf s)))
     pub sums : (s : ℕ) → s < m → (i : ℕ) → i < nodesOf s → offsetOf (tablesFrom x (firstOf s)) i + lengthOf (tablesFrom x (firstOf s)) i < far

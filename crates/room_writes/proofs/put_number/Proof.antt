@@ -29,12 +29,12 @@ same-length c = search needs
 returns : tie.Need-returns
 returns c =
     let a = c .before .before .before .before .before .before .before .before .before .before .before .args in
-    put-at (a .state .now) (a .parts .now) (a .write) (a .i) (a .b) (a .o) (encode (a .w) (a .v)) (a .room .now) (c .before .before .before .before .before .before .before .target .ensures) (c .before .before .before .before .before .at .given .1) (alike-same (sym (length-encode (a .w) (a .v)))) (c .before .before .write-number .ensures)
+    put-at (a .state .now) (a .parts .now) (a .write) (a .i) (a .b) (a .o) (encode (a .w) (a .v)) (a .room .now) (omega arith) (c .before .before .before .before .before .before .before .target .ensures) (c .before .before .before .before .before .at .given .1) (alike-same (sym (length-encode (a .w) (a .v)))) (c .before .before .write-number .ensures)
 
 returns-2 : tie.Need-returns-2
 returns-2 c =
     let a = c .before .before .before .before .before .before .args in
-    put-skip (a .state .now) (a .parts .now) (a .write) (a .i) (a .b) (a .o) (encode (a .w) (a .v)) (a .room .now) (c .before .before .target .ensures) (c .enum-told .given .1) (alike-same (sym (length-encode (a .w) (a .v))))
+    put-skip (a .state .now) (a .parts .now) (a .write) (a .i) (a .b) (a .o) (encode (a .w) (a .v)) (a .room .now) (omega arith) (c .before .before .target .ensures) (c .enum-told .given .1) (alike-same (sym (length-encode (a .w) (a .v))))
 
 pub put-number-spec : {M : Type 1} → statement M
 put-number-spec =

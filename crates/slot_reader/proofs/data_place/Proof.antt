@@ -20,37 +20,16 @@ returns c =
 place-at-requires-2 : tie.Need-place-at-requires-2
 place-at-requires-2 c κs = search needs
 
-cast-a : tie.Need-cast-a
-cast-a c = search needs
-
-add-at-u32 : tie.Need-add-at-u32
-add-at-u32 c = search needs
-
-mul-at-u32 : tie.Need-mul-at-u32
-mul-at-u32 c = search needs
-
-add-at-u32-2 : tie.Need-add-at-u32-2
-add-at-u32-2 c = search needs
-
-at-u32-requires : tie.Need-at-u32-requires
-at-u32-requires c κs = search needs
+pair-at-requires : tie.Need-pair-at-requires
+pair-at-requires c κs = search needs
 
 returns-2 : tie.Need-returns-2
 returns-2 c =
     let z = c .before .before .before .before .before .before .args in
     let p = column [] (z .places .now) [] [] (z .first) in
-    some-data (z .buffers .now) (place p (z .i) 7) (place p (z .i) 8) (z .b) (z .j) _ (c .before .before .before .place-at .ensures) _ _ (c .before .place-at2 .ensures) (omega arith) (c .at-u32 .ensures)
+    some-data (z .buffers .now) (place p (z .i) 7) (place p (z .i) 8) (z .b) (z .j) _ (c .before .before .before .place-at .ensures) _ _ (c .before .place-at2 .ensures) (omega arith) (c .pair-at .ensures)
 
 pub data-place-spec : {M : Type 1} → statement M
 data-place-spec =
     tie.close
-    (tie.spec
-    place-at-requires
-    returns
-    place-at-requires-2
-    cast-a
-    add-at-u32
-    mul-at-u32
-    add-at-u32-2
-    at-u32-requires
-    returns-2)
+    (tie.spec place-at-requires returns place-at-requires-2 pair-at-requires returns-2)

@@ -47,14 +47,8 @@ read-u32-requires c κs =
 data-place-requires : tie.Need-data-place-requires
 data-place-requires c κs = search needs
 
-cast-from : tie.Need-cast-from
-cast-from c = search needs
-
 data-place-requires-2 : tie.Need-data-place-requires-2
 data-place-requires-2 c κs = search needs
-
-cast-len : tie.Need-cast-len
-cast-len c = search needs
 
 view-bytes-requires : tie.Need-view-bytes-requires
 view-bytes-requires c κs =
@@ -109,9 +103,7 @@ read-view-spec =
     add-read-u32
     read-u32-requires
     data-place-requires
-    cast-from
     data-place-requires-2
-    cast-len
     view-bytes-requires
     view-place-requires
     enum-known-p

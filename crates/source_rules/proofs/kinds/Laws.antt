@@ -3,14 +3,14 @@ use mathlib.Core.Path.{_≡_, refl, sym, ap, _∙_}
 use mathlib.Core.Bool.{Bool, true, false, not, _&&_}
 use mathlib.Core.List.{List, [], _∷_, List·Memᴰ}
 use mathlib.Core.Option.{some, Option·some-injective, Option·none-ne-some}
-use Prim.Native.Nat.{ℕ, zero, suc, _+_, _*_, _^_, min, _≤_, _<_}
+use Prim.Native.Nat.{ℕ, zero, suc, _+_, _*_, _/_, _^_, min, _≤_, _<_}
 use native.Mathlib.Nat.{mul-comm, mul-add}
 use native.Mathlib.Numerals.{add-one}
 use native.Mathlib.Omega.{arith}
 use lib.ListN.{length, drop, getD}
 use lib.Seq.{drop-cons, drop-length}
 use lib.Dec.{leb, eqb}
-use borrow.Author.Tests.{le-leb, lt-leb, leb-true}
+use borrow.Author.Tests.{le-leb, lt-leb, leb-true, leb-false}
 use Rattle.columnar.specs.Types.{Number, i8, u8, i16, u16, i32, u32, i64, u64, f32, f64, width, limit}
 use Rattle.columnar.specs.Test.{every, each}
 use Rattle.formats.specs.Types.{numberOf}
@@ -25,6 +25,14 @@ use Rattle.source_rules.specs.kinds.Rows.{Ready, reach, viewRows, keyRow
 use Rattle.source_rules.proofs.kinds.Links.{same-field, view-is, keys-are, sparse-is, dense-is}
 
 -- ---- data buffers
+
+-- two numbers each, by half the table's length
+module _ {r : Bool} (first count : ℕ) (t : List ℕ) (e : r ≡ leb (first + count) (length t / 2)) where
+  pub pairs-past : not r ≡ true → length t < 2 * (first + count)
+  pairs-past h = omega (arith, leb-false (first + count) (length t / 2) (no e h))
+
+  pub pairs-in : not r ≡ false → 2 * (first + count) ≤ length t
+  pairs-in h = omega (arith, leb-true (first + count) (length t / 2) (yes e h))
 
 -- data buffer i behind the first lies in the body
 abbrev pub lies : List ℕ → List ℕ → ℕ → ℕ → Bool

@@ -1,6 +1,6 @@
 //! A list of orders as one call, all or none.
 
-use super::Tables;
+use super::{Position, Tables};
 
 /// The numbers of an order in a list: 0, source, start and end of a copy; or 1, how many nulls, and two that are not read.
 pub const ORDER: usize = 4;
@@ -10,13 +10,13 @@ pub const MOST_ORDERS: usize = 256;
 // the ground and 256 times the place of the order that got it
 extern "C" {
     fn lafkuno_orders(
-        plan: *const u64, plan_len: usize, parts: *const u32, parts_len: usize, sources: *const u32, sources_len: usize,
-        lengths: *const u64, lengths_len: usize, places: *const u32, places_len: usize, body: *const u8, body_len: usize,
+        plan: *const u64, plan_len: usize, parts: *const Position, parts_len: usize, sources: *const u32, sources_len: usize,
+        lengths: *const u64, lengths_len: usize, places: *const Position, places_len: usize, body: *const u8, body_len: usize,
         counters: *mut u64, counters_len: usize, room: *mut u8, room_len: usize, orders: *const u64, orders_len: usize,
     ) -> u32;
     fn lafkuno_measure_orders(
         plan: *const u64, plan_len: usize, sources: *const u32, sources_len: usize, lengths: *const u64, lengths_len: usize,
-        places: *const u32, places_len: usize, body: *const u8, body_len: usize, counters: *mut u64, counters_len: usize,
+        places: *const Position, places_len: usize, body: *const u8, body_len: usize, counters: *mut u64, counters_len: usize,
         orders: *const u64, orders_len: usize,
     ) -> u32;
 }
@@ -38,7 +38,7 @@ impl From<u32> for Ended {
 
 /// Carries out the orders of a list, or none of them.
 #[inline(always)]
-pub fn orders(plan: &[u64], parts: &[u32], x: &Tables, counters: &mut [u64], room: &mut [u8], orders: &[u64]) -> Ended {
+pub fn orders(plan: &[u64], parts: &[Position], x: &Tables, counters: &mut [u64], room: &mut [u8], orders: &[u64]) -> Ended {
     let answer = unsafe {
         lafkuno_orders(
             plan.as_ptr(), plan.len(), parts.as_ptr(), parts.len(), x.sources.as_ptr(), x.sources.len(),

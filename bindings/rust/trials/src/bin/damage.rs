@@ -1,10 +1,11 @@
-//! Damaged descriptions and foreign states. Arguments: how many (20000), the first seed (1); `--bare` before them lends slices without
+//! Damaged descriptions and foreign states, then five times as many with one number near 2^64. Arguments: how many (20000), the first seed (1); `--bare` before them lends slices without
 //! canaries, each in an allocation of its own size, for valgrind.
 
 use std::fmt::Write;
 use std::process::ExitCode;
 use std::time::Instant;
 use trials::damage::{damaged, Answers};
+use trials::far::far_numbers;
 
 fn main() -> ExitCode {
     let mut words = std::env::args().skip(1).peekable();
@@ -23,7 +24,18 @@ fn main() -> ExitCode {
             return ExitCode::FAILURE;
         }
     }
+    let (mut far, mut seed) = (0, first);
+    while far < 5 * count {
+        match far_numbers(seed, &mut answers) {
+            Ok(n) => (far, seed) = (far + n, seed + 1),
+            Err(what) => {
+                println!("{what}");
+                return ExitCode::FAILURE;
+            }
+        }
+    }
     writeln!(out, "{count} damaged joins: no difference, nothing written outside").unwrap();
+    writeln!(out, "{far} numbers near 2^64 or 2^63: as they are due").unwrap();
     for ((call, answer), count) in answers {
         writeln!(out, "{call} answered {answer}: {count}").unwrap();
     }

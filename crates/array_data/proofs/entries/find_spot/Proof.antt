@@ -16,9 +16,6 @@ returns c =
 part-len-requires : tie.Need-part-len-requires
 part-len-requires c κs = search needs
 
-cast-len : tie.Need-cast-len
-cast-len c = search needs
-
 div-if2 : tie.Need-div-if2
 div-if2 c = search needs
 
@@ -28,14 +25,14 @@ returns-2 c =
     let s = part (z .body .now) (z .start) (z .size) in
     spot-no (z .w) s (z .slot) (z .start) (past-end (z .w) s (z .slot) _ (c .before .part-len .ensures) (c .before .before .if1 .left) (c .if2 .taken))
 
-mul-t14 : tie.Need-mul-t14
-mul-t14 c =
+mul-t13 : tie.Need-mul-t13
+mul-t13 c =
     let z = c .before .before .before .before .args in
     let s = part (z .body .now) (z .start) (z .size) in
     omega (arith, inside (z .body .now) (z .start) (z .size) (z .w) (z .slot) (before-end (z .w) s (z .slot) _ (c .before .part-len .ensures) (c .before .before .if1 .left) (omega arith)))
 
-add-t15 : tie.Need-add-t15
-add-t15 c =
+add-t14 : tie.Need-add-t14
+add-t14 c =
     let z = c .before .before .before .before .args in
     let s = part (z .body .now) (z .start) (z .size) in
     omega (arith, inside (z .body .now) (z .start) (z .size) (z .w) (z .slot) (before-end (z .w) s (z .slot) _ (c .before .part-len .ensures) (c .before .before .if1 .left) (omega arith)))
@@ -49,4 +46,4 @@ returns-3 c =
 pub find-spot-spec : {M : Type 1} → statement M
 find-spot-spec =
     tie.close
-    (tie.spec returns part-len-requires cast-len div-if2 returns-2 mul-t14 add-t15 returns-3)
+    (tie.spec returns part-len-requires div-if2 returns-2 mul-t13 add-t14 returns-3)

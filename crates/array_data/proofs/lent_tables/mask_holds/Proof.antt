@@ -23,17 +23,17 @@ place-requires-3 c κs = search needs
 part-len-requires : tie.Need-part-len-requires
 part-len-requires c κs = search needs
 
-count-of-requires : tie.Need-count-of-requires
-count-of-requires c κs = search needs
+offset-of-requires : tie.Need-offset-of-requires
+offset-of-requires c κs = search needs
 
-cast-result : tie.Need-cast-result
-cast-result c = search needs
+length-of-requires : tie.Need-length-of-requires
+length-of-requires c κs = search needs
 
-mul-result : tie.Need-mul-result
-mul-result c = search needs
+bits-fit-requires : tie.Need-bits-fit-requires
+bits-fit-requires c κs = search needs
 
 returns-3 : tie.Need-returns-3
-returns-3 c = rw (is-some (c .before .before .before .before .before .before .place .ensures) (c .before .before .before .before .before .if1 .left), not-false (c .before .before .before .before .before .before .before .before .before .before .args .may) (c .before .before .before .before .if2 .left)) (cc)
+returns-3 c = rw (is-some (c .before .before .before .before .before .before .before .before .place .ensures) (c .before .before .before .before .before .before .before .if1 .left), not-false (c .before .before .before .before .before .before .before .before .before .before .before .before .args .may) (c .before .before .before .before .before .before .if2 .left)) (cc)
 
 pub mask-holds-spec : {M : Type 1} → statement M
 mask-holds-spec =
@@ -44,8 +44,5 @@ mask-holds-spec =
     returns-2
     place-requires-2
     place-requires-3
-    part-len-requires
-    count-of-requires
-    cast-result
-    mul-result
+    part-len-requires offset-of-requires length-of-requires bits-fit-requires
     returns-3)

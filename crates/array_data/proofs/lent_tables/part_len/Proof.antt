@@ -11,9 +11,6 @@ returns c = simp (length-take, length-drop) (omega arith)
 sub-left : tie.Need-sub-left
 sub-left c = search needs
 
-cast-result : tie.Need-cast-result
-cast-result c = search needs
-
 returns-2 : tie.Need-returns-2
 returns-2 c = simp (length-take, length-drop) (omega arith)
 
@@ -21,4 +18,4 @@ returns-3 : tie.Need-returns-3
 returns-3 c = simp (length-take, length-drop) (omega arith)
 
 pub part-len-spec : {M : Type 1} → statement M
-part-len-spec = tie.close (tie.spec returns sub-left cast-result returns-2 returns-3)
+part-len-spec = tie.close (tie.spec returns sub-left returns-2 returns-3)

@@ -12,14 +12,8 @@ place-at-requires c κs = search needs
 place-at-requires-2 : tie.Need-place-at-requires-2
 place-at-requires-2 c κs = search needs
 
-cast-mask : tie.Need-cast-mask
-cast-mask c = search needs
-
 place-at-requires-3 : tie.Need-place-at-requires-3
 place-at-requires-3 c κs = search needs
-
-cast-start : tie.Need-cast-start
-cast-start c = search needs
 
 width-of-requires : tie.Need-width-of-requires
 width-of-requires c κs = search needs
@@ -40,9 +34,7 @@ find-cells-spec =
     (tie.spec
     place-at-requires
     place-at-requires-2
-    cast-mask
     place-at-requires-3
-    cast-start
     width-of-requires
     top-of-requires
     returns)

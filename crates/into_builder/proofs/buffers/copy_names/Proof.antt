@@ -1,5 +1,6 @@
 -- `buffer_names::copy_names` meets its contract. The invariant: the first q numbers are written. Assumes nothing.
-use Prim.Native.Nat.{_-_, _≤_}
+use mathlib.Core.Path.{ap, _∙_}
+use Prim.Native.Nat.{_*_, _-_, _≤_}
 use lib.ListN.{getD}
 use Rattle.columnar.specs.Row.{seg}
 use Rattle.into_builder.specs.buffers.Names.{Behind}
@@ -9,7 +10,7 @@ use Rattle.into_builder.proofs.buffers.copy_names.Statement.{statement}
 use Rattle.into_builder.proofs.buffers.copy_names.Tie as tie
 
 abbrev Inv-loop : tie.InvT-loop
-Inv-loop buffers from n names₀ at q₀ names q = (q ≤ n) × Behind names₀ names at q (seg (λ a. getD buffers a 0) from q)
+Inv-loop buffers from n names₀ at q₀ names q = (q ≤ n) × Behind names₀ names at q (seg (λ a. getD buffers a 0) (2 * from) q)
 
 abbrev μ-loop : tie.MeasureT-loop
 μ-loop buffers from n names₀ at q₀ names q = n - q
@@ -19,11 +20,8 @@ loop-holds c =
     let z = c .before .before .args in
     (omega arith, behind-none (z .names .now) (z .at))
 
-add-at-u32 : tie.Need-add-at-u32 Inv-loop μ-loop
-add-at-u32 c = omega arith
-
-at-u32-requires : tie.Need-at-u32-requires Inv-loop μ-loop
-at-u32-requires c κs = omega arith
+pair-at-requires : tie.Need-pair-at-requires Inv-loop μ-loop
+pair-at-requires c κs = omega arith
 
 add-names : tie.Need-add-names Inv-loop μ-loop
 add-names c = omega arith
@@ -44,7 +42,7 @@ loop-again : tie.Need-loop-again Inv-loop μ-loop
 loop-again c =
     let z = c .before .before .before .before .before .args in
     let l = c .before .before .loop in
-    (omega arith, seg-more (λ a. getD (z .buffers .now) a 0) (z .names .now) (l .names) (z .from) (z .at) (l .q) _ (omega arith) (l .inv .1) (c .at-u32 .ensures))
+    (omega arith, seg-more (λ a. getD (z .buffers .now) a 0) (z .names .now) (l .names) (2 * z .from) (z .at) (l .q) _ (omega arith) (l .inv .1) (c .pair-at .ensures ∙ ap (λ a. getD (z .buffers .now) a 0) (omega arith)))
 
 same-length : tie.Need-same-length Inv-loop μ-loop
 same-length c = c .before .loop .inv .1 .same
@@ -53,9 +51,9 @@ returns : tie.Need-returns Inv-loop μ-loop
 returns c =
     let z = c .before .before .before .before .args in
     let l = c .before .loop in
-    seg-all (λ a. getD (z .buffers .now) a 0) (z .names .now) (l .names) (z .from) (z .at) (l .q) (z .n) (omega arith) (l .inv .1)
+    seg-all (λ a. getD (z .buffers .now) a 0) (z .names .now) (l .names) (2 * z .from) (z .at) (l .q) (z .n) (omega arith) (l .inv .1)
 
 pub copy-names-spec : {M : Type 1} → statement M
 copy-names-spec =
     tie.close
-    (tie.spec Inv-loop μ-loop loop-holds add-at-u32 at-u32-requires add-names mul-names slice-write-names add-q loop-less loop-again same-length returns)
+    (tie.spec Inv-loop μ-loop loop-holds pair-at-requires add-names mul-names slice-write-names add-q loop-less loop-again same-length returns)

@@ -8,7 +8,7 @@ use Rattle.into_builder.proofs.buffers.count_before.Statement.{statemen
 use Rattle.into_builder.proofs.buffers.count_before.Tie as tie
 
 abbrev Inv-loop : tie.InvT-loop
-Inv-loop plan sources places n sum₀ i₀ sum i = (i ≤ n) × (sum ≤ 68719476720 * i) × (sum ≡ countBefore plan sources places i)
+Inv-loop plan sources places n sum₀ i₀ sum i = (i ≤ n) × (sum ≤ 528 * i) × (sum ≡ countBefore plan sources places i)
 
 abbrev μ-loop : tie.MeasureT-loop
 μ-loop plan sources places n sum₀ i₀ sum i = n - i

@@ -34,28 +34,19 @@ node-of-requires c κs = omega arith
 place-requires : tie.Need-place-requires Inv-loop μ-loop
 place-requires c κs = omega arith
 
-cast-from : tie.Need-cast-from Inv-loop μ-loop
-cast-from c = omega arith
-
-place-requires-2 : tie.Need-place-requires-2 Inv-loop μ-loop
-place-requires-2 c κs = omega arith
-
-cast-n : tie.Need-cast-n Inv-loop μ-loop
-cast-n c = omega arith
+buffers-of-requires : tie.Need-buffers-of-requires Inv-loop μ-loop
+buffers-of-requires c κs = omega arith
 
 mul-copy-names : tie.Need-mul-copy-names Inv-loop μ-loop
 mul-copy-names c = omega arith
-
-mul-copy-names-2 : tie.Need-mul-copy-names-2 Inv-loop μ-loop
-mul-copy-names-2 c = omega arith
 
 copy-names-requires : tie.Need-copy-names-requires Inv-loop μ-loop
 copy-names-requires c κs =
     let z = c .before .before .before .before .before .before .before .before .before .before .before .before .args in
     let l = c .before .before .before .before .before .loop in
     let h = of-within (z .plan .now) (z .sources .now) (z .places .now) (z .i) (l .s) (min (sourceCount (z .plan .now)) 16) (omega (arith, c .before .before .before .before .before .before .source-count .ensures .0)) in
-    let e = c .before .place2 .ensures ∙ ap (λ a. getD (z .places .now) (9 * a + 8) 0) (c .before .before .before .node-of .ensures .0) in
-    (omega (arith, l .inv .2 .same, c .before .before .before .before .before .before .before .before .before .before .before .before .pre .1), omega arith, omega arith)
+    let e = c .before .buffers-of .ensures .0 ∙ ap (λ a. min (getD (z .places .now) (9 * a + 8) 0) 33) (c .before .before .before .node-of .ensures .0) in
+    omega (arith, l .inv .2 .same, c .before .before .before .before .before .before .before .before .before .before .before .before .pre .1)
 
 mul-end : tie.Need-mul-end Inv-loop μ-loop
 mul-end c = omega arith
@@ -65,7 +56,7 @@ add-end c =
     let z = c .before .before .before .before .before .before .before .before .before .before .before .before .before .before .before .args in
     let l = c .before .before .before .before .before .before .before .before .loop in
     let h = of-within (z .plan .now) (z .sources .now) (z .places .now) (z .i) (l .s) (min (sourceCount (z .plan .now)) 16) (omega (arith, c .before .before .before .before .before .before .before .before .before .source-count .ensures .0)) in
-    let e = c .before .before .before .before .place2 .ensures ∙ ap (λ a. getD (z .places .now) (9 * a + 8) 0) (c .before .before .before .before .before .before .node-of .ensures .0) in
+    let e = c .before .before .before .before .buffers-of .ensures .0 ∙ ap (λ a. min (getD (z .places .now) (9 * a + 8) 0) 33) (c .before .before .before .before .before .before .node-of .ensures .0) in
     omega (arith, l .inv .1, c .before .before .before .before .before .before .before .before .before .before .before .before .before .before .before .pre .1)
 
 add-s : tie.Need-add-s Inv-loop μ-loop
@@ -78,8 +69,8 @@ loop-again : tie.Need-loop-again Inv-loop μ-loop
 loop-again c =
     let z = c .before .before .before .before .before .before .before .before .before .before .before .before .before .before .before .args in
     let l = c .before .before .before .before .before .before .before .before .loop in
-    let e = c .before .before .before .before .place2 .ensures ∙ ap (λ a. getD (z .places .now) (9 * a + 8) 0) (c .before .before .before .before .before .before .node-of .ensures .0) in
-    (omega arith, omega (arith, of-more (z .plan .now) (z .sources .now) (z .places .now) (z .i) (l .s), l .inv .1), sources-more (z .plan .now) (z .sources .now) (z .places .now) (z .buffers .now) (z .i) (l .s) (l .inv .2) (l .inv .1) (c .before .before .before .before .before .before .node-of .ensures .0) (c .before .before .before .before .before .place .ensures) (c .before .before .before .before .place2 .ensures) (c .before .before .copy-names .ensures))
+    let e = c .before .before .before .before .buffers-of .ensures .0 ∙ ap (λ a. min (getD (z .places .now) (9 * a + 8) 0) 33) (c .before .before .before .before .before .before .node-of .ensures .0) in
+    (omega arith, omega (arith, of-more (z .plan .now) (z .sources .now) (z .places .now) (z .i) (l .s), l .inv .1), sources-more (z .plan .now) (z .sources .now) (z .places .now) (z .buffers .now) (z .i) (l .s) (l .inv .2) (l .inv .1) (c .before .before .before .before .before .before .node-of .ensures .0) (c .before .before .before .before .before .place .ensures) (c .before .before .before .before .buffers-of .ensures .0) (c .before .before .copy-names .ensures))
 
 same-length : tie.Need-same-length Inv-loop μ-loop
 same-length c = c .before .loop .inv .2 .same
@@ -93,4 +84,4 @@ returns c =
 pub view-names-spec : {M : Type 1} → statement M
 view-names-spec =
     tie.close
-    (tie.spec Inv-loop μ-loop source-count-requires loop-holds node-of-requires place-requires cast-from place-requires-2 cast-n mul-copy-names mul-copy-names-2 copy-names-requires mul-end add-end add-s loop-less loop-again same-length returns)
+    (tie.spec Inv-loop μ-loop source-count-requires loop-holds node-of-requires place-requires buffers-of-requires mul-copy-names copy-names-requires mul-end add-end add-s loop-less loop-again same-length returns)

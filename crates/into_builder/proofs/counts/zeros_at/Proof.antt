@@ -24,9 +24,6 @@ mul-at-u64 c = search needs
 at-u64-requires : tie.Need-at-u64-requires
 at-u64-requires c κs = search needs
 
-cast-count-zeros : tie.Need-cast-count-zeros
-cast-count-zeros c = search needs
-
 count-zeros-requires : tie.Need-count-zeros-requires
 count-zeros-requires c κs = omega (arith, c .before .before .before .before .before .before .before .before .pre .1 (yes (c .before .before .before .has-part .ensures) (c .before .before .if1 .left)), c .before .part-start .ensures, c .at-u64 .ensures)
 
@@ -38,4 +35,4 @@ returns-2 c =
 pub zeros-at-spec : {M : Type 1} → statement M
 zeros-at-spec =
     tie.close
-    (tie.spec has-part-requires returns part-start-requires mul-at-u64 at-u64-requires cast-count-zeros count-zeros-requires returns-2)
+    (tie.spec has-part-requires returns part-start-requires mul-at-u64 at-u64-requires count-zeros-requires returns-2)

@@ -51,7 +51,7 @@ returns-5 c =
     copied-six (lent (z .plan .now) (z .parts .now) (z .sources .now) lengths (z .places .now) body) buffers (z .counters .now) room (z .base) (z .i) (z .j) (c .before .if5 .taken) (c .buffer-size2 .ensures)
 
 view-place-requires : tie.Need-view-place-requires
-view-place-requires c κs = (c .before .before .before .before .before .before .before .before .before .before .pre .0, c .before .before .before .before .before .before .before .before .before .before .pre .2)
+view-place-requires c κs = c .before .before .before .before .before .before .before .before .before .before .pre .0
 
 returns-6 : tie.Need-returns-6
 returns-6 c =

@@ -25,23 +25,17 @@ mul-result c = omega (arith, offsets-size (c .before .before .before .before .ar
 add-result : tie.Need-add-result
 add-result c = omega (arith, offsets-size (c .before .before .before .before .args .code) (c .before .before .before .before .args .r) 0 (ap₂ _||_ (c .before .before .before .is-string .ensures) (c .before .before .is-list .ensures)) (c .before .if1 .taken) (c .width-of .ensures))
 
-cast-result : tie.Need-cast-result
-cast-result c = omega (arith, offsets-size (c .before .before .before .before .args .code) (c .before .before .before .before .args .r) 0 (ap₂ _||_ (c .before .before .before .is-string .ensures) (c .before .before .is-list .ensures)) (c .before .if1 .taken) (c .width-of .ensures))
-
 returns : tie.Need-returns
 returns c = offsets-size (c .before .before .before .before .args .code) (c .before .before .before .before .args .r) 0 (ap₂ _||_ (c .before .before .before .is-string .ensures) (c .before .before .is-list .ensures)) (c .before .if1 .taken) (c .width-of .ensures)
 
 entry-size-requires : tie.Need-entry-size-requires
 entry-size-requires c κs = search needs
 
-cast-result-2 : tie.Need-cast-result-2
-cast-result-2 c = search needs
+cast-result : tie.Need-cast-result
+cast-result c = search needs
 
 mul-result-2 : tie.Need-mul-result-2
 mul-result-2 c = omega (arith, first-size (c .before .before .before .before .args .code) (c .before .before .before .before .args .r) 0 (ap₂ _||_ (c .before .before .before .is-string .ensures) (c .before .before .is-list .ensures)) (c .before .if1 .left) (c .entry-size .ensures))
-
-cast-result-3 : tie.Need-cast-result-3
-cast-result-3 c = omega (arith, first-size (c .before .before .before .before .args .code) (c .before .before .before .before .args .r) 0 (ap₂ _||_ (c .before .before .before .is-string .ensures) (c .before .before .is-list .ensures)) (c .before .if1 .left) (c .entry-size .ensures))
 
 returns-2 : tie.Need-returns-2
 returns-2 c = first-size (c .before .before .before .before .args .code) (c .before .before .before .before .args .r) 0 (ap₂ _||_ (c .before .before .before .is-string .ensures) (c .before .before .is-list .ensures)) (c .before .if1 .left) (c .entry-size .ensures)
@@ -49,4 +43,4 @@ returns-2 c = first-size (c .before .before .before .before .args .code) (c .bef
 pub first-size-spec : {M : Type 1} → statement M
 first-size-spec =
     tie.close
-    (tie.spec is-string-requires is-list-requires width-of-requires cast-w mul-result add-result cast-result returns entry-size-requires cast-result-2 mul-result-2 cast-result-3 returns-2)
+    (tie.spec is-string-requires is-list-requires width-of-requires cast-w mul-result add-result returns entry-size-requires cast-result mul-result-2 returns-2)

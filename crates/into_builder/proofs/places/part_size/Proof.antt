@@ -15,9 +15,6 @@ at-u64-requires c κs = search needs
 bit-room-requires : tie.Need-bit-room-requires
 bit-room-requires c κs = search needs
 
-cast-result : tie.Need-cast-result
-cast-result c = omega (arith, bits-size (c .before .before .before .before .before .args .plan .now) (c .before .before .before .before .before .args .counters .now) (c .before .before .before .before .before .args .i) (c .before .before .at-u64 .ensures) (c .before .before .before .before .before .args .b) (c .before .if1 .taken), c .bit-room .ensures, c .before .before .before .before .before .pre .2)
-
 returns : tie.Need-returns
 returns c = c .bit-room .ensures ∙ bits-size (c .before .before .before .before .before .args .plan .now) (c .before .before .before .before .before .args .counters .now) (c .before .before .before .before .before .args .i) (c .before .before .at-u64 .ensures) (c .before .before .before .before .before .args .b) (c .before .if1 .taken)
 
@@ -48,4 +45,4 @@ returns-3 c = c .second-size .ensures ∙ size-second (c .before .before .before
 pub part-size-spec : {M : Type 1} → statement M
 part-size-spec =
     tie.close
-    (tie.spec mul-at-u64 at-u64-requires bit-room-requires cast-result returns code-of-requires first-size-requires returns-2 mul-at-u64-2 add-at-u64 at-u64-requires-2 second-size-requires returns-3)
+    (tie.spec mul-at-u64 at-u64-requires bit-room-requires returns code-of-requires first-size-requires returns-2 mul-at-u64-2 add-at-u64 at-u64-requires-2 second-size-requires returns-3)

@@ -8,9 +8,6 @@ use Rattle.into_builder.proofs.places.second_size.Tie as tie
 is-string-requires : tie.Need-is-string-requires
 is-string-requires c κs = search needs
 
-cast-result : tie.Need-cast-result
-cast-result c = omega (arith, data-size (c .before .before .args .code) (c .before .before .args .r) (c .before .before .args .n) (c .before .is-string .ensures) (c .if1 .taken))
-
 returns : tie.Need-returns
 returns c = data-size (c .before .before .args .code) (c .before .before .args .r) (c .before .before .args .n) (c .before .is-string .ensures) (c .if1 .taken)
 
@@ -20,14 +17,11 @@ is-list-view-requires c κs = search needs
 width-of-requires : tie.Need-width-of-requires
 width-of-requires c κs = search needs
 
-cast-result-2 : tie.Need-cast-result-2
-cast-result-2 c = search needs
+cast-result : tie.Need-cast-result
+cast-result c = search needs
 
 mul-result : tie.Need-mul-result
 mul-result c = omega (arith, sizes-size (c .before .before .before .before .before .args .code) (c .before .before .before .before .before .args .r) (c .before .before .before .before .before .args .n) (c .before .before .before .before .is-string .ensures) (c .before .before .before .if1 .left) (c .before .before .is-list-view .ensures) (c .before .if2 .taken) (c .width-of .ensures))
-
-cast-result-3 : tie.Need-cast-result-3
-cast-result-3 c = omega (arith, sizes-size (c .before .before .before .before .before .args .code) (c .before .before .before .before .before .args .r) (c .before .before .before .before .before .args .n) (c .before .before .before .before .is-string .ensures) (c .before .before .before .if1 .left) (c .before .before .is-list-view .ensures) (c .before .if2 .taken) (c .width-of .ensures))
 
 returns-2 : tie.Need-returns-2
 returns-2 c = sizes-size (c .before .before .before .before .before .args .code) (c .before .before .before .before .before .args .r) (c .before .before .before .before .before .args .n) (c .before .before .before .before .is-string .ensures) (c .before .before .before .if1 .left) (c .before .before .is-list-view .ensures) (c .before .if2 .taken) (c .width-of .ensures)
@@ -35,13 +29,10 @@ returns-2 c = sizes-size (c .before .before .before .before .before .args .code)
 mul-result-2 : tie.Need-mul-result-2
 mul-result-2 c = omega (arith, dense-size (c .before .before .before .before .args .code) (c .before .before .before .before .args .r) (c .before .before .before .before .args .n) (c .before .before .before .is-string .ensures) (c .before .before .if1 .left) (c .before .is-list-view .ensures) (c .if2 .left))
 
-cast-result-4 : tie.Need-cast-result-4
-cast-result-4 c = omega (arith, dense-size (c .before .before .before .before .args .code) (c .before .before .before .before .args .r) (c .before .before .before .before .args .n) (c .before .before .before .is-string .ensures) (c .before .before .if1 .left) (c .before .is-list-view .ensures) (c .if2 .left))
-
 returns-3 : tie.Need-returns-3
 returns-3 c = dense-size (c .before .before .before .before .args .code) (c .before .before .before .before .args .r) (c .before .before .before .before .args .n) (c .before .before .before .is-string .ensures) (c .before .before .if1 .left) (c .before .is-list-view .ensures) (c .if2 .left)
 
 pub second-size-spec : {M : Type 1} → statement M
 second-size-spec =
     tie.close
-    (tie.spec is-string-requires cast-result returns is-list-view-requires width-of-requires cast-result-2 mul-result cast-result-3 returns-2 mul-result-2 cast-result-4 returns-3)
+    (tie.spec is-string-requires returns is-list-view-requires width-of-requires cast-result mul-result returns-2 mul-result-2 returns-3)

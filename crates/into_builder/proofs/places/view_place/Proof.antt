@@ -23,11 +23,6 @@ returns c =
 count-before-requires : tie.Need-count-before-requires
 count-before-requires c κs = search needs
 
-cast-result : tie.Need-cast-result
-cast-result c =
-    let z = c .before .before .before .before .before .before .before .before .args in
-    omega (arith, c .count-before .ensures .0, before-within (z .plan .now) (z .sources .now) (z .places .now) (z .i) (nodesOf (z .plan .now)) (c .before .before .before .before .before .before .before .before .pre .0), c .before .before .before .before .before .before .before .before .pre .1)
-
 returns-2 : tie.Need-returns-2
 returns-2 c =
     let z = c .before .before .before .before .before .before .before .before .args in
@@ -35,11 +30,6 @@ returns-2 c =
 
 count-at-requires : tie.Need-count-at-requires
 count-at-requires c κs = search needs
-
-cast-result-2 : tie.Need-cast-result-2
-cast-result-2 c =
-    let z = c .before .before .before .before .before .before .before .before .args in
-    omega (arith, c .count-at .ensures .0, before-within (z .plan .now) (z .sources .now) (z .places .now) (z .i) (nodesOf (z .plan .now)) (c .before .before .before .before .before .before .before .before .pre .0), c .before .before .before .before .before .before .before .before .pre .1)
 
 returns-3 : tie.Need-returns-3
 returns-3 c =
@@ -49,4 +39,4 @@ returns-3 c =
 pub view-place-spec : {M : Type 1} → statement M
 view-place-spec =
     tie.close
-    (tie.spec code-of-requires is-view-requires returns count-before-requires cast-result returns-2 count-at-requires cast-result-2 returns-3)
+    (tie.spec code-of-requires is-view-requires returns count-before-requires returns-2 count-at-requires returns-3)

@@ -35,7 +35,7 @@ place-at-requires c κs =
     let z = c .before .before .before .before .before .before .before .before .before .before .args in
     let l = c .before .loop in
     let h : l .q / 9 < nodesOf (z .plan .now) = omega (arith, c .before .before .node-count .ensures .0) in
-    (h, omega arith, c .before .before .before .before .before .before .before .before .before .before .pre .1 (l .q / 9) h, c .before .before .before .before .before .before .before .before .before .before .pre .2)
+    (h, omega arith, c .before .before .before .before .before .before .before .before .before .before .pre .1 (l .q / 9) h)
 
 mul-table : tie.Need-mul-table Inv-loop μ-loop
 mul-table c = omega (arith, c .before .before .before .node-count .ensures .1)

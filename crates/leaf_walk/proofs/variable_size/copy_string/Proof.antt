@@ -34,9 +34,6 @@ returns-2 c =
     let a = c .before .before .before .before .before .before .before .before .before .args in
     λ lengths source. copy-out (join (a .state .now) (a .parts .now) lengths (a .places .now) (a .body .now) (a .first) source) (a .i) (a .write) (a .counts .now) (a .room .now) (a .w) (a .slot) (a .n) (c .before .before .before .if1 .left) (c .before .before .place .ensures) (c .before .rows-in .ensures (a .state .now) (a .parts .now) lengths (a .places .now) (a .first) source) (c .if2 .taken)
 
-cast-from : tie.Need-cast-from
-cast-from c = search needs
-
 mul-from : tie.Need-mul-from
 mul-from c =
     let a = c .before .before .before .before .before .before .before .before .before .args in
@@ -70,7 +67,6 @@ copy-string-spec =
     add-rows-in
     rows-in-requires
     returns-2
-    cast-from
     mul-from
     add-from
     put-extended-requires

@@ -1,5 +1,6 @@
 -- `string_walk::null_list` meets its contract. Assumes nothing.
 use native.Mathlib.Numerals.{add-one}
+use native.Mathlib.Omega.{arith}
 use Rattle.room_writes.proofs.Bytes.{width-in}
 use Rattle.leaf_walk.specs.Join.{join}
 use Rattle.leaf_walk.proofs.variable_size.Lists.{null-far, null-near}
@@ -39,7 +40,7 @@ same-length c = search needs
 returns-2 : tie.Need-returns-2
 returns-2 c =
     let a = c .before .before .before .before .before .before .before .before .before .before .before .before .args in
-    λ lengths places body first source child. null-near (join (a .state .now) (a .parts .now) lengths places body first source) child (a .write) (a .w) (a .i) (a .n) (a .counts .now) (a .room .now) (add-one (a .i)) (c .before .before .before .before .before .before .before .before .if1 .left) (add-one (a .i)) (c .before .before .before .before .rows-of2 .ensures) (c .before .before .before .before .before .before .before .rows-of .ensures) (c .before .before .before .before .before .before .grow .ensures) (c .before .before .before .before .before .scale .ensures) (width-in (a .w) (λ p q. c .before .before .before .before .before .before .before .before .before .before .before .before .pre .1) .0) (c .before .before .put-repeated .ensures)
+    λ lengths places body first source child. null-near (join (a .state .now) (a .parts .now) lengths places body first source) child (a .write) (a .w) (a .i) (a .n) (a .counts .now) (a .room .now) (add-one (a .i)) (c .before .before .before .before .before .before .before .before .if1 .left) (add-one (a .i)) (c .before .before .before .before .rows-of2 .ensures) (c .before .before .before .before .before .before .before .rows-of .ensures) (c .before .before .before .before .before .before .grow .ensures) (c .before .before .before .before .before .scale .ensures) (width-in (a .w) (λ p q. c .before .before .before .before .before .before .before .before .before .before .before .before .pre .1) .0) (omega (arith, c .before .before .before .before .before .before .before .before .before .before .before .before .good)) (c .before .before .put-repeated .ensures)
 
 pub null-list-spec : {M : Type 1} → statement M
 null-list-spec =

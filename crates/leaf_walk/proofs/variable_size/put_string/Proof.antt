@@ -43,9 +43,6 @@ scale-requires c κs =
 put-offsets-requires : tie.Need-put-offsets-requires
 put-offsets-requires c κs = search needs
 
-cast-begin : tie.Need-cast-begin
-cast-begin c = search needs
-
 add-begin : tie.Need-add-begin
 add-begin c =
     let a = c .before .before .before .before .before .before .before .before .before .before .before .before .before .before .before .before .before .before .args in
@@ -68,7 +65,7 @@ same-length c = search needs
 returns-2 : tie.Need-returns-2
 returns-2 c =
     let a = c .before .before .before .before .before .before .before .before .before .before .before .before .before .before .before .before .before .before .before .before .before .before .before .before .args in
-    λ lengths source. string-yes (join (a .state .now) (a .parts .now) lengths (a .places .now) (a .body .now) (a .first) source) (a .i) (a .write) (a .counts .now) (a .room .now) (a .w) (a .from) (a .n) (a .last) (a .lead) (c .before .before .before .before .before .before .before .before .before .before .before .before .before .before .before .before .before .before .place .ensures) (c .before .before .before .before .before .before .before .before .before .before .before .before .before .before .before .before .bytes-of .ensures) (c .before .before .before .before .before .before .before .before .before .before .before .before .before .before .before .bytes-in .ensures) (c .before .before .before .before .before .before .before .before .before .before .before .before .before .before .if1 .left) (c .before .before .before .before .before .before .before .before .before .before .before .before .rows-of .ensures) (c .before .before .before .before .before .before .before .before .before .before .before .grow .ensures) (c .before .before .before .before .before .before .before .before .before .before .scale .ensures) (width-in (a .w) (λ p q. c .before .before .before .before .before .before .before .before .before .before .before .before .before .before .before .before .before .before .before .before .before .before .before .before .pre .1) .0) (c .before .before .before .before .before .before .before .before .put-offsets .ensures) (c .before .before .before .before .put-copy .ensures) (c .set-bytes .ensures)
+    λ lengths source. string-yes (join (a .state .now) (a .parts .now) lengths (a .places .now) (a .body .now) (a .first) source) (a .i) (a .write) (a .counts .now) (a .room .now) (a .w) (a .from) (a .n) (a .last) (a .lead) (c .before .before .before .before .before .before .before .before .before .before .before .before .before .before .before .before .before .before .place .ensures) (c .before .before .before .before .before .before .before .before .before .before .before .before .before .before .before .before .bytes-of .ensures) (c .before .before .before .before .before .before .before .before .before .before .before .before .before .before .before .bytes-in .ensures) (c .before .before .before .before .before .before .before .before .before .before .before .before .before .before .if1 .left) (c .before .before .before .before .before .before .before .before .before .before .before .before .rows-of .ensures) (c .before .before .before .before .before .before .before .before .before .before .before .grow .ensures) (c .before .before .before .before .before .before .before .before .before .before .scale .ensures) (width-in (a .w) (λ p q. c .before .before .before .before .before .before .before .before .before .before .before .before .before .before .before .before .before .before .before .before .before .before .before .before .pre .1) .0) (omega (arith, c .before .before .before .before .before .before .before .before .before .before .before .before .before .before .before .before .before .before .before .before .before .before .before .before .good)) (c .before .before .before .before .before .before .before .before .put-offsets .ensures) (c .before .before .before .before .put-copy .ensures) (c .set-bytes .ensures)
 
 pub put-string-spec : {M : Type 1} → statement M
 put-string-spec =
@@ -84,7 +81,6 @@ put-string-spec =
     grow-requires
     scale-requires
     put-offsets-requires
-    cast-begin
     add-begin
     sub-put-copy
     put-copy-requires

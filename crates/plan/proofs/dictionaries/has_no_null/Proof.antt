@@ -37,26 +37,20 @@ place-requires-3 c κs = omega arith
 part-len-requires : tie.Need-part-len-requires
 part-len-requires c κs = omega arith
 
-cast-sum-fits : tie.Need-cast-sum-fits
-cast-sum-fits c = omega arith
-
-mul-sum-fits : tie.Need-mul-sum-fits
-mul-sum-fits c = omega arith
-
-sum-fits-requires : tie.Need-sum-fits-requires
-sum-fits-requires c κs = omega arith
+bits-fit-requires : tie.Need-bits-fit-requires
+bits-fit-requires c κs = omega arith
 
 returns-3 : tie.Need-returns-3
 returns-3 c =
     let a = c .before .before .before .before .before .before .before .before .before .before .before .before .before .args in
     let x = tables (a .lengths .now) (a .places .now) (a .body .now) in
-    past-present x (a .k) (is-some (c .before .before .before .before .before .before .before .before .before .place .ensures) (c .before .before .before .before .before .before .before .before .if1 .left)) (c .before .sum-fits .ensures) (c .before .before .before .before .before .offset-of .ensures) (c .before .before .before .before .before .before .before .length-of .ensures) (bytes-are x (a .k) (c .before .before .part-len .ensures) (c .before .before .before .before .place2 .ensures) (c .before .before .before .place3 .ensures)) (c .before .before .before .before .before .before .if2 .left) (c .if3 .taken)
+    past-present x (a .k) (is-some (c .before .before .before .before .before .before .before .before .before .place .ensures) (c .before .before .before .before .before .before .before .before .if1 .left)) (c .before .bits-fit .ensures) (c .before .before .before .before .before .offset-of .ensures) (c .before .before .before .before .before .before .before .length-of .ensures) (bytes-are x (a .k) (c .before .before .part-len .ensures) (c .before .before .before .before .place2 .ensures) (c .before .before .before .place3 .ensures)) (c .before .before .before .before .before .before .if2 .left) (c .if3 .taken)
 
 null-count-requires : tie.Need-null-count-requires
 null-count-requires c κs =
     let a = c .before .before .before .before .before .before .before .before .before .before .before .before .before .args in
     let x = tables (a .lengths .now) (a .places .now) (a .body .now) in
-    countable-by x (a .k) (is-some (c .before .before .before .before .before .before .before .before .before .place .ensures) (c .before .before .before .before .before .before .before .before .if1 .left)) (c .before .sum-fits .ensures) (c .before .before .before .before .before .offset-of .ensures) (c .before .before .before .before .before .before .before .length-of .ensures) (bytes-are x (a .k) (c .before .before .part-len .ensures) (c .before .before .before .before .place2 .ensures) (c .before .before .before .place3 .ensures)) (omega arith) (omega arith) (c .if3 .left)
+    countable-by x (a .k) (is-some (c .before .before .before .before .before .before .before .before .before .place .ensures) (c .before .before .before .before .before .before .before .before .if1 .left)) (c .before .bits-fit .ensures) (c .before .before .before .before .before .offset-of .ensures) (c .before .before .before .before .before .before .before .length-of .ensures) (bytes-are x (a .k) (c .before .before .part-len .ensures) (c .before .before .before .before .place2 .ensures) (c .before .before .before .place3 .ensures)) (omega arith) (c .if3 .left)
 
 returns-4 : tie.Need-returns-4
 returns-4 c =
@@ -75,10 +69,7 @@ has-no-null-spec =
     offset-of-requires
     place-requires-2
     place-requires-3
-    part-len-requires
-    cast-sum-fits
-    mul-sum-fits
-    sum-fits-requires
+    part-len-requires bits-fit-requires
     returns-3
     null-count-requires
     returns-4)

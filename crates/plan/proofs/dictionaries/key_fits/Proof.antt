@@ -20,18 +20,18 @@ returns-2 c =
     let a = c .before .before .before .args in
     λ k e. key-none k (a .start) (a .n) (c .before .before .largest-key .ensures k e) (omega arith) (omega arith)
 
-sub-sum-fits : tie.Need-sub-sum-fits
-sub-sum-fits c = omega arith
+sub-fits : tie.Need-sub-fits
+sub-fits c = omega arith
 
-sum-fits-requires : tie.Need-sum-fits-requires
-sum-fits-requires c κs = omega arith
+fits-requires : tie.Need-fits-requires
+fits-requires c κs = omega arith
 
 returns-3 : tie.Need-returns-3
 returns-3 c =
     let a = c .before .before .before .before .args in
     let top = c .before .before .before .largest-key .result in
     let last : a .start + (a .n - 1) ≡ a .start + a .n - 1 = omega arith in
-    λ k e. key-last k (a .start) (a .n) (c .before .before .before .largest-key .ensures k e) (omega arith) (c .sum-fits .ensures ∙ ap (λ z. leb z top) last)
+    λ k e. key-last k (a .start) (a .n) (c .before .before .before .largest-key .ensures k e) (omega arith) (c .fits2 .ensures ∙ ap (λ z. leb z top) last)
 
 pub key-fits-spec : {M : Type 1} → statement M
 key-fits-spec =
@@ -40,6 +40,5 @@ key-fits-spec =
     largest-key-requires
     returns
     returns-2
-    sub-sum-fits
-    sum-fits-requires
+    sub-fits fits-requires
     returns-3)

@@ -9,7 +9,7 @@ use Rattle.plan.proofs.dictionaries.null_count.Statement.{statement}
 use Rattle.plan.proofs.dictionaries.null_count.Tie as tie
 
 place-requires : tie.Need-place-requires
-place-requires c κs = omega (arith, c .before .before .before .pre .counted .small)
+place-requires c κs = omega (arith, c .before .before .before .pre .small)
 
 returns : tie.Need-returns
 returns c =
@@ -17,7 +17,7 @@ returns c =
     count-none (tables (a .lengths .now) (a .places .now) (a .body .now)) (a .k) (is-none (c .before .place .ensures) (c .if1 .taken))
 
 length-of-requires : tie.Need-length-of-requires
-length-of-requires c κs = omega (arith, c .before .before .before .before .before .pre .counted .small)
+length-of-requires c κs = omega (arith, c .before .before .before .before .before .pre .small)
 
 returns-2 : tie.Need-returns-2
 returns-2 c =
@@ -25,13 +25,10 @@ returns-2 c =
     count-empty (tables (a .lengths .now) (a .places .now) (a .body .now)) (a .k) (sym (c .before .length-of .ensures) ∙ c .if2 .taken)
 
 place-requires-2 : tie.Need-place-requires-2
-place-requires-2 c κs = omega (arith, c .before .before .before .before .before .before .before .pre .counted .small)
+place-requires-2 c κs = omega (arith, c .before .before .before .before .before .before .before .pre .small)
 
 offset-of-requires : tie.Need-offset-of-requires
-offset-of-requires c κs = omega (arith, c .before .before .before .before .before .before .before .before .pre .counted .small)
-
-cast-count-zeros : tie.Need-cast-count-zeros
-cast-count-zeros c = search needs
+offset-of-requires c κs = omega (arith, c .before .before .before .before .before .before .before .before .pre .small)
 
 count-zeros-requires : tie.Need-count-zeros-requires
 count-zeros-requires c κs =
@@ -54,6 +51,5 @@ null-count-spec =
     returns-2
     place-requires-2
     offset-of-requires
-    cast-count-zeros
     count-zeros-requires
     returns-3)

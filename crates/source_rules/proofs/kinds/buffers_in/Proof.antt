@@ -2,18 +2,19 @@
 use mathlib.Core.Path.{_≡_, refl}
 use mathlib.Core.Bool.{true}
 use mathlib.Core.List.{[]}
-use Prim.Native.Nat.{_-_, _≤_}
+use Prim.Native.Nat.{_+_, _-_, _*_, _≤_}
+use lib.ListN.{length}
 use native.Mathlib.Omega.{arith}
 use Rattle.columnar.specs.Test.{every}
 use Rattle.row_rules.proofs.slots.Laws.{pass}
 use Rattle.array_data.proofs.lent_tables.Laws.{no, yes}
 use Rattle.source_rules.specs.kinds.Rows.{tablesOf}
-use Rattle.source_rules.proofs.kinds.Laws.{lies, buffers-short, buffers-are, buffers-fail}
+use Rattle.source_rules.proofs.kinds.Laws.{lies, pairs-past, pairs-in, buffers-short, buffers-are, buffers-fail}
 use Rattle.source_rules.proofs.kinds.buffers_in.Statement.{statement}
 use Rattle.source_rules.proofs.kinds.buffers_in.Tie as tie
 
 abbrev Inv-loop : tie.InvT-loop
-Inv-loop places buffers body k first count i₀ i = (i ≤ count) × (true ≡ every (lies buffers body first) i)
+Inv-loop places buffers body k first count i₀ i = (i ≤ count) × (true ≡ every (lies buffers body first) i) × (2 * (first + count) ≤ length buffers)
 
 abbrev μ-loop : tie.MeasureT-loop
 μ-loop places buffers body k first count i₀ i = count - i
@@ -21,29 +22,22 @@ abbrev μ-loop : tie.MeasureT-loop
 place-requires : tie.Need-place-requires Inv-loop μ-loop
 place-requires c κs = (omega arith, omega arith)
 
-cast-first : tie.Need-cast-first Inv-loop μ-loop
-cast-first c = omega arith
-
 place-requires-2 : tie.Need-place-requires-2 Inv-loop μ-loop
 place-requires-2 c κs = (omega arith, omega arith)
 
-cast-count : tie.Need-cast-count Inv-loop μ-loop
-cast-count c = omega arith
-
-add-if1 : tie.Need-add-if1 Inv-loop μ-loop
-add-if1 c = omega arith
-
-mul-if1 : tie.Need-mul-if1 Inv-loop μ-loop
-mul-if1 c = omega arith
+fits-requires : tie.Need-fits-requires Inv-loop μ-loop
+fits-requires c κs = tt
 
 returns : tie.Need-returns Inv-loop μ-loop
 returns c =
-    let a = c .before .before .before .before .before .before .args in
+    let a = c .before .before .before .before .before .before .before .args in
     let x = tablesOf [] (a .places .now) (a .buffers .now) (a .body .now) in
-    buffers-short x (a .k) (c .before .before .place .ensures) (c .before .place2 .ensures) (omega arith)
+    buffers-short x (a .k) (c .before .before .before .place .ensures) (c .before .before .place2 .ensures) (pairs-past _ _ (a .buffers .now) (c .before .fits2 .ensures) (c .if1 .taken))
 
 loop-holds : tie.Need-loop-holds Inv-loop μ-loop
-loop-holds c = (omega arith, refl)
+loop-holds c =
+    let a = c .before .before .before .before .before .before .before .args in
+    (omega arith, refl, pairs-in _ _ (a .buffers .now) (c .before .fits2 .ensures) (c .if1 .left))
 
 add-at : tie.Need-add-at Inv-loop μ-loop
 add-at c = omega arith
@@ -71,9 +65,9 @@ in-body-requires c κs = tt
 
 returns-2 : tie.Need-returns-2 Inv-loop μ-loop
 returns-2 c =
-    let a = c .before .before .before .before .before .before .before .before .before .before .before .before .args in
+    let a = c .before .before .before .before .before .before .before .before .before .before .before .before .before .args in
     let x = tablesOf [] (a .places .now) (a .buffers .now) (a .body .now) in
-    buffers-fail x (a .k) (c .before .before .before .before .before .before .before .before .place .ensures) (c .before .before .before .before .before .before .before .place2 .ensures) (omega arith) (c .before .before .before .before .before .loop .i) (omega arith) (no (c .before .in-body .ensures) (c .if2 .taken))
+    buffers-fail x (a .k) (c .before .before .before .before .before .before .before .before .before .place .ensures) (c .before .before .before .before .before .before .before .before .place2 .ensures) (omega arith) (c .before .before .before .before .before .loop .i) (omega arith) (no (c .before .in-body .ensures) (c .if2 .taken))
 
 add-i : tie.Need-add-i Inv-loop μ-loop
 add-i c = omega arith
@@ -83,16 +77,16 @@ loop-less c = omega arith
 
 loop-again : tie.Need-loop-again Inv-loop μ-loop
 loop-again c =
-    let a = c .before .before .before .before .before .before .before .before .before .before .before .before .args in
-    (omega arith, pass (lies (a .buffers .now) (a .body .now) (c .before .before .before .before .before .before .before .before .place .result)) (c .before .before .before .before .before .loop .i) (c .before .before .before .before .before .loop .inv .1) (yes (c .before .in-body .ensures) (c .if2 .left)))
+    let a = c .before .before .before .before .before .before .before .before .before .before .before .before .before .args in
+    (omega arith, pass (lies (a .buffers .now) (a .body .now) (c .before .before .before .before .before .before .before .before .before .place .result)) (c .before .before .before .before .before .loop .i) (c .before .before .before .before .before .loop .inv .1) (yes (c .before .in-body .ensures) (c .if2 .left)), c .before .before .before .before .before .loop .inv .2)
 
 returns-3 : tie.Need-returns-3 Inv-loop μ-loop
 returns-3 c =
-    let a = c .before .before .before .before .before .before .before .before .args in
+    let a = c .before .before .before .before .before .before .before .before .before .args in
     let x = tablesOf [] (a .places .now) (a .buffers .now) (a .body .now) in
-    let e : c .before .loop .i ≡ c .before .before .before .place2 .result = omega arith in
-    let t : true ≡ every (lies (a .buffers .now) (a .body .now) (c .before .before .before .before .place .result)) (c .before .before .before .place2 .result) = rw e at (c .before .loop .inv .1) in
-    buffers-are x (a .k) (c .before .before .before .before .place .ensures) (c .before .before .before .place2 .ensures) (omega arith) t
+    let e : c .before .loop .i ≡ c .before .before .before .before .place2 .result = omega arith in
+    let t : true ≡ every (lies (a .buffers .now) (a .body .now) (c .before .before .before .before .before .place .result)) (c .before .before .before .before .place2 .result) = rw e at (c .before .loop .inv .1) in
+    buffers-are x (a .k) (c .before .before .before .before .before .place .ensures) (c .before .before .before .before .place2 .ensures) (omega arith) t
 
 pub buffers-in-spec : {M : Type 1} → statement M
 buffers-in-spec =
@@ -101,11 +95,7 @@ buffers-in-spec =
     Inv-loop
     μ-loop
     place-requires
-    cast-first
-    place-requires-2
-    cast-count
-    add-if1
-    mul-if1
+    place-requires-2 fits-requires
     returns
     loop-holds
     add-at

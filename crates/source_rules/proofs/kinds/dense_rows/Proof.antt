@@ -17,9 +17,6 @@ count-of-requires c κs = search needs
 place-requires : tie.Need-place-requires
 place-requires c κs = search needs
 
-cast-if1 : tie.Need-cast-if1
-cast-if1 c = search needs
-
 returns : tie.Need-returns
 unfolding denseRows
 returns c =
@@ -49,9 +46,6 @@ length-of-requires c κs = search needs
 place-requires-3 : tie.Need-place-requires-3
 place-requires-3 c κs = search needs
 
-cast-at : tie.Need-cast-at
-cast-at c = search needs
-
 add-at : tie.Need-add-at
 add-at c =
     let a = c .before .before .before .before .before .before .before .before .before .before .before .before .before .before .args in
@@ -60,9 +54,6 @@ add-at c =
 
 place-requires-4 : tie.Need-place-requires-4
 place-requires-4 c κs = search needs
-
-cast-too : tie.Need-cast-too
-cast-too c = search needs
 
 mul-too : tie.Need-mul-too
 mul-too c =
@@ -98,7 +89,6 @@ dense-rows-spec =
     (tie.spec
     count-of-requires
     place-requires
-    cast-if1
     returns
     place-requires-2
     rows-fit-requires
@@ -106,10 +96,8 @@ dense-rows-spec =
     offset-of-requires
     length-of-requires
     place-requires-3
-    cast-at
     add-at
     place-requires-4
-    cast-too
     mul-too
     add-too
     dense-good-requires

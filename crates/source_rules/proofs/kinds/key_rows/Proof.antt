@@ -35,9 +35,6 @@ length-of-requires c κs = search needs
 place-requires-2 : tie.Need-place-requires-2
 place-requires-2 c κs = search needs
 
-cast-at : tie.Need-cast-at
-cast-at c = search needs
-
 mul-at : tie.Need-mul-at
 mul-at c =
     let a = c .before .before .before .before .before .before .before .before .before .before .args in
@@ -84,9 +81,6 @@ returns-2 c =
 place-requires-4 : tie.Need-place-requires-4
 place-requires-4 c κs = search needs
 
-cast-from : tie.Need-cast-from
-cast-from c = search needs
-
 valid-keys-below-requires : tie.Need-valid-keys-below-requires
 valid-keys-below-requires c κs =
     let a = c .before .before .before .before .before .before .before .before .before .before .before .before .before .args in
@@ -119,13 +113,11 @@ key-rows-spec =
     offset-of-requires
     length-of-requires
     place-requires-2
-    cast-at
     mul-at
     add-at
     place-requires-3
     keys-below-requires
     returns-2
     place-requires-4
-    cast-from
     valid-keys-below-requires
     returns-3)

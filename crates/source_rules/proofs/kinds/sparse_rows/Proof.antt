@@ -14,9 +14,6 @@ count-of-requires c κs = search needs
 place-requires : tie.Need-place-requires
 place-requires c κs = search needs
 
-cast-if1 : tie.Need-cast-if1
-cast-if1 c = search needs
-
 returns : tie.Need-returns
 unfolding sparseRows
 returns c =
@@ -32,9 +29,6 @@ length-of-requires c κs = search needs
 
 place-requires-2 : tie.Need-place-requires-2
 place-requires-2 c κs = search needs
-
-cast-start : tie.Need-cast-start
-cast-start c = search needs
 
 add-ids-declared : tie.Need-add-ids-declared
 add-ids-declared c =
@@ -71,12 +65,10 @@ sparse-rows-spec =
     (tie.spec
     count-of-requires
     place-requires
-    cast-if1
     returns
     offset-of-requires
     length-of-requires
     place-requires-2
-    cast-start
     add-ids-declared
     ids-declared-requires
     returns-2

@@ -33,9 +33,6 @@ length-of-requires c κs = search needs
 place-requires-2 : tie.Need-place-requires-2
 place-requires-2 c κs = search needs
 
-cast-at : tie.Need-cast-at
-cast-at c = search needs
-
 mul-at : tie.Need-mul-at
 mul-at c =
     let a = c .before .before .before .before .before .before .before .before .before .before .before .args in
@@ -55,14 +52,8 @@ add-at c =
 place-requires-3 : tie.Need-place-requires-3
 place-requires-3 c κs = search needs
 
-cast-first : tie.Need-cast-first
-cast-first c = search needs
-
 place-requires-4 : tie.Need-place-requires-4
 place-requires-4 c κs = search needs
-
-cast-many : tie.Need-cast-many
-cast-many c = search needs
 
 place-requires-5 : tie.Need-place-requires-5
 place-requires-5 c κs = search needs
@@ -83,9 +74,6 @@ returns-2 c =
 
 place-requires-6 : tie.Need-place-requires-6
 place-requires-6 c κs = search needs
-
-cast-from : tie.Need-cast-from
-cast-from c = search needs
 
 valid-views-good-requires : tie.Need-valid-views-good-requires
 valid-views-good-requires c κs =
@@ -115,17 +103,13 @@ view-rows-spec =
     offset-of-requires
     length-of-requires
     place-requires-2
-    cast-at
     mul-at
     add-at
     place-requires-3
-    cast-first
     place-requires-4
-    cast-many
     place-requires-5
     views-good-requires
     returns-2
     place-requires-6
-    cast-from
     valid-views-good-requires
     returns-3)

@@ -32,9 +32,6 @@ place-requires-2 c κs = search needs
 offset-of-requires : tie.Need-offset-of-requires
 offset-of-requires c κs = search needs
 
-cast-count-zeros : tie.Need-cast-count-zeros
-cast-count-zeros c = search needs
-
 count-zeros-requires : tie.Need-count-zeros-requires
 count-zeros-requires c κs =
     let a = c .before .before .before .before .before .before .before .before .before .args in
@@ -57,6 +54,5 @@ all-valid-spec =
     returns-2
     place-requires-2
     offset-of-requires
-    cast-count-zeros
     count-zeros-requires
     returns-3)

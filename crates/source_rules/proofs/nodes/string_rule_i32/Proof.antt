@@ -36,9 +36,6 @@ offset-of-requires c κs = search needs
 length-of-requires : tie.Need-length-of-requires
 length-of-requires c κs = search needs
 
-cast-strings-i32 : tie.Need-cast-strings-i32
-cast-strings-i32 c = search needs
-
 strings-i32-requires : tie.Need-strings-i32-requires
 strings-i32-requires c κs =
     let a = c .before .before .before .before .before .before .before .before .before .before .before .before .args in
@@ -66,6 +63,5 @@ string-rule-i32-spec =
     place-requires-3
     offset-of-requires
     length-of-requires
-    cast-strings-i32
     strings-i32-requires
     returns-3)

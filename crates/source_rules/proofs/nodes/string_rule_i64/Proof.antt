@@ -36,9 +36,6 @@ offset-of-requires c κs = search needs
 length-of-requires : tie.Need-length-of-requires
 length-of-requires c κs = search needs
 
-cast-strings-i64 : tie.Need-cast-strings-i64
-cast-strings-i64 c = search needs
-
 strings-i64-requires : tie.Need-strings-i64-requires
 strings-i64-requires c κs =
     let a = c .before .before .before .before .before .before .before .before .before .before .before .before .args in
@@ -66,6 +63,5 @@ string-rule-i64-spec =
     place-requires-3
     offset-of-requires
     length-of-requires
-    cast-strings-i64
     strings-i64-requires
     returns-3)

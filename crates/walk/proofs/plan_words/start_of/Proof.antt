@@ -11,27 +11,27 @@ part-of-requires c κs = search needs
 add-p : tie.Need-add-p
 add-p c = search needs
 
-at-u32-requires : tie.Need-at-u32-requires
-at-u32-requires c κs = search needs
+at-u64-requires : tie.Need-at-u64-requires
+at-u64-requires c κs = search needs
 
 returns : tie.Need-returns
 returns c =
     let a = c .before .before .before .before .before .args in
-    part-start (a .state .now) (a .parts .now) (a .i) (a .b) (c .before .before .part-of .ensures .0) (c .at-u32 .ensures) (omega arith)
+    part-start (a .state .now) (a .parts .now) (a .i) (a .b) (c .before .before .part-of .ensures .0) (c .at-u64 .ensures) (omega arith)
 
-sub-at-u32 : tie.Need-sub-at-u32
-sub-at-u32 c = search needs
+sub-at-u64 : tie.Need-sub-at-u64
+sub-at-u64 c = search needs
 
-mul-at-u32 : tie.Need-mul-at-u32
-mul-at-u32 c = search needs
+mul-at-u64 : tie.Need-mul-at-u64
+mul-at-u64 c = search needs
 
-at-u32-requires-2 : tie.Need-at-u32-requires-2
-at-u32-requires-2 c κs = search needs
+at-u64-requires-2 : tie.Need-at-u64-requires-2
+at-u64-requires-2 c κs = search needs
 
 returns-2 : tie.Need-returns-2
 returns-2 c =
     let a = c .before .before .before .before .before .args in
-    part-start (a .state .now) (a .parts .now) (a .i) (a .b) (c .before .before .part-of .ensures .0) (c .at-u322 .ensures) (omega arith)
+    part-start (a .state .now) (a .parts .now) (a .i) (a .b) (c .before .before .part-of .ensures .0) (c .at-u642 .ensures) (omega arith)
 
 pub start-of-spec : {M : Type 1} → statement M
 start-of-spec =
@@ -39,9 +39,9 @@ start-of-spec =
     (tie.spec
     part-of-requires
     add-p
-    at-u32-requires
+    at-u64-requires
     returns
-    sub-at-u32
-    mul-at-u32
-    at-u32-requires-2
+    sub-at-u64
+    mul-at-u64
+    at-u64-requires-2
     returns-2)
