@@ -38,21 +38,20 @@ fn declared(ids: &[u8]) -> [u8; 256]
     table
 }
 
-// Whether each of the n type ids at `at` is one of ids.
+// Whether each of the n type ids at `at` is one of ids. Every id is looked up, so that several are at once.
 pub fn ids_declared(body: &[u8], at: usize, n: usize, ids: &[u8]) -> bool
     requires { ⌜ at + n ≤ length (now body) ⌝ }
     ensures { λ r. ⌜ r ≡ idsDeclared (now (body .entry)) at (now (ids .entry)) n ⌝ }
 {
     let table = declared(ids);
+    let mut all = 1;
     let mut i = 0;
     while i < n {
         let id = body[at + i] as usize;
-        if table[id] == 0 {
-            return false;
-        }
+        all &= table[id];
         i += 1;
     }
-    true
+    all != 0
 }
 
 // The length of field f, at most 2^31; 0 where lens has none.

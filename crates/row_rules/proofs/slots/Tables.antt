@@ -1,7 +1,7 @@
 -- The tables of 256 entries that the rows of a union are tested by: what they hold, one more id written, and what an entry says of a row.
 -- Assumes nothing.
 use mathlib.Core.Path.{_≡_, refl, sym, ap, _∙_}
-use mathlib.Core.Bool.{Bool, true, false, cond, _&&_}
+use mathlib.Core.Bool.{Bool, true, false, cond, not, _&&_}
 use mathlib.Core.List.{List}
 use Prim.Native.Nat.{ℕ, suc, _+_, _≤_, _<_, min}
 use native.Mathlib.Nat.{add-zero, zero-add}
@@ -9,6 +9,7 @@ use native.Mathlib.Numerals.{add-one}
 use native.Mathlib.Omega.{arith}
 use lib.ListN.{length, drop, set, getD, replicate, length-set, length-replicate, getD-replicate}
 use lib.Seq.{drop-cons, drop-length, getD-set-same, getD-set-other}
+use lib.Bits.{bitAnd}
 use lib.Dec.{ltb, eqb}
 use borrow.Author.Tests.{lt-ltb, le-ltb, eq-eqb, ne-eqb, eqb-true, eqb-false}
 use Rattle.columnar.specs.Types.{half}
@@ -62,20 +63,25 @@ flags-set ids {t} i j e l m h =
     let k : Holds t (flagFrom ids (suc j)) = rw e at h in
     holds-set (flagFrom ids j) (getD ids j 0) 1 k m (rw (member-here ids j (omega arith))) (λ c o. rw (member-later ids j (omega arith) c o))
 
-module _ (s : List ℕ) (at : ℕ) (ids t : List ℕ) (h : (c : ℕ) → c < 256 → getD t c 0 ≡ cond (member c ids) 1 0) (i : ℕ) (m : getD s (at + i) 0 < 256) where
-  pub ids-pass : true ≡ idsDeclared s at ids i → (getD t (getD s (at + i) 0) 0 ≡ 0 → ⊥) → true ≡ idsDeclared s at ids (i + 1)
-  ids-pass e o = pass _ i e (go (member (getD s (at + i) 0) ids) (h (getD s (at + i) 0) m))
-    where
-      go : (b : Bool) → getD t (getD s (at + i) 0) 0 ≡ cond b 1 0 → b ≡ true
-      go true q = refl
-      go false q = absurd (o q)
+-- two flags at once
+both-set : (a b : Bool) → bitAnd (cond a 1 0) (cond b 1 0) ≡ cond (a && b) 1 0
+both-set true true = refl
+both-set true false = refl
+both-set false true = refl
+both-set false false = refl
 
-  pub ids-fail : (n : ℕ) → i < n → getD t (getD s (at + i) 0) 0 ≡ 0 → false ≡ idsDeclared s at ids n
-  ids-fail n l o = fail _ i n l (go (member (getD s (at + i) 0) ids) (h (getD s (at + i) 0) m))
-    where
-      go : (b : Bool) → getD t (getD s (at + i) 0) 0 ≡ cond b 1 0 → b ≡ false
-      go true q = let k : _≡_ {A = ℕ} 0 1 = sym o ∙ q in absurd (omega arith)
-      go false q = refl
+set-is : (b : Bool) → not (eqb (cond b 1 0) 0) ≡ b
+set-is true = refl
+set-is false = refl
+
+module _ (s : List ℕ) (at : ℕ) (ids : List ℕ) where
+  -- one id more
+  pub ids-more : (t : List ℕ) → ((c : ℕ) → c < 256 → getD t c 0 ≡ cond (member c ids) 1 0) → (i all : ℕ) → getD s (at + i) 0 < 256
+      → all ≡ cond (idsDeclared s at ids i) 1 0 → bitAnd all (getD t (getD s (at + i) 0) 0) ≡ cond (idsDeclared s at ids (i + 1)) 1 0
+  ids-more t h i all m e = rw (e, h (getD s (at + i) 0) m, add-one) (both-set (idsDeclared s at ids i) (member (getD s (at + i) 0) ids))
+
+  pub ids-are : (n i all : ℕ) → i ≡ n → all ≡ cond (idsDeclared s at ids i) 1 0 → not (eqb all 0) ≡ idsDeclared s at ids n
+  ids-are n i all q e = rw (e, q) (set-is (idsDeclared s at ids n))
 
 -- ---- positions
 
