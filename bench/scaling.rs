@@ -1,6 +1,7 @@
 // How many joins a second one machine makes, by rows and kind, on one thread and on two. Run by bench/run; built by cargo with bindings/rust.
 
-use lafkuno::{join_many, text, Batch, Choices, Column, Field, Job, Order, Row, Type};
+use lafkuno::{join_many, run_many, text, Batch, Choices, Column, Field, Job, Order, Row, Type};
+use std::hint::black_box;
 use std::time::Instant;
 
 fn column(name: &str, ty: &str, rows: u64, row: &str) -> Column {
@@ -29,13 +30,29 @@ fn rate(batch: &Batch, threads: usize, jobs: usize) -> (f64, f64) {
     let jobs: Vec<Job> = (0..jobs)
         .map(|_| Job { sources: vec![batch, batch], orders: orders.clone(), choices: Choices { keep_nulls: true, ..Choices::default() } })
         .collect();
+    best_of_seven(jobs.len(), || assert!(join_many(&jobs, threads, &|_| {}).iter().all(Result::is_ok)))
+}
+
+// What the machine itself gives two threads: jobs of arithmetic that touch no memory.
+fn arithmetic(threads: usize) -> (f64, f64) {
+    let spin = |seed: &u64| (0..100_000u64).fold(*seed, |x, k| black_box(x.wrapping_mul(6364136223846793005).wrapping_add(k)));
+    let jobs: Vec<u64> = (0..400).collect();
+    best_of_seven(jobs.len(), || drop(black_box(run_many(&jobs, threads, spin, &|_| {}))))
+}
+
+// So many jobs: jobs a second by the clock, and microseconds of a processor a job.
+fn best_of_seven(jobs: usize, work: impl Fn()) -> (f64, f64) {
     let (mut wall, mut used) = (f64::MAX, f64::MAX);
     for _ in 0..7 {
         let (start, before) = (Instant::now(), processor());
-        assert!(join_many(&jobs, threads, &|_| {}).iter().all(Result::is_ok));
+        work();
         (wall, used) = (wall.min(start.elapsed().as_secs_f64()), used.min(processor() - before));
     }
-    (jobs.len() as f64 / wall, 1e6 * used / jobs.len() as f64)
+    (jobs as f64 / wall, 1e6 * used / jobs as f64)
+}
+
+fn print_row(name: &str, one: (f64, f64), two: (f64, f64)) {
+    println!("| {name} | {:.0} | {:.0} | {:.2} | {:.1} | {:.1} | {:.2} |", one.0, two.0, two.0 / one.0, one.1, two.1, 2.0 * one.1 / two.1);
 }
 
 fn main() {
@@ -43,6 +60,7 @@ fn main() {
         "| rows a batch | columns | joins a second, 1 thread | 2 threads | ratio | processor us a join, 1 thread | 2 threads | ratio on free cores |"
     );
     println!("|---|---|---|---|---|---|---|---|");
+    print_row("- | none: arithmetic alone", arithmetic(1), arithmetic(2));
     for rows in [10u64, 1000, 100_000] {
         let kinds: [(&str, Vec<Column>); 4] = [
             ("one of int64", vec![column("n", "l?", rows, "1 2 null 4")]),
@@ -63,8 +81,7 @@ fn main() {
         for (name, columns) in kinds {
             let batch = Batch { rows, columns, metadata: vec![] };
             let jobs = (4_000_000 / (rows * batch.columns.len() as u64 + 2000)).max(8) as usize;
-            let ((one, used), (two, both)) = (rate(&batch, 1, jobs), rate(&batch, 2, jobs));
-            println!("| {rows} | {name} | {one:.0} | {two:.0} | {:.2} | {used:.1} | {both:.1} | {:.2} |", two / one, 2.0 * used / both);
+            print_row(&format!("{rows} | {name}"), rate(&batch, 1, jobs), rate(&batch, 2, jobs));
         }
     }
 }

@@ -33,7 +33,6 @@ use Rattle.refinement.specs.orders.Fits.{fits, answerIn, answersIn}
 use Rattle.refinement.specs.orders.Counted.{nullsRoom}
 use Rattle.refinement.proofs.orders.Step.{Running, Answers, made, not-made, order-step}
 use Rattle.refinement.proofs.orders.Booked.{booked}
-use Rattle.refinement.specs.walk_is_model.Holds.{Holds}
 use Rattle.refinement.proofs.opening.Taken.{taken, sources-of}
 use Rattle.columns.specs.Grounds.{ceiling}
 use Rattle.refinement.proofs.opening.Opened.{Opened, orders-after}
@@ -42,7 +41,9 @@ use Rattle.refinement.specs.finishing.Shows.{Shows, Counts, Bodied}
 use Rattle.refinement.proofs.finishing.Orders.{appended}
 use Rattle.refinement.proofs.finishing.Join.{finishing-accepted, join-shows, join-nulls, join-again}
 use Rattle.join.specs.Join.{Lending, Bytes, sourcesIn, treeIn, typeIn, columnsIn, keepsIn, openingOf, lentOf, afterCalls, nextCall, finishingOf, tablesAt, tablesOf, finishedOf, nullsOf, reachedBy}
+use Rattle.join.specs.Counters.{Counted}
 use Rattle.join.proofs.Opens.{runs}
+use Rattle.join.proofs.Counters.{counted}
 
 -- ---- the model's destination is that of the Rust's calls, those that are carried out, with one run for a gap not chosen (`gaps` false): where it
 -- is chosen, a null order on a run-end node is not the Rust's, and the theorems below are about the model alone
@@ -142,9 +143,12 @@ module _ (l : Lending) (b : Bytes l) (accepted : openingOf l .ground ≡ 0) (os 
       (orders-after (l .formats) (l .schema) (l .sources) (l .tables) (l .keep) (l .gaps) (l .parts) (openingOf l) opens os .running .state .fine)
 
   -- the lent counters are the destination's, its lengths and running null counts, at every node
-  pub counters-are : Holds (lentOf l .plan) (typeIn l) 0 (reachedBy l os) (afterCalls l os .counts)
+  pub counters-are : Counted (lentOf l .plan) (afterCalls l os .counts) (typeIn l) 0 (reachedBy l os)
+  counters-are =
+      counted (lentOf l .plan) (afterCalls l os .counts)
       (orders-after (l .formats) (l .schema) (l .sources) (l .tables) (l .keep) (l .gaps) (l .parts) (openingOf l) opens os .running .memory)
-  counters-are = orders-after (l .formats) (l .schema) (l .sources) (l .tables) (l .keep) (l .gaps) (l .parts) (openingOf l) opens os .running .holds
+      (typeIn l) 0 (reachedBy l os)
+      (orders-after (l .formats) (l .schema) (l .sources) (l .tables) (l .keep) (l .gaps) (l .parts) (openingOf l) opens os .running .holds)
 
   -- THE RUNNING NULL COUNT is that of the accepted calls: a copy's zero bits, a null order's rows in full
   pub running-nulls : walk.nulls (afterCalls l os .counts) 0 ≡ countedIf (keepsIn l) (nullsOf l os)

@@ -7,6 +7,7 @@ pub mod WrittenOff
 pub mod Amends
 pub mod AmendsNulls
 pub mod WrittenRuns
+pub mod Counters
 pub mod Demand2
 pub mod Gap
 pub mod GapOff

@@ -1,5 +1,6 @@
 -- A whole join as a caller makes it, over what the contracts of its entry points cite.
 pub mod Join
+pub mod Counters
 pub mod Based
 pub mod Said
 pub mod Stored
