@@ -1,6 +1,1 @@
-// The model of the Rust's MutableArrayData: definitions in specs/ and theorems in proofs/. It holds no code of its own but this constant.
-
-// The ceiling on the sources of a join.
-pub fn max_sources() -> u64 {
-    16
-}
+// Theory: the model of the Rust's MutableArrayData, and the theorems on it.
