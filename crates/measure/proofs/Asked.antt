@@ -16,8 +16,8 @@ use Rattle.walk.specs.Copy.{copyWalk}
 use Rattle.walk.specs.Nulls.{nullWalk}
 use Rattle.parts.specs.Parts.{nodesOf, hasPart, partTotal, numberOf, partAt, needed, sizeAt, partHolds, partsHold, partsWithin, Used, Numbered}
 use Rattle.parts.proofs.Placed.{number-below, part-named}
-use Rattle.columns.specs.Grounds.{sourcesGround}
-use Rattle.refinement.specs.orders.Sound.{ceiling, planSound, walkable}
+use Rattle.columns.specs.Grounds.{ceiling, sourcesGround}
+use Rattle.refinement.specs.orders.Sound.{planSound, walkable}
 use Rattle.refinement.specs.orders.Order.{Lent, joinOf, sourceCount, sourceLength, settled, copyOrder, nullOrder}
 use Rattle.refinement.specs.orders.Measure.{Measured, measured, copyMeasure, nullMeasure, neededIn, neededBytes}
 use Rattle.refinement.specs.opening.Open as start

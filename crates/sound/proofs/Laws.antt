@@ -14,7 +14,8 @@ use Rattle.walk.specs.State.{codeOf, dictionaryOf, endOf}
 use Rattle.refinement.specs.log_in_room.Reach.{hasItem}
 use Rattle.parts.specs.Parts.{nodesOf, copied}
 use Rattle.parts.proofs.Laws.{every-one, every-now}
-use Rattle.refinement.specs.orders.Sound.{ceiling, nestedIn, endsSound, kindSound, nodeSound, planSound, walkable}
+use Rattle.refinement.specs.orders.Sound.{nestedIn, endsSound, kindSound, nodeSound, planSound, walkable}
+use Rattle.columns.specs.Grounds.{ceiling}
 
 -- a list-view or a list has its child behind it
 item-is : (z : ℕ) → isListView z || isList z ≡ hasItem z

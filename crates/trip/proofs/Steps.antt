@@ -14,7 +14,8 @@ use Rattle.walk.specs.Copy.{copyWalk}
 use Rattle.walk.specs.Nulls.{nullWalk}
 use Rattle.walk.proofs.Laws.{apply-append}
 use Rattle.parts.specs.Parts.{partsWithin, partsHold}
-use Rattle.refinement.specs.orders.Sound.{ceiling, planSound, walkable}
+use Rattle.refinement.specs.orders.Sound.{planSound, walkable}
+use Rattle.columns.specs.Grounds.{ceiling}
 use Rattle.refinement.specs.orders.Order.{After, Lent, joinOf, sourceCount, sourceLength, refused, settled, copyOrder, nullOrder, ordered}
 use Rattle.refinement.specs.orders.Measure.{Measured, measured, copyMeasure, nullMeasure}
 use Rattle.refinement.proofs.orders.Accepted.{Walked, walked}

@@ -18,7 +18,8 @@ use Rattle.refinement.proofs.log_in_room.Uses.{used-wide}
 use Rattle.refinement.proofs.log_in_room.Copies.{used-copies}
 use Rattle.refinement.proofs.log_in_room.Fills.{used-nulls}
 use Rattle.parts.specs.Parts.{sizeOf, partsWithin, partsHold, Used}
-use Rattle.refinement.specs.orders.Sound.{ceiling, planSound, walkable}
+use Rattle.refinement.specs.orders.Sound.{planSound, walkable}
+use Rattle.columns.specs.Grounds.{ceiling}
 use Rattle.refinement.specs.orders.Order.{After, Lent, joinOf, sourceCount, sourceLength, refused, settled, copyOrder, nullOrder, ordered, orderedAll}
 use Rattle.refinement.specs.orders.Written.{walkOf, Counters, OnlyAdds, OnlyUsed, AllMade}
 use Rattle.refinement.proofs.orders.Sound.{root-reached, closed-sound, run-ends-fixed, reached-used}

@@ -39,7 +39,8 @@ use Rattle.refinement.proofs.log_in_room.Closure.{closed-free}
 use Rattle.refinement.proofs.log_in_room.Applied.{room-lies, room-long}
 use Rattle.refinement.proofs.log_in_room.Orders.{copy-used, nulls-used}
 use Rattle.parts.specs.Parts.{nodesOf, bufferCount, needed, neededBy, sizeOf, partsHold, partsWithin, Used}
-use Rattle.refinement.specs.orders.Sound.{ceiling, planSound, walkable}
+use Rattle.refinement.specs.orders.Sound.{planSound, walkable}
+use Rattle.columns.specs.Grounds.{ceiling}
 use Rattle.refinement.specs.orders.Order.{After, Lent, joinOf, sourceCount, sourceLength, refused, settled, copyOrder, nullOrder, ordered}
 use Rattle.refinement.specs.orders.Fits.{fits, answerIn}
 use Rattle.refinement.proofs.orders.Buffers.{buffer-part, has-part}

@@ -3,17 +3,14 @@
 -- An opening writes no other plan. Assumes nothing.
 use mathlib.Core.Bool.{Bool, true, cond, _&&_}
 use mathlib.Core.List.{List}
-use Prim.Native.Nat.{ℕ, suc, _+_, _-_, _^_}
+use Prim.Native.Nat.{ℕ, suc, _+_, _-_}
 use lib.Dec.{leb, ltb, eqb}
 use Rattle.columnar.specs.Test.{every, onlyIf}
 use Rattle.formats.specs.Code.{isFixed, isRunEnd}
 use Rattle.walk.specs.State.{codeOf, dictionaryOf, endOf}
 use Rattle.refinement.specs.log_in_room.Reach.{hasItem}
 use Rattle.parts.specs.Parts.{nodesOf, copied}
-
--- "Each body has at most 2^63−1 bytes", and the room is one
-abbrev pub ceiling : ℕ
-ceiling = 2 ^ 63 - 1
+use Rattle.columns.specs.Grounds.{ceiling}
 
 module _ (plan : List ℕ) where
   -- the nodes below node i end where it ends, or before

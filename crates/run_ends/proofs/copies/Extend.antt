@@ -1,4 +1,4 @@
--- The Rust's `build_extend_arrays` adds what the functions of `run_ends` and of this crate add, and overflows where they refuse. Assumes nothing.
+-- The Rust's `build_extend_arrays` adds what the functions of this crate add, and overflows where they refuse. Assumes nothing.
 use mathlib.Core.Path.{_≡_, refl, sym, ap, ap₂, _∙_}
 use mathlib.Core.Bool.{Bool, true, false, cond}
 use mathlib.Core.Logic.{⊎-elim}

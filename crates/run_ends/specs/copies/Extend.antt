@@ -54,7 +54,7 @@ extendLoop w typedSlice start end (suc left) i prevEnd current bytes values =
 abbrev pub extendArrays : ℕ → List ℕ → ℕ → ℕ → ℕ → ℕ → ℕ → Extended
 extendArrays w s from n start len last = extendLoop w (entry w s from) start (start + len) n 0 0 last [] none
 
--- what a copy of the rows start .. end - 1 adds by the functions of `run_ends` and of this crate, from the runs of the range on
+-- what a copy of the rows start .. end - 1 adds by the functions of this crate, from the runs of the range on
 abbrev pub added : ℕ → List ℕ → ℕ → ℕ → ℕ → ℕ → Runs → Extended
 added w s from start end last (Range first count) =
     cond (ltb (last + (end - start)) (256 ^ w / 2))
