@@ -1,5 +1,6 @@
 -- The definitions that the contracts of `array_data` cite.
 pub mod Tables
+pub mod Sources
 pub mod Rules
 pub mod Typed
 pub mod type_tree

@@ -13,7 +13,8 @@ use Rattle.array_data.proofs.type_tree.Ids.{both}
 use Rattle.array_data.specs.lent_tables.Lent.{tables}
 use Rattle.source_rules.specs.kinds.Rows.{tablesOf}
 use Rattle.source_rules.specs.Source.{Ready}
-use Rattle.columns.specs.Grounds.{countFits, fewBuffers, nodeFits, smallBody, withinCeilings, obeys, columnGround, sourceCount, firstOf, nodesOf, fewSources, allTyped, allSame, allWithin, allObey, sourcesGround}
+use Rattle.columns.specs.Grounds.{countFits, fewBuffers, nodeFits, smallBody, withinCeilings, obeys, columnGround, fewSources, allTyped, allSame, allWithin, allObey, sourcesGround}
+use Rattle.array_data.specs.Sources.{sourceCount, firstOf, nodesOf}
 use Rattle.columns.proofs.Grounds.{within-low, within-at, typed-at}
 
 -- ---- ground 9 is not about the body

@@ -17,7 +17,8 @@ use Rattle.array_data.specs.Typed.{columnOf, placed, tablesFrom}
 use Rattle.array_data.specs.type_tree.Lent.{treeOf, typeOf}
 use Rattle.array_data.proofs.type_tree.Ids.{both}
 use Rattle.array_data.proofs.type_tree.Source.{lent-source, lent-obeys, same-source, same-obeys}
-use Rattle.columns.specs.Grounds.{smallBody, nodeFits, withinCeilings, obeys, columnGround, sourceCount, firstOf, nodesOf, fewSources, allTyped, allSame, allWithin, allObey, sourcesGround}
+use Rattle.columns.specs.Grounds.{smallBody, nodeFits, withinCeilings, obeys, columnGround, fewSources, allTyped, allSame, allWithin, allObey, sourcesGround}
+use Rattle.array_data.specs.Sources.{sourceCount, firstOf, nodesOf}
 use Rattle.columns.proofs.Laws.{of-source}
 
 chosen : (b : Bool) (a g : ℕ) → 0 < g → cond b a g ≡ 0 → (b ≡ true) × (a ≡ 0)

@@ -15,7 +15,8 @@ use Rattle.schema.proofs.Known.{typed-shape}
 use Rattle.array_data.specs.Tables.{Tables}
 use Rattle.array_data.proofs.type_tree.Ids.{both}
 use Rattle.source_rules.proofs.Node.{by-shape, union-each}
-use Rattle.columns.specs.Grounds.{smallBody, withinCeilings, obeys, columnGround, sourceCount, firstOf, nodesOf, fewSources, allTyped, allSame, allWithin, allObey, sourcesGround}
+use Rattle.columns.specs.Grounds.{smallBody, withinCeilings, obeys, columnGround, fewSources, allTyped, allSame, allWithin, allObey, sourcesGround}
+use Rattle.array_data.specs.Sources.{sourceCount, firstOf, nodesOf}
 
 same-self : (l : List ℕ) → same l l ≡ true
 same-self [] = refl

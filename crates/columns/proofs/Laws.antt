@@ -9,7 +9,8 @@ use borrow.Author.Tests.{le-leb, lt-leb, leb-true, leb-false, lt-ltb, le-ltb}
 use Rattle.formats.specs.Code.{isView}
 use Rattle.schema.specs.Tree.{every, codeOf, ceilings, sameType}
 use Rattle.array_data.specs.Tables.{Tables, lengthOf, offsetOf, place}
-use Rattle.columns.specs.Grounds.{countFits, fewBuffers, nodeFits, withinCeilings, firstOf, nodesOf}
+use Rattle.columns.specs.Grounds.{countFits, fewBuffers, nodeFits, withinCeilings}
+use Rattle.array_data.specs.Sources.{firstOf, nodesOf}
 
 -- ---- one node
 

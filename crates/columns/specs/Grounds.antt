@@ -7,6 +7,7 @@ use lib.Dec.{leb, ltb}
 use Rattle.formats.specs.Code.{isView}
 use Rattle.schema.specs.Tree.{every, codeOf, ceilings, typed, sameType}
 use Rattle.array_data.specs.Tables.{Tables, lengthOf, offsetOf, place}
+use Rattle.array_data.specs.Sources.{sourceCount, firstOf, nodesOf}
 use Rattle.array_data.specs.Typed.{tablesFrom, sourceRule}
 use Rattle.array_data.specs.type_tree.Lent.{treeOf}
 
@@ -41,16 +42,7 @@ module _ (formats schema : List ℕ) (x : Tables) where
   unfoldable pub columnGround : ℕ → ℕ → ℕ
   columnGround first n = cond (smallBody (x .body) && withinCeilings first n) (cond (typed formats schema first n) (cond (obeys first n) 0 12) 10) 9
 
--- ---- the sources of a join: two numbers a source, its first node and how many nodes it has
-
-abbrev pub sourceCount : List ℕ → ℕ
-sourceCount sources = length sources / 2
-
-abbrev pub firstOf : List ℕ → ℕ → ℕ
-firstOf sources s = getD sources (2 * s) 0
-
-abbrev pub nodesOf : List ℕ → ℕ → ℕ
-nodesOf sources s = getD sources (2 * s + 1) 0
+-- ---- the sources of a join
 
 -- "1 to 16 sources"
 unfoldable pub fewSources : List ℕ → Bool

@@ -7,7 +7,8 @@ ghost use lib.ListN.{length};
 ghost use Rattle.schema.specs.Tree.{every};
 ghost use Rattle.array_data.specs.lent_tables.Lent.{tables};
 ghost use Rattle.source_rules.specs.kinds.Rows.{tablesOf};
-ghost use Rattle.columns.specs.Grounds.{countFits, fewBuffers, nodeFits, smallBody, withinCeilings, columnGround, firstOf, nodesOf, fewSources, allWithin, allTyped, allSame, allObey, sourcesGround};
+ghost use Rattle.columns.specs.Grounds.{countFits, fewBuffers, nodeFits, smallBody, withinCeilings, columnGround, fewSources, allWithin, allTyped, allSame, allObey, sourcesGround};
+ghost use Rattle.array_data.specs.Sources.{firstOf, nodesOf};
 use array_data::lent_tables;
 
 // ---- ground 9

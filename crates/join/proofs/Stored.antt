@@ -16,7 +16,8 @@ use Rattle.schema.proofs.Laws.{every-all, all-shaped, low-enough, one-low, all-
 use Rattle.columnar.specs.Reading.{Source}
 use Rattle.array_data.specs.Tables.{Tables, lengthOf, offsetOf, place}
 use Rattle.array_data.specs.Typed.{tablesFrom}
-use Rattle.columns.specs.Grounds.{countFits, fewBuffers, nodeFits, withinCeilings, firstOf, nodesOf, fewSources, allTyped, allSame, allWithin, sourcesGround}
+use Rattle.columns.specs.Grounds.{countFits, fewBuffers, nodeFits, withinCeilings, fewSources, allTyped, allSame, allWithin, sourcesGround}
+use Rattle.array_data.specs.Sources.{firstOf, nodesOf}
 use Rattle.columns.proofs.Grounds.{Accepted, accepted, some-source, within-at, typed-at, same-at, sources-source}
 use Rattle.refinement.proofs.plan_is_type.OneTree.{same-column}
 use Rattle.array_data.proofs.type_tree.Ids.{both}

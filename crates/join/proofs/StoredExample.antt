@@ -15,6 +15,7 @@ use Rattle.schema.specs.Tree as Tree
 use Rattle.array_data.specs.Typed.{placed, tablesFrom}
 use Rattle.array_data.specs.type_tree.Lent.{kindAt, treeOf}
 use Rattle.columns.specs.Grounds as Grounds
+use Rattle.array_data.specs.Sources as Sources
 use Rattle.join.specs.Join.{Lending, typeIn}
 use Rattle.join.specs.Stored.{StoredWider, same-code, strings, NodeWider}
 use Rattle.join.proofs.StoredTypes.{types-wider}
@@ -65,7 +66,7 @@ upto-2 Q a b (suc i) q = upto-1 (λ j. Q (suc j)) b i (omega arith)
 
 abbrev Node : ℕ → ℕ → Type 0
 Node s i =
-    NodeWider texts (narrow .schema) (narrow .tables) (Grounds.firstOf (narrow .sources) s) texts (wide .schema) (wide .tables) (Grounds.firstOf (wide .sources) s) i
+    NodeWider texts (narrow .schema) (narrow .tables) (Sources.firstOf (narrow .sources) s) texts (wide .schema) (wide .tables) (Sources.firstOf (wide .sources) s) i
 
 union-node : Node 0 0
 unfolding Tree.codeOf Tree.idsOf
@@ -100,13 +101,13 @@ unfolding Tree.codeOf Tree.idsOf Code.codeOf Tree.sameFormats kindAt Grounds.sma
 stored =
     record {
       same-count = refl;
-      same-nodes = upto-1 (λ s. Grounds.nodesOf (narrow .sources) s ≡ Grounds.nodesOf (wide .sources) s) refl;
-      node-wider = λ s i p. upto-1 (λ s. i < Grounds.nodesOf (narrow .sources) s → Node s i) (upto-2 (Node 0) union-node text-node i) s p;
-      alike = λ s i p. upto-1 (λ s. i < 2 → Tree.sameFormats texts (wide .schema) 0 (Grounds.firstOf (wide .sources) s) i ≡ true) (upto-2 (λ i. Tree.sameFormats texts (wide .schema) 0 0 i ≡ true) refl refl i) s p;
+      same-nodes = upto-1 (λ s. Sources.nodesOf (narrow .sources) s ≡ Sources.nodesOf (wide .sources) s) refl;
+      node-wider = λ s i p. upto-1 (λ s. i < Sources.nodesOf (narrow .sources) s → Node s i) (upto-2 (Node 0) union-node text-node i) s p;
+      alike = λ s i p. upto-1 (λ s. i < 2 → Tree.sameFormats texts (wide .schema) 0 (Sources.firstOf (wide .sources) s) i ≡ true) (upto-2 (λ i. Tree.sameFormats texts (wide .schema) 0 0 i ≡ true) refl refl i) s p;
       in-body = λ s i p. upto-1
           (λ s.
-          i < Grounds.nodesOf (wide .sources) s
-          → T (placed (treeOf texts (wide .schema) (Grounds.firstOf (wide .sources) s) (Grounds.nodesOf (wide .sources) s)) (tablesFrom (wide .tables) (Grounds.firstOf (wide .sources) s)) i))
+          i < Sources.nodesOf (wide .sources) s
+          → T (placed (treeOf texts (wide .schema) (Sources.firstOf (wide .sources) s) (Sources.nodesOf (wide .sources) s)) (tablesFrom (wide .tables) (Sources.firstOf (wide .sources) s)) i))
           (upto-2 (λ i. T (placed (treeOf texts (wide .schema) 0 2) (tablesFrom (wide .tables) 0) i)) tt tt i) s p;
       small-body = refl;
     }

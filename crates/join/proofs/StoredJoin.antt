@@ -30,6 +30,7 @@ use Rattle.refinement.specs.walk_is_model.Holds.{WordedPlain, Worded}
 use Rattle.refinement.proofs.log_in_room.Found.{between-both}
 use Rattle.parts.specs.Parts.{nodesOf, copied, validityParts, partsBefore, sizeAt, sizeOf, Apart, before, behind}
 use Rattle.columns.specs.Grounds as Grounds
+use Rattle.array_data.specs.Sources as Sources
 use Rattle.refinement.specs.orders.Counted.{roomFor}
 use Rattle.refinement.proofs.orders.Booked.{groundOf}
 use Rattle.refinement.specs.opening.Fits.{openIn}
@@ -221,7 +222,7 @@ wide-accepts = subst (λ b. elim (guard b 13 (done (after-copy wide))) as (λ z.
 -- ---- EVERY PREMISE of `made-again`
 
 abbrev Node : ℕ → ℕ → Type 0
-Node s i = NodeWider (narrow .formats) (narrow .schema) (narrow .tables) (Grounds.firstOf (narrow .sources) s) (wide .formats) (wide .schema) (wide .tables) (Grounds.firstOf (wide .sources) s) i
+Node s i = NodeWider (narrow .formats) (narrow .schema) (narrow .tables) (Sources.firstOf (narrow .sources) s) (wide .formats) (wide .schema) (wide .tables) (Sources.firstOf (wide .sources) s) i
 
 text-node : Node 0 0
 unfolding Tree.codeOf Tree.idsOf Code.codeOf
@@ -242,13 +243,13 @@ unfolding Tree.codeOf Tree.idsOf Code.codeOf Tree.sameFormats kindAt Grounds.sma
 stored =
     record {
       same-count = refl;
-      same-nodes = upto-1 (λ s. Grounds.nodesOf (narrow .sources) s ≡ Grounds.nodesOf (wide .sources) s) refl;
-      node-wider = λ s i p. upto-1 (λ s. i < Grounds.nodesOf (narrow .sources) s → Node s i) (upto-1 (Node 0) text-node i) s p;
-      alike = λ s i p. upto-1 (λ s. i < 1 → Tree.sameFormats (wide .formats) (wide .schema) 0 (Grounds.firstOf (wide .sources) s) i ≡ true) (upto-1 (λ i. Tree.sameFormats (wide .formats) (wide .schema) 0 0 i ≡ true) refl i) s p;
+      same-nodes = upto-1 (λ s. Sources.nodesOf (narrow .sources) s ≡ Sources.nodesOf (wide .sources) s) refl;
+      node-wider = λ s i p. upto-1 (λ s. i < Sources.nodesOf (narrow .sources) s → Node s i) (upto-1 (Node 0) text-node i) s p;
+      alike = λ s i p. upto-1 (λ s. i < 1 → Tree.sameFormats (wide .formats) (wide .schema) 0 (Sources.firstOf (wide .sources) s) i ≡ true) (upto-1 (λ i. Tree.sameFormats (wide .formats) (wide .schema) 0 0 i ≡ true) refl i) s p;
       in-body = λ s i p. upto-1
           (λ s.
-          i < Grounds.nodesOf (wide .sources) s
-          → T (placed (treeOf (wide .formats) (wide .schema) (Grounds.firstOf (wide .sources) s) (Grounds.nodesOf (wide .sources) s)) (tablesFrom (wide .tables) (Grounds.firstOf (wide .sources) s)) i))
+          i < Sources.nodesOf (wide .sources) s
+          → T (placed (treeOf (wide .formats) (wide .schema) (Sources.firstOf (wide .sources) s) (Sources.nodesOf (wide .sources) s)) (tablesFrom (wide .tables) (Sources.firstOf (wide .sources) s)) i))
           (upto-1 (λ i. T (placed (treeOf (wide .formats) (wide .schema) 0 1) (tablesFrom (wide .tables) 0) i)) tt i) s p;
       small-body = refl;
     }

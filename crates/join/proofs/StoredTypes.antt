@@ -24,7 +24,8 @@ use Rattle.array_data.specs.type_tree.Lent.{numberOr, idsOr, unionKind, kindAt,
 use Rattle.array_data.proofs.type_tree.Ids.{both, field-in}
 use Rattle.array_data.proofs.type_tree.Shaped.{five, integer-fixed, plainKind, at-fixed, at-keys, at-string, at-view, at-list, at-lists, at-union, at-run}
 use Rattle.array_data.proofs.type_tree.Lent.{child-same, first-child, second-child, some-node, root}
-use Rattle.columns.specs.Grounds.{firstOf, nodesOf, sourcesGround}
+use Rattle.columns.specs.Grounds.{sourcesGround}
+use Rattle.array_data.specs.Sources.{firstOf, nodesOf}
 use Rattle.columns.proofs.Grounds.{Accepted, accepted, some-source, within-low, within-at, typed-at}
 use Rattle.join.specs.Join.{Lending, typeIn}
 use Rattle.join.specs.Stored.{StoredWider, isEnds, CodeWider, same-code, strings, list-views, plain-lists, keys, run-ends, endsAt, NodeWider}

@@ -17,7 +17,8 @@ use Rattle.array_data.specs.Tables.{Tables}
 use Rattle.array_data.specs.Typed.{Tree, columnOf}
 use Rattle.array_data.specs.type_tree.Lent.{treeOf, typeOf}
 use Rattle.refinement.specs.plan_is_type.Taken.{columnsAs}
-use Rattle.columns.specs.Grounds.{ceiling, sourceCount, firstOf, nodesOf, sourcesGround}
+use Rattle.columns.specs.Grounds.{ceiling, sourcesGround}
+use Rattle.array_data.specs.Sources.{sourceCount, firstOf, nodesOf}
 use Rattle.refinement.specs.orders.Order.{After, Lent, orderedAll, ordered, groundsOf}
 use Rattle.refinement.specs.orders.Fits.{answersIn}
 use Rattle.refinement.specs.orders.Counted.{answerRoom, countsAfter, bookRoom, bookBy, nullsRoom, acceptedRoom, AllAcceptedRoom, RoomEnough}

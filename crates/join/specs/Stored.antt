@@ -12,7 +12,8 @@ use Rattle.schema.specs.Tree.{flag, children, dictionary, isValues, codeOf, ids
 use Rattle.array_data.specs.Tables.{Tables, lengthOf, offsetOf, place}
 use Rattle.array_data.specs.Typed.{tablesFrom, placed}
 use Rattle.array_data.specs.type_tree.Lent.{numberOr, treeOf}
-use Rattle.columns.specs.Grounds.{firstOf, nodesOf, smallBody}
+use Rattle.columns.specs.Grounds.{smallBody}
+use Rattle.array_data.specs.Sources.{firstOf, nodesOf}
 use Rattle.join.specs.Join.{Lending, sourcesIn}
 
 -- "Run ends are `s`, `i` or `l`."

@@ -31,12 +31,13 @@ use Rattle.array_data.proofs.type_tree.Shaped.{Shaped, of-plain, of-view, of-li
 use Rattle.array_data.proofs.type_tree.Lent.{first-child, second-child}
 use Rattle.array_data.specs.lent_tables.Lent.{tables}
 use Rattle.array_data.proofs.lent_tables.Laws.{and-left, and-right}
-use Rattle.plan.specs.dictionaries.Sources.{firstOf, arrayAt, dictAt, ofStrings, capped}
+use Rattle.plan.specs.dictionaries.Sources.{arrayAt, dictAt, ofStrings, capped}
 use Rattle.plan.proofs.dictionaries.Laws.{place-from}
 use Rattle.plan.proofs.dictionaries.Typed.{columnAt, dictionaryAt, keeps-typed, shared-typed, start-typed}
 use Rattle.array_data.proofs.node_words.Laws.{zeroth, first-word, second-word}
 use Rattle.walk.specs.State.{word, codeOf, dictionaryOf, endOf, keepsOf, baseOf}
-use Rattle.plan.specs.Plan.{flag, sourceCount, nodesOf, holder, parentOf, asked, isEnds, keepWord, buffersUpTo, joinedWord, baseWord, planned}
+use Rattle.plan.specs.Plan.{flag, holder, parentOf, asked, isEnds, keepWord, buffersUpTo, joinedWord, baseWord, planned}
+use Rattle.array_data.specs.Sources.{sourceCount, firstOf, nodesOf}
 use Rattle.plan.proofs.Laws.{holds, holds-not}
 use Rattle.plan.proofs.Codes.{is-false, no-dictionary, run-not-fixed, view-not-fixed}
 use Rattle.plan.proofs.Words.{cond-le, word-is, keep-is, joined-is, base-is}

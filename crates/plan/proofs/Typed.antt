@@ -20,10 +20,11 @@ use Rattle.array_data.proofs.type_tree.Ids.{field-in}
 use Rattle.array_data.proofs.type_tree.Shaped.{plainKind, Shaped, shaped}
 use Rattle.array_data.proofs.type_tree.Lent.{child-same, first-child, some-node, means}
 use Rattle.array_data.specs.lent_tables.Lent.{tables}
-use Rattle.plan.specs.dictionaries.Sources.{firstOf, ofStrings}
+use Rattle.plan.specs.dictionaries.Sources.{ofStrings}
 use Rattle.plan.proofs.dictionaries.Typed.{columnAt}
 use Rattle.walk.specs.State.{codeOf, dictionaryOf, keepsOf}
-use Rattle.plan.specs.Plan.{flag, sourceCount, nodesOf, planned}
+use Rattle.plan.specs.Plan.{flag, planned}
+use Rattle.array_data.specs.Sources.{sourceCount, firstOf, nodesOf}
 use Rattle.plan.specs.Opened.{OpenedBelow, Opened}
 use Rattle.plan.proofs.Codes.{view-code, list-code, lists-code, sparse-code, dense-code, run-code, keys-code, strings-code, many-below, no-dictionary, list-not-fixed, lists-not-fixed, union-not-fixed, list-not-run, lists-not-run, union-not-run}
 use Rattle.plan.proofs.Nodes.{keptAt, code-is, dictionary-is, root-keeps, child-keeps, run-values-keep, values-keep, ends-keep, view-base, dictionary-joined, dictionary-base}

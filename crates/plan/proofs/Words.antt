@@ -11,13 +11,14 @@ use borrow.Author.Tests.{eqb-true, eqb-false}
 use Rattle.columnar.specs.Row.{seg}
 use Rattle.model.specs.Opening.{keeps}
 use Rattle.array_data.specs.Tables.{Tables}
-use Rattle.plan.specs.dictionaries.Sources.{firstOf}
 use Rattle.array_data.specs.node_words.Words.{wordOf, planted}
 use Rattle.parts.specs.Parts.{partWord, partTotal, Numbered}
 use Rattle.parts.proofs.Words.{Alike, alike-word, alike-total, numbered}
 use Rattle.walk.specs.State.{word, endOf, keepsOf, baseOf}
 use Rattle.plan.specs.Plan as plan
-use Rattle.plan.specs.Plan.{filled, sourceCount, withTree, holder, parentOf, asked, isEnds, keepWord, withKeeps, joinedWord, withJoined, baseWord, withBases, withCounts, withParts, withTotal, laidOut, withChoice, planned}
+use Rattle.array_data.specs.Sources as Sources
+use Rattle.plan.specs.Plan.{filled, withTree, holder, parentOf, asked, isEnds, keepWord, withKeeps, joinedWord, withJoined, baseWord, withBases, withCounts, withParts, withTotal, laidOut, withChoice, planned}
+use Rattle.array_data.specs.Sources.{sourceCount, firstOf}
 
 -- ---- what a run of writes leaves
 
@@ -99,12 +100,12 @@ module _ (x : Tables) (sources : List ℕ) (m : ℕ) (s t : List ℕ) where
 
 -- ---- the planned state
 
-module _ (formats schema : List ℕ) (x : Tables) (sources : List ℕ) (keep gaps : Bool) (few : sourceCount sources ≤ 16) (small : plan.nodesOf sources 0 ≤ 32) where
+module _ (formats schema : List ℕ) (x : Tables) (sources : List ℕ) (keep gaps : Bool) (few : sourceCount sources ≤ 16) (small : Sources.nodesOf sources 0 ≤ 32) where
   abbrev m : ℕ
   m = sourceCount sources
 
   abbrev n : ℕ
-  n = plan.nodesOf sources 0
+  n = Sources.nodesOf sources 0
 
   abbrev state : List ℕ
   state = planned formats schema x sources keep gaps

@@ -9,7 +9,8 @@ use Rattle.formats.specs.Code.{isString, isView, isRunEnd}
 use Rattle.columnar.specs.Dictionary.{Dictionary}
 use Rattle.model.specs.Opening.{keeps, shared, startOfKeys}
 use Rattle.array_data.specs.Tables.{Tables}
-use Rattle.plan.specs.dictionaries.Sources.{firstOf, arrayAt, dictAt, Countable, capped}
+use Rattle.plan.specs.dictionaries.Sources.{arrayAt, dictAt, Countable, capped}
+use Rattle.array_data.specs.Sources.{sourceCount, firstOf, nodesOf}
 use Rattle.array_data.specs.node_words.Words.{planted}
 use Rattle.parts.specs.Parts.{partWord, partTotal}
 use Rattle.walk.specs.State.{codeOf, dictionaryOf, endOf, keepsOf}
@@ -23,14 +24,6 @@ module _ (at : ℕ → ℕ) (value : List ℕ → ℕ → ℕ) where
 -- 1 for true
 abbrev pub flag : Bool → ℕ
 flag b = cond b 1 0
-
--- how many sources there are, two numbers each
-abbrev pub sourceCount : List ℕ → ℕ
-sourceCount sources = length sources / 2
-
--- how many nodes source s has
-abbrev pub nodesOf : List ℕ → ℕ → ℕ
-nodesOf sources s = getD sources (2 * s + 1) 0
 
 -- ---- the type tree: crate `array_data::node_words`; all else is 0
 

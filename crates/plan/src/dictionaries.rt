@@ -13,7 +13,8 @@ ghost use Rattle.formats.specs.Code.{isInteger};
 ghost use Rattle.formats.specs.Types.{numberOf};
 ghost use Rattle.array_data.specs.Typed.{validStart};
 ghost use Rattle.array_data.specs.lent_tables.Lent.{tables};
-ghost use Rattle.plan.specs.dictionaries.Sources.{firstOf, arrayOf, arrayAt, startsOf, dictWith, dictAt, Countable, capped, keyFits};
+ghost use Rattle.plan.specs.dictionaries.Sources.{arrayOf, arrayAt, startsOf, dictWith, dictAt, Countable, capped, keyFits};
+ghost use Rattle.array_data.specs.Sources.{firstOf};
 use array_data::lent_tables;
 
 // Which node of the tables is node i of source s.

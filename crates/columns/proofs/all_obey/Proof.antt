@@ -10,7 +10,8 @@ use Rattle.source_rules.specs.kinds.Rows.{tablesOf}
 use Rattle.columns.proofs.Answers.{all-within-as, ready-at}
 use Rattle.schema.proofs.Laws.{every-all, every-not}
 use Rattle.array_data.proofs.lent_tables.Laws.{no, yes}
-use Rattle.columns.specs.Grounds.{obeys, sourceCount, allObey}
+use Rattle.columns.specs.Grounds.{obeys, allObey}
+use Rattle.array_data.specs.Sources.{sourceCount}
 use Rattle.columns.proofs.Laws.{at-source, of-source}
 use Rattle.columns.proofs.all_obey.Statement.{statement}
 use Rattle.columns.proofs.all_obey.Tie as tie

@@ -8,7 +8,8 @@ use borrow.Author.Count.{below-more}
 use Rattle.schema.specs.Tree.{sameType}
 use Rattle.schema.proofs.Laws.{every-all, every-not}
 use Rattle.array_data.proofs.lent_tables.Laws.{no, yes}
-use Rattle.columns.specs.Grounds.{sourceCount, firstOf, nodesOf, allSame}
+use Rattle.columns.specs.Grounds.{allSame}
+use Rattle.array_data.specs.Sources.{sourceCount, firstOf, nodesOf}
 use Rattle.columns.proofs.Laws.{at-source, of-source, first-is}
 use Rattle.columns.proofs.all_same.Statement.{statement}
 use Rattle.columns.proofs.all_same.Tie as tie

@@ -8,7 +8,8 @@ use borrow.Author.Count.{below-more}
 use Rattle.schema.specs.Tree.{typed}
 use Rattle.schema.proofs.Laws.{every-all, every-not}
 use Rattle.array_data.proofs.lent_tables.Laws.{no, yes}
-use Rattle.columns.specs.Grounds.{sourceCount, allTyped}
+use Rattle.columns.specs.Grounds.{allTyped}
+use Rattle.array_data.specs.Sources.{sourceCount}
 use Rattle.columns.proofs.Laws.{at-source, of-source}
 use Rattle.columns.proofs.all_typed.Statement.{statement}
 use Rattle.columns.proofs.all_typed.Tie as tie

@@ -9,7 +9,8 @@ use mathlib.Core.List.{[]}
 use Rattle.array_data.specs.lent_tables.Lent.{tables}
 use Rattle.schema.proofs.Laws.{every-all, every-not}
 use Rattle.array_data.proofs.lent_tables.Laws.{no, yes}
-use Rattle.columns.specs.Grounds.{withinCeilings, sourceCount, allWithin}
+use Rattle.columns.specs.Grounds.{withinCeilings, allWithin}
+use Rattle.array_data.specs.Sources.{sourceCount}
 use Rattle.columns.proofs.Laws.{at-source, of-source}
 use Rattle.columns.proofs.all_within.Statement.{statement}
 use Rattle.columns.proofs.all_within.Tie as tie

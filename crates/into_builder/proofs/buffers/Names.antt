@@ -10,7 +10,7 @@ use lib.ListN.{length, getD}
 use Rattle.formats.specs.Code.{isView}
 use Rattle.columnar.specs.Row.{seg}
 use Rattle.walk.specs.State.{codeOf, place}
-use Rattle.plan.specs.dictionaries.Sources.{firstOf}
+use Rattle.array_data.specs.Sources.{firstOf}
 use Rattle.refinement.specs.orders.Order.{Lent, joinOf, sourceCount}
 use Rattle.plan.specs.Plan as plan
 use Rattle.refinement.specs.finishing.Finish.{dataCount, buffersOf, buffersBefore, buffersFrom, buffersUpTo}

@@ -11,7 +11,8 @@ use Rattle.bits.specs.Bits.{bitsAt, zeros}
 use Rattle.columnar.specs.Array.{nullCount}
 use Rattle.array_data.specs.lent_tables.Lent.{tables, maskOf}
 use Rattle.array_data.proofs.lent_tables.Laws.{and-left, and-right}
-use Rattle.plan.specs.dictionaries.Sources.{firstOf, arrayOf, Countable}
+use Rattle.plan.specs.dictionaries.Sources.{arrayOf, Countable}
+use Rattle.array_data.specs.Sources.{firstOf}
 use Rattle.walk.specs.State.{rows, grown, far}
 use Rattle.walk.specs.Log.{startOf}
 use Rattle.parts.specs.Parts.{copied, hasPart}

@@ -13,7 +13,7 @@ use Rattle.formats.specs.Code.{isString, isListView, isView, widthOf}
 use Rattle.model.proofs.Bits.{getD-seg}
 use Rattle.walk.specs.State.{codeOf, rows, bytes, top}
 use Rattle.walk.specs.Log.{startOf}
-use Rattle.plan.specs.dictionaries.Sources.{firstOf}
+use Rattle.array_data.specs.Sources.{firstOf}
 use Rattle.parts.specs.Parts.{nodesOf, copied, hasPart, hasOffsets, entrySize, neededBy, needed, partsWithin, partsHold, Used}
 use Rattle.parts.proofs.Placed.{within-used, used-holds, bits-held}
 use Rattle.refinement.specs.orders.Order.{Lent, sourceCount}

@@ -20,7 +20,8 @@ use Rattle.array_data.specs.Tables.{Tables, lengthOf, offsetOf, place, part}
 use Rattle.array_data.specs.Typed.{tablesFrom, validStart}
 use Rattle.array_data.specs.lent_tables.Lent.{maskOf}
 use Rattle.array_data.proofs.lent_tables.Laws.{no, yes}
-use Rattle.plan.specs.dictionaries.Sources.{firstOf, arrayOf, arrayAt, startsOf, dictWith, dictAt, Countable}
+use Rattle.plan.specs.dictionaries.Sources.{arrayOf, arrayAt, startsOf, dictWith, dictAt, Countable}
+use Rattle.array_data.specs.Sources.{firstOf}
 
 -- ---- node i of the source whose first node is f
 

@@ -15,7 +15,8 @@ use Rattle.model.specs.Opening.{anyNull, keeps, ptrEq, shared, entriesBefore, s
 use Rattle.array_data.specs.Tables.{Tables, lengthOf, offsetOf, validOf}
 use Rattle.array_data.specs.Typed.{Tree, tablesFrom, starts, bodyOf, columnOf}
 use Rattle.array_data.specs.lent_tables.Lent.{tables, maskOf}
-use Rattle.plan.specs.dictionaries.Sources.{firstOf, arrayAt, startsOf, ofStrings, dictAt, Countable}
+use Rattle.plan.specs.dictionaries.Sources.{arrayAt, startsOf, ofStrings, dictAt, Countable}
+use Rattle.array_data.specs.Sources.{firstOf}
 use Rattle.plan.proofs.dictionaries.Laws.{length-from, offset-from, place-from}
 use Rattle.plan.proofs.dictionaries.Keys.{entries-same}
 

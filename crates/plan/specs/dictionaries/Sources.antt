@@ -9,12 +9,9 @@ use Rattle.columnar.specs.Types.{Number, limit, Plain, fixed, string}
 use Rattle.columnar.specs.Array.{Array}
 use Rattle.columnar.specs.Dictionary.{Dictionary}
 use Rattle.array_data.specs.Tables.{Tables, place, arrayWith}
+use Rattle.array_data.specs.Sources.{firstOf}
 use Rattle.array_data.specs.Typed.{tablesFrom, validStart}
 use Rattle.array_data.specs.lent_tables.Lent.{maskOf}
-
--- the first node of source s
-abbrev pub firstOf : List ℕ → ℕ → ℕ
-firstOf sources s = getD sources (2 * s) 0
 
 -- node k, without its buffers and children
 abbrev pub arrayOf : Tables → ℕ → Array (Unit {0})

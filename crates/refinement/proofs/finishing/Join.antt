@@ -24,7 +24,8 @@ use Rattle.refinement.specs.walk_is_model.Memory.{Memory}
 use Rattle.refinement.specs.plan_is_type.Taken.{columnsAs}
 use Rattle.refinement.proofs.plan_is_type.Opened.{same-child, all-alike}
 use Rattle.parts.specs.Parts as Parts
-use Rattle.columns.specs.Grounds.{ceiling, sourceCount, firstOf, nodesOf}
+use Rattle.columns.specs.Grounds.{ceiling}
+use Rattle.array_data.specs.Sources.{sourceCount, firstOf, nodesOf}
 use Rattle.refinement.specs.orders.Order.{After, Lent, orderedAll}
 use Rattle.refinement.specs.orders.Fits.{fits, answersIn, bookIn}
 use Rattle.refinement.proofs.orders.Step.{first-opened}

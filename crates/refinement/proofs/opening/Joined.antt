@@ -30,8 +30,9 @@ use Rattle.walk.specs.State.{endOf, keepsOf}
 use Rattle.refinement.specs.walk_is_model.Holds.{childOf}
 use Rattle.refinement.specs.walk_is_model.Lent.{Based}
 use Rattle.refinement.specs.log_in_room.Room.{AllBelow}
-use Rattle.columns.specs.Grounds as columns
-use Rattle.columns.specs.Grounds.{sourceCount, firstOf, sourcesGround}
+use Rattle.array_data.specs.Sources as Sources
+use Rattle.columns.specs.Grounds.{sourcesGround}
+use Rattle.array_data.specs.Sources.{sourceCount, firstOf}
 use Rattle.refinement.specs.plan_is_type.Planted.{Planted}
 use Rattle.refinement.specs.plan_is_type.Taken.{columnsAs}
 use Rattle.refinement.proofs.plan_is_type.Planted.{child-node}
@@ -138,17 +139,17 @@ module _ (formats schema sources : List ℕ) (x : Tables) (keep gaps : Bool) (ok
   m = sourceCount sources
 
   abbrev t : Ty
-  t = typeOf formats schema (firstOf sources 0) (columns.nodesOf sources 0)
+  t = typeOf formats schema (firstOf sources 0) (Sources.nodesOf sources 0)
 
   abbrev ss : ℕ → Column t
-  ss = columnsAs formats schema x (firstOf sources) (columns.nodesOf sources)
+  ss = columnsAs formats schema x (firstOf sources) (Sources.nodesOf sources)
 
   abbrev plan : List ℕ
   plan = planned formats schema x sources keep gaps
 
-  opened-plan : Opened plan (treeOf formats schema (firstOf sources 0) (columns.nodesOf sources 0)) m t keep ss
+  opened-plan : Opened plan (treeOf formats schema (firstOf sources 0) (Sources.nodesOf sources 0)) m t keep ss
   opened-plan =
-      subst (λ p. Opened p (treeOf formats schema (firstOf sources 0) (columns.nodesOf sources 0)) m t keep ss) (without-buffers formats schema x sources keep gaps)
+      subst (λ p. Opened p (treeOf formats schema (firstOf sources 0) (Sources.nodesOf sources 0)) m t keep ss) (without-buffers formats schema x sources keep gaps)
       (planned-words.opened formats schema x sources keep gaps (few-sources formats schema sources x keep gaps ok) (few-nodes formats schema sources x keep gaps ok) (is-typed formats schema sources x keep gaps ok) (few-named formats schema sources x keep gaps ok) (is-low formats schema sources x keep gaps ok))
 
   -- THE PLAN KEEPS NULLS AND JOINS DICTIONARIES where the model does
@@ -157,8 +158,8 @@ module _ (formats schema sources : List ℕ) (x : Tables) (keep gaps : Bool) (ok
       let ty = is-typed formats schema sources x keep gaps ok in
       let low = is-low formats schema sources x keep gaps ok in (
         opened-plan .0,
-        kept-below formats schema (firstOf sources 0) (columns.nodesOf sources 0) plan ty low (planted formats schema sources x keep gaps ok) m t 0 (keeps keep m ss) (λ j. ss j .body)
-            (means formats schema (firstOf sources 0) (columns.nodesOf sources 0) ty low) (opened-plan .1),
+        kept-below formats schema (firstOf sources 0) (Sources.nodesOf sources 0) plan ty low (planted formats schema sources x keep gaps ok) m t 0 (keeps keep m ss) (λ j. ss j .body)
+            (means formats schema (firstOf sources 0) (Sources.nodesOf sources 0) ty low) (opened-plan .1),
       )
 
   -- .. at the root
@@ -184,7 +185,7 @@ module _ (formats schema sources : List ℕ) (x : Tables) (keep gaps : Bool) (ok
           some-source = some-sources formats schema sources x keep gaps ok;
           count-is = sources-are formats schema x sources keep gaps (few-sources formats schema sources x keep gaps ok) (few-nodes formats schema sources x keep gaps ok);
           opened = λ s l.
-              opened-one formats schema x (firstOf sources) (columns.nodesOf sources) plan m (taken formats schema sources x keep gaps ok) parts s l (based s l) all-ready;
+              opened-one formats schema x (firstOf sources) (Sources.nodesOf sources) plan m (taken formats schema sources x keep gaps ok) parts s l (based s l) all-ready;
           laid = laid;
           all-nodes = all;
           sound = sound;

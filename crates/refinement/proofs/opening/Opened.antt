@@ -19,8 +19,9 @@ use Rattle.array_data.specs.type_tree.Lent.{typeOf}
 use Rattle.walk.specs.Log.{Out}
 use Rattle.refinement.specs.walk_is_model.Memory.{Memory}
 use Rattle.refinement.specs.log_in_room.Room.{AllBelow}
-use Rattle.columns.specs.Grounds as columns
-use Rattle.columns.specs.Grounds.{ceiling, sourceCount, firstOf, sourcesGround}
+use Rattle.array_data.specs.Sources as Sources
+use Rattle.columns.specs.Grounds.{ceiling, sourcesGround}
+use Rattle.array_data.specs.Sources.{sourceCount, firstOf}
 use Rattle.refinement.specs.plan_is_type.Taken.{columnsAs}
 use Rattle.refinement.proofs.plan_is_type.Worded.{planted-worded}
 use Rattle.parts.specs.Parts.{partTotal, partsHold, partsPlaced}
@@ -47,10 +48,10 @@ module _ (formats schema sources : List ℕ) (x : Tables) (keep gaps : Bool) (pa
   m = sourceCount sources
 
   abbrev t : Ty
-  t = typeOf formats schema (firstOf sources 0) (columns.nodesOf sources 0)
+  t = typeOf formats schema (firstOf sources 0) (Sources.nodesOf sources 0)
 
   abbrev ss : ℕ → Column t
-  ss = columnsAs formats schema x (firstOf sources) (columns.nodesOf sources)
+  ss = columnsAs formats schema x (firstOf sources) (Sources.nodesOf sources)
 
   abbrev lent : Lent
   lent = opened formats schema sources x keep gaps parts
@@ -61,7 +62,7 @@ module _ (formats schema sources : List ℕ) (x : Tables) (keep gaps : Bool) (pa
       let all = sources-of formats schema sources x keep gaps ok in
       let stands = stood formats schema x sources ok keep gaps in
       record {
-        worded = planted-worded formats schema (firstOf sources 0) (columns.nodesOf sources 0) (lent .plan) (is-typed formats schema sources x keep gaps ok) (is-low formats schema sources x keep gaps ok) (planted formats schema sources x keep gaps ok);
+        worded = planted-worded formats schema (firstOf sources 0) (Sources.nodesOf sources 0) (lent .plan) (is-typed formats schema sources x keep gaps ok) (is-low formats schema sources x keep gaps ok) (planted formats schema sources x keep gaps ok);
         formed = all .formed;
         laid = stands .laid;
         all-nodes = stands .all-nodes;

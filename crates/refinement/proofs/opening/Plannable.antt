@@ -15,7 +15,8 @@ use Rattle.array_data.specs.Typed.{NodeKind, fixedNode, stringNode, viewNode, l
 use Rattle.array_data.specs.type_tree.Lent.{treeOf}
 use Rattle.array_data.proofs.type_tree.Ids.{both}
 use Rattle.array_data.specs.lent_tables.Lent.{tables, maskOf}
-use Rattle.columns.specs.Grounds.{sourceCount, firstOf, nodesOf, fewSources, sourcesGround}
+use Rattle.columns.specs.Grounds.{fewSources, sourcesGround}
+use Rattle.array_data.specs.Sources.{sourceCount, firstOf, nodesOf}
 use Rattle.columns.proofs.Grounds.{accepted, some-source, within-low, within-at, same-at, obeys-at, obeys-is}
 use Rattle.parts.proofs.Placed.{every-at}
 use Rattle.plan.specs.dictionaries.Sources.{Countable}

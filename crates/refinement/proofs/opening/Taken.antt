@@ -25,7 +25,8 @@ use Rattle.array_data.proofs.type_tree.Lent.{formed}
 use Rattle.array_data.proofs.type_tree.Same.{kind-same, same-means}
 use Rattle.array_data.proofs.type_tree.Shaped.{shaped}
 use Rattle.plan.proofs.dictionaries.Laws.{length-from, offset-from, place-from}
-use Rattle.columns.specs.Grounds.{countFits, fewBuffers, nodeFits, ceiling, smallBody, withinCeilings, sourceCount, firstOf, nodesOf, fewSources, sourcesGround}
+use Rattle.columns.specs.Grounds.{countFits, fewBuffers, nodeFits, ceiling, smallBody, withinCeilings, fewSources, sourcesGround}
+use Rattle.array_data.specs.Sources.{sourceCount, firstOf, nodesOf}
 use Rattle.columns.proofs.Grounds.{Accepted, accepted, some-source, within-low, within-at, typed-at, same-at, obeys-at, obeys-is}
 use Rattle.columns.proofs.Answers.{sum-fits}
 use Rattle.refinement.specs.plan_is_type.Planted.{Planted}

@@ -25,8 +25,9 @@ use Rattle.array_data.proofs.type_tree.Shaped.{kind-fixed}
 use Rattle.refinement.specs.walk_is_model.Holds.{childOf, WordedPlain}
 use Rattle.refinement.specs.walk_is_model.Lent.{LentNode, LentPlain}
 use Rattle.refinement.proofs.log_in_room.Found.{between-both}
-use Rattle.columns.specs.Grounds as columns
-use Rattle.columns.specs.Grounds.{sourceCount, firstOf, sourcesGround}
+use Rattle.array_data.specs.Sources as Sources
+use Rattle.columns.specs.Grounds.{sourcesGround}
+use Rattle.array_data.specs.Sources.{sourceCount, firstOf}
 use Rattle.refinement.specs.plan_is_type.Taken.{columnsAs}
 use Rattle.refinement.proofs.plan_is_type.Codes.{Coded}
 use Rattle.refinement.proofs.plan_is_type.Planted.{in-state, code-is, dictionary-is, coded-is}
@@ -100,7 +101,7 @@ module _ (formats schema sources : List ℕ) (x : Tables) (keep gaps : Bool) (ok
   first s = firstOf sources s
 
   abbrev nodes : ℕ → ℕ
-  nodes s = columns.nodesOf sources s
+  nodes s = Sources.nodesOf sources s
 
   abbrev plan : List ℕ
   plan = planned formats schema x sources keep gaps

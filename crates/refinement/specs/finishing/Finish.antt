@@ -12,7 +12,8 @@ use Rattle.columnar.specs.Test.{every}
 use Rattle.formats.specs.Code.{isView}
 use Rattle.array_data.specs.Tables.{Tables}
 use Rattle.array_data.specs.lent_tables.Lent.{tables, maskOf}
-use Rattle.plan.specs.dictionaries.Sources.{firstOf, arrayOf}
+use Rattle.plan.specs.dictionaries.Sources.{arrayOf}
+use Rattle.array_data.specs.Sources.{firstOf}
 use Rattle.walk.specs.State.{codeOf, rows, place, lengthOf, offsetOf, far}
 use Rattle.walk.specs.Log.{startOf}
 use Rattle.parts.specs.Parts.{nodesOf, copied, hasPart, needed, partsHold, partsWithin}
