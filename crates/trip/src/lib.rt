@@ -1,21 +1,21 @@
 // A trip's orders as one, all or none. Each is tried in turn, on a copy of the counters and without a look at validity bits, and only where
 // none is refused are they written, one after the other: every order is walked twice at most, and nothing is taken back.
 ghost use mathlib.Core.Path.{_≡_};
-ghost use mathlib.Core.List.{List, []};
+ghost use mathlib.Core.List.{[]};
 ghost use mathlib.Core.Bool.{true, cond};
-ghost use Prim.Native.Nat.{ℕ, _<_, _≤_, _/_, min};
+ghost use Prim.Native.Nat.{_<_, _≤_, _/_};
 ghost use lib.ListN.{length};
-ghost use Rattle.model.specs.Book.{copy, nulls};
 ghost use Rattle.walk.specs.Log.{Did};
 ghost use Rattle.parts.specs.Parts.{partsHold};
-ghost use Rattle.refinement.specs.orders.Sound.{planSound, walkable};
+ghost use Rattle.refinement.specs.orders.Sound.{walkable};
 ghost use Rattle.transform.specs.Answer.{lent};
-ghost use Rattle.trip.specs.Trip.{callOf, callsOf, tripOrder, tripMeasure};
-ghost use Rattle.trip.specs.Walk.{orderWalk, stepAt, Stepped};
+ghost use Rattle.trip.specs.Trip.{callsOf, tripOrder, tripMeasure};
+ghost use Rattle.trip.specs.Walk.{stepAt, Stepped};
 ghost use Rattle.trip.specs.Answer.{Ends, Asks};
 use array_data::lent_tables;
 use sound::trying;
-use walk::plan_words;
+
+mod order;
 
 // The ground, 0 where there is none, and the place of the order that got it.
 pub struct Ended {
@@ -27,133 +27,13 @@ const LONGEST: usize = 256;
 
 const WORDS: usize = 4;
 
-const COPY: u64 = 0;
-
-const LARGEST_SOURCE: u64 = 4294967295;
-
-// Where the plan has its number of sources.
-const SOURCE_COUNT: usize = 864;
-
-const NO_SUCH_SOURCE: u8 = 1;
-
-const NO_SUCH_ROWS: u8 = 2;
-
-const KEEPS_NO_NULLS: u8 = 3;
-
 const TOO_MANY: u8 = 9;
 
 const TOO_SMALL: u8 = 13;
 
 const NOT_LENT: u8 = 14;
 
-// ---- one order
-
-// A source's number; no join has as many sources as 32 bits hold.
-fn source_of(a: u64) -> u32
-    ensures { λ r. ⌜ r ≡ min a 4294967295 ⌝ }
-{
-    if LARGEST_SOURCE < a {
-        return LARGEST_SOURCE as u32;
-    }
-    a as u32
-}
-
-// A copy of the rows start .. end - 1 of a source, tried or written.
-fn walk_copy(
-    plan: &[u64],
-    parts: &[u64],
-    sources: &[u32],
-    lengths: &[u64],
-    places: &[u64],
-    body: &[u8],
-    counts: &mut [u64; 96],
-    room: &mut [u8],
-    write: bool,
-    source: u32,
-    start: u64,
-    end: u64,
-) -> u8
-    ensures { λ g. ⌜ Did (now (plan .entry)) (now (parts .entry)) write (orderWalk (lent (now (plan .entry)) (now (parts .entry)) (now (sources .entry)) (now (lengths .entry)) (now (places .entry)) (now (body .entry))) (copy source start end) (now (counts .entry))) (now (room .entry)) g (now (counts .exit)) (now (room .exit)) ⌝ }
-{
-    if lent_tables::at_u64(plan, SOURCE_COUNT) <= source as u64 {
-        return NO_SUCH_SOURCE;
-    }
-    let first = lent_tables::at_u32(sources, 2 * (source as usize)) as usize;
-    if !transform::in_source(lengths, first, start, end) {
-        return NO_SUCH_ROWS;
-    }
-    extend::extend(
-        plan,
-        parts,
-        lengths,
-        places,
-        body,
-        counts,
-        room,
-        write,
-        source as usize,
-        first,
-        0,
-        start,
-        end - start,
-        8,
-    )
-}
-
-// n nulls, tried or written.
-fn walk_nulls(
-    plan: &[u64],
-    parts: &[u64],
-    counts: &mut [u64; 96],
-    room: &mut [u8],
-    write: bool,
-    n: u64,
-) -> u8
-    ensures { λ g. ⌜ ((sources lengths places body : List ℕ) → Did (now (plan .entry)) (now (parts .entry)) write (orderWalk (lent (now (plan .entry)) (now (parts .entry)) sources lengths places body) (nulls n) (now (counts .entry))) (now (room .entry)) g (now (counts .exit)) (now (room .exit))) ⌝ }
-{
-    if plan_words::keeps_of(plan, 0) == 0 {
-        return KEEPS_NO_NULLS;
-    }
-    let m = transform::at_most_far(n);
-    extend_nulls::extend_nulls(plan, parts, counts, room, write, 0, m, 8)
-}
-
-// The order of four words.
-fn walk_order(
-    plan: &[u64],
-    parts: &[u64],
-    sources: &[u32],
-    lengths: &[u64],
-    places: &[u64],
-    body: &[u8],
-    counts: &mut [u64; 96],
-    room: &mut [u8],
-    write: bool,
-    kind: u64,
-    a: u64,
-    b: u64,
-    c: u64,
-) -> u8
-    ensures { λ g. ⌜ Did (now (plan .entry)) (now (parts .entry)) write (orderWalk (lent (now (plan .entry)) (now (parts .entry)) (now (sources .entry)) (now (lengths .entry)) (now (places .entry)) (now (body .entry))) (callOf kind a b c) (now (counts .entry))) (now (room .entry)) g (now (counts .exit)) (now (room .exit)) ⌝ }
-{
-    if kind != COPY {
-        return walk_nulls(plan, parts, counts, room, write, a);
-    }
-    walk_copy(
-        plan,
-        parts,
-        sources,
-        lengths,
-        places,
-        body,
-        counts,
-        room,
-        write,
-        source_of(a),
-        b,
-        c,
-    )
-}
+// ---- an order of the list
 
 // 14 where the parts do not lie in the room, 13 where one cannot hold its bytes.
 fn held_ground(plan: &[u64], parts: &[u64], counts: &[u64; 96], within: bool) -> u8
@@ -191,7 +71,7 @@ fn walk_step(
     let a = lent_tables::at_u64(orders, 4 * k + 1);
     let b = lent_tables::at_u64(orders, 4 * k + 2);
     let c = lent_tables::at_u64(orders, 4 * k + 3);
-    let g = walk_order(
+    let g = order::walk_order(
         plan,
         parts,
         sources,

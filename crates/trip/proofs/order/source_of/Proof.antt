@@ -1,8 +1,8 @@
--- `trip::source_of` meets its contract. Assumes nothing.
+-- `trip::order::source_of` meets its contract. Assumes nothing.
 use native.Mathlib.Omega.{arith}
 use borrow.Author.Needs.{needs}
-use Rattle.trip.proofs.source_of.Statement.{statement}
-use Rattle.trip.proofs.source_of.Tie as tie
+use Rattle.trip.proofs.order.source_of.Statement.{statement}
+use Rattle.trip.proofs.order.source_of.Tie as tie
 
 cast-result : tie.Need-cast-result
 cast-result c = omega arith

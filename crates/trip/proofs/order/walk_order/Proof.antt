@@ -1,9 +1,9 @@
--- `trip::walk_order` meets its contract. Assumes nothing.
+-- `trip::order::walk_order` meets its contract. Assumes nothing.
 use Rattle.transform.specs.Answer.{lent}
 use Rattle.trip.proofs.Laws.{call-nulls, call-copy}
 use borrow.Author.Needs.{needs}
-use Rattle.trip.proofs.walk_order.Statement.{statement}
-use Rattle.trip.proofs.walk_order.Tie as tie
+use Rattle.trip.proofs.order.walk_order.Statement.{statement}
+use Rattle.trip.proofs.order.walk_order.Tie as tie
 
 walk-nulls-requires : tie.Need-walk-nulls-requires
 walk-nulls-requires c κs = search needs

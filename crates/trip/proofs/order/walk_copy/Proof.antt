@@ -1,4 +1,4 @@
--- `trip::walk_copy` meets its contract. Assumes nothing.
+-- `trip::order::walk_copy` meets its contract. Assumes nothing.
 use Prim.Native.Nat.{_≤_}
 use native.Mathlib.Omega.{arith}
 use lib.Dec.{leb}
@@ -7,8 +7,8 @@ use Rattle.array_data.proofs.lent_tables.Laws.{no, yes, and-left}
 use Rattle.transform.specs.Answer.{lent}
 use Rattle.trip.proofs.Laws.{walk-no-source, walk-no-rows, walk-copied}
 use borrow.Author.Needs.{needs}
-use Rattle.trip.proofs.walk_copy.Statement.{statement}
-use Rattle.trip.proofs.walk_copy.Tie as tie
+use Rattle.trip.proofs.order.walk_copy.Statement.{statement}
+use Rattle.trip.proofs.order.walk_copy.Tie as tie
 
 at-u64-requires : tie.Need-at-u64-requires
 at-u64-requires c κs = search needs

@@ -1,9 +1,9 @@
--- `trip::walk_nulls` meets its contract. Assumes nothing.
+-- `trip::order::walk_nulls` meets its contract. Assumes nothing.
 use Rattle.transform.specs.Answer.{lent}
 use Rattle.trip.proofs.Laws.{walk-no-nulls, walk-nulled}
 use borrow.Author.Needs.{needs}
-use Rattle.trip.proofs.walk_nulls.Statement.{statement}
-use Rattle.trip.proofs.walk_nulls.Tie as tie
+use Rattle.trip.proofs.order.walk_nulls.Statement.{statement}
+use Rattle.trip.proofs.order.walk_nulls.Tie as tie
 
 keeps-of-requires : tie.Need-keeps-of-requires
 keeps-of-requires c κs = search needs

@@ -1,0 +1,131 @@
+// One order of a list: its walk, tried or written.
+ghost use mathlib.Core.Path.{_≡_};
+ghost use mathlib.Core.List.{List};
+ghost use Prim.Native.Nat.{ℕ, _<_, min};
+ghost use Rattle.model.specs.Book.{copy, nulls};
+ghost use Rattle.walk.specs.Log.{Did};
+ghost use Rattle.transform.specs.Answer.{lent};
+ghost use Rattle.trip.specs.Trip.{callOf};
+ghost use Rattle.trip.specs.Walk.{orderWalk};
+use array_data::lent_tables;
+use walk::plan_words;
+
+const COPY: u64 = 0;
+
+const LARGEST_SOURCE: u64 = 4294967295;
+
+// Where the plan has its number of sources.
+const SOURCE_COUNT: usize = 864;
+
+const NO_SUCH_SOURCE: u8 = 1;
+
+const NO_SUCH_ROWS: u8 = 2;
+
+const KEEPS_NO_NULLS: u8 = 3;
+
+// A source's number; no join has as many sources as 32 bits hold.
+fn source_of(a: u64) -> u32
+    ensures { λ r. ⌜ r ≡ min a 4294967295 ⌝ }
+{
+    if LARGEST_SOURCE < a {
+        return LARGEST_SOURCE as u32;
+    }
+    a as u32
+}
+
+// A copy of the rows start .. end - 1 of a source, tried or written.
+fn walk_copy(
+    plan: &[u64],
+    parts: &[u64],
+    sources: &[u32],
+    lengths: &[u64],
+    places: &[u64],
+    body: &[u8],
+    counts: &mut [u64; 96],
+    room: &mut [u8],
+    write: bool,
+    source: u32,
+    start: u64,
+    end: u64,
+) -> u8
+    ensures { λ g. ⌜ Did (now (plan .entry)) (now (parts .entry)) write (orderWalk (lent (now (plan .entry)) (now (parts .entry)) (now (sources .entry)) (now (lengths .entry)) (now (places .entry)) (now (body .entry))) (copy source start end) (now (counts .entry))) (now (room .entry)) g (now (counts .exit)) (now (room .exit)) ⌝ }
+{
+    if lent_tables::at_u64(plan, SOURCE_COUNT) <= source as u64 {
+        return NO_SUCH_SOURCE;
+    }
+    let first = lent_tables::at_u32(sources, 2 * (source as usize)) as usize;
+    if !transform::in_source(lengths, first, start, end) {
+        return NO_SUCH_ROWS;
+    }
+    extend::extend(
+        plan,
+        parts,
+        lengths,
+        places,
+        body,
+        counts,
+        room,
+        write,
+        source as usize,
+        first,
+        0,
+        start,
+        end - start,
+        8,
+    )
+}
+
+// n nulls, tried or written.
+fn walk_nulls(
+    plan: &[u64],
+    parts: &[u64],
+    counts: &mut [u64; 96],
+    room: &mut [u8],
+    write: bool,
+    n: u64,
+) -> u8
+    ensures { λ g. ⌜ ((sources lengths places body : List ℕ) → Did (now (plan .entry)) (now (parts .entry)) write (orderWalk (lent (now (plan .entry)) (now (parts .entry)) sources lengths places body) (nulls n) (now (counts .entry))) (now (room .entry)) g (now (counts .exit)) (now (room .exit))) ⌝ }
+{
+    if plan_words::keeps_of(plan, 0) == 0 {
+        return KEEPS_NO_NULLS;
+    }
+    let m = transform::at_most_far(n);
+    extend_nulls::extend_nulls(plan, parts, counts, room, write, 0, m, 8)
+}
+
+// The order of four words.
+pub fn walk_order(
+    plan: &[u64],
+    parts: &[u64],
+    sources: &[u32],
+    lengths: &[u64],
+    places: &[u64],
+    body: &[u8],
+    counts: &mut [u64; 96],
+    room: &mut [u8],
+    write: bool,
+    kind: u64,
+    a: u64,
+    b: u64,
+    c: u64,
+) -> u8
+    ensures { λ g. ⌜ Did (now (plan .entry)) (now (parts .entry)) write (orderWalk (lent (now (plan .entry)) (now (parts .entry)) (now (sources .entry)) (now (lengths .entry)) (now (places .entry)) (now (body .entry))) (callOf kind a b c) (now (counts .entry))) (now (room .entry)) g (now (counts .exit)) (now (room .exit)) ⌝ }
+{
+    if kind != COPY {
+        return walk_nulls(plan, parts, counts, room, write, a);
+    }
+    walk_copy(
+        plan,
+        parts,
+        sources,
+        lengths,
+        places,
+        body,
+        counts,
+        room,
+        write,
+        source_of(a),
+        b,
+        c,
+    )
+}
