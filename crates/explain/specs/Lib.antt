@@ -1,0 +1,2 @@
+-- What the functions that explain an order cite beside the definition.
+pub mod Explains
