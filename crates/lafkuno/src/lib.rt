@@ -35,6 +35,7 @@ use slot_reader::RowRead;
 
 mod beside;
 mod trips;
+mod why;
 
 // ---- columns
 
