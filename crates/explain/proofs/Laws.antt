@@ -33,7 +33,7 @@ use Rattle.stops.specs.Nulls.{walked, whyNulls}
 use Rattle.stops.specs.Parts.{whyParts}
 use Rattle.stops.specs.Order.{whySettled, whyCopyOrder, whyNullOrder, whyOrder, listed, whyListedFrom, whyTrip}
 use Rattle.stops.proofs.Says.{Says}
-use Rattle.stop_copies.specs.Step.{Tried}
+use Rattle.stop_walks.specs.Step.{Tried}
 use Rattle.explain.specs.Explains.{Settles, whyCall, Explains}
 use Rattle.explain.proofs.State.{why-state}
 

@@ -25,6 +25,8 @@ use stops::Why;
 use stops::WhyListed;
 use walk::plan_words;
 
+mod small_parts;
+
 const LONGEST: usize = 256;
 
 const WORDS: usize = 4;
@@ -56,9 +58,9 @@ fn settle(plan: &[u64], parts: &[u64], counts: &[u64; 96], m: usize, r: u64, n: 
     ensures { λ w. ⌜ w ≡ unless (partsWithin (now (plan .entry)) (now (parts .entry)) m) (only 14) (whyParts (now (plan .entry)) (now (counts .entry)) (now (parts .entry)) (r + n)) ⌝ }
 {
     if !parts::parts_within(plan, parts, m) {
-        return stop_copies::plain(NOT_LENT);
+        return stop_walks::plain(NOT_LENT);
     }
-    stop_parts::why_parts(plan, counts, parts, r, n)
+    small_parts::why_parts(plan, counts, parts, r, n)
 }
 
 // The rows start .. start + n - 1 of a source, whose first node is `first`.
@@ -79,7 +81,7 @@ fn copy_rows(
     ensures { λ w. ⌜ ((sources : List ℕ) → Settles (lent (now (plan .entry)) (now (parts .entry)) sources (now (lengths .entry)) (now (places .entry)) (now (body .entry))) m (now (counts .entry)) n (copyWalk (join (now (plan .entry)) (now (parts .entry)) (now (lengths .entry)) (now (places .entry)) (now (body .entry)) first source) 8 0 start n (now (counts .entry))) (whyCopy (join (now (plan .entry)) (now (parts .entry)) (now (lengths .entry)) (now (places .entry)) (now (body .entry)) first source) 8 0 start n (now (counts .entry))) w (now (counts .exit))) ⌝ }
 {
     let r = plan_words::rows_of(counts, 0);
-    let g = stop_copies::try_copy(
+    let g = stop_walks::try_copy(
         plan,
         parts,
         lengths,
@@ -94,7 +96,7 @@ fn copy_rows(
         DEPTH,
     );
     if g != 0 {
-        return stop_copies::why_walk(
+        return stop_walks::why_walk(
             plan,
             parts,
             lengths,
@@ -118,9 +120,9 @@ fn add_nulls(plan: &[u64], parts: &[u64], counts: &mut [u64; 96], m: usize, n: u
     ensures { λ w. ⌜ ((sources lengths places body : List ℕ) → Settles (lent (now (plan .entry)) (now (parts .entry)) sources lengths places body) m (now (counts .entry)) n (nullWalk (join (now (plan .entry)) (now (parts .entry)) [] [] [] 0 0) 8 0 (walked n) (now (counts .entry))) (whyNulls (join (now (plan .entry)) (now (parts .entry)) [] [] [] 0 0) 8 0 n (now (counts .entry))) w (now (counts .exit))) ⌝ }
 {
     let r = plan_words::rows_of(counts, 0);
-    let g = stop_nulls::try_nulls(plan, parts, counts, 0, n, DEPTH);
+    let g = stop_walks::nulls::try_nulls(plan, parts, counts, 0, n, DEPTH);
     if g != 0 {
-        return stop_nulls::why_null_walk(plan, parts, counts, 0, n, DEPTH);
+        return stop_walks::nulls::why_null_walk(plan, parts, counts, 0, n, DEPTH);
     }
     settle(plan, parts, counts, m, r, n)
 }
@@ -145,11 +147,11 @@ fn order_copy(
     ensures { λ w. ⌜ Explains (lent (now (plan .entry)) (now (parts .entry)) (now (sources .entry)) (now (lengths .entry)) (now (places .entry)) (now (body .entry))) m (copy source start end) (now (counts .entry)) w (now (counts .exit)) ⌝ }
 {
     if lent_tables::at_u64(plan, SOURCE_COUNT) <= source as u64 {
-        return stop_copies::plain(NO_SUCH_SOURCE);
+        return stop_walks::plain(NO_SUCH_SOURCE);
     }
     let first = lent_tables::at_u32(sources, 2 * (source as usize)) as usize;
     if !transform::in_source(lengths, first, start, end) {
-        return stop_copies::plain(NO_SUCH_ROWS);
+        return stop_walks::plain(NO_SUCH_ROWS);
     }
     copy_rows(
         plan,
@@ -172,7 +174,7 @@ fn order_nulls(plan: &[u64], parts: &[u64], counts: &mut [u64; 96], m: usize, n:
     ensures { λ w. ⌜ ((sources lengths places body : List ℕ) → Explains (lent (now (plan .entry)) (now (parts .entry)) sources lengths places body) m (nulls n) (now (counts .entry)) w (now (counts .exit))) ⌝ }
 {
     if plan_words::keeps_of(plan, 0) == 0 {
-        return stop_copies::plain(KEEPS_NO_NULLS);
+        return stop_walks::plain(KEEPS_NO_NULLS);
     }
     add_nulls(plan, parts, counts, m, n)
 }
@@ -244,10 +246,10 @@ pub fn why_copy(
     ensures { λ w. ⌜ w ≡ whyCopyOrder (lent (now (plan .entry)) (now (parts .entry)) (now (sources .entry)) (now (lengths .entry)) (now (places .entry)) (now (body .entry))) m (now (counters .entry)) source start end ⌝ }
 {
     if counters.len() != 96 {
-        return stop_copies::plain(NOT_LENT);
+        return stop_walks::plain(NOT_LENT);
     }
     if !sound::is_walkable(plan, m) {
-        return stop_copies::plain(NOT_LENT);
+        return stop_walks::plain(NOT_LENT);
     }
     let mut counts = transform::load(counters);
     order_copy(
@@ -270,10 +272,10 @@ pub fn why_nulls(plan: &[u64], parts: &[u64], counters: &[u64], m: usize, n: u64
     ensures { λ w. ⌜ ((sources lengths places body : List ℕ) → w ≡ whyNullOrder (lent (now (plan .entry)) (now (parts .entry)) sources lengths places body) m (now (counters .entry)) n) ⌝ }
 {
     if counters.len() != 96 {
-        return stop_copies::plain(NOT_LENT);
+        return stop_walks::plain(NOT_LENT);
     }
     if !sound::is_walkable(plan, m) {
-        return stop_copies::plain(NOT_LENT);
+        return stop_walks::plain(NOT_LENT);
     }
     let mut counts = transform::load(counters);
     order_nulls(plan, parts, &mut counts, m, n)
@@ -285,7 +287,7 @@ fn at_first(ground: u8) -> WhyListed
 {
     WhyListed {
         place: 0,
-        why: stop_copies::plain(ground),
+        why: stop_walks::plain(ground),
     }
 }
 

@@ -1,2 +1,0 @@
--- What a node says of the rows that it was handed.
-pub mod Step

@@ -1,2 +1,0 @@
--- specs
-pub mod Sizes
