@@ -70,6 +70,7 @@ enum lafkuno_ground {
 #define LAFKUNO_TREE 256
 #define LAFKUNO_ANSWER 12
 #define LAFKUNO_RUN 2
+#define LAFKUNO_WHY 5
 
 /* A list of orders: the most that it has, and the numbers of each: LAFKUNO_ORDER_COPY, the source, start and end; or LAFKUNO_ORDER_NULLS,
  * how many nulls, and two numbers that are not read. */
@@ -194,6 +195,36 @@ uint32_t lafkuno_orders(const uint64_t *plan, size_t plan_len, const uint64_t *p
                         const uint64_t *places, size_t places_len, const uint8_t *body, size_t body_len,
                         uint64_t *counters, size_t counters_len, uint8_t *room, size_t room_len,
                         const uint64_t *orders, size_t orders_len);
+
+/* ---- what stopped an order
+ *
+ * LAFKUNO_WHY numbers say it: the ground; the node in tree order, run ends and dictionary values counted; the row within the range that the
+ * node was handed, from 0; and for 6, 7 and 13 the number needed, at most UINT64_MAX, and the largest allowed. Node and row are 0 where none
+ * applies, the last two are 0 for any other ground, and all are 0 where nothing stops the order. The call answers the ground. It has the
+ * parameters of the order, of the room its length alone, and writes nothing but the answer, which is left as it was where it is not of its
+ * size. Of a single order it says 1 to 7 with no parts and no room too, since these come before 14. */
+
+/* What stops a copy.
+ *   answer    LAFKUNO_WHY numbers. */
+uint8_t lafkuno_why_copy(const uint64_t *plan, size_t plan_len, const uint64_t *parts, size_t parts_len,
+                         const uint32_t *sources, size_t sources_len, const uint64_t *lengths, size_t lengths_len,
+                         const uint64_t *places, size_t places_len, const uint8_t *body, size_t body_len,
+                         const uint64_t *counters, size_t counters_len, uint64_t room,
+                         uint32_t source, uint64_t start, uint64_t end, uint64_t *answer, size_t answer_len);
+
+/* What stops an order of nulls.
+ *   answer    LAFKUNO_WHY numbers. */
+uint8_t lafkuno_why_nulls(const uint64_t *plan, size_t plan_len, const uint64_t *parts, size_t parts_len,
+                          const uint64_t *counters, size_t counters_len, uint64_t room, uint64_t n,
+                          uint64_t *answer, size_t answer_len);
+
+/* What stops the first failing order of a list, from the counters that those before it leave; a list too long is 9 and zeros.
+ *   answer    LAFKUNO_WHY numbers and the order's place. */
+uint8_t lafkuno_why_orders(const uint64_t *plan, size_t plan_len, const uint64_t *parts, size_t parts_len,
+                           const uint32_t *sources, size_t sources_len, const uint64_t *lengths, size_t lengths_len,
+                           const uint64_t *places, size_t places_len, const uint8_t *body, size_t body_len,
+                           const uint64_t *counters, size_t counters_len, uint64_t room,
+                           const uint64_t *orders, size_t orders_len, uint64_t *answer, size_t answer_len);
 
 /* Describes the finished array by tables like those of a source; its type is source 0's. 14 where a table is not of its size, 9 where
  * base is above 2^63-1. It can be lent again over a body that holds the room at base, behind the old body.

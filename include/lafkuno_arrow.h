@@ -123,7 +123,8 @@ struct lafkuno_error {
     int64_t source;   /* of the sources */
     int64_t order;    /* of the orders */
     int64_t node;     /* of the column, in depth-first order; 0 is the column itself */
-    uint64_t found;   /* for a ceiling or a bound that is passed: what was found ... */
+    int64_t row;      /* at which an order stopped, within the range that the node was handed */
+    uint64_t found;   /* for a ceiling or a bound that is passed, an offset or a run end that does not fit: what was found or needed ... */
     uint64_t allowed; /* ... and the most that is allowed; else two zeros */
     char message[LAFKUNO_MESSAGE]; /* all of it in words */
 };

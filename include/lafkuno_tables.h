@@ -143,6 +143,26 @@ static inline uint32_t lafkuno_state_orders(struct lafkuno_state *s, const struc
                           LAFKUNO_ORDER * n);
 }
 
+/* lafkuno_why_copy, lafkuno_why_nulls: what stops an order, LAFKUNO_WHY numbers. */
+static inline uint8_t lafkuno_state_why_copy(const struct lafkuno_state *s, const struct lafkuno_tables *t, uint32_t source, uint64_t start,
+                                             uint64_t end, uint64_t *answer) {
+    return lafkuno_why_copy(s->plan, LAFKUNO_PLAN, s->parts, s->parts_len, t->sources, t->sources_len, t->lengths, t->lengths_len, t->places,
+                            t->places_len, t->body, t->body_len, s->counters, LAFKUNO_COUNTERS, s->room_len, source, start, end, answer,
+                            LAFKUNO_WHY);
+}
+
+static inline uint8_t lafkuno_state_why_nulls(const struct lafkuno_state *s, uint64_t n, uint64_t *answer) {
+    return lafkuno_why_nulls(s->plan, LAFKUNO_PLAN, s->parts, s->parts_len, s->counters, LAFKUNO_COUNTERS, s->room_len, n, answer, LAFKUNO_WHY);
+}
+
+/* lafkuno_why_orders: what stops the first failing one of n orders, LAFKUNO_WHY numbers and its place. */
+static inline uint8_t lafkuno_state_why_orders(const struct lafkuno_state *s, const struct lafkuno_tables *t, const uint64_t *orders, size_t n,
+                                               uint64_t *answer) {
+    return lafkuno_why_orders(s->plan, LAFKUNO_PLAN, s->parts, s->parts_len, t->sources, t->sources_len, t->lengths, t->lengths_len, t->places,
+                              t->places_len, t->body, t->body_len, s->counters, LAFKUNO_COUNTERS, s->room_len, orders, LAFKUNO_ORDER * n,
+                              answer, LAFKUNO_WHY + 1);
+}
+
 /* lafkuno_buffer_total: how many data buffers the finished array names. */
 static inline uint64_t lafkuno_state_buffer_total(const struct lafkuno_state *s, const struct lafkuno_tables *t) {
     return lafkuno_buffer_total(s->plan, LAFKUNO_PLAN, t->sources, t->sources_len, t->places, t->places_len);

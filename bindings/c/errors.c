@@ -36,7 +36,7 @@ const char *lafkuno_meaning(int code) {
 
 struct report report_to(struct lafkuno_error *error, struct lafkuno_error *spare) {
     struct report report = {error ? error : spare, NULL, NULL, NULL};
-    *report.error = (struct lafkuno_error){.column = -1, .source = -1, .order = -1, .node = -1};
+    *report.error = (struct lafkuno_error){.column = -1, .source = -1, .order = -1, .node = -1, .row = -1};
     return report;
 }
 
@@ -76,7 +76,7 @@ static void say_order(struct report *report) {
     else say(report, " (copy %" PRIu32 " %" PRIu64 "..%" PRIu64 ")", order->source, order->start, order->end);
 }
 
-/* "column 2 'fuel', source 0, node 1 'item' (u), order 4 (copy 0 3..5): " */
+/* "column 2 'fuel', source 0, node 1 'item' (u), row 0, order 4 (copy 0 3..5): " */
 static void say_place(struct report *report) {
     struct lafkuno_error *error = report->error;
     if (error->column >= 0) {
@@ -91,6 +91,7 @@ static void say_place(struct report *report) {
             if (report->node->format) say(report, " (%.60s)", report->node->format);
         }
     }
+    if (error->row >= 0) say(report, ", row %" PRId64, error->row);
     if (error->order >= 0) say_order(report);
     if (error->message[0]) {
         memmove(error->message, error->message + 2, strlen(error->message + 2) + 1);

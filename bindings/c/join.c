@@ -1,6 +1,7 @@
 /* Joins of columns, over the calls of lafkuno.h. */
 #include "layer.h"
 
+#include <inttypes.h>
 #include <stdlib.h>
 #include <string.h>
 
@@ -57,20 +58,12 @@ static void put_order(const struct lafkuno_order *order, uint64_t *words) {
     words[3] = order->end;
 }
 
-/* Whether a node can be the cause of 6, 7 or 8. */
-static bool may_cause(const struct ArrowSchema *schema, int ground) {
-    enum kind kind = format_of(storage_of(schema->format)).kind;
-    if (ground == LAFKUNO_TOO_MANY_ENTRIES) return schema->dictionary != NULL;
-    if (ground == LAFKUNO_RUN_END_TOO_LARGE) return kind == RUNS;
-    return ground == LAFKUNO_OFFSET_TOO_LARGE && (kind == STRING || kind == LIST || kind == LIST_VIEW || kind == DENSE);
-}
-
-/* The calls tell no node: it is known where only one can be the cause. */
-static int refuse_data(struct column *column, int ground) {
+/* 6 or 8 of an opening, which tells no node: it is known where there is only one dictionary. */
+static int refuse_opening(struct column *column, int ground) {
     const struct import *import = &column->import;
     uint32_t found = 0, at = 0;
     for (uint32_t node = 0; node < import->sources[1]; node++)
-        if (may_cause(import->schemas[node], ground)) {
+        if (import->schemas[node]->dictionary) {
             found++;
             at = node;
         }
@@ -78,9 +71,25 @@ static int refuse_data(struct column *column, int ground) {
     return refuse_plainly(column->report, ground);
 }
 
-static int refuse_order(struct column *column, const struct task *task, size_t k, uint8_t ground) {
-    at_order(column->report, (int64_t)k, &task->orders[k]);
-    return refuse_data(column, ground);
+/* Order `place` of a list from order `first` on: where it stopped behind those before it, and the numbers that clash. */
+static int refuse_order(struct column *column, const struct task *task, size_t first, int ground, const uint64_t *words, size_t place) {
+    struct lafkuno_error *error = column->report->error;
+    const struct lafkuno_tables *t = &column->tables;
+    uint64_t why[LAFKUNO_WHY + 1] = {0};
+    at_order(column->report, (int64_t)(first + place), &task->orders[first + place]);
+    if (ground < LAFKUNO_UNION_WITHOUT_FIELDS || ground > LAFKUNO_RUN_END_TOO_LARGE) return refuse_plainly(column->report, ground);
+    lafkuno_state_measure_orders(&column->state, t, words, place);
+    lafkuno_why_orders(column->state.plan, LAFKUNO_PLAN, column->state.parts, 0, t->sources, t->sources_len, t->lengths, t->lengths_len, t->places,
+                       t->places_len, t->body, t->body_len, column->state.counters, LAFKUNO_COUNTERS, 0, words + LAFKUNO_ORDER * place,
+                       LAFKUNO_ORDER, why, LAFKUNO_WHY + 1);
+    if (why[0] != (uint64_t)ground) return refuse_plainly(column->report, ground);
+    at_node(column->report, (int64_t)why[1], column->import.schemas[why[1]]);
+    error->row = (int64_t)why[2];
+    if (!why[3]) return refuse_plainly(column->report, ground);
+    error->found = why[3];
+    error->allowed = why[4];
+    return refuse(column->report, ground, "%s: %" PRIu64 " is needed, and %" PRIu64 " is the largest allowed", lafkuno_meaning(ground), why[3],
+                  why[4]);
 }
 
 /* Tries the orders on the counters, or carries them out, in lists as long as they may be. */
@@ -89,11 +98,10 @@ static int give_orders(struct column *column, const struct task *task, bool meas
     for (size_t k = 0, n; k < task->order_count; k += n) {
         for (n = 0; n < LAFKUNO_MOST_ORDERS && k + n < task->order_count && !backwards(&task->orders[k + n]); n++)
             put_order(&task->orders[k + n], words + LAFKUNO_ORDER * n);
-        if (!n) return refuse_order(column, task, k, LAFKUNO_NO_SUCH_ROWS);
+        if (!n) return refuse_order(column, task, k, LAFKUNO_NO_SUCH_ROWS, words, 0);
         uint32_t answer = measure ? lafkuno_state_measure_orders(&column->state, &column->tables, words, n)
                                   : lafkuno_state_orders(&column->state, &column->tables, words, n);
-        uint8_t ground = LAFKUNO_ANSWER_GROUND(answer);
-        if (ground) return refuse_order(column, task, k + LAFKUNO_ANSWER_PLACE(answer), ground);
+        if (answer) return refuse_order(column, task, k, LAFKUNO_ANSWER_GROUND(answer), words, LAFKUNO_ANSWER_PLACE(answer));
     }
     return 0;
 }
@@ -145,7 +153,7 @@ int column_prepare(struct column *column, struct report *report, const struct la
     code = bound_rows(&column->import, task->orders, task->order_count, task->most_rows);
     if (code) return code;
     ground = lafkuno_state_measure_open(&column->state, &column->tables);
-    if (ground) return refuse_data(column, ground);
+    if (ground) return refuse_opening(column, ground);
     return give_orders(column, task, true);
 }
 

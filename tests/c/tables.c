@@ -74,6 +74,18 @@ static void trips(struct lafkuno_state *state, const struct lafkuno_tables *tabl
     expect("an empty list", lafkuno_orders(many, 0, many, 0, tables->sources, 0, many, 0, many, 0,
                                            room, 0, state->counters, 0, state->room, 0, many, 0), LAFKUNO_DONE);
     expect("kept", !memcmp(counters, state->counters, sizeof counters) && !memcmp(room, state->room, sizeof room), 1);
+    uint64_t why[LAFKUNO_WHY + 1];
+    expect("why a list", lafkuno_state_why_orders(state, tables, trip, 4, why), LAFKUNO_ROOM_TOO_SMALL);
+    expect("its place", why[LAFKUNO_WHY], 3);
+    expect("its node and row", why[1] + why[2], 0);
+    expect("its bytes", why[3] == 24 && why[4] == 20, 1);
+    expect("why a long list", lafkuno_state_why_orders(state, tables, many, LAFKUNO_MOST_ORDERS + 1, why), LAFKUNO_CEILING_PASSED);
+    expect("zeros", why[1] + why[2] + why[3] + why[4] + why[5], 0);
+    expect("why a copy", lafkuno_state_why_copy(state, tables, 0, 3, 5, why), LAFKUNO_NO_SUCH_ROWS);
+    expect("why no copy", lafkuno_state_why_copy(state, tables, 0, 0, 2, why), LAFKUNO_DONE);
+    expect("why nulls", lafkuno_state_why_nulls(state, UINT64_MAX, why), LAFKUNO_ROOM_TOO_SMALL);
+    expect("bytes of 2^64 - 1 bits", why[3] == UINT64_MAX / 8 + 1, 1);
+    expect("why kept", !memcmp(counters, state->counters, sizeof counters) && !memcmp(room, state->room, sizeof room), 1);
     expect("a list", lafkuno_state_orders(state, tables, trip, 3), LAFKUNO_DONE);
     expect("its rows", state->counters[0], 5);
     expect("measured", lafkuno_state_measure_orders(state, tables, many, LAFKUNO_MOST_ORDERS), LAFKUNO_DONE);

@@ -27,6 +27,15 @@ static void answered(struct join *j, const char *what, uint8_t ground, uint32_t 
     if (ground != LAFKUNO_DONE) fputs(kept ? " kept" : " CHANGED", stdout);
 }
 
+/* What stops an order, which is asked before it is given; it must have the order's ground, and zeros where that is 0. */
+static void told(uint8_t ground, const uint64_t *why) {
+    int some = (why[1] | why[2] | why[3] | why[4]) != 0;
+    if (why[0] != ground || (some && ground == LAFKUNO_DONE)) fputs(" WHY", stdout);
+    else if (some)
+        printf(" why %llu %llu %llu %llu", (unsigned long long)why[1], (unsigned long long)why[2], (unsigned long long)why[3],
+               (unsigned long long)why[4]);
+}
+
 static void show_parts(struct join *j) {
     keep_all(j);
     uint32_t n = lafkuno_part_count(LONGS(PLAN));
@@ -51,16 +60,25 @@ void open_join(struct join *j, uint64_t choices) {
 }
 
 void copy_rows(struct join *j, uint32_t source, uint64_t start, uint64_t end) {
+    uint64_t why[LAFKUNO_WHY];
     keep_all(j);
+    lafkuno_why_copy(LONGS(PLAN), LONGS(PARTS), WORDS(SOURCES), LONGS(LENGTHS), LONGS(PLACES), BYTES(BODY), LONGS(COUNTERS), j->lent[ROOM].size,
+                     source, start, end, why, LAFKUNO_WHY);
+    slices_kept(j->lent, SLICES, 0);
     uint8_t g = lafkuno_copy(LONGS(PLAN), LONGS(PARTS), WORDS(SOURCES), LONGS(LENGTHS), LONGS(PLACES), BYTES(BODY), LONGS(COUNTERS), BYTES(ROOM),
                              source, start, end);
     answered(j, "copy", g, SET(COUNTERS) | SET(ROOM));
+    told(g, why);
 }
 
 void add_nulls(struct join *j, uint64_t n) {
+    uint64_t why[LAFKUNO_WHY];
     keep_all(j);
+    lafkuno_why_nulls(LONGS(PLAN), LONGS(PARTS), LONGS(COUNTERS), j->lent[ROOM].size, n, why, LAFKUNO_WHY);
+    slices_kept(j->lent, SLICES, 0);
     uint8_t g = lafkuno_nulls(LONGS(PLAN), LONGS(PARTS), LONGS(COUNTERS), BYTES(ROOM), n);
     answered(j, "nulls", g, SET(COUNTERS) | SET(ROOM));
+    told(g, why);
 }
 
 /* ---- finishing */

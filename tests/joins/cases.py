@@ -120,7 +120,7 @@ def gaps(script):
     short = Type('+r', Type('s', nullable=False), Type('C'))
     limit = [('nulls', 32764), ('nulls', 4), ('nulls', 2), ('nulls', 1), ('nulls', 1)]
     f = run(script, 'one run for gaps: up to the last row', [make(short, [1])], limit + DONE, keep=True, gaps=True).node.finished()
-    assert ends_of(f, 2) == [32767] and script.lines[-1].split(' finish')[0].endswith('nulls 0 nulls 7 kept nulls 0 nulls 0 nulls 7 kept')
+    assert ends_of(f, 2) == [32767] and script.lines[-1].split(' finish')[0].endswith('nulls 0 nulls 7 kept why 0 0 32768 32767 nulls 0 nulls 0 nulls 7 kept why 0 0 32768 32767')
     run(script, 'one run for gaps: no room for a run more', [column], [('nulls', 1), ('copy', 0, 0, 1), ('nulls', 1), ('nulls', 1)] + DONE, keep=True, gaps=True, short=(0, 4))
     nulls = [('nulls', 1), ('nulls', 2), ('copy', 0, 0, 1), ('nulls', 3), ('copy', 0, 1, 2), ('nulls', 4), ('nulls', 5)]
     dense = Type('+ud:1,2', Type('+r', ends, Type('C')), Type('C'))

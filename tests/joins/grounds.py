@@ -129,7 +129,7 @@ def nulls(script):
     short = Type('+r', Type('s', nullable=False), hard)
     run(script, '5 before 7', [make(short, [(1, 5)])], [('nulls', 40000), ('copy', 0, 0, 1)], keep=True)
     run(script, '3 on a destination without nulls', [make(Type('u'), [b'a'])], [('nulls', 0), ('nulls', 1), ('copy', 0, 0, 1)] + DONE)
-    run(script, '13 of nulls beyond every room', [make(Type('u'), [b'a'])], [('told', 'N 18446744073709551615', ' nulls 13 kept'), ('told', 'N 9223372036854775807', ' nulls 13 kept'), ('copy', 0, 0, 1)] + DONE, keep=True)
+    run(script, '13 of nulls beyond every room', [make(Type('u'), [b'a'])], [('told', 'N 18446744073709551615', ' nulls 13 kept why 0 0 2305843009213693952 1'), ('told', 'N 9223372036854775807', ' nulls 13 kept why 0 0 1152921504606846976 1'), ('copy', 0, 0, 1)] + DONE, keep=True)
 
 
 def run_ends(script):
@@ -175,7 +175,7 @@ def offsets(script):
     run(script, '6 of a list before 7 below it', [ends('i', (1 << 31) - 1)], [('copy', 0, 0, 2), ('copy', 0, 1, 2)] + DONE)
     dense = Type('+ud:0', Type('C'))
     u = make(dense, [(0, 1)])
-    run(script, '6 dense: nulls of 2^31 and one more', [u], [('told', 'N 2147483648', ' nulls 13 kept'), ('told', 'N 2147483649', ' nulls 6 kept'), ('copy', 0, 0, 1), ('told', 'N 2147483648', ' nulls 6 kept'), ('told', 'N 2147483647', ' nulls 13 kept')], keep=True)
+    run(script, '6 dense: nulls of 2^31 and one more', [u], [('told', 'N 2147483648', ' nulls 13 kept why 0 0 2147483648 1'), ('told', 'N 2147483649', ' nulls 6 kept why 0 2147483648 2147483648 2147483647'), ('copy', 0, 0, 1), ('told', 'N 2147483648', ' nulls 6 kept why 0 2147483647 2147483648 2147483647'), ('told', 'N 2147483647', ' nulls 13 kept why 0 0 2147483648 1')], keep=True)
 
 
 def many_bytes(script):
@@ -196,10 +196,35 @@ def many_bytes(script):
     script.lend(table, 800)
     script.text.append('O 0')
     script.answer('open', 0)
-    for a, e, ground in ((0, 128, 6), (1, 129, 13), (0, 127, 13), (0, 129, 6)):
+    last = (3, 63, 1 << 31, (1 << 31) - 1)
+    for a, e, ground, why in ((0, 128, 6, last), (1, 129, 13, (0, 0, 1024, 100)), (0, 127, 13, (0, 0, 1016, 100)), (0, 129, 6, last)):
         script.text.append('E 0 %d %d' % (a, e))
-        script.answer('copy', ground)
+        script.answer('copy', ground, why)
     script.end()
+
+
+# ---- what stopped an order: counters that are set by hand stand for orders that would take long
+
+def stops(script):
+    text = make(Type('u'), [b'ab', b'cd', b'ef'], before=[b'x'])
+    run(script, 'why: the first row of a byte string that clashes', [text], [('copy', 0, 0, 1), ('told', 'K 96 2147483644 E 0 0 3', ' copy 6 kept why 0 1 2147483648 2147483647')])
+    stops_of = make(STOPS, [[1], [2, 3], [4, 5], [6]], before=[[7]])
+    run(script, 'why: the first row of a list that clashes', [stops_of], [('copy', 0, 0, 1), ('told', 'K 96 2147483645 E 0 0 4', ' copy 6 kept why 0 1 2147483648 2147483647')])
+    ends = Type('+r', Type('l', nullable=False), Type('C'))
+    run(script, 'why: 2^64 - 1 nulls on run ends', [make(ends, [1])], [('copy', 0, 0, 1), ('told', 'N 18446744073709551615', ' nulls 7 kept why 0 0 18446744073709551615 9223372036854775807')], keep=True)
+    dense = Type('+L', Type('+r', Type('l', nullable=False), Type('+vL', Type('+ud:0,1', Type('C'), Type('s')))))
+    column = make(dense, [[[(1, 9)], [(0, 1), (0, 2), (1, 3), (0, 4), (0, 5)]]])
+    run(script, 'why: a dense union at depth 4', [column], [('copy', 0, 0, 1), ('told', 'K 96 2147483646 E 0 0 1', ' copy 6 kept why 4 3 2147483648 2147483647')])
+    short = Type('+r', Type('s', nullable=False), Type('C'))
+    union = Type('+ud:0', short)
+    rows = Column(union, 300)
+    rows.one, rows.two, rows.children = bytes(300), numbers([0] * 300, 4), [run_column(short, [1], make(Type('C'), [9]), 0, 1)]
+    view = Column(Type('+vl', union), 110)
+    view.one, view.two, view.children = numbers([0] * 110, 4), numbers([300] * 110, 4), [rows]
+    runs = run_column(Type('+r', END, view.type), list(range(1, 111)), view, 0, 110)
+    deep = lists_of(Type('+l', runs.type), [0, 100, 110], runs)
+    run(script, 'why: run ends at depth 5', [deep], [('copy', 0, 0, 2), ('copy', 0, 0, 1), ('copy', 0, 1, 2)] + DONE)
+    assert ' copy 7 kept why 5 0 32768 32767 copy 0 copy 7 kept why 5 0 32768 32767 finish' in script.lines[-1]
 
 
 # ---- numbers near 2^64: no sum of a start and a size, nor entries times their width, wraps into the body or the room
@@ -259,7 +284,7 @@ def far_numbers(script):
         places = list(laid_of(c).places)
         places[j] = TOP
         told = 'P 9 %s E 0 0 3' % ' '.join(map(str, places))
-        run(script, 'foreign: place %d is 2^64 - 1' % j, [c], [('copy', 0, 0, 3), ('told', told, ' copy 12 kept' if j in (1, 3) else ' copy 13 kept')])
+        run(script, 'foreign: place %d is 2^64 - 1' % j, [c], [('copy', 0, 0, 3), ('told', told, ' copy 12 kept' if j in (1, 3) else ' copy 13 kept why 0 0 6 3')])
 
 
 # ---- a state, sources or room other than the last call left them
@@ -270,7 +295,8 @@ def foreign(script):
     tell = lambda name, *steps: run(script, 'foreign: ' + name, [c], [first] + [('told',) + s for s in steps])
     tell('a plan of zeros', ('Q 872 0 E 0 0 1', ' copy 14 kept'), ('N 1', ' nulls 14 kept'))
     tell('no plan', ('Q 0 0 E 0 0 1', ' copy 14 kept'), ('N 0', ' nulls 14 kept'))
-    tell('counters of ones', ('K 96 18446744073709551615 E 0 0 1', ' copy 13 kept'), ('N 1', ' nulls 13 kept'), ('E 0 1 1', ' copy 13 kept'))
+    full = ' kept why 0 0 2305843009213693952 1'
+    tell('counters of ones', ('K 96 18446744073709551615 E 0 0 1', ' copy 13' + full), ('N 1', ' nulls 13' + full), ('E 0 1 1', ' copy 13' + full))
     tell('95 counters', ('K 95 0 E 0 0 1', ' copy 14 kept'), ('N 1', ' nulls 14 kept'), ('W 0 0', ' finish 14 kept'))
     tell('97 counters', ('K 97 0 E 0 0 1', ' copy 14 kept'), ('N 0', ' nulls 14 kept'))
     tell('a room that is cut', ('H 5 E 0 0 0', ' copy 14 kept'), ('N 0', ' nulls 14 kept'), ('W 0 0', ' finish 14 kept'))
@@ -297,5 +323,6 @@ def ground_cases(script):
     run_ends(script)
     offsets(script)
     many_bytes(script)
+    stops(script)
     far_numbers(script)
     foreign(script)

@@ -1,6 +1,6 @@
 """A join as document 01 and the text of arrow-data 60.1.0's src/transform have it, on columns of arrow.py: opening, copies, nulls and
-finishing with their grounds, and the text that the program prints for each call. One run for gaps is W14's choice, which the Rust does not
-have."""
+finishing with their grounds, and the text that the program prints for each call. One run for gaps is W14's choice, and what stopped an order is
+W10's answer, which the Rust does not have."""
 import copy
 from arrow import OFFSETS, WIDTH, Column, Rows, bits, entry, number, numbers, shown_rows
 
@@ -9,14 +9,16 @@ BUFFERS = {'number': 1, 'dictionary': 1, 'string': 2, 'view': 1, 'list': 1, 'lis
 
 # offsets, sizes, positions and run ends of so many bytes stay below
 LIMIT = {2: 1 << 15, 4: 1 << 31, 8: 1 << 63}
+TOP = (1 << 64) - 1
 
 
 class Refused(Exception):
     pass
 
 
-def refuse(ground):
-    raise Refused(ground)
+def refuse(ground, node=0, row=0, needed=0, allowed=0):
+    """What stopped an order: the ground, the node in tree order, the row within its range, and for 6, 7 and 13 two numbers."""
+    raise Refused(ground, node, row, min(needed, TOP), allowed)
 
 
 def text_of(buffer):
@@ -94,7 +96,7 @@ class Node:
         first, last = entry(c.one, w, slot), len(self.two)
         for k in range(slot + 1, slot + n + 1):
             new = last + entry(c.one, w, k) - first
-            if new >= LIMIT[w]: refuse(6)
+            if new >= LIMIT[w]: refuse(6, self.at, k - slot - 1, new, LIMIT[w] - 1)
             self.one += number(new, w)
         self.two += c.two[first:entry(c.one, w, slot + n)]
 
@@ -111,7 +113,7 @@ class Node:
         first, last = entry(c.one, w, slot), child.rows
         for k in range(slot + 1, slot + n + 1):
             new = last + entry(c.one, w, k) - first
-            if new >= LIMIT[w]: refuse(6)
+            if new >= LIMIT[w]: refuse(6, self.at, k - slot - 1, new, LIMIT[w] - 1)
             self.one += number(new, w)
         child.copy(s, first, entry(c.one, w, slot + n) - first)
 
@@ -119,7 +121,7 @@ class Node:
         w, child = OFFSETS[self.type.format], self.children[0]
         for k in range(slot, slot + n):
             size = entry(c.two, w, k)
-            if child.rows + size >= LIMIT[w]: refuse(6)
+            if child.rows + size >= LIMIT[w]: refuse(6, self.at, k - slot, child.rows + size, LIMIT[w] - 1)
             self.one += number(child.rows, w)
             self.two += number(size, w)
             child.copy(s, entry(c.one, w, k), size)
@@ -131,7 +133,7 @@ class Node:
     def copy_dense(self, s, c, slot, n):
         for k in range(slot, slot + n):
             child = self.children[self.type.ids().index(c.one[k])]
-            if child.rows >= LIMIT[4]: refuse(6)
+            if child.rows >= LIMIT[4]: refuse(6, self.at, k - slot, child.rows, LIMIT[4] - 1)
             self.one.append(c.one[k])
             self.two += number(child.rows, 4)
             child.copy(s, entry(c.two, 4, k), 1)
@@ -140,7 +142,7 @@ class Node:
         if n == 0: return
         ends, values = self.children
         w, source = WIDTH[ends.type.format], c.children[0]
-        if self.rows + n >= LIMIT[w]: refuse(7)
+        if self.rows + n >= LIMIT[w]: refuse(7, self.at, 0, self.rows + n, LIMIT[w] - 1)
         at = [entry(source.one, w, source.offset + k) for k in range(source.length)]
         runs = [k for k, e in enumerate(at) if e > slot and (k == 0 or at[k - 1] < slot + n)]
         values.copy(s, runs[0], len(runs))
@@ -176,10 +178,10 @@ class Node:
         self.two += bytes(n * OFFSETS[self.type.format])
 
     def home(self):
-        if not self.children: refuse(4)
+        if not self.children: refuse(4, self.at)
         for i, c in zip(self.type.ids(), self.children):
             if c.type.nullable: return i, c
-        refuse(5)
+        refuse(5, self.at)
 
     def nulls_sparse(self, n):
         i, _ = self.home()
@@ -188,7 +190,7 @@ class Node:
 
     def nulls_dense(self, n):
         i, c = self.home()
-        if c.rows + n > LIMIT[4]: refuse(6)
+        if c.rows + n > LIMIT[4]: refuse(6, self.at, max(LIMIT[4] - c.rows, 0), max(LIMIT[4], c.rows), LIMIT[4] - 1)
         self.one += bytes([i]) * n
         self.two += numbers(range(c.rows, c.rows + n), 4)
         c.nulls(n)
@@ -197,7 +199,7 @@ class Node:
         ends, values = self.children
         w = WIDTH[ends.type.format]
         if not self.grows: values.nulls(1)
-        if self.rows + n >= LIMIT[w]: refuse(7)
+        if self.rows + n >= LIMIT[w]: refuse(7, self.at, 0, self.rows + n, LIMIT[w] - 1)
         if self.grows: del ends.one[-w:]
         else: ends.rows += 1
         ends.one += number(self.rows + n, w)
@@ -225,6 +227,9 @@ class Join:
     """One join over lent room: `table` has a start and a size for each part. With `gaps` there is one run for a gap."""
     def __init__(self, columns, keep, same, gaps=False):
         self.columns, self.node, self.table, self.room = columns, Node(columns[0].type, columns, keep, same, gaps), None, b''
+        for k, node in enumerate(self.node.nodes()): node.at = k
+        # of the last order: the ground, the node, the row, the number needed and the largest allowed
+        self.why = (0, 0, 0, 0, 0)
 
     def all_parts(self):
         return [(k, b, buffer) for k, n in enumerate(self.node.nodes()) for b, buffer in n.parts()]
@@ -239,16 +244,21 @@ class Join:
     def settle(self, made):
         """13 last; else what was made is written."""
         parts = [(x, y) for x, y in zip(made.all_parts(), self.table)] if self.table is not None else []
-        if any(len(x[2]) > y[1] for x, y in parts): return 13
+        for x, y in parts:
+            if len(x[2]) > y[1]: return self.answer(13, x[0], 0, len(x[2]), y[1])
         for x, y in parts: self.room[y[0]:y[0] + len(x[2])] = x[2]
         self.node = made.node
-        return 0
+        return self.answer(0)
+
+    def answer(self, ground, *more):
+        self.why = (ground,) + (more or (0, 0, 0, 0))
+        return ground
 
     def tried(self, work):
         made = copy.copy(self)
         made.node = duplicate(self.node)
         try: work(made.node)
-        except Refused as r: return r.args[0]
+        except Refused as r: return self.answer(*r.args)
         return self.settle(made)
 
     def open(self):
@@ -256,24 +266,24 @@ class Join:
         return self.tried(lambda node: node.open())
 
     def copy(self, s, a, e):
-        if s >= len(self.columns): return 1
-        if e < a or e > self.columns[s].length: return 2
+        if s >= len(self.columns): return self.answer(1)
+        if e < a or e > self.columns[s].length: return self.answer(2)
         return self.tried(lambda node: node.copy(s, a, e - a))
 
     def nulls(self, n):
-        if not self.node.keeps: return 3
+        if not self.node.keeps: return self.answer(3)
         return self.tried(lambda node: node.nulls(n))
 
     def trip(self, orders):
         """A list of orders, all or none: the ground and the place of the first that is refused."""
-        if len(orders) > 256: return 9, 0
+        if len(orders) > 256: return self.answer(9), 0
         node, room = self.node, bytes(self.room)
         for place, order in enumerate(orders):
             ground = self.copy(*order[1:]) if order[0] == 'copy' else self.nulls(*order[1:])
             if ground:
                 self.node, self.room[:] = node, room
                 return ground, place
-        return 0, 0
+        return self.answer(0), 0
 
     def finish_text(self):
         text = ' finish 0 %d' % self.node.null_count

@@ -40,8 +40,9 @@ class Script:
     def end(self):
         self.text.append('.')
 
-    def answer(self, what, ground):
-        self.say(' %s %d' % (what, ground) + (' kept' if ground else ''))
+    def answer(self, what, ground, why=()):
+        """`why`: node, row, needed and allowed of a refused order, told where one is not 0."""
+        self.say(' %s %d' % (what, ground) + (' kept' if ground else '') + (' why %d %d %d %d' % why if any(why) else ''))
         return ground
 
     def step(self, join, step):
@@ -49,10 +50,10 @@ class Script:
         kind, rest = step[0], step[1:]
         if kind == 'copy':
             self.text.append('E %d %d %d' % rest)
-            self.answer('copy', join.copy(*rest))
+            self.answer('copy', join.copy(*rest), join.why[1:])
         elif kind == 'nulls':
             self.text.append('N %d' % rest)
-            self.answer('nulls', join.nulls(*rest))
+            self.answer('nulls', join.nulls(*rest), join.why[1:])
         elif kind == 'finish':
             self.text.append('W 0 0')
             self.say(join.finish_text())

@@ -38,7 +38,7 @@ def checked_rows(script):
     f = run(script, 'K4 one row', [long_run], [('copy', 0, 0, 32766), ('copy', 0, 32766, 32767)] + DONE).node.finished()
     assert ends_of(f, 2) == [32766, 32767]
     j = run(script, 'K4 two rows', [long_run], [('copy', 0, 0, 32766), ('copy', 0, 32765, 32767), ('copy', 0, 0, 1)] + DONE)
-    assert script.lines[-1].split(' finish')[0].endswith('copy 0 copy 7 kept copy 0')
+    assert script.lines[-1].split(' finish')[0].endswith('copy 0 copy 7 kept why 0 0 32768 32767 copy 0')
 
     ten, stop = strings('u', [0, 10], b'kilometres'), strings('u', [0, 3, 3, 7], b'vanstop')
     steps = [('copy', 0, 0, 1), ('copy', 1, 1, 3)]

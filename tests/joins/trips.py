@@ -1,6 +1,6 @@
 """Random lists of orders through lafkuno_orders, all or none, against join.py: python3 tests/joins/trips.py LIBRARY [ROUNDS]
-Every kind of column, every second join with one run for gaps, with enough room and with a part that is too small; the answer, the room and
-the counters are compared after each list."""
+Every kind of column, every second join with one run for gaps, with enough room and with a part that is too small; what stops each list is asked
+before it is given, and the answer, the room and the counters are compared after it."""
 import ctypes
 import random
 import sys
@@ -55,6 +55,16 @@ class Lent:
         answer = self.library.lafkuno_orders(*self.flat(lent))
         return answer % 256, answer // 256
 
+    def why(self, orders):
+        """What stops the list: five numbers and the place; all that is lent is only read."""
+        sources, _, _, lengths, places, _, body = self.tables
+        self.library.lafkuno_why_orders.restype = ctypes.c_uint8
+        answer = lend(ctypes.c_uint64, [7] * 6)
+        lent = [self.plan, self.parts, sources, lengths, places, body, self.counters, (ctypes.c_uint64(self.size.value),), lend(ctypes.c_uint64, words(orders)), answer]
+        ground = self.library.lafkuno_why_orders(*self.flat(lent))
+        assert ground == answer[0][0], (ground, list(answer[0]))
+        return tuple(answer[0])
+
 
 def trial(library, r, t, rows, others, seen):
     columns = [make(t, rows, before=rows[:2]), make(t, others)]
@@ -75,8 +85,11 @@ def trial(library, r, t, rows, others, seen):
     assert lent.open() == due, (t.format, due)
     if due: return
     for orders in lists:
-        before = list(lent.counters[0])
+        before, kept = list(lent.counters[0]), bytes(lent.room)
+        why = lent.why(orders)
+        assert list(lent.counters[0]) == before and bytes(lent.room) == kept
         due = join.trip(orders)
+        assert why == join.why + due[1:], (t.format, orders, why, join.why, due)
         answer = lent.orders(orders)
         assert answer == due, (t.format, orders, answer, due)
         assert bytes(lent.room)[:room] == bytes(join.room), (t.format, orders)

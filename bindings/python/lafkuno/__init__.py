@@ -39,7 +39,7 @@ class Error(Exception):
     def __init__(self, failure):
         super().__init__(failure.message.decode("utf-8", "replace"))
         self.code = failure.code
-        for name in ("column", "source", "order", "node"):
+        for name in ("column", "source", "order", "node", "row"):
             value = getattr(failure, name)
             setattr(self, name, None if value < 0 else value)
         self.found, self.allowed = failure.found, failure.allowed
@@ -84,7 +84,7 @@ class Array:
 
 def _check(code):
     if code:
-        failure = Failure(code, -1, -1, -1, -1, 0, 0, library.lafkuno_meaning(code))
+        failure = Failure(code, -1, -1, -1, -1, -1, 0, 0, library.lafkuno_meaning(code))
         raise MemoryError(str(Error(failure))) if code == 100 else Error(failure)
 
 

@@ -62,6 +62,7 @@ class Failure(Structure):
         ("source", c_int64),
         ("order", c_int64),
         ("node", c_int64),
+        ("row", c_int64),
         ("found", c_uint64),
         ("allowed", c_uint64),
         ("message", c_char * 512),

@@ -39,6 +39,16 @@ def test_one_run_for_gaps():
         assert numbers(joined) == [7, 7, 7, None, None, None]
 
 
+def test_what_stopped_an_order():
+    ends = Column(Type("s", name="run_ends"), 1, 0, [None, struct.pack("<h", 32767)])
+    van = Column(Type("+r", children=[Type("s", name="run_ends"), Type("i", True, name="values")], name="ignition"), 32767, 0, [], [ends, i32([7])])
+    error = refused(
+        lambda: lafkuno.join([van], [(0, 0, 32766), lafkuno.gap(0), (0, 5, 7)], keep_nulls=True),
+        "node 0 'ignition' (+r), row 0, order 2 (copy 0 5..7): a run end does not fit its type: 32768 is needed, and 32767 is the largest allowed (ground 7)",
+    )
+    assert (error.code, error.node, error.row, error.order, error.found, error.allowed) == (7, 0, 0, 2, 32768, 32767)
+
+
 def test_sliced_lists():
     for format, code in [("+l", "i"), ("+L", "q")]:
         item = i32([9, 20, 21, 22, 23, 24], offset=1, name="item")
@@ -114,7 +124,7 @@ def test_errors():
         lambda: lafkuno.join([a], [lafkuno.rows(0, 0, 1), lafkuno.rows(0, 2, 4)]),
         "order 1 (copy 0 2..4): the end is before the start, or beyond the source's length (ground 2)",
     )
-    assert (error.code, error.order, error.source, error.column) == (2, 1, None, None)
+    assert (error.code, error.order, error.source, error.column, error.node, error.row) == (2, 1, None, None, None, None)
     error = refused(
         lambda: lafkuno.join([i32([1], format="l"), i32([1], format="tss:")], []),
         "source 1, node 0 'fuel' (tss:): the format is 'tss:', and 'l' in source 0 (ground 11)",

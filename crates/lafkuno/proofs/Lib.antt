@@ -2,4 +2,5 @@
 pub mod Laws
 pub mod FrameCalls
 pub mod TripCalls
+pub mod WhyCalls
 pub mod Sums

@@ -2,4 +2,5 @@
 pub mod Calls
 pub mod Beside
 pub mod Trips
+pub mod Why
 pub mod Sums

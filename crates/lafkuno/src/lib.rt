@@ -22,6 +22,7 @@ mod beside;
 mod means;
 mod reading;
 mod trips;
+mod why;
 
 // ---- opening a join
 

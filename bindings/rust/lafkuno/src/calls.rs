@@ -4,8 +4,10 @@
 //! and only those behind `&mut` are written.
 
 mod trips;
+mod why;
 
 pub use trips::{measure_orders, orders, Ended, MOST_ORDERS, ORDER};
+pub use why::{why_copy, why_nulls, why_orders, Why, WHY};
 
 /// A position in a body or a room, and a count of bytes there.
 pub type Position = u64;

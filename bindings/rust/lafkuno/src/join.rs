@@ -2,10 +2,10 @@
 //! sizes of all parts are known.
 
 use crate::buffer::zeros;
-use crate::calls::{self, FinishedTables, Position, Read, RowAnswer, RunAnswer, COUNTERS, MOST_BYTES, MOST_ORDERS, PLAN, TREE};
+use crate::calls::{self, FinishedTables, Position, Read, RowAnswer, RunAnswer, Why, COUNTERS, MOST_BYTES, MOST_ORDERS, PLAN, TREE};
 use crate::lent::Raise;
 use crate::work::Work;
-use crate::{explain, Buffer, Column, Error, Ground, Lent, Row};
+use crate::{explain, stop, Buffer, Column, Error, Ground, Lent, Row};
 use std::collections::HashMap;
 use std::ops::Range;
 
@@ -158,7 +158,7 @@ impl Join {
             Order::Copy { source, start, end } => calls::measure_copy(&self.plan, &x, &mut counters, number(source), start, end),
             Order::Nulls(n) => calls::measure_nulls(&self.plan, &mut counters, n),
         };
-        Error::check(answer).map_err(|e| self.told(order, None, self.len(), e))?;
+        Error::check(answer).map_err(|e| self.told(order, None, &self.counters, e))?;
         self.room = self.room_for(&counters)?;
         self.counters = counters;
         self.orders.push(order);
@@ -168,11 +168,31 @@ impl Join {
         Ok(())
     }
 
-    /// A refused order with its number, its place in a list, and what it asked for behind so many rows.
-    fn told(&self, order: Order, list: Option<usize>, behind: u64, error: Error) -> Error {
-        let number = self.given;
+    /// What stops an order, for a caller who wants it without giving the order: zeros where nothing does. The room is lent later, so that it is
+    /// never too small.
+    pub fn why(&self, order: Order) -> Why {
+        self.why_from(order, &self.counters)
+    }
+
+    fn why_from(&self, order: Order, counters: &[u64; COUNTERS]) -> Why {
+        let x = self.lent.tables();
+        let why = match order {
+            Order::Copy { source, start, end } => calls::why_copy(&self.plan, &[], &x, counters, 0, number(source), start, end),
+            Order::Nulls(n) => calls::why_nulls(&self.plan, &[], counters, 0, n),
+        };
+        // no parts are lent, which is asked behind the walk
+        match Ground::from_number(why.ground) {
+            Some(Ground::BadParts) => Why::default(),
+            _ => why,
+        }
+    }
+
+    /// A refused order with its number, its place in a list, what it asked for behind the rows of the counters, and what stopped it.
+    fn told(&self, order: Order, list: Option<usize>, counters: &[u64; COUNTERS], error: Error) -> Error {
+        let (number, behind) = (self.given, counters[0]);
         error.at(|place| {
             (place.order, place.place) = (Some(number), list);
+            stop::tell(&self.lent, self.why_from(order, counters), place);
             place.found = match order {
                 Order::Nulls(n) => format!("{n} nulls behind {behind} rows"),
                 Order::Copy { source, start, end } => match self.lent.sources.get(source.saturating_mul(2)) {

@@ -39,6 +39,7 @@ mod orders;
 mod refusal;
 mod rows;
 mod rules;
+mod stop;
 mod sums;
 pub mod text;
 mod trim;

@@ -124,6 +124,16 @@ impl Ground {
         }
     }
 
+    /// Whether a refused order of this ground has a node at which it stopped.
+    pub(crate) fn names_node(self) -> bool {
+        matches!(self.number(), 4..=7 | 13)
+    }
+
+    /// Whether it has the number that is needed and the largest that is allowed.
+    pub(crate) fn has_numbers(self) -> bool {
+        matches!(self.number(), 6 | 7 | 13)
+    }
+
     /// Who caused it.
     pub fn cause(self) -> Cause {
         match self.number() {
@@ -152,6 +162,14 @@ pub struct Place {
     pub source: Option<usize>,
     /// The node of the source in depth-first order, the root being 0.
     pub node: Option<usize>,
+    /// The way to the node at which an order stopped, by the names of the fields.
+    pub path: Option<String>,
+    /// The row at which an order stopped, within the range that the node was handed.
+    pub row: Option<u64>,
+    /// Of a number that does not fit: the number that is needed.
+    pub needed: Option<u64>,
+    /// .. and the largest that is allowed.
+    pub allowed: Option<u64>,
     /// The order, counted from 1, refused ones included; a list of orders counts as one.
     pub order: Option<usize>,
     /// Where it stands in the list that it was given in, counted from 0.
@@ -165,12 +183,18 @@ impl fmt::Display for Place {
         let mut words = vec![];
         words.extend(self.column.as_ref().map(|name| format!("column `{name}`")));
         words.extend(self.source.map(|s| format!("source {s}")));
-        words.extend(self.node.map(|k| format!("node {k}")));
+        let path = self.path.as_ref().map_or(String::new(), |path| format!(" (`{path}`)"));
+        words.extend(self.node.map(|k| format!("node {k}{path}")));
+        words.extend(self.row.map(|r| format!("row {r}")));
         words.extend(self.order.map(|k| format!("order {k}")));
         words.extend(self.place.map(|k| format!("place {k}")));
         f.write_str(&words.join(", "))?;
         f.write_str(if words.is_empty() || self.found.is_empty() { "" } else { ": " })?;
-        f.write_str(&self.found)
+        f.write_str(&self.found)?;
+        match (self.needed, self.allowed) {
+            (Some(needed), Some(allowed)) => write!(f, "; {needed} is needed there, and {allowed} is the largest allowed"),
+            _ => Ok(()),
+        }
     }
 }
 

@@ -57,6 +57,15 @@ fn the_status_is_the_same_with_and_without_go_on() {
 }
 
 #[test]
+fn what_stopped_an_order_is_told() {
+    let output = told(&["join", "-"], b"type +r(s, C?)\nkeep nulls\nsource a\nrows 1 1\nnulls 32766\ncopy a 0..2\n");
+    let due = "order 2, line 6 (`copy a 0..2`): refused, ground 7: ";
+    let numbers = "node 0 (`column`), row 0, order 2: rows 0..2 of source 0, which has 2, behind 32766 rows; 32768 is needed there, and 32767 is the largest allowed\n";
+    let text = text(&output.stderr);
+    assert!(text.starts_with(due) && text.ends_with(numbers) && output.status.code() == Some(1), "{text}");
+}
+
+#[test]
 fn the_demo_books_two_kilometres() {
     let output = run(&["demo"]);
     assert!(text(&output.stdout).contains("Booked on the trip: 2000 m, 270 ml."));

@@ -4,6 +4,7 @@ use crate::convert::{difference, is_kept, ordered_null, Convert};
 use crate::generate::{orders, Generate, Order};
 use crate::guard::{Guard, Guarded};
 use crate::random::Random;
+use crate::why::{self, Short};
 use lafkuno::calls::{self, FinishedTables, Position, COUNTERS, PLAN};
 use lafkuno::{Column, Join, Lent, Reader, Row, Type};
 use original::{ArrayData, MutableArrayData};
@@ -170,6 +171,7 @@ impl Trial<'_> {
         }
         let (mut accepted, mut book): (Vec<Order>, Vec<Row>) = (vec![], vec![]);
         let mut measured = counters.get().to_vec();
+        let formats = why::formats(self.ty);
         for order in self.orders {
             let mut due = give(&mut mutable, order).map_or_else(|e| e.ground(), |()| 0);
             let measure = match *order {
@@ -177,11 +179,20 @@ impl Trial<'_> {
                 Order::Nulls(n) => calls::measure_nulls(plan.get(), &mut measured, n),
             };
             same(&format!("measured ground of {order:?}"), measure, due)?;
+            let mut short: Short = None;
             if due == 0 {
                 let needs: Vec<_> = (0..parts.get().len() / 2).map(|p| calls::needed_bytes(plan.get(), &measured, p as u32) as usize).collect();
                 same("bytes that are needed", &needs, &mutable.part_sizes())?;
                 due = if holds(&needs) { 0 } else { 13 };
+                let p = needs.iter().zip(parts.get().chunks(2)).position(|(need, part)| (part[1] as usize) < *need);
+                short = p.and_then(|p| Some((calls::part_at(plan.get(), p)?.0, needs[p] as u64, parts.get()[2 * p + 1])));
             }
+            let size = room.get().len() as u64;
+            let stopped = match *order {
+                Order::Copy { source, start, end } => calls::why_copy(plan.get(), parts.get(), &x, counters.get(), size, source, start, end),
+                Order::Nulls(n) => calls::why_nulls(plan.get(), parts.get(), counters.get(), size, n),
+            };
+            why::judge(stopped, due, &formats, short).map_err(|what| format!("{order:?}: {what}"))?;
             let (old_counters, old_room) = (counters.get().to_vec(), room.get().to_vec());
             let answer = match *order {
                 Order::Copy { source, start, end } => {

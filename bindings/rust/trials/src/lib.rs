@@ -13,6 +13,7 @@ pub mod memory;
 pub mod passage;
 pub mod random;
 pub mod trips;
+pub mod why;
 pub mod wider;
 
 /// The examples of docs/USING.md.

@@ -158,7 +158,25 @@ impl Memory {
         [sources, formats, schema, lengths, places, buffers, body, parts, plan, counters, room, new_lengths, new_nulls, new_places, new_buffers, tree]
     }
 
+    /// The ground of what stops an order, which is asked before it is given.
+    fn stopped(&self, call: &Call) -> Option<u8> {
+        let (x, plan, parts, counters, room) = (self.tables(), self.plan.get(), self.parts.get(), self.counters.get(), self.room.get().len() as u64);
+        match call {
+            Call::Copy(source, start, end) => Some(calls::why_copy(plan, parts, &x, counters, room, *source, *start, *end).ground),
+            Call::Nulls(n) => Some(calls::why_nulls(plan, parts, counters, room, *n).ground),
+            Call::List(words) => Some(calls::why_orders(plan, parts, &x, counters, room, words).0.ground),
+            _ => None,
+        }
+    }
+
     pub fn make(&mut self, call: Call) -> u8 {
+        let (name, due) = (call.name(), self.stopped(&call));
+        let answer = self.call(call);
+        assert!(due.is_none_or(|due| due == answer), "{name} answered {answer}, and was to be stopped by {due:?}");
+        answer
+    }
+
+    fn call(&mut self, call: Call) -> u8 {
         let x = Tables {
             sources: self.sources.get(),
             formats: self.formats.get(),

@@ -100,6 +100,8 @@ pub fn trips(seed: u64, seen: &mut Lists) -> Result<(), String> {
             Order::Nulls(n) => calls::nulls(&plan, &parts, counters, room, n),
         });
         let before = state.clone();
+        let (why, place) = calls::why_orders(&plan, &parts, &x, &state.counters, state.room.len() as u64, &given);
+        same("what stopped a list", Ended { ground: why.ground, place }, due).map_err(describe)?;
         let answer = calls::orders(&plan, &parts, &x, &mut state.counters, &mut state.room, &given);
         same("a list", (answer, &state), (due, if due.ground == 0 { &singly } else { &before })).map_err(describe)?;
         *if due.ground == 0 { &mut seen.accepted } else { &mut seen.refused } += 1;

@@ -1,15 +1,20 @@
 //! include/lafkuno.h and src/calls declare the calls that crates/lafkuno has, and the header's grounds are the binding's.
 
-use lafkuno::calls::{Position, COUNTERS, MOST_ORDERS, ORDER, PLAN, TREE};
+use lafkuno::calls::{Position, COUNTERS, MOST_ORDERS, ORDER, PLAN, TREE, WHY};
 use lafkuno::Ground;
 use std::collections::BTreeMap;
 
 const HEADER: &str = include_str!("../../../../include/lafkuno.h");
-const RUST: &str = concat!(include_str!("../../lafkuno/src/calls.rs"), include_str!("../../lafkuno/src/calls/trips.rs"));
+const RUST: &str = concat!(
+    include_str!("../../lafkuno/src/calls.rs"),
+    include_str!("../../lafkuno/src/calls/trips.rs"),
+    include_str!("../../lafkuno/src/calls/why.rs")
+);
 const RATTLE: &str = concat!(
     include_str!("../../../../crates/lafkuno/src/lib.rt"),
     include_str!("../../../../crates/lafkuno/src/beside.rt"),
-    include_str!("../../../../crates/lafkuno/src/trips.rt")
+    include_str!("../../../../crates/lafkuno/src/trips.rt"),
+    include_str!("../../../../crates/lafkuno/src/why.rt")
 );
 
 /// Name, parameters as (type, name), answer.
@@ -93,7 +98,7 @@ fn rattle() -> BTreeMap<String, (Vec<String>, String)> {
 fn the_same_calls() {
     let _: u64 = Position::MAX;
     let (header, library) = (header(), library());
-    assert_eq!(header.len(), 25);
+    assert_eq!(header.len(), 28);
     assert_eq!(header, library);
     let types = header.into_iter().map(|(name, (parameters, answer))| (name, (parameters.into_iter().map(|(ty, _)| ty).collect(), answer)));
     assert_eq!(types.collect::<BTreeMap<_, _>>(), rattle());
@@ -107,7 +112,7 @@ fn the_same_grounds() {
     let grounds: Vec<u8> = Ground::ALL.iter().map(|g| g.number()).collect();
     assert_eq!(numbers[0], 0);
     assert_eq!(numbers[1..], grounds);
-    for (name, value) in [("PLAN", PLAN), ("COUNTERS", COUNTERS), ("TREE", TREE), ("ORDER", ORDER), ("MOST_ORDERS", MOST_ORDERS)] {
+    for (name, value) in [("PLAN", PLAN), ("COUNTERS", COUNTERS), ("TREE", TREE), ("ORDER", ORDER), ("MOST_ORDERS", MOST_ORDERS), ("WHY", WHY)] {
         assert!(HEADER.contains(&format!("#define LAFKUNO_{name} {value}\n")));
     }
 }

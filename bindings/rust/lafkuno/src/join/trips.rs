@@ -80,8 +80,8 @@ impl Join {
                     place.found = format!("{} orders in a list, which takes {MOST_ORDERS}", orders.len());
                 });
             }
-            let before = self.measured(&orders[..ended.place]).map_or(0, |counters| counters[0]);
-            self.told(orders[ended.place], Some(ended.place), before, error)
+            let before = self.measured(&orders[..ended.place]).unwrap_or(self.counters);
+            self.told(orders[ended.place], Some(ended.place), &before, error)
         };
         Error::check(ended.ground).map_err(refused)?;
         Ok(counters)

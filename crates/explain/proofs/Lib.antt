@@ -1,0 +1,3 @@
+-- Why an order is explained.
+pub mod State
+pub mod Laws

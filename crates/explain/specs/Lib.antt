@@ -1,0 +1,3 @@
+-- What the functions that explain an order cite beside the definition.
+pub mod Explains
+pub mod Sizes

@@ -1,0 +1,375 @@
+// Tells which node stopped an order: the ground, the node, the row, and the numbers that clash. Nothing that is lent is written: the walk changes
+// a copy of the counters, and of the room the length alone is asked.
+ghost use mathlib.Core.Path.{_≡_};
+ghost use mathlib.Core.Bool.{true};
+ghost use mathlib.Core.List.{List, []};
+ghost use Prim.Native.Nat.{ℕ, _+_, _<_, _≤_, _/_, _^_, min};
+ghost use lib.ListN.{length};
+ghost use Rattle.model.specs.Book.{copy, nulls};
+ghost use Rattle.walk.specs.State.{top};
+ghost use Rattle.walk.specs.Copy.{copyWalk};
+ghost use Rattle.walk.specs.Nulls.{nullWalk};
+ghost use Rattle.leaf_walk.specs.Join.{join};
+ghost use Rattle.parts.specs.Parts.{partsWithin};
+ghost use Rattle.refinement.specs.orders.Sound.{walkable};
+ghost use Rattle.transform.specs.Answer.{lent};
+ghost use Rattle.trip.specs.Trip.{callAt, callsOf};
+ghost use Rattle.stops.specs.Why.{only, unless};
+ghost use Rattle.stops.specs.Copy.{whyCopy};
+ghost use Rattle.stops.specs.Nulls.{walked, whyNulls};
+ghost use Rattle.stops.specs.Parts.{whyParts};
+ghost use Rattle.stops.specs.Order.{whyCopyOrder, whyNullOrder, whyTrip};
+ghost use Rattle.explain.specs.Explains.{Settles, Explains};
+use array_data::lent_tables;
+use stops::Why;
+use stops::WhyListed;
+use walk::plan_words;
+
+mod small_parts;
+
+const LONGEST: usize = 256;
+
+const WORDS: usize = 4;
+
+const COPY: u64 = 0;
+
+const LARGEST_SOURCE: u64 = 4294967295;
+
+// Where the plan has its number of sources.
+const SOURCE_COUNT: usize = 864;
+
+const DEPTH: u32 = 8;
+
+const NO_SUCH_SOURCE: u8 = 1;
+
+const NO_SUCH_ROWS: u8 = 2;
+
+const KEEPS_NO_NULLS: u8 = 3;
+
+const TOO_MANY: u8 = 9;
+
+const NOT_LENT: u8 = 14;
+
+// ---- a walk, then 14 and 13
+
+// 14 where the parts do not lie in a room of m bytes, then the first part that is too small for r + n rows.
+fn settle(plan: &[u64], parts: &[u64], counts: &[u64; 96], m: usize, r: u64, n: u64) -> Why
+    requires { ⌜ m < top ⌝ }
+    ensures { λ w. ⌜ w ≡ unless (partsWithin (now (plan .entry)) (now (parts .entry)) m) (only 14) (whyParts (now (plan .entry)) (now (counts .entry)) (now (parts .entry)) (r + n)) ⌝ }
+{
+    if !parts::parts_within(plan, parts, m) {
+        return stop_walks::plain(NOT_LENT);
+    }
+    small_parts::why_parts(plan, counts, parts, r, n)
+}
+
+// The rows start .. start + n - 1 of a source, whose first node is `first`.
+fn copy_rows(
+    plan: &[u64],
+    parts: &[u64],
+    lengths: &[u64],
+    places: &[u64],
+    body: &[u8],
+    counts: &mut [u64; 96],
+    m: usize,
+    source: usize,
+    first: usize,
+    start: u64,
+    n: u64,
+) -> Why
+    requires { ⌜ (first < 2 ^ 32) × (source < 2 ^ 32) × (m < top) ⌝ }
+    ensures { λ w. ⌜ ((sources : List ℕ) → Settles (lent (now (plan .entry)) (now (parts .entry)) sources (now (lengths .entry)) (now (places .entry)) (now (body .entry))) m (now (counts .entry)) n (copyWalk (join (now (plan .entry)) (now (parts .entry)) (now (lengths .entry)) (now (places .entry)) (now (body .entry)) first source) 8 0 start n (now (counts .entry))) (whyCopy (join (now (plan .entry)) (now (parts .entry)) (now (lengths .entry)) (now (places .entry)) (now (body .entry)) first source) 8 0 start n (now (counts .entry))) w (now (counts .exit))) ⌝ }
+{
+    let r = plan_words::rows_of(counts, 0);
+    let g = stop_walks::try_copy(
+        plan,
+        parts,
+        lengths,
+        places,
+        body,
+        counts,
+        source,
+        first,
+        0,
+        start,
+        n,
+        DEPTH,
+    );
+    if g != 0 {
+        return stop_walks::why_walk(
+            plan,
+            parts,
+            lengths,
+            places,
+            body,
+            counts,
+            source,
+            first,
+            0,
+            start,
+            n,
+            DEPTH,
+        );
+    }
+    settle(plan, parts, counts, m, r, n)
+}
+
+// n nulls.
+fn add_nulls(plan: &[u64], parts: &[u64], counts: &mut [u64; 96], m: usize, n: u64) -> Why
+    requires { ⌜ m < top ⌝ }
+    ensures { λ w. ⌜ ((sources lengths places body : List ℕ) → Settles (lent (now (plan .entry)) (now (parts .entry)) sources lengths places body) m (now (counts .entry)) n (nullWalk (join (now (plan .entry)) (now (parts .entry)) [] [] [] 0 0) 8 0 (walked n) (now (counts .entry))) (whyNulls (join (now (plan .entry)) (now (parts .entry)) [] [] [] 0 0) 8 0 n (now (counts .entry))) w (now (counts .exit))) ⌝ }
+{
+    let r = plan_words::rows_of(counts, 0);
+    let g = stop_walks::nulls::try_nulls(plan, parts, counts, 0, n, DEPTH);
+    if g != 0 {
+        return stop_walks::nulls::why_null_walk(plan, parts, counts, 0, n, DEPTH);
+    }
+    settle(plan, parts, counts, m, r, n)
+}
+
+// ---- one order, of a plan and counters that an order can be walked with
+
+// A copy of the rows start .. end - 1 of a source.
+fn order_copy(
+    plan: &[u64],
+    parts: &[u64],
+    sources: &[u32],
+    lengths: &[u64],
+    places: &[u64],
+    body: &[u8],
+    counts: &mut [u64; 96],
+    m: usize,
+    source: u32,
+    start: u64,
+    end: u64,
+) -> Why
+    requires { ⌜ m < top ⌝ }
+    ensures { λ w. ⌜ Explains (lent (now (plan .entry)) (now (parts .entry)) (now (sources .entry)) (now (lengths .entry)) (now (places .entry)) (now (body .entry))) m (copy source start end) (now (counts .entry)) w (now (counts .exit)) ⌝ }
+{
+    if lent_tables::at_u64(plan, SOURCE_COUNT) <= source as u64 {
+        return stop_walks::plain(NO_SUCH_SOURCE);
+    }
+    let first = lent_tables::at_u32(sources, 2 * (source as usize)) as usize;
+    if !transform::in_source(lengths, first, start, end) {
+        return stop_walks::plain(NO_SUCH_ROWS);
+    }
+    copy_rows(
+        plan,
+        parts,
+        lengths,
+        places,
+        body,
+        counts,
+        m,
+        source as usize,
+        first,
+        start,
+        end - start,
+    )
+}
+
+// n nulls.
+fn order_nulls(plan: &[u64], parts: &[u64], counts: &mut [u64; 96], m: usize, n: u64) -> Why
+    requires { ⌜ m < top ⌝ }
+    ensures { λ w. ⌜ ((sources lengths places body : List ℕ) → Explains (lent (now (plan .entry)) (now (parts .entry)) sources lengths places body) m (nulls n) (now (counts .entry)) w (now (counts .exit))) ⌝ }
+{
+    if plan_words::keeps_of(plan, 0) == 0 {
+        return stop_walks::plain(KEEPS_NO_NULLS);
+    }
+    add_nulls(plan, parts, counts, m, n)
+}
+
+// A source's number; no join has as many sources as 32 bits hold.
+fn source_of(a: u64) -> u32
+    ensures { λ r. ⌜ r ≡ min a 4294967295 ⌝ }
+{
+    if LARGEST_SOURCE < a {
+        return LARGEST_SOURCE as u32;
+    }
+    a as u32
+}
+
+// Order k of a list.
+fn order_at(
+    plan: &[u64],
+    parts: &[u64],
+    sources: &[u32],
+    lengths: &[u64],
+    places: &[u64],
+    body: &[u8],
+    counts: &mut [u64; 96],
+    m: usize,
+    orders: &[u64],
+    k: usize,
+) -> Why
+    requires { ⌜ (k < 256) × (m < top) ⌝ }
+    ensures { λ w. ⌜ Explains (lent (now (plan .entry)) (now (parts .entry)) (now (sources .entry)) (now (lengths .entry)) (now (places .entry)) (now (body .entry))) m (callAt (now (orders .entry)) k) (now (counts .entry)) w (now (counts .exit)) ⌝ }
+{
+    let kind = lent_tables::at_u64(orders, 4 * k);
+    let a = lent_tables::at_u64(orders, 4 * k + 1);
+    if kind != COPY {
+        return order_nulls(plan, parts, counts, m, a);
+    }
+    let b = lent_tables::at_u64(orders, 4 * k + 2);
+    let c = lent_tables::at_u64(orders, 4 * k + 3);
+    order_copy(
+        plan,
+        parts,
+        sources,
+        lengths,
+        places,
+        body,
+        counts,
+        m,
+        source_of(a),
+        b,
+        c,
+    )
+}
+
+// ---- what a caller asks
+
+// What stops a copy of the rows start .. end - 1 of a source, in a room of m bytes.
+pub fn why_copy(
+    plan: &[u64],
+    parts: &[u64],
+    sources: &[u32],
+    lengths: &[u64],
+    places: &[u64],
+    body: &[u8],
+    counters: &[u64],
+    m: usize,
+    source: u32,
+    start: u64,
+    end: u64,
+) -> Why
+    ensures { λ w. ⌜ w ≡ whyCopyOrder (lent (now (plan .entry)) (now (parts .entry)) (now (sources .entry)) (now (lengths .entry)) (now (places .entry)) (now (body .entry))) m (now (counters .entry)) source start end ⌝ }
+{
+    if counters.len() != 96 {
+        return stop_walks::plain(NOT_LENT);
+    }
+    if !sound::is_walkable(plan, m) {
+        return stop_walks::plain(NOT_LENT);
+    }
+    let mut counts = transform::load(counters);
+    order_copy(
+        plan,
+        parts,
+        sources,
+        lengths,
+        places,
+        body,
+        &mut counts,
+        m,
+        source,
+        start,
+        end,
+    )
+}
+
+// What stops n nulls, in a room of m bytes. No source is read.
+pub fn why_nulls(plan: &[u64], parts: &[u64], counters: &[u64], m: usize, n: u64) -> Why
+    ensures { λ w. ⌜ ((sources lengths places body : List ℕ) → w ≡ whyNullOrder (lent (now (plan .entry)) (now (parts .entry)) sources lengths places body) m (now (counters .entry)) n) ⌝ }
+{
+    if counters.len() != 96 {
+        return stop_walks::plain(NOT_LENT);
+    }
+    if !sound::is_walkable(plan, m) {
+        return stop_walks::plain(NOT_LENT);
+    }
+    let mut counts = transform::load(counters);
+    order_nulls(plan, parts, &mut counts, m, n)
+}
+
+// A ground at the first order.
+fn at_first(ground: u8) -> WhyListed
+    ensures { λ r. ⌜ (r .place ≡ 0) × (r .why ≡ only ground) ⌝ }
+{
+    WhyListed {
+        place: 0,
+        why: stop_walks::plain(ground),
+    }
+}
+
+// The first n orders of a list, up to the first that is stopped.
+fn walk_orders(
+    plan: &[u64],
+    parts: &[u64],
+    sources: &[u32],
+    lengths: &[u64],
+    places: &[u64],
+    body: &[u8],
+    counters: &[u64],
+    m: usize,
+    orders: &[u64],
+    n: usize,
+) -> WhyListed
+    requires { ⌜ (length (now counters) ≡ 96) × (n ≤ 256) × (n ≡ length (now orders) / 4) × (walkable (now plan) m ≡ true) ⌝ }
+    ensures { λ r. ⌜ r ≡ whyTrip (lent (now (plan .entry)) (now (parts .entry)) (now (sources .entry)) (now (lengths .entry)) (now (places .entry)) (now (body .entry))) m (now (counters .entry)) (callsOf (now (orders .entry))) ⌝ }
+{
+    let mut counts = transform::load(counters);
+    let mut k: usize = 0;
+    while k < n {
+        let w = order_at(
+            plan,
+            parts,
+            sources,
+            lengths,
+            places,
+            body,
+            &mut counts,
+            m,
+            orders,
+            k,
+        );
+        if w.ground != 0 {
+            return WhyListed {
+                place: k as u32,
+                why: w,
+            };
+        }
+        k += 1;
+    }
+    at_first(0)
+}
+
+// What stops a list of orders, four words each: its first failing order and that order's place.
+pub fn why_orders(
+    plan: &[u64],
+    parts: &[u64],
+    sources: &[u32],
+    lengths: &[u64],
+    places: &[u64],
+    body: &[u8],
+    counters: &[u64],
+    m: usize,
+    orders: &[u64],
+) -> WhyListed
+    ensures { λ r. ⌜ r ≡ whyTrip (lent (now (plan .entry)) (now (parts .entry)) (now (sources .entry)) (now (lengths .entry)) (now (places .entry)) (now (body .entry))) m (now (counters .entry)) (callsOf (now (orders .entry))) ⌝ }
+{
+    let n = orders.len() / WORDS;
+    if LONGEST < n {
+        return at_first(TOO_MANY);
+    }
+    if n == 0 {
+        return at_first(0);
+    }
+    if counters.len() != 96 {
+        return at_first(NOT_LENT);
+    }
+    if !sound::is_walkable(plan, m) {
+        return at_first(NOT_LENT);
+    }
+    walk_orders(
+        plan,
+        parts,
+        sources,
+        lengths,
+        places,
+        body,
+        counters,
+        m,
+        orders,
+        n,
+    )
+}

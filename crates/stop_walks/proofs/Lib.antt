@@ -1,0 +1,4 @@
+-- Why the functions that look for a stop find it.
+pub mod Laws
+pub mod Nodes
+pub mod Whole

@@ -1,0 +1,3 @@
+-- What a node says of the rows that it was handed.
+pub mod Step
+pub mod nulls

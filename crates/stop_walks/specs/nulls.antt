@@ -1,0 +1,2 @@
+-- What a node says of the nulls that it was handed.
+pub mod Step
