@@ -35,7 +35,6 @@ use slot_reader::RowRead;
 
 mod beside;
 mod trips;
-mod why;
 
 // ---- columns
 
