@@ -1,12 +1,12 @@
-# The C library: the proved core (`rt staticlib lafkuno`) and the layer for ArrowSchema and ArrowArray (bindings/c) in one static and one
-# shared library.
+# The C library: the proved core (`rt staticlib lafkuno`, `rt staticlib lafkuno_why`) and the layer for ArrowSchema and ArrowArray
+# (bindings/c) in one static and one shared library.
 #     make                          builds target/c/liblafkuno.a and target/c/liblafkuno.so
 #     make install PREFIX=/usr      headers, libraries, lafkuno.pc, a CMake config; DESTDIR is put in front
 VERSION := $(shell sed -n 's/^.define LAFKUNO_VERSION "\(.*\)"/\1/p' include/lafkuno.h)
 # the soname: while the first number is 0, the second one changes with the calls
 SERIES := $(word 1,$(subst ., ,$(VERSION))).$(word 2,$(subst ., ,$(VERSION)))
 LAFKUNO_LIB_DIR ?= target/staticlib
-CORE := $(LAFKUNO_LIB_DIR)/liblafkuno.a
+CORE := $(LAFKUNO_LIB_DIR)/liblafkuno.a $(LAFKUNO_LIB_DIR)/liblafkuno_why.a
 OUT ?= target/c
 PREFIX ?= /usr/local
 LIBDIR ?= $(PREFIX)/lib
@@ -23,7 +23,7 @@ SHARED := liblafkuno.so.$(VERSION)
 all: $(OUT)/liblafkuno.a $(OUT)/$(SHARED)
 
 $(CORE):
-	@echo "$@ is missing: run 'rt staticlib lafkuno', or set LAFKUNO_LIB_DIR" >&2; exit 1
+	@echo "$@ is missing: run 'rt staticlib $(patsubst lib%.a,%,$(notdir $@))', or set LAFKUNO_LIB_DIR" >&2; exit 1
 
 $(OUT)/%.o: bindings/c/%.c bindings/c/layer.h $(HEADERS)
 	@mkdir -p $(OUT)
@@ -38,7 +38,7 @@ $(OUT)/layer/arrow.o: $(OBJECTS)
 # the core's objects and the layer's in one archive
 $(OUT)/liblafkuno.a: $(OUT)/layer/arrow.o $(CORE)
 	@rm -rf $@ $(OUT)/core && mkdir -p $(OUT)/core
-	cd $(OUT)/core && $(AR) x $(abspath $(CORE))
+	cd $(OUT)/core && for core in $(abspath $(CORE)); do $(AR) x $$core; done
 	$(AR) rcs $@ $< $(OUT)/core/*.o
 
 $(OUT)/$(SHARED): $(OUT)/layer/arrow.o $(CORE)

@@ -202,7 +202,8 @@ uint32_t lafkuno_orders(const uint64_t *plan, size_t plan_len, const uint64_t *p
  * node was handed, from 0; and for 6, 7 and 13 the number needed, at most UINT64_MAX, and the largest allowed. Node and row are 0 where none
  * applies, the last two are 0 for any other ground, and all are 0 where nothing stops the order. The call answers the ground. It has the
  * parameters of the order, of the room its length alone, and writes nothing but the answer, which is left as it was where it is not of its
- * size. Of a single order it says 1 to 7 with no parts and no room too, since these come before 14. */
+ * size. Of a single order it says 1 to 7 with no parts and no room too, since these come before 14. These calls are in liblafkuno_why.a
+ * (`rt staticlib lafkuno_why`), and in the library that `make` builds. */
 
 /* What stops a copy.
  *   answer    LAFKUNO_WHY numbers. */

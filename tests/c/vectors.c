@@ -1,5 +1,5 @@
 /* Joins through the C calls, told by a text on standard input (tests/joins/README.md): a case is a line of the output.
- *     cc -I include tests/c/vectors*.c tests/c/lent.c -L target/staticlib -llafkuno -o vectors
+ *     cc -I include tests/c/vectors*.c tests/c/lent.c -L target/staticlib -llafkuno -llafkuno_why -o vectors
  *     ./vectors <tests/joins/vectors.txt | diff - tests/joins/vectors.out
  * Every slice is lent at its own size between guards, which are looked at after each call, as are the slices that a call may only read.
  * With --bare there are no guards, and valgrind sees every step outside. */

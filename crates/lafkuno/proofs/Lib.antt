@@ -2,5 +2,4 @@
 pub mod Laws
 pub mod FrameCalls
 pub mod TripCalls
-pub mod WhyCalls
 pub mod Sums

@@ -2,5 +2,4 @@
 pub mod Calls
 pub mod Beside
 pub mod Trips
-pub mod Why
 pub mod Sums

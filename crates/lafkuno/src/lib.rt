@@ -22,7 +22,6 @@ mod beside;
 mod means;
 mod reading;
 mod trips;
-mod why;
 
 // ---- opening a join
 

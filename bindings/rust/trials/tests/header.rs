@@ -14,7 +14,7 @@ const RATTLE: &str = concat!(
     include_str!("../../../../crates/lafkuno/src/lib.rt"),
     include_str!("../../../../crates/lafkuno/src/beside.rt"),
     include_str!("../../../../crates/lafkuno/src/trips.rt"),
-    include_str!("../../../../crates/lafkuno/src/why.rt")
+    include_str!("../../../../crates/lafkuno_why/src/lib.rt")
 );
 
 /// Name, parameters as (type, name), answer.

@@ -1,9 +1,9 @@
--- `lafkuno::why::put_why` meets its contract. Assumes nothing.
+-- `lafkuno_why::put_why` meets its contract. Assumes nothing.
 use native.Mathlib.Omega.{arith}
-use Rattle.lafkuno.proofs.WhyCalls.{four-set, no-room, five-put}
+use Rattle.lafkuno_why.proofs.Numbers.{four-set, no-room, five-put}
 use borrow.Author.Needs.{needs}
-use Rattle.lafkuno.proofs.why.put_why.Statement.{statement}
-use Rattle.lafkuno.proofs.why.put_why.Tie as tie
+use Rattle.lafkuno_why.proofs.put_why.Statement.{statement}
+use Rattle.lafkuno_why.proofs.put_why.Tie as tie
 
 returns : tie.Need-returns
 returns c =

@@ -1,11 +1,12 @@
-// Which node stopped an order: the ground, and five numbers that say where and why. Nothing else is written.
+// Calls for C: which node stopped an order, the ground and five numbers that say where and why. Nothing else is written. They are a library of
+// their own, so that the compiler lays out orders as if these calls were not there.
 ghost use mathlib.Core.Path.{_≡_};
 ghost use mathlib.Core.List.{List};
 ghost use Prim.Native.Nat.{ℕ};
 ghost use Rattle.transform.specs.Answer.{lent};
 ghost use Rattle.trip.specs.Trip.{callsOf};
 ghost use Rattle.stops.specs.Order.{whyCopyOrder, whyNullOrder, whyTrip};
-ghost use Rattle.lafkuno.specs.Why.{whyAnswer, listedAnswer};
+ghost use Rattle.lafkuno_why.specs.Why.{whyAnswer, listedAnswer};
 use stops::Why;
 use stops::WhyListed;
 

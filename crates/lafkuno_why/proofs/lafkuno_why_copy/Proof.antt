@@ -1,12 +1,12 @@
--- `lafkuno::why::lafkuno_why_copy` meets its contract. Assumes nothing.
+-- `lafkuno_why::lafkuno_why_copy` meets its contract. Assumes nothing.
 use mathlib.Core.Path.{ap, _∙_}
 use lib.ListN.{length}
 use Rattle.stops.specs.declared.Why.{Why}
-use Rattle.lafkuno.specs.Why.{whyAnswer}
-use Rattle.lafkuno.proofs.WhyCalls.{why-long}
+use Rattle.lafkuno_why.specs.Why.{whyAnswer}
+use Rattle.lafkuno_why.proofs.Numbers.{why-long}
 use borrow.Author.Needs.{needs}
-use Rattle.lafkuno.proofs.why.lafkuno_why_copy.Statement.{statement}
-use Rattle.lafkuno.proofs.why.lafkuno_why_copy.Tie as tie
+use Rattle.lafkuno_why.proofs.lafkuno_why_copy.Statement.{statement}
+use Rattle.lafkuno_why.proofs.lafkuno_why_copy.Tie as tie
 
 why-copy-requires : tie.Need-why-copy-requires
 why-copy-requires c κs = search needs

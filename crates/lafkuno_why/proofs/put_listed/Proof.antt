@@ -1,9 +1,9 @@
--- `lafkuno::why::put_listed` meets its contract. Assumes nothing.
+-- `lafkuno_why::put_listed` meets its contract. Assumes nothing.
 use native.Mathlib.Omega.{arith}
-use Rattle.lafkuno.proofs.WhyCalls.{four-set, five-set, no-list-room, six-put}
+use Rattle.lafkuno_why.proofs.Numbers.{four-set, five-set, no-list-room, six-put}
 use borrow.Author.Needs.{needs}
-use Rattle.lafkuno.proofs.why.put_listed.Statement.{statement}
-use Rattle.lafkuno.proofs.why.put_listed.Tie as tie
+use Rattle.lafkuno_why.proofs.put_listed.Statement.{statement}
+use Rattle.lafkuno_why.proofs.put_listed.Tie as tie
 
 returns : tie.Need-returns
 returns c =

@@ -9,7 +9,7 @@ use lib.Dec.{eqb}
 use borrow.Author.Tests.{eq-eqb, ne-eqb, eqb-true}
 use Rattle.stops.specs.declared.Why.{Why}
 use Rattle.stops.specs.declared.WhyListed.{WhyListed}
-use Rattle.lafkuno.specs.Why.{whyAnswer, listedAnswer}
+use Rattle.lafkuno_why.specs.Why.{whyAnswer, listedAnswer}
 
 pub no-room : (w : Why) (s : List ℕ) → (length s ≡ 5 → ⊥) → s ≡ whyAnswer w s
 unfolding whyAnswer

@@ -1,12 +1,12 @@
--- `lafkuno::why::lafkuno_why_orders` meets its contract. Assumes nothing.
+-- `lafkuno_why::lafkuno_why_orders` meets its contract. Assumes nothing.
 use mathlib.Core.Path.{ap, _∙_}
 use lib.ListN.{length}
 use Rattle.stops.specs.declared.WhyListed.{WhyListed}
-use Rattle.lafkuno.specs.Why.{listedAnswer}
-use Rattle.lafkuno.proofs.WhyCalls.{listed-long}
+use Rattle.lafkuno_why.specs.Why.{listedAnswer}
+use Rattle.lafkuno_why.proofs.Numbers.{listed-long}
 use borrow.Author.Needs.{needs}
-use Rattle.lafkuno.proofs.why.lafkuno_why_orders.Statement.{statement}
-use Rattle.lafkuno.proofs.why.lafkuno_why_orders.Tie as tie
+use Rattle.lafkuno_why.proofs.lafkuno_why_orders.Statement.{statement}
+use Rattle.lafkuno_why.proofs.lafkuno_why_orders.Tie as tie
 
 why-orders-requires : tie.Need-why-orders-requires
 why-orders-requires c κs = search needs
