@@ -1,37 +1,26 @@
 // Copies at a leaf: whether one is refused is known before anything is written, so that it is walked once and no counters are copied.
-// The parts are asked with the counters raised, and a refusal puts them back.
 ghost use mathlib.Core.Path.{_≡_};
 ghost use mathlib.Core.List.{List, []};
-ghost use mathlib.Core.Bool.{true, false, cond};
+ghost use mathlib.Core.Bool.{true, false};
 ghost use Prim.Native.Nat.{ℕ, _+_, _*_, _-_, _<_, _≤_, _^_};
-ghost use lib.ListN.{length, getD, set};
+ghost use lib.ListN.{length};
 ghost use Rattle.formats.specs.Code.{isString};
 ghost use Rattle.utils.specs.Extension.{extended};
 ghost use Rattle.utils.specs.declared.Extended.the-variants.{Fits};
-ghost use Rattle.walk.specs.State.{codeOf, bytesOf, bytes, grown, addRows, setBytes, place, slotOf};
+ghost use Rattle.walk.specs.State.{codeOf, bytesOf, bytes, place, slotOf};
 ghost use Rattle.walk.specs.Log.{Did};
 ghost use Rattle.walk.specs.Leaves.{copyMask, putString};
 ghost use Rattle.walk.specs.Copy.{Walk, copyData, copyWalk};
 ghost use Rattle.leaf_walk.specs.Join.{join};
-ghost use Rattle.parts.specs.Parts.{entrySize, partsWithin, partsHold};
+ghost use Rattle.parts.specs.Parts.{entrySize};
 ghost use Rattle.refinement.specs.orders.Order.{settled};
 ghost use Rattle.transform.specs.Answer.{lent, Answers};
 ghost use Rattle.transform.specs.leaf_rows.Leaf.{bitsIn};
+use crate::leaf_counters;
 use array_data::lent_tables;
 use leaf_walk::variable_size;
 use nested_rows::lookups;
-use parts::grounds;
 use walk::plan_words;
-
-// ---- counters
-
-// A counter n higher; it stays at the largest number.
-fn add_to(counters: &mut [u64], k: usize, n: u64)
-    requires { ⌜ k < length (now counters) ⌝ }
-    ensures { λ _. ⌜ now (counters .exit) ≡ set (now (counters .entry)) k (grown (getD (now (counters .entry)) k 0) n) ⌝ }
-{
-    counters[k] = plan_words::grow(counters[k], n);
-}
 
 // ---- validity
 
@@ -84,33 +73,7 @@ fn put_bits(
     }
     let at = lent_tables::place(places, first + i, 1);
     let zeros = room_writes::put_mask(plan, parts, room, true, i, p, body, at as usize, slot, n);
-    add_to(counters, 3 * i + 1, zeros);
-}
-
-// ---- the parts
-
-// What the parts say to n rows more at node i, and to so many bytes of data there. The counters are put back.
-fn room_ground(
-    plan: &[u64],
-    parts: &[u64],
-    counters: &mut [u64],
-    m: usize,
-    i: usize,
-    n: u64,
-    b: u64,
-) -> u8
-    requires { ⌜ (length (now counters) ≡ 96) × (i < 32) ⌝ }
-    ensures { λ r. ⌜ r ≡ cond (partsWithin (now (plan .entry)) (now (parts .entry)) m) (cond (partsHold (now (plan .entry)) (setBytes i b (addRows i n (now (counters .entry)))) (now (parts .entry))) 0 13) 14 ⌝ }
-    ensures { λ _. ⌜ now (counters .exit) ≡ now (counters .entry) ⌝ }
-{
-    let rows = counters[3 * i];
-    let old = counters[3 * i + 2];
-    counters[3 * i] = plan_words::grow(rows, n);
-    counters[3 * i + 2] = b;
-    let g = grounds::parts_ground(plan, counters, parts, m);
-    counters[3 * i] = rows;
-    counters[3 * i + 2] = old;
-    g
+    leaf_counters::add_to(counters, 3 * i + 1, zeros);
 }
 
 // ---- numbers, keys and views
@@ -199,7 +162,7 @@ fn copy_entries(
         return 12;
     }
     let b = lent_tables::at_u64(counters, 3 * i + 2);
-    let g = room_ground(plan, parts, counters, room.len(), i, n, b);
+    let g = leaf_counters::room_ground(plan, parts, counters, room.len(), i, n, b);
     if g != 0 {
         return g;
     }
@@ -218,7 +181,7 @@ fn copy_entries(
         slot,
         n,
     );
-    add_to(counters, 3 * i, n);
+    leaf_counters::add_to(counters, 3 * i, n);
     0
 }
 
@@ -292,7 +255,7 @@ fn write_text(
     if !variable_size::bytes_in(body, at, lead, last - old) {
         return 12;
     }
-    let g = room_ground(plan, parts, counters, room.len(), i, n, last);
+    let g = leaf_counters::room_ground(plan, parts, counters, room.len(), i, n, last);
     if g != 0 {
         return g;
     }
@@ -312,7 +275,7 @@ fn write_text(
         last,
         lead,
     );
-    add_to(counters, 3 * i, n);
+    leaf_counters::add_to(counters, 3 * i, n);
     0
 }
 

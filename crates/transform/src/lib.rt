@@ -1,11 +1,13 @@
 // The two orders on lent memory: each is tried first, on a copy of the counters, and made where no ground is found. A refused one changes nothing.
 // A copy is tried without a look at validity bits, and counts its nulls where it is made.
 // Follows `try_extend` and `try_extend_nulls` of arrow-data 60.1.0 src/transform/mod.rs, Apache-2.0; see NOTICE.
+mod leaf_counters;
+mod leaf_nulls;
 mod leaf_rows;
 
 ghost use mathlib.Core.Path.{_≡_};
 ghost use mathlib.Core.List.{List, []};
-ghost use mathlib.Core.Bool.{cond, _&&_};
+ghost use mathlib.Core.Bool.{_&&_};
 ghost use Prim.Native.Nat.{ℕ, _*_, _<_, _^_, min};
 ghost use lib.ListN.{length, getD};
 ghost use lib.Dec.{leb};
@@ -13,7 +15,6 @@ ghost use Rattle.walk.specs.State.{far};
 ghost use Rattle.walk.specs.Copy.{copyWalk};
 ghost use Rattle.walk.specs.Nulls.{nullWalk};
 ghost use Rattle.leaf_walk.specs.Join.{join};
-ghost use Rattle.parts.specs.Parts.{partsWithin, partsHold};
 ghost use Rattle.sound.specs.trying.Alike.{Alike};
 ghost use Rattle.refinement.specs.orders.Order.{settled, copyOrder, nullOrder};
 ghost use Rattle.transform.specs.Answer.{lent, Answers};
@@ -271,6 +272,17 @@ fn add_nulls(plan: &[u64], parts: &[u64], counters: &mut [u64], room: &mut [u8],
     g
 }
 
+// The same by the kind of the type: nulls of a leaf are not tried first.
+fn add_null_range(plan: &[u64], parts: &[u64], counters: &mut [u64], room: &mut [u8], n: u64) -> u8
+    requires { ⌜ length (now counters) ≡ 96 ⌝ }
+    ensures { λ r. ⌜ ((sources lengths places body : List ℕ) → Answers (settled (lent (now (plan .entry)) (now (parts .entry)) sources lengths places body) (now (counters .entry)) (now (room .entry)) (nullWalk (join (now (plan .entry)) (now (parts .entry)) [] [] [] 0 0) 8 0 n (now (counters .entry)))) r (now (counters .exit)) (now (room .exit))) ⌝ }
+{
+    if (n != 0) & formats::within(plan_words::code_of(plan, 0), 1, 16) {
+        return leaf_nulls::add_leaf_nulls(plan, parts, counters, room, n);
+    }
+    add_nulls(plan, parts, counters, room, n)
+}
+
 // Adds n nulls behind the destination's rows: 0, or the ground of refusal. No source is read.
 pub fn try_extend_nulls(
     plan: &[u64],
@@ -290,5 +302,5 @@ pub fn try_extend_nulls(
     if plan_words::keeps_of(plan, 0) == 0 {
         return 3;
     }
-    add_nulls(plan, parts, counters, room, at_most_far(n))
+    add_null_range(plan, parts, counters, room, at_most_far(n))
 }

@@ -1,13 +1,13 @@
 -- Numbers, keys and views as one write of entries, and the widths of entries. Assumes nothing.
 use mathlib.Core.Path.{_≡_, refl, sym, ap, subst, _∙_}
-use mathlib.Core.Bool.{Bool, true, false, cond, _&&_}
+use mathlib.Core.Bool.{Bool, true, false}
 use mathlib.Core.List.{List, [], _∷_}
 use Prim.Native.Nat.{ℕ, _+_, _*_, _≤_, _<_}
 use native.Mathlib.Omega.{arith}
 use lib.ListN.{length, take, drop}
 use lib.Dec.{leb, eqb}
 use borrow.Author.Tests.{le-leb, lt-leb, leb-true, leb-false}
-use Rattle.formats.specs.Code.{between, isFixed, isString, isView, isUnion, widthOf}
+use Rattle.formats.specs.Code.{between, isFixed, isString, isView, widthOf}
 use Rattle.primitive.specs.Primitive.{rebased}
 use Rattle.byte_view.specs.View.{reviewed}
 use Rattle.array_data.proofs.lent_tables.Laws.{and-left, and-right}
@@ -30,6 +30,9 @@ leaf-code code h = (leb-true 1 code (and-left (leb 1 code) (leb code 16) h), ome
 pub fixed-size : (code : ℕ) → isFixed code ≡ true → entrySize code ≡ widthOf code
 fixed-size code h = let l = leb-true code 10 (and-right (leb 1 code) (leb code 10) h) in rw (lt-leb 15 code (omega arith), lt-leb 21 code (omega arith))
 
+pub string-size : (code : ℕ) → isString code ≡ true → entrySize code ≡ widthOf code
+string-size code h = let l = leb-true code 14 (and-right (leb 11 code) (leb code 14) h) in rw (lt-leb 15 code (omega arith), lt-leb 21 code (omega arith))
+
 pub view-size : (code : ℕ) → isView code ≡ true → entrySize code ≡ 16
 view-size code h = rw h
 
@@ -46,7 +49,7 @@ is-number code a b s v = go (leb code 10) refl
         absurd (omega (arith, leb-false code 16 k))
 
 -- .. and one that is no byte string and no number is a view
-is-views : (code : ℕ) → 1 ≤ code → code < 17 → isString code ≡ false → isFixed code ≡ false → isView code ≡ true
+pub is-views : (code : ℕ) → 1 ≤ code → code < 17 → isString code ≡ false → isFixed code ≡ false → isView code ≡ true
 is-views code a b s f =
     let l : leb code 10 ≡ false = rw (le-leb 1 code a) at f in
     let m : leb code 14 ≡ false = rw (le-leb 11 code (omega (arith, leb-false code 10 l))) at s in

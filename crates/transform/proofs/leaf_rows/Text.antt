@@ -1,24 +1,22 @@
 -- Byte strings of a leaf, tried and made. Assumes nothing.
-use mathlib.Core.Path.{_≡_, refl, sym, ap, subst, _∙_}
+use mathlib.Core.Path.{_≡_, refl, ap, _∙_}
 use mathlib.Core.Bool.{Bool, true, false, not, cond}
-use mathlib.Core.List.{List, [], _∷_}
+use mathlib.Core.List.{List}
 use Prim.Native.Nat.{ℕ, _+_, _*_, _-_, _≤_, _<_}
 use native.Mathlib.Omega.{arith}
-use lib.ListN.{length, getD, replicate}
+use lib.ListN.{length, replicate}
 use lib.Seq.{getD-set-other}
 use lib.Dec.{leb, eqb}
 use borrow.Author.Tests.{le-leb, lt-leb, leb-true}
 use Rattle.bits.specs.Bits.{bitsAt, zeros}
 use Rattle.formats.specs.Code.{isFixed, isString}
 use Rattle.utils.specs.Extension.{extended}
-use Rattle.utils.specs.declared.Extended.{Extended}
 use Rattle.utils.specs.declared.Extended.the-variants.{Fits}
 use Rattle.array_data.proofs.lent_tables.Laws.{and-left, and-right}
-use Rattle.walk.specs.State.{Join, codeOf, bytesOf, keepsOf, rows, nulls, bytes, grown, scaled, top, addNulls, setBytes, place, rowsIn}
+use Rattle.walk.specs.State.{Join, codeOf, bytesOf, keepsOf, rows, nulls, bytes, grown, top, addNulls, setBytes, place, rowsIn}
 use Rattle.walk.specs.Log.{Entry, mask, Did, applyIf, need, next, wrote, done, fail}
-use Rattle.walk.specs.Leaves.{copyBits, copyMask, putString, putExtended}
+use Rattle.walk.specs.Leaves.{copyBits, copyMask, putExtended}
 use Rattle.walk.specs.Copy.{Walk, copyData}
-use Rattle.leaf_walk.proofs.Widths.{string-width}
 use Rattle.leaf_walk.proofs.variable_size.Laws.{string-no, string-yes, extended-fits, copy-out, copy-in}
 use Rattle.node_data.proofs.Laws.{to-string}
 
@@ -40,7 +38,7 @@ bytes-kept x i slot n {c1 = c1} q d = ap (λ l. bytes l i) (d .counters) ∙ mas
 pub string-code : (code : ℕ) → isString code ≡ true → code < 17
 string-code code h = let l = leb-true code 14 (and-right (leb 11 code) (leb code 14) h) in omega arith
 
-not-fixed : (code : ℕ) → isString code ≡ true → isFixed code ≡ false
+pub not-fixed : (code : ℕ) → isString code ≡ true → isFixed code ≡ false
 not-fixed code h = let l = leb-true 11 code (and-left (leb 11 code) (leb code 14) h) in rw (le-leb 1 code (omega arith), lt-leb code 10 (omega arith))
 
 module _ (x : Join) (child : Walk) (i slot n : ℕ) (s : isString (codeOf (x .state) i) ≡ true) {w : ℕ} (e : w ≡ bytesOf (x .state) i) (nz : n ≡ 0 → ⊥) (wr : Bool) (c room : List ℕ) where

@@ -1,5 +1,4 @@
 -- `transform::leaf_rows::copy_leaf_rows` meets its contract. Assumes nothing.
-use mathlib.Core.Path.{_≡_, refl, sym, ap, _∙_}
 use mathlib.Core.List.{[]}
 use native.Mathlib.Omega.{arith}
 use Rattle.formats.specs.Code.{isString}

@@ -1,8 +1,8 @@
 -- `transform::leaf_rows::copy_text` meets its contract. Assumes nothing.
-use mathlib.Core.Path.{_≡_, refl, sym, ap, subst, _∙_}
-use mathlib.Core.Bool.{true, false}
+use mathlib.Core.Path.{refl, sym, ap, _∙_}
+use mathlib.Core.Bool.{false}
 use mathlib.Core.List.{[]}
-use Prim.Native.Nat.{ℕ, _+_, _*_, _-_, _≤_}
+use Prim.Native.Nat.{ℕ, _+_, _*_, _-_}
 use native.Mathlib.Omega.{arith}
 use Rattle.room_writes.proofs.Bytes.{width-in}
 use Rattle.utils.specs.Extension.{extended}
@@ -12,7 +12,8 @@ use Rattle.leaf_walk.specs.Join.{join}
 use Rattle.leaf_walk.proofs.Laws.{rows-in}
 use Rattle.leaf_walk.proofs.variable_size.Laws.{extended-over, extended-falls}
 use Rattle.node_data.proofs.Laws.{string-wide}
-use Rattle.transform.proofs.leaf_rows.Laws.{full, full-alike, leaf-data}
+use Rattle.transform.proofs.leaf_counters.Laws.{full, full-alike}
+use Rattle.transform.proofs.leaf_rows.Laws.{leaf-data}
 use Rattle.transform.proofs.leaf_rows.Text.{string-code, text-out, text-in}
 use borrow.Author.Needs.{needs}
 use Rattle.transform.proofs.leaf_rows.copy_text.Statement.{statement}

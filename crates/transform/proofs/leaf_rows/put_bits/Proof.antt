@@ -2,7 +2,6 @@
 use mathlib.Core.Path.{refl, ap}
 use mathlib.Core.Bool.{true, not}
 use mathlib.Core.List.{[]}
-use native.Mathlib.Omega.{arith}
 use borrow.Author.Tests.{leb-true}
 use Rattle.leaf_walk.specs.Join.{join}
 use Rattle.leaf_walk.proofs.Laws.{mask-off, mask-ones, mask-bits, bits-yes}

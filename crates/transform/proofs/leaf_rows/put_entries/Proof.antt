@@ -1,9 +1,7 @@
 -- `transform::leaf_rows::put_entries` meets its contract. Assumes nothing.
-use mathlib.Core.Path.{_≡_, sym, ap, _∙_}
-use mathlib.Core.Bool.{true, false}
-use Prim.Native.Nat.{ℕ, _+_, _*_, _≤_}
+use mathlib.Core.Path.{_≡_, ap, _∙_}
+use Prim.Native.Nat.{ℕ, _*_}
 use native.Mathlib.Omega.{arith}
-use Rattle.array_data.proofs.lent_tables.Laws.{is-none}
 use Rattle.formats.specs.Code.{isView}
 use Rattle.walk.specs.State.{codeOf}
 use Rattle.leaf_walk.specs.Join.{join}

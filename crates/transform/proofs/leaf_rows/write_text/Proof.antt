@@ -1,8 +1,8 @@
 -- `transform::leaf_rows::write_text` meets its contract. Assumes nothing.
-use mathlib.Core.Path.{_≡_, refl, sym, ap, subst, _∙_}
+use mathlib.Core.Path.{refl, sym, ap, _∙_}
 use mathlib.Core.Bool.{true, false}
 use mathlib.Core.List.{[]}
-use Prim.Native.Nat.{ℕ, _+_, _*_, _-_, _≤_}
+use Prim.Native.Nat.{ℕ, _-_}
 use native.Mathlib.Omega.{arith}
 use lib.ListN.{length}
 use Rattle.utils.specs.Extension.{extended}
@@ -12,7 +12,8 @@ use Rattle.walk.specs.Copy.{copyWalk}
 use Rattle.leaf_walk.specs.Join.{join}
 use Rattle.leaf_walk.proofs.variable_size.Laws.{bytes-in, fits-is, extended-fits}
 use Rattle.node_data.proofs.Laws.{string-wide}
-use Rattle.transform.proofs.leaf_rows.Laws.{full, full-alike, holds-bytes, leaf-data, leaf-parts, leaf-made}
+use Rattle.transform.proofs.leaf_counters.Laws.{full, full-alike, holds-bytes}
+use Rattle.transform.proofs.leaf_rows.Laws.{leaf-data, leaf-parts, leaf-made}
 use Rattle.transform.proofs.leaf_rows.Text.{string-code, bytes-kept, text-in, fits-no, fits-dry}
 use borrow.Author.Needs.{needs}
 use Rattle.transform.proofs.leaf_rows.write_text.Statement.{statement}

@@ -1,15 +1,15 @@
--- `transform::leaf_rows::room_ground` meets its contract. Assumes nothing.
+-- `transform::leaf_counters::room_ground` meets its contract. Assumes nothing.
 use mathlib.Core.Path.{ap, _∙_}
 use mathlib.Core.Bool.{cond}
 use Prim.Native.Nat.{ℕ, _+_, _*_}
 use native.Mathlib.Omega.{arith}
 use lib.ListN.{set, length-set}
-use Rattle.walk.specs.State.{grown, rows}
+use Rattle.walk.specs.State.{rows}
 use Rattle.parts.specs.Parts.{partsWithin, partsHold}
-use Rattle.transform.proofs.leaf_rows.Laws.{put-back}
+use Rattle.transform.proofs.leaf_counters.Laws.{put-back}
 use borrow.Author.Needs.{needs}
-use Rattle.transform.proofs.leaf_rows.room_ground.Statement.{statement}
-use Rattle.transform.proofs.leaf_rows.room_ground.Tie as tie
+use Rattle.transform.proofs.leaf_counters.room_ground.Statement.{statement}
+use Rattle.transform.proofs.leaf_counters.room_ground.Tie as tie
 
 mul-rows : tie.Need-mul-rows
 mul-rows c = search needs

@@ -1,10 +1,10 @@
--- `transform::leaf_rows::add_to` meets its contract. Assumes nothing.
+-- `transform::leaf_counters::add_to` meets its contract. Assumes nothing.
 use mathlib.Core.Path.{ap}
 use Prim.Native.Nat.{ℕ}
 use lib.ListN.{set}
 use borrow.Author.Needs.{needs}
-use Rattle.transform.proofs.leaf_rows.add_to.Statement.{statement}
-use Rattle.transform.proofs.leaf_rows.add_to.Tie as tie
+use Rattle.transform.proofs.leaf_counters.add_to.Statement.{statement}
+use Rattle.transform.proofs.leaf_counters.add_to.Tie as tie
 
 mul-grow : tie.Need-mul-grow
 mul-grow c = search needs
