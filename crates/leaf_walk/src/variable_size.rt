@@ -17,7 +17,7 @@ use array_data::lent_tables;
 use walk::plan_words;
 
 // Whether n offsets of w bytes after the first of those at `from` fit after `last`.
-fn try_offsets(body: &[u8], from: usize, w: u64, n: usize, last: u64) -> utils::Extended
+pub fn try_offsets(body: &[u8], from: usize, w: u64, n: usize, last: u64) -> utils::Extended
     requires { ⌜ from + w * (n + 1) ≤ length (now body) ⌝ }
     requires { ⌜ ((w ≡ 4 → ⊥) → w ≡ 8) ⌝ }
     ensures { λ r. ⌜ r ≡ extended w (now (body .entry)) from n last ⌝ }
@@ -29,7 +29,7 @@ fn try_offsets(body: &[u8], from: usize, w: u64, n: usize, last: u64) -> utils::
 }
 
 // Whether n bytes from the byte `lead` of the data at `at` on lie in the body.
-fn bytes_in(body: &[u8], at: u64, lead: u64, n: u64) -> bool
+pub fn bytes_in(body: &[u8], at: u64, lead: u64, n: u64) -> bool
     ensures { λ r. ⌜ r ≡ leb (at + lead + n) (length (now (body .entry))) ⌝ }
 {
     lent_tables::fits_behind(at, lead, n, body.len() as u64)

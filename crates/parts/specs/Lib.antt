@@ -1,2 +1,3 @@
 -- The definitions that the contracts of `parts` cite.
 pub mod Parts
+pub mod grounds

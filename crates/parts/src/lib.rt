@@ -1,5 +1,7 @@
 // The parts of a destination in the lent room: which there are, whether each holds its bytes, and whether they lie well.
 // Every function reads the state and the parts through getters that answer 0 past a table's end, and is right whatever they hold.
+pub mod grounds;
+
 ghost use mathlib.Core.Path.{_≡_};
 ghost use Prim.Native.Nat.{_+_, _*_, _≤_, _<_, _/_};
 ghost use lib.Dec.{leb};

@@ -1,2 +1,3 @@
 -- What the contracts of `transform` cite beside the orders themselves, which are those of crate `orders`.
 pub mod Answer
+pub mod leaf_rows

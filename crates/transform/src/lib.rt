@@ -1,9 +1,13 @@
 // The two orders on lent memory: each is tried first, on a copy of the counters, and made where no ground is found. A refused one changes nothing.
 // A copy is tried without a look at validity bits, and counts its nulls where it is made.
 // Follows `try_extend` and `try_extend_nulls` of arrow-data 60.1.0 src/transform/mod.rs, Apache-2.0; see NOTICE.
+mod leaf_counters;
+mod leaf_nulls;
+mod leaf_rows;
+
 ghost use mathlib.Core.Path.{_≡_};
 ghost use mathlib.Core.List.{List, []};
-ghost use mathlib.Core.Bool.{cond, _&&_};
+ghost use mathlib.Core.Bool.{_&&_};
 ghost use Prim.Native.Nat.{ℕ, _*_, _<_, _^_, min};
 ghost use lib.ListN.{length, getD};
 ghost use lib.Dec.{leb};
@@ -11,11 +15,11 @@ ghost use Rattle.walk.specs.State.{far};
 ghost use Rattle.walk.specs.Copy.{copyWalk};
 ghost use Rattle.walk.specs.Nulls.{nullWalk};
 ghost use Rattle.leaf_walk.specs.Join.{join};
-ghost use Rattle.parts.specs.Parts.{partsWithin, partsHold};
 ghost use Rattle.sound.specs.trying.Alike.{Alike};
 ghost use Rattle.refinement.specs.orders.Order.{settled, copyOrder, nullOrder};
 ghost use Rattle.transform.specs.Answer.{lent, Answers};
 use array_data::lent_tables;
+use parts::grounds;
 use sound::trying;
 use walk::plan_words;
 
@@ -65,19 +69,6 @@ pub fn store(counters: &mut [u64], counts: &[u64; 96])
 }
 
 // ---- grounds
-
-// Ground 14 where a part does not lie in a room of m bytes, 13 where one cannot hold its bytes.
-fn parts_ground(plan: &[u64], parts: &[u64], counts: &[u64; 96], m: usize) -> u8
-    ensures { λ r. ⌜ r ≡ cond (partsWithin (now (plan .entry)) (now (parts .entry)) m) (cond (partsHold (now (plan .entry)) (now (counts .entry)) (now (parts .entry))) 0 13) 14 ⌝ }
-{
-    if !parts::parts_within(plan, parts, m) {
-        return 14;
-    }
-    if !parts::parts_hold(plan, counts, parts) {
-        return 13;
-    }
-    0
-}
 
 // Whether the rows start .. end - 1 are rows of the source whose first node is `first`.
 pub fn in_source(lengths: &[u64], first: usize, start: u64, end: u64) -> bool
@@ -129,7 +120,8 @@ fn copy_rows(
     if g != 0 {
         return g;
     }
-    let g = parts_ground(plan, parts, &tried, room.len());
+    let asked = copied(tried);
+    let g = grounds::parts_ground(plan, &asked, parts, room.len());
     if g != 0 {
         return g;
     }
@@ -153,6 +145,53 @@ fn copy_rows(
     let made = copied(counts);
     store(counters, &made);
     g
+}
+
+// The same by the kind of the type: a leaf is not tried first.
+fn copy_range(
+    plan: &[u64],
+    parts: &[u64],
+    lengths: &[u64],
+    places: &[u64],
+    body: &[u8],
+    counters: &mut [u64],
+    room: &mut [u8],
+    source: usize,
+    first: usize,
+    start: u64,
+    n: u64,
+) -> u8
+    requires { ⌜ (length (now counters) ≡ 96) × (first < 2 ^ 32) × (source < 2 ^ 32) ⌝ }
+    ensures { λ r. ⌜ ((sources : List ℕ) → Answers (settled (lent (now (plan .entry)) (now (parts .entry)) sources (now (lengths .entry)) (now (places .entry)) (now (body .entry))) (now (counters .entry)) (now (room .entry)) (copyWalk (join (now (plan .entry)) (now (parts .entry)) (now (lengths .entry)) (now (places .entry)) (now (body .entry)) first source) 8 0 start n (now (counters .entry)))) r (now (counters .exit)) (now (room .exit))) ⌝ }
+{
+    if (n != 0) & formats::within(plan_words::code_of(plan, 0), 1, 16) {
+        return leaf_rows::copy_leaf_rows(
+            plan,
+            parts,
+            lengths,
+            places,
+            body,
+            counters,
+            room,
+            source,
+            first,
+            start,
+            n,
+        );
+    }
+    copy_rows(
+        plan,
+        parts,
+        lengths,
+        places,
+        body,
+        counters,
+        room,
+        source,
+        first,
+        start,
+        n,
+    )
 }
 
 // Copies the rows start .. end - 1 of a source behind the destination's rows: 0, or the ground of refusal.
@@ -184,7 +223,7 @@ pub fn try_extend(
     if !in_source(lengths, first, start, end) {
         return 2;
     }
-    copy_rows(
+    copy_range(
         plan,
         parts,
         lengths,
@@ -221,7 +260,8 @@ fn add_nulls(plan: &[u64], parts: &[u64], counters: &mut [u64], room: &mut [u8],
     if g != 0 {
         return g;
     }
-    let g = parts_ground(plan, parts, &tried, room.len());
+    let asked = copied(tried);
+    let g = grounds::parts_ground(plan, &asked, parts, room.len());
     if g != 0 {
         return g;
     }
@@ -230,6 +270,17 @@ fn add_nulls(plan: &[u64], parts: &[u64], counters: &mut [u64], room: &mut [u8],
     let made = copied(counts);
     store(counters, &made);
     g
+}
+
+// The same by the kind of the type: nulls of a leaf are not tried first.
+fn add_null_range(plan: &[u64], parts: &[u64], counters: &mut [u64], room: &mut [u8], n: u64) -> u8
+    requires { ⌜ length (now counters) ≡ 96 ⌝ }
+    ensures { λ r. ⌜ ((sources lengths places body : List ℕ) → Answers (settled (lent (now (plan .entry)) (now (parts .entry)) sources lengths places body) (now (counters .entry)) (now (room .entry)) (nullWalk (join (now (plan .entry)) (now (parts .entry)) [] [] [] 0 0) 8 0 n (now (counters .entry)))) r (now (counters .exit)) (now (room .exit))) ⌝ }
+{
+    if (n != 0) & formats::within(plan_words::code_of(plan, 0), 1, 16) {
+        return leaf_nulls::add_leaf_nulls(plan, parts, counters, room, n);
+    }
+    add_nulls(plan, parts, counters, room, n)
 }
 
 // Adds n nulls behind the destination's rows: 0, or the ground of refusal. No source is read.
@@ -251,5 +302,5 @@ pub fn try_extend_nulls(
     if plan_words::keeps_of(plan, 0) == 0 {
         return 3;
     }
-    add_nulls(plan, parts, counters, room, at_most_far(n))
+    add_null_range(plan, parts, counters, room, at_most_far(n))
 }

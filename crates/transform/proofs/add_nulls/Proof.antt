@@ -30,6 +30,12 @@ returns c =
     let walk : List ℕ → Out = λ l. nullWalk (join (z .plan .now) (z .parts .now) [] [] [] 0 0) 8 0 (z .n) l in
     λ sources lengths places body. settled-no (lent (z .plan .now) (z .parts .now) sources lengths places body) (z .counters .now) (z .room .now) walk (near-same (ap walk (c .before .before .before .before .before .before .load .ensures))) (c .before .before .before .extend-nulls .ensures) (c .if1 .taken)
 
+copied-requires : tie.Need-copied-requires
+copied-requires c κs = search needs
+
+slice-aggregate-parts-ground : tie.Need-slice-aggregate-parts-ground
+slice-aggregate-parts-ground c = search needs
+
 parts-ground-requires : tie.Need-parts-ground-requires
 parts-ground-requires c κs = search needs
 
@@ -41,9 +47,9 @@ same-length-4 c = search needs
 
 returns-2 : tie.Need-returns-2
 returns-2 c =
-    let z = c .before .before .before .before .before .before .before .before .before .before .before .before .before .before .before .args in
+    let z = c .before .before .before .before .before .before .before .before .before .before .before .before .before .before .before .before .args in
     let walk : List ℕ → Out = λ l. nullWalk (join (z .plan .now) (z .parts .now) [] [] [] 0 0) 8 0 (z .n) l in
-    λ sources lengths places body. settled-parts (lent (z .plan .now) (z .parts .now) sources lengths places body) (z .counters .now) (z .room .now) walk (near-same (ap walk (c .before .before .before .before .before .before .before .before .before .load .ensures))) (c .before .before .before .before .before .before .extend-nulls .ensures) (c .before .before .before .if1 .left) (c .before .parts-ground .ensures) (c .if2 .taken)
+    λ sources lengths places body. settled-parts (lent (z .plan .now) (z .parts .now) sources lengths places body) (z .counters .now) (z .room .now) walk (near-same (ap walk (c .before .before .before .before .before .before .before .before .before .before .load .ensures))) (c .before .before .before .before .before .before .before .extend-nulls .ensures) (c .before .before .before .before .if1 .left) (rw (c .before .before .before .copied .ensures) at (c .before .parts-ground .ensures)) (c .if2 .taken)
 
 load-requires-2 : tie.Need-load-requires-2
 load-requires-2 c κs = search needs
@@ -51,11 +57,11 @@ load-requires-2 c κs = search needs
 extend-nulls-requires-2 : tie.Need-extend-nulls-requires-2
 extend-nulls-requires-2 c κs = search needs
 
-copied-requires : tie.Need-copied-requires
-copied-requires c κs = search needs
+copied-requires-2 : tie.Need-copied-requires-2
+copied-requires-2 c κs = search needs
 
 store-requires : tie.Need-store-requires
-store-requires c κs = search needs
+store-requires c κs = (c .before .before .before .before .before .before .before .before .before .before .before .before .before .before .before .before .before .before .before .before .before .before .before .before .before .before .pre, search needs)
 
 same-length-5 : tie.Need-same-length-5
 same-length-5 c = search needs
@@ -65,9 +71,9 @@ same-length-6 c = search needs
 
 returns-3 : tie.Need-returns-3
 returns-3 c =
-    let z = c .before .before .before .before .before .before .before .before .before .before .before .before .before .before .before .before .before .before .before .before .before .before .before .before .before .before .before .before .args in
+    let z = c .before .before .before .before .before .before .before .before .before .before .before .before .before .before .before .before .before .before .before .before .before .before .before .before .before .before .before .before .before .args in
     let walk : List ℕ → Out = λ l. nullWalk (join (z .plan .now) (z .parts .now) [] [] [] 0 0) 8 0 (z .n) l in
-    λ sources lengths places body. settled-made (lent (z .plan .now) (z .parts .now) sources lengths places body) (z .counters .now) (z .room .now) walk (near-same (ap walk (c .before .before .before .before .before .before .before .before .before .before .before .before .before .before .before .before .before .before .before .before .before .before .load .ensures))) (c .before .before .before .before .before .before .before .before .before .before .before .before .before .before .before .before .before .before .before .extend-nulls .ensures) (c .before .before .before .before .before .before .before .before .before .before .before .before .before .before .before .before .if1 .left) (c .before .before .before .before .before .before .before .before .before .before .before .before .before .before .parts-ground .ensures) (c .before .before .before .before .before .before .before .before .before .before .before .before .before .if2 .left) (c .before .before .before .before .before .before .before .before .before .before .before .load2 .ensures) (c .before .before .before .before .before .before .before .before .extend-nulls2 .ensures) (c .before .before .store .ensures ∙ c .before .before .before .before .before .copied .ensures)
+    λ sources lengths places body. settled-made (lent (z .plan .now) (z .parts .now) sources lengths places body) (z .counters .now) (z .room .now) walk (near-same (ap walk (c .before .before .before .before .before .before .before .before .before .before .before .before .before .before .before .before .before .before .before .before .before .before .before .load .ensures))) (c .before .before .before .before .before .before .before .before .before .before .before .before .before .before .before .before .before .before .before .before .extend-nulls .ensures) (c .before .before .before .before .before .before .before .before .before .before .before .before .before .before .before .before .before .if1 .left) (rw (c .before .before .before .before .before .before .before .before .before .before .before .before .before .before .before .before .copied .ensures) at (c .before .before .before .before .before .before .before .before .before .before .before .before .before .before .parts-ground .ensures)) (c .before .before .before .before .before .before .before .before .before .before .before .before .before .if2 .left) (c .before .before .before .before .before .before .before .before .before .before .before .load2 .ensures) (c .before .before .before .before .before .before .before .before .extend-nulls2 .ensures) (c .before .before .store .ensures ∙ c .before .before .before .before .before .copied2 .ensures)
 
 pub add-nulls-spec : {M : Type 1} → statement M
-add-nulls-spec = tie.close (tie.spec load-requires extend-nulls-requires same-length same-length-2 returns parts-ground-requires same-length-3 same-length-4 returns-2 load-requires-2 extend-nulls-requires-2 copied-requires store-requires same-length-5 same-length-6 returns-3)
+add-nulls-spec = tie.close (tie.spec load-requires extend-nulls-requires same-length same-length-2 returns copied-requires slice-aggregate-parts-ground parts-ground-requires same-length-3 same-length-4 returns-2 load-requires-2 extend-nulls-requires-2 copied-requires-2 store-requires same-length-5 same-length-6 returns-3)

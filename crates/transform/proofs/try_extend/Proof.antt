@@ -52,14 +52,14 @@ returns-4 c =
     let x = lent (z .plan .now) (z .parts .now) (z .sources .now) (z .lengths .now) (z .places .now) (z .body .now) in
     copy-range x (z .counters .now) (z .room .now) (z .source) (z .start) (z .end) (c .before .before .before .before .before .before .before .if1 .left) (yes (c .before .before .before .before .before .before .is-walkable .ensures) (c .before .before .before .before .before .if2 .left)) (c .before .before .before .before .at-u64 .ensures) (c .before .before .before .if3 .left) (c .before .before .at-u32 .ensures) (no (c .before .in-source .ensures) (c .if4 .taken))
 
-sub-copy-rows : tie.Need-sub-copy-rows
-sub-copy-rows c =
+sub-copy-range : tie.Need-sub-copy-range
+sub-copy-range c =
     let z = c .before .before .before .before .before .before .before .before .before .before .before .before .before .before .before .before .before .before .args in
     let f : z .start ≤ z .end = leb-true _ _ (and-left (leb (z .start) (z .end)) _ (yes (c .before .before .before .in-source .ensures) (c .before .before .if4 .left))) in
     omega (arith, f)
 
-copy-rows-requires : tie.Need-copy-rows-requires
-copy-rows-requires c κs = search needs
+copy-range-requires : tie.Need-copy-range-requires
+copy-range-requires c κs = search needs
 
 same-length : tie.Need-same-length
 same-length c = search needs
@@ -71,7 +71,7 @@ returns-5 : tie.Need-returns-5
 returns-5 c =
     let z = c .before .before .before .before .before .before .before .before .before .before .before .before .before .before .before .before .before .before .before .before .before .before .before .args in
     let x = lent (z .plan .now) (z .parts .now) (z .sources .now) (z .lengths .now) (z .places .now) (z .body .now) in
-    copy-made x (z .counters .now) (z .room .now) (z .source) (z .start) (z .end) (c .before .before .before .before .before .before .before .before .before .before .before .before .before .before .if1 .left) (yes (c .before .before .before .before .before .before .before .before .before .before .before .before .before .is-walkable .ensures) (c .before .before .before .before .before .before .before .before .before .before .before .before .if2 .left)) (c .before .before .before .before .before .before .before .before .before .before .before .at-u64 .ensures) (c .before .before .before .before .before .before .before .before .before .before .if3 .left) (c .before .before .before .before .before .before .before .before .before .at-u32 .ensures) (yes (c .before .before .before .before .before .before .before .before .in-source .ensures) (c .before .before .before .before .before .before .before .if4 .left)) (c .before .before .before .before .copy-rows .ensures (z .sources .now))
+    copy-made x (z .counters .now) (z .room .now) (z .source) (z .start) (z .end) (c .before .before .before .before .before .before .before .before .before .before .before .before .before .before .if1 .left) (yes (c .before .before .before .before .before .before .before .before .before .before .before .before .before .is-walkable .ensures) (c .before .before .before .before .before .before .before .before .before .before .before .before .if2 .left)) (c .before .before .before .before .before .before .before .before .before .before .before .at-u64 .ensures) (c .before .before .before .before .before .before .before .before .before .before .if3 .left) (c .before .before .before .before .before .before .before .before .before .at-u32 .ensures) (yes (c .before .before .before .before .before .before .before .before .in-source .ensures) (c .before .before .before .before .before .before .before .if4 .left)) (c .before .before .before .before .copy-range .ensures (z .sources .now))
 
 pub try-extend-spec : {M : Type 1} → statement M
-try-extend-spec = tie.close (tie.spec returns is-walkable-requires returns-2 at-u64-requires returns-3 mul-at-u32 at-u32-requires cast-first in-source-requires returns-4 sub-copy-rows copy-rows-requires same-length same-length-2 returns-5)
+try-extend-spec = tie.close (tie.spec returns is-walkable-requires returns-2 at-u64-requires returns-3 mul-at-u32 at-u32-requires cast-first in-source-requires returns-4 sub-copy-range copy-range-requires same-length same-length-2 returns-5)

@@ -30,8 +30,8 @@ returns-3 c =
 at-most-far-requires : tie.Need-at-most-far-requires
 at-most-far-requires c κs = search needs
 
-add-nulls-requires : tie.Need-add-nulls-requires
-add-nulls-requires c κs = search needs
+add-null-range-requires : tie.Need-add-null-range-requires
+add-null-range-requires c κs = search needs
 
 same-length : tie.Need-same-length
 same-length c = search needs
@@ -42,7 +42,7 @@ same-length-2 c = search needs
 returns-4 : tie.Need-returns-4
 returns-4 c =
     let z = c .before .before .before .before .before .before .before .before .before .before .before .before .before .before .before .before .before .args in
-    λ sources lengths places body. null-made (lent (z .plan .now) (z .parts .now) sources lengths places body) (z .counters .now) (z .room .now) (z .n) (c .before .before .before .before .before .before .before .before .before .before .before .before .if1 .left) (yes (c .before .before .before .before .before .before .before .before .before .before .before .is-walkable .ensures) (c .before .before .before .before .before .before .before .before .before .before .if2 .left)) (c .before .before .before .before .before .before .before .before .before .keeps-of .ensures) (c .before .before .before .before .before .before .before .before .if3 .left) (c .before .before .before .before .before .at-most-far .ensures) (c .before .before .before .before .add-nulls .ensures sources lengths places body)
+    λ sources lengths places body. null-made (lent (z .plan .now) (z .parts .now) sources lengths places body) (z .counters .now) (z .room .now) (z .n) (c .before .before .before .before .before .before .before .before .before .before .before .before .if1 .left) (yes (c .before .before .before .before .before .before .before .before .before .before .before .is-walkable .ensures) (c .before .before .before .before .before .before .before .before .before .before .if2 .left)) (c .before .before .before .before .before .before .before .before .before .keeps-of .ensures) (c .before .before .before .before .before .before .before .before .if3 .left) (c .before .before .before .before .before .at-most-far .ensures) (c .before .before .before .before .add-null-range .ensures sources lengths places body)
 
 pub try-extend-nulls-spec : {M : Type 1} → statement M
-try-extend-nulls-spec = tie.close (tie.spec returns is-walkable-requires returns-2 keeps-of-requires returns-3 at-most-far-requires add-nulls-requires same-length same-length-2 returns-4)
+try-extend-nulls-spec = tie.close (tie.spec returns is-walkable-requires returns-2 keeps-of-requires returns-3 at-most-far-requires add-null-range-requires same-length same-length-2 returns-4)

@@ -1,0 +1,2 @@
+-- What the grounds of parts go by.
+pub mod Laws

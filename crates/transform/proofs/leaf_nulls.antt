@@ -1,0 +1,2 @@
+-- What nulls at a leaf go by.
+pub mod Laws

@@ -1,0 +1,2 @@
+-- What the contracts of `transform::leaf_rows` cite beside the walk itself.
+pub mod Leaf

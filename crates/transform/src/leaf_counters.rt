@@ -1,0 +1,41 @@
+// The counters of an order at a leaf, where they are lent: the parts are asked with them raised, and a refusal finds them put back.
+ghost use mathlib.Core.Path.{_≡_};
+ghost use mathlib.Core.Bool.{cond};
+ghost use Prim.Native.Nat.{_<_};
+ghost use lib.ListN.{length, getD, set};
+ghost use Rattle.walk.specs.State.{grown, addRows, setBytes};
+ghost use Rattle.parts.specs.Parts.{partsWithin, partsHold};
+use parts::grounds;
+use walk::plan_words;
+
+// A counter n higher; it stays at the largest number.
+pub fn add_to(counters: &mut [u64], k: usize, n: u64)
+    requires { ⌜ k < length (now counters) ⌝ }
+    ensures { λ _. ⌜ now (counters .exit) ≡ set (now (counters .entry)) k (grown (getD (now (counters .entry)) k 0) n) ⌝ }
+{
+    counters[k] = plan_words::grow(counters[k], n);
+}
+
+// What the parts say to n rows more at node i, and to so many bytes of data there. The counters are put back.
+pub fn room_ground(
+    plan: &[u64],
+    parts: &[u64],
+    counters: &mut [u64],
+    m: usize,
+    i: usize,
+    n: u64,
+    b: u64,
+) -> u8
+    requires { ⌜ (length (now counters) ≡ 96) × (i < 32) ⌝ }
+    ensures { λ r. ⌜ r ≡ cond (partsWithin (now (plan .entry)) (now (parts .entry)) m) (cond (partsHold (now (plan .entry)) (setBytes i b (addRows i n (now (counters .entry)))) (now (parts .entry))) 0 13) 14 ⌝ }
+    ensures { λ _. ⌜ now (counters .exit) ≡ now (counters .entry) ⌝ }
+{
+    let rows = counters[3 * i];
+    let old = counters[3 * i + 2];
+    counters[3 * i] = plan_words::grow(rows, n);
+    counters[3 * i + 2] = b;
+    let g = grounds::parts_ground(plan, counters, parts, m);
+    counters[3 * i] = rows;
+    counters[3 * i + 2] = old;
+    g
+}
