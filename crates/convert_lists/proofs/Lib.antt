@@ -1,0 +1,7 @@
+-- The laws of the converter between lists and list-views.
+pub mod OneCopies
+pub mod Fresh
+pub mod Root
+pub mod Listing
+pub mod RootUses
+pub mod ListFills

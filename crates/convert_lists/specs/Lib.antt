@@ -1,0 +1,3 @@
+-- The converter between lists and list-views (02, W4).
+pub mod Exact
+pub mod Listing
