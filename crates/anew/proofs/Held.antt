@@ -10,7 +10,7 @@ use lib.ListN.{length}
 use Rattle.columnar.specs.Types.{Plain, fixed, string, Ty, tPlain, tView, tListView, tList, tSparse, tDense, tRunEnd, tDictionary}
 use Rattle.columnar.specs.Array.{Array}
 use Rattle.columnar.specs.Plain.{PlainBody}
-use Rattle.columnar.specs.Reading.{Column, masks, Source}
+use Rattle.columnar.specs.Reading.{Body, Column, masks, Source}
 use Rattle.model.specs.Mutable.{Mutable, freezeNode}
 use Rattle.model.specs.Transform.{Destination, freezeData, intoBuilder}
 use Rattle.model.proofs.Law.{BitsFor, FineNode}
@@ -19,9 +19,9 @@ use Rattle.walk.specs.State.{word, endOf, keepsOf, rows, bytes}
 use Rattle.refinement.specs.walk_is_model.Memory.{Memory}
 use Rattle.refinement.specs.walk_is_model.Holds.{childOf, Worded, HoldsBits, HoldsPlain, Holds}
 use Rattle.refinement.proofs.walk_is_model.Frame.{field-of, worded-span}
-use Rattle.refinement.specs.orders.Order.{Lent}
+use Rattle.refinement.specs.walk_is_model.Lent.{LentNode, LentPlain}
+use Rattle.refinement.specs.orders.Order.{Lent, joinOf}
 use Rattle.refinement.proofs.orders.Cover.{Laid}
-use Rattle.refinement.proofs.finishing.Given.{Stands}
 use Rattle.anew.specs.Stood.{BitsOf, StoodNode, Stored, StoodPlain, BuffersNamed, StoodValues, in-parts, kept, StoodData, Stood}
 
 bits-of : (m : Bool) (o : Option (List Bool)) (n : ℕ) → BitsFor m o n → BitsOf m o n
@@ -67,17 +67,25 @@ module _ (x : Lent) (buffers counts : List ℕ) (μ : Memory) where
   held-ends i w d k e r a l =
       held-node i true (λ b. b) d (λ m s. Stored x buffers counts μ i 1 m w s) r (subst (λ b. BitsFor true b (d .len)) (sym e) tt) (subst (λ b. HoldsBits plan i true b μ) (sym e) k) (stored i 1 (d .len) w (d .«data») a l)
 
+  -- what the column's tables name, from node i on: the data buffers of views, and the values of dictionaries, which are kept
+  abbrev pub NamedBelow : (t : Ty) → ℕ → Body t → Type 0
+  NamedBelow (tPlain p) i b = Unit {0}
+  NamedBelow tView i b = BuffersNamed x buffers counts μ i (b .buffers)
+  NamedBelow (tListView w t) i b = NamedBelow t (suc i) (b .child .body)
+  NamedBelow (tList w t) i b = NamedBelow t (suc i) (b .child .body)
+  NamedBelow (tSparse ids nullable f) i b = (e : ℕ) → List·Memᴰ e ids → NamedBelow (f e) (childOf plan i e) (b .children e .body)
+  NamedBelow (tDense ids nullable f) i b = (e : ℕ) → List·Memᴰ e ids → NamedBelow (f e) (childOf plan i e) (b .children e .body)
+  NamedBelow (tRunEnd w t) i b = NamedBelow t (suc (suc i)) (b .values .body)
+  NamedBelow (tDictionary k p) i b = (word plan i 7 ≡ 0) × LentNode (joinOf x 0) (suc i) (LentPlain (joinOf x 0) p (suc i)) (b .values)
+
   module _ (laid : Laid plan) where
     -- A NODE OF ANY TYPE that orders on one source have filled, its dictionaries kept
     pub held-stands : (k : ℕ) (t : Ty) (i : ℕ) (ss : ℕ → Column t) (d : Destination t) → Worded plan k t i → endOf plan i ≤ endOf plan 0 → FineNode (masks t) (fineOf t 1 (λ j. ss j .body)) 1 ss d
-        → Holds plan t i d counts μ → Stands x buffers 1 counts μ t i (λ j. ss j .body) → ((j : ℕ) → j < 1 → Source t (ss j)) → Stood x buffers counts μ t i (intoBuilder t 1 ss d)
+        → Holds plan t i d counts μ → NamedBelow t i (ss 0 .body) → ((j : ℕ) → j < 1 → Source t (ss j)) → Stood x buffers counts μ t i (intoBuilder t 1 ss d)
     held-stands (suc k) (tPlain p) i ss d w l f h st ob = held-plain p i ss d f h
     held-stands (suc k) tView i ss d w l f h st ob =
         held-node i true (freezeData tView 1 (λ j. ss j .body)) d (StoodData x buffers counts μ tView i) (h .rows-are) (f .bits-are) (h .bits-are)
-        (stored i 1 (d .len) 16 (d .«data») (h .data-are) (f .data-fine .views-are), named)
-      where
-        named : BuffersNamed x buffers counts μ i (ss 0 .body .buffers)
-        named = let q = st 0 (omega arith) in record { buffers-are = q .0 .buffers-are; inside = q .0 .inside; few = q .1 }
+        (stored i 1 (d .len) 16 (d .«data») (h .data-are) (f .data-fine .views-are), st)
     held-stands (suc k) (tListView v t) i ss d w l f h st ob =
         let z : endOf plan i ≡ endOf plan (suc i) = w .1 in
         held-node i true (freezeData (tListView v t) 1 (λ j. ss j .body)) d (StoodData x buffers counts μ (tListView v t) i) (h .rows-are) (f .bits-are) (h .bits-are) (
@@ -115,5 +123,5 @@ module _ (x : Lent) (buffers counts : List ℕ) (μ : Memory) where
     held-stands (suc k) (tDictionary q p) i ss d w l f h st ob =
         held-node i true (freezeData (tDictionary q p) 1 (λ j. ss j .body)) d (StoodData x buffers counts μ (tDictionary q p) i) (h .rows-are) (f .bits-are) (h .bits-are) (
           stored i 1 (d .len) _ (d .«data») (h .data-are) (f .data-fine .keys-are),
-          kept (st .joined-word) (ss 0 .body .values) (st .kept refl) (ob 0 (omega arith) .slots .child-rule) refl,
+          kept (st .0) (ss 0 .body .values) (st .1) (ob 0 (omega arith) .slots .child-rule) refl,
         )

@@ -5,3 +5,9 @@ pub mod Root
 pub mod Listing
 pub mod RootUses
 pub mod ListFills
+pub mod Subtree
+pub mod Alike
+pub mod Column
+pub mod ListLent
+pub mod ListParts
+pub mod ToList

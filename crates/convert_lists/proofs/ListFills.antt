@@ -35,13 +35,12 @@ use Rattle.refinement.proofs.orders.Sound.{closed-sound, root-reached, reached-
 use Rattle.refinement.proofs.orders.Buffers.{copied-free, lists-one, buffer-copied}
 use Rattle.refinement.proofs.opening.Uses.{zeros-use}
 use Rattle.refinement.proofs.opening.Zeros.{empty}
-use Rattle.refinement.proofs.finishing.Given.{Stands}
 use Rattle.column_anew.specs.lists.Laid.{laid}
 use Rattle.column_anew.specs.lists.Listed.{kid, listings, listed, groundOf}
 use Rattle.column_anew.proofs.lists.Listed.{listed-source}
 use Rattle.anew.specs.Stood.{Stood}
 use Rattle.anew.proofs.Bits.{bits-stand}
-use Rattle.anew.proofs.Held.{held-stands}
+use Rattle.anew.proofs.Held.{NamedBelow, held-stands}
 use Rattle.anew.proofs.Result.{Filled}
 use Rattle.convert_lists.specs.Listing.{validity, offsetAt, sizeAt, endRow, copyRow, listRow, listRows, listWalk}
 use Rattle.convert_lists.proofs.Listing.{ListView, Made, list-goes}
@@ -96,7 +95,7 @@ module _ (l : Lent) (w : ℕ) (t : Ty) (v : Column (tListView w t)) (g : ListVie
 
   -- ---- what stands
 
-  module _ (buffers : List ℕ) (st : (c : List ℕ) (μ : Memory) → Stands l buffers 1 c μ t 1 (λ j. kid w t v .body)) where
+  module _ (buffers : List ℕ) (st : (c : List ℕ) (μ : Memory) → NamedBelow l buffers c μ t 1 (kid w t v .body)) where
     -- the list that the rows are made into
     abbrev whole : Listings (Grown t) → Column (tList w t)
     whole d = laid true v 0 (v .len) (listsFreeze (intoBuilder t 1 (λ j. kid w t v)) d)
