@@ -100,30 +100,30 @@ steps-stop f (suc n) a m g x y e h =
     rw z (ap (λ t. then t (stepsT f (suc a) (n + suc m))) (r .1 .0) ∙ steps-stop f n (suc a) m g (r .0) y (r .1 .1) (rw u at h))
 
 module _ (w : ℕ) (t : Ty) (x : Column (tListView w t)) (g : Formed (tListView w t)) (s : Source (tListView w t) x) (few : FewBuffers (tListView w t) x) where
-  abbrev kids : ℕ → Column t
+  abbrev pub kids : ℕ → Column t
   kids = λ j. kid w t x
 
-  abbrev K : Kind (Body t) (Grown t)
+  abbrev pub K : Kind (Body t) (Grown t)
   K = kindOf t 1 (λ i. kid w t x .body)
 
   law : Law K 1 kids
   law = one-law t (kid w t x) (s .slots .child-rule) few
 
-  abbrev Fit : Listings (Grown t) → ℕ → Type 0
+  abbrev pub Fit : Listings (Grown t) → ℕ → Type 0
   Fit = ListsFine w (Fine K 1 kids)
 
-  abbrev see : Listings (Grown t) → ℕ → Row
+  abbrev pub see : Listings (Grown t) → ℕ → Row
   see = seen (listsKind w K 1 kids)
 
-  abbrev heldKid : Listings (Grown t) → ℕ → Counts
+  abbrev pub heldKid : Listings (Grown t) → ℕ → Counts
   heldKid d l = held t (d .child)
 
   -- what row i holds: the child's rows where it is valid, else none
-  abbrev wantIf : Bool → ℕ → Row
+  abbrev pub wantIf : Bool → ℕ → Row
   wantIf true i = listViewAt w (slotAt t) (x .body) (x .off + i)
   wantIf false i = list end
 
-  abbrev want : ℕ → Row
+  abbrev pub want : ℕ → Row
   want i = wantIf (validAt w t x i) i
 
   want-valid : (b : Bool) (i : ℕ) → T b → wantIf b i ≡ listViewAt w (slotAt t) (x .body) (x .off + i)
@@ -149,7 +149,7 @@ module _ (w : ℕ) (t : Ty) (x : Column (tListView w t)) (g : Formed (tListView 
         keeps = λ x. x;
       }
 
-  row-step : Step see Fit (λ d. Unit {0}) heldKid (λ i. rowIf w t x (validAt w t x i) i) (λ i. askIf w t x (validAt w t x i) i) (λ i. Entry w (x .body) (x .off + i)) want
+  pub row-step : Step see Fit (λ d. Unit {0}) heldKid (λ i. rowIf w t x (validAt w t x i) i) (λ i. askIf w t x (validAt w t x i) i) (λ i. Entry w (x .body) (x .off + i)) want
   row-step a l d e h = go (validAt w t x a) refl
     where
       go : (b : Bool) → validAt w t x a ≡ b
@@ -167,7 +167,7 @@ module _ (w : ℕ) (t : Ty) (x : Column (tListView w t)) (g : Formed (tListView 
           let y : d .child .len - d .child .len ≡ 0 = omega arith in
           both _ (row-added a l d (d .child) h (h .child-fine) (omega arith) (h .offsets-fine .fits) (λ i q. refl) (rw (y, z) refl))
 
-  start-fit : Fit (noLists w t x) 0
+  pub start-fit : Fit (noLists w t x) 0
   start-fit =
       record {
         offsets-fine = start-data false (tList w t) false 1 (λ i. record { offsets = x .body .offsets; child = kid w t x }) (λ i. true) (omega arith) g .offsets-fine;

@@ -1,0 +1,5 @@
+-- The converter between lists and list-views (02, W4).
+pub mod Exact
+pub mod Listing
+pub mod Turned
+pub mod ToList
