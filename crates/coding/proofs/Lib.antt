@@ -1,0 +1,12 @@
+-- Laws of `coding`.
+pub mod Accepted
+pub mod Asked
+pub mod Codes
+pub mod Encoded
+pub mod Fitted
+pub mod Grounds
+pub mod Node
+pub mod Room
+pub mod Rows
+pub mod Tests
+pub mod Walked

@@ -1,0 +1,3 @@
+-- The definitions that the contracts of `coding` cite.
+pub mod Encode
+pub mod Counted

@@ -1,0 +1,287 @@
+// A fixed-width column into runs: the question before any room is lent, and the call.
+ghost use mathlib.Core.Path.{_≡_};
+ghost use mathlib.Core.List.{[]};
+ghost use mathlib.Core.Bool.{true};
+ghost use Prim.Native.Nat.{_-_};
+ghost use lib.ListN.{length};
+ghost use Rattle.formats.specs.Code.{widthOf};
+ghost use Rattle.schema.specs.Tree.{codeOf};
+ghost use Rattle.array_data.specs.lent_tables.Lent.{tables};
+ghost use Rattle.source_rules.specs.kinds.Rows.{tablesOf};
+ghost use Rattle.with_capacities.specs.Answer.{Answers};
+ghost use Rattle.anew.specs.ResultPlan.{keepsFrom, Comes, planAnew};
+ghost use Rattle.result_plan.specs.Answer.{Asks};
+ghost use Rattle.sums.specs.patterns.Parts.{Sized};
+ghost use Rattle.coding.specs.Counted.{allCounts};
+ghost use Rattle.coding.specs.Encode.{runsOver, encodeOwn, fromColumn, encodeAsked, encoding, lastOf, Codable, RoomFor, runsIn};
+use run_coding::Spots;
+use run_coding::encode;
+use walk::plan_words;
+
+// Whether the three nodes from node `target` on are a run-end type over the format of the column that begins at node `first`.
+fn is_due(formats: &[u8], schema: &[u32], first: u32, target: u32) -> bool
+    ensures { λ r. ⌜ r ≡ runsOver (now (formats .entry)) (now (schema .entry)) first target ⌝ }
+{
+    let at = target as usize;
+    if !schema::is_within_ceilings(formats, schema, at, 3) {
+        return false;
+    }
+    if !schema::is_typed(formats, schema, at, 3) {
+        return false;
+    }
+    if !formats::is_run_end(schema::code_of(formats, schema, at, 0)) {
+        return false;
+    }
+    if !crate::is_plain(formats, schema, target, 2) {
+        return false;
+    }
+    schema::code_of(formats, schema, at, 2) == schema::code_of(formats, schema, first as usize, 0)
+}
+
+// THE GROUNDS OF ITS OWN before room is asked: 10, 2, 7.
+fn own_ground(
+    formats: &[u8],
+    schema: &[u32],
+    lengths: &[u64],
+    first: u32,
+    target: u32,
+    start: u64,
+    end: u64,
+) -> u8
+    ensures { λ r. ⌜ r ≡ encodeOwn (now (formats .entry)) (now (schema .entry)) (tables (now (lengths .entry)) [] []) first 0 target start end ⌝ }
+{
+    if !crate::is_plain(formats, schema, first, 0) {
+        return 10;
+    }
+    if !is_due(formats, schema, first, target) {
+        return 10;
+    }
+    if !column_pair::is_range(lengths, first, start, end) {
+        return 2;
+    }
+    let w = formats::width_of(schema::code_of(formats, schema, target as usize, 1));
+    if !crate::ends_hold(w, end - start) {
+        return 7;
+    }
+    0
+}
+
+// The plan of the runs.
+fn planned(
+    formats: &[u8],
+    schema: &[u32],
+    lengths: &[u64],
+    places: &[u64],
+    body: &[u8],
+    first: u32,
+    target: u32,
+) -> [u64; 872]
+    requires { ⌜ Comes (tables (now lengths) (now places) (now body)) first 3 fromColumn ⌝ }
+    ensures { λ r. ⌜ r ≡ planAnew (now (formats .entry)) (now (schema .entry)) target 3 (keepsFrom (tables (now (lengths .entry)) (now (places .entry)) (now (body .entry))) first fromColumn) true 0 ⌝ }
+{
+    let mut state = [0u64; 872];
+    let from = [0u64, 0, 1];
+    result_plan::plan_anew(
+        formats,
+        schema,
+        target as usize,
+        3,
+        lengths,
+        places,
+        body,
+        first as usize,
+        &from,
+        true,
+        0,
+        &mut state,
+    );
+    state
+}
+
+// The counters of n runs of m rows.
+fn counters_of(m: u64, n: u64) -> [u64; 96]
+    ensures { λ r. ⌜ r ≡ allCounts m n ⌝ }
+{
+    let mut counts = [0u64; 96];
+    counts[3] = n;
+    counts[6] = n;
+    counts[0] = m;
+    counts
+}
+
+// The counters of the runs of the rows start .. end - 1.
+fn tried(
+    formats: &[u8],
+    schema: &[u32],
+    lengths: &[u64],
+    places: &[u64],
+    body: &[u8],
+    first: u32,
+    start: u64,
+    end: u64,
+    keep: bool,
+) -> [u64; 96]
+    requires { ⌜ Codable (now formats) (now schema) (tables (now lengths) (now places) (now body)) first start end keep ⌝ }
+    ensures { λ r. ⌜ r ≡ allCounts (end - start) (length (lastOf (now (formats .entry)) (now (schema .entry)) (tables (now (lengths .entry)) (now (places .entry)) (now (body .entry))) first start end keep)) ⌝ }
+{
+    let w = formats::width_of(schema::code_of(formats, schema, first as usize, 0));
+    let s = crate::slots_of(lengths, places, first, 0, w, start);
+    let m = end - start;
+    let k = encode::count_runs(body, w, keep, s, m as usize);
+    counters_of(m, k)
+}
+
+// The runs of the rows start .. end - 1 into their parts.
+fn write(
+    formats: &[u8],
+    schema: &[u32],
+    lengths: &[u64],
+    places: &[u64],
+    body: &[u8],
+    first: u32,
+    target: u32,
+    start: u64,
+    end: u64,
+    keep: bool,
+    state: &[u64],
+    parts: &[u64],
+    room: &mut [u8],
+)
+    requires { ⌜ Sized (widthOf (codeOf (now formats) (now schema) target 1)) × Codable (now formats) (now schema) (tables (now lengths) (now places) (now body)) first start end keep ⌝ }
+    requires { ⌜ RoomFor (now formats) (now schema) (tables (now lengths) (now places) (now body)) first start end target (now state) (now parts) keep (length (now room)) ⌝ }
+    ensures { λ _. ⌜ now (room .exit) ≡ runsIn (now (formats .entry)) (now (schema .entry)) (tables (now (lengths .entry)) (now (places .entry)) (now (body .entry))) first start end target (now (state .entry)) (now (parts .entry)) keep (now (room .entry)) ⌝ }
+{
+    let w = formats::width_of(schema::code_of(formats, schema, first as usize, 0));
+    let e = formats::width_of(schema::code_of(formats, schema, target as usize, 1));
+    let s = crate::slots_of(lengths, places, first, 0, w, start);
+    let t = Spots {
+        ends: crate::start_of(state, parts, 1, 1) as usize,
+        values: crate::start_of(state, parts, 2, 1) as usize,
+        mask: crate::start_of(state, parts, 2, 0) as usize,
+    };
+    encode::write_runs(room, body, w, keep, s, e, t, (end - start) as usize);
+}
+
+// THE QUESTION before any room is lent: the first ground that stands, or the plan and the counters of the result.
+pub fn plan_encode(
+    formats: &[u8],
+    schema: &[u32],
+    lengths: &[u64],
+    places: &[u64],
+    buffers: &[u64],
+    body: &[u8],
+    first: u32,
+    n: u32,
+    target: u32,
+    start: u64,
+    end: u64,
+    plan: &mut [u64],
+    counters: &mut [u64],
+) -> u8
+    ensures { λ r. ⌜ Asks (encodeAsked (now (formats .entry)) (now (schema .entry)) (tablesOf (now (lengths .entry)) (now (places .entry)) (now (buffers .entry)) (now (body .entry))) first n target start end (now (plan .entry)) (now (counters .entry))) r (now (plan .exit)) (now (counters .exit)) ⌝ }
+{
+    let g = columns::column_ground(formats, schema, lengths, places, buffers, body, first, n);
+    if g != 0 {
+        return g;
+    }
+    let g = own_ground(formats, schema, lengths, first, target, start, end);
+    if g != 0 {
+        return g;
+    }
+    if plan.len() != 872 {
+        return 14;
+    }
+    if counters.len() != 96 {
+        return 14;
+    }
+    let state = planned(formats, schema, lengths, places, body, first, target);
+    let keep = plan_words::keeps_of(&state, 2) != 0;
+    let counts = tried(
+        formats,
+        schema,
+        lengths,
+        places,
+        body,
+        first,
+        start,
+        end,
+        keep,
+    );
+    result_plan::keep_result(plan, counters, &state, &counts);
+    0
+}
+
+// THE CALL: the runs of the rows start .. end - 1 of the column of n nodes that begins at node `first`, of the type whose three nodes begin
+// at node `target`. What it leaves is finished as a join is.
+pub fn encode(
+    formats: &[u8],
+    schema: &[u32],
+    lengths: &[u64],
+    places: &[u64],
+    buffers: &[u64],
+    body: &[u8],
+    first: u32,
+    n: u32,
+    target: u32,
+    start: u64,
+    end: u64,
+    parts: &[u64],
+    plan: &mut [u64],
+    counters: &mut [u64],
+    room: &mut [u8],
+) -> u8
+    ensures { λ r. ⌜ Answers (encoding (now (formats .entry)) (now (schema .entry)) (tablesOf (now (lengths .entry)) (now (places .entry)) (now (buffers .entry)) (now (body .entry))) first n target start end (now (parts .entry)) (now (plan .entry)) (now (counters .entry)) (now (room .entry))) r (now (plan .exit)) (now (counters .exit)) (now (room .exit)) ⌝ }
+{
+    if crate::CEILING < room.len() {
+        return 9;
+    }
+    let g = columns::column_ground(formats, schema, lengths, places, buffers, body, first, n);
+    if g != 0 {
+        return g;
+    }
+    let g = own_ground(formats, schema, lengths, first, target, start, end);
+    if g != 0 {
+        return g;
+    }
+    let state = planned(formats, schema, lengths, places, body, first, target);
+    let keep = plan_words::keeps_of(&state, 2) != 0;
+    let counts = tried(
+        formats,
+        schema,
+        lengths,
+        places,
+        body,
+        first,
+        start,
+        end,
+        keep,
+    );
+    let g = result_plan::room_ground(
+        &state,
+        &counts,
+        parts,
+        plan.len(),
+        counters.len(),
+        room.len(),
+    );
+    if g != 0 {
+        return g;
+    }
+    write(
+        formats,
+        schema,
+        lengths,
+        places,
+        body,
+        first,
+        target,
+        start,
+        end,
+        keep,
+        &state,
+        parts,
+        room,
+    );
+    result_plan::keep_result(plan, counters, &state, &counts);
+    0
+}
