@@ -1,0 +1,9 @@
+-- What a reclaiming leaves, and the theorems on it.
+pub mod Placeless
+pub mod Answered
+pub mod Rows
+pub mod Entries
+pub mod Fills
+pub mod Uses
+pub mod Plans
+pub mod Theorems

@@ -1,0 +1,2 @@
+-- The definitions that the contracts of `reclaim` cite (02, W9).
+pub mod Reclaim

@@ -1,0 +1,2 @@
+-- What the walk of a reclaiming goes by.
+pub mod Laws

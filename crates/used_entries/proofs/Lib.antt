@@ -1,0 +1,3 @@
+-- The laws of entries in use.
+pub mod Laws
+pub mod Rewrites

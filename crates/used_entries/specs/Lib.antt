@@ -1,0 +1,2 @@
+-- The entries of a dictionary that the keys of rows use, as definitions that the contracts cite.
+pub mod Keys
