@@ -1,0 +1,6 @@
+-- The laws of `target_rules`.
+pub mod Codes
+pub mod Before
+pub mod Types
+pub mod Rules
+pub mod Turned
