@@ -4,3 +4,5 @@ pub mod Before
 pub mod Types
 pub mod Rules
 pub mod Turned
+pub mod Inverse
+pub mod Exact

@@ -22,10 +22,10 @@ use Rattle.target_rules.proofs.Types.{type-widths}
 
 -- ---- tests
 
-two : {a b : Bool} → a ≡ true → b ≡ true → a && b ≡ true
+pub two : {a b : Bool} → a ≡ true → b ≡ true → a && b ≡ true
 two {a} {b} e f = ap (λ x. x && b) e ∙ f
 
-or-cases : {P : Type 0} (a b : Bool) → a || b ≡ true → (a ≡ true → P) → (b ≡ true → P) → P
+pub or-cases : {P : Type 0} (a b : Bool) → a || b ≡ true → (a ≡ true → P) → (b ≡ true → P) → P
 or-cases true b h f g = f refl
 or-cases false b h f g = g h
 
@@ -148,7 +148,7 @@ module _ (formats schema : List ℕ) (first i : ℕ) (h : shape formats schema f
       no : (a b : ℕ) → 0 < a → between a b c ≡ true → ⊥
       no a b l h = omega (arith, range a b c h .0)
 
-  union-ids : isUnion c ≡ true → childForEach schema first (idsOf formats schema first i) i ≡ true
+  pub union-ids : isUnion c ≡ true → childForEach schema first (idsOf formats schema first i) i ≡ true
   unfolding shape leafShape keysShape listShape unionShape runShape
   union-ids u =
       five formats schema first (leafShape formats schema first i) (keysShape formats schema first i) (listShape formats schema first i) (unionShape formats schema first i) (runShape formats schema first i) h

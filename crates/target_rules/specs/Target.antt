@@ -5,7 +5,7 @@ use mathlib.Core.Bool.{Bool, true, false, _&&_, _||_}
 use mathlib.Core.List.{List}
 use Prim.Native.Nat.{ℕ, zero, suc, _%_, _<_}
 use lib.Dec.{eqb}
-use Rattle.formats.specs.Code.{isInteger, isString, isListView, isList, isUnion, isRunEnd}
+use Rattle.formats.specs.Code.{isInteger, isString, isView, isListView, isList, isUnion, isRunEnd}
 use Rattle.schema.specs.Tree.{every, flag, children, dictionary, isValues, codeOf, idsOf, ceilings, typed, sameFlag, sameFormats}
 
 -- "Run ends are `s`, `i` or `l`."
@@ -76,3 +76,20 @@ pub record Target (formats schema : List ℕ) (first n first′ n′ : ℕ) : Ty
   pub low : ceilings formats schema first′ n′ ≡ true
   pub of-type : typed formats schema first′ n′ ≡ true
   pub nodes : (i : ℕ) → i < n → NodeWidths formats schema first first′ i
+
+-- ---- what types do not show
+
+-- byte strings are both z or Z, or both u or U, and views both vz or both vu
+pub record SameLetters (c c′ : ℕ) : Type 0 where
+  pub texts : isString c ≡ true → isString c′ ≡ true → c % 2 ≡ c′ % 2
+  pub views : isView c ≡ true → isView c′ ≡ true → c ≡ c′
+
+-- as many nodes, children and dictionaries, the same flags, the letters that types do not tell apart, and a target that is a type
+pub record Alike (formats schema : List ℕ) (first n first′ n′ : ℕ) : Type 0 where
+  pub same-size : n ≡ n′
+  pub low : ceilings formats schema first′ n′ ≡ true
+  pub of-type : typed formats schema first′ n′ ≡ true
+  pub same-children : (i : ℕ) → i < n → children schema first i ≡ children schema first′ i
+  pub same-dictionary : (i : ℕ) → i < n → dictionary schema first i ≡ dictionary schema first′ i
+  pub same-flag : (i : ℕ) → i < n → (i ≡ 0 → ⊥) → isValues schema first i ≡ false → flag schema first i ≡ flag schema first′ i
+  pub letters : (i : ℕ) → i < n → SameLetters (codeOf formats schema first i) (codeOf formats schema first′ i)
