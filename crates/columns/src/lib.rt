@@ -80,7 +80,7 @@ fn is_within(
 }
 
 // Whether a body has at most 2^63 - 1 bytes.
-fn is_small(body: &[u8]) -> bool
+pub fn is_small(body: &[u8]) -> bool
     ensures { λ r. ⌜ r ≡ smallBody (now (body .entry)) ⌝ }
 {
     body.len() <= 9223372036854775807

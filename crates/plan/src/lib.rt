@@ -248,7 +248,7 @@ fn write_bases(
 // ---- parts, and the whole
 
 // The part of the first buffer of each of the first n nodes.
-fn write_parts(n: usize, state: &mut [u64; 872])
+pub fn write_parts(n: usize, state: &mut [u64; 872])
     requires { ⌜ n ≤ 32 ⌝ }
     ensures { λ _. ⌜ now (state .exit) ≡ withParts n (now (state .entry)) ⌝ }
 {
@@ -260,7 +260,7 @@ fn write_parts(n: usize, state: &mut [u64; 872])
 }
 
 // The type tree with m sources and n nodes.
-fn write_type(
+pub fn write_type(
     formats: &[u8],
     schema: &[u32],
     first: usize,

@@ -19,7 +19,7 @@ ghost use Rattle.with_capacities.specs.Answer.{Answers, Plans};
 use sound::trying;
 
 // The n numbers of a slice into another one.
-fn store(to: &mut [u64], from: &[u64], n: usize)
+pub fn store(to: &mut [u64], from: &[u64], n: usize)
     requires { ⌜ (length (now to) ≡ n) × (length (now from) ≡ n) ⌝ }
     ensures { λ _. ⌜ now (to .exit) ≡ now (from .entry) ⌝ }
 {
@@ -31,7 +31,7 @@ fn store(to: &mut [u64], from: &[u64], n: usize)
 }
 
 // A copy; that it has 96 elements is known of an array that a call returns.
-fn copied(counts: [u64; 96]) -> [u64; 96]
+pub fn copied(counts: [u64; 96]) -> [u64; 96]
     ensures { λ r. ⌜ r ≡ counts ⌝ }
 {
     counts
@@ -76,7 +76,7 @@ fn planned_state(
 }
 
 // Whether plan and counters, of so many numbers, are of a join's lengths and the parts lie in the room, apart: ground 14 where not.
-fn room_placed(state: &[u64], parts: &[u64], words: usize, counts: usize, m: usize) -> bool
+pub fn room_placed(state: &[u64], parts: &[u64], words: usize, counts: usize, m: usize) -> bool
     ensures { λ r. ⌜ r ≡ (eqb words 872 && eqb counts 96 && partsPlaced (now (parts .entry)) (partTotal (now (state .entry))) m) ⌝ }
 {
     if words != 872 {

@@ -19,7 +19,7 @@ use Rattle.column_anew.proofs.runs.Fewest.{run-value, run-there}
 
 module _ (k : Number) (w : ℕ) (x : Column (tRunEnd w (tPlain (fixed k)))) (s : Source (tRunEnd w (tPlain (fixed k))) x) (a m : ℕ) (within : a + m ≤ x .len) where
   -- the runs of the rows are there
-  runs-inside : Inside (seg (runAt w x) a m) (x .body .values .len)
+  pub runs-inside : Inside (seg (runAt w x) a m) (x .body .values .len)
   runs-inside j q =
       let p : j < m = omega (arith, length-seg (runAt w x) a m) in
       rw (getD-seg (runAt w x) a m j 0 p, s .slots .as-many) (run-there w (tPlain (fixed k)) x s (a + j) (omega arith))

@@ -47,7 +47,7 @@ module _ (k : Number) (x : Column (tPlain (fixed k))) (s : Source (tPlain (fixed
       go true = simp (length-take, length-drop) (omega (arith, row-inside (width k) (x .off) (x .len) (length (x .body)) i (s .slots) q))
       go false = length-replicate (width k) 0
 
-  cells-long : (rs : List ℕ) → Inside rs (x .len) → length (cells k x rs) ≡ length rs * width k
+  pub cells-long : (rs : List ℕ) → Inside rs (x .len) → length (cells k x rs) ≡ length rs * width k
   cells-long [] h = sym (zero-mul (width k))
   cells-long (r ∷ rs) h = rw (length-append, cell-long r (h 0 (omega arith)), cells-long rs (λ j q. h (suc j) (omega arith)), suc-mul) (omega arith)
 

@@ -1,0 +1,180 @@
+-- A refused call changes nothing, and the question says what the call does. Assumes nothing.
+use mathlib.Core.Path.{_≡_, refl, sym, ap, subst, _∙_}
+use mathlib.Core.Bool.{Bool, true, false, cond, _&&_}
+use mathlib.Core.List.{List}
+use Prim.Native.Nat.{ℕ}
+use native.Mathlib.Omega.{arith}
+use lib.ListN.{length}
+use lib.Dec.{eqb}
+use borrow.Author.Tests.{eq-eqb, ne-eqb, eqb-true, eqb-false}
+use Rattle.array_data.proofs.lent_tables.Laws.{and-left, and-right}
+use Rattle.array_data.specs.Tables.{Tables}
+use Rattle.walk.specs.Log.{Out}
+use Rattle.columns.specs.Grounds.{smallBody, columnGround}
+use Rattle.parts.specs.Parts.{partTotal, partsPlaced, partsHold}
+use Rattle.refinement.specs.opening.Open.{Opening}
+use Rattle.anew.specs.Anew.{orElse, Asking, joinLengths, ahead, asking, unchanged, written, roomGround, anew}
+
+-- ---- the first ground that stands
+
+pub or-none : (g h : ℕ) → orElse g h ≡ 0 → (g ≡ 0) × (h ≡ 0)
+or-none g h e = go (eqb g 0) refl e
+  where
+    go : (b : Bool) → eqb g 0 ≡ b → cond b h g ≡ 0 → (g ≡ 0) × (h ≡ 0)
+    go true p q = (eqb-true g 0 p, q)
+    go false p q = absurd (eqb-false g 0 p q)
+
+pub or-zero : (g h : ℕ) → g ≡ 0 → orElse g h ≡ h
+or-zero g h e = rw (eq-eqb g 0 e)
+
+pub or-first : (g h : ℕ) → (g ≡ 0 → ⊥) → orElse g h ≡ g
+or-first g h e = rw (ne-eqb g 0 e)
+
+module _ (formats schema : List ℕ) (x : Tables) (first n own : ℕ) (made : List ℕ) (walk : Out) (parts plan counts room : List ℕ) where
+  abbrev before : ℕ
+  before = ahead formats schema x first n own made walk
+
+  abbrev asked : Asking
+  asked = asking formats schema x first n own made walk plan counts
+
+  abbrev of-room : ℕ
+  of-room = roomGround made (walk .counts) parts (length plan) (length counts) (length room)
+
+  abbrev answer : Opening
+  answer = anew formats schema x first n own made walk parts plan counts room
+
+  abbrev chosen : Bool → Bool → Opening
+  chosen a b = cond a (cond b (written formats schema x first n own made walk parts plan counts room) (unchanged formats schema x first n own made walk parts plan counts room (orElse before of-room)))
+      (unchanged formats schema x first n own made walk parts plan counts room 9)
+
+  -- A REFUSED CALL leaves plan, counters and room: "State and every byte stay."
+  pub anew-keeps : (answer .ground ≡ 0 → ⊥) → (answer .plan ≡ plan) × (answer .counts ≡ counts) × (answer .room ≡ room)
+  unfolding anew
+  anew-keeps = go (smallBody room) (eqb (orElse before of-room) 0)
+    where
+      go : (a b : Bool) → (chosen a b .ground ≡ 0 → ⊥) → (chosen a b .plan ≡ plan) × (chosen a b .counts ≡ counts) × (chosen a b .room ≡ room)
+      go false b h = (refl, refl, refl)
+      go true false h = (refl, refl, refl)
+      go true true h = absurd (h refl)
+
+  -- the ground, where the room is within the ceiling
+  pub anew-ground : smallBody room ≡ true → answer .ground ≡ orElse before of-room
+  unfolding anew
+  anew-ground s = rw s (go (eqb (orElse before of-room) 0) refl)
+    where
+      go : (b : Bool) → eqb (orElse before of-room) 0 ≡ b → chosen true b .ground ≡ orElse before of-room
+      go true e = sym (eqb-true _ _ e)
+      go false e = refl
+
+  -- .. and 9 where it is not
+  pub anew-large : smallBody room ≡ false → answer .ground ≡ 9
+  unfolding anew
+  anew-large s = rw s refl
+
+  -- ---- an accepted call
+
+  pub record Accepted : Type 0 where
+    pub small : smallBody room ≡ true
+    pub column-good : columnGround formats schema x first n ≡ 0
+    pub own-none : own ≡ 0
+    pub walk-done : walk .ans ≡ 0
+    pub lengths : joinLengths (length plan) (length counts) ≡ true
+    pub placed : partsPlaced parts (partTotal made) (length room) ≡ true
+    pub holds : partsHold made (walk .counts) parts ≡ true
+    pub answer-is : answer ≡ written formats schema x first n own made walk parts plan counts room
+
+  room-none : of-room ≡ 0 → (joinLengths (length plan) (length counts) ≡ true) × (partsPlaced parts (partTotal made) (length room) ≡ true) × (partsHold made (walk .counts) parts ≡ true)
+  unfolding roomGround
+  room-none = go (joinLengths (length plan) (length counts)) refl (partsPlaced parts (partTotal made) (length room)) refl (partsHold made (walk .counts) parts) refl
+    where
+      go : (a : Bool) → joinLengths (length plan) (length counts) ≡ a → (b : Bool) → partsPlaced parts (partTotal made) (length room) ≡ b → (c : Bool) → partsHold made (walk .counts) parts ≡ c
+          → _≡_ {A = ℕ} (cond (a && b) (cond c 0 13) 14) 0
+          → (joinLengths (length plan) (length counts) ≡ true) × (partsPlaced parts (partTotal made) (length room) ≡ true) × (partsHold made (walk .counts) parts ≡ true)
+      go true p true q true r h = (p, q, r)
+      go true p true q false r h = absurd (omega arith)
+      go true p false q c r h = absurd (omega arith)
+      go false p b q c r h = absurd (omega arith)
+
+  -- AN ACCEPTED CALL meets none of the grounds, and writes its result
+  pub anew-accepted : answer .ground ≡ 0 → Accepted
+  unfolding anew ahead
+  anew-accepted = go (smallBody room) refl (eqb (orElse before of-room) 0) refl
+    where
+      passed : smallBody room ≡ true → orElse before of-room ≡ 0 → chosen true true ≡ answer → Accepted
+      passed s e w =
+          let a = or-none before of-room e in
+          let b = or-none (columnGround formats schema x first n) (orElse own (walk .ans)) (a .0) in
+          let c = or-none own (walk .ans) (b .1) in
+          let r = room-none (a .1) in
+          record {
+            small = s;
+            column-good = b .0;
+            own-none = c .0;
+            walk-done = c .1;
+            lengths = r .0;
+            placed = r .1;
+            holds = r .2;
+            answer-is = sym w;
+          }
+
+      go : (a : Bool) → smallBody room ≡ a → (b : Bool) → eqb (orElse before of-room) 0 ≡ b → chosen a b .ground ≡ 0 → Accepted
+      go false p b q h = absurd (omega arith)
+      go true p false q h = absurd (eqb-false _ _ q h)
+      go true p true q h = passed p (eqb-true _ _ q) (rw (p, q) refl)
+
+  -- ---- what the question says
+
+  asked-none : Accepted → before ≡ 0
+  unfolding ahead
+  asked-none a = or-zero (columnGround formats schema x first n) (orElse own (walk .ans)) (a .column-good) ∙ or-zero own (walk .ans) (a .own-none) ∙ a .walk-done
+
+  module _ (same : joinLengths (length plan) (length counts) ≡ true) where
+    asked-ground : asked .ground ≡ before
+    unfolding asking
+    asked-ground = rw same (go (eqb before 0) refl)
+      where
+        go : (a : Bool) → eqb before 0 ≡ a → cond {A = Asking} a (record { ground = 0; plan = made; counts = walk .counts }) (record { ground = before; plan = plan; counts = counts }) .ground ≡ before
+        go true e = sym (eqb-true _ _ e)
+        go false e = refl
+
+    asked-done : before ≡ 0 → asked ≡ record { ground = 0; plan = made; counts = walk .counts }
+    unfolding asking
+    asked-done e = rw (same, e)
+
+    -- WHAT IS ASKED BEFORE ROOM IS LENT is what the call does: its ground, else 14 or 13 of the lent parts; and plan and counters are those that were answered
+    pub anew-asked : smallBody room ≡ true → (answer .ground ≡ orElse (asked .ground) of-room) × (answer .ground ≡ 0 → (answer .plan ≡ asked .plan) × (answer .counts ≡ asked .counts))
+    anew-asked s = (anew-ground s ∙ ap (λ g. orElse g of-room) (sym asked-ground), λ h. after (anew-accepted h))
+      where
+        after : Accepted → (answer .plan ≡ asked .plan) × (answer .counts ≡ asked .counts)
+        after a =
+            let q = asked-done (asked-none a) in
+            (ap (λ o. o .plan) (a .answer-is) ∙ sym (ap (λ o. o .plan) q), ap (λ o. o .counts) (a .answer-is) ∙ sym (ap (λ o. o .counts) q))
+
+    -- PARTS AS THE QUESTION ASKS FOR: where it answers no ground and the lent parts lie well and hold what its plan and counters need, the call is accepted
+    pub anew-enough : smallBody room ≡ true → asked .ground ≡ 0 → partsPlaced parts (partTotal (asked .plan)) (length room) ≡ true → partsHold (asked .plan) (asked .counts) parts ≡ true
+        → answer .ground ≡ 0
+    unfolding roomGround
+    anew-enough s g p h = anew-ground s ∙ or-zero before of-room none ∙ of-room-none (subst Fits (asked-done none) (p, h))
+      where
+        none : before ≡ 0
+        none = sym asked-ground ∙ g
+
+        Fits : Asking → Type 0
+        Fits a = (partsPlaced parts (partTotal (a .plan)) (length room) ≡ true) × (partsHold (a .plan) (a .counts) parts ≡ true)
+
+        of-room-none : (partsPlaced parts (partTotal made) (length room) ≡ true) × (partsHold made (walk .counts) parts ≡ true) → of-room ≡ 0
+        of-room-none q = rw (same, q .0, q .1)
+
+  -- A REFUSED QUESTION leaves plan and counters
+  pub asking-keeps : (asked .ground ≡ 0 → ⊥) → (asked .plan ≡ plan) × (asked .counts ≡ counts)
+  unfolding asking
+  asking-keeps = go (eqb before 0) (joinLengths (length plan) (length counts))
+    where
+      by : Bool → Bool → Asking
+      by a b =
+          cond a (cond b (record { ground = 0; plan = made; counts = walk .counts }) (record { ground = 14; plan = plan; counts = counts })) (record { ground = before; plan = plan; counts = counts })
+
+      go : (a b : Bool) → (by a b .ground ≡ 0 → ⊥) → (by a b .plan ≡ plan) × (by a b .counts ≡ counts)
+      go true true h = absurd (h refl)
+      go true false h = (refl, refl)
+      go false b h = (refl, refl)

@@ -1,0 +1,4 @@
+-- The form of the calls that write one column anew outside a join (02, W1).
+pub mod Anew
+pub mod ResultPlan
+pub mod Stood
