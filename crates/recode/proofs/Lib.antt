@@ -1,0 +1,3 @@
+-- The laws of `recode`.
+pub mod Laws
+pub mod Masks

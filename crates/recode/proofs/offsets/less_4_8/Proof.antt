@@ -1,0 +1,89 @@
+-- `recode::offsets::less_4_8` meets its contract: room has the first i entries at `at`. Assumes nothing.
+use mathlib.Core.Path.{_≡_, refl, sym, _∙_}
+use Prim.Native.Nat.{_≤_, _-_}
+use native.Mathlib.Omega.{arith}
+use lib.ListN.{length}
+use Rattle.number.specs.Number.{splice}
+use Rattle.recode.specs.Recode.{lessened}
+use Rattle.recode.proofs.Laws.{less-none, less-step}
+use Rattle.recode.proofs.offsets.less_4_8.Statement.{statement}
+use Rattle.recode.proofs.offsets.less_4_8.Tie as tie
+
+abbrev Inv-loop : tie.InvT-loop
+Inv-loop room₀ at body from n base i₀ room i = (i ≤ n) × (length room ≡ length room₀) × (room ≡ splice at (lessened 4 8 body from base i) room₀)
+
+abbrev μ-loop : tie.MeasureT-loop
+μ-loop room₀ at body from n base i₀ room i = n - i
+
+loop-holds : tie.Need-loop-holds Inv-loop μ-loop
+loop-holds c = (omega arith, refl, sym (less-none _ _ _ _ _ _ _))
+
+mul-read-u32 : tie.Need-mul-read-u32 Inv-loop μ-loop
+mul-read-u32 c = omega arith
+
+add-read-u32 : tie.Need-add-read-u32 Inv-loop μ-loop
+add-read-u32 c = omega arith
+
+read-u32-requires : tie.Need-read-u32-requires Inv-loop μ-loop
+read-u32-requires c κs = omega arith
+
+cast-v : tie.Need-cast-v Inv-loop μ-loop
+cast-v c = omega arith
+
+mul-write-u64 : tie.Need-mul-write-u64 Inv-loop μ-loop
+mul-write-u64 c = omega arith
+
+add-write-u64 : tie.Need-add-write-u64 Inv-loop μ-loop
+add-write-u64 c = omega arith
+
+wrapping-sub-u64-requires : tie.Need-wrapping-sub-u64-requires Inv-loop μ-loop
+wrapping-sub-u64-requires c κs = tt
+
+write-u64-requires : tie.Need-write-u64-requires Inv-loop μ-loop
+write-u64-requires c κs = omega arith
+
+add-i : tie.Need-add-i Inv-loop μ-loop
+add-i c = omega arith
+
+loop-less : tie.Need-loop-less Inv-loop μ-loop
+loop-less c = omega arith
+
+loop-again : tie.Need-loop-again Inv-loop μ-loop
+loop-again c =
+    let z = c .before .before .before .before .before .before .before .before .before .before .args in
+    let l = c .before .before .before .before .before .before .before .loop in
+    let v = c .before .before .before .before .before .read-u32 in
+    let d = c .before .before .before .wrapping-sub-u64 in (
+      omega arith,
+      omega arith,
+      cc (less-step 4 8 (z .room .now) (z .body .now) (z .at) (z .from) (z .base) (l .i) (v .result) (d .result) (omega arith) (v .ensures) (omega arith) (omega arith) (omega arith) (d .ensures)),
+    )
+
+same-length : tie.Need-same-length Inv-loop μ-loop
+same-length c = omega arith
+
+returns : tie.Need-returns Inv-loop μ-loop
+returns c =
+    let e : c .before .loop .i ≡ c .before .before .before .before .args .n = omega arith in
+    c .before .loop .inv .2 ∙ rw e
+
+pub less-4-8-spec : {M : Type 1} → statement M
+less-4-8-spec =
+    tie.close
+    (tie.spec
+    Inv-loop
+    μ-loop
+    loop-holds
+    mul-read-u32
+    add-read-u32
+    read-u32-requires
+    cast-v
+    mul-write-u64
+    add-write-u64
+    wrapping-sub-u64-requires
+    write-u64-requires
+    add-i
+    loop-less
+    loop-again
+    same-length
+    returns)

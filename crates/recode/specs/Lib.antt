@@ -1,0 +1,2 @@
+-- The definitions that the contracts of `recode` cite.
+pub mod Recode

@@ -1,0 +1,2 @@
+-- The definitions that the contracts of `target_rules` cite.
+pub mod Target

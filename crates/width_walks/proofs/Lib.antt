@@ -1,0 +1,9 @@
+-- The laws of the converter's walk.
+pub mod Tries
+pub mod Frames
+pub mod Node
+pub mod Plain
+pub mod Laws
+pub mod Nested
+pub mod Fields
+pub mod Convert

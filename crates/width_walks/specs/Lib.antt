@@ -1,0 +1,3 @@
+-- The walk of the converter between widths (02, W13).
+pub mod Convert
+pub mod Ready
