@@ -2,14 +2,15 @@
 //! sizes of all parts are known.
 
 use crate::buffer::zeros;
-use crate::calls::{self, FinishedTables, Position, Read, RowAnswer, RunAnswer, Why, COUNTERS, MOST_BYTES, MOST_ORDERS, PLAN, TREE};
+use crate::calls::{self, FinishedTables, Position, Read, RowAnswer, RunAnswer, COUNTERS, MOST_BYTES, MOST_ORDERS, PLAN, TREE};
 use crate::lent::Raise;
 use crate::work::Work;
-use crate::{explain, stop, Buffer, Column, Error, Ground, Lent, Row};
+use crate::{explain, Buffer, Column, Error, Ground, Lent, Row};
 use std::collections::HashMap;
 use std::ops::Range;
 
 mod trips;
+mod why;
 
 use trips::words;
 
@@ -166,44 +167,6 @@ impl Join {
             self.work.accept();
         }
         Ok(())
-    }
-
-    /// What stops an order, for a caller who wants it without giving the order: zeros where nothing does. The room is lent later, so that it is
-    /// never too small.
-    pub fn why(&self, order: Order) -> Why {
-        self.why_from(order, &self.counters)
-    }
-
-    fn why_from(&self, order: Order, counters: &[u64; COUNTERS]) -> Why {
-        let x = self.lent.tables();
-        let why = match order {
-            Order::Copy { source, start, end } => calls::why_copy(&self.plan, &[], &x, counters, 0, number(source), start, end),
-            Order::Nulls(n) => calls::why_nulls(&self.plan, &[], counters, 0, n),
-        };
-        // no parts are lent, which is asked behind the walk
-        match Ground::from_number(why.ground) {
-            Some(Ground::BadParts) => Why::default(),
-            _ => why,
-        }
-    }
-
-    /// A refused order with its number, its place in a list, what it asked for behind the rows of the counters, and what stopped it.
-    fn told(&self, order: Order, list: Option<usize>, counters: &[u64; COUNTERS], error: Error) -> Error {
-        let (number, behind) = (self.given, counters[0]);
-        error.at(|place| {
-            (place.order, place.place) = (Some(number), list);
-            stop::tell(&self.lent, self.why_from(order, counters), place);
-            place.found = match order {
-                Order::Nulls(n) => format!("{n} nulls behind {behind} rows"),
-                Order::Copy { source, start, end } => match self.lent.sources.get(source.saturating_mul(2)) {
-                    None => format!("rows {start}..{end} of source {source}, and there are {} sources", self.lent.sources.len() / 2),
-                    Some(first) => {
-                        let rows = self.lent.lengths.get(2 * *first as usize).copied().unwrap_or(0);
-                        format!("rows {start}..{end} of source {source}, which has {rows}, behind {behind} rows")
-                    }
-                },
-            };
-        })
     }
 
     /// Copies rows of a source behind the rows that are there.

@@ -39,7 +39,6 @@ mod orders;
 mod refusal;
 mod rows;
 mod rules;
-mod stop;
 mod sums;
 pub mod text;
 mod trim;
