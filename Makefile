@@ -1,4 +1,4 @@
-# The C library: the proved core (`rt staticlib lafkuno`, `rt staticlib lafkuno_why`) and the layer for ArrowSchema and ArrowArray
+# The C library: the proved core (`rt staticlib` of lafkuno, lafkuno_why, lafkuno_anew) and the layer for ArrowSchema and ArrowArray
 # (bindings/c) in one static and one shared library.
 #     make                          builds target/c/liblafkuno.a and target/c/liblafkuno.so
 #     make install PREFIX=/usr      headers, libraries, lafkuno.pc, a CMake config; DESTDIR is put in front
@@ -6,7 +6,7 @@ VERSION := $(shell sed -n 's/^.define LAFKUNO_VERSION "\(.*\)"/\1/p' include/laf
 # the soname: while the first number is 0, the second one changes with the calls
 SERIES := $(word 1,$(subst ., ,$(VERSION))).$(word 2,$(subst ., ,$(VERSION)))
 LAFKUNO_LIB_DIR ?= target/staticlib
-CORE := $(LAFKUNO_LIB_DIR)/liblafkuno.a $(LAFKUNO_LIB_DIR)/liblafkuno_why.a
+CORE := $(foreach name,lafkuno lafkuno_why lafkuno_anew,$(LAFKUNO_LIB_DIR)/lib$(name).a)
 OUT ?= target/c
 PREFIX ?= /usr/local
 LIBDIR ?= $(PREFIX)/lib

@@ -356,6 +356,33 @@ uint8_t lafkuno_ratio(const uint8_t *formats, size_t formats_len, const uint32_t
                       uint32_t first_a, uint32_t n_a, uint32_t first_b, uint32_t n_b, uint64_t start, uint64_t end,
                       uint64_t *answer, size_t answer_len);
 
+/* ---- one column written anew: these calls are in liblafkuno_anew.a (`rt staticlib lafkuno_anew`), and in the library that `make` builds */
+
+/* A dictionary column with only the entries that some valid key of its rows names, each copied as an order copies it, in their old order, and
+ * its keys renumbered; keys under nulls become 0, and every row reads as before. lafkuno_plan_reclaim is asked before any room is lent: 9, 10 or
+ * 12 of the column, then 10 where it is no dictionary, and 14 where plan or counters have not their numbers. Then lafkuno_part_count,
+ * lafkuno_part_node, lafkuno_part_buffer and lafkuno_needed_bytes say what room the result needs: the entries have parts, and a node has one for
+ * its validity exactly where the column's own node has a null.
+ *   first, n  the column's first node in the tables and how many nodes it has.
+ *   plan      is written: LAFKUNO_PLAN numbers.
+ *   counters  is written: LAFKUNO_COUNTERS numbers. */
+uint8_t lafkuno_plan_reclaim(const uint8_t *formats, size_t formats_len, const uint32_t *schema, size_t schema_len,
+                             const uint64_t *lengths, size_t lengths_len, const uint64_t *places, size_t places_len,
+                             const uint64_t *buffers, size_t buffers_len, const uint8_t *body, size_t body_len,
+                             uint32_t first, uint32_t n, uint64_t *plan, size_t plan_len, uint64_t *counters, size_t counters_len);
+
+/* Writes it: 9 also where the room is too large, then the grounds of the question, 14 of the parts, and 13 last. lafkuno_finish finishes the
+ * result, with first and n as its one source. It takes one pass over the rows for each 512 entries, and no memory but what is lent.
+ *   parts     as for lafkuno_open.
+ *   plan      is written; its numbers before are not read.
+ *   counters  likewise.
+ *   room      is written in the parts. */
+uint8_t lafkuno_reclaim(const uint8_t *formats, size_t formats_len, const uint32_t *schema, size_t schema_len,
+                        const uint64_t *lengths, size_t lengths_len, const uint64_t *places, size_t places_len,
+                        const uint64_t *buffers, size_t buffers_len, const uint8_t *body, size_t body_len,
+                        uint32_t first, uint32_t n, const uint64_t *parts, size_t parts_len, uint64_t *plan, size_t plan_len,
+                        uint64_t *counters, size_t counters_len, uint8_t *room, size_t room_len);
+
 #ifdef __cplusplus
 }
 #endif

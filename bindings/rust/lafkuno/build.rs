@@ -8,7 +8,7 @@ fn main() {
     let repository = PathBuf::from(env::var_os("CARGO_MANIFEST_DIR").unwrap()).join("../../..");
     let dir = env::var_os("LAFKUNO_LIB_DIR").map_or(repository.join("target/staticlib"), PathBuf::from);
     println!("cargo:rustc-link-search=native={}", dir.display());
-    for library in ["lafkuno", "lafkuno_why"] {
+    for library in ["lafkuno", "lafkuno_why", "lafkuno_anew"] {
         let file = dir.join(format!("lib{library}.a"));
         println!("cargo:rerun-if-changed={}", file.display());
         if !file.exists() {

@@ -7,3 +7,4 @@ pub mod Fills
 pub mod Uses
 pub mod Plans
 pub mod Theorems
+pub mod Exact

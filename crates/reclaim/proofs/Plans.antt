@@ -36,7 +36,7 @@ use Rattle.refinement.proofs.plan_is_type.Opened.{same-child, lent-column, all-
 use Rattle.refinement.proofs.opening.Taken.{is-typed, is-low, taken}
 use Rattle.refinement.specs.orders.Order.{Lent, joinOf}
 use Rattle.walk.specs.Log.{Out}
-use Rattle.anew.specs.Anew.{ahead}
+use Rattle.anew.specs.Anew.{orElse, ahead}
 use Rattle.anew.specs.ResultPlan.{keepsFrom, planAnew}
 use Rattle.anew.proofs.Laws.{or-zero}
 use Rattle.anew.proofs.Bits.{keeps-typed}
@@ -45,7 +45,7 @@ use Rattle.anew.proofs.Parts.{copied-is, root-copied}
 use Rattle.anew.proofs.PlanWords.{keeps-is, joined-is}
 use Rattle.anew.proofs.Planted.{few, planted, worded, root-is, nodes-is, stands, type-plan}
 use Rattle.anew.proofs.Result.{lentFor}
-use Rattle.reclaim.specs.Reclaim.{fromColumn, reclaimPlan}
+use Rattle.reclaim.specs.Reclaim.{fromColumn, reclaimOwn, reclaimPlan}
 use Rattle.reclaim.proofs.Fills.{Given}
 use Rattle.reclaim.proofs.Uses.{InParts}
 
@@ -211,3 +211,12 @@ pub ahead-none : (formats schema : List ℕ) (x : Tables) (first n : ℕ) {own :
     → ahead formats schema x first n own made walk ≡ 0
 unfolding ahead
 ahead-none formats schema x first n {own} made walk c o w = or-zero (columnGround formats schema x first n) _ c ∙ or-zero own (walk .ans) o ∙ w
+
+pub ahead-is : (formats schema : List ℕ) (x : Tables) (first n own : ℕ) (made : List ℕ) (walk : Out)
+    → ahead formats schema x first n own made walk ≡ orElse (columnGround formats schema x first n) (orElse own (walk .ans))
+unfolding ahead
+ahead-is formats schema x first n own made walk = refl
+
+pub own-by : (schema : List ℕ) (first : ℕ) (b : Bool) → eqb (dictionary schema first 0) 0 ≡ b → reclaimOwn schema first ≡ cond b 10 0
+unfolding reclaimOwn
+own-by schema first b e = ap (λ z. cond z 10 0) e

@@ -23,6 +23,7 @@
 #[cfg(not(all(target_endian = "little", target_pointer_width = "64")))]
 compile_error!("lafkuno is for little-endian machines with pointers of 64 bits");
 
+mod anew;
 mod batch;
 mod buffer;
 mod build;

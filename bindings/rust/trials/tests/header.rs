@@ -8,13 +8,17 @@ const HEADER: &str = include_str!("../../../../include/lafkuno.h");
 const RUST: &str = concat!(
     include_str!("../../lafkuno/src/calls.rs"),
     include_str!("../../lafkuno/src/calls/trips.rs"),
-    include_str!("../../lafkuno/src/calls/why.rs")
+    include_str!("../../lafkuno/src/calls/why.rs"),
+    include_str!("../../lafkuno/src/calls/reclaiming.rs")
 );
 const RATTLE: &str = concat!(
     include_str!("../../../../crates/lafkuno/src/lib.rt"),
     include_str!("../../../../crates/lafkuno/src/beside.rt"),
+    include_str!("../../../../crates/lafkuno/src/means.rt"),
+    include_str!("../../../../crates/lafkuno/src/reading.rt"),
     include_str!("../../../../crates/lafkuno/src/trips.rt"),
-    include_str!("../../../../crates/lafkuno_why/src/lib.rt")
+    include_str!("../../../../crates/lafkuno_why/src/lib.rt"),
+    include_str!("../../../../crates/lafkuno_anew/src/reclaiming.rt")
 );
 
 /// Name, parameters as (type, name), answer.
@@ -98,7 +102,7 @@ fn rattle() -> BTreeMap<String, (Vec<String>, String)> {
 fn the_same_calls() {
     let _: u64 = Position::MAX;
     let (header, library) = (header(), library());
-    assert_eq!(header.len(), 28);
+    assert_eq!(header.len(), 30);
     assert_eq!(header, library);
     let types = header.into_iter().map(|(name, (parameters, answer))| (name, (parameters.into_iter().map(|(ty, _)| ty).collect(), answer)));
     assert_eq!(types.collect::<BTreeMap<_, _>>(), rattle());

@@ -1,4 +1,4 @@
-//! Calls on columns of a file, beside the join: `lafkuno box`, `lafkuno mean`, `lafkuno fuel`.
+//! Calls on columns of a file, beside the join: `lafkuno box`, `lafkuno mean`, `lafkuno fuel`, `lafkuno reclaim`.
 
 use super::{join, mistake, print, status, Command, Words};
 use lafkuno::{mean, ratio, text, Column, Error};
@@ -34,6 +34,47 @@ lafkuno fuel FILE FUEL DISTANCE START..END
         })
     },
 };
+
+pub const RECLAIM: Command = Command {
+    word: "reclaim",
+    usage: "\
+lafkuno reclaim FILE COLUMN               a dictionary column of FILE without the entries that no row names: how many are left, the entries, the rows",
+    run: reclaim,
+};
+
+/// The rows of a column, a line each.
+fn lines(column: &Column) -> String {
+    let ty = column.ty();
+    let line = |i| column.row(i).map_or("(can't be read)".into(), |row| text::show(&ty, &row));
+    (0..column.length).map(|i| line(i) + "\n").collect()
+}
+
+fn reclaim(words: &[&str]) -> u8 {
+    let words = match Words::parse(words, &[], &[]) {
+        Ok(words) => words,
+        Err(what) => return mistake(format_args!("reclaim: {what}")),
+    };
+    let [file, name] = words.files[..] else {
+        return mistake("reclaim: FILE COLUMN are due");
+    };
+    let columns = match columns(file) {
+        Ok(columns) => columns,
+        Err(what) => return mistake(format_args!("{file}: {what}")),
+    };
+    let Some((_, column)) = columns.iter().find(|(n, _)| n == name) else {
+        return mistake(format_args!("{file}: there is no column `{name}`"));
+    };
+    match column.reclaim() {
+        Ok(left) => {
+            let (Some(old), Some(new)) = (&column.dictionary, &left.dictionary) else { return mistake("reclaim: a dictionary was lost") };
+            print(&format!("entries {} of {}\n{}\n{}", new.length, old.length, lines(new), lines(&left)))
+        }
+        Err(error) => {
+            eprintln!("reclaim of {name}: {error}");
+            status(&error)
+        }
+    }
+}
 
 /// The columns of a file: `column NAME TYPE` with rows, or the sources of a join.
 fn columns(file: &str) -> Result<Vec<(String, Column)>, String> {

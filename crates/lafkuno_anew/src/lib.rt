@@ -1,0 +1,2 @@
+// The calls that write one column anew (include/lafkuno.h). Every call is defined for whatever it is lent.
+mod reclaiming;

@@ -1,0 +1,69 @@
+// Reclaiming the unused entries of a dictionary column (W9).
+ghost use Rattle.source_rules.specs.kinds.Rows.{tablesOf};
+ghost use Rattle.with_capacities.specs.Answer.{Answers};
+ghost use Rattle.result_plan.specs.Answer.{Asks};
+ghost use Rattle.reclaim.specs.Reclaim.{reclaimAsked, reclaiming};
+
+// The question before any room is lent: the ground of refusal, or plan and counters of the result.
+#[no_mangle]
+pub extern "C" fn lafkuno_plan_reclaim(
+    formats: &[u8],
+    schema: &[u32],
+    lengths: &[u64],
+    places: &[u64],
+    buffers: &[u64],
+    body: &[u8],
+    first: u32,
+    n: u32,
+    plan: &mut [u64],
+    counters: &mut [u64],
+) -> u8
+    ensures { λ r. ⌜ Asks (reclaimAsked (now (formats .entry)) (now (schema .entry)) (tablesOf (now (lengths .entry)) (now (places .entry)) (now (buffers .entry)) (now (body .entry))) first n (now (plan .entry)) (now (counters .entry))) r (now (plan .exit)) (now (counters .exit)) ⌝ }
+{
+    reclaim::plan_reclaim(
+        formats,
+        schema,
+        lengths,
+        places,
+        buffers,
+        body,
+        first,
+        n,
+        plan,
+        counters,
+    )
+}
+
+// The column anew with the entries in use, which `lafkuno_finish` finishes.
+#[no_mangle]
+pub extern "C" fn lafkuno_reclaim(
+    formats: &[u8],
+    schema: &[u32],
+    lengths: &[u64],
+    places: &[u64],
+    buffers: &[u64],
+    body: &[u8],
+    first: u32,
+    n: u32,
+    parts: &[u64],
+    plan: &mut [u64],
+    counters: &mut [u64],
+    room: &mut [u8],
+) -> u8
+    ensures { λ r. ⌜ Answers (reclaiming (now (formats .entry)) (now (schema .entry)) (tablesOf (now (lengths .entry)) (now (places .entry)) (now (buffers .entry)) (now (body .entry))) first n (now (parts .entry)) (now (plan .entry)) (now (counters .entry)) (now (room .entry))) r (now (plan .exit)) (now (counters .exit)) (now (room .exit)) ⌝ }
+{
+    reclaim::reclaim(
+        formats,
+        schema,
+        lengths,
+        places,
+        buffers,
+        body,
+        first,
+        n,
+        parts,
+        plan,
+        counters,
+        room,
+    )
+}
