@@ -1,6 +1,6 @@
 -- A target passes exactly where it stands for a type of other widths and is alike in what types do not show. Assumes nothing.
 use mathlib.Core.Path.{_≡_, refl, sym, ap, ap₂, subst, _∙_}
-use mathlib.Core.Bool.{Bool, true, false, cond}
+use mathlib.Core.Bool.{Bool, true, cond}
 use mathlib.Core.Logic.{_⊎_, inl, inr}
 use mathlib.Core.List.{List, [], _∷_, List·Memᴰ, List·Memᴰ·head, List·Memᴰ·tail, List·Memᴰ·not-nil, List·Memᴰ·append-cases}
 use Prim.Native.Nat.{ℕ, zero, suc, _+_, _-_, _%_, _≤_, _<_}
@@ -8,17 +8,17 @@ use native.Mathlib.Omega.{arith}
 use lib.Dec.{eqb}
 use Rattle.columnar.specs.Types.{Plain, Ty}
 use Rattle.columnar.proofs.Test.{member-agrees}
-use Rattle.formats.specs.Code.{between, isUnion, isRunEnd}
-use Rattle.schema.specs.Tree.{dictionary, below, endFrom, endOf, codeOf, idsOf, shape, ceilings, typed}
+use Rattle.formats.specs.Code.{between, isUnion}
+use Rattle.schema.specs.Tree.{dictionary, below, endFrom, endOf, codeOf, idsOf, ceilings, typed}
 use Rattle.schema.proofs.Trees.{end-inside}
 use Rattle.schema.proofs.Known.{typed-shape}
 use Rattle.array_data.specs.Tables.{Tables}
-use Rattle.array_data.specs.Typed.{NodeKind, fixedNode, stringNode, viewNode, listViewNode, listNode, sparseNode, denseNode, runEndNode, dictionaryNode, Tree, childNode, nodeOf, fieldOf, allOf, MeansPlain, Means, nodes}
-use Rattle.array_data.specs.type_tree.Lent.{kindAt, treeOf, typeOf}
+use Rattle.array_data.specs.Typed.{NodeKind, Tree, childNode, nodeOf, fieldOf, allOf, MeansPlain, Means, nodes}
+use Rattle.array_data.specs.type_tree.Lent.{treeOf, typeOf}
 use Rattle.array_data.proofs.type_tree.Lent.{means}
 use Rattle.array_data.proofs.type_tree.Covered.{covered}
 use Rattle.column_anew.specs.widths.Widths.{PlainWidths, sFixed, sString, Widths, sPlain, sView, sListView, sList, sSparse, sDense, sRunEnd, sDictionary}
-use Rattle.target_rules.specs.Target.{isEnds, endsAt, isTarget, CodeWidths, same-code, strings, list-views, plain-lists, keys, run-ends, NodeWidths, SameLetters, Target, Alike}
+use Rattle.target_rules.specs.Target.{endsAt, isTarget, CodeWidths, same-code, strings, list-views, plain-lists, keys, run-ends, NodeWidths, SameLetters, Alike}
 use Rattle.target_rules.proofs.Codes.{range, ends-range}
 use Rattle.target_rules.proofs.Inverse.{same-number, ReadsAs, reads-at}
 use Rattle.target_rules.proofs.Rules.{target-is, is-target, target-test}

@@ -5,9 +5,8 @@ use mathlib.Core.List.{List}
 use Prim.Native.Nat.{ℕ, zero, suc, _<_}
 use native.Mathlib.Omega.{arith}
 use lib.Dec.{eqb}
-use Rattle.formats.specs.Code.{isUnion, isRunEnd}
-use Rattle.schema.specs.Tree.{dictionary, isValues, codeOf, ceilings, typed}
-use Rattle.target_rules.specs.Target.{endsAt, isTarget, CodeWidths, same-code, strings, list-views, plain-lists, keys, run-ends, NodeWidths, Target}
+use Rattle.schema.specs.Tree.{isValues, codeOf, ceilings, typed}
+use Rattle.target_rules.specs.Target.{endsAt, isTarget, CodeWidths, same-code, strings, list-views, plain-lists, keys, run-ends, NodeWidths}
 use Rattle.target_rules.proofs.Codes.{near, back, run-kept, union-kept}
 use Rattle.target_rules.proofs.Rules.{target-is, is-target}
 

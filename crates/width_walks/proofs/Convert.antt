@@ -1,14 +1,13 @@
 -- THE WALK OF THE CONVERTER comes to what it makes of a column. Assumes nothing.
-use mathlib.Core.Path.{_≡_, refl, _∙_}
+use mathlib.Core.Path.{_≡_, refl}
 use mathlib.Core.List.{List}
-use Prim.Native.Nat.{ℕ, _*_, _≤_, _<_}
+use Prim.Native.Nat.{ℕ, _*_, _<_}
 use native.Mathlib.Omega.{arith}
 use lib.ListN.{length, replicate, getD-replicate}
 use Rattle.columnar.specs.Types.{Ty}
 use Rattle.columnar.specs.Formed.{Formed}
 use Rattle.columnar.specs.Reading.{Column, Source}
 use Rattle.walk.specs.State.{rows}
-use Rattle.refinement.specs.walk_is_model.Memory.{Memory}
 use Rattle.refinement.specs.walk_is_model.Holds.{Worded}
 use Rattle.refinement.specs.orders.Order.{Lent}
 use Rattle.refinement.proofs.walk_is_model.Goes.{Goes, goes-map}

@@ -1,7 +1,7 @@
 -- Unions in other widths, as the walk writes them: one field after another, each in its own nodes. Assumes nothing.
 use mathlib.Core.Path.{_≡_, refl, sym, ap, subst, _∙_}
-use mathlib.Core.Bool.{Bool, true, false}
-use mathlib.Core.List.{List, [], _∷_, _++_, List·Memᴰ, List·Memᴰ·head, List·Memᴰ·tail, List·Memᴰ·not-nil}
+use mathlib.Core.Bool.{Bool}
+use mathlib.Core.List.{List, [], _∷_, List·Memᴰ, List·Memᴰ·head, List·Memᴰ·tail, List·Memᴰ·not-nil}
 use Prim.Native.Nat.{ℕ, zero, suc, _+_, _*_, _≤_, _<_}
 use native.Mathlib.Omega.{arith}
 use lib.ListN.{length, take, drop, length-take, length-drop}
@@ -9,7 +9,7 @@ use Rattle.columnar.specs.Types.{Ty, tSparse, tDense}
 use Rattle.columnar.specs.Formed.{Ids, Formed}
 use Rattle.columnar.specs.Test.{member}
 use Rattle.columnar.specs.Wider.{Declared}
-use Rattle.columnar.specs.Reading.{Body, Column, Source}
+use Rattle.columnar.specs.Reading.{Column, Source}
 use Rattle.columnar.proofs.Items.{length-cut}
 use Rattle.columnar.proofs.WiderKinds.{declares}
 use Rattle.model.specs.Try.{Try, done, stop, then}
@@ -18,7 +18,7 @@ use Rattle.walk.specs.Log.{Out, put, wrote, next}
 use Rattle.refinement.specs.walk_is_model.Memory.{Memory, putIn}
 use Rattle.refinement.specs.walk_is_model.Holds.{childOf, Fields, Worded}
 use Rattle.refinement.specs.orders.Order.{Lent}
-use Rattle.refinement.proofs.walk_is_model.Frame.{SameAt, Kept, same-refl, same-then, worded-span, Field, field-of, apart-of}
+use Rattle.refinement.proofs.walk_is_model.Frame.{SameAt, Kept, same-refl, same-then, Field, field-of, apart-of}
 use Rattle.refinement.proofs.walk_is_model.Owed.{DataKept}
 use Rattle.refinement.proofs.walk_is_model.Goes.{Goes, goes-done, goes-then, goes-wrote}
 use Rattle.refinement.proofs.walk_is_model.Writes.{put-beside, put-other, data-put, data-then}
@@ -28,12 +28,11 @@ use Rattle.column_anew.specs.widths.Fitting.{Demand, gather, tried, numbersOf, 
 use Rattle.column_anew.proofs.widths.Fits.{picked}
 use Rattle.column_anew.proofs.widths.Unions.{newKids, kid-is}
 use Rattle.column_anew.proofs.widths.Decide.{tried-then}
-use Rattle.anew.specs.Stood.{Stored, StoodData, Stood}
+use Rattle.anew.specs.Stood.{StoodData, Stood}
 use Rattle.width_walks.specs.Convert.{fieldsWalk, nodeWalk, bodyWalk}
-use Rattle.width_walks.specs.Ready.{InParts, Ready, ReadyBody}
+use Rattle.width_walks.specs.Ready.{InParts, Ready}
 use Rattle.width_walks.proofs.Tries.{goes-value}
 use Rattle.width_walks.proofs.Frames.{Bare, bare-same, stood-same}
-use Rattle.width_walks.proofs.Node.{Open}
 use Rattle.width_walks.proofs.Plain.{first-put, at-zero}
 use Rattle.width_walks.proofs.Laws.{BodyLaw, NodeLaw}
 

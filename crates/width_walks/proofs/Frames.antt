@@ -1,21 +1,20 @@
 -- Nodes that nothing is written to yet, and a result that still stands where its nodes are left as they were. Assumes nothing.
-use mathlib.Core.Path.{_≡_, refl, sym, ap, subst, _∙_}
-use mathlib.Core.Bool.{Bool, true, false}
-use mathlib.Core.List.{List, [], List·Memᴰ}
-use Prim.Native.Nat.{ℕ, zero, suc, _*_, _≤_, _<_}
+use mathlib.Core.Path.{_≡_, sym, ap, _∙_}
+use mathlib.Core.Bool.{Bool, true}
+use mathlib.Core.List.{List, []}
+use Prim.Native.Nat.{ℕ, suc, _*_, _≤_, _<_}
 use native.Mathlib.Omega.{arith}
-use lib.ListN.{length}
 use Rattle.columnar.specs.Types.{Plain, fixed, string, Ty, tPlain, tView, tListView, tList, tSparse, tDense, tRunEnd, tDictionary}
 use Rattle.columnar.specs.Array.{Array}
 use Rattle.columnar.specs.Plain.{PlainBody}
 use Rattle.columnar.specs.Reading.{Body, Column, masks}
-use Rattle.walk.specs.State.{endOf, rows, bytes}
+use Rattle.walk.specs.State.{endOf, rows}
 use Rattle.refinement.specs.walk_is_model.Memory.{Memory}
 use Rattle.refinement.specs.walk_is_model.Holds.{childOf, Worded}
 use Rattle.refinement.specs.orders.Order.{Lent}
-use Rattle.refinement.proofs.walk_is_model.Frame.{SameAt, Kept, worded-span, Field, field-of, bits-held}
+use Rattle.refinement.proofs.walk_is_model.Frame.{SameAt, Kept, worded-span, field-of, bits-held}
 use Rattle.refinement.proofs.walk_is_model.Owed.{DataKept}
-use Rattle.anew.specs.Stood.{StoodBits, StoodNode, Stored, StoodPlain, BuffersNamed, StoodValues, in-parts, kept, StoodData, Stood}
+use Rattle.anew.specs.Stood.{StoodNode, Stored, StoodPlain, StoodValues, in-parts, kept, StoodData, Stood}
 use Rattle.width_walks.specs.Ready.{InParts}
 
 -- nothing is written to node j

@@ -7,3 +7,10 @@ pub mod Laws
 pub mod Nested
 pub mod Fields
 pub mod Convert
+pub mod Outs
+pub mod Ranges
+pub mod Laid
+pub mod Subtrees
+pub mod Loop
+pub mod Tree
+pub mod Whole

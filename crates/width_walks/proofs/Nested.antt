@@ -1,23 +1,21 @@
 -- Views, list-views, lists, run ends and keys in other widths, as the walk writes them. Assumes nothing.
 use mathlib.Core.Path.{_≡_, refl, sym, ap, subst, _∙_}
-use mathlib.Core.Bool.{Bool, true, false, cond}
-use mathlib.Core.Option.{none}
+use mathlib.Core.Bool.{Bool, true, cond}
 use mathlib.Core.List.{List, [], _∷_, _++_}
 use Prim.Native.Nat.{ℕ, zero, suc, _+_, _-_, _*_, _≤_, _<_, min}
 use native.Mathlib.Nat.{zero-add}
 use native.Mathlib.Omega.{arith}
-use lib.ListN.{length, take, drop}
+use lib.ListN.{take, drop}
 use lib.Dec.{T, ltb}
-use borrow.Author.Tests.{ltb-true}
 use Rattle.columnar.specs.Row.{seg}
 use Rattle.columnar.specs.Types.{Number, width, half, limit, Plain, Ty, tPlain, tView, tListView, tList, tRunEnd, tDictionary}
-use Rattle.columnar.specs.Array.{Array, item, ok}
+use Rattle.columnar.specs.Array.{item, ok}
 use Rattle.columnar.specs.Entries.{encodes}
 use Rattle.columnar.specs.RunEnd.{RunEnd, endOf, startOf}
 use Rattle.columnar.specs.Wider.{integer}
-use Rattle.columnar.specs.Reading.{Body, Column}
+use Rattle.columnar.specs.Reading.{Body}
 use Rattle.columnar.proofs.Items.{length-encodes, length-cut}
-use Rattle.model.specs.Try.{Try, done, then, guard}
+use Rattle.model.specs.Try.{done, guard}
 use Rattle.model.proofs.Bits.{length-seg}
 use Rattle.walk.specs.State.{rows, addRows, top}
 use Rattle.walk.specs.Log.{Out, put, wrote, next}
@@ -36,13 +34,12 @@ use Rattle.column_anew.proofs.widths.Plain.{first-least, last-within}
 use Rattle.column_anew.proofs.widths.Decide.{offsets-decide}
 use Rattle.column_anew.proofs.widths.Runs.{runs-in}
 use Rattle.column_anew.proofs.widths.Cut.{cut}
-use Rattle.anew.specs.Stood.{Stored, StoodNode, StoodPlain, StoodValues, in-parts, StoodData, Stood}
+use Rattle.anew.specs.Stood.{StoodNode, StoodPlain, in-parts, StoodData, Stood}
 use Rattle.anew.proofs.Bits.{bits-none}
 use Rattle.width_walks.specs.Convert.{allUnder, endFits, nodeWalk, plainWalk, bodyWalk}
-use Rattle.width_walks.specs.Ready.{InParts, ReadyBody}
-use Rattle.width_walks.proofs.Tries.{asks, asks-last, under-decides, end-decides, goes-value}
+use Rattle.width_walks.proofs.Tries.{asks, under-decides, end-decides, goes-value}
 use Rattle.width_walks.proofs.Frames.{Bare, bare-same, data-behind}
-use Rattle.width_walks.proofs.Node.{Open, node-goes}
+use Rattle.width_walks.proofs.Node.{node-goes}
 use Rattle.width_walks.proofs.Plain.{first-put, at-zero, plain-law}
 use Rattle.width_walks.proofs.Laws.{BodyLaw, NodeLaw}
 

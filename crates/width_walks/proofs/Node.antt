@@ -1,14 +1,14 @@
 -- One node of a result: its bits and rows, and then its body. Assumes nothing.
-use mathlib.Core.Path.{_≡_, refl, sym, ap, subst, _∙_}
-use mathlib.Core.Bool.{Bool, true, false, cond}
+use mathlib.Core.Path.{_≡_, refl, sym, ap, _∙_}
+use mathlib.Core.Bool.{Bool, true, false}
 use mathlib.Core.Option.{Option, none, some}
-use mathlib.Core.List.{List, [], _∷_, _++_, map}
+use mathlib.Core.List.{List, [], _++_, map}
 use Prim.Native.Nat.{ℕ, zero, suc, _+_, _≤_, _<_}
 use native.Mathlib.Nat.{zero-add}
 use native.Mathlib.Omega.{arith}
 use lib.ListN.{length}
-use lib.Dec.{ltb, eqb}
-use borrow.Author.Tests.{ltb-true, ltb-false, eq-eqb, ne-eqb}
+use lib.Dec.{ltb}
+use borrow.Author.Tests.{ltb-false, eq-eqb, ne-eqb}
 use Rattle.columnar.specs.Row.{seg}
 use Rattle.columnar.specs.Array.{Array, ok, nullsIn, nullCount, Mask}
 use Rattle.model.specs.Try.{Try, done, then}
@@ -16,8 +16,8 @@ use Rattle.model.specs.Mutable.{zeros, validity}
 use Rattle.model.proofs.Bits.{length-seg}
 use Rattle.model.proofs.Rows.{seg-cong}
 use Rattle.walk.specs.State.{keepsOf, rows, nulls, bytes, addRows, top}
-use Rattle.walk.specs.Log.{Out, mask, wrote, next}
-use Rattle.refinement.specs.walk_is_model.Memory.{Memory, maskIn}
+use Rattle.walk.specs.Log.{Out, mask, next}
+use Rattle.refinement.specs.walk_is_model.Memory.{Memory}
 use Rattle.refinement.specs.walk_is_model.Holds.{flag}
 use Rattle.refinement.specs.orders.Order.{Lent}
 use Rattle.refinement.proofs.walk_is_model.Frame.{SameAt, Kept, same-then}

@@ -1,8 +1,8 @@
 -- Numbers and byte strings in other widths, as the walk writes them. Assumes nothing.
 use mathlib.Core.Path.{_≡_, refl, sym, ap, subst, _∙_}
-use mathlib.Core.Bool.{Bool, true, false}
+use mathlib.Core.Bool.{Bool}
 use mathlib.Core.List.{List, [], _++_}
-use Prim.Native.Nat.{ℕ, zero, suc, _+_, _-_, _*_, _≤_, _<_}
+use Prim.Native.Nat.{ℕ, suc, _+_, _-_, _*_, _<_}
 use native.Mathlib.Nat.{mul-one}
 use native.Mathlib.Omega.{arith}
 use lib.ListN.{length, take, drop, length-take, length-drop}
@@ -12,7 +12,7 @@ use Rattle.columnar.specs.Array.{item}
 use Rattle.columnar.specs.Entries.{encodes}
 use Rattle.columnar.specs.Plain.{PlainBody, OffsetsRule, PlainRule}
 use Rattle.columnar.proofs.Items.{length-encodes, length-cut}
-use Rattle.model.specs.Try.{Try, done, then}
+use Rattle.model.specs.Try.{done, then}
 use Rattle.model.proofs.Bits.{length-seg}
 use Rattle.walk.specs.State.{setBytes, bytes}
 use Rattle.walk.specs.Log.{put, wrote, next}
@@ -27,7 +27,7 @@ use Rattle.column_anew.specs.widths.Converted.{spanOf, offsetsOf, plainAs}
 use Rattle.column_anew.specs.widths.Fitting.{needs, tried, plainNumbers}
 use Rattle.column_anew.proofs.widths.Plain.{first-least, last-within}
 use Rattle.column_anew.proofs.widths.Decide.{offsets-decide}
-use Rattle.anew.specs.Stood.{Stored, StoodPlain}
+use Rattle.anew.specs.Stood.{StoodPlain}
 use Rattle.width_walks.specs.Convert.{plainWalk}
 use Rattle.width_walks.proofs.Tries.{asks-last}
 use Rattle.width_walks.proofs.Node.{Open}

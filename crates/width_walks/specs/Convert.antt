@@ -1,6 +1,6 @@
 -- The walk that writes a column in other widths: every node once, in tree order, each of its buffers by one write; 6, 7 and 8 as it meets them
 -- (02, W13). Assumes nothing.
-use mathlib.Core.Bool.{Bool, true, false, cond, _&&_}
+use mathlib.Core.Bool.{Bool, true, cond, _&&_}
 use mathlib.Core.List.{List, [], _∷_, map}
 use Prim.Native.Nat.{ℕ, zero, suc, _+_, _-_, _*_}
 use lib.ListN.{take, drop}

@@ -1,3 +1,4 @@
 -- The walk of the converter between widths (02, W13).
 pub mod Convert
 pub mod Ready
+pub mod Nodes

@@ -1,5 +1,4 @@
 -- `recode::keys::digit` meets its contract. Assumes nothing.
-use native.Mathlib.Omega.{arith}
 use mathlib.Core.Path.{refl}
 use borrow.Author.Needs.{needs}
 use Rattle.recode.proofs.Masks.{digit-le}

@@ -1,12 +1,10 @@
 -- `recode::keys::mask_bytes` meets its contract: the entries of the first i bytes are masked. Assumes nothing.
 use mathlib.Core.Path.{_≡_, refl, sym, ap, _∙_}
-use mathlib.Core.List.{List}
 use Prim.Native.Nat.{ℕ, _+_, _*_, _/_, _%_, _^_, _≤_, _<_, _-_}
 use native.Mathlib.Omega.{arith}
-use lib.ListN.{length, drop, getD}
-use Rattle.number.specs.Number.{number, splice}
+use lib.ListN.{length, getD}
+use Rattle.number.specs.Number.{splice}
 use Rattle.bits.specs.Bits.{bits}
-use Rattle.bits.proofs.Laws.{below-at, below-bits}
 use Rattle.recode.specs.Recode.{masked}
 use Rattle.recode.proofs.Masks.{fits-part, fits-two, masked-none, masked-turn, byte-bits}
 use Rattle.recode.proofs.keys.mask_bytes.Statement.{statement}

@@ -1,10 +1,9 @@
 -- `recode::keys::mask_rows` meets its contract: the first i entries are masked. Assumes nothing.
 use mathlib.Core.Path.{_≡_, refl, sym, ap, _∙_}
-use mathlib.Core.List.{List}
-use Prim.Native.Nat.{ℕ, _+_, _*_, _/_, _%_, _^_, _≤_, _<_, _-_}
+use Prim.Native.Nat.{ℕ, _+_, _*_, _≤_, _-_}
 use native.Mathlib.Omega.{arith}
-use lib.ListN.{length, drop, getD}
-use Rattle.number.specs.Number.{number, splice}
+use lib.ListN.{length, getD}
+use Rattle.number.specs.Number.{splice}
 use Rattle.bits.specs.Bits.{bits}
 use Rattle.bits.proofs.Laws.{below-at, below-bits}
 use Rattle.recode.specs.Recode.{masked}

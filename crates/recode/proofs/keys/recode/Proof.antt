@@ -1,9 +1,7 @@
 -- `recode::keys::recode` meets its contract. Assumes nothing.
-use mathlib.Core.Path.{_≡_, sym, ap, _∙_}
-use Prim.Native.Nat.{ℕ, _*_, _^_, _<_}
+use mathlib.Core.Path.{sym, ap, _∙_}
+use Prim.Native.Nat.{ℕ, _*_}
 use native.Mathlib.Omega.{arith}
-use lib.ListN.{drop}
-use Rattle.number.specs.Number.{entry}
 use borrow.Author.Needs.{needs}
 use Rattle.recode.proofs.Laws.{same-width, less-zero, width-small, entry-small}
 use Rattle.recode.proofs.keys.recode.Statement.{statement}

@@ -2,7 +2,6 @@
 use mathlib.Core.Path.{ap}
 use Prim.Native.Nat.{ℕ, _*_}
 use native.Mathlib.Omega.{arith}
-use borrow.Author.Needs.{needs}
 use Rattle.recode.proofs.limits.all_below.Statement.{statement}
 use Rattle.recode.proofs.limits.all_below.Tie as tie
 

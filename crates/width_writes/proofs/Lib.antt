@@ -1,0 +1,2 @@
+-- The laws of `width_writes`.
+pub mod Sizes
