@@ -38,7 +38,7 @@ use Rattle.anew.proofs.PlanWords.{keeps-is, joined-is, base-none, no-choice}
 use Rattle.anew.proofs.Planted.{few, planted, worded, stands}
 use Rattle.anew.proofs.Bits.{keeps-typed}
 use Rattle.anew.proofs.Held.{NamedBelow}
-use Rattle.convert_lists.specs.Turned.{allNodes, listOf, sameChild, toList}
+use Rattle.convert_lists.specs.Turned.{allNodes, listOf, sameChild, childNamed, toList}
 use Rattle.convert_lists.specs.ToList.{lentWith}
 use Rattle.convert_lists.proofs.Subtree.{Alike, kid-same, means-same}
 use Rattle.convert_lists.proofs.Alike.{view-no-union, list-below, alike}
@@ -63,8 +63,10 @@ due-is formats schema first n target tn h =
     let c = ceilings formats schema target tn in
     let d = typed formats schema target tn in
     let e = sameType formats schema (suc target) (tn - 1) (suc first) (n - 1) in
-    let p = both (a && b) (c && d && e && eqb n tn) h in
-    let q = both a b (p .0) in
+    let p = both (a && b && childNamed first && childNamed target) (c && d && e && eqb n tn) h in
+    let o = both (a && b && childNamed first) (childNamed target) (p .0) in
+    let i = both (a && b) (childNamed first) (o .0) in
+    let q = both a b (i .0) in
     let r = both (c && d && e) (eqb n tn) (p .1) in
     let s = both (c && d) e (r .0) in
     let u = both c d (s .0) in

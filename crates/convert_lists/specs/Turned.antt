@@ -2,7 +2,7 @@
 use mathlib.Core.Bool.{Bool, _&&_}
 use mathlib.Core.List.{List}
 use Prim.Native.Nat.{ℕ, suc, _+_, _-_}
-use lib.Dec.{eqb}
+use lib.Dec.{ltb, eqb}
 use Rattle.columnar.specs.Row.{seg}
 use Rattle.formats.specs.Code.{isListView}
 use Rattle.schema.specs.Tree.{codeOf, ceilings, typed, sameType}
@@ -16,9 +16,13 @@ unfoldable pub sameChild : List ℕ → List ℕ → ℕ → ℕ → ℕ → ℕ
 sameChild formats schema first n target tn =
     ceilings formats schema target tn && typed formats schema target tn && sameType formats schema (suc target) (tn - 1) (suc first) (n - 1) && eqb n tn
 
+-- nodes are named by numbers of 32 bits, a child too
+unfoldable pub childNamed : ℕ → Bool
+childNamed k = ltb (suc k) 4294967296
+
 -- THE TARGET IS THE LIST of this list-view: ground 10 where not
 unfoldable pub toList : List ℕ → List ℕ → ℕ → ℕ → ℕ → ℕ → Bool
-toList formats schema first n target tn = listOf formats schema first target && sameChild formats schema first n target tn
+toList formats schema first n target tn = listOf formats schema first target && childNamed first && childNamed target && sameChild formats schema first n target tn
 
 -- each node of the result comes from that of the same number
 abbrev pub allNodes : List ℕ

@@ -65,7 +65,7 @@ fn first_offset(state: &[u64], parts: &[u64], room: &mut [u8], write: bool, i: u
 }
 
 // The first zero offset of every byte string and list that has parts.
-fn first_offsets(state: &[u64], parts: &[u64], room: &mut [u8], write: bool)
+pub fn first_offsets(state: &[u64], parts: &[u64], room: &mut [u8], write: bool)
     ensures { λ _. ⌜ ((sources lengths places body c : List ℕ) → Did (now (state .entry)) (now (parts .entry)) write (each (firstOffset (lent (now (state .entry)) (now (parts .entry)) sources lengths places body)) (nodesOf (now (state .entry))) 0 c) (now (room .entry)) 0 c (now (room .exit))) ⌝ }
 {
     let n = parts::node_count(state);

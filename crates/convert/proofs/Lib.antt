@@ -1,0 +1,4 @@
+-- What the functions of the converter come to.
+pub mod Laws
+pub mod Walked
+pub mod Called
