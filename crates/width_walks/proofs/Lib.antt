@@ -14,3 +14,4 @@ pub mod Subtrees
 pub mod Loop
 pub mod Tree
 pub mod Whole
+pub mod Bytes
