@@ -15,3 +15,4 @@ pub mod Loop
 pub mod Tree
 pub mod Whole
 pub mod Bytes
+pub mod Placed
