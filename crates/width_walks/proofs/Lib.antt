@@ -16,3 +16,4 @@ pub mod Tree
 pub mod Whole
 pub mod Bytes
 pub mod Placed
+pub mod Plans

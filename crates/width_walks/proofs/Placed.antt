@@ -15,8 +15,8 @@ use Rattle.schema.specs.Tree.{below, endFrom, endOf, childAt, whole, ceilings, 
 use Rattle.schema.proofs.Trees.{children-end, end-after, end-inside, child-inside}
 use Rattle.schema.proofs.Depth.{child-before}
 use Rattle.schema.proofs.Known.{typed-whole, typed-shape}
-use Rattle.array_data.specs.Typed.{NodeKind, fixedNode, stringNode, viewNode, listViewNode, listNode, sparseNode, denseNode, runEndNode, dictionaryNode, Tree, childNode, nodeOf, fieldOf, MeansPlain, Means}
-use Rattle.array_data.specs.type_tree.Lent.{kindAt, treeOf, typeOf}
+use Rattle.array_data.specs.Typed.{NodeKind, fixedNode, stringNode, viewNode, listViewNode, listNode, sparseNode, denseNode, runEndNode, dictionaryNode, Tree, childNode, nodeOf, fieldOf, Is, MeansPlain, Means}
+use Rattle.array_data.specs.type_tree.Lent.{unionKind, kindAt, treeOf, typeOf}
 use Rattle.array_data.proofs.type_tree.Shaped.{Shaped, of-plain, of-view, of-list, of-lists, of-sparse, of-dense, of-run, of-dictionary, shaped}
 use Rattle.array_data.proofs.type_tree.Lent.{child-same, after-leaf, second-child, means, whole-end}
 use Rattle.refinement.specs.walk_is_model.Holds.{childOf}
@@ -70,8 +70,7 @@ module _ (formats schema : List ℕ) (first : ℕ) where
 -- ---- two trees of n nodes, and a plan that finds the fields of unions where the column's tree has them
 
 module _ (formats schema : List ℕ) (first first′ n : ℕ) (plan : List ℕ) (t : typed formats schema first n ≡ true)
-    (found : (i : ℕ) (ids : List ℕ) (c : ℕ) → List·Memᴰ c ids → i < n → (kindAt formats schema first i ≡ sparseNode ids → childOf plan i c ≡ nodeOf (treeOf formats schema first n) i ids c)
-    × (kindAt formats schema first i ≡ denseNode ids → childOf plan i c ≡ nodeOf (treeOf formats schema first n) i ids c)) where
+    (found : (i : ℕ) (b : Bool) (ids : List ℕ) → Is (treeOf formats schema first′ n) i (unionKind b ids) → (c : ℕ) → List·Memᴰ c ids → childOf plan i c ≡ nodeOf (treeOf formats schema first′ n) i ids c) where
   abbrev here : Tree
   here = treeOf formats schema first n
 
@@ -168,7 +167,7 @@ module _ (formats schema : List ℕ) (first first′ n : ℕ) (plan : List ℕ) 
       let b = below-at i (sparseNode ids) l k in (
         record { here = k; there = h′ .0 .1 },
         end-after schema first n i l,
-        fields-from i l ids (b .0) (b .1) (ap isRun k) (λ c m. found i ids c m l .0 k) (λ c z. (m : Declared ids c) → Laid here there plan (d c m) z)
+        fields-from i l ids (b .0) (b .1) (ap isRun k) (λ c m. found i true ids (h′ .0) c m ∙ f i (fieldOf ids c) l) (λ c z. (m : Declared ids c) → Laid here there plan (d c m) z)
             (λ c m y. laid-at (g c) (g′ c) (d c y) (nodeOf here i ids c) (h .1 c m .1) (subst (Means there (g′ c)) (f i (fieldOf ids c) l) (h′ .1 c m .1)) f)
             [] ids refl,
       )
@@ -178,7 +177,7 @@ module _ (formats schema : List ℕ) (first first′ n : ℕ) (plan : List ℕ) 
       let b = below-at i (denseNode ids) l k in (
         record { here = k; there = h′ .0 .1 },
         end-after schema first n i l,
-        fields-from i l ids (b .0) (b .1) (ap isRun k) (λ c m. found i ids c m l .1 k) (λ c z. (m : Declared ids c) → Laid here there plan (d c m) z)
+        fields-from i l ids (b .0) (b .1) (ap isRun k) (λ c m. found i false ids (h′ .0) c m ∙ f i (fieldOf ids c) l) (λ c z. (m : Declared ids c) → Laid here there plan (d c m) z)
             (λ c m y. laid-at (g c) (g′ c) (d c y) (nodeOf here i ids c) (h .1 c m .1) (subst (Means there (g′ c)) (f i (fieldOf ids c) l) (h′ .1 c m .1)) f)
             [] ids refl,
       )
@@ -224,8 +223,7 @@ module _ (formats schema : List ℕ) (first first′ n : ℕ) (nodes : (i : ℕ)
 
 -- A TARGET'S TREE IS LAID AS THE COLUMN'S, where the plan finds the fields of unions
 pub laid-target : (formats schema : List ℕ) (first n first′ : ℕ) (plan : List ℕ) → typed formats schema first n ≡ true → ceilings formats schema first n ≡ true → Target formats schema first n first′ n
-    → ((i : ℕ) (ids : List ℕ) (c : ℕ) → List·Memᴰ c ids → i < n → (kindAt formats schema first i ≡ sparseNode ids → childOf plan i c ≡ nodeOf (treeOf formats schema first n) i ids c)
-    × (kindAt formats schema first i ≡ denseNode ids → childOf plan i c ≡ nodeOf (treeOf formats schema first n) i ids c))
+    → ((i : ℕ) (b : Bool) (ids : List ℕ) → Is (treeOf formats schema first′ n) i (unionKind b ids) → (c : ℕ) → List·Memᴰ c ids → childOf plan i c ≡ nodeOf (treeOf formats schema first′ n) i ids c)
     → (d : Widths (typeOf formats schema first n) (typeOf formats schema first′ n)) → Laid (treeOf formats schema first n) (treeOf formats schema first′ n) plan d 0
 laid-target formats schema first n first′ plan t c g found d =
     laid-at formats schema first first′ n plan t found (typeOf formats schema first n) (typeOf formats schema first′ n) d 0 (means formats schema first n t c) (means formats schema first′ n (g .of-type) (g .low))
