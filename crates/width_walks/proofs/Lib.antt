@@ -17,3 +17,4 @@ pub mod Whole
 pub mod Bytes
 pub mod Placed
 pub mod Plans
+pub mod Readiness
