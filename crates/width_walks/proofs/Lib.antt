@@ -14,3 +14,7 @@ pub mod Subtrees
 pub mod Loop
 pub mod Tree
 pub mod Whole
+pub mod Bytes
+pub mod Placed
+pub mod Plans
+pub mod Readiness

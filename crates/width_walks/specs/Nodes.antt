@@ -62,12 +62,20 @@ isRun (denseNode ids) = false
 isRun (runEndNode w) = true
 isRun (dictionaryNode m) = false
 
+-- node i of a tree is run ends
+abbrev pub endsIn : Tree → ℕ → Bool
+endsIn t zero = false
+endsIn t (suc i) = isRun (t .kind i)
+
+-- for each node of a result one more than the number of the column's node that it comes from; 0 for run ends, which keep no nulls
+unfoldable pub comesFrom : Tree → List ℕ
+comesFrom t = seg (λ i. cond (endsIn t i) 0 (suc i)) 0 (t .count)
+
 -- the tree and tables of the column, the target's tree, and the plan of the result
 module _ (t t′ : Tree) (x : Tables) (plan : List ℕ) where
   -- node i is run ends: its run-end node writes it
   abbrev pub afterRun : ℕ → Bool
-  afterRun zero = false
-  afterRun (suc i) = isRun (t .kind i)
+  afterRun i = endsIn t i
 
   -- the run ends of the run-end node i
   abbrev pub runsAt : ℕ → RunEnd (Unit {0})
