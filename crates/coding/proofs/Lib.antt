@@ -3,10 +3,13 @@ pub mod Accepted
 pub mod Asked
 pub mod Codes
 pub mod Encoded
+pub mod Expanded
 pub mod Fitted
 pub mod Grounds
 pub mod Node
 pub mod Room
+pub mod Rowed
 pub mod Rows
+pub mod Runs
 pub mod Tests
 pub mod Walked
