@@ -2,8 +2,11 @@
 pub mod Accepted
 pub mod Asked
 pub mod Codes
+pub mod EncodeTheorems
 pub mod Encoded
+pub mod ExpandTheorems
 pub mod Expanded
+pub mod Finished
 pub mod Fitted
 pub mod Grounds
 pub mod Node
