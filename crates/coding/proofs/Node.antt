@@ -33,7 +33,7 @@ use Rattle.coding.proofs.Codes.{code-width, code-sized, code-wide}
 part-at : (body : List ℕ) (a s j : ℕ) → j < length (part body a s) → getD (part body a s) j 0 ≡ getD body (a + j) 0
 part-at body a s j l = getD-take s (drop a body) j 0 (omega (arith, length-take s (drop a body))) ∙ getD-drop a body j 0
 
-part-small : (body : List ℕ) → ((j : ℕ) → getD body j 0 < 256) → (a s j : ℕ) → getD (part body a s) j 0 < 256
+pub part-small : (body : List ℕ) → ((j : ℕ) → getD body j 0 < 256) → (a s j : ℕ) → getD (part body a s) j 0 < 256
 part-small body small a s j = go (ltb j (length (part body a s))) refl
   where
     go : (t : Bool) → ltb j (length (part body a s)) ≡ t → getD (part body a s) j 0 < 256

@@ -1,3 +1,4 @@
 -- The definitions that the contracts of `coding` cite.
-pub mod Encode
 pub mod Counted
+pub mod Encode
+pub mod Expand

@@ -1,5 +1,6 @@
 // A fixed-width column into runs, and back (02, W1): the calls, over lent memory.
 pub mod encode;
+pub mod expand;
 
 ghost use mathlib.Core.Path.{_≡_};
 ghost use mathlib.Core.List.{[]};

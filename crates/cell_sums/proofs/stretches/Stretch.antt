@@ -178,7 +178,7 @@ module _ (tree : Tree) (x : Tables) (w : ℕ) (of-width : RunWidth w) (u : Ty) (
         let some : 1 ≤ w * lengthOf x 1 = le-trans (wide w of-width) (omega (arith, mul-le-mul-left w one, mul-one w)) in
         (omega (arith, m), omega (arith, f, m, some, length-take (place x 1 4) (drop (place x 1 3) (x .body)), length-drop (place x 1 3) (x .body)))
 
-    answered-is : asked row ≡ answer.Run (record { 0 = its-run }) its-left
+    pub answered-is : asked row ≡ answer.Run (record { 0 = its-run }) its-left
     answered-is =
         let rule = src .slots in
         let m : e .stop - e .start ≡ w * lengthOf x 1 = omega (arith, mul-add w (offsetOf x 1) (lengthOf x 1)) in

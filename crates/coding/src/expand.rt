@@ -1,0 +1,269 @@
+// A run-end column of fixed-width values into plain rows: the question before any room is lent, and the call.
+ghost use mathlib.Core.Path.{_≡_};
+ghost use mathlib.Core.List.{[]};
+ghost use mathlib.Core.Bool.{true};
+ghost use Prim.Native.Nat.{_+_, _*_, _-_, _≤_, _<_, _^_};
+ghost use lib.ListN.{length};
+ghost use Rattle.array_data.specs.Tables.{part, lengthOf, offsetOf, place};
+ghost use Rattle.array_data.specs.entries.Entries.{column};
+ghost use Rattle.array_data.specs.lent_tables.Lent.{tables};
+ghost use Rattle.source_rules.specs.kinds.Rows.{tablesOf};
+ghost use Rattle.leaf_row.specs.run.Rows.{rowRun};
+ghost use Rattle.cell_sums.specs.stretches.Ends.{endsOf};
+ghost use Rattle.with_capacities.specs.Answer.{Answers};
+ghost use Rattle.anew.specs.ResultPlan.{keepsFrom, Comes, planAnew};
+ghost use Rattle.result_plan.specs.Answer.{Asks};
+ghost use Rattle.coding.specs.Counted.{rowCounts};
+ghost use Rattle.coding.specs.Expand.{runsOfPlain, plainOver, expandOwn, fromValues, expandAsked, expanding, runOr, Expandable, RowsFit, rowsIn};
+use array_data::entries;
+use cell_sums::stretches;
+use leaf_row::run::RowRun;
+use run_coding::Spots;
+use run_coding::expand;
+use walk::plan_words;
+
+// Whether the column is a run-end one of fixed-width values.
+fn is_taken(formats: &[u8], schema: &[u32], first: u32) -> bool
+    ensures { λ r. ⌜ r ≡ runsOfPlain (now (formats .entry)) (now (schema .entry)) first 0 ⌝ }
+{
+    if !formats::is_run_end(schema::code_of(formats, schema, first as usize, 0)) {
+        return false;
+    }
+    crate::is_plain(formats, schema, first, 2)
+}
+
+// Whether node `target` is a type of the values' format.
+fn is_due(formats: &[u8], schema: &[u32], first: u32, target: u32) -> bool
+    ensures { λ r. ⌜ r ≡ plainOver (now (formats .entry)) (now (schema .entry)) first target ⌝ }
+{
+    let at = target as usize;
+    if !schema::is_within_ceilings(formats, schema, at, 1) {
+        return false;
+    }
+    if !schema::is_typed(formats, schema, at, 1) {
+        return false;
+    }
+    if !crate::is_plain(formats, schema, target, 0) {
+        return false;
+    }
+    schema::code_of(formats, schema, at, 0) == schema::code_of(formats, schema, first as usize, 2)
+}
+
+// THE GROUNDS OF ITS OWN before room is asked: 10, 2.
+fn own_ground(
+    formats: &[u8],
+    schema: &[u32],
+    lengths: &[u64],
+    first: u32,
+    target: u32,
+    start: u64,
+    end: u64,
+) -> u8
+    ensures { λ r. ⌜ r ≡ expandOwn (now (formats .entry)) (now (schema .entry)) (tables (now (lengths .entry)) [] []) first 0 target start end ⌝ }
+{
+    if !is_taken(formats, schema, first) {
+        return 10;
+    }
+    if !is_due(formats, schema, first, target) {
+        return 10;
+    }
+    if !column_pair::is_range(lengths, first, start, end) {
+        return 2;
+    }
+    0
+}
+
+// The plan of the rows.
+fn planned(
+    formats: &[u8],
+    schema: &[u32],
+    lengths: &[u64],
+    places: &[u64],
+    body: &[u8],
+    first: u32,
+    target: u32,
+) -> [u64; 872]
+    requires { ⌜ Comes (tables (now lengths) (now places) (now body)) first 1 fromValues ⌝ }
+    ensures { λ r. ⌜ r ≡ planAnew (now (formats .entry)) (now (schema .entry)) target 1 (keepsFrom (tables (now (lengths .entry)) (now (places .entry)) (now (body .entry))) first fromValues) true 0 ⌝ }
+{
+    let mut state = [0u64; 872];
+    let from = [3u64];
+    result_plan::plan_anew(
+        formats,
+        schema,
+        target as usize,
+        1,
+        lengths,
+        places,
+        body,
+        first as usize,
+        &from,
+        true,
+        0,
+        &mut state,
+    );
+    state
+}
+
+// The counters of m rows.
+fn counters_of(m: u64) -> [u64; 96]
+    ensures { λ r. ⌜ r ≡ rowCounts m ⌝ }
+{
+    let mut counts = [0u64; 96];
+    counts[0] = m;
+    counts
+}
+
+// The run of a row, by the run reader.
+fn first_run(lengths: &[u64], places: &[u64], body: &[u8], first: u32, width: u8, row: u64) -> usize
+    requires { ⌜ offsetOf (column (now lengths) [] [] [] first) 1 + lengthOf (column (now lengths) [] [] [] first) 1 < 2 ^ 63 ⌝ }
+    requires { ⌜ (0 < width * (offsetOf (column (now lengths) [] [] [] first) 1 + lengthOf (column (now lengths) [] [] [] first) 1) → place (column [] (now places) [] [] first) 1 3 + width * (offsetOf (column (now lengths) [] [] [] first) 1 + lengthOf (column (now lengths) [] [] [] first) 1) < 2 ^ 64) ⌝ }
+    requires { ⌜ (endsOf (column (now lengths) (now places) [] [] first) width .start ≤ endsOf (column (now lengths) (now places) [] [] first) width .stop) × (endsOf (column (now lengths) (now places) [] [] first) width .stop ≤ length (now body)) ⌝ }
+    ensures { λ r. ⌜ r ≡ runOr (rowRun (part (now (body .entry)) (endsOf (column (now (lengths .entry)) (now (places .entry)) [] [] first) width .start) (endsOf (column (now (lengths .entry)) (now (places .entry)) [] [] first) width .stop - endsOf (column (now (lengths .entry)) (now (places .entry)) [] [] first) width .start)) (offsetOf (column (now (lengths .entry)) [] [] [] first) 0) (lengthOf (column (now (lengths .entry)) [] [] [] first) 0) width row) ⌝ }
+{
+    let e = stretches::find_ends(lengths, places, first, width);
+    match stretches::stretch_at(body, e, row) {
+        RowRun::Run { run, left: _ } => run.0,
+        RowRun::Refused(_) => 0,
+    }
+}
+
+// The rows start .. end - 1 into their part.
+fn write(
+    formats: &[u8],
+    schema: &[u32],
+    lengths: &[u64],
+    places: &[u64],
+    body: &[u8],
+    first: u32,
+    start: u64,
+    end: u64,
+    keep: bool,
+    state: &[u64],
+    parts: &[u64],
+    room: &mut [u8],
+)
+    requires { ⌜ (start ≤ end) × (start < end → Expandable (now formats) (now schema) (tables (now lengths) (now places) (now body)) first start end keep) ⌝ }
+    requires { ⌜ RowsFit (now formats) (now schema) (tables (now lengths) (now places) (now body)) first start end (now state) (now parts) keep (length (now room)) ⌝ }
+    ensures { λ _. ⌜ now (room .exit) ≡ rowsIn (now (formats .entry)) (now (schema .entry)) (tables (now (lengths .entry)) (now (places .entry)) (now (body .entry))) first start end (now (state .entry)) (now (parts .entry)) keep (now (room .entry)) ⌝ }
+{
+    if start == end {
+        return;
+    }
+    let w = formats::width_of(schema::code_of(formats, schema, first as usize, 2));
+    let e = formats::width_of(schema::code_of(formats, schema, first as usize, 1));
+    let s = crate::slots_of(lengths, places, first, 2, w, 0);
+    let ends = crate::slots_of(lengths, places, first, 1, e, 0);
+    let run = first_run(lengths, places, body, first, e, start);
+    let x = entries::offset_at(lengths, first, 0) + start;
+    let count = entries::length_at(lengths, first, 1) as usize;
+    let t = Spots {
+        ends: 0,
+        values: crate::start_of(state, parts, 0, 1) as usize,
+        mask: crate::start_of(state, parts, 0, 0) as usize,
+    };
+    let m = (end - start) as usize;
+    expand::write_rows(room, body, w, keep, s, e, ends.start, run, x, t, m, count);
+}
+
+// THE QUESTION before any room is lent: the first ground that stands, or the plan and the counters of the result.
+pub fn plan_expand(
+    formats: &[u8],
+    schema: &[u32],
+    lengths: &[u64],
+    places: &[u64],
+    buffers: &[u64],
+    body: &[u8],
+    first: u32,
+    n: u32,
+    target: u32,
+    start: u64,
+    end: u64,
+    plan: &mut [u64],
+    counters: &mut [u64],
+) -> u8
+    ensures { λ r. ⌜ Asks (expandAsked (now (formats .entry)) (now (schema .entry)) (tablesOf (now (lengths .entry)) (now (places .entry)) (now (buffers .entry)) (now (body .entry))) first n target start end (now (plan .entry)) (now (counters .entry))) r (now (plan .exit)) (now (counters .exit)) ⌝ }
+{
+    let g = columns::column_ground(formats, schema, lengths, places, buffers, body, first, n);
+    if g != 0 {
+        return g;
+    }
+    let g = own_ground(formats, schema, lengths, first, target, start, end);
+    if g != 0 {
+        return g;
+    }
+    if plan.len() != 872 {
+        return 14;
+    }
+    if counters.len() != 96 {
+        return 14;
+    }
+    let state = planned(formats, schema, lengths, places, body, first, target);
+    let counts = counters_of(end - start);
+    result_plan::keep_result(plan, counters, &state, &counts);
+    0
+}
+
+// THE CALL: the rows start .. end - 1 of the run-end column of n nodes that begins at node `first`, of the type of node `target`, which is of
+// its values' format. What it leaves is finished as a join is.
+pub fn expand(
+    formats: &[u8],
+    schema: &[u32],
+    lengths: &[u64],
+    places: &[u64],
+    buffers: &[u64],
+    body: &[u8],
+    first: u32,
+    n: u32,
+    target: u32,
+    start: u64,
+    end: u64,
+    parts: &[u64],
+    plan: &mut [u64],
+    counters: &mut [u64],
+    room: &mut [u8],
+) -> u8
+    ensures { λ r. ⌜ Answers (expanding (now (formats .entry)) (now (schema .entry)) (tablesOf (now (lengths .entry)) (now (places .entry)) (now (buffers .entry)) (now (body .entry))) first n target start end (now (parts .entry)) (now (plan .entry)) (now (counters .entry)) (now (room .entry))) r (now (plan .exit)) (now (counters .exit)) (now (room .exit)) ⌝ }
+{
+    if crate::CEILING < room.len() {
+        return 9;
+    }
+    let g = columns::column_ground(formats, schema, lengths, places, buffers, body, first, n);
+    if g != 0 {
+        return g;
+    }
+    let g = own_ground(formats, schema, lengths, first, target, start, end);
+    if g != 0 {
+        return g;
+    }
+    let state = planned(formats, schema, lengths, places, body, first, target);
+    let counts = counters_of(end - start);
+    let g = result_plan::room_ground(
+        &state,
+        &counts,
+        parts,
+        plan.len(),
+        counters.len(),
+        room.len(),
+    );
+    if g != 0 {
+        return g;
+    }
+    let keep = plan_words::keeps_of(&state, 0) != 0;
+    write(
+        formats,
+        schema,
+        lengths,
+        places,
+        body,
+        first,
+        start,
+        end,
+        keep,
+        &state,
+        parts,
+        room,
+    );
+    result_plan::keep_result(plan, counters, &state, &counts);
+    0
+}
