@@ -18,3 +18,4 @@ pub mod Bytes
 pub mod Placed
 pub mod Plans
 pub mod Readiness
+pub mod Used
