@@ -19,3 +19,4 @@ pub mod Placed
 pub mod Plans
 pub mod Readiness
 pub mod Used
+pub mod Target
