@@ -7,7 +7,7 @@ use native.Mathlib.Omega.{arith}
 use lib.ListN.{getD}
 use lib.Dec.{ltb}
 use Rattle.columnar.specs.Types.{Ty}
-use Rattle.columnar.specs.Array.{nullCount}
+use Rattle.columnar.specs.Array.{ok}
 use Rattle.columnar.specs.Reading.{Source}
 use Rattle.formats.specs.Code.{isRunEnd}
 use Rattle.schema.specs.Tree.{ceilings, typed}
@@ -36,9 +36,10 @@ use Rattle.target_rules.specs.Target.{isTarget, Target}
 use Rattle.target_rules.proofs.Codes.{near, back, run-kept}
 use Rattle.target_rules.proofs.Rules.{target-is}
 use Rattle.width_walks.specs.Nodes.{isRun, endsIn, comesFrom}
-use Rattle.width_walks.proofs.Used.{BytesIn}
+use Rattle.refinement.specs.log_in_room.Room.{AllBelow}
+use Rattle.width_walks.proofs.Used.{bytes-at}
 use Rattle.width_walks.proofs.Placed.{laid-target}
-use Rattle.width_walks.proofs.Plans.{of-type, in-parts, bits-any, parts-at}
+use Rattle.width_walks.proofs.Plans.{of-type, in-parts, bits-for, parts-at}
 use Rattle.width_walks.proofs.Readiness.{keeps-own, keeps-ends, ready}
 use Rattle.width_walks.proofs.Whole.{Given}
 
@@ -83,19 +84,22 @@ module _ (formats schema : List ℕ) (x : Tables) (first n first′ : ℕ) (part
   copied-all zero l = root-copied formats schema first′ n keep true 0 small-plan
   copied-all (suc i) l = copied-is formats schema first′ n keep true 0 small-plan i l
 
-  -- WHAT IS GIVEN, where the column obeys, its lengths fit counters, its bytes are bytes, the data buffers of its views are named, and
-  -- unions and run-end nodes keep no nulls
+  -- WHAT IS GIVEN, where the column obeys, its lengths fit counters, the body's bytes are bytes, and the data buffers of its views are named
   pub given : (d : Widths (typeOf formats schema first n) (typeOf formats schema first′ n)) → Source (typeOf formats schema first n) (columnOf here (tablesFrom x first) (typeOf formats schema first n) 0)
-      → ((i : ℕ) → lengthOf (tablesFrom x first) i ≤ top) → BytesIn (typeOf formats schema first n) (bodyOf here (tablesFrom x first) (typeOf formats schema first n) 0)
+      → ((i : ℕ) → lengthOf (tablesFrom x first) i ≤ top) → AllBelow 256 (x .body)
       → ((i : ℕ) → here .kind i ≡ viewNode → (c : List ℕ) (μ : Memory) → BuffersNamed lent (x .buffers) c μ i (dataBuffers (tablesFrom x first) i))
-      → ((i : ℕ) → i < endOf made 0 → 21 ≤ codeOf made i → keepsOf made i ≡ 0)
       → Given here there (tablesFrom x first) lent (x .buffers) (typeOf formats schema first n) (typeOf formats schema first′ n) d
-  given d source small bytes named high =
+  given d source small bytes named =
       let words = of-type formats schema first′ n keep (target .of-type) (target .low) no-ends in
       let end = whole-end formats schema first n (typed-whole formats schema first n t) in
       let root = root-is formats schema first′ n keep true 0 (target .of-type) (target .low) in
       let laid = laid-target formats schema first n first′ made t c target (words .kids) d in
       let all : (i : ℕ) → i < endOf made 0 → copied made i ≡ true = λ i l. copied-all i (omega (arith, root)) in
+      let column = columnOf here (tablesFrom x first) (typeOf formats schema first n) 0 in
+      let is-ready =
+      ready here there (tablesFrom x first) lent (x .buffers)
+      (λ i l e. keeps-is formats schema first′ n keep true 0 small-plan i (omega (arith, end)) ∙ ap flag (keeps-own {B = Unit {0}} here x first i tt (omega (arith, end)) e)) small named
+      (typeOf formats schema first n) (typeOf formats schema first′ n) d laid in
       record {
         laid = laid;
         all-nodes = sym end;
@@ -105,11 +109,10 @@ module _ (formats schema : List ℕ) (x : Tables) (first n first′ : ℕ) (part
         formed = words .formed;
         in-parts = in-parts formats schema first′ n keep (target .of-type) (target .low) no-ends;
         source = source;
-        is-ready =
-            ready here there (tablesFrom x first) lent (x .buffers)
-            (λ i l e. keeps-is formats schema first′ n keep true 0 small-plan i (omega (arith, end)) ∙ ap flag (keeps-own {B = Unit {0}} here x first i tt (omega (arith, end)) e)) small named
-            (typeOf formats schema first n) (typeOf formats schema first′ n) d laid;
-        bits-there = bits-any made there (typeOf formats schema first′ n) words all high 0 (omega (arith, root, some-node formats schema first n (typed-whole formats schema first n t)));
-        parts-there = parts-at made there (typeOf formats schema first′ n) words all high 8 (typeOf formats schema first′ n) 0 (words .worded) (words .means) (omega arith);
-        bytes-there = bytes;
+        is-ready = is-ready;
+        bits-there = bits-for lent (x .buffers) there (typeOf formats schema first′ n) words all (typeOf formats schema first n) (typeOf formats schema first′ n) d 8 0 (words .worded)
+            (omega (arith, root, some-node formats schema first n (typed-whole formats schema first n t))) column source (is-ready .keeps);
+        parts-there = parts-at lent (x .buffers) there (typeOf formats schema first′ n) words all (typeOf formats schema first n) (typeOf formats schema first′ n) d 8 0 (words .worded) (words .means) (omega arith)
+            (ok (column .valid)) (column .body) (column .off) (column .len) (source .slots) (is-ready .body-ready);
+        bytes-there = bytes-at here (tablesFrom x first) bytes (typeOf formats schema first n) 0;
       }

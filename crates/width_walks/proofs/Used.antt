@@ -16,6 +16,8 @@ use Rattle.columnar.specs.Plain.{PlainBody}
 use Rattle.columnar.specs.Reading.{Body, Column}
 use Rattle.columnar.specs.Test.{member}
 use Rattle.columnar.proofs.WiderKinds.{declares}
+use Rattle.array_data.specs.Tables.{Tables, part, place}
+use Rattle.array_data.specs.Typed.{Tree, nodeOf, plainBody, bodyOf}
 use Rattle.walk.specs.State.{keepsOf, addRows, setBytes}
 use Rattle.walk.specs.Log.{Out, put, mask, wrote}
 use Rattle.refinement.specs.walk_is_model.Holds.{flag, childOf}
@@ -59,6 +61,25 @@ BytesIn (tSparse ids nullable f) b = AllBelow 256 (b .ids) × ((c : ℕ) → Lis
 BytesIn (tDense ids nullable f) b = AllBelow 256 (b .ids) × AllBelow 256 (b .positions) × ((c : ℕ) → List·Memᴰ c ids → BytesIn (f c) (b .children c .body))
 BytesIn (tRunEnd w t) b = BytesIn t (b .values .body)
 BytesIn (tDictionary k p) b = BytesPlain p (b .values .body)
+
+-- .. as those of lent tables do
+module _ (tree : Tree) (x : Tables) (h : AllBelow 256 (x .body)) where
+  buffer-bytes : (at size : ℕ) → AllBelow 256 (part (x .body) at size)
+  buffer-bytes at size = bytes-part at size (x .body) h
+
+  plain-bytes : (p : Plain) (i : ℕ) → BytesPlain p (plainBody tree x p i)
+  plain-bytes (fixed k) i = buffer-bytes (place x i 3) (place x i 4)
+  plain-bytes (string w) i = buffer-bytes (place x i 5) (place x i 6)
+
+  pub bytes-at : (u : Ty) (i : ℕ) → BytesIn u (bodyOf tree x u i)
+  bytes-at (tPlain p) i = plain-bytes p i
+  bytes-at tView i = buffer-bytes (place x i 3) (place x i 4)
+  bytes-at (tListView w u) i = bytes-at u (suc i)
+  bytes-at (tList w u) i = bytes-at u (suc i)
+  bytes-at (tSparse ids nullable f) i = (buffer-bytes (place x i 3) (place x i 4), λ c m. bytes-at (f c) (nodeOf tree i ids c))
+  bytes-at (tDense ids nullable f) i = (buffer-bytes (place x i 3) (place x i 4), buffer-bytes (place x i 5) (place x i 6), λ c m. bytes-at (f c) (nodeOf tree i ids c))
+  bytes-at (tRunEnd w u) i = bytes-at u (suc (suc i))
+  bytes-at (tDictionary k p) i = plain-bytes p (suc i)
 
 -- ---- parts
 
