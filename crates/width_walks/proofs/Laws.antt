@@ -27,7 +27,7 @@ use Rattle.width_walks.specs.Ready.{InParts, ReadyBody, Ready}
 use Rattle.width_walks.proofs.Frames.{Bare}
 use Rattle.width_walks.proofs.Node.{Open, node-goes}
 
-same-masks : (t t′ : Ty) → Widths t t′ → masks t ≡ masks t′
+pub same-masks : (t t′ : Ty) → Widths t t′ → masks t ≡ masks t′
 same-masks t t′ (sPlain p p′ d) = refl
 same-masks t t′ sView = refl
 same-masks t t′ (sListView w w′ u u′ d) = refl

@@ -18,3 +18,5 @@ pub mod Bytes
 pub mod Placed
 pub mod Plans
 pub mod Readiness
+pub mod Used
+pub mod Target

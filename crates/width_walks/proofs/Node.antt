@@ -42,7 +42,7 @@ no-nulls : (s n : ℕ) → nullsIn (ok none) s n ≡ 0
 no-nulls s zero = refl
 no-nulls s (suc n) = zero-add _ ∙ no-nulls (suc s) n
 
-unmasked : {B : Type 0} (a : Array B) (o : Option (List ℕ)) → a .valid ≡ o → Mask false o (a .off + a .len) → nullCount a ≡ 0
+pub unmasked : {B : Type 0} (a : Array B) (o : Option (List ℕ)) → a .valid ≡ o → Mask false o (a .off + a .len) → nullCount a ≡ 0
 unmasked a none e m = ap (λ v. nullsIn (ok v) (a .off) (a .len)) e ∙ no-nulls (a .off) (a .len)
 unmasked a (some v) e m = absurd m
 
