@@ -60,6 +60,7 @@ fn pieces(n: u64) -> Vec<(u64, u64)> {
 }
 
 struct Ours {
+    keep: bool,
     lent: Lent,
     plan: [u64; PLAN],
     opened: [u64; COUNTERS],
@@ -69,28 +70,39 @@ struct Ours {
 
 impl Ours {
     fn new(sources: &[&Column]) -> Ours {
+        Ours::keeping(sources, false)
+    }
+
+    // .. opened so that null orders are taken, or not
+    fn keeping(sources: &[&Column], keep: bool) -> Ours {
         let lent = Lent::lay(sources).unwrap();
         let (mut plan, mut counters) = ([0; PLAN], [0; COUNTERS]);
-        assert_eq!(calls::plan_parts(&lent.tables(), false, false, &mut plan), 0);
+        assert_eq!(calls::plan_parts(&lent.tables(), keep, false, &mut plan), 0);
         assert_eq!(calls::measure_open(&plan, &lent.tables(), &mut counters), 0);
         // orders that cut runs make more of them
         for (start, end) in pieces(64) {
             assert_eq!(calls::measure_copy(&plan, &lent.tables(), &mut counters, sources.len() as u32 - 1, start, end), 0);
         }
+        // null orders go to one child of a union
+        let mut nulls = [0; COUNTERS];
+        assert_eq!(calls::measure_open(&plan, &lent.tables(), &mut nulls), 0);
+        for (start, end) in pieces(64) {
+            calls::measure_nulls(&plan, &mut nulls, end - start);
+        }
         let (mut parts, mut end) = (vec![], 0);
         for p in 0..calls::part_count(&plan) as u32 {
-            let size = calls::needed_bytes(&plan, &counters, p);
+            let size = calls::needed_bytes(&plan, &counters, p).max(calls::needed_bytes(&plan, &nulls, p));
             parts.extend([end, size]);
             end = (end + size).next_multiple_of(64);
         }
-        let mut ours = Ours { lent, plan, opened: [0; COUNTERS], parts, room: vec![0; end as usize] };
+        let mut ours = Ours { keep, lent, plan, opened: [0; COUNTERS], parts, room: vec![0; end as usize] };
         ours.opened = ours.open();
         ours
     }
 
     fn open(&mut self) -> [u64; COUNTERS] {
         let mut counters = [0; COUNTERS];
-        let answer = calls::open(&self.lent.tables(), false, false, &self.parts, &mut self.plan, &mut counters, &mut self.room);
+        let answer = calls::open(&self.lent.tables(), self.keep, false, &self.parts, &mut self.plan, &mut counters, &mut self.room);
         assert_eq!(answer, 0);
         counters
     }
@@ -107,6 +119,15 @@ impl Ours {
         for (start, end) in list {
             let answer = calls::copy(&self.plan, &self.parts, &x, &mut counters, &mut self.room, last, *start, *end);
             assert_eq!(answer, 0);
+        }
+        counters[0]
+    }
+
+    // as many nulls in n orders
+    fn nulls(&mut self, n: u64) -> u64 {
+        let mut counters = self.opened;
+        for _ in 0..n {
+            assert_eq!(calls::nulls(&self.plan, &self.parts, &mut counters, &mut self.room, ROWS / n), 0);
         }
         counters[0]
     }
@@ -128,6 +149,18 @@ fn orders<'a>(arrays: &'a [ArrayData], list: &[(u64, u64)]) -> MutableArrayData<
     let mut mutable = open(arrays);
     for (start, end) in list {
         mutable.try_extend(arrays.len() - 1, *start as usize, *end as usize).unwrap();
+    }
+    mutable
+}
+
+fn open_keeping(arrays: &[ArrayData]) -> MutableArrayData<'_> {
+    MutableArrayData::try_new(arrays.iter().collect(), true, 0).unwrap()
+}
+
+fn nulls(arrays: &[ArrayData], n: u64) -> MutableArrayData<'_> {
+    let mut mutable = open_keeping(arrays);
+    for _ in 0..n {
+        mutable.try_extend_nulls((ROWS / n) as usize).unwrap();
     }
     mutable
 }
@@ -216,6 +249,33 @@ fn measure(random: &mut Random, name: &str, ty: &str) {
     println!("| {name}, opening (of which checking {check:.0}) | {ours_open:.0} | {plain_open:.0} | | | |");
 }
 
+fn measure_nulls(random: &mut Random, name: &str, ty: &str) {
+    let column = column(random, &ty.parse().unwrap());
+    let arrays = [Convert::default().array(&column)];
+    let (mut ours, mut again) = (Ours::keeping(&[&column], true), Ours::keeping(&[&column], true));
+    let [ours_one, ours_many, plain_one, plain_many, plain_open] = best([
+        &mut || {
+            black_box(ours.nulls(black_box(1)));
+        },
+        &mut || {
+            black_box(again.nulls(black_box(64)));
+        },
+        &mut || {
+            black_box(nulls(black_box(&arrays), 1));
+        },
+        &mut || {
+            black_box(nulls(black_box(&arrays), 64));
+        },
+        &mut || {
+            black_box(open_keeping(black_box(&arrays)));
+        },
+    ]);
+    for (orders, ours, plain) in [("one null order", ours_one, plain_one - plain_open), ("64 null orders", ours_many, plain_many - plain_open)] {
+        let ratio = ours / plain;
+        println!("| {name}, {orders} | {ours:.0} | {plain:.0} | {ratio:.2} | 1.0 | {} |", verdict(ratio, 1.0));
+    }
+}
+
 // The finished columns are the same. A kept dictionary stays in the body: then the rows are compared.
 fn same(sources: &[&Column], arrays: &[ArrayData]) {
     let last = sources.len() - 1;
@@ -275,5 +335,18 @@ fn main() {
         ("run ends over a dictionary, joined", "+r(i, S[u])"),
     ] {
         measure(random, name, ty);
+    }
+    for (name, ty) in [
+        ("i32", "i?"),
+        ("byte strings", "u?"),
+        ("views", "vu?"),
+        ("dictionary", "C?[u]"),
+        ("list of i32", "+l?(i)"),
+        ("list-view of i32", "+vl?(i)"),
+        ("sparse union of i32 and i64", "+us:0,1(i?, l?)"),
+        ("dense union of i32 and i64", "+ud:0,1(i?, l?)"),
+        ("run ends over i32", "+r(i, i?)"),
+    ] {
+        measure_nulls(random, name, ty);
     }
 }

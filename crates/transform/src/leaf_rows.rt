@@ -7,7 +7,7 @@ ghost use lib.ListN.{length};
 ghost use Rattle.formats.specs.Code.{isString};
 ghost use Rattle.utils.specs.Extension.{extended};
 ghost use Rattle.utils.specs.declared.Extended.the-variants.{Fits};
-ghost use Rattle.walk.specs.State.{codeOf, bytesOf, bytes, place, slotOf};
+ghost use Rattle.walk.specs.State.{codeOf, keepsOf, bytesOf, bytes, place, slotOf};
 ghost use Rattle.walk.specs.Log.{Did};
 ghost use Rattle.walk.specs.Leaves.{copyMask, putString};
 ghost use Rattle.walk.specs.Copy.{Walk, copyData, copyWalk};
@@ -47,7 +47,34 @@ fn bits_in(
     lent_tables::bits_fit_behind(at, slot, n, body.len() as u64)
 }
 
-// The validity of n slots of node i, and its zeros counted.
+// The validity of n slots of node i, which keeps nulls, and its zeros counted.
+fn put_kept_bits(
+    plan: &[u64],
+    parts: &[u64],
+    places: &[u64],
+    body: &[u8],
+    counters: &mut [u64],
+    room: &mut [u8],
+    first: usize,
+    i: usize,
+    slot: u64,
+    n: u64,
+)
+    requires { ⌜ (length (now counters) ≡ 96) × (first < 2 ^ 32) × (i < 32) × (slot + n < 2 ^ 63) × (bitsIn (join (now plan) [] [] (now places) (now body) first 0) i slot n ≡ true) ⌝ }
+    requires { ⌜ (keepsOf (now plan) i ≡ 0 → ⊥) ⌝ }
+    ensures { λ _. ⌜ ((lengths : List ℕ) (source : ℕ) → Did (now (plan .entry)) (now (parts .entry)) true (copyMask (join (now (plan .entry)) (now (parts .entry)) lengths (now (places .entry)) (now (body .entry)) first source) i slot n (now (counters .entry))) (now (room .entry)) 0 (now (counters .exit)) (now (room .exit))) ⌝ }
+{
+    let p = lent_tables::at_u64(counters, 3 * i);
+    if lent_tables::place(places, first + i, 0) == 0 {
+        room_writes::put_ones(plan, parts, room, true, i, p, n);
+        return;
+    }
+    let at = lent_tables::place(places, first + i, 1);
+    let zeros = room_writes::put_mask(plan, parts, room, true, i, p, body, at as usize, slot, n);
+    leaf_counters::add_to(counters, 3 * i + 1, zeros);
+}
+
+// The validity of n slots of node i, if it keeps nulls.
 fn put_bits(
     plan: &[u64],
     parts: &[u64],
@@ -66,14 +93,7 @@ fn put_bits(
     if plan_words::keeps_of(plan, i) == 0 {
         return;
     }
-    let p = lent_tables::at_u64(counters, 3 * i);
-    if lent_tables::place(places, first + i, 0) == 0 {
-        room_writes::put_ones(plan, parts, room, true, i, p, n);
-        return;
-    }
-    let at = lent_tables::place(places, first + i, 1);
-    let zeros = room_writes::put_mask(plan, parts, room, true, i, p, body, at as usize, slot, n);
-    leaf_counters::add_to(counters, 3 * i + 1, zeros);
+    put_kept_bits(plan, parts, places, body, counters, room, first, i, slot, n);
 }
 
 // ---- numbers, keys and views

@@ -1,5 +1,5 @@
 // The two orders on lent memory: each is tried first, on a copy of the counters, and made where no ground is found. A refused one changes nothing.
-// A copy is tried without a look at validity bits, and counts its nulls where it is made.
+// A copy is tried without a look at validity bits, and counts its nulls where it is made. Of a leaf (`leaf_rows`, `leaf_nulls`) no walk is tried.
 // Follows `try_extend` and `try_extend_nulls` of arrow-data 60.1.0 src/transform/mod.rs, Apache-2.0; see NOTICE.
 mod leaf_counters;
 mod leaf_nulls;

@@ -1,11 +1,8 @@
 -- `transform::leaf_rows::put_bits` meets its contract. Assumes nothing.
-use mathlib.Core.Path.{refl, ap}
-use mathlib.Core.Bool.{true, not}
-use mathlib.Core.List.{[]}
-use borrow.Author.Tests.{leb-true}
+use mathlib.Core.Path.{_∙_}
+use mathlib.Core.Bool.{true}
 use Rattle.leaf_walk.specs.Join.{join}
-use Rattle.leaf_walk.proofs.Laws.{mask-off, mask-ones, mask-bits, bits-yes}
-use Rattle.transform.proofs.leaf_rows.Laws.{bits-tests}
+use Rattle.leaf_walk.proofs.Laws.{mask-off}
 use borrow.Author.Needs.{needs}
 use Rattle.transform.proofs.leaf_rows.put_bits.Statement.{statement}
 use Rattle.transform.proofs.leaf_rows.put_bits.Tie as tie
@@ -18,20 +15,8 @@ returns c =
     let a = c .before .before .before .before .before .before .before .before .args in
     λ lengths source. mask-off (join (a .plan .now) (a .parts .now) lengths (a .places .now) (a .body .now) (a .first) source) (a .i) true (a .counters .now) (a .room .now) (a .slot) (a .n) (c .before .keeps-of .ensures) (c .if1 .taken)
 
-mul-at-u64 : tie.Need-mul-at-u64
-mul-at-u64 c = search needs
-
-at-u64-requires : tie.Need-at-u64-requires
-at-u64-requires c κs = search needs
-
-add-place : tie.Need-add-place
-add-place c = search needs
-
-place-requires : tie.Need-place-requires
-place-requires c κs = search needs
-
-put-ones-requires : tie.Need-put-ones-requires
-put-ones-requires c κs = search needs
+put-kept-bits-requires : tie.Need-put-kept-bits-requires
+put-kept-bits-requires c κs = (c .before .before .before .before .before .before .before .before .before .before .pre, λ z. c .before .before .if1 .left (c .before .before .before .keeps-of .ensures ∙ z))
 
 same-length : tie.Need-same-length
 same-length c = search needs
@@ -40,41 +25,7 @@ same-length-2 : tie.Need-same-length-2
 same-length-2 c = search needs
 
 returns-2 : tie.Need-returns-2
-returns-2 c =
-    let a = c .before .before .before .before .before .before .before .before .before .before .before .before .before .before .before .before .args in
-    λ lengths source. mask-ones (join (a .plan .now) (a .parts .now) lengths (a .places .now) (a .body .now) (a .first) source) (a .i) true (a .counters .now) (a .room .now) (a .slot) (a .n) (c .before .before .before .before .before .before .before .before .before .keeps-of .ensures) (c .before .before .before .before .before .before .before .before .if1 .left) (c .before .before .before .before .before .place .ensures) (c .before .before .before .before .if2 .taken) (c .before .before .before .before .before .before .at-u64 .ensures) (c .before .before .put-ones .ensures)
-
-add-place-2 : tie.Need-add-place-2
-add-place-2 c = search needs
-
-place-requires-2 : tie.Need-place-requires-2
-place-requires-2 c κs = search needs
-
-put-mask-requires : tie.Need-put-mask-requires
-put-mask-requires c κs =
-    let a = c .before .before .before .before .before .before .before .before .before .before .before .before .before .before .args in
-    (c .before .before .before .before .before .before .before .before .before .before .before .before .before .before .pre .2, leb-true _ _ (bits-tests (join (a .plan .now) [] [] (a .places .now) (a .body .now) (a .first) 0) (a .i) (a .slot) (a .n) (c .before .before .before .before .before .before .before .keeps-of .ensures) (c .before .before .before .before .before .before .if1 .left) (c .before .before .before .place .ensures) (c .before .before .if2 .left) (c .before .place2 .ensures) (c .before .before .before .before .before .before .before .before .before .before .before .before .before .before .pre .4)))
-
-mul-add-to : tie.Need-mul-add-to
-mul-add-to c = search needs
-
-add-add-to : tie.Need-add-add-to
-add-add-to c = search needs
-
-add-to-requires : tie.Need-add-to-requires
-add-to-requires c κs = search needs
-
-same-length-3 : tie.Need-same-length-3
-same-length-3 c = search needs
-
-same-length-4 : tie.Need-same-length-4
-same-length-4 c = search needs
-
-returns-3 : tie.Need-returns-3
-returns-3 c =
-    let a = c .before .before .before .before .before .before .before .before .before .before .before .before .before .before .before .before .before .before .before .before .before .args in
-    let k = bits-tests (join (a .plan .now) [] [] (a .places .now) (a .body .now) (a .first) 0) (a .i) (a .slot) (a .n) (c .before .before .before .before .before .before .before .before .before .before .before .before .before .before .keeps-of .ensures) (c .before .before .before .before .before .before .before .before .before .before .before .before .before .if1 .left) (c .before .before .before .before .before .before .before .before .before .before .place .ensures) (c .before .before .before .before .before .before .before .before .before .if2 .left) (c .before .before .before .before .before .before .before .before .place2 .ensures) (c .before .before .before .before .before .before .before .before .before .before .before .before .before .before .before .before .before .before .before .before .before .pre .4) in
-    λ lengths source. mask-bits (join (a .plan .now) (a .parts .now) lengths (a .places .now) (a .body .now) (a .first) source) (a .i) true (a .counters .now) (a .room .now) (a .slot) (a .n) (c .before .before .before .before .before .before .before .before .before .before .before .before .before .before .keeps-of .ensures) (c .before .before .before .before .before .before .before .before .before .before .before .before .before .if1 .left) (c .before .before .before .before .before .before .before .before .before .before .place .ensures) (c .before .before .before .before .before .before .before .before .before .if2 .left) (bits-yes (join (a .plan .now) (a .parts .now) lengths (a .places .now) (a .body .now) (a .first) source) (a .i) true (a .counters .now) (a .room .now) (a .slot) (a .n) (c .before .before .before .before .before .before .before .before .place2 .ensures) refl (ap not k) (c .before .before .before .before .before .before .before .before .before .before .before .at-u64 .ensures) (c .before .before .before .before .before .before .put-mask .ensures .0) (c .before .before .before .before .before .before .put-mask .ensures .1) (c .before .before .add-to .ensures))
+returns-2 c = c .before .before .before .before .put-kept-bits .ensures
 
 pub put-bits-spec : {M : Type 1} → statement M
-put-bits-spec = tie.close (tie.spec keeps-of-requires returns mul-at-u64 at-u64-requires add-place place-requires put-ones-requires same-length same-length-2 returns-2 add-place-2 place-requires-2 put-mask-requires mul-add-to add-add-to add-to-requires same-length-3 same-length-4 returns-3)
+put-bits-spec = tie.close (tie.spec keeps-of-requires returns put-kept-bits-requires same-length same-length-2 returns-2)
