@@ -21,3 +21,4 @@ pub mod Readiness
 pub mod Used
 pub mod Target
 pub mod Lent
+pub mod Answer
