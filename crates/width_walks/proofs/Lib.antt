@@ -20,3 +20,5 @@ pub mod Plans
 pub mod Readiness
 pub mod Used
 pub mod Target
+pub mod Lent
+pub mod Answer

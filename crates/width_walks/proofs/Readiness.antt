@@ -47,10 +47,10 @@ keeps-ends t x first i l e = new-keeps x first (comesFrom t) i (came t i l ∙ a
 
 module _ (t t′ : Tree) (y : Tables) (x : Lent) (buffers : List ℕ)
     (keeps : (i : ℕ) → i < t .end 0 → endsIn t i ≡ false → keepsOf (x .plan) i ≡ flag (ltb 0 (nullCount {B = Unit {0}} (arrayWith y tt i))))
-    (small : (i : ℕ) → lengthOf y i ≤ top)
-    (named : (i : ℕ) → t .kind i ≡ viewNode → (c : List ℕ) (μ : Memory) → BuffersNamed x buffers c μ i (dataBuffers y i)) where
+    (small : (i : ℕ) → i < t .end 0 → lengthOf y i ≤ top)
+    (named : (i : ℕ) → i < t .end 0 → t .kind i ≡ viewNode → (c : List ℕ) (μ : Memory) → BuffersNamed x buffers c μ i (dataBuffers y i)) where
   node-ready : {B : Type 0} (i : ℕ) (inner : B → Type 0) (b : B) → i < t .end 0 → ((j : ℕ) → suc j ≡ i → isRun (t .kind j) ≡ false) → inner b → ReadyNode x buffers i inner (arrayWith y b i)
-  node-ready i inner b l free h = record { keeps = keeps i l (not-after i free); small = small i; body-ready = h }
+  node-ready i inner b l free h = record { keeps = keeps i l (not-after i free); small = small i l; body-ready = h }
     where
       not-after : (i : ℕ) → ((j : ℕ) → suc j ≡ i → isRun (t .kind j) ≡ false) → endsIn t i ≡ false
       not-after zero free = refl
@@ -73,7 +73,7 @@ module _ (t t′ : Tree) (y : Tables) (x : Lent) (buffers : List ℕ)
 
   body-ready : (u u′ : Ty) (d : Widths u u′) (i : ℕ) → Laid t t′ (x .plan) d i → t .end i ≤ t .end 0 → ReadyBody x buffers u i (bodyOf t y u i)
   body-ready u u′ (sPlain p p′ d) i l e = tt
-  body-ready u u′ sView i l e = named i (l .0 .here)
+  body-ready u u′ sView i l e = named i (omega (arith, e, l .1)) (l .0 .here)
   body-ready u u′ (sListView w w′ v v′ d) i l e =
       node-ready (suc i) (ReadyBody x buffers v (suc i)) (bodyOf t y v (suc i)) (let z = laid-up t t′ y (x .plan) v v′ d (suc i) (l .2) in omega (arith, l .1)) (free-of i (listViewNode w) (l .0 .here) refl)
       (body-ready v v′ d (suc i) (l .2) (omega (arith, l .1)))

@@ -86,8 +86,8 @@ module _ (formats schema : List ℕ) (x : Tables) (first n first′ : ℕ) (part
 
   -- WHAT IS GIVEN, where the column obeys, its lengths fit counters, the body's bytes are bytes, and the data buffers of its views are named
   pub given : (d : Widths (typeOf formats schema first n) (typeOf formats schema first′ n)) → Source (typeOf formats schema first n) (columnOf here (tablesFrom x first) (typeOf formats schema first n) 0)
-      → ((i : ℕ) → lengthOf (tablesFrom x first) i ≤ top) → AllBelow 256 (x .body)
-      → ((i : ℕ) → here .kind i ≡ viewNode → (c : List ℕ) (μ : Memory) → BuffersNamed lent (x .buffers) c μ i (dataBuffers (tablesFrom x first) i))
+      → ((i : ℕ) → i < n → lengthOf (tablesFrom x first) i ≤ top) → AllBelow 256 (x .body)
+      → ((i : ℕ) → i < n → here .kind i ≡ viewNode → (c : List ℕ) (μ : Memory) → BuffersNamed lent (x .buffers) c μ i (dataBuffers (tablesFrom x first) i))
       → Given here there (tablesFrom x first) lent (x .buffers) (typeOf formats schema first n) (typeOf formats schema first′ n) d
   given d source small bytes named =
       let words = of-type formats schema first′ n keep (target .of-type) (target .low) no-ends in
@@ -98,7 +98,7 @@ module _ (formats schema : List ℕ) (x : Tables) (first n first′ : ℕ) (part
       let column = columnOf here (tablesFrom x first) (typeOf formats schema first n) 0 in
       let is-ready =
       ready here there (tablesFrom x first) lent (x .buffers)
-      (λ i l e. keeps-is formats schema first′ n keep true 0 small-plan i (omega (arith, end)) ∙ ap flag (keeps-own {B = Unit {0}} here x first i tt (omega (arith, end)) e)) small named
+      (λ i l e. keeps-is formats schema first′ n keep true 0 small-plan i (omega (arith, end)) ∙ ap flag (keeps-own {B = Unit {0}} here x first i tt (omega (arith, end)) e)) (λ i l. small i (omega (arith, end))) (λ i l. named i (omega (arith, end)))
       (typeOf formats schema first n) (typeOf formats schema first′ n) d laid in
       record {
         laid = laid;
