@@ -1,40 +1,42 @@
--- The entries in use, copied one by one: the walk goes with the model's copies, which are never refused. Assumes nothing.
+-- The entries in use, copied run by run: the walk goes with the model's copies, which are never refused. Assumes nothing.
 use mathlib.Core.Path.{_≡_, refl, sym, ap, subst, _∙_}
-use mathlib.Core.Bool.{Bool, true, false, cond, _||_}
-use mathlib.Core.List.{List, [], _∷_}
-use Prim.Native.Nat.{ℕ, zero, suc, _+_, _≤_, _<_}
+use mathlib.Core.Bool.{Bool, true, false}
+use mathlib.Core.List.{List}
+use Prim.Native.Nat.{ℕ, zero, suc, _+_, _-_, _≤_, _<_, min, max}
 use native.Mathlib.Omega.{arith}
 use lib.ListN.{length}
 use lib.Dec.{ltb}
+use borrow.Author.Tests.{ne-eqb}
 use Rattle.columnar.specs.Types.{Plain, tPlain}
 use Rattle.columnar.specs.Formed.{FormedPlain}
 use Rattle.columnar.specs.Array.{Array, Obeys, nullCount}
 use Rattle.columnar.specs.Plain.{PlainBody, PlainRule}
-use Rattle.model.specs.Try.{Try, done, then}
+use Rattle.model.specs.Try.{Try, done}
 use Rattle.model.specs.Opening.{keeps}
 use Rattle.model.specs.Mutable.{Mutable, extendNode, startNode}
 use Rattle.model.specs.Primitive.{plainExtend, plainStart}
+use Rattle.model.proofs.CutTries.{done-is}
 use Rattle.model.proofs.Law.{Fine}
 use Rattle.model.proofs.Nodes.{kindOf}
-use Rattle.model.proofs.Node.{node-copies}
 use Rattle.model.proofs.Start.{start-plain}
-use Rattle.model.proofs.Types.{law}
 use Rattle.walk.specs.State.{Join, dictionaryOf, endOf, keepsOf, far, top}
-use Rattle.walk.specs.Log.{Out, next, each}
+use Rattle.walk.specs.Log.{Out}
 use Rattle.walk.specs.Copy.{copyWalk}
 use Rattle.refinement.specs.walk_is_model.Memory.{Memory, after}
 use Rattle.refinement.specs.walk_is_model.Holds.{flag, WordedPlain, Holds}
 use Rattle.refinement.specs.walk_is_model.Lent.{LentNode, LentPlain}
-use Rattle.refinement.proofs.walk_is_model.Goes.{Goes, good, over, goes-done, goes-map, goes-then, goes-quiet, Quiet, quiet-done}
+use Rattle.refinement.proofs.walk_is_model.Goes.{Goes, good, over, Quiet, quiet-done, quiet-then}
 use Rattle.refinement.proofs.walk_is_model.Frame.{Kept, kept-refl, kept-then}
 use Rattle.refinement.proofs.walk_is_model.Types.{Opened, copies}
-use Rattle.refinement.proofs.walk_is_model.UnionFields.{goes-known, agrees-value}
 use Rattle.refinement.proofs.opening.Zeros.{Fresh}
 use Rattle.refinement.proofs.opening.Starts.{start-values}
 use Rattle.column_anew.specs.runs.Runs.{those}
+use Rattle.column_anew.proofs.runs.Those.{those-split}
 use Rattle.column_anew.specs.entries.Reclaimed.{copyEach, freshNode}
 use Rattle.used_entries.specs.Keys.{used}
-use Rattle.reclaim_walk.specs.Walk.{keysOf, copyUsed}
+use Rattle.reclaim_walk.specs.Walk.{keysOf, runOf, copyRun, copyRuns, copyBlocks}
+use Rattle.reclaim_walk.proofs.Runs.{runs-open, blocks-open}
+use Rattle.reclaim.proofs.Runs.{stretch, order, order-fine, each-cut, whole-run, run-within, run-those}
 
 -- the model is done, so the walk is
 pub goes-out : {A : Type 0} {μ : Memory} {Q : A → List ℕ → Memory → Type 0} {t : Try A} {o : Out} → Goes μ Q t o → (x : A) → t ≡ done x → Quiet μ (Q x) o
@@ -69,46 +71,77 @@ module _ (y : Join) (p : Plain) (v : Array (PlainBody p)) (source-is : y .source
     pub kept : Kept 1 2 c c′ μ μ′
     pub long : length c′ ≡ 96
 
-  -- one entry more
-  abbrev copyOne : ℕ → Mutable (PlainBody p) → Try (Mutable (PlainBody p))
-  copyOne e d = extendNode true (λ ss j. plainExtend p (ss j)) vs 0 e 1 d
-
   module _ (c : List ℕ) (μ : Memory) where
-    copy-step : (e r : ℕ) (d : Mutable (PlainBody p)) (c2 : List ℕ) (ν : Memory) → e < v .len → r < far → Copied c μ r d c2 ν → Goes ν (Copied c μ (suc r)) (copyOne e d) (copyWalk y 1 1 e 1 c2)
-    copy-step e r d c2 ν l f k =
-        let lawful = law (tPlain p) 1 vs (λ j q. obey) tt in
-        let agreed = node-copies (kindOf (tPlain p) 1 (λ j. v .body)) 1 vs lawful (λ j q. obey .mask) 0 e 1 d (omega arith) (omega arith) (k .fine) in
-        goes-map
-        (λ d′ c3 ξ q.
-        let g = agrees-value agreed d′ (q .1) in
+    copied-more : (r s : ℕ) (d : Mutable (PlainBody p)) (c2 : List ℕ) (ν : Memory) → r ≤ s → Copied c μ r d c2 ν → Copied c μ s d c2 ν
+    copied-more r s d c2 ν l k = record { fine = k .fine; few = omega (arith, k .few); holds = k .holds; kept = k .kept; long = k .long }
+
+    -- a run of k entries from e on
+    order-step : (e k : ℕ) (d D : Mutable (PlainBody p)) (c2 : List ℕ) (ν : Memory) → e + suc k ≤ v .len → v .len < far → Copied c μ e d c2 ν → order p v obey e (suc k) d ≡ done D
+        → Quiet ν (Copied c μ (e + suc k) D) (copyWalk y 1 1 e (suc k) c2)
+    order-step e k d D c2 ν l f h q =
+        let o = order-fine p v obey e (suc k) d D l (h .fine) q in
+        let g = goes-out (subst (λ s. Goes ν (λ d′ c′ μ′. Holds (y .state) (tPlain p) 1 d′ c′ μ′ × Kept 1 (endOf (y .state) 1) c2 c′ ν μ′) (extendNode true (λ ss j. plainExtend p (ss j)) vs s e (suc k) d) (copyWalk y 1 1 e (suc k) c2)) source-is (copies y 1 1 (tPlain p) 1 vs opened e (suc k) d c2 ν (omega arith) (h .fine) (omega (arith, h .few)) (h .long) (h .holds))) D q in
         record {
-          fine = g .fine′;
-          few = omega (arith, g .len-is, k .few);
-          holds = q .0 .0;
-          kept = kept-then (k .kept) (subst (λ z. Kept 1 z c2 c3 ν ξ) ends (q .0 .1));
-          long = q .0 .1 .long ∙ k .long;
-        })
-        (goes-known (subst (λ s. Goes ν (λ d′ c′ μ′. Holds (y .state) (tPlain p) 1 d′ c′ μ′ × Kept 1 (endOf (y .state) 1) c2 c′ ν μ′) (extendNode true (λ ss j. plainExtend p (ss j)) vs s e 1 d) (copyWalk y 1 1 e 1 c2)) source-is (copies y 1 1 (tPlain p) 1 vs opened e 1 d c2 ν (omega arith) (k .fine) (omega (arith, k .few)) (k .long) (k .holds))))
+          is-done = g .is-done;
+          in-place = g .in-place;
+          leaves =
+              record {
+                fine = o .0;
+                few = omega (arith, o .1, h .few);
+                holds = g .leaves .0;
+                kept = kept-then (h .kept) (subst (λ z. Kept 1 z c2 (copyWalk y 1 1 e (suc k) c2 .counts) ν (after (copyWalk y 1 1 e (suc k) c2 .log) ν)) ends (g .leaves .1));
+                long = g .leaves .1 .long ∙ h .long;
+              };
+        }
 
-    copied-more : (r : ℕ) (d : Mutable (PlainBody p)) (c2 : List ℕ) (ν : Memory) → Copied c μ r d c2 ν → Copied c μ (suc r) d c2 ν
-    copied-more r d c2 ν k = record { fine = k .fine; few = omega (arith, k .few); holds = k .holds; kept = k .kept; long = k .long }
+    run-step : (e k : ℕ) (d D : Mutable (PlainBody p)) (c2 : List ℕ) (ν : Memory) → e + k ≤ v .len → v .len < far → Copied c μ e d c2 ν → copyEach p v (stretch e k) d ≡ done D
+        → Quiet ν (Copied c μ (e + k) D) (copyRun y e k c2)
+    unfolding copyRun
+    run-step e zero d D c2 ν l f h q = quiet-done c2 (subst (λ z. Copied c μ (e + 0) z c2 ν) (done-is q) (copied-more e (e + 0) d c2 ν (omega arith) h))
+    run-step e (suc k) d D c2 ν l f h q = rw (ne-eqb (suc k) 0 (λ z. omega (arith, z))) (order-step e k d D c2 ν l f h (whole-run p v obey k e d D l (h .fine) q))
 
-    -- THE ENTRIES r, r + 1, .., n of them, of which those in use are copied
-    pub entries-go : (n r : ℕ) (d : Mutable (PlainBody p)) (c2 : List ℕ) (ν : Memory) → r + n ≤ v .len → v .len < far → Copied c μ r d c2 ν
-        → Goes ν (Copied c μ (r + n)) (copyEach p v (those (used (keysOf y)) r n) d) (each (copyUsed y) n r c2)
-    unfolding each copyUsed
-    entries-go zero r d c2 ν l f k = let z : r ≡ r + 0 = omega arith in goes-done d c2 (subst (λ q. Copied c μ q d c2 ν) z k)
-    entries-go (suc n) r d c2 ν l f k =
-        let z : suc r + n ≡ r + suc n = omega arith in
-        subst (λ q. Goes ν (Copied c μ q) (copyEach p v (those (used (keysOf y)) r (suc n)) d) (each (copyUsed y) (suc n) r c2)) z
-        (go (used (keysOf y) r) (λ d′ c3 ξ q. entries-go n (suc r) d′ c3 ξ (omega arith) f q))
-      where
-        go : (b : Bool)
-            → ((d′ : Mutable (PlainBody p)) (c3 : List ℕ) (ξ : Memory) → Copied c μ (suc r) d′ c3 ξ → Goes ξ (Copied c μ (suc r + n)) (copyEach p v (those (used (keysOf y)) (suc r) n) d′) (each (copyUsed y) n (suc r) c3))
-            → Goes ν (Copied c μ (suc r + n)) (copyEach p v (cond b (r ∷ those (used (keysOf y)) (suc r) n) (those (used (keysOf y)) (suc r) n)) d)
-            (next (cond b (copyWalk y 1 1 r 1 c2) (Rattle.walk.specs.Log.done c2)) (λ c3. each (copyUsed y) n (suc r) c3))
-        go true h = goes-then (copyEach p v (those (used (keysOf y)) (suc r) n)) (λ c3. each (copyUsed y) n (suc r) c3) (copy-step r r d c2 ν (omega arith) (omega arith) k) h
-        go false h = goes-quiet _ (quiet-done {Q = λ c3 ξ. Copied c μ (suc r) d c3 ξ} c2 (copied-more r d c2 ν k)) (λ c3 ξ q. h d c3 ξ q)
+    -- the n entries from e on, by a walk
+    abbrev Steps : (ℕ → ℕ → List ℕ → Out) → ℕ → Type 0
+    Steps walk n =
+        (e : ℕ) (d D : Mutable (PlainBody p)) (c2 : List ℕ) (ν : Memory) → e + n ≤ v .len → v .len < far → Copied c μ e d c2 ν → copyEach p v (those (used (keysOf y)) e n) d ≡ done D
+        → Quiet ν (Copied c μ (e + n) D) (walk n e c2)
+
+    -- .. run by run
+    runs-at : (n : ℕ) → ((m : ℕ) → m < n → Steps (λ n e. copyRuns y n e n) m) → Steps (λ n e. copyRuns y n e n) n
+    unfolding copyRuns
+    runs-at zero i e d D c2 ν l f h q = quiet-done c2 (subst (λ z. Copied c μ (e + 0) z c2 ν) (done-is q) (copied-more e (e + 0) d c2 ν (omega arith) h))
+    runs-at (suc n) i e d D c2 ν l f h q =
+        let k = runOf y e (suc n) in
+        let s = max k 1 in
+        let w = run-within y (suc n) e in
+        let t = each-cut p v obey (stretch e k) (those (used (keysOf y)) (e + s) (suc n - s)) d D (ap (λ es. copyEach p v es d) (sym (run-those y n e)) ∙ q) in
+        let z : e + s + (suc n - s) ≡ e + suc n = omega (arith, w) in
+        subst (Quiet ν (Copied c μ (e + suc n) D)) (sym (runs-open y (suc n) e c2 (omega arith)))
+        (quiet-then _ (run-step e k d (t .mid) c2 ν (omega (arith, w)) f h (t .one))
+        (λ c3 ξ g. subst (λ j. Quiet ξ (Copied c μ j D) (copyRuns y (suc n - s) (e + s) (suc n - s) c3)) z
+        (i (suc n - s) (omega arith) (e + s) (t .mid) D c3 ξ (omega (arith, w)) f (copied-more (e + k) (e + s) (t .mid) c3 ξ (omega arith) g) (t .two))))
+
+    runs-step : (m n : ℕ) → n ≤ m → Steps (λ n e. copyRuns y n e n) n
+    runs-step zero n b = runs-at n (λ m l. absurd (omega arith))
+    runs-step (suc m) n b = runs-at n (λ j l. runs-step m j (omega arith))
+
+    -- .. block by block
+    blocks-at : (n : ℕ) → ((m : ℕ) → m < n → Steps (λ n e. copyBlocks y n e n) m) → Steps (λ n e. copyBlocks y n e n) n
+    unfolding copyBlocks
+    blocks-at zero i e d D c2 ν l f h q = quiet-done c2 (subst (λ z. Copied c μ (e + 0) z c2 ν) (done-is q) (copied-more e (e + 0) d c2 ν (omega arith) h))
+    blocks-at (suc n) i e d D c2 ν l f h q =
+        let s = min (suc n) 512 in
+        let w : suc n ≡ s + (suc n - s) = omega arith in
+        let t = each-cut p v obey (those (used (keysOf y)) e s) (those (used (keysOf y)) (e + s) (suc n - s)) d D (ap (λ es. copyEach p v es d) (sym (ap (those (used (keysOf y)) e) w ∙ those-split (used (keysOf y)) s (suc n - s) e)) ∙ q) in
+        let z : e + s + (suc n - s) ≡ e + suc n = omega arith in
+        subst (Quiet ν (Copied c μ (e + suc n) D)) (sym (blocks-open y (suc n) e c2 (omega arith)))
+        (quiet-then _ (runs-step s s (omega arith) e d (t .mid) c2 ν (omega arith) f h (t .one))
+        (λ c3 ξ g. subst (λ j. Quiet ξ (Copied c μ j D) (copyBlocks y (suc n - s) (e + s) (suc n - s) c3)) z (i (suc n - s) (omega arith) (e + s) (t .mid) D c3 ξ (omega arith) f g (t .two))))
+
+    -- THE ENTRIES e, e + 1, .., n of them, of which those in use are copied
+    pub entries-go : (m n : ℕ) → n ≤ m → Steps (λ n e. copyBlocks y n e n) n
+    entries-go zero n b = blocks-at n (λ m l. absurd (omega arith))
+    entries-go (suc m) n b = blocks-at n (λ j l. entries-go m j (omega arith))
 
     -- before the first
     pub begin : length c ≡ 96 → Fresh (y .state) c μ 1 → keepsOf (y .state) 1 ≡ flag (ltb 0 (nullCount v)) → Copied c μ 0 (freshNode p v) c μ

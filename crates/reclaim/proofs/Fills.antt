@@ -22,7 +22,7 @@ use Rattle.model.specs.Try.{done, after}
 use Rattle.model.specs.Mutable.{Mutable, zeros, grow, counted, freezeNode}
 use Rattle.model.proofs.Law.{BitsFor}
 use Rattle.walk.specs.State.{Join, word, codeOf, dictionaryOf, endOf, bytesOf, keepsOf, rows, nulls, bytes, addRows, lengthOf, offsetOf, far, top}
-use Rattle.walk.specs.Log.{put, wrote, each}
+use Rattle.walk.specs.Log.{put, wrote}
 use Rattle.walk.specs.Leaves.{copyMask}
 use Rattle.parts.specs.Parts.{hasOffsets}
 use Rattle.refinement.specs.walk_is_model.Memory.{Memory, putIn}
@@ -46,9 +46,9 @@ use Rattle.anew.specs.Stood.{StoodNode, StoodPlain, Stood}
 use Rattle.anew.proofs.Held.{held-plain}
 use Rattle.anew.proofs.Reclaimed.{ReclaimedAt, reclaimed-stands}
 use Rattle.used_entries.specs.Keys.{used, newKeys}
-use Rattle.reclaim_walk.specs.Walk.{keysOf, firstEntry, copyUsed, reclaimWalk}
+use Rattle.reclaim_walk.specs.Walk.{keysOf, firstEntry, copyBlocks, reclaimWalk}
 use Rattle.reclaim.proofs.Rows.{those-same, used-same, keys-written, keys-there}
-use Rattle.reclaim.proofs.Entries.{goes-out, Copied, entries-go, begin}
+use Rattle.reclaim.proofs.Entries.{Copied, entries-go, begin}
 
 -- what the plan and the tables of a dictionary column give: node 0 its keys, node 1 its entries
 pub record Given (x : Lent) (k : Number) (p : Plain) (v : Column (tDictionary k p)) : Type 0 where
@@ -222,10 +222,10 @@ module _ (x : Lent) (k : Number) (p : Plain) (v : Column (tDictionary k p)) (g :
   whole = grown p old (ltb 0 (nullCount old)) (kept k v)
 
   entries-there : (c : List ℕ) (μ : Memory) → Begun c μ
-      → Quiet μ (λ c′ μ′. Begun c μ × Copied y p old refl (g .worded) (g .no-keys) (g .ends) (g .lent-values) (g .formed) (g .source .slots .child-rule) c μ (0 + lengthOf y 1) whole c′ μ′) (each (copyUsed y) (lengthOf y 1) 0 c)
+      → Quiet μ (λ c′ μ′. Begun c μ × Copied y p old refl (g .worded) (g .no-keys) (g .ends) (g .lent-values) (g .formed) (g .source .slots .child-rule) c μ (0 + lengthOf y 1) whole c′ μ′) (copyBlocks y (lengthOf y 1) 0 (lengthOf y 1) c)
   entries-there c μ b =
-      let q = goes-out (entries-go y p old refl (g .worded) (g .no-keys) (g .ends) (g .lent-values) (g .formed) (g .source .slots .child-rule) c μ (lengthOf y 1) 0 (freshNode p old) c μ (omega (arith, g .lent-values .len-is)) (omega (arith, g .lent-values .sum))
-      (begin y p old refl (g .worded) (g .no-keys) (g .ends) (g .lent-values) (g .formed) (g .source .slots .child-rule) c μ (b .long) (b .fresh) (g .entries-keep))) whole (ap (λ es. copyEach p old es (freshNode p old)) kept-are ∙ never-six k p v (g .formed) (g .source)) in
+      let q = entries-go y p old refl (g .worded) (g .no-keys) (g .ends) (g .lent-values) (g .formed) (g .source .slots .child-rule) c μ (lengthOf y 1) (lengthOf y 1) (omega arith) 0 (freshNode p old) whole c μ (omega (arith, g .lent-values .len-is)) (omega (arith, g .lent-values .sum))
+      (begin y p old refl (g .worded) (g .no-keys) (g .ends) (g .lent-values) (g .formed) (g .source .slots .child-rule) c μ (b .long) (b .fresh) (g .entries-keep)) (ap (λ es. copyEach p old es (freshNode p old)) kept-are ∙ never-six k p v (g .formed) (g .source)) in
       record { is-done = q .is-done; in-place = q .in-place; leaves = (b, q .leaves) }
 
   -- THE RECLAIMED COLUMN STANDS
@@ -256,7 +256,7 @@ module _ (x : Lent) (k : Number) (p : Plain) (v : Column (tDictionary k p)) (g :
         mask-at = rw (g .lent-keys .off-is, g .lent-keys .len-is) mask-there
 
         ends : {c3 : List ℕ} {μ3 : Memory}
-            → Quiet μ3 (λ c′ μ′. Begun c3 μ3 × Copied y p old refl (g .worded) (g .no-keys) (g .ends) (g .lent-values) (g .formed) (g .source .slots .child-rule) c3 μ3 (0 + lengthOf y 1) whole c′ μ′) (each (copyUsed y) (lengthOf y 1) 0 c3)
-            → Quiet μ3 (λ c μ. (length c ≡ 96) × Stood x buffers c μ (tDictionary k p) 0 (reclaimed k p v)) (each (copyUsed y) (lengthOf y 1) 0 c3)
+            → Quiet μ3 (λ c′ μ′. Begun c3 μ3 × Copied y p old refl (g .worded) (g .no-keys) (g .ends) (g .lent-values) (g .formed) (g .source .slots .child-rule) c3 μ3 (0 + lengthOf y 1) whole c′ μ′) (copyBlocks y (lengthOf y 1) 0 (lengthOf y 1) c3)
+            → Quiet μ3 (λ c μ. (length c ≡ 96) × Stood x buffers c μ (tDictionary k p) 0 (reclaimed k p v)) (copyBlocks y (lengthOf y 1) 0 (lengthOf y 1) c3)
         ends {c3} {μ3} q =
             record { is-done = q .is-done; in-place = q .in-place; leaves = (q .leaves .1 .long, reclaimed-stands x buffers _ _ k p v (stands-at c3 _ μ3 _ (q .leaves .0) (q .leaves .1))) }

@@ -2,6 +2,7 @@
 pub mod Placeless
 pub mod Answered
 pub mod Rows
+pub mod Runs
 pub mod Entries
 pub mod Fills
 pub mod Uses

@@ -2,7 +2,7 @@
 use mathlib.Core.Path.{_≡_, refl, sym, ap, subst, _∙_}
 use mathlib.Core.Bool.{Bool, true, false, cond}
 use mathlib.Core.List.{List, [], _∷_, _++_}
-use Prim.Native.Nat.{ℕ, zero, suc, _+_, _*_, _≤_, _<_}
+use Prim.Native.Nat.{ℕ, zero, suc, _+_, _*_, _-_, _≤_, _<_, min, max}
 use native.Mathlib.Omega.{arith}
 use lib.ListN.{length, replicate}
 use lib.Dec.{eqb}
@@ -12,7 +12,7 @@ use Rattle.columnar.specs.Row.{seg}
 use Rattle.columnar.specs.Entries.{encodes}
 use Rattle.formats.specs.Code.{isFixed, isString}
 use Rattle.walk.specs.State.{Join, codeOf, bytesOf, keepsOf, rows, place, addRows, lengthOf, offsetOf}
-use Rattle.walk.specs.Log.{put, mask, wrote, next, each}
+use Rattle.walk.specs.Log.{put, mask, wrote, next}
 use Rattle.walk.specs.Leaves.{copyBits, copyMask}
 use Rattle.walk.specs.Copy.{copyWalk}
 use Rattle.bits.specs.Bits.{bitsAt}
@@ -23,10 +23,10 @@ use Rattle.refinement.specs.log_in_room.Reach.{Closed, UsedAt}
 use Rattle.refinement.proofs.log_in_room.Bytes.{bytes-encode, bits-part, bits-same}
 use Rattle.refinement.proofs.log_in_room.Copies.{used-copies}
 use Rattle.refinement.proofs.log_in_room.Found.{between-both}
-use Rattle.refinement.proofs.log_in_room.Uses.{used-wide, Uses, uses-done, uses-wrote, uses-cond, uses-need, uses-next, uses-each}
+use Rattle.refinement.proofs.log_in_room.Uses.{used-wide, Uses, uses-done, uses-wrote, uses-cond, uses-need, uses-next}
 use Rattle.refinement.proofs.orders.Buffers.{fixed-one, buffer-copied, bits-copied, copied-part}
 use Rattle.used_entries.specs.Keys.{used, newKey, newKeys}
-use Rattle.reclaim_walk.specs.Walk.{keysOf, keysIn, firstEntry, copyUsed, reclaimWalk}
+use Rattle.reclaim_walk.specs.Walk.{keysOf, keysIn, firstEntry, runOf, copyRun, copyRuns, copyBlocks, reclaimWalk}
 
 -- bytes
 all-append : (s t : List ℕ) → AllBelow 256 s → AllBelow 256 t → AllBelow 256 (s ++ t)
@@ -101,11 +101,21 @@ module _ (y : Join) (parts : InParts (y .state)) (bytes : AllBelow 256 (y .body)
       let e : 1 ≡ i = sym (u .node) in
       record { node = omega (arith, parts .nodes); part = copied-part plan i b (subst (λ j. copied plan j ≡ true) e (parts .entries-copied)) (u .buffer) }
 
-  entry-uses : (e : ℕ) (c : List ℕ) → Uses U (copyUsed y e c)
-  unfolding copyUsed
-  entry-uses e c =
-      uses-cond U (used (keysOf y) e) _ _
-      (λ q. record { log-used = used-wide there (copyWalk y 1 1 e 1 c .log) (used-copies y _ _ (closed-values plan 1 (parts .entries-low)) bytes 1 1 e 1 c refl) }) (λ q. uses-done U c)
+  run-uses : (e k : ℕ) (c : List ℕ) → Uses U (copyRun y e k c)
+  unfolding copyRun
+  run-uses e k c =
+      uses-cond U (eqb k 0) _ _ (λ q. uses-done U c)
+      (λ q. record { log-used = used-wide there (copyWalk y 1 1 e k c .log) (used-copies y _ _ (closed-values plan 1 (parts .entries-low)) bytes 1 1 e k c refl) })
+
+  runs-use : (f e n : ℕ) (c : List ℕ) → Uses U (copyRuns y f e n c)
+  unfolding copyRuns
+  runs-use zero e n c = uses-done U c
+  runs-use (suc f) e n c = uses-cond U (eqb n 0) _ _ (λ q. uses-done U c) (λ q. uses-next U _ _ (run-uses e (runOf y e n) c) (λ c2. runs-use f _ _ c2))
+
+  blocks-use : (f e n : ℕ) (c : List ℕ) → Uses U (copyBlocks y f e n c)
+  unfolding copyBlocks
+  blocks-use zero e n c = uses-done U c
+  blocks-use (suc f) e n c = uses-cond U (eqb n 0) _ _ (λ q. uses-done U c) (λ q. uses-next U _ _ (runs-use (min n 512) e (min n 512) c) (λ c2. blocks-use f _ _ c2))
 
   -- ONLY PARTS THAT THERE ARE
   pub reclaim-uses : (c : List ℕ) → Uses U (reclaimWalk y c)
@@ -113,4 +123,4 @@ module _ (y : Join) (parts : InParts (y .state)) (bytes : AllBelow 256 (y .body)
   reclaim-uses c =
       uses-need U (keysIn y) 12 c _
       (λ q. uses-next U _ _ (mask-uses (offsetOf y 0) (lengthOf y 0) c)
-      (λ c1. uses-next U _ _ (keys-use c1) (λ c2. uses-next U _ _ (first-uses (addRows 0 (lengthOf y 0) c2)) (λ c3. uses-each U (copyUsed y) entry-uses (lengthOf y 1) 0 c3))))
+      (λ c1. uses-next U _ _ (keys-use c1) (λ c2. uses-next U _ _ (first-uses (addRows 0 (lengthOf y 0) c2)) (λ c3. blocks-use (lengthOf y 1) 0 (lengthOf y 1) c3))))

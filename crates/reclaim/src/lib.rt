@@ -7,13 +7,15 @@ ghost use lib.ListN.{length, replicate};
 ghost use Rattle.array_data.specs.lent_tables.Lent.{tables};
 ghost use Rattle.source_rules.specs.kinds.Rows.{tablesOf};
 ghost use Rattle.columns.specs.Grounds.{columnGround};
+ghost use Rattle.walk.specs.State.{lengthOf};
 ghost use Rattle.walk.specs.Log.{Did};
 ghost use Rattle.leaf_walk.specs.Join.{join};
 ghost use Rattle.anew.specs.Anew.{orElse};
 ghost use Rattle.anew.specs.ResultPlan.{keepsFrom, Comes, planAnew};
 ghost use Rattle.with_capacities.specs.Answer.{Answers};
 ghost use Rattle.result_plan.specs.Answer.{Asks};
-ghost use Rattle.reclaim_walk.specs.Walk.{reclaimWalk};
+ghost use Rattle.used_entries.specs.Keys.{Head};
+ghost use Rattle.reclaim_walk.specs.Walk.{keysOf, keysIn, reclaimWalk};
 ghost use Rattle.reclaim.specs.Reclaim.{fromColumn, reclaimOwn, reclaimAsked, reclaiming};
 
 // The most bytes of a room, which is a body too.
@@ -95,10 +97,12 @@ pub fn plan_reclaim(
         return g;
     }
     let state = planned(formats, schema, lengths, places, body, first, n);
+    let head = reclaim_walk::head_ranks(&state, lengths, places, body, first as usize);
     let none = [0u64; 0];
     let mut nothing = [0u8; 0];
     let mut counts = [0u64; 96];
     let g = reclaim_walk::reclaim_walk(
+        &head,
         &state,
         &none,
         lengths,
@@ -125,6 +129,7 @@ pub fn plan_reclaim(
 
 // The walk made, and plan and counters left with the caller.
 fn make(
+    head: &[u64; 513],
     state: &[u64],
     parts: &[u64],
     lengths: &[u64],
@@ -136,10 +141,12 @@ fn make(
     room: &mut [u8],
 ) -> u8
     requires { ⌜ (length (now plan) ≡ 872) × (length (now counters) ≡ 96) × (length (now state) ≡ 872) ⌝ }
+    requires { ⌜ (keysIn (join (now state) [] (now lengths) (now places) (now body) first 0) ≡ true → Head (keysOf (join (now state) [] (now lengths) (now places) (now body) first 0)) (lengthOf (join (now state) [] (now lengths) (now places) (now body) first 0) 1) (now head)) ⌝ }
     ensures { λ r. ⌜ (now (plan .exit) ≡ now (state .entry)) × Did (now (state .entry)) (now (parts .entry)) true (reclaimWalk (join (now (state .entry)) (now (parts .entry)) (now (lengths .entry)) (now (places .entry)) (now (body .entry)) first 0) (replicate 96 0)) (now (room .entry)) r (now (counters .exit)) (now (room .exit)) ⌝ }
 {
     let mut counts = [0u64; 96];
     let g = reclaim_walk::reclaim_walk(
+        head,
         state,
         parts,
         lengths,
@@ -180,8 +187,10 @@ pub fn reclaim(
         return g;
     }
     let state = planned(formats, schema, lengths, places, body, first, n);
+    let head = reclaim_walk::head_ranks(&state, lengths, places, body, first as usize);
     let mut tried = [0u64; 96];
     let g = reclaim_walk::reclaim_walk(
+        &head,
         &state,
         parts,
         lengths,
@@ -208,6 +217,7 @@ pub fn reclaim(
         return g;
     }
     make(
+        &head,
         &state,
         parts,
         lengths,

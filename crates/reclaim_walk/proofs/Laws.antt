@@ -2,14 +2,14 @@
 use mathlib.Core.Path.{_≡_, refl, sym, ap, ap₂, subst, _∙_}
 use mathlib.Core.Bool.{Bool, true, false, not, cond, _&&_, false≢true}
 use mathlib.Core.List.{List, [], _∷_, _++_, append-assoc}
-use Prim.Native.Nat.{ℕ, zero, suc, _+_, _*_, _-_, _^_, _≤_, _<_}
+use Prim.Native.Nat.{ℕ, zero, suc, _+_, _*_, _-_, _^_, _≤_, _<_, min, max}
 use native.Mathlib.Nat.{add-zero, zero-add, mul-comm}
 use native.Mathlib.Numerals.{add-one}
 use native.Mathlib.Decide.{ℕ-discrete}
 use native.Mathlib.Omega.{arith}
 use lib.ListN.{length, getD}
 use lib.Dec.{leb, ltb, eqb}
-use borrow.Author.Tests.{leb-true, ltb-true, lt-ltb, le-ltb, eqb-true, eq-eqb, ne-eqb}
+use borrow.Author.Tests.{leb-true, ltb-true, lt-ltb, le-ltb, eqb-true, eqb-false, eq-eqb, ne-eqb}
 use Rattle.number.specs.Number.{encode}
 use Rattle.columnar.specs.Row.{seg}
 use Rattle.columnar.proofs.Items.{length-encodes}
@@ -17,7 +17,7 @@ use Rattle.model.proofs.Bits.{length-seg}
 use Rattle.formats.specs.Code.{isFixed, isString, widthOf}
 use Rattle.array_data.proofs.lent_tables.Laws.{and-left, and-right}
 use Rattle.walk.specs.State.{Join, codeOf, bytesOf, grown, scaled, top, addRows, place, lengthOf, offsetOf, far, rowsIn}
-use Rattle.walk.specs.Log.{Out, Did, put, done, wrote, next, each, applyIf}
+use Rattle.walk.specs.Log.{Out, Did, put, done, wrote, next, applyIf}
 use Rattle.walk.proofs.Laws.{done-did, wrote-did, need-no, need-ok, next-ok, next-no}
 use Rattle.walk.specs.Leaves.{copyMask}
 use Rattle.walk.specs.Copy.{copyWalk}
@@ -26,7 +26,7 @@ use Rattle.leaf_walk.specs.Join.{join}
 use Rattle.leaf_walk.proofs.Widths.{fixed-width, string-width}
 use Rattle.used_entries.specs.Keys.{Keys, keys, KeyWidth, Within, used, rank, newKey, newKeys}
 use Rattle.used_entries.proofs.Laws.{rank-more}
-use Rattle.reclaim_walk.specs.Walk.{keysOf, bitsIn, keysIn, firstEntry, copyUsed, reclaimWalk}
+use Rattle.reclaim_walk.specs.Walk.{keysOf, bitsIn, keysIn, firstEntry, runOf, copyRun, copyRuns, copyBlocks, reclaimWalk}
 
 -- ---- walks one behind the other
 
@@ -45,30 +45,9 @@ unfolding next done
 next-done c k = refl
 
 -- what follows is only asked at the counters that are left
-next-same : (o : Out) (f k : List ℕ → Out) → f (o .counts) ≡ k (o .counts) → next o f ≡ next o k
+pub next-same : (o : Out) (f k : List ℕ → Out) → f (o .counts) ≡ k (o .counts) → next o f ≡ next o k
 unfolding next
 next-same o f k h = rw h
-
--- so many, and then the others
-pub each-split : (f : ℕ → List ℕ → Out) (a b r : ℕ) (c : List ℕ) → each f (a + b) r c ≡ next (each f a r c) (λ c2. each f b (r + a) c2)
-unfolding each
-each-split f zero b r c = ap (λ n. each f n r c) (zero-add b) ∙ ap (λ q. each f b q c) (sym (add-zero r)) ∙ sym (next-done c (λ c2. each f b (r + zero) c2))
-each-split f (suc a) b r c =
-    let e : suc a + b ≡ suc (a + b) = omega arith in
-    let q : suc r + a ≡ r + suc a = omega arith in
-    ap (λ n. each f n r c) e
-    ∙ next-same (f r c) (λ c2. each f (a + b) (suc r) c2) (λ c2. next (each f a (suc r) c2) (λ c3. each f b (r + suc a) c3))
-    (each-split f a b (suc r) (f r c .counts) ∙ ap (λ z. next (each f a (suc r) (f r c .counts)) (λ c3. each f b z c3)) q)
-    ∙ next-next (f r c) (λ c2. each f a (suc r) c2) (λ c3. each f b (r + suc a) c3)
-
-module _ {state parts : List ℕ} where
-  pub block-stop : (wr : Bool) (f : ℕ → List ℕ → Out) (n a b r : ℕ) (c room : List ℕ) {g : ℕ} {c1 room1 : List ℕ} → n ≡ a + b
-      → Did state parts wr (each f a r c) room g c1 room1 → (g ≡ 0 → ⊥) → Did state parts wr (each f n r c) room g c1 room1
-  block-stop wr f n a b r c room e d h = rw (e, each-split f a b r c) (next-no _ d h)
-
-  pub block-more : (wr : Bool) (f : ℕ → List ℕ → Out) (n a b r r′ : ℕ) (c room : List ℕ) {g : ℕ} {c1 room1 : List ℕ} {g2 : ℕ} {c2 room2 : List ℕ} → n ≡ a + b → r′ ≡ r + a
-      → Did state parts wr (each f a r c) room g c1 room1 → g ≡ 0 → Did state parts wr (each f b r′ c1) room1 g2 c2 room2 → Did state parts wr (each f n r c) room g2 c2 room2
-  block-more wr f n a b r r′ c room e q d h m = rw (e, each-split f a b r c) (next-ok _ d h (rw q at m))
 
 -- ---- the tables as the code reads them
 
@@ -230,14 +209,13 @@ used-told k e a b p q = go (used k e) refl
     go false h = let z : _≡_ {A = ℕ} (cond (used k e) 1 0) 0 = rw h in le-ltb a b (omega (arith, rank-more k e, z))
 
 module _ (x : Join) {state parts : List ℕ} {wr : Bool} {room : List ℕ} where
-  pub copy-yes : {g : ℕ} {c2 room2 : List ℕ} (e : ℕ) (c : List ℕ) (t : Bool) → t ≡ used (keysOf x) e → t ≡ true → Did state parts wr (copyWalk x 1 1 e 1 c) room g c2 room2
-      → Did state parts wr (copyUsed x e c) room g c2 room2
-  unfolding copyUsed
-  copy-yes e c t p q d = rw (sym p ∙ q) d
+  pub copy-some : {g : ℕ} {c2 room2 : List ℕ} (e k : ℕ) (c : List ℕ) → (k ≡ 0 → ⊥) → Did state parts wr (copyWalk x 1 1 e k c) room g c2 room2 → Did state parts wr (copyRun x e k c) room g c2 room2
+  unfolding copyRun
+  copy-some e k c h d = rw (ne-eqb k 0 h) d
 
-  pub copy-no : (e : ℕ) (c : List ℕ) (t : Bool) → t ≡ used (keysOf x) e → t ≡ false → Did state parts wr (copyUsed x e c) room 0 c room
-  unfolding copyUsed
-  copy-no e c t p q = rw (sym p ∙ q) (done-did wr c room)
+  pub copy-none : (e k : ℕ) (c : List ℕ) → k ≡ 0 → Did state parts wr (copyRun x e k c) room 0 c room
+  unfolding copyRun
+  copy-none e k c h = rw (eq-eqb k 0 h) (done-did wr c room)
 
   pub first-no : (c : List ℕ) (code : ℕ) (t : Bool) → code ≡ codeOf (x .state) 1 → t ≡ isString code → not t ≡ true → Did state parts wr (firstEntry x c) room 0 c room
   unfolding firstEntry
@@ -285,12 +263,6 @@ pub keys-in-parts : (state parts lengths places body : List ℕ) (first : ℕ) �
 unfolding keysIn rowsIn
 keys-in-parts state parts lengths places body first = refl
 
-module _ {state parts : List ℕ} where
-  -- so many as there are
-  pub each-is : (wr : Bool) (f : ℕ → List ℕ → Out) {n m : ℕ} (r : ℕ) (c room : List ℕ) {g : ℕ} {c1 room1 : List ℕ} → n ≡ m → Did state parts wr (each f n r c) room g c1 room1
-      → Did state parts wr (each f m r c) room g c1 room1
-  each-is wr f r c room {g} {c1} {room1} e d = subst (λ n. Did state parts wr (each f n r c) room g c1 room1) e d
-
 module _ (x : Join) {state parts : List ℕ} (wr : Bool) (c room : List ℕ) where
   pub walk-no : (t : Bool) → t ≡ keysIn x → not t ≡ true → Did state parts wr (reclaimWalk x c) room 12 c room
   unfolding reclaimWalk
@@ -311,7 +283,7 @@ module _ (x : Join) {state parts : List ℕ} (wr : Bool) (c room : List ℕ) whe
     walk-mask q = need-ok 12 c in-body (next-no _ mask-did q)
 
     pub walk-all : g ≡ 0 → {room2 room3 room4 c2 c4 : List ℕ} {g4 : ℕ} → room2 ≡ applyIf state parts wr (put 0 1 0 (newKeys (keysOf x) (lengthOf x 1)) ∷ []) room1 → c2 ≡ addRows 0 n c1
-        → ((k : List ℕ) → Did state parts wr (firstEntry x k) room2 0 k room3) → Did state parts wr (each (copyUsed x) (lengthOf x 1) 0 c2) room3 g4 c4 room4
+        → ((k : List ℕ) → Did state parts wr (firstEntry x k) room2 0 k room3) → Did state parts wr (copyBlocks x (lengthOf x 1) 0 (lengthOf x 1) c2) room3 g4 c4 room4
         → Did state parts wr (reclaimWalk x c) room g4 c4 room4
     unfolding reclaimWalk
     walk-all q {room2} {room3} {room4} {c2} {c4} {g4} r a f m =
@@ -319,10 +291,13 @@ module _ (x : Join) {state parts : List ℕ} (wr : Bool) (c room : List ℕ) whe
         (next-ok _ mask-did q
         (next-ok _ (wrote-did wr (put 0 1 0 (newKeys (keysOf x) (lengthOf x 1))) c1 room1 room2 r) refl
         (next-ok _ (f (addRows 0 (lengthOf x 0) c1)) refl
-        (subst (λ k. Did state parts wr (each (copyUsed x) (lengthOf x 1) 0 k) room3 g4 c4 room4) (a ∙ ap (λ z. addRows 0 z c1) (en ∙ length-zero x)) m))))
+        (subst (λ k. Did state parts wr (copyBlocks x (lengthOf x 1) 0 (lengthOf x 1) k) room3 g4 c4 room4) (a ∙ ap (λ z. addRows 0 z c1) (en ∙ length-zero x)) m))))
 
 pub told : {t u : Bool} → t ≡ u → not t ≡ false → u ≡ true
 told {t} e h = sym e ∙ not-false t h
+
+pub told-not : {t u : Bool} → t ≡ u → not t ≡ true → u ≡ true → ⊥
+told-not {t} e h q = false≢true (sym (not-true t h) ∙ e ∙ q)
 
 pub slots-below : (x : Join) → keysIn x ≡ true → {off n : ℕ} → off ≡ getD (x .lengths) (2 * x .first + 1) 0 → n ≡ getD (x .lengths) (2 * x .first) 0 → off + n < 2 ^ 63
 slots-below x h e f = omega (arith, keys-within x h .slots, e ∙ offset-zero x, f ∙ length-zero x)

@@ -1,2 +1,3 @@
 -- What the walk of a reclaiming goes by.
 pub mod Laws
+pub mod Runs

@@ -2,13 +2,13 @@
 -- Assumes nothing.
 use mathlib.Core.Bool.{Bool, true, not, cond, _&&_}
 use mathlib.Core.List.{List}
-use Prim.Native.Nat.{ℕ, _+_, _*_}
+use Prim.Native.Nat.{ℕ, zero, suc, _+_, _*_, _-_, min, max}
 use lib.ListN.{length}
 use lib.Dec.{leb, ltb, eqb}
 use Rattle.number.specs.Number.{encode}
 use Rattle.formats.specs.Code.{isFixed, isString}
 use Rattle.walk.specs.State.{Join, codeOf, bytesOf, addRows, place, lengthOf, offsetOf, far, rowsIn}
-use Rattle.walk.specs.Log.{Out, put, done, wrote, need, next, each}
+use Rattle.walk.specs.Log.{Out, put, done, wrote, need, next}
 use Rattle.walk.specs.Leaves.{copyMask}
 use Rattle.walk.specs.Copy.{copyWalk}
 use Rattle.used_entries.specs.Keys.{Keys, keys, used, newKeys}
@@ -32,9 +32,26 @@ module _ (x : Join) where
   unfoldable pub firstEntry : List ℕ → Out
   firstEntry c = cond (isString (codeOf (x .state) 1)) (wrote (put 1 1 0 (encode (bytesOf (x .state) 1) 0)) c) (done c)
 
-  -- "only the entries that some valid key names, each copied as an order copies it"
-  unfoldable pub copyUsed : ℕ → List ℕ → Out
-  copyUsed e c = cond (used keysOf e) (copyWalk x 1 1 e 1 c) (done c)
+  -- how many of the n entries from e on are in use, up to the first that is not
+  unfoldable pub runOf : ℕ → ℕ → ℕ
+  runOf e zero = 0
+  runOf e (suc n) = cond (used keysOf e) (suc (runOf (suc e) n)) 0
+
+  -- "only the entries that some valid key names, each copied as an order copies it": k of them, one behind the other, by one order
+  unfoldable pub copyRun : ℕ → ℕ → List ℕ → Out
+  copyRun e k c = cond (eqb k 0) (done c) (copyWalk x 1 1 e k c)
+
+  -- the n entries from e on, run by run, in at most so many steps
+  unfoldable pub copyRuns : ℕ → ℕ → ℕ → List ℕ → Out
+  copyRuns zero e n c = done c
+  copyRuns (suc f) e n c =
+      cond (eqb n 0) (done c) (next (copyRun e (runOf e n) c) (λ c2. copyRuns f (e + max (runOf e n) 1) (n - max (runOf e n) 1) c2))
+
+  -- .. in blocks of 512
+  unfoldable pub copyBlocks : ℕ → ℕ → ℕ → List ℕ → Out
+  copyBlocks zero e n c = done c
+  copyBlocks (suc f) e n c =
+      cond (eqb n 0) (done c) (next (copyRuns (min n 512) e (min n 512) c) (λ c2. copyBlocks f (e + min n 512) (n - min n 512) c2))
 
   -- THE WALK: validity and new keys of all rows, then the entries in use "in their old order"; 12 for tables that no accepted column has
   unfoldable pub reclaimWalk : List ℕ → Out
@@ -42,4 +59,4 @@ module _ (x : Join) where
       need keysIn 12 c
       (next (copyMask x 0 (offsetOf x 0) (lengthOf x 0) c)
       (λ c1. next (wrote (put 0 1 0 (newKeys keysOf (lengthOf x 1))) c1)
-      (λ c2. next (firstEntry (addRows 0 (lengthOf x 0) c2)) (λ c3. each copyUsed (lengthOf x 1) 0 c3))))
+      (λ c2. next (firstEntry (addRows 0 (lengthOf x 0) c2)) (λ c3. copyBlocks (lengthOf x 1) 0 (lengthOf x 1) c3))))

@@ -74,3 +74,7 @@ module _ (x : Keys) where
   -- where the key of row r falls in the block of n entries from b on; 512 where the row is null or its key falls outside
   unfoldable pub slotIn : ℕ → ℕ → ℕ → ℕ
   slotIn b n r = cond (validOf r && leb b (keyOf r) && ltb (keyOf r - b) n) (keyOf r - b) 512
+
+  -- the ranks of the first block of a dictionary of e entries: of each of at most 512, and of the one behind them
+  abbrev pub Head : ℕ → List ℕ → Type 0
+  Head e m = (j : ℕ) → j ≤ e → j ≤ 512 → getD m j 0 ≡ rank j

@@ -2,13 +2,13 @@
 ghost use mathlib.Core.Path.{_≡_};
 ghost use mathlib.Core.Bool.{true, cond};
 ghost use mathlib.Core.List.{List};
-ghost use Prim.Native.Nat.{ℕ, _+_, _*_, _^_, _<_, _≤_};
+ghost use Prim.Native.Nat.{ℕ, _+_, _*_, _-_, _^_, _<_, _≤_, min};
 ghost use lib.ListN.{length, getD};
 ghost use lib.Dec.{ltb};
 ghost use Rattle.number.specs.Number.{encode, entry, splice};
 ghost use Rattle.columnar.specs.Row.{seg};
 ghost use Rattle.columnar.specs.Entries.{encodes};
-ghost use Rattle.used_entries.specs.Keys.{keys, KeyWidth, Within, slotValid, used, rank, newKey, newKeys, slotIn};
+ghost use Rattle.used_entries.specs.Keys.{keys, KeyWidth, Within, slotValid, used, rank, newKey, newKeys, slotIn, Head};
 
 // How many entries a block has at most.
 const BLOCK: u64 = 512;
@@ -178,7 +178,7 @@ fn write_block(
 // How many of the entries from `base` on are in its block.
 pub fn block_len(base: u64, entries: u64) -> u64
     requires { ⌜ base < entries ⌝ }
-    ensures { λ r. ⌜ (0 < r) × (r ≤ 512) × (base + r ≤ entries) ⌝ }
+    ensures { λ r. ⌜ (0 < r) × (r ≤ 512) × (base + r ≤ entries) × (r ≡ min (entries - base) 512) ⌝ }
 {
     if BLOCK < entries - base {
         return BLOCK;
@@ -186,10 +186,63 @@ pub fn block_len(base: u64, entries: u64) -> u64
     entries - base
 }
 
-// THE NEW KEYS at `to`, of a dictionary with so many entries, block by block.
+// How many entries are in the first block.
+fn head_len(entries: u64) -> u64
+    ensures { λ r. ⌜ r ≡ min entries 512 ⌝ }
+{
+    if BLOCK < entries {
+        return BLOCK;
+    }
+    entries
+}
+
+// The ranks of the first block of a dictionary with so many entries.
+pub fn head_ranks(
+    body: &[u8],
+    w: u64,
+    at: u64,
+    masked: bool,
+    mask: u64,
+    off: u64,
+    n: u64,
+    entries: u64,
+) -> [u64; 513]
+    requires { ⌜ Within (keys (now body) w at masked mask off n) ⌝ }
+    ensures { λ m. ⌜ Head (keys (now (body .entry)) w at masked mask off n) entries m ⌝ }
+{
+    let count = head_len(entries);
+    ranks_of(body, w, at, masked, mask, off, n, 0, count, 0)
+}
+
+// The ranks of a block, of which the first is known.
+pub fn block_ranks(
+    head: &[u64; 513],
+    body: &[u8],
+    w: u64,
+    at: u64,
+    masked: bool,
+    mask: u64,
+    off: u64,
+    n: u64,
+    base: u64,
+    count: u64,
+    start: u64,
+) -> [u64; 513]
+    requires { ⌜ Within (keys (now body) w at masked mask off n) × (count ≤ 512) × (base + count < 2 ^ 64) × (start ≡ rank (keys (now body) w at masked mask off n) base) ⌝ }
+    requires { ⌜ Head (keys (now body) w at masked mask off n) (base + count) (now head) ⌝ }
+    ensures { λ m. ⌜ ((j : ℕ) → j ≤ count → getD m j 0 ≡ rank (keys (now (body .entry)) w at masked mask off n) (base + j)) ⌝ }
+{
+    if base == 0 {
+        return *head;
+    }
+    ranks_of(body, w, at, masked, mask, off, n, base, count, start)
+}
+
+// THE NEW KEYS at `to`, of a dictionary with so many entries, block by block; the ranks of the first are given.
 pub fn write_keys(
     room: &mut [u8],
     to: usize,
+    head: &[u64; 513],
     body: &[u8],
     w: u64,
     at: u64,
@@ -200,6 +253,7 @@ pub fn write_keys(
     entries: u64,
 )
     requires { ⌜ Within (keys (now body) w at masked mask off n) × (to + w * n ≤ length (now room)) × (entries < 2 ^ 63) ⌝ }
+    requires { ⌜ Head (keys (now body) w at masked mask off n) entries (now head) ⌝ }
     ensures { λ _. ⌜ now (room .exit) ≡ splice to (newKeys (keys (now (body .entry)) w at masked mask off n) entries) (now (room .entry)) ⌝ }
 {
     copy::fill_zeros(room, to, (w * n) as usize);
@@ -207,7 +261,7 @@ pub fn write_keys(
     let mut start: u64 = 0;
     while base < entries {
         let count = block_len(base, entries);
-        let ranks = ranks_of(body, w, at, masked, mask, off, n, base, count, start);
+        let ranks = block_ranks(head, body, w, at, masked, mask, off, n, base, count, start);
         write_block(
             room,
             to,

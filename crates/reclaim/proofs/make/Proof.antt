@@ -9,7 +9,7 @@ use Rattle.reclaim.proofs.make.Statement.{statement}
 use Rattle.reclaim.proofs.make.Tie as tie
 
 reclaim-walk-requires : tie.Need-reclaim-walk-requires
-reclaim-walk-requires c κs = search needs
+reclaim-walk-requires c κs = (search needs, c .before .before .before .before .before .before .before .before .before .before .pre .1)
 
 copied-requires : tie.Need-copied-requires
 copied-requires c κs = search needs

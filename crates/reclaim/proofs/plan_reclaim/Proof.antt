@@ -24,6 +24,12 @@ planned-requires c κs =
     let x = tablesOf (a .lengths .now) (a .places .now) (a .buffers .now) (a .body .now) in
     plannable (a .formats .now) (a .schema .now) x (a .first) (a .n) (omega arith) (c .before .ground-of .ensures) (c .if1 .left)
 
+slice-aggregate-head-ranks : tie.Need-slice-aggregate-head-ranks
+slice-aggregate-head-ranks c = search needs
+
+head-ranks-requires : tie.Need-head-ranks-requires
+head-ranks-requires c κs = search needs
+
 slice-aggregate-reclaim-walk : tie.Need-slice-aggregate-reclaim-walk
 slice-aggregate-reclaim-walk c = search needs
 
@@ -34,25 +40,25 @@ slice-aggregate-reclaim-walk-3 : tie.Need-slice-aggregate-reclaim-walk-3
 slice-aggregate-reclaim-walk-3 c = search needs
 
 reclaim-walk-requires : tie.Need-reclaim-walk-requires
-reclaim-walk-requires c κs = search needs
+reclaim-walk-requires c κs = (search needs, c .before .before .before .before .before .head-ranks .ensures)
 
 returns-2 : tie.Need-returns-2
 returns-2 c =
-    let a = c .before .before .before .before .before .before .before .before .before .before .before .before .before .before .before .before .before .before .args in
+    let a = c .before .before .before .before .before .before .before .before .before .before .before .before .before .before .before .before .before .before .before .before .before .args in
     let x = tablesOf (a .lengths .now) (a .places .now) (a .buffers .now) (a .body .now) in
-    asked-walk (a .formats .now) (a .schema .now) x (a .first) (a .n) (c .before .before .before .before .before .before .before .before .before .ground-of .ensures) (c .before .before .before .before .before .before .before .before .if1 .left) (c .before .before .before .before .before .before .before .planned .ensures) [] (c .before .before .reclaim-walk .ensures) (a .plan .now) (a .counters .now) (c .if2 .taken)
+    asked-walk (a .formats .now) (a .schema .now) x (a .first) (a .n) (c .before .before .before .before .before .before .before .before .before .before .before .before .ground-of .ensures) (c .before .before .before .before .before .before .before .before .before .before .before .if1 .left) (c .before .before .before .before .before .before .before .before .before .before .planned .ensures) [] (c .before .before .reclaim-walk .ensures) (a .plan .now) (a .counters .now) (c .if2 .taken)
 
 returns-3 : tie.Need-returns-3
 returns-3 c =
-    let a = c .before .before .before .before .before .before .before .before .before .before .before .before .before .before .before .before .before .before .before .args in
+    let a = c .before .before .before .before .before .before .before .before .before .before .before .before .before .before .before .before .before .before .before .before .before .before .args in
     let x = tablesOf (a .lengths .now) (a .places .now) (a .buffers .now) (a .body .now) in
-    asked-plan (a .formats .now) (a .schema .now) x (a .first) (a .n) (c .before .before .before .before .before .before .before .before .before .before .ground-of .ensures) (c .before .before .before .before .before .before .before .before .before .if1 .left) (c .before .before .before .before .before .before .before .before .planned .ensures) [] (c .before .before .before .reclaim-walk .ensures) (a .plan .now) (a .counters .now) (c .before .if2 .left) (c .if3 .taken)
+    asked-plan (a .formats .now) (a .schema .now) x (a .first) (a .n) (c .before .before .before .before .before .before .before .before .before .before .before .before .before .ground-of .ensures) (c .before .before .before .before .before .before .before .before .before .before .before .before .if1 .left) (c .before .before .before .before .before .before .before .before .before .before .before .planned .ensures) [] (c .before .before .before .reclaim-walk .ensures) (a .plan .now) (a .counters .now) (c .before .if2 .left) (c .if3 .taken)
 
 returns-4 : tie.Need-returns-4
 returns-4 c =
-    let a = c .before .before .before .before .before .before .before .before .before .before .before .before .before .before .before .before .before .before .before .before .args in
+    let a = c .before .before .before .before .before .before .before .before .before .before .before .before .before .before .before .before .before .before .before .before .before .before .before .args in
     let x = tablesOf (a .lengths .now) (a .places .now) (a .buffers .now) (a .body .now) in
-    asked-counters (a .formats .now) (a .schema .now) x (a .first) (a .n) (c .before .before .before .before .before .before .before .before .before .before .before .ground-of .ensures) (c .before .before .before .before .before .before .before .before .before .before .if1 .left) (c .before .before .before .before .before .before .before .before .before .planned .ensures) [] (c .before .before .before .before .reclaim-walk .ensures) (a .plan .now) (a .counters .now) (c .before .before .if2 .left) (c .before .if3 .left) (c .if4 .taken)
+    asked-counters (a .formats .now) (a .schema .now) x (a .first) (a .n) (c .before .before .before .before .before .before .before .before .before .before .before .before .before .before .ground-of .ensures) (c .before .before .before .before .before .before .before .before .before .before .before .before .before .if1 .left) (c .before .before .before .before .before .before .before .before .before .before .before .before .planned .ensures) [] (c .before .before .before .before .reclaim-walk .ensures) (a .plan .now) (a .counters .now) (c .before .before .if2 .left) (c .before .if3 .left) (c .if4 .taken)
 
 copied-requires : tie.Need-copied-requires
 copied-requires c κs = search needs
@@ -74,9 +80,9 @@ same-length-2 c = search needs
 
 returns-5 : tie.Need-returns-5
 returns-5 c =
-    let a = c .before .before .before .before .before .before .before .before .before .before .before .before .before .before .before .before .before .before .before .before .before .before .before .before .before .before .before .before .before .before .args in
+    let a = c .before .before .before .before .before .before .before .before .before .before .before .before .before .before .before .before .before .before .before .before .before .before .before .before .before .before .before .before .before .before .before .before .before .args in
     let x = tablesOf (a .lengths .now) (a .places .now) (a .buffers .now) (a .body .now) in
-    asked-done (a .formats .now) (a .schema .now) x (a .first) (a .n) (c .before .before .before .before .before .before .before .before .before .before .before .before .before .before .before .before .before .before .before .before .before .ground-of .ensures) (c .before .before .before .before .before .before .before .before .before .before .before .before .before .before .before .before .before .before .before .before .if1 .left) (c .before .before .before .before .before .before .before .before .before .before .before .before .before .before .before .before .before .before .before .planned .ensures) [] (c .before .before .before .before .before .before .before .before .before .before .before .before .before .before .reclaim-walk .ensures) (a .plan .now) (a .counters .now) (c .before .before .before .before .before .before .before .before .before .before .before .before .if2 .left) (c .before .before .before .before .before .before .before .before .before .before .before .if3 .left) (c .before .before .before .before .before .before .before .before .before .before .if4 .left) (c .before .before .before .before .keep-result .ensures .0) (c .before .before .before .before .keep-result .ensures .1 ∙ c .before .before .before .before .before .before .before .before .before .copied .ensures)
+    asked-done (a .formats .now) (a .schema .now) x (a .first) (a .n) (c .before .before .before .before .before .before .before .before .before .before .before .before .before .before .before .before .before .before .before .before .before .before .before .before .ground-of .ensures) (c .before .before .before .before .before .before .before .before .before .before .before .before .before .before .before .before .before .before .before .before .before .before .before .if1 .left) (c .before .before .before .before .before .before .before .before .before .before .before .before .before .before .before .before .before .before .before .before .before .before .planned .ensures) [] (c .before .before .before .before .before .before .before .before .before .before .before .before .before .before .reclaim-walk .ensures) (a .plan .now) (a .counters .now) (c .before .before .before .before .before .before .before .before .before .before .before .before .if2 .left) (c .before .before .before .before .before .before .before .before .before .before .before .if3 .left) (c .before .before .before .before .before .before .before .before .before .before .if4 .left) (c .before .before .before .before .keep-result .ensures .0) (c .before .before .before .before .keep-result .ensures .1 ∙ c .before .before .before .before .before .before .before .before .before .copied .ensures)
 
 pub plan-reclaim-spec : {M : Type 1} → statement M
 plan-reclaim-spec =
@@ -85,6 +91,8 @@ plan-reclaim-spec =
     ground-of-requires
     returns
     planned-requires
+    slice-aggregate-head-ranks
+    head-ranks-requires
     slice-aggregate-reclaim-walk
     slice-aggregate-reclaim-walk-2
     slice-aggregate-reclaim-walk-3

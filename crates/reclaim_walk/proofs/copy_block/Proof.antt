@@ -4,13 +4,11 @@ use mathlib.Core.List.{[]}
 use Prim.Native.Nat.{ℕ, _+_, _-_, _≤_}
 use native.Mathlib.Nat.{sub-zero, add-zero}
 use native.Mathlib.Omega.{arith}
-use lib.ListN.{length, getD}
-use Rattle.walk.specs.Log.{each}
-use Rattle.walk.proofs.Laws.{each-none, each-stop, each-more, Rest}
+use lib.ListN.{length}
+use Rattle.walk.proofs.Laws.{Rest}
 use Rattle.leaf_walk.specs.Join.{join}
-use Rattle.used_entries.specs.Keys.{rank}
-use Rattle.reclaim_walk.specs.Walk.{keysOf, copyUsed}
-use Rattle.reclaim_walk.proofs.Laws.{used-told}
+use Rattle.reclaim_walk.specs.Walk.{copyRuns}
+use Rattle.reclaim_walk.proofs.Runs.{runs-none, runs-stop, runs-more}
 use borrow.Author.Needs.{needs}
 use Rattle.reclaim_walk.proofs.copy_block.Statement.{statement}
 use Rattle.reclaim_walk.proofs.copy_block.Tie as tie
@@ -18,7 +16,7 @@ use Rattle.reclaim_walk.proofs.copy_block.Tie as tie
 abbrev Inv-loop : tie.InvT-loop
 Inv-loop state parts lengths places body counts₀ room₀ write first base count ranks j₀ counts room j =
     (j ≤ count) × (length room ≡ length room₀)
-    × Rest state parts write (each (copyUsed (join state parts lengths places body first 0)) count base counts₀) room₀ (each (copyUsed (join state parts lengths places body first 0)) (count - j) (base + j) counts) room
+    × Rest state parts write (copyRuns (join state parts lengths places body first 0) count base count counts₀) room₀ (copyRuns (join state parts lengths places body first 0) (count - j) (base + j) (count - j) counts) room
 
 abbrev μ-loop : tie.MeasureT-loop
 μ-loop state parts lengths places body counts₀ room₀ write first base count ranks j₀ counts room j = count - j
@@ -26,53 +24,45 @@ abbrev μ-loop : tie.MeasureT-loop
 loop-holds : tie.Need-loop-holds Inv-loop μ-loop
 loop-holds c = (omega arith, refl, λ g c2 room2 d. rw (sub-zero, add-zero) at d)
 
-mul-is-used : tie.Need-mul-is-used Inv-loop μ-loop
-mul-is-used c = search needs
+run-len-requires : tie.Need-run-len-requires Inv-loop μ-loop
+run-len-requires c κs = (omega arith, omega arith)
 
-element-copy-out-is-used : tie.Need-element-copy-out-is-used Inv-loop μ-loop
-element-copy-out-is-used c = search needs
+add-copy-run : tie.Need-add-copy-run Inv-loop μ-loop
+add-copy-run c = search needs
 
-add-is-used : tie.Need-add-is-used Inv-loop μ-loop
-add-is-used c = search needs
-
-mul-is-used-2 : tie.Need-mul-is-used-2 Inv-loop μ-loop
-mul-is-used-2 c = search needs
-
-element-copy-out-is-used-2 : tie.Need-element-copy-out-is-used-2 Inv-loop μ-loop
-element-copy-out-is-used-2 c = search needs
-
-add-copy-used : tie.Need-add-copy-used Inv-loop μ-loop
-add-copy-used c = search needs
-
-copy-used-requires : tie.Need-copy-used-requires Inv-loop μ-loop
-copy-used-requires c κs =
-    let a = c .before .before .before .before .before .before .before .before .before .before .before .before .args in
-    let k = keysOf (join (a .state .now) [] (a .lengths .now) (a .places .now) (a .body .now) (a .first) 0) in
-    let l = c .before .before .before .before .before .loop in
-    let z : a .base + l .j + 1 ≡ a .base + (l .j + 1) = omega arith in
-    let p = c .before .before .before .before .before .before .before .before .before .before .before .before .pre .1 in
-    (omega arith, used-told k (a .base + l .j) _ _ (p (l .j) (omega arith)) (p (l .j + 1) (omega arith) ∙ ap (rank k) (sym z)))
+copy-run-requires : tie.Need-copy-run-requires Inv-loop μ-loop
+copy-run-requires c κs = search needs
 
 same-length : tie.Need-same-length Inv-loop μ-loop
 same-length c = search needs
 
 returns : tie.Need-returns Inv-loop μ-loop
 returns c =
-    let a = c .before .before .before .before .before .before .before .before .before .before .before .before .before .before .before .before .args in
-    let l = c .before .before .before .before .before .before .before .before .before .loop in
-    l .inv .2 _ _ _ (each-stop _ _ (a .count - l .j) (a .count - (l .j + 1)) _ _ _ (omega arith) (c .before .before .before .copy-used .ensures) (c .if1 .taken))
+    let a = c .before .before .before .before .before .before .before .before .before .before .before .before .before .before .before .args in
+    let l = c .before .before .before .before .before .before .before .before .loop in
+    let r = c .before .before .before .before .before .before .run-len in
+    l .inv .2 _ _ _ (runs-stop (join (a .state .now) (a .parts .now) (a .lengths .now) (a .places .now) (a .body .now) (a .first) 0) _ (a .count - l .j) (a .base + l .j) (r .result) _ _ (omega arith) (r .ensures .1 (join (a .state .now) (a .parts .now) (a .lengths .now) (a .places .now) (a .body .now) (a .first) 0) (a .base) (c .before .before .before .before .before .before .before .before .before .before .before .before .before .before .before .pre .1)) (c .before .before .before .copy-run .ensures) (c .if1 .taken))
+
+step-of-requires : tie.Need-step-of-requires Inv-loop μ-loop
+step-of-requires c κs = omega (arith, c .before .before .before .before .before .before .run-len .ensures .0)
 
 add-j : tie.Need-add-j Inv-loop μ-loop
-add-j c = search needs
+add-j c = omega (arith, c .before .before .before .before .before .before .before .run-len .ensures .0, c .step-of .ensures)
 
 loop-less : tie.Need-loop-less Inv-loop μ-loop
-loop-less c = search needs
+loop-less c = omega (arith, c .before .before .before .before .before .before .before .run-len .ensures .0, c .step-of .ensures)
 
 loop-again : tie.Need-loop-again Inv-loop μ-loop
 loop-again c =
     let a = c .before .before .before .before .before .before .before .before .before .before .before .before .before .before .before .before .args in
     let l = c .before .before .before .before .before .before .before .before .before .loop in
-    (omega arith, search needs, λ g c2 room2 d. l .inv .2 _ _ _ (each-more _ _ (a .count - l .j) (a .count - (l .j + 1)) (a .base + l .j) (a .base + (l .j + 1)) _ _ (omega arith) (omega arith) (c .before .before .before .copy-used .ensures) (c .if1 .left) d))
+    let r = c .before .before .before .before .before .before .before .run-len in
+    let s = c .step-of in (
+      omega (arith, r .ensures .0, s .ensures),
+      search needs,
+      λ g c2 room2 d.
+          l .inv .2 _ _ _ (runs-more (join (a .state .now) (a .parts .now) (a .lengths .now) (a .places .now) (a .body .now) (a .first) 0) _ (a .count - l .j) (a .count - (l .j + s .result)) (a .base + l .j) (a .base + (l .j + s .result)) (r .result) _ _ (omega arith) (r .ensures .1 (join (a .state .now) (a .parts .now) (a .lengths .now) (a .places .now) (a .body .now) (a .first) 0) (a .base) (c .before .before .before .before .before .before .before .before .before .before .before .before .before .before .before .before .pre .1)) (omega (arith, s .ensures)) (omega (arith, s .ensures)) (c .before .before .before .before .copy-run .ensures) (c .before .if1 .left) d),
+    )
 
 same-length-2 : tie.Need-same-length-2 Inv-loop μ-loop
 same-length-2 c = search needs
@@ -81,7 +71,7 @@ returns-2 : tie.Need-returns-2 Inv-loop μ-loop
 returns-2 c =
     let a = c .before .before .before .before .before .before .before .before .args in
     let l = c .before .loop in
-    l .inv .2 _ _ _ (each-none _ _ (a .count - l .j) _ _ _ (omega arith))
+    l .inv .2 _ _ _ (runs-none (join (a .state .now) (a .parts .now) (a .lengths .now) (a .places .now) (a .body .now) (a .first) 0) _ (a .count - l .j) _ _ _ (omega arith))
 
 pub copy-block-spec : {M : Type 1} → statement M
-copy-block-spec = tie.close (tie.spec Inv-loop μ-loop loop-holds mul-is-used element-copy-out-is-used add-is-used mul-is-used-2 element-copy-out-is-used-2 add-copy-used copy-used-requires same-length returns add-j loop-less loop-again same-length-2 returns-2)
+copy-block-spec = tie.close (tie.spec Inv-loop μ-loop loop-holds run-len-requires add-copy-run copy-run-requires same-length returns step-of-requires add-j loop-less loop-again same-length-2 returns-2)

@@ -5,24 +5,24 @@ use Prim.Native.Nat.{ℕ, _+_, _-_, _≤_}
 use native.Mathlib.Nat.{sub-zero}
 use native.Mathlib.Omega.{arith}
 use lib.ListN.{length}
-use Rattle.walk.specs.Log.{each}
-use Rattle.walk.proofs.Laws.{each-none, Rest}
+use Rattle.walk.proofs.Laws.{Rest}
 use Rattle.leaf_walk.specs.Join.{join}
 use Rattle.used_entries.specs.Keys.{rank}
 use Rattle.used_entries.proofs.Laws.{rank-none}
-use Rattle.reclaim_walk.specs.Walk.{keysOf, copyUsed}
-use Rattle.reclaim_walk.proofs.Laws.{entries-far, each-is, block-stop, block-more}
+use Rattle.reclaim_walk.specs.Walk.{keysOf, copyBlocks}
+use Rattle.reclaim_walk.proofs.Laws.{entries-far}
+use Rattle.reclaim_walk.proofs.Runs.{blocks-are, blocks-none, blocks-stop, blocks-more}
 use borrow.Author.Needs.{needs}
 use Rattle.reclaim_walk.proofs.copy_entries.Statement.{statement}
 use Rattle.reclaim_walk.proofs.copy_entries.Tie as tie
 
 abbrev Inv-loop : tie.InvT-loop
-Inv-loop state parts lengths places body counts₀ room₀ write first entries base₀ start₀ counts room base start =
+Inv-loop head state parts lengths places body counts₀ room₀ write first entries base₀ start₀ counts room base start =
     (base ≤ entries) × (length room ≡ length room₀) × (start ≡ rank (keysOf (join state [] lengths places body first 0)) base)
-    × Rest state parts write (each (copyUsed (join state parts lengths places body first 0)) entries 0 counts₀) room₀ (each (copyUsed (join state parts lengths places body first 0)) (entries - base) base counts) room
+    × Rest state parts write (copyBlocks (join state parts lengths places body first 0) entries 0 entries counts₀) room₀ (copyBlocks (join state parts lengths places body first 0) (entries - base) base (entries - base) counts) room
 
 abbrev μ-loop : tie.MeasureT-loop
-μ-loop state parts lengths places body counts₀ room₀ write first entries base₀ start₀ counts room base start = entries - base
+μ-loop head state parts lengths places body counts₀ room₀ write first entries base₀ start₀ counts room base start = entries - base
 
 add-length-of : tie.Need-add-length-of Inv-loop μ-loop
 add-length-of c = search needs
@@ -42,15 +42,15 @@ ranks-at-requires : tie.Need-ranks-at-requires Inv-loop μ-loop
 ranks-at-requires c κs =
     let a = c .before .before .before .before .before .before .before .before .before .before .args in
     let p = c .before .before .before .before .before .before .before .before .before .before .pre in
-    let far = entries-far (join (a .state .now) [] (a .lengths .now) (a .places .now) (a .body .now) (a .first) 0) (p .1) in
-    (omega arith, p .1, omega arith, omega (arith, far, c .before .before .before .length-of .ensures), c .before .before .loop .inv .2)
+    let far = entries-far (join (a .state .now) [] (a .lengths .now) (a .places .now) (a .body .now) (a .first) 0) (p .0 .1) in
+    ((omega (arith, p .0 .0), p .0 .1, omega arith, omega (arith, far, c .before .before .before .length-of .ensures), c .before .before .loop .inv .2), λ j l m. p .1 j (omega (arith, l, c .before .before .before .length-of .ensures)) m)
 
 copy-block-requires : tie.Need-copy-block-requires Inv-loop μ-loop
 copy-block-requires c κs =
     let a = c .before .before .before .before .before .before .before .before .before .before .before .before .before .before .args in
     let p = c .before .before .before .before .before .before .before .before .before .before .before .before .before .before .pre in
-    let far = entries-far (join (a .state .now) [] (a .lengths .now) (a .places .now) (a .body .now) (a .first) 0) (p .1) in
-    ((omega arith, omega arith, omega (arith, far, c .before .before .before .before .before .before .before .length-of .ensures)), c .before .before .before .ranks-at .ensures)
+    let far = entries-far (join (a .state .now) [] (a .lengths .now) (a .places .now) (a .body .now) (a .first) 0) (p .0 .1) in
+    ((omega (arith, p .0 .0), omega arith, omega (arith, far, c .before .before .before .before .before .before .before .length-of .ensures)), c .before .before .before .ranks-at .ensures)
 
 same-length : tie.Need-same-length Inv-loop μ-loop
 same-length c = search needs
@@ -61,8 +61,8 @@ returns c =
     let l = c .before .before .before .before .before .before .before .before .before .before .loop in
     let k = c .before .before .before .before .before .before .before .before .block-len in
     let n = c .before .before .before .before .before .before .before .before .before .before .before .length-of in
-    each-is _ (copyUsed (join (a .state .now) (a .parts .now) (a .lengths .now) (a .places .now) (a .body .now) (a .first) 0)) 0 _ _ (n .ensures)
-    (l .inv .3 _ _ _ (block-stop _ _ (n .result - l .base) (k .result) (n .result - (l .base + k .result)) _ _ _ (omega arith) (c .before .before .before .copy-block .ensures) (c .if1 .taken)))
+    blocks-are (join (a .state .now) (a .parts .now) (a .lengths .now) (a .places .now) (a .body .now) (a .first) 0) _ 0 _ _ (n .ensures)
+    (l .inv .3 _ _ _ (blocks-stop (join (a .state .now) (a .parts .now) (a .lengths .now) (a .places .now) (a .body .now) (a .first) 0) _ (n .result - l .base) (l .base) (k .result) _ _ (omega arith) (k .ensures .3) (c .before .before .before .copy-block .ensures) (c .if1 .taken)))
 
 mul-start : tie.Need-mul-start Inv-loop μ-loop
 mul-start c = search needs
@@ -78,6 +78,7 @@ loop-less c = search needs
 
 loop-again : tie.Need-loop-again Inv-loop μ-loop
 loop-again c =
+    let a = c .before .before .before .before .before .before .before .before .before .before .before .before .before .before .before .before .before .before .args in
     let l = c .before .before .before .before .before .before .before .before .before .before .loop in
     let k = c .before .before .before .before .before .before .before .before .block-len in
     let n = c .before .before .before .before .before .before .before .before .before .before .before .length-of in (
@@ -85,7 +86,7 @@ loop-again c =
       search needs,
       c .before .before .before .before .before .before .before .ranks-at .ensures (k .result) (omega arith),
       λ g c2 room2 d.
-          l .inv .3 _ _ _ (block-more _ _ (n .result - l .base) (k .result) (n .result - (l .base + k .result)) (l .base) (l .base + k .result) _ _ (omega arith) refl (c .before .before .before .copy-block .ensures) (c .if1 .left) d),
+          l .inv .3 _ _ _ (blocks-more (join (a .state .now) (a .parts .now) (a .lengths .now) (a .places .now) (a .body .now) (a .first) 0) _ (n .result - l .base) (n .result - (l .base + k .result)) (l .base) (l .base + k .result) (k .result) _ _ (omega arith) (k .ensures .3) (omega arith) refl (c .before .before .before .copy-block .ensures) (c .if1 .left) d),
     )
 
 same-length-2 : tie.Need-same-length-2 Inv-loop μ-loop
@@ -96,7 +97,7 @@ returns-2 c =
     let a = c .before .before .before .before .before .before .before .before .before .args in
     let l = c .before .loop in
     let n = c .before .before .length-of in
-    each-is _ (copyUsed (join (a .state .now) (a .parts .now) (a .lengths .now) (a .places .now) (a .body .now) (a .first) 0)) 0 _ _ (n .ensures) (l .inv .3 _ _ _ (each-none _ _ (n .result - l .base) _ _ _ (omega arith)))
+    blocks-are (join (a .state .now) (a .parts .now) (a .lengths .now) (a .places .now) (a .body .now) (a .first) 0) _ 0 _ _ (n .ensures) (l .inv .3 _ _ _ (blocks-none (join (a .state .now) (a .parts .now) (a .lengths .now) (a .places .now) (a .body .now) (a .first) 0) _ (n .result - l .base) _ _ _ (omega arith)))
 
 pub copy-entries-spec : {M : Type 1} → statement M
 copy-entries-spec = tie.close (tie.spec Inv-loop μ-loop add-length-of length-of-requires loop-holds block-len-requires ranks-at-requires copy-block-requires same-length returns mul-start array-read-start add-base loop-less loop-again same-length-2 returns-2)

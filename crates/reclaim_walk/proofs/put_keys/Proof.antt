@@ -25,7 +25,7 @@ scale-requires : tie.Need-scale-requires
 scale-requires c κs =
     let a = c .before .before .before .before .before .before .before .before .args in
     let x = join (a .state .now) [] (a .lengths .now) (a .places .now) (a .body .now) (a .first) 0 in
-    width-in (c .before .width-at .result) (subst KeyWidth (sym (c .before .width-at .ensures)) (keys-within x (c .before .before .before .before .before .before .before .before .pre .1) .width))
+    width-in (c .before .width-at .result) (subst KeyWidth (sym (c .before .width-at .ensures)) (keys-within x (c .before .before .before .before .before .before .before .before .pre .0 .1) .width))
 
 target-requires : tie.Need-target-requires
 target-requires c κs = search needs
@@ -40,7 +40,8 @@ write-keys-requires c κs =
     let w = c .before .before .before .before .before .before .before .width-at in
     let n = c .before .before .before .before .before .before .length-of in
     let m = made (a .state .now) (a .parts .now) (length (a .room .now)) (a .write) 0 1 0 (scaled (n .result) (w .result)) (rw (c .before .before .before .before .before .scale .ensures) at (c .before .before .before .before .target .ensures)) (c .before .before .to .given .1) in
-    (c .before .before .before .before .before .before .before .before .before .before .before .before .before .before .pre, keys-room x m (omega (arith, c .before .before .before .before .before .before .before .before .before .before .before .before .before .before .good)) (w .ensures) (n .ensures ∙ length-zero x))
+    let p = c .before .before .before .before .before .before .before .before .before .before .before .before .before .before .pre in
+    (p .0, (p .1, keys-room x m (omega (arith, c .before .before .before .before .before .before .before .before .before .before .before .before .before .before .good)) (w .ensures) (n .ensures ∙ length-zero x)))
 
 enum-told : tie.Need-enum-told
 enum-told c = search needs

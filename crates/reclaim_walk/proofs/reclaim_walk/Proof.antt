@@ -38,7 +38,9 @@ returns-2 c =
 
 put-keys-requires : tie.Need-put-keys-requires
 put-keys-requires c κs =
-    (omega arith, told (c .before .before .before .before .before .before .before .before .before .before .keys-in .ensures) (c .before .before .before .before .before .before .before .before .before .if1 .left))
+    let p = c .before .before .before .before .before .before .before .before .before .before .before .before .before .before .before .before .before .pre in
+    let t = told (c .before .before .before .before .before .before .before .before .before .before .keys-in .ensures) (c .before .before .before .before .before .before .before .before .before .if1 .left) in
+    ((omega (arith, p .0), t), p .1 t)
 
 add-rows-requires : tie.Need-add-rows-requires
 add-rows-requires c κs = search needs
@@ -48,7 +50,9 @@ first-entry-requires c κs = search needs
 
 copy-entries-requires : tie.Need-copy-entries-requires
 copy-entries-requires c κs =
-    (omega (arith, c .before .before .before .before .before .before .before .before .before .before .before .before .before .before .before .before .before .before .before .before .before .before .before .before .before .before .before .before .pre), told (c .before .before .before .before .before .before .before .before .before .before .before .before .before .before .before .before .before .before .before .before .before .keys-in .ensures) (c .before .before .before .before .before .before .before .before .before .before .before .before .before .before .before .before .before .before .before .before .if1 .left))
+    let p = c .before .before .before .before .before .before .before .before .before .before .before .before .before .before .before .before .before .before .before .before .before .before .before .before .before .before .before .before .pre in
+    let t = told (c .before .before .before .before .before .before .before .before .before .before .before .before .before .before .before .before .before .before .before .before .before .keys-in .ensures) (c .before .before .before .before .before .before .before .before .before .before .before .before .before .before .before .before .before .before .before .before .if1 .left) in
+    ((omega (arith, p .0), t), p .1 t)
 
 same-length-2 : tie.Need-same-length-2
 same-length-2 c = search needs

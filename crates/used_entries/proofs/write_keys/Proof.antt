@@ -15,13 +15,13 @@ use Rattle.used_entries.proofs.write_keys.Statement.{statement}
 use Rattle.used_entries.proofs.write_keys.Tie as tie
 
 abbrev Inv-loop : tie.InvT-loop
-Inv-loop room₀ to body w at masked mask off n entries base₀ start₀ room base start =
+Inv-loop room₀ to head body w at masked mask off n entries base₀ start₀ room base start =
     (base ≤ entries) × (length room ≡ length room₀) × (start ≡ rank (keys body w at masked mask off n) base)
     × ((old : List ℕ) → to + w * n ≤ length old → room₀ ≡ splice to (encodes w (seg (newKey (keys body w at masked mask off n) 0) 0 n)) old
     → room ≡ splice to (encodes w (seg (newKey (keys body w at masked mask off n) base) 0 n)) old)
 
 abbrev μ-loop : tie.MeasureT-loop
-μ-loop room₀ to body w at masked mask off n entries base₀ start₀ room base start = entries - base
+μ-loop room₀ to head body w at masked mask off n entries base₀ start₀ room base start = entries - base
 
 mul-fill-zeros : tie.Need-mul-fill-zeros Inv-loop μ-loop
 mul-fill-zeros c = search needs
@@ -38,15 +38,16 @@ loop-holds c =
 block-len-requires : tie.Need-block-len-requires Inv-loop μ-loop
 block-len-requires c κs = search needs
 
-ranks-of-requires : tie.Need-ranks-of-requires Inv-loop μ-loop
-ranks-of-requires c κs =
+block-ranks-requires : tie.Need-block-ranks-requires Inv-loop μ-loop
+block-ranks-requires c κs =
     let l = c .before .before .loop in
-    (c .before .before .before .before .before .before .before .before .before .pre .0, omega arith, omega arith, l .inv .2)
+    let p = c .before .before .before .before .before .before .before .before .before .pre in
+    ((p .0 .0, omega arith, omega arith, l .inv .2), λ j h g. p .1 j (omega arith) g)
 
 write-block-requires : tie.Need-write-block-requires Inv-loop μ-loop
 write-block-requires c κs =
     let p = c .before .before .before .before .before .before .before .before .before .before .before .before .pre in
-    ((p .0, omega arith, omega arith), λ j h. c .before .before .ranks-of .ensures j (omega arith))
+    ((p .0 .0, omega arith, omega arith), λ j h. c .before .before .block-ranks .ensures j (omega arith))
 
 mul-start : tie.Need-mul-start Inv-loop μ-loop
 mul-start c = search needs
@@ -63,7 +64,7 @@ loop-less c = search needs
 loop-again : tie.Need-loop-again Inv-loop μ-loop
 loop-again c =
     let l = c .before .before .before .before .before .before .before .before .loop in
-    let r = c .before .before .before .before .before .ranks-of in
+    let r = c .before .before .before .before .before .block-ranks in
     let k = c .before .before .before .before .before .before .block-len in
     (omega arith, omega arith, r .ensures (k .result) (omega arith), λ old h e. c .before .before .write-block .ensures old h (l .inv .3 old h e))
 
@@ -90,7 +91,7 @@ write-keys-spec =
     fill-zeros-requires
     loop-holds
     block-len-requires
-    ranks-of-requires
+    block-ranks-requires
     write-block-requires
     mul-start
     array-read-start
