@@ -34,6 +34,7 @@ use parts::Spot;
 use slot_reader::RowRead;
 
 mod beside;
+mod codings;
 mod trips;
 
 // ---- columns

@@ -1,7 +1,7 @@
-//! Calls on columns of a file, beside the join: `lafkuno box`, `lafkuno mean`, `lafkuno fuel`.
+//! Calls on columns of a file, beside the join: `lafkuno box`, `lafkuno mean`, `lafkuno fuel`, `lafkuno encode`, `lafkuno expand`.
 
 use super::{join, mistake, print, status, Command, Words};
-use lafkuno::{mean, ratio, text, Column, Error};
+use lafkuno::{mean, ratio, text, Column, Error, RunEnds};
 use std::ops::Range;
 
 pub const BOX: Command = Command {
@@ -34,6 +34,29 @@ lafkuno fuel FILE FUEL DISTANCE START..END
         })
     },
 };
+
+pub const ENCODE: Command = Command {
+    word: "encode",
+    usage: "lafkuno encode FILE COLUMN START..END     the runs of rows of a fixed-width column, a line each: where it ends, and its value",
+    run: |words| {
+        asked("encode", "COLUMN", words, |[column]: [&Column; 1], rows| {
+            let runs = column.encode(rows, RunEnds::I64)?;
+            let (ends, values) = (lines(&runs.children[0]), lines(&runs.children[1]));
+            Ok(ends.iter().zip(values).map(|(end, value)| format!("{end} {value}")).collect::<Vec<_>>().join("\n"))
+        })
+    },
+};
+
+pub const EXPAND: Command = Command {
+    word: "expand",
+    usage: "lafkuno expand FILE COLUMN START..END     rows of a run-end column of fixed-width values, a line each",
+    run: |words| asked("expand", "COLUMN", words, |[column]: [&Column; 1], rows| column.expand(rows).map(|plain| lines(&plain).join("\n"))),
+};
+
+/// The rows as text.
+fn lines(column: &Column) -> Vec<String> {
+    column.rows().unwrap_or_default().iter().map(|row| text::show(&column.ty(), row)).collect()
+}
 
 /// The columns of a file: `column NAME TYPE` with rows, or the sources of a join.
 fn columns(file: &str) -> Result<Vec<(String, Column)>, String> {
