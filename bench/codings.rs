@@ -33,13 +33,12 @@ const RUNS: [u32; 5] = [1, 2, 0, 2, 0];
 const ENDS: [u32; 5] = [3, 1, 0, 0, 0];
 const ROOM: usize = 20 * ROWS;
 
-// A column of i64 in runs of `mean` rows, one run in `nulls` null where it is not 0; the same as runs; and room for results.
+// A column of i64 in runs of `mean` rows, one run in `nulls` null where it is not 0, and the same as runs.
 struct Trip {
     body: Vec<u8>,
     runs: Vec<u8>,
     count: usize,
     masked: bool,
-    room: Vec<u8>,
 }
 
 fn bit(mask: &[u8], i: usize) -> bool {
@@ -63,38 +62,43 @@ impl Trip {
         };
         let body = [bytes(&values), &mask(&valid)].concat();
         let runs = [bytes(&heads), &mask(&kept)[..], bytes(&ends)].concat();
-        Trip { body, runs, count: ends.len(), masked: nulls != 0, room: vec![0; ROOM] }
+        Trip { body, runs, count: ends.len(), masked: nulls != 0 }
     }
 
-    fn call(&mut self, call: Call, schema: &[u32], lengths: &[u64], places: &[u64], n: u32, target: u32, parts: &[u64], runs: bool) -> u8 {
-        let (mut plan, mut counters) = ([0u64; 872], [0u64; 96]);
-        let body = if runs { &self.runs } else { &self.body };
-        unsafe {
-            call(
-                FORMATS.as_ptr(), 4, schema.as_ptr(), schema.len(), lengths.as_ptr(), lengths.len(), places.as_ptr(), places.len(),
-                [0u64; 0].as_ptr(), 0, body.as_ptr(), body.len(), 0, n, target, 0, ROWS as u64, parts.as_ptr(), parts.len(),
-                plan.as_mut_ptr(), 872, counters.as_mut_ptr(), 96, self.room.as_mut_ptr(), ROOM,
-            )
+    // What a call is given beside the body, laid once.
+    fn encoder(&self) -> Lent {
+        let (v, k, m) = (8 * ROWS as u64, ROWS as u64 / 8, self.masked as u64);
+        // run ends, validity where there is a null, values
+        let parts = [0, v / 2, v / 2, k, v, v];
+        Lent {
+            call: lafkuno_encode,
+            schema: [VALUE, RUNS, ENDS, VALUE].concat(),
+            lengths: vec![ROWS as u64, 0],
+            places: vec![m, v, k, 0, v, 0, 0, 0, 0],
+            parts: if self.masked { parts.to_vec() } else { [&parts[..2], &parts[4..]].concat() },
+            nodes: [1, 1],
+            body: self.body.clone(),
+            plan: [0; 872],
+            counters: [0; 96],
+            room: vec![0; ROOM],
         }
     }
 
-    // Parts: run ends, validity where there is a null, values.
-    fn encode(&mut self) -> u8 {
-        let schema = [VALUE, RUNS, ENDS, VALUE].concat();
-        let (v, k, m) = (8 * ROWS as u64, ROWS as u64 / 8, self.masked as u64);
-        let places = [m, v, k, 0, v, 0, 0, 0, 0];
-        let parts = [0, v / 2, v / 2, k, v, v];
-        let parts = if self.masked { parts.to_vec() } else { [&parts[..2], &parts[4..]].concat() };
-        self.call(lafkuno_encode, &schema, &[ROWS as u64, 0], &places, 1, 1, &parts, false)
-    }
-
-    fn expand(&mut self) -> u8 {
-        let schema = [RUNS, ENDS, VALUE].concat();
+    fn expander(&self) -> Lent {
         let (c, k, m) = (self.count as u64, ROWS as u64 / 8, self.masked as u64);
-        let places = [[0; 9], [0, 0, 0, 8 * c + k, 4 * c, 0, 0, 0, 0], [m, 8 * c, k, 0, 8 * c, 0, 0, 0, 0]].concat();
         let parts = [0, k, 4096, 8 * ROWS as u64];
-        let parts = if self.masked { &parts[..] } else { &parts[2..] };
-        self.call(lafkuno_expand, &schema, &[ROWS as u64, 0, c, 0, c, 0], &places, 3, 2, parts, true)
+        Lent {
+            call: lafkuno_expand,
+            schema: [RUNS, ENDS, VALUE].concat(),
+            lengths: vec![ROWS as u64, 0, c, 0, c, 0],
+            places: [[0; 9], [0, 0, 0, 8 * c + k, 4 * c, 0, 0, 0, 0], [m, 8 * c, k, 0, 8 * c, 0, 0, 0, 0]].concat(),
+            parts: if self.masked { parts.to_vec() } else { parts[2..].to_vec() },
+            nodes: [3, 2],
+            body: self.runs.clone(),
+            plan: [0; 872],
+            counters: [0; 96],
+            room: vec![0; ROOM],
+        }
     }
 
     fn plain_encode(&self) -> (Vec<i32>, Vec<u64>, Vec<u8>) {
@@ -134,16 +138,45 @@ impl Trip {
         (out, bits)
     }
 
-    fn agree(&mut self) {
-        assert_eq!(self.encode(), 0);
+    fn agree(&self) {
+        let mut runs = self.encoder();
+        assert_eq!(runs.run(), 0);
         let (ends, values, bits) = self.plain_encode();
-        assert_eq!(&self.room[..4 * ends.len()], bytes(&ends));
-        assert_eq!(&self.room[8 * ROWS..8 * (ROWS + values.len())], bytes(&values));
-        assert_eq!(&self.room[4 * ROWS..4 * ROWS + bits.len()], &bits[..]);
-        assert_eq!(self.expand(), 0);
+        assert_eq!(&runs.room[..4 * ends.len()], bytes(&ends));
+        assert_eq!(&runs.room[8 * ROWS..8 * (ROWS + values.len())], bytes(&values));
+        assert_eq!(&runs.room[4 * ROWS..4 * ROWS + bits.len()], &bits[..]);
+        let mut plain = self.expander();
+        assert_eq!(plain.run(), 0);
         let (rows, bits) = self.plain_expand();
-        assert_eq!(&self.room[4096..4096 + 8 * ROWS], bytes(&rows));
-        assert_eq!(&self.room[..bits.len()], &bits[..]);
+        assert_eq!(&plain.room[4096..4096 + 8 * ROWS], bytes(&rows));
+        assert_eq!(&plain.room[..bits.len()], &bits[..]);
+    }
+}
+
+// Tables, parts and what is written.
+struct Lent {
+    call: Call,
+    schema: Vec<u32>,
+    lengths: Vec<u64>,
+    places: Vec<u64>,
+    parts: Vec<u64>,
+    nodes: [u32; 2],
+    body: Vec<u8>,
+    plan: [u64; 872],
+    counters: [u64; 96],
+    room: Vec<u8>,
+}
+
+impl Lent {
+    // The column's nodes begin at node 0, the result's type at node `nodes[1]`.
+    fn run(&mut self) -> u8 {
+        unsafe {
+            (self.call)(
+                FORMATS.as_ptr(), 4, self.schema.as_ptr(), self.schema.len(), self.lengths.as_ptr(), self.lengths.len(), self.places.as_ptr(),
+                self.places.len(), [0u64; 0].as_ptr(), 0, self.body.as_ptr(), self.body.len(), 0, self.nodes[0], self.nodes[1], 0, ROWS as u64,
+                self.parts.as_ptr(), self.parts.len(), self.plan.as_mut_ptr(), 872, self.counters.as_mut_ptr(), 96, self.room.as_mut_ptr(), ROOM,
+            )
+        }
     }
 }
 
@@ -152,11 +185,11 @@ fn main() {
     println!("| {ROWS} rows of i64 | port, ns | plain Rust, ns | ratio | goal | |");
     println!("|---|---|---|---|---|---|");
     for (mean, nulls) in [(256, 0), (16, 0), (4, 0), (1, 0), (16, 5)] {
-        let mut trip = Trip::random(&mut random, mean, nulls);
+        let trip = Trip::random(&mut random, mean, nulls);
         trip.agree();
         let what = format!("runs of about {mean}{}", if nulls == 0 { "" } else { ", one in 5 null" });
-        let plain = Trip { room: vec![], body: trip.body.clone(), runs: trip.runs.clone(), ..trip };
-        compare(&format!("into {what}"), 1.2, || trip.encode() as u64, || plain.plain_encode().0.len() as u64);
-        compare(&format!("back from {what}"), 1.2, || trip.expand() as u64, || plain.plain_expand().0.len() as u64);
+        let (mut encoder, mut expander) = (trip.encoder(), trip.expander());
+        compare(&format!("into {what}"), 1.2, || encoder.run(), || trip.plain_encode());
+        compare(&format!("back from {what}"), 1.2, || expander.run(), || trip.plain_expand());
     }
 }
