@@ -335,6 +335,48 @@ uint8_t lafkuno_frame(const uint8_t *formats, size_t formats_len, const uint32_t
 uint8_t lafkuno_join_frames(const double *left, size_t left_len, const double *right, size_t right_len,
                             double *room, size_t room_len);
 
+/* ---- a fixed-width column into runs, and back */
+
+/* Before any room is lent: the runs of the rows start .. end - 1 of a fixed-width column. 9, 10 and 12 for a malformed column, then 10 for
+ * any other column or another target, 2 for a range outside the column, 7 for one longer than the largest run end (32767 for s); last 14
+ * where plan and counters have not LAFKUNO_PLAN and LAFKUNO_COUNTERS numbers. lafkuno_part_count, lafkuno_part_node, lafkuno_part_buffer and
+ * lafkuno_needed_bytes then say what parts to lend.
+ *   first, n  the column's first node in the tables and how many nodes it has.
+ *   target    the first of three nodes of the same schema: +r, its run ends (s, i or l), and the column's own format.
+ *   plan      is written, and so is counters, where the answer is 0. */
+uint8_t lafkuno_plan_encode(const uint8_t *formats, size_t formats_len, const uint32_t *schema, size_t schema_len,
+                            const uint64_t *lengths, size_t lengths_len, const uint64_t *places, size_t places_len,
+                            const uint64_t *buffers, size_t buffers_len, const uint8_t *body, size_t body_len,
+                            uint32_t first, uint32_t n, uint32_t target, uint64_t start, uint64_t end,
+                            uint64_t *plan, size_t plan_len, uint64_t *counters, size_t counters_len);
+
+/* Writes them: the same grounds, with 14 of the parts and then 13 last. What it leaves is finished by lafkuno_finish, with first and n as the
+ * only source. Rows belong to one run where they are neighbours and read equal; a null slot is zeros. A refusal changes nothing.
+ *   parts     as for lafkuno_open.
+ *   room      is written. */
+uint8_t lafkuno_encode(const uint8_t *formats, size_t formats_len, const uint32_t *schema, size_t schema_len,
+                       const uint64_t *lengths, size_t lengths_len, const uint64_t *places, size_t places_len,
+                       const uint64_t *buffers, size_t buffers_len, const uint8_t *body, size_t body_len,
+                       uint32_t first, uint32_t n, uint32_t target, uint64_t start, uint64_t end, const uint64_t *parts, size_t parts_len,
+                       uint64_t *plan, size_t plan_len, uint64_t *counters, size_t counters_len, uint8_t *room, size_t room_len);
+
+/* Before any room is lent: the rows start .. end - 1 of a run-end column of fixed-width values, as plain rows. 9, 10 and 12 for a malformed
+ * column, then 10 for any other column or another target, 2 for a range outside the column; last 14 as for lafkuno_plan_encode.
+ *   target    a node of the same schema of the values' format; the column's own node first + 2 is one.
+ *   plan      is written, and so is counters, where the answer is 0. */
+uint8_t lafkuno_plan_expand(const uint8_t *formats, size_t formats_len, const uint32_t *schema, size_t schema_len,
+                            const uint64_t *lengths, size_t lengths_len, const uint64_t *places, size_t places_len,
+                            const uint64_t *buffers, size_t buffers_len, const uint8_t *body, size_t body_len,
+                            uint32_t first, uint32_t n, uint32_t target, uint64_t start, uint64_t end,
+                            uint64_t *plan, size_t plan_len, uint64_t *counters, size_t counters_len);
+
+/* Writes them: the same grounds, with 14 of the parts and then 13 last; finished by lafkuno_finish. A refusal changes nothing. */
+uint8_t lafkuno_expand(const uint8_t *formats, size_t formats_len, const uint32_t *schema, size_t schema_len,
+                       const uint64_t *lengths, size_t lengths_len, const uint64_t *places, size_t places_len,
+                       const uint64_t *buffers, size_t buffers_len, const uint8_t *body, size_t body_len,
+                       uint32_t first, uint32_t n, uint32_t target, uint64_t start, uint64_t end, const uint64_t *parts, size_t parts_len,
+                       uint64_t *plan, size_t plan_len, uint64_t *counters, size_t counters_len, uint8_t *room, size_t room_len);
+
 /* ---- exact sums of whole-number columns, or of run-end columns of whole-number values */
 
 /* The count of the rows start .. end - 1 that are not null, their exact sum, and the mean in lowest terms. Grounds: 9, 10 or 12 of the

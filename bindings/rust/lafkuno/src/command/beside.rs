@@ -1,7 +1,7 @@
-//! Calls on columns of a file, beside the join: `lafkuno box`, `lafkuno mean`, `lafkuno fuel`, `lafkuno reclaim`.
+//! Calls on columns of a file, beside the join: `lafkuno box`, `lafkuno mean`, `lafkuno fuel`, `lafkuno encode`, `lafkuno expand`, `lafkuno reclaim`.
 
 use super::{join, mistake, print, status, Command, Words};
-use lafkuno::{mean, ratio, text, Column, Error};
+use lafkuno::{mean, ratio, text, Column, Error, RunEnds};
 use std::ops::Range;
 
 pub const BOX: Command = Command {
@@ -35,6 +35,31 @@ lafkuno fuel FILE FUEL DISTANCE START..END
     },
 };
 
+pub const ENCODE: Command = Command {
+    word: "encode",
+    usage: "lafkuno encode FILE COLUMN START..END     the runs of rows of a fixed-width column, a line each: where it ends, and its value",
+    run: |words| {
+        asked("encode", "COLUMN", words, |[column]: [&Column; 1], rows| {
+            let runs = column.encode(rows, RunEnds::I64)?;
+            let (ends, values) = (rows_of(&runs.children[0]), rows_of(&runs.children[1]));
+            Ok(ends.iter().zip(values).map(|(end, value)| format!("{end} {value}")).collect::<Vec<_>>().join("\n"))
+        })
+    },
+};
+
+pub const EXPAND: Command = Command {
+    word: "expand",
+    usage: "lafkuno expand FILE COLUMN START..END     rows of a run-end column of fixed-width values, a line each",
+    run: |words| asked("expand", "COLUMN", words, |[column]: [&Column; 1], rows| column.expand(rows).map(|plain| rows_of(&plain).join("\n"))),
+};
+
+/// The rows of a column as text.
+fn rows_of(column: &Column) -> Vec<String> {
+    let ty = column.ty();
+    let row = |i| column.row(i).map_or("(can't be read)".into(), |row| text::show(&ty, &row));
+    (0..column.length).map(row).collect()
+}
+
 pub const RECLAIM: Command = Command {
     word: "reclaim",
     usage: "\
@@ -44,9 +69,7 @@ lafkuno reclaim FILE COLUMN               a dictionary column of FILE without th
 
 /// The rows of a column, a line each.
 fn lines(column: &Column) -> String {
-    let ty = column.ty();
-    let line = |i| column.row(i).map_or("(can't be read)".into(), |row| text::show(&ty, &row));
-    (0..column.length).map(|i| line(i) + "\n").collect()
+    rows_of(column).into_iter().map(|row| row + "\n").collect()
 }
 
 fn reclaim(words: &[&str]) -> u8 {

@@ -21,7 +21,18 @@ pub struct Command {
     pub run: fn(&[&str]) -> u8,
 }
 
-pub const ALL: &[Command] = &[join::COMMAND, show::COMMAND, beside::BOX, beside::MEAN, beside::FUEL, beside::RECLAIM, demo::COMMAND, grounds::COMMAND];
+pub const ALL: &[Command] = &[
+    join::COMMAND,
+    show::COMMAND,
+    beside::BOX,
+    beside::MEAN,
+    beside::FUEL,
+    beside::ENCODE,
+    beside::EXPAND,
+    beside::RECLAIM,
+    demo::COMMAND,
+    grounds::COMMAND,
+];
 
 /// Exit statuses: an order or the opening was refused; the command or a file has a mistake.
 pub const REFUSED: u8 = 1;
