@@ -335,7 +335,28 @@ uint8_t lafkuno_frame(const uint8_t *formats, size_t formats_len, const uint32_t
 uint8_t lafkuno_join_frames(const double *left, size_t left_len, const double *right, size_t right_len,
                             double *room, size_t room_len);
 
-/* ---- a fixed-width column into runs, and back */
+/* ---- exact sums of whole-number columns, or of run-end columns of whole-number values */
+
+/* The count of the rows start .. end - 1 that are not null, their exact sum, and the mean in lowest terms. Grounds: 9, 10 or 12 of the
+ * column; then 2, 10 (no column of whole numbers), 15 and 16; last 14 where answer_len is not LAFKUNO_MEAN. Nothing is written then.
+ *   first, n  the column's first node in the tables and how many nodes it has.
+ *   answer    is written: the count, the sum as two's complement, 1 for minus (else 0), and the fraction's two magnitudes, of which the
+ *             second is above 0; zero is 0, 0, 1. */
+uint8_t lafkuno_mean(const uint8_t *formats, size_t formats_len, const uint32_t *schema, size_t schema_len,
+                     const uint64_t *lengths, size_t lengths_len, const uint64_t *places, size_t places_len,
+                     const uint64_t *buffers, size_t buffers_len, const uint8_t *body, size_t body_len,
+                     uint32_t first, uint32_t n, uint64_t start, uint64_t end, uint64_t *answer, size_t answer_len);
+
+/* Total over total of two columns of the same tables, over the rows start .. end - 1 in which both are not null. The grounds are those of
+ * lafkuno_mean, each asked of both columns before the next; 14 where answer_len is not LAFKUNO_RATIO.
+ *   answer    is written: the count, both totals as two's complement, 1 for minus, and the fraction's two magnitudes. */
+uint8_t lafkuno_ratio(const uint8_t *formats, size_t formats_len, const uint32_t *schema, size_t schema_len,
+                      const uint64_t *lengths, size_t lengths_len, const uint64_t *places, size_t places_len,
+                      const uint64_t *buffers, size_t buffers_len, const uint8_t *body, size_t body_len,
+                      uint32_t first_a, uint32_t n_a, uint32_t first_b, uint32_t n_b, uint64_t start, uint64_t end,
+                      uint64_t *answer, size_t answer_len);
+
+/* ---- one column written anew: these calls are in liblafkuno_anew.a (`rt staticlib lafkuno_anew`), and in the library that `make` builds */
 
 /* Before any room is lent: the runs of the rows start .. end - 1 of a fixed-width column. 9, 10 and 12 for a malformed column, then 10 for
  * any other column or another target, 2 for a range outside the column, 7 for one longer than the largest run end (32767 for s); last 14
@@ -376,29 +397,6 @@ uint8_t lafkuno_expand(const uint8_t *formats, size_t formats_len, const uint32_
                        const uint64_t *buffers, size_t buffers_len, const uint8_t *body, size_t body_len,
                        uint32_t first, uint32_t n, uint32_t target, uint64_t start, uint64_t end, const uint64_t *parts, size_t parts_len,
                        uint64_t *plan, size_t plan_len, uint64_t *counters, size_t counters_len, uint8_t *room, size_t room_len);
-
-/* ---- exact sums of whole-number columns, or of run-end columns of whole-number values */
-
-/* The count of the rows start .. end - 1 that are not null, their exact sum, and the mean in lowest terms. Grounds: 9, 10 or 12 of the
- * column; then 2, 10 (no column of whole numbers), 15 and 16; last 14 where answer_len is not LAFKUNO_MEAN. Nothing is written then.
- *   first, n  the column's first node in the tables and how many nodes it has.
- *   answer    is written: the count, the sum as two's complement, 1 for minus (else 0), and the fraction's two magnitudes, of which the
- *             second is above 0; zero is 0, 0, 1. */
-uint8_t lafkuno_mean(const uint8_t *formats, size_t formats_len, const uint32_t *schema, size_t schema_len,
-                     const uint64_t *lengths, size_t lengths_len, const uint64_t *places, size_t places_len,
-                     const uint64_t *buffers, size_t buffers_len, const uint8_t *body, size_t body_len,
-                     uint32_t first, uint32_t n, uint64_t start, uint64_t end, uint64_t *answer, size_t answer_len);
-
-/* Total over total of two columns of the same tables, over the rows start .. end - 1 in which both are not null. The grounds are those of
- * lafkuno_mean, each asked of both columns before the next; 14 where answer_len is not LAFKUNO_RATIO.
- *   answer    is written: the count, both totals as two's complement, 1 for minus, and the fraction's two magnitudes. */
-uint8_t lafkuno_ratio(const uint8_t *formats, size_t formats_len, const uint32_t *schema, size_t schema_len,
-                      const uint64_t *lengths, size_t lengths_len, const uint64_t *places, size_t places_len,
-                      const uint64_t *buffers, size_t buffers_len, const uint8_t *body, size_t body_len,
-                      uint32_t first_a, uint32_t n_a, uint32_t first_b, uint32_t n_b, uint64_t start, uint64_t end,
-                      uint64_t *answer, size_t answer_len);
-
-/* ---- one column written anew: these calls are in liblafkuno_anew.a (`rt staticlib lafkuno_anew`), and in the library that `make` builds */
 
 /* A dictionary column with only the entries that some valid key of its rows names, each copied as an order copies it, in their old order, and
  * its keys renumbered; keys under nulls become 0, and every row reads as before. lafkuno_plan_reclaim is asked before any room is lent: 9, 10 or

@@ -1,6 +1,6 @@
 /* Reclaiming unused dictionary entries (02, W9): sliced keys and a sliced dictionary first, keys under nulls, signed keys, byte strings, null
  * entries, a second time, and grounds that meet. A line has what was asked and the new keys, validity and entries, or the ground.
- *     cc -I include tests/c/reclaim.c tests/c/column.c tests/c/lent.c -L target/staticlib -llafkuno -o reclaim
+ *     cc -I include tests/c/reclaim.c tests/c/column.c tests/c/lent.c -L target/staticlib -llafkuno -llafkuno_anew -o reclaim
  *     ./reclaim | diff - tests/c/reclaim.out
  * Every slice is lent at its own size between guards; with --bare there are none, and valgrind sees every step outside. */
 #include "column.h"
