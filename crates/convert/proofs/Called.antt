@@ -48,7 +48,7 @@ room-lengths made counts parts plan counters room e z = go (eqb plan 872) refl (
 
 -- ---- grounds in order
 
-first-of : (a b w : ℕ) {g : ℕ} → g ≡ orElse a b → (g ≡ 0 → ⊥) → g ≡ orElse a (orElse b w)
+pub first-of : (a b w : ℕ) {g : ℕ} → g ≡ orElse a b → (g ≡ 0 → ⊥) → g ≡ orElse a (orElse b w)
 first-of a b w {g} e h = go (eqb a 0) refl
   where
     go : (t : Bool) → eqb a 0 ≡ t → g ≡ orElse a (orElse b w)
@@ -63,15 +63,15 @@ first-of a b w {g} e h = go (eqb a 0) refl
         false-true : false ≡ true → ⊥
         false-true y = let k : _≡_ {A = ℕ} 0 1 = ap (λ t. cond t 1 0) y in omega (arith, k)
 
-own-none : (t : Bool) → _≡_ {A = ℕ} (cond t 0 10) 0 → t ≡ true
+pub own-none : (t : Bool) → _≡_ {A = ℕ} (cond t 0 10) 0 → t ≡ true
 own-none true e = refl
 own-none false e = absurd (omega (arith, e))
 
-wide-either : (w : ℕ) → OffsetWidth w → (w ≡ 4 → ⊥) → w ≡ 8
+pub wide-either : (w : ℕ) → OffsetWidth w → (w ≡ 4 → ⊥) → w ≡ 8
 wide-either _ OffsetWidth.four h = absurd (h refl)
 wide-either _ OffsetWidth.eight h = refl
 
-no-type : (formats schema : List ℕ) (target : ℕ) → typed formats schema target 0 ≡ true → ⊥
+pub no-type : (formats schema : List ℕ) (target : ℕ) → typed formats schema target 0 ≡ true → ⊥
 unfolding typed whole
 no-type formats schema target e = let k : _≡_ {A = ℕ} 0 1 = ap (λ t. cond t 1 0) e in omega (arith, k)
 

@@ -11,7 +11,7 @@ use lib.ListN.{length, getD}
 use lib.Dec.{ltb}
 use borrow.Author.Tests.{lt-ltb, le-ltb, eq-eqb, ne-eqb, ltb-false}
 use Rattle.columnar.specs.Array.{bit, ok}
-use Rattle.formats.specs.Code.{isListView}
+use Rattle.formats.specs.Code.{isListView, isList}
 use Rattle.schema.specs.Tree.{whole, codeOf, ceilings, typed, sameType}
 use Rattle.array_data.specs.Tables.{Tables, validOf}
 use Rattle.array_data.specs.entries.Entries.{column, validIn}
@@ -19,7 +19,7 @@ use Rattle.array_data.specs.declared.entries.Validity.the-variants as validity
 use Rattle.array_data.proofs.lent_tables.Laws.{no, yes}
 use Rattle.plan.proofs.dictionaries.Laws.{place-from}
 use Rattle.leaf_walk.specs.Join.{join}
-use Rattle.convert_lists.specs.Turned.{listOf, sameChild, childNamed, toList}
+use Rattle.convert_lists.specs.Turned.{listOf, viewOf, sameChild, childNamed, sameBelow, toList, toView}
 use Rattle.convert_lists.specs.Listing as walks
 
 getD-past : (m : List ℕ) (k d : ℕ) → length m ≤ k → getD m k d ≡ d
@@ -47,35 +47,45 @@ module _ (formats schema : List ℕ) (first target : ℕ) (c : ℕ) (e : c ≡ c
     unfolding listOf
     roots-turned g k h = sym (rw (← e, ← f, yes g k, eq-eqb d (c + 2) h))
 
+module _ (formats schema : List ℕ) (first target : ℕ) (c : ℕ) (e : c ≡ codeOf formats schema first 0) where
+  pub views-other : {t : Bool} → t ≡ isList c → not t ≡ true → false ≡ viewOf formats schema first target
+  unfolding viewOf
+  views-other f h = sym (rw (← e, no f h))
+
+  module _ (d : ℕ) (f : d ≡ codeOf formats schema target 0) where
+    pub views-wide : (d + 2 ≡ c → ⊥) → false ≡ viewOf formats schema first target
+    unfolding viewOf
+    views-wide h = sym (rw (← e, ← f, ne-eqb (d + 2) c h) (no-right (isList c)))
+
+    pub views-turned : {t : Bool} → t ≡ isList c → not t ≡ false → d + 2 ≡ c → true ≡ viewOf formats schema first target
+    unfolding viewOf
+    views-turned g k h = sym (rw (← e, ← f, yes g k, eq-eqb (d + 2) c h))
+
 module _ (formats schema : List ℕ) (first n target tn : ℕ) where
-  abbrev Due : Bool
-  Due = toList formats schema first n target tn
+  abbrev Below : Bool
+  Below = sameBelow formats schema first n target tn
 
-  pub due-roots : {t : Bool} → t ≡ listOf formats schema first target → not t ≡ true → false ≡ Due
-  unfolding toList
-  due-roots e h = sym (rw (no e h))
+  pub due-first : first ≡ 4294967295 → false ≡ Below
+  unfolding sameBelow childNamed
+  due-first h = sym (rw (le-ltb (suc first) 4294967296 (omega (arith, h))))
 
-  pub due-first : first ≡ 4294967295 → false ≡ Due
-  unfolding toList childNamed
-  due-first h = sym (rw (le-ltb (suc first) 4294967296 (omega (arith, h)), no-right))
-
-  pub due-target : target ≡ 4294967295 → false ≡ Due
-  unfolding toList childNamed
+  pub due-target : target ≡ 4294967295 → false ≡ Below
+  unfolding sameBelow childNamed
   due-target h = sym (rw (le-ltb (suc target) 4294967296 (omega (arith, h)), no-right))
 
-  child-no : sameChild formats schema first n target tn ≡ false → false ≡ Due
-  unfolding toList
+  child-no : sameChild formats schema first n target tn ≡ false → false ≡ Below
+  unfolding sameBelow
   child-no h = sym (rw (h, no-right))
 
-  pub due-low : {t : Bool} → t ≡ ceilings formats schema target tn → not t ≡ true → false ≡ Due
+  pub due-low : {t : Bool} → t ≡ ceilings formats schema target tn → not t ≡ true → false ≡ Below
   unfolding sameChild
   due-low e h = child-no (rw (no e h))
 
-  pub due-typed : {t : Bool} → t ≡ typed formats schema target tn → not t ≡ true → false ≡ Due
+  pub due-typed : {t : Bool} → t ≡ typed formats schema target tn → not t ≡ true → false ≡ Below
   unfolding sameChild
   due-typed e h = child-no (rw (no e h, no-right))
 
-  pub due-sizes : (n ≡ tn → ⊥) → false ≡ Due
+  pub due-sizes : (n ≡ tn → ⊥) → false ≡ Below
   unfolding sameChild
   due-sizes h = child-no (rw (ne-eqb n tn h, no-right))
 
@@ -83,7 +93,7 @@ module _ (formats schema : List ℕ) (first n target tn : ℕ) where
   unfolding typed whole
   typed-none = refl
 
-  pub due-none : n ≡ tn → n ≡ 0 → false ≡ Due
+  pub due-none : n ≡ tn → n ≡ 0 → false ≡ Below
   unfolding sameChild
   due-none e h = let z : tn ≡ 0 = sym e ∙ h in child-no (rw (z, typed-none, no-right))
 
@@ -94,19 +104,37 @@ module _ (formats schema : List ℕ) (first n target tn : ℕ) where
       go (Dec.yes y) = y
       go (Dec.no y) = absurd (h (omega arith))
 
-  pub due-same : {a b c : Bool} (r : Bool) (f t m : ℕ) → a ≡ listOf formats schema first target → not a ≡ false → (first ≡ 4294967295 → ⊥) → first < 4294967296 → (target ≡ 4294967295 → ⊥) → target < 4294967296
-      → b ≡ ceilings formats schema target tn → not b ≡ false → c ≡ typed formats schema target tn → not c ≡ false → n ≡ tn → t ≡ target + 1 → f ≡ first + 1 → m ≡ n - 1 → r ≡ sameType formats schema t m f m → r ≡ Due
-  unfolding toList sameChild childNamed
-  due-same r f t m ea ha n1 l1 n2 l2 eb hb ec hc sizes et ef em er =
+  pub due-same : {b c : Bool} (r : Bool) (f t m : ℕ) → (first ≡ 4294967295 → ⊥) → first < 4294967296 → (target ≡ 4294967295 → ⊥) → target < 4294967296
+      → b ≡ ceilings formats schema target tn → not b ≡ false → c ≡ typed formats schema target tn → not c ≡ false → n ≡ tn → t ≡ target + 1 → f ≡ first + 1 → m ≡ n - 1 → r ≡ sameType formats schema t m f m → r ≡ Below
+  unfolding sameBelow sameChild childNamed
+  due-same r f t m n1 l1 n2 l2 eb hb ec hc sizes et ef em er =
       let k : tn - 1 ≡ m = omega (arith, sizes, em) in
       let k2 : n - 1 ≡ m = omega (arith, em) in
       let st : suc target ≡ t = omega (arith, et) in
       let sf : suc first ≡ f = omega (arith, ef) in
-      sym (rw (yes ea ha, lt-ltb _ _ (below first n1 l1), lt-ltb _ _ (below target n2 l2), yes eb hb, yes ec hc, eq-eqb n tn sizes, k, k2, st, sf, ← er) (and-true r))
+      sym (rw (lt-ltb _ _ (below first n1 l1), lt-ltb _ _ (below target n2 l2), yes eb hb, yes ec hc, eq-eqb n tn sizes, k, k2, st, sf, ← er) (and-true r))
     where
       and-true : (a : Bool) → a && true ≡ a
       and-true true = refl
       and-true false = refl
+
+  -- ---- with the roots
+
+  pub list-roots : {t : Bool} → t ≡ listOf formats schema first target → not t ≡ true → false ≡ toList formats schema first n target tn
+  unfolding toList
+  list-roots e h = sym (rw (no e h))
+
+  pub list-below : {t r : Bool} → t ≡ listOf formats schema first target → not t ≡ false → r ≡ Below → r ≡ toList formats schema first n target tn
+  unfolding toList
+  list-below e h f = f ∙ sym (rw (yes e h))
+
+  pub view-roots : {t : Bool} → t ≡ viewOf formats schema first target → not t ≡ true → false ≡ toView formats schema first n target tn
+  unfolding toView
+  view-roots e h = sym (rw (no e h))
+
+  pub view-below : {t r : Bool} → t ≡ viewOf formats schema first target → not t ≡ false → r ≡ Below → r ≡ toView formats schema first n target tn
+  unfolding toView
+  view-below e h f = f ∙ sym (rw (yes e h))
 
 -- ---- a slot of the root
 

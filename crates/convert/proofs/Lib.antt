@@ -2,3 +2,5 @@
 pub mod Laws
 pub mod Walked
 pub mod Called
+pub mod Viewed
+pub mod CalledView

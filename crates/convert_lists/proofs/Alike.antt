@@ -37,7 +37,7 @@ isListKind : NodeKind → Bool
 isListKind (fixedNode m) = false
 isListKind (stringNode w) = false
 isListKind viewNode = false
-isListKind (listViewNode w) = false
+isListKind (listViewNode w) = true
 isListKind (listNode w) = true
 isListKind (sparseNode ids) = false
 isListKind (denseNode ids) = false
@@ -75,23 +75,35 @@ module _ (formats schema : List ℕ) (first : ℕ) where
   union-facts i b ids k (of-run m e z e1 z1 d) = absurd (false≢true (sym (ap isUnionKind e) ∙ ap isUnionKind k ∙ union-kind b ids .0))
   union-facts i b ids k (of-dictionary m p e z e1 z1 g d) = absurd (false≢true (sym (ap isUnionKind e) ∙ ap isUnionKind k ∙ union-kind b ids .0))
 
--- a list-view is no union
+-- a list or a list-view is no union
 pub view-no-union : (w : ℕ) (b : Bool) (ids : List ℕ) → listViewNode w ≡ unionKind b ids → ⊥
 unfolding isUnionKind
 view-no-union w b ids e = false≢true (ap isUnionKind e ∙ union-kind b ids .0)
 
--- a list has one child
+pub list-no-union : (w : ℕ) (b : Bool) (ids : List ℕ) → listNode w ≡ unionKind b ids → ⊥
+unfolding isUnionKind
+list-no-union w b ids e = false≢true (ap isUnionKind e ∙ union-kind b ids .0)
+
+-- .. and has one child
+one-below : (formats schema : List ℕ) (first i : ℕ) → isListKind (kindAt formats schema first i) ≡ true → Shaped formats schema first i → below schema first i ≡ 1
+unfolding isListKind
+one-below formats schema first i k (of-plain (fixed m) e z d) = absurd (false≢true (sym (ap isListKind e) ∙ k))
+one-below formats schema first i k (of-plain (string v) e z d) = absurd (false≢true (sym (ap isListKind e) ∙ k))
+one-below formats schema first i k (of-view e z) = absurd (false≢true (sym (ap isListKind e) ∙ k))
+one-below formats schema first i k (of-list v e z d) = z
+one-below formats schema first i k (of-lists v e z d) = z
+one-below formats schema first i k (of-sparse js e z d o) = absurd (false≢true (sym (ap isListKind e) ∙ k))
+one-below formats schema first i k (of-dense js e z d o) = absurd (false≢true (sym (ap isListKind e) ∙ k))
+one-below formats schema first i k (of-run m e z e1 z1 d) = absurd (false≢true (sym (ap isListKind e) ∙ k))
+one-below formats schema first i k (of-dictionary m p e z e1 z1 g d) = absurd (false≢true (sym (ap isListKind e) ∙ k))
+
 pub list-below : (formats schema : List ℕ) (first i w : ℕ) → kindAt formats schema first i ≡ listNode w → Shaped formats schema first i → below schema first i ≡ 1
 unfolding isListKind
-list-below formats schema first i w k (of-plain (fixed m) e z d) = absurd (false≢true (sym (ap isListKind e) ∙ ap isListKind k))
-list-below formats schema first i w k (of-plain (string v) e z d) = absurd (false≢true (sym (ap isListKind e) ∙ ap isListKind k))
-list-below formats schema first i w k (of-view e z) = absurd (false≢true (sym (ap isListKind e) ∙ ap isListKind k))
-list-below formats schema first i w k (of-list v e z d) = z
-list-below formats schema first i w k (of-lists v e z d) = z
-list-below formats schema first i w k (of-sparse js e z d o) = absurd (false≢true (sym (ap isListKind e) ∙ ap isListKind k))
-list-below formats schema first i w k (of-dense js e z d o) = absurd (false≢true (sym (ap isListKind e) ∙ ap isListKind k))
-list-below formats schema first i w k (of-run m e z e1 z1 d) = absurd (false≢true (sym (ap isListKind e) ∙ ap isListKind k))
-list-below formats schema first i w k (of-dictionary m p e z e1 z1 g d) = absurd (false≢true (sym (ap isListKind e) ∙ ap isListKind k))
+list-below formats schema first i w k s = one-below formats schema first i (ap isListKind k) s
+
+pub view-below : (formats schema : List ℕ) (first i w : ℕ) → kindAt formats schema first i ≡ listViewNode w → Shaped formats schema first i → below schema first i ≡ 1
+unfolding isListKind
+view-below formats schema first i w k s = one-below formats schema first i (ap isListKind k) s
 
 third : (a b c : Bool) → a || b || c ≡ true → a ≡ false → b ≡ false → c ≡ true
 third true b c h x y = absurd (false≢true (sym x))

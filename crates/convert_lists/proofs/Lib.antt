@@ -11,3 +11,5 @@ pub mod Column
 pub mod ListLent
 pub mod ListParts
 pub mod ToList
+pub mod Viewing
+pub mod ViewLent

@@ -38,7 +38,7 @@ use Rattle.anew.proofs.PlanWords.{keeps-is, joined-is, base-none, no-choice}
 use Rattle.anew.proofs.Planted.{few, planted, worded, stands}
 use Rattle.anew.proofs.Bits.{keeps-typed}
 use Rattle.anew.proofs.Held.{NamedBelow}
-use Rattle.convert_lists.specs.Turned.{allNodes, listOf, sameChild, childNamed, toList}
+use Rattle.convert_lists.specs.Turned.{allNodes, listOf, sameChild, childNamed, sameBelow, toList}
 use Rattle.convert_lists.specs.ToList.{lentWith}
 use Rattle.convert_lists.proofs.Subtree.{Alike, kid-same, means-same}
 use Rattle.convert_lists.proofs.Alike.{view-no-union, list-below, alike}
@@ -55,22 +55,34 @@ pub record Due (formats schema : List ℕ) (first n target tn : ℕ) : Type 0 wh
   pub same : sameType formats schema (suc target) (tn - 1) (suc first) (n - 1) ≡ true
   pub sizes : n ≡ tn
 
-pub due-is : (formats schema : List ℕ) (first n target tn : ℕ) → toList formats schema first n target tn ≡ true → Due formats schema first n target tn
-unfolding toList listOf sameChild
-due-is formats schema first n target tn h =
-    let a = isListView (trees.codeOf formats schema first 0) in
-    let b = eqb (trees.codeOf formats schema target 0) (trees.codeOf formats schema first 0 + 2) in
+-- what the trees are below their roots
+pub record Below (formats schema : List ℕ) (first n target tn : ℕ) : Type 0 where
+  pub low : ceilings formats schema target tn ≡ true
+  pub is-typed : typed formats schema target tn ≡ true
+  pub same : sameType formats schema (suc target) (tn - 1) (suc first) (n - 1) ≡ true
+  pub sizes : n ≡ tn
+
+pub below-is : (formats schema : List ℕ) (first n target tn : ℕ) → sameBelow formats schema first n target tn ≡ true → Below formats schema first n target tn
+unfolding sameBelow sameChild
+below-is formats schema first n target tn h =
     let c = ceilings formats schema target tn in
     let d = typed formats schema target tn in
     let e = sameType formats schema (suc target) (tn - 1) (suc first) (n - 1) in
-    let p = both (a && b && childNamed first && childNamed target) (c && d && e && eqb n tn) h in
-    let o = both (a && b && childNamed first) (childNamed target) (p .0) in
-    let i = both (a && b) (childNamed first) (o .0) in
-    let q = both a b (i .0) in
+    let p = both (childNamed first && childNamed target) (c && d && e && eqb n tn) h in
     let r = both (c && d && e) (eqb n tn) (p .1) in
     let s = both (c && d) e (r .0) in
     let u = both c d (s .0) in
-    record { of-view = q .0; turned = eqb-true _ _ (q .1); low = u .0; is-typed = u .1; same = s .1; sizes = eqb-true n tn (r .1) }
+    record { low = u .0; is-typed = u .1; same = s .1; sizes = eqb-true n tn (r .1) }
+
+pub due-is : (formats schema : List ℕ) (first n target tn : ℕ) → toList formats schema first n target tn ≡ true → Due formats schema first n target tn
+unfolding toList listOf
+due-is formats schema first n target tn h =
+    let a = isListView (trees.codeOf formats schema first 0) in
+    let b = eqb (trees.codeOf formats schema target 0) (trees.codeOf formats schema first 0 + 2) in
+    let p = both (a && b) (sameBelow formats schema first n target tn) h in
+    let q = both a b (p .0) in
+    let u = below-is formats schema first n target tn (p .1) in
+    record { of-view = q .0; turned = eqb-true _ _ (q .1); low = u .low; is-typed = u .is-typed; same = u .same; sizes = u .sizes }
 
 -- ---- codes
 

@@ -2,4 +2,6 @@
 pub mod Exact
 pub mod Listing
 pub mod Turned
+pub mod Viewing
 pub mod ToList
+pub mod ToView

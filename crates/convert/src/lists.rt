@@ -1,0 +1,236 @@
+// The walk that writes a list-view column as a list.
+ghost use mathlib.Core.Path.{_≡_};
+ghost use mathlib.Core.List.{List, []};
+ghost use Prim.Native.Nat.{ℕ, _+_, _*_, _<_, _≤_, _^_};
+ghost use lib.ListN.{length};
+ghost use Rattle.columnar.specs.Array.{ok};
+ghost use Rattle.array_data.specs.lent_tables.Lent.{tables};
+ghost use Rattle.walk.specs.State.{bytesOf, place, lengthOf, offsetOf};
+ghost use Rattle.walk.specs.Log.{Did};
+ghost use Rattle.leaf_walk.specs.Join.{join};
+ghost use Rattle.convert_lists.specs.Listing.{validity, endRow, copyRow, listRow, listRows, listWalk};
+ghost use Rattle.convert_lists.specs.ToList.{lentWith};
+use array_data::entries;
+use array_data::lent_tables;
+use nested_rows::lookups;
+use walk::plan_words;
+
+// Whether slot `slot` of the root is valid.
+fn is_valid(places: &[u64], body: &[u8], first: u32, slot: u64) -> bool
+    ensures { λ r. ⌜ ((state parts lengths : List ℕ) (w : ℕ) → r ≡ ok (validity (join state parts lengths (now (places .entry)) (now (body .entry)) first 0) w) slot) ⌝ }
+{
+    match entries::valid_at(places, body, first, 0, slot) {
+        entries::Validity::Valid => true,
+        entries::Validity::Null => false,
+        entries::Validity::Outside => false,
+    }
+}
+
+// The offset behind row r: the child's rows.
+fn end_row(
+    state: &[u64],
+    parts: &[u64],
+    counts: &[u64; 96],
+    room: &mut [u8],
+    write: bool,
+    w: u64,
+    r: u64,
+)
+    requires { ⌜ ((w ≡ 4 → ⊥) → w ≡ 8) ⌝ }
+    requires { ⌜ (r + 1 < 2 ^ 63) × ((r + 1) * w < 2 ^ 64) ⌝ }
+    ensures { λ _. ⌜ ((lengths places body : List ℕ) (first : ℕ) → Did (now (state .entry)) (now (parts .entry)) write (endRow (join (now (state .entry)) (now (parts .entry)) lengths places body first 0) w r (now (counts .entry))) (now (room .entry)) 0 (now (counts .entry)) (now (room .exit))) ⌝ }
+{
+    let v = plan_words::rows_of(counts, 1);
+    room_writes::put_number(state, parts, room, write, 0, 1, (r + 1) * w, w, v);
+}
+
+// A valid row r: ground 6, the copy of its stretch, and the offset behind it.
+fn copy_row(
+    state: &[u64],
+    parts: &[u64],
+    lengths: &[u64],
+    places: &[u64],
+    body: &[u8],
+    counts: &mut [u64; 96],
+    room: &mut [u8],
+    write: bool,
+    first: u32,
+    w: u64,
+    slot: u64,
+    r: u64,
+) -> u8
+    requires { ⌜ ((w ≡ 4 → ⊥) → w ≡ 8) ⌝ }
+    requires { ⌜ (slot ≡ offsetOf (join [] [] (now lengths) (now places) (now body) first 0) 0) × (slot + r + 1 < 2 ^ 63) × ((r + 1) * w < 2 ^ 64) × (place (join [] [] (now lengths) (now places) (now body) first 0) 0 3 + w * (slot + r + 1) ≤ length (now body)) × (place (join [] [] (now lengths) (now places) (now body) first 0) 0 5 + w * (slot + r + 1) ≤ length (now body)) ⌝ }
+    ensures { λ g. ⌜ Did (now (state .entry)) (now (parts .entry)) write (copyRow (join (now (state .entry)) (now (parts .entry)) (now (lengths .entry)) (now (places .entry)) (now (body .entry)) first 0) w r (now (counts .entry))) (now (room .entry)) g (now (counts .exit)) (now (room .exit)) ⌝ }
+{
+    let k = first as usize;
+    let offset = lookups::entry_at(body, lent_tables::place(places, k, 3), w, slot + r);
+    let size = lookups::entry_at(body, lent_tables::place(places, k, 5), w, slot + r);
+    if !nested_rows::sum_fits(w, plan_words::rows_of(counts, 1), size) {
+        return 6;
+    }
+    let g = extend::extend(
+        state,
+        parts,
+        lengths,
+        places,
+        body,
+        counts,
+        room,
+        write,
+        0,
+        k,
+        1,
+        offset,
+        size,
+        7,
+    );
+    if g != 0 {
+        return g;
+    }
+    end_row(state, parts, counts, room, write, w, r);
+    0
+}
+
+// Row r.
+fn list_row(
+    state: &[u64],
+    parts: &[u64],
+    lengths: &[u64],
+    places: &[u64],
+    body: &[u8],
+    counts: &mut [u64; 96],
+    room: &mut [u8],
+    write: bool,
+    first: u32,
+    w: u64,
+    slot: u64,
+    r: u64,
+) -> u8
+    requires { ⌜ ((w ≡ 4 → ⊥) → w ≡ 8) ⌝ }
+    requires { ⌜ (slot ≡ offsetOf (join [] [] (now lengths) (now places) (now body) first 0) 0) × (slot + r + 1 < 2 ^ 63) × ((r + 1) * w < 2 ^ 64) × (place (join [] [] (now lengths) (now places) (now body) first 0) 0 3 + w * (slot + r + 1) ≤ length (now body)) × (place (join [] [] (now lengths) (now places) (now body) first 0) 0 5 + w * (slot + r + 1) ≤ length (now body)) ⌝ }
+    ensures { λ g. ⌜ Did (now (state .entry)) (now (parts .entry)) write (listRow (join (now (state .entry)) (now (parts .entry)) (now (lengths .entry)) (now (places .entry)) (now (body .entry)) first 0) w r (now (counts .entry))) (now (room .entry)) g (now (counts .exit)) (now (room .exit)) ⌝ }
+{
+    if is_valid(places, body, first, slot + r) {
+        return copy_row(
+            state,
+            parts,
+            lengths,
+            places,
+            body,
+            counts,
+            room,
+            write,
+            first,
+            w,
+            slot,
+            r,
+        );
+    }
+    end_row(state, parts, counts, room, write, w, r);
+    0
+}
+
+// All n rows.
+fn list_rows(
+    state: &[u64],
+    parts: &[u64],
+    lengths: &[u64],
+    places: &[u64],
+    body: &[u8],
+    counts: &mut [u64; 96],
+    room: &mut [u8],
+    write: bool,
+    first: u32,
+    w: u64,
+    slot: u64,
+    n: u64,
+) -> u8
+    requires { ⌜ ((w ≡ 4 → ⊥) → w ≡ 8) ⌝ }
+    requires { ⌜ (slot ≡ offsetOf (join [] [] (now lengths) (now places) (now body) first 0) 0) × (slot + n < 2 ^ 63) ⌝ }
+    ensures { λ g. ⌜ Did (now (state .entry)) (now (parts .entry)) write (listRows (join (now (state .entry)) (now (parts .entry)) (now (lengths .entry)) (now (places .entry)) (now (body .entry)) first 0) w n (now (counts .entry))) (now (room .entry)) g (now (counts .exit)) (now (room .exit)) ⌝ }
+{
+    if !nested_rows::pairs_in(places, body, first as usize, 0, w, w, slot, n) {
+        return 12;
+    }
+    let mut r: u64 = 0;
+    while r < n {
+        let g = list_row(
+            state,
+            parts,
+            lengths,
+            places,
+            body,
+            counts,
+            room,
+            write,
+            first,
+            w,
+            slot,
+            r,
+        );
+        if g != 0 {
+            return g;
+        }
+        r += 1;
+    }
+    0
+}
+
+// The whole walk: first offsets, the root's validity, the rows, and their number.
+pub fn list_walk(
+    state: &[u64],
+    parts: &[u64],
+    lengths: &[u64],
+    places: &[u64],
+    body: &[u8],
+    counts: &mut [u64; 96],
+    room: &mut [u8],
+    write: bool,
+    first: u32,
+) -> u8
+    requires { ⌜ offsetOf (join [] [] (now lengths) [] [] first 0) 0 + lengthOf (join [] [] (now lengths) [] [] first 0) 0 < 2 ^ 63 ⌝ }
+    requires { ⌜ ((bytesOf (now state) 0 ≡ 4 → ⊥) → bytesOf (now state) 0 ≡ 8) ⌝ }
+    ensures { λ g. ⌜ ((n : ℕ) → Did (now (state .entry)) (now (parts .entry)) write (listWalk (lentWith (tables (now (lengths .entry)) (now (places .entry)) (now (body .entry))) (now (state .entry)) (now (parts .entry)) first n) (now (counts .entry))) (now (room .entry)) g (now (counts .exit)) (now (room .exit))) ⌝ }
+{
+    let k = first as usize;
+    open_walk::first_offsets(state, parts, room, write);
+    let slot = lent_tables::offset_of(lengths, k);
+    let n = lent_tables::length_of(lengths, k);
+    let g = leaf_walk::copy_mask(
+        state,
+        parts,
+        places,
+        body,
+        counts,
+        room,
+        write,
+        k,
+        0,
+        slot,
+        n,
+    );
+    if g != 0 {
+        return g;
+    }
+    let w = lookups::width_at(state, 0);
+    let g = list_rows(
+        state,
+        parts,
+        lengths,
+        places,
+        body,
+        counts,
+        room,
+        write,
+        first,
+        w,
+        slot,
+        n,
+    );
+    if g != 0 {
+        return g;
+    }
+    plan_words::add_rows(counts, 0, n);
+    0
+}

@@ -1,0 +1,153 @@
+// The walk that writes the root of a list column's list-view.
+ghost use mathlib.Core.Path.{_≡_};
+ghost use mathlib.Core.List.{[]};
+ghost use Prim.Native.Nat.{_+_, _*_, _-_, _<_, _≤_, _^_};
+ghost use lib.ListN.{length};
+ghost use Rattle.walk.specs.State.{bytesOf, place, lengthOf, offsetOf};
+ghost use Rattle.walk.specs.Log.{Did};
+ghost use Rattle.leaf_walk.specs.Join.{join};
+ghost use Rattle.convert_lists.specs.Viewing.{viewRow, viewRows, viewWalk};
+use array_data::lent_tables;
+use nested_rows::lookups;
+use walk::plan_words;
+
+// The offset and the size of row r.
+fn view_row(
+    state: &[u64],
+    parts: &[u64],
+    lengths: &[u64],
+    places: &[u64],
+    body: &[u8],
+    counts: &[u64; 96],
+    room: &mut [u8],
+    write: bool,
+    first: u32,
+    w: u64,
+    slot: u64,
+    r: u64,
+)
+    requires { ⌜ ((w ≡ 4 → ⊥) → w ≡ 8) ⌝ }
+    requires { ⌜ (slot ≡ offsetOf (join [] [] (now lengths) (now places) (now body) first 0) 0) × (slot + r + 2 < 2 ^ 64) × ((r + 1) * w < 2 ^ 64) × (place (join [] [] (now lengths) (now places) (now body) first 0) 0 3 + w * (slot + r + 2) ≤ length (now body)) ⌝ }
+    ensures { λ _. ⌜ Did (now (state .entry)) (now (parts .entry)) write (viewRow (join (now (state .entry)) (now (parts .entry)) (now (lengths .entry)) (now (places .entry)) (now (body .entry)) first 0) w r (now (counts .entry))) (now (room .entry)) 0 (now (counts .entry)) (now (room .exit)) ⌝ }
+{
+    let at = lent_tables::place(places, first as usize, 3);
+    let start = lookups::entry_at(body, at, w, slot + r);
+    let next = lookups::entry_at(body, at, w, slot + r + 1);
+    let o = r * w;
+    room_writes::put_number(state, parts, room, write, 0, 1, o, w, start);
+    room_writes::put_number(state, parts, room, write, 0, 2, o, w, less(next, start));
+}
+
+// a - b, and 0 where b is above a.
+fn less(a: u64, b: u64) -> u64
+    ensures { λ r. ⌜ r ≡ a - b ⌝ }
+{
+    if a < b {
+        return 0;
+    }
+    a - b
+}
+
+// All n rows.
+fn view_rows(
+    state: &[u64],
+    parts: &[u64],
+    lengths: &[u64],
+    places: &[u64],
+    body: &[u8],
+    counts: &[u64; 96],
+    room: &mut [u8],
+    write: bool,
+    first: u32,
+    w: u64,
+    slot: u64,
+    n: u64,
+) -> u8
+    requires { ⌜ ((w ≡ 4 → ⊥) → w ≡ 8) ⌝ }
+    requires { ⌜ (slot ≡ offsetOf (join [] [] (now lengths) (now places) (now body) first 0) 0) × (slot + n < 2 ^ 63) ⌝ }
+    ensures { λ g. ⌜ Did (now (state .entry)) (now (parts .entry)) write (viewRows (join (now (state .entry)) (now (parts .entry)) (now (lengths .entry)) (now (places .entry)) (now (body .entry)) first 0) w n (now (counts .entry))) (now (room .entry)) g (now (counts .entry)) (now (room .exit)) ⌝ }
+{
+    if n == 0 {
+        return 0;
+    }
+    let at = lent_tables::place(places, first as usize, 3);
+    if !leaf_walk::rows_in(body, at, w, slot, n + 1) {
+        return 12;
+    }
+    let mut r: u64 = 0;
+    while r < n {
+        view_row(
+            state,
+            parts,
+            lengths,
+            places,
+            body,
+            counts,
+            room,
+            write,
+            first,
+            w,
+            slot,
+            r,
+        );
+        r += 1;
+    }
+    0
+}
+
+// The whole walk: the root's validity, the rows, and their number.
+pub fn view_walk(
+    state: &[u64],
+    parts: &[u64],
+    lengths: &[u64],
+    places: &[u64],
+    body: &[u8],
+    counts: &mut [u64; 96],
+    room: &mut [u8],
+    write: bool,
+    first: u32,
+) -> u8
+    requires { ⌜ offsetOf (join [] [] (now lengths) [] [] first 0) 0 + lengthOf (join [] [] (now lengths) [] [] first 0) 0 < 2 ^ 63 ⌝ }
+    requires { ⌜ ((bytesOf (now state) 0 ≡ 4 → ⊥) → bytesOf (now state) 0 ≡ 8) ⌝ }
+    ensures { λ g. ⌜ Did (now (state .entry)) (now (parts .entry)) write (viewWalk (join (now (state .entry)) (now (parts .entry)) (now (lengths .entry)) (now (places .entry)) (now (body .entry)) first 0) (bytesOf (now (state .entry)) 0) (now (counts .entry))) (now (room .entry)) g (now (counts .exit)) (now (room .exit)) ⌝ }
+{
+    let k = first as usize;
+    let slot = lent_tables::offset_of(lengths, k);
+    let n = lent_tables::length_of(lengths, k);
+    let g = leaf_walk::copy_mask(
+        state,
+        parts,
+        places,
+        body,
+        counts,
+        room,
+        write,
+        k,
+        0,
+        slot,
+        n,
+    );
+    if g != 0 {
+        return g;
+    }
+    let w = lookups::width_at(state, 0);
+    let g = view_rows(
+        state,
+        parts,
+        lengths,
+        places,
+        body,
+        counts,
+        room,
+        write,
+        first,
+        w,
+        slot,
+        n,
+    );
+    if g != 0 {
+        return g;
+    }
+    plan_words::add_rows(counts, 0, n);
+    0
+}
