@@ -6,16 +6,18 @@ use mathlib.Core.List.{List}
 use Prim.Native.Nat.{ℕ}
 use native.Mathlib.Omega.{arith}
 use lib.ListN.{replicate}
+use lib.Dec.{T}
 use Rattle.columnar.specs.Types.{Ty}
 use Rattle.columnar.specs.Reading.{Column, readAll}
 use Rattle.array_data.specs.Tables.{Tables}
-use Rattle.array_data.specs.Typed.{tablesFrom, columnOf}
+use Rattle.array_data.specs.Typed.{tablesFrom, columnOf, sourceRule}
 use Rattle.array_data.specs.type_tree.Lent.{treeOf, typeOf}
 use Rattle.model.specs.Try.{Try, done, stop, then}
 use Rattle.walk.specs.Log.{Out}
 use Rattle.refinement.specs.log_in_room.Room.{AllBelow}
 use Rattle.refinement.specs.opening.Open.{Opening}
-use Rattle.refinement.specs.finishing.Shows.{finishedTables, Bodied}
+use Rattle.refinement.specs.finishing.Finish.{nullTable}
+use Rattle.refinement.specs.finishing.Shows.{Shows, Counts, finishedTables, Bodied}
 use Rattle.columns.specs.Grounds.{columnGround}
 use Rattle.column_anew.specs.widths.Widths.{Widths}
 use Rattle.column_anew.specs.widths.Converted.{columnAs}
@@ -29,28 +31,28 @@ use Rattle.anew.proofs.Result.{Filled, anew-result}
 use Rattle.target_rules.specs.Target.{isTarget}
 use Rattle.target_rules.proofs.Rules.{target-is, target-test}
 use Rattle.width_walks.specs.Nodes.{treeWalk}
-use Rattle.width_walks.proofs.Whole.{Given, convert-refused, convert-fills}
+use Rattle.width_walks.proofs.Whole.{Given, convert-refused, convert-done, convert-fills}
 use Rattle.width_walks.proofs.Target.{keep, made, lent, no-ends}
 use Rattle.width_walks.proofs.Lent.{typed-here, low-here, source-here, given-here}
 
 module _ (formats schema : List ℕ) (x : Tables) (first n first′ : ℕ) (parts : List ℕ) (ok : columnGround formats schema x first n ≡ 0) (h : isTarget formats schema first n first′ n ≡ true) (bytes : AllBelow 256 (x .body)) where
-  abbrev from : Ty
+  abbrev pub from : Ty
   from = typeOf formats schema first n
 
-  abbrev to : Ty
+  abbrev pub to : Ty
   to = typeOf formats schema first′ n
 
-  abbrev widths : Widths from to
+  abbrev pub widths : Widths from to
   widths = target-test formats schema first n first′ n (typed-here formats schema x first n ok) (low-here formats schema x first n ok) h
 
-  abbrev column : Column from
+  abbrev pub column : Column from
   column = columnOf (treeOf formats schema first n) (tablesFrom x first) from 0
 
-  abbrev plan-made : List ℕ
+  abbrev pub plan-made : List ℕ
   plan-made = made formats schema x first n first′ parts (typed-here formats schema x first n ok) (low-here formats schema x first n ok) h
 
   -- the loop over the column's nodes, by the plan of the target
-  abbrev walk : Out
+  abbrev pub walk : Out
   walk = treeWalk (treeOf formats schema first n) (treeOf formats schema first′ n) (tablesFrom x first) plan-made (replicate 96 0)
 
   -- THE WALK'S GROUND IS THE CONVERTER'S
@@ -58,7 +60,7 @@ module _ (formats schema : List ℕ) (x : Tables) (first n first′ : ℕ) (part
   walk-ground g e =
       convert-refused (treeOf formats schema first n) (treeOf formats schema first′ n) (tablesFrom x first) _ (x .buffers) from to widths (given-here formats schema x first n ok first′ parts h bytes) g e
 
-  some-ground : (g : ℕ) → Ground g → g ≡ 0 → ⊥
+  pub some-ground : (g : ℕ) → Ground g → g ≡ 0 → ⊥
   some-ground g (inl e) z = omega arith
   some-ground g (inr (inl e)) z = omega arith
   some-ground g (inr (inr e)) z = omega arith
@@ -72,6 +74,10 @@ module _ (formats schema : List ℕ) (x : Tables) (first n first′ : ℕ) (part
       go (stop g) e =
           let c : converted from to widths column ≡ stop g = ap (λ y. then y (λ u. done (columnAs from to widths column 0 (column .len)))) e in
           absurd (some-ground g (refused-with from to widths column g c) (sym (walk-ground g c) ∙ z))
+
+  pub walk-none : AllFit (numbers from to widths column) → walk .ans ≡ 0
+  walk-none =
+      convert-done (treeOf formats schema first n) (treeOf formats schema first′ n) (tablesFrom x first) _ (x .buffers) from to widths (given-here formats schema x first n ok first′ parts h bytes)
 
   pub filled : walk .ans ≡ 0 → Filled (lent formats schema x first n first′ parts (typed-here formats schema x first n ok) (low-here formats schema x first n ok) h) (x .buffers) to walk (columnAs from to widths column 0 (column .len))
   filled z =
@@ -90,12 +96,33 @@ module _ (formats schema : List ℕ) (x : Tables) (first n first′ : ℕ) (part
     all-here = all-fit walk-done
 
     module _ (base : ℕ) (body : List ℕ) (bodied : Bodied body (lent formats schema x first n first′ parts (typed-here formats schema x first n ok) (low-here formats schema x first n ok) h) (answer .room) base) where
-      -- WHAT AN ACCEPTED CALL LEAVES, finished, reads as the column that it was given
-      pub same-rows : readAll to (columnOf (treeOf formats schema first′ n) (finishedTables (lent formats schema x first n first′ parts (typed-here formats schema x first n ok) (low-here formats schema x first n ok) h) (x .buffers) (answer .counts) (answer .room) base body) to 0)
-          ≡ readAll from column
-      same-rows =
+      -- the tables that finishing gives
+      abbrev pub after-tables : Tables
+      after-tables =
+          finishedTables (lent formats schema x first n first′ parts (typed-here formats schema x first n ok) (low-here formats schema x first n ok) h) (x .buffers) (answer .counts) (answer .room) base body
+
+      result :
+          Shows (treeOf formats schema first′ n) after-tables to 0 (columnAs from to widths column 0 (column .len))
+          × Counts (treeOf formats schema first′ n) (nullTable (lent formats schema x first n first′ parts (typed-here formats schema x first n ok) (low-here formats schema x first n ok) h) (x .buffers) (answer .counts) (answer .room) base) to 0 (columnAs from to widths column 0 (column .len))
+          × (readAll to (columnOf (treeOf formats schema first′ n) after-tables to 0) ≡ readAll to (columnAs from to widths column 0 (column .len)))
+          × T (sourceRule (treeOf formats schema first′ n) after-tables)
+      result =
           let target = target-is formats schema first n first′ n h in
           let keeps = keep formats schema x first n first′ parts (typed-here formats schema x first n ok) (low-here formats schema x first n ok) h in
           anew-result formats schema x first n own first′ n keeps true 0 walk parts plan counts room (target .of-type) (target .low)
-          (no-ends formats schema x first n first′ parts (typed-here formats schema x first n ok) (low-here formats schema x first n ok) h) (columnAs from to widths column 0 (column .len)) (filled walk-done) room-bytes accepted base body bodied .2
+          (no-ends formats schema x first n first′ parts (typed-here formats schema x first n ok) (low-here formats schema x first n ok) h) (columnAs from to widths column 0 (column .len)) (filled walk-done)
+          room-bytes accepted base body bodied
+
+      -- WHAT AN ACCEPTED CALL LEAVES, finished, is the converted column byte for byte
+      pub shows : Shows (treeOf formats schema first′ n) after-tables to 0 (columnAs from to widths column 0 (column .len))
+      shows = result .0
+
+      -- it reads as the column that it was given
+      pub same-rows : readAll to (columnOf (treeOf formats schema first′ n) after-tables to 0) ≡ readAll from column
+      same-rows =
+          result .2
           ∙ convert-rows from to widths column (source-here formats schema x first n ok) (columnAs from to widths column 0 (column .len)) (convert-accepted from to widths column all-here)
+
+      -- and can be lent again
+      pub lent-again : T (sourceRule (treeOf formats schema first′ n) after-tables)
+      lent-again = result .3

@@ -22,3 +22,4 @@ pub mod Used
 pub mod Target
 pub mod Lent
 pub mod Answer
+pub mod Call

@@ -89,6 +89,12 @@ module _ (t t′ : Tree) (y : Tables) (x : Lent) (buffers : List ℕ) (u u′ : 
   pub convert-refused : (k : ℕ) → converted u u′ d column ≡ stop k → walk .ans ≡ k
   convert-refused k e = when-stopped k whole e
 
+  -- .. and has none where every number fits
+  pub convert-done : AllFit (numbers u u′ d column) → walk .ans ≡ 0
+  convert-done fit =
+      let made-column = columnAs u u′ d column 0 (column .len) in
+      when-done made-column whole (ap (λ z. then z (λ v. done made-column)) (done-tried (numbers u u′ d column) fit)) .is-done
+
   -- AND ELSE FILLS THE CONVERTED COLUMN: all that `anew-result` asks of a walk
   pub convert-fills : AllFit (numbers u u′ d column) → Filled x buffers u′ walk (columnAs u u′ d column 0 (column .len))
   convert-fills fit =

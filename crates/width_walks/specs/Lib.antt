@@ -2,3 +2,4 @@
 pub mod Convert
 pub mod Ready
 pub mod Nodes
+pub mod Call
