@@ -1,0 +1,4 @@
+-- An order walked by stretches.
+pub mod Stretch
+pub mod Batch
+pub mod Example
