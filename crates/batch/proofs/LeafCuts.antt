@@ -58,26 +58,26 @@ module _ (x : Join) (k : ℕ) (leaf : isLeaf (codeOf (x .state) k) ≡ true) whe
       leaves-need 12 c (lt-ltb k 32 (r .node))
       (rw (lt-ltb (at a + n) far l) (leaves-found far (at a) 12 c _ (omega arith) (slots-goes x k leaf child (at a) n c f (r .slots))))
 
-  range-first : (a m s b : ℕ) → st x k leaf (at a) (m + s) ≡ true → Range a (m + s) b → Range a m b
+  pub range-first : (a m s b : ℕ) → st x k leaf (at a) (m + s) ≡ true → Range a (m + s) b → Range a m b
   range-first a m s b t r =
       let l = r .near in
       record { node = r .node; near = omega arith; slots = passes-first x k leaf (at a) m s b t (r .slots) }
 
-  range-second : (a m s b : ℕ) → st x k leaf (at a) (m + s) ≡ true → Range a (m + s) b → Range (a + m) s (b + leaf-data x k leaf .amount (at a) m)
+  pub range-second : (a m s b : ℕ) → st x k leaf (at a) (m + s) ≡ true → Range a (m + s) b → Range (a + m) s (b + leaf-data x k leaf .amount (at a) m)
   range-second a m s b t r =
       let l = r .near in
       let e : at a + m ≡ at (a + m) = add-assoc (offsetOf x k) a m in
       record { node = r .node; near = omega arith; slots = rw e at (passes-second x k leaf (at a) m s b t (r .slots)) }
 
-  range-none : (a m o b d : ℕ) → o ≤ a + m → Range a m b → Range o 0 d
+  pub range-none : (a m o b d : ℕ) → o ≤ a + m → Range a m b → Range o 0 d
   range-none a m o b d h r =
       let l = r .near in
       record { node = r .node; near = omega arith; slots = passes-none x k leaf (at a) m (at o) b d (omega arith) (r .slots) }
 
-  after-none : (o : ℕ) (c : List ℕ) → k < 32 → Counts c → after o 0 c ≡ c
+  pub after-none : (o : ℕ) (c : List ℕ) → k < 32 → Counts c → after o 0 c ≡ c
   after-none o c h f = rw (zeros-no x k (at o), leaf-data x k leaf .nothing (at o)) (tally-none k h c f)
 
-  after-after : (a m s : ℕ) (c : List ℕ) → Counts c → st x k leaf (at a) (m + s) ≡ true → Range a (m + s) (bytes c k) → after (a + m) s (after a m c) ≡ after a (m + s) c
+  pub after-after : (a m s : ℕ) (c : List ℕ) → Counts c → st x k leaf (at a) (m + s) ≡ true → Range a (m + s) (bytes c k) → after (a + m) s (after a m c) ≡ after a (m + s) c
   after-after a m s c f t r =
       let e : at a + m ≡ at (a + m) = add-assoc (offsetOf x k) a m in
       let z : maskZeros x k (at a) (m + s) ≡ maskZeros x k (at a) m + maskZeros x k (at (a + m)) s = zeros-cut x k (at a) m s ∙ ap (λ v. maskZeros x k (at a) m + maskZeros x k v s) e in
@@ -85,12 +85,12 @@ module _ (x : Join) (k : ℕ) (leaf : isLeaf (codeOf (x .state) k) ≡ true) whe
       leaf-data x k leaf .both (at a) m s (bytes c k) t (r .slots .entries) ∙ ap (λ v. leaf-data x k leaf .amount (at a) m + leaf-data x k leaf .amount v s) e in
       rw (z, d) (tally-twice k (r .node) c f m (maskZeros x k (at a) m) (leaf-data x k leaf .amount (at a) m) s (maskZeros x k (at (a + m)) s) (leaf-data x k leaf .amount (at (a + m)) s))
 
-  after-counts : (a n : ℕ) (c : List ℕ) → Counts c → Range a n (bytes c k) → Counts (after a n c)
+  pub after-counts : (a n : ℕ) (c : List ℕ) → Counts c → Range a n (bytes c k) → Counts (after a n c)
   after-counts a n c f r =
       tally-counts k n (maskZeros x k (at a) n) (leaf-data x k leaf .amount (at a) n) c (f .long) (r .node) f
       (leaf-data x k leaf .fits (at a) n (bytes c k) (r .slots .entries) (f .small (3 * k + 2)))
 
-  after-bytes : (a n : ℕ) (c : List ℕ) → Counts c → k < 32 → bytes (after a n c) k ≡ bytes c k + leaf-data x k leaf .amount (at a) n
+  pub after-bytes : (a n : ℕ) (c : List ℕ) → Counts c → k < 32 → bytes (after a n c) k ≡ bytes c k + leaf-data x k leaf .amount (at a) n
   after-bytes a n c f h = tally-bytes k n (maskZeros x k (at a) n) (leaf-data x k leaf .amount (at a) n) c (f .long) h
 
   -- what `batchLeaf` says of a range besides

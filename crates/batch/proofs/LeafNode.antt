@@ -23,8 +23,9 @@ use Rattle.batch.specs.Batch.{isLeaf, steady, batchLeaf}
 use Rattle.batch.proofs.Ends.{Leaves, leaves-own, leaves-done, leaves-need, leaves-found, leaves-next, need-was, need-is, found-was, found-is, next-first, next-last}
 use Rattle.batch.proofs.Tally.{Counts, tally, tally-rows, tally-else, tally-none, tally-twice, tally-counts}
 use Rattle.batch.proofs.Stretches.{and-left, and-right, Cuts}
-use Rattle.batch.proofs.Leaves.{maskFits, maskZeros, mask-was, mask-goes, mask-first, mask-second, mask-none, zeros-cut, zeros-no, DataCuts, data-as, entries-cut}
-use Rattle.batch.proofs.Strings.{falls-first, strings-cut}
+use Rattle.batch.proofs.Leaves.{maskFits, maskZeros, mask-was, mask-goes, mask-first, mask-second, mask-none, zeros-cut, zeros-no, DataCuts}
+use Rattle.batch.proofs.Strings.{falls-first}
+use Rattle.batch.proofs.Contents.{Kind, kind-as, numbers-kind, keys-kind, views-kind, strings-kind}
 
 -- ---- codes
 
@@ -101,30 +102,33 @@ module _ (x : Join) (k : ℕ) (leaf : isLeaf (codeOf (x .state) k) ≡ true) whe
       go false h = refl
 
   -- a walk that is never taken
-  abbrev idle : Walk
+  abbrev pub idle : Walk
   idle j a n c = fail 12 c
 
-  pub leaf-data : DataCuts x k st (λ slot n c. copyData x idle C k slot n c)
+  fixed-plain : isFixed C ≡ true → isString C ≡ false
+  fixed-plain h = let b = between-high 1 10 C h in rw (lt-leb 11 C (omega arith))
+
+  pub leaf-kind : Kind x k st (isString C) (λ slot n c. copyData x idle C k slot n c)
   unfolding copyData copyNumbers copyKeys copyViews
-  leaf-data = go (isFixed C) refl (eqb (dictionaryOf (x .state) k) 0) refl (isString C) refl (isView C) refl
+  leaf-kind = go (isFixed C) refl (eqb (dictionaryOf (x .state) k) 0) refl (isString C) refl (isView C) refl
     where
       go : (t : Bool) → isFixed C ≡ t → (d : Bool) → eqb (dictionaryOf (x .state) k) 0 ≡ d → (u : Bool) → isString C ≡ u → (v : Bool) → isView C ≡ v
-          → DataCuts x k st (λ slot n c. copyData x idle C k slot n c)
+          → Kind x k st (isString C) (λ slot n c. copyData x idle C k slot n c)
       go true e true f u g v h =
-          data-as x k st _ (λ slot n c. copyNumbers x k W slot n c) (λ slot n c. rw (e, f))
-          (entries-cut x k st W (λ slot n c. put k 1 (rows c k * W) (take (W * n) (drop (place x k 3 + W * slot) (x .body)))))
+          kind-as x k st (isString C) false _ (λ slot n c. copyNumbers x k W slot n c) (fixed-plain e) (λ slot n c. rw (e, f)) (numbers-kind x k st W)
       go true e false f u g v h =
-          data-as x k st _ (λ slot n c. copyKeys x k W slot n c) (λ slot n c. rw (e, f))
-          (entries-cut x k st W (λ slot n c. put k 1 (rows c k * W) (rebased W (x .body) (place x k 3 + W * slot) (baseOf (x .state) (x .source) k) n)))
+          kind-as x k st (isString C) false _ (λ slot n c. copyKeys x k W slot n c) (fixed-plain e) (λ slot n c. rw (e, f)) (keys-kind x k st W)
       go false e d f true g v h =
-          data-as x k st _ (λ slot n c. copyString x k W slot n c) (λ slot n c. rw (e, g)) (strings-cut x k W st (λ slot n. rw g) (string-width C g))
+          kind-as x k st (isString C) true _ (λ slot n c. copyString x k W slot n c) g (λ slot n c. rw (e, g)) (strings-kind x k st W (λ slot n. rw g) (string-width C g))
       go false e d f false g true h =
-          data-as x k st _ (λ slot n c. copyViews x k slot n c) (λ slot n c. rw (e, g, h))
-          (entries-cut x k st 16 (λ slot n c. put k 1 (rows c k * 16) (reviewed (x .body) (place x k 3 + 16 * slot) (baseOf (x .state) (x .source) k) n)))
+          kind-as x k st (isString C) false _ (λ slot n c. copyViews x k slot n c) g (λ slot n c. rw (e, g, h)) (views-kind x k st)
       go false e d f false g false h = absurd (leaf-kinds C leaf e g h)
 
+  abbrev pub leaf-data : DataCuts x k st (λ slot n c. copyData x idle C k slot n c)
+  leaf-data = leaf-kind .cuts
+
   -- whatever the walk of its children would be
-  data-is : (child : Walk) (slot n : ℕ) (c : List ℕ) → copyData x child C k slot n c ≡ copyData x idle C k slot n c
+  pub data-is : (child : Walk) (slot n : ℕ) (c : List ℕ) → copyData x child C k slot n c ≡ copyData x idle C k slot n c
   unfolding copyData
   data-is child slot n c = go (isFixed C) refl (isString C) refl (isView C) refl
     where
@@ -136,10 +140,10 @@ module _ (x : Join) (k : ℕ) (leaf : isLeaf (codeOf (x .state) k) ≡ true) whe
 
   -- ---- the whole node
 
-  masks : masked C ≡ true
+  pub masks : masked C ≡ true
   masks = lt-ltb C 21 (let h = between-high 1 16 C leaf in omega arith)
 
-  bytes-kept : (z : ℕ) (c : List ℕ) → bytes (addNulls k z c) k ≡ bytes c k
+  pub bytes-kept : (z : ℕ) (c : List ℕ) → bytes (addNulls k z c) k ≡ bytes c k
   bytes-kept z c = getD-set-other c (3 * k + 1) (3 * k + 2) (grown (nulls c k) z) 0 (λ (e : 3 * k + 2 ≡ 3 * k + 1). omega arith)
 
   -- what a walk of the slots asks for, from b bytes on

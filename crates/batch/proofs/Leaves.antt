@@ -30,7 +30,7 @@ set-same (y ∷ l) zero v h = ap (λ z. z ∷ l) (sym h)
 set-same (y ∷ l) (suc q) v h = ap (λ z. y ∷ z) (set-same l q v h)
 
 -- more entries need more bytes
-more-bytes : (at w p q : ℕ) → p ≤ q → at + w * p ≤ at + w * q
+pub more-bytes : (at w p q : ℕ) → p ≤ q → at + w * p ≤ at + w * q
 more-bytes at w p q h = let m : w * p ≤ w * q = mul-le-mul-left w h in omega arith
 
 leb-less : (q p l : ℕ) → q ≤ p → leb p l ≡ true → leb q l ≡ true
@@ -39,10 +39,10 @@ leb-less q p l h e = let g = leb-true p l e in le-leb q l (omega arith)
 module _ (x : Join) (k : ℕ) where
   -- ---- validity
 
-  pub maskFits : ℕ → ℕ → Bool
+  unfoldable pub maskFits : ℕ → ℕ → Bool
   maskFits slot n = cond (eqb (keepsOf (x .state) k) 0) true (cond (eqb (place x k 0) 0) true (leb (8 * place x k 1 + slot + n) (8 * length (x .body))))
 
-  pub maskZeros : ℕ → ℕ → ℕ
+  unfoldable pub maskZeros : ℕ → ℕ → ℕ
   maskZeros slot n = cond (eqb (keepsOf (x .state) k) 0) 0 (cond (eqb (place x k 0) 0) 0 (zeros (bitsAt (8 * place x k 1 + slot) n (x .body))))
 
   nothing-more : (c : List ℕ) → Counts c → addNulls k 0 c ≡ c
@@ -137,7 +137,7 @@ module _ (x : Join) (k : ℕ) where
     pub nothing : (o : ℕ) → amount o 0 ≡ 0
 
   -- by another name
-  pub data-as : (st : ℕ → ℕ → Bool) (f g : ℕ → ℕ → List ℕ → Out) → ((slot n : ℕ) (c : List ℕ) → f slot n c ≡ g slot n c) → DataCuts st g → DataCuts st f
+  unfoldable pub data-as : (st : ℕ → ℕ → Bool) (f g : ℕ → ℕ → List ℕ → Out) → ((slot n : ℕ) (c : List ℕ) → f slot n c ≡ g slot n c) → DataCuts st g → DataCuts st f
   data-as st f g e h =
       record {
         amount = h .amount;
@@ -156,7 +156,7 @@ module _ (x : Join) (k : ℕ) where
   no-bytes c v h = set-same c (3 * k + 2) v (sym h)
 
   -- entries of w bytes: numbers, keys, views
-  pub entries-cut : (st : ℕ → ℕ → Bool) (w : ℕ) (e : ℕ → ℕ → List ℕ → Entry) → DataCuts st (λ slot n c. need (rowsIn x (place x k 3) w slot n) 12 c (wrote (e slot n c) c))
+  unfoldable pub entries-cut : (st : ℕ → ℕ → Bool) (w : ℕ) (e : ℕ → ℕ → List ℕ → Entry) → DataCuts st (λ slot n c. need (rowsIn x (place x k 3) w slot n) 12 c (wrote (e slot n c) c))
   unfolding rowsIn
   entries-cut st w e =
       record {

@@ -7,4 +7,9 @@ pub mod Strings
 pub mod LeafNode
 pub mod LeafCuts
 pub mod ListViews
+pub mod Splices
+pub mod Windows
+pub mod Alike
+pub mod Contents
+pub mod LeafLogs
 pub mod Example

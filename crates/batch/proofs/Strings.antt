@@ -68,7 +68,7 @@ module _ (x : Join) (k w : ℕ) where
   extended-fits slot n b h =
       rw (le-ltb (off slot n) (off slot 0) (h .up), le-ltb (largest w) b (h .small), le-ltb (largest w) (b + (off slot n - off slot 0)) (h .last))
 
-  string-goes : (slot n : ℕ) (c : List ℕ) → (n ≡ 0 → ⊥) → Fit slot n (bytes c k) → Leaves (copyString x k w slot n c) (setBytes k (bytes c k + (off slot n - off slot 0)) c)
+  pub string-goes : (slot n : ℕ) (c : List ℕ) → (n ≡ 0 → ⊥) → Fit slot n (bytes c k) → Leaves (copyString x k w slot n c) (setBytes k (bytes c k + (off slot n - off slot 0)) c)
   unfolding copyString putString
   string-goes slot n c z h =
       rw (ne-eqb n 0 z, extended-fits slot n (bytes c k) h)
@@ -92,7 +92,7 @@ module _ (x : Join) (k w : ℕ) where
       let q : place x k 5 + off slot 0 + (bytes c k + (off slot n - off slot 0) - bytes c k) ≤ length (x .body) = leb-true _ _ (need-was _ 12 c _ (omega arith) h) in
       record { offsets = r; up = ltb-false _ _ e; small = ltb-false _ _ f; last = ltb-false _ _ g; chars = omega arith }
 
-  string-was : (slot n : ℕ) (c : List ℕ) → copyString x k w slot n c .ans ≡ 0 → (n ≡ 0 → ⊥) → Fit slot n (bytes c k)
+  pub string-was : (slot n : ℕ) (c : List ℕ) → copyString x k w slot n c .ans ≡ 0 → (n ≡ 0 → ⊥) → Fit slot n (bytes c k)
   unfolding copyString extended
   string-was slot n c h z =
       let g = rw (ne-eqb n 0 z) at h in
@@ -100,7 +100,7 @@ module _ (x : Join) (k w : ℕ) where
       put-was slot n c (ltb (off slot n) (off slot 0)) (ltb (largest w) (bytes c k)) (ltb (largest w) (bytes c k + (off slot n - off slot 0))) refl refl refl
       (rw (need-is 12 c _ r) at g) r
 
-  fit-first : (slot m s b : ℕ) → neverFalls w (x .body) (place x k 3 + w * slot) (m + s) ≡ true → Fit slot (m + s) b → Fit slot m b
+  pub fit-first : (slot m s b : ℕ) → neverFalls w (x .body) (place x k 3 + w * slot) (m + s) ≡ true → Fit slot (m + s) b → Fit slot m b
   unfolding rowsIn
   fit-first slot m s b t h =
       let a = rises w (x .body) (place x k 3 + w * slot) (m + s) t 0 m (omega arith) (omega arith) in
@@ -112,7 +112,7 @@ module _ (x : Join) (k w : ℕ) where
       let p : place x k 3 + w * (slot + suc m) ≤ length (x .body) = omega arith in
       record { offsets = le-leb _ _ p; up = a; small = h .small; last = omega arith; chars = omega arith }
 
-  fit-second : (slot m s b : ℕ) → neverFalls w (x .body) (place x k 3 + w * slot) (m + s) ≡ true → Fit slot (m + s) b → Fit (slot + m) s (b + (off slot m - off slot 0))
+  pub fit-second : (slot m s b : ℕ) → neverFalls w (x .body) (place x k 3 + w * slot) (m + s) ≡ true → Fit slot (m + s) b → Fit (slot + m) s (b + (off slot m - off slot 0))
   unfolding rowsIn
   fit-second slot m s b t h =
       let a = rises w (x .body) (place x k 3 + w * slot) (m + s) t 0 m (omega arith) (omega arith) in
@@ -125,7 +125,7 @@ module _ (x : Join) (k w : ℕ) where
       record { offsets = rw f at (h .offsets); up = omega arith; small = omega arith; last = omega arith; chars = omega arith }
 
   -- BYTE STRINGS, cut where offsets never fall
-  pub strings-cut : (st : ℕ → ℕ → Bool) → ((slot n : ℕ) → st slot n ≡ neverFalls w (x .body) (place x k 3 + w * slot) n) → largest w ≤ top → DataCuts x k st (λ slot n c. copyString x k w slot n c)
+  unfoldable pub strings-cut : (st : ℕ → ℕ → Bool) → ((slot n : ℕ) → st slot n ≡ neverFalls w (x .body) (place x k 3 + w * slot) n) → largest w ≤ top → DataCuts x k st (λ slot n c. copyString x k w slot n c)
   unfolding copyString
   strings-cut st is big =
       record {
