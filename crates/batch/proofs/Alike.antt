@@ -7,7 +7,7 @@ use native.Mathlib.Nat.{add-assoc}
 use native.Mathlib.Omega.{arith}
 use lib.ListN.{length, length-append}
 use lib.Dec.{eqb}
-use borrow.Author.Tests.{eqb-true}
+use borrow.Author.Tests.{eqb-true, ne-eqb}
 use Rattle.number.specs.Number.{splice}
 use Rattle.number.proofs.Laws.{splice-splice, splice-nil, length-splice}
 use Rattle.bits.specs.Bits.{putBits}
@@ -191,3 +191,13 @@ module _ (state parts : List ℕ) (M : ℕ) (K : ℕ → ℕ → Type 0) where
       go : (w : List ℕ) → Below 256 w → (A : Bool) → cond A (putBits p [] w) w ≡ w
       go w z true = put-nil p w z
       go w z false = refl
+
+  -- they leave the parts of other nodes
+  pub canon-off : (i b : ℕ) (t u : Bool) (k p0 : ℕ) (v0 : List ℕ) (p1 : ℕ) (v1 : List ℕ) (p2 : ℕ) (v2 w : List ℕ) → (i ≡ k → ⊥) → within i b (canon t u k p0 v0 p1 v1 p2 v2) w ≡ w
+  canon-off i b t u k p0 v0 p1 v1 p2 v2 w z = within-canon i b t u k p0 v0 p1 v1 p2 v2 w ∙ rw (ne-eqb i k z) (go t u)
+    where
+      go : (t u : Bool) → written (t && (false && eqb b 0)) (false && eqb b 1) (u && (false && eqb b 2)) p0 v0 p1 v1 p2 v2 w ≡ w
+      go true true = refl
+      go true false = refl
+      go false true = refl
+      go false false = refl

@@ -22,8 +22,8 @@ use Rattle.batch.proofs.Leaves.{maskZeros, mask-goes}
 use Rattle.batch.proofs.Contents.{keeps, bitsOf, mask-log, bits-long, bits-below, bits-cut, Logged, all, bare, DataLogs, Kind}
 use Rattle.batch.proofs.LeafNode.{st, leaf-kind, leaf-data, idle, data-is, masks, bytes-kept, Passes}
 use Rattle.batch.proofs.LeafCuts.{after, Range, good, range-first, range-second, range-none, after-after, after-none, after-bytes, after-counts}
-use Rattle.batch.proofs.Windows.{span, AllInside}
-use Rattle.batch.proofs.Alike.{lays, Alike, alike-refl, alike-is, alike-sym, alike-trans, alike-append, canon, Held, held-inside, lays-inside, canon-none, canon-cut, mask-none}
+use Rattle.batch.proofs.Windows.{span, within, AllInside}
+use Rattle.batch.proofs.Alike.{lays, Alike, alike-refl, alike-is, alike-sym, alike-trans, alike-append, canon, Held, held-inside, lays-inside, canon-none, canon-cut, canon-off, mask-none}
 
 no-length : (l : List ℕ) → length l ≡ 0 → l ≡ []
 no-length [] h = refl
@@ -258,3 +258,8 @@ module _ (x : Join) (M : ℕ) (K : ℕ → ℕ → Type 0) (body : Below 256 (x 
       let z = node-alike child o 0 c f r q in
       let H0 : Held (x .state) (x .parts) M K T U k (rows c k) [] (L .base (rows c k)) [] (bytes c k) [] = rw (b, n, d) at (held o 0 c f r q) in
       alike-trans (x .state) (x .parts) M K (rw (b, n, d) at z) (canon-none (x .state) (x .parts) M K T U k (rows c k) (L .base (rows c k)) (bytes c k) H0)
+
+  -- other nodes' parts are left
+  pub canonOf-off : (a n : ℕ) (c : List ℕ) (i b : ℕ) (w : List ℕ) → (i ≡ k → ⊥) → within i b (canonOf a n c) w ≡ w
+  canonOf-off a n c i b w z =
+      canon-off (x .state) (x .parts) M K i b T U k (rows c k) (bitsOf x k (at a) n) (L .base (rows c k)) (L .ones (at a) n (bytes c k)) (bytes c k) (L .chars (at a) n) w z

@@ -12,4 +12,7 @@ pub mod Windows
 pub mod Alike
 pub mod Contents
 pub mod LeafLogs
+pub mod StretchLogs
+pub mod LeafCutLogs
+pub mod ListLogs
 pub mod Example
