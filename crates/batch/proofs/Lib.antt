@@ -15,4 +15,5 @@ pub mod LeafLogs
 pub mod StretchLogs
 pub mod LeafCutLogs
 pub mod ListLogs
+pub mod Rising
 pub mod Example

@@ -1,4 +1,5 @@
 -- An order walked by stretches.
 pub mod Stretch
 pub mod Batch
+pub mod Rise
 pub mod Example
