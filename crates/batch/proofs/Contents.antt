@@ -98,11 +98,12 @@ module _ (x : Join) (k : ℕ) where
     all : l ≡ whole → Logged n l whole
     bare : n ≡ 0 → l ≡ [] → Logged n l whole
 
-  -- u: whether there is a second buffer
-  pub record DataLogs (st : ℕ → ℕ → Bool) (u : Bool) (f : ℕ → ℕ → List ℕ → Out) (cuts : DataCuts x k st f) : Type 1 where
+  -- u: whether there is a second buffer; first: the bytes of the first one
+  pub record DataLogs (st : ℕ → ℕ → Bool) (u : Bool) (first : ℕ → ℕ → ℕ) (f : ℕ → ℕ → List ℕ → Out) (cuts : DataCuts x k st f) : Type 1 where
     -- the bytes of a row in the first buffer, and where row r stands
     pub width : ℕ
     pub base : ℕ → ℕ
+    pub base-is : (r n : ℕ) → base r ≡ first r n
     pub base-more : (r n : ℕ) → base (r + n) ≡ base r + width * n
     pub ones : ℕ → ℕ → ℕ → List ℕ
     pub ones-long : Below 256 (x .body) → (slot n b : ℕ) → cuts .passes slot n b → length (ones slot n b) ≡ width * n
@@ -116,16 +117,17 @@ module _ (x : Join) (k : ℕ) where
         → Logged n (f slot n c .log) (put k 1 (base (rows c k)) (ones slot n (bytes c k)) ∷ lays u (put k 2 (bytes c k) (chars slot n)))
 
   -- entries of w bytes
-  pub entries-log : (st : ℕ → ℕ → Bool) (w : ℕ) (v : ℕ → ℕ → List ℕ)
+  pub entries-log : (st : ℕ → ℕ → Bool) (first : ℕ → ℕ → ℕ) (w : ℕ) → ((r n : ℕ) → r * w ≡ first r n) → (v : ℕ → ℕ → List ℕ)
       → (Below 256 (x .body) → (slot n : ℕ) → place x k 3 + w * (slot + n) ≤ length (x .body) → length (v slot n) ≡ w * n)
       → (Below 256 (x .body) → (slot n : ℕ) → Below 256 (v slot n))
       → ((slot m s : ℕ) → v slot (m + s) ≡ v slot m ++ v (slot + m) s)
-      → DataLogs st false (λ slot n c. need (rowsIn x (place x k 3) w slot n) 12 c (wrote (put k 1 (rows c k * w) (v slot n)) c)) (entries-cut x k st w (λ slot n c. put k 1 (rows c k * w) (v slot n)))
+      → DataLogs st false first (λ slot n c. need (rowsIn x (place x k 3) w slot n) 12 c (wrote (put k 1 (rows c k * w) (v slot n)) c)) (entries-cut x k st w (λ slot n c. put k 1 (rows c k * w) (v slot n)))
   unfolding entries-cut rowsIn need wrote
-  entries-log st w v long below cut =
+  entries-log st first w is v long below cut =
       record {
         width = w;
         base = λ r. r * w;
+        base-is = is;
         base-more = λ r n. let e = add-mul r n w in let g = mul-comm n w in omega arith;
         ones = λ slot n b. v slot n;
         ones-long = λ u slot n b h. long u slot n h;
@@ -187,7 +189,7 @@ module _ (x : Join) (k : ℕ) where
 
   -- ---- byte strings
 
-  module _ (w : ℕ) (st : ℕ → ℕ → Bool) (is : (slot n : ℕ) → st slot n ≡ neverFalls w (x .body) (place x k 3 + w * slot) n) (big : largest w ≤ top) where
+  module _ (w : ℕ) (st : ℕ → ℕ → Bool) (is : (slot n : ℕ) → st slot n ≡ neverFalls w (x .body) (place x k 3 + w * slot) n) (big : largest w ≤ top) (first : ℕ → ℕ → ℕ) (needs : (r n : ℕ) → suc r * w ≡ first r n) where
     abbrev O : ℕ → ℕ → ℕ
     O slot j = off x k w slot j
 
@@ -229,12 +231,13 @@ module _ (x : Join) (k : ℕ) where
         let g : leb (place x k 5 + O slot 0 + (O slot n - O slot 0)) (length (x .body)) ≡ true = le-leb _ _ (h .chars) in
         rw (ne-eqb n 0 z, extended-fits x k w slot n (bytes c k) h, h .offsets, e, g)
 
-    pub strings-log : DataLogs st true (λ slot n c. copyString x k w slot n c) (strings-cut x k w st is big)
+    pub strings-log : DataLogs st true first (λ slot n c. copyString x k w slot n c) (strings-cut x k w st is big)
     unfolding strings-cut copyString done movedOffsets
     strings-log =
         record {
           width = w;
           base = λ r. suc r * w;
+          base-is = needs;
           base-more = λ r n. let e = add-mul (suc r) n w in let g = mul-comm n w in let y : suc (r + n) ≡ suc r + n = omega arith in rw y (omega arith);
           ones = offsetsOf;
           ones-long = λ u slot n b h. length-numbers w _ n;
@@ -261,13 +264,13 @@ module _ (x : Join) (k : ℕ) where
 
   -- ---- both together
 
-  pub record Kind (st : ℕ → ℕ → Bool) (u : Bool) (f : ℕ → ℕ → List ℕ → Out) : Type 1 where
+  pub record Kind (st : ℕ → ℕ → Bool) (u : Bool) (first : ℕ → ℕ → ℕ) (f : ℕ → ℕ → List ℕ → Out) : Type 1 where
     pub cuts : DataCuts x k st f
-    pub logs : DataLogs st u f cuts
+    pub logs : DataLogs st u first f cuts
 
-  pub kind-as : (st : ℕ → ℕ → Bool) (u v : Bool) (f g : ℕ → ℕ → List ℕ → Out) → u ≡ v → ((slot n : ℕ) (c : List ℕ) → f slot n c ≡ g slot n c) → Kind st v g → Kind st u f
+  pub kind-as : (st : ℕ → ℕ → Bool) (u v : Bool) (first : ℕ → ℕ → ℕ) (f g : ℕ → ℕ → List ℕ → Out) → u ≡ v → ((slot n : ℕ) (c : List ℕ) → f slot n c ≡ g slot n c) → Kind st v first g → Kind st u first f
   unfolding data-as
-  kind-as st u v f g q e h =
+  kind-as st u v first f g q e h =
       rw q
       (record {
         cuts = data-as x k st f g e (h .cuts);
@@ -275,6 +278,7 @@ module _ (x : Join) (k : ℕ) where
             record {
               width = h .logs .width;
               base = h .logs .base;
+              base-is = h .logs .base-is;
               base-more = h .logs .base-more;
               ones = h .logs .ones;
               ones-long = h .logs .ones-long;
@@ -288,29 +292,29 @@ module _ (x : Join) (k : ℕ) where
             };
       })
 
-  pub numbers-kind : (st : ℕ → ℕ → Bool) (w : ℕ) → Kind st false (λ slot n c. need (rowsIn x (place x k 3) w slot n) 12 c (wrote (put k 1 (rows c k * w) (numbersOf w slot n)) c))
-  numbers-kind st w =
+  pub numbers-kind : (st : ℕ → ℕ → Bool) (first : ℕ → ℕ → ℕ) (w : ℕ) → ((r n : ℕ) → r * w ≡ first r n) → Kind st false first (λ slot n c. need (rowsIn x (place x k 3) w slot n) 12 c (wrote (put k 1 (rows c k * w) (numbersOf w slot n)) c))
+  numbers-kind st first w is =
       record {
         cuts = entries-cut x k st w (λ slot n c. put k 1 (rows c k * w) (numbersOf w slot n));
-        logs = entries-log st w (numbersOf w) (λ u slot n h. numbers-long w slot n h)
+        logs = entries-log st first w is (numbersOf w) (λ u slot n h. numbers-long w slot n h)
             (λ u slot n. below-take 256 (w * n) (drop (place x k 3 + w * slot) (x .body)) (below-drop 256 (place x k 3 + w * slot) (x .body) u)) (numbers-cut w);
       }
 
-  pub keys-kind : (st : ℕ → ℕ → Bool) (w : ℕ) → Kind st false (λ slot n c. need (rowsIn x (place x k 3) w slot n) 12 c (wrote (put k 1 (rows c k * w) (keysOf w slot n)) c))
-  keys-kind st w =
+  pub keys-kind : (st : ℕ → ℕ → Bool) (first : ℕ → ℕ → ℕ) (w : ℕ) → ((r n : ℕ) → r * w ≡ first r n) → Kind st false first (λ slot n c. need (rowsIn x (place x k 3) w slot n) 12 c (wrote (put k 1 (rows c k * w) (keysOf w slot n)) c))
+  keys-kind st first w is =
       record {
         cuts = entries-cut x k st w (λ slot n c. put k 1 (rows c k * w) (keysOf w slot n));
-        logs = entries-log st w (keysOf w) (λ u slot n h. keys-long w slot n)
+        logs = entries-log st first w is (keysOf w) (λ u slot n h. keys-long w slot n)
             (λ u slot n. below-of 256 (keysOf w slot n) (bytes-rebased w (x .body) (place x k 3 + w * slot) (baseOf (x .state) (x .source) k) n)) (keys-cut w);
       }
 
-  pub views-kind : (st : ℕ → ℕ → Bool) → Kind st false (λ slot n c. need (rowsIn x (place x k 3) 16 slot n) 12 c (wrote (put k 1 (rows c k * 16) (viewsOf slot n)) c))
-  views-kind st =
+  pub views-kind : (st : ℕ → ℕ → Bool) (first : ℕ → ℕ → ℕ) → ((r n : ℕ) → r * 16 ≡ first r n) → Kind st false first (λ slot n c. need (rowsIn x (place x k 3) 16 slot n) 12 c (wrote (put k 1 (rows c k * 16) (viewsOf slot n)) c))
+  views-kind st first is =
       record {
         cuts = entries-cut x k st 16 (λ slot n c. put k 1 (rows c k * 16) (viewsOf slot n));
-        logs = entries-log st 16 viewsOf views-long
+        logs = entries-log st first 16 is viewsOf views-long
             (λ u slot n. below-of 256 (viewsOf slot n) (bytes-reviewed (x .body) (place x k 3 + 16 * slot) (baseOf (x .state) (x .source) k) n (below-at 256 (x .body) (omega arith) u))) views-cut;
       }
 
-  pub strings-kind : (st : ℕ → ℕ → Bool) (w : ℕ) → ((slot n : ℕ) → st slot n ≡ neverFalls w (x .body) (place x k 3 + w * slot) n) → largest w ≤ top → Kind st true (λ slot n c. copyString x k w slot n c)
-  strings-kind st w is big = record { cuts = strings-cut x k w st is big; logs = strings-log w st is big }
+  pub strings-kind : (st : ℕ → ℕ → Bool) (w : ℕ) → ((slot n : ℕ) → st slot n ≡ neverFalls w (x .body) (place x k 3 + w * slot) n) → largest w ≤ top → (first : ℕ → ℕ → ℕ) → ((r n : ℕ) → suc r * w ≡ first r n) → Kind st true first (λ slot n c. copyString x k w slot n c)
+  strings-kind st w is big first needs = record { cuts = strings-cut x k w st is big; logs = strings-log w st is big first needs }

@@ -20,7 +20,7 @@ use Rattle.batch.proofs.Ends.{Leaves, leaves-done, leaves-next, need-is
 use Rattle.batch.proofs.Tally.{Counts, tally, tally-rows, tally-bytes}
 use Rattle.batch.proofs.Leaves.{maskZeros, mask-goes}
 use Rattle.batch.proofs.Contents.{keeps, bitsOf, mask-log, bits-long, bits-below, bits-cut, Logged, all, bare, DataLogs, Kind}
-use Rattle.batch.proofs.LeafNode.{st, leaf-kind, leaf-data, idle, data-is, masks, bytes-kept, Passes}
+use Rattle.batch.proofs.LeafNode.{st, firsts, leaf-kind, leaf-data, idle, data-is, masks, bytes-kept, Passes}
 use Rattle.batch.proofs.LeafCuts.{after, Range, good, range-first, range-second, range-none, after-after, after-none, after-bytes, after-counts}
 use Rattle.batch.proofs.Windows.{span, within, AllInside}
 use Rattle.batch.proofs.Alike.{lays, Alike, alike-refl, alike-is, alike-sym, alike-trans, alike-append, canon, Held, held-inside, lays-inside, canon-none, canon-cut, canon-off, mask-none}
@@ -36,7 +36,7 @@ module _ (x : Join) (M : ℕ) (K : ℕ → ℕ → Type 0) (body : Below 256 (x 
   abbrev U : Bool
   U = isString (codeOf (x .state) k)
 
-  abbrev L : DataLogs x k (st x k leaf) U (λ slot n c. copyData x (idle x k leaf) (codeOf (x .state) k) k slot n c) (leaf-data x k leaf)
+  abbrev pub L : DataLogs x k (st x k leaf) U (firsts x k leaf) (λ slot n c. copyData x (idle x k leaf) (codeOf (x .state) k) k slot n c) (leaf-data x k leaf)
   L = leaf-kind x k leaf .logs
 
   abbrev at : ℕ → ℕ

@@ -4,6 +4,7 @@ use mathlib.Core.Bool.{Bool, true, false, cond, _&&_}
 use mathlib.Core.List.{List}
 use Prim.Native.Nat.{ℕ, zero, suc, _+_, _*_, _≤_, _<_}
 use native.Mathlib.Nat.{add-zero, add-assoc}
+use native.Mathlib.Numerals.{add-one}
 use native.Mathlib.Omega.{arith}
 use lib.ListN.{length, getD, take, drop}
 use lib.Seq.{getD-set-other}
@@ -14,6 +15,8 @@ use Rattle.formats.specs.Code.{widthOf, between, isFixed, isString, isView, isL
 use Rattle.primitive.specs.Primitive.{rebased}
 use Rattle.byte_view.specs.View.{reviewed}
 use Rattle.utils.specs.Offsets.{largest}
+use Rattle.parts.specs.Parts.{neededBy}
+use Rattle.refinement.proofs.orders.Buffers.{needed-fixed, needed-offsets, needed-views}
 use Rattle.walk.specs.State.{Join, codeOf, dictionaryOf, bytesOf, baseOf, rows, nulls, bytes, top, grown, addRows, addNulls, setBytes, place, offsetOf, far, slotOf}
 use Rattle.walk.specs.Log.{Out, put, fail, done, wrote, need, found, next}
 use Rattle.walk.specs.Leaves.{copyMask, copyNumbers, copyKeys, copyViews, copyString}
@@ -108,20 +111,24 @@ module _ (x : Join) (k : ℕ) (leaf : isLeaf (codeOf (x .state) k) ≡ true) whe
   fixed-plain : isFixed C ≡ true → isString C ≡ false
   fixed-plain h = let b = between-high 1 10 C h in rw (lt-leb 11 C (omega arith))
 
-  pub leaf-kind : Kind x k st (isString C) (λ slot n c. copyData x idle C k slot n c)
+  -- the bytes of the first buffer
+  abbrev pub firsts : ℕ → ℕ → ℕ
+  firsts r n = neededBy C r n 1
+
+  pub leaf-kind : Kind x k st (isString C) firsts (λ slot n c. copyData x idle C k slot n c)
   unfolding copyData copyNumbers copyKeys copyViews
   leaf-kind = go (isFixed C) refl (eqb (dictionaryOf (x .state) k) 0) refl (isString C) refl (isView C) refl
     where
       go : (t : Bool) → isFixed C ≡ t → (d : Bool) → eqb (dictionaryOf (x .state) k) 0 ≡ d → (u : Bool) → isString C ≡ u → (v : Bool) → isView C ≡ v
-          → Kind x k st (isString C) (λ slot n c. copyData x idle C k slot n c)
+          → Kind x k st (isString C) firsts (λ slot n c. copyData x idle C k slot n c)
       go true e true f u g v h =
-          kind-as x k st (isString C) false _ (λ slot n c. copyNumbers x k W slot n c) (fixed-plain e) (λ slot n c. rw (e, f)) (numbers-kind x k st W)
+          kind-as x k st (isString C) false firsts _ (λ slot n c. copyNumbers x k W slot n c) (fixed-plain e) (λ slot n c. rw (e, f)) (numbers-kind x k st firsts W (λ r n. sym (needed-fixed C r n e)))
       go true e false f u g v h =
-          kind-as x k st (isString C) false _ (λ slot n c. copyKeys x k W slot n c) (fixed-plain e) (λ slot n c. rw (e, f)) (keys-kind x k st W)
+          kind-as x k st (isString C) false firsts _ (λ slot n c. copyKeys x k W slot n c) (fixed-plain e) (λ slot n c. rw (e, f)) (keys-kind x k st firsts W (λ r n. sym (needed-fixed C r n e)))
       go false e d f true g v h =
-          kind-as x k st (isString C) true _ (λ slot n c. copyString x k W slot n c) g (λ slot n c. rw (e, g)) (strings-kind x k st W (λ slot n. rw g) (string-width C g))
+          kind-as x k st (isString C) true firsts _ (λ slot n c. copyString x k W slot n c) g (λ slot n c. rw (e, g)) (strings-kind x k st W (λ slot n. rw g) (string-width C g) firsts (λ r n. sym (needed-offsets C r n g ∙ rw (add-one r) refl)))
       go false e d f false g true h =
-          kind-as x k st (isString C) false _ (λ slot n c. copyViews x k slot n c) g (λ slot n c. rw (e, g, h)) (views-kind x k st)
+          kind-as x k st (isString C) false firsts _ (λ slot n c. copyViews x k slot n c) g (λ slot n c. rw (e, g, h)) (views-kind x k st firsts (λ r n. sym (needed-views C r n h)))
       go false e d f false g false h = absurd (leaf-kinds C leaf e g h)
 
   abbrev pub leaf-data : DataCuts x k st (λ slot n c. copyData x idle C k slot n c)

@@ -16,4 +16,6 @@ pub mod StretchLogs
 pub mod LeafCutLogs
 pub mod ListLogs
 pub mod Rising
+pub mod ListWrites
+pub mod Owned
 pub mod Example

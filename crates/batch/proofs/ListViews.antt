@@ -17,7 +17,7 @@ use Rattle.walk.specs.Log.{Out, fail, done, wrote, need, found, next, each}
 use Rattle.walk.specs.Leaves.{copyMask}
 use Rattle.walk.specs.Copy.{Walk, masked, listViewRow, copyListView, copyData, copySlots, copyNode, copyWalk}
 use Rattle.batch.specs.Stretch.{sumOf, stretches}
-use Rattle.batch.specs.Batch.{isLeaf, batchLeaf, batchListView, batchData, batchSlots, batchNode, batchWalk}
+use Rattle.batch.specs.Batch.{isLeaf, owned, batchLeaf, batchListView, batchData, batchSlots, batchNode, batchWalk}
 use Rattle.batch.proofs.Ends.{Leaves, leaves-own, leaves-done, leaves-wrote, leaves-need, leaves-found, leaves-next, need-was, need-rest, wrote-rest, found-was, found-is, next-start, next-rest}
 use Rattle.batch.proofs.Tally.{Counts}
 use Rattle.batch.proofs.Stretches.{and-left, and-right, Cuts, stretches-each, stretch-shows}
@@ -65,8 +65,8 @@ module _ (x : Join) (below child : Walk) (w i slot : ℕ) (good : ℕ → ℕ �
   unfolding batchListView copyListView sumOf
   list-views-same n c f h =
       let l = leaves-own {o = batchListView x below w i slot n c} h in
-      let a = need-was (ltb (suc i) 32) 12 c _ (omega arith) (l .ok) in
-      let l1 = need-rest (ltb (suc i) 32) 12 c _ (omega arith) l in
+      let a = and-left (ltb (suc i) 32) (owned (x .state) i && owned (x .state) (suc i)) (need-was _ 12 c _ (omega arith) (l .ok)) in
+      let l1 = need-rest (ltb (suc i) 32 && (owned (x .state) i && owned (x .state) (suc i))) 12 c _ (omega arith) l in
       let b = need-was _ 12 c _ (omega arith) (l1 .ok) in
       let l2 = need-rest _ 12 c _ (omega arith) l1 in
       let t = ltb-true (rows c (suc i) + sumOf size n) (half w) (need-was _ 6 c _ (omega arith) (l2 .ok)) in
@@ -121,7 +121,7 @@ module _ (x : Join) (depth : ℕ) where
   unfolding batchListView batchLeaf
   child-leaf w i slot n c h =
       let l = leaves-own {o = batchListView x (batchLeaf x) w i slot n c} h in
-      let l1 = need-rest _ 12 c _ (omega arith) (need-rest (ltb (suc i) 32) 12 c _ (omega arith) l) in
+      let l1 = need-rest _ 12 c _ (omega arith) (need-rest (ltb (suc i) 32 && (owned (x .state) i && owned (x .state) (suc i))) 12 c _ (omega arith) l) in
       let l2 = wrote-rest _ c _ (wrote-rest _ c _ (need-rest _ 6 c _ (omega arith) l1)) in
       stretch-shows (λ a n c. batchLeaf x (suc i) a n c) _ _ (λ a m d g. need-was (isLeaf (codeOf (x .state) (suc i))) 12 d _ (omega arith) g) n 0 0 0 c (l2 .ok)
 

@@ -13,11 +13,16 @@ use Rattle.walk.specs.State.{Join, codeOf, bytesOf, rows, addRows, place, offse
 use Rattle.walk.specs.Log.{Out, put, fail, done, wrote, need, found, next}
 use Rattle.walk.specs.Leaves.{copyMask}
 use Rattle.walk.specs.Copy.{Walk, copyWalk, masked}
+use Rattle.parts.specs.Parts.{nodesOf, copied}
 use Rattle.batch.specs.Stretch.{sumOf, neverFalls, stretches}
 
 -- numbers, keys, byte strings and views: nodes that have no children
 abbrev pub isLeaf : ℕ → Bool
 isLeaf code = between 1 16 code
+
+-- the plan counts node i, and its buffers have parts
+abbrev pub owned : List ℕ → ℕ → Bool
+owned state i = ltb i (nodesOf state) && copied state i
 
 module _ (x : Join) where
   -- the rows a .. a + n - 1 of node k may be cut: the offsets of a byte string never fall, else a range cut is not that range
@@ -34,7 +39,7 @@ module _ (x : Join) where
     -- a list-view: "each row's new offset is the child's length before its copy", which is the sum of the sizes before it; 6 before all of it
     unfoldable pub batchListView : ℕ → ℕ → ℕ → ℕ → List ℕ → Out
     batchListView w i slot n c =
-        need (ltb (suc i) 32) 12 c
+        need (ltb (suc i) 32 && (owned (x .state) i && owned (x .state) (suc i))) 12 c
         (need (rowsIn x (place x i 3) w slot n && rowsIn x (place x i 5) w slot n) 12 c
         (need (ltb (rows c (suc i) + sumOf (λ r. entry w (x .body) (place x i 5) (slot + r)) n) (half w)) 6 c
         (next (wrote (put i 1 (rows c i * w) (numbers w (λ r. rows c (suc i) + sumOf (λ q. entry w (x .body) (place x i 5) (slot + q)) r) n)) c)

@@ -1,6 +1,6 @@
 -- A sliced list-view of numbers, five of its rows copied by stretches: rows 2 2, 0 0 (a null), 4 1, 5 0 and 1 3 of the child are the stretches
 -- 2 3 and 1 3. Assumes nothing.
-use mathlib.Core.List.{List, [], _∷_}
+use mathlib.Core.List.{List, [], _∷_, _++_}
 use Prim.Native.Nat.{ℕ}
 use lib.ListN.{replicate}
 use Rattle.walk.specs.State.{Join}
@@ -11,7 +11,7 @@ use Rattle.batch.specs.Batch.{batchWalk}
 abbrev pub sliced : Join
 sliced =
     record {
-      state = 17 ∷ 0 ∷ 2 ∷ 0 ∷ 0 ∷ 0 ∷ 0 ∷ 0 ∷ 3 ∷ 0 ∷ 2 ∷ 0 ∷ 0 ∷ 1 ∷ 3 ∷ 0 ∷ [];
+      state = (17 ∷ 0 ∷ 2 ∷ 0 ∷ 0 ∷ 0 ∷ 0 ∷ 0 ∷ 3 ∷ 0 ∷ 2 ∷ 0 ∷ 0 ∷ 1 ∷ 3 ∷ 0 ∷ []) ++ replicate 849 0 ++ (2 ∷ []);
       parts = 0 ∷ 24 ∷ 24 ∷ 24 ∷ 48 ∷ 2 ∷ 50 ∷ 16 ∷ [];
       lengths = 6 ∷ 1 ∷ 9 ∷ 1 ∷ [];
       places = 0 ∷ 0 ∷ 0 ∷ 0 ∷ 0 ∷ 28 ∷ 0 ∷ 0 ∷ 0 ∷ 1 ∷ 56 ∷ 0 ∷ 58 ∷ 0 ∷ 0 ∷ 0 ∷ 0 ∷ 0 ∷ [];
