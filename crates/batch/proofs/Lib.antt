@@ -18,4 +18,5 @@ pub mod ListLogs
 pub mod Rising
 pub mod ListWrites
 pub mod Owned
+pub mod Writes
 pub mod Example

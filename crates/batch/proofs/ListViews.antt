@@ -109,7 +109,7 @@ module _ (x : Join) (i : ℕ) (small : i < 32) where
   mask-counts false slot n c d f l = subst Counts (l .left) f
 
 module _ (x : Join) (depth : ℕ) where
-  list-data : (depth i slot n : ℕ) (c : List ℕ) → isListView (codeOf (x .state) i) ≡ true
+  pub list-data : (depth i slot n : ℕ) (c : List ℕ) → isListView (codeOf (x .state) i) ≡ true
       → copyData x (copyWalk x depth) (codeOf (x .state) i) i slot n c ≡ copyListView x (copyWalk x depth) (bytesOf (x .state) i) i slot n c
   unfolding copyData
   list-data depth i slot n c h =
@@ -117,7 +117,7 @@ module _ (x : Join) (depth : ℕ) where
       rw (above 1 10 (codeOf (x .state) i) (omega arith), above 11 14 (codeOf (x .state) i) (omega arith), above 15 16 (codeOf (x .state) i) (omega arith), h)
 
   -- the child is a node without children
-  child-leaf : (w i slot n : ℕ) (c : List ℕ) → batchListView x (batchLeaf x) w i slot n c .ans ≡ 0 → isLeaf (codeOf (x .state) (suc i)) ≡ true
+  pub child-leaf : (w i slot n : ℕ) (c : List ℕ) → batchListView x (batchLeaf x) w i slot n c .ans ≡ 0 → isLeaf (codeOf (x .state) (suc i)) ≡ true
   unfolding batchListView batchLeaf
   child-leaf w i slot n c h =
       let l = leaves-own {o = batchListView x (batchLeaf x) w i slot n c} h in
@@ -125,7 +125,7 @@ module _ (x : Join) (depth : ℕ) where
       let l2 = wrote-rest _ c _ (wrote-rest _ c _ (need-rest _ 6 c _ (omega arith) l1)) in
       stretch-shows (λ a n c. batchLeaf x (suc i) a n c) _ _ (λ a m d g. need-was (isLeaf (codeOf (x .state) (suc i))) 12 d _ (omega arith) g) n 0 0 0 c (l2 .ok)
 
-  data-same : (i slot n : ℕ) (c : List ℕ) → Counts c → batchData x (batchLeaf x) (codeOf (x .state) i) i slot n c .ans ≡ 0
+  pub data-same : (i slot n : ℕ) (c : List ℕ) → Counts c → batchData x (batchLeaf x) (codeOf (x .state) i) i slot n c .ans ≡ 0
       → Leaves (copyData x (copyWalk x (suc depth)) (codeOf (x .state) i) i slot n c) (batchData x (batchLeaf x) (codeOf (x .state) i) i slot n c .counts)
   unfolding batchData fail copyWalk
   data-same i slot n c f = go (isListView (codeOf (x .state) i)) refl
@@ -138,7 +138,7 @@ module _ (x : Join) (depth : ℕ) where
           (list-views-same x (batchLeaf x) (copyWalk x (suc depth)) (bytesOf (x .state) i) i slot (good x (suc i) q) (leaf-cuts x (suc i) q (copyWalk x depth)) (list-view-width (codeOf (x .state) i) e) n c f h)
       go false e h = let z : _≡_ {A = ℕ} 12 0 = h in absurd (omega arith)
 
-  slots-same : (i slot n : ℕ) (c : List ℕ) → i < 32 → Counts c → batchSlots x (batchLeaf x) i slot n c .ans ≡ 0
+  pub slots-same : (i slot n : ℕ) (c : List ℕ) → i < 32 → Counts c → batchSlots x (batchLeaf x) i slot n c .ans ≡ 0
       → Leaves (copySlots x (copyWalk x (suc depth)) i slot n c) (batchSlots x (batchLeaf x) i slot n c .counts)
   unfolding batchSlots copySlots done
   slots-same i slot n c s f h =

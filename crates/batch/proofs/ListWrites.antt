@@ -57,7 +57,7 @@ module _ (x : Join) (M : ℕ) (K : ℕ → ℕ → Type 0) (below child : Walk) 
     pub t3 : fits n c ≡ true
     pub left : Leaves (by n c) (batchListView x below w i slot n c .counts)
 
-  tested : (n : ℕ) (c : List ℕ) → batchListView x below w i slot n c .ans ≡ 0 → Tests n c
+  pub tested : (n : ℕ) (c : List ℕ) → batchListView x below w i slot n c .ans ≡ 0 → Tests n c
   unfolding batchListView
   tested n c h =
       let l = leaves-own {o = batchListView x below w i slot n c} h in
