@@ -19,4 +19,5 @@ pub mod Rising
 pub mod ListWrites
 pub mod Owned
 pub mod Writes
+pub mod Dense
 pub mod Example

@@ -116,3 +116,40 @@ module _ (k : ℕ) (small : k < 32) (c : List ℕ) (f : Counts c) where
       counters-same k (tally k m y e one) (tally k (n + m) (z + y) (d + e) c)
       (tally-long k m y e one ∙ tally-long k n z d c ∙ sym (tally-long k (n + m) (z + y) (d + e) c)) (omega arith) (omega arith) (omega arith)
       (λ q g. tally-else k m y e one q g ∙ tally-else k n z d c q g ∙ sym (tally-else k (n + m) (z + y) (d + e) c q g))
+
+-- two nodes, either first
+pub tally-swap : (k h : ℕ) → k < 32 → h < 32 → (h ≡ k → ⊥) → (c : List ℕ) → length c ≡ 96 → (n z d m y e : ℕ)
+    → tally k n z d (tally h m y e c) ≡ tally h m y e (tally k n z d c)
+tally-swap k h a b ne c l n z d m y e =
+    ext-getD 0 (tally k n z d H) (tally h m y e L)
+    (tally-long k n z d H ∙ tally-long h m y e c ∙ sym (tally-long h m y e L ∙ tally-long k n z d c))
+    (λ q u. at-node k q (λ p. getD (tally k n z d H) p 0 ≡ getD (tally h m y e L) p 0)
+    (tally-rows k n z d H lh a ∙ ap (λ v. grown v n) (tally-else h m y e c (3 * k) o0) ∙ sym (tally-else h m y e L (3 * k) o0 ∙ tally-rows k n z d c l a))
+    (tally-nulls k n z d H lh a ∙ ap (λ v. grown v z) (tally-else h m y e c (3 * k + 1) o1) ∙ sym (tally-else h m y e L (3 * k + 1) o1 ∙ tally-nulls k n z d c l a))
+    (tally-bytes k n z d H lh a ∙ ap (λ v. v + d) (tally-else h m y e c (3 * k + 2) o2) ∙ sym (tally-else h m y e L (3 * k + 2) o2 ∙ tally-bytes k n z d c l a))
+    (λ g. at-node h q (λ p. Else k p → getD (tally k n z d H) p 0 ≡ getD (tally h m y e L) p 0)
+    (λ f. tally-else k n z d H (3 * h) f ∙ tally-rows h m y e c l b ∙ sym (tally-rows h m y e L ll b ∙ ap (λ v. grown v m) (tally-else k n z d c (3 * h) f)))
+    (λ f. tally-else k n z d H (3 * h + 1) f ∙ tally-nulls h m y e c l b ∙ sym (tally-nulls h m y e L ll b ∙ ap (λ v. grown v y) (tally-else k n z d c (3 * h + 1) f)))
+    (λ f. tally-else k n z d H (3 * h + 2) f ∙ tally-bytes h m y e c l b ∙ sym (tally-bytes h m y e L ll b ∙ ap (λ v. v + e) (tally-else k n z d c (3 * h + 2) f)))
+    (λ i f. tally-else k n z d H q f ∙ tally-else h m y e c q i ∙ sym (tally-else h m y e L q i ∙ tally-else k n z d c q f)) g))
+  where
+    H : List ℕ
+    H = tally h m y e c
+
+    L : List ℕ
+    L = tally k n z d c
+
+    lh : length H ≡ 96
+    lh = tally-long h m y e c ∙ l
+
+    ll : length L ≡ 96
+    ll = tally-long k n z d c ∙ l
+
+    o0 : Else h (3 * k)
+    o0 = (λ (q : 3 * k ≡ 3 * h). ne (omega arith), λ (q : 3 * k ≡ 3 * h + 1). omega arith, λ (q : 3 * k ≡ 3 * h + 2). omega arith)
+
+    o1 : Else h (3 * k + 1)
+    o1 = (λ (q : 3 * k + 1 ≡ 3 * h). omega arith, λ (q : 3 * k + 1 ≡ 3 * h + 1). ne (omega arith), λ (q : 3 * k + 1 ≡ 3 * h + 2). omega arith)
+
+    o2 : Else h (3 * k + 2)
+    o2 = (λ (q : 3 * k + 2 ≡ 3 * h). omega arith, λ (q : 3 * k + 2 ≡ 3 * h + 1). omega arith, λ (q : 3 * k + 2 ≡ 3 * h + 2). ne (omega arith))
