@@ -20,4 +20,5 @@ pub mod ListWrites
 pub mod Owned
 pub mod Writes
 pub mod Dense
+pub mod DenseAnswers
 pub mod Example
