@@ -62,7 +62,7 @@ module _ (x : Join) (child : Walk) where
       step-counts a n c d f l = leaf-cuts x k leaf child .step a n c d f l .0
 
       -- a walk at another node may go before a child's rows
-      rows-swap : (h : ℕ) → Leaf h → (h ≡ k → ⊥) → (b m n r : ℕ) (c d e : List ℕ) → Counts c → Leaves (each (ofChild k) n r c) d → Leaves (kid h b m d) e
+      pub rows-swap : (h : ℕ) → Leaf h → (h ≡ k → ⊥) → (b m n r : ℕ) (c d e : List ℕ) → Counts c → Leaves (each (ofChild k) n r c) d → Leaves (kid h b m d) e
           → Leaves (kid h b m c) (kid h b m c .counts) × Leaves (each (ofChild k) n r (kid h b m c .counts)) e
       unfolding each done
       rows-swap h q ne b m zero r c d e f l g =

@@ -21,4 +21,5 @@ pub mod Owned
 pub mod Writes
 pub mod Dense
 pub mod DenseAnswers
+pub mod DenseLogs
 pub mod Example
