@@ -70,7 +70,7 @@ module _ (x : Join) (M : ℕ) (K : ℕ → ℕ → Type 0) (body : Below 256 (x 
         chars = λ t. (h .chars t .0, rw g at (h .chars t .1));
       }
 
-  left-is : (k : ℕ) (p : Leaf k) (a n : ℕ) (c d : List ℕ) → Counts c → Leaves (kid k a n c) d → d ≡ after x k p a n c
+  pub left-is : (k : ℕ) (p : Leaf k) (a n : ℕ) (c d : List ℕ) → Counts c → Leaves (kid k a n c) d → d ≡ after x k p a n c
   left-is k p a n c d f l = sym (l .left) ∙ node-goes x k p child a n c f (node-was x k p child a n c f (l .ok)) .left
 
   like : (k : ℕ) (p : Leaf k) (a n : ℕ) (c d : List ℕ) → Counts c → Leaves (kid k a n c) d → R k p d → Al (kid k a n c .log) (canonOf x M K body k p a n c)

@@ -22,4 +22,5 @@ pub mod Writes
 pub mod Dense
 pub mod DenseAnswers
 pub mod DenseLogs
+pub mod DenseWithin
 pub mod Example
