@@ -59,19 +59,19 @@ module _ (x : Join) (depth i slot N : ℕ) where
 
   -- one child
   module _ (k : ℕ) (c d : List ℕ) (f : Counts c) (l : Leaves (stretches (λ a m e. batchLeaf x k a m e) (takesAt x (batchLeaf x) i slot k) (takes x (batchLeaf x) i slot k) N c) d) where
-    child-leaf : Leaf k
+    pub child-leaf : Leaf k
     unfolding batchLeaf
     child-leaf = stretch-shows (λ a m e. batchLeaf x k a m e) (takesAt x (batchLeaf x) i slot k) (takes x (batchLeaf x) i slot k) (λ a m e g. need-was (isLeaf (codeOf S k)) 12 e _ (omega arith) g) N 0 0 0 c (l .ok)
 
-    abbrev cuts : Cuts k (good x k child-leaf) (λ a n c. batchLeaf x k a n c) (λ a n c. copyNode x kids k a n c)
+    abbrev pub cuts : Cuts k (good x k child-leaf) (λ a n c. batchLeaf x k a n c) (λ a n c. copyNode x kids k a n c)
     cuts = leaf-cuts x k child-leaf kids
 
-    child-rows : Leaves (each (ofChild x kids H P k) N 0 c) d
+    pub child-rows : Leaves (each (ofChild x kids H P k) N 0 c) d
     child-rows =
         let q = stretches-each k (good x k child-leaf) (λ a n c. batchLeaf x k a n c) (λ a n c. copyNode x kids k a n c) cuts (takesAt x (batchLeaf x) i slot k) (takes x (batchLeaf x) i slot k) N c f (l .ok) in
         record { ok = q .ok; left = q .left ∙ l .left }
 
-    child-empty : (e : List ℕ) → Counts e → Leaves (copyNode x kids k 0 0 e) e
+    pub child-empty : (e : List ℕ) → Counts e → Leaves (copyNode x kids k 0 0 e) e
     child-empty e g =
         let t = stretch-meets k (good x k child-leaf) (λ a n c. batchLeaf x k a n c) (λ a n c. copyNode x kids k a n c) cuts (takesAt x (batchLeaf x) i slot k) (takes x (batchLeaf x) i slot k) N 0 0 0 c f (l .ok) in
         cuts .none 0 0 0 c e f g (t .0) (omega arith) .1
@@ -83,14 +83,14 @@ module _ (x : Join) (depth i slot N : ℕ) where
         let o : Out = ofChild x kids H P k r b in
         many n (suc r) (o .counts) e (cuts .step _ _ b (o .counts) g (next-start o (λ z. each (ofChild x kids H P k) n (suc r) z) m) .0) (next-rest o (λ z. each (ofChild x kids H P k) n (suc r) z) m)
 
-    child-counts : Counts d
+    pub child-counts : Counts d
     child-counts = many N 0 c d f child-rows
 
   -- all children from node k on
-  abbrev Found : ℕ → ℕ → (ℕ → Bool) → Type 0
+  abbrev pub Found : ℕ → ℕ → (ℕ → Bool) → Type 0
   Found f k left = (r : ℕ) → r < N → left r ≡ true → (H r < 32) × (H r ≡ childWith S (ID r) (endOf S i) f k)
 
-  abbrev Result : (ℕ → Bool) → List ℕ → List ℕ → Type 0
+  abbrev pub Result : (ℕ → Bool) → List ℕ → List ℕ → Type 0
   Result left c d = Leaves (each (ofLeft x kids H P left) N 0 c) d × ((r : ℕ) → r < N → left r ≡ true → Leaf (H r))
 
   ended : (left : ℕ → Bool) (c d : List ℕ) → ((r : ℕ) → r < N → left r ≡ true → H r ≡ 32) → ((r : ℕ) → r < N → left r ≡ true → H r < 32) → c ≡ d → Result left c d
@@ -106,10 +106,10 @@ module _ (x : Join) (depth i slot N : ℕ) where
   module _ (f k : ℕ) (left : ℕ → Bool) (c d : List ℕ) (fc : Counts c) (rises : k < endOf S k) (gone : (r : ℕ) → r < N → left r ≡ false → H r < k)
       (here : (r : ℕ) → r < N → left r ≡ true → (H r < 32) × (H r ≡ cond (eqb (idOf S k) (ID r)) k (childWith S (ID r) (endOf S i) f (endOf S k))))
       (c2 : List ℕ) (one : Leaves (stretches (λ a m e. batchLeaf x k a m e) (takesAt x (batchLeaf x) i slot k) (takes x (batchLeaf x) i slot k) N c) c2) where
-    abbrev fewer : ℕ → Bool
+    abbrev pub fewer : ℕ → Bool
     fewer r = left r && not (eqb (H r) k)
 
-    gone2 : (r : ℕ) → r < N → fewer r ≡ false → H r < endOf S k
+    pub gone2 : (r : ℕ) → r < N → fewer r ≡ false → H r < endOf S k
     gone2 r l h = go (left r) refl (eqb (H r) k) refl h
       where
         go : (t : Bool) → left r ≡ t → (u : Bool) → eqb (H r) k ≡ u → (t && not u) ≡ false → H r < endOf S k
@@ -120,7 +120,7 @@ module _ (x : Join) (depth i slot N : ℕ) where
     still : (r : ℕ) → fewer r ≡ true → (left r ≡ true) × (H r ≡ k → ⊥)
     still r h = (and-left (left r) (not (eqb (H r) k)) h, eqb-false (H r) k (not-bool (eqb (H r) k) (and-right (left r) (not (eqb (H r) k)) h)))
 
-    here2 : Found f (endOf S k) fewer
+    pub here2 : Found f (endOf S k) fewer
     here2 r l h =
         let s = still r h in
         let t = here r l (s .0) in

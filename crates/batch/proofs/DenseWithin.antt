@@ -61,7 +61,7 @@ module _ (x : Join) (M : ℕ) (K : ℕ → ℕ → Type 0) (body : Below 256 (x 
         ap (λ y. bytes y k) (left-is x M K body child k p a n c d f l) ∙ tally-bytes k n z m c (f .long) (r .node) ∙ ap (λ v. v + m) (e .1) ∙ sym (ap (λ y. bytes y k) (left-is x M K body child k p a n c2 d2 f2 l2) ∙ tally-bytes k n z m c2 (f2 .long) (r2 .node)),
       )
 
-  kid-before : (k : ℕ) (p : Leaf k) (a n : ℕ) (c d : List ℕ) → Counts c → Leaves (kid k a n c) d → R k p d → R k p c
+  pub kid-before : (k : ℕ) (p : Leaf k) (a n : ℕ) (c d : List ℕ) → Counts c → Leaves (kid k a n c) d → R k p d → R k p c
   kid-before k p a n c d f l h = roomy-before x M K body k p a n c f (node-was x k p child a n c f (l .ok)) (rw (left-is x M K body child k p a n c d f l) at h)
 
   module _ (home pos : ℕ → ℕ) (N : ℕ) (leafs : (r : ℕ) → r < N → Leaf (home r)) where
@@ -123,7 +123,7 @@ module _ (x : Join) (M : ℕ) (K : ℕ → ℕ → Type 0) (body : Below 256 (x 
       abbrev Own : ℕ → ℕ → List ℕ → Out
       Own n r c = each (ofChild x child home pos j) n r c
 
-      own-before : (n r : ℕ) (c d : List ℕ) → Counts c → Leaves (Own n r c) d → R j p d → R j p c
+      pub own-before : (n r : ℕ) (c d : List ℕ) → Counts c → Leaves (Own n r c) d → R j p d → R j p c
       unfolding each done
       own-before zero r c d f l h = rw (l .left) h
       own-before (suc n) r c d f l h =

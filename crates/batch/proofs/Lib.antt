@@ -23,4 +23,5 @@ pub mod Dense
 pub mod DenseAnswers
 pub mod DenseLogs
 pub mod DenseWithin
+pub mod DenseFields
 pub mod Example
