@@ -69,7 +69,7 @@ module _ (x : Join) (M : ℕ) (K : ℕ → ℕ → Type 0) (body : Below 256 (x 
     Rows n r c = each (pure x child home pos) n r c
 
     -- counters before hold less, at every node
-    rows-before : (j : ℕ) (p : Leaf j) (n r : ℕ) (c d : List ℕ) → r + n ≤ N → Counts c → Leaves (Rows n r c) d → R j p d → R j p c
+    pub rows-before : (j : ℕ) (p : Leaf j) (n r : ℕ) (c d : List ℕ) → r + n ≤ N → Counts c → Leaves (Rows n r c) d → R j p d → R j p c
     unfolding each done
     rows-before j p zero r c d s f l h = rw (l .left) h
     rows-before j p (suc n) r c d s f l h =

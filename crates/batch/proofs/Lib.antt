@@ -24,4 +24,5 @@ pub mod DenseAnswers
 pub mod DenseLogs
 pub mod DenseWithin
 pub mod DenseFields
+pub mod DenseWrites
 pub mod Example

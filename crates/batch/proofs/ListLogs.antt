@@ -110,7 +110,7 @@ module _ (state parts : List ℕ) (M : ℕ) (K : ℕ → ℕ → Type 0) where
         }
 
   -- two writes of nothing
-  puts-none : (i p q : ℕ) → AllInside state parts M K (put i 1 p [] ∷ put i 2 q [] ∷ []) → Al (put i 1 p [] ∷ put i 2 q [] ∷ []) []
+  pub puts-none : (i p q : ℕ) → AllInside state parts M K (put i 1 p [] ∷ put i 2 q [] ∷ []) → Al (put i 1 p [] ∷ put i 2 q [] ∷ []) []
   unfolding within AllInside
   puts-none i p q h = record { one = h; two = tt; same = λ j b y w u. go w (eqb j i && eqb b 1) (eqb j i && eqb b 2) }
     where
