@@ -37,7 +37,7 @@ use Rattle.batch.proofs.DenseLogs.{log-self, log-off}
 use Rattle.batch.proofs.DenseWithin.{kid-counts, kid-else, rows-before, rows-inside}
 
 -- bytes one behind the other are those bytes
-bytes-are : (from n : ℕ) (s : List ℕ) → from + n ≤ length s → take n (drop from s) ≡ pieces (λ j. getD s (from + j) 0 ∷ []) n
+pub bytes-are : (from n : ℕ) (s : List ℕ) → from + n ≤ length s → take n (drop from s) ≡ pieces (λ j. getD s (from + j) 0 ∷ []) n
 unfolding pieces
 bytes-are from zero s h = refl
 bytes-are from (suc n) s h =
@@ -78,6 +78,31 @@ module _ (x : Join) (depth i slot N : ℕ) where
           pick ih up true h = omega arith
           pick ih up false h = let a = ih h in omega arith
 
+  -- .. and the plan counts them
+  homes-owned : (f k : ℕ) (c d : List ℕ) → Leaves (batchFields x (batchLeaf x) i slot N (endOf S i) f k c) d → (id : ℕ) → childWith S id (endOf S i) f k < 32 → owned S (childWith S id (endOf S i) f k) ≡ true
+  unfolding batchFields childWith
+  homes-owned zero k c d l id h = absurd (omega arith)
+  homes-owned (suc f) k c d l id h = go (λ c l id h. homes-owned f (endOf S k) c d l id h) (ltb k (endOf S i)) l h
+    where
+      go : ((c : List ℕ) → Leaves (batchFields x (batchLeaf x) i slot N (endOf S i) f (endOf S k) c) d → (id : ℕ) → childWith S id (endOf S i) f (endOf S k) < 32 → owned S (childWith S id (endOf S i) f (endOf S k)) ≡ true) → (t : Bool)
+          → Leaves (cond t (need (ltb k (endOf S k) && owned S k) 12 c (next (stretches (λ a m e. batchLeaf x k a m e) (takesAt x (batchLeaf x) i slot k) (takes x (batchLeaf x) i slot k) N c) (λ c2. batchFields x (batchLeaf x) i slot N (endOf S i) f (endOf S k) c2))) (done c)) d
+          → cond t (cond (eqb (idOf S k) id) k (childWith S id (endOf S i) f (endOf S k))) 32 < 32 → owned S (cond t (cond (eqb (idOf S k) id) k (childWith S id (endOf S i) f (endOf S k))) 32) ≡ true
+      go ih false l h = absurd (omega arith)
+      go ih true l h =
+          let o : Out = stretches (λ a m e. batchLeaf x k a m e) (takesAt x (batchLeaf x) i slot k) (takes x (batchLeaf x) i slot k) N c in
+          let on : List ℕ → Out = λ c2. batchFields x (batchLeaf x) i slot N (endOf S i) f (endOf S k) c2 in
+          let t = need-was (ltb k (endOf S k) && owned S k) 12 c (next o on) (omega arith) (l .ok) in
+          let l1 = need-rest (ltb k (endOf S k) && owned S k) 12 c (next o on) (omega arith) l in
+          pick (ih (o .counts) (next-rest o on l1) id) (and-right (ltb k (endOf S k)) _ t) (eqb (idOf S k) id) h
+        where
+          pick : (childWith S id (endOf S i) f (endOf S k) < 32 → owned S (childWith S id (endOf S i) f (endOf S k)) ≡ true) → owned S k ≡ true → (u : Bool) → cond u k (childWith S id (endOf S i) f (endOf S k)) < 32
+              → owned S (cond u k (childWith S id (endOf S i) f (endOf S k))) ≡ true
+          pick ih up true h = up
+          pick ih up false h = ih h
+
+  pub homes-own : (c d : List ℕ) → Leaves (batchFields x (batchLeaf x) i slot N (endOf S i) 32 (suc i) c) d → (r : ℕ) → H r < 32 → owned S (H r) ≡ true
+  homes-own c d l r h = homes-owned 32 (suc i) c d l (idAt x (batchLeaf x) i (slot + r)) h
+
   pub homes-behind : (c d : List ℕ) → Leaves (batchFields x (batchLeaf x) i slot N (endOf S i) 32 (suc i) c) d → (r : ℕ) → H r < 32 → H r ≡ i → ⊥
   homes-behind c d l r h e = let a = homes-up 32 (suc i) c d l (idAt x (batchLeaf x) i (slot + r)) h in omega arith
 
@@ -98,7 +123,7 @@ module _ (x : Join) (depth i slot N : ℕ) where
   abbrev Rows : ℕ → ℕ → List ℕ → Out
   Rows n r c = each (pure x kids H P) n r c
 
-  abbrev copied : ℕ → List ℕ → Out
+  abbrev pub copied : ℕ → List ℕ → Out
   copied r c = denseRow x (copyWalk x (suc depth)) i slot r c
 
   row-log : (r : ℕ) (c : List ℕ) → H r < 32 → rows c (H r) < half 4

@@ -25,4 +25,5 @@ pub mod DenseLogs
 pub mod DenseWithin
 pub mod DenseFields
 pub mod DenseWrites
+pub mod DenseWhole
 pub mod Example
