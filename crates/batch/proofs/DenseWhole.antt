@@ -21,7 +21,7 @@ use Rattle.walk.specs.Copy.{Walk, childWith, idAt, positionAt, denseRow, copyDe
 use Rattle.batch.specs.Stretch.{sumOf}
 use Rattle.batch.specs.Batch.{isLeaf, owned, batchLeaf}
 use Rattle.batch.specs.Dense.{home, takes, landsAt, batchFields, batchDense}
-use Rattle.batch.proofs.Ends.{Leaves, leaves-own, need-was, need-rest, wrote-rest}
+use Rattle.batch.proofs.Ends.{Leaves, leaves-own, need-was, need-rest, wrote-rest, next-start, next-rest}
 use Rattle.batch.proofs.Tally.{Counts}
 use Rattle.batch.proofs.Stretches.{and-left, and-right}
 use Rattle.batch.proofs.Windows.{span, within, AllInside}
@@ -29,7 +29,7 @@ use Rattle.batch.proofs.Alike.{Window, Alike, alike-refl, alike-sym, al
 use Rattle.batch.proofs.LeafLogs.{Roomy}
 use Rattle.batch.proofs.Dense.{pure}
 use Rattle.batch.proofs.DenseAnswers.{Result, fields-same}
-use Rattle.batch.proofs.DenseWithin.{rows-inside}
+use Rattle.batch.proofs.DenseWithin.{kid-counts, rows-inside}
 use Rattle.batch.proofs.DenseFields.{Said, said}
 use Rattle.batch.proofs.DenseWrites.{bytes-are, homes-own, homes-behind, copied, rows-write}
 
@@ -92,14 +92,31 @@ module _ (x : Join) (depth i slot N : ℕ) (c : List ℕ) (f : Counts c) where
     unfolding copyDense need
     copy-log = rw (t .t2)
 
-    module _ (M : ℕ) (K : ℕ → ℕ → Type 0) (body : Below 256 (x .body)) (rooms : (k : ℕ) (p : isLeaf (codeOf S k) ≡ true) → owned S k ≡ true → Roomy x M K body k p F) (k1 : K i 1) (k2 : K i 2)
-        (room1 : rows c i + N ≤ span S (x .parts) M K i 1) (room2 : (rows c i + N) * 4 ≤ span S (x .parts) M K i 2) where
+    module _ (M : ℕ) (K : ℕ → ℕ → Type 0) (body : Below 256 (x .body)) (rooms : (k : ℕ) (p : isLeaf (codeOf S k) ≡ true) → owned S k ≡ true → Roomy x M K body k p F) where
       mine : (r : ℕ) (l : r < N) → Roomy x M K body (H r) (leafs r l) F
       mine r l = rooms (H r) (leafs r l) (homes-own x depth i slot N c F (t .left) r (small r l))
 
+      says : Said x M K body depth i slot N c F f leafs (result .0) rooms mine 32 (suc i) c
+      says = said x M K body depth i slot N c F f leafs (result .0) rooms mine 32 (suc i) c f (t .left)
+
+      -- the union's own rows are not yet counted
+      pub own-rows : rows F i ≡ rows c i
+      own-rows = says .keep i (omega arith) .0
+
+      leaves-counts : (n r : ℕ) (b d : List ℕ) → r + n ≤ N → Counts b → Leaves (each (pure x (copyWalk x depth) H P) n r b) d → Counts d
+      unfolding each done
+      leaves-counts zero r b d s g l = subst Counts (l .left) g
+      leaves-counts (suc n) r b d s g l =
+          let o : Out = pure x (copyWalk x depth) H P r b in
+          let on : List ℕ → Out = λ z. each (pure x (copyWalk x depth) H P) n (suc r) z in
+          leaves-counts n (suc r) (o .counts) d (omega arith) (kid-counts x M K body (copyWalk x depth) (H r) (leafs r (omega arith)) (P r) 1 b (o .counts) g (next-start o on l)) (next-rest o on l)
+
+      pub end-counts : Counts F
+      end-counts = leaves-counts N 0 c F (omega arith) f (result .0)
+
       children : Alike S (x .parts) M K (Fields .log) (each (pure x (copyWalk x depth) H P) N 0 c .log)
       children =
-          let s = said x M K body depth i slot N c F f leafs (result .0) rooms mine 32 (suc i) c f (t .left) in
+          let s = says in
           record {
             one = s .lies;
             two = rows-inside x M K body (copyWalk x depth) H P N leafs N 0 c F (omega arith) f (result .0) mine;
@@ -114,18 +131,19 @@ module _ (x : Join) (depth i slot N : ℕ) (c : List ℕ) (f : Counts c) where
           pieces-same _ (λ j. getD (x .body) (place x i 3 + slot + j) 0 ∷ []) N (λ j q. ap (λ v. getD (x .body) v 0 ∷ []) (let e : place x i 3 + (slot + (0 + j)) ≡ place x i 3 + slot + j = omega arith in e))
           ∙ sym (bytes-are (place x i 3 + slot) N (x .body) (omega arith))
 
-      -- A DENSE UNION BY STRETCHES WRITES what its rows one after the other write
-      pub dense-write : Alike S (x .parts) M K (batchDense x (batchLeaf x) i slot N c .log) (copyDense x (copyWalk x (suc depth)) i slot N c .log)
-      unfolding AllInside sumOf
-      dense-write =
-          let rs = rows-write x depth i slot N M K body leafs c tests (λ r l e. homes-behind x depth i slot N c F (t .left) r (small r l) e) k1 k2 F mine (rows c i) room1 room2 N 0 c F (omega arith) f refl
-          (λ k. let y = f .small (3 * k) in omega arith) (result .0) refl in
-          let e0 : rows c i + 0 ≡ rows c i = add-zero (rows c i) in
-          let e2 : pieces (λ j. encode 4 (landsAt x (batchLeaf x) i slot c (0 + j))) N ≡ numbers 4 (landsAt x (batchLeaf x) i slot c) N = pieces-same _ _ N (λ j q. ap (λ v. encode 4 (landsAt x (batchLeaf x) i slot c v)) (zero-add j)) in
-          let ab : Alike S (x .parts) M K (each (copied x depth i slot N) N 0 c .log)
-          (put i 1 (rows c i) (take N (drop (place x i 3 + slot) (x .body))) ∷ put i 2 (rows c i * 4) (numbers 4 (landsAt x (batchLeaf x) i slot c) N) ∷ each (pure x (copyWalk x depth) H P) N 0 c .log) = rw (e0, ids, e2) at rs in
-          let hd : AllInside S (x .parts) M K (put i 1 (rows c i) (take N (drop (place x i 3 + slot) (x .body))) ∷ put i 2 (rows c i * 4) (numbers 4 (landsAt x (batchLeaf x) i slot c) N) ∷ []) = (ab .two .0, (ab .two .1 .0, tt)) in
-          rw (batch-log, copy-log)
-          (alike-trans S (x .parts) M K
-          (alike-append S (x .parts) M K (alike-refl S (x .parts) M K (put i 1 (rows c i) (take N (drop (place x i 3 + slot) (x .body))) ∷ put i 2 (rows c i * 4) (numbers 4 (landsAt x (batchLeaf x) i slot c) N) ∷ []) hd) children)
-          (alike-sym S (x .parts) M K ab))
+      module _ (k1 : K i 1) (k2 : K i 2) (room1 : rows c i + N ≤ span S (x .parts) M K i 1) (room2 : (rows c i + N) * 4 ≤ span S (x .parts) M K i 2) where
+        -- A DENSE UNION BY STRETCHES WRITES what its rows one after the other write
+        pub dense-write : Alike S (x .parts) M K (batchDense x (batchLeaf x) i slot N c .log) (copyDense x (copyWalk x (suc depth)) i slot N c .log)
+        unfolding AllInside sumOf
+        dense-write =
+            let rs = rows-write x depth i slot N M K body leafs c tests (λ r l e. homes-behind x depth i slot N c F (t .left) r (small r l) e) k1 k2 F mine (rows c i) room1 room2 N 0 c F (omega arith) f refl
+            (λ k. let y = f .small (3 * k) in omega arith) (result .0) refl in
+            let e0 : rows c i + 0 ≡ rows c i = add-zero (rows c i) in
+            let e2 : pieces (λ j. encode 4 (landsAt x (batchLeaf x) i slot c (0 + j))) N ≡ numbers 4 (landsAt x (batchLeaf x) i slot c) N = pieces-same _ _ N (λ j q. ap (λ v. encode 4 (landsAt x (batchLeaf x) i slot c v)) (zero-add j)) in
+            let ab : Alike S (x .parts) M K (each (copied x depth i slot N) N 0 c .log)
+            (put i 1 (rows c i) (take N (drop (place x i 3 + slot) (x .body))) ∷ put i 2 (rows c i * 4) (numbers 4 (landsAt x (batchLeaf x) i slot c) N) ∷ each (pure x (copyWalk x depth) H P) N 0 c .log) = rw (e0, ids, e2) at rs in
+            let hd : AllInside S (x .parts) M K (put i 1 (rows c i) (take N (drop (place x i 3 + slot) (x .body))) ∷ put i 2 (rows c i * 4) (numbers 4 (landsAt x (batchLeaf x) i slot c) N) ∷ []) = (ab .two .0, (ab .two .1 .0, tt)) in
+            rw (batch-log, copy-log)
+            (alike-trans S (x .parts) M K
+            (alike-append S (x .parts) M K (alike-refl S (x .parts) M K (put i 1 (rows c i) (take N (drop (place x i 3 + slot) (x .body))) ∷ put i 2 (rows c i * 4) (numbers 4 (landsAt x (batchLeaf x) i slot c) N) ∷ []) hd) children)
+            (alike-sym S (x .parts) M K ab))

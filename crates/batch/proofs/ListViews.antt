@@ -15,8 +15,9 @@ use Rattle.formats.specs.Code.{between, isFixed, isString, isView, isListView}
 use Rattle.walk.specs.State.{Join, codeOf, bytesOf, rows, nulls, top, grown, addNulls, addRows, place, far, slotOf}
 use Rattle.walk.specs.Log.{Out, fail, done, wrote, need, found, next, each}
 use Rattle.walk.specs.Leaves.{copyMask}
-use Rattle.walk.specs.Copy.{Walk, masked, listViewRow, copyListView, copyData, copySlots, copyNode, copyWalk}
+use Rattle.walk.specs.Copy.{Walk, masked, listViewRow, copyListView, copyDense, copyData, copySlots, copyNode, copyWalk}
 use Rattle.batch.specs.Stretch.{sumOf, stretches}
+use Rattle.batch.specs.Dense.{batchDense}
 use Rattle.batch.specs.Batch.{isLeaf, owned, batchLeaf, batchListView, batchData, batchSlots, batchNode, batchWalk}
 use Rattle.batch.proofs.Ends.{Leaves, leaves-own, leaves-done, leaves-wrote, leaves-need, leaves-found, leaves-next, need-was, need-rest, wrote-rest, found-was, found-is, next-start, next-rest}
 use Rattle.batch.proofs.Tally.{Counts}
@@ -24,6 +25,7 @@ use Rattle.batch.proofs.Stretches.{and-left, and-right, Cuts, stretches
 use Rattle.batch.proofs.Leaves.{mask-was, mask-goes, maskZeros}
 use Rattle.batch.proofs.LeafNode.{list-view-width}
 use Rattle.batch.proofs.LeafCuts.{good, leaf-cuts}
+use Rattle.batch.proofs.DenseAnswers.{dense-same}
 
 pub sum-up : (f : ℕ → ℕ) (m n : ℕ) → sumOf f m ≤ sumOf f (m + n)
 unfolding sumOf
@@ -125,18 +127,26 @@ module _ (x : Join) (depth : ℕ) where
       let l2 = wrote-rest _ c _ (wrote-rest _ c _ (need-rest _ 6 c _ (omega arith) l1)) in
       stretch-shows (λ a n c. batchLeaf x (suc i) a n c) _ _ (λ a m d g. need-was (isLeaf (codeOf (x .state) (suc i))) 12 d _ (omega arith) g) n 0 0 0 c (l2 .ok)
 
+  pub dense-data : (depth i slot n : ℕ) (c : List ℕ) → codeOf (x .state) i ≡ 22
+      → copyData x (copyWalk x depth) (codeOf (x .state) i) i slot n c ≡ copyDense x (copyWalk x depth) i slot n c
+  unfolding copyData
+  dense-data depth i slot n c e = rw e refl
+
   pub data-same : (i slot n : ℕ) (c : List ℕ) → Counts c → batchData x (batchLeaf x) (codeOf (x .state) i) i slot n c .ans ≡ 0
       → Leaves (copyData x (copyWalk x (suc depth)) (codeOf (x .state) i) i slot n c) (batchData x (batchLeaf x) (codeOf (x .state) i) i slot n c .counts)
   unfolding batchData fail copyWalk
-  data-same i slot n c f = go (isListView (codeOf (x .state) i)) refl
+  data-same i slot n c f = go (isListView (codeOf (x .state) i)) refl (eqb (codeOf (x .state) i) 22) refl
     where
-      go : (t : Bool) → isListView (codeOf (x .state) i) ≡ t → cond t (batchListView x (batchLeaf x) (bytesOf (x .state) i) i slot n c) (fail 12 c) .ans ≡ 0
-          → Leaves (copyData x (copyWalk x (suc depth)) (codeOf (x .state) i) i slot n c) (cond t (batchListView x (batchLeaf x) (bytesOf (x .state) i) i slot n c) (fail 12 c) .counts)
-      go true e h =
+      go : (t : Bool) → isListView (codeOf (x .state) i) ≡ t → (u : Bool) → eqb (codeOf (x .state) i) 22 ≡ u
+          → cond t (batchListView x (batchLeaf x) (bytesOf (x .state) i) i slot n c) (cond u (batchDense x (batchLeaf x) i slot n c) (fail 12 c)) .ans ≡ 0
+          → Leaves (copyData x (copyWalk x (suc depth)) (codeOf (x .state) i) i slot n c)
+          (cond t (batchListView x (batchLeaf x) (bytesOf (x .state) i) i slot n c) (cond u (batchDense x (batchLeaf x) i slot n c) (fail 12 c)) .counts)
+      go true e u g h =
           let q = child-leaf (bytesOf (x .state) i) i slot n c h in
           rw (list-data (suc depth) i slot n c e)
           (list-views-same x (batchLeaf x) (copyWalk x (suc depth)) (bytesOf (x .state) i) i slot (good x (suc i) q) (leaf-cuts x (suc i) q (copyWalk x depth)) (list-view-width (codeOf (x .state) i) e) n c f h)
-      go false e h = let z : _≡_ {A = ℕ} 12 0 = h in absurd (omega arith)
+      go false e true g h = rw (dense-data (suc depth) i slot n c (eqb-true (codeOf (x .state) i) 22 g)) (dense-same x depth i slot n c f h)
+      go false e false g h = let z : _≡_ {A = ℕ} 12 0 = h in absurd (omega arith)
 
   pub slots-same : (i slot n : ℕ) (c : List ℕ) → i < 32 → Counts c → batchSlots x (batchLeaf x) i slot n c .ans ≡ 0
       → Leaves (copySlots x (copyWalk x (suc depth)) i slot n c) (batchSlots x (batchLeaf x) i slot n c .counts)

@@ -1,4 +1,4 @@
--- THEOREM 2: where the parts rise and hold their bytes, the walk by stretches leaves the room that the walk of a copy leaves. Assumes nothing.
+-- A list-view node by stretches writes what it writes in a copy, part by part. Assumes nothing.
 use mathlib.Core.Path.{_≡_, refl, sym, ap, subst, _∙_}
 use mathlib.Core.Bool.{Bool, true, false, cond, not, _&&_}
 use mathlib.Core.List.{List, [], _∷_, _++_, append-nil}
@@ -59,7 +59,7 @@ module _ (x : Join) (depth M : ℕ) (body : Below 256 (x .body)) (less : M < top
   Al l m = Alike S (x .parts) M (Used S) l m
 
   -- a part lies in the room
-  in-room : (i b : ℕ) → Used S i b → sizeOf S (x .parts) i b ≤ M
+  pub in-room : (i b : ℕ) → Used S i b → sizeOf S (x .parts) i b ≤ M
   in-room i b u = let g = within-used S (x .parts) M inside i b u .1 in omega arith
 
   -- what the parts hold, a leaf's parts hold
@@ -89,7 +89,7 @@ module _ (x : Join) (depth M : ℕ) (body : Below 256 (x .body)) (less : M < top
               (u, rw (needed-chars (codeOf S k) (rows c k) (bytes c k) t) at v);
         }
 
-    roomy-same : (d : List ℕ) → rows c k ≡ rows d k → bytes c k ≡ bytes d k → Roomy x M (Used S) body k leaf d
+    pub roomy-same : (d : List ℕ) → rows c k ≡ rows d k → bytes c k ≡ bytes d k → Roomy x M (Used S) body k leaf d
     roomy-same d e g =
         let h = leaf-roomy in
         record {
@@ -269,45 +269,3 @@ module _ (x : Join) (depth M : ℕ) (body : Below 256 (x .body)) (less : M < top
         (alike-append S (x .parts) M (Used S) mask-self
         (rw (data-is-list, next-log (λ e2. done (addRows i n e2)) lo, next-log (λ e2. done (addRows i n e2)) lp, list-data x depth (suc depth) i slot n c2 is, append-nil (o .log), append-nil (p .log))
         (view-write i small is slot n c2 f2 (lo .ok) hold2)))
-
-  -- a node that is no list-view is not walked by stretches
-  list-data-was : (code i slot n : ℕ) (c : List ℕ) → batchData x (batchLeaf x) code i slot n c .ans ≡ 0 → isListView code ≡ true
-  unfolding batchData fail
-  list-data-was code i slot n c = go (isListView code)
-    where
-      go : (t : Bool) → cond t (batchListView x (batchLeaf x) (bytesOf S i) i slot n c) (fail 12 c) .ans ≡ 0 → t ≡ true
-      go true h = refl
-      go false h = let z : _≡_ {A = ℕ} 12 0 = h in absurd (omega arith)
-
-  is-list : (i slot n : ℕ) (c d : List ℕ) → Leaves (batchSlots x (batchLeaf x) i slot n c) d → isListView (codeOf S i) ≡ true
-  unfolding batchSlots
-  is-list i slot n c d l =
-      let m : Out = cond (masked (codeOf S i)) (copyMask x i slot n c) (done c) in
-      let b = next-rest m (λ e. next (batchData x (batchLeaf x) (codeOf S i) i slot n e) (λ e2. done (addRows i n e2))) l in
-      list-data-was (codeOf S i) i slot n (m .counts) (next-start (batchData x (batchLeaf x) (codeOf S i) i slot n (m .counts)) (λ e2. done (addRows i n e2)) b .ok)
-
-  node-write : (i a n : ℕ) (c d : List ℕ) → Counts c → Leaves (batchNode x (batchLeaf x) i a n c) d → partsHold S d (x .parts) ≡ true
-      → Al (batchNode x (batchLeaf x) i a n c .log) (copyNode x (copyWalk x (suc depth)) i a n c .log)
-  unfolding batchNode copyNode
-  node-write i a n c d f l hold =
-      let s = need-was (ltb i 32) 12 c _ (omega arith) (l .ok) in
-      let l1 = need-rest (ltb i 32) 12 c _ (omega arith) l in
-      let v = found-was far (slotOf x i a n) 12 c (λ slot. batchSlots x (batchLeaf x) i slot n c) (omega arith) (l1 .ok) in
-      let l2 = rw (found-is far (slotOf x i a n) 12 c (λ slot. batchSlots x (batchLeaf x) i slot n c) v) at l1 in
-      rw (
-        need-is 12 c (found far (slotOf x i a n) 12 c (λ slot. batchSlots x (batchLeaf x) i slot n c)) s,
-        need-is 12 c (found far (slotOf x i a n) 12 c (λ slot. copySlots x (copyWalk x (suc depth)) i slot n c)) s,
-        found-is far (slotOf x i a n) 12 c (λ slot. batchSlots x (batchLeaf x) i slot n c) v,
-        found-is far (slotOf x i a n) 12 c (λ slot. copySlots x (copyWalk x (suc depth)) i slot n c) v,
-      )
-      (slots-write i (ltb-true i 32 s) (is-list i (slotOf x i a n) n c d l2) (slotOf x i a n) n c d f l2 hold)
-
--- THEOREM 2: where the walk by stretches answers 0, and the parts lie in the room, hold their bytes and rise, both walks leave the same room
-pub batch-writes : (x : Join) (depth i a n : ℕ) (c room : List ℕ) → Counts c → Below 256 (x .body) → Below 256 room → length room < top → batchWalk x i a n c .ans ≡ 0
-    → partsWithin (x .state) (x .parts) (length room) ≡ true → partsHold (x .state) (batchWalk x i a n c .counts) (x .parts) ≡ true → partsRise (x .state) (x .parts) ≡ true
-    → apply (x .state) (x .parts) (copyWalk x (suc (suc depth)) i a n c .log) room ≡ apply (x .state) (x .parts) (batchWalk x i a n c .log) room
-unfolding batchWalk copyWalk
-batch-writes x depth i a n c room f body bytes-are less h inside hold rise =
-    let z = node-write x depth (length room) body less inside i a n c (batchWalk x i a n c .counts) f (leaves-own h) hold in
-    sym (same-room (x .state) (x .parts) (length room) (Used (x .state)) (rise-keys (x .state) (x .parts) (length room) rise inside) (batchWalk x i a n c .log) (copyWalk x (suc (suc depth)) i a n c .log)
-    (z .one) (z .two) room (record { long = refl; are-bytes = bytes-are }) (λ j b u w l v. z .same j b u w (record { long = l; are-bytes = v })))

@@ -1,4 +1,4 @@
--- An order walked by stretches, for list-views of nodes without children; 12 where it does not apply, which says nothing of the order:
+-- An order walked by stretches, for list-views and dense unions of nodes without children; 12 where it does not apply, which says nothing of the order:
 -- `copyWalk` stays what an order is. Assumes nothing.
 use mathlib.Core.Bool.{Bool, true, false, cond, _&&_}
 use mathlib.Core.List.{List}
@@ -13,16 +13,13 @@ use Rattle.walk.specs.State.{Join, codeOf, bytesOf, rows, addRows, place, offse
 use Rattle.walk.specs.Log.{Out, put, fail, done, wrote, need, found, next}
 use Rattle.walk.specs.Leaves.{copyMask}
 use Rattle.walk.specs.Copy.{Walk, copyWalk, masked}
-use Rattle.parts.specs.Parts.{nodesOf, copied}
 use Rattle.batch.specs.Stretch.{sumOf, neverFalls, stretches}
+pub use Rattle.batch.specs.Rise.{owned}
+use Rattle.batch.specs.Dense.{batchDense}
 
 -- numbers, keys, byte strings and views: nodes that have no children
 abbrev pub isLeaf : ℕ → Bool
 isLeaf code = between 1 16 code
-
--- the plan counts node i, and its buffers have parts
-abbrev pub owned : List ℕ → ℕ → Bool
-owned state i = ltb i (nodesOf state) && copied state i
 
 module _ (x : Join) where
   -- the rows a .. a + n - 1 of node k may be cut: the offsets of a byte string never fall, else a range cut is not that range
@@ -47,7 +44,7 @@ module _ (x : Join) where
         (λ c3. stretches (λ a m d. child (suc i) a m d) (λ r. entry w (x .body) (place x i 3) (slot + r)) (λ r. entry w (x .body) (place x i 5) (slot + r)) n c3)))))
 
     unfoldable pub batchData : ℕ → ℕ → ℕ → ℕ → List ℕ → Out
-    batchData code i slot n c = cond (isListView code) (batchListView (bytesOf (x .state) i) i slot n c) (fail 12 c)
+    batchData code i slot n c = cond (isListView code) (batchListView (bytesOf (x .state) i) i slot n c) (cond (eqb code 22) (batchDense x child i slot n c) (fail 12 c))
 
     -- validity, data, and the rows counted
     unfoldable pub batchSlots : ℕ → ℕ → ℕ → List ℕ → Out

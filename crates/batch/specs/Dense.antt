@@ -1,4 +1,4 @@
--- A dense union by stretches: the rows of each child whose positions follow one another, child after child. Not yet a part of `batchWalk`.
+-- A dense union by stretches: the rows of each child whose positions follow one another, child after child.
 -- Assumes nothing.
 use mathlib.Core.Bool.{Bool, true, false, cond, _&&_}
 use mathlib.Core.List.{List}
@@ -12,7 +12,7 @@ use Rattle.walk.specs.State.{Join, endOf, rows, place, rowsIn}
 use Rattle.walk.specs.Log.{Out, put, done, wrote, need, next}
 use Rattle.walk.specs.Copy.{Walk, childWith, idAt, positionAt}
 use Rattle.batch.specs.Stretch.{sumOf, stretches}
-use Rattle.batch.specs.Batch.{owned}
+use Rattle.batch.specs.Rise.{owned}
 
 module _ (x : Join) (child : Walk) where
   -- a dense union: the child that row r goes to, and the row that it takes there, from the counters before

@@ -2,10 +2,14 @@
 use mathlib.Core.Bool.{Bool, true, cond, _&&_}
 use mathlib.Core.List.{List}
 use Prim.Native.Nat.{ℕ, zero, suc, _+_}
-use lib.Dec.{leb}
+use lib.Dec.{leb, ltb}
 use Rattle.columnar.specs.Test.{onlyIf}
 use Rattle.walk.specs.Log.{startOf}
-use Rattle.parts.specs.Parts.{nodesOf, hasPart, sizeOf}
+use Rattle.parts.specs.Parts.{nodesOf, copied, hasPart, sizeOf}
+
+-- the plan counts node i, and its buffers have parts
+abbrev pub owned : List ℕ → ℕ → Bool
+owned state i = ltb i (nodesOf state) && copied state i
 
 module _ (state parts : List ℕ) where
   -- the part of buffer b of node i, if it has one, starts at or behind the byte `end`
