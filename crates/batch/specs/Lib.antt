@@ -1,0 +1,6 @@
+-- An order walked by stretches.
+pub mod Stretch
+pub mod Rise
+pub mod Dense
+pub mod Batch
+pub mod Example

@@ -1,0 +1,2 @@
+// Theory: an order walked by stretches, child rows that follow one another in one walk, and that it comes to what the walk of a copy
+// comes to.
