@@ -32,7 +32,7 @@ fn is_other_width(keyed: bool, ended: bool, c: u8, c2: u8) -> bool
 }
 
 // Whether node i is run ends.
-fn is_ends_at(formats: &[u8], schema: &[u32], first: usize, i: usize) -> bool
+pub fn is_ends_at(formats: &[u8], schema: &[u32], first: usize, i: usize) -> bool
     requires { ⌜ (first < 4294967296) × (i < 4294967296) ⌝ }
     ensures { λ r. ⌜ r ≡ endsAt (now (formats .entry)) (now (schema .entry)) first i ⌝ }
 {

@@ -23,3 +23,4 @@ pub mod Target
 pub mod Lent
 pub mod Answer
 pub mod Call
+pub mod From

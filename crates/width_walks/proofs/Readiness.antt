@@ -30,7 +30,7 @@ use Rattle.width_walks.proofs.Laid.{LaidFields, no-field, a-field, Laid
 
 -- ---- where a node comes from
 
-came : (t : Tree) (i : ℕ) → i < t .count → getD (comesFrom t) i 0 ≡ cond (endsIn t i) 0 (suc i)
+pub came : (t : Tree) (i : ℕ) → i < t .count → getD (comesFrom t) i 0 ≡ cond (endsIn t i) 0 (suc i)
 unfolding comesFrom
 came t i l = getD-seg (λ i. cond (endsIn t i) 0 (suc i)) 0 (t .count) i 0 l ∙ ap (λ z. cond (endsIn t z) 0 (suc z)) (let e : 0 + i ≡ i = omega arith in e)
 

@@ -1,18 +1,23 @@
 -- The converter between widths on lent memory (02, W13): its own ground, the plan of its result, and the call. Assumes nothing.
 use mathlib.Core.Bool.{Bool, true, cond}
 use mathlib.Core.List.{List}
-use Prim.Native.Nat.{ℕ}
+use Prim.Native.Nat.{ℕ, suc}
 use lib.ListN.{replicate}
 use Rattle.array_data.specs.Tables.{Tables}
 use Rattle.array_data.specs.Typed.{tablesFrom}
 use Rattle.array_data.specs.lent_tables.Lent.{tables}
 use Rattle.array_data.specs.type_tree.Lent.{treeOf}
 use Rattle.walk.specs.Log.{Out}
+use Rattle.plan.specs.Plan.{filled}
 use Rattle.refinement.specs.opening.Open.{Opening}
 use Rattle.anew.specs.Anew.{Asking, asking, anew}
 use Rattle.anew.specs.ResultPlan.{keepsFrom, planAnew}
-use Rattle.target_rules.specs.Target.{isTarget}
+use Rattle.target_rules.specs.Target.{endsAt, isTarget}
 use Rattle.width_walks.specs.Nodes.{comesFrom, treeWalk}
+
+-- where each node of a result comes from, as words: one more than the number of the column's node; 0 for run ends
+unfoldable pub fromWords : (formats schema : List ℕ) (first n : ℕ) → List ℕ → List ℕ
+fromWords formats schema first n words = filled (λ i. i) (λ s i. cond (endsAt formats schema first i) 0 (suc i)) n words
 
 -- the column of n nodes from node `first` on, and the target of tn nodes from node `target` on
 module _ (formats schema : List ℕ) (x : Tables) (first n target tn : ℕ) where
