@@ -15,4 +15,5 @@ pub mod Rowed
 pub mod Rows
 pub mod Runs
 pub mod Tests
+pub mod Types
 pub mod Walked
