@@ -13,3 +13,4 @@ pub mod ListParts
 pub mod ToList
 pub mod Viewing
 pub mod ViewLent
+pub mod Child
