@@ -14,3 +14,5 @@ pub mod ToList
 pub mod Viewing
 pub mod ViewLent
 pub mod Child
+pub mod RootShown
+pub mod ToView
