@@ -13,3 +13,6 @@ pub mod ListParts
 pub mod ToList
 pub mod Viewing
 pub mod ViewLent
+pub mod Child
+pub mod RootShown
+pub mod ToView

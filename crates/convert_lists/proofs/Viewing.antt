@@ -45,7 +45,7 @@ quiet-rows k I end step (suc n) r c μ l i =
 more : (w : ℕ) (f : ℕ → ℕ) (a r : ℕ) → encodes w (seg f a r) ++ encode w (f (a + r)) ≡ encodes w (seg f a (suc r))
 more w f a r = sym (ap (encodes w) (seg-snoc f a r) ∙ encodes-append w (seg f a r) (f (a + r) ∷ []) ∙ ap (encodes w (seg f a r) ++_) (append-nil (encode w (f (a + r)))))
 
-entries-long : (w : ℕ) (f : ℕ → ℕ) (a r : ℕ) → length (encodes w (seg f a r)) ≡ r * w
+pub entries-long : (w : ℕ) (f : ℕ → ℕ) (a r : ℕ) → length (encodes w (seg f a r)) ≡ r * w
 entries-long w f a r = length-encodes w (seg f a r) ∙ ap (_* w) (length-seg f a r)
 
 module _ (x : Join) (w : ℕ) (t : Ty) (v : Column (tList w t)) (lent : tables.LentNode x 0 (λ (b : Body (tList w t)). tables.First x 0 (b .offsets)) v) (obey : Source (tList w t) v) (keep : Bool) (keeps-are : keepsOf (x .state) 0 ≡ flag keep) where
