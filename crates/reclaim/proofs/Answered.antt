@@ -2,21 +2,19 @@
 use mathlib.Core.Path.{_≡_, refl, sym, ap, subst, _∙_}
 use mathlib.Core.Bool.{Bool, true, false, cond, _&&_}
 use mathlib.Core.List.{List, [], _∷_}
-use Prim.Native.Nat.{ℕ, zero, suc, _+_, _*_, _≤_, _<_, _^_}
+use Prim.Native.Nat.{ℕ, zero, suc, _≤_, _<_, _^_}
 use native.Mathlib.Omega.{arith}
 use lib.ListN.{length, getD, replicate}
-use lib.Dec.{leb, eqb}
+use lib.Dec.{eqb}
 use borrow.Author.Tests.{eq-eqb, ne-eqb, eqb-true, lt-leb, le-leb}
 use Rattle.schema.specs.Tree.{dictionary, ceilings}
 use Rattle.schema.proofs.Known.{within-nodes}
 use Rattle.array_data.specs.Tables.{Tables}
 use Rattle.array_data.specs.lent_tables.Lent.{tables}
-use Rattle.array_data.proofs.lent_tables.Laws.{and-left, and-right}
 use Rattle.columns.specs.Grounds.{ceiling, smallBody, columnGround}
-use Rattle.walk.specs.Log.{Out, Did, apply}
+use Rattle.walk.specs.Log.{Did, apply}
 use Rattle.leaf_walk.specs.Join.{join}
 use Rattle.parts.specs.Parts.{partTotal, partsPlaced, partsHold}
-use Rattle.refinement.specs.opening.Open.{Opening}
 use Rattle.refinement.proofs.opening.Taken.{is-low}
 use Rattle.with_capacities.specs.Answer.{Answers}
 use Rattle.anew.specs.Anew.{orElse, joinLengths, roomGround, ahead}

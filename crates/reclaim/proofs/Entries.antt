@@ -1,6 +1,6 @@
 -- The entries in use, copied run by run: the walk goes with the model's copies, which are never refused. Assumes nothing.
-use mathlib.Core.Path.{_≡_, refl, sym, ap, subst, _∙_}
-use mathlib.Core.Bool.{Bool, true, false}
+use mathlib.Core.Path.{_≡_, sym, ap, subst, _∙_}
+use mathlib.Core.Bool.{true, false}
 use mathlib.Core.List.{List}
 use Prim.Native.Nat.{ℕ, zero, suc, _+_, _-_, _≤_, _<_, min, max}
 use native.Mathlib.Omega.{arith}
@@ -12,14 +12,13 @@ use Rattle.columnar.specs.Formed.{FormedPlain}
 use Rattle.columnar.specs.Array.{Array, Obeys, nullCount}
 use Rattle.columnar.specs.Plain.{PlainBody, PlainRule}
 use Rattle.model.specs.Try.{Try, done}
-use Rattle.model.specs.Opening.{keeps}
-use Rattle.model.specs.Mutable.{Mutable, extendNode, startNode}
-use Rattle.model.specs.Primitive.{plainExtend, plainStart}
+use Rattle.model.specs.Mutable.{Mutable, extendNode}
+use Rattle.model.specs.Primitive.{plainExtend}
 use Rattle.model.proofs.CutTries.{done-is}
 use Rattle.model.proofs.Law.{Fine}
 use Rattle.model.proofs.Nodes.{kindOf}
 use Rattle.model.proofs.Start.{start-plain}
-use Rattle.walk.specs.State.{Join, dictionaryOf, endOf, keepsOf, far, top}
+use Rattle.walk.specs.State.{Join, dictionaryOf, endOf, keepsOf, far}
 use Rattle.walk.specs.Log.{Out}
 use Rattle.walk.specs.Copy.{copyWalk}
 use Rattle.refinement.specs.walk_is_model.Memory.{Memory, after}

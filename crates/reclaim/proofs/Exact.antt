@@ -1,13 +1,13 @@
 -- ITS GROUNDS, exactly: 9, 10 and 12 of the column, 10 where it is no dictionary, 14 and 13 of the room; and a second time changes nothing.
 -- Assumes nothing.
-use mathlib.Core.Path.{_≡_, refl, sym, ap, ap₂, subst, _∙_}
+use mathlib.Core.Path.{_≡_, refl, sym, ap, ap₂, _∙_}
 use mathlib.Core.Bool.{Bool, true, false, cond}
 use mathlib.Core.List.{List, [], _∷_}
-use Prim.Native.Nat.{ℕ, zero, suc, _+_, _*_, _≤_, _<_, _^_}
+use Prim.Native.Nat.{ℕ, _≤_, _<_, _^_}
 use native.Mathlib.Omega.{arith}
 use lib.ListN.{length}
 use lib.Dec.{eqb}
-use borrow.Author.Tests.{eqb-true, eqb-false, eq-eqb}
+use borrow.Author.Tests.{eqb-true, eqb-false}
 use Rattle.columnar.specs.Types.{Number, limit, Plain, fixed, string, Ty, tPlain, tView, tListView, tList, tSparse, tDense, tRunEnd, tDictionary}
 use Rattle.columnar.specs.Array.{Array}
 use Rattle.columnar.specs.Plain.{PlainBody}
@@ -20,7 +20,6 @@ use Rattle.columns.specs.Grounds.{smallBody, columnGround}
 use Rattle.walk.specs.State.{codeOf, dictionaryOf, endOf}
 use Rattle.refinement.specs.walk_is_model.Holds.{Worded}
 use Rattle.refinement.specs.log_in_room.Room.{AllBelow}
-use Rattle.refinement.specs.opening.Open.{Opening}
 use Rattle.refinement.specs.finishing.Shows.{ShowsNode, ShowsPlain, Shows, finishedTables, Bodied}
 use Rattle.refinement.proofs.walk_is_model.Frame.{worded-span}
 use Rattle.refinement.proofs.log_in_room.Found.{between-both}
@@ -31,7 +30,7 @@ use Rattle.column_anew.specs.entries.Used.{keyAt, rank, kept}
 use Rattle.column_anew.specs.entries.Reclaimed.{reclaimed}
 use Rattle.column_anew.proofs.entries.Reclaim.{InUse, entries-are, keys-fit, valid-key, null-key}
 use Rattle.column_anew.proofs.entries.Twice.{twice}
-use Rattle.anew.specs.Anew.{orElse, roomGround, ahead}
+use Rattle.anew.specs.Anew.{orElse, roomGround}
 use Rattle.anew.specs.ResultPlan.{planAnew}
 use Rattle.anew.proofs.Laws.{or-zero, or-first, anew-ground}
 use Rattle.anew.proofs.Comes.{source-good}

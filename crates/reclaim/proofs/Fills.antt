@@ -1,27 +1,27 @@
 -- WHAT THE WALK LEAVES: the reclaimed column stands, and the walk is never refused. Assumes nothing.
 use mathlib.Core.Path.{_≡_, refl, sym, ap, subst, _∙_}
-use mathlib.Core.Bool.{Bool, true, false, cond, _||_, true≢false}
+use mathlib.Core.Bool.{Bool, true, false, cond, true≢false}
 use mathlib.Core.Option.{Option, none, some}
 use mathlib.Core.List.{List, [], _∷_, _++_, map}
-use Prim.Native.Nat.{ℕ, zero, suc, _+_, _*_, _≤_, _<_}
+use Prim.Native.Nat.{ℕ, zero, suc, _+_, _*_, _<_}
 use native.Mathlib.Nat.{zero-add, add-zero}
 use native.Mathlib.Omega.{arith}
 use lib.ListN.{length, replicate}
-use lib.Dec.{ltb, eqb}
-use borrow.Author.Tests.{ltb-true, lt-ltb, lt-leb}
+use lib.Dec.{ltb}
+use borrow.Author.Tests.{lt-ltb, lt-leb}
 use Rattle.number.specs.Number.{encode}
 use Rattle.columnar.specs.Row.{seg}
-use Rattle.columnar.specs.Types.{Number, width, Plain, fixed, string, tPlain, tDictionary}
+use Rattle.columnar.specs.Types.{Number, width, Plain, fixed, string, tDictionary}
 use Rattle.columnar.specs.Formed.{FormedPlain}
 use Rattle.columnar.specs.Array.{Array, ok, nullCount}
 use Rattle.columnar.specs.Entries.{encodes}
 use Rattle.columnar.specs.Plain.{PlainBody}
 use Rattle.columnar.specs.Reading.{Column, Source}
-use Rattle.formats.specs.Code.{isFixed, isString, isList, between}
+use Rattle.formats.specs.Code.{isFixed, isString}
 use Rattle.model.specs.Try.{done, after}
 use Rattle.model.specs.Mutable.{Mutable, zeros, grow, counted, freezeNode}
 use Rattle.model.proofs.Law.{BitsFor}
-use Rattle.walk.specs.State.{Join, word, codeOf, dictionaryOf, endOf, bytesOf, keepsOf, rows, nulls, bytes, addRows, lengthOf, offsetOf, far, top}
+use Rattle.walk.specs.State.{Join, word, codeOf, dictionaryOf, endOf, bytesOf, keepsOf, rows, nulls, bytes, addRows, lengthOf, offsetOf}
 use Rattle.walk.specs.Log.{put, wrote}
 use Rattle.walk.specs.Leaves.{copyMask}
 use Rattle.parts.specs.Parts.{hasOffsets}
@@ -39,7 +39,7 @@ use Rattle.refinement.specs.orders.Order.{Lent, joinOf}
 use Rattle.refinement.proofs.opening.Zeros.{empty, gapOf, Fresh, no-counters}
 use Rattle.column_anew.specs.runs.Runs.{okAt, those}
 use Rattle.column_anew.specs.entries.Used.{kept}
-use Rattle.column_anew.specs.entries.Reclaimed.{copyEach, freshNode, entriesOf, newKey, reclaimed}
+use Rattle.column_anew.specs.entries.Reclaimed.{copyEach, freshNode, newKey, reclaimed}
 use Rattle.column_anew.proofs.entries.Reclaim.{never-six}
 use Rattle.column_anew.proofs.entries.Copies.{grown}
 use Rattle.anew.specs.Stood.{StoodNode, StoodPlain, Stood}

@@ -4,37 +4,33 @@ use mathlib.Core.Bool.{Bool, true, false, cond}
 use mathlib.Core.List.{List, [], _∷_}
 use Prim.Native.Nat.{ℕ, zero, suc, _+_, _*_, _≤_, _<_, _^_}
 use native.Mathlib.Omega.{arith}
-use lib.ListN.{length, getD}
-use lib.Dec.{T, ltb, eqb}
+use lib.ListN.{getD}
+use lib.Dec.{eqb}
 use borrow.Author.Tests.{ne-eqb}
-use Rattle.columnar.specs.Types.{Number, width, Plain, fixed, string, Ty, tPlain, tDictionary}
-use Rattle.columnar.specs.Formed.{FormedPlain, Formed}
-use Rattle.columnar.specs.Array.{nullCount}
+use Rattle.columnar.specs.Types.{Number, Plain, fixed, string, tPlain, tDictionary}
+use Rattle.columnar.specs.Formed.{Formed}
 use Rattle.columnar.specs.Reading.{Column, Source}
-use Rattle.formats.specs.Code.{isFixed}
 use Rattle.schema.specs.Tree.{below, dictionary, ceilings, typed}
 use Rattle.schema.proofs.Known.{typed-shape}
-use Rattle.array_data.specs.Tables.{Tables, arrayWith}
-use Rattle.array_data.specs.Typed.{NodeKind, fixedNode, stringNode, Tree, Is, MeansPlain, Means, tablesFrom, plainBody, columnOf}
+use Rattle.array_data.specs.Tables.{Tables}
+use Rattle.array_data.specs.Typed.{NodeKind, fixedNode, stringNode, Tree, MeansPlain, Means, tablesFrom, columnOf}
 use Rattle.array_data.specs.type_tree.Lent.{kindAt, treeOf, typeOf}
 use Rattle.array_data.specs.lent_tables.Lent.{tables}
 use Rattle.array_data.proofs.type_tree.Lent.{means, formed}
 use Rattle.array_data.proofs.type_tree.Shaped.{Shaped, of-plain, of-view, of-list, of-lists, of-sparse, of-dense, of-run, of-dictionary, shaped}
 use Rattle.columns.specs.Grounds.{columnGround}
 use Rattle.columns.proofs.Itself.{same-itself}
-use Rattle.walk.specs.State.{word, codeOf, dictionaryOf, endOf, bytesOf, keepsOf}
+use Rattle.walk.specs.State.{codeOf, dictionaryOf, endOf}
 use Rattle.plan.specs.Plan.{planned}
-use Rattle.parts.specs.Parts.{nodesOf, copied}
 use Rattle.refinement.specs.walk_is_model.Holds.{flag, WordedPlain, Worded}
-use Rattle.refinement.specs.plan_is_type.Planted.{Planted}
 use Rattle.refinement.specs.plan_is_type.Taken.{Taken}
 use Rattle.refinement.proofs.log_in_room.Found.{between-both}
 use Rattle.refinement.proofs.plan_is_type.Codes.{no-dictionary}
 use Rattle.refinement.proofs.plan_is_type.Planted.{dictionary-is}
 use Rattle.refinement.proofs.plan_is_type.Lent.{lent-at}
-use Rattle.refinement.proofs.plan_is_type.Opened.{same-child, lent-column, all-obey}
+use Rattle.refinement.proofs.plan_is_type.Opened.{same-child, all-obey}
 use Rattle.refinement.proofs.opening.Taken.{is-typed, is-low, taken}
-use Rattle.refinement.specs.orders.Order.{Lent, joinOf}
+use Rattle.refinement.specs.orders.Order.{Lent}
 use Rattle.walk.specs.Log.{Out}
 use Rattle.anew.specs.Anew.{orElse, ahead}
 use Rattle.anew.specs.ResultPlan.{keepsFrom, planAnew}
@@ -45,7 +41,7 @@ use Rattle.anew.proofs.Parts.{copied-is, root-copied}
 use Rattle.anew.proofs.PlanWords.{keeps-is, joined-is}
 use Rattle.anew.proofs.Planted.{few, planted, worded, root-is, nodes-is, stands, type-plan}
 use Rattle.anew.proofs.Result.{lentFor}
-use Rattle.reclaim.specs.Reclaim.{fromColumn, reclaimOwn, reclaimPlan}
+use Rattle.reclaim.specs.Reclaim.{fromColumn, reclaimOwn}
 use Rattle.reclaim.proofs.Fills.{Given}
 use Rattle.reclaim.proofs.Uses.{InParts}
 

@@ -1,28 +1,25 @@
 -- The keys that lent tables name are those of the column that they hold: the same entries are in use, with the same ranks and new keys.
 -- Assumes nothing.
-use mathlib.Core.Path.{_≡_, refl, sym, ap, ap₂, subst, _∙_}
-use mathlib.Core.Bool.{Bool, true, false, not, cond, _&&_, _||_, true≢false}
+use mathlib.Core.Path.{_≡_, refl, sym, ap, ap₂, _∙_}
+use mathlib.Core.Bool.{Bool, true, false, not, cond, _&&_, true≢false, _||_}
 use mathlib.Core.Option.{Option, none, some}
-use mathlib.Core.List.{List, [], _∷_}
-use Prim.Native.Nat.{ℕ, zero, suc, _+_, _*_, _-_, _≤_, _<_}
-use native.Mathlib.Nat.{zero-add}
+use mathlib.Core.List.{List, _∷_}
+use Prim.Native.Nat.{ℕ, zero, suc, _+_, _*_, _≤_, _<_}
 use native.Mathlib.Omega.{arith}
-use lib.ListN.{length, getD}
-use lib.Dec.{T, leb, ltb, eqb}
+use lib.ListN.{length}
+use lib.Dec.{T, ltb, eqb}
 use borrow.Author.Tests.{lt-ltb, le-leb}
 use Rattle.number.specs.Number.{entry}
-use Rattle.bits.specs.Bits.{bits}
 use Rattle.columnar.specs.Row.{seg}
 use Rattle.columnar.specs.Types.{Number, width, Plain, tDictionary}
-use Rattle.columnar.specs.Array.{Array, item, ok, Mask}
+use Rattle.columnar.specs.Array.{ok, Mask}
 use Rattle.columnar.specs.Entries.{encodes}
-use Rattle.columnar.specs.Plain.{PlainBody}
 use Rattle.columnar.specs.Reading.{Column, Source}
 use Rattle.columnar.proofs.Kept.{seg-same}
 use Rattle.formats.specs.Code.{isFixed}
 use Rattle.row_rules.proofs.slots.Tests.{valid-part}
 use Rattle.walk.specs.State.{Join, codeOf, bytesOf, place, lengthOf, offsetOf, far, rowsIn}
-use Rattle.refinement.specs.walk_is_model.Lent.{Part, LentValid, LentNode, LentPlain, Lent}
+use Rattle.refinement.specs.walk_is_model.Lent.{LentValid, LentNode, LentPlain, Lent}
 use Rattle.refinement.proofs.walk_is_model.Places.{part-long, part-entry, rows-in}
 use Rattle.column_anew.specs.runs.Runs.{okAt, those}
 use Rattle.column_anew.specs.entries.Used.{some-below}

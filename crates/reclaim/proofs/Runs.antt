@@ -2,7 +2,7 @@
 use mathlib.Core.Path.{_≡_, refl, sym, ap, subst, _∙_}
 use mathlib.Core.Bool.{Bool, true, false, cond}
 use mathlib.Core.List.{List, [], _∷_, _++_}
-use Prim.Native.Nat.{ℕ, zero, suc, _+_, _-_, _≤_, _<_, max}
+use Prim.Native.Nat.{ℕ, zero, suc, _+_, _-_, _≤_, max}
 use native.Mathlib.Nat.{add-zero, sub-zero}
 use native.Mathlib.Numerals.{add-one}
 use native.Mathlib.Omega.{arith}
@@ -10,14 +10,14 @@ use Rattle.columnar.specs.Row.{seg}
 use Rattle.columnar.specs.Types.{Plain, tPlain}
 use Rattle.columnar.specs.Array.{Array, Obeys}
 use Rattle.columnar.specs.Plain.{PlainBody, PlainRule}
-use Rattle.model.specs.Try.{Try, done, then}
+use Rattle.model.specs.Try.{Try, done}
 use Rattle.model.specs.Mutable.{Mutable, extendNode}
 use Rattle.model.specs.Primitive.{plainExtend}
 use Rattle.model.proofs.Law.{Fine}
 use Rattle.model.proofs.Nodes.{kindOf}
 use Rattle.model.proofs.Node.{node-copies}
 use Rattle.model.proofs.Types.{law}
-use Rattle.model.proofs.CutTries.{done-is, then-done, then-is}
+use Rattle.model.proofs.CutTries.{then-done, then-is}
 use Rattle.model.proofs.CutBytes.{SameNode, node-seam, seams}
 use Rattle.refinement.proofs.walk_is_model.UnionFields.{agrees-value}
 use Rattle.walk.specs.State.{Join}

@@ -1,11 +1,10 @@
 -- THE THEOREMS OF W9 over the entry points: what an accepted reclaiming leaves, finished, is the reclaimed column. Assumes nothing.
 use mathlib.Core.Path.{_≡_, refl, sym, ap, subst, _∙_}
-use mathlib.Core.Bool.{Bool, true, false, cond}
-use mathlib.Core.List.{List, [], _∷_}
-use Prim.Native.Nat.{ℕ, zero, suc, _+_, _*_, _≤_, _<_, _^_}
-use native.Mathlib.Omega.{arith}
-use lib.ListN.{length, getD, replicate}
-use lib.Dec.{T, eqb}
+use mathlib.Core.Bool.{true, cond}
+use mathlib.Core.List.{List, []}
+use Prim.Native.Nat.{ℕ, _<_, _^_}
+use lib.ListN.{length, replicate}
+use lib.Dec.{T}
 use borrow.Author.Tests.{ne-eqb}
 use Rattle.columnar.specs.Types.{Number, Plain, Ty, tDictionary}
 use Rattle.columnar.specs.Reading.{Column, readAll}
@@ -14,25 +13,20 @@ use Rattle.array_data.specs.Tables.{Tables}
 use Rattle.array_data.specs.Typed.{columnOf, tablesFrom, sourceRule}
 use Rattle.array_data.specs.type_tree.Lent.{treeOf, typeOf}
 use Rattle.columns.specs.Grounds.{smallBody, columnGround}
-use Rattle.parts.specs.Parts.{nodesOf, Used}
-use Rattle.walk.specs.State.{dictionaryOf}
 use Rattle.walk.specs.Log.{Out}
-use Rattle.leaf_walk.specs.Join.{join}
 use Rattle.refinement.specs.log_in_room.Room.{AllBelow}
-use Rattle.refinement.specs.orders.Order.{Lent, joinOf}
+use Rattle.refinement.specs.orders.Order.{joinOf}
 use Rattle.refinement.specs.orders.Written.{OnlyUsed}
 use Rattle.refinement.specs.opening.Open.{Opening}
-use Rattle.refinement.specs.finishing.Finish.{nullTable, buffersBefore, finishing}
+use Rattle.refinement.specs.finishing.Finish.{nullTable}
 use Rattle.refinement.specs.finishing.Shows.{Shows, Counts, finishedTables, Bodied}
-use Rattle.refinement.proofs.plan_is_type.Planted.{dictionary-is}
 use Rattle.column_anew.specs.entries.Reclaimed.{reclaimed}
-use Rattle.column_anew.proofs.entries.Reclaim.{InUse, same-rows, entries-are, keys-fit, reclaimed-source}
-use Rattle.anew.specs.Anew.{orElse, roomGround, groundOf, anew}
-use Rattle.anew.proofs.Laws.{or-none, anew-keeps, anew-ground}
-use Rattle.anew.proofs.Planted.{planted}
-use Rattle.anew.proofs.Result.{lentFor, Filled, filled-by, anew-writes, anew-plan, anew-result}
+use Rattle.column_anew.proofs.entries.Reclaim.{same-rows, reclaimed-source}
+use Rattle.anew.specs.Anew.{orElse, roomGround}
+use Rattle.anew.proofs.Laws.{anew-keeps, anew-ground}
+use Rattle.anew.proofs.Result.{lentFor, Filled, filled-by, anew-writes, anew-result}
 use Rattle.reclaim_walk.specs.Walk.{reclaimWalk}
-use Rattle.reclaim.specs.Reclaim.{fromColumn, reclaimOwn, reclaimPlan, reclaimOut, reclaiming}
+use Rattle.reclaim.specs.Reclaim.{reclaimOwn, reclaimPlan, reclaimOut, reclaiming}
 use Rattle.reclaim.proofs.Answered.{out-is}
 use Rattle.reclaim.proofs.Fills.{reclaim-leaves}
 use Rattle.reclaim.proofs.Uses.{reclaim-uses}

@@ -1,10 +1,10 @@
 -- The walk of a reclaiming writes only into parts that there are. Assumes nothing.
-use mathlib.Core.Path.{_≡_, refl, sym, ap, subst, _∙_}
-use mathlib.Core.Bool.{Bool, true, false, cond}
+use mathlib.Core.Path.{_≡_, refl, sym, ap, subst}
+use mathlib.Core.Bool.{true, false}
 use mathlib.Core.List.{List, [], _∷_, _++_}
-use Prim.Native.Nat.{ℕ, zero, suc, _+_, _*_, _-_, _≤_, _<_, min, max}
+use Prim.Native.Nat.{ℕ, zero, suc, _+_, _*_, _≤_, _<_, min}
 use native.Mathlib.Omega.{arith}
-use lib.ListN.{length, replicate}
+use lib.ListN.{replicate}
 use lib.Dec.{eqb}
 use borrow.Author.Tests.{eqb-false}
 use Rattle.number.specs.Number.{encode}
@@ -12,7 +12,7 @@ use Rattle.columnar.specs.Row.{seg}
 use Rattle.columnar.specs.Entries.{encodes}
 use Rattle.formats.specs.Code.{isFixed, isString}
 use Rattle.walk.specs.State.{Join, codeOf, bytesOf, keepsOf, rows, place, addRows, lengthOf, offsetOf}
-use Rattle.walk.specs.Log.{put, mask, wrote, next}
+use Rattle.walk.specs.Log.{put, mask, wrote}
 use Rattle.walk.specs.Leaves.{copyBits, copyMask}
 use Rattle.walk.specs.Copy.{copyWalk}
 use Rattle.bits.specs.Bits.{bitsAt}
@@ -25,7 +25,7 @@ use Rattle.refinement.proofs.log_in_room.Copies.{used-copies}
 use Rattle.refinement.proofs.log_in_room.Found.{between-both}
 use Rattle.refinement.proofs.log_in_room.Uses.{used-wide, Uses, uses-done, uses-wrote, uses-cond, uses-need, uses-next}
 use Rattle.refinement.proofs.orders.Buffers.{fixed-one, buffer-copied, bits-copied, copied-part}
-use Rattle.used_entries.specs.Keys.{used, newKey, newKeys}
+use Rattle.used_entries.specs.Keys.{newKey, newKeys}
 use Rattle.reclaim_walk.specs.Walk.{keysOf, keysIn, firstEntry, runOf, copyRun, copyRuns, copyBlocks, reclaimWalk}
 
 -- bytes

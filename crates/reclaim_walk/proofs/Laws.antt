@@ -1,15 +1,14 @@
 -- What the walk of a reclaiming goes by: the keys that the tables name, and walks one behind the other. Assumes nothing.
 use mathlib.Core.Path.{_≡_, refl, sym, ap, ap₂, subst, _∙_}
 use mathlib.Core.Bool.{Bool, true, false, not, cond, _&&_, false≢true}
-use mathlib.Core.List.{List, [], _∷_, _++_, append-assoc}
-use Prim.Native.Nat.{ℕ, zero, suc, _+_, _*_, _-_, _^_, _≤_, _<_, min, max}
-use native.Mathlib.Nat.{add-zero, zero-add, mul-comm}
-use native.Mathlib.Numerals.{add-one}
+use mathlib.Core.List.{List, [], _∷_, append-assoc}
+use Prim.Native.Nat.{ℕ, _+_, _*_, _^_, _≤_, _<_}
+use native.Mathlib.Nat.{add-zero, mul-comm}
 use native.Mathlib.Decide.{ℕ-discrete}
 use native.Mathlib.Omega.{arith}
 use lib.ListN.{length, getD}
 use lib.Dec.{leb, ltb, eqb}
-use borrow.Author.Tests.{leb-true, ltb-true, lt-ltb, le-ltb, eqb-true, eqb-false, eq-eqb, ne-eqb}
+use borrow.Author.Tests.{leb-true, ltb-true, lt-ltb, le-ltb, eq-eqb, ne-eqb}
 use Rattle.number.specs.Number.{encode}
 use Rattle.columnar.specs.Row.{seg}
 use Rattle.columnar.proofs.Items.{length-encodes}
@@ -17,7 +16,7 @@ use Rattle.model.proofs.Bits.{length-seg}
 use Rattle.formats.specs.Code.{isFixed, isString, widthOf}
 use Rattle.array_data.proofs.lent_tables.Laws.{and-left, and-right}
 use Rattle.walk.specs.State.{Join, codeOf, bytesOf, grown, scaled, top, addRows, place, lengthOf, offsetOf, far, rowsIn}
-use Rattle.walk.specs.Log.{Out, Did, put, done, wrote, next, applyIf}
+use Rattle.walk.specs.Log.{Out, Did, put, done, next, applyIf}
 use Rattle.walk.proofs.Laws.{done-did, wrote-did, need-no, need-ok, next-ok, next-no}
 use Rattle.walk.specs.Leaves.{copyMask}
 use Rattle.walk.specs.Copy.{copyWalk}
@@ -26,7 +25,7 @@ use Rattle.leaf_walk.specs.Join.{join}
 use Rattle.leaf_walk.proofs.Widths.{fixed-width, string-width}
 use Rattle.used_entries.specs.Keys.{Keys, keys, KeyWidth, Within, used, rank, newKey, newKeys}
 use Rattle.used_entries.proofs.Laws.{rank-more}
-use Rattle.reclaim_walk.specs.Walk.{keysOf, bitsIn, keysIn, firstEntry, runOf, copyRun, copyRuns, copyBlocks, reclaimWalk}
+use Rattle.reclaim_walk.specs.Walk.{keysOf, bitsIn, keysIn, firstEntry, copyRun, copyBlocks, reclaimWalk}
 
 -- ---- walks one behind the other
 

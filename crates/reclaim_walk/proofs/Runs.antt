@@ -1,5 +1,5 @@
 -- Entries in use, run by run and block by block: what the ranks of a block say, and walks one behind the other. Assumes nothing.
-use mathlib.Core.Path.{_≡_, refl, sym, ap, subst, _∙_}
+use mathlib.Core.Path.{_≡_, refl, sym, subst, _∙_}
 use mathlib.Core.Bool.{Bool, true, false, cond}
 use mathlib.Core.List.{List}
 use Prim.Native.Nat.{ℕ, zero, suc, _+_, _-_, _≤_, _<_, min, max}
@@ -9,9 +9,9 @@ use native.Mathlib.Omega.{arith}
 use lib.Dec.{eqb}
 use borrow.Author.Tests.{lt-ltb, le-ltb, ne-eqb}
 use Rattle.walk.specs.State.{Join}
-use Rattle.walk.specs.Log.{Out, Did, done, next}
+use Rattle.walk.specs.Log.{Did, done, next}
 use Rattle.walk.proofs.Laws.{done-did, next-ok, next-no}
-use Rattle.used_entries.specs.Keys.{used, rank}
+use Rattle.used_entries.specs.Keys.{rank}
 use Rattle.reclaim_walk.specs.Walk.{keysOf, runOf, copyRun, copyRuns, copyBlocks}
 use Rattle.reclaim_walk.proofs.Laws.{next-same, used-told}
 

@@ -1,9 +1,5 @@
 -- `reclaim::make` meets its contract. Assumes nothing.
-use mathlib.Core.Path.{sym, subst, _∙_}
-use lib.ListN.{replicate}
-use Rattle.leaf_walk.specs.Join.{join}
-use Rattle.walk.specs.Log.{Did}
-use Rattle.reclaim_walk.specs.Walk.{reclaimWalk}
+use mathlib.Core.Path.{_∙_}
 use borrow.Author.Needs.{needs}
 use Rattle.reclaim.proofs.make.Statement.{statement}
 use Rattle.reclaim.proofs.make.Tie as tie

@@ -1,8 +1,7 @@
 -- `reclaim::plan_reclaim` meets its contract. Assumes nothing.
-use mathlib.Core.Path.{sym, _∙_}
+use mathlib.Core.Path.{_∙_}
 use mathlib.Core.List.{[]}
 use native.Mathlib.Omega.{arith}
-use lib.ListN.{length}
 use Rattle.source_rules.specs.kinds.Rows.{tablesOf}
 use Rattle.reclaim.proofs.Answered.{plannable, asked-ground, asked-walk, asked-plan, asked-counters, asked-done}
 use borrow.Author.Needs.{needs}

@@ -1,9 +1,5 @@
 -- `reclaim::reclaim` meets its contract. Assumes nothing.
-use mathlib.Core.Path.{refl, sym, ap, _∙_}
-use Rattle.anew.specs.Anew.{roomGround}
-use mathlib.Core.List.{[]}
 use native.Mathlib.Omega.{arith}
-use lib.ListN.{length}
 use Rattle.source_rules.specs.kinds.Rows.{tablesOf}
 use Rattle.reclaim.proofs.Answered.{plannable, room-lengths, small-room, answered-large, answered-ground, answered-walk, answered-room, answered-made}
 use borrow.Author.Needs.{needs}

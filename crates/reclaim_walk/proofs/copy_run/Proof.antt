@@ -1,5 +1,4 @@
 -- `reclaim_walk::copy_run` meets its contract. Assumes nothing.
-use mathlib.Core.List.{List}
 use Rattle.leaf_walk.specs.Join.{join}
 use Rattle.reclaim_walk.proofs.Laws.{copy-some, copy-none}
 use borrow.Author.Needs.{needs}

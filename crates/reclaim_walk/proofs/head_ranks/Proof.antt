@@ -1,6 +1,6 @@
 -- `reclaim_walk::head_ranks` meets its contract. Assumes nothing.
-use mathlib.Core.Path.{_≡_, sym, ap, subst, _∙_}
-use mathlib.Core.List.{List, []}
+use mathlib.Core.Path.{sym, ap, subst, _∙_}
+use mathlib.Core.List.{[]}
 use native.Mathlib.Omega.{arith}
 use Rattle.leaf_walk.specs.Join.{join}
 use Rattle.used_entries.specs.Keys.{Within, rank}

@@ -1,7 +1,6 @@
 -- `reclaim_walk::is_masked` meets its contract. Assumes nothing.
 use mathlib.Core.Path.{sym, ap, _∙_}
 use mathlib.Core.Bool.{not}
-use lib.Dec.{eqb}
 use borrow.Author.Tests.{eq-eqb, ne-eqb}
 use borrow.Author.Needs.{needs}
 use Rattle.reclaim_walk.proofs.is_masked.Statement.{statement}

@@ -1,7 +1,5 @@
 -- `reclaim_walk::keys_in` meets its contract. Assumes nothing.
-use mathlib.Core.Path.{_≡_, refl}
 use mathlib.Core.List.{[]}
-use native.Mathlib.Omega.{arith}
 use Rattle.leaf_walk.specs.Join.{join}
 use Rattle.reclaim_walk.proofs.Laws.{in-code, in-sum, in-entries, in-rows, in-none, in-bits, below-far, width-small}
 use borrow.Author.Needs.{needs}

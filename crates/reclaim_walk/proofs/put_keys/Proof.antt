@@ -1,10 +1,10 @@
 -- `reclaim_walk::put_keys` meets its contract. Assumes nothing.
-use mathlib.Core.Path.{_≡_, sym, ap, ap₂, subst, _∙_}
-use mathlib.Core.List.{List, []}
-use Prim.Native.Nat.{ℕ, _+_, _*_, _≤_}
+use mathlib.Core.Path.{sym, ap₂, subst, _∙_}
+use mathlib.Core.List.{[]}
+use Prim.Native.Nat.{_*_}
 use native.Mathlib.Omega.{arith}
 use lib.ListN.{length}
-use Rattle.walk.specs.State.{bytesOf, scaled, lengthOf}
+use Rattle.walk.specs.State.{scaled, lengthOf}
 use Rattle.room_writes.proofs.Laws.{Alike, alike-sized, made, put-at, put-skip}
 use Rattle.room_writes.proofs.Bytes.{width-in}
 use Rattle.leaf_walk.specs.Join.{join}

@@ -1,15 +1,11 @@
 -- `reclaim_walk::ranks_at` meets its contract. Assumes nothing.
-use mathlib.Core.Path.{_≡_, sym, ap, subst, _∙_}
-use mathlib.Core.List.{List, []}
-use Prim.Native.Nat.{ℕ, _+_, _*_, _≤_}
+use mathlib.Core.Path.{sym, ap, subst, _∙_}
+use mathlib.Core.List.{[]}
+use Prim.Native.Nat.{_+_}
 use native.Mathlib.Omega.{arith}
-use lib.ListN.{length}
-use Rattle.number.specs.Number.{splice}
-use Rattle.walk.specs.State.{lengthOf}
 use Rattle.leaf_walk.specs.Join.{join}
-use Rattle.used_entries.specs.Keys.{Keys, Within, rank, newKeys}
-use Rattle.reclaim_walk.specs.Walk.{keysOf}
-use Rattle.reclaim_walk.proofs.Laws.{keys-same, keys-within, entries-far, length-zero}
+use Rattle.used_entries.specs.Keys.{Within, rank}
+use Rattle.reclaim_walk.proofs.Laws.{keys-same, keys-within}
 use borrow.Author.Needs.{needs}
 use Rattle.reclaim_walk.proofs.ranks_at.Statement.{statement}
 use Rattle.reclaim_walk.proofs.ranks_at.Tie as tie

@@ -1,9 +1,9 @@
 -- `reclaim_walk::reclaim_walk` meets its contract. Assumes nothing.
-use mathlib.Core.Path.{sym, _∙_}
+use mathlib.Core.Path.{_∙_}
 use mathlib.Core.List.{[]}
 use native.Mathlib.Omega.{arith}
 use Rattle.leaf_walk.specs.Join.{join}
-use Rattle.reclaim_walk.proofs.Laws.{keys-in-parts, keys-within, told, slots-below, walk-no, walk-mask, walk-all}
+use Rattle.reclaim_walk.proofs.Laws.{keys-in-parts, told, slots-below, walk-no, walk-mask, walk-all}
 use borrow.Author.Needs.{needs}
 use Rattle.reclaim_walk.proofs.reclaim_walk.Statement.{statement}
 use Rattle.reclaim_walk.proofs.reclaim_walk.Tie as tie

@@ -1,11 +1,11 @@
 -- `reclaim_walk::write_keys` meets its contract. Assumes nothing.
-use mathlib.Core.Path.{_≡_, sym, ap, subst, _∙_}
-use mathlib.Core.List.{List, []}
+use mathlib.Core.Path.{sym, ap, subst, _∙_}
+use mathlib.Core.List.{[]}
 use Prim.Native.Nat.{ℕ, _+_, _*_, _≤_}
 use native.Mathlib.Omega.{arith}
 use lib.ListN.{length}
 use Rattle.number.specs.Number.{splice}
-use Rattle.walk.specs.State.{bytesOf, lengthOf}
+use Rattle.walk.specs.State.{bytesOf}
 use Rattle.leaf_walk.specs.Join.{join}
 use Rattle.used_entries.specs.Keys.{Keys, Within, rank, newKeys}
 use Rattle.reclaim_walk.specs.Walk.{keysOf}

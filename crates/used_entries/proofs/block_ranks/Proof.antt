@@ -1,8 +1,8 @@
 -- `used_entries::block_ranks` meets its contract. Assumes nothing.
-use mathlib.Core.Path.{_≡_, sym, ap, _∙_}
+use mathlib.Core.Path.{_≡_, ap, _∙_}
 use Prim.Native.Nat.{_+_}
 use native.Mathlib.Omega.{arith}
-use Rattle.used_entries.specs.Keys.{Keys, keys, rank}
+use Rattle.used_entries.specs.Keys.{keys, rank}
 use borrow.Author.Needs.{needs}
 use Rattle.used_entries.proofs.block_ranks.Statement.{statement}
 use Rattle.used_entries.proofs.block_ranks.Tie as tie

@@ -1,9 +1,9 @@
 -- `used_entries::block_slot` meets its contract. Assumes nothing.
-use mathlib.Core.Path.{_≡_, sym, ap, _∙_}
+use mathlib.Core.Path.{sym, ap, _∙_}
 use Prim.Native.Nat.{ℕ, _+_, _-_}
 use native.Mathlib.Nat.{mul-le-mul-left}
 use native.Mathlib.Omega.{arith}
-use Rattle.used_entries.specs.Keys.{Keys, keys}
+use Rattle.used_entries.specs.Keys.{keys}
 use Rattle.used_entries.proofs.Laws.{slot-null, slot-low, slot-high, slot-in, valid-is, key-is, not-true, not-false}
 use borrow.Author.Needs.{needs}
 use Rattle.used_entries.proofs.block_slot.Statement.{statement}

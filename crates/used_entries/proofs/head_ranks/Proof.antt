@@ -2,7 +2,7 @@
 use mathlib.Core.Path.{sym, ap, _∙_}
 use native.Mathlib.Nat.{zero-add}
 use native.Mathlib.Omega.{arith}
-use Rattle.used_entries.specs.Keys.{Keys, keys, rank}
+use Rattle.used_entries.specs.Keys.{keys, rank}
 use Rattle.used_entries.proofs.Laws.{rank-none}
 use borrow.Author.Needs.{needs}
 use Rattle.used_entries.proofs.head_ranks.Statement.{statement}

@@ -1,13 +1,13 @@
 -- `used_entries::marks_of` meets its contract. The invariant: each place says whether one of the first r rows names its entry. Assumes nothing.
-use mathlib.Core.Path.{_≡_, refl, sym, ap, _∙_}
+use mathlib.Core.Path.{_≡_, refl, ap, _∙_}
 use mathlib.Core.Bool.{cond}
-use Prim.Native.Nat.{ℕ, suc, _+_, _-_, _≤_, _<_}
+use Prim.Native.Nat.{ℕ, _+_, _-_, _≤_, _<_}
 use native.Mathlib.Numerals.{add-one}
 use native.Mathlib.Omega.{arith}
 use lib.ListN.{length, getD, length-set}
 use Rattle.column_anew.specs.entries.Used.{some-below}
 use Rattle.model.proofs.Bits.{getD-replicate}
-use Rattle.used_entries.specs.Keys.{Keys, keys, names}
+use Rattle.used_entries.specs.Keys.{keys, names}
 use Rattle.used_entries.proofs.Laws.{mark-step, marks-used}
 use borrow.Author.Needs.{needs}
 use Rattle.used_entries.proofs.marks_of.Statement.{statement}

@@ -3,7 +3,7 @@ use mathlib.Core.Path.{_≡_, refl}
 use Prim.Native.Nat.{ℕ, _+_, _-_, _≤_}
 use native.Mathlib.Omega.{arith}
 use lib.ListN.{length, getD, replicate, length-set}
-use Rattle.used_entries.specs.Keys.{Keys, keys, used, rank}
+use Rattle.used_entries.specs.Keys.{keys, used, rank}
 use Rattle.used_entries.proofs.Laws.{rank-le, one-most, ranks-begin, ranks-step}
 use borrow.Author.Needs.{needs}
 use Rattle.used_entries.proofs.ranks_of.Statement.{statement}

@@ -1,7 +1,7 @@
 -- `used_entries::write_block` meets its contract. The invariant: the first r rows have the keys of this block too. Assumes nothing.
-use mathlib.Core.Path.{_≡_, refl, sym, ap, _∙_}
+use mathlib.Core.Path.{_≡_, refl, ap, _∙_}
 use mathlib.Core.List.{List}
-use Prim.Native.Nat.{ℕ, suc, _+_, _*_, _-_, _≤_}
+use Prim.Native.Nat.{ℕ, _+_, _*_, _-_, _≤_}
 use native.Mathlib.Nat.{mul-le-mul-left}
 use native.Mathlib.Numerals.{add-one}
 use native.Mathlib.Omega.{arith}
@@ -9,7 +9,7 @@ use lib.ListN.{length, getD}
 use Rattle.number.specs.Number.{splice}
 use Rattle.columnar.specs.Row.{seg}
 use Rattle.columnar.specs.Entries.{encodes}
-use Rattle.used_entries.specs.Keys.{Keys, keys, newKey}
+use Rattle.used_entries.specs.Keys.{keys, newKey}
 use Rattle.used_entries.proofs.Rewrites.{mixedKey, mixed-none, mixed-all, block-step}
 use borrow.Author.Needs.{needs}
 use Rattle.used_entries.proofs.write_block.Statement.{statement}

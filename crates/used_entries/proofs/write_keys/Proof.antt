@@ -7,7 +7,7 @@ use lib.ListN.{length}
 use Rattle.number.specs.Number.{splice}
 use Rattle.columnar.specs.Row.{seg}
 use Rattle.columnar.specs.Entries.{encodes}
-use Rattle.used_entries.specs.Keys.{Keys, keys, rank, newKey, newKeys}
+use Rattle.used_entries.specs.Keys.{keys, rank, newKey}
 use Rattle.used_entries.proofs.Laws.{rank-none}
 use Rattle.used_entries.proofs.Rewrites.{none-yet, all-keys}
 use borrow.Author.Needs.{needs}
