@@ -49,7 +49,12 @@ fn the_line_of_a_mistake_is_told() {
 fn the_status_is_the_same_with_and_without_go_on() {
     // too many when they are ordered, and when the room is lent
     let large = [5_000_000_000_000_000_000u64, 1 << 60].map(|n| format!("type i?\nkeep nulls\nsource a\nrows 1\nnulls {n}\ncopy a 0..1\n"));
-    for (file, due) in [(large[0].as_bytes(), 1), (large[1].as_bytes(), 1), (b"type i\nsource a\nrows 1\ncopy a 0..2\n", 1), (b"type i\nsource a\nrows 1\ncopy a 0..1\n", 0)] {
+    for (file, due) in [
+        (large[0].as_bytes(), 1),
+        (large[1].as_bytes(), 1),
+        (b"type i\nsource a\nrows 1\ncopy a 0..2\n", 1),
+        (b"type i\nsource a\nrows 1\ncopy a 0..1\n", 0),
+    ] {
         for flags in [&["join", "-"][..], &["join", "--go-on", "-"]] {
             assert_eq!(told(flags, file).status.code(), Some(due));
         }
@@ -69,6 +74,7 @@ fn what_stopped_an_order_is_told() {
 fn the_demo_books_two_kilometres() {
     let output = run(&["demo"]);
     assert!(text(&output.stdout).contains("Booked on the trip: 2000 m, 270 ml."));
+    assert!(text(&output.stdout).ends_with("  joined      1 1 1 null null 0 0 0 1 1 1 0, in 6 runs\n"));
     assert!(output.status.success());
 }
 

@@ -19,7 +19,11 @@ lafkuno box FILE LATITUDE LONGITUDE START..END
 pub const MEAN: Command = Command {
     word: "mean",
     usage: "lafkuno mean FILE COLUMN START..END       count, exact sum and mean of rows of a column that FILE describes",
-    run: |words| asked("mean", "COLUMN", words, |[column]: [&Column; 1], rows| mean(column, rows).map(|m| format!("count {}\nsum {}\nmean {}", m.count, m.sum, m.mean))),
+    run: |words| {
+        asked("mean", "COLUMN", words, |[column]: [&Column; 1], rows| {
+            mean(column, rows).map(|m| format!("count {}\nsum {}\nmean {}", m.count, m.sum, m.mean))
+        })
+    },
 };
 
 pub const FUEL: Command = Command {
@@ -62,7 +66,8 @@ fn rows_of(column: &Column) -> Vec<String> {
 
 pub const RECLAIM: Command = Command {
     word: "reclaim",
-    usage: "\
+    usage:
+        "\
 lafkuno reclaim FILE COLUMN               a dictionary column of FILE without the entries that no row names: how many are left, the entries, the rows",
     run: reclaim,
 };

@@ -1,7 +1,7 @@
-//! `lafkuno demo`: one van, one stop, two kilometres.
+//! `lafkuno demo`: one van, one stop, two kilometres; then an old box's plain ignition column joined with a new box's runs.
 
 use super::{mistake, print, Command};
-use lafkuno::{Column, Error, Join, Row};
+use lafkuno::{text, Column, Error, Join, Row, RunEnds};
 
 pub const COMMAND: Command = Command { word: "demo", usage: "lafkuno demo                              one van, one stop, two kilometres", run };
 
@@ -26,10 +26,38 @@ fn run(words: &[&str]) -> u8 {
     if let Some(word) = words.first() {
         return mistake(format_args!("demo: {word} is not asked for"));
     }
-    match story() {
+    match story().and_then(|trip| Ok(trip + &ignition()?)) {
         Ok(text) => print(&text),
         Err(error) => mistake(error),
     }
+}
+
+/// The ignition a minute: on, off, or the box was silent.
+const OLD_BOX: [Option<i128>; 10] = [Some(0), Some(0), Some(0), Some(1), Some(1), Some(1), None, None, Some(0), Some(0)];
+const NEW_BOX: [Option<i128>; 6] = [Some(0), Some(0), Some(1), Some(1), Some(1), Some(0)];
+
+/// A plain column of an old box into runs, so that it is of a new box's type, and both joined.
+fn ignition() -> Result<String, Error> {
+    let column = |ty: &str, minutes: &[Option<i128>]| {
+        Column::build(&ty.parse()?, &minutes.iter().map(|m| m.map_or(Row::Null, Row::Whole)).collect::<Vec<_>>())
+    };
+    let rows = |c: &Column| (0..c.length).filter_map(|i| Some(text::show(&c.ty(), &c.row(i)?))).collect::<Vec<_>>().join(" ");
+    let old = column("C?", &OLD_BOX)?.slice(3, 7)?;
+    let new = column("+r(s, C?)", &NEW_BOX)?.slice(1, 5)?;
+    let runs = old.encode(0..old.length, RunEnds::I16)?;
+    let mut join = Join::open(&[&runs, &new], false)?;
+    join.copy(0, 0..runs.length)?;
+    join.copy(1, 0..new.length)?;
+    let joined = join.finish()?.column;
+    Ok(format!(
+        "\nAn old box sends the ignition as a plain column, a new one as runs, both sliced:\n\n  old box     {}\n  as runs     {}, in {} runs\n  new box     {}\n  joined      {}, in {} runs\n",
+        rows(&old),
+        rows(&runs),
+        runs.children[0].length,
+        rows(&new),
+        rows(&joined),
+        joined.children[0].length,
+    ))
 }
 
 fn story() -> Result<String, Error> {
