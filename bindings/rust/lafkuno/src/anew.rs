@@ -9,7 +9,7 @@ use crate::{explain, Buffer, Column, Error, Lent};
 const ALIGN: u64 = 64;
 
 /// The parts of a result, 2 numbers each, and the bytes of its room.
-fn parts(plan: &[u64; PLAN], counters: &[u64; COUNTERS]) -> Result<(Vec<Position>, u64), Error> {
+pub(crate) fn parts(plan: &[u64; PLAN], counters: &[u64; COUNTERS]) -> Result<(Vec<Position>, u64), Error> {
     let mut parts = vec![];
     let mut end = 0u64;
     for p in 0..calls::part_count(plan) {
@@ -37,15 +37,22 @@ impl Column {
         let (parts, bytes) = parts(&plan, &counters)?;
         let mut room = zeros(bytes).ok_or(Error::TooLarge { bytes })?;
         Error::check(calls::reclaim(&lent.tables(), first, n, &parts, &mut plan, &mut counters, &mut room))?;
-        raised(&lent, &plan, &parts, &counters, room)
+        raised(&lent, lent.tables(), (first, n), &plan, &parts, &counters, room)
     }
 }
 
-/// The column that stands in a room, finished. Its type is that of the column that was lent.
-fn raised(lent: &Lent, plan: &[u64], parts: &[Position], counters: &[u64], room: Vec<u8>) -> Result<Column, Error> {
+/// The column that stands in a room, finished, of x's one source. Its type is that of so many nodes from a first one on.
+pub(crate) fn raised(
+    lent: &Lent,
+    x: Tables,
+    (first, nodes): (u32, u32),
+    plan: &[u64],
+    parts: &[Position],
+    counters: &[u64],
+    room: Vec<u8>,
+) -> Result<Column, Error> {
     let inconsistent = |what: &str| Err(Error::Inconsistent(what.into()));
-    let x = lent.tables();
-    let nodes = x.sources[1] as usize;
+    let nodes = nodes as usize;
     let named = calls::buffer_total(plan, x.places, x.sources);
     let (mut lengths, mut nulls) = (vec![0; 2 * nodes], vec![0; nodes]);
     let (mut places, mut buffers) = (vec![0; 9 * nodes], vec![0; 2 * named]);
@@ -56,8 +63,7 @@ fn raised(lent: &Lent, plan: &[u64], parts: &[Position], counters: &[u64], room:
     }
     let (body, room) = (&lent.body, Buffer::from(room));
     let take = |at: usize, len: usize| if at < base { body.slice(at, len) } else { room.slice(at - base, len) };
-    let first = x.sources[0] as usize;
-    let raise = Raise { x, first, lengths: &lengths, places: &places, buffers: &buffers, fields: &lent.fields, take: &take };
+    let raise = Raise { x, first: first as usize, lengths: &lengths, places: &places, buffers: &buffers, fields: &lent.fields, take: &take };
     match raise.column(0) {
         Some((column, _)) => Ok(column),
         None => inconsistent("the finished tables name bytes that are not there"),

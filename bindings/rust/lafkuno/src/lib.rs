@@ -30,6 +30,7 @@ mod build;
 pub mod c_data;
 #[rustfmt::skip]
 pub mod calls;
+mod codings;
 mod column;
 mod explain;
 mod frame;
@@ -37,7 +38,6 @@ pub mod ipc;
 mod join;
 mod lent;
 mod orders;
-mod recode;
 mod refusal;
 mod rows;
 mod rules;
@@ -50,11 +50,11 @@ mod work;
 
 pub use batch::{join_many, run_many, Batch, Job};
 pub use buffer::Buffer;
+pub use codings::RunEnds;
 pub use column::{Column, Field, Metadata};
 pub use frame::{frame, Frame};
 pub use join::{Choices, Join, Joined, Order, Reader, Runs};
 pub use lent::Lent;
-pub use recode::RunEnds;
 pub use refusal::{Cause, Error, Ground, Place};
 pub use rows::Row;
 pub use sums::{mean, ratio, Fraction, Mean, Ratio};
