@@ -121,4 +121,18 @@ static inline void release_both(struct ArrowSchema *schema, struct ArrowArray *a
     array->release(array);
 }
 
+/* Refused with this text; array and schema stay as they were. */
+static inline struct lafkuno_error refused(const struct lafkuno_source *sources, size_t count, const struct lafkuno_order *orders,
+                                           size_t order_count, const struct lafkuno_options *options, int code, const char *text) {
+    struct ArrowSchema schema = {.flags = 77};
+    struct ArrowArray array = {.length = 77};
+    struct lafkuno_error error;
+    expect(text, lafkuno_join_arrays(sources, count, orders, order_count, options, &schema, &array, &error), code);
+    expect("error's code", error.code, code);
+    expect_text("text", error.message, text);
+    expect("untouched", schema.flags == 77 && array.length == 77, 1);
+    expect("without error", lafkuno_join_arrays(sources, count, orders, order_count, options, &schema, &array, NULL), code);
+    return error;
+}
+
 #endif

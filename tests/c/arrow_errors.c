@@ -3,20 +3,6 @@
 
 static const uint8_t all_valid = 0xff;
 
-/* Refused with this text; array and schema stay as they were. */
-static struct lafkuno_error refused(const struct lafkuno_source *sources, size_t count, const struct lafkuno_order *orders,
-                                    size_t order_count, const struct lafkuno_options *options, int code, const char *text) {
-    struct ArrowSchema schema = {.flags = 77};
-    struct ArrowArray array = {.length = 77};
-    struct lafkuno_error error;
-    expect(text, lafkuno_join_arrays(sources, count, orders, order_count, options, &schema, &array, &error), code);
-    expect("error's code", error.code, code);
-    expect_text("text", error.message, text);
-    expect("untouched", schema.flags == 77 && array.length == 77, 1);
-    expect("without error", lafkuno_join_arrays(sources, count, orders, order_count, options, &schema, &array, NULL), code);
-    return error;
-}
-
 static void one_order(struct made *source, struct lafkuno_order order, int code, const char *text) {
     struct lafkuno_source list[1] = {source_of(source)};
     const struct lafkuno_order orders[2] = {lafkuno_rows(0, 0, 1), order};

@@ -1,20 +1,6 @@
 /* Where an order stops: the node, the row within the rows that it was handed, and the numbers that clash. A refused call writes nothing. */
 #include "arrow_arrays.h"
 
-/* Refused with this text; array and schema stay as they were. */
-static struct lafkuno_error refused(const struct lafkuno_source *sources, size_t count, const struct lafkuno_order *orders,
-                                    size_t order_count, const struct lafkuno_options *options, int code, const char *text) {
-    struct ArrowSchema schema = {.flags = 77};
-    struct ArrowArray array = {.length = 77};
-    struct lafkuno_error error;
-    expect(text, lafkuno_join_arrays(sources, count, orders, order_count, options, &schema, &array, &error), code);
-    expect("error's code", error.code, code);
-    expect_text("text", error.message, text);
-    expect("untouched", schema.flags == 77 && array.length == 77, 1);
-    expect("without error", lafkuno_join_arrays(sources, count, orders, order_count, options, &schema, &array, NULL), code);
-    return error;
-}
-
 /* Offsets of four bytes end at 2^31 - 1. */
 static void list_offsets(void) {
     const int32_t offsets[3] = {0, 1, INT32_MAX};

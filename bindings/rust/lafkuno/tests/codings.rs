@@ -1,19 +1,10 @@
 //! A column into runs and back, held against a plain reading of the request over random columns.
 
+mod common;
+
+use common::Random;
 use lafkuno::{Column, Error, Row, RunEnds, Type};
 use std::process::Command;
-
-/// Random numbers (xorshift).
-struct Random(u64);
-
-impl Random {
-    fn below(&mut self, n: u64) -> u64 {
-        self.0 ^= self.0 << 13;
-        self.0 ^= self.0 >> 7;
-        self.0 ^= self.0 << 17;
-        self.0 % n
-    }
-}
 
 const FORMATS: [&str; 10] = ["c", "C", "s", "S", "i", "I", "l", "L", "f", "g"];
 

@@ -1,19 +1,10 @@
 //! The box around rows, held against a plain reading of the request over random columns.
 
+mod common;
+
+use common::Random;
 use lafkuno::{frame, Column, Frame, Ground, Row, Type};
 use std::process::Command;
-
-/// Random numbers (xorshift).
-struct Random(u64);
-
-impl Random {
-    fn below(&mut self, n: u64) -> u64 {
-        self.0 ^= self.0 << 13;
-        self.0 ^= self.0 >> 7;
-        self.0 ^= self.0 << 17;
-        self.0 % n
-    }
-}
 
 /// Values that meet: zeros of both signs, infinities, NaNs of several payloads, and a few others.
 const BITS: [u64; 14] = [

@@ -1,20 +1,11 @@
 //! Reclaiming unused dictionary entries, held against a plain reading of the request over random columns.
 
+mod common;
+
+use common::Random;
 use lafkuno::{Column, Row, Type};
 use std::collections::BTreeSet;
 use std::process::Command;
-
-/// Random numbers (xorshift).
-struct Random(u64);
-
-impl Random {
-    fn below(&mut self, n: u64) -> u64 {
-        self.0 ^= self.0 << 13;
-        self.0 ^= self.0 >> 7;
-        self.0 ^= self.0 << 17;
-        self.0 % n
-    }
-}
 
 fn width(format: &str) -> usize {
     match format {

@@ -1,21 +1,9 @@
 //! Exact sums against sums of the rows in plain Rust, over random columns and at the edges.
 
+mod common;
+
+use common::Random;
 use lafkuno::{mean, ratio, Column, Error, Fraction, Row, Type};
-
-struct Random(u64);
-
-impl Random {
-    fn next(&mut self) -> u64 {
-        self.0 ^= self.0 << 13;
-        self.0 ^= self.0 >> 7;
-        self.0 ^= self.0 << 17;
-        self.0
-    }
-
-    fn below(&mut self, n: u64) -> u64 {
-        self.next() % n
-    }
-}
 
 const FORMATS: [(&str, i128, i128); 8] = [
     ("c", i8::MIN as i128, i8::MAX as i128),
