@@ -122,8 +122,8 @@ static inline void release_both(struct ArrowSchema *schema, struct ArrowArray *a
 }
 
 /* Refused with this text; array and schema stay as they were. */
-static inline struct lafkuno_error refused(const struct lafkuno_source *sources, size_t count, const struct lafkuno_order *orders,
-                                           size_t order_count, const struct lafkuno_options *options, int code, const char *text) {
+static inline struct lafkuno_error refused_arrays(const struct lafkuno_source *sources, size_t count, const struct lafkuno_order *orders,
+                                                  size_t order_count, const struct lafkuno_options *options, int code, const char *text) {
     struct ArrowSchema schema = {.flags = 77};
     struct ArrowArray array = {.length = 77};
     struct lafkuno_error error;

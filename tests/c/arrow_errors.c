@@ -6,7 +6,7 @@ static const uint8_t all_valid = 0xff;
 static void one_order(struct made *source, struct lafkuno_order order, int code, const char *text) {
     struct lafkuno_source list[1] = {source_of(source)};
     const struct lafkuno_order orders[2] = {lafkuno_rows(0, 0, 1), order};
-    struct lafkuno_error error = refused(list, 1, orders, 2, NULL, code, text);
+    struct lafkuno_error error = refused_arrays(list, 1, orders, 2, NULL, code, text);
     expect("order", error.order, 1);
 }
 
@@ -41,7 +41,7 @@ static void bad_source(void) {
         add_child(made[s], item);
         list[s] = source_of(made[s]);
     }
-    struct lafkuno_error error = refused(list, 13, NULL, 0, NULL, LAFKUNO_BAD_SOURCE,
+    struct lafkuno_error error = refused_arrays(list, 13, NULL, 0, NULL, LAFKUNO_BAD_SOURCE,
                                          "source 11, node 1 'item' (C): row 1: key 2, and the dictionary has 2 entries (ground 12)");
     expect("source", error.source, 11);
     expect("node", error.node, 1);
@@ -54,7 +54,7 @@ static void bad_source(void) {
 
 static void differing(struct made *a, struct made *b, const char *text) {
     struct lafkuno_source list[2] = {source_of(a), source_of(b)};
-    struct lafkuno_error error = refused(list, 2, NULL, 0, NULL, LAFKUNO_TYPES_DIFFER, text);
+    struct lafkuno_error error = refused_arrays(list, 2, NULL, 0, NULL, LAFKUNO_TYPES_DIFFER, text);
     expect("source", error.source, 1);
     discard(a);
     discard(b);
@@ -99,7 +99,7 @@ static void types(void) {
 
 static void one_source(struct made *m, int code, const char *text) {
     struct lafkuno_source list[1] = {source_of(m)};
-    refused(list, 1, NULL, 0, NULL, code, text);
+    refused_arrays(list, 1, NULL, 0, NULL, code, text);
     discard(m);
 }
 
@@ -205,12 +205,12 @@ static void counts(void) {
     const struct lafkuno_order gap = lafkuno_gap((uint64_t)1 << 60), lesser = lafkuno_gap((uint64_t)1 << 58);
     const struct lafkuno_options keep = {.keep_nulls = 1, .most_rows = UINT64_MAX};
     for (int s = 0; s < 17; s++) list[s] = source_of(m);
-    refused(list, 0, NULL, 0, NULL, LAFKUNO_CEILING_PASSED, "there is no source (ground 9)");
-    struct lafkuno_error error = refused(list, 17, NULL, 0, NULL, LAFKUNO_CEILING_PASSED, "17 sources, and 16 are allowed (ground 9)");
+    refused_arrays(list, 0, NULL, 0, NULL, LAFKUNO_CEILING_PASSED, "there is no source (ground 9)");
+    struct lafkuno_error error = refused_arrays(list, 17, NULL, 0, NULL, LAFKUNO_CEILING_PASSED, "17 sources, and 16 are allowed (ground 9)");
     expect("found", (long long)error.found, 17);
     expect("allowed", (long long)error.allowed, 16);
-    refused(list, 1, &gap, 1, &keep, LAFKUNO_CEILING_PASSED, "9367487224930631680 bytes of the result, and 9223372036854775807 are allowed (ground 9)");
-    refused(list, 1, &lesser, 1, &keep, LAFKUNO_NO_MEMORY, "there is no memory left");
+    refused_arrays(list, 1, &gap, 1, &keep, LAFKUNO_CEILING_PASSED, "9367487224930631680 bytes of the result, and 9223372036854775807 are allowed (ground 9)");
+    refused_arrays(list, 1, &lesser, 1, &keep, LAFKUNO_NO_MEMORY, "there is no memory left");
     discard(m);
 }
 
@@ -232,12 +232,12 @@ static void work(void) {
     struct lafkuno_source list[1] = {source_of(m)};
     struct lafkuno_order all = lafkuno_rows(0, 0, ROWS), one = lafkuno_rows(0, 0, 1);
     struct lafkuno_error error =
-        refused(list, 1, &all, 1, NULL, LAFKUNO_TOO_MUCH_WORK,
+        refused_arrays(list, 1, &all, 1, NULL, LAFKUNO_TOO_MUCH_WORK,
                 "node 2 'list' (+vl): 68719476736 rows are the bound of the orders here, and 4294967296 are allowed");
     expect("node", error.node, 2);
     expect("bound", (long long)error.found, 1LL << 36);
     struct lafkuno_options few = {.most_rows = 4095};
-    refused(list, 1, &one, 1, &few, LAFKUNO_TOO_MUCH_WORK,
+    refused_arrays(list, 1, &one, 1, &few, LAFKUNO_TOO_MUCH_WORK,
             "node 1 'list' (+vl): 4096 rows are the bound of the orders here, and 4095 are allowed");
     discard(m);
 }
@@ -262,7 +262,7 @@ static void no_needless_bound(void) {
     struct ArrowArray array;
     expect("bound", lafkuno_join_arrays(list, 1, &all, 1, &exactly, NULL, &array, NULL), 0);
     array.release(&array);
-    refused(list, 1, &all, 1, &less, LAFKUNO_TOO_MUCH_WORK,
+    refused_arrays(list, 1, &all, 1, &less, LAFKUNO_TOO_MUCH_WORK,
             "node 1 'stop' (C): 3000 rows are the bound of the orders here, and 2999 are allowed");
     discard(m);
 }
@@ -285,7 +285,7 @@ static void lists_are_not_multiplied(void) {
     expect("runs", array.children[0]->children[0]->length, 1);
     expect("leaves", array.children[0]->children[1]->children[0]->length, ITEMS);
     array.release(&array);
-    refused(list, 1, &all, 1, &less, LAFKUNO_TOO_MUCH_WORK,
+    refused_arrays(list, 1, &all, 1, &less, LAFKUNO_TOO_MUCH_WORK,
             "node 1 'stop' (+r): 3000 rows are the bound of the orders here, and 2999 are allowed");
     discard(m);
 }
@@ -300,7 +300,7 @@ static void too_many_entries(void) {
         set_dictionary(pair[s], numbers("C", "", 0, s ? 57 : 200, 0, values, 1, NULL));
         list[s] = source_of(pair[s]);
     }
-    refused(list, 2, NULL, 0, NULL, LAFKUNO_TOO_MANY_ENTRIES,
+    refused_arrays(list, 2, NULL, 0, NULL, LAFKUNO_TOO_MANY_ENTRIES,
             "node 0 'driver' (C): the dictionary has more entries than its keys can name (ground 8)");
     for (int s = 0; s < 2; s++) discard(pair[s]);
 }
@@ -332,7 +332,7 @@ static void runs_below_lists(void) {
     expect("runs", lafkuno_join_arrays(list, 1, &all, 1, &exactly, NULL, &array, NULL), 0);
     expect("leaves", array.children[0]->children[1]->children[0]->length, ROWS * ITEMS);
     array.release(&array);
-    refused(list, 1, &all, 1, &less, LAFKUNO_TOO_MUCH_WORK,
+    refused_arrays(list, 1, &all, 1, &less, LAFKUNO_TOO_MUCH_WORK,
             "node 4 'leaf' (C): 100000 rows are the bound of the orders here, and 99999 are allowed");
     discard(m);
 }

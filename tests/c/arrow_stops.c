@@ -13,7 +13,7 @@ static void list_offsets(void) {
     struct lafkuno_source list[1] = {source_of(m)};
     const struct lafkuno_order orders[3] = {lafkuno_rows(0, 1, 2), lafkuno_rows(0, 0, 1), lafkuno_rows(0, 0, 1)};
     const struct lafkuno_options many = {.most_rows = UINT64_C(1) << 40};
-    refused(list, 1, orders, 3, &many, LAFKUNO_OFFSET_TOO_LARGE,
+    refused_arrays(list, 1, orders, 3, &many, LAFKUNO_OFFSET_TOO_LARGE,
             "node 0 'stops' (+l), row 0, order 2 (copy 0 0..1): an offset or a dense union's position does not fit its type: 2147483648 is needed, "
             "and 2147483647 is the largest allowed (ground 6)");
     discard(m);
@@ -28,7 +28,7 @@ static void run_ends(void) {
     add_child(m, numbers("i", "values", 0, 1, 0, &value, 4, NULL));
     struct lafkuno_source list[1] = {source_of(m)};
     const struct lafkuno_order twice[2] = {lafkuno_rows(0, 0, 32767), lafkuno_rows(0, 0, 1)};
-    struct lafkuno_error error = refused(list, 1, twice, 2, NULL, LAFKUNO_RUN_END_TOO_LARGE,
+    struct lafkuno_error error = refused_arrays(list, 1, twice, 2, NULL, LAFKUNO_RUN_END_TOO_LARGE,
                                          "node 0 'ignition' (+r), row 0, order 1 (copy 0 0..1): a run end does not fit its type: 32768 is needed, "
                                          "and 32767 is the largest allowed (ground 7)");
     expect("needed and allowed", error.node == 0 && error.row == 0 && error.found == 32768 && error.allowed == 32767, 1);
@@ -47,7 +47,7 @@ static void no_home_for_nulls(void) {
     struct lafkuno_source list[1] = {source_of(m)};
     const struct lafkuno_order orders[2] = {lafkuno_rows(0, 0, 1), lafkuno_gap(1)};
     const struct lafkuno_options keep = {.keep_nulls = 1};
-    struct lafkuno_error error = refused(list, 1, orders, 2, &keep, LAFKUNO_UNION_NOT_NULLABLE,
+    struct lafkuno_error error = refused_arrays(list, 1, orders, 2, &keep, LAFKUNO_UNION_NOT_NULLABLE,
                                          "node 2 'values' (+us:4), row 0, order 1 (nulls 1): nulls for a union none of whose fields is nullable "
                                          "(ground 5)");
     expect("node", error.node, 2);
