@@ -1,6 +1,6 @@
 // How many joins a second one machine makes, by rows and kind, on one thread and on two. Run by bench/run; built by cargo with bindings/rust.
 
-use lafkuno::{join_many, run_many, text, Batch, Choices, Column, Field, Job, Order, Row, Type};
+use lafkuno::{join_many, keep_pages, run_many, text, Batch, Choices, Column, Field, Job, Order, Row, Type};
 use std::hint::black_box;
 use std::time::Instant;
 
@@ -9,6 +9,29 @@ fn column(name: &str, ty: &str, rows: u64, row: &str) -> Column {
     let some: Vec<Row> = text::rows(&ty, row).unwrap();
     let rows: Vec<Row> = (0..rows as usize).map(|k| some[k % some.len()].clone()).collect();
     Column { field: Field { name: name.into(), ..Field::default() }, ..Column::build(&ty, &rows).unwrap() }
+}
+
+// Vans whose batches are at hand at the same time.
+const VANS: usize = 31;
+
+type Columns = Vec<(&'static str, &'static str, &'static str)>;
+
+// What a batch may hold: each column's name, type and rows.
+fn kinds() -> [(&'static str, Columns); 4] {
+    let six = vec![
+        ("a", "l?", "1 2 null 4"),
+        ("b", "u?", "\"Leith\" \"Granton\" null"),
+        ("c", "vu?", "\"short\" \"a text of more than twelve bytes\""),
+        ("d", "+r(i, u?)", "5*\"driving\" 3*\"idle\""),
+        ("e", "S?[u]", "\"x\" \"y\" null"),
+        ("f", "+us:0,1(i?, g?)", "0:1 1:2.5 0:null"),
+    ];
+    [
+        ("one of int64", vec![("n", "l?", "1 2 null 4")]),
+        ("one of strings", vec![("s", "u?", "\"Leith\" \"Granton\" null")]),
+        ("one of list-views", vec![("v", "+vl?(i?)", "[1, 2] [] null [3]")]),
+        ("six: numbers, strings, views, run ends, dictionary, union", six),
+    ]
 }
 
 extern "C" {
@@ -22,14 +45,15 @@ fn processor() -> f64 {
     time[0] as f64 + time[1] as f64 / 1e9
 }
 
-// Joins a second of trips over two batches (two copies, a null, a copy), and microseconds of a processor a join.
-fn rate(batch: &Batch, threads: usize, jobs: usize) -> (f64, f64) {
-    let rows = batch.rows;
+// Joins a second of trips over two batches (two copies, a null, a copy), and microseconds of a processor a join. Neighbouring jobs are of
+// other vans, with batches of their own.
+fn rate(vans: &[[Batch; 2]], threads: usize, jobs: usize) -> (f64, f64) {
+    let rows = vans[0][0].rows;
     let copy = |source, start, end| Order::Copy { source, start, end };
     let orders = vec![copy(0, rows / 4, rows), Order::Nulls(1), copy(1, 0, rows / 2), copy(0, 0, rows / 4)];
-    let jobs: Vec<Job> = (0..jobs)
-        .map(|_| Job { sources: vec![batch, batch], orders: orders.clone(), choices: Choices { keep_nulls: true, ..Choices::default() } })
-        .collect();
+    let choices = Choices { keep_nulls: true, ..Choices::default() };
+    let job = |k: usize| Job { sources: vans[k % vans.len()].iter().collect(), orders: orders.clone(), choices };
+    let jobs: Vec<Job> = (0..jobs).map(job).collect();
     best_of_seven(jobs.len(), || assert!(join_many(&jobs, threads, &|_| {}).iter().all(Result::is_ok)))
 }
 
@@ -55,33 +79,25 @@ fn print_row(name: &str, one: (f64, f64), two: (f64, f64)) {
     println!("| {name} | {:.0} | {:.0} | {:.2} | {:.1} | {:.1} | {:.2} |", one.0, two.0, two.0 / one.0, one.1, two.1, 2.0 * one.1 / two.1);
 }
 
+// With a word, the allocator stays as it comes.
 fn main() {
+    if std::env::args().len() == 1 {
+        keep_pages();
+    }
     println!(
         "| rows a batch | columns | joins a second, 1 thread | 2 threads | ratio | processor us a join, 1 thread | 2 threads | ratio on free cores |"
     );
     println!("|---|---|---|---|---|---|---|---|");
     print_row("- | none: arithmetic alone", arithmetic(1), arithmetic(2));
     for rows in [10u64, 1000, 100_000] {
-        let kinds: [(&str, Vec<Column>); 4] = [
-            ("one of int64", vec![column("n", "l?", rows, "1 2 null 4")]),
-            ("one of strings", vec![column("s", "u?", rows, "\"Leith\" \"Granton\" null")]),
-            ("one of list-views", vec![column("v", "+vl?(i?)", rows, "[1, 2] [] null [3]")]),
-            (
-                "six: numbers, strings, views, run ends, dictionary, union",
-                vec![
-                    column("a", "l?", rows, "1 2 null 4"),
-                    column("b", "u?", rows, "\"Leith\" \"Granton\" null"),
-                    column("c", "vu?", rows, "\"short\" \"a text of more than twelve bytes\""),
-                    column("d", "+r(i, u?)", rows, "5*\"driving\" 3*\"idle\""),
-                    column("e", "S?[u]", rows, "\"x\" \"y\" null"),
-                    column("f", "+us:0,1(i?, g?)", rows, "0:1 1:2.5 0:null"),
-                ],
-            ),
-        ];
-        for (name, columns) in kinds {
-            let batch = Batch { rows, columns, metadata: vec![] };
-            let jobs = (4_000_000 / (rows * batch.columns.len() as u64 + 2000)).max(8) as usize;
-            print_row(&format!("{rows} | {name}"), rate(&batch, 1, jobs), rate(&batch, 2, jobs));
+        for (name, columns) in kinds() {
+            let jobs = (4_000_000 / (rows * columns.len() as u64 + 2000)).max(8) as usize;
+            let batch = || {
+                let made = columns.iter().map(|(name, ty, some)| column(name, ty, rows, some)).collect();
+                Batch { rows, columns: made, metadata: vec![] }
+            };
+            let vans: Vec<[Batch; 2]> = (0..jobs.min(VANS)).map(|_| [batch(), batch()]).collect();
+            print_row(&format!("{rows} | {name}"), rate(&vans, 1, jobs), rate(&vans, 2, jobs));
         }
     }
 }

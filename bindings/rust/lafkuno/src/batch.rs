@@ -202,3 +202,22 @@ pub fn run_many<J: Sync, T: Send>(jobs: &[J], threads: usize, make: impl Fn(&J) 
     answers.sort_by_key(|(k, _)| *k);
     answers.into_iter().flat_map(|(_, list)| list).collect()
 }
+
+/// Tells the GNU C library's allocator to keep the pages that are freed, for a process that makes joins all day: pages that are given back
+/// and asked for again cost more than a join of a few thousand rows, and threads that ask at once wait for each other. Call it once, before
+/// threads begin. With another allocator or C library it does nothing.
+pub fn keep_pages() {
+    #[cfg(all(target_os = "linux", target_env = "gnu"))]
+    {
+        extern "C" {
+            fn mallopt(parameter: i32, value: i32) -> i32;
+        }
+        const TRIM_THRESHOLD: i32 = -1;
+        const TOP_PAD: i32 = -2;
+        const MMAP_THRESHOLD: i32 = -3;
+        // numbers go in and a flag comes out; where a number is not taken the allocator stays as it was
+        for (parameter, value) in [(TRIM_THRESHOLD, i32::MAX), (TOP_PAD, 64 << 20), (MMAP_THRESHOLD, 32 << 20), (MMAP_THRESHOLD, i32::MAX)] {
+            unsafe { mallopt(parameter, value) };
+        }
+    }
+}

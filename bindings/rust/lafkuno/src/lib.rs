@@ -48,7 +48,7 @@ mod types;
 mod values;
 mod work;
 
-pub use batch::{join_many, run_many, Batch, Job};
+pub use batch::{join_many, keep_pages, run_many, Batch, Job};
 pub use buffer::Buffer;
 pub use codings::RunEnds;
 pub use column::{Column, Field, Metadata};

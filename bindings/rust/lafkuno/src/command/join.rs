@@ -21,6 +21,7 @@ fn run(words: &[&str]) -> u8 {
         Ok(words) => words,
         Err(what) => return mistake(format_args!("join: {what}")),
     };
+    lafkuno::keep_pages();
     if let Some(orders) = words.value("--orders") {
         return match ["--buffers", "--go-on"].iter().find(|o| words.has(o)) {
             Some(option) => mistake(format_args!("join: {option} does not go with --orders")),
