@@ -423,6 +423,55 @@ uint8_t lafkuno_reclaim(const uint8_t *formats, size_t formats_len, const uint32
                         uint32_t first, uint32_t n, const uint64_t *parts, size_t parts_len, uint64_t *plan, size_t plan_len,
                         uint64_t *counters, size_t counters_len, uint8_t *room, size_t room_len);
 
+/* ---- a list as a list-view, and back */
+
+/* Before any room is lent: the rows of a list-view column as a list of the same width. Its child is laid out anew by one copy for each valid row,
+ * in row order; a null row is an empty stretch. 9, 10 and 12 for a malformed column, then 10 for any other column or another target; row by row 6
+ * for an offset that does not fit, before that row's child, and 6 or 7 for what the child's copy meets; last 14 where plan and counters have not
+ * LAFKUNO_PLAN and LAFKUNO_COUNTERS numbers. A dictionary below is kept without a part, however many entries it has. Rows of list-views may overlap
+ * and nested ones multiply: a small column can ask for more rows than any machine could copy.
+ *   first, n          the column's first node in the tables and how many nodes it has.
+ *   target, target_n  the result's type in the same schema, likewise: +l for +vl, +L for +vL, and below it the column's own types and flags, of
+ *                     which that of the child itself may differ, as the root's may.
+ *   plan              is written, and so is counters, where the answer is 0. */
+uint8_t lafkuno_plan_list(const uint8_t *formats, size_t formats_len, const uint32_t *schema, size_t schema_len,
+                          const uint64_t *lengths, size_t lengths_len, const uint64_t *places, size_t places_len,
+                          const uint64_t *buffers, size_t buffers_len, const uint8_t *body, size_t body_len,
+                          uint32_t first, uint32_t n, uint32_t target, uint32_t target_n, uint64_t *plan, size_t plan_len,
+                          uint64_t *counters, size_t counters_len);
+
+/* Writes it: 9 also where the room is too large, then the grounds of the question, 14 of the parts, and 13 last. A refusal changes nothing.
+ * lafkuno_finish finishes the result, with first and n as its one source: target_n nodes, which can be lent again over a body that has the room
+ * behind the old body.
+ *   parts     as for lafkuno_open.
+ *   plan      is written; its numbers before are not read, nor are those of counters.
+ *   room      is written in the parts. */
+uint8_t lafkuno_list(const uint8_t *formats, size_t formats_len, const uint32_t *schema, size_t schema_len,
+                     const uint64_t *lengths, size_t lengths_len, const uint64_t *places, size_t places_len,
+                     const uint64_t *buffers, size_t buffers_len, const uint8_t *body, size_t body_len,
+                     uint32_t first, uint32_t n, uint32_t target, uint32_t target_n, const uint64_t *parts, size_t parts_len,
+                     uint64_t *plan, size_t plan_len, uint64_t *counters, size_t counters_len,
+                     uint8_t *room, size_t room_len);
+
+/* Before any room is lent: a list column as a list-view of the same width over the same child, each row's offset and size kept, null rows' too. 9, 10
+ * and 12 for a malformed column, then 10 for any other column or another target (+vl for +l, +vL for +L); last 14 as for lafkuno_plan_list. The
+ * child is not copied: the plan has the root alone, whose parts are its validity, where the column has a null, its offsets and its sizes. */
+uint8_t lafkuno_plan_list_view(const uint8_t *formats, size_t formats_len, const uint32_t *schema, size_t schema_len,
+                               const uint64_t *lengths, size_t lengths_len, const uint64_t *places, size_t places_len,
+                               const uint64_t *buffers, size_t buffers_len, const uint8_t *body, size_t body_len,
+                               uint32_t first, uint32_t n, uint32_t target, uint32_t target_n, uint64_t *plan, size_t plan_len,
+                               uint64_t *counters, size_t counters_len);
+
+/* Writes the root: the grounds of lafkuno_list. lafkuno_finish describes it, with first and n as the one source, in tables of one node. The whole
+ * result has the types of target, and the numbers of n nodes: those of the finished root, and behind them, as they stand in lengths and places, those
+ * of the column's nodes first + 1 .. first + n - 1, with the column's own buffers table. Its body holds the room at base, behind the old body. */
+uint8_t lafkuno_list_view(const uint8_t *formats, size_t formats_len, const uint32_t *schema, size_t schema_len,
+                          const uint64_t *lengths, size_t lengths_len, const uint64_t *places, size_t places_len,
+                          const uint64_t *buffers, size_t buffers_len, const uint8_t *body, size_t body_len,
+                          uint32_t first, uint32_t n, uint32_t target, uint32_t target_n, const uint64_t *parts, size_t parts_len,
+                          uint64_t *plan, size_t plan_len, uint64_t *counters, size_t counters_len,
+                          uint8_t *room, size_t room_len);
+
 #ifdef __cplusplus
 }
 #endif

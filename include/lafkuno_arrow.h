@@ -148,6 +148,16 @@ LAFKUNO_API int lafkuno_join_batches(const struct lafkuno_source *batches, size_
                                      size_t order_count, const struct lafkuno_options *options, struct ArrowSchema *schema,
                                      struct ArrowArray *array, struct lafkuno_error *error);
 
+/* A column's rows in another type: a list as a list-view of the same width, or back. Rows read as before. What the rows do not reach is left out, as
+ * in a join. Answers 0 and writes schema and array, or answers error->code and writes nothing else: 10 for any other column or type, 6 or 7 where an
+ * offset or a run end of the list does not fit.
+ *   type      the type of the result, with its names and metadata; flags below the root are the column's own.
+ *   options   may be NULL. Of them most_rows counts, where list-views become lists: their rows may overlap.
+ *   schema    may be NULL: a copy of type, nullable where the column is.
+ *   array     the result, of offset 0; it owns its memory. */
+LAFKUNO_API int lafkuno_convert_array(const struct lafkuno_source *source, const struct ArrowSchema *type, const struct lafkuno_options *options,
+                                      struct ArrowSchema *schema, struct ArrowArray *array, struct lafkuno_error *error);
+
 /* Another ArrowArray over the memory of one that a call above made (else LAFKUNO_BAD_STRUCT): each is released by itself, in any order
  * and on any thread. Answers 0 and writes copy, or LAFKUNO_NO_MEMORY. */
 LAFKUNO_API int lafkuno_share_array(const struct ArrowArray *array, struct ArrowArray *copy);

@@ -26,8 +26,7 @@ static uint32_t refused_node(const struct column *column, uint32_t node) {
     return node;
 }
 
-/* Tells of the sources the one that is refused, and its node. */
-static int refuse_sources(struct column *column, int code) {
+int refuse_sources(struct column *column, int code) {
     const struct import *import = &column->import;
     for (uint32_t s = 0; s < import->source_count; s++) {
         uint32_t first = import->sources[2 * s];
@@ -157,8 +156,7 @@ int column_prepare(struct column *column, struct report *report, const struct la
     return give_orders(column, task, true);
 }
 
-/* The room of all parts. */
-static int lend_room(struct column *column) {
+int lend_room(struct column *column) {
     uint64_t bytes = lafkuno_state_parts(&column->state);
     if (bytes > LAFKUNO_MOST_BYTES)
         return refuse_above(column->report, LAFKUNO_CEILING_PASSED, bytes, LAFKUNO_MOST_BYTES, "bytes of the result");
@@ -167,8 +165,7 @@ static int lend_room(struct column *column) {
     return column->state.room ? 0 : refuse_memory(column->report);
 }
 
-/* The tables of the finished array, in one block that is `tables->lengths`. */
-static int finish_tables(struct column *column, struct lafkuno_finished *tables) {
+int finish_tables(struct column *column, struct lafkuno_finished *tables) {
     size_t nodes = column->import.sources[1];
     size_t data = (size_t)lafkuno_state_buffer_total(&column->state, &column->tables);
     uint64_t *block = malloc(3 * nodes * sizeof *block + (9 * nodes + 2 * data + 1) * sizeof(position));
@@ -189,14 +186,17 @@ int column_finish(struct column *column, const struct task *task, struct ArrowAr
     if (ground) return refuse_plainly(column->report, ground);
     code = give_orders(column, task, false);
     if (!code) code = finish_tables(column, &finished.tables);
-    if (code) return code;
+    return code ? code : export_finished(column, column->type, &finished, array);
+}
+
+int export_finished(struct column *column, const struct ArrowSchema *type, struct finished *finished, struct ArrowArray *array) {
     for (uint32_t p = 0; p < column->state.parts_len / 2; p++)
-        finished.copied[lafkuno_part_node(column->state.plan, LAFKUNO_PLAN, p)] = true;
-    finished.room = column->state.room;
+        finished->copied[lafkuno_part_node(column->state.plan, LAFKUNO_PLAN, p)] = true;
+    finished->room = column->state.room;
     column->import.body = NULL;
     column->state.room = NULL;
-    code = export_array(column->report, column->type, &finished, array);
-    free(finished.tables.lengths);
+    int code = export_array(column->report, type, finished, array);
+    free(finished->tables.lengths);
     return code;
 }
 

@@ -3,7 +3,7 @@
  *   import.c    fills the tables of every source with the window that its slice reaches (windows.c: of children and data buffers)
  *   lay.c       copies the windows into one body, memory that is shared once
  *   bound.c     the most rows that the orders can come to
- *   join.c      the calls of lafkuno.h (diagnose.c: which row of a source is refused)
+ *   join.c      the calls of lafkuno.h (diagnose.c: which row of a source is refused); convert.c those of one column in another type
  *   export.c    the finished ArrowArray; schema.c its type */
 #ifndef LAFKUNO_LAYER_H
 #define LAFKUNO_LAYER_H
@@ -218,6 +218,13 @@ int column_prepare(struct column *column, struct report *report, const struct la
 int column_finish(struct column *column, const struct task *task, struct ArrowArray *array);
 void column_end(struct column *column);
 
+/* Tells of the sources the one that is refused, and its node. */
+int refuse_sources(struct column *column, int code);
+/* The room of all parts. */
+int lend_room(struct column *column);
+/* The tables of the finished array, in one block that is `tables->lengths`. */
+int finish_tables(struct column *column, struct lafkuno_finished *tables);
+
 /* ---- export.c */
 
 /* Memory of 64 bytes' alignment, freed by `free`; NULL where there is none. */
@@ -231,6 +238,8 @@ struct finished {
 
 /* The finished array, which owns room and body from now on, also where it is refused; the body goes at once where nothing names it. */
 int export_array(struct report *report, const struct ArrowSchema *type, const struct finished *finished, struct ArrowArray *array);
+/* The same of a column's room and body; frees the tables. */
+int export_finished(struct column *column, const struct ArrowSchema *type, struct finished *finished, struct ArrowArray *array);
 /* A struct array of these columns, which it owns if it is made; `own` is the column whose validity is the struct's, or NULL. */
 int export_struct(struct report *report, struct ArrowArray *columns, int64_t count, struct ArrowArray *own, uint64_t rows,
                   struct ArrowArray *array);

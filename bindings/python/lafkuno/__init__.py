@@ -1,6 +1,7 @@
 """Joins ranges of Arrow columns, or of record batches, into one.
 
     joined = lafkuno.join([a, b], [lafkuno.rows(0, 10, 20), lafkuno.gap(1), lafkuno.rows(1, 0, 5)], keep_nulls=True)
+    views = lafkuno.convert(lists, type)
 
 Sources are any objects of the Arrow PyCapsule protocol (`__arrow_c_array__`), and the result is one: arrays and record batches of any
 Arrow implementation go in and out without further code. All orders are carried out, or none: then `lafkuno.Error` says where and why.
@@ -13,7 +14,7 @@ from typing import NamedTuple
 from ._capsule import ARRAY, SCHEMA, fresh, release, unwrap
 from ._library import GAP, ArrowArray, ArrowSchema, Failure, Options, Order, Source, library
 
-__all__ = ["Array", "Error", "gap", "join", "rows", "version"]
+__all__ = ["Array", "Error", "convert", "gap", "join", "rows", "version"]
 
 version = library.lafkuno_version().decode()
 __version__ = version
@@ -124,6 +125,28 @@ def join(sources, orders, *, keep_nulls=False, one_run_for_gaps=False, most_rows
     batches = bool(structs) and structs[0][0].format == b"+s"
     call = library.lafkuno_join_batches if batches else library.lafkuno_join_arrays
     code = call(table, len(structs), (Order * len(list_))(*list_), len(list_), byref(options), byref(schema), byref(array), byref(failure))
+    return _made(code, schema, array, failure)
+
+
+def convert(source, type, *, most_rows=0):
+    """The rows of a column in another type, which is any object with `__arrow_c_schema__`.
+
+    A list as a list-view of the same width, or back. Rows read as before.
+    most_rows: the most rows that any node may come to where list-views become lists; 0 stands for 2 ** 32.
+    """
+    if not hasattr(type, "__arrow_c_schema__"):
+        raise TypeError(f"the type is a {type.__class__.__name__} without __arrow_c_schema__")
+    capsules = *_capsules(0, source), type.__arrow_c_schema__()  # kept until the call is over
+    pair = Source(ctypes.pointer(unwrap(capsules[0], SCHEMA)), ctypes.pointer(unwrap(capsules[1], ARRAY)))
+    options = Options(False, False, _number(most_rows, 2**64 - 1))
+    schema, array, failure = ArrowSchema(), ArrowArray(), Failure()
+    code = library.lafkuno_convert_array(
+        byref(pair), byref(unwrap(capsules[2], SCHEMA)), byref(options), byref(schema), byref(array), byref(failure)
+    )
+    return _made(code, schema, array, failure)
+
+
+def _made(code, schema, array, failure):
     if code == 100:
         raise MemoryError(str(Error(failure)))
     if code:

@@ -107,6 +107,7 @@ _JOIN = [
 ]
 library.lafkuno_join_arrays.argtypes = _JOIN
 library.lafkuno_join_batches.argtypes = _JOIN
+library.lafkuno_convert_array.argtypes = [POINTER(Source), POINTER(ArrowSchema)] + _JOIN[4:]
 library.lafkuno_share_array.argtypes = [POINTER(ArrowArray), POINTER(ArrowArray)]
 library.lafkuno_copy_schema.argtypes = [POINTER(ArrowSchema), POINTER(ArrowSchema)]
 library.lafkuno_meaning.argtypes = [c_int]

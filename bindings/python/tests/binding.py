@@ -6,7 +6,7 @@ import struct
 from concurrent.futures import ThreadPoolExecutor
 
 import lafkuno
-from columns import Column, Type, read_all
+from columns import Column, Schema, Type, read_all
 from lafkuno._capsule import ARRAY, unwrap
 from lafkuno._library import ArrowArray, Release
 
@@ -47,6 +47,25 @@ def test_what_stopped_an_order():
         "node 0 'ignition' (+r), row 0, order 2 (copy 0 5..7): a run end does not fit its type: 32768 is needed, and 32767 is the largest allowed (ground 7)",
     )
     assert (error.code, error.node, error.row, error.order, error.found, error.allowed) == (7, 0, 0, 2, 32768, 32767)
+
+
+def test_another_type():
+    item = Column(Type("u", True, name="item"), 3, 0, [b"\x05", struct.pack("<4i", 0, 2, 2, 5), b"abcde"])
+    trips = Column(Type("+l", True, [item.type], name="stops"), 2, 1, [b"\x06", struct.pack("<4i", 0, 1, 1, 3)], [item])
+    rows = [[], [None, b"cde"]]
+    new = lafkuno.convert(trips, Schema(Type("+vl", True, [item.type], name="stops")))
+    assert (new.format, read_all(new), read_all(trips)) == ("+vl", rows, rows)
+    back = lafkuno.convert(new, Schema(trips.type))
+    assert (back.format, read_all(back)) == ("+l", rows)
+    assert read_all(lafkuno.join([back], [(0, 1, 2)])) == rows[1:]
+    error = refused(lambda: lafkuno.convert(trips, Schema(Type("+vl", True, [Type("z", True)]))), "node 1 'item' (u): it does not become 'z' (ground 10)")
+    assert (error.code, error.node) == (10, 1)
+    try:
+        lafkuno.convert(trips, "+vl")
+    except TypeError as error:
+        assert "__arrow_c_schema__" in str(error)
+    else:
+        raise AssertionError("a text was taken as a type")
 
 
 def test_sliced_lists():

@@ -77,6 +77,16 @@ class Column:
         return borrow(self.structs[0], SCHEMA), borrow(self.structs[1], ARRAY)
 
 
+class Schema:
+    """A type by itself."""
+
+    def __init__(self, type):
+        self.struct = make_schema(type)
+
+    def __arrow_c_schema__(self):
+        return borrow(self.struct, SCHEMA)
+
+
 class Block:
     def __init__(self, content):
         self.size = len(content)

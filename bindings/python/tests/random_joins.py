@@ -5,7 +5,7 @@ import random
 import sys
 
 import lafkuno
-from columns import Column, Type, describe, ordered_null, read, read_all, valid
+from columns import Column, Schema, Type, describe, ordered_null, read, read_all, valid
 from lafkuno._capsule import ARRAY, SCHEMA, unwrap
 from random_columns import fill, random_type
 
@@ -172,10 +172,40 @@ def expected_batch(columns, orders, types, nullable):
     return out
 
 
+KINDS = {"+l": "+vl", "+L": "+vL", "+vl": "+l", "+vL": "+L"}
+
+
+def one_conversion(r):
+    """A slice of a list as the other kind of list, and back; the rows are those of the slice. Damaged ones are refused, or read the same."""
+    type = random_type(r)
+    type = Type(r.choice(list(KINDS)), r.random() < 0.6, [type], name="list")
+    whole = fill(r, type, r.randrange(40))
+    start = r.randrange(whole.length + 1)
+    column = whole.slice(start, r.randrange(whole.length - start + 1))
+    other = Type(KINDS[type.format], type.nullable, type.children, name=type.name, metadata=type.metadata)
+    damaged = r.random() < 0.3
+    if damaged:
+        damage(r, column)
+    try:
+        new = lafkuno.convert(column, Schema(other))
+    except lafkuno.Error as error:
+        assert damaged and error.code == 12, (error, type.format)
+        assert "breaks the rules" not in str(error), "a refused column without its row"
+        return "refused"
+    wanted = read_all(column)
+    assert read_all(new) == wanted, (type.format, other.format, wanted, read_all(new))
+    capsule = new.__arrow_c_schema__()
+    assert describe(unwrap(capsule, SCHEMA)) == describe(Schema(other).struct)
+    assert read_all(lafkuno.convert(new, Schema(type))) == wanted
+    del column, whole
+    assert read_all(new) == wanted
+    return "joined"
+
+
 def main():
     count = int(sys.argv[1]) if len(sys.argv) > 1 else 2000
     seed = int(sys.argv[2]) if len(sys.argv) > 2 else 20261
-    for name, test in [("joins", one), ("damaged joins", one_damaged), ("batches", one_batch)]:
+    for name, test in [("joins", one), ("damaged joins", one_damaged), ("batches", one_batch), ("conversions", one_conversion)]:
         told = {"joined": 0, "refused": 0}
         for k in range(count):
             r = random.Random(seed * 1000003 + k)
@@ -184,7 +214,7 @@ def main():
             except BaseException:
                 print(f"{name}: seed {seed}, number {k}", file=sys.stderr)
                 raise
-        print(f"{count} random {name} through the C layer, seed {seed}: {told['joined']} joined, {told['refused']} refused")
+        print(f"{count} random {name} through the C layer, seed {seed}: {told['joined']} carried out, {told['refused']} refused")
 
 
 main()

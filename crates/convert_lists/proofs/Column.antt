@@ -71,7 +71,7 @@ module _ (formats schema : List ℕ) (x : Tables) (first n : ℕ) (small : n ≤
   abbrev own : Tables
   own = tablesFrom x first
 
-  few-there : (i : ℕ) → i < n → isView (codeOf formats schema first i) ≡ true → place own i 8 ≤ 32
+  pub few-there : (i : ℕ) → i < n → isView (codeOf formats schema first i) ≡ true → place own i 8 ≤ 32
   unfolding withinCeilings nodeFits fewBuffers
   few-there i l v =
       let p = both (ceilings formats schema first n) (every (nodeFits formats schema x first) n) within in

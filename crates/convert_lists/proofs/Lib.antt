@@ -13,6 +13,12 @@ pub mod ListParts
 pub mod ToList
 pub mod Viewing
 pub mod ViewLent
-pub mod Child
+pub mod Below
+pub mod BelowShown
 pub mod RootShown
 pub mod ToView
+pub mod ToViewResult
+pub mod ToViewLent
+pub mod OneNode
+pub mod BackAndForth
+pub mod Grounds

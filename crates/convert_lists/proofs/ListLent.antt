@@ -86,7 +86,7 @@ due-is formats schema first n target tn h =
 
 -- ---- codes
 
-width-same : (z : ℕ) → isListView z ≡ true → (isList (z + 2) ≡ true) × (widthOf (z + 2) ≡ widthOf z)
+pub width-same : (z : ℕ) → isListView z ≡ true → (isList (z + 2) ≡ true) × (widthOf (z + 2) ≡ widthOf z)
 width-same z h = go (decLt 17 z)
   where
     Same : ℕ → Type 0
@@ -150,12 +150,12 @@ module _ (formats schema : List ℕ) (x : Tables) (first m target : ℕ) (ok : c
       let c = child-inside schema target n (typed-whole formats schema target n (due .is-typed)) 0 0 (omega arith) (omega (arith, one-child)) in
       omega (arith, c, first-child formats schema target n 0)
 
-  both-alike : Alike there here
+  pub both-alike : Alike there here
   both-alike =
       let e : n - 1 ≡ m = omega arith in
       alike formats schema target first m (due .is-typed) some-child one-child (subst (λ k. sameType formats schema (suc target) k (suc first) k ≡ true) e (due .same))
 
-  meant : Means there (tList wide item) 0
+  pub meant : Means there (tList wide item) 0
   meant = subst (λ u. Means there u 0) type-is (means formats schema target n (due .is-typed) (due .low))
 
   item-means : Means here item 1

@@ -68,13 +68,13 @@ module _ (formats schema : List ℕ) (x : Tables) (first m target : ℕ) (ok : c
   -- ---- an accepted call
 
   module _ (parts plan counts room : List ℕ) (body-bytes : AllBelow 256 (x .body)) (room-bytes : AllBelow 256 room) (passed : makeList formats schema x first n target n parts plan counts room .ground ≡ 0) where
-    abbrev answer : Opening
+    abbrev pub answer : Opening
     answer = makeList formats schema x first n target n parts plan counts room
 
-    abbrev tree : Tree
+    abbrev pub tree : Tree
     tree = treeOf formats schema target n
 
-    abbrev lent : Lent
+    abbrev pub lent : Lent
     lent = lentWith x (listPlan formats schema x first n target n) parts first n
 
     -- the list
@@ -94,7 +94,7 @@ module _ (formats schema : List ℕ) (x : Tables) (first m target : ℕ) (ok : c
         (list-fills lent w t v (lent-ok parts) (x .buffers) (λ c μ. list-named formats schema x first m target ok due parts c μ) (list-sound formats schema x first m target ok due) body-bytes list to-list-made)
 
     module _ (base : ℕ) (body : List ℕ) (bodied : Bodied body lent (answer .room) base) where
-      abbrev tablesAfter : Tables
+      abbrev pub tablesAfter : Tables
       tablesAfter = finishedTables lent (x .buffers) (answer .counts) (answer .room) base body
 
       abbrev Result : (u : Ty) → Column u → Type 0

@@ -12,12 +12,12 @@ use borrow.Author.Tests.{eqb-true}
 use Rattle.columnar.specs.Types.{Ty, tListView, tList}
 use Rattle.columnar.specs.Formed.{Formed}
 use Rattle.columnar.specs.Reading.{Column, Source}
-use Rattle.formats.specs.Code.{isListView, isList, widthOf}
+use Rattle.formats.specs.Code.{isView, isListView, isList, widthOf}
 use Rattle.schema.specs.Tree.{below, ceilings, typed, sameType}
 use Rattle.schema.specs.Tree as trees
 use Rattle.schema.proofs.Trees.{child-inside}
 use Rattle.schema.proofs.Known.{typed-whole, typed-shape}
-use Rattle.array_data.specs.Tables.{Tables}
+use Rattle.array_data.specs.Tables.{Tables, lengthOf, offsetOf, place}
 use Rattle.array_data.specs.Typed.{listViewNode, listNode, Tree, fieldOf, nodeOf, Is, Means, tablesFrom, bodyOf, columnOf, sourceRule}
 use Rattle.array_data.specs.lent_tables.Lent.{tables}
 use Rattle.array_data.specs.type_tree.Lent.{unionKind, kindAt, treeOf, tyAs, tyOf, typeOf}
@@ -25,7 +25,7 @@ use Rattle.array_data.proofs.Typed.{column-source}
 use Rattle.array_data.proofs.type_tree.Ids.{both}
 use Rattle.array_data.proofs.type_tree.Shaped.{shaped, at-list, at-lists}
 use Rattle.array_data.proofs.type_tree.Lent.{means, formed, first-child}
-use Rattle.walk.specs.State.{word, codeOf}
+use Rattle.walk.specs.State.{far, word, codeOf}
 use Rattle.refinement.specs.walk_is_model.Holds.{childOf, flag}
 use Rattle.refinement.proofs.log_in_room.Found.{between-both}
 use Rattle.columns.specs.Grounds.{columnGround, sourcesGround}
@@ -40,7 +40,7 @@ use Rattle.convert_lists.specs.Turned.{allNodes, sameBelow}
 use Rattle.convert_lists.specs.ToView.{viewPlan}
 use Rattle.convert_lists.proofs.Subtree.{Alike, kid-same, means-same}
 use Rattle.convert_lists.proofs.Alike.{list-no-union, view-below, alike}
-use Rattle.convert_lists.proofs.Column.{from-same, lent-there}
+use Rattle.convert_lists.proofs.Column.{from-same, few-there, lent-there}
 use Rattle.convert_lists.proofs.ListLent.{Below, below-is}
 use lib.ListN.{replicate}
 use Rattle.columnar.specs.Formed.{OffsetWidth}
@@ -73,7 +73,7 @@ view-due formats schema first n target tn h =
     let q = both a b (p .0) in
     record { of-list = q .0; turned = eqb-true _ _ (q .1); below = below-is formats schema first n target tn (p .1) }
 
-width-back : (z : ℕ) → isList (z + 2) ≡ true → (isListView z ≡ true) × (widthOf (z + 2) ≡ widthOf z)
+pub width-back : (z : ℕ) → isList (z + 2) ≡ true → (isListView z ≡ true) × (widthOf (z + 2) ≡ widthOf z)
 width-back z h = go (decLt 17 z)
   where
     Same : ℕ → Type 0
@@ -90,13 +90,13 @@ module _ (formats schema : List ℕ) (x : Tables) (first m target : ℕ) (ok : c
   abbrev sources : List ℕ
   sources = first ∷ n ∷ []
 
-  accepted : sourcesGround formats schema x sources ≡ 0
+  pub accepted : sourcesGround formats schema x sources ≡ 0
   accepted = one-source formats schema x sources refl ∙ ok
 
-  is-typed : typed formats schema target n ≡ true
+  pub is-typed : typed formats schema target n ≡ true
   is-typed = due .below .is-typed
 
-  low : ceilings formats schema target n ≡ true
+  pub low : ceilings formats schema target n ≡ true
   low = due .below .low
 
   -- the column's tree and the target's
@@ -106,10 +106,10 @@ module _ (formats schema : List ℕ) (x : Tables) (first m target : ℕ) (ok : c
   abbrev pub there : Tree
   there = treeOf formats schema target n
 
-  abbrev own : Tables
+  abbrev pub own : Tables
   own = tablesFrom x first
 
-  rules : T (sourceRule here own)
+  pub rules : T (sourceRule here own)
   rules = taken formats schema sources x false false accepted .rules 0 (omega arith)
 
   -- ---- the types
@@ -120,10 +120,10 @@ module _ (formats schema : List ℕ) (x : Tables) (first m target : ℕ) (ok : c
   abbrev pub item : Ty
   item = tyOf there 7 1
 
-  codes : (isListView (trees.codeOf formats schema target 0) ≡ true) × (widthOf (trees.codeOf formats schema target 0 + 2) ≡ wide)
+  pub codes : (isListView (trees.codeOf formats schema target 0) ≡ true) × (widthOf (trees.codeOf formats schema target 0 + 2) ≡ wide)
   codes = width-back (trees.codeOf formats schema target 0) (ap isList (due .turned) ∙ due .of-list)
 
-  view-kind : kindAt formats schema target 0 ≡ listViewNode wide
+  pub view-kind : kindAt formats schema target 0 ≡ listViewNode wide
   view-kind = at-list formats schema target 0 (codes .0)
 
   list-kind : kindAt formats schema first 0 ≡ listNode wide
@@ -137,7 +137,7 @@ module _ (formats schema : List ℕ) (x : Tables) (first m target : ℕ) (ok : c
   one-child : below schema target 0 ≡ 1
   one-child = view-below formats schema target 0 wide view-kind (shaped formats schema target 0 (typed-shape formats schema target n is-typed 0 (omega arith)))
 
-  some-child : 1 ≤ m
+  pub some-child : 1 ≤ m
   some-child =
       let c = child-inside schema target n (typed-whole formats schema target n is-typed) 0 0 (omega arith) (omega (arith, one-child)) in
       omega (arith, c, first-child formats schema target n 0)
@@ -147,13 +147,13 @@ module _ (formats schema : List ℕ) (x : Tables) (first m target : ℕ) (ok : c
       let e : n - 1 ≡ m = omega arith in
       alike formats schema target first m is-typed some-child one-child (subst (λ k. sameType formats schema (suc target) k (suc first) k ≡ true) e (due .below .same))
 
-  meant : Means there (tListView wide item) 0
+  pub meant : Means there (tListView wide item) 0
   meant = subst (λ u. Means there u 0) type-is (means formats schema target n is-typed low)
 
   pub wide-formed : OffsetWidth wide
   wide-formed = subst Formed type-is (formed formats schema target n is-typed low) .0
 
-  item-means : Means here item 1
+  pub item-means : Means here item 1
   item-means = means-same there here both-alike item 1 (omega arith) (meant .1)
 
   list-means : Means here (tList wide item) 0
@@ -188,6 +188,14 @@ module _ (formats schema : List ℕ) (x : Tables) (first m target : ℕ) (ok : c
   all-lent parts =
       lent-there formats schema x first n small (within-ceilings formats schema sources x false false accepted 0 (omega arith)) whole parts kids rules
       (taken formats schema sources x false false accepted .sums 0 (omega arith)) (tList wide item) 0 list-means
+
+  -- ---- ground 9 of the nodes
+
+  pub sums : (i : ℕ) → i < n → offsetOf own i + lengthOf own i < far
+  sums = taken formats schema sources x false false accepted .sums 0 (omega arith)
+
+  pub few-buffers : (i : ℕ) → i < n → isView (trees.codeOf formats schema first i) ≡ true → place own i 8 ≤ 32
+  few-buffers = few-there formats schema x first n small (within-ceilings formats schema sources x false false accepted 0 (omega arith))
 
   -- ---- the plan of the root
 

@@ -5,3 +5,4 @@ pub mod Turned
 pub mod Viewing
 pub mod ToList
 pub mod ToView
+pub mod ViewTables

@@ -41,6 +41,33 @@ impl Column {
     }
 }
 
+/// The tables of a finished result.
+pub(crate) struct Finished {
+    pub lengths: Vec<u64>,
+    pub places: Vec<Position>,
+    pub buffers: Vec<Position>,
+}
+
+/// The tables of a result of so many nodes, of x's one source. The room is at `base` of the body that they are about.
+pub(crate) fn finished(
+    x: Tables,
+    nodes: usize,
+    plan: &[u64],
+    parts: &[Position],
+    counters: &[u64],
+    room: &[u8],
+    base: usize,
+) -> Result<Finished, Error> {
+    let named = calls::buffer_total(plan, x.places, x.sources);
+    let (mut lengths, mut nulls) = (vec![0; 2 * nodes], vec![0; nodes]);
+    let (mut places, mut buffers) = (vec![0; 9 * nodes], vec![0; 2 * named]);
+    let mut out = FinishedTables { lengths: &mut lengths, nulls: &mut nulls, places: &mut places, buffers: &mut buffers };
+    match calls::finish(plan, parts, &x, counters, room, base as Position, &mut out) {
+        0 => Ok(Finished { lengths, places, buffers }),
+        _ => Err(Error::Inconsistent("finishing was refused".into())),
+    }
+}
+
 /// The column that stands in a room, finished, of x's one source. Its type is that of so many nodes from a first one on.
 pub(crate) fn raised(
     lent: &Lent,
@@ -51,21 +78,13 @@ pub(crate) fn raised(
     counters: &[u64],
     room: Vec<u8>,
 ) -> Result<Column, Error> {
-    let inconsistent = |what: &str| Err(Error::Inconsistent(what.into()));
-    let nodes = nodes as usize;
-    let named = calls::buffer_total(plan, x.places, x.sources);
-    let (mut lengths, mut nulls) = (vec![0; 2 * nodes], vec![0; nodes]);
-    let (mut places, mut buffers) = (vec![0; 9 * nodes], vec![0; 2 * named]);
     let base = x.body.len();
-    let mut out = FinishedTables { lengths: &mut lengths, nulls: &mut nulls, places: &mut places, buffers: &mut buffers };
-    if calls::finish(plan, parts, &x, counters, &room, base as Position, &mut out) != 0 {
-        return inconsistent("finishing was refused");
-    }
+    let Finished { lengths, places, buffers } = finished(x, nodes as usize, plan, parts, counters, &room, base)?;
     let (body, room) = (&lent.body, Buffer::from(room));
     let take = |at: usize, len: usize| if at < base { body.slice(at, len) } else { room.slice(at - base, len) };
     let raise = Raise { x, first: first as usize, lengths: &lengths, places: &places, buffers: &buffers, fields: &lent.fields, take: &take };
     match raise.column(0) {
         Some((column, _)) => Ok(column),
-        None => inconsistent("the finished tables name bytes that are not there"),
+        None => Err(Error::Inconsistent("the finished tables name bytes that are not there".into())),
     }
 }

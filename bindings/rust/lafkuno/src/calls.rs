@@ -3,10 +3,12 @@
 //! Every call answers 0 or the number of a ground, and changes nothing where it is not 0. Whatever the slices hold, only they are read,
 //! and only those behind `&mut` are written.
 
+mod converting;
 mod reclaiming;
 mod trips;
 mod why;
 
+pub use converting::{convert, plan_convert, Into, Target};
 pub use reclaiming::{plan_reclaim, reclaim};
 pub use trips::{measure_orders, orders, Ended, MOST_ORDERS, ORDER};
 pub use why::{why_copy, why_nulls, why_orders, Why, WHY};

@@ -17,6 +17,11 @@ pub enum RunEnds {
 }
 
 impl RunEnds {
+    /// The run ends of a format string.
+    pub fn of(format: &str) -> Option<RunEnds> {
+        [RunEnds::I16, RunEnds::I32, RunEnds::I64].into_iter().find(|ends| ends.format() == format)
+    }
+
     /// The format string.
     pub fn format(self) -> &'static str {
         match self {

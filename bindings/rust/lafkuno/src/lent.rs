@@ -130,6 +130,14 @@ impl Lent {
         Lent::lay_aligned(&columns, 64)
     }
 
+    /// The same with nothing trimmed: offsets, positions and children stay as they are.
+    pub fn lay_whole(columns: &[&Column]) -> Result<Lent, Error> {
+        match Layout::as_it_is(&buffers_of(columns)) {
+            Some(layout) => Lent::describe(columns, layout),
+            None => Lent::lay_aligned(columns, 64),
+        }
+    }
+
     /// All bytes of the columns copied, none trimmed, with another alignment: no buffer need be aligned.
     pub fn lay_aligned(columns: &[&Column], align: usize) -> Result<Lent, Error> {
         Lent::describe(columns, Layout::copied(&buffers_of(columns), align.max(1))?)

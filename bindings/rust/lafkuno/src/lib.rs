@@ -32,6 +32,7 @@ pub mod c_data;
 pub mod calls;
 mod codings;
 mod column;
+mod convert;
 mod explain;
 mod frame;
 pub mod ipc;
@@ -45,6 +46,7 @@ mod sums;
 pub mod text;
 mod trim;
 mod types;
+mod unfit;
 mod values;
 mod work;
 

@@ -78,7 +78,7 @@ impl Source<'_> {
     }
 
     /// Whether a slot's bit is 1.
-    fn valid(&self, k: usize, slot: u64) -> bool {
+    pub(crate) fn valid(&self, k: usize, slot: u64) -> bool {
         self.place(k, 0) == 0 || self.buffer(k, 0).is_some_and(|bits| bits.get((slot / 8) as usize).is_some_and(|b| b >> (slot % 8) & 1 == 1))
     }
 

@@ -48,6 +48,7 @@ impl Memory {
             Call::List(words) => Call::MeasureList(words),
             Call::OpenColumn(first, n) if before.tree.len() >= TREE => Call::Ground(first, n),
             Call::Open(keep, gaps) if answer == 0 => Call::Plan(keep, gaps),
+            Call::Convert(into, target) => Call::PlanConvert(into, target),
             _ => return Ok(()),
         };
         let after = self.picture();
@@ -59,7 +60,7 @@ impl Memory {
             Call::Open(..) => same("the plan", plan, after.plan),
             // an order before the one that is refused may be too much for its part
             Call::List(_) if measured != 0 => same("its answer", [measured, 13, 14].contains(&answer), true),
-            Call::Copy(..) | Call::Nulls(_) | Call::List(_) if measured == 0 => {
+            Call::Copy(..) | Call::Nulls(_) | Call::List(_) | Call::Convert(..) if measured == 0 => {
                 same("its answer", [0, 13, 14].contains(&answer), true)?;
                 same("its counters", &after.counters, if answer == 0 { &counters } else { &before.counters })
             }

@@ -51,6 +51,14 @@ impl<'a> Generate<'a> {
         self.node(1, &mut left, deep)
     }
 
+    /// A list of this format, of at most 32 nodes and depth 8.
+    pub fn list(&mut self, format: &str) -> Type {
+        let deep = self.random.chance(10);
+        let mut left = if deep { 30 } else { self.random.pick(&[0, 3, 8, 30]) };
+        let nullable = self.random.chance(60);
+        Type { children: vec![self.node(2, &mut left, deep)], ..leaf(format, nullable) }
+    }
+
     /// `left` nodes may still be made beside this one.
     fn node(&mut self, depth: usize, left: &mut usize, deep: bool) -> Type {
         let r = &mut *self.random;

@@ -1,6 +1,7 @@
 //! Random joins and damaged descriptions, by fixed seeds.
 
 pub mod compare;
+pub mod conversions;
 pub mod convert;
 pub mod cut;
 pub mod damage;
@@ -9,8 +10,10 @@ pub mod files;
 pub mod gaps;
 pub mod generate;
 pub mod guard;
+pub mod lists;
 pub mod memory;
 pub mod passage;
+pub mod plain;
 pub mod random;
 pub mod trips;
 pub mod why;

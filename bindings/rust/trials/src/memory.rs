@@ -2,7 +2,7 @@
 
 use crate::guard::{Guard, Guarded};
 use crate::random::Random;
-use lafkuno::calls::{self, FinishedTables, Position, Tables, COUNTERS, PLAN, TREE};
+use lafkuno::calls::{self, FinishedTables, Into, Position, Tables, Target, COUNTERS, PLAN, TREE};
 use lafkuno::Lent;
 
 /// All that a join is lent.
@@ -53,6 +53,8 @@ pub enum Call {
     MeasureList([u64; 12]),
     Ground(u32, u32),
     OpenColumn(u32, u32),
+    PlanConvert(Into, Target),
+    Convert(Into, Target),
 }
 
 impl Call {
@@ -70,6 +72,10 @@ impl Call {
             Call::MeasureList(_) => "measure_orders",
             Call::Ground(..) => "column_ground",
             Call::OpenColumn(..) => "open_column",
+            Call::PlanConvert(Into::List, _) => "plan_list",
+            Call::PlanConvert(Into::ListView, _) => "plan_list_view",
+            Call::Convert(Into::List, _) => "list",
+            Call::Convert(Into::ListView, _) => "list_view",
         }
     }
 }
@@ -208,6 +214,8 @@ impl Memory {
             Call::MeasureList(words) => calls::measure_orders(plan.get(), &x, counters.get_mut(), &words).ground,
             Call::Ground(first, n) => calls::column_ground(&x, first, n),
             Call::OpenColumn(first, n) => calls::open_column(&x, first, n, self.tree.get_mut()),
+            Call::PlanConvert(into, t) => calls::plan_convert(into, &x, t, plan.get_mut(), counters.get_mut()),
+            Call::Convert(into, t) => calls::convert(into, &x, t, parts, plan.get_mut(), counters.get_mut(), room.get_mut()),
         }
     }
 }

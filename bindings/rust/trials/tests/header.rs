@@ -9,7 +9,8 @@ const RUST: &str = concat!(
     include_str!("../../lafkuno/src/calls.rs"),
     include_str!("../../lafkuno/src/calls/trips.rs"),
     include_str!("../../lafkuno/src/calls/why.rs"),
-    include_str!("../../lafkuno/src/calls/reclaiming.rs")
+    include_str!("../../lafkuno/src/calls/reclaiming.rs"),
+    include_str!("../../lafkuno/src/calls/converting.rs")
 );
 const RATTLE: &str = concat!(
     include_str!("../../../../crates/lafkuno/src/lib.rt"),
@@ -19,6 +20,7 @@ const RATTLE: &str = concat!(
     include_str!("../../../../crates/lafkuno/src/trips.rt"),
     include_str!("../../../../crates/lafkuno_why/src/lib.rt"),
     include_str!("../../../../crates/lafkuno_anew/src/codings.rt"),
+    include_str!("../../../../crates/lafkuno_anew/src/lists.rt"),
     include_str!("../../../../crates/lafkuno_anew/src/reclaiming.rt")
 );
 
@@ -103,7 +105,7 @@ fn rattle() -> BTreeMap<String, (Vec<String>, String)> {
 fn the_same_calls() {
     let _: u64 = Position::MAX;
     let (header, library) = (header(), library());
-    assert_eq!(header.len(), 34);
+    assert_eq!(header.len(), 38);
     assert_eq!(header, library);
     let types = header.into_iter().map(|(name, (parameters, answer))| (name, (parameters.into_iter().map(|(ty, _)| ty).collect(), answer)));
     assert_eq!(types.collect::<BTreeMap<_, _>>(), rattle());

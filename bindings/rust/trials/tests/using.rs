@@ -36,7 +36,7 @@ fn place() -> PathBuf {
 fn run(place: &PathBuf, line: &str) -> Output {
     let here = std::env::current_exe().unwrap();
     let command = here.parent().unwrap().parent().unwrap().join("lafkuno");
-    Command::new(command).current_dir(place).args(line.split_whitespace().skip(1)).output().unwrap()
+    Command::new(command).current_dir(place).args(line.split_whitespace().skip(1).map(|word| word.trim_matches('\''))).output().unwrap()
 }
 
 #[test]

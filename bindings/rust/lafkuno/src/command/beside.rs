@@ -41,10 +41,18 @@ lafkuno fuel FILE FUEL DISTANCE START..END
 
 pub const ENCODE: Command = Command {
     word: "encode",
-    usage: "lafkuno encode FILE COLUMN START..END     the runs of rows of a fixed-width column, a line each: where it ends, and its value",
+    usage: "\
+lafkuno encode [--ends s|i|l] FILE COLUMN START..END
+                                          the runs of rows of a fixed-width column, a line each: where it ends, and its value; run ends are l where
+                                          nothing else is said",
     run: |words| {
-        asked("encode", "COLUMN", words, |[column]: [&Column; 1], rows| {
-            let runs = column.encode(rows, RunEnds::I64)?;
+        let words = match Words::parse(words, &[], &["--ends"]) {
+            Ok(words) => words,
+            Err(what) => return mistake(format_args!("encode: {what}")),
+        };
+        let Some(ends) = words.value("--ends").map_or(Some(RunEnds::I64), RunEnds::of) else { return mistake("encode: --ends takes s, i or l") };
+        asked_of("encode", "COLUMN", &words, |[column]: [&Column; 1], rows| {
+            let runs = column.encode(rows, ends)?;
             let (ends, values) = (rows_of(&runs.children[0]), rows_of(&runs.children[1]));
             Ok(ends.iter().zip(values).map(|(end, value)| format!("{end} {value}")).collect::<Vec<_>>().join("\n"))
         })
@@ -73,7 +81,7 @@ lafkuno reclaim FILE COLUMN               a dictionary column of FILE without th
 };
 
 /// The rows of a column, a line each.
-fn lines(column: &Column) -> String {
+pub fn lines(column: &Column) -> String {
     rows_of(column).into_iter().map(|row| row + "\n").collect()
 }
 
@@ -105,7 +113,7 @@ fn reclaim(words: &[&str]) -> u8 {
 }
 
 /// The columns of a file: `column NAME TYPE` with rows, or the sources of a join.
-fn columns(file: &str) -> Result<Vec<(String, Column)>, String> {
+pub fn columns(file: &str) -> Result<Vec<(String, Column)>, String> {
     let bytes = join::bytes(file)?;
     match std::str::from_utf8(&bytes) {
         Ok(text) if text::has_columns(text) => text::columns(text).map_err(|e| e.to_string()),
@@ -113,12 +121,16 @@ fn columns(file: &str) -> Result<Vec<(String, Column)>, String> {
     }
 }
 
-/// Takes `FILE NAME .. START..END`, finds the columns by their names and prints what `answer` makes of their rows.
+/// [`asked_of`] of words without options.
 fn asked<const N: usize>(word: &str, names: &str, words: &[&str], answer: impl Fn([&Column; N], Range<u64>) -> Result<String, Error>) -> u8 {
-    let words = match Words::parse(words, &[], &[]) {
-        Ok(words) => words,
-        Err(what) => return mistake(format_args!("{word}: {what}")),
-    };
+    match Words::parse(words, &[], &[]) {
+        Ok(words) => asked_of(word, names, &words, answer),
+        Err(what) => mistake(format_args!("{word}: {what}")),
+    }
+}
+
+/// Takes `FILE NAME .. START..END`, finds the columns by their names and prints what `answer` makes of their rows.
+fn asked_of<const N: usize>(word: &str, names: &str, words: &Words, answer: impl Fn([&Column; N], Range<u64>) -> Result<String, Error>) -> u8 {
     if words.files.len() != N + 2 {
         return mistake(format_args!("{word}: FILE {names} START..END are due"));
     }

@@ -141,7 +141,8 @@ fn hex(bytes: &[u8]) -> String {
     bytes.chunks(8).map(|c| c.iter().map(|b| format!("{b:02x}")).collect::<String>()).collect::<Vec<_>>().join(" ")
 }
 
-fn buffers_text(column: &Column, node: &mut usize, out: &mut String) {
+/// The nodes of a column with their buffers, a line each.
+pub fn buffers_text(column: &Column, node: &mut usize, out: &mut String) {
     *out += &format!("node {node} {}: length {}, offset {}, nulls {}\n", column.format, column.length, column.offset, column.null_count());
     *node += 1;
     if let Some(bits) = &column.validity {

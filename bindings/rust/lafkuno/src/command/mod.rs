@@ -7,6 +7,7 @@ use std::time::{Duration, Instant};
 
 mod arrow;
 mod beside;
+mod convert;
 mod demo;
 mod grounds;
 mod join;
@@ -30,6 +31,7 @@ pub const ALL: &[Command] = &[
     beside::ENCODE,
     beside::EXPAND,
     beside::RECLAIM,
+    convert::COMMAND,
     demo::COMMAND,
     grounds::COMMAND,
 ];

@@ -1,9 +1,10 @@
-//! Damaged descriptions and foreign states, then five times as many with one number near 2^64. Arguments: how many (20000), the first seed (1); `--bare` before them lends slices without
+//! Damaged descriptions and foreign states, as many damaged columns that are written in another type, then five times as many with one number near 2^64. Arguments: how many (20000), the first seed (1); `--bare` before them lends slices without
 //! canaries, each in an allocation of its own size, for valgrind.
 
 use std::fmt::Write;
 use std::process::ExitCode;
 use std::time::Instant;
+use trials::conversions::damaged_conversion;
 use trials::damage::{damaged, Answers};
 use trials::far::far_numbers;
 
@@ -19,7 +20,7 @@ fn main() -> ExitCode {
     let mut answers = Answers::new();
     eprintln!("{count} damaged joins, seeds {first} to {}", first + count - 1);
     for seed in first..first + count {
-        if let Err(what) = damaged(seed, &mut answers) {
+        if let Err(what) = damaged(seed, &mut answers).and_then(|()| damaged_conversion(seed, &mut answers)) {
             println!("{what}");
             return ExitCode::FAILURE;
         }
@@ -34,7 +35,7 @@ fn main() -> ExitCode {
             }
         }
     }
-    writeln!(out, "{count} damaged joins: no difference, nothing written outside").unwrap();
+    writeln!(out, "{count} damaged joins, {count} damaged columns written in another type: no difference, nothing written outside").unwrap();
     writeln!(out, "{far} numbers near 2^64 or 2^63: as they are due").unwrap();
     for ((call, answer), count) in answers {
         writeln!(out, "{call} answered {answer}: {count}").unwrap();

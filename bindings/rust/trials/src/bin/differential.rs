@@ -6,6 +6,7 @@ use std::time::Instant;
 use trials::compare::{join, Seen};
 use trials::cut::cut;
 use trials::gaps::{gaps, Grown};
+use trials::lists::{lists, Lists as Turned};
 use trials::passage::passage;
 use trials::trips::{trips, Lists};
 use trials::wider::wider;
@@ -20,15 +21,17 @@ fn main() -> ExitCode {
     let (mut widened, mut passed, mut cuts) = (0, 0, 0);
     let mut trips_given = Lists::default();
     let mut grown = Grown::default();
+    let mut turned = Turned::default();
     for seed in first..first + count {
         // a tenth is made with wider offsets, keys and run ends too, one of slices that pass the C Data Interface, one with its last copy cut in two,
-        // two with its orders in lists, one with one run for gaps
+        // two with its orders in lists, one with one run for gaps; two turn a list into a list-view and back
         let answer = join(seed, &mut seen).and_then(|()| match seed % 10 {
             0 => wider(seed).map(|accepted| widened += accepted as u64),
             5 => passage(seed).map(|accepted| passed += accepted as u64),
             7 => cut(seed).map(|accepted| cuts += accepted as u64),
             3 | 9 => trips(seed, &mut trips_given),
             2 => gaps(seed, &mut grown),
+            1 | 6 => lists(seed, &mut turned),
             _ => Ok(()),
         });
         match answer {
@@ -47,8 +50,12 @@ fn main() -> ExitCode {
     writeln!(out, "rows of null entries: {joined_null_entries} in joined dictionaries, {kept_null_entries} in kept ones").unwrap();
     writeln!(out, "{widened} of them stored wider: the same rows").unwrap();
     writeln!(out, "{cuts} copies cut in two: the same rows, and bytes where no run is").unwrap();
-    writeln!(out, "lists of orders: {} carried out, {} refused: as their orders one after the other", trips_given.accepted, trips_given.refused).unwrap();
+    writeln!(out, "lists of orders: {} carried out, {} refused: as their orders one after the other", trips_given.accepted, trips_given.refused)
+        .unwrap();
     writeln!(out, "{} with one run for gaps: the same rows, {} runs grew by an order of nulls, {} were added", grown.joins, grown.grown, grown.added)
+        .unwrap();
+    let Turned { columns, rows, null_stretches } = turned;
+    writeln!(out, "{columns} lists and list-views turned and turned back, {rows} rows, {null_stretches} null ones over a stretch: as plain copies")
         .unwrap();
     writeln!(out, "{passed} of slices through the C Data Interface: the same rows and names").unwrap();
     for ((what, answer), count) in answers {

@@ -1,0 +1,92 @@
+//! A column's rows in another type: a list as a list-view and back.
+
+use super::{Position, Tables};
+
+extern "C" {
+    fn lafkuno_plan_list(
+        formats: *const u8, formats_len: usize, schema: *const u32, schema_len: usize, lengths: *const u64, lengths_len: usize,
+        places: *const Position, places_len: usize, buffers: *const Position, buffers_len: usize, body: *const u8, body_len: usize,
+        first: u32, n: u32, target: u32, target_n: u32, plan: *mut u64, plan_len: usize, counters: *mut u64, counters_len: usize,
+    ) -> u8;
+    fn lafkuno_list(
+        formats: *const u8, formats_len: usize, schema: *const u32, schema_len: usize, lengths: *const u64, lengths_len: usize,
+        places: *const Position, places_len: usize, buffers: *const Position, buffers_len: usize, body: *const u8, body_len: usize,
+        first: u32, n: u32, target: u32, target_n: u32, parts: *const Position, parts_len: usize, plan: *mut u64, plan_len: usize,
+        counters: *mut u64, counters_len: usize, room: *mut u8, room_len: usize,
+    ) -> u8;
+    fn lafkuno_plan_list_view(
+        formats: *const u8, formats_len: usize, schema: *const u32, schema_len: usize, lengths: *const u64, lengths_len: usize,
+        places: *const Position, places_len: usize, buffers: *const Position, buffers_len: usize, body: *const u8, body_len: usize,
+        first: u32, n: u32, target: u32, target_n: u32, plan: *mut u64, plan_len: usize, counters: *mut u64, counters_len: usize,
+    ) -> u8;
+    fn lafkuno_list_view(
+        formats: *const u8, formats_len: usize, schema: *const u32, schema_len: usize, lengths: *const u64, lengths_len: usize,
+        places: *const Position, places_len: usize, buffers: *const Position, buffers_len: usize, body: *const u8, body_len: usize,
+        first: u32, n: u32, target: u32, target_n: u32, parts: *const Position, parts_len: usize, plan: *mut u64, plan_len: usize,
+        counters: *mut u64, counters_len: usize, room: *mut u8, room_len: usize,
+    ) -> u8;
+}
+
+type Asks = unsafe extern "C" fn(
+    *const u8, usize, *const u32, usize, *const u64, usize, *const Position, usize, *const Position, usize, *const u8, usize,
+    u32, u32, u32, u32, *mut u64, usize, *mut u64, usize,
+) -> u8;
+type Writes = unsafe extern "C" fn(
+    *const u8, usize, *const u32, usize, *const u64, usize, *const Position, usize, *const Position, usize, *const u8, usize,
+    u32, u32, u32, u32, *const Position, usize, *mut u64, usize, *mut u64, usize, *mut u8, usize,
+) -> u8;
+
+/// What a column becomes.
+#[derive(Clone, Copy, Debug, PartialEq, Eq)]
+pub enum Into {
+    /// A list, of a list-view.
+    List,
+    /// A list-view, of a list: its root alone is written, the nodes below are the column's own.
+    ListView,
+}
+
+impl Into {
+    fn calls(self) -> (Asks, Writes) {
+        match self {
+            Into::List => (lafkuno_plan_list, lafkuno_list),
+            Into::ListView => (lafkuno_plan_list_view, lafkuno_list_view),
+        }
+    }
+}
+
+/// A column by its first node and its count of nodes, and the result's type likewise.
+#[derive(Clone, Copy, Debug)]
+pub struct Target {
+    /// The column's first node.
+    pub first: u32,
+    /// How many nodes it has.
+    pub n: u32,
+    /// The first node of the result's type.
+    pub target: u32,
+    /// How many nodes that type has.
+    pub target_n: u32,
+}
+
+/// The ground, but for 13 and 14 of the parts; or the plan and the counters of the result are written.
+pub fn plan_convert(into: Into, x: &Tables, t: Target, plan: &mut [u64], counters: &mut [u64]) -> u8 {
+    unsafe {
+        into.calls().0(
+            x.formats.as_ptr(), x.formats.len(), x.schema.as_ptr(), x.schema.len(), x.lengths.as_ptr(), x.lengths.len(),
+            x.places.as_ptr(), x.places.len(), x.buffers.as_ptr(), x.buffers.len(), x.body.as_ptr(), x.body.len(),
+            t.first, t.n, t.target, t.target_n, plan.as_mut_ptr(), plan.len(), counters.as_mut_ptr(), counters.len(),
+        )
+    }
+}
+
+/// Writes the result; [`super::finish`] finishes it.
+#[allow(clippy::too_many_arguments)]
+pub fn convert(into: Into, x: &Tables, t: Target, parts: &[Position], plan: &mut [u64], counters: &mut [u64], room: &mut [u8]) -> u8 {
+    unsafe {
+        into.calls().1(
+            x.formats.as_ptr(), x.formats.len(), x.schema.as_ptr(), x.schema.len(), x.lengths.as_ptr(), x.lengths.len(),
+            x.places.as_ptr(), x.places.len(), x.buffers.as_ptr(), x.buffers.len(), x.body.as_ptr(), x.body.len(),
+            t.first, t.n, t.target, t.target_n, parts.as_ptr(), parts.len(), plan.as_mut_ptr(), plan.len(),
+            counters.as_mut_ptr(), counters.len(), room.as_mut_ptr(), room.len(),
+        )
+    }
+}

@@ -1,0 +1,127 @@
+//! A column's rows in another type: a list as a list-view and back.
+
+use crate::buffer::zeros;
+use crate::calls::{self, Into, Position, Tables, Target, COUNTERS, PLAN};
+use crate::work::Work;
+use crate::{anew, unfit, Buffer, Column, Error, Field, Lent, Type};
+
+/// A column without rows of a type; its names, and what else a schema says, are those of `like`. A root and a dictionary's values may hold nulls
+/// where either says so; the flags of other nodes are the type's.
+fn empty(to: &Type, like: Option<&Column>, free: bool) -> Column {
+    let children = to.children.iter().enumerate().map(|(k, c)| empty(c, like.and_then(|l| l.children.get(k)), false)).collect();
+    let values = |d| Box::new(empty(d, like.and_then(|l| l.dictionary.as_deref()), true));
+    Column {
+        format: to.format.clone(),
+        nullable: to.nullable || free && like.is_some_and(|l| l.nullable),
+        children,
+        dictionary: to.dictionary.as_deref().map(values),
+        field: like.map_or_else(Field::default, |l| l.field.clone()),
+        ..Column::default()
+    }
+}
+
+/// A kept column: a validity without a zero bit is dropped, as finishing drops it.
+fn kept(column: &Column) -> Column {
+    Column {
+        validity: column.validity.clone().filter(|_| column.null_count() != 0),
+        children: column.children.iter().map(kept).collect(),
+        dictionary: column.dictionary.as_deref().map(|d| Box::new(kept(d))),
+        ..column.clone()
+    }
+}
+
+/// A column that is laid before the type that it is to become, and what was written of it.
+struct Written {
+    lent: Lent,
+    plan: [u64; PLAN],
+    counters: [u64; COUNTERS],
+    parts: Vec<Position>,
+    room: Vec<u8>,
+}
+
+/// The tables with the column as the only source.
+fn alone(lent: &Lent) -> Tables<'_> {
+    Tables { sources: &lent.sources[..2], ..lent.tables() }
+}
+
+/// Asks, lends what is needed, and writes.
+fn written(column: &Column, to: &Type, into: Into, lay: fn(&[&Column]) -> Result<Lent, Error>) -> Result<Written, Error> {
+    let lent = lay(&[column, &empty(to, Some(column), true)])?;
+    let x = alone(&lent);
+    let t = Target { first: lent.sources[0], n: lent.sources[1], target: lent.sources[2], target_n: lent.sources[3] };
+    let tell = |error: Error| error.ground().map_or(error, |ground| unfit::converting(&lent, (column, to), into, ground));
+    if into == Into::List && calls::column_ground(&x, t.first, t.n) == 0 {
+        // rows of list-views may overlap, and nested ones multiply
+        Work::new(&lent).add(&lent, std::iter::empty(), 0, &(0..column.length))?;
+    }
+    let (mut plan, mut counters) = ([0; PLAN], [0; COUNTERS]);
+    Error::check(calls::plan_convert(into, &x, t, &mut plan, &mut counters)).map_err(tell)?;
+    let (parts, bytes) = anew::parts(&plan, &counters)?;
+    let mut room = zeros(bytes).ok_or(Error::TooLarge { bytes })?;
+    Error::check(calls::convert(into, &x, t, &parts, &mut plan, &mut counters, &mut room)).map_err(tell)?;
+    Ok(Written { plan, counters, parts, room, lent })
+}
+
+/// The format of the other kind of list, of the same width; None where it is no list.
+fn other_kind(format: &str) -> Option<&'static str> {
+    Some(match format {
+        "+l" => "+vl",
+        "+L" => "+vL",
+        "+vl" => "+l",
+        "+vL" => "+L",
+        _ => return None,
+    })
+}
+
+impl Column {
+    /// A list-view column as a list of the same width: its child is laid out anew by one copy for each valid row, in row order, and a null row is
+    /// an empty stretch. Rows read as before. Refused with 10 for any other column, then row by row with 6 for an offset that does not fit, and
+    /// with 6 or 7 for what the child's copy meets.
+    pub fn to_list(&self) -> Result<Column, Error> {
+        self.as_list(&self.other_list())
+    }
+
+    /// A list column as a list-view of the same width over the same child, each row's offset and size kept, null rows' too. Rows read as before.
+    /// Refused with 10 for any other column.
+    pub fn to_list_view(&self) -> Result<Column, Error> {
+        self.as_list_view(&self.other_list())
+    }
+
+    /// The column's rows in another type: a list-view as a list of the same width, or a list as a list-view ([`Column::to_list`],
+    /// [`Column::to_list_view`]). Below the root the types are the same. Any other type is refused with 10.
+    pub fn convert(&self, to: &Type) -> Result<Column, Error> {
+        match to.format.as_str() {
+            "+vl" | "+vL" => self.as_list_view(to),
+            _ => self.as_list(to),
+        }
+    }
+
+    /// Its type with the other kind of list at the root; its own type where it is no list.
+    fn other_list(&self) -> Type {
+        let ty = self.ty();
+        Type { format: other_kind(&ty.format).map_or(ty.format, String::from), ..ty }
+    }
+
+    fn as_list(&self, to: &Type) -> Result<Column, Error> {
+        let Written { lent, plan, counters, parts, room } = written(self, to, Into::List, Lent::lay)?;
+        anew::raised(&lent, alone(&lent), (lent.sources[2], lent.sources[3]), &plan, &parts, &counters, room)
+    }
+
+    fn as_list_view(&self, to: &Type) -> Result<Column, Error> {
+        // nothing is trimmed: the offsets are those of the child as it is
+        let Written { lent, plan, counters, parts, room } = written(self, to, Into::ListView, Lent::lay_whole)?;
+        let root = anew::finished(alone(&lent), 1, &plan, &parts, &counters, &room, 0)?;
+        let room = Buffer::from(room);
+        let buffer = |j: usize| {
+            let found = room.slice(root.places[j] as usize, root.places[j + 1] as usize);
+            found.ok_or_else(|| Error::Inconsistent("the finished tables name bytes that are not there".into()))
+        };
+        Ok(Column {
+            length: root.lengths[0],
+            validity: if root.places[0] == 0 { None } else { Some(buffer(1)?) },
+            buffers: vec![buffer(3)?, buffer(5)?],
+            children: self.children.iter().map(kept).collect(),
+            ..empty(to, Some(self), true)
+        })
+    }
+}

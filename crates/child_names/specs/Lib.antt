@@ -1,0 +1,2 @@
+-- The child of a list-view, named where it stands.
+pub mod Names
