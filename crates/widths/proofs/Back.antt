@@ -1,32 +1,21 @@
 -- WIDENING AND THEN NARROWING BACK on lent memory, the widened column and its view buffers laid in one body (W13). Assumes nothing.
-use mathlib.Core.Path.{_≡_, refl, sym, ap, subst, _∙_}
-use mathlib.Core.Bool.{Bool, true, false, not, _||_, false≢true}
-use mathlib.Core.List.{List, [], _∷_}
-use Prim.Native.Nat.{ℕ, _+_, _≤_, _<_}
+use mathlib.Core.Path.{_≡_, sym, ap, subst, _∙_}
+use mathlib.Core.Bool.{true}
+use mathlib.Core.List.{List}
+use Prim.Native.Nat.{ℕ, _≤_}
 use native.Mathlib.Omega.{arith}
 use lib.ListN.{length}
-use lib.Dec.{T, leb}
-use borrow.Author.Tests.{leb-true}
 use Rattle.columnar.specs.Types.{Ty}
 use Rattle.columnar.specs.Formed.{Formed}
 use Rattle.columnar.specs.Reading.{Column, readAll}
-use Rattle.formats.specs.Code.{isView}
-use Rattle.schema.specs.Tree.{every, ceilings}
-use Rattle.schema.specs.Tree as trees
-use Rattle.schema.proofs.Known.{every-at}
-use Rattle.array_data.specs.Tables.{Tables, offsetOf, place}
-use Rattle.array_data.specs.Typed.{tablesFrom, columnOf, sourceRule}
+use Rattle.array_data.specs.Tables.{Tables}
+use Rattle.array_data.specs.Typed.{tablesFrom, columnOf}
 use Rattle.array_data.specs.type_tree.Lent.{treeOf, typeOf}
-use Rattle.array_data.proofs.type_tree.Ids.{both}
 use Rattle.array_data.proofs.type_tree.Lent.{formed}
-use Rattle.parts.specs.Parts.{nodesOf, copied}
 use Rattle.refinement.specs.log_in_room.Room.{AllBelow}
 use Rattle.refinement.specs.opening.Open.{Opening}
-use Rattle.refinement.specs.finishing.Finish.{sources}
 use Rattle.refinement.specs.finishing.Shows.{finishedTables, Bodied}
-use Rattle.columns.specs.Grounds.{countFits, ceiling, smallBody, fewBuffers, nodeFits, withinCeilings, columnGround}
-use Rattle.columns.proofs.Grounds.{accepted, within-at}
-use Rattle.columns.proofs.Itself.{one-source}
+use Rattle.columns.specs.Grounds.{ceiling, smallBody, columnGround}
 use Rattle.column_anew.specs.widths.Widths.{Widths}
 use Rattle.column_anew.specs.widths.Converted.{columnAs}
 use Rattle.column_anew.specs.widths.Fitting.{AllFit, numbers}
@@ -35,24 +24,15 @@ use Rattle.column_anew.specs.widths.Back as way
 use Rattle.column_anew.proofs.widths.Widen.{node-fits, widen}
 use Rattle.column_anew.proofs.widths.Narrow.{node-back, narrow}
 use Rattle.anew.specs.Anew.{roomGround}
-use Rattle.anew.proofs.PlanWords.{source-is}
-use Rattle.anew.proofs.Planted.{few, nodes-is}
 use Rattle.anew.proofs.Result.{lentFor}
-use Rattle.target_rules.specs.Target.{isTarget, Target}
-use Rattle.target_rules.proofs.Codes.{near, back, view-kept}
-use Rattle.target_rules.proofs.Rules.{target-is}
+use Rattle.target_rules.specs.Target.{isTarget}
 use Rattle.target_rules.proofs.Turned.{turned}
-use Rattle.width_walks.specs.Call.{targetGround, keeping, planned, walked, convert}
+use Rattle.width_walks.specs.Call.{targetGround, planned, walked, convert}
 use Rattle.width_walks.proofs.Lent.{typed-here, low-here, source-here}
 use Rattle.width_walks.proofs.Answer.{widths, shows}
 use Rattle.width_walks.proofs.Call.{room-last, convert-reads}
-use Rattle.widths.proofs.Theorems.{in-parts}
 use Rattle.widths.proofs.Numbers.{same-numbers}
-use Rattle.widths.proofs.Again.{from-zero, names-few, accepted-again}
-
-implied : (a b : Bool) → not a || b ≡ true → a ≡ true → b ≡ true
-implied true b h e = h
-implied false b h e = absurd (false≢true e)
+use Rattle.widths.proofs.Again.{lent-again}
 
 -- 14 or 13 of the parts that are lent for a conversion: 0 where there is room enough
 abbrev pub roomFor : (formats schema : List ℕ) (x : Tables) (first n target : ℕ) (parts plan counts room : List ℕ) → ℕ
@@ -73,35 +53,12 @@ module _ (formats schema : List ℕ) (x : Tables) (first n target : ℕ) (parts 
   abbrev pub differs : Widths from to
   differs = widths formats schema x first n target parts ok h bytes
 
-  wholly : Target formats schema first n target n
-  wholly = target-is formats schema first n target n h
-
   admitted : Formed from
   admitted = formed formats schema first n (typed-here formats schema x first n ok) (low-here formats schema x first n ok)
 
   -- the plan of the result
   abbrev made : List ℕ
   made = planned formats schema x first n target n
-
-  abbrev keep : ℕ → Bool
-  keep = keeping formats schema x first n target n
-
-  few-nodes : n ≤ 32
-  few-nodes = few formats schema target n keep true 0 (wholly .of-type) (wholly .low)
-
-  nodes-are : nodesOf made ≡ n
-  nodes-are = nodes-is formats schema target n keep true 0 (wholly .of-type) (wholly .low)
-
-  -- a view node of the result is one of the column, which has few data buffers
-  few-here : (i : ℕ) → i < n → isView (trees.codeOf formats schema target i) ≡ true → place x (first + i) 8 ≤ 32
-  unfolding withinCeilings nodeFits fewBuffers
-  few-here i l v =
-      let c = trees.codeOf formats schema first i in
-      let u : isView c ≡ true = view-kept (trees.codeOf formats schema target i) c (back (near (wholly .nodes i l .code-widths))) v in
-      let a = accepted formats schema x (first ∷ n ∷ []) (one-source formats schema x (first ∷ n ∷ []) refl ∙ ok) in
-      let w = both (ceilings formats schema first n) (every (nodeFits formats schema x first) n) (within-at formats schema x (first ∷ n ∷ []) (a .within) 0 (omega arith)) .1 in
-      let q = both (countFits x (first + i)) (fewBuffers formats schema x first i) (every-at (nodeFits formats schema x first) n i w l) .1 in
-      leb-true (place x (first + i) 8) 32 (implied (isView c) (leb (place x (first + i) 8) 32) q u)
 
   module _ (wider : Widening differs) (keys : KeysFit from (here .body)) (plan counts room : List ℕ) where
     abbrev answer : Opening
@@ -122,21 +79,10 @@ module _ (formats schema : List ℕ) (x : Tables) (first n target : ℕ) (parts 
       pub wide-rows : readAll to (columnOf (treeOf formats schema target n) wide to 0) ≡ readAll from here
       wide-rows = convert-reads formats schema x first n target parts plan counts room ok h bytes taken room-bytes base body bodied .0
 
-      -- LENT AGAIN, in tables that hold the finished ones at the target's nodes
+      -- LENT AGAIN with the same schema, in tables that hold the finished ones at the target's nodes: none of 9, 10 and 12 stands (`lent-again`), and
       module _ (z : Tables) (again : tablesFrom z target ≡ wide) where
-        one : sources (lentFor x made parts first n) (x .buffers) (answer .counts) (answer .room) base ≡ 1
-        one = omega (arith, source-is formats schema target n keep true 0 few-nodes)
-
-        all : (i : ℕ) → i < nodesOf made → copied made i ≡ true
-        all i l = in-parts formats schema x first n target parts plan counts room ok h bytes i (omega (arith, nodes-are))
-
-        -- NONE OF 9, 10 AND 12 STANDS
-        pub lent-good : columnGround formats schema z target n ≡ 0
-        lent-good =
-            accepted-again formats schema z target n (subst (λ y. length (y .body) ≤ ceiling) (sym again) short) (wholly .low) (wholly .of-type)
-            (subst (λ y. T (sourceRule (treeOf formats schema target n) y)) (sym again) (convert-reads formats schema x first n target parts plan counts room ok h bytes taken room-bytes base body bodied .1))
-            (λ i l. ap (λ y. offsetOf y i) again ∙ from-zero (lentFor x made parts first n) (x .buffers) (answer .counts) (answer .room) base body all i (omega (arith, nodes-are)))
-            (λ i l v. subst (λ y. place y i 8 ≤ 32) (sym again) (names-few (lentFor x made parts first n) (x .buffers) (answer .counts) (answer .room) base body all one i (omega (arith, nodes-are)) (few-here i l v)))
+        lent-good : columnGround formats schema z target n ≡ 0
+        lent-good = lent-again formats schema x first n target parts ok h bytes plan counts room taken room-bytes base body bodied short z again
 
         pub lent-target : isTarget formats schema target n first n ≡ true
         lent-target = turned formats schema first n target n (typed-here formats schema x first n ok) (low-here formats schema x first n ok) h
