@@ -1,14 +1,25 @@
-// A column in other widths: its theorems on lent memory, the ground of column and target, and the plan of the result.
+// A column in other widths: the question before any room is lent, and the call. The result is finished as a join is.
 ghost use mathlib.Core.Path.{_≡_};
 ghost use mathlib.Core.Bool.{true};
-ghost use Prim.Native.Nat.{_≤_};
-ghost use lib.ListN.{replicate};
+ghost use mathlib.Core.List.{List};
+ghost use Prim.Native.Nat.{ℕ, _≤_};
+ghost use lib.ListN.{length, replicate};
+ghost use Rattle.array_data.specs.Typed.{tablesFrom};
 ghost use Rattle.array_data.specs.lent_tables.Lent.{tables};
+ghost use Rattle.array_data.specs.type_tree.Lent.{treeOf};
 ghost use Rattle.source_rules.specs.kinds.Rows.{tablesOf};
 ghost use Rattle.columns.specs.Grounds.{columnGround};
+ghost use Rattle.walk.specs.Log.{Did};
 ghost use Rattle.anew.specs.Anew.{orElse};
 ghost use Rattle.anew.specs.ResultPlan.{keepsFrom, Comes, planAnew};
-ghost use Rattle.width_walks.specs.Call.{fromWords, targetGround};
+ghost use Rattle.with_capacities.specs.Answer.{Answers};
+ghost use Rattle.result_plan.specs.Answer.{Asks};
+ghost use Rattle.target_rules.specs.Target.{isTarget};
+ghost use Rattle.width_walks.specs.Nodes.{treeWalk};
+ghost use Rattle.width_walks.specs.Call.{fromWords, targetGround, asked, convert};
+
+// The most bytes of a room, which is a body too.
+const CEILING: usize = 9223372036854775807;
 
 // The ground of the column and of the target: 9, 10, 12, and 10 where the target differs in more than widths.
 fn ground_of(
@@ -78,4 +89,198 @@ fn planned(
         &mut state,
     );
     state
+}
+
+// The question before any room is lent: the ground of refusal, or plan and counters of the result, by which `parts::part_at` and
+// `measure::needed_bytes` say what room it needs.
+pub fn plan_convert(
+    formats: &[u8],
+    schema: &[u32],
+    lengths: &[u64],
+    places: &[u64],
+    buffers: &[u64],
+    body: &[u8],
+    first: u32,
+    n: u32,
+    target: u32,
+    target_n: u32,
+    plan: &mut [u64],
+    counters: &mut [u64],
+) -> u8
+    ensures { λ r. ⌜ Asks (asked (now (formats .entry)) (now (schema .entry)) (tablesOf (now (lengths .entry)) (now (places .entry)) (now (buffers .entry)) (now (body .entry))) first n target «target_n» (now (plan .entry)) (now (counters .entry))) r (now (plan .exit)) (now (counters .exit)) ⌝ }
+{
+    let g = ground_of(
+        formats,
+        schema,
+        lengths,
+        places,
+        buffers,
+        body,
+        first,
+        n,
+        target,
+        target_n,
+    );
+    if g != 0 {
+        return g;
+    }
+    let state = planned(formats, schema, lengths, places, body, first, n, target);
+    let none = [0u64; 0];
+    let mut nothing = [0u8; 0];
+    let mut counts = [0u64; 96];
+    let g = width_loop::convert_walk(
+        formats,
+        schema,
+        lengths,
+        places,
+        body,
+        first,
+        n,
+        target,
+        &state,
+        &none,
+        &mut counts,
+        &mut nothing,
+        false,
+    );
+    if g != 0 {
+        return g;
+    }
+    if plan.len() != 872 {
+        return 14;
+    }
+    if counters.len() != 96 {
+        return 14;
+    }
+    let made = with_capacities::copied(counts);
+    result_plan::keep_result(plan, counters, &state, &made);
+    0
+}
+
+// The walk made, and plan and counters left with the caller.
+fn make(
+    formats: &[u8],
+    schema: &[u32],
+    lengths: &[u64],
+    places: &[u64],
+    body: &[u8],
+    first: u32,
+    n: u32,
+    target: u32,
+    state: &[u64],
+    parts: &[u64],
+    plan: &mut [u64],
+    counters: &mut [u64],
+    room: &mut [u8],
+) -> u8
+    requires { ⌜ (length (now plan) ≡ 872) × (length (now counters) ≡ 96) × (length (now state) ≡ 872) ⌝ }
+    requires { ⌜ ((buffers : List ℕ) × (columnGround (now formats) (now schema) (tablesOf (now lengths) (now places) buffers (now body)) first n ≡ 0)) ⌝ }
+    requires { ⌜ isTarget (now formats) (now schema) first n target n ≡ true ⌝ }
+    ensures { λ r. ⌜ (now (plan .exit) ≡ now (state .entry)) × ((buffers : List ℕ) → Did (now (state .entry)) (now (parts .entry)) true (treeWalk (treeOf (now (formats .entry)) (now (schema .entry)) first n) (treeOf (now (formats .entry)) (now (schema .entry)) target n) (tablesFrom (tablesOf (now (lengths .entry)) (now (places .entry)) buffers (now (body .entry))) first) (now (state .entry)) (replicate 96 0)) (now (room .entry)) r (now (counters .exit)) (now (room .exit))) ⌝ }
+{
+    let mut counts = [0u64; 96];
+    let g = width_loop::convert_walk(
+        formats,
+        schema,
+        lengths,
+        places,
+        body,
+        first,
+        n,
+        target,
+        state,
+        parts,
+        &mut counts,
+        room,
+        true,
+    );
+    let made = with_capacities::copied(counts);
+    result_plan::keep_result(plan, counters, state, &made);
+    g
+}
+
+// A column in the widths of the target, 0 or the ground of refusal. A refused one changes nothing.
+pub fn convert(
+    formats: &[u8],
+    schema: &[u32],
+    lengths: &[u64],
+    places: &[u64],
+    buffers: &[u64],
+    body: &[u8],
+    first: u32,
+    n: u32,
+    target: u32,
+    target_n: u32,
+    parts: &[u64],
+    plan: &mut [u64],
+    counters: &mut [u64],
+    room: &mut [u8],
+) -> u8
+    ensures { λ r. ⌜ Answers (convert (now (formats .entry)) (now (schema .entry)) (tablesOf (now (lengths .entry)) (now (places .entry)) (now (buffers .entry)) (now (body .entry))) first n target «target_n» (now (parts .entry)) (now (plan .entry)) (now (counters .entry)) (now (room .entry))) r (now (plan .exit)) (now (counters .exit)) (now (room .exit)) ⌝ }
+{
+    if CEILING < room.len() {
+        return 9;
+    }
+    let g = ground_of(
+        formats,
+        schema,
+        lengths,
+        places,
+        buffers,
+        body,
+        first,
+        n,
+        target,
+        target_n,
+    );
+    if g != 0 {
+        return g;
+    }
+    let state = planned(formats, schema, lengths, places, body, first, n, target);
+    let mut tried = [0u64; 96];
+    let g = width_loop::convert_walk(
+        formats,
+        schema,
+        lengths,
+        places,
+        body,
+        first,
+        n,
+        target,
+        &state,
+        parts,
+        &mut tried,
+        room,
+        false,
+    );
+    if g != 0 {
+        return g;
+    }
+    let counts = with_capacities::copied(tried);
+    let g = result_plan::room_ground(
+        &state,
+        &counts,
+        parts,
+        plan.len(),
+        counters.len(),
+        room.len(),
+    );
+    if g != 0 {
+        return g;
+    }
+    make(
+        formats,
+        schema,
+        lengths,
+        places,
+        body,
+        first,
+        n,
+        target,
+        &state,
+        parts,
+        plan,
+        counters,
+        room,
+    )
 }

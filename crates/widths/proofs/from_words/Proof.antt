@@ -1,6 +1,5 @@
 -- `widths::from_words` meets its contract. Assumes nothing.
 use native.Mathlib.Omega.{arith}
-use borrow.Author.Needs.{needs}
 use Rattle.widths.proofs.from_words.Statement.{statement}
 use Rattle.widths.proofs.from_words.Tie as tie
 
