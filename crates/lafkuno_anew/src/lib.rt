@@ -1,3 +1,4 @@
 // The calls that write one column anew (include/lafkuno.h). Every call is defined for whatever it is lent.
 mod codings;
+mod converting;
 mod reclaiming;
