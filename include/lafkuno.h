@@ -462,15 +462,28 @@ uint8_t lafkuno_plan_list_view(const uint8_t *formats, size_t formats_len, const
                                uint32_t first, uint32_t n, uint32_t target, uint32_t target_n, uint64_t *plan, size_t plan_len,
                                uint64_t *counters, size_t counters_len);
 
-/* Writes the root: the grounds of lafkuno_list. lafkuno_finish describes it, with first and n as the one source, in tables of one node. The whole
- * result has the types of target, and the numbers of n nodes: those of the finished root, and behind them, as they stand in lengths and places, those
- * of the column's nodes first + 1 .. first + n - 1, with the column's own buffers table. Its body holds the room at base, behind the old body. */
+/* Writes the root: the grounds of lafkuno_list. lafkuno_finish describes it, with first and n as the one source, in tables of one node: 2 lengths, 1
+ * null count, 9 places and no data buffer. They are the front of tables of n nodes, whose others lafkuno_list_view_child writes. */
 uint8_t lafkuno_list_view(const uint8_t *formats, size_t formats_len, const uint32_t *schema, size_t schema_len,
                           const uint64_t *lengths, size_t lengths_len, const uint64_t *places, size_t places_len,
                           const uint64_t *buffers, size_t buffers_len, const uint8_t *body, size_t body_len,
                           uint32_t first, uint32_t n, uint32_t target, uint32_t target_n, const uint64_t *parts, size_t parts_len,
                           uint64_t *plan, size_t plan_len, uint64_t *counters, size_t counters_len,
                           uint8_t *room, size_t room_len);
+
+/* The nodes below the root of the list column as those of its list-view, behind the finished root: lengths, null counts from their bits, and places as
+ * the column's tables have them; a validity without a zero bit is not named. Their data buffers are those of the column's own table of buffers, and
+ * the result has the types of target over a body that holds the room at base, behind the old body. 9, 10 and 12 for a malformed column, then 14 where
+ * a table has not the numbers of n nodes. A refusal changes nothing.
+ *   first, n     the list column, as it was given to lafkuno_list_view.
+ *   new_lengths  2 n numbers, of which all but the first two are written.
+ *   new_nulls    n numbers, of which all but the first are written.
+ *   new_places   9 n numbers, of which all but the first nine are written. */
+uint8_t lafkuno_list_view_child(const uint8_t *formats, size_t formats_len, const uint32_t *schema, size_t schema_len,
+                                const uint64_t *lengths, size_t lengths_len, const uint64_t *places, size_t places_len,
+                                const uint64_t *buffers, size_t buffers_len, const uint8_t *body, size_t body_len,
+                                uint32_t first, uint32_t n, uint64_t *new_lengths, size_t new_lengths_len,
+                                uint64_t *new_nulls, size_t new_nulls_len, uint64_t *new_places, size_t new_places_len);
 
 #ifdef __cplusplus
 }

@@ -166,16 +166,7 @@ static int write_result(struct conversion *c) {
 
 /* ---- the result */
 
-/* The zero bits among a node's rows. */
-static uint64_t zero_bits(const struct lafkuno_tables *t, size_t node) {
-    const position *place = t->places + 9 * node;
-    uint64_t rows = t->lengths[2 * node], offset = t->lengths[2 * node + 1], zeros = 0;
-    for (uint64_t k = offset; place[0] && k < offset + rows; k++) zeros += !(t->body[place[1] + k / 8] >> k % 8 & 1);
-    return zeros;
-}
-
-/* Of a list-view the root is finished alone; the nodes below are the column's own, without a validity that has no zero bit. One block, as
- * finish_tables makes it. */
+/* Of a list-view the root is finished alone; the nodes below are named as the column has them. One block, as finish_tables makes it. */
 static int view_tables(struct column *column, struct lafkuno_finished *tables) {
     const struct lafkuno_tables *t = &column->tables;
     size_t nodes = column->import.sources[1], data = t->buffers_len;
@@ -183,20 +174,15 @@ static int view_tables(struct column *column, struct lafkuno_finished *tables) {
     if (!block) return refuse_memory(column->report);
     position *places = (position *)(block + 3 * nodes);
     struct lafkuno_finished root = {block, 2, block + 2 * nodes, 1, places, 9, places + 9 * nodes, 0};
-    uint8_t ground = lafkuno_state_finish(&column->state, t, 0, &root);
-    if (ground) {
-        free(block);
-        return refuse_plainly(column->report, ground);
-    }
     *tables = (struct lafkuno_finished){block, 2 * nodes, block + 2 * nodes, nodes, places, 9 * nodes, places + 9 * nodes, data};
-    memcpy(tables->lengths + 2, t->lengths + 2, 2 * (nodes - 1) * sizeof *tables->lengths);
-    memcpy(tables->places + 9, t->places + 9, 9 * (nodes - 1) * sizeof *tables->places);
+    uint8_t ground = lafkuno_state_finish(&column->state, t, 0, &root);
+    if (!ground)
+        ground = lafkuno_list_view_child(TABLES(t), 0, (uint32_t)nodes, tables->lengths, tables->lengths_len, tables->nulls, tables->nulls_len,
+                                         tables->places, tables->places_len);
     if (data) memcpy(tables->buffers, t->buffers, data * sizeof *tables->buffers);
-    for (size_t k = 1; k < nodes; k++) {
-        tables->nulls[k] = zero_bits(t, k);
-        if (!tables->nulls[k]) memset(tables->places + 9 * k, 0, 3 * sizeof *tables->places);
-    }
-    return 0;
+    if (!ground) return 0;
+    free(block);
+    return refuse_plainly(column->report, ground);
 }
 
 static int finish(struct conversion *c, struct ArrowArray *array) {

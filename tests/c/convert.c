@@ -69,6 +69,8 @@ static void sliced(void) {
     c.lengths[OFFSET] = 3;
     c.lengths[LENGTH] = 2;
     show("no null in the slice", &c, TO_LIST_VIEW, p);
+    c.body[c.places[9 + VALIDITY]] = 0xff;
+    show("and none below", &c, TO_LIST_VIEW, p);
 }
 
 /* Two rows over all five rows of a child, and over its rows 1 to 3, behind a root with an offset. */

@@ -17,7 +17,7 @@ struct wrong {
     unsigned less, more_parts, short_plan, overlap;
 };
 
-/* One line: what was asked, then the ground; or the parts by node and buffer, and the rows, which are those of the column. */
+/* One line: what was asked, then the ground; or the parts by node and buffer, the null counts, and the rows, which are those of the column. */
 void show(const char *what, const struct column *c, enum way way, struct pair p);
 /* The same with something wrong. */
 void show_wrong(const char *what, const struct column *c, enum way way, struct pair p, struct wrong w);

@@ -98,28 +98,30 @@ static void append(int k, const void *from, size_t size) {
 }
 
 /* Finishes the result, and puts it where its type stands: its numbers at the target's nodes, its data buffers behind the others, the room behind the
- * body. Of a list-view the root alone is finished; behind it stand the numbers of the column's own nodes. */
+ * body. Of a list-view the root alone is finished; the nodes below it are named as the column has them, over its own data buffers. */
 static uint8_t finish_and_lend(enum way way, struct pair p) {
     const uint32_t sources[2] = {p.first, p.n};
     size_t nodes = way == TO_LIST_VIEW ? 1 : p.target_n, old = lent[BUFFERS].size / 16;
     uint64_t named = lafkuno_buffer_total(OWN_LONGS(PLAN), sources, 2, LONGS(PLACES));
-    fresh(NEW_LENGTHS, 16 * nodes);
-    fresh(NEW_NULLS, 8 * nodes);
-    fresh(NEW_PLACES, 72 * nodes);
+    fresh(NEW_LENGTHS, 16 * p.target_n);
+    fresh(NEW_NULLS, 8 * p.target_n);
+    fresh(NEW_PLACES, 72 * p.target_n);
     fresh(NEW_BUFFERS, 16 * named);
     keep_all();
     uint8_t ground = lafkuno_finish(OWN_LONGS(PLAN), OWN_LONGS(PARTS), sources, 2, LONGS(LENGTHS), LONGS(PLACES), LONGS(BUFFERS), BYTES(BYTES_OF_BODY),
-                                    OWN_LONGS(COUNTERS), OWN_BYTES(ROOM), lent[BYTES_OF_BODY].size, OWN_LONGS(NEW_LENGTHS), OWN_LONGS(NEW_NULLS),
-                                    OWN_LONGS(NEW_PLACES), OWN_LONGS(NEW_BUFFERS));
+                                    OWN_LONGS(COUNTERS), OWN_BYTES(ROOM), lent[BYTES_OF_BODY].size, own_longs(NEW_LENGTHS), 2 * nodes,
+                                    own_longs(NEW_NULLS), nodes, own_longs(NEW_PLACES), 9 * nodes, OWN_LONGS(NEW_BUFFERS));
     kept_all(ground, 15 << NEW_LENGTHS);
     if (ground != FINE) return ground;
     for (size_t i = 0; i < nodes; i++) own_longs(NEW_PLACES)[9 * i + FIRST_DATA] += old;
+    if (way == TO_LIST_VIEW) {
+        keep_all();
+        ground = lafkuno_list_view_child(TABLES, p.first, p.n, OWN_LONGS(NEW_LENGTHS), OWN_LONGS(NEW_NULLS), OWN_LONGS(NEW_PLACES));
+        kept_all(ground, 7 << NEW_LENGTHS);
+        if (ground != FINE) return ground;
+    }
     memcpy(lent[LENGTHS].start + 16 * p.target, own[NEW_LENGTHS].start, own[NEW_LENGTHS].size);
     memcpy(lent[PLACES].start + 72 * p.target, own[NEW_PLACES].start, own[NEW_PLACES].size);
-    for (size_t i = nodes; i < p.target_n; i++) {
-        memcpy(lent[LENGTHS].start + 16 * (p.target + i), lent[LENGTHS].start + 16 * (p.first + i), 16);
-        memcpy(lent[PLACES].start + 72 * (p.target + i), lent[PLACES].start + 72 * (p.first + i), 72);
-    }
     append(BUFFERS, own[NEW_BUFFERS].start, own[NEW_BUFFERS].size);
     append(BYTES_OF_BODY, own[ROOM].start, own[ROOM].size);
     return lafkuno_column_ground(TABLES, p.target, p.target_n);
@@ -178,6 +180,12 @@ static void put_rows(char *out, uint32_t first) {
     }
 }
 
+/* The null count of each node of the result. */
+static void show_nulls(struct pair p) {
+    fputs(" | nulls", stdout);
+    for (uint32_t i = 0; i < p.target_n; i++) printf(" %llu", (unsigned long long)own_longs(NEW_NULLS)[i]);
+}
+
 /* ---- one line */
 
 static uint8_t made(const char *what, const struct column *c, enum way way, struct pair p, struct wrong w) {
@@ -201,6 +209,7 @@ void show_wrong(const char *what, const struct column *c, enum way way, struct p
     uint8_t ground = finish_and_lend(way, p);
     put_rows(after, p.target);
     if (ground != FINE) printf(" LENT AGAIN %d", ground);
+    show_nulls(p);
     printf(" |%s%s\n", after, strcmp(before, after) ? " READS OTHERWISE" : "");
 }
 

@@ -76,7 +76,7 @@ module _ (formats schema : List ℕ) (first n : ℕ) where
       go true e = ap isRun (at-run formats schema first i e)
       go false e = rw e (no-run (isFixed (codeOf formats schema first i)) (isString (codeOf formats schema first i)) (isView (codeOf formats schema first i)) (isListView (codeOf formats schema first i)) (isList (codeOf formats schema first i)) (isUnion (codeOf formats schema first i)) (eqb (dictionary schema first i) 0) (eqb (codeOf formats schema first i) 21) (numberOr (numberOf (codeOf formats schema first i))) i8 (idsOr (idsOf formats schema first i)) (widthOf (codeOf formats schema first i)) (widthOf (codeOf formats schema first (suc i))))
 
-  ends-same : (i : ℕ) → endsAt formats schema first i ≡ endsIn (treeOf formats schema first n) i
+  pub ends-same : (i : ℕ) → endsAt formats schema first i ≡ endsIn (treeOf formats schema first n) i
   unfolding endsAt
   ends-same zero = refl
   ends-same (suc i) = sym (is-run i)

@@ -60,11 +60,11 @@ module _ (formats schema : List ℕ) (x : Tables) (first n : ℕ) (ok : columnGr
   pub source-here : Source (typeOf formats schema first n) (columnOf (treeOf formats schema first n) own (typeOf formats schema first n) 0)
   source-here = sources-accepted formats schema x sources (one-source formats schema x sources refl ∙ ok) 0 (omega arith)
 
-  rule-here : T (sourceRule (treeOf formats schema first n) own)
+  pub rule-here : T (sourceRule (treeOf formats schema first n) own)
   unfolding obeys
   rule-here = subst T (sym (obeys-at formats schema x sources (all .obey) 0 (omega arith))) tt
 
-  fits-at : (i : ℕ) → i < n → nodeFits formats schema x first i ≡ true
+  pub fits-at : (i : ℕ) → i < n → nodeFits formats schema x first i ≡ true
   unfolding withinCeilings
   fits-at i l = every-at (nodeFits formats schema x first) n i (both (ceilings formats schema first n) (every (nodeFits formats schema x first) n) within .1) l
 

@@ -45,7 +45,7 @@ member-behind (p ∷ ps) cs c m = List·Memᴰ·tail (member-behind ps cs c m)
 -- ---- how much stands below a kind
 
 module _ (formats schema : List ℕ) (first : ℕ) where
-  abbrev BelowAs : ℕ → NodeKind → Type 0
+  abbrev pub BelowAs : ℕ → NodeKind → Type 0
   BelowAs i (fixedNode m) = below schema first i ≡ 0
   BelowAs i (stringNode w) = below schema first i ≡ 0
   BelowAs i viewNode = below schema first i ≡ 0
@@ -56,7 +56,7 @@ module _ (formats schema : List ℕ) (first : ℕ) where
   BelowAs i (runEndNode w) = (below schema first i ≡ 2) × (below schema first (suc i) ≡ 0) × ((m : Number) × (kindAt formats schema first (suc i) ≡ fixedNode m))
   BelowAs i (dictionaryNode m) = (below schema first i ≡ 1) × (below schema first (suc i) ≡ 0)
 
-  below-of : (i : ℕ) → Shaped formats schema first i → BelowAs i (kindAt formats schema first i)
+  pub below-of : (i : ℕ) → Shaped formats schema first i → BelowAs i (kindAt formats schema first i)
   below-of i (of-plain (fixed m) e z d) = subst (BelowAs i) (sym e) z
   below-of i (of-plain (string v) e z d) = subst (BelowAs i) (sym e) z
   below-of i (of-view e z) = subst (BelowAs i) (sym e) z

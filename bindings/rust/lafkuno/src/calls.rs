@@ -8,7 +8,7 @@ mod reclaiming;
 mod trips;
 mod why;
 
-pub use converting::{convert, plan_convert, Into, Target};
+pub use converting::{convert, list_view_child, plan_convert, Into, Target};
 pub use reclaiming::{plan_reclaim, reclaim};
 pub use trips::{measure_orders, orders, Ended, MOST_ORDERS, ORDER};
 pub use why::{why_copy, why_nulls, why_orders, Why, WHY};

@@ -1,7 +1,7 @@
 //! A column's rows in another type: a list as a list-view and back.
 
 use crate::buffer::zeros;
-use crate::calls::{self, Into, Position, Tables, Target, COUNTERS, PLAN};
+use crate::calls::{self, FinishedTables, Into, Position, Tables, Target, COUNTERS, PLAN};
 use crate::work::Work;
 use crate::{anew, unfit, Buffer, Column, Error, Field, Lent, Type};
 
@@ -20,14 +20,13 @@ fn empty(to: &Type, like: Option<&Column>, free: bool) -> Column {
     }
 }
 
-/// A kept column: a validity without a zero bit is dropped, as finishing drops it.
-fn kept(column: &Column) -> Column {
-    Column {
-        validity: column.validity.clone().filter(|_| column.null_count() != 0),
-        children: column.children.iter().map(kept).collect(),
-        dictionary: column.dictionary.as_deref().map(|d| Box::new(kept(d))),
-        ..column.clone()
-    }
+/// A column that is kept, with the validity of its nodes where the places name one; `node` counts them.
+fn kept(column: &Column, places: &[Position], node: &mut usize) -> Column {
+    let named = places.get(9 * *node).is_some_and(|has| *has != 0);
+    *node += 1;
+    let dictionary = column.dictionary.as_deref().map(|d| Box::new(kept(d, places, node)));
+    let children = column.children.iter().map(|c| kept(c, places, node)).collect();
+    Column { validity: column.validity.clone().filter(|_| named), children, dictionary, ..column.clone() }
 }
 
 /// A column that is laid before the type that it is to become, and what was written of it.
@@ -110,17 +109,25 @@ impl Column {
     fn as_list_view(&self, to: &Type) -> Result<Column, Error> {
         // nothing is trimmed: the offsets are those of the child as it is
         let Written { lent, plan, counters, parts, room } = written(self, to, Into::ListView, Lent::lay_whole)?;
-        let root = anew::finished(alone(&lent), 1, &plan, &parts, &counters, &room, 0)?;
+        let x = alone(&lent);
+        let n = x.sources[1] as usize;
+        let root = anew::finished(x, 1, &plan, &parts, &counters, &room, 0)?;
+        let (mut lengths, mut nulls, mut places) = (root.lengths, vec![0; n], root.places);
+        lengths.resize(2 * n, 0);
+        places.resize(9 * n, 0);
+        let mut out = FinishedTables { lengths: &mut lengths, nulls: &mut nulls, places: &mut places, buffers: &mut [] };
+        Error::check(calls::list_view_child(&x, x.sources[0], x.sources[1], &mut out))?;
         let room = Buffer::from(room);
         let buffer = |j: usize| {
-            let found = room.slice(root.places[j] as usize, root.places[j + 1] as usize);
+            let found = room.slice(places[j] as usize, places[j + 1] as usize);
             found.ok_or_else(|| Error::Inconsistent("the finished tables name bytes that are not there".into()))
         };
+        let mut node = 1;
         Ok(Column {
-            length: root.lengths[0],
-            validity: if root.places[0] == 0 { None } else { Some(buffer(1)?) },
+            length: lengths[0],
+            validity: if places[0] == 0 { None } else { Some(buffer(1)?) },
             buffers: vec![buffer(3)?, buffer(5)?],
-            children: self.children.iter().map(kept).collect(),
+            children: self.children.iter().map(|c| kept(c, &places, &mut node)).collect(),
             ..empty(to, Some(self), true)
         })
     }

@@ -51,9 +51,8 @@ pub fn damaged_conversion(seed: u64, answers: &mut Answers) -> Result<(), String
         parts.extend([end, size]);
         end += size;
     }
-    let nodes = if into == Into::ListView { 1 } else { t.target_n as usize };
     let named = calls::buffer_total(&plan, &lent.places, &lent.sources);
-    let mut memory = Memory::new(&lent, &parts, &r.bytes(end as usize), nodes, named);
+    let mut memory = Memory::new(&lent, &parts, &r.bytes(end as usize), t.target_n as usize, named);
     let hurt = r.chance(85);
     if hurt {
         memory.hurt(r, 80);
@@ -66,7 +65,9 @@ pub fn damaged_conversion(seed: u64, answers: &mut Answers) -> Result<(), String
         same("the answers to a good column", (planned, answer), (asked, asked)).map_err(describe)?;
     }
     if answer == 0 {
-        let finished = memory.check(Call::Finish(lent.body.len() as u64), answers).map_err(describe)?;
+        // of a list-view the root alone is finished, and the nodes below it are named
+        let last = if into == Into::ListView { Call::NameChild(t.first, t.n) } else { Call::Finish(lent.body.len() as u64) };
+        let finished = memory.check(last, answers).map_err(describe)?;
         same("finishing", finished == 0 || hurt, true).map_err(describe)?;
         // the sources are no part of these calls
         let lent = Lent { sources: vec![t.first, t.n], ..memory.lent() };

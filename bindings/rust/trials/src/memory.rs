@@ -55,6 +55,7 @@ pub enum Call {
     OpenColumn(u32, u32),
     PlanConvert(Into, Target),
     Convert(Into, Target),
+    NameChild(u32, u32),
 }
 
 impl Call {
@@ -76,6 +77,7 @@ impl Call {
             Call::PlanConvert(Into::ListView, _) => "plan_list_view",
             Call::Convert(Into::List, _) => "list",
             Call::Convert(Into::ListView, _) => "list_view",
+            Call::NameChild(..) => "list_view_child",
         }
     }
 }
@@ -207,6 +209,15 @@ impl Memory {
                     buffers: self.new_buffers.get_mut(),
                 };
                 calls::finish(plan.get(), parts, &x, counters.get(), room.get(), base, &mut out)
+            }
+            Call::NameChild(first, n) => {
+                let mut out = FinishedTables {
+                    lengths: self.new_lengths.get_mut(),
+                    nulls: self.new_nulls.get_mut(),
+                    places: self.new_places.get_mut(),
+                    buffers: self.new_buffers.get_mut(),
+                };
+                calls::list_view_child(&x, first, n, &mut out)
             }
             Call::MeasureOpen => calls::measure_open(plan.get(), &x, counters.get_mut()),
             Call::MeasureCopy(source, start, end) => calls::measure_copy(plan.get(), &x, counters.get_mut(), source, start, end),

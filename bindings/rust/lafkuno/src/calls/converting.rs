@@ -1,6 +1,6 @@
 //! A column's rows in another type: a list as a list-view and back.
 
-use super::{Position, Tables};
+use super::{FinishedTables, Position, Tables};
 
 extern "C" {
     fn lafkuno_plan_list(
@@ -24,6 +24,12 @@ extern "C" {
         places: *const Position, places_len: usize, buffers: *const Position, buffers_len: usize, body: *const u8, body_len: usize,
         first: u32, n: u32, target: u32, target_n: u32, parts: *const Position, parts_len: usize, plan: *mut u64, plan_len: usize,
         counters: *mut u64, counters_len: usize, room: *mut u8, room_len: usize,
+    ) -> u8;
+    fn lafkuno_list_view_child(
+        formats: *const u8, formats_len: usize, schema: *const u32, schema_len: usize, lengths: *const u64, lengths_len: usize,
+        places: *const Position, places_len: usize, buffers: *const Position, buffers_len: usize, body: *const u8, body_len: usize,
+        first: u32, n: u32, new_lengths: *mut u64, new_lengths_len: usize, new_nulls: *mut u64, new_nulls_len: usize,
+        new_places: *mut Position, new_places_len: usize,
     ) -> u8;
 }
 
@@ -87,6 +93,18 @@ pub fn convert(into: Into, x: &Tables, t: Target, parts: &[Position], plan: &mut
             x.places.as_ptr(), x.places.len(), x.buffers.as_ptr(), x.buffers.len(), x.body.as_ptr(), x.body.len(),
             t.first, t.n, t.target, t.target_n, parts.as_ptr(), parts.len(), plan.as_mut_ptr(), plan.len(),
             counters.as_mut_ptr(), counters.len(), room.as_mut_ptr(), room.len(),
+        )
+    }
+}
+
+/// The nodes below the root of a list column of `n` nodes from node `first` on as those of its list-view, behind the finished root in tables of `n`
+/// nodes: lengths, null counts, and places in the column's body.
+pub fn list_view_child(x: &Tables, first: u32, n: u32, out: &mut FinishedTables) -> u8 {
+    unsafe {
+        lafkuno_list_view_child(
+            x.formats.as_ptr(), x.formats.len(), x.schema.as_ptr(), x.schema.len(), x.lengths.as_ptr(), x.lengths.len(),
+            x.places.as_ptr(), x.places.len(), x.buffers.as_ptr(), x.buffers.len(), x.body.as_ptr(), x.body.len(), first, n,
+            out.lengths.as_mut_ptr(), out.lengths.len(), out.nulls.as_mut_ptr(), out.nulls.len(), out.places.as_mut_ptr(), out.places.len(),
         )
     }
 }

@@ -1,0 +1,266 @@
+// What a node writes beside its bits, and the rows of the nodes below it that it settles: one function a kind. The answer is 0 or the ground of
+// refusal.
+ghost use mathlib.Core.Path.{_≡_};
+ghost use mathlib.Core.Bool.{Bool, true};
+ghost use mathlib.Core.Option.{some};
+ghost use mathlib.Core.List.{List, [], _∷_};
+ghost use Prim.Native.Nat.{ℕ, _+_, _*_, _<_, _≤_, _^_};
+ghost use lib.ListN.{length, take, drop};
+ghost use Rattle.columnar.specs.Types.{Number, width};
+ghost use Rattle.columnar.specs.Array.{ok};
+ghost use Rattle.columnar.specs.Plain.{OffsetsRule};
+ghost use Rattle.columnar.specs.Test.{maskTest};
+ghost use Rattle.formats.specs.Code.{isInteger};
+ghost use Rattle.formats.specs.Types.{numberOf};
+ghost use Rattle.schema.specs.Tree.{childAt};
+ghost use Rattle.array_data.specs.Tables.{place, validOf, validIn, firstBuffer, secondBuffer};
+ghost use Rattle.array_data.specs.Typed.{NodeKind, stringNode, listViewNode, listNode, sparseNode, denseNode, dictionaryNode, Tree};
+ghost use Rattle.array_data.specs.entries.Entries.{column};
+ghost use Rattle.array_data.specs.type_tree.Lent.{treeOf};
+ghost use Rattle.walk.specs.State.{setBytes};
+ghost use Rattle.walk.specs.Log.{Did, put, applyIf};
+ghost use Rattle.width_walks.specs.Nodes.{ownAs, settleAs};
+ghost use Rattle.width_loop.specs.Steps.{Inside};
+use crate::leaves;
+use crate::ranges;
+use array_data::entries;
+use plan::dictionaries;
+use walk::plan_words;
+
+// The bytes of a byte string: `span` of them from byte `base` of its data on.
+fn put_chars(
+    plan: &[u64],
+    parts: &[u64],
+    places: &[u64],
+    body: &[u8],
+    counts: &mut [u64; 96],
+    room: &mut [u8],
+    write: bool,
+    first: u32,
+    i: usize,
+    base: u64,
+    span: u64,
+)
+    requires { ⌜ (i < 32) × (place (column [] (now places) [] [] first) i 5 + base + span ≤ length (now body)) ⌝ }
+    ensures { λ _. ⌜ now (room .exit) ≡ applyIf (now (plan .entry)) (now (parts .entry)) write (put i 2 0 (take span (drop (place (column [] (now (places .entry)) [] [] first) i 5 + base) (now (body .entry)))) ∷ []) (now (room .entry)) ⌝ }
+    ensures { λ _. ⌜ now (counts .exit) ≡ setBytes i span (now (counts .entry)) ⌝ }
+{
+    let from = entries::place_at(places, first, i, 5) + base;
+    room_writes::put_copy(plan, parts, room, write, i, 2, 0, body, from as usize, span);
+    plan_words::set_bytes(counts, i, span);
+}
+
+// Byte strings: offsets, and the bytes that they span.
+pub fn walk_string(
+    plan: &[u64],
+    parts: &[u64],
+    places: &[u64],
+    body: &[u8],
+    counts: &mut [u64; 96],
+    room: &mut [u8],
+    write: bool,
+    first: u32,
+    i: usize,
+    w: u64,
+    w2: u64,
+    s: u64,
+    n: u64,
+) -> u8
+    requires { ⌜ (i < 32) × (s + n < 2 ^ 63) × Inside (column [] (now places) [] (now body) first) i 3 × Inside (column [] (now places) [] (now body) first) i 5 ⌝ }
+    requires { ⌜ ((w ≡ 4 → ⊥) → w ≡ 8) × ((w2 ≡ 4 → ⊥) → w2 ≡ 8) ⌝ }
+    requires { ⌜ OffsetsRule w (firstBuffer (column [] (now places) [] (now body) first) i) (length (secondBuffer (column [] (now places) [] (now body) first) i)) s n ⌝ }
+    ensures { λ g. ⌜ ((t t2 : Tree) (okay : ℕ → Bool) → Did (now (plan .entry)) (now (parts .entry)) write (ownAs t t2 (column [] (now (places .entry)) [] (now (body .entry)) first) (now (plan .entry)) (stringNode w) (stringNode w2) i okay s n (now (counts .entry))) (now (room .entry)) g (now (counts .exit)) (now (room .exit))) ⌝ }
+{
+    let at = entries::place_at(places, first, i, 3);
+    let size = entries::place_at(places, first, i, 4);
+    let g = leaves::put_offsets(plan, parts, body, room, write, i, at, size, w, w2, s, n);
+    if g != 0 {
+        return g;
+    }
+    let base = leaves::offset_at(body, at, size, w, s);
+    let span = leaves::offset_at(body, at, size, w, s + n) - base;
+    put_chars(
+        plan,
+        parts,
+        places,
+        body,
+        counts,
+        room,
+        write,
+        first,
+        i,
+        base,
+        span,
+    );
+    0
+}
+
+// List-views: offsets and sizes as they are, and all rows of the child.
+pub fn walk_list_view(
+    plan: &[u64],
+    parts: &[u64],
+    lengths: &[u64],
+    places: &[u64],
+    body: &[u8],
+    ranges: &mut [u64; 64],
+    room: &mut [u8],
+    write: bool,
+    first: u32,
+    i: usize,
+    w: u64,
+    w2: u64,
+    s: u64,
+    n: u64,
+) -> u8
+    requires { ⌜ (i + 1 < 32) × Inside (column [] (now places) [] (now body) first) i 3 × Inside (column [] (now places) [] (now body) first) i 5 × ((s + n) * w ≤ place (column [] (now places) [] [] first) i 4) × ((s + n) * w ≤ place (column [] (now places) [] [] first) i 6) ⌝ }
+    requires { ⌜ ((w ≡ 4 → ⊥) → w ≡ 8) × ((w2 ≡ 4 → ⊥) → w2 ≡ 8) ⌝ }
+    ensures { λ g. ⌜ ((t t2 : Tree) (okay : ℕ → Bool) (c : List ℕ) → Did (now (plan .entry)) (now (parts .entry)) write (ownAs t t2 (column [] (now (places .entry)) [] (now (body .entry)) first) (now (plan .entry)) (listViewNode w) (listViewNode w2) i okay s n c) (now (room .entry)) g c (now (room .exit))) ⌝ }
+    ensures { λ g. ⌜ ((t t2 : Tree) → g ≡ 0 → now (ranges .exit) ≡ settleAs t t2 (column (now (lengths .entry)) (now (places .entry)) [] (now (body .entry)) first) (now (plan .entry)) (listViewNode w) i s n (now (ranges .entry))) ⌝ }
+{
+    let at = entries::place_at(places, first, i, 3);
+    let too = entries::place_at(places, first, i, 5);
+    let g = leaves::put_pairs(plan, parts, body, room, write, i, at, too, w, w2, s, n);
+    if g != 0 {
+        return g;
+    }
+    ranges::set_range(ranges, i + 1, 0, entries::length_at(lengths, first, i + 1));
+    0
+}
+
+// Lists: offsets, and the rows of the child that they span.
+pub fn walk_list(
+    plan: &[u64],
+    parts: &[u64],
+    places: &[u64],
+    body: &[u8],
+    ranges: &mut [u64; 64],
+    room: &mut [u8],
+    write: bool,
+    first: u32,
+    i: usize,
+    w: u64,
+    w2: u64,
+    s: u64,
+    n: u64,
+) -> u8
+    requires { ⌜ (i + 1 < 32) × (s + n < 2 ^ 63) × Inside (column [] (now places) [] (now body) first) i 3 ⌝ }
+    requires { ⌜ ((w ≡ 4 → ⊥) → w ≡ 8) × ((w2 ≡ 4 → ⊥) → w2 ≡ 8) ⌝ }
+    requires { ⌜ ((most : ℕ) × OffsetsRule w (firstBuffer (column [] (now places) [] (now body) first) i) most s n) ⌝ }
+    ensures { λ g. ⌜ ((t t2 : Tree) (okay : ℕ → Bool) (c : List ℕ) → Did (now (plan .entry)) (now (parts .entry)) write (ownAs t t2 (column [] (now (places .entry)) [] (now (body .entry)) first) (now (plan .entry)) (listNode w) (listNode w2) i okay s n c) (now (room .entry)) g c (now (room .exit))) ⌝ }
+    ensures { λ g. ⌜ ((t t2 : Tree) → g ≡ 0 → now (ranges .exit) ≡ settleAs t t2 (column [] (now (places .entry)) [] (now (body .entry)) first) (now (plan .entry)) (listNode w) i s n (now (ranges .entry))) ⌝ }
+{
+    let at = entries::place_at(places, first, i, 3);
+    let size = entries::place_at(places, first, i, 4);
+    let g = leaves::put_offsets(plan, parts, body, room, write, i, at, size, w, w2, s, n);
+    if g != 0 {
+        return g;
+    }
+    let base = leaves::offset_at(body, at, size, w, s);
+    let span = leaves::offset_at(body, at, size, w, s + n) - base;
+    ranges::set_range(ranges, i + 1, base, span);
+    0
+}
+
+// Sparse unions: type ids, and of each child the same slots.
+pub fn walk_sparse(
+    plan: &[u64],
+    parts: &[u64],
+    schema: &[u32],
+    lengths: &[u64],
+    places: &[u64],
+    body: &[u8],
+    ranges: &mut [u64; 64],
+    room: &mut [u8],
+    write: bool,
+    first: u32,
+    count: usize,
+    i: usize,
+    m: usize,
+    s: u64,
+    n: u64,
+)
+    requires { ⌜ (count ≤ 32) × (i < count) × Inside (column [] (now places) [] (now body) first) i 3 × ((s + n) * 1 ≤ place (column [] (now places) [] [] first) i 4) ⌝ }
+    requires { ⌜ ((j : ℕ) → j < m → childAt (now schema) first count i j < 32) ⌝ }
+    ensures { λ _. ⌜ ((t t2 : Tree) (k2 : NodeKind) (ids : List ℕ) (okay : ℕ → Bool) (c : List ℕ) → Did (now (plan .entry)) (now (parts .entry)) write (ownAs t t2 (column [] (now (places .entry)) [] (now (body .entry)) first) (now (plan .entry)) (sparseNode ids) k2 i okay s n c) (now (room .entry)) 0 c (now (room .exit))) ⌝ }
+    ensures { λ _. ⌜ ((formats buffers ids : List ℕ) (t2 : Tree) → length ids ≡ m → now (ranges .exit) ≡ settleAs (treeOf formats (now (schema .entry)) first count) t2 (column (now (lengths .entry)) (now (places .entry)) buffers (now (body .entry)) first) (now (plan .entry)) (sparseNode ids) i s n (now (ranges .entry))) ⌝ }
+{
+    let at = entries::place_at(places, first, i, 3);
+    leaves::put_slots(plan, parts, body, room, write, i, 1, at, 1, s, n);
+    ranges::settle_fields(schema, lengths, first, count, ranges, i, m, false, s, n);
+}
+
+// Dense unions: type ids and positions as they are, and all rows of each child.
+pub fn walk_dense(
+    plan: &[u64],
+    parts: &[u64],
+    schema: &[u32],
+    lengths: &[u64],
+    places: &[u64],
+    body: &[u8],
+    ranges: &mut [u64; 64],
+    room: &mut [u8],
+    write: bool,
+    first: u32,
+    count: usize,
+    i: usize,
+    m: usize,
+    s: u64,
+    n: u64,
+)
+    requires { ⌜ (count ≤ 32) × (i < count) × Inside (column [] (now places) [] (now body) first) i 3 × Inside (column [] (now places) [] (now body) first) i 5 × ((s + n) * 1 ≤ place (column [] (now places) [] [] first) i 4) × ((s + n) * 4 ≤ place (column [] (now places) [] [] first) i 6) ⌝ }
+    requires { ⌜ ((j : ℕ) → j < m → childAt (now schema) first count i j < 32) ⌝ }
+    ensures { λ _. ⌜ ((t t2 : Tree) (k2 : NodeKind) (ids : List ℕ) (okay : ℕ → Bool) (c : List ℕ) → Did (now (plan .entry)) (now (parts .entry)) write (ownAs t t2 (column [] (now (places .entry)) [] (now (body .entry)) first) (now (plan .entry)) (denseNode ids) k2 i okay s n c) (now (room .entry)) 0 c (now (room .exit))) ⌝ }
+    ensures { λ _. ⌜ ((formats buffers ids : List ℕ) (t2 : Tree) → length ids ≡ m → now (ranges .exit) ≡ settleAs (treeOf formats (now (schema .entry)) first count) t2 (column (now (lengths .entry)) (now (places .entry)) buffers (now (body .entry)) first) (now (plan .entry)) (denseNode ids) i s n (now (ranges .entry))) ⌝ }
+{
+    let at = entries::place_at(places, first, i, 3);
+    leaves::put_slots(plan, parts, body, room, write, i, 1, at, 1, s, n);
+    let too = entries::place_at(places, first, i, 5);
+    leaves::put_slots(plan, parts, body, room, write, i, 2, too, 4, s, n);
+    ranges::settle_fields(schema, lengths, first, count, ranges, i, m, true, 0, 0);
+}
+
+// Dictionaries: ground 8, keys with 0 under a null, and all entries.
+pub fn walk_keys(
+    plan: &[u64],
+    parts: &[u64],
+    lengths: &[u64],
+    places: &[u64],
+    body: &[u8],
+    ranges: &mut [u64; 64],
+    room: &mut [u8],
+    write: bool,
+    first: u32,
+    i: usize,
+    w: u64,
+    w2: u64,
+    code: u8,
+    s: u64,
+    n: u64,
+) -> u8
+    requires { ⌜ (i + 1 < 32) × (s + n < 2 ^ 63) × Inside (column [] (now places) [] (now body) first) i 3 × ((s + n) * w ≤ place (column [] (now places) [] [] first) i 4) × (isInteger code ≡ true) ⌝ }
+    requires { ⌜ (validIn (column [] (now places) [] (now body) first) i ≡ true) × (maskTest true (validOf (column [] (now places) [] (now body) first) i) (s + n) ≡ true) ⌝ }
+    requires { ⌜ ((w ≡ 1 → ⊥) → (w ≡ 2 → ⊥) → (w ≡ 4 → ⊥) → w ≡ 8) × ((w2 ≡ 1 → ⊥) → (w2 ≡ 2 → ⊥) → (w2 ≡ 4 → ⊥) → w2 ≡ 8) ⌝ }
+    ensures { λ g. ⌜ ((t t2 : Tree) (m m2 : Number) (c : List ℕ) → width m ≡ w → numberOf code ≡ some m2 → width m2 ≡ w2 → Did (now (plan .entry)) (now (parts .entry)) write (ownAs t t2 (column (now (lengths .entry)) (now (places .entry)) [] (now (body .entry)) first) (now (plan .entry)) (dictionaryNode m) (dictionaryNode m2) i (ok (validOf (column [] (now (places .entry)) [] (now (body .entry)) first) i)) s n c) (now (room .entry)) g c (now (room .exit))) ⌝ }
+    ensures { λ g. ⌜ ((t t2 : Tree) (m : Number) → g ≡ 0 → now (ranges .exit) ≡ settleAs t t2 (column (now (lengths .entry)) (now (places .entry)) [] (now (body .entry)) first) (now (plan .entry)) (dictionaryNode m) i s n (now (ranges .entry))) ⌝ }
+{
+    let entries = entries::length_at(lengths, first, i + 1);
+    if !dictionaries::key_fits(0, entries, code) {
+        return 8;
+    }
+    leaves::put_keys(
+        plan,
+        parts,
+        places,
+        body,
+        room,
+        write,
+        first,
+        i,
+        w,
+        w2,
+        s,
+        n,
+    );
+    ranges::set_range(ranges, i + 1, 0, entries);
+    0
+}

@@ -1,0 +1,267 @@
+// What one node writes, by its buffers: bits, slots, offsets, offsets with sizes, and keys.
+ghost use mathlib.Core.Path.{_≡_};
+ghost use mathlib.Core.Bool.{true, cond};
+ghost use mathlib.Core.List.{List, [], _∷_};
+ghost use Prim.Native.Nat.{ℕ, suc, _+_, _*_, _-_, _<_, _≤_, _^_};
+ghost use lib.ListN.{length, take, drop};
+ghost use lib.Dec.{ltb};
+ghost use Rattle.columnar.specs.Row.{seg};
+ghost use Rattle.columnar.specs.Types.{half};
+ghost use Rattle.columnar.specs.Array.{item, ok};
+ghost use Rattle.columnar.specs.Plain.{OffsetsRule};
+ghost use Rattle.columnar.specs.Entries.{encodes};
+ghost use Rattle.columnar.specs.Test.{maskTest};
+ghost use Rattle.array_data.specs.Tables.{part, validOf, firstBuffer, place, validIn};
+ghost use Rattle.array_data.specs.entries.Entries.{column};
+ghost use Rattle.walk.specs.Log.{Did, put, wrote, need, next, applyIf};
+ghost use Rattle.column_anew.specs.widths.Converted.{spanOf, offsetsOf};
+ghost use Rattle.width_walks.specs.Convert.{bitsWalk};
+ghost use Rattle.width_loop.specs.Steps.{pairsWalk};
+use array_data::entries;
+use nested_rows::lookups;
+use recode::limits;
+use walk::plan_words;
+
+// The bits of n slots of node i from slot s on, where that node of the result keeps nulls.
+pub fn put_bits(
+    plan: &[u64],
+    parts: &[u64],
+    places: &[u64],
+    body: &[u8],
+    room: &mut [u8],
+    write: bool,
+    first: u32,
+    i: usize,
+    s: u64,
+    n: u64,
+)
+    requires { ⌜ (i < 32) × (s + n < 2 ^ 63) ⌝ }
+    requires { ⌜ (validIn (column [] (now places) [] (now body) first) i ≡ true) × (maskTest true (validOf (column [] (now places) [] (now body) first) i) (s + n) ≡ true) ⌝ }
+    ensures { λ _. ⌜ ((c : List ℕ) → Did (now (plan .entry)) (now (parts .entry)) write (bitsWalk (now (plan .entry)) i (ok (validOf (column [] (now (places .entry)) [] (now (body .entry)) first) i)) s n c) (now (room .entry)) 0 c (now (room .exit))) ⌝ }
+{
+    if plan_words::keeps_of(plan, i) == 0 {
+        return;
+    }
+    if entries::place_at(places, first, i, 0) == 0 {
+        room_writes::put_ones(plan, parts, room, write, i, 0, n);
+        return;
+    }
+    let at = entries::place_at(places, first, i, 1);
+    room_writes::put_mask(plan, parts, room, write, i, 0, body, at as usize, s, n);
+}
+
+// n slots of w bytes from slot s on of those at `at`.
+pub fn put_slots(
+    plan: &[u64],
+    parts: &[u64],
+    body: &[u8],
+    room: &mut [u8],
+    write: bool,
+    i: usize,
+    b: usize,
+    at: u64,
+    w: u64,
+    s: u64,
+    n: u64,
+)
+    requires { ⌜ (i < 32) × (b < 3) × (at + w * (s + n) ≤ length (now body)) ⌝ }
+    ensures { λ _. ⌜ now (room .exit) ≡ applyIf (now (plan .entry)) (now (parts .entry)) write (put i b 0 (take (w * n) (drop (at + w * s) (now (body .entry)))) ∷ []) (now (room .entry)) ⌝ }
+{
+    let from = at + w * s;
+    room_writes::put_copy(
+        plan,
+        parts,
+        room,
+        write,
+        i,
+        b,
+        0,
+        body,
+        from as usize,
+        w * n,
+    );
+}
+
+// Offset p of those of w bytes in the range of `size` bytes from `at` on; 0 where that is empty.
+pub fn offset_at(body: &[u8], at: u64, size: u64, w: u64, p: u64) -> u64
+    requires { ⌜ (at + size ≤ length (now body)) × ((size ≡ 0 → ⊥) → (p + 1) * w ≤ size) ⌝ }
+    requires { ⌜ ((w ≡ 4 → ⊥) → w ≡ 8) ⌝ }
+    ensures { λ r. ⌜ r ≡ item w (part (now (body .entry)) at size) p ⌝ }
+{
+    if size == 0 {
+        return 0;
+    }
+    lookups::entry_at(body, at, w, p)
+}
+
+// The offsets of n rows from slot s on, counted from the first of them, as offsets of w2 bytes: ground 6 where they span too much.
+pub fn put_offsets(
+    plan: &[u64],
+    parts: &[u64],
+    body: &[u8],
+    room: &mut [u8],
+    write: bool,
+    i: usize,
+    at: u64,
+    size: u64,
+    w: u64,
+    w2: u64,
+    s: u64,
+    n: u64,
+) -> u8
+    requires { ⌜ (i < 32) × (at + size ≤ length (now body)) × (s + n < 2 ^ 63) ⌝ }
+    requires { ⌜ ((w ≡ 4 → ⊥) → w ≡ 8) × ((w2 ≡ 4 → ⊥) → w2 ≡ 8) ⌝ }
+    requires { ⌜ ((most : ℕ) × OffsetsRule w (part (now body) at size) most s n) ⌝ }
+    ensures { λ g. ⌜ ((c : List ℕ) → Did (now (plan .entry)) (now (parts .entry)) write (need (ltb (spanOf w (part (now (body .entry)) at size) s n) (half w2)) 6 c (wrote (put i 1 0 (encodes w2 (offsetsOf w (part (now (body .entry)) at size) s n))) c)) (now (room .entry)) g c (now (room .exit))) ⌝ }
+{
+    let base = offset_at(body, at, size, w, s);
+    let span = offset_at(body, at, size, w, s + n) - base;
+    if !nested_rows::sum_fits(w2, 0, span) {
+        return 6;
+    }
+    if size == 0 {
+        room_writes::put_number(plan, parts, room, write, i, 1, 0, w2, 0);
+        return 0;
+    }
+    let from = at + w * s;
+    width_writes::put_less(
+        plan,
+        parts,
+        room,
+        write,
+        i,
+        1,
+        w2,
+        body,
+        from as usize,
+        w,
+        n + 1,
+        base,
+    );
+    0
+}
+
+// Half of the numbers of w bytes.
+fn half_of(w: u64) -> u64
+    requires { ⌜ ((w ≡ 4 → ⊥) → w ≡ 8) ⌝ }
+    ensures { λ r. ⌜ r ≡ half w ⌝ }
+{
+    if w == 4 {
+        2147483648
+    } else {
+        9223372036854775808
+    }
+}
+
+// The offsets at `at` and the sizes at `too` of n rows from slot s on, as numbers of w2 bytes: ground 6 where one does not fit.
+pub fn put_pairs(
+    plan: &[u64],
+    parts: &[u64],
+    body: &[u8],
+    room: &mut [u8],
+    write: bool,
+    i: usize,
+    at: u64,
+    too: u64,
+    w: u64,
+    w2: u64,
+    s: u64,
+    n: u64,
+) -> u8
+    requires { ⌜ (i < 32) × (at + w * (s + n) ≤ length (now body)) × (too + w * (s + n) ≤ length (now body)) ⌝ }
+    requires { ⌜ ((w ≡ 4 → ⊥) → w ≡ 8) × ((w2 ≡ 4 → ⊥) → w2 ≡ 8) ⌝ }
+    ensures { λ g. ⌜ ((size room2 : ℕ) (c : List ℕ) → at + size ≤ length (now (body .entry)) → too + room2 ≤ length (now (body .entry)) → (s + n) * w ≤ size → (s + n) * w ≤ room2 → Did (now (plan .entry)) (now (parts .entry)) write (pairsWalk (part (now (body .entry)) at size) (part (now (body .entry)) too room2) w w2 i s n c) (now (room .entry)) g c (now (room .exit))) ⌝ }
+{
+    let most = half_of(w2);
+    let offsets = at + w * s;
+    if !limits::all_below(body, offsets as usize, w, n as usize, most) {
+        return 6;
+    }
+    let sizes = too + w * s;
+    if !limits::all_below(body, sizes as usize, w, n as usize, most) {
+        return 6;
+    }
+    width_writes::put_recoded(
+        plan,
+        parts,
+        room,
+        write,
+        i,
+        1,
+        w2,
+        body,
+        offsets as usize,
+        w,
+        n,
+    );
+    width_writes::put_recoded(
+        plan,
+        parts,
+        room,
+        write,
+        i,
+        2,
+        w2,
+        body,
+        sizes as usize,
+        w,
+        n,
+    );
+    0
+}
+
+// The keys of n slots of node i from slot s on, as keys of w2 bytes: 0 under a null.
+pub fn put_keys(
+    plan: &[u64],
+    parts: &[u64],
+    places: &[u64],
+    body: &[u8],
+    room: &mut [u8],
+    write: bool,
+    first: u32,
+    i: usize,
+    w: u64,
+    w2: u64,
+    s: u64,
+    n: u64,
+)
+    requires { ⌜ (i < 32) × (s + n < 2 ^ 63) × ((s + n) * w ≤ place (column [] (now places) [] (now body) first) i 4) × (place (column [] (now places) [] (now body) first) i 3 + place (column [] (now places) [] (now body) first) i 4 ≤ length (now body)) ⌝ }
+    requires { ⌜ (validIn (column [] (now places) [] (now body) first) i ≡ true) × (maskTest true (validOf (column [] (now places) [] (now body) first) i) (s + n) ≡ true) ⌝ }
+    requires { ⌜ ((w ≡ 1 → ⊥) → (w ≡ 2 → ⊥) → (w ≡ 4 → ⊥) → w ≡ 8) × ((w2 ≡ 1 → ⊥) → (w2 ≡ 2 → ⊥) → (w2 ≡ 4 → ⊥) → w2 ≡ 8) ⌝ }
+    ensures { λ _. ⌜ now (room .exit) ≡ applyIf (now (plan .entry)) (now (parts .entry)) write (put i 1 0 (encodes w2 (seg (λ j. cond (ok (validOf (column [] (now (places .entry)) [] (now (body .entry)) first) i) j) (item w (firstBuffer (column [] (now (places .entry)) [] (now (body .entry)) first) i) j) 0) s n)) ∷ []) (now (room .entry)) ⌝ }
+{
+    let at = entries::place_at(places, first, i, 3);
+    let from = at + w * s;
+    if entries::place_at(places, first, i, 0) == 0 {
+        width_writes::put_recoded(
+            plan,
+            parts,
+            room,
+            write,
+            i,
+            1,
+            w2,
+            body,
+            from as usize,
+            w,
+            n,
+        );
+        return;
+    }
+    let valid = entries::place_at(places, first, i, 1);
+    width_writes::put_valid(
+        plan,
+        parts,
+        room,
+        write,
+        i,
+        1,
+        w2,
+        body,
+        from as usize,
+        w,
+        valid as usize,
+        s,
+        n,
+    );
+}

@@ -1,0 +1,307 @@
+// One node of the walk, of a kind that is known: what it writes beside its bits, and what it settles, by the codes of its formats. The answer is 0
+// or the ground of refusal.
+ghost use mathlib.Core.Path.{_≡_};
+ghost use mathlib.Core.Bool.{true};
+ghost use mathlib.Core.List.{List};
+ghost use Prim.Native.Nat.{ℕ, _<_, _^_};
+ghost use Rattle.formats.specs.Code.{isFixed, isString, isListView, isList, isUnion, isRunEnd, widthOf};
+ghost use Rattle.schema.specs.Tree.{codeOf};
+ghost use Rattle.walk.specs.Log.{Did};
+ghost use Rattle.width_loop.specs.Here.{Here, ownHere, settledHere};
+use crate::kinds;
+use crate::leaves;
+use crate::runs;
+use array_data::entries;
+
+// The bytes of an entry of node i.
+fn width_at(formats: &[u8], schema: &[u32], first: u32, i: usize) -> u64
+    requires { ⌜ i < 2 ^ 32 ⌝ }
+    ensures { λ r. ⌜ r ≡ widthOf (codeOf (now (formats .entry)) (now (schema .entry)) first i) ⌝ }
+{
+    formats::width_of(schema::code_of(formats, schema, first as usize, i)) as u64
+}
+
+// Numbers and keys.
+pub fn number_node(
+    formats: &[u8],
+    schema: &[u32],
+    lengths: &[u64],
+    places: &[u64],
+    body: &[u8],
+    first: u32,
+    target: u32,
+    plan: &[u64],
+    parts: &[u64],
+    ranges: &mut [u64; 64],
+    room: &mut [u8],
+    write: bool,
+    i: usize,
+    s: u64,
+    n: u64,
+) -> u8
+    requires { ⌜ ((count : ℕ) × Here (now formats) (now schema) (now lengths) (now places) (now body) first count target i s n) ⌝ }
+    requires { ⌜ isFixed (codeOf (now formats) (now schema) first i) ≡ true ⌝ }
+    ensures { λ g. ⌜ ((buffers c : List ℕ) (count : ℕ) → Did (now (plan .entry)) (now (parts .entry)) write (ownHere (now (formats .entry)) (now (schema .entry)) (now (lengths .entry)) (now (places .entry)) buffers (now (body .entry)) (now (plan .entry)) first count target i s n c) (now (room .entry)) g c (now (room .exit))) ⌝ }
+    ensures { λ g. ⌜ ((buffers : List ℕ) (count : ℕ) → g ≡ 0 → now (ranges .exit) ≡ settledHere (now (formats .entry)) (now (schema .entry)) (now (lengths .entry)) (now (places .entry)) buffers (now (body .entry)) (now (plan .entry)) first count target i s n (now (ranges .entry))) ⌝ }
+{
+    let w = width_at(formats, schema, first, i);
+    if schema::dictionary_of(schema, first as usize, i) == 0 {
+        let at = entries::place_at(places, first, i, 3);
+        leaves::put_slots(plan, parts, body, room, write, i, 1, at, w, s, n);
+        return 0;
+    }
+    let code = schema::code_of(formats, schema, target as usize, i);
+    let w2 = formats::width_of(code) as u64;
+    kinds::walk_keys(
+        plan,
+        parts,
+        lengths,
+        places,
+        body,
+        ranges,
+        room,
+        write,
+        first,
+        i,
+        w,
+        w2,
+        code,
+        s,
+        n,
+    )
+}
+
+// Byte strings.
+pub fn string_node(
+    formats: &[u8],
+    schema: &[u32],
+    lengths: &[u64],
+    places: &[u64],
+    body: &[u8],
+    first: u32,
+    target: u32,
+    plan: &[u64],
+    parts: &[u64],
+    counts: &mut [u64; 96],
+    room: &mut [u8],
+    write: bool,
+    i: usize,
+    s: u64,
+    n: u64,
+) -> u8
+    requires { ⌜ ((count : ℕ) × Here (now formats) (now schema) (now lengths) (now places) (now body) first count target i s n) ⌝ }
+    requires { ⌜ isString (codeOf (now formats) (now schema) first i) ≡ true ⌝ }
+    ensures { λ g. ⌜ ((buffers : List ℕ) (count : ℕ) → Did (now (plan .entry)) (now (parts .entry)) write (ownHere (now (formats .entry)) (now (schema .entry)) (now (lengths .entry)) (now (places .entry)) buffers (now (body .entry)) (now (plan .entry)) first count target i s n (now (counts .entry))) (now (room .entry)) g (now (counts .exit)) (now (room .exit))) ⌝ }
+{
+    let w = width_at(formats, schema, first, i);
+    let w2 = width_at(formats, schema, target, i);
+    kinds::walk_string(
+        plan,
+        parts,
+        places,
+        body,
+        counts,
+        room,
+        write,
+        first,
+        i,
+        w,
+        w2,
+        s,
+        n,
+    )
+}
+
+// List-views.
+pub fn list_view_node(
+    formats: &[u8],
+    schema: &[u32],
+    lengths: &[u64],
+    places: &[u64],
+    body: &[u8],
+    first: u32,
+    target: u32,
+    plan: &[u64],
+    parts: &[u64],
+    ranges: &mut [u64; 64],
+    room: &mut [u8],
+    write: bool,
+    i: usize,
+    s: u64,
+    n: u64,
+) -> u8
+    requires { ⌜ ((count : ℕ) × Here (now formats) (now schema) (now lengths) (now places) (now body) first count target i s n) ⌝ }
+    requires { ⌜ isListView (codeOf (now formats) (now schema) first i) ≡ true ⌝ }
+    ensures { λ g. ⌜ ((buffers c : List ℕ) (count : ℕ) → Did (now (plan .entry)) (now (parts .entry)) write (ownHere (now (formats .entry)) (now (schema .entry)) (now (lengths .entry)) (now (places .entry)) buffers (now (body .entry)) (now (plan .entry)) first count target i s n c) (now (room .entry)) g c (now (room .exit))) ⌝ }
+    ensures { λ g. ⌜ ((buffers : List ℕ) (count : ℕ) → g ≡ 0 → now (ranges .exit) ≡ settledHere (now (formats .entry)) (now (schema .entry)) (now (lengths .entry)) (now (places .entry)) buffers (now (body .entry)) (now (plan .entry)) first count target i s n (now (ranges .entry))) ⌝ }
+{
+    let w = width_at(formats, schema, first, i);
+    let w2 = width_at(formats, schema, target, i);
+    kinds::walk_list_view(
+        plan,
+        parts,
+        lengths,
+        places,
+        body,
+        ranges,
+        room,
+        write,
+        first,
+        i,
+        w,
+        w2,
+        s,
+        n,
+    )
+}
+
+// Lists.
+pub fn list_node(
+    formats: &[u8],
+    schema: &[u32],
+    lengths: &[u64],
+    places: &[u64],
+    body: &[u8],
+    first: u32,
+    target: u32,
+    plan: &[u64],
+    parts: &[u64],
+    ranges: &mut [u64; 64],
+    room: &mut [u8],
+    write: bool,
+    i: usize,
+    s: u64,
+    n: u64,
+) -> u8
+    requires { ⌜ ((count : ℕ) × Here (now formats) (now schema) (now lengths) (now places) (now body) first count target i s n) ⌝ }
+    requires { ⌜ isList (codeOf (now formats) (now schema) first i) ≡ true ⌝ }
+    ensures { λ g. ⌜ ((buffers c : List ℕ) (count : ℕ) → Did (now (plan .entry)) (now (parts .entry)) write (ownHere (now (formats .entry)) (now (schema .entry)) (now (lengths .entry)) (now (places .entry)) buffers (now (body .entry)) (now (plan .entry)) first count target i s n c) (now (room .entry)) g c (now (room .exit))) ⌝ }
+    ensures { λ g. ⌜ ((buffers : List ℕ) (count : ℕ) → g ≡ 0 → now (ranges .exit) ≡ settledHere (now (formats .entry)) (now (schema .entry)) (now (lengths .entry)) (now (places .entry)) buffers (now (body .entry)) (now (plan .entry)) first count target i s n (now (ranges .entry))) ⌝ }
+{
+    let w = width_at(formats, schema, first, i);
+    let w2 = width_at(formats, schema, target, i);
+    kinds::walk_list(
+        plan,
+        parts,
+        places,
+        body,
+        ranges,
+        room,
+        write,
+        first,
+        i,
+        w,
+        w2,
+        s,
+        n,
+    )
+}
+
+// Unions.
+pub fn union_node(
+    formats: &[u8],
+    schema: &[u32],
+    lengths: &[u64],
+    places: &[u64],
+    body: &[u8],
+    first: u32,
+    count: u32,
+    plan: &[u64],
+    parts: &[u64],
+    ranges: &mut [u64; 64],
+    room: &mut [u8],
+    write: bool,
+    i: usize,
+    s: u64,
+    n: u64,
+)
+    requires { ⌜ ((target : ℕ) × Here (now formats) (now schema) (now lengths) (now places) (now body) first count target i s n) ⌝ }
+    requires { ⌜ isUnion (codeOf (now formats) (now schema) first i) ≡ true ⌝ }
+    ensures { λ _. ⌜ ((buffers c : List ℕ) (target : ℕ) → Did (now (plan .entry)) (now (parts .entry)) write (ownHere (now (formats .entry)) (now (schema .entry)) (now (lengths .entry)) (now (places .entry)) buffers (now (body .entry)) (now (plan .entry)) first count target i s n c) (now (room .entry)) 0 c (now (room .exit))) ⌝ }
+    ensures { λ _. ⌜ ((buffers : List ℕ) (target : ℕ) → now (ranges .exit) ≡ settledHere (now (formats .entry)) (now (schema .entry)) (now (lengths .entry)) (now (places .entry)) buffers (now (body .entry)) (now (plan .entry)) first count target i s n (now (ranges .entry))) ⌝ }
+{
+    let m = schema::below_of(schema, first as usize, i) as usize;
+    let k = count as usize;
+    if formats::is_sparse(schema::code_of(formats, schema, first as usize, i)) {
+        kinds::walk_sparse(
+            plan,
+            parts,
+            schema,
+            lengths,
+            places,
+            body,
+            ranges,
+            room,
+            write,
+            first,
+            k,
+            i,
+            m,
+            s,
+            n,
+        );
+        return;
+    }
+    kinds::walk_dense(
+        plan,
+        parts,
+        schema,
+        lengths,
+        places,
+        body,
+        ranges,
+        room,
+        write,
+        first,
+        k,
+        i,
+        m,
+        s,
+        n,
+    );
+}
+
+// Run ends.
+pub fn run_node(
+    formats: &[u8],
+    schema: &[u32],
+    lengths: &[u64],
+    places: &[u64],
+    body: &[u8],
+    first: u32,
+    target: u32,
+    plan: &[u64],
+    parts: &[u64],
+    counts: &mut [u64; 96],
+    ranges: &mut [u64; 64],
+    room: &mut [u8],
+    write: bool,
+    i: usize,
+    s: u64,
+    n: u64,
+) -> u8
+    requires { ⌜ ((count : ℕ) × Here (now formats) (now schema) (now lengths) (now places) (now body) first count target i s n) ⌝ }
+    requires { ⌜ isRunEnd (codeOf (now formats) (now schema) first i) ≡ true ⌝ }
+    ensures { λ g. ⌜ ((buffers : List ℕ) (count : ℕ) → Did (now (plan .entry)) (now (parts .entry)) write (ownHere (now (formats .entry)) (now (schema .entry)) (now (lengths .entry)) (now (places .entry)) buffers (now (body .entry)) (now (plan .entry)) first count target i s n (now (counts .entry))) (now (room .entry)) g (now (counts .exit)) (now (room .exit))) ⌝ }
+    ensures { λ g. ⌜ ((buffers : List ℕ) (count : ℕ) → g ≡ 0 → now (ranges .exit) ≡ settledHere (now (formats .entry)) (now (schema .entry)) (now (lengths .entry)) (now (places .entry)) buffers (now (body .entry)) (now (plan .entry)) first count target i s n (now (ranges .entry))) ⌝ }
+{
+    let w = width_at(formats, schema, first, i + 1);
+    let w2 = width_at(formats, schema, target, i + 1);
+    runs::walk_runs(
+        plan,
+        parts,
+        lengths,
+        places,
+        body,
+        counts,
+        ranges,
+        room,
+        write,
+        first,
+        i,
+        w,
+        w2,
+        s,
+        n,
+    )
+}

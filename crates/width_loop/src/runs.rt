@@ -1,0 +1,172 @@
+// Run ends: clipped to the rows that are written, and the values of their runs.
+ghost use mathlib.Core.Path.{_≡_};
+ghost use mathlib.Core.Bool.{Bool};
+ghost use mathlib.Core.List.{[], _∷_, _++_};
+ghost use Prim.Native.Nat.{ℕ, suc, _+_, _*_, _-_, _<_, _≤_, _^_};
+ghost use lib.ListN.{length};
+ghost use Rattle.number.specs.Number.{encode};
+ghost use Rattle.array_data.specs.Tables.{lengthOf, offsetOf};
+ghost use Rattle.array_data.specs.Typed.{runEndNode, Tree};
+ghost use Rattle.array_data.specs.entries.Entries.{column};
+ghost use Rattle.walk.specs.State.{addRows};
+ghost use Rattle.walk.specs.Log.{Did, put, applyIf};
+ghost use Rattle.recode.specs.Recode.{lessened};
+ghost use Rattle.width_walks.specs.Nodes.{range, ownAs, settleAs};
+ghost use Rattle.width_loop.specs.Steps.{RunsHere, runsWalk, runsRange};
+use crate::ranges;
+use array_data::entries;
+use nested_rows::lookups;
+use run_ends::LogicalRow;
+use run_ends::Runs;
+use walk::plan_words;
+
+// m runs from run a on, of those whose ends of w bytes stand at `ends`: their ends less s, the last of them n, and their values' rows.
+fn put_range(
+    plan: &[u64],
+    parts: &[u64],
+    body: &[u8],
+    counts: &mut [u64; 96],
+    ranges: &mut [u64; 64],
+    room: &mut [u8],
+    write: bool,
+    i: usize,
+    w: u64,
+    w2: u64,
+    ends: u64,
+    a: u64,
+    m: u64,
+    s: u64,
+    n: u64,
+)
+    requires { ⌜ (i + 2 < 32) × (1 ≤ m) × (ends + w * (a + m) ≤ length (now body)) ⌝ }
+    requires { ⌜ ((w ≡ 2 → ⊥) → (w ≡ 4 → ⊥) → w ≡ 8) × ((w2 ≡ 2 → ⊥) → (w2 ≡ 4 → ⊥) → w2 ≡ 8) ⌝ }
+    ensures { λ _. ⌜ now (room .exit) ≡ applyIf (now (plan .entry)) (now (parts .entry)) write (put (suc i) 1 0 (lessened w w2 (now (body .entry)) (ends + w * a) s (m - 1) ++ encode w2 n) ∷ []) (now (room .entry)) ⌝ }
+    ensures { λ _. ⌜ (now (counts .exit) ≡ addRows (suc i) m (now (counts .entry))) × (now (ranges .exit) ≡ range (suc (suc i)) a m (now (ranges .entry))) ⌝ }
+{
+    let from = ends + w * a;
+    width_writes::put_ends(
+        plan,
+        parts,
+        room,
+        write,
+        i + 1,
+        1,
+        w2,
+        body,
+        from as usize,
+        w,
+        m,
+        s,
+        n,
+    );
+    plan_words::add_rows(counts, i + 1, m);
+    ranges::set_range(ranges, i + 2, a, m);
+}
+
+// n rows from slot s on, at least one.
+fn put_runs(
+    plan: &[u64],
+    parts: &[u64],
+    lengths: &[u64],
+    places: &[u64],
+    body: &[u8],
+    counts: &mut [u64; 96],
+    ranges: &mut [u64; 64],
+    room: &mut [u8],
+    write: bool,
+    first: u32,
+    i: usize,
+    w: u64,
+    w2: u64,
+    s: u64,
+    n: u64,
+)
+    requires { ⌜ (i + 2 < 32) × (1 ≤ n) × (s + n < 2 ^ 63) × (offsetOf (column (now lengths) [] [] [] first) (suc i) + lengthOf (column (now lengths) [] [] [] first) (suc i) < 2 ^ 63) ⌝ }
+    requires { ⌜ ((w ≡ 2 → ⊥) → (w ≡ 4 → ⊥) → w ≡ 8) × ((w2 ≡ 2 → ⊥) → (w2 ≡ 4 → ⊥) → w2 ≡ 8) ⌝ }
+    requires { ⌜ RunsHere (column (now lengths) (now places) [] (now body) first) i w s n ⌝ }
+    ensures { λ _. ⌜ Did (now (plan .entry)) (now (parts .entry)) write (runsWalk (column (now (lengths .entry)) (now (places .entry)) [] (now (body .entry)) first) w w2 i s n (now (counts .entry))) (now (room .entry)) 0 (now (counts .exit)) (now (room .exit)) ⌝ }
+    ensures { λ _. ⌜ now (ranges .exit) ≡ runsRange (column (now (lengths .entry)) (now (places .entry)) [] (now (body .entry)) first) w i s n (now (ranges .entry)) ⌝ }
+{
+    let off = entries::offset_at(lengths, first, i + 1);
+    let ends = entries::place_at(places, first, i + 1, 3) + w * off;
+    let len = entries::length_at(lengths, first, i + 1) as usize;
+    match lookups::runs_of(
+        body,
+        ends as usize,
+        len,
+        w,
+        LogicalRow(s),
+        LogicalRow(s + n),
+    ) {
+        Runs::Range { first: run, count } => put_range(
+            plan,
+            parts,
+            body,
+            counts,
+            ranges,
+            room,
+            write,
+            i,
+            w,
+            w2,
+            ends,
+            run.0 as u64,
+            count as u64,
+            s,
+            n,
+        ),
+        Runs::None => {}
+    }
+}
+
+// Run ends: ground 7, their run ends, and the values of their runs. No rows have no runs.
+pub fn walk_runs(
+    plan: &[u64],
+    parts: &[u64],
+    lengths: &[u64],
+    places: &[u64],
+    body: &[u8],
+    counts: &mut [u64; 96],
+    ranges: &mut [u64; 64],
+    room: &mut [u8],
+    write: bool,
+    first: u32,
+    i: usize,
+    w: u64,
+    w2: u64,
+    s: u64,
+    n: u64,
+) -> u8
+    requires { ⌜ (i + 2 < 32) × (s + n < 2 ^ 63) × (offsetOf (column (now lengths) [] [] [] first) (suc i) + lengthOf (column (now lengths) [] [] [] first) (suc i) < 2 ^ 63) ⌝ }
+    requires { ⌜ ((w ≡ 2 → ⊥) → (w ≡ 4 → ⊥) → w ≡ 8) × ((w2 ≡ 2 → ⊥) → (w2 ≡ 4 → ⊥) → w2 ≡ 8) ⌝ }
+    requires { ⌜ RunsHere (column (now lengths) (now places) [] (now body) first) i w s n ⌝ }
+    ensures { λ g. ⌜ ((t t2 : Tree) (okay : ℕ → Bool) → Did (now (plan .entry)) (now (parts .entry)) write (ownAs t t2 (column (now (lengths .entry)) (now (places .entry)) [] (now (body .entry)) first) (now (plan .entry)) (runEndNode w) (runEndNode w2) i okay s n (now (counts .entry))) (now (room .entry)) g (now (counts .exit)) (now (room .exit))) ⌝ }
+    ensures { λ g. ⌜ ((t t2 : Tree) → g ≡ 0 → now (ranges .exit) ≡ settleAs t t2 (column (now (lengths .entry)) (now (places .entry)) [] (now (body .entry)) first) (now (plan .entry)) (runEndNode w) i s n (now (ranges .entry))) ⌝ }
+{
+    if n == 0 {
+        plan_words::add_rows(counts, i + 1, 0);
+        ranges::set_range(ranges, i + 2, 0, 0);
+        return 0;
+    }
+    if !nested_rows::sum_fits(w2, 0, n) {
+        return 7;
+    }
+    put_runs(
+        plan,
+        parts,
+        lengths,
+        places,
+        body,
+        counts,
+        ranges,
+        room,
+        write,
+        first,
+        i,
+        w,
+        w2,
+        s,
+        n,
+    );
+    0
+}

@@ -1,0 +1,286 @@
+// A column in other widths: the question before any room is lent, and the call. The result is finished as a join is.
+ghost use mathlib.Core.Path.{_≡_};
+ghost use mathlib.Core.Bool.{true};
+ghost use mathlib.Core.List.{List};
+ghost use Prim.Native.Nat.{ℕ, _≤_};
+ghost use lib.ListN.{length, replicate};
+ghost use Rattle.array_data.specs.Typed.{tablesFrom};
+ghost use Rattle.array_data.specs.lent_tables.Lent.{tables};
+ghost use Rattle.array_data.specs.type_tree.Lent.{treeOf};
+ghost use Rattle.source_rules.specs.kinds.Rows.{tablesOf};
+ghost use Rattle.columns.specs.Grounds.{columnGround};
+ghost use Rattle.walk.specs.Log.{Did};
+ghost use Rattle.anew.specs.Anew.{orElse};
+ghost use Rattle.anew.specs.ResultPlan.{keepsFrom, Comes, planAnew};
+ghost use Rattle.with_capacities.specs.Answer.{Answers};
+ghost use Rattle.result_plan.specs.Answer.{Asks};
+ghost use Rattle.target_rules.specs.Target.{isTarget};
+ghost use Rattle.width_walks.specs.Nodes.{treeWalk};
+ghost use Rattle.width_walks.specs.Call.{fromWords, targetGround, asked, convert};
+
+// The most bytes of a room, which is a body too.
+const CEILING: usize = 9223372036854775807;
+
+// The ground of the column and of the target: 9, 10, 12, and 10 where the target differs in more than widths.
+fn ground_of(
+    formats: &[u8],
+    schema: &[u32],
+    lengths: &[u64],
+    places: &[u64],
+    buffers: &[u64],
+    body: &[u8],
+    first: u32,
+    n: u32,
+    target: u32,
+    target_n: u32,
+) -> u8
+    ensures { λ r. ⌜ r ≡ orElse (columnGround (now (formats .entry)) (now (schema .entry)) (tablesOf (now (lengths .entry)) (now (places .entry)) (now (buffers .entry)) (now (body .entry))) first n) (targetGround (now (formats .entry)) (now (schema .entry)) (tablesOf (now (lengths .entry)) (now (places .entry)) (now (buffers .entry)) (now (body .entry))) first n target «target_n») ⌝ }
+{
+    let g = columns::column_ground(formats, schema, lengths, places, buffers, body, first, n);
+    if g != 0 {
+        return g;
+    }
+    let from = first as usize;
+    let to = target as usize;
+    if !target_rules::is_target(formats, schema, from, n as usize, to, target_n as usize) {
+        return 10;
+    }
+    0
+}
+
+// Where each of the n nodes of the result comes from.
+fn from_words(formats: &[u8], schema: &[u32], first: u32, n: u32) -> [u64; 32]
+    requires { ⌜ n ≤ 32 ⌝ }
+    ensures { λ r. ⌜ r ≡ fromWords (now (formats .entry)) (now (schema .entry)) first n (replicate 32 0) ⌝ }
+{
+    let mut from = [0u64; 32];
+    width_walks::write_from(formats, schema, first as usize, n as usize, &mut from);
+    from
+}
+
+// The plan of the result, of n nodes from node `target` on.
+fn planned(
+    formats: &[u8],
+    schema: &[u32],
+    lengths: &[u64],
+    places: &[u64],
+    body: &[u8],
+    first: u32,
+    n: u32,
+    target: u32,
+) -> [u64; 872]
+    requires { ⌜ (n ≤ 32) × Comes (tables (now lengths) (now places) (now body)) first n (fromWords (now formats) (now schema) first n (replicate 32 0)) ⌝ }
+    ensures { λ r. ⌜ r ≡ planAnew (now (formats .entry)) (now (schema .entry)) target n (keepsFrom (tables (now (lengths .entry)) (now (places .entry)) (now (body .entry))) first (fromWords (now (formats .entry)) (now (schema .entry)) first n (replicate 32 0))) true 0 ⌝ }
+{
+    let mut state = [0u64; 872];
+    let from = from_words(formats, schema, first, n);
+    result_plan::plan_anew(
+        formats,
+        schema,
+        target as usize,
+        n as usize,
+        lengths,
+        places,
+        body,
+        first as usize,
+        &from,
+        true,
+        0,
+        &mut state,
+    );
+    state
+}
+
+// The question before any room is lent: the ground of refusal, or plan and counters of the result, by which `parts::part_at` and
+// `measure::needed_bytes` say what room it needs.
+pub fn plan_convert(
+    formats: &[u8],
+    schema: &[u32],
+    lengths: &[u64],
+    places: &[u64],
+    buffers: &[u64],
+    body: &[u8],
+    first: u32,
+    n: u32,
+    target: u32,
+    target_n: u32,
+    plan: &mut [u64],
+    counters: &mut [u64],
+) -> u8
+    ensures { λ r. ⌜ Asks (asked (now (formats .entry)) (now (schema .entry)) (tablesOf (now (lengths .entry)) (now (places .entry)) (now (buffers .entry)) (now (body .entry))) first n target «target_n» (now (plan .entry)) (now (counters .entry))) r (now (plan .exit)) (now (counters .exit)) ⌝ }
+{
+    let g = ground_of(
+        formats,
+        schema,
+        lengths,
+        places,
+        buffers,
+        body,
+        first,
+        n,
+        target,
+        target_n,
+    );
+    if g != 0 {
+        return g;
+    }
+    let state = planned(formats, schema, lengths, places, body, first, n, target);
+    let none = [0u64; 0];
+    let mut nothing = [0u8; 0];
+    let mut counts = [0u64; 96];
+    let g = width_loop::convert_walk(
+        formats,
+        schema,
+        lengths,
+        places,
+        body,
+        first,
+        n,
+        target,
+        &state,
+        &none,
+        &mut counts,
+        &mut nothing,
+        false,
+    );
+    if g != 0 {
+        return g;
+    }
+    if plan.len() != 872 {
+        return 14;
+    }
+    if counters.len() != 96 {
+        return 14;
+    }
+    let made = with_capacities::copied(counts);
+    result_plan::keep_result(plan, counters, &state, &made);
+    0
+}
+
+// The walk made, and plan and counters left with the caller.
+fn make(
+    formats: &[u8],
+    schema: &[u32],
+    lengths: &[u64],
+    places: &[u64],
+    body: &[u8],
+    first: u32,
+    n: u32,
+    target: u32,
+    state: &[u64],
+    parts: &[u64],
+    plan: &mut [u64],
+    counters: &mut [u64],
+    room: &mut [u8],
+) -> u8
+    requires { ⌜ (length (now plan) ≡ 872) × (length (now counters) ≡ 96) × (length (now state) ≡ 872) ⌝ }
+    requires { ⌜ ((buffers : List ℕ) × (columnGround (now formats) (now schema) (tablesOf (now lengths) (now places) buffers (now body)) first n ≡ 0)) ⌝ }
+    requires { ⌜ isTarget (now formats) (now schema) first n target n ≡ true ⌝ }
+    ensures { λ r. ⌜ (now (plan .exit) ≡ now (state .entry)) × ((buffers : List ℕ) → Did (now (state .entry)) (now (parts .entry)) true (treeWalk (treeOf (now (formats .entry)) (now (schema .entry)) first n) (treeOf (now (formats .entry)) (now (schema .entry)) target n) (tablesFrom (tablesOf (now (lengths .entry)) (now (places .entry)) buffers (now (body .entry))) first) (now (state .entry)) (replicate 96 0)) (now (room .entry)) r (now (counters .exit)) (now (room .exit))) ⌝ }
+{
+    let mut counts = [0u64; 96];
+    let g = width_loop::convert_walk(
+        formats,
+        schema,
+        lengths,
+        places,
+        body,
+        first,
+        n,
+        target,
+        state,
+        parts,
+        &mut counts,
+        room,
+        true,
+    );
+    let made = with_capacities::copied(counts);
+    result_plan::keep_result(plan, counters, state, &made);
+    g
+}
+
+// A column in the widths of the target, 0 or the ground of refusal. A refused one changes nothing.
+pub fn convert(
+    formats: &[u8],
+    schema: &[u32],
+    lengths: &[u64],
+    places: &[u64],
+    buffers: &[u64],
+    body: &[u8],
+    first: u32,
+    n: u32,
+    target: u32,
+    target_n: u32,
+    parts: &[u64],
+    plan: &mut [u64],
+    counters: &mut [u64],
+    room: &mut [u8],
+) -> u8
+    ensures { λ r. ⌜ Answers (convert (now (formats .entry)) (now (schema .entry)) (tablesOf (now (lengths .entry)) (now (places .entry)) (now (buffers .entry)) (now (body .entry))) first n target «target_n» (now (parts .entry)) (now (plan .entry)) (now (counters .entry)) (now (room .entry))) r (now (plan .exit)) (now (counters .exit)) (now (room .exit)) ⌝ }
+{
+    if CEILING < room.len() {
+        return 9;
+    }
+    let g = ground_of(
+        formats,
+        schema,
+        lengths,
+        places,
+        buffers,
+        body,
+        first,
+        n,
+        target,
+        target_n,
+    );
+    if g != 0 {
+        return g;
+    }
+    let state = planned(formats, schema, lengths, places, body, first, n, target);
+    let mut tried = [0u64; 96];
+    let g = width_loop::convert_walk(
+        formats,
+        schema,
+        lengths,
+        places,
+        body,
+        first,
+        n,
+        target,
+        &state,
+        parts,
+        &mut tried,
+        room,
+        false,
+    );
+    if g != 0 {
+        return g;
+    }
+    let counts = with_capacities::copied(tried);
+    let g = result_plan::room_ground(
+        &state,
+        &counts,
+        parts,
+        plan.len(),
+        counters.len(),
+        room.len(),
+    );
+    if g != 0 {
+        return g;
+    }
+    make(
+        formats,
+        schema,
+        lengths,
+        places,
+        body,
+        first,
+        n,
+        target,
+        &state,
+        parts,
+        plan,
+        counters,
+        room,
+    )
+}
