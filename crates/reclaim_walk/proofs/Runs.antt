@@ -5,6 +5,7 @@ use mathlib.Core.List.{List}
 use Prim.Native.Nat.{ℕ, zero, suc, _+_, _-_, _≤_, _<_, min, max}
 use native.Mathlib.Nat.{zero-add}
 use native.Mathlib.Numerals.{add-one}
+use native.Mathlib.Decide.{ℕ-discrete}
 use native.Mathlib.Omega.{arith}
 use lib.Dec.{eqb}
 use borrow.Author.Tests.{lt-ltb, le-ltb, ne-eqb}
@@ -106,6 +107,17 @@ module _ (x : Join) where
         (next-ok _ (subst (λ z. Did state parts wr (copyRuns x z e z c) room g c1 room1) q d) h
         (subst (λ z. Did state parts wr (copyBlocks x (n - z) (e + z) (n - z) c1) room1 g2 c2 room2) q
         (subst (λ z. Did state parts wr (copyBlocks x z (e + r) z c1) room1 g2 c2 room2) a (subst (λ z. Did state parts wr (copyBlocks x n′ z n′ c1) room1 g2 c2 room2) b m))))
+
+-- a dictionary of one block
+pub one-block : (x : Join) {state parts : List ℕ} (wr : Bool) (n : ℕ) (c room : List ℕ) {g : ℕ} {c1 room1 : List ℕ} → n ≤ 512 → Did state parts wr (copyRuns x n 0 n c) room g c1 room1
+    → Did state parts wr (copyBlocks x n 0 n c) room g c1 room1
+unfolding copyRuns copyBlocks
+one-block x wr zero c room l d = d
+one-block x {state} {parts} wr (suc n) c room {g} {c1} {room1} l d = by (ℕ-discrete g 0)
+  where
+    by : Dec (g ≡ 0) → Did state parts wr (copyBlocks x (suc n) 0 (suc n) c) room g c1 room1
+    by (yes z) = subst (λ v. Did state parts wr (copyBlocks x (suc n) 0 (suc n) c) room v c1 room1) (sym z) (blocks-more x wr (suc n) 0 0 (suc n) (suc n) c room (omega arith) (omega arith) (omega arith) (omega arith) d z (blocks-none x wr 0 (suc n) c1 room1 refl))
+    by (no z) = blocks-stop x wr (suc n) 0 (suc n) c room (omega arith) (omega arith) d z
 
 -- as many as there are
 pub blocks-are : (x : Join) {state parts : List ℕ} (wr : Bool) {n m : ℕ} (e : ℕ) (c room : List ℕ) {g : ℕ} {c1 room1 : List ℕ} → n ≡ m → Did state parts wr (copyBlocks x n e n c) room g c1 room1

@@ -1,3 +1,4 @@
 -- The laws of entries in use.
 pub mod Laws
 pub mod Rewrites
+pub mod Chosen

@@ -1,4 +1,6 @@
 // The entries of a dictionary that the keys of rows use, in blocks of 512 entries on the stack, and the keys renumbered.
+pub mod entries;
+
 ghost use mathlib.Core.Path.{_≡_};
 ghost use mathlib.Core.Bool.{true, cond};
 ghost use mathlib.Core.List.{List};
@@ -14,7 +16,7 @@ ghost use Rattle.used_entries.specs.Keys.{keys, KeyWidth, Within, slotVa
 const BLOCK: u64 = 512;
 
 // The key of w bytes at slot k of those at `at`.
-fn key_at(body: &[u8], w: u64, at: u64, k: u64) -> u64
+pub fn key_at(body: &[u8], w: u64, at: u64, k: u64) -> u64
     requires { ⌜ KeyWidth w ⌝ }
     requires { ⌜ at + w * (k + 1) ≤ length (now body) ⌝ }
     ensures { λ r. ⌜ r ≡ entry w (now (body .entry)) at k ⌝ }
@@ -124,7 +126,7 @@ pub fn ranks_of(
 // ---- the new keys
 
 // The w lowest bytes of v at `at`.
-fn write_number(room: &mut [u8], at: usize, w: u64, v: u64)
+pub fn write_number(room: &mut [u8], at: usize, w: u64, v: u64)
     requires { ⌜ at + w ≤ length (now room) ⌝ }
     requires { ⌜ KeyWidth w ⌝ }
     ensures { λ _. ⌜ now (room .exit) ≡ splice at (encode w v) (now (room .entry)) ⌝ }
@@ -172,6 +174,85 @@ fn write_block(
         let s = block_slot(body, w, at, masked, mask, off, n, base, count, r);
         put_rank(room, to, w, r, ranks, s);
         r += 1;
+    }
+}
+
+// The same; a loop for each width.
+fn write_by(
+    room: &mut [u8],
+    to: usize,
+    body: &[u8],
+    w: u64,
+    at: u64,
+    masked: bool,
+    mask: u64,
+    off: u64,
+    n: u64,
+    base: u64,
+    count: u64,
+    ranks: &[u64; 513],
+)
+    requires { ⌜ Within (keys (now body) w at masked mask off n) × (to + w * n ≤ length (now room)) × (count ≤ 512) ⌝ }
+    requires { ⌜ ((j : ℕ) → j < count → getD (now ranks) j 0 ≡ rank (keys (now body) w at masked mask off n) (base + j)) ⌝ }
+    ensures { λ _. ⌜ ((old : List ℕ) → to + w * n ≤ length old → now (room .entry) ≡ splice to (encodes w (seg (newKey (keys (now (body .entry)) w at masked mask off n) base) 0 n)) old → now (room .exit) ≡ splice to (encodes w (seg (newKey (keys (now (body .entry)) w at masked mask off n) (base + count)) 0 n)) old) ⌝ }
+{
+    match w {
+        1 => write_block(
+            room,
+            to,
+            body,
+            1,
+            at,
+            masked,
+            mask,
+            off,
+            n,
+            base,
+            count,
+            ranks,
+        ),
+        2 => write_block(
+            room,
+            to,
+            body,
+            2,
+            at,
+            masked,
+            mask,
+            off,
+            n,
+            base,
+            count,
+            ranks,
+        ),
+        4 => write_block(
+            room,
+            to,
+            body,
+            4,
+            at,
+            masked,
+            mask,
+            off,
+            n,
+            base,
+            count,
+            ranks,
+        ),
+        _ => write_block(
+            room,
+            to,
+            body,
+            8,
+            at,
+            masked,
+            mask,
+            off,
+            n,
+            base,
+            count,
+            ranks,
+        ),
     }
 }
 
@@ -257,12 +338,29 @@ pub fn write_keys(
     ensures { λ _. ⌜ now (room .exit) ≡ splice to (newKeys (keys (now (body .entry)) w at masked mask off n) entries) (now (room .entry)) ⌝ }
 {
     copy::fill_zeros(room, to, (w * n) as usize);
+    if entries <= BLOCK {
+        write_by(
+            room,
+            to,
+            body,
+            w,
+            at,
+            masked,
+            mask,
+            off,
+            n,
+            0,
+            entries,
+            head,
+        );
+        return;
+    }
     let mut base: u64 = 0;
     let mut start: u64 = 0;
     while base < entries {
         let count = block_len(base, entries);
         let ranks = block_ranks(head, body, w, at, masked, mask, off, n, base, count, start);
-        write_block(
+        write_by(
             room,
             to,
             body,

@@ -2,6 +2,7 @@
 use mathlib.Core.Path.{_≡_, refl, sym, ap, _∙_}
 use mathlib.Core.List.{List}
 use Prim.Native.Nat.{ℕ, _+_, _*_, _-_, _≤_}
+use native.Mathlib.Nat.{zero-add}
 use native.Mathlib.Omega.{arith}
 use lib.ListN.{length}
 use Rattle.number.specs.Number.{splice}
@@ -29,25 +30,31 @@ mul-fill-zeros c = search needs
 fill-zeros-requires : tie.Need-fill-zeros-requires Inv-loop μ-loop
 fill-zeros-requires c κs = search needs
 
-loop-holds : tie.Need-loop-holds Inv-loop μ-loop
-loop-holds c =
-    let a = c .before .before .before .before .before .before .args in
+write-by-requires : tie.Need-write-by-requires Inv-loop μ-loop
+write-by-requires c κs = ((c .before .before .before .before .before .before .before .before .pre .0 .0, omega arith, omega arith), λ j h. c .before .before .before .before .before .before .before .before .pre .1 j (omega arith) (omega arith) ∙ ap (rank (keys (c .before .before .before .before .before .before .before .before .args .body .now) (c .before .before .before .before .before .before .before .before .args .w) (c .before .before .before .before .before .before .before .before .args .at) (c .before .before .before .before .before .before .before .before .args .masked) (c .before .before .before .before .before .before .before .before .args .mask) (c .before .before .before .before .before .before .before .before .args .off) (c .before .before .before .before .before .before .before .before .args .n))) (sym (zero-add j)))
+
+same-length : tie.Need-same-length Inv-loop μ-loop
+same-length c = search needs
+
+returns : tie.Need-returns Inv-loop μ-loop
+returns c =
+    let a = c .before .before .before .before .before .before .before .before .before .before .before .args in
     let x = keys (a .body .now) (a .w) (a .at) (a .masked) (a .mask) (a .off) (a .n) in
-    (omega arith, refl, sym (rank-none x), λ old l e. e)
+    c .before .before .write-by .ensures (a .room .now) (omega arith) (c .before .before .before .before .before .before .before .fill-zeros .ensures ∙ ap (λ s. splice (a .to) s (a .room .now)) (none-yet x (a .n) 0))
+    ∙ ap (λ e. splice (a .to) (encodes (a .w) (seg (newKey x e) 0 (a .n))) (a .room .now)) (zero-add (a .entries))
+    ∙ ap (λ s. splice (a .to) s (a .room .now)) (all-keys x (a .entries))
+
+loop-holds : tie.Need-loop-holds Inv-loop μ-loop
+loop-holds c = (omega arith, refl, sym (rank-none (keys (c .before .before .before .before .before .before .before .args .body .now) (c .before .before .before .before .before .before .before .args .w) (c .before .before .before .before .before .before .before .args .at) (c .before .before .before .before .before .before .before .args .masked) (c .before .before .before .before .before .before .before .args .mask) (c .before .before .before .before .before .before .before .args .off) (c .before .before .before .before .before .before .before .args .n))), λ old l e. e)
 
 block-len-requires : tie.Need-block-len-requires Inv-loop μ-loop
 block-len-requires c κs = search needs
 
 block-ranks-requires : tie.Need-block-ranks-requires Inv-loop μ-loop
-block-ranks-requires c κs =
-    let l = c .before .before .loop in
-    let p = c .before .before .before .before .before .before .before .before .before .pre in
-    ((p .0 .0, omega arith, omega arith, l .inv .2), λ j h g. p .1 j (omega arith) g)
+block-ranks-requires c κs = ((c .before .before .before .before .before .before .before .before .before .before .pre .0 .0, omega arith, omega arith, c .before .before .loop .inv .2), λ j h g. c .before .before .before .before .before .before .before .before .before .before .pre .1 j (omega arith) g)
 
-write-block-requires : tie.Need-write-block-requires Inv-loop μ-loop
-write-block-requires c κs =
-    let p = c .before .before .before .before .before .before .before .before .before .before .before .before .pre in
-    ((p .0 .0, omega arith, omega arith), λ j h. c .before .before .block-ranks .ensures j (omega arith))
+write-by-requires-2 : tie.Need-write-by-requires-2 Inv-loop μ-loop
+write-by-requires-2 c κs = ((c .before .before .before .before .before .before .before .before .before .before .before .before .before .pre .0 .0, omega arith, omega arith), λ j h. c .before .before .block-ranks .ensures j (omega arith))
 
 mul-start : tie.Need-mul-start Inv-loop μ-loop
 mul-start c = search needs
@@ -62,41 +69,20 @@ loop-less : tie.Need-loop-less Inv-loop μ-loop
 loop-less c = search needs
 
 loop-again : tie.Need-loop-again Inv-loop μ-loop
-loop-again c =
-    let l = c .before .before .before .before .before .before .before .before .loop in
-    let r = c .before .before .before .before .before .block-ranks in
-    let k = c .before .before .before .before .before .before .block-len in
-    (omega arith, omega arith, r .ensures (k .result) (omega arith), λ old h e. c .before .before .write-block .ensures old h (l .inv .3 old h e))
+loop-again c = (omega arith, omega arith, c .before .before .before .before .before .block-ranks .ensures (c .before .before .before .before .before .before .block-len .result) (omega arith), λ old h e. c .before .before .write-by2 .ensures old h (c .before .before .before .before .before .before .before .before .loop .inv .3 old h e))
 
-same-length : tie.Need-same-length Inv-loop μ-loop
-same-length c = search needs
+same-length-2 : tie.Need-same-length-2 Inv-loop μ-loop
+same-length-2 c = search needs
 
-returns : tie.Need-returns Inv-loop μ-loop
-returns c =
-    let a = c .before .before .before .before .before .before .before .before .args in
+returns-2 : tie.Need-returns-2 Inv-loop μ-loop
+returns-2 c =
+    let a = c .before .before .before .before .before .before .before .before .before .args in
     let x = keys (a .body .now) (a .w) (a .at) (a .masked) (a .mask) (a .off) (a .n) in
     let l = c .before .loop in
     let z : l .base ≡ a .entries = omega arith in
-    l .inv .3 (a .room .now) (omega arith) (c .before .before .before .before .fill-zeros .ensures ∙ ap (λ s. splice (a .to) s (a .room .now)) (none-yet x (a .n) 0))
+    l .inv .3 (a .room .now) (omega arith) (c .before .before .before .before .before .fill-zeros .ensures ∙ ap (λ s. splice (a .to) s (a .room .now)) (none-yet x (a .n) 0))
     ∙ ap (λ e. splice (a .to) (encodes (a .w) (seg (newKey x e) 0 (a .n))) (a .room .now)) z
     ∙ ap (λ s. splice (a .to) s (a .room .now)) (all-keys x (a .entries))
 
 pub write-keys-spec : {M : Type 1} → statement M
-write-keys-spec =
-    tie.close
-    (tie.spec
-    Inv-loop
-    μ-loop
-    mul-fill-zeros
-    fill-zeros-requires
-    loop-holds
-    block-len-requires
-    block-ranks-requires
-    write-block-requires
-    mul-start
-    array-read-start
-    add-base
-    loop-less
-    loop-again
-    same-length
-    returns)
+write-keys-spec = tie.close (tie.spec Inv-loop μ-loop mul-fill-zeros fill-zeros-requires write-by-requires same-length returns loop-holds block-len-requires block-ranks-requires write-by-requires-2 mul-start array-read-start add-base loop-less loop-again same-length-2 returns-2)

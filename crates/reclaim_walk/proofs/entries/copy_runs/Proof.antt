@@ -1,4 +1,4 @@
--- `reclaim_walk::copy_block` meets its contract. The invariant: where the rest is done, the whole is. Assumes nothing.
+-- `reclaim_walk::entries::copy_runs` meets its contract. The invariant: where the rest is done, the whole is. Assumes nothing.
 use mathlib.Core.Path.{_≡_, refl}
 use Prim.Native.Nat.{_+_, _-_, _≤_}
 use native.Mathlib.Nat.{sub-zero, add-zero}
@@ -9,8 +9,8 @@ use Rattle.leaf_walk.specs.Join.{join}
 use Rattle.reclaim_walk.specs.Walk.{copyRuns}
 use Rattle.reclaim_walk.proofs.Runs.{runs-none, runs-stop, runs-more}
 use borrow.Author.Needs.{needs}
-use Rattle.reclaim_walk.proofs.copy_block.Statement.{statement}
-use Rattle.reclaim_walk.proofs.copy_block.Tie as tie
+use Rattle.reclaim_walk.proofs.entries.copy_runs.Statement.{statement}
+use Rattle.reclaim_walk.proofs.entries.copy_runs.Tie as tie
 
 abbrev Inv-loop : tie.InvT-loop
 Inv-loop state parts lengths places body counts₀ room₀ write first base count ranks j₀ counts room j =
@@ -72,5 +72,5 @@ returns-2 c =
     let l = c .before .loop in
     l .inv .2 _ _ _ (runs-none (join (a .state .now) (a .parts .now) (a .lengths .now) (a .places .now) (a .body .now) (a .first) 0) _ (a .count - l .j) _ _ _ (omega arith))
 
-pub copy-block-spec : {M : Type 1} → statement M
-copy-block-spec = tie.close (tie.spec Inv-loop μ-loop loop-holds run-len-requires add-copy-run copy-run-requires same-length returns step-of-requires add-j loop-less loop-again same-length-2 returns-2)
+pub copy-runs-spec : {M : Type 1} → statement M
+copy-runs-spec = tie.close (tie.spec Inv-loop μ-loop loop-holds run-len-requires add-copy-run copy-run-requires same-length returns step-of-requires add-j loop-less loop-again same-length-2 returns-2)

@@ -1,9 +1,9 @@
--- `reclaim_walk::copy_run` meets its contract. Assumes nothing.
+-- `reclaim_walk::entries::copy_run` meets its contract. Assumes nothing.
 use Rattle.leaf_walk.specs.Join.{join}
 use Rattle.reclaim_walk.proofs.Laws.{copy-some, copy-none}
 use borrow.Author.Needs.{needs}
-use Rattle.reclaim_walk.proofs.copy_run.Statement.{statement}
-use Rattle.reclaim_walk.proofs.copy_run.Tie as tie
+use Rattle.reclaim_walk.proofs.entries.copy_run.Statement.{statement}
+use Rattle.reclaim_walk.proofs.entries.copy_run.Tie as tie
 
 returns : tie.Need-returns
 returns c =

@@ -1,4 +1,4 @@
--- `reclaim_walk::run_len` meets its contract. The invariant: what is counted, and the run from there on, is the run. Assumes nothing.
+-- `reclaim_walk::entries::run_len` meets its contract. The invariant: what is counted, and the run from there on, is the run. Assumes nothing.
 use mathlib.Core.Path.{_≡_, refl, ap, _∙_}
 use Prim.Native.Nat.{ℕ, _+_, _-_, _≤_}
 use native.Mathlib.Nat.{add-zero}
@@ -9,8 +9,8 @@ use Rattle.used_entries.specs.Keys.{rank}
 use Rattle.reclaim_walk.specs.Walk.{keysOf, runOf}
 use Rattle.reclaim_walk.proofs.Runs.{run-none, run-ends, run-goes, run-starts}
 use borrow.Author.Needs.{needs}
-use Rattle.reclaim_walk.proofs.run_len.Statement.{statement}
-use Rattle.reclaim_walk.proofs.run_len.Tie as tie
+use Rattle.reclaim_walk.proofs.entries.run_len.Statement.{statement}
+use Rattle.reclaim_walk.proofs.entries.run_len.Tie as tie
 
 abbrev Inv-loop : tie.InvT-loop
 Inv-loop ranks j count k₀ k =

@@ -1,4 +1,4 @@
--- `reclaim_walk::ranks_at` meets its contract. Assumes nothing.
+-- `reclaim_walk::entries::ranks_at` meets its contract. Assumes nothing.
 use mathlib.Core.Path.{sym, ap, subst, _∙_}
 use mathlib.Core.List.{[]}
 use Prim.Native.Nat.{_+_}
@@ -7,8 +7,8 @@ use Rattle.leaf_walk.specs.Join.{join}
 use Rattle.used_entries.specs.Keys.{Within, rank}
 use Rattle.reclaim_walk.proofs.Laws.{keys-same, keys-within}
 use borrow.Author.Needs.{needs}
-use Rattle.reclaim_walk.proofs.ranks_at.Statement.{statement}
-use Rattle.reclaim_walk.proofs.ranks_at.Tie as tie
+use Rattle.reclaim_walk.proofs.entries.ranks_at.Statement.{statement}
+use Rattle.reclaim_walk.proofs.entries.ranks_at.Tie as tie
 
 width-at-requires : tie.Need-width-at-requires
 width-at-requires c κs = search needs
