@@ -35,7 +35,7 @@ use Rattle.refinement.proofs.opening.Opened.{given, opening-ground}
 use Rattle.refinement.proofs.opening.PartsDue.{parts-due}
 use Rattle.join.specs.Join.{Lending, Bytes, sourcesIn, typeIn, columnsIn, openingOf, lentOf}
 use Rattle.join.specs.Said.{partsIn, PartsLie, nullsAt, SameMask, no-null, one-place, SameBuffers, OneDictionary}
-use Rattle.join.proofs.Demand1.{parts-next}
+use Rattle.join.proofs.Opens.{parts-next}
 
 -- ---- ground 14
 
