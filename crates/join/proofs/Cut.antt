@@ -23,7 +23,7 @@ use Rattle.refinement.proofs.opening.Opened.{Opened, orders-after}
 use Rattle.join.specs.Join.{Lending, Bytes, sourcesIn, treeIn, typeIn, columnsIn, keepsIn, openingOf, lentOf, afterCalls, nextCall, tablesOf, finishedOf, heldAfter, callAnswer, bookOf, reachedBy}
 use Rattle.join.proofs.Opens.{runs}
 use Rattle.join.proofs.Lengths.{held-is, call-by-lengths, book-is}
-use Rattle.join.proofs.Demand2.{finished-bytes}
+use Rattle.join.proofs.Shown.{finished-bytes}
 use Rattle.join.proofs.Demand3.{the-book}
 use Rattle.join.proofs.CutShown.{column-shown, runs-shown}
 

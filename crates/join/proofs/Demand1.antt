@@ -1,6 +1,6 @@
 -- DEMAND 1: every call is carried out or refused, exactly by 01's numbers, and a refusal changes nothing. Assumes nothing.
 use mathlib.Core.Path.{_≡_, refl, sym, ap, subst, _∙_}
-use mathlib.Core.Bool.{Bool, true, false, cond}
+use mathlib.Core.Bool.{Bool, true, false, cond, _&&_}
 use mathlib.Core.List.{List}
 use Prim.Native.Nat.{ℕ, _≤_, _<_}
 use native.Mathlib.Omega.{arith}
@@ -11,13 +11,15 @@ use Rattle.model.specs.Try.{Try, done, stop, then, guard, mapTry}
 use Rattle.model.specs.Book.{Call}
 use Rattle.model.specs.Held.{held}
 use Rattle.refinement.specs.orders.Order.{Lent, ordered}
+use Rattle.refinement.specs.orders.Fits.{fits}
 use Rattle.refinement.proofs.orders.Accepted.{order-keeps}
 use Rattle.refinement.proofs.orders.Booked.{groundOf, answer-is, ground-is}
-use Rattle.refinement.specs.opening.Fits.{openIn}
 use Rattle.refinement.proofs.opening.Opened.{Opened, opening-refused, opening-ground, orders-after}
-use Rattle.join.specs.Join.{Lending, Bytes, sourcesIn, typeIn, columnsIn, keepsIn, openingOf, lentOf, afterCalls, nextCall, openAnswer, reachedBy, answerTo, heldAfter}
-use Rattle.join.proofs.Opens.{runs, ground, small, placed, room-first, sources-next, parts-next}
+use Rattle.join.specs.Join.{Lending, Bytes, sourcesIn, typeIn, columnsIn, keepsIn, openingOf, lentOf, afterCalls, nextCall, openAnswer, first, reachedBy, answerTo, heldAfter}
+use Rattle.join.proofs.Opens.{runs, sourcesAnswer, small, placed, room-first, sources-next, parts-next}
 use Rattle.join.proofs.Numbers.{Ordinary, of-order, of-room, number-among}
+use Rattle.join.specs.Openings.{dataOpens}
+use Rattle.join.proofs.Openings.{opens-in-one}
 use Rattle.join.proofs.Lengths.{call-by-lengths}
 
 -- ---- THE OPENING
@@ -29,16 +31,18 @@ module _ (l : Lending) where
 
   -- THE ANSWER is 0 where no ground stands, else the first in 01's order
   pub opening-answered : Bytes l → openingOf l .ground ≡ groundOf (openAnswer l)
-  opening-answered b = go (small l) refl (eqb (ground l) 0) refl (placed l) refl
+  opening-answered b = go (small l) refl (eqb (sourcesAnswer l) 0) refl (placed l) refl
     where
-      go : (x : Bool) → small l ≡ x → (y : Bool) → eqb (ground l) 0 ≡ y → (z : Bool) → placed l ≡ z
+      go : (x : Bool) → small l ≡ x → (y : Bool) → eqb (sourcesAnswer l) 0 ≡ y → (z : Bool) → placed l ≡ z
           → openingOf l .ground
-          ≡ groundOf (guard x 9 (then (cond y (done tt) (stop (ground l))) (λ (u : Unit {0}). guard z 14 (openIn (lentOf l .plan) (l .parts) (l .gaps) (typeIn l) (l .keep) (sourcesIn l) (columnsIn l)))))
+          ≡ groundOf (guard x 9 (then (cond y (done tt) (stop (sourcesAnswer l))) (λ (u : Unit {0}). guard z 14
+          (then (dataOpens (lentOf l .plan) (l .parts) (sourcesIn l) (typeIn l) 0 (λ j. columnsIn l j .body)) (λ v. guard (fits (lentOf l .plan) (l .parts) (typeIn l) 0 (first l) && v) 13 (done (first l)))))))
       go false e y f z g = room-first l e
       go true e false f z g = sources-next l e f
       go true e true f false g = parts-next l e f g
       go true e true f true g =
           opening-ground (l .formats) (l .schema) (l .sources) (l .tables) (l .keep) (l .gaps) (l .parts) (l .plan) (l .counters) (l .room) (b .body-bytes) (b .room-bytes) (leb-true _ _ e) (eqb-true _ _ f) g
+          ∙ sym (ap groundOf (opens-in-one (lentOf l .plan) (l .parts) (sourcesIn l) (l .gaps) (typeIn l) (l .keep) (columnsIn l)))
 
   -- the plan that it leaves is the one that every later call is lent
   pub plan-left : Bytes l → openingOf l .ground ≡ 0 → openingOf l .plan ≡ lentOf l .plan

@@ -16,29 +16,30 @@ use Rattle.model.specs.Try.{Try, done, then, guard}
 use Rattle.model.specs.Grounds.{firstRun, runCount}
 use Rattle.model.specs.Mutable.{Mutable}
 use Rattle.model.specs.Runs.{Runs, lastEnd, clipped, moreEnds, runsExtend, runsNull}
-use Rattle.model.specs.Transform.{Destination, intoBuilder}
+use Rattle.model.specs.Transform.{Destination}
 use Rattle.model.specs.Book.{Call, copy, nullsEntered}
 use Rattle.model.proofs.Book.{countedIf}
-use Rattle.model.specs.Counters.{FinishedBy}
-use Rattle.model.proofs.Counters.{finished-by}
 use Rattle.array_data.specs.Tables.{lengthOf}
 use Rattle.array_data.specs.Typed.{sourceRule}
 use Rattle.walk.specs.State as walk
 use Rattle.parts.specs.Parts.{nodesOf}
 use Rattle.refinement.specs.orders.Order.{After}
 use Rattle.refinement.proofs.orders.Step.{Running, Answers, made, not-made, order-step}
-use Rattle.refinement.proofs.opening.Taken.{taken, sources-of}
+use Rattle.refinement.proofs.opening.Taken.{taken}
 use Rattle.columns.specs.Grounds.{ceiling}
 use Rattle.refinement.proofs.opening.Opened.{Opened, orders-after}
 use Rattle.refinement.specs.finishing.Finish.{Finished, lengthTable, nullTable, placeTable, bufferTable, buffersBefore}
-use Rattle.refinement.specs.finishing.Shows.{Shows, Counts, Bodied}
+use Rattle.refinement.specs.finishing.Shows.{Bodied}
 use Rattle.refinement.proofs.finishing.Orders.{appended}
-use Rattle.refinement.proofs.finishing.Join.{finishing-accepted, join-shows, join-nulls, join-again}
+use Rattle.refinement.proofs.finishing.Join.{finishing-accepted, join-again}
 use Rattle.join.specs.Join.{Lending, Bytes, sourcesIn, treeIn, typeIn, columnsIn, keepsIn, openingOf, lentOf, afterCalls, nextCall, finishingOf, tablesAt, tablesOf, finishedOf, reachedBy, nullsBooked}
 use Rattle.join.specs.Counters.{Counted}
+use Rattle.join.specs.Built.{Built}
 use Rattle.join.proofs.Opens.{runs}
 use Rattle.join.proofs.Lengths.{nulls-is, nulls-by-lengths}
 use Rattle.join.proofs.Counters.{counted}
+use Rattle.join.proofs.Shown.{bytes-at, nulls-at, finished-counters}
+use Rattle.join.proofs.Built.{built}
 
 -- ---- the model's destination is that of the Rust's calls, those that are carried out, with one run for a gap not chosen (`gaps` false): where it
 -- is chosen, a null order on a run-end node is not the Rust's, and the theorems below are about the model alone
@@ -75,14 +76,11 @@ module _ (l : Lending) (b : Bytes l) (accepted : openingOf l .ground ≡ 0) (os 
 
   -- Over any body z in which the room stands from `base` on and the sources' body where it was:
   module _ (base : ℕ) (z : List ℕ) (laid : Bodied z (lentOf l) (afterCalls l os .room) base) where
-    -- THE BYTES, LENGTHS AND VALIDITY: the finished tables describe `into_builder` of it, byte for byte
-    pub bytes-at : Shows (treeIn l) (tablesAt l os base z) (typeIn l) 0 (intoBuilder (typeIn l) (sourcesIn l) (columnsIn l) (reachedBy l os))
-    bytes-at = join-shows (l .formats) (l .schema) (l .sources) (l .tables) (l .keep) (l .gaps) (l .parts) (openingOf l) opens os base z laid
-
-    -- THE NULL COUNTS of every node are those of its finished bits
-    pub nulls-at : Counts (treeIn l) (nullTable (lentOf l) (l .tables .buffers) (afterCalls l os .counts) (afterCalls l os .room) base) (typeIn l) 0
-        (intoBuilder (typeIn l) (sourcesIn l) (columnsIn l) (reachedBy l os))
-    nulls-at = join-nulls (l .formats) (l .schema) (l .sources) (l .tables) (l .keep) (l .gaps) (l .parts) (openingOf l) opens os base z laid
+    -- THE BYTES, LENGTHS, VALIDITY AND NULL COUNTS: the finished tables are what `into_builder` makes of it, at every node
+    pub built-at : Built (treeIn l) (tablesAt l os base z) (nullTable (lentOf l) (l .tables .buffers) (afterCalls l os .counts) (afterCalls l os .room) base) (sourcesIn l) (typeIn l) 0 (columnsIn l) (reachedBy l os)
+    built-at =
+        built (treeIn l) (tablesAt l os base z) (nullTable (lentOf l) (l .tables .buffers) (afterCalls l os .counts) (afterCalls l os .room) base) (sourcesIn l) (typeIn l) 0 (columnsIn l) (reachedBy l os)
+        (bytes-at l b accepted os base z laid) (nulls-at l b accepted os base z laid) (finished-counters l b accepted os)
 
     -- LENT AGAIN, it passes ground 12
     pub again-at : T (sourceRule (treeIn l) (tablesAt l os base z))
@@ -92,18 +90,8 @@ module _ (l : Lending) (b : Bytes l) (accepted : openingOf l .ground ≡ 0) (os 
   pub behind-body : Bodied (l .tables .body ++ afterCalls l os .room) (lentOf l) (afterCalls l os .room) (length (l .tables .body))
   behind-body = appended (lentOf l) (afterCalls l os .room)
 
-  pub finished-bytes : Shows (treeIn l) (tablesOf l os) (typeIn l) 0 (intoBuilder (typeIn l) (sourcesIn l) (columnsIn l) (reachedBy l os))
-  finished-bytes = bytes-at (length (l .tables .body)) _ behind-body
-
-  pub finished-nulls : Counts (treeIn l) (nullTable (lentOf l) (l .tables .buffers) (afterCalls l os .counts) (afterCalls l os .room) (length (l .tables .body))) (typeIn l) 0
-      (intoBuilder (typeIn l) (sourcesIn l) (columnsIn l) (reachedBy l os))
-  finished-nulls = nulls-at (length (l .tables .body)) _ behind-body
-
-  -- .. AND THOSE OF THE RUST: of every node, validity is kept where its running null count is above 0, and that is its null count
-  pub finished-counters : FinishedBy (typeIn l) (sourcesIn l) (columnsIn l) (reachedBy l os) (intoBuilder (typeIn l) (sourcesIn l) (columnsIn l) (reachedBy l os))
-  finished-counters =
-      finished-by (typeIn l) (sourcesIn l) (columnsIn l) (sources-of (l .formats) (l .schema) (l .sources) (l .tables) (l .keep) (l .gaps) (opens .accepted) .obey) (reachedBy l os)
-      (orders-after (l .formats) (l .schema) (l .sources) (l .tables) (l .keep) (l .gaps) (l .parts) (openingOf l) opens os .running .state .fine)
+  pub finished-built : Built (treeIn l) (tablesOf l os) (nullTable (lentOf l) (l .tables .buffers) (afterCalls l os .counts) (afterCalls l os .room) (length (l .tables .body))) (sourcesIn l) (typeIn l) 0 (columnsIn l) (reachedBy l os)
+  finished-built = built-at (length (l .tables .body)) _ behind-body
 
   -- the lent counters are the destination's, its lengths and running null counts, at every node
   pub counters-are : Counted (lentOf l .plan) (afterCalls l os .counts) (typeIn l) 0 (reachedBy l os)

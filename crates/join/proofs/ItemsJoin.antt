@@ -37,7 +37,8 @@ use Rattle.join.specs.Items.{Item, one, trip, itemOrder, inTurn, itemAns
 use Rattle.join.proofs.Numbers.{Ordinary, number-among}
 use Rattle.join.proofs.Opens.{runs}
 use Rattle.join.proofs.Lengths.{held-is, book-is, nulls-by-lengths}
-use Rattle.join.proofs.Demand2.{bytes-at, nulls-at, again-at, finishing-answered}
+use Rattle.join.proofs.Shown.{bytes-at, nulls-at}
+use Rattle.join.proofs.Demand2.{again-at, finishing-answered}
 use Rattle.join.proofs.Demand3.{book-at, destination-length}
 use Rattle.join.proofs.Items.{items-flat, RanItems, items-run, item-said, said-ground, trip-comes, comes-place, answersTo, item-keeps}
 

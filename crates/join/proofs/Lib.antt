@@ -1,6 +1,7 @@
 -- THE THREE DEMANDS on whole joins.
 pub mod Numbers
 pub mod Opens
+pub mod Openings
 pub mod Lengths
 pub mod Demand1
 pub mod Written
@@ -9,6 +10,8 @@ pub mod Amends
 pub mod AmendsNulls
 pub mod WrittenRuns
 pub mod Counters
+pub mod Shown
+pub mod Built
 pub mod Demand2
 pub mod Gap
 pub mod GapStay

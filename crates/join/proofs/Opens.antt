@@ -14,8 +14,8 @@ runs l b = opening-runs (l .formats) (l .schema) (l .sources) (l .tables) (l .ke
 
 -- what it is answered before its parts are filled
 module _ (l : Lending) where
-  abbrev pub ground : ℕ
-  ground = sourcesGround (l .formats) (l .schema) (l .tables) (l .sources)
+  abbrev pub sourcesAnswer : ℕ
+  sourcesAnswer = sourcesGround (l .formats) (l .schema) (l .tables) (l .sources)
 
   abbrev pub small : Bool
   small = leb (length (l .room)) ceiling
@@ -27,11 +27,11 @@ module _ (l : Lending) where
   unfolding opening
   room-first e = rw e refl
 
-  pub sources-next : small ≡ true → eqb ground 0 ≡ false → openingOf l .ground ≡ ground
+  pub sources-next : small ≡ true → eqb sourcesAnswer 0 ≡ false → openingOf l .ground ≡ sourcesAnswer
   unfolding opening
   sources-next e f = rw (e, f) refl
 
   -- 14 where it stands and none of 9 to 12 does
-  pub parts-next : small ≡ true → eqb ground 0 ≡ true → placed ≡ false → openingOf l .ground ≡ 14
+  pub parts-next : small ≡ true → eqb sourcesAnswer 0 ≡ true → placed ≡ false → openingOf l .ground ≡ 14
   unfolding opening
   parts-next e f g = rw (e, f, g) refl

@@ -15,9 +15,9 @@ use Rattle.columnar.specs.Types.{Number, Plain, fixed, string, Ty, tDictionary}
 use Rattle.columnar.specs.Array.{Array, nullCount}
 use Rattle.columnar.specs.Plain.{PlainBody}
 use Rattle.columnar.specs.Dictionary.{Dictionary}
-use Rattle.columnar.specs.Test.{every}
+use Rattle.columnar.specs.Test.{every, same as sameList}
 use Rattle.model.specs.Try.{Try, done, stop, then}
-use Rattle.model.specs.Opening.{keeps, ptrEq, sameList, shared, entriesBefore}
+use Rattle.model.specs.Opening.{keeps, ptrEq, shared, entriesBefore}
 use Rattle.model.specs.Mutable.{Mutable, startNode, extendNode}
 use Rattle.model.specs.Primitive.{plainExtend, plainStart}
 use Rattle.model.specs.Transform.{joinedFrom, theDictionary}

@@ -1,6 +1,6 @@
 -- A WHOLE JOIN as a caller makes it: an opening, any list of calls, finishing. Each step is what the contract of its entry point cites:
 -- `opening` (try_with_capacities), `copyOrder` and `nullOrder` (try_extend, try_extend_nulls), `finishing` (into_builder). Assumes nothing.
-use mathlib.Core.Bool.{Bool, cond}
+use mathlib.Core.Bool.{Bool, cond, _&&_}
 use mathlib.Core.List.{List, [], _∷_, _++_, foldr}
 use Prim.Native.Nat.{ℕ, _+_, _<_}
 use lib.ListN.{length, getD}
@@ -20,12 +20,12 @@ use Rattle.refinement.specs.plan_is_type.Taken.{columnsAs}
 use Rattle.columns.specs.Grounds.{ceiling, sourcesGround}
 use Rattle.array_data.specs.Sources.{sourceCount, firstOf, nodesOf}
 use Rattle.refinement.specs.orders.Order.{After, Lent, orderedAll, ordered, groundsOf}
-use Rattle.refinement.specs.orders.Fits.{answerIn, answersIn}
+use Rattle.refinement.specs.orders.Fits.{fits, answerIn, answersIn}
 use Rattle.refinement.specs.orders.Counted.{answerRoom, countsAfter, bookRoom, bookBy, nullsRoom, acceptedRoom, AllAcceptedRoom, RoomEnough}
 use Rattle.refinement.specs.opening.Open.{Opening, opened, roomPlaced, opening}
-use Rattle.refinement.specs.opening.Fits.{openIn}
 use Rattle.refinement.specs.finishing.Finish.{Finished, tablesFit, finishing}
 use Rattle.refinement.specs.finishing.Shows.{finishedTables}
+use Rattle.join.specs.Openings.{dataOpens}
 
 -- WHAT A CALLER LENDS to an opening (docs/FORMAT.md), whether nulls are to be kept, and whether one run for a gap is chosen: a null order then
 -- "lengthens the last run exactly if that run was itself written by an accepted null order and nothing but later null orders was added to that node since"
@@ -108,19 +108,20 @@ module _ (l : Lending) where
 
   -- ---- what 01 says of them
 
-  -- "Opening: 9, 10, 11, 12, 14, then per dictionary in tree order 6 (joining), 8, and 13 last"
-  abbrev pub openAnswer : Try (Destination typeIn)
-  openAnswer =
-      guard (leb (length (l .room)) ceiling) 9
-      (then (cond (eqb (sourcesGround (l .formats) (l .schema) (l .tables) (l .sources)) 0) (done tt) (stop (sourcesGround (l .formats) (l .schema) (l .tables) (l .sources))))
-      (λ (u : Unit {0}).
-      guard (roomPlaced (l .formats) (l .schema) (l .sources) (l .tables) (l .keep) (l .gaps) (l .parts) (l .plan) (l .counters) (l .room)) 14
-      (openIn (lentOf .plan) (l .parts) (l .gaps) typeIn (l .keep) sourcesIn columnsIn)))
-
-  -- the model's destination with no rows, and after these calls; a refused one changes nothing (model/specs/Transform.antt follows the Rust)
+  -- the model's destination with no rows
   abbrev pub first : Destination typeIn
   first = start (l .gaps) typeIn (l .keep) sourcesIn columnsIn
 
+  -- "Opening: 9, 10, 11, 12, 14, then per dictionary in tree order 6 (joining), 8, and 13 last"
+  abbrev pub openAnswer : Try (Destination typeIn)
+  openAnswer =
+      let g = sourcesGround (l .formats) (l .schema) (l .tables) (l .sources) in
+      guard (leb (length (l .room)) ceiling) 9
+      (then (cond (eqb g 0) (done tt) (stop g))
+      (λ (u : Unit {0}). guard (roomPlaced (l .formats) (l .schema) (l .sources) (l .tables) (l .keep) (l .gaps) (l .parts) (l .plan) (l .counters) (l .room)) 14
+      (then (dataOpens (lentOf .plan) (l .parts) sourcesIn typeIn 0 (λ j. columnsIn j .body)) (λ b. guard (fits (lentOf .plan) (l .parts) typeIn 0 first && b) 13 (done first)))))
+
+  -- the model's destination after these calls; a refused one changes nothing (model/specs/Transform.antt follows the Rust)
   abbrev pub reachedBy : List Call → Destination typeIn
   reachedBy os = answersIn (lentOf .plan) (l .parts) typeIn sourcesIn columnsIn os first
 
