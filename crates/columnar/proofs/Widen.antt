@@ -16,7 +16,7 @@ use Rattle.columnar.specs.Plain.{PlainBody, OffsetsTo, OffsetsRule, empt
 use Rattle.columnar.specs.Reading.{Body, Column, readAll, masks, SlotRule, Source}
 use Rattle.columnar.specs.Test.{member}
 use Rattle.columnar.specs.Wider.{PlainWider, wFixed, wString, Wider, wPlain, wView, wListView, wList, wSparse, wDense, wRunEnd, wDictionary, Entries, Validity, Kept, OffsetsKept, entries, no-entry, PlainKept, Same, Stored, SharedAlike, Again}
-use Rattle.columnar.proofs.Test.{member-agrees}
+use Rattle.columnar.proofs.Test.{member-agrees, offsets-rule-agrees}
 use Rattle.columnar.proofs.Items.{length-encodes, item-encodes-lt}
 use Rattle.columnar.proofs.Kept.{half-mono}
 use Rattle.columnar.proofs.Wider.{rows-same, source-wider}
@@ -101,7 +101,7 @@ not-empty zero most off len o = omega (arith, o .positive 0 (omega arith))
 not-empty (suc w) most off len o = omega (arith, o .hold, mul-suc (off + len + 1) w)
 
 offsets-stored : (w w′ : ℕ) → w ≤ w′ → (s : List ℕ) (most off len : ℕ) → OffsetsRule w s most off len → OffsetsKept w w′ s (widenOffsets w w′ s (off + len + 1)) most off len
-offsets-stored w w′ ww [] most off len (empty e x) = no-entry e refl (empty e refl)
+offsets-stored w w′ ww [] most off len (empty e x) = no-entry e refl (offsets-rule-agrees w′ [] most off len .complete (empty e refl))
 offsets-stored w w′ ww [] most off len (full o) = absurd (not-empty w most off len o)
 offsets-stored w w′ ww (y ∷ s) most off len (empty e x) = absurd (omega (arith, ap length x))
 offsets-stored w w′ ww (y ∷ s) most off len (full o) =

@@ -21,7 +21,7 @@ use Rattle.columnar.specs.Dictionary.{entryAt, dictionaryAt, DictionaryR
 use Rattle.columnar.specs.Wider.{Declared, KeyWider, PlainWider, wFixed, wString, Entries, Kept, FixedKept, OffsetsKept, entries, no-entry, TextKept, PlainKept, ViewsKept, ListViewKept, ListKept, SparseKept, DenseKept, RunEndKept, DictionaryKept}
 use Rattle.columnar.proofs.Items.{number-take}
 use Rattle.columnar.proofs.FirstAbove.{first-same, first-below}
-use Rattle.columnar.proofs.Test.{member-agrees}
+use Rattle.columnar.proofs.Test.{member-agrees, offsets-rule-agrees}
 use Rattle.columnar.proofs.Kept.{half-mono, seg-same, ok-kept, mask-kept, Widens, read-kept, obeys-kept}
 
 -- ---- numbers and byte strings
@@ -51,8 +51,8 @@ span-same w w′ b b′ off len (no-entry e g r) f i q = absurd (omega arith)
 
 module _ (w w′ : ℕ) (ww : w ≤ w′) where
   offsets-rule : (s s′ : List ℕ) (most most′ off len : ℕ) → OffsetsKept w w′ s s′ most′ off len → most ≡ most′ → OffsetsRule w s most off len → OffsetsRule w′ s′ most′ off len
-  offsets-rule s s′ most most′ off len (no-entry e g r) f (empty l x) = r
-  offsets-rule s s′ most most′ off len (no-entry e g r) f (full o) = r
+  offsets-rule s s′ most most′ off len (no-entry e g r) f (empty l x) = offsets-rule-agrees w′ s′ most′ off len .sound r
+  offsets-rule s s′ most most′ off len (no-entry e g r) f (full o) = offsets-rule-agrees w′ s′ most′ off len .sound r
   offsets-rule s s′ most most′ off len (entries p e) f (empty l x) = absurd (omega (arith, rw x at p))
   offsets-rule s s′ most most′ off len (entries p e) f (full o) =
       full (record {

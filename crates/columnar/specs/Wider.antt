@@ -2,15 +2,15 @@
 -- may be anything"), for offsets and sizes, run ends and keys, at every depth. Assumes nothing.
 use mathlib.Core.Path.{_≡_}
 use mathlib.Core.Logic.{_↔_}
-use mathlib.Core.Bool.{Bool, true, false}
+use mathlib.Core.Bool.{Bool}
 use mathlib.Core.Option.{Option, none, some}
 use mathlib.Core.List.{List, []}
 use Prim.Native.Nat.{ℕ, _+_, _*_, _≤_, _<_}
 use lib.ListN.{length, getD}
-use lib.Dec.{T}
-use Rattle.columnar.specs.Types.{Number, i8, u8, i16, u16, i32, u32, i64, u64, f32, f64, width, limit, Plain, fixed, string, Ty, tPlain, tView, tListView, tList, tSparse, tDense, tRunEnd, tDictionary}
+use lib.Dec.{T, ltb}
+use Rattle.columnar.specs.Types.{Number, width, limit, Plain, fixed, string, Ty, tPlain, tView, tListView, tList, tSparse, tDense, tRunEnd, tDictionary}
 use Rattle.columnar.specs.Array.{Array, item, bit, ok}
-use Rattle.columnar.specs.Plain.{Text, PlainBody, stored, OffsetsRule}
+use Rattle.columnar.specs.Plain.{Text, PlainBody, stored}
 use Rattle.columnar.specs.View.{Views, viewOf}
 use Rattle.columnar.specs.ListView.{ListView}
 use Rattle.columnar.specs.List.{Listed}
@@ -18,22 +18,13 @@ use Rattle.columnar.specs.Union.{Sparse, Dense}
 use Rattle.columnar.specs.RunEnd.{RunEnd}
 use Rattle.columnar.specs.Dictionary.{Dictionary}
 use Rattle.columnar.specs.Reading.{Body, Column}
-use Rattle.columnar.specs.Test.{member}
+use Rattle.columnar.specs.Test.{member, offsetsRule}
 
 -- ---- types
 
--- "an integer key format"
+-- "an integer key format": one that has keys
 abbrev pub integer : Number → Bool
-integer i8 = true
-integer u8 = true
-integer i16 = true
-integer u16 = true
-integer i32 = true
-integer u32 = true
-integer i64 = true
-integer u64 = true
-integer f32 = false
-integer f64 = false
+integer k = ltb 0 (limit k)
 
 -- a key format that reaches as high as another: u8 to i16 as well as u8 to u16
 pub record KeyWider (k k′ : Number) : Type 0 where
@@ -100,7 +91,7 @@ pub record FixedKept (n : Number) (ok : ℕ → Bool) (b b′ : List ℕ) (off l
 -- to keep: the wide one is then empty, or has any that its rule allows.
 pub data OffsetsKept (w w′ : ℕ) (s s′ : List ℕ) (most off len : ℕ) : Type 0 where
   entries : 0 < length s → Entries w w′ s s′ off (len + 1) → OffsetsKept w w′ s s′ most off len
-  no-entry : len ≡ 0 → s ≡ [] → OffsetsRule w′ s′ most off len → OffsetsKept w w′ s s′ most off len
+  no-entry : len ≡ 0 → s ≡ [] → T (offsetsRule w′ s′ most off len) → OffsetsKept w w′ s s′ most off len
 
 pub record TextKept (w w′ : ℕ) (ok : ℕ → Bool) (b b′ : Text) (off len : ℕ) : Type 0 where
   pub same-offsets : OffsetsKept w w′ (b .offsets) (b′ .offsets) (length (b′ .chars)) off len

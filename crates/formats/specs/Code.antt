@@ -21,30 +21,12 @@ pub data Rule : Type 0 where
 -- the formats of 01, with their letters
 abbrev pub table : List Rule
 table =
-    is (99 ∷ []) 1  -- c
-    ∷ is (67 ∷ []) 2  -- C
-    ∷ is (115 ∷ []) 3  -- s
-    ∷ is (83 ∷ []) 4  -- S
-    ∷ is (105 ∷ []) 5  -- i
-    ∷ is (73 ∷ []) 6  -- I
-    ∷ is (108 ∷ []) 7  -- l
-    ∷ is (76 ∷ []) 8  -- L
-    ∷ is (102 ∷ []) 9  -- f
-    ∷ is (103 ∷ []) 10  -- g
-    ∷ is (122 ∷ []) 11  -- z
-    ∷ is (117 ∷ []) 12  -- u
-    ∷ is (90 ∷ []) 13  -- Z
-    ∷ is (85 ∷ []) 14  -- U
-    ∷ is (118 ∷ 122 ∷ []) 15  -- vz
-    ∷ is (118 ∷ 117 ∷ []) 16  -- vu
-    ∷ is (43 ∷ 118 ∷ 108 ∷ []) 17  -- +vl
-    ∷ is (43 ∷ 118 ∷ 76 ∷ []) 18  -- +vL
-    ∷ is (43 ∷ 108 ∷ []) 19  -- +l
-    ∷ is (43 ∷ 76 ∷ []) 20  -- +L
-    ∷ begins (43 ∷ 117 ∷ 115 ∷ 58 ∷ []) 21  -- +us:
-    ∷ begins (43 ∷ 117 ∷ 100 ∷ 58 ∷ []) 22  -- +ud:
-    ∷ is (43 ∷ 114 ∷ []) 23  -- +r
-    ∷ []
+    is (99 ∷ []) 1 ∷ is (67 ∷ []) 2 ∷ is (115 ∷ []) 3 ∷ is (83 ∷ []) 4 ∷ is (105 ∷ []) 5 ∷ is (73 ∷ []) 6 ∷ is (108 ∷ []) 7 ∷ is (76 ∷ []) 8  -- c C s S i I l L
+    ∷ is (102 ∷ []) 9 ∷ is (103 ∷ []) 10  -- f g
+    ∷ is (122 ∷ []) 11 ∷ is (117 ∷ []) 12 ∷ is (90 ∷ []) 13 ∷ is (85 ∷ []) 14  -- z u Z U
+    ∷ is (118 ∷ 122 ∷ []) 15 ∷ is (118 ∷ 117 ∷ []) 16  -- vz vu
+    ∷ is (43 ∷ 118 ∷ 108 ∷ []) 17 ∷ is (43 ∷ 118 ∷ 76 ∷ []) 18 ∷ is (43 ∷ 108 ∷ []) 19 ∷ is (43 ∷ 76 ∷ []) 20  -- +vl +vL +l +L
+    ∷ begins (43 ∷ 117 ∷ 115 ∷ 58 ∷ []) 21 ∷ begins (43 ∷ 117 ∷ 100 ∷ 58 ∷ []) 22 ∷ is (43 ∷ 114 ∷ []) 23 ∷ []  -- +us: +ud: +r
 
 -- the code of the first rule that the text t meets; 0 where there is none
 abbrev pub look : List Rule → List ℕ → ℕ
@@ -113,31 +95,9 @@ isRunEnd code = between 23 23 code
 -- bytes of one number (c C s S i I l L f g), or of one offset (z u Z U, +vl +vL, +l +L), by code from 0 on
 abbrev pub widths : List ℕ
 widths =
-    0  -- no format
-    ∷ 1  -- c
-    ∷ 1  -- C
-    ∷ 2  -- s
-    ∷ 2  -- S
-    ∷ 4  -- i
-    ∷ 4  -- I
-    ∷ 8  -- l
-    ∷ 8  -- L
-    ∷ 4  -- f
-    ∷ 8  -- g
-    ∷ 4  -- z
-    ∷ 4  -- u
-    ∷ 8  -- Z
-    ∷ 8  -- U
-    ∷ 0  -- vz
-    ∷ 0  -- vu
-    ∷ 4  -- +vl
-    ∷ 8  -- +vL
-    ∷ 4  -- +l
-    ∷ 8  -- +L
-    ∷ 0  -- +us:
-    ∷ 0  -- +ud:
-    ∷ 0  -- +r
-    ∷ []
+    0 ∷ 1 ∷ 1 ∷ 2 ∷ 2 ∷ 4 ∷ 4 ∷ 8 ∷ 8 ∷ 4 ∷ 8  -- no format; c C s S i I l L f g
+    ∷ 4 ∷ 4 ∷ 8 ∷ 8 ∷ 0 ∷ 0  -- z u Z U; vz vu
+    ∷ 4 ∷ 8 ∷ 4 ∷ 8 ∷ 0 ∷ 0 ∷ 0 ∷ []  -- +vl +vL +l +L; +us: +ud: +r
 
 -- the bytes of one number or offset of a code; 0 where it has neither
 abbrev pub widthOf : ℕ → ℕ

@@ -4,9 +4,9 @@ use mathlib.Core.Path.{_≡_, refl, sym, ap, ap₂, subst, _∙_}
 use mathlib.Core.Logic.{_↔_}
 use mathlib.Core.Bool.{Bool}
 use mathlib.Core.List.{List, [], _∷_}
-use Prim.Native.Nat.{ℕ}
+use Prim.Native.Nat.{ℕ, zero, suc}
 use native.Mathlib.Omega.{arith}
-use lib.ListN.{length, replicate}
+use lib.ListN.{length, getD, replicate}
 use Rattle.columnar.specs.Types.{Ty}
 use Rattle.columnar.specs.Reading.{Column}
 use Rattle.model.specs.Try.{Try, done, stop, mapTry, after}
@@ -36,6 +36,15 @@ stopped e = cc e
 abbrev pub No13 : List ℕ → Type 0
 No13 [] = Unit {0}
 No13 (g ∷ gs) = (g ≡ 13 → ⊥) × No13 gs
+
+pub none-13 : (gs : List ℕ) → ((i : ℕ) → getD gs i 0 ≡ 13 → ⊥) → No13 gs
+none-13 [] h = tt
+none-13 (g ∷ gs) h = (h 0, none-13 gs (λ i. h (suc i)))
+
+pub each-13 : (gs : List ℕ) → No13 gs → (i : ℕ) → getD gs i 0 ≡ 13 → ⊥
+each-13 [] h i e = absurd (let z : _≡_ {A = ℕ} 0 13 = e in omega arith)
+each-13 (g ∷ gs) h zero e = h .0 e
+each-13 (g ∷ gs) h (suc i) e = each-13 gs (h .1) i e
 
 -- every one of these answers is 0
 abbrev pub AllZero : List ℕ → Type 0

@@ -1,6 +1,6 @@
 -- BODIES AND ROOMS UP TO FOUR GIGABYTES are answered as they were before positions had 64 bits. Assumes nothing.
 use mathlib.Core.Path.{_≡_, refl, ap, _∙_}
-use mathlib.Core.Bool.{Bool, true, false, cond, _||_}
+use mathlib.Core.Bool.{Bool, true, false, cond, _&&_, _||_}
 use mathlib.Core.List.{List}
 use Prim.Native.Nat.{ℕ, zero, suc, _+_, _*_, _-_, _^_, _≤_, _<_}
 use native.Mathlib.Omega.{arith}
@@ -14,8 +14,9 @@ use Rattle.model.specs.Transform.{Destination}
 use Rattle.columns.specs.Grounds.{ceiling}
 use Rattle.columns.proofs.Before.{before, sourcesUnder, sources-before}
 use Rattle.refinement.specs.opening.Open.{roomPlaced}
-use Rattle.refinement.specs.opening.Fits.{openIn}
-use Rattle.join.specs.Join.{Lending, sourcesIn, typeIn, columnsIn, lentOf, openAnswer}
+use Rattle.refinement.specs.orders.Fits.{fits}
+use Rattle.join.specs.Join.{Lending, sourcesIn, typeIn, columnsIn, lentOf, first, openAnswer}
+use Rattle.join.specs.Openings.{dataOpens}
 
 module _ (l : Lending) where
   -- the answer to an opening where body and room have at most so many bytes each
@@ -27,7 +28,7 @@ module _ (l : Lending) where
       (stop (sourcesUnder (l .formats) (l .schema) (l .tables) most (l .sources))))
       (λ (u : Unit {0}).
       guard (roomPlaced (l .formats) (l .schema) (l .sources) (l .tables) (l .keep) (l .gaps) (l .parts) (l .plan) (l .counters) (l .room)) 14
-      (openIn (lentOf l .plan) (l .parts) (l .gaps) (typeIn l) (l .keep) (sourcesIn l) (columnsIn l))))
+      (then (dataOpens (lentOf l .plan) (l .parts) (sourcesIn l) (typeIn l) 0 (λ j. columnsIn l j .body)) (λ b. guard (fits (lentOf l .plan) (l .parts) (typeIn l) 0 (first l) && b) 13 (done (first l))))))
 
   -- AS BEFORE: an opening is answered as it was under the old ceiling
   pub as-before : length (l .tables .body) ≤ before → length (l .room) ≤ before → openAnswer l ≡ answerUnder before

@@ -22,8 +22,8 @@ use Rattle.refinement.proofs.orders.CutRun.{answers-behind, answers-one, carrie
 use Rattle.refinement.proofs.opening.Opened.{Opened, orders-after}
 use Rattle.join.specs.Join.{Lending, Bytes, sourcesIn, treeIn, typeIn, columnsIn, keepsIn, openingOf, lentOf, afterCalls, nextCall, tablesOf, finishedOf, heldAfter, callAnswer, bookOf, reachedBy}
 use Rattle.join.proofs.Opens.{runs}
-use Rattle.join.proofs.Demand1.{held-is, call-answered}
-use Rattle.join.proofs.Demand2.{finished-bytes}
+use Rattle.join.proofs.Lengths.{held-is, call-by-lengths, book-is}
+use Rattle.join.proofs.Shown.{finished-bytes}
 use Rattle.join.proofs.Demand3.{the-book}
 use Rattle.join.proofs.CutShown.{column-shown, runs-shown}
 
@@ -99,7 +99,7 @@ module _ (l : Lending) (b : Bytes l) (accepted : openingOf l .ground ≡ 0) wher
 
     -- THE SINGLE ORDER IS ACCEPTED: no ground stands, and its room is enough
     pub cut-accepted : nextCall l os (copy j a e) .ground ≡ 0
-    cut-accepted = call-answered l b accepted os (copy j a e) ∙ ap groundOf (led .is)
+    cut-accepted = call-by-lengths l b accepted os (copy j a e) ∙ ap groundOf (led .is)
 
     whole : Taken os (copy j a e)
     whole = taken os (copy j a e) cut-accepted
@@ -116,7 +116,7 @@ module _ (l : Lending) (b : Bytes l) (accepted : openingOf l .ground ≡ 0) wher
 
     -- .. and those of the finished arrays
     pub cut-rows : readAll (typeIn l) (finishedOf l halves) ≡ readAll (typeIn l) (finishedOf l single)
-    cut-rows = the-book l b accepted halves ∙ cut-book ∙ sym (the-book l b accepted single)
+    cut-rows = the-book l b accepted halves ∙ book-is l b accepted halves ∙ cut-book ∙ sym (the-book l b accepted single ∙ book-is l b accepted single)
 
     -- EACH RUN-END NODE HAS AT MOST ONE RUN MORE, but for those below a list-view or list that itself stands below a run-end node
     pub cut-runs : RunsCut (typeIn l) outside (finishedOf l single .body) (finishedOf l halves .body)

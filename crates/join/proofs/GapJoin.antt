@@ -21,10 +21,9 @@ use Rattle.model.specs.Orders.{perform}
 use Rattle.model.proofs.Follow.{guard-done}
 use Rattle.model.proofs.CutTries.{done-is, then-done}
 use Rattle.refinement.specs.orders.Fits.{fits, answerIn, answersIn}
-use Rattle.join.specs.Join.{Lending, sourcesIn, typeIn, columnsIn, lentOf, reachedBy}
+use Rattle.join.specs.Join.{Lending, sourcesIn, typeIn, columnsIn, lentOf, first, reachedBy, carriedFrom, carriedOut}
 use Rattle.join.specs.Gap.{nullsLatest, Came, begun, Grows, Histories, noHistory, callAdds, callsAdd, EveryCame, Either, NullsGrow}
-use Rattle.join.proofs.Demand2.{first, carriedOut}
-use Rattle.join.proofs.GapOff.{both-done, same-any, same-then, same-guard}
+use Rattle.join.proofs.GapStay.{both-done, same-any, same-then, same-guard}
 use Rattle.join.proofs.GapSaid.{null-grown, gap-says, node-grows, latest}
 use Rattle.join.proofs.GapNodes.{Kept, kept-holds, by-done, kept-sparse, kept-child, extend-node, extend-came, nulls-node, nulls-add}
 
@@ -97,14 +96,14 @@ call-came t m ss (nulls (suc n)) h d q = same-guard (keepsNulls d) 3 (nulls-node
 
 module _ (l : Lending) where
   came-after : (os : List Call) (h : Histories (typeIn l)) (d : Destination (typeIn l)) → EveryCame (typeIn l) h (d .«data»)
-      → EveryCame (typeIn l) (callsAdd (typeIn l) (columnsIn l) (carriedOut l os d) h) (answersIn (lentOf l .plan) (l .parts) (typeIn l) (sourcesIn l) (columnsIn l) os d .«data»)
+      → EveryCame (typeIn l) (callsAdd (typeIn l) (columnsIn l) (carriedFrom l os d) h) (answersIn (lentOf l .plan) (l .parts) (typeIn l) (sourcesIn l) (columnsIn l) os d .«data»)
   came-after [] h d c = c
   came-after (o ∷ os) h d c = go (answerIn (lentOf l .plan) (l .parts) (typeIn l) (sourcesIn l) (columnsIn l) o d) refl (came-after os)
     where
       go : (a : Try (Destination (typeIn l))) → answerIn (lentOf l .plan) (l .parts) (typeIn l) (sourcesIn l) (columnsIn l) o d ≡ a
           → ((g : Histories (typeIn l)) (e : Destination (typeIn l)) → EveryCame (typeIn l) g (e .«data»)
-          → EveryCame (typeIn l) (callsAdd (typeIn l) (columnsIn l) (carriedOut l os e) g) (answersIn (lentOf l .plan) (l .parts) (typeIn l) (sourcesIn l) (columnsIn l) os e .«data»))
-          → EveryCame (typeIn l) (callsAdd (typeIn l) (columnsIn l) (elim a [ done e ↦ o ∷ carriedOut l os e | stop g ↦ carriedOut l os d ]) h)
+          → EveryCame (typeIn l) (callsAdd (typeIn l) (columnsIn l) (carriedFrom l os e) g) (answersIn (lentOf l .plan) (l .parts) (typeIn l) (sourcesIn l) (columnsIn l) os e .«data»))
+          → EveryCame (typeIn l) (callsAdd (typeIn l) (columnsIn l) (elim a [ done e ↦ o ∷ carriedFrom l os e | stop g ↦ carriedFrom l os d ]) h)
           (answersIn (lentOf l .plan) (l .parts) (typeIn l) (sourcesIn l) (columnsIn l) os (after a d) .«data»)
       go (stop g) q f = f h d c
       go (done e) q f =
@@ -115,7 +114,7 @@ module _ (l : Lending) where
   module _ (on : l .gaps ≡ true) (os : List Call) where
     -- what the calls that are carried out add to every run-end node
     abbrev pub added : Histories (typeIn l)
-    added = callsAdd (typeIn l) (columnsIn l) (carriedOut l os (first l)) (noHistory (typeIn l))
+    added = callsAdd (typeIn l) (columnsIn l) (carriedOut l os) (noHistory (typeIn l))
 
     -- EVERY RUN-END NODE CAME BY IT: its gap is 2 exactly where null orders alone wrote its last run (`gap-says`)
     pub every-came : EveryCame (typeIn l) added (reachedBy l os .«data»)

@@ -24,8 +24,7 @@ use Rattle.model.specs.Transform.{Grown, Destination, extendData, nullsData}
 use Rattle.model.proofs.Follow.{guard-done}
 use Rattle.model.proofs.CutTries.{done-is, then-done}
 use Rattle.join.specs.Gap.{copied, nulled, nullsLatest, Came, copy-came, nulls-came, Histories, inRows, columnAdds, ofChild, copyAdds, nullsAdd, EveryCame}
-use Rattle.join.proofs.Demand2.{first}
-use Rattle.join.proofs.GapOff.{Same, both-done, both-stop, same-any, same-then, same-guard}
+use Rattle.join.proofs.GapStay.{Same, both-done, both-stop, same-any, same-then, same-guard}
 use Rattle.join.proofs.GapSaid.{null-grown, gap-says, latest}
 
 -- ---- where an answer is done, P holds

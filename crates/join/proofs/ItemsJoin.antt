@@ -36,8 +36,9 @@ use Rattle.join.specs.Join.{Lending, Bytes, sourcesIn, treeIn, typeIn, c
 use Rattle.join.specs.Items.{Item, one, trip, itemOrder, inTurn, itemAnswer, tripPlace, afterItems, nextItem, nextPlace, groundsItems, finishingItems, tablesItems, finishedItems, heldItems, answerItem, placeItem, bookItems, nullsItems, callsCarried}
 use Rattle.join.proofs.Numbers.{Ordinary, number-among}
 use Rattle.join.proofs.Opens.{runs}
-use Rattle.join.proofs.Demand1.{held-is}
-use Rattle.join.proofs.Demand2.{bytes-at, nulls-at, again-at, running-nulls, finishing-answered}
+use Rattle.join.proofs.Lengths.{held-is, book-is, nulls-by-lengths}
+use Rattle.join.proofs.Shown.{bytes-at, nulls-at}
+use Rattle.join.proofs.Demand2.{again-at, finishing-answered}
 use Rattle.join.proofs.Demand3.{book-at, destination-length}
 use Rattle.join.proofs.Items.{items-flat, RanItems, items-run, item-said, said-ground, trip-comes, comes-place, answersTo, item-keeps}
 
@@ -149,7 +150,7 @@ module _ (l : Lending) (b : Bytes l) (accepted : openingOf l .ground ≡ 0) (is 
   pub items-running-nulls : walk.nulls (afterItems l is .counts) 0 ≡ countedIf (keepsIn l) (nullsItems l is)
   items-running-nulls =
       ap (λ c. walk.nulls c 0) items-counts
-      ∙ running-nulls l b accepted (callsCarried l is)
+      ∙ nulls-by-lengths l b accepted (callsCarried l is)
       ∙ ap (countedIf (keepsIn l)) (sym (items-flat (lentOf l .plan) (l .parts) (typeIn l) (keepsIn l) (sourcesIn l) (columnsIn l) is (startCounts (l .gaps) (typeIn l)) .flat-nulls))
 
   -- FINISHING IS NEVER REFUSED where the tables are of the finished array's lengths and the room begins within a body's ceiling
@@ -190,7 +191,7 @@ module _ (l : Lending) (b : Bytes l) (accepted : openingOf l .ground ≡ 0) (is 
       → readAll (typeIn l) (columnOf (treeIn l) (tablesItems l is base z) (typeIn l) 0) ≡ bookItems l is
   items-book-at base z laid =
       moved (λ c r. readAll (typeIn l) (columnOf (treeIn l) (shown.finishedTables (lentOf l) (l .tables .buffers) c r base z) (typeIn l) 0) ≡ bookItems l is)
-      (book-at l b accepted (callsCarried l is) base z (before base z laid) ∙ same-book)
+      (book-at l b accepted (callsCarried l is) base z (before base z laid) ∙ book-is l b accepted (callsCarried l is) ∙ same-book)
 
   -- .. and so over the sources' body with the room behind it
   pub items-book : readAll (typeIn l) (finishedItems l is) ≡ bookItems l is
@@ -202,7 +203,7 @@ module _ (l : Lending) (b : Bytes l) (accepted : openingOf l .ground ≡ 0) (is 
 
   -- and so has the destination, after every item
   pub items-destination : walk.rows (afterItems l is .counts) 0 ≡ length (bookItems l is)
-  items-destination = ap (λ c. walk.rows c 0) items-counts ∙ destination-length l b accepted (callsCarried l is) ∙ ap length same-book
+  items-destination = ap (λ c. walk.rows c 0) items-counts ∙ destination-length l b accepted (callsCarried l is) ∙ ap length (book-is l b accepted (callsCarried l is) ∙ same-book)
 
   -- its row i reads as entry i
   pub items-row : (i : ℕ) → i < finishedItems l is .len → read (typeIn l) (finishedItems l is) i ≡ getD (bookItems l is) i null

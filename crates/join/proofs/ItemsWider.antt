@@ -25,7 +25,8 @@ use Rattle.join.specs.Stored.{StoredWider}
 use Rattle.join.specs.Items.{Item, one, trip, callsIn, inTurn, itemAnswer, enteredAll, itemsBook, acceptedItems, groundsItems, finishedItems, bookItems, itemsAccepted}
 use Rattle.join.proofs.Opens.{runs}
 use Rattle.join.proofs.Answered.{No13, AllZero}
-use Rattle.join.proofs.Wider.{moved, moved-back, opens-again}
+use Rattle.join.proofs.WiderLengths.{moved, moved-back}
+use Rattle.join.proofs.Wider.{opens-again}
 use Rattle.join.proofs.Items.{answersTo}
 use Rattle.join.proofs.ItemsJoin.{items-answered, items-book}
 

@@ -1,6 +1,8 @@
 -- THE THREE DEMANDS on whole joins.
 pub mod Numbers
 pub mod Opens
+pub mod Openings
+pub mod Lengths
 pub mod Demand1
 pub mod Written
 pub mod WrittenOff
@@ -8,8 +10,11 @@ pub mod Amends
 pub mod AmendsNulls
 pub mod WrittenRuns
 pub mod Counters
+pub mod Shown
+pub mod Built
 pub mod Demand2
 pub mod Gap
+pub mod GapStay
 pub mod GapOff
 pub mod GapSaid
 pub mod GapNodes
@@ -21,6 +26,7 @@ pub mod Said
 pub mod Stored
 pub mod StoredTypes
 pub mod StoredExample
+pub mod WiderLengths
 pub mod Wider
 pub mod StoredJoin
 pub mod CutShown

@@ -15,9 +15,9 @@ use Rattle.columnar.specs.Types.{Number, Plain, fixed, string, Ty, tDictionary}
 use Rattle.columnar.specs.Array.{Array, nullCount}
 use Rattle.columnar.specs.Plain.{PlainBody}
 use Rattle.columnar.specs.Dictionary.{Dictionary}
-use Rattle.columnar.specs.Test.{every}
+use Rattle.columnar.specs.Test.{every, same as sameList}
 use Rattle.model.specs.Try.{Try, done, stop, then}
-use Rattle.model.specs.Opening.{keeps, ptrEq, sameList, shared, entriesBefore}
+use Rattle.model.specs.Opening.{keeps, ptrEq, shared, entriesBefore}
 use Rattle.model.specs.Mutable.{Mutable, startNode, extendNode}
 use Rattle.model.specs.Primitive.{plainExtend, plainStart}
 use Rattle.model.specs.Transform.{joinedFrom, theDictionary}
@@ -35,7 +35,7 @@ use Rattle.refinement.proofs.opening.Opened.{given, opening-ground}
 use Rattle.refinement.proofs.opening.PartsDue.{parts-due}
 use Rattle.join.specs.Join.{Lending, Bytes, sourcesIn, typeIn, columnsIn, openingOf, lentOf}
 use Rattle.join.specs.Said.{partsIn, PartsLie, nullsAt, SameMask, no-null, one-place, SameBuffers, OneDictionary}
-use Rattle.join.proofs.Demand1.{parts-next}
+use Rattle.join.proofs.Opens.{parts-next}
 
 -- ---- ground 14
 

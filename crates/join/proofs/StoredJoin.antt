@@ -36,13 +36,14 @@ use Rattle.refinement.proofs.orders.Booked.{groundOf}
 use Rattle.refinement.specs.opening.Fits.{openIn}
 use Rattle.refinement.proofs.opening.Laid.{stood}
 use Rattle.refinement.proofs.opening.Opened.{given}
-use Rattle.join.specs.Join.{Lending, Bytes, sourcesIn, typeIn, columnsIn, keepsIn, openingOf, lentOf, finishedOf, groundsIn, acceptedOf, AllAccepted}
+use Rattle.join.specs.Join.{Lending, Bytes, sourcesIn, typeIn, columnsIn, keepsIn, openingOf, lentOf, finishedOf, groundsIn, carriedOut, acceptedOf, AllAccepted}
 use Rattle.join.specs.Stored.{StoredWider, strings, NodeWider}
 use Rattle.join.specs.Said.{PartsLie}
-use Rattle.join.proofs.Answered.{No13, AllZero, accepted-zero}
+use Rattle.join.proofs.Answered.{No13, each-13, AllZero, accepted-zero}
+use Rattle.join.proofs.Lengths.{accepted-is, book-is}
 use Rattle.join.proofs.Demand3.{the-book}
 use Rattle.join.proofs.Said.{not-fourteen}
-use Rattle.join.proofs.Wider.{Wide, opens-again, made-again}
+use Rattle.join.proofs.Wider.{opens-again, made-again}
 
 -- ---- what is lent: validity, offsets 0 3 7 7, "vanstop"; two rows from slot 1 on
 
@@ -267,7 +268,10 @@ pub record Premises (n w : Lending) (os : List Call) : Type 0 where
   pub small-room : length (w .room) ≤ Grounds.ceiling
   pub no-13 : openingOf w .ground ≡ 13 → ⊥
   pub no-14 : openingOf w .ground ≡ 14 → ⊥
-  pub calls-no-13 : No13 (groundsIn w (acceptedOf n os))
+  pub calls-no-13 : (i : ℕ) → getD (groundsIn w (carriedOut n os)) i 0 ≡ 13 → ⊥
+
+narrow-carries : carriedOut narrow calls ≡ calls
+narrow-carries = accepted-is narrow narrow-bytes narrow-opens calls ∙ narrow-accepts
 
 all-zero : (gs : List ℕ) → AllZero gs → No13 gs
 all-zero [] h = tt
@@ -303,15 +307,15 @@ example =
       small-room = omega arith;
       no-13 = λ e. omega (arith, e, wide-opens);
       no-14 = λ e. omega (arith, e, wide-opens);
-      calls-no-13 = subst (λ os. No13 (groundsIn wide os)) (sym narrow-accepts) (all-zero _ (accepted-zero wide wide-bytes wide-opens calls .1 wide-accepts));
+      calls-no-13 = subst (λ os. (i : ℕ) → getD (groundsIn wide os) i 0 ≡ 13 → ⊥) (sym narrow-carries) (each-13 (groundsIn wide calls) (all-zero _ (accepted-zero wide wide-bytes wide-opens calls .1 wide-accepts)));
     }
 
 -- and what they give: "stop" and a null, in both
 rows-are : readAll (typeIn narrow) (finishedOf narrow calls) ≡ bytes (115 ∷ 116 ∷ 111 ∷ 112 ∷ []) ∷ null ∷ []
 unfolding tyOf kindAt Tree.codeOf Code.codeOf bit item number
-rows-are = the-book narrow narrow-bytes narrow-opens calls ∙ ap {B = List Row} (λ b. elim (guard b 13 (done (after-copy narrow))) [ done c′ ↦ bytes (115 ∷ 116 ∷ 111 ∷ 112 ∷ []) ∷ null ∷ [] | stop g ↦ [] ]) narrow-room
+rows-are = the-book narrow narrow-bytes narrow-opens calls ∙ book-is narrow narrow-bytes narrow-opens calls ∙ ap {B = List Row} (λ b. elim (guard b 13 (done (after-copy narrow))) [ done c′ ↦ bytes (115 ∷ 116 ∷ 111 ∷ 112 ∷ []) ∷ null ∷ [] | stop g ↦ [] ]) narrow-room
 
-pub wide-rows-are : readAll (typeIn wide) (finishedOf wide (acceptedOf narrow calls)) ≡ bytes (115 ∷ 116 ∷ 111 ∷ 112 ∷ []) ∷ null ∷ []
+pub wide-rows-are : readAll (typeIn wide) (finishedOf wide (carriedOut narrow calls)) ≡ bytes (115 ∷ 116 ∷ 111 ∷ 112 ∷ []) ∷ null ∷ []
 wide-rows-are =
     let p = example in
-    sym (made-again narrow wide (p .bytes-n) (p .bytes-w) (p .accepted-n) (p .type-wider) (p .tables-wider) (p .again) (p .same-choice) (p .same-gaps) (p .small-room) (p .no-13) (p .no-14) calls (p .calls-no-13) .same-rows) ∙ rows-are
+    sym (made-again narrow wide (p .bytes-n) (p .bytes-w) (p .accepted-n) (p .type-wider) (p .tables-wider) (p .again) (p .same-choice) (p .same-gaps) (p .small-room) (p .no-13) (p .no-14) calls (p .calls-no-13) .1) ∙ rows-are

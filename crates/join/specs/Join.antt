@@ -1,8 +1,8 @@
 -- A WHOLE JOIN as a caller makes it: an opening, any list of calls, finishing. Each step is what the contract of its entry point cites:
 -- `opening` (try_with_capacities), `copyOrder` and `nullOrder` (try_extend, try_extend_nulls), `finishing` (into_builder). Assumes nothing.
-use mathlib.Core.Bool.{Bool, cond}
-use mathlib.Core.List.{List, _++_}
-use Prim.Native.Nat.{ℕ, _<_}
+use mathlib.Core.Bool.{Bool, cond, _&&_}
+use mathlib.Core.List.{List, [], _∷_, _++_, foldr}
+use Prim.Native.Nat.{ℕ, _+_, _<_}
 use lib.ListN.{length, getD}
 use lib.Dec.{leb, eqb}
 use Rattle.columnar.specs.Row.{Row}
@@ -12,7 +12,7 @@ use Rattle.model.specs.Try.{Try, done, stop, then, guard}
 use Rattle.model.specs.Opening.{keeps}
 use Rattle.model.specs.Grounds.{Counts, startCounts}
 use Rattle.model.specs.Transform.{Destination, start}
-use Rattle.model.specs.Book.{Call}
+use Rattle.model.specs.Book.{Call, entered, nullsEntered}
 use Rattle.array_data.specs.Tables.{Tables}
 use Rattle.array_data.specs.Typed.{Tree, columnOf}
 use Rattle.array_data.specs.type_tree.Lent.{treeOf, typeOf}
@@ -20,12 +20,12 @@ use Rattle.refinement.specs.plan_is_type.Taken.{columnsAs}
 use Rattle.columns.specs.Grounds.{ceiling, sourcesGround}
 use Rattle.array_data.specs.Sources.{sourceCount, firstOf, nodesOf}
 use Rattle.refinement.specs.orders.Order.{After, Lent, orderedAll, ordered, groundsOf}
-use Rattle.refinement.specs.orders.Fits.{answersIn}
+use Rattle.refinement.specs.orders.Fits.{fits, answerIn, answersIn}
 use Rattle.refinement.specs.orders.Counted.{answerRoom, countsAfter, bookRoom, bookBy, nullsRoom, acceptedRoom, AllAcceptedRoom, RoomEnough}
 use Rattle.refinement.specs.opening.Open.{Opening, opened, roomPlaced, opening}
-use Rattle.refinement.specs.opening.Fits.{openIn}
 use Rattle.refinement.specs.finishing.Finish.{Finished, tablesFit, finishing}
 use Rattle.refinement.specs.finishing.Shows.{finishedTables}
+use Rattle.join.specs.Openings.{dataOpens}
 
 -- WHAT A CALLER LENDS to an opening (docs/FORMAT.md), whether nulls are to be kept, and whether one run for a gap is chosen: a null order then
 -- "lengthens the last run exactly if that run was itself written by an accepted null order and nothing but later null orders was added to that node since"
@@ -108,24 +108,54 @@ module _ (l : Lending) where
 
   -- ---- what 01 says of them
 
+  -- the model's destination with no rows
+  abbrev pub first : Destination typeIn
+  first = start (l .gaps) typeIn (l .keep) sourcesIn columnsIn
+
   -- "Opening: 9, 10, 11, 12, 14, then per dictionary in tree order 6 (joining), 8, and 13 last"
   abbrev pub openAnswer : Try (Destination typeIn)
   openAnswer =
+      let g = sourcesGround (l .formats) (l .schema) (l .tables) (l .sources) in
       guard (leb (length (l .room)) ceiling) 9
-      (then (cond (eqb (sourcesGround (l .formats) (l .schema) (l .tables) (l .sources)) 0) (done tt) (stop (sourcesGround (l .formats) (l .schema) (l .tables) (l .sources))))
-      (λ (u : Unit {0}).
-      guard (roomPlaced (l .formats) (l .schema) (l .sources) (l .tables) (l .keep) (l .gaps) (l .parts) (l .plan) (l .counters) (l .room)) 14
-      (openIn (lentOf .plan) (l .parts) (l .gaps) typeIn (l .keep) sourcesIn columnsIn)))
+      (then (cond (eqb g 0) (done tt) (stop g))
+      (λ (u : Unit {0}). guard (roomPlaced (l .formats) (l .schema) (l .sources) (l .tables) (l .keep) (l .gaps) (l .parts) (l .plan) (l .counters) (l .room)) 14
+      (then (dataOpens (lentOf .plan) (l .parts) sourcesIn typeIn 0 (λ j. columnsIn j .body)) (λ b. guard (fits (lentOf .plan) (l .parts) typeIn 0 first && b) 13 (done first)))))
 
-  -- what is held after these calls, by lengths alone
+  -- the model's destination after these calls; a refused one changes nothing (model/specs/Transform.antt follows the Rust)
+  abbrev pub reachedBy : List Call → Destination typeIn
+  reachedBy os = answersIn (lentOf .plan) (l .parts) typeIn sourcesIn columnsIn os first
+
+  -- THE ANSWER TO ONE MORE CALL: "Copy: 1, 2, then as the Rust meets them .., 13 last. Nulls: 3, count 0 accepted, then .., 13 last"
+  abbrev pub answerTo : List Call → Call → Try (Destination typeIn)
+  answerTo os o = answerIn (lentOf .plan) (l .parts) typeIn sourcesIn columnsIn o (reachedBy os)
+
+  -- the calls of a list that are carried out, from a destination on
+  abbrev pub carriedFrom : List Call → Destination typeIn → List Call
+  carriedFrom [] d = []
+  carriedFrom (o ∷ os) d = elim (answerIn (lentOf .plan) (l .parts) typeIn sourcesIn columnsIn o d) [ done e ↦ o ∷ carriedFrom os e | stop g ↦ carriedFrom os d ]
+
+  abbrev pub carriedOut : List Call → List Call
+  carriedOut os = carriedFrom os first
+
+  -- THE BOOK, "fed the calls alone, each order accepted or refused as demand 1 says"; "a refused one adds nothing"
+  abbrev pub book : List Call → List Row
+  book os = foldr (λ o rows. entered typeIn keepsIn sourcesIn columnsIn o ++ rows) [] (carriedOut os)
+
+  -- the nulls that the calls count
+  abbrev pub nullsBooked : List Call → ℕ
+  nullsBooked os = foldr (λ o n. nullsEntered typeIn keepsIn sourcesIn columnsIn o + n) 0 (carriedOut os)
+
+  -- ---- the same by lengths and limits alone, where no buffer of a destination is looked at (proofs/Lengths.antt)
+
+  -- what is held after these calls
   abbrev pub heldAfter : List Call → Counts
   heldAfter os = countsAfter (lentOf .plan) (l .parts) typeIn keepsIn sourcesIn columnsIn os (startCounts (l .gaps) typeIn)
 
-  -- the answer to one more call, by lengths and limits alone
+  -- the answer to one more call
   abbrev pub callAnswer : List Call → Call → Try Counts
   callAnswer os o = answerRoom (lentOf .plan) (l .parts) typeIn keepsIn sourcesIn columnsIn o (heldAfter os)
 
-  -- THE BOOK, "fed the calls alone"
+  -- the book
   abbrev pub bookOf : List Call → List Row
   bookOf os = bookRoom (lentOf .plan) (l .parts) typeIn keepsIn sourcesIn columnsIn os (startCounts (l .gaps) typeIn)
 
@@ -146,7 +176,3 @@ module _ (l : Lending) where
 
   abbrev pub Enough : List Call → Type 0
   Enough os = RoomEnough (lentOf .plan) (l .parts) typeIn keepsIn sourcesIn columnsIn os (startCounts (l .gaps) typeIn)
-
-  -- the model's destination after these calls (model/specs/Transform.antt follows the Rust)
-  abbrev pub reachedBy : List Call → Destination typeIn
-  reachedBy os = answersIn (lentOf .plan) (l .parts) typeIn sourcesIn columnsIn os (start (l .gaps) typeIn (l .keep) sourcesIn columnsIn)

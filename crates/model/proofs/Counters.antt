@@ -7,6 +7,8 @@ use Prim.Native.Nat.{ℕ, zero, suc, _+_, _<_}
 use native.Mathlib.Nat.{zero-add, add-zero}
 use native.Mathlib.Omega.{arith}
 use lib.ListN.{length, getD}
+use lib.Dec.{eqb}
+use borrow.Author.Tests.{ne-eqb}
 use Rattle.columnar.specs.Row.{seg}
 use Rattle.columnar.specs.Types.{Plain, Ty, tPlain, tView, tListView, tList, tSparse, tDense, tRunEnd, tDictionary}
 use Rattle.columnar.specs.Array.{Array, ok, nullsIn, Obeys}
@@ -52,7 +54,7 @@ bits-by true (some l) c e = go (zeros l) ∙ ap (validityBy true (some l)) (sym 
   where
     go : (k : ℕ) → _≡_ {A = Option (List ℕ)} (elim k [ zero ↦ none | suc n ↦ some (pack l) ]) (validityBy true (some l) k)
     go zero = refl
-    go (suc k) = refl
+    go (suc k) = rw (ne-eqb (suc k) 0 (λ z. omega arith)) refl
 
 -- ---- one node
 

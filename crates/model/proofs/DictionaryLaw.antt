@@ -18,7 +18,8 @@ use Rattle.columnar.specs.Plain.{PlainBody, PlainRule}
 use Rattle.columnar.specs.Dictionary.{Dictionary, entryAt, dictionaryAt, DictionaryRule}
 use Rattle.columnar.proofs.Items.{item-left, item-right, item-encodes-lt, length-encodes}
 use Rattle.model.specs.Try.{Try, done, then, guard, after}
-use Rattle.model.specs.Opening.{present, keeps, sameList, ptrEq, shared, entriesBefore, startOfKeys, keysFit, allKeysFit, entriesFit}
+use Rattle.columnar.specs.Test.{same as sameList}
+use Rattle.model.specs.Opening.{present, keeps, ptrEq, shared, entriesBefore, startOfKeys, keysFit, allKeysFit, entriesFit}
 use Rattle.model.specs.Mutable.{Mutable, startNode, freezeNode}
 use Rattle.model.specs.Primitive.{plainStart, newKeys}
 use Rattle.model.specs.Transform.{joinedFrom, theDictionary, openData}

@@ -18,7 +18,8 @@ use Rattle.columnar.specs.Array.{Array, item, bit, ok, sight, readWith, Mask, O
 use Rattle.columnar.specs.Plain.{Text, PlainBody, span, stored, Offsets, StringRule, empty, full, PlainRule}
 use Rattle.columnar.specs.Dictionary.{Dictionary, entryAt}
 use Rattle.columnar.proofs.Items.{number-take, entry-end}
-use Rattle.model.specs.Opening.{sameList, ptrEq}
+use Rattle.columnar.specs.Test.{same as sameList}
+use Rattle.model.specs.Opening.{ptrEq}
 use Rattle.model.specs.Sources.{Stretch, Buffers, ValidFrom, StandsFrom, Stands}
 use Rattle.model.proofs.Start.{no-null-in}
 use Rattle.model.proofs.Owed.{SameEntries}

@@ -19,7 +19,8 @@ use Rattle.columnar.proofs.Kept.{obeys-kept}
 use Rattle.columnar.proofs.WiderKinds.{plain-widens, declares}
 use Rattle.model.specs.Try.{Try, done, stop, then}
 use Rattle.model.specs.Grounds.{Counts, counts, leaf, askOf, plainAsk}
-use Rattle.model.specs.Opening.{present, keeps, sameList, ptrEq, shared, entriesBefore, startOfKeys, entriesFit, keysFit, allKeysFit}
+use Rattle.columnar.specs.Test.{same as sameList}
+use Rattle.model.specs.Opening.{present, keeps, ptrEq, shared, entriesBefore, startOfKeys, entriesFit, keysFit, allKeysFit}
 use Rattle.model.specs.Mutable.{Mutable, startNode, freezeNode}
 use Rattle.model.specs.Primitive.{plainStart}
 use Rattle.model.specs.Transform.{Destination, joinedFrom, theDictionary, openAll, openData, start, tryWithCapacities}

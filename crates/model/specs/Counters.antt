@@ -2,32 +2,28 @@
 -- kept where the counter is above 0, and the counter is its null count. Assumes nothing.
 -- Follows arrow-data 60.1.0 src/transform/mod.rs, Apache-2.0; see NOTICE.
 use mathlib.Core.Path.{_≡_}
-use mathlib.Core.Bool.{Bool, true, false}
-use mathlib.Core.Option.{Option, none, some}
+use mathlib.Core.Bool.{Bool, true, false, cond, _&&_}
+use mathlib.Core.Option.{Option, none, Option·map}
 use mathlib.Core.List.{List, List·Memᴰ}
-use Prim.Native.Nat.{ℕ, zero, suc}
+use Prim.Native.Nat.{ℕ}
+use lib.Dec.{eqb}
 use Rattle.columnar.specs.Types.{Ty, tPlain, tView, tListView, tList, tSparse, tDense, tRunEnd, tDictionary}
 use Rattle.columnar.specs.Array.{Array, nullCount}
 use Rattle.columnar.specs.Plain.{PlainBody}
 use Rattle.columnar.specs.Reading.{Body, Column, masks}
 use Rattle.model.specs.Try.{done}
 use Rattle.model.specs.Opening.{keeps, shared}
-use Rattle.model.specs.Mutable.{Mutable, pack, startNode}
+use Rattle.model.specs.Mutable.{Mutable, keepsBits, pack, startNode}
 use Rattle.model.specs.Primitive.{plainStart}
 use Rattle.model.specs.Transform.{Grown, Destination, joinedFrom}
 
--- `.filter(|n| n.null_count() > 0)`; masks: not at a union or run-end node
-abbrev pub validityBy : Bool → Option (List Bool) → ℕ → Option (List ℕ)
-validityBy masks none c = none
-validityBy false (some l) c = none
-validityBy true (some l) zero = none
-validityBy true (some l) (suc c) = some (pack l)
-
--- `NullBuffer::new_unchecked(bools, data.null_count)`; 0 without a null buffer
+-- `NullBuffer::new_unchecked(bools, data.null_count)`; 0 without a null buffer; masks: not at a union or run-end node
 abbrev pub countBy : Bool → Option (List Bool) → ℕ → ℕ
-countBy masks none c = 0
-countBy false (some l) c = 0
-countBy true (some l) c = c
+countBy masks b c = cond (keepsBits b && masks) c 0
+
+-- `.filter(|n| n.null_count() > 0)`
+abbrev pub validityBy : Bool → Option (List Bool) → ℕ → Option (List ℕ)
+validityBy masks b c = cond (eqb (countBy masks b c) 0) none (Option·map pack b)
 
 -- a is d finished by its counter, and the nodes below it likewise
 pub record ByCounter {P D : Type 0} (masks : Bool) (inner : D → P → Type 0) (d : Mutable D) (a : Array P) : Type 0 where

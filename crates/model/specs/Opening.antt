@@ -2,12 +2,12 @@
 -- nulls if ..", "Two dictionaries are shared if ..", ground 8). Assumes nothing.
 use mathlib.Core.Bool.{Bool, true, false, cond, _&&_, _||_}
 use mathlib.Core.Option.{none}
-use mathlib.Core.List.{List, [], _∷_}
 use Prim.Native.Nat.{ℕ, zero, suc, _+_, _-_, _^_}
 use lib.Dec.{leb, ltb, eqb}
 use Rattle.columnar.specs.Types.{Number, limit}
 use Rattle.columnar.specs.Array.{Array, nullCount}
 use Rattle.columnar.specs.Dictionary.{Dictionary}
+use Rattle.columnar.specs.Test.{same}
 
 -- "Validity with no zero bit among the rows counts as absent": the Rust's ArrayData is built without it
 abbrev pub present : {B : Type 0} → Array B → Array B
@@ -22,15 +22,9 @@ anyNull (suc m) xs = anyNull m xs || ltb 0 (nullCount (xs m))
 abbrev pub keeps : {B : Type 0} → Bool → ℕ → (ℕ → Array B) → Bool
 keeps u m xs = u || anyNull m xs
 
-abbrev pub sameList : List ℕ → List ℕ → Bool
-sameList [] [] = true
-sameList [] (b ∷ bs) = false
-sameList (a ∷ as₁) [] = false
-sameList (a ∷ as₁) (b ∷ bs) = eqb a b && sameList as₁ bs
-
 -- "same offset, length, type and start positions, validity likewise": the types are the same already
 abbrev pub ptrEq : {P : Type 0} → Dictionary P → Dictionary P → Bool
-ptrEq d e = eqb (d .values .off) (e .values .off) && eqb (d .values .len) (e .values .len) && sameList (d .starts) (e .starts)
+ptrEq d e = eqb (d .values .off) (e .values .off) && eqb (d .values .len) (e .values .len) && same (d .starts) (e .starts)
 
 -- "Only if all neighbouring sources share is source 0's dictionary kept"
 abbrev pub shared : {P : Type 0} → ℕ → (ℕ → Dictionary P) → Bool

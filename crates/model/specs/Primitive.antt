@@ -24,13 +24,8 @@ newOffsets w s a (suc n) last =
 abbrev pub plainExtend : (p : Plain) → PlainBody p → ℕ → ℕ → ℕ → PlainBody p → Try (PlainBody p)
 plainExtend (fixed k) s a n l d = done (d ++ take (n * width k) (drop (a * width k) s))
 plainExtend (string w) s a n l d =
-    then (newOffsets w (s .offsets) a n (item w (d .offsets) l))
-    (λ os.
-    done
-    (record {
-      offsets = d .offsets ++ os;
-      chars = d .chars ++ take (item w (s .offsets) (a + n) - item w (s .offsets) a) (drop (item w (s .offsets) a) (s .chars));
-    }))
+    let new = take (item w (s .offsets) (a + n) - item w (s .offsets) a) (drop (item w (s .offsets) a) (s .chars)) in
+    then (newOffsets w (s .offsets) a n (item w (d .offsets) l)) (λ os. done (record { offsets = d .offsets ++ os; chars = d .chars ++ new }))
 
 -- n times the number v in w bytes
 abbrev pub repeated : ℕ → ℕ → ℕ → List ℕ

@@ -35,15 +35,11 @@ moreEnds new n x = record { len = x .len + n; null_count = x .null_count; bits =
 abbrev pub runsExtend : {P D : Type 0} → ℕ → (ℕ → ℕ → Mutable D → Try (Mutable D)) → RunEnd P → ℕ → ℕ → Runs D → Try (Runs D)
 runsExtend w extend s a zero d = done d
 runsExtend w extend s a (suc n) d =
+    let r = firstRun w s a in
+    let k = runCount w s a (suc n) in
+    let new = clipped w (endOf w (s .ends)) a (a + suc n) (lastEnd w (d .ends)) r k in
     guard (ltb (lastEnd w (d .ends) + suc n) (half w)) 7
-    (then (extend (firstRun w s a) (runCount w s a (suc n)) (d .values))
-    (λ v.
-    done
-    (record {
-      ends = moreEnds (clipped w (endOf w (s .ends)) a (a + suc n) (lastEnd w (d .ends)) (firstRun w s a) (runCount w s a (suc n))) (runCount w s a (suc n)) (d .ends);
-      values = v;
-      gap = min (d .gap) 1;
-    })))
+    (then (extend r k (d .values)) (λ v. done (record { ends = moreEnds new k (d .ends); values = v; gap = min (d .gap) 1 })))
 
 -- the last end is v now
 abbrev pub overEnd : ℕ → ℕ → Mutable (List ℕ) → Mutable (List ℕ)

@@ -42,19 +42,15 @@ sparseNull ids nullable nulls n d = then (home nullable ids) (λ h. sparseWith i
 abbrev pub atChild : {D : ℕ → Type 0} → ℕ → ((c : ℕ) → Try (Mutable (D c))) → ((c : ℕ) → Mutable (D c)) → (c : ℕ) → Mutable (D c)
 atChild c f k e = cond (eqb e c) (after (f e) (k e)) (k e)
 
+-- child c changed, by its own answer; its ids and positions behind those that stand
+abbrev pub denseWith : {D : ℕ → Type 0} → ℕ → ((c : ℕ) → Try (Mutable (D c))) → List ℕ → List ℕ → Denses D → Try (Denses D)
+denseWith c f ids at d = then (f c) (λ x. done (record { buffer1 = d .buffer1 ++ ids; buffer2 = d .buffer2 ++ at; children = atChild c f (d .children) }))
+
 -- "Dense copies one child row per row": its position is the child's length before its copy
 abbrev pub denseRow : {P D : ℕ → Type 0} → ((c : ℕ) → ℕ → ℕ → Mutable (D c) → Try (Mutable (D c))) → Dense P → ℕ → Denses D → Try (Denses D)
 denseRow extend s i d =
     let c = getD (s .ids) i 0 in
-    guard (ltb (d .children c .len) (half 4)) 6
-    (then (extend c (item 4 (s .positions) i) 1 (d .children c))
-    (λ x.
-    done
-    (record {
-      buffer1 = d .buffer1 ++ c ∷ [];
-      buffer2 = d .buffer2 ++ encode 4 (d .children c .len);
-      children = atChild c (λ e. extend e (item 4 (s .positions) i) 1 (d .children e)) (d .children);
-    })))
+    guard (ltb (d .children c .len) (half 4)) 6 (denseWith c (λ e. extend e (item 4 (s .positions) i) 1 (d .children e)) (c ∷ []) (encode 4 (d .children c .len)) d)
 
 abbrev pub denseExtend : {P D : ℕ → Type 0} → ((c : ℕ) → ℕ → ℕ → Mutable (D c) → Try (Mutable (D c))) → Dense P → ℕ → ℕ → Denses D → Try (Denses D)
 denseExtend extend s a n d = stepsT (denseRow extend s) a n d
@@ -67,16 +63,7 @@ positionsFrom p (suc n) = encode 4 p ++ positionsFrom (suc p) n
 abbrev pub denseNull : {D : ℕ → Type 0} → List ℕ → (ℕ → Bool) → ((c : ℕ) → ℕ → Mutable (D c) → Try (Mutable (D c))) → ℕ → Denses D → Try (Denses D)
 denseNull ids nullable nulls n d =
     then (home nullable ids)
-    (λ h.
-    guard (leb (d .children h .len + n) (half 4)) 6
-    (then (nulls h n (d .children h))
-    (λ x.
-    done
-    (record {
-      buffer1 = d .buffer1 ++ replicate n h;
-      buffer2 = d .buffer2 ++ positionsFrom (d .children h .len) n;
-      children = atChild h (λ e. nulls e n (d .children e)) (d .children);
-    }))))
+    (λ h. guard (leb (d .children h .len + n) (half 4)) 6 (denseWith h (λ e. nulls e n (d .children e)) (replicate n h) (positionsFrom (d .children h .len) n) d))
 
 abbrev pub sparseFreeze : {P D : ℕ → Type 0} → ((c : ℕ) → Mutable (D c) → Array (P c)) → Sparses D → Sparse P
 sparseFreeze f d = record { ids = d .buffer1; children = λ c. f c (d .children c) }

@@ -21,31 +21,9 @@ nodesOf state = min (getD state 865 0) 32
 -- "its buffers in the format's order. View data buffers .. have no part": how many have one, by code from 0 on
 abbrev pub bufferCounts : List ℕ
 bufferCounts =
-    0  -- no format
-    ∷ 1  -- c
-    ∷ 1  -- C
-    ∷ 1  -- s
-    ∷ 1  -- S
-    ∷ 1  -- i
-    ∷ 1  -- I
-    ∷ 1  -- l
-    ∷ 1  -- L
-    ∷ 1  -- f
-    ∷ 1  -- g
-    ∷ 2  -- z
-    ∷ 2  -- u
-    ∷ 2  -- Z
-    ∷ 2  -- U
-    ∷ 1  -- vz
-    ∷ 1  -- vu
-    ∷ 2  -- +vl
-    ∷ 2  -- +vL
-    ∷ 1  -- +l
-    ∷ 1  -- +L
-    ∷ 1  -- +us:
-    ∷ 2  -- +ud:
-    ∷ 0  -- +r
-    ∷ []
+    0 ∷ 1 ∷ 1 ∷ 1 ∷ 1 ∷ 1 ∷ 1 ∷ 1 ∷ 1 ∷ 1 ∷ 1  -- no format; c C s S i I l L f g
+    ∷ 2 ∷ 2 ∷ 2 ∷ 2 ∷ 1 ∷ 1  -- z u Z U; vz vu
+    ∷ 2 ∷ 2 ∷ 1 ∷ 1 ∷ 1 ∷ 2 ∷ 0 ∷ []  -- +vl +vL +l +L; +us: +ud: +r
 
 abbrev pub bufferCount : ℕ → ℕ
 bufferCount code = getD bufferCounts code 0

@@ -8,7 +8,8 @@ ghost use Prim.Native.Nat.{ℕ, _+_, _<_, _^_};
 ghost use lib.Dec.{leb, eqb};
 ghost use Rattle.columnar.specs.Types.{Number, limit};
 ghost use Rattle.columnar.specs.Array.{nullCount};
-ghost use Rattle.model.specs.Opening.{anyNull, keeps, sameList, ptrEq, shared, entriesBefore, startOfKeys};
+ghost use Rattle.columnar.specs.Test.{same};
+ghost use Rattle.model.specs.Opening.{anyNull, keeps, ptrEq, shared, entriesBefore, startOfKeys};
 ghost use Rattle.formats.specs.Code.{isInteger};
 ghost use Rattle.formats.specs.Types.{numberOf};
 ghost use Rattle.array_data.specs.Typed.{validStart};
@@ -134,7 +135,7 @@ fn same_starts(
     string: bool,
 ) -> bool
     requires { ⌜ (a < 2 ^ 33) × (b < 2 ^ 33) ⌝ }
-    ensures { λ r. ⌜ r ≡ sameList (startsOf (tables (now (lengths .entry)) (now (places .entry)) (now (body .entry))) string a) (startsOf (tables (now (lengths .entry)) (now (places .entry)) (now (body .entry))) string b) ⌝ }
+    ensures { λ r. ⌜ r ≡ same (startsOf (tables (now (lengths .entry)) (now (places .entry)) (now (body .entry))) string a) (startsOf (tables (now (lengths .entry)) (now (places .entry)) (now (body .entry))) string b) ⌝ }
 {
     let valid = same_valid(lengths, places, body, a, b);
     let first = lent_tables::place(places, a, 3) == lent_tables::place(places, b, 3);

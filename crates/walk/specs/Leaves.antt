@@ -44,20 +44,18 @@ module _ (x : Join) (i : ℕ) where
 
   -- ---- entries of w bytes: numbers, keys with their base added, views with their buffer numbers raised
 
+  -- these bytes, where the source's entries stand in the body
+  abbrev pub putEntries : ℕ → ℕ → ℕ → List ℕ → List ℕ → Out
+  putEntries w slot n new c = need (rowsIn x (place x i 3) w slot n) 12 c (wrote (put i 1 (rows c i * w) new) c)
+
   unfoldable pub copyNumbers : ℕ → ℕ → ℕ → List ℕ → Out
-  copyNumbers w slot n c =
-      need (rowsIn x (place x i 3) w slot n) 12 c
-      (wrote (put i 1 (rows c i * w) (take (w * n) (drop (place x i 3 + w * slot) (x .body)))) c)
+  copyNumbers w slot n c = putEntries w slot n (take (w * n) (drop (place x i 3 + w * slot) (x .body))) c
 
   unfoldable pub copyKeys : ℕ → ℕ → ℕ → List ℕ → Out
-  copyKeys w slot n c =
-      need (rowsIn x (place x i 3) w slot n) 12 c
-      (wrote (put i 1 (rows c i * w) (rebased w (x .body) (place x i 3 + w * slot) (baseOf (x .state) (x .source) i) n)) c)
+  copyKeys w slot n c = putEntries w slot n (rebased w (x .body) (place x i 3 + w * slot) (baseOf (x .state) (x .source) i) n) c
 
   unfoldable pub copyViews : ℕ → ℕ → List ℕ → Out
-  copyViews slot n c =
-      need (rowsIn x (place x i 3) 16 slot n) 12 c
-      (wrote (put i 1 (rows c i * 16) (reviewed (x .body) (place x i 3 + 16 * slot) (baseOf (x .state) (x .source) i) n)) c)
+  copyViews slot n c = putEntries 16 slot n (reviewed (x .body) (place x i 3 + 16 * slot) (baseOf (x .state) (x .source) i) n) c
 
   -- "A null slot is written as zeros"; buffer b
   unfoldable pub nullNumbers : ℕ → ℕ → ℕ → List ℕ → Out

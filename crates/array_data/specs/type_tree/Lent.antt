@@ -8,7 +8,7 @@ use lib.Dec.{eqb}
 use Rattle.columnar.specs.Types.{Number, i8, Plain, fixed, string, Ty, tPlain, tView, tListView, tList, tSparse, tDense, tRunEnd, tDictionary}
 use Rattle.formats.specs.Code.{isFixed, isString, isView, isListView, isList, isUnion, isRunEnd, widthOf}
 use Rattle.formats.specs.Types.{numberOf}
-use Rattle.schema.specs.Tree.{dictionary, endOf, codeOf, idsOf}
+use Rattle.schema.specs.Tree.{dictionary, nullable, endOf, codeOf, idsOf}
 use Rattle.array_data.specs.Typed.{NodeKind, fixedNode, stringNode, viewNode, listViewNode, listNode, sparseNode, denseNode, runEndNode, dictionaryNode, Tree, nodeOf}
 
 -- the number of a code; any where it has none
@@ -51,13 +51,7 @@ module _ (formats schema : List ℕ) (first : ℕ) where
 
 -- THE TREE of n nodes that stands in the table from node `first` on
 abbrev pub treeOf : List ℕ → List ℕ → ℕ → ℕ → Tree
-treeOf formats schema first n =
-    record {
-      count = n;
-      kind = kindAt formats schema first;
-      nullable = Rattle.schema.specs.Tree.nullable schema first;
-      end = endOf schema first n;
-    }
+treeOf formats schema first n = record { count = n; kind = kindAt formats schema first; nullable = nullable schema first; end = endOf schema first n }
 
 -- dictionary values: numbers or byte strings
 abbrev pub plainAs : NodeKind → Plain

@@ -11,7 +11,8 @@ use lib.Dec.{leb, ltb, eqb, eqb·zero-suc, eqb·suc-zero, eqb·suc-suc}
 use borrow.Author.Tests.{le-leb, lt-leb, leb-true, leb-false, eq-eqb, ne-eqb, eqb-true, eqb-false, lt-ltb}
 use Rattle.columnar.specs.Array.{Array, bit, nullsIn, nullCount}
 use Rattle.columnar.specs.Dictionary.{Dictionary}
-use Rattle.model.specs.Opening.{anyNull, sameList, ptrEq, shared}
+use Rattle.columnar.specs.Test.{same as sameList}
+use Rattle.model.specs.Opening.{anyNull, ptrEq, shared}
 use Rattle.bits.specs.Bits.{bits, bitsAt, zeros}
 use Rattle.bits.proofs.Laws.{bit-at, take-bits, drop-bits, length-bits, below-at, below-bits}
 use Rattle.bits.proofs.Puts.{zeros-add}

@@ -86,15 +86,7 @@ module _ (x : Lent) where
 module _ (formats schema sources : List ℕ) (x : Tables) (keep gaps : Bool) (parts : List ℕ) where
   -- what every order is then lent
   abbrev pub opened : Lent
-  opened =
-      record {
-        plan = planned formats schema x sources keep gaps;
-        parts = parts;
-        sources = sources;
-        lengths = x .lengths;
-        places = x .places;
-        body = x .body;
-      }
+  opened = record { plan = planned formats schema x sources keep gaps; parts = parts; sources = sources; lengths = x .lengths; places = x .places; body = x .body }
 
   -- plan, counters and room as they are lent
   module _ (plan counts room : List ℕ) where

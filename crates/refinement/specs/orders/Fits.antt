@@ -1,7 +1,7 @@
 -- Ground 13 in the model's terms: the parts hold a destination's bytes (01: "a part can't hold its bytes after the call, validity
 -- dropped later included"). Assumes nothing.
-use mathlib.Core.Bool.{Bool, true, false, _&&_}
-use mathlib.Core.Option.{Option, none, some}
+use mathlib.Core.Bool.{Bool, true, cond, _&&_}
+use mathlib.Core.Option.{Option}
 use mathlib.Core.List.{List, [], _∷_, _++_}
 use Prim.Native.Nat.{ℕ, suc, _+_, _/_}
 use lib.ListN.{length}
@@ -12,7 +12,7 @@ use Rattle.columnar.specs.Plain.{PlainBody}
 use Rattle.columnar.specs.Reading.{Column, masks}
 use Rattle.columnar.specs.Test.{each}
 use Rattle.model.specs.Try.{Try, done, stop, then, guard, after}
-use Rattle.model.specs.Mutable.{Mutable}
+use Rattle.model.specs.Mutable.{Mutable, keepsBits}
 use Rattle.model.specs.Transform.{Grown, Destination}
 use Rattle.model.specs.Book.{Call, entered}
 use Rattle.model.specs.Orders.{perform}
@@ -37,9 +37,7 @@ buffersOf (tDictionary n p) d = d ∷ []
 module _ (plan parts : List ℕ) where
   -- a bit for each row, where the node keeps nulls and has validity
   abbrev pub fitsBits : ℕ → Bool → Option (List Bool) → ℕ → Bool
-  fitsBits i masks none n = true
-  fitsBits i true (some l) n = leb ((n + 7) / 8) (sizeOf plan parts i 0)
-  fitsBits i false (some l) n = true
+  fitsBits i masks bits n = cond (keepsBits bits && masks) (leb ((n + 7) / 8) (sizeOf plan parts i 0)) true
 
   -- buffers number b + 1, b + 2, .. of node i
   abbrev pub fitsAll : ℕ → ℕ → List (List ℕ) → Bool
@@ -55,10 +53,8 @@ module _ (plan parts : List ℕ) where
   fitsBelow tView i d = true
   fitsBelow (tListView w t) i d = fitsNode (suc i) (masks t) (buffersOf t) (fitsBelow t (suc i)) (d .child)
   fitsBelow (tList w t) i d = fitsNode (suc i) (masks t) (buffersOf t) (fitsBelow t (suc i)) (d .child)
-  fitsBelow (tSparse ids nullable f) i d =
-      each (λ e. fitsNode (childOf plan i e) (masks (f e)) (buffersOf (f e)) (fitsBelow (f e) (childOf plan i e)) (d .children e)) ids
-  fitsBelow (tDense ids nullable f) i d =
-      each (λ e. fitsNode (childOf plan i e) (masks (f e)) (buffersOf (f e)) (fitsBelow (f e) (childOf plan i e)) (d .children e)) ids
+  fitsBelow (tSparse ids nullable f) i d = each (λ e. fitsNode (childOf plan i e) (masks (f e)) (buffersOf (f e)) (fitsBelow (f e) (childOf plan i e)) (d .children e)) ids
+  fitsBelow (tDense ids nullable f) i d = each (λ e. fitsNode (childOf plan i e) (masks (f e)) (buffersOf (f e)) (fitsBelow (f e) (childOf plan i e)) (d .children e)) ids
   fitsBelow (tRunEnd w t) i d =
       leb (length (d .ends .«data»)) (sizeOf plan parts (suc i) 1)
       && fitsNode (suc (suc i)) (masks t) (buffersOf t) (fitsBelow t (suc (suc i))) (d .values)

@@ -55,26 +55,19 @@ module _ (x : Lent) (counts room : List ℕ) where
       (refused 14))
       (refused (o .ans))
 
-  -- "Copy: 1, 2, then as the Rust meets them .., 13 last"; 14 where the counters are not those of a join, or the plan or the room is none that
-  -- an order can be walked in
+  -- 14 where the counters are not those of a join, or the plan or the room is none that an order can be walked in
+  abbrev pub inJoin : After → After
+  inJoin a = cond (eqb (length counts) 96) (cond (walkable (x .plan) (length room)) a (refused 14)) (refused 14)
+
+  -- "Copy: 1, 2, then as the Rust meets them .., 13 last"
   unfoldable pub copyOrder : ℕ → ℕ → ℕ → After
   copyOrder s a e =
-      cond (eqb (length counts) 96)
-      (cond (walkable (x .plan) (length room))
-      (cond (ltb s (sourceCount (x .plan)))
-      (cond (leb a e && leb e (sourceLength x s)) (settled (copyWalk (joinOf x s) 8 0 a (e - a) counts)) (refused 2))
-      (refused 1))
-      (refused 14))
-      (refused 14)
+      inJoin
+      (cond (ltb s (sourceCount (x .plan))) (cond (leb a e && leb e (sourceLength x s)) (settled (copyWalk (joinOf x s) 8 0 a (e - a) counts)) (refused 2)) (refused 1))
 
   -- "Nulls: 3, count 0 accepted, then .., 13 last". No part holds 2^63 rows, and no ground but 13 tells apart larger counts.
   unfoldable pub nullOrder : ℕ → After
-  nullOrder n =
-      cond (eqb (length counts) 96)
-      (cond (walkable (x .plan) (length room))
-      (cond (eqb (keepsOf (x .plan) 0) 0) (refused 3) (settled (nullWalk (joinOf x 0) 8 0 (min n far) counts)))
-      (refused 14))
-      (refused 14)
+  nullOrder n = inJoin (cond (eqb (keepsOf (x .plan) 0) 0) (refused 3) (settled (nullWalk (joinOf x 0) 8 0 (min n far) counts)))
 
   -- one call
   abbrev pub ordered : Call → After
