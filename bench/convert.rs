@@ -1,4 +1,5 @@
-// Times lists of 4,096 rows as list-views and back against plain loops in Rust on the same body, and prints a table. Both sides are first held to the same bytes. Run by bench/run.
+// Times columns of 4,096 rows that are written in another type, wider and narrower, and a list as a list-view and back, against plain loops in Rust
+// on the same body, and prints a table. Both sides are first held to the same bytes. Run by bench/run.
 mod timing;
 
 use std::hint::black_box;
@@ -35,6 +36,7 @@ macro_rules! calls {
 }
 
 calls! {
+    lafkuno_plan_convert lafkuno_convert
     lafkuno_plan_list lafkuno_list
     lafkuno_plan_list_view lafkuno_list_view
 }
@@ -137,6 +139,62 @@ macro_rules! entries {
     };
 }
 
+// Offsets less the first of them in another width, and the bytes between.
+macro_rules! text {
+    ($c:expr, $from:ty, $to:ty) => {{
+        let (offsets, data) = ($c.buffer(0, 1), $c.buffer(0, 2));
+        let (first, last) = (entry!(offsets, OFFSET, $from), entry!(offsets, SLOTS, $from));
+        let rise = entries!(offsets, OFFSET, ROWS, $from).zip(entries!(offsets, OFFSET + 1, ROWS, $from)).fold(true, |r, (a, b)| r & (a <= b));
+        let fits = rise && (last as usize) <= data.len() && (last - first) as u64 <= <$to>::MAX as u64 / 2;
+        fits.then(|| {
+            let out: Vec<$to> = entries!(offsets, OFFSET, ROWS + 1, $from).map(|o| (o - first) as $to).collect();
+            (out, data[first as usize..last as usize].to_vec())
+        })
+    }};
+}
+
+// Keys in another width, 0 under nulls; the bits and the entries copied.
+macro_rules! keys {
+    ($c:expr, $from:ty, $to:ty) => {{
+        let (bits, keys, values) = ($c.buffer(0, 0), $c.buffer(0, 1), $c.buffer(1, 1));
+        let keys = entries!(keys, OFFSET, ROWS, $from);
+        let valid = |k: usize| bits[(OFFSET + k) / 8] >> ((OFFSET + k) % 8) & 1 == 1;
+        let out: Vec<$from> = if bits.is_empty() { keys.collect() } else { keys.enumerate().map(|(k, v)| if valid(k) { v } else { 0 }).collect() };
+        let good = ENTRIES - 1 <= <$to>::MAX as usize && out.iter().fold(true, |g, v| g & ((*v as usize) < ENTRIES));
+        let bits = if bits.is_empty() { vec![] } else { bits[OFFSET / 8..SLOTS.div_ceil(8)].to_vec() };
+        good.then(|| (bits, out.into_iter().map(|v| v as $to).collect::<Vec<$to>>(), values.to_vec()))
+    }};
+}
+
+const ENTRIES: usize = 200;
+
+fn strings<T: timing::Number + TryFrom<u64>>(random: &mut Random, format: &str, to: &str) -> Column
+where
+    T::Error: std::fmt::Debug,
+{
+    let mut end = 3u64;
+    let offsets: Vec<T> = (0..=SLOTS).map(|_| (end, end += random.below(16)).0.try_into().unwrap()).collect();
+    let data: Vec<u8> = (0..end).map(|_| random.next() as u8).collect();
+    let mut column = Column::default();
+    column.node(format, [0, 0], ROWS, OFFSET, &[], &[bytes(&offsets), &data]);
+    column.becomes(&[to], lafkuno_plan_convert);
+    column
+}
+
+fn dictionary<T: timing::Number + TryFrom<u64>>(random: &mut Random, format: &str, to: &str, nulls: u64) -> Column
+where
+    T::Error: std::fmt::Debug,
+{
+    let keys: Vec<T> = (0..SLOTS).map(|_| random.below(ENTRIES as u64).try_into().ok().unwrap()).collect();
+    let mut bits = vec![0u8; if nulls == 0 { 0 } else { SLOTS.div_ceil(8) }];
+    (0..SLOTS).filter(|_| nulls != 0 && random.below(nulls) != 0).for_each(|i| bits[i / 8] |= 1 << (i % 8));
+    let mut column = Column::default();
+    column.node(format, [0, 1], ROWS, OFFSET, &bits, &[bytes(&keys)]);
+    column.node("L", [0, 0], ENTRIES, 0, &[], &[bytes(&(0..ENTRIES as u64).collect::<Vec<_>>())]);
+    column.becomes(&[to, "L"], lafkuno_plan_convert);
+    column
+}
+
 // Lists of four numbers of four bytes, each row behind the one before.
 fn lists(random: &mut Random, format: &str, to: &str, views: bool, ask: Asks) -> Column {
     let offsets: Vec<u32> = (0..=SLOTS as u32).map(|k| 4 * k).collect();
@@ -171,6 +229,30 @@ fn plain_list(c: &Column) -> Option<(Vec<u32>, Vec<u8>)> {
     Some((ends, out))
 }
 
+// Offsets and sizes in another width, and the whole child.
+macro_rules! stretches {
+    ($c:expr, $from:ty, $to:ty) => {{
+        let (offsets, sizes, child) = ($c.buffer(0, 1), $c.buffer(0, 2), $c.buffer(1, 1));
+        let both = || entries!(offsets, OFFSET, ROWS, $from).zip(entries!(sizes, OFFSET, ROWS, $from));
+        let most = (child.len() as u64).min(<$to>::MAX as u64 / 2);
+        let good = both().fold(true, |g, (a, b)| g & ((a as u64).saturating_add(b as u64) <= most));
+        good.then(|| (both().map(|(a, _)| a as $to).collect::<Vec<$to>>(), both().map(|(_, b)| b as $to).collect::<Vec<$to>>(), child.to_vec()))
+    }};
+}
+
+fn views<T: timing::Number + TryFrom<u64>>(format: &str, to: &str) -> Column
+where
+    T::Error: std::fmt::Debug,
+{
+    let offsets: Vec<T> = (0..SLOTS as u64).map(|k| (k / 2).try_into().unwrap()).collect();
+    let sizes: Vec<T> = (0..SLOTS as u64).map(|k| (k % 5).try_into().unwrap()).collect();
+    let mut column = Column::default();
+    column.node(format, [1, 0], ROWS, OFFSET, &[], &[bytes(&offsets), bytes(&sizes)]);
+    column.node("C", [0, 0], SLOTS, 0, &[], &[&vec![7u8; SLOTS]]);
+    column.becomes(&[to, "C"], lafkuno_plan_convert);
+    column
+}
+
 // The same bytes on both sides, then their times.
 macro_rules! row {
     ($name:expr, $goal:expr, $column:expr, $write:expr, $plain:expr, $($part:tt => $p:expr),*) => {{
@@ -188,6 +270,14 @@ fn main() {
     let mut r = Random(88172645463325252);
     println!("| {ROWS} rows, offset {OFFSET} | port, ns | plain Rust, ns | ratio | goal | |");
     println!("|---|---|---|---|---|---|");
+    row!("byte strings, 32 to 64 bits", 1.2, strings::<u32>(&mut r, "u", "U"), lafkuno_convert, |c: &Column| text!(c, u32, u64), 0 => 0, 1 => 1);
+    row!("byte strings, 64 to 32 bits", 1.2, strings::<u64>(&mut r, "U", "u"), lafkuno_convert, |c: &Column| text!(c, u64, u32), 0 => 0, 1 => 1);
+    row!("keys, 8 to 32 bits", 1.2, dictionary::<u8>(&mut r, "C", "I", 0), lafkuno_convert, |c: &Column| keys!(c, u8, u32), 1 => 0, 2 => 1);
+    row!("keys, 32 to 8 bits", 1.2, dictionary::<u32>(&mut r, "I", "C", 0), lafkuno_convert, |c: &Column| keys!(c, u32, u8), 1 => 0, 2 => 1);
+    row!("keys, 64 to 16 bits", 1.2, dictionary::<u64>(&mut r, "L", "S", 0), lafkuno_convert, |c: &Column| keys!(c, u64, u16), 1 => 0, 2 => 1);
+    row!("keys, 64 to 16 bits, one in eight null", 1.2, dictionary::<u64>(&mut r, "L", "S", 8), lafkuno_convert, |c: &Column| keys!(c, u64, u16), 0 => 0, 1 => 1, 2 => 2);
+    row!("list-views, 32 to 64 bits", 1.2, views::<u32>("+vl", "+vL"), lafkuno_convert, |c: &Column| stretches!(c, u32, u64), 0 => 0, 1 => 1, 2 => 2);
+    row!("list-views, 64 to 32 bits", 1.2, views::<u64>("+vL", "+vl"), lafkuno_convert, |c: &Column| stretches!(c, u64, u32), 0 => 0, 1 => 1, 2 => 2);
     row!("list to list-view", NO_GOAL, lists(&mut r, "+l", "+vl", false, lafkuno_plan_list_view), lafkuno_list_view, plain_view, 0 => 0, 1 => 1);
     row!("list-view to list, four numbers a row", NO_GOAL, lists(&mut r, "+vl", "+l", true, lafkuno_plan_list), lafkuno_list, plain_list, 0 => 0, 1 => 1);
 }

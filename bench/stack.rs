@@ -1,10 +1,11 @@
-// The largest stack that each call uses: random joins, one in thirteen of depth 8, whose calls run over a painted stack. Run by bench/run;
-// built by cargo with bindings/rust.
+// The largest stack that each call uses: random joins, one in thirteen of depth 8, and as many columns that are written in another type, whose
+// calls run over a painted stack. Run by bench/run; built by cargo with bindings/rust.
 
-use lafkuno::calls::{self, FinishedTables, COUNTERS, PLAN, TREE};
+use lafkuno::calls::{self, FinishedTables, Into, COUNTERS, PLAN, TREE};
 use lafkuno::Lent;
 use std::collections::BTreeMap;
 use std::hint::black_box;
+use trials::conversions::{laid, Laid};
 use trials::generate::{orders, Generate, Order};
 use trials::random::Random;
 
@@ -93,11 +94,40 @@ fn join(seed: u64, most: &mut Most) {
     }
 }
 
+fn conversion(seed: u64, most: &mut Most) {
+    let Laid { into, lent, target: t, .. } = laid(&mut Random::new(seed)).unwrap();
+    let x = lent.tables();
+    let (ask, write) = match into {
+        Into::List => ("plan_list", "list"),
+        Into::ListView => ("plan_list_view", "list_view"),
+        Into::Widths => ("plan_convert", "convert"),
+    };
+    let (mut plan, mut counters) = ([0; PLAN], [0; COUNTERS]);
+    if most.note(ask, || calls::plan_convert(into, &x, t, &mut plan, &mut counters)) != 0 {
+        return;
+    }
+    let (mut parts, mut end) = (vec![], 0);
+    for p in 0..calls::part_count(&plan) {
+        let size = calls::needed_bytes(&plan, &counters, p as u32);
+        parts.extend([end, size]);
+        end += size;
+    }
+    let mut room = vec![0; end as usize];
+    assert_eq!(most.note(write, || calls::convert(into, &x, t, &parts, &mut plan, &mut counters, &mut room)), 0);
+    if into == Into::ListView {
+        let n = t.n as usize;
+        let (mut lengths, mut nulls, mut places) = (vec![0; 2 * n], vec![0; n], vec![0; 9 * n]);
+        let mut out = FinishedTables { lengths: &mut lengths, nulls: &mut nulls, places: &mut places, buffers: &mut [] };
+        assert_eq!(most.note("list_view_child", || calls::list_view_child(&x, t.first, t.n, &mut out)), 0);
+    }
+}
+
 fn main() {
     let run = || {
         let mut most = Most(BTreeMap::new());
         (1..=JOINS).for_each(|seed| join(seed, &mut most));
-        println!("| {JOINS} random joins, seeds 1 to {JOINS} | most stack of a call, bytes |");
+        (1..=JOINS).for_each(|seed| conversion(seed, &mut most));
+        println!("| {JOINS} random joins and conversions, seeds 1 to {JOINS} | most stack of a call, bytes |");
         println!("|---|---|");
         most.0.iter().for_each(|(name, bytes)| println!("| {name} | {bytes} |"));
     };

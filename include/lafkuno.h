@@ -485,6 +485,38 @@ uint8_t lafkuno_list_view_child(const uint8_t *formats, size_t formats_len, cons
                                 uint32_t first, uint32_t n, uint64_t *new_lengths, size_t new_lengths_len,
                                 uint64_t *new_nulls, size_t new_nulls_len, uint64_t *new_places, size_t new_places_len);
 
+/* ---- other widths of offsets, sizes, run ends and keys */
+
+/* Before any room is lent: a column in other widths, wider or narrower: byte strings, lists and list-views with offsets of 32 or 64 bits, run ends of
+ * s, i or l, keys of any integer format, each node by itself. The result is laid out as by one copy of the column's rows, save that a list-view or
+ * dense union keeps its children's rows, offsets, sizes and positions as they are; keys under nulls become 0, and all entries are copied into parts.
+ * 9, 10 and 12 for a malformed column, then 10 for a target that differs in more than these widths; in tree order 6, 7 or 8 where in the result an
+ * offset or size, null rows' too, a run end, or the entry count less one (at least 0) does not fit; last 14 where plan and counters have not
+ * LAFKUNO_PLAN and LAFKUNO_COUNTERS numbers. A column that was widened, laid with its view buffers in one body, is narrowed back where each
+ * dictionary's entry count less one fits its first key type.
+ *   first, n          the column's first node in the tables and how many nodes it has.
+ *   target, target_n  the result's type in the same schema, likewise; flags are compared but for the root's and those of dictionary values. The
+ *                     column's own nodes are a target too.
+ *   plan              is written, and so is counters, where the answer is 0. */
+uint8_t lafkuno_plan_convert(const uint8_t *formats, size_t formats_len, const uint32_t *schema, size_t schema_len,
+                             const uint64_t *lengths, size_t lengths_len, const uint64_t *places, size_t places_len,
+                             const uint64_t *buffers, size_t buffers_len, const uint8_t *body, size_t body_len,
+                             uint32_t first, uint32_t n, uint32_t target, uint32_t target_n, uint64_t *plan, size_t plan_len,
+                             uint64_t *counters, size_t counters_len);
+
+/* Writes it: 9 also where the room is too large, then the grounds of the question, 14 of the parts, and 13 last. A refusal changes nothing.
+ * lafkuno_finish finishes the result, with first and n as its one source: target_n nodes, which can be lent again over a body that has the room
+ * behind the old body, where the data buffers of views still are.
+ *   parts     as for lafkuno_open.
+ *   plan      is written; its numbers before are not read, nor are those of counters.
+ *   room      is written in the parts. */
+uint8_t lafkuno_convert(const uint8_t *formats, size_t formats_len, const uint32_t *schema, size_t schema_len,
+                        const uint64_t *lengths, size_t lengths_len, const uint64_t *places, size_t places_len,
+                        const uint64_t *buffers, size_t buffers_len, const uint8_t *body, size_t body_len,
+                        uint32_t first, uint32_t n, uint32_t target, uint32_t target_n, const uint64_t *parts, size_t parts_len,
+                        uint64_t *plan, size_t plan_len, uint64_t *counters, size_t counters_len,
+                        uint8_t *room, size_t room_len);
+
 #ifdef __cplusplus
 }
 #endif

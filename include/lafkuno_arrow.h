@@ -148,9 +148,10 @@ LAFKUNO_API int lafkuno_join_batches(const struct lafkuno_source *batches, size_
                                      size_t order_count, const struct lafkuno_options *options, struct ArrowSchema *schema,
                                      struct ArrowArray *array, struct lafkuno_error *error);
 
-/* A column's rows in another type: a list as a list-view of the same width, or back. Rows read as before. What the rows do not reach is left out, as
- * in a join. Answers 0 and writes schema and array, or answers error->code and writes nothing else: 10 for any other column or type, 6 or 7 where an
- * offset or a run end of the list does not fit.
+/* A column's rows in another type. In other widths: byte strings, lists and list-views with offsets of 32 or 64 bits, run ends of 16, 32 or 64, keys
+ * of any integer format, each node by itself; or a list as a list-view of the same width and back, at the root. Rows read as before. The parts of
+ * lists, list-views and unions that the rows do not reach are left out, as in a join. Answers 0 and writes schema and array, or answers error->code
+ * and writes nothing else: 10 for a type that differs in more, 6, 7 or 8 where an offset or size, a run end or the entry count less one does not fit.
  *   type      the type of the result, with its names and metadata; flags below the root are the column's own.
  *   options   may be NULL. Of them most_rows counts, where list-views become lists: their rows may overlap.
  *   schema    may be NULL: a copy of type, nullable where the column is.

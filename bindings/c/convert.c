@@ -1,4 +1,4 @@
-/* One column in another type, over the calls of lafkuno.h: a list as a list-view and back. */
+/* One column in another type, over the calls of lafkuno.h: other widths, or a list as a list-view and back. */
 #include "layer.h"
 
 #include <inttypes.h>
@@ -11,9 +11,9 @@ typedef uint8_t writes(const uint8_t *, size_t, const uint32_t *, size_t, const 
                        size_t, const uint8_t *, size_t, uint32_t, uint32_t, uint32_t, uint32_t, const uint64_t *, size_t, uint64_t *, size_t,
                        uint64_t *, size_t, uint8_t *, size_t);
 
-enum way { TO_LIST, TO_LIST_VIEW, NO_WAY };
-static asks *const ask_calls[] = {lafkuno_plan_list, lafkuno_plan_list_view, lafkuno_plan_list};
-static writes *const write_calls[] = {lafkuno_list, lafkuno_list_view, lafkuno_list};
+enum way { TO_LIST, TO_LIST_VIEW, TO_WIDTHS };
+static asks *const ask_calls[] = {lafkuno_plan_list, lafkuno_plan_list_view, lafkuno_plan_convert};
+static writes *const write_calls[] = {lafkuno_list, lafkuno_list_view, lafkuno_convert};
 
 /* The nodes of a type in depth-first order. */
 struct type {
@@ -34,14 +34,14 @@ struct conversion {
 
 /* ---- the type */
 
-/* Kinds of lists at the root, of the same width; any other pair is refused with 10. */
+/* Kinds of lists at the root, of the same width; else widths. */
 static enum way way_of(const char *from, const char *to) {
     static const char *const pairs[][2] = {{"+l", "+vl"}, {"+L", "+vL"}};
     for (int k = 0; k < 2; k++) {
         if (!strcmp(from, pairs[k][0]) && !strcmp(to, pairs[k][1])) return TO_LIST_VIEW;
         if (!strcmp(from, pairs[k][1]) && !strcmp(to, pairs[k][0])) return TO_LIST;
     }
-    return NO_WAY;
+    return TO_WIDTHS;
 }
 
 static int type_node(struct report *report, const struct ArrowSchema *s, int depth, struct type *type) {
@@ -55,6 +55,15 @@ static int type_node(struct report *report, const struct ArrowSchema *s, int dep
     return code;
 }
 
+/* Whether a format becomes another one: the same, or another width of a byte string, a list, a list-view, a key or a run end. */
+static bool other_width(const char *a, const char *b, bool keys, bool ends) {
+    size_t n = strlen(a);
+    if (!strcmp(a, b)) return true;
+    if (keys || ends) return n == 1 && strlen(b) == 1 && strchr(keys ? "cCsSiIlL" : "sil", *a) && strchr(keys ? "cCsSiIlL" : "sil", *b);
+    if (!n || strlen(b) != n || memcmp(a, b, n - 1) || (a[n - 1] ^ b[n - 1]) != ('a' ^ 'A')) return false;
+    return (n == 1 && strchr("zZuU", *a)) || !strcmp(a, "+l") || !strcmp(a, "+L") || !strcmp(a, "+vl") || !strcmp(a, "+vL");
+}
+
 /* A walk over the column's type and the one that it is to become. */
 struct pair {
     struct report *report;
@@ -63,16 +72,19 @@ struct pair {
 };
 
 /* Refuses with 10 the first node that does not become the other, logical types included, which the calls of lafkuno.h don't see. */
-static int becomes(struct pair *pair, const struct ArrowSchema *a, const struct ArrowSchema *b, bool flagged) {
+static int becomes(struct pair *pair, const struct ArrowSchema *a, const struct ArrowSchema *b, bool flagged, bool ends) {
     int64_t node = pair->nodes++;
-    bool same = node ? !strcmp(a->format, b->format) : pair->way != NO_WAY;
+    bool root = node == 0 && pair->way != TO_WIDTHS;
+    bool same = root || (pair->way == TO_WIDTHS ? other_width(a->format, b->format, a->dictionary, ends) : !strcmp(a->format, b->format));
     at_node(pair->report, node, a);
     if (!same || a->n_children != b->n_children || !a->dictionary != !b->dictionary)
         return refuse(pair->report, LAFKUNO_UNKNOWN_TYPE, "it does not become '%.60s'", b->format);
     if (flagged && (a->flags ^ b->flags) & ARROW_FLAG_NULLABLE)
         return refuse(pair->report, LAFKUNO_UNKNOWN_TYPE, "it is nullable in one of the column's type and the other only");
-    int code = a->dictionary ? becomes(pair, a->dictionary, b->dictionary, false) : 0;
-    for (int64_t k = 0; !code && k < a->n_children; k++) code = becomes(pair, a->children[k], b->children[k], node != 0);
+    int code = a->dictionary ? becomes(pair, a->dictionary, b->dictionary, false, false) : 0;
+    bool runs = !strcmp(a->format, "+r");
+    for (int64_t k = 0; !code && k < a->n_children; k++)
+        code = becomes(pair, a->children[k], b->children[k], node || pair->way == TO_WIDTHS, runs && !k);
     return code;
 }
 
@@ -145,7 +157,7 @@ static int refuse_conversion(struct conversion *c, int ground) {
     struct column *column = &c->column;
     struct pair pair = {column->report, c->way, 0};
     if (ground && lafkuno_tables_ground(&column->tables, 0, column->import.sources[1]) == ground) return refuse_sources(column, ground);
-    int code = becomes(&pair, c->from, c->to, false);
+    int code = becomes(&pair, c->from, c->to, false, false);
     if (code) return code;
     at_no_node(column->report);
     return ground ? refuse_plainly(column->report, ground) : 0;

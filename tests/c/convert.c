@@ -1,4 +1,4 @@
-/* A list as a list-view and back (02, W4): a sliced list first, null rows over stops, rows that overlap, children of every kind, sums one above the
+/* A list as a list-view and back (02, W4), and a column in other widths (02, W13: convert_widths.c): a sliced list first, null rows over stops, rows that overlap, children of every kind, sums one above the
  * limit, and grounds that meet. A line has what was asked, and the parts of the result with its rows, which are read again and are the column's; or
  * the ground.
  *     cc -I include tests/c/convert*.c tests/c/column.c tests/c/lent.c -L target/staticlib -llafkuno -llafkuno_anew -o convert
@@ -6,9 +6,6 @@
  * Every slice is lent at its own size between guards; with --bare there are none, and valgrind sees every step outside. */
 #include "convert.h"
 #include <string.h>
-
-/* A node of a type alone. */
-static void type(struct column *c, const char *format, uint32_t children) { node(c, format, children, 0, 0); }
 
 /* Five numbers below a list, the fourth null. */
 static void five(struct column *c) {
@@ -281,5 +278,6 @@ int main(int count, char **arguments) {
     limits();
     deep();
     grounds();
+    show_widths();
     return 0;
 }

@@ -4,7 +4,7 @@
 #include <string.h>
 
 enum { PARTS, PLAN, COUNTERS, ROOM, NEW_LENGTHS, NEW_NULLS, NEW_PLACES, NEW_BUFFERS, OWN };
-enum { MARK = 0xaa, TEXT = 4096 };
+enum { MARK = 0xaa, TEXT = 4096, MOST_DIGITS = 128 };
 
 /* What a call writes or is told of parts, each between guards like the tables. */
 static struct slice own[OWN];
@@ -18,8 +18,10 @@ typedef uint8_t does(const uint8_t *, size_t, const uint32_t *, size_t, const ui
                      const uint8_t *, size_t, uint32_t, uint32_t, uint32_t, uint32_t, const uint64_t *, size_t, uint64_t *, size_t, uint64_t *,
                      size_t, uint8_t *, size_t);
 
-static asks *const ask_calls[] = {lafkuno_plan_list, lafkuno_plan_list_view};
-static does *const write_calls[] = {lafkuno_list, lafkuno_list_view};
+static asks *const ask_calls[] = {lafkuno_plan_list, lafkuno_plan_list_view, lafkuno_plan_convert};
+static does *const write_calls[] = {lafkuno_list, lafkuno_list_view, lafkuno_convert};
+
+void type(struct column *c, const char *format, uint32_t children) { node(c, format, children, 0, 0); }
 
 /* Sizes of its own, filled with marks. */
 static void fresh(int k, size_t size) {
@@ -84,7 +86,8 @@ static void show_parts(void) {
     for (uint32_t p = 0; p < own[PARTS].size / 16; p++) {
         uint64_t at = own_longs(PARTS)[2 * p], n = own_longs(PARTS)[2 * p + 1];
         printf(" %llu.%llu=", (unsigned long long)lafkuno_part_node(OWN_LONGS(PLAN), p), (unsigned long long)lafkuno_part_buffer(OWN_LONGS(PLAN), p));
-        for (uint64_t i = 0; i < n; i++) printf("%02x", own[ROOM].start[at + i]);
+        for (uint64_t i = 0; i < n && n <= MOST_DIGITS; i++) printf("%02x", own[ROOM].start[at + i]);
+        if (MOST_DIGITS < n) printf("(%llu bytes)", (unsigned long long)n);
         if (own[ROOM].start[at - 1] != MARK || own[ROOM].start[at + n] != MARK) fputs(" WROTE BESIDE", stdout);
     }
 }
@@ -214,6 +217,25 @@ void show_wrong(const char *what, const struct column *c, enum way way, struct p
 }
 
 void show(const char *what, const struct column *c, enum way way, struct pair p) { show_wrong(what, c, way, p, (struct wrong){0, 0, 0, 0}); }
+
+void show_back(const char *what, const struct column *c, enum way way, struct pair p) {
+    static char before[TEXT], after[TEXT];
+    const struct pair back = {p.target, p.target_n, p.first, p.n};
+    if (made(what, c, way, p, (struct wrong){0, 0, 0, 0}) != FINE) return;
+    put_rows(before, p.first);
+    uint8_t ground = finish_and_lend(way, p);
+    if (ground == FINE) ground = asked(way, back, 0);
+    if (ground == FINE) {
+        lend_parts((struct wrong){0, 0, 0, 0});
+        ground = written(way, back);
+    }
+    if (ground == FINE) {
+        show_parts();
+        ground = finish_and_lend(way, back);
+    }
+    put_rows(after, back.target);
+    printf(" %d |%s%s\n", ground, after, strcmp(before, after) ? " READS OTHERWISE" : "");
+}
 
 void show_ground(const char *what, const struct column *c, enum way way, struct pair p) {
     if (made(what, c, way, p, (struct wrong){0, 0, 0, 0}) != FINE) return;

@@ -1,7 +1,7 @@
 """Joins ranges of Arrow columns, or of record batches, into one.
 
     joined = lafkuno.join([a, b], [lafkuno.rows(0, 10, 20), lafkuno.gap(1), lafkuno.rows(1, 0, 5)], keep_nulls=True)
-    views = lafkuno.convert(lists, type)
+    narrow = lafkuno.convert(joined, type)
 
 Sources are any objects of the Arrow PyCapsule protocol (`__arrow_c_array__`), and the result is one: arrays and record batches of any
 Arrow implementation go in and out without further code. All orders are carried out, or none: then `lafkuno.Error` says where and why.
@@ -131,7 +131,8 @@ def join(sources, orders, *, keep_nulls=False, one_run_for_gaps=False, most_rows
 def convert(source, type, *, most_rows=0):
     """The rows of a column in another type, which is any object with `__arrow_c_schema__`.
 
-    A list as a list-view of the same width, or back. Rows read as before.
+    Other widths: byte strings, lists and list-views with offsets of 32 or 64 bits, run ends of 16, 32 or 64, keys of any integer type; or a list
+    as a list-view of the same width, or back. Rows read as before.
     most_rows: the most rows that any node may come to where list-views become lists; 0 stands for 2 ** 32.
     """
     if not hasattr(type, "__arrow_c_schema__"):

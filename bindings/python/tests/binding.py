@@ -53,13 +53,18 @@ def test_another_type():
     item = Column(Type("u", True, name="item"), 3, 0, [b"\x05", struct.pack("<4i", 0, 2, 2, 5), b"abcde"])
     trips = Column(Type("+l", True, [item.type], name="stops"), 2, 1, [b"\x06", struct.pack("<4i", 0, 1, 1, 3)], [item])
     rows = [[], [None, b"cde"]]
-    new = lafkuno.convert(trips, Schema(Type("+vl", True, [item.type], name="stops")))
-    assert (new.format, read_all(new), read_all(trips)) == ("+vl", rows, rows)
-    back = lafkuno.convert(new, Schema(trips.type))
-    assert (back.format, read_all(back)) == ("+l", rows)
-    assert read_all(lafkuno.join([back], [(0, 1, 2)])) == rows[1:]
-    error = refused(lambda: lafkuno.convert(trips, Schema(Type("+vl", True, [Type("z", True)]))), "node 1 'item' (u): it does not become 'z' (ground 10)")
+    for format, code in [("+vl", "i"), ("+L", "q")]:
+        new = lafkuno.convert(trips, Schema(Type(format, True, [item.type], name="stops")))
+        assert (new.format, read_all(new), read_all(trips)) == (format, rows, rows)
+    wide = lafkuno.convert(trips, Schema(Type("+L", True, [Type("U", True, name="item")])))
+    assert read_all(lafkuno.convert(wide, Schema(trips.type))) == rows
+    assert read_all(lafkuno.join([lafkuno.convert(wide, Schema(trips.type))], [(0, 1, 2)])) == rows[1:]
+    error = refused(lambda: lafkuno.convert(trips, Schema(Type("+l", True, [Type("z", True)]))), "node 1 'item' (u): it does not become 'z' (ground 10)")
     assert (error.code, error.node) == (10, 1)
+    ends = Column(Type("i", name="run_ends"), 1, 0, [None, struct.pack("<i", 32768)])
+    runs = Column(Type("+r", children=[ends.type, Type("i", True, name="values")], name="ignition"), 32768, 0, [], [ends, i32([7], name="values")])
+    short = Type("+r", children=[Type("s", name="run_ends"), Type("i", True, name="values")])
+    assert refused(lambda: lafkuno.convert(runs, Schema(short)), "a run end does not fit its type (ground 7)").code == 7
     try:
         lafkuno.convert(trips, "+vl")
     except TypeError as error:

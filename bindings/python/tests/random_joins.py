@@ -172,31 +172,46 @@ def expected_batch(columns, orders, types, nullable):
     return out
 
 
+WIDTHS = {"z": "zZ", "Z": "zZ", "u": "uU", "U": "uU", "+l": ["+l", "+L"], "+L": ["+l", "+L"], "+vl": ["+vl", "+vL"], "+vL": ["+vl", "+vL"]}
 KINDS = {"+l": "+vl", "+L": "+vL", "+vl": "+l", "+vL": "+L"}
 
 
+def other_widths(r, type):
+    format = r.choice("cCsSiIlL" if type.dictionary else WIDTHS.get(type.format, [type.format]))
+    children = [other_widths(r, child) for child in type.children]
+    if type.format == "+r":
+        children[0].format = r.choice("sil")
+    dictionary = type.dictionary and other_widths(r, type.dictionary)
+    return Type(format, type.nullable, children, dictionary, type.name, type.metadata, type.ordered)
+
+
 def one_conversion(r):
-    """A slice of a list as the other kind of list, and back; the rows are those of the slice. Damaged ones are refused, or read the same."""
+    """A slice in other widths, or the other kind of list, and back; the rows are those of the slice. Damaged ones are refused, or read the same."""
     type = random_type(r)
-    type = Type(r.choice(list(KINDS)), r.random() < 0.6, [type], name="list")
     whole = fill(r, type, r.randrange(40))
     start = r.randrange(whole.length + 1)
     column = whole.slice(start, r.randrange(whole.length - start + 1))
-    other = Type(KINDS[type.format], type.nullable, type.children, name=type.name, metadata=type.metadata)
+    other = other_widths(r, type)
+    if type.format in KINDS and r.random() < 0.5:
+        other = Type(KINDS[type.format], type.nullable, type.children, name=type.name, metadata=type.metadata)
     damaged = r.random() < 0.3
     if damaged:
         damage(r, column)
     try:
         new = lafkuno.convert(column, Schema(other))
     except lafkuno.Error as error:
-        assert damaged and error.code == 12, (error, type.format)
+        few = error.code == 8 and any(n.dictionary and n.format in "cC" for n in other.nodes())
+        assert few or (damaged and error.code == 12), (error, type.format)
         assert "breaks the rules" not in str(error), "a refused column without its row"
         return "refused"
     wanted = read_all(column)
     assert read_all(new) == wanted, (type.format, other.format, wanted, read_all(new))
     capsule = new.__arrow_c_schema__()
     assert describe(unwrap(capsule, SCHEMA)) == describe(Schema(other).struct)
-    assert read_all(lafkuno.convert(new, Schema(type))) == wanted
+    try:
+        assert read_all(lafkuno.convert(new, Schema(type))) == wanted
+    except lafkuno.Error as error:
+        assert may_be_refused(type, error.code), (error, type.format)
     del column, whole
     assert read_all(new) == wanted
     return "joined"

@@ -1,9 +1,10 @@
-//! A column's rows in another type: a list as a list-view and back.
+//! A column's rows in another type: a list as a list-view and back, and other widths of offsets, sizes, run ends and keys.
 
 use crate::buffer::zeros;
 use crate::calls::{self, FinishedTables, Into, Position, Tables, Target, COUNTERS, PLAN};
+use crate::types::Kind;
 use crate::work::Work;
-use crate::{anew, unfit, Buffer, Column, Error, Field, Lent, Type};
+use crate::{anew, unfit, Buffer, Column, Error, Field, Ground, Lent, Type};
 
 /// A column without rows of a type; its names, and what else a schema says, are those of `like`. A root and a dictionary's values may hold nulls
 /// where either says so; the flags of other nodes are the type's.
@@ -54,7 +55,12 @@ fn written(column: &Column, to: &Type, into: Into, lay: fn(&[&Column]) -> Result
         Work::new(&lent).add(&lent, std::iter::empty(), 0, &(0..column.length))?;
     }
     let (mut plan, mut counters) = ([0; PLAN], [0; COUNTERS]);
-    Error::check(calls::plan_convert(into, &x, t, &mut plan, &mut counters)).map_err(tell)?;
+    let answer = calls::plan_convert(into, &x, t, &mut plan, &mut counters);
+    // logical types are not in the tables
+    if matches!(answer, 0 | 6 | 7 | 8) && unfit::is_other_type(column, to, into) {
+        return Err(tell(Error::Refused(Ground::UnknownType)));
+    }
+    Error::check(answer).map_err(tell)?;
     let (parts, bytes) = anew::parts(&plan, &counters)?;
     let mut room = zeros(bytes).ok_or(Error::TooLarge { bytes })?;
     Error::check(calls::convert(into, &x, t, &parts, &mut plan, &mut counters, &mut room)).map_err(tell)?;
@@ -86,12 +92,18 @@ impl Column {
         self.as_list_view(&self.other_list())
     }
 
-    /// The column's rows in another type: a list-view as a list of the same width, or a list as a list-view ([`Column::to_list`],
-    /// [`Column::to_list_view`]). Below the root the types are the same. Any other type is refused with 10.
+    /// The column's rows in another type. That is one of its own widths otherwise: byte strings, lists and list-views with offsets of 32 or 64 bits,
+    /// run ends of 16, 32 or 64, keys of any integer format; or the other kind of list at the root, of the same width ([`Column::to_list`],
+    /// [`Column::to_list_view`]). Rows read as before.
+    ///
+    /// In other widths the result is laid out as by one copy of the rows, save that a list-view or dense union keeps its children's rows, offsets,
+    /// sizes and positions; keys under nulls become 0, and all entries are copied. Refused with 10 for a type that differs in more than the widths,
+    /// then, in tree order, with 6, 7 or 8 where in the result an offset or size, a run end, or the entry count less one does not fit.
     pub fn convert(&self, to: &Type) -> Result<Column, Error> {
-        match to.format.as_str() {
-            "+vl" | "+vL" => self.as_list_view(to),
-            _ => self.as_list(to),
+        match other_kind(&self.format) {
+            Some(format) if format == to.format && format.starts_with("+v") => self.as_list_view(to),
+            Some(format) if format == to.format => self.as_list(to),
+            _ => self.in_widths(to),
         }
     }
 
@@ -103,6 +115,13 @@ impl Column {
 
     fn as_list(&self, to: &Type) -> Result<Column, Error> {
         let Written { lent, plan, counters, parts, room } = written(self, to, Into::List, Lent::lay)?;
+        anew::raised(&lent, alone(&lent), (lent.sources[2], lent.sources[3]), &plan, &parts, &counters, room)
+    }
+
+    fn in_widths(&self, to: &Type) -> Result<Column, Error> {
+        // trimming changes which rows a list-view or a union has below, and the bytes of views
+        let flat = matches!(self.ty().kind(), Kind::Fixed | Kind::Strings | Kind::Dictionary);
+        let Written { lent, plan, counters, parts, room } = written(self, to, Into::Widths, if flat { Lent::lay } else { Lent::lay_whole })?;
         anew::raised(&lent, alone(&lent), (lent.sources[2], lent.sources[3]), &plan, &parts, &counters, room)
     }
 

@@ -192,6 +192,8 @@ fn the_command() {
         assert_eq!(status, Some(0));
         assert!(out.starts_with(&format!("# {ty}\n{rows}\nnode 0 ")) && out.contains(&format!("  buffer 1 {offsets}\n")), "{out}");
     }
+    let (status, out, _) = run(&["stops.columns", "lists", "+L?(U?)"]);
+    assert_eq!((status, out), (Some(0), format!("# +L?(U?)\n{rows}")));
     let (status, out, told) = run(&["stops.columns", "lists", "+vL?(u?)"]);
     assert_eq!((status, out.as_str()), (Some(1), ""));
     assert!(told.contains("ground 10") && told.contains("node 0"), "{told}");

@@ -5,6 +5,7 @@ use crate::damage::Answers;
 use crate::generate::Generate;
 use crate::memory::{Call, Memory};
 use crate::random::Random;
+use crate::widths::otherwise;
 use lafkuno::calls::{self, Into, Target, COUNTERS, PLAN};
 use lafkuno::{Column, Lent, Type};
 
@@ -21,6 +22,11 @@ fn described(ty: &Type) -> Column {
 
 /// The call of a seed, the column's type and the result's.
 fn types(generate: &mut Generate) -> (Into, Type, Type) {
+    if generate.random.chance(50) {
+        let ty = generate.ty();
+        let target = otherwise(&ty, &mut |formats| generate.random.pick(formats).to_string());
+        return (Into::Widths, ty, target);
+    }
     let wide = generate.random.chance(50);
     let [list, view] = if wide { ["+L", "+vL"] } else { ["+l", "+vl"] };
     let (into, from, to) = if generate.random.chance(50) { (Into::List, view, list) } else { (Into::ListView, list, view) };
@@ -29,18 +35,32 @@ fn types(generate: &mut Generate) -> (Into, Type, Type) {
     (into, ty, target)
 }
 
+/// A random column that is laid as the only source, before the type that it is to become.
+pub struct Laid {
+    pub into: Into,
+    pub ty: Type,
+    pub to: Type,
+    pub lent: Lent,
+    pub target: Target,
+}
+
+pub fn laid(random: &mut Random) -> Result<Laid, String> {
+    let (rows, align) = (random.pick(&[0, 1, 7, 9, 30]), random.pick(&[1, 8]));
+    let mut generate = Generate::new(random);
+    let (into, ty, to) = types(&mut generate);
+    let column = generate.column(&ty, rows);
+    let mut lent = Lent::lay_aligned(&[&column, &described(&to)], align).map_err(|e| e.to_string())?;
+    let target = Target { first: lent.sources[0], n: lent.sources[1], target: lent.sources[2], target_n: lent.sources[3] };
+    lent.sources.truncate(2);
+    Ok(Laid { into, ty, to, lent, target })
+}
+
 /// One damaged column by its seed, or one that is left as it is.
 pub fn damaged_conversion(seed: u64, answers: &mut Answers) -> Result<(), String> {
     let mut random = Random::new(seed);
-    let (rows, align) = (random.pick(&[0, 1, 7, 9, 30]), random.pick(&[1, 8]));
-    let mut generate = Generate::new(&mut random);
-    let (into, ty, to) = types(&mut generate);
-    let column = generate.column(&ty, rows);
     let r = &mut random;
+    let Laid { into, ty, to, lent, target: t } = laid(r)?;
     let describe = |what: String| format!("seed {seed}, {into:?}, type {ty}: {what}");
-    let mut lent = Lent::lay_aligned(&[&column, &described(&to)], align).map_err(|e| describe(e.to_string()))?;
-    let t = Target { first: lent.sources[0], n: lent.sources[1], target: lent.sources[2], target_n: lent.sources[3] };
-    lent.sources.truncate(2);
 
     let (mut plan, mut counters) = ([0; PLAN], [0; COUNTERS]);
     let asked = calls::plan_convert(into, &lent.tables(), t, &mut plan, &mut counters);

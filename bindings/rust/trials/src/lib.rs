@@ -18,6 +18,7 @@ pub mod random;
 pub mod trips;
 pub mod why;
 pub mod wider;
+pub mod widths;
 
 /// The examples of docs/USING.md.
 #[cfg(doctest)]

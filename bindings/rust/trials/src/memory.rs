@@ -75,6 +75,8 @@ impl Call {
             Call::OpenColumn(..) => "open_column",
             Call::PlanConvert(Into::List, _) => "plan_list",
             Call::PlanConvert(Into::ListView, _) => "plan_list_view",
+            Call::PlanConvert(Into::Widths, _) => "plan_convert",
+            Call::Convert(Into::Widths, _) => "convert",
             Call::Convert(Into::List, _) => "list",
             Call::Convert(Into::ListView, _) => "list_view",
             Call::NameChild(..) => "list_view_child",

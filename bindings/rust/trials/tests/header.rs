@@ -21,6 +21,7 @@ const RATTLE: &str = concat!(
     include_str!("../../../../crates/lafkuno_why/src/lib.rt"),
     include_str!("../../../../crates/lafkuno_anew/src/codings.rt"),
     include_str!("../../../../crates/lafkuno_anew/src/lists.rt"),
+    include_str!("../../../../crates/lafkuno_anew/src/converting.rt"),
     include_str!("../../../../crates/lafkuno_anew/src/reclaiming.rt")
 );
 
@@ -105,7 +106,7 @@ fn rattle() -> BTreeMap<String, (Vec<String>, String)> {
 fn the_same_calls() {
     let _: u64 = Position::MAX;
     let (header, library) = (header(), library());
-    assert_eq!(header.len(), 39);
+    assert_eq!(header.len(), 41);
     assert_eq!(header, library);
     let types = header.into_iter().map(|(name, (parameters, answer))| (name, (parameters.into_iter().map(|(ty, _)| ty).collect(), answer)));
     assert_eq!(types.collect::<BTreeMap<_, _>>(), rattle());

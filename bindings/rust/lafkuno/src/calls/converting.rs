@@ -1,4 +1,4 @@
-//! A column's rows in another type: a list as a list-view and back.
+//! A column's rows in another type: a list as a list-view and back, and other widths.
 
 use super::{FinishedTables, Position, Tables};
 
@@ -31,6 +31,17 @@ extern "C" {
         first: u32, n: u32, new_lengths: *mut u64, new_lengths_len: usize, new_nulls: *mut u64, new_nulls_len: usize,
         new_places: *mut Position, new_places_len: usize,
     ) -> u8;
+    fn lafkuno_plan_convert(
+        formats: *const u8, formats_len: usize, schema: *const u32, schema_len: usize, lengths: *const u64, lengths_len: usize,
+        places: *const Position, places_len: usize, buffers: *const Position, buffers_len: usize, body: *const u8, body_len: usize,
+        first: u32, n: u32, target: u32, target_n: u32, plan: *mut u64, plan_len: usize, counters: *mut u64, counters_len: usize,
+    ) -> u8;
+    fn lafkuno_convert(
+        formats: *const u8, formats_len: usize, schema: *const u32, schema_len: usize, lengths: *const u64, lengths_len: usize,
+        places: *const Position, places_len: usize, buffers: *const Position, buffers_len: usize, body: *const u8, body_len: usize,
+        first: u32, n: u32, target: u32, target_n: u32, parts: *const Position, parts_len: usize, plan: *mut u64, plan_len: usize,
+        counters: *mut u64, counters_len: usize, room: *mut u8, room_len: usize,
+    ) -> u8;
 }
 
 type Asks = unsafe extern "C" fn(
@@ -49,6 +60,8 @@ pub enum Into {
     List,
     /// A list-view, of a list: its root alone is written, the nodes below are the column's own.
     ListView,
+    /// The same in other widths of offsets, sizes, run ends and keys.
+    Widths,
 }
 
 impl Into {
@@ -56,6 +69,7 @@ impl Into {
         match self {
             Into::List => (lafkuno_plan_list, lafkuno_list),
             Into::ListView => (lafkuno_plan_list_view, lafkuno_list_view),
+            Into::Widths => (lafkuno_plan_convert, lafkuno_convert),
         }
     }
 }

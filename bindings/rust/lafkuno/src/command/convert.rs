@@ -7,8 +7,8 @@ pub const COMMAND: Command = Command {
     word: "convert",
     usage: "\
 lafkuno convert [--buffers] FILE COLUMN TYPE
-                                          the rows of a column of FILE in another TYPE: a list as a list-view of the same width, or back;
-                                          --buffers prints the buffers too
+                                          the rows of a column of FILE in another TYPE: other widths of offsets, run ends and keys, or a list
+                                          as a list-view of the same width, or back; --buffers prints the buffers too
 lafkuno convert --out OUT FILE COLUMN TYPE
                                           the same of an Arrow file, whose other columns stay as they are",
     run,

@@ -10,6 +10,7 @@ use trials::lists::{lists, Lists as Turned};
 use trials::passage::passage;
 use trials::trips::{trips, Lists};
 use trials::wider::wider;
+use trials::widths::{self, widths};
 
 fn main() -> ExitCode {
     let mut arguments = std::env::args().skip(1).map(|a| a.parse::<u64>().expect("a number"));
@@ -22,9 +23,11 @@ fn main() -> ExitCode {
     let mut trips_given = Lists::default();
     let mut grown = Grown::default();
     let mut turned = Turned::default();
+    let mut converted = widths::Seen::default();
     for seed in first..first + count {
         // a tenth is made with wider offsets, keys and run ends too, one of slices that pass the C Data Interface, one with its last copy cut in two,
-        // two with its orders in lists, one with one run for gaps; two turn a list into a list-view and back
+        // two with its orders in lists, one with one run for gaps; two turn a list into a list-view and back, two store a column
+        // in other widths
         let answer = join(seed, &mut seen).and_then(|()| match seed % 10 {
             0 => wider(seed).map(|accepted| widened += accepted as u64),
             5 => passage(seed).map(|accepted| passed += accepted as u64),
@@ -32,6 +35,7 @@ fn main() -> ExitCode {
             3 | 9 => trips(seed, &mut trips_given),
             2 => gaps(seed, &mut grown),
             1 | 6 => lists(seed, &mut turned),
+            4 | 8 => widths(seed, &mut converted),
             _ => Ok(()),
         });
         match answer {
@@ -57,6 +61,11 @@ fn main() -> ExitCode {
     let Turned { columns, rows, null_stretches } = turned;
     writeln!(out, "{columns} lists and list-views turned and turned back, {rows} rows, {null_stretches} null ones over a stretch: as plain copies")
         .unwrap();
+    let widths::Seen { columns, back, answers: grounds } = converted;
+    writeln!(out, "{columns} columns in other widths, {back} of them widened and narrowed back: as the request is read plainly").unwrap();
+    for (ground, count) in grounds {
+        writeln!(out, "other widths answered {ground}: {count}").unwrap();
+    }
     writeln!(out, "{passed} of slices through the C Data Interface: the same rows and names").unwrap();
     for ((what, answer), count) in answers {
         writeln!(out, "{what} answered {answer}: {count}").unwrap();
