@@ -134,9 +134,9 @@ impl Plot<'_> {
 
 fn span(nanoseconds: f64) -> String {
     match nanoseconds {
-        t if t < 1e3 => format!("{t:.0} ns"),
-        t if t < 1e6 => format!("{:.0} us", t / 1e3),
-        t => format!("{:.0} ms", t / 1e6),
+        t if t < 1e3 => format!("{t} ns"),
+        t if t < 1e6 => format!("{} us", t / 1e3),
+        t => format!("{} ms", t / 1e6),
     }
 }
 
