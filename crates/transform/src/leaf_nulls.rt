@@ -50,7 +50,7 @@ fn put_null_entries(
 }
 
 // The validity of n nulls at node i, all counted.
-fn put_null_mask(
+pub fn put_null_mask(
     plan: &[u64],
     parts: &[u64],
     counters: &mut [u64],

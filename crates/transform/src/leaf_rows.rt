@@ -25,7 +25,7 @@ use walk::plan_words;
 // ---- validity
 
 // Whether the validity bits of n slots of node i, where they are copied, lie in the body.
-fn bits_in(
+pub fn bits_in(
     plan: &[u64],
     places: &[u64],
     body: &[u8],
@@ -48,7 +48,7 @@ fn bits_in(
 }
 
 // The validity of n slots of node i, which keeps nulls, and its zeros counted.
-fn put_kept_bits(
+pub fn put_kept_bits(
     plan: &[u64],
     parts: &[u64],
     places: &[u64],

@@ -1,9 +1,12 @@
 // The two orders on lent memory: each is tried first, on a copy of the counters, and made where no ground is found. A refused one changes nothing.
-// A copy is tried without a look at validity bits, and counts its nulls where it is made. Of a leaf (`leaf_rows`, `leaf_nulls`) no walk is tried.
+// A copy is tried without a look at validity bits, and counts its nulls where it is made. Of a leaf (`leaf_rows`, `leaf_nulls`) no walk is tried;
+// a type that is one node of numbers goes a shorter way still (`numbers`, `number_nulls`).
 // Follows `try_extend` and `try_extend_nulls` of arrow-data 60.1.0 src/transform/mod.rs, Apache-2.0; see NOTICE.
 mod leaf_counters;
 mod leaf_nulls;
 mod leaf_rows;
+mod number_nulls;
+mod numbers;
 
 ghost use mathlib.Core.Path.{_≡_};
 ghost use mathlib.Core.List.{List, []};
@@ -18,6 +21,7 @@ ghost use Rattle.leaf_walk.specs.Join.{join};
 ghost use Rattle.sound.specs.trying.Alike.{Alike};
 ghost use Rattle.refinement.specs.orders.Order.{settled, copyOrder, nullOrder};
 ghost use Rattle.transform.specs.Answer.{lent, Answers};
+ghost use Rattle.transform.specs.numbers.Plan.{oneOfNumbers};
 use array_data::lent_tables;
 use parts::grounds;
 use sound::trying;
@@ -147,7 +151,7 @@ fn copy_rows(
     g
 }
 
-// The same by the kind of the type: a leaf is not tried first.
+// The same by the kind of the type: a leaf is not tried first, and a type that is one node of numbers (`plain`) asks no other.
 fn copy_range(
     plan: &[u64],
     parts: &[u64],
@@ -156,14 +160,29 @@ fn copy_range(
     body: &[u8],
     counters: &mut [u64],
     room: &mut [u8],
+    plain: bool,
     source: usize,
     first: usize,
     start: u64,
     n: u64,
 ) -> u8
-    requires { ⌜ (length (now counters) ≡ 96) × (first < 2 ^ 32) × (source < 2 ^ 32) ⌝ }
+    requires { ⌜ (length (now counters) ≡ 96) × (first < 2 ^ 32) × (source < 2 ^ 32) × (plain ≡ oneOfNumbers (now plan)) ⌝ }
     ensures { λ r. ⌜ ((sources : List ℕ) → Answers (settled (lent (now (plan .entry)) (now (parts .entry)) sources (now (lengths .entry)) (now (places .entry)) (now (body .entry))) (now (counters .entry)) (now (room .entry)) (copyWalk (join (now (plan .entry)) (now (parts .entry)) (now (lengths .entry)) (now (places .entry)) (now (body .entry)) first source) 8 0 start n (now (counters .entry)))) r (now (counters .exit)) (now (room .exit))) ⌝ }
 {
+    if plain {
+        return numbers::copy_numbers(
+            plan,
+            parts,
+            lengths,
+            places,
+            body,
+            counters,
+            room,
+            first,
+            start,
+            n,
+        );
+    }
     if (n != 0) & formats::within(plan_words::code_of(plan, 0), 1, 16) {
         return leaf_rows::copy_leaf_rows(
             plan,
@@ -213,7 +232,8 @@ pub fn try_extend(
     if counters.len() != 96 {
         return 14;
     }
-    if !sound::is_walkable(plan, room.len()) {
+    let plain = numbers::is_numbers(plan);
+    if !numbers::is_walkable(plan, room.len(), plain) {
         return 14;
     }
     if lent_tables::at_u64(plan, 864) <= source as u64 {
@@ -231,6 +251,7 @@ pub fn try_extend(
         body,
         counters,
         room,
+        plain,
         source as usize,
         first,
         start,
@@ -273,10 +294,20 @@ fn add_nulls(plan: &[u64], parts: &[u64], counters: &mut [u64], room: &mut [u8],
 }
 
 // The same by the kind of the type: nulls of a leaf are not tried first.
-fn add_null_range(plan: &[u64], parts: &[u64], counters: &mut [u64], room: &mut [u8], n: u64) -> u8
-    requires { ⌜ length (now counters) ≡ 96 ⌝ }
+fn add_null_range(
+    plan: &[u64],
+    parts: &[u64],
+    counters: &mut [u64],
+    room: &mut [u8],
+    plain: bool,
+    n: u64,
+) -> u8
+    requires { ⌜ (length (now counters) ≡ 96) × (plain ≡ oneOfNumbers (now plan)) ⌝ }
     ensures { λ r. ⌜ ((sources lengths places body : List ℕ) → Answers (settled (lent (now (plan .entry)) (now (parts .entry)) sources lengths places body) (now (counters .entry)) (now (room .entry)) (nullWalk (join (now (plan .entry)) (now (parts .entry)) [] [] [] 0 0) 8 0 n (now (counters .entry)))) r (now (counters .exit)) (now (room .exit))) ⌝ }
 {
+    if (n != 0) & plain {
+        return number_nulls::add_number_nulls(plan, parts, counters, room, n);
+    }
     if (n != 0) & formats::within(plan_words::code_of(plan, 0), 1, 16) {
         return leaf_nulls::add_leaf_nulls(plan, parts, counters, room, n);
     }
@@ -296,11 +327,12 @@ pub fn try_extend_nulls(
     if counters.len() != 96 {
         return 14;
     }
-    if !sound::is_walkable(plan, room.len()) {
+    let plain = numbers::is_numbers(plan);
+    if !numbers::is_walkable(plan, room.len(), plain) {
         return 14;
     }
     if plan_words::keeps_of(plan, 0) == 0 {
         return 3;
     }
-    add_null_range(plan, parts, counters, room, at_most_far(n))
+    add_null_range(plan, parts, counters, room, plain, at_most_far(n))
 }

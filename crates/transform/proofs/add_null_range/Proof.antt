@@ -1,4 +1,5 @@
 -- `transform::add_null_range` meets its contract. Assumes nothing.
+use mathlib.Core.Path.{sym, _∙_}
 use mathlib.Core.Bool.{not}
 use lib.Dec.{eqb}
 use borrow.Author.Tests.{not-true, eqb-false}
@@ -10,18 +11,11 @@ use borrow.Author.Needs.{needs}
 use Rattle.transform.proofs.add_null_range.Statement.{statement}
 use Rattle.transform.proofs.add_null_range.Tie as tie
 
-code-of-requires : tie.Need-code-of-requires
-code-of-requires c κs = search needs
-
-within-requires : tie.Need-within-requires
-within-requires c κs = search needs
-
-add-leaf-nulls-requires : tie.Need-add-leaf-nulls-requires
-add-leaf-nulls-requires c κs =
-    let a = c .before .before .before .before .before .before .before .before .before .args in
-    let some = eqb-false (a .n) 0 (not-true (eqb (a .n) 0) (and-left (not (eqb (a .n) 0)) (c .before .before .before .within .result) (c .before .before .if1 .taken))) in
-    let code = leaf-code (codeOf (a .plan .now) 0) (told (between 1 16) (c .before .before .before .before .code-of .ensures) (c .before .before .before .within .ensures) (and-right (not (eqb (a .n) 0)) (c .before .before .before .within .result) (c .before .before .if1 .taken))) in
-    (c .before .before .before .before .before .before .before .before .before .pre, some, code .0, code .1)
+add-number-nulls-requires : tie.Need-add-number-nulls-requires
+add-number-nulls-requires c κs =
+    let a = c .before .before .before .before .before .before .before .args in
+    let some = eqb-false (a .n) 0 (not-true (eqb (a .n) 0) (and-left (not (eqb (a .n) 0)) (a .plain) (c .before .before .if1 .taken))) in
+    (c .before .before .before .before .before .before .before .pre .0, some, sym (c .before .before .before .before .before .before .before .pre .1) ∙ and-right (not (eqb (a .n) 0)) (a .plain) (c .before .before .if1 .taken))
 
 same-length : tie.Need-same-length
 same-length c = search needs
@@ -30,10 +24,20 @@ same-length-2 : tie.Need-same-length-2
 same-length-2 c = search needs
 
 returns : tie.Need-returns
-returns c = c .before .before .before .before .add-leaf-nulls .ensures
+returns c = c .before .before .before .before .add-number-nulls .ensures
 
-add-nulls-requires : tie.Need-add-nulls-requires
-add-nulls-requires c κs = search needs
+code-of-requires : tie.Need-code-of-requires
+code-of-requires c κs = search needs
+
+within-requires : tie.Need-within-requires
+within-requires c κs = search needs
+
+add-leaf-nulls-requires : tie.Need-add-leaf-nulls-requires
+add-leaf-nulls-requires c κs =
+    let a = c .before .before .before .before .before .before .before .before .before .before .args in
+    let some = eqb-false (a .n) 0 (not-true (eqb (a .n) 0) (and-left (not (eqb (a .n) 0)) (c .before .before .before .within .result) (c .before .before .if2 .taken))) in
+    let code = leaf-code (codeOf (a .plan .now) 0) (told (between 1 16) (c .before .before .before .before .code-of .ensures) (c .before .before .before .within .ensures) (and-right (not (eqb (a .n) 0)) (c .before .before .before .within .result) (c .before .before .if2 .taken))) in
+    (c .before .before .before .before .before .before .before .before .before .before .pre .0, some, code .0, code .1)
 
 same-length-3 : tie.Need-same-length-3
 same-length-3 c = search needs
@@ -42,7 +46,19 @@ same-length-4 : tie.Need-same-length-4
 same-length-4 c = search needs
 
 returns-2 : tie.Need-returns-2
-returns-2 c = c .before .before .before .before .add-nulls .ensures
+returns-2 c = c .before .before .before .before .add-leaf-nulls .ensures
+
+add-nulls-requires : tie.Need-add-nulls-requires
+add-nulls-requires c κs = c .before .before .before .before .before .before .before .before .before .before .pre .0
+
+same-length-5 : tie.Need-same-length-5
+same-length-5 c = search needs
+
+same-length-6 : tie.Need-same-length-6
+same-length-6 c = search needs
+
+returns-3 : tie.Need-returns-3
+returns-3 c = c .before .before .before .before .add-nulls .ensures
 
 pub add-null-range-spec : {M : Type 1} → statement M
-add-null-range-spec = tie.close (tie.spec code-of-requires within-requires add-leaf-nulls-requires same-length same-length-2 returns add-nulls-requires same-length-3 same-length-4 returns-2)
+add-null-range-spec = tie.close (tie.spec add-number-nulls-requires same-length same-length-2 returns code-of-requires within-requires add-leaf-nulls-requires same-length-3 same-length-4 returns-2 add-nulls-requires same-length-5 same-length-6 returns-3)

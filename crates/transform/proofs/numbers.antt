@@ -1,0 +1,2 @@
+-- What a copy of one node of numbers goes by.
+pub mod Laws

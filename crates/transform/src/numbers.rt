@@ -1,0 +1,278 @@
+// Copies of a type that is one node of numbers: all is asked of that node alone, and its bytes are copied where the order stands.
+ghost use mathlib.Core.Path.{_≡_};
+ghost use mathlib.Core.List.{List, [], _∷_};
+ghost use mathlib.Core.Bool.{true, cond, _&&_};
+ghost use Prim.Native.Nat.{ℕ, _+_, _*_, _<_, _≤_, _^_};
+ghost use lib.ListN.{length, take, drop};
+ghost use lib.Dec.{ltb};
+ghost use Rattle.formats.specs.Code.{isFixed};
+ghost use Rattle.walk.specs.State.{codeOf, dictionaryOf, rows, place, slotOf};
+ghost use Rattle.walk.specs.Log.{Did, put, applyIf, startOf};
+ghost use Rattle.walk.specs.Leaves.{copyMask};
+ghost use Rattle.walk.specs.Copy.{Walk, copyData, copyWalk};
+ghost use Rattle.leaf_walk.specs.Join.{join};
+ghost use Rattle.parts.specs.Parts.{entrySize, inRoom, partWithin, partHolds, partsWithin, partsHold};
+ghost use Rattle.parts.specs.grounds.Verdict.{verdict};
+ghost use Rattle.refinement.specs.orders.Sound.{walkable};
+ghost use Rattle.refinement.specs.orders.Order.{settled};
+ghost use Rattle.transform.specs.Answer.{lent, Answers};
+ghost use Rattle.transform.specs.leaf_rows.Leaf.{bitsIn};
+ghost use Rattle.transform.specs.numbers.Plan.{oneOfNumbers};
+use crate::leaf_counters;
+use crate::leaf_rows;
+use array_data::lent_tables;
+use nested_rows::lookups;
+use walk::plan_words;
+
+// ---- the plan
+
+// Whether the type is one node, of numbers without a dictionary.
+pub fn is_numbers(plan: &[u64]) -> bool
+    ensures { λ r. ⌜ r ≡ oneOfNumbers (now (plan .entry)) ⌝ }
+{
+    if parts::node_count(plan) != 1 {
+        return false;
+    }
+    if plan_words::end_of(plan, 0) != 1 {
+        return false;
+    }
+    if plan_words::dictionary_of(plan, 0) != 0 {
+        return false;
+    }
+    formats::is_fixed(plan_words::code_of(plan, 0))
+}
+
+// The bytes of the largest body.
+const CEILING: usize = 9223372036854775807;
+
+// Whether an order can be walked: such a plan needs no look at other nodes.
+pub fn is_walkable(plan: &[u64], m: usize, plain: bool) -> bool
+    requires { ⌜ plain ≡ oneOfNumbers (now plan) ⌝ }
+    ensures { λ r. ⌜ r ≡ walkable (now (plan .entry)) m ⌝ }
+{
+    if plain {
+        return m <= CEILING;
+    }
+    sound::is_walkable(plan, m)
+}
+
+// The bytes of a number.
+pub fn number_size(code: u8) -> u64
+    requires { ⌜ isFixed code ≡ true ⌝ }
+    ensures { λ r. ⌜ r ≡ entrySize code ⌝ }
+{
+    match code {
+        1 => 1,
+        2 => 1,
+        3 => 2,
+        4 => 2,
+        5 => 4,
+        6 => 4,
+        7 => 8,
+        8 => 8,
+        9 => 4,
+        _ => 8,
+    }
+}
+
+// ---- the parts
+
+// Whether part p lies in the room.
+fn in_room(parts: &[u64], m: usize, p: usize) -> bool
+    requires { ⌜ p < 4294967298 ⌝ }
+    ensures { λ r. ⌜ r ≡ inRoom (now (parts .entry)) m p ⌝ }
+{
+    let start = lent_tables::at_u64(parts, 2 * p);
+    let size = lent_tables::at_u64(parts, 2 * p + 1);
+    lent_tables::fits(start, size, m as u64)
+}
+
+// 14 where part p is not in the table or not in the room, and else 13 where it does not hold its bytes.
+fn part_ground(parts: &[u64], m: usize, p: usize, holds: bool) -> u8
+    requires { ⌜ p < 4294967298 ⌝ }
+    ensures { λ r. ⌜ r ≡ verdict (ltb (2 * p + 1) (length (now (parts .entry))) && inRoom (now (parts .entry)) m p) holds ⌝ }
+{
+    if parts.len() <= 2 * p + 1 {
+        return 14;
+    }
+    if !in_room(parts, m, p) {
+        return 14;
+    }
+    if holds {
+        return 0;
+    }
+    13
+}
+
+// The part of r numbers of w bytes.
+fn entries_ground(plan: &[u64], parts: &[u64], m: usize, w: u64, r: u64) -> u8
+    requires { ⌜ (isFixed (codeOf (now plan) 0) ≡ true) × (w ≡ entrySize (codeOf (now plan) 0)) ⌝ }
+    ensures { λ g. ⌜ ((counts : List ℕ) → rows counts 0 ≡ r → g ≡ verdict (partWithin (now (plan .entry)) (now (parts .entry)) m 0 1) (partHolds (now (plan .entry)) counts (now (parts .entry)) 0 1)) ⌝ }
+{
+    let p = parts::number_of(plan, 0, 1);
+    let size = lent_tables::at_u64(parts, 2 * p + 1);
+    part_ground(parts, m, p, lent_tables::rows_fit(r, w as u8, size))
+}
+
+// The part of the validity of r rows, where nulls are kept.
+fn bits_ground(plan: &[u64], parts: &[u64], m: usize, r: u64) -> u8
+    requires { ⌜ isFixed (codeOf (now plan) 0) ≡ true ⌝ }
+    ensures { λ g. ⌜ ((counts : List ℕ) → rows counts 0 ≡ r → g ≡ verdict (partWithin (now (plan .entry)) (now (parts .entry)) m 0 0) (partHolds (now (plan .entry)) counts (now (parts .entry)) 0 0)) ⌝ }
+{
+    if plan_words::keeps_of(plan, 0) == 0 {
+        return 0;
+    }
+    let p = parts::number_of(plan, 0, 0);
+    let size = lent_tables::at_u64(parts, 2 * p + 1);
+    part_ground(parts, m, p, lent_tables::bits_fit(r, 0, size))
+}
+
+// What the parts say to r rows.
+pub fn room_ground(plan: &[u64], parts: &[u64], m: usize, w: u64, r: u64) -> u8
+    requires { ⌜ (oneOfNumbers (now plan) ≡ true) × (w ≡ entrySize (codeOf (now plan) 0)) ⌝ }
+    ensures { λ g. ⌜ ((counts : List ℕ) → rows counts 0 ≡ r → g ≡ cond (partsWithin (now (plan .entry)) (now (parts .entry)) m) (cond (partsHold (now (plan .entry)) counts (now (parts .entry))) 0 13) 14) ⌝ }
+{
+    let entries = entries_ground(plan, parts, m, w, r);
+    let bits = bits_ground(plan, parts, m, r);
+    if bits < entries {
+        return entries;
+    }
+    bits
+}
+
+// ---- the order
+
+// The validity of n slots, if nulls are kept.
+fn put_validity(
+    plan: &[u64],
+    parts: &[u64],
+    places: &[u64],
+    body: &[u8],
+    counters: &mut [u64],
+    room: &mut [u8],
+    first: usize,
+    i: usize,
+    slot: u64,
+    n: u64,
+)
+    requires { ⌜ (length (now counters) ≡ 96) × (first < 2 ^ 32) × (i < 32) × (slot + n < 2 ^ 63) × (bitsIn (join (now plan) [] [] (now places) (now body) first 0) i slot n ≡ true) ⌝ }
+    ensures { λ _. ⌜ ((lengths : List ℕ) (source : ℕ) → Did (now (plan .entry)) (now (parts .entry)) true (copyMask (join (now (plan .entry)) (now (parts .entry)) lengths (now (places .entry)) (now (body .entry)) first source) i slot n (now (counters .entry))) (now (room .entry)) 0 (now (counters .exit)) (now (room .exit))) ⌝ }
+{
+    if plan_words::keeps_of(plan, i) == 0 {
+        return;
+    }
+    leaf_rows::put_kept_bits(plan, parts, places, body, counters, room, first, i, slot, n);
+}
+
+// n bytes of body from `from` on at byte o of node i's numbers, where they lie in the room.
+fn put_bytes(
+    plan: &[u64],
+    parts: &[u64],
+    room: &mut [u8],
+    i: usize,
+    o: u64,
+    body: &[u8],
+    from: usize,
+    n: u64,
+)
+    requires { ⌜ (i < 32) × (from + n ≤ length (now body)) × (startOf (now plan) (now parts) i 1 + o + n ≤ length (now room)) ⌝ }
+    ensures { λ _. ⌜ now (room .exit) ≡ applyIf (now (plan .entry)) (now (parts .entry)) true (put i 1 o (take n (drop from (now (body .entry)))) ∷ []) (now (room .entry)) ⌝ }
+{
+    let start = lent_tables::at_u64(parts, 2 * plan_words::part_of(plan, i));
+    copy::copy_bytes(room, (start + o) as usize, body, from, n as usize);
+}
+
+// The numbers of n slots of node i.
+fn put_numbers(
+    plan: &[u64],
+    parts: &[u64],
+    places: &[u64],
+    body: &[u8],
+    counters: &[u64],
+    room: &mut [u8],
+    first: usize,
+    i: usize,
+    w: u64,
+    slot: u64,
+    n: u64,
+)
+    requires { ⌜ (first < 2 ^ 32) × (i < 32) × (slot + n < 2 ^ 63) ⌝ }
+    requires { ⌜ (isFixed (codeOf (now plan) i) ≡ true) × (dictionaryOf (now plan) i ≡ 0) × (w ≡ entrySize (codeOf (now plan) i)) ⌝ }
+    requires { ⌜ place (join [] [] [] (now places) [] first 0) i 3 + w * (slot + n) ≤ length (now body) ⌝ }
+    requires { ⌜ startOf (now plan) (now parts) i 1 + rows (now counters) i * w + w * n ≤ length (now room) ⌝ }
+    ensures { λ _. ⌜ ((lengths : List ℕ) (source : ℕ) (child : Walk) → Did (now (plan .entry)) (now (parts .entry)) true (copyData (join (now (plan .entry)) (now (parts .entry)) lengths (now (places .entry)) (now (body .entry)) first source) child (codeOf (now (plan .entry)) i) i slot n (now (counters .entry))) (now (room .entry)) 0 (now (counters .entry)) (now (room .exit))) ⌝ }
+{
+    let from = lent_tables::place(places, first + i, 3) + w * slot;
+    let o = plan_words::scale(lent_tables::at_u64(counters, 3 * i), w);
+    put_bytes(plan, parts, room, i, o, body, from as usize, w * n);
+}
+
+// n slots of the one node.
+fn copy_slots(
+    plan: &[u64],
+    parts: &[u64],
+    places: &[u64],
+    body: &[u8],
+    counters: &mut [u64],
+    room: &mut [u8],
+    first: usize,
+    slot: u64,
+    n: u64,
+) -> u8
+    requires { ⌜ (length (now counters) ≡ 96) × (first < 2 ^ 32) × (slot + n < 2 ^ 63) × (oneOfNumbers (now plan) ≡ true) ⌝ }
+    requires { ⌜ bitsIn (join (now plan) [] [] (now places) (now body) first 0) 0 slot n ≡ true ⌝ }
+    ensures { λ r. ⌜ ((sources lengths : List ℕ) (source start : ℕ) → slot ≡ slotOf (join (now (plan .entry)) (now (parts .entry)) lengths (now (places .entry)) (now (body .entry)) first source) 0 start n → Answers (settled (lent (now (plan .entry)) (now (parts .entry)) sources lengths (now (places .entry)) (now (body .entry))) (now (counters .entry)) (now (room .entry)) (copyWalk (join (now (plan .entry)) (now (parts .entry)) lengths (now (places .entry)) (now (body .entry)) first source) 8 0 start n (now (counters .entry)))) r (now (counters .exit)) (now (room .exit))) ⌝ }
+{
+    let w = number_size(plan_words::code_of(plan, 0));
+    let at = lent_tables::place(places, first + 0, 3);
+    if !leaf_walk::rows_in(body, at, w, slot, n) {
+        return 12;
+    }
+    let r = plan_words::grow(lent_tables::at_u64(counters, 0), n);
+    let g = room_ground(plan, parts, room.len(), w, r);
+    if g != 0 {
+        return g;
+    }
+    put_validity(plan, parts, places, body, counters, room, first, 0, slot, n);
+    put_numbers(
+        plan,
+        parts,
+        places,
+        body,
+        counters,
+        room,
+        first,
+        0,
+        w,
+        slot,
+        n,
+    );
+    leaf_counters::add_to(counters, 0, n);
+    0
+}
+
+// The rows start .. start + n - 1 of a source whose first node is `first`.
+pub fn copy_numbers(
+    plan: &[u64],
+    parts: &[u64],
+    lengths: &[u64],
+    places: &[u64],
+    body: &[u8],
+    counters: &mut [u64],
+    room: &mut [u8],
+    first: usize,
+    start: u64,
+    n: u64,
+) -> u8
+    requires { ⌜ (length (now counters) ≡ 96) × (first < 2 ^ 32) × (oneOfNumbers (now plan) ≡ true) ⌝ }
+    ensures { λ r. ⌜ ((sources : List ℕ) (source : ℕ) → Answers (settled (lent (now (plan .entry)) (now (parts .entry)) sources (now (lengths .entry)) (now (places .entry)) (now (body .entry))) (now (counters .entry)) (now (room .entry)) (copyWalk (join (now (plan .entry)) (now (parts .entry)) (now (lengths .entry)) (now (places .entry)) (now (body .entry)) first source) 8 0 start n (now (counters .entry)))) r (now (counters .exit)) (now (room .exit))) ⌝ }
+{
+    let slot = lookups::slot_of(lengths, first, 0, start, n);
+    if 9223372036854775808 <= slot {
+        return 12;
+    }
+    if !leaf_rows::bits_in(plan, places, body, first, 0, slot, n) {
+        return 12;
+    }
+    copy_slots(plan, parts, places, body, counters, room, first, slot, n)
+}
