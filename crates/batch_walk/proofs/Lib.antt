@@ -1,0 +1,8 @@
+-- What the walk by stretches goes by.
+pub mod Sides
+pub mod Sums
+pub mod PlainLeaf
+pub mod Loops
+pub mod Tried
+pub mod Node
+pub mod Rises
