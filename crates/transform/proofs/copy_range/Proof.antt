@@ -32,8 +32,8 @@ same-length-2 c = search needs
 returns : tie.Need-returns
 returns c = c .before .before .before .before .copy-leaf-rows .ensures
 
-copy-rows-requires : tie.Need-copy-rows-requires
-copy-rows-requires c κs = search needs
+copy-nested-requires : tie.Need-copy-nested-requires
+copy-nested-requires c κs = search needs
 
 same-length-3 : tie.Need-same-length-3
 same-length-3 c = search needs
@@ -42,7 +42,7 @@ same-length-4 : tie.Need-same-length-4
 same-length-4 c = search needs
 
 returns-2 : tie.Need-returns-2
-returns-2 c = c .before .before .before .before .copy-rows .ensures
+returns-2 c = c .before .before .before .before .copy-nested .ensures
 
 pub copy-range-spec : {M : Type 1} → statement M
-copy-range-spec = tie.close (tie.spec code-of-requires within-requires copy-leaf-rows-requires same-length same-length-2 returns copy-rows-requires same-length-3 same-length-4 returns-2)
+copy-range-spec = tie.close (tie.spec code-of-requires within-requires copy-leaf-rows-requires same-length same-length-2 returns copy-nested-requires same-length-3 same-length-4 returns-2)
