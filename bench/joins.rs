@@ -52,6 +52,20 @@ fn column(random: &mut Random, ty: &Type) -> Column {
     Column::build(ty, &rows).unwrap().slice(OFFSET, ROWS).unwrap()
 }
 
+// The rows of a list-view or a dense union in another order, their children's as they are.
+fn shuffled(random: &mut Random, mut column: Column) -> Column {
+    let n = (ROWS + OFFSET) as usize;
+    let mut order: Vec<usize> = (0..n).collect();
+    for i in (1..n).rev() {
+        order.swap(i, random.below(i as u64 + 1) as usize);
+    }
+    for buffer in &mut column.buffers {
+        let (bytes, w) = (buffer.to_vec(), buffer.len() / n);
+        *buffer = order.iter().flat_map(|r| bytes[r * w..(r + 1) * w].to_vec()).collect::<Vec<u8>>().into();
+    }
+    column
+}
+
 // ---- the two sides
 
 // All orders of one join: pieces of ROWS / n rows.
@@ -203,7 +217,10 @@ fn verdict(ratio: f64, goal: f64) -> &'static str {
 fn measure(random: &mut Random, name: &str, ty: &str) {
     let ty: Type = ty.parse().unwrap();
     // two sources, of which the last is copied, so that dictionaries are joined; else one
-    let columns: Vec<Column> = (0..if name.contains("joined") { 2 } else { 1 }).map(|_| column(random, &ty)).collect();
+    let mut columns: Vec<Column> = (0..if name.contains("joined") { 2 } else { 1 }).map(|_| column(random, &ty)).collect();
+    if name.contains("shuffled") {
+        columns = columns.into_iter().map(|c| shuffled(random, c)).collect();
+    }
     let sources: Vec<&Column> = columns.iter().collect();
     let mut convert = Convert::default();
     let arrays: Vec<ArrayData> = sources.iter().map(|c| convert.array(c)).collect();
@@ -324,14 +341,18 @@ fn main() {
         ("list of i32", "+l(i)"),
         ("large list of i32", "+L(i)"),
         ("list-view of i32", "+vl(i)"),
+        ("list-view of i32, rows shuffled", "+vl(i)"),
         ("sparse union of i32 and i64", "+us:0,1(i, l)"),
         ("dense union of i32 and i64", "+ud:0,1(i, l)"),
+        ("dense union of i32 and i64, rows shuffled", "+ud:0,1(i, l)"),
         ("run ends over i32", "+r(i, i)"),
         ("dictionary, joined", "S[u]"),
         ("dictionary, shared", "C[u]"),
         ("list of byte strings", "+l(u)"),
         ("list-view of byte strings", "+vl(u)"),
+        ("list-view of byte strings, rows shuffled", "+vl(u)"),
         ("dense union of three", "+ud:0,1,2(i, u, g)"),
+        ("dense union of three, rows shuffled", "+ud:0,1,2(i, u, g)"),
         ("run ends over a dictionary, joined", "+r(i, S[u])"),
     ] {
         measure(random, name, ty);

@@ -7,6 +7,7 @@ mod leaf_nulls;
 mod leaf_rows;
 mod number_nulls;
 mod numbers;
+mod stretches;
 
 ghost use mathlib.Core.Path.{_≡_};
 ghost use mathlib.Core.List.{List, []};
@@ -151,6 +152,53 @@ fn copy_rows(
     g
 }
 
+// The same by stretches, where they answer.
+fn copy_nested(
+    plan: &[u64],
+    parts: &[u64],
+    lengths: &[u64],
+    places: &[u64],
+    body: &[u8],
+    counters: &mut [u64],
+    room: &mut [u8],
+    source: usize,
+    first: usize,
+    start: u64,
+    n: u64,
+) -> u8
+    requires { ⌜ (length (now counters) ≡ 96) × (first < 2 ^ 32) × (source < 2 ^ 32) ⌝ }
+    ensures { λ r. ⌜ ((sources : List ℕ) → Answers (settled (lent (now (plan .entry)) (now (parts .entry)) sources (now (lengths .entry)) (now (places .entry)) (now (body .entry))) (now (counters .entry)) (now (room .entry)) (copyWalk (join (now (plan .entry)) (now (parts .entry)) (now (lengths .entry)) (now (places .entry)) (now (body .entry)) first source) 8 0 start n (now (counters .entry)))) r (now (counters .exit)) (now (room .exit))) ⌝ }
+{
+    let g = stretches::copy_stretches(
+        plan,
+        parts,
+        lengths,
+        places,
+        body,
+        counters,
+        room,
+        first,
+        start,
+        n,
+    );
+    if g != stretches::UNTOLD {
+        return g;
+    }
+    copy_rows(
+        plan,
+        parts,
+        lengths,
+        places,
+        body,
+        counters,
+        room,
+        source,
+        first,
+        start,
+        n,
+    )
+}
+
 // The same by the kind of the type: a leaf is not tried first, and a type that is one node of numbers (`plain`) asks no other.
 fn copy_range(
     plan: &[u64],
@@ -198,7 +246,7 @@ fn copy_range(
             n,
         );
     }
-    copy_rows(
+    copy_nested(
         plan,
         parts,
         lengths,

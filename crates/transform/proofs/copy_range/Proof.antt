@@ -47,8 +47,8 @@ same-length-4 c = search needs
 returns-2 : tie.Need-returns-2
 returns-2 c = c .before .before .before .before .copy-leaf-rows .ensures
 
-copy-rows-requires : tie.Need-copy-rows-requires
-copy-rows-requires c κs = (c .before .before .before .before .before .before .before .before .before .before .before .before .before .pre .0, c .before .before .before .before .before .before .before .before .before .before .before .before .before .pre .1, c .before .before .before .before .before .before .before .before .before .before .before .before .before .pre .2)
+copy-nested-requires : tie.Need-copy-nested-requires
+copy-nested-requires c κs = (c .before .before .before .before .before .before .before .before .before .before .before .before .before .pre .0, c .before .before .before .before .before .before .before .before .before .before .before .before .before .pre .1, c .before .before .before .before .before .before .before .before .before .before .before .before .before .pre .2)
 
 same-length-5 : tie.Need-same-length-5
 same-length-5 c = search needs
@@ -57,7 +57,7 @@ same-length-6 : tie.Need-same-length-6
 same-length-6 c = search needs
 
 returns-3 : tie.Need-returns-3
-returns-3 c = c .before .before .before .before .copy-rows .ensures
+returns-3 c = c .before .before .before .before .copy-nested .ensures
 
 pub copy-range-spec : {M : Type 1} → statement M
-copy-range-spec = tie.close (tie.spec copy-numbers-requires same-length same-length-2 returns code-of-requires within-requires copy-leaf-rows-requires same-length-3 same-length-4 returns-2 copy-rows-requires same-length-5 same-length-6 returns-3)
+copy-range-spec = tie.close (tie.spec copy-numbers-requires same-length same-length-2 returns code-of-requires within-requires copy-leaf-rows-requires same-length-3 same-length-4 returns-2 copy-nested-requires same-length-5 same-length-6 returns-3)

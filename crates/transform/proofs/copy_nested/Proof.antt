@@ -1,0 +1,34 @@
+-- `transform::copy_nested` meets its contract. Assumes nothing.
+use borrow.Author.Needs.{needs}
+use Rattle.transform.proofs.copy_nested.Statement.{statement}
+use Rattle.transform.proofs.copy_nested.Tie as tie
+
+copy-stretches-requires : tie.Need-copy-stretches-requires
+copy-stretches-requires c κs = search needs
+
+same-length : tie.Need-same-length
+same-length c = search needs
+
+same-length-2 : tie.Need-same-length-2
+same-length-2 c = search needs
+
+returns : tie.Need-returns
+returns c = let a = c .before .before .before .before .before .before .before .before .before .before .before .before .before .before .before .args in λ sources. c .before .before .before .before .before .copy-stretches .ensures .1 (c .if1 .taken) sources (a .source)
+
+copy-rows-requires : tie.Need-copy-rows-requires
+copy-rows-requires c κs = search needs
+
+same-length-3 : tie.Need-same-length-3
+same-length-3 c = search needs
+
+same-length-4 : tie.Need-same-length-4
+same-length-4 c = search needs
+
+returns-2 : tie.Need-returns-2
+returns-2 c =
+    let a = c .before .before .before .before .before .before .before .before .before .before .before .before .before .before .before .before .before .before .before .before .before .before .args in
+    let q = c .before .before .before .before .before .before .before .before .before .before .before .before .copy-stretches .ensures .0 (c .before .before .before .before .before .before .before .if1 .left) in
+    λ sources. rw (q .0, q .1) at (c .before .before .before .before .copy-rows .ensures sources)
+
+pub copy-nested-spec : {M : Type 1} → statement M
+copy-nested-spec = tie.close (tie.spec copy-stretches-requires same-length same-length-2 returns copy-rows-requires same-length-3 same-length-4 returns-2)

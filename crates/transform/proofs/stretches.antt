@@ -1,0 +1,2 @@
+-- What copies by stretches go by.
+pub mod Laws

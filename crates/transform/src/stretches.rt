@@ -1,0 +1,78 @@
+// Copies by stretches (crate `batch_walk`): a type that they are written for, in parts that rise. What they do not answer, the walk of a copy does.
+ghost use mathlib.Core.Path.{_≡_};
+ghost use mathlib.Core.List.{List};
+ghost use Prim.Native.Nat.{ℕ, _<_, _^_};
+ghost use lib.ListN.{length};
+ghost use Rattle.walk.specs.Copy.{copyWalk};
+ghost use Rattle.leaf_walk.specs.Join.{join};
+ghost use Rattle.refinement.specs.orders.Order.{settled};
+ghost use Rattle.transform.specs.Answer.{lent, Answers};
+use batch_walk::rise;
+use parts::grounds;
+
+// The order is not answered, and nothing is changed: no ground has this number.
+pub const UNTOLD: u8 = 255;
+
+// The rows start .. start + n - 1 of a source, whose first node is `first`; or UNTOLD.
+pub fn copy_stretches(
+    plan: &[u64],
+    parts: &[u64],
+    lengths: &[u64],
+    places: &[u64],
+    body: &[u8],
+    counters: &mut [u64],
+    room: &mut [u8],
+    first: usize,
+    start: u64,
+    n: u64,
+) -> u8
+    requires { ⌜ (length (now counters) ≡ 96) × (first < 2 ^ 32) ⌝ }
+    ensures { λ r. ⌜ (r ≡ 255 → (now (counters .exit) ≡ now (counters .entry)) × (now (room .exit) ≡ now (room .entry))) ⌝ }
+    ensures { λ r. ⌜ ((r ≡ 255 → ⊥) → (sources : List ℕ) (source : ℕ) → Answers (settled (lent (now (plan .entry)) (now (parts .entry)) sources (now (lengths .entry)) (now (places .entry)) (now (body .entry))) (now (counters .entry)) (now (room .entry)) (copyWalk (join (now (plan .entry)) (now (parts .entry)) (now (lengths .entry)) (now (places .entry)) (now (body .entry)) first source) 8 0 start n (now (counters .entry)))) r (now (counters .exit)) (now (room .exit))) ⌝ }
+{
+    if !batch_walk::is_stretched(plan) {
+        return UNTOLD;
+    }
+    if !rise::parts_rise(plan, parts) {
+        return UNTOLD;
+    }
+    let mut tried = crate::load(counters);
+    let g = batch_walk::copy_by_stretches(
+        plan,
+        parts,
+        lengths,
+        places,
+        body,
+        &mut tried,
+        room,
+        false,
+        first,
+        start,
+        n,
+    );
+    if g != 0 {
+        return UNTOLD;
+    }
+    let asked = crate::copied(tried);
+    let g = grounds::parts_ground(plan, &asked, parts, room.len());
+    if g != 0 {
+        return g;
+    }
+    let mut counts = crate::load(counters);
+    let g = batch_walk::copy_by_stretches(
+        plan,
+        parts,
+        lengths,
+        places,
+        body,
+        &mut counts,
+        room,
+        true,
+        first,
+        start,
+        n,
+    );
+    let made = crate::copied(counts);
+    crate::store(counters, &made);
+    g
+}
