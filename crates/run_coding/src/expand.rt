@@ -92,12 +92,13 @@ fn write_each(
     let mut r = 0;
     while r < m {
         let end = patterns::read_pattern(body, ends + q * (e as usize), e);
-        let n = lesser(end - (x + r as u64), (m - r) as u64) as usize;
+        let next = lesser(end - x, m as u64) as usize;
+        let n = next - r;
         let valid = crate::is_valid(body, masked, s, q);
         let v = crate::number_at(body, w, s, q);
         write_run(room, w, masked, t, r, n, valid, v);
         q += 1;
-        r += n;
+        r = next;
     }
 }
 

@@ -60,13 +60,7 @@ pub fn cell_of(valid: bool, x: u64) -> u64
 pub fn is_change(a: bool, b: bool, x: u64, y: u64) -> bool
     ensures { λ r. ⌜ r ≡ not (alike a b (eqb x y)) ⌝ }
 {
-    if !a {
-        return b;
-    }
-    if !b {
-        return true;
-    }
-    x != y
+    (a != b) | (a & (x != y))
 }
 
 // The w lowest bytes of v at `at`.
