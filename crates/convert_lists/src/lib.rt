@@ -1,6 +1,1 @@
-// The converter between lists and list-views.
-
-// The node of a list's child.
-pub fn child_node() -> usize {
-    1
-}
+// The converter between lists and list-views, as definitions and laws: this crate has no code of its own.

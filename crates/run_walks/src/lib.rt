@@ -1,6 +1,1 @@
 // The walks of the encoder to runs and of the expansion back (02, W1), as definitions and laws: this crate has no code of its own.
-
-// The node of a run-end column's values.
-pub fn values_node() -> usize {
-    2
-}
