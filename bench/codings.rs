@@ -1,5 +1,6 @@
 // Times a column of 4,096 rows into runs and back against plain loops in Rust on the same body, and prints a table. Both sides are first
-// held to the same bytes. Run by bench/run.
+// held to the same bytes. The way back is timed a second time against a plain loop that tests the run ends first, as a reader of foreign
+// columns must. Run by bench/run.
 mod timing;
 
 use std::hint::black_box;
@@ -101,6 +102,7 @@ impl Trip {
         }
     }
 
+    #[inline(never)]
     fn plain_encode(&self) -> (Vec<i32>, Vec<u64>, Vec<u8>) {
         let (values, mask) = black_box(&self.body[..]).split_at(8 * ROWS);
         let at = |i: usize| u64::from_le_bytes(values[8 * i..8 * i + 8].try_into().unwrap());
@@ -121,6 +123,7 @@ impl Trip {
         (ends, out, bits)
     }
 
+    #[inline(never)]
     fn plain_expand(&self) -> (Vec<u64>, Vec<u8>) {
         let runs = black_box(&self.runs[..]);
         let (values, rest) = runs.split_at(8 * self.count);
@@ -136,6 +139,24 @@ impl Trip {
             from = end;
         }
         (out, bits)
+    }
+
+    // The same where the run ends rise and reach the last row.
+    #[inline(never)]
+    fn checked_expand(&self) -> Option<(Vec<u64>, Vec<u8>)> {
+        let ends = &black_box(&self.runs[..])[8 * self.count + ROWS / 8..];
+        let mut last = 0;
+        for k in 0..self.count {
+            let end = i32::from_le_bytes(ends[4 * k..4 * k + 4].try_into().unwrap());
+            if end <= last {
+                return None;
+            }
+            last = end;
+        }
+        if (last as usize) < ROWS {
+            return None;
+        }
+        Some(self.plain_expand())
     }
 
     fn agree(&self) {
@@ -191,5 +212,6 @@ fn main() {
         let (mut encoder, mut expander) = (trip.encoder(), trip.expander());
         compare(&format!("into {what}"), 1.2, || encoder.run(), || trip.plain_encode());
         compare(&format!("back from {what}"), 1.2, || expander.run(), || trip.plain_expand());
+        compare(&format!("back from {what}, ends tested by both"), 1.2, || expander.run(), || trip.checked_expand());
     }
 }
