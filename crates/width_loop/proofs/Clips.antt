@@ -17,7 +17,6 @@ use Rattle.run_ends.specs.declared.Runs.the-variants.{Range, None}
 use Rattle.run_ends.specs.declared.PhysicalRun.{PhysicalRun}
 use Rattle.columnar.specs.Row.{seg}
 use Rattle.columnar.specs.Types.{half}
-use Rattle.columnar.specs.Array.{Array}
 use Rattle.columnar.specs.Entries.{encodes}
 use Rattle.columnar.specs.RunEnd.{endOf, startOf}
 use Rattle.columnar.proofs.Items.{entry-end}
@@ -25,14 +24,14 @@ use Rattle.array_data.specs.Tables.{Tables, place, lengthOf, offsetOf, firstBuf
 use Rattle.array_data.specs.Typed.{runEndNode, Tree}
 use Rattle.model.proofs.Ends.{First, Many, in-order, last-run, clip-ends}
 use Rattle.walk.specs.State.{addRows}
-use Rattle.walk.specs.Log.{Out, Did, put, apply, applyIf, enter, done, wrote, need, next}
+use Rattle.walk.specs.Log.{Did, put, apply, applyIf, enter, done}
 use Rattle.walk.proofs.Laws.{done-did, wrote-did, need-no, need-ok, next-ok}
 use Rattle.refinement.proofs.walk_is_model.Parts.{part-entry}
 use Rattle.refinement.proofs.walk_is_model.RunLookups.{runs-are}
 use Rattle.recode.specs.Recode.{lessened}
 use Rattle.column_anew.specs.widths.Converted.{firstOf, manyOf, endsOf}
 use Rattle.width_walks.specs.Convert.{endFits}
-use Rattle.width_walks.specs.Nodes.{range, ownAs, settleAs}
+use Rattle.width_walks.specs.Nodes.{range, ownAs}
 use Rattle.width_walks.proofs.Bytes.{ends-are}
 use Rattle.width_loop.specs.Steps.{runsIn, RunsHere, runsWalk, runsRange}
 use Rattle.width_loop.proofs.Laws.{as-part, off-true, off-false}

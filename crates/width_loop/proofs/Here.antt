@@ -1,45 +1,44 @@
 -- What an accepted column and a target that passes say of node i, by the code of its format. Assumes nothing.
 use mathlib.Core.Path.{_≡_, refl, sym, ap, subst, _∙_}
 use mathlib.Core.Bool.{Bool, true, false, _&&_}
-use mathlib.Core.Option.{Option, none, some}
-use mathlib.Core.List.{List, [], List·Memᴰ}
-use Prim.Native.Nat.{ℕ, suc, _+_, _*_, _<_, _≤_, _^_}
+use mathlib.Core.Option.{some}
+use mathlib.Core.List.{List}
+use Prim.Native.Nat.{ℕ, suc, _+_, _<_, _≤_, _^_}
 use native.Mathlib.Omega.{arith}
 use lib.ListN.{length}
-use lib.Dec.{T, leb, eqb}
+use lib.Dec.{leb, eqb}
 use lib.Ieee.Bits.{is-true}
-use borrow.Author.Tests.{le-leb, ltb-true, eqb-false, ne-eqb}
+use borrow.Author.Tests.{le-leb, ltb-true, ne-eqb}
 use Rattle.columnar.specs.Types.{Number, width}
 use Rattle.columnar.specs.Formed.{Ids, RunWidth}
-use Rattle.columnar.specs.Test.{maskTest}
 use Rattle.columnar.proofs.Test.{every-out}
-use Rattle.formats.specs.Code.{between, isInteger, isFixed, isString, isView, isListView, isList, isUnion, isRunEnd, widthOf}
+use Rattle.formats.specs.Code.{isInteger, isFixed, isString, isView, isListView, isList, isRunEnd, widthOf}
 use Rattle.formats.specs.Types.{numberOf}
 use Rattle.formats.proofs.Types.{number-width, fixed-number}
-use Rattle.schema.specs.Tree.{dictionary, below, childAt, codeOf, idsOf, shape, typed}
+use Rattle.schema.specs.Tree.{dictionary, below, childAt, codeOf, shape, typed}
 use Rattle.schema.proofs.Known.{typed-shape, typed-whole, within-nodes}
 use Rattle.schema.proofs.Trees.{child-inside}
-use Rattle.array_data.specs.Tables.{Tables, place, lengthOf, offsetOf, validOf, validIn}
+use Rattle.array_data.specs.Tables.{Tables, lengthOf, offsetOf, validOf}
 use Rattle.array_data.specs.Typed.{NodeKind, fixedNode, stringNode, viewNode, listViewNode, listNode, sparseNode, denseNode, runEndNode, dictionaryNode, Tree, nodeOf, kindRule, nodeRule}
 use Rattle.array_data.specs.entries.Entries.{column}
-use Rattle.array_data.specs.type_tree.Lent.{numberOr, idsOr, unionKind, kindAt, treeOf}
+use Rattle.array_data.specs.type_tree.Lent.{numberOr, unionKind, kindAt, treeOf}
 use Rattle.array_data.proofs.type_tree.Ids.{both}
-use Rattle.array_data.proofs.type_tree.Shaped.{at-fixed, at-keys, at-string, at-view, at-list, at-lists, at-union, at-run, shaped}
+use Rattle.array_data.proofs.type_tree.Shaped.{at-fixed, at-keys, at-string, at-view, at-list, at-lists, at-run, shaped}
 use Rattle.array_data.proofs.type_tree.Lent.{first-child, second-child}
 use Rattle.source_rules.specs.kinds.Rows.{tablesOf}
-use Rattle.source_rules.proofs.Node.{runs, not-two-four}
+use Rattle.source_rules.proofs.Node.{runs}
 use Rattle.columns.specs.Grounds.{countFits, fewBuffers, nodeFits}
 use Rattle.plan.proofs.dictionaries.Laws.{length-from, offset-from}
-use Rattle.walk.specs.Log.{Out, Did}
-use Rattle.target_rules.specs.Target.{isTarget, Target}
-use Rattle.target_rules.proofs.Codes.{range, Near, the-same, texts, lists, listings, integers, near, string-kept, view-kept, list-kept, plain-list-kept, run-kept, union-kept}
+use Rattle.walk.specs.Log.{Did}
+use Rattle.target_rules.specs.Target.{Target}
+use Rattle.target_rules.proofs.Codes.{range, Near, the-same, texts, lists, listings, integers, near, string-kept, list-kept, plain-list-kept, run-kept}
 use Rattle.target_rules.proofs.Inverse.{ReadsAs, reads-at}
 use Rattle.target_rules.proofs.Rules.{target-is}
 use Rattle.width_walks.specs.Nodes.{ownAs, settleAs}
 use Rattle.width_walks.proofs.Lent.{typed-here, low-here, rule-here, fits-at}
 use Rattle.width_walks.proofs.Placed.{BelowAs, below-of}
-use Rattle.width_loop.specs.Here.{Accepted, Here, ownHere, settledHere}
-use Rattle.width_loop.proofs.Rules.{Bits, fixed-bits, string-bits, view-bits, list-view-bits, list-bits, sparse-bits, dense-bits, run-bits, key-bits, mask-less}
+use Rattle.width_loop.specs.Here.{Accepted, ownHere, settledHere}
+use Rattle.width_loop.proofs.Rules.{Bits, fixed-bits, string-bits, view-bits, list-view-bits, list-bits, sparse-bits, dense-bits, run-bits, key-bits}
 
 -- keys and numbers stay fixed-width
 fixed-kept : (c d : ℕ) → Near c d → isFixed c ≡ true → isFixed d ≡ true

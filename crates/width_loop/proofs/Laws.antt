@@ -1,9 +1,9 @@
 -- What one node writes, step by step: how `Did` goes along it. Assumes nothing.
 use mathlib.Core.Path.{_≡_, refl, sym, ap, ap₂, subst, _∙_}
 use mathlib.Core.Bool.{Bool, true, false, not, cond, _&&_, false≢true}
-use mathlib.Core.Option.{Option, none, some}
-use mathlib.Core.List.{List, [], _∷_, _++_, map, append-nil}
-use Prim.Native.Nat.{ℕ, zero, suc, _+_, _*_, _-_, _<_, _≤_, _^_}
+use mathlib.Core.Option.{none, some}
+use mathlib.Core.List.{List, [], _∷_, map, append-nil}
+use Prim.Native.Nat.{ℕ, zero, suc, _+_, _*_, _-_, _<_, _≤_}
 use native.Mathlib.Nat.{mul-comm, add-mul, mul-zero, add-zero, mul-le-mul-right}
 use native.Mathlib.Numerals.{add-one}
 use native.Mathlib.Omega.{arith}
@@ -16,12 +16,12 @@ use Rattle.columnar.specs.Row.{seg}
 use Rattle.columnar.specs.Types.{half}
 use Rattle.columnar.specs.Array.{item, bit, ok}
 use Rattle.columnar.specs.Entries.{encodes}
-use Rattle.columnar.specs.Plain.{OffsetsTo, OffsetsRule, empty, full}
+use Rattle.columnar.specs.Plain.{OffsetsRule, empty, full}
 use Rattle.columnar.specs.Test.{maskTest}
 use Rattle.columnar.proofs.Items.{entry-end}
 use Rattle.array_data.specs.Tables.{Tables, part, place, validOf, firstBuffer, validIn}
 use Rattle.walk.specs.State.{keepsOf}
-use Rattle.walk.specs.Log.{Out, Did, put, mask, applyIf, done, wrote, need, next}
+use Rattle.walk.specs.Log.{Out, Did, put, mask, applyIf, wrote, need}
 use Rattle.walk.proofs.Laws.{done-did, wrote-did, need-no, need-ok, next-ok}
 use Rattle.refinement.specs.walk_is_model.Holds.{flag}
 use Rattle.refinement.specs.walk_is_model.Lent.{Part}

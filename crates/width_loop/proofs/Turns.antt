@@ -1,12 +1,12 @@
 -- The turns of the walk: one node, and the loop over them. Assumes nothing.
 use mathlib.Core.Path.{_≡_, refl, sym, ap, ap₂, subst, _∙_}
-use mathlib.Core.Bool.{Bool, true, false, cond, false≢true}
-use mathlib.Core.List.{List, []}
-use Prim.Native.Nat.{ℕ, zero, suc, _+_, _-_, _<_, _≤_}
+use mathlib.Core.Bool.{Bool, true, false, false≢true}
+use mathlib.Core.List.{List}
+use Prim.Native.Nat.{ℕ, zero, suc, _+_, _-_, _<_}
 use native.Mathlib.Nat.{sub-zero}
 use native.Mathlib.Numerals.{add-one}
 use native.Mathlib.Omega.{arith}
-use lib.ListN.{length, set, replicate}
+use lib.ListN.{set, replicate}
 use Rattle.columnar.specs.Array.{ok}
 use Rattle.formats.specs.Code.{isRunEnd}
 use Rattle.schema.specs.Tree.{codeOf}
@@ -15,7 +15,7 @@ use Rattle.array_data.specs.Typed.{fixedNode, Tree}
 use Rattle.array_data.specs.entries.Entries.{column}
 use Rattle.array_data.specs.type_tree.Lent.{kindAt, treeOf}
 use Rattle.walk.specs.State.{addRows}
-use Rattle.walk.specs.Log.{Out, Did, done, next}
+use Rattle.walk.specs.Log.{Did, next}
 use Rattle.walk.proofs.Laws.{Rest, done-did, next-no, next-ok}
 use Rattle.target_rules.specs.Target.{endsAt}
 use Rattle.width_walks.specs.Convert.{bitsWalk}

@@ -4,8 +4,7 @@ use mathlib.Core.Bool.{true}
 use mathlib.Core.List.{List, []}
 use Prim.Native.Nat.{ℕ, _+_, _<_, _≤_}
 use Rattle.columnar.specs.Array.{ok}
-use Rattle.array_data.specs.Tables.{Tables, lengthOf, offsetOf, validOf}
-use Rattle.array_data.specs.Typed.{Tree}
+use Rattle.array_data.specs.Tables.{lengthOf, offsetOf, validOf}
 use Rattle.array_data.specs.entries.Entries.{column}
 use Rattle.array_data.specs.type_tree.Lent.{treeOf}
 use Rattle.source_rules.specs.kinds.Rows.{tablesOf}

@@ -1,10 +1,10 @@
 -- Steps of the walk by their buffers. Assumes nothing.
 use mathlib.Core.List.{List}
-use Prim.Native.Nat.{ℕ, suc, _+_, _*_, _<_, _≤_, _^_}
+use Prim.Native.Nat.{ℕ, suc, _+_, _*_, _<_, _≤_}
 use lib.ListN.{length}
 use Rattle.columnar.specs.Row.{seg}
 use Rattle.columnar.specs.Types.{half}
-use Rattle.columnar.specs.Array.{Array, item}
+use Rattle.columnar.specs.Array.{item}
 use Rattle.columnar.specs.Entries.{encodes}
 use Rattle.columnar.specs.RunEnd.{RunEnd, endOf, startOf}
 use Rattle.array_data.specs.Tables.{Tables, place, lengthOf, offsetOf, firstBuffer, arrayWith}

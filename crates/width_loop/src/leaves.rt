@@ -2,7 +2,7 @@
 ghost use mathlib.Core.Path.{_≡_};
 ghost use mathlib.Core.Bool.{true, cond};
 ghost use mathlib.Core.List.{List, [], _∷_};
-ghost use Prim.Native.Nat.{ℕ, suc, _+_, _*_, _-_, _<_, _≤_, _^_};
+ghost use Prim.Native.Nat.{ℕ, _+_, _*_, _-_, _<_, _≤_, _^_};
 ghost use lib.ListN.{length, take, drop};
 ghost use lib.Dec.{ltb};
 ghost use Rattle.number.specs.Number.{entry};
@@ -15,7 +15,7 @@ ghost use Rattle.columnar.specs.Entries.{encodes};
 ghost use Rattle.columnar.specs.Test.{maskTest};
 ghost use Rattle.array_data.specs.Tables.{part, validOf, firstBuffer, place, validIn};
 ghost use Rattle.array_data.specs.entries.Entries.{column};
-ghost use Rattle.walk.specs.Log.{Did, put, wrote, need, next, applyIf};
+ghost use Rattle.walk.specs.Log.{Did, put, wrote, need, applyIf};
 ghost use Rattle.column_anew.specs.widths.Converted.{spanOf, offsetsOf};
 ghost use Rattle.width_walks.specs.Convert.{bitsWalk};
 ghost use Rattle.width_loop.specs.Steps.{pairsWalk};

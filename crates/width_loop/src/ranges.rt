@@ -2,7 +2,7 @@
 ghost use mathlib.Core.Path.{_≡_};
 ghost use mathlib.Core.Bool.{cond};
 ghost use mathlib.Core.List.{List};
-ghost use Prim.Native.Nat.{ℕ, _<_, _≤_, _^_};
+ghost use Prim.Native.Nat.{ℕ, _<_, _≤_};
 ghost use Rattle.schema.specs.Tree.{childAt};
 ghost use Rattle.array_data.specs.Tables.{lengthOf};
 ghost use Rattle.array_data.specs.Typed.{Tree};

@@ -1,7 +1,6 @@
 -- `width_loop::walk_node` meets its contract. Assumes nothing.
-use mathlib.Core.Path.{_≡_, refl, ap}
-use mathlib.Core.List.{[]}
-use Prim.Native.Nat.{_+_, _*_}
+use mathlib.Core.Path.{refl, ap}
+use Prim.Native.Nat.{_+_}
 use native.Mathlib.Omega.{arith}
 use Rattle.array_data.specs.Tables.{offsetOf, lengthOf, validOf}
 use Rattle.array_data.specs.entries.Entries.{column}

@@ -1,7 +1,6 @@
 -- `width_loop::kinds::walk_list` meets its contract. Assumes nothing.
-use mathlib.Core.Path.{_≡_, refl, _∙_}
 use mathlib.Core.List.{[]}
-use Prim.Native.Nat.{_+_, _*_, _-_}
+use Prim.Native.Nat.{_+_}
 use native.Mathlib.Omega.{arith}
 use Rattle.array_data.specs.entries.Entries.{column}
 use Rattle.width_loop.proofs.Own.{did-zero, offsets-as, item-as, list-settles, rule-as, inside-as, offset-ok, base-below}

@@ -1,10 +1,8 @@
 -- `width_loop::leaves::all_fit` meets its contract. Assumes nothing.
 use native.Mathlib.Omega.{arith}
 use mathlib.Core.Path.{_∙_, ap}
-use Rattle.columnar.specs.Types.{half}
 use Rattle.recode.specs.Recode.{allBelow}
 use Rattle.width_loop.proofs.Laws.{all-small}
-use borrow.Author.Needs.{needs}
 use Rattle.width_loop.proofs.leaves.all_fit.Statement.{statement}
 use Rattle.width_loop.proofs.leaves.all_fit.Tie as tie
 

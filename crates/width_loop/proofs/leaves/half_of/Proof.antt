@@ -1,7 +1,6 @@
 -- `width_loop::leaves::half_of` meets its contract. Assumes nothing.
 use mathlib.Core.Path.{sym, ap}
 use Rattle.columnar.specs.Types.{half}
-use borrow.Author.Needs.{needs}
 use Rattle.width_loop.proofs.leaves.half_of.Statement.{statement}
 use Rattle.width_loop.proofs.leaves.half_of.Tie as tie
 

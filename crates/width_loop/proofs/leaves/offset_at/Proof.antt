@@ -4,7 +4,6 @@ use native.Mathlib.Nat.{mul-comm}
 use Prim.Native.Nat.{_+_}
 use mathlib.Core.Path.{_∙_}
 use Rattle.width_loop.proofs.Laws.{no-offset, some-offset}
-use borrow.Author.Needs.{needs}
 use Rattle.width_loop.proofs.leaves.offset_at.Statement.{statement}
 use Rattle.width_loop.proofs.leaves.offset_at.Tie as tie
 

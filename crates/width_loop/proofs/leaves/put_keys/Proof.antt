@@ -1,7 +1,7 @@
 -- `width_loop::leaves::put_keys` meets its contract. Assumes nothing.
 use mathlib.Core.Path.{_≡_, _∙_, ap}
 use mathlib.Core.List.{[], _∷_}
-use Prim.Native.Nat.{_+_, _*_}
+use Prim.Native.Nat.{_+_}
 use native.Mathlib.Nat.{mul-add, mul-comm}
 use native.Mathlib.Omega.{arith}
 use Rattle.array_data.specs.Tables.{place}

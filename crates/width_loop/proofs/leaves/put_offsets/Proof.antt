@@ -1,7 +1,6 @@
 -- `width_loop::leaves::put_offsets` meets its contract. Assumes nothing.
 use mathlib.Core.Path.{refl}
-use Prim.Native.Nat.{_+_, _*_}
-use native.Mathlib.Nat.{mul-comm}
+use Prim.Native.Nat.{_+_}
 use native.Mathlib.Omega.{arith}
 use Rattle.array_data.specs.Tables.{part}
 use Rattle.width_loop.proofs.Laws.{part-size, wide, offset-in, span-rises, offsets-from, offsets-over, offsets-none, offsets-some}

@@ -1,6 +1,5 @@
 -- `width_loop::leaves::put_pairs` meets its contract. Assumes nothing.
 use mathlib.Core.Path.{refl}
-use Prim.Native.Nat.{_+_, _*_}
 use native.Mathlib.Nat.{mul-add}
 use native.Mathlib.Omega.{arith}
 use Rattle.width_loop.proofs.Laws.{pairs-first, pairs-second, pairs-both}

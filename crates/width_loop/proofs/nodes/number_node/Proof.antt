@@ -1,23 +1,20 @@
 -- `width_loop::nodes::number_node` meets its contract. Assumes nothing.
 use mathlib.Core.Path.{_≡_, refl, sym, ap, subst, _∙_}
-use mathlib.Core.List.{[]}
-use Prim.Native.Nat.{suc, _+_, _*_, _≤_}
+use Prim.Native.Nat.{_+_, _*_, _≤_}
 use native.Mathlib.Omega.{arith}
-use lib.ListN.{length}
 use Rattle.columnar.specs.Types.{width}
 use Rattle.columnar.specs.Array.{ok}
-use Rattle.columnar.specs.Plain.{OffsetsRule}
 use Rattle.formats.specs.Code.{isInteger, widthOf}
 use Rattle.formats.specs.Types.{numberOf}
 use Rattle.schema.specs.Tree.{dictionary, codeOf}
-use Rattle.array_data.specs.Tables.{place, lengthOf, validOf, firstBuffer, secondBuffer}
-use Rattle.array_data.specs.Typed.{fixedNode, stringNode, listViewNode, listNode, dictionaryNode}
+use Rattle.array_data.specs.Tables.{place, validOf}
+use Rattle.array_data.specs.Typed.{fixedNode, dictionaryNode}
 use Rattle.array_data.specs.entries.Entries.{column}
 use Rattle.array_data.specs.type_tree.Lent.{numberOr, treeOf}
-use Rattle.leaf_walk.proofs.Widths.{fixed-width, string-width, list-width, lists-width}
+use Rattle.leaf_walk.proofs.Widths.{fixed-width}
 use Rattle.width_loop.proofs.Laws.{slots-in}
-use Rattle.width_loop.proofs.Rules.{mask-less, fixed-here, string-here, list-here, list-view-here, key-here}
-use Rattle.width_loop.proofs.Here.{number-wide, few, rule-as, sum-here, string-kinds, list-view-kinds, list-kinds, fixed-kinds, key-kinds, list-below, list-view-below, key-below, bits-here, by-kinds, settled-by}
+use Rattle.width_loop.proofs.Rules.{mask-less, fixed-here, key-here}
+use Rattle.width_loop.proofs.Here.{number-wide, few, rule-as, sum-here, fixed-kinds, key-kinds, key-below, bits-here, by-kinds, settled-by}
 use Rattle.array_data.proofs.type_tree.Shaped.{integer-fixed}
 use Rattle.width_loop.proofs.Own.{fixed-as}
 use borrow.Author.Needs.{needs}

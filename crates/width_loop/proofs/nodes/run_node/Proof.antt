@@ -1,24 +1,18 @@
 -- `width_loop::nodes::run_node` meets its contract. Assumes nothing.
-use mathlib.Core.Path.{_≡_, refl, sym, ap, subst, _∙_}
+use mathlib.Core.Path.{sym, ap, subst, _∙_}
 use mathlib.Core.List.{[]}
-use Prim.Native.Nat.{suc, _+_, _*_, _≤_}
+use Prim.Native.Nat.{suc}
 use native.Mathlib.Numerals.{add-one}
 use native.Mathlib.Omega.{arith}
-use lib.ListN.{length}
-use Rattle.columnar.specs.Types.{width}
 use Rattle.columnar.specs.Array.{ok}
-use Rattle.columnar.specs.Plain.{OffsetsRule}
-use Rattle.formats.specs.Code.{isInteger, widthOf}
-use Rattle.formats.specs.Types.{numberOf}
+use Rattle.formats.specs.Code.{widthOf}
 use Rattle.schema.specs.Tree.{codeOf}
-use Rattle.array_data.specs.Tables.{place, lengthOf, validOf, firstBuffer, secondBuffer}
-use Rattle.array_data.specs.Typed.{fixedNode, stringNode, listViewNode, listNode, runEndNode}
+use Rattle.array_data.specs.Tables.{validOf}
+use Rattle.array_data.specs.Typed.{fixedNode, runEndNode}
 use Rattle.array_data.specs.entries.Entries.{column}
-use Rattle.array_data.specs.type_tree.Lent.{numberOr, treeOf}
-use Rattle.leaf_walk.proofs.Widths.{fixed-width, string-width, list-width, lists-width}
-use Rattle.width_loop.proofs.Laws.{slots-in}
+use Rattle.array_data.specs.type_tree.Lent.{treeOf}
 use Rattle.width_loop.proofs.Rules.{fixed-inside, run-here}
-use Rattle.width_loop.proofs.Here.{number-wide, few, rule-as, sum-here, string-kinds, list-view-kinds, list-kinds, run-kinds, run-below, by-kinds, settled-by}
+use Rattle.width_loop.proofs.Here.{few, rule-as, sum-here, run-kinds, run-below, by-kinds, settled-by}
 use Rattle.columnar.specs.Formed.{RunWidth}
 use Rattle.source_rules.proofs.Node.{not-two-four}
 use Rattle.width_loop.specs.Steps.{RunsHere}

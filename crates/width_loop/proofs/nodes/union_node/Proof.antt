@@ -1,10 +1,10 @@
 -- `width_loop::nodes::union_node` meets its contract. Assumes nothing.
-use mathlib.Core.Path.{_≡_, refl, sym, ap, _∙_}
+use mathlib.Core.Path.{refl, sym, ap, _∙_}
 use mathlib.Core.Bool.{true, false}
 use native.Mathlib.Omega.{arith}
 use lib.Dec.{eqb}
 use Rattle.columnar.specs.Array.{ok}
-use Rattle.schema.specs.Tree.{codeOf, idsOf}
+use Rattle.schema.specs.Tree.{idsOf}
 use Rattle.array_data.specs.Tables.{validOf}
 use Rattle.array_data.specs.Typed.{sparseNode, denseNode, nodeOf}
 use Rattle.array_data.specs.entries.Entries.{column}

@@ -1,8 +1,5 @@
 -- `width_loop::ranges::set_child` meets its contract. Assumes nothing.
-use mathlib.Core.Path.{_∙_, ap}
-use Rattle.array_data.specs.Tables.{lengthOf}
 use Rattle.array_data.specs.entries.Entries.{column}
-use Rattle.width_walks.specs.Nodes.{range}
 use Rattle.width_loop.proofs.Settled.{child-whole, child-part}
 use borrow.Author.Needs.{needs}
 use Rattle.width_loop.proofs.ranges.set_child.Statement.{statement}

@@ -1,7 +1,6 @@
 -- `width_loop::runs::put_runs` meets its contract. Assumes nothing.
-use mathlib.Core.Path.{_≡_, refl}
+use mathlib.Core.Path.{refl}
 use mathlib.Core.List.{[]}
-use Prim.Native.Nat.{_+_, _*_}
 use native.Mathlib.Omega.{arith}
 use Rattle.array_data.specs.entries.Entries.{column}
 use Rattle.width_loop.proofs.Clips.{ends-as, len-as, narrow, some-runs, runs-found, runs-none, ends-in, range-in, runs-did, range-is}

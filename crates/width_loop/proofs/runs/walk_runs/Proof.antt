@@ -1,6 +1,5 @@
 -- `width_loop::runs::walk_runs` meets its contract. Assumes nothing.
 use mathlib.Core.List.{[]}
-use Prim.Native.Nat.{_+_}
 use native.Mathlib.Omega.{arith}
 use Rattle.array_data.specs.entries.Entries.{column}
 use Rattle.width_loop.proofs.Clips.{above-zero, no-runs, no-range, runs-over, runs-yes}
