@@ -1,5 +1,5 @@
 -- Tables of n nodes, written behind their first node, are those of the list-view (convert_lists/specs/ViewTables). Assumes nothing.
-use mathlib.Core.Path.{_≡_, refl, sym, ap, ap₂, subst, _∙_}
+use mathlib.Core.Path.{_≡_, refl, sym, ap, ap₂, _∙_}
 use mathlib.Core.Bool.{Bool, true, false, cond, _&&_}
 use mathlib.Core.List.{List, [], _∷_, _++_}
 use Prim.Native.Nat.{ℕ, zero, suc, _+_, _*_, _-_, _/_, _%_, _≤_, _<_, _^_}
@@ -24,7 +24,7 @@ use Rattle.anew.proofs.Comes.{source-good, column-countable}
 use Rattle.into_builder.specs.buffers.Names.{Behind}
 use Rattle.into_builder.proofs.buffers.Written.{seg-more}
 use Rattle.convert_lists.specs.ViewTables.{lengthAt, offsetAt, nullsAt, placeAt, viewLengths, viewNulls, viewPlaces}
-use Rattle.child_names.specs.Names.{Naming, tablesFit, belowPlace, naming, Names}
+use Rattle.child_names.specs.Names.{tablesFit, belowPlace, naming, Names}
 
 -- ---- a table that is written behind its first a numbers
 

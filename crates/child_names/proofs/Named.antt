@@ -8,7 +8,6 @@ use lib.ListN.{length, take, getD}
 use lib.Seq.{getD-take}
 use lib.Dec.{eqb}
 use borrow.Author.Tests.{eqb-false}
-use Rattle.columnar.specs.Row.{seg}
 use Rattle.columnar.proofs.Kept.{seg-same}
 use Rattle.array_data.specs.Tables.{Tables}
 use Rattle.columns.specs.Grounds.{columnGround}

@@ -2,7 +2,7 @@
 -- type on, and turned back. Assumes nothing.
 use mathlib.Core.Path.{_≡_, sym, ap, subst, _∙_}
 use mathlib.Core.List.{List}
-use Prim.Native.Nat.{ℕ, suc, _+_}
+use Prim.Native.Nat.{ℕ, suc}
 use native.Mathlib.Omega.{arith}
 use Rattle.columnar.specs.Types.{tListView, tList}
 use Rattle.columnar.specs.Reading.{readAll, Source}
@@ -10,7 +10,7 @@ use Rattle.formats.specs.Code.{widthOf}
 use Rattle.schema.specs.Tree.{codeOf}
 use Rattle.array_data.specs.Tables.{Tables}
 use Rattle.array_data.specs.Typed.{Tree, tablesFrom, columnOf}
-use Rattle.array_data.specs.type_tree.Lent.{treeOf, tyOf}
+use Rattle.array_data.specs.type_tree.Lent.{treeOf}
 use Rattle.refinement.specs.log_in_room.Room.{AllBelow}
 use Rattle.columns.specs.Grounds.{columnGround}
 use Rattle.refinement.specs.finishing.Shows.{Bodied}
@@ -19,7 +19,7 @@ use Rattle.convert_lists.specs.ToView.{makeView}
 use Rattle.convert_lists.proofs.OneNode.{Likewise, of-list-view, of-list, likewise, likewise-rows}
 use Rattle.convert_lists.proofs.ListLent.{Due, width-same}
 use Rattle.convert_lists.proofs.ListLent as lentList
-use Rattle.convert_lists.proofs.ViewLent.{ViewDue, width-back}
+use Rattle.convert_lists.proofs.ViewLent.{ViewDue}
 use Rattle.convert_lists.proofs.ViewLent as lentView
 use Rattle.convert_lists.proofs.ToList.{to-list-rows}
 use Rattle.convert_lists.proofs.ToList as toList

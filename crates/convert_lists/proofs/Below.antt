@@ -1,5 +1,5 @@
 -- The nodes below the root in the tables of a list-view: each is the column's, named where it stands. Assumes nothing.
-use mathlib.Core.Path.{_≡_, refl, sym, ap, ap₂, subst, _∙_}
+use mathlib.Core.Path.{_≡_, refl, sym, ap, ap₂, _∙_}
 use mathlib.Core.Bool.{Bool, true, false, cond, _&&_}
 use mathlib.Core.Option.{none, some}
 use mathlib.Core.List.{List}
@@ -7,29 +7,21 @@ use Prim.Native.Nat.{ℕ, zero, suc, _+_, _*_, _/_, _%_, _≤_, _<_}
 use native.Mathlib.Nat.{zero-add}
 use native.Mathlib.Omega.{arith}
 use lib.ListN.{length, getD}
-use lib.Dec.{T, leb, eqb}
-use lib.Ieee.Bits.{is-true}
+use lib.Dec.{leb, eqb}
 use borrow.Author.Tests.{le-leb, leb-true, lt-ltb, le-ltb}
 use Rattle.columnar.specs.Row.{seg}
-use Rattle.columnar.specs.Types.{Plain, fixed, string, Ty, tPlain, tView, tListView, tList, tSparse, tDense, tRunEnd, tDictionary}
 use Rattle.columnar.specs.Array.{nullCount}
 use Rattle.columnar.proofs.Kept.{seg-same}
-use Rattle.columnar.proofs.Test.{every-out}
-use Rattle.model.specs.Opening.{present}
 use Rattle.model.proofs.Bits.{length-seg, getD-seg}
-use Rattle.model.proofs.Present.{present-nulls}
-use Rattle.array_data.specs.Tables.{Tables, part, lengthOf, offsetOf, place, validOf, firstBuffer, secondBuffer, dataBuffer, dataBuffers, arrayWith, held, inBody, validIn}
+use Rattle.array_data.specs.Tables.{Tables, part, lengthOf, offsetOf, place, validOf, firstBuffer, secondBuffer, dataBuffer, dataBuffers, held, inBody, validIn}
 use Rattle.array_data.specs.Rules.{oneIn, twoIn, buffersIn}
-use Rattle.array_data.specs.Typed.{NodeKind, fixedNode, stringNode, viewNode, listViewNode, listNode, sparseNode, denseNode, runEndNode, dictionaryNode, Tree, fieldOf, nodeOf, Is, MeansPlain, Means, tablesFrom, plainBody, bodyOf, columnOf, kindRule, nodeRule, sourceRule, placedAs, placed}
-use Rattle.array_data.proofs.lent_tables.Laws.{and-left, and-right, first-in, second-in, two-one}
+use Rattle.array_data.specs.Typed.{tablesFrom}
+use Rattle.array_data.proofs.lent_tables.Laws.{and-left, and-right, two-one}
 use Rattle.parts.proofs.Placed.{every-at}
 use Rattle.plan.specs.dictionaries.Sources.{arrayOf}
 use Rattle.plan.proofs.dictionaries.Laws.{length-from, offset-from, place-from, array-from}
 use Rattle.refinement.proofs.orders.Enough.{every-all}
-use Rattle.refinement.specs.finishing.Shows.{ShowsNode, ShowsPlain, ShowsData, Shows, CountsNode, CountsData, Counts}
-use Rattle.column_anew.specs.lists.Named.{namedNode, namedBody, named}
 use Rattle.convert_lists.specs.ViewTables.{lengthAt, offsetAt, nullsAt, placeAt, viewLengths, viewNulls, viewPlaces, viewTables}
-use Rattle.convert_lists.proofs.Subtree.{Alike, kid-same}
 
 entry : (f : ℕ → ℕ) (n q : ℕ) → q < n → getD (seg f 0 n) q 0 ≡ f q
 entry f n q l = getD-seg f 0 n q 0 l ∙ ap f (zero-add q)

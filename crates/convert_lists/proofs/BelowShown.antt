@@ -3,7 +3,7 @@
 use mathlib.Core.Path.{_≡_, refl, sym, subst, _∙_}
 use mathlib.Core.Bool.{Bool, true, _&&_, cond}
 use mathlib.Core.Option.{none}
-use mathlib.Core.List.{List, List·Memᴰ}
+use mathlib.Core.List.{List}
 use Prim.Native.Nat.{ℕ, suc, _+_, _≤_, _<_}
 use native.Mathlib.Omega.{arith}
 use lib.ListN.{length}
@@ -11,7 +11,6 @@ use lib.Dec.{T, eqb}
 use lib.Ieee.Bits.{is-true}
 use Rattle.columnar.specs.Types.{Plain, fixed, string, Ty, tPlain, tView, tListView, tList, tSparse, tDense, tRunEnd, tDictionary}
 use Rattle.columnar.specs.Array.{nullCount}
-use Rattle.columnar.specs.Reading.{Column}
 use Rattle.columnar.proofs.Test.{every-out}
 use Rattle.model.proofs.Present.{present-nulls}
 use Rattle.array_data.specs.Tables.{Tables, part, lengthOf, offsetOf, validOf, firstBuffer, arrayWith, held, validIn}

@@ -11,12 +11,10 @@ use borrow.Author.Tests.{eqb-true, eqb-false}
 use Rattle.schema.specs.Tree.{whole, typed}
 use Rattle.array_data.specs.Tables.{Tables}
 use Rattle.walk.specs.Log.{Out}
-use Rattle.refinement.proofs.walk_is_model.Goes.{Quiet}
-use Rattle.refinement.proofs.opening.Zeros.{empty}
 use Rattle.refinement.specs.plan_is_type.Planted.{joinOf}
 use Rattle.columns.specs.Grounds.{smallBody, columnGround}
 use Rattle.anew.specs.Anew.{orElse, ahead, roomGround, anew}
-use Rattle.anew.proofs.Laws.{or-zero, or-first, anew-ground, anew-keeps}
+use Rattle.anew.proofs.Laws.{or-zero, or-first, anew-ground}
 use Rattle.convert_lists.specs.Turned.{toList, toView}
 use Rattle.convert_lists.specs.Viewing.{viewWalk}
 use Rattle.convert_lists.specs.ToList.{listOwn, listPlan, listFilled, makeList}
@@ -94,3 +92,15 @@ module _ (formats schema : List ℕ) (x : Tables) (first n target tn : ℕ) (par
   to-view-grounds small =
       in-order (viewOwn formats schema x first n target tn) (viewPlan formats schema x first n target tn) (viewFilled formats schema x first n target tn) small
       ∙ or-never ofColumn (viewOwn formats schema x first n target tn) (viewFilled formats schema x first n target tn .ans) _ to-view-never
+
+  -- ---- the grounds of the column and of the target
+
+  other : (own : ℕ) (made : List ℕ) (walk : Out) → smallBody room ≡ true → ofColumn ≡ 0 → own ≡ 10 → anew formats schema x first n own made walk parts plan counts room .ground ≡ 10
+  other own made walk small c o = in-order own made walk small ∙ or-zero ofColumn _ c ∙ or-first own _ (λ z. omega (arith, o, z)) ∙ o
+
+  -- "REFUSES WITH 10 ANY OTHER COLUMN"
+  pub to-list-other : smallBody room ≡ true → ofColumn ≡ 0 → toList formats schema first n target tn ≡ false → makeList formats schema x first n target tn parts plan counts room .ground ≡ 10
+  to-list-other small c f = other (listOwn formats schema x first n target tn) (listPlan formats schema x first n target tn) (listFilled formats schema x first n target tn) small c (rw f)
+
+  pub to-view-other : smallBody room ≡ true → ofColumn ≡ 0 → toView formats schema first n target tn ≡ false → makeView formats schema x first n target tn parts plan counts room .ground ≡ 10
+  to-view-other small c f = other (viewOwn formats schema x first n target tn) (viewPlan formats schema x first n target tn) (viewFilled formats schema x first n target tn) small c (rw f)

@@ -1,6 +1,6 @@
 -- The finished tables of a plan with a list-view's root alone describe that root, with its null count. Assumes nothing.
 use mathlib.Core.Path.{_≡_, refl, sym, ap, ap₂, _∙_}
-use mathlib.Core.Bool.{Bool, true, false, cond, _&&_}
+use mathlib.Core.Bool.{Bool, true, false, cond}
 use mathlib.Core.Option.{Option, none, some}
 use mathlib.Core.List.{List, [], _∷_, map}
 use Prim.Native.Nat.{ℕ, zero, suc, _+_, _*_, _/_, _≤_, _<_}
@@ -13,8 +13,6 @@ use Rattle.columnar.specs.Test.{every}
 use Rattle.refinement.proofs.orders.Enough.{every-all}
 use Rattle.formats.specs.Code.{isView, isListView}
 use Rattle.array_data.specs.Tables.{Tables, place, held, inBody, validIn, firstBuffer, secondBuffer}
-use Rattle.array_data.specs.Rules.{oneIn, twoIn}
-use Rattle.model.proofs.Bits.{length-seg}
 use Rattle.walk.specs.Log.{startOf}
 use Rattle.columns.specs.Grounds.{ceiling}
 use Rattle.model.specs.Mutable.{Mutable, zeros, validity}
@@ -29,7 +27,7 @@ use Rattle.parts.proofs.Placed.{used-holds}
 use Rattle.refinement.specs.orders.Order.{Lent}
 use Rattle.refinement.proofs.orders.Buffers.{list-two, needed-starts, needed-sizes, copied-free, copied-buffer, copied-bits}
 use Rattle.refinement.proofs.orders.Own.{Bounded, Own}
-use Rattle.refinement.specs.finishing.Finish.{zerosAt, nullsAt, keptIn, bufferStart, bufferSize, buffersBefore, copiedPlace, placeAt, lengthTable, nullTable, placeTable, bufferTable, Finished, tablesFit, roomFits, sizesFit, finishing}
+use Rattle.refinement.specs.finishing.Finish.{zerosAt, keptIn, bufferStart, bufferSize, buffersBefore, copiedPlace, placeAt, lengthTable, nullTable, placeTable, bufferTable, tablesFit, roomFits, sizesFit, finishing}
 use Rattle.refinement.specs.finishing.Shows.{ShowsNode, CountsNode, finishedTables, Bodied}
 use Rattle.refinement.proofs.finishing.Lookups.{place-at}
 use Rattle.refinement.proofs.finishing.Copied.{first-is, second-is, node-shows, node-counts}

@@ -4,9 +4,9 @@ use mathlib.Core.Path.{_≡_, refl, sym, ap, subst, _∙_}
 use mathlib.Core.Bool.{false}
 use mathlib.Core.Logic.{inl, inr}
 use mathlib.Core.List.{List, []}
-use Prim.Native.Nat.{ℕ, suc}
+use Prim.Native.Nat.{ℕ, suc, _*_, _≤_}
 use native.Mathlib.Omega.{arith}
-use lib.ListN.{replicate}
+use lib.ListN.{length, replicate}
 use lib.Dec.{T}
 use Rattle.columnar.specs.Types.{Ty, tListView, tList}
 use Rattle.columnar.specs.Reading.{Column, readAll}
@@ -19,20 +19,22 @@ use Rattle.refinement.specs.log_in_room.Room.{AllBelow}
 use Rattle.refinement.specs.orders.Order.{Lent}
 use Rattle.refinement.specs.opening.Open.{Opening}
 use Rattle.anew.specs.ResultPlan.{keepsFrom}
-use Rattle.columns.specs.Grounds.{columnGround}
-use Rattle.refinement.specs.finishing.Finish.{nullTable}
+use Rattle.parts.specs.Parts.{nodesOf}
+use Rattle.refinement.specs.orders.Written.{OnlyUsed}
+use Rattle.columns.specs.Grounds.{ceiling, columnGround}
+use Rattle.refinement.specs.finishing.Finish.{buffersBefore, lengthTable, nullTable, placeTable, bufferTable, finishing}
 use Rattle.refinement.specs.finishing.Shows.{Shows, Counts, finishedTables, Bodied}
 use Rattle.column_anew.specs.lists.Listed.{listed, groundOf}
 use Rattle.column_anew.proofs.lists.Listed.{listed-rows}
 use Rattle.column_anew.proofs.lists.Grounds.{listed-with}
 use Rattle.anew.proofs.Laws.{anew-accepted}
-use Rattle.anew.proofs.Result.{Filled, anew-result}
+use Rattle.anew.proofs.Result.{Filled, anew-writes, anew-finishes, anew-result}
 use Rattle.convert_lists.specs.Turned.{allNodes}
 use Rattle.convert_lists.specs.ToList.{lentWith, listOwn, listPlan, listFilled, makeList}
 use Rattle.convert_lists.proofs.Listing.{ListView}
 use Rattle.convert_lists.proofs.ListFills.{list-fills, list-ground}
 use Rattle.convert_lists.proofs.ListParts.{list-same}
-use Rattle.convert_lists.proofs.ListLent.{Due, wide, item, column, type-is, made, no-ends, list-view, list-named, list-sound}
+use Rattle.convert_lists.proofs.ListLent.{Due, wide, item, column, type-is, no-ends, list-view, list-named, list-sound}
 
 module _ (formats schema : List ℕ) (x : Tables) (first m target : ℕ) (ok : columnGround formats schema x first (suc m) ≡ 0) (due : Due formats schema first (suc m) target (suc m)) where
   abbrev n : ℕ
@@ -92,6 +94,45 @@ module _ (formats schema : List ℕ) (x : Tables) (first m target : ℕ) (ok : c
     filled =
         subst (λ o. Filled lent (x .buffers) (tList w t) o list) (list-same x (listPlan formats schema x first n target n) parts first n (replicate 96 0))
         (list-fills lent w t v (lent-ok parts) (x .buffers) (λ c μ. list-named formats schema x first m target ok due parts c μ) (list-sound formats schema x first m target ok due) body-bytes list to-list-made)
+
+    -- ---- what is written, and finishing
+
+    abbrev made : List ℕ
+    made = listPlan formats schema x first n target n
+
+    abbrev Written : Type 0
+    Written = OnlyUsed made parts room (answer .counts) (answer .room)
+
+    abbrev Finishes : Type 0
+    Finishes =
+        (base : ℕ) → base ≤ ceiling → (lengths nulls places names : List ℕ) → length lengths ≡ 2 * nodesOf made → length nulls ≡ nodesOf made → length places ≡ 9 * nodesOf made
+        → length names ≡ 2 * buffersBefore lent (x .buffers) (answer .counts) (answer .room) base (nodesOf made)
+        → finishing lent (x .buffers) (answer .counts) (answer .room) base lengths nulls places names
+        ≡ record {
+          ground = 0;
+          lengths = lengthTable lent (x .buffers) (answer .counts) (answer .room) base;
+          nulls = nullTable lent (x .buffers) (answer .counts) (answer .room) base;
+          places = placeTable lent (x .buffers) (answer .counts) (answer .room) base;
+          buffers = bufferTable lent (x .buffers) (answer .counts) (answer .room) base;
+        }
+
+    both-at : (u : Ty) → typeOf formats schema target n ≡ u → (y : Column u) → Filled lent (x .buffers) u (listFilled formats schema x first n target n) y → Written × Finishes
+    both-at u e =
+        subst (λ u. (y : Column u) → Filled lent (x .buffers) u (listFilled formats schema x first n target n) y → Written × Finishes) e
+        (λ y f. (
+          anew-writes formats schema x first n (listOwn formats schema x first n target n) target n (keepsFrom (tables (x .lengths) (x .places) (x .body)) first allNodes) false 0
+              (listFilled formats schema x first n target n) parts plan counts room (due .is-typed) (due .low) (no-ends formats schema x first m target ok due) y f room-bytes passed,
+          anew-finishes formats schema x first n (listOwn formats schema x first n target n) target n (keepsFrom (tables (x .lengths) (x .places) (x .body)) first allNodes) false 0
+              (listFilled formats schema x first n target n) parts plan counts room (due .is-typed) (due .low) (no-ends formats schema x first m target ok due) y f room-bytes passed,
+        ))
+
+    -- AN ACCEPTED CALL CHANGES ONLY BYTES OF THE PARTS, up to what each needs
+    pub to-list-writes : Written
+    to-list-writes = both-at (tList w t) (type-is formats schema x first m target ok due) list filled .0
+
+    -- FINISHING IS ACCEPTED, where its tables are of the list's lengths and the room begins within a body's ceiling
+    pub to-list-finishes : Finishes
+    to-list-finishes = both-at (tList w t) (type-is formats schema x first m target ok due) list filled .1
 
     module _ (base : ℕ) (body : List ℕ) (bodied : Bodied body lent (answer .room) base) where
       abbrev pub tablesAfter : Tables

@@ -1,7 +1,7 @@
 -- A LIST COLUMN AS A LIST-VIEW (02, W4), over lent memory: the finished root, with the column's nodes behind it (specs/ViewTables), has the bytes of
 -- `viewed`, reads as the column's rows, and can be lent again. Assumes nothing.
 use mathlib.Core.Path.{_≡_, refl, sym, ap, subst, _∙_}
-use mathlib.Core.Bool.{Bool, true, _&&_}
+use mathlib.Core.Bool.{Bool, true}
 use mathlib.Core.List.{List}
 use Prim.Native.Nat.{ℕ, zero, suc, _+_, _≤_, _<_}
 use native.Mathlib.Nat.{add-zero}
@@ -9,16 +9,12 @@ use native.Mathlib.Omega.{arith}
 use lib.ListN.{length, take, length-take}
 use lib.Dec.{T}
 use Rattle.columnar.specs.Types.{Ty, tListView, tList}
-use Rattle.columnar.specs.Row.{seg}
-use Rattle.columnar.specs.Array.{ok}
 use Rattle.columnar.specs.Reading.{Column, readAll, Source}
 use Rattle.columnar.specs.Test.{test}
 use Rattle.columnar.proofs.Test.{test-complete}
-use Rattle.array_data.specs.Tables.{Tables, part, place, held, inBody, validIn, firstBuffer, secondBuffer}
+use Rattle.array_data.specs.Tables.{Tables, part, place}
 use Rattle.array_data.specs.Typed.{Tree, listViewNode, columnOf, sourceRule, placedAs, placed}
-use Rattle.array_data.specs.type_tree.Lent.{typeOf}
 use Rattle.array_data.proofs.type_tree.Source.{lent-obeys}
-use Rattle.model.specs.Mutable.{validity}
 use Rattle.refinement.specs.log_in_room.Room.{AllBelow}
 use Rattle.columns.specs.Grounds.{columnGround}
 use Rattle.refinement.specs.orders.Order.{Lent}

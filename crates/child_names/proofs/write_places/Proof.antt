@@ -1,5 +1,5 @@
 -- `child_names::write_places` meets its contract. The invariant: k numbers are written behind the root's. Assumes nothing.
-use Prim.Native.Nat.{_+_, _*_, _-_, _≤_}
+use Prim.Native.Nat.{_*_, _-_, _≤_}
 use native.Mathlib.Omega.{arith}
 use Rattle.columnar.specs.Row.{seg}
 use Rattle.into_builder.specs.buffers.Names.{Behind}
