@@ -1,7 +1,7 @@
 -- Laws of entries in another width, over every width. Assumes nothing.
-use mathlib.Core.Path.{_≡_, refl, sym, ap, _∙_}
+use mathlib.Core.Path.{_≡_, refl, sym, ap, ap₂, _∙_}
 use mathlib.Core.Bool.{Bool, true, false, _&&_, and-false}
-use Prim.Native.Nat.{ℕ, zero, suc, _+_, _*_, _-_, _%_, _^_, _≤_, _<_}
+use Prim.Native.Nat.{ℕ, zero, suc, _+_, _*_, _-_, _/_, _%_, _^_, _≤_, _<_}
 use native.Mathlib.Nat.{mul-zero, add-mod-right, mod-eq-of-lt, mod-eq-sub-mod, pow-le-pow-right, lt-of-lt-of-le}
 use native.Mathlib.Numerals.{add-one}
 use native.Mathlib.Omega.{arith}
@@ -10,10 +10,10 @@ use lib.ListN.{length, take, drop, getD, length-drop}
 use lib.Seq.{take-add, drop-drop, getD-drop}
 use lib.Dec.{ltb, leb, eqb}
 use borrow.Author.Tests.{ltb-true, ltb-false, lt-ltb, le-ltb, leb-true, leb-false, eqb-true, eqb-false}
-use Rattle.number.specs.Number.{encode, entry, splice}
-use Rattle.number.proofs.Laws.{encode-mod, encode-number, number-lt}
+use Rattle.number.specs.Number.{number, encode, entry, splice}
+use Rattle.number.proofs.Laws.{halves, encode-mod, encode-number, number-lt, length-splice, put-halves}
 use Rattle.utils.specs.Pieces.{pieces, numbers}
-use Rattle.utils.proofs.Pieces.{pieces-none, numbers-step, numbers-same}
+use Rattle.utils.proofs.Pieces.{pieces-none, length-numbers, numbers-step, numbers-same}
 use Rattle.recode.specs.Recode.{recoded, lessened, allBelow}
 
 -- what the machine's difference is
@@ -57,6 +57,10 @@ pub recode-none : (w w′ : ℕ) (s : List ℕ) (from at : ℕ) (room : List ℕ
 unfolding recoded
 recode-none w w′ s from at room = pieces-none _ at room
 
+recoded-long : (w w′ : ℕ) (s : List ℕ) (from n : ℕ) → length (recoded w w′ s from n) ≡ w′ * n
+unfolding recoded
+recoded-long w w′ s from n = length-numbers w′ (entry w s from) n
+
 module _ (w w′ : ℕ) (room s : List ℕ) (at from i v : ℕ) (l : at + w′ * (i + 1) ≤ length room) (e : v ≡ entry w s from i) where
   pub recode-step : splice (at + w′ * i) (encode w′ v) (splice at (recoded w w′ s from i) room) ≡ splice at (recoded w w′ s from (i + 1)) room
   unfolding recoded
@@ -65,6 +69,64 @@ module _ (w w′ : ℕ) (room s : List ℕ) (at from i v : ℕ) (l : at + w′ *
   -- .. of which the lowest bytes are written
   pub recode-step-low : splice (at + w′ * i) (encode w′ (v % 256 ^ w′)) (splice at (recoded w w′ s from i) room) ≡ splice at (recoded w w′ s from (i + 1)) room
   recode-step-low = rw encode-mod recode-step
+
+-- the low bytes of both halves
+two-digits : (x y : ℕ) → x < 256 → ((x + y * 256) % 256 ≡ x) × ((x + y * 256) / 256 ≡ y)
+two-digits x y l = (omega arith, omega arith)
+
+two-bytes : (v lo hi : ℕ) → lo < 65536 → v ≡ lo + 65536 * hi → ((v % 256 + v / 65536 % 256 * 256) % 256 ≡ lo % 256) × ((v % 256 + v / 65536 % 256 * 256) / 256 ≡ hi % 256)
+two-bytes v lo hi l h =
+    let d : v / 65536 ≡ hi = omega arith in
+    let m : v % 256 ≡ lo % 256 = omega arith in
+    let p = two-digits (v % 256) (v / 65536 % 256) (omega arith) in
+    (p .0 ∙ m, p .1 ∙ ap (λ z. z % 256) d)
+
+-- two entries of two bytes more after the first 2 i, as one byte each
+module _ (room s : List ℕ) (at from i v : ℕ) (l : at + 2 * (i + 1) ≤ length room) (small : (j : ℕ) → getD s j 0 < 256) (e : v ≡ number 4 (drop (from + 4 * i) s)) where
+  abbrev low : ℕ
+  low = entry 2 s from (2 * i)
+
+  abbrev high : ℕ
+  high = entry 2 s from (2 * i + 1)
+
+  abbrev both : ℕ
+  both = v % 256 + v / 65536 % 256 * 256
+
+  both-are : (both % 256 ≡ low % 256) × (both / 256 ≡ high % 256)
+  both-are =
+      let a : from + 4 * i ≡ from + 2 * (2 * i) = omega arith in
+      let b : from + 4 * i + 2 ≡ from + 2 * (2 * i + 1) = omega arith in
+      let h : v ≡ low + 65536 * high = e ∙ halves 2 2 (from + 4 * i) s ∙ ap₂ (λ y z. number 2 (drop y s) + 65536 * number 2 (drop z s)) a b in
+      let p : low < 65536 = number-lt 2 (drop (from + 2 * (2 * i)) s) (λ j. rw getD-drop (small (from + 2 * (2 * i) + j))) in
+      two-bytes v low high p h
+
+  pub pair-step : splice (at + 2 * i) (encode 2 both) (splice at (recoded 2 1 s from (2 * i)) room) ≡ splice at (recoded 2 1 s from (2 * (i + 1))) room
+  pair-step =
+      let before = splice at (recoded 2 1 s from (2 * i)) room in
+      let k : length before ≡ length room = length-splice at (recoded 2 1 s from (2 * i)) room (omega (arith, length-recoded)) in
+      let a : at + 2 * i ≡ at + 1 * (2 * i) = omega arith in
+      let b : at + 2 * i + 1 ≡ at + 1 * (2 * i + 1) = omega arith in
+      let d : 2 * i + 1 + 1 ≡ 2 * (i + 1) = omega arith in
+      sym (put-halves 1 1 (at + 2 * i) both before (omega arith))
+      ∙ ap₂ (λ y z. splice (at + 2 * i + 1) (encode 1 z) (splice (at + 2 * i) (encode 1 y) before)) (both-are .0) (both-are .1)
+      ∙ ap₂ (λ y z. splice y (encode 1 (high % 256)) (splice z (encode 1 (low % 256)) before)) b a
+      ∙ ap (splice (at + 1 * (2 * i + 1)) (encode 1 (high % 256))) (recode-step-low 2 1 room s at from (2 * i) low (omega arith) refl)
+      ∙ recode-step-low 2 1 room s at from (2 * i + 1) high (omega arith) refl
+      ∙ ap (λ y. splice at (recoded 2 1 s from y) room) d
+    where
+      length-recoded : length (recoded 2 1 s from (2 * i)) ≡ 1 * (2 * i)
+      length-recoded = recoded-long 2 1 s from (2 * i)
+
+-- the last of an odd number of them
+pub odd-last : (room s : List ℕ) (at from m n v : ℕ) {r1 r2 : List ℕ} → n ≡ 2 * m + 1 → at + 1 * n ≤ length room → v ≡ number 2 (drop (from + 4 * m) s) → r1 ≡ splice at (recoded 2 1 s from (2 * m)) room
+    → r2 ≡ splice (at + 2 * m) (encode 1 (v % 256)) r1 → r2 ≡ splice at (recoded 2 1 s from n) room
+odd-last room s at from m n v {r1} {r2} e l h f g =
+    let a : from + 4 * m ≡ from + 2 * (2 * m) = omega arith in
+    let b : at + 2 * m ≡ at + 1 * (2 * m) = omega arith in
+    g
+    ∙ ap₂ (λ y z. splice y (encode 1 (v % 256)) z) b f
+    ∙ recode-step-low 2 1 room s at from (2 * m) v (omega arith) (h ∙ ap (λ y. number 2 (drop y s)) a)
+    ∙ ap (λ y. splice at (recoded 2 1 s from y) room) (sym e)
 
 -- less 0 they are the same
 pub less-zero : (w w′ : ℕ) (s : List ℕ) (from n : ℕ) → ((k : ℕ) → entry w s from k < 256 ^ 8) → lessened w w′ s from 0 n ≡ recoded w w′ s from n

@@ -49,17 +49,31 @@ fn recode_1_8(room: &mut [u8], at: usize, body: &[u8], from: usize, n: usize)
     }
 }
 
+// 2 m entries of 2 bytes from `from` on as entries of 1 byte at `at`: two at a time, so that the compiler reads whole vectors.
+fn pairs_2_1(room: &mut [u8], at: usize, body: &[u8], from: usize, m: usize)
+    requires { ⌜ at + 2 * m ≤ length (now room) ⌝ }
+    requires { ⌜ from + 4 * m ≤ length (now body) ⌝ }
+    ensures { λ _. ⌜ now (room .exit) ≡ splice at (recoded 2 1 (now (body .entry)) from (2 * m)) (now (room .entry)) ⌝ }
+{
+    let mut i = 0;
+    while i < m {
+        let v = number::read_u32(body, from + 4 * i);
+        number::write_u16(room, at + 2 * i, (v % 256 + v / 65536 % 256 * 256) as u16);
+        i += 1;
+    }
+}
+
 // n entries of 2 bytes from `from` on as entries of 1 byte at `at`.
 fn recode_2_1(room: &mut [u8], at: usize, body: &[u8], from: usize, n: usize)
     requires { ⌜ at + 1 * n ≤ length (now room) ⌝ }
     requires { ⌜ from + 2 * n ≤ length (now body) ⌝ }
     ensures { λ _. ⌜ now (room .exit) ≡ splice at (recoded 2 1 (now (body .entry)) from n) (now (room .entry)) ⌝ }
 {
-    let mut i = 0;
-    while i < n {
-        let v = number::read_u16(body, from + 2 * i);
-        number::write_u8(room, at + 1 * i, (v % 256) as u8);
-        i += 1;
+    let m = n / 2;
+    pairs_2_1(room, at, body, from, m);
+    if 2 * m < n {
+        let v = number::read_u16(body, from + 4 * m);
+        number::write_u8(room, at + 2 * m, (v % 256) as u8);
     }
 }
 

@@ -9,7 +9,7 @@ use native.Mathlib.Numerals.{add-one}
 use native.Mathlib.Omega.{arith}
 use lib.ListN.{length, take, drop, getD, replicate}
 use lib.Dec.{leb, ltb, eqb}
-use borrow.Author.Tests.{eq-eqb, ne-eqb, eqb-true, eqb-false, leb-true, ltb-true}
+use borrow.Author.Tests.{eq-eqb, ne-eqb, eqb-true, eqb-false, leb-true, lt-ltb}
 use Rattle.number.specs.Number.{number, encode, entry}
 use Rattle.bits.specs.Bits.{bitsAt}
 use Rattle.columnar.specs.Row.{seg}
@@ -189,6 +189,27 @@ module _ (plan parts : List ℕ) (write : Bool) (room : List ℕ) (i : ℕ) (bod
       need-ok 6 c (sym (span-is e f g h) ∙ off-false t) (wrote-did write (put i 1 0 (encodes w2 (offsetsOf w os s n))) c room room2 (rw u at q))
 
 -- ---- offsets and sizes
+
+-- what is below half of a width is below half of one that is no smaller
+half-below : (w w2 : ℕ) → ((w ≡ 4 → ⊥) → w ≡ 8) → ((w2 ≡ 4 → ⊥) → w2 ≡ 8) → w ≤ w2 → half w ≤ half w2
+half-below w w2 p q l = go (eqb w 4) refl (eqb w2 4) refl
+  where
+    same : w ≡ w2 → half w ≤ half w2
+    same e = omega (arith, ap half e)
+
+    go : (a : Bool) → eqb w 4 ≡ a → (b : Bool) → eqb w2 4 ≡ b → half w ≤ half w2
+    go true e true f = same (eqb-true w 4 e ∙ sym (eqb-true w2 4 f))
+    go true e false f = omega (arith, ap half (eqb-true w 4 e), ap half (q (eqb-false w2 4 f)))
+    go false e true f = let z = p (eqb-false w 4 e) in let y = eqb-true w2 4 f in absurd (omega arith)
+    go false e false f = same (p (eqb-false w 4 e) ∙ sym (q (eqb-false w2 4 f)))
+
+all-below : (w : ℕ) (s : List ℕ) (from most n : ℕ) → ((j : ℕ) → j < n → entry w s from j < most) → true ≡ allBelow w s from most n
+unfolding allBelow
+all-below w s from most zero h = refl
+all-below w s from most (suc n) h = rw (sym (all-below w s from most n (λ j l. h j (omega arith))), lt-ltb (entry w s from n) most (h n (omega arith)))
+
+pub all-small : (w w2 : ℕ) (s : List ℕ) (from n : ℕ) → ((w ≡ 4 → ⊥) → w ≡ 8) → ((w2 ≡ 4 → ⊥) → w2 ≡ 8) → w ≤ w2 → ((j : ℕ) → j < n → entry w s from j < half w) → true ≡ allBelow w s from (half w2) n
+all-small w w2 s from n p q l h = let z = half-below w w2 p q l in all-below w s from (half w2) n (λ j k. omega (arith, h j k, z))
 
 three : (a b c : Bool) → a && (b && c) ≡ a && b && c
 three true b c = refl

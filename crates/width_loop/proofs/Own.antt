@@ -10,17 +10,19 @@ use native.Mathlib.Omega.{arith}
 use lib.ListN.{length, take, drop}
 use lib.Dec.{ltb}
 use borrow.Author.Tests.{ltb-false, le-ltb}
+use Rattle.number.specs.Number.{entry}
 use Rattle.columnar.specs.Row.{seg}
 use Rattle.columnar.specs.Types.{Number, width, half, limit}
 use Rattle.columnar.specs.Array.{item}
 use Rattle.columnar.specs.Entries.{encodes}
 use Rattle.columnar.specs.Plain.{OffsetsRule}
+use Rattle.columnar.proofs.Items.{entry-end}
 use Rattle.array_data.specs.Tables.{Tables, part, place, lengthOf, firstBuffer, secondBuffer}
 use Rattle.array_data.specs.Typed.{NodeKind, fixedNode, stringNode, viewNode, listViewNode, listNode, sparseNode, denseNode, dictionaryNode, Tree}
 use Rattle.walk.specs.State.{setBytes}
 use Rattle.walk.specs.Log.{Out, Did, put, applyIf, done, wrote, need, next}
 use Rattle.walk.proofs.Laws.{done-did, wrote-did, need-no, need-ok, next-need, next-no, next-ok}
-use Rattle.refinement.proofs.walk_is_model.Parts.{part-cut}
+use Rattle.refinement.proofs.walk_is_model.Parts.{part-cut, part-entry}
 use Rattle.plan.specs.dictionaries.Sources.{keyFits}
 use Rattle.column_anew.specs.widths.Converted.{spanOf, offsetsOf}
 use Rattle.column_anew.proofs.widths.Plain.{first-least, last-within}
@@ -94,6 +96,18 @@ list-settles t t2 x plan i w s n rs {base} {last} e f g = g ∙ ap₂ (λ y z. r
 -- the whole of the next node
 pub next-settles : (x : Tables) (i : ℕ) (rs : List ℕ) {l : ℕ} {out : List ℕ} → l ≡ lengthOf x (i + 1) → out ≡ range (i + 1) 0 l rs → out ≡ range (suc i) 0 (lengthOf x (suc i)) rs
 next-settles x i rs e g = g ∙ ap (λ z. range (i + 1) 0 z rs) e ∙ ap (λ k. range k 0 (lengthOf x k) rs) (add-one i)
+
+-- the entries of a list-view, in place
+module _ (x : Tables) (i s n : ℕ) where
+  pub first-small : (w : ℕ) {at : ℕ} → Inside x i 3 → (s + n) * w ≤ place x i 4 → at ≡ place x i 3 → ((j : ℕ) → j < n → item w (firstBuffer x i) (s + j) < half w) → (j : ℕ) → j < n → entry w (x .body) (at + w * s) j < half w
+  first-small w p q e h j l =
+      let z : (s + j) * w + w ≤ (s + n) * w = entry-end w {i = s + j} {n = s + n} (omega arith) in
+      omega (arith, h j l, ap (λ y. entry w (x .body) (y + w * s) j) e, part-entry (as-part (x .body) (place x i 3) (place x i 4) p) w s j (omega arith))
+
+  pub second-small : (w : ℕ) {at : ℕ} → Inside x i 5 → (s + n) * w ≤ place x i 6 → at ≡ place x i 5 → ((j : ℕ) → j < n → item w (secondBuffer x i) (s + j) < half w) → (j : ℕ) → j < n → entry w (x .body) (at + w * s) j < half w
+  second-small w p q e h j l =
+      let z : (s + j) * w + w ≤ (s + n) * w = entry-end w {i = s + j} {n = s + n} (omega arith) in
+      omega (arith, h j l, ap (λ y. entry w (x .body) (y + w * s) j) e, part-entry (as-part (x .body) (place x i 5) (place x i 6) p) w s j (omega arith))
 
 module _ (plan parts : List ℕ) (write : Bool) (room : List ℕ) (x : Tables) (i s n : ℕ) (c : List ℕ) (t t2 : Tree) (okay : ℕ → Bool) where
   -- ---- list-views

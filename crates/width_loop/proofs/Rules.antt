@@ -3,14 +3,14 @@ use mathlib.Core.Path.{_≡_, refl, sym, subst}
 use mathlib.Core.Bool.{Bool, true, false, _&&_, false≢true}
 use mathlib.Core.Option.{Option, none, some}
 use mathlib.Core.List.{List, [], List·Memᴰ}
-use Prim.Native.Nat.{ℕ, suc, _+_, _*_, _-_, _≤_}
+use Prim.Native.Nat.{ℕ, suc, _+_, _*_, _-_, _<_, _≤_}
 use native.Mathlib.Nat.{mul-le-mul-right}
 use native.Mathlib.Omega.{arith}
 use lib.ListN.{length, replicate, length-replicate}
 use lib.Dec.{T, leb}
 use borrow.Author.Tests.{leb-true, le-leb}
-use Rattle.columnar.specs.Types.{Number, width, fixed, string}
-use Rattle.columnar.specs.Array.{ok}
+use Rattle.columnar.specs.Types.{Number, width, half, fixed, string}
+use Rattle.columnar.specs.Array.{item, ok}
 use Rattle.columnar.specs.Plain.{OffsetsRule}
 use Rattle.columnar.specs.Test.{maskTest, offsetsRule, arrayTest, plainTest, viewTest, listViewTest, listTest, sparseTest, denseTest, runEndTest, dictionaryTest}
 use Rattle.columnar.proofs.Test.{itself, offsets-rule-agrees, list-view-agrees, sparse-agrees, dense-agrees, run-end-agrees, dictionary-agrees}
@@ -143,12 +143,20 @@ module _ (x : Tables) (i : ℕ) where
         let l = slots-by true (listTest w (λ c. true)) (record { offsets = firstBuffer x i; child = childOf x (suc i) }) (and-right (oneIn x i) _ h) in
         (one-first o, rows-less w (firstBuffer x i) (lengthOf x (suc i)) (offsets-rule-agrees w (firstBuffer x i) (lengthOf x (suc i)) off len .sound (subst T (sym (and-left (offsetsRule w (firstBuffer x i) (lengthOf x (suc i)) off len) true l)) tt)))
 
-    pub list-view-here : (w : ℕ) → listViewRule x i w ≡ true → Inside x i 3 × Inside x i 5 × ((s + n) * w ≤ place x i 4) × ((s + n) * w ≤ place x i 6)
+    pub list-view-here : (w : ℕ) → listViewRule x i w ≡ true
+        → Inside x i 3 × Inside x i 5 × ((s + n) * w ≤ place x i 4) × ((s + n) * w ≤ place x i 6) × ((j : ℕ) → j < n → item w (firstBuffer x i) (s + j) < half w) × ((j : ℕ) → j < n → item w (secondBuffer x i) (s + j) < half w)
     list-view-here w h =
         let o = and-left (twoIn x i) _ h in
         let l = slots-by true (listViewTest w (λ c. true)) (record { offsets = firstBuffer x i; sizes = secondBuffer x i; child = childOf x (suc i) }) (and-right (twoIn x i) _ h) in
         let r = list-view-agrees (λ a. T true) (λ a. true) (λ a. itself true) w (ok (validOf x i)) (record { offsets = firstBuffer x i; sizes = secondBuffer x i; child = childOf x (suc i) }) off len .sound (subst T (sym l) tt) in
-        (one-first (two-one o), two-second o, less w (place x i 4) (omega (arith, first-size (two-one o), r .hold-offsets)), less w (place x i 6) (omega (arith, second-size o, r .hold-sizes)))
+        let at : (j : ℕ) → off + (s - off + j) ≡ s + j = λ j. omega arith in (
+          one-first (two-one o),
+          two-second o,
+          less w (place x i 4) (omega (arith, first-size (two-one o), r .hold-offsets)),
+          less w (place x i 6) (omega (arith, second-size o, r .hold-sizes)),
+          λ j q. subst (λ z. item w (firstBuffer x i) z < half w) (at j) (r .entries (s - off + j) (omega arith) .offset),
+          λ j q. subst (λ z. item w (secondBuffer x i) z < half w) (at j) (r .entries (s - off + j) (omega arith) .size),
+        )
 
     pub sparse-here : (ids : List ℕ) (node : ℕ → ℕ) → sparseRule x i ids node ≡ true → Inside x i 3 × ((s + n) * 1 ≤ place x i 4) × ((c : ℕ) → List·Memᴰ c ids → s + n ≤ lengthOf x (node c))
     sparse-here ids node h =

@@ -6,8 +6,8 @@ ghost use mathlib.Core.Option.{some};
 ghost use mathlib.Core.List.{List, [], _∷_};
 ghost use Prim.Native.Nat.{ℕ, _+_, _*_, _<_, _≤_, _^_};
 ghost use lib.ListN.{length, take, drop};
-ghost use Rattle.columnar.specs.Types.{Number, width};
-ghost use Rattle.columnar.specs.Array.{ok};
+ghost use Rattle.columnar.specs.Types.{Number, width, half};
+ghost use Rattle.columnar.specs.Array.{item, ok};
 ghost use Rattle.columnar.specs.Plain.{OffsetsRule};
 ghost use Rattle.columnar.specs.Test.{maskTest};
 ghost use Rattle.formats.specs.Code.{isInteger};
@@ -113,6 +113,7 @@ pub fn walk_list_view(
     n: u64,
 ) -> u8
     requires { ⌜ (i + 1 < 32) × Inside (column [] (now places) [] (now body) first) i 3 × Inside (column [] (now places) [] (now body) first) i 5 × ((s + n) * w ≤ place (column [] (now places) [] [] first) i 4) × ((s + n) * w ≤ place (column [] (now places) [] [] first) i 6) ⌝ }
+    requires { ⌜ ((j : ℕ) → j < n → item w (firstBuffer (column [] (now places) [] (now body) first) i) (s + j) < half w) × ((j : ℕ) → j < n → item w (secondBuffer (column [] (now places) [] (now body) first) i) (s + j) < half w) ⌝ }
     requires { ⌜ ((w ≡ 4 → ⊥) → w ≡ 8) × ((w2 ≡ 4 → ⊥) → w2 ≡ 8) ⌝ }
     ensures { λ g. ⌜ ((t t2 : Tree) (okay : ℕ → Bool) (c : List ℕ) → Did (now (plan .entry)) (now (parts .entry)) write (ownAs t t2 (column [] (now (places .entry)) [] (now (body .entry)) first) (now (plan .entry)) (listViewNode w) (listViewNode w2) i okay s n c) (now (room .entry)) g c (now (room .exit))) ⌝ }
     ensures { λ g. ⌜ ((t t2 : Tree) → g ≡ 0 → now (ranges .exit) ≡ settleAs t t2 (column (now (lengths .entry)) (now (places .entry)) [] (now (body .entry)) first) (now (plan .entry)) (listViewNode w) i s n (now (ranges .entry))) ⌝ }

@@ -5,6 +5,8 @@ ghost use mathlib.Core.List.{List, [], _∷_};
 ghost use Prim.Native.Nat.{ℕ, suc, _+_, _*_, _-_, _<_, _≤_, _^_};
 ghost use lib.ListN.{length, take, drop};
 ghost use lib.Dec.{ltb};
+ghost use Rattle.number.specs.Number.{entry};
+ghost use Rattle.recode.specs.Recode.{allBelow};
 ghost use Rattle.columnar.specs.Row.{seg};
 ghost use Rattle.columnar.specs.Types.{half};
 ghost use Rattle.columnar.specs.Array.{item, ok};
@@ -153,6 +155,18 @@ fn half_of(w: u64) -> u64
     }
 }
 
+// Whether each of n entries of w bytes from `from` on, none of them negative, fits w2 bytes: of a smaller width they are not looked at.
+fn all_fit(body: &[u8], from: usize, w: u64, w2: u64, n: usize) -> bool
+    requires { ⌜ (from + w * n ≤ length (now body)) × ((j : ℕ) → j < n → entry w (now body) from j < half w) ⌝ }
+    requires { ⌜ ((w ≡ 4 → ⊥) → w ≡ 8) × ((w2 ≡ 4 → ⊥) → w2 ≡ 8) ⌝ }
+    ensures { λ r. ⌜ r ≡ allBelow w (now (body .entry)) from (half w2) n ⌝ }
+{
+    if w <= w2 {
+        return true;
+    }
+    limits::all_below(body, from, w, n, half_of(w2))
+}
+
 // The offsets at `at` and the sizes at `too` of n rows from slot s on, as numbers of w2 bytes: ground 6 where one does not fit.
 pub fn put_pairs(
     plan: &[u64],
@@ -170,15 +184,15 @@ pub fn put_pairs(
 ) -> u8
     requires { ⌜ (i < 32) × (at + w * (s + n) ≤ length (now body)) × (too + w * (s + n) ≤ length (now body)) ⌝ }
     requires { ⌜ ((w ≡ 4 → ⊥) → w ≡ 8) × ((w2 ≡ 4 → ⊥) → w2 ≡ 8) ⌝ }
+    requires { ⌜ ((j : ℕ) → j < n → entry w (now body) (at + w * s) j < half w) × ((j : ℕ) → j < n → entry w (now body) (too + w * s) j < half w) ⌝ }
     ensures { λ g. ⌜ ((size room2 : ℕ) (c : List ℕ) → at + size ≤ length (now (body .entry)) → too + room2 ≤ length (now (body .entry)) → (s + n) * w ≤ size → (s + n) * w ≤ room2 → Did (now (plan .entry)) (now (parts .entry)) write (pairsWalk (part (now (body .entry)) at size) (part (now (body .entry)) too room2) w w2 i s n c) (now (room .entry)) g c (now (room .exit))) ⌝ }
 {
-    let most = half_of(w2);
     let offsets = at + w * s;
-    if !limits::all_below(body, offsets as usize, w, n as usize, most) {
+    if !all_fit(body, offsets as usize, w, w2, n as usize) {
         return 6;
     }
     let sizes = too + w * s;
-    if !limits::all_below(body, sizes as usize, w, n as usize, most) {
+    if !all_fit(body, sizes as usize, w, w2, n as usize) {
         return 6;
     }
     width_writes::put_recoded(

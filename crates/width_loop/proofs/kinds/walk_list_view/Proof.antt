@@ -4,7 +4,7 @@ use native.Mathlib.Nat.{mul-comm}
 use Prim.Native.Nat.{_+_}
 use native.Mathlib.Omega.{arith}
 use Rattle.array_data.specs.entries.Entries.{column}
-use Rattle.width_loop.proofs.Own.{did-zero, pairs-as, next-settles}
+use Rattle.width_loop.proofs.Own.{did-zero, first-small, second-small, pairs-as, next-settles}
 use borrow.Author.Needs.{needs}
 use Rattle.width_loop.proofs.kinds.walk_list_view.Statement.{statement}
 use Rattle.width_loop.proofs.kinds.walk_list_view.Tie as tie
@@ -19,7 +19,7 @@ put-pairs-requires : tie.Need-put-pairs-requires
 put-pairs-requires c κs =
     let a = c .before .before .before .before .before .before .before .before .before .args in
     let p = c .before .before .before .before .before .before .before .before .before .pre in
-    ((omega arith, omega (arith, c .before .before .place-at .ensures, mul-comm (a .w) (a .s + a .n)), omega (arith, c .before .place-at2 .ensures, mul-comm (a .w) (a .s + a .n))), p .1)
+    ((omega arith, omega (arith, c .before .before .place-at .ensures, mul-comm (a .w) (a .s + a .n)), omega (arith, c .before .place-at2 .ensures, mul-comm (a .w) (a .s + a .n))), (p .1 .1, (first-small (column [] (a .places .now) [] (a .body .now) (a .first)) (a .i) (a .s) (a .n) (a .w) (p .0 .1) (p .0 .3) (c .before .before .place-at .ensures) (p .1 .0 .0), second-small (column [] (a .places .now) [] (a .body .now) (a .first)) (a .i) (a .s) (a .n) (a .w) (p .0 .2) (p .0 .4) (c .before .place-at2 .ensures) (p .1 .0 .1))))
 
 same-length : tie.Need-same-length
 same-length c = search needs
