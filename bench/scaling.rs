@@ -91,7 +91,7 @@ fn main() {
     print_row("- | none: arithmetic alone", arithmetic(1), arithmetic(2));
     for rows in [10u64, 1000, 100_000] {
         for (name, columns) in kinds() {
-            let jobs = (4_000_000 / (rows * columns.len() as u64 + 2000)).max(8) as usize;
+            let jobs = (4_000_000 / (rows * columns.len() as u64 + 2000)).max(64) as usize;
             let batch = || {
                 let made = columns.iter().map(|(name, ty, some)| column(name, ty, rows, some)).collect();
                 Batch { rows, columns: made, metadata: vec![] }

@@ -11,15 +11,15 @@ use Rattle.columnar.specs.Row.{Row, null, whole, single, double, bytes, list, u
 use Rattle.array_data.specs.Tables.{Tables}
 use Rattle.array_data.specs.type_tree.Lent.{typeOf}
 use Rattle.columns.specs.Grounds.{columnGround}
-use Rattle.column_pair.specs.Pair.{pairGround, rangeIn}
-use Rattle.sums.specs.declared.fractions.Fraction.{Fraction}
-use Rattle.sums.specs.fractions.Lowest.{fractionOf}
-use Rattle.sums.specs.declared.tally.Cell.{Cell}
-use Rattle.sums.specs.declared.tally.Tally.{Tally}
-use Rattle.sums.specs.tally.Sums.{countOf, sumOf, fits}
-use Rattle.sums.specs.tally.Cells.{cellOf, talliedBy, Tallied}
-use Rattle.sums.proofs.tally.Sums.{hi-low, counted, summed}
-use Rattle.sums.specs.patterns.Parts.{Sized}
+use Rattle.columns.specs.column_pair.Pair.{pairGround, rangeIn}
+use Rattle.cell_sums.specs.declared.fractions.Fraction.{Fraction}
+use Rattle.cell_sums.specs.fractions.Lowest.{fractionOf}
+use Rattle.cell_sums.specs.declared.tally.Cell.{Cell}
+use Rattle.cell_sums.specs.declared.tally.Tally.{Tally}
+use Rattle.cell_sums.specs.tally.Sums.{countOf, sumOf, fits}
+use Rattle.cell_sums.specs.tally.Cells.{cellOf, talliedBy, Tallied}
+use Rattle.cell_sums.proofs.tally.Sums.{hi-low, counted, summed}
+use Rattle.cell_sums.specs.patterns.Parts.{Sized}
 use Rattle.cell_sums.specs.Numbers.{maskCell, bothCells}
 use Rattle.aggregates.specs.declared.RatioAnswer.the-variants as ratio
 use Rattle.aggregates.specs.Report.{wholeType, beside, bothRows, isZero, ratioBy, ratioRows, rowOf, pairOf, ratioReport}

@@ -11,7 +11,7 @@ use Rattle.columnar.specs.Row.{Row}
 use Rattle.columnar.specs.Types.{width, fixed, Ty, tPlain, tRunEnd}
 use Rattle.columnar.specs.Formed.{RunWidth}
 use Rattle.columnar.specs.Reading.{read, Source}
-use Rattle.formats.specs.Code.{isInteger, isRunEnd, widthOf}
+use Rattle.schema.specs.formats.Code.{isInteger, isRunEnd, widthOf}
 use Rattle.schema.specs.Tree.{ceilings, typed}
 use Rattle.array_data.specs.Tables.{Tables, lengthOf, offsetOf, place, validOf, firstBuffer}
 use Rattle.array_data.specs.Typed.{Tree, columnOf, tablesFrom, sourceRule}
@@ -23,11 +23,11 @@ use Rattle.columns.proofs.Grounds.{within-low}
 use Rattle.columns.proofs.Answers.{sum-fits}
 use Rattle.source_rules.proofs.From.{length-from, offset-from}
 use Rattle.run_ends.specs.declared.PhysicalRun.{PhysicalRun}
-use Rattle.leaf_row.specs.declared.run.RowRun.{RowRun}
-use Rattle.leaf_row.specs.declared.run.RowRun.the-variants as answer
+use Rattle.slot_reader.specs.declared.run.RowRun.{RowRun}
+use Rattle.slot_reader.specs.declared.run.RowRun.the-variants as answer
 use Rattle.cell_sums.proofs.stretches.Stretch.{ends-fit, ends-held, stretch-run, stretch-some}
-use Rattle.sums.specs.tally.Cells.{cellOf}
-use Rattle.sums.specs.patterns.Parts.{Sized}
+use Rattle.cell_sums.specs.tally.Cells.{cellOf}
+use Rattle.cell_sums.specs.patterns.Parts.{Sized}
 use Rattle.cell_sums.specs.cells.Cells.{Held, numberAt, cellsOf, cellAt}
 use Rattle.cell_sums.proofs.cells.Codes.{code-width, code-sized}
 use Rattle.cell_sums.proofs.cells.Rows.{slot-held, slot-cell}

@@ -14,15 +14,15 @@ use Rattle.array_data.specs.Typed.{tablesFrom}
 use Rattle.array_data.specs.type_tree.Lent.{typeOf}
 use Rattle.array_data.specs.entries.Entries.{column}
 use Rattle.columns.specs.Grounds.{columnGround}
-use Rattle.column_pair.specs.Pair.{rangeIn}
-use Rattle.column_pair.proofs.Pair.{range-known}
+use Rattle.columns.specs.column_pair.Pair.{rangeIn}
+use Rattle.columns.proofs.column_pair.Pair.{range-known}
 use Rattle.source_rules.proofs.From.{length-from}
-use Rattle.sums.specs.declared.tally.Tally.{Tally}
-use Rattle.sums.specs.tally.Sums.{countOf, sumOf}
-use Rattle.sums.specs.tally.Cells.{cellOf, talliedBy, Tallied}
-use Rattle.sums.proofs.tally.Sums.{hi-low, counted, summed}
-use Rattle.sums.specs.patterns.Parts.{Sized}
-use Rattle.sums.proofs.patterns.Laws.{four}
+use Rattle.cell_sums.specs.declared.tally.Tally.{Tally}
+use Rattle.cell_sums.specs.tally.Sums.{countOf, sumOf}
+use Rattle.cell_sums.specs.tally.Cells.{cellOf, talliedBy, Tallied}
+use Rattle.cell_sums.proofs.tally.Sums.{hi-low, counted, summed}
+use Rattle.cell_sums.specs.patterns.Parts.{Sized}
+use Rattle.cell_sums.proofs.patterns.Laws.{four}
 use Rattle.cell_sums.specs.declared.Numbers.{Numbers}
 use Rattle.cell_sums.specs.Numbers.{cellIn, Ready}
 use Rattle.aggregates.specs.declared.Shape.{Shape}

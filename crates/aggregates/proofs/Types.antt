@@ -11,8 +11,8 @@ use borrow.Author.Tests.{eqb-true, ne-eqb, leb-true, le-leb, eq-eqb}
 use Rattle.columnar.specs.Types.{Number, width, Plain, fixed, string, Ty, tPlain, tRunEnd}
 use Rattle.columnar.specs.Formed.{RunWidth}
 use Rattle.columnar.specs.Wider.{integer}
-use Rattle.formats.specs.Code.{between, isInteger, isFixed, isString, isView, isListView, isList, isUnion, isSparse, isRunEnd, widthOf}
-use Rattle.formats.specs.Types.{numberOf}
+use Rattle.schema.specs.formats.Code.{between, isInteger, isFixed, isString, isView, isListView, isList, isUnion, isSparse, isRunEnd, widthOf}
+use Rattle.schema.specs.formats.Types.{numberOf}
 use Rattle.schema.specs.Tree.{children, dictionary, below, bare, childForEach, codeOf, idsOf, valuesShape, endsShape, leafShape, keysShape, listShape, unionShape, runShape, shape, typed}
 use Rattle.schema.proofs.Trees.{child-inside}
 use Rattle.schema.proofs.Known.{typed-whole, typed-shape}

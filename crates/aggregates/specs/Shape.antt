@@ -3,7 +3,7 @@ use mathlib.Core.Bool.{Bool, true, false, cond, _&&_}
 use mathlib.Core.List.{List}
 use Prim.Native.Nat.{ℕ}
 use lib.Dec.{eqb}
-use Rattle.formats.specs.Code.{isInteger, isRunEnd, widthOf}
+use Rattle.schema.specs.formats.Code.{isInteger, isRunEnd, widthOf}
 use Rattle.schema.specs.Tree.{dictionary, codeOf}
 use Rattle.array_data.specs.Tables.{Tables, offsetOf}
 use Rattle.cell_sums.specs.declared.stretches.Ends.{Ends}

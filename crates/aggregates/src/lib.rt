@@ -3,22 +3,22 @@ ghost use mathlib.Core.Path.{_≡_};
 ghost use mathlib.Core.Bool.{true};
 ghost use mathlib.Core.List.{[]};
 ghost use Prim.Native.Nat.{_+_, _*_, _≤_, _<_, _^_};
-ghost use Rattle.formats.specs.Code.{isInteger};
+ghost use Rattle.schema.specs.formats.Code.{isInteger};
 ghost use Rattle.array_data.specs.Tables.{lengthOf, offsetOf, place};
 ghost use Rattle.source_rules.specs.kinds.Rows.{tablesOf};
 ghost use Rattle.array_data.specs.entries.Entries.{column};
-ghost use Rattle.sums.specs.tally.Cells.{talliedBy};
+ghost use Rattle.cell_sums.specs.tally.Cells.{talliedBy};
 ghost use Rattle.aggregates.specs.Shape.{wholeCode, shapeOf, plainNumbers, runNumbers, numbersOf};
 ghost use Rattle.aggregates.specs.Report.{meanBy, meanReport, ratioBy, ratioReport};
 use array_data::entries;
 use cell_sums::Numbers;
 use cell_sums::cells;
+use cell_sums::fractions;
 use cell_sums::stretches;
 use cell_sums::stretches::Ends;
-use sums::fractions;
-use sums::tally;
-use sums::tally::Tally;
-use sums::tally::Total;
+use cell_sums::tally;
+use cell_sums::tally::Tally;
+use cell_sums::tally::Total;
 
 // The rows that are not null, their sum, and the mean in lowest terms.
 pub struct MeanReport {
@@ -67,16 +67,20 @@ fn whole_code(formats: &[u8], schema: &[u32], first: u32, i: usize) -> u8
         return 0;
     }
     let code = schema::code_of(formats, schema, first as usize, i);
-    if formats::is_integer(code) { code } else { 0 }
+    if schema::formats::is_integer(code) {
+        code
+    } else {
+        0
+    }
 }
 
 fn find_shape(formats: &[u8], schema: &[u32], first: u32) -> Shape
     ensures { λ r. ⌜ r ≡ shapeOf (now (formats .entry)) (now (schema .entry)) first ⌝ }
 {
     let from = first as usize;
-    if formats::is_run_end(schema::code_of(formats, schema, from, 0)) {
+    if schema::formats::is_run_end(schema::code_of(formats, schema, from, 0)) {
         let code = whole_code(formats, schema, first, 2);
-        let width = formats::width_of(schema::code_of(formats, schema, from, 1));
+        let width = schema::formats::width_of(schema::code_of(formats, schema, from, 1));
         return Shape {
             runs: true,
             code,
@@ -187,7 +191,7 @@ pub fn mean(
     if ground != 0 {
         return MeanAnswer::Refused(ground);
     }
-    if !column_pair::is_range(lengths, first, start, end) {
+    if !columns::column_pair::is_range(lengths, first, start, end) {
         return MeanAnswer::Refused(2);
     }
     let shape = find_shape(formats, schema, first);
@@ -244,7 +248,7 @@ pub fn ratio(
 ) -> RatioAnswer
     ensures { λ r. ⌜ r ≡ ratioReport (now (formats .entry)) (now (schema .entry)) (tablesOf (now (lengths .entry)) (now (places .entry)) (now (buffers .entry)) (now (body .entry))) «first_a» «n_a» «first_b» «n_b» start end ⌝ }
 {
-    let ground = column_pair::pair_ground(
+    let ground = columns::column_pair::pair_ground(
         formats,
         schema,
         lengths,
@@ -259,10 +263,10 @@ pub fn ratio(
     if ground != 0 {
         return RatioAnswer::Refused(ground);
     }
-    if !column_pair::is_range(lengths, first_a, start, end) {
+    if !columns::column_pair::is_range(lengths, first_a, start, end) {
         return RatioAnswer::Refused(2);
     }
-    if !column_pair::is_range(lengths, first_b, start, end) {
+    if !columns::column_pair::is_range(lengths, first_b, start, end) {
         return RatioAnswer::Refused(2);
     }
     let p = find_shape(formats, schema, first_a);

@@ -16,7 +16,7 @@ use Rattle.array_data.specs.Typed.{Tree}
 use Rattle.walk.specs.State.{dictionaryOf}
 use Rattle.refinement.specs.walk_is_model.Memory.{Memory}
 use Rattle.columns.specs.Grounds.{ceiling}
-use Rattle.parts.specs.Parts.{nodesOf, copied}
+use Rattle.plan.specs.parts.Parts.{nodesOf, copied}
 use Rattle.refinement.specs.orders.Order.{Lent}
 use Rattle.refinement.proofs.orders.Buffers.{copied-free}
 use Rattle.refinement.proofs.orders.Enough.{every-all}

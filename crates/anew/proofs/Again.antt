@@ -20,15 +20,15 @@ use Rattle.array_data.specs.Typed.{Tree, MeansPlain, Means, columnOf, sourceRul
 use Rattle.schema.specs.Tree.{ceilings, typed}
 use Rattle.array_data.specs.type_tree.Lent.{treeOf, typeOf}
 use Rattle.array_data.proofs.type_tree.Source.{lent-obeys}
-use Rattle.formats.specs.Code.{isView}
+use Rattle.schema.specs.formats.Code.{isView}
 use Rattle.model.proofs.Bits.{length-seg}
 use Rattle.walk.specs.State.{codeOf, dictionaryOf, rows}
 use Rattle.walk.specs.Log.{startOf}
 use Rattle.refinement.specs.walk_is_model.Memory.{Memory}
 use Rattle.refinement.specs.walk_is_model.Holds.{Worded}
 use Rattle.refinement.specs.walk_is_model.Lent.{LentValid, LentPlain}
-use Rattle.parts.specs.Parts.{nodesOf, copied, hasPart, needed, Used}
-use Rattle.parts.proofs.Placed.{used-holds}
+use Rattle.plan.specs.parts.Parts.{nodesOf, copied, hasPart, needed, Used}
+use Rattle.plan.proofs.parts.Placed.{used-holds}
 use Rattle.refinement.specs.orders.Order.{Lent, joinOf}
 use Rattle.refinement.proofs.orders.Buffers.{copied-free}
 use Rattle.refinement.proofs.orders.Enough.{every-all}

@@ -11,15 +11,15 @@ use Rattle.columnar.specs.Types.{Plain, fixed, string, Ty}
 use Rattle.columnar.specs.Array.{Array}
 use Rattle.columnar.specs.Plain.{PlainBody}
 use Rattle.columnar.specs.Reading.{Column, masks}
-use Rattle.formats.specs.Code.{isFixed}
+use Rattle.schema.specs.formats.Code.{isFixed}
 use Rattle.array_data.specs.Typed.{Tree, MeansPlain}
 use Rattle.walk.specs.State.{word, codeOf, dictionaryOf, bytesOf, rows, bytes}
 use Rattle.refinement.specs.walk_is_model.Memory.{Memory}
 use Rattle.refinement.specs.walk_is_model.Holds.{WordedPlain}
 use Rattle.refinement.specs.log_in_room.Room.{Fits}
 use Rattle.refinement.proofs.log_in_room.Found.{between-both}
-use Rattle.parts.specs.Parts.{nodesOf, copied, hasPart, needed, sizeOf, partsHold, Used}
-use Rattle.parts.proofs.Placed.{used-holds}
+use Rattle.plan.specs.parts.Parts.{nodesOf, copied, hasPart, needed, sizeOf, partsHold, Used}
+use Rattle.plan.proofs.parts.Placed.{used-holds}
 use Rattle.refinement.specs.orders.Order.{Lent}
 use Rattle.refinement.specs.orders.Fits.{plainBuffers}
 use Rattle.refinement.proofs.orders.Buffers.{fixed-one, needed-fixed, copied-free, masks-code, part-copied}

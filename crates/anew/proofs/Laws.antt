@@ -11,7 +11,7 @@ use Rattle.array_data.proofs.lent_tables.Laws.{and-left, and-right}
 use Rattle.array_data.specs.Tables.{Tables}
 use Rattle.walk.specs.Log.{Out}
 use Rattle.columns.specs.Grounds.{smallBody, columnGround}
-use Rattle.parts.specs.Parts.{partTotal, partsPlaced, partsHold}
+use Rattle.plan.specs.parts.Parts.{partTotal, partsPlaced, partsHold}
 use Rattle.refinement.specs.opening.Open.{Opening}
 use Rattle.anew.specs.Anew.{orElse, Asking, joinLengths, ahead, asking, unchanged, written, roomGround, anew}
 

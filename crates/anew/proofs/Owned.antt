@@ -16,7 +16,7 @@ use Rattle.columnar.specs.Reading.{Body, Column}
 use Rattle.walk.specs.State.{codeOf, keepsOf, rows, bytes}
 use Rattle.refinement.specs.walk_is_model.Memory.{Memory}
 use Rattle.refinement.specs.walk_is_model.Holds.{WordedPlain, Worded, flag, HoldsBits}
-use Rattle.parts.specs.Parts.{bufferCount, copied, hasPart, needed, neededBy}
+use Rattle.plan.specs.parts.Parts.{bufferCount, copied, hasPart, needed, neededBy}
 use Rattle.refinement.specs.orders.Order.{Lent}
 use Rattle.refinement.specs.orders.Fits.{plainBuffers}
 use Rattle.refinement.proofs.orders.Buffers.{fixed-one, string-two, view-one, list-two, lists-one, needed-fixed, needed-offsets, needed-chars, needed-views, needed-starts, needed-ends, needed-sizes, copied-buffer, copied-bits}

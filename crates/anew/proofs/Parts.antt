@@ -6,7 +6,7 @@ use Prim.Native.Nat.{ℕ, zero, suc, _≤_, _<_}
 use native.Mathlib.Omega.{arith}
 use lib.Dec.{ltb, eqb}
 use Rattle.walk.specs.State.{word, codeOf, dictionaryOf, keepsOf}
-use Rattle.parts.specs.Parts.{bufferCount, copied, validityParts, bufferParts, hasPart}
+use Rattle.plan.specs.parts.Parts.{bufferCount, copied, validityParts, bufferParts, hasPart}
 use Rattle.plan.specs.Plan.{flag}
 use Rattle.anew.specs.ResultPlan.{planAnew}
 use Rattle.anew.proofs.PlanWords.{keeps-is, joined-is}

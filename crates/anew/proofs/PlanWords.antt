@@ -9,8 +9,8 @@ use lib.Seq.{getD-set-same, getD-set-other}
 use lib.Dec.{eqb}
 use Rattle.model.proofs.Bits.{getD-seg}
 use Rattle.array_data.specs.node_words.Words.{wordOf, planted}
-use Rattle.parts.specs.Parts.{partWord, partTotal, Numbered}
-use Rattle.parts.proofs.Words.{Alike, alike-word, alike-total, numbered}
+use Rattle.plan.specs.parts.Parts.{partWord, partTotal, Numbered}
+use Rattle.plan.proofs.parts.Words.{Alike, alike-word, alike-total, numbered}
 use Rattle.walk.specs.State.{word, dictionaryOf, keepsOf, baseOf}
 use Rattle.refinement.specs.plan_is_type.Planted.{Planted}
 use Rattle.plan.specs.Plan.{filled, flag, withTree, withCounts, withParts, withTotal}

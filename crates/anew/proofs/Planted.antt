@@ -11,7 +11,7 @@ use Rattle.schema.specs.Tree.{ceilings, typed}
 use Rattle.schema.proofs.Known.{within-nodes}
 use Rattle.schema.specs.Tree as trees
 use Rattle.columnar.specs.Types.{Plain, fixed, string}
-use Rattle.formats.specs.Code.{isFixed, isString, widthOf}
+use Rattle.schema.specs.formats.Code.{isFixed, isString, widthOf}
 use Rattle.array_data.specs.Typed.{NodeKind, MeansPlain}
 use Rattle.array_data.specs.type_tree.Lent.{kindAt, treeOf, typeOf}
 use Rattle.array_data.proofs.type_tree.Lent.{means, formed}
@@ -25,8 +25,8 @@ use Rattle.refinement.proofs.plan_is_type.Worded.{planted-worded}
 use Rattle.refinement.proofs.plan_is_type.Opened.{same-child}
 use Rattle.columns.specs.Grounds.{smallBody}
 use Rattle.columns.proofs.Itself.{same-itself}
-use Rattle.parts.specs.Parts.{nodesOf, partTotal, partsPlaced, Used}
-use Rattle.parts.proofs.Placed.{placed-within}
+use Rattle.plan.specs.parts.Parts.{nodesOf, partTotal, partsPlaced, Used}
+use Rattle.plan.proofs.parts.Placed.{placed-within}
 use Rattle.refinement.proofs.orders.Placed.{placed-by}
 use Rattle.refinement.proofs.opening.Laid.{root-end, laid-by, sound-by}
 use Rattle.refinement.proofs.opening.Laid as opening

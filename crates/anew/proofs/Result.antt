@@ -21,7 +21,7 @@ use Rattle.refinement.proofs.walk_is_model.Goes.{Quiet}
 use Rattle.refinement.specs.log_in_room.Room.{AllBelow, HasBits, NoneOver, Placed, Lies, Fits, Outside, AllUsed}
 use Rattle.refinement.proofs.log_in_room.Applied.{grows-at, room-lies, room-long, room-else}
 use Rattle.columns.specs.Grounds.{ceiling}
-use Rattle.parts.specs.Parts.{nodesOf, needed, partsWithin, Used}
+use Rattle.plan.specs.parts.Parts.{nodesOf, needed, partsWithin, Used}
 use Rattle.refinement.specs.orders.Order.{Lent}
 use Rattle.refinement.specs.orders.Written.{OnlyUsed}
 use Rattle.refinement.specs.opening.Open.{Opening}

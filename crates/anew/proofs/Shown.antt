@@ -12,7 +12,7 @@ use Rattle.columnar.specs.Array.{Array, ok, nullsIn}
 use Rattle.columnar.specs.Plain.{PlainBody}
 use Rattle.columnar.specs.View.{Views}
 use Rattle.columnar.specs.Reading.{Column, masks}
-use Rattle.formats.specs.Code.{isUnion}
+use Rattle.schema.specs.formats.Code.{isUnion}
 use Rattle.array_data.specs.Tables.{Tables, firstBuffer, secondBuffer}
 use Rattle.array_data.specs.Typed.{Tree, nodeOf, Is, MeansPlain, Means}
 use Rattle.array_data.specs.type_tree.Lent.{unionKind}
@@ -25,7 +25,7 @@ use Rattle.refinement.proofs.walk_is_model.Frame.{field-of, worded-span}
 use Rattle.refinement.specs.log_in_room.Reach.{typed, Free}
 use Rattle.refinement.proofs.log_in_room.Closure.{closed-free}
 use Rattle.refinement.proofs.log_in_room.Found.{between-wide}
-use Rattle.parts.specs.Parts.{nodesOf, copied, Used}
+use Rattle.plan.specs.parts.Parts.{nodesOf, copied, Used}
 use Rattle.refinement.specs.orders.Order.{Lent, joinOf}
 use Rattle.refinement.specs.orders.Fits.{plainBuffers}
 use Rattle.refinement.proofs.orders.Buffers.{copied-free, masks-code}

@@ -12,7 +12,7 @@ use Rattle.columnar.specs.Formed.{Formed, Ids}
 use Rattle.columnar.specs.Array.{Array}
 use Rattle.columnar.specs.Plain.{PlainBody}
 use Rattle.columnar.specs.Reading.{Body, Column}
-use Rattle.formats.specs.Code.{isFixed, isUnion}
+use Rattle.schema.specs.formats.Code.{isFixed, isUnion}
 use Rattle.array_data.specs.Typed.{Tree, nodeOf, Is, MeansPlain, MeansEnds, Means}
 use Rattle.array_data.specs.type_tree.Lent.{unionKind}
 use Rattle.walk.specs.State.{codeOf, dictionaryOf, endOf, bytesOf}
@@ -23,7 +23,7 @@ use Rattle.refinement.specs.log_in_room.Reach.{Typed, typed, Free}
 use Rattle.refinement.specs.log_in_room.Room.{Placed, Lies}
 use Rattle.refinement.proofs.log_in_room.Closure.{closed-free}
 use Rattle.refinement.proofs.log_in_room.Found.{between-both, between-wide, child-first, child-with}
-use Rattle.parts.specs.Parts.{nodesOf, partsWithin, partsHold, Used}
+use Rattle.plan.specs.parts.Parts.{nodesOf, partsWithin, partsHold, Used}
 use Rattle.refinement.specs.orders.Order.{Lent, sourceCount}
 use Rattle.refinement.proofs.orders.Cover.{Laid, within}
 use Rattle.anew.specs.Stood.{StoodNode, Stored, StoodValues, Stood}

@@ -9,7 +9,7 @@ use lib.Dec.{eqb}
 use Rattle.array_data.specs.Tables.{Tables}
 use Rattle.walk.specs.Log.{Out, apply}
 use Rattle.columns.specs.Grounds.{smallBody, columnGround}
-use Rattle.parts.specs.Parts.{partTotal, partsPlaced, partsHold}
+use Rattle.plan.specs.parts.Parts.{partTotal, partsPlaced, partsHold}
 use Rattle.refinement.specs.opening.Open.{Opening}
 
 -- how many numbers a plan and the counters of a join have

@@ -2,3 +2,4 @@
 pub mod Anew
 pub mod ResultPlan
 pub mod Stood
+pub mod result_plan

@@ -1,1 +1,2 @@
-// Calls that write one column anew outside a join, as definitions and laws: this crate has no code of its own.
+// Calls that write one column anew outside a join: definitions and laws, and the code for the plan and the room of a result (`result_plan`).
+pub mod result_plan;

@@ -3,7 +3,7 @@ ghost use mathlib.Core.Path.{_≡_};
 ghost use Prim.Native.Nat.{_≤_, _<_, _^_};
 ghost use lib.ListN.{length, take};
 ghost use Rattle.array_data.specs.node_words.Words.{word, idFrom, idUnder, childId, wordOf, planted};
-use formats::union_ids;
+use schema::union_ids;
 
 // Word j of node i; 0 past the end.
 pub fn word(tree: &[u64], i: usize, j: usize) -> u64

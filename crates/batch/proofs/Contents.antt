@@ -17,9 +17,9 @@ use Rattle.bits.proofs.Puts.{bitsAt-add, length-bitsAt}
 use Rattle.utils.specs.Pieces.{pieces}
 use Rattle.utils.specs.Offsets.{largest, movedOffsets}
 use Rattle.utils.proofs.Pieces.{pieces-same, length-pieces, length-numbers}
-use Rattle.primitive.specs.Primitive.{rebased}
-use Rattle.byte_view.specs.View.{reviewedOne, reviewed}
-use Rattle.byte_view.proofs.Laws.{length-review}
+use Rattle.utils.specs.primitive.Primitive.{rebased}
+use Rattle.utils.specs.byte_view.View.{reviewedOne, reviewed}
+use Rattle.utils.proofs.byte_view.Laws.{length-review}
 use Rattle.refinement.proofs.log_in_room.Bytes.{bytes-moved, bytes-rebased, bytes-reviewed}
 use Rattle.walk.specs.State.{Join, keepsOf, baseOf, rows, bytes, top, setBytes, place, rowsIn}
 use Rattle.walk.specs.Log.{Entry, Log, Out, put, mask, done, wrote, need, next}

@@ -10,7 +10,7 @@ use lib.Dec.{leb, ltb, eqb}
 use borrow.Author.Tests.{eqb-true, eqb-false, eq-eqb, ne-eqb, ltb-true, ltb-false, lt-ltb}
 use Rattle.columnar.specs.Types.{half}
 use Rattle.columnar.specs.Test.{every}
-use Rattle.parts.proofs.Placed.{every-at}
+use Rattle.plan.proofs.parts.Placed.{every-at}
 use Rattle.walk.specs.State.{Join, codeOf, endOf, idOf, rows, top, grown, place, rowsIn}
 use Rattle.walk.specs.Log.{Out, done, wrote, need, found, next, each}
 use Rattle.walk.specs.Copy.{Walk, childWith, idAt, positionAt, denseTo, denseRow, copyDense, copyNode, copyWalk}

@@ -12,7 +12,7 @@ use Rattle.number.specs.Number.{encode}
 use Rattle.bits.proofs.Laws.{Below}
 use Rattle.columnar.specs.Types.{half}
 use Rattle.columnar.specs.Test.{every}
-use Rattle.parts.proofs.Placed.{every-at}
+use Rattle.plan.proofs.parts.Placed.{every-at}
 use Rattle.utils.specs.Pieces.{pieces, numbers}
 use Rattle.utils.proofs.Pieces.{pieces-same}
 use Rattle.walk.specs.State.{Join, codeOf, endOf, rows, top, place, rowsIn}

@@ -10,7 +10,7 @@ use Rattle.walk.specs.State.{grown, slotOf, rowsIn}
 use Rattle.walk.specs.Log.{inRoom, enter, apply, fail, done, wrote, need, found, next, each}
 use Rattle.walk.specs.Leaves.{copyBits, copyMask, copyNumbers, putString, copyString}
 use Rattle.walk.specs.Copy.{childWith, denseTo, denseRow, copyDense, listViewRow, copyListView, copyData, copySlots, copyNode, copyWalk}
-use Rattle.parts.specs.Parts.{copied, hasPart, validityParts, bufferParts}
+use Rattle.plan.specs.parts.Parts.{copied, hasPart, validityParts, bufferParts}
 use Rattle.batch.specs.Stretch.{sumOf, neverFalls, stretch}
 use Rattle.batch.specs.Batch.{steady, batchLeaf, batchListView, batchData, batchSlots, batchNode, batchWalk}
 use Rattle.utils.specs.Offsets.{movedOffsets}

@@ -8,7 +8,7 @@ use native.Mathlib.Omega.{arith}
 use lib.ListN.{length, getD}
 use lib.Dec.{leb, ltb, eqb}
 use borrow.Author.Tests.{ltb-true, lt-ltb}
-use Rattle.formats.specs.Code.{isString}
+use Rattle.schema.specs.formats.Code.{isString}
 use Rattle.walk.specs.State.{Join, codeOf, bytesOf, place, rows, bytes, top, grown, offsetOf, far, slotOf}
 use Rattle.walk.specs.Log.{Out, need, found, next}
 use Rattle.walk.specs.Copy.{Walk, copySlots, copyNode, copyWalk}

@@ -10,7 +10,7 @@ use lib.Seq.{getD-set-other}
 use lib.Dec.{leb, ltb, eqb}
 use borrow.Author.Tests.{lt-ltb}
 use Rattle.bits.proofs.Laws.{Below}
-use Rattle.formats.specs.Code.{isString}
+use Rattle.schema.specs.formats.Code.{isString}
 use Rattle.walk.specs.State.{Join, codeOf, rows, nulls, bytes, top, grown, addNulls, setBytes, addRows, offsetOf, far, slotOf}
 use Rattle.walk.specs.Log.{Entry, Log, Out, put, mask, done, need, found, next}
 use Rattle.walk.specs.Leaves.{copyMask}

@@ -11,11 +11,11 @@ use lib.Seq.{getD-set-other}
 use lib.Dec.{leb, ltb, eqb}
 use borrow.Author.Tests.{leb-true, leb-false, le-leb, lt-leb, ltb-true, lt-ltb, le-ltb, eqb-true, eqb-false}
 use Rattle.columnar.specs.Types.{half}
-use Rattle.formats.specs.Code.{widthOf, between, isFixed, isString, isView, isListView}
-use Rattle.primitive.specs.Primitive.{rebased}
-use Rattle.byte_view.specs.View.{reviewed}
+use Rattle.schema.specs.formats.Code.{widthOf, between, isFixed, isString, isView, isListView}
+use Rattle.utils.specs.primitive.Primitive.{rebased}
+use Rattle.utils.specs.byte_view.View.{reviewed}
 use Rattle.utils.specs.Offsets.{largest}
-use Rattle.parts.specs.Parts.{neededBy}
+use Rattle.plan.specs.parts.Parts.{neededBy}
 use Rattle.refinement.proofs.orders.Buffers.{needed-fixed, needed-offsets, needed-views}
 use Rattle.walk.specs.State.{Join, codeOf, dictionaryOf, bytesOf, baseOf, rows, nulls, bytes, top, grown, addRows, addNulls, setBytes, place, offsetOf, far, slotOf}
 use Rattle.walk.specs.Log.{Out, put, fail, done, wrote, need, found, next}

@@ -11,7 +11,7 @@ use lib.Dec.{leb, ltb, eqb}
 use borrow.Author.Tests.{ltb-true, lt-ltb, lt-leb, leb-true, eqb-true, eqb-false}
 use Rattle.number.specs.Number.{entry}
 use Rattle.columnar.specs.Types.{half}
-use Rattle.formats.specs.Code.{between, isFixed, isString, isView, isListView}
+use Rattle.schema.specs.formats.Code.{between, isFixed, isString, isView, isListView}
 use Rattle.walk.specs.State.{Join, codeOf, bytesOf, rows, nulls, top, grown, addNulls, addRows, place, far, slotOf}
 use Rattle.walk.specs.Log.{Out, fail, done, wrote, need, found, next, each}
 use Rattle.walk.specs.Leaves.{copyMask}

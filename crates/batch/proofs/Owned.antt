@@ -8,10 +8,10 @@ use native.Mathlib.Omega.{arith}
 use lib.Dec.{leb, ltb, eqb}
 use borrow.Author.Tests.{ltb-true, leb-true, lt-ltb, le-leb, leb-false}
 use Rattle.columnar.specs.Test.{every}
-use Rattle.formats.specs.Code.{widthOf, between, isFixed, isString, isView, isListView}
+use Rattle.schema.specs.formats.Code.{widthOf, between, isFixed, isString, isView, isListView}
 use Rattle.walk.specs.State.{codeOf, keepsOf}
-use Rattle.parts.specs.Parts.{nodesOf, copied, bufferCount, validityParts, bufferParts, hasPart, neededBy, Used}
-use Rattle.parts.proofs.Placed.{every-at}
+use Rattle.plan.specs.parts.Parts.{nodesOf, copied, bufferCount, validityParts, bufferParts, hasPart, neededBy, Used}
+use Rattle.plan.proofs.parts.Placed.{every-at}
 use Rattle.refinement.proofs.orders.Buffers.{needed-fixed, needed-offsets, needed-views, needed-starts}
 use Rattle.batch.specs.Batch.{isLeaf, owned}
 use Rattle.batch.proofs.Stretches.{and-left, and-right}

@@ -9,8 +9,8 @@ use lib.Dec.{leb, ltb, eqb}
 use borrow.Author.Tests.{leb-true, ltb-true, ltb-false, eqb-true, eqb-false}
 use Rattle.columnar.specs.Test.{onlyIf}
 use Rattle.walk.specs.Log.{startOf}
-use Rattle.parts.specs.Parts.{nodesOf, hasPart, sizeOf, partsWithin, Used}
-use Rattle.parts.proofs.Placed.{used-few, within-used}
+use Rattle.plan.specs.parts.Parts.{nodesOf, hasPart, sizeOf, partsWithin, Used}
+use Rattle.plan.proofs.parts.Placed.{used-few, within-used}
 use Rattle.batch.specs.Rise.{behind, stop, riseFrom, partsRise}
 use Rattle.batch.proofs.Stretches.{and-left, and-right}
 use Rattle.batch.proofs.Windows.{Keys, Where, here, nowhere}

@@ -10,13 +10,13 @@ use lib.Dec.{leb, ltb, eqb}
 use borrow.Author.Tests.{eqb-true, ltb-true, lt-ltb, leb-true}
 use Rattle.number.specs.Number.{entry}
 use Rattle.bits.proofs.Laws.{Below}
-use Rattle.formats.specs.Code.{between, isString, isListView}
+use Rattle.schema.specs.formats.Code.{between, isString, isListView}
 use Rattle.walk.specs.State.{Join, codeOf, bytesOf, keepsOf, rows, bytes, top, grown, addNulls, addRows, place, far, slotOf}
 use Rattle.walk.specs.Log.{Log, Out, mask, fail, done, need, found, next, each, apply}
 use Rattle.walk.specs.Leaves.{copyMask}
 use Rattle.walk.specs.Copy.{Walk, masked, copyListView, copyDense, copyData, copySlots, copyNode, copyWalk}
-use Rattle.parts.specs.Parts.{needed, neededBy, sizeOf, partsHold, partsWithin, Used}
-use Rattle.parts.proofs.Placed.{within-used, used-holds, bits-held}
+use Rattle.plan.specs.parts.Parts.{needed, neededBy, sizeOf, partsHold, partsWithin, Used}
+use Rattle.plan.proofs.parts.Placed.{within-used, used-holds, bits-held}
 use Rattle.refinement.proofs.walk_is_model.Counters.{rows-added, rows-other, bytes-of-rows, rows-of-nulls}
 use Rattle.refinement.proofs.orders.Buffers.{needed-chars, needed-starts, needed-sizes}
 use Rattle.batch.specs.Stretch.{stretches}

@@ -15,7 +15,7 @@ use Rattle.bits.specs.Bits.{putBits}
 use Rattle.bits.proofs.Laws.{Below, below-splice, below-take, below-drop}
 use Rattle.bits.proofs.Puts.{below-put, length-put}
 use Rattle.walk.specs.Log.{Entry, put, mask, amend, Log, startOf, inRoom, enter, apply}
-use Rattle.parts.specs.Parts.{sizeOf}
+use Rattle.plan.specs.parts.Parts.{sizeOf}
 use Rattle.batch.proofs.Stretches.{and-left, and-right}
 use Rattle.batch.proofs.Splices.{three, splice-low, splice-high, splice-own, window, window-long, window-at, splice-in, mask-in}
 

@@ -7,7 +7,7 @@ use lib.ListN.{take, drop}
 use lib.Dec.{ltb, eqb}
 use Rattle.number.specs.Number.{entry}
 use Rattle.columnar.specs.Types.{half}
-use Rattle.formats.specs.Code.{between, isString, isListView}
+use Rattle.schema.specs.formats.Code.{between, isString, isListView}
 use Rattle.utils.specs.Pieces.{numbers}
 use Rattle.walk.specs.State.{Join, codeOf, bytesOf, rows, addRows, place, offsetOf, far, slotOf, rowsIn}
 use Rattle.walk.specs.Log.{Out, put, fail, done, wrote, need, found, next}

@@ -4,3 +4,4 @@ pub mod Rise
 pub mod Dense
 pub mod Batch
 pub mod Example
+pub mod batch_walk

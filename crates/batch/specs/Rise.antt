@@ -5,7 +5,7 @@ use Prim.Native.Nat.{ℕ, zero, suc, _+_}
 use lib.Dec.{leb, ltb}
 use Rattle.columnar.specs.Test.{onlyIf}
 use Rattle.walk.specs.Log.{startOf}
-use Rattle.parts.specs.Parts.{nodesOf, copied, hasPart, sizeOf}
+use Rattle.plan.specs.parts.Parts.{nodesOf, copied, hasPart, sizeOf}
 
 -- the plan counts node i, and its buffers have parts
 abbrev pub owned : List ℕ → ℕ → Bool

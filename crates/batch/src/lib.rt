@@ -1,2 +1,8 @@
 // Theory: an order walked by stretches, child rows that follow one another in one walk, and that it comes to what the walk of a copy
 // comes to.
+pub mod batch_walk;
+mod list_view;
+mod numbers;
+pub mod rise;
+mod side;
+mod sizes;

@@ -187,7 +187,7 @@ fn append_aligned(room: &mut [u8], d: usize, n: usize, v: u8)
 {
     let m = n / 8;
     let k = n % 8;
-    copy::fill_bytes(room, d, m, 255 * v);
+    number::copy::fill_bytes(room, d, m, 255 * v);
     if k == 0 {
         return;
     }

@@ -6,15 +6,15 @@ use Prim.Native.Nat.{ℕ, _+_, _*_, _-_, _≤_, _<_, min}
 use native.Mathlib.Omega.{arith}
 use lib.Dec.{ltb}
 use borrow.Author.Tests.{eq-eqb, ne-eqb, lt-ltb, le-ltb}
-use Rattle.sums.specs.declared.tally.Cell.{Cell}
-use Rattle.sums.specs.declared.tally.Tally.{Tally}
-use Rattle.sums.specs.tally.Cells.{cell, valueOf, Tallied}
-use Rattle.sums.proofs.tally.Sums.{stretched, none-yet, hi-low}
+use Rattle.cell_sums.specs.declared.tally.Cell.{Cell}
+use Rattle.cell_sums.specs.declared.tally.Tally.{Tally}
+use Rattle.cell_sums.specs.tally.Cells.{cell, valueOf, Tallied}
+use Rattle.cell_sums.proofs.tally.Sums.{stretched, none-yet, hi-low}
 use Rattle.cell_sums.specs.cells.Cells.{cellAt}
 use Rattle.cell_sums.specs.declared.Numbers.{Numbers}
 use Rattle.cell_sums.specs.declared.Stretch.{Stretch}
 use Rattle.run_ends.specs.declared.PhysicalRun.{PhysicalRun}
-use Rattle.leaf_row.specs.declared.run.RowRun.the-variants as answer
+use Rattle.slot_reader.specs.declared.run.RowRun.the-variants as answer
 use Rattle.cell_sums.specs.Steps.{untilBy, untilOf}
 use Rattle.cell_sums.specs.Numbers.{asked, cellIn, maskCell, bothCells, Bounded, Flat}
 

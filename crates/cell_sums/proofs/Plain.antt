@@ -4,11 +4,11 @@ use mathlib.Core.Bool.{Bool, true, false, cond}
 use mathlib.Core.List.{List}
 use Prim.Native.Nat.{ℕ, _+_, _*_, _-_, _/_, _≤_, _<_, min}
 use native.Mathlib.Omega.{arith}
-use Rattle.sums.specs.patterns.Parts.{blockRows, bitOf}
-use Rattle.sums.specs.declared.tally.Cell.{Cell}
-use Rattle.sums.specs.declared.tally.Tally.{Tally}
-use Rattle.sums.specs.tally.Cells.{cell, valueOf, Tallied}
-use Rattle.sums.proofs.tally.Sums.{hi-low, appended}
+use Rattle.cell_sums.specs.patterns.Parts.{blockRows, bitOf}
+use Rattle.cell_sums.specs.declared.tally.Cell.{Cell}
+use Rattle.cell_sums.specs.declared.tally.Tally.{Tally}
+use Rattle.cell_sums.specs.tally.Cells.{cell, valueOf, Tallied}
+use Rattle.cell_sums.proofs.tally.Sums.{hi-low, appended}
 use Rattle.cell_sums.specs.declared.cells.Cells.{Cells}
 use Rattle.cell_sums.specs.cells.Cells.{Held, validAt, patternCell, cellAt}
 use Rattle.cell_sums.specs.blocks.Blocks.{numberCell, keptCell, asBit, validBit}

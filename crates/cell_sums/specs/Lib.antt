@@ -4,3 +4,7 @@ pub mod Steps
 pub mod cells
 pub mod blocks
 pub mod stretches
+pub mod tally
+pub mod fractions
+pub mod wide
+pub mod patterns

@@ -7,12 +7,12 @@ use lib.ListN.{length}
 use lib.Dec.{eqb}
 use Rattle.array_data.specs.Tables.{part}
 use Rattle.run_ends.specs.declared.PhysicalRun.{PhysicalRun}
-use Rattle.leaf_row.specs.declared.run.RowRun.{RowRun}
-use Rattle.leaf_row.specs.declared.run.RowRun.the-variants as answer
-use Rattle.leaf_row.specs.run.Rows.{rowRun}
+use Rattle.slot_reader.specs.declared.run.RowRun.{RowRun}
+use Rattle.slot_reader.specs.declared.run.RowRun.the-variants as answer
+use Rattle.slot_reader.specs.run.Rows.{rowRun}
 use Rattle.cell_sums.specs.declared.stretches.Ends.{Ends}
-use Rattle.sums.specs.declared.tally.Cell.{Cell}
-use Rattle.sums.specs.tally.Cells.{cell}
+use Rattle.cell_sums.specs.declared.tally.Cell.{Cell}
+use Rattle.cell_sums.specs.tally.Cells.{cell}
 use Rattle.cell_sums.specs.cells.Cells.{Held, cellAt}
 use Rattle.cell_sums.specs.declared.Numbers.{Numbers}
 use Rattle.cell_sums.specs.declared.Stretch.{Stretch}

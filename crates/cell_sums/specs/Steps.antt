@@ -3,8 +3,8 @@ use mathlib.Core.Bool.{cond}
 use mathlib.Core.List.{List}
 use Prim.Native.Nat.{ℕ, zero, suc, _+_, _-_, max}
 use lib.Dec.{ltb}
-use Rattle.leaf_row.specs.declared.run.RowRun.{RowRun}
-use Rattle.leaf_row.specs.declared.run.RowRun.the-variants as answer
+use Rattle.slot_reader.specs.declared.run.RowRun.{RowRun}
+use Rattle.slot_reader.specs.declared.run.RowRun.the-variants as answer
 use Rattle.cell_sums.specs.declared.Numbers.{Numbers}
 use Rattle.cell_sums.specs.Numbers.{asked}
 

@@ -4,15 +4,15 @@ ghost use mathlib.Core.Bool.{true};
 ghost use Prim.Native.Nat.{ℕ, _+_, _*_, _-_, _/_, _^_, _≤_, _<_};
 ghost use lib.ListN.{length};
 ghost use Rattle.bits.specs.Bits.{digits, bitsAt};
-ghost use Rattle.sums.specs.patterns.Parts.{blockRows, Sized, topBit, bitOf};
-ghost use Rattle.sums.specs.tally.Cells.{valueOf, Tallied};
+ghost use Rattle.cell_sums.specs.patterns.Parts.{blockRows, Sized, topBit, bitOf};
+ghost use Rattle.cell_sums.specs.tally.Cells.{valueOf, Tallied};
 ghost use Rattle.cell_sums.specs.cells.Cells.{Topped, Held};
 ghost use Rattle.cell_sums.specs.blocks.Blocks.{numberCell, keptCell, validBit};
 use crate::cells::Cells;
-use sums::patterns;
-use sums::patterns::Part;
-use sums::tally;
-use sums::tally::Tally;
+use crate::patterns;
+use crate::patterns::Part;
+use crate::tally;
+use crate::tally::Tally;
 
 // ---- validity
 

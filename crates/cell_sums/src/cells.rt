@@ -6,13 +6,13 @@ ghost use Prim.Native.Nat.{_+_, _-_, _/_, _%_, _^_, _≤_, _<_};
 ghost use lib.Dec.{eqb};
 ghost use lib.ListN.{length, getD};
 ghost use Rattle.columnar.specs.Types.{limit};
-ghost use Rattle.formats.specs.Code.{isInteger};
+ghost use Rattle.schema.specs.formats.Code.{isInteger};
 ghost use Rattle.array_data.specs.entries.Entries.{column};
-ghost use Rattle.sums.specs.patterns.Parts.{Sized};
+ghost use Rattle.cell_sums.specs.patterns.Parts.{Sized};
 ghost use Rattle.cell_sums.specs.cells.Cells.{Held, numberAt, validAt, belowAt, cellAt, cellsOf};
+use crate::patterns;
+use crate::tally::Cell;
 use array_data::entries;
-use sums::patterns;
-use sums::tally::Cell;
 
 // Where a node's rows stand in the body: numbers of `width` bytes from `start` on, below zero where the pattern is above `top`; where it is
 // masked, with a validity map from `mask` on.
@@ -62,7 +62,7 @@ pub fn find_cells(places: &[u64], first: u32, i: usize, code: u8) -> Cells
     let masked = entries::place_at(places, first, i, 0) != 0;
     let mask = entries::place_at(places, first, i, 1) as usize;
     let start = entries::place_at(places, first, i, 3) as usize;
-    let width = formats::width_of(code);
+    let width = schema::formats::width_of(code);
     let top = top_of(code);
     Cells {
         width,

@@ -1,24 +1,26 @@
 // Tallies of the rows of one whole-number column, and of two at once.
 pub mod blocks;
 pub mod cells;
+pub mod fractions;
+pub mod patterns;
 pub mod stretches;
+pub mod tally;
+pub mod wide;
 
 ghost use mathlib.Core.Path.{_≡_};
 ghost use mathlib.Core.Bool.{false, cond};
 ghost use Prim.Native.Nat.{ℕ, _+_, _*_, _-_, _≤_, _<_, _^_, min};
 ghost use lib.Dec.{ltb};
 ghost use lib.ListN.{length};
-ghost use Rattle.sums.specs.patterns.Parts.{blockRows};
-ghost use Rattle.sums.specs.tally.Cells.{Tallied};
+ghost use Rattle.cell_sums.specs.patterns.Parts.{blockRows};
+ghost use Rattle.cell_sums.specs.tally.Cells.{Tallied};
 ghost use Rattle.cell_sums.specs.Numbers.{cellIn, maskCell, bothCells, Bounded, Flat, Ready, AllReady};
 ghost use Rattle.cell_sums.specs.Steps.{untilOf};
 use crate::cells::Cells;
 use crate::stretches::Ends;
-use leaf_row::run::RowRun;
-use sums::patterns;
-use sums::tally;
-use sums::tally::Cell;
-use sums::tally::Tally;
+use crate::tally::Cell;
+use crate::tally::Tally;
+use slot_reader::run::RowRun;
 
 // A column of whole numbers: of plain rows, or of runs, whose values then stand from `skip` on in the cells.
 pub struct Numbers {

@@ -5,12 +5,12 @@ ghost use Prim.Native.Nat.{_+_, _*_, _-_, _≤_, _<_, _^_};
 ghost use lib.ListN.{length};
 ghost use Rattle.array_data.specs.Tables.{part, lengthOf, offsetOf, place};
 ghost use Rattle.array_data.specs.entries.Entries.{column};
-ghost use Rattle.leaf_row.specs.run.Rows.{rowRun};
+ghost use Rattle.slot_reader.specs.run.Rows.{rowRun};
 ghost use Rattle.cell_sums.specs.stretches.Ends.{endsOf};
 use array_data::entries;
-use leaf_row::run;
-use leaf_row::run::ColumnRow;
-use leaf_row::run::RowRun;
+use slot_reader::run;
+use slot_reader::run::ColumnRow;
+use slot_reader::run::RowRun;
 
 // The run ends of `width` bytes from `start` to `stop` in the body, and the column's offset and length.
 pub struct Ends {

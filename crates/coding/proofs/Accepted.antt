@@ -12,8 +12,8 @@ use Rattle.columnar.specs.Formed.{RunWidth}
 use Rattle.columnar.specs.Array.{nullCount}
 use Rattle.columnar.specs.Reading.{Column, Source}
 use Rattle.columnar.proofs.Test.{every-out}
-use Rattle.formats.specs.Code.{isFixed, isRunEnd, widthOf}
-use Rattle.formats.specs.Types.{numberOf}
+use Rattle.schema.specs.formats.Code.{isFixed, isRunEnd, widthOf}
+use Rattle.schema.specs.formats.Types.{numberOf}
 use Rattle.schema.specs.Tree.{dictionary, codeOf, ceilings, typed}
 use Rattle.schema.proofs.Known.{typed-whole}
 use Rattle.array_data.specs.Tables.{Tables, lengthOf, offsetOf, place, validOf, firstBuffer}
@@ -31,7 +31,7 @@ use Rattle.columns.specs.Grounds.{ceiling, smallBody, withinCeilings, obeys, co
 use Rattle.columns.proofs.Grounds.{within-low}
 use Rattle.columns.proofs.Answers.{sum-fits}
 use Rattle.aggregates.proofs.Types.{run-over}
-use Rattle.column_pair.specs.Pair.{rangeIn}
+use Rattle.columns.specs.column_pair.Pair.{rangeIn}
 use Rattle.coding.specs.Encode.{plainAt, number, endWidth, runsOver, encodeOwn, plainColumn}
 use Rattle.coding.proofs.Tests.{chosen}
 

@@ -16,7 +16,7 @@ use Rattle.plan.specs.Plan.{flag}
 use Rattle.anew.specs.Anew.{joinLengths, ahead}
 use Rattle.anew.specs.ResultPlan.{planAnew}
 use Rattle.anew.proofs.PlanWords.{keeps-is}
-use Rattle.result_plan.proofs.Answered.{before-walk}
+use Rattle.anew.proofs.result_plan.Answered.{before-walk}
 use Rattle.coding.specs.Encode.{encodeOwn, encodeKeeps, encodePlan, encodeOut}
 use Rattle.coding.proofs.Encoded.{walk-done}
 

@@ -8,11 +8,11 @@ use lib.Dec.{leb, eqb}
 use borrow.Author.Tests.{leb-true}
 use Rattle.columnar.specs.Types.{Number, width}
 use Rattle.columnar.specs.Formed.{RunWidth, two, four, eight}
-use Rattle.formats.specs.Code.{isFixed, widthOf}
-use Rattle.formats.specs.Types.{numberOf}
+use Rattle.schema.specs.formats.Code.{isFixed, widthOf}
+use Rattle.schema.specs.formats.Types.{numberOf}
 use Rattle.array_data.specs.type_tree.Lent.{numberOr}
 use Rattle.array_data.proofs.lent_tables.Laws.{and-left, and-right}
-use Rattle.sums.specs.patterns.Parts.{Sized}
+use Rattle.cell_sums.specs.patterns.Parts.{Sized}
 
 -- a fact of each of the ten
 ten : (P : ℕ → Type 0) → P 1 → P 2 → P 3 → P 4 → P 5 → P 6 → P 7 → P 8 → P 9 → P 10 → (c : ℕ) → isFixed c ≡ true → P c

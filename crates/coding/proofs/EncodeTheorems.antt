@@ -24,7 +24,7 @@ use Rattle.column_anew.specs.runs.Runs.{okAt, runRows}
 use Rattle.column_anew.specs.runs.Coding.{encoded}
 use Rattle.column_anew.proofs.runs.Encode.{encode-rows, encode-zeros}
 use Rattle.column_anew.proofs.runs.Fewest.{fewest}
-use Rattle.run_walks.proofs.Fills.{encode-fills}
+use Rattle.run_coding.proofs.run_walks.Fills.{encode-fills}
 use Rattle.coding.specs.Encode.{number, endWidth, encodeOwn, plainColumn, encodeKeeps, encodePlan, encodeOut, encoding}
 use Rattle.coding.proofs.Node.{part-small}
 use Rattle.coding.proofs.Encoded as e

@@ -11,7 +11,7 @@ use Rattle.columnar.specs.Types.{Number, width, half, fixed, Ty, tPlain, tRunEn
 use Rattle.columnar.specs.Formed.{RunWidth, two, four, eight}
 use Rattle.columnar.specs.Array.{nullCount}
 use Rattle.columnar.specs.Reading.{Column, Source}
-use Rattle.formats.specs.Code.{widthOf}
+use Rattle.schema.specs.formats.Code.{widthOf}
 use Rattle.schema.specs.Tree.{codeOf, typed}
 use Rattle.array_data.specs.Tables.{Tables, lengthOf, offsetOf, place, firstBuffer}
 use Rattle.array_data.specs.Typed.{columnOf, tablesFrom}
@@ -27,7 +27,7 @@ use Rattle.anew.proofs.Bits.{keeps-typed}
 use Rattle.anew.proofs.Comes.{comes}
 use Rattle.anew.proofs.Planted.{few}
 use Rattle.columns.proofs.Grounds.{within-low}
-use Rattle.result_plan.proofs.Answered.{made-room}
+use Rattle.anew.proofs.result_plan.Answered.{made-room}
 use Rattle.column_anew.specs.runs.Runs.{okAt, alike, those, edge}
 use Rattle.run_coding.specs.Rows.{changeIn, lastIn, lastRows}
 use Rattle.run_coding.specs.Writes.{Fits}
@@ -179,7 +179,7 @@ module _ (formats schema lengths places buffers body : List ℕ) (first n target
       module _ (state parts : List ℕ) (room : List ℕ) (fits : RoomFor formats schema y first start end target state parts keep (length room)) where
         did : Did state parts true (encodeOut formats schema x first n target start end) room 0 (allCounts (end - start) runs) (runsIn formats schema y first start end target state parts keep room)
         did =
-            subst (λ b. Did state parts true (Rattle.run_walks.specs.Encode.encodeWalk k (endWidth formats schema first target) v start (end - start) b (replicate 96 0)) room 0 (allCounts (end - start) runs) (runsIn formats schema y first start end target state parts keep room)) exact
+            subst (λ b. Did state parts true (Rattle.run_coding.specs.run_walks.Encode.encodeWalk k (endWidth formats schema first target) v start (end - start) b (replicate 96 0)) room 0 (allCounts (end - start) runs) (runsIn formats schema y first start end target state parts keep room)) exact
             (encode-did state parts k (endWidth formats schema first target) v start (end - start) keep body w (rowsAt formats schema y first start end) (maskAt formats schema y first start end) (bitAt formats schema y first start end) (code-width (codeOf formats schema first 0) (plain .is-fixed))
             valid (λ r l. bytes-same xs 0 (codeOf formats schema first 0) (plain .is-fixed) start (end - start) within sum (source .mask) (source .slots) inside low-body keep exact-nulls r l small) edges room short fits)
 

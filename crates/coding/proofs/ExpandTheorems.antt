@@ -23,7 +23,7 @@ use Rattle.anew.proofs.Result.{Filled, lentFor}
 use Rattle.column_anew.specs.runs.Runs.{okAt}
 use Rattle.column_anew.specs.runs.Coding.{expanded}
 use Rattle.column_anew.proofs.runs.Expand.{expand-rows, expand-zeros}
-use Rattle.run_walks.proofs.Fills.{expand-fills}
+use Rattle.run_coding.proofs.run_walks.Fills.{expand-fills}
 use Rattle.coding.specs.Expand.{valueNumber, runWidth, expandOwn, runColumn, expandKeeps, expandPlan, expandOut, expanding}
 use Rattle.coding.proofs.Node.{part-small}
 use Rattle.coding.proofs.Expanded as x

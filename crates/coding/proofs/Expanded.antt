@@ -16,7 +16,7 @@ use Rattle.columnar.specs.RunEnd.{endOf}
 use Rattle.columnar.specs.RunEnd as ends
 use Rattle.columnar.specs.Reading.{Column, Source}
 use Rattle.columnar.proofs.Items.{entry-end}
-use Rattle.formats.specs.Code.{isFixed, isRunEnd, widthOf}
+use Rattle.schema.specs.formats.Code.{isFixed, isRunEnd, widthOf}
 use Rattle.schema.specs.Tree.{codeOf, ceilings, typed}
 use Rattle.array_data.specs.Tables.{Tables, lengthOf, offsetOf, place, firstBuffer}
 use Rattle.array_data.specs.Typed.{columnOf, tablesFrom}
@@ -29,7 +29,7 @@ use Rattle.source_rules.proofs.From.{length-from, offset-from}
 use Rattle.columns.specs.Grounds.{columnGround}
 use Rattle.columns.proofs.Grounds.{within-low}
 use Rattle.columns.proofs.Answers.{sum-fits}
-use Rattle.column_pair.specs.Pair.{rangeIn}
+use Rattle.columns.specs.column_pair.Pair.{rangeIn}
 use Rattle.cell_sums.specs.stretches.Ends.{endsOf}
 use Rattle.cell_sums.proofs.stretches.Stretch.{ends-fit, ends-held, answered-is}
 use Rattle.aggregates.proofs.Types.{run-over}
@@ -38,7 +38,7 @@ use Rattle.walk.specs.Log.{startOf, apply, Did}
 use Rattle.anew.specs.ResultPlan.{keepsFrom, Comes}
 use Rattle.anew.proofs.Bits.{keeps-typed}
 use Rattle.anew.proofs.Comes.{comes}
-use Rattle.result_plan.proofs.Answered.{made-room}
+use Rattle.anew.proofs.result_plan.Answered.{made-room}
 use Rattle.column_anew.specs.runs.Coding.{runAt}
 use Rattle.column_anew.proofs.runs.Fewest.{run-there}
 use Rattle.cell_sums.proofs.stretches.FirstAbove.{first-above}
@@ -123,7 +123,7 @@ module _ (formats schema lengths places buffers body : List ℕ) (first n target
     v = runColumn formats schema x first n target start end
 
     pub type-is : typeOf formats schema target 1 ≡ tPlain (fixed k)
-    type-is = type-plain formats schema target 1 (own .plain) ∙ ap (λ c. tPlain (fixed (Rattle.array_data.specs.type_tree.Lent.numberOr (Rattle.formats.specs.Types.numberOf c)))) (own .same-code)
+    type-is = type-plain formats schema target 1 (own .plain) ∙ ap (λ c. tPlain (fixed (Rattle.array_data.specs.type_tree.Lent.numberOr (Rattle.schema.specs.formats.Types.numberOf c)))) (own .same-code)
 
     pub source : Source (tRunEnd (runWidth formats schema first target) (tPlain (fixed k))) v
     source =
@@ -259,7 +259,7 @@ module _ (formats schema lengths places buffers body : List ℕ) (first n target
       module _ (state parts room : List ℕ) (fits : RowsFit formats schema y first start end state parts keep (length room)) where
         did : Did state parts true (expandOut formats schema x first n target start end) room 0 (rowCounts (end - start)) (rowsIn formats schema y first start end state parts keep room)
         did =
-            subst (λ b. Did state parts true (Rattle.run_walks.specs.Expand.expandWalk k e v start (end - start) b (replicate 96 0)) room 0 (rowCounts (end - start)) (rowsIn formats schema y first start end state parts keep room)) exact
+            subst (λ b. Did state parts true (Rattle.run_coding.specs.run_walks.Expand.expandWalk k e v start (end - start) b (replicate 96 0)) room 0 (rowCounts (end - start)) (rowsIn formats schema y first start end state parts keep room)) exact
             (expand-did state parts k e v start (end - start) keep body w (valuesAt formats schema y first start end) (valueMask formats schema y first start end) (valueBit formats schema y first start end) (endsAt formats schema y first start end) (firstRow formats schema y first start end)
             (code-width (codeOf formats schema first 2) (own .values .is-fixed)) valid bytes end-is refl source within short (firstRun formats schema y first start end) room (λ l. run-is (omega arith)) fits)
 

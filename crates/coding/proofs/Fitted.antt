@@ -6,7 +6,7 @@ use Prim.Native.Nat.{ℕ, zero, suc, _+_, _*_, _-_, _^_, _≤_, _<_}
 use native.Mathlib.Omega.{arith}
 use lib.ListN.{length, getD}
 use Rattle.columnar.specs.Types.{fixed, tPlain, tRunEnd}
-use Rattle.formats.specs.Code.{isFixed, widthOf}
+use Rattle.schema.specs.formats.Code.{isFixed, widthOf}
 use Rattle.schema.specs.Tree.{codeOf}
 use Rattle.array_data.specs.Tables.{Tables}
 use Rattle.array_data.specs.lent_tables.Lent.{tables}
@@ -16,7 +16,7 @@ use Rattle.columns.specs.Grounds.{smallBody, columnGround}
 use Rattle.anew.specs.Anew.{roomGround}
 use Rattle.anew.specs.ResultPlan.{keepsFrom}
 use Rattle.anew.proofs.Comes.{new-keeps}
-use Rattle.run_walks.proofs.Plans.{RunsPlan, runs-plan, runs-ends}
+use Rattle.run_coding.proofs.run_walks.Plans.{RunsPlan, runs-plan, runs-ends}
 use Rattle.coding.specs.Counted.{allCounts}
 use Rattle.coding.specs.Encode.{fromColumn, number, endWidth, encodeOwn, encodeKeeps, encodePlan, wide, lastOf, RoomFor}
 use Rattle.coding.proofs.Accepted.{due-type}

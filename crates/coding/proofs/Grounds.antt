@@ -6,12 +6,12 @@ use Prim.Native.Nat.{ℕ, _-_, _≤_}
 use lib.Dec.{ltb, eqb}
 use borrow.Author.Tests.{eqb-true}
 use Rattle.columnar.specs.Types.{half}
-use Rattle.formats.specs.Code.{isFixed, isRunEnd, widthOf}
+use Rattle.schema.specs.formats.Code.{isFixed, isRunEnd, widthOf}
 use Rattle.schema.specs.Tree.{dictionary, codeOf, ceilings, typed}
 use Rattle.array_data.specs.Tables.{Tables}
 use Rattle.array_data.specs.lent_tables.Lent.{tables}
 use Rattle.source_rules.specs.kinds.Rows.{tablesOf}
-use Rattle.column_pair.specs.Pair.{rangeIn}
+use Rattle.columns.specs.column_pair.Pair.{rangeIn}
 use Rattle.coding.specs.Encode.{plainAt, endWidth, runsOver, encodeOwn}
 use Rattle.coding.proofs.Tests.{no-by, yes-by}
 

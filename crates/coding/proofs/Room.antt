@@ -7,7 +7,7 @@ use native.Mathlib.Omega.{arith}
 use lib.ListN.{length}
 use lib.Dec.{eqb}
 use Rattle.columnar.specs.Types.{Number, fixed, Ty, tPlain, tRunEnd}
-use Rattle.formats.specs.Code.{isFixed, widthOf}
+use Rattle.schema.specs.formats.Code.{isFixed, widthOf}
 use Rattle.schema.specs.Tree.{ceilings, typed}
 use Rattle.schema.specs.Tree as trees
 use Rattle.array_data.specs.Typed.{Means}
@@ -18,12 +18,12 @@ use Rattle.refinement.proofs.plan_is_type.Planted.{code-is, coded-is}
 use Rattle.walk.specs.State.{codeOf, rows, bytes}
 use Rattle.walk.specs.Log.{startOf}
 use Rattle.columns.specs.Grounds.{smallBody}
-use Rattle.parts.specs.Parts.{partTotal, partsPlaced, partsHold, sizeOf, needed, Used}
+use Rattle.plan.specs.parts.Parts.{partTotal, partsPlaced, partsHold, sizeOf, needed, Used}
 use Rattle.anew.specs.Anew.{joinLengths, roomGround}
 use Rattle.anew.specs.ResultPlan.{planAnew}
 use Rattle.anew.proofs.Planted.{planted, placed-well}
 use Rattle.refinement.proofs.orders.Buffers.{needed-fixed}
-use Rattle.parts.proofs.Placed.{used-holds}
+use Rattle.plan.proofs.parts.Placed.{used-holds}
 
 pub record Free (made counts parts : List ℕ) (plan counters room : ℕ) : Type 0 where
   pub lengths : joinLengths plan counters ≡ true

@@ -30,7 +30,7 @@ use Rattle.column_anew.specs.runs.Runs.{okAt}
 use Rattle.column_anew.specs.runs.Picked.{cell, cells}
 use Rattle.column_anew.specs.runs.Coding.{runAt}
 use Rattle.column_anew.proofs.runs.Fewest.{run-there}
-use Rattle.run_walks.specs.Expand.{stretch, fillBits, fill, expandFrom, expandWalk}
+use Rattle.run_coding.specs.run_walks.Expand.{stretch, fillBits, fill, expandFrom, expandWalk}
 use Rattle.run_coding.specs.Rows.{asBit, cellOf, numberIn, validIn}
 use Rattle.run_coding.specs.Writes.{Holds, bitsWritten, rowsWritten, endIn, left, rowsFrom}
 use Rattle.coding.specs.Counted.{rowCounts}

@@ -6,9 +6,9 @@ use Prim.Native.Nat.{ℕ, _+_, _*_, _-_, _<_, _^_}
 use lib.ListN.{length}
 use Rattle.array_data.specs.Tables.{Tables, part, lengthOf, offsetOf}
 use Rattle.array_data.specs.Typed.{tablesFrom}
-use Rattle.leaf_row.specs.run.Rows.{rowRun}
+use Rattle.slot_reader.specs.run.Rows.{rowRun}
 use Rattle.cell_sums.specs.stretches.Ends.{endsOf}
-use Rattle.sums.specs.patterns.Parts.{Sized}
+use Rattle.cell_sums.specs.patterns.Parts.{Sized}
 use Rattle.run_coding.specs.Rows.{Held, lastRows}
 use Rattle.coding.specs.Expand.{runOr}
 use Rattle.run_coding.specs.Writes.{Fits, runsWritten, Holds, Ends, rowsFrom}

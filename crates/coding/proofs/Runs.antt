@@ -6,18 +6,18 @@ use Prim.Native.Nat.{ℕ, zero, suc, _+_, _*_, _-_, _≤_, _<_, _^_}
 use native.Mathlib.Omega.{arith}
 use lib.ListN.{length, getD}
 use lib.Dec.{eqb}
-use Rattle.formats.specs.Code.{isRunEnd, widthOf}
+use Rattle.schema.specs.formats.Code.{isRunEnd, widthOf}
 use Rattle.schema.specs.Tree.{codeOf, ceilings, typed}
 use Rattle.array_data.specs.Tables.{Tables}
 use Rattle.array_data.specs.lent_tables.Lent.{tables}
 use Rattle.source_rules.specs.kinds.Rows.{tablesOf}
 use Rattle.columns.specs.Grounds.{smallBody, columnGround}
-use Rattle.column_pair.specs.Pair.{rangeIn}
+use Rattle.columns.specs.column_pair.Pair.{rangeIn}
 use Rattle.walk.specs.Log.{startOf}
 use Rattle.walk.specs.State as state
 use Rattle.anew.specs.Anew.{ahead, roomGround}
-use Rattle.result_plan.proofs.Answered.{before-walk}
-use Rattle.run_walks.proofs.Plans.{RowsPlan, rows-plan}
+use Rattle.anew.proofs.result_plan.Answered.{before-walk}
+use Rattle.run_coding.proofs.run_walks.Plans.{RowsPlan, rows-plan}
 use Rattle.run_coding.specs.Writes.{Holds}
 use Rattle.coding.specs.Counted.{rowCounts}
 use Rattle.coding.specs.Encode.{plainAt}

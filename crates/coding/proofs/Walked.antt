@@ -25,7 +25,7 @@ use Rattle.refinement.proofs.walk_is_model.Counters.{grown-is}
 use Rattle.column_anew.specs.runs.Runs.{okAt, those, edge}
 use Rattle.column_anew.specs.runs.Picked.{cell}
 use Rattle.column_anew.proofs.runs.Those.{those-few}
-use Rattle.run_walks.specs.Encode.{emitBit, emit, encodeRow, encodeWalk}
+use Rattle.run_coding.specs.run_walks.Encode.{emitBit, emit, encodeRow, encodeWalk}
 use Rattle.run_coding.specs.Rows.{asBit, cellOf, numberIn, validIn, lastIn, lastRows}
 use Rattle.run_coding.specs.Writes.{Fits, bitsWritten, runWritten, runsWritten}
 use Rattle.run_coding.proofs.Laws.{fewer-fit}

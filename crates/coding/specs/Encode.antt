@@ -7,19 +7,19 @@ use lib.ListN.{length, replicate}
 use lib.Dec.{ltb, eqb}
 use Rattle.columnar.specs.Types.{Number, width, half, fixed, tPlain}
 use Rattle.columnar.specs.Reading.{Column}
-use Rattle.formats.specs.Code.{isFixed, isRunEnd, widthOf}
-use Rattle.formats.specs.Types.{numberOf}
+use Rattle.schema.specs.formats.Code.{isFixed, isRunEnd, widthOf}
+use Rattle.schema.specs.formats.Types.{numberOf}
 use Rattle.schema.specs.Tree.{dictionary, codeOf, ceilings, typed}
 use Rattle.array_data.specs.Tables.{Tables, offsetOf, place}
 use Rattle.array_data.specs.Typed.{columnOf, tablesFrom}
 use Rattle.array_data.specs.lent_tables.Lent.{tables}
 use Rattle.array_data.specs.type_tree.Lent.{numberOr, treeOf}
-use Rattle.column_pair.specs.Pair.{rangeIn}
+use Rattle.columns.specs.column_pair.Pair.{rangeIn}
 use Rattle.walk.specs.Log.{Out, startOf}
 use Rattle.refinement.specs.opening.Open.{Opening}
 use Rattle.anew.specs.Anew.{Asking, asking, anew}
 use Rattle.anew.specs.ResultPlan.{keepsFrom, planAnew}
-use Rattle.run_walks.specs.Encode.{encodeWalk}
+use Rattle.run_coding.specs.run_walks.Encode.{encodeWalk}
 use Rattle.run_coding.specs.Rows.{Held, lastRows}
 use Rattle.run_coding.specs.Writes.{Fits, runsWritten}
 

@@ -7,23 +7,23 @@ use lib.ListN.{length, replicate}
 use lib.Dec.{eqb}
 use Rattle.columnar.specs.Types.{Number, width, fixed, tPlain, tRunEnd}
 use Rattle.columnar.specs.Reading.{Column}
-use Rattle.formats.specs.Code.{isRunEnd, widthOf}
-use Rattle.formats.specs.Types.{numberOf}
+use Rattle.schema.specs.formats.Code.{isRunEnd, widthOf}
+use Rattle.schema.specs.formats.Types.{numberOf}
 use Rattle.schema.specs.Tree.{codeOf, ceilings, typed}
 use Rattle.array_data.specs.Tables.{Tables, part, lengthOf, offsetOf, place}
 use Rattle.array_data.specs.Typed.{columnOf, tablesFrom}
 use Rattle.array_data.specs.lent_tables.Lent.{tables}
 use Rattle.array_data.specs.type_tree.Lent.{numberOr, treeOf}
-use Rattle.column_pair.specs.Pair.{rangeIn}
-use Rattle.leaf_row.specs.declared.run.RowRun.{RowRun}
-use Rattle.leaf_row.specs.declared.run.RowRun.the-variants as answer
-use Rattle.leaf_row.specs.run.Rows.{rowRun}
+use Rattle.columns.specs.column_pair.Pair.{rangeIn}
+use Rattle.slot_reader.specs.declared.run.RowRun.{RowRun}
+use Rattle.slot_reader.specs.declared.run.RowRun.the-variants as answer
+use Rattle.slot_reader.specs.run.Rows.{rowRun}
 use Rattle.cell_sums.specs.stretches.Ends.{endsOf}
 use Rattle.walk.specs.Log.{Out, startOf}
 use Rattle.refinement.specs.opening.Open.{Opening}
 use Rattle.anew.specs.Anew.{Asking, asking, anew}
 use Rattle.anew.specs.ResultPlan.{keepsFrom, planAnew}
-use Rattle.run_walks.specs.Expand.{expandWalk}
+use Rattle.run_coding.specs.run_walks.Expand.{expandWalk}
 use Rattle.run_coding.specs.Rows.{Held}
 use Rattle.run_coding.specs.Writes.{Holds, Ends, rowsFrom}
 use Rattle.coding.specs.Encode.{plainAt}

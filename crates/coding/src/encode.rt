@@ -4,14 +4,14 @@ ghost use mathlib.Core.List.{[]};
 ghost use mathlib.Core.Bool.{true};
 ghost use Prim.Native.Nat.{_-_};
 ghost use lib.ListN.{length};
-ghost use Rattle.formats.specs.Code.{widthOf};
+ghost use Rattle.schema.specs.formats.Code.{widthOf};
 ghost use Rattle.schema.specs.Tree.{codeOf};
 ghost use Rattle.array_data.specs.lent_tables.Lent.{tables};
 ghost use Rattle.source_rules.specs.kinds.Rows.{tablesOf};
 ghost use Rattle.with_capacities.specs.Answer.{Answers};
 ghost use Rattle.anew.specs.ResultPlan.{keepsFrom, Comes, planAnew};
-ghost use Rattle.result_plan.specs.Answer.{Asks};
-ghost use Rattle.sums.specs.patterns.Parts.{Sized};
+ghost use Rattle.anew.specs.result_plan.Answer.{Asks};
+ghost use Rattle.cell_sums.specs.patterns.Parts.{Sized};
 ghost use Rattle.coding.specs.Counted.{allCounts};
 ghost use Rattle.coding.specs.Encode.{runsOver, encodeOwn, fromColumn, encodeAsked, encoding, lastOf, Codable, RoomFor, runsIn};
 use run_coding::Spots;
@@ -29,7 +29,7 @@ fn is_due(formats: &[u8], schema: &[u32], first: u32, target: u32) -> bool
     if !schema::is_typed(formats, schema, at, 3) {
         return false;
     }
-    if !formats::is_run_end(schema::code_of(formats, schema, at, 0)) {
+    if !schema::formats::is_run_end(schema::code_of(formats, schema, at, 0)) {
         return false;
     }
     if !crate::is_plain(formats, schema, target, 2) {
@@ -56,10 +56,10 @@ fn own_ground(
     if !is_due(formats, schema, first, target) {
         return 10;
     }
-    if !column_pair::is_range(lengths, first, start, end) {
+    if !columns::column_pair::is_range(lengths, first, start, end) {
         return 2;
     }
-    let w = formats::width_of(schema::code_of(formats, schema, target as usize, 1));
+    let w = schema::formats::width_of(schema::code_of(formats, schema, target as usize, 1));
     if !crate::ends_hold(w, end - start) {
         return 7;
     }
@@ -81,7 +81,7 @@ fn planned(
 {
     let mut state = [0u64; 872];
     let from = [0u64, 0, 1];
-    result_plan::plan_anew(
+    anew::result_plan::plan_anew(
         formats,
         schema,
         target as usize,
@@ -124,7 +124,7 @@ fn tried(
     requires { ⌜ Codable (now formats) (now schema) (tables (now lengths) (now places) (now body)) first start end keep ⌝ }
     ensures { λ r. ⌜ r ≡ allCounts (end - start) (length (lastOf (now (formats .entry)) (now (schema .entry)) (tables (now (lengths .entry)) (now (places .entry)) (now (body .entry))) first start end keep)) ⌝ }
 {
-    let w = formats::width_of(schema::code_of(formats, schema, first as usize, 0));
+    let w = schema::formats::width_of(schema::code_of(formats, schema, first as usize, 0));
     let s = crate::slots_of(lengths, places, first, 0, w, start);
     let m = end - start;
     let k = encode::count_runs(body, w, keep, s, m as usize);
@@ -151,8 +151,8 @@ fn write(
     requires { ⌜ RoomFor (now formats) (now schema) (tables (now lengths) (now places) (now body)) first start end target (now state) (now parts) keep (length (now room)) ⌝ }
     ensures { λ _. ⌜ now (room .exit) ≡ runsIn (now (formats .entry)) (now (schema .entry)) (tables (now (lengths .entry)) (now (places .entry)) (now (body .entry))) first start end target (now (state .entry)) (now (parts .entry)) keep (now (room .entry)) ⌝ }
 {
-    let w = formats::width_of(schema::code_of(formats, schema, first as usize, 0));
-    let e = formats::width_of(schema::code_of(formats, schema, target as usize, 1));
+    let w = schema::formats::width_of(schema::code_of(formats, schema, first as usize, 0));
+    let e = schema::formats::width_of(schema::code_of(formats, schema, target as usize, 1));
     let s = crate::slots_of(lengths, places, first, 0, w, start);
     let t = Spots {
         ends: crate::start_of(state, parts, 1, 1) as usize,
@@ -207,7 +207,7 @@ pub fn plan_encode(
         end,
         keep,
     );
-    result_plan::keep_result(plan, counters, &state, &counts);
+    anew::result_plan::keep_result(plan, counters, &state, &counts);
     0
 }
 
@@ -256,7 +256,7 @@ pub fn encode(
         end,
         keep,
     );
-    let g = result_plan::room_ground(
+    let g = anew::result_plan::room_ground(
         &state,
         &counts,
         parts,
@@ -282,6 +282,6 @@ pub fn encode(
         parts,
         room,
     );
-    result_plan::keep_result(plan, counters, &state, &counts);
+    anew::result_plan::keep_result(plan, counters, &state, &counts);
     0
 }

@@ -8,25 +8,25 @@ ghost use Rattle.array_data.specs.Tables.{part, lengthOf, offsetOf, place};
 ghost use Rattle.array_data.specs.entries.Entries.{column};
 ghost use Rattle.array_data.specs.lent_tables.Lent.{tables};
 ghost use Rattle.source_rules.specs.kinds.Rows.{tablesOf};
-ghost use Rattle.leaf_row.specs.run.Rows.{rowRun};
+ghost use Rattle.slot_reader.specs.run.Rows.{rowRun};
 ghost use Rattle.cell_sums.specs.stretches.Ends.{endsOf};
 ghost use Rattle.with_capacities.specs.Answer.{Answers};
 ghost use Rattle.anew.specs.ResultPlan.{keepsFrom, Comes, planAnew};
-ghost use Rattle.result_plan.specs.Answer.{Asks};
+ghost use Rattle.anew.specs.result_plan.Answer.{Asks};
 ghost use Rattle.coding.specs.Counted.{rowCounts};
 ghost use Rattle.coding.specs.Expand.{runsOfPlain, plainOver, expandOwn, fromValues, expandAsked, expanding, runOr, Expandable, RowsFit, rowsIn};
 use array_data::entries;
 use cell_sums::stretches;
-use leaf_row::run::RowRun;
 use run_coding::Spots;
 use run_coding::expand;
+use slot_reader::run::RowRun;
 use walk::plan_words;
 
 // Whether the column is a run-end one of fixed-width values.
 fn is_taken(formats: &[u8], schema: &[u32], first: u32) -> bool
     ensures { λ r. ⌜ r ≡ runsOfPlain (now (formats .entry)) (now (schema .entry)) first 0 ⌝ }
 {
-    if !formats::is_run_end(schema::code_of(formats, schema, first as usize, 0)) {
+    if !schema::formats::is_run_end(schema::code_of(formats, schema, first as usize, 0)) {
         return false;
     }
     crate::is_plain(formats, schema, first, 2)
@@ -67,7 +67,7 @@ fn own_ground(
     if !is_due(formats, schema, first, target) {
         return 10;
     }
-    if !column_pair::is_range(lengths, first, start, end) {
+    if !columns::column_pair::is_range(lengths, first, start, end) {
         return 2;
     }
     0
@@ -88,7 +88,7 @@ fn planned(
 {
     let mut state = [0u64; 872];
     let from = [3u64];
-    result_plan::plan_anew(
+    anew::result_plan::plan_anew(
         formats,
         schema,
         target as usize,
@@ -150,8 +150,8 @@ fn write(
     if start == end {
         return;
     }
-    let w = formats::width_of(schema::code_of(formats, schema, first as usize, 2));
-    let e = formats::width_of(schema::code_of(formats, schema, first as usize, 1));
+    let w = schema::formats::width_of(schema::code_of(formats, schema, first as usize, 2));
+    let e = schema::formats::width_of(schema::code_of(formats, schema, first as usize, 1));
     let s = crate::slots_of(lengths, places, first, 2, w, 0);
     let ends = crate::slots_of(lengths, places, first, 1, e, 0);
     let run = first_run(lengths, places, body, first, e, start);
@@ -200,7 +200,7 @@ pub fn plan_expand(
     }
     let state = planned(formats, schema, lengths, places, body, first, target);
     let counts = counters_of(end - start);
-    result_plan::keep_result(plan, counters, &state, &counts);
+    anew::result_plan::keep_result(plan, counters, &state, &counts);
     0
 }
 
@@ -238,7 +238,7 @@ pub fn expand(
     }
     let state = planned(formats, schema, lengths, places, body, first, target);
     let counts = counters_of(end - start);
-    let g = result_plan::room_ground(
+    let g = anew::result_plan::room_ground(
         &state,
         &counts,
         parts,
@@ -264,6 +264,6 @@ pub fn expand(
         parts,
         room,
     );
-    result_plan::keep_result(plan, counters, &state, &counts);
+    anew::result_plan::keep_result(plan, counters, &state, &counts);
     0
 }

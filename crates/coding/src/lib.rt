@@ -24,7 +24,7 @@ pub fn is_plain(formats: &[u8], schema: &[u32], first: u32, i: usize) -> bool
     requires { ⌜ i < 2 ^ 32 ⌝ }
     ensures { λ r. ⌜ r ≡ plainAt (now (formats .entry)) (now (schema .entry)) first i ⌝ }
 {
-    if !formats::is_fixed(schema::code_of(formats, schema, first as usize, i)) {
+    if !schema::formats::is_fixed(schema::code_of(formats, schema, first as usize, i)) {
         return false;
     }
     schema::dictionary_of(schema, first as usize, i) == 0

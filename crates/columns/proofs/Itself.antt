@@ -7,8 +7,8 @@ use Prim.Native.Nat.{ℕ, _+_, _<_}
 use native.Mathlib.Omega.{arith}
 use lib.Dec.{leb, eqb}
 use borrow.Author.Tests.{leb-true, eq-eqb, ne-eqb}
-use Rattle.formats.specs.Code.{same, between, isFixed, isString, isView, isListView, isList, isUnion}
-use Rattle.formats.specs.union_ids.Ids.{sameIds}
+use Rattle.schema.specs.formats.Code.{same, between, isFixed, isString, isView, isListView, isList, isUnion}
+use Rattle.schema.specs.union_ids.Ids.{sameIds}
 use Rattle.schema.specs.Tree.{every, field, flag, children, dictionary, childForEach, isValues, codeOf, idsOf, shape, unionShape, typed, sameFlag, sameFormats, sameNode, sameType}
 use Rattle.schema.proofs.Laws.{every-all}
 use Rattle.schema.proofs.Known.{typed-shape}

@@ -1,4 +1,6 @@
 // Whether lent columns (docs/FORMAT.md) are sources that a join takes, or which of the grounds 9 to 12 they meet.
+pub mod column_pair;
+
 ghost use mathlib.Core.Path.{_≡_};
 ghost use mathlib.Core.Bool.{true};
 ghost use mathlib.Core.List.{[]};
@@ -31,7 +33,7 @@ fn has_few_buffers(formats: &[u8], schema: &[u32], places: &[u64], first: usize,
     requires { ⌜ (first < 2 ^ 32) × (i < 32) ⌝ }
     ensures { λ r. ⌜ r ≡ fewBuffers (now (formats .entry)) (now (schema .entry)) (tables [] (now (places .entry)) []) first i ⌝ }
 {
-    let other = !formats::is_view(schema::code_of(formats, schema, first, i));
+    let other = !schema::formats::is_view(schema::code_of(formats, schema, first, i));
     let few = lent_tables::place(places, first + i, 8) <= 32;
     other | few
 }

@@ -16,21 +16,21 @@ use Rattle.source_rules.specs.kinds.Rows.{tablesOf}
 use Rattle.walk.specs.State.{bytesOf, lengthOf, offsetOf}
 use Rattle.walk.specs.Log.{Out, Did}
 use Rattle.leaf_walk.specs.Join.{join}
-use Rattle.parts.specs.Parts.{partTotal, partsPlaced, partsHold}
+use Rattle.plan.specs.parts.Parts.{partTotal, partsPlaced, partsHold}
 use Rattle.columns.specs.Grounds.{ceiling, smallBody, columnGround}
 use Rattle.with_capacities.specs.Answer.{Answers}
 use Rattle.anew.specs.Anew.{orElse, joinLengths, roomGround, ahead}
 use Rattle.anew.specs.ResultPlan.{keepsFrom, Comes, planAnew}
 use Rattle.anew.proofs.Laws.{or-none, or-zero, or-first}
 use Rattle.anew.proofs.Comes.{comes}
-use Rattle.result_plan.specs.Answer.{Asks}
-use Rattle.result_plan.proofs.Answered.{tried-room, made-room, before-walk, asks-refused, asks-lengths, asks-done, answers-large, answers-refused, answers-room, answers-made}
-use Rattle.convert_lists.specs.Turned.{allNodes, toList}
-use Rattle.convert_lists.specs.Listing.{listWalk}
-use Rattle.convert_lists.specs.ToList.{lentWith, listOwn, listPlan, listFilled, askList, makeList}
-use Rattle.convert_lists.proofs.ListParts.{list-same}
-use Rattle.convert_lists.proofs.ListLent.{Due, due-is, list-view}
-use Rattle.convert_lists.proofs.Column.{from-same}
+use Rattle.anew.specs.result_plan.Answer.{Asks}
+use Rattle.anew.proofs.result_plan.Answered.{tried-room, made-room, before-walk, asks-refused, asks-lengths, asks-done, answers-large, answers-refused, answers-room, answers-made}
+use Rattle.convert.specs.convert_lists.Turned.{allNodes, toList}
+use Rattle.convert.specs.convert_lists.Listing.{listWalk}
+use Rattle.convert.specs.convert_lists.ToList.{lentWith, listOwn, listPlan, listFilled, askList, makeList}
+use Rattle.convert.proofs.convert_lists.ListParts.{list-same}
+use Rattle.convert.proofs.convert_lists.ListLent.{Due, due-is, list-view}
+use Rattle.convert.proofs.convert_lists.Column.{from-same}
 
 -- the counters that a walk leaves, under another name
 pub recount : {s p room room2 c q : List ℕ} {wr : Bool} {o : Out} {g : ℕ} → q ≡ c → Did s p wr o room g c room2 → Did s p wr o room g q room2

@@ -22,14 +22,14 @@ use Rattle.anew.specs.ResultPlan.{keepsFrom, Comes, planAnew}
 use Rattle.anew.proofs.Laws.{or-none, or-zero, or-first}
 use Rattle.anew.proofs.PlanWords.{plan-length}
 use Rattle.anew.proofs.Comes.{comes}
-use Rattle.result_plan.specs.Answer.{Asks}
-use Rattle.result_plan.proofs.Answered.{tried-room, made-room, before-walk, asks-refused, asks-lengths, asks-done, answers-large, answers-refused, answers-room, answers-made}
-use Rattle.convert_lists.specs.Turned.{allNodes, toView}
-use Rattle.convert_lists.specs.Viewing.{viewRow, viewRows, viewWalk}
-use Rattle.convert_lists.specs.ToView.{viewOwn, viewPlan, viewFilled, askView, makeView}
-use Rattle.convert_lists.proofs.ViewLent.{ViewDue, view-due, root-lent, made-bytes, wide-formed}
+use Rattle.anew.specs.result_plan.Answer.{Asks}
+use Rattle.anew.proofs.result_plan.Answered.{tried-room, made-room, before-walk, asks-refused, asks-lengths, asks-done, answers-large, answers-refused, answers-room, answers-made}
+use Rattle.convert.specs.convert_lists.Turned.{allNodes, toView}
+use Rattle.convert.specs.convert_lists.Viewing.{viewRow, viewRows, viewWalk}
+use Rattle.convert.specs.convert_lists.ToView.{viewOwn, viewPlan, viewFilled, askView, makeView}
+use Rattle.convert.proofs.convert_lists.ViewLent.{ViewDue, view-due, root-lent, made-bytes, wide-formed}
 use Rattle.convert.proofs.Called.{first-of, own-none, wide-either, no-type}
-use Rattle.convert_lists.proofs.Column.{from-same}
+use Rattle.convert.proofs.convert_lists.Column.{from-same}
 
 module _ (formats schema lengths places buffers body : List ℕ) (first n target tn : ℕ) where
   abbrev x : Tables

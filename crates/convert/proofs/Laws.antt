@@ -11,7 +11,7 @@ use lib.ListN.{length, getD}
 use lib.Dec.{ltb}
 use borrow.Author.Tests.{lt-ltb, le-ltb, eq-eqb, ne-eqb, ltb-false}
 use Rattle.columnar.specs.Array.{bit, ok}
-use Rattle.formats.specs.Code.{isListView, isList}
+use Rattle.schema.specs.formats.Code.{isListView, isList}
 use Rattle.schema.specs.Tree.{whole, codeOf, ceilings, typed, sameType}
 use Rattle.array_data.specs.Tables.{Tables, validOf}
 use Rattle.array_data.specs.entries.Entries.{column, validIn}
@@ -19,8 +19,8 @@ use Rattle.array_data.specs.declared.entries.Validity.the-variants as validity
 use Rattle.array_data.proofs.lent_tables.Laws.{no, yes}
 use Rattle.plan.proofs.dictionaries.Laws.{place-from}
 use Rattle.leaf_walk.specs.Join.{join}
-use Rattle.convert_lists.specs.Turned.{listOf, viewOf, sameChild, childNamed, sameBelow, toList, toView}
-use Rattle.convert_lists.specs.Listing as walks
+use Rattle.convert.specs.convert_lists.Turned.{listOf, viewOf, sameChild, childNamed, sameBelow, toList, toView}
+use Rattle.convert.specs.convert_lists.Listing as walks
 
 getD-past : (m : List ℕ) (k d : ℕ) → length m ≤ k → getD m k d ≡ d
 getD-past [] k d h = refl

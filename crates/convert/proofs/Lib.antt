@@ -4,3 +4,4 @@ pub mod Walked
 pub mod Called
 pub mod Viewed
 pub mod CalledView
+pub mod convert_lists

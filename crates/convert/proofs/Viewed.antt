@@ -14,7 +14,7 @@ use Rattle.walk.specs.State.{Join, bytesOf, addRows, place, lengthOf, offsetOf,
 use Rattle.walk.specs.Log.{Did, put, applyIf, done, each}
 use Rattle.walk.specs.Leaves.{copyMask}
 use Rattle.walk.proofs.Laws.{done-did, wrote-did, need-no, need-ok, next-no, next-ok}
-use Rattle.convert_lists.specs.Viewing.{startAt, nextAt, viewRow, viewRows, viewWalk}
+use Rattle.convert.specs.convert_lists.Viewing.{startAt, nextAt, viewRow, viewRows, viewWalk}
 
 module _ (x : Join) where
   -- where the root's offsets begin, as the tables have it

@@ -18,11 +18,11 @@ use Rattle.walk.specs.Log.{Did, put, applyIf, done, each}
 use Rattle.walk.specs.Leaves.{copyMask}
 use Rattle.walk.specs.Copy.{copyWalk}
 use Rattle.walk.proofs.Laws.{done-did, wrote-did, need-no, need-ok, next-no, next-ok}
-use Rattle.parts.specs.Parts.{nodesOf}
+use Rattle.plan.specs.parts.Parts.{nodesOf}
 use Rattle.refinement.specs.orders.Order.{Lent, joinOf}
 use Rattle.refinement.specs.opening.Open.{firstOffset}
-use Rattle.convert_lists.specs.Listing as walks
-use Rattle.convert_lists.specs.Listing.{endRow, copyRow, listRow, listRows, listWalk}
+use Rattle.convert.specs.convert_lists.Listing as walks
+use Rattle.convert.specs.convert_lists.Listing.{endRow, copyRow, listRow, listRows, listWalk}
 
 module _ (x : Join) (wr : Bool) (w r : ℕ) (c room : List ℕ) where
   abbrev Done : ℕ → List ℕ → List ℕ → Type 0

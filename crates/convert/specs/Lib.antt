@@ -1,1 +1,3 @@
 -- The contracts cite the definitions of `convert_lists`.
+pub mod convert_lists
+pub mod child_names

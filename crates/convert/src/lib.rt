@@ -1,19 +1,20 @@
 // The converter between lists and list-views: which targets are due (this file), and for either way the question before any room is lent and the call.
 // A result is finished as a join is.
+pub mod child_names;
 pub mod lists;
 pub mod to_list;
 pub mod to_view;
 pub mod views;
 
 ghost use mathlib.Core.Path.{_≡_};
-ghost use Rattle.convert_lists.specs.Turned.{listOf, viewOf, sameBelow, toList, toView};
+ghost use Rattle.convert.specs.convert_lists.Turned.{listOf, viewOf, sameBelow, toList, toView};
 
 // Whether the roots are a list-view and a list of the same width.
 fn is_list_of(formats: &[u8], schema: &[u32], first: u32, target: u32) -> bool
     ensures { λ r. ⌜ r ≡ listOf (now (formats .entry)) (now (schema .entry)) first target ⌝ }
 {
     let code = schema::code_of(formats, schema, first as usize, 0);
-    if !formats::is_list_view(code) {
+    if !schema::formats::is_list_view(code) {
         return false;
     }
     let to = schema::code_of(formats, schema, target as usize, 0);
@@ -28,7 +29,7 @@ fn is_view_of(formats: &[u8], schema: &[u32], first: u32, target: u32) -> bool
     ensures { λ r. ⌜ r ≡ viewOf (now (formats .entry)) (now (schema .entry)) first target ⌝ }
 {
     let code = schema::code_of(formats, schema, first as usize, 0);
-    if !formats::is_list(code) {
+    if !schema::formats::is_list(code) {
         return false;
     }
     let to = schema::code_of(formats, schema, target as usize, 0);

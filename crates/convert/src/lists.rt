@@ -8,8 +8,8 @@ ghost use Rattle.array_data.specs.lent_tables.Lent.{tables};
 ghost use Rattle.walk.specs.State.{bytesOf, place, lengthOf, offsetOf};
 ghost use Rattle.walk.specs.Log.{Did};
 ghost use Rattle.leaf_walk.specs.Join.{join};
-ghost use Rattle.convert_lists.specs.Listing.{validity, endRow, copyRow, listRow, listRows, listWalk};
-ghost use Rattle.convert_lists.specs.ToList.{lentWith};
+ghost use Rattle.convert.specs.convert_lists.Listing.{validity, endRow, copyRow, listRow, listRows, listWalk};
+ghost use Rattle.convert.specs.convert_lists.ToList.{lentWith};
 use array_data::entries;
 use array_data::lent_tables;
 use nested_rows::lookups;
@@ -194,7 +194,7 @@ pub fn list_walk(
     ensures { λ g. ⌜ ((n : ℕ) → Did (now (state .entry)) (now (parts .entry)) write (listWalk (lentWith (tables (now (lengths .entry)) (now (places .entry)) (now (body .entry))) (now (state .entry)) (now (parts .entry)) first n) (now (counts .entry))) (now (room .entry)) g (now (counts .exit)) (now (room .exit))) ⌝ }
 {
     let k = first as usize;
-    open_walk::first_offsets(state, parts, room, write);
+    with_capacities::open_walk::first_offsets(state, parts, room, write);
     let slot = lent_tables::offset_of(lengths, k);
     let n = lent_tables::length_of(lengths, k);
     let g = leaf_walk::copy_mask(

@@ -13,10 +13,10 @@ ghost use Rattle.leaf_walk.specs.Join.{join};
 ghost use Rattle.anew.specs.Anew.{orElse};
 ghost use Rattle.anew.specs.ResultPlan.{keepsFrom, Comes, planAnew};
 ghost use Rattle.with_capacities.specs.Answer.{Answers};
-ghost use Rattle.result_plan.specs.Answer.{Asks};
-ghost use Rattle.convert_lists.specs.Turned.{allNodes};
-ghost use Rattle.convert_lists.specs.Viewing.{viewWalk};
-ghost use Rattle.convert_lists.specs.ToView.{viewOwn, askView, makeView};
+ghost use Rattle.anew.specs.result_plan.Answer.{Asks};
+ghost use Rattle.convert.specs.convert_lists.Turned.{allNodes};
+ghost use Rattle.convert.specs.convert_lists.Viewing.{viewWalk};
+ghost use Rattle.convert.specs.convert_lists.ToView.{viewOwn, askView, makeView};
 
 // The ground of the column: 9, 10, 12, and 10 where it is no list or the target not its list-view.
 fn ground_of(
@@ -91,7 +91,7 @@ fn planned(
         31,
         32,
     ];
-    result_plan::plan_anew(
+    anew::result_plan::plan_anew(
         formats,
         schema,
         target as usize,
@@ -166,7 +166,7 @@ pub fn plan_list_view(
         return 14;
     }
     let made = with_capacities::copied(counts);
-    result_plan::keep_result(plan, counters, &state, &made);
+    anew::result_plan::keep_result(plan, counters, &state, &made);
     0
 }
 
@@ -200,7 +200,7 @@ fn make(
         first,
     );
     let made = with_capacities::copied(counts);
-    result_plan::keep_result(plan, counters, state, &made);
+    anew::result_plan::keep_result(plan, counters, state, &made);
     g
 }
 
@@ -261,7 +261,7 @@ pub fn to_list_view(
         return g;
     }
     let counts = with_capacities::copied(tried);
-    let g = result_plan::room_ground(
+    let g = anew::result_plan::room_ground(
         &state,
         &counts,
         parts,

@@ -6,7 +6,7 @@ ghost use lib.ListN.{length};
 ghost use Rattle.walk.specs.State.{bytesOf, place, lengthOf, offsetOf};
 ghost use Rattle.walk.specs.Log.{Did};
 ghost use Rattle.leaf_walk.specs.Join.{join};
-ghost use Rattle.convert_lists.specs.Viewing.{viewRow, viewRows, viewWalk};
+ghost use Rattle.convert.specs.convert_lists.Viewing.{viewRow, viewRows, viewWalk};
 use array_data::lent_tables;
 use nested_rows::lookups;
 use walk::plan_words;

@@ -14,7 +14,7 @@ use Rattle.walk.specs.Log.{Out, need, fail}
 use Rattle.walk.specs.Copy.{copyWalk}
 use Rattle.walk.specs.Nulls.{nullWalk}
 use Rattle.leaf_walk.specs.Join.{join}
-use Rattle.parts.specs.Parts.{partsWithin}
+use Rattle.plan.specs.parts.Parts.{partsWithin}
 use Rattle.model.specs.Book.{Call, copy, nulls}
 use Rattle.refinement.specs.orders.Sound.{planSound, walkable}
 use Rattle.columns.specs.Grounds.{ceiling}
@@ -26,14 +26,14 @@ use Rattle.trip.specs.Trip.{longest, callOf, callAt, callsFrom, callsOf, orderM
 use Rattle.trip.specs.Walk.{orderWalk}
 use Rattle.trip.proofs.Steps.{measure-is}
 use Rattle.trip.proofs.Long.{long-order}
-use Rattle.stops.specs.declared.Why.{Why}
-use Rattle.stops.specs.declared.WhyListed.{WhyListed}
-use Rattle.stops.specs.Why.{only, nothing, unless, past}
-use Rattle.stops.specs.Copy.{whyCopy}
-use Rattle.stops.specs.Nulls.{walked, whyNulls}
-use Rattle.stops.specs.Parts.{whyParts}
-use Rattle.stops.specs.Order.{whySettled, whyCopyOrder, whyNullOrder, whyOrder, listed, whyListedFrom, whyTrip}
-use Rattle.stops.proofs.Says.{Says}
+use Rattle.stop_walks.specs.declared.stops.Why.{Why}
+use Rattle.stop_walks.specs.declared.stops.WhyListed.{WhyListed}
+use Rattle.stop_walks.specs.stops.Why.{only, nothing, unless, past}
+use Rattle.stop_walks.specs.stops.Copy.{whyCopy}
+use Rattle.stop_walks.specs.stops.Nulls.{walked, whyNulls}
+use Rattle.stop_walks.specs.stops.Parts.{whyParts}
+use Rattle.stop_walks.specs.stops.Order.{whySettled, whyCopyOrder, whyNullOrder, whyOrder, listed, whyListedFrom, whyTrip}
+use Rattle.stop_walks.proofs.stops.Says.{Says}
 use Rattle.stop_walks.specs.Step.{Tried}
 use Rattle.explain.specs.Explains.{Settles, whyCall, Explains}
 use Rattle.explain.proofs.State.{why-state}

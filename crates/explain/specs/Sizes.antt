@@ -4,7 +4,7 @@ use mathlib.Core.Bool.{true}
 use mathlib.Core.List.{List}
 use Prim.Native.Nat.{ℕ, _<_}
 use Rattle.walk.specs.State.{top}
-use Rattle.parts.specs.Parts.{nodesOf, hasPart, sizeOf}
+use Rattle.plan.specs.parts.Parts.{nodesOf, hasPart, sizeOf}
 
 module _ (plan parts : List ℕ) where
   abbrev pub SmallPart : ℕ → ℕ → Type 0

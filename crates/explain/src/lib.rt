@@ -10,19 +10,19 @@ ghost use Rattle.walk.specs.State.{top};
 ghost use Rattle.walk.specs.Copy.{copyWalk};
 ghost use Rattle.walk.specs.Nulls.{nullWalk};
 ghost use Rattle.leaf_walk.specs.Join.{join};
-ghost use Rattle.parts.specs.Parts.{partsWithin};
+ghost use Rattle.plan.specs.parts.Parts.{partsWithin};
 ghost use Rattle.refinement.specs.orders.Sound.{walkable};
 ghost use Rattle.transform.specs.Answer.{lent};
 ghost use Rattle.trip.specs.Trip.{callAt, callsOf};
-ghost use Rattle.stops.specs.Why.{only, unless};
-ghost use Rattle.stops.specs.Copy.{whyCopy};
-ghost use Rattle.stops.specs.Nulls.{walked, whyNulls};
-ghost use Rattle.stops.specs.Parts.{whyParts};
-ghost use Rattle.stops.specs.Order.{whyCopyOrder, whyNullOrder, whyTrip};
+ghost use Rattle.stop_walks.specs.stops.Why.{only, unless};
+ghost use Rattle.stop_walks.specs.stops.Copy.{whyCopy};
+ghost use Rattle.stop_walks.specs.stops.Nulls.{walked, whyNulls};
+ghost use Rattle.stop_walks.specs.stops.Parts.{whyParts};
+ghost use Rattle.stop_walks.specs.stops.Order.{whyCopyOrder, whyNullOrder, whyTrip};
 ghost use Rattle.explain.specs.Explains.{Settles, Explains};
 use array_data::lent_tables;
-use stops::Why;
-use stops::WhyListed;
+use stop_walks::stops::Why;
+use stop_walks::stops::WhyListed;
 use walk::plan_words;
 
 mod small_parts;
@@ -57,7 +57,7 @@ fn settle(plan: &[u64], parts: &[u64], counts: &[u64; 96], m: usize, r: u64, n: 
     requires { ⌜ m < top ⌝ }
     ensures { λ w. ⌜ w ≡ unless (partsWithin (now (plan .entry)) (now (parts .entry)) m) (only 14) (whyParts (now (plan .entry)) (now (counts .entry)) (now (parts .entry)) (r + n)) ⌝ }
 {
-    if !parts::parts_within(plan, parts, m) {
+    if !plan::parts::parts_within(plan, parts, m) {
         return stop_walks::plain(NOT_LENT);
     }
     small_parts::why_parts(plan, counts, parts, r, n)

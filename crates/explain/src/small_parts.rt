@@ -4,12 +4,12 @@ ghost use mathlib.Core.Path.{_≡_};
 ghost use mathlib.Core.List.{List};
 ghost use Prim.Native.Nat.{ℕ, _+_, _*_, _/_, _<_, min, max};
 ghost use Rattle.walk.specs.State.{top};
-ghost use Rattle.parts.specs.Parts.{neededBy, sizeOf, partHolds};
-ghost use Rattle.stops.specs.Why.{nothing};
-ghost use Rattle.stops.specs.Parts.{bytesDue, whyPart, whyParts};
+ghost use Rattle.plan.specs.parts.Parts.{neededBy, sizeOf, partHolds};
+ghost use Rattle.stop_walks.specs.stops.Why.{nothing};
+ghost use Rattle.stop_walks.specs.stops.Parts.{bytesDue, whyPart, whyParts};
 ghost use Rattle.explain.specs.Sizes.{SmallPart, SmallParts};
 use array_data::lent_tables;
-use stops::Why;
+use stop_walks::stops::Why;
 use walk::plan_words;
 
 const TOO_SMALL: u8 = 13;
@@ -53,21 +53,21 @@ fn bits(r: u64, n: u64) -> u64
 fn first_bytes(code: u8, r: u64, n: u64) -> u64
     ensures { λ s. ⌜ s ≡ min (neededBy code r n 1) top ⌝ }
 {
-    if formats::is_string(code) | formats::is_list(code) {
-        return times_more(r, formats::width_of(code));
+    if schema::formats::is_string(code) | schema::formats::is_list(code) {
+        return times_more(r, schema::formats::width_of(code));
     }
-    times(r, parts::entry_size(code))
+    times(r, plan::parts::entry_size(code))
 }
 
 // The second buffer of r rows with n bytes of data, or the largest number of 64 bits.
 fn second_bytes(code: u8, r: u64, n: u64) -> u64
     ensures { λ s. ⌜ s ≡ min (neededBy code r n 2) top ⌝ }
 {
-    if formats::is_string(code) {
+    if schema::formats::is_string(code) {
         return n;
     }
-    if formats::is_list_view(code) {
-        return times(r, formats::width_of(code));
+    if schema::formats::is_list_view(code) {
+        return times(r, schema::formats::width_of(code));
     }
     times(r, 4)
 }
@@ -122,7 +122,7 @@ fn size_of(plan: &[u64], parts: &[u64], i: usize, b: usize) -> u64
     requires { ⌜ (i < 32) × (b < 3) ⌝ }
     ensures { λ r. ⌜ r ≡ sizeOf (now (plan .entry)) (now (parts .entry)) i b ⌝ }
 {
-    lent_tables::at_u64(parts, 2 * parts::number_of(plan, i, b) + 1)
+    lent_tables::at_u64(parts, 2 * plan::parts::number_of(plan, i, b) + 1)
 }
 
 // Whether buffer b of node i has no part, or one that holds its bytes.
@@ -130,7 +130,7 @@ fn part_holds(plan: &[u64], counts: &[u64; 96], parts: &[u64], i: usize, b: usiz
     requires { ⌜ (i < 32) × (b < 3) × SmallPart (now plan) (now parts) i b ⌝ }
     ensures { λ r. ⌜ r ≡ partHolds (now (plan .entry)) (now (counts .entry)) (now (parts .entry)) i b ⌝ }
 {
-    if !parts::has_part(plan, i, b) {
+    if !plan::parts::has_part(plan, i, b) {
         return true;
     }
     let code = plan_words::code_of(plan, i);
@@ -185,7 +185,7 @@ pub fn why_parts(plan: &[u64], counts: &[u64; 96], parts: &[u64], r: u64, n: u64
     requires { ⌜ SmallParts (now plan) (now parts) ⌝ }
     ensures { λ w. ⌜ w ≡ whyParts (now (plan .entry)) (now (counts .entry)) (now (parts .entry)) (r + n) ⌝ }
 {
-    let nodes = parts::node_count(plan);
+    let nodes = plan::parts::node_count(plan);
     let mut i = 0;
     while i < nodes {
         let w = why_node(plan, counts, parts, i, r, n);

@@ -11,7 +11,7 @@ use lib.Dec.{ltb}
 use borrow.Author.Tests.{lt-ltb, le-ltb, le-leb, ltb-true, leb-false, ne-eqb}
 use Rattle.number.specs.Number.{entry}
 use Rattle.columnar.specs.Types.{half}
-use Rattle.formats.specs.Code.{isListView, isList}
+use Rattle.schema.specs.formats.Code.{isListView, isList}
 use Rattle.run_ends.specs.Lookup.{bisect}
 use Rattle.run_ends.specs.declared.Runs.{Runs}
 use Rattle.run_ends.specs.declared.Runs.the-variants.{Range, None}
@@ -26,7 +26,7 @@ use Rattle.walk.proofs.Laws.{fail-did, done-did, need-no, need-ok, found-no, fo
 use Rattle.leaf_walk.proofs.Laws.{rows-in}
 use Rattle.nested_rows.specs.Numbers.{listNumbers, denseNumbers, runsReady, runNumbers}
 use Rattle.nested_rows.proofs.Laws.{list-row-is, dense-row-is, ends-ready}
-use Rattle.node_data.proofs.Laws.{data-sparse, data-dense, data-runs}
+use Rattle.nested_rows.proofs.node_data.Laws.{data-sparse, data-dense, data-runs}
 
 pub by : {state parts : List ℕ} {wr : Bool} {room : List ℕ} {r : ℕ} {c2 room2 : List ℕ} {o o2 : Out} → o ≡ o2 → Did state parts wr o room r c2 room2 → Did state parts wr o2 room r c2 room2
 by {state} {parts} {wr} {room} {r} {c2} {room2} e d = subst (λ (o : Out). Did state parts wr o room r c2 room2) e d

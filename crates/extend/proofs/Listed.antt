@@ -6,7 +6,7 @@ use Prim.Native.Nat.{ℕ, suc, _+_, _*_, _-_, _≤_, _<_}
 use native.Mathlib.Omega.{arith}
 use lib.Dec.{leb}
 use borrow.Author.Tests.{lt-ltb, le-ltb, leb-true, ne-eqb}
-use Rattle.formats.specs.Code.{isListView, isList}
+use Rattle.schema.specs.formats.Code.{isListView, isList}
 use Rattle.utils.specs.Extension.{extended, pick}
 use Rattle.utils.specs.declared.Extended.{Extended}
 use Rattle.utils.specs.declared.Extended.the-variants.{Fits, Over, Falls}
@@ -19,7 +19,7 @@ use Rattle.leaf_walk.proofs.Widths.{list-width, lists-width}
 use Rattle.leaf_walk.specs.variable_size.Lists.{triedOffsets, offsetsLog}
 use Rattle.leaf_walk.proofs.variable_size.Laws.{fits-is}
 use Rattle.leaf_walk.proofs.variable_size.Lists.{untouched}
-use Rattle.node_data.proofs.Laws.{data-list-view, data-list}
+use Rattle.nested_rows.proofs.node_data.Laws.{data-list-view, data-list}
 use Rattle.extend.proofs.Laws.{by}
 
 -- ---- by the code

@@ -225,7 +225,7 @@ fn extend_data(
     ensures { λ g. ⌜ Did (now (state .entry)) (now (parts .entry)) write (copyData (join (now (state .entry)) (now (parts .entry)) (now (lengths .entry)) (now (places .entry)) (now (body .entry)) first source) (copyWalk (join (now (state .entry)) (now (parts .entry)) (now (lengths .entry)) (now (places .entry)) (now (body .entry)) first source) depth) (codeOf (now (state .entry)) i) i slot n (now (counts .entry))) (now (room .entry)) g (now (counts .exit)) (now (room .exit)) ⌝ }
 {
     let code = plan_words::code_of(state, i);
-    if formats::is_list_view(code) | formats::is_list(code) {
+    if schema::formats::is_list_view(code) | schema::formats::is_list(code) {
         return lists::extend_listed(
             state,
             parts,
@@ -243,7 +243,7 @@ fn extend_data(
             depth,
         );
     }
-    if code == node_data::SPARSE {
+    if code == nested_rows::node_data::SPARSE {
         return extend_sparse(
             state,
             parts,
@@ -261,7 +261,7 @@ fn extend_data(
             depth,
         );
     }
-    if code == node_data::DENSE {
+    if code == nested_rows::node_data::DENSE {
         return extend_dense(
             state,
             parts,
@@ -279,7 +279,7 @@ fn extend_data(
             depth,
         );
     }
-    if code == node_data::RUN_END {
+    if code == nested_rows::node_data::RUN_END {
         return runs::extend_run(
             state,
             parts,
@@ -297,7 +297,7 @@ fn extend_data(
             depth,
         );
     }
-    node_data::copy_leaf(
+    nested_rows::node_data::copy_leaf(
         state,
         parts,
         places,
@@ -343,7 +343,7 @@ pub fn extend(
     if 9223372036854775808 <= slot {
         return 12;
     }
-    let g = node_data::copy_validity(
+    let g = nested_rows::node_data::copy_validity(
         state,
         parts,
         places,

@@ -5,7 +5,7 @@ ghost use mathlib.Core.Bool.{true, _||_};
 ghost use mathlib.Core.List.{[]};
 ghost use Prim.Native.Nat.{_+_, _*_, _<_, _≤_, _^_};
 ghost use lib.ListN.{length};
-ghost use Rattle.formats.specs.Code.{isListView, isList};
+ghost use Rattle.schema.specs.formats.Code.{isListView, isList};
 ghost use Rattle.walk.specs.State.{codeOf, place};
 ghost use Rattle.walk.specs.Log.{Did};
 ghost use Rattle.walk.specs.Copy.{listViewRow, copyListView, copyList, copyData, copyWalk};
@@ -206,7 +206,7 @@ pub fn extend_listed(
     ensures { λ g. ⌜ Did (now (state .entry)) (now (parts .entry)) write (copyData (join (now (state .entry)) (now (parts .entry)) (now (lengths .entry)) (now (places .entry)) (now (body .entry)) first source) (copyWalk (join (now (state .entry)) (now (parts .entry)) (now (lengths .entry)) (now (places .entry)) (now (body .entry)) first source) depth) (codeOf (now (state .entry)) i) i slot n (now (counts .entry))) (now (room .entry)) g (now (counts .exit)) (now (room .exit)) ⌝ }
 {
     let w = lookups::width_at(state, i);
-    if formats::is_list(plan_words::code_of(state, i)) {
+    if schema::formats::is_list(plan_words::code_of(state, i)) {
         return extend_list(
             state,
             parts,

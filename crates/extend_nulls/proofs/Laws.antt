@@ -18,7 +18,7 @@ use Rattle.walk.specs.Nulls.{NullWalk, nullableChild, noHome, nullFields, nullS
 use Rattle.walk.proofs.Laws.{fail-did, done-did, need-no, need-ok, found-no, found-ok, next-no, next-ok}
 use Rattle.nested_rows.specs.Numbers.{nullIds, nullPositions, nullEnd, longerEnd}
 use Rattle.nested_rows.proofs.Laws.{then-child}
-use Rattle.node_data.proofs.Laws.{null-sparse, null-dense, null-runs}
+use Rattle.nested_rows.proofs.node_data.Laws.{null-sparse, null-dense, null-runs}
 
 by : {state parts : List ℕ} {wr : Bool} {room : List ℕ} {r : ℕ} {c2 room2 : List ℕ} {o o2 : Out} → o ≡ o2 → Did state parts wr o room r c2 room2 → Did state parts wr o2 room r c2 room2
 by {state} {parts} {wr} {room} {r} {c2} {room2} e d = subst (λ (o : Out). Did state parts wr o room r c2 room2) e d

@@ -115,16 +115,16 @@ fn extend_nulls_data(
     ensures { λ g. ⌜ Did (now (state .entry)) (now (parts .entry)) write (nullData (join (now (state .entry)) (now (parts .entry)) [] [] [] 0 0) (nullWalk (join (now (state .entry)) (now (parts .entry)) [] [] [] 0 0) depth) (codeOf (now (state .entry)) i) i n (now (counts .entry))) (now (room .entry)) g (now (counts .exit)) (now (room .exit)) ⌝ }
 {
     let code = plan_words::code_of(state, i);
-    if code == node_data::SPARSE {
+    if code == nested_rows::node_data::SPARSE {
         return extend_nulls_sparse(state, parts, counts, room, write, i, n, depth);
     }
-    if code == node_data::DENSE {
+    if code == nested_rows::node_data::DENSE {
         return extend_nulls_dense(state, parts, counts, room, write, i, n, depth);
     }
-    if code == node_data::RUN_END {
+    if code == nested_rows::node_data::RUN_END {
         return extend_nulls_run(state, parts, counts, room, write, i, n, depth);
     }
-    node_data::null_leaf(state, parts, counts, room, write, i, n)
+    nested_rows::node_data::null_leaf(state, parts, counts, room, write, i, n)
 }
 
 // n nulls of node i, at most `depth` levels down.
@@ -153,7 +153,7 @@ pub fn extend_nulls(
     if g != 0 {
         return g;
     }
-    let g = node_data::null_validity(state, parts, counts, room, write, i, n);
+    let g = nested_rows::node_data::null_validity(state, parts, counts, room, write, i, n);
     if g != 0 {
         return g;
     }

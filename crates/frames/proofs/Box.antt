@@ -16,7 +16,7 @@ use Rattle.columnar.specs.Array.{Mask, item, ok, sight}
 use Rattle.columnar.specs.Reading.{read, Source}
 use Rattle.columnar.specs.Test.{every}
 use Rattle.columnar.proofs.Test.{every-out}
-use Rattle.formats.specs.Types.{numberOf}
+use Rattle.schema.specs.formats.Types.{numberOf}
 use Rattle.schema.specs.Tree.{ceilings, typed}
 use Rattle.array_data.specs.Tables.{Tables, part, lengthOf, offsetOf, place, validOf, firstBuffer, held, inBody, validIn}
 use Rattle.array_data.specs.Rules.{oneIn, fixedRule}
@@ -30,8 +30,8 @@ use Rattle.source_rules.specs.kinds.Rows.{tablesOf}
 use Rattle.source_rules.proofs.From.{length-from, offset-from, place-from}
 use Rattle.columns.specs.Grounds.{smallBody, withinCeilings, obeys, columnGround}
 use Rattle.columns.proofs.Grounds.{within-low, obeys-is, column-accepted}
-use Rattle.column_pair.specs.Pair.{pairGround, plainCode, rangeIn}
-use Rattle.column_pair.proofs.Pair.{pair-first, pair-none, plain-type, range-known}
+use Rattle.columns.specs.column_pair.Pair.{pairGround, plainCode, rangeIn}
+use Rattle.columns.proofs.column_pair.Pair.{pair-first, pair-none, plain-type, range-known}
 use Rattle.frames.specs.declared.Frame.{Frame}
 use Rattle.frames.specs.declared.Boxed.{Boxed}
 use Rattle.frames.specs.declared.Boxed.the-variants as boxed

@@ -16,8 +16,8 @@ use Rattle.columnar.proofs.Items.{item-lt}
 use Rattle.array_data.specs.Tables.{Tables, part, place, offsetOf, validOf, firstBuffer}
 use Rattle.array_data.proofs.lent_tables.Laws.{and-left, and-right}
 use Rattle.columns.specs.Grounds.{columnGround}
-use Rattle.column_pair.specs.Pair.{rangeIn}
-use Rattle.column_pair.proofs.Pair.{pair-none, range-known}
+use Rattle.columns.specs.column_pair.Pair.{rangeIn}
+use Rattle.columns.proofs.column_pair.Pair.{pair-none, range-known}
 use Rattle.frames.specs.declared.Frame.{Frame}
 use Rattle.frames.specs.declared.Boxed.the-variants as boxed
 use Rattle.frames.specs.Frames.{Stop, counts}

@@ -10,7 +10,7 @@ use Rattle.array_data.specs.Tables.{Tables}
 use Rattle.array_data.specs.Typed.{columnOf, tablesFrom}
 use Rattle.array_data.specs.type_tree.Lent.{treeOf, typeOf}
 use Rattle.columns.specs.Grounds.{columnGround}
-use Rattle.column_pair.specs.Pair.{pairGround, plainCode, rangeIn}
+use Rattle.columns.specs.column_pair.Pair.{pairGround, plainCode, rangeIn}
 use Rattle.frames.specs.declared.Frame.{Frame}
 use Rattle.frames.specs.declared.Boxed.{Boxed}
 use Rattle.frames.specs.declared.Boxed.the-variants as boxed

@@ -332,8 +332,8 @@ fn are_doubles(
 ) -> bool
     ensures { λ r. ⌜ r ≡ isDouble (now (formats .entry)) (now (schema .entry)) «first_a» «n_a» && isDouble (now (formats .entry)) (now (schema .entry)) «first_b» «n_b» ⌝ }
 {
-    let code = column_pair::plain_code(formats, schema, first_a, n_a);
-    let code2 = column_pair::plain_code(formats, schema, first_b, n_b);
+    let code = columns::column_pair::plain_code(formats, schema, first_a, n_a);
+    let code2 = columns::column_pair::plain_code(formats, schema, first_b, n_b);
     let double = code == 10;
     let double2 = code2 == 10;
     double & double2
@@ -356,7 +356,7 @@ pub fn box_of(
 ) -> Boxed
     ensures { λ r. ⌜ r ≡ boxOf (now (formats .entry)) (now (schema .entry)) (tablesOf (now (lengths .entry)) (now (places .entry)) (now (buffers .entry)) (now (body .entry))) «first_a» «n_a» «first_b» «n_b» start end ⌝ }
 {
-    let ground = column_pair::pair_ground(
+    let ground = columns::column_pair::pair_ground(
         formats,
         schema,
         lengths,
@@ -371,8 +371,8 @@ pub fn box_of(
     if ground != 0 {
         return Boxed::Refused(ground);
     }
-    let inside = column_pair::is_range(lengths, first_a, start, end);
-    let inside2 = column_pair::is_range(lengths, first_b, start, end);
+    let inside = columns::column_pair::is_range(lengths, first_a, start, end);
+    let inside2 = columns::column_pair::is_range(lengths, first_b, start, end);
     if !(inside & inside2) {
         return Boxed::Refused(2);
     }

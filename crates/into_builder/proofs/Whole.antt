@@ -10,7 +10,7 @@ use borrow.Author.Tests.{leb-true, eqb-true, eq-eqb, ne-eqb}
 use Rattle.columnar.specs.Test.{every}
 use Rattle.array_data.proofs.lent_tables.Laws.{and-left, and-right}
 use Rattle.walk.specs.State.{top}
-use Rattle.parts.specs.Parts.{nodesOf, partsWithin, partsHold}
+use Rattle.plan.specs.parts.Parts.{nodesOf, partsWithin, partsHold}
 use Rattle.columns.specs.Grounds.{ceiling}
 use Rattle.refinement.specs.orders.Order.{Lent}
 use Rattle.refinement.specs.finishing.Finish.{Finished, zerosAt, nullsAt, keptIn, lengthTable, nullTable, placeTable, tablesFit, roomFits, sizesFit, finishing}

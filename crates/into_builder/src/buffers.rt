@@ -5,7 +5,7 @@ ghost use mathlib.Core.List.{[]};
 ghost use Prim.Native.Nat.{_+_, _*_, _<_, _≤_, _^_, min};
 ghost use lib.ListN.{length, getD};
 ghost use Rattle.columnar.specs.Row.{seg};
-ghost use Rattle.parts.specs.Parts.{nodesOf};
+ghost use Rattle.plan.specs.parts.Parts.{nodesOf};
 ghost use Rattle.refinement.specs.orders.Order.{sourceCount};
 ghost use Rattle.refinement.specs.finishing.Finish.{buffersOf, buffersFrom};
 ghost use Rattle.into_builder.specs.buffers.Names.{lent, countAt, countBefore, namesAt, namesBefore, Behind};
@@ -33,7 +33,7 @@ pub fn count_at(plan: &[u64], sources: &[u32], places: &[u64], i: usize) -> u64
     ensures { λ r. ⌜ r ≡ countAt (now (plan .entry)) (now (sources .entry)) (now (places .entry)) i ⌝ }
     ensures { λ r. ⌜ r ≤ 528 ⌝ }
 {
-    if !formats::is_view(plan_words::code_of(plan, i)) {
+    if !schema::formats::is_view(plan_words::code_of(plan, i)) {
         return 0;
     }
     plan::buffers_up_to(sources, places, i, source_count(plan))
@@ -107,7 +107,7 @@ fn node_names(
     requires { ⌜ (i < 32) × (at + 2 * countAt (now plan) (now sources) (now places) i ≤ length (now names)) ⌝ }
     ensures { λ _. ⌜ Behind (now (names .entry)) (now (names .exit)) at (2 * countAt (now (plan .entry)) (now (sources .entry)) (now (places .entry)) i) (namesAt (now (plan .entry)) (now (sources .entry)) (now (places .entry)) (now (buffers .entry)) i) ⌝ }
 {
-    if formats::is_view(plan_words::code_of(plan, i)) {
+    if schema::formats::is_view(plan_words::code_of(plan, i)) {
         view_names(plan, sources, places, buffers, i, names, at);
     }
 }
@@ -123,7 +123,7 @@ pub fn write_buffers(
     requires { ⌜ length (now names) ≡ 2 * countBefore (now plan) (now sources) (now places) (nodesOf (now plan)) ⌝ }
     ensures { λ _. ⌜ now (names .exit) ≡ namesBefore (now (plan .entry)) (now (sources .entry)) (now (places .entry)) (now (buffers .entry)) (nodesOf (now (plan .entry))) ⌝ }
 {
-    let n = parts::node_count(plan);
+    let n = plan::parts::node_count(plan);
     let mut at = 0;
     let mut i = 0;
     while i < n {

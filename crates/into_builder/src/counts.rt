@@ -11,7 +11,7 @@ ghost use Rattle.walk.specs.State.{far};
 ghost use Rattle.walk.specs.Log.{startOf};
 ghost use Rattle.array_data.specs.lent_tables.Lent.{tables};
 ghost use Rattle.array_data.specs.Tables.{lengthOf, offsetOf};
-ghost use Rattle.parts.specs.Parts.{nodesOf};
+ghost use Rattle.plan.specs.parts.Parts.{nodesOf};
 ghost use Rattle.refinement.specs.finishing.Finish.{nullsAt, lengthAt, offsetAt, lengthTable, nullTable};
 ghost use Rattle.into_builder.specs.buffers.Names.{lent};
 ghost use Rattle.into_builder.specs.counts.Counts.{keptOf, zerosOf, BitsIn};
@@ -26,7 +26,7 @@ fn length_at(plan: &[u64], sources: &[u32], lengths: &[u64], counters: &[u64], i
     requires { ⌜ i < 32 ⌝ }
     ensures { λ r. ⌜ r ≡ lengthAt (lent (now (plan .entry)) [] (now (sources .entry)) (now (lengths .entry)) [] []) [] (now (counters .entry)) [] 0 i ⌝ }
 {
-    if parts::is_copied(plan, i) {
+    if plan::parts::is_copied(plan, i) {
         return lent_tables::at_u64(counters, 3 * i);
     }
     lent_tables::length_of(lengths, dictionaries::node_of(sources, 0, i))
@@ -37,7 +37,7 @@ fn offset_at(plan: &[u64], sources: &[u32], lengths: &[u64], i: usize) -> u64
     requires { ⌜ i < 32 ⌝ }
     ensures { λ r. ⌜ r ≡ offsetAt (lent (now (plan .entry)) [] (now (sources .entry)) (now (lengths .entry)) [] []) [] [] [] 0 i ⌝ }
 {
-    if parts::is_copied(plan, i) {
+    if plan::parts::is_copied(plan, i) {
         return 0;
     }
     lent_tables::offset_of(lengths, dictionaries::node_of(sources, 0, i))
@@ -65,7 +65,7 @@ pub fn write_lengths(
     requires { ⌜ length (now table) ≡ 2 * nodesOf (now plan) ⌝ }
     ensures { λ _. ⌜ now (table .exit) ≡ lengthTable (lent (now (plan .entry)) [] (now (sources .entry)) (now (lengths .entry)) [] []) [] (now (counters .entry)) [] 0 ⌝ }
 {
-    let n = 2 * parts::node_count(plan);
+    let n = 2 * plan::parts::node_count(plan);
     let mut q = 0;
     while q < n {
         table[q] = length_word(plan, sources, lengths, counters, q);
@@ -97,7 +97,7 @@ fn kept_in(
     requires { ⌜ i < 32 ⌝ }
     ensures { λ r. ⌜ r ≡ keptOf (now (plan .entry)) (now (sources .entry)) (now (lengths .entry)) (now (places .entry)) (now (body .entry)) i ⌝ }
 {
-    if parts::is_copied(plan, i) {
+    if plan::parts::is_copied(plan, i) {
         return true;
     }
     let k = dictionaries::node_of(sources, 0, i);
@@ -111,7 +111,7 @@ fn kept_in(
 pub fn all_kept(plan: &[u64], sources: &[u32], lengths: &[u64], places: &[u64], body: &[u8]) -> bool
     ensures { λ r. ⌜ r ≡ every (keptOf (now (plan .entry)) (now (sources .entry)) (now (lengths .entry)) (now (places .entry)) (now (body .entry))) (nodesOf (now (plan .entry))) ⌝ }
 {
-    let n = parts::node_count(plan);
+    let n = plan::parts::node_count(plan);
     let mut i = 0;
     while i < n {
         if !kept_in(plan, sources, lengths, places, body, i) {
@@ -127,7 +127,7 @@ pub fn part_start(plan: &[u64], parts: &[u64], i: usize, b: usize) -> u64
     requires { ⌜ (i < 32) × (b < 3) ⌝ }
     ensures { λ r. ⌜ r ≡ startOf (now (plan .entry)) (now (parts .entry)) i b ⌝ }
 {
-    lent_tables::at_u64(parts, 2 * parts::number_of(plan, i, b))
+    lent_tables::at_u64(parts, 2 * plan::parts::number_of(plan, i, b))
 }
 
 // The zero bits among the rows of node i.
@@ -135,7 +135,7 @@ fn zeros_at(plan: &[u64], parts: &[u64], counters: &[u64], room: &[u8], i: usize
     requires { ⌜ (i < 32) × BitsIn (now plan) (now parts) (now counters) (length (now room)) i ⌝ }
     ensures { λ r. ⌜ r ≡ zerosOf (now (plan .entry)) (now (parts .entry)) (now (counters .entry)) (now (room .entry)) i ⌝ }
 {
-    if !parts::has_part(plan, i, 0) {
+    if !plan::parts::has_part(plan, i, 0) {
         return 0;
     }
     let start = part_start(plan, parts, i, 0);
@@ -158,7 +158,7 @@ fn nulls_at(
     requires { ⌜ (i < 32) × BitsIn (now plan) (now parts) (now counters) (length (now room)) i × (keptOf (now plan) (now sources) (now lengths) (now places) (now body) i ≡ true) ⌝ }
     ensures { λ r. ⌜ r ≡ nullsAt (lent (now (plan .entry)) (now (parts .entry)) (now (sources .entry)) (now (lengths .entry)) (now (places .entry)) (now (body .entry))) [] (now (counters .entry)) (now (room .entry)) 0 i ⌝ }
 {
-    if parts::is_copied(plan, i) {
+    if plan::parts::is_copied(plan, i) {
         return zeros_at(plan, parts, counters, room, i);
     }
     let k = dictionaries::node_of(sources, 0, i);
@@ -180,7 +180,7 @@ pub fn write_nulls(
     requires { ⌜ (length (now table) ≡ nodesOf (now plan)) × ((i : ℕ) → i < nodesOf (now plan) → BitsIn (now plan) (now parts) (now counters) (length (now room)) i) × (every (keptOf (now plan) (now sources) (now lengths) (now places) (now body)) (nodesOf (now plan)) ≡ true) ⌝ }
     ensures { λ _. ⌜ now (table .exit) ≡ nullTable (lent (now (plan .entry)) (now (parts .entry)) (now (sources .entry)) (now (lengths .entry)) (now (places .entry)) (now (body .entry))) [] (now (counters .entry)) (now (room .entry)) 0 ⌝ }
 {
-    let n = parts::node_count(plan);
+    let n = plan::parts::node_count(plan);
     let mut i = 0;
     while i < n {
         table[i] = nulls_at(

@@ -11,7 +11,7 @@ ghost use Prim.Native.Nat.{ℕ, _*_};
 ghost use lib.ListN.{length};
 ghost use lib.Dec.{leb, eqb};
 ghost use Rattle.walk.specs.State.{nulls};
-ghost use Rattle.parts.specs.Parts.{nodesOf, partsWithin, partsHold};
+ghost use Rattle.plan.specs.parts.Parts.{nodesOf, partsWithin, partsHold};
 ghost use Rattle.columns.specs.Grounds.{ceiling};
 ghost use Rattle.refinement.specs.finishing.Finish.{buffersBefore, finishing};
 ghost use Rattle.into_builder.specs.buffers.Names.{lent, countBefore};
@@ -24,7 +24,7 @@ use array_data::lent_tables;
 pub fn buffer_total(plan: &[u64], sources: &[u32], places: &[u64]) -> u64
     ensures { λ r. ⌜ ((parts lengths body buffers counts room : List ℕ) (base : ℕ) → r ≡ buffersBefore (lent (now (plan .entry)) parts (now (sources .entry)) lengths (now (places .entry)) body) buffers counts room base (nodesOf (now (plan .entry)))) ⌝ }
 {
-    buffers::count_before(plan, sources, places, parts::node_count(plan))
+    buffers::count_before(plan, sources, places, plan::parts::node_count(plan))
 }
 
 // The running null count.
@@ -67,11 +67,11 @@ fn room_fits(plan: &[u64], parts: &[u64], counters: &[u64], m: usize) -> bool
     if counters.len() != 96 {
         return false;
     }
-    if !parts::parts_within(plan, parts, m) {
+    if !plan::parts::parts_within(plan, parts, m) {
         return false;
     }
     let counts = load(counters);
-    parts::parts_hold(plan, &counts, parts)
+    plan::parts::parts_hold(plan, &counts, parts)
 }
 
 // Whether tables of these lengths are those that the finished array takes.
@@ -86,7 +86,7 @@ fn tables_fit(
 ) -> bool
     ensures { λ r. ⌜ r ≡ (eqb lengths (2 * nodesOf (now (plan .entry))) && eqb nulls (nodesOf (now (plan .entry))) && eqb spots (9 * nodesOf (now (plan .entry))) && eqb names (2 * countBefore (now (plan .entry)) (now (sources .entry)) (now (places .entry)) (nodesOf (now (plan .entry))))) ⌝ }
 {
-    let n = parts::node_count(plan);
+    let n = plan::parts::node_count(plan);
     let total = buffers::count_before(plan, sources, places, n);
     let nodes = (lengths == 2 * n) & (nulls == n) & (spots == 9 * n);
     nodes & (names as u64 == 2 * total)

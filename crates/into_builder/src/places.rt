@@ -8,8 +8,8 @@ ghost use lib.ListN.{length};
 ghost use lib.Dec.{eqb};
 ghost use Rattle.walk.specs.State.{codeOf, top};
 ghost use Rattle.walk.specs.Log.{startOf};
-ghost use Rattle.formats.specs.Code.{isView};
-ghost use Rattle.parts.specs.Parts.{nodesOf, hasPart, neededBy, needed};
+ghost use Rattle.schema.specs.formats.Code.{isView};
+ghost use Rattle.plan.specs.parts.Parts.{nodesOf, hasPart, neededBy, needed};
 ghost use Rattle.refinement.specs.finishing.Finish.{nullsAt, nullTable, validPlace, bufferStart, bufferSize, copiedPlace, keptPlace, placeAt, placeTable};
 ghost use Rattle.into_builder.specs.buffers.Names.{lent, countAt, countBefore};
 ghost use Rattle.into_builder.specs.counts.Counts.{zerosOf};
@@ -27,11 +27,11 @@ fn first_size(code: u8, r: u64) -> u64
     requires { ⌜ neededBy code r 0 1 ≤ top ⌝ }
     ensures { λ s. ⌜ s ≡ neededBy code r 0 1 ⌝ }
 {
-    if formats::is_string(code) | formats::is_list(code) {
-        let w = formats::width_of(code) as u64;
+    if schema::formats::is_string(code) | schema::formats::is_list(code) {
+        let w = schema::formats::width_of(code) as u64;
         return r * w + w;
     }
-    r * (parts::entry_size(code) as u64)
+    r * (plan::parts::entry_size(code) as u64)
 }
 
 // The bytes of the second buffer of r rows with n bytes of data.
@@ -39,11 +39,11 @@ fn second_size(code: u8, r: u64, n: u64) -> u64
     requires { ⌜ neededBy code r n 2 ≤ top ⌝ }
     ensures { λ s. ⌜ s ≡ neededBy code r n 2 ⌝ }
 {
-    if formats::is_string(code) {
+    if schema::formats::is_string(code) {
         return n;
     }
-    if formats::is_list_view(code) {
-        return r * (formats::width_of(code) as u64);
+    if schema::formats::is_list_view(code) {
+        return r * (schema::formats::width_of(code) as u64);
     }
     r * 4
 }
@@ -79,7 +79,7 @@ fn valid_place(
     requires { ⌜ (i < 32) × (j < 3) × Placed (now plan) (now parts) (now counters) base i ⌝ }
     ensures { λ r. ⌜ ((room : List ℕ) → zeros ≡ zerosOf (now (plan .entry)) (now (parts .entry)) (now (counters .entry)) room i → r ≡ cond (eqb zeros 0) 0 (validPlace (lent (now (plan .entry)) (now (parts .entry)) [] [] [] []) [] (now (counters .entry)) room base i j)) ⌝ }
 {
-    if !parts::has_part(plan, i, 0) {
+    if !plan::parts::has_part(plan, i, 0) {
         return 0;
     }
     if zeros == 0 {
@@ -99,7 +99,7 @@ fn buffer_start(plan: &[u64], parts: &[u64], base: u64, i: usize, b: usize) -> u
     requires { ⌜ (i < 32) × (b < 3) × (hasPart (now plan) i b ≡ true → base + startOf (now plan) (now parts) i b ≤ top) ⌝ }
     ensures { λ r. ⌜ r ≡ bufferStart (lent (now (plan .entry)) (now (parts .entry)) [] [] [] []) [] [] [] base i b ⌝ }
 {
-    if !parts::has_part(plan, i, b) {
+    if !plan::parts::has_part(plan, i, b) {
         return 0;
     }
     base + counts::part_start(plan, parts, i, b)
@@ -110,7 +110,7 @@ fn buffer_size(plan: &[u64], counters: &[u64], i: usize, b: usize) -> u64
     requires { ⌜ (i < 32) × (b < 3) × (hasPart (now plan) i b ≡ true → needed (now plan) (now counters) i b ≤ top) ⌝ }
     ensures { λ r. ⌜ r ≡ bufferSize (lent (now (plan .entry)) [] [] [] [] []) [] (now (counters .entry)) [] 0 i b ⌝ }
 {
-    if !parts::has_part(plan, i, b) {
+    if !plan::parts::has_part(plan, i, b) {
         return 0;
     }
     part_size(plan, counters, i, b)
@@ -121,7 +121,7 @@ fn view_place(plan: &[u64], sources: &[u32], places: &[u64], i: usize, j: usize)
     requires { ⌜ i < nodesOf (now plan) ⌝ }
     ensures { λ r. ⌜ r ≡ cond (isView (codeOf (now (plan .entry)) i)) (cond (eqb j 7) (countBefore (now (plan .entry)) (now (sources .entry)) (now (places .entry)) i) (countAt (now (plan .entry)) (now (sources .entry)) (now (places .entry)) i)) 0 ⌝ }
 {
-    if !formats::is_view(plan_words::code_of(plan, i)) {
+    if !schema::formats::is_view(plan_words::code_of(plan, i)) {
         return 0;
     }
     if j == 7 {
@@ -197,7 +197,7 @@ fn place_at(
     ensures { λ r. ⌜ ((lengths body buffers room : List ℕ) → now (nulls .entry) ≡ nullTable (lent (now (plan .entry)) (now (parts .entry)) (now (sources .entry)) lengths (now (places .entry)) body) [] (now (counters .entry)) room 0 → r ≡ placeAt (lent (now (plan .entry)) (now (parts .entry)) (now (sources .entry)) lengths (now (places .entry)) body) buffers (now (counters .entry)) room base i j) ⌝ }
 {
     let count = lent_tables::at_u64(nulls, i);
-    if parts::is_copied(plan, i) {
+    if plan::parts::is_copied(plan, i) {
         return copied_place(plan, parts, sources, places, counters, base, count, i, j);
     }
     kept_place(sources, places, count, i, j)
@@ -217,7 +217,7 @@ pub fn write_places(
     requires { ⌜ (length (now table) ≡ 9 * nodesOf (now plan)) × ((i : ℕ) → i < nodesOf (now plan) → Placed (now plan) (now parts) (now counters) base i) ⌝ }
     ensures { λ _. ⌜ ((lengths body buffers room : List ℕ) → now (nulls .entry) ≡ nullTable (lent (now (plan .entry)) (now (parts .entry)) (now (sources .entry)) lengths (now (places .entry)) body) [] (now (counters .entry)) room 0 → now (table .exit) ≡ placeTable (lent (now (plan .entry)) (now (parts .entry)) (now (sources .entry)) lengths (now (places .entry)) body) buffers (now (counters .entry)) room base) ⌝ }
 {
-    let n = 9 * parts::node_count(plan);
+    let n = 9 * plan::parts::node_count(plan);
     let mut q = 0;
     while q < n {
         table[q] = place_at(

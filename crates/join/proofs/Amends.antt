@@ -4,7 +4,7 @@ use mathlib.Core.Bool.{Bool, true, false, cond}
 use mathlib.Core.List.{List, [], _∷_, _++_}
 use Prim.Native.Nat.{ℕ, zero, suc, _+_, _*_}
 use lib.Dec.{ltb, eqb}
-use Rattle.formats.specs.Code.{isFixed, isString, isView, isListView, isList}
+use Rattle.schema.specs.formats.Code.{isFixed, isString, isView, isListView, isList}
 use Rattle.utils.specs.Extension.{extended}
 use Rattle.utils.specs.declared.Extended.{Extended}
 use Rattle.utils.specs.declared.Extended.the-variants.{Fits, Over, Falls}

@@ -7,7 +7,7 @@ use native.Mathlib.Nat.{le-refl}
 use native.Mathlib.Omega.{arith}
 use lib.Dec.{ltb, eqb}
 use borrow.Author.Tests.{ltb-true, eqb-true}
-use Rattle.formats.specs.Code.{isFixed, isString, isView, isListView, isList}
+use Rattle.schema.specs.formats.Code.{isFixed, isString, isView, isListView, isList}
 use Rattle.walk.specs.State.{Join, codeOf, endOf, keepsOf, bytesOf, gap, addRows, addNulls, setBytes}
 use Rattle.walk.specs.Log.{put, mask, Out, fail, done, wrote, need, found, next}
 use Rattle.walk.specs.Leaves.{nullMask, countNulls, nullNumbers, nullString}
@@ -16,7 +16,7 @@ use Rattle.walk.specs.Nulls.{NullWalk, nullListView, nullList, nullFields, null
 use Rattle.refinement.specs.log_in_room.Reach.{Child}
 use Rattle.refinement.proofs.log_in_room.Found.{child-first, child-later, child-nullable}
 use Rattle.refinement.proofs.walk_is_model.Counters.{bytes-other, bytes-of-rows, bytes-of-nulls}
-use Rattle.parts.specs.Parts.{nodesOf}
+use Rattle.plan.specs.parts.Parts.{nodesOf}
 use Rattle.refinement.specs.orders.Sound.{planSound}
 use Rattle.refinement.proofs.orders.Sound.{Stands, node-stands, child-inside}
 use Rattle.join.proofs.Amends.{AllAmended, amended-both, amended-wide}

@@ -8,12 +8,12 @@ use native.Mathlib.Omega.{arith}
 use lib.ListN.{length, getD}
 use lib.Dec.{eqb}
 use Rattle.columnar.specs.Row.{seg}
-use Rattle.formats.specs.Code.{isView}
+use Rattle.schema.specs.formats.Code.{isView}
 use Rattle.array_data.specs.Tables.{place, part}
 use Rattle.walk.specs.State.{codeOf, rows}
 use Rattle.walk.specs.State as walk
 use Rattle.walk.specs.Log.{startOf}
-use Rattle.parts.specs.Parts.{nodesOf, copied, hasPart}
+use Rattle.plan.specs.parts.Parts.{nodesOf, copied, hasPart}
 use Rattle.refinement.specs.orders.Order.{Lent, joinOf}
 use Rattle.model.specs.Book.{Call}
 use Rattle.refinement.specs.finishing.Finish.{zerosAt, nullsAt, buffersOf, buffersBefore, buffersFrom, buffersUpTo, copiedPlace, keptPlace, placeAt, sources, lengthTable, nullTable, bufferTable}

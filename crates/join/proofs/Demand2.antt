@@ -22,7 +22,7 @@ use Rattle.model.proofs.Book.{countedIf}
 use Rattle.array_data.specs.Tables.{lengthOf}
 use Rattle.array_data.specs.Typed.{sourceRule}
 use Rattle.walk.specs.State as walk
-use Rattle.parts.specs.Parts.{nodesOf}
+use Rattle.plan.specs.parts.Parts.{nodesOf}
 use Rattle.refinement.specs.orders.Order.{After}
 use Rattle.refinement.proofs.orders.Step.{Running, Answers, made, not-made, order-step}
 use Rattle.refinement.proofs.opening.Taken.{taken}

@@ -21,7 +21,7 @@ use Rattle.model.proofs.Book.{countedIf}
 use Rattle.model.proofs.Start.{held-start}
 use Rattle.array_data.specs.Typed.{sourceRule, columnOf}
 use Rattle.walk.specs.State as walk
-use Rattle.parts.specs.Parts.{nodesOf}
+use Rattle.plan.specs.parts.Parts.{nodesOf}
 use Rattle.refinement.specs.orders.Order.{Lent}
 use Rattle.refinement.specs.orders.Counted.{answerRoom}
 use Rattle.refinement.proofs.orders.Step.{Running}

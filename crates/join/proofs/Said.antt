@@ -26,8 +26,8 @@ use Rattle.model.proofs.Joined.{done-is, then-done}
 use Rattle.array_data.specs.Tables.{Tables, place}
 use Rattle.array_data.specs.Typed.{Tree, validStart, starts, bodyOf}
 use Rattle.columns.specs.Grounds.{ceiling, sourcesGround}
-use Rattle.parts.specs.Parts.{partTotal, startAt, sizeAt, inRoom, apart, Apart, before, behind, first-empty, second-empty, partsPlaced}
-use Rattle.parts.proofs.Placed.{every-at}
+use Rattle.plan.specs.parts.Parts.{partTotal, startAt, sizeAt, inRoom, apart, Apart, before, behind, first-empty, second-empty, partsPlaced}
+use Rattle.plan.proofs.parts.Placed.{every-at}
 use Rattle.refinement.proofs.orders.Booked.{groundOf}
 use Rattle.refinement.specs.opening.Open.{roomPlaced}
 use Rattle.refinement.specs.opening.Fits.{openIn}

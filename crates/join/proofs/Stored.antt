@@ -8,7 +8,7 @@ use native.Mathlib.Omega.{arith}
 use lib.ListN.{length}
 use lib.Dec.{leb, ltb, eqb}
 use borrow.Author.Tests.{leb-true, le-leb, eqb-true, eq-eqb, ne-eqb, eqb-false}
-use Rattle.formats.specs.Code.{between, isInteger, isFixed, isString, isView, isListView, isList, isUnion, isRunEnd}
+use Rattle.schema.specs.formats.Code.{between, isInteger, isFixed, isString, isView, isListView, isList, isUnion, isRunEnd}
 use Rattle.schema.specs.Tree.{every, count, flag, children, dictionary, below, endFrom, dueFrom, bare, childForEach, isValues, endOf, childAt, depth, whole, codeOf, idsOf, fewFields, valuesShape, endsShape, leafShape, keysShape, listShape, unionShape, runShape, shape, ceilings, typed, sameFlag, sameFormats, sameNode, sameType}
 use Rattle.schema.proofs.Trees.{child-inside}
 use Rattle.schema.proofs.Known.{every-at, typed-whole, typed-shape, within-nodes, within-fields, within-depth, same-size, same-node}

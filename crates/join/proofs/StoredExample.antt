@@ -9,8 +9,8 @@ use lib.Dec.{T}
 use Rattle.number.specs.Number.{number}
 use Rattle.columnar.specs.Array.{item}
 use Rattle.columnar.specs.Wider.{Wider}
-use Rattle.formats.specs.Code as Code
-use Rattle.formats.specs.union_ids.Ids as Ids
+use Rattle.schema.specs.formats.Code as Code
+use Rattle.schema.specs.union_ids.Ids as Ids
 use Rattle.schema.specs.Tree as Tree
 use Rattle.array_data.specs.Typed.{placed, tablesFrom}
 use Rattle.array_data.specs.type_tree.Lent.{kindAt, treeOf}

@@ -16,9 +16,9 @@ use Rattle.columnar.specs.Types.{tPlain, string}
 use Rattle.columnar.specs.Array.{item, bit}
 use Rattle.columnar.specs.Reading.{readAll}
 use Rattle.columnar.specs.Wider.{Wider, wPlain, wString, entries, Again}
-use Rattle.formats.specs.Code as Code
-use Rattle.formats.specs.Code.{isString}
-use Rattle.formats.specs.union_ids.Ids as Ids
+use Rattle.schema.specs.formats.Code as Code
+use Rattle.schema.specs.formats.Code.{isString}
+use Rattle.schema.specs.union_ids.Ids as Ids
 use Rattle.schema.specs.Tree as Tree
 use Rattle.array_data.specs.Typed.{placed, tablesFrom}
 use Rattle.array_data.specs.type_tree.Lent.{kindAt, tyOf, treeOf}
@@ -28,7 +28,7 @@ use Rattle.model.specs.Book.{Call, copy, answer}
 use Rattle.walk.specs.State.{codeOf, keepsOf, partOf}
 use Rattle.refinement.specs.walk_is_model.Holds.{WordedPlain, Worded}
 use Rattle.refinement.proofs.log_in_room.Found.{between-both}
-use Rattle.parts.specs.Parts.{nodesOf, copied, validityParts, partsBefore, sizeAt, sizeOf, Apart, before, behind}
+use Rattle.plan.specs.parts.Parts.{nodesOf, copied, validityParts, partsBefore, sizeAt, sizeOf, Apart, before, behind}
 use Rattle.columns.specs.Grounds as Grounds
 use Rattle.array_data.specs.Sources as Sources
 use Rattle.refinement.specs.orders.Counted.{roomFor}

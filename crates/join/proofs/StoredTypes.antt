@@ -12,8 +12,8 @@ use borrow.Author.Tests.{eqb-true, ne-eqb}
 use Rattle.columnar.specs.Types.{Number, limit, Plain, fixed, string}
 use Rattle.columnar.specs.Wider.{Declared, integer, KeyWider, PlainWider, wFixed, wString, Wider, wPlain, wView, wListView, wList, wSparse, wDense, wRunEnd, wDictionary}
 use Rattle.columnar.proofs.Test.{member-agrees}
-use Rattle.formats.specs.Code.{between, isInteger, isFixed, isString, isView, isListView, isList, isUnion, isRunEnd, widthOf}
-use Rattle.formats.specs.Types.{numberOf}
+use Rattle.schema.specs.formats.Code.{between, isInteger, isFixed, isString, isView, isListView, isList, isUnion, isRunEnd, widthOf}
+use Rattle.schema.specs.formats.Types.{numberOf}
 use Rattle.schema.specs.Tree.{children, dictionary, below, bare, childForEach, isValues, endOf, childAt, depth, whole, codeOf, idsOf, valuesShape, endsShape, leafShape, keysShape, listShape, unionShape, runShape, shape, ceilings, typed}
 use Rattle.schema.proofs.Trees.{child-inside, child-is, end-up, end-after, end-inside}
 use Rattle.schema.proofs.Depth.{nested, child-before, child-depth}

@@ -7,10 +7,10 @@ use native.Mathlib.Omega.{arith}
 use lib.ListN.{length, getD, replicate}
 use lib.Dec.{eqb}
 use borrow.Author.Tests.{le-leb, eq-eqb, eqb-true, eqb-false}
-use Rattle.formats.specs.Code.{isRunEnd}
+use Rattle.schema.specs.formats.Code.{isRunEnd}
 use Rattle.walk.specs.State.{word, codeOf, dictionaryOf, gap, lengthOf}
 use Rattle.walk.specs.Log.{Entry, Out, done, wrote, next, each, apply}
-use Rattle.parts.specs.Parts.{nodesOf, copied, hasOffsets, partsHold}
+use Rattle.plan.specs.parts.Parts.{nodesOf, copied, hasOffsets, partsHold}
 use Rattle.model.specs.Book.{Call}
 use Rattle.columns.specs.Grounds.{ceiling, sourcesGround}
 use Rattle.refinement.specs.orders.Sound.{planSound}

@@ -11,7 +11,7 @@ use borrow.Author.Tests.{eqb-true, eqb-false, eq-eqb}
 use Rattle.walk.specs.State.{codeOf, bytesOf, endOf, far, rows, bytes, gap, setBytes}
 use Rattle.walk.specs.Log.{Entry, put, mask, amend, Log, startOf, apply}
 use Rattle.refinement.specs.log_in_room.Room.{AllBelow, Apart, AllUsed}
-use Rattle.parts.specs.Parts.{needed, neededBy, sizeOf, partsWithin, partsHold, Used}
+use Rattle.plan.specs.parts.Parts.{needed, neededBy, sizeOf, partsWithin, partsHold, Used}
 use Rattle.refinement.proofs.walk_is_model.Counters.{bytes-set, bytes-other, rows-of-bytes, long-bytes}
 use Rattle.model.specs.Book.{Call, copy, nulls}
 use Rattle.refinement.specs.orders.Order.{Lent, joinOf, ordered}

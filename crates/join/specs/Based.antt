@@ -6,7 +6,7 @@ use mathlib.Core.List.{List}
 use Prim.Native.Nat.{ℕ}
 use lib.Dec.{eqb}
 use Rattle.model.specs.Book.{Call}
-use Rattle.parts.specs.Parts.{copied, hasPart}
+use Rattle.plan.specs.parts.Parts.{copied, hasPart}
 use Rattle.refinement.specs.finishing.Finish.{zerosAt}
 use Rattle.join.specs.Join.{Lending, lentOf, afterCalls}
 

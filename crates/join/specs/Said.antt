@@ -7,7 +7,7 @@ use lib.ListN.{length}
 use Rattle.columnar.specs.Types.{Plain, fixed, string}
 use Rattle.columnar.specs.Array.{nullCount}
 use Rattle.array_data.specs.Tables.{Tables, lengthOf, offsetOf, place, arrayWith}
-use Rattle.parts.specs.Parts.{startAt, sizeAt, Apart}
+use Rattle.plan.specs.parts.Parts.{startAt, sizeAt, Apart}
 use Rattle.refinement.specs.opening.PartsDue.{partsDue}
 use Rattle.join.specs.Join.{Lending, sourcesIn, typeIn, columnsIn}
 

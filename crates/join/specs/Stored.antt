@@ -6,8 +6,8 @@ use mathlib.Core.List.{List}
 use Prim.Native.Nat.{ℕ, zero, suc, _+_, _≤_, _<_}
 use lib.Dec.{T, eqb}
 use Rattle.columnar.specs.Types.{limit}
-use Rattle.formats.specs.Code.{isInteger, isString, isView, isListView, isList, isUnion, isRunEnd, widthOf}
-use Rattle.formats.specs.Types.{numberOf}
+use Rattle.schema.specs.formats.Code.{isInteger, isString, isView, isListView, isList, isUnion, isRunEnd, widthOf}
+use Rattle.schema.specs.formats.Types.{numberOf}
 use Rattle.schema.specs.Tree.{flag, children, dictionary, isValues, codeOf, idsOf, sameFormats}
 use Rattle.array_data.specs.Tables.{Tables, lengthOf, offsetOf, place}
 use Rattle.array_data.specs.Typed.{tablesFrom, placed}

@@ -7,7 +7,7 @@ use lib.ListN.{length, getD}
 use Rattle.bits.specs.Bits.{bits}
 use Rattle.walk.specs.State.{rows}
 use Rattle.walk.specs.Log.{startOf}
-use Rattle.parts.specs.Parts.{Used}
+use Rattle.plan.specs.parts.Parts.{Used}
 use Rattle.refinement.specs.orders.Written.{Gained, LastEnd}
 
 -- none: bytes that no part has gained are as they were, and so are the bits of the rows before

@@ -10,13 +10,13 @@ use lib.Seq.{ext-getD}
 use lib.Dec.{leb, ltb, eqb}
 use borrow.Author.Tests.{eq-eqb, ne-eqb, lt-leb, le-leb, lt-ltb, le-ltb}
 use Rattle.number.specs.Number.{splice}
-use Rattle.copy.proofs.Laws.{copy-step}
+use Rattle.number.proofs.copy.Laws.{copy-step}
 use Rattle.columnar.specs.Row.{seg}
 use Rattle.model.proofs.Bits.{length-seg, getD-seg}
 use Rattle.array_data.specs.Tables.{Tables}
 use Rattle.columns.specs.Grounds.{columnGround}
 use Rattle.array_data.specs.node_words.Words.{planted}
-use Rattle.column_reader.specs.Column.{openedTree}
+use Rattle.row_reader.specs.column_reader.Column.{openedTree}
 use Rattle.slot_reader.specs.declared.RowRead.{RowRead}
 use Rattle.row_reader.specs.Walk.{rowAt}
 use Rattle.lafkuno.specs.Calls.{openGround, openTree, rowKind, rowNumbers, walkedNumbers, readKind, readNumbers}

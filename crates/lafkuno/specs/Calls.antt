@@ -9,13 +9,13 @@ use Rattle.number.specs.Number.{splice, pattern}
 use Rattle.array_data.specs.Tables.{Tables}
 use Rattle.columns.specs.Grounds.{columnGround}
 use Rattle.array_data.specs.node_words.Words.{planted}
-use Rattle.leaf_row.specs.declared.Leaf.{Leaf}
-use Rattle.leaf_row.specs.declared.Leaf.the-variants as leaf
+use Rattle.slot_reader.specs.declared.leaf_row.Leaf.{Leaf}
+use Rattle.slot_reader.specs.declared.leaf_row.Leaf.the-variants as leaf
 use Rattle.slot_reader.specs.declared.RowRead.{RowRead}
 use Rattle.slot_reader.specs.declared.RowRead.the-variants as row
 use Rattle.row_reader.specs.Walk.{Walked, rowAt}
-use Rattle.parts.specs.declared.Spot.{Spot}
-use Rattle.parts.specs.declared.Spot.the-variants as spot
+use Rattle.plan.specs.declared.parts.Spot.{Spot}
+use Rattle.plan.specs.declared.parts.Spot.the-variants as spot
 
 module _ (formats schema : List ℕ) (x : Tables) (first n : ℕ) where
   -- "9, 10 and 12 for a malformed column before any ground of its own"; then 14 where the room does not hold a tree's 256 words

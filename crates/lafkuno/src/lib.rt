@@ -4,7 +4,7 @@ ghost use mathlib.Core.List.{List, []};
 ghost use Prim.Native.Nat.{ℕ};
 ghost use Rattle.source_rules.specs.kinds.Rows.{tablesOf};
 ghost use Rattle.walk.specs.State.{nulls};
-ghost use Rattle.parts.specs.Parts.{nodesOf, partTotal, partAt};
+ghost use Rattle.plan.specs.parts.Parts.{nodesOf, partTotal, partAt};
 ghost use Rattle.refinement.specs.orders.Order.{copyOrder, nullOrder};
 ghost use Rattle.refinement.specs.orders.Measure.{copyMeasure, nullMeasure, neededBytes};
 ghost use Rattle.refinement.specs.opening.Open.{opening};
@@ -16,7 +16,7 @@ ghost use Rattle.transform.specs.Answer.{lent, Answers};
 ghost use Rattle.into_builder.specs.Answer as Finished;
 ghost use Rattle.measure.specs.Answer.{Measures};
 ghost use Rattle.lafkuno.specs.Calls.{keeps, grows, spotNode, spotBuffer};
-use parts::Spot;
+use plan::parts::Spot;
 
 mod beside;
 mod means;
@@ -97,7 +97,7 @@ pub extern "C" fn lafkuno_open(
 pub extern "C" fn lafkuno_part_count(plan: &[u64]) -> u32
     ensures { λ r. ⌜ r ≡ partTotal (now (plan .entry)) ⌝ }
 {
-    parts::part_total(plan) as u32
+    plan::parts::part_total(plan) as u32
 }
 
 // The node of part p; the largest number of 64 bits where there is no such part.
@@ -105,7 +105,7 @@ pub extern "C" fn lafkuno_part_count(plan: &[u64]) -> u32
 pub extern "C" fn lafkuno_part_node(plan: &[u64], p: u32) -> u64
     ensures { λ r. ⌜ r ≡ spotNode (partAt (now (plan .entry)) p) ⌝ }
 {
-    match parts::part_at(plan, p as usize) {
+    match plan::parts::part_at(plan, p as usize) {
         Spot::Of { node, buffer: _ } => node as u64,
         Spot::Nothing => u64::MAX,
     }
@@ -116,7 +116,7 @@ pub extern "C" fn lafkuno_part_node(plan: &[u64], p: u32) -> u64
 pub extern "C" fn lafkuno_part_buffer(plan: &[u64], p: u32) -> u64
     ensures { λ r. ⌜ r ≡ spotBuffer (partAt (now (plan .entry)) p) ⌝ }
 {
-    match parts::part_at(plan, p as usize) {
+    match plan::parts::part_at(plan, p as usize) {
         Spot::Of { node: _, buffer } => buffer as u64,
         Spot::Nothing => u64::MAX,
     }

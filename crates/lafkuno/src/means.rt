@@ -1,7 +1,7 @@
 // Exact sums of one column and of two.
 ghost use mathlib.Core.Path.{_≡_};
 ghost use Rattle.source_rules.specs.kinds.Rows.{tablesOf};
-ghost use Rattle.column_reader.specs.runs.Answers.{ground};
+ghost use Rattle.row_reader.specs.runs.Answers.{ground};
 ghost use Rattle.aggregates.specs.Report.{meanReport, ratioReport};
 ghost use Rattle.lafkuno.specs.Sums.{flagOf, meanWords, ratioWords, meanGround, meanNumbers, ratioGround, ratioNumbers};
 use crate::reading;

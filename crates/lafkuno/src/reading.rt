@@ -8,11 +8,11 @@ ghost use Rattle.source_rules.specs.kinds.Rows.{tablesOf};
 ghost use Rattle.columns.specs.Grounds.{columnGround};
 ghost use Rattle.array_data.specs.entries.Entries.{column};
 ghost use Rattle.row_reader.specs.Walk.{runAt};
-ghost use Rattle.column_reader.specs.runs.Answers.{readRun, ground, numbers};
+ghost use Rattle.row_reader.specs.runs.Answers.{readRun, ground, numbers};
 ghost use Rattle.lafkuno.specs.Calls.{openGround, openTree, leafKind, leafNumber, rowKind, rowNumbers, readKind, readNumbers};
-use column_reader::runs;
-use leaf_row::Leaf;
+use row_reader::runs;
 use slot_reader::RowRead;
+use slot_reader::leaf_row::Leaf;
 
 // 16 and ground 14.
 const ANSWER_REFUSED: u8 = 30;
@@ -71,7 +71,7 @@ pub extern "C" fn lafkuno_open_column(
     ensures { λ _. ⌜ now (room .exit) ≡ openTree (now (formats .entry)) (now (schema .entry)) (tablesOf (now (lengths .entry)) (now (places .entry)) (now (buffers .entry)) (now (body .entry))) first n (now (room .entry)) ⌝ }
 {
     let mut tree = [0u64; 256];
-    let ground = column_reader::open_column(
+    let ground = row_reader::column_reader::open_column(
         formats,
         schema,
         lengths,
@@ -126,8 +126,8 @@ fn leaf_number(leaf: Leaf) -> u64
         Leaf::Null => 0,
         Leaf::Signed(z) => whole_number(z),
         Leaf::Unsigned(n) => n,
-        Leaf::Single(x) => leaf_row::bits_f32(x) as u64,
-        Leaf::Double(x) => leaf_row::bits_f64(x),
+        Leaf::Single(x) => slot_reader::leaf_row::bits_f32(x) as u64,
+        Leaf::Double(x) => slot_reader::leaf_row::bits_f64(x),
         Leaf::SingleNan(b) => b as u64,
         Leaf::DoubleNan(b) => b,
     }

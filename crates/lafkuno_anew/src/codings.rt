@@ -1,7 +1,7 @@
 // A fixed-width column into runs and back, as C calls (02, W1). What they leave is finished by `lafkuno_finish`.
 ghost use Rattle.source_rules.specs.kinds.Rows.{tablesOf};
 ghost use Rattle.with_capacities.specs.Answer.{Answers};
-ghost use Rattle.result_plan.specs.Answer.{Asks};
+ghost use Rattle.anew.specs.result_plan.Answer.{Asks};
 ghost use Rattle.coding.specs.Encode.{encodeAsked, encoding};
 ghost use Rattle.coding.specs.Expand.{expandAsked, expanding};
 use coding::encode;

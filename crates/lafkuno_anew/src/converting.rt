@@ -1,7 +1,7 @@
 // A column in other widths, as C calls (02, W13). What they leave is finished by `lafkuno_finish`.
 ghost use Rattle.source_rules.specs.kinds.Rows.{tablesOf};
 ghost use Rattle.with_capacities.specs.Answer.{Answers};
-ghost use Rattle.result_plan.specs.Answer.{Asks};
+ghost use Rattle.anew.specs.result_plan.Answer.{Asks};
 ghost use Rattle.width_walks.specs.Call.{asked, convert};
 
 // Before any room is lent: the first ground that stands, or the plan and the counters of the result. The target_n nodes from node `target` on are

@@ -2,10 +2,10 @@
 // no part, is then named behind its root. Of either, the `target_n` nodes from node `target` on are the type of the result.
 ghost use Rattle.source_rules.specs.kinds.Rows.{tablesOf};
 ghost use Rattle.with_capacities.specs.Answer.{Answers};
-ghost use Rattle.result_plan.specs.Answer.{Asks};
-ghost use Rattle.convert_lists.specs.ToList.{askList, makeList};
-ghost use Rattle.convert_lists.specs.ToView.{askView, makeView};
-ghost use Rattle.child_names.specs.Names.{naming, Names};
+ghost use Rattle.anew.specs.result_plan.Answer.{Asks};
+ghost use Rattle.convert.specs.convert_lists.ToList.{askList, makeList};
+ghost use Rattle.convert.specs.convert_lists.ToView.{askView, makeView};
+ghost use Rattle.convert.specs.child_names.Names.{naming, Names};
 use convert::to_list;
 use convert::to_view;
 
@@ -171,7 +171,7 @@ pub extern "C" fn lafkuno_list_view_child(
 ) -> u8
     ensures { λ r. ⌜ Names (naming (now (formats .entry)) (now (schema .entry)) (tablesOf (now (lengths .entry)) (now (places .entry)) (now (buffers .entry)) (now (body .entry))) first n (now («new_lengths» .entry)) (now («new_nulls» .entry)) (now («new_places» .entry))) r (now («new_lengths» .exit)) (now («new_nulls» .exit)) (now («new_places» .exit)) ⌝ }
 {
-    child_names::name_child(
+    convert::child_names::name_child(
         formats,
         schema,
         lengths,

@@ -1,7 +1,7 @@
 // Reclaiming the unused entries of a dictionary column (W9).
 ghost use Rattle.source_rules.specs.kinds.Rows.{tablesOf};
 ghost use Rattle.with_capacities.specs.Answer.{Answers};
-ghost use Rattle.result_plan.specs.Answer.{Asks};
+ghost use Rattle.anew.specs.result_plan.Answer.{Asks};
 ghost use Rattle.reclaim.specs.Reclaim.{reclaimAsked, reclaiming};
 
 // The question before any room is lent: the ground of refusal, or plan and counters of the result.

@@ -7,8 +7,8 @@ ghost use lib.ListN.{length, take, drop, replicate};
 ghost use Rattle.number.specs.Number.{splice};
 ghost use Rattle.bits.specs.Bits.{bitsAt, putBits, zeros};
 ghost use Rattle.utils.specs.Offsets.{movedOffsets};
-ghost use Rattle.primitive.specs.Primitive.{rebased};
-ghost use Rattle.byte_view.specs.View.{reviewed};
+ghost use Rattle.utils.specs.primitive.Primitive.{rebased};
+ghost use Rattle.utils.specs.byte_view.View.{reviewed};
 ghost use Rattle.leaf_ffi.specs.Calls.{inside, insideBoth, insideOffsets, insideBits, runOf, runSum};
 
 // The answer of a call that is refused. A call that is done answers 0, or a count.
@@ -77,7 +77,7 @@ pub extern "C" fn lafkuno_leaf_copy_bytes(
     ensures { λ r. ⌜ r ≡ cond (insideBoth (length (now (room .entry))) at (length (now (body .entry))) from 1 n) 0 18446744073709551615 ⌝ }
 {
     if within_both(room.len(), at, body.len(), from, 1, n) {
-        copy::copy_bytes(room, at, body, from, n);
+        number::copy::copy_bytes(room, at, body, from, n);
         return 0;
     }
     REFUSED
@@ -89,7 +89,7 @@ pub extern "C" fn lafkuno_leaf_fill_zeros(room: &mut [u8], at: usize, n: usize) 
     ensures { λ r. ⌜ r ≡ cond (inside (length (now (room .entry))) at 1 n) 0 18446744073709551615 ⌝ }
 {
     if within(room.len(), at, 1, n) {
-        copy::fill_zeros(room, at, n);
+        number::copy::fill_zeros(room, at, n);
         return 0;
     }
     REFUSED
@@ -146,7 +146,7 @@ pub extern "C" fn lafkuno_leaf_extend_with_offset_u8(
     ensures { λ r. ⌜ r ≡ cond (insideBoth (length (now (room .entry))) at (length (now (body .entry))) from 1 n) 0 18446744073709551615 ⌝ }
 {
     if within_both(room.len(), at, body.len(), from, 1, n) {
-        primitive::extend_with_offset_u8(room, at, body, from, n, base);
+        utils::primitive::extend_with_offset_u8(room, at, body, from, n, base);
         return 0;
     }
     REFUSED
@@ -165,7 +165,7 @@ pub extern "C" fn lafkuno_leaf_extend_with_offset_u16(
     ensures { λ r. ⌜ r ≡ cond (insideBoth (length (now (room .entry))) at (length (now (body .entry))) from 2 n) 0 18446744073709551615 ⌝ }
 {
     if within_both(room.len(), at, body.len(), from, 2, n) {
-        primitive::extend_with_offset_u16(room, at, body, from, n, base);
+        utils::primitive::extend_with_offset_u16(room, at, body, from, n, base);
         return 0;
     }
     REFUSED
@@ -184,7 +184,7 @@ pub extern "C" fn lafkuno_leaf_extend_with_offset_u32(
     ensures { λ r. ⌜ r ≡ cond (insideBoth (length (now (room .entry))) at (length (now (body .entry))) from 4 n) 0 18446744073709551615 ⌝ }
 {
     if within_both(room.len(), at, body.len(), from, 4, n) {
-        primitive::extend_with_offset_u32(room, at, body, from, n, base);
+        utils::primitive::extend_with_offset_u32(room, at, body, from, n, base);
         return 0;
     }
     REFUSED
@@ -203,7 +203,7 @@ pub extern "C" fn lafkuno_leaf_extend_views(
     ensures { λ r. ⌜ r ≡ cond (insideBoth (length (now (room .entry))) at (length (now (body .entry))) from 16 n) 0 18446744073709551615 ⌝ }
 {
     if within_both(room.len(), at, body.len(), from, 16, n) {
-        byte_view::extend_views(room, at, body, from, n, base);
+        utils::byte_view::extend_views(room, at, body, from, n, base);
         return 0;
     }
     REFUSED

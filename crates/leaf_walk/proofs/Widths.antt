@@ -5,7 +5,7 @@ use Prim.Native.Nat.{ℕ, zero, suc, _<_}
 use native.Mathlib.Omega.{arith}
 use lib.Dec.{leb, eqb}
 use borrow.Author.Tests.{leb-true, eqb-true, eqb-false, ne-eqb}
-use Rattle.formats.specs.Code.{isFixed, isString, isListView, isList, widthOf}
+use Rattle.schema.specs.formats.Code.{isFixed, isString, isListView, isList, widthOf}
 use Rattle.array_data.proofs.lent_tables.Laws.{and-left, and-right}
 
 -- a test of the numbers below n, one by one

@@ -14,8 +14,8 @@ use Rattle.walk.specs.State.{keepsOf, far, top, word, dictionaryOf}
 use Rattle.walk.specs.Log.{Out, done, need, next, each}
 use Rattle.walk.specs.Copy.{copyWalk}
 use Rattle.walk.specs.Nulls.{nullWalk}
-use Rattle.parts.specs.Parts.{nodesOf, hasPart, partTotal, numberOf, partAt, needed, sizeAt, partHolds, partsHold, partsWithin, Used, Numbered}
-use Rattle.parts.proofs.Placed.{number-below, part-named}
+use Rattle.plan.specs.parts.Parts.{nodesOf, hasPart, partTotal, numberOf, partAt, needed, sizeAt, partHolds, partsHold, partsWithin, Used, Numbered}
+use Rattle.plan.proofs.parts.Placed.{number-below, part-named}
 use Rattle.columns.specs.Grounds.{ceiling, sourcesGround}
 use Rattle.refinement.specs.orders.Sound.{planSound, walkable}
 use Rattle.refinement.specs.orders.Order.{Lent, joinOf, sourceCount, sourceLength, settled, copyOrder, nullOrder}

@@ -6,11 +6,11 @@ use Prim.Native.Nat.{ℕ, zero, suc, _+_, _*_, _-_, _/_, _%_, _≤_, _<_, min}
 use native.Mathlib.Nat.{le-div-iff-mul-le, mul-zero}
 use native.Mathlib.Omega.{arith}
 use lib.Dec.{ltb}
-use Rattle.formats.specs.Code.{isString, isListView, widthOf}
+use Rattle.schema.specs.formats.Code.{isString, isListView, widthOf}
 use Rattle.walk.specs.State.{codeOf, rows, bytes, top}
-use Rattle.parts.specs.Parts.{nodesOf, validityParts, partCount, partFrom, partAt, hasOffsets, entrySize, neededBy, needed}
-use Rattle.parts.specs.declared.Spot.{Spot}
-use Rattle.parts.specs.declared.Spot.the-variants.{Of, Nothing}
+use Rattle.plan.specs.parts.Parts.{nodesOf, validityParts, partCount, partFrom, partAt, hasOffsets, entrySize, neededBy, needed}
+use Rattle.plan.specs.declared.parts.Spot.{Spot}
+use Rattle.plan.specs.declared.parts.Spot.the-variants.{Of, Nothing}
 use Rattle.refinement.specs.orders.Measure.{neededIn, neededBytes}
 
 -- ---- r entries of w bytes

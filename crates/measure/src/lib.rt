@@ -4,10 +4,10 @@ ghost use mathlib.Core.Path.{_≡_};
 ghost use mathlib.Core.List.{List, []};
 ghost use Prim.Native.Nat.{ℕ, _+_, _*_, _/_, _<_, min};
 ghost use Rattle.walk.specs.State.{top};
-ghost use Rattle.parts.specs.Parts.{neededBy, needed};
+ghost use Rattle.plan.specs.parts.Parts.{neededBy, needed};
 ghost use Rattle.refinement.specs.orders.Measure.{copyMeasure, nullMeasure, neededBytes};
 ghost use Rattle.refinement.specs.opening.Ask.{openMeasure};
-ghost use Rattle.open_walk.specs.Lent.{lent};
+ghost use Rattle.with_capacities.specs.open_walk.Lent.{lent};
 ghost use Rattle.measure.specs.Answer.{Measures};
 use array_data::lent_tables;
 use walk::plan_words;
@@ -37,7 +37,7 @@ pub fn measure_open(
     let parts = [0u64; 0];
     let mut room = [0u8; 0];
     let mut counts = [0u64; 96];
-    let g = open_walk::open_walk(
+    let g = with_capacities::open_walk::open_walk(
         plan,
         &parts,
         sources,
@@ -175,21 +175,21 @@ fn bit_bytes(r: u64) -> u64
 fn first_bytes(code: u8, r: u64, n: u64) -> u64
     ensures { λ s. ⌜ s ≡ min (neededBy code r n 1) top ⌝ }
 {
-    if formats::is_string(code) | formats::is_list(code) {
-        return times_more(r, formats::width_of(code));
+    if schema::formats::is_string(code) | schema::formats::is_list(code) {
+        return times_more(r, schema::formats::width_of(code));
     }
-    times(r, parts::entry_size(code))
+    times(r, plan::parts::entry_size(code))
 }
 
 // The second buffer of r rows with n bytes of data, or the largest number of 64 bits.
 fn second_bytes(code: u8, r: u64, n: u64) -> u64
     ensures { λ s. ⌜ s ≡ min (neededBy code r n 2) top ⌝ }
 {
-    if formats::is_string(code) {
+    if schema::formats::is_string(code) {
         return n;
     }
-    if formats::is_list_view(code) {
-        return times(r, formats::width_of(code));
+    if schema::formats::is_list_view(code) {
+        return times(r, schema::formats::width_of(code));
     }
     times(r, 4)
 }
@@ -215,8 +215,8 @@ fn buffer_bytes(plan: &[u64], counters: &[u64], i: usize, b: usize) -> u64
 pub fn needed_bytes(plan: &[u64], counters: &[u64], p: u32) -> u64
     ensures { λ r. ⌜ r ≡ neededBytes (now (plan .entry)) (now (counters .entry)) p ⌝ }
 {
-    match parts::part_at(plan, p as usize) {
-        parts::Spot::Of { node, buffer } => buffer_bytes(plan, counters, node, buffer),
-        parts::Spot::Nothing => 0,
+    match plan::parts::part_at(plan, p as usize) {
+        plan::parts::Spot::Of { node, buffer } => buffer_bytes(plan, counters, node, buffer),
+        plan::parts::Spot::Nothing => 0,
     }
 }

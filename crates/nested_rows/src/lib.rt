@@ -1,6 +1,8 @@
 // What a walk does at a node with children beside their own walk: the numbers of a row, the ends of runs, ids and positions of nulls.
 // The answer is 0 or the ground of refusal; a walk that only tries changes the counters alone.
+mod gaps;
 pub mod lookups;
+pub mod node_data;
 
 ghost use mathlib.Core.Path.{_≡_};
 ghost use mathlib.Core.Bool.{Bool, _&&_};
@@ -15,9 +17,6 @@ ghost use Rattle.walk.specs.Copy.{Walk, isWidth, runsAt};
 ghost use Rattle.walk.specs.Nulls.{nullableChild, noHome};
 ghost use Rattle.leaf_walk.specs.Join.{join};
 ghost use Rattle.nested_rows.specs.Numbers.{listNumbers, denseNumbers, runsReady, runNumbers, nullIds, nullPositions, nullEnd, longerEnd};
-
-mod gaps;
-
 use array_data::lent_tables;
 use run_ends::LogicalRow;
 use run_ends::PhysicalRun;

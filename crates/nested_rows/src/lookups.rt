@@ -32,7 +32,7 @@ pub fn width_at(state: &[u64], i: usize) -> u64
     requires { ⌜ i < 32 ⌝ }
     ensures { λ r. ⌜ r ≡ bytesOf (now (state .entry)) i ⌝ }
 {
-    formats::width_of(plan_words::code_of(state, i)) as u64
+    schema::formats::width_of(plan_words::code_of(state, i)) as u64
 }
 
 // Entry k of those of w bytes at `at`.

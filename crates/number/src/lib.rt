@@ -1,4 +1,6 @@
 // Little-endian numbers in a slice of bytes, at the widths 1, 2, 4 and 8, and their two's complement.
+pub mod copy;
+
 ghost use mathlib.Core.Path.{_≡_};
 ghost use Prim.Native.Nat.{_+_, _≤_};
 ghost use lib.ListN.{length, drop};

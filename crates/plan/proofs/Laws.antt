@@ -7,13 +7,13 @@ use native.Mathlib.Numerals.{add-one}
 use lib.ListN.{getD, set}
 use lib.Dec.{eqb}
 use borrow.Author.Tests.{lt-ltb, le-ltb, ne-eqb}
-use Rattle.formats.specs.Code.{isString, isView, isRunEnd}
+use Rattle.schema.specs.formats.Code.{isString, isView, isRunEnd}
 use Rattle.model.specs.Opening.{keeps, shared, startOfKeys}
 use Rattle.array_data.specs.Tables.{Tables}
 use Rattle.array_data.specs.lent_tables.Lent.{tables}
 use Rattle.plan.specs.dictionaries.Sources.{arrayAt, dictAt, capped}
 use Rattle.array_data.specs.node_words.Words.{planted}
-use Rattle.parts.specs.Parts.{partTotal}
+use Rattle.plan.specs.parts.Parts.{partTotal}
 use Rattle.walk.specs.State.{codeOf, dictionaryOf, endOf, keepsOf}
 use Rattle.plan.specs.Plan.{filled, flag, withTree, holder, parentOf, asked, isEnds, keepWord, withKeeps, dictionariesAt, joinedWord, withJoined, buffersUpTo, baseWord, withBases, withCounts, withParts, withTotal, laidOut, withChoice, planned}
 use Rattle.array_data.specs.Sources.{sourceCount, firstOf, nodesOf}

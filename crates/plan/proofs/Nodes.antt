@@ -14,8 +14,8 @@ use Rattle.columnar.specs.Row.{seg}
 use Rattle.columnar.specs.Plain.{PlainBody}
 use Rattle.columnar.specs.View.{Views}
 use Rattle.columnar.specs.Dictionary.{Dictionary}
-use Rattle.formats.specs.Code.{Rule, is, begins, table, look, codeAt, same, inside, isString, isView, isRunEnd}
-use Rattle.formats.specs.Code as formatCode
+use Rattle.schema.specs.formats.Code.{Rule, is, begins, table, look, codeAt, same, inside, isString, isView, isRunEnd}
+use Rattle.schema.specs.formats.Code as formatCode
 use Rattle.model.specs.Opening.{keeps, shared, startOfKeys, keysFit, allKeysFit}
 use Rattle.model.specs.Primitive.{buffersBefore}
 use Rattle.schema.specs.Tree as schemaTree

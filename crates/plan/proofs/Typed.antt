@@ -8,7 +8,7 @@ use lib.ListN.{length, getD}
 use lib.Dec.{eqb}
 use Rattle.columnar.specs.Types.{Plain, fixed, string, Ty, tPlain, tView, tListView, tList, tSparse, tDense, tRunEnd, tDictionary}
 use Rattle.columnar.specs.Reading.{Body}
-use Rattle.formats.specs.Code.{isString, isView, isUnion, isRunEnd}
+use Rattle.schema.specs.formats.Code.{isString, isView, isUnion, isRunEnd}
 use Rattle.model.specs.Opening.{keeps}
 use Rattle.schema.specs.Tree as schemaTree
 use Rattle.schema.specs.Tree.{below, childAt, ceilings, typed}

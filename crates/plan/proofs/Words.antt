@@ -12,8 +12,8 @@ use Rattle.columnar.specs.Row.{seg}
 use Rattle.model.specs.Opening.{keeps}
 use Rattle.array_data.specs.Tables.{Tables}
 use Rattle.array_data.specs.node_words.Words.{wordOf, planted}
-use Rattle.parts.specs.Parts.{partWord, partTotal, Numbered}
-use Rattle.parts.proofs.Words.{Alike, alike-word, alike-total, numbered}
+use Rattle.plan.specs.parts.Parts.{partWord, partTotal, Numbered}
+use Rattle.plan.proofs.parts.Words.{Alike, alike-word, alike-total, numbered}
 use Rattle.walk.specs.State.{word, endOf, keepsOf, baseOf}
 use Rattle.plan.specs.Plan as plan
 use Rattle.array_data.specs.Sources as Sources

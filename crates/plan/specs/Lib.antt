@@ -2,3 +2,5 @@
 pub mod Plan
 pub mod Opened
 pub mod dictionaries
+pub mod parts
+pub mod grounds

@@ -5,14 +5,14 @@ use mathlib.Core.List.{List}
 use Prim.Native.Nat.{ℕ, zero, suc, _+_, _*_, _/_, _%_, _≤_, _<_, min}
 use lib.ListN.{length, getD, set, replicate}
 use lib.Dec.{ltb, eqb}
-use Rattle.formats.specs.Code.{isString, isView, isRunEnd}
+use Rattle.schema.specs.formats.Code.{isString, isView, isRunEnd}
 use Rattle.columnar.specs.Dictionary.{Dictionary}
 use Rattle.model.specs.Opening.{keeps, shared, startOfKeys}
 use Rattle.array_data.specs.Tables.{Tables}
 use Rattle.plan.specs.dictionaries.Sources.{arrayAt, dictAt, Countable, capped}
 use Rattle.array_data.specs.Sources.{sourceCount, firstOf, nodesOf}
 use Rattle.array_data.specs.node_words.Words.{planted}
-use Rattle.parts.specs.Parts.{partWord, partTotal}
+use Rattle.plan.specs.parts.Parts.{partWord, partTotal}
 use Rattle.walk.specs.State.{codeOf, dictionaryOf, endOf, keepsOf}
 
 -- words written one after the other: for each k the word `at k`, by the words that stand there so far

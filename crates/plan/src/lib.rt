@@ -1,10 +1,12 @@
 // The state of a join as the opening plans it, before any dictionary is joined: one function for each kind of word.
 pub mod dictionaries;
+pub mod grounds;
+pub mod parts;
 
 ghost use mathlib.Core.Path.{_≡_};
 ghost use Prim.Native.Nat.{ℕ, suc, _+_, _*_, _^_, _≤_, _<_, min};
 ghost use lib.ListN.{getD};
-ghost use Rattle.formats.specs.Code.{isString};
+ghost use Rattle.schema.specs.formats.Code.{isString};
 ghost use Rattle.walk.specs.State.{codeOf};
 ghost use Rattle.array_data.specs.lent_tables.Lent.{tables};
 ghost use Rattle.array_data.specs.node_words.Words.{planted};
@@ -70,7 +72,7 @@ fn is_ends(state: &[u64; 872], i: usize) -> bool
     if i == 0 {
         return false;
     }
-    formats::is_run_end(plan_words::code_of(state, i - 1))
+    schema::formats::is_run_end(plan_words::code_of(state, i - 1))
 }
 
 // 1 if node i keeps nulls and else 0.
@@ -126,7 +128,7 @@ fn has_strings(state: &[u64], i: usize) -> bool
     ensures { λ r. ⌜ r ≡ isString (codeOf (now (state .entry)) (suc i)) ⌝ }
 {
     let word = lent_tables::at_u64(state, 8 * (i + 1));
-    formats::is_string((word % 256) as u8)
+    schema::formats::is_string((word % 256) as u8)
 }
 
 // 1 if node i has dictionaries that are joined and else 0.
@@ -217,7 +219,7 @@ fn base_word(
     requires { ⌜ (m ≤ 16) × (s ≤ 16) × (i < 32) ⌝ }
     ensures { λ r. ⌜ r ≡ baseWord (tables (now (lengths .entry)) (now (places .entry)) (now (body .entry))) (now (sources .entry)) m (now (state .entry)) s i ⌝ }
 {
-    if formats::is_view(plan_words::code_of(state, i)) {
+    if schema::formats::is_view(plan_words::code_of(state, i)) {
         return buffers_up_to(sources, places, i, s);
     }
     if plan_words::dictionary_of(state, i) == 0 {
@@ -255,7 +257,7 @@ pub fn write_parts(n: usize, state: &mut [u64; 872])
 {
     let mut i = 0;
     while i < n {
-        state[8 * i + 6] = parts::part_word(state, i);
+        state[8 * i + 6] = crate::parts::part_word(state, i);
         i += 1;
     }
 }
@@ -301,7 +303,7 @@ fn lay_out(
     write_joined(sources, lengths, places, body, m, n, state);
     write_bases(sources, lengths, places, body, m, state);
     write_parts(n, state);
-    state[866] = parts::part_total(state) as u64;
+    state[866] = crate::parts::part_total(state) as u64;
 }
 
 // 1 for true.

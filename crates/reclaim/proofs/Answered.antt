@@ -14,16 +14,16 @@ use Rattle.array_data.specs.lent_tables.Lent.{tables}
 use Rattle.columns.specs.Grounds.{ceiling, smallBody, columnGround}
 use Rattle.walk.specs.Log.{Did, apply}
 use Rattle.leaf_walk.specs.Join.{join}
-use Rattle.parts.specs.Parts.{partTotal, partsPlaced, partsHold}
+use Rattle.plan.specs.parts.Parts.{partTotal, partsPlaced, partsHold}
 use Rattle.refinement.proofs.opening.Taken.{is-low}
 use Rattle.with_capacities.specs.Answer.{Answers}
 use Rattle.anew.specs.Anew.{orElse, joinLengths, roomGround, ahead}
 use Rattle.anew.specs.ResultPlan.{keepsFrom, Comes, planAnew}
 use Rattle.anew.proofs.Laws.{or-none, or-zero, or-first}
 use Rattle.anew.proofs.Comes.{source-good, comes}
-use Rattle.result_plan.specs.Answer.{Asks}
-use Rattle.result_plan.proofs.Answered.{tried-room, made-room, before-walk, asks-refused, asks-lengths, asks-done, answers-large, answers-refused, answers-room, answers-made}
-use Rattle.reclaim_walk.specs.Walk.{reclaimWalk}
+use Rattle.anew.specs.result_plan.Answer.{Asks}
+use Rattle.anew.proofs.result_plan.Answered.{tried-room, made-room, before-walk, asks-refused, asks-lengths, asks-done, answers-large, answers-refused, answers-room, answers-made}
+use Rattle.reclaim.specs.reclaim_walk.Walk.{reclaimWalk}
 use Rattle.reclaim.specs.Reclaim.{fromColumn, reclaimOwn, reclaimPlan, reclaimOut, reclaimAsked, reclaiming}
 use Rattle.reclaim.proofs.Placeless.{placeless}
 

@@ -32,9 +32,9 @@ use Rattle.refinement.proofs.opening.Starts.{start-values}
 use Rattle.column_anew.specs.runs.Runs.{those}
 use Rattle.column_anew.proofs.runs.Those.{those-split}
 use Rattle.column_anew.specs.entries.Reclaimed.{copyEach, freshNode}
-use Rattle.used_entries.specs.Keys.{used}
-use Rattle.reclaim_walk.specs.Walk.{keysOf, runOf, copyRun, copyRuns, copyBlocks}
-use Rattle.reclaim_walk.proofs.Runs.{runs-open, blocks-open}
+use Rattle.reclaim.specs.used_entries.Keys.{used}
+use Rattle.reclaim.specs.reclaim_walk.Walk.{keysOf, runOf, copyRun, copyRuns, copyBlocks}
+use Rattle.reclaim.proofs.reclaim_walk.Runs.{runs-open, blocks-open}
 use Rattle.reclaim.proofs.Runs.{stretch, order, order-fine, each-cut, whole-run, run-within, run-those}
 
 -- the model is done, so the walk is

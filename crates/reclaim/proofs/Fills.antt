@@ -17,14 +17,14 @@ use Rattle.columnar.specs.Array.{Array, ok, nullCount}
 use Rattle.columnar.specs.Entries.{encodes}
 use Rattle.columnar.specs.Plain.{PlainBody}
 use Rattle.columnar.specs.Reading.{Column, Source}
-use Rattle.formats.specs.Code.{isFixed, isString}
+use Rattle.schema.specs.formats.Code.{isFixed, isString}
 use Rattle.model.specs.Try.{done, after}
 use Rattle.model.specs.Mutable.{Mutable, zeros, grow, counted, freezeNode}
 use Rattle.model.proofs.Law.{BitsFor}
 use Rattle.walk.specs.State.{Join, word, codeOf, dictionaryOf, endOf, bytesOf, keepsOf, rows, nulls, bytes, addRows, lengthOf, offsetOf}
 use Rattle.walk.specs.Log.{put, wrote}
 use Rattle.walk.specs.Leaves.{copyMask}
-use Rattle.parts.specs.Parts.{hasOffsets}
+use Rattle.plan.specs.parts.Parts.{hasOffsets}
 use Rattle.refinement.specs.walk_is_model.Memory.{Memory, putIn}
 use Rattle.refinement.specs.walk_is_model.Holds.{flag, WordedPlain, HoldsBits}
 use Rattle.refinement.specs.walk_is_model.Lent.{LentNode, LentPlain}
@@ -45,8 +45,8 @@ use Rattle.column_anew.proofs.entries.Copies.{grown}
 use Rattle.anew.specs.Stood.{StoodNode, StoodPlain, Stood}
 use Rattle.anew.proofs.Held.{held-plain}
 use Rattle.anew.proofs.Reclaimed.{ReclaimedAt, reclaimed-stands}
-use Rattle.used_entries.specs.Keys.{used, newKeys}
-use Rattle.reclaim_walk.specs.Walk.{keysOf, firstEntry, copyBlocks, reclaimWalk}
+use Rattle.reclaim.specs.used_entries.Keys.{used, newKeys}
+use Rattle.reclaim.specs.reclaim_walk.Walk.{keysOf, firstEntry, copyBlocks, reclaimWalk}
 use Rattle.reclaim.proofs.Rows.{those-same, used-same, keys-written, keys-there}
 use Rattle.reclaim.proofs.Entries.{Copied, entries-go, begin}
 

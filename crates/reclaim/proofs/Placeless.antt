@@ -9,8 +9,8 @@ use Rattle.walk.specs.Log.{put, done, wrote, need, next}
 use Rattle.walk.specs.Leaves.{copyBits, copyMask}
 use Rattle.leaf_walk.specs.Join.{join}
 use Rattle.measure.proofs.Placeless.{walk-same}
-use Rattle.used_entries.specs.Keys.{used, newKeys}
-use Rattle.reclaim_walk.specs.Walk.{keysOf, keysIn, firstEntry, runOf, copyRun, copyRuns, copyBlocks, reclaimWalk}
+use Rattle.reclaim.specs.used_entries.Keys.{used, newKeys}
+use Rattle.reclaim.specs.reclaim_walk.Walk.{keysOf, keysIn, firstEntry, runOf, copyRun, copyRuns, copyBlocks, reclaimWalk}
 
 module _ (state parts lengths places body : List ℕ) (first : ℕ) where
   abbrev x : Join

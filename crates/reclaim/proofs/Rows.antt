@@ -16,7 +16,7 @@ use Rattle.columnar.specs.Array.{ok, Mask}
 use Rattle.columnar.specs.Entries.{encodes}
 use Rattle.columnar.specs.Reading.{Column, Source}
 use Rattle.columnar.proofs.Kept.{seg-same}
-use Rattle.formats.specs.Code.{isFixed}
+use Rattle.schema.specs.formats.Code.{isFixed}
 use Rattle.row_rules.proofs.slots.Tests.{valid-part}
 use Rattle.walk.specs.State.{Join, codeOf, bytesOf, place, lengthOf, offsetOf, far, rowsIn}
 use Rattle.refinement.specs.walk_is_model.Lent.{LentValid, LentNode, LentPlain, Lent}
@@ -25,8 +25,8 @@ use Rattle.column_anew.specs.runs.Runs.{okAt, those}
 use Rattle.column_anew.specs.entries.Used.{some-below}
 use Rattle.column_anew.specs.entries.Used as typed
 use Rattle.column_anew.specs.entries.Reclaimed as typed-new
-use Rattle.used_entries.specs.Keys.{Keys, slotValid, validOf, keyOf, names, used, rank, newKey, newKeys}
-use Rattle.reclaim_walk.specs.Walk.{keysOf, bitsIn, keysIn}
+use Rattle.reclaim.specs.used_entries.Keys.{Keys, slotValid, validOf, keyOf, names, used, rank, newKey, newKeys}
+use Rattle.reclaim.specs.reclaim_walk.Walk.{keysOf, bitsIn, keysIn}
 
 -- ---- tests that agree
 

@@ -23,8 +23,8 @@ use Rattle.refinement.proofs.walk_is_model.UnionFields.{agrees-value}
 use Rattle.walk.specs.State.{Join}
 use Rattle.column_anew.specs.runs.Runs.{those}
 use Rattle.column_anew.specs.entries.Reclaimed.{copyEach}
-use Rattle.used_entries.specs.Keys.{used}
-use Rattle.reclaim_walk.specs.Walk.{keysOf, runOf}
+use Rattle.reclaim.specs.used_entries.Keys.{used}
+use Rattle.reclaim.specs.reclaim_walk.Walk.{keysOf, runOf}
 
 -- k entries from e on
 abbrev pub stretch : ℕ → ℕ → List ℕ

@@ -25,7 +25,7 @@ use Rattle.column_anew.proofs.entries.Reclaim.{same-rows, reclaimed-source}
 use Rattle.anew.specs.Anew.{orElse, roomGround}
 use Rattle.anew.proofs.Laws.{anew-keeps, anew-ground}
 use Rattle.anew.proofs.Result.{lentFor, Filled, filled-by, anew-writes, anew-result}
-use Rattle.reclaim_walk.specs.Walk.{reclaimWalk}
+use Rattle.reclaim.specs.reclaim_walk.Walk.{reclaimWalk}
 use Rattle.reclaim.specs.Reclaim.{reclaimOwn, reclaimPlan, reclaimOut, reclaiming}
 use Rattle.reclaim.proofs.Answered.{out-is}
 use Rattle.reclaim.proofs.Fills.{reclaim-leaves}

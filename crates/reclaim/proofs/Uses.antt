@@ -10,14 +10,14 @@ use borrow.Author.Tests.{eqb-false}
 use Rattle.number.specs.Number.{encode}
 use Rattle.columnar.specs.Row.{seg}
 use Rattle.columnar.specs.Entries.{encodes}
-use Rattle.formats.specs.Code.{isFixed, isString}
+use Rattle.schema.specs.formats.Code.{isFixed, isString}
 use Rattle.walk.specs.State.{Join, codeOf, bytesOf, keepsOf, rows, place, addRows, lengthOf, offsetOf}
 use Rattle.walk.specs.Log.{put, mask, wrote}
 use Rattle.walk.specs.Leaves.{copyBits, copyMask}
 use Rattle.walk.specs.Copy.{copyWalk}
 use Rattle.bits.specs.Bits.{bitsAt}
-use Rattle.parts.specs.Parts.{nodesOf, copied, hasOffsets, Used}
-use Rattle.parts.proofs.Words.{offsets-buffer, has-buffers}
+use Rattle.plan.specs.parts.Parts.{nodesOf, copied, hasOffsets, Used}
+use Rattle.plan.proofs.parts.Words.{offsets-buffer, has-buffers}
 use Rattle.refinement.specs.log_in_room.Room.{AllBelow}
 use Rattle.refinement.specs.log_in_room.Reach.{Closed, UsedAt}
 use Rattle.refinement.proofs.log_in_room.Bytes.{bytes-encode, bits-part, bits-same}
@@ -25,8 +25,8 @@ use Rattle.refinement.proofs.log_in_room.Copies.{used-copies}
 use Rattle.refinement.proofs.log_in_room.Found.{between-both}
 use Rattle.refinement.proofs.log_in_room.Uses.{used-wide, Uses, uses-done, uses-wrote, uses-cond, uses-need, uses-next}
 use Rattle.refinement.proofs.orders.Buffers.{fixed-one, buffer-copied, bits-copied, copied-part}
-use Rattle.used_entries.specs.Keys.{newKey, newKeys}
-use Rattle.reclaim_walk.specs.Walk.{keysOf, keysIn, firstEntry, runOf, copyRun, copyRuns, copyBlocks, reclaimWalk}
+use Rattle.reclaim.specs.used_entries.Keys.{newKey, newKeys}
+use Rattle.reclaim.specs.reclaim_walk.Walk.{keysOf, keysIn, firstEntry, runOf, copyRun, copyRuns, copyBlocks, reclaimWalk}
 
 -- bytes
 all-append : (s t : List ℕ) → AllBelow 256 s → AllBelow 256 t → AllBelow 256 (s ++ t)

@@ -13,7 +13,7 @@ use Rattle.refinement.specs.plan_is_type.Planted.{joinOf}
 use Rattle.refinement.specs.opening.Open.{Opening}
 use Rattle.anew.specs.Anew.{Asking, asking, anew}
 use Rattle.anew.specs.ResultPlan.{keepsFrom, planAnew}
-use Rattle.reclaim_walk.specs.Walk.{reclaimWalk}
+use Rattle.reclaim.specs.reclaim_walk.Walk.{reclaimWalk}
 
 -- keys and entries come from the column's own
 abbrev pub fromColumn : List ℕ

@@ -1,4 +1,10 @@
 // Reclaiming the unused entries of a dictionary column: the question before any room is lent, and the call. The result is finished as a join is.
+mod entry_copies;
+pub mod entry_writes;
+mod plain;
+pub mod reclaim_walk;
+pub mod used_entries;
+
 ghost use mathlib.Core.Path.{_≡_};
 ghost use mathlib.Core.Bool.{true};
 ghost use mathlib.Core.List.{[]};
@@ -13,9 +19,9 @@ ghost use Rattle.leaf_walk.specs.Join.{join};
 ghost use Rattle.anew.specs.Anew.{orElse};
 ghost use Rattle.anew.specs.ResultPlan.{keepsFrom, Comes, planAnew};
 ghost use Rattle.with_capacities.specs.Answer.{Answers};
-ghost use Rattle.result_plan.specs.Answer.{Asks};
-ghost use Rattle.used_entries.specs.Keys.{Head};
-ghost use Rattle.reclaim_walk.specs.Walk.{keysOf, keysIn, reclaimWalk};
+ghost use Rattle.anew.specs.result_plan.Answer.{Asks};
+ghost use Rattle.reclaim.specs.used_entries.Keys.{Head};
+ghost use Rattle.reclaim.specs.reclaim_walk.Walk.{keysOf, keysIn, reclaimWalk};
 ghost use Rattle.reclaim.specs.Reclaim.{fromColumn, reclaimOwn, reclaimAsked, reclaiming};
 
 // The most bytes of a room, which is a body too.
@@ -59,7 +65,7 @@ fn planned(
 {
     let mut state = [0u64; 872];
     let from = [1u64, 2];
-    result_plan::plan_anew(
+    anew::result_plan::plan_anew(
         formats,
         schema,
         first as usize,
@@ -97,11 +103,11 @@ pub fn plan_reclaim(
         return g;
     }
     let state = planned(formats, schema, lengths, places, body, first, n);
-    let head = reclaim_walk::head_ranks(&state, lengths, places, body, first as usize);
+    let head = crate::reclaim_walk::head_ranks(&state, lengths, places, body, first as usize);
     let none = [0u64; 0];
     let mut nothing = [0u8; 0];
     let mut counts = [0u64; 96];
-    let g = reclaim_walk::reclaim_walk(
+    let g = crate::reclaim_walk::reclaim_walk(
         &head,
         &state,
         &none,
@@ -123,7 +129,7 @@ pub fn plan_reclaim(
         return 14;
     }
     let made = with_capacities::copied(counts);
-    result_plan::keep_result(plan, counters, &state, &made);
+    anew::result_plan::keep_result(plan, counters, &state, &made);
     0
 }
 
@@ -145,7 +151,7 @@ fn make(
     ensures { λ r. ⌜ (now (plan .exit) ≡ now (state .entry)) × Did (now (state .entry)) (now (parts .entry)) true (reclaimWalk (join (now (state .entry)) (now (parts .entry)) (now (lengths .entry)) (now (places .entry)) (now (body .entry)) first 0) (replicate 96 0)) (now (room .entry)) r (now (counters .exit)) (now (room .exit)) ⌝ }
 {
     let mut counts = [0u64; 96];
-    let g = reclaim_walk::reclaim_walk(
+    let g = crate::reclaim_walk::reclaim_walk(
         head,
         state,
         parts,
@@ -158,7 +164,7 @@ fn make(
         first as usize,
     );
     let made = with_capacities::copied(counts);
-    result_plan::keep_result(plan, counters, state, &made);
+    anew::result_plan::keep_result(plan, counters, state, &made);
     g
 }
 
@@ -187,9 +193,9 @@ pub fn reclaim(
         return g;
     }
     let state = planned(formats, schema, lengths, places, body, first, n);
-    let head = reclaim_walk::head_ranks(&state, lengths, places, body, first as usize);
+    let head = crate::reclaim_walk::head_ranks(&state, lengths, places, body, first as usize);
     let mut tried = [0u64; 96];
-    let g = reclaim_walk::reclaim_walk(
+    let g = crate::reclaim_walk::reclaim_walk(
         &head,
         &state,
         parts,
@@ -205,7 +211,7 @@ pub fn reclaim(
         return g;
     }
     let counts = with_capacities::copied(tried);
-    let g = result_plan::room_ground(
+    let g = anew::result_plan::room_ground(
         &state,
         &counts,
         parts,

@@ -139,7 +139,7 @@ pub fn recode(room: &mut [u8], at: usize, w2: u64, body: &[u8], from: usize, w: 
     ensures { λ _. ⌜ now (room .exit) ≡ splice at (recoded w w2 (now (body .entry)) from n) (now (room .entry)) ⌝ }
 {
     if w == w2 {
-        copy::copy_bytes(room, at, body, from, (w as usize) * n);
+        number::copy::copy_bytes(room, at, body, from, (w as usize) * n);
         return;
     }
     if w == 1 {

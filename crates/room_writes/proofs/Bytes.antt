@@ -12,8 +12,8 @@ use Rattle.number.specs.Number.{encode, entry, number}
 use Rattle.number.proofs.Laws.{length-encode, encode-mod}
 use Rattle.utils.specs.Offsets.{movedOffsets, repeated, countedUp}
 use Rattle.utils.proofs.Pieces.{length-pieces, length-numbers, pieces-same, numbers-same}
-use Rattle.primitive.specs.Primitive.{rebased}
-use Rattle.byte_view.specs.View.{reviewed, reviewedOne, pickBytes}
+use Rattle.utils.specs.primitive.Primitive.{rebased}
+use Rattle.utils.specs.byte_view.View.{reviewed, reviewedOne, pickBytes}
 
 pub length-copied : (s : List ℕ) (from n : ℕ) → from + n ≤ length s → length (take n (drop from s)) ≡ n
 length-copied s from n h = simp (length-take, length-drop) (omega arith)

@@ -7,10 +7,10 @@ ghost use lib.ListN.{length, take, drop, replicate};
 ghost use Rattle.number.specs.Number.{splice, encode};
 ghost use Rattle.bits.specs.Bits.{bitsAt, zeros};
 ghost use Rattle.utils.specs.Offsets.{movedOffsets, repeated, countedUp};
-ghost use Rattle.primitive.specs.Primitive.{rebased};
-ghost use Rattle.byte_view.specs.View.{reviewed};
+ghost use Rattle.utils.specs.primitive.Primitive.{rebased};
+ghost use Rattle.utils.specs.byte_view.View.{reviewed};
 ghost use Rattle.run_ends.specs.Clip.{clipped};
-ghost use Rattle.formats.specs.Code.{widthOf};
+ghost use Rattle.schema.specs.formats.Code.{widthOf};
 ghost use Rattle.walk.specs.State.{bytesOf};
 ghost use Rattle.walk.specs.Log.{put, mask, applyIf};
 use run_ends::copies;
@@ -33,7 +33,7 @@ pub fn put_copy(
     ensures { λ _. ⌜ now (room .exit) ≡ applyIf (now (state .entry)) (now (parts .entry)) write (put i b o (take n (drop from (now (body .entry)))) ∷ []) (now (room .entry)) ⌝ }
 {
     match plan_words::target(state, parts, room.len(), write, i, b, o, n) {
-        plan_words::Goal::At(at) => copy::copy_bytes(room, at, body, from, n as usize),
+        plan_words::Goal::At(at) => number::copy::copy_bytes(room, at, body, from, n as usize),
         plan_words::Goal::Skip => {}
     }
 }
@@ -55,7 +55,7 @@ pub fn put_zeros(
 {
     let size = plan_words::scale(n, w);
     match plan_words::target(state, parts, room.len(), write, i, b, o, size) {
-        plan_words::Goal::At(at) => copy::fill_zeros(room, at, size as usize),
+        plan_words::Goal::At(at) => number::copy::fill_zeros(room, at, size as usize),
         plan_words::Goal::Skip => {}
     }
 }
@@ -76,7 +76,7 @@ pub fn put_same(
     ensures { λ _. ⌜ now (room .exit) ≡ applyIf (now (state .entry)) (now (parts .entry)) write (put i b o (replicate n v) ∷ []) (now (room .entry)) ⌝ }
 {
     match plan_words::target(state, parts, room.len(), write, i, b, o, n) {
-        plan_words::Goal::At(at) => copy::fill_bytes(room, at, n as usize, v),
+        plan_words::Goal::At(at) => number::copy::fill_bytes(room, at, n as usize, v),
         plan_words::Goal::Skip => {}
     }
 }
@@ -257,10 +257,24 @@ fn write_unsigned_keys(
     ensures { λ _. ⌜ now (room .exit) ≡ splice at (rebased w (now (body .entry)) from base n) (now (room .entry)) ⌝ }
 {
     match w {
-        1 => primitive::extend_with_offset_u8(room, at, body, from, n, (base % 256) as u8),
-        2 => primitive::extend_with_offset_u16(room, at, body, from, n, (base % 65536) as u16),
-        4 => primitive::extend_with_offset_u32(room, at, body, from, n, (base % 4294967296) as u32),
-        _ => primitive::extend_with_offset_u64(room, at, body, from, n, base),
+        1 => utils::primitive::extend_with_offset_u8(room, at, body, from, n, (base % 256) as u8),
+        2 => utils::primitive::extend_with_offset_u16(
+            room,
+            at,
+            body,
+            from,
+            n,
+            (base % 65536) as u16,
+        ),
+        4 => utils::primitive::extend_with_offset_u32(
+            room,
+            at,
+            body,
+            from,
+            n,
+            (base % 4294967296) as u32,
+        ),
+        _ => utils::primitive::extend_with_offset_u64(room, at, body, from, n, base),
     }
 }
 
@@ -281,10 +295,24 @@ fn write_keys(
     ensures { λ _. ⌜ now (room .exit) ≡ splice at (rebased w (now (body .entry)) from base n) (now (room .entry)) ⌝ }
 {
     match code {
-        1 => primitive::extend_with_offset_i8(room, at, body, from, n, (base % 256) as u8),
-        3 => primitive::extend_with_offset_i16(room, at, body, from, n, (base % 65536) as u16),
-        5 => primitive::extend_with_offset_i32(room, at, body, from, n, (base % 4294967296) as u32),
-        7 => primitive::extend_with_offset_i64(room, at, body, from, n, base),
+        1 => utils::primitive::extend_with_offset_i8(room, at, body, from, n, (base % 256) as u8),
+        3 => utils::primitive::extend_with_offset_i16(
+            room,
+            at,
+            body,
+            from,
+            n,
+            (base % 65536) as u16,
+        ),
+        5 => utils::primitive::extend_with_offset_i32(
+            room,
+            at,
+            body,
+            from,
+            n,
+            (base % 4294967296) as u32,
+        ),
+        7 => utils::primitive::extend_with_offset_i64(room, at, body, from, n, base),
         _ => write_unsigned_keys(room, at, w, body, from, n, base),
     }
 }
@@ -352,7 +380,7 @@ pub fn put_views(
         o,
         plan_words::scale(n, 16),
     ) {
-        plan_words::Goal::At(at) => byte_view::extend_views(
+        plan_words::Goal::At(at) => utils::byte_view::extend_views(
             room,
             at,
             body,

@@ -12,14 +12,14 @@ use lib.Dec.{leb, ltb, eqb}
 use borrow.Author.Tests.{le-leb, lt-leb, leb-true, leb-false, lt-ltb, le-ltb, eq-eqb, ne-eqb, eqb-true}
 use Rattle.number.specs.Number.{splice}
 use Rattle.number.proofs.Laws.{splice-splice, splice-nil, length-splice}
-use Rattle.formats.specs.Code.{isFixed, isString, isView, isListView, isList, isUnion, isSparse, isRunEnd, widthOf}
+use Rattle.schema.specs.formats.Code.{isFixed, isString, isView, isListView, isList, isUnion, isSparse, isRunEnd, widthOf}
 use Rattle.array_data.specs.Tables.{Tables, part, lengthOf, offsetOf, place, validOf, firstBuffer, secondBuffer}
 use Rattle.array_data.specs.Typed.{NodeKind, fixedNode, stringNode, viewNode, listViewNode, listNode, sparseNode, denseNode, runEndNode, dictionaryNode}
 use Rattle.array_data.specs.type_tree.Lent.{numberKind, unionKind}
 use Rattle.run_ends.specs.declared.PhysicalRun.{PhysicalRun}
-use Rattle.leaf_row.specs.run.Rows.{rowRun}
-use Rattle.leaf_row.specs.declared.run.RowRun.{RowRun}
-use Rattle.leaf_row.specs.declared.run.RowRun.the-variants as run
+use Rattle.slot_reader.specs.run.Rows.{rowRun}
+use Rattle.slot_reader.specs.declared.run.RowRun.{RowRun}
+use Rattle.slot_reader.specs.declared.run.RowRun.the-variants as run
 use Rattle.array_data.specs.node_words.Words.{word}
 use Rattle.array_data.specs.entries.Entries.{entryIn, validIn}
 use Rattle.array_data.proofs.entries.Laws.{cut}

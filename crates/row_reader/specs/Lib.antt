@@ -1,3 +1,5 @@
 -- The definitions that the contracts of `row_reader` cite.
 pub mod Walk
 pub mod meaning
+pub mod column_reader
+pub mod runs

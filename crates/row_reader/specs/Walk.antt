@@ -5,12 +5,12 @@ use mathlib.Core.List.{List, [], _∷_}
 use Prim.Native.Nat.{ℕ, zero, suc, _+_, _*_, _-_, _^_, min}
 use lib.ListN.{length, take, drop}
 use lib.Dec.{leb, ltb, eqb}
-use Rattle.formats.specs.Code.{isRunEnd, widthOf}
+use Rattle.schema.specs.formats.Code.{isRunEnd, widthOf}
 use Rattle.array_data.specs.Tables.{Tables, lengthOf, offsetOf, place, validOf, firstBuffer, secondBuffer}
 use Rattle.array_data.specs.Typed.{NodeKind, fixedNode, stringNode, viewNode, listViewNode, listNode, sparseNode, denseNode, runEndNode, dictionaryNode}
-use Rattle.leaf_row.specs.run.Rows.{rowRun}
-use Rattle.leaf_row.specs.declared.run.RowRun.{RowRun}
-use Rattle.leaf_row.specs.declared.run.RowRun.the-variants as run
+use Rattle.slot_reader.specs.run.Rows.{rowRun}
+use Rattle.slot_reader.specs.declared.run.RowRun.{RowRun}
+use Rattle.slot_reader.specs.declared.run.RowRun.the-variants as run
 use Rattle.array_data.specs.node_words.Words.{word}
 use Rattle.array_data.specs.entries.Entries.{entryIn, validIn}
 use Rattle.array_data.specs.declared.entries.Entry.{Entry}

@@ -1,5 +1,7 @@
 // One row of a lent column, read from the top of the tree downward, at most eight levels.
+pub mod column_reader;
 pub mod meaning;
+pub mod runs;
 mod unions;
 
 ghost use mathlib.Core.Path.{_≡_};
@@ -13,10 +15,10 @@ ghost use Rattle.row_reader.specs.Walk.{codeWidth, runIn, runOf, runsSte
 use array_data::entries;
 use array_data::entries::Validity;
 use array_data::lent_tables;
-use leaf_row::run;
-use leaf_row::run::ColumnRow;
-use leaf_row::run::RowRun;
 use slot_reader::RowRead;
+use slot_reader::run;
+use slot_reader::run::ColumnRow;
+use slot_reader::run::RowRun;
 
 // What a node says of a row: all there is, or the row of a child; of a union's child with its id.
 pub enum Step {
@@ -90,7 +92,7 @@ fn run_of(
     ensures { λ r. ⌜ r ≡ runOf (column (now (lengths .entry)) (now (places .entry)) [] (now (body .entry)) first) i (codeWidth (now (tree .entry)) (suc i)) (row .0) ⌝ }
 {
     let e = i + 1;
-    let w = formats::width_of(slot_reader::code_word(tree, e));
+    let w = schema::formats::width_of(slot_reader::code_word(tree, e));
     let start = entries::place_at(places, first, e, 3);
     let size = entries::place_at(places, first, e, 4);
     let off = entries::offset_at(lengths, first, e);
@@ -136,7 +138,7 @@ pub fn run_at(
 ) -> RowRun
     ensures { λ r. ⌜ r ≡ runAt (now (tree .entry)) (column (now (lengths .entry)) (now (places .entry)) [] (now (body .entry)) first) (row .0) ⌝ }
 {
-    if !formats::is_run_end(slot_reader::code_word(tree, 0)) {
+    if !schema::formats::is_run_end(slot_reader::code_word(tree, 0)) {
         return RowRun::Refused(10);
     }
     run_of(tree, lengths, places, body, first, 0, row)
@@ -160,13 +162,13 @@ fn step_slot(
     ensures { λ r. ⌜ r ≡ stepOn (now (tree .entry)) (column (now (lengths .entry)) (now (places .entry)) (now (buffers .entry)) (now (body .entry)) first) i slot ⌝ }
 {
     let code = slot_reader::code_word(tree, i);
-    if formats::is_sparse(code) {
+    if schema::formats::is_sparse(code) {
         return unions::step_sparse(tree, places, body, first, i, slot);
     }
-    if formats::is_union(code) {
+    if schema::formats::is_union(code) {
         return unions::step_dense(tree, places, body, first, i, slot);
     }
-    if formats::is_run_end(code) {
+    if schema::formats::is_run_end(code) {
         return step_runs(tree, lengths, places, body, first, i, slot);
     }
     Step::Done(slot_reader::read_slot(tree, lengths, places, buffers, body, first, i, slot))

@@ -8,7 +8,7 @@ ghost use Rattle.columnar.specs.Types.{half};
 ghost use Rattle.columnar.specs.Test.{member};
 ghost use Rattle.row_rules.specs.slots.Slots.{idsDeclared, fieldOf, boundOf, positionsWithin, keysBelow, validKeysBelow, liesIn, viewGood, viewsGood, validViewsGood};
 use array_data::lent_tables;
-use byte_view::ByteView;
+use utils::byte_view::ByteView;
 
 // The first field with that id, or the number of fields where none has it.
 pub fn field_of(ids: &[u8], id: u8) -> usize
@@ -291,7 +291,7 @@ fn view_good(body: &[u8], buffers: &[u64], first: usize, count: usize, v: ByteVi
     if 2147483647 < length {
         return false;
     }
-    if length <= byte_view::MAX_INLINE_VIEW_LEN {
+    if length <= utils::byte_view::MAX_INLINE_VIEW_LEN {
         return true;
     }
     let k = v.buffer_index as usize;
@@ -316,7 +316,7 @@ pub fn views_good(
 {
     let mut i = 0;
     while i < n {
-        let v = byte_view::from_bytes(body, at + 16 * i);
+        let v = utils::byte_view::from_bytes(body, at + 16 * i);
         if !view_good(body, buffers, first, count, v) {
             return false;
         }
@@ -343,7 +343,7 @@ pub fn valid_views_good(
     while i < n {
         let bit = bits::get_bit(body, from, a + i);
         if bit == 1 {
-            let view = byte_view::from_bytes(body, at + 16 * i);
+            let view = utils::byte_view::from_bytes(body, at + 16 * i);
             if !view_good(body, buffers, first, count, view) {
                 return false;
             }

@@ -1,2 +1,3 @@
 -- Laws of `run_coding`.
 pub mod Laws
+pub mod run_walks

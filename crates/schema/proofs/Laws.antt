@@ -10,9 +10,9 @@ use lib.ListN.{length}
 use lib.Dec.{leb, ltb, eqb}
 use borrow.Author.Tests.{lt-ltb, le-ltb, le-leb, lt-leb, eq-eqb, ne-eqb, eqb-true, eqb-false}
 use Rattle.schema.specs.Tree.{every, count, field, flag, children, dictionary, below, endFrom, dueFrom, childForEach, isValues, endOf, depth, whole, idsOf, fewFields, shape, ceilings, typed, sameFlag, sameFormats, sameNode, sameType}
-use Rattle.formats.specs.union_ids.Ids.{idsAt, answerOf, sameFormat}
-use Rattle.formats.specs.declared.union_ids.Ids.{Ids}
-use Rattle.formats.specs.declared.union_ids.Ids.the-variants.{Count, Bad}
+use Rattle.schema.specs.union_ids.Ids.{idsAt, answerOf, sameFormat}
+use Rattle.schema.specs.declared.union_ids.Ids.{Ids}
+use Rattle.schema.specs.declared.union_ids.Ids.the-variants.{Count, Bad}
 
 -- ---- every and count
 

@@ -6,8 +6,8 @@ use mathlib.Core.List.{List, []}
 use Prim.Native.Nat.{ℕ, zero, suc, _+_, _*_, _-_, _/_, _%_}
 use lib.ListN.{length, getD}
 use lib.Dec.{leb, ltb, eqb}
-use Rattle.formats.specs.Code.{codeAt, isInteger, isFixed, isString, isView, isListView, isList, isUnion, isRunEnd}
-use Rattle.formats.specs.union_ids.Ids.{idsAt, sameFormat}
+use Rattle.schema.specs.formats.Code.{codeAt, isInteger, isFixed, isString, isView, isListView, isList, isUnion, isRunEnd}
+use Rattle.schema.specs.union_ids.Ids.{idsAt, sameFormat}
 
 -- p holds of every i below n
 unfoldable pub every : (ℕ → Bool) → ℕ → Bool

@@ -1,8 +1,10 @@
 // Lent type trees (docs/FORMAT.md): the nodes of a source in depth-first order, five numbers a node.
+pub mod formats;
+pub mod union_ids;
+
 ghost use mathlib.Core.Path.{_≡_};
 ghost use Prim.Native.Nat.{_≤_, _<_};
 ghost use Rattle.schema.specs.Tree.{field, flag, nullable, children, dictionary, below, bare, endOf, depth, whole, codeOf, fewFields, valuesShape, endsShape, leafShape, keysShape, listShape, childForEach, idsOf, unionShape, runShape, shape, ceilings, typed, sameFlag, sameFormats, sameNode, sameType};
-use formats::union_ids;
 
 // ---- the numbers of a node
 
@@ -22,7 +24,7 @@ pub fn code_of(formats: &[u8], schema: &[u32], first: usize, i: usize) -> u8
 {
     let at = get(schema, first + i, 0) as usize;
     let len = get(schema, first + i, 1) as usize;
-    formats::format_code(formats, at, len)
+    crate::formats::format_code(formats, at, len)
 }
 
 // 1 where node i is nullable and else 0.
@@ -140,7 +142,7 @@ fn has_few_fields(formats: &[u8], schema: &[u32], first: usize, i: usize) -> boo
     requires { ⌜ (first < 4294967296) × (i < 4294967296) ⌝ }
     ensures { λ r. ⌜ r ≡ fewFields (now (formats .entry)) (now (schema .entry)) first i ⌝ }
 {
-    let other = !formats::is_union(code_of(formats, schema, first, i));
+    let other = !crate::formats::is_union(code_of(formats, schema, first, i));
     let few = children_of(schema, first, i) <= 16;
     other | few
 }
@@ -174,7 +176,7 @@ fn is_values(formats: &[u8], schema: &[u32], first: usize, i: usize) -> bool
     ensures { λ r. ⌜ r ≡ valuesShape (now (formats .entry)) (now (schema .entry)) first i ⌝ }
 {
     let code = code_of(formats, schema, first, i);
-    (formats::is_fixed(code) | formats::is_string(code)) & is_bare(schema, first, i)
+    (crate::formats::is_fixed(code) | crate::formats::is_string(code)) & is_bare(schema, first, i)
 }
 
 // Whether node i can be run ends: s, i or l.
@@ -192,7 +194,9 @@ fn is_leaf(formats: &[u8], schema: &[u32], first: usize, i: usize) -> bool
     ensures { λ r. ⌜ r ≡ leafShape (now (formats .entry)) (now (schema .entry)) first i ⌝ }
 {
     let code = code_of(formats, schema, first, i);
-    (formats::is_fixed(code) | formats::is_string(code) | formats::is_view(code))
+    (crate::formats::is_fixed(code)
+        | crate::formats::is_string(code)
+        | crate::formats::is_view(code))
         & is_bare(schema, first, i)
 }
 
@@ -201,7 +205,7 @@ fn is_keys(formats: &[u8], schema: &[u32], first: usize, i: usize) -> bool
     requires { ⌜ (first < 4294967296) × (i < 4294967295) ⌝ }
     ensures { λ r. ⌜ r ≡ keysShape (now (formats .entry)) (now (schema .entry)) first i ⌝ }
 {
-    let kind = formats::is_integer(code_of(formats, schema, first, i));
+    let kind = crate::formats::is_integer(code_of(formats, schema, first, i));
     let childless = children_of(schema, first, i) == 0;
     let a_dictionary = dictionary_of(schema, first, i) == 1;
     kind & childless & a_dictionary & is_values(formats, schema, first, i + 1)
@@ -213,7 +217,7 @@ fn is_list(formats: &[u8], schema: &[u32], first: usize, i: usize) -> bool
     ensures { λ r. ⌜ r ≡ listShape (now (formats .entry)) (now (schema .entry)) first i ⌝ }
 {
     let code = code_of(formats, schema, first, i);
-    let kind = formats::is_list_view(code) | formats::is_list(code);
+    let kind = crate::formats::is_list_view(code) | crate::formats::is_list(code);
     let one_child = children_of(schema, first, i) == 1;
     let no_dictionary = dictionary_of(schema, first, i) == 0;
     kind & one_child & no_dictionary
@@ -239,7 +243,7 @@ fn is_union_node(formats: &[u8], schema: &[u32], first: usize, i: usize) -> bool
     requires { ⌜ (first < 4294967296) × (i < 4294967296) ⌝ }
     ensures { λ r. ⌜ r ≡ unionShape (now (formats .entry)) (now (schema .entry)) first i ⌝ }
 {
-    let kind = formats::is_union(code_of(formats, schema, first, i));
+    let kind = crate::formats::is_union(code_of(formats, schema, first, i));
     let no_dictionary = dictionary_of(schema, first, i) == 0;
     kind & has_child_for_each(formats, schema, first, i) & no_dictionary
 }
@@ -249,7 +253,7 @@ fn is_runs(formats: &[u8], schema: &[u32], first: usize, i: usize) -> bool
     requires { ⌜ (first < 4294967296) × (i < 4294967295) ⌝ }
     ensures { λ r. ⌜ r ≡ runShape (now (formats .entry)) (now (schema .entry)) first i ⌝ }
 {
-    let kind = formats::is_run_end(code_of(formats, schema, first, i));
+    let kind = crate::formats::is_run_end(code_of(formats, schema, first, i));
     let two_children = children_of(schema, first, i) == 2;
     let no_dictionary = dictionary_of(schema, first, i) == 0;
     kind & two_children & no_dictionary & is_ends(formats, schema, first, i + 1)

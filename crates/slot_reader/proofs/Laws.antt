@@ -12,15 +12,15 @@ use borrow.Author.Tests.{le-leb, lt-leb, lt-ltb, le-ltb, eq-eqb, ne-eqb}
 use Rattle.number.specs.Number.{number}
 use Rattle.columnar.specs.Types.{Number, width}
 use Rattle.columnar.specs.Array.{item}
-use Rattle.formats.specs.Code.{isFixed, isString, isView, isListView, isList, widthOf}
+use Rattle.schema.specs.formats.Code.{isFixed, isString, isView, isListView, isList, widthOf}
 use Rattle.array_data.specs.Tables.{Tables, part, lengthOf, offsetOf, place, firstBuffer, secondBuffer}
 use Rattle.array_data.specs.Typed.{NodeKind, stringNode, viewNode, listViewNode, listNode, runEndNode}
 use Rattle.array_data.specs.type_tree.Lent.{numberKind, unionKind}
-use Rattle.leaf_row.specs.declared.Leaf.{Leaf}
-use Rattle.leaf_row.specs.Reading as leaf
-use Rattle.leaf_row.specs.view.Place.{placeOf, partOf, Within}
-use Rattle.leaf_row.specs.declared.view.Place.{Place}
-use Rattle.leaf_row.specs.declared.view.Place.the-variants as seen
+use Rattle.slot_reader.specs.declared.leaf_row.Leaf.{Leaf}
+use Rattle.slot_reader.specs.leaf_row.Reading as leaf
+use Rattle.slot_reader.specs.view.Place.{placeOf, partOf, Within}
+use Rattle.slot_reader.specs.declared.view.Place.{Place}
+use Rattle.slot_reader.specs.declared.view.Place.the-variants as seen
 use Rattle.array_data.specs.node_words.Words.{word}
 use Rattle.array_data.specs.entries.Entries.{holds, spotIn, sized, entryIn}
 use Rattle.array_data.specs.declared.entries.Spot.{Spot}

@@ -9,15 +9,15 @@ use lib.Dec.{leb, ltb, eqb}
 use Rattle.number.specs.Number.{number}
 use Rattle.columnar.specs.Types.{Number, width}
 use Rattle.columnar.specs.Array.{item}
-use Rattle.formats.specs.Code.{lastCode}
-use Rattle.formats.specs.Types.{numberOf}
+use Rattle.schema.specs.formats.Code.{lastCode}
+use Rattle.schema.specs.formats.Types.{numberOf}
 use Rattle.array_data.specs.Tables.{Tables, lengthOf, offsetOf, place, validOf, firstBuffer, secondBuffer}
 use Rattle.array_data.specs.Typed.{NodeKind, fixedNode, stringNode, viewNode, listViewNode, listNode, sparseNode, denseNode, runEndNode, dictionaryNode}
 use Rattle.array_data.specs.type_tree.Lent.{numberOr, kindOf}
-use Rattle.leaf_row.specs.Reading.{leafOf}
-use Rattle.leaf_row.specs.view.Place.{placeOf}
-use Rattle.leaf_row.specs.declared.view.Place.{Place}
-use Rattle.leaf_row.specs.declared.view.Place.the-variants as seen
+use Rattle.slot_reader.specs.leaf_row.Reading.{leafOf}
+use Rattle.slot_reader.specs.view.Place.{placeOf}
+use Rattle.slot_reader.specs.declared.view.Place.{Place}
+use Rattle.slot_reader.specs.declared.view.Place.the-variants as seen
 use Rattle.array_data.specs.node_words.Words.{word}
 use Rattle.array_data.specs.entries.Entries.{holds, spotIn, entryIn, validIn}
 use Rattle.array_data.specs.declared.entries.Spot.{Spot}

@@ -1,5 +1,9 @@
 // What one slot of a lent node reads as, by the node's kind: a number, bytes, or the place of a list's rows. The node's own validity is not
 // looked at; that of a dictionary's values is.
+pub mod leaf_row;
+pub mod run;
+pub mod view;
+
 ghost use mathlib.Core.Path.{_≡_};
 ghost use mathlib.Core.List.{[]};
 ghost use Prim.Native.Nat.{suc, _+_, _≤_, _<_, _^_};
@@ -13,12 +17,11 @@ use array_data::entries::Spot;
 use array_data::entries::Validity;
 use array_data::lent_tables;
 use array_data::node_words;
-use leaf_row::view;
 
 // A row: null, a number, bytes that stand in the body, or rows of a child; or the ground of refusal.
 pub enum RowRead {
     Null,
-    Number(leaf_row::Leaf),
+    Number(crate::leaf_row::Leaf),
     Bytes { at: usize, len: usize },
     List { node: usize, start: u64, len: u64 },
     Refused(u8),
@@ -30,7 +33,7 @@ pub fn code_word(tree: &[u64], i: usize) -> u8
     ensures { λ r. ⌜ r ≡ codeWord (now (tree .entry)) i ⌝ }
 {
     let code = node_words::word(tree, i, 0);
-    if formats::LAST_CODE < code {
+    if schema::formats::LAST_CODE < code {
         return 0;
     }
     code as u8
@@ -42,10 +45,11 @@ fn read_number(body: &[u8], start: u64, size: u64, code: u8, slot: u64) -> RowRe
     requires { ⌜ (1 ≤ code) × (code ≤ 10) ⌝ }
     ensures { λ r. ⌜ r ≡ numberRead (codeNumber code) (part (now (body .entry)) start size) slot ⌝ }
 {
-    let Spot::At(at) = entries::find_spot(body, start, size, formats::width_of(code), slot) else {
+    let Spot::At(at) = entries::find_spot(body, start, size, schema::formats::width_of(code), slot)
+    else {
         return RowRead::Refused(12);
     };
-    RowRead::Number(leaf_row::read_leaf(body, at, code))
+    RowRead::Number(crate::leaf_row::read_leaf(body, at, code))
 }
 
 // The bytes a .. b - 1 of the buffer.
@@ -219,10 +223,17 @@ fn read_stored(
     ensures { λ r. ⌜ r ≡ storedAt (now (tree .entry)) (column [] (now (places .entry)) [] (now (body .entry)) first) i slot ⌝ }
 {
     let code = code_word(tree, i);
-    if formats::is_string(code) {
-        return read_string(places, body, first, i, formats::width_of(code), slot);
+    if schema::formats::is_string(code) {
+        return read_string(
+            places,
+            body,
+            first,
+            i,
+            schema::formats::width_of(code),
+            slot,
+        );
     }
-    if !formats::is_fixed(code) {
+    if !schema::formats::is_fixed(code) {
         return RowRead::Refused(10);
     }
     if node_words::word(tree, i, 1) != 0 {
@@ -230,7 +241,7 @@ fn read_stored(
     }
     let start = entries::place_at(places, first, i, 3);
     let size = entries::place_at(places, first, i, 4);
-    read_fixed(body, start, size, formats::width_of(code), slot)
+    read_fixed(body, start, size, schema::formats::width_of(code), slot)
 }
 
 // The entry that a key of w bytes names: null where its own bit is 0.
@@ -288,7 +299,7 @@ fn read_integer(
             body,
             first,
             i,
-            formats::width_of(code),
+            schema::formats::width_of(code),
             slot,
         );
     }
@@ -312,26 +323,40 @@ pub fn read_slot(
     ensures { λ r. ⌜ r ≡ slotRead (now (tree .entry)) (column (now (lengths .entry)) (now (places .entry)) (now (buffers .entry)) (now (body .entry)) first) i slot ⌝ }
 {
     let code = code_word(tree, i);
-    if formats::is_fixed(code) {
+    if schema::formats::is_fixed(code) {
         return read_integer(tree, lengths, places, body, first, i, code, slot);
     }
-    if formats::is_string(code) {
-        return read_string(places, body, first, i, formats::width_of(code), slot);
+    if schema::formats::is_string(code) {
+        return read_string(
+            places,
+            body,
+            first,
+            i,
+            schema::formats::width_of(code),
+            slot,
+        );
     }
-    if formats::is_view(code) {
+    if schema::formats::is_view(code) {
         return read_view(places, buffers, body, first, i, slot);
     }
-    if formats::is_list_view(code) {
-        return read_list_view(places, body, first, i, formats::width_of(code), slot);
+    if schema::formats::is_list_view(code) {
+        return read_list_view(
+            places,
+            body,
+            first,
+            i,
+            schema::formats::width_of(code),
+            slot,
+        );
     }
-    if formats::is_list(code) {
+    if schema::formats::is_list(code) {
         return read_list(
             lengths,
             places,
             body,
             first,
             i,
-            formats::width_of(code),
+            schema::formats::width_of(code),
             slot,
         );
     }

@@ -9,11 +9,11 @@ use lib.Dec.{leb, ltb, eqb}
 use borrow.Author.Tests.{lt-ltb, le-ltb, le-leb, lt-leb, leb-true, leb-false, eq-eqb, ne-eqb}
 use Rattle.columnar.specs.Test.{every}
 use Rattle.columnar.proofs.Test.{every-false}
-use Rattle.formats.specs.Code.{isFixed, isListView, isList, isRunEnd}
+use Rattle.schema.specs.formats.Code.{isFixed, isListView, isList, isRunEnd}
 use Rattle.walk.specs.State.{codeOf, dictionaryOf, endOf}
 use Rattle.refinement.specs.log_in_room.Reach.{hasItem}
-use Rattle.parts.specs.Parts.{nodesOf, copied}
-use Rattle.parts.proofs.Laws.{every-one, every-now}
+use Rattle.plan.specs.parts.Parts.{nodesOf, copied}
+use Rattle.plan.proofs.parts.Laws.{every-one, every-now}
 use Rattle.refinement.specs.orders.Sound.{nestedIn, endsSound, kindSound, nodeSound, planSound, walkable}
 use Rattle.columns.specs.Grounds.{ceiling}
 

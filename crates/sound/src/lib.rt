@@ -36,7 +36,7 @@ fn ends_sound(plan: &[u64], i: usize) -> bool
     if plan_words::dictionary_of(plan, i + 1) != 0 {
         return false;
     }
-    formats::is_fixed(plan_words::code_of(plan, i + 1))
+    schema::formats::is_fixed(plan_words::code_of(plan, i + 1))
 }
 
 // Whether what its code wants stands below node i.
@@ -51,10 +51,10 @@ fn kind_sound(plan: &[u64], i: usize) -> bool
     if plan_words::dictionary_of(plan, i) != 0 {
         return false;
     }
-    if formats::is_list_view(code) | formats::is_list(code) {
+    if schema::formats::is_list_view(code) | schema::formats::is_list(code) {
         return i + 1 < plan_words::end_of(plan, i);
     }
-    if formats::is_run_end(code) {
+    if schema::formats::is_run_end(code) {
         return ends_sound(plan, i);
     }
     true
@@ -81,14 +81,14 @@ fn node_sound(plan: &[u64], n: usize, i: usize) -> bool
     if n <= end {
         return true;
     }
-    parts::is_copied(plan, end)
+    plan::parts::is_copied(plan, end)
 }
 
 // Whether there is a node and every node stands well.
 pub fn plan_sound(plan: &[u64]) -> bool
     ensures { λ r. ⌜ r ≡ planSound (now (plan .entry)) ⌝ }
 {
-    let n = parts::node_count(plan);
+    let n = plan::parts::node_count(plan);
     if n == 0 {
         return false;
     }

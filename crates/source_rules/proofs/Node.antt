@@ -13,12 +13,12 @@ use borrow.Author.Tests.{eq-eqb, ne-eqb}
 use Rattle.columnar.specs.Types.{Number, width, Plain, fixed, string}
 use Rattle.columnar.specs.Test.{every}
 use Rattle.columnar.specs.Formed.{OffsetWidth, RunWidth}
-use Rattle.formats.specs.Code.{isInteger, isFixed, isString, isView, isListView, isList, isUnion, isRunEnd, widthOf}
-use Rattle.formats.specs.Types.{numberOf}
-use Rattle.formats.proofs.Types.{number-width, fixed-number}
-use Rattle.formats.specs.union_ids.Ids.{answerOf, written}
-use Rattle.formats.specs.declared.union_ids.Ids.{Ids}
-use Rattle.formats.specs.declared.union_ids.Ids.the-variants.{Count, Bad}
+use Rattle.schema.specs.formats.Code.{isInteger, isFixed, isString, isView, isListView, isList, isUnion, isRunEnd, widthOf}
+use Rattle.schema.specs.formats.Types.{numberOf}
+use Rattle.schema.proofs.formats.Types.{number-width, fixed-number}
+use Rattle.schema.specs.union_ids.Ids.{answerOf, written}
+use Rattle.schema.specs.declared.union_ids.Ids.{Ids}
+use Rattle.schema.specs.declared.union_ids.Ids.the-variants.{Count, Bad}
 use Rattle.schema.specs.Tree.{field, children, dictionary, below, bare, childForEach, endOf, childAt, whole, codeOf, idsOf, valuesShape, leafShape, keysShape, listShape, unionShape, runShape, shape, typed}
 use Rattle.schema.proofs.Trees.{child-inside}
 use Rattle.schema.proofs.Known.{typed-whole, typed-shape}

@@ -8,10 +8,10 @@ use native.Mathlib.Omega.{arith}
 use lib.ListN.{length, take, drop, getD}
 use lib.Seq.{take-at}
 use lib.Dec.{eqb}
-use Rattle.formats.specs.Code.{isUnion}
-use Rattle.formats.specs.union_ids.Ids.{idsAt, answerOf, written}
-use Rattle.formats.specs.declared.union_ids.Ids.{Ids}
-use Rattle.formats.specs.declared.union_ids.Ids.the-variants.{Count, Bad}
+use Rattle.schema.specs.formats.Code.{isUnion}
+use Rattle.schema.specs.union_ids.Ids.{idsAt, answerOf, written}
+use Rattle.schema.specs.declared.union_ids.Ids.{Ids}
+use Rattle.schema.specs.declared.union_ids.Ids.the-variants.{Count, Bad}
 use Rattle.schema.specs.Tree.{field, childAt, codeOf, idsOf, shape}
 use Rattle.schema.proofs.Laws.{no-ids}
 use Rattle.array_data.specs.Tables.{Tables, lengthOf}

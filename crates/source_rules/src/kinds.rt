@@ -7,7 +7,7 @@ ghost use mathlib.Core.Option.{some};
 ghost use Prim.Native.Nat.{ℕ, _+_, _*_, _≤_, _<_, _^_, min};
 ghost use lib.ListN.{length, getD};
 ghost use Rattle.columnar.specs.Types.{Number, width, limit};
-ghost use Rattle.formats.specs.Types.{numberOf};
+ghost use Rattle.schema.specs.formats.Types.{numberOf};
 ghost use Rattle.row_rules.specs.slots.Slots.{keysBelow, validKeysBelow};
 ghost use Rattle.array_data.specs.Tables.{lengthOf};
 ghost use Rattle.array_data.specs.Rules.{oneIn, twoIn, buffersIn, viewRule, dictionaryRule, sparseRule, denseRule};
@@ -170,7 +170,14 @@ pub fn dictionary_rule(lengths: &[u64], places: &[u64], body: &[u8], k: usize, c
         return false;
     }
     let bound = key_bound(code, lent_tables::length_of(lengths, k + 1));
-    key_rows(lengths, places, body, k, formats::width_of(code), bound)
+    key_rows(
+        lengths,
+        places,
+        body,
+        k,
+        schema::formats::width_of(code),
+        bound,
+    )
 }
 
 // "no validity buffer on a union"

@@ -9,8 +9,8 @@ ghost use mathlib.Core.List.{List, []};
 ghost use Prim.Native.Nat.{ℕ, _+_, _*_, _≤_, _<_, _^_};
 ghost use lib.ListN.{length, getD};
 ghost use Rattle.columnar.specs.Types.{Number};
-ghost use Rattle.formats.specs.Code.{isUnion, isSparse};
-ghost use Rattle.formats.specs.Types.{numberOf};
+ghost use Rattle.schema.specs.formats.Code.{isUnion, isSparse};
+ghost use Rattle.schema.specs.formats.Types.{numberOf};
 ghost use Rattle.schema.specs.Tree.{childAt, codeOf};
 ghost use Rattle.columnar.specs.Formed.{OffsetWidth, RunWidth};
 ghost use Rattle.array_data.specs.Tables.{lengthOf};
@@ -21,7 +21,7 @@ ghost use Rattle.array_data.specs.lent_tables.Lent.{tables, Counted};
 ghost use Rattle.source_rules.specs.kinds.Rows.{tablesOf};
 ghost use Rattle.source_rules.specs.Source.{Ready, numberRule};
 use array_data::lent_tables;
-use formats::union_ids;
+use schema::union_ids;
 
 // The rule of a node of a fixed-width format by its code: of numbers where it has no dictionary, and else of keys.
 fn number_ok(lengths: &[u64], places: &[u64], body: &[u8], k: usize, code: u8, single: bool) -> bool
@@ -29,7 +29,7 @@ fn number_ok(lengths: &[u64], places: &[u64], body: &[u8], k: usize, code: u8, s
     ensures { λ r. ⌜ ((m : Number) → numberOf code ≡ some m → r ≡ numberRule (tables (now (lengths .entry)) (now (places .entry)) (now (body .entry))) k single m) ⌝ }
 {
     if single {
-        return nodes::fixed_rule(lengths, places, body, k, formats::width_of(code));
+        return nodes::fixed_rule(lengths, places, body, k, schema::formats::width_of(code));
     }
     kinds::dictionary_rule(lengths, places, body, k, code)
 }
@@ -151,14 +151,14 @@ fn node_ok(
 {
     let k = first + i;
     let code = schema::code_of(formats, schema, first, i);
-    if formats::is_fixed(code) {
+    if schema::formats::is_fixed(code) {
         let single = schema::dictionary_of(schema, first, i) == 0;
         return number_ok(lengths, places, body, k, code, single);
     }
-    if formats::is_view(code) {
+    if schema::formats::is_view(code) {
         return kinds::view_rule(lengths, places, buffers, body, k);
     }
-    if formats::is_union(code) {
+    if schema::formats::is_union(code) {
         return union_ok(
             formats,
             schema,
@@ -168,18 +168,18 @@ fn node_ok(
             first,
             n,
             i,
-            formats::is_sparse(code),
+            schema::formats::is_sparse(code),
         );
     }
-    if formats::is_run_end(code) {
+    if schema::formats::is_run_end(code) {
         let ends = schema::code_of(formats, schema, first, i + 1);
-        return run_end_ok(lengths, places, body, k, formats::width_of(ends));
+        return run_end_ok(lengths, places, body, k, schema::formats::width_of(ends));
     }
-    let w = formats::width_of(code);
-    if formats::is_string(code) {
+    let w = schema::formats::width_of(code);
+    if schema::formats::is_string(code) {
         return string_ok(lengths, places, body, k, w);
     }
-    if formats::is_list(code) {
+    if schema::formats::is_list(code) {
         return list_ok(lengths, places, body, k, w);
     }
     list_view_ok(lengths, places, body, k, w)

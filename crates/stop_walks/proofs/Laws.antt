@@ -20,10 +20,10 @@ use Rattle.walk.specs.State.{Join, endOf, rows, bytes, place, rowsIn, grown, to
 use Rattle.walk.specs.Log.{Out, Did, fail, need, found, next, wrote}
 use Rattle.walk.specs.Leaves.{putString}
 use Rattle.walk.specs.Copy.{Walk, childWith, listViewRow, idAt, positionAt, denseTo, denseRow, copyWalk}
-use Rattle.stops.specs.declared.Why.{Why}
-use Rattle.stops.specs.Why.{only, nothing, clash, unless, past, firstOf}
-use Rattle.stops.specs.Copy.{most, whyListRow, whyListView, whyStretch, whyList, whyBytes, whyString, whyFields, whySparse, whyDenseTo, whyDenseAt, whyDenseRow, whyDense, whyCopy}
-use Rattle.stops.proofs.Above.{Wide, wide-offset, AboveMost, extended-above}
+use Rattle.stop_walks.specs.declared.stops.Why.{Why}
+use Rattle.stop_walks.specs.stops.Why.{only, nothing, clash, unless, past, firstOf}
+use Rattle.stop_walks.specs.stops.Copy.{most, whyListRow, whyListView, whyStretch, whyList, whyBytes, whyString, whyFields, whySparse, whyDenseTo, whyDenseAt, whyDenseRow, whyDense, whyCopy}
+use Rattle.stop_walks.proofs.stops.Above.{Wide, wide-offset, AboveMost, extended-above}
 use Rattle.stop_walks.specs.declared.Step.{Step}
 use Rattle.stop_walks.specs.declared.Step.the-variants.{On, Here, Below}
 use Rattle.stop_walks.specs.Step.{Tried, whyAfter, RowSays}

@@ -26,9 +26,9 @@ use Rattle.walk.specs.Leaves.{copyMask, putString}
 use Rattle.walk.specs.Copy.{Walk, childWith, isWidth, masked, idAt, positionAt, denseTo, denseRow, runsAt, copyData, copyWalk}
 use Rattle.nested_rows.specs.Numbers.{runsReady}
 use Rattle.nested_rows.proofs.Laws.{ends-ready}
-use Rattle.stops.specs.declared.Why.{Why}
-use Rattle.stops.specs.Why.{only, nothing, clash, unless, past, firstOf}
-use Rattle.stops.specs.Copy.{most, whyStretch, whyList, whyBytes, whyString, whyFields, whySparse, whyDenseTo, whyDenseAt, whyDenseRow, whyDense, whyRun, whyRuns, whyData, whySlots, whyNode, whyCopy}
+use Rattle.stop_walks.specs.declared.stops.Why.{Why}
+use Rattle.stop_walks.specs.stops.Why.{only, nothing, clash, unless, past, firstOf}
+use Rattle.stop_walks.specs.stops.Copy.{most, whyStretch, whyList, whyBytes, whyString, whyFields, whySparse, whyDenseTo, whyDenseAt, whyDenseRow, whyDense, whyRun, whyRuns, whyData, whySlots, whyNode, whyCopy}
 use Rattle.stop_walks.specs.declared.Step.{Step}
 use Rattle.stop_walks.specs.declared.Step.the-variants.{On, Here, Below}
 use Rattle.stop_walks.specs.Step.{whyAfter, RowSays}

@@ -6,14 +6,14 @@ use Prim.Native.Nat.{ℕ, zero, suc, _+_, _-_, _≤_, _<_}
 use native.Mathlib.Omega.{arith}
 use lib.Dec.{leb, ltb, eqb}
 use borrow.Author.Tests.{eq-eqb, ne-eqb, lt-ltb, le-ltb, le-leb, leb-false}
-use Rattle.formats.specs.Code.{between, isString, isListView, isList}
+use Rattle.schema.specs.formats.Code.{between, isString, isListView, isList}
 use Rattle.walk.specs.State.{Join, codeOf, bytesOf, far, slotOf}
 use Rattle.walk.specs.Log.{Out, done}
 use Rattle.walk.specs.Leaves.{copyMask}
 use Rattle.walk.specs.Copy.{Walk, masked, copyData, copyWalk}
-use Rattle.stops.specs.declared.Why.{Why}
-use Rattle.stops.specs.Why.{only, unless, past}
-use Rattle.stops.specs.Copy.{whyString, whyListView, whyList, whySparse, whyDense, whyRuns, whyData, whySlots, whyNode, whyCopy}
+use Rattle.stop_walks.specs.declared.stops.Why.{Why}
+use Rattle.stop_walks.specs.stops.Why.{only, unless, past}
+use Rattle.stop_walks.specs.stops.Copy.{whyString, whyListView, whyList, whySparse, whyDense, whyRuns, whyData, whySlots, whyNode, whyCopy}
 
 -- a code that is none of those from low to high
 outside : (low high code : ℕ) → between low high code ≡ false → low ≤ code → high < code

@@ -1,3 +1,4 @@
 -- What a node says of the rows that it was handed.
 pub mod Step
 pub mod nulls
+pub mod stops

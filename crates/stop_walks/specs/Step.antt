@@ -6,9 +6,9 @@ use Prim.Native.Nat.{ℕ}
 use lib.Dec.{eqb}
 use Rattle.walk.specs.State.{Join}
 use Rattle.walk.specs.Log.{Out}
-use Rattle.stops.specs.declared.Why.{Why}
-use Rattle.stops.specs.Why.{nothing}
-use Rattle.stops.specs.Copy.{whyCopy}
+use Rattle.stop_walks.specs.declared.stops.Why.{Why}
+use Rattle.stop_walks.specs.stops.Why.{nothing}
+use Rattle.stop_walks.specs.stops.Copy.{whyCopy}
 use Rattle.stop_walks.specs.declared.Step.{Step}
 use Rattle.stop_walks.specs.declared.Step.the-variants.{On, Here, Below}
 

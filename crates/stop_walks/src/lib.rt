@@ -5,16 +5,17 @@ ghost use Prim.Native.Nat.{_+_, _<_, _^_};
 ghost use Rattle.walk.specs.State.{codeOf};
 ghost use Rattle.walk.specs.Copy.{copyWalk};
 ghost use Rattle.leaf_walk.specs.Join.{join};
-ghost use Rattle.stops.specs.Why.{only};
-ghost use Rattle.stops.specs.Copy.{most, whyData, whyNode, whyCopy};
+ghost use Rattle.stop_walks.specs.stops.Why.{only};
+ghost use Rattle.stop_walks.specs.stops.Copy.{most, whyData, whyNode, whyCopy};
 ghost use Rattle.stop_walks.specs.Step.{Tried, whyAfter, RowSays};
+use crate::stops::Why;
 use nested_rows::lookups;
-use stops::Why;
 use walk::plan_words;
 
 mod lists;
 pub mod nulls;
 mod runs;
+pub mod stops;
 mod strings;
 mod unions;
 
@@ -166,10 +167,10 @@ fn step_data(
 {
     let code = plan_words::code_of(state, i);
     let w = lookups::width_at(state, i);
-    if formats::is_string(code) {
+    if schema::formats::is_string(code) {
         return strings::step_string(state, places, body, counts, first, i, w, slot, n);
     }
-    if formats::is_list_view(code) {
+    if schema::formats::is_list_view(code) {
         return lists::step_list_view(
             state,
             parts,
@@ -186,10 +187,10 @@ fn step_data(
             depth,
         );
     }
-    if formats::is_list(code) {
+    if schema::formats::is_list(code) {
         return lists::step_list(state, parts, places, body, counts, first, i, w, slot, n);
     }
-    if code == node_data::SPARSE {
+    if code == nested_rows::node_data::SPARSE {
         return unions::step_sparse(
             state,
             parts,
@@ -205,7 +206,7 @@ fn step_data(
             depth,
         );
     }
-    if code == node_data::DENSE {
+    if code == nested_rows::node_data::DENSE {
         return unions::step_dense(
             state,
             parts,
@@ -221,11 +222,11 @@ fn step_data(
             depth,
         );
     }
-    if code == node_data::RUN_END {
+    if code == nested_rows::node_data::RUN_END {
         return runs::step_run(state, lengths, places, body, counts, first, i, slot, n);
     }
     let mut none = [0u8; 0];
-    let g = node_data::copy_leaf(
+    let g = nested_rows::node_data::copy_leaf(
         state,
         parts,
         places,
@@ -268,7 +269,7 @@ fn step_node(
         return Step::Here(plain(FOREIGN));
     }
     let mut none = [0u8; 0];
-    let g = node_data::copy_validity(
+    let g = nested_rows::node_data::copy_validity(
         state,
         parts,
         places,

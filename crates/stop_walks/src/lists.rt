@@ -6,13 +6,13 @@ ghost use lib.ListN.{length};
 ghost use Rattle.walk.specs.State.{place};
 ghost use Rattle.walk.specs.Copy.{listViewRow, copyWalk};
 ghost use Rattle.leaf_walk.specs.Join.{join};
-ghost use Rattle.stops.specs.Copy.{whyListRow, whyListView, whyList, whyCopy};
+ghost use Rattle.stop_walks.specs.stops.Copy.{whyListRow, whyListView, whyList, whyCopy};
 ghost use Rattle.stop_walks.specs.Step.{whyAfter, RowSays};
 use crate::Step;
+use crate::stops::Why;
 use array_data::lent_tables;
 use leaf_walk::variable_size;
 use nested_rows::lookups;
-use stops::Why;
 use utils::Extended;
 use walk::plan_words;
 

@@ -6,12 +6,12 @@ ghost use Prim.Native.Nat.{ℕ, suc, _+_, _<_};
 ghost use Rattle.walk.specs.State.{codeOf, bytesOf};
 ghost use Rattle.walk.specs.Nulls.{noHome, nullWalk};
 ghost use Rattle.leaf_walk.specs.Join.{join};
-ghost use Rattle.stops.specs.Why.{named};
-ghost use Rattle.stops.specs.Nulls.{walked, firstPosition, whyNullSparse, whyNullDense, whyNullEnd, whyNullRuns, whyNullData, whyNullNode, whyNulls};
+ghost use Rattle.stop_walks.specs.stops.Why.{named};
+ghost use Rattle.stop_walks.specs.stops.Nulls.{walked, firstPosition, whyNullSparse, whyNullDense, whyNullEnd, whyNullRuns, whyNullData, whyNullNode, whyNulls};
 ghost use Rattle.stop_walks.specs.Step.{Tried};
 ghost use Rattle.stop_walks.specs.nulls.Step.{whyAfter, RowSays};
+use crate::stops::Why;
 use nested_rows::lookups;
-use stops::Why;
 use walk::plan_words;
 
 // What a node says of the nulls that it was handed: nothing stops them, and the counters are those after them; what stops them; or which child
@@ -220,18 +220,18 @@ fn step_data(
     ensures { λ r. ⌜ whyNullData (join (now (state .entry)) (now (parts .entry)) [] [] [] 0 0) (nullWalk (join (now (state .entry)) (now (parts .entry)) [] [] [] 0 0) depth) (whyNulls (join (now (state .entry)) (now (parts .entry)) [] [] [] 0 0) depth) (codeOf (now (state .entry)) i) i n (now (counts .entry)) ≡ whyAfter (join (now (state .entry)) (now (parts .entry)) [] [] [] 0 0) depth r (now (counts .exit)) ⌝ }
 {
     let code = plan_words::code_of(state, i);
-    if code == node_data::SPARSE {
+    if code == nested_rows::node_data::SPARSE {
         return step_sparse(state, parts, counts, i, n, depth);
     }
-    if code == node_data::DENSE {
+    if code == nested_rows::node_data::DENSE {
         return step_dense(state, counts, i, n);
     }
-    if code == node_data::RUN_END {
+    if code == nested_rows::node_data::RUN_END {
         return step_run(state, parts, counts, i, n, depth);
     }
     let mut none = [0u8; 0];
     let m = transform::at_most_far(n);
-    let g = node_data::null_leaf(state, parts, counts, &mut none, false, i, m);
+    let g = nested_rows::node_data::null_leaf(state, parts, counts, &mut none, false, i, m);
     NullStep::Here(crate::plain(g))
 }
 

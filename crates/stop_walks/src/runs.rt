@@ -4,13 +4,13 @@ ghost use mathlib.Core.List.{List};
 ghost use Prim.Native.Nat.{ℕ, _+_, _<_, _^_};
 ghost use Rattle.walk.specs.Copy.{copyWalk};
 ghost use Rattle.leaf_walk.specs.Join.{join};
-ghost use Rattle.stops.specs.Copy.{whyRuns, whyCopy};
+ghost use Rattle.stop_walks.specs.stops.Copy.{whyRuns, whyCopy};
 ghost use Rattle.stop_walks.specs.Step.{whyAfter};
 use crate::Step;
+use crate::stops::Why;
 use nested_rows::lookups;
 use run_ends::LogicalRow;
 use run_ends::Runs;
-use stops::Why;
 use walk::plan_words;
 
 const RUN_END: u8 = 7;

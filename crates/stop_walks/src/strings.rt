@@ -8,11 +8,11 @@ ghost use lib.Dec.{leb};
 ghost use Rattle.utils.specs.Extension.{extended};
 ghost use Rattle.walk.specs.Copy.{copyWalk};
 ghost use Rattle.leaf_walk.specs.Join.{join};
-ghost use Rattle.stops.specs.Copy.{whyString, whyCopy};
+ghost use Rattle.stop_walks.specs.stops.Copy.{whyString, whyCopy};
 ghost use Rattle.stop_walks.specs.Step.{whyAfter};
 use crate::Step;
+use crate::stops::Why;
 use array_data::lent_tables;
-use stops::Why;
 use utils::Extended;
 use walk::plan_words;
 

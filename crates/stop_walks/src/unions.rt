@@ -6,12 +6,12 @@ ghost use lib.ListN.{length};
 ghost use Rattle.walk.specs.State.{place};
 ghost use Rattle.walk.specs.Copy.{denseRow, copyWalk};
 ghost use Rattle.leaf_walk.specs.Join.{join};
-ghost use Rattle.stops.specs.Copy.{whySparse, whyDenseRow, whyDense, whyCopy};
+ghost use Rattle.stop_walks.specs.stops.Copy.{whySparse, whyDenseRow, whyDense, whyCopy};
 ghost use Rattle.stop_walks.specs.Step.{whyAfter, RowSays};
 use crate::Step;
+use crate::stops::Why;
 use array_data::lent_tables;
 use nested_rows::lookups;
-use stops::Why;
 use walk::plan_words;
 
 const OFFSET: u8 = 6;

@@ -15,7 +15,7 @@ use Rattle.walk.specs.Leaves.{nullMask, countNulls, nullNumbers, nullString}
 use Rattle.walk.specs.Copy.{copyWalk}
 use Rattle.walk.specs.Nulls.{NullWalk, nullableChild, noHome, nullListView, nullList, nullFields, nullSparse, nullDense, addRun, growRun, nullRuns, nullData, nullNode, nullWalk}
 use Rattle.leaf_walk.specs.Join.{join}
-use Rattle.parts.specs.Parts.{partsWithin, partsHold}
+use Rattle.plan.specs.parts.Parts.{partsWithin, partsHold}
 use Rattle.sound.proofs.trying.Laws.{hold-alike}
 use Rattle.sound.proofs.trying.Near.{Near}
 use Rattle.refinement.specs.orders.Sound.{walkable}

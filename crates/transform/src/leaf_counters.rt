@@ -4,8 +4,8 @@ ghost use mathlib.Core.Bool.{cond};
 ghost use Prim.Native.Nat.{_<_};
 ghost use lib.ListN.{length, getD, set};
 ghost use Rattle.walk.specs.State.{grown, addRows, setBytes};
-ghost use Rattle.parts.specs.Parts.{partsWithin, partsHold};
-use parts::grounds;
+ghost use Rattle.plan.specs.parts.Parts.{partsWithin, partsHold};
+use plan::grounds;
 use walk::plan_words;
 
 // A counter n higher; it stays at the largest number.

@@ -28,9 +28,9 @@ fn put_null_entries(
     ensures { λ _. ⌜ ((child : NullWalk) → Did (now (plan .entry)) (now (parts .entry)) true (nullData (join (now (plan .entry)) (now (parts .entry)) [] [] [] 0 0) child (codeOf (now (plan .entry)) i) i n (now (counters .entry))) (now (room .entry)) 0 (now (counters .entry)) (now (room .exit))) ⌝ }
 {
     let code = plan_words::code_of(plan, i);
-    let w = parts::entry_size(code) as u64;
+    let w = plan::parts::entry_size(code) as u64;
     let rows = lent_tables::at_u64(counters, 3 * i);
-    if formats::is_string(code) {
+    if schema::formats::is_string(code) {
         let o = plan_words::scale(plan_words::grow(rows, 1), w);
         let last = lent_tables::at_u64(counters, 3 * i + 2);
         room_writes::put_repeated(plan, parts, room, true, i, 1, o, w, n, last);

@@ -4,7 +4,7 @@ ghost use mathlib.Core.List.{List, []};
 ghost use mathlib.Core.Bool.{true, false};
 ghost use Prim.Native.Nat.{ℕ, _+_, _*_, _-_, _<_, _≤_, _^_};
 ghost use lib.ListN.{length};
-ghost use Rattle.formats.specs.Code.{isString};
+ghost use Rattle.schema.specs.formats.Code.{isString};
 ghost use Rattle.utils.specs.Extension.{extended};
 ghost use Rattle.utils.specs.declared.Extended.the-variants.{Fits};
 ghost use Rattle.walk.specs.State.{codeOf, keepsOf, bytesOf, bytes, place, slotOf};
@@ -12,7 +12,7 @@ ghost use Rattle.walk.specs.Log.{Did};
 ghost use Rattle.walk.specs.Leaves.{copyMask, putString};
 ghost use Rattle.walk.specs.Copy.{Walk, copyData, copyWalk};
 ghost use Rattle.leaf_walk.specs.Join.{join};
-ghost use Rattle.parts.specs.Parts.{entrySize};
+ghost use Rattle.plan.specs.parts.Parts.{entrySize};
 ghost use Rattle.refinement.specs.orders.Order.{settled};
 ghost use Rattle.transform.specs.Answer.{lent, Answers};
 ghost use Rattle.transform.specs.leaf_rows.Leaf.{bitsIn};
@@ -120,7 +120,7 @@ fn put_entries(
 {
     let from = lent_tables::place(places, first + i, 3) + w * slot;
     let o = plan_words::scale(lent_tables::at_u64(counters, 3 * i), w);
-    if formats::is_view(plan_words::code_of(plan, i)) {
+    if schema::formats::is_view(plan_words::code_of(plan, i)) {
         let base = plan_words::base_of(plan, source, i);
         room_writes::put_views(
             plan,
@@ -177,7 +177,7 @@ fn copy_entries(
     requires { ⌜ bitsIn (join (now plan) [] [] (now places) (now body) first 0) i slot n ≡ true ⌝ }
     ensures { λ r. ⌜ ((sources lengths : List ℕ) (start : ℕ) → slot ≡ slotOf (join (now (plan .entry)) (now (parts .entry)) lengths (now (places .entry)) (now (body .entry)) first source) i start n → Answers (settled (lent (now (plan .entry)) (now (parts .entry)) sources lengths (now (places .entry)) (now (body .entry))) (now (counters .entry)) (now (room .entry)) (copyWalk (join (now (plan .entry)) (now (parts .entry)) lengths (now (places .entry)) (now (body .entry)) first source) 8 i start n (now (counters .entry)))) r (now (counters .exit)) (now (room .exit))) ⌝ }
 {
-    let w = parts::entry_size(plan_words::code_of(plan, i)) as u64;
+    let w = plan::parts::entry_size(plan_words::code_of(plan, i)) as u64;
     if !leaf_walk::rows_in(body, lent_tables::place(places, first + i, 3), w, slot, n) {
         return 12;
     }
@@ -372,7 +372,7 @@ pub fn copy_leaf_rows(
     if !bits_in(plan, places, body, first, 0, slot, n) {
         return 12;
     }
-    if formats::is_string(plan_words::code_of(plan, 0)) {
+    if schema::formats::is_string(plan_words::code_of(plan, 0)) {
         return copy_text(plan, parts, places, body, counters, room, first, 0, slot, n);
     }
     copy_entries(

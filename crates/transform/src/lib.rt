@@ -24,7 +24,7 @@ ghost use Rattle.refinement.specs.orders.Order.{settled, copyOrder, nullOrder};
 ghost use Rattle.transform.specs.Answer.{lent, Answers};
 ghost use Rattle.transform.specs.numbers.Plan.{oneOfNumbers};
 use array_data::lent_tables;
-use parts::grounds;
+use plan::grounds;
 use sound::trying;
 use walk::plan_words;
 
@@ -50,7 +50,7 @@ fn uncounted(plan: &[u64], counters: &[u64]) -> [u64; 96]
     ensures { λ r. ⌜ Alike r (now (counters .entry)) ⌝ }
 {
     let mut counts = load(counters);
-    trying::uncount(&mut counts, parts::node_count(plan));
+    trying::uncount(&mut counts, plan::parts::node_count(plan));
     counts
 }
 
@@ -231,7 +231,7 @@ fn copy_range(
             n,
         );
     }
-    if (n != 0) & formats::within(plan_words::code_of(plan, 0), 1, 16) {
+    if (n != 0) & schema::formats::within(plan_words::code_of(plan, 0), 1, 16) {
         return leaf_rows::copy_leaf_rows(
             plan,
             parts,
@@ -356,7 +356,7 @@ fn add_null_range(
     if (n != 0) & plain {
         return number_nulls::add_number_nulls(plan, parts, counters, room, n);
     }
-    if (n != 0) & formats::within(plan_words::code_of(plan, 0), 1, 16) {
+    if (n != 0) & schema::formats::within(plan_words::code_of(plan, 0), 1, 16) {
         return leaf_nulls::add_leaf_nulls(plan, parts, counters, room, n);
     }
     add_nulls(plan, parts, counters, room, n)

@@ -4,12 +4,12 @@ ghost use mathlib.Core.List.{List, []};
 ghost use mathlib.Core.Bool.{true};
 ghost use Prim.Native.Nat.{ℕ, _+_, _*_, _≤_};
 ghost use lib.ListN.{length};
-ghost use Rattle.formats.specs.Code.{isFixed};
+ghost use Rattle.schema.specs.formats.Code.{isFixed};
 ghost use Rattle.walk.specs.State.{codeOf, rows};
 ghost use Rattle.walk.specs.Log.{Did, startOf};
 ghost use Rattle.walk.specs.Nulls.{NullWalk, nullData, nullWalk};
 ghost use Rattle.leaf_walk.specs.Join.{join};
-ghost use Rattle.parts.specs.Parts.{entrySize};
+ghost use Rattle.plan.specs.parts.Parts.{entrySize};
 ghost use Rattle.refinement.specs.orders.Order.{settled};
 ghost use Rattle.transform.specs.Answer.{lent, Answers};
 ghost use Rattle.transform.specs.numbers.Plan.{oneOfNumbers};
@@ -26,7 +26,7 @@ fn put_zeros(plan: &[u64], parts: &[u64], counters: &[u64], room: &mut [u8], w: 
 {
     let start = lent_tables::at_u64(parts, 2 * plan_words::part_of(plan, 0));
     let o = plan_words::scale(lent_tables::at_u64(counters, 0), w);
-    copy::fill_zeros(room, (start + o) as usize, (n * w) as usize);
+    number::copy::fill_zeros(room, (start + o) as usize, (n * w) as usize);
 }
 
 // n nulls, at least one.

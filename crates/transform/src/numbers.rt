@@ -5,14 +5,14 @@ ghost use mathlib.Core.Bool.{true, cond, _&&_};
 ghost use Prim.Native.Nat.{ℕ, _+_, _*_, _<_, _≤_, _^_};
 ghost use lib.ListN.{length, take, drop};
 ghost use lib.Dec.{ltb};
-ghost use Rattle.formats.specs.Code.{isFixed};
+ghost use Rattle.schema.specs.formats.Code.{isFixed};
 ghost use Rattle.walk.specs.State.{codeOf, dictionaryOf, rows, place, slotOf};
 ghost use Rattle.walk.specs.Log.{Did, put, applyIf, startOf};
 ghost use Rattle.walk.specs.Leaves.{copyMask};
 ghost use Rattle.walk.specs.Copy.{Walk, copyData, copyWalk};
 ghost use Rattle.leaf_walk.specs.Join.{join};
-ghost use Rattle.parts.specs.Parts.{entrySize, inRoom, partWithin, partHolds, partsWithin, partsHold};
-ghost use Rattle.parts.specs.grounds.Verdict.{verdict};
+ghost use Rattle.plan.specs.parts.Parts.{entrySize, inRoom, partWithin, partHolds, partsWithin, partsHold};
+ghost use Rattle.plan.specs.grounds.Verdict.{verdict};
 ghost use Rattle.refinement.specs.orders.Sound.{walkable};
 ghost use Rattle.refinement.specs.orders.Order.{settled};
 ghost use Rattle.transform.specs.Answer.{lent, Answers};
@@ -30,7 +30,7 @@ use walk::plan_words;
 pub fn is_numbers(plan: &[u64]) -> bool
     ensures { λ r. ⌜ r ≡ oneOfNumbers (now (plan .entry)) ⌝ }
 {
-    if parts::node_count(plan) != 1 {
+    if plan::parts::node_count(plan) != 1 {
         return false;
     }
     if plan_words::end_of(plan, 0) != 1 {
@@ -39,7 +39,7 @@ pub fn is_numbers(plan: &[u64]) -> bool
     if plan_words::dictionary_of(plan, 0) != 0 {
         return false;
     }
-    formats::is_fixed(plan_words::code_of(plan, 0))
+    schema::formats::is_fixed(plan_words::code_of(plan, 0))
 }
 
 // The bytes of the largest body.
@@ -109,7 +109,7 @@ fn entries_ground(plan: &[u64], parts: &[u64], m: usize, w: u64, r: u64) -> u8
     requires { ⌜ (isFixed (codeOf (now plan) 0) ≡ true) × (w ≡ entrySize (codeOf (now plan) 0)) ⌝ }
     ensures { λ g. ⌜ ((counts : List ℕ) → rows counts 0 ≡ r → g ≡ verdict (partWithin (now (plan .entry)) (now (parts .entry)) m 0 1) (partHolds (now (plan .entry)) counts (now (parts .entry)) 0 1)) ⌝ }
 {
-    let p = parts::number_of(plan, 0, 1);
+    let p = plan::parts::number_of(plan, 0, 1);
     let size = lent_tables::at_u64(parts, 2 * p + 1);
     part_ground(parts, m, p, lent_tables::rows_fit(r, w as u8, size))
 }
@@ -122,7 +122,7 @@ fn bits_ground(plan: &[u64], parts: &[u64], m: usize, r: u64) -> u8
     if plan_words::keeps_of(plan, 0) == 0 {
         return 0;
     }
-    let p = parts::number_of(plan, 0, 0);
+    let p = plan::parts::number_of(plan, 0, 0);
     let size = lent_tables::at_u64(parts, 2 * p + 1);
     part_ground(parts, m, p, lent_tables::bits_fit(r, 0, size))
 }
@@ -179,7 +179,7 @@ fn put_bytes(
     ensures { λ _. ⌜ now (room .exit) ≡ applyIf (now (plan .entry)) (now (parts .entry)) true (put i 1 o (take n (drop from (now (body .entry)))) ∷ []) (now (room .entry)) ⌝ }
 {
     let start = lent_tables::at_u64(parts, 2 * plan_words::part_of(plan, i));
-    copy::copy_bytes(room, (start + o) as usize, body, from, n as usize);
+    number::copy::copy_bytes(room, (start + o) as usize, body, from, n as usize);
 }
 
 // The numbers of n slots of node i.

@@ -7,8 +7,8 @@ ghost use Rattle.walk.specs.Copy.{copyWalk};
 ghost use Rattle.leaf_walk.specs.Join.{join};
 ghost use Rattle.refinement.specs.orders.Order.{settled};
 ghost use Rattle.transform.specs.Answer.{lent, Answers};
-use batch_walk::rise;
-use parts::grounds;
+use batch::rise;
+use plan::grounds;
 
 // The order is not answered, and nothing is changed: no ground has this number.
 pub const UNTOLD: u8 = 255;
@@ -30,14 +30,14 @@ pub fn copy_stretches(
     ensures { λ r. ⌜ (r ≡ 255 → (now (counters .exit) ≡ now (counters .entry)) × (now (room .exit) ≡ now (room .entry))) ⌝ }
     ensures { λ r. ⌜ ((r ≡ 255 → ⊥) → (sources : List ℕ) (source : ℕ) → Answers (settled (lent (now (plan .entry)) (now (parts .entry)) sources (now (lengths .entry)) (now (places .entry)) (now (body .entry))) (now (counters .entry)) (now (room .entry)) (copyWalk (join (now (plan .entry)) (now (parts .entry)) (now (lengths .entry)) (now (places .entry)) (now (body .entry)) first source) 8 0 start n (now (counters .entry)))) r (now (counters .exit)) (now (room .exit))) ⌝ }
 {
-    if !batch_walk::is_stretched(plan) {
+    if !batch::batch_walk::is_stretched(plan) {
         return UNTOLD;
     }
     if !rise::parts_rise(plan, parts) {
         return UNTOLD;
     }
     let mut tried = crate::load(counters);
-    let g = batch_walk::copy_by_stretches(
+    let g = batch::batch_walk::copy_by_stretches(
         plan,
         parts,
         lengths,
@@ -59,7 +59,7 @@ pub fn copy_stretches(
         return g;
     }
     let mut counts = crate::load(counters);
-    let g = batch_walk::copy_by_stretches(
+    let g = batch::batch_walk::copy_by_stretches(
         plan,
         parts,
         lengths,

@@ -15,7 +15,7 @@ use Rattle.walk.specs.Nulls.{nullWalk}
 use Rattle.walk.proofs.Laws.{done-did, need-no, need-ok, next-no, next-ok, each-none, each-stop, each-more}
 use Rattle.leaf_walk.specs.Join.{join}
 use Rattle.transform.proofs.Laws.{null-state}
-use Rattle.parts.specs.Parts.{partsWithin, partsHold}
+use Rattle.plan.specs.parts.Parts.{partsWithin, partsHold}
 use Rattle.model.specs.Book.{Call, copy, nulls}
 use Rattle.refinement.specs.orders.Sound.{planSound, walkable}
 use Rattle.refinement.specs.orders.Order.{Lent, sourceCount, ordered, copyOrder, nullOrder}

@@ -12,7 +12,7 @@ use Rattle.number.proofs.Laws.{length-splice}
 use Rattle.bits.specs.Bits.{bits, pack, packed, pad, putBits}
 use Rattle.bits.proofs.Laws.{length-bits}
 use Rattle.bits.proofs.Puts.{pad-fits}
-use Rattle.formats.specs.Code.{isFixed, isString, isView, isListView, isList}
+use Rattle.schema.specs.formats.Code.{isFixed, isString, isView, isListView, isList}
 use Rattle.utils.specs.Extension.{extended}
 use Rattle.utils.specs.declared.Extended.{Extended}
 use Rattle.utils.specs.declared.Extended.the-variants.{Fits, Over, Falls}

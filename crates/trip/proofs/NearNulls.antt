@@ -6,13 +6,13 @@ use mathlib.Core.List.{List}
 use Prim.Native.Nat.{ℕ, zero, suc, _+_, _*_, _-_, min}
 use lib.Dec.{leb, ltb, eqb}
 use Rattle.columnar.specs.Types.{half}
-use Rattle.formats.specs.Code.{isFixed, isString, isView, isListView, isList}
+use Rattle.schema.specs.formats.Code.{isFixed, isString, isView, isListView, isList}
 use Rattle.walk.specs.State.{Join, codeOf, endOf, keepsOf, bytesOf, rows, gap, far, addRows}
 use Rattle.walk.specs.Log.{Out, fail, done, need, found, next}
 use Rattle.walk.specs.Leaves.{nullMask, countNulls, nullNumbers, nullString}
 use Rattle.walk.specs.Copy.{isWidth, masked}
 use Rattle.walk.specs.Nulls.{NullWalk, nullableChild, noHome, nullListView, nullList, nullFields, nullSparse, nullDense, addRun, growRun, nullRuns, nullData, nullNode, nullWalk}
-use Rattle.parts.specs.Parts.{partsHold}
+use Rattle.plan.specs.parts.Parts.{partsHold}
 use Rattle.model.specs.Book.{Call, copy, nulls}
 use Rattle.refinement.specs.orders.Order.{Lent, joinOf, sourceCount, sourceLength}
 use Rattle.sound.specs.trying.Alike.{Alike}

@@ -8,7 +8,7 @@ use Rattle.walk.specs.State.{keepsOf, far}
 use Rattle.walk.specs.Log.{Out, Did, done, need, next, each}
 use Rattle.walk.specs.Copy.{copyWalk}
 use Rattle.walk.specs.Nulls.{nullWalk}
-use Rattle.parts.specs.Parts.{partsHold}
+use Rattle.plan.specs.parts.Parts.{partsHold}
 use Rattle.model.specs.Book.{Call, copy, nulls}
 use Rattle.refinement.specs.orders.Order.{Lent, joinOf, sourceCount, sourceLength}
 use Rattle.trip.specs.Trip.{callAt}

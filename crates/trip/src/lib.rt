@@ -6,7 +6,7 @@ ghost use mathlib.Core.Bool.{true, cond};
 ghost use Prim.Native.Nat.{_<_, _≤_, _/_};
 ghost use lib.ListN.{length};
 ghost use Rattle.walk.specs.Log.{Did};
-ghost use Rattle.parts.specs.Parts.{partsHold};
+ghost use Rattle.plan.specs.parts.Parts.{partsHold};
 ghost use Rattle.refinement.specs.orders.Sound.{walkable};
 ghost use Rattle.transform.specs.Answer.{lent};
 ghost use Rattle.trip.specs.Trip.{callsOf, tripOrder, tripMeasure};
@@ -42,7 +42,7 @@ fn held_ground(plan: &[u64], parts: &[u64], counts: &[u64; 96], within: bool) ->
     if !within {
         return NOT_LENT;
     }
-    if !parts::parts_hold(plan, counts, parts) {
+    if !plan::parts::parts_hold(plan, counts, parts) {
         return TOO_SMALL;
     }
     0
@@ -170,9 +170,9 @@ fn carry_out(
     requires { ⌜ (length (now counters) ≡ 96) × (n ≤ 256) × (n ≡ length (now orders) / 4) × (walkable (now plan) (length (now room)) ≡ true) ⌝ }
     ensures { λ r. ⌜ Ends (tripOrder (lent (now (plan .entry)) (now (parts .entry)) (now (sources .entry)) (now (lengths .entry)) (now (places .entry)) (now (body .entry))) (now (counters .entry)) (now (room .entry)) (callsOf (now (orders .entry)))) r (now (counters .exit)) (now (room .exit)) ⌝ }
 {
-    let within = parts::parts_within(plan, parts, room.len());
+    let within = plan::parts::parts_within(plan, parts, room.len());
     let mut tried = transform::load(counters);
-    trying::uncount(&mut tried, parts::node_count(plan));
+    trying::uncount(&mut tried, plan::parts::node_count(plan));
     let mut none = [0u8; 0];
     let e = walk_orders(
         plan,

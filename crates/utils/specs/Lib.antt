@@ -3,3 +3,5 @@ pub mod Pieces
 pub mod Offsets
 pub mod Extension
 pub mod TryExtendOffsets
+pub mod primitive
+pub mod byte_view

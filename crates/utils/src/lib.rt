@@ -1,5 +1,8 @@
 // The room of bits, and the extension of offsets at both widths.
 // Follows arrow-data 60.1.0 src/transform/utils.rs and the extend_nulls of src/transform/variable_size.rs, Apache-2.0; see NOTICE.
+pub mod byte_view;
+pub mod primitive;
+
 ghost use mathlib.Core.Path.{_≡_};
 ghost use Prim.Native.Nat.{_+_, _*_, _-_, _/_, _≤_, _<_, min};
 ghost use lib.ListN.{length};

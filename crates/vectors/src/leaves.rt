@@ -103,7 +103,7 @@ fn byte_strings() {
     io::write_all(1, b"K5: ");
     put_extended(utils::try_offsets_i32(&offsets, 4, 2, 10));
     utils::extend_offsets_i32(&mut room, 0, &offsets, 4, 2, 10);
-    copy::copy_bytes(&mut data, 0, b"vanstop", 3, 4);
+    number::copy::copy_bytes(&mut data, 0, b"vanstop", 3, 4);
     utils::repeat_offset_i32(&mut room, 8, 2, 14);
     io::write_all(1, b"K5, K6: ");
     put_i32s(&room, 4);
@@ -153,13 +153,13 @@ fn largest_large() {
 fn keys() {
     let body = [55u8, 250, 100, 0];
     let mut room = [0u8; 4];
-    primitive::extend_with_offset_u8(&mut room, 0, &body, 0, 2, 200);
-    primitive::extend_with_offset_u8(&mut room, 2, &body, 2, 1, 100);
+    utils::primitive::extend_with_offset_u8(&mut room, 0, &body, 0, 2, 200);
+    utils::primitive::extend_with_offset_u8(&mut room, 2, &body, 2, 1, 100);
     io::write_all(1, b"K7, K10: ");
     put_bytes(&room);
     io::write_all(1, b"K10, signed: ");
     put_i8(number::read_i8(&room, 2));
-    primitive::extend_with_offset_i8(&mut room, 2, &body, 2, 1, 100);
+    utils::primitive::extend_with_offset_i8(&mut room, 2, &body, 2, 1, 100);
     put_i8(number::read_i8(&room, 2));
     end_line();
 }
@@ -168,9 +168,9 @@ fn keys() {
 fn signed_keys() {
     let body = b"\x00\x80\xff\xff\xff\x7f\xfb\xff\xff\xff\xff\xff\xff\xff";
     let mut room = [0u8; 14];
-    primitive::extend_with_offset_i16(&mut room, 0, body, 0, 1, 65535);
-    primitive::extend_with_offset_i32(&mut room, 2, body, 2, 1, 1);
-    primitive::extend_with_offset_i64(&mut room, 6, body, 6, 1, 7);
+    utils::primitive::extend_with_offset_i16(&mut room, 0, body, 0, 1, 65535);
+    utils::primitive::extend_with_offset_i32(&mut room, 2, body, 2, 1, 1);
+    utils::primitive::extend_with_offset_i64(&mut room, 6, body, 6, 1, 7);
     io::write_all(1, b"signed keys: ");
     put_i16(number::read_i16(&room, 0));
     put_i32(number::read_i32(&room, 2));
@@ -181,11 +181,11 @@ fn signed_keys() {
 fn wide_keys() {
     let body = [255u8, 255, 1, 0, 255, 255, 255, 255];
     let mut room = [0u8; 8];
-    primitive::extend_with_offset_u16(&mut room, 0, &body, 0, 2, 2);
-    primitive::extend_with_offset_u32(&mut room, 4, &body, 4, 1, 3);
+    utils::primitive::extend_with_offset_u16(&mut room, 0, &body, 0, 2, 2);
+    utils::primitive::extend_with_offset_u32(&mut room, 4, &body, 4, 1, 3);
     io::write_all(1, b"wide keys: ");
     put_bytes(&room);
-    primitive::extend_with_offset_u64(&mut room, 0, &body, 0, 1, 1);
+    utils::primitive::extend_with_offset_u64(&mut room, 0, &body, 0, 1, 1);
     put_bytes(&room);
 }
 
@@ -193,17 +193,17 @@ fn wide_keys() {
 fn views() {
     let body = b"\x0c\x00\x00\x00abcdefghijkl\x0d\x00\x00\x00abcd\x02\x00\x00\x00\x07\x00\x00\x00";
     let mut room = [0u8; 32];
-    byte_view::extend_views(&mut room, 0, body, 0, 2, 5);
+    utils::byte_view::extend_views(&mut room, 0, body, 0, 2, 5);
     io::write_all(1, b"K15: ");
     put_bytes(&room);
-    let v = byte_view::from_bytes(body, 16);
-    let u = byte_view::reindexed(v, 4294967295);
+    let v = utils::byte_view::from_bytes(body, 16);
+    let u = utils::byte_view::reindexed(v, 4294967295);
     io::write_all(1, b"index wraps: ");
     put(wide32(u.length));
     put(wide32(u.buffer_index));
     put(wide32(u.offset));
     end_line();
-    byte_view::write_view(&mut room, 0, u);
+    utils::byte_view::write_view(&mut room, 0, u);
     put_bytes(&room);
 }
 
@@ -222,10 +222,10 @@ fn signed() {
 
 fn nulls() {
     let mut room = [7u8; 12];
-    copy::fill_zeros(&mut room, 2, 8);
+    number::copy::fill_zeros(&mut room, 2, 8);
     io::write_all(1, b"nulls: ");
     put_bytes(&room);
-    copy::fill_bytes(&mut room, 0, 3, 9);
+    number::copy::fill_bytes(&mut room, 0, 3, 9);
     utils::count_up_i32(&mut room, 4, 2, 4294967295);
     io::write_all(1, b"filled, counted: ");
     put_bytes(&room);
@@ -263,7 +263,7 @@ fn long() {
         s[i] = (i % 250) as u8;
         i += 1;
     }
-    copy::copy_bytes(&mut room, 3, &s, 7, 1500);
+    number::copy::copy_bytes(&mut room, 3, &s, 7, 1500);
     io::write_all(1, b"long: ");
     put(agreeing(&room, &s));
     put(wide(room[2]));

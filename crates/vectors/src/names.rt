@@ -1,6 +1,6 @@
 // Vectors of format strings: each line has a text, its code, the bytes of an entry, the ids of a union or `bad`, and the array of ids.
-use formats::union_ids;
-use formats::union_ids::Ids;
+use schema::union_ids;
+use schema::union_ids::Ids;
 
 fn wide(x: u8) -> u64 {
     x as u64
@@ -36,10 +36,10 @@ fn put_ids(s: &[u8], at: usize, len: usize) {
 }
 
 fn put_code(s: &[u8], at: usize, len: usize) {
-    let code = formats::format_code(s, at, len);
+    let code = schema::formats::format_code(s, at, len);
     put(wide(code));
-    put(wide(formats::width_of(code)));
-    if formats::is_union(code) {
+    put(wide(schema::formats::width_of(code)));
+    if schema::formats::is_union(code) {
         put_ids(s, at, len);
     }
     io::write_all(1, b"\n");

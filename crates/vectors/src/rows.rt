@@ -1,12 +1,12 @@
 // Vectors of rows: leaves at each format, first of a column with an offset, NaNs and zeros by their bits, views, and runs (K1).
 ghost use Prim.Native.Nat.{_+_, _≤_};
 ghost use lib.ListN.{length};
-use leaf_row::Leaf;
-use leaf_row::run;
-use leaf_row::run::ColumnRow;
-use leaf_row::run::RowRun;
-use leaf_row::view;
-use leaf_row::view::Place;
+use slot_reader::leaf_row::Leaf;
+use slot_reader::run;
+use slot_reader::run::ColumnRow;
+use slot_reader::run::RowRun;
+use slot_reader::view;
+use slot_reader::view::Place;
 
 fn word(s: &[u8]) {
     io::write_all(1, s);
@@ -80,10 +80,10 @@ fn narrow(body: &[u8], at: usize)
     requires { ⌜ (at ≤ 1) × (16 ≤ length (now body)) ⌝ }
 {
     word(b"c C s S:");
-    put_leaf(leaf_row::read_leaf(body, at, 1));
-    put_leaf(leaf_row::read_leaf(body, at, 2));
-    put_leaf(leaf_row::read_leaf(body, 2 * at, 3));
-    put_leaf(leaf_row::read_leaf(body, 2 * at, 4));
+    put_leaf(slot_reader::leaf_row::read_leaf(body, at, 1));
+    put_leaf(slot_reader::leaf_row::read_leaf(body, at, 2));
+    put_leaf(slot_reader::leaf_row::read_leaf(body, 2 * at, 3));
+    put_leaf(slot_reader::leaf_row::read_leaf(body, 2 * at, 4));
     line();
 }
 
@@ -92,9 +92,9 @@ fn middle(body: &[u8], at: usize)
     requires { ⌜ (at ≤ 1) × (16 ≤ length (now body)) ⌝ }
 {
     word(b"i I f:");
-    put_leaf(leaf_row::read_leaf(body, 4 * at, 5));
-    put_leaf(leaf_row::read_leaf(body, 4 * at, 6));
-    put_leaf(leaf_row::read_leaf(body, 4 * at, 9));
+    put_leaf(slot_reader::leaf_row::read_leaf(body, 4 * at, 5));
+    put_leaf(slot_reader::leaf_row::read_leaf(body, 4 * at, 6));
+    put_leaf(slot_reader::leaf_row::read_leaf(body, 4 * at, 9));
     line();
 }
 
@@ -103,9 +103,9 @@ fn wide(body: &[u8], at: usize)
     requires { ⌜ (at ≤ 1) × (16 ≤ length (now body)) ⌝ }
 {
     word(b"l L g:");
-    put_leaf(leaf_row::read_leaf(body, 8 * at, 7));
-    put_leaf(leaf_row::read_leaf(body, 8 * at, 8));
-    put_leaf(leaf_row::read_leaf(body, 8 * at, 10));
+    put_leaf(slot_reader::leaf_row::read_leaf(body, 8 * at, 7));
+    put_leaf(slot_reader::leaf_row::read_leaf(body, 8 * at, 8));
+    put_leaf(slot_reader::leaf_row::read_leaf(body, 8 * at, 10));
     line();
 }
 
@@ -138,7 +138,7 @@ fn formats() {
 }
 
 fn put_same(a: Leaf, b: Leaf) {
-    if leaf_row::same_leaf(a, b) {
+    if slot_reader::leaf_row::same_leaf(a, b) {
         word(b"same");
     } else {
         word(b"other");
@@ -149,8 +149,8 @@ fn put_same(a: Leaf, b: Leaf) {
 fn pair_f32(body: &[u8])
     requires { ⌜ 8 ≤ length (now body) ⌝ }
 {
-    let a = leaf_row::read_leaf(body, 0, 9);
-    let b = leaf_row::read_leaf(body, 4, 9);
+    let a = slot_reader::leaf_row::read_leaf(body, 0, 9);
+    let b = slot_reader::leaf_row::read_leaf(body, 4, 9);
     put_leaf(a);
     put_leaf(b);
     put_same(a, b);
@@ -162,8 +162,8 @@ fn pair_f32(body: &[u8])
 fn pair_f64(body: &[u8])
     requires { ⌜ 16 ≤ length (now body) ⌝ }
 {
-    let a = leaf_row::read_leaf(body, 0, 10);
-    let b = leaf_row::read_leaf(body, 8, 10);
+    let a = slot_reader::leaf_row::read_leaf(body, 0, 10);
+    let b = slot_reader::leaf_row::read_leaf(body, 8, 10);
     put_leaf(a);
     put_leaf(b);
     put_same(a, b);

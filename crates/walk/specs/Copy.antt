@@ -7,7 +7,7 @@ use lib.ListN.{length, take, drop, getD}
 use lib.Dec.{leb, ltb, eqb}
 use Rattle.number.specs.Number.{entry, encode}
 use Rattle.columnar.specs.Types.{half}
-use Rattle.formats.specs.Code.{isFixed, isString, isView, isListView, isList}
+use Rattle.schema.specs.formats.Code.{isFixed, isString, isView, isListView, isList}
 use Rattle.utils.specs.Offsets.{movedOffsets}
 use Rattle.utils.specs.Extension.{extended}
 use Rattle.utils.specs.declared.Extended.{Extended}

@@ -10,8 +10,8 @@ use Rattle.utils.specs.Offsets.{movedOffsets, repeated}
 use Rattle.utils.specs.Extension.{extended}
 use Rattle.utils.specs.declared.Extended.{Extended}
 use Rattle.utils.specs.declared.Extended.the-variants.{Fits, Over, Falls}
-use Rattle.primitive.specs.Primitive.{rebased}
-use Rattle.byte_view.specs.View.{reviewed}
+use Rattle.utils.specs.primitive.Primitive.{rebased}
+use Rattle.utils.specs.byte_view.View.{reviewed}
 use Rattle.walk.specs.State.{Join, keepsOf, baseOf, rows, bytes, addNulls, setBytes, place, rowsIn}
 use Rattle.walk.specs.Log.{Out, put, mask, fail, done, wrote, need, next}
 

@@ -7,7 +7,7 @@ use lib.ListN.{length, replicate}
 use lib.Dec.{leb, ltb, eqb}
 use Rattle.number.specs.Number.{encode}
 use Rattle.columnar.specs.Types.{half}
-use Rattle.formats.specs.Code.{isFixed, isString, isView, isListView, isList}
+use Rattle.schema.specs.formats.Code.{isFixed, isString, isView, isListView, isList}
 use Rattle.utils.specs.Offsets.{countedUp, repeated}
 use Rattle.walk.specs.State.{Join, codeOf, endOf, idOf, nullableOf, bytesOf, rows, gap, addRows, beginGap}
 use Rattle.walk.specs.Log.{Out, put, amend, fail, done, wrote, need, found, next}

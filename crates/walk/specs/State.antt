@@ -4,7 +4,7 @@ use mathlib.Core.List.{List}
 use Prim.Native.Nat.{ℕ, _+_, _*_, _%_, min}
 use lib.ListN.{length, getD, set}
 use lib.Dec.{leb, ltb, eqb}
-use Rattle.formats.specs.Code.{widthOf}
+use Rattle.schema.specs.formats.Code.{widthOf}
 
 -- ---- the state: 8 words a node for 32 nodes (crate `array_data::node_words`), 3 counters a node, and a base for each of 16 sources and 32 nodes
 

@@ -12,9 +12,9 @@ use borrow.Author.Tests.{le-leb, ltb-true, ne-eqb}
 use Rattle.columnar.specs.Types.{Number, width}
 use Rattle.columnar.specs.Formed.{Ids, RunWidth}
 use Rattle.columnar.proofs.Test.{every-out}
-use Rattle.formats.specs.Code.{isInteger, isFixed, isString, isView, isListView, isList, isRunEnd, widthOf}
-use Rattle.formats.specs.Types.{numberOf}
-use Rattle.formats.proofs.Types.{number-width, fixed-number}
+use Rattle.schema.specs.formats.Code.{isInteger, isFixed, isString, isView, isListView, isList, isRunEnd, widthOf}
+use Rattle.schema.specs.formats.Types.{numberOf}
+use Rattle.schema.proofs.formats.Types.{number-width, fixed-number}
 use Rattle.schema.specs.Tree.{dictionary, below, childAt, codeOf, shape, typed}
 use Rattle.schema.proofs.Known.{typed-shape, typed-whole, within-nodes}
 use Rattle.schema.proofs.Trees.{child-inside}
@@ -30,10 +30,10 @@ use Rattle.source_rules.proofs.Node.{runs}
 use Rattle.columns.specs.Grounds.{countFits, fewBuffers, nodeFits}
 use Rattle.plan.proofs.dictionaries.Laws.{length-from, offset-from}
 use Rattle.walk.specs.Log.{Did}
-use Rattle.target_rules.specs.Target.{Target}
-use Rattle.target_rules.proofs.Codes.{range, Near, the-same, texts, lists, listings, integers, near, string-kept, list-kept, plain-list-kept, run-kept}
-use Rattle.target_rules.proofs.Inverse.{ReadsAs, reads-at}
-use Rattle.target_rules.proofs.Rules.{target-is}
+use Rattle.width_walks.specs.target_rules.Target.{Target}
+use Rattle.width_walks.proofs.target_rules.Codes.{range, Near, the-same, texts, lists, listings, integers, near, string-kept, list-kept, plain-list-kept, run-kept}
+use Rattle.width_walks.proofs.target_rules.Inverse.{ReadsAs, reads-at}
+use Rattle.width_walks.proofs.target_rules.Rules.{target-is}
 use Rattle.width_walks.specs.Nodes.{ownAs, settleAs}
 use Rattle.width_walks.proofs.Lent.{typed-here, low-here, rule-here, fits-at}
 use Rattle.width_walks.proofs.Placed.{BelowAs, below-of}

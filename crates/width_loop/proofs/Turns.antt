@@ -8,7 +8,7 @@ use native.Mathlib.Numerals.{add-one}
 use native.Mathlib.Omega.{arith}
 use lib.ListN.{set, replicate}
 use Rattle.columnar.specs.Array.{ok}
-use Rattle.formats.specs.Code.{isRunEnd}
+use Rattle.schema.specs.formats.Code.{isRunEnd}
 use Rattle.schema.specs.Tree.{codeOf}
 use Rattle.array_data.specs.Tables.{Tables, lengthOf, offsetOf, validOf}
 use Rattle.array_data.specs.Typed.{fixedNode, Tree}
@@ -17,7 +17,7 @@ use Rattle.array_data.specs.type_tree.Lent.{kindAt, treeOf}
 use Rattle.walk.specs.State.{addRows}
 use Rattle.walk.specs.Log.{Did, next}
 use Rattle.walk.proofs.Laws.{Rest, done-did, next-no, next-ok}
-use Rattle.target_rules.specs.Target.{endsAt}
+use Rattle.width_walks.specs.target_rules.Target.{endsAt}
 use Rattle.width_walks.specs.Convert.{bitsWalk}
 use Rattle.width_walks.specs.Nodes.{fromIn, manyIn, range, ownAs, settleAs, settle, ownWalk, turn, nodesWalk, treeWalk}
 use Rattle.width_walks.proofs.Ranges.{settle-is}

@@ -10,7 +10,7 @@ use Rattle.array_data.specs.type_tree.Lent.{treeOf}
 use Rattle.source_rules.specs.kinds.Rows.{tablesOf}
 use Rattle.columns.specs.Grounds.{columnGround}
 use Rattle.walk.specs.Log.{Out}
-use Rattle.target_rules.specs.Target.{isTarget}
+use Rattle.width_walks.specs.target_rules.Target.{isTarget}
 use Rattle.width_walks.specs.Nodes.{ownAs, settleAs}
 
 -- the column is accepted with some data buffers of views, which the walk does not read

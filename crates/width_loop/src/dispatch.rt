@@ -3,7 +3,7 @@ ghost use mathlib.Core.Path.{_≡_};
 ghost use mathlib.Core.Bool.{false};
 ghost use mathlib.Core.List.{List};
 ghost use Prim.Native.Nat.{ℕ};
-ghost use Rattle.formats.specs.Code.{isFixed, isString, isView};
+ghost use Rattle.schema.specs.formats.Code.{isFixed, isString, isView};
 ghost use Rattle.schema.specs.Tree.{codeOf};
 ghost use Rattle.walk.specs.Log.{Did};
 ghost use Rattle.width_loop.specs.Here.{Here, ownHere, settledHere};
@@ -37,7 +37,7 @@ fn nested_node(
     ensures { λ g. ⌜ ((buffers : List ℕ) → g ≡ 0 → now (ranges .exit) ≡ settledHere (now (formats .entry)) (now (schema .entry)) (now (lengths .entry)) (now (places .entry)) buffers (now (body .entry)) (now (plan .entry)) first count target i s n (now (ranges .entry))) ⌝ }
 {
     let code = schema::code_of(formats, schema, first as usize, i);
-    if formats::is_run_end(code) {
+    if schema::formats::is_run_end(code) {
         return nodes::run_node(
             formats,
             schema,
@@ -57,7 +57,7 @@ fn nested_node(
             n,
         );
     }
-    if formats::is_union(code) {
+    if schema::formats::is_union(code) {
         nodes::union_node(
             formats,
             schema,
@@ -77,7 +77,7 @@ fn nested_node(
         );
         return 0;
     }
-    if formats::is_list(code) {
+    if schema::formats::is_list(code) {
         return nodes::list_node(
             formats,
             schema,
@@ -140,7 +140,7 @@ pub fn walk_data(
     ensures { λ g. ⌜ ((buffers : List ℕ) → g ≡ 0 → now (ranges .exit) ≡ settledHere (now (formats .entry)) (now (schema .entry)) (now (lengths .entry)) (now (places .entry)) buffers (now (body .entry)) (now (plan .entry)) first count target i s n (now (ranges .entry))) ⌝ }
 {
     let code = schema::code_of(formats, schema, first as usize, i);
-    if formats::is_fixed(code) {
+    if schema::formats::is_fixed(code) {
         return nodes::number_node(
             formats,
             schema,
@@ -159,7 +159,7 @@ pub fn walk_data(
             n,
         );
     }
-    if formats::is_string(code) {
+    if schema::formats::is_string(code) {
         return nodes::string_node(
             formats,
             schema,
@@ -178,7 +178,7 @@ pub fn walk_data(
             n,
         );
     }
-    if formats::is_view(code) {
+    if schema::formats::is_view(code) {
         let at = entries::place_at(places, first, i, 3);
         leaves::put_slots(plan, parts, body, room, write, i, 1, at, 16, s, n);
         return 0;

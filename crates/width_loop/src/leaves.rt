@@ -126,7 +126,7 @@ pub fn put_offsets(
         return 0;
     }
     let from = at + w * s;
-    width_writes::put_less(
+    width_walks::width_writes::put_less(
         plan,
         parts,
         room,
@@ -195,7 +195,7 @@ pub fn put_pairs(
     if !all_fit(body, sizes as usize, w, w2, n as usize) {
         return 6;
     }
-    width_writes::put_recoded(
+    width_walks::width_writes::put_recoded(
         plan,
         parts,
         room,
@@ -208,7 +208,7 @@ pub fn put_pairs(
         w,
         n,
     );
-    width_writes::put_recoded(
+    width_walks::width_writes::put_recoded(
         plan,
         parts,
         room,
@@ -247,7 +247,7 @@ pub fn put_keys(
     let at = entries::place_at(places, first, i, 3);
     let from = at + w * s;
     if entries::place_at(places, first, i, 0) == 0 {
-        width_writes::put_recoded(
+        width_walks::width_writes::put_recoded(
             plan,
             parts,
             room,
@@ -263,7 +263,7 @@ pub fn put_keys(
         return;
     }
     let valid = entries::place_at(places, first, i, 1);
-    width_writes::put_valid(
+    width_walks::width_writes::put_valid(
         plan,
         parts,
         room,

@@ -18,7 +18,7 @@ ghost use Rattle.array_data.specs.type_tree.Lent.{treeOf};
 ghost use Rattle.source_rules.specs.kinds.Rows.{tablesOf};
 ghost use Rattle.columns.specs.Grounds.{columnGround};
 ghost use Rattle.walk.specs.Log.{Did};
-ghost use Rattle.target_rules.specs.Target.{isTarget};
+ghost use Rattle.width_walks.specs.target_rules.Target.{isTarget};
 ghost use Rattle.width_walks.specs.Nodes.{fromIn, manyIn, turn, settle, treeWalk};
 ghost use Rattle.width_loop.specs.Here.{Accepted};
 use array_data::entries;
@@ -47,7 +47,7 @@ fn walk_node(
     ensures { λ g. ⌜ ((buffers : List ℕ) → Did (now (plan .entry)) (now (parts .entry)) write (turn (treeOf (now (formats .entry)) (now (schema .entry)) first count) (treeOf (now (formats .entry)) (now (schema .entry)) target count) (column (now (lengths .entry)) (now (places .entry)) buffers (now (body .entry)) first) (now (plan .entry)) i (now (ranges .entry)) (now (counts .entry))) (now (room .entry)) g (now (counts .exit)) (now (room .exit))) ⌝ }
     ensures { λ g. ⌜ ((buffers : List ℕ) → g ≡ 0 → now (ranges .exit) ≡ settle (treeOf (now (formats .entry)) (now (schema .entry)) first count) (treeOf (now (formats .entry)) (now (schema .entry)) target count) (column (now (lengths .entry)) (now (places .entry)) buffers (now (body .entry)) first) (now (plan .entry)) i (now (ranges .entry))) ⌝ }
 {
-    if target_rules::is_ends_at(formats, schema, first as usize, i) {
+    if width_walks::target_rules::is_ends_at(formats, schema, first as usize, i) {
         return 0;
     }
     let s = entries::offset_at(lengths, first, i) + ranges[2 * i];

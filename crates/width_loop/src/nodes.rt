@@ -4,7 +4,7 @@ ghost use mathlib.Core.Path.{_≡_};
 ghost use mathlib.Core.Bool.{true};
 ghost use mathlib.Core.List.{List};
 ghost use Prim.Native.Nat.{ℕ, _<_, _^_};
-ghost use Rattle.formats.specs.Code.{isFixed, isString, isListView, isList, isUnion, isRunEnd, widthOf};
+ghost use Rattle.schema.specs.formats.Code.{isFixed, isString, isListView, isList, isUnion, isRunEnd, widthOf};
 ghost use Rattle.schema.specs.Tree.{codeOf};
 ghost use Rattle.walk.specs.Log.{Did};
 ghost use Rattle.width_loop.specs.Here.{Here, ownHere, settledHere};
@@ -18,7 +18,7 @@ fn width_at(formats: &[u8], schema: &[u32], first: u32, i: usize) -> u64
     requires { ⌜ i < 2 ^ 32 ⌝ }
     ensures { λ r. ⌜ r ≡ widthOf (codeOf (now (formats .entry)) (now (schema .entry)) first i) ⌝ }
 {
-    formats::width_of(schema::code_of(formats, schema, first as usize, i)) as u64
+    schema::formats::width_of(schema::code_of(formats, schema, first as usize, i)) as u64
 }
 
 // Numbers and keys.
@@ -51,7 +51,7 @@ pub fn number_node(
         return 0;
     }
     let code = schema::code_of(formats, schema, target as usize, i);
-    let w2 = formats::width_of(code) as u64;
+    let w2 = schema::formats::width_of(code) as u64;
     kinds::walk_keys(
         plan,
         parts,
@@ -222,7 +222,7 @@ pub fn union_node(
 {
     let m = schema::below_of(schema, first as usize, i) as usize;
     let k = count as usize;
-    if formats::is_sparse(schema::code_of(formats, schema, first as usize, i)) {
+    if schema::formats::is_sparse(schema::code_of(formats, schema, first as usize, i)) {
         kinds::walk_sparse(
             plan,
             parts,

@@ -44,7 +44,7 @@ fn put_range(
     ensures { λ _. ⌜ (now (counts .exit) ≡ addRows (suc i) m (now (counts .entry))) × (now (ranges .exit) ≡ range (suc (suc i)) a m (now (ranges .entry))) ⌝ }
 {
     let from = ends + w * a;
-    width_writes::put_ends(
+    width_walks::width_writes::put_ends(
         plan,
         parts,
         room,

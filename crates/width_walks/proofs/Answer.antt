@@ -28,8 +28,8 @@ use Rattle.column_anew.proofs.widths.Grounds.{Ground, refused-with}
 use Rattle.anew.specs.Anew.{anew}
 use Rattle.anew.proofs.Laws.{anew-accepted}
 use Rattle.anew.proofs.Result.{Filled, anew-result}
-use Rattle.target_rules.specs.Target.{isTarget}
-use Rattle.target_rules.proofs.Rules.{target-is, target-test}
+use Rattle.width_walks.specs.target_rules.Target.{isTarget}
+use Rattle.width_walks.proofs.target_rules.Rules.{target-is, target-test}
 use Rattle.width_walks.specs.Nodes.{treeWalk}
 use Rattle.width_walks.proofs.Whole.{Given, convert-refused, convert-done, convert-fills}
 use Rattle.width_walks.proofs.Target.{keep, made, lent, no-ends}

@@ -22,8 +22,8 @@ use Rattle.column_anew.specs.widths.Fitting.{AllFit, numbers, converted}
 use Rattle.anew.specs.Anew.{orElse, ahead, roomGround}
 use Rattle.anew.proofs.Laws.{or-zero, or-first, anew-accepted, anew-ground}
 use Rattle.anew.proofs.Result.{lentFor}
-use Rattle.target_rules.specs.Target.{isTarget}
-use Rattle.target_rules.proofs.Rules.{target-is}
+use Rattle.width_walks.specs.target_rules.Target.{isTarget}
+use Rattle.width_walks.proofs.target_rules.Rules.{target-is}
 use Rattle.width_walks.specs.Call.{targetGround, planned, walked, convert}
 use Rattle.width_walks.proofs.Answer.{widths, column, some-ground, walk-ground, walk-none, after-tables, shows, same-rows, lent-again}
 

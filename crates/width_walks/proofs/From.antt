@@ -10,8 +10,8 @@ use lib.Dec.{ltb, eqb}
 use borrow.Author.Tests.{ltb-true, ltb-false}
 use Rattle.columnar.specs.Array.{nullCount}
 use Rattle.columnar.specs.Types.{Number, i8}
-use Rattle.formats.specs.Code.{isFixed, isString, isView, isListView, isList, isUnion, isRunEnd, widthOf}
-use Rattle.formats.specs.Types.{numberOf}
+use Rattle.schema.specs.formats.Code.{isFixed, isString, isView, isListView, isList, isUnion, isRunEnd, widthOf}
+use Rattle.schema.specs.formats.Types.{numberOf}
 use Rattle.schema.specs.Tree.{dictionary, codeOf, idsOf}
 use Rattle.array_data.specs.Tables.{Tables}
 use Rattle.array_data.specs.Typed.{Tree, NodeKind, fixedNode, stringNode, viewNode, listViewNode, listNode, runEndNode}
@@ -23,7 +23,7 @@ use Rattle.plan.specs.dictionaries.Sources.{arrayOf}
 use Rattle.plan.specs.Plan.{filled}
 use Rattle.plan.proofs.Words.{filled-at, filled-other}
 use Rattle.anew.specs.ResultPlan.{keepsFrom, planAnew}
-use Rattle.target_rules.specs.Target.{endsAt}
+use Rattle.width_walks.specs.target_rules.Target.{endsAt}
 use Rattle.width_walks.specs.Nodes.{isRun, endsIn, comesFrom}
 use Rattle.width_walks.specs.Call.{fromWords, keeping, planned}
 use Rattle.width_walks.proofs.Readiness.{came}

@@ -11,7 +11,7 @@ use borrow.Author.Tests.{leb-true, ltb-true}
 use Rattle.columnar.specs.Row.{seg}
 use Rattle.columnar.specs.Reading.{Source}
 use Rattle.columnar.proofs.Test.{every-out}
-use Rattle.formats.specs.Code.{isView}
+use Rattle.schema.specs.formats.Code.{isView}
 use Rattle.schema.specs.Tree.{every, ceilings, typed}
 use Rattle.schema.specs.Tree as trees
 use Rattle.schema.proofs.Known.{every-at, typed-shape}
@@ -21,7 +21,7 @@ use Rattle.array_data.specs.Typed.{Tree, viewNode, tablesFrom, columnOf, kindRu
 use Rattle.array_data.specs.type_tree.Lent.{treeOf, typeOf}
 use Rattle.array_data.proofs.type_tree.Ids.{both}
 use Rattle.array_data.proofs.lent_tables.Laws.{and-left, and-right}
-use Rattle.parts.proofs.Placed as placed
+use Rattle.plan.proofs.parts.Placed as placed
 use Rattle.plan.proofs.dictionaries.Laws.{length-from, place-from}
 use Rattle.columns.specs.Grounds.{countFits, fewBuffers, nodeFits, withinCeilings, obeys, columnGround}
 use Rattle.columns.proofs.Grounds.{Accepted, accepted, within-low, within-at, typed-at, obeys-at, sources-accepted}
@@ -32,9 +32,9 @@ use Rattle.refinement.specs.walk_is_model.Memory.{Memory}
 use Rattle.refinement.specs.log_in_room.Room.{AllBelow}
 use Rattle.column_anew.specs.widths.Widths.{Widths}
 use Rattle.anew.specs.Stood.{BuffersNamed}
-use Rattle.target_rules.specs.Target.{isTarget}
-use Rattle.target_rules.proofs.Inverse.{ReadsAs, reads-at}
-use Rattle.target_rules.proofs.Rules.{target-test}
+use Rattle.width_walks.specs.target_rules.Target.{isTarget}
+use Rattle.width_walks.proofs.target_rules.Inverse.{ReadsAs, reads-at}
+use Rattle.width_walks.proofs.target_rules.Rules.{target-test}
 use Rattle.width_walks.proofs.Target.{lent, given}
 use Rattle.width_walks.proofs.Whole.{Given}
 

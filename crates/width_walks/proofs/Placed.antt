@@ -21,8 +21,8 @@ use Rattle.array_data.proofs.type_tree.Shaped.{Shaped, of-plain, of-view, of-li
 use Rattle.array_data.proofs.type_tree.Lent.{child-same, after-leaf, second-child, means, whole-end}
 use Rattle.refinement.specs.walk_is_model.Holds.{childOf}
 use Rattle.column_anew.specs.widths.Widths.{PlainWidths, sFixed, sString, Widths, sPlain, sView, sListView, sList, sSparse, sDense, sRunEnd, sDictionary}
-use Rattle.target_rules.specs.Target.{NodeWidths, Target}
-use Rattle.target_rules.proofs.Before.{prev, prev-child}
+use Rattle.width_walks.specs.target_rules.Target.{NodeWidths, Target}
+use Rattle.width_walks.proofs.target_rules.Before.{prev, prev-child}
 use Rattle.width_walks.specs.Nodes.{isRun}
 use Rattle.width_walks.proofs.Laid.{plainNode, Both, LaidFields, no-field, a-field, Laid}
 

@@ -14,7 +14,7 @@ use Rattle.refinement.proofs.orders.Cover.{Laid}
 use Rattle.schema.specs.Tree.{ceilings, typed}
 use Rattle.array_data.specs.Typed.{Tree, Means}
 use Rattle.array_data.specs.type_tree.Lent.{treeOf, typeOf}
-use Rattle.parts.specs.Parts.{bufferCount, copied, Used}
+use Rattle.plan.specs.parts.Parts.{bufferCount, copied, Used}
 use Rattle.refinement.proofs.orders.Buffers.{fixed-one, string-two, view-one, list-two, lists-one, buffer-copied, bits-copied}
 use Rattle.anew.specs.ResultPlan.{planAnew}
 use Rattle.anew.proofs.Standing.{TypePlan}

@@ -9,7 +9,7 @@ use lib.Dec.{ltb}
 use Rattle.columnar.specs.Types.{Ty}
 use Rattle.columnar.specs.Array.{ok}
 use Rattle.columnar.specs.Reading.{Source}
-use Rattle.formats.specs.Code.{isRunEnd}
+use Rattle.schema.specs.formats.Code.{isRunEnd}
 use Rattle.schema.specs.Tree.{ceilings, typed}
 use Rattle.schema.specs.Tree as trees
 use Rattle.schema.proofs.Known.{typed-whole}
@@ -20,7 +20,7 @@ use Rattle.array_data.specs.type_tree.Lent.{kindAt, treeOf, typeOf}
 use Rattle.array_data.proofs.type_tree.Shaped.{at-run}
 use Rattle.array_data.proofs.type_tree.Lent.{some-node, whole-end}
 use Rattle.walk.specs.State.{codeOf, endOf, keepsOf, top}
-use Rattle.parts.specs.Parts.{copied}
+use Rattle.plan.specs.parts.Parts.{copied}
 use Rattle.refinement.specs.walk_is_model.Memory.{Memory}
 use Rattle.refinement.specs.walk_is_model.Holds.{flag}
 use Rattle.refinement.specs.orders.Order.{Lent}
@@ -32,9 +32,9 @@ use Rattle.anew.proofs.PlanWords.{keeps-is}
 use Rattle.anew.proofs.Parts.{copied-is, root-copied}
 use Rattle.anew.proofs.Planted.{few, planted, root-is}
 use Rattle.anew.proofs.Result.{lentFor}
-use Rattle.target_rules.specs.Target.{isTarget, Target}
-use Rattle.target_rules.proofs.Codes.{near, back, run-kept}
-use Rattle.target_rules.proofs.Rules.{target-is}
+use Rattle.width_walks.specs.target_rules.Target.{isTarget, Target}
+use Rattle.width_walks.proofs.target_rules.Codes.{near, back, run-kept}
+use Rattle.width_walks.proofs.target_rules.Rules.{target-is}
 use Rattle.width_walks.specs.Nodes.{isRun, endsIn, comesFrom}
 use Rattle.refinement.specs.log_in_room.Room.{AllBelow}
 use Rattle.width_walks.proofs.Used.{bytes-at}

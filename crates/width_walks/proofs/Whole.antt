@@ -11,7 +11,7 @@ use Rattle.array_data.specs.Tables.{Tables}
 use Rattle.array_data.specs.Typed.{Tree, bodyOf, columnOf}
 use Rattle.model.specs.Try.{Try, done, stop, then}
 use Rattle.walk.specs.Log.{Out}
-use Rattle.parts.specs.Parts.{Used}
+use Rattle.plan.specs.parts.Parts.{Used}
 use Rattle.refinement.specs.walk_is_model.Memory.{Memory, after}
 use Rattle.refinement.specs.log_in_room.Room.{AllUsed}
 use Rattle.refinement.specs.walk_is_model.Holds.{Worded}

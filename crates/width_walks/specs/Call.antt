@@ -12,7 +12,7 @@ use Rattle.plan.specs.Plan.{filled}
 use Rattle.refinement.specs.opening.Open.{Opening}
 use Rattle.anew.specs.Anew.{Asking, asking, anew}
 use Rattle.anew.specs.ResultPlan.{keepsFrom, planAnew}
-use Rattle.target_rules.specs.Target.{endsAt, isTarget}
+use Rattle.width_walks.specs.target_rules.Target.{endsAt, isTarget}
 use Rattle.width_walks.specs.Nodes.{comesFrom, treeWalk}
 
 -- where each node of a result comes from, as words: one more than the number of the column's node; 0 for run ends

@@ -3,3 +3,4 @@ pub mod Convert
 pub mod Ready
 pub mod Nodes
 pub mod Call
+pub mod target_rules

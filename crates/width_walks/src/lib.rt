@@ -1,8 +1,11 @@
 // The walk of the converter between widths: its definitions and laws, and where the nodes of its result come from.
+pub mod target_rules;
+pub mod width_writes;
+
 ghost use mathlib.Core.Path.{_≡_};
 ghost use mathlib.Core.Bool.{cond};
 ghost use Prim.Native.Nat.{suc, _<_, _≤_, _^_};
-ghost use Rattle.target_rules.specs.Target.{endsAt};
+ghost use Rattle.width_walks.specs.target_rules.Target.{endsAt};
 ghost use Rattle.width_walks.specs.Call.{fromWords};
 
 // One more than the number of node i, or 0 where it is run ends.
@@ -10,7 +13,7 @@ fn from_word(formats: &[u8], schema: &[u32], first: usize, i: usize) -> u64
     requires { ⌜ (i < 32) × (first < 2 ^ 32) ⌝ }
     ensures { λ r. ⌜ r ≡ cond (endsAt (now (formats .entry)) (now (schema .entry)) first i) 0 (suc i) ⌝ }
 {
-    if target_rules::is_ends_at(formats, schema, first, i) {
+    if crate::target_rules::is_ends_at(formats, schema, first, i) {
         return 0;
     }
     (i + 1) as u64

@@ -8,7 +8,7 @@ use lib.ListN.{length, drop, replicate}
 use lib.Dec.{T, leb}
 use lib.Ieee.Bits.{is-true}
 use borrow.Author.Tests.{lt-ltb, le-leb, leb-true}
-use Rattle.formats.specs.Code.{isView}
+use Rattle.schema.specs.formats.Code.{isView}
 use Rattle.schema.specs.Tree.{every, ceilings, typed}
 use Rattle.schema.specs.Tree as trees
 use Rattle.schema.proofs.Laws.{every-all}
@@ -19,7 +19,7 @@ use Rattle.array_data.specs.type_tree.Lent.{treeOf}
 use Rattle.array_data.proofs.type_tree.Ids.{both}
 use Rattle.plan.proofs.dictionaries.Laws.{length-from, offset-from, place-from}
 use Rattle.walk.specs.State.{codeOf}
-use Rattle.parts.specs.Parts.{nodesOf, copied}
+use Rattle.plan.specs.parts.Parts.{nodesOf, copied}
 use Rattle.refinement.specs.orders.Order.{Lent, joinOf}
 use Rattle.refinement.specs.finishing.Finish.{sources, buffersOf, copiedPlace, keptPlace, placeAt}
 use Rattle.refinement.specs.log_in_room.Room.{AllBelow}
@@ -32,9 +32,9 @@ use Rattle.columns.proofs.Itself.{one-source}
 use Rattle.anew.proofs.PlanWords.{source-is}
 use Rattle.anew.proofs.Planted.{few, nodes-is}
 use Rattle.anew.proofs.Result.{lentFor}
-use Rattle.target_rules.specs.Target.{isTarget, Target}
-use Rattle.target_rules.proofs.Codes.{near, back, view-kept}
-use Rattle.target_rules.proofs.Rules.{target-is}
+use Rattle.width_walks.specs.target_rules.Target.{isTarget, Target}
+use Rattle.width_walks.proofs.target_rules.Codes.{near, back, view-kept}
+use Rattle.width_walks.proofs.target_rules.Rules.{target-is}
 use Rattle.width_walks.specs.Call.{keeping, planned, convert}
 use Rattle.width_walks.proofs.Call.{convert-reads}
 use Rattle.widths.proofs.Theorems.{in-parts}

@@ -25,8 +25,8 @@ use Rattle.column_anew.proofs.widths.Widen.{node-fits, widen}
 use Rattle.column_anew.proofs.widths.Narrow.{node-back, narrow}
 use Rattle.anew.specs.Anew.{roomGround}
 use Rattle.anew.proofs.Result.{lentFor}
-use Rattle.target_rules.specs.Target.{isTarget}
-use Rattle.target_rules.proofs.Turned.{turned}
+use Rattle.width_walks.specs.target_rules.Target.{isTarget}
+use Rattle.width_walks.proofs.target_rules.Turned.{turned}
 use Rattle.width_walks.specs.Call.{targetGround, planned, walked, convert}
 use Rattle.width_walks.proofs.Lent.{typed-here, low-here, source-here}
 use Rattle.width_walks.proofs.Answer.{widths, shows}

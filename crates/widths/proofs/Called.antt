@@ -15,7 +15,7 @@ use Rattle.array_data.specs.type_tree.Lent.{treeOf}
 use Rattle.source_rules.specs.kinds.Rows.{tablesOf}
 use Rattle.walk.specs.Log.{Out, Did}
 use Rattle.plan.proofs.Words.{filled-at}
-use Rattle.parts.specs.Parts.{partTotal, partsPlaced, partsHold}
+use Rattle.plan.specs.parts.Parts.{partTotal, partsPlaced, partsHold}
 use Rattle.columns.specs.Grounds.{ceiling, smallBody, columnGround}
 use Rattle.with_capacities.specs.Answer.{Answers}
 use Rattle.anew.specs.Anew.{orElse, joinLengths, roomGround, ahead}
@@ -23,10 +23,10 @@ use Rattle.anew.specs.ResultPlan.{keepsFrom, Comes, planAnew}
 use Rattle.anew.proofs.Laws.{or-none, or-zero, or-first}
 use Rattle.anew.proofs.Comes.{comes}
 use Rattle.anew.proofs.PlanWords.{plan-length}
-use Rattle.result_plan.specs.Answer.{Asks}
-use Rattle.result_plan.proofs.Answered.{tried-room, made-room, before-walk, asks-refused, asks-lengths, asks-done, answers-large, answers-refused, answers-room, answers-made}
-use Rattle.target_rules.specs.Target.{endsAt, isTarget, Target}
-use Rattle.target_rules.proofs.Rules.{target-is}
+use Rattle.anew.specs.result_plan.Answer.{Asks}
+use Rattle.anew.proofs.result_plan.Answered.{tried-room, made-room, before-walk, asks-refused, asks-lengths, asks-done, answers-large, answers-refused, answers-room, answers-made}
+use Rattle.width_walks.specs.target_rules.Target.{endsAt, isTarget, Target}
+use Rattle.width_walks.proofs.target_rules.Rules.{target-is}
 use Rattle.width_walks.specs.Nodes.{treeWalk}
 use Rattle.width_walks.specs.Call.{fromWords, targetGround, planned, walked, asked, convert}
 use Rattle.width_walks.proofs.From.{plan-same}

@@ -14,7 +14,7 @@ use Rattle.array_data.specs.Typed.{tablesFrom, columnOf, sourceRule}
 use Rattle.array_data.specs.type_tree.Lent.{treeOf, typeOf}
 use Rattle.model.specs.Try.{Try, done, stop}
 use Rattle.walk.specs.State.{codeOf}
-use Rattle.parts.specs.Parts.{partTotal, partsPlaced, partsHold, copied, hasPart}
+use Rattle.plan.specs.parts.Parts.{partTotal, partsPlaced, partsHold, copied, hasPart}
 use Rattle.refinement.specs.log_in_room.Room.{AllBelow}
 use Rattle.refinement.specs.orders.Written.{OnlyUsed}
 use Rattle.refinement.specs.opening.Open.{Opening}
@@ -30,8 +30,8 @@ use Rattle.anew.proofs.Laws.{anew-keeps, anew-accepted}
 use Rattle.anew.proofs.Parts.{anew-parts, copied-is, root-copied}
 use Rattle.anew.proofs.Planted.{few}
 use Rattle.anew.proofs.Result.{lentFor, anew-writes, anew-result}
-use Rattle.target_rules.specs.Target.{isTarget, Target}
-use Rattle.target_rules.proofs.Rules.{target-is}
+use Rattle.width_walks.specs.target_rules.Target.{isTarget, Target}
+use Rattle.width_walks.proofs.target_rules.Rules.{target-is}
 use Rattle.width_walks.specs.Call.{targetGround, keeping, planned, walked, convert}
 use Rattle.width_walks.proofs.Target.{no-ends}
 use Rattle.width_walks.proofs.Lent.{typed-here, low-here}

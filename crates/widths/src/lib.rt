@@ -13,8 +13,8 @@ ghost use Rattle.walk.specs.Log.{Did};
 ghost use Rattle.anew.specs.Anew.{orElse};
 ghost use Rattle.anew.specs.ResultPlan.{keepsFrom, Comes, planAnew};
 ghost use Rattle.with_capacities.specs.Answer.{Answers};
-ghost use Rattle.result_plan.specs.Answer.{Asks};
-ghost use Rattle.target_rules.specs.Target.{isTarget};
+ghost use Rattle.anew.specs.result_plan.Answer.{Asks};
+ghost use Rattle.width_walks.specs.target_rules.Target.{isTarget};
 ghost use Rattle.width_walks.specs.Nodes.{treeWalk};
 ghost use Rattle.width_walks.specs.Call.{fromWords, targetGround, asked, convert};
 
@@ -42,7 +42,14 @@ fn ground_of(
     }
     let from = first as usize;
     let to = target as usize;
-    if !target_rules::is_target(formats, schema, from, n as usize, to, target_n as usize) {
+    if !width_walks::target_rules::is_target(
+        formats,
+        schema,
+        from,
+        n as usize,
+        to,
+        target_n as usize,
+    ) {
         return 10;
     }
     0
@@ -74,7 +81,7 @@ fn planned(
 {
     let mut state = [0u64; 872];
     let from = from_words(formats, schema, first, n);
-    result_plan::plan_anew(
+    anew::result_plan::plan_anew(
         formats,
         schema,
         target as usize,
@@ -153,7 +160,7 @@ pub fn plan_convert(
         return 14;
     }
     let made = with_capacities::copied(counts);
-    result_plan::keep_result(plan, counters, &state, &made);
+    anew::result_plan::keep_result(plan, counters, &state, &made);
     0
 }
 
@@ -195,7 +202,7 @@ fn make(
         true,
     );
     let made = with_capacities::copied(counts);
-    result_plan::keep_result(plan, counters, state, &made);
+    anew::result_plan::keep_result(plan, counters, state, &made);
     g
 }
 
@@ -257,7 +264,7 @@ pub fn convert(
         return g;
     }
     let counts = with_capacities::copied(tried);
-    let g = result_plan::room_ground(
+    let g = anew::result_plan::room_ground(
         &state,
         &counts,
         parts,

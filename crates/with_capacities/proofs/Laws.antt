@@ -15,7 +15,7 @@ use Rattle.array_data.proofs.lent_tables.Laws.{no, yes, and-left, and-right}
 use Rattle.source_rules.specs.kinds.Rows.{tablesOf}
 use Rattle.walk.specs.Log.{Out, Did, apply, applyIf}
 use Rattle.columns.specs.Grounds.{ceiling, sourcesGround}
-use Rattle.parts.specs.Parts.{partTotal, partsPlaced, partsHold}
+use Rattle.plan.specs.parts.Parts.{partTotal, partsPlaced, partsHold}
 use Rattle.sound.proofs.trying.Laws.{hold-alike}
 use Rattle.sound.proofs.trying.Near.{Near}
 use Rattle.refinement.specs.orders.Order.{sourceCount}
@@ -24,7 +24,7 @@ use Rattle.plan.proofs.Words.{sources-are}
 use Rattle.refinement.specs.opening.Open.{openWalk, settled, roomPlaced, opening}
 use Rattle.refinement.specs.opening.Ask.{asked}
 use Rattle.refinement.proofs.opening.Plannable.{plannable}
-use Rattle.open_walk.specs.Lent.{lent}
+use Rattle.with_capacities.specs.open_walk.Lent.{lent}
 use Rattle.with_capacities.specs.Answer.{Answers, Plans}
 
 -- ---- numbers one after the other

@@ -4,9 +4,9 @@ use mathlib.Core.Bool.{_&&_}
 use mathlib.Core.List.{List}
 use Prim.Native.Nat.{ℕ, suc}
 use lib.Dec.{eqb}
-use Rattle.formats.specs.Code.{isRunEnd}
+use Rattle.schema.specs.formats.Code.{isRunEnd}
 use Rattle.walk.specs.State.{word, codeOf, dictionaryOf, lengthOf}
-use Rattle.parts.specs.Parts.{nodesOf, copied, hasOffsets}
+use Rattle.plan.specs.parts.Parts.{nodesOf, copied, hasOffsets}
 use Rattle.sound.specs.trying.Alike.{Alike}
 use Rattle.sound.proofs.trying.Laws.{alike-bytes}
 use Rattle.sound.proofs.trying.Near.{Near, near-done, near-wrote, near-cond, near-need, near-next, near-each, near-copy}

@@ -1,5 +1,7 @@
 // The opening of a join on lent memory: it is tried first, on counters of its own, and made where no ground is found. A refused one changes nothing.
 // Follows `try_with_capacities` of arrow-data 60.1.0 src/transform/mod.rs, Apache-2.0; see NOTICE.
+pub mod open_walk;
+
 ghost use mathlib.Core.Path.{_≡_};
 ghost use mathlib.Core.List.{List};
 ghost use mathlib.Core.Bool.{Bool, _&&_};
@@ -9,12 +11,12 @@ ghost use lib.Dec.{eqb};
 ghost use Rattle.array_data.specs.lent_tables.Lent.{tables};
 ghost use Rattle.source_rules.specs.kinds.Rows.{tablesOf};
 ghost use Rattle.refinement.specs.orders.Order.{sourceCount};
-ghost use Rattle.parts.specs.Parts.{partTotal, partsPlaced};
+ghost use Rattle.plan.specs.parts.Parts.{partTotal, partsPlaced};
 ghost use Rattle.sound.specs.trying.Alike.{Alike};
 ghost use Rattle.plan.specs.Plan.{planned, Plannable};
 ghost use Rattle.refinement.specs.opening.Open.{openWalk, settled, opening};
 ghost use Rattle.refinement.specs.opening.Ask.{asked};
-ghost use Rattle.open_walk.specs.Lent.{lent};
+ghost use Rattle.with_capacities.specs.open_walk.Lent.{lent};
 ghost use Rattle.with_capacities.specs.Answer.{Answers, Plans};
 use sound::trying;
 
@@ -42,7 +44,7 @@ fn uncounted(state: &[u64]) -> [u64; 96]
     ensures { λ r. ⌜ Alike r (replicate 96 0) ⌝ }
 {
     let mut counts = [0u64; 96];
-    trying::uncount(&mut counts, parts::node_count(state));
+    trying::uncount(&mut counts, plan::parts::node_count(state));
     counts
 }
 
@@ -85,7 +87,7 @@ pub fn room_placed(state: &[u64], parts: &[u64], words: usize, counts: usize, m:
     if counts != 96 {
         return false;
     }
-    parts::parts_placed(parts, parts::part_total(state), m)
+    plan::parts::parts_placed(parts, plan::parts::part_total(state), m)
 }
 
 // The walk of an opening tried, the parts asked, and the walk made.
@@ -104,7 +106,7 @@ fn make(
     ensures { λ r. ⌜ ((formats schema buffers : List ℕ) (keep gaps : Bool) → now (state .entry) ≡ planned formats schema (tablesOf (now (lengths .entry)) (now (places .entry)) buffers (now (body .entry))) (now (sources .entry)) keep gaps → Answers (settled formats schema (now (sources .entry)) (tablesOf (now (lengths .entry)) (now (places .entry)) buffers (now (body .entry))) keep gaps (now (parts .entry)) (now (plan .entry)) (now (counters .entry)) (now (room .entry)) (openWalk (lent (now (state .entry)) (now (parts .entry)) (now (sources .entry)) (now (lengths .entry)) (now (places .entry)) (now (body .entry))) (replicate 96 0))) r (now (plan .exit)) (now (counters .exit)) (now (room .exit))) ⌝ }
 {
     let mut tried = uncounted(state);
-    let g = open_walk::open_walk(
+    let g = crate::open_walk::open_walk(
         state,
         parts,
         sources,
@@ -118,11 +120,11 @@ fn make(
     if g != 0 {
         return g;
     }
-    if !parts::parts_hold(state, &tried, parts) {
+    if !plan::parts::parts_hold(state, &tried, parts) {
         return 13;
     }
     let mut counts = [0u64; 96];
-    let g = open_walk::open_walk(
+    let g = crate::open_walk::open_walk(
         state,
         parts,
         sources,

@@ -179,7 +179,7 @@ pub fn join_many(jobs: &[Job], threads: usize, done: &(dyn Fn(usize) + Sync)) ->
 pub fn run_many<J: Sync, T: Send>(jobs: &[J], threads: usize, make: impl Fn(&J) -> T + Sync, done: &(dyn Fn(usize) + Sync)) -> Vec<T> {
     let threads = threads.clamp(1, jobs.len().max(1));
     // small jobs are taken some at a time
-    let some = (jobs.len() / (8 * threads)).clamp(1, 64);
+    let some = (jobs.len() / (32 * threads)).clamp(1, 64);
     let (next, made) = (AtomicUsize::new(0), AtomicUsize::new(0));
     let answers: Mutex<Vec<(usize, Vec<T>)>> = Mutex::new(vec![]);
     let work = || loop {

@@ -5,7 +5,7 @@ use mathlib.Core.List.{List}
 use Prim.Native.Nat.{ℕ, _+_, _-_, _*_, _≤_, _<_}
 use native.Mathlib.Omega.{arith}
 use borrow.Author.Needs.{needs}
-use Rattle.formats.specs.Code.{isRunEnd, widthOf}
+use Rattle.schema.specs.formats.Code.{isRunEnd, widthOf}
 use Rattle.schema.specs.Tree.{codeOf}
 use Rattle.aggregates.specs.Shape.{wholeCode, shapeOf}
 use Rattle.aggregates.proofs.find_shape.Statement.{statement}

@@ -9,7 +9,7 @@ use lib.ListN.{getD}
 use Rattle.array_data.specs.Tables.{Tables}
 use Rattle.source_rules.specs.kinds.Rows.{tablesOf}
 use Rattle.columns.specs.Grounds.{columnGround}
-use Rattle.column_pair.specs.Pair.{rangeIn}
+use Rattle.columns.specs.column_pair.Pair.{rangeIn}
 use Rattle.array_data.specs.type_tree.Lent.{typeOf}
 use Rattle.aggregates.specs.Report.{wholeType, meanBy}
 use Rattle.aggregates.proofs.Rows.{column-typed}

@@ -10,10 +10,10 @@ use Rattle.array_data.specs.Tables.{Tables}
 use Rattle.array_data.specs.Typed.{tablesFrom}
 use Rattle.source_rules.specs.kinds.Rows.{tablesOf}
 use Rattle.columns.specs.Grounds.{columnGround}
-use Rattle.column_pair.specs.Pair.{rangeIn}
-use Rattle.column_pair.proofs.Pair.{pair-none}
+use Rattle.columns.specs.column_pair.Pair.{rangeIn}
+use Rattle.columns.proofs.column_pair.Pair.{pair-none}
 use Rattle.array_data.specs.type_tree.Lent.{typeOf}
-use Rattle.sums.specs.patterns.Parts.{Sized}
+use Rattle.cell_sums.specs.patterns.Parts.{Sized}
 use Rattle.aggregates.specs.Report.{wholeType, rowOf, pairOf}
 use Rattle.cell_sums.specs.Numbers.{cellIn}
 use Rattle.aggregates.specs.Shape.{numbersOf}

@@ -7,7 +7,7 @@ use native.Mathlib.Omega.{arith}
 use borrow.Author.Needs.{needs}
 use lib.Dec.{eqb}
 use borrow.Author.Tests.{eq-eqb, ne-eqb}
-use Rattle.formats.specs.Code.{isInteger}
+use Rattle.schema.specs.formats.Code.{isInteger}
 use Rattle.schema.specs.Tree.{dictionary, codeOf}
 use Rattle.aggregates.specs.Shape.{wholeCode}
 use Rattle.aggregates.proofs.whole_code.Statement.{statement}

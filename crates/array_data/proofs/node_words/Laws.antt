@@ -12,9 +12,9 @@ use lib.Dec.{ltb, eqb}
 use borrow.Author.Tests.{lt-ltb, le-ltb, eq-eqb, ne-eqb}
 use Rattle.columnar.specs.Row.{seg}
 use Rattle.schema.specs.Tree.{field, flag, dictionary, endOf, codeOf, idsOf}
-use Rattle.formats.specs.union_ids.Ids.{idsAt, answerOf, written}
-use Rattle.formats.specs.declared.union_ids.Ids.{Ids}
-use Rattle.formats.specs.declared.union_ids.Ids.the-variants.{Count, Bad}
+use Rattle.schema.specs.union_ids.Ids.{idsAt, answerOf, written}
+use Rattle.schema.specs.declared.union_ids.Ids.{Ids}
+use Rattle.schema.specs.declared.union_ids.Ids.the-variants.{Count, Bad}
 use Rattle.array_data.specs.type_tree.Lent.{idsOr}
 use Rattle.array_data.specs.node_words.Words.{idFrom, idUnder, idBelow, childId, wordsOf, wordOf, planted}
 

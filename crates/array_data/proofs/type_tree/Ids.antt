@@ -9,8 +9,8 @@ use native.Mathlib.Omega.{arith}
 use lib.Dec.{leb, eqb}
 use borrow.Author.Tests.{leb-true, eq-eqb, ne-eqb, not-true}
 use Rattle.columnar.specs.Formed.{Ids}
-use Rattle.formats.specs.Code.{inside, isUnion, codeOf}
-use Rattle.formats.specs.union_ids.Ids.{member, distinct, small, allowed, idOf, pieces, idList, idsAt}
+use Rattle.schema.specs.formats.Code.{inside, isUnion, codeOf}
+use Rattle.schema.specs.union_ids.Ids.{member, distinct, small, allowed, idOf, pieces, idList, idsAt}
 use Rattle.array_data.specs.Typed.{fieldOf}
 use Rattle.array_data.specs.type_tree.Lent.{idsOr}
 

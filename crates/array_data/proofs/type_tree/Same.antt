@@ -8,8 +8,8 @@ use native.Mathlib.Omega.{arith}
 use lib.Dec.{eqb}
 use borrow.Author.Tests.{eqb-true, ne-eqb}
 use Rattle.columnar.specs.Types.{Plain, fixed, string}
-use Rattle.formats.specs.Code.{same, isFixed, isString, isView, isListView, isList, isUnion, isRunEnd, widthOf}
-use Rattle.formats.specs.union_ids.Ids.{sameIds}
+use Rattle.schema.specs.formats.Code.{same, isFixed, isString, isView, isListView, isList, isUnion, isRunEnd, widthOf}
+use Rattle.schema.specs.union_ids.Ids.{sameIds}
 use Rattle.schema.specs.Tree.{flag, children, dictionary, below, endFrom, endOf, childAt, depth, whole, isValues, codeOf, idsOf, ceilings, typed, sameFlag, sameFormats, sameNode, sameType}
 use Rattle.schema.proofs.Trees.{child-inside, child-is, end-up, end-after, end-inside}
 use Rattle.schema.proofs.Depth.{nested, child-before, child-depth}

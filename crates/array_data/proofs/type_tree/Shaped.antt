@@ -12,9 +12,9 @@ use borrow.Author.Tests.{leb-true, le-leb, lt-leb, eqb-true, eqb-false, ne-eqb}
 use Rattle.columnar.specs.Types.{Number, width, Plain, fixed, string}
 use Rattle.columnar.specs.Wider.{integer}
 use Rattle.columnar.specs.Formed.{OffsetWidth, four, eight, RunWidth, FormedPlain, Ids}
-use Rattle.formats.specs.Code.{between, isInteger, isFixed, isString, isView, isListView, isList, isUnion, isRunEnd, widthOf}
-use Rattle.formats.specs.Types.{numberOf}
-use Rattle.formats.proofs.Types.{number-width, fixed-number}
+use Rattle.schema.specs.formats.Code.{between, isInteger, isFixed, isString, isView, isListView, isList, isUnion, isRunEnd, widthOf}
+use Rattle.schema.specs.formats.Types.{numberOf}
+use Rattle.schema.proofs.formats.Types.{number-width, fixed-number}
 use Rattle.schema.specs.Tree.{field, children, dictionary, below, bare, childForEach, codeOf, idsOf, valuesShape, endsShape, leafShape, keysShape, listShape, unionShape, runShape, shape}
 use Rattle.array_data.specs.Typed.{NodeKind, fixedNode, stringNode, viewNode, listViewNode, listNode, sparseNode, denseNode, runEndNode, dictionaryNode}
 use Rattle.array_data.specs.type_tree.Lent.{numberOr, idsOr, numberKind, unionKind, kindOf, kindAt}

@@ -13,7 +13,7 @@ use Rattle.bits.proofs.append_aligned.Reads as reads
 use Rattle.bits.proofs.append_aligned.Lts as lts
 use Rattle.bits.proofs.put.Reads as put-reads
 use Rattle.bits.proofs.same.Reads as same-reads
-use Rattle.copy.proofs.fill_bytes.Reads as fill-bytes-reads
+use Rattle.number.proofs.copy.fill_bytes.Reads as fill-bytes-reads
 
 mul-fill-bytes : tie.Need-mul-fill-bytes
 mul-fill-bytes c = search needs

@@ -10,13 +10,13 @@ use lib.ListN.{drop, getD}
 use lib.Dec.{ltb}
 use borrow.Author.Tests.{le-ltb, ltb-true, ltb-false}
 use Rattle.number.specs.Number.{number}
-use Rattle.sums.specs.declared.patterns.Part.{Part}
-use Rattle.sums.specs.patterns.Parts.{Sized, topBit, patternIn, bitOf, keptIn, upTo, Added}
-use Rattle.sums.proofs.patterns.Laws.{four, read-lt, times-bit}
-use Rattle.sums.specs.declared.tally.Cell.{Cell}
-use Rattle.sums.specs.declared.tally.Tally.{Tally}
-use Rattle.sums.specs.tally.Cells.{valueOf, sumBy, Tallied}
-use Rattle.sums.proofs.tally.Sums.{sums-add}
+use Rattle.cell_sums.specs.declared.patterns.Part.{Part}
+use Rattle.cell_sums.specs.patterns.Parts.{Sized, topBit, patternIn, bitOf, keptIn, upTo, Added}
+use Rattle.cell_sums.proofs.patterns.Laws.{four, read-lt, times-bit}
+use Rattle.cell_sums.specs.declared.tally.Cell.{Cell}
+use Rattle.cell_sums.specs.declared.tally.Tally.{Tally}
+use Rattle.cell_sums.specs.tally.Cells.{valueOf, sumBy, Tallied}
+use Rattle.cell_sums.proofs.tally.Sums.{sums-add}
 use Rattle.cell_sums.specs.declared.cells.Cells.{Cells}
 use Rattle.cell_sums.specs.cells.Cells.{Topped, belowAt, patternAt}
 use Rattle.cell_sums.specs.blocks.Blocks.{numberCell, keptCell}

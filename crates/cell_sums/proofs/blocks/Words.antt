@@ -12,7 +12,7 @@ use lib.Bits.{bitAnd, and-shr, and-mod}
 use Rattle.bits.specs.Bits.{digits, bits, bitsAt}
 use Rattle.bits.proofs.Laws.{digit, bit-at}
 use Rattle.bits.proofs.Steps.{digits-ones}
-use Rattle.sums.specs.patterns.Parts.{bitOf}
+use Rattle.cell_sums.specs.patterns.Parts.{bitOf}
 use Rattle.cell_sums.specs.declared.cells.Cells.{Cells}
 use Rattle.cell_sums.specs.cells.Cells.{validAt}
 use Rattle.cell_sums.specs.blocks.Blocks.{asBit, validBit}

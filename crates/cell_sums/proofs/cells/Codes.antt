@@ -8,10 +8,10 @@ use lib.Dec.{leb, eqb, T}
 use borrow.Author.Tests.{leb-true}
 use Rattle.columnar.specs.Types.{Number, width, limit}
 use Rattle.columnar.specs.Wider.{integer}
-use Rattle.formats.specs.Code.{isInteger, widthOf}
-use Rattle.formats.specs.Types.{numberOf}
+use Rattle.schema.specs.formats.Code.{isInteger, widthOf}
+use Rattle.schema.specs.formats.Types.{numberOf}
 use Rattle.array_data.proofs.lent_tables.Laws.{and-left, and-right}
-use Rattle.sums.specs.patterns.Parts.{Sized}
+use Rattle.cell_sums.specs.patterns.Parts.{Sized}
 use Rattle.cell_sums.specs.cells.Cells.{Topped, numberAt}
 
 -- a fact of each of the eight

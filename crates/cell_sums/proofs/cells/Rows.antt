@@ -18,11 +18,11 @@ use Rattle.columnar.specs.Array.{item, bit, ok, sight, Mask}
 use Rattle.columnar.specs.Plain.{value}
 use Rattle.columnar.specs.Reading.{read}
 use Rattle.columnar.proofs.Items.{entry-end, item-lt}
-use Rattle.formats.specs.Code.{isInteger, widthOf}
+use Rattle.schema.specs.formats.Code.{isInteger, widthOf}
 use Rattle.array_data.specs.Tables.{Tables, part, lengthOf, offsetOf, place, validOf, firstBuffer, arrayWith}
 use Rattle.array_data.proofs.entries.Laws.{holds-in, item-at}
-use Rattle.sums.specs.declared.tally.Cell.{Cell}
-use Rattle.sums.specs.tally.Cells.{cell, wholeCell, cellOf}
+use Rattle.cell_sums.specs.declared.tally.Cell.{Cell}
+use Rattle.cell_sums.specs.tally.Cells.{cell, wholeCell, cellOf}
 use Rattle.cell_sums.specs.declared.cells.Cells.{Cells}
 use Rattle.cell_sums.specs.cells.Cells.{Held, numberAt, cellsOf, validAt, belowAt, patternCell, patternAt, cellAt}
 use Rattle.cell_sums.proofs.cells.Codes.{code-width, code-integer, code-sized, code-topped, code-wide}

@@ -27,9 +27,9 @@ use Rattle.run_ends.specs.Lookup.{Climbs, Rising, bisect, foundAt}
 use Rattle.run_ends.specs.declared.PhysicalRun.{PhysicalRun}
 use Rattle.run_ends.specs.declared.Found.the-variants as found
 use Rattle.run_ends.proofs.Laws.{bisect-first}
-use Rattle.leaf_row.specs.declared.run.RowRun.{RowRun}
-use Rattle.leaf_row.specs.declared.run.RowRun.the-variants as answer
-use Rattle.leaf_row.specs.run.Rows.{isWidth, rowRun}
+use Rattle.slot_reader.specs.declared.run.RowRun.{RowRun}
+use Rattle.slot_reader.specs.declared.run.RowRun.the-variants as answer
+use Rattle.slot_reader.specs.run.Rows.{isWidth, rowRun}
 use Rattle.cell_sums.specs.declared.stretches.Ends.{Ends}
 use Rattle.cell_sums.specs.stretches.Ends.{endsOf}
 use Rattle.cell_sums.proofs.stretches.FirstAbove.{first-above, stays, scanned}

@@ -1,7 +1,7 @@
 -- `cell_sums::sum_block` meets its contract. Assumes nothing.
 use native.Mathlib.Omega.{arith}
 use Prim.Native.Nat.{_+_, _-_}
-use Rattle.sums.proofs.tally.Sums.{alike}
+use Rattle.cell_sums.proofs.tally.Sums.{alike}
 use Rattle.cell_sums.specs.Numbers.{cellIn}
 use Rattle.cell_sums.proofs.Plain.{first-low, last-held, number-in}
 use Rattle.cell_sums.proofs.sum_block.Statement.{statement}

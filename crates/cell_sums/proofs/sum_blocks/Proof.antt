@@ -1,8 +1,8 @@
 -- `cell_sums::sum_blocks` meets its contract. Assumes nothing.
 use Prim.Native.Nat.{_+_, _-_, _≤_, _<_}
 use borrow.Author.Needs.{needs}
-use Rattle.sums.specs.patterns.Parts.{blockRows}
-use Rattle.sums.specs.tally.Cells.{Tallied}
+use Rattle.cell_sums.specs.patterns.Parts.{blockRows}
+use Rattle.cell_sums.specs.tally.Cells.{Tallied}
 use Rattle.cell_sums.specs.Numbers.{cellIn}
 use Rattle.cell_sums.proofs.Laws.{before-any, at-end, nearer, same-start, in-order, further}
 use Rattle.cell_sums.proofs.Plain.{join-room, join-on, part-ready, block-stop, block-fits, rows-low}

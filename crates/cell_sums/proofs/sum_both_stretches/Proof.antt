@@ -3,7 +3,7 @@ use mathlib.Core.Path.{sym}
 use Prim.Native.Nat.{_-_, _≤_, _<_}
 use native.Mathlib.Nat.{le-of-eq}
 use borrow.Author.Needs.{needs}
-use Rattle.sums.specs.tally.Cells.{Tallied}
+use Rattle.cell_sums.specs.tally.Cells.{Tallied}
 use Rattle.cell_sums.specs.Numbers.{cellIn, bothCells, Flat}
 use Rattle.cell_sums.specs.Steps.{untilOf, bothLeft}
 use Rattle.cell_sums.proofs.Steps.{fewer-of-both}

@@ -3,7 +3,7 @@ use mathlib.Core.Path.{sym}
 use Prim.Native.Nat.{ℕ, _+_, _-_, _≤_, _<_}
 use native.Mathlib.Omega.{arith}
 use borrow.Author.Needs.{needs}
-use Rattle.sums.specs.tally.Cells.{Tallied}
+use Rattle.cell_sums.specs.tally.Cells.{Tallied}
 use Rattle.cell_sums.specs.Numbers.{cellIn, bothCells}
 use Rattle.cell_sums.proofs.Laws.{turn-one, mask-same, room, room-of, before-any, at-end, fits-next, next-low, next-in, next-from, nearer, same-start}
 use Rattle.cell_sums.proofs.sum_cells.Statement.{statement}

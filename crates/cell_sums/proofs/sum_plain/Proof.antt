@@ -1,6 +1,6 @@
 -- `cell_sums::sum_plain` meets its contract. Assumes nothing.
 use Prim.Native.Nat.{_+_, _-_}
-use Rattle.sums.proofs.tally.Sums.{alike}
+use Rattle.cell_sums.proofs.tally.Sums.{alike}
 use Rattle.cell_sums.specs.Numbers.{cellIn, bothCells}
 use Rattle.cell_sums.proofs.Plain.{other-in}
 use Rattle.cell_sums.proofs.sum_plain.Statement.{statement}

@@ -1,6 +1,6 @@
 -- `cell_sums::sum_rows` meets its contract. Assumes nothing.
 use Prim.Native.Nat.{_+_, _-_}
-use Rattle.sums.proofs.tally.Sums.{alike}
+use Rattle.cell_sums.proofs.tally.Sums.{alike}
 use Rattle.cell_sums.specs.Numbers.{cellIn, bothCells}
 use Rattle.cell_sums.proofs.Plain.{self-in}
 use Rattle.cell_sums.proofs.sum_rows.Statement.{statement}

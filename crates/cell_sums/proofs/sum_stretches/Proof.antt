@@ -1,7 +1,7 @@
 -- `cell_sums::sum_stretches` meets its contract; the loop turns at most once for each stretch. Assumes nothing.
 use Prim.Native.Nat.{_-_, _≤_, _<_}
 use borrow.Author.Needs.{needs}
-use Rattle.sums.specs.tally.Cells.{Tallied}
+use Rattle.cell_sums.specs.tally.Cells.{Tallied}
 use Rattle.cell_sums.specs.Numbers.{cellIn}
 use Rattle.cell_sums.specs.Steps.{untilOf, stretchesOf}
 use Rattle.cell_sums.proofs.Steps.{fewer}

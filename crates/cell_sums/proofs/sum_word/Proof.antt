@@ -1,7 +1,7 @@
 -- `cell_sums::sum_word` meets its contract. Assumes nothing.
 use native.Mathlib.Omega.{arith}
 use Prim.Native.Nat.{ℕ, _+_, _<_}
-use Rattle.sums.proofs.tally.Sums.{alike}
+use Rattle.cell_sums.proofs.tally.Sums.{alike}
 use Rattle.cell_sums.specs.Numbers.{cellIn, bothCells}
 use Rattle.cell_sums.proofs.Plain.{first-low, word-held, word-in}
 use Rattle.cell_sums.proofs.sum_word.Statement.{statement}

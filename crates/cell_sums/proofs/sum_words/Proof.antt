@@ -2,8 +2,8 @@
 use native.Mathlib.Omega.{arith}
 use Prim.Native.Nat.{ℕ, _+_, _*_, _-_, _≤_, _<_}
 use borrow.Author.Needs.{needs}
-use Rattle.sums.specs.tally.Cells.{Tallied}
-use Rattle.sums.proofs.tally.Sums.{none-yet}
+use Rattle.cell_sums.specs.tally.Cells.{Tallied}
+use Rattle.cell_sums.proofs.tally.Sums.{none-yet}
 use Rattle.cell_sums.specs.Numbers.{cellIn, bothCells}
 use Rattle.cell_sums.proofs.Laws.{next-in, nearer}
 use Rattle.cell_sums.proofs.Plain.{join-room, join-word, part-ready, word-stop, word-low, first-in, all-words}

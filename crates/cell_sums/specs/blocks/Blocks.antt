@@ -3,8 +3,8 @@ use mathlib.Core.Bool.{Bool, cond}
 use mathlib.Core.List.{List}
 use Prim.Native.Nat.{ℕ}
 use lib.Dec.{eqb}
-use Rattle.sums.specs.declared.tally.Cell.{Cell}
-use Rattle.sums.specs.tally.Cells.{cell}
+use Rattle.cell_sums.specs.declared.tally.Cell.{Cell}
+use Rattle.cell_sums.specs.tally.Cells.{cell}
 use Rattle.cell_sums.specs.declared.cells.Cells.{Cells}
 use Rattle.cell_sums.specs.cells.Cells.{validAt, patternCell, patternAt}
 

@@ -8,13 +8,13 @@ use lib.ListN.{length, drop, getD}
 use lib.Dec.{ltb, eqb}
 use Rattle.number.specs.Number.{number}
 use Rattle.columnar.specs.Types.{Number, limit}
-use Rattle.formats.specs.Code.{widthOf}
-use Rattle.formats.specs.Types.{numberOf}
+use Rattle.schema.specs.formats.Code.{widthOf}
+use Rattle.schema.specs.formats.Types.{numberOf}
 use Rattle.array_data.specs.Tables.{Tables, place}
 use Rattle.array_data.specs.type_tree.Lent.{numberOr}
-use Rattle.sums.specs.patterns.Parts.{Sized}
-use Rattle.sums.specs.declared.tally.Cell.{Cell}
-use Rattle.sums.specs.tally.Cells.{cell}
+use Rattle.cell_sums.specs.patterns.Parts.{Sized}
+use Rattle.cell_sums.specs.declared.tally.Cell.{Cell}
+use Rattle.cell_sums.specs.tally.Cells.{cell}
 use Rattle.cell_sums.specs.declared.cells.Cells.{Cells}
 
 -- the largest number of w bytes, without a sign or with one

@@ -10,12 +10,12 @@ use native.Mathlib.Nat.{mul-zero, min-eq-left, min-eq-right, le-mul-of-pos-right
 use lib.Dec.{leb, ltb, eqb}
 use borrow.Author.Tests.{eq-eqb, ne-eqb, le-leb, lt-leb, leb-true, leb-false}
 use Rattle.columnar.specs.Test.{onlyIf}
-use Rattle.formats.specs.Code.{isString, isListView, widthOf}
+use Rattle.schema.specs.formats.Code.{isString, isListView, widthOf}
 use Rattle.walk.specs.State.{codeOf, rows, bytes, grown, top}
-use Rattle.parts.specs.Parts.{nodesOf, hasPart, hasOffsets, entrySize, neededBy, needed, sizeOf, partHolds}
-use Rattle.stops.specs.declared.Why.{Why}
-use Rattle.stops.specs.Why.{nothing, clash, unless}
-use Rattle.stops.specs.Parts.{rowsDue, bytesDue, whyPart, whyPartsFrom, whyParts}
+use Rattle.plan.specs.parts.Parts.{nodesOf, hasPart, hasOffsets, entrySize, neededBy, needed, sizeOf, partHolds}
+use Rattle.stop_walks.specs.declared.stops.Why.{Why}
+use Rattle.stop_walks.specs.stops.Why.{nothing, clash, unless}
+use Rattle.stop_walks.specs.stops.Parts.{rowsDue, bytesDue, whyPart, whyPartsFrom, whyParts}
 use Rattle.explain.specs.Sizes.{SmallPart}
 
 -- ---- a number that is cut before it is multiplied

@@ -33,8 +33,8 @@ use Rattle.walk.proofs.plan_words.add_rows.Reads as add-rows-reads
 use Rattle.walk.proofs.plan_words.bytes_of.Reads as bytes-of-reads
 use Rattle.walk.proofs.plan_words.code_of.Reads as code-of-reads
 use Rattle.walk.proofs.plan_words.end_of.Reads as end-of-reads
-use Rattle.node_data.proofs.null_leaf.Reads as null-leaf-reads
-use Rattle.node_data.proofs.null_validity.Reads as null-validity-reads
+use Rattle.nested_rows.proofs.node_data.null_leaf.Reads as null-leaf-reads
+use Rattle.nested_rows.proofs.node_data.null_validity.Reads as null-validity-reads
 use Rattle.nested_rows.proofs.has_ends.Reads as has-ends-reads
 use Rattle.nested_rows.proofs.longer_end.Reads as longer-end-reads
 use Rattle.nested_rows.proofs.no_home.Reads as no-home-reads

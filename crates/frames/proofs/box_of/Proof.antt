@@ -5,8 +5,8 @@ use Prim.Native.Nat.{_+_, _-_}
 use native.Mathlib.Omega.{arith}
 use Rattle.source_rules.specs.kinds.Rows.{tablesOf}
 use Rattle.array_data.proofs.lent_tables.Laws.{no, yes, and-left, and-right}
-use Rattle.column_pair.proofs.Pair.{pair-none, range-known}
-use Rattle.column_pair.specs.Pair.{rangeIn}
+use Rattle.columns.proofs.column_pair.Pair.{pair-none, range-known}
+use Rattle.columns.specs.column_pair.Pair.{rangeIn}
 use Rattle.columns.specs.Grounds.{columnGround}
 use Rattle.frames.specs.Frames.{framed}
 use Rattle.frames.specs.Box.{found, isDouble}

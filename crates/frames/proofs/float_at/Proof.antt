@@ -3,7 +3,7 @@ use mathlib.Core.Path.{sym, ap, _∙_}
 use native.Mathlib.Omega.{arith}
 use lib.Ieee.{binary64, nanBits, ofBits}
 use Rattle.columnar.specs.Array.{item}
-use Rattle.leaf_row.proofs.Laws.{not-nan}
+use Rattle.slot_reader.proofs.leaf_row.Laws.{not-nan}
 use Rattle.frames.proofs.float_at.Statement.{statement}
 use Rattle.frames.proofs.float_at.Tie as tie
 

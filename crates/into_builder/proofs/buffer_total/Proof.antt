@@ -1,6 +1,6 @@
 -- `into_builder::buffer_total` meets its contract. Assumes nothing.
 use mathlib.Core.Path.{sym, ap, _∙_}
-use Rattle.parts.specs.Parts.{nodesOf}
+use Rattle.plan.specs.parts.Parts.{nodesOf}
 use Rattle.into_builder.specs.buffers.Names.{lent, countBefore}
 use Rattle.into_builder.proofs.buffers.Names.{before-same}
 use borrow.Author.Needs.{needs}

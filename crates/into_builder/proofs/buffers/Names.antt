@@ -7,7 +7,7 @@ use native.Mathlib.Decide.{decLt}
 use native.Mathlib.Numerals.{add-one}
 use native.Mathlib.Omega.{arith}
 use lib.ListN.{length, getD}
-use Rattle.formats.specs.Code.{isView}
+use Rattle.schema.specs.formats.Code.{isView}
 use Rattle.columnar.specs.Row.{seg}
 use Rattle.walk.specs.State.{codeOf, place}
 use Rattle.array_data.specs.Sources.{firstOf}

@@ -15,7 +15,7 @@ use Rattle.plan.specs.dictionaries.Sources.{arrayOf, Countable}
 use Rattle.array_data.specs.Sources.{firstOf}
 use Rattle.walk.specs.State.{rows, grown, far}
 use Rattle.walk.specs.Log.{startOf}
-use Rattle.parts.specs.Parts.{copied, hasPart}
+use Rattle.plan.specs.parts.Parts.{copied, hasPart}
 use Rattle.array_data.specs.Tables.{lengthOf, offsetOf}
 use Rattle.refinement.specs.finishing.Finish.{zerosAt, nullsAt, keptIn, lengthAt, offsetAt}
 use Rattle.into_builder.specs.buffers.Names.{lent}

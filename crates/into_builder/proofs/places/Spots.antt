@@ -9,13 +9,13 @@ use native.Mathlib.Omega.{arith}
 use lib.ListN.{getD}
 use lib.Dec.{eqb}
 use borrow.Author.Tests.{lt-ltb, le-ltb, ne-eqb}
-use Rattle.formats.specs.Code.{isString, isListView, isView, widthOf}
+use Rattle.schema.specs.formats.Code.{isString, isListView, isView, widthOf}
 use Rattle.model.proofs.Bits.{getD-seg}
 use Rattle.walk.specs.State.{codeOf, rows, bytes, top}
 use Rattle.walk.specs.Log.{startOf}
 use Rattle.array_data.specs.Sources.{firstOf}
-use Rattle.parts.specs.Parts.{nodesOf, copied, hasPart, hasOffsets, entrySize, neededBy, needed, partsWithin, partsHold, Used}
-use Rattle.parts.proofs.Placed.{within-used, used-holds, bits-held}
+use Rattle.plan.specs.parts.Parts.{nodesOf, copied, hasPart, hasOffsets, entrySize, neededBy, needed, partsWithin, partsHold, Used}
+use Rattle.plan.proofs.parts.Placed.{within-used, used-holds, bits-held}
 use Rattle.refinement.specs.orders.Order.{Lent, sourceCount}
 use Rattle.refinement.specs.finishing.Finish.{zerosAt, nullsAt, buffersOf, validPlace, bufferStart, bufferSize, copiedPlace, keptPlace, placeAt, nullTable}
 use Rattle.into_builder.specs.buffers.Names.{lent, countAt, countBefore}

@@ -4,7 +4,7 @@ use mathlib.Core.Bool.{cond}
 use mathlib.Core.List.{List, [], _++_}
 use Prim.Native.Nat.{ℕ, _+_, min}
 use lib.ListN.{length, take}
-use Rattle.formats.specs.Code.{isView}
+use Rattle.schema.specs.formats.Code.{isView}
 use Rattle.walk.specs.State.{codeOf}
 use Rattle.refinement.specs.orders.Order.{Lent, sourceCount}
 use Rattle.refinement.specs.finishing.Finish.{buffersOf, buffersBefore, buffersFrom, buffersUpTo}

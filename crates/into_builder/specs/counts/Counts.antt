@@ -5,7 +5,7 @@ use mathlib.Core.List.{List, []}
 use Prim.Native.Nat.{ℕ, _+_, _*_, _≤_}
 use Rattle.walk.specs.State.{rows}
 use Rattle.walk.specs.Log.{startOf}
-use Rattle.parts.specs.Parts.{hasPart}
+use Rattle.plan.specs.parts.Parts.{hasPart}
 use Rattle.refinement.specs.finishing.Finish.{zerosAt, keptIn}
 use Rattle.into_builder.specs.buffers.Names.{lent}
 

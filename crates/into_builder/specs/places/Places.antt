@@ -5,7 +5,7 @@ use mathlib.Core.List.{List}
 use Prim.Native.Nat.{ℕ, _+_, _≤_, _<_}
 use Rattle.walk.specs.State.{top}
 use Rattle.walk.specs.Log.{startOf}
-use Rattle.parts.specs.Parts.{hasPart, needed}
+use Rattle.plan.specs.parts.Parts.{hasPart, needed}
 
 -- the parts of node i start at positions of 64 bits in the body, and the numbers of their bytes are such too
 pub record Placed (plan parts counts : List ℕ) (base i : ℕ) : Type 0 where

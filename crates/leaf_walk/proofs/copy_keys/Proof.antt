@@ -5,7 +5,7 @@ use Rattle.walk.specs.Leaves.{copyKeys}
 use Rattle.leaf_walk.specs.Join.{join}
 use Rattle.leaf_walk.proofs.Laws.{rows-in, entries-no, entries-yes}
 use Prim.Native.Nat.{_+_, _*_}
-use Rattle.primitive.specs.Primitive.{rebased}
+use Rattle.utils.specs.primitive.Primitive.{rebased}
 use Rattle.room_writes.proofs.Bytes.{width-in}
 use borrow.Author.Needs.{needs}
 use Rattle.leaf_walk.proofs.copy_keys.Statement.{statement}

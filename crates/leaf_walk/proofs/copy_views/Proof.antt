@@ -5,7 +5,7 @@ use Rattle.walk.specs.Leaves.{copyViews}
 use Rattle.leaf_walk.specs.Join.{join}
 use Rattle.leaf_walk.proofs.Laws.{rows-in, entries-no, entries-yes}
 use Prim.Native.Nat.{_+_, _*_}
-use Rattle.byte_view.specs.View.{reviewed}
+use Rattle.utils.specs.byte_view.View.{reviewed}
 use borrow.Author.Needs.{needs}
 use Rattle.leaf_walk.proofs.copy_views.Statement.{statement}
 use Rattle.leaf_walk.proofs.copy_views.Tie as tie

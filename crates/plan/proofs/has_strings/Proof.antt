@@ -4,7 +4,7 @@ use Prim.Native.Nat.{ℕ, suc, _+_, _*_, _%_}
 use native.Mathlib.Omega.{arith}
 use lib.ListN.{getD}
 use borrow.Author.Needs.{needs}
-use Rattle.formats.specs.Code.{isString}
+use Rattle.schema.specs.formats.Code.{isString}
 use Rattle.plan.proofs.has_strings.Statement.{statement}
 use Rattle.plan.proofs.has_strings.Tie as tie
 

@@ -2,7 +2,7 @@
 use mathlib.Core.Path.{_≡_}
 use Prim.Native.Nat.{_+_, _*_, _-_, _≤_}
 use native.Mathlib.Omega.{arith}
-use Rattle.parts.specs.Parts.{partWord}
+use Rattle.plan.specs.parts.Parts.{partWord}
 use Rattle.plan.specs.Plan.{filled, withParts}
 use Rattle.plan.proofs.Laws.{filled-none, filled-more, filled-all}
 use Rattle.plan.proofs.write_parts.Statement.{statement}

@@ -18,7 +18,7 @@ use Rattle.model.specs.Opening.{shared}
 use Rattle.model.specs.Transform.{Destination}
 use Rattle.walk.specs.State.{dictionaryOf}
 use Rattle.refinement.specs.walk_is_model.Memory.{Memory}
-use Rattle.parts.specs.Parts.{nodesOf, copied, hasPart, partHolds, partsHold}
+use Rattle.plan.specs.parts.Parts.{nodesOf, copied, hasPart, partHolds, partsHold}
 use Rattle.columns.specs.Grounds.{ceiling}
 use Rattle.refinement.specs.orders.Order.{Lent}
 use Rattle.refinement.proofs.orders.Buffers.{copied-free}

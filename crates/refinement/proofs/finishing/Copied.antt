@@ -18,7 +18,7 @@ use Rattle.refinement.specs.walk_is_model.Memory.{Memory}
 use Rattle.refinement.specs.walk_is_model.Holds.{flag, HoldsBits}
 use Rattle.refinement.specs.log_in_room.Room.{Placed, Lies, Fits}
 use Rattle.refinement.proofs.log_in_room.Packed.{lies-pack}
-use Rattle.parts.specs.Parts.{nodesOf, bufferCount, copied, validityParts, bufferParts, hasPart, needed, Used}
+use Rattle.plan.specs.parts.Parts.{nodesOf, bufferCount, copied, validityParts, bufferParts, hasPart, needed, Used}
 use Rattle.refinement.specs.orders.Order.{Lent}
 use Rattle.refinement.proofs.orders.Buffers.{bits-copied}
 use Rattle.refinement.proofs.orders.Own.{Bounded, Own}

@@ -13,7 +13,7 @@ use Rattle.columnar.specs.Array.{Array, ok, nullCount, Obeys}
 use Rattle.columnar.specs.Plain.{PlainBody, PlainRule}
 use Rattle.columnar.specs.Dictionary.{Dictionary}
 use Rattle.columnar.specs.Reading.{Column, masks, Source}
-use Rattle.formats.specs.Code.{isUnion}
+use Rattle.schema.specs.formats.Code.{isUnion}
 use Rattle.array_data.specs.Tables.{Tables, firstBuffer, secondBuffer}
 use Rattle.array_data.specs.Typed.{Tree, nodeOf, Is, Means}
 use Rattle.array_data.specs.type_tree.Lent.{unionKind}
@@ -33,7 +33,7 @@ use Rattle.refinement.proofs.walk_is_model.Frame.{field-of, worded-span
 use Rattle.refinement.specs.log_in_room.Reach.{Typed, typed, Free}
 use Rattle.refinement.proofs.log_in_room.Closure.{closed-free}
 use Rattle.refinement.proofs.log_in_room.Found.{between-both, between-wide, child-first, child-with}
-use Rattle.parts.specs.Parts.{nodesOf, copied}
+use Rattle.plan.specs.parts.Parts.{nodesOf, copied}
 use Rattle.refinement.specs.orders.Order.{Lent}
 use Rattle.refinement.specs.orders.Fits.{plainBuffers, buffersOf}
 use Rattle.refinement.proofs.orders.Buffers.{copied-free, fixed-one, needed-fixed, masks-code}

@@ -30,7 +30,7 @@ use Rattle.refinement.specs.walk_is_model.Memory.{Memory}
 use Rattle.refinement.specs.walk_is_model.Holds.{childOf, Worded, flag, Holds}
 use Rattle.refinement.specs.walk_is_model.Lent.{LentNode, LentPlain}
 use Rattle.refinement.specs.log_in_room.Room.{Placed, Lies}
-use Rattle.parts.specs.Parts.{nodesOf, partsWithin, Used}
+use Rattle.plan.specs.parts.Parts.{nodesOf, partsWithin, Used}
 use Rattle.refinement.specs.orders.Order.{Lent, joinOf, sourceCount}
 use Rattle.refinement.proofs.orders.Own.{Bounded}
 use Rattle.refinement.proofs.orders.Cover.{Laid}

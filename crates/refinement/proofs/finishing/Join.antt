@@ -23,7 +23,7 @@ use Rattle.array_data.proofs.type_tree.Lent.{means}
 use Rattle.refinement.specs.walk_is_model.Memory.{Memory}
 use Rattle.refinement.specs.plan_is_type.Taken.{columnsAs}
 use Rattle.refinement.proofs.plan_is_type.Opened.{same-child, all-alike}
-use Rattle.parts.specs.Parts as Parts
+use Rattle.plan.specs.parts.Parts as Parts
 use Rattle.columns.specs.Grounds.{ceiling}
 use Rattle.array_data.specs.Sources.{sourceCount, firstOf, nodesOf}
 use Rattle.refinement.specs.orders.Order.{After, Lent, orderedAll}

@@ -19,7 +19,7 @@ use Rattle.model.specs.Opening.{present}
 use Rattle.model.proofs.Present.{present-nulls}
 use Rattle.walk.specs.State.{place, far}
 use Rattle.refinement.specs.walk_is_model.Lent.{Part, LentValid, LentNode, LentPlain}
-use Rattle.parts.specs.Parts.{nodesOf, copied}
+use Rattle.plan.specs.parts.Parts.{nodesOf, copied}
 use Rattle.refinement.specs.orders.Order.{Lent, joinOf}
 use Rattle.refinement.specs.finishing.Finish.{keptNode, keptTables, nullsAt, keptIn, keptPlace, placeAt, nullTable}
 use Rattle.refinement.specs.finishing.Shows.{ShowsNode, ShowsPlain, CountsNode, finishedTables, Bodied}

@@ -18,7 +18,7 @@ use Rattle.model.proofs.Law.{BitsFor}
 use Rattle.model.proofs.Bits.{length-seg, getD-seg, zeros-seg}
 use Rattle.model.proofs.Node.{valid-bit}
 use Rattle.refinement.specs.walk_is_model.Holds.{flag}
-use Rattle.parts.specs.Parts.{nodesOf}
+use Rattle.plan.specs.parts.Parts.{nodesOf}
 use Rattle.refinement.specs.orders.Order.{Lent}
 use Rattle.refinement.specs.finishing.Finish.{nullsAt, lengthAt, offsetAt, placeAt, lengthTable, nullTable, placeTable}
 use Rattle.refinement.specs.finishing.Shows.{finishedTables, Bodied}

@@ -10,12 +10,12 @@ use lib.ListN.{length, getD, length-append, List·getD-append}
 use lib.Seq.{ext-getD, getD-append-add}
 use Rattle.columnar.specs.Row.{seg}
 use Rattle.columnar.specs.View.{Views}
-use Rattle.formats.specs.Code.{isView}
+use Rattle.schema.specs.formats.Code.{isView}
 use Rattle.array_data.specs.Tables.{Tables, part, dataBuffer, dataBuffers}
 use Rattle.model.proofs.Bits.{length-seg, getD-seg}
 use Rattle.model.proofs.Rows.{seg-append}
 use Rattle.walk.specs.State.{codeOf, place}
-use Rattle.parts.specs.Parts.{nodesOf, copied}
+use Rattle.plan.specs.parts.Parts.{nodesOf, copied}
 use Rattle.refinement.specs.orders.Order.{Lent, joinOf}
 use Rattle.refinement.specs.finishing.Finish.{sources, dataCount, buffersOf, buffersBefore, buffersFrom, buffersUpTo, copiedPlace, placeAt}
 use Rattle.refinement.specs.finishing.Shows.{finishedTables, Bodied}

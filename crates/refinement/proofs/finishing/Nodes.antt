@@ -12,7 +12,7 @@ use Rattle.columnar.specs.Array.{Obeys}
 use Rattle.columnar.specs.Plain.{PlainBody, PlainRule}
 use Rattle.columnar.specs.Dictionary.{Dictionary}
 use Rattle.columnar.specs.Reading.{Body, Column, Source}
-use Rattle.formats.specs.Code.{isFixed, isUnion}
+use Rattle.schema.specs.formats.Code.{isFixed, isUnion}
 use Rattle.array_data.specs.Typed.{Tree, MeansPlain, MeansEnds, Means}
 use Rattle.model.specs.Transform.{Destination}
 use Rattle.walk.specs.State.{codeOf, dictionaryOf, endOf}
@@ -22,7 +22,7 @@ use Rattle.refinement.proofs.walk_is_model.Frame.{field-of, worded-span
 use Rattle.refinement.specs.log_in_room.Reach.{typed, Free}
 use Rattle.refinement.proofs.log_in_room.Closure.{closed-free}
 use Rattle.refinement.proofs.log_in_room.Found.{between-both, between-wide}
-use Rattle.parts.specs.Parts.{nodesOf}
+use Rattle.plan.specs.parts.Parts.{nodesOf}
 use Rattle.refinement.specs.orders.Order.{Lent}
 use Rattle.refinement.proofs.orders.Cover.{within}
 use Rattle.refinement.proofs.finishing.Given.{Valued, Stands, Given, stands}

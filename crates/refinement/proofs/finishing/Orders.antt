@@ -15,7 +15,7 @@ use Rattle.model.specs.Transform.{Destination}
 use Rattle.refinement.specs.walk_is_model.Memory.{Memory}
 use Rattle.refinement.specs.walk_is_model.Holds.{childOf}
 use Rattle.refinement.specs.log_in_room.Reach.{Free}
-use Rattle.parts.specs.Parts.{Used}
+use Rattle.plan.specs.parts.Parts.{Used}
 use Rattle.refinement.specs.orders.Order.{Lent}
 use Rattle.refinement.specs.orders.Fits.{fits}
 use Rattle.refinement.proofs.orders.Own.{Bounded}

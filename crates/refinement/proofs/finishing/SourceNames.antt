@@ -17,7 +17,7 @@ use Rattle.array_data.specs.Typed.{Tree, nodeOf, Is, viewNode, Means, tablesFro
 use Rattle.array_data.specs.type_tree.Lent.{unionKind, treeOf}
 use Rattle.array_data.proofs.type_tree.Same.{same-means}
 use Rattle.array_data.proofs.lent_tables.Laws.{and-left, and-right}
-use Rattle.parts.proofs.Placed.{every-at}
+use Rattle.plan.proofs.parts.Placed.{every-at}
 use Rattle.array_data.specs.Sources.{firstOf}
 use Rattle.plan.proofs.dictionaries.Laws.{place-from}
 use Rattle.refinement.specs.walk_is_model.Holds.{childOf}

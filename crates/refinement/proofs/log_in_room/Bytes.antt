@@ -10,8 +10,8 @@ use Rattle.bits.specs.Bits.{bitsAt}
 use Rattle.bits.proofs.Laws.{Below, none, more, below-of, below-at, below-append, below-take, below-drop, below-replicate, below-bitsAt}
 use Rattle.utils.specs.Pieces.{pieces}
 use Rattle.utils.specs.Offsets.{movedOffsets, repeated, countedUp}
-use Rattle.primitive.specs.Primitive.{rebased}
-use Rattle.byte_view.specs.View.{pickBytes, reviewedOne, reviewed}
+use Rattle.utils.specs.primitive.Primitive.{rebased}
+use Rattle.utils.specs.byte_view.View.{pickBytes, reviewedOne, reviewed}
 use Rattle.run_ends.specs.Clip.{clip, clipped}
 use Rattle.refinement.specs.log_in_room.Room.{AllBelow}
 

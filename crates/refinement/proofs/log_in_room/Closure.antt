@@ -7,7 +7,7 @@ use native.Mathlib.Omega.{arith}
 use lib.Dec.{ltb, eqb}
 use borrow.Author.Tests.{ltb-true, ltb-false, eqb-true, eqb-false}
 use Rattle.columnar.specs.Types.{fixed, string, Ty, tPlain, tView, tListView, tList, tSparse, tDense, tRunEnd, tDictionary}
-use Rattle.formats.specs.Code.{isUnion}
+use Rattle.schema.specs.formats.Code.{isUnion}
 use Rattle.walk.specs.State.{codeOf, dictionaryOf, endOf}
 use Rattle.refinement.specs.walk_is_model.Holds.{Fields, Worded}
 use Rattle.refinement.proofs.walk_is_model.Frame.{worded-span}

@@ -9,7 +9,7 @@ use lib.Dec.{ltb, eqb}
 use borrow.Author.Tests.{ltb-true, eqb-true, eqb-false}
 use Rattle.bits.specs.Bits.{bitsAt}
 use Rattle.columnar.specs.Types.{half}
-use Rattle.formats.specs.Code.{isFixed, isString, isView, isListView, isList, isUnion}
+use Rattle.schema.specs.formats.Code.{isFixed, isString, isView, isListView, isList, isUnion}
 use Rattle.utils.specs.Offsets.{movedOffsets}
 use Rattle.utils.specs.Extension.{extended}
 use Rattle.utils.specs.declared.Extended.{Extended}

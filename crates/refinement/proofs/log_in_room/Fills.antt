@@ -8,7 +8,7 @@ use lib.ListN.{replicate}
 use lib.Dec.{ltb, eqb}
 use borrow.Author.Tests.{ltb-true, eqb-true, eqb-false}
 use Rattle.columnar.specs.Types.{half}
-use Rattle.formats.specs.Code.{isFixed, isString, isView, isListView, isList, isUnion}
+use Rattle.schema.specs.formats.Code.{isFixed, isString, isView, isListView, isList, isUnion}
 use Rattle.walk.specs.State.{Join, word, codeOf, endOf, idOf, keepsOf, bytesOf, rows, gap, bytes}
 use Rattle.walk.specs.Leaves.{nullMask, countNulls, nullNumbers, nullString}
 use Rattle.walk.specs.Copy.{isWidth, masked}

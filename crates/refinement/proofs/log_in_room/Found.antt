@@ -9,7 +9,7 @@ use lib.Seq.{getD-drop}
 use lib.Dec.{ltb, leb, eqb}
 use borrow.Author.Tests.{ltb-true, ltb-false, leb-true, le-leb}
 use Rattle.columnar.specs.Types.{half}
-use Rattle.formats.specs.Code.{between, widths, widthOf}
+use Rattle.schema.specs.formats.Code.{between, widths, widthOf}
 use Rattle.walk.specs.State.{endOf, idOf, nullableOf}
 use Rattle.walk.specs.Copy.{childWith}
 use Rattle.walk.specs.Nulls.{nullableChild}

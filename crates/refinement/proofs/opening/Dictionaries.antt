@@ -9,7 +9,7 @@ use borrow.Author.Tests.{eq-eqb}
 use Rattle.columnar.specs.Types.{fixed, string, Ty, tPlain, tView, tListView, tList, tSparse, tDense, tRunEnd, tDictionary}
 use Rattle.columnar.specs.Formed.{Ids, Formed}
 use Rattle.columnar.specs.Reading.{Body, Column, Source}
-use Rattle.formats.specs.Code.{isUnion}
+use Rattle.schema.specs.formats.Code.{isUnion}
 use Rattle.model.specs.Try.{Try, done}
 use Rattle.model.specs.Opening.{keeps}
 use Rattle.model.specs.Transform.{openAll, openData}

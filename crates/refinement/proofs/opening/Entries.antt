@@ -36,7 +36,7 @@ use Rattle.refinement.proofs.walk_is_model.Frame.{Kept, kept-refl, kept
 use Rattle.refinement.proofs.walk_is_model.Parts.{part-length, width-above}
 use Rattle.refinement.proofs.walk_is_model.Types.{Opened, copies}
 use Rattle.refinement.proofs.walk_is_model.UnionFields.{goes-known, goes-wrap, agrees-value}
-use Rattle.parts.specs.Parts.{copied}
+use Rattle.plan.specs.parts.Parts.{copied}
 use Rattle.refinement.specs.orders.Order.{Lent, joinOf, sourceCount}
 use Rattle.refinement.specs.opening.Open.{joinSource, joinEntries, entriesHold, keyHolds, keysHold, openDictionary}
 use Rattle.refinement.specs.opening.Entries.{ValuesLent}

@@ -28,8 +28,8 @@ use Rattle.refinement.specs.walk_is_model.Holds.{childOf, Worded, Holds}
 use Rattle.refinement.proofs.walk_is_model.Frame.{field-of}
 use Rattle.refinement.specs.log_in_room.Reach.{Free}
 use Rattle.refinement.proofs.log_in_room.Found.{between-both}
-use Rattle.parts.specs.Parts.{nodesOf, copied, hasPart, needed, sizeOf, partHolds, partsHold, Used}
-use Rattle.parts.proofs.Placed.{used-holds}
+use Rattle.plan.specs.parts.Parts.{nodesOf, copied, hasPart, needed, sizeOf, partHolds, partsHold, Used}
+use Rattle.plan.proofs.parts.Placed.{used-holds}
 use Rattle.plan.specs.Plan.{flag}
 use Rattle.refinement.specs.orders.Order.{Lent}
 use Rattle.refinement.specs.orders.Fits.{plainBuffers, fitsBits, fitsAll, fits}

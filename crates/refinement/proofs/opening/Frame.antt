@@ -9,7 +9,7 @@ use lib.Dec.{eqb}
 use borrow.Author.Tests.{eqb-true, eqb-false}
 use Rattle.columnar.specs.Types.{Ty, tPlain, tView, tListView, tList, tSparse, tDense, tRunEnd, tDictionary}
 use Rattle.columnar.specs.Reading.{Body}
-use Rattle.formats.specs.Code.{isFixed}
+use Rattle.schema.specs.formats.Code.{isFixed}
 use Rattle.walk.specs.State.{codeOf, dictionaryOf, endOf}
 use Rattle.refinement.specs.walk_is_model.Memory.{Memory}
 use Rattle.refinement.specs.walk_is_model.Holds.{childOf, Worded}
@@ -17,7 +17,7 @@ use Rattle.refinement.proofs.walk_is_model.Frame.{SameAt, same-refl, sa
 use Rattle.refinement.proofs.walk_is_model.Codes.{between-apart}
 use Rattle.refinement.specs.log_in_room.Reach.{Free}
 use Rattle.refinement.proofs.log_in_room.Found.{between-wide}
-use Rattle.parts.specs.Parts.{copied}
+use Rattle.plan.specs.parts.Parts.{copied}
 use Rattle.refinement.specs.orders.Order.{Lent}
 use Rattle.refinement.proofs.orders.Cover.{Laid}
 use Rattle.refinement.specs.opening.Entries.{EntriesLent, Joins}
@@ -69,7 +69,7 @@ module _ (plan : List ℕ) where
             let f = laid .tabled .keys-fixed i (closed-here plan laid .own i here .0 .1) (eqb-false (dictionaryOf plan i) 0 e) in
             absurd (let z : _≡_ {A = ℕ} 0 1 = cc (f, n) in omega arith)
 
-    pub not-fixed : (i low high : ℕ) → 10 < low → Rattle.formats.specs.Code.between low high (codeOf plan i) ≡ true → isFixed (codeOf plan i) ≡ false
+    pub not-fixed : (i low high : ℕ) → 10 < low → Rattle.schema.specs.formats.Code.between low high (codeOf plan i) ≡ true → isFixed (codeOf plan i) ≡ false
     not-fixed i low high p h = between-apart low high 1 10 (codeOf plan i) p h
 
     pub keys-end : (i : ℕ) → Here plan i → (dictionaryOf plan i ≡ 0 → ⊥) → endOf plan i ≡ suc (suc i)

@@ -37,7 +37,7 @@ use Rattle.refinement.specs.plan_is_type.Planted.{Planted}
 use Rattle.refinement.specs.plan_is_type.Taken.{columnsAs}
 use Rattle.refinement.proofs.plan_is_type.Planted.{child-node}
 use Rattle.refinement.proofs.plan_is_type.Opened.{opened-one}
-use Rattle.parts.specs.Parts.{nodesOf}
+use Rattle.plan.specs.parts.Parts.{nodesOf}
 use Rattle.plan.specs.Plan.{flag, keepWord, withKeeps, joinedWord, withJoined, baseWord, withBases, laidOut, planned}
 use Rattle.plan.specs.Opened.{OpenedBelow, Opened}
 use Rattle.plan.proofs.Words.{sources-are}

@@ -9,7 +9,7 @@ use lib.ListN.{length, getD}
 use lib.Dec.{leb, ltb, eqb}
 use borrow.Author.Tests.{eqb-true, eqb-false, leb-true, leb-false, le-leb, lt-ltb, ne-eqb, eq-eqb}
 use Rattle.columnar.specs.Types.{Number, fixed, string}
-use Rattle.formats.specs.Code.{isFixed, isView, isListView, isList, isRunEnd, widthOf}
+use Rattle.schema.specs.formats.Code.{isFixed, isView, isListView, isList, isRunEnd, widthOf}
 use Rattle.schema.specs.Tree.{dictionary, below, childAt, dueFrom, whole, idsOf, shape, ceilings, typed}
 use Rattle.schema.specs.Tree as schemaTree
 use Rattle.schema.proofs.Trees.{end-inside, end-after, child-inside, children-end}
@@ -29,8 +29,8 @@ use Rattle.refinement.specs.log_in_room.Reach.{hasItem}
 use Rattle.refinement.specs.log_in_room.Room.{Placed}
 use Rattle.refinement.proofs.log_in_room.Found.{between-both}
 use Rattle.columnar.specs.Test.{onlyIf}
-use Rattle.parts.specs.Parts.{nodesOf, copied, partTotal, partsPlaced, partsWithin, Used, Numbered}
-use Rattle.parts.proofs.Placed.{placed-within}
+use Rattle.plan.specs.parts.Parts.{nodesOf, copied, partTotal, partsPlaced, partsWithin, Used, Numbered}
+use Rattle.plan.proofs.parts.Placed.{placed-within}
 use Rattle.refinement.proofs.orders.Sound.{every-all}
 use Rattle.columns.specs.Grounds.{ceiling, smallBody, fewSources, allWithin, allTyped, sourcesGround}
 use Rattle.columns.proofs.Grounds.{within-low, within-at, typed-at}

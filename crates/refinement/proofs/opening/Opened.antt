@@ -24,7 +24,7 @@ use Rattle.columns.specs.Grounds.{ceiling, sourcesGround}
 use Rattle.array_data.specs.Sources.{sourceCount, firstOf}
 use Rattle.refinement.specs.plan_is_type.Taken.{columnsAs}
 use Rattle.refinement.proofs.plan_is_type.Worded.{planted-worded}
-use Rattle.parts.specs.Parts.{partTotal, partsHold, partsPlaced}
+use Rattle.plan.specs.parts.Parts.{partTotal, partsHold, partsPlaced}
 use Rattle.plan.proofs.Words.{choice-is}
 use Rattle.refinement.specs.orders.Order.{Lent, orderedAll}
 use Rattle.refinement.proofs.orders.Step.{Joined, first-opened, Running}

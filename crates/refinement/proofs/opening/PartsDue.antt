@@ -11,7 +11,7 @@ use borrow.Author.Tests.{eq-eqb, ne-eqb}
 use Rattle.columnar.specs.Types.{Plain, fixed, string, Ty, tPlain, tView, tListView, tList, tSparse, tDense, tRunEnd, tDictionary}
 use Rattle.columnar.specs.Formed.{Formed, Ids}
 use Rattle.columnar.specs.Reading.{Body, Column, masks}
-use Rattle.formats.specs.Code.{isFixed, isString}
+use Rattle.schema.specs.formats.Code.{isFixed, isString}
 use Rattle.model.specs.Opening.{keeps, shared}
 use Rattle.walk.specs.State.{word, codeOf, dictionaryOf, endOf, keepsOf}
 use Rattle.walk.specs.Copy.{childWith}
@@ -19,7 +19,7 @@ use Rattle.refinement.specs.walk_is_model.Holds.{childOf, flag, Fields, 
 use Rattle.refinement.proofs.walk_is_model.UnionFields.{with-first, with-later}
 use Rattle.refinement.specs.log_in_room.Reach.{Free, typed}
 use Rattle.refinement.proofs.log_in_room.Found.{between-both, between-wide}
-use Rattle.parts.specs.Parts.{nodesOf, bufferCount, copied, validityParts, bufferParts, partCount, partsBefore, partTotal}
+use Rattle.plan.specs.parts.Parts.{nodesOf, bufferCount, copied, validityParts, bufferParts, partCount, partsBefore, partTotal}
 use Rattle.refinement.specs.orders.Order.{Lent}
 use Rattle.refinement.proofs.orders.Buffers.{fixed-one, string-two, view-one, list-two, lists-one, copied-free, masks-code}
 use Rattle.refinement.proofs.orders.Cover.{Laid}

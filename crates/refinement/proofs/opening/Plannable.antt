@@ -18,7 +18,7 @@ use Rattle.array_data.specs.lent_tables.Lent.{tables, maskOf}
 use Rattle.columns.specs.Grounds.{fewSources, sourcesGround}
 use Rattle.array_data.specs.Sources.{sourceCount, firstOf, nodesOf}
 use Rattle.columns.proofs.Grounds.{accepted, some-source, within-low, within-at, same-at, obeys-at, obeys-is}
-use Rattle.parts.proofs.Placed.{every-at}
+use Rattle.plan.proofs.parts.Placed.{every-at}
 use Rattle.plan.specs.dictionaries.Sources.{Countable}
 use Rattle.plan.proofs.dictionaries.Typed.{countable-at}
 use Rattle.plan.specs.Plan.{Plannable}

@@ -26,7 +26,7 @@ use Rattle.refinement.proofs.walk_is_model.Frame.{same-refl}
 use Rattle.refinement.proofs.walk_is_model.Goes.{Goes, good, over}
 use Rattle.refinement.specs.log_in_room.Room.{AllBelow, HasBits, Placed, Lies, Fits, AllUsed}
 use Rattle.refinement.proofs.log_in_room.Applied.{room-lies, room-long}
-use Rattle.parts.specs.Parts.{partsHold, partsWithin, Used}
+use Rattle.plan.specs.parts.Parts.{partsHold, partsWithin, Used}
 use Rattle.refinement.specs.orders.Order.{Lent}
 use Rattle.refinement.proofs.orders.Own.{Bounded}
 use Rattle.refinement.proofs.orders.Step.{Joined, first-opened, obeys, lawful, Running}

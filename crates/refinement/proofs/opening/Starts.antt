@@ -11,7 +11,7 @@ use borrow.Author.Tests.{lt-leb}
 use Rattle.number.specs.Number.{encode}
 use Rattle.columnar.specs.Types.{Plain, fixed, string, Ty, tPlain, tView, tListView, tList, tSparse, tDense, tRunEnd, tDictionary}
 use Rattle.columnar.specs.Reading.{Body}
-use Rattle.formats.specs.Code.{isFixed, isString, isList, isUnion, isRunEnd}
+use Rattle.schema.specs.formats.Code.{isFixed, isString, isList, isUnion, isRunEnd}
 use Rattle.model.specs.Opening.{keeps}
 use Rattle.model.specs.Mutable.{startNode}
 use Rattle.model.specs.Primitive.{plainStart}
@@ -25,7 +25,7 @@ use Rattle.refinement.proofs.walk_is_model.Node.{worded-small}
 use Rattle.refinement.specs.log_in_room.Reach.{Closed, Typed, Among, Free}
 use Rattle.refinement.proofs.log_in_room.Found.{between-both, between-wide, child-first, child-with}
 use Rattle.refinement.proofs.log_in_room.Closure.{closed-free}
-use Rattle.parts.specs.Parts.{hasOffsets}
+use Rattle.plan.specs.parts.Parts.{hasOffsets}
 use Rattle.refinement.proofs.orders.Buffers.{fixed-else}
 use Rattle.refinement.proofs.orders.Cover.{Laid}
 use Rattle.refinement.specs.opening.Kept.{Kept}
@@ -95,7 +95,7 @@ module _ (plan c : List ℕ) (μ : Memory) where
     new i here = fresh i (closed-here plan laid .own i here)
 
     -- views and list-views; unions
-    low-offsets : (i low high : ℕ) → 14 < low → high < 19 → Rattle.formats.specs.Code.between low high (codeOf plan i) ≡ true → hasOffsets (codeOf plan i) ≡ false
+    low-offsets : (i low high : ℕ) → 14 < low → high < 19 → Rattle.schema.specs.formats.Code.between low high (codeOf plan i) ≡ true → hasOffsets (codeOf plan i) ≡ false
     low-offsets i low high p q h =
         let b = between-both low high (codeOf plan i) h in
         neither (between-apart low high 11 14 (codeOf plan i) p h) (rw (lt-leb 19 (codeOf plan i) (omega (arith, b .1))))

@@ -12,7 +12,7 @@ use borrow.Author.Tests.{leb-true, eqb-true, eqb-false}
 use Rattle.columnar.specs.Types.{Plain, fixed, string, Ty, tPlain, tView, tListView, tList, tSparse, tDense, tRunEnd, tDictionary}
 use Rattle.columnar.specs.Array.{ok, nullsIn, nullCount}
 use Rattle.columnar.specs.Reading.{Column, Source}
-use Rattle.formats.specs.Code.{isView}
+use Rattle.schema.specs.formats.Code.{isView}
 use Rattle.model.specs.Sources.{EachView, EachDictionary, ValidFrom, StandsFrom, Stands, Sources}
 use Rattle.model.proofs.Bits.{length-seg}
 use Rattle.schema.specs.Tree.{every, codeOf, ceilings, typed, sameNode, sameType}

@@ -22,11 +22,11 @@ use Rattle.refinement.specs.log_in_room.Room.{AllBelow}
 use Rattle.refinement.specs.log_in_room.Reach.{Closed, UsedAt, Typed, typed}
 use Rattle.refinement.proofs.log_in_room.Bytes.{bytes-encode}
 use Rattle.refinement.proofs.log_in_room.Copies.{used-copies}
-use Rattle.formats.specs.Code.{isRunEnd}
+use Rattle.schema.specs.formats.Code.{isRunEnd}
 use Rattle.refinement.proofs.log_in_room.Found.{between-both, between-wide}
 use Rattle.refinement.proofs.log_in_room.Uses.{used-wide, Uses, uses-done, uses-wrote, uses-cond, uses-need, uses-next, uses-each}
-use Rattle.parts.specs.Parts.{nodesOf, copied, hasOffsets, Used}
-use Rattle.parts.proofs.Words.{offsets-buffer, has-buffers}
+use Rattle.plan.specs.parts.Parts.{nodesOf, copied, hasOffsets, Used}
+use Rattle.plan.proofs.parts.Words.{offsets-buffer, has-buffers}
 use Rattle.refinement.specs.orders.Order.{Lent, joinOf, sourceCount}
 use Rattle.refinement.proofs.orders.Buffers.{copied-part}
 use Rattle.refinement.proofs.orders.Cover.{Laid}

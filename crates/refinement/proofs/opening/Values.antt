@@ -12,9 +12,9 @@ use Rattle.columnar.specs.Types.{Number, f32, f64, Plain, fixed, string, Ty, tP
 use Rattle.columnar.specs.Wider.{integer}
 use Rattle.columnar.specs.Formed.{Formed}
 use Rattle.columnar.specs.Reading.{Column}
-use Rattle.formats.specs.Code.{isInteger, isFixed, isString, widthOf}
-use Rattle.formats.specs.Types.{numberOf}
-use Rattle.formats.proofs.Types.{fixed-number}
+use Rattle.schema.specs.formats.Code.{isInteger, isFixed, isString, widthOf}
+use Rattle.schema.specs.formats.Types.{numberOf}
+use Rattle.schema.proofs.formats.Types.{fixed-number}
 use Rattle.schema.specs.Tree.{dictionary, codeOf, idsOf}
 use Rattle.array_data.specs.Tables.{Tables, arrayWith}
 use Rattle.array_data.specs.Typed.{NodeKind, fixedNode, dictionaryNode, Tree, nodeOf, Is, MeansPlain, Means, tablesFrom, plainBody, bodyOf}

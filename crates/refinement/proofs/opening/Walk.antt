@@ -18,7 +18,7 @@ use Rattle.refinement.proofs.walk_is_model.Goes.{Goes, goes-map, goes-q
 use Rattle.refinement.specs.log_in_room.Room.{AllBelow, AllUsed}
 use Rattle.refinement.specs.log_in_room.Reach.{typed}
 use Rattle.refinement.proofs.log_in_room.Uses.{uses-next}
-use Rattle.parts.specs.Parts.{nodesOf, copied, Used}
+use Rattle.plan.specs.parts.Parts.{nodesOf, copied, Used}
 use Rattle.refinement.specs.orders.Order.{Lent, sourceCount}
 use Rattle.refinement.proofs.orders.Buffers.{copied-free}
 use Rattle.refinement.proofs.orders.Cover.{Laid}

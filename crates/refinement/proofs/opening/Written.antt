@@ -12,12 +12,12 @@ use Rattle.array_data.proofs.lent_tables.Laws.{and-left, and-right}
 use Rattle.number.specs.Number.{encode}
 use Rattle.number.proofs.Laws.{length-encode}
 use Rattle.array_data.specs.Tables.{Tables}
-use Rattle.formats.specs.Code.{isRunEnd}
+use Rattle.schema.specs.formats.Code.{isRunEnd}
 use Rattle.walk.specs.State.{word, codeOf, dictionaryOf, bytesOf, endOf, rows, bytes, lengthOf, top}
 use Rattle.walk.specs.Log.{put, Out, apply}
 use Rattle.refinement.specs.log_in_room.Room.{AllBelow, AllUsed}
 use Rattle.columns.specs.Grounds.{ceiling, sourcesGround}
-use Rattle.parts.specs.Parts.{nodesOf, copied, hasOffsets, neededBy, partTotal, partsPlaced, partsWithin, partsHold, Used}
+use Rattle.plan.specs.parts.Parts.{nodesOf, copied, hasOffsets, neededBy, partTotal, partsPlaced, partsWithin, partsHold, Used}
 use Rattle.refinement.specs.orders.Sound.{planSound}
 use Rattle.refinement.specs.orders.Order.{Lent, joinOf, sourceCount}
 use Rattle.refinement.specs.orders.Written.{OnlyUsed, AllMade}

@@ -10,7 +10,7 @@ use lib.ListN.{length, getD, replicate}
 use lib.Dec.{eqb}
 use borrow.Author.Tests.{ne-eqb}
 use Rattle.number.specs.Number.{encode}
-use Rattle.formats.specs.Code.{isRunEnd}
+use Rattle.schema.specs.formats.Code.{isRunEnd}
 use Rattle.walk.specs.State.{word, codeOf, dictionaryOf, bytesOf, rows, nulls, bytes, setBytes}
 use Rattle.walk.specs.Log.{put, Out, wrote, each}
 use Rattle.refinement.specs.walk_is_model.Memory.{Memory, putIn}
@@ -19,7 +19,7 @@ use Rattle.refinement.proofs.walk_is_model.Goes.{Quiet, quiet-done, qui
 use Rattle.refinement.proofs.walk_is_model.Frame.{SameAt}
 use Rattle.refinement.proofs.walk_is_model.Counters.{bytes-set, bytes-other, rows-of-bytes, nulls-of-bytes, long-bytes}
 use Rattle.refinement.proofs.walk_is_model.Writes.{put-own, put-other}
-use Rattle.parts.specs.Parts.{copied, hasOffsets}
+use Rattle.plan.specs.parts.Parts.{copied, hasOffsets}
 use Rattle.refinement.specs.orders.Order.{Lent}
 use Rattle.refinement.specs.opening.Open.{chosen, beginGaps, firstOffset}
 

@@ -17,7 +17,7 @@ use Rattle.refinement.specs.log_in_room.Room.{AllBelow, Apart, AllUsed}
 use Rattle.refinement.proofs.log_in_room.Uses.{used-wide}
 use Rattle.refinement.proofs.log_in_room.Copies.{used-copies}
 use Rattle.refinement.proofs.log_in_room.Fills.{used-nulls}
-use Rattle.parts.specs.Parts.{sizeOf, partsWithin, partsHold, Used}
+use Rattle.plan.specs.parts.Parts.{sizeOf, partsWithin, partsHold, Used}
 use Rattle.refinement.specs.orders.Sound.{planSound, walkable}
 use Rattle.columns.specs.Grounds.{ceiling}
 use Rattle.refinement.specs.orders.Order.{After, Lent, joinOf, sourceCount, sourceLength, refused, settled, copyOrder, nullOrder, ordered, orderedAll}

@@ -10,13 +10,13 @@ use borrow.Author.Tests.{lt-ltb, le-leb, eq-eqb, ne-eqb, eqb-true, eqb-false, lt
 use Rattle.columnar.specs.Test.{every, onlyIf}
 use Rattle.columnar.specs.Types.{Ty, tPlain, tView, tListView, tList, tSparse, tDense, tRunEnd, tDictionary, fixed, string}
 use Rattle.columnar.specs.Reading.{masks}
-use Rattle.formats.specs.Code.{isFixed, isString, isView, isListView, isList, isUnion, widthOf}
+use Rattle.schema.specs.formats.Code.{isFixed, isString, isView, isListView, isList, isUnion, widthOf}
 use Rattle.walk.specs.State.{codeOf, dictionaryOf, keepsOf}
 use Rattle.refinement.specs.walk_is_model.Holds.{Worded}
 use Rattle.refinement.specs.log_in_room.Reach.{HasBuffer, Second, chars, sizes, positions, Free}
 use Rattle.refinement.proofs.log_in_room.Found.{between-both}
-use Rattle.parts.specs.Parts.{bufferCount, copied, validityParts, bufferParts, hasPart, hasOffsets, entrySize, neededBy}
-use Rattle.parts.proofs.Placed.{every-at}
+use Rattle.plan.specs.parts.Parts.{bufferCount, copied, validityParts, bufferParts, hasPart, hasOffsets, entrySize, neededBy}
+use Rattle.plan.proofs.parts.Placed.{every-at}
 
 -- a test of the 24 codes
 table : (p q : ℕ → Bool) → every (λ z. onlyIf (p z) (q z)) 24 ≡ true → (z : ℕ) → z < 24 → p z ≡ true → q z ≡ true

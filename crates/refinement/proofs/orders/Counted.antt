@@ -20,7 +20,7 @@ use Rattle.model.proofs.Ids.{among-in}
 use Rattle.walk.specs.State.{keepsOf}
 use Rattle.refinement.specs.walk_is_model.Memory.{Memory}
 use Rattle.refinement.specs.walk_is_model.Holds.{childOf, HoldsBits, HoldsData, Holds}
-use Rattle.parts.specs.Parts.{sizeOf}
+use Rattle.plan.specs.parts.Parts.{sizeOf}
 use Rattle.refinement.specs.orders.Fits.{plainBuffers, buffersOf, fitsBits, fitsAll, fitsNode, fitsBelow, fits}
 use Rattle.refinement.specs.orders.Counted.{sizesOf, roomBits, roomAll, roomNode, roomBelow, roomFor}
 

@@ -15,7 +15,7 @@ use Rattle.columnar.specs.Types.{fixed, string, Ty, tPlain, tView, tListView, t
 use Rattle.columnar.specs.Formed.{Formed, Ids}
 use Rattle.columnar.specs.Reading.{Column, masks}
 use Rattle.columnar.specs.Test.{each}
-use Rattle.formats.specs.Code.{isFixed, isView}
+use Rattle.schema.specs.formats.Code.{isFixed, isView}
 use Rattle.walk.specs.State.{codeOf, dictionaryOf, endOf, keepsOf, rows, bytes}
 use Rattle.walk.specs.Copy.{childWith}
 use Rattle.model.specs.Transform.{Destination}
@@ -27,7 +27,7 @@ use Rattle.refinement.proofs.walk_is_model.Frame.{field-of, worded-span
 use Rattle.refinement.proofs.walk_is_model.UnionFields.{with-first, with-later}
 use Rattle.refinement.specs.log_in_room.Reach.{Free, Tabled}
 use Rattle.refinement.proofs.log_in_room.Found.{between-both}
-use Rattle.parts.specs.Parts.{hasPart, sizeOf}
+use Rattle.plan.specs.parts.Parts.{hasPart, sizeOf}
 use Rattle.refinement.specs.orders.Fits.{buffersOf, fitsBits, fitsAll, fitsBelow, fits}
 use Rattle.refinement.proofs.orders.Buffers.{fixed-one, needed-fixed, masks-code}
 use Rattle.refinement.proofs.orders.Own.{Bounded, Own, own-covers, one-own, own-of, times}

@@ -23,7 +23,7 @@ use Rattle.model.proofs.CutLess.{Led}
 use Rattle.model.proofs.CutOrder.{Taken, taken, entered-cut, answer-cut}
 use Rattle.walk.specs.State.{keepsOf}
 use Rattle.refinement.specs.walk_is_model.Holds.{childOf}
-use Rattle.parts.specs.Parts.{sizeOf}
+use Rattle.plan.specs.parts.Parts.{sizeOf}
 use Rattle.refinement.specs.orders.Counted.{plainSizes, sizesOf, roomBits, roomAll, roomNode, roomBelow, roomFor, answerRoom, countsAfter, bookRoom}
 
 -- ---- room for more is room for less

@@ -12,7 +12,7 @@ use Rattle.columnar.specs.Types.{Ty, tPlain, tView, tListView, tList, tSparse, 
 use Rattle.columnar.specs.Formed.{Formed}
 use Rattle.columnar.specs.Reading.{Column, masks}
 use Rattle.columnar.specs.Test.{every, onlyIf}
-use Rattle.formats.specs.Code.{isUnion}
+use Rattle.schema.specs.formats.Code.{isUnion}
 use Rattle.walk.specs.State.{codeOf, dictionaryOf, endOf, rows, bytes}
 use Rattle.model.specs.Transform.{Destination}
 use Rattle.refinement.specs.walk_is_model.Memory.{Memory}
@@ -21,8 +21,8 @@ use Rattle.refinement.proofs.walk_is_model.Frame.{field-of, worded-span
 use Rattle.refinement.specs.log_in_room.Reach.{Typed, typed, Free}
 use Rattle.refinement.proofs.log_in_room.Found.{between-wide, child-first, child-with}
 use Rattle.refinement.proofs.log_in_room.Closure.{closed-free}
-use Rattle.parts.specs.Parts.{nodesOf, hasPart, needed, sizeOf, partHolds, partsHold, Used}
-use Rattle.parts.proofs.Placed.{used-holds}
+use Rattle.plan.specs.parts.Parts.{nodesOf, hasPart, needed, sizeOf, partHolds, partsHold, Used}
+use Rattle.plan.proofs.parts.Placed.{used-holds}
 use Rattle.refinement.specs.orders.Fits.{buffersOf, fitsBelow, fits}
 use Rattle.refinement.proofs.orders.Buffers.{fixed-one, needed-fixed, masks-code, buffer-part}
 use Rattle.refinement.proofs.orders.Own.{own-enough, own-of, times}

@@ -12,11 +12,11 @@ use lib.Dec.{ltb, eqb}
 use borrow.Author.Tests.{ltb-true, eq-eqb, eqb-true, eqb-false}
 use Rattle.number.specs.Number.{encode}
 use Rattle.number.proofs.Laws.{length-encode}
-use Rattle.formats.specs.Code.{isString}
+use Rattle.schema.specs.formats.Code.{isString}
 use Rattle.walk.specs.State.{codeOf, bytesOf, rows, bytes, gap, top, grown, addRows, addNulls, setBytes}
 use Rattle.walk.specs.Log.{Entry, put, mask, amend, Log, Out, fail, done, wrote, need, found, next, each}
 use Rattle.refinement.proofs.walk_is_model.Counters.{rows-added, bytes-set, rows-other, bytes-of-rows, rows-of-nulls, bytes-of-nulls, bytes-other, rows-of-bytes, long-rows, long-nulls, long-bytes}
-use Rattle.parts.specs.Parts.{needed, neededBy}
+use Rattle.plan.specs.parts.Parts.{needed, neededBy}
 use Rattle.refinement.specs.orders.Written.{Ends}
 use Rattle.refinement.proofs.orders.Needed.{needed-more, needed-cut, ends-up}
 

@@ -11,15 +11,15 @@ use borrow.Author.Tests.{ltb-true, eqb-true, eqb-false}
 use Rattle.number.specs.Number.{number, encode, entry}
 use Rattle.number.proofs.Laws.{length-encode}
 use Rattle.bits.specs.Bits.{bitsAt, bits}
-use Rattle.formats.specs.Code.{isFixed, isString, isView, isListView, isList, isUnion, widthOf}
+use Rattle.schema.specs.formats.Code.{isFixed, isString, isView, isListView, isList, isUnion, widthOf}
 use Rattle.utils.specs.Pieces.{pieces}
 use Rattle.utils.specs.Offsets.{largest, moved, movedOffsets}
 use Rattle.utils.specs.Extension.{pick, overAt, extended}
 use Rattle.utils.specs.declared.Extended.{Extended}
 use Rattle.utils.specs.declared.Extended.the-variants.{Fits, Over, Falls}
 use Rattle.utils.proofs.Pieces.{length-numbers}
-use Rattle.primitive.specs.Primitive.{rebased}
-use Rattle.byte_view.specs.View.{pickBytes, reviewedOne, reviewed}
+use Rattle.utils.specs.primitive.Primitive.{rebased}
+use Rattle.utils.specs.byte_view.View.{pickBytes, reviewedOne, reviewed}
 use Rattle.run_ends.specs.declared.Runs.{Runs}
 use Rattle.run_ends.specs.declared.Runs.the-variants.{Range, None}
 use Rattle.run_ends.proofs.Laws.{length-clipped}
@@ -30,7 +30,7 @@ use Rattle.walk.specs.Leaves.{copyBits, copyMask, copyNumbers, copyKeys, copyVi
 use Rattle.walk.specs.Copy.{Walk, isWidth, masked, listViewRow, copyListView, putStretch, putList, copyList, copyFields, copySparse, idAt, denseTo, denseRow, copyDense, putRuns, runsAt, copyRuns, copyData, copySlots, copyNode, copyWalk}
 use Rattle.refinement.specs.log_in_room.Reach.{Child, Closed}
 use Rattle.refinement.proofs.log_in_room.Found.{between-wide, and-first, child-first, child-later, child-with}
-use Rattle.parts.specs.Parts.{neededBy}
+use Rattle.plan.specs.parts.Parts.{neededBy}
 use Rattle.refinement.proofs.orders.Buffers.{needed-fixed, needed-offsets, needed-chars, needed-views, needed-starts, needed-sizes, needed-ends}
 use Rattle.refinement.proofs.orders.Grows.{Fine, AllBehind, Behind, Adds, due, longer-same, behind-wide, longer-bytes, fine-bytes, behind-rows, behind-all, behind-offsets, behind-bits, adds-done, adds-nulls, adds-gap, adds-done-two, adds-fail, adds-never, next-never, adds-wrote, adds-cond, adds-need, adds-found, adds-next, adds-each, adds-whole, adds-close, adds-close-two}
 

@@ -10,7 +10,7 @@ use lib.Dec.{ltb, eqb}
 use borrow.Author.Tests.{ltb-true, leb-true, eqb-true, eqb-false}
 use Rattle.number.specs.Number.{encode}
 use Rattle.number.proofs.Laws.{length-encode}
-use Rattle.formats.specs.Code.{isFixed, isString, isView, isListView, isList, isUnion}
+use Rattle.schema.specs.formats.Code.{isFixed, isString, isView, isListView, isList, isUnion}
 use Rattle.utils.specs.Offsets.{repeated, countedUp}
 use Rattle.utils.proofs.Pieces.{length-numbers}
 use Rattle.walk.specs.State.{Join, codeOf, endOf, keepsOf, idOf, bytesOf, rows, bytes, gap, addRows, beginGap}
@@ -20,7 +20,7 @@ use Rattle.walk.specs.Copy.{isWidth, masked}
 use Rattle.walk.specs.Nulls.{NullWalk, nullableChild, noHome, nullListView, nullList, nullFields, nullSparse, nullDense, addRun, growRun, nullRuns, nullData, nullNode, nullWalk}
 use Rattle.refinement.specs.log_in_room.Reach.{Child, Closed}
 use Rattle.refinement.proofs.log_in_room.Found.{and-first, child-first, child-later, child-nullable}
-use Rattle.parts.specs.Parts.{neededBy}
+use Rattle.plan.specs.parts.Parts.{neededBy}
 use Rattle.refinement.proofs.orders.Buffers.{needed-fixed, needed-offsets, needed-views, needed-starts, needed-sizes, needed-ends}
 use Rattle.refinement.proofs.orders.Grows.{Adds, behind-rows, behind-all, behind-offsets, behind-bits, over-last, adds-done, adds-done-two, adds-gap, adds-nulls, adds-fail, adds-never, adds-wrote, adds-cond, adds-need, adds-found, adds-next, adds-whole, adds-close, adds-close-two}
 

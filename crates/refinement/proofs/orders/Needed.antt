@@ -5,9 +5,9 @@ use Prim.Native.Nat.{ℕ, zero, suc, _+_, _*_, _≤_, _<_, min}
 use native.Mathlib.Nat.{mul-zero, min-eq-left, min-eq-right, mul-le-mul-right, le-mul-of-pos-right}
 use native.Mathlib.Decide.{decLt}
 use native.Mathlib.Omega.{arith}
-use Rattle.formats.specs.Code.{isString, isListView, widthOf}
+use Rattle.schema.specs.formats.Code.{isString, isListView, widthOf}
 use Rattle.walk.specs.State.{top}
-use Rattle.parts.specs.Parts.{hasOffsets, entrySize, neededBy}
+use Rattle.plan.specs.parts.Parts.{hasOffsets, entrySize, neededBy}
 use Rattle.refinement.specs.orders.Written.{Ends}
 
 pub needed-more : (z r s m n b : ℕ) → r ≤ s → (isString z ≡ true → m ≤ n) → neededBy z r m b ≤ neededBy z s n b

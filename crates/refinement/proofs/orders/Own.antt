@@ -20,7 +20,7 @@ use Rattle.model.proofs.Nodes.{fineOf}
 use Rattle.refinement.specs.walk_is_model.Memory.{Memory}
 use Rattle.refinement.specs.walk_is_model.Holds.{Worded, flag, HoldsBits, HoldsData}
 use Rattle.refinement.specs.log_in_room.Reach.{Free}
-use Rattle.parts.specs.Parts.{bufferCount, copied, hasPart, needed, neededBy, sizeOf}
+use Rattle.plan.specs.parts.Parts.{bufferCount, copied, hasPart, needed, neededBy, sizeOf}
 use Rattle.refinement.specs.orders.Fits.{buffersOf, fitsBits, fitsAll}
 use Rattle.refinement.proofs.orders.Buffers.{fixed-one, string-two, view-one, list-two, lists-one, needed-fixed, needed-offsets, needed-chars, needed-views, needed-starts, needed-ends, needed-sizes, copied-free, copied-buffer, buffer-copied, copied-bits, bits-copied}
 

@@ -4,8 +4,8 @@ use mathlib.Core.Bool.{true}
 use mathlib.Core.List.{List}
 use Prim.Native.Nat.{ℕ, _<_, _^_}
 use Rattle.refinement.specs.log_in_room.Room.{Placed}
-use Rattle.parts.specs.Parts.{Apart, before, behind, first-empty, second-empty, partTotal, partsPlaced, Used, Numbered}
-use Rattle.parts.proofs.Placed.{used-in, used-apart}
+use Rattle.plan.specs.parts.Parts.{Apart, before, behind, first-empty, second-empty, partTotal, partsPlaced, Used, Numbered}
+use Rattle.plan.proofs.parts.Placed.{used-in, used-apart}
 
 as-apart : {a m b n : ℕ} → Apart a m b n → Rattle.refinement.specs.log_in_room.Room.Apart a m b n
 as-apart (before h) = Rattle.refinement.specs.log_in_room.Room.Apart.before h

@@ -17,7 +17,7 @@ use Rattle.model.specs.Transform.{Destination}
 use Rattle.model.proofs.Law.{FineNode}
 use Rattle.model.proofs.Nodes.{fineOf}
 use Rattle.refinement.specs.walk_is_model.Holds.{Worded}
-use Rattle.parts.specs.Parts.{bufferCount, sizeOf}
+use Rattle.plan.specs.parts.Parts.{bufferCount, sizeOf}
 use Rattle.refinement.specs.orders.Fits.{buffersOf, fitsBits, fitsAll, fitsBelow, fits}
 use Rattle.refinement.proofs.orders.Buffers.{fixed-one, string-two, view-one, list-two, lists-one}
 use Rattle.refinement.proofs.orders.Far.{half-run}

@@ -8,12 +8,12 @@ use lib.Dec.{leb, ltb, eqb}
 use borrow.Author.Tests.{leb-true, leb-false, le-leb, ltb-true, lt-ltb, eqb-true, eq-eqb, ne-eqb}
 use Rattle.columnar.specs.Test.{every, onlyIf}
 use Rattle.array_data.proofs.lent_tables.Laws.{and-left, and-right}
-use Rattle.formats.specs.Code.{isFixed, isUnion, isRunEnd}
+use Rattle.schema.specs.formats.Code.{isFixed, isUnion, isRunEnd}
 use Rattle.walk.specs.State.{codeOf, dictionaryOf, endOf}
 use Rattle.refinement.specs.log_in_room.Reach.{Child, first, later, hasItem, Closed, UsedAt}
 use Rattle.refinement.proofs.log_in_room.Found.{between-both}
-use Rattle.parts.specs.Parts.{nodesOf, copied, Used}
-use Rattle.parts.proofs.Placed.{every-at}
+use Rattle.plan.specs.parts.Parts.{nodesOf, copied, Used}
+use Rattle.plan.proofs.parts.Placed.{every-at}
 use Rattle.refinement.specs.orders.Sound.{nestedIn, endsSound, kindSound, nodeSound, planSound}
 use Rattle.refinement.proofs.orders.Buffers.{copied-part}
 

@@ -38,7 +38,7 @@ use Rattle.refinement.specs.log_in_room.Reach.{UsedAt, Among, Free, Type
 use Rattle.refinement.proofs.log_in_room.Closure.{closed-free}
 use Rattle.refinement.proofs.log_in_room.Applied.{room-lies, room-long}
 use Rattle.refinement.proofs.log_in_room.Orders.{copy-used, nulls-used}
-use Rattle.parts.specs.Parts.{nodesOf, bufferCount, needed, neededBy, sizeOf, partsHold, partsWithin, Used}
+use Rattle.plan.specs.parts.Parts.{nodesOf, bufferCount, needed, neededBy, sizeOf, partsHold, partsWithin, Used}
 use Rattle.refinement.specs.orders.Sound.{planSound, walkable}
 use Rattle.columns.specs.Grounds.{ceiling}
 use Rattle.refinement.specs.orders.Order.{After, Lent, joinOf, sourceCount, sourceLength, refused, settled, copyOrder, nullOrder, ordered}

@@ -18,8 +18,8 @@ use Rattle.walk.specs.State.{codeOf, bytesOf, rows, bytes, gap}
 use Rattle.walk.specs.Log.{Entry, put, mask, amend, Log, startOf, inRoom, enter, apply}
 use Rattle.refinement.specs.log_in_room.Room.{AllBelow, Apart, UsedEntry, AllUsed}
 use Rattle.refinement.proofs.log_in_room.Writes.{apart-never, Wrote, put-wrote, mask-wrote, bit-same}
-use Rattle.parts.specs.Parts.{needed, neededBy, sizeOf, partsWithin, partsHold, Used}
-use Rattle.parts.proofs.Placed.{within-used, used-holds, bits-held}
+use Rattle.plan.specs.parts.Parts.{needed, neededBy, sizeOf, partsWithin, partsHold, Used}
+use Rattle.plan.proofs.parts.Placed.{within-used, used-holds, bits-held}
 use Rattle.refinement.specs.orders.Written.{Gained, LastEnd, OnlyAdds, OnlyUsed, Made, AllMade, Ends}
 use Rattle.refinement.proofs.orders.Buffers.{bits-known, buffer-copied, some-buffer, row-bytes}
 use Rattle.refinement.proofs.orders.Grows.{due, due-none, Over, Behind, AllBehind}

@@ -9,7 +9,7 @@ use lib.Dec.{leb, eqb}
 use borrow.Author.Tests.{leb-true, lt-ltb, eqb-true, eqb-false, eq-eqb, ne-eqb}
 use Rattle.columnar.specs.Types.{fixed, string}
 use Rattle.columnar.specs.Formed.{Ids}
-use Rattle.formats.specs.Code.{isUnion}
+use Rattle.schema.specs.formats.Code.{isUnion}
 use Rattle.schema.specs.Tree.{flag, children, dictionary, below, endOf, childAt, whole, codeOf, idsOf, fewFields, ceilings, typed}
 use Rattle.schema.proofs.Trees.{child-inside, children-end, end-after, end-inside}
 use Rattle.schema.proofs.Depth.{nested, child-before}

@@ -7,8 +7,8 @@ use Prim.Native.Nat.{ℕ, suc, _≤_}
 use native.Mathlib.Omega.{arith}
 use lib.Dec.{eqb}
 use borrow.Author.Tests.{eq-eqb, ne-eqb}
-use Rattle.formats.specs.Code.{same, isInteger, isFixed, isString, isView, isListView, isList, isUnion, isRunEnd}
-use Rattle.formats.specs.union_ids.Ids.{sameIds}
+use Rattle.schema.specs.formats.Code.{same, isInteger, isFixed, isString, isView, isListView, isList, isUnion, isRunEnd}
+use Rattle.schema.specs.union_ids.Ids.{sameIds}
 use Rattle.schema.specs.Tree.{flag, children, dictionary, bare, childForEach, isValues, codeOf, idsOf, valuesShape, endsShape, leafShape, keysShape, listShape, unionShape, runShape, shape, typed, sameFlag, sameFormats, sameNode, sameType}
 use Rattle.schema.proofs.Laws.{all-same}
 use Rattle.schema.proofs.Known.{typed-shape}

@@ -9,7 +9,7 @@ use lib.Dec.{eqb}
 use borrow.Author.Tests.{eqb-false}
 use Rattle.columnar.specs.Types.{width, fixed, string}
 use Rattle.columnar.specs.Formed.{RunWidth, two, four, eight}
-use Rattle.formats.specs.Code.{isFixed, isString, isView, isListView, isList, widthOf}
+use Rattle.schema.specs.formats.Code.{isFixed, isString, isView, isListView, isList, widthOf}
 use Rattle.schema.specs.Tree.{dictionary, below, endOf, childAt, depth, codeOf, idsOf, ceilings, typed}
 use Rattle.schema.proofs.Trees.{child-inside, children-end, end-after}
 use Rattle.schema.proofs.Depth.{child-depth}

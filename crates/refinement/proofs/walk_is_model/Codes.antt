@@ -5,7 +5,7 @@ use Prim.Native.Nat.{ℕ, _<_}
 use native.Mathlib.Omega.{arith}
 use lib.Dec.{leb}
 use borrow.Author.Tests.{leb-true, lt-leb}
-use Rattle.formats.specs.Code.{between, isFixed, isString, isView}
+use Rattle.schema.specs.formats.Code.{between, isFixed, isString, isView}
 
 between-from : (low high z : ℕ) → between low high z ≡ true → leb low z ≡ true
 between-from low high z h = go (leb low z) refl h

@@ -13,7 +13,7 @@ use Rattle.columnar.specs.Array.{item}
 use Rattle.columnar.specs.Reading.{Column}
 use Rattle.columnar.proofs.Items.{entry-end}
 use Rattle.utils.proofs.Pieces.{pieces-same}
-use Rattle.primitive.specs.Primitive.{rebased}
+use Rattle.utils.specs.primitive.Primitive.{rebased}
 use Rattle.model.specs.Primitive.{newKeys}
 use Rattle.walk.specs.State.{Join, dictionaryOf, endOf, rows, place, rowsIn}
 use Rattle.walk.specs.Copy.{Walk, copyData}

@@ -13,7 +13,7 @@ use Rattle.columnar.specs.Types.{half, Ty, tListView}
 use Rattle.columnar.specs.Array.{item, ok}
 use Rattle.columnar.specs.ListView.{Entry}
 use Rattle.columnar.specs.Reading.{Column, masks}
-use Rattle.formats.specs.Code.{isListView}
+use Rattle.schema.specs.formats.Code.{isListView}
 use Rattle.model.specs.Try.{done, then}
 use Rattle.model.specs.Mutable.{extendNode}
 use Rattle.model.specs.ListViews.{Lists, listRow}

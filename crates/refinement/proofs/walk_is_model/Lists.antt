@@ -13,7 +13,7 @@ use Rattle.columnar.specs.Types.{half, Ty, tList}
 use Rattle.columnar.specs.Array.{item}
 use Rattle.columnar.specs.Entries.{encodes}
 use Rattle.columnar.specs.Reading.{Column, masks}
-use Rattle.formats.specs.Code.{isList}
+use Rattle.schema.specs.formats.Code.{isList}
 use Rattle.utils.specs.Offsets.{moved, movedOffsets, repeated}
 use Rattle.utils.specs.Extension.{overAt, extended}
 use Rattle.utils.proofs.TryExtendOffsets.{over-is, fits-is}

@@ -13,7 +13,7 @@ use Rattle.columnar.specs.Row.{seg}
 use Rattle.columnar.specs.Types.{Plain, fixed, string, Ty, tPlain, tView, tListView, tList, tSparse, tDense, tRunEnd, tDictionary}
 use Rattle.columnar.specs.Array.{Array, ok, Mask}
 use Rattle.columnar.specs.Reading.{Column, masks, Source}
-use Rattle.formats.specs.Code.{between, isFixed, isString, isView, isListView}
+use Rattle.schema.specs.formats.Code.{between, isFixed, isString, isView, isListView}
 use Rattle.model.specs.Mutable.{Mutable, zeros, grow, counted, extendNode, nullsNode}
 use Rattle.model.specs.Transform.{Grown, Destination, extendData, nullsData}
 use Rattle.model.proofs.Law.{Fine, BitsFor, FineNode, KeepNode}

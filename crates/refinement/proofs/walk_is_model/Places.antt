@@ -13,7 +13,7 @@ use Rattle.number.specs.Number.{number, entry}
 use Rattle.columnar.specs.Types.{half, Ty, tPlain, tView, tListView, tList, tSparse, tDense, tRunEnd, tDictionary}
 use Rattle.columnar.specs.Array.{item}
 use Rattle.columnar.proofs.Items.{number-take, entry-end}
-use Rattle.formats.specs.Code.{between, widths, widthOf}
+use Rattle.schema.specs.formats.Code.{between, widths, widthOf}
 use Rattle.walk.specs.State.{Join, far, rowsIn}
 use Rattle.refinement.specs.walk_is_model.Memory.{Memory, putIn, amendIn}
 use Rattle.refinement.specs.walk_is_model.Holds.{Worded}

@@ -16,7 +16,7 @@ use Rattle.columnar.specs.View.{viewOf}
 use Rattle.columnar.specs.Reading.{Column}
 use Rattle.columnar.proofs.Items.{number-take}
 use Rattle.utils.proofs.Pieces.{pieces-same}
-use Rattle.byte_view.specs.View.{pickBytes, reviewedOne, reviewed}
+use Rattle.utils.specs.byte_view.View.{pickBytes, reviewedOne, reviewed}
 use Rattle.model.specs.Primitive.{newViews, reindexed}
 use Rattle.walk.specs.State.{Join, codeOf, endOf, rows, place, rowsIn}
 use Rattle.walk.specs.Copy.{Walk, copyData}

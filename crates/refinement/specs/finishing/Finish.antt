@@ -9,14 +9,14 @@ use Rattle.bits.specs.Bits.{bitsAt, zeros}
 use Rattle.columnar.specs.Row.{seg}
 use Rattle.columnar.specs.Array.{nullCount}
 use Rattle.columnar.specs.Test.{every}
-use Rattle.formats.specs.Code.{isView}
+use Rattle.schema.specs.formats.Code.{isView}
 use Rattle.array_data.specs.Tables.{Tables}
 use Rattle.array_data.specs.lent_tables.Lent.{tables, maskOf}
 use Rattle.plan.specs.dictionaries.Sources.{arrayOf}
 use Rattle.array_data.specs.Sources.{firstOf}
 use Rattle.walk.specs.State.{codeOf, rows, place, lengthOf, offsetOf, far}
 use Rattle.walk.specs.Log.{startOf}
-use Rattle.parts.specs.Parts.{nodesOf, copied, hasPart, needed, partsHold, partsWithin}
+use Rattle.plan.specs.parts.Parts.{nodesOf, copied, hasPart, needed, partsHold, partsWithin}
 use Rattle.columns.specs.Grounds.{ceiling}
 use Rattle.refinement.specs.orders.Order.{Lent, joinOf, sourceCount}
 

@@ -4,7 +4,7 @@ use mathlib.Core.Bool.{Bool, true}
 use mathlib.Core.List.{List}
 use Prim.Native.Nat.{ℕ, zero, suc, _≤_, _<_}
 use Rattle.columnar.specs.Types.{Ty}
-use Rattle.formats.specs.Code.{between, isFixed, isString, isListView, isUnion}
+use Rattle.schema.specs.formats.Code.{between, isFixed, isString, isListView, isUnion}
 use Rattle.walk.specs.State.{codeOf, dictionaryOf, endOf, keepsOf}
 use Rattle.refinement.specs.walk_is_model.Holds.{Worded}
 

@@ -9,8 +9,8 @@ use Rattle.columnar.specs.Types.{Number, Plain, Ty, tPlain, tView, tListView, t
 use Rattle.columnar.specs.Plain.{PlainBody}
 use Rattle.columnar.specs.Dictionary.{Dictionary}
 use Rattle.columnar.specs.Reading.{Body}
-use Rattle.formats.specs.Code.{isInteger}
-use Rattle.formats.specs.Types.{numberOf}
+use Rattle.schema.specs.formats.Code.{isInteger}
+use Rattle.schema.specs.formats.Types.{numberOf}
 use Rattle.model.specs.Try.{done}
 use Rattle.model.specs.Opening.{keeps, shared}
 use Rattle.model.specs.Mutable.{Mutable, startNode}

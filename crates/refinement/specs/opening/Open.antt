@@ -9,15 +9,15 @@ use lib.Dec.{leb, eqb}
 use Rattle.number.specs.Number.{encode}
 use Rattle.columnar.specs.Types.{Number}
 use Rattle.columnar.specs.Test.{every}
-use Rattle.formats.specs.Code.{isInteger, isRunEnd}
-use Rattle.formats.specs.Types.{numberOf}
+use Rattle.schema.specs.formats.Code.{isInteger, isRunEnd}
+use Rattle.schema.specs.formats.Types.{numberOf}
 use Rattle.array_data.specs.Tables.{Tables}
 use Rattle.walk.specs.State.{word, codeOf, dictionaryOf, bytesOf, baseOf, setBytes, lengthOf, top}
 use Rattle.walk.specs.Log.{Out, put, done, wrote, need, next, each, apply}
 use Rattle.walk.specs.Copy.{copyWalk}
 use Rattle.columns.specs.Grounds.{ceiling, sourcesGround}
 use Rattle.plan.specs.dictionaries.Sources.{keyFits}
-use Rattle.parts.specs.Parts.{nodesOf, copied, hasOffsets, partTotal, partsPlaced, partsHold}
+use Rattle.plan.specs.parts.Parts.{nodesOf, copied, hasOffsets, partTotal, partsPlaced, partsHold}
 use Rattle.plan.specs.Plan.{planned}
 use Rattle.refinement.specs.orders.Order.{Lent, joinOf, sourceCount}
 

@@ -14,7 +14,7 @@ use Rattle.model.specs.Grounds.{Counts, rowsOf, bytesOf, kidOf}
 use Rattle.model.specs.Book.{Call, answer, entered, nullsEntered}
 use Rattle.walk.specs.State.{keepsOf}
 use Rattle.refinement.specs.walk_is_model.Holds.{childOf}
-use Rattle.parts.specs.Parts.{sizeOf}
+use Rattle.plan.specs.parts.Parts.{sizeOf}
 
 -- the bytes of each buffer of a node that holds this much, in the format's order
 abbrev pub plainSizes : Plain → Counts → List ℕ

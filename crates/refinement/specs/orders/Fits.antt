@@ -17,7 +17,7 @@ use Rattle.model.specs.Transform.{Grown, Destination}
 use Rattle.model.specs.Book.{Call, entered}
 use Rattle.model.specs.Orders.{perform}
 use Rattle.refinement.specs.walk_is_model.Holds.{childOf}
-use Rattle.parts.specs.Parts.{sizeOf}
+use Rattle.plan.specs.parts.Parts.{sizeOf}
 
 -- a node's own buffers, in the format's order
 abbrev pub plainBuffers : (p : Plain) → PlainBody p → List (List ℕ)

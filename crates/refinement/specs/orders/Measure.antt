@@ -8,9 +8,9 @@ use Rattle.walk.specs.State.{keepsOf, far, top}
 use Rattle.walk.specs.Log.{Out}
 use Rattle.walk.specs.Copy.{copyWalk}
 use Rattle.walk.specs.Nulls.{nullWalk}
-use Rattle.parts.specs.Parts.{partAt, needed}
-use Rattle.parts.specs.declared.Spot.{Spot}
-use Rattle.parts.specs.declared.Spot.the-variants.{Of, Nothing}
+use Rattle.plan.specs.parts.Parts.{partAt, needed}
+use Rattle.plan.specs.declared.parts.Spot.{Spot}
+use Rattle.plan.specs.declared.parts.Spot.the-variants.{Of, Nothing}
 use Rattle.refinement.specs.orders.Sound.{planSound}
 use Rattle.refinement.specs.orders.Order.{Lent, joinOf, sourceCount, sourceLength}
 

@@ -9,7 +9,7 @@ use Rattle.walk.specs.State.{Join, keepsOf, far}
 use Rattle.walk.specs.Log.{Out, apply}
 use Rattle.walk.specs.Copy.{copyWalk}
 use Rattle.walk.specs.Nulls.{nullWalk}
-use Rattle.parts.specs.Parts.{partsWithin, partsHold}
+use Rattle.plan.specs.parts.Parts.{partsWithin, partsHold}
 use Rattle.model.specs.Book.{Call, copy, nulls}
 use Rattle.refinement.specs.orders.Sound.{walkable}
 

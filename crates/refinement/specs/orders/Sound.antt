@@ -6,10 +6,10 @@ use mathlib.Core.List.{List}
 use Prim.Native.Nat.{ℕ, suc, _+_, _-_}
 use lib.Dec.{leb, ltb, eqb}
 use Rattle.columnar.specs.Test.{every, onlyIf}
-use Rattle.formats.specs.Code.{isFixed, isRunEnd}
+use Rattle.schema.specs.formats.Code.{isFixed, isRunEnd}
 use Rattle.walk.specs.State.{codeOf, dictionaryOf, endOf}
 use Rattle.refinement.specs.log_in_room.Reach.{hasItem}
-use Rattle.parts.specs.Parts.{nodesOf, copied}
+use Rattle.plan.specs.parts.Parts.{nodesOf, copied}
 use Rattle.columns.specs.Grounds.{ceiling}
 
 module _ (plan : List ℕ) where

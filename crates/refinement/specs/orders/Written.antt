@@ -12,7 +12,7 @@ use Rattle.walk.specs.State.{codeOf, bytesOf, rows, gap, top, far}
 use Rattle.walk.specs.Log.{Entry, put, mask, amend, Log, startOf, inRoom, Out}
 use Rattle.walk.specs.Copy.{copyWalk}
 use Rattle.walk.specs.Nulls.{nullWalk}
-use Rattle.parts.specs.Parts.{needed, Used}
+use Rattle.plan.specs.parts.Parts.{needed, Used}
 use Rattle.refinement.specs.orders.Order.{Lent, joinOf}
 
 -- the walk of an order: what it answers, counts and writes (walk/specs)

@@ -9,7 +9,7 @@ use lib.ListN.{length}
 use lib.Dec.{eqb}
 use Rattle.columnar.specs.Types.{Number, width, Plain, fixed, string, Ty, tPlain, tView, tListView, tList, tSparse, tDense, tRunEnd, tDictionary}
 use Rattle.columnar.specs.Reading.{masks}
-use Rattle.formats.specs.Code.{isFixed, isString, isView, isListView, isList}
+use Rattle.schema.specs.formats.Code.{isFixed, isString, isView, isListView, isList}
 use Rattle.model.specs.Mutable.{Mutable}
 use Rattle.model.specs.Transform.{Grown, Destination}
 use Rattle.walk.specs.State.{codeOf, dictionaryOf, endOf, idOf, nullableOf, keepsOf, bytesOf, rows, nulls, bytes, gap}

@@ -3,8 +3,8 @@ use native.Mathlib.Omega.{arith}
 use Rattle.room_writes.proofs.Laws.{alike-sized, made, put-at, put-skip, times-within}
 use mathlib.Core.Path.{sym, ap, _∙_}
 use lib.ListN.{length}
-use Rattle.formats.specs.Code.{widthOf}
-use Rattle.primitive.specs.Primitive.{rebased}
+use Rattle.schema.specs.formats.Code.{widthOf}
+use Rattle.utils.specs.primitive.Primitive.{rebased}
 use Rattle.room_writes.proofs.Bytes.{length-rebased, width-in}
 use Rattle.walk.specs.State.{scaled}
 use borrow.Author.Needs.{needs}

@@ -6,7 +6,7 @@ use Prim.Native.Nat.{ℕ}
 use Rattle.room_writes.proofs.Laws.{alike-sized, made, put-at, put-skip, times-within}
 use lib.ListN.{length}
 use Rattle.number.specs.Number.{splice}
-use Rattle.byte_view.specs.View.{reviewed}
+use Rattle.utils.specs.byte_view.View.{reviewed}
 use Rattle.room_writes.proofs.Bytes.{length-reviewed, reviewed-cut}
 use Rattle.walk.specs.State.{scaled}
 use borrow.Author.Needs.{needs}

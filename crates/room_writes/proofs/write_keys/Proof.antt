@@ -4,7 +4,7 @@ use mathlib.Core.Path.{_≡_, ap, _∙_}
 use mathlib.Core.List.{List}
 use Prim.Native.Nat.{ℕ, _*_}
 use Rattle.number.specs.Number.{splice}
-use Rattle.formats.specs.Code.{widthOf}
+use Rattle.schema.specs.formats.Code.{widthOf}
 use Rattle.room_writes.proofs.Bytes.{rebased-cut}
 use borrow.Author.Needs.{needs}
 use Rattle.room_writes.proofs.write_keys.Statement.{statement}

@@ -20,9 +20,9 @@ use Rattle.columnar.proofs.Items.{item-cut, length-cut}
 use Rattle.run_ends.specs.Lookup as lookup
 use Rattle.run_ends.specs.Lookup.{scan, leftOf, Climbs, Covers, Rising}
 use Rattle.run_ends.proofs.Left.{Left}
-use Rattle.leaf_row.specs.run.Rows.{isWidth, rowRun}
-use Rattle.leaf_row.specs.declared.run.RowRun.the-variants as answer
-use Rattle.leaf_row.proofs.run.Laws.{row-left}
+use Rattle.slot_reader.specs.run.Rows.{isWidth, rowRun}
+use Rattle.slot_reader.specs.declared.run.RowRun.the-variants as answer
+use Rattle.slot_reader.proofs.run.Laws.{row-left}
 use Rattle.row_reader.specs.Walk.{endsIn, runIn, ran}
 use Rattle.row_reader.specs.declared.Step.the-variants as step
 use Rattle.row_reader.specs.meaning.RunRows.{FallIn}

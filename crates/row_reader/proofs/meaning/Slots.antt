@@ -19,12 +19,12 @@ use Rattle.columnar.specs.Plain.{Text, value, span, OffsetsTo, Offsets}
 use Rattle.columnar.specs.View.{shown, viewOf, lengthOf, bufferOf, offsetOf, ViewGood}
 use Rattle.columnar.proofs.Items.{entry-end, item-lt}
 use Rattle.array_data.specs.Tables.{part}
-use Rattle.leaf_row.specs.Reading.{leafOf, leafRow}
-use Rattle.leaf_row.proofs.Laws.{leaf-row}
-use Rattle.leaf_row.specs.view.Place.{placeOf, partOf, lengthAt, offsetAt}
-use Rattle.leaf_row.specs.declared.view.Place.{Place}
-use Rattle.leaf_row.specs.declared.view.Place.the-variants as seen
-use Rattle.leaf_row.proofs.view.Laws.{inline, in-data, shows, view}
+use Rattle.slot_reader.specs.leaf_row.Reading.{leafOf, leafRow}
+use Rattle.slot_reader.proofs.leaf_row.Laws.{leaf-row}
+use Rattle.slot_reader.specs.view.Place.{placeOf, partOf, lengthAt, offsetAt}
+use Rattle.slot_reader.specs.declared.view.Place.{Place}
+use Rattle.slot_reader.specs.declared.view.Place.the-variants as seen
+use Rattle.slot_reader.proofs.view.Laws.{inline, in-data, shows, view}
 use Rattle.array_data.specs.entries.Entries.{holds, spotIn, sized, entryIn, validBit, validIn}
 use Rattle.array_data.specs.declared.entries.Validity.{Validity}
 use Rattle.array_data.specs.declared.entries.Validity.the-variants as validity

@@ -13,10 +13,10 @@ use Rattle.columnar.specs.Row.{bytes, seg}
 use Rattle.columnar.specs.View.{shown, viewOf, lengthOf, bufferOf, offsetOf, ViewGood}
 use Rattle.columnar.proofs.Items.{number-take, entry-end}
 use Rattle.array_data.specs.Tables.{part}
-use Rattle.leaf_row.specs.view.Place.{placeOf, partOf, lengthAt, offsetAt}
-use Rattle.leaf_row.specs.declared.view.Place.{Place}
-use Rattle.leaf_row.specs.declared.view.Place.the-variants as seen
-use Rattle.leaf_row.proofs.view.Laws.{inline, in-data, shows, view}
+use Rattle.slot_reader.specs.view.Place.{placeOf, partOf, lengthAt, offsetAt}
+use Rattle.slot_reader.specs.declared.view.Place.{Place}
+use Rattle.slot_reader.specs.declared.view.Place.the-variants as seen
+use Rattle.slot_reader.proofs.view.Laws.{inline, in-data, shows, view}
 use Rattle.array_data.specs.entries.Entries.{spotIn}
 use Rattle.array_data.specs.declared.entries.Spot.the-variants as spot
 use Rattle.array_data.proofs.entries.Laws.{number-cut, spot-yes}

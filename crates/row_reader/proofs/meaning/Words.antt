@@ -9,11 +9,11 @@ use lib.ListN.{length, take, drop}
 use lib.Dec.{leb, eqb}
 use borrow.Author.Tests.{le-leb, leb-true, leb-false}
 use Rattle.columnar.specs.Types.{i8, Number, Plain, fixed, string}
-use Rattle.formats.specs.Code as code
-use Rattle.formats.specs.Code.{Rule, is, begins, same, look, table, lastCode, isFixed, isString, isView, isListView, isList, isUnion, isSparse, isRunEnd, widthOf}
-use Rattle.formats.specs.Types.{numberOf}
-use Rattle.formats.specs.union_ids.Ids.{idsAt}
-use Rattle.formats.proofs.union_ids.Same.{Fine, fine}
+use Rattle.schema.specs.formats.Code as code
+use Rattle.schema.specs.formats.Code.{Rule, is, begins, same, look, table, lastCode, isFixed, isString, isView, isListView, isList, isUnion, isSparse, isRunEnd, widthOf}
+use Rattle.schema.specs.formats.Types.{numberOf}
+use Rattle.schema.specs.union_ids.Ids.{idsAt}
+use Rattle.schema.proofs.union_ids.Same.{Fine, fine}
 use Rattle.schema.specs.Tree.{field, dictionary, below, endOf, childAt, whole, codeOf, idsOf, leafShape, keysShape, listShape, unionShape, runShape, shape, ceilings, typed}
 use Rattle.schema.proofs.Trees.{child-inside}
 use Rattle.schema.proofs.Known.{typed-whole, typed-shape, within-nodes}

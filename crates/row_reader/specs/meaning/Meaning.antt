@@ -6,7 +6,7 @@ use Rattle.columnar.specs.Types.{Ty, tPlain, tView, tListView, tList, tSparse, 
 use Rattle.columnar.specs.Reading.{read}
 use Rattle.array_data.specs.Tables.{Tables, part}
 use Rattle.array_data.specs.Typed.{Tree, columnOf}
-use Rattle.leaf_row.specs.Reading.{leafRow}
+use Rattle.slot_reader.specs.leaf_row.Reading.{leafRow}
 use Rattle.slot_reader.specs.declared.RowRead.{RowRead}
 use Rattle.slot_reader.specs.declared.RowRead.the-variants as row
 

@@ -13,7 +13,7 @@ use borrow.Author.Tests.{ltb-true, ltb-false, leb-true, lt-ltb, le-ltb, le-leb}
 use Rattle.number.specs.Number.{number, encode, entry}
 use Rattle.number.proofs.Laws.{encode-number}
 use Rattle.bits.proofs.Laws.{bit-at}
-use Rattle.byte_view.specs.View.{viewAt}
+use Rattle.utils.specs.byte_view.View.{viewAt}
 use Rattle.columnar.specs.Types.{half}
 use Rattle.columnar.specs.Array.{item, bit, ok}
 use Rattle.columnar.specs.View.{viewOf}

@@ -9,8 +9,8 @@ use lib.Dec.{eqb}
 use borrow.Author.Tests.{lt-ltb, le-ltb, le-leb, lt-leb, eq-eqb, ne-eqb}
 use Rattle.number.specs.Number.{number}
 use Rattle.bits.specs.Bits.{bits}
-use Rattle.byte_view.specs.declared.ByteView.{ByteView}
-use Rattle.byte_view.specs.View.{viewAt}
+use Rattle.utils.specs.declared.byte_view.ByteView.{ByteView}
+use Rattle.utils.specs.byte_view.View.{viewAt}
 use Rattle.row_rules.specs.slots.Slots.{liesIn, startAt, bytesAt, viewGood, viewsGood, validViewsGood}
 use Rattle.row_rules.proofs.slots.Laws.{pass, fail, null-row, valid-row}
 

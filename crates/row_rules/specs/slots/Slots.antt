@@ -7,8 +7,8 @@ use lib.ListN.{length, take, drop, getD}
 use lib.Dec.{leb, ltb, eqb}
 use Rattle.number.specs.Number.{number, entry}
 use Rattle.bits.specs.Bits.{bits}
-use Rattle.byte_view.specs.declared.ByteView.{ByteView}
-use Rattle.byte_view.specs.View.{viewAt}
+use Rattle.utils.specs.declared.byte_view.ByteView.{ByteView}
+use Rattle.utils.specs.byte_view.View.{viewAt}
 use Rattle.columnar.specs.Types.{half}
 use Rattle.columnar.specs.Test.{every, member, onlyIf}
 

@@ -3,7 +3,7 @@ use mathlib.Core.Path.{_≡_, sym, ap, _∙_}
 use mathlib.Core.List.{[]}
 use native.Mathlib.Omega.{arith}
 use Rattle.array_data.specs.Tables.{part, place}
-use Rattle.leaf_row.specs.view.Place.{partOf}
+use Rattle.slot_reader.specs.view.Place.{partOf}
 use Rattle.array_data.specs.entries.Entries.{column, spotIn}
 use Rattle.array_data.proofs.entries.Laws.{room}
 use Rattle.slot_reader.specs.Slots.{viewed}

@@ -5,7 +5,7 @@ use mathlib.Core.Bool.{true}
 use native.Mathlib.Omega.{arith}
 use Rattle.columnar.specs.Test.{every}
 use Rattle.array_data.proofs.lent_tables.Laws.{no, yes}
-use Rattle.parts.proofs.Laws.{every-one}
+use Rattle.plan.proofs.parts.Laws.{every-one}
 use Rattle.refinement.specs.orders.Sound.{nodeSound}
 use Rattle.sound.proofs.Laws.{plan-none, plan-no, plan-all}
 use Rattle.sound.proofs.plan_sound.Statement.{statement}

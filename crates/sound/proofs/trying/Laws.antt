@@ -10,7 +10,7 @@ use lib.Seq.{getD-set-same, getD-set-other}
 use borrow.Author.Count.{below-more}
 use Rattle.columnar.specs.Test.{every}
 use Rattle.walk.specs.State.{rows, nulls, bytes, grown, top, addRows, addNulls, setBytes, endGap, beginGap}
-use Rattle.parts.specs.Parts.{nodesOf, partHolds, partsHold}
+use Rattle.plan.specs.parts.Parts.{nodesOf, partHolds, partsHold}
 use Rattle.sound.specs.trying.Alike.{Alike, Full}
 
 pub alike-refl : (c : List ℕ) → Alike c c

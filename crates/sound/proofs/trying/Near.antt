@@ -7,7 +7,7 @@ use lib.ListN.{length}
 use lib.Dec.{leb, ltb, eqb}
 use Rattle.columnar.specs.Types.{half}
 use Rattle.number.specs.Number.{entry}
-use Rattle.formats.specs.Code.{isFixed, isString, isView, isListView, isList}
+use Rattle.schema.specs.formats.Code.{isFixed, isString, isView, isListView, isList}
 use Rattle.utils.specs.Extension.{extended}
 use Rattle.utils.specs.declared.Extended.{Extended}
 use Rattle.utils.specs.declared.Extended.the-variants.{Fits, Over, Falls}

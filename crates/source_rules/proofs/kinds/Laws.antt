@@ -13,7 +13,7 @@ use lib.Dec.{leb, eqb}
 use borrow.Author.Tests.{le-leb, lt-leb, leb-true, leb-false}
 use Rattle.columnar.specs.Types.{Number, i8, u8, i16, u16, i32, u32, i64, u64, f32, f64, width, limit}
 use Rattle.columnar.specs.Test.{every, each}
-use Rattle.formats.specs.Types.{numberOf}
+use Rattle.schema.specs.formats.Types.{numberOf}
 use Rattle.row_rules.specs.slots.Slots.{startAt, bytesAt, viewsGood, validViewsGood, keysBelow, validKeysBelow, idsDeclared, positionsWithin}
 use Rattle.row_rules.proofs.slots.Laws.{fail}
 use Rattle.array_data.specs.Tables.{Tables, lengthOf, offsetOf, place}

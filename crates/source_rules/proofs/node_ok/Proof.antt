@@ -7,7 +7,7 @@ use native.Mathlib.Numerals.{add-one}
 use native.Mathlib.Nat.{add-suc}
 use lib.Dec.{eqb}
 use Rattle.columnar.specs.Formed.{RunWidth}
-use Rattle.formats.specs.Code.{isFixed, isString, isList, isView, isListView, isUnion, isSparse, isRunEnd, widthOf}
+use Rattle.schema.specs.formats.Code.{isFixed, isString, isList, isView, isListView, isUnion, isSparse, isRunEnd, widthOf}
 use Rattle.schema.specs.Tree.{codeOf}
 use Rattle.schema.proofs.Known.{typed-shape}
 use Rattle.array_data.specs.Rules.{stringRule, listViewRule, listRule, runEndRule}

@@ -1,6 +1,6 @@
 -- `source_rules::number_ok` meets its contract. Assumes nothing.
 use mathlib.Core.Path.{ap, sym, _∙_}
-use Rattle.formats.proofs.Types.{number-width}
+use Rattle.schema.proofs.formats.Types.{number-width}
 use Rattle.array_data.specs.lent_tables.Lent.{tables}
 use Rattle.source_rules.specs.Source.{numberRule}
 use borrow.Author.Needs.{needs}

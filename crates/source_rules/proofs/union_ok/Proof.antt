@@ -2,8 +2,8 @@
 use mathlib.Core.Path.{ap, refl, sym, _∙_}
 use native.Mathlib.Omega.{arith}
 use lib.ListN.{length, replicate}
-use Rattle.formats.specs.union_ids.Ids.{idsAt}
-use Rattle.formats.proofs.union_ids.Same.{fine, written-length, count-fine}
+use Rattle.schema.specs.union_ids.Ids.{idsAt}
+use Rattle.schema.proofs.union_ids.Same.{fine, written-length, count-fine}
 use Rattle.schema.proofs.Known.{typed-shape}
 use Rattle.source_rules.specs.kinds.Rows.{tablesOf}
 use Rattle.source_rules.proofs.Union.{ids-part, no-bad, sparse-last, dense-last}

@@ -16,10 +16,10 @@ use Rattle.walk.specs.Log.{Out, Did}
 use Rattle.walk.specs.Copy.{isWidth}
 use Rattle.walk.specs.Nulls.{NullWalk, nullableChild, noHome, nullData, nullWalk}
 use Rattle.nested_rows.proofs.Laws.{ends-ready}
-use Rattle.stops.specs.declared.Why.{Why}
-use Rattle.stops.specs.Why.{only, nothing, named, clash, unless, past}
-use Rattle.stops.specs.Copy.{most}
-use Rattle.stops.specs.Nulls.{walked, firstPosition, whyNullFields, whyNullSparse, whyNullHome, whyNullDense, whyNullEnd, whyNullRuns, whyNullData, whyNullNode, whyNulls}
+use Rattle.stop_walks.specs.declared.stops.Why.{Why}
+use Rattle.stop_walks.specs.stops.Why.{only, nothing, named, clash, unless, past}
+use Rattle.stop_walks.specs.stops.Copy.{most}
+use Rattle.stop_walks.specs.stops.Nulls.{walked, firstPosition, whyNullFields, whyNullSparse, whyNullHome, whyNullDense, whyNullEnd, whyNullRuns, whyNullData, whyNullNode, whyNulls}
 use Rattle.stop_walks.specs.Step.{Tried}
 use Rattle.stop_walks.proofs.Laws.{cut}
 use Rattle.stop_walks.specs.declared.nulls.NullStep.{NullStep}

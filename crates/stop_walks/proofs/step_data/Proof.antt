@@ -2,7 +2,7 @@
 use mathlib.Core.Path.{_≡_, refl, sym, ap, _∙_}
 use Rattle.walk.specs.Copy.{copyWalk}
 use Rattle.leaf_walk.specs.Join.{join}
-use Rattle.node_data.proofs.Laws.{string-wide, list-wide, lists-wide}
+use Rattle.nested_rows.proofs.node_data.Laws.{string-wide, list-wide, lists-wide}
 use Rattle.stop_walks.proofs.Whole.{on-string, on-view, on-list, on-sparse, on-dense, on-runs, on-leaf, leaf-code}
 use borrow.Author.Needs.{needs}
 use Rattle.stop_walks.proofs.step_data.Statement.{statement}

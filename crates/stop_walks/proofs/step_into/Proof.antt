@@ -1,7 +1,7 @@
 -- `stop_walks::step_into` meets its contract. Assumes nothing.
 use Rattle.leaf_walk.specs.Join.{join}
 use Rattle.stop_walks.proofs.Laws.{into-stop, into-on}
-use Rattle.stops.specs.Copy.{whyCopy}
+use Rattle.stop_walks.specs.stops.Copy.{whyCopy}
 use borrow.Author.Needs.{needs}
 use Rattle.stop_walks.proofs.step_into.Statement.{statement}
 use Rattle.stop_walks.proofs.step_into.Tie as tie

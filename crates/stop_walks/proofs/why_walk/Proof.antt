@@ -3,7 +3,7 @@ use mathlib.Core.Path.{_≡_, refl, sym, ap, _∙_}
 use Prim.Native.Nat.{_-_}
 use native.Mathlib.Omega.{arith}
 use Rattle.leaf_walk.specs.Join.{join}
-use Rattle.stops.specs.Copy.{whyCopy}
+use Rattle.stop_walks.specs.stops.Copy.{whyCopy}
 use Rattle.stop_walks.proofs.Laws.{after-on, after-here, after-below}
 use Rattle.stop_walks.proofs.Whole.{level, bottom}
 use borrow.Author.Needs.{needs}

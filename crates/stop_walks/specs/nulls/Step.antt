@@ -4,9 +4,9 @@ use mathlib.Core.List.{List}
 use Prim.Native.Nat.{ℕ}
 use Rattle.walk.specs.State.{Join}
 use Rattle.walk.specs.Log.{Out}
-use Rattle.stops.specs.declared.Why.{Why}
-use Rattle.stops.specs.Why.{nothing}
-use Rattle.stops.specs.Nulls.{whyNulls}
+use Rattle.stop_walks.specs.declared.stops.Why.{Why}
+use Rattle.stop_walks.specs.stops.Why.{nothing}
+use Rattle.stop_walks.specs.stops.Nulls.{whyNulls}
 use Rattle.stop_walks.specs.declared.nulls.NullStep.{NullStep}
 use Rattle.stop_walks.specs.declared.nulls.NullStep.the-variants.{On, Here, Below}
 

@@ -3,7 +3,7 @@ use mathlib.Core.Path.{sym, _∙_}
 use mathlib.Core.Bool.{not}
 use lib.Dec.{eqb}
 use borrow.Author.Tests.{not-true, eqb-false}
-use Rattle.formats.specs.Code.{between}
+use Rattle.schema.specs.formats.Code.{between}
 use Rattle.walk.specs.State.{codeOf}
 use Rattle.array_data.proofs.lent_tables.Laws.{and-left, and-right}
 use Rattle.transform.proofs.leaf_rows.Entries.{told, leaf-code}

@@ -6,7 +6,7 @@ use native.Mathlib.Omega.{arith}
 use lib.ListN.{length, getD, set, length-set}
 use lib.Seq.{getD-set-same, getD-set-other}
 use Rattle.walk.specs.State.{rows, nulls, bytes, addRows, setBytes, grown, top}
-use Rattle.parts.specs.Parts.{partsHold}
+use Rattle.plan.specs.parts.Parts.{partsHold}
 use Rattle.sound.specs.trying.Alike.{Alike}
 use Rattle.sound.proofs.trying.Laws.{alike-rows, alike-bytes, hold-alike}
 

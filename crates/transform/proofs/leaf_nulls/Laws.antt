@@ -8,7 +8,7 @@ use lib.ListN.{length, replicate, length-set}
 use lib.Seq.{getD-set-other}
 use lib.Dec.{eqb}
 use borrow.Author.Tests.{lt-ltb}
-use Rattle.formats.specs.Code.{isFixed, isString, isView, widthOf}
+use Rattle.schema.specs.formats.Code.{isFixed, isString, isView, widthOf}
 use Rattle.utils.specs.Offsets.{repeated}
 use Rattle.room_writes.proofs.Bytes.{width-in}
 use Rattle.walk.specs.State.{Join, codeOf, keepsOf, bytesOf, rows, nulls, bytes, grown, scaled, top, addRows, addNulls, setBytes}
@@ -21,9 +21,9 @@ use Rattle.leaf_walk.specs.Join.{join}
 use Rattle.leaf_walk.proofs.Laws.{wrote-at}
 use Rattle.leaf_walk.proofs.Widths.{string-width}
 use Rattle.leaf_walk.proofs.variable_size.Laws.{wrote-next}
-use Rattle.node_data.proofs.Laws.{null-numbers, null-string, null-views, nulls-masked, on-numbers, on-string, on-views}
+use Rattle.nested_rows.proofs.node_data.Laws.{null-numbers, null-string, null-views, nulls-masked, on-numbers, on-string, on-views}
 use Rattle.extend_nulls.proofs.Laws.{at-done}
-use Rattle.parts.specs.Parts.{entrySize, partsWithin, partsHold}
+use Rattle.plan.specs.parts.Parts.{entrySize, partsWithin, partsHold}
 use Rattle.sound.specs.trying.Alike.{Alike}
 use Rattle.sound.proofs.trying.Laws.{alike-refl}
 use Rattle.sound.proofs.trying.Near.{near-same}

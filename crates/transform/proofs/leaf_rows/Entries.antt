@@ -7,9 +7,9 @@ use native.Mathlib.Omega.{arith}
 use lib.ListN.{length, take, drop}
 use lib.Dec.{leb, eqb}
 use borrow.Author.Tests.{le-leb, lt-leb, leb-true, leb-false}
-use Rattle.formats.specs.Code.{between, isFixed, isString, isView, widthOf}
-use Rattle.primitive.specs.Primitive.{rebased}
-use Rattle.byte_view.specs.View.{reviewed}
+use Rattle.schema.specs.formats.Code.{between, isFixed, isString, isView, widthOf}
+use Rattle.utils.specs.primitive.Primitive.{rebased}
+use Rattle.utils.specs.byte_view.View.{reviewed}
 use Rattle.array_data.proofs.lent_tables.Laws.{and-left, and-right}
 use Rattle.walk.specs.State.{Join, codeOf, dictionaryOf, bytesOf, baseOf, rows, place, rowsIn, scaled, top}
 use Rattle.walk.specs.Log.{Entry, put, Did, applyIf, need, wrote}
@@ -19,8 +19,8 @@ use Rattle.walk.proofs.Laws.{wrote-did, need-no, need-ok}
 use Rattle.room_writes.proofs.Bytes.{width-in}
 use Rattle.leaf_walk.proofs.Laws.{wrote-at, zero-same}
 use Rattle.leaf_walk.proofs.Widths.{fixed-width}
-use Rattle.node_data.proofs.Laws.{data-numbers, data-keys, data-views, to-numbers, to-keys, to-views}
-use Rattle.parts.specs.Parts.{entrySize}
+use Rattle.nested_rows.proofs.node_data.Laws.{data-numbers, data-keys, data-views, to-numbers, to-keys, to-views}
+use Rattle.plan.specs.parts.Parts.{entrySize}
 
 -- ---- codes
 

@@ -14,9 +14,9 @@ use Rattle.walk.specs.Leaves.{copyMask}
 use Rattle.walk.specs.Copy.{masked, copyData, copyWalk}
 use Rattle.leaf_walk.specs.Join.{join}
 use Rattle.leaf_walk.proofs.Laws.{bits-no, bits-tried, mask-off, mask-ones, mask-bits}
-use Rattle.node_data.proofs.Laws.{valid-some}
+use Rattle.nested_rows.proofs.node_data.Laws.{valid-some}
 use Rattle.extend.proofs.Laws.{at-far, at-valid, at-data, at-done}
-use Rattle.parts.specs.Parts.{partsWithin, partsHold}
+use Rattle.plan.specs.parts.Parts.{partsWithin, partsHold}
 use Rattle.sound.specs.trying.Alike.{Alike}
 use Rattle.sound.proofs.trying.Laws.{alike-refl}
 use Rattle.sound.proofs.trying.Near.{near-copy}

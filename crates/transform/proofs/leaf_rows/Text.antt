@@ -9,7 +9,7 @@ use lib.Seq.{getD-set-other}
 use lib.Dec.{leb, eqb}
 use borrow.Author.Tests.{le-leb, lt-leb, leb-true}
 use Rattle.bits.specs.Bits.{bitsAt, zeros}
-use Rattle.formats.specs.Code.{isFixed, isString}
+use Rattle.schema.specs.formats.Code.{isFixed, isString}
 use Rattle.utils.specs.Extension.{extended}
 use Rattle.utils.specs.declared.Extended.the-variants.{Fits}
 use Rattle.array_data.proofs.lent_tables.Laws.{and-left, and-right}
@@ -18,7 +18,7 @@ use Rattle.walk.specs.Log.{Entry, mask, Did, applyIf, need, next, wrote, done, 
 use Rattle.walk.specs.Leaves.{copyBits, copyMask, putExtended}
 use Rattle.walk.specs.Copy.{Walk, copyData}
 use Rattle.leaf_walk.proofs.variable_size.Laws.{string-no, string-yes, extended-fits, copy-out, copy-in}
-use Rattle.node_data.proofs.Laws.{to-string}
+use Rattle.nested_rows.proofs.node_data.Laws.{to-string}
 
 -- validity leaves the bytes of data
 pub mask-bytes : (x : Join) (i slot n : ℕ) (c : List ℕ) → bytes (copyMask x i slot n c .counts) i ≡ bytes c i

@@ -12,18 +12,18 @@ use borrow.Author.Tests.{eqb-true, leb-true, le-leb, lt-leb, lt-ltb, le-ltb}
 use Rattle.number.specs.Number.{splice}
 use Rattle.bits.specs.Bits.{bitsAt, zeros}
 use Rattle.columnar.specs.Test.{every}
-use Rattle.formats.specs.Code.{isFixed, isString, isView, isList}
+use Rattle.schema.specs.formats.Code.{isFixed, isString, isView, isList}
 use Rattle.array_data.proofs.lent_tables.Laws.{and-left, and-right}
 use Rattle.walk.specs.State.{Join, codeOf, dictionaryOf, endOf, keepsOf, partOf, rows, nulls, grown, addRows, addNulls, setBytes, scaled, place, top}
 use Rattle.walk.specs.Log as log
 use Rattle.walk.specs.Log.{Entry, put, mask, Did, startOf, enter, apply, applyIf, fail, done, wrote, need, next}
 use Rattle.walk.specs.Leaves.{copyBits, copyMask}
-use Rattle.parts.specs.Parts.{nodesOf, bufferCount, hasPart, numberOf, entrySize, neededBy, startAt, sizeAt, inRoom, partWithin, partHolds, partsWithin, partsHold}
-use Rattle.parts.specs.grounds.Verdict.{verdict, worseOf}
-use Rattle.parts.proofs.Laws.{copied-root, bits-hold}
-use Rattle.parts.proofs.Placed.{every-at}
-use Rattle.parts.proofs.Words.{has-buffers}
-use Rattle.parts.proofs.grounds.Laws.{part-none, no-buffer, node-three, nodes-all}
+use Rattle.plan.specs.parts.Parts.{nodesOf, bufferCount, hasPart, numberOf, entrySize, neededBy, startAt, sizeAt, inRoom, partWithin, partHolds, partsWithin, partsHold}
+use Rattle.plan.specs.grounds.Verdict.{verdict, worseOf}
+use Rattle.plan.proofs.parts.Laws.{copied-root, bits-hold}
+use Rattle.plan.proofs.parts.Placed.{every-at}
+use Rattle.plan.proofs.parts.Words.{has-buffers}
+use Rattle.plan.proofs.grounds.Laws.{part-none, no-buffer, node-three, nodes-all}
 use Rattle.refinement.specs.orders.Sound.{nestedIn, kindSound, nodeSound, planSound, walkable}
 use Rattle.columns.specs.Grounds.{ceiling}
 use Rattle.transform.specs.numbers.Plan.{oneOfNumbers}

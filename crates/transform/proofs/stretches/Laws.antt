@@ -10,7 +10,7 @@ use Rattle.walk.specs.State.{Join, top}
 use Rattle.walk.specs.Log.{Out, Did, apply, applyIf}
 use Rattle.walk.specs.Copy.{copyWalk}
 use Rattle.leaf_walk.specs.Join.{join}
-use Rattle.parts.specs.Parts.{partsWithin, partsHold}
+use Rattle.plan.specs.parts.Parts.{partsWithin, partsHold}
 use Rattle.sound.proofs.trying.Near.{Near, near-same}
 use Rattle.refinement.specs.orders.Order.{Lent, settled}
 use Rattle.batch.specs.Rise.{partsRise}

@@ -3,9 +3,9 @@ use mathlib.Core.Bool.{Bool, _&&_}
 use mathlib.Core.List.{List}
 use Prim.Native.Nat.{ℕ}
 use lib.Dec.{eqb}
-use Rattle.formats.specs.Code.{isFixed}
+use Rattle.schema.specs.formats.Code.{isFixed}
 use Rattle.walk.specs.State.{codeOf, dictionaryOf, endOf}
-use Rattle.parts.specs.Parts.{nodesOf}
+use Rattle.plan.specs.parts.Parts.{nodesOf}
 
 -- the plan has one node, which ends behind itself and is of numbers without a dictionary
 abbrev pub oneOfNumbers : List ℕ → Bool

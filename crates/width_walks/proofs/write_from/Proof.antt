@@ -5,7 +5,7 @@ use Prim.Native.Nat.{suc, _-_, _≤_}
 use native.Mathlib.Omega.{arith}
 use Rattle.plan.specs.Plan.{filled}
 use Rattle.plan.proofs.Laws.{filled-none, filled-more, filled-all}
-use Rattle.target_rules.specs.Target.{endsAt}
+use Rattle.width_walks.specs.target_rules.Target.{endsAt}
 use Rattle.width_walks.specs.Call.{fromWords}
 use Rattle.width_walks.proofs.write_from.Statement.{statement}
 use Rattle.width_walks.proofs.write_from.Tie as tie

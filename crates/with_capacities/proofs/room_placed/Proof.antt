@@ -1,7 +1,7 @@
 -- `with_capacities::room_placed` meets its contract. Assumes nothing.
 use borrow.Author.Tests.{eq-eqb, ne-eqb}
 use mathlib.Core.Path.{ap, _∙_}
-use Rattle.parts.specs.Parts.{partsPlaced}
+use Rattle.plan.specs.parts.Parts.{partsPlaced}
 use borrow.Author.Needs.{needs}
 use Rattle.with_capacities.proofs.room_placed.Statement.{statement}
 use Rattle.with_capacities.proofs.room_placed.Tie as tie

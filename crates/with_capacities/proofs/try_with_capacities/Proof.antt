@@ -3,7 +3,7 @@ use Prim.Native.Nat.{_*_}
 use native.Mathlib.Omega.{arith}
 use Rattle.source_rules.specs.kinds.Rows.{tablesOf}
 use lib.ListN.{length}
-use Rattle.parts.specs.Parts.{partTotal, partsPlaced}
+use Rattle.plan.specs.parts.Parts.{partTotal, partsPlaced}
 use Rattle.with_capacities.proofs.Laws.{can-plan, plan-is, few-sources, open-large, open-sources, open-room, open-made, lengths-are}
 use borrow.Author.Needs.{needs}
 use Rattle.with_capacities.proofs.try_with_capacities.Statement.{statement}

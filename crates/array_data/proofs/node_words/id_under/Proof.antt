@@ -3,8 +3,8 @@ use mathlib.Core.Path.{_≡_, ap, refl, sym, _∙_}
 use Prim.Native.Nat.{_≤_}
 use native.Mathlib.Omega.{arith}
 use lib.ListN.{length, replicate}
-use Rattle.formats.specs.union_ids.Ids.{idsAt}
-use Rattle.formats.proofs.union_ids.Same.{fine, written-length, count-fine}
+use Rattle.schema.specs.union_ids.Ids.{idsAt}
+use Rattle.schema.proofs.union_ids.Same.{fine, written-length, count-fine}
 use Rattle.array_data.proofs.node_words.Laws.{no-id, under}
 use borrow.Author.Needs.{needs}
 use Rattle.array_data.proofs.node_words.id_under.Statement.{statement}

@@ -2,8 +2,8 @@
 use Prim.Native.Nat.{_-_, _/_, _^_}
 use native.Mathlib.Omega.{arith}
 use borrow.Author.Needs.{needs}
-use Rattle.sums.specs.patterns.Parts.{topBit}
-use Rattle.sums.proofs.patterns.Laws.{some-bytes, times-bit}
+use Rattle.cell_sums.specs.patterns.Parts.{topBit}
+use Rattle.cell_sums.proofs.patterns.Laws.{some-bytes, times-bit}
 use Rattle.cell_sums.proofs.blocks.Sums.{top-one}
 use Rattle.cell_sums.proofs.blocks.tally_of.Statement.{statement}
 use Rattle.cell_sums.proofs.blocks.tally_of.Tie as tie

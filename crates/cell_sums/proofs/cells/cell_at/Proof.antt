@@ -4,7 +4,7 @@ use native.Mathlib.Omega.{arith}
 use Prim.Native.Nat.{ℕ, _+_, _≤_}
 use mathlib.Core.Bool.{Bool, true, false, not, cond}
 use mathlib.Core.List.{List}
-use Rattle.sums.specs.tally.Cells.{cell}
+use Rattle.cell_sums.specs.tally.Cells.{cell}
 use Rattle.cell_sums.specs.declared.cells.Cells.{Cells}
 use Rattle.cell_sums.specs.cells.Cells.{validAt, belowAt, patternAt, cellAt}
 use borrow.Author.Needs.{needs}

@@ -3,7 +3,7 @@ use mathlib.Core.Path.{_≡_, refl, sym, ap, ap₂, subst, _∙_}
 use native.Mathlib.Omega.{arith}
 use Prim.Native.Nat.{ℕ, _-_}
 use Rattle.columnar.specs.Types.{limit}
-use Rattle.formats.specs.Types.{numberOf}
+use Rattle.schema.specs.formats.Types.{numberOf}
 use Rattle.cell_sums.specs.cells.Cells.{numberAt}
 use Rattle.cell_sums.proofs.cells.Codes.{the-last}
 use Rattle.cell_sums.proofs.cells.top_of.Statement.{statement}

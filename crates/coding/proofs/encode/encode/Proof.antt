@@ -13,7 +13,7 @@ use Rattle.columns.specs.Grounds.{smallBody, columnGround}
 use Rattle.array_data.specs.lent_tables.Lent.{tables}
 use Rattle.anew.specs.Anew.{ahead, roomGround}
 use Rattle.anew.proofs.PlanWords.{plan-length}
-use Rattle.result_plan.proofs.Answered.{before-column, before-own, answers-large, answers-refused, answers-room, answers-made}
+use Rattle.anew.proofs.result_plan.Answered.{before-column, before-own, answers-large, answers-refused, answers-room, answers-made}
 use Rattle.coding.specs.Encode.{encodeOwn, encodeKeeps, encodePlan, encodeOut, RoomFor, runsIn}
 use Rattle.coding.proofs.Grounds.{own-same}
 use Rattle.coding.proofs.Encoded.{due, come, codable, counts-are, room-is}

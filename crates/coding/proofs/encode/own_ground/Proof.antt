@@ -4,7 +4,7 @@ use mathlib.Core.List.{[]}
 use Prim.Native.Nat.{ℕ, _≤_}
 use native.Mathlib.Omega.{arith}
 use borrow.Author.Needs.{needs}
-use Rattle.formats.specs.Code.{widthOf}
+use Rattle.schema.specs.formats.Code.{widthOf}
 use Rattle.array_data.specs.lent_tables.Lent.{tables}
 use Rattle.coding.proofs.Codes.{three-as}
 use Rattle.coding.proofs.Tests.{yes-by}

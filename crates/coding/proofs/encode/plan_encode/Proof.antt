@@ -11,7 +11,7 @@ use Rattle.array_data.specs.Tables.{Tables}
 use Rattle.source_rules.specs.kinds.Rows.{tablesOf}
 use Rattle.columns.specs.Grounds.{columnGround}
 use Rattle.anew.specs.Anew.{ahead}
-use Rattle.result_plan.proofs.Answered.{before-column, before-own, asks-refused, asks-lengths, asks-done}
+use Rattle.anew.proofs.result_plan.Answered.{before-column, before-own, asks-refused, asks-lengths, asks-done}
 use Rattle.coding.specs.Encode.{encodeOwn, encodeKeeps, encodePlan, encodeOut}
 use Rattle.coding.proofs.Grounds.{own-same}
 use Rattle.coding.proofs.Encoded.{come, codable, counts-are}

@@ -13,7 +13,7 @@ use Rattle.columns.specs.Grounds.{smallBody, columnGround}
 use Rattle.array_data.specs.lent_tables.Lent.{tables}
 use Rattle.anew.specs.Anew.{ahead, roomGround}
 use Rattle.anew.proofs.PlanWords.{plan-length}
-use Rattle.result_plan.proofs.Answered.{before-column, before-own, answers-large, answers-refused, answers-room, answers-made}
+use Rattle.anew.proofs.result_plan.Answered.{before-column, before-own, answers-large, answers-refused, answers-room, answers-made}
 use Rattle.coding.specs.Expand.{expandOwn, expandKeeps, expandPlan, expandOut, RowsFit, rowsIn}
 use Rattle.coding.proofs.Runs.{own-same, none-before, rows-fit}
 use Rattle.coding.proofs.Expanded.{ranged, come, expandable, counts-are, room-is}

@@ -6,8 +6,8 @@ use lib.ListN.{length}
 use borrow.Author.Needs.{needs}
 use Rattle.array_data.specs.Tables.{part, lengthOf, offsetOf}
 use Rattle.array_data.specs.entries.Entries.{column}
-use Rattle.leaf_row.specs.declared.run.RowRun.{RowRun}
-use Rattle.leaf_row.specs.run.Rows.{rowRun}
+use Rattle.slot_reader.specs.declared.run.RowRun.{RowRun}
+use Rattle.slot_reader.specs.run.Rows.{rowRun}
 use Rattle.cell_sums.specs.declared.stretches.Ends.{Ends}
 use Rattle.cell_sums.specs.stretches.Ends.{endsOf}
 use Rattle.coding.specs.Expand.{runOr}

@@ -9,7 +9,7 @@ use Rattle.array_data.specs.Tables.{Tables}
 use Rattle.source_rules.specs.kinds.Rows.{tablesOf}
 use Rattle.columns.specs.Grounds.{columnGround}
 use Rattle.anew.specs.Anew.{ahead}
-use Rattle.result_plan.proofs.Answered.{before-column, before-own, asks-refused, asks-lengths, asks-done}
+use Rattle.anew.proofs.result_plan.Answered.{before-column, before-own, asks-refused, asks-lengths, asks-done}
 use Rattle.coding.specs.Expand.{expandOwn, expandPlan, expandOut}
 use Rattle.coding.proofs.Runs.{own-same, none-before}
 use Rattle.coding.proofs.Expanded.{ranged, come, counts-are}

@@ -4,7 +4,7 @@ use native.Mathlib.Omega.{arith}
 use mathlib.Core.Path.{ap, _∙_}
 use Prim.Native.Nat.{_+_}
 use Rattle.columnar.specs.Array.{ok}
-use Rattle.convert_lists.specs.Listing as walks
+use Rattle.convert.specs.convert_lists.Listing as walks
 use Rattle.convert.proofs.Walked.{row-valid, row-null}
 use borrow.Author.Needs.{needs}
 use Rattle.convert.proofs.lists.list_row.Statement.{statement}

@@ -8,7 +8,7 @@ use lib.ListN.{length}
 use Rattle.walk.specs.Log.{each}
 use Rattle.walk.proofs.Laws.{each-none, each-stop, each-more, Rest}
 use Rattle.leaf_walk.specs.Join.{join}
-use Rattle.convert_lists.specs.Listing.{listRow}
+use Rattle.convert.specs.convert_lists.Listing.{listRow}
 use Rattle.convert.proofs.Walked.{rows-short, rows-all, row-first, row-second, row-size, wide-small}
 use borrow.Author.Needs.{needs}
 use Rattle.convert.proofs.lists.list_rows.Statement.{statement}

@@ -3,7 +3,7 @@ use native.Mathlib.Omega.{arith}
 use mathlib.Core.List.{[], _∷_}
 use Rattle.array_data.specs.lent_tables.Lent.{tables}
 use Rattle.leaf_walk.specs.Join.{join}
-use Rattle.convert_lists.specs.ToList.{lentWith}
+use Rattle.convert.specs.convert_lists.ToList.{lentWith}
 use Rattle.convert.proofs.Walked.{slot-as, length-as, walk-mask, walk-rows, walk-done, wide-as}
 use borrow.Author.Needs.{needs}
 use Rattle.convert.proofs.lists.list_walk.Statement.{statement}

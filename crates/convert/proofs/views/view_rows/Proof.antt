@@ -8,7 +8,7 @@ use lib.ListN.{length}
 use Rattle.walk.specs.Log.{each}
 use Rattle.walk.proofs.Laws.{each-none, each-more, Rest}
 use Rattle.leaf_walk.specs.Join.{join}
-use Rattle.convert_lists.specs.Viewing.{viewRow}
+use Rattle.convert.specs.convert_lists.Viewing.{viewRow}
 use Rattle.convert.proofs.Walked.{wide-small}
 use Rattle.convert.proofs.Viewed.{rows-none, rows-short, rows-all, row-in, row-size}
 use borrow.Author.Needs.{needs}

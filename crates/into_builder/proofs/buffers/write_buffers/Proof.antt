@@ -1,7 +1,7 @@
 -- `buffer_names::write_buffers` meets its contract. The invariant: the data buffers of the first i nodes are written. Assumes nothing.
 use mathlib.Core.Path.{_≡_}
 use Prim.Native.Nat.{_*_, _-_, _≤_}
-use Rattle.parts.specs.Parts.{nodesOf}
+use Rattle.plan.specs.parts.Parts.{nodesOf}
 use Rattle.into_builder.specs.buffers.Names.{countBefore, namesBefore, Behind}
 use Rattle.into_builder.proofs.buffers.Names.{before-none, before-more, before-within, nodes-none, nodes-more, nodes-all}
 use native.Mathlib.Omega.{arith}

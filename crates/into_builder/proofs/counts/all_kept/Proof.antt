@@ -5,8 +5,8 @@ use Prim.Native.Nat.{_-_, _≤_}
 use Rattle.columnar.specs.Test.{every}
 use Rattle.columnar.proofs.Test.{every-false}
 use Rattle.array_data.proofs.lent_tables.Laws.{no, yes}
-use Rattle.parts.specs.Parts.{nodesOf}
-use Rattle.parts.proofs.Laws.{every-one, every-now}
+use Rattle.plan.specs.parts.Parts.{nodesOf}
+use Rattle.plan.proofs.parts.Laws.{every-one, every-now}
 use Rattle.into_builder.specs.counts.Counts.{keptOf}
 use native.Mathlib.Omega.{arith}
 use Rattle.into_builder.proofs.counts.all_kept.Statement.{statement}

@@ -1,7 +1,7 @@
 -- `finished_counts::write_lengths` meets its contract. The invariant: the first q numbers are written. Assumes nothing.
 use Prim.Native.Nat.{_*_, _-_, _≤_}
 use Rattle.columnar.specs.Row.{seg}
-use Rattle.parts.specs.Parts.{nodesOf}
+use Rattle.plan.specs.parts.Parts.{nodesOf}
 use Rattle.refinement.specs.finishing.Finish.{lengthTable}
 use Rattle.into_builder.specs.buffers.Names.{Behind}
 use Rattle.into_builder.proofs.buffers.Written.{behind-none, table-more, table-all}

@@ -2,8 +2,8 @@
 use mathlib.Core.List.{[]}
 use Prim.Native.Nat.{_<_, _-_, _≤_}
 use Rattle.columnar.specs.Row.{seg}
-use Rattle.parts.specs.Parts.{nodesOf}
-use Rattle.parts.proofs.Placed.{every-at}
+use Rattle.plan.specs.parts.Parts.{nodesOf}
+use Rattle.plan.proofs.parts.Placed.{every-at}
 use Rattle.refinement.specs.finishing.Finish.{nullsAt, nullTable}
 use Rattle.into_builder.specs.buffers.Names.{lent, Behind}
 use Rattle.into_builder.specs.counts.Counts.{keptOf}

@@ -1,7 +1,7 @@
 -- `finished_places::view_place` meets its contract. Assumes nothing.
 use mathlib.Core.Path.{refl}
 use Rattle.array_data.proofs.lent_tables.Laws.{no, yes}
-use Rattle.parts.specs.Parts.{nodesOf}
+use Rattle.plan.specs.parts.Parts.{nodesOf}
 use Rattle.into_builder.proofs.buffers.Names.{before-within}
 use Rattle.into_builder.proofs.places.Spots.{view-not, view-first, view-count}
 use borrow.Author.Needs.{needs}

@@ -4,7 +4,7 @@ use mathlib.Core.List.{List, []}
 use Prim.Native.Nat.{ℕ, _*_, _/_, _%_, _-_, _≤_, _<_}
 use lib.ListN.{length, length-set}
 use Rattle.columnar.specs.Row.{seg}
-use Rattle.parts.specs.Parts.{nodesOf}
+use Rattle.plan.specs.parts.Parts.{nodesOf}
 use Rattle.refinement.specs.finishing.Finish.{nullTable, placeAt, placeTable}
 use Rattle.into_builder.specs.buffers.Names.{lent, Behind}
 use Rattle.into_builder.proofs.buffers.Written.{behind-none, table-more, table-all}

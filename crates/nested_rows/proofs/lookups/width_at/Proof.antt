@@ -1,6 +1,6 @@
 -- `steps::width_at` meets its contract. Assumes nothing.
 use mathlib.Core.Path.{_∙_, ap}
-use Rattle.formats.specs.Code.{widthOf}
+use Rattle.schema.specs.formats.Code.{widthOf}
 use borrow.Author.Needs.{needs}
 use Rattle.nested_rows.proofs.lookups.width_at.Statement.{statement}
 use Rattle.nested_rows.proofs.lookups.width_at.Tie as tie

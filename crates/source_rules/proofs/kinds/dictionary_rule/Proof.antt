@@ -1,7 +1,7 @@
 -- `kind_rules::dictionary_rule` meets its contract. Assumes nothing.
 use mathlib.Core.Path.{sym, _∙_}
 use mathlib.Core.Bool.{true}
-use Rattle.formats.proofs.Types.{number-width}
+use Rattle.schema.proofs.formats.Types.{number-width}
 use Rattle.array_data.specs.Rules.{oneIn}
 use Rattle.array_data.specs.lent_tables.Lent.{tables, maskOf}
 use Rattle.array_data.proofs.lent_tables.Laws.{no, yes}

@@ -9,8 +9,8 @@ use Rattle.walk.specs.State.{place}
 use Rattle.walk.specs.Copy.{listViewRow, copyWalk}
 use Rattle.leaf_walk.specs.Join.{join}
 use Rattle.extend.proofs.Laws.{pairs-row}
-use Rattle.stops.specs.Why.{firstOf}
-use Rattle.stops.specs.Copy.{whyListRow, whyCopy}
+use Rattle.stop_walks.specs.stops.Why.{firstOf}
+use Rattle.stop_walks.specs.stops.Copy.{whyListRow, whyCopy}
 use Rattle.stop_walks.proofs.Laws.{view-out, view-foreign, view-rows, first-none, row-on, row-here, row-below}
 use borrow.Author.Needs.{needs}
 use Rattle.stop_walks.proofs.lists.step_list_view.Statement.{statement}

@@ -1,7 +1,7 @@
 -- `stop_walks::nulls::step_into` meets its contract. Assumes nothing.
 use mathlib.Core.List.{List, []}
 use Rattle.leaf_walk.specs.Join.{join}
-use Rattle.stops.specs.Nulls.{whyNulls}
+use Rattle.stop_walks.specs.stops.Nulls.{whyNulls}
 use Rattle.stop_walks.proofs.nulls.Laws.{into-stop, into-on}
 use borrow.Author.Needs.{needs}
 use Rattle.stop_walks.proofs.nulls.step_into.Statement.{statement}

@@ -7,7 +7,7 @@ use native.Mathlib.Omega.{arith}
 use native.Mathlib.Numerals.{add-one}
 use Rattle.walk.specs.Nulls.{nullWalk}
 use Rattle.leaf_walk.specs.Join.{join}
-use Rattle.stops.specs.Nulls.{whyNullFields, whyNulls}
+use Rattle.stop_walks.specs.stops.Nulls.{whyNullFields, whyNulls}
 use Rattle.stop_walks.proofs.nulls.Laws.{sparse-home, sparse-fields, fields-end, fields-none, fields-on, fields-here, fields-below}
 use borrow.Author.Needs.{needs}
 use Rattle.stop_walks.proofs.nulls.step_sparse.Statement.{statement}

@@ -4,7 +4,7 @@ use mathlib.Core.List.{List, []}
 use Prim.Native.Nat.{_-_}
 use native.Mathlib.Omega.{arith}
 use Rattle.leaf_walk.specs.Join.{join}
-use Rattle.stops.specs.Nulls.{whyNulls}
+use Rattle.stop_walks.specs.stops.Nulls.{whyNulls}
 use Rattle.stop_walks.proofs.nulls.Laws.{after-on, after-here, after-below, level, bottom}
 use borrow.Author.Needs.{needs}
 use Rattle.stop_walks.proofs.nulls.why_null_walk.Statement.{statement}

@@ -7,8 +7,8 @@ use Rattle.walk.specs.State.{place}
 use Rattle.walk.specs.Copy.{denseRow, copyWalk}
 use Rattle.leaf_walk.specs.Join.{join}
 use Rattle.extend.proofs.Laws.{pairs-row}
-use Rattle.stops.specs.Why.{firstOf}
-use Rattle.stops.specs.Copy.{whyDenseRow, whyCopy}
+use Rattle.stop_walks.specs.stops.Why.{firstOf}
+use Rattle.stop_walks.specs.stops.Copy.{whyDenseRow, whyCopy}
 use Rattle.stop_walks.proofs.Laws.{first-none, row-on, row-here, row-below}
 use Rattle.stop_walks.proofs.Nodes.{dense-foreign, dense-rows}
 use borrow.Author.Needs.{needs}

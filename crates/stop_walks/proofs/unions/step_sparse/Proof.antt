@@ -6,7 +6,7 @@ use native.Mathlib.Omega.{arith}
 use native.Mathlib.Numerals.{add-one}
 use Rattle.walk.specs.Copy.{copyWalk}
 use Rattle.leaf_walk.specs.Join.{join}
-use Rattle.stops.specs.Copy.{whyFields, whyCopy}
+use Rattle.stop_walks.specs.stops.Copy.{whyFields, whyCopy}
 use Rattle.stop_walks.proofs.Nodes.{sparse-foreign, sparse-fields, fields-end, fields-none, fields-on, fields-here, fields-below}
 use borrow.Author.Needs.{needs}
 use Rattle.stop_walks.proofs.unions.step_sparse.Statement.{statement}

@@ -5,7 +5,7 @@ use Prim.Native.Nat.{ℕ, _+_, _*_}
 use native.Mathlib.Omega.{arith}
 use lib.ListN.{set, length-set}
 use Rattle.walk.specs.State.{rows}
-use Rattle.parts.specs.Parts.{partsWithin, partsHold}
+use Rattle.plan.specs.parts.Parts.{partsWithin, partsHold}
 use Rattle.transform.proofs.leaf_counters.Laws.{put-back}
 use borrow.Author.Needs.{needs}
 use Rattle.transform.proofs.leaf_counters.room_ground.Statement.{statement}

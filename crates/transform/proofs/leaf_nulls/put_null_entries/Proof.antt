@@ -2,10 +2,10 @@
 use mathlib.Core.Path.{ap, _∙_}
 use mathlib.Core.List.{[]}
 use native.Mathlib.Omega.{arith}
-use Rattle.formats.specs.Code.{isString}
+use Rattle.schema.specs.formats.Code.{isString}
 use Rattle.walk.specs.State.{codeOf}
 use Rattle.leaf_walk.specs.Join.{join}
-use Rattle.parts.specs.Parts.{entrySize}
+use Rattle.plan.specs.parts.Parts.{entrySize}
 use Rattle.transform.proofs.leaf_rows.Entries.{told, size-in, string-size}
 use Rattle.transform.proofs.leaf_nulls.Laws.{string-in, put-zeros, put-repeated}
 use borrow.Author.Needs.{needs}

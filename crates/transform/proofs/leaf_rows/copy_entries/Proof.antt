@@ -8,7 +8,7 @@ use Rattle.walk.specs.State.{codeOf, addRows, setBytes}
 use Rattle.walk.specs.Copy.{copyWalk}
 use Rattle.leaf_walk.specs.Join.{join}
 use Rattle.leaf_walk.proofs.Laws.{rows-in}
-use Rattle.parts.specs.Parts.{entrySize}
+use Rattle.plan.specs.parts.Parts.{entrySize}
 use Rattle.transform.proofs.leaf_counters.Laws.{full, full-alike, holds-rows}
 use Rattle.transform.proofs.leaf_rows.Laws.{leaf-data, leaf-parts, leaf-made}
 use Rattle.transform.proofs.leaf_rows.Entries.{size-in, entries-are, entries-out, entries-dry}

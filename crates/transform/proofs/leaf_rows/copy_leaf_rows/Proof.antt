@@ -1,7 +1,7 @@
 -- `transform::leaf_rows::copy_leaf_rows` meets its contract. Assumes nothing.
 use mathlib.Core.List.{[]}
 use native.Mathlib.Omega.{arith}
-use Rattle.formats.specs.Code.{isString}
+use Rattle.schema.specs.formats.Code.{isString}
 use Rattle.array_data.proofs.lent_tables.Laws.{no, yes}
 use Rattle.leaf_walk.specs.Join.{join}
 use Rattle.nested_rows.proofs.lookups.Laws.{slot-rows}

@@ -11,7 +11,7 @@ use Rattle.walk.specs.Copy.{copyWalk}
 use Rattle.leaf_walk.specs.Join.{join}
 use Rattle.leaf_walk.proofs.Laws.{rows-in}
 use Rattle.leaf_walk.proofs.variable_size.Laws.{extended-over, extended-falls}
-use Rattle.node_data.proofs.Laws.{string-wide}
+use Rattle.nested_rows.proofs.node_data.Laws.{string-wide}
 use Rattle.transform.proofs.leaf_counters.Laws.{full, full-alike}
 use Rattle.transform.proofs.leaf_rows.Laws.{leaf-data}
 use Rattle.transform.proofs.leaf_rows.Text.{string-code, text-out, text-in}

@@ -2,7 +2,7 @@
 use mathlib.Core.Path.{_≡_, ap, _∙_}
 use Prim.Native.Nat.{ℕ, _*_}
 use native.Mathlib.Omega.{arith}
-use Rattle.formats.specs.Code.{isView}
+use Rattle.schema.specs.formats.Code.{isView}
 use Rattle.walk.specs.State.{codeOf}
 use Rattle.leaf_walk.specs.Join.{join}
 use Rattle.transform.proofs.leaf_rows.Entries.{size-in, view-size, told, put-views, put-numbers, put-keys, keys-wide}

@@ -11,7 +11,7 @@ use Rattle.walk.specs.State.{codeOf, bytes, addRows, setBytes}
 use Rattle.walk.specs.Copy.{copyWalk}
 use Rattle.leaf_walk.specs.Join.{join}
 use Rattle.leaf_walk.proofs.variable_size.Laws.{bytes-in, fits-is, extended-fits}
-use Rattle.node_data.proofs.Laws.{string-wide}
+use Rattle.nested_rows.proofs.node_data.Laws.{string-wide}
 use Rattle.transform.proofs.leaf_counters.Laws.{full, full-alike, holds-bytes}
 use Rattle.transform.proofs.leaf_rows.Laws.{leaf-data, leaf-parts, leaf-made}
 use Rattle.transform.proofs.leaf_rows.Text.{string-code, bytes-kept, text-in, fits-no, fits-dry}

@@ -4,11 +4,11 @@ use mathlib.Core.List.{[]}
 use Prim.Native.Nat.{_*_}
 use native.Mathlib.Omega.{arith}
 use lib.ListN.{length}
-use Rattle.formats.specs.Code.{isFixed}
+use Rattle.schema.specs.formats.Code.{isFixed}
 use Rattle.walk.specs.State.{codeOf, rows, bytes, addRows, setBytes}
 use Rattle.walk.specs.Nulls.{nullWalk}
 use Rattle.leaf_walk.specs.Join.{join}
-use Rattle.parts.specs.Parts.{entrySize}
+use Rattle.plan.specs.parts.Parts.{entrySize}
 use Rattle.transform.proofs.leaf_nulls.Laws.{nulls-refused, nulls-made}
 use Rattle.transform.proofs.numbers.Laws.{one-node, fixed-low, raised-rows, numbers-fit}
 use borrow.Author.Needs.{needs}

@@ -2,9 +2,9 @@
 use mathlib.Core.Path.{refl, sym, _∙_}
 use native.Mathlib.Omega.{arith}
 use Rattle.walk.specs.State.{codeOf}
-use Rattle.parts.proofs.Laws.{copied-root, holds-by}
-use Rattle.parts.proofs.Words.{has-bits}
-use Rattle.parts.proofs.grounds.Laws.{part-none, part-some, no-bits}
+use Rattle.plan.proofs.parts.Laws.{copied-root, holds-by}
+use Rattle.plan.proofs.parts.Words.{has-bits}
+use Rattle.plan.proofs.grounds.Laws.{part-none, part-some, no-bits}
 use Rattle.transform.proofs.numbers.Laws.{fixed-low, bits-need}
 use borrow.Author.Needs.{needs}
 use Rattle.transform.proofs.numbers.bits_ground.Statement.{statement}

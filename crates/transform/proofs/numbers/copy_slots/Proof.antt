@@ -4,13 +4,13 @@ use mathlib.Core.List.{[]}
 use Prim.Native.Nat.{_*_}
 use native.Mathlib.Omega.{arith}
 use lib.ListN.{length}
-use Rattle.formats.specs.Code.{isFixed}
+use Rattle.schema.specs.formats.Code.{isFixed}
 use Rattle.array_data.proofs.lent_tables.Laws.{no, yes}
 use Rattle.walk.specs.State.{codeOf, rows, bytes, addRows, setBytes}
 use Rattle.walk.specs.Copy.{copyWalk}
 use Rattle.leaf_walk.specs.Join.{join}
 use Rattle.leaf_walk.proofs.Laws.{rows-in}
-use Rattle.parts.specs.Parts.{entrySize}
+use Rattle.plan.specs.parts.Parts.{entrySize}
 use Rattle.transform.proofs.leaf_counters.Laws.{full, full-alike, holds-rows}
 use Rattle.transform.proofs.leaf_rows.Laws.{leaf-data, leaf-parts, leaf-made}
 use Rattle.transform.proofs.leaf_rows.Entries.{entries-are, entries-out, entries-dry}

@@ -2,8 +2,8 @@
 use mathlib.Core.Path.{refl, sym, _∙_}
 use native.Mathlib.Omega.{arith}
 use Rattle.walk.specs.State.{codeOf, bytes}
-use Rattle.parts.proofs.Laws.{holds-by}
-use Rattle.parts.proofs.grounds.Laws.{part-some}
+use Rattle.plan.proofs.parts.Laws.{holds-by}
+use Rattle.plan.proofs.grounds.Laws.{part-some}
 use Rattle.transform.proofs.numbers.Laws.{has-numbers, number-wide, entries-need}
 use borrow.Author.Needs.{needs}
 use Rattle.transform.proofs.numbers.entries_ground.Statement.{statement}

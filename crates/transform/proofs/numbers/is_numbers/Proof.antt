@@ -1,9 +1,9 @@
 -- `transform::numbers::is_numbers` meets its contract. Assumes nothing.
 use mathlib.Core.Path.{sym, ap, _∙_}
 use borrow.Author.Tests.{eq-eqb, ne-eqb}
-use Rattle.formats.specs.Code.{isFixed}
+use Rattle.schema.specs.formats.Code.{isFixed}
 use Rattle.walk.specs.State.{dictionaryOf, endOf}
-use Rattle.parts.specs.Parts.{nodesOf}
+use Rattle.plan.specs.parts.Parts.{nodesOf}
 use borrow.Author.Needs.{needs}
 use Rattle.transform.proofs.numbers.is_numbers.Statement.{statement}
 use Rattle.transform.proofs.numbers.is_numbers.Tie as tie

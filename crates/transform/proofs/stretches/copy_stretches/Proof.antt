@@ -5,7 +5,7 @@ use native.Mathlib.Omega.{arith}
 use borrow.Author.Tests.{not-false}
 use Rattle.array_data.proofs.lent_tables.Laws.{yes}
 use Rattle.bits.proofs.Laws.{below-of}
-use Rattle.batch_walk.proofs.Rises.{rises}
+use Rattle.batch.proofs.batch_walk.Rises.{rises}
 use Rattle.transform.specs.Answer.{lent}
 use Rattle.transform.proofs.stretches.Laws.{dry-room, counts-of, stretches-parts, stretches-made, stretches-zero}
 use borrow.Author.Needs.{needs}

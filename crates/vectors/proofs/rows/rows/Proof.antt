@@ -5,7 +5,7 @@ use Rattle.vectors.proofs.rows.rows.Statement.{statement}
 use Rattle.vectors.proofs.rows.rows.Tie as tie
 use Rattle.vectors.proofs.rows.rows.Reads as reads
 use Rattle.vectors.proofs.rows.rows.Lts as lts
-use Rattle.leaf_row.proofs.run.run_at.Reads as run-at-reads
+use Rattle.slot_reader.proofs.run.run_at.Reads as run-at-reads
 use Rattle.vectors.proofs.rows.line.Reads as line-reads
 use Rattle.vectors.proofs.rows.put_run.Reads as put-run-reads
 

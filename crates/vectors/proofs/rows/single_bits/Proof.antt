@@ -1,5 +1,5 @@
 -- `vectors::rows::single_bits` asks for the bits of no NaN. Assumes nothing.
-use Rattle.leaf_row.proofs.Laws.{number-of}
+use Rattle.slot_reader.proofs.leaf_row.Laws.{number-of}
 use borrow.Author.Needs.{needs}
 use Rattle.vectors.proofs.rows.single_bits.Statement.{statement}
 use Rattle.vectors.proofs.rows.single_bits.Tie as tie

@@ -1,6 +1,6 @@
 -- `width_loop::dispatch::nested_node` meets its contract. Assumes nothing.
 use native.Mathlib.Omega.{arith}
-use Rattle.formats.specs.Code.{isList, isUnion, isRunEnd}
+use Rattle.schema.specs.formats.Code.{isList, isUnion, isRunEnd}
 use Rattle.source_rules.proofs.Node.{told, list-left}
 use Rattle.width_loop.proofs.Here.{few, shape-here}
 use borrow.Author.Needs.{needs}

@@ -2,7 +2,7 @@
 use mathlib.Core.Path.{refl}
 use native.Mathlib.Omega.{arith}
 use Rattle.columnar.specs.Array.{ok}
-use Rattle.formats.specs.Code.{isFixed, isString, isView}
+use Rattle.schema.specs.formats.Code.{isFixed, isString, isView}
 use Rattle.array_data.specs.Tables.{place, validOf}
 use Rattle.array_data.specs.Typed.{viewNode}
 use Rattle.array_data.specs.entries.Entries.{column}

@@ -4,7 +4,7 @@ use Prim.Native.Nat.{suc}
 use native.Mathlib.Omega.{arith}
 use Rattle.columnar.specs.Array.{ok}
 use Rattle.columnar.specs.Plain.{OffsetsRule}
-use Rattle.formats.specs.Code.{widthOf}
+use Rattle.schema.specs.formats.Code.{widthOf}
 use Rattle.schema.specs.Tree.{codeOf}
 use Rattle.array_data.specs.Tables.{lengthOf, validOf, firstBuffer}
 use Rattle.array_data.specs.Typed.{listNode}

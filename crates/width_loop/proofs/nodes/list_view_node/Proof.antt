@@ -4,7 +4,7 @@ use Prim.Native.Nat.{ℕ, _+_, _*_, _<_, _≤_}
 use native.Mathlib.Omega.{arith}
 use Rattle.columnar.specs.Types.{half}
 use Rattle.columnar.specs.Array.{item, ok}
-use Rattle.formats.specs.Code.{widthOf}
+use Rattle.schema.specs.formats.Code.{widthOf}
 use Rattle.schema.specs.Tree.{codeOf}
 use Rattle.array_data.specs.Tables.{place, validOf, firstBuffer, secondBuffer}
 use Rattle.array_data.specs.Typed.{listViewNode}

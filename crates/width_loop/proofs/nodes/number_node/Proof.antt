@@ -4,8 +4,8 @@ use Prim.Native.Nat.{_+_, _*_, _≤_}
 use native.Mathlib.Omega.{arith}
 use Rattle.columnar.specs.Types.{width}
 use Rattle.columnar.specs.Array.{ok}
-use Rattle.formats.specs.Code.{isInteger, widthOf}
-use Rattle.formats.specs.Types.{numberOf}
+use Rattle.schema.specs.formats.Code.{isInteger, widthOf}
+use Rattle.schema.specs.formats.Types.{numberOf}
 use Rattle.schema.specs.Tree.{dictionary, codeOf}
 use Rattle.array_data.specs.Tables.{place, validOf}
 use Rattle.array_data.specs.Typed.{fixedNode, dictionaryNode}

@@ -4,7 +4,7 @@ use native.Mathlib.Omega.{arith}
 use lib.ListN.{length}
 use Rattle.columnar.specs.Array.{ok}
 use Rattle.columnar.specs.Plain.{OffsetsRule}
-use Rattle.formats.specs.Code.{widthOf}
+use Rattle.schema.specs.formats.Code.{widthOf}
 use Rattle.schema.specs.Tree.{codeOf}
 use Rattle.array_data.specs.Tables.{validOf, firstBuffer, secondBuffer}
 use Rattle.array_data.specs.Typed.{stringNode}

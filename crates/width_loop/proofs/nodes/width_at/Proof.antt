@@ -1,6 +1,6 @@
 -- `width_loop::nodes::width_at` meets its contract. Assumes nothing.
 use mathlib.Core.Path.{ap, _∙_}
-use Rattle.formats.specs.Code.{widthOf}
+use Rattle.schema.specs.formats.Code.{widthOf}
 use borrow.Author.Needs.{needs}
 use Rattle.width_loop.proofs.nodes.width_at.Statement.{statement}
 use Rattle.width_loop.proofs.nodes.width_at.Tie as tie

@@ -1,0 +1,79 @@
+-- What the words of a result's plan and the grounds of its room go by. Assumes nothing.
+use mathlib.Core.Path.{_≡_, refl, sym, ap, _∙_}
+use mathlib.Core.Bool.{Bool, true, false, not, cond, _&&_}
+use mathlib.Core.List.{List}
+use Prim.Native.Nat.{ℕ, _+_, _-_, _<_}
+use native.Mathlib.Omega.{arith}
+use lib.ListN.{getD, set}
+use lib.Dec.{ltb, eqb}
+use borrow.Author.Tests.{eq-eqb, ne-eqb, lt-ltb, le-ltb}
+use Rattle.columnar.specs.Array.{nullCount}
+use Rattle.array_data.specs.Tables.{Tables}
+use Rattle.plan.specs.dictionaries.Sources.{arrayOf, Countable}
+use Rattle.array_data.specs.node_words.Words.{planted}
+use Rattle.walk.specs.State.{dictionaryOf}
+use Rattle.plan.specs.parts.Parts.{partTotal, partsPlaced, partsHold}
+use Rattle.plan.specs.Plan.{flag, withTree, withCounts, withParts, withTotal}
+use Rattle.anew.specs.Anew.{joinLengths, roomGround}
+use Rattle.anew.specs.ResultPlan.{keepsFrom, Comes, withNulls, dictionaryWord, withDictionaries, typedAnew, planAnew}
+
+module _ (x : Tables) (first : ℕ) (from : List ℕ) (i : ℕ) {j : ℕ} (at : j ≡ getD from i 0) where
+  -- a node that comes from none
+  pub null-none : j ≡ 0 → 0 ≡ flag (keepsFrom x first from i)
+  unfolding keepsFrom
+  null-none e = rw (sym at ∙ e)
+
+  -- the nulls of the node that it comes from can be counted
+  pub countable-by : (n : ℕ) → Comes x first n from → i < n → (j ≡ 0 → ⊥) → Countable x (first + (j - 1))
+  countable-by n h l d = rw at (h .countable i l (omega (arith, at, d)))
+
+  module _ (some : j ≡ 0 → ⊥) {k v : ℕ} (node : k ≡ first + (j - 1)) (count : v ≡ nullCount (arrayOf x k)) where
+    count-is : v ≡ nullCount (arrayOf x (first + (getD from i 0 - 1)))
+    count-is = count ∙ ap (λ q. nullCount (arrayOf x q)) node ∙ ap (λ q. nullCount (arrayOf x (first + (q - 1)))) at
+
+    keeps-by : keepsFrom x first from i ≡ ltb 0 v
+    unfolding keepsFrom
+    keeps-by = rw (lt-ltb 0 (getD from i 0) (omega (arith, at, some))) (ap (ltb 0) (sym count-is))
+
+    pub null-off : v ≡ 0 → 0 ≡ flag (keepsFrom x first from i)
+    null-off e = sym (ap flag (keeps-by ∙ ap (ltb 0) e))
+
+    pub null-on : (v ≡ 0 → ⊥) → 1 ≡ flag (keepsFrom x first from i)
+    null-on e = sym (ap flag (keeps-by ∙ lt-ltb 0 v (omega (arith, e))))
+
+module _ (joined : Bool) (state : List ℕ) (i : ℕ) {d : ℕ} (at : d ≡ dictionaryOf state i) where
+  pub dictionary-none : d ≡ 0 → 0 ≡ dictionaryWord joined state i
+  unfolding dictionaryWord
+  dictionary-none e = rw (sym at ∙ e)
+
+  pub dictionary-by : (d ≡ 0 → ⊥) → flag joined ≡ dictionaryWord joined state i
+  unfolding dictionaryWord
+  dictionary-by e = rw (ne-eqb (dictionaryOf state i) 0 (λ q. e (at ∙ q)))
+
+-- one stage after the other
+pub anew-by : (formats schema : List ℕ) (target n : ℕ) (keep : ℕ → Bool) (joined : Bool) (kept : ℕ) {r : ℕ} {a b c d : List ℕ} → a ≡ withCounts 1 n (withTree (planted formats schema target n))
+    → b ≡ withNulls keep n a → c ≡ withDictionaries joined n b → d ≡ withParts n (set c 868 kept) → r ≡ partTotal d → set d 866 r ≡ planAnew formats schema target n keep joined kept
+unfolding planAnew typedAnew withTotal
+anew-by formats schema target n keep joined kept p q j k t = rw (t, k, j, q, p)
+
+was-false : (b : Bool) → not b ≡ true → b ≡ false
+was-false true e = sym e
+was-false false e = refl
+
+was-true : (b : Bool) → not b ≡ false → b ≡ true
+was-true true e = refl
+was-true false e = sym e
+
+module _ (made counts parts : List ℕ) (words counters m : ℕ) {b : Bool} (at : b ≡ (eqb words 872 && eqb counters 96 && partsPlaced parts (partTotal made) m)) where
+  pub room-badly : not b ≡ true → 14 ≡ roomGround made counts parts words counters m
+  unfolding roomGround joinLengths
+  room-badly e = rw (sym at ∙ was-false b e)
+
+  module _ (well : not b ≡ false) {h : Bool} (hold : h ≡ partsHold made counts parts) where
+    pub room-small : not h ≡ true → 13 ≡ roomGround made counts parts words counters m
+    unfolding roomGround joinLengths
+    room-small e = rw (sym at ∙ was-true b well, sym hold ∙ was-false h e)
+
+    pub room-good : not h ≡ false → 0 ≡ roomGround made counts parts words counters m
+    unfolding roomGround joinLengths
+    room-good e = rw (sym at ∙ was-true b well, sym hold ∙ was-true h e)

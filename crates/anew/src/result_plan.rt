@@ -1,0 +1,142 @@
+// The plan of a column that is written anew outside a join, the grounds of its room, and where plan and counters are left.
+ghost use mathlib.Core.Path.{_≡_};
+ghost use mathlib.Core.List.{List};
+ghost use Prim.Native.Nat.{ℕ, _≤_, _<_, _^_};
+ghost use lib.ListN.{length};
+ghost use Rattle.array_data.specs.lent_tables.Lent.{tables};
+ghost use Rattle.plan.specs.Plan.{flag};
+ghost use Rattle.anew.specs.Anew.{roomGround};
+ghost use Rattle.anew.specs.ResultPlan.{keepsFrom, Comes, withNulls, dictionaryWord, withDictionaries, planAnew};
+use array_data::lent_tables;
+use plan::dictionaries;
+use walk::plan_words;
+
+// ---- the plan
+
+// 1 if node i of the result comes from a node with a null and else 0.
+fn null_word(
+    lengths: &[u64],
+    places: &[u64],
+    body: &[u8],
+    first: usize,
+    from: &[u64],
+    n: usize,
+    i: usize,
+) -> u64
+    requires { ⌜ (i < n) × (n ≤ 32) × (first < 2 ^ 32) × Comes (tables (now lengths) (now places) (now body)) first n (now from) ⌝ }
+    ensures { λ r. ⌜ r ≡ flag (keepsFrom (tables (now (lengths .entry)) (now (places .entry)) (now (body .entry))) first (now (from .entry)) i) ⌝ }
+{
+    let j = lent_tables::at_u64(from, i);
+    if j == 0 {
+        return 0;
+    }
+    if dictionaries::null_count(lengths, places, body, first + (j - 1) as usize) == 0 {
+        return 0;
+    }
+    1
+}
+
+// Which of the first n nodes keep nulls: exactly those that come from a node with one.
+fn write_nulls(
+    lengths: &[u64],
+    places: &[u64],
+    body: &[u8],
+    first: usize,
+    from: &[u64],
+    n: usize,
+    state: &mut [u64; 872],
+)
+    requires { ⌜ (n ≤ 32) × (first < 2 ^ 32) × Comes (tables (now lengths) (now places) (now body)) first n (now from) ⌝ }
+    ensures { λ _. ⌜ now (state .exit) ≡ withNulls (keepsFrom (tables (now (lengths .entry)) (now (places .entry)) (now (body .entry))) first (now (from .entry))) n (now (state .entry)) ⌝ }
+{
+    let mut i = 0;
+    while i < n {
+        state[8 * i + 5] = null_word(lengths, places, body, first, from, n, i);
+        i += 1;
+    }
+}
+
+// 1 if node i has a dictionary and dictionaries are in parts, and else 0.
+fn dictionary_word(joined: bool, state: &[u64; 872], i: usize) -> u64
+    requires { ⌜ i < 32 ⌝ }
+    ensures { λ r. ⌜ r ≡ dictionaryWord joined (now (state .entry)) i ⌝ }
+{
+    if plan_words::dictionary_of(state, i) == 0 {
+        return 0;
+    }
+    if joined {
+        return 1;
+    }
+    0
+}
+
+// Which of the first n nodes have a dictionary in parts.
+fn write_dictionaries(joined: bool, n: usize, state: &mut [u64; 872])
+    requires { ⌜ n ≤ 32 ⌝ }
+    ensures { λ _. ⌜ now (state .exit) ≡ withDictionaries joined n (now (state .entry)) ⌝ }
+{
+    let mut i = 0;
+    while i < n {
+        state[8 * i + 7] = dictionary_word(joined, state, i);
+        i += 1;
+    }
+}
+
+// THE PLAN OF A RESULT whose type is that of the n nodes from node `target` on. Its nodes come from those of the column from node `first` on
+// as `from` says: one more than the number of such a node, 0 for none. From node `kept` on all are kept, where it is not 0.
+pub fn plan_anew(
+    formats: &[u8],
+    schema: &[u32],
+    target: usize,
+    n: usize,
+    lengths: &[u64],
+    places: &[u64],
+    body: &[u8],
+    first: usize,
+    from: &[u64],
+    joined: bool,
+    kept: u64,
+    state: &mut [u64; 872],
+)
+    requires { ⌜ (target < 2 ^ 32) × (n ≤ 32) × (first < 2 ^ 32) × Comes (tables (now lengths) (now places) (now body)) first n (now from) ⌝ }
+    ensures { λ _. ⌜ now (state .exit) ≡ planAnew (now (formats .entry)) (now (schema .entry)) target n (keepsFrom (tables (now (lengths .entry)) (now (places .entry)) (now (body .entry))) first (now (from .entry))) joined kept ⌝ }
+{
+    plan::write_type(formats, schema, target, 1, n, state);
+    write_nulls(lengths, places, body, first, from, n, state);
+    write_dictionaries(joined, n, state);
+    state[868] = kept;
+    plan::write_parts(n, state);
+    state[866] = plan::parts::part_total(state) as u64;
+}
+
+// ---- the room
+
+// 14 or 13 of the parts that are lent for a result, where plan, counters and room have so many numbers and bytes; 0 where it can be written.
+pub fn room_ground(
+    state: &[u64],
+    counts: &[u64; 96],
+    parts: &[u64],
+    words: usize,
+    counters: usize,
+    m: usize,
+) -> u8
+    ensures { λ r. ⌜ r ≡ roomGround (now (state .entry)) (now (counts .entry)) (now (parts .entry)) words counters m ⌝ }
+{
+    if !with_capacities::room_placed(state, parts, words, counters, m) {
+        return 14;
+    }
+    if !plan::parts::parts_hold(state, counts, parts) {
+        return 13;
+    }
+    0
+}
+
+// Leaves the plan of a result and its counters with the caller.
+pub fn keep_result(plan: &mut [u64], counters: &mut [u64], state: &[u64], counts: &[u64])
+    requires { ⌜ (length (now plan) ≡ 872) × (length (now counters) ≡ 96) × (length (now state) ≡ 872) × (length (now counts) ≡ 96) ⌝ }
+    ensures { λ _. ⌜ now (plan .exit) ≡ now (state .entry) ⌝ }
+    ensures { λ _. ⌜ now (counters .exit) ≡ now (counts .entry) ⌝ }
+{
+    with_capacities::store(plan, state, 872);
+    with_capacities::store(counters, counts, 96);
+}

@@ -1,0 +1,177 @@
+-- A list-view that keeps no nulls, by stretches. Assumes nothing.
+use mathlib.Core.Path.{_≡_, refl, sym, ap, subst, fun-ext, _∙_}
+use mathlib.Core.Bool.{Bool, true, false, cond, not, _&&_}
+use mathlib.Core.List.{List, _∷_, []}
+use Prim.Native.Nat.{ℕ, zero, suc, _+_, _*_, _-_, _≤_, _<_, min}
+use native.Mathlib.Omega.{arith}
+use lib.ListN.{length, take, drop}
+use lib.Dec.{leb, ltb, eqb}
+use borrow.Author.Tests.{lt-ltb, le-ltb, leb-true, ltb-true, ltb-false, eqb-true, eqb-false}
+use Rattle.array_data.proofs.lent_tables.Laws.{no, yes, is-none, is-some}
+use Rattle.number.specs.Number.{entry}
+use Rattle.columnar.specs.Types.{half}
+use Rattle.schema.specs.formats.Code.{isListView}
+use Rattle.utils.specs.Pieces.{numbers}
+use Rattle.walk.specs.State.{Join, codeOf, keepsOf, bytesOf, rows, addRows, grown, scaled, top, place, far, slotOf, rowsIn}
+use Rattle.walk.specs.Log.{Out, Did, put, applyIf, done, need, found, next}
+use Rattle.walk.specs.Leaves.{copyMask}
+use Rattle.walk.specs.Copy.{masked}
+use Rattle.walk.proofs.Laws.{done-did, need-no, need-ok, found-no, found-ok, next-no, next-ok}
+use Rattle.leaf_walk.proofs.Laws.{wrote-at}
+use Rattle.batch.specs.Stretch.{sumOf, stretches}
+use Rattle.batch.specs.Batch.{owned, batchLeaf, batchListView, batchData, batchSlots, batchNode, batchWalk}
+use Rattle.batch.proofs.Ends.{need-is}
+use Rattle.batch.proofs.Stretches.{and-left, and-right}
+use Rattle.batch.specs.batch_walk.Plain.{isPlain, isStretched}
+
+-- ---- what a type says
+
+module _ (S : List ℕ) where
+  pub not-listed : {code : ℕ} {r : Bool} → code ≡ codeOf S 0 → r ≡ isListView code → not r ≡ true → false ≡ isStretched S
+  not-listed e q h = let f : isListView (codeOf S 0) ≡ false = rw e at (no q h) in rw f refl
+
+  pub not-kept : {code v : ℕ} {r : Bool} → code ≡ codeOf S 0 → r ≡ isListView code → not r ≡ false → v ≡ keepsOf S 0 → (v ≡ 0 → ⊥) → false ≡ isStretched S
+  not-kept e q h p g = let f : isListView (codeOf S 0) ≡ true = rw e at (yes q h) in rw (f, is-some p g) refl
+
+  pub of-plain : {code v : ℕ} {r t : Bool} → code ≡ codeOf S 0 → r ≡ isListView code → not r ≡ false → v ≡ keepsOf S 0 → v ≡ 0 → t ≡ isPlain S 1 → t ≡ isStretched S
+  of-plain e q h p g o = let f : isListView (codeOf S 0) ≡ true = rw e at (yes q h) in rw (f, is-none p g) o
+
+  module _ (is : isStretched S ≡ true) where
+    pub listed : isListView (codeOf S 0) ≡ true
+    listed = and-left (isListView (codeOf S 0)) _ is
+
+    pub keeps-none : eqb (keepsOf S 0) 0 ≡ true
+    keeps-none = and-left (eqb (keepsOf S 0) 0) _ (and-right (isListView (codeOf S 0)) _ is)
+
+    pub child-plain : isPlain S 1 ≡ true
+    child-plain = and-right (eqb (keepsOf S 0) 0) _ (and-right (isListView (codeOf S 0)) _ is)
+
+-- ---- its data
+
+pub offset-same : (w v s : ℕ) → half w ≤ top → ltb (grown v s) (half w) ≡ ltb (v + s) (half w)
+unfolding grown
+offset-same w v s h = go (ltb (v + s) (half w)) refl
+  where
+    go : (t : Bool) → ltb (v + s) (half w) ≡ t → ltb (min (v + s) top) (half w) ≡ t
+    go true e = let l = ltb-true (v + s) (half w) e in lt-ltb (min (v + s) top) (half w) (omega arith)
+    go false e = let l = ltb-false (v + s) (half w) e in le-ltb (min (v + s) top) (half w) (omega arith)
+
+-- offsets of 4 or 8 bytes
+pub half-most : (w : ℕ) → ((w ≡ 4 → ⊥) → w ≡ 8) → half w ≤ far
+half-most w h = go (eqb w 4) refl
+  where
+    go : (t : Bool) → eqb w 4 ≡ t → half w ≤ far
+    go true e = rw (eqb-true w 4 e) (omega arith)
+    go false e = rw (h (eqb-false w 4 e)) (omega arith)
+
+-- both buffers stand in the body
+pub pairs-within : (x : Join) (i w slot n : ℕ) {s : Bool} → s ≡ (rowsIn x (place x i 3) w slot n && rowsIn x (place x i 5) w slot n) → not s ≡ false
+    → (place x i 3 + w * (slot + n) ≤ length (x .body)) × (place x i 5 + w * (slot + n) ≤ length (x .body))
+unfolding rowsIn
+pairs-within x i w slot n e h = (
+  leb-true (place x i 3 + w * (slot + n)) (length (x .body)) (and-left _ (leb (place x i 5 + w * (slot + n)) (length (x .body))) (yes e h)),
+  leb-true (place x i 5 + w * (slot + n)) (length (x .body)) (and-right (leb (place x i 3 + w * (slot + n)) (length (x .body))) _ (yes e h)),
+)
+
+-- a sum that is an offset is the sum itself
+pub sum-parts : (x : Join) (i w slot n : ℕ) {at k sum : ℕ} {t : Bool} → half w ≤ far → at ≡ place x i 5 → sum ≡ grown k (sumOf (λ y. entry w (x .body) at (slot + y)) n) → t ≡ ltb sum (half w) → not t ≡ false
+    → (k + sumOf (λ y. entry w (x .body) at (slot + y)) n < far) × (k ≤ sum) × (sumOf (λ y. entry w (x .body) (place x i 5) (slot + y)) n < far) × (sum - k ≡ sumOf (λ y. entry w (x .body) (place x i 5) (slot + y)) n)
+unfolding grown
+sum-parts x i w slot n {at} {k} {sum} {t} big p u v l =
+    let y : sum < half w = ltb-true sum (half w) (yes v l) in
+    let z : sumOf (λ y. entry w (x .body) at (slot + y)) n ≡ sumOf (λ y. entry w (x .body) (place x i 5) (slot + y)) n = ap (λ z. sumOf (λ y. entry w (x .body) z (slot + y)) n) p in
+    (omega arith, omega arith, omega arith, omega arith)
+
+module _ (x : Join) (i w slot n : ℕ) (wr : Bool) (c room : List ℕ) where
+  abbrev size : ℕ → ℕ
+  size r = entry w (x .body) (place x i 5) (slot + r)
+
+  abbrev List-view : Out
+  List-view = batchListView x (batchLeaf x) w i slot n c
+
+  module _ {r : Bool} (e : r ≡ (ltb (suc i) 32 && (owned (x .state) i && owned (x .state) (suc i)))) where
+    pub list-childless : not r ≡ true → Did (x .state) (x .parts) wr List-view room 12 c room
+    unfolding batchListView
+    list-childless h = need-no _ (no e h)
+
+    module _ (h : not r ≡ false) {s : Bool} (f : s ≡ (rowsIn x (place x i 3) w slot n && rowsIn x (place x i 5) w slot n)) where
+      pub list-short : not s ≡ true → Did (x .state) (x .parts) wr List-view room 12 c room
+      unfolding batchListView
+      list-short g = need-ok 12 c (yes e h) (need-no _ (no f g))
+
+      module _ (g : not s ≡ false) (big : half w ≤ top) {at k sum : ℕ} {t : Bool} (p : at ≡ place x i 5) (q : k ≡ rows c (suc i)) (u : sum ≡ grown k (sumOf (λ y. entry w (x .body) at (slot + y)) n)) (v : t ≡ ltb sum (half w)) where
+        fits-as : t ≡ ltb (rows c (suc i) + sumOf size n) (half w)
+        fits-as =
+            let m : sum ≡ grown (rows c (suc i)) (sumOf size n) = u ∙ ap (λ z. grown z (sumOf (λ y. entry w (x .body) at (slot + y)) n)) q ∙ ap (λ z. grown (rows c (suc i)) (sumOf (λ y. entry w (x .body) z (slot + y)) n)) p in
+            v ∙ ap (λ z. ltb z (half w)) m ∙ offset-same w (rows c (suc i)) (sumOf size n) big
+
+        pub list-over : not t ≡ true → Did (x .state) (x .parts) wr List-view room 6 c room
+        unfolding batchListView
+        list-over l = need-ok 12 c (yes e h) (need-ok 12 c (yes f g) (need-no _ (no fits-as l)))
+
+        pub sum-fits : not t ≡ false → rows c (suc i) + sumOf size n < half w
+        sum-fits l = ltb-true _ _ (yes fits-as l)
+
+        pub list-goes : not t ≡ false → length room < top → {o j : ℕ} {room1 room2 : List ℕ} {a : ℕ} {c2 room3 : List ℕ} → j ≡ rows c i → o ≡ scaled j w
+            → room1 ≡ applyIf (x .state) (x .parts) wr (put i 1 o (numbers w (λ r. k + sumOf (λ y. entry w (x .body) at (slot + y)) r) n) ∷ []) room → length room1 < top
+            → room2 ≡ applyIf (x .state) (x .parts) wr (put i 2 o (take (w * n) (drop (at + w * slot) (x .body))) ∷ []) room1
+            → Did (x .state) (x .parts) wr (stretches (λ a m d. batchLeaf x (suc i) a m d) (λ r. entry w (x .body) (place x i 3) (slot + r)) size n c) room2 a c2 room3
+            → Did (x .state) (x .parts) wr List-view room a c2 room3
+        unfolding batchListView
+        list-goes l small {o} {j} {room1} {room2} m y one small1 two d =
+            let one2 : room1 ≡ applyIf (x .state) (x .parts) wr (put i 1 o (numbers w (λ r. rows c (suc i) + sumOf size r) n) ∷ []) room =
+            one ∙ ap (λ z. applyIf (x .state) (x .parts) wr (put i 1 o (numbers w (λ r. z + sumOf (λ y. entry w (x .body) at (slot + y)) r) n) ∷ []) room) q
+            ∙ ap (λ z. applyIf (x .state) (x .parts) wr (put i 1 o (numbers w (λ r. rows c (suc i) + sumOf (λ y. entry w (x .body) z (slot + y)) r) n) ∷ []) room) p in
+            let two2 : room2 ≡ applyIf (x .state) (x .parts) wr (put i 2 o (take (w * n) (drop (place x i 5 + w * slot) (x .body))) ∷ []) room1 =
+            two ∙ ap (λ z. applyIf (x .state) (x .parts) wr (put i 2 o (take (w * n) (drop (z + w * slot) (x .body))) ∷ []) room1) p in
+            need-ok 12 c (yes e h) (need-ok 12 c (yes f g) (need-ok 6 c (yes fits-as l)
+            (next-ok _ (wrote-at (x .state) (x .parts) wr i 1 (rows c i) w (numbers w (λ r. rows c (suc i) + sumOf size r) n) c room m y small one2) refl
+            (next-ok _ (wrote-at (x .state) (x .parts) wr i 2 (rows c i) w (take (w * n) (drop (place x i 5 + w * slot) (x .body))) c room1 m y small1 two2) refl d))))
+
+-- ---- the whole node
+
+module _ (x : Join) (is : isStretched (x .state) ≡ true) where
+  abbrev C : ℕ
+  C = codeOf (x .state) 0
+
+  abbrev W : ℕ
+  W = bytesOf (x .state) 0
+
+  masks : masked C ≡ true
+  masks = lt-ltb C 21 (let h = leb-true C 18 (and-right (leb 17 C) _ (listed (x .state) is)) in omega arith)
+
+  mask-is : (slot n : ℕ) (c : List ℕ) → cond (masked C) (copyMask x 0 slot n c) (done c) ≡ done c
+  unfolding copyMask
+  mask-is slot n c = rw (masks, keeps-none (x .state) is) refl
+
+  data-is : (slot n : ℕ) (c : List ℕ) → batchData x (batchLeaf x) C 0 slot n c ≡ batchListView x (batchLeaf x) W 0 slot n c
+  unfolding batchData
+  data-is slot n c = rw (listed (x .state) is) refl
+
+  done-next : (c : List ℕ) (f : List ℕ → Out) → next (done c) f ≡ f c
+  unfolding next done
+  done-next c f = refl
+
+  slots-is : (n : ℕ) (c : List ℕ) (slot : ℕ) → batchSlots x (batchLeaf x) 0 slot n c ≡ next (batchListView x (batchLeaf x) W 0 slot n c) (λ c2. done (addRows 0 n c2))
+  unfolding batchSlots
+  slots-is n c slot =
+      ap (λ o. next o (λ c2. next (batchData x (batchLeaf x) C 0 slot n c2) (λ c3. done (addRows 0 n c3)))) (mask-is slot n c)
+      ∙ done-next c (λ c2. next (batchData x (batchLeaf x) C 0 slot n c2) (λ c3. done (addRows 0 n c3)))
+      ∙ ap (λ o. next o (λ c3. done (addRows 0 n c3))) (data-is slot n c)
+
+  node-is : (a n : ℕ) (c : List ℕ) → batchWalk x 0 a n c ≡ found far (slotOf x 0 a n) 12 c (λ slot. next (batchListView x (batchLeaf x) W 0 slot n c) (λ c2. done (addRows 0 n c2)))
+  unfolding batchWalk batchNode
+  node-is a n c =
+      need-is 12 c (found far (slotOf x 0 a n) 12 c (λ slot. batchSlots x (batchLeaf x) 0 slot n c)) (lt-ltb 0 32 (omega arith))
+      ∙ ap (found far (slotOf x 0 a n) 12 c) (fun-ext (λ slot. slots-is n c slot))
+
+  module _ (a n : ℕ) (wr : Bool) (c room : List ℕ) {s : ℕ} (e : s ≡ slotOf x 0 a n) where
+    pub node-far : far ≤ s → Did (x .state) (x .parts) wr (batchWalk x 0 a n c) room 12 c room
+    node-far h = rw (node-is a n c) (found-no _ e h)
+
+    module _ (h : s < far) {w g : ℕ} {c2 room2 : List ℕ} (f : w ≡ W) (d : Did (x .state) (x .parts) wr (batchListView x (batchLeaf x) w 0 s n c) room g c2 room2) where
+      pub node-stop : (g ≡ 0 → ⊥) → Did (x .state) (x .parts) wr (batchWalk x 0 a n c) room g c2 room2
+      node-stop l = rw (node-is a n c) (found-ok 12 c _ e h (next-no _ (rw f at d) l))
+
+      pub node-done : g ≡ 0 → {c3 : List ℕ} → c3 ≡ addRows 0 n c2 → Did (x .state) (x .parts) wr (batchWalk x 0 a n c) room 0 c3 room2
+      node-done l q = rw (node-is a n c) (found-ok 12 c _ e h (next-ok _ (rw f at d) l (rw q (done-did wr _ room2))))

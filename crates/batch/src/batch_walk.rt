@@ -1,0 +1,75 @@
+// The walk of a copy by stretches: where it answers 0 the walk of a copy does, with the same counters, and where the parts rise the room is the same
+// (crate `batch`). Any other answer says nothing of the order.
+
+ghost use mathlib.Core.Path.{_≡_};
+ghost use mathlib.Core.Bool.{true, _&&_};
+ghost use mathlib.Core.List.{List};
+ghost use Prim.Native.Nat.{ℕ, suc, _+_, _<_, _^_};
+ghost use lib.Dec.{eqb};
+ghost use Rattle.schema.specs.formats.Code.{isListView};
+ghost use Rattle.walk.specs.State.{codeOf, keepsOf};
+ghost use Rattle.walk.specs.Log.{Did};
+ghost use Rattle.leaf_walk.specs.Join.{join};
+ghost use Rattle.batch.specs.Batch.{batchWalk};
+ghost use Rattle.batch.specs.batch_walk.Plain.{isPlain, isStretched};
+use crate::list_view;
+use crate::numbers;
+use nested_rows::lookups;
+use walk::plan_words;
+
+// Whether the walk is written for a type: a list-view that keeps no nulls, of numbers that keep none.
+pub fn is_stretched(state: &[u64]) -> bool
+    ensures { λ r. ⌜ r ≡ isStretched (now (state .entry)) ⌝ }
+{
+    if !schema::formats::is_list_view(plan_words::code_of(state, 0)) {
+        return false;
+    }
+    if plan_words::keeps_of(state, 0) != 0 {
+        return false;
+    }
+    numbers::is_plain(state, 1)
+}
+
+// The rows a .. a + n - 1.
+pub fn copy_by_stretches(
+    state: &[u64],
+    parts: &[u64],
+    lengths: &[u64],
+    places: &[u64],
+    body: &[u8],
+    counts: &mut [u64; 96],
+    room: &mut [u8],
+    write: bool,
+    first: usize,
+    a: u64,
+    n: u64,
+) -> u8
+    requires { ⌜ (first < 2 ^ 32) × (isStretched (now state) ≡ true) ⌝ }
+    ensures { λ g. ⌜ ((source : ℕ) → Did (now (state .entry)) (now (parts .entry)) write (batchWalk (join (now (state .entry)) (now (parts .entry)) (now (lengths .entry)) (now (places .entry)) (now (body .entry)) first source) 0 a n (now (counts .entry))) (now (room .entry)) g (now (counts .exit)) (now (room .exit))) ⌝ }
+{
+    let slot = lookups::slot_of(lengths, first, 0, a, n);
+    if 9223372036854775808 <= slot {
+        return 12;
+    }
+    let w = lookups::width_at(state, 0);
+    let g = list_view::copy_list_view(
+        state,
+        parts,
+        lengths,
+        places,
+        body,
+        counts,
+        room,
+        write,
+        first,
+        0,
+        w,
+        slot,
+        n,
+    );
+    if g != 0 {
+        return g;
+    }
+    plan_words::add_rows(counts, 0, n);
+    0
+}

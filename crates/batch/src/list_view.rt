@@ -1,0 +1,313 @@
+// A list-view by stretches of its child.
+ghost use mathlib.Core.Path.{_≡_};
+ghost use mathlib.Core.Bool.{Bool, true, not, _&&_};
+ghost use mathlib.Core.List.{List, []};
+ghost use Prim.Native.Nat.{ℕ, suc, _+_, _*_, _-_, _<_, _≤_, _^_};
+ghost use lib.ListN.{length};
+ghost use lib.Dec.{ltb};
+ghost use Rattle.number.specs.Number.{entry};
+ghost use Rattle.walk.specs.State.{codeOf, bytesOf, place};
+ghost use Rattle.walk.specs.Log.{Out, Did};
+ghost use Rattle.leaf_walk.specs.Join.{join};
+ghost use Rattle.batch.specs.Stretch.{sumOf, stretch, stretches};
+ghost use Rattle.batch.specs.Batch.{owned, batchLeaf, batchListView};
+ghost use Rattle.batch.specs.batch_walk.Plain.{isPlain, reached};
+ghost use Rattle.batch.specs.batch_walk.Side.{sideOf, furthestOf};
+use crate::numbers;
+use crate::side;
+use crate::side::Stretch;
+use crate::sizes;
+use array_data::lent_tables;
+use nested_rows::lookups;
+use walk::plan_words;
+
+// Whether the plan counts node i, and its buffers have parts.
+fn is_owned(state: &[u64], i: usize) -> bool
+    requires { ⌜ i < 32 ⌝ }
+    ensures { λ r. ⌜ r ≡ owned (now (state .entry)) i ⌝ }
+{
+    if plan::parts::node_count(state) <= i {
+        return false;
+    }
+    plan::parts::is_copied(state, i)
+}
+
+// Whether it does of node i and of node i + 1, its child.
+fn has_child(state: &[u64], i: usize) -> bool
+    requires { ⌜ i < 32 ⌝ }
+    ensures { λ r. ⌜ r ≡ (ltb (suc i) 32 && (owned (now (state .entry)) i && owned (now (state .entry)) (suc i))) ⌝ }
+{
+    if 31 <= i {
+        return false;
+    }
+    if !is_owned(state, i) {
+        return false;
+    }
+    is_owned(state, i + 1)
+}
+
+// The stretch that begins with the rows a .. a + m - 1, where row `from` of the list-view is looked at next.
+fn advance(
+    body: &[u8],
+    offsets: u64,
+    sizes: u64,
+    w: u64,
+    slot: u64,
+    n: u64,
+    from: u64,
+    a: u64,
+    m: u64,
+) -> Stretch
+    requires { ⌜ (offsets + w * (slot + n) ≤ length (now body)) × (sizes + w * (slot + n) ≤ length (now body)) × (slot + n < 2 ^ 63) × (from ≤ n) ⌝ }
+    requires { ⌜ (m ≤ sumOf (λ q. entry w (now body) sizes (slot + q)) from) × (sumOf (λ q. entry w (now body) sizes (slot + q)) n < 2 ^ 63) ⌝ }
+    requires { ⌜ ((w ≡ 4 → ⊥) → w ≡ 8) ⌝ }
+    ensures { λ t. ⌜ ((walk : ℕ → ℕ → List ℕ → Out) (c : List ℕ) → stretch walk (λ r. entry w (now (body .entry)) offsets (slot + r)) (λ r. entry w (now (body .entry)) sizes (slot + r)) (n - from) from a m c ≡ stretch walk (λ r. entry w (now (body .entry)) offsets (slot + r)) (λ r. entry w (now (body .entry)) sizes (slot + r)) (n - t .next) (t .next) (t .a) (t .m) c) ⌝ }
+    ensures { λ t. ⌜ (t .next ≤ n) × (from ≤ t .next) ⌝ }
+    ensures { λ t. ⌜ ((t .next ≡ n → ⊥) → sideOf (t .a) (t .m) (entry w (now (body .entry)) offsets (slot + t .next)) (entry w (now (body .entry)) sizes (slot + t .next)) ≡ 3) ⌝ }
+{
+    let mut b = a;
+    let mut k = m;
+    let mut r = from;
+    while r < n {
+        let start = lookups::entry_at(body, offsets, w, slot + r);
+        let size = lookups::entry_at(body, sizes, w, slot + r);
+        let side = side::side_of(b, k, start, size);
+        if side == 3 {
+            return Stretch {
+                a: b,
+                m: k,
+                next: r,
+            };
+        }
+        b = side::next_start(side, b, start);
+        k = side::next_size(side, k, size);
+        r += 1;
+    }
+    Stretch {
+        a: b,
+        m: k,
+        next: r,
+    }
+}
+
+// The stretches of a child of numbers, for offsets and sizes of w bytes.
+fn copy_number_stretches(
+    state: &[u64],
+    parts: &[u64],
+    lengths: &[u64],
+    places: &[u64],
+    body: &[u8],
+    counts: &mut [u64; 96],
+    room: &mut [u8],
+    write: bool,
+    first: usize,
+    i: usize,
+    w: u64,
+    slot: u64,
+    n: u64,
+) -> u8
+    requires { ⌜ (first < 2 ^ 32) × (i + 1 < 32) × (slot + n < 2 ^ 63) × (isPlain (now state) (suc i) ≡ true) ⌝ }
+    requires { ⌜ (place (join [] [] [] (now places) [] first 0) i 3 + w * (slot + n) ≤ length (now body)) × (place (join [] [] [] (now places) [] first 0) i 5 + w * (slot + n) ≤ length (now body)) ⌝ }
+    requires { ⌜ sumOf (λ q. entry w (now body) (place (join [] [] [] (now places) [] first 0) i 5) (slot + q)) n < 2 ^ 63 ⌝ }
+    requires { ⌜ ((w ≡ 4 → ⊥) → w ≡ 8) ⌝ }
+    ensures { λ g. ⌜ ((source : ℕ) → Did (now (state .entry)) (now (parts .entry)) write (stretches (λ a m d. batchLeaf (join (now (state .entry)) (now (parts .entry)) (now (lengths .entry)) (now (places .entry)) (now (body .entry)) first source) (suc i) a m d) (λ r. entry w (now (body .entry)) (place (join (now (state .entry)) (now (parts .entry)) (now (lengths .entry)) (now (places .entry)) (now (body .entry)) first source) i 3) (slot + r)) (λ r. entry w (now (body .entry)) (place (join (now (state .entry)) (now (parts .entry)) (now (lengths .entry)) (now (places .entry)) (now (body .entry)) first source) i 5) (slot + r)) n (now (counts .entry))) (now (room .entry)) g (now (counts .exit)) (now (room .exit))) ⌝ }
+{
+    let offsets = lent_tables::place(places, first + i, 3);
+    let sizes = lent_tables::place(places, first + i, 5);
+    let v = lookups::width_at(state, i + 1);
+    let mut a: u64 = 0;
+    let mut m: u64 = 0;
+    let mut r: u64 = 0;
+    while r < n {
+        let t = advance(body, offsets, sizes, w, slot, n, r, a, m);
+        let g = numbers::copy_stretch(
+            state,
+            parts,
+            lengths,
+            places,
+            body,
+            counts,
+            room,
+            write,
+            first,
+            i + 1,
+            v,
+            t.a,
+            t.m,
+        );
+        if g != 0 {
+            return g;
+        }
+        if t.next == n {
+            return 0;
+        }
+        a = lookups::entry_at(body, offsets, w, slot + t.next);
+        m = lookups::entry_at(body, sizes, w, slot + t.next);
+        r = t.next + 1;
+    }
+    numbers::copy_stretch(
+        state,
+        parts,
+        lengths,
+        places,
+        body,
+        counts,
+        room,
+        write,
+        first,
+        i + 1,
+        v,
+        a,
+        m,
+    )
+}
+
+// Whether the walk only tries, and all rows that the n offsets and sizes name stand in the body: then no stretch is refused.
+fn none_refused(
+    lengths: &[u64],
+    places: &[u64],
+    body: &[u8],
+    write: bool,
+    first: usize,
+    i: usize,
+    w: u64,
+    v: u64,
+    slot: u64,
+    n: u64,
+) -> bool
+    requires { ⌜ (first < 2 ^ 32) × (i + 1 < 32) × (slot + n < 2 ^ 63) × (v ≤ 16) ⌝ }
+    requires { ⌜ (place (join [] [] [] (now places) [] first 0) i 3 + w * (slot + n) ≤ length (now body)) × (place (join [] [] [] (now places) [] first 0) i 5 + w * (slot + n) ≤ length (now body)) ⌝ }
+    requires { ⌜ ((w ≡ 4 → ⊥) → w ≡ 8) ⌝ }
+    ensures { λ r. ⌜ ((state parts : List ℕ) (source : ℕ) → r ≡ (not write && reached (join state parts (now (lengths .entry)) (now (places .entry)) (now (body .entry)) first source) (suc i) v (furthestOf (λ q. entry w (now (body .entry)) (place (join state parts (now (lengths .entry)) (now (places .entry)) (now (body .entry)) first source) i 3) (slot + q) + entry w (now (body .entry)) (place (join state parts (now (lengths .entry)) (now (places .entry)) (now (body .entry)) first source) i 5) (slot + q)) n))) ⌝ }
+{
+    if write {
+        return false;
+    }
+    let offsets = lent_tables::place(places, first + i, 3);
+    let sizes = lent_tables::place(places, first + i, 5);
+    let end = sizes::furthest(body, offsets, sizes, w, slot, n);
+    numbers::reaches(lengths, places, body, first, i + 1, v, end)
+}
+
+// The stretches of a child of numbers, which have `total` rows together.
+fn copy_numbers(
+    state: &[u64],
+    parts: &[u64],
+    lengths: &[u64],
+    places: &[u64],
+    body: &[u8],
+    counts: &mut [u64; 96],
+    room: &mut [u8],
+    write: bool,
+    first: usize,
+    i: usize,
+    w: u64,
+    slot: u64,
+    n: u64,
+    total: u64,
+) -> u8
+    requires { ⌜ (first < 2 ^ 32) × (i + 1 < 32) × (slot + n < 2 ^ 63) × (isPlain (now state) (suc i) ≡ true) ⌝ }
+    requires { ⌜ (place (join [] [] [] (now places) [] first 0) i 3 + w * (slot + n) ≤ length (now body)) × (place (join [] [] [] (now places) [] first 0) i 5 + w * (slot + n) ≤ length (now body)) ⌝ }
+    requires { ⌜ (sumOf (λ q. entry w (now body) (place (join [] [] [] (now places) [] first 0) i 5) (slot + q)) n < 2 ^ 63) × (total ≡ sumOf (λ q. entry w (now body) (place (join [] [] [] (now places) [] first 0) i 5) (slot + q)) n) ⌝ }
+    requires { ⌜ ((w ≡ 4 → ⊥) → w ≡ 8) ⌝ }
+    ensures { λ g. ⌜ ((source : ℕ) → Did (now (state .entry)) (now (parts .entry)) write (stretches (λ a m d. batchLeaf (join (now (state .entry)) (now (parts .entry)) (now (lengths .entry)) (now (places .entry)) (now (body .entry)) first source) (suc i) a m d) (λ r. entry w (now (body .entry)) (place (join (now (state .entry)) (now (parts .entry)) (now (lengths .entry)) (now (places .entry)) (now (body .entry)) first source) i 3) (slot + r)) (λ r. entry w (now (body .entry)) (place (join (now (state .entry)) (now (parts .entry)) (now (lengths .entry)) (now (places .entry)) (now (body .entry)) first source) i 5) (slot + r)) n (now (counts .entry))) (now (room .entry)) g (now (counts .exit)) (now (room .exit))) ⌝ }
+{
+    let v = lookups::width_at(state, i + 1);
+    if none_refused(lengths, places, body, write, first, i, w, v, slot, n) {
+        plan_words::add_rows(counts, i + 1, total);
+        return 0;
+    }
+    copy_number_stretches(
+        state,
+        parts,
+        lengths,
+        places,
+        body,
+        counts,
+        room,
+        write,
+        first,
+        i,
+        w,
+        slot,
+        n,
+    )
+}
+
+// A list-view with offsets of w bytes, whose child is of numbers without validity.
+pub fn copy_list_view(
+    state: &[u64],
+    parts: &[u64],
+    lengths: &[u64],
+    places: &[u64],
+    body: &[u8],
+    counts: &mut [u64; 96],
+    room: &mut [u8],
+    write: bool,
+    first: usize,
+    i: usize,
+    w: u64,
+    slot: u64,
+    n: u64,
+) -> u8
+    requires { ⌜ (first < 2 ^ 32) × (i + 1 < 32) × (slot + n < 2 ^ 63) × (isPlain (now state) (suc i) ≡ true) ⌝ }
+    requires { ⌜ ((w ≡ 4 → ⊥) → w ≡ 8) ⌝ }
+    ensures { λ g. ⌜ ((source : ℕ) → Did (now (state .entry)) (now (parts .entry)) write (batchListView (join (now (state .entry)) (now (parts .entry)) (now (lengths .entry)) (now (places .entry)) (now (body .entry)) first source) (batchLeaf (join (now (state .entry)) (now (parts .entry)) (now (lengths .entry)) (now (places .entry)) (now (body .entry)) first source)) w i slot n (now (counts .entry))) (now (room .entry)) g (now (counts .exit)) (now (room .exit))) ⌝ }
+{
+    if !has_child(state, i) {
+        return 12;
+    }
+    if !nested_rows::pairs_in(places, body, first, i, w, w, slot, n) {
+        return 12;
+    }
+    let sizes = lent_tables::place(places, first + i, 5);
+    let rows = plan_words::rows_of(counts, i + 1);
+    let sum = sizes::sum_sizes(body, sizes, w, slot, n, rows);
+    if !sizes::is_offset(w, sum) {
+        return 6;
+    }
+    let o = plan_words::scale(plan_words::rows_of(counts, i), w);
+    sizes::put_sums(
+        state,
+        parts,
+        room,
+        write,
+        i,
+        o,
+        w,
+        body,
+        sizes,
+        slot,
+        n,
+        rows,
+    );
+    let from = sizes + w * slot;
+    room_writes::put_copy(
+        state,
+        parts,
+        room,
+        write,
+        i,
+        2,
+        o,
+        body,
+        from as usize,
+        w * n,
+    );
+    copy_numbers(
+        state,
+        parts,
+        lengths,
+        places,
+        body,
+        counts,
+        room,
+        write,
+        first,
+        i,
+        w,
+        slot,
+        n,
+        sum - rows,
+    )
+}

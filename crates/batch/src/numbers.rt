@@ -1,0 +1,132 @@
+// Stretches of numbers without validity: copies of bytes.
+ghost use mathlib.Core.Path.{_≡_};
+ghost use mathlib.Core.Bool.{true};
+ghost use mathlib.Core.List.{List, [], _∷_};
+ghost use Prim.Native.Nat.{ℕ, _+_, _*_, _<_, _≤_, _^_};
+ghost use lib.ListN.{length, take, drop};
+ghost use Rattle.number.specs.Number.{splice};
+ghost use Rattle.walk.specs.State.{bytesOf};
+ghost use Rattle.walk.specs.Log.{Did, put, applyIf};
+ghost use Rattle.leaf_walk.specs.Join.{join};
+ghost use Rattle.batch.specs.Batch.{batchLeaf};
+ghost use Rattle.batch.specs.batch_walk.Plain.{isPlain, reached};
+use array_data::lent_tables;
+use nested_rows::lookups;
+use walk::plan_words;
+
+// m words of 4 bytes of body from `from` on into room at `at`.
+fn copy_words(room: &mut [u8], at: usize, body: &[u8], from: usize, m: usize)
+    requires { ⌜ (at + 4 * m ≤ length (now room)) × (from + 4 * m ≤ length (now body)) ⌝ }
+    ensures { λ _. ⌜ now (room .exit) ≡ splice at (take (4 * m) (drop from (now (body .entry)))) (now (room .entry)) ⌝ }
+{
+    let mut q = 0;
+    while q < m {
+        number::write_u32(room, at + 4 * q, number::read_u32(body, from + 4 * q));
+        q += 1;
+    }
+}
+
+// n bytes of body from `from` on into room at `at`, a few of them by words.
+fn copy_few(room: &mut [u8], at: usize, body: &[u8], from: usize, n: usize)
+    requires { ⌜ (at + n ≤ length (now room)) × (from + n ≤ length (now body)) ⌝ }
+    ensures { λ _. ⌜ now (room .exit) ≡ splice at (take n (drop from (now (body .entry)))) (now (room .entry)) ⌝ }
+{
+    if 64 <= n {
+        number::copy::copy_bytes(room, at, body, from, n);
+        return;
+    }
+    if n % 4 != 0 {
+        number::copy::copy_bytes(room, at, body, from, n);
+        return;
+    }
+    copy_words(room, at, body, from, n / 4);
+}
+
+// n bytes of body from `from` on, as the entries of node k from its byte o on.
+fn put_few(
+    state: &[u64],
+    parts: &[u64],
+    room: &mut [u8],
+    write: bool,
+    k: usize,
+    o: u64,
+    body: &[u8],
+    from: usize,
+    n: u64,
+)
+    requires { ⌜ (k < 32) × (from + n ≤ length (now body)) ⌝ }
+    ensures { λ _. ⌜ now (room .exit) ≡ applyIf (now (state .entry)) (now (parts .entry)) write (put k 1 o (take n (drop from (now (body .entry)))) ∷ []) (now (room .entry)) ⌝ }
+{
+    match plan_words::target(state, parts, room.len(), write, k, 1, o, n) {
+        plan_words::Goal::At(at) => copy_few(room, at, body, from, n as usize),
+        plan_words::Goal::Skip => {}
+    }
+}
+
+// Whether node k is of numbers, and keeps no nulls.
+pub fn is_plain(state: &[u64], k: usize) -> bool
+    requires { ⌜ k < 32 ⌝ }
+    ensures { λ r. ⌜ r ≡ isPlain (now (state .entry)) k ⌝ }
+{
+    if !schema::formats::is_fixed(plan_words::code_of(state, k)) {
+        return false;
+    }
+    if plan_words::dictionary_of(state, k) != 0 {
+        return false;
+    }
+    plan_words::keeps_of(state, k) == 0
+}
+
+// Whether the entries of w bytes of node k before row `end` stand in the body.
+pub fn reaches(
+    lengths: &[u64],
+    places: &[u64],
+    body: &[u8],
+    first: usize,
+    k: usize,
+    w: u64,
+    end: u64,
+) -> bool
+    requires { ⌜ (first < 2 ^ 32) × (k < 32) × (w ≤ 16) ⌝ }
+    ensures { λ r. ⌜ ((state parts : List ℕ) (source : ℕ) → r ≡ reached (join state parts (now (lengths .entry)) (now (places .entry)) (now (body .entry)) first source) k w end) ⌝ }
+{
+    let slot = lookups::slot_of(lengths, first, k, end, 0);
+    if 9223372036854775808 <= slot {
+        return false;
+    }
+    leaf_walk::rows_in(body, lent_tables::place(places, first + k, 3), w, slot, 0)
+}
+
+// The rows a .. a + n - 1 of node k, whose entries have w bytes.
+pub fn copy_stretch(
+    state: &[u64],
+    parts: &[u64],
+    lengths: &[u64],
+    places: &[u64],
+    body: &[u8],
+    counts: &mut [u64; 96],
+    room: &mut [u8],
+    write: bool,
+    first: usize,
+    k: usize,
+    w: u64,
+    a: u64,
+    n: u64,
+) -> u8
+    requires { ⌜ (first < 2 ^ 32) × (k < 32) × (1 ≤ w) × (w ≤ 16) × (w ≡ bytesOf (now state) k) × (isPlain (now state) k ≡ true) ⌝ }
+    ensures { λ g. ⌜ ((source : ℕ) → Did (now (state .entry)) (now (parts .entry)) write (batchLeaf (join (now (state .entry)) (now (parts .entry)) (now (lengths .entry)) (now (places .entry)) (now (body .entry)) first source) k a n (now (counts .entry))) (now (room .entry)) g (now (counts .exit)) (now (room .exit))) ⌝ }
+{
+    let slot = lookups::slot_of(lengths, first, k, a, n);
+    if 9223372036854775808 <= slot {
+        return 12;
+    }
+    let at = lent_tables::place(places, first + k, 3);
+    if !leaf_walk::rows_in(body, at, w, slot, n) {
+        return 12;
+    }
+    let o = plan_words::scale(plan_words::rows_of(counts, k), w);
+    let from = at + w * slot;
+    put_few(state, parts, room, write, k, o, body, from as usize, w * n);
+    plan_words::add_rows(counts, k, n);
+    0
+}

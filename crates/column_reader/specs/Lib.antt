@@ -1,3 +1,0 @@
--- The definitions that the contracts of `column_reader` cite.
-pub mod Column
-pub mod runs

@@ -1,4 +1,0 @@
--- The definitions that the contracts of `formats` cite.
-pub mod Code
-pub mod Types
-pub mod union_ids

@@ -1,4 +1,0 @@
--- The definitions that the contracts of `leaf_row` cite.
-pub mod Reading
-pub mod view
-pub mod run

@@ -1,0 +1,228 @@
+// What a node holds by its format's code, where no child is walked for it: validity, and the data of leaves; the same for nulls.
+// The answer is 0 or the ground of refusal; a walk that only tries changes the counters alone.
+
+ghost use mathlib.Core.Path.{_≡_};
+ghost use mathlib.Core.Bool.{cond};
+ghost use mathlib.Core.List.{List};
+ghost use Prim.Native.Nat.{ℕ, _+_, _<_, _≤_, _^_};
+ghost use Rattle.walk.specs.State.{codeOf};
+ghost use Rattle.walk.specs.Log.{Did, done};
+ghost use Rattle.walk.specs.Leaves.{copyMask, nullMask, countNulls};
+ghost use Rattle.walk.specs.Copy.{Walk, masked, copyData};
+ghost use Rattle.walk.specs.Nulls.{NullWalk, nullListView, nullData};
+ghost use Rattle.leaf_walk.specs.Join.{join};
+use crate::lookups;
+use leaf_walk::variable_size;
+use walk::plan_words;
+
+// The codes of unions and run-end nodes.
+pub const SPARSE: u8 = 21;
+
+pub const DENSE: u8 = 22;
+
+pub const RUN_END: u8 = 23;
+
+// Whether a format has a validity buffer: those from SPARSE on have none.
+fn is_masked(code: u8) -> bool
+    ensures { λ r. ⌜ r ≡ masked code ⌝ }
+{
+    code < SPARSE
+}
+
+// The validity of n rows, where the format has one.
+pub fn copy_validity(
+    state: &[u64],
+    parts: &[u64],
+    places: &[u64],
+    body: &[u8],
+    counts: &mut [u64; 96],
+    room: &mut [u8],
+    write: bool,
+    first: usize,
+    i: usize,
+    slot: u64,
+    n: u64,
+) -> u8
+    requires { ⌜ (first < 2 ^ 32) × (i < 32) × (slot + n < 2 ^ 63) ⌝ }
+    ensures { λ r. ⌜ ((lengths : List ℕ) (source : ℕ) → Did (now (state .entry)) (now (parts .entry)) write (cond (masked (codeOf (now (state .entry)) i)) (copyMask (join (now (state .entry)) (now (parts .entry)) lengths (now (places .entry)) (now (body .entry)) first source) i slot n (now (counts .entry))) (done (now (counts .entry)))) (now (room .entry)) r (now (counts .exit)) (now (room .exit))) ⌝ }
+{
+    if !is_masked(plan_words::code_of(state, i)) {
+        return 0;
+    }
+    leaf_walk::copy_mask(
+        state,
+        parts,
+        places,
+        body,
+        counts,
+        room,
+        write,
+        first,
+        i,
+        slot,
+        n,
+    )
+}
+
+// The data of n rows of a leaf: numbers, keys, byte strings or views.
+pub fn copy_leaf(
+    state: &[u64],
+    parts: &[u64],
+    places: &[u64],
+    body: &[u8],
+    counts: &mut [u64; 96],
+    room: &mut [u8],
+    write: bool,
+    source: usize,
+    first: usize,
+    i: usize,
+    slot: u64,
+    n: u64,
+) -> u8
+    requires { ⌜ (first < 2 ^ 32) × (i < 32) × (slot + n < 2 ^ 63) × (source < 2 ^ 32) ⌝ }
+    requires { ⌜ (17 ≤ codeOf (now state) i → 23 < codeOf (now state) i) ⌝ }
+    ensures { λ r. ⌜ ((lengths : List ℕ) (child : Walk) → Did (now (state .entry)) (now (parts .entry)) write (copyData (join (now (state .entry)) (now (parts .entry)) lengths (now (places .entry)) (now (body .entry)) first source) child (codeOf (now (state .entry)) i) i slot n (now (counts .entry))) (now (room .entry)) r (now (counts .exit)) (now (room .exit))) ⌝ }
+{
+    let code = plan_words::code_of(state, i);
+    let w = lookups::width_at(state, i);
+    if schema::formats::is_fixed(code) {
+        if plan_words::dictionary_of(state, i) == 0 {
+            return leaf_walk::copy_numbers(
+                state,
+                parts,
+                places,
+                body,
+                counts,
+                room,
+                write,
+                first,
+                i,
+                w,
+                slot,
+                n,
+            );
+        }
+        return leaf_walk::copy_keys(
+            state,
+            parts,
+            places,
+            body,
+            counts,
+            room,
+            write,
+            source,
+            first,
+            i,
+            w,
+            slot,
+            n,
+        );
+    }
+    if schema::formats::is_string(code) {
+        return variable_size::copy_string(
+            state,
+            parts,
+            places,
+            body,
+            counts,
+            room,
+            write,
+            first,
+            i,
+            w,
+            slot,
+            n,
+        );
+    }
+    if schema::formats::is_view(code) {
+        return leaf_walk::copy_views(
+            state,
+            parts,
+            places,
+            body,
+            counts,
+            room,
+            write,
+            source,
+            first,
+            i,
+            slot,
+            n,
+        );
+    }
+    12
+}
+
+// The validity of n nulls; a union's or run-end node's are only counted.
+pub fn null_validity(
+    state: &[u64],
+    parts: &[u64],
+    counts: &mut [u64; 96],
+    room: &mut [u8],
+    write: bool,
+    i: usize,
+    n: u64,
+) -> u8
+    requires { ⌜ i < 32 ⌝ }
+    ensures { λ r. ⌜ ((lengths places body : List ℕ) (first source : ℕ) → Did (now (state .entry)) (now (parts .entry)) write (cond (masked (codeOf (now (state .entry)) i)) (nullMask (join (now (state .entry)) (now (parts .entry)) lengths places body first source) i n (now (counts .entry))) (countNulls (join (now (state .entry)) (now (parts .entry)) lengths places body first source) i n (now (counts .entry)))) (now (room .entry)) r (now (counts .exit)) (now (room .exit))) ⌝ }
+{
+    if !is_masked(plan_words::code_of(state, i)) {
+        return leaf_walk::count_nulls(state, counts, i, n);
+    }
+    leaf_walk::null_mask(state, parts, counts, room, write, i, n)
+}
+
+// n nulls of a list-view with offsets of w bytes.
+fn null_list_view(
+    state: &[u64],
+    parts: &[u64],
+    counts: &mut [u64; 96],
+    room: &mut [u8],
+    write: bool,
+    i: usize,
+    w: u64,
+    n: u64,
+) -> u8
+    requires { ⌜ (i < 32) × (1 ≤ w) × (w ≤ 16) ⌝ }
+    ensures { λ r. ⌜ ((lengths places body : List ℕ) (first source : ℕ) (child : NullWalk) → Did (now (state .entry)) (now (parts .entry)) write (nullListView (join (now (state .entry)) (now (parts .entry)) lengths places body first source) child w i n (now (counts .entry))) (now (room .entry)) r (now (counts .exit)) (now (room .exit))) ⌝ }
+{
+    let r = leaf_walk::null_numbers(state, parts, counts, room, write, i, 1, w, n);
+    if r != 0 {
+        return r;
+    }
+    leaf_walk::null_numbers(state, parts, counts, room, write, i, 2, w, n)
+}
+
+// The data of n nulls of a leaf, a list-view or a list, whose child gets none.
+pub fn null_leaf(
+    state: &[u64],
+    parts: &[u64],
+    counts: &mut [u64; 96],
+    room: &mut [u8],
+    write: bool,
+    i: usize,
+    n: u64,
+) -> u8
+    requires { ⌜ i < 32 ⌝ }
+    requires { ⌜ (21 ≤ codeOf (now state) i → 23 < codeOf (now state) i) ⌝ }
+    ensures { λ r. ⌜ ((lengths places body : List ℕ) (first source : ℕ) (child : NullWalk) → Did (now (state .entry)) (now (parts .entry)) write (nullData (join (now (state .entry)) (now (parts .entry)) lengths places body first source) child (codeOf (now (state .entry)) i) i n (now (counts .entry))) (now (room .entry)) r (now (counts .exit)) (now (room .exit))) ⌝ }
+{
+    let code = plan_words::code_of(state, i);
+    let w = lookups::width_at(state, i);
+    if schema::formats::is_fixed(code) {
+        return leaf_walk::null_numbers(state, parts, counts, room, write, i, 1, w, n);
+    }
+    if schema::formats::is_string(code) {
+        return variable_size::null_string(state, parts, counts, room, write, i, w, n);
+    }
+    if schema::formats::is_view(code) {
+        return leaf_walk::null_numbers(state, parts, counts, room, write, i, 1, 16, n);
+    }
+    if schema::formats::is_list_view(code) {
+        return null_list_view(state, parts, counts, room, write, i, w, n);
+    }
+    if schema::formats::is_list(code) {
+        return variable_size::null_list(state, parts, counts, room, write, i, w, n);
+    }
+    12
+}

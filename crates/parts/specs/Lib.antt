@@ -1,3 +1,0 @@
--- The definitions that the contracts of `parts` cite.
-pub mod Parts
-pub mod grounds

@@ -1,0 +1,47 @@
+-- `parts::grounds::parts_ground` meets its contract. The invariant: g is the ground of the nodes below i. Assumes nothing.
+use mathlib.Core.Path.{_≡_, refl}
+use Prim.Native.Nat.{_-_, _≤_}
+use native.Mathlib.Omega.{arith}
+use Rattle.columnar.specs.Test.{every}
+use Rattle.plan.specs.grounds.Verdict.{verdict}
+use Rattle.plan.proofs.grounds.Laws.{withinAt, holdAt, nodes-more, nodes-all}
+use borrow.Author.Needs.{needs}
+use Rattle.plan.proofs.grounds.parts_ground.Statement.{statement}
+use Rattle.plan.proofs.grounds.parts_ground.Tie as tie
+
+abbrev Inv-loop : tie.InvT-loop
+Inv-loop state counts parts m n g₀ i₀ g i = (i ≤ n) × (g ≡ verdict (every (withinAt state counts parts m) i) (every (holdAt state counts parts m) i))
+
+abbrev μ-loop : tie.MeasureT-loop
+μ-loop state counts parts m n g₀ i₀ g i = n - i
+
+node-count-requires : tie.Need-node-count-requires Inv-loop μ-loop
+node-count-requires c κs = omega arith
+
+loop-holds : tie.Need-loop-holds Inv-loop μ-loop
+loop-holds c = (omega arith, refl)
+
+node-ground-requires : tie.Need-node-ground-requires Inv-loop μ-loop
+node-ground-requires c κs = omega arith
+
+worse-requires : tie.Need-worse-requires Inv-loop μ-loop
+worse-requires c κs = omega arith
+
+add-i : tie.Need-add-i Inv-loop μ-loop
+add-i c = omega arith
+
+loop-less : tie.Need-loop-less Inv-loop μ-loop
+loop-less c = omega arith
+
+loop-again : tie.Need-loop-again Inv-loop μ-loop
+loop-again c =
+    let a = c .before .before .before .before .before .before .before .before .args in
+    (omega arith, nodes-more (a .state .now) (a .counts .now) (a .parts .now) (a .m) (c .before .before .before .loop .i) (c .before .before .before .loop .inv .1) (c .before .node-ground .ensures) (c .worse .ensures))
+
+returns : tie.Need-returns Inv-loop μ-loop
+returns c =
+    let a = c .before .before .before .before .before .before .args in
+    nodes-all (a .state .now) (a .counts .now) (a .parts .now) (a .m) (c .before .loop .i) (c .before .before .node-count .result) (c .before .before .node-count .ensures .0) (omega arith) (c .before .loop .inv .0) (c .before .loop .inv .1)
+
+pub parts-ground-spec : {M : Type 1} → statement M
+parts-ground-spec = tie.close (tie.spec Inv-loop μ-loop node-count-requires loop-holds node-ground-requires worse-requires add-i loop-less loop-again returns)

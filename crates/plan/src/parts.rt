@@ -1,0 +1,439 @@
+// The parts of a destination in the lent room: which there are, whether each holds its bytes, and whether they lie well.
+// Every function reads the state and the parts through getters that answer 0 past a table's end, and is right whatever they hold.
+
+ghost use mathlib.Core.Path.{_≡_};
+ghost use Prim.Native.Nat.{_+_, _*_, _≤_, _<_, _/_};
+ghost use lib.Dec.{leb};
+ghost use Rattle.columnar.specs.Test.{every};
+ghost use Rattle.plan.specs.parts.Parts.{nodesOf, bufferCount, copied, validityParts, bufferParts, partCount, hasPart, partsBefore, partTotal, partWord, numberOf, partAt, entrySize, neededBy, inRoom, apart, partHolds, partsHold, partsPlaced, partWithin, partsWithin};
+use array_data::lent_tables;
+use walk::plan_words;
+
+// The node and the buffer of a part; buffer 0 is the validity.
+pub enum Spot {
+    Of { node: usize, buffer: usize },
+    Nothing,
+}
+
+// How many buffers have a part by code, from code 0 on.
+const BUFFERS: [u8; 24] = [
+    0, // none
+    1, // c
+    1, // C
+    1, // s
+    1, // S
+    1, // i
+    1, // I
+    1, // l
+    1, // L
+    1, // f
+    1, // g
+    2, // z
+    2, // u
+    2, // Z
+    2, // U
+    1, // vz
+    1, // vu
+    2, // +vl
+    2, // +vL
+    1, // +l
+    1, // +L
+    1, // +us:
+    2, // +ud:
+    0, // +r
+];
+
+// ---- which parts there are
+
+// How many nodes the type has, at most 32.
+pub fn node_count(state: &[u64]) -> usize
+    ensures { λ r. ⌜ r ≡ nodesOf (now (state .entry)) ⌝ }
+    ensures { λ r. ⌜ r ≤ 32 ⌝ }
+{
+    let n = lent_tables::at_u64(state, 865);
+    if 32 < n {
+        return 32;
+    }
+    n as usize
+}
+
+// How many buffers of a type have a part.
+pub fn buffer_count(code: u8) -> u8
+    ensures { λ r. ⌜ r ≡ bufferCount code ⌝ }
+{
+    let k = code as usize;
+    if k < 24 { BUFFERS[k] } else { 0 }
+}
+
+// Whether node i is copied: the values of a dictionary are, if it is joined.
+pub fn is_copied(state: &[u64], i: usize) -> bool
+    requires { ⌜ i < 32 ⌝ }
+    ensures { λ r. ⌜ r ≡ copied (now (state .entry)) i ⌝ }
+{
+    if i == 0 {
+        return true;
+    }
+    if plan_words::dictionary_of(state, i - 1) == 0 {
+        return true;
+    }
+    lent_tables::at_u64(state, 8 * (i - 1) + 7) == 1
+}
+
+// 1 if node i has a part for its validity and else 0.
+fn validity_parts(state: &[u64], i: usize) -> usize
+    requires { ⌜ i < 32 ⌝ }
+    ensures { λ r. ⌜ r ≡ validityParts (now (state .entry)) i ⌝ }
+    ensures { λ r. ⌜ r ≤ 1 ⌝ }
+{
+    if !is_copied(state, i) {
+        return 0;
+    }
+    if plan_words::keeps_of(state, i) == 0 {
+        return 0;
+    }
+    if plan_words::code_of(state, i) < 21 {
+        1
+    } else {
+        0
+    }
+}
+
+// How many buffers of node i have a part.
+fn buffer_parts(state: &[u64], i: usize) -> usize
+    requires { ⌜ i < 32 ⌝ }
+    ensures { λ r. ⌜ r ≡ bufferParts (now (state .entry)) i ⌝ }
+    ensures { λ r. ⌜ r ≤ 2 ⌝ }
+{
+    if !is_copied(state, i) {
+        return 0;
+    }
+    buffer_count(plan_words::code_of(state, i)) as usize
+}
+
+// How many parts node i has.
+fn part_count(state: &[u64], i: usize) -> usize
+    requires { ⌜ i < 32 ⌝ }
+    ensures { λ r. ⌜ r ≡ partCount (now (state .entry)) i ⌝ }
+    ensures { λ r. ⌜ r ≤ 3 ⌝ }
+{
+    validity_parts(state, i) + buffer_parts(state, i)
+}
+
+// Whether buffer b of node i has a part.
+pub fn has_part(state: &[u64], i: usize, b: usize) -> bool
+    requires { ⌜ i < 32 ⌝ }
+    ensures { λ r. ⌜ r ≡ hasPart (now (state .entry)) i b ⌝ }
+{
+    if b == 0 {
+        return validity_parts(state, i) == 1;
+    }
+    b <= buffer_parts(state, i)
+}
+
+// ---- their numbers
+
+// How many parts the nodes before node i have.
+fn parts_before(state: &[u64], i: usize) -> usize
+    requires { ⌜ i ≤ 32 ⌝ }
+    ensures { λ r. ⌜ r ≡ partsBefore (now (state .entry)) i ⌝ }
+    ensures { λ r. ⌜ r ≤ 96 ⌝ }
+{
+    let mut sum: usize = 0;
+    let mut k = 0;
+    while k < i {
+        sum += part_count(state, k);
+        k += 1;
+    }
+    sum
+}
+
+// How many parts there are.
+pub fn part_total(state: &[u64]) -> usize
+    ensures { λ r. ⌜ r ≡ partTotal (now (state .entry)) ⌝ }
+    ensures { λ r. ⌜ r ≤ 96 ⌝ }
+{
+    parts_before(state, node_count(state))
+}
+
+// The part of node i's first buffer, as the opening writes it into the state.
+pub fn part_word(state: &[u64], i: usize) -> u64
+    requires { ⌜ i < 32 ⌝ }
+    ensures { λ r. ⌜ r ≡ partWord (now (state .entry)) i ⌝ }
+{
+    (parts_before(state, i) + validity_parts(state, i)) as u64
+}
+
+// The node and the buffer of part p.
+pub fn part_at(state: &[u64], p: usize) -> Spot
+    ensures { λ r. ⌜ r ≡ partAt (now (state .entry)) p ⌝ }
+{
+    let n = node_count(state);
+    let mut left = p;
+    let mut i = 0;
+    while i < n {
+        let count = part_count(state, i);
+        if left < count {
+            return Spot::Of {
+                node: i,
+                buffer: left + 1 - validity_parts(state, i),
+            };
+        }
+        left -= count;
+        i += 1;
+    }
+    Spot::Nothing
+}
+
+// The part of buffer b of node i, by the state.
+pub fn number_of(state: &[u64], i: usize, b: usize) -> usize
+    requires { ⌜ (i < 32) × (b < 3) ⌝ }
+    ensures { λ r. ⌜ r ≡ numberOf (now (state .entry)) i b ⌝ }
+    ensures { λ r. ⌜ r < 4294967298 ⌝ }
+{
+    let p = plan_words::part_of(state, i) + b;
+    if p == 0 {
+        return 0;
+    }
+    p - 1
+}
+
+// ---- what each must hold
+
+// The bytes of an entry of the first buffer.
+pub fn entry_size(code: u8) -> u8
+    ensures { λ r. ⌜ r ≡ entrySize code ⌝ }
+{
+    if schema::formats::is_view(code) {
+        return 16;
+    }
+    if schema::formats::is_union(code) {
+        return 1;
+    }
+    schema::formats::width_of(code)
+}
+
+// Whether the offsets of r rows, one more than rows, fit into a size; no sum and no product is made.
+fn offsets_fit(r: u64, w: u8, size: u64) -> bool
+    ensures { λ s. ⌜ s ≡ leb ((r + 1) * w) size ⌝ }
+{
+    if w == 0 {
+        return true;
+    }
+    r < size / (w as u64)
+}
+
+// Whether the bits of r rows fit into a size.
+pub fn bits_fit(r: u64, size: u64) -> bool
+    ensures { λ s. ⌜ s ≡ leb ((r + 7) / 8) size ⌝ }
+{
+    lent_tables::bits_fit(r, 0, size)
+}
+
+// Whether the first buffer of r rows fits into a size.
+pub fn first_fits(code: u8, r: u64, n: u64, size: u64) -> bool
+    ensures { λ s. ⌜ s ≡ leb (neededBy code r n 1) size ⌝ }
+{
+    if schema::formats::is_string(code) | schema::formats::is_list(code) {
+        return offsets_fit(r, schema::formats::width_of(code), size);
+    }
+    lent_tables::rows_fit(r, entry_size(code), size)
+}
+
+// Whether the second buffer of r rows with n bytes of data fits into a size.
+pub fn second_fits(code: u8, r: u64, n: u64, size: u64) -> bool
+    ensures { λ s. ⌜ s ≡ leb (neededBy code r n 2) size ⌝ }
+{
+    if schema::formats::is_string(code) {
+        return n <= size;
+    }
+    if schema::formats::is_list_view(code) {
+        return lent_tables::rows_fit(r, schema::formats::width_of(code), size);
+    }
+    lent_tables::rows_fit(r, 4, size)
+}
+
+// Whether buffer b of r rows with n bytes of data fits into a size.
+fn fits(code: u8, r: u64, n: u64, b: usize, size: u64) -> bool
+    requires { ⌜ b < 3 ⌝ }
+    ensures { λ s. ⌜ s ≡ leb (neededBy code r n b) size ⌝ }
+{
+    if b == 0 {
+        return bits_fit(r, size);
+    }
+    if b == 1 {
+        return first_fits(code, r, n, size);
+    }
+    second_fits(code, r, n, size)
+}
+
+// ---- ground 13
+
+// Whether buffer b of node i has no part, or one that holds its bytes.
+fn part_holds(state: &[u64], counts: &[u64; 96], parts: &[u64], i: usize, b: usize) -> bool
+    requires { ⌜ (i < 32) × (b < 3) ⌝ }
+    ensures { λ r. ⌜ r ≡ partHolds (now (state .entry)) (now (counts .entry)) (now (parts .entry)) i b ⌝ }
+{
+    if !has_part(state, i, b) {
+        return true;
+    }
+    let size = lent_tables::at_u64(parts, 2 * number_of(state, i, b) + 1);
+    let code = plan_words::code_of(state, i);
+    let r = plan_words::rows_of(counts, i);
+    let n = plan_words::bytes_of(counts, i);
+    fits(code, r, n, b, size)
+}
+
+// Whether every part of node i holds its bytes.
+fn node_holds(state: &[u64], counts: &[u64; 96], parts: &[u64], i: usize) -> bool
+    requires { ⌜ i < 32 ⌝ }
+    ensures { λ r. ⌜ r ≡ every (λ b. partHolds (now (state .entry)) (now (counts .entry)) (now (parts .entry)) i b) 3 ⌝ }
+{
+    let validity = part_holds(state, counts, parts, i, 0);
+    let first = part_holds(state, counts, parts, i, 1);
+    let second = part_holds(state, counts, parts, i, 2);
+    validity & first & second
+}
+
+// Whether every part holds its bytes: ground 13 where not.
+pub fn parts_hold(state: &[u64], counts: &[u64; 96], parts: &[u64]) -> bool
+    ensures { λ r. ⌜ r ≡ partsHold (now (state .entry)) (now (counts .entry)) (now (parts .entry)) ⌝ }
+{
+    let n = node_count(state);
+    let mut i = 0;
+    while i < n {
+        if !node_holds(state, counts, parts, i) {
+            return false;
+        }
+        i += 1;
+    }
+    true
+}
+
+// ---- ground 14
+
+// Whether part p lies in the room.
+pub fn in_room(parts: &[u64], m: usize, p: usize) -> bool
+    requires { ⌜ p < 4294967298 ⌝ }
+    ensures { λ r. ⌜ r ≡ inRoom (now (parts .entry)) m p ⌝ }
+{
+    let start = lent_tables::at_u64(parts, 2 * p);
+    let size = lent_tables::at_u64(parts, 2 * p + 1);
+    lent_tables::fits(start, size, m as u64)
+}
+
+// Whether part p or part q is empty, or one lies behind the other.
+fn are_apart(parts: &[u64], p: usize, q: usize) -> bool
+    requires { ⌜ (p < 96) × (q < 96) ⌝ }
+    ensures { λ r. ⌜ r ≡ apart (now (parts .entry)) p q ⌝ }
+{
+    let size = lent_tables::at_u64(parts, 2 * p + 1);
+    let other_size = lent_tables::at_u64(parts, 2 * q + 1);
+    if (size == 0) | (other_size == 0) {
+        return true;
+    }
+    let start = lent_tables::at_u64(parts, 2 * p);
+    let other = lent_tables::at_u64(parts, 2 * q);
+    let before = lent_tables::fits(start, size, other);
+    let behind = lent_tables::fits(other, other_size, start);
+    before | behind
+}
+
+// Whether part p is apart from the parts before it.
+fn is_apart(parts: &[u64], p: usize) -> bool
+    requires { ⌜ p < 96 ⌝ }
+    ensures { λ r. ⌜ r ≡ every (λ q. apart (now (parts .entry)) p q) p ⌝ }
+{
+    let mut q = 0;
+    while q < p {
+        if !are_apart(parts, p, q) {
+            return false;
+        }
+        q += 1;
+    }
+    true
+}
+
+// Whether every part lies in the room.
+fn all_in_room(parts: &[u64], m: usize, count: usize) -> bool
+    requires { ⌜ count ≤ 96 ⌝ }
+    ensures { λ r. ⌜ r ≡ every (inRoom (now (parts .entry)) m) count ⌝ }
+{
+    let mut p = 0;
+    while p < count {
+        if !in_room(parts, m, p) {
+            return false;
+        }
+        p += 1;
+    }
+    true
+}
+
+// Whether no two nonempty parts overlap.
+fn all_apart(parts: &[u64], count: usize) -> bool
+    requires { ⌜ count ≤ 96 ⌝ }
+    ensures { λ r. ⌜ r ≡ every (λ p. every (λ q. apart (now (parts .entry)) p q) p) count ⌝ }
+{
+    let mut p = 0;
+    while p < count {
+        if !is_apart(parts, p) {
+            return false;
+        }
+        p += 1;
+    }
+    true
+}
+
+// Whether these are the parts of an opening, in the room and apart: ground 14 where not.
+pub fn parts_placed(parts: &[u64], count: usize, m: usize) -> bool
+    requires { ⌜ count ≤ 96 ⌝ }
+    ensures { λ r. ⌜ r ≡ partsPlaced (now (parts .entry)) count m ⌝ }
+{
+    if parts.len() != 2 * count {
+        return false;
+    }
+    if !all_in_room(parts, m, count) {
+        return false;
+    }
+    all_apart(parts, count)
+}
+
+// Whether buffer b of node i has no part, or one that is in the table and lies in the room.
+fn part_within(state: &[u64], parts: &[u64], m: usize, i: usize, b: usize) -> bool
+    requires { ⌜ (i < 32) × (b < 3) ⌝ }
+    ensures { λ r. ⌜ r ≡ partWithin (now (state .entry)) (now (parts .entry)) m i b ⌝ }
+{
+    if !has_part(state, i, b) {
+        return true;
+    }
+    let p = number_of(state, i, b);
+    if parts.len() <= 2 * p + 1 {
+        return false;
+    }
+    in_room(parts, m, p)
+}
+
+// Whether every part of node i is in the table and lies in the room.
+fn node_within(state: &[u64], parts: &[u64], m: usize, i: usize) -> bool
+    requires { ⌜ i < 32 ⌝ }
+    ensures { λ r. ⌜ r ≡ every (λ b. partWithin (now (state .entry)) (now (parts .entry)) m i b) 3 ⌝ }
+{
+    let validity = part_within(state, parts, m, i, 0);
+    let first = part_within(state, parts, m, i, 1);
+    let second = part_within(state, parts, m, i, 2);
+    validity & first & second
+}
+
+// Whether every part is in the table and lies in the room: ground 14 where not, at an order.
+pub fn parts_within(state: &[u64], parts: &[u64], m: usize) -> bool
+    ensures { λ r. ⌜ r ≡ partsWithin (now (state .entry)) (now (parts .entry)) m ⌝ }
+{
+    let n = node_count(state);
+    let mut i = 0;
+    while i < n {
+        if !node_within(state, parts, m, i) {
+            return false;
+        }
+        i += 1;
+    }
+    true
+}

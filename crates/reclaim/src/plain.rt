@@ -1,0 +1,163 @@
+// Entries that are numbers without validity: those in use are copied straight from the body, by the ranks of their block.
+ghost use mathlib.Core.Path.{_≡_};
+ghost use mathlib.Core.Bool.{Bool, true, false, cond};
+ghost use mathlib.Core.List.{[]};
+ghost use Prim.Native.Nat.{ℕ, _+_, _*_, _^_, _<_, _≤_};
+ghost use lib.ListN.{length, getD};
+ghost use lib.Dec.{eqb};
+ghost use Rattle.number.specs.Number.{splice};
+ghost use Rattle.walk.specs.State.{bytesOf, addRows};
+ghost use Rattle.walk.specs.Log.{Did, startOf};
+ghost use Rattle.leaf_walk.specs.Join.{join};
+ghost use Rattle.reclaim.specs.used_entries.Keys.{rank};
+ghost use Rattle.reclaim.specs.used_entries.Chosen.{chosen, risen};
+ghost use Rattle.reclaim.specs.reclaim_walk.Walk.{keysOf, copyRuns};
+ghost use Rattle.reclaim.specs.reclaim_walk.Plain.{Plain, entryPlace};
+use array_data::lent_tables;
+use nested_rows::lookups;
+use walk::plan_words;
+
+// Whether the `count` entries from `base` on are such, and lie in the body.
+fn is_plain(
+    state: &[u64],
+    lengths: &[u64],
+    places: &[u64],
+    body: &[u8],
+    first: usize,
+    base: u64,
+    count: u64,
+) -> bool
+    requires { ⌜ (first < 2 ^ 32) × (base + count < 2 ^ 64) ⌝ }
+    ensures { λ r. ⌜ (r ≡ true → Plain (join (now (state .entry)) [] (now (lengths .entry)) (now (places .entry)) (now (body .entry)) first 0) base count) ⌝ }
+{
+    if !schema::formats::is_fixed(plan_words::code_of(state, 1)) {
+        return false;
+    }
+    if plan_words::dictionary_of(state, 1) != 0 {
+        return false;
+    }
+    if plan_words::keeps_of(state, 1) != 0 {
+        return false;
+    }
+    let off = lent_tables::offset_of(lengths, first + 1);
+    if crate::reclaim_walk::FAR <= plan_words::grow(off, base + count) {
+        return false;
+    }
+    let w = lookups::width_at(state, 1);
+    leaf_walk::rows_in(
+        body,
+        lent_tables::place(places, first + 1, 3),
+        w,
+        off + base,
+        count,
+    )
+}
+
+// Those in use behind `have` entries, n of them, if the walk writes; false, with nothing written, where they leave the room.
+fn write_entries(
+    state: &[u64],
+    parts: &[u64],
+    lengths: &[u64],
+    places: &[u64],
+    body: &[u8],
+    room: &mut [u8],
+    write: bool,
+    first: usize,
+    base: u64,
+    count: u64,
+    ranks: &[u64; 513],
+    have: u64,
+    n: u64,
+) -> bool
+    requires { ⌜ (first < 2 ^ 32) × (count ≤ 512) × Plain (join (now state) [] (now lengths) (now places) (now body) first 0) base count ⌝ }
+    requires { ⌜ length (chosen (now body) (entryPlace (join (now state) [] (now lengths) (now places) (now body) first 0) base) (bytesOf (now state) 1) (risen (now ranks)) count) ≡ bytesOf (now state) 1 * n ⌝ }
+    ensures { λ r. ⌜ (r ≡ true → (write ≡ true → startOf (now (state .entry)) (now (parts .entry)) 1 1 + have * bytesOf (now (state .entry)) 1 + bytesOf (now (state .entry)) 1 * n ≤ length (now (room .entry))) × (now (room .exit) ≡ cond write (splice (startOf (now (state .entry)) (now (parts .entry)) 1 1 + have * bytesOf (now (state .entry)) 1) (chosen (now (body .entry)) (entryPlace (join (now (state .entry)) [] (now (lengths .entry)) (now (places .entry)) (now (body .entry)) first 0) base) (bytesOf (now (state .entry)) 1) (risen (now (ranks .entry))) count) (now (room .entry))) (now (room .entry)))) ⌝ }
+    ensures { λ r. ⌜ (r ≡ false → now (room .exit) ≡ now (room .entry)) ⌝ }
+{
+    if !write {
+        return true;
+    }
+    let w = lookups::width_at(state, 1);
+    match plan_words::target(
+        state,
+        parts,
+        room.len(),
+        true,
+        1,
+        1,
+        plan_words::scale(have, w),
+        plan_words::scale(n, w),
+    ) {
+        plan_words::Goal::At(to) => {
+            let slot = lent_tables::offset_of(lengths, first + 1) + base;
+            let from = lent_tables::place(places, first + 1, 3) + w * slot;
+            crate::entry_writes::write_used(room, to, body, from, w, ranks, count as usize);
+            true
+        }
+        plan_words::Goal::Skip => false,
+    }
+}
+
+// A copy; that it has 96 elements is known of an array that a call returns.
+fn copied(counts: [u64; 96]) -> [u64; 96]
+    ensures { λ r. ⌜ r ≡ counts ⌝ }
+{
+    counts
+}
+
+// n entries more, if there is one.
+fn count_entries(counts: &mut [u64; 96], n: u64)
+    ensures { λ _. ⌜ now (counts .exit) ≡ cond (eqb n 0) (now (counts .entry)) (addRows 1 n (now (counts .entry))) ⌝ }
+{
+    if n == 0 {
+        return;
+    }
+    plan_words::add_rows(counts, 1, n);
+}
+
+// THE ENTRIES IN USE of the `count` from `base` on, whose ranks are given; false, with nothing done, where they are no plain numbers or leave
+// the body or the room.
+pub fn copy_plain(
+    state: &[u64],
+    parts: &[u64],
+    lengths: &[u64],
+    places: &[u64],
+    body: &[u8],
+    counts: &mut [u64; 96],
+    room: &mut [u8],
+    write: bool,
+    first: usize,
+    base: u64,
+    count: u64,
+    ranks: &[u64; 513],
+) -> bool
+    requires { ⌜ (first < 2 ^ 32) × (count ≤ 512) × (base + count < 2 ^ 64) ⌝ }
+    requires { ⌜ ((j : ℕ) → j ≤ count → getD (now ranks) j 0 ≡ rank (keysOf (join (now state) [] (now lengths) (now places) (now body) first 0)) (base + j)) ⌝ }
+    ensures { λ r. ⌜ (r ≡ true → Did (now (state .entry)) (now (parts .entry)) write (copyRuns (join (now (state .entry)) (now (parts .entry)) (now (lengths .entry)) (now (places .entry)) (now (body .entry)) first 0) count base count (now (counts .entry))) (now (room .entry)) 0 (now (counts .exit)) (now (room .exit))) ⌝ }
+    ensures { λ r. ⌜ (r ≡ false → (now (counts .exit) ≡ now (counts .entry)) × (now (room .exit) ≡ now (room .entry))) ⌝ }
+{
+    if !is_plain(state, lengths, places, body, first, base, count) {
+        return false;
+    }
+    let had = copied(*counts);
+    let n = ranks[count as usize] - ranks[0];
+    if !write_entries(
+        state,
+        parts,
+        lengths,
+        places,
+        body,
+        room,
+        write,
+        first,
+        base,
+        count,
+        ranks,
+        had[3],
+        n,
+    ) {
+        return false;
+    }
+    count_entries(counts, n);
+    true
+}

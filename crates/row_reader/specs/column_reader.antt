@@ -1,0 +1,2 @@
+-- The definitions that the contracts of `column_reader` cite.
+pub mod Column

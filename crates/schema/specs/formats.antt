@@ -1,0 +1,3 @@
+-- The definitions that the contracts of `formats` cite.
+pub mod Code
+pub mod Types

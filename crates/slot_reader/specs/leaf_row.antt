@@ -1,0 +1,2 @@
+-- The definitions that the contracts of `leaf_row` cite.
+pub mod Reading

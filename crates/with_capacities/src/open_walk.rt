@@ -1,0 +1,349 @@
+// The walk of an opening: the gaps of run-end nodes, the first zero offset of byte strings and lists, then the dictionaries in tree order, joined
+// where they are not shared.
+// The answer is 0 or the ground of refusal; a walk that only tries changes the counters alone.
+// Follows `try_with_capacities` of arrow-data 60.1.0 src/transform/mod.rs, Apache-2.0; see NOTICE.
+ghost use mathlib.Core.Path.{_≡_};
+ghost use mathlib.Core.List.{List};
+ghost use mathlib.Core.Bool.{Bool, cond};
+ghost use Prim.Native.Nat.{ℕ, suc, _≤_, _<_, _^_};
+ghost use lib.Dec.{eqb};
+ghost use Rattle.walk.specs.State.{word};
+ghost use Rattle.walk.specs.Log.{Did, done, each};
+ghost use Rattle.refinement.specs.orders.Order.{sourceCount};
+ghost use Rattle.plan.specs.parts.Parts.{nodesOf};
+ghost use Rattle.refinement.specs.opening.Open.{beginGaps, firstOffset, joinSource, joinEntries, entriesHold, keysHold, openDictionary, openWalk};
+ghost use Rattle.with_capacities.specs.open_walk.Lent.{lent};
+use array_data::lent_tables;
+use plan::dictionaries;
+use walk::plan_words;
+
+// ---- gaps
+
+// The gap of node i begins at 1, if it is a run-end node and one run for a gap is chosen.
+fn begin_gap(state: &[u64], counts: &mut [u64; 96], i: usize)
+    requires { ⌜ i < 32 ⌝ }
+    ensures { λ _. ⌜ ((parts sources lengths places body room : List ℕ) (write : Bool) → Did (now (state .entry)) parts write (beginGaps (lent (now (state .entry)) parts sources lengths places body) i (now (counts .entry))) room 0 (now (counts .exit)) room) ⌝ }
+{
+    let code = plan_words::code_of(state, i);
+    if !schema::formats::is_run_end(code) {
+        return;
+    }
+    if lent_tables::at_u64(state, 867) != 1 {
+        return;
+    }
+    plan_words::set_bytes(counts, i, 1)
+}
+
+// The gap of every run-end node. No byte changes.
+fn begin_gaps(state: &[u64], counts: &mut [u64; 96])
+    ensures { λ _. ⌜ ((parts sources lengths places body room : List ℕ) (write : Bool) → Did (now (state .entry)) parts write (each (beginGaps (lent (now (state .entry)) parts sources lengths places body)) (nodesOf (now (state .entry))) 0 (now (counts .entry))) room 0 (now (counts .exit)) room) ⌝ }
+{
+    let n = plan::parts::node_count(state);
+    let mut i = 0;
+    while i < n {
+        begin_gap(state, counts, i);
+        i += 1;
+    }
+}
+
+// ---- first offsets
+
+// The first zero offset of node i, if it is a byte string or list that has parts. No counter changes.
+fn first_offset(state: &[u64], parts: &[u64], room: &mut [u8], write: bool, i: usize)
+    requires { ⌜ i < 32 ⌝ }
+    ensures { λ _. ⌜ ((sources lengths places body c : List ℕ) → Did (now (state .entry)) (now (parts .entry)) write (firstOffset (lent (now (state .entry)) (now (parts .entry)) sources lengths places body) i c) (now (room .entry)) 0 c (now (room .exit))) ⌝ }
+{
+    let code = plan_words::code_of(state, i);
+    if !(schema::formats::is_string(code) | schema::formats::is_list(code)) {
+        return;
+    }
+    if !plan::parts::is_copied(state, i) {
+        return;
+    }
+    let w = schema::formats::width_of(code) as u64;
+    room_writes::put_number(state, parts, room, write, i, 1, 0, w, 0)
+}
+
+// The first zero offset of every byte string and list that has parts.
+pub fn first_offsets(state: &[u64], parts: &[u64], room: &mut [u8], write: bool)
+    ensures { λ _. ⌜ ((sources lengths places body c : List ℕ) → Did (now (state .entry)) (now (parts .entry)) write (each (firstOffset (lent (now (state .entry)) (now (parts .entry)) sources lengths places body)) (nodesOf (now (state .entry))) 0 c) (now (room .entry)) 0 c (now (room .exit))) ⌝ }
+{
+    let n = plan::parts::node_count(state);
+    let mut i = 0;
+    while i < n {
+        first_offset(state, parts, room, write, i);
+        i += 1;
+    }
+}
+
+// ---- dictionaries
+
+// How many sources the state was planned for.
+fn source_count(state: &[u64]) -> usize
+    requires { ⌜ sourceCount (now state) ≤ 16 ⌝ }
+    ensures { λ r. ⌜ r ≡ sourceCount (now (state .entry)) ⌝ }
+    ensures { λ r. ⌜ r ≤ 16 ⌝ }
+{
+    lent_tables::at_u64(state, 864) as usize
+}
+
+// All entries of source s at node i, behind those that are there.
+fn join_source(
+    state: &[u64],
+    parts: &[u64],
+    sources: &[u32],
+    lengths: &[u64],
+    places: &[u64],
+    body: &[u8],
+    counts: &mut [u64; 96],
+    room: &mut [u8],
+    write: bool,
+    i: usize,
+    s: usize,
+) -> u8
+    requires { ⌜ (i < 2 ^ 32) × (s < 2 ^ 32) ⌝ }
+    ensures { λ g. ⌜ Did (now (state .entry)) (now (parts .entry)) write (joinSource (lent (now (state .entry)) (now (parts .entry)) (now (sources .entry)) (now (lengths .entry)) (now (places .entry)) (now (body .entry))) i s (now (counts .entry))) (now (room .entry)) g (now (counts .exit)) (now (room .exit)) ⌝ }
+{
+    let first = lent_tables::at_u32(sources, 2 * s) as usize;
+    let n = lent_tables::length_of(lengths, first + i);
+    extend::extend(
+        state,
+        parts,
+        lengths,
+        places,
+        body,
+        counts,
+        room,
+        write,
+        s,
+        first,
+        i,
+        0,
+        n,
+        8,
+    )
+}
+
+// All entries at node i, in source order.
+fn join_entries(
+    state: &[u64],
+    parts: &[u64],
+    sources: &[u32],
+    lengths: &[u64],
+    places: &[u64],
+    body: &[u8],
+    counts: &mut [u64; 96],
+    room: &mut [u8],
+    write: bool,
+    i: usize,
+) -> u8
+    requires { ⌜ (i < 2 ^ 32) × (sourceCount (now state) ≤ 16) ⌝ }
+    ensures { λ g. ⌜ Did (now (state .entry)) (now (parts .entry)) write (joinEntries (lent (now (state .entry)) (now (parts .entry)) (now (sources .entry)) (now (lengths .entry)) (now (places .entry)) (now (body .entry))) i (now (counts .entry))) (now (room .entry)) g (now (counts .exit)) (now (room .exit)) ⌝ }
+{
+    let m = source_count(state);
+    let mut s = 0;
+    while s < m {
+        let g = join_source(
+            state,
+            parts,
+            sources,
+            lengths,
+            places,
+            body,
+            counts,
+            room,
+            write,
+            i,
+            s,
+        );
+        if g != 0 {
+            return g;
+        }
+        s += 1;
+    }
+    0
+}
+
+// The entries of the dictionary whose keys are node i, if it is joined.
+fn join_values(
+    state: &[u64],
+    parts: &[u64],
+    sources: &[u32],
+    lengths: &[u64],
+    places: &[u64],
+    body: &[u8],
+    counts: &mut [u64; 96],
+    room: &mut [u8],
+    write: bool,
+    i: usize,
+) -> u8
+    requires { ⌜ (i < 32) × (sourceCount (now state) ≤ 16) ⌝ }
+    ensures { λ g. ⌜ Did (now (state .entry)) (now (parts .entry)) write (cond (eqb (word (now (state .entry)) i 7) 0) (done (now (counts .entry))) (joinEntries (lent (now (state .entry)) (now (parts .entry)) (now (sources .entry)) (now (lengths .entry)) (now (places .entry)) (now (body .entry))) (suc i) (now (counts .entry)))) (now (room .entry)) g (now (counts .exit)) (now (room .exit)) ⌝ }
+{
+    if lent_tables::at_u64(state, 8 * i + 7) == 0 {
+        return 0;
+    }
+    join_entries(
+        state,
+        parts,
+        sources,
+        lengths,
+        places,
+        body,
+        counts,
+        room,
+        write,
+        i + 1,
+    )
+}
+
+// Whether the entries of the dictionary whose keys are node i are counted in 64 bits: ground 6 where not.
+fn entries_hold(state: &[u64], sources: &[u32], lengths: &[u64], i: usize) -> bool
+    requires { ⌜ (i < 32) × (sourceCount (now state) ≤ 16) ⌝ }
+    ensures { λ r. ⌜ ((parts places body : List ℕ) → r ≡ entriesHold (lent (now (state .entry)) parts (now (sources .entry)) (now (lengths .entry)) places body) i) ⌝ }
+{
+    let m = source_count(state);
+    let mut s = 0;
+    while s < m {
+        let n = lent_tables::length_of(lengths, dictionaries::node_of(sources, s, i + 1));
+        if !lent_tables::fits(plan_words::base_of(state, s, i), n, u64::MAX) {
+            return false;
+        }
+        s += 1;
+    }
+    true
+}
+
+// Whether the keys of node i have room for every entry: ground 8 where not.
+fn keys_hold(state: &[u64], sources: &[u32], lengths: &[u64], i: usize) -> bool
+    requires { ⌜ (i < 32) × (sourceCount (now state) ≤ 16) ⌝ }
+    ensures { λ r. ⌜ ((parts places body : List ℕ) → r ≡ keysHold (lent (now (state .entry)) parts (now (sources .entry)) (now (lengths .entry)) places body) i) ⌝ }
+{
+    let code = plan_words::code_of(state, i);
+    if !schema::formats::is_integer(code) {
+        return false;
+    }
+    let m = source_count(state);
+    let mut s = 0;
+    while s < m {
+        let start = plan_words::base_of(state, s, i);
+        let k = dictionaries::node_of(sources, s, i + 1);
+        let n = lent_tables::length_of(lengths, k);
+        if !dictionaries::key_fits(start, n, code) {
+            return false;
+        }
+        s += 1;
+    }
+    true
+}
+
+// The dictionary whose keys are node i, if it has one: ground 6, joined where it is not shared, then ground 8.
+fn open_dictionary(
+    state: &[u64],
+    parts: &[u64],
+    sources: &[u32],
+    lengths: &[u64],
+    places: &[u64],
+    body: &[u8],
+    counts: &mut [u64; 96],
+    room: &mut [u8],
+    write: bool,
+    i: usize,
+) -> u8
+    requires { ⌜ (i < 32) × (sourceCount (now state) ≤ 16) ⌝ }
+    ensures { λ g. ⌜ Did (now (state .entry)) (now (parts .entry)) write (openDictionary (lent (now (state .entry)) (now (parts .entry)) (now (sources .entry)) (now (lengths .entry)) (now (places .entry)) (now (body .entry))) i (now (counts .entry))) (now (room .entry)) g (now (counts .exit)) (now (room .exit)) ⌝ }
+{
+    if plan_words::dictionary_of(state, i) == 0 {
+        return 0;
+    }
+    if !entries_hold(state, sources, lengths, i) {
+        return 6;
+    }
+    let g = join_values(
+        state,
+        parts,
+        sources,
+        lengths,
+        places,
+        body,
+        counts,
+        room,
+        write,
+        i,
+    );
+    if g != 0 {
+        return g;
+    }
+    if !keys_hold(state, sources, lengths, i) {
+        return 8;
+    }
+    0
+}
+
+// Every dictionary, in tree order.
+fn open_dictionaries(
+    state: &[u64],
+    parts: &[u64],
+    sources: &[u32],
+    lengths: &[u64],
+    places: &[u64],
+    body: &[u8],
+    counts: &mut [u64; 96],
+    room: &mut [u8],
+    write: bool,
+) -> u8
+    requires { ⌜ sourceCount (now state) ≤ 16 ⌝ }
+    ensures { λ g. ⌜ Did (now (state .entry)) (now (parts .entry)) write (each (openDictionary (lent (now (state .entry)) (now (parts .entry)) (now (sources .entry)) (now (lengths .entry)) (now (places .entry)) (now (body .entry)))) (nodesOf (now (state .entry))) 0 (now (counts .entry))) (now (room .entry)) g (now (counts .exit)) (now (room .exit)) ⌝ }
+{
+    let n = plan::parts::node_count(state);
+    let mut i = 0;
+    while i < n {
+        let g = open_dictionary(
+            state,
+            parts,
+            sources,
+            lengths,
+            places,
+            body,
+            counts,
+            room,
+            write,
+            i,
+        );
+        if g != 0 {
+            return g;
+        }
+        i += 1;
+    }
+    0
+}
+
+// THE WALK OF AN OPENING: gaps, first offsets, then the dictionaries. 0, or the ground of refusal.
+pub fn open_walk(
+    state: &[u64],
+    parts: &[u64],
+    sources: &[u32],
+    lengths: &[u64],
+    places: &[u64],
+    body: &[u8],
+    counts: &mut [u64; 96],
+    room: &mut [u8],
+    write: bool,
+) -> u8
+    requires { ⌜ sourceCount (now state) ≤ 16 ⌝ }
+    ensures { λ g. ⌜ Did (now (state .entry)) (now (parts .entry)) write (openWalk (lent (now (state .entry)) (now (parts .entry)) (now (sources .entry)) (now (lengths .entry)) (now (places .entry)) (now (body .entry))) (now (counts .entry))) (now (room .entry)) g (now (counts .exit)) (now (room .exit)) ⌝ }
+{
+    begin_gaps(state, counts);
+    first_offsets(state, parts, room, write);
+    open_dictionaries(
+        state,
+        parts,
+        sources,
+        lengths,
+        places,
+        body,
+        counts,
+        room,
+        write,
+    )
+}
