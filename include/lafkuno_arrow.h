@@ -159,6 +159,32 @@ LAFKUNO_API int lafkuno_join_batches(const struct lafkuno_source *batches, size_
 LAFKUNO_API int lafkuno_convert_array(const struct lafkuno_source *source, const struct ArrowSchema *type, const struct lafkuno_options *options,
                                       struct ArrowSchema *schema, struct ArrowArray *array, struct lafkuno_error *error);
 
+/* Rows start to end - 1 of a column of numbers (of dates, times and the like too) as a run-end column: the fewest runs that read the same.
+ * Answers 0 and writes schema and array, or answers error->code and writes nothing else: 10 for another column, 2 for a range outside it, 7
+ * for one longer than the largest run end.
+ *   ends      the format of the run ends: "s", "i" or "l"; NULL stands for "i".
+ *   schema    may be NULL. Name, metadata and nullability are the column's; its children are `run_ends` and `values`, which have the column's
+ *             format. Where the column is an extension type, the values are.
+ *   array     the result, of offset 0; it owns its memory. */
+LAFKUNO_API int lafkuno_encode_array(const struct lafkuno_source *source, uint64_t start, uint64_t end, const char *ends,
+                                     struct ArrowSchema *schema, struct ArrowArray *array, struct lafkuno_error *error);
+
+/* Rows start to end - 1 of a run-end column of numbers as plain rows. Answers 0 and writes schema and array, or answers error->code and
+ * writes nothing else: 10 for another column, 2 for a range outside it.
+ *   options   may be NULL. Of them most_rows counts: a run may stand for any number of rows.
+ *   schema    may be NULL. The values' type with the column's name, and its metadata unless the values are an extension type.
+ *   array     the result, of offset 0; it owns its memory. */
+LAFKUNO_API int lafkuno_expand_array(const struct lafkuno_source *source, uint64_t start, uint64_t end, const struct lafkuno_options *options,
+                                     struct ArrowSchema *schema, struct ArrowArray *array, struct lafkuno_error *error);
+
+/* A dictionary column with only the entries that some valid key of its rows names, in their old order, and its keys renumbered; keys under
+ * nulls become 0, and rows read as before. Answers 0 and writes schema, which is the column's, and array, or answers error->code and writes
+ * nothing else: 10 for a column without a dictionary at its root.
+ *   schema    may be NULL.
+ *   array     the result, of offset 0; it owns its memory. */
+LAFKUNO_API int lafkuno_reclaim_array(const struct lafkuno_source *source, struct ArrowSchema *schema, struct ArrowArray *array,
+                                      struct lafkuno_error *error);
+
 /* Another ArrowArray over the memory of one that a call above made (else LAFKUNO_BAD_STRUCT): each is released by itself, in any order
  * and on any thread. Answers 0 and writes copy, or LAFKUNO_NO_MEMORY. */
 LAFKUNO_API int lafkuno_share_array(const struct ArrowArray *array, struct ArrowArray *copy);

@@ -8,6 +8,9 @@
  *     uint64_t size = lafkuno_state_parts(&state);       lays the parts: state.room is lent now
  *     lafkuno_state_open(&state, &tables, 1, 0);         then the orders, then lafkuno_state_finish
  *
+ * A column that is written anew goes the same way, with the column as the only source of the tables: lafkuno_state_plan_encode (_expand,
+ * _reclaim, _list, _list_view, _convert), lafkuno_state_parts, lafkuno_state_encode (..), lafkuno_state_finish.
+ *
  * Apache-2.0; see LICENSE and NOTICE. */
 #ifndef LAFKUNO_TABLES_H
 #define LAFKUNO_TABLES_H
@@ -46,7 +49,12 @@ struct lafkuno_tables {
     size_t body_len;
 };
 
-/* A join: its plan and counters, and the room that it writes. */
+/* The tables as the parameters of a call of one column or two. */
+#define LAFKUNO_COLUMN_TABLES(t) \
+    (t)->formats, (t)->formats_len, (t)->schema, (t)->schema_len, (t)->lengths, (t)->lengths_len, (t)->places, (t)->places_len, \
+        (t)->buffers, (t)->buffers_len, (t)->body, (t)->body_len
+
+/* A join, or a column that is written anew: its plan and counters, and the room that it writes. */
 struct lafkuno_state {
     uint64_t plan[LAFKUNO_PLAN];
     uint64_t counters[LAFKUNO_COUNTERS];
@@ -182,16 +190,16 @@ static inline uint64_t lafkuno_state_running_nulls(const struct lafkuno_state *s
     return lafkuno_running_nulls(s->counters, LAFKUNO_COUNTERS);
 }
 
-/* lafkuno_column_ground: the ground of the column of n nodes from node `first` on. */
+/* ---- one column: n nodes from node `first` on */
+
+/* lafkuno_column_ground: its ground. */
 static inline uint8_t lafkuno_tables_ground(const struct lafkuno_tables *t, uint32_t first, uint32_t n) {
-    return lafkuno_column_ground(t->formats, t->formats_len, t->schema, t->schema_len, t->lengths, t->lengths_len, t->places,
-                                 t->places_len, t->buffers, t->buffers_len, t->body, t->body_len, first, n);
+    return lafkuno_column_ground(LAFKUNO_COLUMN_TABLES(t), first, n);
 }
 
 /* lafkuno_open_column: the same, and writes the column's tree of LAFKUNO_TREE numbers. */
 static inline uint8_t lafkuno_tables_open_column(const struct lafkuno_tables *t, uint32_t first, uint32_t n, uint64_t *tree) {
-    return lafkuno_open_column(t->formats, t->formats_len, t->schema, t->schema_len, t->lengths, t->lengths_len, t->places, t->places_len,
-                               t->buffers, t->buffers_len, t->body, t->body_len, first, n, tree, LAFKUNO_TREE);
+    return lafkuno_open_column(LAFKUNO_COLUMN_TABLES(t), first, n, tree, LAFKUNO_TREE);
 }
 
 /* lafkuno_read_row: reads a row of an opened column into LAFKUNO_ANSWER numbers, and answers its kind. */
@@ -199,6 +207,116 @@ static inline uint8_t lafkuno_tables_read_row(const struct lafkuno_tables *t, co
                                               uint64_t *answer) {
     return lafkuno_read_row(tree, LAFKUNO_TREE, t->lengths, t->lengths_len, t->places, t->places_len, t->buffers, t->buffers_len, t->body,
                             t->body_len, first, row, answer, LAFKUNO_ANSWER);
+}
+
+/* lafkuno_run_at: the run of a row of a run-end column and the rows that are left in it, LAFKUNO_RUN numbers. */
+static inline uint8_t lafkuno_tables_run_at(const struct lafkuno_tables *t, uint32_t first, uint32_t n, uint64_t row, uint64_t *answer) {
+    return lafkuno_run_at(LAFKUNO_COLUMN_TABLES(t), first, n, row, answer, LAFKUNO_RUN);
+}
+
+/* lafkuno_read_run: the same of an opened column. */
+static inline uint8_t lafkuno_tables_read_run(const struct lafkuno_tables *t, const uint64_t *tree, uint32_t first, uint64_t row,
+                                              uint64_t *answer) {
+    return lafkuno_read_run(tree, LAFKUNO_TREE, t->lengths, t->lengths_len, t->places, t->places_len, t->body, t->body_len, first, row,
+                            answer, LAFKUNO_RUN);
+}
+
+/* lafkuno_frame: the frame of rows start to end - 1 of latitudes (a) and longitudes (b), four numbers. */
+static inline uint8_t lafkuno_tables_frame(const struct lafkuno_tables *t, uint32_t first_a, uint32_t n_a, uint32_t first_b, uint32_t n_b,
+                                           uint64_t start, uint64_t end, double *frame) {
+    return lafkuno_frame(LAFKUNO_COLUMN_TABLES(t), first_a, n_a, first_b, n_b, start, end, frame, 4);
+}
+
+/* lafkuno_mean: count, exact sum and mean of rows start to end - 1, LAFKUNO_MEAN numbers. */
+static inline uint8_t lafkuno_tables_mean(const struct lafkuno_tables *t, uint32_t first, uint32_t n, uint64_t start, uint64_t end,
+                                          uint64_t *answer) {
+    return lafkuno_mean(LAFKUNO_COLUMN_TABLES(t), first, n, start, end, answer, LAFKUNO_MEAN);
+}
+
+/* lafkuno_ratio: total over total of two columns, LAFKUNO_RATIO numbers. */
+static inline uint8_t lafkuno_tables_ratio(const struct lafkuno_tables *t, uint32_t first_a, uint32_t n_a, uint32_t first_b, uint32_t n_b,
+                                           uint64_t start, uint64_t end, uint64_t *answer) {
+    return lafkuno_ratio(LAFKUNO_COLUMN_TABLES(t), first_a, n_a, first_b, n_b, start, end, answer, LAFKUNO_RATIO);
+}
+
+/* ---- one column written anew */
+
+/* lafkuno_plan_encode, lafkuno_encode: rows start to end - 1 of a fixed-width column as runs; the type of the result is the three nodes
+ * from node `target` on. */
+static inline uint8_t lafkuno_state_plan_encode(struct lafkuno_state *s, const struct lafkuno_tables *t, uint32_t first, uint32_t n,
+                                                uint32_t target, uint64_t start, uint64_t end) {
+    return lafkuno_plan_encode(LAFKUNO_COLUMN_TABLES(t), first, n, target, start, end, s->plan, LAFKUNO_PLAN, s->counters, LAFKUNO_COUNTERS);
+}
+
+static inline uint8_t lafkuno_state_encode(struct lafkuno_state *s, const struct lafkuno_tables *t, uint32_t first, uint32_t n,
+                                           uint32_t target, uint64_t start, uint64_t end) {
+    return lafkuno_encode(LAFKUNO_COLUMN_TABLES(t), first, n, target, start, end, s->parts, s->parts_len, s->plan, LAFKUNO_PLAN,
+                          s->counters, LAFKUNO_COUNTERS, s->room, s->room_len);
+}
+
+/* lafkuno_plan_expand, lafkuno_expand: the way back; the type of the result is node `target`, of the values' format. */
+static inline uint8_t lafkuno_state_plan_expand(struct lafkuno_state *s, const struct lafkuno_tables *t, uint32_t first, uint32_t n,
+                                                uint32_t target, uint64_t start, uint64_t end) {
+    return lafkuno_plan_expand(LAFKUNO_COLUMN_TABLES(t), first, n, target, start, end, s->plan, LAFKUNO_PLAN, s->counters, LAFKUNO_COUNTERS);
+}
+
+static inline uint8_t lafkuno_state_expand(struct lafkuno_state *s, const struct lafkuno_tables *t, uint32_t first, uint32_t n,
+                                           uint32_t target, uint64_t start, uint64_t end) {
+    return lafkuno_expand(LAFKUNO_COLUMN_TABLES(t), first, n, target, start, end, s->parts, s->parts_len, s->plan, LAFKUNO_PLAN,
+                          s->counters, LAFKUNO_COUNTERS, s->room, s->room_len);
+}
+
+/* lafkuno_plan_reclaim, lafkuno_reclaim: a dictionary column with only the entries that some valid key names. */
+static inline uint8_t lafkuno_state_plan_reclaim(struct lafkuno_state *s, const struct lafkuno_tables *t, uint32_t first, uint32_t n) {
+    return lafkuno_plan_reclaim(LAFKUNO_COLUMN_TABLES(t), first, n, s->plan, LAFKUNO_PLAN, s->counters, LAFKUNO_COUNTERS);
+}
+
+static inline uint8_t lafkuno_state_reclaim(struct lafkuno_state *s, const struct lafkuno_tables *t, uint32_t first, uint32_t n) {
+    return lafkuno_reclaim(LAFKUNO_COLUMN_TABLES(t), first, n, s->parts, s->parts_len, s->plan, LAFKUNO_PLAN, s->counters,
+                           LAFKUNO_COUNTERS, s->room, s->room_len);
+}
+
+/* lafkuno_plan_list, lafkuno_list: a list-view column as a list; the type of the result is target_n nodes from node `target` on, here and
+ * in the calls below. */
+static inline uint8_t lafkuno_state_plan_list(struct lafkuno_state *s, const struct lafkuno_tables *t, uint32_t first, uint32_t n,
+                                              uint32_t target, uint32_t target_n) {
+    return lafkuno_plan_list(LAFKUNO_COLUMN_TABLES(t), first, n, target, target_n, s->plan, LAFKUNO_PLAN, s->counters, LAFKUNO_COUNTERS);
+}
+
+static inline uint8_t lafkuno_state_list(struct lafkuno_state *s, const struct lafkuno_tables *t, uint32_t first, uint32_t n,
+                                         uint32_t target, uint32_t target_n) {
+    return lafkuno_list(LAFKUNO_COLUMN_TABLES(t), first, n, target, target_n, s->parts, s->parts_len, s->plan, LAFKUNO_PLAN, s->counters,
+                        LAFKUNO_COUNTERS, s->room, s->room_len);
+}
+
+/* lafkuno_plan_list_view, lafkuno_list_view: a list column as a list-view, of which lafkuno_state_finish gives the root ... */
+static inline uint8_t lafkuno_state_plan_list_view(struct lafkuno_state *s, const struct lafkuno_tables *t, uint32_t first, uint32_t n,
+                                                   uint32_t target, uint32_t target_n) {
+    return lafkuno_plan_list_view(LAFKUNO_COLUMN_TABLES(t), first, n, target, target_n, s->plan, LAFKUNO_PLAN, s->counters, LAFKUNO_COUNTERS);
+}
+
+static inline uint8_t lafkuno_state_list_view(struct lafkuno_state *s, const struct lafkuno_tables *t, uint32_t first, uint32_t n,
+                                              uint32_t target, uint32_t target_n) {
+    return lafkuno_list_view(LAFKUNO_COLUMN_TABLES(t), first, n, target, target_n, s->parts, s->parts_len, s->plan, LAFKUNO_PLAN,
+                             s->counters, LAFKUNO_COUNTERS, s->room, s->room_len);
+}
+
+/* ... and lafkuno_list_view_child the nodes below it, in tables of n nodes; their data buffers are the column's own. */
+static inline uint8_t lafkuno_tables_list_view_child(const struct lafkuno_tables *t, uint32_t first, uint32_t n, struct lafkuno_finished *f) {
+    return lafkuno_list_view_child(LAFKUNO_COLUMN_TABLES(t), first, n, f->lengths, f->lengths_len, f->nulls, f->nulls_len, f->places,
+                                   f->places_len);
+}
+
+/* lafkuno_plan_convert, lafkuno_convert: a column in other widths. */
+static inline uint8_t lafkuno_state_plan_convert(struct lafkuno_state *s, const struct lafkuno_tables *t, uint32_t first, uint32_t n,
+                                                 uint32_t target, uint32_t target_n) {
+    return lafkuno_plan_convert(LAFKUNO_COLUMN_TABLES(t), first, n, target, target_n, s->plan, LAFKUNO_PLAN, s->counters, LAFKUNO_COUNTERS);
+}
+
+static inline uint8_t lafkuno_state_convert(struct lafkuno_state *s, const struct lafkuno_tables *t, uint32_t first, uint32_t n,
+                                            uint32_t target, uint32_t target_n) {
+    return lafkuno_convert(LAFKUNO_COLUMN_TABLES(t), first, n, target, target_n, s->parts, s->parts_len, s->plan, LAFKUNO_PLAN,
+                           s->counters, LAFKUNO_COUNTERS, s->room, s->room_len);
 }
 
 #ifdef __cplusplus

@@ -5,31 +5,15 @@
 #include <stdlib.h>
 #include <string.h>
 
-typedef uint8_t asks(const uint8_t *, size_t, const uint32_t *, size_t, const uint64_t *, size_t, const uint64_t *, size_t, const uint64_t *, size_t,
-                     const uint8_t *, size_t, uint32_t, uint32_t, uint32_t, uint32_t, uint64_t *, size_t, uint64_t *, size_t);
-typedef uint8_t writes(const uint8_t *, size_t, const uint32_t *, size_t, const uint64_t *, size_t, const uint64_t *, size_t, const uint64_t *,
-                       size_t, const uint8_t *, size_t, uint32_t, uint32_t, uint32_t, uint32_t, const uint64_t *, size_t, uint64_t *, size_t,
-                       uint64_t *, size_t, uint8_t *, size_t);
-
 enum way { TO_LIST, TO_LIST_VIEW, TO_WIDTHS };
-static asks *const ask_calls[] = {lafkuno_plan_list, lafkuno_plan_list_view, lafkuno_plan_convert};
-static writes *const write_calls[] = {lafkuno_list, lafkuno_list_view, lafkuno_convert};
+typedef uint8_t converts(struct lafkuno_state *, const struct lafkuno_tables *, uint32_t, uint32_t, uint32_t, uint32_t);
+static converts *const ask_calls[] = {lafkuno_state_plan_list, lafkuno_state_plan_list_view, lafkuno_state_plan_convert};
+static converts *const write_calls[] = {lafkuno_state_list, lafkuno_state_list_view, lafkuno_state_convert};
 
-/* The nodes of a type in depth-first order. */
-struct type {
-    const struct ArrowSchema *nodes[LAFKUNO_MOST_NODES];
-    uint32_t count;
-};
-
-/* A column that is imported, and the type that it is to become, whose nodes stand behind its own in `formats` and `schema`. */
+/* A column, and the way to the type that it is to become. */
 struct conversion {
-    struct column column;
-    const struct ArrowSchema *from, *to;
-    struct type type;
+    struct anew anew;
     enum way way;
-    uint8_t *formats;
-    uint32_t *schema;
-    struct lafkuno_tables tables;
 };
 
 /* ---- the type */
@@ -42,17 +26,6 @@ static enum way way_of(const char *from, const char *to) {
         if (!strcmp(from, pairs[k][1]) && !strcmp(to, pairs[k][0])) return TO_LIST;
     }
     return TO_WIDTHS;
-}
-
-static int type_node(struct report *report, const struct ArrowSchema *s, int depth, struct type *type) {
-    if (!s || !s->release || !s->format || s->n_children < 0 || (s->n_children && !s->children))
-        return refuse(report, LAFKUNO_BAD_STRUCT, "the type: a struct is missing or released, or it has no format");
-    if (depth > MOST_DEPTH || type->count == LAFKUNO_MOST_NODES)
-        return refuse(report, LAFKUNO_UNKNOWN_TYPE, "the type is deeper than %d or has more than %d nodes", MOST_DEPTH, LAFKUNO_MOST_NODES);
-    type->nodes[type->count++] = s;
-    int code = s->dictionary ? type_node(report, s->dictionary, depth + 1, type) : 0;
-    for (int64_t k = 0; !code && k < s->n_children; k++) code = type_node(report, s->children[k], depth + 1, type);
-    return code;
 }
 
 /* Whether a format becomes another one: the same, or another width of a byte string, a list, a list-view, a key or a run end. */
@@ -88,91 +61,39 @@ static int becomes(struct pair *pair, const struct ArrowSchema *a, const struct 
     return code;
 }
 
-/* The nodes of the type behind the column's own. */
-static int lend_type(struct conversion *c) {
-    const struct lafkuno_tables *own = &c->column.tables;
-    size_t bytes = own->formats_len, nodes = own->schema_len / 5;
-    for (uint32_t k = 0; k < c->type.count; k++) bytes += strlen(storage_of(c->type.nodes[k]->format));
-    c->formats = malloc(bytes + 1);
-    c->schema = malloc(5 * (nodes + c->type.count) * sizeof *c->schema);
-    if (!c->formats || !c->schema) return refuse_memory(c->column.report);
-    memcpy(c->formats, own->formats, own->formats_len);
-    memcpy(c->schema, own->schema, own->schema_len * sizeof *c->schema);
-    size_t at = own->formats_len;
-    for (uint32_t k = 0; k < c->type.count; k++) {
-        const struct ArrowSchema *s = c->type.nodes[k];
-        const char *format = storage_of(s->format);
-        uint32_t *schema = c->schema + 5 * (nodes + k);
-        schema[0] = (uint32_t)at;
-        schema[1] = (uint32_t)strlen(format);
-        schema[2] = (uint32_t)(s->flags & ARROW_FLAG_NULLABLE);
-        schema[3] = (uint32_t)s->n_children;
-        schema[4] = s->dictionary != NULL;
-        memcpy(c->formats + at, format, schema[1]);
-        at += schema[1];
-    }
-    c->tables = *own;
-    c->tables.formats = c->formats;
-    c->tables.formats_len = bytes;
-    c->tables.schema = c->schema;
-    c->tables.schema_len = 5 * (nodes + c->type.count);
-    return 0;
-}
-
-/* What comes now is of no node. */
-static void at_no_node(struct report *report) {
-    report->error->node = -1;
-    report->node = NULL;
-}
-
 /* ---- the calls */
 
-#define TABLES(t) \
-    (t)->formats, (t)->formats_len, (t)->schema, (t)->schema_len, (t)->lengths, (t)->lengths_len, (t)->places, (t)->places_len, (t)->buffers, \
-        (t)->buffers_len, (t)->body, (t)->body_len
-
-static int prepare(struct conversion *c, struct report *report, const struct lafkuno_source *source, uint64_t most_rows) {
-    struct shape shape = {0, 0, 0};
-    struct column *column = &c->column;
-    column->report = report;
-    column->type = source->schema;
-    int code = shape_of(report, source, &shape);
+static int prepare(struct conversion *c, const struct lafkuno_source *source, const struct ArrowSchema *type, uint64_t most_rows) {
+    struct column *column = &c->anew.column;
+    int code = anew_shape(&c->anew, source);
+    if (!code) code = anew_type(&c->anew, type);
+    if (!code) code = anew_import(&c->anew, source, (struct window){0, (uint64_t)source->array->length});
     if (code) return code;
-    at_no_node(report);
-    code = type_node(report, c->to, 1, &c->type);
-    if (!code) code = import_begin(&column->import, report, 1, &shape);
-    if (!code) code = import_source(&column->import, source, (struct window){0, (uint64_t)source->array->length});
-    if (!code) code = lay(&column->import);
-    if (code) return code;
-    column->tables = import_tables(&column->import);
-    c->way = way_of(c->from->format, c->to->format);
     const struct lafkuno_order rows = lafkuno_rows(0, 0, (uint64_t)source->array->length);
-    if (c->way == TO_LIST && !lafkuno_tables_ground(&column->tables, 0, column->import.sources[1]))
-        code = bound_rows(&column->import, &rows, 1, most_rows);
-    return code ? code : lend_type(c);
+    c->way = way_of(c->anew.from->format, c->anew.to->format);
+    if (c->way != TO_LIST || lafkuno_tables_ground(&column->tables, 0, column->import.sources[1])) return 0;
+    return bound_rows(&column->import, &rows, 1, most_rows);
 }
 
 /* 9, 10 and 12 of the column; then 10 with its node, and the others as they are. */
-static int refuse_conversion(struct conversion *c, int ground) {
-    struct column *column = &c->column;
-    struct pair pair = {column->report, c->way, 0};
-    if (ground && lafkuno_tables_ground(&column->tables, 0, column->import.sources[1]) == ground) return refuse_sources(column, ground);
-    int code = becomes(&pair, c->from, c->to, false, false);
+static int refuse_conversion(struct conversion *c, uint8_t ground) {
+    struct report *report = c->anew.column.report;
+    struct pair pair = {report, c->way, 0};
+    int code = anew_refuse(&c->anew, ground);
+    if (!code) code = becomes(&pair, c->anew.from, c->anew.to, false, false);
     if (code) return code;
-    at_no_node(column->report);
-    return ground ? refuse_plainly(column->report, ground) : 0;
+    at_node(report, -1, NULL);
+    return ground ? refuse_plainly(report, ground) : 0;
 }
 
 static int write_result(struct conversion *c) {
-    struct column *column = &c->column;
-    struct lafkuno_state *s = &column->state;
-    const struct lafkuno_tables *t = &c->tables;
-    uint32_t n = column->import.sources[1];
-    int code = refuse_conversion(c, ask_calls[c->way](TABLES(t), 0, n, n, c->type.count, s->plan, LAFKUNO_PLAN, s->counters, LAFKUNO_COUNTERS));
+    struct column *column = &c->anew.column;
+    const struct lafkuno_tables *t = &c->anew.tables;
+    uint32_t n = column->import.sources[1], target_n = c->anew.type.count;
+    int code = refuse_conversion(c, ask_calls[c->way](&column->state, t, 0, n, n, target_n));
     if (!code) code = lend_room(column);
     if (code) return code;
-    uint8_t ground = write_calls[c->way](TABLES(t), 0, n, n, c->type.count, s->parts, s->parts_len, s->plan, LAFKUNO_PLAN, s->counters,
-                                         LAFKUNO_COUNTERS, s->room, s->room_len);
+    uint8_t ground = write_calls[c->way](&column->state, t, 0, n, n, target_n);
     return ground ? refuse_plainly(column->report, ground) : 0;
 }
 
@@ -188,9 +109,7 @@ static int view_tables(struct column *column, struct lafkuno_finished *tables) {
     struct lafkuno_finished root = {block, 2, block + 2 * nodes, 1, places, 9, places + 9 * nodes, 0};
     *tables = (struct lafkuno_finished){block, 2 * nodes, block + 2 * nodes, nodes, places, 9 * nodes, places + 9 * nodes, data};
     uint8_t ground = lafkuno_state_finish(&column->state, t, 0, &root);
-    if (!ground)
-        ground = lafkuno_list_view_child(TABLES(t), 0, (uint32_t)nodes, tables->lengths, tables->lengths_len, tables->nulls, tables->nulls_len,
-                                         tables->places, tables->places_len);
+    if (!ground) ground = lafkuno_tables_list_view_child(t, 0, (uint32_t)nodes, tables);
     if (data) memcpy(tables->buffers, t->buffers, data * sizeof *tables->buffers);
     if (!ground) return 0;
     free(block);
@@ -198,10 +117,10 @@ static int view_tables(struct column *column, struct lafkuno_finished *tables) {
 }
 
 static int finish(struct conversion *c, struct ArrowArray *array) {
-    struct column *column = &c->column;
+    struct column *column = &c->anew.column;
     struct finished finished = {.body = column->import.body};
-    int code = c->way == TO_LIST_VIEW ? view_tables(column, &finished.tables) : finish_tables(column, &finished.tables);
-    return code ? code : export_finished(column, c->to, &finished, array);
+    int code = c->way == TO_LIST_VIEW ? view_tables(column, &finished.tables) : finish_tables(column, c->anew.type.count, &finished.tables);
+    return code ? code : export_finished(column, c->anew.to, &finished, array);
 }
 
 /* The type of the result: that which was asked for; nullable where the column is. */
@@ -221,15 +140,12 @@ int lafkuno_convert_array(const struct lafkuno_source *source, const struct Arro
     struct ArrowArray made;
     struct conversion *c = calloc(1, sizeof *c);
     if (!c) return refuse_memory(&report);
-    c->from = source->schema;
-    c->to = type;
-    int code = prepare(c, &report, source, options && options->most_rows ? options->most_rows : LAFKUNO_MOST_ROWS);
+    c->anew.column.report = &report;
+    int code = prepare(c, source, type, most_rows_of(options));
     if (!code) code = write_result(c);
     if (!code) code = finish(c, &made);
-    if (!code && schema && (code = result_schema(&report, c->from, c->to, &made_schema))) made.release(&made);
-    column_end(&c->column);
-    free(c->formats);
-    free(c->schema);
+    if (!code && schema && (code = result_schema(&report, c->anew.from, c->anew.to, &made_schema))) made.release(&made);
+    anew_end(&c->anew);
     free(c);
     if (code) return code;
     report_to(error, &spare);

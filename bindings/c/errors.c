@@ -25,6 +25,9 @@ const char *lafkuno_meaning(int code) {
         "the source breaks the rules of its type",
         "a part of the room can't hold its bytes",
         "the parts of the room do not fit",
+        "an exact sum does not fit 64 bits",
+        "no row counts, or the second total is 0",
+        "no row of the range counts",
     };
     switch (code) {
         case LAFKUNO_NO_MEMORY: return "there is no memory left";

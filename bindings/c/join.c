@@ -108,9 +108,7 @@ static int give_orders(struct column *column, const struct task *task, bool meas
 /* ---- a column */
 
 struct task task_of(const struct lafkuno_order *orders, size_t order_count, const struct lafkuno_options *options) {
-    struct task task = {orders, order_count, options && options->keep_nulls, options && options->one_run_for_gaps, LAFKUNO_MOST_ROWS};
-    if (options && options->most_rows) task.most_rows = options->most_rows;
-    return task;
+    return (struct task){orders, order_count, options && options->keep_nulls, options && options->one_run_for_gaps, most_rows_of(options)};
 }
 
 static int check_sources(struct report *report, const struct lafkuno_source *sources, size_t count, struct shape *shape) {
@@ -165,8 +163,7 @@ int lend_room(struct column *column) {
     return column->state.room ? 0 : refuse_memory(column->report);
 }
 
-int finish_tables(struct column *column, struct lafkuno_finished *tables) {
-    size_t nodes = column->import.sources[1];
+int finish_tables(struct column *column, size_t nodes, struct lafkuno_finished *tables) {
     size_t data = (size_t)lafkuno_state_buffer_total(&column->state, &column->tables);
     uint64_t *block = malloc(3 * nodes * sizeof *block + (9 * nodes + 2 * data + 1) * sizeof(position));
     if (!block) return refuse_memory(column->report);
@@ -185,7 +182,7 @@ int column_finish(struct column *column, const struct task *task, struct ArrowAr
     uint8_t ground = lafkuno_state_open(&column->state, &column->tables, column->keep, column->gaps);
     if (ground) return refuse_plainly(column->report, ground);
     code = give_orders(column, task, false);
-    if (!code) code = finish_tables(column, &finished.tables);
+    if (!code) code = finish_tables(column, column->import.sources[1], &finished.tables);
     return code ? code : export_finished(column, column->type, &finished, array);
 }
 

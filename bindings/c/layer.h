@@ -3,7 +3,9 @@
  *   import.c    fills the tables of every source with the window that its slice reaches (windows.c: of children and data buffers)
  *   lay.c       copies the windows into one body, memory that is shared once
  *   bound.c     the most rows that the orders can come to
- *   join.c      the calls of lafkuno.h (diagnose.c: which row of a source is refused); convert.c those of one column in another type
+ *   join.c      the calls of lafkuno.h (diagnose.c: which row of a source is refused)
+ *   anew.c      what calls share that write one column anew: in another type (convert.c), as runs, as plain rows, or with fewer dictionary
+ *               entries (codings.c)
  *   export.c    the finished ArrowArray; schema.c its type */
 #ifndef LAFKUNO_LAYER_H
 #define LAFKUNO_LAYER_H
@@ -222,8 +224,38 @@ void column_end(struct column *column);
 int refuse_sources(struct column *column, int code);
 /* The room of all parts. */
 int lend_room(struct column *column);
-/* The tables of the finished array, in one block that is `tables->lengths`. */
-int finish_tables(struct column *column, struct lafkuno_finished *tables);
+/* The tables of the finished array of so many nodes, in one block that is `tables->lengths`. */
+int finish_tables(struct column *column, size_t nodes, struct lafkuno_finished *tables);
+
+/* ---- anew.c */
+
+/* The nodes of a type in depth-first order. */
+struct type {
+    const struct ArrowSchema *nodes[LAFKUNO_MOST_NODES];
+    uint32_t count;
+};
+
+/* A column, and the type that it is to become, whose nodes stand behind its own in `formats` and `schema`. */
+struct anew {
+    struct column column;
+    const struct ArrowSchema *from, *to;
+    struct shape shape;
+    struct type type;
+    uint8_t *formats;
+    uint32_t *schema;
+    struct lafkuno_tables tables; /* the column's, with the type */
+};
+
+/* The limit of rows that the options set. */
+uint64_t most_rows_of(const struct lafkuno_options *options);
+/* Looks whether the structs of the column can be read, and those of the type, where there is one. */
+int anew_shape(struct anew *anew, const struct lafkuno_source *source);
+int anew_type(struct anew *anew, const struct ArrowSchema *type);
+/* Imports the rows of the column, and lends the type behind it. */
+int anew_import(struct anew *anew, const struct lafkuno_source *source, struct window rows);
+/* Tells of 9, 10 and 12 the node, where they are the column's own; else answers 0. */
+int anew_refuse(struct anew *anew, uint8_t ground);
+void anew_end(struct anew *anew);
 
 /* ---- export.c */
 

@@ -1,27 +1,6 @@
-/* Joins of record batches, and memory: what is allocated for slices of a large batch, and what happens where there is none. Linked with
- *     -Wl,--wrap=malloc,--wrap=calloc,--wrap=aligned_alloc */
+/* Joins of record batches, and memory: what is allocated for slices of a large batch, and what happens where there is none. */
 #include "arrow_arrays.h"
-
-/* ---- memory that is counted, and runs out */
-
-void *__real_malloc(size_t size);
-void *__real_calloc(size_t count, size_t size);
-void *__real_aligned_alloc(size_t alignment, size_t size);
-void *__wrap_malloc(size_t size);
-void *__wrap_calloc(size_t count, size_t size);
-void *__wrap_aligned_alloc(size_t alignment, size_t size);
-
-static long long allocations_left = -1; /* none fails where it is negative */
-static size_t allocated;
-
-static int runs_out(size_t size) {
-    allocated += size;
-    return allocations_left >= 0 && allocations_left-- == 0;
-}
-
-void *__wrap_malloc(size_t size) { return runs_out(size) ? NULL : __real_malloc(size); }
-void *__wrap_calloc(size_t count, size_t size) { return runs_out(count * size) ? NULL : __real_calloc(count, size); }
-void *__wrap_aligned_alloc(size_t alignment, size_t size) { return runs_out(size) ? NULL : __real_aligned_alloc(alignment, size); }
+#include "arrow_memory.h"
 
 /* ---- a batch: fuel, driver (a dictionary) and notes (views) of 8 rows; rows 4 to 7 are the trip */
 

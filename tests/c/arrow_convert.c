@@ -1,21 +1,6 @@
-/* ArrowArrays in another type: lists as list-views and back, other widths, ownership, what is refused, and memory that runs out. Linked with
- *     -Wl,--wrap=malloc,--wrap=calloc,--wrap=aligned_alloc */
+/* ArrowArrays in another type: lists as list-views and back, other widths, ownership, what is refused, and memory that runs out. */
 #include "arrow_arrays.h"
-
-void *__real_malloc(size_t size);
-void *__real_calloc(size_t count, size_t size);
-void *__real_aligned_alloc(size_t alignment, size_t size);
-void *__wrap_malloc(size_t size);
-void *__wrap_calloc(size_t count, size_t size);
-void *__wrap_aligned_alloc(size_t alignment, size_t size);
-
-static long long allocations_left = -1; /* none fails where it is negative */
-
-static int runs_out(void) { return allocations_left >= 0 && allocations_left-- == 0; }
-
-void *__wrap_malloc(size_t size) { return runs_out() ? NULL : __real_malloc(size); }
-void *__wrap_calloc(size_t count, size_t size) { return runs_out() ? NULL : __real_calloc(count, size); }
-void *__wrap_aligned_alloc(size_t alignment, size_t size) { return runs_out() ? NULL : __real_aligned_alloc(alignment, size); }
+#include "arrow_memory.h"
 
 /* Five trips, of which the first is another day's and the third, null, stands over two stops; the child begins in its middle. */
 static struct made *trips(void) {

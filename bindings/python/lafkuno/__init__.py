@@ -2,6 +2,7 @@
 
     joined = lafkuno.join([a, b], [lafkuno.rows(0, 10, 20), lafkuno.gap(1), lafkuno.rows(1, 0, 5)], keep_nulls=True)
     narrow = lafkuno.convert(joined, type)
+    runs, plain, small = lafkuno.encode(column), lafkuno.expand(runs), lafkuno.reclaim(dictionary_column)
 
 Sources are any objects of the Arrow PyCapsule protocol (`__arrow_c_array__`), and the result is one: arrays and record batches of any
 Arrow implementation go in and out without further code. All orders are carried out, or none: then `lafkuno.Error` says where and why.
@@ -14,7 +15,7 @@ from typing import NamedTuple
 from ._capsule import ARRAY, SCHEMA, fresh, release, unwrap
 from ._library import GAP, ArrowArray, ArrowSchema, Failure, Options, Order, Source, library
 
-__all__ = ["Array", "Error", "convert", "gap", "join", "rows", "version"]
+__all__ = ["Array", "Error", "convert", "encode", "expand", "gap", "join", "reclaim", "rows", "version"]
 
 version = library.lafkuno_version().decode()
 __version__ = version
@@ -137,13 +138,45 @@ def convert(source, type, *, most_rows=0):
     """
     if not hasattr(type, "__arrow_c_schema__"):
         raise TypeError(f"the type is a {type.__class__.__name__} without __arrow_c_schema__")
-    capsules = *_capsules(0, source), type.__arrow_c_schema__()  # kept until the call is over
-    pair = Source(ctypes.pointer(unwrap(capsules[0], SCHEMA)), ctypes.pointer(unwrap(capsules[1], ARRAY)))
+    capsule = type.__arrow_c_schema__()  # kept until the call is over
     options = Options(False, False, _number(most_rows, 2**64 - 1))
+    return _anew(library.lafkuno_convert_array, source, byref(unwrap(capsule, SCHEMA)), byref(options))
+
+
+def encode(source, start=0, end=None, *, ends="i"):
+    """Rows start to end - 1 of a column of numbers as a run-end column, in the fewest runs that read the same; without an end, all from start on.
+
+    ends: the format of the run ends, "s", "i" or "l" for 16, 32 or 64 bits.
+    """
+    return _anew(library.lafkuno_encode_array, source, _number(start, 2**64 - 1), _end(end), ends.encode())
+
+
+def expand(source, start=0, end=None, *, most_rows=0):
+    """Rows start to end - 1 of a run-end column of numbers as plain rows; without an end, all from start on.
+
+    most_rows: the most rows that are taken, since a run may stand for any number of them; 0 stands for 2 ** 32.
+    """
+    options = Options(False, False, _number(most_rows, 2**64 - 1))
+    return _anew(library.lafkuno_expand_array, source, _number(start, 2**64 - 1), _end(end), byref(options))
+
+
+def reclaim(source):
+    """A dictionary column with only the entries that some valid key of its rows names, in their old order; rows read as before."""
+    return _anew(library.lafkuno_reclaim_array, source)
+
+
+def _end(end):
+    """None is the array's length, which `_anew` knows."""
+    return None if end is None else _number(end, 2**64 - 1)
+
+
+def _anew(call, source, *given):
+    """A call that writes one column anew, with what it is given between the source and the result."""
+    capsules = _capsules(0, source)  # kept until the call is over
+    pair = Source(ctypes.pointer(unwrap(capsules[0], SCHEMA)), ctypes.pointer(unwrap(capsules[1], ARRAY)))
+    given = (max(pair.array[0].length, 0) if value is None else value for value in given)
     schema, array, failure = ArrowSchema(), ArrowArray(), Failure()
-    code = library.lafkuno_convert_array(
-        byref(pair), byref(unwrap(capsules[2], SCHEMA)), byref(options), byref(schema), byref(array), byref(failure)
-    )
+    code = call(byref(pair), *given, byref(schema), byref(array), byref(failure))
     return _made(code, schema, array, failure)
 
 

@@ -73,6 +73,42 @@ def test_another_type():
         raise AssertionError("a text was taken as a type")
 
 
+def test_runs_and_back():
+    van = i32([9, 310, 310, 300, 300, 300, 12], offset=1)
+    runs = lafkuno.encode(van, 1, ends="s")
+    assert runs.format == "+r" and numbers(runs) == [310, 300, 300, 300, 12]
+    capsules = runs.__arrow_c_array__()
+    assert unwrap(capsules[1], ARRAY).children[0][0].length == 3
+    assert numbers(lafkuno.expand(runs)) == numbers(runs) and numbers(lafkuno.expand(runs, 3)) == [300, 12]
+    assert numbers(lafkuno.expand(lafkuno.join([runs], [(0, 4, 5), (0, 0, 2)]), 1, 3)) == [310, 300]
+    assert numbers(lafkuno.encode(van, 2, 2)) == []
+    error = refused(lambda: lafkuno.encode(van, 2, 7), "rows 2..7, and the column has 6 (ground 2)")
+    assert (error.code, error.node) == (2, None)
+    refused(lambda: lafkuno.encode(van, ends="g"), "run ends are 's', 'i' or 'l', and not 'g' (ground 10)")
+    error = refused(lambda: lafkuno.expand(runs, most_rows=4), "5 rows are asked for, and 4 are allowed")
+    assert (error.code, error.found, error.allowed) == (102, 5, 4)
+    error = refused(lambda: lafkuno.encode(runs), "node 0 'fuel' (+r): it is no column of numbers (ground 10)")
+    assert (error.code, error.node) == (10, 0)
+    refused(lambda: lafkuno.expand(van), "node 0 'fuel' (i): it is no run-end column of numbers (ground 10)")
+    refused(lambda: lafkuno.reclaim(van), "node 0 'fuel' (i): it has no dictionary (ground 10)")
+    refused(
+        lambda: lafkuno.encode(i32([7] * 32768), ends="s"),
+        "a run end does not fit its type: 32768 is needed, and 32767 is the largest allowed (ground 7)",
+    )
+
+
+def test_reclaiming():
+    names = Column(Type("u", name="names"), 4, 0, [None, struct.pack("<5i", 0, 1, 3, 6, 10), b"abbcccdddd"])
+    drivers = Column(Type("c", True, dictionary=names.type, name="driver"), 3, 1, [b"\x0b", bytes([0, 3, 99, 1])], dictionary=names)
+    small = lafkuno.reclaim(drivers)
+    del names
+    rows = [b"dddd", None, b"bb"]
+    assert read_all(drivers) == read_all(small) == rows
+    capsules = small.__arrow_c_array__()
+    assert unwrap(capsules[1], ARRAY).dictionary[0].length == 2
+    assert small.format == "c" and read_all(lafkuno.join([small, drivers], [(0, 2, 3), (1, 0, 1)])) == [b"bb", b"dddd"]
+
+
 def test_sliced_lists():
     for format, code in [("+l", "i"), ("+L", "q")]:
         item = i32([9, 20, 21, 22, 23, 24], offset=1, name="item")

@@ -1,13 +1,15 @@
 """Random joins through the library, compared row by row with an independent reading; then the same with damaged buffers, which must be
 refused or read as the damaged source reads. `random_joins.py JOINS SEED`"""
 
+import ctypes
 import random
 import sys
 
 import lafkuno
-from columns import Column, Schema, Type, describe, ordered_null, read, read_all, valid
+from columns import WIDTHS as WIDTH
+from columns import Column, Schema, Type, describe, metadata_bytes, ordered_null, read, read_all, storage, valid
 from lafkuno._capsule import ARRAY, SCHEMA, unwrap
-from random_columns import fill, random_type
+from random_columns import FIXED, fill, random_type
 
 
 def random_sources(r, type):
@@ -217,10 +219,65 @@ def one_conversion(r):
     return "joined"
 
 
+def runs_of(rows):
+    """How many stretches of equal neighbours."""
+    return sum(1 for k, row in enumerate(rows) if not k or row != rows[k - 1])
+
+
+def one_coding(r):
+    """Rows of a fixed-width column as runs and back, or a dictionary column without the entries that no row names."""
+    if r.random() < 0.5:
+        return one_reclaiming(r)
+    type = Type(r.choice(FIXED), r.random() < 0.6, name="fuel", metadata=metadata_bytes([("k", "v")]) if r.random() < 0.3 else None)
+    column = fill(r, type, r.randrange(60))
+    width = WIDTH[storage(type.format)]
+    few = [r.randbytes(width) for _ in range(2)]
+    slots = column.offset + column.length
+    column.blocks[1].put(b"".join(few[r.random() < 0.2] for _ in range(slots)))
+    start = r.randrange(column.length + 1)
+    end = r.randrange(start, column.length + 1)
+    wanted = read_all(column)[start:end]
+    runs = lafkuno.encode(column, start, end, ends=r.choice("sil"))
+    capsules = runs.__arrow_c_array__()
+    assert read_all(runs) == wanted and unwrap(capsules[1], ARRAY).children[0][0].length == runs_of(wanted)
+    plain = lafkuno.expand(runs)
+    del column
+    assert read_all(plain) == wanted
+    capsule = plain.__arrow_c_schema__()
+    assert describe(unwrap(capsule, SCHEMA)) == describe(Schema(type).struct)
+    some = fill(r, Type("+r", True, [Type(r.choice("sil"), name="run_ends"), type]), r.randrange(60))
+    start = r.randrange(some.length + 1)
+    assert read_all(lafkuno.expand(some, start)) == read_all(some)[start:]
+    return "joined"
+
+
+def one_reclaiming(r):
+    type = Type(r.choice("cCsSiIlL"), r.random() < 0.6, dictionary=random_type(r, 8, dictionary=True), ordered=r.random() < 0.5)
+    column = fill(r, type, r.randrange(40))
+    damaged = r.random() < 0.2
+    if damaged:
+        damage(r, column)
+    try:
+        small = lafkuno.reclaim(column)
+    except lafkuno.Error as error:
+        assert damaged and error.code == 12, error
+        return "refused"
+    wanted = read_all(column)
+    assert read_all(small) == wanted
+    del column
+    assert read_all(small) == wanted
+    capsules = small.__arrow_c_array__()
+    array = unwrap(capsules[1], ARRAY)
+    keys = {ctypes.string_at(array.buffers[1] + k * WIDTH[type.format], WIDTH[type.format]) for k in range(array.length) if valid(array, k)}
+    assert array.dictionary[0].length == len(keys)
+    assert describe(unwrap(capsules[0], SCHEMA)) == describe(Schema(type).struct)
+    return "joined"
+
+
 def main():
     count = int(sys.argv[1]) if len(sys.argv) > 1 else 2000
     seed = int(sys.argv[2]) if len(sys.argv) > 2 else 20261
-    for name, test in [("joins", one), ("damaged joins", one_damaged), ("batches", one_batch), ("conversions", one_conversion)]:
+    for name, test in [("joins", one), ("damaged joins", one_damaged), ("batches", one_batch), ("conversions", one_conversion), ("codings", one_coding)]:
         told = {"joined": 0, "refused": 0}
         for k in range(count):
             r = random.Random(seed * 1000003 + k)
