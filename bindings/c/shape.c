@@ -66,8 +66,18 @@ static int check_buffers(struct walk *walk, const struct ArrowArray *a, enum kin
 
 static int shape_node(struct walk *walk, const struct ArrowSchema *s, const struct ArrowArray *a, int depth);
 
+static int shape_values(struct walk *walk, const struct ArrowSchema *s, const struct ArrowArray *a, int depth) {
+    int64_t node = walk->nodes;
+    int code = shape_node(walk, s, a, depth);
+    if (code) return code;
+    enum kind kind = format_of(storage_of(s->format)).kind;
+    if (!s->dictionary && (kind == FIXED || kind == STRING)) return 0;
+    at_node(walk->report, node, s);
+    return refuse(walk->report, LAFKUNO_UNKNOWN_TYPE, "the values of a dictionary are numbers or byte strings");
+}
+
 static int shape_children(struct walk *walk, const struct ArrowSchema *s, const struct ArrowArray *a, int depth) {
-    int code = s->dictionary ? shape_node(walk, s->dictionary, a->dictionary, depth + 1) : 0;
+    int code = s->dictionary ? shape_values(walk, s->dictionary, a->dictionary, depth + 1) : 0;
     if (s->n_children && (!s->children || !a->children)) return refuse(walk->report, LAFKUNO_BAD_STRUCT, "the children are missing");
     for (int64_t k = 0; !code && k < s->n_children; k++) code = shape_node(walk, s->children[k], a->children[k], depth + 1);
     return code;

@@ -123,8 +123,11 @@ static void batch_errors(void) {
     other->array.children[0]->length = 8;
     add_child(batch, numbers("b", "open", 0, 8, 0, bytes, 1, NULL));
     add_child(batch, numbers("w:3", "code", 0, 2, 0, bytes, 3, NULL));
-    refused(list, 1, NULL, 0, LAFKUNO_UNKNOWN_TYPE, "columns of types that are not taken: 3 'open' (b), 4 'code' (w:3) (ground 10)");
-    refused(list, 2, NULL, 0, LAFKUNO_TYPES_DIFFER, "source 1: 3 columns, and 5 in source 0 (ground 11)");
+    add_child(batch, numbers("C", "remark", 0, 8, 0, bytes, 1, NULL)); /* keys of views */
+    set_dictionary((struct made *)batch->schema.children[5], view_column(1));
+    refused(list, 1, NULL, 0, LAFKUNO_UNKNOWN_TYPE,
+            "columns of types that are not taken: 3 'open' (b), 4 'code' (w:3), 5 'remark' (vu) (ground 10)");
+    refused(list, 2, NULL, 0, LAFKUNO_TYPES_DIFFER, "source 1: 3 columns, and 6 in source 0 (ground 11)");
     list[0] = (struct lafkuno_source){batch->schema.children[0], batch->array.children[0]};
     refused(list, 1, NULL, 0, LAFKUNO_UNKNOWN_TYPE, "source 0: 'i' is no struct (ground 10)");
     discard(batch);

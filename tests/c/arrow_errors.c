@@ -118,6 +118,9 @@ static void shapes(void) {
     const int32_t values[2] = {1, 2};
     struct made *m = numbers("b", "open", 0, 2, 0, values, 1, NULL);
     one_source(m, LAFKUNO_UNKNOWN_TYPE, "source 0, node 0 'open' (b): a type that is not taken (ground 10)");
+    m = numbers("i", "driver", 0, 2, 0, values, 4, NULL);
+    set_dictionary(m, nested(2));
+    one_source(m, LAFKUNO_UNKNOWN_TYPE, "source 0, node 1 'list' (+vl): the values of a dictionary are numbers or byte strings (ground 10)");
     m = numbers("i", "fuel", 0, 1, 0, values, 4, NULL);
     m->array.length = -1;
     one_source(m, LAFKUNO_CEILING_PASSED, "source 0, node 0 'fuel' (i): a length of -1 and an offset of 0: neither is negative (ground 9)");

@@ -26,12 +26,13 @@ impl From<Column> for Batch {
     }
 }
 
-/// Whether a format below the column's root is not taken: the first of them.
+/// Whether a format below the column's root is not taken, as that of a dictionary's values too: the first of them.
 fn foreign(column: &Column) -> Option<&str> {
-    let below = || column.dictionary.iter().map(|d| &**d).chain(&column.children);
-    match column.ty().kind() {
-        Kind::Other => Some(&column.format),
-        _ => below().find_map(foreign),
+    match &column.dictionary {
+        Some(values) if matches!(values.ty().kind(), Kind::Fixed | Kind::Strings) => None,
+        Some(values) => Some(&values.format),
+        None if column.ty().kind() == Kind::Other => Some(&column.format),
+        None => column.children.iter().find_map(foreign),
     }
 }
 

@@ -1,6 +1,6 @@
 //! Arrow files by the command: joined over every column, shown, and refused as a whole.
 
-use lafkuno::{ipc, join_many, text, Batch, Choices, Column, Field, Job, Order, Type};
+use lafkuno::{ipc, join_many, text, Batch, Choices, Column, Field, Job, Order, Row, Type};
 use std::path::PathBuf;
 use std::process::{Command, Output};
 
@@ -79,6 +79,9 @@ fn what_is_not_taken_is_named_before_anything_is_done() {
     batch.columns[0].format = "b".into();
     assert!(ipc::to_bytes(&batch).is_err());
     assert!(batch.taken().unwrap_err().to_string().ends_with("types that are not taken, of the columns `fuel` (format b)"));
+    let views = Column::build(&"vu".parse().unwrap(), &[Row::Bytes(b"x".to_vec())]).unwrap();
+    batch.columns[0] = Column { format: "C".into(), dictionary: Some(Box::new(views)), ..batch.columns[0].clone() };
+    assert!(batch.taken().unwrap_err().to_string().ends_with("types that are not taken, of the columns `fuel` (format vu)"));
     std::fs::write(place.join("o"), "copy 0 0..1").unwrap();
     std::fs::write(place.join("cut.arrow"), &std::fs::read(place.join("a.arrow")).unwrap()[..600]).unwrap();
     for (arguments, due) in [
