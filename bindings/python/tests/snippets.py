@@ -1,5 +1,5 @@
 """Runs the C and Python snippets of docs/USING.md and bindings/python/README.md: a C program is compiled and run, other C text must stand in
-an example as it is, Python runs."""
+an example as it is, or (~~~c) compile at its end, Python runs."""
 
 import os
 import re
@@ -21,6 +21,16 @@ def run_c(text, folder):
     subprocess.run([str(program)], check=True, stdout=subprocess.DEVNULL)
 
 
+def inside_the_example(text, folder):
+    """Lines that go on where examples/van.c is about to finish: compiled there."""
+    van = (root / "examples/van.c").read_text()
+    place = van.index("    /* the finished array")
+    source = folder / "inside.c"
+    source.write_text(van[:place] + "{\n" + text + "\n}\n" + van[place:])
+    flags = ["-std=c11", "-Wall", "-Wextra", "-Werror", "-pedantic", "-Wno-unused-variable", "-Wno-unused-but-set-variable"]
+    subprocess.run(["cc", *flags, f"-I{root}/include", "-fsyntax-only", str(source)], check=True)
+
+
 def check(language, text, folder):
     if language == "python":
         subprocess.run([sys.executable, "-c", text], check=True, stdout=subprocess.DEVNULL, env=os.environ)
@@ -36,5 +46,9 @@ with tempfile.TemporaryDirectory() as folder:
         for language, text in re.findall(r"^```(c|python)\n(.*?)^```$", (root / document).read_text(), re.S | re.M):
             check(language, text, Path(folder))
             count += 1
-assert count >= 4, count
+        trips = re.findall(r"^~~~c\n(.*?)^~~~$", (root / document).read_text(), re.S | re.M)
+        if trips:
+            inside_the_example("\n".join(trips), Path(folder))
+            count += len(trips)
+assert count >= 6, count
 print(f"{count} snippets in C and Python compiled and run")

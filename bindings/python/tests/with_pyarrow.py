@@ -104,7 +104,8 @@ def unions(r, depth):
 
 
 def runs(r, depth):
-    values, width = maker(r, depth + 1, runs), r.choice([pa.int16(), pa.int32(), pa.int64()])  # pyarrow takes no runs of runs
+    # pyarrow 25 takes no runs of runs, and its to_pylist crashes on some runs of dictionaries
+    values, width = maker(r, depth + 1, (runs, dictionaries)), r.choice([pa.int16(), pa.int32(), pa.int64()])
 
     def make(n):
         ends, at = [], 0
@@ -129,9 +130,9 @@ def dictionaries(r):
     return make
 
 
-def maker(r, depth=1, but=None):
+def maker(r, depth=1, but=()):
     leaf = [numbers, strings, dictionaries]
-    kind = r.choice(leaf if depth > 3 else leaf + [kind for kind in (lists, list_views, unions, runs) if kind != but])
+    kind = r.choice([kind for kind in leaf + [lists, list_views, unions, runs] * (depth <= 3) if kind not in but])
     return kind(r) if kind in leaf else kind(r, depth)
 
 
@@ -211,12 +212,9 @@ def one_conversion(r):
     new = pa.array(lafkuno.convert(array, second))
     new.validate(full=True)
     assert new.type == second and new.to_pylist() == array.to_pylist()
-    try:
-        theirs = array.cast(second)
-        theirs.validate(full=True)
-    except (pa.ArrowNotImplementedError, pa.ArrowInvalid):
-        return  # lists of views; and slices of list-views, of which pyarrow 25 makes lists with negative offsets
-    assert new.equals(theirs), (new, theirs)
+    if {first, second} == {kind(item) for kind in kinds}:
+        return  # pyarrow 25 casts no list to a list-view, and the lists that it makes of list-views have other rows
+    assert new.equals(array.cast(second))
 
 
 def one_coding(r):

@@ -3,7 +3,7 @@
 mod common;
 
 use common::Random;
-use lafkuno::{Column, Error, Row, RunEnds, Type};
+use lafkuno::{ipc, text, Batch, Column, Error, Field, Row, RunEnds, Type};
 use std::process::Command;
 
 const FORMATS: [&str; 10] = ["c", "C", "s", "S", "i", "I", "l", "L", "f", "g"];
@@ -79,13 +79,55 @@ fn grounds() {
 }
 
 #[test]
-fn commands() {
-    let examples = concat!(env!("CARGO_MANIFEST_DIR"), "/../../../examples");
-    let told = |words: [&str; 4]| {
-        let out = Command::new(env!("CARGO_BIN_EXE_lafkuno")).current_dir(examples).args(words).output().unwrap();
-        (out.status.code(), String::from_utf8(out.stdout).unwrap())
-    };
-    assert_eq!(told(["encode", "ignition.columns", "old", "0..7"]), (Some(0), "2 1\n3 0\n5 null\n6 0\n7 1\n".into()));
-    assert_eq!(told(["expand", "ignition.columns", "new", "0..6"]), (Some(0), "1\n0\n0\n0\nnull\nnull\n".into()));
-    assert_eq!(told(["encode", "ignition.columns", "old", "0..8"]), (Some(1), "".into()));
+fn names_and_metadata() {
+    let field = |key: &[u8]| Field { name: "fuel".into(), metadata: vec![(key.to_vec(), b"x".to_vec())], ..Field::default() };
+    for (key, extension) in [(&b"unit"[..], false), (b"ARROW:extension:name", true)] {
+        let plain = Column { field: field(key), ..Column::build(&"tsu:UTC?".parse().unwrap(), &[Row::Whole(5), Row::Whole(5), Row::Null]).unwrap() };
+        let runs = plain.encode(0..3, RunEnds::I32).unwrap();
+        let names: Vec<&str> = [&runs, &runs.children[0], &runs.children[1]].iter().map(|c| c.field.name.as_str()).collect();
+        assert_eq!((names, runs.ty().to_string()), (vec!["fuel", "run_ends", "values"], "+r?(i, tsu:UTC?)".into()));
+        assert_eq!((runs.field.metadata.is_empty(), runs.children[1].field.metadata.is_empty()), (extension, !extension));
+        let back = runs.expand(0..3).unwrap();
+        assert_eq!((back.field, back.nullable, back.format), (plain.field, true, plain.format));
+    }
+}
+
+#[test]
+fn a_run_of_more_rows_than_are_taken() {
+    let ends =
+        Column { buffers: vec![(1i64 << 60).to_le_bytes().to_vec().into()], ..Column::build(&"l".parse().unwrap(), &[Row::Whole(1)]).unwrap() };
+    let values = Column::build(&"C".parse().unwrap(), &[Row::Whole(7)]).unwrap();
+    let run = Column { format: "+r".into(), length: 1 << 60, children: vec![ends, values], ..Column::default() };
+    assert_eq!(run.expand(1 << 40..(1 << 40) + 2).unwrap().rows().unwrap(), vec![Row::Whole(7); 2]);
+    assert_eq!(run.expand(0..1 << 60).unwrap_err(), Error::TooMuchWork { node: 0, bound: 1 << 60, limit: lafkuno::WORK_LIMIT });
+}
+
+#[test]
+fn columns_of_an_arrow_file() {
+    let dir = std::env::temp_dir().join(format!("lafkuno-codings-{}", std::process::id()));
+    std::fs::create_dir_all(&dir).unwrap();
+    let [a, b, c, d] = ["a", "b", "c", "d"].map(|f| dir.join(f).to_str().unwrap().to_string());
+    let named = |name: &str, column: Column| Column { field: Field { name: name.into(), ..Field::default() }, ..column };
+    let column = |ty: &str, rows: &str| Column::build(&ty.parse().unwrap(), &text::rows(&ty.parse().unwrap(), rows).unwrap()).unwrap();
+    let towns = column("C?[u]", r#""Leith" "Yard" "Mill" "Mill" null"#).slice(2, 3).unwrap();
+    let columns = vec![named("fuel", column("i?", "5 5 null")), named("town", towns)];
+    let batch = Batch { rows: 3, columns, metadata: vec![] };
+    ipc::write_file(&a, &batch).unwrap();
+    let run = |words: &[&str]| Command::new(env!("CARGO_BIN_EXE_lafkuno")).args(words).output().unwrap();
+    let read = |file: &str| ipc::read_files(&[file]).unwrap().remove(0).remove(0);
+    assert!(run(&["encode", "--ends", "s", "--out", &b, &a, "fuel"]).status.success());
+    assert!(run(&["reclaim", "--out", &c, &b, "town"]).status.success());
+    let coded = read(&c);
+    assert_eq!((coded.columns[0].ty().to_string(), coded.columns[1].ty().to_string()), ("+r?(s, i?)".into(), "C?[u?]".into()));
+    assert_eq!(coded.columns[1].dictionary.as_ref().unwrap().length, 1);
+    assert!(run(&["expand", "--out", &d, &c, "fuel"]).status.success());
+    for (new, old) in read(&d).columns.iter().zip(&read(&a).columns) {
+        assert_eq!((new.rows(), new.ty(), &new.field.name), (old.rows(), old.ty(), &old.field.name));
+    }
+    let told = run(&["expand", "--out", &d, &c, "town"]);
+    assert_eq!(told.status.code(), Some(1));
+    assert!(String::from_utf8_lossy(&told.stderr).contains("ground 10"));
+    assert_eq!(run(&["reclaim", "--out", &d, &c, "van"]).status.code(), Some(2));
+    assert_eq!(run(&["encode", "--out", &d, &c]).status.code(), Some(2));
+    std::fs::remove_dir_all(dir).unwrap();
 }

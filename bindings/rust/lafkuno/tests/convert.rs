@@ -178,31 +178,6 @@ fn more_work_than_any_machine_does() {
 }
 
 #[test]
-fn the_command() {
-    let examples = concat!(env!("CARGO_MANIFEST_DIR"), "/../../../examples");
-    let run = |words: &[&str]| {
-        let out = Command::new(env!("CARGO_BIN_EXE_lafkuno")).current_dir(examples).arg("convert").args(words).output().unwrap();
-        (out.status.code(), String::from_utf8(out.stdout).unwrap(), String::from_utf8(out.stderr).unwrap())
-    };
-    let rows = "[\"Yard\", \"Granton\"]\n[]\nnull\n[\"Harbour\", null]\n";
-    for (name, ty, offsets) in
-        [("lists", "+vl?(u?)", "0100000003000000 0300000003000000"), ("views", "+l?(u?)", "0000000002000000 0200000002000000 04000000")]
-    {
-        let (status, out, _) = run(&["--buffers", "stops.columns", name, ty]);
-        assert_eq!(status, Some(0));
-        assert!(out.starts_with(&format!("# {ty}\n{rows}\nnode 0 ")) && out.contains(&format!("  buffer 1 {offsets}\n")), "{out}");
-    }
-    let (status, out, _) = run(&["stops.columns", "lists", "+L?(U?)"]);
-    assert_eq!((status, out), (Some(0), format!("# +L?(U?)\n{rows}")));
-    let (status, out, told) = run(&["stops.columns", "lists", "+vL?(u?)"]);
-    assert_eq!((status, out.as_str()), (Some(1), ""));
-    assert!(told.contains("ground 10") && told.contains("node 0"), "{told}");
-    for words in [&["stops.columns", "lists"][..], &["stops.columns", "trips", "+l(u)"], &["stops.columns", "lists", "+q"]] {
-        assert_eq!(run(words).0, Some(2));
-    }
-}
-
-#[test]
 fn a_column_of_an_arrow_file() {
     let dir = std::env::temp_dir().join(format!("lafkuno-convert-{}", std::process::id()));
     std::fs::create_dir_all(&dir).unwrap();

@@ -4,7 +4,6 @@ mod common;
 
 use common::Random;
 use lafkuno::{frame, Column, Frame, Ground, Row, Type};
-use std::process::Command;
 
 /// Values that meet: zeros of both signs, infinities, NaNs of several payloads, and a few others.
 const BITS: [u64; 14] = [
@@ -102,18 +101,4 @@ fn grounds_in_order() {
     let unknown = Column { format: "q".into(), ..g.clone() };
     assert_eq!(answer(&bad, &unknown, 0, 9), Err(10));
     assert_eq!(Ground::from_number(17), Some(Ground::NothingCounted));
-}
-
-#[test]
-fn the_command() {
-    let examples = concat!(env!("CARGO_MANIFEST_DIR"), "/../../../examples");
-    let run = |rows: &str| {
-        Command::new(env!("CARGO_BIN_EXE_lafkuno")).current_dir(examples).args(["box", "trip.box", "latitudes", "longitudes", rows]).output().unwrap()
-    };
-    let output = run("0..4");
-    assert_eq!(String::from_utf8_lossy(&output.stdout), "latitude 55.94 to 55.97, longitude -3.2 to -3.17\n");
-    let output = run("2..3");
-    assert_eq!(output.status.code(), Some(1));
-    assert!(String::from_utf8_lossy(&output.stderr).contains("ground 17"));
-    assert_eq!(run("3..").status.code(), Some(2));
 }

@@ -5,7 +5,6 @@ mod common;
 use common::Random;
 use lafkuno::{Column, Row, Type};
 use std::collections::BTreeSet;
-use std::process::Command;
 
 fn width(format: &str) -> usize {
     match format {
@@ -153,16 +152,4 @@ fn refused() {
     let mut random = Random(3);
     assert_eq!(ground(&keyed("C", &[Some(4)], numbers(4), &mut random)), Err(12));
     assert!(ground(&keyed("c", &[None, Some(3)], numbers(4), &mut random)).is_ok());
-}
-
-#[test]
-fn the_command() {
-    let examples = concat!(env!("CARGO_MANIFEST_DIR"), "/../../../examples");
-    let run = |name: &str| Command::new(env!("CARGO_BIN_EXE_lafkuno")).current_dir(examples).args(["reclaim", "drivers.column", name]).output().unwrap();
-    let output = run("drivers");
-    assert_eq!(String::from_utf8_lossy(&output.stdout), "entries 2 of 4\n\"Rory\"\n\"Ailsa\"\n\n\"Rory\"\nnull\n\"Ailsa\"\n\"Rory\"\n");
-    let output = run("stops");
-    assert_eq!(output.status.code(), Some(1));
-    assert!(String::from_utf8_lossy(&output.stderr).contains("ground 10"));
-    assert_eq!(run("vans").status.code(), Some(2));
 }

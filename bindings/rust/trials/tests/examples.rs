@@ -89,3 +89,59 @@ fn the_documented_c_is_the_example() {
         assert!(example.contains(line), "{line}");
     }
 }
+
+#[test]
+fn runs_and_plain_rows() {
+    for (words, status, rows) in [
+        (["encode", "ignition.columns", "old", "0..7"], 0, "2 1\n3 0\n5 null\n6 0\n7 1\n"),
+        (["expand", "ignition.columns", "new", "0..6"], 0, "1\n0\n0\n0\nnull\nnull\n"),
+        (["encode", "ignition.columns", "old", "0..8"], 1, ""),
+    ] {
+        let output = run(&words);
+        assert_eq!((output.status.code(), text(&output.stdout)), (Some(status), rows));
+    }
+}
+
+#[test]
+fn a_box() {
+    let boxed = |rows: &str| run(&["box", "trip.box", "latitudes", "longitudes", rows]);
+    assert_eq!(text(&boxed("0..4").stdout), "latitude 55.94 to 55.97, longitude -3.2 to -3.17\n");
+    let output = boxed("2..3");
+    assert_eq!(output.status.code(), Some(1));
+    assert!(text(&output.stderr).contains("ground 17"));
+    assert_eq!(boxed("3..").status.code(), Some(2));
+}
+
+#[test]
+fn unused_entries() {
+    let reclaimed = |name: &str| run(&["reclaim", "drivers.column", name]);
+    assert_eq!(text(&reclaimed("drivers").stdout), "entries 2 of 4\n\"Rory\"\n\"Ailsa\"\n\n\"Rory\"\nnull\n\"Ailsa\"\n\"Rory\"\n");
+    let output = reclaimed("stops");
+    assert_eq!(output.status.code(), Some(1));
+    assert!(text(&output.stderr).contains("ground 10"));
+    assert_eq!(reclaimed("vans").status.code(), Some(2));
+}
+
+#[test]
+fn lists_in_another_type() {
+    let converted = |words: &[&str]| {
+        let output = run(&[&["convert"], words].concat());
+        (output.status.code(), text(&output.stdout).to_string(), text(&output.stderr).to_string())
+    };
+    let rows = "[\"Yard\", \"Granton\"]\n[]\nnull\n[\"Harbour\", null]\n";
+    for (name, ty, offsets) in
+        [("lists", "+vl?(u?)", "0100000003000000 0300000003000000"), ("views", "+l?(u?)", "0000000002000000 0200000002000000 04000000")]
+    {
+        let (status, out, _) = converted(&["--buffers", "stops.columns", name, ty]);
+        assert_eq!(status, Some(0));
+        assert!(out.starts_with(&format!("# {ty}\n{rows}\nnode 0 ")) && out.contains(&format!("  buffer 1 {offsets}\n")), "{out}");
+    }
+    let (status, out, _) = converted(&["stops.columns", "lists", "+L?(U?)"]);
+    assert_eq!((status, out), (Some(0), format!("# +L?(U?)\n{rows}")));
+    let (status, out, told) = converted(&["stops.columns", "lists", "+vL?(u?)"]);
+    assert_eq!((status, out.as_str()), (Some(1), ""));
+    assert!(told.contains("ground 10") && told.contains("node 0"), "{told}");
+    for words in [&["stops.columns", "lists"][..], &["stops.columns", "trips", "+l(u)"], &["stops.columns", "lists", "+q"]] {
+        assert_eq!(converted(words).0, Some(2));
+    }
+}

@@ -1,6 +1,6 @@
 //! Calls on columns of a file, beside the join: `lafkuno box`, `lafkuno mean`, `lafkuno fuel`, `lafkuno encode`, `lafkuno expand`, `lafkuno reclaim`.
 
-use super::{join, mistake, print, status, Command, Words};
+use super::{convert, join, mistake, print, status, Command, Words};
 use lafkuno::{mean, ratio, text, Column, Error, RunEnds};
 use std::ops::Range;
 
@@ -44,13 +44,18 @@ pub const ENCODE: Command = Command {
     usage: "\
 lafkuno encode [--ends s|i|l] FILE COLUMN START..END
                                           the runs of rows of a fixed-width column, a line each: where it ends, and its value; run ends are l where
-                                          nothing else is said",
+                                          nothing else is said
+lafkuno encode [--ends s|i|l] --out OUT FILE COLUMN
+                                          all rows of a column of an Arrow file as runs; its other columns stay as they are, here and below",
     run: |words| {
-        let words = match Words::parse(words, &[], &["--ends"]) {
+        let words = match Words::parse(words, &[], &["--ends", "--out"]) {
             Ok(words) => words,
             Err(what) => return mistake(format_args!("encode: {what}")),
         };
         let Some(ends) = words.value("--ends").map_or(Some(RunEnds::I64), RunEnds::of) else { return mistake("encode: --ends takes s, i or l") };
+        if let Some(out) = words.value("--out") {
+            return in_file("encode", &words, out, |column| column.encode(0..column.length, ends));
+        }
         asked_of("encode", "COLUMN", &words, |[column]: [&Column; 1], rows| {
             let runs = column.encode(rows, ends)?;
             let (ends, values) = (rows_of(&runs.children[0]), rows_of(&runs.children[1]));
@@ -61,9 +66,32 @@ lafkuno encode [--ends s|i|l] FILE COLUMN START..END
 
 pub const EXPAND: Command = Command {
     word: "expand",
-    usage: "lafkuno expand FILE COLUMN START..END     rows of a run-end column of fixed-width values, a line each",
-    run: |words| asked("expand", "COLUMN", words, |[column]: [&Column; 1], rows| column.expand(rows).map(|plain| rows_of(&plain).join("\n"))),
+    usage: "\
+lafkuno expand FILE COLUMN START..END     rows of a run-end column of fixed-width values, a line each
+lafkuno expand --out OUT FILE COLUMN      all rows of such a column of an Arrow file",
+    run: |words| {
+        let words = match Words::parse(words, &[], &["--out"]) {
+            Ok(words) => words,
+            Err(what) => return mistake(format_args!("expand: {what}")),
+        };
+        if let Some(out) = words.value("--out") {
+            return in_file("expand", &words, out, |column| column.expand(0..column.length));
+        }
+        asked_of("expand", "COLUMN", &words, |[column]: [&Column; 1], rows| column.expand(rows).map(|plain| rows_of(&plain).join("\n")))
+    },
 };
+
+/// `FILE COLUMN` of an Arrow file, with the column written anew, into another one.
+fn in_file(word: &str, words: &Words, out: &str, anew: impl Fn(&Column) -> Result<Column, Error>) -> u8 {
+    let [file, name] = words.files[..] else { return mistake(format_args!("{word}: FILE COLUMN are due")) };
+    match convert::arrow(file, name, out, anew) {
+        Ok(()) => 0,
+        Err(error) => {
+            eprintln!("{word} of {name}: {error}");
+            status(&error)
+        }
+    }
+}
 
 /// The rows of a column as text.
 fn rows_of(column: &Column) -> Vec<String> {
@@ -74,9 +102,9 @@ fn rows_of(column: &Column) -> Vec<String> {
 
 pub const RECLAIM: Command = Command {
     word: "reclaim",
-    usage:
-        "\
-lafkuno reclaim FILE COLUMN               a dictionary column of FILE without the entries that no row names: how many are left, the entries, the rows",
+    usage: "\
+lafkuno reclaim FILE COLUMN               a dictionary column of FILE without the entries that no row names: how many are left, the entries, the rows
+lafkuno reclaim --out OUT FILE COLUMN     the same of an Arrow file",
     run: reclaim,
 };
 
@@ -86,10 +114,13 @@ pub fn lines(column: &Column) -> String {
 }
 
 fn reclaim(words: &[&str]) -> u8 {
-    let words = match Words::parse(words, &[], &[]) {
+    let words = match Words::parse(words, &[], &["--out"]) {
         Ok(words) => words,
         Err(what) => return mistake(format_args!("reclaim: {what}")),
     };
+    if let Some(out) = words.value("--out") {
+        return in_file("reclaim", &words, out, Column::reclaim);
+    }
     let [file, name] = words.files[..] else {
         return mistake("reclaim: FILE COLUMN are due");
     };

@@ -31,7 +31,7 @@ fn run(words: &[&str]) -> u8 {
         status(&error)
     };
     if let Some(out) = words.value("--out") {
-        return arrow(file, name, &ty, out).map_or_else(told, |()| 0);
+        return arrow(file, name, out, |column| column.convert(&ty)).map_or_else(told, |()| 0);
     }
     let columns = match beside::columns(file) {
         Ok(columns) => columns,
@@ -50,8 +50,8 @@ fn run(words: &[&str]) -> u8 {
     })
 }
 
-/// All batches of a file as one, with one of its columns in another type.
-fn arrow(file: &str, name: &str, ty: &Type, out: &str) -> Result<(), Error> {
+/// All batches of a file as one, with one of its columns written anew.
+pub fn arrow(file: &str, name: &str, out: &str, anew: impl Fn(&Column) -> Result<Column, Error>) -> Result<(), Error> {
     let batches = ipc::read_files(&[file])?.remove(0);
     let orders: Vec<Order> = batches.iter().enumerate().map(|(source, b)| Order::Copy { source, start: 0, end: b.rows }).collect();
     let mut batch = match &batches[..] {
@@ -60,6 +60,6 @@ fn arrow(file: &str, name: &str, ty: &Type, out: &str) -> Result<(), Error> {
     };
     let column: &mut Column =
         batch.columns.iter_mut().find(|c| c.field.name == name).ok_or_else(|| Error::File(format!("{file}: there is no column `{name}`")))?;
-    *column = column.convert(ty)?;
+    *column = anew(column)?;
     ipc::write_file(out, &batch)
 }
