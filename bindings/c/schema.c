@@ -84,7 +84,7 @@ static bool begin_schema(const struct ArrowSchema *from, struct ArrowSchema *cop
 
 static int copy_node(const struct ArrowSchema *from, struct ArrowSchema *copy) {
     copy->release = NULL;
-    if (!from->release || !from->format || from->n_children < 0) return LAFKUNO_BAD_STRUCT;
+    if (!from || !from->release || !from->format || from->n_children < 0 || (from->n_children && !from->children)) return LAFKUNO_BAD_STRUCT;
     if (!begin_schema(from, copy)) return LAFKUNO_NO_MEMORY;
     int code = from->dictionary ? copy_node(from->dictionary, copy->dictionary) : 0;
     for (int64_t k = 0; !code && k < from->n_children; k++) code = copy_node(from->children[k], copy->children[k]);

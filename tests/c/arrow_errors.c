@@ -340,6 +340,30 @@ static void runs_below_lists(void) {
     discard(m);
 }
 
+/* What is copied or shared may be anybody's struct. */
+static void foreign_structs(void) {
+    const int32_t values[2] = {1, 2};
+    struct made *m = nested(2);
+    struct ArrowSchema copy, *child = m->schema.children[0];
+    struct ArrowArray shared;
+    expect("copy", lafkuno_copy_schema(&m->schema, &copy), 0);
+    expect_text("child", copy.children[0]->format, "i");
+    copy.release(&copy);
+    m->schema.children[0] = NULL;
+    expect("a child that is missing", lafkuno_copy_schema(&m->schema, &copy), LAFKUNO_BAD_STRUCT);
+    m->schema.children[0] = child;
+    child->release = NULL;
+    expect("a child that is released", lafkuno_copy_schema(&m->schema, &copy), LAFKUNO_BAD_STRUCT);
+    expect("another's array", lafkuno_share_array(&m->array, &shared), LAFKUNO_BAD_STRUCT);
+    discard(m);
+    /* of a negative count, as a broken producer may have it, nothing is read */
+    m = numbers("i", "fuel", 0, 2, 0, values, 4, NULL);
+    m->schema.n_children = -1;
+    expect("negative", lafkuno_copy_schema(&m->schema, &copy), LAFKUNO_BAD_STRUCT);
+    m->schema.n_children = 0;
+    discard(m);
+}
+
 int main(void) {
     orders();
     bad_source();
@@ -352,6 +376,8 @@ int main(void) {
     lists_are_not_multiplied();
     too_many_entries();
     runs_below_lists();
+    foreign_structs();
+    expect_text("meaning", lafkuno_meaning(LAFKUNO_NOTHING_COUNTED), "no row of the range counts");
     expect_text("meaning", lafkuno_meaning(LAFKUNO_RUN_END_TOO_LARGE), "a run end does not fit its type");
     if (!failed) puts("refusals say where");
     return failed;

@@ -150,6 +150,8 @@ unsafe fn node(schema: &ArrowSchema, array: &ArrowArray, keep: &Option<Arc<dyn K
     if schema.n_children != array.n_children || schema.dictionary.is_null() != array.dictionary.is_null() {
         return fail(format!("{format}: ArrowSchema and ArrowArray have different children or only one has a dictionary"));
     }
+    // without rows there may be no buffers, whatever the offset
+    let offset = if length == 0 { 0 } else { offset };
     let mut column = Column { format, nullable: schema.flags & FLAG_NULLABLE != 0, length, offset, ..Column::default() };
     column.field = Field {
         name: unsafe { text(schema.name, "name") }?,
@@ -162,8 +164,8 @@ unsafe fn node(schema: &ArrowSchema, array: &ArrowArray, keep: &Option<Arc<dyn K
     if !array.dictionary.is_null() {
         column.dictionary = Some(Box::new(unsafe { node(&*schema.dictionary, &*array.dictionary, keep, depth + 1) }?));
     }
-    if !(0..=128).contains(&schema.n_children) {
-        return fail(format!("{}: {} children", column.format, schema.n_children));
+    if !(0..=128).contains(&schema.n_children) || schema.n_children != 0 && (schema.children.is_null() || array.children.is_null()) {
+        return fail(format!("{}: {} children, or they are missing", column.format, schema.n_children));
     }
     for k in 0..schema.n_children as usize {
         let (schema, array) = unsafe { (*schema.children.add(k), *array.children.add(k)) };
@@ -190,7 +192,8 @@ unsafe fn buffers(column: &mut Column, kind: Kind, array: &ArrowArray, keep: &Op
     let count = usize::try_from(array.n_buffers).unwrap_or(0);
     let pointer = |k: usize| unsafe { *array.buffers.add(k) };
     let take = |k: usize, n: u64| unsafe { lend(pointer(k), n, keep) };
-    let Some(slots) = column.length.checked_add(column.offset).filter(|n| *n < 1 << 40) else {
+    // a run may have any number of rows
+    let Some(slots) = column.length.checked_add(column.offset).filter(|n| *n < 1 << 40 || kind == Kind::Runs) else {
         return fail(format!("{format}: {} rows from {} on are more than a body holds", column.length, column.offset));
     };
     let due = match kind {
@@ -205,18 +208,14 @@ unsafe fn buffers(column: &mut Column, kind: Kind, array: &ArrowArray, keep: &Op
         return fail(format!("{format}: {} buffers, and {} are due", array.n_buffers, due.start()));
     }
     let masked = !matches!(kind, Kind::Sparse | Kind::Dense | Kind::Runs);
-    if masked && !pointer(0).is_null() && array.null_count != 0 {
+    if masked && column.length != 0 && !pointer(0).is_null() && array.null_count != 0 {
         column.validity = Some(take(0, slots.div_ceil(8))?);
     }
     let w = column.ty().width() as u64;
     column.buffers = match kind {
         Kind::Fixed | Kind::Dictionary => vec![take(1, slots * w)?],
         // a byte string of length 0 may have no offsets
-        Kind::Strings if column.length == 0 => {
-            column.offset = 0;
-            column.validity = None;
-            vec![Buffer::default(), Buffer::default()]
-        }
+        Kind::Strings if column.length == 0 => vec![Buffer::default(), Buffer::default()],
         Kind::Strings => {
             let offsets = take(1, slots * w + w)?;
             let mut last = [0; 8];
@@ -235,11 +234,7 @@ unsafe fn buffers(column: &mut Column, kind: Kind, array: &ArrowArray, keep: &Op
             vec![take(1, slots * 16)?]
         }
         // and so may a list
-        Kind::List if column.length == 0 => {
-            column.offset = 0;
-            column.validity = None;
-            vec![Buffer::default()]
-        }
+        Kind::List if column.length == 0 => vec![Buffer::default()],
         Kind::List => vec![take(1, slots * w + w)?],
         Kind::ListView => vec![take(1, slots * w)?, take(2, slots * w)?],
         Kind::Sparse => vec![take(0, slots)?],
