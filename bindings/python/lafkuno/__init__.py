@@ -106,7 +106,8 @@ def _order(order):
 
 def _capsules(number, source):
     if not hasattr(source, "__arrow_c_array__"):
-        raise TypeError(f"source {number} is a {type(source).__name__} without __arrow_c_array__")
+        parts = ": a stream of arrays, each of which can be a source" if hasattr(source, "__arrow_c_stream__") else ""
+        raise TypeError(f"source {number} is a {type(source).__name__} without __arrow_c_array__{parts}")
     return source.__arrow_c_array__()
 
 

@@ -201,6 +201,15 @@ def test_errors():
         assert str(error) == "source 1 is a list without __arrow_c_array__"
     else:
         raise AssertionError("a list was taken")
+
+    class Table:
+        def __arrow_c_stream__(self, requested_schema=None):
+            raise AssertionError("a table is no array")
+
+    try:
+        lafkuno.reclaim(Table())
+    except TypeError as error:
+        assert str(error) == "source 0 is a Table without __arrow_c_array__: a stream of arrays, each of which can be a source"
     for order in [(0, -1, 2), lafkuno.gap(-1), (2**32, 0, 1)]:
         try:
             lafkuno.join([a], [order])
