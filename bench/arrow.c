@@ -169,8 +169,10 @@ static void whole_columns(int validity) {
         if (copied - joined < plain) plain = copied - joined;
         if (end - copied < there) there = end - copied;
     }
-    printf("| 2 x 5 million int64%s, against two copies into new memory | %.0f | %.0f | %.2f | 1.3 | %s | |\n", name, ours / 1e3,
-           plain / 1e3, ours / plain, verdict(ours / plain <= 1.3));
+    allocated = 0;
+    join(sources, 2, orders);
+    printf("| 2 x 5 million int64%s, against two copies into new memory | %.0f | %.0f | %.2f | 1.3 | %s | %zu bytes allocated |\n", name,
+           ours / 1e3, plain / 1e3, ours / plain, verdict(ours / plain <= 1.3), allocated);
     printf("| the same, against two copies into memory that is there | %.0f | %.0f | %.2f | | | |\n", ours / 1e3, there / 1e3,
            ours / there);
     free(body);
