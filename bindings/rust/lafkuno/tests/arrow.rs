@@ -145,3 +145,24 @@ fn many_joins_answer_in_their_places() {
     told.sort();
     assert_eq!(told, (1..=50).collect::<Vec<_>>());
 }
+
+#[test]
+fn what_is_no_file_is_not_replaced() {
+    let place = place("links");
+    let batch = vans()[0].clone();
+    let at = |name: &str| place.join(name).to_str().unwrap().to_string();
+    std::os::unix::fs::symlink(place.join("a.arrow"), place.join("link.arrow")).unwrap();
+    ipc::write_file(&at("link.arrow"), &vans()[1]).unwrap();
+    assert!(place.join("link.arrow").is_symlink());
+    assert_eq!(ipc::read_files(&[&at("a.arrow")]).unwrap()[0][0].rows, 3);
+    // a pipe is written to, a full disk is told, and a directory stays one
+    std::fs::write(place.join("o"), "copy 0 0..2").unwrap();
+    let shown = run(&place, &["join", "b.arrow", "--orders", "o", "--out", "/dev/stdout"]);
+    assert_eq!((shown.status.code(), ipc::read_bytes(shown.stdout.into()).unwrap()[0].rows), (Some(0), 2));
+    let full = || std::fs::metadata("/dev/full").is_ok_and(|m| !m.is_file());
+    if full() {
+        let told = ipc::write_file("/dev/full", &batch).unwrap_err().to_string();
+        assert!(told.starts_with("/dev/full: ") && full(), "{told}");
+    }
+    assert!(ipc::write_file(place.to_str().unwrap(), &batch).is_err() && place.is_dir());
+}

@@ -10,6 +10,10 @@ mod write;
 use crate::{Batch, Buffer, Error};
 use std::fs::File;
 use std::io::BufWriter;
+use std::sync::atomic::{AtomicU64, Ordering};
+
+/// How many files were begun.
+static WRITTEN: AtomicU64 = AtomicU64::new(0);
 
 /// The record batches of each file, which is an Arrow file or stream; `-` is standard input. Files are mapped, and the batches' buffers
 /// lead into the maps: a file must not be made shorter while they are used.
@@ -36,13 +40,20 @@ pub fn to_bytes(batch: &Batch) -> Result<Vec<u8>, Error> {
     Ok(out)
 }
 
-/// Writes a batch as an Arrow file: beside its place first, so that a file that is there stays whole until the new one is.
+/// Writes a batch as an Arrow file: beside its place first, so that a file that is there stays whole until the new one is; a link leads to its file.
+/// What is no file, such as a pipe or `/dev/stdout`, is written to as it is.
 pub fn write_file(path: &str, batch: &Batch) -> Result<(), Error> {
     let tell = |e: std::io::Error| Error::File(format!("{path}: {e}"));
-    let beside = format!("{path}.part");
-    let written = File::create(&beside).map(|file| write::write(BufWriter::with_capacity(1 << 20, file), batch));
-    match written.map_err(tell)? {
-        Ok(Ok(())) => std::fs::rename(&beside, path).map_err(tell),
+    let write = |file| write::write(BufWriter::with_capacity(1 << 20, file), batch);
+    if std::fs::metadata(path).is_ok_and(|there| !there.is_file()) {
+        return write(File::options().write(true).open(path).map_err(tell)?)?.map_err(tell);
+    }
+    let place = std::fs::canonicalize(path).unwrap_or_else(|_| path.into());
+    let mut beside = place.clone().into_os_string();
+    // one for each file that is being written, also to the same place
+    beside.push(format!(".{}.{}.part", std::process::id(), WRITTEN.fetch_add(1, Ordering::Relaxed)));
+    match File::create(&beside).map(write).map_err(tell)? {
+        Ok(Ok(())) => std::fs::rename(&beside, place).map_err(tell),
         failed => {
             let _ = std::fs::remove_file(&beside);
             failed?.map_err(tell)
