@@ -5,7 +5,7 @@
 #include <stdlib.h>
 #include <string.h>
 
-/* What is done, and what the result is called. */
+/* What is done with the column. */
 enum coding { ENCODE, EXPAND, RECLAIM };
 
 /* A column on its way. */

@@ -1,7 +1,6 @@
 /* One column in another type, over the calls of lafkuno.h: other widths, or a list as a list-view and back. */
 #include "layer.h"
 
-#include <inttypes.h>
 #include <stdlib.h>
 #include <string.h>
 
