@@ -57,7 +57,7 @@ module _ (x : Lent) (buffers : List ℕ) (tree : Tree) (root : Ty) (column : Col
     values-in p i a dict (in-parts e h) = copied-in (suc i) (parts-copied plan i dict e)
     values-in p i a dict (kept e v h o q) = kept-in x buffers counts room base (suc i) (kept-not plan i dict e) p v h o
 
-    all-kept : every (keptIn x buffers counts room base) (nodesOf plan) ≡ true
+    pub all-kept : every (keptIn x buffers counts room base) (nodesOf plan) ≡ true
     all-kept =
         every-all (keptIn x buffers counts room base) (nodesOf plan)
         (every-node x buffers tree root column counts μ (st .of-type) (st .stood) (λ j. keptIn x buffers counts room base j ≡ true)

@@ -30,6 +30,22 @@ or-zero g h e = rw (eq-eqb g 0 e)
 pub or-first : (g h : ℕ) → (g ≡ 0 → ⊥) → orElse g h ≡ g
 or-first g h e = rw (ne-eqb g 0 e)
 
+pub or-or : (g h k : ℕ) → orElse (orElse g h) k ≡ orElse g (orElse h k)
+or-or g h k = go (eqb g 0) refl
+  where
+    go : (b : Bool) → eqb g 0 ≡ b → orElse (orElse g h) k ≡ orElse g (orElse h k)
+    go true e = let z = eqb-true g 0 e in ap (λ a. orElse a k) (or-zero g h z) ∙ sym (or-zero g (orElse h k) z)
+    go false e = let z = eqb-false g 0 e in ap (λ a. orElse a k) (or-first g h z) ∙ or-first g k z ∙ sym (or-first g (orElse h k) z)
+
+-- what stands only where an earlier one does is none of its own
+pub or-never : (c o a r : ℕ) → (c ≡ 0 → o ≡ 0 → a ≡ 0) → orElse c (orElse o (orElse a r)) ≡ orElse c (orElse o r)
+or-never c o a r h = go (eqb c 0) refl (eqb o 0) refl
+  where
+    go : (s : Bool) → eqb c 0 ≡ s → (t : Bool) → eqb o 0 ≡ t → orElse c (orElse o (orElse a r)) ≡ orElse c (orElse o r)
+    go true e true f = ap (λ z. orElse c (orElse o z)) (or-zero a r (h (eqb-true c 0 e) (eqb-true o 0 f)))
+    go true e false f = let z = eqb-false o 0 f in ap (orElse c) (or-first o (orElse a r) z ∙ sym (or-first o r z))
+    go false e t f = let z = eqb-false c 0 e in or-first c (orElse o (orElse a r)) z ∙ sym (or-first c (orElse o r) z)
+
 module _ (formats schema : List ℕ) (x : Tables) (first n own : ℕ) (made : List ℕ) (walk : Out) (parts plan counts room : List ℕ) where
   abbrev before : ℕ
   before = ahead formats schema x first n own made walk
@@ -65,6 +81,11 @@ module _ (formats schema : List ℕ) (x : Tables) (first n own : ℕ) (made : Li
       go : (b : Bool) → eqb (orElse before of-room) 0 ≡ b → chosen true b .ground ≡ orElse before of-room
       go true e = sym (eqb-true _ _ e)
       go false e = refl
+
+  -- THE GROUNDS IN THEIR ORDER: the column's, the call's own, those of its walk, and 14 and 13 of the room
+  pub anew-order : smallBody room ≡ true → answer .ground ≡ orElse (columnGround formats schema x first n) (orElse own (orElse (walk .ans) of-room))
+  unfolding ahead
+  anew-order s = anew-ground s ∙ or-or (columnGround formats schema x first n) (orElse own (walk .ans)) of-room ∙ ap (orElse (columnGround formats schema x first n)) (or-or own (walk .ans) of-room)
 
   -- .. and 9 where it is not
   pub anew-large : smallBody room ≡ false → answer .ground ≡ 9

@@ -8,6 +8,9 @@ pub mod Bounds
 pub mod Shown
 pub mod Accepting
 pub mod Again
+pub mod Sizes
+pub mod Lending
+pub mod Described
 pub mod Parts
 pub mod Comes
 pub mod Bits

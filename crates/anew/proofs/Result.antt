@@ -1,17 +1,18 @@
 -- AN ACCEPTED CALL: what its walk fills stands in the room, and is finished as any join is; nothing else of the room is written.
 -- Assumes nothing.
 use mathlib.Core.Path.{_≡_, refl, sym, ap, subst}
+use mathlib.Core.Logic.{_⊎_}
 use mathlib.Core.Bool.{Bool, true, false}
 use mathlib.Core.List.{List, [], _∷_}
-use Prim.Native.Nat.{ℕ, suc, _+_, _*_, _≤_, _<_}
+use Prim.Native.Nat.{ℕ, suc, _+_, _*_, _^_, _≤_, _<_}
 use native.Mathlib.Omega.{arith}
 use lib.ListN.{length}
 use lib.Dec.{T}
 use Rattle.columnar.specs.Types.{Ty}
 use Rattle.columnar.specs.Reading.{Column, readAll, Source}
 use Rattle.schema.specs.Tree.{ceilings, typed}
-use Rattle.array_data.specs.Tables.{Tables}
-use Rattle.array_data.specs.Typed.{Tree, columnOf, sourceRule}
+use Rattle.array_data.specs.Tables.{Tables, lengthOf, offsetOf, place}
+use Rattle.array_data.specs.Typed.{Tree, columnOf, tablesFrom, sourceRule}
 use Rattle.array_data.specs.type_tree.Lent.{treeOf, typeOf}
 use Rattle.bits.specs.Bits.{bitsAt}
 use Rattle.walk.specs.State.{codeOf}
@@ -20,7 +21,7 @@ use Rattle.refinement.specs.walk_is_model.Memory.{Memory, noted, after, AllInPl
 use Rattle.refinement.proofs.walk_is_model.Goes.{Quiet}
 use Rattle.refinement.specs.log_in_room.Room.{AllBelow, HasBits, NoneOver, Placed, Lies, Fits, Outside, AllUsed}
 use Rattle.refinement.proofs.log_in_room.Applied.{grows-at, room-lies, room-long, room-else}
-use Rattle.columns.specs.Grounds.{ceiling}
+use Rattle.columns.specs.Grounds.{ceiling, columnGround}
 use Rattle.plan.specs.parts.Parts.{nodesOf, needed, partsWithin, Used}
 use Rattle.refinement.specs.orders.Order.{Lent}
 use Rattle.refinement.specs.orders.Written.{OnlyUsed}
@@ -38,6 +39,7 @@ use Rattle.anew.proofs.Bounds.{all-exact, all-fit}
 use Rattle.anew.proofs.Shown.{stood-shows, stood-nulls}
 use Rattle.anew.proofs.Accepting.{finished, stood-accepted}
 use Rattle.anew.proofs.Again.{stood-reads, stood-again}
+use Rattle.anew.proofs.Lending.{accepted-again, starts-low, names-few}
 
 -- what finishing is given after a call on the column of n nodes from node `first` on
 abbrev pub lentFor : Tables → List ℕ → List ℕ → ℕ → ℕ → Lent
@@ -184,3 +186,14 @@ module _ (formats schema : List ℕ) (x : Tables) (first n own target tn : ℕ) 
         stood-reads lent (x .buffers) tree type column (answer .counts) (answer .room) memory anew-standing base body bodied (filled .good),
         stood-again lent (x .buffers) formats schema target tn column (answer .counts) (answer .room) memory anew-standing base body bodied t c (sym (nodes-is formats schema target tn keep joined keptFrom t c)) (filled .good),
       )
+
+      -- LENT AGAIN with the same schema, in tables that hold the finished ones from the target's node on, IT IS ACCEPTED: none of 9, 10 and 12 stands
+      pub anew-again : length body ≤ ceiling → (z : Tables) → tablesFrom z target ≡ finishedTables lent (x .buffers) (answer .counts) (answer .room) base body → columnGround formats schema z target tn ≡ 0
+      anew-again short z again =
+          let nodes = nodes-is formats schema target tn keep joined keptFrom t c in
+          accepted-again formats schema z target tn (subst (λ y. length (y .body) ≤ ceiling) (sym again) short) c t
+          (subst (λ y. T (sourceRule tree y)) (sym again) (anew-result .3))
+          (λ i l. subst (λ y. (offsetOf y i ≡ 0) ⊎ (offsetOf y i + lengthOf y i < 2 ^ 63)) (sym again)
+          (starts-low lent (x .buffers) tree type column (answer .counts) (answer .room) memory anew-standing base body bodied i (omega (arith, nodes))))
+          (λ i l. subst (λ y. place y i 8 ≤ 32) (sym again)
+          (names-few lent (x .buffers) tree type column (answer .counts) (answer .room) memory anew-standing base body bodied i (omega (arith, nodes))))

@@ -1,17 +1,22 @@
 -- W1: what an accepted encoding leaves, finished as a join is. Assumes nothing.
-use mathlib.Core.Path.{_≡_, _∙_}
+use mathlib.Core.Path.{_≡_, sym, ap, subst, _∙_}
 use mathlib.Core.Bool.{false}
 use mathlib.Core.List.{List}
 use Prim.Native.Nat.{ℕ, _+_, _-_, _^_, _≤_, _<_}
 use lib.ListN.{length, getD, replicate}
+use lib.Dec.{ltb}
 use Rattle.columnar.specs.Row.{seg}
 use Rattle.columnar.specs.Types.{Number, width, half, fixed, Ty, tPlain, tRunEnd}
+use Rattle.columnar.specs.Array.{nullCount}
 use Rattle.columnar.specs.Plain.{stored}
 use Rattle.columnar.specs.Reading.{Column, read, readAll, Source}
-use Rattle.array_data.specs.Tables.{Tables, place}
+use Rattle.array_data.specs.Tables.{Tables, lengthOf, place}
 use Rattle.array_data.specs.Typed.{columnOf, tablesFrom}
 use Rattle.array_data.specs.type_tree.Lent.{treeOf}
 use Rattle.source_rules.specs.kinds.Rows.{tablesOf}
+use Rattle.walk.specs.State.{keepsOf}
+use Rattle.columns.specs.Grounds.{ceiling, columnGround}
+use Rattle.refinement.specs.walk_is_model.Holds.{flag}
 use Rattle.refinement.specs.log_in_room.Room.{AllBelow}
 use Rattle.refinement.specs.orders.Order.{Lent}
 use Rattle.refinement.specs.orders.Written.{OnlyUsed}
@@ -20,6 +25,7 @@ use Rattle.refinement.specs.finishing.Shows.{finishedTables, Bodied}
 use Rattle.refinement.specs.opening.Open.{Opening}
 use Rattle.anew.proofs.Laws.{Accepted, anew-accepted}
 use Rattle.anew.proofs.Result.{Filled, lentFor}
+use Rattle.anew.proofs.Described.{described}
 use Rattle.column_anew.specs.runs.Runs.{okAt, runRows}
 use Rattle.column_anew.specs.runs.Coding.{encoded}
 use Rattle.column_anew.proofs.runs.Encode.{encode-rows, encode-zeros}
@@ -29,7 +35,7 @@ use Rattle.coding.specs.Encode.{number, endWidth, encodeOwn, plainColumn
 use Rattle.coding.proofs.Node.{part-small}
 use Rattle.coding.proofs.Encoded as e
 use Rattle.coding.proofs.Fitted as f
-use Rattle.coding.proofs.Finished.{Finished, finish, writes}
+use Rattle.coding.proofs.Finished.{Finished, finish, lends, writes}
 
 module _ (formats schema lengths places buffers body : List ℕ) (first n target start end : ℕ) (low : first < 2 ^ 32) (small : (j : ℕ) → getD body j 0 < 256) (parts plan counts room : List ℕ)
     (room-bytes : AllBelow 256 room) (ok : encoding formats schema (tablesOf lengths places buffers body) first n target start end parts plan counts room .ground ≡ 0) where
@@ -83,6 +89,23 @@ module _ (formats schema lengths places buffers body : List ℕ) (first n target
       (f.no-ends formats schema lengths places buffers body first n target start end low small (passed .column-good) (passed .own-none)) room-bytes ok (tRunEnd w (tPlain (fixed k))) (f.type-is formats schema lengths places buffers body first n target start end low small (passed .column-good) (passed .own-none))
       (encoded k w v start m) filled base whole bodied
 
+  -- LENT AGAIN with the same schema, in tables that hold the finished ones from the target's node on, IT IS ACCEPTED: none of 9, 10 and 12 stands
+  pub encode-lent : (base : ℕ) (whole : List ℕ) → Bodied whole lent-to (after .room) base → length whole ≤ ceiling → (z : Tables)
+      → tablesFrom z target ≡ finishedTables lent-to buffers (after .counts) (after .room) base whole → columnGround formats schema z target 3 ≡ 0
+  encode-lent base whole bodied =
+      let d = e.due formats schema lengths places buffers body first n target start end low small (passed .column-good) (passed .own-none) in
+      lends formats schema tables first n (encodeOwn formats schema tables first n target start end) target 3 (encodeKeeps formats schema tables first n target start end) (encodeOut formats schema tables first n target start end) parts plan counts room (d .of-type) (d .low)
+      (f.no-ends formats schema lengths places buffers body first n target start end low small (passed .column-good) (passed .own-none)) room-bytes ok (tRunEnd w (tPlain (fixed k))) (f.type-is formats schema lengths places buffers body first n target start end low small (passed .column-good) (passed .own-none))
+      (encoded k w v start m) filled base whole bodied
+
+  -- "a node keeping nulls exactly where the node it comes from has one"
+  pub encode-keeps :
+      (keepsOf (encodePlan formats schema tables first n target start end) 0 ≡ 0) × (keepsOf (encodePlan formats schema tables first n target start end) 1 ≡ 0)
+      × (keepsOf (encodePlan formats schema tables first n target start end) 2 ≡ flag (ltb 0 (nullCount v)))
+  encode-keeps =
+      let p = f.planned-runs formats schema lengths places buffers body first n target start end low small (passed .column-good) (passed .own-none) in
+      (p .root-keeps, p .ends-keep, p .values-keep ∙ ap flag (e.keep-is formats schema lengths places buffers body first n target start end low small (passed .column-good) (passed .own-none)))
+
   -- ITS ROWS are the column's rows start .. end - 1
   pub encode-reads : (base : ℕ) (whole : List ℕ) → Bodied whole lent-to (after .room) base
       → readAll (tRunEnd w (tPlain (fixed k))) (columnOf (treeOf formats schema target 3) (finishedTables lent-to buffers (after .counts) (after .room) base whole) (tRunEnd w (tPlain (fixed k))) 0) ≡ seg (read (tPlain (fixed k)) v) start m
@@ -95,6 +118,29 @@ module _ (formats schema lengths places buffers body : List ℕ) (first n target
   -- "NULL SLOTS AS ZEROS"
   pub encode-nulls : (j : ℕ) → j < length (runRows k v start m) → okAt (encoded k w v start m .body .values) j ≡ false → stored (fixed k) (encoded k w v start m .body .values .body) j ≡ replicate (width k) 0
   encode-nulls j l h = encode-zeros k v start m source within w j l h
+
+  -- ---- of the finished tables
+
+  module _ (base : ℕ) (whole : List ℕ) (bodied : Bodied whole lent-to (after .room) base) where
+    abbrev pub encodedTables : Tables
+    encodedTables = finishedTables lent-to buffers (after .counts) (after .room) base whole
+
+    abbrev pub described-runs : Column (tRunEnd w (tPlain (fixed k)))
+    described-runs = columnOf (treeOf formats schema target 3) encodedTables (tRunEnd w (tPlain (fixed k))) 0
+
+    -- THE COLUMN THAT THEY DESCRIBE IS THE ENCODED ONE
+    pub encode-is : described-runs ≡ encoded k w v start m
+    encode-is = described (treeOf formats schema target 3) encodedTables (tRunEnd w (tPlain (fixed k))) 0 (encoded k w v start m) tt (encode-finished base whole bodied .shows)
+
+    -- no run-end column that reads as these rows has fewer runs than they have
+    pub fewest-runs : (u : ℕ) (t : Ty) (y : Column (tRunEnd u t)) → Source (tRunEnd u t) y → readAll (tRunEnd u t) y ≡ seg (read (tPlain (fixed k)) v) start m → lengthOf encodedTables 1 ≤ y .body .ends .len
+    fewest-runs u t y s r = subst (λ (c : Column (tRunEnd w (tPlain (fixed k)))). c .body .ends .len ≤ y .body .ends .len) (sym encode-is) (encode-fewest u t y s r)
+
+    -- a slot of their values whose bit is 0 is zeros
+    pub null-runs : (j : ℕ) → j < described-runs .body .values .len → okAt (described-runs .body .values) j ≡ false → stored (fixed k) (described-runs .body .values .body) j ≡ replicate (width k) 0
+    null-runs =
+        subst (λ (c : Column (tRunEnd w (tPlain (fixed k)))). (j : ℕ) → j < c .body .values .len → okAt (c .body .values) j ≡ false → stored (fixed k) (c .body .values .body) j ≡ replicate (width k) 0)
+        (sym encode-is) encode-nulls
 
   -- ONLY BYTES OF THE PARTS ARE WRITTEN, up to what each needs
   pub encode-writes : OnlyUsed (encodePlan formats schema tables first n target start end) parts room (after .counts) (after .room)

@@ -2,16 +2,18 @@
 use mathlib.Core.Path.{_≡_, subst}
 use mathlib.Core.Bool.{Bool, true, false}
 use mathlib.Core.List.{List}
-use Prim.Native.Nat.{ℕ, suc, _-_, _<_}
+use Prim.Native.Nat.{ℕ, suc, _-_, _≤_, _<_}
+use lib.ListN.{length}
 use lib.Dec.{T}
 use Rattle.columnar.specs.Types.{Ty}
 use Rattle.columnar.specs.Reading.{Column, readAll}
 use Rattle.schema.specs.Tree.{ceilings, typed}
 use Rattle.array_data.specs.Tables.{Tables}
-use Rattle.array_data.specs.Typed.{Tree, columnOf, sourceRule}
+use Rattle.array_data.specs.Typed.{Tree, columnOf, tablesFrom, sourceRule}
 use Rattle.array_data.specs.type_tree.Lent.{treeOf, typeOf}
 use Rattle.walk.specs.State.{codeOf}
 use Rattle.walk.specs.Log.{Out}
+use Rattle.columns.specs.Grounds.{ceiling, columnGround}
 use Rattle.refinement.specs.log_in_room.Room.{AllBelow}
 use Rattle.refinement.specs.orders.Order.{Lent}
 use Rattle.refinement.specs.orders.Written.{OnlyUsed}
@@ -20,7 +22,7 @@ use Rattle.refinement.specs.finishing.Shows.{Shows, Counts, finishedTables, Bod
 use Rattle.refinement.specs.opening.Open.{Opening}
 use Rattle.anew.specs.Anew.{anew}
 use Rattle.anew.specs.ResultPlan.{planAnew}
-use Rattle.anew.proofs.Result.{Filled, lentFor, anew-result, anew-writes}
+use Rattle.anew.proofs.Result.{Filled, lentFor, anew-result, anew-again, anew-writes}
 
 -- what finished tables show: the column byte for byte with its null counts, its rows, and that they can be lent again
 pub record Finished (tree : Tree) (tables : Tables) (nulls : List ℕ) (t : Ty) (column : Column t) : Type 0 where
@@ -60,3 +62,13 @@ module _ (formats schema : List ℕ) (x : Tables) (first n own target tn : ℕ) 
   writes u e =
       subst (λ u. (column : Column u) → Filled lent (x .buffers) u walk column → OnlyUsed made parts room (left .counts) (left .room)) e
       (λ column filled. anew-writes formats schema x first n own target tn keep true 0 walk parts plan counts room t c ends column filled room-bytes ok)
+
+  -- tables that hold the finished ones from the target's node on meet none of 9, 10 and 12
+  pub lends : (u : Ty) → typeOf formats schema target tn ≡ u → (column : Column u) → Filled lent (x .buffers) u walk column → (base : ℕ) (body : List ℕ) → Bodied body lent (left .room) base → length body ≤ ceiling
+      → (z : Tables) → tablesFrom z target ≡ finishedTables lent (x .buffers) (left .counts) (left .room) base body → columnGround formats schema z target tn ≡ 0
+  lends u e =
+      subst
+      (λ u. (column : Column u) → Filled lent (x .buffers) u walk column → (base : ℕ) (body : List ℕ) → Bodied body lent (left .room) base → length body ≤ ceiling
+      → (z : Tables) → tablesFrom z target ≡ finishedTables lent (x .buffers) (left .counts) (left .room) base body → columnGround formats schema z target tn ≡ 0)
+      e
+      (λ column filled base body bodied. anew-again formats schema x first n own target tn keep true 0 walk parts plan counts room t c ends column filled room-bytes ok base body bodied)

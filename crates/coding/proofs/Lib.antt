@@ -1,6 +1,7 @@
 -- Laws of `coding`.
 pub mod Accepted
 pub mod Asked
+pub mod Back
 pub mod Codes
 pub mod EncodeTheorems
 pub mod Encoded
@@ -9,6 +10,7 @@ pub mod Expanded
 pub mod Finished
 pub mod Fitted
 pub mod Grounds
+pub mod InOrder
 pub mod Node
 pub mod Room
 pub mod Rowed

@@ -7,5 +7,6 @@ pub mod One
 pub mod Fresh
 pub mod Listed
 pub mod Grounds
+pub mod Stretches
 pub mod Back
 pub mod Examples

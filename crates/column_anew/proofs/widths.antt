@@ -17,4 +17,6 @@ pub mod Narrow
 pub mod Back
 pub mod Wider
 pub mod OneCopy
+pub mod Layout
+pub mod Copied
 pub mod Examples

@@ -4,5 +4,6 @@ pub mod Converted
 pub mod Fitting
 pub mod Back
 pub mod OneCopy
+pub mod Layout
 pub mod Examples
 pub mod UnionExamples

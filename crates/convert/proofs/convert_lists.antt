@@ -11,6 +11,7 @@ pub mod Column
 pub mod ListLent
 pub mod ListParts
 pub mod ToList
+pub mod ToListRows
 pub mod Viewing
 pub mod ViewLent
 pub mod Below

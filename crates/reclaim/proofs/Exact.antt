@@ -7,7 +7,7 @@ use Prim.Native.Nat.{ℕ, _≤_, _<_, _^_}
 use native.Mathlib.Omega.{arith}
 use lib.ListN.{length}
 use lib.Dec.{eqb}
-use borrow.Author.Tests.{eqb-true, eqb-false}
+use borrow.Author.Tests.{eqb-false}
 use Rattle.columnar.specs.Types.{Number, limit, Plain, fixed, string, Ty, tPlain, tView, tListView, tList, tSparse, tDense, tRunEnd, tDictionary}
 use Rattle.columnar.specs.Array.{Array}
 use Rattle.columnar.specs.Plain.{PlainBody}
@@ -32,12 +32,12 @@ use Rattle.column_anew.proofs.entries.Reclaim.{InUse, entries-are, keys-fit, va
 use Rattle.column_anew.proofs.entries.Twice.{twice}
 use Rattle.anew.specs.Anew.{orElse, roomGround}
 use Rattle.anew.specs.ResultPlan.{planAnew}
-use Rattle.anew.proofs.Laws.{or-zero, or-first, anew-ground}
+use Rattle.anew.proofs.Laws.{or-never, anew-order}
 use Rattle.anew.proofs.Comes.{source-good}
 use Rattle.anew.proofs.Planted.{planted, worded, root-is, stands}
 use Rattle.anew.proofs.Result.{lentFor}
 use Rattle.reclaim.specs.Reclaim.{reclaimOwn, reclaimPlan, reclaimOut, reclaiming}
-use Rattle.reclaim.proofs.Plans.{given, ahead-is, own-by}
+use Rattle.reclaim.proofs.Plans.{given, own-by}
 use Rattle.reclaim.proofs.Theorems.{never-refused, reclaim-result}
 
 -- a type that is a dictionary's
@@ -54,23 +54,6 @@ keyed-type plan (tSparse ids nullable g) w d f = absurd (omega (arith, w .1, f .
 keyed-type plan (tDense ids nullable g) w d f = absurd (omega (arith, w .1, f .1))
 keyed-type plan (tRunEnd v t) w d f = absurd (omega (arith, w .2, f .1))
 keyed-type plan (tDictionary k p) w d f = of-keys k p refl
-
--- a third ground that does not stand where the first two don't
-or-else : (c o a r : ℕ) → (c ≡ 0 → o ≡ 0 → a ≡ 0) → orElse (orElse c (orElse o a)) r ≡ orElse c (orElse o r)
-or-else c o a r h = go (eqb c 0) refl (eqb o 0) refl
-  where
-    go : (s : Bool) → eqb c 0 ≡ s → (t : Bool) → eqb o 0 ≡ t → orElse (orElse c (orElse o a)) r ≡ orElse c (orElse o r)
-    go true e true f =
-        let p = eqb-true c 0 e in
-        let q = eqb-true o 0 f in
-        ap (λ z. orElse z r) (or-zero c (orElse o a) p ∙ or-zero o a q ∙ h p q) ∙ sym (or-zero c (orElse o r) p ∙ or-zero o r q)
-    go true e false f =
-        let p = eqb-true c 0 e in
-        let q = eqb-false o 0 f in
-        ap (λ z. orElse z r) (or-zero c (orElse o a) p ∙ or-first o a q) ∙ or-first o r q ∙ sym (or-zero c (orElse o r) p ∙ or-first o r q)
-    go false e t f =
-        let p = eqb-false c 0 e in
-        ap (λ z. orElse z r) (or-first c (orElse o a) p) ∙ or-first c r p ∙ sym (or-first c (orElse o r) p)
 
 module _ (formats schema : List ℕ) (x : Tables) (first n : ℕ) (low : first < 2 ^ 32) where
   module _ (good : columnGround formats schema x first n ≡ 0) where
@@ -132,9 +115,8 @@ module _ (formats schema : List ℕ) (x : Tables) (first n : ℕ) (low : first <
 
     pub grounds : smallBody room ≡ true → reclaiming formats schema x first n parts plan counts room .ground ≡ orElse (columnGround formats schema x first n) (orElse (reclaimOwn schema first) of-room)
     grounds s =
-        anew-ground formats schema x first n (reclaimOwn schema first) (reclaimPlan formats schema x first n) (reclaimOut formats schema x first n) parts plan counts room s
-        ∙ ap (λ z. orElse z of-room) (ahead-is formats schema x first n (reclaimOwn schema first) (reclaimPlan formats schema x first n) (reclaimOut formats schema x first n))
-        ∙ or-else (columnGround formats schema x first n) (reclaimOwn schema first) (reclaimOut formats schema x first n .ans) of-room (λ good own. by-type good (own-dictionary good own))
+        anew-order formats schema x first n (reclaimOwn schema first) (reclaimPlan formats schema x first n) (reclaimOut formats schema x first n) parts plan counts room s
+        ∙ or-never (columnGround formats schema x first n) (reclaimOwn schema first) (reclaimOut formats schema x first n .ans) of-room (λ good own. by-type good (own-dictionary good own))
       where
         by-type : columnGround formats schema x first n ≡ 0 → IsDictionary (typeOf formats schema first n) → reclaimOut formats schema x first n .ans ≡ 0
         by-type good (of-keys k p e) = never-refused formats schema x first n low good k p e bytes

@@ -9,3 +9,4 @@ pub mod Uses
 pub mod Plans
 pub mod Theorems
 pub mod Exact
+pub mod Again

@@ -208,11 +208,6 @@ pub ahead-none : (formats schema : List ℕ) (x : Tables) (first n : ℕ) {own :
 unfolding ahead
 ahead-none formats schema x first n {own} made walk c o w = or-zero (columnGround formats schema x first n) _ c ∙ or-zero own (walk .ans) o ∙ w
 
-pub ahead-is : (formats schema : List ℕ) (x : Tables) (first n own : ℕ) (made : List ℕ) (walk : Out)
-    → ahead formats schema x first n own made walk ≡ orElse (columnGround formats schema x first n) (orElse own (walk .ans))
-unfolding ahead
-ahead-is formats schema x first n own made walk = refl
-
 pub own-by : (schema : List ℕ) (first : ℕ) (b : Bool) → eqb (dictionary schema first 0) 0 ≡ b → reclaimOwn schema first ≡ cond b 10 0
 unfolding reclaimOwn
 own-by schema first b e = ap (λ z. cond z 10 0) e

@@ -1,7 +1,7 @@
 -- What the functions of the converter come to, and the theorems on it.
 pub mod Called
 pub mod Theorems
-pub mod Sizes
 pub mod Again
+pub mod Laid
 pub mod Numbers
 pub mod Back

@@ -75,7 +75,7 @@ module _ (formats schema : List ℕ) (x : Tables) (first n target : ℕ) (parts 
   abbrev here : Column from
   here = columnOf (treeOf formats schema first n) (tablesFrom x first) from 0
 
-  abbrev turned : Column to
+  abbrev pub turned : Column to
   turned = columnAs from to (widths formats schema x first n target parts ok h bytes) here 0 (here .len)
 
   abbrev answer : Opening
@@ -84,10 +84,10 @@ module _ (formats schema : List ℕ) (x : Tables) (first n target : ℕ) (parts 
   abbrev made : List ℕ
   made = planned formats schema x first n target n
 
-  abbrev keep : ℕ → Bool
+  abbrev pub keep : ℕ → Bool
   keep = keeping formats schema x first n target n
 
-  differs : Target formats schema first n target n
+  pub differs : Target formats schema first n target n
   differs = target-is formats schema first n target n h
 
   small-plan : n ≤ 32
@@ -113,10 +113,10 @@ module _ (formats schema : List ℕ) (x : Tables) (first n target : ℕ) (parts 
   validity-part i l = anew-parts formats schema target n keep true 0 small-plan i l ∙ ap (λ b. b && keep i && ltb (codeOf made i) 21) (in-parts i l)
 
   module _ (room-bytes : AllBelow 256 room) (accepted : answer .ground ≡ 0) where
-    ends : (i : ℕ) → suc i < n → codeOf made i ≡ 23 → keep (suc i) ≡ false
+    pub ends : (i : ℕ) → suc i < n → codeOf made i ≡ 23 → keep (suc i) ≡ false
     ends = no-ends formats schema x first n target parts (typed-here formats schema x first n ok) (low-here formats schema x first n ok) h
 
-    walk-done : walked formats schema x first n target n .ans ≡ 0
+    pub walk-done : walked formats schema x first n target n .ans ≡ 0
     walk-done = anew-accepted formats schema x first n (targetGround formats schema x first n target n) made (walked formats schema x first n target n) parts plan counts room accepted .walk-done
 
     -- AN ACCEPTED CALL CHANGES ONLY BYTES OF THE PARTS, up to what each needs

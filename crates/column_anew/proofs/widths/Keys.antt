@@ -73,7 +73,7 @@ module _ (k k′ : Number) (okay : ℕ → Bool) (keys : List ℕ) (s n entries 
       go true f = omega (arith, f tt, fit, limit-fits k′)
       go false f = one-le-pow (width k′) 256 (omega arith)
 
-  key-is : (i : ℕ) → i < n → item (width k′) newKeys i ≡ keyOf (s + i)
+  pub key-is : (i : ℕ) → i < n → item (width k′) newKeys i ≡ keyOf (s + i)
   key-is i q = entry-lt (width k′) keyOf s n i q (key-small i q)
 
   -- A VALID KEY IS THE SAME NUMBER

@@ -12,7 +12,7 @@ use Rattle.column_anew.specs.widths.Converted.{bodyAs, columnAs}
 use Rattle.column_anew.specs.widths.Fitting.{AllFit, numbersOf, numbersIn}
 use Rattle.column_anew.proofs.widths.Cut.{cut}
 
-same-masks : (t t′ : Ty) → Widths t t′ → masks t ≡ masks t′
+pub same-masks : (t t′ : Ty) → Widths t t′ → masks t ≡ masks t′
 same-masks t t′ (sPlain p p′ d) = refl
 same-masks t t′ sView = refl
 same-masks t t′ (sListView w w′ u u′ d) = refl

@@ -51,7 +51,7 @@ all-ones f a zero h = refl
 all-ones f a (suc n) h =
     rw (rw add-zero at (h 0 (omega arith)), all-ones f (suc a) n (λ i q. let z : suc a + i ≡ a + suc i = omega arith in rw z (h (suc i) (omega arith))))
 
-valid-same : {B : Type 0} (masks : Bool) (x : Array B) (a n : ℕ) → a + n ≤ x .len
+pub valid-same : {B : Type 0} (masks : Bool) (x : Array B) (a n : ℕ) → a + n ≤ x .len
     → validity masks (grow masks (seg (ok (x .valid)) (x .off + a) n) (cond (ltb 0 (nullCount x)) (some []) none)) ≡ validity masks (some (seg (ok (x .valid)) (x .off + a) n))
 valid-same masks x a n q = go masks (ltb 0 (nullCount x)) refl
   where
@@ -73,7 +73,7 @@ valid-same masks x a n q = go masks (ltb 0 (nullCount x)) refl
 
 -- ---- offsets
 
-half-pos : {w : ℕ} → OffsetWidth w → 0 < half w
+pub half-pos : {w : ℕ} → OffsetWidth w → 0 < half w
 half-pos four = omega arith
 half-pos eight = omega arith
 
@@ -81,11 +81,11 @@ guard-is : {A : Type 0} (b : Bool) (g : ℕ) (x y : A) → guard b g (done x) �
 guard-is true g x y e = done-is e
 guard-is false g x y e = absurd (let z : _≡_ {A = ℕ} 0 1 = cc in omega arith)
 
-guard-done : {A : Type 0} (b : Bool) (g : ℕ) (t : Try A) (x : A) → guard b g t ≡ done x → t ≡ done x
+pub guard-done : {A : Type 0} (b : Bool) (g : ℕ) (t : Try A) (x : A) → guard b g t ≡ done x → t ≡ done x
 guard-done true g t x e = e
 guard-done false g t x e = absurd (let z : _≡_ {A = ℕ} 0 1 = cc in omega arith)
 
-offsets-once : (w : ℕ) (os : List ℕ) (most s n : ℕ) → OffsetWidth w → OffsetsRule w os most s n → (new : List ℕ) → newOffsets w os s n (item w (encode w 0) 0) ≡ done new
+pub offsets-once : (w : ℕ) (os : List ℕ) (most s n : ℕ) → OffsetWidth w → OffsetsRule w os most s n → (new : List ℕ) → newOffsets w os s n (item w (encode w 0) 0) ≡ done new
     → encode w 0 ++ new ≡ encodes w (offsetsOf w os s n)
 offsets-once w os most s n g h new e =
     let o : ℕ → ℕ = item w os in
@@ -113,7 +113,7 @@ bytes-take (suc n) [] h i = omega arith
 bytes-take (suc n) (x ∷ l) h zero = h 0
 bytes-take (suc n) (x ∷ l) h (suc i) = bytes-take n l (λ j. h (suc j)) i
 
-views-once : (v : List ℕ) (n s : ℕ) → (s + n) * 16 ≤ length v → ((i : ℕ) → getD v i 0 < 256) → newViews 0 v s n ≡ take (n * 16) (drop (s * 16) v)
+pub views-once : (v : List ℕ) (n s : ℕ) → (s + n) * 16 ≤ length v → ((i : ℕ) → getD v i 0 < 256) → newViews 0 v s n ≡ take (n * 16) (drop (s * 16) v)
 views-once v zero s q h = refl
 views-once v (suc n) s q h =
     let z : suc n * 16 ≡ 16 + n * 16 = omega arith in
@@ -125,11 +125,11 @@ views-once v (suc n) s q h =
 
 -- ---- children in order
 
-record Each {D : ℕ → Type 0} {A : Type 0} (f : (c : ℕ) → Try (Mutable (D c))) (ids : List ℕ) (x y : A) : Type 0 where
-  same-answer : x ≡ y
-  done-with : (c : ℕ) → List·Memᴰ c ids → (z : Mutable (D c)) × (f c ≡ done z)
+pub record Each {D : ℕ → Type 0} {A : Type 0} (f : (c : ℕ) → Try (Mutable (D c))) (ids : List ℕ) (x y : A) : Type 0 where
+  pub same-answer : x ≡ y
+  pub done-with : (c : ℕ) → List·Memᴰ c ids → (z : Mutable (D c)) × (f c ≡ done z)
 
-each : {D : ℕ → Type 0} {A : Type 0} (f : (c : ℕ) → Try (Mutable (D c))) (ids : List ℕ) (x y : A) → inOrder f ids x ≡ done y → Each f ids x y
+pub each : {D : ℕ → Type 0} {A : Type 0} (f : (c : ℕ) → Try (Mutable (D c))) (ids : List ℕ) (x y : A) → inOrder f ids x ≡ done y → Each f ids x y
 each f [] x y e = record { same-answer = done-is e; done-with = λ c m. absurd (List·Memᴰ·not-nil m) }
 each {D} f (c ∷ cs) x y e =
     let r = then-done (f c) (λ z. inOrder f cs x) y e in
@@ -142,7 +142,7 @@ each {D} f (c ∷ cs) x y e =
 
 -- ---- run ends
 
-clipped-once : (w : ℕ) (e : ℕ → ℕ) (a b n k : ℕ) → clipped w e a b 0 k n ≡ encodes w (seg (λ j. min (e j) b - a) k n)
+pub clipped-once : (w : ℕ) (e : ℕ → ℕ) (a b n k : ℕ) → clipped w e a b 0 k n ≡ encodes w (seg (λ j. min (e j) b - a) k n)
 clipped-once w e a b zero k = refl
 clipped-once w e a b (suc n) k = ap₂ (λ x y. encode w x ++ y) (zero-add _) (clipped-once w e a b n (suc k))
 
@@ -167,7 +167,7 @@ node-once t st f x s v a n q e h =
 
 -- ---- every type
 
-plain-once : (p : Plain) → FormedPlain p → (okay : ℕ → Bool) (b : PlainBody p) (s n : ℕ) → PlainRule p okay b s n → (e : PlainBody p) → plainExtend p b s n 0 (plainStart p) ≡ done e
+pub plain-once : (p : Plain) → FormedPlain p → (okay : ℕ → Bool) (b : PlainBody p) (s n : ℕ) → PlainRule p okay b s n → (e : PlainBody p) → plainExtend p b s n 0 (plainStart p) ≡ done e
     → e ≡ plainAs (samePlain p) okay b s n
 plain-once (fixed k) g okay b s n h e r = sym (done-is r)
 plain-once (string w) g okay b s n h e r =

@@ -6,38 +6,18 @@ use mathlib.Core.List.{List, []}
 use Prim.Native.Nat.{ℕ, zero, suc}
 use native.Mathlib.Omega.{arith}
 use lib.ListN.{length, replicate}
-use lib.Dec.{eqb}
-use borrow.Author.Tests.{eqb-true, eqb-false}
 use Rattle.schema.specs.Tree.{whole, typed}
 use Rattle.array_data.specs.Tables.{Tables}
 use Rattle.walk.specs.Log.{Out}
 use Rattle.refinement.specs.plan_is_type.Planted.{joinOf}
 use Rattle.columns.specs.Grounds.{smallBody, columnGround}
-use Rattle.anew.specs.Anew.{orElse, ahead, roomGround, anew}
-use Rattle.anew.proofs.Laws.{or-zero, or-first, anew-ground}
+use Rattle.anew.specs.Anew.{orElse, roomGround, anew}
+use Rattle.anew.proofs.Laws.{or-zero, or-first, or-never, anew-order}
 use Rattle.convert.specs.convert_lists.Turned.{toList, toView}
 use Rattle.convert.specs.convert_lists.Viewing.{viewWalk}
 use Rattle.convert.specs.convert_lists.ToList.{listOwn, listPlan, listFilled, makeList}
 use Rattle.convert.specs.convert_lists.ToView.{viewOwn, viewPlan, viewFilled, makeView}
 use Rattle.convert.proofs.convert_lists.ViewLent.{ViewDue, view-due, made-bytes, view-done}
-
--- ---- the first that stands
-
-or-or : (g h k : ℕ) → orElse (orElse g h) k ≡ orElse g (orElse h k)
-or-or g h k = go (eqb g 0) refl
-  where
-    go : (b : Bool) → eqb g 0 ≡ b → orElse (orElse g h) k ≡ orElse g (orElse h k)
-    go true e = let z = eqb-true g 0 e in ap (λ a. orElse a k) (or-zero g h z) ∙ sym (or-zero g (orElse h k) z)
-    go false e = let z = eqb-false g 0 e in ap (λ a. orElse a k) (or-first g h z) ∙ or-first g k z ∙ sym (or-first g (orElse h k) z)
-
--- what stands only where an earlier one does is none of its own
-or-never : (c o a r : ℕ) → (c ≡ 0 → o ≡ 0 → a ≡ 0) → orElse c (orElse o (orElse a r)) ≡ orElse c (orElse o r)
-or-never c o a r h = go (eqb c 0) refl (eqb o 0) refl
-  where
-    go : (s : Bool) → eqb c 0 ≡ s → (t : Bool) → eqb o 0 ≡ t → orElse c (orElse o (orElse a r)) ≡ orElse c (orElse o r)
-    go true e true f = ap (λ z. orElse c (orElse o z)) (or-zero a r (h (eqb-true c 0 e) (eqb-true o 0 f)))
-    go true e false f = let z = eqb-false o 0 f in ap (orElse c) (or-first o (orElse a r) z ∙ sym (or-first o r z))
-    go false e t f = let z = eqb-false c 0 e in or-first c (orElse o (orElse a r)) z ∙ sym (or-first c (orElse o r) z)
 
 own-none : (t : Bool) → _≡_ {A = ℕ} (cond t 0 10) 0 → t ≡ true
 own-none true e = refl
@@ -55,10 +35,7 @@ module _ (formats schema : List ℕ) (x : Tables) (first n target tn : ℕ) (par
   -- any call of this form, whatever its own ground, plan and walk
   in-order : (own : ℕ) (made : List ℕ) (walk : Out) → smallBody room ≡ true
       → anew formats schema x first n own made walk parts plan counts room .ground ≡ orElse ofColumn (orElse own (orElse (walk .ans) (roomGround made (walk .counts) parts (length plan) (length counts) (length room))))
-  unfolding ahead
-  in-order own made walk small =
-      let r = roomGround made (walk .counts) parts (length plan) (length counts) (length room) in
-      anew-ground formats schema x first n own made walk parts plan counts room small ∙ or-or ofColumn (orElse own (walk .ans)) r ∙ ap (orElse ofColumn) (or-or own (walk .ans) r)
+  in-order own made walk = anew-order formats schema x first n own made walk parts plan counts room
 
   -- ---- list-view to list
 

@@ -12,7 +12,7 @@ use Rattle.columnar.specs.Types.{Ty, tListView, tList}
 use Rattle.columnar.specs.Reading.{Column, readAll}
 use Rattle.model.specs.Try.{Try, done, stop}
 use Rattle.array_data.specs.Tables.{Tables}
-use Rattle.array_data.specs.Typed.{Tree, columnOf, sourceRule}
+use Rattle.array_data.specs.Typed.{Tree, columnOf, tablesFrom, sourceRule}
 use Rattle.array_data.specs.type_tree.Lent.{treeOf, typeOf}
 use Rattle.array_data.specs.lent_tables.Lent.{tables}
 use Rattle.refinement.specs.log_in_room.Room.{AllBelow}
@@ -28,7 +28,7 @@ use Rattle.column_anew.specs.lists.Listed.{listed, groundOf}
 use Rattle.column_anew.proofs.lists.Listed.{listed-rows}
 use Rattle.column_anew.proofs.lists.Grounds.{listed-with}
 use Rattle.anew.proofs.Laws.{anew-accepted}
-use Rattle.anew.proofs.Result.{Filled, anew-writes, anew-finishes, anew-result}
+use Rattle.anew.proofs.Result.{Filled, anew-writes, anew-finishes, anew-result, anew-again}
 use Rattle.convert.specs.convert_lists.Turned.{allNodes}
 use Rattle.convert.specs.convert_lists.ToList.{lentWith, listOwn, listPlan, listFilled, makeList}
 use Rattle.convert.proofs.convert_lists.Listing.{ListView}
@@ -50,7 +50,7 @@ module _ (formats schema : List ℕ) (x : Tables) (first m target : ℕ) (ok : c
   abbrev pub v : Column (tListView w t)
   v = column formats schema x first m target ok due
 
-  lent-ok : (parts : List ℕ) → ListView (lentWith x (listPlan formats schema x first n target n) parts first n) w t v
+  pub lent-ok : (parts : List ℕ) → ListView (lentWith x (listPlan formats schema x first n target n) parts first n) w t v
   lent-ok = list-view formats schema x first m target ok due
 
   -- THE GROUND of an accepted column with the target that is due: 6 or 7, as the definition meets it
@@ -168,3 +168,12 @@ module _ (formats schema : List ℕ) (x : Tables) (first m target : ℕ) (ok : c
       -- IT CAN BE LENT AGAIN
       pub to-list-again : T (sourceRule tree tablesAfter)
       to-list-again = result .3
+
+      -- .. with the same schema, in tables that hold it from the target's node on: NONE OF 9, 10 AND 12 STANDS
+      pub to-list-lent : length body ≤ ceiling → (z : Tables) → tablesFrom z target ≡ tablesAfter → columnGround formats schema z target n ≡ 0
+      to-list-lent short z again =
+          subst (λ u. (y : Column u) → Filled lent (x .buffers) u (listFilled formats schema x first n target n) y → columnGround formats schema z target n ≡ 0) (type-is formats schema x first m target ok due)
+          (λ y f.
+          anew-again formats schema x first n (listOwn formats schema x first n target n) target n (keepsFrom (tables (x .lengths) (x .places) (x .body)) first allNodes) false 0
+          (listFilled formats schema x first n target n) parts plan counts room (due .is-typed) (due .low) (no-ends formats schema x first m target ok due) y f room-bytes passed base body bodied short z again)
+          list filled
