@@ -6,7 +6,7 @@ use Prim.Native.Nat.{ℕ, _+_, _*_, _≤_, _<_, _^_}
 use native.Mathlib.Omega.{arith}
 use lib.Dec.{ltb}
 use borrow.Author.Tests.{ltb-true}
-use Rattle.schema.specs.Tree.{every, ceilings, typed}
+use Rattle.schema.specs.Tree.{every, ceilings, typed, sameType}
 use Rattle.schema.proofs.Known.{every-at, within-nodes}
 use Rattle.array_data.specs.Tables.{Tables, lengthOf, offsetOf}
 use Rattle.array_data.proofs.type_tree.Ids.{both}
@@ -15,7 +15,7 @@ use Rattle.source_rules.specs.kinds.Rows.{tablesOf}
 use Rattle.source_rules.specs.Source.{Ready}
 use Rattle.columns.specs.Grounds.{countFits, fewBuffers, nodeFits, smallBody, withinCeilings, obeys, columnGround, fewSources, allTyped, allSame, allWithin, allObey, sourcesGround}
 use Rattle.array_data.specs.Sources.{sourceCount, firstOf, nodesOf}
-use Rattle.columns.proofs.Grounds.{within-low, within-at, typed-at}
+use Rattle.columns.proofs.Grounds.{Placed, SourceAt, within-low, within-at, typed-at, same-at, by-nodes, sources-source}
 
 -- ---- ground 9 is not about the body
 
@@ -102,9 +102,24 @@ module _ (formats schema : List ℕ) (x : Tables) (sources : List ℕ) where
           not-all-same e = rw (b, f, w, t, e)
 
           pub not-all-obey : allSame formats schema sources ≡ true → allObey formats schema x sources ≡ false → 12 ≡ sourcesGround formats schema x sources
-          unfolding sourcesGround
-          not-all-obey e o = rw (b, f, w, t, e, o)
+          not-all-obey e o = sym (by-nodes formats schema x sources ∙ rw (b, f, w, t, e, o) refl)
 
           pub all-good : allSame formats schema sources ≡ true → allObey formats schema x sources ≡ true → 0 ≡ sourcesGround formats schema x sources
-          unfolding sourcesGround
-          all-good e o = rw (b, f, w, t, e, o)
+          all-good e o = sym (by-nodes formats schema x sources ∙ rw (b, f, w, t, e, o) refl)
+
+  -- WHERE 9, 10 AND 11 DO NOT STAND, neither does 12 of sources of one type whose buffers lie in the body
+  pub sources-rules : (sourcesGround formats schema x sources ≡ 9 → ⊥) → (sourcesGround formats schema x sources ≡ 10 → ⊥) → (sourcesGround formats schema x sources ≡ 11 → ⊥)
+      → ((s : ℕ) → s < sourceCount sources → Placed formats schema x (firstOf sources s) (nodesOf sources s))
+      → ((s : ℕ) → s < sourceCount sources → sameType formats schema (firstOf sources 0) (nodesOf sources 0) (firstOf sources s) (nodesOf sources s) ≡ true → SourceAt formats schema x sources s)
+      → sourcesGround formats schema x sources ≡ 0
+  sources-rules no-9 no-10 no-11 lies all =
+      go (smallBody (x .body)) refl (fewSources sources) refl (allWithin formats schema x sources) refl (allTyped formats schema sources) refl (allSame formats schema sources) refl
+    where
+      go : (a : Bool) → smallBody (x .body) ≡ a → (b : Bool) → fewSources sources ≡ b → (c : Bool) → allWithin formats schema x sources ≡ c → (d : Bool) → allTyped formats schema sources ≡ d
+          → (e : Bool) → allSame formats schema sources ≡ e → sourcesGround formats schema x sources ≡ 0
+      go true p true q true r true t true u = sources-source formats schema x sources p q r t u lies (λ s l. all s l (same-at formats schema x sources u s l))
+      go true p true q true r true t false u = absurd (no-11 (sym (not-all-same p q r t u)))
+      go true p true q true r false t e u = absurd (no-10 (sym (not-all-typed p q r t)))
+      go true p true q false r d t e u = absurd (no-9 (sym (not-all-within p q r)))
+      go true p false q c r d t e u = absurd (no-9 (sym (not-few p q)))
+      go false p b q c r d t e u = absurd (no-9 (sym (none-small p)))

@@ -1,6 +1,6 @@
 -- BODIES UP TO FOUR GIGABYTES are answered as they were before positions had 64 bits: the grounds differ from those only in the ceiling of a
 -- body. Assumes nothing.
-use mathlib.Core.Path.{_≡_}
+use mathlib.Core.Path.{_≡_, refl, _∙_}
 use mathlib.Core.Bool.{cond, _&&_}
 use mathlib.Core.List.{List}
 use Prim.Native.Nat.{ℕ, _≤_}
@@ -11,6 +11,7 @@ use borrow.Author.Tests.{le-leb}
 use Rattle.schema.specs.Tree.{typed}
 use Rattle.array_data.specs.Tables.{Tables}
 use Rattle.columns.specs.Grounds.{ceiling, smallBody, withinCeilings, obeys, columnGround, fewSources, allWithin, allTyped, allSame, allObey, sourcesGround}
+use Rattle.columns.proofs.Grounds.{by-nodes}
 
 -- the most bytes that a body had
 abbrev pub before : ℕ
@@ -34,5 +35,5 @@ module _ (formats schema : List ℕ) (x : Tables) where
     column-before first n = rw (le-leb (length (x .body)) before low, le-leb (length (x .body)) ceiling (omega arith))
 
     pub sources-before : (sources : List ℕ) → sourcesGround formats schema x sources ≡ sourcesUnder before sources
-    unfolding sourcesGround smallBody
-    sources-before sources = rw (le-leb (length (x .body)) before low, le-leb (length (x .body)) ceiling (omega arith))
+    unfolding smallBody
+    sources-before sources = by-nodes formats schema x sources ∙ rw (le-leb (length (x .body)) before low, le-leb (length (x .body)) ceiling (omega arith)) refl

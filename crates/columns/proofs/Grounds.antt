@@ -1,23 +1,26 @@
 -- What the grounds mean: an accepted column is a source of its type, accepted sources are sources of source 0's type, and the other way
 -- around where the buffers lie in the body. Assumes nothing.
-use mathlib.Core.Path.{_≡_, refl, sym, ap, subst, _∙_}
+use mathlib.Core.Path.{_≡_, refl, sym, ap, ap₂, subst, _∙_}
 use mathlib.Core.Bool.{Bool, true, false, cond, _&&_}
 use mathlib.Core.List.{List}
-use Prim.Native.Nat.{ℕ, _≤_, _<_}
+use Prim.Native.Nat.{ℕ, zero, suc, _≤_, _<_}
 use native.Mathlib.Omega.{arith}
 use lib.Dec.{T, leb}
 use borrow.Author.Tests.{leb-true}
+use Rattle.columnar.specs.Types.{Ty}
 use Rattle.columnar.specs.Reading.{Source}
-use Rattle.columnar.proofs.Test.{test-agrees}
+use Rattle.columnar.specs.Test.{test}
+use Rattle.columnar.proofs.Test.{test-agrees, every-out}
 use Rattle.schema.specs.Tree.{every, ceilings, typed, sameType}
 use Rattle.schema.proofs.Laws.{every-all}
 use Rattle.schema.proofs.Known.{every-at}
-use Rattle.array_data.specs.Tables.{Tables}
-use Rattle.array_data.specs.Typed.{columnOf, placed, tablesFrom}
+use Rattle.array_data.specs.Tables.{Tables, held as tabled, validIn}
+use Rattle.array_data.specs.Rules.{oneIn, twoIn, buffersIn}
+use Rattle.array_data.specs.Typed.{NodeKind, fixedNode, stringNode, viewNode, listViewNode, listNode, sparseNode, denseNode, runEndNode, dictionaryNode, Tree, columnOf, kindRule, nodeRule, sourceRule, placedAs, placed, tablesFrom}
 use Rattle.array_data.specs.type_tree.Lent.{treeOf, typeOf}
 use Rattle.array_data.proofs.type_tree.Ids.{both}
 use Rattle.array_data.proofs.type_tree.Source.{lent-source, lent-obeys, same-source, same-obeys}
-use Rattle.columns.specs.Grounds.{smallBody, nodeFits, withinCeilings, obeys, columnGround, fewSources, allTyped, allSame, allWithin, allObey, sourcesGround}
+use Rattle.columns.specs.Grounds.{smallBody, nodeFits, withinCeilings, obeys, columnGround, lawful, fewSources, allTyped, allSame, allWithin, allLawful, allObey, sourcesGround}
 use Rattle.array_data.specs.Sources.{sourceCount, firstOf, nodesOf}
 use Rattle.columns.proofs.Laws.{of-source}
 
@@ -25,12 +28,63 @@ chosen : (b : Bool) (a g : ℕ) → 0 < g → cond b a g ≡ 0 → (b ≡ true) 
 chosen true a g l h = (refl, h)
 chosen false a g l h = absurd (omega arith)
 
+-- the first ground that stands
+abbrev in-order : Bool → Bool → Bool → Bool → ℕ
+in-order a b c d = cond a (cond b (cond c (cond d 0 12) 11) 10) 9
+
 holds : (b : Bool) → T b → b ≡ true
 holds true t = refl
 holds false t = absurd t
 
 held : {b : Bool} → b ≡ true → T b
 held e = subst T (sym e) tt
+
+-- ---- ground 12 node by node, and of a column
+
+first-part : (a b : Bool) → T (a && b) → T a
+first-part true b p = tt
+first-part false b p = p
+
+and-in : (a b : Bool) → T a → T b → T (a && b)
+and-in true b p q = q
+and-in false b p q = p
+
+every-same : (p q : ℕ → Bool) (n : ℕ) → ((j : ℕ) → j < n → p j ≡ q j) → every p n ≡ every q n
+unfolding every
+every-same p q zero h = refl
+every-same p q (suc n) h = ap₂ _&&_ (every-same p q n (λ j l. h j (omega arith))) (h n (omega arith))
+
+one-truth : (a b : Bool) → (T a → T b) → (T b → T a) → a ≡ b
+one-truth true b f g = sym (holds b (f tt))
+one-truth false true f g = absurd (g tt)
+one-truth false false f g = refl
+
+module _ (t : Tree) (x : Tables) where
+  -- a node that obeys its rule has its buffers in the body
+  kind-placed : (k : NodeKind) (i : ℕ) → T (kindRule t x k i) → T (placedAs t x k i)
+  kind-placed (fixedNode n) i = first-part (oneIn x i) _
+  kind-placed (stringNode w) i = first-part (twoIn x i) _
+  kind-placed viewNode i = first-part (oneIn x i && buffersIn x i) _
+  kind-placed (listViewNode w) i = first-part (twoIn x i) _
+  kind-placed (listNode w) i = first-part (oneIn x i) _
+  kind-placed (sparseNode ids) i = first-part (oneIn x i) _
+  kind-placed (denseNode ids) i = first-part (twoIn x i) _
+  kind-placed (runEndNode w) i = first-part (tabled x i && validIn x i) _
+  kind-placed (dictionaryNode n) i = first-part (oneIn x i) _
+
+  pub rule-placed : T (sourceRule t x) → (j : ℕ) → j < t .count → T (placed t x j)
+  rule-placed all j l = kind-placed (t .kind j) j (every-out (nodeRule t x) (t .count) all j l)
+
+  module _ (u : Ty) where
+    pub lawful-from : ((j : ℕ) → j < t .count → T (placed t x j)) → T (test u (columnOf t x u 0)) → T (lawful t x u)
+    unfolding lawful
+    lawful-from lies e = and-in (every (placed t x) (t .count)) (test u (columnOf t x u 0)) (held (every-all (placed t x) (t .count) (λ j l. holds _ (lies j l)))) e
+
+    pub lawful-to : T (lawful t x u) → ((j : ℕ) → j < t .count → T (placed t x j)) × T (test u (columnOf t x u 0))
+    unfolding lawful
+    lawful-to e =
+        let p = both (every (placed t x) (t .count)) (test u (columnOf t x u 0)) (holds _ e) in
+        ((λ j l. held (every-at (placed t x) (t .count) j (p .0) l)), held (p .1))
 
 module _ (formats schema : List ℕ) (x : Tables) where
   pub within-low : (first n : ℕ) → withinCeilings formats schema x first n ≡ true → ceilings formats schema first n ≡ true
@@ -91,17 +145,6 @@ module _ (formats schema : List ℕ) (x : Tables) where
       pub of-one-type : allSame formats schema sources ≡ true
       pub obey : allObey formats schema x sources ≡ true
 
-    pub accepted : sourcesGround formats schema x sources ≡ 0 → Accepted
-    unfolding sourcesGround
-    accepted h =
-        let p = chosen (smallBody (x .body) && fewSources sources && allWithin formats schema x sources) _ 9 (omega arith) h in
-        let q = chosen (allTyped formats schema sources) _ 10 (omega arith) (p .1) in
-        let r = chosen (allSame formats schema sources) _ 11 (omega arith) (q .1) in
-        let o = chosen (allObey formats schema x sources) 0 12 (omega arith) (r .1) in
-        let b = both (smallBody (x .body) && fewSources sources) (allWithin formats schema x sources) (p .0) in
-        let d = both (smallBody (x .body)) (fewSources sources) (b .0) in
-        record { small = d .0; few = d .1; within = b .1; of-types = q .0; of-one-type = r .0; obey = o .0 }
-
     pub some-source : fewSources sources ≡ true → 0 < sourceCount sources
     unfolding fewSources
     some-source h = leb-true 1 (sourceCount sources) (both (leb 1 (sourceCount sources)) (leb (sourceCount sources) 16) h .0)
@@ -117,6 +160,62 @@ module _ (formats schema : List ℕ) (x : Tables) where
     pub same-at : allSame formats schema sources ≡ true → (s : ℕ) → s < sourceCount sources → sameType formats schema (first 0) (nodes 0) (first s) (nodes s) ≡ true
     unfolding allSame
     same-at h s l = every-at (of-source (sameType formats schema (first 0) (nodes 0)) sources) (sourceCount sources) s h l
+
+    abbrev type : Ty
+    type = typeOf formats schema (first 0) (nodes 0)
+
+    -- the rules of all sources, node by node and of the columns
+    lawful-is : fewSources sources ≡ true → allWithin formats schema x sources ≡ true → allTyped formats schema sources ≡ true → allSame formats schema sources ≡ true
+        → allLawful formats schema x sources ≡ allObey formats schema x sources
+    unfolding allLawful allObey
+    lawful-is f w t e = every-same _ (of-source (obeys formats schema x) sources) (sourceCount sources) at
+      where
+        low : ceilings formats schema (first 0) (nodes 0) ≡ true
+        low = within-low (first 0) (nodes 0) (within-at w 0 (some-source f))
+
+        at : (s : ℕ) → s < sourceCount sources → lawful (treeOf formats schema (first s) (nodes s)) (tablesFrom x (first s)) type ≡ obeys formats schema x (first s) (nodes s)
+        at s l =
+            let tree = treeOf formats schema (first s) (nodes s) in
+            let y = tablesFrom x (first s) in
+            one-truth (lawful tree y type) (sourceRule tree y)
+            (λ h.
+            let p = lawful-to tree y type h in
+            same-obeys formats schema (first 0) (nodes 0) y (typed-at t 0 (some-source f)) low (first s) (nodes s) (same-at e s l) (p .0) (p .1))
+            (λ h.
+            lawful-from tree y type (rule-placed tree y h)
+            (test-agrees type (columnOf tree y type 0) .complete (same-source formats schema (first 0) (nodes 0) y (typed-at t 0 (some-source f)) low (first s) (nodes s) (same-at e s l) h)))
+            ∙ sym (obeys-is (first s) (nodes s))
+
+    -- THE GROUND OF ALL SOURCES, node by node
+    abbrev pub nodesGround : ℕ
+    nodesGround =
+        cond (smallBody (x .body) && fewSources sources && allWithin formats schema x sources)
+        (cond (allTyped formats schema sources) (cond (allSame formats schema sources) (cond (allObey formats schema x sources) 0 12) 11) 10)
+        9
+
+    pub by-nodes : sourcesGround formats schema x sources ≡ nodesGround
+    unfolding sourcesGround
+    by-nodes = go (smallBody (x .body) && fewSources sources && allWithin formats schema x sources) refl (allTyped formats schema sources) refl (allSame formats schema sources) refl
+      where
+        go : (a : Bool) → smallBody (x .body) && fewSources sources && allWithin formats schema x sources ≡ a → (b : Bool) → allTyped formats schema sources ≡ b → (c : Bool) → allSame formats schema sources ≡ c
+            → in-order a b c (allLawful formats schema x sources) ≡ in-order a b c (allObey formats schema x sources)
+        go true e true f true g =
+            let p = both (smallBody (x .body) && fewSources sources) (allWithin formats schema x sources) e in
+            ap (in-order true true true) (lawful-is (both (smallBody (x .body)) (fewSources sources) (p .0) .1) (p .1) f g)
+        go true e true f false g = refl
+        go true e false f c g = refl
+        go false e b f c g = refl
+
+    pub accepted : sourcesGround formats schema x sources ≡ 0 → Accepted
+    accepted ground =
+        let h = sym by-nodes ∙ ground in
+        let p = chosen (smallBody (x .body) && fewSources sources && allWithin formats schema x sources) _ 9 (omega arith) h in
+        let q = chosen (allTyped formats schema sources) _ 10 (omega arith) (p .1) in
+        let r = chosen (allSame formats schema sources) _ 11 (omega arith) (q .1) in
+        let o = chosen (allObey formats schema x sources) 0 12 (omega arith) (r .1) in
+        let b = both (smallBody (x .body) && fewSources sources) (allWithin formats schema x sources) (p .0) in
+        let d = both (smallBody (x .body)) (fewSources sources) (b .0) in
+        record { small = d .0; few = d .1; within = b .1; of-types = q .0; of-one-type = r .0; obey = o .0 }
 
     pub obeys-at : allObey formats schema x sources ≡ true → (s : ℕ) → s < sourceCount sources → obeys formats schema x (first s) (nodes s) ≡ true
     unfolding allObey
@@ -135,7 +234,7 @@ module _ (formats schema : List ℕ) (x : Tables) where
         → allSame formats schema sources ≡ true
         → ((s : ℕ) → s < sourceCount sources → Placed (first s) (nodes s)) → ((s : ℕ) → s < sourceCount sources → SourceAt s)
         → sourcesGround formats schema x sources ≡ 0
-    unfolding sourcesGround allObey
+    unfolding allObey
     sources-source b f w t e lies all =
         let z = some-source f in
         let each : (s : ℕ) → s < sourceCount sources → obeys formats schema x (first s) (nodes s) ≡ true =
@@ -144,4 +243,4 @@ module _ (formats schema : List ℕ) (x : Tables) where
         ∙ holds _
         (same-obeys formats schema (first 0) (nodes 0) (tablesFrom x (first s)) (typed-at t 0 z) (within-low (first 0) (nodes 0) (within-at w 0 z)) (first s) (nodes s) (same-at e s l) (lies s l)
         (test-agrees (typeOf formats schema (first 0) (nodes 0)) (columnOf (treeOf formats schema (first s) (nodes s)) (tablesFrom x (first s)) (typeOf formats schema (first 0) (nodes 0)) 0) .complete (all s l))) in
-        rw (b, f, w, t, e, every-all (of-source (obeys formats schema x) sources) (sourceCount sources) each)
+        by-nodes ∙ rw (b, f, w, t, e, every-all (of-source (obeys formats schema x) sources) (sourceCount sources) each) refl

@@ -17,6 +17,7 @@ use Rattle.array_data.proofs.type_tree.Ids.{both}
 use Rattle.source_rules.proofs.Node.{by-shape, union-each}
 use Rattle.columns.specs.Grounds.{smallBody, withinCeilings, obeys, columnGround, fewSources, allTyped, allSame, allWithin, allObey, sourcesGround}
 use Rattle.array_data.specs.Sources.{sourceCount, firstOf, nodesOf}
+use Rattle.columns.proofs.Grounds.{by-nodes}
 
 same-self : (l : List ℕ) → same l l ≡ true
 same-self [] = refl
@@ -85,10 +86,11 @@ skip false s a h = refl
 -- ONE SOURCE ALONE meets the grounds of its column
 pub one-source : (formats schema : List ℕ) (x : Tables) (sources : List ℕ) → sourceCount sources ≡ 1
     → sourcesGround formats schema x sources ≡ columnGround formats schema x (firstOf sources 0) (nodesOf sources 0)
-unfolding sourcesGround columnGround fewSources allTyped allSame allWithin allObey every
+unfolding columnGround fewSources allTyped allSame allWithin allObey every
 one-source formats schema x sources e =
     let first = firstOf sources 0 in
     let nodes = nodesOf sources 0 in
-    rw (e, and-true (smallBody (x .body)))
+    by-nodes formats schema x sources
+    ∙ rw (e, and-true (smallBody (x .body)))
     (ap (λ k. cond (smallBody (x .body) && withinCeilings formats schema x first nodes) k 9)
     (skip (typed formats schema first nodes) (sameType formats schema first nodes first nodes) (cond (obeys formats schema x first nodes) 0 12) (same-itself formats schema first nodes)))

@@ -4,12 +4,14 @@ use mathlib.Core.List.{List}
 use Prim.Native.Nat.{ℕ, _+_, _-_, _*_, _/_, _^_}
 use lib.ListN.{length, getD}
 use lib.Dec.{leb, ltb}
+use Rattle.columnar.specs.Types.{Ty}
+use Rattle.columnar.specs.Test.{test}
 use Rattle.schema.specs.formats.Code.{isView}
 use Rattle.schema.specs.Tree.{every, codeOf, ceilings, typed, sameType}
 use Rattle.array_data.specs.Tables.{Tables, lengthOf, offsetOf, place}
 use Rattle.array_data.specs.Sources.{sourceCount, firstOf, nodesOf}
-use Rattle.array_data.specs.Typed.{tablesFrom, sourceRule}
-use Rattle.array_data.specs.type_tree.Lent.{treeOf}
+use Rattle.array_data.specs.Typed.{Tree, columnOf, tablesFrom, sourceRule, placed}
+use Rattle.array_data.specs.type_tree.Lent.{treeOf, typeOf}
 
 -- "Length and offset are not negative, their sum at most 2^63−1": both are two's complement, so that a negative one is 2^63 or more
 unfoldable pub countFits : Tables → ℕ → Bool
@@ -34,7 +36,7 @@ module _ (formats schema : List ℕ) (x : Tables) where
   unfoldable pub withinCeilings : ℕ → ℕ → Bool
   withinCeilings first n = ceilings formats schema first n && every (nodeFits first) n
 
-  -- "a source breaks the rules above": ground 12 where not
+  -- "a source breaks the rules above", node by node: ground 12 where not
   unfoldable pub obeys : ℕ → ℕ → Bool
   obeys first n = sourceRule (treeOf formats schema first n) (tablesFrom x first)
 
@@ -43,6 +45,10 @@ module _ (formats schema : List ℕ) (x : Tables) where
   columnGround first n = cond (smallBody (x .body) && withinCeilings first n) (cond (typed formats schema first n) (cond (obeys first n) 0 12) 10) 9
 
 -- ---- the sources of a join
+
+-- "A source the opening takes", of type u: every buffer lies in the body, and the column that the tables describe passes the test of a source
+unfoldable pub lawful : Tree → Tables → Ty → Bool
+lawful t x u = every (placed t x) (t .count) && test u (columnOf t x u 0)
 
 -- "1 to 16 sources"
 unfoldable pub fewSources : List ℕ → Bool
@@ -62,7 +68,12 @@ module _ (formats schema : List ℕ) (x : Tables) (sources : List ℕ) where
   unfoldable pub allWithin : Bool
   allWithin = every (λ s. withinCeilings formats schema x (firstOf sources s) (nodesOf sources s)) (sourceCount sources)
 
-  -- ground 12 where not
+  -- "a source breaks the rules above": each is a source of source 0's type; ground 12 where not
+  unfoldable pub allLawful : Bool
+  allLawful =
+      every (λ s. lawful (treeOf formats schema (firstOf sources s) (nodesOf sources s)) (tablesFrom x (firstOf sources s)) (typeOf formats schema (firstOf sources 0) (nodesOf sources 0))) (sourceCount sources)
+
+  -- the same node by node, where 9, 10 and 11 do not stand (proofs/Grounds.antt)
   unfoldable pub allObey : Bool
   allObey = every (λ s. obeys formats schema x (firstOf sources s) (nodesOf sources s)) (sourceCount sources)
 
@@ -70,5 +81,5 @@ module _ (formats schema : List ℕ) (x : Tables) (sources : List ℕ) where
   unfoldable pub sourcesGround : ℕ
   sourcesGround =
       cond (smallBody (x .body) && fewSources sources && allWithin)
-      (cond (allTyped formats schema sources) (cond (allSame formats schema sources) (cond allObey 0 12) 11) 10)
+      (cond (allTyped formats schema sources) (cond (allSame formats schema sources) (cond allLawful 0 12) 11) 10)
       9

@@ -20,19 +20,22 @@ use Rattle.model.specs.Transform.{Destination}
 use Rattle.model.specs.Book.{Call, copy, nullsEntered}
 use Rattle.model.proofs.Book.{countedIf}
 use Rattle.array_data.specs.Tables.{lengthOf}
-use Rattle.array_data.specs.Typed.{sourceRule}
+use Rattle.array_data.specs.Sources.{firstOf, nodesOf}
+use Rattle.array_data.proofs.type_tree.Source.{lent-source}
+use Rattle.columnar.proofs.Test.{test-agrees}
 use Rattle.walk.specs.State as walk
-use Rattle.plan.specs.parts.Parts.{nodesOf}
+use Rattle.plan.specs.parts.Parts as parts
 use Rattle.refinement.specs.orders.Order.{After}
 use Rattle.refinement.proofs.orders.Step.{Running, Answers, made, not-made, order-step}
 use Rattle.refinement.proofs.opening.Taken.{taken}
-use Rattle.columns.specs.Grounds.{ceiling}
+use Rattle.columns.specs.Grounds.{ceiling, lawful}
+use Rattle.columns.proofs.Grounds.{rule-placed, lawful-from}
 use Rattle.refinement.proofs.opening.Opened.{Opened, orders-after}
 use Rattle.refinement.specs.finishing.Finish.{Finished, lengthTable, nullTable, placeTable, bufferTable, buffersBefore}
 use Rattle.refinement.specs.finishing.Shows.{Bodied}
 use Rattle.refinement.proofs.finishing.Orders.{appended}
 use Rattle.refinement.proofs.finishing.Join.{finishing-accepted, join-again}
-use Rattle.join.specs.Join.{Lending, Bytes, sourcesIn, treeIn, typeIn, columnsIn, keepsIn, openingOf, lentOf, afterCalls, nextCall, finishingOf, tablesAt, tablesOf, finishedOf, reachedBy, nullsBooked}
+use Rattle.join.specs.Join.{Lending, Bytes, sourcesIn, treeIn, typeIn, columnsIn, keepsIn, openingOf, lentOf, afterCalls, nextCall, finishingOf, tablesAt, finishedAt, tablesOf, finishedOf, reachedBy, nullsBooked}
 use Rattle.join.specs.Counters.{Counted}
 use Rattle.join.specs.Built.{Built}
 use Rattle.join.proofs.Opens.{runs}
@@ -83,8 +86,13 @@ module _ (l : Lending) (b : Bytes l) (accepted : openingOf l .ground ≡ 0) (os 
         (bytes-at l b accepted os base z laid) (nulls-at l b accepted os base z laid) (finished-counters l b accepted os)
 
     -- LENT AGAIN, it passes ground 12
-    pub again-at : T (sourceRule (treeIn l) (tablesAt l os base z))
-    again-at = join-again (l .formats) (l .schema) (l .sources) (l .tables) (l .keep) (l .gaps) (l .parts) (openingOf l) opens os base z laid
+    pub again-at : T (lawful (treeIn l) (tablesAt l os base z) (typeIn l))
+    again-at =
+        let all = join-again (l .formats) (l .schema) (l .sources) (l .tables) (l .keep) (l .gaps) (l .parts) (openingOf l) opens os base z laid in
+        let given = taken (l .formats) (l .schema) (l .sources) (l .tables) (l .keep) (l .gaps) (opens .accepted) in
+        lawful-from (treeIn l) (tablesAt l os base z) (typeIn l) (rule-placed (treeIn l) (tablesAt l os base z) all)
+        (test-agrees (typeIn l) (finishedAt l os base z) .complete
+        (lent-source (l .formats) (l .schema) (firstOf (l .sources) 0) (nodesOf (l .sources) 0) (tablesAt l os base z) (given .is-typed) (given .low) all))
 
   -- the sources' body with the room behind it is such a body
   pub behind-body : Bodied (l .tables .body ++ afterCalls l os .room) (lentOf l) (afterCalls l os .room) (length (l .tables .body))
@@ -135,8 +143,8 @@ module _ (l : Lending) (b : Bytes l) (accepted : openingOf l .ground ≡ 0) (os 
 
   -- FINISHING IS NEVER REFUSED where the tables are of the finished array's lengths and the room begins within a body's ceiling
   pub finishing-answered : (base : ℕ) (lengths nulls places names : List ℕ) → base ≤ ceiling
-      → length lengths ≡ 2 * nodesOf (lentOf l .plan) → length nulls ≡ nodesOf (lentOf l .plan) → length places ≡ 9 * nodesOf (lentOf l .plan)
-      → length names ≡ 2 * buffersBefore (lentOf l) (l .tables .buffers) (afterCalls l os .counts) (afterCalls l os .room) base (nodesOf (lentOf l .plan))
+      → length lengths ≡ 2 * parts.nodesOf (lentOf l .plan) → length nulls ≡ parts.nodesOf (lentOf l .plan) → length places ≡ 9 * parts.nodesOf (lentOf l .plan)
+      → length names ≡ 2 * buffersBefore (lentOf l) (l .tables .buffers) (afterCalls l os .counts) (afterCalls l os .room) base (parts.nodesOf (lentOf l .plan))
       → finishingOf l os base lengths nulls places names
       ≡ record {
         ground = 0;
@@ -151,5 +159,5 @@ module _ (l : Lending) (b : Bytes l) (accepted : openingOf l .ground ≡ 0) (os 
   pub behind-sources : length (l .tables .body) ≤ ceiling
   behind-sources = omega (arith, taken (l .formats) (l .schema) (l .sources) (l .tables) (l .keep) (l .gaps) (opens .accepted) .body-small)
 
-  pub lent-again : T (sourceRule (treeIn l) (tablesOf l os))
+  pub lent-again : T (lawful (treeIn l) (tablesOf l os) (typeIn l))
   lent-again = again-at (length (l .tables .body)) _ behind-body

@@ -19,7 +19,8 @@ use Rattle.model.specs.Held.{held}
 use Rattle.model.proofs.Bits.{length-seg, getD-seg}
 use Rattle.model.proofs.Book.{countedIf}
 use Rattle.model.proofs.Start.{held-start}
-use Rattle.array_data.specs.Typed.{sourceRule, columnOf}
+use Rattle.array_data.specs.Typed.{columnOf}
+use Rattle.columns.specs.Grounds.{lawful}
 use Rattle.walk.specs.State as walk
 use Rattle.plan.specs.parts.Parts.{nodesOf}
 use Rattle.refinement.specs.orders.Order.{Lent}
@@ -143,8 +144,8 @@ module _ (l : Lending) (b : Bytes l) (accepted : openingOf l .ground ≡ 0) (is 
         (nulls-at l b accepted (callsCarried l is) base z before)
 
     -- LENT AGAIN, it passes ground 12
-    pub items-again : T (sourceRule (treeIn l) (tablesItems l is base z))
-    items-again = moved (λ c r. T (sourceRule (treeIn l) (shown.finishedTables (lentOf l) (l .tables .buffers) c r base z))) (again-at l b accepted (callsCarried l is) base z before)
+    pub items-again : T (lawful (treeIn l) (tablesItems l is base z) (typeIn l))
+    items-again = moved (λ c r. T (lawful (treeIn l) (shown.finishedTables (lentOf l) (l .tables .buffers) c r base z) (typeIn l))) (again-at l b accepted (callsCarried l is) base z before)
 
   -- THE RUNNING NULL COUNT is that of the orders that are carried out
   pub items-running-nulls : walk.nulls (afterItems l is .counts) 0 ≡ countedIf (keepsIn l) (nullsItems l is)

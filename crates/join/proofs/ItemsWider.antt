@@ -26,7 +26,7 @@ use Rattle.join.specs.Items.{Item, one, trip, callsIn, inTurn, itemAnswe
 use Rattle.join.proofs.Opens.{runs}
 use Rattle.join.proofs.Answered.{No13, AllZero}
 use Rattle.join.proofs.WiderLengths.{moved, moved-back}
-use Rattle.join.proofs.Wider.{opens-again}
+use Rattle.join.proofs.WiderNodes.{opens-again}
 use Rattle.join.proofs.Items.{answersTo}
 use Rattle.join.proofs.ItemsJoin.{items-answered, items-book}
 

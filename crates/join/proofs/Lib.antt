@@ -26,8 +26,10 @@ pub mod Said
 pub mod Stored
 pub mod StoredTypes
 pub mod StoredExample
+pub mod Wide
 pub mod WiderLengths
 pub mod Wider
+pub mod WiderNodes
 pub mod StoredJoin
 pub mod CutShown
 pub mod Cut

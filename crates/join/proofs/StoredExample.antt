@@ -15,6 +15,7 @@ use Rattle.schema.specs.Tree as Tree
 use Rattle.array_data.specs.Typed.{placed, tablesFrom}
 use Rattle.array_data.specs.type_tree.Lent.{kindAt, treeOf}
 use Rattle.columns.specs.Grounds as Grounds
+use Rattle.columns.proofs.Grounds.{by-nodes}
 use Rattle.array_data.specs.Sources as Sources
 use Rattle.join.specs.Join.{Lending, typeIn}
 use Rattle.join.specs.Stored.{StoredWider, same-code, strings, NodeWider}
@@ -114,8 +115,8 @@ stored =
 
 -- the narrow tables pass grounds 9 to 12
 narrow-taken : Grounds.sourcesGround texts (narrow .schema) (narrow .tables) (narrow .sources) ≡ 0
-unfolding Grounds.sourcesGround Grounds.smallBody Grounds.fewSources Grounds.allWithin Grounds.allTyped Grounds.allSame Grounds.allObey Grounds.withinCeilings Grounds.nodeFits Grounds.countFits Grounds.fewBuffers Grounds.obeys Tree.every Tree.ceilings Tree.fewFields Tree.codeOf Tree.idsOf Code.codeOf Tree.depth Tree.count Tree.endOf Tree.endFrom Tree.dueFrom Tree.below Tree.bare Tree.typed Tree.whole Tree.shape Tree.leafShape Tree.keysShape Tree.valuesShape Tree.listShape Tree.unionShape Tree.runShape Tree.endsShape Tree.sameType Tree.sameNode Tree.sameFormats Tree.sameFlag Tree.isValues kindAt Ids.allowed Ids.small Ids.pieces Ids.idOf Ids.digits Ids.decimal Ids.distinct Ids.member item number
-narrow-taken = refl
+unfolding Grounds.smallBody Grounds.fewSources Grounds.allWithin Grounds.allTyped Grounds.allSame Grounds.allObey Grounds.withinCeilings Grounds.nodeFits Grounds.countFits Grounds.fewBuffers Grounds.obeys Tree.every Tree.ceilings Tree.fewFields Tree.codeOf Tree.idsOf Code.codeOf Tree.depth Tree.count Tree.endOf Tree.endFrom Tree.dueFrom Tree.below Tree.bare Tree.typed Tree.whole Tree.shape Tree.leafShape Tree.keysShape Tree.valuesShape Tree.listShape Tree.unionShape Tree.runShape Tree.endsShape Tree.sameType Tree.sameNode Tree.sameFormats Tree.sameFlag Tree.isValues kindAt Ids.allowed Ids.small Ids.pieces Ids.idOf Ids.digits Ids.decimal Ids.distinct Ids.member item number
+narrow-taken = by-nodes (narrow .formats) (narrow .schema) (narrow .tables) (narrow .sources)
 
 -- AND SO THE TYPES ARE WIDER
 pub types : Wider (typeIn narrow) (typeIn wide)

@@ -30,6 +30,7 @@ use Rattle.refinement.specs.walk_is_model.Holds.{WordedPlain, Worded}
 use Rattle.refinement.proofs.log_in_room.Found.{between-both}
 use Rattle.plan.specs.parts.Parts.{nodesOf, copied, validityParts, partsBefore, sizeAt, sizeOf, Apart, before, behind}
 use Rattle.columns.specs.Grounds as Grounds
+use Rattle.columns.proofs.Grounds.{by-nodes}
 use Rattle.array_data.specs.Sources as Sources
 use Rattle.refinement.specs.orders.Counted.{roomFor}
 use Rattle.refinement.proofs.orders.Booked.{groundOf}
@@ -43,7 +44,7 @@ use Rattle.join.proofs.Answered.{No13, each-13, AllZero, accepted-zero}
 use Rattle.join.proofs.Lengths.{accepted-is, book-is}
 use Rattle.join.proofs.Demand3.{the-book}
 use Rattle.join.proofs.Said.{not-fourteen}
-use Rattle.join.proofs.Wider.{opens-again, made-again}
+use Rattle.join.proofs.WiderNodes.{opens-again, made-again}
 
 -- ---- what is lent: validity, offsets 0 3 7 7, "vanstop"; two rows from slot 1 on
 
@@ -100,12 +101,12 @@ abbrev Taken : Lending → Type 0
 Taken l = Grounds.sourcesGround (l .formats) (l .schema) (l .tables) (l .sources) ≡ 0
 
 narrow-taken : Taken narrow
-unfolding Grounds.sourcesGround Grounds.smallBody Grounds.fewSources Grounds.allWithin Grounds.allTyped Grounds.allSame Grounds.allObey Grounds.withinCeilings Grounds.nodeFits Grounds.countFits Grounds.fewBuffers Grounds.obeys Tree.every Tree.ceilings Tree.fewFields Tree.codeOf Tree.idsOf Code.codeOf Tree.depth Tree.count Tree.endOf Tree.endFrom Tree.dueFrom Tree.below Tree.bare Tree.typed Tree.whole Tree.shape Tree.leafShape Tree.keysShape Tree.valuesShape Tree.listShape Tree.unionShape Tree.runShape Tree.endsShape Tree.sameType Tree.sameNode Tree.sameFormats Tree.sameFlag Tree.isValues kindAt item number bit
-narrow-taken = refl
+unfolding Grounds.smallBody Grounds.fewSources Grounds.allWithin Grounds.allTyped Grounds.allSame Grounds.allObey Grounds.withinCeilings Grounds.nodeFits Grounds.countFits Grounds.fewBuffers Grounds.obeys Tree.every Tree.ceilings Tree.fewFields Tree.codeOf Tree.idsOf Code.codeOf Tree.depth Tree.count Tree.endOf Tree.endFrom Tree.dueFrom Tree.below Tree.bare Tree.typed Tree.whole Tree.shape Tree.leafShape Tree.keysShape Tree.valuesShape Tree.listShape Tree.unionShape Tree.runShape Tree.endsShape Tree.sameType Tree.sameNode Tree.sameFormats Tree.sameFlag Tree.isValues kindAt item number bit
+narrow-taken = by-nodes (narrow .formats) (narrow .schema) (narrow .tables) (narrow .sources)
 
 wide-taken : Taken wide
-unfolding Grounds.sourcesGround Grounds.smallBody Grounds.fewSources Grounds.allWithin Grounds.allTyped Grounds.allSame Grounds.allObey Grounds.withinCeilings Grounds.nodeFits Grounds.countFits Grounds.fewBuffers Grounds.obeys Tree.every Tree.ceilings Tree.fewFields Tree.codeOf Tree.idsOf Code.codeOf Tree.depth Tree.count Tree.endOf Tree.endFrom Tree.dueFrom Tree.below Tree.bare Tree.typed Tree.whole Tree.shape Tree.leafShape Tree.keysShape Tree.valuesShape Tree.listShape Tree.unionShape Tree.runShape Tree.endsShape Tree.sameType Tree.sameNode Tree.sameFormats Tree.sameFlag Tree.isValues kindAt item number bit
-wide-taken = refl
+unfolding Grounds.smallBody Grounds.fewSources Grounds.allWithin Grounds.allTyped Grounds.allSame Grounds.allObey Grounds.withinCeilings Grounds.nodeFits Grounds.countFits Grounds.fewBuffers Grounds.obeys Tree.every Tree.ceilings Tree.fewFields Tree.codeOf Tree.idsOf Code.codeOf Tree.depth Tree.count Tree.endOf Tree.endFrom Tree.dueFrom Tree.below Tree.bare Tree.typed Tree.whole Tree.shape Tree.leafShape Tree.keysShape Tree.valuesShape Tree.listShape Tree.unionShape Tree.runShape Tree.endsShape Tree.sameType Tree.sameNode Tree.sameFormats Tree.sameFlag Tree.isValues kindAt item number bit
+wide-taken = by-nodes (wide .formats) (wide .schema) (wide .tables) (wide .sources)
 
 -- ---- the plan's words for one byte string that keeps nulls
 

@@ -3,10 +3,10 @@
 use mathlib.Core.Path.{_≡_, refl, sym, ap, ap₂, subst, _∙_}
 use mathlib.Core.Bool.{Bool, true, false}
 use mathlib.Core.List.{List}
-use Prim.Native.Nat.{ℕ, _≤_}
+use Prim.Native.Nat.{ℕ, _≤_, _<_}
 use lib.ListN.{length}
 use native.Mathlib.Omega.{arith}
-use Rattle.columnar.specs.Reading.{readAll}
+use Rattle.columnar.specs.Reading.{Source, readAll}
 use Rattle.columnar.specs.Wider.{Wider, Again}
 use Rattle.columnar.proofs.Wider.{again-sources}
 use Rattle.model.specs.Try.{Try, done, stop, then, guard}
@@ -17,7 +17,11 @@ use Rattle.model.specs.Book.{Call}
 use Rattle.model.proofs.WiderAsks.{start-counts-wider}
 use Rattle.model.proofs.WiderAnswers.{keeps-wider}
 use Rattle.model.proofs.WiderOpening.{opening-wider}
-use Rattle.columns.specs.Grounds.{ceiling, sourcesGround}
+use Rattle.columns.specs.Grounds.{ceiling}
+use Rattle.columns.proofs.Answers.{sources-rules}
+use Rattle.array_data.specs.Sources.{firstOf, nodesOf}
+use Rattle.array_data.specs.Typed.{tablesFrom}
+use Rattle.refinement.proofs.plan_is_type.OneTree.{same-column}
 use Rattle.refinement.specs.orders.Counted.{bookRoom, AllAcceptedRoom, RoomEnough}
 use Rattle.refinement.proofs.orders.Booked.{groundOf}
 use Rattle.refinement.proofs.orders.WiderRoom.{wide-room}
@@ -27,11 +31,10 @@ use Rattle.refinement.proofs.opening.Taken.{sources-of}
 use Rattle.refinement.proofs.opening.Stay.{open-model}
 use Rattle.refinement.proofs.opening.Opened.{opening-ground}
 use Rattle.join.specs.Join.{Lending, Bytes, sourcesIn, typeIn, columnsIn, keepsIn, openingOf, lentOf, groundsIn, finishedOf, bookOf, acceptedOf, AllAccepted, Enough}
-use Rattle.join.specs.Stored.{StoredWider}
-use Rattle.join.proofs.Opens.{runs}
+use Rattle.join.specs.Wide.{Lendable}
+use Rattle.join.proofs.Opens.{runs, sourcesAnswer}
 use Rattle.join.proofs.Answered.{AllZero, accepted-zero}
 use Rattle.join.proofs.Lengths.{book-is}
-use Rattle.join.proofs.Stored.{sources-taken}
 use Rattle.join.proofs.Demand3.{the-book}
 
 -- ---- THE OPENING of the wide join: none of 9 to 12, 6 and 8 stands; where 14 does not stand, it is accepted, or 13 stands
@@ -49,30 +52,39 @@ tested-only (done x) true s e = opens-wide refl
 tested-only (done x) false s e = no-room refl
 tested-only (stop g) b s e = absurd (let z : _≡_ {A = ℕ} 0 1 = cc e in omega arith)
 
-module _ (n w : Lending) (bytes-n : Bytes n) (bytes-w : Bytes w) (accepted-n : openingOf n .ground ≡ 0) (d : Wider (typeIn n) (typeIn w)) (stored : StoredWider n w)
+module _ (n w : Lending) (bytes-n : Bytes n) (bytes-w : Bytes w) (accepted-n : openingOf n .ground ≡ 0) (d : Wider (typeIn n) (typeIn w)) (same-count : sourcesIn n ≡ sourcesIn w)
     (again : Again d (sourcesIn n) (columnsIn n) (columnsIn w)) where
-  -- THE WIDE SOURCES ARE TAKEN: neither 9, 10, 11 nor 12 stands
-  pub wide-sources : sourcesGround (w .formats) (w .schema) (w .tables) (w .sources) ≡ 0
-  wide-sources =
-      let taken = runs n bytes-n accepted-n .accepted in
-      let obey = sources-of (n .formats) (n .schema) (n .sources) (n .tables) (n .keep) (n .gaps) taken .obey in
-      sources-taken n w stored taken (λ s l. let e = stored .same-count in again-sources d (sourcesIn n) (columnsIn n) (columnsIn w) again obey s (omega arith))
+  -- the wide columns are sources
+  pub wide-obey : (s : ℕ) → s < sourcesIn w → Source (typeIn w) (columnsIn w s)
+  wide-obey s l =
+      again-sources d (sourcesIn n) (columnsIn n) (columnsIn w) again
+      (sources-of (n .formats) (n .schema) (n .sources) (n .tables) (n .keep) (n .gaps) (runs n bytes-n accepted-n .accepted) .obey) s (omega arith)
 
-  wide-done : openData (typeIn w) (sourcesIn w) (λ j. columnsIn w j .body) ≡ done tt
-  wide-done =
-      let o = runs n bytes-n accepted-n in
-      let given = sources-of (n .formats) (n .schema) (n .sources) (n .tables) (n .keep) (n .gaps) (o .accepted) in
-      let given-w = sources-of (w .formats) (w .schema) (w .sources) (w .tables) (w .keep) (w .gaps) wide-sources in
-      let narrow = open-model (lentOf n .plan) (n .parts) (n .gaps) (typeIn n) (n .keep) (sourcesIn n) (columnsIn n) (start (n .gaps) (typeIn n) (n .keep) (sourcesIn n) (columnsIn n)) (o .model) in
-      let q = opening-wider d (given .formed) (given-w .formed) (sourcesIn n) (columnsIn n) (columnsIn w) again (given .obey) (n .gaps) (n .keep) (start (n .gaps) (typeIn n) (n .keep) (sourcesIn n) (columnsIn n)) narrow in
-      subst (λ k. openData (typeIn w) k (λ j. columnsIn w j .body) ≡ done tt) (stored .same-count) (opened-first (openData (typeIn w) (sourcesIn n) (λ j. columnsIn w j .body)) _ _ q)
+  -- THE WIDE SOURCES ARE TAKEN: 12 does not stand where 9, 10 and 11 do not and their buffers lie in the body
+  pub wide-sources : Lendable w → sourcesAnswer w ≡ 0
+  wide-sources lends =
+      sources-rules (w .formats) (w .schema) (w .tables) (w .sources) (lends .in-limits) (lends .of-types) (lends .alike) (λ s l i q. lends .in-body s i l q)
+      (λ s l e.
+      subst (Source (typeIn w))
+      (same-column (w .formats) (w .schema) (firstOf (w .sources) 0) (nodesOf (w .sources) 0) (firstOf (w .sources) s) (nodesOf (w .sources) s) e (tablesFrom (w .tables) (firstOf (w .sources) s)) (typeIn w) 0)
+      (wide-obey s l))
 
-  -- IT IS ACCEPTED, or 13 stands: a room of at most 2^63 - 1 bytes, where 14 does not stand
-  pub wide-opens : length (w .room) ≤ ceiling → roomPlaced (w .formats) (w .schema) (w .sources) (w .tables) (w .keep) (w .gaps) (w .parts) (w .plan) (w .counters) (w .room) ≡ true
-      → OpensWide (openingOf w .ground)
-  wide-opens small placed =
-      subst OpensWide (sym (opening-ground (w .formats) (w .schema) (w .sources) (w .tables) (w .keep) (w .gaps) (w .parts) (w .plan) (w .counters) (w .room) (bytes-w .body-bytes) (bytes-w .room-bytes) small wide-sources placed))
-      (tested-only (openData (typeIn w) (sourcesIn w) (λ j. columnsIn w j .body)) (openFits (lentOf w .plan) (w .parts) (typeIn w) 0 (sourcesIn w) (λ j. columnsIn w j .body) (start (w .gaps) (typeIn w) (w .keep) (sourcesIn w) (columnsIn w))) (start (w .gaps) (typeIn w) (w .keep) (sourcesIn w) (columnsIn w)) wide-done)
+  module _ (taken-w : sourcesAnswer w ≡ 0) where
+    wide-done : openData (typeIn w) (sourcesIn w) (λ j. columnsIn w j .body) ≡ done tt
+    wide-done =
+        let o = runs n bytes-n accepted-n in
+        let given = sources-of (n .formats) (n .schema) (n .sources) (n .tables) (n .keep) (n .gaps) (o .accepted) in
+        let given-w = sources-of (w .formats) (w .schema) (w .sources) (w .tables) (w .keep) (w .gaps) taken-w in
+        let narrow = open-model (lentOf n .plan) (n .parts) (n .gaps) (typeIn n) (n .keep) (sourcesIn n) (columnsIn n) (start (n .gaps) (typeIn n) (n .keep) (sourcesIn n) (columnsIn n)) (o .model) in
+        let q = opening-wider d (given .formed) (given-w .formed) (sourcesIn n) (columnsIn n) (columnsIn w) again (given .obey) (n .gaps) (n .keep) (start (n .gaps) (typeIn n) (n .keep) (sourcesIn n) (columnsIn n)) narrow in
+        subst (λ k. openData (typeIn w) k (λ j. columnsIn w j .body) ≡ done tt) same-count (opened-first (openData (typeIn w) (sourcesIn n) (λ j. columnsIn w j .body)) _ _ q)
+
+    -- IT IS ACCEPTED, or 13 stands: a room of at most 2^63 - 1 bytes, where 14 does not stand
+    pub wide-opens : length (w .room) ≤ ceiling → roomPlaced (w .formats) (w .schema) (w .sources) (w .tables) (w .keep) (w .gaps) (w .parts) (w .plan) (w .counters) (w .room) ≡ true
+        → OpensWide (openingOf w .ground)
+    wide-opens small placed =
+        subst OpensWide (sym (opening-ground (w .formats) (w .schema) (w .sources) (w .tables) (w .keep) (w .gaps) (w .parts) (w .plan) (w .counters) (w .room) (bytes-w .body-bytes) (bytes-w .room-bytes) small taken-w placed))
+        (tested-only (openData (typeIn w) (sourcesIn w) (λ j. columnsIn w j .body)) (openFits (lentOf w .plan) (w .parts) (typeIn w) 0 (sourcesIn w) (λ j. columnsIn w j .body) (start (w .gaps) (typeIn w) (w .keep) (sourcesIn w) (columnsIn w))) (start (w .gaps) (typeIn w) (w .keep) (sourcesIn w) (columnsIn w)) wide-done)
 
 -- ---- THE CALLS
 

@@ -14,9 +14,8 @@ use Rattle.model.specs.Grounds.{Counts, startCounts}
 use Rattle.model.specs.Transform.{Destination, start}
 use Rattle.model.specs.Book.{Call, entered, nullsEntered}
 use Rattle.array_data.specs.Tables.{Tables}
-use Rattle.array_data.specs.Typed.{Tree, columnOf}
+use Rattle.array_data.specs.Typed.{Tree, tablesFrom, columnOf}
 use Rattle.array_data.specs.type_tree.Lent.{treeOf, typeOf}
-use Rattle.refinement.specs.plan_is_type.Taken.{columnsAs}
 use Rattle.columns.specs.Grounds.{ceiling, sourcesGround}
 use Rattle.array_data.specs.Sources.{sourceCount, firstOf, nodesOf}
 use Rattle.refinement.specs.orders.Order.{After, Lent, orderedAll, ordered, groundsOf}
@@ -59,7 +58,7 @@ module _ (l : Lending) where
   typeIn = typeOf (l .formats) (l .schema) (firstOf (l .sources) 0) (nodesOf (l .sources) 0)
 
   abbrev pub columnsIn : ℕ → Column typeIn
-  columnsIn = columnsAs (l .formats) (l .schema) (l .tables) (firstOf (l .sources)) (nodesOf (l .sources))
+  columnsIn s = columnOf treeIn (tablesFrom (l .tables) (firstOf (l .sources) s)) typeIn 0
 
   -- "A node keeps nulls if the caller says so or any source has a null at that node": the root
   abbrev pub keepsIn : Bool

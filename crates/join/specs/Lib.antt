@@ -6,6 +6,7 @@ pub mod Built
 pub mod Based
 pub mod Said
 pub mod Stored
+pub mod Wide
 pub mod Items
 pub mod Rust
 pub mod Gap
