@@ -10,6 +10,7 @@
 enum { ROOM = 256, MOST_PARTS = 4 };
 
 static uint64_t plan[LAFKUNO_PLAN], counters[LAFKUNO_COUNTERS], parts[2 * MOST_PARTS];
+static uint64_t asked_plan[LAFKUNO_PLAN], asked_counters[LAFKUNO_COUNTERS];
 static uint8_t room[ROOM];
 
 /* What a call takes: the column's first node and its nodes, the first node of the result's type, and the rows. */
@@ -24,8 +25,9 @@ typedef uint8_t does(const uint8_t *, size_t, const uint32_t *, size_t, const ui
                      const uint8_t *, size_t, uint32_t, uint32_t, uint32_t, uint64_t, uint64_t, const uint64_t *, size_t, uint64_t *, size_t,
                      uint64_t *, size_t, uint8_t *, size_t);
 
-/* Asks what the parts need and lends exactly that, less `less` bytes of the last one; then writes. The ground. */
-static uint8_t run(asks *ask, does *call, struct range r, unsigned less, uint32_t *count) {
+/* Asks what the parts need and lends exactly that, `slack` bytes more each or, where it is negative, fewer of the last one; then writes. The
+ * ground. */
+static uint8_t run(asks *ask, does *call, struct range r, int slack, uint32_t *count) {
     memset(room, 0xaa, sizeof room);
     uint8_t ground = ask(TABLES, r.first, r.n, r.target, r.start, r.end, plan, LAFKUNO_PLAN, counters, LAFKUNO_COUNTERS);
     if (ground != FINE) return ground;
@@ -34,10 +36,14 @@ static uint8_t run(asks *ask, does *call, struct range r, unsigned less, uint32_
     for (uint32_t p = 0; p < *count; p++) {
         parts[2 * p] = at;
         parts[2 * p + 1] = lafkuno_needed_bytes(plan, LAFKUNO_PLAN, counters, LAFKUNO_COUNTERS, p);
+        if (slack > 0) parts[2 * p + 1] += (uint64_t)slack;
         at += parts[2 * p + 1] + 2;
     }
-    if (less && *count) parts[2 * *count - 1] -= less;
+    if (slack < 0 && *count) parts[2 * *count - 1] -= (uint64_t)-slack;
+    memcpy(asked_plan, plan, sizeof plan);
+    memcpy(asked_counters, counters, sizeof counters);
     memset(plan, 0, sizeof plan);
+    memset(counters, 0, sizeof counters);
     return call(TABLES, r.first, r.n, r.target, r.start, r.end, parts, 2 * *count, plan, LAFKUNO_PLAN, counters, LAFKUNO_COUNTERS, room, ROOM);
 }
 
@@ -51,16 +57,17 @@ static int kept(uint32_t count) {
     return 1;
 }
 
-static void show(const char *what, const struct column *c, asks *ask, does *call, struct range r, unsigned less) {
+static void show(const char *what, const struct column *c, asks *ask, does *call, struct range r, int slack) {
     uint32_t count = 0;
     lend_column(c);
-    uint8_t ground = run(ask, call, r, less, &count);
+    uint8_t ground = run(ask, call, r, slack, &count);
     printf("%s:", what);
     if (ground != FINE) printf(" %d", ground);
     for (uint32_t p = 0; ground == FINE && p < count; p++) {
         printf(" %llu.%llu", (unsigned long long)lafkuno_part_node(plan, LAFKUNO_PLAN, p), (unsigned long long)lafkuno_part_buffer(plan, LAFKUNO_PLAN, p));
         for (uint64_t i = 0; i < parts[2 * p + 1]; i++) printf("%c%02x", i ? ' ' : '=', room[parts[2 * p] + i]);
     }
+    if (ground == FINE && (memcmp(asked_plan, plan, sizeof plan) || memcmp(asked_counters, counters, sizeof counters))) printf(" NOT AS ASKED");
     puts(ground == FINE ? kept(count) ? "" : " WROTE BESIDE" : "");
 }
 
@@ -91,7 +98,9 @@ static void sliced(void) {
     encodes("sliced 1..3", &c, (struct range){0, 1, 1, 1, 3});
     encodes("sliced 4..5, a null", &c, (struct range){0, 1, 1, 4, 5});
     encodes("no rows", &c, (struct range){0, 1, 1, 7, 7});
-    show("a byte too few", &c, lafkuno_plan_encode, lafkuno_encode, (struct range){0, 1, 1, 0, 7}, 1);
+    show("a byte too few", &c, lafkuno_plan_encode, lafkuno_encode, (struct range){0, 1, 1, 0, 7}, -1);
+    show("room for a run a row", &c, lafkuno_plan_encode, lafkuno_encode, (struct range){0, 1, 1, 0, 7}, 4);
+    show("room for all but one", &c, lafkuno_plan_encode, lafkuno_encode, (struct range){0, 1, 1, 0, 7}, 3);
     encodes("past the slice", &c, (struct range){0, 1, 1, 1, 8});
     encodes("end before start", &c, (struct range){0, 1, 1, 3, 2});
     encodes("no runs as target", &c, (struct range){0, 1, 0, 0, 7});
@@ -140,7 +149,7 @@ static void back(void) {
     expands("its last run", &c, (struct range){0, 3, 2, 5, 7});
     expands("no rows of it", &c, (struct range){0, 3, 2, 8, 8});
     expands("past it", &c, (struct range){0, 3, 2, 1, 9});
-    show("a byte too few", &c, lafkuno_plan_expand, lafkuno_expand, (struct range){0, 3, 2, 0, 8}, 1);
+    show("a byte too few", &c, lafkuno_plan_expand, lafkuno_expand, (struct range){0, 3, 2, 0, 8}, -1);
     encodes("runs into runs", &c, (struct range){0, 3, 0, 0, 8});
     c = abc(0x0b);
     expands("B null", &c, (struct range){0, 3, 2, 1, 5});

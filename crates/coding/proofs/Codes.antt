@@ -2,9 +2,9 @@
 use mathlib.Core.Path.{_≡_, refl, sym, subst}
 use mathlib.Core.Bool.{Bool, true, _&&_}
 use mathlib.Core.List.{List}
-use Prim.Native.Nat.{ℕ, zero, suc, _≤_, _<_}
+use Prim.Native.Nat.{ℕ, zero, suc, _%_, _≤_, _<_}
 use native.Mathlib.Omega.{arith}
-use lib.Dec.{leb, eqb}
+use lib.Dec.{leb, ltb, eqb}
 use borrow.Author.Tests.{leb-true}
 use Rattle.columnar.specs.Types.{Number, width}
 use Rattle.columnar.specs.Formed.{RunWidth, two, four, eight}
@@ -13,6 +13,7 @@ use Rattle.schema.specs.formats.Types.{numberOf}
 use Rattle.array_data.specs.type_tree.Lent.{numberOr}
 use Rattle.array_data.proofs.lent_tables.Laws.{and-left, and-right}
 use Rattle.cell_sums.specs.patterns.Parts.{Sized}
+use Rattle.plan.specs.parts.Parts.{bufferCount}
 
 -- a fact of each of the ten
 ten : (P : ℕ → Type 0) → P 1 → P 2 → P 3 → P 4 → P 5 → P 6 → P 7 → P 8 → P 9 → P 10 → (c : ℕ) → isFixed c ≡ true → P c
@@ -43,6 +44,13 @@ code-sized =
 
 pub code-wide : (c : ℕ) → isFixed c ≡ true → 1 ≤ widthOf c
 code-wide = ten (λ c. 1 ≤ widthOf c) (omega arith) (omega arith) (omega arith) (omega arith) (omega arith) (omega arith) (omega arith) (omega arith) (omega arith) (omega arith)
+
+-- a node of numbers has validity where it keeps nulls, and one buffer
+pub code-low : (c : ℕ) → isFixed c ≡ true → ltb (c % 256) 21 ≡ true
+code-low = ten (λ c. ltb (c % 256) 21 ≡ true) refl refl refl refl refl refl refl refl refl refl
+
+pub one-buffer : (c : ℕ) → isFixed c ≡ true → bufferCount (c % 256) ≡ 1
+one-buffer = ten (λ c. bufferCount (c % 256) ≡ 1) refl refl refl refl refl refl refl refl refl refl
 
 pub ends-sized : (w : ℕ) → RunWidth w → Sized w
 ends-sized w two = λ p q r. absurd (q refl)

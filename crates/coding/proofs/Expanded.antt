@@ -89,6 +89,17 @@ own-runs formats schema x first n target start end h =
       range = q .0;
     }
 
+pub target-plain : (formats schema : List ℕ) (x : Tables) (first n target start end : ℕ) → expandOwn formats schema x first n target start end ≡ 0 → plainAt formats schema target 0 ≡ true
+unfolding expandOwn plainOver
+target-plain formats schema x first n target start end h =
+    let a = runsOfPlain formats schema first target in
+    let c = ceilings formats schema target 1 in
+    let d = typed formats schema target 1 in
+    let e = plainAt formats schema target 0 in
+    let f = eqb (codeOf formats schema target 0) (codeOf formats schema first 2) in
+    let p = chosen (a && (c && d && e && f)) _ 10 (omega arith) h in
+    and-right (c && d) e (and-left (c && d && e) f (and-right a (c && d && e && f) (p .0)))
+
 -- a room of this size holds m rows
 roomy : (w m : ℕ) (keep : Bool) → Holds w keep 0 0 (length (replicate {A = ℕ} (m * w + m) 0)) m
 roomy w m keep = let z = length-replicate {A = ℕ} (m * w + m) 0 in record { of-values = omega (arith, z); of-bits = λ q. omega (arith, z) }

@@ -7,11 +7,13 @@ pub mod EncodeTheorems
 pub mod Encoded
 pub mod ExpandTheorems
 pub mod Expanded
+pub mod Fewer
 pub mod Finished
 pub mod Fitted
 pub mod Grounds
 pub mod InOrder
 pub mod Node
+pub mod PlanRows
 pub mod Room
 pub mod Rowed
 pub mod Rows

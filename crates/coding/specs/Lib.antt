@@ -2,3 +2,4 @@
 pub mod Counted
 pub mod Encode
 pub mod Expand
+pub mod Planned

@@ -9,6 +9,7 @@ ghost use Rattle.schema.specs.Tree.{codeOf};
 ghost use Rattle.array_data.specs.lent_tables.Lent.{tables};
 ghost use Rattle.source_rules.specs.kinds.Rows.{tablesOf};
 ghost use Rattle.with_capacities.specs.Answer.{Answers};
+ghost use Rattle.anew.specs.Anew.{roomGround};
 ghost use Rattle.anew.specs.ResultPlan.{keepsFrom, Comes, planAnew};
 ghost use Rattle.anew.specs.result_plan.Answer.{Asks};
 ghost use Rattle.cell_sums.specs.patterns.Parts.{Sized};
@@ -131,7 +132,45 @@ fn tried(
     counters_of(m, k)
 }
 
-// The runs of the rows start .. end - 1 into their parts.
+// 14 or 13 of the room that is lent for those runs: they are counted only where the parts might not hold a run a row.
+fn runs_ground(
+    formats: &[u8],
+    schema: &[u32],
+    lengths: &[u64],
+    places: &[u64],
+    body: &[u8],
+    first: u32,
+    start: u64,
+    end: u64,
+    keep: bool,
+    state: &[u64],
+    parts: &[u64],
+    words: usize,
+    counters: usize,
+    size: usize,
+) -> u8
+    requires { ⌜ Codable (now formats) (now schema) (tables (now lengths) (now places) (now body)) first start end keep ⌝ }
+    ensures { λ r. ⌜ r ≡ roomGround (now (state .entry)) (allCounts (end - start) (length (lastOf (now (formats .entry)) (now (schema .entry)) (tables (now (lengths .entry)) (now (places .entry)) (now (body .entry))) first start end keep))) (now (parts .entry)) words counters size ⌝ }
+{
+    let most = counters_of(end - start, end - start);
+    if anew::result_plan::room_ground(state, &most, parts, words, counters, size) == 0 {
+        return 0;
+    }
+    let counts = tried(
+        formats,
+        schema,
+        lengths,
+        places,
+        body,
+        first,
+        start,
+        end,
+        keep,
+    );
+    anew::result_plan::room_ground(state, &counts, parts, words, counters, size)
+}
+
+// The runs of the rows start .. end - 1 into their parts, and how many they are.
 fn write(
     formats: &[u8],
     schema: &[u32],
@@ -146,10 +185,11 @@ fn write(
     state: &[u64],
     parts: &[u64],
     room: &mut [u8],
-)
+) -> u64
     requires { ⌜ Sized (widthOf (codeOf (now formats) (now schema) target 1)) × Codable (now formats) (now schema) (tables (now lengths) (now places) (now body)) first start end keep ⌝ }
     requires { ⌜ RoomFor (now formats) (now schema) (tables (now lengths) (now places) (now body)) first start end target (now state) (now parts) keep (length (now room)) ⌝ }
     ensures { λ _. ⌜ now (room .exit) ≡ runsIn (now (formats .entry)) (now (schema .entry)) (tables (now (lengths .entry)) (now (places .entry)) (now (body .entry))) first start end target (now (state .entry)) (now (parts .entry)) keep (now (room .entry)) ⌝ }
+    ensures { λ k. ⌜ k ≡ length (lastOf (now (formats .entry)) (now (schema .entry)) (tables (now (lengths .entry)) (now (places .entry)) (now (body .entry))) first start end keep) ⌝ }
 {
     let w = schema::formats::width_of(schema::code_of(formats, schema, first as usize, 0));
     let e = schema::formats::width_of(schema::code_of(formats, schema, target as usize, 1));
@@ -159,7 +199,7 @@ fn write(
         values: crate::start_of(state, parts, 2, 1) as usize,
         mask: crate::start_of(state, parts, 2, 0) as usize,
     };
-    encode::write_runs(room, body, w, keep, s, e, t, (end - start) as usize);
+    encode::write_runs(room, body, w, keep, s, e, t, (end - start) as usize)
 }
 
 // THE QUESTION before any room is lent: the first ground that stands, or the plan and the counters of the result.
@@ -245,7 +285,7 @@ pub fn encode(
     }
     let state = planned(formats, schema, lengths, places, body, first, target);
     let keep = plan_words::keeps_of(&state, 2) != 0;
-    let counts = tried(
+    let g = runs_ground(
         formats,
         schema,
         lengths,
@@ -255,10 +295,7 @@ pub fn encode(
         start,
         end,
         keep,
-    );
-    let g = anew::result_plan::room_ground(
         &state,
-        &counts,
         parts,
         plan.len(),
         counters.len(),
@@ -267,7 +304,7 @@ pub fn encode(
     if g != 0 {
         return g;
     }
-    write(
+    let k = write(
         formats,
         schema,
         lengths,
@@ -282,6 +319,7 @@ pub fn encode(
         parts,
         room,
     );
+    let counts = counters_of(end - start, k);
     anew::result_plan::keep_result(plan, counters, &state, &counts);
     0
 }

@@ -10,13 +10,17 @@ ghost use Rattle.array_data.specs.lent_tables.Lent.{tables};
 ghost use Rattle.source_rules.specs.kinds.Rows.{tablesOf};
 ghost use Rattle.slot_reader.specs.run.Rows.{rowRun};
 ghost use Rattle.cell_sums.specs.stretches.Ends.{endsOf};
+ghost use Rattle.plan.specs.Plan.{flag};
 ghost use Rattle.with_capacities.specs.Answer.{Answers};
 ghost use Rattle.anew.specs.ResultPlan.{keepsFrom, Comes, planAnew};
 ghost use Rattle.anew.specs.result_plan.Answer.{Asks};
 ghost use Rattle.coding.specs.Counted.{rowCounts};
+ghost use Rattle.coding.specs.Encode.{plainAt};
+ghost use Rattle.coding.specs.Planned.{rowPlan};
 ghost use Rattle.coding.specs.Expand.{runsOfPlain, plainOver, expandOwn, fromValues, expandAsked, expanding, runOr, Expandable, RowsFit, rowsIn};
 use array_data::entries;
 use cell_sums::stretches;
+use plan::dictionaries;
 use run_coding::Spots;
 use run_coding::expand;
 use slot_reader::run::RowRun;
@@ -73,6 +77,35 @@ fn own_ground(
     0
 }
 
+// 1 if the values have a null and else 0.
+fn null_word(lengths: &[u64], places: &[u64], body: &[u8], first: u32) -> u64
+    requires { ⌜ Comes (tables (now lengths) (now places) (now body)) first 1 fromValues ⌝ }
+    ensures { λ r. ⌜ r ≡ flag (keepsFrom (tables (now (lengths .entry)) (now (places .entry)) (now (body .entry))) first fromValues 0) ⌝ }
+    ensures { λ r. ⌜ r ≤ 1 ⌝ }
+{
+    if dictionaries::null_count(lengths, places, body, first as usize + 2) == 0 {
+        return 0;
+    }
+    1
+}
+
+// The words of a plan of one node of numbers; the others are 0.
+fn row_words(code: u64, nullable: u64, k: u64) -> [u64; 872]
+    requires { ⌜ k ≤ 1 ⌝ }
+    ensures { λ r. ⌜ r ≡ rowPlan code nullable k ⌝ }
+{
+    let mut state = [0u64; 872];
+    state[0] = code;
+    state[2] = 1;
+    state[4] = nullable;
+    state[864] = 1;
+    state[865] = 1;
+    state[5] = k;
+    state[6] = k;
+    state[866] = 1 + k;
+    state
+}
+
 // The plan of the rows.
 fn planned(
     formats: &[u8],
@@ -84,25 +117,13 @@ fn planned(
     target: u32,
 ) -> [u64; 872]
     requires { ⌜ Comes (tables (now lengths) (now places) (now body)) first 1 fromValues ⌝ }
+    requires { ⌜ plainAt (now formats) (now schema) target 0 ≡ true ⌝ }
     ensures { λ r. ⌜ r ≡ planAnew (now (formats .entry)) (now (schema .entry)) target 1 (keepsFrom (tables (now (lengths .entry)) (now (places .entry)) (now (body .entry))) first fromValues) true 0 ⌝ }
 {
-    let mut state = [0u64; 872];
-    let from = [3u64];
-    anew::result_plan::plan_anew(
-        formats,
-        schema,
-        target as usize,
-        1,
-        lengths,
-        places,
-        body,
-        first as usize,
-        &from,
-        true,
-        0,
-        &mut state,
-    );
-    state
+    let code = schema::code_of(formats, schema, target as usize, 0);
+    let nullable = schema::flag_of(schema, target as usize, 0);
+    let k = null_word(lengths, places, body, first);
+    row_words(code as u64, nullable as u64, k)
 }
 
 // The counters of m rows.

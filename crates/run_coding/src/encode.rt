@@ -90,7 +90,7 @@ fn write_run(
     }
 }
 
-// The runs of m rows.
+// The runs of m rows, and how many they are.
 fn write_each(
     room: &mut [u8],
     body: &[u8],
@@ -100,10 +100,11 @@ fn write_each(
     e: u8,
     t: Spots,
     m: usize,
-)
+) -> u64
     requires { ⌜ (1 ≤ m) × (m < 2 ^ 63) × Sized e × Held (now body) w masked (s .start) (s .mask) (s .bit) m ⌝ }
     requires { ⌜ Fits w masked e (t .ends) (t .values) (t .mask) (length (now room)) (length (lastRows (now body) w masked (s .start) (s .mask) (s .bit) m)) ⌝ }
     ensures { λ _. ⌜ now (room .exit) ≡ runsWritten (now (body .entry)) w masked (s .start) (s .mask) (s .bit) e (t .ends) (t .values) (t .mask) 0 (lastRows (now (body .entry)) w masked (s .start) (s .mask) (s .bit) m) (now (room .entry)) ⌝ }
+    ensures { λ k. ⌜ k ≡ length (lastRows (now (body .entry)) w masked (s .start) (s .mask) (s .bit) m) ⌝ }
 {
     let mut k = 0;
     let mut r = 0;
@@ -121,9 +122,10 @@ fn write_each(
         r += 1;
     }
     write_run(room, w, masked, e, t, k, r, a, x);
+    (k + 1) as u64
 }
 
-// THE RUNS of m rows; a loop for each width, with validity and without.
+// THE RUNS of m rows, and how many they are; a loop for each width, with validity and without.
 pub fn write_runs(
     room: &mut [u8],
     body: &[u8],
@@ -133,22 +135,22 @@ pub fn write_runs(
     e: u8,
     t: Spots,
     m: usize,
-)
+) -> u64
     requires { ⌜ (m < 2 ^ 63) × Sized e × Held (now body) w masked (s .start) (s .mask) (s .bit) m ⌝ }
     requires { ⌜ Fits w masked e (t .ends) (t .values) (t .mask) (length (now room)) (length (lastRows (now body) w masked (s .start) (s .mask) (s .bit) m)) ⌝ }
     ensures { λ _. ⌜ now (room .exit) ≡ runsWritten (now (body .entry)) w masked (s .start) (s .mask) (s .bit) e (t .ends) (t .values) (t .mask) 0 (lastRows (now (body .entry)) w masked (s .start) (s .mask) (s .bit) m) (now (room .entry)) ⌝ }
+    ensures { λ k. ⌜ k ≡ length (lastRows (now (body .entry)) w masked (s .start) (s .mask) (s .bit) m) ⌝ }
 {
     if m == 0 {
-        return;
+        return 0;
     }
     if masked {
-        match w {
+        return match w {
             1 => write_each(room, body, 1, true, s, e, t, m),
             2 => write_each(room, body, 2, true, s, e, t, m),
             4 => write_each(room, body, 4, true, s, e, t, m),
             _ => write_each(room, body, 8, true, s, e, t, m),
-        }
-        return;
+        };
     }
     match w {
         1 => write_each(room, body, 1, false, s, e, t, m),

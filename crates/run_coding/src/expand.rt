@@ -102,7 +102,7 @@ fn write_each(
     }
 }
 
-// THE ROWS of a range; a loop for each width, with validity and without.
+// THE ROWS of a range; a loop for each width, with validity and without, and then for run ends of 4 bytes.
 pub fn write_rows(
     room: &mut [u8],
     body: &[u8],
@@ -127,6 +127,15 @@ pub fn write_rows(
             2 => write_each(room, body, 2, true, s, e, ends, run, x, t, m, count),
             4 => write_each(room, body, 4, true, s, e, ends, run, x, t, m, count),
             _ => write_each(room, body, 8, true, s, e, ends, run, x, t, m, count),
+        }
+        return;
+    }
+    if e == 4 {
+        match w {
+            1 => write_each(room, body, 1, false, s, 4, ends, run, x, t, m, count),
+            2 => write_each(room, body, 2, false, s, 4, ends, run, x, t, m, count),
+            4 => write_each(room, body, 4, false, s, 4, ends, run, x, t, m, count),
+            _ => write_each(room, body, 8, false, s, 4, ends, run, x, t, m, count),
         }
         return;
     }

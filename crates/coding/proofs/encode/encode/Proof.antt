@@ -2,7 +2,7 @@
 use mathlib.Core.Path.{_≡_, refl, sym, ap, ap₂, subst, _∙_}
 use mathlib.Core.Bool.{true, not}
 use mathlib.Core.List.{List, []}
-use Prim.Native.Nat.{ℕ, _≤_, _<_, _^_}
+use Prim.Native.Nat.{ℕ, _-_, _≤_, _<_, _^_}
 use native.Mathlib.Omega.{arith}
 use lib.ListN.{length, getD}
 use lib.Dec.{eqb}
@@ -14,6 +14,7 @@ use Rattle.array_data.specs.lent_tables.Lent.{tables}
 use Rattle.anew.specs.Anew.{ahead, roomGround}
 use Rattle.anew.proofs.PlanWords.{plan-length}
 use Rattle.anew.proofs.result_plan.Answered.{before-column, before-own, answers-large, answers-refused, answers-room, answers-made}
+use Rattle.coding.specs.Counted.{allCounts}
 use Rattle.coding.specs.Encode.{encodeOwn, encodeKeeps, encodePlan, encodeOut, RoomFor, runsIn}
 use Rattle.coding.proofs.Grounds.{own-same}
 use Rattle.coding.proofs.Encoded.{due, come, codable, counts-are, room-is}
@@ -107,35 +108,25 @@ keep-is c =
     let z = start-of (c .before .before .before) .args in
     keep-by (z .formats .now) (z .schema .now) (z .target) 3 2 (encodeKeeps (z .formats .now) (z .schema .now) (lent (start-of (c .before .before .before))) (z .first) (z .n) (z .target) (z .start) (z .end)) _ (omega arith) (omega arith) (c .before .before .planned .ensures) (c .keeps-of .ensures)
 
-tried-requires : tie.Need-tried-requires
-tried-requires c κs =
-    let d = c .before .before .before in
-    let z = start-of d .args in
-    codable (z .formats .now) (z .schema .now) (z .lengths .now) (z .places .now) (z .buffers .now) (z .body .now) (z .first) (z .n) (z .target) (z .start) (z .end) (low d) (bytes d) (accepted d) (free d) _ (keep-is c)
-
--- the counters are the walk's
-counts-is : (c : tie.After-tried) → c .tried .result ≡ out-of (start-of (c .before .before .before .before)) .counts
-counts-is c =
+runs-ground-requires : tie.Need-runs-ground-requires
+runs-ground-requires c κs =
     let d = c .before .before .before .before in
     let z = start-of d .args in
-    c .tried .ensures ∙ counts-are (z .formats .now) (z .schema .now) (z .lengths .now) (z .places .now) (z .buffers .now) (z .body .now) (z .first) (z .n) (z .target) (z .start) (z .end) (low d) (bytes d) (accepted d) (free d) _ (keep-is (c .before))
+    codable (z .formats .now) (z .schema .now) (z .lengths .now) (z .places .now) (z .buffers .now) (z .body .now) (z .first) (z .n) (z .target) (z .start) (z .end) (low d) (bytes d) (accepted d) (free d) _ (keep-is (c .before))
 
-slice-aggregate-room-ground : tie.Need-slice-aggregate-room-ground
-slice-aggregate-room-ground c = search needs
-
-room-ground-requires : tie.Need-room-ground-requires
-room-ground-requires c κs = search needs
+slice-aggregate-runs-ground : tie.Need-slice-aggregate-runs-ground
+slice-aggregate-runs-ground c = search needs
 
 -- 14 or 13
-ground-is : (c : tie.After-room-ground) → c .room-ground .result
-    ≡ roomGround (plan-of (start-of (c .before .before .before .before .before .before .before))) (out-of (start-of (c .before .before .before .before .before .before .before)) .counts) (start-of (c .before .before .before .before .before .before .before) .args .parts .now) (length (start-of (c .before .before .before .before .before .before .before) .args .plan .now)) (length (start-of (c .before .before .before .before .before .before .before) .args .counters .now)) (length (start-of (c .before .before .before .before .before .before .before) .args .room .now))
+ground-is : (c : tie.After-runs-ground) → c .runs-ground .result ≡ roomGround (plan-of (start-of (c .before .before .before .before .before))) (out-of (start-of (c .before .before .before .before .before)) .counts) (start-of (c .before .before .before .before .before) .args .parts .now) (length (start-of (c .before .before .before .before .before) .args .plan .now)) (length (start-of (c .before .before .before .before .before) .args .counters .now)) (length (start-of (c .before .before .before .before .before) .args .room .now))
 ground-is c =
-    let z = start-of (c .before .before .before .before .before .before .before) .args in
-    c .room-ground .ensures ∙ ap₂ (λ p k. roomGround p k (z .parts .now) (length (z .plan .now)) (length (z .counters .now)) (length (z .room .now))) (c .before .before .before .before .before .before .planned .ensures) (counts-is (c .before .before .before))
+    let d = c .before .before .before .before .before in
+    let z = start-of d .args in
+    c .runs-ground .ensures ∙ ap₂ (λ p k. roomGround p k (z .parts .now) (length (z .plan .now)) (length (z .counters .now)) (length (z .room .now))) (c .before .before .before .before .planned .ensures) (counts-are (z .formats .now) (z .schema .now) (z .lengths .now) (z .places .now) (z .buffers .now) (z .body .now) (z .first) (z .n) (z .target) (z .start) (z .end) (low d) (bytes d) (accepted d) (free d) _ (keep-is (c .before .before)))
 
 returns-4 : tie.Need-returns-4
 returns-4 c =
-    let d = c .before .before .before .before .before .before .before .before in
+    let d = c .before .before .before .before .before .before in
     let s = start-of d in
     let z = s .args in
     answers-room (z .formats .now) (z .schema .now) (lent s) (z .first) (z .n) (own-of s) (plan-of s) (out-of s) (z .parts .now) (z .plan .now) (z .counters .now) (z .room .now) (small d) (none d) (ground-is (c .before)) (c .if4 .taken)
@@ -144,26 +135,43 @@ slice-aggregate-write : tie.Need-slice-aggregate-write
 slice-aggregate-write c = search needs
 
 -- no ground of the room stands
-open-room : (c : tie.Else4) → roomGround (plan-of (start-of (c .before .before .before .before .before .before .before .before))) (out-of (start-of (c .before .before .before .before .before .before .before .before)) .counts) (start-of (c .before .before .before .before .before .before .before .before) .args .parts .now) (length (start-of (c .before .before .before .before .before .before .before .before) .args .plan .now)) (length (start-of (c .before .before .before .before .before .before .before .before) .args .counters .now)) (length (start-of (c .before .before .before .before .before .before .before .before) .args .room .now)) ≡ 0
+open-room : (c : tie.Else4) → roomGround (plan-of (start-of (c .before .before .before .before .before .before))) (out-of (start-of (c .before .before .before .before .before .before)) .counts) (start-of (c .before .before .before .before .before .before) .args .parts .now) (length (start-of (c .before .before .before .before .before .before) .args .plan .now)) (length (start-of (c .before .before .before .before .before .before) .args .counters .now)) (length (start-of (c .before .before .before .before .before .before) .args .room .now)) ≡ 0
 open-room c = sym (ground-is (c .before)) ∙ c .if4 .left
 
 -- THE RUNS FIT
-fitting : (c : tie.Else4) → RoomFor (start-of (c .before .before .before .before .before .before .before .before) .args .formats .now) (start-of (c .before .before .before .before .before .before .before .before) .args .schema .now) (tables (start-of (c .before .before .before .before .before .before .before .before) .args .lengths .now) (start-of (c .before .before .before .before .before .before .before .before) .args .places .now) (start-of (c .before .before .before .before .before .before .before .before) .args .body .now)) (start-of (c .before .before .before .before .before .before .before .before) .args .first) (start-of (c .before .before .before .before .before .before .before .before) .args .start) (start-of (c .before .before .before .before .before .before .before .before) .args .end) (start-of (c .before .before .before .before .before .before .before .before) .args .target) (plan-of (start-of (c .before .before .before .before .before .before .before .before))) (start-of (c .before .before .before .before .before .before .before .before) .args .parts .now) (not (eqb (c .before .before .before .before .before .keeps-of .result) 0)) (length (start-of (c .before .before .before .before .before .before .before .before) .args .room .now))
+fitting : (c : tie.Else4) → RoomFor (start-of (c .before .before .before .before .before .before) .args .formats .now) (start-of (c .before .before .before .before .before .before) .args .schema .now) (tables (start-of (c .before .before .before .before .before .before) .args .lengths .now) (start-of (c .before .before .before .before .before .before) .args .places .now) (start-of (c .before .before .before .before .before .before) .args .body .now)) (start-of (c .before .before .before .before .before .before) .args .first) (start-of (c .before .before .before .before .before .before) .args .start) (start-of (c .before .before .before .before .before .before) .args .end) (start-of (c .before .before .before .before .before .before) .args .target) (plan-of (start-of (c .before .before .before .before .before .before))) (start-of (c .before .before .before .before .before .before) .args .parts .now) (not (eqb (c .before .before .before .keeps-of .result) 0)) (length (start-of (c .before .before .before .before .before .before) .args .room .now))
 fitting c =
-    let d = c .before .before .before .before .before .before .before .before in
+    let d = c .before .before .before .before .before .before in
     let z = start-of d .args in
-    room-for (z .formats .now) (z .schema .now) (z .lengths .now) (z .places .now) (z .buffers .now) (z .body .now) (z .first) (z .n) (z .target) (z .start) (z .end) (low d) (bytes d) (accepted d) (free d) (z .parts .now) (z .room .now) (length (z .plan .now)) (length (z .counters .now)) _ (not (eqb (c .before .before .before .before .before .keeps-of .result) 0)) (keep-is (c .before .before .before .before .before)) (small d)
-    (ap (λ k. roomGround (plan-of (start-of d)) k (z .parts .now) (length (z .plan .now)) (length (z .counters .now)) (length (z .room .now))) (sym (c .before .before .before .before .tried .ensures) ∙ counts-is (c .before .before .before .before)) ∙ open-room c)
+    room-for (z .formats .now) (z .schema .now) (z .lengths .now) (z .places .now) (z .buffers .now) (z .body .now) (z .first) (z .n) (z .target) (z .start) (z .end) (low d) (bytes d) (accepted d) (free d) (z .parts .now) (z .room .now) (length (z .plan .now)) (length (z .counters .now)) _ (not (eqb (c .before .before .before .keeps-of .result) 0)) (keep-is (c .before .before .before)) (small d)
+    (ap (λ k. roomGround (plan-of (start-of d)) k (z .parts .now) (length (z .plan .now)) (length (z .counters .now)) (length (z .room .now))) (counts-are (z .formats .now) (z .schema .now) (z .lengths .now) (z .places .now) (z .buffers .now) (z .body .now) (z .first) (z .n) (z .target) (z .start) (z .end) (low d) (bytes d) (accepted d) (free d) _ (keep-is (c .before .before .before))) ∙ open-room c)
 
 write-requires : tie.Need-write-requires
 write-requires c κs =
     let f = c .before .before in
-    let d = c .before .before .before .before .before .before .before .before .before .before in
+    let d = c .before .before .before .before .before .before .before .before in
     let z = start-of d .args in
     let u = due (z .formats .now) (z .schema .now) (z .lengths .now) (z .places .now) (z .buffers .now) (z .body .now) (z .first) (z .n) (z .target) (z .start) (z .end) (low d) (bytes d) (accepted d) (free d) in (
-      (ends-sized _ (due-width (z .formats .now) (z .schema .now) (z .first) (z .target) u), codable (z .formats .now) (z .schema .now) (z .lengths .now) (z .places .now) (z .buffers .now) (z .body .now) (z .first) (z .n) (z .target) (z .start) (z .end) (low d) (bytes d) (accepted d) (free d) _ (keep-is (c .before .before .before .before .before .before .before))),
-      subst (λ p. RoomFor (z .formats .now) (z .schema .now) (tables (z .lengths .now) (z .places .now) (z .body .now)) (z .first) (z .start) (z .end) (z .target) p (z .parts .now) (not (eqb (c .before .before .before .before .before .before .before .keeps-of .result) 0)) (length (z .room .now))) (sym (c .before .before .before .before .before .before .before .before .before .planned .ensures)) (fitting f),
+      (ends-sized _ (due-width (z .formats .now) (z .schema .now) (z .first) (z .target) u), codable (z .formats .now) (z .schema .now) (z .lengths .now) (z .places .now) (z .buffers .now) (z .body .now) (z .first) (z .n) (z .target) (z .start) (z .end) (low d) (bytes d) (accepted d) (free d) _ (keep-is (c .before .before .before .before .before))),
+      subst (λ p. RoomFor (z .formats .now) (z .schema .now) (tables (z .lengths .now) (z .places .now) (z .body .now)) (z .first) (z .start) (z .end) (z .target) p (z .parts .now) (not (eqb (c .before .before .before .before .before .keeps-of .result) 0)) (length (z .room .now))) (sym (c .before .before .before .before .before .before .before .planned .ensures)) (fitting f),
     )
+
+sub-counters-of : tie.Need-sub-counters-of
+sub-counters-of c =
+    let d = c .before .before .before .before .before .before .before .before .before .before .before in
+    let z = start-of d .args in
+    let r = codable (z .formats .now) (z .schema .now) (z .lengths .now) (z .places .now) (z .buffers .now) (z .body .now) (z .first) (z .n) (z .target) (z .start) (z .end) (low d) (bytes d) (accepted d) (free d) _ (keep-is (c .before .before .before .before .before .before .before .before)) .in-order in
+    omega (arith, r)
+
+counters-of-requires : tie.Need-counters-of-requires
+counters-of-requires c κs = search needs
+
+-- the counters are the walk's
+counts-is : (c : tie.After-counters-of) → c .counters-of .result ≡ out-of (start-of (c .before .before .before .before .before .before .before .before .before .before .before .before)) .counts
+counts-is c =
+    let d = c .before .before .before .before .before .before .before .before .before .before .before .before in
+    let z = start-of d .args in
+    c .counters-of .ensures ∙ ap (allCounts (z .end - z .start)) (c .before .before .before .write .ensures .1) ∙ counts-are (z .formats .now) (z .schema .now) (z .lengths .now) (z .places .now) (z .buffers .now) (z .body .now) (z .first) (z .n) (z .target) (z .start) (z .end) (low d) (bytes d) (accepted d) (free d) _ (keep-is (c .before .before .before .before .before .before .before .before .before))
 
 slice-aggregate-keep-result : tie.Need-slice-aggregate-keep-result
 slice-aggregate-keep-result c = search needs
@@ -173,9 +181,10 @@ slice-aggregate-keep-result-2 c = search needs
 
 keep-result-requires : tie.Need-keep-result-requires
 keep-result-requires c κs =
-    let z = start-of (c .before .before .before .before .before .before .before .before .before .before .before .before .before .before .before .before .before) .args in
-    let l = lengths-are (length (z .plan .now)) (length (z .counters .now)) (room-free (plan-of (start-of (c .before .before .before .before .before .before .before .before .before .before .before .before .before .before .before .before .before))) (out-of (start-of (c .before .before .before .before .before .before .before .before .before .before .before .before .before .before .before .before .before)) .counts) (z .parts .now) (length (z .plan .now)) (length (z .counters .now)) (length (z .room .now)) (open-room (c .before .before .before .before .before .before .before .before .before)) .lengths) in
-    (l .0, l .1, ap length (c .before .before .before .before .before .before .before .before .before .before .before .before .before .before .before .before .planned .ensures) ∙ plan-length (z .formats .now) (z .schema .now) (z .target) 3 _ _ 0 (omega arith), ap length (c .before .before .before .before .before .before .before .before .before .before .before .before .before .tried .ensures))
+    let d = c .before .before .before .before .before .before .before .before .before .before .before .before .before .before .before .before in
+    let z = start-of d .args in
+    let l = lengths-are (length (z .plan .now)) (length (z .counters .now)) (room-free (plan-of (start-of d)) (out-of (start-of d) .counts) (z .parts .now) (length (z .plan .now)) (length (z .counters .now)) (length (z .room .now)) (open-room (c .before .before .before .before .before .before .before .before .before .before)) .lengths) in
+    (l .0, l .1, ap length (c .before .before .before .before .before .before .before .before .before .before .before .before .before .before .before .planned .ensures) ∙ plan-length (z .formats .now) (z .schema .now) (z .target) 3 _ _ 0 (omega arith), ap length (c .before .before .before .before .counters-of .ensures))
 
 same-length : tie.Need-same-length
 same-length c = search needs
@@ -188,16 +197,16 @@ same-length-3 c = search needs
 
 returns-5 : tie.Need-returns-5
 returns-5 c =
-    let d = c .before .before .before .before .before .before .before .before .before .before .before .before .before .before .before .before .before .before .before .before .before .before in
-    let f = c .before .before .before .before .before .before .before .before .before .before .before .before .before .before in
+    let d = c .before .before .before .before .before .before .before .before .before .before .before .before .before .before .before .before .before .before .before .before .before in
+    let f = c .before .before .before .before .before .before .before .before .before .before .before .before .before .before .before in
     let s = start-of d in
     let z = s .args in
     answers-made (z .formats .now) (z .schema .now) (lent s) (z .first) (z .n) (own-of s) (plan-of s) (out-of s) (z .parts .now) (z .plan .now) (z .counters .now) (z .room .now) (small d) (none d) (open-room f) refl
-    (c .before .before .before .before .keep-result .ensures .0 ∙ c .before .before .before .before .before .before .before .before .before .before .before .before .before .before .before .before .before .before .before .before .before .planned .ensures)
-    (c .before .before .before .before .keep-result .ensures .1 ∙ counts-is (c .before .before .before .before .before .before .before .before .before .before .before .before .before .before .before .before .before .before))
-    (c .before .before .before .before .before .before .before .before .before .before .before .write .ensures
-    ∙ ap (λ p. runsIn (z .formats .now) (z .schema .now) (tables (z .lengths .now) (z .places .now) (z .body .now)) (z .first) (z .start) (z .end) (z .target) p (z .parts .now) (not (eqb (c .before .before .before .before .before .before .before .before .before .before .before .before .before .before .before .before .before .before .before .keeps-of .result) 0)) (z .room .now)) (c .before .before .before .before .before .before .before .before .before .before .before .before .before .before .before .before .before .before .before .before .before .planned .ensures)
-    ∙ room-is (z .formats .now) (z .schema .now) (z .lengths .now) (z .places .now) (z .buffers .now) (z .body .now) (z .first) (z .n) (z .target) (z .start) (z .end) (low d) (bytes d) (accepted d) (free d) (not (eqb (c .before .before .before .before .before .before .before .before .before .before .before .before .before .before .before .before .before .before .before .keeps-of .result) 0)) (keep-is (c .before .before .before .before .before .before .before .before .before .before .before .before .before .before .before .before .before .before .before)) (plan-of s) (z .parts .now) (z .room .now) (fitting f))
+    (c .before .before .before .before .keep-result .ensures .0 ∙ c .before .before .before .before .before .before .before .before .before .before .before .before .before .before .before .before .before .before .before .before .planned .ensures)
+    (c .before .before .before .before .keep-result .ensures .1 ∙ counts-is (c .before .before .before .before .before .before .before .before .before))
+    (c .before .before .before .before .before .before .before .before .before .before .before .before .write .ensures .0
+    ∙ ap (λ p. runsIn (z .formats .now) (z .schema .now) (tables (z .lengths .now) (z .places .now) (z .body .now)) (z .first) (z .start) (z .end) (z .target) p (z .parts .now) (not (eqb (c .before .before .before .before .before .before .before .before .before .before .before .before .before .before .before .before .before .before .keeps-of .result) 0)) (z .room .now)) (c .before .before .before .before .before .before .before .before .before .before .before .before .before .before .before .before .before .before .before .before .planned .ensures)
+    ∙ room-is (z .formats .now) (z .schema .now) (z .lengths .now) (z .places .now) (z .buffers .now) (z .body .now) (z .first) (z .n) (z .target) (z .start) (z .end) (low d) (bytes d) (accepted d) (free d) (not (eqb (c .before .before .before .before .before .before .before .before .before .before .before .before .before .before .before .before .before .before .keeps-of .result) 0)) (keep-is (c .before .before .before .before .before .before .before .before .before .before .before .before .before .before .before .before .before .before)) (plan-of s) (z .parts .now) (z .room .now) (fitting f))
 
 pub encode-spec : {M : Type 1} → statement M
 encode-spec =
@@ -211,12 +220,13 @@ encode-spec =
     planned-requires
     slice-aggregate-keeps-of
     keeps-of-requires
-    tried-requires
-    slice-aggregate-room-ground
-    room-ground-requires
+    slice-aggregate-runs-ground
+    runs-ground-requires
     returns-4
     slice-aggregate-write
     write-requires
+    sub-counters-of
+    counters-of-requires
     slice-aggregate-keep-result
     slice-aggregate-keep-result-2
     keep-result-requires

@@ -9,7 +9,7 @@ use Rattle.schema.specs.Tree.{codeOf}
 use Rattle.array_data.specs.Tables.{offsetOf, place}
 use Rattle.array_data.specs.Typed.{tablesFrom}
 use Rattle.array_data.specs.lent_tables.Lent.{tables}
-use Rattle.coding.proofs.Rows.{place-as, held-as, fits-as, written-as, sized-as}
+use Rattle.coding.proofs.Rows.{place-as, held-as, counted-as, fits-as, written-as, sized-as}
 use Rattle.coding.proofs.encode.write.Statement.{statement}
 use Rattle.coding.proofs.encode.write.Tie as tie
 
@@ -78,8 +78,10 @@ returns c =
     let m = s .args .end - s .args .start in
     let ew = c .before .before .before .before .before .before .before .before .before .before .width-of .ensures ∙ ap widthOf (c .before .before .before .before .before .before .before .before .before .before .before .code-of .ensures) in
     let ee = c .before .before .before .before .before .before .before .before .width-of2 .ensures ∙ ap widthOf (c .before .before .before .before .before .before .before .before .before .code-of2 .ensures) in
-    let k = c .before .before .before .before .before .before .before .slots-of .ensures in
-    written-as (s .args .body .now) (wide-of s) (s .args .keep) (first-byte s) (first-bit s) (mask-byte s) (first-bit s) m ew (k .0) (k .1) (k .2) (ends-of s) _ _ _ ee (c .before .before .before .before .before .before .start-of .ensures) (c .before .before .before .before .before .start-of2 .ensures) (c .before .before .before .before .start-of3 .ensures) (s .args .room .now) (c .before .before .write-runs .ensures)
+    let k = c .before .before .before .before .before .before .before .slots-of .ensures in (
+      written-as (s .args .body .now) (wide-of s) (s .args .keep) (first-byte s) (first-bit s) (mask-byte s) (first-bit s) m ew (k .0) (k .1) (k .2) (ends-of s) _ _ _ ee (c .before .before .before .before .before .before .start-of .ensures) (c .before .before .before .before .before .start-of2 .ensures) (c .before .before .before .before .start-of3 .ensures) (s .args .room .now) (c .before .before .write-runs .ensures .0),
+      counted-as (s .args .body .now) (wide-of s) (s .args .keep) (first-byte s) (first-bit s) (mask-byte s) (first-bit s) m ew (k .0) (k .1) (k .2) (c .before .before .write-runs .ensures .1),
+    )
 
 pub write-spec : {M : Type 1} → statement M
 write-spec =

@@ -16,7 +16,7 @@ use Rattle.anew.proofs.PlanWords.{plan-length}
 use Rattle.anew.proofs.result_plan.Answered.{before-column, before-own, answers-large, answers-refused, answers-room, answers-made}
 use Rattle.coding.specs.Expand.{expandOwn, expandKeeps, expandPlan, expandOut, RowsFit, rowsIn}
 use Rattle.coding.proofs.Runs.{own-same, none-before, rows-fit}
-use Rattle.coding.proofs.Expanded.{ranged, come, expandable, counts-are, room-is}
+use Rattle.coding.proofs.Expanded.{target-plain, ranged, come, expandable, counts-are, room-is}
 use Rattle.coding.proofs.Asked.{lengths-are, small-yes, small-no, keep-by}
 use Rattle.coding.proofs.Room.{room-free}
 use Rattle.coding.proofs.expand.expand.Statement.{statement}
@@ -89,7 +89,7 @@ none c =
 planned-requires : tie.Need-planned-requires
 planned-requires c κs =
     let z = start-of c .args in
-    come (z .formats .now) (z .schema .now) (z .lengths .now) (z .places .now) (z .buffers .now) (z .body .now) (z .first) (z .n) (z .target) (z .start) (z .end) (low c) (bytes c) (accepted c) (free c)
+    (come (z .formats .now) (z .schema .now) (z .lengths .now) (z .places .now) (z .buffers .now) (z .body .now) (z .first) (z .n) (z .target) (z .start) (z .end) (low c) (bytes c) (accepted c) (free c), target-plain (z .formats .now) (z .schema .now) _ (z .first) (z .n) (z .target) (z .start) (z .end) (free c))
 
 sub-counters-of : tie.Need-sub-counters-of
 sub-counters-of c =

@@ -12,7 +12,7 @@ use Rattle.anew.specs.Anew.{ahead}
 use Rattle.anew.proofs.result_plan.Answered.{before-column, before-own, asks-refused, asks-lengths, asks-done}
 use Rattle.coding.specs.Expand.{expandOwn, expandPlan, expandOut}
 use Rattle.coding.proofs.Runs.{own-same, none-before}
-use Rattle.coding.proofs.Expanded.{ranged, come, counts-are}
+use Rattle.coding.proofs.Expanded.{target-plain, ranged, come, counts-are}
 use Rattle.coding.proofs.Asked.{lengths-first, lengths-second, lengths-both}
 use Rattle.coding.proofs.expand.plan_expand.Statement.{statement}
 use Rattle.coding.proofs.expand.plan_expand.Tie as tie
@@ -88,7 +88,7 @@ planned-requires : tie.Need-planned-requires
 planned-requires c κs =
     let d = c .before .before in
     let z = start-of d .args in
-    come (z .formats .now) (z .schema .now) (z .lengths .now) (z .places .now) (z .buffers .now) (z .body .now) (z .first) (z .n) (z .target) (z .start) (z .end) (low d) (bytes d) (accepted d) (free d)
+    (come (z .formats .now) (z .schema .now) (z .lengths .now) (z .places .now) (z .buffers .now) (z .body .now) (z .first) (z .n) (z .target) (z .start) (z .end) (low d) (bytes d) (accepted d) (free d), target-plain (z .formats .now) (z .schema .now) _ (z .first) (z .n) (z .target) (z .start) (z .end) (free d))
 
 sub-counters-of : tie.Need-sub-counters-of
 sub-counters-of c =

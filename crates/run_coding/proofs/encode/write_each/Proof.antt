@@ -38,6 +38,14 @@ module _ (body : List ℕ) (w : ℕ) (masked : Bool) (start mask bit : ℕ) wher
       let d = last-count body w masked start mask bit m (omega arith) in
       fewer-fit w masked e ends values goal size (length (lastRows body w masked start mask bit m)) k f (omega (arith, g, d, ek))
 
+  -- with the last run they are all
+  all-counted : (k r m : ℕ) → r + 1 ≡ m → k ≡ length (before r) → k + 1 ≡ length (lastRows body w masked start mask bit m)
+  all-counted k r m em ek =
+      let f : m - 1 ≡ r = omega arith in
+      let d = last-count body w masked start mask bit m (omega arith) in
+      let g : length (before (m - 1)) ≡ length (before r) = ap (λ n. length (before n)) f in
+      omega (arith, d, g, ek)
+
   module _ (e ends values goal : ℕ) (room : List ℕ) where
     abbrev written : List ℕ → List ℕ
     written rs = runsWritten body w masked start mask bit e ends values goal 0 rs room
@@ -147,6 +155,9 @@ write-run-requires-2 c κs =
     let f = one-fits (z .body .now) (z .w) (z .masked) (z .s .start) (z .s .mask) (z .s .bit) (z .e) (z .t .ends) (z .t .values) (z .t .mask) (length (z .room .now)) (z .m) (l .k) (l .r) (l .inv .0) (l .inv .5) (s .pre .1) in
     (s .pre .0 .3 .sized, s .pre .0 .2, rw (l .inv .2) f, omega (arith, l .inv .0, s .pre .0 .1))
 
+add-result : tie.Need-add-result Inv-loop μ-loop
+add-result c = let s = c .before .before .before .before .before .before .before .before .before .before in let l = c .before .before .before .before .before .loop in omega (arith, l .inv .1, l .inv .0, s .pre .0 .1)
+
 same-length : tie.Need-same-length Inv-loop μ-loop
 same-length c = omega arith
 
@@ -155,7 +166,10 @@ returns c =
     let s = c .before .before .before .before .before .before .before .before .before .before in
     let z = s .args in
     let l = c .before .before .before .before .before .loop in
-    ended (z .body .now) (z .w) (z .masked) (z .s .start) (z .s .mask) (z .s .bit) (z .e) (z .t .ends) (z .t .values) (z .t .mask) (z .room .now) (l .k) (l .r) (z .m) (omega (arith, c .before .before .before .before .loop-test .left, l .inv .0)) (l .inv .5) (l .inv .3) (l .inv .4) (l .inv .6) (c .before .before .write-run2 .ensures)
+    let q : l .r + 1 ≡ z .m = omega (arith, c .before .before .before .before .loop-test .left, l .inv .0) in (
+      ended (z .body .now) (z .w) (z .masked) (z .s .start) (z .s .mask) (z .s .bit) (z .e) (z .t .ends) (z .t .values) (z .t .mask) (z .room .now) (l .k) (l .r) (z .m) q (l .inv .5) (l .inv .3) (l .inv .4) (l .inv .6) (c .before .before .write-run2 .ensures),
+      all-counted (z .body .now) (z .w) (z .masked) (z .s .start) (z .s .mask) (z .s .bit) (l .k) (l .r) (z .m) q (l .inv .5),
+    )
 
 pub write-each-spec : {M : Type 1} → statement M
 write-each-spec =
@@ -178,5 +192,6 @@ write-each-spec =
     loop-less
     loop-again
     write-run-requires-2
+    add-result
     same-length
     returns)

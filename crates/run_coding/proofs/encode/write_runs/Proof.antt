@@ -1,5 +1,5 @@
 -- `run_coding::encode::write_runs` meets its contract. Assumes nothing.
-use mathlib.Core.Path.{_≡_, sym, subst}
+use mathlib.Core.Path.{_≡_, sym, ap, subst}
 use mathlib.Core.Bool.{Bool, true, false}
 use mathlib.Core.List.{List}
 use Prim.Native.Nat.{ℕ, _≤_, _<_, _^_}
@@ -18,13 +18,14 @@ Asks s w b = ((s .args .m < 2 ^ 63) × Sized (s .args .e) × Held (s .args .body
     × Fits w b (s .args .e) (s .args .t .ends) (s .args .t .values) (s .args .t .mask) (length (s .args .room .now))
     (length (lastRows (s .args .body .now) w b (s .args .s .start) (s .args .s .mask) (s .args .s .bit) (s .args .m)))
 
-abbrev Gives : tie.Start → ℕ → Bool → List ℕ → Type 0
-Gives s w b room =
-    room ≡ runsWritten (s .args .body .now) w b (s .args .s .start) (s .args .s .mask) (s .args .s .bit) (s .args .e) (s .args .t .ends) (s .args .t .values) (s .args .t .mask) 0
-    (lastRows (s .args .body .now) w b (s .args .s .start) (s .args .s .mask) (s .args .s .bit) (s .args .m)) (s .args .room .now)
+abbrev Gives : tie.Start → ℕ → Bool → List ℕ → ℕ → Type 0
+Gives s w b room k =
+    (room ≡ runsWritten (s .args .body .now) w b (s .args .s .start) (s .args .s .mask) (s .args .s .bit) (s .args .e) (s .args .t .ends) (s .args .t .values) (s .args .t .mask) 0
+    (lastRows (s .args .body .now) w b (s .args .s .start) (s .args .s .mask) (s .args .s .bit) (s .args .m)) (s .args .room .now))
+    × (k ≡ length (lastRows (s .args .body .now) w b (s .args .s .start) (s .args .s .mask) (s .args .s .bit) (s .args .m)))
 
-back : (c : tie.Start) (w : ℕ) (b : Bool) {y : List ℕ} → c .args .w ≡ w → c .args .masked ≡ b → Gives c w b y → Gives c (c .args .w) (c .args .masked) y
-back c w b {y} e f g = subst (λ z. Gives c (c .args .w) z y) (sym f) (subst (λ z. Gives c z b y) (sym e) g)
+back : (c : tie.Start) (w : ℕ) (b : Bool) {y : List ℕ} {k : ℕ} → c .args .w ≡ w → c .args .masked ≡ b → Gives c w b y k → Gives c (c .args .w) (c .args .masked) y k
+back c w b {y} {k} e f g = subst (λ z. Gives c (c .args .w) z y k) (sym f) (subst (λ z. Gives c z b y k) (sym e) g)
 
 -- with a row at least
 some : (c : tie.Start) (w : ℕ) (b : Bool) → 1 ≤ c .args .m → Asks c w b
@@ -40,7 +41,7 @@ last c = c .pre .0 .2 .sized
 returns : tie.Need-returns
 returns c =
     let s = c .before .before .before in
-    no-runs (s .args .body .now) (s .args .w) (s .args .masked) (s .args .s .start) (s .args .s .mask) (s .args .s .bit) (s .args .e) (s .args .t .ends) (s .args .t .values) (s .args .t .mask) (s .args .m) (s .args .room .now) (c .if1 .taken)
+    (no-runs (s .args .body .now) (s .args .w) (s .args .masked) (s .args .s .start) (s .args .s .mask) (s .args .s .bit) (s .args .e) (s .args .t .ends) (s .args .t .values) (s .args .t .mask) (s .args .m) (s .args .room .now) (c .if1 .taken), ap (λ n. length (lastRows (s .args .body .now) (s .args .w) (s .args .masked) (s .args .s .start) (s .args .s .mask) (s .args .s .bit) n)) (sym (c .if1 .taken)))
 
 write-each-requires : tie.Need-write-each-requires
 write-each-requires c κs =
