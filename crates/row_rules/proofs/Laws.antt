@@ -2,23 +2,17 @@
 use mathlib.Core.Path.{_≡_, refl, sym, ap₂, _∙_}
 use mathlib.Core.Logic.{⊎-elim}
 use mathlib.Core.Bool.{Bool, true, false, _&&_}
-use mathlib.Core.List.{List}
 use Prim.Native.Nat.{ℕ, zero, suc, _+_, _%_, _^_, _≤_, _<_, min}
-use native.Mathlib.Nat.{add-zero, mul-zero, eq-or-lt-of-le}
+use native.Mathlib.Nat.{eq-or-lt-of-le}
 use native.Mathlib.Numerals.{add-one}
 use native.Mathlib.Omega.{arith}
-use lib.ListN.{drop}
 use lib.Dec.{T, leb, ltb, leb→le, ltb→lt, lt→ltb}
 use borrow.Author.Tests.{lt-ltb, le-ltb, le-leb, lt-leb, leb-true, leb-false, ltb-true}
-use Rattle.number.specs.Number.{number, entry}
 use Rattle.columnar.specs.Types.{half}
 use Rattle.columnar.specs.Test.{every}
 use Rattle.columnar.specs.RunEnd.{startOf}
 use Rattle.columnar.proofs.Test.{every-out, every-in, every-false}
 use Rattle.row_rules.specs.Rules.{never-falls, viewRow, rises}
-
-pub first-entry : (w : ℕ) (s : List ℕ) (at : ℕ) → number w (drop at s) ≡ entry w s at 0
-first-entry w s at = rw (mul-zero, add-zero)
 
 pub and-false : (a : Bool) → a && false ≡ false
 and-false true = refl

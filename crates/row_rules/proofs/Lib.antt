@@ -1,3 +1,4 @@
 -- The laws of `row_rules`.
 pub mod Laws
+mod Gather
 pub mod Links

@@ -3,8 +3,10 @@
 pub mod slots;
 
 ghost use mathlib.Core.Path.{_≡_};
-ghost use Prim.Native.Nat.{_+_, _*_, _≤_, min};
+ghost use Prim.Native.Nat.{_+_, _*_, _^_, _≤_, _<_, min};
 ghost use lib.ListN.{length};
+ghost use lib.Dec.{ltb};
+ghost use Rattle.columnar.specs.Types.{half};
 ghost use Rattle.row_rules.specs.Rules.{offsetsRows, viewRow, listViewRows, endsRows};
 
 // Whether the n + 1 offsets from `at` on never fall, none being negative. Read without a sign, offsets that never fall have no negative
@@ -30,27 +32,21 @@ pub fn offsets_i32(body: &[u8], at: usize, n: usize) -> bool
     good
 }
 
-// Whether the n + 1 offsets from `at` on never fall, none being negative. Read without a sign, offsets that never fall have no negative
-// one where the last is not.
+// Whether the n + 1 offsets from `at` on never fall, none being negative. The highest bits of the offsets and of their differences are
+// gathered, so that the loop compiles to vectors.
 pub fn offsets_i64(body: &[u8], at: usize, n: usize) -> bool
     requires { ⌜ at + 8 * (n + 1) ≤ length (now body) ⌝ }
     ensures { λ r. ⌜ r ≡ offsetsRows 8 (now (body .entry)) at n ⌝ }
 {
-    let mut last = number::read_u64(body, at);
-    let mut good = true;
+    let mut all = number::read_u64(body, at + 8 * n);
     let mut i = 0;
     while i < n {
+        let here = number::read_u64(body, at + 8 * i);
         let next = number::read_u64(body, at + 8 * (i + 1));
-        if next < last {
-            good = false;
-        }
-        last = next;
+        all |= here | std::num::wrapping_sub_u64(next, here);
         i += 1;
     }
-    if 9223372036854775807 < last {
-        return false;
-    }
-    good
+    all < 9223372036854775808
 }
 
 // The most that a sum of two numbers of 31 bits may be, over a child of `child` rows.
@@ -111,8 +107,8 @@ fn view_row_i64(o: u64, z: u64, child: u64) -> bool
     o + z <= child
 }
 
-// Whether n list-view rows obey, with offsets from `at` on and sizes from `too` on, over a child of `child` rows.
-pub fn list_views_i64(body: &[u8], at: usize, too: usize, n: usize, child: u64) -> bool
+// Whether n list-view rows obey, with offsets from `at` on and sizes from `too` on, over a child of `child` rows. Row by row.
+fn views_row_by_row(body: &[u8], at: usize, too: usize, n: usize, child: u64) -> bool
     requires { ⌜ (at + 8 * n ≤ length (now body)) × (too + 8 * n ≤ length (now body)) ⌝ }
     ensures { λ r. ⌜ r ≡ listViewRows 8 (now (body .entry)) at too child n ⌝ }
 {
@@ -126,6 +122,42 @@ pub fn list_views_i64(body: &[u8], at: usize, too: usize, n: usize, child: u64) 
         i += 1;
     }
     true
+}
+
+// A number with its highest bit 0 where the row obeys: those of the offset, the size, and what is left behind each of them.
+fn view_bits_i64(o: u64, z: u64, child: u64) -> u64
+    requires { ⌜ child < 2 ^ 63 ⌝ }
+    ensures { λ r. ⌜ ltb r (half 8) ≡ viewRow 8 child o z ⌝ }
+{
+    let left = std::num::wrapping_sub_u64(child, o);
+    o | z | left | std::num::wrapping_sub_u64(left, z)
+}
+
+// The same of a child of less than 2^63 rows: the highest bits are gathered, so that the loop compiles to vectors.
+fn views_at_once(body: &[u8], at: usize, too: usize, n: usize, child: u64) -> bool
+    requires { ⌜ (at + 8 * n ≤ length (now body)) × (too + 8 * n ≤ length (now body)) × (child < 2 ^ 63) ⌝ }
+    ensures { λ r. ⌜ r ≡ listViewRows 8 (now (body .entry)) at too child n ⌝ }
+{
+    let mut all: u64 = 0;
+    let mut i = 0;
+    while i < n {
+        let o = number::read_u64(body, at + 8 * i);
+        let z = number::read_u64(body, too + 8 * i);
+        all |= view_bits_i64(o, z, child);
+        i += 1;
+    }
+    all < 9223372036854775808
+}
+
+// Whether n list-view rows obey, with offsets from `at` on and sizes from `too` on, over a child of `child` rows.
+pub fn list_views_i64(body: &[u8], at: usize, too: usize, n: usize, child: u64) -> bool
+    requires { ⌜ (at + 8 * n ≤ length (now body)) × (too + 8 * n ≤ length (now body)) ⌝ }
+    ensures { λ r. ⌜ r ≡ listViewRows 8 (now (body .entry)) at too child n ⌝ }
+{
+    if child < 9223372036854775808 {
+        return views_at_once(body, at, too, n, child);
+    }
+    views_row_by_row(body, at, too, n, child)
 }
 
 // Whether the n run ends from `at` on rise strictly from at least 1, none being negative: as with offsets, where the last is not.

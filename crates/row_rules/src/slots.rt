@@ -101,16 +101,20 @@ pub fn dense_good(body: &[u8], at: usize, too: usize, n: usize, ids: &[u8], lens
     true
 }
 
-// Whether each of the n keys at `at` is below bound.
+// Whether each of the n keys at `at` is below bound. They are compared in their own width, many at once.
 pub fn keys_below_u8(body: &[u8], at: usize, n: usize, bound: u64) -> bool
     requires { ⌜ at + n ≤ length (now body) ⌝ }
     ensures { λ r. ⌜ r ≡ keysBelow 1 (now (body .entry)) at bound n ⌝ }
 {
+    if 255 < bound {
+        return true;
+    }
+    let most = bound as u8;
     let mut good = true;
     let mut i = 0;
     while i < n {
-        let key = number::read_u8(body, at + i) as u64;
-        if bound <= key {
+        let key = number::read_u8(body, at + i);
+        if most <= key {
             good = false;
         }
         i += 1;
@@ -147,11 +151,15 @@ pub fn keys_below_u16(body: &[u8], at: usize, n: usize, bound: u64) -> bool
     requires { ⌜ at + 2 * n ≤ length (now body) ⌝ }
     ensures { λ r. ⌜ r ≡ keysBelow 2 (now (body .entry)) at bound n ⌝ }
 {
+    if 65535 < bound {
+        return true;
+    }
+    let most = bound as u16;
     let mut good = true;
     let mut i = 0;
     while i < n {
-        let key = number::read_u16(body, at + 2 * i) as u64;
-        if bound <= key {
+        let key = number::read_u16(body, at + 2 * i);
+        if most <= key {
             good = false;
         }
         i += 1;
@@ -188,11 +196,15 @@ pub fn keys_below_u32(body: &[u8], at: usize, n: usize, bound: u64) -> bool
     requires { ⌜ at + 4 * n ≤ length (now body) ⌝ }
     ensures { λ r. ⌜ r ≡ keysBelow 4 (now (body .entry)) at bound n ⌝ }
 {
+    if 4294967295 < bound {
+        return true;
+    }
+    let most = bound as u32;
     let mut good = true;
     let mut i = 0;
     while i < n {
-        let key = number::read_u32(body, at + 4 * i) as u64;
-        if bound <= key {
+        let key = number::read_u32(body, at + 4 * i);
+        if most <= key {
             good = false;
         }
         i += 1;

@@ -1,17 +1,18 @@
 -- Laws of the row tests: one more row passed, a row that fails. Assumes nothing.
-use mathlib.Core.Path.{_≡_, refl, sym, ap, _∙_}
+use mathlib.Core.Path.{_≡_, refl, sym, ap, subst, _∙_}
 use mathlib.Core.Bool.{Bool, true, false, _&&_}
 use mathlib.Core.List.{List}
-use Prim.Native.Nat.{ℕ, suc, _+_, _*_, _≤_, _<_}
-use native.Mathlib.Nat.{one-mul}
+use Prim.Native.Nat.{ℕ, zero, suc, _+_, _*_, _^_, _≤_, _<_}
+use native.Mathlib.Nat.{one-mul, lt-of-lt-of-le}
 use native.Mathlib.Numerals.{add-one}
 use lib.ListN.{length, drop, getD}
-use lib.Seq.{drop-cons, drop-length}
+use lib.Seq.{drop-cons, drop-length, getD-drop}
 use lib.Dec.{ltb}
 use borrow.Author.Tests.{lt-ltb, le-ltb, eq-eqb, ne-eqb}
 use Rattle.columnar.specs.Test.{every, onlyIf}
 use Rattle.columnar.proofs.Test.{every-false}
 use Rattle.number.specs.Number.{number, entry}
+use Rattle.number.proofs.Laws.{number-lt}
 use Rattle.bits.specs.Bits.{bits}
 use Rattle.row_rules.specs.slots.Slots.{fieldOf, validAt, keysBelow, validKeysBelow}
 
@@ -70,6 +71,13 @@ entry-one s at i = ap (λ (k : ℕ). number 1 (drop (at + k) s)) (one-mul i)
 module _ (w : ℕ) (s : List ℕ) (at bound : ℕ) where
   pub keys-pass : (i : ℕ) {g : Bool} → g ≡ keysBelow w s at bound i → entry w s at i < bound → g ≡ keysBelow w s at bound (i + 1)
   keys-pass i e h = pass _ i e (lt-ltb _ _ h)
+
+  -- a bound above every number of w bytes
+  pub keys-all : ((j : ℕ) → getD s j 0 < 256) → 256 ^ w ≤ bound → (n : ℕ) → true ≡ keysBelow w s at bound n
+  keys-all small h zero = refl
+  keys-all small h (suc n) =
+      let l : entry w s at n < 256 ^ w = number-lt w (drop (at + w * n) s) (λ j. rw getD-drop (small (at + w * n + j))) in
+      subst (λ k. true ≡ keysBelow w s at bound k) (add-one n) (keys-pass n (keys-all small h n) (lt-of-lt-of-le l h))
 
   pub keys-spoil : (i : ℕ) → bound ≤ entry w s at i → false ≡ keysBelow w s at bound (i + 1)
   keys-spoil i h = spoil _ i (le-ltb _ _ h)

@@ -4,15 +4,23 @@ use mathlib.Core.Logic.{⊎-elim}
 use Prim.Native.Nat.{_-_, _≤_}
 use native.Mathlib.Omega.{arith}
 use Rattle.row_rules.specs.slots.Slots.{keysBelow}
-use Rattle.row_rules.proofs.slots.Laws.{keys-pass, keys-spoil}
+use Rattle.row_rules.proofs.slots.Laws.{keys-all, keys-pass, keys-spoil}
 use Rattle.row_rules.proofs.slots.keys_below_u32.Statement.{statement}
 use Rattle.row_rules.proofs.slots.keys_below_u32.Tie as tie
 
 abbrev Inv-loop : tie.InvT-loop
-Inv-loop body at n bound good₀ i₀ good i = (i ≤ n) × (good ≡ keysBelow 4 body at bound i)
+Inv-loop body at n bound most good₀ i₀ good i = (i ≤ n) × (good ≡ keysBelow 4 body at bound i)
 
 abbrev μ-loop : tie.MeasureT-loop
-μ-loop body at n bound good₀ i₀ good i = n - i
+μ-loop body at n bound most good₀ i₀ good i = n - i
+
+returns : tie.Need-returns Inv-loop μ-loop
+returns c =
+    let z = c .before .before .args in
+    keys-all 4 (z .body .now) (z .at) (z .bound) (λ j. c .before .shared-slice-known .given j .fits) (omega arith) (z .n)
+
+cast-most : tie.Need-cast-most Inv-loop μ-loop
+cast-most c = omega arith
 
 loop-holds : tie.Need-loop-holds Inv-loop μ-loop
 loop-holds c = (omega arith, refl)
@@ -26,9 +34,6 @@ add-read-u32 c = omega arith
 read-u32-requires : tie.Need-read-u32-requires Inv-loop μ-loop
 read-u32-requires c κs = omega arith
 
-cast-key : tie.Need-cast-key Inv-loop μ-loop
-cast-key c = omega arith
-
 add-i : tie.Need-add-i Inv-loop μ-loop
 add-i c = omega arith
 
@@ -37,13 +42,13 @@ loop-less c = omega arith
 
 loop-again : tie.Need-loop-again Inv-loop μ-loop
 loop-again c =
-    let z = c .before .before .before .before .before .args in
+    let z = c .before .before .before .before .before .before .args in
     let l = c .before .before .before .loop in
-    (omega arith, ⊎-elim (λ x. x .1 ∙ keys-spoil 4 (z .body .now) (z .at) (z .bound) (l .i) (omega arith)) (λ x. keys-pass 4 (z .body .now) (z .at) (z .bound) (l .i) (x .1 ∙ l .inv .1) (omega arith)) (c .if1 .came))
+    (omega arith, ⊎-elim (λ x. x .1 ∙ keys-spoil 4 (z .body .now) (z .at) (z .bound) (l .i) (omega arith)) (λ x. keys-pass 4 (z .body .now) (z .at) (z .bound) (l .i) (x .1 ∙ l .inv .1) (omega arith)) (c .if2 .came))
 
-returns : tie.Need-returns Inv-loop μ-loop
-returns c =
-    let e : c .before .loop .i ≡ c .before .before .before .args .n = omega arith in
+returns-2 : tie.Need-returns-2 Inv-loop μ-loop
+returns-2 c =
+    let e : c .before .loop .i ≡ c .before .before .before .before .args .n = omega arith in
     rw e at (c .before .loop .inv .1)
 
 pub keys-below-u32-spec : {M : Type 1} → statement M
@@ -52,12 +57,13 @@ keys-below-u32-spec =
     (tie.spec
     Inv-loop
     μ-loop
+    returns
+    cast-most
     loop-holds
     mul-read-u32
     add-read-u32
     read-u32-requires
-    cast-key
     add-i
     loop-less
     loop-again
-    returns)
+    returns-2)
