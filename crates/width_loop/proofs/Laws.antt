@@ -211,6 +211,10 @@ all-below w s from most (suc n) h = rw (sym (all-below w s from most n (λ j l. 
 pub all-small : (w w2 : ℕ) (s : List ℕ) (from n : ℕ) → ((w ≡ 4 → ⊥) → w ≡ 8) → ((w2 ≡ 4 → ⊥) → w2 ≡ 8) → w ≤ w2 → ((j : ℕ) → j < n → entry w s from j < half w) → true ≡ allBelow w s from (half w2) n
 all-small w w2 s from n p q l h = let z = half-below w w2 p q l in all-below w s from (half w2) n (λ j k. omega (arith, h j k, z))
 
+-- none is above a number that fits
+pub all-most : (w w2 : ℕ) (s : List ℕ) (from n most limit : ℕ) → limit ≡ half w2 → most < limit → ((j : ℕ) → j < n → entry w s from j ≤ most) → true ≡ allBelow w s from (half w2) n
+all-most w w2 s from n most limit e l h = all-below w s from (half w2) n (λ j k. omega (arith, e, l, h j k))
+
 three : (a b c : Bool) → a && (b && c) ≡ a && b && c
 three true b c = refl
 three false b c = refl

@@ -108,6 +108,19 @@ module _ (x : Tables) (i s n : ℕ) where
       let z : (s + j) * w + w ≤ (s + n) * w = entry-end w {i = s + j} {n = s + n} (omega arith) in
       omega (arith, h j l, ap (λ y. entry w (x .body) (y + w * s) j) e, part-entry (as-part (x .body) (place x i 5) (place x i 6) p) w s j (omega arith))
 
+  -- .. none above the child's rows
+  pub first-most : (w : ℕ) {at most : ℕ} → Inside x i 3 → (s + n) * w ≤ place x i 4 → at ≡ place x i 3 → most ≡ lengthOf x (i + 1)
+      → ((j : ℕ) → j < n → item w (firstBuffer x i) (s + j) ≤ lengthOf x (suc i)) → (j : ℕ) → j < n → entry w (x .body) (at + w * s) j ≤ most
+  first-most w p q e m h j l =
+      let z : (s + j) * w + w ≤ (s + n) * w = entry-end w {i = s + j} {n = s + n} (omega arith) in
+      omega (arith, h j l, m, ap (lengthOf x) (add-one i), ap (λ y. entry w (x .body) (y + w * s) j) e, part-entry (as-part (x .body) (place x i 3) (place x i 4) p) w s j (omega arith))
+
+  pub second-most : (w : ℕ) {at most : ℕ} → Inside x i 5 → (s + n) * w ≤ place x i 6 → at ≡ place x i 5 → most ≡ lengthOf x (i + 1)
+      → ((j : ℕ) → j < n → item w (secondBuffer x i) (s + j) ≤ lengthOf x (suc i)) → (j : ℕ) → j < n → entry w (x .body) (at + w * s) j ≤ most
+  second-most w p q e m h j l =
+      let z : (s + j) * w + w ≤ (s + n) * w = entry-end w {i = s + j} {n = s + n} (omega arith) in
+      omega (arith, h j l, m, ap (lengthOf x) (add-one i), ap (λ y. entry w (x .body) (y + w * s) j) e, part-entry (as-part (x .body) (place x i 5) (place x i 6) p) w s j (omega arith))
+
 module _ (plan parts : List ℕ) (write : Bool) (room : List ℕ) (x : Tables) (i s n : ℕ) (c : List ℕ) (t t2 : Tree) (okay : ℕ → Bool) where
   -- ---- list-views
 

@@ -145,6 +145,7 @@ module _ (x : Tables) (i : ℕ) where
 
     pub list-view-here : (w : ℕ) → listViewRule x i w ≡ true
         → Inside x i 3 × Inside x i 5 × ((s + n) * w ≤ place x i 4) × ((s + n) * w ≤ place x i 6) × ((j : ℕ) → j < n → item w (firstBuffer x i) (s + j) < half w) × ((j : ℕ) → j < n → item w (secondBuffer x i) (s + j) < half w)
+        × ((j : ℕ) → j < n → item w (firstBuffer x i) (s + j) ≤ lengthOf x (suc i)) × ((j : ℕ) → j < n → item w (secondBuffer x i) (s + j) ≤ lengthOf x (suc i))
     list-view-here w h =
         let o = and-left (twoIn x i) _ h in
         let l = slots-by true (listViewTest w (λ c. true)) (record { offsets = firstBuffer x i; sizes = secondBuffer x i; child = childOf x (suc i) }) (and-right (twoIn x i) _ h) in
@@ -156,6 +157,8 @@ module _ (x : Tables) (i : ℕ) where
           less w (place x i 6) (omega (arith, second-size o, r .hold-sizes)),
           λ j q. subst (λ z. item w (firstBuffer x i) z < half w) (at j) (r .entries (s - off + j) (omega arith) .offset),
           λ j q. subst (λ z. item w (secondBuffer x i) z < half w) (at j) (r .entries (s - off + j) (omega arith) .size),
+          λ j q. subst (λ z. item w (firstBuffer x i) z ≤ lengthOf x (suc i)) (at j) (omega (arith, r .entries (s - off + j) (omega arith) .within)),
+          λ j q. subst (λ z. item w (secondBuffer x i) z ≤ lengthOf x (suc i)) (at j) (omega (arith, r .entries (s - off + j) (omega arith) .within)),
         )
 
     pub sparse-here : (ids : List ℕ) (node : ℕ → ℕ) → sparseRule x i ids node ≡ true → Inside x i 3 × ((s + n) * 1 ≤ place x i 4) × ((c : ℕ) → List·Memᴰ c ids → s + n ≤ lengthOf x (node c))

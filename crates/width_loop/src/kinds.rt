@@ -4,7 +4,7 @@ ghost use mathlib.Core.Path.{_≡_};
 ghost use mathlib.Core.Bool.{Bool, true};
 ghost use mathlib.Core.Option.{some};
 ghost use mathlib.Core.List.{List, [], _∷_};
-ghost use Prim.Native.Nat.{ℕ, _+_, _*_, _<_, _≤_, _^_};
+ghost use Prim.Native.Nat.{ℕ, suc, _+_, _*_, _<_, _≤_, _^_};
 ghost use lib.ListN.{length, take, drop};
 ghost use Rattle.columnar.specs.Types.{Number, width, half};
 ghost use Rattle.columnar.specs.Array.{item, ok};
@@ -13,7 +13,7 @@ ghost use Rattle.columnar.specs.Test.{maskTest};
 ghost use Rattle.schema.specs.formats.Code.{isInteger};
 ghost use Rattle.schema.specs.formats.Types.{numberOf};
 ghost use Rattle.schema.specs.Tree.{childAt};
-ghost use Rattle.array_data.specs.Tables.{place, validOf, validIn, firstBuffer, secondBuffer};
+ghost use Rattle.array_data.specs.Tables.{place, lengthOf, validOf, validIn, firstBuffer, secondBuffer};
 ghost use Rattle.array_data.specs.Typed.{NodeKind, stringNode, listViewNode, listNode, sparseNode, denseNode, dictionaryNode, Tree};
 ghost use Rattle.array_data.specs.entries.Entries.{column};
 ghost use Rattle.array_data.specs.type_tree.Lent.{treeOf};
@@ -114,17 +114,33 @@ pub fn walk_list_view(
 ) -> u8
     requires { ⌜ (i + 1 < 32) × Inside (column [] (now places) [] (now body) first) i 3 × Inside (column [] (now places) [] (now body) first) i 5 × ((s + n) * w ≤ place (column [] (now places) [] [] first) i 4) × ((s + n) * w ≤ place (column [] (now places) [] [] first) i 6) ⌝ }
     requires { ⌜ ((j : ℕ) → j < n → item w (firstBuffer (column [] (now places) [] (now body) first) i) (s + j) < half w) × ((j : ℕ) → j < n → item w (secondBuffer (column [] (now places) [] (now body) first) i) (s + j) < half w) ⌝ }
+    requires { ⌜ ((j : ℕ) → j < n → item w (firstBuffer (column [] (now places) [] (now body) first) i) (s + j) ≤ lengthOf (column (now lengths) [] [] [] first) (suc i)) × ((j : ℕ) → j < n → item w (secondBuffer (column [] (now places) [] (now body) first) i) (s + j) ≤ lengthOf (column (now lengths) [] [] [] first) (suc i)) ⌝ }
     requires { ⌜ ((w ≡ 4 → ⊥) → w ≡ 8) × ((w2 ≡ 4 → ⊥) → w2 ≡ 8) ⌝ }
     ensures { λ g. ⌜ ((t t2 : Tree) (okay : ℕ → Bool) (c : List ℕ) → Did (now (plan .entry)) (now (parts .entry)) write (ownAs t t2 (column [] (now (places .entry)) [] (now (body .entry)) first) (now (plan .entry)) (listViewNode w) (listViewNode w2) i okay s n c) (now (room .entry)) g c (now (room .exit))) ⌝ }
     ensures { λ g. ⌜ ((t t2 : Tree) → g ≡ 0 → now (ranges .exit) ≡ settleAs t t2 (column (now (lengths .entry)) (now (places .entry)) [] (now (body .entry)) first) (now (plan .entry)) (listViewNode w) i s n (now (ranges .entry))) ⌝ }
 {
     let at = entries::place_at(places, first, i, 3);
     let too = entries::place_at(places, first, i, 5);
-    let g = leaves::put_pairs(plan, parts, body, room, write, i, at, too, w, w2, s, n);
+    let most = entries::length_at(lengths, first, i + 1);
+    let g = leaves::put_pairs(
+        plan,
+        parts,
+        body,
+        room,
+        write,
+        i,
+        at,
+        too,
+        w,
+        w2,
+        s,
+        n,
+        most,
+    );
     if g != 0 {
         return g;
     }
-    ranges::set_range(ranges, i + 1, 0, entries::length_at(lengths, first, i + 1));
+    ranges::set_range(ranges, i + 1, 0, most);
     0
 }
 

@@ -155,19 +155,25 @@ fn half_of(w: u64) -> u64
     }
 }
 
-// Whether each of n entries of w bytes from `from` on, none of them negative, fits w2 bytes: of a smaller width they are not looked at.
-fn all_fit(body: &[u8], from: usize, w: u64, w2: u64, n: usize) -> bool
-    requires { ⌜ (from + w * n ≤ length (now body)) × ((j : ℕ) → j < n → entry w (now body) from j < half w) ⌝ }
+// Whether each of n entries of w bytes from `from` on, none of them negative or above `most`, fits w2 bytes: of a smaller width, or where
+// `most` fits, they are not looked at.
+fn all_fit(body: &[u8], from: usize, w: u64, w2: u64, n: usize, most: u64) -> bool
+    requires { ⌜ (from + w * n ≤ length (now body)) × ((j : ℕ) → j < n → entry w (now body) from j < half w) × ((j : ℕ) → j < n → entry w (now body) from j ≤ most) ⌝ }
     requires { ⌜ ((w ≡ 4 → ⊥) → w ≡ 8) × ((w2 ≡ 4 → ⊥) → w2 ≡ 8) ⌝ }
     ensures { λ r. ⌜ r ≡ allBelow w (now (body .entry)) from (half w2) n ⌝ }
 {
     if w <= w2 {
         return true;
     }
-    limits::all_below(body, from, w, n, half_of(w2))
+    let limit = half_of(w2);
+    if most < limit {
+        return true;
+    }
+    limits::all_below(body, from, w, n, limit)
 }
 
-// The offsets at `at` and the sizes at `too` of n rows from slot s on, as numbers of w2 bytes: ground 6 where one does not fit.
+// The offsets at `at` and the sizes at `too` of n rows from slot s on, none above `most`, as numbers of w2 bytes: ground 6 where one does
+// not fit.
 pub fn put_pairs(
     plan: &[u64],
     parts: &[u64],
@@ -181,18 +187,20 @@ pub fn put_pairs(
     w2: u64,
     s: u64,
     n: u64,
+    most: u64,
 ) -> u8
     requires { ⌜ (i < 32) × (at + w * (s + n) ≤ length (now body)) × (too + w * (s + n) ≤ length (now body)) ⌝ }
     requires { ⌜ ((w ≡ 4 → ⊥) → w ≡ 8) × ((w2 ≡ 4 → ⊥) → w2 ≡ 8) ⌝ }
     requires { ⌜ ((j : ℕ) → j < n → entry w (now body) (at + w * s) j < half w) × ((j : ℕ) → j < n → entry w (now body) (too + w * s) j < half w) ⌝ }
+    requires { ⌜ ((j : ℕ) → j < n → entry w (now body) (at + w * s) j ≤ most) × ((j : ℕ) → j < n → entry w (now body) (too + w * s) j ≤ most) ⌝ }
     ensures { λ g. ⌜ ((size room2 : ℕ) (c : List ℕ) → at + size ≤ length (now (body .entry)) → too + room2 ≤ length (now (body .entry)) → (s + n) * w ≤ size → (s + n) * w ≤ room2 → Did (now (plan .entry)) (now (parts .entry)) write (pairsWalk (part (now (body .entry)) at size) (part (now (body .entry)) too room2) w w2 i s n c) (now (room .entry)) g c (now (room .exit))) ⌝ }
 {
     let offsets = at + w * s;
-    if !all_fit(body, offsets as usize, w, w2, n as usize) {
+    if !all_fit(body, offsets as usize, w, w2, n as usize, most) {
         return 6;
     }
     let sizes = too + w * s;
-    if !all_fit(body, sizes as usize, w, w2, n as usize) {
+    if !all_fit(body, sizes as usize, w, w2, n as usize, most) {
         return 6;
     }
     width_walks::width_writes::put_recoded(

@@ -14,7 +14,7 @@ add-offsets : tie.Need-add-offsets
 add-offsets c = let a = c .before .before .before .before .args in omega (arith, mul-add (a .w) (a .s) (a .n))
 
 all-fit-requires : tie.Need-all-fit-requires
-all-fit-requires c κs = let a = c .before .before .before .before .args in ((omega (arith, mul-add (a .w) (a .s) (a .n)), c .before .before .before .before .pre .1 .1 .0), c .before .before .before .before .pre .1 .0)
+all-fit-requires c κs = let a = c .before .before .before .before .args in ((omega (arith, mul-add (a .w) (a .s) (a .n)), c .before .before .before .before .pre .1 .1 .0 .0, c .before .before .before .before .pre .1 .1 .1 .0), c .before .before .before .before .pre .1 .0)
 
 returns : tie.Need-returns
 returns c =
@@ -28,7 +28,7 @@ add-sizes : tie.Need-add-sizes
 add-sizes c = let a = c .before .before .before .before .before .before .args in omega (arith, mul-add (a .w) (a .s) (a .n))
 
 all-fit-requires-2 : tie.Need-all-fit-requires-2
-all-fit-requires-2 c κs = let a = c .before .before .before .before .before .before .args in ((omega (arith, mul-add (a .w) (a .s) (a .n)), c .before .before .before .before .before .before .pre .1 .1 .1), c .before .before .before .before .before .before .pre .1 .0)
+all-fit-requires-2 c κs = let a = c .before .before .before .before .before .before .args in ((omega (arith, mul-add (a .w) (a .s) (a .n)), c .before .before .before .before .before .before .pre .1 .1 .0 .1, c .before .before .before .before .before .before .pre .1 .1 .1 .1), c .before .before .before .before .before .before .pre .1 .0)
 
 returns-2 : tie.Need-returns-2
 returns-2 c =

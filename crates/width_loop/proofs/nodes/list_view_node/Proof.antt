@@ -1,12 +1,12 @@
 -- `width_loop::nodes::list_view_node` meets its contract. Assumes nothing.
 use mathlib.Core.Path.{_≡_, sym, ap, subst, _∙_}
-use Prim.Native.Nat.{ℕ, _+_, _*_, _<_, _≤_}
+use Prim.Native.Nat.{ℕ, suc, _+_, _*_, _<_, _≤_}
 use native.Mathlib.Omega.{arith}
 use Rattle.columnar.specs.Types.{half}
 use Rattle.columnar.specs.Array.{item, ok}
 use Rattle.schema.specs.formats.Code.{widthOf}
 use Rattle.schema.specs.Tree.{codeOf}
-use Rattle.array_data.specs.Tables.{place, validOf, firstBuffer, secondBuffer}
+use Rattle.array_data.specs.Tables.{place, lengthOf, validOf, firstBuffer, secondBuffer}
 use Rattle.array_data.specs.Typed.{listViewNode}
 use Rattle.array_data.specs.entries.Entries.{column}
 use Rattle.array_data.specs.type_tree.Lent.{treeOf}
@@ -38,7 +38,7 @@ walk-list-view-requires c κs =
     let z = c .before .before .before .before .before .before .before .before .before .before .before .before .pre .0 .1 in
     let q = list-view-kinds (a .formats .now) (a .schema .now) (a .lengths .now) (a .places .now) (a .body .now) (a .first) k (a .target) (z .accepted) (a .i) (z .is-node) (c .before .before .before .before .before .before .before .before .before .before .before .before .pre .1) in
     let f = list-view-here (column (a .lengths .now) (a .places .now) (z .accepted .buffers) (a .body .now) (a .first)) (a .i) (a .s) (a .n) (z .above) (z .below) (widthOf (codeOf (a .formats .now) (a .schema .now) (a .first) (a .i))) (rule-as (a .formats .now) (a .schema .now) (a .lengths .now) (a .places .now) (a .body .now) (a .first) k (a .target) (z .accepted) (a .i) (z .is-node) (listViewNode (widthOf (codeOf (a .formats .now) (a .schema .now) (a .first) (a .i)))) (q .0)) in
-    ((omega (arith, few (a .formats .now) (a .schema .now) (a .lengths .now) (a .places .now) (a .body .now) (a .first) k (a .target) (z .accepted), list-view-below (a .formats .now) (a .schema .now) (a .lengths .now) (a .places .now) (a .body .now) (a .first) k (a .target) (z .accepted) (a .i) (z .is-node) (widthOf (codeOf (a .formats .now) (a .schema .now) (a .first) (a .i))) (q .0)), f .0, f .1, subst (λ y. (a .s + a .n) * y ≤ place (column (a .lengths .now) (a .places .now) (z .accepted .buffers) (a .body .now) (a .first)) (a .i) 4) (sym (c .before .before .before .width-at .ensures)) (f .2), subst (λ y. (a .s + a .n) * y ≤ place (column (a .lengths .now) (a .places .now) (z .accepted .buffers) (a .body .now) (a .first)) (a .i) 6) (sym (c .before .before .before .width-at .ensures)) (f .3)), ((subst (λ y. (j : ℕ) → j < a .n → item y (firstBuffer (column (a .lengths .now) (a .places .now) (z .accepted .buffers) (a .body .now) (a .first)) (a .i)) (a .s + j) < half y) (sym (c .before .before .before .width-at .ensures)) (f .4), subst (λ y. (j : ℕ) → j < a .n → item y (secondBuffer (column (a .lengths .now) (a .places .now) (z .accepted .buffers) (a .body .now) (a .first)) (a .i)) (a .s + j) < half y) (sym (c .before .before .before .width-at .ensures)) (f .5)), (subst (λ y. (y ≡ 4 → ⊥) → y ≡ 8) (sym (c .before .before .before .width-at .ensures)) (list-width (codeOf (a .formats .now) (a .schema .now) (a .first) (a .i)) (c .before .before .before .before .before .before .before .before .before .before .before .before .pre .1)), subst (λ y. (y ≡ 4 → ⊥) → y ≡ 8) (sym (c .before .before .width-at2 .ensures)) (list-width (codeOf (a .formats .now) (a .schema .now) (a .target) (a .i)) (q .2)))))
+    ((omega (arith, few (a .formats .now) (a .schema .now) (a .lengths .now) (a .places .now) (a .body .now) (a .first) k (a .target) (z .accepted), list-view-below (a .formats .now) (a .schema .now) (a .lengths .now) (a .places .now) (a .body .now) (a .first) k (a .target) (z .accepted) (a .i) (z .is-node) (widthOf (codeOf (a .formats .now) (a .schema .now) (a .first) (a .i))) (q .0)), f .0, f .1, subst (λ y. (a .s + a .n) * y ≤ place (column (a .lengths .now) (a .places .now) (z .accepted .buffers) (a .body .now) (a .first)) (a .i) 4) (sym (c .before .before .before .width-at .ensures)) (f .2), subst (λ y. (a .s + a .n) * y ≤ place (column (a .lengths .now) (a .places .now) (z .accepted .buffers) (a .body .now) (a .first)) (a .i) 6) (sym (c .before .before .before .width-at .ensures)) (f .3)), ((subst (λ y. (j : ℕ) → j < a .n → item y (firstBuffer (column (a .lengths .now) (a .places .now) (z .accepted .buffers) (a .body .now) (a .first)) (a .i)) (a .s + j) < half y) (sym (c .before .before .before .width-at .ensures)) (f .4), subst (λ y. (j : ℕ) → j < a .n → item y (secondBuffer (column (a .lengths .now) (a .places .now) (z .accepted .buffers) (a .body .now) (a .first)) (a .i)) (a .s + j) < half y) (sym (c .before .before .before .width-at .ensures)) (f .5)), ((subst (λ y. (j : ℕ) → j < a .n → item y (firstBuffer (column (a .lengths .now) (a .places .now) (z .accepted .buffers) (a .body .now) (a .first)) (a .i)) (a .s + j) ≤ lengthOf (column (a .lengths .now) (a .places .now) (z .accepted .buffers) (a .body .now) (a .first)) (suc (a .i))) (sym (c .before .before .before .width-at .ensures)) (f .6), subst (λ y. (j : ℕ) → j < a .n → item y (secondBuffer (column (a .lengths .now) (a .places .now) (z .accepted .buffers) (a .body .now) (a .first)) (a .i)) (a .s + j) ≤ lengthOf (column (a .lengths .now) (a .places .now) (z .accepted .buffers) (a .body .now) (a .first)) (suc (a .i))) (sym (c .before .before .before .width-at .ensures)) (f .7)), (subst (λ y. (y ≡ 4 → ⊥) → y ≡ 8) (sym (c .before .before .before .width-at .ensures)) (list-width (codeOf (a .formats .now) (a .schema .now) (a .first) (a .i)) (c .before .before .before .before .before .before .before .before .before .before .before .before .pre .1)), subst (λ y. (y ≡ 4 → ⊥) → y ≡ 8) (sym (c .before .before .width-at2 .ensures)) (list-width (codeOf (a .formats .now) (a .schema .now) (a .target) (a .i)) (q .2))))))
 
 same-length : tie.Need-same-length
 same-length c = search needs
