@@ -1,2 +1,3 @@
 -- What the two orders go by.
 pub mod Laws
+pub mod Long

@@ -2,3 +2,4 @@
 pub mod Answer
 pub mod leaf_rows
 pub mod numbers
+pub mod tried_counters

@@ -8,10 +8,11 @@ mod leaf_rows;
 mod number_nulls;
 mod numbers;
 mod stretches;
+mod tried_counters;
 
 ghost use mathlib.Core.Path.{_≡_};
 ghost use mathlib.Core.List.{List, []};
-ghost use mathlib.Core.Bool.{_&&_};
+ghost use mathlib.Core.Bool.{true, _&&_};
 ghost use Prim.Native.Nat.{ℕ, _*_, _<_, _^_, min};
 ghost use lib.ListN.{length, getD};
 ghost use lib.Dec.{leb};
@@ -19,13 +20,12 @@ ghost use Rattle.walk.specs.State.{far};
 ghost use Rattle.walk.specs.Copy.{copyWalk};
 ghost use Rattle.walk.specs.Nulls.{nullWalk};
 ghost use Rattle.leaf_walk.specs.Join.{join};
-ghost use Rattle.sound.specs.trying.Alike.{Alike};
+ghost use Rattle.refinement.specs.orders.Sound.{walkable};
 ghost use Rattle.refinement.specs.orders.Order.{settled, copyOrder, nullOrder};
 ghost use Rattle.transform.specs.Answer.{lent, Answers};
 ghost use Rattle.transform.specs.numbers.Plan.{oneOfNumbers};
 use array_data::lent_tables;
 use plan::grounds;
-use sound::trying;
 use walk::plan_words;
 
 // ---- the counters
@@ -41,16 +41,6 @@ pub fn load(counters: &[u64]) -> [u64; 96]
         counts[i] = counters[i];
         i += 1;
     }
-    counts
-}
-
-// The counters with their nulls full: what a copy is tried on.
-fn uncounted(plan: &[u64], counters: &[u64]) -> [u64; 96]
-    requires { ⌜ length (now counters) ≡ 96 ⌝ }
-    ensures { λ r. ⌜ Alike r (now (counters .entry)) ⌝ }
-{
-    let mut counts = load(counters);
-    trying::uncount(&mut counts, plan::parts::node_count(plan));
     counts
 }
 
@@ -102,17 +92,18 @@ fn copy_rows(
     start: u64,
     n: u64,
 ) -> u8
-    requires { ⌜ (length (now counters) ≡ 96) × (first < 2 ^ 32) × (source < 2 ^ 32) ⌝ }
+    requires { ⌜ (length (now counters) ≡ 96) × (first < 2 ^ 32) × (source < 2 ^ 32) × (walkable (now plan) (length (now room)) ≡ true) ⌝ }
     ensures { λ r. ⌜ ((sources : List ℕ) → Answers (settled (lent (now (plan .entry)) (now (parts .entry)) sources (now (lengths .entry)) (now (places .entry)) (now (body .entry))) (now (counters .entry)) (now (room .entry)) (copyWalk (join (now (plan .entry)) (now (parts .entry)) (now (lengths .entry)) (now (places .entry)) (now (body .entry)) first source) 8 0 start n (now (counters .entry)))) r (now (counters .exit)) (now (room .exit))) ⌝ }
 {
-    let mut tried = uncounted(plan, counters);
+    let nodes = plan::parts::node_count(plan);
+    let mut counts = tried_counters::uncounted(counters, nodes);
     let g = extend::extend(
         plan,
         parts,
         lengths,
         places,
         body,
-        &mut tried,
+        &mut counts,
         room,
         false,
         source,
@@ -125,12 +116,11 @@ fn copy_rows(
     if g != 0 {
         return g;
     }
-    let asked = copied(tried);
-    let g = grounds::parts_ground(plan, &asked, parts, room.len());
+    let g = grounds::parts_ground(plan, &counts, parts, room.len());
     if g != 0 {
         return g;
     }
-    let mut counts = load(counters);
+    tried_counters::reload(&mut counts, counters, nodes);
     let g = extend::extend(
         plan,
         parts,
@@ -147,8 +137,7 @@ fn copy_rows(
         n,
         8,
     );
-    let made = copied(counts);
-    store(counters, &made);
+    tried_counters::keep(counters, &counts, nodes);
     g
 }
 
@@ -166,7 +155,7 @@ fn copy_nested(
     start: u64,
     n: u64,
 ) -> u8
-    requires { ⌜ (length (now counters) ≡ 96) × (first < 2 ^ 32) × (source < 2 ^ 32) ⌝ }
+    requires { ⌜ (length (now counters) ≡ 96) × (first < 2 ^ 32) × (source < 2 ^ 32) × (walkable (now plan) (length (now room)) ≡ true) ⌝ }
     ensures { λ r. ⌜ ((sources : List ℕ) → Answers (settled (lent (now (plan .entry)) (now (parts .entry)) sources (now (lengths .entry)) (now (places .entry)) (now (body .entry))) (now (counters .entry)) (now (room .entry)) (copyWalk (join (now (plan .entry)) (now (parts .entry)) (now (lengths .entry)) (now (places .entry)) (now (body .entry)) first source) 8 0 start n (now (counters .entry)))) r (now (counters .exit)) (now (room .exit))) ⌝ }
 {
     let g = stretches::copy_stretches(
@@ -214,7 +203,7 @@ fn copy_range(
     start: u64,
     n: u64,
 ) -> u8
-    requires { ⌜ (length (now counters) ≡ 96) × (first < 2 ^ 32) × (source < 2 ^ 32) × (plain ≡ oneOfNumbers (now plan)) ⌝ }
+    requires { ⌜ (length (now counters) ≡ 96) × (first < 2 ^ 32) × (source < 2 ^ 32) × (plain ≡ oneOfNumbers (now plan)) × (walkable (now plan) (length (now room)) ≡ true) ⌝ }
     ensures { λ r. ⌜ ((sources : List ℕ) → Answers (settled (lent (now (plan .entry)) (now (parts .entry)) sources (now (lengths .entry)) (now (places .entry)) (now (body .entry))) (now (counters .entry)) (now (room .entry)) (copyWalk (join (now (plan .entry)) (now (parts .entry)) (now (lengths .entry)) (now (places .entry)) (now (body .entry)) first source) 8 0 start n (now (counters .entry)))) r (now (counters .exit)) (now (room .exit))) ⌝ }
 {
     if plain {
@@ -321,23 +310,22 @@ pub fn at_most_far(n: u64) -> u64
 
 // n nulls.
 fn add_nulls(plan: &[u64], parts: &[u64], counters: &mut [u64], room: &mut [u8], n: u64) -> u8
-    requires { ⌜ length (now counters) ≡ 96 ⌝ }
+    requires { ⌜ (length (now counters) ≡ 96) × (walkable (now plan) (length (now room)) ≡ true) ⌝ }
     ensures { λ r. ⌜ ((sources lengths places body : List ℕ) → Answers (settled (lent (now (plan .entry)) (now (parts .entry)) sources lengths places body) (now (counters .entry)) (now (room .entry)) (nullWalk (join (now (plan .entry)) (now (parts .entry)) [] [] [] 0 0) 8 0 n (now (counters .entry)))) r (now (counters .exit)) (now (room .exit))) ⌝ }
 {
-    let mut tried = load(counters);
-    let g = extend_nulls::extend_nulls(plan, parts, &mut tried, room, false, 0, n, 8);
-    if g != 0 {
-        return g;
-    }
-    let asked = copied(tried);
-    let g = grounds::parts_ground(plan, &asked, parts, room.len());
-    if g != 0 {
-        return g;
-    }
     let mut counts = load(counters);
+    let g = extend_nulls::extend_nulls(plan, parts, &mut counts, room, false, 0, n, 8);
+    if g != 0 {
+        return g;
+    }
+    let g = grounds::parts_ground(plan, &counts, parts, room.len());
+    if g != 0 {
+        return g;
+    }
+    let nodes = plan::parts::node_count(plan);
+    tried_counters::reload(&mut counts, counters, nodes);
     let g = extend_nulls::extend_nulls(plan, parts, &mut counts, room, true, 0, n, 8);
-    let made = copied(counts);
-    store(counters, &made);
+    tried_counters::keep(counters, &counts, nodes);
     g
 }
 
@@ -350,7 +338,7 @@ fn add_null_range(
     plain: bool,
     n: u64,
 ) -> u8
-    requires { ⌜ (length (now counters) ≡ 96) × (plain ≡ oneOfNumbers (now plan)) ⌝ }
+    requires { ⌜ (length (now counters) ≡ 96) × (plain ≡ oneOfNumbers (now plan)) × (walkable (now plan) (length (now room)) ≡ true) ⌝ }
     ensures { λ r. ⌜ ((sources lengths places body : List ℕ) → Answers (settled (lent (now (plan .entry)) (now (parts .entry)) sources lengths places body) (now (counters .entry)) (now (room .entry)) (nullWalk (join (now (plan .entry)) (now (parts .entry)) [] [] [] 0 0) 8 0 n (now (counters .entry)))) r (now (counters .exit)) (now (room .exit))) ⌝ }
 {
     if (n != 0) & plain {

@@ -49,7 +49,7 @@ returns-2 : tie.Need-returns-2
 returns-2 c = c .before .before .before .before .add-leaf-nulls .ensures
 
 add-nulls-requires : tie.Need-add-nulls-requires
-add-nulls-requires c κs = c .before .before .before .before .before .before .before .before .before .before .pre .0
+add-nulls-requires c κs = (c .before .before .before .before .before .before .before .before .before .before .pre .0, c .before .before .before .before .before .before .before .before .before .before .pre .2)
 
 same-length-5 : tie.Need-same-length-5
 same-length-5 c = search needs

@@ -1,4 +1,8 @@
 -- `transform::copy_nested` meets its contract. Assumes nothing.
+use mathlib.Core.Path.{_≡_, sym, ap, subst, _∙_}
+use mathlib.Core.Bool.{true}
+use lib.ListN.{length}
+use Rattle.refinement.specs.orders.Sound.{walkable}
 use borrow.Author.Needs.{needs}
 use Rattle.transform.proofs.copy_nested.Statement.{statement}
 use Rattle.transform.proofs.copy_nested.Tie as tie
@@ -16,7 +20,10 @@ returns : tie.Need-returns
 returns c = let a = c .before .before .before .before .before .before .before .before .before .before .before .before .before .before .before .args in λ sources. c .before .before .before .before .before .copy-stretches .ensures .1 (c .if1 .taken) sources (a .source)
 
 copy-rows-requires : tie.Need-copy-rows-requires
-copy-rows-requires c κs = search needs
+copy-rows-requires c κs =
+    let p = c .before .before .before .before .before .before .before .before .before .before .before .before .before .before .before .before .before .pre in
+    let q = c .before .before .before .before .before .before .before .copy-stretches .ensures .0 (c .before .before .if1 .left) in
+    (ap length (q .0) ∙ p .0, p .1, p .2, subst (λ y. walkable (c .before .before .before .before .before .before .before .before .before .before .before .before .before .before .before .before .before .args .plan .now) (length y) ≡ true) (sym (q .1)) (p .3))
 
 same-length-3 : tie.Need-same-length-3
 same-length-3 c = search needs

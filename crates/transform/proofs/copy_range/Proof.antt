@@ -48,7 +48,7 @@ returns-2 : tie.Need-returns-2
 returns-2 c = c .before .before .before .before .copy-leaf-rows .ensures
 
 copy-nested-requires : tie.Need-copy-nested-requires
-copy-nested-requires c κs = (c .before .before .before .before .before .before .before .before .before .before .before .before .before .pre .0, c .before .before .before .before .before .before .before .before .before .before .before .before .before .pre .1, c .before .before .before .before .before .before .before .before .before .before .before .before .before .pre .2)
+copy-nested-requires c κs = (c .before .before .before .before .before .before .before .before .before .before .before .before .before .pre .0, c .before .before .before .before .before .before .before .before .before .before .before .before .before .pre .1, c .before .before .before .before .before .before .before .before .before .before .before .before .before .pre .2, c .before .before .before .before .before .before .before .before .before .before .before .before .before .pre .4)
 
 same-length-5 : tie.Need-same-length-5
 same-length-5 c = search needs

@@ -62,7 +62,7 @@ sub-copy-range c =
     omega (arith, f)
 
 copy-range-requires : tie.Need-copy-range-requires
-copy-range-requires c κs = (c .before .before .before .before .before .before .before .before .before .before .if1 .left, omega arith, omega arith, c .before .before .before .before .before .before .before .before .before .is-numbers .ensures)
+copy-range-requires c κs = (c .before .before .before .before .before .before .before .before .before .before .if1 .left, omega arith, omega arith, c .before .before .before .before .before .before .before .before .before .is-numbers .ensures, yes (c .before .before .before .before .before .before .before .before .is-walkable .ensures) (c .before .before .before .before .before .before .before .if2 .left))
 
 same-length : tie.Need-same-length
 same-length c = search needs

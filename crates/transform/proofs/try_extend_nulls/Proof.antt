@@ -34,7 +34,7 @@ at-most-far-requires : tie.Need-at-most-far-requires
 at-most-far-requires c κs = search needs
 
 add-null-range-requires : tie.Need-add-null-range-requires
-add-null-range-requires c κs = (c .before .before .before .before .before .before .before .before .if1 .left, c .before .before .before .before .before .before .before .is-numbers .ensures)
+add-null-range-requires c κs = (c .before .before .before .before .before .before .before .before .if1 .left, c .before .before .before .before .before .before .before .is-numbers .ensures, yes (c .before .before .before .before .before .before .is-walkable .ensures) (c .before .before .before .before .before .if2 .left))
 
 same-length : tie.Need-same-length
 same-length c = search needs

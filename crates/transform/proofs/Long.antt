@@ -1,0 +1,212 @@
+-- A walk leaves as many counters as there were, whatever is lent. Assumes nothing.
+use mathlib.Core.Path.{_≡_, _∙_}
+use mathlib.Core.Bool.{Bool, true, false, cond}
+use mathlib.Core.List.{List}
+use Prim.Native.Nat.{ℕ, zero, suc, _+_, _*_}
+use lib.ListN.{length, set, length-set}
+use lib.Dec.{ltb, eqb}
+use Rattle.schema.specs.formats.Code.{isFixed, isString, isView, isListView, isList}
+use Rattle.utils.specs.Extension.{extended}
+use Rattle.utils.specs.declared.Extended.{Extended}
+use Rattle.utils.specs.declared.Extended.the-variants.{Fits, Over, Falls}
+use Rattle.run_ends.specs.declared.Runs.{Runs}
+use Rattle.run_ends.specs.declared.Runs.the-variants.{Range, None}
+use Rattle.walk.specs.State.{Join, codeOf, dictionaryOf, endOf, keepsOf, bytesOf, rows, bytes, gap, place, far}
+use Rattle.walk.specs.Log.{Entry, Out, fail, done, wrote, need, found, next, each}
+use Rattle.walk.specs.Leaves.{copyBits, copyMask, nullMask, countNulls, copyNumbers, copyKeys, copyViews, nullNumbers, putString, putExtended, copyString, nullString}
+use Rattle.walk.specs.Copy.{Walk, masked, listViewRow, copyListView, putStretch, putList, copyList, copyFields, copySparse, denseTo, denseRow, copyDense, putRuns, runsAt, copyRuns, copyData, copySlots, copyNode, copyWalk}
+use Rattle.walk.specs.Nulls.{NullWalk, nullListView, nullList, nullFields, nullSparse, nullDense, addRun, growRun, nullRuns, nullData, nullNode, nullWalk}
+
+-- m counters
+pub record Sized (m : ℕ) (c : List ℕ) : Type 0 where
+  pub size : length c ≡ m
+
+-- .. are left
+pub record Long (m : ℕ) (o : Out) : Type 0 where
+  pub left : Sized m (o .counts)
+
+module _ {m : ℕ} where
+  pub long-done : {c : List ℕ} → Sized m c → Long m (done c)
+  unfolding done
+  long-done h = record { left = h }
+
+  long-fail : (g : ℕ) {c : List ℕ} → Sized m c → Long m (fail g c)
+  unfolding fail
+  long-fail g h = record { left = h }
+
+  long-wrote : (e : Entry) {c : List ℕ} → Sized m c → Long m (wrote e c)
+  unfolding wrote
+  long-wrote e h = record { left = h }
+
+  long-cond : (b : Bool) {o p : Out} → Long m o → Long m p → Long m (cond b o p)
+  long-cond true f g = f
+  long-cond false f g = g
+
+  pub long-need : (b : Bool) (g : ℕ) {c : List ℕ} {o : Out} → Sized m c → Long m o → Long m (need b g c o)
+  unfolding need
+  long-need b g h k = long-cond b k (long-fail g h)
+
+  long-found : (n v g : ℕ) {c : List ℕ} (k : ℕ → Out) → Sized m c → Long m (k v) → Long m (found n v g c k)
+  unfolding found
+  long-found n v g k h q = long-cond (ltb v n) q (long-fail g h)
+
+  pub long-next : {o : Out} (k : List ℕ → Out) → Long m o → ((c : List ℕ) → Sized m c → Long m (k c)) → Long m (next o k)
+  unfolding next
+  long-next {o} k h q = long-cond (eqb (o .ans) 0) (record { left = q (o .counts) (h .left) .left }) h
+
+  long-each : (f : ℕ → List ℕ → Out) → ((r : ℕ) (c : List ℕ) → Sized m c → Long m (f r c)) → (n r : ℕ) {c : List ℕ} → Sized m c → Long m (each f n r c)
+  unfolding each
+  long-each f q zero r h = long-done h
+  long-each f q (suc n) r h = long-next _ (q r _ h) (λ c2 g. long-each f q n (suc r) g)
+
+  sized-set : (k v : ℕ) {c : List ℕ} → Sized m c → Sized m (set c k v)
+  sized-set k v {c} h = record { size = length-set c k v ∙ h .size }
+
+  module _ (x : Join) where
+    -- ---- leaves
+
+    module _ (i : ℕ) where
+      long-mask : (slot n : ℕ) {c : List ℕ} → Sized m c → Long m (copyMask x i slot n c)
+      unfolding copyMask copyBits
+      long-mask slot n h =
+          long-cond (eqb (keepsOf (x .state) i) 0) (long-done h)
+          (long-cond (eqb (place x i 0) 0) (long-wrote _ h) (long-need _ 12 h (long-next _ (long-wrote _ h) (λ c2 g. long-done (sized-set (3 * i + 1) _ g)))))
+
+      long-null-mask : (n : ℕ) {c : List ℕ} → Sized m c → Long m (cond (masked (codeOf (x .state) i)) (nullMask x i n c) (countNulls x i n c))
+      unfolding nullMask countNulls
+      long-null-mask n h =
+          long-cond (masked (codeOf (x .state) i))
+          (long-cond (eqb (keepsOf (x .state) i) 0) (long-done h) (long-next _ (long-wrote _ h) (λ c2 g. long-done (sized-set (3 * i + 1) _ g))))
+          (long-cond (eqb (keepsOf (x .state) i) 0) (long-done h) (long-done (sized-set (3 * i + 1) _ h)))
+
+      long-extended : (w from n : ℕ) (e : Extended) {c : List ℕ} → Sized m c → Long m (putExtended x i w from n e c)
+      unfolding putString
+      long-extended w from n (Fits last first) h =
+          long-need _ 12 h (long-next _ (long-wrote _ h) (λ c2 g. long-next _ (long-wrote _ g) (λ c3 k. long-done (sized-set (3 * i + 2) last k))))
+      long-extended w from n (Over row needed) h = long-fail 6 h
+      long-extended w from n Falls h = long-fail 12 h
+
+      long-string : (w slot n : ℕ) {c : List ℕ} → Sized m c → Long m (copyString x i w slot n c)
+      unfolding copyString
+      long-string w slot n {c} h =
+          long-cond (eqb n 0) (long-done h)
+          (long-need _ 12 h (long-extended w (place x i 3 + w * slot) n (extended w (x .body) (place x i 3 + w * slot) n (bytes c i)) h))
+
+    -- ---- copies
+
+    module _ (walk : Walk) (below : (k a n : ℕ) (c : List ℕ) → Sized m c → Long m (walk k a n c)) (i : ℕ) where
+      long-list-view : (w slot n : ℕ) {c : List ℕ} → Sized m c → Long m (copyListView x walk w i slot n c)
+      unfolding copyListView listViewRow
+      long-list-view w slot n h =
+          long-need _ 12 h (long-need _ 12 h (long-each _ (λ r c1 g. long-need _ 6 g (long-next _ (long-wrote _ g) (λ c2 q. long-next _ (long-wrote _ q) (λ c3 k. below (suc i) _ _ c3 k)))) n 0 h))
+
+      long-put-list : (w from n : ℕ) (e : Extended) {c : List ℕ} → Sized m c → Long m (putList x walk w i from n e c)
+      unfolding putStretch
+      long-put-list w from n (Fits last first) h = long-next _ (long-wrote _ h) (λ c2 g. below (suc i) first _ c2 g)
+      long-put-list w from n (Over row needed) h = long-fail 6 h
+      long-put-list w from n Falls h = long-fail 12 h
+
+      long-list : (w slot n : ℕ) {c : List ℕ} → Sized m c → Long m (copyList x walk w i slot n c)
+      unfolding copyList
+      long-list w slot n {c} h =
+          long-cond (eqb n 0) (long-done h)
+          (long-need _ 12 h (long-need _ 12 h (long-put-list w (place x i 3 + w * slot) n (extended w (x .body) (place x i 3 + w * slot) n (rows c (suc i))) h)))
+
+      long-fields : (slot n end f k : ℕ) {c : List ℕ} → Sized m c → Long m (copyFields x walk slot n end f k c)
+      unfolding copyFields
+      long-fields slot n end zero k h = long-done h
+      long-fields slot n end (suc f) k h = long-cond (ltb k end) (long-next _ (below k slot n _ h) (λ c2 g. long-fields slot n end f (endOf (x .state) k) g)) (long-done h)
+
+      long-sparse : (slot n : ℕ) {c : List ℕ} → Sized m c → Long m (copySparse x walk i slot n c)
+      unfolding copySparse
+      long-sparse slot n h = long-need _ 12 h (long-next _ (long-wrote _ h) (λ c2 g. long-fields slot n (endOf (x .state) i) 32 (suc i) g))
+
+      long-dense : (slot n : ℕ) {c : List ℕ} → Sized m c → Long m (copyDense x walk i slot n c)
+      unfolding copyDense denseRow denseTo
+      long-dense slot n h =
+          long-need _ 12 h (long-each _ (λ r c1 g. long-found 32 _ 12 _ g (long-need _ 6 g (long-next _ (long-wrote _ g) (λ c2 q. long-next _ (long-wrote _ q) (λ c3 k. below _ _ 1 c3 k))))) n 0 h)
+
+      long-put : (w slot n : ℕ) (r : Runs) {c : List ℕ} → Sized m c → Long m (putRuns x walk w i slot n r c)
+      long-put w slot n None h = long-fail 12 h
+      long-put w slot n (Range start count) h =
+          long-next _ (below (suc (suc i)) (start .0) count _ h) (λ c2 g. long-next _ (long-wrote _ g) (λ c3 k. long-done (sized-set (3 * i + 2) _ (sized-set (3 * suc i) _ k))))
+
+      long-runs : (slot n : ℕ) {c : List ℕ} → Sized m c → Long m (copyRuns x walk i slot n c)
+      unfolding copyRuns
+      long-runs slot n h =
+          long-cond (eqb n 0) (long-done h)
+          (long-need _ 12 h (long-need _ 7 h (long-need _ 12 h (long-put (bytesOf (x .state) (suc i)) slot n (runsAt x walk (bytesOf (x .state) (suc i)) i slot n) h))))
+
+      long-data : (code slot n : ℕ) {c : List ℕ} → Sized m c → Long m (copyData x walk code i slot n c)
+      unfolding copyData copyNumbers copyKeys copyViews
+      long-data code slot n h =
+          long-cond (isFixed code) (long-cond (eqb (dictionaryOf (x .state) i) 0) (long-need _ 12 h (long-wrote _ h)) (long-need _ 12 h (long-wrote _ h)))
+          (long-cond (isString code) (long-string i _ slot n h)
+          (long-cond (isView code) (long-need _ 12 h (long-wrote _ h))
+          (long-cond (isListView code) (long-list-view _ slot n h)
+          (long-cond (isList code) (long-list _ slot n h)
+          (long-cond (eqb code 21) (long-sparse slot n h)
+          (long-cond (eqb code 22) (long-dense slot n h)
+          (long-cond (eqb code 23) (long-runs slot n h)
+          (long-fail 12 h))))))))
+
+      long-node : (a n : ℕ) {c : List ℕ} → Sized m c → Long m (copyNode x walk i a n c)
+      unfolding copyNode copySlots
+      long-node a n h =
+          long-need _ 12 h
+          (long-found far _ 12 _ h
+          (long-next _ (long-cond (masked (codeOf (x .state) i)) (long-mask i _ n h) (long-done h))
+          (λ c2 g. long-next _ (long-data (codeOf (x .state) i) _ n g) (λ c3 k. long-done (sized-set (3 * i) _ k)))))
+
+    pub long-copy : (depth i a n : ℕ) {c : List ℕ} → Sized m c → Long m (copyWalk x depth i a n c)
+    unfolding copyWalk
+    long-copy zero i a n h = long-fail 12 h
+    long-copy (suc depth) i a n h = long-node (copyWalk x depth) (λ k b n c1 g. long-copy depth k b n g) i a n h
+
+    -- ---- nulls
+
+    module _ (walk : NullWalk) (below : (k n : ℕ) (c : List ℕ) → Sized m c → Long m (walk k n c)) (i : ℕ) where
+      long-null-fields : (n end f k : ℕ) {c : List ℕ} → Sized m c → Long m (nullFields x walk n end f k c)
+      unfolding nullFields
+      long-null-fields n end zero k h = long-done h
+      long-null-fields n end (suc f) k h = long-cond (ltb k end) (long-next _ (below k n _ h) (λ c2 g. long-null-fields n end f (endOf (x .state) k) g)) (long-done h)
+
+      long-null-sparse : (n : ℕ) {c : List ℕ} → Sized m c → Long m (nullSparse x walk i n c)
+      unfolding nullSparse
+      long-null-sparse n h = long-found 32 _ _ _ h (long-next _ (long-wrote _ h) (λ c2 g. long-null-fields n (endOf (x .state) i) 32 (suc i) g))
+
+      long-null-dense : (n : ℕ) {c : List ℕ} → Sized m c → Long m (nullDense x walk i n c)
+      unfolding nullDense
+      long-null-dense n h = long-found 32 _ _ _ h (long-need _ 6 h (long-next _ (long-wrote _ h) (λ c2 g. long-next _ (long-wrote _ g) (λ c3 k. below _ n c3 k))))
+
+      long-null-runs : (n : ℕ) {c : List ℕ} → Sized m c → Long m (nullRuns x walk i n c)
+      unfolding nullRuns addRun growRun
+      long-null-runs n {c} h =
+          long-need _ 12 h
+          (long-cond (eqb (gap c i) 2) (long-need _ 12 h (long-need _ 7 h (long-wrote _ h)))
+          (long-next _ (below (suc (suc i)) 1 _ h) (λ c2 g. long-need _ 7 g (long-next _ (long-wrote _ g) (λ c3 k. long-done (sized-set (3 * i + 2) _ (sized-set (3 * suc i) _ k)))))))
+
+      long-null-data : (code n : ℕ) {c : List ℕ} → Sized m c → Long m (nullData x walk code i n c)
+      unfolding nullData nullNumbers nullString nullListView nullList
+      long-null-data code n h =
+          long-cond (isFixed code) (long-wrote _ h)
+          (long-cond (isString code) (long-wrote _ h)
+          (long-cond (isView code) (long-wrote _ h)
+          (long-cond (isListView code) (long-next _ (long-wrote _ h) (λ c2 g. long-wrote _ g))
+          (long-cond (isList code) (long-need _ 12 h (long-wrote _ h))
+          (long-cond (eqb code 21) (long-null-sparse n h)
+          (long-cond (eqb code 22) (long-null-dense n h)
+          (long-cond (eqb code 23) (long-null-runs n h)
+          (long-fail 12 h))))))))
+
+      long-null-node : (n : ℕ) {c : List ℕ} → Sized m c → Long m (nullNode x walk i n c)
+      unfolding nullNode
+      long-null-node n h =
+          long-cond (eqb n 0) (long-done h)
+          (long-need _ 12 h
+          (long-next _ (long-null-data (codeOf (x .state) i) n h) (λ c2 g. long-next _ (long-null-mask i n g) (λ c3 k. long-done (sized-set (3 * i) _ k)))))
+
+    pub long-nulls : (depth i n : ℕ) {c : List ℕ} → Sized m c → Long m (nullWalk x depth i n c)
+    unfolding nullWalk
+    long-nulls zero i n h = long-fail 12 h
+    long-nulls (suc depth) i n h = long-null-node (nullWalk x depth) (λ k n c1 g. long-nulls depth k n g) i n h

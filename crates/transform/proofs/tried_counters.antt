@@ -1,0 +1,2 @@
+-- What the counters of an order that is tried and then made go by.
+pub mod Laws

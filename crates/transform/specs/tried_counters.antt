@@ -1,0 +1,2 @@
+-- What the contracts of `transform::tried_counters` cite.
+pub mod Beyond

@@ -1,0 +1,46 @@
+// The counters of an order that is tried and then made: between the two, and back to where they are lent, those of the plan's nodes alone are copied,
+// since a walk leaves all others as they were.
+ghost use mathlib.Core.Path.{_≡_};
+ghost use Prim.Native.Nat.{_≤_};
+ghost use lib.ListN.{length};
+ghost use Rattle.sound.specs.trying.Alike.{Alike};
+ghost use Rattle.transform.specs.tried_counters.Beyond.{Beyond};
+
+// The counters with the nulls of the first n nodes full: what a copy is tried on, so that it reads no validity bit.
+pub fn uncounted(counters: &[u64], n: usize) -> [u64; 96]
+    requires { ⌜ (length (now counters) ≡ 96) × (n ≤ 32) ⌝ }
+    ensures { λ r. ⌜ Alike r (now (counters .entry)) ⌝ }
+    ensures { λ r. ⌜ Beyond n r (now (counters .entry)) ⌝ }
+{
+    let mut counts = crate::load(counters);
+    let mut i = 0;
+    while i < n {
+        counts[3 * i + 1] = u64::MAX;
+        i += 1;
+    }
+    counts
+}
+
+// The counters of the first n nodes as they are lent, in an array that has the others.
+pub fn reload(counts: &mut [u64; 96], counters: &[u64], n: usize)
+    requires { ⌜ (length (now counts) ≡ 96) × (length (now counters) ≡ 96) × (n ≤ 32) × Beyond n (now counts) (now counters) ⌝ }
+    ensures { λ _. ⌜ now (counts .exit) ≡ now (counters .entry) ⌝ }
+{
+    let mut i = 0;
+    while i < 3 * n {
+        counts[i] = counters[i];
+        i += 1;
+    }
+}
+
+// The counters of the first n nodes as the array has them, where the others are those that are lent.
+pub fn keep(counters: &mut [u64], counts: &[u64; 96], n: usize)
+    requires { ⌜ (length (now counters) ≡ 96) × (length (now counts) ≡ 96) × (n ≤ 32) × Beyond n (now counters) (now counts) ⌝ }
+    ensures { λ _. ⌜ now (counters .exit) ≡ now (counts .entry) ⌝ }
+{
+    let mut i = 0;
+    while i < 3 * n {
+        counters[i] = counts[i];
+        i += 1;
+    }
+}
