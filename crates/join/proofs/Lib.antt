@@ -28,6 +28,7 @@ pub mod StoredTypes
 pub mod StoredExample
 pub mod Wide
 pub mod WiderLengths
+pub mod WiderLent
 pub mod Wider
 pub mod WiderNodes
 pub mod StoredJoin

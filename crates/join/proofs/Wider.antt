@@ -1,50 +1,39 @@
 -- DEMAND 3, last sentence: storing wider changes no row. Assumes nothing.
 -- A narrow join and a wide one: the same rows with offsets and sizes, run ends or keys stored wider, alike in every source, and the same sharing of dictionaries
--- (specs/Wide.antt), the same choices at the opening.
-use mathlib.Core.Path.{_≡_, refl, sym, subst}
-use mathlib.Core.Bool.{Bool, true, false}
+-- (specs/Wide.antt), in tables that describe them (specs/Stored.antt), the same choices at the opening.
+use mathlib.Core.Path.{_≡_}
 use mathlib.Core.List.{List}
 use Prim.Native.Nat.{ℕ, _≤_}
+use native.Mathlib.Omega.{arith}
 use lib.ListN.{length, getD, replicate}
-use borrow.Author.Tests.{le-leb, eq-eqb}
 use Rattle.columnar.specs.Reading.{readAll}
-use Rattle.columnar.specs.Wider.{Again}
 use Rattle.model.specs.Book.{Call}
 use Rattle.columns.specs.Grounds.{ceiling}
-use Rattle.join.specs.Join.{Lending, Bytes, sourcesIn, typeIn, columnsIn, openingOf, groundsIn, finishedOf, carriedOut, acceptedOf}
+use Rattle.join.specs.Join.{Lending, Bytes, sourcesIn, typeIn, columnsIn, openingOf, groundsIn, finishedOf, carriedOut}
+use Rattle.join.specs.Stored.{StoredWider}
 use Rattle.join.specs.Wide.{Wide, Lendable}
-use Rattle.join.proofs.Opens.{sourcesAnswer, placed, parts-next}
-use Rattle.join.proofs.Answered.{none-13, enough-room}
-use Rattle.join.proofs.Lengths.{accepted-is}
+use Rattle.join.proofs.Opens.{runs, sourcesAnswer}
+use Rattle.join.proofs.Stored.{sources-taken}
 use Rattle.join.proofs.Wide.{to-wider, to-again}
-use Rattle.join.proofs.WiderLengths.{wide-sources, wide-opens, opens-then, stored-wider}
+use Rattle.join.proofs.WiderLengths.{wide-obey}
+use Rattle.join.proofs.WiderLent as lent
 
--- "room is enough where neither 13 nor 14 stands"; the room is a body, of at most 2^63 - 1 bytes. That the wide sources are lendable follows where the tables are
--- stored wider node by node: proofs/WiderNodes.antt
-module _ (n w : Lending) (bytes-n : Bytes n) (bytes-w : Bytes w) (accepted-n : openingOf n .ground ≡ 0) (same-count : sourcesIn n ≡ sourcesIn w)
-    (wide : Wide (sourcesIn n) (typeIn n) (typeIn w) (columnsIn n) (columnsIn w)) (lends : Lendable w) (same-choice : n .keep ≡ w .keep) (same-gaps : n .gaps ≡ w .gaps)
+-- "room is enough where neither 13 nor 14 stands"; the room is a body, of at most 2^63 - 1 bytes
+module _ (n w : Lending) (bytes-n : Bytes n) (bytes-w : Bytes w) (accepted-n : openingOf n .ground ≡ 0) (stored : StoredWider n w)
+    (wide : Wide (sourcesIn n) (typeIn n) (typeIn w) (columnsIn n) (columnsIn w)) (same-choice : n .keep ≡ w .keep) (same-gaps : n .gaps ≡ w .gaps)
     (small : length (w .room) ≤ ceiling) (no-13 : openingOf w .ground ≡ 13 → ⊥) (no-14 : openingOf w .ground ≡ 14 → ⊥) where
-  abbrev again : Again (to-wider wide) (sourcesIn n) (columnsIn n) (columnsIn w)
-  again = to-again wide
-
+  -- neither 9, 10, 11 nor 12 stands of the wide sources
   taken : sourcesAnswer w ≡ 0
-  taken = wide-sources n w bytes-n bytes-w accepted-n (to-wider wide) same-count again lends
+  taken = sources-taken n w stored (runs n bytes-n accepted-n .accepted) (wide-obey n w bytes-n bytes-w accepted-n (to-wider wide) (stored .same-count) (to-again wide))
+
+  lends : Lendable w
+  lends = record { in-limits = λ e. omega (arith, taken, e); of-types = λ e. omega (arith, taken, e); alike = λ e. omega (arith, taken, e); in-body = stored .in-body }
 
   -- THE OPENING IS ACCEPTED
   pub opens-again : openingOf w .ground ≡ 0
-  opens-again = go (placed w) refl
-    where
-      go : (b : Bool) → placed w ≡ b → openingOf w .ground ≡ 0
-      go true e = opens-then (openingOf w .ground) (wide-opens n w bytes-n bytes-w accepted-n (to-wider wide) same-count again taken small e) no-13
-      go false e = absurd (no-14 (parts-next w (le-leb (length (w .room)) ceiling small) (eq-eqb _ 0 taken) e))
+  opens-again = lent.opens-again n w bytes-n bytes-w accepted-n (stored .same-count) wide lends same-choice same-gaps small no-13 no-14
 
   -- AND ALL THE ACCEPTED CALLS, each answered 0, with the same rows
   pub made-again : (os : List Call) → ((i : ℕ) → getD (groundsIn w (carriedOut n os)) i 0 ≡ 13 → ⊥)
       → (groundsIn w (carriedOut n os) ≡ replicate (length (groundsIn w (carriedOut n os))) 0) × (readAll (typeIn n) (finishedOf n os) ≡ readAll (typeIn w) (finishedOf w (carriedOut n os)))
-  made-again os room =
-      let is = accepted-is n bytes-n accepted-n os in
-      let r =
-      stored-wider n w bytes-n bytes-w accepted-n opens-again (to-wider wide) same-count same-choice same-gaps again os
-      (enough-room w bytes-w opens-again (acceptedOf n os) .0 (none-13 (groundsIn w (acceptedOf n os)) (subst (λ calls. (i : ℕ) → getD (groundsIn w calls) i 0 ≡ 13 → ⊥) is room))) in
-      subst (λ calls. (groundsIn w calls ≡ replicate (length (groundsIn w calls)) 0) × (readAll (typeIn n) (finishedOf n os) ≡ readAll (typeIn w) (finishedOf w calls))) (sym is)
-      (r .all-zero, r .same-rows)
+  made-again = lent.made-again n w bytes-n bytes-w accepted-n (stored .same-count) wide lends same-choice same-gaps small no-13 no-14
