@@ -5,4 +5,7 @@ pub mod PlainLeaf
 pub mod Loops
 pub mod Tried
 pub mod Node
+pub mod Homes
+pub mod Falls
+pub mod Fields
 pub mod Rises

@@ -2,3 +2,4 @@
 pub mod Plain
 pub mod Side
 pub mod Ends
+pub mod Fall

@@ -1,8 +1,11 @@
 // Theory: an order walked by stretches, child rows that follow one another in one walk, and that it comes to what the walk of a copy
 // comes to.
 pub mod batch_walk;
+mod dense_union;
+mod homes;
 mod list_view;
 mod numbers;
 pub mod rise;
 mod side;
 mod sizes;
+mod survey;

@@ -22,7 +22,7 @@ use nested_rows::lookups;
 use walk::plan_words;
 
 // Whether the plan counts node i, and its buffers have parts.
-fn is_owned(state: &[u64], i: usize) -> bool
+pub fn is_owned(state: &[u64], i: usize) -> bool
     requires { ⌜ i < 32 ⌝ }
     ensures { λ r. ⌜ r ≡ owned (now (state .entry)) i ⌝ }
 {

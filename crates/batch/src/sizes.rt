@@ -163,7 +163,7 @@ fn furthest_by(body: &[u8], offsets: u64, sizes: u64, w: u64, slot: u64, n: u64)
     most
 }
 
-fn larger(a: u64, b: u64) -> u64
+pub fn larger(a: u64, b: u64) -> u64
     ensures { λ r. ⌜ r ≡ cond (ltb a b) b a ⌝ }
 {
     if a < b {

@@ -1,4 +1,4 @@
--- A list-view that keeps no nulls, by stretches. Assumes nothing.
+-- A list-view that keeps no nulls, or a dense union, by stretches. Assumes nothing.
 use mathlib.Core.Path.{_≡_, refl, sym, ap, subst, fun-ext, _∙_}
 use mathlib.Core.Bool.{Bool, true, false, cond, not, _&&_}
 use mathlib.Core.List.{List, _∷_, []}
@@ -6,37 +6,90 @@ use Prim.Native.Nat.{ℕ, zero, suc, _+_, _*_, _-_, _≤_, _<_, min}
 use native.Mathlib.Omega.{arith}
 use lib.ListN.{length, take, drop}
 use lib.Dec.{leb, ltb, eqb}
-use borrow.Author.Tests.{lt-ltb, le-ltb, leb-true, ltb-true, ltb-false, eqb-true, eqb-false}
+use borrow.Author.Tests.{lt-ltb, le-ltb, eq-eqb, ne-eqb, leb-true, ltb-true, ltb-false, eqb-true, eqb-false}
 use Rattle.array_data.proofs.lent_tables.Laws.{no, yes, is-none, is-some}
 use Rattle.number.specs.Number.{entry}
 use Rattle.columnar.specs.Types.{half}
+use Rattle.columnar.specs.Test.{every}
+use Rattle.plan.proofs.parts.Placed.{every-at}
 use Rattle.schema.specs.formats.Code.{isListView}
 use Rattle.utils.specs.Pieces.{numbers}
-use Rattle.walk.specs.State.{Join, codeOf, keepsOf, bytesOf, rows, addRows, grown, scaled, top, place, far, slotOf, rowsIn}
+use Rattle.walk.specs.State.{Join, codeOf, endOf, keepsOf, bytesOf, rows, addRows, grown, scaled, top, place, far, slotOf, rowsIn}
 use Rattle.walk.specs.Log.{Out, Did, put, applyIf, done, need, found, next}
 use Rattle.walk.specs.Leaves.{copyMask}
 use Rattle.walk.specs.Copy.{masked}
 use Rattle.walk.proofs.Laws.{done-did, need-no, need-ok, found-no, found-ok, next-no, next-ok}
 use Rattle.leaf_walk.proofs.Laws.{wrote-at}
 use Rattle.batch.specs.Stretch.{sumOf, stretches}
+use Rattle.batch.specs.Dense.{batchDense}
 use Rattle.batch.specs.Batch.{owned, batchLeaf, batchListView, batchData, batchSlots, batchNode, batchWalk}
 use Rattle.batch.proofs.Ends.{need-is}
 use Rattle.batch.proofs.Stretches.{and-left, and-right}
-use Rattle.batch.specs.batch_walk.Plain.{isPlain, isStretched}
+use Rattle.batch.specs.batch_walk.Plain.{isPlain, isListed, plainBelow, isStretched}
 
 -- ---- what a type says
 
+every-fewer : (p : ℕ → Bool) (m n : ℕ) → m ≤ n → every p n ≡ true → every p m ≡ true
+every-fewer p zero n h e = refl
+every-fewer p (suc m) n h e = rw (every-fewer p m n (omega arith) e, every-at p n e m (omega arith)) refl
+
 module _ (S : List ℕ) where
-  pub not-listed : {code : ℕ} {r : Bool} → code ≡ codeOf S 0 → r ≡ isListView code → not r ≡ true → false ≡ isStretched S
+  pub not-listed : {code : ℕ} {r : Bool} → code ≡ codeOf S 0 → r ≡ isListView code → not r ≡ true → false ≡ isListed S
   not-listed e q h = let f : isListView (codeOf S 0) ≡ false = rw e at (no q h) in rw f refl
 
-  pub not-kept : {code v : ℕ} {r : Bool} → code ≡ codeOf S 0 → r ≡ isListView code → not r ≡ false → v ≡ keepsOf S 0 → (v ≡ 0 → ⊥) → false ≡ isStretched S
+  pub not-kept : {code v : ℕ} {r : Bool} → code ≡ codeOf S 0 → r ≡ isListView code → not r ≡ false → v ≡ keepsOf S 0 → (v ≡ 0 → ⊥) → false ≡ isListed S
   not-kept e q h p g = let f : isListView (codeOf S 0) ≡ true = rw e at (yes q h) in rw (f, is-some p g) refl
 
-  pub of-plain : {code v : ℕ} {r t : Bool} → code ≡ codeOf S 0 → r ≡ isListView code → not r ≡ false → v ≡ keepsOf S 0 → v ≡ 0 → t ≡ isPlain S 1 → t ≡ isStretched S
+  pub of-plain : {code v : ℕ} {r t : Bool} → code ≡ codeOf S 0 → r ≡ isListView code → not r ≡ false → v ≡ keepsOf S 0 → v ≡ 0 → t ≡ isPlain S 1 → t ≡ isListed S
   of-plain e q h p g o = let f : isListView (codeOf S 0) ≡ true = rw e at (yes q h) in rw (f, is-none p g) o
 
+  -- ---- the nodes below the root
+
+  abbrev plainFrom : ℕ → Bool
+  plainFrom j = isPlain S (suc j)
+
+  pub below-none : true ≡ every plainFrom (1 - 1)
+  below-none = refl
+
+  pub below-more : (k : ℕ) → 1 ≤ k → true ≡ every plainFrom (k - 1) → {t : Bool} → t ≡ isPlain S k → not t ≡ false → true ≡ every plainFrom (k + 1 - 1)
+  below-more k h e {t} f g =
+      let y : k + 1 - 1 ≡ suc (k - 1) = omega arith in
+      let z : suc (k - 1) ≡ k = omega arith in
+      let p : isPlain S (suc (k - 1)) ≡ true = subst (λ v. isPlain S v ≡ true) (sym z) (yes f g) in
+      rw (y, ← e, p) refl
+
+  pub below-no : (k : ℕ) → 1 ≤ k → {end : ℕ} → end ≡ endOf S 0 → k < end → {t : Bool} → t ≡ isPlain S k → not t ≡ true → false ≡ plainBelow S
+  below-no k h {end} e l f g = go (every plainFrom (endOf S 0 - 1)) refl
+    where
+      go : (t : Bool) → every plainFrom (endOf S 0 - 1) ≡ t → false ≡ t
+      go true q =
+          let z : suc (k - 1) ≡ k = omega arith in
+          let y = every-at plainFrom (endOf S 0 - 1) q (k - 1) (omega arith) in
+          sym (no f g) ∙ subst (λ v. isPlain S v ≡ true) z y
+      go false q = refl
+
+  pub below-all : (k : ℕ) → 1 ≤ k → true ≡ every plainFrom (k - 1) → {end : ℕ} → end ≡ endOf S 0 → end ≤ k → true ≡ plainBelow S
+  below-all k h e {end} f g = sym (every-fewer plainFrom (endOf S 0 - 1) (k - 1) (omega arith) (sym e))
+
+  -- ---- which of them
+
+  pub of-dense : {code : ℕ} {t : Bool} → code ≡ codeOf S 0 → code ≡ 22 → t ≡ plainBelow S → t ≡ isStretched S
+  of-dense e f g = rw (eq-eqb (codeOf S 0) 22 (sym e ∙ f)) g
+
+  pub of-list : {code : ℕ} {t : Bool} → code ≡ codeOf S 0 → (code ≡ 22 → ⊥) → t ≡ isListed S → t ≡ isStretched S
+  of-list e f g = rw (ne-eqb (codeOf S 0) 22 (λ z. f (e ∙ z))) g
+
   module _ (is : isStretched S ≡ true) where
+    pub kids-plain : {code : ℕ} → code ≡ codeOf S 0 → code ≡ 22 → (j : ℕ) → 0 < j → j < endOf S 0 → isPlain S j ≡ true
+    kids-plain e f j l h =
+        let g : plainBelow S ≡ true = rw (eq-eqb (codeOf S 0) 22 (sym e ∙ f)) at is in
+        let z : suc (j - 1) ≡ j = omega arith in
+        subst (λ v. isPlain S v ≡ true) z (every-at plainFrom (endOf S 0 - 1) g (j - 1) (omega arith))
+
+    pub list-is : {code : ℕ} → code ≡ codeOf S 0 → (code ≡ 22 → ⊥) → isListed S ≡ true
+    list-is e f = rw (ne-eqb (codeOf S 0) 22 (λ z. f (e ∙ z))) at is
+
+  module _ (is : isListed S ≡ true) where
     pub listed : isListView (codeOf S 0) ≡ true
     listed = and-left (isListView (codeOf S 0)) _ is
 
@@ -130,48 +183,60 @@ module _ (x : Join) (i w slot n : ℕ) (wr : Bool) (c room : List ℕ) where
 
 -- ---- the whole node
 
-module _ (x : Join) (is : isStretched (x .state) ≡ true) where
+module _ (x : Join) where
   abbrev C : ℕ
   C = codeOf (x .state) 0
 
   abbrev W : ℕ
   W = bytesOf (x .state) 0
 
-  masks : masked C ≡ true
-  masks = lt-ltb C 21 (let h = leb-true C 18 (and-right (leb 17 C) _ (listed (x .state) is)) in omega arith)
+  -- a list-view's data, and a dense union's
+  module _ {wr : Bool} (slot n : ℕ) (c : List ℕ) {room : List ℕ} {code g : ℕ} {c2 room2 : List ℕ} (e : code ≡ C) where
+    pub data-list : isListed (x .state) ≡ true → {w : ℕ} → w ≡ W → Did (x .state) (x .parts) wr (batchListView x (batchLeaf x) w 0 slot n c) room g c2 room2
+        → Did (x .state) (x .parts) wr (batchData x (batchLeaf x) C 0 slot n c) room g c2 room2
+    unfolding batchData
+    data-list is f d = rw (listed (x .state) is) (rw f at d)
 
-  mask-is : (slot n : ℕ) (c : List ℕ) → cond (masked C) (copyMask x 0 slot n c) (done c) ≡ done c
-  unfolding copyMask
-  mask-is slot n c = rw (masks, keeps-none (x .state) is) refl
+    pub data-dense : code ≡ 22 → Did (x .state) (x .parts) wr (batchDense x (batchLeaf x) 0 slot n c) room g c2 room2
+        → Did (x .state) (x .parts) wr (batchData x (batchLeaf x) C 0 slot n c) room g c2 room2
+    unfolding batchData
+    data-dense f d = let h : C ≡ 22 = sym e ∙ f in rw h d
 
-  data-is : (slot n : ℕ) (c : List ℕ) → batchData x (batchLeaf x) C 0 slot n c ≡ batchListView x (batchLeaf x) W 0 slot n c
-  unfolding batchData
-  data-is slot n c = rw (listed (x .state) is) refl
+  module _ (is : isStretched (x .state) ≡ true) where
+    mask-is : (slot n : ℕ) (c : List ℕ) → cond (masked C) (copyMask x 0 slot n c) (done c) ≡ done c
+    unfolding copyMask
+    mask-is slot n c = go (eqb C 22) refl
+      where
+        go : (t : Bool) → eqb C 22 ≡ t → cond (masked C) (copyMask x 0 slot n c) (done c) ≡ done c
+        go true q = rw (le-ltb C 21 (let h = eqb-true C 22 q in omega arith)) refl
+        go false q =
+            let l = list-is (x .state) is refl (eqb-false C 22 q) in
+            let m : masked C ≡ true = lt-ltb C 21 (let h = leb-true C 18 (and-right (leb 17 C) _ (listed (x .state) l)) in omega arith) in
+            rw (m, keeps-none (x .state) l) refl
 
-  done-next : (c : List ℕ) (f : List ℕ → Out) → next (done c) f ≡ f c
-  unfolding next done
-  done-next c f = refl
+    done-next : (c : List ℕ) (f : List ℕ → Out) → next (done c) f ≡ f c
+    unfolding next done
+    done-next c f = refl
 
-  slots-is : (n : ℕ) (c : List ℕ) (slot : ℕ) → batchSlots x (batchLeaf x) 0 slot n c ≡ next (batchListView x (batchLeaf x) W 0 slot n c) (λ c2. done (addRows 0 n c2))
-  unfolding batchSlots
-  slots-is n c slot =
-      ap (λ o. next o (λ c2. next (batchData x (batchLeaf x) C 0 slot n c2) (λ c3. done (addRows 0 n c3)))) (mask-is slot n c)
-      ∙ done-next c (λ c2. next (batchData x (batchLeaf x) C 0 slot n c2) (λ c3. done (addRows 0 n c3)))
-      ∙ ap (λ o. next o (λ c3. done (addRows 0 n c3))) (data-is slot n c)
+    slots-is : (n : ℕ) (c : List ℕ) (slot : ℕ) → batchSlots x (batchLeaf x) 0 slot n c ≡ next (batchData x (batchLeaf x) C 0 slot n c) (λ c2. done (addRows 0 n c2))
+    unfolding batchSlots
+    slots-is n c slot =
+        ap (λ o. next o (λ c2. next (batchData x (batchLeaf x) C 0 slot n c2) (λ c3. done (addRows 0 n c3)))) (mask-is slot n c)
+        ∙ done-next c (λ c2. next (batchData x (batchLeaf x) C 0 slot n c2) (λ c3. done (addRows 0 n c3)))
 
-  node-is : (a n : ℕ) (c : List ℕ) → batchWalk x 0 a n c ≡ found far (slotOf x 0 a n) 12 c (λ slot. next (batchListView x (batchLeaf x) W 0 slot n c) (λ c2. done (addRows 0 n c2)))
-  unfolding batchWalk batchNode
-  node-is a n c =
-      need-is 12 c (found far (slotOf x 0 a n) 12 c (λ slot. batchSlots x (batchLeaf x) 0 slot n c)) (lt-ltb 0 32 (omega arith))
-      ∙ ap (found far (slotOf x 0 a n) 12 c) (fun-ext (λ slot. slots-is n c slot))
+    node-is : (a n : ℕ) (c : List ℕ) → batchWalk x 0 a n c ≡ found far (slotOf x 0 a n) 12 c (λ slot. next (batchData x (batchLeaf x) C 0 slot n c) (λ c2. done (addRows 0 n c2)))
+    unfolding batchWalk batchNode
+    node-is a n c =
+        need-is 12 c (found far (slotOf x 0 a n) 12 c (λ slot. batchSlots x (batchLeaf x) 0 slot n c)) (lt-ltb 0 32 (omega arith))
+        ∙ ap (found far (slotOf x 0 a n) 12 c) (fun-ext (λ slot. slots-is n c slot))
 
-  module _ (a n : ℕ) (wr : Bool) (c room : List ℕ) {s : ℕ} (e : s ≡ slotOf x 0 a n) where
-    pub node-far : far ≤ s → Did (x .state) (x .parts) wr (batchWalk x 0 a n c) room 12 c room
-    node-far h = rw (node-is a n c) (found-no _ e h)
+    module _ (a n : ℕ) (wr : Bool) (c room : List ℕ) {s : ℕ} (e : s ≡ slotOf x 0 a n) where
+      pub node-far : far ≤ s → Did (x .state) (x .parts) wr (batchWalk x 0 a n c) room 12 c room
+      node-far h = rw (node-is a n c) (found-no _ e h)
 
-    module _ (h : s < far) {w g : ℕ} {c2 room2 : List ℕ} (f : w ≡ W) (d : Did (x .state) (x .parts) wr (batchListView x (batchLeaf x) w 0 s n c) room g c2 room2) where
-      pub node-stop : (g ≡ 0 → ⊥) → Did (x .state) (x .parts) wr (batchWalk x 0 a n c) room g c2 room2
-      node-stop l = rw (node-is a n c) (found-ok 12 c _ e h (next-no _ (rw f at d) l))
+      module _ (h : s < far) {g : ℕ} {c2 room2 : List ℕ} (d : Did (x .state) (x .parts) wr (batchData x (batchLeaf x) C 0 s n c) room g c2 room2) where
+        pub node-stop : (g ≡ 0 → ⊥) → Did (x .state) (x .parts) wr (batchWalk x 0 a n c) room g c2 room2
+        node-stop l = rw (node-is a n c) (found-ok 12 c _ e h (next-no _ d l))
 
-      pub node-done : g ≡ 0 → {c3 : List ℕ} → c3 ≡ addRows 0 n c2 → Did (x .state) (x .parts) wr (batchWalk x 0 a n c) room 0 c3 room2
-      node-done l q = rw (node-is a n c) (found-ok 12 c _ e h (next-ok _ (rw f at d) l (rw q (done-did wr _ room2))))
+        pub node-done : g ≡ 0 → {c3 : List ℕ} → c3 ≡ addRows 0 n c2 → Did (x .state) (x .parts) wr (batchWalk x 0 a n c) room 0 c3 room2
+        node-done l q = rw (node-is a n c) (found-ok 12 c _ e h (next-ok _ d l (rw q (done-did wr _ room2))))

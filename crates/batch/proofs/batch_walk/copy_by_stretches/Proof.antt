@@ -2,12 +2,10 @@
 use mathlib.Core.Path.{_≡_, refl}
 use mathlib.Core.List.{[]}
 use Prim.Native.Nat.{_+_, _<_}
-use native.Mathlib.Omega.{arith}
 use Rattle.walk.specs.State.{far}
 use Rattle.leaf_walk.specs.Join.{join}
 use Rattle.nested_rows.proofs.lookups.Laws.{slot-rows}
-use Rattle.nested_rows.proofs.node_data.Laws.{list-wide}
-use Rattle.batch.proofs.batch_walk.Node.{listed, child-plain, node-far, node-stop, node-done}
+use Rattle.batch.proofs.batch_walk.Node.{node-far, node-stop, node-done}
 use borrow.Author.Needs.{needs}
 use Rattle.batch.proofs.batch_walk.copy_by_stretches.Statement.{statement}
 use Rattle.batch.proofs.batch_walk.copy_by_stretches.Tie as tie
@@ -20,22 +18,18 @@ returns c =
     let a = c .before .before .before .before .before .before .before .before .args in
     λ source. node-far (join (a .state .now) (a .parts .now) (a .lengths .now) (a .places .now) (a .body .now) (a .first) source) (c .before .before .before .before .before .before .before .before .pre .1) (a .a) (a .n) (a .write) (a .counts .now) (a .room .now) (c .before .slot-of .ensures (a .state .now) (a .parts .now) (a .places .now) (a .body .now) source) (c .if1 .taken)
 
-width-at-requires : tie.Need-width-at-requires
-width-at-requires c κs = search needs
-
-copy-list-view-requires : tie.Need-copy-list-view-requires
-copy-list-view-requires c κs =
-    let a = c .before .before .before .before .before .before .before .before .before .before .before .args in
-    let h : c .before .before .before .before .slot-of .result + a .n < far = slot-rows (join [] [] (a .lengths .now) [] [] (a .first) 0) 0 (a .a) (a .n) (c .before .before .before .before .slot-of .ensures [] [] [] [] 0) (c .before .before .before .if1 .left) in
-    ((c .before .before .before .before .before .before .before .before .before .before .before .pre .0, omega arith, h, child-plain (a .state .now) (c .before .before .before .before .before .before .before .before .before .before .before .pre .1)), list-wide (a .state .now) 0 refl (c .before .before .width-at .ensures) refl (listed (a .state .now) (c .before .before .before .before .before .before .before .before .before .before .before .pre .1)))
+copy-data-requires : tie.Need-copy-data-requires
+copy-data-requires c κs =
+    let a = c .before .before .before .before .before .before .before .before .before .before .args in
+    (c .before .before .before .before .before .before .before .before .before .before .pre .0, slot-rows (join [] [] (a .lengths .now) [] [] (a .first) 0) 0 (a .a) (a .n) (c .before .before .before .slot-of .ensures [] [] [] [] 0) (c .before .before .if1 .left), c .before .before .before .before .before .before .before .before .before .before .pre .1)
 
 same-length : tie.Need-same-length
 same-length c = search needs
 
 returns-2 : tie.Need-returns-2
 returns-2 c =
-    let a = c .before .before .before .before .before .before .before .before .before .before .before .before .before .before .before .args in
-    λ source. node-stop (join (a .state .now) (a .parts .now) (a .lengths .now) (a .places .now) (a .body .now) (a .first) source) (c .before .before .before .before .before .before .before .before .before .before .before .before .before .before .before .pre .1) (a .a) (a .n) (a .write) (a .counts .now) (a .room .now) (c .before .before .before .before .before .before .before .before .slot-of .ensures (a .state .now) (a .parts .now) (a .places .now) (a .body .now) source) (c .before .before .before .before .before .before .before .if1 .left) (c .before .before .before .before .before .before .width-at .ensures) (c .before .before .before .copy-list-view .ensures source) (c .if2 .taken)
+    let a = c .before .before .before .before .before .before .before .before .before .before .before .before .before .before .args in
+    λ source. node-stop (join (a .state .now) (a .parts .now) (a .lengths .now) (a .places .now) (a .body .now) (a .first) source) (c .before .before .before .before .before .before .before .before .before .before .before .before .before .before .pre .1) (a .a) (a .n) (a .write) (a .counts .now) (a .room .now) (c .before .before .before .before .before .before .before .slot-of .ensures (a .state .now) (a .parts .now) (a .places .now) (a .body .now) source) (c .before .before .before .before .before .before .if1 .left) (c .before .before .before .copy-data .ensures source) (c .if2 .taken)
 
 add-rows-requires : tie.Need-add-rows-requires
 add-rows-requires c κs = search needs
@@ -45,8 +39,8 @@ same-length-2 c = search needs
 
 returns-3 : tie.Need-returns-3
 returns-3 c =
-    let a = c .before .before .before .before .before .before .before .before .before .before .before .before .before .before .before .before .before .args in
-    λ source. node-done (join (a .state .now) (a .parts .now) (a .lengths .now) (a .places .now) (a .body .now) (a .first) source) (c .before .before .before .before .before .before .before .before .before .before .before .before .before .before .before .before .before .pre .1) (a .a) (a .n) (a .write) (a .counts .now) (a .room .now) (c .before .before .before .before .before .before .before .before .before .before .slot-of .ensures (a .state .now) (a .parts .now) (a .places .now) (a .body .now) source) (c .before .before .before .before .before .before .before .before .before .if1 .left) (c .before .before .before .before .before .before .before .before .width-at .ensures) (c .before .before .before .before .before .copy-list-view .ensures source) (c .before .before .if2 .left) (c .add-rows .ensures)
+    let a = c .before .before .before .before .before .before .before .before .before .before .before .before .before .before .before .before .args in
+    λ source. node-done (join (a .state .now) (a .parts .now) (a .lengths .now) (a .places .now) (a .body .now) (a .first) source) (c .before .before .before .before .before .before .before .before .before .before .before .before .before .before .before .before .pre .1) (a .a) (a .n) (a .write) (a .counts .now) (a .room .now) (c .before .before .before .before .before .before .before .before .before .slot-of .ensures (a .state .now) (a .parts .now) (a .places .now) (a .body .now) source) (c .before .before .before .before .before .before .before .before .if1 .left) (c .before .before .before .before .before .copy-data .ensures source) (c .before .before .if2 .left) (c .add-rows .ensures)
 
 pub copy-by-stretches-spec : {M : Type 1} → statement M
-copy-by-stretches-spec = tie.close (tie.spec slot-of-requires returns width-at-requires copy-list-view-requires same-length returns-2 add-rows-requires same-length-2 returns-3)
+copy-by-stretches-spec = tie.close (tie.spec slot-of-requires returns copy-data-requires same-length returns-2 add-rows-requires same-length-2 returns-3)

@@ -1,5 +1,5 @@
 -- `batch_walk::is_stretched` meets its contract. Assumes nothing.
-use Rattle.batch.proofs.batch_walk.Node.{not-listed, not-kept, of-plain}
+use Rattle.batch.proofs.batch_walk.Node.{of-dense, of-list}
 use borrow.Author.Needs.{needs}
 use Rattle.batch.proofs.batch_walk.is_stretched.Statement.{statement}
 use Rattle.batch.proofs.batch_walk.is_stretched.Tie as tie
@@ -7,23 +7,17 @@ use Rattle.batch.proofs.batch_walk.is_stretched.Tie as tie
 code-of-requires : tie.Need-code-of-requires
 code-of-requires c κs = search needs
 
-is-list-view-requires : tie.Need-is-list-view-requires
-is-list-view-requires c κs = search needs
+plain-below-requires : tie.Need-plain-below-requires
+plain-below-requires c κs = search needs
 
 returns : tie.Need-returns
-returns c = not-listed (c .before .before .before .before .args .state .now) (c .before .before .code-of .ensures) (c .before .is-list-view .ensures) (c .if1 .taken)
+returns c = of-dense (c .before .before .before .before .args .state .now) (c .before .before .code-of .ensures) (c .before .if1 .taken) (c .plain-below .ensures)
 
-keeps-of-requires : tie.Need-keeps-of-requires
-keeps-of-requires c κs = search needs
+is-listed-requires : tie.Need-is-listed-requires
+is-listed-requires c κs = search needs
 
 returns-2 : tie.Need-returns-2
-returns-2 c = not-kept (c .before .before .before .before .before .before .args .state .now) (c .before .before .before .before .code-of .ensures) (c .before .before .before .is-list-view .ensures) (c .before .before .if1 .left) (c .before .keeps-of .ensures) (c .if2 .taken)
-
-is-plain-requires : tie.Need-is-plain-requires
-is-plain-requires c κs = search needs
-
-returns-3 : tie.Need-returns-3
-returns-3 c = of-plain (c .before .before .before .before .before .before .before .args .state .now) (c .before .before .before .before .before .code-of .ensures) (c .before .before .before .before .is-list-view .ensures) (c .before .before .before .if1 .left) (c .before .before .keeps-of .ensures) (c .before .if2 .left) (c .is-plain .ensures)
+returns-2 c = of-list (c .before .before .before .before .args .state .now) (c .before .before .code-of .ensures) (c .before .if1 .left) (c .is-listed .ensures)
 
 pub is-stretched-spec : {M : Type 1} → statement M
-is-stretched-spec = tie.close (tie.spec code-of-requires is-list-view-requires returns keeps-of-requires returns-2 is-plain-requires returns-3)
+is-stretched-spec = tie.close (tie.spec code-of-requires plain-below-requires returns is-listed-requires returns-2)

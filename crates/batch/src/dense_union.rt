@@ -1,0 +1,382 @@
+// A dense union by stretches of each of its children.
+ghost use mathlib.Core.Path.{_≡_};
+ghost use mathlib.Core.Bool.{true, not, _&&_};
+ghost use mathlib.Core.List.{List, []};
+ghost use Prim.Native.Nat.{ℕ, suc, _+_, _*_, _-_, _<_, _≤_, _^_};
+ghost use lib.ListN.{length};
+ghost use Rattle.number.specs.Number.{entry};
+ghost use Rattle.walk.specs.State.{endOf, place};
+ghost use Rattle.walk.specs.Log.{Out, Did};
+ghost use Rattle.leaf_walk.specs.Join.{join};
+ghost use Rattle.batch.specs.Stretch.{sumOf, stretch, stretches};
+ghost use Rattle.batch.specs.Dense.{batchFields, batchDense};
+ghost use Rattle.batch.specs.Batch.{batchLeaf};
+ghost use Rattle.batch.specs.batch_walk.Plain.{isPlain, reached};
+ghost use Rattle.batch.specs.batch_walk.Side.{sideOf, furthestOf};
+ghost use Rattle.batch.specs.batch_walk.Fall.{Homed, homeBy, takesOf, takesFrom, Fallen};
+use crate::homes;
+use crate::list_view;
+use crate::numbers;
+use crate::side;
+use crate::side::Stretch;
+use crate::survey;
+use array_data::lent_tables;
+use nested_rows::lookups;
+use walk::plan_words;
+
+// The stretch of child k that begins with its rows a .. a + m - 1, where row `from` of the union is looked at next.
+fn advance(
+    homes: &[u8; 256],
+    body: &[u8],
+    ids: u64,
+    positions: u64,
+    slot: u64,
+    n: u64,
+    k: usize,
+    from: u64,
+    a: u64,
+    m: u64,
+) -> Stretch
+    requires { ⌜ (ids + (slot + n) ≤ length (now body)) × (positions + 4 * (slot + n) ≤ length (now body)) × (slot + n < 2 ^ 63) × (from ≤ n) × (m ≤ from) ⌝ }
+    ensures { λ t. ⌜ ((walk : ℕ → ℕ → List ℕ → Out) (c : List ℕ) → stretch walk (takesFrom (λ r. homeBy (now (homes .entry)) (now (body .entry)) (ids + (slot + r))) (λ r. entry 4 (now (body .entry)) positions (slot + r)) k) (takesOf (λ r. homeBy (now (homes .entry)) (now (body .entry)) (ids + (slot + r))) k) (n - from) from a m c ≡ stretch walk (takesFrom (λ r. homeBy (now (homes .entry)) (now (body .entry)) (ids + (slot + r))) (λ r. entry 4 (now (body .entry)) positions (slot + r)) k) (takesOf (λ r. homeBy (now (homes .entry)) (now (body .entry)) (ids + (slot + r))) k) (n - t .next) (t .next) (t .a) (t .m) c) ⌝ }
+    ensures { λ t. ⌜ (t .next ≤ n) × (from ≤ t .next) ⌝ }
+    ensures { λ t. ⌜ ((t .next ≡ n → ⊥) → (sideOf (t .a) (t .m) (takesFrom (λ r. homeBy (now (homes .entry)) (now (body .entry)) (ids + (slot + r))) (λ r. entry 4 (now (body .entry)) positions (slot + r)) k (t .next)) (takesOf (λ r. homeBy (now (homes .entry)) (now (body .entry)) (ids + (slot + r))) k (t .next)) ≡ 3)) ⌝ }
+{
+    let mut b = a;
+    let mut p = m;
+    let mut r = from;
+    while r < n {
+        let start = homes::start_at(homes, body, ids, positions, slot + r, k);
+        let size = homes::size_at(homes, body, ids, slot + r, k);
+        let side = side::side_of(b, p, start, size);
+        if side == 3 {
+            return Stretch {
+                a: b,
+                m: p,
+                next: r,
+            };
+        }
+        b = side::next_start(side, b, start);
+        p = side::next_size(side, p, size);
+        r += 1;
+    }
+    Stretch {
+        a: b,
+        m: p,
+        next: r,
+    }
+}
+
+// The stretches of child k.
+fn copy_stretches(
+    state: &[u64],
+    parts: &[u64],
+    lengths: &[u64],
+    places: &[u64],
+    body: &[u8],
+    counts: &mut [u64; 96],
+    room: &mut [u8],
+    write: bool,
+    first: usize,
+    homes: &[u8; 256],
+    ids: u64,
+    positions: u64,
+    slot: u64,
+    n: u64,
+    k: usize,
+) -> u8
+    requires { ⌜ (first < 2 ^ 32) × (k < 32) × (isPlain (now state) k ≡ true) ⌝ }
+    requires { ⌜ (ids + (slot + n) ≤ length (now body)) × (positions + 4 * (slot + n) ≤ length (now body)) × (slot + n < 2 ^ 63) ⌝ }
+    ensures { λ g. ⌜ ((source : ℕ) → Did (now (state .entry)) (now (parts .entry)) write (stretches (λ a m d. batchLeaf (join (now (state .entry)) (now (parts .entry)) (now (lengths .entry)) (now (places .entry)) (now (body .entry)) first source) k a m d) (takesFrom (λ r. homeBy (now (homes .entry)) (now (body .entry)) (ids + (slot + r))) (λ r. entry 4 (now (body .entry)) positions (slot + r)) k) (takesOf (λ r. homeBy (now (homes .entry)) (now (body .entry)) (ids + (slot + r))) k) n (now (counts .entry))) (now (room .entry)) g (now (counts .exit)) (now (room .exit))) ⌝ }
+{
+    let w = lookups::width_at(state, k);
+    let mut a: u64 = 0;
+    let mut m: u64 = 0;
+    let mut r: u64 = 0;
+    while r <= n {
+        let t = advance(homes, body, ids, positions, slot, n, k, r, a, m);
+        let g = numbers::copy_stretch(
+            state,
+            parts,
+            lengths,
+            places,
+            body,
+            counts,
+            room,
+            write,
+            first,
+            k,
+            w,
+            t.a,
+            t.m,
+        );
+        if g != 0 {
+            return g;
+        }
+        if t.next == n {
+            return 0;
+        }
+        a = homes::start_at(homes, body, ids, positions, slot + t.next, k);
+        m = homes::size_at(homes, body, ids, slot + t.next, k);
+        r = t.next + 1;
+    }
+    12
+}
+
+// Whether the walk only tries, and the rows of child k before row `end` stand in the body: then no stretch is refused.
+fn all_reached(
+    lengths: &[u64],
+    places: &[u64],
+    body: &[u8],
+    write: bool,
+    first: usize,
+    k: usize,
+    w: u64,
+    end: u64,
+) -> bool
+    requires { ⌜ (first < 2 ^ 32) × (k < 32) × (w ≤ 16) ⌝ }
+    ensures { λ r. ⌜ ((state parts : List ℕ) (source : ℕ) → r ≡ (not write && reached (join state parts (now (lengths .entry)) (now (places .entry)) (now (body .entry)) first source) k w end)) ⌝ }
+{
+    if write {
+        return false;
+    }
+    numbers::reaches(lengths, places, body, first, k, w, end)
+}
+
+// The rows of child k: `total` of them, which reach to `end`, and all from `begin` on if they are whole.
+fn copy_child(
+    state: &[u64],
+    parts: &[u64],
+    lengths: &[u64],
+    places: &[u64],
+    body: &[u8],
+    counts: &mut [u64; 96],
+    room: &mut [u8],
+    write: bool,
+    first: usize,
+    homes: &[u8; 256],
+    ids: u64,
+    positions: u64,
+    slot: u64,
+    n: u64,
+    k: usize,
+    whole: bool,
+    begin: u64,
+    total: u64,
+    end: u64,
+) -> u8
+    requires { ⌜ (first < 2 ^ 32) × (k < 32) × (isPlain (now state) k ≡ true) ⌝ }
+    requires { ⌜ (ids + (slot + n) ≤ length (now body)) × (positions + 4 * (slot + n) ≤ length (now body)) × (slot + n < 2 ^ 63) ⌝ }
+    requires { ⌜ (total ≡ sumOf (takesOf (λ r. homeBy (now homes) (now body) (ids + (slot + r))) k) n) × (end ≡ furthestOf (λ q. takesFrom (λ r. homeBy (now homes) (now body) (ids + (slot + r))) (λ r. entry 4 (now body) positions (slot + r)) k q + takesOf (λ r. homeBy (now homes) (now body) (ids + (slot + r))) k q) n) ⌝ }
+    requires { ⌜ (whole ≡ true → (walk : ℕ → ℕ → List ℕ → Out) (c : List ℕ) → stretches walk (takesFrom (λ r. homeBy (now homes) (now body) (ids + (slot + r))) (λ r. entry 4 (now body) positions (slot + r)) k) (takesOf (λ r. homeBy (now homes) (now body) (ids + (slot + r))) k) n c ≡ walk begin total c) ⌝ }
+    ensures { λ g. ⌜ ((source : ℕ) → Did (now (state .entry)) (now (parts .entry)) write (stretches (λ a m d. batchLeaf (join (now (state .entry)) (now (parts .entry)) (now (lengths .entry)) (now (places .entry)) (now (body .entry)) first source) k a m d) (takesFrom (λ r. homeBy (now (homes .entry)) (now (body .entry)) (ids + (slot + r))) (λ r. entry 4 (now (body .entry)) positions (slot + r)) k) (takesOf (λ r. homeBy (now (homes .entry)) (now (body .entry)) (ids + (slot + r))) k) n (now (counts .entry))) (now (room .entry)) g (now (counts .exit)) (now (room .exit))) ⌝ }
+{
+    let w = lookups::width_at(state, k);
+    if all_reached(lengths, places, body, write, first, k, w, end) {
+        plan_words::add_rows(counts, k, total);
+        return 0;
+    }
+    if whole {
+        return numbers::copy_stretch(
+            state,
+            parts,
+            lengths,
+            places,
+            body,
+            counts,
+            room,
+            write,
+            first,
+            k,
+            w,
+            begin,
+            total,
+        );
+    }
+    copy_stretches(
+        state,
+        parts,
+        lengths,
+        places,
+        body,
+        counts,
+        room,
+        write,
+        first,
+        homes,
+        ids,
+        positions,
+        slot,
+        n,
+        k,
+    )
+}
+
+// The rows of the children of node i, one child after the other.
+fn copy_children(
+    state: &[u64],
+    parts: &[u64],
+    lengths: &[u64],
+    places: &[u64],
+    body: &[u8],
+    counts: &mut [u64; 96],
+    room: &mut [u8],
+    write: bool,
+    first: usize,
+    homes: &[u8; 256],
+    begins: &[u64; 32],
+    taken: &[u64; 32],
+    ends: &[u64; 32],
+    whole: bool,
+    ids: u64,
+    positions: u64,
+    i: usize,
+    slot: u64,
+    n: u64,
+) -> u8
+    requires { ⌜ (first < 2 ^ 32) × (i < 32) × ((j : ℕ) → i < j → j < endOf (now state) i → isPlain (now state) j ≡ true) ⌝ }
+    requires { ⌜ (ids + (slot + n) ≤ length (now body)) × (positions + 4 * (slot + n) ≤ length (now body)) × (slot + n < 2 ^ 63) ⌝ }
+    requires { ⌜ Homed (now state) i (now homes) × (ids ≡ place (join [] [] [] (now places) [] first 0) i 3) × (positions ≡ place (join [] [] [] (now places) [] first 0) i 5) ⌝ }
+    requires { ⌜ Fallen (λ r. homeBy (now homes) (now body) (ids + (slot + r))) (λ r. entry 4 (now body) positions (slot + r)) n n whole (now begins) (now taken) (now ends) ⌝ }
+    ensures { λ g. ⌜ ((source : ℕ) → Did (now (state .entry)) (now (parts .entry)) write (batchFields (join (now (state .entry)) (now (parts .entry)) (now (lengths .entry)) (now (places .entry)) (now (body .entry)) first source) (batchLeaf (join (now (state .entry)) (now (parts .entry)) (now (lengths .entry)) (now (places .entry)) (now (body .entry)) first source)) i slot n (endOf (now (state .entry)) i) 32 (suc i) (now (counts .entry))) (now (room .entry)) g (now (counts .exit)) (now (room .exit))) ⌝ }
+{
+    let last = plan_words::end_of(state, i);
+    let mut k = i + 1;
+    let mut t: usize = 0;
+    while t < 32 {
+        if last <= k {
+            return 0;
+        }
+        let next = plan_words::end_of(state, k);
+        if next <= k {
+            return 12;
+        }
+        if !list_view::is_owned(state, k) {
+            return 12;
+        }
+        let g = copy_child(
+            state,
+            parts,
+            lengths,
+            places,
+            body,
+            counts,
+            room,
+            write,
+            first,
+            homes,
+            ids,
+            positions,
+            slot,
+            n,
+            k,
+            whole,
+            begins[k],
+            taken[k],
+            ends[k],
+        );
+        if g != 0 {
+            return g;
+        }
+        k = next;
+        t += 1;
+    }
+    0
+}
+
+// A dense union whose children are of numbers without validity.
+pub fn copy_dense(
+    state: &[u64],
+    parts: &[u64],
+    lengths: &[u64],
+    places: &[u64],
+    body: &[u8],
+    counts: &mut [u64; 96],
+    room: &mut [u8],
+    write: bool,
+    first: usize,
+    i: usize,
+    slot: u64,
+    n: u64,
+) -> u8
+    requires { ⌜ (first < 2 ^ 32) × (i < 32) × (slot + n < 2 ^ 63) × ((j : ℕ) → i < j → j < endOf (now state) i → isPlain (now state) j ≡ true) ⌝ }
+    ensures { λ g. ⌜ ((source : ℕ) → Did (now (state .entry)) (now (parts .entry)) write (batchDense (join (now (state .entry)) (now (parts .entry)) (now (lengths .entry)) (now (places .entry)) (now (body .entry)) first source) (batchLeaf (join (now (state .entry)) (now (parts .entry)) (now (lengths .entry)) (now (places .entry)) (now (body .entry)) first source)) i slot n (now (counts .entry))) (now (room .entry)) g (now (counts .exit)) (now (room .exit))) ⌝ }
+{
+    if !list_view::is_owned(state, i) {
+        return 12;
+    }
+    if !nested_rows::pairs_in(places, body, first, i, 1, 4, slot, n) {
+        return 12;
+    }
+    let ids = lent_tables::place(places, first + i, 3);
+    let positions = lent_tables::place(places, first + i, 5);
+    let homes = homes::homes_of(state, i);
+    let mut begins = [0u64; 32];
+    let mut taken = [0u64; 32];
+    let mut ends = [0u64; 32];
+    let seen = survey::survey(
+        &homes,
+        counts,
+        body,
+        ids,
+        positions,
+        slot,
+        n,
+        &mut begins,
+        &mut taken,
+        &mut ends,
+    );
+    if !seen.sound {
+        return 12;
+    }
+    let rows = plan_words::rows_of(counts, i);
+    let from = ids + slot;
+    room_writes::put_copy(
+        state,
+        parts,
+        room,
+        write,
+        i,
+        1,
+        rows,
+        body,
+        from as usize,
+        n,
+    );
+    let o = plan_words::scale(rows, 4);
+    survey::put_lands(
+        state,
+        parts,
+        room,
+        write,
+        i,
+        o,
+        &homes,
+        counts,
+        body,
+        ids,
+        slot,
+        n,
+    );
+    copy_children(
+        state,
+        parts,
+        lengths,
+        places,
+        body,
+        counts,
+        room,
+        write,
+        first,
+        &homes,
+        &begins,
+        &taken,
+        &ends,
+        seen.whole,
+        ids,
+        positions,
+        i,
+        slot,
+        n,
+    )
+}

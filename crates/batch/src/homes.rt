@@ -1,0 +1,79 @@
+// The child that takes each row of a dense union, and the position there.
+ghost use mathlib.Core.Path.{_≡_};
+ghost use mathlib.Core.Bool.{cond};
+ghost use Prim.Native.Nat.{_+_, _*_, _<_, _≤_};
+ghost use lib.ListN.{length};
+ghost use lib.Dec.{eqb};
+ghost use Rattle.number.specs.Number.{entry};
+ghost use Rattle.batch.specs.batch_walk.Fall.{Homed, homeBy};
+use walk::plan_words;
+
+// The child of an id that had `had`, with child k.
+fn first_of(had: u8, k: u8) -> u8
+    ensures { λ r. ⌜ r ≡ cond (eqb had 32) k had ⌝ }
+{
+    if had == 32 {
+        return k;
+    }
+    had
+}
+
+// The child of each id; 32 where there is none.
+pub fn homes_of(state: &[u64], i: usize) -> [u8; 256]
+    requires { ⌜ i < 32 ⌝ }
+    ensures { λ r. ⌜ Homed (now (state .entry)) i r ⌝ }
+{
+    let mut homes = [32u8; 256];
+    let end = plan_words::end_of(state, i);
+    let mut k = i + 1;
+    let mut t: usize = 0;
+    while t < 32 {
+        if end <= k {
+            return homes;
+        }
+        let id = plan_words::id_of(state, k) as usize;
+        homes[id] = first_of(homes[id], k as u8);
+        k = plan_words::end_of(state, k);
+        t += 1;
+    }
+    homes
+}
+
+// The child of the id at byte q.
+pub fn home_at(homes: &[u8; 256], body: &[u8], q: u64) -> u8
+    requires { ⌜ q < length (now body) ⌝ }
+    ensures { λ r. ⌜ r ≡ homeBy (now (homes .entry)) (now (body .entry)) q ⌝ }
+{
+    let id = number::read_u8(body, q as usize);
+    homes[id as usize]
+}
+
+// The position of row q, among those at `at`.
+pub fn position_at(body: &[u8], at: u64, q: u64) -> u32
+    requires { ⌜ at + 4 * (q + 1) ≤ length (now body) ⌝ }
+    ensures { λ r. ⌜ r ≡ entry 4 (now (body .entry)) at q ⌝ }
+{
+    number::read_u32(body, (at as usize) + 4 * (q as usize))
+}
+
+// Where child k takes row q from; 0 if it does not.
+pub fn start_at(homes: &[u8; 256], body: &[u8], ids: u64, positions: u64, q: u64, k: usize) -> u64
+    requires { ⌜ (ids + q < length (now body)) × (positions + 4 * (q + 1) ≤ length (now body)) ⌝ }
+    ensures { λ r. ⌜ r ≡ cond (eqb (homeBy (now (homes .entry)) (now (body .entry)) (ids + q)) k) (entry 4 (now (body .entry)) positions q) 0 ⌝ }
+{
+    if home_at(homes, body, ids + q) as usize != k {
+        return 0;
+    }
+    position_at(body, positions, q) as u64
+}
+
+// 1 if child k takes row q, else 0.
+pub fn size_at(homes: &[u8; 256], body: &[u8], ids: u64, q: u64, k: usize) -> u64
+    requires { ⌜ ids + q < length (now body) ⌝ }
+    ensures { λ r. ⌜ r ≡ cond (eqb (homeBy (now (homes .entry)) (now (body .entry)) (ids + q)) k) 1 0 ⌝ }
+{
+    if home_at(homes, body, ids + q) as usize != k {
+        return 0;
+    }
+    1
+}
