@@ -12,6 +12,7 @@ pub mod Fitted
 pub mod Grounds
 pub mod Node
 pub mod PlanRows
+pub mod PlanRuns
 pub mod Room
 pub mod Rowed
 pub mod Rows
