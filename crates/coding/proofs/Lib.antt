@@ -14,6 +14,7 @@ pub mod Grounds
 pub mod InOrder
 pub mod Node
 pub mod PlanRows
+pub mod PlanRuns
 pub mod Room
 pub mod Rowed
 pub mod Rows

@@ -24,7 +24,7 @@ use Rattle.coding.specs.Planned.{rowPlan}
 use Rattle.coding.proofs.Codes.{code-low, one-buffer}
 
 -- a word that stands already
-set-none : (l : List ℕ) (p v : ℕ) → getD l p 0 ≡ v → p < length l → set l p v ≡ l
+pub set-none : (l : List ℕ) (p v : ℕ) → getD l p 0 ≡ v → p < length l → set l p v ≡ l
 set-none [] p v e h = absurd (omega arith)
 set-none (x ∷ l) zero v e h = ap (λ z. z ∷ l) (sym e)
 set-none (x ∷ l) (suc p) v e h = ap (λ z. x ∷ z) (set-none l p v e (omega arith))

@@ -2,12 +2,13 @@
 ghost use mathlib.Core.Path.{_≡_};
 ghost use mathlib.Core.List.{[]};
 ghost use mathlib.Core.Bool.{true};
-ghost use Prim.Native.Nat.{_-_};
+ghost use Prim.Native.Nat.{_-_, _≤_};
 ghost use lib.ListN.{length};
 ghost use Rattle.schema.specs.formats.Code.{widthOf};
 ghost use Rattle.schema.specs.Tree.{codeOf};
 ghost use Rattle.array_data.specs.lent_tables.Lent.{tables};
 ghost use Rattle.source_rules.specs.kinds.Rows.{tablesOf};
+ghost use Rattle.plan.specs.Plan.{flag};
 ghost use Rattle.with_capacities.specs.Answer.{Answers};
 ghost use Rattle.anew.specs.Anew.{roomGround};
 ghost use Rattle.anew.specs.ResultPlan.{keepsFrom, Comes, planAnew};
@@ -15,6 +16,8 @@ ghost use Rattle.anew.specs.result_plan.Answer.{Asks};
 ghost use Rattle.cell_sums.specs.patterns.Parts.{Sized};
 ghost use Rattle.coding.specs.Counted.{allCounts};
 ghost use Rattle.coding.specs.Encode.{runsOver, encodeOwn, fromColumn, encodeAsked, encoding, lastOf, Codable, RoomFor, runsIn};
+ghost use Rattle.coding.specs.Planned.{runPlan};
+use plan::dictionaries;
 use run_coding::Spots;
 use run_coding::encode;
 use walk::plan_words;
@@ -67,6 +70,41 @@ fn own_ground(
     0
 }
 
+// 1 if the column has a null and else 0.
+fn null_word(lengths: &[u64], places: &[u64], body: &[u8], first: u32) -> u64
+    requires { ⌜ Comes (tables (now lengths) (now places) (now body)) first 3 fromColumn ⌝ }
+    ensures { λ r. ⌜ r ≡ flag (keepsFrom (tables (now (lengths .entry)) (now (places .entry)) (now (body .entry))) first fromColumn 2) ⌝ }
+    ensures { λ r. ⌜ r ≤ 1 ⌝ }
+{
+    if dictionaries::null_count(lengths, places, body, first as usize) == 0 {
+        return 0;
+    }
+    1
+}
+
+// The words of a plan of runs: the codes of run ends and values, and which of the three nodes are nullable; the others are 0.
+fn run_words(ends: u64, values: u64, f0: u64, f1: u64, f2: u64, k: u64) -> [u64; 872]
+    requires { ⌜ k ≤ 1 ⌝ }
+    ensures { λ r. ⌜ r ≡ runPlan ends values f0 f1 f2 k ⌝ }
+{
+    let mut state = [0u64; 872];
+    state[0] = 23;
+    state[2] = 3;
+    state[4] = f0;
+    state[8] = ends;
+    state[10] = 2;
+    state[12] = f1;
+    state[16] = values;
+    state[18] = 3;
+    state[20] = f2;
+    state[864] = 1;
+    state[865] = 3;
+    state[21] = k;
+    state[22] = 1 + k;
+    state[866] = 2 + k;
+    state
+}
+
 // The plan of the runs.
 fn planned(
     formats: &[u8],
@@ -78,25 +116,24 @@ fn planned(
     target: u32,
 ) -> [u64; 872]
     requires { ⌜ Comes (tables (now lengths) (now places) (now body)) first 3 fromColumn ⌝ }
+    requires { ⌜ runsOver (now formats) (now schema) first target ≡ true ⌝ }
     ensures { λ r. ⌜ r ≡ planAnew (now (formats .entry)) (now (schema .entry)) target 3 (keepsFrom (tables (now (lengths .entry)) (now (places .entry)) (now (body .entry))) first fromColumn) true 0 ⌝ }
 {
-    let mut state = [0u64; 872];
-    let from = [0u64, 0, 1];
-    anew::result_plan::plan_anew(
-        formats,
-        schema,
-        target as usize,
-        3,
-        lengths,
-        places,
-        body,
-        first as usize,
-        &from,
-        true,
-        0,
-        &mut state,
-    );
-    state
+    let at = target as usize;
+    let ends = schema::code_of(formats, schema, at, 1);
+    let values = schema::code_of(formats, schema, at, 2);
+    let f0 = schema::flag_of(schema, at, 0);
+    let f1 = schema::flag_of(schema, at, 1);
+    let f2 = schema::flag_of(schema, at, 2);
+    let k = null_word(lengths, places, body, first);
+    run_words(
+        ends as u64,
+        values as u64,
+        f0 as u64,
+        f1 as u64,
+        f2 as u64,
+        k,
+    )
 }
 
 // The counters of n runs of m rows.

@@ -17,7 +17,7 @@ use Rattle.anew.proofs.result_plan.Answered.{before-column, before-own, answers
 use Rattle.coding.specs.Counted.{allCounts}
 use Rattle.coding.specs.Encode.{encodeOwn, encodeKeeps, encodePlan, encodeOut, RoomFor, runsIn}
 use Rattle.coding.proofs.Grounds.{own-same}
-use Rattle.coding.proofs.Encoded.{due, come, codable, counts-are, room-is}
+use Rattle.coding.proofs.Encoded.{own, due, come, codable, counts-are, room-is}
 use Rattle.coding.proofs.Asked.{lengths-are, small-yes, small-no, keep-by, none-before}
 use Rattle.coding.proofs.Accepted.{due-width}
 use Rattle.coding.proofs.Codes.{ends-sized}
@@ -93,7 +93,7 @@ none c =
 planned-requires : tie.Need-planned-requires
 planned-requires c κs =
     let z = start-of c .args in
-    come (z .formats .now) (z .schema .now) (z .lengths .now) (z .places .now) (z .buffers .now) (z .body .now) (z .first) (z .n) (z .target) (z .start) (z .end) (low c) (bytes c) (accepted c) (free c)
+    (come (z .formats .now) (z .schema .now) (z .lengths .now) (z .places .now) (z .buffers .now) (z .body .now) (z .first) (z .n) (z .target) (z .start) (z .end) (low c) (bytes c) (accepted c) (free c), own (z .formats .now) (z .schema .now) (z .lengths .now) (z .places .now) (z .buffers .now) (z .body .now) (z .first) (z .n) (z .target) (z .start) (z .end) (low c) (bytes c) (accepted c) (free c) .due)
 
 slice-aggregate-keeps-of : tie.Need-slice-aggregate-keeps-of
 slice-aggregate-keeps-of c = search needs

@@ -14,7 +14,7 @@ use Rattle.anew.specs.Anew.{ahead}
 use Rattle.anew.proofs.result_plan.Answered.{before-column, before-own, asks-refused, asks-lengths, asks-done}
 use Rattle.coding.specs.Encode.{encodeOwn, encodeKeeps, encodePlan, encodeOut}
 use Rattle.coding.proofs.Grounds.{own-same}
-use Rattle.coding.proofs.Encoded.{come, codable, counts-are}
+use Rattle.coding.proofs.Encoded.{own, come, codable, counts-are}
 use Rattle.coding.proofs.Asked.{lengths-first, lengths-second, lengths-both, keep-by, none-before}
 use Rattle.coding.proofs.encode.plan_encode.Statement.{statement}
 use Rattle.coding.proofs.encode.plan_encode.Tie as tie
@@ -90,7 +90,7 @@ planned-requires : tie.Need-planned-requires
 planned-requires c κs =
     let d = c .before .before in
     let z = start-of d .args in
-    come (z .formats .now) (z .schema .now) (z .lengths .now) (z .places .now) (z .buffers .now) (z .body .now) (z .first) (z .n) (z .target) (z .start) (z .end) (low d) (bytes d) (accepted d) (free d)
+    (come (z .formats .now) (z .schema .now) (z .lengths .now) (z .places .now) (z .buffers .now) (z .body .now) (z .first) (z .n) (z .target) (z .start) (z .end) (low d) (bytes d) (accepted d) (free d), own (z .formats .now) (z .schema .now) (z .lengths .now) (z .places .now) (z .buffers .now) (z .body .now) (z .first) (z .n) (z .target) (z .start) (z .end) (low d) (bytes d) (accepted d) (free d) .due)
 
 slice-aggregate-keeps-of : tie.Need-slice-aggregate-keeps-of
 slice-aggregate-keeps-of c = search needs
