@@ -3,5 +3,6 @@ pub mod Laws
 pub mod Walked
 pub mod Called
 pub mod Viewed
+mod Laid
 pub mod CalledView
 pub mod convert_lists

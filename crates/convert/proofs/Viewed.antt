@@ -18,10 +18,10 @@ use Rattle.convert.specs.convert_lists.Viewing.{startAt, nextAt, viewRow
 
 module _ (x : Join) where
   -- where the root's offsets begin, as the tables have it
-  abbrev root : ℕ
+  abbrev pub root : ℕ
   root = getD (x .places) (9 * x .first + 3) 0
 
-  root-is : place x 0 3 ≡ root
+  pub root-is : place x 0 3 ≡ root
   root-is = ap (λ k. getD (x .places) (9 * k + 3) 0) (add-zero (x .first))
 
 -- ---- a row
@@ -72,14 +72,17 @@ module _ (x : Join) (wr : Bool) (w n : ℕ) (c room : List ℕ) where
     unfolding viewRows
     rows-all h d = rw (ne-eqb n 0 some) (need-ok 12 c (held (yes f h)) d)
 
--- what rows that stand in the body say of one of them
-module _ (x : Join) (w slot n r : ℕ) {at : ℕ} (e : at ≡ root x) {t : Bool} (f : t ≡ rowsIn x at w slot (n + 1)) (h : not t ≡ false) (l : r < n) where
+-- rows that stand in the body
+pub rows-stand : (x : Join) (w slot n : ℕ) {at : ℕ} → at ≡ root x → {t : Bool} → t ≡ rowsIn x at w slot (n + 1) → not t ≡ false → place x 0 3 + w * (slot + (n + 1)) ≤ length (x .body)
+unfolding rowsIn
+rows-stand x w slot n {at} e f h = let a = leb-true (at + w * (slot + (n + 1))) (length (x .body)) (yes f h) in omega (arith, a, e, root-is x)
+
+-- .. and what they say of one of them
+module _ (x : Join) (w slot n r : ℕ) (h : place x 0 3 + w * (slot + (n + 1)) ≤ length (x .body)) (l : r < n) where
   pub row-in : place x 0 3 + w * (slot + r + 2) ≤ length (x .body)
-  unfolding rowsIn
   row-in =
-      let a = leb-true (at + w * (slot + (n + 1))) (length (x .body)) (yes f h) in
       let b : (slot + r + 2) * w ≤ (slot + (n + 1)) * w = mul-le-mul-right w (omega arith) in
-      omega (arith, a, e, root-is x, b, mul-comm w (slot + r + 2), mul-comm w (slot + (n + 1)))
+      omega (arith, h, b, mul-comm w (slot + r + 2), mul-comm w (slot + (n + 1)))
 
   pub row-size : (r + 1) * w ≤ length (x .body)
   row-size =

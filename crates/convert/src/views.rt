@@ -1,12 +1,14 @@
 // The walk that writes the root of a list column's list-view.
 ghost use mathlib.Core.Path.{_≡_};
+ghost use mathlib.Core.Bool.{true};
 ghost use mathlib.Core.List.{[]};
 ghost use Prim.Native.Nat.{_+_, _*_, _-_, _<_, _≤_, _^_};
 ghost use lib.ListN.{length};
 ghost use Rattle.walk.specs.State.{bytesOf, place, lengthOf, offsetOf};
-ghost use Rattle.walk.specs.Log.{Did};
+ghost use Rattle.walk.specs.Log.{startOf, Did, each};
 ghost use Rattle.leaf_walk.specs.Join.{join};
 ghost use Rattle.convert.specs.convert_lists.Viewing.{viewRow, viewRows, viewWalk};
+ghost use Rattle.convert.specs.convert_lists.Laid.{laidRows};
 use array_data::lent_tables;
 use nested_rows::lookups;
 use walk::plan_words;
@@ -48,7 +50,187 @@ fn less(a: u64, b: u64) -> u64
     a - b
 }
 
-// All n rows.
+// a - b, and 0 where b is above a.
+fn less_u32(a: u32, b: u32) -> u32
+    ensures { λ r. ⌜ r ≡ a - b ⌝ }
+{
+    if a < b {
+        return 0;
+    }
+    a - b
+}
+
+// Of n rows whose offsets of 4 bytes stand at `from`: each row's offset at `at` and its size at `too`.
+fn lay_4(room: &mut [u8], at: usize, too: usize, body: &[u8], from: usize, n: usize)
+    requires { ⌜ (at + 4 * n ≤ length (now room)) × (too + 4 * n ≤ length (now room)) × (from + 4 * (n + 1) ≤ length (now body)) ⌝ }
+    ensures { λ _. ⌜ now (room .exit) ≡ laidRows 4 (now (body .entry)) from at too n 0 (now (room .entry)) ⌝ }
+{
+    let mut i = 0;
+    while i < n {
+        let start = number::read_u32(body, from + 4 * i);
+        let next = number::read_u32(body, from + 4 * (i + 1));
+        number::write_u32(room, at + 4 * i, start);
+        number::write_u32(room, too + 4 * i, less_u32(next, start));
+        i += 1;
+    }
+}
+
+// Of n rows whose offsets of 8 bytes stand at `from`: each row's offset at `at` and its size at `too`.
+fn lay_8(room: &mut [u8], at: usize, too: usize, body: &[u8], from: usize, n: usize)
+    requires { ⌜ (at + 8 * n ≤ length (now room)) × (too + 8 * n ≤ length (now room)) × (from + 8 * (n + 1) ≤ length (now body)) ⌝ }
+    ensures { λ _. ⌜ now (room .exit) ≡ laidRows 8 (now (body .entry)) from at too n 0 (now (room .entry)) ⌝ }
+{
+    let mut i = 0;
+    while i < n {
+        let start = number::read_u64(body, from + 8 * i);
+        let next = number::read_u64(body, from + 8 * (i + 1));
+        number::write_u64(room, at + 8 * i, start);
+        number::write_u64(room, too + 8 * i, less(next, start));
+        i += 1;
+    }
+}
+
+// Of n rows whose offsets of w bytes stand at `from`: each row's offset at `at` and its size at `too`.
+fn lay_rows(room: &mut [u8], at: usize, too: usize, body: &[u8], from: usize, w: u64, n: usize)
+    requires { ⌜ ((w ≡ 4 → ⊥) → w ≡ 8) ⌝ }
+    requires { ⌜ (at + w * n ≤ length (now room)) × (too + w * n ≤ length (now room)) × (from + w * (n + 1) ≤ length (now body)) ⌝ }
+    ensures { λ _. ⌜ now (room .exit) ≡ laidRows w (now (body .entry)) from at too n 0 (now (room .entry)) ⌝ }
+{
+    match w {
+        4 => lay_4(room, at, too, body, from, n),
+        _ => lay_8(room, at, too, body, from, n),
+    }
+}
+
+// The n rows, put one by one.
+fn put_row_by_row(
+    state: &[u64],
+    parts: &[u64],
+    lengths: &[u64],
+    places: &[u64],
+    body: &[u8],
+    counts: &[u64; 96],
+    room: &mut [u8],
+    first: u32,
+    w: u64,
+    slot: u64,
+    n: u64,
+)
+    requires { ⌜ ((w ≡ 4 → ⊥) → w ≡ 8) ⌝ }
+    requires { ⌜ (slot ≡ offsetOf (join [] [] (now lengths) (now places) (now body) first 0) 0) × (slot + n < 2 ^ 63) × (place (join [] [] (now lengths) (now places) (now body) first 0) 0 3 + w * (slot + (n + 1)) ≤ length (now body)) ⌝ }
+    ensures { λ _. ⌜ Did (now (state .entry)) (now (parts .entry)) true (each (viewRow (join (now (state .entry)) (now (parts .entry)) (now (lengths .entry)) (now (places .entry)) (now (body .entry)) first 0) w) n 0 (now (counts .entry))) (now (room .entry)) 0 (now (counts .entry)) (now (room .exit)) ⌝ }
+{
+    let mut r: u64 = 0;
+    while r < n {
+        view_row(
+            state,
+            parts,
+            lengths,
+            places,
+            body,
+            counts,
+            room,
+            true,
+            first,
+            w,
+            slot,
+            r,
+        );
+        r += 1;
+    }
+}
+
+// The n rows, whose offsets go to the byte `at`: at once, where the sizes have room too.
+fn put_rows_at(
+    state: &[u64],
+    parts: &[u64],
+    lengths: &[u64],
+    places: &[u64],
+    body: &[u8],
+    counts: &[u64; 96],
+    room: &mut [u8],
+    first: u32,
+    w: u64,
+    slot: u64,
+    n: u64,
+    at: usize,
+)
+    requires { ⌜ ((w ≡ 4 → ⊥) → w ≡ 8) ⌝ }
+    requires { ⌜ (slot ≡ offsetOf (join [] [] (now lengths) (now places) (now body) first 0) 0) × (slot + n < 2 ^ 63) × (place (join [] [] (now lengths) (now places) (now body) first 0) 0 3 + w * (slot + (n + 1)) ≤ length (now body)) ⌝ }
+    requires { ⌜ (at ≡ startOf (now state) (now parts) 0 1) × (at + w * n ≤ length (now room)) ⌝ }
+    ensures { λ _. ⌜ Did (now (state .entry)) (now (parts .entry)) true (each (viewRow (join (now (state .entry)) (now (parts .entry)) (now (lengths .entry)) (now (places .entry)) (now (body .entry)) first 0) w) n 0 (now (counts .entry))) (now (room .entry)) 0 (now (counts .entry)) (now (room .exit)) ⌝ }
+{
+    let size = plan_words::scale(n, w);
+    let from = lent_tables::place(places, first as usize, 3) + w * slot;
+    match plan_words::target(state, parts, room.len(), true, 0, 2, 0, size) {
+        plan_words::Goal::At(too) => lay_rows(room, at, too, body, from as usize, w, n as usize),
+        plan_words::Goal::Skip => put_row_by_row(
+            state,
+            parts,
+            lengths,
+            places,
+            body,
+            counts,
+            room,
+            first,
+            w,
+            slot,
+            n,
+        ),
+    }
+}
+
+// The n rows: at once, where both parts have room for them.
+fn put_rows(
+    state: &[u64],
+    parts: &[u64],
+    lengths: &[u64],
+    places: &[u64],
+    body: &[u8],
+    counts: &[u64; 96],
+    room: &mut [u8],
+    first: u32,
+    w: u64,
+    slot: u64,
+    n: u64,
+)
+    requires { ⌜ ((w ≡ 4 → ⊥) → w ≡ 8) ⌝ }
+    requires { ⌜ (slot ≡ offsetOf (join [] [] (now lengths) (now places) (now body) first 0) 0) × (slot + n < 2 ^ 63) × (place (join [] [] (now lengths) (now places) (now body) first 0) 0 3 + w * (slot + (n + 1)) ≤ length (now body)) ⌝ }
+    ensures { λ _. ⌜ Did (now (state .entry)) (now (parts .entry)) true (each (viewRow (join (now (state .entry)) (now (parts .entry)) (now (lengths .entry)) (now (places .entry)) (now (body .entry)) first 0) w) n 0 (now (counts .entry))) (now (room .entry)) 0 (now (counts .entry)) (now (room .exit)) ⌝ }
+{
+    let size = plan_words::scale(n, w);
+    match plan_words::target(state, parts, room.len(), true, 0, 1, 0, size) {
+        plan_words::Goal::At(at) => put_rows_at(
+            state,
+            parts,
+            lengths,
+            places,
+            body,
+            counts,
+            room,
+            first,
+            w,
+            slot,
+            n,
+            at,
+        ),
+        plan_words::Goal::Skip => put_row_by_row(
+            state,
+            parts,
+            lengths,
+            places,
+            body,
+            counts,
+            room,
+            first,
+            w,
+            slot,
+            n,
+        ),
+    }
+}
+
+// All n rows. A walk that only tries does not look at them.
 fn view_rows(
     state: &[u64],
     parts: &[u64],
@@ -74,24 +256,22 @@ fn view_rows(
     if !leaf_walk::rows_in(body, at, w, slot, n + 1) {
         return 12;
     }
-    let mut r: u64 = 0;
-    while r < n {
-        view_row(
-            state,
-            parts,
-            lengths,
-            places,
-            body,
-            counts,
-            room,
-            write,
-            first,
-            w,
-            slot,
-            r,
-        );
-        r += 1;
+    if !write {
+        return 0;
     }
+    put_rows(
+        state,
+        parts,
+        lengths,
+        places,
+        body,
+        counts,
+        room,
+        first,
+        w,
+        slot,
+        n,
+    );
     0
 }
 
