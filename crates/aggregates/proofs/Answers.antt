@@ -12,10 +12,10 @@ use Rattle.array_data.specs.Tables.{Tables}
 use Rattle.array_data.specs.type_tree.Lent.{typeOf}
 use Rattle.columns.specs.Grounds.{columnGround}
 use Rattle.columns.specs.column_pair.Pair.{rangeIn}
-use Rattle.cell_sums.specs.declared.fractions.Fraction.{Fraction}
-use Rattle.cell_sums.specs.fractions.Lowest.{fractionOf}
-use Rattle.cell_sums.specs.declared.tally.Total.the-variants as total
-use Rattle.cell_sums.specs.tally.Sums.{countOf, sumOf, fits, totalOf}
+use Rattle.aggregates.specs.declared.fractions.Fraction.{Fraction}
+use Rattle.aggregates.specs.fractions.Lowest.{fractionOf}
+use Rattle.aggregates.specs.declared.tally.Total.the-variants as total
+use Rattle.aggregates.specs.tally.Sums.{countOf, sumOf, fits, totalOf}
 use Rattle.aggregates.specs.declared.MeanAnswer.the-variants as mean
 use Rattle.aggregates.specs.Report.{wholeType, meanBy, rowOf, meanReport}
 

@@ -12,15 +12,15 @@ use Rattle.array_data.specs.Tables.{Tables}
 use Rattle.array_data.specs.type_tree.Lent.{typeOf}
 use Rattle.columns.specs.Grounds.{columnGround}
 use Rattle.columns.specs.column_pair.Pair.{pairGround, rangeIn}
-use Rattle.cell_sums.specs.declared.fractions.Fraction.{Fraction}
-use Rattle.cell_sums.specs.fractions.Lowest.{fractionOf}
-use Rattle.cell_sums.specs.declared.tally.Cell.{Cell}
-use Rattle.cell_sums.specs.declared.tally.Tally.{Tally}
-use Rattle.cell_sums.specs.tally.Sums.{countOf, sumOf, fits}
-use Rattle.cell_sums.specs.tally.Cells.{cellOf, talliedBy, Tallied}
-use Rattle.cell_sums.proofs.tally.Sums.{hi-low, counted, summed}
-use Rattle.cell_sums.specs.patterns.Parts.{Sized}
-use Rattle.cell_sums.specs.Numbers.{maskCell, bothCells}
+use Rattle.aggregates.specs.declared.fractions.Fraction.{Fraction}
+use Rattle.aggregates.specs.fractions.Lowest.{fractionOf}
+use Rattle.aggregates.specs.declared.tally.Cell.{Cell}
+use Rattle.aggregates.specs.declared.tally.Tally.{Tally}
+use Rattle.aggregates.specs.tally.Sums.{countOf, sumOf, fits}
+use Rattle.aggregates.specs.tally.Cells.{cellOf, talliedBy, Tallied}
+use Rattle.aggregates.proofs.tally.Sums.{hi-low, counted, summed}
+use Rattle.aggregates.specs.patterns.Parts.{Sized}
+use Rattle.aggregates.specs.cell_sums.Numbers.{maskCell, bothCells}
 use Rattle.aggregates.specs.declared.RatioAnswer.the-variants as ratio
 use Rattle.aggregates.specs.Report.{wholeType, beside, bothRows, isZero, ratioBy, ratioRows, rowOf, pairOf, ratioReport}
 use Rattle.aggregates.proofs.Tallies.{above, few}

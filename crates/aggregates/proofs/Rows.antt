@@ -25,14 +25,14 @@ use Rattle.source_rules.proofs.From.{length-from, offset-from}
 use Rattle.run_ends.specs.declared.PhysicalRun.{PhysicalRun}
 use Rattle.slot_reader.specs.declared.run.RowRun.{RowRun}
 use Rattle.slot_reader.specs.declared.run.RowRun.the-variants as answer
-use Rattle.cell_sums.proofs.stretches.Stretch.{ends-fit, ends-held, stretch-run, stretch-some}
-use Rattle.cell_sums.specs.tally.Cells.{cellOf}
-use Rattle.cell_sums.specs.patterns.Parts.{Sized}
-use Rattle.cell_sums.specs.cells.Cells.{Held, numberAt, cellsOf, cellAt}
-use Rattle.cell_sums.proofs.cells.Codes.{code-width, code-sized}
-use Rattle.cell_sums.proofs.cells.Rows.{slot-held, slot-cell}
-use Rattle.cell_sums.specs.declared.Numbers.{Numbers}
-use Rattle.cell_sums.specs.Numbers.{asked, valueAt, cellIn, Found, Ready}
+use Rattle.aggregates.proofs.stretches.Stretch.{ends-fit, ends-held, stretch-run, stretch-some}
+use Rattle.aggregates.specs.tally.Cells.{cellOf}
+use Rattle.aggregates.specs.patterns.Parts.{Sized}
+use Rattle.aggregates.specs.cells.Cells.{Held, numberAt, cellsOf, cellAt}
+use Rattle.aggregates.proofs.cells.Codes.{code-width, code-sized}
+use Rattle.aggregates.proofs.cells.Rows.{slot-held, slot-cell}
+use Rattle.aggregates.specs.declared.cell_sums.Numbers.{Numbers}
+use Rattle.aggregates.specs.cell_sums.Numbers.{asked, valueAt, cellIn, Found, Ready}
 use Rattle.aggregates.specs.declared.Shape.{Shape}
 use Rattle.aggregates.specs.Report.{rowOf, wholeType}
 use Rattle.aggregates.specs.Shape.{wholeCode, shapeOf, plainNumbers, runNumbers, numbersOf}

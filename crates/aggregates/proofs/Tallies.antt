@@ -17,14 +17,14 @@ use Rattle.columns.specs.Grounds.{columnGround}
 use Rattle.columns.specs.column_pair.Pair.{rangeIn}
 use Rattle.columns.proofs.column_pair.Pair.{range-known}
 use Rattle.source_rules.proofs.From.{length-from}
-use Rattle.cell_sums.specs.declared.tally.Tally.{Tally}
-use Rattle.cell_sums.specs.tally.Sums.{countOf, sumOf}
-use Rattle.cell_sums.specs.tally.Cells.{cellOf, talliedBy, Tallied}
-use Rattle.cell_sums.proofs.tally.Sums.{hi-low, counted, summed}
-use Rattle.cell_sums.specs.patterns.Parts.{Sized}
-use Rattle.cell_sums.proofs.patterns.Laws.{four}
-use Rattle.cell_sums.specs.declared.Numbers.{Numbers}
-use Rattle.cell_sums.specs.Numbers.{cellIn, Ready}
+use Rattle.aggregates.specs.declared.tally.Tally.{Tally}
+use Rattle.aggregates.specs.tally.Sums.{countOf, sumOf}
+use Rattle.aggregates.specs.tally.Cells.{cellOf, talliedBy, Tallied}
+use Rattle.aggregates.proofs.tally.Sums.{hi-low, counted, summed}
+use Rattle.aggregates.specs.patterns.Parts.{Sized}
+use Rattle.aggregates.proofs.patterns.Laws.{four}
+use Rattle.aggregates.specs.declared.cell_sums.Numbers.{Numbers}
+use Rattle.aggregates.specs.cell_sums.Numbers.{cellIn, Ready}
 use Rattle.aggregates.specs.declared.Shape.{Shape}
 use Rattle.aggregates.specs.Report.{rowOf, wholeType}
 use Rattle.aggregates.specs.Shape.{shapeOf, runNumbers, plainNumbers, numbersOf}

@@ -9,10 +9,10 @@ use borrow.Author.Tests.{eqb-true, eqb-false, eq-eqb}
 use lib.IntN.{ℤ, pos, _+ℤ_}
 use Rattle.columnar.specs.Row.{Row, seg}
 use Rattle.columnar.specs.Types.{Ty, tPlain, tRunEnd}
-use Rattle.cell_sums.specs.fractions.Lowest.{fractionOf, Lowest}
-use Rattle.cell_sums.proofs.fractions.Terms as terms
-use Rattle.cell_sums.specs.tally.Sums.{countOf, sumOf, fits}
-use Rattle.cell_sums.proofs.tally.Integers.{counts-add, sums-add}
+use Rattle.aggregates.specs.fractions.Lowest.{fractionOf, Lowest}
+use Rattle.aggregates.proofs.fractions.Terms as terms
+use Rattle.aggregates.specs.tally.Sums.{countOf, sumOf, fits}
+use Rattle.aggregates.proofs.tally.Integers.{counts-add, sums-add}
 use Rattle.aggregates.specs.declared.MeanReport.{MeanReport}
 use Rattle.aggregates.specs.declared.MeanAnswer.the-variants as mean
 use Rattle.aggregates.specs.declared.RatioReport.{RatioReport}

@@ -21,7 +21,7 @@ use Rattle.array_data.specs.type_tree.Lent.{numberOr, idsOr, unionKind, kindAt,
 use Rattle.array_data.proofs.type_tree.Lent.{first-child, second-child, some-node}
 use Rattle.array_data.proofs.type_tree.Shaped.{Shaped, of-plain, of-view, of-list, of-lists, of-sparse, of-dense, of-run, of-dictionary, shaped, five, later, plainKind, integer-fixed, at-fixed, at-keys, at-string, at-view, at-list, at-lists, at-union, at-run}
 use Rattle.array_data.proofs.lent_tables.Laws.{and-left, and-right}
-use Rattle.cell_sums.specs.cells.Cells.{numberAt}
+use Rattle.aggregates.specs.cells.Cells.{numberAt}
 use Rattle.aggregates.specs.declared.Shape.{Shape}
 use Rattle.aggregates.specs.Report.{wholePlain, wholeType}
 use Rattle.aggregates.specs.Shape.{wholeCode, shapeOf}

@@ -14,8 +14,8 @@ use Rattle.array_data.specs.Typed.{columnOf, tablesFrom}
 use Rattle.array_data.specs.type_tree.Lent.{treeOf, typeOf}
 use Rattle.columns.specs.Grounds.{columnGround}
 use Rattle.columns.specs.column_pair.Pair.{pairGround, rangeIn}
-use Rattle.cell_sums.specs.fractions.Lowest.{fractionOf}
-use Rattle.cell_sums.specs.tally.Sums.{countOf, sumOf, fits}
+use Rattle.aggregates.specs.fractions.Lowest.{fractionOf}
+use Rattle.aggregates.specs.tally.Sums.{countOf, sumOf, fits}
 use Rattle.aggregates.specs.declared.MeanReport.{MeanReport}
 use Rattle.aggregates.specs.declared.MeanAnswer.{MeanAnswer}
 use Rattle.aggregates.specs.declared.MeanAnswer.the-variants as mean

@@ -6,10 +6,10 @@ use lib.Dec.{eqb}
 use Rattle.schema.specs.formats.Code.{isInteger, isRunEnd, widthOf}
 use Rattle.schema.specs.Tree.{dictionary, codeOf}
 use Rattle.array_data.specs.Tables.{Tables, offsetOf}
-use Rattle.cell_sums.specs.declared.stretches.Ends.{Ends}
-use Rattle.cell_sums.specs.stretches.Ends.{endsOf}
-use Rattle.cell_sums.specs.cells.Cells.{cellsOf}
-use Rattle.cell_sums.specs.declared.Numbers.{Numbers}
+use Rattle.aggregates.specs.declared.stretches.Ends.{Ends}
+use Rattle.aggregates.specs.stretches.Ends.{endsOf}
+use Rattle.aggregates.specs.cells.Cells.{cellsOf}
+use Rattle.aggregates.specs.declared.cell_sums.Numbers.{Numbers}
 use Rattle.aggregates.specs.declared.Shape.{Shape}
 
 module _ (formats schema : List ℕ) (first : ℕ) where

@@ -1,4 +1,13 @@
 // Count, exact sum and mean of a whole-number column's rows, and total over total of two columns' rows (02, W8).
+pub mod blocks;
+pub mod cell_sums;
+pub mod cells;
+pub mod fractions;
+pub mod patterns;
+pub mod stretches;
+pub mod tally;
+pub mod wide;
+
 ghost use mathlib.Core.Path.{_≡_};
 ghost use mathlib.Core.Bool.{true};
 ghost use mathlib.Core.List.{[]};
@@ -7,18 +16,14 @@ ghost use Rattle.schema.specs.formats.Code.{isInteger};
 ghost use Rattle.array_data.specs.Tables.{lengthOf, offsetOf, place};
 ghost use Rattle.source_rules.specs.kinds.Rows.{tablesOf};
 ghost use Rattle.array_data.specs.entries.Entries.{column};
-ghost use Rattle.cell_sums.specs.tally.Cells.{talliedBy};
+ghost use Rattle.aggregates.specs.tally.Cells.{talliedBy};
 ghost use Rattle.aggregates.specs.Shape.{wholeCode, shapeOf, plainNumbers, runNumbers, numbersOf};
 ghost use Rattle.aggregates.specs.Report.{meanBy, meanReport, ratioBy, ratioReport};
 use array_data::entries;
-use cell_sums::Numbers;
-use cell_sums::cells;
-use cell_sums::fractions;
-use cell_sums::stretches;
-use cell_sums::stretches::Ends;
-use cell_sums::tally;
-use cell_sums::tally::Tally;
-use cell_sums::tally::Total;
+use crate::cell_sums::Numbers;
+use crate::stretches::Ends;
+use crate::tally::Tally;
+use crate::tally::Total;
 
 // The rows that are not null, their sum, and the mean in lowest terms.
 pub struct MeanReport {
@@ -199,7 +204,7 @@ pub fn mean(
         return MeanAnswer::Refused(10);
     }
     let numbers = find_numbers(lengths, places, first, shape);
-    let t = cell_sums::sum_rows(body, numbers, start, end);
+    let t = crate::cell_sums::sum_rows(body, numbers, start, end);
     let cells = numbers.cells;
     mean_of(t, cells::lift_of(cells.width))
 }
@@ -279,7 +284,7 @@ pub fn ratio(
     }
     let a = find_numbers(lengths, places, first_a, p);
     let b = find_numbers(lengths, places, first_b, q);
-    let sums = cell_sums::sum_both(body, a, b, start, end);
+    let sums = crate::cell_sums::sum_both(body, a, b, start, end);
     let c = a.cells;
     let d = b.cells;
     let t = sums.first;

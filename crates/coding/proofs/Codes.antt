@@ -12,7 +12,7 @@ use Rattle.schema.specs.formats.Code.{isFixed, widthOf}
 use Rattle.schema.specs.formats.Types.{numberOf}
 use Rattle.array_data.specs.type_tree.Lent.{numberOr}
 use Rattle.array_data.proofs.lent_tables.Laws.{and-left, and-right}
-use Rattle.cell_sums.specs.patterns.Parts.{Sized}
+use Rattle.aggregates.specs.patterns.Parts.{Sized}
 use Rattle.plan.specs.parts.Parts.{bufferCount}
 
 -- a fact of each of the ten

@@ -30,8 +30,8 @@ use Rattle.columns.specs.Grounds.{columnGround}
 use Rattle.columns.proofs.Grounds.{within-low}
 use Rattle.columns.proofs.Answers.{sum-fits}
 use Rattle.columns.specs.column_pair.Pair.{rangeIn}
-use Rattle.cell_sums.specs.stretches.Ends.{endsOf}
-use Rattle.cell_sums.proofs.stretches.Stretch.{ends-fit, ends-held, answered-is}
+use Rattle.aggregates.specs.stretches.Ends.{endsOf}
+use Rattle.aggregates.proofs.stretches.Stretch.{ends-fit, ends-held, answered-is}
 use Rattle.aggregates.proofs.Types.{run-over}
 use Rattle.walk.specs.State.{far}
 use Rattle.walk.specs.Log.{startOf, apply, Did}
@@ -41,7 +41,7 @@ use Rattle.anew.proofs.Comes.{comes}
 use Rattle.anew.proofs.result_plan.Answered.{made-room}
 use Rattle.column_anew.specs.runs.Coding.{runAt}
 use Rattle.column_anew.proofs.runs.Fewest.{run-there}
-use Rattle.cell_sums.proofs.stretches.FirstAbove.{first-above}
+use Rattle.aggregates.proofs.stretches.FirstAbove.{first-above}
 use Rattle.run_coding.specs.Rows.{Held}
 use Rattle.run_coding.specs.Writes.{Holds, Ends, endIn}
 use Rattle.coding.specs.Counted.{rowCounts}

@@ -25,7 +25,7 @@ use Rattle.walk.specs.Log.{put, mask, startOf, Out, done, wrote, next, Did}
 use Rattle.walk.proofs.Laws.{done-did, wrote-did, next-ok}
 use Rattle.refinement.specs.walk_is_model.Holds.{flag}
 use Rattle.refinement.proofs.walk_is_model.Counters.{grown-is}
-use Rattle.cell_sums.proofs.stretches.FirstAbove.{first-above}
+use Rattle.aggregates.proofs.stretches.FirstAbove.{first-above}
 use Rattle.column_anew.specs.runs.Runs.{okAt}
 use Rattle.column_anew.specs.runs.Picked.{cell, cells}
 use Rattle.column_anew.specs.runs.Coding.{runAt}

@@ -7,8 +7,8 @@ use lib.ListN.{length}
 use Rattle.array_data.specs.Tables.{Tables, part, lengthOf, offsetOf}
 use Rattle.array_data.specs.Typed.{tablesFrom}
 use Rattle.slot_reader.specs.run.Rows.{rowRun}
-use Rattle.cell_sums.specs.stretches.Ends.{endsOf}
-use Rattle.cell_sums.specs.patterns.Parts.{Sized}
+use Rattle.aggregates.specs.stretches.Ends.{endsOf}
+use Rattle.aggregates.specs.patterns.Parts.{Sized}
 use Rattle.run_coding.specs.Rows.{Held, lastRows}
 use Rattle.coding.specs.Expand.{runOr}
 use Rattle.run_coding.specs.Writes.{Fits, runsWritten, Holds, Ends, rowsFrom}

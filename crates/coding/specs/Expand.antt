@@ -18,7 +18,7 @@ use Rattle.columns.specs.column_pair.Pair.{rangeIn}
 use Rattle.slot_reader.specs.declared.run.RowRun.{RowRun}
 use Rattle.slot_reader.specs.declared.run.RowRun.the-variants as answer
 use Rattle.slot_reader.specs.run.Rows.{rowRun}
-use Rattle.cell_sums.specs.stretches.Ends.{endsOf}
+use Rattle.aggregates.specs.stretches.Ends.{endsOf}
 use Rattle.walk.specs.Log.{Out, startOf}
 use Rattle.refinement.specs.opening.Open.{Opening}
 use Rattle.anew.specs.Anew.{Asking, asking, anew}

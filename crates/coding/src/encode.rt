@@ -13,7 +13,7 @@ ghost use Rattle.with_capacities.specs.Answer.{Answers};
 ghost use Rattle.anew.specs.Anew.{roomGround};
 ghost use Rattle.anew.specs.ResultPlan.{keepsFrom, Comes, planAnew};
 ghost use Rattle.anew.specs.result_plan.Answer.{Asks};
-ghost use Rattle.cell_sums.specs.patterns.Parts.{Sized};
+ghost use Rattle.aggregates.specs.patterns.Parts.{Sized};
 ghost use Rattle.coding.specs.Counted.{allCounts};
 ghost use Rattle.coding.specs.Encode.{runsOver, encodeOwn, fromColumn, encodeAsked, encoding, lastOf, Codable, RoomFor, runsIn};
 ghost use Rattle.coding.specs.Planned.{runPlan};

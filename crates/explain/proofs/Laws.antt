@@ -26,15 +26,15 @@ use Rattle.trip.specs.Trip.{longest, callOf, callAt, callsFrom, callsOf, orderM
 use Rattle.trip.specs.Walk.{orderWalk}
 use Rattle.trip.proofs.Steps.{measure-is}
 use Rattle.trip.proofs.Long.{long-order}
-use Rattle.stop_walks.specs.declared.stops.Why.{Why}
-use Rattle.stop_walks.specs.declared.stops.WhyListed.{WhyListed}
-use Rattle.stop_walks.specs.stops.Why.{only, nothing, unless, past}
-use Rattle.stop_walks.specs.stops.Copy.{whyCopy}
-use Rattle.stop_walks.specs.stops.Nulls.{walked, whyNulls}
-use Rattle.stop_walks.specs.stops.Parts.{whyParts}
-use Rattle.stop_walks.specs.stops.Order.{whySettled, whyCopyOrder, whyNullOrder, whyOrder, listed, whyListedFrom, whyTrip}
-use Rattle.stop_walks.proofs.stops.Says.{Says}
-use Rattle.stop_walks.specs.Step.{Tried}
+use Rattle.explain.specs.declared.stops.Why.{Why}
+use Rattle.explain.specs.declared.stops.WhyListed.{WhyListed}
+use Rattle.explain.specs.stops.Why.{only, nothing, unless, past}
+use Rattle.explain.specs.stops.Copy.{whyCopy}
+use Rattle.explain.specs.stops.Nulls.{walked, whyNulls}
+use Rattle.explain.specs.stops.Parts.{whyParts}
+use Rattle.explain.specs.stops.Order.{whySettled, whyCopyOrder, whyNullOrder, whyOrder, listed, whyListedFrom, whyTrip}
+use Rattle.explain.proofs.stops.Says.{Says}
+use Rattle.explain.specs.stop_walks.Step.{Tried}
 use Rattle.explain.specs.Explains.{Settles, whyCall, Explains}
 use Rattle.explain.proofs.State.{why-state}
 

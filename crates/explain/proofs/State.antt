@@ -11,8 +11,8 @@ use Rattle.walk.specs.Leaves.{nullNumbers, nullString}
 use Rattle.walk.specs.Nulls.{NullWalk, nullableChild, noHome, nullListView, nullList, nullFields, nullSparse, nullDense, addRun, growRun, nullRuns, nullData, nullWalk}
 use Rattle.leaf_walk.specs.Join.{join}
 use Rattle.transform.proofs.Laws.{null-state}
-use Rattle.stop_walks.specs.stops.Why.{nothing, named, unless, past}
-use Rattle.stop_walks.specs.stops.Nulls.{WhyNullWalk, walked, whyNullFields, whyNullSparse, whyNullHome, whyNullDense, whyNullEnd, whyNullRuns, whyNullData, whyNullNode, whyNulls}
+use Rattle.explain.specs.stops.Why.{nothing, named, unless, past}
+use Rattle.explain.specs.stops.Nulls.{WhyNullWalk, walked, whyNullFields, whyNullSparse, whyNullHome, whyNullDense, whyNullEnd, whyNullRuns, whyNullData, whyNullNode, whyNulls}
 
 module _ (state parts parts2 lengths lengths2 places places2 body body2 : List ℕ) (first first2 source source2 : ℕ) where
   abbrev one : Join

@@ -11,11 +11,11 @@ use Rattle.walk.specs.Nulls.{nullWalk}
 use Rattle.model.specs.Book.{Call, copy, nulls}
 use Rattle.refinement.specs.orders.Order.{Lent, joinOf, sourceCount, sourceLength}
 use Rattle.trip.specs.Walk.{orderWalk}
-use Rattle.stop_walks.specs.declared.stops.Why.{Why}
-use Rattle.stop_walks.specs.stops.Why.{only, unless}
-use Rattle.stop_walks.specs.stops.Copy.{whyCopy}
-use Rattle.stop_walks.specs.stops.Nulls.{walked, whyNulls}
-use Rattle.stop_walks.specs.stops.Order.{whySettled}
+use Rattle.explain.specs.declared.stops.Why.{Why}
+use Rattle.explain.specs.stops.Why.{only, unless}
+use Rattle.explain.specs.stops.Copy.{whyCopy}
+use Rattle.explain.specs.stops.Nulls.{walked, whyNulls}
+use Rattle.explain.specs.stops.Order.{whySettled}
 
 -- a walk o from the counters c, which v stops, then 14 and 13: w is what stops it
 pub record Settles (x : Lent) (m : ℕ) (c : List ℕ) (n : ℕ) (o : Out) (v w : Why) (c2 : List ℕ) : Type 0 where

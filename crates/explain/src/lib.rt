@@ -14,18 +14,25 @@ ghost use Rattle.plan.specs.parts.Parts.{partsWithin};
 ghost use Rattle.refinement.specs.orders.Sound.{walkable};
 ghost use Rattle.transform.specs.Answer.{lent};
 ghost use Rattle.trip.specs.Trip.{callAt, callsOf};
-ghost use Rattle.stop_walks.specs.stops.Why.{only, unless};
-ghost use Rattle.stop_walks.specs.stops.Copy.{whyCopy};
-ghost use Rattle.stop_walks.specs.stops.Nulls.{walked, whyNulls};
-ghost use Rattle.stop_walks.specs.stops.Parts.{whyParts};
-ghost use Rattle.stop_walks.specs.stops.Order.{whyCopyOrder, whyNullOrder, whyTrip};
+ghost use Rattle.explain.specs.stops.Why.{only, unless};
+ghost use Rattle.explain.specs.stops.Copy.{whyCopy};
+ghost use Rattle.explain.specs.stops.Nulls.{walked, whyNulls};
+ghost use Rattle.explain.specs.stops.Parts.{whyParts};
+ghost use Rattle.explain.specs.stops.Order.{whyCopyOrder, whyNullOrder, whyTrip};
 ghost use Rattle.explain.specs.Explains.{Settles, Explains};
 use array_data::lent_tables;
-use stop_walks::stops::Why;
-use stop_walks::stops::WhyListed;
+use crate::stops::Why;
+use crate::stops::WhyListed;
 use walk::plan_words;
 
+mod lists;
+pub mod nulls;
+mod runs;
 mod small_parts;
+pub mod stop_walks;
+pub mod stops;
+mod strings;
+mod unions;
 
 const LONGEST: usize = 256;
 
@@ -58,7 +65,7 @@ fn settle(plan: &[u64], parts: &[u64], counts: &[u64; 96], m: usize, r: u64, n: 
     ensures { λ w. ⌜ w ≡ unless (partsWithin (now (plan .entry)) (now (parts .entry)) m) (only 14) (whyParts (now (plan .entry)) (now (counts .entry)) (now (parts .entry)) (r + n)) ⌝ }
 {
     if !plan::parts::parts_within(plan, parts, m) {
-        return stop_walks::plain(NOT_LENT);
+        return crate::stop_walks::plain(NOT_LENT);
     }
     small_parts::why_parts(plan, counts, parts, r, n)
 }
@@ -81,7 +88,7 @@ fn copy_rows(
     ensures { λ w. ⌜ ((sources : List ℕ) → Settles (lent (now (plan .entry)) (now (parts .entry)) sources (now (lengths .entry)) (now (places .entry)) (now (body .entry))) m (now (counts .entry)) n (copyWalk (join (now (plan .entry)) (now (parts .entry)) (now (lengths .entry)) (now (places .entry)) (now (body .entry)) first source) 8 0 start n (now (counts .entry))) (whyCopy (join (now (plan .entry)) (now (parts .entry)) (now (lengths .entry)) (now (places .entry)) (now (body .entry)) first source) 8 0 start n (now (counts .entry))) w (now (counts .exit))) ⌝ }
 {
     let r = plan_words::rows_of(counts, 0);
-    let g = stop_walks::try_copy(
+    let g = crate::stop_walks::try_copy(
         plan,
         parts,
         lengths,
@@ -96,7 +103,7 @@ fn copy_rows(
         DEPTH,
     );
     if g != 0 {
-        return stop_walks::why_walk(
+        return crate::stop_walks::why_walk(
             plan,
             parts,
             lengths,
@@ -120,9 +127,9 @@ fn add_nulls(plan: &[u64], parts: &[u64], counts: &mut [u64; 96], m: usize, n: u
     ensures { λ w. ⌜ ((sources lengths places body : List ℕ) → Settles (lent (now (plan .entry)) (now (parts .entry)) sources lengths places body) m (now (counts .entry)) n (nullWalk (join (now (plan .entry)) (now (parts .entry)) [] [] [] 0 0) 8 0 (walked n) (now (counts .entry))) (whyNulls (join (now (plan .entry)) (now (parts .entry)) [] [] [] 0 0) 8 0 n (now (counts .entry))) w (now (counts .exit))) ⌝ }
 {
     let r = plan_words::rows_of(counts, 0);
-    let g = stop_walks::nulls::try_nulls(plan, parts, counts, 0, n, DEPTH);
+    let g = crate::nulls::try_nulls(plan, parts, counts, 0, n, DEPTH);
     if g != 0 {
-        return stop_walks::nulls::why_null_walk(plan, parts, counts, 0, n, DEPTH);
+        return crate::nulls::why_null_walk(plan, parts, counts, 0, n, DEPTH);
     }
     settle(plan, parts, counts, m, r, n)
 }
@@ -147,11 +154,11 @@ fn order_copy(
     ensures { λ w. ⌜ Explains (lent (now (plan .entry)) (now (parts .entry)) (now (sources .entry)) (now (lengths .entry)) (now (places .entry)) (now (body .entry))) m (copy source start end) (now (counts .entry)) w (now (counts .exit)) ⌝ }
 {
     if lent_tables::at_u64(plan, SOURCE_COUNT) <= source as u64 {
-        return stop_walks::plain(NO_SUCH_SOURCE);
+        return crate::stop_walks::plain(NO_SUCH_SOURCE);
     }
     let first = lent_tables::at_u32(sources, 2 * (source as usize)) as usize;
     if !transform::in_source(lengths, first, start, end) {
-        return stop_walks::plain(NO_SUCH_ROWS);
+        return crate::stop_walks::plain(NO_SUCH_ROWS);
     }
     copy_rows(
         plan,
@@ -174,7 +181,7 @@ fn order_nulls(plan: &[u64], parts: &[u64], counts: &mut [u64; 96], m: usize, n:
     ensures { λ w. ⌜ ((sources lengths places body : List ℕ) → Explains (lent (now (plan .entry)) (now (parts .entry)) sources lengths places body) m (nulls n) (now (counts .entry)) w (now (counts .exit))) ⌝ }
 {
     if plan_words::keeps_of(plan, 0) == 0 {
-        return stop_walks::plain(KEEPS_NO_NULLS);
+        return crate::stop_walks::plain(KEEPS_NO_NULLS);
     }
     add_nulls(plan, parts, counts, m, n)
 }
@@ -246,10 +253,10 @@ pub fn why_copy(
     ensures { λ w. ⌜ w ≡ whyCopyOrder (lent (now (plan .entry)) (now (parts .entry)) (now (sources .entry)) (now (lengths .entry)) (now (places .entry)) (now (body .entry))) m (now (counters .entry)) source start end ⌝ }
 {
     if counters.len() != 96 {
-        return stop_walks::plain(NOT_LENT);
+        return crate::stop_walks::plain(NOT_LENT);
     }
     if !sound::is_walkable(plan, m) {
-        return stop_walks::plain(NOT_LENT);
+        return crate::stop_walks::plain(NOT_LENT);
     }
     let mut counts = transform::load(counters);
     order_copy(
@@ -272,10 +279,10 @@ pub fn why_nulls(plan: &[u64], parts: &[u64], counters: &[u64], m: usize, n: u64
     ensures { λ w. ⌜ ((sources lengths places body : List ℕ) → w ≡ whyNullOrder (lent (now (plan .entry)) (now (parts .entry)) sources lengths places body) m (now (counters .entry)) n) ⌝ }
 {
     if counters.len() != 96 {
-        return stop_walks::plain(NOT_LENT);
+        return crate::stop_walks::plain(NOT_LENT);
     }
     if !sound::is_walkable(plan, m) {
-        return stop_walks::plain(NOT_LENT);
+        return crate::stop_walks::plain(NOT_LENT);
     }
     let mut counts = transform::load(counters);
     order_nulls(plan, parts, &mut counts, m, n)
@@ -287,7 +294,7 @@ fn at_first(ground: u8) -> WhyListed
 {
     WhyListed {
         place: 0,
-        why: stop_walks::plain(ground),
+        why: crate::stop_walks::plain(ground),
     }
 }
 

@@ -5,11 +5,11 @@ ghost use mathlib.Core.List.{List};
 ghost use Prim.Native.Nat.{ℕ, _+_, _*_, _/_, _<_, min, max};
 ghost use Rattle.walk.specs.State.{top};
 ghost use Rattle.plan.specs.parts.Parts.{neededBy, sizeOf, partHolds};
-ghost use Rattle.stop_walks.specs.stops.Why.{nothing};
-ghost use Rattle.stop_walks.specs.stops.Parts.{bytesDue, whyPart, whyParts};
+ghost use Rattle.explain.specs.stops.Why.{nothing};
+ghost use Rattle.explain.specs.stops.Parts.{bytesDue, whyPart, whyParts};
 ghost use Rattle.explain.specs.Sizes.{SmallPart, SmallParts};
 use array_data::lent_tables;
-use stop_walks::stops::Why;
+use crate::stops::Why;
 use walk::plan_words;
 
 const TOO_SMALL: u8 = 13;
@@ -153,7 +153,7 @@ fn why_part(
     ensures { λ w. ⌜ w ≡ whyPart (now (plan .entry)) (now (counts .entry)) (now (parts .entry)) (r + n) i b nothing ⌝ }
 {
     if part_holds(plan, counts, parts, i, b) {
-        return stop_walks::plain(0);
+        return crate::stop_walks::plain(0);
     }
     Why {
         ground: TOO_SMALL,
@@ -194,5 +194,5 @@ pub fn why_parts(plan: &[u64], counts: &[u64; 96], parts: &[u64], r: u64, n: u64
         }
         i += 1;
     }
-    stop_walks::plain(0)
+    crate::stop_walks::plain(0)
 }

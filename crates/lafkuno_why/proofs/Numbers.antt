@@ -7,8 +7,8 @@ use native.Mathlib.Omega.{arith}
 use lib.ListN.{length, set, length-set}
 use lib.Dec.{eqb}
 use borrow.Author.Tests.{eq-eqb, ne-eqb, eqb-true}
-use Rattle.stop_walks.specs.declared.stops.Why.{Why}
-use Rattle.stop_walks.specs.declared.stops.WhyListed.{WhyListed}
+use Rattle.explain.specs.declared.stops.Why.{Why}
+use Rattle.explain.specs.declared.stops.WhyListed.{WhyListed}
 use Rattle.lafkuno_why.specs.Why.{whyAnswer, listedAnswer}
 
 pub no-room : (w : Why) (s : List ℕ) → (length s ≡ 5 → ⊥) → s ≡ whyAnswer w s

@@ -4,8 +4,8 @@ use mathlib.Core.List.{List, [], _∷_}
 use Prim.Native.Nat.{ℕ}
 use lib.ListN.{length}
 use lib.Dec.{eqb}
-use Rattle.stop_walks.specs.declared.stops.Why.{Why}
-use Rattle.stop_walks.specs.declared.stops.WhyListed.{WhyListed}
+use Rattle.explain.specs.declared.stops.Why.{Why}
+use Rattle.explain.specs.declared.stops.WhyListed.{WhyListed}
 
 -- what stood there before where there is not room for five numbers
 unfoldable pub whyAnswer : Why → List ℕ → List ℕ

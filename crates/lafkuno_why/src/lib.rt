@@ -5,10 +5,10 @@ ghost use mathlib.Core.List.{List};
 ghost use Prim.Native.Nat.{ℕ};
 ghost use Rattle.transform.specs.Answer.{lent};
 ghost use Rattle.trip.specs.Trip.{callsOf};
-ghost use Rattle.stop_walks.specs.stops.Order.{whyCopyOrder, whyNullOrder, whyTrip};
+ghost use Rattle.explain.specs.stops.Order.{whyCopyOrder, whyNullOrder, whyTrip};
 ghost use Rattle.lafkuno_why.specs.Why.{whyAnswer, listedAnswer};
-use stop_walks::stops::Why;
-use stop_walks::stops::WhyListed;
+use explain::stops::Why;
+use explain::stops::WhyListed;
 
 // The five numbers, where there is room for them.
 fn put_why(answer: &mut [u64], w: Why)

@@ -9,7 +9,7 @@ use lib.Dec.{ltb}
 use Rattle.number.specs.Number.{number, splice, encode}
 use Rattle.bits.specs.Bits.{putBits}
 use Rattle.utils.specs.Offsets.{repeated}
-use Rattle.cell_sums.specs.patterns.Parts.{Sized}
+use Rattle.aggregates.specs.patterns.Parts.{Sized}
 use Rattle.run_coding.specs.Rows.{asBit, cellOf, numberIn, validIn}
 
 -- n equal bits, where there are any

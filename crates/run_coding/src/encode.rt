@@ -3,7 +3,7 @@ ghost use mathlib.Core.Path.{_≡_};
 ghost use mathlib.Core.Bool.{true};
 ghost use Prim.Native.Nat.{_+_, _*_, _-_, _≤_, _<_, _^_};
 ghost use lib.ListN.{length};
-ghost use Rattle.cell_sums.specs.patterns.Parts.{Sized};
+ghost use Rattle.aggregates.specs.patterns.Parts.{Sized};
 ghost use Rattle.column_anew.specs.runs.Runs.{those};
 ghost use Rattle.run_coding.specs.Rows.{Held, changeIn, lastRows};
 ghost use Rattle.run_coding.specs.Writes.{Fits, runWritten, runsWritten};

@@ -4,12 +4,12 @@ ghost use Prim.Native.Nat.{_+_, _*_, _-_, _≤_, _<_, min};
 ghost use lib.ListN.{length};
 ghost use Rattle.number.specs.Number.{splice};
 ghost use Rattle.utils.specs.Offsets.{repeated};
-ghost use Rattle.cell_sums.specs.patterns.Parts.{Sized};
+ghost use Rattle.aggregates.specs.patterns.Parts.{Sized};
 ghost use Rattle.run_coding.specs.Rows.{Held};
 ghost use Rattle.run_coding.specs.Writes.{Holds, rowsWritten, Ends, rowsFrom};
 use crate::Slots;
 use crate::Spots;
-use cell_sums::patterns;
+use aggregates::patterns;
 
 // The lesser of two.
 fn lesser(a: u64, b: u64) -> u64

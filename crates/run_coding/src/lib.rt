@@ -8,12 +8,12 @@ ghost use Prim.Native.Nat.{_+_, _*_, _/_, _≤_, _<_, _^_};
 ghost use lib.Dec.{eqb};
 ghost use lib.ListN.{length};
 ghost use Rattle.number.specs.Number.{splice, encode};
-ghost use Rattle.cell_sums.specs.patterns.Parts.{Sized};
+ghost use Rattle.aggregates.specs.patterns.Parts.{Sized};
 ghost use Rattle.column_anew.specs.runs.Runs.{alike};
 ghost use Rattle.run_coding.specs.Rows.{numberIn, validIn, cellOf, asBit};
 ghost use Rattle.bits.specs.Bits.{putBits};
 ghost use lib.ListN.{replicate};
-use cell_sums::patterns;
+use aggregates::patterns;
 
 // Where rows stand in a body: the first from `start` on, and its validity bit, where there is one, the bit `bit` of the byte `mask`.
 pub struct Slots {

@@ -12,8 +12,8 @@ use lib.Signed.{mag}
 use mir.Syntax.{w64}
 use mir.Val.{toZ, SFits}
 use mir.Facts.{toZ-ofZ}
-use Rattle.cell_sums.specs.fractions.Lowest.{fractionOf}
-use Rattle.cell_sums.specs.tally.Sums.{fits}
+use Rattle.aggregates.specs.fractions.Lowest.{fractionOf}
+use Rattle.aggregates.specs.tally.Sums.{fits}
 use Rattle.aggregates.proofs.Answers.{total-out, total-in, mean-outside, mean-none, mean-done}
 use Rattle.aggregates.proofs.mean_of.Statement.{statement}
 use Rattle.aggregates.proofs.mean_of.Tie as tie

@@ -13,9 +13,9 @@ use Rattle.columns.specs.Grounds.{columnGround}
 use Rattle.columns.specs.column_pair.Pair.{rangeIn}
 use Rattle.columns.proofs.column_pair.Pair.{pair-none}
 use Rattle.array_data.specs.type_tree.Lent.{typeOf}
-use Rattle.cell_sums.specs.patterns.Parts.{Sized}
+use Rattle.aggregates.specs.patterns.Parts.{Sized}
 use Rattle.aggregates.specs.Report.{wholeType, rowOf, pairOf}
-use Rattle.cell_sums.specs.Numbers.{cellIn}
+use Rattle.aggregates.specs.cell_sums.Numbers.{cellIn}
 use Rattle.aggregates.specs.Shape.{numbersOf}
 use Rattle.aggregates.proofs.Rows.{column-typed}
 use Rattle.aggregates.proofs.Tallies.{shape-none, shape-some, numbers-same, in-range, its-sound, all-ready, its-sized, agreed}

@@ -9,8 +9,8 @@ use borrow.Author.Tests.{ltb-true}
 use mir.Syntax.{w64}
 use mir.Val.{toZ, ofZ, SFits}
 use mir.Facts.{toZ-ofZ}
-use Rattle.cell_sums.specs.fractions.Lowest.{fractionOf}
-use Rattle.cell_sums.specs.tally.Sums.{fits}
+use Rattle.aggregates.specs.fractions.Lowest.{fractionOf}
+use Rattle.aggregates.specs.tally.Sums.{fits}
 use Rattle.aggregates.specs.Report.{isZero}
 use Rattle.aggregates.proofs.Answers.{total-out, total-in}
 use Rattle.aggregates.proofs.Both.{ratio-first, ratio-second, ratio-none, ratio-done, zero-test}

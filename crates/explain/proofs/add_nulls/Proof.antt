@@ -3,8 +3,8 @@ use mathlib.Core.Path.{refl, ap, _∙_}
 use mathlib.Core.List.{[]}
 use Rattle.leaf_walk.specs.Join.{join}
 use Rattle.transform.specs.Answer.{lent}
-use Rattle.stop_walks.specs.stops.Nulls.{whyNulls}
-use Rattle.stop_walks.proofs.stops.NullOrders.{nulls-say}
+use Rattle.explain.specs.stops.Nulls.{whyNulls}
+use Rattle.explain.proofs.stops.NullOrders.{nulls-say}
 use Rattle.explain.proofs.Laws.{stopped, kept, settled}
 use borrow.Author.Needs.{needs}
 use Rattle.explain.proofs.add_nulls.Statement.{statement}

@@ -2,8 +2,8 @@
 use mathlib.Core.Path.{refl, ap, _∙_}
 use Rattle.leaf_walk.specs.Join.{join}
 use Rattle.transform.specs.Answer.{lent}
-use Rattle.stop_walks.specs.stops.Copy.{whyCopy}
-use Rattle.stop_walks.proofs.stops.Copies.{copy-says}
+use Rattle.explain.specs.stops.Copy.{whyCopy}
+use Rattle.explain.proofs.stops.Copies.{copy-says}
 use Rattle.explain.proofs.Laws.{stopped, kept, settled}
 use borrow.Author.Needs.{needs}
 use Rattle.explain.proofs.copy_rows.Statement.{statement}

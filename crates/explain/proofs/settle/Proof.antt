@@ -2,8 +2,8 @@
 use mathlib.Core.Path.{refl, _∙_}
 use Rattle.array_data.proofs.lent_tables.Laws.{no, yes}
 use native.Mathlib.Omega.{arith}
-use Rattle.stop_walks.specs.stops.Why.{unless}
-use Rattle.stop_walks.proofs.stops.Shorts.{part-size}
+use Rattle.explain.specs.stops.Why.{unless}
+use Rattle.explain.proofs.stops.Shorts.{part-size}
 use borrow.Author.Needs.{needs}
 use Rattle.explain.proofs.settle.Statement.{statement}
 use Rattle.explain.proofs.settle.Tie as tie

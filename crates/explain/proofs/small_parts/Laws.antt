@@ -13,9 +13,9 @@ use Rattle.columnar.specs.Test.{onlyIf}
 use Rattle.schema.specs.formats.Code.{isString, isListView, widthOf}
 use Rattle.walk.specs.State.{codeOf, rows, bytes, grown, top}
 use Rattle.plan.specs.parts.Parts.{nodesOf, hasPart, hasOffsets, entrySize, neededBy, needed, sizeOf, partHolds}
-use Rattle.stop_walks.specs.declared.stops.Why.{Why}
-use Rattle.stop_walks.specs.stops.Why.{nothing, clash, unless}
-use Rattle.stop_walks.specs.stops.Parts.{rowsDue, bytesDue, whyPart, whyPartsFrom, whyParts}
+use Rattle.explain.specs.declared.stops.Why.{Why}
+use Rattle.explain.specs.stops.Why.{nothing, clash, unless}
+use Rattle.explain.specs.stops.Parts.{rowsDue, bytesDue, whyPart, whyPartsFrom, whyParts}
 use Rattle.explain.specs.Sizes.{SmallPart}
 
 -- ---- a number that is cut before it is multiplied

@@ -6,7 +6,7 @@ use native.Mathlib.Omega.{arith}
 use lib.ListN.{length}
 use Rattle.transform.specs.Answer.{lent}
 use Rattle.trip.specs.Trip.{callsFrom, callsOf}
-use Rattle.stop_walks.specs.stops.Order.{whyListedFrom, whyTrip}
+use Rattle.explain.specs.stops.Order.{whyListedFrom, whyTrip}
 use Rattle.explain.proofs.Laws.{small-room, list-from, list-stop, list-on, list-long, list-end}
 use borrow.Author.Needs.{needs}
 use Rattle.explain.proofs.walk_orders.Statement.{statement}

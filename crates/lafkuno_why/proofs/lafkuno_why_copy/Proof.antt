@@ -1,7 +1,7 @@
 -- `lafkuno_why::lafkuno_why_copy` meets its contract. Assumes nothing.
 use mathlib.Core.Path.{ap, _∙_}
 use lib.ListN.{length}
-use Rattle.stop_walks.specs.declared.stops.Why.{Why}
+use Rattle.explain.specs.declared.stops.Why.{Why}
 use Rattle.lafkuno_why.specs.Why.{whyAnswer}
 use Rattle.lafkuno_why.proofs.Numbers.{why-long}
 use borrow.Author.Needs.{needs}

@@ -1,7 +1,7 @@
 -- `lafkuno_why::lafkuno_why_orders` meets its contract. Assumes nothing.
 use mathlib.Core.Path.{ap, _∙_}
 use lib.ListN.{length}
-use Rattle.stop_walks.specs.declared.stops.WhyListed.{WhyListed}
+use Rattle.explain.specs.declared.stops.WhyListed.{WhyListed}
 use Rattle.lafkuno_why.specs.Why.{listedAnswer}
 use Rattle.lafkuno_why.proofs.Numbers.{listed-long}
 use borrow.Author.Needs.{needs}

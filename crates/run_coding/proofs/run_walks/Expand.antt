@@ -24,7 +24,7 @@ use Rattle.refinement.proofs.walk_is_model.Counters.{grown-is, rows-added, long
 use Rattle.refinement.proofs.walk_is_model.Goes.{Quiet, quiet-done, quiet-wrote, quiet-then}
 use Rattle.refinement.specs.orders.Order.{Lent}
 use Rattle.refinement.proofs.opening.Zeros.{empty}
-use Rattle.cell_sums.proofs.stretches.FirstAbove.{first-above, stays}
+use Rattle.aggregates.proofs.stretches.FirstAbove.{first-above, stays}
 use Rattle.column_anew.specs.runs.Runs.{okAt}
 use Rattle.column_anew.specs.runs.Picked.{cells}
 use Rattle.column_anew.specs.runs.Coding.{runAt}

@@ -8,8 +8,8 @@ use Rattle.array_data.specs.Tables.{part, lengthOf, offsetOf}
 use Rattle.array_data.specs.entries.Entries.{column}
 use Rattle.slot_reader.specs.declared.run.RowRun.{RowRun}
 use Rattle.slot_reader.specs.run.Rows.{rowRun}
-use Rattle.cell_sums.specs.declared.stretches.Ends.{Ends}
-use Rattle.cell_sums.specs.stretches.Ends.{endsOf}
+use Rattle.aggregates.specs.declared.stretches.Ends.{Ends}
+use Rattle.aggregates.specs.stretches.Ends.{endsOf}
 use Rattle.coding.specs.Expand.{runOr}
 use Rattle.coding.proofs.expand.first_run.Statement.{statement}
 use Rattle.coding.proofs.expand.first_run.Tie as tie

@@ -10,7 +10,7 @@ use Rattle.schema.specs.Tree.{codeOf}
 use Rattle.array_data.specs.Tables.{Tables, lengthOf, offsetOf, place}
 use Rattle.array_data.specs.Typed.{tablesFrom}
 use Rattle.array_data.specs.lent_tables.Lent.{tables}
-use Rattle.cell_sums.specs.stretches.Ends.{endsOf}
+use Rattle.aggregates.specs.stretches.Ends.{endsOf}
 use Rattle.coding.specs.Expand.{Expandable, firstRun, firstRow, valuesAt, valueMask, valueBit, endsAt}
 use Rattle.coding.proofs.Rows.{place-as, ends-as, values-as, holds-as, rows-as, no-rows, run-as}
 use Rattle.coding.proofs.expand.write.Statement.{statement}

@@ -3,7 +3,7 @@ use mathlib.Core.Path.{_≡_, refl, sym, ap, _∙_}
 use Prim.Native.Nat.{ℕ, _+_, _-_, _≤_}
 use native.Mathlib.Nat.{sub-zero}
 use native.Mathlib.Omega.{arith}
-use Rattle.stop_walks.specs.stops.Parts.{whyPartsFrom}
+use Rattle.explain.specs.stops.Parts.{whyPartsFrom}
 use Rattle.explain.proofs.small_parts.Laws.{nodes-none, nodes-stop, nodes-on}
 use borrow.Author.Needs.{needs}
 use Rattle.explain.proofs.small_parts.why_parts.Statement.{statement}

@@ -5,7 +5,7 @@ use mathlib.Core.List.{List}
 use Prim.Native.Nat.{ℕ, _≤_, _<_, _^_}
 use native.Mathlib.Omega.{arith}
 use lib.ListN.{length}
-use Rattle.cell_sums.specs.patterns.Parts.{Sized}
+use Rattle.aggregates.specs.patterns.Parts.{Sized}
 use Rattle.run_coding.specs.Rows.{Held, lastRows}
 use Rattle.run_coding.specs.Writes.{Fits, runsWritten}
 use Rattle.run_coding.proofs.Laws.{no-runs, some-rows}

@@ -5,7 +5,7 @@ use Prim.Native.Nat.{ℕ, _+_, _*_, _≤_}
 use lib.ListN.{length}
 use Rattle.number.specs.Number.{splice}
 use Rattle.utils.specs.Offsets.{repeated}
-use Rattle.cell_sums.specs.patterns.Parts.{Sized}
+use Rattle.aggregates.specs.patterns.Parts.{Sized}
 use borrow.Author.Needs.{needs}
 use Rattle.run_coding.proofs.expand.fill_by.Statement.{statement}
 use Rattle.run_coding.proofs.expand.fill_by.Tie as tie

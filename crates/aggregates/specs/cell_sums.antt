@@ -1,0 +1,3 @@
+-- The definitions that the contracts of `cell_sums` cite.
+pub mod Numbers
+pub mod Steps

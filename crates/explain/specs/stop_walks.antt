@@ -1,0 +1,2 @@
+-- What a node says of the rows that it was handed.
+pub mod Step

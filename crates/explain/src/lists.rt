@@ -1,0 +1,177 @@
+// Stops at list-views and lists: a row whose offset and size do not fit, an offset that does not, or the rows of the child.
+ghost use mathlib.Core.Path.{_≡_};
+ghost use mathlib.Core.List.{List, []};
+ghost use Prim.Native.Nat.{ℕ, _+_, _*_, _<_, _≤_, _^_};
+ghost use lib.ListN.{length};
+ghost use Rattle.walk.specs.State.{place};
+ghost use Rattle.walk.specs.Copy.{listViewRow, copyWalk};
+ghost use Rattle.leaf_walk.specs.Join.{join};
+ghost use Rattle.explain.specs.stops.Copy.{whyListRow, whyListView, whyList, whyCopy};
+ghost use Rattle.explain.specs.stop_walks.Step.{whyAfter, RowSays};
+use crate::stop_walks::Step;
+use crate::stops::Why;
+use array_data::lent_tables;
+use leaf_walk::variable_size;
+use nested_rows::lookups;
+use utils::Extended;
+use walk::plan_words;
+
+const OFFSET: u8 = 6;
+
+const FOREIGN: u8 = 12;
+
+// Row r of a list-view.
+fn list_row(
+    state: &[u64],
+    parts: &[u64],
+    lengths: &[u64],
+    places: &[u64],
+    body: &[u8],
+    counts: &mut [u64; 96],
+    source: usize,
+    first: usize,
+    i: usize,
+    w: u64,
+    slot: u64,
+    r: u64,
+    depth: u32,
+) -> Step
+    requires { ⌜ (first < 2 ^ 32) × (source < 2 ^ 32) × (i + 1 < 32) × (slot + r + 1 < 2 ^ 63) ⌝ }
+    requires { ⌜ ((w ≡ 4 → ⊥) → w ≡ 8) ⌝ }
+    requires { ⌜ (place (join [] [] (now lengths) (now places) (now body) first 0) i 3 + w * (slot + r + 1) ≤ length (now body)) × (place (join [] [] (now lengths) (now places) (now body) first 0) i 5 + w * (slot + r + 1) ≤ length (now body)) ⌝ }
+    ensures { λ s. ⌜ RowSays (listViewRow (join (now (state .entry)) (now (parts .entry)) (now (lengths .entry)) (now (places .entry)) (now (body .entry)) first source) (copyWalk (join (now (state .entry)) (now (parts .entry)) (now (lengths .entry)) (now (places .entry)) (now (body .entry)) first source) depth) w i slot r (now (counts .entry))) (whyListRow (join (now (state .entry)) (now (parts .entry)) (now (lengths .entry)) (now (places .entry)) (now (body .entry)) first source) (copyWalk (join (now (state .entry)) (now (parts .entry)) (now (lengths .entry)) (now (places .entry)) (now (body .entry)) first source) depth) (whyCopy (join (now (state .entry)) (now (parts .entry)) (now (lengths .entry)) (now (places .entry)) (now (body .entry)) first source) depth) w i slot r (now (counts .entry))) (join (now (state .entry)) (now (parts .entry)) (now (lengths .entry)) (now (places .entry)) (now (body .entry)) first source) depth s (now (counts .exit)) ⌝ }
+{
+    let offset = lookups::entry_at(body, lent_tables::place(places, first + i, 3), w, slot + r);
+    let size = lookups::entry_at(body, lent_tables::place(places, first + i, 5), w, slot + r);
+    let child = plan_words::rows_of(counts, i + 1);
+    if !nested_rows::sum_fits(w, child, size) {
+        return Step::Here(Why {
+            ground: OFFSET,
+            node: i,
+            row: r,
+            needed: plan_words::grow(child, size),
+            allowed: crate::stop_walks::largest(w),
+        });
+    }
+    crate::stop_walks::step_into(
+        state,
+        parts,
+        lengths,
+        places,
+        body,
+        counts,
+        source,
+        first,
+        i + 1,
+        offset,
+        size,
+        depth,
+    )
+}
+
+// A list-view with offsets of w bytes: its first row that is refused.
+pub fn step_list_view(
+    state: &[u64],
+    parts: &[u64],
+    lengths: &[u64],
+    places: &[u64],
+    body: &[u8],
+    counts: &mut [u64; 96],
+    source: usize,
+    first: usize,
+    i: usize,
+    w: u64,
+    slot: u64,
+    n: u64,
+    depth: u32,
+) -> Step
+    requires { ⌜ (first < 2 ^ 32) × (source < 2 ^ 32) × (i < 32) × (slot + n < 2 ^ 63) ⌝ }
+    requires { ⌜ ((w ≡ 4 → ⊥) → w ≡ 8) ⌝ }
+    ensures { λ r. ⌜ whyListView (join (now (state .entry)) (now (parts .entry)) (now (lengths .entry)) (now (places .entry)) (now (body .entry)) first source) (copyWalk (join (now (state .entry)) (now (parts .entry)) (now (lengths .entry)) (now (places .entry)) (now (body .entry)) first source) depth) (whyCopy (join (now (state .entry)) (now (parts .entry)) (now (lengths .entry)) (now (places .entry)) (now (body .entry)) first source) depth) w i slot n (now (counts .entry)) ≡ whyAfter (join (now (state .entry)) (now (parts .entry)) (now (lengths .entry)) (now (places .entry)) (now (body .entry)) first source) depth r (now (counts .exit)) ⌝ }
+{
+    if 32 <= i + 1 {
+        return Step::Here(crate::stop_walks::plain(FOREIGN));
+    }
+    if !nested_rows::pairs_in(places, body, first, i, w, w, slot, n) {
+        return Step::Here(crate::stop_walks::plain(FOREIGN));
+    }
+    let mut r: u64 = 0;
+    while r < n {
+        match list_row(
+            state,
+            parts,
+            lengths,
+            places,
+            body,
+            counts,
+            source,
+            first,
+            i,
+            w,
+            slot,
+            r,
+            depth,
+        ) {
+            Step::On => {
+                r += 1;
+            }
+            Step::Here(w) => return Step::Here(w),
+            Step::Below { node, row, rows } => return Step::Below { node, row, rows },
+        }
+    }
+    Step::On
+}
+
+// A list with offsets of w bytes: its first offset that does not fit, or the stretch of its child.
+pub fn step_list(
+    state: &[u64],
+    parts: &[u64],
+    places: &[u64],
+    body: &[u8],
+    counts: &[u64; 96],
+    first: usize,
+    i: usize,
+    w: u64,
+    slot: u64,
+    n: u64,
+) -> Step
+    requires { ⌜ (first < 2 ^ 32) × (i < 32) × (slot + n < 2 ^ 63) ⌝ }
+    requires { ⌜ ((w ≡ 4 → ⊥) → w ≡ 8) ⌝ }
+    ensures { λ r. ⌜ ((lengths : List ℕ) (source depth : ℕ) → whyList (join (now (state .entry)) (now (parts .entry)) lengths (now (places .entry)) (now (body .entry)) first source) (copyWalk (join (now (state .entry)) (now (parts .entry)) lengths (now (places .entry)) (now (body .entry)) first source) depth) (whyCopy (join (now (state .entry)) (now (parts .entry)) lengths (now (places .entry)) (now (body .entry)) first source) depth) w i slot n (now (counts .entry)) ≡ whyAfter (join (now (state .entry)) (now (parts .entry)) lengths (now (places .entry)) (now (body .entry)) first source) depth r (now (counts .entry))) ⌝ }
+{
+    if n == 0 {
+        return Step::On;
+    }
+    if 32 <= i + 1 {
+        return Step::Here(crate::stop_walks::plain(FOREIGN));
+    }
+    let mut none = [0u8; 0];
+    match variable_size::copy_offsets(
+        state,
+        parts,
+        places,
+        body,
+        counts,
+        &mut none,
+        false,
+        first,
+        i,
+        w,
+        slot,
+        n,
+    ) {
+        Extended::Fits { last, first: from } => Step::Below {
+            node: i + 1,
+            row: from,
+            rows: last - plan_words::rows_of(counts, i + 1),
+        },
+        Extended::Over { row, needed } => Step::Here(Why {
+            ground: OFFSET,
+            node: i,
+            row: row as u64,
+            needed,
+            allowed: crate::stop_walks::largest(w),
+        }),
+        Extended::Falls => Step::Here(crate::stop_walks::plain(FOREIGN)),
+    }
+}

@@ -1,0 +1,284 @@
+// What stops an order of nulls, looked for from the top of the tree downward, as of a copy. A count of 2^63 or more is walked as 2^63, as the
+// order is; the number that 7 needs has it as it was given. Nothing is written, and no source is read.
+ghost use mathlib.Core.Path.{_≡_};
+ghost use mathlib.Core.List.{List, []};
+ghost use Prim.Native.Nat.{ℕ, suc, _+_, _<_};
+ghost use Rattle.walk.specs.State.{codeOf, bytesOf};
+ghost use Rattle.walk.specs.Nulls.{noHome, nullWalk};
+ghost use Rattle.leaf_walk.specs.Join.{join};
+ghost use Rattle.explain.specs.stops.Why.{named};
+ghost use Rattle.explain.specs.stops.Nulls.{walked, firstPosition, whyNullSparse, whyNullDense, whyNullEnd, whyNullRuns, whyNullData, whyNullNode, whyNulls};
+ghost use Rattle.explain.specs.stop_walks.Step.{Tried};
+ghost use Rattle.explain.specs.nulls.Step.{whyAfter, RowSays};
+use crate::stops::Why;
+use nested_rows::lookups;
+use walk::plan_words;
+
+// What a node says of the nulls that it was handed: nothing stops them, and the counters are those after them; what stops them; or which child
+// does.
+pub enum NullStep {
+    On,
+    Here(Why),
+    Below { node: usize, count: u64 },
+}
+
+const POSITION: u8 = 6;
+
+const RUN_END: u8 = 7;
+
+const FOREIGN: u8 = 12;
+
+const POSITIONS: u64 = 2147483648;
+
+// ---- the walk
+
+// Walks n nulls of node i: the counters are those after the walk, or those before it where it is refused.
+pub fn try_nulls(
+    state: &[u64],
+    parts: &[u64],
+    counts: &mut [u64; 96],
+    i: usize,
+    n: u64,
+    depth: u32,
+) -> u8
+    ensures { λ g. ⌜ Tried (nullWalk (join (now (state .entry)) (now (parts .entry)) [] [] [] 0 0) depth i (walked n) (now (counts .entry))) (now (counts .entry)) g (now (counts .exit)) ⌝ }
+{
+    let before = *counts;
+    let mut none = [0u8; 0];
+    let m = transform::at_most_far(n);
+    let g = extend_nulls::extend_nulls(state, parts, counts, &mut none, false, i, m, depth);
+    if g != 0 {
+        *counts = before;
+        return g;
+    }
+    0
+}
+
+// The same of a child.
+fn step_into(
+    state: &[u64],
+    parts: &[u64],
+    counts: &mut [u64; 96],
+    k: usize,
+    n: u64,
+    depth: u32,
+) -> NullStep
+    ensures { λ r. ⌜ RowSays (nullWalk (join (now (state .entry)) (now (parts .entry)) [] [] [] 0 0) depth k (walked n) (now (counts .entry))) (whyNulls (join (now (state .entry)) (now (parts .entry)) [] [] [] 0 0) depth k n (now (counts .entry))) (join (now (state .entry)) (now (parts .entry)) [] [] [] 0 0) depth r (now (counts .exit)) ⌝ }
+{
+    let g = try_nulls(state, parts, counts, k, n, depth);
+    if g != 0 {
+        return NullStep::Below { node: k, count: n };
+    }
+    NullStep::On
+}
+
+// ---- unions
+
+// The union that nulls cannot go into.
+fn homeless(state: &[u64], i: usize) -> Why
+    requires { ⌜ i < 32 ⌝ }
+    ensures { λ r. ⌜ r ≡ named (noHome (now (state .entry)) i) i ⌝ }
+{
+    Why {
+        ground: nested_rows::no_home(state, i),
+        node: i,
+        row: 0,
+        needed: 0,
+        allowed: 0,
+    }
+}
+
+// A sparse union: no home, or its first child that is refused.
+fn step_sparse(
+    state: &[u64],
+    parts: &[u64],
+    counts: &mut [u64; 96],
+    i: usize,
+    n: u64,
+    depth: u32,
+) -> NullStep
+    requires { ⌜ i < 32 ⌝ }
+    ensures { λ r. ⌜ whyNullSparse (join (now (state .entry)) (now (parts .entry)) [] [] [] 0 0) (nullWalk (join (now (state .entry)) (now (parts .entry)) [] [] [] 0 0) depth) (whyNulls (join (now (state .entry)) (now (parts .entry)) [] [] [] 0 0) depth) i n (now (counts .entry)) ≡ whyAfter (join (now (state .entry)) (now (parts .entry)) [] [] [] 0 0) depth r (now (counts .exit)) ⌝ }
+{
+    if 32 <= nested_rows::null_home(state, i) {
+        return NullStep::Here(homeless(state, i));
+    }
+    let end = plan_words::end_of(state, i);
+    let mut k = i + 1;
+    let mut t: usize = 0;
+    while t < 32 {
+        if end <= k {
+            return NullStep::On;
+        }
+        match step_into(state, parts, counts, k, n, depth) {
+            NullStep::On => {
+                k = plan_words::end_of(state, k);
+                t += 1;
+            }
+            NullStep::Here(w) => return NullStep::Here(w),
+            NullStep::Below { node, count } => return NullStep::Below { node, count },
+        }
+    }
+    NullStep::On
+}
+
+// The first position that does not fit behind the child's rows.
+fn first_position(rows: u64) -> u64
+    ensures { λ r. ⌜ r ≡ firstPosition rows ⌝ }
+{
+    if rows < POSITIONS {
+        return POSITIONS;
+    }
+    rows
+}
+
+// A dense union: no home, its first position that does not fit, or its home.
+fn step_dense(state: &[u64], counts: &[u64; 96], i: usize, n: u64) -> NullStep
+    requires { ⌜ i < 32 ⌝ }
+    ensures { λ r. ⌜ ((parts : List ℕ) (depth : ℕ) → whyNullDense (join (now (state .entry)) parts [] [] [] 0 0) (nullWalk (join (now (state .entry)) parts [] [] [] 0 0) depth) (whyNulls (join (now (state .entry)) parts [] [] [] 0 0) depth) i n (now (counts .entry)) ≡ whyAfter (join (now (state .entry)) parts [] [] [] 0 0) depth r (now (counts .entry))) ⌝ }
+{
+    let h = nested_rows::null_home(state, i);
+    if 32 <= h {
+        return NullStep::Here(homeless(state, i));
+    }
+    let child = plan_words::rows_of(counts, h);
+    if POSITIONS < plan_words::grow(child, transform::at_most_far(n)) {
+        let position = first_position(child);
+        return NullStep::Here(Why {
+            ground: POSITION,
+            node: i,
+            row: position - child,
+            needed: position,
+            allowed: POSITIONS - 1,
+        });
+    }
+    NullStep::Below { node: h, count: n }
+}
+
+// ---- run-end nodes
+
+// The last run end with n rows more.
+fn step_end(state: &[u64], counts: &[u64; 96], i: usize, n: u64) -> NullStep
+    requires { ⌜ i + 2 < 32 ⌝ }
+    requires { ⌜ ((bytesOf (now state) (suc i) ≡ 2 → ⊥) → (bytesOf (now state) (suc i) ≡ 4 → ⊥) → bytesOf (now state) (suc i) ≡ 8) ⌝ }
+    ensures { λ r. ⌜ ((parts : List ℕ) (depth : ℕ) → whyNullEnd (join (now (state .entry)) parts [] [] [] 0 0) (nullWalk (join (now (state .entry)) parts [] [] [] 0 0) depth) (whyNulls (join (now (state .entry)) parts [] [] [] 0 0) depth) (bytesOf (now (state .entry)) (suc i)) i n (now (counts .entry)) ≡ whyAfter (join (now (state .entry)) parts [] [] [] 0 0) depth r (now (counts .entry))) ⌝ }
+{
+    let w = lookups::width_at(state, i + 1);
+    let last = plan_words::rows_of(counts, i);
+    if nested_rows::sum_fits(w, last, transform::at_most_far(n)) {
+        return NullStep::On;
+    }
+    NullStep::Here(Why {
+        ground: RUN_END,
+        node: i,
+        row: 0,
+        needed: plan_words::grow(last, n),
+        allowed: crate::stop_walks::largest(w),
+    })
+}
+
+// A run-end node: its values, then its run end; a run that grows asks no value.
+fn step_run(
+    state: &[u64],
+    parts: &[u64],
+    counts: &mut [u64; 96],
+    i: usize,
+    n: u64,
+    depth: u32,
+) -> NullStep
+    requires { ⌜ i < 32 ⌝ }
+    ensures { λ r. ⌜ whyNullRuns (join (now (state .entry)) (now (parts .entry)) [] [] [] 0 0) (nullWalk (join (now (state .entry)) (now (parts .entry)) [] [] [] 0 0) depth) (whyNulls (join (now (state .entry)) (now (parts .entry)) [] [] [] 0 0) depth) i n (now (counts .entry)) ≡ whyAfter (join (now (state .entry)) (now (parts .entry)) [] [] [] 0 0) depth r (now (counts .exit)) ⌝ }
+{
+    if !nested_rows::has_ends(state, i) {
+        return NullStep::Here(crate::stop_walks::plain(FOREIGN));
+    }
+    if plan_words::bytes_of(counts, i) == 2 {
+        if plan_words::rows_of(counts, i + 1) == 0 {
+            return NullStep::Here(crate::stop_walks::plain(FOREIGN));
+        }
+        return step_end(state, counts, i, n);
+    }
+    match step_into(state, parts, counts, i + 2, 1, depth) {
+        NullStep::On => step_end(state, counts, i, n),
+        NullStep::Here(w) => NullStep::Here(w),
+        NullStep::Below { node, count } => NullStep::Below { node, count },
+    }
+}
+
+// ---- a node
+
+// The data of a node by its format's code.
+fn step_data(
+    state: &[u64],
+    parts: &[u64],
+    counts: &mut [u64; 96],
+    i: usize,
+    n: u64,
+    depth: u32,
+) -> NullStep
+    requires { ⌜ i < 32 ⌝ }
+    ensures { λ r. ⌜ whyNullData (join (now (state .entry)) (now (parts .entry)) [] [] [] 0 0) (nullWalk (join (now (state .entry)) (now (parts .entry)) [] [] [] 0 0) depth) (whyNulls (join (now (state .entry)) (now (parts .entry)) [] [] [] 0 0) depth) (codeOf (now (state .entry)) i) i n (now (counts .entry)) ≡ whyAfter (join (now (state .entry)) (now (parts .entry)) [] [] [] 0 0) depth r (now (counts .exit)) ⌝ }
+{
+    let code = plan_words::code_of(state, i);
+    if code == nested_rows::node_data::SPARSE {
+        return step_sparse(state, parts, counts, i, n, depth);
+    }
+    if code == nested_rows::node_data::DENSE {
+        return step_dense(state, counts, i, n);
+    }
+    if code == nested_rows::node_data::RUN_END {
+        return step_run(state, parts, counts, i, n, depth);
+    }
+    let mut none = [0u8; 0];
+    let m = transform::at_most_far(n);
+    let g = nested_rows::node_data::null_leaf(state, parts, counts, &mut none, false, i, m);
+    NullStep::Here(crate::stop_walks::plain(g))
+}
+
+// n nulls of node i.
+fn step_node(
+    state: &[u64],
+    parts: &[u64],
+    counts: &mut [u64; 96],
+    i: usize,
+    n: u64,
+    depth: u32,
+) -> NullStep
+    ensures { λ r. ⌜ whyNullNode (join (now (state .entry)) (now (parts .entry)) [] [] [] 0 0) (nullWalk (join (now (state .entry)) (now (parts .entry)) [] [] [] 0 0) depth) (whyNulls (join (now (state .entry)) (now (parts .entry)) [] [] [] 0 0) depth) i n (now (counts .entry)) ≡ whyAfter (join (now (state .entry)) (now (parts .entry)) [] [] [] 0 0) depth r (now (counts .exit)) ⌝ }
+{
+    if n == 0 {
+        return NullStep::On;
+    }
+    if 32 <= i {
+        return NullStep::Here(crate::stop_walks::plain(FOREIGN));
+    }
+    step_data(state, parts, counts, i, n, depth)
+}
+
+// What stops n nulls of node i, at most `depth` levels down.
+pub fn why_null_walk(
+    state: &[u64],
+    parts: &[u64],
+    counts: &mut [u64; 96],
+    i: usize,
+    n: u64,
+    depth: u32,
+) -> Why
+    ensures { λ r. ⌜ r ≡ whyNulls (join (now (state .entry)) (now (parts .entry)) [] [] [] 0 0) depth i n (now (counts .entry)) ⌝ }
+{
+    let mut left = depth;
+    let mut node = i;
+    let mut len = n;
+    while 0 < left {
+        left -= 1;
+        match step_node(state, parts, counts, node, len, left) {
+            NullStep::On => return crate::stop_walks::plain(0),
+            NullStep::Here(w) => return w,
+            NullStep::Below { node: k, count } => {
+                node = k;
+                len = count;
+            }
+        }
+    }
+    crate::stop_walks::plain(FOREIGN)
+}

@@ -1,0 +1,58 @@
+// Stops at run-end nodes: a run end that does not fit, or the values of the runs.
+ghost use mathlib.Core.Path.{_≡_};
+ghost use mathlib.Core.List.{List};
+ghost use Prim.Native.Nat.{ℕ, _+_, _<_, _^_};
+ghost use Rattle.walk.specs.Copy.{copyWalk};
+ghost use Rattle.leaf_walk.specs.Join.{join};
+ghost use Rattle.explain.specs.stops.Copy.{whyRuns, whyCopy};
+ghost use Rattle.explain.specs.stop_walks.Step.{whyAfter};
+use crate::stop_walks::Step;
+use crate::stops::Why;
+use nested_rows::lookups;
+use run_ends::LogicalRow;
+use run_ends::Runs;
+use walk::plan_words;
+
+const RUN_END: u8 = 7;
+
+// A run-end node: the last run end with its rows, or the runs of its values.
+pub fn step_run(
+    state: &[u64],
+    lengths: &[u64],
+    places: &[u64],
+    body: &[u8],
+    counts: &[u64; 96],
+    first: usize,
+    i: usize,
+    slot: u64,
+    n: u64,
+) -> Step
+    requires { ⌜ (first < 2 ^ 32) × (i < 32) × (slot + n < 2 ^ 63) ⌝ }
+    ensures { λ r. ⌜ ((parts : List ℕ) (source depth : ℕ) → whyRuns (join (now (state .entry)) parts (now (lengths .entry)) (now (places .entry)) (now (body .entry)) first source) (copyWalk (join (now (state .entry)) parts (now (lengths .entry)) (now (places .entry)) (now (body .entry)) first source) depth) (whyCopy (join (now (state .entry)) parts (now (lengths .entry)) (now (places .entry)) (now (body .entry)) first source) depth) i slot n (now (counts .entry)) ≡ whyAfter (join (now (state .entry)) parts (now (lengths .entry)) (now (places .entry)) (now (body .entry)) first source) depth r (now (counts .entry))) ⌝ }
+{
+    if n == 0 {
+        return Step::On;
+    }
+    let g = nested_rows::runs_ready(state, lengths, places, body, counts, first, i, n);
+    if g == RUN_END {
+        return Step::Here(Why {
+            ground: g,
+            node: i,
+            row: 0,
+            needed: plan_words::grow(plan_words::rows_of(counts, i), n),
+            allowed: crate::stop_walks::largest(lookups::width_at(state, i + 1)),
+        });
+    }
+    if g != 0 {
+        return Step::Here(crate::stop_walks::plain(g));
+    }
+    let w = lookups::width_at(state, i + 1);
+    match nested_rows::runs_at(lengths, places, body, first, i, w, LogicalRow(slot), n) {
+        Runs::Range { first: run, count } => Step::Below {
+            node: i + 2,
+            row: run.0 as u64,
+            rows: count as u64,
+        },
+        Runs::None => Step::Here(crate::stop_walks::plain(12)),
+    }
+}

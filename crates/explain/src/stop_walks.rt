@@ -1,0 +1,349 @@
+// What stops a copy, looked for from the top of the tree downward: a node says it itself, or names the rows of a child at which the walk stops.
+// The walk of crate `extend`, which only tries, says which row or child is the first that is refused; nothing is written.
+ghost use mathlib.Core.Path.{_≡_};
+ghost use Prim.Native.Nat.{_+_, _<_, _^_};
+ghost use Rattle.walk.specs.State.{codeOf};
+ghost use Rattle.walk.specs.Copy.{copyWalk};
+ghost use Rattle.leaf_walk.specs.Join.{join};
+ghost use Rattle.explain.specs.stops.Why.{only};
+ghost use Rattle.explain.specs.stops.Copy.{most, whyData, whyNode, whyCopy};
+ghost use Rattle.explain.specs.stop_walks.Step.{Tried, whyAfter, RowSays};
+use crate::lists;
+use crate::runs;
+use crate::strings;
+use crate::unions;
+use crate::stops::Why;
+use nested_rows::lookups;
+use walk::plan_words;
+
+// What a node says of the rows that it was handed: nothing stops them, and the counters are those after them; what stops them; or which rows
+// of a child do.
+pub enum Step {
+    On,
+    Here(Why),
+    Below { node: usize, row: u64, rows: u64 },
+}
+
+const FOREIGN: u8 = 12;
+
+// ---- answers
+
+// A ground that names no node.
+pub fn plain(ground: u8) -> Why
+    ensures { λ r. ⌜ r ≡ only ground ⌝ }
+{
+    Why {
+        ground,
+        node: 0,
+        row: 0,
+        needed: 0,
+        allowed: 0,
+    }
+}
+
+// The largest number of w bytes.
+pub fn largest(w: u64) -> u64
+    requires { ⌜ ((w ≡ 2 → ⊥) → (w ≡ 4 → ⊥) → w ≡ 8) ⌝ }
+    ensures { λ r. ⌜ r ≡ most w ⌝ }
+{
+    if w == 2 {
+        return 32767;
+    }
+    if w == 4 {
+        return 2147483647;
+    }
+    9223372036854775807
+}
+
+// ---- the walk
+
+// Walks the rows a .. a + n - 1 of node i: the counters are those after the walk, or those before it where it is refused.
+pub fn try_copy(
+    state: &[u64],
+    parts: &[u64],
+    lengths: &[u64],
+    places: &[u64],
+    body: &[u8],
+    counts: &mut [u64; 96],
+    source: usize,
+    first: usize,
+    i: usize,
+    a: u64,
+    n: u64,
+    depth: u32,
+) -> u8
+    requires { ⌜ (first < 2 ^ 32) × (source < 2 ^ 32) ⌝ }
+    ensures { λ g. ⌜ Tried (copyWalk (join (now (state .entry)) (now (parts .entry)) (now (lengths .entry)) (now (places .entry)) (now (body .entry)) first source) depth i a n (now (counts .entry))) (now (counts .entry)) g (now (counts .exit)) ⌝ }
+{
+    let before = *counts;
+    let mut none = [0u8; 0];
+    let g = extend::extend(
+        state,
+        parts,
+        lengths,
+        places,
+        body,
+        counts,
+        &mut none,
+        false,
+        source,
+        first,
+        i,
+        a,
+        n,
+        depth,
+    );
+    if g != 0 {
+        *counts = before;
+        return g;
+    }
+    0
+}
+
+// The same of a child.
+pub fn step_into(
+    state: &[u64],
+    parts: &[u64],
+    lengths: &[u64],
+    places: &[u64],
+    body: &[u8],
+    counts: &mut [u64; 96],
+    source: usize,
+    first: usize,
+    k: usize,
+    a: u64,
+    n: u64,
+    depth: u32,
+) -> Step
+    requires { ⌜ (first < 2 ^ 32) × (source < 2 ^ 32) ⌝ }
+    ensures { λ r. ⌜ RowSays (copyWalk (join (now (state .entry)) (now (parts .entry)) (now (lengths .entry)) (now (places .entry)) (now (body .entry)) first source) depth k a n (now (counts .entry))) (whyCopy (join (now (state .entry)) (now (parts .entry)) (now (lengths .entry)) (now (places .entry)) (now (body .entry)) first source) depth k a n (now (counts .entry))) (join (now (state .entry)) (now (parts .entry)) (now (lengths .entry)) (now (places .entry)) (now (body .entry)) first source) depth r (now (counts .exit)) ⌝ }
+{
+    let g = try_copy(
+        state,
+        parts,
+        lengths,
+        places,
+        body,
+        counts,
+        source,
+        first,
+        k,
+        a,
+        n,
+        depth,
+    );
+    if g != 0 {
+        return Step::Below {
+            node: k,
+            row: a,
+            rows: n,
+        };
+    }
+    Step::On
+}
+
+// ---- a node
+
+// The data of a node by its format's code.
+fn step_data(
+    state: &[u64],
+    parts: &[u64],
+    lengths: &[u64],
+    places: &[u64],
+    body: &[u8],
+    counts: &mut [u64; 96],
+    source: usize,
+    first: usize,
+    i: usize,
+    slot: u64,
+    n: u64,
+    depth: u32,
+) -> Step
+    requires { ⌜ (first < 2 ^ 32) × (source < 2 ^ 32) × (i < 32) × (slot + n < 2 ^ 63) ⌝ }
+    ensures { λ r. ⌜ whyData (join (now (state .entry)) (now (parts .entry)) (now (lengths .entry)) (now (places .entry)) (now (body .entry)) first source) (copyWalk (join (now (state .entry)) (now (parts .entry)) (now (lengths .entry)) (now (places .entry)) (now (body .entry)) first source) depth) (whyCopy (join (now (state .entry)) (now (parts .entry)) (now (lengths .entry)) (now (places .entry)) (now (body .entry)) first source) depth) (codeOf (now (state .entry)) i) i slot n (now (counts .entry)) ≡ whyAfter (join (now (state .entry)) (now (parts .entry)) (now (lengths .entry)) (now (places .entry)) (now (body .entry)) first source) depth r (now (counts .exit)) ⌝ }
+{
+    let code = plan_words::code_of(state, i);
+    let w = lookups::width_at(state, i);
+    if schema::formats::is_string(code) {
+        return strings::step_string(state, places, body, counts, first, i, w, slot, n);
+    }
+    if schema::formats::is_list_view(code) {
+        return lists::step_list_view(
+            state,
+            parts,
+            lengths,
+            places,
+            body,
+            counts,
+            source,
+            first,
+            i,
+            w,
+            slot,
+            n,
+            depth,
+        );
+    }
+    if schema::formats::is_list(code) {
+        return lists::step_list(state, parts, places, body, counts, first, i, w, slot, n);
+    }
+    if code == nested_rows::node_data::SPARSE {
+        return unions::step_sparse(
+            state,
+            parts,
+            lengths,
+            places,
+            body,
+            counts,
+            source,
+            first,
+            i,
+            slot,
+            n,
+            depth,
+        );
+    }
+    if code == nested_rows::node_data::DENSE {
+        return unions::step_dense(
+            state,
+            parts,
+            lengths,
+            places,
+            body,
+            counts,
+            source,
+            first,
+            i,
+            slot,
+            n,
+            depth,
+        );
+    }
+    if code == nested_rows::node_data::RUN_END {
+        return runs::step_run(state, lengths, places, body, counts, first, i, slot, n);
+    }
+    let mut none = [0u8; 0];
+    let g = nested_rows::node_data::copy_leaf(
+        state,
+        parts,
+        places,
+        body,
+        counts,
+        &mut none,
+        false,
+        source,
+        first,
+        i,
+        slot,
+        n,
+    );
+    Step::Here(plain(g))
+}
+
+// The rows a .. a + n - 1 of node i.
+fn step_node(
+    state: &[u64],
+    parts: &[u64],
+    lengths: &[u64],
+    places: &[u64],
+    body: &[u8],
+    counts: &mut [u64; 96],
+    source: usize,
+    first: usize,
+    i: usize,
+    a: u64,
+    n: u64,
+    depth: u32,
+) -> Step
+    requires { ⌜ (first < 2 ^ 32) × (source < 2 ^ 32) ⌝ }
+    ensures { λ r. ⌜ whyNode (join (now (state .entry)) (now (parts .entry)) (now (lengths .entry)) (now (places .entry)) (now (body .entry)) first source) (copyWalk (join (now (state .entry)) (now (parts .entry)) (now (lengths .entry)) (now (places .entry)) (now (body .entry)) first source) depth) (whyCopy (join (now (state .entry)) (now (parts .entry)) (now (lengths .entry)) (now (places .entry)) (now (body .entry)) first source) depth) i a n (now (counts .entry)) ≡ whyAfter (join (now (state .entry)) (now (parts .entry)) (now (lengths .entry)) (now (places .entry)) (now (body .entry)) first source) depth r (now (counts .exit)) ⌝ }
+{
+    if 32 <= i {
+        return Step::Here(plain(FOREIGN));
+    }
+    let slot = lookups::slot_of(lengths, first, i, a, n);
+    if 9223372036854775808 <= slot {
+        return Step::Here(plain(FOREIGN));
+    }
+    let mut none = [0u8; 0];
+    let g = nested_rows::node_data::copy_validity(
+        state,
+        parts,
+        places,
+        body,
+        counts,
+        &mut none,
+        false,
+        first,
+        i,
+        slot,
+        n,
+    );
+    if g != 0 {
+        return Step::Here(plain(FOREIGN));
+    }
+    step_data(
+        state,
+        parts,
+        lengths,
+        places,
+        body,
+        counts,
+        source,
+        first,
+        i,
+        slot,
+        n,
+        depth,
+    )
+}
+
+// What stops a copy of the rows a .. a + n - 1 of node i, at most `depth` levels down.
+pub fn why_walk(
+    state: &[u64],
+    parts: &[u64],
+    lengths: &[u64],
+    places: &[u64],
+    body: &[u8],
+    counts: &mut [u64; 96],
+    source: usize,
+    first: usize,
+    i: usize,
+    a: u64,
+    n: u64,
+    depth: u32,
+) -> Why
+    requires { ⌜ (first < 2 ^ 32) × (source < 2 ^ 32) ⌝ }
+    ensures { λ r. ⌜ r ≡ whyCopy (join (now (state .entry)) (now (parts .entry)) (now (lengths .entry)) (now (places .entry)) (now (body .entry)) first source) depth i a n (now (counts .entry)) ⌝ }
+{
+    let mut left = depth;
+    let mut node = i;
+    let mut start = a;
+    let mut len = n;
+    while 0 < left {
+        left -= 1;
+        match step_node(
+            state,
+            parts,
+            lengths,
+            places,
+            body,
+            counts,
+            source,
+            first,
+            node,
+            start,
+            len,
+            left,
+        ) {
+            Step::On => return plain(0),
+            Step::Here(w) => return w,
+            Step::Below { node: k, row, rows } => {
+                node = k;
+                start = row;
+                len = rows;
+            }
+        }
+    }
+    plain(FOREIGN)
+}

@@ -1,0 +1,171 @@
+// Stops at unions: the first child of a sparse one, the first row of a dense one.
+ghost use mathlib.Core.Path.{_≡_};
+ghost use mathlib.Core.List.{[]};
+ghost use Prim.Native.Nat.{_+_, _*_, _<_, _≤_, _^_};
+ghost use lib.ListN.{length};
+ghost use Rattle.walk.specs.State.{place};
+ghost use Rattle.walk.specs.Copy.{denseRow, copyWalk};
+ghost use Rattle.leaf_walk.specs.Join.{join};
+ghost use Rattle.explain.specs.stops.Copy.{whySparse, whyDenseRow, whyDense, whyCopy};
+ghost use Rattle.explain.specs.stop_walks.Step.{whyAfter, RowSays};
+use crate::stop_walks::Step;
+use crate::stops::Why;
+use array_data::lent_tables;
+use nested_rows::lookups;
+use walk::plan_words;
+
+const OFFSET: u8 = 6;
+
+const FOREIGN: u8 = 12;
+
+// A sparse union: its first child that is refused.
+pub fn step_sparse(
+    state: &[u64],
+    parts: &[u64],
+    lengths: &[u64],
+    places: &[u64],
+    body: &[u8],
+    counts: &mut [u64; 96],
+    source: usize,
+    first: usize,
+    i: usize,
+    slot: u64,
+    n: u64,
+    depth: u32,
+) -> Step
+    requires { ⌜ (first < 2 ^ 32) × (source < 2 ^ 32) × (i < 32) × (slot + n < 2 ^ 63) ⌝ }
+    ensures { λ r. ⌜ whySparse (join (now (state .entry)) (now (parts .entry)) (now (lengths .entry)) (now (places .entry)) (now (body .entry)) first source) (copyWalk (join (now (state .entry)) (now (parts .entry)) (now (lengths .entry)) (now (places .entry)) (now (body .entry)) first source) depth) (whyCopy (join (now (state .entry)) (now (parts .entry)) (now (lengths .entry)) (now (places .entry)) (now (body .entry)) first source) depth) i slot n (now (counts .entry)) ≡ whyAfter (join (now (state .entry)) (now (parts .entry)) (now (lengths .entry)) (now (places .entry)) (now (body .entry)) first source) depth r (now (counts .exit)) ⌝ }
+{
+    if !leaf_walk::rows_in(body, lent_tables::place(places, first + i, 3), 1, slot, n) {
+        return Step::Here(crate::stop_walks::plain(FOREIGN));
+    }
+    let end = plan_words::end_of(state, i);
+    let mut k = i + 1;
+    let mut t: usize = 0;
+    while t < 32 {
+        if end <= k {
+            return Step::On;
+        }
+        match crate::stop_walks::step_into(
+            state,
+            parts,
+            lengths,
+            places,
+            body,
+            counts,
+            source,
+            first,
+            k,
+            slot,
+            n,
+            depth,
+        ) {
+            Step::On => {
+                k = plan_words::end_of(state, k);
+                t += 1;
+            }
+            Step::Here(w) => return Step::Here(w),
+            Step::Below { node, row, rows } => return Step::Below { node, row, rows },
+        }
+    }
+    Step::On
+}
+
+// Row r of a dense union.
+fn dense_row(
+    state: &[u64],
+    parts: &[u64],
+    lengths: &[u64],
+    places: &[u64],
+    body: &[u8],
+    counts: &mut [u64; 96],
+    source: usize,
+    first: usize,
+    i: usize,
+    slot: u64,
+    r: u64,
+    depth: u32,
+) -> Step
+    requires { ⌜ (first < 2 ^ 32) × (source < 2 ^ 32) × (i < 32) × (slot + r + 1 < 2 ^ 63) ⌝ }
+    requires { ⌜ (place (join [] [] (now lengths) (now places) (now body) first 0) i 3 + (slot + r + 1) ≤ length (now body)) × (place (join [] [] (now lengths) (now places) (now body) first 0) i 5 + 4 * (slot + r + 1) ≤ length (now body)) ⌝ }
+    ensures { λ s. ⌜ RowSays (denseRow (join (now (state .entry)) (now (parts .entry)) (now (lengths .entry)) (now (places .entry)) (now (body .entry)) first source) (copyWalk (join (now (state .entry)) (now (parts .entry)) (now (lengths .entry)) (now (places .entry)) (now (body .entry)) first source) depth) i slot r (now (counts .entry))) (whyDenseRow (join (now (state .entry)) (now (parts .entry)) (now (lengths .entry)) (now (places .entry)) (now (body .entry)) first source) (copyWalk (join (now (state .entry)) (now (parts .entry)) (now (lengths .entry)) (now (places .entry)) (now (body .entry)) first source) depth) (whyCopy (join (now (state .entry)) (now (parts .entry)) (now (lengths .entry)) (now (places .entry)) (now (body .entry)) first source) depth) i slot r (now (counts .entry))) (join (now (state .entry)) (now (parts .entry)) (now (lengths .entry)) (now (places .entry)) (now (body .entry)) first source) depth s (now (counts .exit)) ⌝ }
+{
+    let at = lent_tables::place(places, first + i, 3) + (slot + r);
+    let id = body[at as usize];
+    let k = lookups::child_with(state, id, plan_words::end_of(state, i), i + 1);
+    if 32 <= k {
+        return Step::Here(crate::stop_walks::plain(FOREIGN));
+    }
+    let child = plan_words::rows_of(counts, k);
+    if 2147483648 <= child {
+        return Step::Here(Why {
+            ground: OFFSET,
+            node: i,
+            row: r,
+            needed: child,
+            allowed: 2147483647,
+        });
+    }
+    let position = lookups::entry_at(body, lent_tables::place(places, first + i, 5), 4, slot + r);
+    crate::stop_walks::step_into(
+        state,
+        parts,
+        lengths,
+        places,
+        body,
+        counts,
+        source,
+        first,
+        k,
+        position,
+        1,
+        depth,
+    )
+}
+
+// A dense union: its first row that is refused.
+pub fn step_dense(
+    state: &[u64],
+    parts: &[u64],
+    lengths: &[u64],
+    places: &[u64],
+    body: &[u8],
+    counts: &mut [u64; 96],
+    source: usize,
+    first: usize,
+    i: usize,
+    slot: u64,
+    n: u64,
+    depth: u32,
+) -> Step
+    requires { ⌜ (first < 2 ^ 32) × (source < 2 ^ 32) × (i < 32) × (slot + n < 2 ^ 63) ⌝ }
+    ensures { λ r. ⌜ whyDense (join (now (state .entry)) (now (parts .entry)) (now (lengths .entry)) (now (places .entry)) (now (body .entry)) first source) (copyWalk (join (now (state .entry)) (now (parts .entry)) (now (lengths .entry)) (now (places .entry)) (now (body .entry)) first source) depth) (whyCopy (join (now (state .entry)) (now (parts .entry)) (now (lengths .entry)) (now (places .entry)) (now (body .entry)) first source) depth) i slot n (now (counts .entry)) ≡ whyAfter (join (now (state .entry)) (now (parts .entry)) (now (lengths .entry)) (now (places .entry)) (now (body .entry)) first source) depth r (now (counts .exit)) ⌝ }
+{
+    if !nested_rows::pairs_in(places, body, first, i, 1, 4, slot, n) {
+        return Step::Here(crate::stop_walks::plain(FOREIGN));
+    }
+    let mut r: u64 = 0;
+    while r < n {
+        match dense_row(
+            state,
+            parts,
+            lengths,
+            places,
+            body,
+            counts,
+            source,
+            first,
+            i,
+            slot,
+            r,
+            depth,
+        ) {
+            Step::On => {
+                r += 1;
+            }
+            Step::Here(w) => return Step::Here(w),
+            Step::Below { node, row, rows } => return Step::Below { node, row, rows },
+        }
+    }
+    Step::On
+}

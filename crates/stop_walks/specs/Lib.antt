@@ -1,4 +1,0 @@
--- What a node says of the rows that it was handed.
-pub mod Step
-pub mod nulls
-pub mod stops
