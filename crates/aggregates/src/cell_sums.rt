@@ -11,11 +11,11 @@ ghost use Rattle.aggregates.specs.cell_sums.Numbers.{cellIn, maskCell, b
 ghost use Rattle.aggregates.specs.cell_sums.Steps.{untilOf};
 use crate::blocks;
 use crate::cells;
+use crate::cells::Cells;
 use crate::patterns;
 use crate::stretches;
-use crate::tally;
-use crate::cells::Cells;
 use crate::stretches::Ends;
+use crate::tally;
 use crate::tally::Cell;
 use crate::tally::Tally;
 use slot_reader::run::RowRun;

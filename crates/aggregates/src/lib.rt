@@ -19,11 +19,11 @@ ghost use Rattle.array_data.specs.entries.Entries.{column};
 ghost use Rattle.aggregates.specs.tally.Cells.{talliedBy};
 ghost use Rattle.aggregates.specs.Shape.{wholeCode, shapeOf, plainNumbers, runNumbers, numbersOf};
 ghost use Rattle.aggregates.specs.Report.{meanBy, meanReport, ratioBy, ratioReport};
-use array_data::entries;
 use crate::cell_sums::Numbers;
 use crate::stretches::Ends;
 use crate::tally::Tally;
 use crate::tally::Total;
+use array_data::entries;
 
 // The rows that are not null, their sum, and the mean in lowest terms.
 pub struct MeanReport {

@@ -20,9 +20,9 @@ ghost use Rattle.explain.specs.stops.Nulls.{walked, whyNulls};
 ghost use Rattle.explain.specs.stops.Parts.{whyParts};
 ghost use Rattle.explain.specs.stops.Order.{whyCopyOrder, whyNullOrder, whyTrip};
 ghost use Rattle.explain.specs.Explains.{Settles, Explains};
-use array_data::lent_tables;
 use crate::stops::Why;
 use crate::stops::WhyListed;
+use array_data::lent_tables;
 use walk::plan_words;
 
 mod lists;

@@ -46,7 +46,7 @@ pub fn try_nulls(
     let before = *counts;
     let mut none = [0u8; 0];
     let m = transform::at_most_far(n);
-    let g = extend_nulls::extend_nulls(state, parts, counts, &mut none, false, i, m, depth);
+    let g = extend::extend_nulls(state, parts, counts, &mut none, false, i, m, depth);
     if g != 0 {
         *counts = before;
         return g;

@@ -8,8 +8,8 @@ ghost use Rattle.plan.specs.parts.Parts.{neededBy, sizeOf, partHolds};
 ghost use Rattle.explain.specs.stops.Why.{nothing};
 ghost use Rattle.explain.specs.stops.Parts.{bytesDue, whyPart, whyParts};
 ghost use Rattle.explain.specs.Sizes.{SmallPart, SmallParts};
-use array_data::lent_tables;
 use crate::stops::Why;
+use array_data::lent_tables;
 use walk::plan_words;
 
 const TOO_SMALL: u8 = 13;

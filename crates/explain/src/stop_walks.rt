@@ -10,9 +10,9 @@ ghost use Rattle.explain.specs.stops.Copy.{most, whyData, whyNode, whyCo
 ghost use Rattle.explain.specs.stop_walks.Step.{Tried, whyAfter, RowSays};
 use crate::lists;
 use crate::runs;
+use crate::stops::Why;
 use crate::strings;
 use crate::unions;
-use crate::stops::Why;
 use nested_rows::lookups;
 use walk::plan_words;
 

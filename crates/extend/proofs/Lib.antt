@@ -1,3 +1,4 @@
--- What the cycle of a copy goes by.
+-- What the cycles of a copy and of nulls go by.
 pub mod Laws
 pub mod Listed
+pub mod NullLaws

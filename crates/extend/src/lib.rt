@@ -1,41 +1,27 @@
-// The walk of a copy: a node hands rows to its children, whose walk does the same one level down, so that the remaining depth falls.
-// The answer is 0 or the ground of refusal; a walk that only tries changes the counters alone.
-// Follows arrow-data 60.1.0 src/transform/mod.rs and union.rs, Apache-2.0; see NOTICE.
+// The walk of an order, of a copy and of nulls: a node hands rows to its children, whose walk does the same one level down, so that the remaining
+// depth falls. The answer is 0 or the ground of refusal; a walk that only tries changes the counters alone, and one of nulls reads no source.
+// Follows arrow-data 60.1.0 src/transform/mod.rs, Apache-2.0; see NOTICE.
 ghost use mathlib.Core.Path.{_≡_};
+ghost use mathlib.Core.Bool.{true, _||_};
 ghost use mathlib.Core.List.{[]};
-ghost use Prim.Native.Nat.{_+_, _*_, _<_, _≤_, _^_};
-ghost use lib.ListN.{length};
-ghost use Rattle.walk.specs.State.{codeOf, place};
+ghost use Prim.Native.Nat.{_+_, _<_, _^_};
+ghost use Rattle.schema.specs.formats.Code.{isListView, isList};
+ghost use Rattle.walk.specs.State.{codeOf};
 ghost use Rattle.walk.specs.Log.{Did};
-ghost use Rattle.walk.specs.Copy.{copySparse, denseRow, copyDense, copyData, copyWalk};
+ghost use Rattle.walk.specs.Copy.{copyData, copyWalk};
+ghost use Rattle.walk.specs.Nulls.{nullData, nullWalk};
 ghost use Rattle.leaf_walk.specs.Join.{join};
-use array_data::lent_tables;
 use nested_rows::lookups;
+use nested_rows::node_data;
 use walk::plan_words;
 
-mod lists;
-mod runs;
+mod list;
+mod list_view;
+mod run;
+mod union;
 
-// The first of a sparse union's ids that is copied: at its slot, in which the array's offset is counted once.
-fn first_id(slot: u64) -> u64
-    requires { ⌜ slot < 2 ^ 63 ⌝ }
-    ensures { λ r. ⌜ r ≡ slot ⌝ }
-{
-    let id = slot;
-    id
-}
-
-// The first row of every child that is copied: at the union's slot likewise.
-fn first_row(slot: u64) -> u64
-    requires { ⌜ slot < 2 ^ 63 ⌝ }
-    ensures { λ r. ⌜ r ≡ slot ⌝ }
-{
-    let row = slot;
-    row
-}
-
-// A sparse union: its ids, then the same slots of every child.
-fn extend_sparse(
+// A list-view or a list.
+fn extend_listed(
     state: &[u64],
     parts: &[u64],
     lengths: &[u64],
@@ -52,135 +38,12 @@ fn extend_sparse(
     depth: u32,
 ) -> u8
     requires { ⌜ (first < 2 ^ 32) × (source < 2 ^ 32) × (i < 32) × (slot + n < 2 ^ 63) ⌝ }
-    ensures { λ g. ⌜ Did (now (state .entry)) (now (parts .entry)) write (copySparse (join (now (state .entry)) (now (parts .entry)) (now (lengths .entry)) (now (places .entry)) (now (body .entry)) first source) (copyWalk (join (now (state .entry)) (now (parts .entry)) (now (lengths .entry)) (now (places .entry)) (now (body .entry)) first source) depth) i slot n (now (counts .entry))) (now (room .entry)) g (now (counts .exit)) (now (room .exit)) ⌝ }
+    requires { ⌜ (isListView (codeOf (now state) i) || isList (codeOf (now state) i)) ≡ true ⌝ }
+    ensures { λ g. ⌜ Did (now (state .entry)) (now (parts .entry)) write (copyData (join (now (state .entry)) (now (parts .entry)) (now (lengths .entry)) (now (places .entry)) (now (body .entry)) first source) (copyWalk (join (now (state .entry)) (now (parts .entry)) (now (lengths .entry)) (now (places .entry)) (now (body .entry)) first source) depth) (codeOf (now (state .entry)) i) i slot n (now (counts .entry))) (now (room .entry)) g (now (counts .exit)) (now (room .exit)) ⌝ }
 {
-    let ids = first_id(slot);
-    let row = first_row(slot);
-    let g = leaf_walk::copy_numbers(
-        state,
-        parts,
-        places,
-        body,
-        counts,
-        room,
-        write,
-        first,
-        i,
-        1,
-        ids,
-        n,
-    );
-    if g != 0 {
-        return g;
-    }
-    let end = plan_words::end_of(state, i);
-    let mut k = i + 1;
-    let mut t: usize = 0;
-    while t < 32 {
-        if end <= k {
-            return 0;
-        }
-        let g = extend(
-            state,
-            parts,
-            lengths,
-            places,
-            body,
-            counts,
-            room,
-            write,
-            source,
-            first,
-            k,
-            row,
-            n,
-            depth,
-        );
-        if g != 0 {
-            return g;
-        }
-        k = plan_words::end_of(state, k);
-        t += 1;
-    }
-    0
-}
-
-// Row r of a dense union: one row of the child with its id.
-fn extend_dense_row(
-    state: &[u64],
-    parts: &[u64],
-    lengths: &[u64],
-    places: &[u64],
-    body: &[u8],
-    counts: &mut [u64; 96],
-    room: &mut [u8],
-    write: bool,
-    source: usize,
-    first: usize,
-    i: usize,
-    slot: u64,
-    r: u64,
-    depth: u32,
-) -> u8
-    requires { ⌜ (first < 2 ^ 32) × (source < 2 ^ 32) × (i < 32) × (slot + r + 1 < 2 ^ 63) ⌝ }
-    requires { ⌜ (place (join [] [] (now lengths) (now places) (now body) first 0) i 3 + (slot + r + 1) ≤ length (now body)) × (place (join [] [] (now lengths) (now places) (now body) first 0) i 5 + 4 * (slot + r + 1) ≤ length (now body)) ⌝ }
-    ensures { λ g. ⌜ Did (now (state .entry)) (now (parts .entry)) write (denseRow (join (now (state .entry)) (now (parts .entry)) (now (lengths .entry)) (now (places .entry)) (now (body .entry)) first source) (copyWalk (join (now (state .entry)) (now (parts .entry)) (now (lengths .entry)) (now (places .entry)) (now (body .entry)) first source) depth) i slot r (now (counts .entry))) (now (room .entry)) g (now (counts .exit)) (now (room .exit)) ⌝ }
-{
-    let at = lent_tables::place(places, first + i, 3) + (slot + r);
-    let id = body[at as usize];
-    let k = lookups::child_with(state, id, plan_words::end_of(state, i), i + 1);
-    if 32 <= k {
-        return 12;
-    }
-    let g = nested_rows::dense_numbers(state, parts, counts, room, write, i, r, k, id);
-    if g != 0 {
-        return g;
-    }
-    let position = lookups::entry_at(body, lent_tables::place(places, first + i, 5), 4, slot + r);
-    extend(
-        state,
-        parts,
-        lengths,
-        places,
-        body,
-        counts,
-        room,
-        write,
-        source,
-        first,
-        k,
-        position,
-        1,
-        depth,
-    )
-}
-
-// A dense union, row by row.
-fn extend_dense(
-    state: &[u64],
-    parts: &[u64],
-    lengths: &[u64],
-    places: &[u64],
-    body: &[u8],
-    counts: &mut [u64; 96],
-    room: &mut [u8],
-    write: bool,
-    source: usize,
-    first: usize,
-    i: usize,
-    slot: u64,
-    n: u64,
-    depth: u32,
-) -> u8
-    requires { ⌜ (first < 2 ^ 32) × (source < 2 ^ 32) × (i < 32) × (slot + n < 2 ^ 63) ⌝ }
-    ensures { λ g. ⌜ Did (now (state .entry)) (now (parts .entry)) write (copyDense (join (now (state .entry)) (now (parts .entry)) (now (lengths .entry)) (now (places .entry)) (now (body .entry)) first source) (copyWalk (join (now (state .entry)) (now (parts .entry)) (now (lengths .entry)) (now (places .entry)) (now (body .entry)) first source) depth) i slot n (now (counts .entry))) (now (room .entry)) g (now (counts .exit)) (now (room .exit)) ⌝ }
-{
-    if !nested_rows::pairs_in(places, body, first, i, 1, 4, slot, n) {
-        return 12;
-    }
-    let mut r: u64 = 0;
-    while r < n {
-        let g = extend_dense_row(
+    let w = lookups::width_at(state, i);
+    if schema::formats::is_list(plan_words::code_of(state, i)) {
+        return list::extend_list(
             state,
             parts,
             lengths,
@@ -192,16 +55,29 @@ fn extend_dense(
             source,
             first,
             i,
+            w,
             slot,
-            r,
+            n,
             depth,
         );
-        if g != 0 {
-            return g;
-        }
-        r += 1;
     }
-    0
+    list_view::extend_list_view(
+        state,
+        parts,
+        lengths,
+        places,
+        body,
+        counts,
+        room,
+        write,
+        source,
+        first,
+        i,
+        w,
+        slot,
+        n,
+        depth,
+    )
 }
 
 // The data of a node by its format's code.
@@ -226,7 +102,7 @@ fn extend_data(
 {
     let code = plan_words::code_of(state, i);
     if schema::formats::is_list_view(code) | schema::formats::is_list(code) {
-        return lists::extend_listed(
+        return extend_listed(
             state,
             parts,
             lengths,
@@ -243,8 +119,8 @@ fn extend_data(
             depth,
         );
     }
-    if code == nested_rows::node_data::SPARSE {
-        return extend_sparse(
+    if code == node_data::SPARSE {
+        return union::extend_sparse(
             state,
             parts,
             lengths,
@@ -261,8 +137,8 @@ fn extend_data(
             depth,
         );
     }
-    if code == nested_rows::node_data::DENSE {
-        return extend_dense(
+    if code == node_data::DENSE {
+        return union::extend_dense(
             state,
             parts,
             lengths,
@@ -279,8 +155,8 @@ fn extend_data(
             depth,
         );
     }
-    if code == nested_rows::node_data::RUN_END {
-        return runs::extend_run(
+    if code == node_data::RUN_END {
+        return run::extend_run(
             state,
             parts,
             lengths,
@@ -297,7 +173,7 @@ fn extend_data(
             depth,
         );
     }
-    nested_rows::node_data::copy_leaf(
+    node_data::copy_leaf(
         state,
         parts,
         places,
@@ -343,7 +219,7 @@ pub fn extend(
     if 9223372036854775808 <= slot {
         return 12;
     }
-    let g = nested_rows::node_data::copy_validity(
+    let g = node_data::copy_validity(
         state,
         parts,
         places,
@@ -375,6 +251,67 @@ pub fn extend(
         n,
         depth - 1,
     );
+    if g != 0 {
+        return g;
+    }
+    plan_words::add_rows(counts, i, n);
+    0
+}
+
+// The data of a node by its format's code.
+fn extend_nulls_data(
+    state: &[u64],
+    parts: &[u64],
+    counts: &mut [u64; 96],
+    room: &mut [u8],
+    write: bool,
+    i: usize,
+    n: u64,
+    depth: u32,
+) -> u8
+    requires { ⌜ i < 32 ⌝ }
+    ensures { λ g. ⌜ Did (now (state .entry)) (now (parts .entry)) write (nullData (join (now (state .entry)) (now (parts .entry)) [] [] [] 0 0) (nullWalk (join (now (state .entry)) (now (parts .entry)) [] [] [] 0 0) depth) (codeOf (now (state .entry)) i) i n (now (counts .entry))) (now (room .entry)) g (now (counts .exit)) (now (room .exit)) ⌝ }
+{
+    let code = plan_words::code_of(state, i);
+    if code == node_data::SPARSE {
+        return union::extend_nulls_sparse(state, parts, counts, room, write, i, n, depth);
+    }
+    if code == node_data::DENSE {
+        return union::extend_nulls_dense(state, parts, counts, room, write, i, n, depth);
+    }
+    if code == node_data::RUN_END {
+        return run::extend_nulls_run(state, parts, counts, room, write, i, n, depth);
+    }
+    node_data::null_leaf(state, parts, counts, room, write, i, n)
+}
+
+// n nulls of node i, at most `depth` levels down.
+pub fn extend_nulls(
+    state: &[u64],
+    parts: &[u64],
+    counts: &mut [u64; 96],
+    room: &mut [u8],
+    write: bool,
+    i: usize,
+    n: u64,
+    depth: u32,
+) -> u8
+    ensures { λ g. ⌜ Did (now (state .entry)) (now (parts .entry)) write (nullWalk (join (now (state .entry)) (now (parts .entry)) [] [] [] 0 0) depth i n (now (counts .entry))) (now (room .entry)) g (now (counts .exit)) (now (room .exit)) ⌝ }
+{
+    if depth == 0 {
+        return 12;
+    }
+    if n == 0 {
+        return 0;
+    }
+    if 32 <= i {
+        return 12;
+    }
+    let g = extend_nulls_data(state, parts, counts, room, write, i, n, depth - 1);
+    if g != 0 {
+        return g;
+    }
+    let g = node_data::null_validity(state, parts, counts, room, write, i, n);
     if g != 0 {
         return g;
     }

@@ -127,7 +127,7 @@ pub fn measure_nulls(plan: &[u64], counters: &mut [u64], n: u64) -> u8
     let mut room = [0u8; 0];
     let mut counts = transform::load(counters);
     let m = transform::at_most_far(n);
-    let g = extend_nulls::extend_nulls(plan, &parts, &mut counts, &mut room, false, 0, m, 8);
+    let g = extend::extend_nulls(plan, &parts, &mut counts, &mut room, false, 0, m, 8);
     if g != 0 {
         return g;
     }

@@ -314,7 +314,7 @@ fn add_nulls(plan: &[u64], parts: &[u64], counters: &mut [u64], room: &mut [u8],
     ensures { λ r. ⌜ ((sources lengths places body : List ℕ) → Answers (settled (lent (now (plan .entry)) (now (parts .entry)) sources lengths places body) (now (counters .entry)) (now (room .entry)) (nullWalk (join (now (plan .entry)) (now (parts .entry)) [] [] [] 0 0) 8 0 n (now (counters .entry)))) r (now (counters .exit)) (now (room .exit))) ⌝ }
 {
     let mut counts = load(counters);
-    let g = extend_nulls::extend_nulls(plan, parts, &mut counts, room, false, 0, n, 8);
+    let g = extend::extend_nulls(plan, parts, &mut counts, room, false, 0, n, 8);
     if g != 0 {
         return g;
     }
@@ -324,7 +324,7 @@ fn add_nulls(plan: &[u64], parts: &[u64], counters: &mut [u64], room: &mut [u8],
     }
     let nodes = plan::parts::node_count(plan);
     tried_counters::reload(&mut counts, counters, nodes);
-    let g = extend_nulls::extend_nulls(plan, parts, &mut counts, room, true, 0, n, 8);
+    let g = extend::extend_nulls(plan, parts, &mut counts, room, true, 0, n, 8);
     tried_counters::keep(counters, &counts, nodes);
     g
 }

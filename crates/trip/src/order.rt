@@ -90,7 +90,7 @@ fn walk_nulls(
         return KEEPS_NO_NULLS;
     }
     let m = transform::at_most_far(n);
-    extend_nulls::extend_nulls(plan, parts, counts, room, write, 0, m, 8)
+    extend::extend_nulls(plan, parts, counts, room, write, 0, m, 8)
 }
 
 // The order of four words.

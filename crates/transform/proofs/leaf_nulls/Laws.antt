@@ -22,7 +22,7 @@ use Rattle.leaf_walk.proofs.Laws.{wrote-at}
 use Rattle.leaf_walk.proofs.Widths.{string-width}
 use Rattle.leaf_walk.proofs.variable_size.Laws.{wrote-next}
 use Rattle.nested_rows.proofs.node_data.Laws.{null-numbers, null-string, null-views, nulls-masked, on-numbers, on-string, on-views}
-use Rattle.extend_nulls.proofs.Laws.{at-done}
+use Rattle.extend.proofs.NullLaws.{at-done}
 use Rattle.plan.specs.parts.Parts.{entrySize, partsWithin, partsHold}
 use Rattle.sound.specs.trying.Alike.{Alike}
 use Rattle.sound.proofs.trying.Laws.{alike-refl}

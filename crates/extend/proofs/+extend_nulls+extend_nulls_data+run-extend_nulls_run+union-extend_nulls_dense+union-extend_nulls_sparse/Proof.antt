@@ -10,25 +10,25 @@ use Rattle.walk.specs.Nulls.{nullFields, nullWalk}
 use Rattle.walk.proofs.Laws.{Rest}
 use Rattle.leaf_walk.specs.Join.{join}
 use Rattle.nested_rows.proofs.Laws.{ends-ready}
-use Rattle.extend_nulls.proofs.Laws.{at-none, at-zero, at-out, at-data, at-valid, at-done, leaf-code, to-sparse, to-dense, to-runs, fields-none, fields-over, fields-stop, fields-more, sparse-none, sparse-stop, sparse-go, dense-none, dense-stop, dense-go, runs-none, runs-grow, runs-stop, runs-go}
+use Rattle.extend.proofs.NullLaws.{at-none, at-zero, at-out, at-data, at-valid, at-done, leaf-code, to-sparse, to-dense, to-runs, fields-none, fields-over, fields-stop, fields-more, sparse-none, sparse-stop, sparse-go, dense-none, dense-stop, dense-go, runs-none, runs-grow, runs-stop, runs-go}
 use Prim.Native.Nat.{ℕ, _<_}
 use borrow.Fn.Kinds.{In}
 use borrow.Fn.PlainCycle.{Measures, is, falls, and}
-use Rattle.extend_nulls.proofs.extend_nulls.Reads as extend-nulls
-use Rattle.extend_nulls.proofs.extend_nulls.Kinds as extend-nulls-kinds
-use Rattle.extend_nulls.proofs.+extend_nulls+extend_nulls_data+extend_nulls_dense+extend_nulls_run+extend_nulls_sparse.Lts-extend_nulls as extend-nulls-lts
-use Rattle.extend_nulls.proofs.extend_nulls_data.Reads as extend-nulls-data
-use Rattle.extend_nulls.proofs.extend_nulls_data.Kinds as extend-nulls-data-kinds
-use Rattle.extend_nulls.proofs.+extend_nulls+extend_nulls_data+extend_nulls_dense+extend_nulls_run+extend_nulls_sparse.Lts-extend_nulls_data as extend-nulls-data-lts
-use Rattle.extend_nulls.proofs.extend_nulls_dense.Reads as extend-nulls-dense
-use Rattle.extend_nulls.proofs.extend_nulls_dense.Kinds as extend-nulls-dense-kinds
-use Rattle.extend_nulls.proofs.+extend_nulls+extend_nulls_data+extend_nulls_dense+extend_nulls_run+extend_nulls_sparse.Lts-extend_nulls_dense as extend-nulls-dense-lts
-use Rattle.extend_nulls.proofs.extend_nulls_run.Reads as extend-nulls-run
-use Rattle.extend_nulls.proofs.extend_nulls_run.Kinds as extend-nulls-run-kinds
-use Rattle.extend_nulls.proofs.+extend_nulls+extend_nulls_data+extend_nulls_dense+extend_nulls_run+extend_nulls_sparse.Lts-extend_nulls_run as extend-nulls-run-lts
-use Rattle.extend_nulls.proofs.extend_nulls_sparse.Reads as extend-nulls-sparse
-use Rattle.extend_nulls.proofs.extend_nulls_sparse.Kinds as extend-nulls-sparse-kinds
-use Rattle.extend_nulls.proofs.+extend_nulls+extend_nulls_data+extend_nulls_dense+extend_nulls_run+extend_nulls_sparse.Lts-extend_nulls_sparse as extend-nulls-sparse-lts
+use Rattle.extend.proofs.extend_nulls.Reads as extend-nulls
+use Rattle.extend.proofs.extend_nulls.Kinds as extend-nulls-kinds
+use Rattle.extend.proofs.+extend_nulls+extend_nulls_data+run-extend_nulls_run+union-extend_nulls_dense+union-extend_nulls_sparse.Lts-extend_nulls as extend-nulls-lts
+use Rattle.extend.proofs.extend_nulls_data.Reads as extend-nulls-data
+use Rattle.extend.proofs.extend_nulls_data.Kinds as extend-nulls-data-kinds
+use Rattle.extend.proofs.+extend_nulls+extend_nulls_data+run-extend_nulls_run+union-extend_nulls_dense+union-extend_nulls_sparse.Lts-extend_nulls_data as extend-nulls-data-lts
+use Rattle.extend.proofs.union.extend_nulls_dense.Reads as extend-nulls-dense
+use Rattle.extend.proofs.union.extend_nulls_dense.Kinds as extend-nulls-dense-kinds
+use Rattle.extend.proofs.+extend_nulls+extend_nulls_data+run-extend_nulls_run+union-extend_nulls_dense+union-extend_nulls_sparse.Lts-union-extend_nulls_dense as extend-nulls-dense-lts
+use Rattle.extend.proofs.run.extend_nulls_run.Reads as extend-nulls-run
+use Rattle.extend.proofs.run.extend_nulls_run.Kinds as extend-nulls-run-kinds
+use Rattle.extend.proofs.+extend_nulls+extend_nulls_data+run-extend_nulls_run+union-extend_nulls_dense+union-extend_nulls_sparse.Lts-run-extend_nulls_run as extend-nulls-run-lts
+use Rattle.extend.proofs.union.extend_nulls_sparse.Reads as extend-nulls-sparse
+use Rattle.extend.proofs.union.extend_nulls_sparse.Kinds as extend-nulls-sparse-kinds
+use Rattle.extend.proofs.+extend_nulls+extend_nulls_data+run-extend_nulls_run+union-extend_nulls_dense+union-extend_nulls_sparse.Lts-union-extend_nulls_sparse as extend-nulls-sparse-lts
 use Rattle.walk.proofs.plan_words.add_rows.Reads as add-rows-reads
 use Rattle.walk.proofs.plan_words.bytes_of.Reads as bytes-of-reads
 use Rattle.walk.proofs.plan_words.code_of.Reads as code-of-reads
@@ -42,10 +42,10 @@ use Rattle.nested_rows.proofs.null_end.Reads as null-end-reads
 use Rattle.nested_rows.proofs.null_home.Reads as null-home-reads
 use Rattle.nested_rows.proofs.null_ids.Reads as null-ids-reads
 use Rattle.nested_rows.proofs.null_positions.Reads as null-positions-reads
-use Rattle.extend_nulls.proofs.+extend_nulls+extend_nulls_data+extend_nulls_dense+extend_nulls_run+extend_nulls_sparse.{
+use Rattle.extend.proofs.+extend_nulls+extend_nulls_data+run-extend_nulls_run+union-extend_nulls_dense+union-extend_nulls_sparse.{
   statement,
 }
-use Rattle.extend_nulls.proofs.+extend_nulls+extend_nulls_data+extend_nulls_dense+extend_nulls_run+extend_nulls_sparse.Tie.{
+use Rattle.extend.proofs.+extend_nulls+extend_nulls_data+run-extend_nulls_run+union-extend_nulls_dense+union-extend_nulls_sparse.Tie.{
   close,
 }
 
@@ -426,14 +426,14 @@ extend-nulls-sparse-returns-5 t c =
     let l = c .before .loop in
     sparse-go (join (a .state .now) (a .parts .now) [] [] [] 0 0) (nullWalk (join (a .state .now) (a .parts .now) [] [] [] 0 0) (a .depth)) (a .write) (a .i) (a .n) (a .counts .now) (a .room .now) (c .before .before .before .before .before .before .before .before .before .before .null-home .ensures .0) (c .before .before .before .before .before .before .before .before .before .if1 .left) (c .before .before .before .before .before .before .null-ids .ensures) (c .before .before .before .if2 .left) (c .before .before .end-of .ensures .0) (add-one (a .i)) (l .inv .2 _ _ _ (fields-over (join (a .state .now) (a .parts .now) [] [] [] 0 0) (nullWalk (join (a .state .now) (a .parts .now) [] [] [] 0 0) (a .depth)) (a .write) (a .n) (c .before .before .end-of .result) (l .k) _ _ (omega arith)))
 
-pub +extend-nulls+extend-nulls-data+extend-nulls-dense+extend-nulls-run+extend-nulls-sparse-spec :
+pub +extend-nulls+extend-nulls-data+run·extend-nulls-run+union·extend-nulls-dense+union·extend-nulls-sparse-spec :
     {M : Type 1} → statement M
-+extend-nulls+extend-nulls-data+extend-nulls-dense+extend-nulls-run+extend-nulls-sparse-spec =
++extend-nulls+extend-nulls-data+run·extend-nulls-run+union·extend-nulls-dense+union·extend-nulls-sparse-spec =
     close
     μ-extend-nulls
     μ-extend-nulls-data
-    μ-extend-nulls-dense
     μ-extend-nulls-run
+    μ-extend-nulls-dense
     μ-extend-nulls-sparse
     (λ t. extend-nulls-lts.spec (extend-nulls-cs t)
     (extend-nulls-at t)
@@ -467,18 +467,6 @@ pub +extend-nulls+extend-nulls-data+extend-nulls-dense+extend-nulls-run+extend-n
     (extend-nulls-data-null-leaf-requires t)
     (extend-nulls-data-same-length-4 t)
     (extend-nulls-data-returns-4 t))
-    (λ t. extend-nulls-dense-lts.spec (extend-nulls-dense-cs t)
-    (extend-nulls-dense-at t)
-    extend-nulls-dense.Post
-    (extend-nulls-dense-null-home-requires t)
-    (extend-nulls-dense-no-home-requires t)
-    (extend-nulls-dense-returns t)
-    (extend-nulls-dense-null-positions-requires t)
-    (extend-nulls-dense-same-length t)
-    (extend-nulls-dense-returns-2 t)
-    (extend-nulls-dense-extend-nulls-requires t)
-    (extend-nulls-dense-same-length-2 t)
-    (extend-nulls-dense-returns-3 t))
     (λ t. extend-nulls-run-lts.spec (extend-nulls-run-cs t)
     (extend-nulls-run-at t)
     extend-nulls-run.Post
@@ -495,7 +483,19 @@ pub +extend-nulls+extend-nulls-data+extend-nulls-dense+extend-nulls-run+extend-n
     (extend-nulls-run-null-end-requires t)
     (extend-nulls-run-same-length-3 t)
     (extend-nulls-run-returns-4 t))
-    λ t. extend-nulls-sparse-lts.spec (extend-nulls-sparse-cs t)
+    (λ t. extend-nulls-dense-lts.spec (extend-nulls-dense-cs t)
+    (extend-nulls-dense-at t)
+    extend-nulls-dense.Post
+    (extend-nulls-dense-null-home-requires t)
+    (extend-nulls-dense-no-home-requires t)
+    (extend-nulls-dense-returns t)
+    (extend-nulls-dense-null-positions-requires t)
+    (extend-nulls-dense-same-length t)
+    (extend-nulls-dense-returns-2 t)
+    (extend-nulls-dense-extend-nulls-requires t)
+    (extend-nulls-dense-same-length-2 t)
+    (extend-nulls-dense-returns-3 t))
+    (λ t. extend-nulls-sparse-lts.spec (extend-nulls-sparse-cs t)
     (extend-nulls-sparse-at t)
     extend-nulls-sparse.Post
     extend-nulls-sparse-Inv-loop
@@ -519,4 +519,4 @@ pub +extend-nulls+extend-nulls-data+extend-nulls-dense+extend-nulls-run+extend-n
     (extend-nulls-sparse-loop-less t)
     (extend-nulls-sparse-loop-again t)
     (extend-nulls-sparse-same-length-4 t)
-    (extend-nulls-sparse-returns-5 t)
+    (extend-nulls-sparse-returns-5 t))

@@ -1,8 +1,10 @@
-// The walk of a copy at run-end nodes.
+// Run-end nodes: copies and nulls.
 // Follows arrow-data 60.1.0 src/transform/run.rs, Apache-2.0; see NOTICE.
+ghost use mathlib.Core.List.{[]};
 ghost use Prim.Native.Nat.{_+_, _<_, _^_};
 ghost use Rattle.walk.specs.Log.{Did};
-ghost use Rattle.walk.specs.Copy.{copyRuns, copyWalk};
+ghost use Rattle.walk.specs.Copy.{copyWalk, copyRuns};
+ghost use Rattle.walk.specs.Nulls.{nullRuns, nullWalk};
 ghost use Rattle.leaf_walk.specs.Join.{join};
 use nested_rows::lookups;
 use run_ends::LogicalRow;
@@ -81,4 +83,31 @@ pub fn extend_run(
         }
         Runs::None => 12,
     }
+}
+
+// A run-end node: where its last run is one of null orders alone, it grows by n rows; else one null value, and one run of n rows.
+pub fn extend_nulls_run(
+    state: &[u64],
+    parts: &[u64],
+    counts: &mut [u64; 96],
+    room: &mut [u8],
+    write: bool,
+    i: usize,
+    n: u64,
+    depth: u32,
+) -> u8
+    requires { ⌜ i < 32 ⌝ }
+    ensures { λ g. ⌜ Did (now (state .entry)) (now (parts .entry)) write (nullRuns (join (now (state .entry)) (now (parts .entry)) [] [] [] 0 0) (nullWalk (join (now (state .entry)) (now (parts .entry)) [] [] [] 0 0) depth) i n (now (counts .entry))) (now (room .entry)) g (now (counts .exit)) (now (room .exit)) ⌝ }
+{
+    if !nested_rows::has_ends(state, i) {
+        return 12;
+    }
+    if plan_words::bytes_of(counts, i) == 2 {
+        return nested_rows::longer_end(state, parts, counts, room, write, i, n);
+    }
+    let g = crate::extend_nulls(state, parts, counts, room, write, i + 2, 1, depth);
+    if g != 0 {
+        return g;
+    }
+    nested_rows::null_end(state, parts, counts, room, write, i, n)
 }

@@ -21,36 +21,36 @@ use borrow.Fn.Kinds.{In}
 use borrow.Fn.PlainCycle.{Measures, is, falls, and}
 use Rattle.extend.proofs.extend.Reads as extend
 use Rattle.extend.proofs.extend.Kinds as extend-kinds
-use Rattle.extend.proofs.+extend+extend_data+extend_dense+extend_dense_row+extend_sparse+lists-extend_list+lists-extend_list_row+lists-extend_list_view+lists-extend_listed+runs-extend_run.Lts-extend as extend-lts
+use Rattle.extend.proofs.+extend+extend_data+extend_listed+list-extend_list+list_view-extend_list_row+list_view-extend_list_view+run-extend_run+union-extend_dense+union-extend_dense_row+union-extend_sparse.Lts-extend as extend-lts
 use Rattle.extend.proofs.extend_data.Reads as extend-data
 use Rattle.extend.proofs.extend_data.Kinds as extend-data-kinds
-use Rattle.extend.proofs.+extend+extend_data+extend_dense+extend_dense_row+extend_sparse+lists-extend_list+lists-extend_list_row+lists-extend_list_view+lists-extend_listed+runs-extend_run.Lts-extend_data as extend-data-lts
-use Rattle.extend.proofs.extend_dense.Reads as extend-dense
-use Rattle.extend.proofs.extend_dense.Kinds as extend-dense-kinds
-use Rattle.extend.proofs.+extend+extend_data+extend_dense+extend_dense_row+extend_sparse+lists-extend_list+lists-extend_list_row+lists-extend_list_view+lists-extend_listed+runs-extend_run.Lts-extend_dense as extend-dense-lts
-use Rattle.extend.proofs.extend_dense_row.Reads as extend-dense-row
-use Rattle.extend.proofs.extend_dense_row.Kinds as extend-dense-row-kinds
-use Rattle.extend.proofs.+extend+extend_data+extend_dense+extend_dense_row+extend_sparse+lists-extend_list+lists-extend_list_row+lists-extend_list_view+lists-extend_listed+runs-extend_run.Lts-extend_dense_row as extend-dense-row-lts
-use Rattle.extend.proofs.lists.extend_list.Reads as extend-list
-use Rattle.extend.proofs.lists.extend_list.Kinds as extend-list-kinds
-use Rattle.extend.proofs.+extend+extend_data+extend_dense+extend_dense_row+extend_sparse+lists-extend_list+lists-extend_list_row+lists-extend_list_view+lists-extend_listed+runs-extend_run.Lts-lists-extend_list as extend-list-lts
-use Rattle.extend.proofs.lists.extend_list_row.Reads as extend-list-row
-use Rattle.extend.proofs.lists.extend_list_row.Kinds as extend-list-row-kinds
-use Rattle.extend.proofs.+extend+extend_data+extend_dense+extend_dense_row+extend_sparse+lists-extend_list+lists-extend_list_row+lists-extend_list_view+lists-extend_listed+runs-extend_run.Lts-lists-extend_list_row as extend-list-row-lts
-use Rattle.extend.proofs.lists.extend_list_view.Reads as extend-list-view
-use Rattle.extend.proofs.lists.extend_list_view.Kinds as extend-list-view-kinds
-use Rattle.extend.proofs.+extend+extend_data+extend_dense+extend_dense_row+extend_sparse+lists-extend_list+lists-extend_list_row+lists-extend_list_view+lists-extend_listed+runs-extend_run.Lts-lists-extend_list_view as extend-list-view-lts
-use Rattle.extend.proofs.lists.extend_listed.Reads as extend-listed
-use Rattle.extend.proofs.lists.extend_listed.Kinds as extend-listed-kinds
-use Rattle.extend.proofs.+extend+extend_data+extend_dense+extend_dense_row+extend_sparse+lists-extend_list+lists-extend_list_row+lists-extend_list_view+lists-extend_listed+runs-extend_run.Lts-lists-extend_listed as extend-listed-lts
-use Rattle.extend.proofs.runs.extend_run.Reads as extend-run
-use Rattle.extend.proofs.runs.extend_run.Kinds as extend-run-kinds
-use Rattle.extend.proofs.+extend+extend_data+extend_dense+extend_dense_row+extend_sparse+lists-extend_list+lists-extend_list_row+lists-extend_list_view+lists-extend_listed+runs-extend_run.Lts-runs-extend_run as extend-run-lts
-use Rattle.extend.proofs.extend_sparse.Reads as extend-sparse
-use Rattle.extend.proofs.extend_sparse.Kinds as extend-sparse-kinds
-use Rattle.extend.proofs.+extend+extend_data+extend_dense+extend_dense_row+extend_sparse+lists-extend_list+lists-extend_list_row+lists-extend_list_view+lists-extend_listed+runs-extend_run.Lts-extend_sparse as extend-sparse-lts
-use Rattle.extend.proofs.first_id.Reads as first-id-reads
-use Rattle.extend.proofs.first_row.Reads as first-row-reads
+use Rattle.extend.proofs.+extend+extend_data+extend_listed+list-extend_list+list_view-extend_list_row+list_view-extend_list_view+run-extend_run+union-extend_dense+union-extend_dense_row+union-extend_sparse.Lts-extend_data as extend-data-lts
+use Rattle.extend.proofs.union.extend_dense.Reads as extend-dense
+use Rattle.extend.proofs.union.extend_dense.Kinds as extend-dense-kinds
+use Rattle.extend.proofs.+extend+extend_data+extend_listed+list-extend_list+list_view-extend_list_row+list_view-extend_list_view+run-extend_run+union-extend_dense+union-extend_dense_row+union-extend_sparse.Lts-union-extend_dense as extend-dense-lts
+use Rattle.extend.proofs.union.extend_dense_row.Reads as extend-dense-row
+use Rattle.extend.proofs.union.extend_dense_row.Kinds as extend-dense-row-kinds
+use Rattle.extend.proofs.+extend+extend_data+extend_listed+list-extend_list+list_view-extend_list_row+list_view-extend_list_view+run-extend_run+union-extend_dense+union-extend_dense_row+union-extend_sparse.Lts-union-extend_dense_row as extend-dense-row-lts
+use Rattle.extend.proofs.list.extend_list.Reads as extend-list
+use Rattle.extend.proofs.list.extend_list.Kinds as extend-list-kinds
+use Rattle.extend.proofs.+extend+extend_data+extend_listed+list-extend_list+list_view-extend_list_row+list_view-extend_list_view+run-extend_run+union-extend_dense+union-extend_dense_row+union-extend_sparse.Lts-list-extend_list as extend-list-lts
+use Rattle.extend.proofs.list_view.extend_list_row.Reads as extend-list-row
+use Rattle.extend.proofs.list_view.extend_list_row.Kinds as extend-list-row-kinds
+use Rattle.extend.proofs.+extend+extend_data+extend_listed+list-extend_list+list_view-extend_list_row+list_view-extend_list_view+run-extend_run+union-extend_dense+union-extend_dense_row+union-extend_sparse.Lts-list_view-extend_list_row as extend-list-row-lts
+use Rattle.extend.proofs.list_view.extend_list_view.Reads as extend-list-view
+use Rattle.extend.proofs.list_view.extend_list_view.Kinds as extend-list-view-kinds
+use Rattle.extend.proofs.+extend+extend_data+extend_listed+list-extend_list+list_view-extend_list_row+list_view-extend_list_view+run-extend_run+union-extend_dense+union-extend_dense_row+union-extend_sparse.Lts-list_view-extend_list_view as extend-list-view-lts
+use Rattle.extend.proofs.extend_listed.Reads as extend-listed
+use Rattle.extend.proofs.extend_listed.Kinds as extend-listed-kinds
+use Rattle.extend.proofs.+extend+extend_data+extend_listed+list-extend_list+list_view-extend_list_row+list_view-extend_list_view+run-extend_run+union-extend_dense+union-extend_dense_row+union-extend_sparse.Lts-extend_listed as extend-listed-lts
+use Rattle.extend.proofs.run.extend_run.Reads as extend-run
+use Rattle.extend.proofs.run.extend_run.Kinds as extend-run-kinds
+use Rattle.extend.proofs.+extend+extend_data+extend_listed+list-extend_list+list_view-extend_list_row+list_view-extend_list_view+run-extend_run+union-extend_dense+union-extend_dense_row+union-extend_sparse.Lts-run-extend_run as extend-run-lts
+use Rattle.extend.proofs.union.extend_sparse.Reads as extend-sparse
+use Rattle.extend.proofs.union.extend_sparse.Kinds as extend-sparse-kinds
+use Rattle.extend.proofs.+extend+extend_data+extend_listed+list-extend_list+list_view-extend_list_row+list_view-extend_list_view+run-extend_run+union-extend_dense+union-extend_dense_row+union-extend_sparse.Lts-union-extend_sparse as extend-sparse-lts
+use Rattle.extend.proofs.union.first_id.Reads as first-id-reads
+use Rattle.extend.proofs.union.first_row.Reads as first-row-reads
 use Rattle.schema.proofs.formats.is_list.Reads as is-list-reads
 use Rattle.schema.proofs.formats.is_list_view.Reads as is-list-view-reads
 use Rattle.walk.proofs.plan_words.add_rows.Reads as add-rows-reads
@@ -72,10 +72,10 @@ use Rattle.nested_rows.proofs.lookups.entry_at.Reads as entry-at-reads
 use Rattle.nested_rows.proofs.lookups.slot_of.Reads as slot-of-reads
 use Rattle.nested_rows.proofs.lookups.width_at.Reads as width-at-reads
 use Rattle.leaf_walk.proofs.variable_size.copy_offsets.Reads as copy-offsets-reads
-use Rattle.extend.proofs.+extend+extend_data+extend_dense+extend_dense_row+extend_sparse+lists-extend_list+lists-extend_list_row+lists-extend_list_view+lists-extend_listed+runs-extend_run.{
+use Rattle.extend.proofs.+extend+extend_data+extend_listed+list-extend_list+list_view-extend_list_row+list_view-extend_list_view+run-extend_run+union-extend_dense+union-extend_dense_row+union-extend_sparse.{
   statement,
 }
-use Rattle.extend.proofs.+extend+extend_data+extend_dense+extend_dense_row+extend_sparse+lists-extend_list+lists-extend_list_row+lists-extend_list_view+lists-extend_listed+runs-extend_run.Tie.{
+use Rattle.extend.proofs.+extend+extend_data+extend_listed+list-extend_list+list_view-extend_list_row+list_view-extend_list_view+run-extend_run+union-extend_dense+union-extend_dense_row+union-extend_sparse.Tie.{
   close,
 }
 
@@ -846,20 +846,20 @@ extend-sparse-returns-4 t c =
     let l = c .before .loop in
     sparse-go (join (a .state .now) (a .parts .now) (a .lengths .now) (a .places .now) (a .body .now) (a .first) (a .source)) (copyWalk (join (a .state .now) (a .parts .now) (a .lengths .now) (a .places .now) (a .body .now) (a .first) (a .source)) (a .depth)) (a .write) (a .i) (a .slot) (a .n) (a .counts .now) (a .room .now) (rw (c .before .before .before .before .before .before .before .before .before .before .first-id .ensures) at (c .before .before .before .before .before .before .copy-numbers .ensures (a .lengths .now) (a .source))) (c .before .before .before .if1 .left) (c .before .before .end-of .ensures .0) (add-one (a .i)) (l .inv .2 _ _ _ (fields-over (join (a .state .now) (a .parts .now) (a .lengths .now) (a .places .now) (a .body .now) (a .first) (a .source)) (copyWalk (join (a .state .now) (a .parts .now) (a .lengths .now) (a .places .now) (a .body .now) (a .first) (a .source)) (a .depth)) (a .write) (a .slot) (a .n) (c .before .before .end-of .result) (l .k) _ _ (omega arith)))
 
-pub +extend+extend-data+extend-dense+extend-dense-row+extend-sparse+lists·extend-list+lists·extend-list-row+lists·extend-list-view+lists·extend-listed+runs·extend-run-spec :
+pub +extend+extend-data+extend-listed+list·extend-list+list-view·extend-list-row+list-view·extend-list-view+run·extend-run+union·extend-dense+union·extend-dense-row+union·extend-sparse-spec :
     {M : Type 1} → statement M
-+extend+extend-data+extend-dense+extend-dense-row+extend-sparse+lists·extend-list+lists·extend-list-row+lists·extend-list-view+lists·extend-listed+runs·extend-run-spec =
++extend+extend-data+extend-listed+list·extend-list+list-view·extend-list-row+list-view·extend-list-view+run·extend-run+union·extend-dense+union·extend-dense-row+union·extend-sparse-spec =
     close
     μ-extend
     μ-extend-data
-    μ-extend-dense
-    μ-extend-dense-row
-    μ-extend-sparse
+    μ-extend-listed
     μ-extend-list
     μ-extend-list-row
     μ-extend-list-view
-    μ-extend-listed
     μ-extend-run
+    μ-extend-dense
+    μ-extend-dense-row
+    μ-extend-sparse
     (λ t. extend-lts.spec (extend-cs t)
     (extend-at t)
     extend.Post
@@ -898,6 +898,95 @@ pub +extend+extend-data+extend-dense+extend-dense-row+extend-sparse+lists·exten
     (extend-data-copy-leaf-requires t)
     (extend-data-same-length-5 t)
     (extend-data-returns-5 t))
+    (λ t. extend-listed-lts.spec (extend-listed-cs t)
+    (extend-listed-at t)
+    extend-listed.Post
+    (extend-listed-width-at-requires t)
+    (extend-listed-code-of-requires t)
+    (extend-listed-is-list-requires t)
+    (extend-listed-extend-list-requires t)
+    (extend-listed-same-length t)
+    (extend-listed-returns t)
+    (extend-listed-extend-list-view-requires t)
+    (extend-listed-same-length-2 t)
+    (extend-listed-returns-2 t))
+    (λ t. extend-list-lts.spec (extend-list-cs t)
+    (extend-list-at t)
+    extend-list.Post
+    (extend-list-returns t)
+    (extend-list-add-if2 t)
+    (extend-list-returns-2 t)
+    (extend-list-copy-offsets-requires t)
+    (extend-list-enum-known-last t)
+    (extend-list-add-rows-of t)
+    (extend-list-rows-of-requires t)
+    (extend-list-sub-size t)
+    (extend-list-add-extend t)
+    (extend-list-extend-requires t)
+    (extend-list-enum-told t)
+    (extend-list-enum-told-2 t)
+    (extend-list-same-length t)
+    (extend-list-returns-3 t)
+    (extend-list-same-length-2 t)
+    (extend-list-returns-4 t)
+    (extend-list-same-length-3 t)
+    (extend-list-returns-5 t))
+    (λ t. extend-list-row-lts.spec (extend-list-row-cs t)
+    (extend-list-row-at t)
+    extend-list-row.Post
+    (extend-list-row-add-place t)
+    (extend-list-row-place-requires t)
+    (extend-list-row-add-entry-at t)
+    (extend-list-row-entry-at-requires t)
+    (extend-list-row-add-place-2 t)
+    (extend-list-row-place-requires-2 t)
+    (extend-list-row-add-entry-at-2 t)
+    (extend-list-row-entry-at-requires-2 t)
+    (extend-list-row-list-numbers-requires t)
+    (extend-list-row-same-length t)
+    (extend-list-row-returns t)
+    (extend-list-row-add-extend t)
+    (extend-list-row-extend-requires t)
+    (extend-list-row-same-length-2 t)
+    (extend-list-row-returns-2 t))
+    (λ t. extend-list-view-lts.spec (extend-list-view-cs t)
+    (extend-list-view-at t)
+    extend-list-view.Post
+    extend-list-view-Inv-loop
+    extend-list-view-μ-loop
+    (extend-list-view-add-if1 t)
+    (extend-list-view-returns t)
+    (extend-list-view-pairs-in-requires t)
+    (extend-list-view-returns-2 t)
+    (extend-list-view-loop-holds t)
+    (extend-list-view-extend-list-row-requires t)
+    (extend-list-view-same-length t)
+    (extend-list-view-returns-3 t)
+    (extend-list-view-add-r t)
+    (extend-list-view-loop-less t)
+    (extend-list-view-loop-again t)
+    (extend-list-view-same-length-2 t)
+    (extend-list-view-returns-4 t))
+    (λ t. extend-run-lts.spec (extend-run-cs t)
+    (extend-run-at t)
+    extend-run.Post
+    (extend-run-returns t)
+    (extend-run-runs-ready-requires t)
+    (extend-run-returns-2 t)
+    (extend-run-add-width-at t)
+    (extend-run-width-at-requires t)
+    (extend-run-rows-of-requires t)
+    (extend-run-runs-at-requires t)
+    (extend-run-enum-known-run t)
+    (extend-run-add-extend t)
+    (extend-run-extend-requires t)
+    (extend-run-same-length t)
+    (extend-run-returns-3 t)
+    (extend-run-run-numbers-requires t)
+    (extend-run-enum-told t)
+    (extend-run-same-length-2 t)
+    (extend-run-returns-4 t)
+    (extend-run-returns-5 t))
     (λ t. extend-dense-lts.spec (extend-dense-cs t)
     (extend-dense-at t)
     extend-dense.Post
@@ -960,92 +1049,3 @@ pub +extend+extend-data+extend-dense+extend-dense-row+extend-sparse+lists·exten
     (extend-sparse-loop-again t)
     (extend-sparse-same-length-4 t)
     (extend-sparse-returns-4 t))
-    (λ t. extend-list-lts.spec (extend-list-cs t)
-    (extend-list-at t)
-    extend-list.Post
-    (extend-list-returns t)
-    (extend-list-add-if2 t)
-    (extend-list-returns-2 t)
-    (extend-list-copy-offsets-requires t)
-    (extend-list-enum-known-last t)
-    (extend-list-add-rows-of t)
-    (extend-list-rows-of-requires t)
-    (extend-list-sub-size t)
-    (extend-list-add-extend t)
-    (extend-list-extend-requires t)
-    (extend-list-enum-told t)
-    (extend-list-enum-told-2 t)
-    (extend-list-same-length t)
-    (extend-list-returns-3 t)
-    (extend-list-same-length-2 t)
-    (extend-list-returns-4 t)
-    (extend-list-same-length-3 t)
-    (extend-list-returns-5 t))
-    (λ t. extend-list-row-lts.spec (extend-list-row-cs t)
-    (extend-list-row-at t)
-    extend-list-row.Post
-    (extend-list-row-add-place t)
-    (extend-list-row-place-requires t)
-    (extend-list-row-add-entry-at t)
-    (extend-list-row-entry-at-requires t)
-    (extend-list-row-add-place-2 t)
-    (extend-list-row-place-requires-2 t)
-    (extend-list-row-add-entry-at-2 t)
-    (extend-list-row-entry-at-requires-2 t)
-    (extend-list-row-list-numbers-requires t)
-    (extend-list-row-same-length t)
-    (extend-list-row-returns t)
-    (extend-list-row-add-extend t)
-    (extend-list-row-extend-requires t)
-    (extend-list-row-same-length-2 t)
-    (extend-list-row-returns-2 t))
-    (λ t. extend-list-view-lts.spec (extend-list-view-cs t)
-    (extend-list-view-at t)
-    extend-list-view.Post
-    extend-list-view-Inv-loop
-    extend-list-view-μ-loop
-    (extend-list-view-add-if1 t)
-    (extend-list-view-returns t)
-    (extend-list-view-pairs-in-requires t)
-    (extend-list-view-returns-2 t)
-    (extend-list-view-loop-holds t)
-    (extend-list-view-extend-list-row-requires t)
-    (extend-list-view-same-length t)
-    (extend-list-view-returns-3 t)
-    (extend-list-view-add-r t)
-    (extend-list-view-loop-less t)
-    (extend-list-view-loop-again t)
-    (extend-list-view-same-length-2 t)
-    (extend-list-view-returns-4 t))
-    (λ t. extend-listed-lts.spec (extend-listed-cs t)
-    (extend-listed-at t)
-    extend-listed.Post
-    (extend-listed-width-at-requires t)
-    (extend-listed-code-of-requires t)
-    (extend-listed-is-list-requires t)
-    (extend-listed-extend-list-requires t)
-    (extend-listed-same-length t)
-    (extend-listed-returns t)
-    (extend-listed-extend-list-view-requires t)
-    (extend-listed-same-length-2 t)
-    (extend-listed-returns-2 t))
-    λ t. extend-run-lts.spec (extend-run-cs t)
-    (extend-run-at t)
-    extend-run.Post
-    (extend-run-returns t)
-    (extend-run-runs-ready-requires t)
-    (extend-run-returns-2 t)
-    (extend-run-add-width-at t)
-    (extend-run-width-at-requires t)
-    (extend-run-rows-of-requires t)
-    (extend-run-runs-at-requires t)
-    (extend-run-enum-known-run t)
-    (extend-run-add-extend t)
-    (extend-run-extend-requires t)
-    (extend-run-same-length t)
-    (extend-run-returns-3 t)
-    (extend-run-run-numbers-requires t)
-    (extend-run-enum-told t)
-    (extend-run-same-length-2 t)
-    (extend-run-returns-4 t)
-    (extend-run-returns-5 t)

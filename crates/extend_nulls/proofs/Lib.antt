@@ -1,2 +1,0 @@
--- What the cycle of nulls goes by.
-pub mod Laws
