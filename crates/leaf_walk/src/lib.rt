@@ -59,7 +59,18 @@ fn copy_bits(
         return 0;
     }
     let p = plan_words::rows_of(counts, i);
-    let zeros = room_writes::put_mask(state, parts, room, write, i, p, body, at as usize, slot, n);
+    let zeros = room_writes::validity::put_mask(
+        state,
+        parts,
+        room,
+        write,
+        i,
+        p,
+        body,
+        at as usize,
+        slot,
+        n,
+    );
     plan_words::add_nulls(counts, i, zeros);
     0
 }
@@ -86,7 +97,7 @@ pub fn copy_mask(
     }
     if lent_tables::place(places, first + i, 0) == 0 {
         let p = plan_words::rows_of(counts, i);
-        room_writes::put_ones(state, parts, room, write, i, p, n);
+        room_writes::validity::put_ones(state, parts, room, write, i, p, n);
         return 0;
     }
     copy_bits(
@@ -171,7 +182,7 @@ pub fn copy_keys(
     let o = plan_words::scale(plan_words::rows_of(counts, i), w);
     let from = at + w * slot;
     let base = plan_words::base_of(state, source, i);
-    room_writes::put_keys(
+    room_writes::keys::put_keys(
         state,
         parts,
         room,
@@ -246,7 +257,7 @@ pub fn null_mask(
         return 0;
     }
     let p = plan_words::rows_of(counts, i);
-    room_writes::put_null_bits(state, parts, room, write, i, p, n);
+    room_writes::validity::put_null_bits(state, parts, room, write, i, p, n);
     plan_words::add_nulls(counts, i, n);
     0
 }

@@ -62,7 +62,20 @@ fn put_string(
         return 12;
     }
     let o = plan_words::scale(plan_words::grow(plan_words::rows_of(counts, i), 1), w);
-    room_writes::put_offsets(state, parts, room, write, i, 1, o, w, body, from, n, old);
+    room_writes::variable_size::put_offsets(
+        state,
+        parts,
+        room,
+        write,
+        i,
+        1,
+        o,
+        w,
+        body,
+        from,
+        n,
+        old,
+    );
     let begin = at + lead;
     room_writes::put_copy(
         state,
@@ -182,7 +195,7 @@ pub fn null_string(
 {
     let o = plan_words::scale(plan_words::grow(plan_words::rows_of(counts, i), 1), w);
     let last = plan_words::bytes_of(counts, i);
-    room_writes::put_repeated(state, parts, room, write, i, 1, o, w, n, last);
+    room_writes::variable_size::put_repeated(state, parts, room, write, i, 1, o, w, n, last);
     0
 }
 
@@ -215,7 +228,7 @@ pub fn copy_offsets(
     match try_offsets(body, from as usize, w, n as usize, old) {
         utils::Extended::Fits { last, first: lead } => {
             let o = plan_words::scale(plan_words::grow(plan_words::rows_of(counts, i), 1), w);
-            room_writes::put_offsets(
+            room_writes::variable_size::put_offsets(
                 state,
                 parts,
                 room,
@@ -256,6 +269,6 @@ pub fn null_list(
     }
     let o = plan_words::scale(plan_words::grow(plan_words::rows_of(counts, i), 1), w);
     let last = plan_words::rows_of(counts, i + 1);
-    room_writes::put_repeated(state, parts, room, write, i, 1, o, w, n, last);
+    room_writes::variable_size::put_repeated(state, parts, room, write, i, 1, o, w, n, last);
     0
 }

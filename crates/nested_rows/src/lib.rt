@@ -223,7 +223,7 @@ pub fn run_numbers(
     let from = ends + w * (run.0 as u64);
     let stop = start.0 + n;
     let o = plan_words::scale(plan_words::rows_of(counts, i + 1), w);
-    room_writes::put_run_ends(
+    room_writes::run::put_run_ends(
         state,
         parts,
         room,
@@ -315,7 +315,7 @@ pub fn null_positions(
         return r;
     }
     let o = plan_words::scale(plan_words::rows_of(counts, i), 4);
-    room_writes::put_counted(state, parts, room, write, i, 2, o, n, position);
+    room_writes::variable_size::put_counted(state, parts, room, write, i, 2, o, n, position);
     0
 }
 

@@ -28,7 +28,7 @@ fn part_ground(parts: &[u64], m: usize, p: usize, holds: bool) -> u8
     if parts.len() <= 2 * p + 1 {
         return 14;
     }
-    if !crate::parts::in_room(parts, m, p) {
+    if !crate::placed::in_room(parts, m, p) {
         return 14;
     }
     if holds {

@@ -2,6 +2,7 @@
 pub mod dictionaries;
 pub mod grounds;
 pub mod parts;
+pub mod placed;
 
 ghost use mathlib.Core.Path.{_≡_};
 ghost use Prim.Native.Nat.{ℕ, suc, _+_, _*_, _^_, _≤_, _<_, min};

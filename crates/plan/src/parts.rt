@@ -1,11 +1,10 @@
 // The parts of a destination in the lent room: which there are, whether each holds its bytes, and whether they lie well.
 // Every function reads the state and the parts through getters that answer 0 past a table's end, and is right whatever they hold.
-
 ghost use mathlib.Core.Path.{_≡_};
 ghost use Prim.Native.Nat.{_+_, _*_, _≤_, _<_, _/_};
 ghost use lib.Dec.{leb};
 ghost use Rattle.columnar.specs.Test.{every};
-ghost use Rattle.plan.specs.parts.Parts.{nodesOf, bufferCount, copied, validityParts, bufferParts, partCount, hasPart, partsBefore, partTotal, partWord, numberOf, partAt, entrySize, neededBy, inRoom, apart, partHolds, partsHold, partsPlaced, partWithin, partsWithin};
+ghost use Rattle.plan.specs.parts.Parts.{nodesOf, bufferCount, copied, validityParts, bufferParts, partCount, hasPart, partsBefore, partTotal, partWord, numberOf, partAt, entrySize, neededBy, partHolds, partsHold, partWithin, partsWithin};
 use array_data::lent_tables;
 use walk::plan_words;
 
@@ -14,7 +13,6 @@ pub enum Spot {
     Of { node: usize, buffer: usize },
     Nothing,
 }
-
 // How many buffers have a part by code, from code 0 on.
 const BUFFERS: [u8; 24] = [
     0, // none
@@ -42,7 +40,6 @@ const BUFFERS: [u8; 24] = [
     2, // +ud:
     0, // +r
 ];
-
 // ---- which parts there are
 
 // How many nodes the type has, at most 32.
@@ -130,8 +127,6 @@ pub fn has_part(state: &[u64], i: usize, b: usize) -> bool
     b <= buffer_parts(state, i)
 }
 
-// ---- their numbers
-
 // How many parts the nodes before node i have.
 fn parts_before(state: &[u64], i: usize) -> usize
     requires { ⌜ i ≤ 32 ⌝ }
@@ -196,8 +191,6 @@ pub fn number_of(state: &[u64], i: usize, b: usize) -> usize
     }
     p - 1
 }
-
-// ---- what each must hold
 
 // The bytes of an entry of the first buffer.
 pub fn entry_size(code: u8) -> u8
@@ -266,8 +259,6 @@ fn fits(code: u8, r: u64, n: u64, b: usize, size: u64) -> bool
     second_fits(code, r, n, size)
 }
 
-// ---- ground 13
-
 // Whether buffer b of node i has no part, or one that holds its bytes.
 fn part_holds(state: &[u64], counts: &[u64; 96], parts: &[u64], i: usize, b: usize) -> bool
     requires { ⌜ (i < 32) × (b < 3) ⌝ }
@@ -309,94 +300,6 @@ pub fn parts_hold(state: &[u64], counts: &[u64; 96], parts: &[u64]) -> bool
     true
 }
 
-// ---- ground 14
-
-// Whether part p lies in the room.
-pub fn in_room(parts: &[u64], m: usize, p: usize) -> bool
-    requires { ⌜ p < 4294967298 ⌝ }
-    ensures { λ r. ⌜ r ≡ inRoom (now (parts .entry)) m p ⌝ }
-{
-    let start = lent_tables::at_u64(parts, 2 * p);
-    let size = lent_tables::at_u64(parts, 2 * p + 1);
-    lent_tables::fits(start, size, m as u64)
-}
-
-// Whether part p or part q is empty, or one lies behind the other.
-fn are_apart(parts: &[u64], p: usize, q: usize) -> bool
-    requires { ⌜ (p < 96) × (q < 96) ⌝ }
-    ensures { λ r. ⌜ r ≡ apart (now (parts .entry)) p q ⌝ }
-{
-    let size = lent_tables::at_u64(parts, 2 * p + 1);
-    let other_size = lent_tables::at_u64(parts, 2 * q + 1);
-    if (size == 0) | (other_size == 0) {
-        return true;
-    }
-    let start = lent_tables::at_u64(parts, 2 * p);
-    let other = lent_tables::at_u64(parts, 2 * q);
-    let before = lent_tables::fits(start, size, other);
-    let behind = lent_tables::fits(other, other_size, start);
-    before | behind
-}
-
-// Whether part p is apart from the parts before it.
-fn is_apart(parts: &[u64], p: usize) -> bool
-    requires { ⌜ p < 96 ⌝ }
-    ensures { λ r. ⌜ r ≡ every (λ q. apart (now (parts .entry)) p q) p ⌝ }
-{
-    let mut q = 0;
-    while q < p {
-        if !are_apart(parts, p, q) {
-            return false;
-        }
-        q += 1;
-    }
-    true
-}
-
-// Whether every part lies in the room.
-fn all_in_room(parts: &[u64], m: usize, count: usize) -> bool
-    requires { ⌜ count ≤ 96 ⌝ }
-    ensures { λ r. ⌜ r ≡ every (inRoom (now (parts .entry)) m) count ⌝ }
-{
-    let mut p = 0;
-    while p < count {
-        if !in_room(parts, m, p) {
-            return false;
-        }
-        p += 1;
-    }
-    true
-}
-
-// Whether no two nonempty parts overlap.
-fn all_apart(parts: &[u64], count: usize) -> bool
-    requires { ⌜ count ≤ 96 ⌝ }
-    ensures { λ r. ⌜ r ≡ every (λ p. every (λ q. apart (now (parts .entry)) p q) p) count ⌝ }
-{
-    let mut p = 0;
-    while p < count {
-        if !is_apart(parts, p) {
-            return false;
-        }
-        p += 1;
-    }
-    true
-}
-
-// Whether these are the parts of an opening, in the room and apart: ground 14 where not.
-pub fn parts_placed(parts: &[u64], count: usize, m: usize) -> bool
-    requires { ⌜ count ≤ 96 ⌝ }
-    ensures { λ r. ⌜ r ≡ partsPlaced (now (parts .entry)) count m ⌝ }
-{
-    if parts.len() != 2 * count {
-        return false;
-    }
-    if !all_in_room(parts, m, count) {
-        return false;
-    }
-    all_apart(parts, count)
-}
-
 // Whether buffer b of node i has no part, or one that is in the table and lies in the room.
 fn part_within(state: &[u64], parts: &[u64], m: usize, i: usize, b: usize) -> bool
     requires { ⌜ (i < 32) × (b < 3) ⌝ }
@@ -409,7 +312,7 @@ fn part_within(state: &[u64], parts: &[u64], m: usize, i: usize, b: usize) -> bo
     if parts.len() <= 2 * p + 1 {
         return false;
     }
-    in_room(parts, m, p)
+    crate::placed::in_room(parts, m, p)
 }
 
 // Whether every part of node i is in the table and lies in the room.

@@ -33,7 +33,7 @@ fn put_null_entries(
     if schema::formats::is_string(code) {
         let o = plan_words::scale(plan_words::grow(rows, 1), w);
         let last = lent_tables::at_u64(counters, 3 * i + 2);
-        room_writes::put_repeated(plan, parts, room, true, i, 1, o, w, n, last);
+        room_writes::variable_size::put_repeated(plan, parts, room, true, i, 1, o, w, n, last);
         return;
     }
     room_writes::put_zeros(
@@ -65,7 +65,7 @@ pub fn put_null_mask(
         return;
     }
     let rows = lent_tables::at_u64(counters, 3 * i);
-    room_writes::put_null_bits(plan, parts, room, true, i, rows, n);
+    room_writes::validity::put_null_bits(plan, parts, room, true, i, rows, n);
     leaf_counters::add_to(counters, 3 * i + 1, n);
 }
 

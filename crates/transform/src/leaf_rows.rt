@@ -66,11 +66,22 @@ pub fn put_kept_bits(
 {
     let p = lent_tables::at_u64(counters, 3 * i);
     if lent_tables::place(places, first + i, 0) == 0 {
-        room_writes::put_ones(plan, parts, room, true, i, p, n);
+        room_writes::validity::put_ones(plan, parts, room, true, i, p, n);
         return;
     }
     let at = lent_tables::place(places, first + i, 1);
-    let zeros = room_writes::put_mask(plan, parts, room, true, i, p, body, at as usize, slot, n);
+    let zeros = room_writes::validity::put_mask(
+        plan,
+        parts,
+        room,
+        true,
+        i,
+        p,
+        body,
+        at as usize,
+        slot,
+        n,
+    );
     leaf_counters::add_to(counters, 3 * i + 1, zeros);
 }
 
@@ -142,7 +153,7 @@ fn put_entries(
         return;
     }
     let base = plan_words::base_of(plan, source, i);
-    room_writes::put_keys(
+    room_writes::keys::put_keys(
         plan,
         parts,
         room,
@@ -230,7 +241,20 @@ fn put_text(
 {
     let old = lent_tables::at_u64(counters, 3 * i + 2);
     let o = plan_words::scale(plan_words::grow(lent_tables::at_u64(counters, 3 * i), 1), w);
-    room_writes::put_offsets(plan, parts, room, true, i, 1, o, w, body, from, n, old);
+    room_writes::variable_size::put_offsets(
+        plan,
+        parts,
+        room,
+        true,
+        i,
+        1,
+        o,
+        w,
+        body,
+        from,
+        n,
+        old,
+    );
     let begin = lent_tables::place(places, first + i, 5) + lead;
     room_writes::put_copy(
         plan,

@@ -45,11 +45,11 @@ pub fn put_bits(
         return;
     }
     if entries::place_at(places, first, i, 0) == 0 {
-        room_writes::put_ones(plan, parts, room, write, i, 0, n);
+        room_writes::validity::put_ones(plan, parts, room, write, i, 0, n);
         return;
     }
     let at = entries::place_at(places, first, i, 1);
-    room_writes::put_mask(plan, parts, room, write, i, 0, body, at as usize, s, n);
+    room_writes::validity::put_mask(plan, parts, room, write, i, 0, body, at as usize, s, n);
 }
 
 // n slots of w bytes from slot s on of those at `at`.

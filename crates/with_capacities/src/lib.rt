@@ -87,7 +87,7 @@ pub fn room_placed(state: &[u64], parts: &[u64], words: usize, counts: usize, m:
     if counts != 96 {
         return false;
     }
-    plan::parts::parts_placed(parts, plan::parts::part_total(state), m)
+    plan::placed::parts_placed(parts, plan::parts::part_total(state), m)
 }
 
 // The walk of an opening tried, the parts asked, and the walk made.

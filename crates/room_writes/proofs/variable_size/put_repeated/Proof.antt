@@ -1,0 +1,55 @@
+-- `puts::put_repeated` meets its contract. Assumes nothing.
+use native.Mathlib.Omega.{arith}
+use Rattle.room_writes.proofs.Laws.{alike-sized, made, put-at, put-skip, times-within}
+use lib.ListN.{length}
+use Rattle.utils.specs.Offsets.{repeated}
+use Rattle.room_writes.proofs.Bytes.{length-repeated, width-in}
+use Rattle.walk.specs.State.{scaled}
+use borrow.Author.Needs.{needs}
+use Rattle.room_writes.proofs.variable_size.put_repeated.Statement.{statement}
+use Rattle.room_writes.proofs.variable_size.put_repeated.Tie as tie
+
+scale-requires : tie.Need-scale-requires
+scale-requires c κs =
+    let a = c .before .before .before .args in
+    width-in (a .w) (λ p q. c .before .before .before .pre .1)
+
+target-requires : tie.Need-target-requires
+target-requires c κs = search needs
+
+enum-known-at : tie.Need-enum-known-at
+enum-known-at c = search needs
+
+write-repeated-requires : tie.Need-write-repeated-requires
+write-repeated-requires c κs =
+    let a = c .before .before .before .before .before .before .before .before .before .args in
+    (omega (arith, times-within (a .n) (a .w) (made (a .state .now) (a .parts .now) (length (a .room .now)) (a .write) (a .i) (a .b) (a .o) (scaled (a .n) (a .w)) (rw (c .before .before .before .before .before .scale .ensures) at (c .before .before .before .before .target .ensures)) (c .before .before .at .given .1)) (omega arith)), c .before .before .before .before .before .before .before .before .before .pre .1)
+
+enum-told : tie.Need-enum-told
+enum-told c = search needs
+
+same-length : tie.Need-same-length
+same-length c = search needs
+
+returns : tie.Need-returns
+returns c =
+    let a = c .before .before .before .before .before .before .before .before .before .before .before .before .args in
+    put-at (a .state .now) (a .parts .now) (a .write) (a .i) (a .b) (a .o) (repeated (a .w) (a .v) (a .n)) (a .room .now) (omega arith) (rw (c .before .before .before .before .before .before .before .before .scale .ensures) at (c .before .before .before .before .before .before .before .target .ensures)) (c .before .before .before .before .before .at .given .1) (alike-sized (a .n) (a .w) (length-repeated (a .w) (a .room .now) 0 (a .v) (a .n))) (c .before .before .write-repeated .ensures)
+
+returns-2 : tie.Need-returns-2
+returns-2 c =
+    let a = c .before .before .before .before .before .before .before .args in
+    put-skip (a .state .now) (a .parts .now) (a .write) (a .i) (a .b) (a .o) (repeated (a .w) (a .v) (a .n)) (a .room .now) (omega arith) (rw (c .before .before .before .scale .ensures) at (c .before .before .target .ensures)) (c .enum-told .given .1) (alike-sized (a .n) (a .w) (length-repeated (a .w) (a .room .now) 0 (a .v) (a .n)))
+
+pub put-repeated-spec : {M : Type 1} → statement M
+put-repeated-spec =
+    tie.close
+    (tie.spec
+    scale-requires
+    target-requires
+    enum-known-at
+    write-repeated-requires
+    enum-told
+    same-length
+    returns
+    returns-2)
