@@ -18,12 +18,12 @@ use Rattle.walk.specs.State.{keepsOf, rows}
 use Rattle.refinement.specs.walk_is_model.Memory.{Memory}
 use Rattle.refinement.specs.walk_is_model.Holds.{flag}
 use Rattle.refinement.specs.orders.Order.{Lent}
-use Rattle.column_anew.specs.runs.Runs.{okAt, runEnds, runRows}
-use Rattle.column_anew.specs.runs.Picked.{cells, picked}
-use Rattle.column_anew.specs.runs.Coding.{endsOf, encoded, runAt, expanded}
-use Rattle.column_anew.proofs.runs.Picked.{Inside, cells-long}
-use Rattle.column_anew.proofs.runs.Encode.{rows-inside}
-use Rattle.column_anew.proofs.runs.Expand.{runs-inside}
+use Rattle.anew.specs.runs.Runs.{okAt, runEnds, runRows}
+use Rattle.anew.specs.runs.Picked.{cells, picked}
+use Rattle.anew.specs.runs.Coding.{endsOf, encoded, runAt, expanded}
+use Rattle.anew.proofs.runs.Picked.{Inside, cells-long}
+use Rattle.anew.proofs.runs.Encode.{rows-inside}
+use Rattle.anew.proofs.runs.Expand.{runs-inside}
 use Rattle.anew.specs.Stood.{StoodNode, Stored, StoodPlain, Stood}
 use Rattle.anew.proofs.Bits.{rows-valid, bits-none, bits-stand}
 

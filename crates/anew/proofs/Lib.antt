@@ -1,4 +1,8 @@
 -- The laws of the calls that write one column anew.
+pub mod runs
+pub mod entries
+pub mod lists
+pub mod widths
 pub mod Laws
 pub mod PlanWords
 pub mod Standing

@@ -18,9 +18,9 @@ use Rattle.walk.specs.State.{word, keepsOf, rows}
 use Rattle.refinement.specs.walk_is_model.Memory.{Memory}
 use Rattle.refinement.specs.walk_is_model.Holds.{flag}
 use Rattle.refinement.specs.orders.Order.{Lent}
-use Rattle.column_anew.specs.runs.Runs.{okAt}
-use Rattle.column_anew.specs.entries.Used.{kept}
-use Rattle.column_anew.specs.entries.Reclaimed.{entriesOf, newKey, reclaimed}
+use Rattle.anew.specs.runs.Runs.{okAt}
+use Rattle.anew.specs.entries.Used.{kept}
+use Rattle.anew.specs.entries.Reclaimed.{entriesOf, newKey, reclaimed}
 use Rattle.anew.specs.Stood.{StoodNode, StoodPlain, in-parts, Stood}
 use Rattle.anew.proofs.Bits.{seg-valid, bits-stand}
 

@@ -26,11 +26,11 @@ use Rattle.refinement.specs.opening.Open.{Opening}
 use Rattle.anew.proofs.Laws.{Accepted, anew-accepted}
 use Rattle.anew.proofs.Result.{Filled, lentFor}
 use Rattle.anew.proofs.Described.{described}
-use Rattle.column_anew.specs.runs.Runs.{okAt, runRows}
-use Rattle.column_anew.specs.runs.Coding.{encoded}
-use Rattle.column_anew.proofs.runs.Encode.{encode-rows, encode-zeros}
-use Rattle.column_anew.proofs.runs.Fewest.{fewest}
-use Rattle.run_coding.proofs.run_walks.Fills.{encode-fills}
+use Rattle.anew.specs.runs.Runs.{okAt, runRows}
+use Rattle.anew.specs.runs.Coding.{encoded}
+use Rattle.anew.proofs.runs.Encode.{encode-rows, encode-zeros}
+use Rattle.anew.proofs.runs.Fewest.{fewest}
+use Rattle.coding.proofs.run_walks.Fills.{encode-fills}
 use Rattle.coding.specs.Encode.{number, endWidth, encodeOwn, plainColumn, encodeKeeps, encodePlan, encodeOut, encoding}
 use Rattle.coding.proofs.Node.{part-small}
 use Rattle.coding.proofs.Encoded as e

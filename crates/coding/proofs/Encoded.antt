@@ -28,9 +28,9 @@ use Rattle.anew.proofs.Comes.{comes}
 use Rattle.anew.proofs.Planted.{few}
 use Rattle.columns.proofs.Grounds.{within-low}
 use Rattle.anew.proofs.result_plan.Answered.{made-room}
-use Rattle.column_anew.specs.runs.Runs.{okAt, alike, those, edge}
-use Rattle.run_coding.specs.Rows.{changeIn, lastIn, lastRows}
-use Rattle.run_coding.specs.Writes.{Fits}
+use Rattle.anew.specs.runs.Runs.{okAt, alike, those, edge}
+use Rattle.coding.specs.run_coding.Rows.{changeIn, lastIn, lastRows}
+use Rattle.coding.specs.run_coding.Writes.{Fits}
 use Rattle.coding.specs.Counted.{allCounts}
 use Rattle.coding.specs.Encode.{plainAt, fromColumn, number, endWidth, encodeOwn, plainColumn, encodeKeeps, encodePlan, encodeOut, wide, rowsAt, maskAt, bitAt, Codable, lastOf, RoomFor, runsIn}
 use Rattle.coding.proofs.Codes.{code-width}
@@ -148,10 +148,10 @@ module _ (formats schema lengths places buffers body : List ℕ) (first n target
       abbrev ends-run : ℕ → Bool
       ends-run = lastIn body w keep (rowsAt formats schema y first start end) (maskAt formats schema y first start end) (bitAt formats schema y first start end) (end - start)
 
-      valid : (r : ℕ) → r < end - start → Rattle.run_coding.specs.Rows.validIn body keep (maskAt formats schema y first start end) (bitAt formats schema y first start end) r ≡ okAt v (start + r)
+      valid : (r : ℕ) → r < end - start → Rattle.coding.specs.run_coding.Rows.validIn body keep (maskAt formats schema y first start end) (bitAt formats schema y first start end) r ≡ okAt v (start + r)
       valid r l = valid-same xs 0 (codeOf formats schema first 0) (plain .is-fixed) start (end - start) within sum (source .mask) (source .slots) inside low-body keep exact-nulls r l
 
-      numbers : (r : ℕ) → r < end - start → Rattle.run_coding.specs.Rows.numberIn body w (rowsAt formats schema y first start end) r ≡ Rattle.column_anew.specs.runs.Runs.bitsAt k v (start + r)
+      numbers : (r : ℕ) → r < end - start → Rattle.coding.specs.run_coding.Rows.numberIn body w (rowsAt formats schema y first start end) r ≡ Rattle.anew.specs.runs.Runs.bitsAt k v (start + r)
       numbers r l = number-same xs 0 (codeOf formats schema first 0) (plain .is-fixed) start (end - start) within sum (source .mask) (source .slots) inside low-body keep exact-nulls r l
 
       edges : (r : ℕ) → r < end - start → ends-run r ≡ edge k v start (end - start) r
@@ -160,7 +160,7 @@ module _ (formats schema lengths places buffers body : List ℕ) (first n target
         where
           go : (b : Bool) → eqb (suc r) (end - start) ≡ b
               → b || changeIn body w keep (rowsAt formats schema y first start end) (maskAt formats schema y first start end) (bitAt formats schema y first start end) r
-              ≡ b || not (Rattle.column_anew.specs.runs.Runs.sameAt k v (start + r) (start + suc r))
+              ≡ b || not (Rattle.anew.specs.runs.Runs.sameAt k v (start + r) (start + suc r))
           go true e = refl
           go false e =
               let d = eqb-false (suc r) (end - start) e in
@@ -179,7 +179,7 @@ module _ (formats schema lengths places buffers body : List ℕ) (first n target
       module _ (state parts : List ℕ) (room : List ℕ) (fits : RoomFor formats schema y first start end target state parts keep (length room)) where
         did : Did state parts true (encodeOut formats schema x first n target start end) room 0 (allCounts (end - start) runs) (runsIn formats schema y first start end target state parts keep room)
         did =
-            subst (λ b. Did state parts true (Rattle.run_coding.specs.run_walks.Encode.encodeWalk k (endWidth formats schema first target) v start (end - start) b (replicate 96 0)) room 0 (allCounts (end - start) runs) (runsIn formats schema y first start end target state parts keep room)) exact
+            subst (λ b. Did state parts true (Rattle.coding.specs.run_walks.Encode.encodeWalk k (endWidth formats schema first target) v start (end - start) b (replicate 96 0)) room 0 (allCounts (end - start) runs) (runsIn formats schema y first start end target state parts keep room)) exact
             (encode-did state parts k (endWidth formats schema first target) v start (end - start) keep body w (rowsAt formats schema y first start end) (maskAt formats schema y first start end) (bitAt formats schema y first start end) (code-width (codeOf formats schema first 0) (plain .is-fixed))
             valid (λ r l. bytes-same xs 0 (codeOf formats schema first 0) (plain .is-fixed) start (end - start) within sum (source .mask) (source .slots) inside low-body keep exact-nulls r l small) edges room short fits)
 

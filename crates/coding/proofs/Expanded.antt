@@ -39,11 +39,11 @@ use Rattle.anew.specs.ResultPlan.{keepsFrom, Comes}
 use Rattle.anew.proofs.Bits.{keeps-typed}
 use Rattle.anew.proofs.Comes.{comes}
 use Rattle.anew.proofs.result_plan.Answered.{made-room}
-use Rattle.column_anew.specs.runs.Coding.{runAt}
-use Rattle.column_anew.proofs.runs.Fewest.{run-there}
+use Rattle.anew.specs.runs.Coding.{runAt}
+use Rattle.anew.proofs.runs.Fewest.{run-there}
 use Rattle.aggregates.proofs.stretches.FirstAbove.{first-above}
-use Rattle.run_coding.specs.Rows.{Held}
-use Rattle.run_coding.specs.Writes.{Holds, Ends, endIn}
+use Rattle.coding.specs.run_coding.Rows.{Held}
+use Rattle.coding.specs.run_coding.Writes.{Holds, Ends, endIn}
 use Rattle.coding.specs.Counted.{rowCounts}
 use Rattle.coding.specs.Encode.{plainAt}
 use Rattle.coding.specs.Expand.{fromValues, valueNumber, runWidth, runsOfPlain, plainOver, expandOwn, runColumn, expandKeeps, expandPlan, expandOut, runOr, valueWide, endWide, valuesAt, valueMask, valueBit, endsAt, firstRow, firstRun, Expandable, RowsFit, rowsIn}
@@ -198,15 +198,15 @@ module _ (formats schema lengths places buffers body : List ℕ) (first n target
       held : Held body w keep (valuesAt formats schema y first start end) (valueMask formats schema y first start end) (valueBit formats schema y first start end) (lengthOf xs 1)
       held = node-held xs 2 (codeOf formats schema first 2) (own .values .is-fixed) 0 (lengthOf xs 1) value-within value-sum (source .slots .child-rule .mask) (source .slots .child-rule .slots) value-inside low-body keep exact-nulls
 
-      valid : (q : ℕ) → q < lengthOf xs 1 → Rattle.run_coding.specs.Rows.validIn body keep (valueMask formats schema y first start end) (valueBit formats schema y first start end) q ≡ Rattle.column_anew.specs.runs.Runs.okAt (v .body .values) q
+      valid : (q : ℕ) → q < lengthOf xs 1 → Rattle.coding.specs.run_coding.Rows.validIn body keep (valueMask formats schema y first start end) (valueBit formats schema y first start end) q ≡ Rattle.anew.specs.runs.Runs.okAt (v .body .values) q
       valid q l =
           valid-same xs 2 (codeOf formats schema first 2) (own .values .is-fixed) 0 (lengthOf xs 1) value-within value-sum (source .slots .child-rule .mask) (source .slots .child-rule .slots) value-inside low-body keep exact-nulls q l
-          ∙ ap (Rattle.column_anew.specs.runs.Runs.okAt (v .body .values)) (let z : 0 + q ≡ q = omega arith in z)
+          ∙ ap (Rattle.anew.specs.runs.Runs.okAt (v .body .values)) (let z : 0 + q ≡ q = omega arith in z)
 
-      bytes : (q : ℕ) → q < lengthOf xs 1 → Rattle.number.specs.Number.encode w (Rattle.run_coding.specs.Rows.cellOf (Rattle.column_anew.specs.runs.Runs.okAt (v .body .values) q) (Rattle.run_coding.specs.Rows.numberIn body w (valuesAt formats schema y first start end) q)) ≡ Rattle.column_anew.specs.runs.Picked.cell k (v .body .values) q
+      bytes : (q : ℕ) → q < lengthOf xs 1 → Rattle.number.specs.Number.encode w (Rattle.coding.specs.run_coding.Rows.cellOf (Rattle.anew.specs.runs.Runs.okAt (v .body .values) q) (Rattle.coding.specs.run_coding.Rows.numberIn body w (valuesAt formats schema y first start end) q)) ≡ Rattle.anew.specs.runs.Picked.cell k (v .body .values) q
       bytes q l =
           let z : 0 + q ≡ q = omega arith in
-          subst (λ j. Rattle.number.specs.Number.encode w (Rattle.run_coding.specs.Rows.cellOf (Rattle.column_anew.specs.runs.Runs.okAt (v .body .values) j) (Rattle.run_coding.specs.Rows.numberIn body w (valuesAt formats schema y first start end) q)) ≡ Rattle.column_anew.specs.runs.Picked.cell k (v .body .values) j) z
+          subst (λ j. Rattle.number.specs.Number.encode w (Rattle.coding.specs.run_coding.Rows.cellOf (Rattle.anew.specs.runs.Runs.okAt (v .body .values) j) (Rattle.coding.specs.run_coding.Rows.numberIn body w (valuesAt formats schema y first start end) q)) ≡ Rattle.anew.specs.runs.Picked.cell k (v .body .values) j) z
           (bytes-same xs 2 (codeOf formats schema first 2) (own .values .is-fixed) 0 (lengthOf xs 1) value-within value-sum (source .slots .child-rule .mask) (source .slots .child-rule .slots) value-inside low-body keep exact-nulls q l small)
 
       -- ---- run ends
@@ -270,7 +270,7 @@ module _ (formats schema lengths places buffers body : List ℕ) (first n target
       module _ (state parts room : List ℕ) (fits : RowsFit formats schema y first start end state parts keep (length room)) where
         did : Did state parts true (expandOut formats schema x first n target start end) room 0 (rowCounts (end - start)) (rowsIn formats schema y first start end state parts keep room)
         did =
-            subst (λ b. Did state parts true (Rattle.run_coding.specs.run_walks.Expand.expandWalk k e v start (end - start) b (replicate 96 0)) room 0 (rowCounts (end - start)) (rowsIn formats schema y first start end state parts keep room)) exact
+            subst (λ b. Did state parts true (Rattle.coding.specs.run_walks.Expand.expandWalk k e v start (end - start) b (replicate 96 0)) room 0 (rowCounts (end - start)) (rowsIn formats schema y first start end state parts keep room)) exact
             (expand-did state parts k e v start (end - start) keep body w (valuesAt formats schema y first start end) (valueMask formats schema y first start end) (valueBit formats schema y first start end) (endsAt formats schema y first start end) (firstRow formats schema y first start end)
             (code-width (codeOf formats schema first 2) (own .values .is-fixed)) valid bytes end-is refl source within short (firstRun formats schema y first start end) room (λ l. run-is (omega arith)) fits)
 

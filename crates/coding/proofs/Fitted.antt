@@ -16,7 +16,7 @@ use Rattle.columns.specs.Grounds.{smallBody, columnGround}
 use Rattle.anew.specs.Anew.{roomGround}
 use Rattle.anew.specs.ResultPlan.{keepsFrom}
 use Rattle.anew.proofs.Comes.{new-keeps}
-use Rattle.run_coding.proofs.run_walks.Plans.{RunsPlan, runs-plan, runs-ends}
+use Rattle.coding.proofs.run_walks.Plans.{RunsPlan, runs-plan, runs-ends}
 use Rattle.coding.specs.Counted.{allCounts}
 use Rattle.coding.specs.Encode.{fromColumn, number, endWidth, encodeOwn, encodeKeeps, encodePlan, wide, lastOf, RoomFor}
 use Rattle.coding.proofs.Accepted.{due-type}

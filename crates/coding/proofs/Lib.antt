@@ -1,4 +1,5 @@
 -- Laws of `coding`.
+pub mod run_walks
 pub mod Accepted
 pub mod Asked
 pub mod Back

@@ -23,9 +23,9 @@ use Rattle.schema.specs.formats.Types.{numberOf}
 use Rattle.array_data.specs.Tables.{Tables, part, lengthOf, offsetOf, place, validOf, firstBuffer, arrayWith}
 use Rattle.array_data.specs.type_tree.Lent.{numberOr}
 use Rattle.array_data.proofs.entries.Laws.{holds-in, item-at}
-use Rattle.column_anew.specs.runs.Runs.{okAt, bitsAt}
-use Rattle.column_anew.specs.runs.Picked.{cell}
-use Rattle.run_coding.specs.Rows.{cellOf, numberIn, validIn, Held}
+use Rattle.anew.specs.runs.Runs.{okAt, bitsAt}
+use Rattle.anew.specs.runs.Picked.{cell}
+use Rattle.coding.specs.run_coding.Rows.{cellOf, numberIn, validIn, Held}
 use Rattle.coding.proofs.Codes.{code-width, code-sized, code-wide}
 
 -- ---- parts of the body

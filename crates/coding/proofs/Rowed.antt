@@ -26,13 +26,13 @@ use Rattle.walk.proofs.Laws.{done-did, wrote-did, next-ok}
 use Rattle.refinement.specs.walk_is_model.Holds.{flag}
 use Rattle.refinement.proofs.walk_is_model.Counters.{grown-is}
 use Rattle.aggregates.proofs.stretches.FirstAbove.{first-above}
-use Rattle.column_anew.specs.runs.Runs.{okAt}
-use Rattle.column_anew.specs.runs.Picked.{cell, cells}
-use Rattle.column_anew.specs.runs.Coding.{runAt}
-use Rattle.column_anew.proofs.runs.Fewest.{run-there}
-use Rattle.run_coding.specs.run_walks.Expand.{stretch, fillBits, fill, expandFrom, expandWalk}
-use Rattle.run_coding.specs.Rows.{asBit, cellOf, numberIn, validIn}
-use Rattle.run_coding.specs.Writes.{Holds, bitsWritten, rowsWritten, endIn, left, rowsFrom}
+use Rattle.anew.specs.runs.Runs.{okAt}
+use Rattle.anew.specs.runs.Picked.{cell, cells}
+use Rattle.anew.specs.runs.Coding.{runAt}
+use Rattle.anew.proofs.runs.Fewest.{run-there}
+use Rattle.coding.specs.run_walks.Expand.{stretch, fillBits, fill, expandFrom, expandWalk}
+use Rattle.coding.specs.run_coding.Rows.{asBit, cellOf, numberIn, validIn}
+use Rattle.coding.specs.run_coding.Writes.{Holds, bitsWritten, rowsWritten, endIn, left, rowsFrom}
 use Rattle.coding.specs.Counted.{rowCounts}
 use Rattle.coding.proofs.Walked.{put-in, mask-in}
 

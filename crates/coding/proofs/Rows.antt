@@ -9,9 +9,9 @@ use Rattle.array_data.specs.Typed.{tablesFrom}
 use Rattle.slot_reader.specs.run.Rows.{rowRun}
 use Rattle.aggregates.specs.stretches.Ends.{endsOf}
 use Rattle.aggregates.specs.patterns.Parts.{Sized}
-use Rattle.run_coding.specs.Rows.{Held, lastRows}
+use Rattle.coding.specs.run_coding.Rows.{Held, lastRows}
 use Rattle.coding.specs.Expand.{runOr}
-use Rattle.run_coding.specs.Writes.{Fits, runsWritten, Holds, Ends, rowsFrom}
+use Rattle.coding.specs.run_coding.Writes.{Fits, runsWritten, Holds, Ends, rowsFrom}
 
 pub place-as : (p q : ℕ) {w w′ : ℕ} → w′ ≡ w → p + q * w < 2 ^ 64 → p + q * w′ < 2 ^ 64
 place-as p q e h = rw e h

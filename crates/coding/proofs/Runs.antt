@@ -17,8 +17,8 @@ use Rattle.walk.specs.Log.{startOf}
 use Rattle.walk.specs.State as state
 use Rattle.anew.specs.Anew.{ahead, roomGround}
 use Rattle.anew.proofs.result_plan.Answered.{before-walk}
-use Rattle.run_coding.proofs.run_walks.Plans.{RowsPlan, rows-plan}
-use Rattle.run_coding.specs.Writes.{Holds}
+use Rattle.coding.proofs.run_walks.Plans.{RowsPlan, rows-plan}
+use Rattle.coding.specs.run_coding.Writes.{Holds}
 use Rattle.coding.specs.Counted.{rowCounts}
 use Rattle.coding.specs.Encode.{plainAt}
 use Rattle.coding.specs.Expand.{valueNumber, runsOfPlain, plainOver, expandOwn, expandKeeps, expandPlan, expandOut, RowsFit}

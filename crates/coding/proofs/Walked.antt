@@ -22,13 +22,13 @@ use Rattle.walk.specs.Log.{Entry, put, mask, startOf, inRoom, enter, apply, app
 use Rattle.walk.proofs.Laws.{done-did, wrote-did, next-ok, each-none, each-more}
 use Rattle.refinement.specs.walk_is_model.Holds.{flag}
 use Rattle.refinement.proofs.walk_is_model.Counters.{grown-is}
-use Rattle.column_anew.specs.runs.Runs.{okAt, those, edge}
-use Rattle.column_anew.specs.runs.Picked.{cell}
-use Rattle.column_anew.proofs.runs.Those.{those-few}
-use Rattle.run_coding.specs.run_walks.Encode.{emitBit, emit, encodeRow, encodeWalk}
-use Rattle.run_coding.specs.Rows.{asBit, cellOf, numberIn, validIn, lastIn, lastRows}
-use Rattle.run_coding.specs.Writes.{Fits, bitsWritten, runWritten, runsWritten}
-use Rattle.run_coding.proofs.Laws.{fewer-fit}
+use Rattle.anew.specs.runs.Runs.{okAt, those, edge}
+use Rattle.anew.specs.runs.Picked.{cell}
+use Rattle.anew.proofs.runs.Those.{those-few}
+use Rattle.coding.specs.run_walks.Encode.{emitBit, emit, encodeRow, encodeWalk}
+use Rattle.coding.specs.run_coding.Rows.{asBit, cellOf, numberIn, validIn, lastIn, lastRows}
+use Rattle.coding.specs.run_coding.Writes.{Fits, bitsWritten, runWritten, runsWritten}
+use Rattle.coding.proofs.run_coding.Laws.{fewer-fit}
 use Rattle.coding.specs.Counted.{runCounts, allCounts}
 
 -- ---- one write that stays in the room

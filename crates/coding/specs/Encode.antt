@@ -19,9 +19,9 @@ use Rattle.walk.specs.Log.{Out, startOf}
 use Rattle.refinement.specs.opening.Open.{Opening}
 use Rattle.anew.specs.Anew.{Asking, asking, anew}
 use Rattle.anew.specs.ResultPlan.{keepsFrom, planAnew}
-use Rattle.run_coding.specs.run_walks.Encode.{encodeWalk}
-use Rattle.run_coding.specs.Rows.{Held, lastRows}
-use Rattle.run_coding.specs.Writes.{Fits, runsWritten}
+use Rattle.coding.specs.run_walks.Encode.{encodeWalk}
+use Rattle.coding.specs.run_coding.Rows.{Held, lastRows}
+use Rattle.coding.specs.run_coding.Writes.{Fits, runsWritten}
 
 -- "all but a fixed-width column": numbers without a dictionary
 unfoldable pub plainAt : List ℕ → List ℕ → ℕ → ℕ → Bool

@@ -23,9 +23,9 @@ use Rattle.walk.specs.Log.{Out, startOf}
 use Rattle.refinement.specs.opening.Open.{Opening}
 use Rattle.anew.specs.Anew.{Asking, asking, anew}
 use Rattle.anew.specs.ResultPlan.{keepsFrom, planAnew}
-use Rattle.run_coding.specs.run_walks.Expand.{expandWalk}
-use Rattle.run_coding.specs.Rows.{Held}
-use Rattle.run_coding.specs.Writes.{Holds, Ends, rowsFrom}
+use Rattle.coding.specs.run_walks.Expand.{expandWalk}
+use Rattle.coding.specs.run_coding.Rows.{Held}
+use Rattle.coding.specs.run_coding.Writes.{Holds, Ends, rowsFrom}
 use Rattle.coding.specs.Encode.{plainAt}
 
 -- the rows come from the values

@@ -17,9 +17,9 @@ ghost use Rattle.aggregates.specs.patterns.Parts.{Sized};
 ghost use Rattle.coding.specs.Counted.{allCounts};
 ghost use Rattle.coding.specs.Encode.{runsOver, encodeOwn, fromColumn, encodeAsked, encoding, lastOf, Codable, RoomFor, runsIn};
 ghost use Rattle.coding.specs.Planned.{runPlan};
+use crate::encode_rows;
+use crate::run_coding::Spots;
 use plan::dictionaries;
-use run_coding::Spots;
-use run_coding::encode;
 use walk::plan_words;
 
 // Whether the three nodes from node `target` on are a run-end type over the format of the column that begins at node `first`.
@@ -165,7 +165,7 @@ fn tried(
     let w = schema::formats::width_of(schema::code_of(formats, schema, first as usize, 0));
     let s = crate::slots_of(lengths, places, first, 0, w, start);
     let m = end - start;
-    let k = encode::count_runs(body, w, keep, s, m as usize);
+    let k = encode_rows::count_runs(body, w, keep, s, m as usize);
     counters_of(m, k)
 }
 
@@ -236,7 +236,7 @@ fn write(
         values: crate::start_of(state, parts, 2, 1) as usize,
         mask: crate::start_of(state, parts, 2, 0) as usize,
     };
-    encode::write_runs(room, body, w, keep, s, e, t, (end - start) as usize)
+    encode_rows::write_runs(room, body, w, keep, s, e, t, (end - start) as usize)
 }
 
 // THE QUESTION before any room is lent: the first ground that stands, or the plan and the counters of the result.

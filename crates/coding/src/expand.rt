@@ -18,11 +18,11 @@ ghost use Rattle.coding.specs.Counted.{rowCounts};
 ghost use Rattle.coding.specs.Encode.{plainAt};
 ghost use Rattle.coding.specs.Planned.{rowPlan};
 ghost use Rattle.coding.specs.Expand.{runsOfPlain, plainOver, expandOwn, fromValues, expandAsked, expanding, runOr, Expandable, RowsFit, rowsIn};
+use crate::expand_rows;
+use crate::run_coding::Spots;
 use aggregates::stretches;
 use array_data::entries;
 use plan::dictionaries;
-use run_coding::Spots;
-use run_coding::expand;
 use slot_reader::run::RowRun;
 use walk::plan_words;
 
@@ -184,7 +184,7 @@ fn write(
         mask: crate::start_of(state, parts, 0, 0) as usize,
     };
     let m = (end - start) as usize;
-    expand::write_rows(room, body, w, keep, s, e, ends.start, run, x, t, m, count);
+    expand_rows::write_rows(room, body, w, keep, s, e, ends.start, run, x, t, m, count);
 }
 
 // THE QUESTION before any room is lent: the first ground that stands, or the plan and the counters of the result.

@@ -1,6 +1,9 @@
 // A fixed-width column into runs, and back (02, W1): the calls, over lent memory.
 pub mod encode;
+pub mod encode_rows;
 pub mod expand;
+pub mod expand_rows;
+pub mod run_coding;
 
 ghost use mathlib.Core.Path.{_≡_};
 ghost use mathlib.Core.List.{[]};
@@ -11,9 +14,9 @@ ghost use Rattle.array_data.specs.Tables.{offsetOf, place};
 ghost use Rattle.array_data.specs.entries.Entries.{column};
 ghost use Rattle.walk.specs.Log.{startOf};
 ghost use Rattle.coding.specs.Encode.{plainAt};
+use crate::run_coding::Slots;
 use array_data::entries;
 use array_data::lent_tables;
-use run_coding::Slots;
 use walk::plan_words;
 
 // The most bytes of a body; the room is one.

@@ -13,8 +13,8 @@ use Rattle.columns.specs.Grounds.{ceiling, smallBody, columnGround}
 use Rattle.refinement.specs.log_in_room.Room.{AllBelow}
 use Rattle.refinement.specs.finishing.Finish.{nullTable}
 use Rattle.refinement.specs.finishing.Shows.{Shows, Counts, finishedTables, Bodied}
-use Rattle.column_anew.specs.entries.Used.{kept}
-use Rattle.column_anew.specs.entries.Reclaimed.{reclaimed}
+use Rattle.anew.specs.entries.Used.{kept}
+use Rattle.anew.specs.entries.Reclaimed.{reclaimed}
 use Rattle.anew.specs.Anew.{roomGround}
 use Rattle.anew.proofs.Result.{lentFor, Filled, anew-again}
 use Rattle.reclaim.specs.Reclaim.{reclaimOwn, reclaimPlan, reclaimOut, reclaiming}

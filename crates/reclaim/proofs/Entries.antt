@@ -29,9 +29,9 @@ use Rattle.refinement.proofs.walk_is_model.Frame.{Kept, kept-refl, kept-then}
 use Rattle.refinement.proofs.walk_is_model.Types.{Opened, copies}
 use Rattle.refinement.proofs.opening.Zeros.{Fresh}
 use Rattle.refinement.proofs.opening.Starts.{start-values}
-use Rattle.column_anew.specs.runs.Runs.{those}
-use Rattle.column_anew.proofs.runs.Those.{those-split}
-use Rattle.column_anew.specs.entries.Reclaimed.{copyEach, freshNode}
+use Rattle.anew.specs.runs.Runs.{those}
+use Rattle.anew.proofs.runs.Those.{those-split}
+use Rattle.anew.specs.entries.Reclaimed.{copyEach, freshNode}
 use Rattle.reclaim.specs.used_entries.Keys.{used}
 use Rattle.reclaim.specs.reclaim_walk.Walk.{keysOf, runOf, copyRun, copyRuns, copyBlocks}
 use Rattle.reclaim.proofs.reclaim_walk.Runs.{runs-open, blocks-open}

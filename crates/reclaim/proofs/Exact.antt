@@ -25,11 +25,11 @@ use Rattle.refinement.proofs.walk_is_model.Frame.{worded-span}
 use Rattle.refinement.proofs.log_in_room.Found.{between-both}
 use Rattle.refinement.proofs.opening.Taken.{is-typed, is-low}
 use Rattle.refinement.proofs.plan_is_type.Planted.{dictionary-is}
-use Rattle.column_anew.specs.runs.Runs.{okAt}
-use Rattle.column_anew.specs.entries.Used.{keyAt, rank, kept}
-use Rattle.column_anew.specs.entries.Reclaimed.{reclaimed}
-use Rattle.column_anew.proofs.entries.Reclaim.{InUse, entries-are, keys-fit, valid-key, null-key}
-use Rattle.column_anew.proofs.entries.Twice.{twice}
+use Rattle.anew.specs.runs.Runs.{okAt}
+use Rattle.anew.specs.entries.Used.{keyAt, rank, kept}
+use Rattle.anew.specs.entries.Reclaimed.{reclaimed}
+use Rattle.anew.proofs.entries.Reclaim.{InUse, entries-are, keys-fit, valid-key, null-key}
+use Rattle.anew.proofs.entries.Twice.{twice}
 use Rattle.anew.specs.Anew.{orElse, roomGround}
 use Rattle.anew.specs.ResultPlan.{planAnew}
 use Rattle.anew.proofs.Laws.{or-never, anew-order}

@@ -37,11 +37,11 @@ use Rattle.refinement.proofs.log_in_room.Found.{between-both}
 use Rattle.refinement.proofs.orders.Buffers.{fixed-else}
 use Rattle.refinement.specs.orders.Order.{Lent, joinOf}
 use Rattle.refinement.proofs.opening.Zeros.{empty, gapOf, Fresh, no-counters}
-use Rattle.column_anew.specs.runs.Runs.{okAt, those}
-use Rattle.column_anew.specs.entries.Used.{kept}
-use Rattle.column_anew.specs.entries.Reclaimed.{copyEach, freshNode, newKey, reclaimed}
-use Rattle.column_anew.proofs.entries.Reclaim.{never-six}
-use Rattle.column_anew.proofs.entries.Copies.{grown}
+use Rattle.anew.specs.runs.Runs.{okAt, those}
+use Rattle.anew.specs.entries.Used.{kept}
+use Rattle.anew.specs.entries.Reclaimed.{copyEach, freshNode, newKey, reclaimed}
+use Rattle.anew.proofs.entries.Reclaim.{never-six}
+use Rattle.anew.proofs.entries.Copies.{grown}
 use Rattle.anew.specs.Stood.{StoodNode, StoodPlain, Stood}
 use Rattle.anew.proofs.Held.{held-plain}
 use Rattle.anew.proofs.Reclaimed.{ReclaimedAt, reclaimed-stands}
@@ -216,7 +216,7 @@ module _ (x : Lent) (k : Number) (p : Plain) (v : Column (tDictionary k p)) (g :
   -- ---- all entries
 
   kept-are : those (used (keysOf y)) 0 (lengthOf y 1) ≡ kept k v
-  kept-are = ap (those (used (keysOf y)) 0) (g .lent-values .len-is) ∙ those-same (used (keysOf y)) (Rattle.column_anew.specs.entries.Used.used k v) 0 (old .len) (used-same y k p v (g .lent-keys) (g .source) (g .keys-wide))
+  kept-are = ap (those (used (keysOf y)) 0) (g .lent-values .len-is) ∙ those-same (used (keysOf y)) (Rattle.anew.specs.entries.Used.used k v) 0 (old .len) (used-same y k p v (g .lent-keys) (g .source) (g .keys-wide))
 
   abbrev whole : Mutable (PlainBody p)
   whole = grown p old (ltb 0 (nullCount old)) (kept k v)

@@ -21,10 +21,10 @@ use Rattle.row_rules.proofs.slots.Tests.{valid-part}
 use Rattle.walk.specs.State.{Join, codeOf, bytesOf, place, lengthOf, offsetOf, far, rowsIn}
 use Rattle.refinement.specs.walk_is_model.Lent.{LentValid, LentNode, LentPlain, Lent}
 use Rattle.refinement.proofs.walk_is_model.Places.{part-long, part-entry, rows-in}
-use Rattle.column_anew.specs.runs.Runs.{okAt, those}
-use Rattle.column_anew.specs.entries.Used.{some-below}
-use Rattle.column_anew.specs.entries.Used as typed
-use Rattle.column_anew.specs.entries.Reclaimed as typed-new
+use Rattle.anew.specs.runs.Runs.{okAt, those}
+use Rattle.anew.specs.entries.Used.{some-below}
+use Rattle.anew.specs.entries.Used as typed
+use Rattle.anew.specs.entries.Reclaimed as typed-new
 use Rattle.reclaim.specs.used_entries.Keys.{Keys, slotValid, validOf, keyOf, names, used, rank, newKey, newKeys}
 use Rattle.reclaim.specs.reclaim_walk.Walk.{keysOf, bitsIn, keysIn}
 

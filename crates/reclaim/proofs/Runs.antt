@@ -21,8 +21,8 @@ use Rattle.model.proofs.CutTries.{then-done, then-is}
 use Rattle.model.proofs.CutBytes.{SameNode, node-seam, seams}
 use Rattle.refinement.proofs.walk_is_model.UnionFields.{agrees-value}
 use Rattle.walk.specs.State.{Join}
-use Rattle.column_anew.specs.runs.Runs.{those}
-use Rattle.column_anew.specs.entries.Reclaimed.{copyEach}
+use Rattle.anew.specs.runs.Runs.{those}
+use Rattle.anew.specs.entries.Reclaimed.{copyEach}
 use Rattle.reclaim.specs.used_entries.Keys.{used}
 use Rattle.reclaim.specs.reclaim_walk.Walk.{keysOf, runOf}
 

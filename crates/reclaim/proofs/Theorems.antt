@@ -20,8 +20,8 @@ use Rattle.refinement.specs.orders.Written.{OnlyUsed}
 use Rattle.refinement.specs.opening.Open.{Opening}
 use Rattle.refinement.specs.finishing.Finish.{nullTable}
 use Rattle.refinement.specs.finishing.Shows.{Shows, Counts, finishedTables, Bodied}
-use Rattle.column_anew.specs.entries.Reclaimed.{reclaimed}
-use Rattle.column_anew.proofs.entries.Reclaim.{same-rows, reclaimed-source}
+use Rattle.anew.specs.entries.Reclaimed.{reclaimed}
+use Rattle.anew.proofs.entries.Reclaim.{same-rows, reclaimed-source}
 use Rattle.anew.specs.Anew.{orElse, roomGround}
 use Rattle.anew.proofs.Laws.{anew-keeps, anew-ground}
 use Rattle.anew.proofs.Result.{lentFor, Filled, filled-by, anew-writes, anew-result}

@@ -29,7 +29,7 @@ use Rattle.walk.proofs.Laws.{done-did, wrote-did, need-no, need-ok, next-ok}
 use Rattle.refinement.proofs.walk_is_model.Parts.{part-entry}
 use Rattle.refinement.proofs.walk_is_model.RunLookups.{runs-are}
 use Rattle.recode.specs.Recode.{lessened}
-use Rattle.column_anew.specs.widths.Converted.{firstOf, manyOf, endsOf}
+use Rattle.anew.specs.widths.Converted.{firstOf, manyOf, endsOf}
 use Rattle.width_walks.specs.Convert.{endFits}
 use Rattle.width_walks.specs.Nodes.{range, ownAs}
 use Rattle.width_walks.proofs.Bytes.{ends-are}

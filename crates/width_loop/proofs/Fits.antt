@@ -14,8 +14,8 @@ use Rattle.array_data.specs.entries.Entries.{column}
 use Rattle.array_data.specs.type_tree.Lent.{unionKind, kindAt, treeOf}
 use Rattle.array_data.proofs.type_tree.Ids.{field-id}
 use Rattle.array_data.proofs.type_tree.Lent.{child-same}
-use Rattle.column_anew.specs.widths.Converted.{spanOf, firstOf, manyOf}
-use Rattle.column_anew.proofs.widths.Plain.{first-least, last-within}
+use Rattle.anew.specs.widths.Converted.{spanOf, firstOf, manyOf}
+use Rattle.anew.proofs.widths.Plain.{first-least, last-within}
 use Rattle.width_walks.specs.Nodes.{fromIn, manyIn, range, childRanges, settleAs, settle}
 use Rattle.width_walks.proofs.Ranges.{range-long, range-other, own-from, own-many, settle-is}
 use Rattle.width_loop.specs.Steps.{runsIn}

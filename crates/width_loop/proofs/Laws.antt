@@ -27,8 +27,8 @@ use Rattle.refinement.specs.walk_is_model.Holds.{flag}
 use Rattle.refinement.specs.walk_is_model.Lent.{Part}
 use Rattle.refinement.proofs.walk_is_model.Parts.{part-cut, part-entry, part-length}
 use Rattle.refinement.proofs.walk_is_model.Mask.{flags-ones, bits-of}
-use Rattle.column_anew.specs.widths.Converted.{spanOf, offsetsOf}
-use Rattle.column_anew.proofs.widths.Plain.{first-least}
+use Rattle.anew.specs.widths.Converted.{spanOf, offsetsOf}
+use Rattle.anew.proofs.widths.Plain.{first-least}
 use Rattle.recode.specs.Recode.{recoded, lessened, validOnly, allBelow}
 use Rattle.width_walks.specs.Convert.{allUnder, bitsWalk}
 use Rattle.width_loop.specs.Steps.{pairsWalk}

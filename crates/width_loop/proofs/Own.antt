@@ -23,8 +23,8 @@ use Rattle.walk.specs.Log.{Out, Did, put, applyIf, done, wrote, need, next}
 use Rattle.walk.proofs.Laws.{done-did, wrote-did, need-no, need-ok, next-need, next-no, next-ok}
 use Rattle.refinement.proofs.walk_is_model.Parts.{part-cut, part-entry}
 use Rattle.plan.specs.dictionaries.Sources.{keyFits}
-use Rattle.column_anew.specs.widths.Converted.{spanOf, offsetsOf}
-use Rattle.column_anew.proofs.widths.Plain.{first-least, last-within}
+use Rattle.anew.specs.widths.Converted.{spanOf, offsetsOf}
+use Rattle.anew.proofs.widths.Plain.{first-least, last-within}
 use Rattle.width_walks.specs.Nodes.{range, ownAs, settleAs}
 use Rattle.width_loop.specs.Steps.{pairsWalk, Inside}
 use Rattle.width_loop.proofs.Laws.{as-part, part-size, off-true, off-false, slots-are, offset-in, span-rises}

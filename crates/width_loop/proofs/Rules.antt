@@ -14,7 +14,7 @@ use Rattle.columnar.specs.Array.{item, ok}
 use Rattle.columnar.specs.Plain.{OffsetsRule}
 use Rattle.columnar.specs.Test.{maskTest, offsetsRule, arrayTest, plainTest, viewTest, listViewTest, listTest, sparseTest, denseTest, runEndTest, dictionaryTest}
 use Rattle.columnar.proofs.Test.{itself, offsets-rule-agrees, list-view-agrees, sparse-agrees, dense-agrees, run-end-agrees, dictionary-agrees}
-use Rattle.column_anew.proofs.widths.Cut.{cut-plain}
+use Rattle.anew.proofs.widths.Cut.{cut-plain}
 use Rattle.array_data.specs.Tables.{Tables, place, lengthOf, offsetOf, validOf, firstBuffer, secondBuffer, dataBuffers, arrayWith, held, inBody, validIn}
 use Rattle.array_data.specs.Rules.{childOf, oneIn, twoIn, buffersIn, fixedRule, stringRule, viewRule, listViewRule, listRule, sparseRule, denseRule, runEndRule, dictionaryRule}
 use Rattle.array_data.proofs.lent_tables.Laws.{and-left, and-right}

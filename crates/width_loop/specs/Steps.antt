@@ -10,7 +10,7 @@ use Rattle.columnar.specs.RunEnd.{RunEnd, endOf, startOf}
 use Rattle.array_data.specs.Tables.{Tables, place, lengthOf, offsetOf, firstBuffer, arrayWith}
 use Rattle.walk.specs.State.{addRows}
 use Rattle.walk.specs.Log.{Out, put, done, wrote, need, next}
-use Rattle.column_anew.specs.widths.Converted.{firstOf, manyOf, endsOf}
+use Rattle.anew.specs.widths.Converted.{firstOf, manyOf, endsOf}
 use Rattle.width_walks.specs.Convert.{allUnder}
 use Rattle.width_walks.specs.Nodes.{range}
 

@@ -16,7 +16,7 @@ ghost use Rattle.columnar.specs.Test.{maskTest};
 ghost use Rattle.array_data.specs.Tables.{part, validOf, firstBuffer, place, validIn};
 ghost use Rattle.array_data.specs.entries.Entries.{column};
 ghost use Rattle.walk.specs.Log.{Did, put, wrote, need, applyIf};
-ghost use Rattle.column_anew.specs.widths.Converted.{spanOf, offsetsOf};
+ghost use Rattle.anew.specs.widths.Converted.{spanOf, offsetsOf};
 ghost use Rattle.width_walks.specs.Convert.{bitsWalk};
 ghost use Rattle.width_loop.specs.Steps.{pairsWalk};
 use array_data::entries;

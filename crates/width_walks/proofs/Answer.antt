@@ -19,12 +19,12 @@ use Rattle.refinement.specs.opening.Open.{Opening}
 use Rattle.refinement.specs.finishing.Finish.{nullTable}
 use Rattle.refinement.specs.finishing.Shows.{Shows, Counts, finishedTables, Bodied}
 use Rattle.columns.specs.Grounds.{columnGround}
-use Rattle.column_anew.specs.widths.Widths.{Widths}
-use Rattle.column_anew.specs.widths.Converted.{columnAs}
-use Rattle.column_anew.specs.widths.Fitting.{tried, AllFit, numbers, converted}
-use Rattle.column_anew.proofs.widths.Fits.{tried-done}
-use Rattle.column_anew.proofs.widths.Convert.{convert-accepted, convert-rows}
-use Rattle.column_anew.proofs.widths.Grounds.{Ground, refused-with}
+use Rattle.anew.specs.widths.Widths.{Widths}
+use Rattle.anew.specs.widths.Converted.{columnAs}
+use Rattle.anew.specs.widths.Fitting.{tried, AllFit, numbers, converted}
+use Rattle.anew.proofs.widths.Fits.{tried-done}
+use Rattle.anew.proofs.widths.Convert.{convert-accepted, convert-rows}
+use Rattle.anew.proofs.widths.Grounds.{Ground, refused-with}
 use Rattle.anew.specs.Anew.{anew}
 use Rattle.anew.proofs.Laws.{anew-accepted}
 use Rattle.anew.proofs.Result.{Filled, anew-result}

@@ -27,8 +27,8 @@ use Rattle.model.proofs.Ends.{Ends}
 use Rattle.refinement.specs.walk_is_model.Lent.{Part}
 use Rattle.refinement.proofs.walk_is_model.Parts.{part-length, part-entry}
 use Rattle.refinement.proofs.walk_is_model.Entries.{encodes-pieces}
-use Rattle.column_anew.specs.widths.Converted.{offsetsOf}
-use Rattle.column_anew.proofs.widths.Plain.{first-least}
+use Rattle.anew.specs.widths.Converted.{offsetsOf}
+use Rattle.anew.proofs.widths.Plain.{first-least}
 
 module _ {body : List ℕ} {at size : ℕ} {s : List ℕ} (p : Part body at size s) where
   -- the entries of a stretch, in place

@@ -16,9 +16,9 @@ use Rattle.refinement.specs.log_in_room.Room.{AllBelow}
 use Rattle.refinement.specs.opening.Open.{Opening}
 use Rattle.refinement.specs.finishing.Shows.{finishedTables, Bodied}
 use Rattle.columns.specs.Grounds.{smallBody, columnGround}
-use Rattle.column_anew.specs.widths.Widths.{Widths}
-use Rattle.column_anew.proofs.widths.Grounds.{refused-with}
-use Rattle.column_anew.specs.widths.Fitting.{AllFit, numbers, converted}
+use Rattle.anew.specs.widths.Widths.{Widths}
+use Rattle.anew.proofs.widths.Grounds.{refused-with}
+use Rattle.anew.specs.widths.Fitting.{AllFit, numbers, converted}
 use Rattle.anew.specs.Anew.{orElse, ahead, roomGround}
 use Rattle.anew.proofs.Laws.{or-zero, or-first, anew-accepted, anew-ground}
 use Rattle.anew.proofs.Result.{lentFor}

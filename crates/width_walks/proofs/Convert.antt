@@ -12,8 +12,8 @@ use Rattle.refinement.specs.walk_is_model.Holds.{Worded}
 use Rattle.refinement.specs.orders.Order.{Lent}
 use Rattle.refinement.proofs.walk_is_model.Goes.{Goes, goes-map}
 use Rattle.refinement.proofs.opening.Zeros.{empty}
-use Rattle.column_anew.specs.widths.Widths.{Widths, sPlain, sView, sListView, sList, sSparse, sDense, sRunEnd, sDictionary}
-use Rattle.column_anew.specs.widths.Fitting.{converted}
+use Rattle.anew.specs.widths.Widths.{Widths, sPlain, sView, sListView, sList, sSparse, sDense, sRunEnd, sDictionary}
+use Rattle.anew.specs.widths.Fitting.{converted}
 use Rattle.anew.specs.Stood.{Stood}
 use Rattle.width_walks.specs.Convert.{convertWalk}
 use Rattle.width_walks.specs.Ready.{InParts, Ready}

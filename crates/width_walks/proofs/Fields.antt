@@ -22,12 +22,12 @@ use Rattle.refinement.proofs.walk_is_model.Frame.{SameAt, Kept, same-refl, same
 use Rattle.refinement.proofs.walk_is_model.Owed.{DataKept}
 use Rattle.refinement.proofs.walk_is_model.Goes.{Goes, goes-done, goes-then, goes-wrote}
 use Rattle.refinement.proofs.walk_is_model.Writes.{put-beside, put-other, data-put, data-then}
-use Rattle.column_anew.specs.widths.Widths.{Widths, sSparse, sDense}
-use Rattle.column_anew.specs.widths.Converted.{pick, bodyAs, columnAs}
-use Rattle.column_anew.specs.widths.Fitting.{Demand, gather, tried, numbersOf, numbersIn}
-use Rattle.column_anew.proofs.widths.Fits.{picked}
-use Rattle.column_anew.proofs.widths.Unions.{newKids, kid-is}
-use Rattle.column_anew.proofs.widths.Decide.{tried-then}
+use Rattle.anew.specs.widths.Widths.{Widths, sSparse, sDense}
+use Rattle.anew.specs.widths.Converted.{pick, bodyAs, columnAs}
+use Rattle.anew.specs.widths.Fitting.{Demand, gather, tried, numbersOf, numbersIn}
+use Rattle.anew.proofs.widths.Fits.{picked}
+use Rattle.anew.proofs.widths.Unions.{newKids, kid-is}
+use Rattle.anew.proofs.widths.Decide.{tried-then}
 use Rattle.anew.specs.Stood.{StoodData, Stood}
 use Rattle.width_walks.specs.Convert.{fieldsWalk, nodeWalk, bodyWalk}
 use Rattle.width_walks.specs.Ready.{InParts, Ready}

@@ -7,7 +7,7 @@ use Rattle.columnar.specs.Types.{Number, Plain, fixed, string, Ty}
 use Rattle.columnar.specs.Wider.{Declared}
 use Rattle.array_data.specs.Typed.{NodeKind, fixedNode, stringNode, viewNode, listViewNode, listNode, sparseNode, denseNode, runEndNode, dictionaryNode, Tree, nodeOf}
 use Rattle.refinement.specs.walk_is_model.Holds.{childOf}
-use Rattle.column_anew.specs.widths.Widths.{Widths, sPlain, sView, sListView, sList, sSparse, sDense, sRunEnd, sDictionary}
+use Rattle.anew.specs.widths.Widths.{Widths, sPlain, sView, sListView, sList, sSparse, sDense, sRunEnd, sDictionary}
 use Rattle.width_walks.specs.Nodes.{isRun}
 
 abbrev pub plainNode : Plain → NodeKind

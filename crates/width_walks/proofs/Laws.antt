@@ -17,10 +17,10 @@ use Rattle.refinement.specs.orders.Order.{Lent}
 use Rattle.refinement.proofs.walk_is_model.Frame.{Kept, worded-span}
 use Rattle.refinement.proofs.walk_is_model.Owed.{DataKept}
 use Rattle.refinement.proofs.walk_is_model.Goes.{Goes}
-use Rattle.column_anew.specs.widths.Widths.{Widths, sPlain, sView, sListView, sList, sSparse, sDense, sRunEnd, sDictionary}
-use Rattle.column_anew.specs.widths.Converted.{bodyAs, columnAs}
-use Rattle.column_anew.specs.widths.Fitting.{tried, numbersOf, numbersIn}
-use Rattle.column_anew.proofs.widths.Cut.{cut}
+use Rattle.anew.specs.widths.Widths.{Widths, sPlain, sView, sListView, sList, sSparse, sDense, sRunEnd, sDictionary}
+use Rattle.anew.specs.widths.Converted.{bodyAs, columnAs}
+use Rattle.anew.specs.widths.Fitting.{tried, numbersOf, numbersIn}
+use Rattle.anew.proofs.widths.Cut.{cut}
 use Rattle.anew.specs.Stood.{StoodData, Stood}
 use Rattle.width_walks.specs.Convert.{nodeWalk, bodyWalk}
 use Rattle.width_walks.specs.Ready.{InParts, ReadyBody, Ready}

@@ -30,7 +30,7 @@ use Rattle.model.proofs.Bits.{length-seg}
 use Rattle.walk.specs.State.{top}
 use Rattle.refinement.specs.walk_is_model.Memory.{Memory}
 use Rattle.refinement.specs.log_in_room.Room.{AllBelow}
-use Rattle.column_anew.specs.widths.Widths.{Widths}
+use Rattle.anew.specs.widths.Widths.{Widths}
 use Rattle.anew.specs.Stood.{BuffersNamed}
 use Rattle.width_walks.specs.target_rules.Target.{isTarget}
 use Rattle.width_walks.proofs.target_rules.Inverse.{ReadsAs, reads-at}

@@ -10,7 +10,7 @@ use Rattle.array_data.specs.Tables.{Tables, offsetOf, validOf, arrayWith}
 use Rattle.array_data.specs.Typed.{NodeKind, Tree, plainBody}
 use Rattle.walk.specs.State.{addRows}
 use Rattle.walk.specs.Log.{Out, done, next}
-use Rattle.column_anew.specs.widths.Widths.{PlainWidths, sFixed, sString}
+use Rattle.anew.specs.widths.Widths.{PlainWidths, sFixed, sString}
 use Rattle.width_walks.specs.Convert.{bitsWalk, nodeWalk, plainWalk}
 use Rattle.width_walks.specs.Nodes.{fromIn, manyIn, isRun, afterRun, settleAs, settle, ownAs, ownWalk, turn, nodesWalk, rangesBehind}
 use Rattle.width_walks.proofs.Outs.{next-same, next-assoc, next-end, next-start}

@@ -26,14 +26,14 @@ use Rattle.refinement.proofs.walk_is_model.Owed.{DataKept}
 use Rattle.refinement.proofs.walk_is_model.Counters.{grown-is, rows-added, rows-other, nulls-of-rows, bytes-of-rows, long-rows}
 use Rattle.refinement.proofs.walk_is_model.Goes.{Goes, goes-guard, goes-wrote}
 use Rattle.refinement.proofs.walk_is_model.Writes.{goes-write, put-beside, put-other, data-put, data-then}
-use Rattle.column_anew.specs.widths.Widths.{PlainWidths, Widths, sPlain, sView, sListView, sList, sRunEnd, sDictionary}
-use Rattle.column_anew.specs.widths.Converted.{spanOf, offsetsOf, firstOf, manyOf, endsOf, nodeAs, plainAs, bodyAs, columnAs}
-use Rattle.column_anew.specs.widths.Fitting.{Demand, needs, tried, numbersOf, numbersIn, plainNumbers}
-use Rattle.column_anew.proofs.widths.Fits.{tried-done}
-use Rattle.column_anew.proofs.widths.Plain.{first-least, last-within}
-use Rattle.column_anew.proofs.widths.Decide.{offsets-decide}
-use Rattle.column_anew.proofs.widths.Runs.{runs-in}
-use Rattle.column_anew.proofs.widths.Cut.{cut}
+use Rattle.anew.specs.widths.Widths.{PlainWidths, Widths, sPlain, sView, sListView, sList, sRunEnd, sDictionary}
+use Rattle.anew.specs.widths.Converted.{spanOf, offsetsOf, firstOf, manyOf, endsOf, nodeAs, plainAs, bodyAs, columnAs}
+use Rattle.anew.specs.widths.Fitting.{Demand, needs, tried, numbersOf, numbersIn, plainNumbers}
+use Rattle.anew.proofs.widths.Fits.{tried-done}
+use Rattle.anew.proofs.widths.Plain.{first-least, last-within}
+use Rattle.anew.proofs.widths.Decide.{offsets-decide}
+use Rattle.anew.proofs.widths.Runs.{runs-in}
+use Rattle.anew.proofs.widths.Cut.{cut}
 use Rattle.anew.specs.Stood.{StoodNode, StoodPlain, in-parts, StoodData, Stood}
 use Rattle.anew.proofs.Bits.{bits-none}
 use Rattle.width_walks.specs.Convert.{allUnder, endFits, nodeWalk, plainWalk, bodyWalk}

@@ -24,7 +24,7 @@ use Rattle.refinement.proofs.walk_is_model.Frame.{SameAt, Kept, same-then}
 use Rattle.refinement.proofs.walk_is_model.Owed.{DataKept}
 use Rattle.refinement.proofs.walk_is_model.Counters.{grown-is, rows-added, rows-other, nulls-of-rows, bytes-of-rows, long-rows}
 use Rattle.refinement.proofs.walk_is_model.Goes.{Goes, Quiet, quiet-done, quiet-wrote, goes-quiet}
-use Rattle.column_anew.specs.lists.Laid.{laid}
+use Rattle.anew.specs.lists.Laid.{laid}
 use Rattle.anew.specs.Stood.{StoodBits, StoodNode}
 use Rattle.anew.proofs.Bits.{seg-valid, bits-none, bits-stand}
 use Rattle.width_walks.specs.Convert.{bitsWalk}

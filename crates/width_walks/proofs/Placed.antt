@@ -20,7 +20,7 @@ use Rattle.array_data.specs.type_tree.Lent.{unionKind, kindAt, treeOf, typeOf}
 use Rattle.array_data.proofs.type_tree.Shaped.{Shaped, of-plain, of-view, of-list, of-lists, of-sparse, of-dense, of-run, of-dictionary, shaped}
 use Rattle.array_data.proofs.type_tree.Lent.{child-same, after-leaf, second-child, means, whole-end}
 use Rattle.refinement.specs.walk_is_model.Holds.{childOf}
-use Rattle.column_anew.specs.widths.Widths.{PlainWidths, sFixed, sString, Widths, sPlain, sView, sListView, sList, sSparse, sDense, sRunEnd, sDictionary}
+use Rattle.anew.specs.widths.Widths.{PlainWidths, sFixed, sString, Widths, sPlain, sView, sListView, sList, sSparse, sDense, sRunEnd, sDictionary}
 use Rattle.width_walks.specs.target_rules.Target.{NodeWidths, Target}
 use Rattle.width_walks.proofs.target_rules.Before.{prev, prev-child}
 use Rattle.width_walks.specs.Nodes.{isRun}

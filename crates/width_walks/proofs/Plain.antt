@@ -22,11 +22,11 @@ use Rattle.refinement.proofs.walk_is_model.Owed.{DataKept}
 use Rattle.refinement.proofs.walk_is_model.Counters.{bytes-set}
 use Rattle.refinement.proofs.walk_is_model.Goes.{Goes, goes-done, goes-guard, goes-wrote}
 use Rattle.refinement.proofs.walk_is_model.Writes.{goes-write, put-own, put-beside, data-put, data-then, data-bytes}
-use Rattle.column_anew.specs.widths.Widths.{PlainWidths, sFixed, sString}
-use Rattle.column_anew.specs.widths.Converted.{spanOf, offsetsOf, plainAs}
-use Rattle.column_anew.specs.widths.Fitting.{needs, tried, plainNumbers}
-use Rattle.column_anew.proofs.widths.Plain.{first-least, last-within}
-use Rattle.column_anew.proofs.widths.Decide.{offsets-decide}
+use Rattle.anew.specs.widths.Widths.{PlainWidths, sFixed, sString}
+use Rattle.anew.specs.widths.Converted.{spanOf, offsetsOf, plainAs}
+use Rattle.anew.specs.widths.Fitting.{needs, tried, plainNumbers}
+use Rattle.anew.proofs.widths.Plain.{first-least, last-within}
+use Rattle.anew.proofs.widths.Decide.{offsets-decide}
 use Rattle.anew.specs.Stood.{StoodPlain}
 use Rattle.width_walks.specs.Convert.{plainWalk}
 use Rattle.width_walks.proofs.Tries.{asks-last}

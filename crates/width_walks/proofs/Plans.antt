@@ -25,7 +25,7 @@ use Rattle.columnar.specs.Reading.{Body, Column, masks, SlotRule, Source}
 use Rattle.columnar.proofs.WiderKinds.{declares}
 use Rattle.refinement.specs.orders.Order.{Lent}
 use Rattle.refinement.proofs.log_in_room.Found.{between-both}
-use Rattle.column_anew.specs.widths.Widths.{Widths, sPlain, sView, sListView, sList, sSparse, sDense, sRunEnd, sDictionary}
+use Rattle.anew.specs.widths.Widths.{Widths, sPlain, sView, sListView, sList, sSparse, sDense, sRunEnd, sDictionary}
 use Rattle.width_walks.specs.Ready.{InParts, ReadyBody}
 use Rattle.width_walks.proofs.Node.{unmasked}
 use Rattle.width_walks.proofs.Laws.{same-masks}

@@ -16,7 +16,7 @@ use Rattle.walk.specs.State.{keepsOf, top}
 use Rattle.refinement.specs.walk_is_model.Memory.{Memory}
 use Rattle.refinement.specs.walk_is_model.Holds.{flag, childOf}
 use Rattle.refinement.specs.orders.Order.{Lent}
-use Rattle.column_anew.specs.widths.Widths.{PlainWidths, Widths, sPlain, sView, sListView, sList, sSparse, sDense, sRunEnd, sDictionary}
+use Rattle.anew.specs.widths.Widths.{PlainWidths, Widths, sPlain, sView, sListView, sList, sSparse, sDense, sRunEnd, sDictionary}
 use Rattle.anew.specs.Stood.{BuffersNamed}
 use Rattle.anew.specs.ResultPlan.{keepsFrom}
 use Rattle.anew.proofs.Bits.{keeps-typed}

@@ -10,8 +10,8 @@ use Rattle.columnar.proofs.WiderKinds.{declares}
 use Rattle.array_data.specs.Tables.{Tables, lengthOf, offsetOf, firstBuffer}
 use Rattle.array_data.specs.Typed.{NodeKind, fixedNode, listViewNode, listNode, sparseNode, denseNode, runEndNode, dictionaryNode, viewNode, Tree}
 use Rattle.columnar.specs.Array.{item}
-use Rattle.column_anew.specs.widths.Widths.{Widths, sPlain, sView, sListView, sList, sSparse, sDense, sRunEnd, sDictionary}
-use Rattle.column_anew.specs.widths.Converted.{spanOf, firstOf, manyOf}
+use Rattle.anew.specs.widths.Widths.{Widths, sPlain, sView, sListView, sList, sSparse, sDense, sRunEnd, sDictionary}
+use Rattle.anew.specs.widths.Converted.{spanOf, firstOf, manyOf}
 use Rattle.width_walks.specs.Nodes.{fromIn, manyIn, runsAt, settleAs, settle, rangesBehind}
 use Rattle.width_walks.proofs.Ranges.{SpansFields, RangesKept, kept-none, kept-range, kept-then, kept-wide, children-kept, settle-is, behind-split}
 use Rattle.width_walks.proofs.Laid.{plainNode, LaidFields, no-field, a-field, Laid}

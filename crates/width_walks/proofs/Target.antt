@@ -25,7 +25,7 @@ use Rattle.refinement.specs.walk_is_model.Memory.{Memory}
 use Rattle.refinement.specs.walk_is_model.Holds.{flag}
 use Rattle.refinement.specs.orders.Order.{Lent}
 use Rattle.refinement.proofs.plan_is_type.Planted.{code-is}
-use Rattle.column_anew.specs.widths.Widths.{Widths}
+use Rattle.anew.specs.widths.Widths.{Widths}
 use Rattle.anew.specs.Stood.{BuffersNamed}
 use Rattle.anew.specs.ResultPlan.{keepsFrom, planAnew}
 use Rattle.anew.proofs.PlanWords.{keeps-is}

@@ -19,9 +19,9 @@ use Rattle.array_data.proofs.type_tree.Ids.{field-in}
 use Rattle.walk.specs.State.{addRows}
 use Rattle.walk.specs.Log.{Out, put, done, wrote, need, next}
 use Rattle.refinement.specs.walk_is_model.Holds.{childOf}
-use Rattle.column_anew.specs.widths.Widths.{Widths, sPlain, sView, sListView, sList, sSparse, sDense, sRunEnd, sDictionary}
-use Rattle.column_anew.specs.widths.Converted.{spanOf, firstOf, manyOf, pick}
-use Rattle.column_anew.proofs.widths.Fits.{picked}
+use Rattle.anew.specs.widths.Widths.{Widths, sPlain, sView, sListView, sList, sSparse, sDense, sRunEnd, sDictionary}
+use Rattle.anew.specs.widths.Converted.{spanOf, firstOf, manyOf, pick}
+use Rattle.anew.proofs.widths.Fits.{picked}
 use Rattle.width_walks.specs.Convert.{fieldsWalk, nodeWalk, plainWalk, bodyWalk, convertWalk}
 use Rattle.width_walks.specs.Nodes.{fromIn, manyIn, range, isRun, runsAt, settle, ownWalk, turn, nodesWalk, rangesBehind, treeWalk}
 use Rattle.width_walks.proofs.Outs.{next-same, next-assoc, next-start, next-need}

@@ -10,9 +10,9 @@ use Rattle.model.specs.Try.{Try, done, stop, then, guard}
 use Rattle.walk.specs.Log.{Out}
 use Rattle.refinement.specs.walk_is_model.Memory.{Memory, after}
 use Rattle.refinement.proofs.walk_is_model.Goes.{Goes, good, over}
-use Rattle.column_anew.specs.widths.Converted.{endsOf}
-use Rattle.column_anew.specs.widths.Fitting.{Demand, needs, tried}
-use Rattle.column_anew.proofs.widths.Decide.{tried-then, ends-decide}
+use Rattle.anew.specs.widths.Converted.{endsOf}
+use Rattle.anew.specs.widths.Fitting.{Demand, needs, tried}
+use Rattle.anew.proofs.widths.Decide.{tried-then, ends-decide}
 use Rattle.width_walks.specs.Convert.{allUnder, endFits}
 
 -- a test and what follows it

@@ -24,9 +24,9 @@ use Rattle.refinement.specs.walk_is_model.Holds.{flag, childOf}
 use Rattle.refinement.specs.log_in_room.Room.{AllBelow}
 use Rattle.refinement.proofs.log_in_room.Uses.{Uses, uses-done, uses-wrote, uses-cond, uses-need, uses-next}
 use Rattle.refinement.proofs.log_in_room.Bytes.{bytes-encode, bytes-part}
-use Rattle.column_anew.specs.widths.Widths.{PlainWidths, sFixed, sString, Widths, sPlain, sView, sListView, sList, sSparse, sDense, sRunEnd, sDictionary}
-use Rattle.column_anew.specs.widths.Converted.{spanOf, offsetsOf, firstOf, manyOf, endsOf, pick}
-use Rattle.column_anew.proofs.widths.Fits.{picked}
+use Rattle.anew.specs.widths.Widths.{PlainWidths, sFixed, sString, Widths, sPlain, sView, sListView, sList, sSparse, sDense, sRunEnd, sDictionary}
+use Rattle.anew.specs.widths.Converted.{spanOf, offsetsOf, firstOf, manyOf, endsOf, pick}
+use Rattle.anew.proofs.widths.Fits.{picked}
 use Rattle.width_walks.specs.Convert.{fieldsWalk, bitsWalk, nodeWalk, plainWalk, bodyWalk, convertWalk}
 
 -- ---- bytes

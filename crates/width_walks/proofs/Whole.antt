@@ -18,12 +18,12 @@ use Rattle.refinement.specs.walk_is_model.Holds.{Worded}
 use Rattle.refinement.specs.orders.Order.{Lent}
 use Rattle.refinement.proofs.walk_is_model.Goes.{Goes, good, over, Quiet}
 use Rattle.refinement.proofs.opening.Zeros.{empty}
-use Rattle.column_anew.specs.widths.Widths.{Widths}
-use Rattle.column_anew.specs.widths.Converted.{columnAs}
-use Rattle.column_anew.specs.widths.Fitting.{AllFit, numbers, converted}
-use Rattle.column_anew.proofs.widths.Fits.{done-tried}
-use Rattle.column_anew.proofs.widths.Node.{node}
-use Rattle.column_anew.proofs.widths.Types.{made}
+use Rattle.anew.specs.widths.Widths.{Widths}
+use Rattle.anew.specs.widths.Converted.{columnAs}
+use Rattle.anew.specs.widths.Fitting.{AllFit, numbers, converted}
+use Rattle.anew.proofs.widths.Fits.{done-tried}
+use Rattle.anew.proofs.widths.Node.{node}
+use Rattle.anew.proofs.widths.Types.{made}
 use Rattle.anew.proofs.Result.{Filled, filled-by}
 use Rattle.anew.specs.Stood.{Stood}
 use Rattle.width_walks.specs.Nodes.{treeWalk}

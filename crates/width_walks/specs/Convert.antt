@@ -15,8 +15,8 @@ use Rattle.columnar.specs.Test.{member}
 use Rattle.walk.specs.State.{keepsOf, addRows, setBytes}
 use Rattle.walk.specs.Log.{Out, put, mask, done, wrote, need, next}
 use Rattle.refinement.specs.walk_is_model.Holds.{flag, childOf}
-use Rattle.column_anew.specs.widths.Widths.{PlainWidths, sFixed, sString, Widths, sPlain, sView, sListView, sList, sSparse, sDense, sRunEnd, sDictionary}
-use Rattle.column_anew.specs.widths.Converted.{spanOf, offsetsOf, firstOf, manyOf, endsOf, pick}
+use Rattle.anew.specs.widths.Widths.{PlainWidths, sFixed, sString, Widths, sPlain, sView, sListView, sList, sSparse, sDense, sRunEnd, sDictionary}
+use Rattle.anew.specs.widths.Converted.{spanOf, offsetsOf, firstOf, manyOf, endsOf, pick}
 
 -- all of them are below a limit
 abbrev pub allUnder : ℕ → List ℕ → Bool

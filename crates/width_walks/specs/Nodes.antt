@@ -14,7 +14,7 @@ use Rattle.array_data.specs.Tables.{Tables, lengthOf, offsetOf, validOf, firstB
 use Rattle.array_data.specs.Typed.{NodeKind, fixedNode, stringNode, viewNode, listViewNode, listNode, sparseNode, denseNode, runEndNode, dictionaryNode, Tree, childNode}
 use Rattle.walk.specs.State.{addRows, setBytes}
 use Rattle.walk.specs.Log.{Out, put, done, wrote, need, next}
-use Rattle.column_anew.specs.widths.Converted.{spanOf, offsetsOf, firstOf, manyOf, endsOf}
+use Rattle.anew.specs.widths.Converted.{spanOf, offsetsOf, firstOf, manyOf, endsOf}
 use Rattle.width_walks.specs.Convert.{allUnder, endFits, bitsWalk}
 
 -- ---- ranges: two numbers a node, its first row that is written and how many

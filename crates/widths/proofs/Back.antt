@@ -16,13 +16,13 @@ use Rattle.refinement.specs.log_in_room.Room.{AllBelow}
 use Rattle.refinement.specs.opening.Open.{Opening}
 use Rattle.refinement.specs.finishing.Shows.{finishedTables, Bodied}
 use Rattle.columns.specs.Grounds.{ceiling, smallBody, columnGround}
-use Rattle.column_anew.specs.widths.Widths.{Widths}
-use Rattle.column_anew.specs.widths.Converted.{columnAs}
-use Rattle.column_anew.specs.widths.Fitting.{AllFit, numbers}
-use Rattle.column_anew.specs.widths.Back.{Widening, KeysFit}
-use Rattle.column_anew.specs.widths.Back as way
-use Rattle.column_anew.proofs.widths.Widen.{node-fits, widen}
-use Rattle.column_anew.proofs.widths.Narrow.{node-back, narrow}
+use Rattle.anew.specs.widths.Widths.{Widths}
+use Rattle.anew.specs.widths.Converted.{columnAs}
+use Rattle.anew.specs.widths.Fitting.{AllFit, numbers}
+use Rattle.anew.specs.widths.Back.{Widening, KeysFit}
+use Rattle.anew.specs.widths.Back as way
+use Rattle.anew.proofs.widths.Widen.{node-fits, widen}
+use Rattle.anew.proofs.widths.Narrow.{node-back, narrow}
 use Rattle.anew.specs.Anew.{roomGround}
 use Rattle.anew.proofs.Result.{lentFor}
 use Rattle.width_walks.specs.target_rules.Target.{isTarget}

@@ -16,11 +16,11 @@ use Rattle.array_data.specs.type_tree.Lent.{treeOf, typeOf}
 use Rattle.array_data.proofs.type_tree.Lent.{formed}
 use Rattle.refinement.specs.log_in_room.Room.{AllBelow}
 use Rattle.columns.specs.Grounds.{columnGround}
-use Rattle.column_anew.specs.lists.Fresh.{fresh}
-use Rattle.column_anew.specs.widths.OneCopy.{ByteViews}
-use Rattle.column_anew.specs.widths.Layout.{LaidAs, Steady}
-use Rattle.column_anew.proofs.widths.Layout.{laid-as}
-use Rattle.column_anew.proofs.widths.Copied.{Done, copy-done}
+use Rattle.anew.specs.lists.Fresh.{fresh}
+use Rattle.anew.specs.widths.OneCopy.{ByteViews}
+use Rattle.anew.specs.widths.Layout.{LaidAs, Steady}
+use Rattle.anew.proofs.widths.Layout.{laid-as}
+use Rattle.anew.proofs.widths.Copied.{Done, copy-done}
 use Rattle.width_walks.specs.target_rules.Target.{isTarget}
 use Rattle.width_walks.specs.Call.{convert}
 use Rattle.width_walks.proofs.Lent.{typed-here, low-here, source-here}

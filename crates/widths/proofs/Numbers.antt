@@ -14,10 +14,10 @@ use Rattle.columnar.proofs.WiderKinds.{declares}
 use Rattle.array_data.specs.Tables.{Tables, firstBuffer, arrayWith}
 use Rattle.array_data.specs.Typed.{Tree, nodeOf, plainBody, bodyOf, columnOf}
 use Rattle.refinement.specs.finishing.Shows.{ShowsNode, ShowsPlain, ShowsData, Shows}
-use Rattle.column_anew.specs.widths.Widths.{PlainWidths, sFixed, sString, Widths, sPlain, sView, sListView, sList, sSparse, sDense, sRunEnd, sDictionary}
-use Rattle.column_anew.specs.widths.Converted.{spanOf, offsetsOf, firstOf, manyOf, endsOf, pick}
-use Rattle.column_anew.specs.widths.Fitting.{Demand, needs, gather, numbersOf, plainNumbers, numbersIn, numbers}
-use Rattle.column_anew.proofs.widths.Fits.{picked}
+use Rattle.anew.specs.widths.Widths.{PlainWidths, sFixed, sString, Widths, sPlain, sView, sListView, sList, sSparse, sDense, sRunEnd, sDictionary}
+use Rattle.anew.specs.widths.Converted.{spanOf, offsetsOf, firstOf, manyOf, endsOf, pick}
+use Rattle.anew.specs.widths.Fitting.{Demand, needs, gather, numbersOf, plainNumbers, numbersIn, numbers}
+use Rattle.anew.proofs.widths.Fits.{picked}
 
 -- ---- what a type has
 

@@ -21,10 +21,10 @@ use Rattle.refinement.specs.opening.Open.{Opening}
 use Rattle.refinement.specs.finishing.Finish.{nullTable}
 use Rattle.refinement.specs.finishing.Shows.{Shows, Counts, finishedTables, Bodied}
 use Rattle.columns.specs.Grounds.{smallBody, columnGround}
-use Rattle.column_anew.specs.widths.Converted.{columnAs}
-use Rattle.column_anew.specs.widths.Fitting.{converted}
-use Rattle.column_anew.proofs.widths.Convert.{accepted-fits}
-use Rattle.column_anew.proofs.widths.Grounds.{Ground, refused-with}
+use Rattle.anew.specs.widths.Converted.{columnAs}
+use Rattle.anew.specs.widths.Fitting.{converted}
+use Rattle.anew.proofs.widths.Convert.{accepted-fits}
+use Rattle.anew.proofs.widths.Grounds.{Ground, refused-with}
 use Rattle.anew.specs.Anew.{joinLengths, roomGround}
 use Rattle.anew.proofs.Laws.{anew-keeps, anew-accepted}
 use Rattle.anew.proofs.Parts.{anew-parts, copied-is, root-copied}

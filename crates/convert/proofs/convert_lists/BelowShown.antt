@@ -18,7 +18,7 @@ use Rattle.array_data.specs.Rules.{oneIn, twoIn, buffersIn}
 use Rattle.array_data.specs.Typed.{NodeKind, fixedNode, stringNode, viewNode, listViewNode, listNode, sparseNode, denseNode, runEndNode, dictionaryNode, Tree, fieldOf, nodeOf, Is, MeansPlain, Means, tablesFrom, plainBody, bodyOf, columnOf, kindRule, nodeRule, sourceRule, placedAs, placed}
 use Rattle.array_data.proofs.lent_tables.Laws.{and-left, and-right, first-in, second-in, two-one}
 use Rattle.refinement.specs.finishing.Shows.{ShowsNode, ShowsPlain, ShowsData, Shows, CountsNode, CountsData, Counts}
-use Rattle.column_anew.specs.lists.Named.{namedBody, named}
+use Rattle.anew.specs.lists.Named.{namedBody, named}
 use Rattle.convert.specs.convert_lists.ViewTables.{viewNulls, viewTables}
 use Rattle.convert.proofs.convert_lists.Subtree.{Alike, kid-same}
 use Rattle.convert.proofs.convert_lists.Below.{held-at, nulls-same, length-same, offset-same, valid-same, first-same, second-same, data-same, valid-in, one-in, two-in, buffers-in}

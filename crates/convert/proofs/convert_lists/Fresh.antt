@@ -27,7 +27,7 @@ use Rattle.refinement.specs.opening.Open.{chosen}
 use Rattle.refinement.proofs.opening.Zeros.{gapOf}
 use Rattle.refinement.proofs.opening.Zeros as zeros
 use Rattle.refinement.proofs.opening.Starts.{Here, There, closed-here, is-union, child-here}
-use Rattle.column_anew.specs.lists.Fresh.{freshNode, freshData, fresh}
+use Rattle.anew.specs.lists.Fresh.{freshNode, freshData, fresh}
 use Rattle.convert.specs.convert_lists.Exact.{Exact, ExactData}
 
 neither : {a b : Bool} → a ≡ false → b ≡ false → a || b ≡ false

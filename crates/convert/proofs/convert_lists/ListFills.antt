@@ -35,9 +35,9 @@ use Rattle.refinement.proofs.orders.Sound.{closed-sound, root-reached, reached-
 use Rattle.refinement.proofs.orders.Buffers.{copied-free, lists-one, buffer-copied}
 use Rattle.refinement.proofs.opening.Uses.{zeros-use}
 use Rattle.refinement.proofs.opening.Zeros.{empty}
-use Rattle.column_anew.specs.lists.Laid.{laid}
-use Rattle.column_anew.specs.lists.Listed.{kid, listings, listed, groundOf}
-use Rattle.column_anew.proofs.lists.Listed.{listed-source}
+use Rattle.anew.specs.lists.Laid.{laid}
+use Rattle.anew.specs.lists.Listed.{kid, listings, listed, groundOf}
+use Rattle.anew.proofs.lists.Listed.{listed-source}
 use Rattle.anew.specs.Stood.{Stood}
 use Rattle.anew.proofs.Bits.{bits-stand}
 use Rattle.anew.proofs.Held.{NamedBelow, held-stands}

@@ -32,7 +32,7 @@ use Rattle.refinement.specs.orders.Sound.{planSound}
 use Rattle.refinement.proofs.plan_is_type.Planted.{code-is, child-node}
 use Rattle.refinement.proofs.opening.Taken.{within-ceilings, taken}
 use Rattle.columns.proofs.Itself.{one-source}
-use Rattle.column_anew.specs.lists.Listed.{kid}
+use Rattle.anew.specs.lists.Listed.{kid}
 use Rattle.anew.specs.ResultPlan.{keepsFrom, planAnew}
 use Rattle.anew.proofs.PlanWords.{keeps-is, joined-is, base-none, no-choice}
 use Rattle.anew.proofs.Planted.{few, planted, worded, stands}

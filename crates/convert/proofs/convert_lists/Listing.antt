@@ -38,10 +38,10 @@ use Rattle.refinement.proofs.orders.Buffers.{copied-free}
 use Rattle.refinement.proofs.orders.Cover.{Laid}
 use Rattle.refinement.proofs.opening.Zeros.{empty, gapOf, Fresh, NoRows, no-counters, zeros-go}
 use Rattle.refinement.proofs.opening.Starts.{Here, closed-here}
-use Rattle.column_anew.specs.lists.Fresh.{fresh, FewBuffers}
-use Rattle.column_anew.specs.lists.Listed.{behind, kid, validAt, rowIf, noLists, listings}
-use Rattle.column_anew.specs.lists.Listed as lists
-use Rattle.column_anew.proofs.lists.Listed.{Fit, row-step, start-fit}
+use Rattle.anew.specs.lists.Fresh.{fresh, FewBuffers}
+use Rattle.anew.specs.lists.Listed.{behind, kid, validAt, rowIf, noLists, listings}
+use Rattle.anew.specs.lists.Listed as lists
+use Rattle.anew.proofs.lists.Listed.{Fit, row-step, start-fit}
 use Rattle.convert.specs.convert_lists.Exact.{Exact}
 use Rattle.convert.specs.convert_lists.Listing.{endRow, copyRow, listRow, listRows, listWalk}
 use Rattle.convert.specs.convert_lists.Listing as walks

@@ -24,8 +24,8 @@ use Rattle.refinement.proofs.walk_is_model.Lists.{lists-copies}
 use Rattle.refinement.proofs.walk_is_model.RunEnds.{run-copies}
 use Rattle.refinement.proofs.walk_is_model.SparseGoes.{sparse-copies}
 use Rattle.refinement.proofs.walk_is_model.DenseGoes.{dense-copies}
-use Rattle.column_anew.specs.lists.Fresh.{FewBuffers}
-use Rattle.column_anew.proofs.lists.One.{one-law}
+use Rattle.anew.specs.lists.Fresh.{FewBuffers}
+use Rattle.anew.proofs.lists.One.{one-law}
 
 -- what a copy is given at node i: the plan's words with bases of 0, and the tables of one column that obeys the rules
 pub record OneSource (x : Join) (k : ℕ) (t : Ty) (i : ℕ) (v : Column t) : Type 0 where

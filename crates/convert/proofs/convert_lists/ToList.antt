@@ -24,9 +24,9 @@ use Rattle.refinement.specs.orders.Written.{OnlyUsed}
 use Rattle.columns.specs.Grounds.{ceiling, columnGround}
 use Rattle.refinement.specs.finishing.Finish.{buffersBefore, lengthTable, nullTable, placeTable, bufferTable, finishing}
 use Rattle.refinement.specs.finishing.Shows.{Shows, Counts, finishedTables, Bodied}
-use Rattle.column_anew.specs.lists.Listed.{listed, groundOf}
-use Rattle.column_anew.proofs.lists.Listed.{listed-rows}
-use Rattle.column_anew.proofs.lists.Grounds.{listed-with}
+use Rattle.anew.specs.lists.Listed.{listed, groundOf}
+use Rattle.anew.proofs.lists.Listed.{listed-rows}
+use Rattle.anew.proofs.lists.Grounds.{listed-with}
 use Rattle.anew.proofs.Laws.{anew-accepted}
 use Rattle.anew.proofs.Result.{Filled, anew-writes, anew-finishes, anew-result, anew-again}
 use Rattle.convert.specs.convert_lists.Turned.{allNodes}

@@ -18,8 +18,8 @@ use Rattle.refinement.specs.walk_is_model.Holds.{flag}
 use Rattle.refinement.specs.log_in_room.Room.{AllBelow}
 use Rattle.columns.specs.Grounds.{columnGround}
 use Rattle.refinement.specs.finishing.Shows.{Bodied}
-use Rattle.column_anew.specs.lists.Listed.{kid, validAt, listed, groundOf, sizeAt, sizesIf, sizesIn}
-use Rattle.column_anew.proofs.lists.Stretches.{listed-start, listed-size, listed-long, listed-ends, Refused, listed-where}
+use Rattle.anew.specs.lists.Listed.{kid, validAt, listed, groundOf, sizeAt, sizesIf, sizesIn}
+use Rattle.anew.proofs.lists.Stretches.{listed-start, listed-size, listed-long, listed-ends, Refused, listed-where}
 use Rattle.convert.specs.convert_lists.Exact.{Exact}
 use Rattle.convert.specs.convert_lists.ToList.{listPlan, listFilled, makeList}
 use Rattle.convert.proofs.convert_lists.ListLent.{Due}

@@ -40,7 +40,7 @@ use Rattle.refinement.proofs.opening.Zeros.{empty}
 use Rattle.refinement.specs.plan_is_type.Planted.{joinOf}
 use Rattle.refinement.specs.finishing.Finish.{lengthTable, nullTable, placeTable, bufferTable, finishing}
 use Rattle.refinement.specs.finishing.Shows.{ShowsNode, CountsNode, finishedTables, Bodied}
-use Rattle.column_anew.specs.lists.Viewed.{offsetIn, sizeIn}
+use Rattle.anew.specs.lists.Viewed.{offsetIn, sizeIn}
 use Rattle.anew.specs.ResultPlan.{keepsFrom}
 use Rattle.anew.specs.Anew.{written}
 use Rattle.anew.proofs.Laws.{Accepted, anew-accepted}

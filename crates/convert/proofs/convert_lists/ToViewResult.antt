@@ -23,8 +23,8 @@ use Rattle.refinement.specs.finishing.Finish.{nullTable}
 use Rattle.refinement.specs.finishing.Shows.{Shows, Counts, finishedTables, Bodied}
 use Rattle.refinement.proofs.finishing.Lookups.{source-part}
 use Rattle.refinement.proofs.finishing.Reading.{shows-all, shows-obeys}
-use Rattle.column_anew.specs.lists.Viewed.{viewed}
-use Rattle.column_anew.proofs.lists.Viewed.{viewed-rows, viewed-source}
+use Rattle.anew.specs.lists.Viewed.{viewed}
+use Rattle.anew.proofs.lists.Viewed.{viewed-rows, viewed-source}
 use Rattle.convert.specs.convert_lists.ToList.{lentWith}
 use Rattle.convert.specs.convert_lists.ToView.{viewPlan, makeView}
 use Rattle.convert.specs.convert_lists.ViewTables.{viewNulls, viewTables}

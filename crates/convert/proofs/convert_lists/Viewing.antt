@@ -28,7 +28,7 @@ use Rattle.refinement.proofs.walk_is_model.Places.{part-entry, rows-in, put-her
 use Rattle.refinement.proofs.walk_is_model.Counters.{rows-added, long-rows, grown-is}
 use Rattle.refinement.proofs.opening.Zeros as zeros
 use Rattle.refinement.proofs.opening.Zeros.{no-counters}
-use Rattle.column_anew.specs.lists.Viewed.{offsetIn, sizeIn}
+use Rattle.anew.specs.lists.Viewed.{offsetIn, sizeIn}
 use Rattle.convert.specs.convert_lists.Viewing.{startAt, nextAt, viewRow, viewRows, viewWalk}
 use Rattle.convert.proofs.convert_lists.Root.{root-bits}
 

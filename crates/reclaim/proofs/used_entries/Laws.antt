@@ -10,9 +10,9 @@ use lib.ListN.{length, getD, set, length-append}
 use lib.Seq.{getD-set-same, getD-set-other}
 use lib.Dec.{leb, ltb, eqb}
 use borrow.Author.Tests.{leb-true, lt-ltb, le-ltb, le-leb, lt-leb, eqb-true, eq-eqb}
-use Rattle.column_anew.specs.runs.Runs.{those}
-use Rattle.column_anew.proofs.runs.Those.{those-few, those-split}
-use Rattle.column_anew.specs.entries.Used.{some-below}
+use Rattle.anew.specs.runs.Runs.{those}
+use Rattle.anew.proofs.runs.Those.{those-few, those-split}
+use Rattle.anew.specs.entries.Used.{some-below}
 use Rattle.number.specs.Number.{entry}
 use Rattle.bits.specs.Bits.{bits}
 use Rattle.reclaim.specs.used_entries.Keys.{Keys, slotValid, validOf, keyOf, names, used, rank, slotIn}

@@ -10,8 +10,8 @@ use Rattle.number.specs.Number.{entry}
 use Rattle.bits.specs.Bits.{bits}
 use Rattle.columnar.specs.Row.{seg}
 use Rattle.columnar.specs.Entries.{encodes}
-use Rattle.column_anew.specs.runs.Runs.{those}
-use Rattle.column_anew.specs.entries.Used.{some-below}
+use Rattle.anew.specs.runs.Runs.{those}
+use Rattle.anew.specs.entries.Used.{some-below}
 
 -- wide: the bytes of a key; at: the byte where the keys begin; masked: whether there is validity; mask: the byte where it begins; off: the
 -- slot of the first row; len: the rows

@@ -17,7 +17,7 @@ use Rattle.array_data.specs.Typed.{NodeKind, Tree, childNode, nodeOf, fieldOf, 
 use Rattle.array_data.specs.type_tree.Lent.{treeOf, typeOf}
 use Rattle.array_data.proofs.type_tree.Lent.{means}
 use Rattle.array_data.proofs.type_tree.Covered.{covered}
-use Rattle.column_anew.specs.widths.Widths.{PlainWidths, sFixed, sString, Widths, sPlain, sView, sListView, sList, sSparse, sDense, sRunEnd, sDictionary}
+use Rattle.anew.specs.widths.Widths.{PlainWidths, sFixed, sString, Widths, sPlain, sView, sListView, sList, sSparse, sDense, sRunEnd, sDictionary}
 use Rattle.width_walks.specs.target_rules.Target.{endsAt, isTarget, CodeWidths, same-code, strings, list-views, plain-lists, keys, run-ends, NodeWidths, SameLetters, Alike}
 use Rattle.width_walks.proofs.target_rules.Codes.{range, ends-range}
 use Rattle.width_walks.proofs.target_rules.Inverse.{same-number, ReadsAs, reads-at}

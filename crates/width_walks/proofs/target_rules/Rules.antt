@@ -15,7 +15,7 @@ use Rattle.schema.proofs.Laws.{every-all, every-not}
 use Rattle.array_data.specs.type_tree.Lent.{typeOf}
 use Rattle.array_data.proofs.type_tree.Ids.{both}
 use Rattle.array_data.proofs.type_tree.Shaped.{five}
-use Rattle.column_anew.specs.widths.Widths.{Widths}
+use Rattle.anew.specs.widths.Widths.{Widths}
 use Rattle.width_walks.specs.target_rules.Target.{isEnds, sameText, otherWidth, endsAt, likeFormats, likeNode, isTarget, CodeWidths, same-code, strings, list-views, plain-lists, keys, run-ends, NodeWidths, Target}
 use Rattle.width_walks.proofs.target_rules.Codes.{range, ends-range}
 use Rattle.width_walks.proofs.target_rules.Types.{type-widths}

@@ -22,7 +22,7 @@ use Rattle.array_data.specs.type_tree.Lent.{numberOr, idsOr, unionKind, kindAt,
 use Rattle.array_data.proofs.type_tree.Ids.{both, field-in}
 use Rattle.array_data.proofs.type_tree.Shaped.{five, integer-fixed, plainKind, at-fixed, at-keys, at-string, at-view, at-list, at-lists, at-union, at-run}
 use Rattle.array_data.proofs.type_tree.Lent.{child-same, first-child, second-child, some-node, root}
-use Rattle.column_anew.specs.widths.Widths.{PlainWidths, sFixed, sString, Widths, sPlain, sView, sListView, sList, sSparse, sDense, sRunEnd, sDictionary}
+use Rattle.anew.specs.widths.Widths.{PlainWidths, sFixed, sString, Widths, sPlain, sView, sListView, sList, sSparse, sDense, sRunEnd, sDictionary}
 use Rattle.width_walks.specs.target_rules.Target.{isEnds, endsAt, CodeWidths, same-code, strings, list-views, plain-lists, keys, run-ends, NodeWidths}
 use Rattle.width_walks.proofs.target_rules.Codes.{range, ends-range, near, view-kept, string-kept, list-kept, plain-list-kept, run-kept}
 use Rattle.width_walks.proofs.target_rules.Before.{integer-number, prev, prev-later, prev-child}

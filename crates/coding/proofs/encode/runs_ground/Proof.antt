@@ -7,7 +7,7 @@ use lib.ListN.{length}
 use borrow.Author.Needs.{needs}
 use Rattle.array_data.specs.lent_tables.Lent.{tables}
 use Rattle.anew.specs.Anew.{roomGround}
-use Rattle.column_anew.proofs.runs.Those.{those-few}
+use Rattle.anew.proofs.runs.Those.{those-few}
 use Rattle.coding.specs.Counted.{allCounts}
 use Rattle.coding.specs.Encode.{lastOf}
 use Rattle.coding.proofs.Fewer.{ground-less}

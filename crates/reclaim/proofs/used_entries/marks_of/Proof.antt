@@ -5,7 +5,7 @@ use Prim.Native.Nat.{ℕ, _+_, _-_, _≤_, _<_}
 use native.Mathlib.Numerals.{add-one}
 use native.Mathlib.Omega.{arith}
 use lib.ListN.{length, getD, length-set}
-use Rattle.column_anew.specs.entries.Used.{some-below}
+use Rattle.anew.specs.entries.Used.{some-below}
 use Rattle.model.proofs.Bits.{getD-replicate}
 use Rattle.reclaim.specs.used_entries.Keys.{keys, names}
 use Rattle.reclaim.proofs.used_entries.Laws.{mark-step, marks-used}

@@ -1,0 +1,2 @@
+-- Laws of `run_coding`.
+pub mod Laws

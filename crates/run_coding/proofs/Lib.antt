@@ -1,3 +1,0 @@
--- Laws of `run_coding`.
-pub mod Laws
-pub mod run_walks

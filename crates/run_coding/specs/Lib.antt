@@ -1,4 +1,0 @@
--- Rows and runs over bytes (02, W1).
-pub mod Rows
-pub mod Writes
-pub mod run_walks
