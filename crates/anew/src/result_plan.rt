@@ -44,7 +44,7 @@ fn write_nulls(
     first: usize,
     from: &[u64],
     n: usize,
-    state: &mut [u64; 872],
+    state: &mut [u64; plan_words::WORDS],
 )
     requires { ⌜ (n ≤ 32) × (first < 2 ^ 32) × Comes (tables (now lengths) (now places) (now body)) first n (now from) ⌝ }
     ensures { λ _. ⌜ now (state .exit) ≡ withNulls (keepsFrom (tables (now (lengths .entry)) (now (places .entry)) (now (body .entry))) first (now (from .entry))) n (now (state .entry)) ⌝ }
@@ -57,7 +57,7 @@ fn write_nulls(
 }
 
 // 1 if node i has a dictionary and dictionaries are in parts, and else 0.
-fn dictionary_word(joined: bool, state: &[u64; 872], i: usize) -> u64
+fn dictionary_word(joined: bool, state: &[u64; plan_words::WORDS], i: usize) -> u64
     requires { ⌜ i < 32 ⌝ }
     ensures { λ r. ⌜ r ≡ dictionaryWord joined (now (state .entry)) i ⌝ }
 {
@@ -71,7 +71,7 @@ fn dictionary_word(joined: bool, state: &[u64; 872], i: usize) -> u64
 }
 
 // Which of the first n nodes have a dictionary in parts.
-fn write_dictionaries(joined: bool, n: usize, state: &mut [u64; 872])
+fn write_dictionaries(joined: bool, n: usize, state: &mut [u64; plan_words::WORDS])
     requires { ⌜ n ≤ 32 ⌝ }
     ensures { λ _. ⌜ now (state .exit) ≡ withDictionaries joined n (now (state .entry)) ⌝ }
 {
@@ -96,7 +96,7 @@ pub fn plan_anew(
     from: &[u64],
     joined: bool,
     kept: u64,
-    state: &mut [u64; 872],
+    state: &mut [u64; plan_words::WORDS],
 )
     requires { ⌜ (target < 2 ^ 32) × (n ≤ 32) × (first < 2 ^ 32) × Comes (tables (now lengths) (now places) (now body)) first n (now from) ⌝ }
     ensures { λ _. ⌜ now (state .exit) ≡ planAnew (now (formats .entry)) (now (schema .entry)) target n (keepsFrom (tables (now (lengths .entry)) (now (places .entry)) (now (body .entry))) first (now (from .entry))) joined kept ⌝ }
@@ -104,9 +104,9 @@ pub fn plan_anew(
     plan::write_type(formats, schema, target, 1, n, state);
     write_nulls(lengths, places, body, first, from, n, state);
     write_dictionaries(joined, n, state);
-    state[868] = kept;
+    state[plan_words::KEPT] = kept;
     plan::write_parts(n, state);
-    state[866] = plan::parts::part_total(state) as u64;
+    state[plan_words::PART_COUNT] = plan::parts::part_total(state) as u64;
 }
 
 // ---- the room
@@ -114,7 +114,7 @@ pub fn plan_anew(
 // 14 or 13 of the parts that are lent for a result, where plan, counters and room have so many numbers and bytes; 0 where it can be written.
 pub fn room_ground(
     state: &[u64],
-    counts: &[u64; 96],
+    counts: &[u64; plan_words::COUNTERS],
     parts: &[u64],
     words: usize,
     counters: usize,
@@ -137,6 +137,6 @@ pub fn keep_result(plan: &mut [u64], counters: &mut [u64], state: &[u64], counts
     ensures { λ _. ⌜ now (plan .exit) ≡ now (state .entry) ⌝ }
     ensures { λ _. ⌜ now (counters .exit) ≡ now (counts .entry) ⌝ }
 {
-    with_capacities::store(plan, state, 872);
-    with_capacities::store(counters, counts, 96);
+    with_capacities::store(plan, state, plan_words::WORDS);
+    with_capacities::store(counters, counts, plan_words::COUNTERS);
 }

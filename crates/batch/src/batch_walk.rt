@@ -61,7 +61,7 @@ fn copy_data(
     lengths: &[u64],
     places: &[u64],
     body: &[u8],
-    counts: &mut [u64; 96],
+    counts: &mut [u64; plan_words::COUNTERS],
     room: &mut [u8],
     write: bool,
     first: usize,
@@ -112,7 +112,7 @@ pub fn copy_by_stretches(
     lengths: &[u64],
     places: &[u64],
     body: &[u8],
-    counts: &mut [u64; 96],
+    counts: &mut [u64; plan_words::COUNTERS],
     room: &mut [u8],
     write: bool,
     first: usize,
@@ -123,7 +123,7 @@ pub fn copy_by_stretches(
     ensures { λ g. ⌜ ((source : ℕ) → Did (now (state .entry)) (now (parts .entry)) write (batchWalk (join (now (state .entry)) (now (parts .entry)) (now (lengths .entry)) (now (places .entry)) (now (body .entry)) first source) 0 a n (now (counts .entry))) (now (room .entry)) g (now (counts .exit)) (now (room .exit))) ⌝ }
 {
     let slot = lookups::slot_of(lengths, first, 0, a, n);
-    if 9223372036854775808 <= slot {
+    if plan_words::FAR <= slot {
         return 12;
     }
     let g = copy_data(

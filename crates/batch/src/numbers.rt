@@ -91,7 +91,7 @@ pub fn reaches(
     ensures { λ r. ⌜ ((state parts : List ℕ) (source : ℕ) → r ≡ reached (join state parts (now (lengths .entry)) (now (places .entry)) (now (body .entry)) first source) k w end) ⌝ }
 {
     let slot = lookups::slot_of(lengths, first, k, end, 0);
-    if 9223372036854775808 <= slot {
+    if plan_words::FAR <= slot {
         return false;
     }
     leaf_walk::rows_in(body, lent_tables::place(places, first + k, 3), w, slot, 0)
@@ -104,7 +104,7 @@ pub fn copy_stretch(
     lengths: &[u64],
     places: &[u64],
     body: &[u8],
-    counts: &mut [u64; 96],
+    counts: &mut [u64; plan_words::COUNTERS],
     room: &mut [u8],
     write: bool,
     first: usize,
@@ -117,7 +117,7 @@ pub fn copy_stretch(
     ensures { λ g. ⌜ ((source : ℕ) → Did (now (state .entry)) (now (parts .entry)) write (batchLeaf (join (now (state .entry)) (now (parts .entry)) (now (lengths .entry)) (now (places .entry)) (now (body .entry)) first source) k a n (now (counts .entry))) (now (room .entry)) g (now (counts .exit)) (now (room .exit))) ⌝ }
 {
     let slot = lookups::slot_of(lengths, first, k, a, n);
-    if 9223372036854775808 <= slot {
+    if plan_words::FAR <= slot {
         return 12;
     }
     let at = lent_tables::place(places, first + k, 3);

@@ -50,7 +50,7 @@ pub fn is_offset(w: u64, sum: u64) -> bool
     if w == 4 {
         return sum < 2147483648;
     }
-    sum < 9223372036854775808
+    sum < plan_words::FAR
 }
 
 // The w lowest bytes of v at `at`.

@@ -42,7 +42,7 @@ fn still(whole: bool, a: u64, b: u64) -> bool
 // The rows that fall to each child: where its first stretch begins, how many they are, and how far they reach.
 pub fn survey(
     homes: &[u8; 256],
-    counts: &[u64; 96],
+    counts: &[u64; plan_words::COUNTERS],
     body: &[u8],
     ids: u64,
     positions: u64,
@@ -86,7 +86,7 @@ pub fn survey(
 }
 
 // The rows of every node.
-fn rows_of_all(counts: &[u64; 96]) -> [u64; 32]
+fn rows_of_all(counts: &[u64; plan_words::COUNTERS]) -> [u64; 32]
     ensures { λ r. ⌜ (length r ≡ 32) × ((k : ℕ) → k < 32 → getD r k 0 ≡ rows (now (counts .entry)) k) ⌝ }
 {
     let mut lands = [0u64; 32];
@@ -103,7 +103,7 @@ fn write_lands(
     room: &mut [u8],
     to: usize,
     homes: &[u8; 256],
-    counts: &[u64; 96],
+    counts: &[u64; plan_words::COUNTERS],
     body: &[u8],
     ids: u64,
     slot: u64,
@@ -132,7 +132,7 @@ pub fn put_lands(
     i: usize,
     o: u64,
     homes: &[u8; 256],
-    counts: &[u64; 96],
+    counts: &[u64; plan_words::COUNTERS],
     body: &[u8],
     ids: u64,
     slot: u64,

@@ -83,11 +83,11 @@ fn null_word(lengths: &[u64], places: &[u64], body: &[u8], first: u32) -> u64
 }
 
 // The words of a plan of runs: the codes of run ends and values, and which of the three nodes are nullable; the others are 0.
-fn run_words(ends: u64, values: u64, f0: u64, f1: u64, f2: u64, k: u64) -> [u64; 872]
+fn run_words(ends: u64, values: u64, f0: u64, f1: u64, f2: u64, k: u64) -> [u64; plan_words::WORDS]
     requires { ⌜ k ≤ 1 ⌝ }
     ensures { λ r. ⌜ r ≡ runPlan ends values f0 f1 f2 k ⌝ }
 {
-    let mut state = [0u64; 872];
+    let mut state = [0u64; plan_words::WORDS];
     state[0] = 23;
     state[2] = 3;
     state[4] = f0;
@@ -97,11 +97,11 @@ fn run_words(ends: u64, values: u64, f0: u64, f1: u64, f2: u64, k: u64) -> [u64;
     state[16] = values;
     state[18] = 3;
     state[20] = f2;
-    state[864] = 1;
-    state[865] = 3;
+    state[plan_words::SOURCE_COUNT] = 1;
+    state[plan_words::NODE_COUNT] = 3;
     state[21] = k;
     state[22] = 1 + k;
-    state[866] = 2 + k;
+    state[plan_words::PART_COUNT] = 2 + k;
     state
 }
 
@@ -114,7 +114,7 @@ fn planned(
     body: &[u8],
     first: u32,
     target: u32,
-) -> [u64; 872]
+) -> [u64; plan_words::WORDS]
     requires { ⌜ Comes (tables (now lengths) (now places) (now body)) first 3 fromColumn ⌝ }
     requires { ⌜ runsOver (now formats) (now schema) first target ≡ true ⌝ }
     ensures { λ r. ⌜ r ≡ planAnew (now (formats .entry)) (now (schema .entry)) target 3 (keepsFrom (tables (now (lengths .entry)) (now (places .entry)) (now (body .entry))) first fromColumn) true 0 ⌝ }
@@ -137,10 +137,10 @@ fn planned(
 }
 
 // The counters of n runs of m rows.
-fn counters_of(m: u64, n: u64) -> [u64; 96]
+fn counters_of(m: u64, n: u64) -> [u64; plan_words::COUNTERS]
     ensures { λ r. ⌜ r ≡ allCounts m n ⌝ }
 {
-    let mut counts = [0u64; 96];
+    let mut counts = [0u64; plan_words::COUNTERS];
     counts[3] = n;
     counts[6] = n;
     counts[0] = m;
@@ -158,7 +158,7 @@ fn tried(
     start: u64,
     end: u64,
     keep: bool,
-) -> [u64; 96]
+) -> [u64; plan_words::COUNTERS]
     requires { ⌜ Codable (now formats) (now schema) (tables (now lengths) (now places) (now body)) first start end keep ⌝ }
     ensures { λ r. ⌜ r ≡ allCounts (end - start) (length (lastOf (now (formats .entry)) (now (schema .entry)) (tables (now (lengths .entry)) (now (places .entry)) (now (body .entry))) first start end keep)) ⌝ }
 {
@@ -265,10 +265,10 @@ pub fn plan_encode(
     if g != 0 {
         return g;
     }
-    if plan.len() != 872 {
+    if plan.len() != plan_words::WORDS {
         return 14;
     }
-    if counters.len() != 96 {
+    if counters.len() != plan_words::COUNTERS {
         return 14;
     }
     let state = planned(formats, schema, lengths, places, body, first, target);
@@ -309,7 +309,7 @@ pub fn encode(
 ) -> u8
     ensures { λ r. ⌜ Answers (encoding (now (formats .entry)) (now (schema .entry)) (tablesOf (now (lengths .entry)) (now (places .entry)) (now (buffers .entry)) (now (body .entry))) first n target start end (now (parts .entry)) (now (plan .entry)) (now (counters .entry)) (now (room .entry))) r (now (plan .exit)) (now (counters .exit)) (now (room .exit)) ⌝ }
 {
-    if crate::CEILING < room.len() {
+    if columns::CEILING < room.len() {
         return 9;
     }
     let g = columns::column_ground(formats, schema, lengths, places, buffers, body, first, n);

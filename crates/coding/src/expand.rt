@@ -90,19 +90,19 @@ fn null_word(lengths: &[u64], places: &[u64], body: &[u8], first: u32) -> u64
 }
 
 // The words of a plan of one node of numbers; the others are 0.
-fn row_words(code: u64, nullable: u64, k: u64) -> [u64; 872]
+fn row_words(code: u64, nullable: u64, k: u64) -> [u64; plan_words::WORDS]
     requires { ⌜ k ≤ 1 ⌝ }
     ensures { λ r. ⌜ r ≡ rowPlan code nullable k ⌝ }
 {
-    let mut state = [0u64; 872];
+    let mut state = [0u64; plan_words::WORDS];
     state[0] = code;
     state[2] = 1;
     state[4] = nullable;
-    state[864] = 1;
-    state[865] = 1;
+    state[plan_words::SOURCE_COUNT] = 1;
+    state[plan_words::NODE_COUNT] = 1;
     state[5] = k;
     state[6] = k;
-    state[866] = 1 + k;
+    state[plan_words::PART_COUNT] = 1 + k;
     state
 }
 
@@ -115,7 +115,7 @@ fn planned(
     body: &[u8],
     first: u32,
     target: u32,
-) -> [u64; 872]
+) -> [u64; plan_words::WORDS]
     requires { ⌜ Comes (tables (now lengths) (now places) (now body)) first 1 fromValues ⌝ }
     requires { ⌜ plainAt (now formats) (now schema) target 0 ≡ true ⌝ }
     ensures { λ r. ⌜ r ≡ planAnew (now (formats .entry)) (now (schema .entry)) target 1 (keepsFrom (tables (now (lengths .entry)) (now (places .entry)) (now (body .entry))) first fromValues) true 0 ⌝ }
@@ -127,10 +127,10 @@ fn planned(
 }
 
 // The counters of m rows.
-fn counters_of(m: u64) -> [u64; 96]
+fn counters_of(m: u64) -> [u64; plan_words::COUNTERS]
     ensures { λ r. ⌜ r ≡ rowCounts m ⌝ }
 {
-    let mut counts = [0u64; 96];
+    let mut counts = [0u64; plan_words::COUNTERS];
     counts[0] = m;
     counts
 }
@@ -213,10 +213,10 @@ pub fn plan_expand(
     if g != 0 {
         return g;
     }
-    if plan.len() != 872 {
+    if plan.len() != plan_words::WORDS {
         return 14;
     }
-    if counters.len() != 96 {
+    if counters.len() != plan_words::COUNTERS {
         return 14;
     }
     let state = planned(formats, schema, lengths, places, body, first, target);
@@ -246,7 +246,7 @@ pub fn expand(
 ) -> u8
     ensures { λ r. ⌜ Answers (expanding (now (formats .entry)) (now (schema .entry)) (tablesOf (now (lengths .entry)) (now (places .entry)) (now (buffers .entry)) (now (body .entry))) first n target start end (now (parts .entry)) (now (plan .entry)) (now (counters .entry)) (now (room .entry))) r (now (plan .exit)) (now (counters .exit)) (now (room .exit)) ⌝ }
 {
-    if crate::CEILING < room.len() {
+    if columns::CEILING < room.len() {
         return 9;
     }
     let g = columns::column_ground(formats, schema, lengths, places, buffers, body, first, n);

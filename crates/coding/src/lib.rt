@@ -19,9 +19,6 @@ use array_data::entries;
 use array_data::lent_tables;
 use walk::plan_words;
 
-// The most bytes of a body; the room is one.
-pub const CEILING: usize = 9223372036854775807;
-
 // Whether node i holds numbers and not keys.
 pub fn is_plain(formats: &[u8], schema: &[u32], first: u32, i: usize) -> bool
     requires { ⌜ i < 2 ^ 32 ⌝ }

@@ -13,6 +13,9 @@ ghost use Rattle.columns.specs.Grounds.{countFits, fewBuffers, nodeFits,
 ghost use Rattle.array_data.specs.Sources.{firstOf, nodesOf};
 use array_data::lent_tables;
 
+// The most bytes of a body or a room.
+pub const CEILING: usize = 9223372036854775807;
+
 // ---- ground 9
 
 // Whether length and offset of node k are not negative and their sum is at most 2^63 - 1.
@@ -86,7 +89,7 @@ fn is_within(
 pub fn is_small(body: &[u8]) -> bool
     ensures { λ r. ⌜ r ≡ smallBody (now (body .entry)) ⌝ }
 {
-    body.len() <= 9223372036854775807
+    body.len() <= CEILING
 }
 
 // THE GROUND OF ONE COLUMN of n nodes from node `first` on: 9, 10 or 12, and 0 where it is accepted.

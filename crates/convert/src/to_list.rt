@@ -17,6 +17,7 @@ ghost use Rattle.anew.specs.result_plan.Answer.{Asks};
 ghost use Rattle.convert.specs.convert_lists.Turned.{allNodes};
 ghost use Rattle.convert.specs.convert_lists.Listing.{listWalk};
 ghost use Rattle.convert.specs.convert_lists.ToList.{lentWith, listOwn, askList, makeList};
+use walk::plan_words;
 
 // The ground of the column: 9, 10, 12, and 10 where it is no list-view or the target not its list.
 fn ground_of(
@@ -53,11 +54,11 @@ fn planned(
     first: u32,
     target: u32,
     n: u32,
-) -> [u64; 872]
+) -> [u64; plan_words::WORDS]
     requires { ⌜ (n ≤ 32) × Comes (tables (now lengths) (now places) (now body)) first n allNodes ⌝ }
     ensures { λ r. ⌜ r ≡ planAnew (now (formats .entry)) (now (schema .entry)) target n (keepsFrom (tables (now (lengths .entry)) (now (places .entry)) (now (body .entry))) first allNodes) false 0 ⌝ }
 {
-    let mut state = [0u64; 872];
+    let mut state = [0u64; plan_words::WORDS];
     let from = [
         1u64,
         2,
@@ -145,7 +146,7 @@ pub fn plan_list(
     let state = planned(formats, schema, lengths, places, body, first, target, n);
     let none = [0u64; 0];
     let mut nothing = [0u8; 0];
-    let mut counts = [0u64; 96];
+    let mut counts = [0u64; plan_words::COUNTERS];
     let g = crate::lists::list_walk(
         &state,
         &none,
@@ -160,10 +161,10 @@ pub fn plan_list(
     if g != 0 {
         return g;
     }
-    if plan.len() != 872 {
+    if plan.len() != plan_words::WORDS {
         return 14;
     }
-    if counters.len() != 96 {
+    if counters.len() != plan_words::COUNTERS {
         return 14;
     }
     let made = with_capacities::copied(counts);
@@ -188,7 +189,7 @@ fn make(
     requires { ⌜ ((bytesOf (now state) 0 ≡ 4 → ⊥) → bytesOf (now state) 0 ≡ 8) ⌝ }
     ensures { λ r. ⌜ (now (plan .exit) ≡ now (state .entry)) × ((n : ℕ) → Did (now (state .entry)) (now (parts .entry)) true (listWalk (lentWith (tables (now (lengths .entry)) (now (places .entry)) (now (body .entry))) (now (state .entry)) (now (parts .entry)) first n) (replicate 96 0)) (now (room .entry)) r (now (counters .exit)) (now (room .exit))) ⌝ }
 {
-    let mut counts = [0u64; 96];
+    let mut counts = [0u64; plan_words::COUNTERS];
     let g = crate::lists::list_walk(
         state,
         parts,
@@ -204,9 +205,6 @@ fn make(
     anew::result_plan::keep_result(plan, counters, state, &made);
     g
 }
-
-// The most bytes of a room, which is a body too.
-const CEILING: usize = 9223372036854775807;
 
 // THE CALL: a list-view column as a list, 0 or the ground of refusal. A refused one changes nothing.
 pub fn to_list(
@@ -227,7 +225,7 @@ pub fn to_list(
 ) -> u8
     ensures { λ r. ⌜ Answers (makeList (now (formats .entry)) (now (schema .entry)) (tablesOf (now (lengths .entry)) (now (places .entry)) (now (buffers .entry)) (now (body .entry))) first n target «target_n» (now (parts .entry)) (now (plan .entry)) (now (counters .entry)) (now (room .entry))) r (now (plan .exit)) (now (counters .exit)) (now (room .exit)) ⌝ }
 {
-    if CEILING < room.len() {
+    if columns::CEILING < room.len() {
         return 9;
     }
     let g = ground_of(
@@ -246,7 +244,7 @@ pub fn to_list(
         return g;
     }
     let state = planned(formats, schema, lengths, places, body, first, target, n);
-    let mut tried = [0u64; 96];
+    let mut tried = [0u64; plan_words::COUNTERS];
     let g = crate::lists::list_walk(
         &state,
         parts,

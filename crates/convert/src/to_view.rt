@@ -17,6 +17,7 @@ ghost use Rattle.anew.specs.result_plan.Answer.{Asks};
 ghost use Rattle.convert.specs.convert_lists.Turned.{allNodes};
 ghost use Rattle.convert.specs.convert_lists.Viewing.{viewWalk};
 ghost use Rattle.convert.specs.convert_lists.ToView.{viewOwn, askView, makeView};
+use walk::plan_words;
 
 // The ground of the column: 9, 10, 12, and 10 where it is no list or the target not its list-view.
 fn ground_of(
@@ -52,11 +53,11 @@ fn planned(
     body: &[u8],
     first: u32,
     target: u32,
-) -> [u64; 872]
+) -> [u64; plan_words::WORDS]
     requires { ⌜ Comes (tables (now lengths) (now places) (now body)) first 1 allNodes ⌝ }
     ensures { λ r. ⌜ r ≡ planAnew (now (formats .entry)) (now (schema .entry)) target 1 (keepsFrom (tables (now (lengths .entry)) (now (places .entry)) (now (body .entry))) first allNodes) false 0 ⌝ }
 {
-    let mut state = [0u64; 872];
+    let mut state = [0u64; plan_words::WORDS];
     let from = [
         1u64,
         2,
@@ -144,7 +145,7 @@ pub fn plan_list_view(
     let state = planned(formats, schema, lengths, places, body, first, target);
     let none = [0u64; 0];
     let mut nothing = [0u8; 0];
-    let mut counts = [0u64; 96];
+    let mut counts = [0u64; plan_words::COUNTERS];
     let g = crate::views::view_walk(
         &state,
         &none,
@@ -159,10 +160,10 @@ pub fn plan_list_view(
     if g != 0 {
         return g;
     }
-    if plan.len() != 872 {
+    if plan.len() != plan_words::WORDS {
         return 14;
     }
-    if counters.len() != 96 {
+    if counters.len() != plan_words::COUNTERS {
         return 14;
     }
     let made = with_capacities::copied(counts);
@@ -187,7 +188,7 @@ fn make(
     requires { ⌜ ((bytesOf (now state) 0 ≡ 4 → ⊥) → bytesOf (now state) 0 ≡ 8) ⌝ }
     ensures { λ r. ⌜ (now (plan .exit) ≡ now (state .entry)) × Did (now (state .entry)) (now (parts .entry)) true (viewWalk (join (now (state .entry)) (now (parts .entry)) (now (lengths .entry)) (now (places .entry)) (now (body .entry)) first 0) (bytesOf (now (state .entry)) 0) (replicate 96 0)) (now (room .entry)) r (now (counters .exit)) (now (room .exit)) ⌝ }
 {
-    let mut counts = [0u64; 96];
+    let mut counts = [0u64; plan_words::COUNTERS];
     let g = crate::views::view_walk(
         state,
         parts,
@@ -203,9 +204,6 @@ fn make(
     anew::result_plan::keep_result(plan, counters, state, &made);
     g
 }
-
-// The most bytes of a room, which is a body too.
-const CEILING: usize = 9223372036854775807;
 
 // THE CALL: a list column as a list-view, 0 or the ground of refusal. A refused one changes nothing.
 pub fn to_list_view(
@@ -226,7 +224,7 @@ pub fn to_list_view(
 ) -> u8
     ensures { λ r. ⌜ Answers (makeView (now (formats .entry)) (now (schema .entry)) (tablesOf (now (lengths .entry)) (now (places .entry)) (now (buffers .entry)) (now (body .entry))) first n target «target_n» (now (parts .entry)) (now (plan .entry)) (now (counters .entry)) (now (room .entry))) r (now (plan .exit)) (now (counters .exit)) (now (room .exit)) ⌝ }
 {
-    if CEILING < room.len() {
+    if columns::CEILING < room.len() {
         return 9;
     }
     let g = ground_of(
@@ -245,7 +243,7 @@ pub fn to_list_view(
         return g;
     }
     let state = planned(formats, schema, lengths, places, body, first, target);
-    let mut tried = [0u64; 96];
+    let mut tried = [0u64; plan_words::COUNTERS];
     let g = crate::views::view_walk(
         &state,
         parts,

@@ -42,9 +42,6 @@ const COPY: u64 = 0;
 
 const LARGEST_SOURCE: u64 = 4294967295;
 
-// Where the plan has its number of sources.
-const SOURCE_COUNT: usize = 864;
-
 const DEPTH: u32 = 8;
 
 const NO_SUCH_SOURCE: u8 = 1;
@@ -60,7 +57,14 @@ const NOT_LENT: u8 = 14;
 // ---- a walk, then 14 and 13
 
 // 14 where the parts do not lie in a room of m bytes, then the first part that is too small for r + n rows.
-fn settle(plan: &[u64], parts: &[u64], counts: &[u64; 96], m: usize, r: u64, n: u64) -> Why
+fn settle(
+    plan: &[u64],
+    parts: &[u64],
+    counts: &[u64; plan_words::COUNTERS],
+    m: usize,
+    r: u64,
+    n: u64,
+) -> Why
     requires { ⌜ m < top ⌝ }
     ensures { λ w. ⌜ w ≡ unless (partsWithin (now (plan .entry)) (now (parts .entry)) m) (only 14) (whyParts (now (plan .entry)) (now (counts .entry)) (now (parts .entry)) (r + n)) ⌝ }
 {
@@ -77,7 +81,7 @@ fn copy_rows(
     lengths: &[u64],
     places: &[u64],
     body: &[u8],
-    counts: &mut [u64; 96],
+    counts: &mut [u64; plan_words::COUNTERS],
     m: usize,
     source: usize,
     first: usize,
@@ -122,7 +126,13 @@ fn copy_rows(
 }
 
 // n nulls.
-fn add_nulls(plan: &[u64], parts: &[u64], counts: &mut [u64; 96], m: usize, n: u64) -> Why
+fn add_nulls(
+    plan: &[u64],
+    parts: &[u64],
+    counts: &mut [u64; plan_words::COUNTERS],
+    m: usize,
+    n: u64,
+) -> Why
     requires { ⌜ m < top ⌝ }
     ensures { λ w. ⌜ ((sources lengths places body : List ℕ) → Settles (lent (now (plan .entry)) (now (parts .entry)) sources lengths places body) m (now (counts .entry)) n (nullWalk (join (now (plan .entry)) (now (parts .entry)) [] [] [] 0 0) 8 0 (walked n) (now (counts .entry))) (whyNulls (join (now (plan .entry)) (now (parts .entry)) [] [] [] 0 0) 8 0 n (now (counts .entry))) w (now (counts .exit))) ⌝ }
 {
@@ -144,7 +154,7 @@ fn order_copy(
     lengths: &[u64],
     places: &[u64],
     body: &[u8],
-    counts: &mut [u64; 96],
+    counts: &mut [u64; plan_words::COUNTERS],
     m: usize,
     source: u32,
     start: u64,
@@ -153,7 +163,7 @@ fn order_copy(
     requires { ⌜ m < top ⌝ }
     ensures { λ w. ⌜ Explains (lent (now (plan .entry)) (now (parts .entry)) (now (sources .entry)) (now (lengths .entry)) (now (places .entry)) (now (body .entry))) m (copy source start end) (now (counts .entry)) w (now (counts .exit)) ⌝ }
 {
-    if lent_tables::at_u64(plan, SOURCE_COUNT) <= source as u64 {
+    if lent_tables::at_u64(plan, plan_words::SOURCE_COUNT) <= source as u64 {
         return crate::stop_walks::plain(NO_SUCH_SOURCE);
     }
     let first = lent_tables::at_u32(sources, 2 * (source as usize)) as usize;
@@ -176,7 +186,13 @@ fn order_copy(
 }
 
 // n nulls.
-fn order_nulls(plan: &[u64], parts: &[u64], counts: &mut [u64; 96], m: usize, n: u64) -> Why
+fn order_nulls(
+    plan: &[u64],
+    parts: &[u64],
+    counts: &mut [u64; plan_words::COUNTERS],
+    m: usize,
+    n: u64,
+) -> Why
     requires { ⌜ m < top ⌝ }
     ensures { λ w. ⌜ ((sources lengths places body : List ℕ) → Explains (lent (now (plan .entry)) (now (parts .entry)) sources lengths places body) m (nulls n) (now (counts .entry)) w (now (counts .exit))) ⌝ }
 {
@@ -204,7 +220,7 @@ fn order_at(
     lengths: &[u64],
     places: &[u64],
     body: &[u8],
-    counts: &mut [u64; 96],
+    counts: &mut [u64; plan_words::COUNTERS],
     m: usize,
     orders: &[u64],
     k: usize,
@@ -252,7 +268,7 @@ pub fn why_copy(
 ) -> Why
     ensures { λ w. ⌜ w ≡ whyCopyOrder (lent (now (plan .entry)) (now (parts .entry)) (now (sources .entry)) (now (lengths .entry)) (now (places .entry)) (now (body .entry))) m (now (counters .entry)) source start end ⌝ }
 {
-    if counters.len() != 96 {
+    if counters.len() != plan_words::COUNTERS {
         return crate::stop_walks::plain(NOT_LENT);
     }
     if !sound::is_walkable(plan, m) {
@@ -278,7 +294,7 @@ pub fn why_copy(
 pub fn why_nulls(plan: &[u64], parts: &[u64], counters: &[u64], m: usize, n: u64) -> Why
     ensures { λ w. ⌜ ((sources lengths places body : List ℕ) → w ≡ whyNullOrder (lent (now (plan .entry)) (now (parts .entry)) sources lengths places body) m (now (counters .entry)) n) ⌝ }
 {
-    if counters.len() != 96 {
+    if counters.len() != plan_words::COUNTERS {
         return crate::stop_walks::plain(NOT_LENT);
     }
     if !sound::is_walkable(plan, m) {
@@ -361,7 +377,7 @@ pub fn why_orders(
     if n == 0 {
         return at_first(0);
     }
-    if counters.len() != 96 {
+    if counters.len() != plan_words::COUNTERS {
         return at_first(NOT_LENT);
     }
     if !sound::is_walkable(plan, m) {

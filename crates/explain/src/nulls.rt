@@ -36,7 +36,7 @@ const POSITIONS: u64 = 2147483648;
 pub fn try_nulls(
     state: &[u64],
     parts: &[u64],
-    counts: &mut [u64; 96],
+    counts: &mut [u64; plan_words::COUNTERS],
     i: usize,
     n: u64,
     depth: u32,
@@ -58,7 +58,7 @@ pub fn try_nulls(
 fn step_into(
     state: &[u64],
     parts: &[u64],
-    counts: &mut [u64; 96],
+    counts: &mut [u64; plan_words::COUNTERS],
     k: usize,
     n: u64,
     depth: u32,
@@ -92,7 +92,7 @@ fn homeless(state: &[u64], i: usize) -> Why
 fn step_sparse(
     state: &[u64],
     parts: &[u64],
-    counts: &mut [u64; 96],
+    counts: &mut [u64; plan_words::COUNTERS],
     i: usize,
     n: u64,
     depth: u32,
@@ -133,7 +133,7 @@ fn first_position(rows: u64) -> u64
 }
 
 // A dense union: no home, its first position that does not fit, or its home.
-fn step_dense(state: &[u64], counts: &[u64; 96], i: usize, n: u64) -> NullStep
+fn step_dense(state: &[u64], counts: &[u64; plan_words::COUNTERS], i: usize, n: u64) -> NullStep
     requires { ⌜ i < 32 ⌝ }
     ensures { λ r. ⌜ ((parts : List ℕ) (depth : ℕ) → whyNullDense (join (now (state .entry)) parts [] [] [] 0 0) (nullWalk (join (now (state .entry)) parts [] [] [] 0 0) depth) (whyNulls (join (now (state .entry)) parts [] [] [] 0 0) depth) i n (now (counts .entry)) ≡ whyAfter (join (now (state .entry)) parts [] [] [] 0 0) depth r (now (counts .entry))) ⌝ }
 {
@@ -158,7 +158,7 @@ fn step_dense(state: &[u64], counts: &[u64; 96], i: usize, n: u64) -> NullStep
 // ---- run-end nodes
 
 // The last run end with n rows more.
-fn step_end(state: &[u64], counts: &[u64; 96], i: usize, n: u64) -> NullStep
+fn step_end(state: &[u64], counts: &[u64; plan_words::COUNTERS], i: usize, n: u64) -> NullStep
     requires { ⌜ i + 2 < 32 ⌝ }
     requires { ⌜ ((bytesOf (now state) (suc i) ≡ 2 → ⊥) → (bytesOf (now state) (suc i) ≡ 4 → ⊥) → bytesOf (now state) (suc i) ≡ 8) ⌝ }
     ensures { λ r. ⌜ ((parts : List ℕ) (depth : ℕ) → whyNullEnd (join (now (state .entry)) parts [] [] [] 0 0) (nullWalk (join (now (state .entry)) parts [] [] [] 0 0) depth) (whyNulls (join (now (state .entry)) parts [] [] [] 0 0) depth) (bytesOf (now (state .entry)) (suc i)) i n (now (counts .entry)) ≡ whyAfter (join (now (state .entry)) parts [] [] [] 0 0) depth r (now (counts .entry))) ⌝ }
@@ -181,7 +181,7 @@ fn step_end(state: &[u64], counts: &[u64; 96], i: usize, n: u64) -> NullStep
 fn step_run(
     state: &[u64],
     parts: &[u64],
-    counts: &mut [u64; 96],
+    counts: &mut [u64; plan_words::COUNTERS],
     i: usize,
     n: u64,
     depth: u32,
@@ -211,7 +211,7 @@ fn step_run(
 fn step_data(
     state: &[u64],
     parts: &[u64],
-    counts: &mut [u64; 96],
+    counts: &mut [u64; plan_words::COUNTERS],
     i: usize,
     n: u64,
     depth: u32,
@@ -239,7 +239,7 @@ fn step_data(
 fn step_node(
     state: &[u64],
     parts: &[u64],
-    counts: &mut [u64; 96],
+    counts: &mut [u64; plan_words::COUNTERS],
     i: usize,
     n: u64,
     depth: u32,
@@ -259,7 +259,7 @@ fn step_node(
 pub fn why_null_walk(
     state: &[u64],
     parts: &[u64],
-    counts: &mut [u64; 96],
+    counts: &mut [u64; plan_words::COUNTERS],
     i: usize,
     n: u64,
     depth: u32,

@@ -21,7 +21,7 @@ pub fn step_run(
     lengths: &[u64],
     places: &[u64],
     body: &[u8],
-    counts: &[u64; 96],
+    counts: &[u64; plan_words::COUNTERS],
     first: usize,
     i: usize,
     slot: u64,

@@ -104,7 +104,14 @@ fn root_bytes(code: u8, rows: u64, len: u64, b: usize, r: u64, n: u64) -> u64
 }
 
 // The bytes due in buffer b of node i.
-fn bytes_due(plan: &[u64], counts: &[u64; 96], i: usize, b: usize, r: u64, n: u64) -> u64
+fn bytes_due(
+    plan: &[u64],
+    counts: &[u64; plan_words::COUNTERS],
+    i: usize,
+    b: usize,
+    r: u64,
+    n: u64,
+) -> u64
     requires { ⌜ (i < 32) × (b < 3) ⌝ }
     ensures { λ s. ⌜ ((parts : List ℕ) → s ≡ min (bytesDue (now (plan .entry)) (now (counts .entry)) parts (r + n) i b) top) ⌝ }
 {
@@ -126,7 +133,13 @@ fn size_of(plan: &[u64], parts: &[u64], i: usize, b: usize) -> u64
 }
 
 // Whether buffer b of node i has no part, or one that holds its bytes.
-fn part_holds(plan: &[u64], counts: &[u64; 96], parts: &[u64], i: usize, b: usize) -> bool
+fn part_holds(
+    plan: &[u64],
+    counts: &[u64; plan_words::COUNTERS],
+    parts: &[u64],
+    i: usize,
+    b: usize,
+) -> bool
     requires { ⌜ (i < 32) × (b < 3) × SmallPart (now plan) (now parts) i b ⌝ }
     ensures { λ r. ⌜ r ≡ partHolds (now (plan .entry)) (now (counts .entry)) (now (parts .entry)) i b ⌝ }
 {
@@ -142,7 +155,7 @@ fn part_holds(plan: &[u64], counts: &[u64; 96], parts: &[u64], i: usize, b: usiz
 // What buffer b of node i says.
 fn why_part(
     plan: &[u64],
-    counts: &[u64; 96],
+    counts: &[u64; plan_words::COUNTERS],
     parts: &[u64],
     i: usize,
     b: usize,
@@ -165,7 +178,14 @@ fn why_part(
 }
 
 // What the parts of node i say: its validity, then its buffers.
-fn why_node(plan: &[u64], counts: &[u64; 96], parts: &[u64], i: usize, r: u64, n: u64) -> Why
+fn why_node(
+    plan: &[u64],
+    counts: &[u64; plan_words::COUNTERS],
+    parts: &[u64],
+    i: usize,
+    r: u64,
+    n: u64,
+) -> Why
     requires { ⌜ (i < 32) × ((b : ℕ) → b < 3 → SmallPart (now plan) (now parts) i b) ⌝ }
     ensures { λ w. ⌜ w ≡ whyPart (now (plan .entry)) (now (counts .entry)) (now (parts .entry)) (r + n) i 0 (whyPart (now (plan .entry)) (now (counts .entry)) (now (parts .entry)) (r + n) i 1 (whyPart (now (plan .entry)) (now (counts .entry)) (now (parts .entry)) (r + n) i 2 nothing)) ⌝ }
 {
@@ -181,7 +201,13 @@ fn why_node(plan: &[u64], counts: &[u64; 96], parts: &[u64], i: usize, r: u64, n
 }
 
 // What the first part says that cannot hold its bytes.
-pub fn why_parts(plan: &[u64], counts: &[u64; 96], parts: &[u64], r: u64, n: u64) -> Why
+pub fn why_parts(
+    plan: &[u64],
+    counts: &[u64; plan_words::COUNTERS],
+    parts: &[u64],
+    r: u64,
+    n: u64,
+) -> Why
     requires { ⌜ SmallParts (now plan) (now parts) ⌝ }
     ensures { λ w. ⌜ w ≡ whyParts (now (plan .entry)) (now (counts .entry)) (now (parts .entry)) (r + n) ⌝ }
 {

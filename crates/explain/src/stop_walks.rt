@@ -64,7 +64,7 @@ pub fn try_copy(
     lengths: &[u64],
     places: &[u64],
     body: &[u8],
-    counts: &mut [u64; 96],
+    counts: &mut [u64; plan_words::COUNTERS],
     source: usize,
     first: usize,
     i: usize,
@@ -107,7 +107,7 @@ pub fn step_into(
     lengths: &[u64],
     places: &[u64],
     body: &[u8],
-    counts: &mut [u64; 96],
+    counts: &mut [u64; plan_words::COUNTERS],
     source: usize,
     first: usize,
     k: usize,
@@ -151,7 +151,7 @@ fn step_data(
     lengths: &[u64],
     places: &[u64],
     body: &[u8],
-    counts: &mut [u64; 96],
+    counts: &mut [u64; plan_words::COUNTERS],
     source: usize,
     first: usize,
     i: usize,
@@ -247,7 +247,7 @@ fn step_node(
     lengths: &[u64],
     places: &[u64],
     body: &[u8],
-    counts: &mut [u64; 96],
+    counts: &mut [u64; plan_words::COUNTERS],
     source: usize,
     first: usize,
     i: usize,
@@ -262,7 +262,7 @@ fn step_node(
         return Step::Here(plain(FOREIGN));
     }
     let slot = lookups::slot_of(lengths, first, i, a, n);
-    if 9223372036854775808 <= slot {
+    if plan_words::FAR <= slot {
         return Step::Here(plain(FOREIGN));
     }
     let mut none = [0u8; 0];
@@ -305,7 +305,7 @@ pub fn why_walk(
     lengths: &[u64],
     places: &[u64],
     body: &[u8],
-    counts: &mut [u64; 96],
+    counts: &mut [u64; plan_words::COUNTERS],
     source: usize,
     first: usize,
     i: usize,

@@ -47,7 +47,7 @@ pub fn step_string(
     state: &[u64],
     places: &[u64],
     body: &[u8],
-    counts: &[u64; 96],
+    counts: &[u64; plan_words::COUNTERS],
     first: usize,
     i: usize,
     w: u64,

@@ -27,7 +27,7 @@ fn extend_listed(
     lengths: &[u64],
     places: &[u64],
     body: &[u8],
-    counts: &mut [u64; 96],
+    counts: &mut [u64; plan_words::COUNTERS],
     room: &mut [u8],
     write: bool,
     source: usize,
@@ -87,7 +87,7 @@ fn extend_data(
     lengths: &[u64],
     places: &[u64],
     body: &[u8],
-    counts: &mut [u64; 96],
+    counts: &mut [u64; plan_words::COUNTERS],
     room: &mut [u8],
     write: bool,
     source: usize,
@@ -196,7 +196,7 @@ pub fn extend(
     lengths: &[u64],
     places: &[u64],
     body: &[u8],
-    counts: &mut [u64; 96],
+    counts: &mut [u64; plan_words::COUNTERS],
     room: &mut [u8],
     write: bool,
     source: usize,
@@ -216,7 +216,7 @@ pub fn extend(
         return 12;
     }
     let slot = lookups::slot_of(lengths, first, i, a, n);
-    if 9223372036854775808 <= slot {
+    if plan_words::FAR <= slot {
         return 12;
     }
     let g = node_data::copy_validity(
@@ -262,7 +262,7 @@ pub fn extend(
 fn extend_nulls_data(
     state: &[u64],
     parts: &[u64],
-    counts: &mut [u64; 96],
+    counts: &mut [u64; plan_words::COUNTERS],
     room: &mut [u8],
     write: bool,
     i: usize,
@@ -289,7 +289,7 @@ fn extend_nulls_data(
 pub fn extend_nulls(
     state: &[u64],
     parts: &[u64],
-    counts: &mut [u64; 96],
+    counts: &mut [u64; plan_words::COUNTERS],
     room: &mut [u8],
     write: bool,
     i: usize,

@@ -16,7 +16,7 @@ pub fn extend_list(
     lengths: &[u64],
     places: &[u64],
     body: &[u8],
-    counts: &mut [u64; 96],
+    counts: &mut [u64; plan_words::COUNTERS],
     room: &mut [u8],
     write: bool,
     source: usize,

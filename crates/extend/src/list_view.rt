@@ -10,6 +10,7 @@ ghost use Rattle.walk.specs.Copy.{copyWalk, listViewRow, copyListView};
 ghost use Rattle.leaf_walk.specs.Join.{join};
 use array_data::lent_tables;
 use nested_rows::lookups;
+use walk::plan_words;
 
 // Row r of a list-view: its offset is the child's length before its copy.
 fn extend_list_row(
@@ -18,7 +19,7 @@ fn extend_list_row(
     lengths: &[u64],
     places: &[u64],
     body: &[u8],
-    counts: &mut [u64; 96],
+    counts: &mut [u64; plan_words::COUNTERS],
     room: &mut [u8],
     write: bool,
     source: usize,
@@ -65,7 +66,7 @@ pub fn extend_list_view(
     lengths: &[u64],
     places: &[u64],
     body: &[u8],
-    counts: &mut [u64; 96],
+    counts: &mut [u64; plan_words::COUNTERS],
     room: &mut [u8],
     write: bool,
     source: usize,

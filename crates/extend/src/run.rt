@@ -18,7 +18,7 @@ pub fn extend_run(
     lengths: &[u64],
     places: &[u64],
     body: &[u8],
-    counts: &mut [u64; 96],
+    counts: &mut [u64; plan_words::COUNTERS],
     room: &mut [u8],
     write: bool,
     source: usize,
@@ -89,7 +89,7 @@ pub fn extend_run(
 pub fn extend_nulls_run(
     state: &[u64],
     parts: &[u64],
-    counts: &mut [u64; 96],
+    counts: &mut [u64; plan_words::COUNTERS],
     room: &mut [u8],
     write: bool,
     i: usize,

@@ -20,7 +20,7 @@ fn source_count(plan: &[u64]) -> usize
     ensures { λ r. ⌜ r ≡ min (sourceCount (now (plan .entry))) 16 ⌝ }
     ensures { λ r. ⌜ r ≤ 16 ⌝ }
 {
-    let m = lent_tables::at_u64(plan, 864);
+    let m = lent_tables::at_u64(plan, plan_words::SOURCE_COUNT);
     if 16 < m {
         return 16;
     }

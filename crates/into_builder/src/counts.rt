@@ -82,7 +82,7 @@ fn is_counted(lengths: &[u64], k: usize) -> bool
 {
     let off = lent_tables::offset_of(lengths, k);
     let len = lent_tables::length_of(lengths, k);
-    plan_words::grow(off, len) < 9223372036854775808
+    plan_words::grow(off, len) < plan_words::FAR
 }
 
 // Whether node i is copied, or the bits of a kept dictionary stand in the body.

@@ -17,6 +17,7 @@ ghost use Rattle.refinement.specs.finishing.Finish.{buffersBefore, finishing};
 ghost use Rattle.into_builder.specs.buffers.Names.{lent, countBefore};
 ghost use Rattle.into_builder.specs.Answer.{Answers};
 use array_data::lent_tables;
+use walk::plan_words;
 
 // ---- what is asked of a join
 
@@ -37,13 +38,13 @@ pub fn running_nulls(counters: &[u64]) -> u64
 // ---- tests
 
 // The counters as an array.
-fn load(counters: &[u64]) -> [u64; 96]
+fn load(counters: &[u64]) -> [u64; plan_words::COUNTERS]
     requires { ⌜ length (now counters) ≡ 96 ⌝ }
     ensures { λ r. ⌜ r ≡ now (counters .entry) ⌝ }
 {
-    let mut counts = [0u64; 96];
+    let mut counts = [0u64; plan_words::COUNTERS];
     let mut i = 0;
-    while i < 96 {
+    while i < plan_words::COUNTERS {
         counts[i] = counters[i];
         i += 1;
     }
@@ -64,7 +65,7 @@ fn sizes_fit(base: u64, m: usize) -> bool
 fn room_fits(plan: &[u64], parts: &[u64], counters: &[u64], m: usize) -> bool
     ensures { λ r. ⌜ r ≡ (eqb (length (now (counters .entry))) 96 && partsWithin (now (plan .entry)) (now (parts .entry)) m && partsHold (now (plan .entry)) (now (counters .entry)) (now (parts .entry))) ⌝ }
 {
-    if counters.len() != 96 {
+    if counters.len() != plan_words::COUNTERS {
         return false;
     }
     if !plan::parts::parts_within(plan, parts, m) {

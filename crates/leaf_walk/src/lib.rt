@@ -24,7 +24,7 @@ pub fn rows_in(body: &[u8], at: u64, w: u64, slot: u64, n: u64) -> bool
 }
 
 // Whether a walk that only tries need not look at node i's bits: its null counter is full, and stays so.
-fn is_uncounted(counts: &[u64; 96], write: bool, i: usize) -> bool
+fn is_uncounted(counts: &[u64; plan_words::COUNTERS], write: bool, i: usize) -> bool
     requires { ⌜ i < 32 ⌝ }
     ensures { λ r. ⌜ r ≡ (not write && eqb (nulls (now (counts .entry)) i) top) ⌝ }
 {
@@ -40,7 +40,7 @@ fn copy_bits(
     parts: &[u64],
     places: &[u64],
     body: &[u8],
-    counts: &mut [u64; 96],
+    counts: &mut [u64; plan_words::COUNTERS],
     room: &mut [u8],
     write: bool,
     first: usize,
@@ -81,7 +81,7 @@ pub fn copy_mask(
     parts: &[u64],
     places: &[u64],
     body: &[u8],
-    counts: &mut [u64; 96],
+    counts: &mut [u64; plan_words::COUNTERS],
     room: &mut [u8],
     write: bool,
     first: usize,
@@ -121,7 +121,7 @@ pub fn copy_numbers(
     parts: &[u64],
     places: &[u64],
     body: &[u8],
-    counts: &mut [u64; 96],
+    counts: &mut [u64; plan_words::COUNTERS],
     room: &mut [u8],
     write: bool,
     first: usize,
@@ -160,7 +160,7 @@ pub fn copy_keys(
     parts: &[u64],
     places: &[u64],
     body: &[u8],
-    counts: &mut [u64; 96],
+    counts: &mut [u64; plan_words::COUNTERS],
     room: &mut [u8],
     write: bool,
     source: usize,
@@ -205,7 +205,7 @@ pub fn copy_views(
     parts: &[u64],
     places: &[u64],
     body: &[u8],
-    counts: &mut [u64; 96],
+    counts: &mut [u64; plan_words::COUNTERS],
     room: &mut [u8],
     write: bool,
     source: usize,
@@ -244,7 +244,7 @@ pub fn copy_views(
 pub fn null_mask(
     state: &[u64],
     parts: &[u64],
-    counts: &mut [u64; 96],
+    counts: &mut [u64; plan_words::COUNTERS],
     room: &mut [u8],
     write: bool,
     i: usize,
@@ -263,7 +263,7 @@ pub fn null_mask(
 }
 
 // n nulls of a node that holds no validity are counted.
-pub fn count_nulls(state: &[u64], counts: &mut [u64; 96], i: usize, n: u64) -> u8
+pub fn count_nulls(state: &[u64], counts: &mut [u64; plan_words::COUNTERS], i: usize, n: u64) -> u8
     requires { ⌜ i < 32 ⌝ }
     ensures { λ r. ⌜ ((parts lengths places body room : List ℕ) (first source : ℕ) (write : Bool) → Did (now (state .entry)) parts write (countNulls (join (now (state .entry)) parts lengths places body first source) i n (now (counts .entry))) room r (now (counts .exit)) room) ⌝ }
 {
@@ -278,7 +278,7 @@ pub fn count_nulls(state: &[u64], counts: &mut [u64; 96], i: usize, n: u64) -> u
 pub fn null_numbers(
     state: &[u64],
     parts: &[u64],
-    counts: &mut [u64; 96],
+    counts: &mut [u64; plan_words::COUNTERS],
     room: &mut [u8],
     write: bool,
     i: usize,

@@ -25,10 +25,10 @@ pub fn measure_open(
 ) -> u8
     ensures { λ r. ⌜ Measures (openMeasure (lent (now (plan .entry)) [] (now (sources .entry)) (now (lengths .entry)) (now (places .entry)) (now (body .entry))) (now (counters .entry))) r (now (counters .exit)) ⌝ }
 {
-    if counters.len() != 96 {
+    if counters.len() != plan_words::COUNTERS {
         return 14;
     }
-    if 16 < lent_tables::at_u64(plan, 864) {
+    if 16 < lent_tables::at_u64(plan, plan_words::SOURCE_COUNT) {
         return 12;
     }
     if !sound::plan_sound(plan) {
@@ -36,7 +36,7 @@ pub fn measure_open(
     }
     let parts = [0u64; 0];
     let mut room = [0u8; 0];
-    let mut counts = [0u64; 96];
+    let mut counts = [0u64; plan_words::COUNTERS];
     let g = with_capacities::open_walk::open_walk(
         plan,
         &parts,
@@ -70,13 +70,13 @@ pub fn measure_extend(
 ) -> u8
     ensures { λ r. ⌜ Measures (copyMeasure (now (counters .entry)) (lent (now (plan .entry)) [] (now (sources .entry)) (now (lengths .entry)) (now (places .entry)) (now (body .entry))) source start end) r (now (counters .exit)) ⌝ }
 {
-    if counters.len() != 96 {
+    if counters.len() != plan_words::COUNTERS {
         return 14;
     }
     if !sound::plan_sound(plan) {
         return 14;
     }
-    if lent_tables::at_u64(plan, 864) <= source as u64 {
+    if lent_tables::at_u64(plan, plan_words::SOURCE_COUNT) <= source as u64 {
         return 1;
     }
     let first = lent_tables::at_u32(sources, 2 * (source as usize)) as usize;
@@ -114,7 +114,7 @@ pub fn measure_extend(
 pub fn measure_nulls(plan: &[u64], counters: &mut [u64], n: u64) -> u8
     ensures { λ r. ⌜ ((sources lengths places body : List ℕ) → Measures (nullMeasure (now (counters .entry)) (lent (now (plan .entry)) [] sources lengths places body) n) r (now (counters .exit))) ⌝ }
 {
-    if counters.len() != 96 {
+    if counters.len() != plan_words::COUNTERS {
         return 14;
     }
     if !sound::plan_sound(plan) {

@@ -27,7 +27,7 @@ fn gap_begun(gap: u64) -> u64
 }
 
 // n ends more of the run-end node i, of a copy.
-pub fn count_runs(counts: &mut [u64; 96], i: usize, n: u64)
+pub fn count_runs(counts: &mut [u64; plan_words::COUNTERS], i: usize, n: u64)
     requires { ⌜ i + 2 < 32 ⌝ }
     ensures { λ _. ⌜ now (counts .exit) ≡ endGap i (addRows (suc i) n (now (counts .entry))) ⌝ }
 {
@@ -37,7 +37,7 @@ pub fn count_runs(counts: &mut [u64; 96], i: usize, n: u64)
 }
 
 // One end more, of an order of nulls.
-pub fn count_null_run(counts: &mut [u64; 96], i: usize)
+pub fn count_null_run(counts: &mut [u64; plan_words::COUNTERS], i: usize)
     requires { ⌜ i + 2 < 32 ⌝ }
     ensures { λ _. ⌜ now (counts .exit) ≡ beginGap i (addRows (suc i) 1 (now (counts .entry))) ⌝ }
 {

@@ -35,7 +35,7 @@ pub fn sum_fits(w: u64, v: u64, n: u64) -> bool
     if w == 4 {
         return sum < 2147483648;
     }
-    sum < 9223372036854775808
+    sum < plan_words::FAR
 }
 
 // Whether the rows of both buffers of node i stand in the body: entries of v bytes and of w bytes.
@@ -62,7 +62,7 @@ pub fn pairs_in(
 pub fn list_numbers(
     state: &[u64],
     parts: &[u64],
-    counts: &[u64; 96],
+    counts: &[u64; plan_words::COUNTERS],
     room: &mut [u8],
     write: bool,
     i: usize,
@@ -88,7 +88,7 @@ pub fn list_numbers(
 pub fn dense_numbers(
     state: &[u64],
     parts: &[u64],
-    counts: &[u64; 96],
+    counts: &[u64; plan_words::COUNTERS],
     room: &mut [u8],
     write: bool,
     i: usize,
@@ -135,10 +135,10 @@ fn ends_in(lengths: &[u64], places: &[u64], body: &[u8], first: usize, i: usize,
 {
     let offset = lent_tables::offset_of(lengths, first + i);
     let n = lent_tables::length_of(lengths, first + i);
-    if 9223372036854775808 <= offset {
+    if plan_words::FAR <= offset {
         return false;
     }
-    if 9223372036854775808 <= n {
+    if plan_words::FAR <= n {
         return false;
     }
     leaf_walk::rows_in(body, lent_tables::place(places, first + i, 3), w, offset, n)
@@ -150,7 +150,7 @@ pub fn runs_ready(
     lengths: &[u64],
     places: &[u64],
     body: &[u8],
-    counts: &[u64; 96],
+    counts: &[u64; plan_words::COUNTERS],
     first: usize,
     i: usize,
     n: u64,
@@ -201,7 +201,7 @@ pub fn run_numbers(
     lengths: &[u64],
     places: &[u64],
     body: &[u8],
-    counts: &mut [u64; 96],
+    counts: &mut [u64; plan_words::COUNTERS],
     room: &mut [u8],
     write: bool,
     first: usize,
@@ -267,7 +267,7 @@ pub fn no_home(state: &[u64], i: usize) -> u8
 pub fn null_ids(
     state: &[u64],
     parts: &[u64],
-    counts: &[u64; 96],
+    counts: &[u64; plan_words::COUNTERS],
     room: &mut [u8],
     write: bool,
     i: usize,
@@ -296,7 +296,7 @@ pub fn null_ids(
 pub fn null_positions(
     state: &[u64],
     parts: &[u64],
-    counts: &[u64; 96],
+    counts: &[u64; plan_words::COUNTERS],
     room: &mut [u8],
     write: bool,
     i: usize,
@@ -323,7 +323,7 @@ pub fn null_positions(
 pub fn null_end(
     state: &[u64],
     parts: &[u64],
-    counts: &mut [u64; 96],
+    counts: &mut [u64; plan_words::COUNTERS],
     room: &mut [u8],
     write: bool,
     i: usize,
@@ -348,7 +348,7 @@ pub fn null_end(
 pub fn longer_end(
     state: &[u64],
     parts: &[u64],
-    counts: &[u64; 96],
+    counts: &[u64; plan_words::COUNTERS],
     room: &mut [u8],
     write: bool,
     i: usize,

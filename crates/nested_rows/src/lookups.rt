@@ -21,8 +21,8 @@ pub fn slot_of(lengths: &[u64], first: usize, i: usize, a: u64, n: u64) -> u64
 {
     let offset = lent_tables::offset_of(lengths, first + i);
     let end = plan_words::grow(plan_words::grow(offset, a), n);
-    if 9223372036854775808 <= end {
-        return 9223372036854775808;
+    if plan_words::FAR <= end {
+        return plan_words::FAR;
     }
     offset + a
 }

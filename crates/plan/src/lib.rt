@@ -21,10 +21,10 @@ use walk::plan_words;
 // ---- the type tree
 
 // The words of the type tree, and zeros behind them.
-fn write_tree(tree: &[u64; 256], state: &mut [u64; 872])
+fn write_tree(tree: &[u64; 256], state: &mut [u64; plan_words::WORDS])
     ensures { λ _. ⌜ now (state .exit) ≡ withTree (now (tree .entry)) ⌝ }
 {
-    let mut words = [0u64; 872];
+    let mut words = [0u64; plan_words::WORDS];
     let mut q = 0;
     while q < 256 {
         words[q] = tree[q];
@@ -36,7 +36,7 @@ fn write_tree(tree: &[u64; 256], state: &mut [u64; 872])
 // ---- which nodes keep nulls
 
 // The node above node i: the last one before it whose subtree holds it.
-fn parent_of(state: &[u64; 872], i: usize) -> usize
+fn parent_of(state: &[u64; plan_words::WORDS], i: usize) -> usize
     requires { ⌜ i < 32 ⌝ }
     ensures { λ r. ⌜ r ≡ parentOf (now (state .entry)) i ⌝ }
     ensures { λ r. ⌜ r < 32 ⌝ }
@@ -52,7 +52,7 @@ fn parent_of(state: &[u64; 872], i: usize) -> usize
 }
 
 // Whether the caller or the node above asks for the nulls of node i.
-fn is_asked(state: &[u64; 872], keep: bool, i: usize) -> bool
+fn is_asked(state: &[u64; plan_words::WORDS], keep: bool, i: usize) -> bool
     requires { ⌜ i < 32 ⌝ }
     ensures { λ r. ⌜ r ≡ asked (now (state .entry)) keep i ⌝ }
 {
@@ -66,7 +66,7 @@ fn is_asked(state: &[u64; 872], keep: bool, i: usize) -> bool
 }
 
 // Whether node i is the run ends of the node before it.
-fn is_ends(state: &[u64; 872], i: usize) -> bool
+fn is_ends(state: &[u64; plan_words::WORDS], i: usize) -> bool
     requires { ⌜ i < 32 ⌝ }
     ensures { λ r. ⌜ r ≡ isEnds (now (state .entry)) i ⌝ }
 {
@@ -84,7 +84,7 @@ fn keep_word(
     body: &[u8],
     m: usize,
     keep: bool,
-    state: &[u64; 872],
+    state: &[u64; plan_words::WORDS],
     i: usize,
 ) -> u64
     requires { ⌜ (m ≤ 16) × (i < 32) × ((s : ℕ) → s < m → Countable (tables (now lengths) (now places) (now body)) (firstOf (now sources) s + i)) ⌝ }
@@ -109,7 +109,7 @@ fn write_keeps(
     m: usize,
     keep: bool,
     n: usize,
-    state: &mut [u64; 872],
+    state: &mut [u64; plan_words::WORDS],
 )
     requires { ⌜ (m ≤ 16) × (n ≤ 32) × ((s i : ℕ) → s < m → i < n → Countable (tables (now lengths) (now places) (now body)) (firstOf (now sources) s + i)) ⌝ }
     ensures { λ _. ⌜ now (state .exit) ≡ withKeeps (tables (now (lengths .entry)) (now (places .entry)) (now (body .entry))) (now (sources .entry)) m keep n (now (state .entry)) ⌝ }
@@ -139,7 +139,7 @@ fn joined_word(
     places: &[u64],
     body: &[u8],
     m: usize,
-    state: &[u64; 872],
+    state: &[u64; plan_words::WORDS],
     i: usize,
 ) -> u64
     requires { ⌜ (m ≤ 16) × (i < 32) ⌝ }
@@ -163,7 +163,7 @@ fn write_joined(
     body: &[u8],
     m: usize,
     n: usize,
-    state: &mut [u64; 872],
+    state: &mut [u64; plan_words::WORDS],
 )
     requires { ⌜ (m ≤ 16) × (n ≤ 32) ⌝ }
     ensures { λ _. ⌜ now (state .exit) ≡ withJoined (tables (now (lengths .entry)) (now (places .entry)) (now (body .entry))) (now (sources .entry)) m n (now (state .entry)) ⌝ }
@@ -213,7 +213,7 @@ fn base_word(
     places: &[u64],
     body: &[u8],
     m: usize,
-    state: &[u64; 872],
+    state: &[u64; plan_words::WORDS],
     s: usize,
     i: usize,
 ) -> u64
@@ -237,14 +237,23 @@ fn write_bases(
     places: &[u64],
     body: &[u8],
     m: usize,
-    state: &mut [u64; 872],
+    state: &mut [u64; plan_words::WORDS],
 )
     requires { ⌜ m ≤ 16 ⌝ }
     ensures { λ _. ⌜ now (state .exit) ≡ withBases (tables (now (lengths .entry)) (now (places .entry)) (now (body .entry))) (now (sources .entry)) m (now (state .entry)) ⌝ }
 {
     let mut q = 0;
     while q < 32 * m {
-        state[352 + q] = base_word(sources, lengths, places, body, m, state, q / 32, q % 32);
+        state[plan_words::BASES + q] = base_word(
+            sources,
+            lengths,
+            places,
+            body,
+            m,
+            state,
+            q / 32,
+            q % 32,
+        );
         q += 1;
     }
 }
@@ -252,7 +261,7 @@ fn write_bases(
 // ---- parts, and the whole
 
 // The part of the first buffer of each of the first n nodes.
-pub fn write_parts(n: usize, state: &mut [u64; 872])
+pub fn write_parts(n: usize, state: &mut [u64; plan_words::WORDS])
     requires { ⌜ n ≤ 32 ⌝ }
     ensures { λ _. ⌜ now (state .exit) ≡ withParts n (now (state .entry)) ⌝ }
 {
@@ -270,7 +279,7 @@ pub fn write_type(
     first: usize,
     m: usize,
     n: usize,
-    state: &mut [u64; 872],
+    state: &mut [u64; plan_words::WORDS],
 )
     requires { ⌜ (first < 4294967296) × (n < 4294967296) ⌝ }
     ensures { λ _. ⌜ now (state .exit) ≡ withCounts m n (withTree (planted (now (formats .entry)) (now (schema .entry)) first n)) ⌝ }
@@ -278,8 +287,8 @@ pub fn write_type(
     let mut tree = [0u64; 256];
     node_words::plant(formats, schema, first, n, &mut tree);
     write_tree(&tree, state);
-    state[864] = m as u64;
-    state[865] = n as u64;
+    state[plan_words::SOURCE_COUNT] = m as u64;
+    state[plan_words::NODE_COUNT] = n as u64;
 }
 
 // All words but the choice.
@@ -291,7 +300,7 @@ fn lay_out(
     places: &[u64],
     body: &[u8],
     keep: bool,
-    state: &mut [u64; 872],
+    state: &mut [u64; plan_words::WORDS],
 )
     requires { ⌜ Plannable (tables (now lengths) (now places) (now body)) (now sources) ⌝ }
     ensures { λ _. ⌜ now (state .exit) ≡ laidOut (now (formats .entry)) (now (schema .entry)) (tables (now (lengths .entry)) (now (places .entry)) (now (body .entry))) (now (sources .entry)) keep ⌝ }
@@ -304,7 +313,7 @@ fn lay_out(
     write_joined(sources, lengths, places, body, m, n, state);
     write_bases(sources, lengths, places, body, m, state);
     write_parts(n, state);
-    state[866] = crate::parts::part_total(state) as u64;
+    state[plan_words::PART_COUNT] = crate::parts::part_total(state) as u64;
 }
 
 // 1 for true.
@@ -327,11 +336,11 @@ pub fn plan(
     body: &[u8],
     keep: bool,
     gaps: bool,
-    state: &mut [u64; 872],
+    state: &mut [u64; plan_words::WORDS],
 )
     requires { ⌜ Plannable (tables (now lengths) (now places) (now body)) (now sources) ⌝ }
     ensures { λ _. ⌜ now (state .exit) ≡ planned (now (formats .entry)) (now (schema .entry)) (tables (now (lengths .entry)) (now (places .entry)) (now (body .entry))) (now (sources .entry)) keep gaps ⌝ }
 {
     lay_out(sources, formats, schema, lengths, places, body, keep, state);
-    state[867] = choice_word(gaps);
+    state[plan_words::GAPS] = choice_word(gaps);
 }

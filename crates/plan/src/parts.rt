@@ -47,7 +47,7 @@ pub fn node_count(state: &[u64]) -> usize
     ensures { λ r. ⌜ r ≡ nodesOf (now (state .entry)) ⌝ }
     ensures { λ r. ⌜ r ≤ 32 ⌝ }
 {
-    let n = lent_tables::at_u64(state, 865);
+    let n = lent_tables::at_u64(state, plan_words::NODE_COUNT);
     if 32 < n {
         return 32;
     }
@@ -260,7 +260,13 @@ fn fits(code: u8, r: u64, n: u64, b: usize, size: u64) -> bool
 }
 
 // Whether buffer b of node i has no part, or one that holds its bytes.
-fn part_holds(state: &[u64], counts: &[u64; 96], parts: &[u64], i: usize, b: usize) -> bool
+fn part_holds(
+    state: &[u64],
+    counts: &[u64; plan_words::COUNTERS],
+    parts: &[u64],
+    i: usize,
+    b: usize,
+) -> bool
     requires { ⌜ (i < 32) × (b < 3) ⌝ }
     ensures { λ r. ⌜ r ≡ partHolds (now (state .entry)) (now (counts .entry)) (now (parts .entry)) i b ⌝ }
 {
@@ -275,7 +281,7 @@ fn part_holds(state: &[u64], counts: &[u64; 96], parts: &[u64], i: usize, b: usi
 }
 
 // Whether every part of node i holds its bytes.
-fn node_holds(state: &[u64], counts: &[u64; 96], parts: &[u64], i: usize) -> bool
+fn node_holds(state: &[u64], counts: &[u64; plan_words::COUNTERS], parts: &[u64], i: usize) -> bool
     requires { ⌜ i < 32 ⌝ }
     ensures { λ r. ⌜ r ≡ every (λ b. partHolds (now (state .entry)) (now (counts .entry)) (now (parts .entry)) i b) 3 ⌝ }
 {
@@ -286,7 +292,7 @@ fn node_holds(state: &[u64], counts: &[u64; 96], parts: &[u64], i: usize) -> boo
 }
 
 // Whether every part holds its bytes: ground 13 where not.
-pub fn parts_hold(state: &[u64], counts: &[u64; 96], parts: &[u64]) -> bool
+pub fn parts_hold(state: &[u64], counts: &[u64; plan_words::COUNTERS], parts: &[u64]) -> bool
     ensures { λ r. ⌜ r ≡ partsHold (now (state .entry)) (now (counts .entry)) (now (parts .entry)) ⌝ }
 {
     let n = node_count(state);

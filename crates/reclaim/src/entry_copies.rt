@@ -11,6 +11,7 @@ ghost use Rattle.reclaim.specs.used_entries.Keys.{rank, Head};
 ghost use Rattle.reclaim.specs.reclaim_walk.Walk.{keysOf, keysIn, runOf, copyRun, copyRuns, copyBlocks};
 use array_data::lent_tables;
 use nested_rows::lookups;
+use walk::plan_words;
 
 // How many entries a block has at most.
 const BLOCK: u64 = 512;
@@ -62,7 +63,7 @@ fn copy_run(
     lengths: &[u64],
     places: &[u64],
     body: &[u8],
-    counts: &mut [u64; 96],
+    counts: &mut [u64; plan_words::COUNTERS],
     room: &mut [u8],
     write: bool,
     first: usize,
@@ -111,7 +112,7 @@ fn copy_runs(
     lengths: &[u64],
     places: &[u64],
     body: &[u8],
-    counts: &mut [u64; 96],
+    counts: &mut [u64; plan_words::COUNTERS],
     room: &mut [u8],
     write: bool,
     first: usize,
@@ -154,7 +155,7 @@ fn copy_block(
     lengths: &[u64],
     places: &[u64],
     body: &[u8],
-    counts: &mut [u64; 96],
+    counts: &mut [u64; plan_words::COUNTERS],
     room: &mut [u8],
     write: bool,
     first: usize,
@@ -206,7 +207,7 @@ pub fn copy_entries(
     lengths: &[u64],
     places: &[u64],
     body: &[u8],
-    counts: &mut [u64; 96],
+    counts: &mut [u64; plan_words::COUNTERS],
     room: &mut [u8],
     write: bool,
     first: usize,

@@ -23,9 +23,7 @@ ghost use Rattle.anew.specs.result_plan.Answer.{Asks};
 ghost use Rattle.reclaim.specs.used_entries.Keys.{Head};
 ghost use Rattle.reclaim.specs.reclaim_walk.Walk.{keysOf, keysIn, reclaimWalk};
 ghost use Rattle.reclaim.specs.Reclaim.{fromColumn, reclaimOwn, reclaimAsked, reclaiming};
-
-// The most bytes of a room, which is a body too.
-const CEILING: usize = 9223372036854775807;
+use walk::plan_words;
 
 // The ground of the column: 9, 10, 12, and 10 where it is no dictionary.
 fn ground_of(
@@ -59,11 +57,11 @@ fn planned(
     body: &[u8],
     first: u32,
     n: u32,
-) -> [u64; 872]
+) -> [u64; plan_words::WORDS]
     requires { ⌜ (n ≤ 32) × Comes (tables (now lengths) (now places) (now body)) first n fromColumn ⌝ }
     ensures { λ r. ⌜ r ≡ planAnew (now (formats .entry)) (now (schema .entry)) first n (keepsFrom (tables (now (lengths .entry)) (now (places .entry)) (now (body .entry))) first fromColumn) true 0 ⌝ }
 {
-    let mut state = [0u64; 872];
+    let mut state = [0u64; plan_words::WORDS];
     let from = [1u64, 2];
     anew::result_plan::plan_anew(
         formats,
@@ -106,7 +104,7 @@ pub fn plan_reclaim(
     let head = crate::reclaim_walk::head_ranks(&state, lengths, places, body, first as usize);
     let none = [0u64; 0];
     let mut nothing = [0u8; 0];
-    let mut counts = [0u64; 96];
+    let mut counts = [0u64; plan_words::COUNTERS];
     let g = crate::reclaim_walk::reclaim_walk(
         &head,
         &state,
@@ -122,10 +120,10 @@ pub fn plan_reclaim(
     if g != 0 {
         return g;
     }
-    if plan.len() != 872 {
+    if plan.len() != plan_words::WORDS {
         return 14;
     }
-    if counters.len() != 96 {
+    if counters.len() != plan_words::COUNTERS {
         return 14;
     }
     let made = with_capacities::copied(counts);
@@ -150,7 +148,7 @@ fn make(
     requires { ⌜ (keysIn (join (now state) [] (now lengths) (now places) (now body) first 0) ≡ true → Head (keysOf (join (now state) [] (now lengths) (now places) (now body) first 0)) (lengthOf (join (now state) [] (now lengths) (now places) (now body) first 0) 1) (now head)) ⌝ }
     ensures { λ r. ⌜ (now (plan .exit) ≡ now (state .entry)) × Did (now (state .entry)) (now (parts .entry)) true (reclaimWalk (join (now (state .entry)) (now (parts .entry)) (now (lengths .entry)) (now (places .entry)) (now (body .entry)) first 0) (replicate 96 0)) (now (room .entry)) r (now (counters .exit)) (now (room .exit)) ⌝ }
 {
-    let mut counts = [0u64; 96];
+    let mut counts = [0u64; plan_words::COUNTERS];
     let g = crate::reclaim_walk::reclaim_walk(
         head,
         state,
@@ -185,7 +183,7 @@ pub fn reclaim(
 ) -> u8
     ensures { λ r. ⌜ Answers (reclaiming (now (formats .entry)) (now (schema .entry)) (tablesOf (now (lengths .entry)) (now (places .entry)) (now (buffers .entry)) (now (body .entry))) first n (now (parts .entry)) (now (plan .entry)) (now (counters .entry)) (now (room .entry))) r (now (plan .exit)) (now (counters .exit)) (now (room .exit)) ⌝ }
 {
-    if CEILING < room.len() {
+    if columns::CEILING < room.len() {
         return 9;
     }
     let g = ground_of(formats, schema, lengths, places, buffers, body, first, n);
@@ -194,7 +192,7 @@ pub fn reclaim(
     }
     let state = planned(formats, schema, lengths, places, body, first, n);
     let head = crate::reclaim_walk::head_ranks(&state, lengths, places, body, first as usize);
-    let mut tried = [0u64; 96];
+    let mut tried = [0u64; plan_words::COUNTERS];
     let g = crate::reclaim_walk::reclaim_walk(
         &head,
         &state,

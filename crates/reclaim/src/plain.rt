@@ -40,7 +40,7 @@ fn is_plain(
         return false;
     }
     let off = lent_tables::offset_of(lengths, first + 1);
-    if crate::reclaim_walk::FAR <= plan_words::grow(off, base + count) {
+    if plan_words::FAR <= plan_words::grow(off, base + count) {
         return false;
     }
     let w = lookups::width_at(state, 1);
@@ -99,14 +99,14 @@ fn write_entries(
 }
 
 // A copy; that it has 96 elements is known of an array that a call returns.
-fn copied(counts: [u64; 96]) -> [u64; 96]
+fn copied(counts: [u64; plan_words::COUNTERS]) -> [u64; plan_words::COUNTERS]
     ensures { λ r. ⌜ r ≡ counts ⌝ }
 {
     counts
 }
 
 // n entries more, if there is one.
-fn count_entries(counts: &mut [u64; 96], n: u64)
+fn count_entries(counts: &mut [u64; plan_words::COUNTERS], n: u64)
     ensures { λ _. ⌜ now (counts .exit) ≡ cond (eqb n 0) (now (counts .entry)) (addRows 1 n (now (counts .entry))) ⌝ }
 {
     if n == 0 {
@@ -123,7 +123,7 @@ pub fn copy_plain(
     lengths: &[u64],
     places: &[u64],
     body: &[u8],
-    counts: &mut [u64; 96],
+    counts: &mut [u64; plan_words::COUNTERS],
     room: &mut [u8],
     write: bool,
     first: usize,

@@ -18,9 +18,6 @@ use array_data::lent_tables;
 use nested_rows::lookups;
 use walk::plan_words;
 
-// One past the largest slot.
-pub const FAR: u64 = 9223372036854775808;
-
 // Whether the keys have validity.
 pub fn is_masked(places: &[u64], first: usize) -> bool
     requires { ⌜ first < 2 ^ 32 ⌝ }
@@ -42,10 +39,10 @@ fn keys_in(state: &[u64], lengths: &[u64], places: &[u64], body: &[u8], first: u
     if !schema::formats::is_fixed(plan_words::code_of(state, 0)) {
         return false;
     }
-    if FAR <= plan_words::grow(off, n) {
+    if plan_words::FAR <= plan_words::grow(off, n) {
         return false;
     }
-    if FAR <= lent_tables::length_of(lengths, first + 1) {
+    if plan_words::FAR <= lent_tables::length_of(lengths, first + 1) {
         return false;
     }
     let w = lookups::width_at(state, 0);
@@ -166,7 +163,7 @@ pub fn reclaim_walk(
     lengths: &[u64],
     places: &[u64],
     body: &[u8],
-    counts: &mut [u64; 96],
+    counts: &mut [u64; plan_words::COUNTERS],
     room: &mut [u8],
     write: bool,
     first: usize,

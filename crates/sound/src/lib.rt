@@ -102,14 +102,11 @@ pub fn plan_sound(plan: &[u64]) -> bool
     true
 }
 
-// The bytes of the largest body.
-const CEILING: usize = 9223372036854775807;
-
 // Whether a room of m bytes is a body and a walk stays in the plan.
 pub fn is_walkable(plan: &[u64], m: usize) -> bool
     ensures { λ r. ⌜ r ≡ walkable (now (plan .entry)) m ⌝ }
 {
-    if CEILING < m {
+    if columns::CEILING < m {
         return false;
     }
     plan_sound(plan)

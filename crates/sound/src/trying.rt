@@ -3,9 +3,10 @@ ghost use mathlib.Core.Path.{_≡_};
 ghost use Prim.Native.Nat.{_≤_};
 ghost use lib.ListN.{length};
 ghost use Rattle.sound.specs.trying.Alike.{Alike, Full};
+use walk::plan_words;
 
 // Fills the null counters of the first n nodes.
-pub fn uncount(counts: &mut [u64; 96], n: usize)
+pub fn uncount(counts: &mut [u64; plan_words::COUNTERS], n: usize)
     requires { ⌜ n ≤ 32 ⌝ }
     ensures { λ _. ⌜ Alike (now (counts .exit)) (now (counts .entry)) ⌝ }
     ensures { λ _. ⌜ (length (now (counts .entry)) ≡ 96 → Full n (now (counts .exit))) ⌝ }

@@ -390,7 +390,7 @@ pub fn copy_leaf_rows(
     ensures { λ r. ⌜ ((sources : List ℕ) → Answers (settled (lent (now (plan .entry)) (now (parts .entry)) sources (now (lengths .entry)) (now (places .entry)) (now (body .entry))) (now (counters .entry)) (now (room .entry)) (copyWalk (join (now (plan .entry)) (now (parts .entry)) (now (lengths .entry)) (now (places .entry)) (now (body .entry)) first source) 8 0 start n (now (counters .entry)))) r (now (counters .exit)) (now (room .exit))) ⌝ }
 {
     let slot = lookups::slot_of(lengths, first, 0, start, n);
-    if 9223372036854775808 <= slot {
+    if plan_words::FAR <= slot {
         return 12;
     }
     if !bits_in(plan, places, body, first, 0, slot, n) {

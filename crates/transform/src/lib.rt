@@ -31,13 +31,13 @@ use walk::plan_words;
 // ---- the counters
 
 // The counters as an array.
-pub fn load(counters: &[u64]) -> [u64; 96]
+pub fn load(counters: &[u64]) -> [u64; plan_words::COUNTERS]
     requires { ⌜ length (now counters) ≡ 96 ⌝ }
     ensures { λ r. ⌜ r ≡ now (counters .entry) ⌝ }
 {
-    let mut counts = [0u64; 96];
+    let mut counts = [0u64; plan_words::COUNTERS];
     let mut i = 0;
-    while i < 96 {
+    while i < plan_words::COUNTERS {
         counts[i] = counters[i];
         i += 1;
     }
@@ -45,19 +45,19 @@ pub fn load(counters: &[u64]) -> [u64; 96]
 }
 
 // A copy; that it has 96 elements is known of an array that a call returns.
-pub fn copied(counts: [u64; 96]) -> [u64; 96]
+pub fn copied(counts: [u64; plan_words::COUNTERS]) -> [u64; plan_words::COUNTERS]
     ensures { λ r. ⌜ r ≡ counts ⌝ }
 {
     counts
 }
 
 // The counters as the array has them.
-pub fn store(counters: &mut [u64], counts: &[u64; 96])
+pub fn store(counters: &mut [u64], counts: &[u64; plan_words::COUNTERS])
     requires { ⌜ (length (now counters) ≡ 96) × (length (now counts) ≡ 96) ⌝ }
     ensures { λ _. ⌜ now (counters .exit) ≡ now (counts .entry) ⌝ }
 {
     let mut i = 0;
-    while i < 96 {
+    while i < plan_words::COUNTERS {
         counters[i] = counts[i];
         i += 1;
     }
@@ -266,14 +266,14 @@ pub fn try_extend(
 ) -> u8
     ensures { λ r. ⌜ Answers (copyOrder (lent (now (plan .entry)) (now (parts .entry)) (now (sources .entry)) (now (lengths .entry)) (now (places .entry)) (now (body .entry))) (now (counters .entry)) (now (room .entry)) source start end) r (now (counters .exit)) (now (room .exit)) ⌝ }
 {
-    if counters.len() != 96 {
+    if counters.len() != plan_words::COUNTERS {
         return 14;
     }
     let plain = numbers::is_numbers(plan);
     if !numbers::is_walkable(plan, room.len(), plain) {
         return 14;
     }
-    if lent_tables::at_u64(plan, 864) <= source as u64 {
+    if lent_tables::at_u64(plan, plan_words::SOURCE_COUNT) <= source as u64 {
         return 1;
     }
     let first = lent_tables::at_u32(sources, 2 * (source as usize)) as usize;
@@ -302,8 +302,8 @@ pub fn try_extend(
 pub fn at_most_far(n: u64) -> u64
     ensures { λ r. ⌜ r ≡ min n far ⌝ }
 {
-    if 9223372036854775808 < n {
-        return 9223372036854775808;
+    if plan_words::FAR < n {
+        return plan_words::FAR;
     }
     n
 }
@@ -360,7 +360,7 @@ pub fn try_extend_nulls(
 ) -> u8
     ensures { λ r. ⌜ ((sources lengths places body : List ℕ) → Answers (nullOrder (lent (now (plan .entry)) (now (parts .entry)) sources lengths places body) (now (counters .entry)) (now (room .entry)) n) r (now (counters .exit)) (now (room .exit))) ⌝ }
 {
-    if counters.len() != 96 {
+    if counters.len() != plan_words::COUNTERS {
         return 14;
     }
     let plain = numbers::is_numbers(plan);

@@ -42,16 +42,13 @@ pub fn is_numbers(plan: &[u64]) -> bool
     schema::formats::is_fixed(plan_words::code_of(plan, 0))
 }
 
-// The bytes of the largest body.
-const CEILING: usize = 9223372036854775807;
-
 // Whether an order can be walked: such a plan needs no look at other nodes.
 pub fn is_walkable(plan: &[u64], m: usize, plain: bool) -> bool
     requires { ⌜ plain ≡ oneOfNumbers (now plan) ⌝ }
     ensures { λ r. ⌜ r ≡ walkable (now (plan .entry)) m ⌝ }
 {
     if plain {
-        return m <= CEILING;
+        return m <= columns::CEILING;
     }
     sound::is_walkable(plan, m)
 }
@@ -268,7 +265,7 @@ pub fn copy_numbers(
     ensures { λ r. ⌜ ((sources : List ℕ) (source : ℕ) → Answers (settled (lent (now (plan .entry)) (now (parts .entry)) sources (now (lengths .entry)) (now (places .entry)) (now (body .entry))) (now (counters .entry)) (now (room .entry)) (copyWalk (join (now (plan .entry)) (now (parts .entry)) (now (lengths .entry)) (now (places .entry)) (now (body .entry)) first source) 8 0 start n (now (counters .entry)))) r (now (counters .exit)) (now (room .exit))) ⌝ }
 {
     let slot = lookups::slot_of(lengths, first, 0, start, n);
-    if 9223372036854775808 <= slot {
+    if plan_words::FAR <= slot {
         return 12;
     }
     if !leaf_rows::bits_in(plan, places, body, first, 0, slot, n) {

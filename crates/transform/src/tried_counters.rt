@@ -5,9 +5,10 @@ ghost use Prim.Native.Nat.{_≤_};
 ghost use lib.ListN.{length};
 ghost use Rattle.sound.specs.trying.Alike.{Alike};
 ghost use Rattle.transform.specs.tried_counters.Beyond.{Beyond};
+use walk::plan_words;
 
 // The counters with the nulls of the first n nodes full: what a copy is tried on, so that it reads no validity bit.
-pub fn uncounted(counters: &[u64], n: usize) -> [u64; 96]
+pub fn uncounted(counters: &[u64], n: usize) -> [u64; plan_words::COUNTERS]
     requires { ⌜ (length (now counters) ≡ 96) × (n ≤ 32) ⌝ }
     ensures { λ r. ⌜ Alike r (now (counters .entry)) ⌝ }
     ensures { λ r. ⌜ Beyond n r (now (counters .entry)) ⌝ }
@@ -22,7 +23,7 @@ pub fn uncounted(counters: &[u64], n: usize) -> [u64; 96]
 }
 
 // The counters of the first n nodes as they are lent, in an array that has the others.
-pub fn reload(counts: &mut [u64; 96], counters: &[u64], n: usize)
+pub fn reload(counts: &mut [u64; plan_words::COUNTERS], counters: &[u64], n: usize)
     requires { ⌜ (length (now counts) ≡ 96) × (length (now counters) ≡ 96) × (n ≤ 32) × Beyond n (now counts) (now counters) ⌝ }
     ensures { λ _. ⌜ now (counts .exit) ≡ now (counters .entry) ⌝ }
 {
@@ -34,7 +35,7 @@ pub fn reload(counts: &mut [u64; 96], counters: &[u64], n: usize)
 }
 
 // The counters of the first n nodes as the array has them, where the others are those that are lent.
-pub fn keep(counters: &mut [u64], counts: &[u64; 96], n: usize)
+pub fn keep(counters: &mut [u64], counts: &[u64; plan_words::COUNTERS], n: usize)
     requires { ⌜ (length (now counters) ≡ 96) × (length (now counts) ≡ 96) × (n ≤ 32) × Beyond n (now counters) (now counts) ⌝ }
     ensures { λ _. ⌜ now (counters .exit) ≡ now (counts .entry) ⌝ }
 {

@@ -14,6 +14,7 @@ ghost use Rattle.trip.specs.Walk.{stepAt, Stepped};
 ghost use Rattle.trip.specs.Answer.{Ends, Asks};
 use array_data::lent_tables;
 use sound::trying;
+use walk::plan_words;
 
 mod order;
 
@@ -36,7 +37,12 @@ const NOT_LENT: u8 = 14;
 // ---- an order of the list
 
 // 14 where the parts do not lie in the room, 13 where one cannot hold its bytes.
-fn held_ground(plan: &[u64], parts: &[u64], counts: &[u64; 96], within: bool) -> u8
+fn held_ground(
+    plan: &[u64],
+    parts: &[u64],
+    counts: &[u64; plan_words::COUNTERS],
+    within: bool,
+) -> u8
     ensures { λ r. ⌜ r ≡ cond within (cond (partsHold (now (plan .entry)) (now (counts .entry)) (now (parts .entry))) 0 13) 14 ⌝ }
 {
     if !within {
@@ -56,7 +62,7 @@ fn walk_step(
     lengths: &[u64],
     places: &[u64],
     body: &[u8],
-    counts: &mut [u64; 96],
+    counts: &mut [u64; plan_words::COUNTERS],
     room: &mut [u8],
     write: bool,
     ask: bool,
@@ -105,7 +111,7 @@ fn walk_orders(
     lengths: &[u64],
     places: &[u64],
     body: &[u8],
-    counts: &mut [u64; 96],
+    counts: &mut [u64; plan_words::COUNTERS],
     room: &mut [u8],
     write: bool,
     ask: bool,
@@ -235,7 +241,7 @@ pub fn orders(
     if n == 0 {
         return refused(0);
     }
-    if counters.len() != 96 {
+    if counters.len() != plan_words::COUNTERS {
         return refused(NOT_LENT);
     }
     if !sound::is_walkable(plan, room.len()) {
@@ -274,7 +280,7 @@ pub fn measure_orders(
     if n == 0 {
         return refused(0);
     }
-    if counters.len() != 96 {
+    if counters.len() != plan_words::COUNTERS {
         return refused(NOT_LENT);
     }
     if !sound::plan_sound(plan) {

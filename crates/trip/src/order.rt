@@ -14,9 +14,6 @@ const COPY: u64 = 0;
 
 const LARGEST_SOURCE: u64 = 4294967295;
 
-// Where the plan has its number of sources.
-const SOURCE_COUNT: usize = 864;
-
 const NO_SUCH_SOURCE: u8 = 1;
 
 const NO_SUCH_ROWS: u8 = 2;
@@ -41,7 +38,7 @@ fn walk_copy(
     lengths: &[u64],
     places: &[u64],
     body: &[u8],
-    counts: &mut [u64; 96],
+    counts: &mut [u64; plan_words::COUNTERS],
     room: &mut [u8],
     write: bool,
     source: u32,
@@ -50,7 +47,7 @@ fn walk_copy(
 ) -> u8
     ensures { λ g. ⌜ Did (now (plan .entry)) (now (parts .entry)) write (orderWalk (lent (now (plan .entry)) (now (parts .entry)) (now (sources .entry)) (now (lengths .entry)) (now (places .entry)) (now (body .entry))) (copy source start end) (now (counts .entry))) (now (room .entry)) g (now (counts .exit)) (now (room .exit)) ⌝ }
 {
-    if lent_tables::at_u64(plan, SOURCE_COUNT) <= source as u64 {
+    if lent_tables::at_u64(plan, plan_words::SOURCE_COUNT) <= source as u64 {
         return NO_SUCH_SOURCE;
     }
     let first = lent_tables::at_u32(sources, 2 * (source as usize)) as usize;
@@ -79,7 +76,7 @@ fn walk_copy(
 fn walk_nulls(
     plan: &[u64],
     parts: &[u64],
-    counts: &mut [u64; 96],
+    counts: &mut [u64; plan_words::COUNTERS],
     room: &mut [u8],
     write: bool,
     n: u64,
@@ -101,7 +98,7 @@ pub fn walk_order(
     lengths: &[u64],
     places: &[u64],
     body: &[u8],
-    counts: &mut [u64; 96],
+    counts: &mut [u64; plan_words::COUNTERS],
     room: &mut [u8],
     write: bool,
     kind: u64,

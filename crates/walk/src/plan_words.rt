@@ -8,6 +8,25 @@ ghost use Rattle.walk.specs.Log.{startOf};
 ghost use Rattle.walk.specs.plan_words.Target.{targetOf, maskTargetOf};
 use array_data::lent_tables;
 
+// A plan: eight words a node, a base of keys or data buffers for each node of each source, and five numbers of the whole.
+pub const WORDS: usize = 872;
+// Where the bases stand, and those numbers: sources, nodes, parts, whether null orders one after the other are one run, the subtree that is kept.
+pub const BASES: usize = 352;
+
+pub const SOURCE_COUNT: usize = 864;
+
+pub const NODE_COUNT: usize = 865;
+
+pub const PART_COUNT: usize = 866;
+
+pub const GAPS: usize = 867;
+
+pub const KEPT: usize = 868;
+// Three counters a node: rows, nulls and bytes.
+pub const COUNTERS: usize = 96;
+// No slot of a column: offset and length together are below it.
+pub const FAR: u64 = 9223372036854775808;
+
 // Where a write goes in the room, if it is made.
 pub enum Goal {
     At(usize),
@@ -82,17 +101,17 @@ pub fn base_of(state: &[u64], s: usize, i: usize) -> u64
     requires { ⌜ (s < 4294967296) × (i < 32) ⌝ }
     ensures { λ r. ⌜ r ≡ baseOf (now (state .entry)) s i ⌝ }
 {
-    lent_tables::at_u64(state, 352 + (32 * s + i))
+    lent_tables::at_u64(state, BASES + (32 * s + i))
 }
 
-pub fn rows_of(counts: &[u64; 96], i: usize) -> u64
+pub fn rows_of(counts: &[u64; COUNTERS], i: usize) -> u64
     requires { ⌜ i < 32 ⌝ }
     ensures { λ r. ⌜ r ≡ rows (now (counts .entry)) i ⌝ }
 {
     counts[3 * i]
 }
 
-pub fn bytes_of(counts: &[u64; 96], i: usize) -> u64
+pub fn bytes_of(counts: &[u64; COUNTERS], i: usize) -> u64
     requires { ⌜ i < 32 ⌝ }
     ensures { λ r. ⌜ r ≡ bytes (now (counts .entry)) i ⌝ }
 {
@@ -110,7 +129,7 @@ pub fn grow(v: u64, n: u64) -> u64
 }
 
 // n rows more at node i.
-pub fn add_rows(counts: &mut [u64; 96], i: usize, n: u64)
+pub fn add_rows(counts: &mut [u64; COUNTERS], i: usize, n: u64)
     requires { ⌜ i < 32 ⌝ }
     ensures { λ _. ⌜ now (counts .exit) ≡ addRows i n (now (counts .entry)) ⌝ }
 {
@@ -118,7 +137,7 @@ pub fn add_rows(counts: &mut [u64; 96], i: usize, n: u64)
 }
 
 // n nulls more at node i.
-pub fn add_nulls(counts: &mut [u64; 96], i: usize, n: u64)
+pub fn add_nulls(counts: &mut [u64; COUNTERS], i: usize, n: u64)
     requires { ⌜ i < 32 ⌝ }
     ensures { λ _. ⌜ now (counts .exit) ≡ addNulls i n (now (counts .entry)) ⌝ }
 {
@@ -126,7 +145,7 @@ pub fn add_nulls(counts: &mut [u64; 96], i: usize, n: u64)
 }
 
 // The bytes of node i's data.
-pub fn set_bytes(counts: &mut [u64; 96], i: usize, n: u64)
+pub fn set_bytes(counts: &mut [u64; COUNTERS], i: usize, n: u64)
     requires { ⌜ i < 32 ⌝ }
     ensures { λ _. ⌜ now (counts .exit) ≡ setBytes i n (now (counts .entry)) ⌝ }
 {

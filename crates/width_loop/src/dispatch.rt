@@ -10,6 +10,7 @@ ghost use Rattle.width_loop.specs.Here.{Here, ownHere, settledHere};
 use crate::leaves;
 use crate::nodes;
 use array_data::entries;
+use walk::plan_words;
 
 // Nodes with children.
 fn nested_node(
@@ -23,7 +24,7 @@ fn nested_node(
     target: u32,
     plan: &[u64],
     parts: &[u64],
-    counts: &mut [u64; 96],
+    counts: &mut [u64; plan_words::COUNTERS],
     ranges: &mut [u64; 64],
     room: &mut [u8],
     write: bool,
@@ -127,7 +128,7 @@ pub fn walk_data(
     target: u32,
     plan: &[u64],
     parts: &[u64],
-    counts: &mut [u64; 96],
+    counts: &mut [u64; plan_words::COUNTERS],
     ranges: &mut [u64; 64],
     room: &mut [u8],
     write: bool,

@@ -36,7 +36,7 @@ fn walk_node(
     target: u32,
     plan: &[u64],
     parts: &[u64],
-    counts: &mut [u64; 96],
+    counts: &mut [u64; plan_words::COUNTERS],
     ranges: &mut [u64; 64],
     room: &mut [u8],
     write: bool,
@@ -87,7 +87,7 @@ pub fn convert_walk(
     target: u32,
     plan: &[u64],
     parts: &[u64],
-    counts: &mut [u64; 96],
+    counts: &mut [u64; plan_words::COUNTERS],
     room: &mut [u8],
     write: bool,
 ) -> u8

@@ -12,6 +12,7 @@ use crate::kinds;
 use crate::leaves;
 use crate::runs;
 use array_data::entries;
+use walk::plan_words;
 
 // The bytes of an entry of node i.
 fn width_at(formats: &[u8], schema: &[u32], first: u32, i: usize) -> u64
@@ -82,7 +83,7 @@ pub fn string_node(
     target: u32,
     plan: &[u64],
     parts: &[u64],
-    counts: &mut [u64; 96],
+    counts: &mut [u64; plan_words::COUNTERS],
     room: &mut [u8],
     write: bool,
     i: usize,
@@ -272,7 +273,7 @@ pub fn run_node(
     target: u32,
     plan: &[u64],
     parts: &[u64],
-    counts: &mut [u64; 96],
+    counts: &mut [u64; plan_words::COUNTERS],
     ranges: &mut [u64; 64],
     room: &mut [u8],
     write: bool,

@@ -17,9 +17,7 @@ ghost use Rattle.anew.specs.result_plan.Answer.{Asks};
 ghost use Rattle.width_walks.specs.target_rules.Target.{isTarget};
 ghost use Rattle.width_walks.specs.Nodes.{treeWalk};
 ghost use Rattle.width_walks.specs.Call.{fromWords, targetGround, asked, convert};
-
-// The most bytes of a room, which is a body too.
-const CEILING: usize = 9223372036854775807;
+use walk::plan_words;
 
 // The ground of the column and of the target: 9, 10, 12, and 10 where the target differs in more than widths.
 fn ground_of(
@@ -75,11 +73,11 @@ fn planned(
     first: u32,
     n: u32,
     target: u32,
-) -> [u64; 872]
+) -> [u64; plan_words::WORDS]
     requires { ⌜ (n ≤ 32) × Comes (tables (now lengths) (now places) (now body)) first n (fromWords (now formats) (now schema) first n (replicate 32 0)) ⌝ }
     ensures { λ r. ⌜ r ≡ planAnew (now (formats .entry)) (now (schema .entry)) target n (keepsFrom (tables (now (lengths .entry)) (now (places .entry)) (now (body .entry))) first (fromWords (now (formats .entry)) (now (schema .entry)) first n (replicate 32 0))) true 0 ⌝ }
 {
-    let mut state = [0u64; 872];
+    let mut state = [0u64; plan_words::WORDS];
     let from = from_words(formats, schema, first, n);
     anew::result_plan::plan_anew(
         formats,
@@ -134,7 +132,7 @@ pub fn plan_convert(
     let state = planned(formats, schema, lengths, places, body, first, n, target);
     let none = [0u64; 0];
     let mut nothing = [0u8; 0];
-    let mut counts = [0u64; 96];
+    let mut counts = [0u64; plan_words::COUNTERS];
     let g = width_loop::convert_walk(
         formats,
         schema,
@@ -153,10 +151,10 @@ pub fn plan_convert(
     if g != 0 {
         return g;
     }
-    if plan.len() != 872 {
+    if plan.len() != plan_words::WORDS {
         return 14;
     }
-    if counters.len() != 96 {
+    if counters.len() != plan_words::COUNTERS {
         return 14;
     }
     let made = with_capacities::copied(counts);
@@ -185,7 +183,7 @@ fn make(
     requires { ⌜ isTarget (now formats) (now schema) first n target n ≡ true ⌝ }
     ensures { λ r. ⌜ (now (plan .exit) ≡ now (state .entry)) × ((buffers : List ℕ) → Did (now (state .entry)) (now (parts .entry)) true (treeWalk (treeOf (now (formats .entry)) (now (schema .entry)) first n) (treeOf (now (formats .entry)) (now (schema .entry)) target n) (tablesFrom (tablesOf (now (lengths .entry)) (now (places .entry)) buffers (now (body .entry))) first) (now (state .entry)) (replicate 96 0)) (now (room .entry)) r (now (counters .exit)) (now (room .exit))) ⌝ }
 {
-    let mut counts = [0u64; 96];
+    let mut counts = [0u64; plan_words::COUNTERS];
     let g = width_loop::convert_walk(
         formats,
         schema,
@@ -225,7 +223,7 @@ pub fn convert(
 ) -> u8
     ensures { λ r. ⌜ Answers (convert (now (formats .entry)) (now (schema .entry)) (tablesOf (now (lengths .entry)) (now (places .entry)) (now (buffers .entry)) (now (body .entry))) first n target «target_n» (now (parts .entry)) (now (plan .entry)) (now (counters .entry)) (now (room .entry))) r (now (plan .exit)) (now (counters .exit)) (now (room .exit)) ⌝ }
 {
-    if CEILING < room.len() {
+    if columns::CEILING < room.len() {
         return 9;
     }
     let g = ground_of(
@@ -244,7 +242,7 @@ pub fn convert(
         return g;
     }
     let state = planned(formats, schema, lengths, places, body, first, n, target);
-    let mut tried = [0u64; 96];
+    let mut tried = [0u64; plan_words::COUNTERS];
     let g = width_loop::convert_walk(
         formats,
         schema,

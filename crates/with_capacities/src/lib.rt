@@ -19,6 +19,7 @@ ghost use Rattle.refinement.specs.opening.Ask.{asked};
 ghost use Rattle.with_capacities.specs.open_walk.Lent.{lent};
 ghost use Rattle.with_capacities.specs.Answer.{Answers, Plans};
 use sound::trying;
+use walk::plan_words;
 
 // The n numbers of a slice into another one.
 pub fn store(to: &mut [u64], from: &[u64], n: usize)
@@ -33,17 +34,17 @@ pub fn store(to: &mut [u64], from: &[u64], n: usize)
 }
 
 // A copy; that it has 96 elements is known of an array that a call returns.
-pub fn copied(counts: [u64; 96]) -> [u64; 96]
+pub fn copied(counts: [u64; plan_words::COUNTERS]) -> [u64; plan_words::COUNTERS]
     ensures { λ r. ⌜ r ≡ counts ⌝ }
 {
     counts
 }
 
 // Counters of 0 with their nulls full: what an opening is tried on.
-fn uncounted(state: &[u64]) -> [u64; 96]
+fn uncounted(state: &[u64]) -> [u64; plan_words::COUNTERS]
     ensures { λ r. ⌜ Alike r (replicate 96 0) ⌝ }
 {
-    let mut counts = [0u64; 96];
+    let mut counts = [0u64; plan_words::COUNTERS];
     trying::uncount(&mut counts, plan::parts::node_count(state));
     counts
 }
@@ -58,11 +59,11 @@ fn planned_state(
     body: &[u8],
     keep: bool,
     gaps: bool,
-) -> [u64; 872]
+) -> [u64; plan_words::WORDS]
     requires { ⌜ Plannable (tables (now lengths) (now places) (now body)) (now sources) ⌝ }
     ensures { λ r. ⌜ r ≡ planned (now (formats .entry)) (now (schema .entry)) (tables (now (lengths .entry)) (now (places .entry)) (now (body .entry))) (now (sources .entry)) keep gaps ⌝ }
 {
-    let mut state = [0u64; 872];
+    let mut state = [0u64; plan_words::WORDS];
     plan::plan(
         sources,
         formats,
@@ -81,10 +82,10 @@ fn planned_state(
 pub fn room_placed(state: &[u64], parts: &[u64], words: usize, counts: usize, m: usize) -> bool
     ensures { λ r. ⌜ r ≡ (eqb words 872 && eqb counts 96 && partsPlaced (now (parts .entry)) (partTotal (now (state .entry))) m) ⌝ }
 {
-    if words != 872 {
+    if words != plan_words::WORDS {
         return false;
     }
-    if counts != 96 {
+    if counts != plan_words::COUNTERS {
         return false;
     }
     plan::placed::parts_placed(parts, plan::parts::part_total(state), m)
@@ -123,7 +124,7 @@ fn make(
     if !plan::parts::parts_hold(state, &tried, parts) {
         return 13;
     }
-    let mut counts = [0u64; 96];
+    let mut counts = [0u64; plan_words::COUNTERS];
     let g = crate::open_walk::open_walk(
         state,
         parts,
@@ -136,13 +137,10 @@ fn make(
         true,
     );
     let made = copied(counts);
-    store(counters, &made, 96);
-    store(plan, state, 872);
+    store(counters, &made, plan_words::COUNTERS);
+    store(plan, state, plan_words::WORDS);
     g
 }
-
-// The most bytes of a body; the room is one.
-const CEILING: usize = 9223372036854775807;
 
 // Opens a join of lent columns: 0, or the ground of refusal. Plan and counters are then what every order is given. `gaps` chooses one run for a gap.
 pub fn try_with_capacities(
@@ -162,7 +160,7 @@ pub fn try_with_capacities(
 ) -> u8
     ensures { λ r. ⌜ Answers (opening (now (formats .entry)) (now (schema .entry)) (now (sources .entry)) (tablesOf (now (lengths .entry)) (now (places .entry)) (now (buffers .entry)) (now (body .entry))) keep gaps (now (parts .entry)) (now (plan .entry)) (now (counters .entry)) (now (room .entry))) r (now (plan .exit)) (now (counters .exit)) (now (room .exit)) ⌝ }
 {
-    if CEILING < room.len() {
+    if columns::CEILING < room.len() {
         return 9;
     }
     let g = columns::sources_ground(sources, formats, schema, lengths, places, buffers, body);
@@ -205,10 +203,10 @@ pub fn plan_parts(
     if g != 0 {
         return g;
     }
-    if plan.len() != 872 {
+    if plan.len() != plan_words::WORDS {
         return 14;
     }
     let state = planned_state(sources, formats, schema, lengths, places, body, keep, gaps);
-    store(plan, &state, 872);
+    store(plan, &state, plan_words::WORDS);
     0
 }

@@ -20,7 +20,7 @@ use walk::plan_words;
 // ---- gaps
 
 // The gap of node i begins at 1, if it is a run-end node and one run for a gap is chosen.
-fn begin_gap(state: &[u64], counts: &mut [u64; 96], i: usize)
+fn begin_gap(state: &[u64], counts: &mut [u64; plan_words::COUNTERS], i: usize)
     requires { ⌜ i < 32 ⌝ }
     ensures { λ _. ⌜ ((parts sources lengths places body room : List ℕ) (write : Bool) → Did (now (state .entry)) parts write (beginGaps (lent (now (state .entry)) parts sources lengths places body) i (now (counts .entry))) room 0 (now (counts .exit)) room) ⌝ }
 {
@@ -28,14 +28,14 @@ fn begin_gap(state: &[u64], counts: &mut [u64; 96], i: usize)
     if !schema::formats::is_run_end(code) {
         return;
     }
-    if lent_tables::at_u64(state, 867) != 1 {
+    if lent_tables::at_u64(state, plan_words::GAPS) != 1 {
         return;
     }
     plan_words::set_bytes(counts, i, 1)
 }
 
 // The gap of every run-end node. No byte changes.
-fn begin_gaps(state: &[u64], counts: &mut [u64; 96])
+fn begin_gaps(state: &[u64], counts: &mut [u64; plan_words::COUNTERS])
     ensures { λ _. ⌜ ((parts sources lengths places body room : List ℕ) (write : Bool) → Did (now (state .entry)) parts write (each (beginGaps (lent (now (state .entry)) parts sources lengths places body)) (nodesOf (now (state .entry))) 0 (now (counts .entry))) room 0 (now (counts .exit)) room) ⌝ }
 {
     let n = plan::parts::node_count(state);
@@ -84,7 +84,7 @@ fn source_count(state: &[u64]) -> usize
     ensures { λ r. ⌜ r ≡ sourceCount (now (state .entry)) ⌝ }
     ensures { λ r. ⌜ r ≤ 16 ⌝ }
 {
-    lent_tables::at_u64(state, 864) as usize
+    lent_tables::at_u64(state, plan_words::SOURCE_COUNT) as usize
 }
 
 // All entries of source s at node i, behind those that are there.
@@ -95,7 +95,7 @@ fn join_source(
     lengths: &[u64],
     places: &[u64],
     body: &[u8],
-    counts: &mut [u64; 96],
+    counts: &mut [u64; plan_words::COUNTERS],
     room: &mut [u8],
     write: bool,
     i: usize,
@@ -132,7 +132,7 @@ fn join_entries(
     lengths: &[u64],
     places: &[u64],
     body: &[u8],
-    counts: &mut [u64; 96],
+    counts: &mut [u64; plan_words::COUNTERS],
     room: &mut [u8],
     write: bool,
     i: usize,
@@ -172,7 +172,7 @@ fn join_values(
     lengths: &[u64],
     places: &[u64],
     body: &[u8],
-    counts: &mut [u64; 96],
+    counts: &mut [u64; plan_words::COUNTERS],
     room: &mut [u8],
     write: bool,
     i: usize,
@@ -245,7 +245,7 @@ fn open_dictionary(
     lengths: &[u64],
     places: &[u64],
     body: &[u8],
-    counts: &mut [u64; 96],
+    counts: &mut [u64; plan_words::COUNTERS],
     room: &mut [u8],
     write: bool,
     i: usize,
@@ -288,7 +288,7 @@ fn open_dictionaries(
     lengths: &[u64],
     places: &[u64],
     body: &[u8],
-    counts: &mut [u64; 96],
+    counts: &mut [u64; plan_words::COUNTERS],
     room: &mut [u8],
     write: bool,
 ) -> u8
@@ -326,7 +326,7 @@ pub fn open_walk(
     lengths: &[u64],
     places: &[u64],
     body: &[u8],
-    counts: &mut [u64; 96],
+    counts: &mut [u64; plan_words::COUNTERS],
     room: &mut [u8],
     write: bool,
 ) -> u8
