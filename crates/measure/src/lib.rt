@@ -7,7 +7,7 @@ ghost use Rattle.walk.specs.State.{top};
 ghost use Rattle.plan.specs.parts.Parts.{neededBy, needed};
 ghost use Rattle.refinement.specs.orders.Measure.{copyMeasure, nullMeasure, neededBytes};
 ghost use Rattle.refinement.specs.opening.Ask.{openMeasure};
-ghost use Rattle.with_capacities.specs.open_walk.Lent.{lent};
+ghost use Rattle.refinement.specs.orders.Order.{lent};
 ghost use Rattle.measure.specs.Answer.{Measures};
 use array_data::lent_tables;
 use walk::plan_words;

@@ -24,7 +24,7 @@ use Rattle.plan.proofs.Words.{sources-are}
 use Rattle.refinement.specs.opening.Open.{openWalk, settled, roomPlaced, opening}
 use Rattle.refinement.specs.opening.Ask.{asked}
 use Rattle.refinement.proofs.opening.Plannable.{plannable}
-use Rattle.with_capacities.specs.open_walk.Lent.{lent}
+use Rattle.refinement.specs.orders.Order.{lent}
 use Rattle.with_capacities.specs.Answer.{Answers, Plans}
 
 -- ---- numbers one after the other

@@ -16,7 +16,7 @@ ghost use Rattle.sound.specs.trying.Alike.{Alike};
 ghost use Rattle.plan.specs.Plan.{planned, Plannable};
 ghost use Rattle.refinement.specs.opening.Open.{openWalk, settled, opening};
 ghost use Rattle.refinement.specs.opening.Ask.{asked};
-ghost use Rattle.with_capacities.specs.open_walk.Lent.{lent};
+ghost use Rattle.refinement.specs.orders.Order.{lent};
 ghost use Rattle.with_capacities.specs.Answer.{Answers, Plans};
 use sound::trying;
 use walk::plan_words;

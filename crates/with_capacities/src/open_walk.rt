@@ -12,7 +12,7 @@ ghost use Rattle.walk.specs.Log.{Did, done, each};
 ghost use Rattle.refinement.specs.orders.Order.{sourceCount};
 ghost use Rattle.plan.specs.parts.Parts.{nodesOf};
 ghost use Rattle.refinement.specs.opening.Open.{beginGaps, firstOffset, joinSource, joinEntries, entriesHold, keysHold, openDictionary, openWalk};
-ghost use Rattle.with_capacities.specs.open_walk.Lent.{lent};
+ghost use Rattle.refinement.specs.orders.Order.{lent};
 use array_data::lent_tables;
 use plan::dictionaries;
 use walk::plan_words;

@@ -6,12 +6,9 @@ use Prim.Native.Nat.{ℕ, _+_, min}
 use lib.ListN.{length, take}
 use Rattle.schema.specs.formats.Code.{isView}
 use Rattle.walk.specs.State.{codeOf}
-use Rattle.refinement.specs.orders.Order.{Lent, sourceCount}
+use Rattle.refinement.specs.orders.Order.{sourceCount}
+pub use Rattle.refinement.specs.orders.Order.{lent}
 use Rattle.refinement.specs.finishing.Finish.{buffersOf, buffersBefore, buffersFrom, buffersUpTo}
-
--- the slices that are lent to finishing
-abbrev pub lent : List ℕ → List ℕ → List ℕ → List ℕ → List ℕ → List ℕ → Lent
-lent plan parts sources lengths places body = record { plan = plan; parts = parts; sources = sources; lengths = lengths; places = places; body = body }
 
 module _ (plan sources places : List ℕ) where
   -- how many data buffers node i names

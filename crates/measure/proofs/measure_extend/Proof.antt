@@ -9,7 +9,7 @@ use Rattle.array_data.proofs.lent_tables.Laws.{no, yes, and-left}
 use Rattle.walk.specs.Log.{Out}
 use Rattle.walk.specs.Copy.{copyWalk}
 use Rattle.leaf_walk.specs.Join.{join}
-use Rattle.with_capacities.specs.open_walk.Lent.{lent}
+use Rattle.refinement.specs.orders.Order.{lent}
 use Rattle.measure.proofs.Laws.{measured-no, measured-made, copy-words, copy-foreign, copy-source, copy-range, copy-made}
 use borrow.Author.Needs.{needs}
 use Rattle.measure.proofs.measure_extend.Statement.{statement}

@@ -6,7 +6,7 @@ use Rattle.array_data.proofs.lent_tables.Laws.{no, yes}
 use Rattle.walk.specs.Log.{Out}
 use Rattle.walk.specs.Nulls.{nullWalk}
 use Rattle.leaf_walk.specs.Join.{join}
-use Rattle.with_capacities.specs.open_walk.Lent.{lent}
+use Rattle.refinement.specs.orders.Order.{lent}
 use Rattle.measure.proofs.Laws.{measured-no, measured-made, null-words, null-foreign, null-keeps, null-made}
 use borrow.Author.Needs.{needs}
 use Rattle.measure.proofs.measure_nulls.Statement.{statement}

@@ -6,7 +6,7 @@ use lib.ListN.{replicate}
 use Rattle.array_data.proofs.lent_tables.Laws.{no, yes}
 use Rattle.walk.specs.Log.{Out}
 use Rattle.refinement.specs.opening.Open.{openWalk}
-use Rattle.with_capacities.specs.open_walk.Lent.{lent}
+use Rattle.refinement.specs.orders.Order.{lent}
 use Rattle.measure.proofs.Laws.{measured-no, measured-made, open-words, open-many, open-foreign, open-made}
 use borrow.Author.Needs.{needs}
 use Rattle.measure.proofs.measure_open.Statement.{statement}

@@ -32,6 +32,10 @@ pub record Lent : Type 0 where
   pub places : List ℕ
   pub body : List ℕ
 
+-- the slices that are lent to a call
+abbrev pub lent : List ℕ → List ℕ → List ℕ → List ℕ → List ℕ → List ℕ → Lent
+lent plan parts sources lengths places body = record { plan = plan; parts = parts; sources = sources; lengths = lengths; places = places; body = body }
+
 -- .. with source s chosen
 abbrev pub joinOf : Lent → ℕ → Join
 joinOf x s =

@@ -4,7 +4,7 @@ use lib.ListN.{replicate}
 use Rattle.source_rules.specs.kinds.Rows.{tablesOf}
 use Rattle.walk.specs.Log.{Out}
 use Rattle.refinement.specs.opening.Open.{openWalk}
-use Rattle.with_capacities.specs.open_walk.Lent.{lent}
+use Rattle.refinement.specs.orders.Order.{lent}
 use Rattle.with_capacities.proofs.Tried.{near-open}
 use Rattle.with_capacities.proofs.Laws.{settled-no, settled-over, settled-made}
 use borrow.Author.Needs.{needs}

@@ -1,7 +1,7 @@
 -- `open_walk::begin_gap` meets its contract. Assumes nothing.
 use mathlib.Core.Path.{ap, _∙_}
 use Rattle.schema.specs.formats.Code.{isRunEnd}
-use Rattle.with_capacities.specs.open_walk.Lent.{lent}
+use Rattle.refinement.specs.orders.Order.{lent}
 use Rattle.with_capacities.proofs.open_walk.Laws.{gap-none, gap-off, gap-on}
 use borrow.Author.Needs.{needs}
 use Rattle.with_capacities.proofs.open_walk.begin_gap.Statement.{statement}

@@ -8,7 +8,7 @@ use native.Mathlib.Omega.{arith}
 use Rattle.walk.specs.Log.{each}
 use Rattle.walk.proofs.Laws.{each-none, each-more, Rest}
 use Rattle.refinement.specs.opening.Open.{beginGaps}
-use Rattle.with_capacities.specs.open_walk.Lent.{lent}
+use Rattle.refinement.specs.orders.Order.{lent}
 use Rattle.with_capacities.proofs.open_walk.Laws.{nodes-did}
 use borrow.Author.Needs.{needs}
 use Rattle.with_capacities.proofs.open_walk.begin_gaps.Statement.{statement}

@@ -8,7 +8,7 @@ use Rattle.columnar.specs.Test.{every}
 use Rattle.columnar.proofs.Test.{every-false}
 use Rattle.array_data.proofs.lent_tables.Laws.{no, yes}
 use Rattle.plan.proofs.parts.Laws.{every-one, every-now}
-use Rattle.with_capacities.specs.open_walk.Lent.{lent}
+use Rattle.refinement.specs.orders.Order.{lent}
 use Rattle.with_capacities.proofs.open_walk.Laws.{entryHolds, entry-at, entries-are}
 use borrow.Author.Needs.{needs}
 use Rattle.with_capacities.proofs.open_walk.entries_hold.Statement.{statement}

@@ -1,5 +1,5 @@
 -- `open_walk::first_offset` meets its contract. Assumes nothing.
-use Rattle.with_capacities.specs.open_walk.Lent.{lent}
+use Rattle.refinement.specs.orders.Order.{lent}
 use Rattle.with_capacities.proofs.open_walk.Laws.{offset-width, offset-none, offset-kept, offset-put}
 use mathlib.Core.Path.{ap₂}
 use mathlib.Core.Bool.{_||_}

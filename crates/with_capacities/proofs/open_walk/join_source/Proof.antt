@@ -1,5 +1,5 @@
 -- `open_walk::join_source` meets its contract. Assumes nothing.
-use Rattle.with_capacities.specs.open_walk.Lent.{lent}
+use Rattle.refinement.specs.orders.Order.{lent}
 use Rattle.with_capacities.proofs.open_walk.Laws.{source-did}
 use borrow.Author.Needs.{needs}
 use Rattle.with_capacities.proofs.open_walk.join_source.Statement.{statement}

@@ -1,6 +1,6 @@
 -- `open_walk::join_values` meets its contract. Assumes nothing.
 use native.Mathlib.Numerals.{add-one}
-use Rattle.with_capacities.specs.open_walk.Lent.{lent}
+use Rattle.refinement.specs.orders.Order.{lent}
 use Rattle.with_capacities.proofs.open_walk.Laws.{values-none, values-some}
 use borrow.Author.Needs.{needs}
 use Rattle.with_capacities.proofs.open_walk.join_values.Statement.{statement}

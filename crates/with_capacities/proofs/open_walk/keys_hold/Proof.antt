@@ -12,7 +12,7 @@ use Rattle.schema.specs.formats.Types.{numberOf}
 use Rattle.array_data.proofs.lent_tables.Laws.{no, yes}
 use Rattle.plan.proofs.parts.Laws.{every-one, every-now}
 use Rattle.refinement.specs.opening.Open.{keyHolds}
-use Rattle.with_capacities.specs.open_walk.Lent.{lent}
+use Rattle.refinement.specs.orders.Order.{lent}
 use Rattle.with_capacities.proofs.open_walk.Laws.{keys-none, keys-are, key-at}
 use borrow.Author.Needs.{needs}
 use Rattle.with_capacities.proofs.open_walk.keys_hold.Statement.{statement}

@@ -7,7 +7,7 @@ use lib.ListN.{length}
 use Rattle.walk.specs.Log.{each}
 use Rattle.walk.proofs.Laws.{each-none, each-stop, each-more, Rest}
 use Rattle.refinement.specs.opening.Open.{openDictionary}
-use Rattle.with_capacities.specs.open_walk.Lent.{lent}
+use Rattle.refinement.specs.orders.Order.{lent}
 use Rattle.with_capacities.proofs.open_walk.Laws.{nodes-did}
 use borrow.Author.Needs.{needs}
 use Rattle.with_capacities.proofs.open_walk.open_dictionaries.Statement.{statement}

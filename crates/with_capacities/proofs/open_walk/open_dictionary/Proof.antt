@@ -1,5 +1,5 @@
 -- `open_walk::open_dictionary` meets its contract. Assumes nothing.
-use Rattle.with_capacities.specs.open_walk.Lent.{lent}
+use Rattle.refinement.specs.orders.Order.{lent}
 use Rattle.with_capacities.proofs.open_walk.Laws.{dictionary-none, dictionary-many, dictionary-stop, dictionary-over, dictionary-done}
 use borrow.Author.Needs.{needs}
 use Rattle.with_capacities.proofs.open_walk.open_dictionary.Statement.{statement}
