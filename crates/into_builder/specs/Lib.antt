@@ -1,4 +1,4 @@
--- What the contracts of `into_builder` cite beside finishing itself, which is that of crate `finishing`.
+-- What the contracts of `into_builder` cite beside finishing itself, which is that of `refinement`.
 pub mod Answer
 pub mod counts
 pub mod places

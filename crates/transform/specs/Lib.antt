@@ -1,4 +1,4 @@
--- What the contracts of `transform` cite beside the orders themselves, which are those of crate `orders`.
+-- What the contracts of `transform` cite beside the orders themselves, which are those of `refinement`.
 pub mod Answer
 pub mod leaf_rows
 pub mod numbers

@@ -1,4 +1,4 @@
-// Copies by stretches (crate `batch_walk`): a type that they are written for, in parts that rise. What they do not answer, the walk of a copy does.
+// Copies by stretches (`batch::batch_walk`): a type that they are written for, in parts that rise. What they do not answer, the walk of a copy does.
 ghost use mathlib.Core.Path.{_≡_};
 ghost use mathlib.Core.List.{List};
 ghost use Prim.Native.Nat.{ℕ, _<_, _^_};

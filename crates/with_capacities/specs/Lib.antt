@@ -1,2 +1,2 @@
--- What the contracts of `with_capacities` cite beside the opening itself, which is that of crate `opening`.
+-- What the contracts of `with_capacities` cite beside the opening itself, which is that of `refinement`.
 pub mod Answer
