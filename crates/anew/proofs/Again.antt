@@ -48,13 +48,13 @@ use Rattle.anew.proofs.Shown.{named-one, few-one, one-source, stood-sho
 holds : {b : Bool} → b ≡ true → T b
 holds e = subst T (sym e) tt
 
-module _ (x : Lent) (buffers : List ℕ) (tree : Tree) (root : Ty) (column : Column root) (counts room : List ℕ) (μ : Memory) (st : Standing x buffers tree root column counts room μ)
+module _ (x : Lent) (buffers : List ℕ) (tree : Tree) (root : Ty) (column : Column root) (counters room : List ℕ) (μ : Memory) (st : Standing x buffers tree root column counters room μ)
     (base : ℕ) (body : List ℕ) (bodied : Bodied body x room base) where
   abbrev plan : List ℕ
   plan = x .plan
 
   abbrev Y : Tables
-  Y = finishedTables x buffers counts room base body
+  Y = finishedTables x buffers counters room base body
 
   source-long : length (x .body) ≤ length body
   source-long = let e : length (take (length (x .body)) body) ≡ length (x .body) = ap length (bodied .front) in omega (arith, length-take (length (x .body)) body)
@@ -82,24 +82,24 @@ module _ (x : Lent) (buffers : List ℕ) (tree : Tree) (root : Ty) (column : Col
   -- ---- a node in parts
 
   module _ (i : ℕ) (l : i < nodesOf plan) (c : copied plan i ≡ true) where
-    copied-place : (j : ℕ) → j < 9 → place Y i j ≡ copiedPlace x buffers counts room base i j
+    copied-place : (j : ℕ) → j < 9 → place Y i j ≡ copiedPlace x buffers counters room base i j
     unfolding placeAt
-    copied-place j k = place-at x buffers counts room base body i l j k ∙ rw c
+    copied-place j k = place-at x buffers counters room base body i l j k ∙ rw c
 
-    part-inside : (b : ℕ) → hasPart plan i b ≡ true → inBody Y (base + startOf plan (x .parts) i b) (needed plan counts i b) ≡ true
+    part-inside : (b : ℕ) → hasPart plan i b ≡ true → inBody Y (base + startOf plan (x .parts) i b) (needed plan counters i b) ≡ true
     part-inside b h =
         let u : Used plan i b = record { node = l; part = h } in
-        le-leb (base + startOf plan (x .parts) i b + needed plan counts i b) (length body)
-        (omega (arith, st .placed .inside i b u, used-holds plan counts (x .parts) (st .enough) i b u, bodied .inside))
+        le-leb (base + startOf plan (x .parts) i b + needed plan counters i b) (length body)
+        (omega (arith, st .placed .inside i b u, used-holds plan counters (x .parts) (st .enough) i b u, bodied .inside))
 
-    buffer-inside : (b : ℕ) → inBody Y (bufferStart x buffers counts room base i b) (bufferSize x buffers counts room base i b) ≡ true
+    buffer-inside : (b : ℕ) → inBody Y (bufferStart x buffers counters room base i b) (bufferSize x buffers counters room base i b) ≡ true
     buffer-inside b = go (hasPart plan i b) refl
       where
-        go : (h : Bool) → hasPart plan i b ≡ h → inBody Y (cond h (base + startOf plan (x .parts) i b) 0) (cond h (needed plan counts i b) 0) ≡ true
+        go : (h : Bool) → hasPart plan i b ≡ h → inBody Y (cond h (base + startOf plan (x .parts) i b) 0) (cond h (needed plan counters i b) 0) ≡ true
         go true e = part-inside b e
         go false e = le-leb 0 (length body) (omega arith)
 
-    zeros-part : eqb (zerosAt x buffers counts room base i) 0 ≡ false → hasPart plan i 0 ≡ true
+    zeros-part : eqb (zerosAt x buffers counters room base i) 0 ≡ false → hasPart plan i 0 ≡ true
     unfolding zerosAt
     zeros-part = go (hasPart plan i 0) _
       where
@@ -109,10 +109,10 @@ module _ (x : Lent) (buffers : List ℕ) (tree : Tree) (root : Ty) (column : Col
 
     valid-inside : validIn Y i ≡ true
     unfolding copiedPlace
-    valid-inside = rw (copied-place 0 (omega arith), copied-place 1 (omega arith), copied-place 2 (omega arith)) (go (eqb (zerosAt x buffers counts room base i) 0) refl)
+    valid-inside = rw (copied-place 0 (omega arith), copied-place 1 (omega arith), copied-place 2 (omega arith)) (go (eqb (zerosAt x buffers counters room base i) 0) refl)
       where
-        go : (z : Bool) → eqb (zerosAt x buffers counts room base i) 0 ≡ z
-            → cond (eqb (cond z 0 1) 0) true (inBody Y (cond z 0 (base + startOf plan (x .parts) i 0)) (cond z 0 ((rows counts i + 7) / 8))) ≡ true
+        go : (z : Bool) → eqb (zerosAt x buffers counters room base i) 0 ≡ z
+            → cond (eqb (cond z 0 1) 0) true (inBody Y (cond z 0 (base + startOf plan (x .parts) i 0)) (cond z 0 ((rows counters i + 7) / 8))) ≡ true
         go true e = refl
         go false e = part-inside 0 (zeros-part e)
 
@@ -128,13 +128,13 @@ module _ (x : Lent) (buffers : List ℕ) (tree : Tree) (root : Ty) (column : Col
     names-in : isView (codeOf plan i) ≡ true → (v : Views) → ((s : ℕ) → s < 1 → Named x buffers s i v)
         → ((s : ℕ) → s < 1 → Rattle.walk.specs.State.place (joinOf x s) i 8 ≤ 32) → buffersIn Y i ≡ true
     names-in w v h short =
-        let one = one-source x buffers tree root column counts room μ st base body bodied in
-        let p = from-place x buffers counts room base body bodied 1 one i l c w (λ j. v) h short in
-        let q = many-place x buffers counts room base body bodied 1 one i l c w (λ j. v) h short in
-        let a = before-in x buffers counts room base i (nodesOf plan) l w in
-        let b = all-long x buffers counts room base (nodesOf plan) in
-        let g = buffers-lie x buffers counts room base body bodied 1 one i l c w (λ j. v) h short in
-        rw (p, q, le-leb (2 * (buffersBefore x buffers counts room base i + buffersOf x buffers counts room base i (sources x buffers counts room base))) (length (Y .buffers)) (omega arith))
+        let one = one-source x buffers tree root column counters room μ st base body bodied in
+        let p = from-place x buffers counters room base body bodied 1 one i l c w (λ j. v) h short in
+        let q = many-place x buffers counters room base body bodied 1 one i l c w (λ j. v) h short in
+        let a = before-in x buffers counters room base i (nodesOf plan) l w in
+        let b = all-long x buffers counters room base (nodesOf plan) in
+        let g = buffers-lie x buffers counters room base body bodied 1 one i l c w (λ j. v) h short in
+        rw (p, q, le-leb (2 * (buffersBefore x buffers counters room base i + buffersOf x buffers counters room base i (sources x buffers counters room base))) (length (Y .buffers)) (omega arith))
         (every-all _ _ (λ k n. in-source _ _ (g k n)))
 
   -- ---- a kept dictionary
@@ -144,14 +144,14 @@ module _ (x : Lent) (buffers : List ℕ) (tree : Tree) (root : Ty) (column : Col
     spot = Rattle.walk.specs.State.place (joinOf x 0) i
 
     kept-place : (j : ℕ) → 3 ≤ j → j < 7 → place Y i j ≡ spot j
-    kept-place = place-is tree x buffers counts room base body bodied i l c
+    kept-place = place-is tree x buffers counters room base body bodied i l c
 
     -- of its validity, if a bit is 0
-    shown : (j : ℕ) → j < 3 → place Y i j ≡ cond (eqb (nullsAt x buffers counts room base i) 0) 0 (spot j)
-    shown = valid-place tree x buffers counts room base body bodied i l c
+    shown : (j : ℕ) → j < 3 → place Y i j ≡ cond (eqb (nullsAt x buffers counters room base i) 0) 0 (spot j)
+    shown = valid-place tree x buffers counters room base body bodied i l c
 
     kept-valid : (o : Option (List ℕ)) → LentValid (joinOf x 0) i o → validIn Y i ≡ true
-    kept-valid o h = rw (shown 0 (omega arith), shown 1 (omega arith), shown 2 (omega arith)) (go (eqb (nullsAt x buffers counts room base i) 0) o h)
+    kept-valid o h = rw (shown 0 (omega arith), shown 1 (omega arith), shown 2 (omega arith)) (go (eqb (nullsAt x buffers counters room base i) 0) o h)
       where
         go : (z : Bool) (o : Option (List ℕ)) → LentValid (joinOf x 0) i o → cond (eqb (cond z 0 (spot 0)) 0) true (inBody Y (cond z 0 (spot 1)) (cond z 0 (spot 2))) ≡ true
         go true o h = refl
@@ -173,10 +173,10 @@ module _ (x : Lent) (buffers : List ℕ) (tree : Tree) (root : Ty) (column : Col
   plain-placed (fixed n) i l c mn = subst (λ k. T (placedAs tree Y k i)) (sym (mn .1)) (holds (copied-one i l c))
   plain-placed (string w) i l c mn = subst (λ k. T (placedAs tree Y k i)) (sym (mn .1)) (holds (copied-two i l c))
 
-  own-placed : (k : ℕ) (t : Ty) (i : ℕ) (a : Column t) → Worded plan k t i → i < nodesOf plan → copied plan i ≡ true → Means tree t i → Stood x buffers counts μ t i a → T (placed tree Y i)
+  own-placed : (k : ℕ) (t : Ty) (i : ℕ) (a : Column t) → Worded plan k t i → i < nodesOf plan → copied plan i ≡ true → Means tree t i → Stood x buffers counters μ t i a → T (placed tree Y i)
   own-placed (suc k) (tPlain p) i a w l c mn h = plain-placed p i l c mn
   own-placed (suc k) tView i a w l c mn h =
-      subst (λ k. T (placedAs tree Y k i)) (sym (mn .1)) (holds {b = oneIn Y i && buffersIn Y i} (rw (copied-one i l c) (names-in i l c (w .2) (a .body) (named-one x buffers counts μ i (a .body) (h .body-is .1)) (few-one x buffers counts μ i (a .body) (h .body-is .1)))))
+      subst (λ k. T (placedAs tree Y k i)) (sym (mn .1)) (holds {b = oneIn Y i && buffersIn Y i} (rw (copied-one i l c) (names-in i l c (w .2) (a .body) (named-one x buffers counters μ i (a .body) (h .body-is .1)) (few-one x buffers counters μ i (a .body) (h .body-is .1)))))
   own-placed (suc k) (tListView v t) i a w l c mn h = subst (λ k. T (placedAs tree Y k i)) (sym (mn .0 .1)) (holds (copied-two i l c))
   own-placed (suc k) (tList v t) i a w l c mn h = subst (λ k. T (placedAs tree Y k i)) (sym (mn .0 .1)) (holds (copied-one i l c))
   own-placed (suc k) (tSparse ids nullable f) i a w l c mn h = subst (λ k. T (placedAs tree Y k i)) (sym (mn .0 .1)) (holds (copied-one i l c))
@@ -184,7 +184,7 @@ module _ (x : Lent) (buffers : List ℕ) (tree : Tree) (root : Ty) (column : Col
   own-placed (suc k) (tRunEnd v t) i a w l c mn h = subst (λ k. T (placedAs tree Y k i)) (sym (mn .0 .1)) (holds {b = held Y i && validIn Y i} (rw (held-at i l) (valid-inside i l c)))
   own-placed (suc k) (tDictionary n p) i a w l c mn h = subst (λ k. T (placedAs tree Y k i)) (sym (mn .0 .1)) (holds (copied-one i l c))
 
-  values-placed : (p : Plain) (i : ℕ) (a : Array (PlainBody p)) → suc i < nodesOf plan → (dictionaryOf plan i ≡ 0 → ⊥) → MeansPlain tree p (suc i) → StoodValues x buffers counts μ p i a → T (placed tree Y (suc i))
+  values-placed : (p : Plain) (i : ℕ) (a : Array (PlainBody p)) → suc i < nodesOf plan → (dictionaryOf plan i ≡ 0 → ⊥) → MeansPlain tree p (suc i) → StoodValues x buffers counters μ p i a → T (placed tree Y (suc i))
   values-placed p i a l dict mn (in-parts e h) = plain-placed p (suc i) l (parts-copied plan i dict e) mn
   values-placed p i a l dict mn (kept e v h o q) =
       let c = kept-not plan i dict e in
@@ -193,22 +193,22 @@ module _ (x : Lent) (buffers : List ℕ) (tree : Tree) (root : Ty) (column : Col
   -- EVERY NODE'S BUFFERS LIE IN THE BODY
   pub all-placed : (j : ℕ) → j < nodesOf plan → T (placed tree Y j)
   all-placed =
-      every-node x buffers tree root column counts μ (st .of-type) (st .stood) (λ j. T (placed tree Y j)) (λ k t i a w l o mn h. own-placed k t i a w l (copied-free plan i o) mn h)
+      every-node x buffers tree root column counters μ (st .of-type) (st .stood) (λ j. T (placed tree Y j)) (λ k t i a w l o mn h. own-placed k t i a w l (copied-free plan i o) mn h)
       (λ w i a l o f e mn h. plain-placed (fixed (mn .number)) i l (copied-free plan i o) (mn .is-ends)) (λ p i a l dict mn h. values-placed p i a l dict mn h)
 
   -- ITS ROWS are those of the column
   pub stood-reads : Source root column → readAll root (columnOf tree Y root 0) ≡ readAll root column
-  stood-reads = shows-all tree Y root 0 column (stood-shows x buffers tree root column counts room μ st base body bodied)
+  stood-reads = shows-all tree Y root 0 column (stood-shows x buffers tree root column counters room μ st base body bodied)
 
   pub stood-obeys : Source root column → Source root (columnOf tree Y root 0)
-  stood-obeys = shows-obeys tree Y root 0 column (stood-shows x buffers tree root column counts room μ st base body bodied)
+  stood-obeys = shows-obeys tree Y root 0 column (stood-shows x buffers tree root column counters room μ st base body bodied)
 
 -- THE FINISHED COLUMN PASSES GROUND 12 where it is lent again
-pub stood-again : (x : Lent) (buffers formats schema : List ℕ) (first n : ℕ) (column : Column (typeOf formats schema first n)) (counts room : List ℕ) (μ : Memory)
-    → Standing x buffers (treeOf formats schema first n) (typeOf formats schema first n) column counts room μ → (base : ℕ) (body : List ℕ) → Bodied body x room base → typed formats schema first n ≡ true
+pub stood-again : (x : Lent) (buffers formats schema : List ℕ) (first n : ℕ) (column : Column (typeOf formats schema first n)) (counters room : List ℕ) (μ : Memory)
+    → Standing x buffers (treeOf formats schema first n) (typeOf formats schema first n) column counters room μ → (base : ℕ) (body : List ℕ) → Bodied body x room base → typed formats schema first n ≡ true
     → ceilings formats schema first n ≡ true → n ≡ nodesOf (x .plan) → Source (typeOf formats schema first n) column
-    → T (sourceRule (treeOf formats schema first n) (finishedTables x buffers counts room base body))
-stood-again x buffers formats schema first n column counts room μ st base body bodied t c e s =
-    lent-obeys formats schema first n (finishedTables x buffers counts room base body) t c
-    (λ j l. all-placed x buffers (treeOf formats schema first n) (typeOf formats schema first n) column counts room μ st base body bodied j (omega arith))
-    (test-complete (typeOf formats schema first n) _ (stood-obeys x buffers (treeOf formats schema first n) (typeOf formats schema first n) column counts room μ st base body bodied s))
+    → T (sourceRule (treeOf formats schema first n) (finishedTables x buffers counters room base body))
+stood-again x buffers formats schema first n column counters room μ st base body bodied t c e s =
+    lent-obeys formats schema first n (finishedTables x buffers counters room base body) t c
+    (λ j l. all-placed x buffers (treeOf formats schema first n) (typeOf formats schema first n) column counters room μ st base body bodied j (omega arith))
+    (test-complete (typeOf formats schema first n) _ (stood-obeys x buffers (treeOf formats schema first n) (typeOf formats schema first n) column counters room μ st base body bodied s))

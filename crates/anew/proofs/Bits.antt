@@ -52,16 +52,16 @@ module _ {B : Type 0} (a : Array B) (h : nullCount a ≡ 0) where
 
 -- ---- the validity of a result's node
 
-module _ (x : Lent) (buffers counts : List ℕ) (μ : Memory) (i : ℕ) where
+module _ (x : Lent) (buffers counters : List ℕ) (μ : Memory) (i : ℕ) where
   no-zeros : (l : List Bool) → zeros l ≡ 0 → none ≡ validity true (some l)
   no-zeros l e = ap (λ z. elim z as (λ m. Option (List ℕ)) [ zero ↦ none | suc m ↦ some (pack l) ]) (sym e)
 
   -- A NODE WITHOUT VALIDITY: one that is new, or holds run ends
-  pub bits-none : (masks : Bool) (n : ℕ) → keepsOf (x .plan) i ≡ 0 → StoodBits x buffers counts μ i masks n none
+  pub bits-none : (masks : Bool) (n : ℕ) → keepsOf (x .plan) i ≡ 0 → StoodBits x buffers counters μ i masks n none
   bits-none masks n e = record { bits = none; long = tt; held = e; valid-is = refl }
 
   -- A NODE THAT COMES FROM ONE with or without nulls: a bit for each row, which the memory has where it keeps nulls, and none of them is 0 where not
   pub bits-stand : (keep : Bool) (n : ℕ) (l : List Bool) → keepsOf (x .plan) i ≡ flag keep → length l ≡ n → (keep ≡ true → μ .bits i ≡ map flag l) → (keep ≡ false → zeros l ≡ 0)
-      → StoodBits x buffers counts μ i true n (validity true (some l))
+      → StoodBits x buffers counters μ i true n (validity true (some l))
   bits-stand true n l k e f g = record { bits = some l; long = e; held = (λ z. omega (arith, k, z), f refl); valid-is = refl }
   bits-stand false n l k e f g = record { bits = none; long = tt; held = k; valid-is = sym (no-zeros l (g refl)) }

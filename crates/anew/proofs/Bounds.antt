@@ -42,50 +42,50 @@ fixed-code plan i f = let b = between-both 1 10 (codeOf plan i) f in sym (lt-ltb
 pub parts-copied : (plan : List ℕ) (i : ℕ) → (dictionaryOf plan i ≡ 0 → ⊥) → word plan i 7 ≡ 1 → copied plan (suc i) ≡ true
 parts-copied plan i dict e = values-copied plan i false dict e refl
 
-module _ (x : Lent) (buffers counts : List ℕ) (μ : Memory) where
+module _ (x : Lent) (buffers counters : List ℕ) (μ : Memory) where
   -- run ends are the buffer of their node
-  pub ends-own : (w i : ℕ) (a : Array (List ℕ)) → isFixed (codeOf (x .plan) i) ≡ true → bytesOf (x .plan) i ≡ w → StoodNode x buffers counts μ i true (λ m s. Stored x buffers counts μ i 1 m w s) a
-      → Own (x .plan) (x .parts) counts μ i (a .body ∷ [])
+  pub ends-own : (w i : ℕ) (a : Array (List ℕ)) → isFixed (codeOf (x .plan) i) ≡ true → bytesOf (x .plan) i ≡ w → StoodNode x buffers counters μ i true (λ m s. Stored x buffers counters μ i 1 m w s) a
+      → Own (x .plan) (x .parts) counters μ i (a .body ∷ [])
   ends-own w i a f e st =
-      own-ends x buffers counts μ i (a .len) w (a .body) (fixed-one (codeOf (x .plan) i) f)
-      (needed-fixed (codeOf (x .plan) i) (rows counts i) (bytes counts i) f ∙ ap (λ v. rows counts i * v) e) (st .rows-are) (st .body-is)
+      own-ends x buffers counters μ i (a .len) w (a .body) (fixed-one (codeOf (x .plan) i) f)
+      (needed-fixed (codeOf (x .plan) i) (rows counters i) (bytes counters i) f ∙ ap (λ v. rows counters i * v) e) (st .rows-are) (st .body-is)
 
-module _ (x : Lent) (buffers : List ℕ) (tree : Tree) (root : Ty) (column : Column root) (counts : List ℕ) (μ : Memory) (of-type : TypePlan (x .plan) tree root)
-    (stood : Stood x buffers counts μ root 0 column) where
+module _ (x : Lent) (buffers : List ℕ) (tree : Tree) (root : Ty) (column : Column root) (counters : List ℕ) (μ : Memory) (of-type : TypePlan (x .plan) tree root)
+    (stood : Stood x buffers counters μ root 0 column) where
   abbrev AllExact : ℕ → Type 0
-  AllExact i = (b : ℕ) → hasPart (x .plan) i b ≡ true → Exact x buffers counts μ i b
+  AllExact i = (b : ℕ) → hasPart (x .plan) i b ≡ true → Exact x buffers counters μ i b
 
-  values-exact : (p : Plain) (i : ℕ) (a : Array (PlainBody p)) → suc i < nodesOf (x .plan) → (dictionaryOf (x .plan) i ≡ 0 → ⊥) → MeansPlain tree p (suc i) → StoodValues x buffers counts μ p i a → AllExact (suc i)
+  values-exact : (p : Plain) (i : ℕ) (a : Array (PlainBody p)) → suc i < nodesOf (x .plan) → (dictionaryOf (x .plan) i ≡ 0 → ⊥) → MeansPlain tree p (suc i) → StoodValues x buffers counters μ p i a → AllExact (suc i)
   values-exact p i a l dict mn (in-parts e st) =
       let w = of-type .plain-words p (suc i) mn in
-      exact-at x buffers counts μ (suc i) (plainBuffers p (a .body)) (own-plain x buffers counts μ p (suc i) (a .len) (a .body) w (st .rows-are) (st .body-is)) (parts-copied (x .plan) i dict e) true
+      exact-at x buffers counters μ (suc i) (plainBuffers p (a .body)) (own-plain x buffers counters μ p (suc i) (a .len) (a .body) w (st .rows-are) (st .body-is)) (parts-copied (x .plan) i dict e) true
       (plain-code (x .plan) p (suc i) w) (a .len) (a .valid) (st .rows-are) (st .bits-are)
   values-exact p i a l dict mn (kept e v h o q) =
       λ b g. absurd (let z : true ≡ false = sym (part-copied (x .plan) (suc i) b g) ∙ kept-not (x .plan) i dict e in let y : _≡_ {A = ℕ} 0 1 = cc z in omega arith)
 
   every-exact : (j : ℕ) → j < nodesOf (x .plan) → AllExact j
   every-exact =
-      every-node x buffers tree root column counts μ of-type stood AllExact
-      (λ k t i a w l o mn st. exact-at x buffers counts μ i (buffersAt t (a .body)) (own-at x buffers counts μ k t i (a .len) (a .body) w (st .rows-are) (st .body-is)) (copied-free (x .plan) i o) (masks t)
+      every-node x buffers tree root column counters μ of-type stood AllExact
+      (λ k t i a w l o mn st. exact-at x buffers counters μ i (buffersAt t (a .body)) (own-at x buffers counters μ k t i (a .len) (a .body) w (st .rows-are) (st .body-is)) (copied-free (x .plan) i o) (masks t)
       (masks-code (x .plan) k t i w) (a .len) (a .valid) (st .rows-are) (st .bits-are))
-      (λ w i a l o f e mn st. exact-at x buffers counts μ i (a .body ∷ []) (ends-own x buffers counts μ w i a f e st) (copied-free (x .plan) i o) true (fixed-code (x .plan) i f) (a .len) (a .valid) (st .rows-are)
+      (λ w i a l o f e mn st. exact-at x buffers counters μ i (a .body ∷ []) (ends-own x buffers counters μ w i a f e st) (copied-free (x .plan) i o) true (fixed-code (x .plan) i f) (a .len) (a .valid) (st .rows-are)
       (st .bits-are))
       values-exact
 
   -- THE MEMORY HAS WHAT THE COUNTERS SAY, in every part
-  pub all-exact : (i b : ℕ) → Used (x .plan) i b → Exact x buffers counts μ i b
+  pub all-exact : (i b : ℕ) → Used (x .plan) i b → Exact x buffers counters μ i b
   all-exact i b u = every-exact i (u .node) b (u .part)
 
-  module _ (enough : partsHold (x .plan) counts (x .parts) ≡ true) where
+  module _ (enough : partsHold (x .plan) counters (x .parts) ≡ true) where
     -- EVERY PART HOLDS what the counters need and what the memory has
-    pub all-bounded : (i b : ℕ) → Used (x .plan) i b → Bounded (x .plan) (x .parts) counts μ i b
+    pub all-bounded : (i b : ℕ) → Used (x .plan) i b → Bounded (x .plan) (x .parts) counters μ i b
     all-bounded i b u =
         let e = all-exact i b u in
-        let h = used-holds (x .plan) counts (x .parts) enough i b u in
+        let h = used-holds (x .plan) counters (x .parts) enough i b u in
         record { needs = h; bytes-in = λ l. omega (arith, e .bytes-are l); bits-in = λ z. bits z (e .bits-are z) h }
       where
-        bits : b ≡ 0 → length (μ .bits i) ≡ rows counts i → needed (x .plan) counts i b ≤ sizeOf (x .plan) (x .parts) i b → length (μ .bits i) ≤ 8 * sizeOf (x .plan) (x .parts) i 0
-        bits z e h = let g : (rows counts i + 7) / 8 ≤ sizeOf (x .plan) (x .parts) i 0 = subst (λ k. needed (x .plan) counts i k ≤ sizeOf (x .plan) (x .parts) i k) z h in omega arith
+        bits : b ≡ 0 → length (μ .bits i) ≡ rows counters i → needed (x .plan) counters i b ≤ sizeOf (x .plan) (x .parts) i b → length (μ .bits i) ≤ 8 * sizeOf (x .plan) (x .parts) i 0
+        bits z e h = let g : (rows counters i + 7) / 8 ≤ sizeOf (x .plan) (x .parts) i 0 = subst (λ k. needed (x .plan) counters i k ≤ sizeOf (x .plan) (x .parts) i k) z h in omega arith
 
     -- THE MEMORY FITS THE PARTS
     pub all-fit : Fits (x .plan) (x .parts) (Used (x .plan)) μ

@@ -27,21 +27,21 @@ use Rattle.anew.proofs.runs.Expand.{runs-inside}
 use Rattle.anew.specs.Stood.{StoodNode, Stored, StoodPlain, Stood}
 use Rattle.anew.proofs.Bits.{rows-valid, bits-none, bits-stand}
 
-module _ (x : Lent) (buffers counts : List ℕ) (μ : Memory) where
+module _ (x : Lent) (buffers counters : List ℕ) (μ : Memory) where
   -- NODE i HAS THE ROWS rs OF A COLUMN: their bytes, and their bits where the column has a null
   pub record PickedAt (k : Number) (v : Column (tPlain (fixed k))) (rs : List ℕ) (i : ℕ) : Type 0 where
-    pub rows-are : rows counts i ≡ length rs
+    pub rows-are : rows counters i ≡ length rs
     pub keeps-are : keepsOf (x .plan) i ≡ flag (ltb 0 (nullCount v))
     pub bytes-are : μ .at i 1 ≡ cells k v rs
     pub bits-are : 0 < nullCount v → μ .bits i ≡ map flag (map (okAt v) rs)
 
   pub picked-stands : (k : Number) (v : Column (tPlain (fixed k))) (rs : List ℕ) (i : ℕ) → Source (tPlain (fixed k)) v → Inside rs (v .len) → PickedAt k v rs i
-      → Stood x buffers counts μ (tPlain (fixed k)) i (picked k v rs)
+      → Stood x buffers counters μ (tPlain (fixed k)) i (picked k v rs)
   picked-stands k v rs i s inside h =
       record {
         rows-are = h .rows-are;
         from-zero = refl;
-        bits-are = bits-stand x buffers counts μ i (ltb 0 (nullCount v)) (length rs) (map (okAt v) rs) (h .keeps-are) (length-map rs (okAt v)) (λ e. h .bits-are (ltb-true 0 (nullCount v) e))
+        bits-are = bits-stand x buffers counters μ i (ltb 0 (nullCount v)) (length rs) (map (okAt v) rs) (h .keeps-are) (length-map rs (okAt v)) (λ e. h .bits-are (ltb-true 0 (nullCount v) e))
             (λ e. rows-valid v (omega (arith, ltb-false 0 (nullCount v) e)) rs inside);
         body-is = record { bytes-are = h .bytes-are; long = cells-long k v s rs inside };
       }
@@ -50,31 +50,31 @@ module _ (x : Lent) (buffers counts : List ℕ) (μ : Memory) where
 
   -- counters and memory that the walk of an encoder leaves: m rows from a on, with run ends of w bytes
   pub record EncodedAt (k : Number) (w : ℕ) (v : Column (tPlain (fixed k))) (a m : ℕ) : Type 0 where
-    pub root-rows : rows counts 0 ≡ m
+    pub root-rows : rows counters 0 ≡ m
     pub root-keeps : keepsOf (x .plan) 0 ≡ 0
-    pub ends-rows : rows counts 1 ≡ length (runEnds k v a m)
+    pub ends-rows : rows counters 1 ≡ length (runEnds k v a m)
     pub ends-keep : keepsOf (x .plan) 1 ≡ 0
     pub ends-bytes : μ .at 1 1 ≡ encodes w (runEnds k v a m)
     pub values : PickedAt k v (runRows k v a m) 2
 
-  ends-stand : (i w : ℕ) (es : List ℕ) → rows counts i ≡ length es → keepsOf (x .plan) i ≡ 0 → μ .at i 1 ≡ encodes w es
-      → StoodNode x buffers counts μ i true (λ m s. Stored x buffers counts μ i 1 m w s) (endsOf w es)
+  ends-stand : (i w : ℕ) (es : List ℕ) → rows counters i ≡ length es → keepsOf (x .plan) i ≡ 0 → μ .at i 1 ≡ encodes w es
+      → StoodNode x buffers counters μ i true (λ m s. Stored x buffers counters μ i 1 m w s) (endsOf w es)
   ends-stand i w es r e b =
       record {
         rows-are = r;
         from-zero = refl;
-        bits-are = bits-none x buffers counts μ i true (length es) e;
+        bits-are = bits-none x buffers counters μ i true (length es) e;
         body-is = record { bytes-are = b; long = length-encodes w es };
       }
 
   -- THE ENCODED COLUMN STANDS
   pub encoded-stands : (k : Number) (w : ℕ) (v : Column (tPlain (fixed k))) (a m : ℕ) → Source (tPlain (fixed k)) v → a + m ≤ v .len → EncodedAt k w v a m
-      → Stood x buffers counts μ (tRunEnd w (tPlain (fixed k))) 0 (encoded k w v a m)
+      → Stood x buffers counters μ (tRunEnd w (tPlain (fixed k))) 0 (encoded k w v a m)
   encoded-stands k w v a m s within h =
       record {
         rows-are = h .root-rows;
         from-zero = refl;
-        bits-are = bits-none x buffers counts μ 0 false m (h .root-keeps);
+        bits-are = bits-none x buffers counters μ 0 false m (h .root-keeps);
         body-is = (ends-stand 1 w (runEnds k v a m) (h .ends-rows) (h .ends-keep) (h .ends-bytes), picked-stands k v (runRows k v a m) 2 s (rows-inside k v a m within) (h .values));
       }
 
@@ -82,5 +82,5 @@ module _ (x : Lent) (buffers counts : List ℕ) (μ : Memory) where
 
   -- THE EXPANDED COLUMN STANDS, where the root has the value of each row's run
   pub expanded-stands : (k : Number) (w : ℕ) (v : Column (tRunEnd w (tPlain (fixed k)))) (a m : ℕ) → Source (tRunEnd w (tPlain (fixed k))) v → a + m ≤ v .len
-      → PickedAt k (v .body .values) (seg (runAt w v) a m) 0 → Stood x buffers counts μ (tPlain (fixed k)) 0 (expanded k w v a m)
+      → PickedAt k (v .body .values) (seg (runAt w v) a m) 0 → Stood x buffers counters μ (tPlain (fixed k)) 0 (expanded k w v a m)
   expanded-stands k w v a m s within h = picked-stands k (v .body .values) (seg (runAt w v) a m) 0 (s .slots .child-rule) (runs-inside k w v s a m within) h

@@ -46,29 +46,29 @@ or-never c o a r h = go (eqb c 0) refl (eqb o 0) refl
     go true e false f = let z = eqb-false o 0 f in ap (orElse c) (or-first o (orElse a r) z ∙ sym (or-first o r z))
     go false e t f = let z = eqb-false c 0 e in or-first c (orElse o (orElse a r)) z ∙ sym (or-first c (orElse o r) z)
 
-module _ (formats schema : List ℕ) (x : Tables) (first n own : ℕ) (made : List ℕ) (walk : Out) (parts plan counts room : List ℕ) where
+module _ (formats schema : List ℕ) (x : Tables) (first n own : ℕ) (made : List ℕ) (walk : Out) (parts plan counters room : List ℕ) where
   abbrev before : ℕ
   before = ahead formats schema x first n own made walk
 
   abbrev asked : Asking
-  asked = asking formats schema x first n own made walk plan counts
+  asked = asking formats schema x first n own made walk plan counters
 
   abbrev of-room : ℕ
-  of-room = roomGround made (walk .counts) parts (length plan) (length counts) (length room)
+  of-room = roomGround made (walk .counters) parts (length plan) (length counters) (length room)
 
   abbrev answer : Opening
-  answer = anew formats schema x first n own made walk parts plan counts room
+  answer = anew formats schema x first n own made walk parts plan counters room
 
   abbrev chosen : Bool → Bool → Opening
-  chosen a b = cond a (cond b (written formats schema x first n own made walk parts plan counts room) (unchanged formats schema x first n own made walk parts plan counts room (orElse before of-room)))
-      (unchanged formats schema x first n own made walk parts plan counts room 9)
+  chosen a b = cond a (cond b (written formats schema x first n own made walk parts plan counters room) (unchanged formats schema x first n own made walk parts plan counters room (orElse before of-room)))
+      (unchanged formats schema x first n own made walk parts plan counters room 9)
 
   -- A REFUSED CALL leaves plan, counters and room: "State and every byte stay."
-  pub anew-keeps : (answer .ground ≡ 0 → ⊥) → (answer .plan ≡ plan) × (answer .counts ≡ counts) × (answer .room ≡ room)
+  pub anew-keeps : (answer .ground ≡ 0 → ⊥) → (answer .plan ≡ plan) × (answer .counters ≡ counters) × (answer .room ≡ room)
   unfolding anew
   anew-keeps = go (smallBody room) (eqb (orElse before of-room) 0)
     where
-      go : (a b : Bool) → (chosen a b .ground ≡ 0 → ⊥) → (chosen a b .plan ≡ plan) × (chosen a b .counts ≡ counts) × (chosen a b .room ≡ room)
+      go : (a b : Bool) → (chosen a b .ground ≡ 0 → ⊥) → (chosen a b .plan ≡ plan) × (chosen a b .counters ≡ counters) × (chosen a b .room ≡ room)
       go false b h = (refl, refl, refl)
       go true false h = (refl, refl, refl)
       go true true h = absurd (h refl)
@@ -99,18 +99,18 @@ module _ (formats schema : List ℕ) (x : Tables) (first n own : ℕ) (made : Li
     pub column-good : columnGround formats schema x first n ≡ 0
     pub own-none : own ≡ 0
     pub walk-done : walk .ans ≡ 0
-    pub lengths : joinLengths (length plan) (length counts) ≡ true
+    pub lengths : joinLengths (length plan) (length counters) ≡ true
     pub placed : partsPlaced parts (partTotal made) (length room) ≡ true
-    pub holds : partsHold made (walk .counts) parts ≡ true
-    pub answer-is : answer ≡ written formats schema x first n own made walk parts plan counts room
+    pub holds : partsHold made (walk .counters) parts ≡ true
+    pub answer-is : answer ≡ written formats schema x first n own made walk parts plan counters room
 
-  room-none : of-room ≡ 0 → (joinLengths (length plan) (length counts) ≡ true) × (partsPlaced parts (partTotal made) (length room) ≡ true) × (partsHold made (walk .counts) parts ≡ true)
+  room-none : of-room ≡ 0 → (joinLengths (length plan) (length counters) ≡ true) × (partsPlaced parts (partTotal made) (length room) ≡ true) × (partsHold made (walk .counters) parts ≡ true)
   unfolding roomGround
-  room-none = go (joinLengths (length plan) (length counts)) refl (partsPlaced parts (partTotal made) (length room)) refl (partsHold made (walk .counts) parts) refl
+  room-none = go (joinLengths (length plan) (length counters)) refl (partsPlaced parts (partTotal made) (length room)) refl (partsHold made (walk .counters) parts) refl
     where
-      go : (a : Bool) → joinLengths (length plan) (length counts) ≡ a → (b : Bool) → partsPlaced parts (partTotal made) (length room) ≡ b → (c : Bool) → partsHold made (walk .counts) parts ≡ c
+      go : (a : Bool) → joinLengths (length plan) (length counters) ≡ a → (b : Bool) → partsPlaced parts (partTotal made) (length room) ≡ b → (c : Bool) → partsHold made (walk .counters) parts ≡ c
           → _≡_ {A = ℕ} (cond (a && b) (cond c 0 13) 14) 0
-          → (joinLengths (length plan) (length counts) ≡ true) × (partsPlaced parts (partTotal made) (length room) ≡ true) × (partsHold made (walk .counts) parts ≡ true)
+          → (joinLengths (length plan) (length counters) ≡ true) × (partsPlaced parts (partTotal made) (length room) ≡ true) × (partsHold made (walk .counters) parts ≡ true)
       go true p true q true r h = (p, q, r)
       go true p true q false r h = absurd (omega arith)
       go true p false q c r h = absurd (omega arith)
@@ -149,30 +149,30 @@ module _ (formats schema : List ℕ) (x : Tables) (first n own : ℕ) (made : Li
   unfolding ahead
   asked-none a = or-zero (columnGround formats schema x first n) (orElse own (walk .ans)) (a .column-good) ∙ or-zero own (walk .ans) (a .own-none) ∙ a .walk-done
 
-  module _ (same : joinLengths (length plan) (length counts) ≡ true) where
+  module _ (same : joinLengths (length plan) (length counters) ≡ true) where
     asked-ground : asked .ground ≡ before
     unfolding asking
     asked-ground = rw same (go (eqb before 0) refl)
       where
-        go : (a : Bool) → eqb before 0 ≡ a → cond {A = Asking} a (record { ground = 0; plan = made; counts = walk .counts }) (record { ground = before; plan = plan; counts = counts }) .ground ≡ before
+        go : (a : Bool) → eqb before 0 ≡ a → cond {A = Asking} a (record { ground = 0; plan = made; counters = walk .counters }) (record { ground = before; plan = plan; counters = counters }) .ground ≡ before
         go true e = sym (eqb-true _ _ e)
         go false e = refl
 
-    asked-done : before ≡ 0 → asked ≡ record { ground = 0; plan = made; counts = walk .counts }
+    asked-done : before ≡ 0 → asked ≡ record { ground = 0; plan = made; counters = walk .counters }
     unfolding asking
     asked-done e = rw (same, e)
 
     -- WHAT IS ASKED BEFORE ROOM IS LENT is what the call does: its ground, else 14 or 13 of the lent parts; and plan and counters are those that were answered
-    pub anew-asked : smallBody room ≡ true → (answer .ground ≡ orElse (asked .ground) of-room) × (answer .ground ≡ 0 → (answer .plan ≡ asked .plan) × (answer .counts ≡ asked .counts))
+    pub anew-asked : smallBody room ≡ true → (answer .ground ≡ orElse (asked .ground) of-room) × (answer .ground ≡ 0 → (answer .plan ≡ asked .plan) × (answer .counters ≡ asked .counters))
     anew-asked s = (anew-ground s ∙ ap (λ g. orElse g of-room) (sym asked-ground), λ h. after (anew-accepted h))
       where
-        after : Accepted → (answer .plan ≡ asked .plan) × (answer .counts ≡ asked .counts)
+        after : Accepted → (answer .plan ≡ asked .plan) × (answer .counters ≡ asked .counters)
         after a =
             let q = asked-done (asked-none a) in
-            (ap (λ o. o .plan) (a .answer-is) ∙ sym (ap (λ o. o .plan) q), ap (λ o. o .counts) (a .answer-is) ∙ sym (ap (λ o. o .counts) q))
+            (ap (λ o. o .plan) (a .answer-is) ∙ sym (ap (λ o. o .plan) q), ap (λ o. o .counters) (a .answer-is) ∙ sym (ap (λ o. o .counters) q))
 
     -- PARTS AS THE QUESTION ASKS FOR: where it answers no ground and the lent parts lie well and hold what its plan and counters need, the call is accepted
-    pub anew-enough : smallBody room ≡ true → asked .ground ≡ 0 → partsPlaced parts (partTotal (asked .plan)) (length room) ≡ true → partsHold (asked .plan) (asked .counts) parts ≡ true
+    pub anew-enough : smallBody room ≡ true → asked .ground ≡ 0 → partsPlaced parts (partTotal (asked .plan)) (length room) ≡ true → partsHold (asked .plan) (asked .counters) parts ≡ true
         → answer .ground ≡ 0
     unfolding roomGround
     anew-enough s g p h = anew-ground s ∙ or-zero before of-room none ∙ of-room-none (subst Fits (asked-done none) (p, h))
@@ -181,21 +181,21 @@ module _ (formats schema : List ℕ) (x : Tables) (first n own : ℕ) (made : Li
         none = sym asked-ground ∙ g
 
         Fits : Asking → Type 0
-        Fits a = (partsPlaced parts (partTotal (a .plan)) (length room) ≡ true) × (partsHold (a .plan) (a .counts) parts ≡ true)
+        Fits a = (partsPlaced parts (partTotal (a .plan)) (length room) ≡ true) × (partsHold (a .plan) (a .counters) parts ≡ true)
 
-        of-room-none : (partsPlaced parts (partTotal made) (length room) ≡ true) × (partsHold made (walk .counts) parts ≡ true) → of-room ≡ 0
+        of-room-none : (partsPlaced parts (partTotal made) (length room) ≡ true) × (partsHold made (walk .counters) parts ≡ true) → of-room ≡ 0
         of-room-none q = rw (same, q .0, q .1)
 
   -- A REFUSED QUESTION leaves plan and counters
-  pub asking-keeps : (asked .ground ≡ 0 → ⊥) → (asked .plan ≡ plan) × (asked .counts ≡ counts)
+  pub asking-keeps : (asked .ground ≡ 0 → ⊥) → (asked .plan ≡ plan) × (asked .counters ≡ counters)
   unfolding asking
-  asking-keeps = go (eqb before 0) (joinLengths (length plan) (length counts))
+  asking-keeps = go (eqb before 0) (joinLengths (length plan) (length counters))
     where
       by : Bool → Bool → Asking
       by a b =
-          cond a (cond b (record { ground = 0; plan = made; counts = walk .counts }) (record { ground = 14; plan = plan; counts = counts })) (record { ground = before; plan = plan; counts = counts })
+          cond a (cond b (record { ground = 0; plan = made; counters = walk .counters }) (record { ground = 14; plan = plan; counters = counters })) (record { ground = before; plan = plan; counters = counters })
 
-      go : (a b : Bool) → (by a b .ground ≡ 0 → ⊥) → (by a b .plan ≡ plan) × (by a b .counts ≡ counts)
+      go : (a b : Bool) → (by a b .ground ≡ 0 → ⊥) → (by a b .plan ≡ plan) × (by a b .counters ≡ counters)
       go true true h = absurd (h refl)
       go true false h = (refl, refl)
       go false b h = (refl, refl)

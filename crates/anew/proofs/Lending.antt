@@ -84,57 +84,57 @@ plain-not plan (string b) i w v = omega (arith, between-both 11 14 (codeOf plan 
 
 -- ---- the finished tables
 
-module _ (x : Lent) (buffers : List ℕ) (tree : Tree) (root : Ty) (column : Column root) (counts room : List ℕ) (μ : Memory) (st : Standing x buffers tree root column counts room μ)
+module _ (x : Lent) (buffers : List ℕ) (tree : Tree) (root : Ty) (column : Column root) (counters room : List ℕ) (μ : Memory) (st : Standing x buffers tree root column counters room μ)
     (base : ℕ) (body : List ℕ) (bodied : Bodied body x room base) where
   abbrev plan : List ℕ
   plan = x .plan
 
   abbrev Y : Tables
-  Y = finishedTables x buffers counts room base body
+  Y = finishedTables x buffers counters room base body
 
   -- a node starts at 0, or is kept where its sum is within the ceiling
   pub starts-low : (i : ℕ) → i < nodesOf plan → (offsetOf Y i ≡ 0) ⊎ (offsetOf Y i + lengthOf Y i < 2 ^ 63)
   unfolding keptIn
   starts-low i l =
       go (copied plan i) refl
-      (is-true _ (every-out (keptIn x buffers counts room base) (nodesOf plan) (holds (all-kept x buffers tree root column counts room μ st base)) i l))
+      (is-true _ (every-out (keptIn x buffers counters room base) (nodesOf plan) (holds (all-kept x buffers tree root column counters room μ st base)) i l))
     where
-      go : (b : Bool) → copied plan i ≡ b → keptIn x buffers counts room base i ≡ true → (offsetOf Y i ≡ 0) ⊎ (offsetOf Y i + lengthOf Y i < 2 ^ 63)
-      go true c k = inl (offset-at x buffers counts room base body i l ∙ ap (λ b. cond b 0 (Rattle.walk.specs.State.offsetOf (joinOf x 0) i)) c)
+      go : (b : Bool) → copied plan i ≡ b → keptIn x buffers counters room base i ≡ true → (offsetOf Y i ≡ 0) ⊎ (offsetOf Y i + lengthOf Y i < 2 ^ 63)
+      go true c k = inl (offset-at x buffers counters room base body i l ∙ ap (λ b. cond b 0 (Rattle.walk.specs.State.offsetOf (joinOf x 0) i)) c)
       go false c k =
           let o = Rattle.walk.specs.State.offsetOf (joinOf x 0) i in
           let n = Rattle.walk.specs.State.lengthOf (joinOf x 0) i in
-          let a : offsetOf Y i ≡ o = offset-at x buffers counts room base body i l ∙ ap (λ b. cond b 0 o) c in
-          let b : lengthOf Y i ≡ n = length-at x buffers counts room base body i l ∙ ap (λ b. cond b (Rattle.walk.specs.State.rows counts i) n) c in
-          let h : ltb (o + n) far && maskOf (keptTables x buffers counts room base) (keptNode x buffers counts room base i) true ≡ true = or-right (copied plan i) _ c k in
+          let a : offsetOf Y i ≡ o = offset-at x buffers counters room base body i l ∙ ap (λ b. cond b 0 o) c in
+          let b : lengthOf Y i ≡ n = length-at x buffers counters room base body i l ∙ ap (λ b. cond b (Rattle.walk.specs.State.rows counters i) n) c in
+          let h : ltb (o + n) far && maskOf (keptTables x buffers counters room base) (keptNode x buffers counters room base i) true ≡ true = or-right (copied plan i) _ c k in
           inr (omega (arith, a, b, ltb-true (o + n) far (both (ltb (o + n) far) _ h .0)))
 
   -- a node in parts names as many data buffers as its plan's code has it
-  place-eight : (i : ℕ) → i < nodesOf plan → copied plan i ≡ true → place Y i 8 ≡ cond (isView (codeOf plan i)) (buffersOf x buffers counts room base i (sources x buffers counts room base)) 0
+  place-eight : (i : ℕ) → i < nodesOf plan → copied plan i ≡ true → place Y i 8 ≡ cond (isView (codeOf plan i)) (buffersOf x buffers counters room base i (sources x buffers counters room base)) 0
   unfolding placeAt copiedPlace
-  place-eight i l c = place-at x buffers counts room base body i l 8 (omega arith) ∙ ap (λ b. cond b (copiedPlace x buffers counts room base i 8) (keptPlace x buffers counts room base i 8)) c
+  place-eight i l c = place-at x buffers counters room base body i l 8 (omega arith) ∙ ap (λ b. cond b (copiedPlace x buffers counters room base i 8) (keptPlace x buffers counters room base i 8)) c
 
   no-view : (i : ℕ) → i < nodesOf plan → copied plan i ≡ true → (isView (codeOf plan i) ≡ true → ⊥) → place Y i 8 ≤ 32
   no-view i l c h = go (isView (codeOf plan i)) refl
     where
       go : (b : Bool) → isView (codeOf plan i) ≡ b → place Y i 8 ≤ 32
       go true e = absurd (h e)
-      go false e = let z : place Y i 8 ≡ 0 = place-eight i l c ∙ ap (λ b. cond b (buffersOf x buffers counts room base i (sources x buffers counts room base)) 0) e in omega arith
+      go false e = let z : place Y i 8 ≡ 0 = place-eight i l c ∙ ap (λ b. cond b (buffersOf x buffers counters room base i (sources x buffers counters room base)) 0) e in omega arith
 
-  one-few : (i : ℕ) → Rattle.walk.specs.State.place (joinOf x 0) i 8 ≤ 32 → (n : ℕ) → n ≡ 1 → buffersOf x buffers counts room base i n ≤ 32
+  one-few : (i : ℕ) → Rattle.walk.specs.State.place (joinOf x 0) i 8 ≤ 32 → (n : ℕ) → n ≡ 1 → buffersOf x buffers counters room base i n ≤ 32
   unfolding buffersOf
-  one-few i h n e = subst (λ s. buffersOf x buffers counts room base i s ≤ 32) (sym e) (omega arith)
+  one-few i h n e = subst (λ s. buffersOf x buffers counters room base i s ≤ 32) (sym e) (omega arith)
 
   a-view : (i : ℕ) → i < nodesOf plan → copied plan i ≡ true → Rattle.walk.specs.State.place (joinOf x 0) i 8 ≤ 32 → place Y i 8 ≤ 32
   a-view i l c h = rw (place-eight i l c) (go (isView (codeOf plan i)))
     where
-      go : (b : Bool) → cond b (buffersOf x buffers counts room base i (sources x buffers counts room base)) 0 ≤ 32
-      go true = one-few i h (sources x buffers counts room base) (one-source x buffers tree root column counts room μ st base body bodied)
+      go : (b : Bool) → cond b (buffersOf x buffers counters room base i (sources x buffers counters room base)) 0 ≤ 32
+      go true = one-few i h (sources x buffers counters room base) (one-source x buffers tree root column counters room μ st base body bodied)
       go false = omega arith
 
-  own-few : (k : ℕ) (t : Ty) (i : ℕ) (a : Column t) → Worded plan k t i → i < nodesOf plan → copied plan i ≡ true → Stood x buffers counts μ t i a → place Y i 8 ≤ 32
+  own-few : (k : ℕ) (t : Ty) (i : ℕ) (a : Column t) → Worded plan k t i → i < nodesOf plan → copied plan i ≡ true → Stood x buffers counters μ t i a → place Y i 8 ≤ 32
   own-few (suc k) (tPlain p) i a w l c h = no-view i l c (plain-not plan p i (w .3))
-  own-few (suc k) tView i a w l c h = a-view i l c (few-one x buffers counts μ i (a .body) (h .body-is .1) 0 (omega arith))
+  own-few (suc k) tView i a w l c h = a-view i l c (few-one x buffers counters μ i (a .body) (h .body-is .1) 0 (omega arith))
   own-few (suc k) (tListView v t) i a w l c h = no-view i l c (λ e. omega (arith, between-both 17 18 (codeOf plan i) (w .2) .0, between-both 15 16 (codeOf plan i) e .1))
   own-few (suc k) (tList v t) i a w l c h = no-view i l c (λ e. omega (arith, between-both 19 20 (codeOf plan i) (w .2) .0, between-both 15 16 (codeOf plan i) e .1))
   own-few (suc k) (tSparse ids nullable f) i a w l c h = no-view i l c (λ e. omega (arith, w .1, between-both 15 16 (codeOf plan i) e .1))
@@ -142,19 +142,19 @@ module _ (x : Lent) (buffers : List ℕ) (tree : Tree) (root : Ty) (column : Col
   own-few (suc k) (tRunEnd v t) i a w l c h = no-view i l c (λ e. omega (arith, w .2, between-both 15 16 (codeOf plan i) e .1))
   own-few (suc k) (tDictionary n p) i a w l c h = no-view i l c (λ e. omega (arith, between-both 1 10 (codeOf plan i) (w .3) .1, between-both 15 16 (codeOf plan i) e .0))
 
-  values-few : (p : Plain) (i : ℕ) (a : Array (PlainBody p)) → suc i < nodesOf plan → (dictionaryOf plan i ≡ 0 → ⊥) → MeansPlain tree p (suc i) → StoodValues x buffers counts μ p i a → place Y (suc i) 8 ≤ 32
+  values-few : (p : Plain) (i : ℕ) (a : Array (PlainBody p)) → suc i < nodesOf plan → (dictionaryOf plan i ≡ 0 → ⊥) → MeansPlain tree p (suc i) → StoodValues x buffers counters μ p i a → place Y (suc i) 8 ≤ 32
   unfolding placeAt keptPlace
   values-few p i a l dict mn (in-parts e h) = no-view (suc i) l (parts-copied plan i dict e) (plain-not plan p (suc i) (st .of-type .plain-words p (suc i) mn))
   values-few p i a l dict mn (kept e v h o q) =
       let c = kept-not plan i dict e in
       let z : place Y (suc i) 8 ≡ 0
-      = place-at x buffers counts room base body (suc i) l 8 (omega arith) ∙ ap (λ b. cond b (copiedPlace x buffers counts room base (suc i) 8) (keptPlace x buffers counts room base (suc i) 8)) c in
+      = place-at x buffers counters room base body (suc i) l 8 (omega arith) ∙ ap (λ b. cond b (copiedPlace x buffers counters room base (suc i) 8) (keptPlace x buffers counters room base (suc i) 8)) c in
       omega arith
 
   -- no node names more than 32 data buffers
   pub names-few : (i : ℕ) → i < nodesOf plan → place Y i 8 ≤ 32
   names-few =
-      every-node x buffers tree root column counts μ (st .of-type) (st .stood) (λ j. place Y j 8 ≤ 32) (λ k t i a w l o mn h. own-few k t i a w l (copied-free plan i o) h)
+      every-node x buffers tree root column counters μ (st .of-type) (st .stood) (λ j. place Y j 8 ≤ 32) (λ k t i a w l o mn h. own-few k t i a w l (copied-free plan i o) h)
       (λ w i a l o f e mn h. no-view i l (copied-free plan i o) (λ v. omega (arith, between-both 1 10 (codeOf plan i) f .1, between-both 15 16 (codeOf plan i) v .0)))
       (λ p i a l dict mn h. values-few p i a l dict mn h)
 

@@ -210,8 +210,8 @@ module _ (formats schema : List ℕ) (target n : ℕ) (keep : ℕ → Bool) (joi
       ∙ ap partTotal named-is
       ∙ alike-total (namedUpTo n) plan (named-alike n (omega arith))
 
-  counts-from : (p : ℕ) → 864 ≤ p → p < 868 → (p ≡ 866 → ⊥) → getD plan p 0 ≡ getD bare p 0
-  counts-from p l h g =
+  counters-from : (p : ℕ) → 864 ≤ p → p < 868 → (p ≡ 866 → ⊥) → getD plan p 0 ≡ getD bare p 0
+  counters-from p l h g =
       after-parts p g
       ∙ after-kept p (λ i a e. omega arith)
       ∙ after-dictionaries p (λ e. omega arith)
@@ -222,21 +222,21 @@ module _ (formats schema : List ℕ) (target n : ℕ) (keep : ℕ → Bool) (joi
   pub source-is : getD plan 864 0 ≡ 1
   unfolding withCounts
   source-is =
-      counts-from 864 (omega arith) (omega arith) (λ e. omega arith)
+      counters-from 864 (omega arith) (omega arith) (λ e. omega arith)
       ∙ getD-set-other (set (withTree tree) 864 1) 865 864 n 0 (λ e. omega arith)
       ∙ getD-set-same (withTree tree) 864 1 0 (omega (arith, tree-length))
 
   pub nodes-are : getD plan 865 0 ≡ n
   unfolding withCounts
   nodes-are =
-      counts-from 865 (omega arith) (omega arith) (λ e. omega arith)
+      counters-from 865 (omega arith) (omega arith) (λ e. omega arith)
       ∙ getD-set-same (set (withTree tree) 864 1) 865 n 0 (omega (arith, length-set (withTree tree) 864 1, tree-length))
 
   -- a call that writes anew adds no run for a gap: the choice is off
   pub no-choice : getD plan 867 0 ≡ 0
   unfolding withCounts withTree
   no-choice =
-      counts-from 867 (omega arith) (omega arith) (λ e. omega arith)
+      counters-from 867 (omega arith) (omega arith) (λ e. omega arith)
       ∙ getD-set-other (set (withTree tree) 864 1) 865 867 n 0 (λ e. omega arith)
       ∙ getD-set-other (withTree tree) 864 867 1 0 (λ e. omega arith)
       ∙ filled-other (λ q. q) (λ s q. getD tree q 0) 256 (replicate 872 0) 867 (λ j a e. omega arith)

@@ -24,23 +24,23 @@ use Rattle.anew.specs.entries.Reclaimed.{entriesOf, newKey, reclaimed}
 use Rattle.anew.specs.Stood.{StoodNode, StoodPlain, in-parts, Stood}
 use Rattle.anew.proofs.Bits.{seg-valid, bits-stand}
 
-module _ (x : Lent) (buffers counts : List ℕ) (μ : Memory) where
+module _ (x : Lent) (buffers counters : List ℕ) (μ : Memory) where
   -- counters and memory that a walk leaves: new keys for all rows, and the entries in use in parts
   pub record ReclaimedAt (k : Number) (p : Plain) (v : Column (tDictionary k p)) : Type 0 where
-    pub rows-are : rows counts 0 ≡ v .len
+    pub rows-are : rows counters 0 ≡ v .len
     pub keeps-are : keepsOf (x .plan) 0 ≡ flag (ltb 0 (nullCount v))
     pub keys-are : μ .at 0 1 ≡ encodes (width k) (seg (newKey k p v) 0 (v .len))
     pub bits-are : 0 < nullCount v → μ .bits 0 ≡ map flag (seg (okAt v) 0 (v .len))
     pub has-parts : word (x .plan) 0 7 ≡ 1
-    pub entries : StoodNode x buffers counts μ 1 true (StoodPlain x buffers counts μ p 1) (entriesOf p (v .body .values) (kept k v))
+    pub entries : StoodNode x buffers counters μ 1 true (StoodPlain x buffers counters μ p 1) (entriesOf p (v .body .values) (kept k v))
 
   -- THE RECLAIMED COLUMN STANDS
-  pub reclaimed-stands : (k : Number) (p : Plain) (v : Column (tDictionary k p)) → ReclaimedAt k p v → Stood x buffers counts μ (tDictionary k p) 0 (reclaimed k p v)
+  pub reclaimed-stands : (k : Number) (p : Plain) (v : Column (tDictionary k p)) → ReclaimedAt k p v → Stood x buffers counters μ (tDictionary k p) 0 (reclaimed k p v)
   reclaimed-stands k p v h =
       record {
         rows-are = h .rows-are;
         from-zero = refl;
-        bits-are = bits-stand x buffers counts μ 0 (ltb 0 (nullCount v)) (v .len) (seg (okAt v) 0 (v .len)) (h .keeps-are) (length-seg (okAt v) 0 (v .len)) (λ e. h .bits-are (ltb-true 0 (nullCount v) e))
+        bits-are = bits-stand x buffers counters μ 0 (ltb 0 (nullCount v)) (v .len) (seg (okAt v) 0 (v .len)) (h .keeps-are) (length-seg (okAt v) 0 (v .len)) (λ e. h .bits-are (ltb-true 0 (nullCount v) e))
             (λ e. seg-valid v (omega (arith, ltb-false 0 (nullCount v) e)) 0 (v .len) (omega arith));
         body-is = (
           record { bytes-are = h .keys-are; long = length-encodes (width k) (seg (newKey k p v) 0 (v .len)) ∙ ap (λ n. n * width k) (length-seg (newKey k p v) 0 (v .len)) },

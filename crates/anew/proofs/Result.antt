@@ -49,8 +49,8 @@ lentFor x plan parts first n = record { plan = plan; parts = parts; sources = fi
 pub record Filled (x : Lent) (buffers : List ℕ) (t : Ty) (walk : Out) (column : Column t) : Type 0 where
   pub used : AllUsed (Used (x .plan)) (walk .log)
   pub in-place : AllInPlace (walk .log) empty
-  pub long : length (walk .counts) ≡ 96
-  pub stood : Stood x buffers (walk .counts) (after (walk .log) empty) t 0 column
+  pub long : length (walk .counters) ≡ 96
+  pub stood : Stood x buffers (walk .counters) (after (walk .log) empty) t 0 column
   pub good : Source t column
 
 -- by a walk that is done, as its steps are proved (refinement/proofs/walk_is_model/Goes.antt)
@@ -67,17 +67,17 @@ nothing-lies : (plan parts : List ℕ) (U : ℕ → ℕ → Type 0) (room : List
 nothing-lies plan parts U room h = record { are-bytes = h; bytes-lie = λ i b u l. refl; bits-lie = λ i u. no-bits _ room }
 
 -- a byte in no buffer that there is at the end is none that is written over
-none-over : (state parts : List ℕ) (U : ℕ → ℕ → Type 0) (l : Log) (μ : Memory) (p : ℕ) → AllInPlace l μ → AllUsed U l
-    → ((i b : ℕ) → U i b → 1 ≤ b → startOf state parts i b ≤ p → p < startOf state parts i b + length (after l μ .at i b) → ⊥) → NoneOver state parts l p
+none-over : (plan parts : List ℕ) (U : ℕ → ℕ → Type 0) (l : Log) (μ : Memory) (p : ℕ) → AllInPlace l μ → AllUsed U l
+    → ((i b : ℕ) → U i b → 1 ≤ b → startOf plan parts i b ≤ p → p < startOf plan parts i b + length (after l μ .at i b) → ⊥) → NoneOver plan parts l p
 unfolding AllInPlace AllUsed NoneOver after
-none-over state parts U [] μ p q u h = tt
-none-over state parts U (put i b o bs ∷ l) μ p q u h = (tt, none-over state parts U l (noted (put i b o bs) μ) p (q .1) (u .1) h)
-none-over state parts U (mask i o vs ∷ l) μ p q u h = (tt, none-over state parts U l (noted (mask i o vs) μ) p (q .1) (u .1) h)
-none-over state parts U (amend i b o bs ∷ l) μ p q u h =
+none-over plan parts U [] μ p q u h = tt
+none-over plan parts U (put i b o bs ∷ l) μ p q u h = (tt, none-over plan parts U l (noted (put i b o bs) μ) p (q .1) (u .1) h)
+none-over plan parts U (mask i o vs ∷ l) μ p q u h = (tt, none-over plan parts U l (noted (mask i o vs) μ) p (q .1) (u .1) h)
+none-over plan parts U (amend i b o bs ∷ l) μ p q u h =
     let e : o + length bs ≡ length (μ .at i b) = q .0 in
-    (λ x y. h i b (u .0 .0) (u .0 .1) (omega arith) (omega (arith, grows-at (amend i b o bs ∷ l) μ q i b)), none-over state parts U l (noted (amend i b o bs) μ) p (q .1) (u .1) h)
+    (λ x y. h i b (u .0 .0) (u .0 .1) (omega arith) (omega (arith, grows-at (amend i b o bs ∷ l) μ q i b)), none-over plan parts U l (noted (amend i b o bs) μ) p (q .1) (u .1) h)
 
-module _ (formats schema : List ℕ) (x : Tables) (first n own target tn : ℕ) (keep : ℕ → Bool) (joined : Bool) (keptFrom : ℕ) (walk : Out) (parts plan counts room : List ℕ)
+module _ (formats schema : List ℕ) (x : Tables) (first n own target tn : ℕ) (keep : ℕ → Bool) (joined : Bool) (keptFrom : ℕ) (walk : Out) (parts plan counters room : List ℕ)
     (t : typed formats schema target tn ≡ true) (c : ceilings formats schema target tn ≡ true) where
   -- the plan of the result, its type, and what finishing is given
   abbrev made : List ℕ
@@ -93,12 +93,12 @@ module _ (formats schema : List ℕ) (x : Tables) (first n own target tn : ℕ) 
   lent = lentFor x made parts first n
 
   abbrev answer : Opening
-  answer = anew formats schema x first n own made walk parts plan counts room
+  answer = anew formats schema x first n own made walk parts plan counters room
 
   module _ (ends : (i : ℕ) → suc i < tn → codeOf made i ≡ 23 → keep (suc i) ≡ false) (column : Column type) (filled : Filled lent (x .buffers) type walk column) (room-bytes : AllBelow 256 room)
       (ok : answer .ground ≡ 0) where
-    passed : Accepted formats schema x first n own made walk parts plan counts room
-    passed = anew-accepted formats schema x first n own made walk parts plan counts room ok
+    passed : Accepted formats schema x first n own made walk parts plan counters room
+    passed = anew-accepted formats schema x first n own made walk parts plan counters room ok
 
     words : TypePlan made tree type
     words = type-plan formats schema target tn keep joined keptFrom t c ends
@@ -113,7 +113,7 @@ module _ (formats schema : List ℕ) (x : Tables) (first n own target tn : ℕ) 
     well = placed-well formats schema target tn keep joined keptFrom t c ends parts room (passed .small) (passed .placed)
 
     fitting : Fits made parts (Used made) memory
-    fitting = all-fit lent (x .buffers) tree type column (walk .counts) memory words (filled .stood) (passed .holds)
+    fitting = all-fit lent (x .buffers) tree type column (walk .counters) memory words (filled .stood) (passed .holds)
 
     lies-first : Lies made parts (Used made) room empty
     lies-first = nothing-lies made parts (Used made) room room-bytes
@@ -121,7 +121,7 @@ module _ (formats schema : List ℕ) (x : Tables) (first n own target tn : ℕ) 
     same-long : length after-room ≡ length room
     same-long = room-long made parts (Used made) (walk .log) room empty well lies-first (filled .in-place) (filled .used) fitting
 
-    stands-made : Standing lent (x .buffers) tree type column (walk .counts) after-room memory
+    stands-made : Standing lent (x .buffers) tree type column (walk .counters) after-room memory
     stands-made =
         record {
           of-type = words;
@@ -134,14 +134,14 @@ module _ (formats schema : List ℕ) (x : Tables) (first n own target tn : ℕ) 
         }
 
     -- WHAT AN ACCEPTED CALL LEAVES is what finishing is given
-    pub anew-standing : Standing lent (x .buffers) tree type column (answer .counts) (answer .room) memory
-    anew-standing = subst (λ o. Standing lent (x .buffers) tree type column (o .counts) (o .room) memory) (sym (passed .answer-is)) stands-made
+    pub anew-standing : Standing lent (x .buffers) tree type column (answer .counters) (answer .room) memory
+    anew-standing = subst (λ o. Standing lent (x .buffers) tree type column (o .counters) (o .room) memory) (sym (passed .answer-is)) stands-made
 
     -- ---- what is written
 
-    outside : (p : ℕ) → ((i b : ℕ) → Used made i b → startOf made parts i b ≤ p → p < startOf made parts i b + needed made (walk .counts) i b → ⊥) → Outside made parts (Used made) (walk .log) empty memory p
+    outside : (p : ℕ) → ((i b : ℕ) → Used made i b → startOf made parts i b ≤ p → p < startOf made parts i b + needed made (walk .counters) i b → ⊥) → Outside made parts (Used made) (walk .log) empty memory p
     outside p h =
-        let e = all-exact lent (x .buffers) tree type column (walk .counts) memory words (filled .stood) in
+        let e = all-exact lent (x .buffers) tree type column (walk .counters) memory words (filled .stood) in
         let f : (i b : ℕ) → Used made i b → 1 ≤ b → startOf made parts i b ≤ p → p < startOf made parts i b + length (memory .at i b) → ⊥ =
         λ i b u l y z. h i b u y (omega (arith, e i b u .bytes-are l)) in
         record {
@@ -150,7 +150,7 @@ module _ (formats schema : List ℕ) (x : Tables) (first n own target tn : ℕ) 
           not-over = none-over made parts (Used made) (walk .log) empty p (filled .in-place) (filled .used) f;
         }
 
-    only-made : OnlyUsed made parts room (walk .counts) after-room
+    only-made : OnlyUsed made parts room (walk .counters) after-room
     only-made =
         record {
           same-length = same-long;
@@ -158,8 +158,8 @@ module _ (formats schema : List ℕ) (x : Tables) (first n own target tn : ℕ) 
         }
 
     -- AN ACCEPTED CALL CHANGES ONLY BYTES OF THE PARTS, up to what each needs
-    pub anew-writes : OnlyUsed made parts room (answer .counts) (answer .room)
-    anew-writes = subst (λ o. OnlyUsed made parts room (o .counts) (o .room)) (sym (passed .answer-is)) only-made
+    pub anew-writes : OnlyUsed made parts room (answer .counters) (answer .room)
+    anew-writes = subst (λ o. OnlyUsed made parts room (o .counters) (o .room)) (sym (passed .answer-is)) only-made
 
     -- the plan that it leaves is that of the result
     pub anew-plan : answer .plan ≡ made
@@ -169,31 +169,31 @@ module _ (formats schema : List ℕ) (x : Tables) (first n own target tn : ℕ) 
 
     -- FINISHING IS ACCEPTED, where its tables are of the result's lengths and the room begins within a body's ceiling
     pub anew-finishes : (base : ℕ) → base ≤ ceiling → (lengths nulls places names : List ℕ) → length lengths ≡ 2 * nodesOf made → length nulls ≡ nodesOf made → length places ≡ 9 * nodesOf made
-        → length names ≡ 2 * buffersBefore lent (x .buffers) (answer .counts) (answer .room) base (nodesOf made)
-        → finishing lent (x .buffers) (answer .counts) (answer .room) base lengths nulls places names ≡ finished lent (x .buffers) tree type column (answer .counts) (answer .room) memory anew-standing base
-    anew-finishes = stood-accepted lent (x .buffers) tree type column (answer .counts) (answer .room) memory anew-standing
+        → length names ≡ 2 * buffersBefore lent (x .buffers) (answer .counters) (answer .room) base (nodesOf made)
+        → finishing lent (x .buffers) (answer .counters) (answer .room) base lengths nulls places names ≡ finished lent (x .buffers) tree type column (answer .counters) (answer .room) memory anew-standing base
+    anew-finishes = stood-accepted lent (x .buffers) tree type column (answer .counters) (answer .room) memory anew-standing
 
     module _ (base : ℕ) (body : List ℕ) (bodied : Bodied body lent (answer .room) base) where
       -- THE RESULT: the tables describe the column byte for byte, with its null counts; its rows read as the column's, and it can be lent again
       pub anew-result :
-          Shows tree (finishedTables lent (x .buffers) (answer .counts) (answer .room) base body) type 0 column
-          × Counts tree (nullTable lent (x .buffers) (answer .counts) (answer .room) base) type 0 column
-          × (readAll type (columnOf tree (finishedTables lent (x .buffers) (answer .counts) (answer .room) base body) type 0) ≡ readAll type column)
-          × T (sourceRule tree (finishedTables lent (x .buffers) (answer .counts) (answer .room) base body))
+          Shows tree (finishedTables lent (x .buffers) (answer .counters) (answer .room) base body) type 0 column
+          × Counts tree (nullTable lent (x .buffers) (answer .counters) (answer .room) base) type 0 column
+          × (readAll type (columnOf tree (finishedTables lent (x .buffers) (answer .counters) (answer .room) base body) type 0) ≡ readAll type column)
+          × T (sourceRule tree (finishedTables lent (x .buffers) (answer .counters) (answer .room) base body))
       anew-result = (
-        stood-shows lent (x .buffers) tree type column (answer .counts) (answer .room) memory anew-standing base body bodied,
-        stood-nulls lent (x .buffers) tree type column (answer .counts) (answer .room) memory anew-standing base body bodied,
-        stood-reads lent (x .buffers) tree type column (answer .counts) (answer .room) memory anew-standing base body bodied (filled .good),
-        stood-again lent (x .buffers) formats schema target tn column (answer .counts) (answer .room) memory anew-standing base body bodied t c (sym (nodes-is formats schema target tn keep joined keptFrom t c)) (filled .good),
+        stood-shows lent (x .buffers) tree type column (answer .counters) (answer .room) memory anew-standing base body bodied,
+        stood-nulls lent (x .buffers) tree type column (answer .counters) (answer .room) memory anew-standing base body bodied,
+        stood-reads lent (x .buffers) tree type column (answer .counters) (answer .room) memory anew-standing base body bodied (filled .good),
+        stood-again lent (x .buffers) formats schema target tn column (answer .counters) (answer .room) memory anew-standing base body bodied t c (sym (nodes-is formats schema target tn keep joined keptFrom t c)) (filled .good),
       )
 
       -- LENT AGAIN with the same schema, in tables that hold the finished ones from the target's node on, IT IS ACCEPTED: none of 9, 10 and 12 stands
-      pub anew-again : length body ≤ ceiling → (z : Tables) → tablesFrom z target ≡ finishedTables lent (x .buffers) (answer .counts) (answer .room) base body → columnGround formats schema z target tn ≡ 0
+      pub anew-again : length body ≤ ceiling → (z : Tables) → tablesFrom z target ≡ finishedTables lent (x .buffers) (answer .counters) (answer .room) base body → columnGround formats schema z target tn ≡ 0
       anew-again short z again =
           let nodes = nodes-is formats schema target tn keep joined keptFrom t c in
           accepted-again formats schema z target tn (subst (λ y. length (y .body) ≤ ceiling) (sym again) short) c t
           (subst (λ y. T (sourceRule tree y)) (sym again) (anew-result .3))
           (λ i l. subst (λ y. (offsetOf y i ≡ 0) ⊎ (offsetOf y i + lengthOf y i < 2 ^ 63)) (sym again)
-          (starts-low lent (x .buffers) tree type column (answer .counts) (answer .room) memory anew-standing base body bodied i (omega (arith, nodes))))
+          (starts-low lent (x .buffers) tree type column (answer .counters) (answer .room) memory anew-standing base body bodied i (omega (arith, nodes))))
           (λ i l. subst (λ y. place y i 8 ≤ 32) (sym again)
-          (names-few lent (x .buffers) tree type column (answer .counts) (answer .room) memory anew-standing base body bodied i (omega (arith, nodes))))
+          (names-few lent (x .buffers) tree type column (answer .counters) (answer .room) memory anew-standing base body bodied i (omega (arith, nodes))))

@@ -40,14 +40,14 @@ pub record TypePlan (plan : List ℕ) (tree : Tree) (t : Ty) : Type 0 where
   pub plain-words : (p : Plain) (j : ℕ) → MeansPlain tree p j → WordedPlain plan p j
 
 -- ALL THAT FINISHING IS GIVEN
-pub record Standing (x : Lent) (buffers : List ℕ) (tree : Tree) (t : Ty) (a : Column t) (counts room : List ℕ) (μ : Memory) : Type 0 where
+pub record Standing (x : Lent) (buffers : List ℕ) (tree : Tree) (t : Ty) (a : Column t) (counters room : List ℕ) (μ : Memory) : Type 0 where
   pub of-type : TypePlan (x .plan) tree t
-  pub stood : Stood x buffers counts μ t 0 a
-  pub long : length counts ≡ 96
+  pub stood : Stood x buffers counters μ t 0 a
+  pub long : length counters ≡ 96
   pub lies : Lies (x .plan) (x .parts) (Used (x .plan)) room μ
   pub placed : Placed (x .plan) (x .parts) (Used (x .plan)) (length room)
   pub within : partsWithin (x .plan) (x .parts) (length room) ≡ true
-  pub enough : partsHold (x .plan) counts (x .parts) ≡ true
+  pub enough : partsHold (x .plan) counters (x .parts) ≡ true
 
 -- ---- nodes of the type
 
@@ -68,17 +68,17 @@ module _ (plan : List ℕ) (tree : Tree) (root : Ty) (of-type : TypePlan plan tr
 
 -- ---- what holds of each node of the type, of run ends and of dictionaries' values holds of all nodes
 
-module _ (x : Lent) (buffers : List ℕ) (tree : Tree) (root : Ty) (column : Column root) (counts : List ℕ) (μ : Memory) (of-type : TypePlan (x .plan) tree root)
-    (stood : Stood x buffers counts μ root 0 column) (P : ℕ → Type 0)
-    (own : (k : ℕ) (t : Ty) (i : ℕ) (a : Column t) → Worded (x .plan) k t i → i < nodesOf (x .plan) → Free (x .plan) i → Means tree t i → Stood x buffers counts μ t i a → P i)
+module _ (x : Lent) (buffers : List ℕ) (tree : Tree) (root : Ty) (column : Column root) (counters : List ℕ) (μ : Memory) (of-type : TypePlan (x .plan) tree root)
+    (stood : Stood x buffers counters μ root 0 column) (P : ℕ → Type 0)
+    (own : (k : ℕ) (t : Ty) (i : ℕ) (a : Column t) → Worded (x .plan) k t i → i < nodesOf (x .plan) → Free (x .plan) i → Means tree t i → Stood x buffers counters μ t i a → P i)
     (ends : (w i : ℕ) (a : Array (List ℕ)) → i < nodesOf (x .plan) → Free (x .plan) i → isFixed (codeOf (x .plan) i) ≡ true → bytesOf (x .plan) i ≡ w → MeansEnds tree w i
-    → StoodNode x buffers counts μ i true (λ m s. Stored x buffers counts μ i 1 m w s) a → P i)
-    (values : (p : Plain) (i : ℕ) (a : Array (PlainBody p)) → suc i < nodesOf (x .plan) → (dictionaryOf (x .plan) i ≡ 0 → ⊥) → MeansPlain tree p (suc i) → StoodValues x buffers counts μ p i a → P (suc i)) where
+    → StoodNode x buffers counters μ i true (λ m s. Stored x buffers counters μ i 1 m w s) a → P i)
+    (values : (p : Plain) (i : ℕ) (a : Array (PlainBody p)) → suc i < nodesOf (x .plan) → (dictionaryOf (x .plan) i ≡ 0 → ⊥) → MeansPlain tree p (suc i) → StoodValues x buffers counters μ p i a → P (suc i)) where
   abbrev plan : List ℕ
   plan = x .plan
 
   abbrev Stands : (t : Ty) → ℕ → Column t → Type 0
-  Stands t i = Stood x buffers counts μ t i
+  Stands t i = Stood x buffers counters μ t i
 
   -- every node from node i on
   abbrev From : ℕ → Type 0

@@ -27,17 +27,17 @@ orElse g h = cond (eqb g 0) h g
 pub record Asking : Type 0 where
   pub ground : ℕ
   pub plan : List ℕ
-  pub counts : List ℕ
+  pub counters : List ℕ
 
 -- plan and counters, of so many numbers, are a join's
 unfoldable pub joinLengths : ℕ → ℕ → Bool
-joinLengths plan counts = eqb plan planWords && eqb counts counterWords
+joinLengths plan counters = eqb plan planWords && eqb counters counterWords
 
 -- 14 or 13 of the parts that are lent for a result with this plan and these counters, where plan, counters and room have so many numbers and
 -- bytes; 0 where it can be written
-unfoldable pub roomGround : (made counts parts : List ℕ) (plan counters room : ℕ) → ℕ
-roomGround made counts parts plan counters room =
-    cond (joinLengths plan counters && partsPlaced parts (partTotal made) room) (cond (partsHold made counts parts) 0 13) 14
+unfoldable pub roomGround : (made tally parts : List ℕ) (plan counters room : ℕ) → ℕ
+roomGround made tally parts plan counters room =
+    cond (joinLengths plan counters && partsPlaced parts (partTotal made) room) (cond (partsHold made tally parts) 0 13) 14
 
 -- the column of n nodes from node `first` on, the first of the call's own grounds before its walk or 0, the plan of the result, and the
 -- walk that fills it
@@ -48,24 +48,24 @@ module _ (formats schema : List ℕ) (x : Tables) (first n own : ℕ) (made : Li
   ahead = orElse (columnGround formats schema x first n) (orElse own (walk .ans))
 
   -- THE QUESTION: 14 where plan and counters are not a join's
-  unfoldable pub asking : (plan counts : List ℕ) → Asking
-  asking plan counts =
+  unfoldable pub asking : (plan counters : List ℕ) → Asking
+  asking plan counters =
       cond (eqb ahead 0)
-      (cond (joinLengths (length plan) (length counts)) (record { ground = 0; plan = made; counts = walk .counts }) (record { ground = 14; plan = plan; counts = counts }))
-      (record { ground = ahead; plan = plan; counts = counts })
+      (cond (joinLengths (length plan) (length counters)) (record { ground = 0; plan = made; counters = walk .counters }) (record { ground = 14; plan = plan; counters = counters }))
+      (record { ground = ahead; plan = plan; counters = counters })
 
-  module _ (parts plan counts room : List ℕ) where
+  module _ (parts plan counters room : List ℕ) where
     -- "State and every byte stay."
     abbrev pub unchanged : ℕ → Opening
-    unchanged g = record { ground = g; plan = plan; counts = counts; room = room }
+    unchanged g = record { ground = g; plan = plan; counters = counters; room = room }
 
     -- the result as it is written
     abbrev pub written : Opening
-    written = record { ground = 0; plan = made; counts = walk .counts; room = apply made parts (walk .log) room }
+    written = record { ground = 0; plan = made; counters = walk .counters; room = apply made parts (walk .log) room }
 
     -- the first ground that stands: 14 just before 13, behind all that is asked before room is
     abbrev pub groundOf : ℕ
-    groundOf = orElse ahead (roomGround made (walk .counts) parts (length plan) (length counts) (length room))
+    groundOf = orElse ahead (roomGround made (walk .counters) parts (length plan) (length counters) (length room))
 
     -- THE CALL: 9 where the room, which is a body too, is too large
     unfoldable pub anew : Opening

@@ -25,15 +25,15 @@ pub record Comes (x : Tables) (first n : ℕ) (from : List ℕ) : Type 0 where
   pub countable : (i : ℕ) → i < n → 0 < getD from i 0 → Countable x (first + (getD from i 0 - 1))
 
 unfoldable pub withNulls : (ℕ → Bool) → ℕ → List ℕ → List ℕ
-withNulls keep n state = filled (λ i. 8 * i + 5) (λ s i. flag (keep i)) n state
+withNulls keep n plan = filled (λ i. 8 * i + 5) (λ s i. flag (keep i)) n plan
 
 -- ---- dictionaries: all in parts, or all kept
 
 unfoldable pub dictionaryWord : Bool → List ℕ → ℕ → ℕ
-dictionaryWord joined state i = cond (eqb (dictionaryOf state i) 0) 0 (flag joined)
+dictionaryWord joined plan i = cond (eqb (dictionaryOf plan i) 0) 0 (flag joined)
 
 unfoldable pub withDictionaries : Bool → ℕ → List ℕ → List ℕ
-withDictionaries joined n state = filled (λ i. 8 * i + 7) (dictionaryWord joined) n state
+withDictionaries joined n plan = filled (λ i. 8 * i + 7) (dictionaryWord joined) n plan
 
 -- ---- the whole
 

@@ -27,7 +27,7 @@ BitsOf false (some l) n = l ≡ []
 BitsOf true (some l) n = length l ≡ n
 
 -- the plan and the column's tables, the data buffers that its views name, the counters and the memory
-module _ (x : Lent) (buffers counts : List ℕ) (μ : Memory) where
+module _ (x : Lent) (buffers counters : List ℕ) (μ : Memory) where
   -- the validity of node i, of n rows: bits where it keeps nulls, and dropped where none is 0
   pub record StoodBits (i : ℕ) (masks : Bool) (n : ℕ) (valid : Option (List ℕ)) : Type 0 where
     pub bits : Option (List Bool)
@@ -37,7 +37,7 @@ module _ (x : Lent) (buffers counts : List ℕ) (μ : Memory) where
 
   -- node i is this array; `inner` is given the length and the body
   pub record StoodNode {B : Type 0} (i : ℕ) (masks : Bool) (inner : ℕ → B → Type 0) (a : Array B) : Type 0 where
-    pub rows-are : rows counts i ≡ a .len
+    pub rows-are : rows counters i ≡ a .len
     pub from-zero : a .off ≡ 0
     pub bits-are : StoodBits i masks (a .len) (a .valid)
     pub body-is : inner (a .len) (a .body)
@@ -49,7 +49,7 @@ module _ (x : Lent) (buffers counts : List ℕ) (μ : Memory) where
 
   abbrev pub StoodPlain : (p : Plain) → ℕ → ℕ → PlainBody p → Type 0
   StoodPlain (fixed k) i n b = Stored i 1 n (width k) b
-  StoodPlain (string w) i n b = Stored i 1 (suc n) w (b .offsets) × Stored i 2 (bytes counts i) 1 (b .chars)
+  StoodPlain (string w) i n b = Stored i 1 (suc n) w (b .offsets) × Stored i 2 (bytes counters i) 1 (b .chars)
 
   -- the data buffers of a view node: those that the column's tables name at this node
   pub record BuffersNamed (i : ℕ) (bs : List (List ℕ)) : Type 0 where

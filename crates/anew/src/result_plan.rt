@@ -44,24 +44,24 @@ fn write_nulls(
     first: usize,
     from: &[u64],
     n: usize,
-    state: &mut [u64; plan_words::WORDS],
+    plan: &mut [u64; plan_words::WORDS],
 )
     requires { ⌜ (n ≤ 32) × (first < 2 ^ 32) × Comes (tables (now lengths) (now places) (now body)) first n (now from) ⌝ }
-    ensures { λ _. ⌜ now (state .exit) ≡ withNulls (keepsFrom (tables (now (lengths .entry)) (now (places .entry)) (now (body .entry))) first (now (from .entry))) n (now (state .entry)) ⌝ }
+    ensures { λ _. ⌜ now (plan .exit) ≡ withNulls (keepsFrom (tables (now (lengths .entry)) (now (places .entry)) (now (body .entry))) first (now (from .entry))) n (now (plan .entry)) ⌝ }
 {
     let mut i = 0;
     while i < n {
-        state[8 * i + 5] = null_word(lengths, places, body, first, from, n, i);
+        plan[8 * i + 5] = null_word(lengths, places, body, first, from, n, i);
         i += 1;
     }
 }
 
 // 1 if node i has a dictionary and dictionaries are in parts, and else 0.
-fn dictionary_word(joined: bool, state: &[u64; plan_words::WORDS], i: usize) -> u64
+fn dictionary_word(joined: bool, plan: &[u64; plan_words::WORDS], i: usize) -> u64
     requires { ⌜ i < 32 ⌝ }
-    ensures { λ r. ⌜ r ≡ dictionaryWord joined (now (state .entry)) i ⌝ }
+    ensures { λ r. ⌜ r ≡ dictionaryWord joined (now (plan .entry)) i ⌝ }
 {
-    if plan_words::dictionary_of(state, i) == 0 {
+    if plan_words::dictionary_of(plan, i) == 0 {
         return 0;
     }
     if joined {
@@ -71,13 +71,13 @@ fn dictionary_word(joined: bool, state: &[u64; plan_words::WORDS], i: usize) -> 
 }
 
 // Which of the first n nodes have a dictionary in parts.
-fn write_dictionaries(joined: bool, n: usize, state: &mut [u64; plan_words::WORDS])
+fn write_dictionaries(joined: bool, n: usize, plan: &mut [u64; plan_words::WORDS])
     requires { ⌜ n ≤ 32 ⌝ }
-    ensures { λ _. ⌜ now (state .exit) ≡ withDictionaries joined n (now (state .entry)) ⌝ }
+    ensures { λ _. ⌜ now (plan .exit) ≡ withDictionaries joined n (now (plan .entry)) ⌝ }
 {
     let mut i = 0;
     while i < n {
-        state[8 * i + 7] = dictionary_word(joined, state, i);
+        plan[8 * i + 7] = dictionary_word(joined, plan, i);
         i += 1;
     }
 }
@@ -96,47 +96,47 @@ pub fn plan_anew(
     from: &[u64],
     joined: bool,
     kept: u64,
-    state: &mut [u64; plan_words::WORDS],
+    plan: &mut [u64; plan_words::WORDS],
 )
     requires { ⌜ (target < 2 ^ 32) × (n ≤ 32) × (first < 2 ^ 32) × Comes (tables (now lengths) (now places) (now body)) first n (now from) ⌝ }
-    ensures { λ _. ⌜ now (state .exit) ≡ planAnew (now (formats .entry)) (now (schema .entry)) target n (keepsFrom (tables (now (lengths .entry)) (now (places .entry)) (now (body .entry))) first (now (from .entry))) joined kept ⌝ }
+    ensures { λ _. ⌜ now (plan .exit) ≡ planAnew (now (formats .entry)) (now (schema .entry)) target n (keepsFrom (tables (now (lengths .entry)) (now (places .entry)) (now (body .entry))) first (now (from .entry))) joined kept ⌝ }
 {
-    plan::write_type(formats, schema, target, 1, n, state);
-    write_nulls(lengths, places, body, first, from, n, state);
-    write_dictionaries(joined, n, state);
-    state[plan_words::KEPT] = kept;
-    plan::write_parts(n, state);
-    state[plan_words::PART_COUNT] = plan::parts::part_total(state) as u64;
+    plan::write_type(formats, schema, target, 1, n, plan);
+    write_nulls(lengths, places, body, first, from, n, plan);
+    write_dictionaries(joined, n, plan);
+    plan[plan_words::KEPT] = kept;
+    plan::write_parts(n, plan);
+    plan[plan_words::PART_COUNT] = plan::parts::part_total(plan) as u64;
 }
 
 // ---- the room
 
 // 14 or 13 of the parts that are lent for a result, where plan, counters and room have so many numbers and bytes; 0 where it can be written.
 pub fn room_ground(
-    state: &[u64],
-    counts: &[u64; plan_words::COUNTERS],
+    plan: &[u64],
+    tally: &[u64; plan_words::COUNTERS],
     parts: &[u64],
     words: usize,
     counters: usize,
     m: usize,
 ) -> u8
-    ensures { λ r. ⌜ r ≡ roomGround (now (state .entry)) (now (counts .entry)) (now (parts .entry)) words counters m ⌝ }
+    ensures { λ r. ⌜ r ≡ roomGround (now (plan .entry)) (now (tally .entry)) (now (parts .entry)) words counters m ⌝ }
 {
-    if !with_capacities::room_placed(state, parts, words, counters, m) {
+    if !with_capacities::room_placed(plan, parts, words, counters, m) {
         return 14;
     }
-    if !plan::parts::parts_hold(state, counts, parts) {
+    if !plan::parts::parts_hold(plan, tally, parts) {
         return 13;
     }
     0
 }
 
 // Leaves the plan of a result and its counters with the caller.
-pub fn keep_result(plan: &mut [u64], counters: &mut [u64], state: &[u64], counts: &[u64])
-    requires { ⌜ (length (now plan) ≡ 872) × (length (now counters) ≡ 96) × (length (now state) ≡ 872) × (length (now counts) ≡ 96) ⌝ }
-    ensures { λ _. ⌜ now (plan .exit) ≡ now (state .entry) ⌝ }
-    ensures { λ _. ⌜ now (counters .exit) ≡ now (counts .entry) ⌝ }
+pub fn keep_result(plan: &mut [u64], counters: &mut [u64], draft: &[u64], tally: &[u64])
+    requires { ⌜ (length (now plan) ≡ 872) × (length (now counters) ≡ 96) × (length (now draft) ≡ 872) × (length (now tally) ≡ 96) ⌝ }
+    ensures { λ _. ⌜ now (plan .exit) ≡ now (draft .entry) ⌝ }
+    ensures { λ _. ⌜ now (counters .exit) ≡ now (tally .entry) ⌝ }
 {
-    with_capacities::store(plan, state, plan_words::WORDS);
-    with_capacities::store(counters, counts, plan_words::COUNTERS);
+    with_capacities::store(plan, draft, plan_words::WORDS);
+    with_capacities::store(counters, tally, plan_words::COUNTERS);
 }

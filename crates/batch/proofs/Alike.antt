@@ -35,21 +35,21 @@ within-lays i b false e w = go (isAt i b e)
     go true = refl
     go false = refl
 
-module _ (state parts : List ℕ) (M : ℕ) (K : ℕ → ℕ → Type 0) where
+module _ (plan parts : List ℕ) (M : ℕ) (K : ℕ → ℕ → Type 0) where
   -- a window of a part
   pub record Window (i b : ℕ) (w : List ℕ) : Type 0 where
-    pub long : length w ≡ span state parts M K i b
+    pub long : length w ≡ span plan parts M K i b
     pub are-bytes : Below 256 w
 
   pub record Alike (l k : Log) : Type 0 where
-    pub one : AllInside state parts M K l
-    pub two : AllInside state parts M K k
+    pub one : AllInside plan parts M K l
+    pub two : AllInside plan parts M K k
     pub same : (i b : ℕ) → K i b → (w : List ℕ) → Window i b w → within i b l w ≡ within i b k w
 
-  pub alike-refl : (l : Log) → AllInside state parts M K l → Alike l l
+  pub alike-refl : (l : Log) → AllInside plan parts M K l → Alike l l
   alike-refl l h = record { one = h; two = h; same = λ i b k w u. refl }
 
-  pub alike-is : {l k : Log} → AllInside state parts M K k → l ≡ k → Alike l k
+  pub alike-is : {l k : Log} → AllInside plan parts M K k → l ≡ k → Alike l k
   alike-is {l} {k} h e = rw e (alike-refl k h)
 
   pub alike-sym : {l k : Log} → Alike l k → Alike k l
@@ -58,14 +58,14 @@ module _ (state parts : List ℕ) (M : ℕ) (K : ℕ → ℕ → Type 0) where
   pub alike-trans : {l k j : Log} → Alike l k → Alike k j → Alike l j
   alike-trans a c = record { one = a .one; two = c .two; same = λ i b k w u. a .same i b k w u ∙ c .same i b k w u }
 
-  inner-window : (i b : ℕ) (e : Entry) → Inside state parts M K e → (t : Bool) → isAt i b e ≡ t → (w : List ℕ) → Window i b w → Window i b (cond t (inner e w) w)
+  inner-window : (i b : ℕ) (e : Entry) → Inside plan parts M K e → (t : Bool) → isAt i b e ≡ t → (w : List ℕ) → Window i b w → Window i b (cond t (inner e w) w)
   inner-window i b e h true g w u =
-      let p = at-key state parts M K i b e g in
-      let l : length w ≡ span state parts M K (node state parts M K e) (buffer state parts M K e) = rw (← p .0, ← p .1) (u .long) in
-      record { long = inner-long state parts M K e h w l ∙ u .long; are-bytes = inner-below state parts M K e h w l (u .are-bytes) }
+      let p = at-key plan parts M K i b e g in
+      let l : length w ≡ span plan parts M K (node plan parts M K e) (buffer plan parts M K e) = rw (← p .0, ← p .1) (u .long) in
+      record { long = inner-long plan parts M K e h w l ∙ u .long; are-bytes = inner-below plan parts M K e h w l (u .are-bytes) }
   inner-window i b e h false g w u = u
 
-  pub within-window : (i b : ℕ) (l : Log) → AllInside state parts M K l → (w : List ℕ) → Window i b w → Window i b (within i b l w)
+  pub within-window : (i b : ℕ) (l : Log) → AllInside plan parts M K l → (w : List ℕ) → Window i b w → Window i b (within i b l w)
   unfolding within AllInside
   within-window i b [] h w u = u
   within-window i b (e ∷ l) h w u = within-window i b l (h .1) _ (inner-window i b e (h .0) (isAt i b e) refl w u)
@@ -73,8 +73,8 @@ module _ (state parts : List ℕ) (M : ℕ) (K : ℕ → ℕ → Type 0) where
   pub alike-append : {l k m n : Log} → Alike l k → Alike m n → Alike (l ++ m) (k ++ n)
   alike-append {l} {k} {m} {n} a c =
       record {
-        one = inside-append state parts M K l m (a .one) (c .one);
-        two = inside-append state parts M K k n (a .two) (c .two);
+        one = inside-append plan parts M K l m (a .one) (c .one);
+        two = inside-append plan parts M K k n (a .two) (c .two);
         same = λ i b y w u.
             within-append i b l m w
             ∙ c .same i b y _ (within-window i b l (a .one) w u)
@@ -100,19 +100,19 @@ module _ (state parts : List ℕ) (M : ℕ) (K : ℕ → ℕ → Type 0) where
 
   -- such writes inside their parts
   pub record Held (t u : Bool) (k p0 : ℕ) (v0 : List ℕ) (p1 : ℕ) (v1 : List ℕ) (p2 : ℕ) (v2 : List ℕ) : Type 0 where
-    pub bits : t ≡ true → K k 0 × (p0 + length v0 ≤ 8 * span state parts M K k 0) × Below 2 v0
-    pub ones : K k 1 × (p1 + length v1 ≤ span state parts M K k 1) × Below 256 v1
-    pub chars : u ≡ true → K k 2 × (p2 + length v2 ≤ span state parts M K k 2) × Below 256 v2
+    pub bits : t ≡ true → K k 0 × (p0 + length v0 ≤ 8 * span plan parts M K k 0) × Below 2 v0
+    pub ones : K k 1 × (p1 + length v1 ≤ span plan parts M K k 1) × Below 256 v1
+    pub chars : u ≡ true → K k 2 × (p2 + length v2 ≤ span plan parts M K k 2) × Below 256 v2
 
-  pub lays-inside : (t : Bool) (e : Entry) → (t ≡ true → Inside state parts M K e) → AllInside state parts M K (lays t e)
+  pub lays-inside : (t : Bool) (e : Entry) → (t ≡ true → Inside plan parts M K e) → AllInside plan parts M K (lays t e)
   unfolding AllInside
   lays-inside true e h = (h refl, tt)
   lays-inside false e h = tt
 
-  pub held-inside : (t u : Bool) (k p0 : ℕ) (v0 : List ℕ) (p1 : ℕ) (v1 : List ℕ) (p2 : ℕ) (v2 : List ℕ) → Held t u k p0 v0 p1 v1 p2 v2 → AllInside state parts M K (canon t u k p0 v0 p1 v1 p2 v2)
+  pub held-inside : (t u : Bool) (k p0 : ℕ) (v0 : List ℕ) (p1 : ℕ) (v1 : List ℕ) (p2 : ℕ) (v2 : List ℕ) → Held t u k p0 v0 p1 v1 p2 v2 → AllInside plan parts M K (canon t u k p0 v0 p1 v1 p2 v2)
   unfolding AllInside
   held-inside t u k p0 v0 p1 v1 p2 v2 h =
-      inside-append state parts M K (lays t (mask k p0 v0)) (put k 1 p1 v1 ∷ lays u (put k 2 p2 v2)) (lays-inside t (mask k p0 v0) (h .bits))
+      inside-append plan parts M K (lays t (mask k p0 v0)) (put k 1 p1 v1 ∷ lays u (put k 2 p2 v2)) (lays-inside t (mask k p0 v0) (h .bits))
       ((h .ones .0, omega arith, h .ones .1, h .ones .2), lays-inside u (put k 2 p2 v2) (λ e. (h .chars e .0, omega arith, h .chars e .1, h .chars e .2)))
 
   -- where an entry of those is
@@ -148,7 +148,7 @@ module _ (state parts : List ℕ) (M : ℕ) (K : ℕ → ℕ → Type 0) where
   canon-cut t u k p0 v0 w0 p1 v1 w1 p2 v2 w2 whole first second =
       record {
         one = held-inside t u k p0 (v0 ++ w0) p1 (v1 ++ w1) p2 (v2 ++ w2) whole;
-        two = inside-append state parts M K (canon t u k p0 v0 p1 v1 p2 v2) (canon t u k (p0 + length v0) w0 (p1 + length v1) w1 (p2 + length v2) w2)
+        two = inside-append plan parts M K (canon t u k p0 v0 p1 v1 p2 v2) (canon t u k (p0 + length v0) w0 (p1 + length v1) w1 (p2 + length v2) w2)
             (held-inside t u k p0 v0 p1 v1 p2 v2 first) (held-inside t u k (p0 + length v0) w0 (p1 + length v1) w1 (p2 + length v2) w2 second);
         same = λ i b y w z.
             within-canon i b t u k p0 (v0 ++ w0) p1 (v1 ++ w1) p2 (v2 ++ w2) w
@@ -167,24 +167,24 @@ module _ (state parts : List ℕ) (M : ℕ) (K : ℕ → ℕ → Type 0) where
           let a = is-at t i b k 0 e in
           let h = whole .bits (a .0) .1 in
           let l = length-append v0 w0 in
-          let n : length w ≡ span state parts M K k 0 = rw (a .1, a .2) at (z .long) in
+          let n : length w ≡ span plan parts M K k 0 = rw (a .1, a .2) at (z .long) in
           sym (put-put p0 v0 w0 w (first .bits (a .0) .2) (omega arith))
       go i b w z false e true f false g =
           let a = is-at true i b k 1 f in
           let h = whole .ones .1 in
           let l = length-append v1 w1 in
-          let n : length w ≡ span state parts M K k 1 = rw (a .1, a .2) at (z .long) in
+          let n : length w ≡ span plan parts M K k 1 = rw (a .1, a .2) at (z .long) in
           sym (splice-splice p1 v1 w1 w (omega arith))
       go i b w z false e false f true g =
           let a = is-at u i b k 2 g in
           let h = whole .chars (a .0) .1 in
           let l = length-append v2 w2 in
-          let n : length w ≡ span state parts M K k 2 = rw (a .1, a .2) at (z .long) in
+          let n : length w ≡ span plan parts M K k 2 = rw (a .1, a .2) at (z .long) in
           sym (splice-splice p2 v2 w2 w (omega arith))
       go i b w z false e false f false g = refl
 
   -- a validity of no rows alone
-  pub mask-none : (t : Bool) (k p : ℕ) → AllInside state parts M K (lays t (mask k p [])) → Alike (lays t (mask k p [])) []
+  pub mask-none : (t : Bool) (k p : ℕ) → AllInside plan parts M K (lays t (mask k p [])) → Alike (lays t (mask k p [])) []
   unfolding AllInside within
   mask-none t k p h = record { one = h; two = tt; same = λ i b y w z. within-lays i b t (mask k p []) w ∙ go w (z .are-bytes) (t && (eqb i k && eqb b 0)) }
     where

@@ -43,7 +43,7 @@ module _ (x : Join) (k : ℕ) where
   -- ---- validity
 
   abbrev pub keeps : Bool
-  keeps = not (eqb (keepsOf (x .state) k) 0)
+  keeps = not (eqb (keepsOf (x .plan) k) 0)
 
   -- a bit a row, whether they are written or not
   pub bitsOf : ℕ → ℕ → List ℕ
@@ -51,7 +51,7 @@ module _ (x : Join) (k : ℕ) where
 
   pub mask-log : (slot n : ℕ) (c : List ℕ) → maskFits x k slot n ≡ true → copyMask x k slot n c .log ≡ lays keeps (mask k (rows c k) (bitsOf slot n))
   unfolding copyMask copyBits maskFits bitsOf done wrote next need
-  mask-log slot n c = go (eqb (keepsOf (x .state) k) 0) (eqb (place x k 0) 0)
+  mask-log slot n c = go (eqb (keepsOf (x .plan) k) 0) (eqb (place x k 0) 0)
     where
       go : (s t : Bool) → cond s true (cond t true (leb (8 * place x k 1 + slot + n) (8 * length (x .body)))) ≡ true
           → cond s (done c) (cond t (wrote (mask k (rows c k) (replicate n 1)) c) (copyBits x k slot n c)) .log
@@ -62,7 +62,7 @@ module _ (x : Join) (k : ℕ) where
 
   pub bits-long : (slot n : ℕ) → maskFits x k slot n ≡ true → length (bitsOf slot n) ≡ n
   unfolding maskFits bitsOf
-  bits-long slot n = go (eqb (keepsOf (x .state) k) 0) (eqb (place x k 0) 0)
+  bits-long slot n = go (eqb (keepsOf (x .plan) k) 0) (eqb (place x k 0) 0)
     where
       go : (s t : Bool) → cond s true (cond t true (leb (8 * place x k 1 + slot + n) (8 * length (x .body)))) ≡ true
           → length (cond (not s) (cond t (replicate n 1) (bitsAt (8 * place x k 1 + slot) n (x .body))) (replicate n 1)) ≡ n
@@ -159,7 +159,7 @@ module _ (x : Join) (k : ℕ) where
         rw (e, take-add (w * m) (w * s) (drop (place x k 3 + w * slot) (x .body)), drop-drop (w * m) (place x k 3 + w * slot) (x .body), g)
 
     abbrev pub keysOf : ℕ → ℕ → List ℕ
-    keysOf slot n = rebased w (x .body) (place x k 3 + w * slot) (baseOf (x .state) (x .source) k) n
+    keysOf slot n = rebased w (x .body) (place x k 3 + w * slot) (baseOf (x .plan) (x .source) k) n
 
     pub keys-long : (slot n : ℕ) → length (keysOf slot n) ≡ w * n
     unfolding rebased
@@ -169,23 +169,23 @@ module _ (x : Join) (k : ℕ) where
     unfolding rebased
     keys-cut slot m s =
         pieces-add _ m s
-        ∙ ap (λ y. pieces (λ j. encode w ((off x k w slot j + baseOf (x .state) (x .source) k) % 256 ^ w)) m ++ y)
-        (pieces-same _ _ s (λ j l. ap (λ v. encode w ((v + baseOf (x .state) (x .source) k) % 256 ^ w)) (sym (off-later x k w slot m j))))
+        ∙ ap (λ y. pieces (λ j. encode w ((off x k w slot j + baseOf (x .plan) (x .source) k) % 256 ^ w)) m ++ y)
+        (pieces-same _ _ s (λ j l. ap (λ v. encode w ((v + baseOf (x .plan) (x .source) k) % 256 ^ w)) (sym (off-later x k w slot m j))))
 
   abbrev pub viewsOf : ℕ → ℕ → List ℕ
-  viewsOf slot n = reviewed (x .body) (place x k 3 + 16 * slot) (baseOf (x .state) (x .source) k) n
+  viewsOf slot n = reviewed (x .body) (place x k 3 + 16 * slot) (baseOf (x .plan) (x .source) k) n
 
   pub views-long : Below 256 (x .body) → (slot n : ℕ) → place x k 3 + 16 * (slot + n) ≤ length (x .body) → length (viewsOf slot n) ≡ 16 * n
   unfolding reviewed
   views-long u slot n h =
-      length-pieces 16 _ n (λ j l. length-review (x .body) (place x k 3 + 16 * slot + 16 * j) (omega arith) (below-at 256 (x .body) (omega arith) u) (baseOf (x .state) (x .source) k))
+      length-pieces 16 _ n (λ j l. length-review (x .body) (place x k 3 + 16 * slot + 16 * j) (omega arith) (below-at 256 (x .body) (omega arith) u) (baseOf (x .plan) (x .source) k))
 
   pub views-cut : (slot m s : ℕ) → viewsOf slot (m + s) ≡ viewsOf slot m ++ viewsOf (slot + m) s
   unfolding reviewed
   views-cut slot m s =
       pieces-add _ m s
-      ∙ ap (λ y. pieces (λ j. reviewedOne (drop (place x k 3 + 16 * slot + 16 * j) (x .body)) (baseOf (x .state) (x .source) k)) m ++ y)
-      (pieces-same _ _ s (λ j l. ap (λ v. reviewedOne (drop v (x .body)) (baseOf (x .state) (x .source) k)) (let e : place x k 3 + 16 * slot + 16 * (m + j) ≡ place x k 3 + 16 * (slot + m) + 16 * j = omega arith in e)))
+      ∙ ap (λ y. pieces (λ j. reviewedOne (drop (place x k 3 + 16 * slot + 16 * j) (x .body)) (baseOf (x .plan) (x .source) k)) m ++ y)
+      (pieces-same _ _ s (λ j l. ap (λ v. reviewedOne (drop v (x .body)) (baseOf (x .plan) (x .source) k)) (let e : place x k 3 + 16 * slot + 16 * (m + j) ≡ place x k 3 + 16 * (slot + m) + 16 * j = omega arith in e)))
 
   -- ---- byte strings
 
@@ -305,7 +305,7 @@ module _ (x : Join) (k : ℕ) where
       record {
         cuts = entries-cut x k st w (λ slot n c. put k 1 (rows c k * w) (keysOf w slot n));
         logs = entries-log st first w is (keysOf w) (λ u slot n h. keys-long w slot n)
-            (λ u slot n. below-of 256 (keysOf w slot n) (bytes-rebased w (x .body) (place x k 3 + w * slot) (baseOf (x .state) (x .source) k) n)) (keys-cut w);
+            (λ u slot n. below-of 256 (keysOf w slot n) (bytes-rebased w (x .body) (place x k 3 + w * slot) (baseOf (x .plan) (x .source) k) n)) (keys-cut w);
       }
 
   pub views-kind : (st : ℕ → ℕ → Bool) (first : ℕ → ℕ → ℕ) → ((r n : ℕ) → r * 16 ≡ first r n) → Kind st false first (λ slot n c. need (rowsIn x (place x k 3) 16 slot n) 12 c (wrote (put k 1 (rows c k * 16) (viewsOf slot n)) c))
@@ -313,7 +313,7 @@ module _ (x : Join) (k : ℕ) where
       record {
         cuts = entries-cut x k st 16 (λ slot n c. put k 1 (rows c k * 16) (viewsOf slot n));
         logs = entries-log st first 16 is viewsOf views-long
-            (λ u slot n. below-of 256 (viewsOf slot n) (bytes-reviewed (x .body) (place x k 3 + 16 * slot) (baseOf (x .state) (x .source) k) n (below-at 256 (x .body) (omega arith) u))) views-cut;
+            (λ u slot n. below-of 256 (viewsOf slot n) (bytes-reviewed (x .body) (place x k 3 + 16 * slot) (baseOf (x .plan) (x .source) k) n (below-at 256 (x .body) (omega arith) u))) views-cut;
       }
 
   pub strings-kind : (st : ℕ → ℕ → Bool) (w : ℕ) → ((slot n : ℕ) → st slot n ≡ neverFalls w (x .body) (place x k 3 + w * slot) n) → largest w ≤ top → (first : ℕ → ℕ → ℕ) → ((r n : ℕ) → suc r * w ≡ first r n) → Kind st true first (λ slot n c. copyString x k w slot n c)

@@ -17,28 +17,28 @@ use Rattle.batch.proofs.Tally.{Counts, tally, tally-else, tally-swap}
 use Rattle.batch.proofs.Stretches.{and-left, and-right, Cuts}
 use Rattle.batch.proofs.Leaves.{maskZeros}
 use Rattle.batch.proofs.LeafNode.{leaf-data}
-use Rattle.batch.proofs.LeafCuts.{after, Range, good, node-was, node-goes, after-counts, leaf-cuts}
+use Rattle.batch.proofs.LeafCuts.{after, Range, good, node-was, node-goes, after-counters, leaf-cuts}
 
 module _ (x : Join) (child : Walk) where
   abbrev kid : ℕ → ℕ → ℕ → List ℕ → Out
   kid k a n c = copyNode x child k a n c
 
   abbrev Leaf : ℕ → Type 0
-  Leaf k = isLeaf (codeOf (x .state) k) ≡ true
+  Leaf k = isLeaf (codeOf (x .plan) k) ≡ true
 
   -- walks at two nodes, either first
   pub leaf-swap : (k h : ℕ) → Leaf k → Leaf h → (h ≡ k → ⊥) → (a n b m : ℕ) (c d e : List ℕ) → Counts c → Leaves (kid k a n c) d → Leaves (kid h b m d) e
-      → Leaves (kid h b m c) (kid h b m c .counts) × Leaves (kid k a n (kid h b m c .counts)) e
+      → Leaves (kid h b m c) (kid h b m c .counters) × Leaves (kid k a n (kid h b m c .counters)) e
   leaf-swap k h p q ne a n b m c d e f l g =
       let r = node-was x k p child a n c f (l .ok) in
       let dk : d ≡ after x k p a n c = sym (l .left) ∙ node-goes x k p child a n c f r .left in
-      let fd : Counts d = rw dk (after-counts x k p a n c f r) in
+      let fd : Counts d = rw dk (after-counters x k p a n c f r) in
       let s = node-was x h q child b m d fd (g .ok) in
       let ee : e ≡ after x h q b m d = sym (g .left) ∙ node-goes x h q child b m d fd s .left in
       let bh : bytes d h ≡ bytes c h = ap (λ y. bytes y h) dk ∙ tally-else k n (maskZeros x k (offsetOf x k + a) n) (leaf-data x k p .amount (offsetOf x k + a) n) c (3 * h + 2) (λ (z : 3 * h + 2 ≡ 3 * k). omega arith, λ (z : 3 * h + 2 ≡ 3 * k + 1). omega arith, λ (z : 3 * h + 2 ≡ 3 * k + 2). ne (omega arith)) in
       let s0 : Range x h q b m (bytes c h) = rw bh at s in
       let lh = node-goes x h q child b m c f s0 in
-      let fh = after-counts x h q b m c f s0 in
+      let fh = after-counters x h q b m c f s0 in
       let bk : bytes (after x h q b m c) k ≡ bytes c k = tally-else h m (maskZeros x h (offsetOf x h + b) m) (leaf-data x h q .amount (offsetOf x h + b) m) c (3 * k + 2) (λ (z : 3 * k + 2 ≡ 3 * h). omega arith, λ (z : 3 * k + 2 ≡ 3 * h + 1). omega arith, λ (z : 3 * k + 2 ≡ 3 * h + 2). ne (omega arith)) in
       let rk : Range x k p a n (bytes (after x h q b m c) k) = rw bk r in
       let w = tally-swap k h (r .node) (s .node) ne c (f .long) n (maskZeros x k (offsetOf x k + a) n) (leaf-data x k p .amount (offsetOf x k + a) n) m (maskZeros x h (offsetOf x h + b) m) (leaf-data x h q .amount (offsetOf x h + b) m) in
@@ -58,12 +58,12 @@ module _ (x : Join) (child : Walk) where
     ofLeft left r c = cond (left r) (pure r c) (done c)
 
     module _ (k : ℕ) (leaf : Leaf k) (empty : (c : List ℕ) → Counts c → Leaves (kid k 0 0 c) c) where
-      step-counts : (a n : ℕ) (c d : List ℕ) → Counts c → Leaves (kid k a n c) d → Counts d
-      step-counts a n c d f l = leaf-cuts x k leaf child .step a n c d f l .0
+      step-counters : (a n : ℕ) (c d : List ℕ) → Counts c → Leaves (kid k a n c) d → Counts d
+      step-counters a n c d f l = leaf-cuts x k leaf child .step a n c d f l .0
 
       -- a walk at another node may go before a child's rows
       pub rows-swap : (h : ℕ) → Leaf h → (h ≡ k → ⊥) → (b m n r : ℕ) (c d e : List ℕ) → Counts c → Leaves (each (ofChild k) n r c) d → Leaves (kid h b m d) e
-          → Leaves (kid h b m c) (kid h b m c .counts) × Leaves (each (ofChild k) n r (kid h b m c .counts)) e
+          → Leaves (kid h b m c) (kid h b m c .counters) × Leaves (each (ofChild k) n r (kid h b m c .counters)) e
       unfolding each done
       rows-swap h q ne b m zero r c d e f l g =
           let y : Leaves (kid h b m c) e = rw (l .left) g in
@@ -71,8 +71,8 @@ module _ (x : Join) (child : Walk) where
       rows-swap h q ne b m (suc n) r c d e f l g =
           let one = next-start (ofChild k r c) (λ z. each (ofChild k) n (suc r) z) l in
           let more = next-rest (ofChild k r c) (λ z. each (ofChild k) n (suc r) z) l in
-          let f1 = step-counts _ _ c _ f one in
-          let t = rows-swap h q ne b m n (suc r) (ofChild k r c .counts) d e f1 more g in
+          let f1 = step-counters _ _ c _ f one in
+          let t = rows-swap h q ne b m n (suc r) (ofChild k r c .counters) d e f1 more g in
           let s = leaf-swap k h leaf q ne _ _ b m c _ _ f one (t .0) in
           (s .0, leaves-next (λ z. each (ofChild k) n (suc r) z) (s .1) (t .1))
 
@@ -103,7 +103,7 @@ module _ (x : Join) (child : Walk) where
             go ih true a true b one more one2 more2 =
                 let m2 : Leaves (each (ofLeft fewer) n (suc r) d) e = rw (one2 .left) more2 in
                 let h = eqb-true (home r) k b in
-                rw (a, h) (leaves-next (λ z. each (ofLeft left) n (suc r) z) one (ih _ d e (step-counts _ _ c _ f one) more m2))
+                rw (a, h) (leaves-next (λ z. each (ofLeft left) n (suc r) z) one (ih _ d e (step-counters _ _ c _ f one) more m2))
             go ih true a false b one more one2 more2 =
                 let m : Leaves (each (ofChild k) n (suc r) c) d = subst (λ z. Leaves (each (ofChild k) n (suc r) z) d) (sym (one .left) ∙ empty c f .left) more in
                 let ne = eqb-false (home r) k b in

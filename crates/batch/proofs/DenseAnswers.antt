@@ -25,7 +25,7 @@ use Rattle.batch.proofs.Dense.{pure, ofChild, ofLeft, peel}
 
 module _ (x : Join) (depth i slot N : ℕ) where
   abbrev S : List ℕ
-  S = x .state
+  S = x .plan
 
   abbrev kids : Walk
   kids = copyWalk x depth
@@ -81,10 +81,10 @@ module _ (x : Join) (depth i slot N : ℕ) where
     many zero r b e g m = subst Counts (m .left) g
     many (suc n) r b e g m =
         let o : Out = ofChild x kids H P k r b in
-        many n (suc r) (o .counts) e (cuts .step _ _ b (o .counts) g (next-start o (λ z. each (ofChild x kids H P k) n (suc r) z) m) .0) (next-rest o (λ z. each (ofChild x kids H P k) n (suc r) z) m)
+        many n (suc r) (o .counters) e (cuts .step _ _ b (o .counters) g (next-start o (λ z. each (ofChild x kids H P k) n (suc r) z) m) .0) (next-rest o (λ z. each (ofChild x kids H P k) n (suc r) z) m)
 
-    pub child-counts : Counts d
-    child-counts = many N 0 c d f child-rows
+    pub child-counters : Counts d
+    child-counters = many N 0 c d f child-rows
 
   -- all children from node k on
   abbrev pub Found : ℕ → ℕ → (ℕ → Bool) → Type 0
@@ -162,9 +162,9 @@ module _ (x : Join) (depth i slot N : ℕ) where
           let l1 = need-rest (ltb k (endOf S k) && owned S k) 12 c (next o on) (omega arith) l in
           let rises = ltb-true k (endOf S k) (and-left _ (owned S k) t) in
           let one = next-start o on l1 in
-          joined f k left c d fc rises gone here (o .counts) one
-          (ih (fewer f k left c d fc rises gone here (o .counts) one) (o .counts) (child-counts k c (o .counts) fc one) (next-rest o on l1)
-          (gone2 f k left c d fc rises gone here (o .counts) one) (here2 f k left c d fc rises gone here (o .counts) one))
+          joined f k left c d fc rises gone here (o .counters) one
+          (ih (fewer f k left c d fc rises gone here (o .counters) one) (o .counters) (child-counters k c (o .counters) fc one) (next-rest o on l1)
+          (gone2 f k left c d fc rises gone here (o .counters) one) (here2 f k left c d fc rises gone here (o .counters) one))
 
   -- ---- with the ids and positions of each row
 
@@ -183,12 +183,12 @@ module _ (x : Join) (depth i slot N : ℕ) where
       let t = tests r (omega arith) in
       let h = ltb-true (H r) 32 (and-left _ (ltb (landsAt x (batchLeaf x) i slot c0 r) (half 4)) t) in
       let g = ltb-true (landsAt x (batchLeaf x) i slot c0 r) (half 4) (and-right (ltb (H r) 32) _ t) in
-      let st = leaf-cuts x (H r) (leafs r (omega arith)) kids .step (P r) 1 c (o .counts) f one in
+      let st = leaf-cuts x (H r) (leafs r (omega arith)) kids .step (P r) 1 c (o .counters) f one in
       let q = kept (H r) in
       let below : rows c (H r) < half 4 = omega arith in
       leaves-next (λ z. each (denseRow x (copyWalk x (suc depth)) i slot) n (suc r) z)
       (leaves-found 32 (H r) 12 c _ h (leaves-need 6 c (lt-ltb _ _ below) (leaves-next _ (leaves-wrote _ c) (leaves-next _ (leaves-wrote _ c) one))))
-      (rows-dense c0 tests leafs n (suc r) (o .counts) d (omega arith) (st .0) (λ k. next-kept (o .counts) k (eqb (H r) k) refl (st .1) (st .2) (kept k)) (next-rest o on l))
+      (rows-dense c0 tests leafs n (suc r) (o .counters) d (omega arith) (st .0) (λ k. next-kept (o .counters) k (eqb (H r) k) refl (st .1) (st .2) (kept k)) (next-rest o on l))
     where
       next-kept : (c1 : List ℕ) (k : ℕ) (t : Bool) → eqb (H r) k ≡ t → rows c1 (H r) ≡ min (rows c (H r) + 1) top → ((j : ℕ) → (j ≡ H r → ⊥) → rows c1 j ≡ rows c j)
           → rows c k ≡ min (rows c0 k + sumOf (takes x (batchLeaf x) i slot k) r) top → rows c1 k ≡ min (rows c0 k + (sumOf (takes x (batchLeaf x) i slot k) r + cond t 1 0)) top
@@ -196,7 +196,7 @@ module _ (x : Join) (depth i slot N : ℕ) where
       next-kept c1 k false e a b q = let y = eqb-false (H r) k e in b k (λ z. y (sym z)) ∙ q ∙ rw (add-zero (sumOf (takes x (batchLeaf x) i slot k) r)) refl
 
   -- THEOREM 1 for dense unions
-  pub dense-same : (c : List ℕ) → Counts c → batchDense x (batchLeaf x) i slot N c .ans ≡ 0 → Leaves (copyDense x (copyWalk x (suc depth)) i slot N c) (batchDense x (batchLeaf x) i slot N c .counts)
+  pub dense-same : (c : List ℕ) → Counts c → batchDense x (batchLeaf x) i slot N c .ans ≡ 0 → Leaves (copyDense x (copyWalk x (suc depth)) i slot N c) (batchDense x (batchLeaf x) i slot N c .counters)
   unfolding batchDense copyDense sumOf
   dense-same c f h =
       let l = leaves-own {o = batchDense x (batchLeaf x) i slot N c} h in

@@ -24,13 +24,13 @@ use Rattle.batch.proofs.LeafLogs.{Roomy}
 use Rattle.batch.proofs.LeafCutLogs.{leaf-cut-logs}
 use Rattle.batch.proofs.StretchLogs.{next-log, stretches-write}
 use Rattle.batch.proofs.Dense.{pure, ofChild}
-use Rattle.batch.proofs.DenseAnswers.{child-leaf, child-rows, child-empty, child-counts, Found, fewer, gone2, here2}
+use Rattle.batch.proofs.DenseAnswers.{child-leaf, child-rows, child-empty, child-counters, Found, fewer, gone2, here2}
 use Rattle.batch.proofs.DenseLogs.{roomy-as, log-off}
-use Rattle.batch.proofs.DenseWithin.{Agree, kid-counts, kid-else, kid-before, rows-off, own-before, rows-own}
+use Rattle.batch.proofs.DenseWithin.{Agree, kid-counters, kid-else, kid-before, rows-off, own-before, rows-own}
 
 module _ (x : Join) (M : ℕ) (K : ℕ → ℕ → Type 0) (body : Below 256 (x .body)) (depth i slot N : ℕ) where
   abbrev S : List ℕ
-  S = x .state
+  S = x .plan
 
   abbrev kids : Walk
   kids = copyWalk x depth
@@ -70,7 +70,7 @@ module _ (x : Join) (M : ℕ) (K : ℕ → ℕ → Type 0) (body : Below 256 (x 
       let o : Out = ofChild x kids H P k r c in
       let on : List ℕ → Out = λ z. Own k n (suc r) z in
       let one = next-start o on l in
-      let a = own-else k p n (suc r) (o .counts) d (kid-counts x M K body kids k p _ _ c _ f one) (next-rest o on l) j ne in
+      let a = own-else k p n (suc r) (o .counters) d (kid-counters x M K body kids k p _ _ c _ f one) (next-rest o on l) j ne in
       let b = kid-else x M K body kids k p _ _ c _ f one j ne in
       (a .0 ∙ b .0, a .1 ∙ b .1)
 
@@ -83,11 +83,11 @@ module _ (x : Join) (M : ℕ) (K : ℕ → ℕ → Type 0) (body : Below 256 (x 
       let o : Out = ofChild x kids H P k r c in
       let on : List ℕ → Out = λ z. Own k n (suc r) z in
       let one = next-start o on l in
-      let f1 = kid-counts x M K body kids k p _ _ c _ f one in
+      let f1 = kid-counters x M K body kids k p _ _ c _ f one in
       let more = next-rest o on l in
-      let z = own-before x M K body kids H P 0 (λ q t. absurd (omega arith)) k p empty n (suc r) (o .counts) d f1 more h in
+      let z = own-before x M K body kids H P 0 (λ q t. absurd (omega arith)) k p empty n (suc r) (o .counters) d f1 more h in
       let e = log-off x M K body kids k p _ _ c _ f one z j b ne y w u in
-      rw (next-log on one, within-append j b (o .log) (on (o .counts) .log) w, e) (own-off k p j b ne y n (suc r) (o .counts) d w f1 more h empty u)
+      rw (next-log on one, within-append j b (o .log) (on (o .counters) .log) w, e) (own-off k p j b ne y n (suc r) (o .counters) d w f1 more h empty u)
 
   -- one child by stretches writes its rows
   child-writes : (k : ℕ) (c d : List ℕ) (f : Counts c) (l : Leaves (Stretched k c) d) → R k (child-leaf x depth i slot N k c d f l) d
@@ -200,7 +200,7 @@ module _ (x : Join) (M : ℕ) (K : ℕ → ℕ → Type 0) (body : Below 256 (x 
             let t = need-was (ltb k (endOf S k) && owned S k) 12 c (next (Stretched k c) on) (omega arith) (l .ok) in
             let l1 = need-rest (ltb k (endOf S k) && owned S k) 12 c (next (Stretched k c) on) (omega arith) l in
             let one = next-start (Stretched k c) on l1 in
-            let c2 = Stretched k c .counts in
-            let fc2 = child-counts x depth i slot N k c c2 fc one in
+            let c2 = Stretched k c .counters in
+            let fc2 = child-counters x depth i slot N k c c2 fc one in
             said-next f k c fc c2 one (ltb-true k (endOf S k) (and-left _ (owned S k) t)) (and-right (ltb k (endOf S k)) _ t) e
             (rw (e, need-is 12 c (next (Stretched k c) on) t) (next-log on one)) (ih c2 fc2 (next-rest (Stretched k c) on l1))

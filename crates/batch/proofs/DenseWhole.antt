@@ -29,13 +29,13 @@ use Rattle.batch.proofs.Alike.{Window, Alike, alike-refl, alike-sym, al
 use Rattle.batch.proofs.LeafLogs.{Roomy}
 use Rattle.batch.proofs.Dense.{pure}
 use Rattle.batch.proofs.DenseAnswers.{Result, fields-same}
-use Rattle.batch.proofs.DenseWithin.{kid-counts, rows-inside}
+use Rattle.batch.proofs.DenseWithin.{kid-counters, rows-inside}
 use Rattle.batch.proofs.DenseFields.{Said, said}
 use Rattle.batch.proofs.DenseWrites.{bytes-are, homes-own, homes-behind, copied, rows-write}
 
 module _ (x : Join) (depth i slot N : ℕ) (c : List ℕ) (f : Counts c) where
   abbrev S : List ℕ
-  S = x .state
+  S = x .plan
 
   abbrev H : ℕ → ℕ
   H r = home x (batchLeaf x) i slot r
@@ -103,16 +103,16 @@ module _ (x : Join) (depth i slot N : ℕ) (c : List ℕ) (f : Counts c) where
       pub own-rows : rows F i ≡ rows c i
       own-rows = says .keep i (omega arith) .0
 
-      leaves-counts : (n r : ℕ) (b d : List ℕ) → r + n ≤ N → Counts b → Leaves (each (pure x (copyWalk x depth) H P) n r b) d → Counts d
+      leaves-counters : (n r : ℕ) (b d : List ℕ) → r + n ≤ N → Counts b → Leaves (each (pure x (copyWalk x depth) H P) n r b) d → Counts d
       unfolding each done
-      leaves-counts zero r b d s g l = subst Counts (l .left) g
-      leaves-counts (suc n) r b d s g l =
+      leaves-counters zero r b d s g l = subst Counts (l .left) g
+      leaves-counters (suc n) r b d s g l =
           let o : Out = pure x (copyWalk x depth) H P r b in
           let on : List ℕ → Out = λ z. each (pure x (copyWalk x depth) H P) n (suc r) z in
-          leaves-counts n (suc r) (o .counts) d (omega arith) (kid-counts x M K body (copyWalk x depth) (H r) (leafs r (omega arith)) (P r) 1 b (o .counts) g (next-start o on l)) (next-rest o on l)
+          leaves-counters n (suc r) (o .counters) d (omega arith) (kid-counters x M K body (copyWalk x depth) (H r) (leafs r (omega arith)) (P r) 1 b (o .counters) g (next-start o on l)) (next-rest o on l)
 
-      pub end-counts : Counts F
-      end-counts = leaves-counts N 0 c F (omega arith) f (result .0)
+      pub end-counters : Counts F
+      end-counters = leaves-counters N 0 c F (omega arith) f (result .0)
 
       children : Alike S (x .parts) M K (Fields .log) (each (pure x (copyWalk x depth) H P) N 0 c .log)
       children =

@@ -34,7 +34,7 @@ use Rattle.batch.proofs.StretchLogs.{next-log}
 use Rattle.batch.proofs.ListLogs.{below-numbers, gather, puts-none}
 use Rattle.batch.proofs.Dense.{pure}
 use Rattle.batch.proofs.DenseLogs.{log-self, log-off}
-use Rattle.batch.proofs.DenseWithin.{kid-counts, kid-else, rows-before, rows-inside}
+use Rattle.batch.proofs.DenseWithin.{kid-counters, kid-else, rows-before, rows-inside}
 
 -- bytes one behind the other are those bytes
 pub bytes-are : (from n : ℕ) (s : List ℕ) → from + n ≤ length s → take n (drop from s) ≡ pieces (λ j. getD s (from + j) 0 ∷ []) n
@@ -51,7 +51,7 @@ below-bytes f h (suc n) = below-append 256 (pieces (λ j. f j ∷ []) n) (f n �
 
 module _ (x : Join) (depth i slot N : ℕ) where
   abbrev S : List ℕ
-  S = x .state
+  S = x .plan
 
   abbrev H : ℕ → ℕ
   H r = home x (batchLeaf x) i slot r
@@ -71,7 +71,7 @@ module _ (x : Join) (depth i slot N : ℕ) where
           let on : List ℕ → Out = λ c2. batchFields x (batchLeaf x) i slot N (endOf S i) f (endOf S k) c2 in
           let t = need-was (ltb k (endOf S k) && owned S k) 12 c (next o on) (omega arith) (l .ok) in
           let l1 = need-rest (ltb k (endOf S k) && owned S k) 12 c (next o on) (omega arith) l in
-          pick (ih (o .counts) (next-rest o on l1) id) (ltb-true k (endOf S k) (and-left _ (owned S k) t)) (eqb (idOf S k) id) h
+          pick (ih (o .counters) (next-rest o on l1) id) (ltb-true k (endOf S k) (and-left _ (owned S k) t)) (eqb (idOf S k) id) h
         where
           pick : (childWith S id (endOf S i) f (endOf S k) < 32 → endOf S k ≤ childWith S id (endOf S i) f (endOf S k)) → k < endOf S k → (u : Bool) → cond u k (childWith S id (endOf S i) f (endOf S k)) < 32
               → k ≤ cond u k (childWith S id (endOf S i) f (endOf S k))
@@ -93,7 +93,7 @@ module _ (x : Join) (depth i slot N : ℕ) where
           let on : List ℕ → Out = λ c2. batchFields x (batchLeaf x) i slot N (endOf S i) f (endOf S k) c2 in
           let t = need-was (ltb k (endOf S k) && owned S k) 12 c (next o on) (omega arith) (l .ok) in
           let l1 = need-rest (ltb k (endOf S k) && owned S k) 12 c (next o on) (omega arith) l in
-          pick (ih (o .counts) (next-rest o on l1) id) (and-right (ltb k (endOf S k)) _ t) (eqb (idOf S k) id) h
+          pick (ih (o .counters) (next-rest o on l1) id) (and-right (ltb k (endOf S k)) _ t) (eqb (idOf S k) id) h
         where
           pick : (childWith S id (endOf S i) f (endOf S k) < 32 → owned S (childWith S id (endOf S i) f (endOf S k)) ≡ true) → owned S k ≡ true → (u : Bool) → cond u k (childWith S id (endOf S i) f (endOf S k)) < 32
               → owned S (cond u k (childWith S id (endOf S i) f (endOf S k))) ≡ true
@@ -183,7 +183,7 @@ module _ (x : Join) (depth i slot N : ℕ) where
       o = pure x kids H P r c
 
       abbrev c1 : List ℕ
-      c1 = o .counts
+      c1 = o .counters
 
       abbrev On : List ℕ → Out
       On z = Rows n (suc r) z
@@ -200,7 +200,7 @@ module _ (x : Join) (depth i slot N : ℕ) where
       rest = next-rest o On l
 
       f1 : Counts c1
-      f1 = kid-counts x M K body kids (H r) (leafs r within-n) (P r) 1 c c1 f one
+      f1 = kid-counters x M K body kids (H r) (leafs r within-n) (P r) 1 c c1 f one
 
       e1 : rows c1 i ≡ R
       e1 = kid-else x M K body kids (H r) (leafs r within-n) (P r) 1 c c1 f one i (λ z. other r within-n (sym z)) .0 ∙ e
@@ -311,4 +311,4 @@ module _ (x : Join) (depth i slot N : ℕ) where
         alike-sym S (x .parts) M K (puts-none S (x .parts) M K i (R + r) ((R + r) * 4) (puts-inside (R + r) ((R + r) * 4) [] [] [] (let z : length {A = ℕ} [] ≡ 0 = refl in omega arith) (let z : length {A = ℕ} [] ≡ 0 = refl in omega arith) none none tt))
     rows-write (suc n) r c d s f e kept l same =
         step n r c d s f e kept l same
-        (rows-write n (suc r) (pure x kids H P r c .counts) d (omega arith) (f1 n r c d s f e kept l same) (e1 n r c d s f e kept l same) (kept1 n r c d s f e kept l same) (rest n r c d s f e kept l same) same)
+        (rows-write n (suc r) (pure x kids H P r c .counters) d (omega arith) (f1 n r c d s f e kept l same) (e1 n r c d s f e kept l same) (kept1 n r c d s f e kept l same) (rest n r c d s f e kept l same) same)

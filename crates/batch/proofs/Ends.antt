@@ -11,9 +11,9 @@ use Rattle.walk.specs.Log.{Entry, Out, fail, done, wrote, need, found, next, ea
 -- o answers 0 and leaves the counters c
 pub record Leaves (o : Out) (c : List ℕ) : Type 0 where
   pub ok : o .ans ≡ 0
-  pub left : o .counts ≡ c
+  pub left : o .counters ≡ c
 
-pub leaves-own : {o : Out} → o .ans ≡ 0 → Leaves o (o .counts)
+pub leaves-own : {o : Out} → o .ans ≡ 0 → Leaves o (o .counters)
 leaves-own h = record { ok = h; left = refl }
 
 pub leaves-done : (c : List ℕ) → Leaves (done c) c
@@ -36,7 +36,7 @@ pub leaves-next : {o : Out} (k : List ℕ → Out) {c d : List ℕ} → Leaves o
 unfolding next
 leaves-next {o} k p q =
     rw (eq-eqb (o .ans) 0 (p .ok))
-    (record { ok = ap (λ l. k l .ans) (p .left) ∙ q .ok; left = ap (λ l. k l .counts) (p .left) ∙ q .left })
+    (record { ok = ap (λ l. k l .ans) (p .left) ∙ q .ok; left = ap (λ l. k l .counters) (p .left) ∙ q .left })
 
 -- ---- the other way
 
@@ -65,23 +65,23 @@ pub next-first : (o : Out) (k : List ℕ → Out) → next o k .ans ≡ 0 → o 
 unfolding next
 next-first o k = go (eqb (o .ans) 0) refl
   where
-    go : (t : Bool) → eqb (o .ans) 0 ≡ t → cond t (record { ans = k (o .counts) .ans; counts = k (o .counts) .counts; log = o .log ++ k (o .counts) .log }) o .ans ≡ 0 → o .ans ≡ 0
+    go : (t : Bool) → eqb (o .ans) 0 ≡ t → cond t (record { ans = k (o .counters) .ans; counters = k (o .counters) .counters; log = o .log ++ k (o .counters) .log }) o .ans ≡ 0 → o .ans ≡ 0
     go true e h = eqb-true (o .ans) 0 e
     go false e h = h
 
 -- both, one after the other
 pub next-is : {o : Out} (k : List ℕ → Out) {c : List ℕ} → Leaves o c
-    → next o k ≡ record { ans = k c .ans; counts = k c .counts; log = o .log ++ k c .log }
+    → next o k ≡ record { ans = k c .ans; counters = k c .counters; log = o .log ++ k c .log }
 unfolding next
 next-is {o} k p = rw (eq-eqb (o .ans) 0 (p .ok), ← p .left)
 
-pub next-last : {o : Out} (k : List ℕ → Out) {c : List ℕ} → Leaves o c → next o k .ans ≡ 0 → Leaves (k c) (next o k .counts)
-next-last {o} k {c} p h = record { ok = sym (ap (λ q. q .ans) (next-is k p)) ∙ h; left = sym (ap (λ q. q .counts) (next-is k p)) }
+pub next-last : {o : Out} (k : List ℕ → Out) {c : List ℕ} → Leaves o c → next o k .ans ≡ 0 → Leaves (k c) (next o k .counters)
+next-last {o} k {c} p h = record { ok = sym (ap (λ q. q .ans) (next-is k p)) ∙ h; left = sym (ap (λ q. q .counters) (next-is k p)) }
 
-pub next-start : (o : Out) (k : List ℕ → Out) {d : List ℕ} → Leaves (next o k) d → Leaves o (o .counts)
+pub next-start : (o : Out) (k : List ℕ → Out) {d : List ℕ} → Leaves (next o k) d → Leaves o (o .counters)
 next-start o k h = leaves-own (next-first o k (h .ok))
 
-pub next-rest : (o : Out) (k : List ℕ → Out) {d : List ℕ} → Leaves (next o k) d → Leaves (k (o .counts)) d
+pub next-rest : (o : Out) (k : List ℕ → Out) {d : List ℕ} → Leaves (next o k) d → Leaves (k (o .counters)) d
 next-rest o k h =
     let l = next-last k (next-start o k h) (h .ok) in
     record { ok = l .ok; left = l .left ∙ h .left }

@@ -36,6 +36,6 @@ unfolding number encode splice digits bits value pack packed zeros pad bitsAt pu
 union-accepted = refl
 
 -- its parts rise
-pub union-rises : partsRise (union .state) (union .parts) ≡ true
+pub union-rises : partsRise (union .plan) (union .parts) ≡ true
 unfolding number encode splice digits bits value pack packed zeros pad bitsAt putBits pieces grown slotOf rowsIn inRoom enter apply fail done wrote need found next each copyBits copyMask copyNumbers listViewRow copyListView copyData copySlots copyNode copyWalk sumOf neverFalls stretch steady batchLeaf batchListView batchData batchSlots batchNode batchWalk copied copyString putString extended movedOffsets denseTo denseRow copyDense childWith batchFields batchDense riseFrom hasPart validityParts bufferParts
 union-rises = refl

@@ -20,7 +20,7 @@ use Rattle.batch.proofs.Alike.{Window, Alike, alike-sym, alike-trans}
 use Rattle.batch.proofs.LeafLogs.{Roomy, canonOf, canonOf-off, roomy-before, node-log, node-alike, node-logs-cut, node-logs-none}
 use Rattle.batch.proofs.StretchLogs.{CutLogs}
 
-module _ (x : Join) (M : ℕ) (K : ℕ → ℕ → Type 0) (body : Below 256 (x .body)) (k : ℕ) (leaf : isLeaf (codeOf (x .state) k) ≡ true) (child : Walk) where
+module _ (x : Join) (M : ℕ) (K : ℕ → ℕ → Type 0) (body : Below 256 (x .body)) (k : ℕ) (leaf : isLeaf (codeOf (x .plan) k) ≡ true) (child : Walk) where
   abbrev kid : ℕ → ℕ → List ℕ → Out
   kid a n c = copyNode x child k a n c
 
@@ -28,7 +28,7 @@ module _ (x : Join) (M : ℕ) (K : ℕ → ℕ → Type 0) (body : Below 256 (x 
   R c = Roomy x M K body k leaf c
 
   abbrev Al : Log → Log → Type 0
-  Al l m = Alike (x .state) (x .parts) M K l m
+  Al l m = Alike (x .plan) (x .parts) M K l m
 
   left-is : (a n : ℕ) (c d : List ℕ) → Counts c → Leaves (kid a n c) d → d ≡ after x k leaf a n c
   left-is a n c d f l = sym (l .left) ∙ node-goes x k leaf child a n c f (node-was x k leaf child a n c f (l .ok)) .left
@@ -46,17 +46,17 @@ module _ (x : Join) (M : ℕ) (K : ℕ → ℕ → Type 0) (body : Below 256 (x 
   like : (a n : ℕ) (c d : List ℕ) → Counts c → Leaves (kid a n c) d → R d → Al (kid a n c .log) (canonOf x M K body k leaf a n c)
   like a n c d f l h = node-alike x M K body k leaf child a n c f (node-was x k leaf child a n c f (l .ok)) (rw (left-is a n c d f l) at h)
 
-  leaf-off : (a n : ℕ) (c d : List ℕ) → Counts c → Leaves (kid a n c) d → R d → (i b : ℕ) → (i ≡ k → ⊥) → K i b → (w : List ℕ) → Window (x .state) (x .parts) M K i b w
+  leaf-off : (a n : ℕ) (c d : List ℕ) → Counts c → Leaves (kid a n c) d → R d → (i b : ℕ) → (i ≡ k → ⊥) → K i b → (w : List ℕ) → Window (x .plan) (x .parts) M K i b w
       → within i b (kid a n c .log) w ≡ w
   leaf-off a n c d f l h i b z y w u =
       like a n c d f l h .same i b y w u
       ∙ canonOf-off x M K body k leaf a n c i b w z
 
-  pub leaf-cut-logs : CutLogs (x .state) (x .parts) M K k R (good x k leaf) (λ a n c. batchLeaf x k a n c) kid
+  pub leaf-cut-logs : CutLogs (x .plan) (x .parts) M K k R (good x k leaf) (λ a n c. batchLeaf x k a n c) kid
   leaf-cut-logs =
       record {
         same-log = leaf-same-log;
-        self = λ a n c d f l h. let z = like a n c d f l h in alike-trans (x .state) (x .parts) M K z (alike-sym (x .state) (x .parts) M K z);
+        self = λ a n c d f l h. let z = like a n c d f l h in alike-trans (x .plan) (x .parts) M K z (alike-sym (x .plan) (x .parts) M K z);
         before = λ a n c d f l h. roomy-before x M K body k leaf a n c f (node-was x k leaf child a n c f (l .ok)) (rw (left-is a n c d f l) at h);
         cut-log = λ a m s c d e f g l p h. rw (left-is a m c e f p) (node-logs-cut x M K body k leaf child a m s c f g (rw (left-is a (m + s) c d f l) at h));
         none-log = λ a m o c d f q g h y. node-logs-none x M K body k leaf child o d q (range-none x k leaf a m o (bytes c k) (bytes d k) h (g .1)) y;

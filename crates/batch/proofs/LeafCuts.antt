@@ -15,12 +15,12 @@ use Rattle.walk.specs.Copy.{Walk, copySlots, copyNode, copyWalk}
 use Rattle.batch.specs.Stretch.{neverFalls}
 use Rattle.batch.specs.Batch.{isLeaf, steady, batchLeaf}
 use Rattle.batch.proofs.Ends.{Leaves, leaves-own, leaves-need, leaves-found, leaves-next, need-was, need-is, found-was, found-is}
-use Rattle.batch.proofs.Tally.{Counts, tally, tally-rows, tally-bytes, tally-else, tally-none, tally-twice, tally-counts}
+use Rattle.batch.proofs.Tally.{Counts, tally, tally-rows, tally-bytes, tally-else, tally-none, tally-twice, tally-counters}
 use Rattle.batch.proofs.Stretches.{Cuts}
 use Rattle.batch.proofs.Leaves.{maskZeros, zeros-cut, zeros-no, DataCuts}
 use Rattle.batch.proofs.LeafNode.{st, st-first, leaf-data, Passes, slots-was, slots-goes, passes-first, passes-second, passes-none}
 
-module _ (x : Join) (k : ℕ) (leaf : isLeaf (codeOf (x .state) k) ≡ true) where
+module _ (x : Join) (k : ℕ) (leaf : isLeaf (codeOf (x .plan) k) ≡ true) where
   -- the slot of row a
   abbrev at : ℕ → ℕ
   at a = offsetOf x k + a
@@ -85,9 +85,9 @@ module _ (x : Join) (k : ℕ) (leaf : isLeaf (codeOf (x .state) k) ≡ true) whe
       leaf-data x k leaf .both (at a) m s (bytes c k) t (r .slots .entries) ∙ ap (λ v. leaf-data x k leaf .amount (at a) m + leaf-data x k leaf .amount v s) e in
       rw (z, d) (tally-twice k (r .node) c f m (maskZeros x k (at a) m) (leaf-data x k leaf .amount (at a) m) s (maskZeros x k (at (a + m)) s) (leaf-data x k leaf .amount (at (a + m)) s))
 
-  pub after-counts : (a n : ℕ) (c : List ℕ) → Counts c → Range a n (bytes c k) → Counts (after a n c)
-  after-counts a n c f r =
-      tally-counts k n (maskZeros x k (at a) n) (leaf-data x k leaf .amount (at a) n) c (f .long) (r .node) f
+  pub after-counters : (a n : ℕ) (c : List ℕ) → Counts c → Range a n (bytes c k) → Counts (after a n c)
+  after-counters a n c f r =
+      tally-counters k n (maskZeros x k (at a) n) (leaf-data x k leaf .amount (at a) n) c (f .long) (r .node) f
       (leaf-data x k leaf .fits (at a) n (bytes c k) (r .slots .entries) (f .small (3 * k + 2)))
 
   pub after-bytes : (a n : ℕ) (c : List ℕ) → Counts c → k < 32 → bytes (after a n c) k ≡ bytes c k + leaf-data x k leaf .amount (at a) n
@@ -101,7 +101,7 @@ module _ (x : Join) (k : ℕ) (leaf : isLeaf (codeOf (x .state) k) ≡ true) whe
     abbrev kid : ℕ → ℕ → List ℕ → Out
     kid a n c = copyNode x child k a n c
 
-    leaf-same : (a n : ℕ) (c : List ℕ) → Counts c → batchLeaf x k a n c .ans ≡ 0 → good a n c × Leaves (kid a n c) (batchLeaf x k a n c .counts)
+    leaf-same : (a n : ℕ) (c : List ℕ) → Counts c → batchLeaf x k a n c .ans ≡ 0 → good a n c × Leaves (kid a n c) (batchLeaf x k a n c .counters)
     unfolding batchLeaf steady copyWalk
     leaf-same a n c f h =
         let g = rw (need-is 12 c (need (steady x k a n) 12 c (copyWalk x 1 k a n c)) leaf) at h in
@@ -115,7 +115,7 @@ module _ (x : Join) (k : ℕ) (leaf : isLeaf (codeOf (x .state) k) ≡ true) whe
     leaf-cut : (a m s : ℕ) (c d : List ℕ) → Counts c → good a (m + s) c → Leaves (kid a (m + s) c) d → good a m c × Leaves (next (kid a m c) (λ e. kid (a + m) s e)) d
     leaf-cut a m s c d f g l =
         let r = range-first a m s (bytes c k) (g .0) (g .1) in
-        let q = after-counts a m c f r in
+        let q = after-counters a m c f r in
         let p : Range (a + m) s (bytes (after a m c) k) = rw (after-bytes a m c f (r .node)) (range-second a m s (bytes c k) (g .0) (g .1)) in
         let e : d ≡ after a (m + s) c = sym (l .left) ∙ node-goes child a (m + s) c f (g .1) .left in
         ((st-first x k leaf (at a) m s (g .0), r), rw (e, ← after-after a m s c f (g .0) (g .1)) (leaves-next _ (node-goes child a m c f r) (node-goes child (a + m) s (after a m c) q p)))
@@ -123,11 +123,11 @@ module _ (x : Join) (k : ℕ) (leaf : isLeaf (codeOf (x .state) k) ≡ true) whe
     leaf-none : (a m o : ℕ) (c d : List ℕ) → Counts c → Counts d → good a m c → o ≤ a + m → good o 0 c × Leaves (kid o 0 d) d
     unfolding neverFalls
     leaf-none a m o c d f q g h = (
-      (none (isString (codeOf (x .state) k)), range-none a m o (bytes c k) (bytes c k) h (g .1)),
+      (none (isString (codeOf (x .plan) k)), range-none a m o (bytes c k) (bytes c k) h (g .1)),
       subst (λ v. Leaves (kid o 0 d) v) (after-none o d (g .1 .node) q) (node-goes child o 0 d q (range-none a m o (bytes c k) (bytes d k) h (g .1))),
     )
       where
-        none : (t : Bool) → cond t (neverFalls (bytesOf (x .state) k) (x .body) (place x k 3 + bytesOf (x .state) k * at o) 0) true ≡ true
+        none : (t : Bool) → cond t (neverFalls (bytesOf (x .plan) k) (x .body) (place x k 3 + bytesOf (x .plan) k * at o) 0) true ≡ true
         none true = refl
         none false = refl
 
@@ -136,7 +136,7 @@ module _ (x : Join) (k : ℕ) (leaf : isLeaf (codeOf (x .state) k) ≡ true) whe
         let r = node-was child a n c f (l .ok) in
         let e : d ≡ after a n c = sym (l .left) ∙ node-goes child a n c f r .left in
         rw e (
-          after-counts a n c f r,
+          after-counters a n c f r,
           tally-rows k n (maskZeros x k (at a) n) (leaf-data x k leaf .amount (at a) n) c (f .long) (r .node),
           λ j h. tally-else k n (maskZeros x k (at a) n) (leaf-data x k leaf .amount (at a) n) c (3 * j)
               (λ (y : 3 * j ≡ 3 * k). h (omega arith), λ (y : 3 * j ≡ 3 * k + 1). omega arith, λ (y : 3 * j ≡ 3 * k + 2). omega arith),

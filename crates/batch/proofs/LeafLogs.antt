@@ -21,7 +21,7 @@ use Rattle.batch.proofs.Tally.{Counts, tally, tally-rows, tally-bytes}
 use Rattle.batch.proofs.Leaves.{maskZeros, mask-goes}
 use Rattle.batch.proofs.Contents.{keeps, bitsOf, mask-log, bits-long, bits-below, bits-cut, Logged, all, bare, DataLogs, Kind}
 use Rattle.batch.proofs.LeafNode.{st, firsts, leaf-kind, leaf-data, idle, data-is, masks, bytes-kept, Passes}
-use Rattle.batch.proofs.LeafCuts.{after, Range, good, range-first, range-second, range-none, after-after, after-none, after-bytes, after-counts}
+use Rattle.batch.proofs.LeafCuts.{after, Range, good, range-first, range-second, range-none, after-after, after-none, after-bytes, after-counters}
 use Rattle.batch.proofs.Windows.{span, within, AllInside}
 use Rattle.batch.proofs.Alike.{lays, Alike, alike-refl, alike-is, alike-sym, alike-trans, alike-append, canon, Held, held-inside, lays-inside, canon-none, canon-cut, canon-off, mask-none}
 
@@ -29,24 +29,24 @@ no-length : (l : List ℕ) → length l ≡ 0 → l ≡ []
 no-length [] h = refl
 no-length (y ∷ l) h = let z : suc (length l) ≡ 0 = h in absurd (omega arith)
 
-module _ (x : Join) (M : ℕ) (K : ℕ → ℕ → Type 0) (body : Below 256 (x .body)) (k : ℕ) (leaf : isLeaf (codeOf (x .state) k) ≡ true) where
+module _ (x : Join) (M : ℕ) (K : ℕ → ℕ → Type 0) (body : Below 256 (x .body)) (k : ℕ) (leaf : isLeaf (codeOf (x .plan) k) ≡ true) where
   abbrev T : Bool
   T = keeps x k
 
   abbrev U : Bool
-  U = isString (codeOf (x .state) k)
+  U = isString (codeOf (x .plan) k)
 
-  abbrev pub L : DataLogs x k (st x k leaf) U (firsts x k leaf) (λ slot n c. copyData x (idle x k leaf) (codeOf (x .state) k) k slot n c) (leaf-data x k leaf)
+  abbrev pub L : DataLogs x k (st x k leaf) U (firsts x k leaf) (λ slot n c. copyData x (idle x k leaf) (codeOf (x .plan) k) k slot n c) (leaf-data x k leaf)
   L = leaf-kind x k leaf .logs
 
   abbrev at : ℕ → ℕ
   at a = offsetOf x k + a
 
   abbrev Sp : ℕ → ℕ
-  Sp b = span (x .state) (x .parts) M K k b
+  Sp b = span (x .plan) (x .parts) M K k b
 
   abbrev Al : Log → Log → Type 0
-  Al l m = Alike (x .state) (x .parts) M K l m
+  Al l m = Alike (x .plan) (x .parts) M K l m
 
   -- the parts hold what the counters say
   pub record Roomy (c : List ℕ) : Type 0 where
@@ -56,7 +56,7 @@ module _ (x : Join) (M : ℕ) (K : ℕ → ℕ → Type 0) (body : Below 256 (x 
     pub chars : U ≡ true → K k 2 × (bytes c k ≤ Sp 2)
 
   abbrev pub canonOf : ℕ → ℕ → List ℕ → Log
-  canonOf a n c = canon (x .state) (x .parts) M K T U k (rows c k) (bitsOf x k (at a) n) (L .base (rows c k)) (L .ones (at a) n (bytes c k)) (bytes c k) (L .chars (at a) n)
+  canonOf a n c = canon (x .plan) (x .parts) M K T U k (rows c k) (bitsOf x k (at a) n) (L .base (rows c k)) (L .ones (at a) n (bytes c k)) (bytes c k) (L .chars (at a) n)
 
   rows-after : (a n : ℕ) (c : List ℕ) → Counts c → k < 32 → rows (after x k leaf a n c) k < top → rows (after x k leaf a n c) k ≡ rows c k + n
   unfolding grown
@@ -78,7 +78,7 @@ module _ (x : Join) (M : ℕ) (K : ℕ → ℕ → Type 0) (body : Below 256 (x 
       }
 
   held : (a n : ℕ) (c : List ℕ) → Counts c → Range x k leaf a n (bytes c k) → Roomy (after x k leaf a n c)
-      → Held (x .state) (x .parts) M K T U k (rows c k) (bitsOf x k (at a) n) (L .base (rows c k)) (L .ones (at a) n (bytes c k)) (bytes c k) (L .chars (at a) n)
+      → Held (x .plan) (x .parts) M K T U k (rows c k) (bitsOf x k (at a) n) (L .base (rows c k)) (L .ones (at a) n (bytes c k)) (bytes c k) (L .chars (at a) n)
   held a n c f r h =
       let e = rows-after a n c f (r .node) (h .under) in
       let g = after-bytes x k leaf a n c f (r .node) in
@@ -96,19 +96,19 @@ module _ (x : Join) (M : ℕ) (K : ℕ → ℕ → Type 0) (body : Below 256 (x 
   -- ---- the log of the node
 
   slots-log : (child : Walk) (slot n : ℕ) (c : List ℕ) → Counts c → Passes x k leaf slot n (bytes c k)
-      → copySlots x child k slot n c .log ≡ copyMask x k slot n c .log ++ (copyData x (idle x k leaf) (codeOf (x .state) k) k slot n (addNulls k (maskZeros x k slot n) c) .log ++ [])
+      → copySlots x child k slot n c .log ≡ copyMask x k slot n c .log ++ (copyData x (idle x k leaf) (codeOf (x .plan) k) k slot n (addNulls k (maskZeros x k slot n) c) .log ++ [])
   unfolding copySlots done
   slots-log child slot n c f p =
       let z = maskZeros x k slot n in
       let e = bytes-kept x k leaf z c in
       let q = leaf-data x k leaf .goes slot n (addNulls k z c) (rw e (p .entries)) in
       rw (masks x k leaf)
-      (ap (λ o. o .log) (next-is (λ c2. next (copyData x child (codeOf (x .state) k) k slot n c2) (λ c3. done (addRows k n c3))) (mask-goes x k slot n c f (p .bits)))
+      (ap (λ o. o .log) (next-is (λ c2. next (copyData x child (codeOf (x .plan) k) k slot n c2) (λ c3. done (addRows k n c3))) (mask-goes x k slot n c f (p .bits)))
       ∙ ap (copyMask x k slot n c .log ++_)
       (ap (λ y. next y (λ c3. done (addRows k n c3)) .log) (data-is x k leaf child slot n (addNulls k z c)) ∙ ap (λ o. o .log) (next-is (λ c3. done (addRows k n c3)) q)))
 
   pub node-log : (child : Walk) (a n : ℕ) (c : List ℕ) → Counts c → Range x k leaf a n (bytes c k)
-      → copyNode x child k a n c .log ≡ copyMask x k (at a) n c .log ++ (copyData x (idle x k leaf) (codeOf (x .state) k) k (at a) n (addNulls k (maskZeros x k (at a) n) c) .log ++ [])
+      → copyNode x child k a n c .log ≡ copyMask x k (at a) n c .log ++ (copyData x (idle x k leaf) (codeOf (x .plan) k) k (at a) n (addNulls k (maskZeros x k (at a) n) c) .log ++ [])
   unfolding copyNode slotOf
   node-log child a n c f r =
       let l = r .near in
@@ -129,20 +129,20 @@ module _ (x : Join) (M : ℕ) (K : ℕ → ℕ → Type 0) (body : Below 256 (x 
       let g = L .log-is (at a) n (addNulls k z c) (rw e (r .slots .entries)) in
       rw (node-log child a n c f r, mask-log x k (at a) n c (r .slots .bits)) (go _ (rw (e, rows-kept z c) at g))
     where
-      H : Held (x .state) (x .parts) M K T U k (rows c k) (bitsOf x k (at a) n) (L .base (rows c k)) (L .ones (at a) n (bytes c k)) (bytes c k) (L .chars (at a) n)
+      H : Held (x .plan) (x .parts) M K T U k (rows c k) (bitsOf x k (at a) n) (L .base (rows c k)) (L .ones (at a) n (bytes c k)) (bytes c k) (L .chars (at a) n)
       H = held a n c f r h
 
       go : (l : Log) → Logged x k n l (put k 1 (L .base (rows c k)) (L .ones (at a) n (bytes c k)) ∷ lays U (put k 2 (bytes c k) (L .chars (at a) n)))
           → Al (lays T (mask k (rows c k) (bitsOf x k (at a) n)) ++ (l ++ [])) (canonOf a n c)
-      go l (all e) = rw (e, append-nil) (alike-refl (x .state) (x .parts) M K (canonOf a n c) (held-inside (x .state) (x .parts) M K T U k _ _ _ _ _ _ H))
+      go l (all e) = rw (e, append-nil) (alike-refl (x .plan) (x .parts) M K (canonOf a n c) (held-inside (x .plan) (x .parts) M K T U k _ _ _ _ _ _ H))
       go l (bare e g) =
           let b : bitsOf x k (at a) n ≡ [] = no-length _ (bits-long x k (at a) n (r .slots .bits) ∙ e) in
           let o : L .ones (at a) n (bytes c k) ≡ [] = no-length _ (let q = L .ones-long body (at a) n (bytes c k) (r .slots .entries) in q ∙ rw e (omega arith)) in
           let d : L .chars (at a) n ≡ [] = no-length _ (L .chars-long (at a) n (bytes c k) (r .slots .entries) ∙ rw e (leaf-data x k leaf .nothing (at a))) in
-          let H0 : Held (x .state) (x .parts) M K T U k (rows c k) [] (L .base (rows c k)) [] (bytes c k) [] = rw (b, o, d) at H in
+          let H0 : Held (x .plan) (x .parts) M K T U k (rows c k) [] (L .base (rows c k)) [] (bytes c k) [] = rw (b, o, d) at H in
           rw (g, b, o, d, append-nil)
-          (alike-trans (x .state) (x .parts) M K (mask-none (x .state) (x .parts) M K T k (rows c k) (lays-inside (x .state) (x .parts) M K T (mask k (rows c k) []) (H0 .bits)))
-          (alike-sym (x .state) (x .parts) M K (canon-none (x .state) (x .parts) M K T U k (rows c k) (L .base (rows c k)) (bytes c k) H0)))
+          (alike-trans (x .plan) (x .parts) M K (mask-none (x .plan) (x .parts) M K T k (rows c k) (lays-inside (x .plan) (x .parts) M K T (mask k (rows c k) []) (H0 .bits)))
+          (alike-sym (x .plan) (x .parts) M K (canon-none (x .plan) (x .parts) M K T U k (rows c k) (L .base (rows c k)) (bytes c k) H0)))
 
   -- ---- cut
 
@@ -157,7 +157,7 @@ module _ (x : Join) (M : ℕ) (K : ℕ → ℕ → Type 0) (body : Below 256 (x 
     r2 = rw (after-bytes x k leaf a m c f (r1 .node)) (range-second x k leaf a m s (bytes c k) (g .0) (g .1))
 
     fd : Counts d
-    fd = after-counts x k leaf a m c f r1
+    fd = after-counters x k leaf a m c f r1
 
     h2 : Roomy (after x k leaf (a + m) s d)
     h2 = rw (after-after x k leaf a m s c f (g .0) (g .1)) h
@@ -211,7 +211,7 @@ module _ (x : Join) (M : ℕ) (K : ℕ → ℕ → Type 0) (body : Below 256 (x 
     p2 = after-bytes x k leaf a m c f (r1 .node) ∙ ap (λ z. bytes c k + z) (sym (L .chars-long (at a) m (bytes c k) (r1 .slots .entries)))
 
     abbrev Hold : ℕ → List ℕ → ℕ → List ℕ → ℕ → List ℕ → Type 0
-    Hold q0 u0 q1 u1 q2 u2 = Held (x .state) (x .parts) M K T U k q0 u0 q1 u1 q2 u2
+    Hold q0 u0 q1 u1 q2 u2 = Held (x .plan) (x .parts) M K T U k q0 u0 q1 u1 q2 u2
 
     whole : Hold (rows c k) (v0 ++ w0) (L .base (rows c k)) (v1 ++ w1) (bytes c k) (v2 ++ w2)
     whole =
@@ -225,7 +225,7 @@ module _ (x : Join) (M : ℕ) (K : ℕ → ℕ → Type 0) (body : Below 256 (x 
         (subst (λ z. Hold (rows d k) w0 z w1 (bytes c k + length v2) w2) p1 (subst (λ z. Hold (rows d k) w0 (L .base (rows d k)) w1 z w2) p2 (held (a + m) s d fd r2 h2)))
 
     abbrev Can : ℕ → List ℕ → ℕ → List ℕ → ℕ → List ℕ → Log
-    Can q0 u0 q1 u1 q2 u2 = canon (x .state) (x .parts) M K T U k q0 u0 q1 u1 q2 u2
+    Can q0 u0 q1 u1 q2 u2 = canon (x .plan) (x .parts) M K T U k q0 u0 q1 u1 q2 u2
 
     front : canonOf a (m + s) c ≡ Can (rows c k) (v0 ++ w0) (L .base (rows c k)) (v1 ++ w1) (bytes c k) (v2 ++ w2)
     front =
@@ -242,11 +242,11 @@ module _ (x : Join) (M : ℕ) (K : ℕ → ℕ → Type 0) (body : Below 256 (x 
     -- A LEAF'S LOG MAY BE CUT
     pub node-logs-cut : Al (copyNode x child k a (m + s) c .log) (copyNode x child k a m c .log ++ copyNode x child k (a + m) s d .log)
     node-logs-cut =
-        alike-trans (x .state) (x .parts) M K (node-alike child a (m + s) c f (g .1) h)
-        (alike-trans (x .state) (x .parts) M K (subst (λ z. Al z (canonOf a m c ++ canonOf (a + m) s d)) (sym front)
+        alike-trans (x .plan) (x .parts) M K (node-alike child a (m + s) c f (g .1) h)
+        (alike-trans (x .plan) (x .parts) M K (subst (λ z. Al z (canonOf a m c ++ canonOf (a + m) s d)) (sym front)
         (subst (λ z. Al (Can (rows c k) (v0 ++ w0) (L .base (rows c k)) (v1 ++ w1) (bytes c k) (v2 ++ w2)) (canonOf a m c ++ z)) (sym behind)
-        (canon-cut (x .state) (x .parts) M K T U k (rows c k) v0 w0 (L .base (rows c k)) v1 w1 (bytes c k) v2 w2 whole (held a m c f r1 h1) second)))
-        (alike-sym (x .state) (x .parts) M K (alike-append (x .state) (x .parts) M K (node-alike child a m c f r1 h1) (node-alike child (a + m) s d fd r2 h2))))
+        (canon-cut (x .plan) (x .parts) M K T U k (rows c k) v0 w0 (L .base (rows c k)) v1 w1 (bytes c k) v2 w2 whole (held a m c f r1 h1) second)))
+        (alike-sym (x .plan) (x .parts) M K (alike-append (x .plan) (x .parts) M K (node-alike child a m c f r1 h1) (node-alike child (a + m) s d fd r2 h2))))
 
   -- no rows write nothing
   pub node-logs-none : (child : Walk) (o : ℕ) (c : List ℕ) → Counts c → Range x k leaf o 0 (bytes c k) → Roomy c → Al (copyNode x child k o 0 c .log) []
@@ -256,10 +256,10 @@ module _ (x : Join) (M : ℕ) (K : ℕ → ℕ → Type 0) (body : Below 256 (x 
       let n : L .ones (at o) 0 (bytes c k) ≡ [] = no-length _ (let y = L .ones-long body (at o) 0 (bytes c k) (r .slots .entries) in omega arith) in
       let d : L .chars (at o) 0 ≡ [] = no-length _ (L .chars-long (at o) 0 (bytes c k) (r .slots .entries) ∙ leaf-data x k leaf .nothing (at o)) in
       let z = node-alike child o 0 c f r q in
-      let H0 : Held (x .state) (x .parts) M K T U k (rows c k) [] (L .base (rows c k)) [] (bytes c k) [] = rw (b, n, d) at (held o 0 c f r q) in
-      alike-trans (x .state) (x .parts) M K (rw (b, n, d) at z) (canon-none (x .state) (x .parts) M K T U k (rows c k) (L .base (rows c k)) (bytes c k) H0)
+      let H0 : Held (x .plan) (x .parts) M K T U k (rows c k) [] (L .base (rows c k)) [] (bytes c k) [] = rw (b, n, d) at (held o 0 c f r q) in
+      alike-trans (x .plan) (x .parts) M K (rw (b, n, d) at z) (canon-none (x .plan) (x .parts) M K T U k (rows c k) (L .base (rows c k)) (bytes c k) H0)
 
   -- other nodes' parts are left
   pub canonOf-off : (a n : ℕ) (c : List ℕ) (i b : ℕ) (w : List ℕ) → (i ≡ k → ⊥) → within i b (canonOf a n c) w ≡ w
   canonOf-off a n c i b w z =
-      canon-off (x .state) (x .parts) M K i b T U k (rows c k) (bitsOf x k (at a) n) (L .base (rows c k)) (L .ones (at a) n (bytes c k)) (bytes c k) (L .chars (at a) n) w z
+      canon-off (x .plan) (x .parts) M K i b T U k (rows c k) (bitsOf x k (at a) n) (L .base (rows c k)) (L .ones (at a) n (bytes c k)) (bytes c k) (L .chars (at a) n) w z

@@ -24,7 +24,7 @@ use Rattle.walk.specs.Copy.{Walk, masked, copyData, copySlots, copyNode, copyWa
 use Rattle.batch.specs.Stretch.{neverFalls}
 use Rattle.batch.specs.Batch.{isLeaf, steady, batchLeaf}
 use Rattle.batch.proofs.Ends.{Leaves, leaves-own, leaves-done, leaves-need, leaves-found, leaves-next, need-was, need-is, found-was, found-is, next-first, next-last}
-use Rattle.batch.proofs.Tally.{Counts, tally, tally-rows, tally-else, tally-none, tally-twice, tally-counts}
+use Rattle.batch.proofs.Tally.{Counts, tally, tally-rows, tally-else, tally-none, tally-twice, tally-counters}
 use Rattle.batch.proofs.Stretches.{and-left, and-right, Cuts}
 use Rattle.batch.proofs.Leaves.{maskFits, maskZeros, mask-was, mask-goes, mask-first, mask-second, mask-none, zeros-cut, zeros-no, DataCuts}
 use Rattle.batch.proofs.Strings.{falls-first}
@@ -86,12 +86,12 @@ list-view-width code h = go (eqb code 17) refl
         let q : code ≡ 18 = omega arith in
         rw q (omega arith)
 
-module _ (x : Join) (k : ℕ) (leaf : isLeaf (codeOf (x .state) k) ≡ true) where
+module _ (x : Join) (k : ℕ) (leaf : isLeaf (codeOf (x .plan) k) ≡ true) where
   abbrev C : ℕ
-  C = codeOf (x .state) k
+  C = codeOf (x .plan) k
 
   abbrev W : ℕ
-  W = bytesOf (x .state) k
+  W = bytesOf (x .plan) k
 
   -- what `steady` says of the slots
   abbrev pub st : ℕ → ℕ → Bool
@@ -117,9 +117,9 @@ module _ (x : Join) (k : ℕ) (leaf : isLeaf (codeOf (x .state) k) ≡ true) whe
 
   pub leaf-kind : Kind x k st (isString C) firsts (λ slot n c. copyData x idle C k slot n c)
   unfolding copyData copyNumbers copyKeys copyViews
-  leaf-kind = go (isFixed C) refl (eqb (dictionaryOf (x .state) k) 0) refl (isString C) refl (isView C) refl
+  leaf-kind = go (isFixed C) refl (eqb (dictionaryOf (x .plan) k) 0) refl (isString C) refl (isView C) refl
     where
-      go : (t : Bool) → isFixed C ≡ t → (d : Bool) → eqb (dictionaryOf (x .state) k) 0 ≡ d → (u : Bool) → isString C ≡ u → (v : Bool) → isView C ≡ v
+      go : (t : Bool) → isFixed C ≡ t → (d : Bool) → eqb (dictionaryOf (x .plan) k) 0 ≡ d → (u : Bool) → isString C ≡ u → (v : Bool) → isView C ≡ v
           → Kind x k st (isString C) firsts (λ slot n c. copyData x idle C k slot n c)
       go true e true f u g v h =
           kind-as x k st (isString C) false firsts _ (λ slot n c. copyNumbers x k W slot n c) (fixed-plain e) (λ slot n c. rw (e, f)) (numbers-kind x k st firsts W (λ r n. sym (needed-fixed C r n e)))

@@ -40,10 +40,10 @@ module _ (x : Join) (k : ℕ) where
   -- ---- validity
 
   unfoldable pub maskFits : ℕ → ℕ → Bool
-  maskFits slot n = cond (eqb (keepsOf (x .state) k) 0) true (cond (eqb (place x k 0) 0) true (leb (8 * place x k 1 + slot + n) (8 * length (x .body))))
+  maskFits slot n = cond (eqb (keepsOf (x .plan) k) 0) true (cond (eqb (place x k 0) 0) true (leb (8 * place x k 1 + slot + n) (8 * length (x .body))))
 
   unfoldable pub maskZeros : ℕ → ℕ → ℕ
-  maskZeros slot n = cond (eqb (keepsOf (x .state) k) 0) 0 (cond (eqb (place x k 0) 0) 0 (zeros (bitsAt (8 * place x k 1 + slot) n (x .body))))
+  maskZeros slot n = cond (eqb (keepsOf (x .plan) k) 0) 0 (cond (eqb (place x k 0) 0) 0 (zeros (bitsAt (8 * place x k 1 + slot) n (x .body))))
 
   nothing-more : (c : List ℕ) → Counts c → addNulls k 0 c ≡ c
   unfolding grown
@@ -51,7 +51,7 @@ module _ (x : Join) (k : ℕ) where
 
   pub mask-was : (slot n : ℕ) (c : List ℕ) → copyMask x k slot n c .ans ≡ 0 → maskFits slot n ≡ true
   unfolding copyMask copyBits maskFits
-  mask-was slot n c = go (eqb (keepsOf (x .state) k) 0) (eqb (place x k 0) 0)
+  mask-was slot n c = go (eqb (keepsOf (x .plan) k) 0) (eqb (place x k 0) 0)
     where
       go : (s t : Bool) → cond s (done c) (cond t (wrote (mask k (rows c k) (replicate n 1)) c) (copyBits x k slot n c)) .ans ≡ 0
           → cond s true (cond t true (leb (8 * place x k 1 + slot + n) (8 * length (x .body)))) ≡ true
@@ -61,7 +61,7 @@ module _ (x : Join) (k : ℕ) where
 
   pub mask-goes : (slot n : ℕ) (c : List ℕ) → Counts c → maskFits slot n ≡ true → Leaves (copyMask x k slot n c) (addNulls k (maskZeros slot n) c)
   unfolding copyMask copyBits maskFits maskZeros
-  mask-goes slot n c f = go (eqb (keepsOf (x .state) k) 0) (eqb (place x k 0) 0)
+  mask-goes slot n c f = go (eqb (keepsOf (x .plan) k) 0) (eqb (place x k 0) 0)
     where
       go : (s t : Bool) → cond s true (cond t true (leb (8 * place x k 1 + slot + n) (8 * length (x .body)))) ≡ true
           → Leaves (cond s (done c) (cond t (wrote (mask k (rows c k) (replicate n 1)) c) (copyBits x k slot n c)))
@@ -72,7 +72,7 @@ module _ (x : Join) (k : ℕ) where
 
   pub mask-first : (slot m s : ℕ) → maskFits slot (m + s) ≡ true → maskFits slot m ≡ true
   unfolding maskFits
-  mask-first slot m s = go (eqb (keepsOf (x .state) k) 0) (eqb (place x k 0) 0)
+  mask-first slot m s = go (eqb (keepsOf (x .plan) k) 0) (eqb (place x k 0) 0)
     where
       go : (t u : Bool) → cond t true (cond u true (leb (8 * place x k 1 + slot + (m + s)) (8 * length (x .body)))) ≡ true
           → cond t true (cond u true (leb (8 * place x k 1 + slot + m) (8 * length (x .body)))) ≡ true
@@ -82,7 +82,7 @@ module _ (x : Join) (k : ℕ) where
 
   pub mask-second : (slot m s : ℕ) → maskFits slot (m + s) ≡ true → maskFits (slot + m) s ≡ true
   unfolding maskFits
-  mask-second slot m s = go (eqb (keepsOf (x .state) k) 0) (eqb (place x k 0) 0)
+  mask-second slot m s = go (eqb (keepsOf (x .plan) k) 0) (eqb (place x k 0) 0)
     where
       go : (t u : Bool) → cond t true (cond u true (leb (8 * place x k 1 + slot + (m + s)) (8 * length (x .body)))) ≡ true
           → cond t true (cond u true (leb (8 * place x k 1 + (slot + m) + s) (8 * length (x .body)))) ≡ true
@@ -92,7 +92,7 @@ module _ (x : Join) (k : ℕ) where
 
   pub mask-none : (slot m o : ℕ) → o ≤ slot + m → maskFits slot m ≡ true → maskFits o 0 ≡ true
   unfolding maskFits
-  mask-none slot m o q = go (eqb (keepsOf (x .state) k) 0) (eqb (place x k 0) 0)
+  mask-none slot m o q = go (eqb (keepsOf (x .plan) k) 0) (eqb (place x k 0) 0)
     where
       go : (t u : Bool) → cond t true (cond u true (leb (8 * place x k 1 + slot + m) (8 * length (x .body)))) ≡ true
           → cond t true (cond u true (leb (8 * place x k 1 + o + 0) (8 * length (x .body)))) ≡ true
@@ -102,7 +102,7 @@ module _ (x : Join) (k : ℕ) where
 
   pub zeros-cut : (slot m s : ℕ) → maskZeros slot (m + s) ≡ maskZeros slot m + maskZeros (slot + m) s
   unfolding maskZeros
-  zeros-cut slot m s = go (eqb (keepsOf (x .state) k) 0) (eqb (place x k 0) 0)
+  zeros-cut slot m s = go (eqb (keepsOf (x .plan) k) 0) (eqb (place x k 0) 0)
     where
       go : (t u : Bool) → cond t 0 (cond u 0 (zeros (bitsAt (8 * place x k 1 + slot) (m + s) (x .body))))
           ≡ cond t 0 (cond u 0 (zeros (bitsAt (8 * place x k 1 + slot) m (x .body)))) + cond t 0 (cond u 0 (zeros (bitsAt (8 * place x k 1 + (slot + m)) s (x .body))))
@@ -114,7 +114,7 @@ module _ (x : Join) (k : ℕ) where
 
   pub zeros-no : (o : ℕ) → maskZeros o 0 ≡ 0
   unfolding maskZeros
-  zeros-no o = go (eqb (keepsOf (x .state) k) 0) (eqb (place x k 0) 0)
+  zeros-no o = go (eqb (keepsOf (x .plan) k) 0) (eqb (place x k 0) 0)
     where
       go : (t u : Bool) → cond t 0 (cond u 0 (zeros (bitsAt (8 * place x k 1 + o) 0 (x .body)))) ≡ 0
       go true u = refl

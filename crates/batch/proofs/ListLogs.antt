@@ -46,17 +46,17 @@ numbers-are w from (suc n) s u h =
     (ap (pieces (λ j. encode w (entry w s from j)) n ++_)
     (sym (encode-number w (drop (from + w * n) s) (rw length-drop (omega arith)) (λ i. rw getD-drop (below-at 256 s (omega arith) u (from + w * n + i))))))
 
-module _ (state parts : List ℕ) (M : ℕ) (K : ℕ → ℕ → Type 0) where
+module _ (plan parts : List ℕ) (M : ℕ) (K : ℕ → ℕ → Type 0) where
   abbrev Al : Log → Log → Type 0
-  Al l m = Alike state parts M K l m
+  Al l m = Alike plan parts M K l m
 
-  splice-window : (i b p : ℕ) (v w : List ℕ) → p + length v ≤ span state parts M K i b → Below 256 v → Window state parts M K i b w → Window state parts M K i b (splice p v w)
+  splice-window : (i b p : ℕ) (v w : List ℕ) → p + length v ≤ span plan parts M K i b → Below 256 v → Window plan parts M K i b w → Window plan parts M K i b (splice p v w)
   splice-window i b p v w h u z =
       let l = z .long in
       record { long = length-splice p v w (omega arith) ∙ l; are-bytes = below-splice 256 p v w u (z .are-bytes) }
 
-  module _ (i p q : ℕ) (a1 b1 a2 b2 : List ℕ) (l m : Log) (f : p + length a1 + length b1 ≤ span state parts M K i 1) (g : q + length a2 + length b2 ≤ span state parts M K i 2)
-      (u1 : Below 256 a1) (v1 : Below 256 b1) (u2 : Below 256 a2) (v2 : Below 256 b2) (off : (b : ℕ) → K i b → (w : List ℕ) → Window state parts M K i b w → within i b l w ≡ w) where
+  module _ (i p q : ℕ) (a1 b1 a2 b2 : List ℕ) (l m : Log) (f : p + length a1 + length b1 ≤ span plan parts M K i 1) (g : q + length a2 + length b2 ≤ span plan parts M K i 2)
+      (u1 : Below 256 a1) (v1 : Below 256 b1) (u2 : Below 256 a2) (v2 : Below 256 b2) (off : (b : ℕ) → K i b → (w : List ℕ) → Window plan parts M K i b w → within i b l w ≡ w) where
     abbrev One : Bool → Bool → List ℕ → List ℕ
     One s t w = cond t (splice q a2 (cond s (splice p a1 w) w)) (cond s (splice p a1 w) w)
 
@@ -67,7 +67,7 @@ module _ (state parts : List ℕ) (M : ℕ) (K : ℕ → ℕ → Type 0) where
     Both s t w = cond t (splice q (a2 ++ b2) (cond s (splice p (a1 ++ b1) w) w)) (cond s (splice p (a1 ++ b1) w) w)
 
     -- one part
-    merged : (b o : ℕ) (v y w : List ℕ) → K i b → Window state parts M K i b w → o + length v + length y ≤ span state parts M K i b → Below 256 v → Below 256 y
+    merged : (b o : ℕ) (v y w : List ℕ) → K i b → Window plan parts M K i b w → o + length v + length y ≤ span plan parts M K i b → Below 256 v → Below 256 y
         → splice (o + length v) y (within i b l (splice o v w)) ≡ within i b l (splice o (v ++ y) w)
     merged b o v y w k z h c d =
         let n = z .long in
@@ -76,7 +76,7 @@ module _ (state parts : List ℕ) (M : ℕ) (K : ℕ → ℕ → Type 0) where
         ∙ splice-splice o v y w (omega arith)
         ∙ sym (off b k (splice o (v ++ y) w) (splice-window i b o (v ++ y) w (omega arith) (below-append 256 v y c d) z))
 
-    go : (j b : ℕ) → K j b → (w : List ℕ) → Window state parts M K j b w → (r : Bool) → eqb j i ≡ r → (s : Bool) → eqb b 1 ≡ s → (t : Bool) → eqb b 2 ≡ t
+    go : (j b : ℕ) → K j b → (w : List ℕ) → Window plan parts M K j b w → (r : Bool) → eqb j i ≡ r → (s : Bool) → eqb b 1 ≡ s → (t : Bool) → eqb b 2 ≡ t
         → within j b m (Two (r && s) (r && t) (within j b l (One (r && s) (r && t) w))) ≡ within j b m (within j b l (Both (r && s) (r && t) w))
     go j b y w z false e s h t k = refl
     go j b y w z true e true h true k = let x = eqb-true b 1 h in let x2 = eqb-true b 2 k in absurd (omega arith)
@@ -84,19 +84,19 @@ module _ (state parts : List ℕ) (M : ℕ) (K : ℕ → ℕ → Type 0) where
         let jj = eqb-true j i e in
         let bb = eqb-true b 1 h in
         let y2 : K i 1 = rw (jj, bb) at y in
-        let z2 : Window state parts M K i 1 w = rw (jj, bb) at z in
+        let z2 : Window plan parts M K i 1 w = rw (jj, bb) at z in
         ap (within j b m) (rw (jj, bb) (merged 1 p a1 b1 w y2 z2 f u1 v1))
     go j b y w z true e false h true k =
         let jj = eqb-true j i e in
         let bb = eqb-true b 2 k in
         let y2 : K i 2 = rw (jj, bb) at y in
-        let z2 : Window state parts M K i 2 w = rw (jj, bb) at z in
+        let z2 : Window plan parts M K i 2 w = rw (jj, bb) at z in
         ap (within j b m) (rw (jj, bb) (merged 2 q a2 b2 w y2 z2 g u2 v2))
     go j b y w z true e false h false k = refl
 
     -- two writes at node i before a log that leaves the node, and two behind them: the writes may go first and together
-    pub gather : AllInside state parts M K (put i 1 p (a1 ++ b1) ∷ put i 2 q (a2 ++ b2) ∷ (l ++ m))
-        → AllInside state parts M K ((put i 1 p a1 ∷ put i 2 q a2 ∷ l) ++ (put i 1 (p + length a1) b1 ∷ put i 2 (q + length a2) b2 ∷ m))
+    pub gather : AllInside plan parts M K (put i 1 p (a1 ++ b1) ∷ put i 2 q (a2 ++ b2) ∷ (l ++ m))
+        → AllInside plan parts M K ((put i 1 p a1 ∷ put i 2 q a2 ∷ l) ++ (put i 1 (p + length a1) b1 ∷ put i 2 (q + length a2) b2 ∷ m))
         → Al ((put i 1 p a1 ∷ put i 2 q a2 ∷ l) ++ (put i 1 (p + length a1) b1 ∷ put i 2 (q + length a2) b2 ∷ m)) (put i 1 p (a1 ++ b1) ∷ put i 2 q (a2 ++ b2) ∷ (l ++ m))
     unfolding within
     gather one two =
@@ -110,7 +110,7 @@ module _ (state parts : List ℕ) (M : ℕ) (K : ℕ → ℕ → Type 0) where
         }
 
   -- two writes of nothing
-  pub puts-none : (i p q : ℕ) → AllInside state parts M K (put i 1 p [] ∷ put i 2 q [] ∷ []) → Al (put i 1 p [] ∷ put i 2 q [] ∷ []) []
+  pub puts-none : (i p q : ℕ) → AllInside plan parts M K (put i 1 p [] ∷ put i 2 q [] ∷ []) → Al (put i 1 p [] ∷ put i 2 q [] ∷ []) []
   unfolding within AllInside
   puts-none i p q h = record { one = h; two = tt; same = λ j b y w u. go w (eqb j i && eqb b 1) (eqb j i && eqb b 2) }
     where
@@ -122,7 +122,7 @@ module _ (state parts : List ℕ) (M : ℕ) (K : ℕ → ℕ → Type 0) where
 
 module _ (x : Join) (M : ℕ) (K : ℕ → ℕ → Type 0) (below child : Walk) (w i slot : ℕ) (good : ℕ → ℕ → List ℕ → Type 0) (roomy : List ℕ → Type 0)
     (cuts : Cuts (suc i) good (λ a n c. below (suc i) a n c) (λ a n c. child (suc i) a n c))
-    (logs : CutLogs (x .state) (x .parts) M K (suc i) roomy good (λ a n c. below (suc i) a n c) (λ a n c. child (suc i) a n c)) (big : half w ≤ top) (k1 : K i 1) (k2 : K i 2) where
+    (logs : CutLogs (x .plan) (x .parts) M K (suc i) roomy good (λ a n c. below (suc i) a n c) (λ a n c. child (suc i) a n c)) (big : half w ≤ top) (k1 : K i 1) (k2 : K i 2) where
   abbrev start : ℕ → ℕ
   start r = entry w (x .body) (place x i 3) (slot + r)
 
@@ -133,10 +133,10 @@ module _ (x : Join) (M : ℕ) (K : ℕ → ℕ → Type 0) (below child : Walk) 
   item r c = child (suc i) (start r) (size r) c
 
   abbrev Sp : ℕ → ℕ
-  Sp b = span (x .state) (x .parts) M K i b
+  Sp b = span (x .plan) (x .parts) M K i b
 
   abbrev In : Log → Type 0
-  In l = AllInside (x .state) (x .parts) M K l
+  In l = AllInside (x .plan) (x .parts) M K l
 
   row-log : (r : ℕ) (c : List ℕ) → ltb (rows c (suc i) + size r) (half w) ≡ true
       → listViewRow x child w i slot r c .log ≡ put i 1 ((rows c i + r) * w) (encode w (rows c (suc i))) ∷ put i 2 ((rows c i + r) * w) (encode w (size r)) ∷ item r c .log
@@ -169,7 +169,7 @@ module _ (x : Join) (M : ℕ) (K : ℕ → ℕ → Type 0) (below child : Walk) 
       On c2 = each item n (suc r) c2
 
       abbrev c1 : List ℕ
-      c1 = item r c .counts
+      c1 = item r c .counters
 
       one : Leaves (item r c) c1
       unfolding each
@@ -200,7 +200,7 @@ module _ (x : Join) (M : ℕ) (K : ℕ → ℕ → Type 0) (below child : Walk) 
       g1 = let u = cuts .step (start r) (size r) c c1 f one .1 in let v = room in omega arith
 
       y1 : roomy c1
-      y1 = each-before (x .state) (x .parts) M K (suc i) roomy good (λ a n c. below (suc i) a n c) (λ a n c. child (suc i) a n c) cuts logs start size n (suc r) c1 d f1 more y
+      y1 = each-before (x .plan) (x .parts) M K (suc i) roomy good (λ a n c. below (suc i) a n c) (λ a n c. child (suc i) a n c) cuts logs start size n (suc r) c1 d f1 more y
 
       row-leaves : Leaves (listViewRow x child w i slot r c) c1
       unfolding listViewRow
@@ -248,11 +248,11 @@ module _ (x : Join) (M : ℕ) (K : ℕ → ℕ → Type 0) (below child : Walk) 
       encoded : (v : ℕ) → Below 256 (encode w v)
       encoded v = below-of 256 (encode w v) (bytes-encode w v)
 
-      selfs : Alike (x .state) (x .parts) M K I I
+      selfs : Alike (x .plan) (x .parts) M K I I
       selfs = logs .self (start r) (size r) c c1 f one y1
 
-      selfE : Alike (x .state) (x .parts) M K E E
-      selfE = each-self (x .state) (x .parts) M K (suc i) roomy good (λ a n c. below (suc i) a n c) (λ a n c. child (suc i) a n c) cuts logs start size n (suc r) c1 d f1 more y
+      selfE : Alike (x .plan) (x .parts) M K E E
+      selfE = each-self (x .plan) (x .parts) M K (suc i) roomy good (λ a n c. below (suc i) a n c) (λ a n c. child (suc i) a n c) cuts logs start size n (suc r) c1 d f1 more y
 
       headIn : In (put i 1 P A1 ∷ put i 2 P A2 ∷ I)
       headIn = puts-inside P P A1 A2 I (let a = fit1 in omega arith) (let a = fit2 in omega arith) (encoded _) (encoded _) (selfs .one)
@@ -265,13 +265,13 @@ module _ (x : Join) (M : ℕ) (K : ℕ → ℕ → Type 0) (below child : Walk) 
           let a = length-append A1 B1 in
           let b = length-append A2 B2 in
           puts-inside P P (A1 ++ B1) (A2 ++ B2) (I ++ E) (let z = fit1 in omega arith) (let z = fit2 in omega arith) (below-append 256 A1 B1 (encoded _) (below-numbers w _ n)) (below-append 256 A2 B2 (encoded _) (below-numbers w _ n))
-          (inside-append (x .state) (x .parts) M K I E (selfs .one) (selfE .one))
+          (inside-append (x .plan) (x .parts) M K I E (selfs .one) (selfE .one))
 
-      first : Alike (x .state) (x .parts) M K ((put i 1 P A1 ∷ put i 2 P A2 ∷ I) ++ (put i 1 (P + length A1) B1 ∷ put i 2 (P + length A2) B2 ∷ E)) (put i 1 P (A1 ++ B1) ∷ put i 2 P (A2 ++ B2) ∷ (I ++ E))
+      first : Alike (x .plan) (x .parts) M K ((put i 1 P A1 ∷ put i 2 P A2 ∷ I) ++ (put i 1 (P + length A1) B1 ∷ put i 2 (P + length A2) B2 ∷ E)) (put i 1 P (A1 ++ B1) ∷ put i 2 P (A2 ++ B2) ∷ (I ++ E))
       first =
-          gather (x .state) (x .parts) M K i P P A1 B1 A2 B2 I E fit1 fit2 (encoded _) (below-numbers w _ n) (encoded _) (below-numbers w _ n)
+          gather (x .plan) (x .parts) M K i P P A1 B1 A2 B2 I E fit1 fit2 (encoded _) (below-numbers w _ n) (encoded _) (below-numbers w _ n)
           (λ b k v u. logs .off (start r) (size r) c c1 f one y1 i b (λ z. omega arith) k v u) bothIn
-          (inside-append (x .state) (x .parts) M K (put i 1 P A1 ∷ put i 2 P A2 ∷ I) (put i 1 (P + length A1) B1 ∷ put i 2 (P + length A2) B2 ∷ E) headIn tailIn)
+          (inside-append (x .plan) (x .parts) M K (put i 1 P A1 ∷ put i 2 P A2 ∷ I) (put i 1 (P + length A1) B1 ∷ put i 2 (P + length A2) B2 ∷ E) headIn tailIn)
 
       goal-first : Goal n (suc r) c1 ≡ put i 1 (P + length A1) B1 ∷ put i 2 (P + length A2) B2 ∷ E
       goal-first = ap (λ v. put i 1 v B1 ∷ put i 2 ((R + suc r) * w) B2 ∷ E) pos1 ∙ ap (λ v. put i 1 (P + length A1) B1 ∷ put i 2 v B2 ∷ E) pos2
@@ -283,24 +283,24 @@ module _ (x : Join) (M : ℕ) (K : ℕ → ℕ → Type 0) (below child : Walk) 
           ∙ ap (λ v. put i 1 P (A1 ++ B1) ∷ put i 2 P v ∷ each item (suc n) r c .log) (first-of size r n)
           ∙ ap (λ v. put i 1 P (A1 ++ B1) ∷ put i 2 P (A2 ++ B2) ∷ v) (next-log On one)
 
-      step : Alike (x .state) (x .parts) M K (each (listViewRow x child w i slot) n (suc r) c1 .log) (Goal n (suc r) c1)
-          → Alike (x .state) (x .parts) M K (each (listViewRow x child w i slot) (suc n) r c .log) (Goal (suc n) r c)
+      step : Alike (x .plan) (x .parts) M K (each (listViewRow x child w i slot) n (suc r) c1 .log) (Goal n (suc r) c1)
+          → Alike (x .plan) (x .parts) M K (each (listViewRow x child w i slot) (suc n) r c .log) (Goal (suc n) r c)
       unfolding each
       step ih =
           rw (next-log (λ c2. each (listViewRow x child w i slot) n (suc r) c2) row-leaves, front, goal-all)
-          (alike-trans (x .state) (x .parts) M K (alike-append (x .state) (x .parts) M K (alike-refl (x .state) (x .parts) M K (put i 1 P A1 ∷ put i 2 P A2 ∷ I) headIn) (rw goal-first at ih)) first)
+          (alike-trans (x .plan) (x .parts) M K (alike-append (x .plan) (x .parts) M K (alike-refl (x .plan) (x .parts) M K (put i 1 P A1 ∷ put i 2 P A2 ∷ I) headIn) (rw goal-first at ih)) first)
 
     pub rows-write : (n r : ℕ) (c d : List ℕ) → Counts c → rows c i ≡ R → rows c (suc i) ≡ before + sumOf size r → before + sumOf size (r + n) < half w
         → (R + (r + n)) * w ≤ Sp 1 → (R + (r + n)) * w ≤ Sp 2 → Leaves (each item n r c) d → roomy d
-        → Alike (x .state) (x .parts) M K (each (listViewRow x child w i slot) n r c .log) (Goal n r c)
+        → Alike (x .plan) (x .parts) M K (each (listViewRow x child w i slot) n r c .log) (Goal n r c)
     unfolding each done AllInside pieces
     rows-write zero r c d f e g h s1 s2 l y =
         let z : r + 0 ≡ r = add-zero r in
         let t1 : (R + r) * w ≤ Sp 1 = rw z at s1 in
         let t2 : (R + r) * w ≤ Sp 2 = rw z at s2 in
-        alike-sym (x .state) (x .parts) M K (puts-none (x .state) (x .parts) M K i ((R + r) * w) ((R + r) * w) (puts-inside ((R + r) * w) ((R + r) * w) [] [] [] (omega arith) (omega arith) none none tt))
+        alike-sym (x .plan) (x .parts) M K (puts-none (x .plan) (x .parts) M K i ((R + r) * w) ((R + r) * w) (puts-inside ((R + r) * w) ((R + r) * w) [] [] [] (omega arith) (omega arith) none none tt))
     rows-write (suc n) r c d f e g h s1 s2 l y =
         let v : suc r + n ≡ r + suc n = omega arith in
         step n r c d f e g h s1 s2 l y
-        (rows-write n (suc r) (item r c .counts) d (f1 n r c d f e g h s1 s2 l y) (e1 n r c d f e g h s1 s2 l y) (g1 n r c d f e g h s1 s2 l y) (h1 n r c d f e g h s1 s2 l y)
+        (rows-write n (suc r) (item r c .counters) d (f1 n r c d f e g h s1 s2 l y) (e1 n r c d f e g h s1 s2 l y) (g1 n r c d f e g h s1 s2 l y) (h1 n r c d f e g h s1 s2 l y)
         (rw v s1) (rw v s2) (more n r c d f e g h s1 s2 l y) y)

@@ -51,24 +51,24 @@ module _ (x : Join) (below child : Walk) (w i slot : ℕ) (good : ℕ → ℕ �
   rows-with before zero r c d f e h l = l
   rows-with before (suc n) r c d f e h l =
       let one = next-start (item r c) (λ c2. each item n (suc r) c2) l in
-      let s = cuts .step (start r) (size r) c (item r c .counts) f one in
+      let s = cuts .step (start r) (size r) c (item r c .counters) f one in
       let u = sum-up size (suc r) n in
       let v : suc r + n ≡ r + suc n = omega arith in
       let y : sumOf size (suc r) ≤ sumOf size (r + suc n) = rw v at u in
       let g = s .1 in
-      let q : rows (item r c .counts) (suc i) ≡ before + sumOf size (suc r) = omega arith in
-      let z = rows-with before n (suc r) (item r c .counts) d (s .0) q (rw v h) (next-rest (item r c) (λ c2. each item n (suc r) c2) l) in
+      let q : rows (item r c .counters) (suc i) ≡ before + sumOf size (suc r) = omega arith in
+      let z = rows-with before n (suc r) (item r c .counters) d (s .0) q (rw v h) (next-rest (item r c) (λ c2. each item n (suc r) c2) l) in
       leaves-next _ (leaves-need 6 c (lt-ltb _ _ (test y)) (leaves-next _ (leaves-wrote _ c) (leaves-next _ (leaves-wrote _ c) one))) z
     where
       test : sumOf size (suc r) ≤ sumOf size (r + suc n) → rows c (suc i) + size r < half w
       test y = omega arith
 
-  pub list-views-same : (n : ℕ) (c : List ℕ) → Counts c → batchListView x below w i slot n c .ans ≡ 0 → Leaves (copyListView x child w i slot n c) (batchListView x below w i slot n c .counts)
+  pub list-views-same : (n : ℕ) (c : List ℕ) → Counts c → batchListView x below w i slot n c .ans ≡ 0 → Leaves (copyListView x child w i slot n c) (batchListView x below w i slot n c .counters)
   unfolding batchListView copyListView sumOf
   list-views-same n c f h =
       let l = leaves-own {o = batchListView x below w i slot n c} h in
-      let a = and-left (ltb (suc i) 32) (owned (x .state) i && owned (x .state) (suc i)) (need-was _ 12 c _ (omega arith) (l .ok)) in
-      let l1 = need-rest (ltb (suc i) 32 && (owned (x .state) i && owned (x .state) (suc i))) 12 c _ (omega arith) l in
+      let a = and-left (ltb (suc i) 32) (owned (x .plan) i && owned (x .plan) (suc i)) (need-was _ 12 c _ (omega arith) (l .ok)) in
+      let l1 = need-rest (ltb (suc i) 32 && (owned (x .plan) i && owned (x .plan) (suc i))) 12 c _ (omega arith) l in
       let b = need-was _ 12 c _ (omega arith) (l1 .ok) in
       let l2 = need-rest _ 12 c _ (omega arith) l1 in
       let t = ltb-true (rows c (suc i) + sumOf size n) (half w) (need-was _ 6 c _ (omega arith) (l2 .ok)) in
@@ -87,9 +87,9 @@ above a b v h = rw (lt-leb v b h) (no (leb a v))
     no false = refl
 
 module _ (x : Join) (i : ℕ) (small : i < 32) where
-  nulls-counts : (z : ℕ) (c : List ℕ) → Counts c → Counts (addNulls i z c)
+  nulls-counters : (z : ℕ) (c : List ℕ) → Counts c → Counts (addNulls i z c)
   unfolding grown
-  nulls-counts z c f =
+  nulls-counters z c f =
       record {
         long = length-set c (3 * i + 1) (grown (nulls c i) z) ∙ f .long;
         small = λ q. go q (eqb q (3 * i + 1)) refl;
@@ -103,62 +103,62 @@ module _ (x : Join) (i : ℕ) (small : i < 32) where
       go q false e = let g = getD-set-other c (3 * i + 1) q (grown (nulls c i) z) 0 (eqb-false q (3 * i + 1) e) in let s = f .small q in omega arith
 
   -- the validity leaves counters
-  pub mask-counts : (b : Bool) (slot n : ℕ) (c d : List ℕ) → Counts c → Leaves (cond b (copyMask x i slot n c) (done c)) d → Counts d
+  pub mask-counters : (b : Bool) (slot n : ℕ) (c d : List ℕ) → Counts c → Leaves (cond b (copyMask x i slot n c) (done c)) d → Counts d
   unfolding done
-  mask-counts true slot n c d f l =
+  mask-counters true slot n c d f l =
       let m = mask-goes x i slot n c f (mask-was x i slot n c (l .ok)) in
-      subst Counts (sym (m .left) ∙ l .left) (nulls-counts (maskZeros x i slot n) c f)
-  mask-counts false slot n c d f l = subst Counts (l .left) f
+      subst Counts (sym (m .left) ∙ l .left) (nulls-counters (maskZeros x i slot n) c f)
+  mask-counters false slot n c d f l = subst Counts (l .left) f
 
 module _ (x : Join) (depth : ℕ) where
-  pub list-data : (depth i slot n : ℕ) (c : List ℕ) → isListView (codeOf (x .state) i) ≡ true
-      → copyData x (copyWalk x depth) (codeOf (x .state) i) i slot n c ≡ copyListView x (copyWalk x depth) (bytesOf (x .state) i) i slot n c
+  pub list-data : (depth i slot n : ℕ) (c : List ℕ) → isListView (codeOf (x .plan) i) ≡ true
+      → copyData x (copyWalk x depth) (codeOf (x .plan) i) i slot n c ≡ copyListView x (copyWalk x depth) (bytesOf (x .plan) i) i slot n c
   unfolding copyData
   list-data depth i slot n c h =
-      let l = leb-true 17 (codeOf (x .state) i) (and-left (leb 17 (codeOf (x .state) i)) (leb (codeOf (x .state) i) 18) h) in
-      rw (above 1 10 (codeOf (x .state) i) (omega arith), above 11 14 (codeOf (x .state) i) (omega arith), above 15 16 (codeOf (x .state) i) (omega arith), h)
+      let l = leb-true 17 (codeOf (x .plan) i) (and-left (leb 17 (codeOf (x .plan) i)) (leb (codeOf (x .plan) i) 18) h) in
+      rw (above 1 10 (codeOf (x .plan) i) (omega arith), above 11 14 (codeOf (x .plan) i) (omega arith), above 15 16 (codeOf (x .plan) i) (omega arith), h)
 
   -- the child is a node without children
-  pub child-leaf : (w i slot n : ℕ) (c : List ℕ) → batchListView x (batchLeaf x) w i slot n c .ans ≡ 0 → isLeaf (codeOf (x .state) (suc i)) ≡ true
+  pub child-leaf : (w i slot n : ℕ) (c : List ℕ) → batchListView x (batchLeaf x) w i slot n c .ans ≡ 0 → isLeaf (codeOf (x .plan) (suc i)) ≡ true
   unfolding batchListView batchLeaf
   child-leaf w i slot n c h =
       let l = leaves-own {o = batchListView x (batchLeaf x) w i slot n c} h in
-      let l1 = need-rest _ 12 c _ (omega arith) (need-rest (ltb (suc i) 32 && (owned (x .state) i && owned (x .state) (suc i))) 12 c _ (omega arith) l) in
+      let l1 = need-rest _ 12 c _ (omega arith) (need-rest (ltb (suc i) 32 && (owned (x .plan) i && owned (x .plan) (suc i))) 12 c _ (omega arith) l) in
       let l2 = wrote-rest _ c _ (wrote-rest _ c _ (need-rest _ 6 c _ (omega arith) l1)) in
-      stretch-shows (λ a n c. batchLeaf x (suc i) a n c) _ _ (λ a m d g. need-was (isLeaf (codeOf (x .state) (suc i))) 12 d _ (omega arith) g) n 0 0 0 c (l2 .ok)
+      stretch-shows (λ a n c. batchLeaf x (suc i) a n c) _ _ (λ a m d g. need-was (isLeaf (codeOf (x .plan) (suc i))) 12 d _ (omega arith) g) n 0 0 0 c (l2 .ok)
 
-  pub dense-data : (depth i slot n : ℕ) (c : List ℕ) → codeOf (x .state) i ≡ 22
-      → copyData x (copyWalk x depth) (codeOf (x .state) i) i slot n c ≡ copyDense x (copyWalk x depth) i slot n c
+  pub dense-data : (depth i slot n : ℕ) (c : List ℕ) → codeOf (x .plan) i ≡ 22
+      → copyData x (copyWalk x depth) (codeOf (x .plan) i) i slot n c ≡ copyDense x (copyWalk x depth) i slot n c
   unfolding copyData
   dense-data depth i slot n c e = rw e refl
 
-  pub data-same : (i slot n : ℕ) (c : List ℕ) → Counts c → batchData x (batchLeaf x) (codeOf (x .state) i) i slot n c .ans ≡ 0
-      → Leaves (copyData x (copyWalk x (suc depth)) (codeOf (x .state) i) i slot n c) (batchData x (batchLeaf x) (codeOf (x .state) i) i slot n c .counts)
+  pub data-same : (i slot n : ℕ) (c : List ℕ) → Counts c → batchData x (batchLeaf x) (codeOf (x .plan) i) i slot n c .ans ≡ 0
+      → Leaves (copyData x (copyWalk x (suc depth)) (codeOf (x .plan) i) i slot n c) (batchData x (batchLeaf x) (codeOf (x .plan) i) i slot n c .counters)
   unfolding batchData fail copyWalk
-  data-same i slot n c f = go (isListView (codeOf (x .state) i)) refl (eqb (codeOf (x .state) i) 22) refl
+  data-same i slot n c f = go (isListView (codeOf (x .plan) i)) refl (eqb (codeOf (x .plan) i) 22) refl
     where
-      go : (t : Bool) → isListView (codeOf (x .state) i) ≡ t → (u : Bool) → eqb (codeOf (x .state) i) 22 ≡ u
-          → cond t (batchListView x (batchLeaf x) (bytesOf (x .state) i) i slot n c) (cond u (batchDense x (batchLeaf x) i slot n c) (fail 12 c)) .ans ≡ 0
-          → Leaves (copyData x (copyWalk x (suc depth)) (codeOf (x .state) i) i slot n c)
-          (cond t (batchListView x (batchLeaf x) (bytesOf (x .state) i) i slot n c) (cond u (batchDense x (batchLeaf x) i slot n c) (fail 12 c)) .counts)
+      go : (t : Bool) → isListView (codeOf (x .plan) i) ≡ t → (u : Bool) → eqb (codeOf (x .plan) i) 22 ≡ u
+          → cond t (batchListView x (batchLeaf x) (bytesOf (x .plan) i) i slot n c) (cond u (batchDense x (batchLeaf x) i slot n c) (fail 12 c)) .ans ≡ 0
+          → Leaves (copyData x (copyWalk x (suc depth)) (codeOf (x .plan) i) i slot n c)
+          (cond t (batchListView x (batchLeaf x) (bytesOf (x .plan) i) i slot n c) (cond u (batchDense x (batchLeaf x) i slot n c) (fail 12 c)) .counters)
       go true e u g h =
-          let q = child-leaf (bytesOf (x .state) i) i slot n c h in
+          let q = child-leaf (bytesOf (x .plan) i) i slot n c h in
           rw (list-data (suc depth) i slot n c e)
-          (list-views-same x (batchLeaf x) (copyWalk x (suc depth)) (bytesOf (x .state) i) i slot (good x (suc i) q) (leaf-cuts x (suc i) q (copyWalk x depth)) (list-view-width (codeOf (x .state) i) e) n c f h)
-      go false e true g h = rw (dense-data (suc depth) i slot n c (eqb-true (codeOf (x .state) i) 22 g)) (dense-same x depth i slot n c f h)
+          (list-views-same x (batchLeaf x) (copyWalk x (suc depth)) (bytesOf (x .plan) i) i slot (good x (suc i) q) (leaf-cuts x (suc i) q (copyWalk x depth)) (list-view-width (codeOf (x .plan) i) e) n c f h)
+      go false e true g h = rw (dense-data (suc depth) i slot n c (eqb-true (codeOf (x .plan) i) 22 g)) (dense-same x depth i slot n c f h)
       go false e false g h = let z : _≡_ {A = ℕ} 12 0 = h in absurd (omega arith)
 
   pub slots-same : (i slot n : ℕ) (c : List ℕ) → i < 32 → Counts c → batchSlots x (batchLeaf x) i slot n c .ans ≡ 0
-      → Leaves (copySlots x (copyWalk x (suc depth)) i slot n c) (batchSlots x (batchLeaf x) i slot n c .counts)
+      → Leaves (copySlots x (copyWalk x (suc depth)) i slot n c) (batchSlots x (batchLeaf x) i slot n c .counters)
   unfolding batchSlots copySlots done
   slots-same i slot n c s f h =
-      let m : Out = cond (masked (codeOf (x .state) i)) (copyMask x i slot n c) (done c) in
+      let m : Out = cond (masked (codeOf (x .plan) i)) (copyMask x i slot n c) (done c) in
       let l = leaves-own {o = batchSlots x (batchLeaf x) i slot n c} h in
       let a = next-start m _ l in
-      let g = mask-counts x i s (masked (codeOf (x .state) i)) slot n c (m .counts) f a in
+      let g = mask-counters x i s (masked (codeOf (x .plan) i)) slot n c (m .counters) f a in
       let b = next-rest m _ l in
-      let o : Out = batchData x (batchLeaf x) (codeOf (x .state) i) i slot n (m .counts) in
-      let d = data-same i slot n (m .counts) g (next-start o _ b .ok) in
+      let o : Out = batchData x (batchLeaf x) (codeOf (x .plan) i) i slot n (m .counters) in
+      let d = data-same i slot n (m .counters) g (next-start o _ b .ok) in
       leaves-next _ a (leaves-next _ d (next-rest o (λ c3. done (addRows i n c3)) b))
 
   node-same : (i a n : ℕ) (c d : List ℕ) → Counts c → Leaves (batchNode x (batchLeaf x) i a n c) d → Leaves (copyNode x (copyWalk x (suc depth)) i a n c) d
@@ -173,6 +173,6 @@ module _ (x : Join) (depth : ℕ) where
 
 -- THEOREM 1: where the walk by stretches answers 0, so does the walk of a copy, which leaves the same counters
 pub batch-answers : (x : Join) (depth i a n : ℕ) (c : List ℕ) → Counts c → batchWalk x i a n c .ans ≡ 0
-    → Leaves (copyWalk x (suc (suc depth)) i a n c) (batchWalk x i a n c .counts)
+    → Leaves (copyWalk x (suc (suc depth)) i a n c) (batchWalk x i a n c .counters)
 unfolding batchWalk copyWalk
-batch-answers x depth i a n c f h = node-same x depth i a n c (batchWalk x i a n c .counts) f (leaves-own h)
+batch-answers x depth i a n c f h = node-same x depth i a n c (batchWalk x i a n c .counters) f (leaves-own h)

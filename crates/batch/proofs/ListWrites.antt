@@ -28,7 +28,7 @@ use Rattle.batch.proofs.ListLogs.{numbers-are, rows-write}
 
 module _ (x : Join) (M : ℕ) (K : ℕ → ℕ → Type 0) (below child : Walk) (w i slot : ℕ) (good : ℕ → ℕ → List ℕ → Type 0) (roomy : List ℕ → Type 0)
     (cuts : Cuts (suc i) good (λ a n c. below (suc i) a n c) (λ a n c. child (suc i) a n c))
-    (logs : CutLogs (x .state) (x .parts) M K (suc i) roomy good (λ a n c. below (suc i) a n c) (λ a n c. child (suc i) a n c)) (big : half w ≤ top) (k1 : K i 1) (k2 : K i 2) where
+    (logs : CutLogs (x .plan) (x .parts) M K (suc i) roomy good (λ a n c. below (suc i) a n c) (λ a n c. child (suc i) a n c)) (big : half w ≤ top) (k1 : K i 1) (k2 : K i 2) where
   abbrev start : ℕ → ℕ
   start r = entry w (x .body) (place x i 3) (slot + r)
 
@@ -39,7 +39,7 @@ module _ (x : Join) (M : ℕ) (K : ℕ → ℕ → Type 0) (below child : Walk) 
   item r c = child (suc i) (start r) (size r) c
 
   abbrev own : Bool
-  own = ltb (suc i) 32 && (owned (x .state) i && owned (x .state) (suc i))
+  own = ltb (suc i) 32 && (owned (x .plan) i && owned (x .plan) (suc i))
 
   abbrev lie : ℕ → Bool
   lie n = rowsIn x (place x i 3) w slot n && rowsIn x (place x i 5) w slot n
@@ -55,7 +55,7 @@ module _ (x : Join) (M : ℕ) (K : ℕ → ℕ → Type 0) (below child : Walk) 
     pub t1 : own ≡ true
     pub t2 : lie n ≡ true
     pub t3 : fits n c ≡ true
-    pub left : Leaves (by n c) (batchListView x below w i slot n c .counts)
+    pub left : Leaves (by n c) (batchListView x below w i slot n c .counters)
 
   pub tested : (n : ℕ) (c : List ℕ) → batchListView x below w i slot n c .ans ≡ 0 → Tests n c
   unfolding batchListView
@@ -82,7 +82,7 @@ module _ (x : Join) (M : ℕ) (K : ℕ → ℕ → Type 0) (below child : Walk) 
 
   copy-log : (n : ℕ) (c : List ℕ) → Tests n c → copyListView x child w i slot n c .log ≡ each (listViewRow x child w i slot) n 0 c .log
   unfolding copyListView need
-  copy-log n c t = rw (and-left (ltb (suc i) 32) (owned (x .state) i && owned (x .state) (suc i)) (t .t1), t .t2)
+  copy-log n c t = rw (and-left (ltb (suc i) 32) (owned (x .plan) i && owned (x .plan) (suc i)) (t .t1), t .t2)
 
   sizes-are : (n : ℕ) → Below 256 (x .body) → lie n ≡ true → sizesOf n ≡ pieces (λ j. encode w (size (0 + j))) n
   unfolding rowsIn
@@ -96,23 +96,23 @@ module _ (x : Join) (M : ℕ) (K : ℕ → ℕ → Type 0) (below child : Walk) 
       same j = let e = mul-add w slot j in let z : slot + (0 + j) ≡ slot + j = omega arith in rw z (omega arith)
 
   -- A LIST-VIEW BY STRETCHES WRITES what its rows one after the other write
-  pub list-write : (n : ℕ) (c : List ℕ) → Counts c → Below 256 (x .body) → batchListView x below w i slot n c .ans ≡ 0 → roomy (batchListView x below w i slot n c .counts)
-      → (rows c i + n) * w ≤ span (x .state) (x .parts) M K i 1 → (rows c i + n) * w ≤ span (x .state) (x .parts) M K i 2
-      → Alike (x .state) (x .parts) M K (batchListView x below w i slot n c .log) (copyListView x child w i slot n c .log)
+  pub list-write : (n : ℕ) (c : List ℕ) → Counts c → Below 256 (x .body) → batchListView x below w i slot n c .ans ≡ 0 → roomy (batchListView x below w i slot n c .counters)
+      → (rows c i + n) * w ≤ span (x .plan) (x .parts) M K i 1 → (rows c i + n) * w ≤ span (x .plan) (x .parts) M K i 2
+      → Alike (x .plan) (x .parts) M K (batchListView x below w i slot n c .log) (copyListView x child w i slot n c .log)
   unfolding AllInside sumOf
   list-write n c f u h y s1 s2 =
       let t = tested n c h in
       let l = t .left in
-      let y2 : roomy (by n c .counts) = rw (l .left) y in
-      let st = stretches-write (x .state) (x .parts) M K (suc i) roomy good (λ a n c. below (suc i) a n c) (λ a n c. child (suc i) a n c) cuts logs start size n c f (l .ok) y2 in
+      let y2 : roomy (by n c .counters) = rw (l .left) y in
+      let st = stretches-write (x .plan) (x .parts) M K (suc i) roomy good (λ a n c. below (suc i) a n c) (λ a n c. child (suc i) a n c) cuts logs start size n c f (l .ok) y2 in
       let ea = stretches-each (suc i) good (λ a n c. below (suc i) a n c) (λ a n c. child (suc i) a n c) cuts start size n c f (l .ok) in
       let z : 0 + n ≡ n = zero-add n in
       let v : rows c (suc i) + sumOf size (0 + n) < half w = rw z (ltb-true _ _ (t .t3)) in
-      let rs = rows-write x M K below child w i slot good roomy cuts logs big k1 k2 (rows c (suc i)) (rows c i) n 0 c (by n c .counts) f refl (omega arith) v (rw z s1) (rw z s2) ea y2 in
+      let rs = rows-write x M K below child w i slot good roomy cuts logs big k1 k2 (rows c (suc i)) (rows c i) n 0 c (by n c .counters) f refl (omega arith) v (rw z s1) (rw z s2) ea y2 in
       let e0 : rows c i + 0 ≡ rows c i = add-zero (rows c i) in
       let e1 : pieces (λ j. encode w (rows c (suc i) + sumOf size (0 + j))) n ≡ offsetsOf n c = pieces-same _ _ n (λ j q. ap (λ v. encode w (rows c (suc i) + sumOf size v)) (zero-add j)) in
       let e2 = sizes-are n u (t .t2) in
-      let ab : Alike (x .state) (x .parts) M K (each (listViewRow x child w i slot) n 0 c .log) (put i 1 (rows c i * w) (offsetsOf n c) ∷ put i 2 (rows c i * w) (sizesOf n) ∷ each item n 0 c .log) = rw (e0, e1, ← e2) at rs in
-      let hd : AllInside (x .state) (x .parts) M K (put i 1 (rows c i * w) (offsetsOf n c) ∷ put i 2 (rows c i * w) (sizesOf n) ∷ []) = (ab .two .0, (ab .two .1 .0, tt)) in
+      let ab : Alike (x .plan) (x .parts) M K (each (listViewRow x child w i slot) n 0 c .log) (put i 1 (rows c i * w) (offsetsOf n c) ∷ put i 2 (rows c i * w) (sizesOf n) ∷ each item n 0 c .log) = rw (e0, e1, ← e2) at rs in
+      let hd : AllInside (x .plan) (x .parts) M K (put i 1 (rows c i * w) (offsetsOf n c) ∷ put i 2 (rows c i * w) (sizesOf n) ∷ []) = (ab .two .0, (ab .two .1 .0, tt)) in
       rw (batch-log n c t, copy-log n c t)
-      (alike-trans (x .state) (x .parts) M K (alike-append (x .state) (x .parts) M K (alike-refl (x .state) (x .parts) M K (put i 1 (rows c i * w) (offsetsOf n c) ∷ put i 2 (rows c i * w) (sizesOf n) ∷ []) hd) st) (alike-sym (x .state) (x .parts) M K ab))
+      (alike-trans (x .plan) (x .parts) M K (alike-append (x .plan) (x .parts) M K (alike-refl (x .plan) (x .parts) M K (put i 1 (rows c i * w) (offsetsOf n c) ∷ put i 2 (rows c i * w) (sizesOf n) ∷ []) hd) st) (alike-sym (x .plan) (x .parts) M K ab))

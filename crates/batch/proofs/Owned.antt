@@ -81,21 +81,21 @@ byte-a-row code r n h = go (isFixed code) refl (isString code) refl
         last false a true b = let g = leb-false code 10 a in absurd (bad (sym f ∙ rw (le-leb 11 code (omega arith), b)))
         last false a false b = let g = leb-false code 14 b in rw (needed-views code r n (rw (le-leb 15 code (omega arith), le-leb code 16 high))) (omega arith)
 
-module _ (state : List ℕ) (k : ℕ) (own : owned state k ≡ true) where
-  pub own-node : k < nodesOf state
-  own-node = ltb-true k (nodesOf state) (and-left _ (copied state k) own)
+module _ (plan : List ℕ) (k : ℕ) (own : owned plan k ≡ true) where
+  pub own-node : k < nodesOf plan
+  own-node = ltb-true k (nodesOf plan) (and-left _ (copied plan k) own)
 
-  own-copied : copied state k ≡ true
-  own-copied = and-right (ltb k (nodesOf state)) _ own
+  own-copied : copied plan k ≡ true
+  own-copied = and-right (ltb k (nodesOf plan)) _ own
 
-  pub used-one : 1 ≤ bufferCount (codeOf state k) → Used state k 1
+  pub used-one : 1 ≤ bufferCount (codeOf plan k) → Used plan k 1
   unfolding hasPart bufferParts
-  used-one h = record { node = own-node; part = rw own-copied (lt-ltb 0 (bufferCount (codeOf state k)) (omega arith)) }
+  used-one h = record { node = own-node; part = rw own-copied (lt-ltb 0 (bufferCount (codeOf plan k)) (omega arith)) }
 
-  pub used-two : 2 ≤ bufferCount (codeOf state k) → Used state k 2
+  pub used-two : 2 ≤ bufferCount (codeOf plan k) → Used plan k 2
   unfolding hasPart bufferParts
-  used-two h = record { node = own-node; part = rw own-copied (lt-ltb 1 (bufferCount (codeOf state k)) (omega arith)) }
+  used-two h = record { node = own-node; part = rw own-copied (lt-ltb 1 (bufferCount (codeOf plan k)) (omega arith)) }
 
-  pub used-bits : not (eqb (keepsOf state k) 0) ≡ true → codeOf state k < 21 → Used state k 0
+  pub used-bits : not (eqb (keepsOf plan k) 0) ≡ true → codeOf plan k < 21 → Used plan k 0
   unfolding hasPart validityParts
-  used-bits h l = record { node = own-node; part = rw (own-copied, h, lt-ltb (codeOf state k) 21 l) refl }
+  used-bits h l = record { node = own-node; part = rw (own-copied, h, lt-ltb (codeOf plan k) 21 l) refl }

@@ -23,7 +23,7 @@ and-right false false h = h
 
 -- kid: the walk of a copy at one node; below: its walk by stretches; good: what the second says of a range besides
 pub record Cuts (k : ℕ) (good : ℕ → ℕ → List ℕ → Type 0) (below kid : ℕ → ℕ → List ℕ → Out) : Type 0 where
-  pub same : (a n : ℕ) (c : List ℕ) → Counts c → below a n c .ans ≡ 0 → good a n c × Leaves (kid a n c) (below a n c .counts)
+  pub same : (a n : ℕ) (c : List ℕ) → Counts c → below a n c .ans ≡ 0 → good a n c × Leaves (kid a n c) (below a n c .counters)
   pub cut : (a m s : ℕ) (c d : List ℕ) → Counts c → good a (m + s) c → Leaves (kid a (m + s) c) d
       → good a m c × Leaves (next (kid a m c) (λ e. kid (a + m) s e)) d
   pub none : (a m o : ℕ) (c d : List ℕ) → Counts c → Counts d → good a m c → o ≤ a + m → good o 0 c × Leaves (kid o 0 d) d
@@ -39,7 +39,7 @@ module _ (k : ℕ) (good : ℕ → ℕ → List ℕ → Type 0) (below kid : ℕ
   abbrev pub Meets : ℕ → ℕ → ℕ → ℕ → List ℕ → List ℕ → Type 0
   Meets n r a m c z = good a m c × Leaves (next (kid a m c) (λ d. each row n r d)) z
 
-  module _ (n r : ℕ) (ih : (a m : ℕ) (c : List ℕ) → Counts c → stretch below start size n (suc r) a m c .ans ≡ 0 → Meets n (suc r) a m c (stretch below start size n (suc r) a m c .counts))
+  module _ (n r : ℕ) (ih : (a m : ℕ) (c : List ℕ) → Counts c → stretch below start size n (suc r) a m c .ans ≡ 0 → Meets n (suc r) a m c (stretch below start size n (suc r) a m c .counters))
       (a m : ℕ) (c : List ℕ) (f : Counts c) where
     abbrev More : List ℕ → Out
     More d = each row n (suc r) d
@@ -50,7 +50,7 @@ module _ (k : ℕ) (good : ℕ → ℕ → List ℕ → Type 0) (below kid : ℕ
     skipped e h o q =
         let p = next-start (kid a m c) More (q .1) in
         let g = cuts .step a m c _ f p .0 in
-        let z : Leaves (row r (kid a m c .counts)) (kid a m c .counts) = rw e (cuts .none a m (start r) c _ f g (q .0) h .1) in
+        let z : Leaves (row r (kid a m c .counters)) (kid a m c .counters) = rw e (cuts .none a m (start r) c _ f g (q .0) h .1) in
         (q .0, leaves-next _ p (leaves-next More z (next-rest (kid a m c) More (q .1))))
 
     -- a row behind the stretch
@@ -59,7 +59,7 @@ module _ (k : ℕ) (good : ℕ → ℕ → List ℕ → Type 0) (below kid : ℕ
     joined e o q =
         let p = next-start (kid a (m + size r) c) More (q .1) in
         let t = cuts .cut a m (size r) c _ f (q .0) p in
-        let z : Leaves (row r (kid a m c .counts)) (kid a (m + size r) c .counts) = rw e (next-rest (kid a m c) (λ e. kid (a + m) (size r) e) (t .1)) in
+        let z : Leaves (row r (kid a m c .counters)) (kid a (m + size r) c .counters) = rw e (next-rest (kid a m c) (λ e. kid (a + m) (size r) e) (t .1)) in
         (t .0, leaves-next _ (next-start (kid a m c) (λ e. kid (a + m) (size r) e) (t .1)) (leaves-next More z (next-rest (kid a (m + size r) c) More (q .1))))
 
     -- a stretch without rows is left
@@ -71,7 +71,7 @@ module _ (k : ℕ) (good : ℕ → ℕ → List ℕ → Type 0) (below kid : ℕ
 
     -- a stretch is walked
     walked : next (below a m c) (λ d. stretch below start size n (suc r) (start r) (size r) d) .ans ≡ 0
-        → Meets (suc n) r a m c (next (below a m c) (λ d. stretch below start size n (suc r) (start r) (size r) d) .counts)
+        → Meets (suc n) r a m c (next (below a m c) (λ d. stretch below start size n (suc r) (start r) (size r) d) .counters)
     unfolding each
     walked h =
         let on : List ℕ → Out = λ d. stretch below start size n (suc r) (start r) (size r) d in
@@ -79,13 +79,13 @@ module _ (k : ℕ) (good : ℕ → ℕ → List ℕ → Type 0) (below kid : ℕ
         let s = cuts .same a m c f b in
         let g = cuts .step a m c _ f (s .1) .0 in
         let l = next-last on (leaves-own b) h in
-        let q = ih (start r) (size r) (below a m c .counts) g (l .ok) in
+        let q = ih (start r) (size r) (below a m c .counters) g (l .ok) in
         (s .0, leaves-next (λ d. each row (suc n) r d) (s .1) (record { ok = q .1 .ok; left = q .1 .left ∙ l .left }))
 
     pick : (t u v : Bool) → (eqb (size r) 0 && leb (start r) (a + m)) ≡ t → eqb (start r) (a + m) ≡ u → (eqb m 0 && leb a (start r)) ≡ v
         → (o : Out) → o ≡ cond t (stretch below start size n (suc r) a m c) (cond u (stretch below start size n (suc r) a (m + size r) c)
         (cond v (stretch below start size n (suc r) (start r) (size r) c) (next (below a m c) (λ d. stretch below start size n (suc r) (start r) (size r) d))))
-        → o .ans ≡ 0 → Meets (suc n) r a m c (o .counts)
+        → o .ans ≡ 0 → Meets (suc n) r a m c (o .counters)
     pick true u v e p q o w h =
         rw w (skipped (eqb-true (size r) 0 (and-left _ (leb (start r) (a + m)) e)) (leb-true (start r) (a + m) (and-right (eqb (size r) 0) _ e)) _ (ih a m c f (rw w at h)))
     pick false true v e p q o w h = rw w (joined (eqb-true (start r) (a + m) p) _ (ih a (m + size r) c f (rw w at h)))
@@ -93,7 +93,7 @@ module _ (k : ℕ) (good : ℕ → ℕ → List ℕ → Type 0) (below kid : ℕ
         rw w (passed (eqb-true m 0 (and-left _ (leb a (start r)) q)) (leb-true a (start r) (and-right (eqb m 0) _ q)) _ (ih (start r) (size r) c f (rw w at h)))
     pick false false false e p q o w h = rw w (walked (rw w at h))
 
-  pub stretch-meets : (n r a m : ℕ) (c : List ℕ) → Counts c → stretch below start size n r a m c .ans ≡ 0 → Meets n r a m c (stretch below start size n r a m c .counts)
+  pub stretch-meets : (n r a m : ℕ) (c : List ℕ) → Counts c → stretch below start size n r a m c .ans ≡ 0 → Meets n r a m c (stretch below start size n r a m c .counters)
   unfolding stretch each
   stretch-meets zero r a m c f h =
       let s = cuts .same a m c f h in
@@ -103,12 +103,12 @@ module _ (k : ℕ) (good : ℕ → ℕ → List ℕ → Type 0) (below kid : ℕ
       (stretch below start size (suc n) r a m c) refl h
 
   -- BY STRETCHES IS ONE AFTER THE OTHER
-  pub stretches-each : (n : ℕ) (c : List ℕ) → Counts c → stretches below start size n c .ans ≡ 0 → Leaves (each row n 0 c) (stretches below start size n c .counts)
+  pub stretches-each : (n : ℕ) (c : List ℕ) → Counts c → stretches below start size n c .ans ≡ 0 → Leaves (each row n 0 c) (stretches below start size n c .counters)
   stretches-each n c f h =
       let q = stretch-meets n 0 0 0 c f h in
       let z = cuts .none 0 0 0 c c f f (q .0) (omega arith) in
       let p = next-rest (kid 0 0 c) (λ d. each row n 0 d) (q .1) in
-      subst (λ d. Leaves (each row n 0 d) (stretches below start size n c .counts)) (z .1 .left) p
+      subst (λ d. Leaves (each row n 0 d) (stretches below start size n c .counters)) (z .1 .left) p
 
 -- what a walk that answers 0 shows, stretches that answer 0 show
 pub stretch-shows : (walk : ℕ → ℕ → List ℕ → Out) (start size : ℕ → ℕ) {P : Type 0} → ((a m : ℕ) (c : List ℕ) → walk a m c .ans ≡ 0 → P)

@@ -72,9 +72,9 @@ module _ (k n z d : ℕ) (c : List ℕ) where
         getD-set-other (setBytes k (bytes c k + d) (addNulls k z c)) (3 * k) (3 * k + 2) (grown (rows (setBytes k (bytes c k + d) (addNulls k z c)) k) n) 0 (λ (e : 3 * k + 2 ≡ 3 * k). omega arith)
         ∙ getD-set-same (addNulls k z c) (3 * k + 2) (bytes c k + d) 0 (omega (arith, long-nulls))
 
-    pub tally-counts : Counts c → bytes c k + d ≤ top → Counts (tally k n z d c)
+    pub tally-counters : Counts c → bytes c k + d ≤ top → Counts (tally k n z d c)
     unfolding grown
-    tally-counts f h =
+    tally-counters f h =
         record {
           long = tally-long ∙ long;
           small = λ q. at-node k q (λ p. getD (tally k n z d c) p 0 ≤ top) (let e = tally-rows in omega arith) (let e = tally-nulls in omega arith)

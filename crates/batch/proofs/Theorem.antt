@@ -31,7 +31,7 @@ use Rattle.batch.proofs.LeafNode.{list-view-width}
 use Rattle.batch.proofs.LeafCuts.{good, leaf-cuts}
 use Rattle.batch.proofs.LeafLogs.{Roomy, L}
 use Rattle.batch.proofs.LeafCutLogs.{leaf-cut-logs}
-use Rattle.batch.proofs.ListViews.{mask-counts, list-data, child-leaf, data-same, batch-answers}
+use Rattle.batch.proofs.ListViews.{mask-counters, list-data, child-leaf, data-same, batch-answers}
 use Rattle.batch.proofs.Windows.{Keys, Room, AllInside, same-room}
 use Rattle.batch.proofs.Alike.{Window, Alike, alike-refl, alike-append, lays, lays-inside}
 use Rattle.batch.proofs.StretchLogs.{CutLogs, next-log}
@@ -39,12 +39,12 @@ use Rattle.batch.proofs.Owned.{one-buffer, string-buffers, list-buffers
 use Rattle.batch.proofs.Rising.{rise-keys}
 use Rattle.batch.specs.Dense.{batchDense}
 use Rattle.batch.proofs.ListViews.{dense-data}
-use Rattle.batch.proofs.DenseWhole.{Tests, tested, own-rows, end-counts, dense-write}
+use Rattle.batch.proofs.DenseWhole.{Tests, tested, own-rows, end-counters, dense-write}
 use Rattle.batch.proofs.Writes.{in-room, roomy-same, slots-write}
 
-module _ (x : Join) (depth M : ℕ) (body : Below 256 (x .body)) (less : M < top) (inside : partsWithin (x .state) (x .parts) M ≡ true) where
+module _ (x : Join) (depth M : ℕ) (body : Below 256 (x .body)) (less : M < top) (inside : partsWithin (x .plan) (x .parts) M ≡ true) where
   abbrev S : List ℕ
-  S = x .state
+  S = x .plan
 
   abbrev Al : Log → Log → Type 0
   Al l m = Alike S (x .parts) M (Used S) l m
@@ -56,7 +56,7 @@ module _ (x : Join) (depth M : ℕ) (body : Below 256 (x .body)) (less : M < top
     o = batchDense x (batchLeaf x) i slot n c
 
     abbrev c3 : List ℕ
-    c3 = o .counts
+    c3 = o .counters
 
     slots-are : batchSlots x (batchLeaf x) i slot n c ≡ next (done c) (λ e. next (batchData x (batchLeaf x) (codeOf S i) i slot n e) (λ e2. done (addRows i n e2)))
     unfolding batchSlots
@@ -87,7 +87,7 @@ module _ (x : Join) (depth M : ℕ) (body : Below 256 (x .body)) (less : M < top
     lp : Leaves (copyData x (copyWalk x (suc depth)) (codeOf S i) i slot n c) c3
     lp =
         let q = data-same x depth i slot n c f (rw data-is-dense (lo .ok)) in
-        record { ok = q .ok; left = q .left ∙ ap (λ y. y .counts) data-is-dense }
+        record { ok = q .ok; left = q .left ∙ ap (λ y. y .counters) data-is-dense }
 
     ts : Tests x depth i slot n c f c3
     ts = tested x depth i slot n c f c3 lo
@@ -122,7 +122,7 @@ module _ (x : Join) (depth M : ℕ) (body : Below 256 (x .body)) (less : M < top
     rows-end : rows (addRows i n c3) i ≡ rows c i + n
     unfolding grown
     rows-end =
-        let e = rows-added c3 (end-counts x depth i slot n c f c3 ts M (Used S) body rooms .long) i small n in
+        let e = rows-added c3 (end-counters x depth i slot n c f c3 ts M (Used S) body rooms .long) i small n in
         let g = own-rows x depth i slot n c f c3 ts M (Used S) body rooms in
         let r = room1 in
         let h = in-room x depth M body less inside i 1 k1 in
@@ -150,7 +150,7 @@ module _ (x : Join) (depth M : ℕ) (body : Below 256 (x .body)) (less : M < top
   is-list i slot n c d l =
       let m : Out = cond (masked (codeOf S i)) (copyMask x i slot n c) (done c) in
       let b = next-rest m (λ e. next (batchData x (batchLeaf x) (codeOf S i) i slot n e) (λ e2. done (addRows i n e2))) l in
-      λ e. list-data-was (codeOf S i) i slot n (m .counts) (next-start (batchData x (batchLeaf x) (codeOf S i) i slot n (m .counts)) (λ e2. done (addRows i n e2)) b .ok) e
+      λ e. list-data-was (codeOf S i) i slot n (m .counters) (next-start (batchData x (batchLeaf x) (codeOf S i) i slot n (m .counters)) (λ e2. done (addRows i n e2)) b .ok) e
 
   node-write : (i a n : ℕ) (c d : List ℕ) → Counts c → Leaves (batchNode x (batchLeaf x) i a n c) d → partsHold S d (x .parts) ≡ true
       → Al (batchNode x (batchLeaf x) i a n c .log) (copyNode x (copyWalk x (suc depth)) i a n c .log)
@@ -174,10 +174,10 @@ module _ (x : Join) (depth M : ℕ) (body : Below 256 (x .body)) (less : M < top
 
 -- THEOREM 2: where the walk by stretches answers 0, and the parts lie in the room, hold their bytes and rise, both walks leave the same room
 pub batch-writes : (x : Join) (depth i a n : ℕ) (c room : List ℕ) → Counts c → Below 256 (x .body) → Below 256 room → length room < top → batchWalk x i a n c .ans ≡ 0
-    → partsWithin (x .state) (x .parts) (length room) ≡ true → partsHold (x .state) (batchWalk x i a n c .counts) (x .parts) ≡ true → partsRise (x .state) (x .parts) ≡ true
-    → apply (x .state) (x .parts) (copyWalk x (suc (suc depth)) i a n c .log) room ≡ apply (x .state) (x .parts) (batchWalk x i a n c .log) room
+    → partsWithin (x .plan) (x .parts) (length room) ≡ true → partsHold (x .plan) (batchWalk x i a n c .counters) (x .parts) ≡ true → partsRise (x .plan) (x .parts) ≡ true
+    → apply (x .plan) (x .parts) (copyWalk x (suc (suc depth)) i a n c .log) room ≡ apply (x .plan) (x .parts) (batchWalk x i a n c .log) room
 unfolding batchWalk copyWalk
 batch-writes x depth i a n c room f body bytes-are less h inside hold rise =
-    let z = node-write x depth (length room) body less inside i a n c (batchWalk x i a n c .counts) f (leaves-own h) hold in
-    sym (same-room (x .state) (x .parts) (length room) (Used (x .state)) (rise-keys (x .state) (x .parts) (length room) rise inside) (batchWalk x i a n c .log) (copyWalk x (suc (suc depth)) i a n c .log)
+    let z = node-write x depth (length room) body less inside i a n c (batchWalk x i a n c .counters) f (leaves-own h) hold in
+    sym (same-room (x .plan) (x .parts) (length room) (Used (x .plan)) (rise-keys (x .plan) (x .parts) (length room) rise inside) (batchWalk x i a n c .log) (copyWalk x (suc (suc depth)) i a n c .log)
     (z .one) (z .two) room (record { long = refl; are-bytes = bytes-are }) (λ j b u w l v. z .same j b u w (record { long = l; are-bytes = v })))

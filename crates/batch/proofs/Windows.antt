@@ -42,12 +42,12 @@ within-append i b [] k w = refl
 within-append i b (e ∷ l) k w = within-append i b l k _
 
 -- where a byte stands: K are the parts
-module _ (state parts : List ℕ) (M : ℕ) (K : ℕ → ℕ → Type 0) where
+module _ (plan parts : List ℕ) (M : ℕ) (K : ℕ → ℕ → Type 0) where
   abbrev pub from : ℕ → ℕ → ℕ
-  from i b = startOf state parts i b
+  from i b = startOf plan parts i b
 
   abbrev pub span : ℕ → ℕ → ℕ
-  span i b = sizeOf state parts i b
+  span i b = sizeOf plan parts i b
 
   pub data Where (q : ℕ) : Type 0 where
     here : (i b : ℕ) → K i b → from i b ≤ q → q < from i b + span i b → Where q
@@ -119,7 +119,7 @@ module _ (state parts : List ℕ) (M : ℕ) (K : ℕ → ℕ → Type 0) where
 
   module _ (keys : Keys) where
     -- an entry writes its part anew
-    enter-is : (e : Entry) → Inside e → (s : List ℕ) → Room s → enter state parts e s ≡ splice (from (node e) (buffer e)) (inner e (window (from (node e) (buffer e)) (span (node e) (buffer e)) s)) s
+    enter-is : (e : Entry) → Inside e → (s : List ℕ) → Room s → enter plan parts e s ≡ splice (from (node e) (buffer e)) (inner e (window (from (node e) (buffer e)) (span (node e) (buffer e)) s)) s
     unfolding enter inRoom
     enter-is (put j e o bs) h s r =
         let k = keys .inside j e (h .0) in
@@ -149,7 +149,7 @@ module _ (state parts : List ℕ) (M : ℕ) (K : ℕ → ℕ → Type 0) where
       new : length (inner e (window A Z s)) ≡ Z
       new = inner-long e h (window A Z s) wide ∙ wide
 
-      pub enter-room : Room (enter state parts e s)
+      pub enter-room : Room (enter plan parts e s)
       enter-room =
           rw (enter-is e h s r)
           (record {
@@ -157,55 +157,55 @@ module _ (state parts : List ℕ) (M : ℕ) (K : ℕ → ℕ → Type 0) where
             are-bytes = below-splice 256 A (inner e (window A Z s)) s (inner-below e h (window A Z s) wide (below-take 256 Z (drop A s) (below-drop 256 A s (r .are-bytes)))) (r .are-bytes);
           })
 
-      enter-else : (q : ℕ) → (A ≤ q → q < A + Z → ⊥) → getD (enter state parts e s) q 0 ≡ getD s q 0
+      enter-else : (q : ℕ) → (A ≤ q → q < A + Z → ⊥) → getD (enter plan parts e s) q 0 ≡ getD s q 0
       enter-else q n =
           rw (enter-is e h s r)
           (three A (A + Z) q (λ y. splice-low A (inner e (window A Z s)) s (omega (arith, new, fit)) q y) (λ y z. absurd (n y z))
           (λ y. splice-high A (inner e (window A Z s)) s (omega (arith, new, fit)) q (omega (arith, new))))
 
-      enter-own : window A Z (enter state parts e s) ≡ inner e (window A Z s)
+      enter-own : window A Z (enter plan parts e s) ≡ inner e (window A Z s)
       enter-own =
           let g = enter-room .long in
           let m = r .long in
-          ext-getD 0 (window A Z (enter state parts e s)) (inner e (window A Z s)) (window-long A Z (enter state parts e s) (omega (arith, fit)) ∙ sym new)
+          ext-getD 0 (window A Z (enter plan parts e s)) (inner e (window A Z s)) (window-long A Z (enter plan parts e s) (omega (arith, fit)) ∙ sym new)
           (λ q y.
-          let l = window-long A Z (enter state parts e s) (omega (arith, fit)) in
-          window-at A Z (enter state parts e s) q (omega arith)
+          let l = window-long A Z (enter plan parts e s) (omega (arith, fit)) in
+          window-at A Z (enter plan parts e s) q (omega arith)
           ∙ rw (enter-is e h s r) (splice-own A (inner e (window A Z s)) s (omega (arith, new, fit)) (A + q) (omega arith) (omega (arith, new)))
           ∙ ap (λ v. getD (inner e (window A Z s)) v 0) (let d : A + q - A ≡ q = omega arith in d))
 
     -- one entry, seen at any part
     enter-window : (i b : ℕ) → K i b → (e : Entry) → Inside e → (s : List ℕ) → Room s
-        → window (from i b) (span i b) (enter state parts e s) ≡ cond (isAt i b e) (inner e (window (from i b) (span i b) s)) (window (from i b) (span i b) s)
+        → window (from i b) (span i b) (enter plan parts e s) ≡ cond (isAt i b e) (inner e (window (from i b) (span i b) s)) (window (from i b) (span i b) s)
     enter-window i b k e h s r = go (isAt i b e) refl
       where
-        go : (t : Bool) → isAt i b e ≡ t → window (from i b) (span i b) (enter state parts e s) ≡ cond t (inner e (window (from i b) (span i b) s)) (window (from i b) (span i b) s)
+        go : (t : Bool) → isAt i b e ≡ t → window (from i b) (span i b) (enter plan parts e s) ≡ cond t (inner e (window (from i b) (span i b) s)) (window (from i b) (span i b) s)
         go true g = let p = at-key i b e g in rw (p .0, p .1) (enter-own e h s r)
         go false g =
             let f = keys .inside i b k in
             let m = r .long in
             let n = enter-room e h s r .long in
-            let a = window-long (from i b) (span i b) (enter state parts e s) (omega arith) in
+            let a = window-long (from i b) (span i b) (enter plan parts e s) (omega arith) in
             let c = window-long (from i b) (span i b) s (omega arith) in
-            ext-getD 0 (window (from i b) (span i b) (enter state parts e s)) (window (from i b) (span i b) s) (a ∙ sym c)
+            ext-getD 0 (window (from i b) (span i b) (enter plan parts e s)) (window (from i b) (span i b) s) (a ∙ sym c)
             (λ q y.
-            window-at (from i b) (span i b) (enter state parts e s) q (omega arith)
+            window-at (from i b) (span i b) (enter plan parts e s) q (omega arith)
             ∙ enter-else e h s r (from i b + q) (λ u v. keys .apart i b (node e) (buffer e) k (in-key e h) (not-key i b e g) (from i b + q) (omega arith) (omega arith) u v)
             ∙ sym (window-at (from i b) (span i b) s q (omega arith)))
 
-    pub apply-room : (l : Log) → AllInside l → (s : List ℕ) → Room s → Room (apply state parts l s)
+    pub apply-room : (l : Log) → AllInside l → (s : List ℕ) → Room s → Room (apply plan parts l s)
     unfolding apply AllInside
     apply-room [] h s r = r
     apply-room (e ∷ l) h s r = apply-room l (h .1) _ (enter-room e (h .0) s r)
 
     -- A LOG, seen at one part
-    pub apply-window : (i b : ℕ) → K i b → (l : Log) → AllInside l → (s : List ℕ) → Room s → window (from i b) (span i b) (apply state parts l s) ≡ within i b l (window (from i b) (span i b) s)
+    pub apply-window : (i b : ℕ) → K i b → (l : Log) → AllInside l → (s : List ℕ) → Room s → window (from i b) (span i b) (apply plan parts l s) ≡ within i b l (window (from i b) (span i b) s)
     unfolding apply AllInside within
     apply-window i b k [] h s r = refl
     apply-window i b k (e ∷ l) h s r =
         apply-window i b k l (h .1) _ (enter-room e (h .0) s r) ∙ ap (within i b l) (enter-window i b k e (h .0) s r)
 
-    apply-else : (l : Log) → AllInside l → (s : List ℕ) → Room s → (q : ℕ) → ((i b : ℕ) → K i b → from i b ≤ q → q < from i b + span i b → ⊥) → getD (apply state parts l s) q 0 ≡ getD s q 0
+    apply-else : (l : Log) → AllInside l → (s : List ℕ) → Room s → (q : ℕ) → ((i b : ℕ) → K i b → from i b ≤ q → q < from i b + span i b → ⊥) → getD (apply plan parts l s) q 0 ≡ getD s q 0
     unfolding apply AllInside
     apply-else [] h s r q n = refl
     apply-else (e ∷ l) h s r q n =
@@ -213,21 +213,21 @@ module _ (state parts : List ℕ) (M : ℕ) (K : ℕ → ℕ → Type 0) where
 
     -- TWO LOGS THAT DO THE SAME TO EACH PART leave the same room
     pub same-room : (l k : Log) → AllInside l → AllInside k → (s : List ℕ) → Room s
-        → ((i b : ℕ) → K i b → (w : List ℕ) → length w ≡ span i b → Below 256 w → within i b l w ≡ within i b k w) → apply state parts l s ≡ apply state parts k s
+        → ((i b : ℕ) → K i b → (w : List ℕ) → length w ≡ span i b → Below 256 w → within i b l w ≡ within i b k w) → apply plan parts l s ≡ apply plan parts k s
     same-room l k h g s r f =
         let a = apply-room l h s r .long in
         let c = apply-room k g s r .long in
-        ext-getD 0 (apply state parts l s) (apply state parts k s) (a ∙ sym c) (λ q y. go q (keys .find q))
+        ext-getD 0 (apply plan parts l s) (apply plan parts k s) (a ∙ sym c) (λ q y. go q (keys .find q))
       where
         at : (x : Log) → AllInside x → (i b : ℕ) → K i b → (q : ℕ) → from i b ≤ q → q < from i b + span i b
-            → getD (apply state parts x s) q 0 ≡ getD (within i b x (window (from i b) (span i b) s)) (q - from i b) 0
+            → getD (apply plan parts x s) q 0 ≡ getD (within i b x (window (from i b) (span i b) s)) (q - from i b) 0
         at x j i b y q u v =
             let e : from i b + (q - from i b) ≡ q = omega arith in
-            ap (λ z. getD (apply state parts x s) z 0) (sym e)
-            ∙ sym (window-at (from i b) (span i b) (apply state parts x s) (q - from i b) (omega arith))
+            ap (λ z. getD (apply plan parts x s) z 0) (sym e)
+            ∙ sym (window-at (from i b) (span i b) (apply plan parts x s) (q - from i b) (omega arith))
             ∙ ap (λ z. getD z (q - from i b) 0) (apply-window i b y x j s r)
 
-        go : (q : ℕ) → Where q → getD (apply state parts l s) q 0 ≡ getD (apply state parts k s) q 0
+        go : (q : ℕ) → Where q → getD (apply plan parts l s) q 0 ≡ getD (apply plan parts k s) q 0
         go q (here i b y u v) =
             let m = r .long in
             let n = keys .inside i b y in

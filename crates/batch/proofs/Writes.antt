@@ -31,7 +31,7 @@ use Rattle.batch.proofs.LeafNode.{list-view-width}
 use Rattle.batch.proofs.LeafCuts.{good, leaf-cuts}
 use Rattle.batch.proofs.LeafLogs.{Roomy, L}
 use Rattle.batch.proofs.LeafCutLogs.{leaf-cut-logs}
-use Rattle.batch.proofs.ListViews.{mask-counts, list-data, child-leaf, data-same, batch-answers}
+use Rattle.batch.proofs.ListViews.{mask-counters, list-data, child-leaf, data-same, batch-answers}
 use Rattle.batch.proofs.Windows.{Keys, Room, AllInside, same-room}
 use Rattle.batch.proofs.Alike.{Window, Alike, alike-refl, alike-append, lays, lays-inside}
 use Rattle.batch.proofs.StretchLogs.{CutLogs, next-log}
@@ -40,20 +40,20 @@ use Rattle.batch.proofs.Owned.{one-buffer, string-buffers, list-buffers
 use Rattle.batch.proofs.Rising.{rise-keys}
 
 -- rows one after the other leave counters, and the rows of other nodes
-each-counts : (k : ℕ) (good : ℕ → ℕ → List ℕ → Type 0) (below kid : ℕ → ℕ → List ℕ → Out) → Cuts k good below kid → (start size : ℕ → ℕ) (n r : ℕ) (c d : List ℕ) → Counts c
+each-counters : (k : ℕ) (good : ℕ → ℕ → List ℕ → Type 0) (below kid : ℕ → ℕ → List ℕ → Out) → Cuts k good below kid → (start size : ℕ → ℕ) (n r : ℕ) (c d : List ℕ) → Counts c
     → Leaves (each (λ r c. kid (start r) (size r) c) n r c) d → Counts d × ((j : ℕ) → (j ≡ k → ⊥) → rows d j ≡ rows c j)
 unfolding each done
-each-counts k good below kid cuts start size zero r c d f l = rw (← l .left) (f, λ j h. refl)
-each-counts k good below kid cuts start size (suc n) r c d f l =
+each-counters k good below kid cuts start size zero r c d f l = rw (← l .left) (f, λ j h. refl)
+each-counters k good below kid cuts start size (suc n) r c d f l =
     let o : Out = kid (start r) (size r) c in
     let on : List ℕ → Out = λ e. each (λ r c. kid (start r) (size r) c) n (suc r) e in
-    let s = cuts .step (start r) (size r) c (o .counts) f (next-start o on l) in
-    let t = each-counts k good below kid cuts start size n (suc r) (o .counts) d (s .0) (next-rest o on l) in
+    let s = cuts .step (start r) (size r) c (o .counters) f (next-start o on l) in
+    let t = each-counters k good below kid cuts start size n (suc r) (o .counters) d (s .0) (next-rest o on l) in
     (t .0, λ j h. t .1 j h ∙ s .2 j h)
 
-module _ (x : Join) (depth M : ℕ) (body : Below 256 (x .body)) (less : M < top) (inside : partsWithin (x .state) (x .parts) M ≡ true) where
+module _ (x : Join) (depth M : ℕ) (body : Below 256 (x .body)) (less : M < top) (inside : partsWithin (x .plan) (x .parts) M ≡ true) where
   abbrev S : List ℕ
-  S = x .state
+  S = x .plan
 
   abbrev Al : Log → Log → Type 0
   Al l m = Alike S (x .parts) M (Used S) l m
@@ -110,7 +110,7 @@ module _ (x : Join) (depth M : ℕ) (body : Below 256 (x .body)) (less : M < top
 
     module _ (h : batchListView x (batchLeaf x) W i slot n c .ans ≡ 0) where
       abbrev c3 : List ℕ
-      c3 = batchListView x (batchLeaf x) W i slot n c .counts
+      c3 = batchListView x (batchLeaf x) W i slot n c .counters
 
       abbrev end : List ℕ
       end = addRows i n c3
@@ -155,7 +155,7 @@ module _ (x : Join) (depth M : ℕ) (body : Below 256 (x .body)) (less : M < top
       after : Counts c3 × ((j : ℕ) → (j ≡ suc i → ⊥) → rows c3 j ≡ rows c j)
       after =
           let l = stretches-each (suc i) (good x (suc i) leaf) (λ a n c. batchLeaf x (suc i) a n c) (λ a n c. kids (suc i) a n c) cuts start size n c f (by .ok) in
-          rw (by .left) at (each-counts (suc i) (good x (suc i) leaf) (λ a n c. batchLeaf x (suc i) a n c) (λ a n c. kids (suc i) a n c) cuts start size n 0 c _ f l)
+          rw (by .left) at (each-counters (suc i) (good x (suc i) leaf) (λ a n c. batchLeaf x (suc i) a n c) (λ a n c. kids (suc i) a n c) cuts start size n 0 c _ f l)
 
       module _ (hold : partsHold S end (x .parts) ≡ true) where
         room1 : rows end i * W ≤ sizeOf S (x .parts) i 1
@@ -196,7 +196,7 @@ module _ (x : Join) (depth M : ℕ) (body : Below 256 (x .body)) (less : M < top
     m = copyMask x i slot n c
 
     abbrev c2 : List ℕ
-    c2 = m .counts
+    c2 = m .counters
 
     abbrev o : Out
     o = batchListView x (batchLeaf x) (bytesOf S i) i slot n c2
@@ -226,25 +226,25 @@ module _ (x : Join) (depth M : ℕ) (body : Below 256 (x .body)) (less : M < top
     fits = mask-was x i slot n c (lm .ok)
 
     f2 : Counts c2
-    f2 = mask-counts x i small true slot n c c2 f lm
+    f2 = mask-counters x i small true slot n c c2 f lm
 
     l1 : Leaves (next o (λ e2. done (addRows i n e2))) d
     l1 = rw data-is-list at (next-rest m (λ e. next (batchData x (batchLeaf x) (codeOf S i) i slot n e) (λ e2. done (addRows i n e2))) l0)
 
-    lo : Leaves o (o .counts)
+    lo : Leaves o (o .counters)
     lo = next-start o (λ e2. done (addRows i n e2)) l1
 
-    end-is : addRows i n (o .counts) ≡ d
+    end-is : addRows i n (o .counters) ≡ d
     unfolding done
     end-is = next-rest o (λ e2. done (addRows i n e2)) l1 .left
 
-    hold2 : partsHold S (addRows i n (o .counts)) (x .parts) ≡ true
+    hold2 : partsHold S (addRows i n (o .counters)) (x .parts) ≡ true
     hold2 = rw end-is hold
 
-    lp : Leaves (copyData x (copyWalk x (suc depth)) (codeOf S i) i slot n c2) (o .counts)
+    lp : Leaves (copyData x (copyWalk x (suc depth)) (codeOf S i) i slot n c2) (o .counters)
     lp =
         let q = data-same x depth i slot n c2 f2 (rw data-is-list (lo .ok)) in
-        record { ok = q .ok; left = q .left ∙ ap (λ y. y .counts) data-is-list }
+        record { ok = q .ok; left = q .left ∙ ap (λ y. y .counters) data-is-list }
 
     rows-two : rows c2 i ≡ rows c i
     rows-two = ap (λ y. rows y i) (sym (lm .left) ∙ mask-goes x i slot n c f fits .left) ∙ rows-of-nulls c i (maskZeros x i slot n) i
@@ -256,7 +256,7 @@ module _ (x : Join) (depth M : ℕ) (body : Below 256 (x .body)) (less : M < top
         (lays-inside S (x .parts) M (Used S) (keeps x i) (mask i (rows c i) (bitsOf x i slot n))
         (λ t.
         let u = used-bits S i (own0 i small is slot n c2 f2 (lo .ok)) t few in
-        let b = bits-held S (addRows i n (o .counts)) (x .parts) hold2 i u in
+        let b = bits-held S (addRows i n (o .counters)) (x .parts) hold2 i u in
         let e = rows-end i small is slot n c2 f2 (lo .ok) hold2 in
         let g = rows-two in
         let k = bits-long x i slot n fits in

@@ -25,18 +25,18 @@ module _ (x : Join) where
   -- the rows a .. a + n - 1 of node k may be cut: the offsets of a byte string never fall, else a range cut is not that range
   unfoldable pub steady : ℕ → ℕ → ℕ → Bool
   steady k a n =
-      cond (isString (codeOf (x .state) k))
-      (neverFalls (bytesOf (x .state) k) (x .body) (place x k 3 + bytesOf (x .state) k * (offsetOf x k + a)) n) true
+      cond (isString (codeOf (x .plan) k))
+      (neverFalls (bytesOf (x .plan) k) (x .body) (place x k 3 + bytesOf (x .plan) k * (offsetOf x k + a)) n) true
 
   -- a node without children, as `copyWalk` walks it
   unfoldable pub batchLeaf : Walk
-  batchLeaf k a n c = need (isLeaf (codeOf (x .state) k)) 12 c (need (steady k a n) 12 c (copyWalk x 1 k a n c))
+  batchLeaf k a n c = need (isLeaf (codeOf (x .plan) k)) 12 c (need (steady k a n) 12 c (copyWalk x 1 k a n c))
 
   module _ (child : Walk) where
     -- a list-view: "each row's new offset is the child's length before its copy", which is the sum of the sizes before it; 6 before all of it
     unfoldable pub batchListView : ℕ → ℕ → ℕ → ℕ → List ℕ → Out
     batchListView w i slot n c =
-        need (ltb (suc i) 32 && (owned (x .state) i && owned (x .state) (suc i))) 12 c
+        need (ltb (suc i) 32 && (owned (x .plan) i && owned (x .plan) (suc i))) 12 c
         (need (rowsIn x (place x i 3) w slot n && rowsIn x (place x i 5) w slot n) 12 c
         (need (ltb (rows c (suc i) + sumOf (λ r. entry w (x .body) (place x i 5) (slot + r)) n) (half w)) 6 c
         (next (wrote (put i 1 (rows c i * w) (numbers w (λ r. rows c (suc i) + sumOf (λ q. entry w (x .body) (place x i 5) (slot + q)) r) n)) c)
@@ -44,13 +44,13 @@ module _ (x : Join) where
         (λ c3. stretches (λ a m d. child (suc i) a m d) (λ r. entry w (x .body) (place x i 3) (slot + r)) (λ r. entry w (x .body) (place x i 5) (slot + r)) n c3)))))
 
     unfoldable pub batchData : ℕ → ℕ → ℕ → ℕ → List ℕ → Out
-    batchData code i slot n c = cond (isListView code) (batchListView (bytesOf (x .state) i) i slot n c) (cond (eqb code 22) (batchDense x child i slot n c) (fail 12 c))
+    batchData code i slot n c = cond (isListView code) (batchListView (bytesOf (x .plan) i) i slot n c) (cond (eqb code 22) (batchDense x child i slot n c) (fail 12 c))
 
     -- validity, data, and the rows counted
     unfoldable pub batchSlots : ℕ → ℕ → ℕ → List ℕ → Out
     batchSlots i slot n c =
-        next (cond (masked (codeOf (x .state) i)) (copyMask x i slot n c) (done c))
-        (λ c2. next (batchData (codeOf (x .state) i) i slot n c2)
+        next (cond (masked (codeOf (x .plan) i)) (copyMask x i slot n c) (done c))
+        (λ c2. next (batchData (codeOf (x .plan) i) i slot n c2)
         (λ c3. done (addRows i n c3)))
 
     unfoldable pub batchNode : ℕ → ℕ → ℕ → List ℕ → Out

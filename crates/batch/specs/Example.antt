@@ -11,7 +11,7 @@ use Rattle.batch.specs.Batch.{batchWalk}
 abbrev pub sliced : Join
 sliced =
     record {
-      state = (17 ∷ 0 ∷ 2 ∷ 0 ∷ 0 ∷ 0 ∷ 0 ∷ 0 ∷ 3 ∷ 0 ∷ 2 ∷ 0 ∷ 0 ∷ 1 ∷ 3 ∷ 0 ∷ []) ++ replicate 849 0 ++ (2 ∷ []);
+      plan = (17 ∷ 0 ∷ 2 ∷ 0 ∷ 0 ∷ 0 ∷ 0 ∷ 0 ∷ 3 ∷ 0 ∷ 2 ∷ 0 ∷ 0 ∷ 1 ∷ 3 ∷ 0 ∷ []) ++ replicate 849 0 ++ (2 ∷ []);
       parts = 0 ∷ 24 ∷ 24 ∷ 24 ∷ 48 ∷ 2 ∷ 50 ∷ 16 ∷ [];
       lengths = 6 ∷ 1 ∷ 9 ∷ 1 ∷ [];
       places = 0 ∷ 0 ∷ 0 ∷ 0 ∷ 0 ∷ 28 ∷ 0 ∷ 0 ∷ 0 ∷ 1 ∷ 56 ∷ 0 ∷ 58 ∷ 0 ∷ 0 ∷ 0 ∷ 0 ∷ 0 ∷ [];
@@ -22,7 +22,7 @@ sliced =
 
 -- the answer, the counters and the room after a walk
 abbrev pub comesTo : Join → Out → List ℕ → ℕ × List ℕ × List ℕ
-comesTo x o room = (o .ans, o .counts, apply (x .state) (x .parts) (o .log) room)
+comesTo x o room = (o .ans, o .counters, apply (x .plan) (x .parts) (o .log) room)
 
 abbrev pub byRows : ℕ × List ℕ × List ℕ
 byRows = comesTo sliced (copyWalk sliced 2 0 1 5 (replicate 96 0)) (replicate 66 255)
@@ -34,7 +34,7 @@ byStretches = comesTo sliced (batchWalk sliced 0 1 5 (replicate 96 0)) (replicat
 abbrev pub union : Join
 union =
     record {
-      state = (22 ∷ 0 ∷ 3 ∷ 0 ∷ 0 ∷ 0 ∷ 0 ∷ 0 ∷ 3 ∷ 0 ∷ 2 ∷ 0 ∷ 0 ∷ 1 ∷ 3 ∷ 0 ∷ 12 ∷ 0 ∷ 3 ∷ 5 ∷ 0 ∷ 0 ∷ 4 ∷ 0 ∷ []) ++ replicate 841 0 ++ (3 ∷ []);
+      plan = (22 ∷ 0 ∷ 3 ∷ 0 ∷ 0 ∷ 0 ∷ 0 ∷ 0 ∷ 3 ∷ 0 ∷ 2 ∷ 0 ∷ 0 ∷ 1 ∷ 3 ∷ 0 ∷ 12 ∷ 0 ∷ 3 ∷ 5 ∷ 0 ∷ 0 ∷ 4 ∷ 0 ∷ []) ++ replicate 841 0 ++ (3 ∷ []);
       parts = 0 ∷ 6 ∷ 6 ∷ 24 ∷ 30 ∷ 1 ∷ 31 ∷ 6 ∷ 37 ∷ 16 ∷ 53 ∷ 7 ∷ [];
       lengths = 6 ∷ 1 ∷ 7 ∷ 1 ∷ 3 ∷ 0 ∷ [];
       places = 0 ∷ 0 ∷ 0 ∷ 0 ∷ 0 ∷ 7 ∷ 0 ∷ 0 ∷ 0 ∷ 1 ∷ 35 ∷ 0 ∷ 36 ∷ 0 ∷ 0 ∷ 0 ∷ 0 ∷ 0 ∷ 0 ∷ 0 ∷ 0 ∷ 52 ∷ 0 ∷ 68 ∷ 0 ∷ 0 ∷ 0 ∷ [];

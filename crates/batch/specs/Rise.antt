@@ -9,16 +9,16 @@ use Rattle.plan.specs.parts.Parts.{nodesOf, copied, hasPart, sizeOf}
 
 -- the plan counts node i, and its buffers have parts
 abbrev pub owned : List ℕ → ℕ → Bool
-owned state i = ltb i (nodesOf state) && copied state i
+owned plan i = ltb i (nodesOf plan) && copied plan i
 
-module _ (state parts : List ℕ) where
+module _ (plan parts : List ℕ) where
   -- the part of buffer b of node i, if it has one, starts at or behind the byte `end`
   abbrev pub behind : ℕ → ℕ → ℕ → Bool
-  behind i b end = onlyIf (hasPart state i b) (leb end (startOf state parts i b))
+  behind i b end = onlyIf (hasPart plan i b) (leb end (startOf plan parts i b))
 
   -- where it ends, and `end` if there is none
   abbrev pub stop : ℕ → ℕ → ℕ → ℕ
-  stop i b end = cond (hasPart state i b) (startOf state parts i b + sizeOf state parts i b) end
+  stop i b end = cond (hasPart plan i b) (startOf plan parts i b + sizeOf plan parts i b) end
 
   -- those of n nodes from node i on, one behind the other from the byte `end` on
   unfoldable pub riseFrom : ℕ → ℕ → ℕ → Bool
@@ -28,4 +28,4 @@ module _ (state parts : List ℕ) where
 
   -- "each starts at or behind the end of the one before"
   abbrev pub partsRise : Bool
-  partsRise = riseFrom (nodesOf state) 0 0
+  partsRise = riseFrom (nodesOf plan) 0 0

@@ -17,13 +17,13 @@ use nested_rows::lookups;
 use walk::plan_words;
 
 // Whether the nodes below the root are of numbers, and keep no nulls.
-fn plain_below(state: &[u64]) -> bool
-    ensures { λ r. ⌜ r ≡ plainBelow (now (state .entry)) ⌝ }
+fn plain_below(plan: &[u64]) -> bool
+    ensures { λ r. ⌜ r ≡ plainBelow (now (plan .entry)) ⌝ }
 {
-    let end = plan_words::end_of(state, 0);
+    let end = plan_words::end_of(plan, 0);
     let mut k: usize = 1;
     while k < end {
-        if !numbers::is_plain(state, k) {
+        if !numbers::is_plain(plan, k) {
             return false;
         }
         k += 1;
@@ -32,53 +32,53 @@ fn plain_below(state: &[u64]) -> bool
 }
 
 // Whether the root is a list-view that keeps no nulls, of numbers that keep none.
-fn is_listed(state: &[u64]) -> bool
-    ensures { λ r. ⌜ r ≡ isListed (now (state .entry)) ⌝ }
+fn is_listed(plan: &[u64]) -> bool
+    ensures { λ r. ⌜ r ≡ isListed (now (plan .entry)) ⌝ }
 {
-    if !schema::formats::is_list_view(plan_words::code_of(state, 0)) {
+    if !schema::formats::is_list_view(plan_words::code_of(plan, 0)) {
         return false;
     }
-    if plan_words::keeps_of(state, 0) != 0 {
+    if plan_words::keeps_of(plan, 0) != 0 {
         return false;
     }
-    numbers::is_plain(state, 1)
+    numbers::is_plain(plan, 1)
 }
 
 // Whether the walk is written for a type: such a list-view, or a dense union of such numbers.
-pub fn is_stretched(state: &[u64]) -> bool
-    ensures { λ r. ⌜ r ≡ isStretched (now (state .entry)) ⌝ }
+pub fn is_stretched(plan: &[u64]) -> bool
+    ensures { λ r. ⌜ r ≡ isStretched (now (plan .entry)) ⌝ }
 {
-    if plan_words::code_of(state, 0) == 22 {
-        return plain_below(state);
+    if plan_words::code_of(plan, 0) == 22 {
+        return plain_below(plan);
     }
-    is_listed(state)
+    is_listed(plan)
 }
 
 // The data of the rows slot .. slot + n - 1.
 fn copy_data(
-    state: &[u64],
+    plan: &[u64],
     parts: &[u64],
     lengths: &[u64],
     places: &[u64],
     body: &[u8],
-    counts: &mut [u64; plan_words::COUNTERS],
+    counters: &mut [u64; plan_words::COUNTERS],
     room: &mut [u8],
     write: bool,
     first: usize,
     slot: u64,
     n: u64,
 ) -> u8
-    requires { ⌜ (first < 2 ^ 32) × (slot + n < 2 ^ 63) × (isStretched (now state) ≡ true) ⌝ }
-    ensures { λ g. ⌜ ((source : ℕ) → Did (now (state .entry)) (now (parts .entry)) write (batchData (join (now (state .entry)) (now (parts .entry)) (now (lengths .entry)) (now (places .entry)) (now (body .entry)) first source) (batchLeaf (join (now (state .entry)) (now (parts .entry)) (now (lengths .entry)) (now (places .entry)) (now (body .entry)) first source)) (codeOf (now (state .entry)) 0) 0 slot n (now (counts .entry))) (now (room .entry)) g (now (counts .exit)) (now (room .exit))) ⌝ }
+    requires { ⌜ (first < 2 ^ 32) × (slot + n < 2 ^ 63) × (isStretched (now plan) ≡ true) ⌝ }
+    ensures { λ g. ⌜ ((source : ℕ) → Did (now (plan .entry)) (now (parts .entry)) write (batchData (join (now (plan .entry)) (now (parts .entry)) (now (lengths .entry)) (now (places .entry)) (now (body .entry)) first source) (batchLeaf (join (now (plan .entry)) (now (parts .entry)) (now (lengths .entry)) (now (places .entry)) (now (body .entry)) first source)) (codeOf (now (plan .entry)) 0) 0 slot n (now (counters .entry))) (now (room .entry)) g (now (counters .exit)) (now (room .exit))) ⌝ }
 {
-    if plan_words::code_of(state, 0) == 22 {
+    if plan_words::code_of(plan, 0) == 22 {
         return dense_union::copy_dense(
-            state,
+            plan,
             parts,
             lengths,
             places,
             body,
-            counts,
+            counters,
             room,
             write,
             first,
@@ -87,14 +87,14 @@ fn copy_data(
             n,
         );
     }
-    let w = lookups::width_at(state, 0);
+    let w = lookups::width_at(plan, 0);
     list_view::copy_list_view(
-        state,
+        plan,
         parts,
         lengths,
         places,
         body,
-        counts,
+        counters,
         room,
         write,
         first,
@@ -107,32 +107,32 @@ fn copy_data(
 
 // The rows a .. a + n - 1.
 pub fn copy_by_stretches(
-    state: &[u64],
+    plan: &[u64],
     parts: &[u64],
     lengths: &[u64],
     places: &[u64],
     body: &[u8],
-    counts: &mut [u64; plan_words::COUNTERS],
+    counters: &mut [u64; plan_words::COUNTERS],
     room: &mut [u8],
     write: bool,
     first: usize,
     a: u64,
     n: u64,
 ) -> u8
-    requires { ⌜ (first < 2 ^ 32) × (isStretched (now state) ≡ true) ⌝ }
-    ensures { λ g. ⌜ ((source : ℕ) → Did (now (state .entry)) (now (parts .entry)) write (batchWalk (join (now (state .entry)) (now (parts .entry)) (now (lengths .entry)) (now (places .entry)) (now (body .entry)) first source) 0 a n (now (counts .entry))) (now (room .entry)) g (now (counts .exit)) (now (room .exit))) ⌝ }
+    requires { ⌜ (first < 2 ^ 32) × (isStretched (now plan) ≡ true) ⌝ }
+    ensures { λ g. ⌜ ((source : ℕ) → Did (now (plan .entry)) (now (parts .entry)) write (batchWalk (join (now (plan .entry)) (now (parts .entry)) (now (lengths .entry)) (now (places .entry)) (now (body .entry)) first source) 0 a n (now (counters .entry))) (now (room .entry)) g (now (counters .exit)) (now (room .exit))) ⌝ }
 {
     let slot = lookups::slot_of(lengths, first, 0, a, n);
     if plan_words::FAR <= slot {
         return 12;
     }
     let g = copy_data(
-        state,
+        plan,
         parts,
         lengths,
         places,
         body,
-        counts,
+        counters,
         room,
         write,
         first,
@@ -142,6 +142,6 @@ pub fn copy_by_stretches(
     if g != 0 {
         return g;
     }
-    plan_words::add_rows(counts, 0, n);
+    plan_words::add_rows(counters, 0, n);
     0
 }

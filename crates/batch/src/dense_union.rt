@@ -69,12 +69,12 @@ fn advance(
 
 // The stretches of child k.
 fn copy_stretches(
-    state: &[u64],
+    plan: &[u64],
     parts: &[u64],
     lengths: &[u64],
     places: &[u64],
     body: &[u8],
-    counts: &mut [u64; plan_words::COUNTERS],
+    counters: &mut [u64; plan_words::COUNTERS],
     room: &mut [u8],
     write: bool,
     first: usize,
@@ -85,23 +85,23 @@ fn copy_stretches(
     n: u64,
     k: usize,
 ) -> u8
-    requires { ⌜ (first < 2 ^ 32) × (k < 32) × (isPlain (now state) k ≡ true) ⌝ }
+    requires { ⌜ (first < 2 ^ 32) × (k < 32) × (isPlain (now plan) k ≡ true) ⌝ }
     requires { ⌜ (ids + (slot + n) ≤ length (now body)) × (positions + 4 * (slot + n) ≤ length (now body)) × (slot + n < 2 ^ 63) ⌝ }
-    ensures { λ g. ⌜ ((source : ℕ) → Did (now (state .entry)) (now (parts .entry)) write (stretches (λ a m d. batchLeaf (join (now (state .entry)) (now (parts .entry)) (now (lengths .entry)) (now (places .entry)) (now (body .entry)) first source) k a m d) (takesFrom (λ r. homeBy (now (homes .entry)) (now (body .entry)) (ids + (slot + r))) (λ r. entry 4 (now (body .entry)) positions (slot + r)) k) (takesOf (λ r. homeBy (now (homes .entry)) (now (body .entry)) (ids + (slot + r))) k) n (now (counts .entry))) (now (room .entry)) g (now (counts .exit)) (now (room .exit))) ⌝ }
+    ensures { λ g. ⌜ ((source : ℕ) → Did (now (plan .entry)) (now (parts .entry)) write (stretches (λ a m d. batchLeaf (join (now (plan .entry)) (now (parts .entry)) (now (lengths .entry)) (now (places .entry)) (now (body .entry)) first source) k a m d) (takesFrom (λ r. homeBy (now (homes .entry)) (now (body .entry)) (ids + (slot + r))) (λ r. entry 4 (now (body .entry)) positions (slot + r)) k) (takesOf (λ r. homeBy (now (homes .entry)) (now (body .entry)) (ids + (slot + r))) k) n (now (counters .entry))) (now (room .entry)) g (now (counters .exit)) (now (room .exit))) ⌝ }
 {
-    let w = lookups::width_at(state, k);
+    let w = lookups::width_at(plan, k);
     let mut a: u64 = 0;
     let mut m: u64 = 0;
     let mut r: u64 = 0;
     while r <= n {
         let t = advance(homes, body, ids, positions, slot, n, k, r, a, m);
         let g = numbers::copy_stretch(
-            state,
+            plan,
             parts,
             lengths,
             places,
             body,
-            counts,
+            counters,
             room,
             write,
             first,
@@ -135,7 +135,7 @@ fn all_reached(
     end: u64,
 ) -> bool
     requires { ⌜ (first < 2 ^ 32) × (k < 32) × (w ≤ 16) ⌝ }
-    ensures { λ r. ⌜ ((state parts : List ℕ) (source : ℕ) → r ≡ (not write && reached (join state parts (now (lengths .entry)) (now (places .entry)) (now (body .entry)) first source) k w end)) ⌝ }
+    ensures { λ r. ⌜ ((plan parts : List ℕ) (source : ℕ) → r ≡ (not write && reached (join plan parts (now (lengths .entry)) (now (places .entry)) (now (body .entry)) first source) k w end)) ⌝ }
 {
     if write {
         return false;
@@ -145,12 +145,12 @@ fn all_reached(
 
 // The rows of child k: `total` of them, which reach to `end`, and all from `begin` on if they are whole.
 fn copy_child(
-    state: &[u64],
+    plan: &[u64],
     parts: &[u64],
     lengths: &[u64],
     places: &[u64],
     body: &[u8],
-    counts: &mut [u64; plan_words::COUNTERS],
+    counters: &mut [u64; plan_words::COUNTERS],
     room: &mut [u8],
     write: bool,
     first: usize,
@@ -165,25 +165,25 @@ fn copy_child(
     total: u64,
     end: u64,
 ) -> u8
-    requires { ⌜ (first < 2 ^ 32) × (k < 32) × (isPlain (now state) k ≡ true) ⌝ }
+    requires { ⌜ (first < 2 ^ 32) × (k < 32) × (isPlain (now plan) k ≡ true) ⌝ }
     requires { ⌜ (ids + (slot + n) ≤ length (now body)) × (positions + 4 * (slot + n) ≤ length (now body)) × (slot + n < 2 ^ 63) ⌝ }
     requires { ⌜ (total ≡ sumOf (takesOf (λ r. homeBy (now homes) (now body) (ids + (slot + r))) k) n) × (end ≡ furthestOf (λ q. takesFrom (λ r. homeBy (now homes) (now body) (ids + (slot + r))) (λ r. entry 4 (now body) positions (slot + r)) k q + takesOf (λ r. homeBy (now homes) (now body) (ids + (slot + r))) k q) n) ⌝ }
     requires { ⌜ (whole ≡ true → (walk : ℕ → ℕ → List ℕ → Out) (c : List ℕ) → stretches walk (takesFrom (λ r. homeBy (now homes) (now body) (ids + (slot + r))) (λ r. entry 4 (now body) positions (slot + r)) k) (takesOf (λ r. homeBy (now homes) (now body) (ids + (slot + r))) k) n c ≡ walk begin total c) ⌝ }
-    ensures { λ g. ⌜ ((source : ℕ) → Did (now (state .entry)) (now (parts .entry)) write (stretches (λ a m d. batchLeaf (join (now (state .entry)) (now (parts .entry)) (now (lengths .entry)) (now (places .entry)) (now (body .entry)) first source) k a m d) (takesFrom (λ r. homeBy (now (homes .entry)) (now (body .entry)) (ids + (slot + r))) (λ r. entry 4 (now (body .entry)) positions (slot + r)) k) (takesOf (λ r. homeBy (now (homes .entry)) (now (body .entry)) (ids + (slot + r))) k) n (now (counts .entry))) (now (room .entry)) g (now (counts .exit)) (now (room .exit))) ⌝ }
+    ensures { λ g. ⌜ ((source : ℕ) → Did (now (plan .entry)) (now (parts .entry)) write (stretches (λ a m d. batchLeaf (join (now (plan .entry)) (now (parts .entry)) (now (lengths .entry)) (now (places .entry)) (now (body .entry)) first source) k a m d) (takesFrom (λ r. homeBy (now (homes .entry)) (now (body .entry)) (ids + (slot + r))) (λ r. entry 4 (now (body .entry)) positions (slot + r)) k) (takesOf (λ r. homeBy (now (homes .entry)) (now (body .entry)) (ids + (slot + r))) k) n (now (counters .entry))) (now (room .entry)) g (now (counters .exit)) (now (room .exit))) ⌝ }
 {
-    let w = lookups::width_at(state, k);
+    let w = lookups::width_at(plan, k);
     if all_reached(lengths, places, body, write, first, k, w, end) {
-        plan_words::add_rows(counts, k, total);
+        plan_words::add_rows(counters, k, total);
         return 0;
     }
     if whole {
         return numbers::copy_stretch(
-            state,
+            plan,
             parts,
             lengths,
             places,
             body,
-            counts,
+            counters,
             room,
             write,
             first,
@@ -194,12 +194,12 @@ fn copy_child(
         );
     }
     copy_stretches(
-        state,
+        plan,
         parts,
         lengths,
         places,
         body,
-        counts,
+        counters,
         room,
         write,
         first,
@@ -214,12 +214,12 @@ fn copy_child(
 
 // The rows of the children of node i, one child after the other.
 fn copy_children(
-    state: &[u64],
+    plan: &[u64],
     parts: &[u64],
     lengths: &[u64],
     places: &[u64],
     body: &[u8],
-    counts: &mut [u64; plan_words::COUNTERS],
+    counters: &mut [u64; plan_words::COUNTERS],
     room: &mut [u8],
     write: bool,
     first: usize,
@@ -234,33 +234,33 @@ fn copy_children(
     slot: u64,
     n: u64,
 ) -> u8
-    requires { ⌜ (first < 2 ^ 32) × (i < 32) × ((j : ℕ) → i < j → j < endOf (now state) i → isPlain (now state) j ≡ true) ⌝ }
+    requires { ⌜ (first < 2 ^ 32) × (i < 32) × ((j : ℕ) → i < j → j < endOf (now plan) i → isPlain (now plan) j ≡ true) ⌝ }
     requires { ⌜ (ids + (slot + n) ≤ length (now body)) × (positions + 4 * (slot + n) ≤ length (now body)) × (slot + n < 2 ^ 63) ⌝ }
-    requires { ⌜ Homed (now state) i (now homes) × (ids ≡ place (join [] [] [] (now places) [] first 0) i 3) × (positions ≡ place (join [] [] [] (now places) [] first 0) i 5) ⌝ }
+    requires { ⌜ Homed (now plan) i (now homes) × (ids ≡ place (join [] [] [] (now places) [] first 0) i 3) × (positions ≡ place (join [] [] [] (now places) [] first 0) i 5) ⌝ }
     requires { ⌜ Fallen (λ r. homeBy (now homes) (now body) (ids + (slot + r))) (λ r. entry 4 (now body) positions (slot + r)) n n whole (now begins) (now taken) (now ends) ⌝ }
-    ensures { λ g. ⌜ ((source : ℕ) → Did (now (state .entry)) (now (parts .entry)) write (batchFields (join (now (state .entry)) (now (parts .entry)) (now (lengths .entry)) (now (places .entry)) (now (body .entry)) first source) (batchLeaf (join (now (state .entry)) (now (parts .entry)) (now (lengths .entry)) (now (places .entry)) (now (body .entry)) first source)) i slot n (endOf (now (state .entry)) i) 32 (suc i) (now (counts .entry))) (now (room .entry)) g (now (counts .exit)) (now (room .exit))) ⌝ }
+    ensures { λ g. ⌜ ((source : ℕ) → Did (now (plan .entry)) (now (parts .entry)) write (batchFields (join (now (plan .entry)) (now (parts .entry)) (now (lengths .entry)) (now (places .entry)) (now (body .entry)) first source) (batchLeaf (join (now (plan .entry)) (now (parts .entry)) (now (lengths .entry)) (now (places .entry)) (now (body .entry)) first source)) i slot n (endOf (now (plan .entry)) i) 32 (suc i) (now (counters .entry))) (now (room .entry)) g (now (counters .exit)) (now (room .exit))) ⌝ }
 {
-    let last = plan_words::end_of(state, i);
+    let last = plan_words::end_of(plan, i);
     let mut k = i + 1;
     let mut t: usize = 0;
     while t < 32 {
         if last <= k {
             return 0;
         }
-        let next = plan_words::end_of(state, k);
+        let next = plan_words::end_of(plan, k);
         if next <= k {
             return 12;
         }
-        if !list_view::is_owned(state, k) {
+        if !list_view::is_owned(plan, k) {
             return 12;
         }
         let g = copy_child(
-            state,
+            plan,
             parts,
             lengths,
             places,
             body,
-            counts,
+            counters,
             room,
             write,
             first,
@@ -286,12 +286,12 @@ fn copy_children(
 
 // A dense union whose children are of numbers without validity.
 pub fn copy_dense(
-    state: &[u64],
+    plan: &[u64],
     parts: &[u64],
     lengths: &[u64],
     places: &[u64],
     body: &[u8],
-    counts: &mut [u64; plan_words::COUNTERS],
+    counters: &mut [u64; plan_words::COUNTERS],
     room: &mut [u8],
     write: bool,
     first: usize,
@@ -299,10 +299,10 @@ pub fn copy_dense(
     slot: u64,
     n: u64,
 ) -> u8
-    requires { ⌜ (first < 2 ^ 32) × (i < 32) × (slot + n < 2 ^ 63) × ((j : ℕ) → i < j → j < endOf (now state) i → isPlain (now state) j ≡ true) ⌝ }
-    ensures { λ g. ⌜ ((source : ℕ) → Did (now (state .entry)) (now (parts .entry)) write (batchDense (join (now (state .entry)) (now (parts .entry)) (now (lengths .entry)) (now (places .entry)) (now (body .entry)) first source) (batchLeaf (join (now (state .entry)) (now (parts .entry)) (now (lengths .entry)) (now (places .entry)) (now (body .entry)) first source)) i slot n (now (counts .entry))) (now (room .entry)) g (now (counts .exit)) (now (room .exit))) ⌝ }
+    requires { ⌜ (first < 2 ^ 32) × (i < 32) × (slot + n < 2 ^ 63) × ((j : ℕ) → i < j → j < endOf (now plan) i → isPlain (now plan) j ≡ true) ⌝ }
+    ensures { λ g. ⌜ ((source : ℕ) → Did (now (plan .entry)) (now (parts .entry)) write (batchDense (join (now (plan .entry)) (now (parts .entry)) (now (lengths .entry)) (now (places .entry)) (now (body .entry)) first source) (batchLeaf (join (now (plan .entry)) (now (parts .entry)) (now (lengths .entry)) (now (places .entry)) (now (body .entry)) first source)) i slot n (now (counters .entry))) (now (room .entry)) g (now (counters .exit)) (now (room .exit))) ⌝ }
 {
-    if !list_view::is_owned(state, i) {
+    if !list_view::is_owned(plan, i) {
         return 12;
     }
     if !nested_rows::pairs_in(places, body, first, i, 1, 4, slot, n) {
@@ -310,13 +310,13 @@ pub fn copy_dense(
     }
     let ids = lent_tables::place(places, first + i, 3);
     let positions = lent_tables::place(places, first + i, 5);
-    let homes = homes::homes_of(state, i);
+    let homes = homes::homes_of(plan, i);
     let mut begins = [0u64; 32];
     let mut taken = [0u64; 32];
     let mut ends = [0u64; 32];
     let seen = survey::survey(
         &homes,
-        counts,
+        counters,
         body,
         ids,
         positions,
@@ -329,42 +329,31 @@ pub fn copy_dense(
     if !seen.sound {
         return 12;
     }
-    let rows = plan_words::rows_of(counts, i);
+    let rows = plan_words::rows_of(counters, i);
     let from = ids + slot;
-    room_writes::put_copy(
-        state,
-        parts,
-        room,
-        write,
-        i,
-        1,
-        rows,
-        body,
-        from as usize,
-        n,
-    );
+    room_writes::put_copy(plan, parts, room, write, i, 1, rows, body, from as usize, n);
     let o = plan_words::scale(rows, 4);
     survey::put_lands(
-        state,
+        plan,
         parts,
         room,
         write,
         i,
         o,
         &homes,
-        counts,
+        counters,
         body,
         ids,
         slot,
         n,
     );
     copy_children(
-        state,
+        plan,
         parts,
         lengths,
         places,
         body,
-        counts,
+        counters,
         room,
         write,
         first,

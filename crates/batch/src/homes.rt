@@ -19,21 +19,21 @@ fn first_of(had: u8, k: u8) -> u8
 }
 
 // The child of each id; 32 where there is none.
-pub fn homes_of(state: &[u64], i: usize) -> [u8; 256]
+pub fn homes_of(plan: &[u64], i: usize) -> [u8; 256]
     requires { ⌜ i < 32 ⌝ }
-    ensures { λ r. ⌜ Homed (now (state .entry)) i r ⌝ }
+    ensures { λ r. ⌜ Homed (now (plan .entry)) i r ⌝ }
 {
     let mut homes = [32u8; 256];
-    let end = plan_words::end_of(state, i);
+    let end = plan_words::end_of(plan, i);
     let mut k = i + 1;
     let mut t: usize = 0;
     while t < 32 {
         if end <= k {
             return homes;
         }
-        let id = plan_words::id_of(state, k) as usize;
+        let id = plan_words::id_of(plan, k) as usize;
         homes[id] = first_of(homes[id], k as u8);
-        k = plan_words::end_of(state, k);
+        k = plan_words::end_of(plan, k);
         t += 1;
     }
     homes

@@ -22,28 +22,28 @@ use nested_rows::lookups;
 use walk::plan_words;
 
 // Whether the plan counts node i, and its buffers have parts.
-pub fn is_owned(state: &[u64], i: usize) -> bool
+pub fn is_owned(plan: &[u64], i: usize) -> bool
     requires { ⌜ i < 32 ⌝ }
-    ensures { λ r. ⌜ r ≡ owned (now (state .entry)) i ⌝ }
+    ensures { λ r. ⌜ r ≡ owned (now (plan .entry)) i ⌝ }
 {
-    if plan::parts::node_count(state) <= i {
+    if plan::parts::node_count(plan) <= i {
         return false;
     }
-    plan::parts::is_copied(state, i)
+    plan::parts::is_copied(plan, i)
 }
 
 // Whether it does of node i and of node i + 1, its child.
-fn has_child(state: &[u64], i: usize) -> bool
+fn has_child(plan: &[u64], i: usize) -> bool
     requires { ⌜ i < 32 ⌝ }
-    ensures { λ r. ⌜ r ≡ (ltb (suc i) 32 && (owned (now (state .entry)) i && owned (now (state .entry)) (suc i))) ⌝ }
+    ensures { λ r. ⌜ r ≡ (ltb (suc i) 32 && (owned (now (plan .entry)) i && owned (now (plan .entry)) (suc i))) ⌝ }
 {
     if 31 <= i {
         return false;
     }
-    if !is_owned(state, i) {
+    if !is_owned(plan, i) {
         return false;
     }
-    is_owned(state, i + 1)
+    is_owned(plan, i + 1)
 }
 
 // The stretch that begins with the rows a .. a + m - 1, where row `from` of the list-view is looked at next.
@@ -92,12 +92,12 @@ fn advance(
 
 // The stretches of a child of numbers, for offsets and sizes of w bytes.
 fn copy_number_stretches(
-    state: &[u64],
+    plan: &[u64],
     parts: &[u64],
     lengths: &[u64],
     places: &[u64],
     body: &[u8],
-    counts: &mut [u64; plan_words::COUNTERS],
+    counters: &mut [u64; plan_words::COUNTERS],
     room: &mut [u8],
     write: bool,
     first: usize,
@@ -106,27 +106,27 @@ fn copy_number_stretches(
     slot: u64,
     n: u64,
 ) -> u8
-    requires { ⌜ (first < 2 ^ 32) × (i + 1 < 32) × (slot + n < 2 ^ 63) × (isPlain (now state) (suc i) ≡ true) ⌝ }
+    requires { ⌜ (first < 2 ^ 32) × (i + 1 < 32) × (slot + n < 2 ^ 63) × (isPlain (now plan) (suc i) ≡ true) ⌝ }
     requires { ⌜ (place (join [] [] [] (now places) [] first 0) i 3 + w * (slot + n) ≤ length (now body)) × (place (join [] [] [] (now places) [] first 0) i 5 + w * (slot + n) ≤ length (now body)) ⌝ }
     requires { ⌜ sumOf (λ q. entry w (now body) (place (join [] [] [] (now places) [] first 0) i 5) (slot + q)) n < 2 ^ 63 ⌝ }
     requires { ⌜ ((w ≡ 4 → ⊥) → w ≡ 8) ⌝ }
-    ensures { λ g. ⌜ ((source : ℕ) → Did (now (state .entry)) (now (parts .entry)) write (stretches (λ a m d. batchLeaf (join (now (state .entry)) (now (parts .entry)) (now (lengths .entry)) (now (places .entry)) (now (body .entry)) first source) (suc i) a m d) (λ r. entry w (now (body .entry)) (place (join (now (state .entry)) (now (parts .entry)) (now (lengths .entry)) (now (places .entry)) (now (body .entry)) first source) i 3) (slot + r)) (λ r. entry w (now (body .entry)) (place (join (now (state .entry)) (now (parts .entry)) (now (lengths .entry)) (now (places .entry)) (now (body .entry)) first source) i 5) (slot + r)) n (now (counts .entry))) (now (room .entry)) g (now (counts .exit)) (now (room .exit))) ⌝ }
+    ensures { λ g. ⌜ ((source : ℕ) → Did (now (plan .entry)) (now (parts .entry)) write (stretches (λ a m d. batchLeaf (join (now (plan .entry)) (now (parts .entry)) (now (lengths .entry)) (now (places .entry)) (now (body .entry)) first source) (suc i) a m d) (λ r. entry w (now (body .entry)) (place (join (now (plan .entry)) (now (parts .entry)) (now (lengths .entry)) (now (places .entry)) (now (body .entry)) first source) i 3) (slot + r)) (λ r. entry w (now (body .entry)) (place (join (now (plan .entry)) (now (parts .entry)) (now (lengths .entry)) (now (places .entry)) (now (body .entry)) first source) i 5) (slot + r)) n (now (counters .entry))) (now (room .entry)) g (now (counters .exit)) (now (room .exit))) ⌝ }
 {
     let offsets = lent_tables::place(places, first + i, 3);
     let sizes = lent_tables::place(places, first + i, 5);
-    let v = lookups::width_at(state, i + 1);
+    let v = lookups::width_at(plan, i + 1);
     let mut a: u64 = 0;
     let mut m: u64 = 0;
     let mut r: u64 = 0;
     while r < n {
         let t = advance(body, offsets, sizes, w, slot, n, r, a, m);
         let g = numbers::copy_stretch(
-            state,
+            plan,
             parts,
             lengths,
             places,
             body,
-            counts,
+            counters,
             room,
             write,
             first,
@@ -146,12 +146,12 @@ fn copy_number_stretches(
         r = t.next + 1;
     }
     numbers::copy_stretch(
-        state,
+        plan,
         parts,
         lengths,
         places,
         body,
-        counts,
+        counters,
         room,
         write,
         first,
@@ -178,7 +178,7 @@ fn none_refused(
     requires { ⌜ (first < 2 ^ 32) × (i + 1 < 32) × (slot + n < 2 ^ 63) × (v ≤ 16) ⌝ }
     requires { ⌜ (place (join [] [] [] (now places) [] first 0) i 3 + w * (slot + n) ≤ length (now body)) × (place (join [] [] [] (now places) [] first 0) i 5 + w * (slot + n) ≤ length (now body)) ⌝ }
     requires { ⌜ ((w ≡ 4 → ⊥) → w ≡ 8) ⌝ }
-    ensures { λ r. ⌜ ((state parts : List ℕ) (source : ℕ) → r ≡ (not write && reached (join state parts (now (lengths .entry)) (now (places .entry)) (now (body .entry)) first source) (suc i) v (furthestOf (λ q. entry w (now (body .entry)) (place (join state parts (now (lengths .entry)) (now (places .entry)) (now (body .entry)) first source) i 3) (slot + q) + entry w (now (body .entry)) (place (join state parts (now (lengths .entry)) (now (places .entry)) (now (body .entry)) first source) i 5) (slot + q)) n))) ⌝ }
+    ensures { λ r. ⌜ ((plan parts : List ℕ) (source : ℕ) → r ≡ (not write && reached (join plan parts (now (lengths .entry)) (now (places .entry)) (now (body .entry)) first source) (suc i) v (furthestOf (λ q. entry w (now (body .entry)) (place (join plan parts (now (lengths .entry)) (now (places .entry)) (now (body .entry)) first source) i 3) (slot + q) + entry w (now (body .entry)) (place (join plan parts (now (lengths .entry)) (now (places .entry)) (now (body .entry)) first source) i 5) (slot + q)) n))) ⌝ }
 {
     if write {
         return false;
@@ -191,12 +191,12 @@ fn none_refused(
 
 // The stretches of a child of numbers, which have `total` rows together.
 fn copy_numbers(
-    state: &[u64],
+    plan: &[u64],
     parts: &[u64],
     lengths: &[u64],
     places: &[u64],
     body: &[u8],
-    counts: &mut [u64; plan_words::COUNTERS],
+    counters: &mut [u64; plan_words::COUNTERS],
     room: &mut [u8],
     write: bool,
     first: usize,
@@ -206,24 +206,24 @@ fn copy_numbers(
     n: u64,
     total: u64,
 ) -> u8
-    requires { ⌜ (first < 2 ^ 32) × (i + 1 < 32) × (slot + n < 2 ^ 63) × (isPlain (now state) (suc i) ≡ true) ⌝ }
+    requires { ⌜ (first < 2 ^ 32) × (i + 1 < 32) × (slot + n < 2 ^ 63) × (isPlain (now plan) (suc i) ≡ true) ⌝ }
     requires { ⌜ (place (join [] [] [] (now places) [] first 0) i 3 + w * (slot + n) ≤ length (now body)) × (place (join [] [] [] (now places) [] first 0) i 5 + w * (slot + n) ≤ length (now body)) ⌝ }
     requires { ⌜ (sumOf (λ q. entry w (now body) (place (join [] [] [] (now places) [] first 0) i 5) (slot + q)) n < 2 ^ 63) × (total ≡ sumOf (λ q. entry w (now body) (place (join [] [] [] (now places) [] first 0) i 5) (slot + q)) n) ⌝ }
     requires { ⌜ ((w ≡ 4 → ⊥) → w ≡ 8) ⌝ }
-    ensures { λ g. ⌜ ((source : ℕ) → Did (now (state .entry)) (now (parts .entry)) write (stretches (λ a m d. batchLeaf (join (now (state .entry)) (now (parts .entry)) (now (lengths .entry)) (now (places .entry)) (now (body .entry)) first source) (suc i) a m d) (λ r. entry w (now (body .entry)) (place (join (now (state .entry)) (now (parts .entry)) (now (lengths .entry)) (now (places .entry)) (now (body .entry)) first source) i 3) (slot + r)) (λ r. entry w (now (body .entry)) (place (join (now (state .entry)) (now (parts .entry)) (now (lengths .entry)) (now (places .entry)) (now (body .entry)) first source) i 5) (slot + r)) n (now (counts .entry))) (now (room .entry)) g (now (counts .exit)) (now (room .exit))) ⌝ }
+    ensures { λ g. ⌜ ((source : ℕ) → Did (now (plan .entry)) (now (parts .entry)) write (stretches (λ a m d. batchLeaf (join (now (plan .entry)) (now (parts .entry)) (now (lengths .entry)) (now (places .entry)) (now (body .entry)) first source) (suc i) a m d) (λ r. entry w (now (body .entry)) (place (join (now (plan .entry)) (now (parts .entry)) (now (lengths .entry)) (now (places .entry)) (now (body .entry)) first source) i 3) (slot + r)) (λ r. entry w (now (body .entry)) (place (join (now (plan .entry)) (now (parts .entry)) (now (lengths .entry)) (now (places .entry)) (now (body .entry)) first source) i 5) (slot + r)) n (now (counters .entry))) (now (room .entry)) g (now (counters .exit)) (now (room .exit))) ⌝ }
 {
-    let v = lookups::width_at(state, i + 1);
+    let v = lookups::width_at(plan, i + 1);
     if none_refused(lengths, places, body, write, first, i, w, v, slot, n) {
-        plan_words::add_rows(counts, i + 1, total);
+        plan_words::add_rows(counters, i + 1, total);
         return 0;
     }
     copy_number_stretches(
-        state,
+        plan,
         parts,
         lengths,
         places,
         body,
-        counts,
+        counters,
         room,
         write,
         first,
@@ -236,12 +236,12 @@ fn copy_numbers(
 
 // A list-view with offsets of w bytes, whose child is of numbers without validity.
 pub fn copy_list_view(
-    state: &[u64],
+    plan: &[u64],
     parts: &[u64],
     lengths: &[u64],
     places: &[u64],
     body: &[u8],
-    counts: &mut [u64; plan_words::COUNTERS],
+    counters: &mut [u64; plan_words::COUNTERS],
     room: &mut [u8],
     write: bool,
     first: usize,
@@ -250,25 +250,25 @@ pub fn copy_list_view(
     slot: u64,
     n: u64,
 ) -> u8
-    requires { ⌜ (first < 2 ^ 32) × (i + 1 < 32) × (slot + n < 2 ^ 63) × (isPlain (now state) (suc i) ≡ true) ⌝ }
+    requires { ⌜ (first < 2 ^ 32) × (i + 1 < 32) × (slot + n < 2 ^ 63) × (isPlain (now plan) (suc i) ≡ true) ⌝ }
     requires { ⌜ ((w ≡ 4 → ⊥) → w ≡ 8) ⌝ }
-    ensures { λ g. ⌜ ((source : ℕ) → Did (now (state .entry)) (now (parts .entry)) write (batchListView (join (now (state .entry)) (now (parts .entry)) (now (lengths .entry)) (now (places .entry)) (now (body .entry)) first source) (batchLeaf (join (now (state .entry)) (now (parts .entry)) (now (lengths .entry)) (now (places .entry)) (now (body .entry)) first source)) w i slot n (now (counts .entry))) (now (room .entry)) g (now (counts .exit)) (now (room .exit))) ⌝ }
+    ensures { λ g. ⌜ ((source : ℕ) → Did (now (plan .entry)) (now (parts .entry)) write (batchListView (join (now (plan .entry)) (now (parts .entry)) (now (lengths .entry)) (now (places .entry)) (now (body .entry)) first source) (batchLeaf (join (now (plan .entry)) (now (parts .entry)) (now (lengths .entry)) (now (places .entry)) (now (body .entry)) first source)) w i slot n (now (counters .entry))) (now (room .entry)) g (now (counters .exit)) (now (room .exit))) ⌝ }
 {
-    if !has_child(state, i) {
+    if !has_child(plan, i) {
         return 12;
     }
     if !nested_rows::pairs_in(places, body, first, i, w, w, slot, n) {
         return 12;
     }
     let sizes = lent_tables::place(places, first + i, 5);
-    let rows = plan_words::rows_of(counts, i + 1);
+    let rows = plan_words::rows_of(counters, i + 1);
     let sum = sizes::sum_sizes(body, sizes, w, slot, n, rows);
     if !sizes::is_offset(w, sum) {
         return 6;
     }
-    let o = plan_words::scale(plan_words::rows_of(counts, i), w);
+    let o = plan_words::scale(plan_words::rows_of(counters, i), w);
     sizes::put_sums(
-        state,
+        plan,
         parts,
         room,
         write,
@@ -283,7 +283,7 @@ pub fn copy_list_view(
     );
     let from = sizes + w * slot;
     room_writes::put_copy(
-        state,
+        plan,
         parts,
         room,
         write,
@@ -295,12 +295,12 @@ pub fn copy_list_view(
         w * n,
     );
     copy_numbers(
-        state,
+        plan,
         parts,
         lengths,
         places,
         body,
-        counts,
+        counters,
         room,
         write,
         first,

@@ -44,7 +44,7 @@ fn copy_few(room: &mut [u8], at: usize, body: &[u8], from: usize, n: usize)
 
 // n bytes of body from `from` on, as the entries of node k from its byte o on.
 fn put_few(
-    state: &[u64],
+    plan: &[u64],
     parts: &[u64],
     room: &mut [u8],
     write: bool,
@@ -55,26 +55,26 @@ fn put_few(
     n: u64,
 )
     requires { ⌜ (k < 32) × (from + n ≤ length (now body)) ⌝ }
-    ensures { λ _. ⌜ now (room .exit) ≡ applyIf (now (state .entry)) (now (parts .entry)) write (put k 1 o (take n (drop from (now (body .entry)))) ∷ []) (now (room .entry)) ⌝ }
+    ensures { λ _. ⌜ now (room .exit) ≡ applyIf (now (plan .entry)) (now (parts .entry)) write (put k 1 o (take n (drop from (now (body .entry)))) ∷ []) (now (room .entry)) ⌝ }
 {
-    match plan_words::target(state, parts, room.len(), write, k, 1, o, n) {
+    match plan_words::target(plan, parts, room.len(), write, k, 1, o, n) {
         plan_words::Goal::At(at) => copy_few(room, at, body, from, n as usize),
         plan_words::Goal::Skip => {}
     }
 }
 
 // Whether node k is of numbers, and keeps no nulls.
-pub fn is_plain(state: &[u64], k: usize) -> bool
+pub fn is_plain(plan: &[u64], k: usize) -> bool
     requires { ⌜ k < 32 ⌝ }
-    ensures { λ r. ⌜ r ≡ isPlain (now (state .entry)) k ⌝ }
+    ensures { λ r. ⌜ r ≡ isPlain (now (plan .entry)) k ⌝ }
 {
-    if !schema::formats::is_fixed(plan_words::code_of(state, k)) {
+    if !schema::formats::is_fixed(plan_words::code_of(plan, k)) {
         return false;
     }
-    if plan_words::dictionary_of(state, k) != 0 {
+    if plan_words::dictionary_of(plan, k) != 0 {
         return false;
     }
-    plan_words::keeps_of(state, k) == 0
+    plan_words::keeps_of(plan, k) == 0
 }
 
 // Whether the entries of w bytes of node k before row `end` stand in the body.
@@ -88,7 +88,7 @@ pub fn reaches(
     end: u64,
 ) -> bool
     requires { ⌜ (first < 2 ^ 32) × (k < 32) × (w ≤ 16) ⌝ }
-    ensures { λ r. ⌜ ((state parts : List ℕ) (source : ℕ) → r ≡ reached (join state parts (now (lengths .entry)) (now (places .entry)) (now (body .entry)) first source) k w end) ⌝ }
+    ensures { λ r. ⌜ ((plan parts : List ℕ) (source : ℕ) → r ≡ reached (join plan parts (now (lengths .entry)) (now (places .entry)) (now (body .entry)) first source) k w end) ⌝ }
 {
     let slot = lookups::slot_of(lengths, first, k, end, 0);
     if plan_words::FAR <= slot {
@@ -99,12 +99,12 @@ pub fn reaches(
 
 // The rows a .. a + n - 1 of node k, whose entries have w bytes.
 pub fn copy_stretch(
-    state: &[u64],
+    plan: &[u64],
     parts: &[u64],
     lengths: &[u64],
     places: &[u64],
     body: &[u8],
-    counts: &mut [u64; plan_words::COUNTERS],
+    counters: &mut [u64; plan_words::COUNTERS],
     room: &mut [u8],
     write: bool,
     first: usize,
@@ -113,8 +113,8 @@ pub fn copy_stretch(
     a: u64,
     n: u64,
 ) -> u8
-    requires { ⌜ (first < 2 ^ 32) × (k < 32) × (1 ≤ w) × (w ≤ 16) × (w ≡ bytesOf (now state) k) × (isPlain (now state) k ≡ true) ⌝ }
-    ensures { λ g. ⌜ ((source : ℕ) → Did (now (state .entry)) (now (parts .entry)) write (batchLeaf (join (now (state .entry)) (now (parts .entry)) (now (lengths .entry)) (now (places .entry)) (now (body .entry)) first source) k a n (now (counts .entry))) (now (room .entry)) g (now (counts .exit)) (now (room .exit))) ⌝ }
+    requires { ⌜ (first < 2 ^ 32) × (k < 32) × (1 ≤ w) × (w ≤ 16) × (w ≡ bytesOf (now plan) k) × (isPlain (now plan) k ≡ true) ⌝ }
+    ensures { λ g. ⌜ ((source : ℕ) → Did (now (plan .entry)) (now (parts .entry)) write (batchLeaf (join (now (plan .entry)) (now (parts .entry)) (now (lengths .entry)) (now (places .entry)) (now (body .entry)) first source) k a n (now (counters .entry))) (now (room .entry)) g (now (counters .exit)) (now (room .exit))) ⌝ }
 {
     let slot = lookups::slot_of(lengths, first, k, a, n);
     if plan_words::FAR <= slot {
@@ -124,9 +124,9 @@ pub fn copy_stretch(
     if !leaf_walk::rows_in(body, at, w, slot, n) {
         return 12;
     }
-    let o = plan_words::scale(plan_words::rows_of(counts, k), w);
+    let o = plan_words::scale(plan_words::rows_of(counters, k), w);
     let from = at + w * slot;
-    put_few(state, parts, room, write, k, o, body, from as usize, w * n);
-    plan_words::add_rows(counts, k, n);
+    put_few(plan, parts, room, write, k, o, body, from as usize, w * n);
+    plan_words::add_rows(counters, k, n);
     0
 }

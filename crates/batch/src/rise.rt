@@ -9,14 +9,14 @@ use array_data::lent_tables;
 use walk::plan_words;
 
 // Where the part of buffer b of node i ends, if it has one; the largest number if it starts before the byte `end`.
-fn end_behind(state: &[u64], parts: &[u64], i: usize, b: usize, end: u64) -> u64
+fn end_behind(plan: &[u64], parts: &[u64], i: usize, b: usize, end: u64) -> u64
     requires { ⌜ (i < 32) × (b < 3) ⌝ }
-    ensures { λ r. ⌜ r ≡ endBehind (now (state .entry)) (now (parts .entry)) i b end ⌝ }
+    ensures { λ r. ⌜ r ≡ endBehind (now (plan .entry)) (now (parts .entry)) i b end ⌝ }
 {
-    if !plan::parts::has_part(state, i, b) {
+    if !plan::parts::has_part(plan, i, b) {
         return end;
     }
-    let p = plan::parts::number_of(state, i, b);
+    let p = plan::parts::number_of(plan, i, b);
     let start = lent_tables::at_u64(parts, 2 * p);
     if start < end {
         return u64::MAX;
@@ -25,16 +25,16 @@ fn end_behind(state: &[u64], parts: &[u64], i: usize, b: usize, end: u64) -> u64
 }
 
 // Whether each part starts at or behind the end of the one before, and the last ends below the largest number.
-pub fn parts_rise(state: &[u64], parts: &[u64]) -> bool
-    ensures { λ r. ⌜ r ≡ ltb (endFrom (now (state .entry)) (now (parts .entry)) (nodesOf (now (state .entry))) 0 0) top ⌝ }
+pub fn parts_rise(plan: &[u64], parts: &[u64]) -> bool
+    ensures { λ r. ⌜ r ≡ ltb (endFrom (now (plan .entry)) (now (parts .entry)) (nodesOf (now (plan .entry))) 0 0) top ⌝ }
 {
-    let n = plan::parts::node_count(state);
+    let n = plan::parts::node_count(plan);
     let mut end: u64 = 0;
     let mut i: usize = 0;
     while i < n {
-        let validity = end_behind(state, parts, i, 0, end);
-        let first = end_behind(state, parts, i, 1, validity);
-        end = end_behind(state, parts, i, 2, first);
+        let validity = end_behind(plan, parts, i, 0, end);
+        let first = end_behind(plan, parts, i, 1, validity);
+        end = end_behind(plan, parts, i, 2, first);
         i += 1;
     }
     end < u64::MAX

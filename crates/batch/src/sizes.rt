@@ -114,7 +114,7 @@ fn write_sums(
 
 // The same, as the offsets of node i from its byte o on.
 pub fn put_sums(
-    state: &[u64],
+    plan: &[u64],
     parts: &[u64],
     room: &mut [u8],
     write: bool,
@@ -129,10 +129,10 @@ pub fn put_sums(
 )
     requires { ⌜ (i < 32) × (at + w * (slot + n) ≤ length (now body)) × (slot + n < 2 ^ 63) × (rows + sumOf (λ q. entry w (now body) at (slot + q)) n < 2 ^ 63) ⌝ }
     requires { ⌜ ((w ≡ 4 → ⊥) → w ≡ 8) ⌝ }
-    ensures { λ _. ⌜ now (room .exit) ≡ applyIf (now (state .entry)) (now (parts .entry)) write (put i 1 o (numbers w (λ r. rows + sumOf (λ q. entry w (now (body .entry)) at (slot + q)) r) n) ∷ []) (now (room .entry)) ⌝ }
+    ensures { λ _. ⌜ now (room .exit) ≡ applyIf (now (plan .entry)) (now (parts .entry)) write (put i 1 o (numbers w (λ r. rows + sumOf (λ q. entry w (now (body .entry)) at (slot + q)) r) n) ∷ []) (now (room .entry)) ⌝ }
 {
     match plan_words::target(
-        state,
+        plan,
         parts,
         room.len(),
         write,

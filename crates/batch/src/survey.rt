@@ -42,7 +42,7 @@ fn still(whole: bool, a: u64, b: u64) -> bool
 // The rows that fall to each child: where its first stretch begins, how many they are, and how far they reach.
 pub fn survey(
     homes: &[u8; 256],
-    counts: &[u64; plan_words::COUNTERS],
+    counters: &[u64; plan_words::COUNTERS],
     body: &[u8],
     ids: u64,
     positions: u64,
@@ -54,7 +54,7 @@ pub fn survey(
 ) -> Fall
     requires { ⌜ (ids + (slot + n) ≤ length (now body)) × (positions + 4 * (slot + n) ≤ length (now body)) × (slot + n < 2 ^ 63) ⌝ }
     requires { ⌜ (now begins ≡ replicate 32 0) × (now taken ≡ replicate 32 0) × (now ends ≡ replicate 32 0) ⌝ }
-    ensures { λ s. ⌜ s .sound ≡ allLand (λ r. homeBy (now (homes .entry)) (now (body .entry)) (ids + (slot + r))) (now (counts .entry)) n ⌝ }
+    ensures { λ s. ⌜ s .sound ≡ allLand (λ r. homeBy (now (homes .entry)) (now (body .entry)) (ids + (slot + r))) (now (counters .entry)) n ⌝ }
     ensures { λ s. ⌜ (s .sound ≡ true → Fallen (λ r. homeBy (now (homes .entry)) (now (body .entry)) (ids + (slot + r))) (λ r. entry 4 (now (body .entry)) positions (slot + r)) n n (s .whole) (now (begins .exit)) (now (taken .exit)) (now (ends .exit))) ⌝ }
 {
     let mut whole = true;
@@ -68,7 +68,7 @@ pub fn survey(
             };
         }
         let t = taken[k];
-        if 2147483648 <= plan_words::grow(plan_words::rows_of(counts, k), t) {
+        if 2147483648 <= plan_words::grow(plan_words::rows_of(counters, k), t) {
             return Fall {
                 sound: false,
                 whole: false,
@@ -86,13 +86,13 @@ pub fn survey(
 }
 
 // The rows of every node.
-fn rows_of_all(counts: &[u64; plan_words::COUNTERS]) -> [u64; 32]
-    ensures { λ r. ⌜ (length r ≡ 32) × ((k : ℕ) → k < 32 → getD r k 0 ≡ rows (now (counts .entry)) k) ⌝ }
+fn rows_of_all(counters: &[u64; plan_words::COUNTERS]) -> [u64; 32]
+    ensures { λ r. ⌜ (length r ≡ 32) × ((k : ℕ) → k < 32 → getD r k 0 ≡ rows (now (counters .entry)) k) ⌝ }
 {
     let mut lands = [0u64; 32];
     let mut k: usize = 0;
     while k < 32 {
-        lands[k] = plan_words::rows_of(counts, k);
+        lands[k] = plan_words::rows_of(counters, k);
         k += 1;
     }
     lands
@@ -103,16 +103,16 @@ fn write_lands(
     room: &mut [u8],
     to: usize,
     homes: &[u8; 256],
-    counts: &[u64; plan_words::COUNTERS],
+    counters: &[u64; plan_words::COUNTERS],
     body: &[u8],
     ids: u64,
     slot: u64,
     n: u64,
 )
-    requires { ⌜ (to + 4 * n ≤ length (now room)) × (ids + (slot + n) ≤ length (now body)) × (slot + n < 2 ^ 63) × (allLand (λ r. homeBy (now homes) (now body) (ids + (slot + r))) (now counts) n ≡ true) ⌝ }
-    ensures { λ _. ⌜ now (room .exit) ≡ splice to (numbers 4 (landsBy (λ r. homeBy (now (homes .entry)) (now (body .entry)) (ids + (slot + r))) (now (counts .entry))) n) (now (room .entry)) ⌝ }
+    requires { ⌜ (to + 4 * n ≤ length (now room)) × (ids + (slot + n) ≤ length (now body)) × (slot + n < 2 ^ 63) × (allLand (λ r. homeBy (now homes) (now body) (ids + (slot + r))) (now counters) n ≡ true) ⌝ }
+    ensures { λ _. ⌜ now (room .exit) ≡ splice to (numbers 4 (landsBy (λ r. homeBy (now (homes .entry)) (now (body .entry)) (ids + (slot + r))) (now (counters .entry))) n) (now (room .entry)) ⌝ }
 {
-    let mut lands = rows_of_all(counts);
+    let mut lands = rows_of_all(counters);
     let mut r: u64 = 0;
     while r < n {
         let k = homes::home_at(homes, body, ids + (slot + r)) as usize;
@@ -125,24 +125,24 @@ fn write_lands(
 
 // The same, as the positions of node i from its byte o on.
 pub fn put_lands(
-    state: &[u64],
+    plan: &[u64],
     parts: &[u64],
     room: &mut [u8],
     write: bool,
     i: usize,
     o: u64,
     homes: &[u8; 256],
-    counts: &[u64; plan_words::COUNTERS],
+    counters: &[u64; plan_words::COUNTERS],
     body: &[u8],
     ids: u64,
     slot: u64,
     n: u64,
 )
-    requires { ⌜ (i < 32) × (ids + (slot + n) ≤ length (now body)) × (slot + n < 2 ^ 63) × (allLand (λ r. homeBy (now homes) (now body) (ids + (slot + r))) (now counts) n ≡ true) ⌝ }
-    ensures { λ _. ⌜ now (room .exit) ≡ applyIf (now (state .entry)) (now (parts .entry)) write (put i 2 o (numbers 4 (landsBy (λ r. homeBy (now (homes .entry)) (now (body .entry)) (ids + (slot + r))) (now (counts .entry))) n) ∷ []) (now (room .entry)) ⌝ }
+    requires { ⌜ (i < 32) × (ids + (slot + n) ≤ length (now body)) × (slot + n < 2 ^ 63) × (allLand (λ r. homeBy (now homes) (now body) (ids + (slot + r))) (now counters) n ≡ true) ⌝ }
+    ensures { λ _. ⌜ now (room .exit) ≡ applyIf (now (plan .entry)) (now (parts .entry)) write (put i 2 o (numbers 4 (landsBy (λ r. homeBy (now (homes .entry)) (now (body .entry)) (ids + (slot + r))) (now (counters .entry))) n) ∷ []) (now (room .entry)) ⌝ }
 {
     match plan_words::target(
-        state,
+        plan,
         parts,
         room.len(),
         write,
@@ -151,7 +151,7 @@ pub fn put_lands(
         o,
         plan_words::scale(n, 4),
     ) {
-        plan_words::Goal::At(to) => write_lands(room, to, homes, counts, body, ids, slot, n),
+        plan_words::Goal::At(to) => write_lands(room, to, homes, counters, body, ids, slot, n),
         plan_words::Goal::Skip => {}
     }
 }

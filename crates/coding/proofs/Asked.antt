@@ -37,7 +37,7 @@ unfolding joinLengths
 lengths-both p q e f = rw (eq-eqb p 872 e, eq-eqb q 96 f)
 
 -- whether the result keeps nulls is read off its plan
-pub keep-by : (formats schema : List ℕ) (target n i : ℕ) (keep : ℕ → Bool) (joined : Bool) → n ≤ 32 → i < n → {state : List ℕ} {kw : ℕ} → state ≡ planAnew formats schema target n keep joined 0 → kw ≡ keepsOf state i → not (eqb kw 0) ≡ keep i
+pub keep-by : (formats schema : List ℕ) (target n i : ℕ) (keep : ℕ → Bool) (joined : Bool) → n ≤ 32 → i < n → {plan : List ℕ} {kw : ℕ} → plan ≡ planAnew formats schema target n keep joined 0 → kw ≡ keepsOf plan i → not (eqb kw 0) ≡ keep i
 keep-by formats schema target n i keep joined few l {kw = kw} e f =
     ap (λ z. not (eqb z 0)) (f ∙ ap (λ s. keepsOf s i) e ∙ keeps-is formats schema target n keep joined 0 few i l) ∙ go (keep i)
   where

@@ -34,16 +34,16 @@ use Rattle.coding.proofs.ExpandTheorems.{expand-back}
 use Rattle.coding.proofs.InOrder.{expand-room}
 
 -- an accepted encoding, and tables that hold the finished ones from the target's node on
-module _ (formats schema lengths places buffers body : List ℕ) (first n target start end : ℕ) (low : first < 2 ^ 32) (small : (j : ℕ) → getD body j 0 < 256) (parts plan counts room : List ℕ)
-    (room-bytes : AllBelow 256 room) (ok : encoding formats schema (tablesOf lengths places buffers body) first n target start end parts plan counts room .ground ≡ 0) (base : ℕ) (whole : List ℕ)
+module _ (formats schema lengths places buffers body : List ℕ) (first n target start end : ℕ) (low : first < 2 ^ 32) (small : (j : ℕ) → getD body j 0 < 256) (parts plan counters room : List ℕ)
+    (room-bytes : AllBelow 256 room) (ok : encoding formats schema (tablesOf lengths places buffers body) first n target start end parts plan counters room .ground ≡ 0) (base : ℕ) (whole : List ℕ)
     (bodied : Bodied whole (lentFor (tablesOf lengths places buffers body) (encodePlan formats schema (tablesOf lengths places buffers body) first n target start end) parts first n)
-    (encoding formats schema (tablesOf lengths places buffers body) first n target start end parts plan counts room .room) base)
+    (encoding formats schema (tablesOf lengths places buffers body) first n target start end parts plan counters room .room) base)
     (short : length whole ≤ ceiling) (lengths′ places′ buffers′ body′ : List ℕ)
     (same : tablesFrom (tablesOf lengths′ places′ buffers′ body′) target
     ≡ finishedTables (lentFor (tablesOf lengths places buffers body) (encodePlan formats schema (tablesOf lengths places buffers body) first n target start end) parts first n) buffers
-    (encoding formats schema (tablesOf lengths places buffers body) first n target start end parts plan counts room .counts)
-    (encoding formats schema (tablesOf lengths places buffers body) first n target start end parts plan counts room .room) base whole)
-    (low′ : target < 2 ^ 32) (small′ : (j : ℕ) → getD body′ j 0 < 256) (target′ : ℕ) (parts′ plan′ counts′ room′ : List ℕ) where
+    (encoding formats schema (tablesOf lengths places buffers body) first n target start end parts plan counters room .counters)
+    (encoding formats schema (tablesOf lengths places buffers body) first n target start end parts plan counters room .room) base whole)
+    (low′ : target < 2 ^ 32) (small′ : (j : ℕ) → getD body′ j 0 < 256) (target′ : ℕ) (parts′ plan′ counters′ room′ : List ℕ) where
   abbrev x : Tables
   x = tablesOf lengths places buffers body
 
@@ -58,13 +58,13 @@ module _ (formats schema lengths places buffers body : List ℕ) (first n target
   rows = seg (read (tPlain (fixed (number formats schema first target))) (plainColumn formats schema x first n target start end)) start (end - start)
 
   passed : columnGround formats schema x first n ≡ 0
-  passed = anew-accepted formats schema x first n _ _ _ parts plan counts room ok .column-good
+  passed = anew-accepted formats schema x first n _ _ _ parts plan counters room ok .column-good
 
   good : columnGround formats schema z target 3 ≡ 0
-  good = encode-lent formats schema lengths places buffers body first n target start end low small parts plan counts room room-bytes ok base whole bodied short z same
+  good = encode-lent formats schema lengths places buffers body first n target start end low small parts plan counters room room-bytes ok base whole bodied short z same
 
   long : lengthOf (tablesFrom z target) 0 ≡ end - start
-  long = ap (λ y. lengthOf y 0) same ∙ encode-finished formats schema lengths places buffers body first n target start end low small parts plan counts room room-bytes ok base whole bodied .shows .len-is
+  long = ap (λ y. lengthOf y 0) same ∙ encode-finished formats schema lengths places buffers body first n target start end low small parts plan counters room room-bytes ok base whole bodied .shows .len-is
 
   inside : rangeIn z target 0 (end - start) ≡ true
   unfolding rangeIn
@@ -75,14 +75,14 @@ module _ (formats schema lengths places buffers body : List ℕ) (first n target
 
   are-runs : runsType (typeOf formats schema target 3) ≡ true
   are-runs =
-      let a = anew-accepted formats schema x first n _ _ _ parts plan counts room ok in
+      let a = anew-accepted formats schema x first n _ _ _ parts plan counters room ok in
       ap runsType (f.type-is formats schema lengths places buffers body first n target start end low small (a .column-good) (a .own-none))
 
   -- ALL OF IT IS EXPANDED where the room is enough: 14 and 13 of the room alone stand in the way
   pub back-grounds : smallBody room′ ≡ true → plainOver formats schema target target′ ≡ true
-      → expanding formats schema z target 3 target′ 0 (end - start) parts′ plan′ counts′ room′ .ground
-      ≡ roomGround (expandPlan formats schema z target 3 target′ 0 (end - start)) (expandOut formats schema z target 3 target′ 0 (end - start) .counts) parts′ (length plan′) (length counts′) (length room′)
-  back-grounds s due = expand-room formats schema lengths′ places′ buffers′ body′ target 3 target′ 0 (end - start) low′ small′ parts′ plan′ counts′ room′ s good are-runs due inside
+      → expanding formats schema z target 3 target′ 0 (end - start) parts′ plan′ counters′ room′ .ground
+      ≡ roomGround (expandPlan formats schema z target 3 target′ 0 (end - start)) (expandOut formats schema z target 3 target′ 0 (end - start) .counters) parts′ (length plan′) (length counters′) (length room′)
+  back-grounds s due = expand-room formats schema lengths′ places′ buffers′ body′ target 3 target′ 0 (end - start) low′ small′ parts′ plan′ counters′ room′ s good are-runs due inside
 
   -- the runs as the expansion reads them
   reads-at : (c : ℕ) → codeOf formats schema target 2 ≡ c
@@ -91,19 +91,19 @@ module _ (formats schema lengths places buffers body : List ℕ) (first n target
   reads-at c e = subst (λ c. readAll (tRunEnd w (tPlain (fixed (numberOr (numberOf c))))) (columnOf (treeOf formats schema target 3) (tablesFrom z target) (tRunEnd w (tPlain (fixed (numberOr (numberOf c))))) 0) ≡ rows) (sym e)
 
   -- "AFTER THE ENCODER THOSE IT STARTED FROM": an accepted expansion of all of it, finished, reads as the rows of the column that was encoded
-  pub back-rows : AllBelow 256 room′ → expanding formats schema z target 3 target′ 0 (end - start) parts′ plan′ counts′ room′ .ground ≡ 0 → (base′ : ℕ) (whole′ : List ℕ)
-      → Bodied whole′ (lentFor z (expandPlan formats schema z target 3 target′ 0 (end - start)) parts′ target 3) (expanding formats schema z target 3 target′ 0 (end - start) parts′ plan′ counts′ room′ .room) base′
+  pub back-rows : AllBelow 256 room′ → expanding formats schema z target 3 target′ 0 (end - start) parts′ plan′ counters′ room′ .ground ≡ 0 → (base′ : ℕ) (whole′ : List ℕ)
+      → Bodied whole′ (lentFor z (expandPlan formats schema z target 3 target′ 0 (end - start)) parts′ target 3) (expanding formats schema z target 3 target′ 0 (end - start) parts′ plan′ counters′ room′ .room) base′
       → readAll (tPlain (fixed (valueNumber formats schema target target′)))
       (columnOf (treeOf formats schema target′ 1)
-      (finishedTables (lentFor z (expandPlan formats schema z target 3 target′ 0 (end - start)) parts′ target 3) buffers′ (expanding formats schema z target 3 target′ 0 (end - start) parts′ plan′ counts′ room′ .counts)
-      (expanding formats schema z target 3 target′ 0 (end - start) parts′ plan′ counts′ room′ .room) base′ whole′)
+      (finishedTables (lentFor z (expandPlan formats schema z target 3 target′ 0 (end - start)) parts′ target 3) buffers′ (expanding formats schema z target 3 target′ 0 (end - start) parts′ plan′ counters′ room′ .counters)
+      (expanding formats schema z target 3 target′ 0 (end - start) parts′ plan′ counters′ room′ .room) base′ whole′)
       (tPlain (fixed (valueNumber formats schema target target′))) 0)
       ≡ rows
   back-rows room-bytes′ ok′ base′ whole′ bodied′ =
-      let a = anew-accepted formats schema x first n _ _ _ parts plan counts room ok in
+      let a = anew-accepted formats schema x first n _ _ _ parts plan counters room ok in
       let d = e.due formats schema lengths places buffers body first n target start end low small (a .column-good) (a .own-none) in
-      expand-back formats schema lengths′ places′ buffers′ body′ target 3 target′ 0 (end - start) low′ small′ parts′ plan′ counts′ room′ room-bytes′ ok′
+      expand-back formats schema lengths′ places′ buffers′ body′ target 3 target′ 0 (end - start) low′ small′ parts′ plan′ counters′ room′ room-bytes′ ok′
       (reads-at (codeOf formats schema first 0) (d .same-code)
       (ap (λ y. readAll (tRunEnd w (tPlain (fixed (number formats schema first target)))) (columnOf (treeOf formats schema target 3) y (tRunEnd w (tPlain (fixed (number formats schema first target)))) 0)) same
-      ∙ encode-reads formats schema lengths places buffers body first n target start end low small parts plan counts room room-bytes ok base whole bodied))
+      ∙ encode-reads formats schema lengths places buffers body first n target start end low small parts plan counters room room-bytes ok base whole bodied))
       refl (let q : end - start - 0 ≡ end - start = omega arith in q ∙ sym long) base′ whole′ bodied′

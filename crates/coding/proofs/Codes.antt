@@ -16,7 +16,7 @@ use Rattle.aggregates.specs.patterns.Parts.{Sized}
 use Rattle.plan.specs.parts.Parts.{bufferCount}
 
 -- a fact of each of the ten
-ten : (P : ℕ → Type 0) → P 1 → P 2 → P 3 → P 4 → P 5 → P 6 → P 7 → P 8 → P 9 → P 10 → (c : ℕ) → isFixed c ≡ true → P c
+pub ten : (P : ℕ → Type 0) → P 1 → P 2 → P 3 → P 4 → P 5 → P 6 → P 7 → P 8 → P 9 → P 10 → (c : ℕ) → isFixed c ≡ true → P c
 ten P a b d e f g h i j k c q = by c (leb-true 1 c (and-left (leb 1 c) (leb c 10) q)) (leb-true c 10 (and-right (leb 1 c) (leb c 10) q))
   where
     by : (c : ℕ) → 1 ≤ c → c ≤ 10 → P c

@@ -37,13 +37,13 @@ use Rattle.coding.proofs.Encoded as e
 use Rattle.coding.proofs.Fitted as f
 use Rattle.coding.proofs.Finished.{Finished, finish, lends, writes}
 
-module _ (formats schema lengths places buffers body : List ℕ) (first n target start end : ℕ) (low : first < 2 ^ 32) (small : (j : ℕ) → getD body j 0 < 256) (parts plan counts room : List ℕ)
-    (room-bytes : AllBelow 256 room) (ok : encoding formats schema (tablesOf lengths places buffers body) first n target start end parts plan counts room .ground ≡ 0) where
+module _ (formats schema lengths places buffers body : List ℕ) (first n target start end : ℕ) (low : first < 2 ^ 32) (small : (j : ℕ) → getD body j 0 < 256) (parts plan counters room : List ℕ)
+    (room-bytes : AllBelow 256 room) (ok : encoding formats schema (tablesOf lengths places buffers body) first n target start end parts plan counters room .ground ≡ 0) where
   abbrev tables : Tables
   tables = tablesOf lengths places buffers body
 
-  passed : Accepted formats schema tables first n (encodeOwn formats schema tables first n target start end) (encodePlan formats schema tables first n target start end) (encodeOut formats schema tables first n target start end) parts plan counts room
-  passed = anew-accepted formats schema tables first n _ _ _ parts plan counts room ok
+  passed : Accepted formats schema tables first n (encodeOwn formats schema tables first n target start end) (encodePlan formats schema tables first n target start end) (encodeOut formats schema tables first n target start end) parts plan counters room
+  passed = anew-accepted formats schema tables first n _ _ _ parts plan counters room ok
 
   abbrev m : ℕ
   m = end - start
@@ -59,7 +59,7 @@ module _ (formats schema lengths places buffers body : List ℕ) (first n target
   v = plainColumn formats schema tables first n target start end
 
   abbrev after : Opening
-  after = encoding formats schema tables first n target start end parts plan counts room
+  after = encoding formats schema tables first n target start end parts plan counters room
 
   abbrev lent-to : Lent
   lent-to = lentFor tables (encodePlan formats schema tables first n target start end) parts first n
@@ -82,19 +82,19 @@ module _ (formats schema lengths places buffers body : List ℕ) (first n target
 
   -- AN ACCEPTED ENCODING, finished, is the encoded column byte for byte, and can be lent again
   pub encode-finished : (base : ℕ) (whole : List ℕ) → Bodied whole lent-to (after .room) base
-      → Finished (treeOf formats schema target 3) (finishedTables lent-to buffers (after .counts) (after .room) base whole) (nullTable lent-to buffers (after .counts) (after .room) base) (tRunEnd w (tPlain (fixed k))) (encoded k w v start m)
+      → Finished (treeOf formats schema target 3) (finishedTables lent-to buffers (after .counters) (after .room) base whole) (nullTable lent-to buffers (after .counters) (after .room) base) (tRunEnd w (tPlain (fixed k))) (encoded k w v start m)
   encode-finished base whole bodied =
       let d = e.due formats schema lengths places buffers body first n target start end low small (passed .column-good) (passed .own-none) in
-      finish formats schema tables first n (encodeOwn formats schema tables first n target start end) target 3 (encodeKeeps formats schema tables first n target start end) (encodeOut formats schema tables first n target start end) parts plan counts room (d .of-type) (d .low)
+      finish formats schema tables first n (encodeOwn formats schema tables first n target start end) target 3 (encodeKeeps formats schema tables first n target start end) (encodeOut formats schema tables first n target start end) parts plan counters room (d .of-type) (d .low)
       (f.no-ends formats schema lengths places buffers body first n target start end low small (passed .column-good) (passed .own-none)) room-bytes ok (tRunEnd w (tPlain (fixed k))) (f.type-is formats schema lengths places buffers body first n target start end low small (passed .column-good) (passed .own-none))
       (encoded k w v start m) filled base whole bodied
 
   -- LENT AGAIN with the same schema, in tables that hold the finished ones from the target's node on, IT IS ACCEPTED: none of 9, 10 and 12 stands
   pub encode-lent : (base : ℕ) (whole : List ℕ) → Bodied whole lent-to (after .room) base → length whole ≤ ceiling → (z : Tables)
-      → tablesFrom z target ≡ finishedTables lent-to buffers (after .counts) (after .room) base whole → columnGround formats schema z target 3 ≡ 0
+      → tablesFrom z target ≡ finishedTables lent-to buffers (after .counters) (after .room) base whole → columnGround formats schema z target 3 ≡ 0
   encode-lent base whole bodied =
       let d = e.due formats schema lengths places buffers body first n target start end low small (passed .column-good) (passed .own-none) in
-      lends formats schema tables first n (encodeOwn formats schema tables first n target start end) target 3 (encodeKeeps formats schema tables first n target start end) (encodeOut formats schema tables first n target start end) parts plan counts room (d .of-type) (d .low)
+      lends formats schema tables first n (encodeOwn formats schema tables first n target start end) target 3 (encodeKeeps formats schema tables first n target start end) (encodeOut formats schema tables first n target start end) parts plan counters room (d .of-type) (d .low)
       (f.no-ends formats schema lengths places buffers body first n target start end low small (passed .column-good) (passed .own-none)) room-bytes ok (tRunEnd w (tPlain (fixed k))) (f.type-is formats schema lengths places buffers body first n target start end low small (passed .column-good) (passed .own-none))
       (encoded k w v start m) filled base whole bodied
 
@@ -108,7 +108,7 @@ module _ (formats schema lengths places buffers body : List ℕ) (first n target
 
   -- ITS ROWS are the column's rows start .. end - 1
   pub encode-reads : (base : ℕ) (whole : List ℕ) → Bodied whole lent-to (after .room) base
-      → readAll (tRunEnd w (tPlain (fixed k))) (columnOf (treeOf formats schema target 3) (finishedTables lent-to buffers (after .counts) (after .room) base whole) (tRunEnd w (tPlain (fixed k))) 0) ≡ seg (read (tPlain (fixed k)) v) start m
+      → readAll (tRunEnd w (tPlain (fixed k))) (columnOf (treeOf formats schema target 3) (finishedTables lent-to buffers (after .counters) (after .room) base whole) (tRunEnd w (tPlain (fixed k))) 0) ≡ seg (read (tPlain (fixed k)) v) start m
   encode-reads base whole bodied = encode-finished base whole bodied .reads ∙ encode-rows k v start m w fits source within
 
   -- "THE FEWEST RUNS that read as the same rows"
@@ -123,7 +123,7 @@ module _ (formats schema lengths places buffers body : List ℕ) (first n target
 
   module _ (base : ℕ) (whole : List ℕ) (bodied : Bodied whole lent-to (after .room) base) where
     abbrev pub encodedTables : Tables
-    encodedTables = finishedTables lent-to buffers (after .counts) (after .room) base whole
+    encodedTables = finishedTables lent-to buffers (after .counters) (after .room) base whole
 
     abbrev pub described-runs : Column (tRunEnd w (tPlain (fixed k)))
     described-runs = columnOf (treeOf formats schema target 3) encodedTables (tRunEnd w (tPlain (fixed k))) 0
@@ -143,9 +143,9 @@ module _ (formats schema lengths places buffers body : List ℕ) (first n target
         (sym encode-is) encode-nulls
 
   -- ONLY BYTES OF THE PARTS ARE WRITTEN, up to what each needs
-  pub encode-writes : OnlyUsed (encodePlan formats schema tables first n target start end) parts room (after .counts) (after .room)
+  pub encode-writes : OnlyUsed (encodePlan formats schema tables first n target start end) parts room (after .counters) (after .room)
   encode-writes =
       let d = e.due formats schema lengths places buffers body first n target start end low small (passed .column-good) (passed .own-none) in
-      writes formats schema tables first n (encodeOwn formats schema tables first n target start end) target 3 (encodeKeeps formats schema tables first n target start end) (encodeOut formats schema tables first n target start end) parts plan counts room (d .of-type) (d .low)
+      writes formats schema tables first n (encodeOwn formats schema tables first n target start end) target 3 (encodeKeeps formats schema tables first n target start end) (encodeOut formats schema tables first n target start end) parts plan counters room (d .of-type) (d .low)
       (f.no-ends formats schema lengths places buffers body first n target start end low small (passed .column-good) (passed .own-none)) room-bytes ok (tRunEnd w (tPlain (fixed k))) (f.type-is formats schema lengths places buffers body first n target start end low small (passed .column-good) (passed .own-none))
       (encoded k w v start m) filled

@@ -176,16 +176,16 @@ module _ (formats schema lengths places buffers body : List ℕ) (first n target
       abbrev runs : ℕ
       runs = length (lastOf formats schema y first start end keep)
 
-      module _ (state parts : List ℕ) (room : List ℕ) (fits : RoomFor formats schema y first start end target state parts keep (length room)) where
-        did : Did state parts true (encodeOut formats schema x first n target start end) room 0 (allCounts (end - start) runs) (runsIn formats schema y first start end target state parts keep room)
+      module _ (plan parts : List ℕ) (room : List ℕ) (fits : RoomFor formats schema y first start end target plan parts keep (length room)) where
+        did : Did plan parts true (encodeOut formats schema x first n target start end) room 0 (allCounts (end - start) runs) (runsIn formats schema y first start end target plan parts keep room)
         did =
-            subst (λ b. Did state parts true (Rattle.coding.specs.run_walks.Encode.encodeWalk k (endWidth formats schema first target) v start (end - start) b (replicate 96 0)) room 0 (allCounts (end - start) runs) (runsIn formats schema y first start end target state parts keep room)) exact
-            (encode-did state parts k (endWidth formats schema first target) v start (end - start) keep body w (rowsAt formats schema y first start end) (maskAt formats schema y first start end) (bitAt formats schema y first start end) (code-width (codeOf formats schema first 0) (plain .is-fixed))
+            subst (λ b. Did plan parts true (Rattle.coding.specs.run_walks.Encode.encodeWalk k (endWidth formats schema first target) v start (end - start) b (replicate 96 0)) room 0 (allCounts (end - start) runs) (runsIn formats schema y first start end target plan parts keep room)) exact
+            (encode-did plan parts k (endWidth formats schema first target) v start (end - start) keep body w (rowsAt formats schema y first start end) (maskAt formats schema y first start end) (bitAt formats schema y first start end) (code-width (codeOf formats schema first 0) (plain .is-fixed))
             valid (λ r l. bytes-same xs 0 (codeOf formats schema first 0) (plain .is-fixed) start (end - start) within sum (source .mask) (source .slots) inside low-body keep exact-nulls r l small) edges room short fits)
 
         -- WHAT THE LOOP WRITES IS THE LOG'S
-        pub room-is : runsIn formats schema y first start end target state parts keep room ≡ apply state parts (encodeOut formats schema x first n target start end .log) room
-        room-is = made-room state parts (encodeOut formats schema x first n target start end) room did
+        pub room-is : runsIn formats schema y first start end target plan parts keep room ≡ apply plan parts (encodeOut formats schema x first n target start end .log) room
+        room-is = made-room plan parts (encodeOut formats schema x first n target start end) room did
 
       -- a room in which any runs fit
       abbrev wide-room : List ℕ
@@ -196,8 +196,8 @@ module _ (formats schema lengths places buffers body : List ℕ) (first n target
           did [] [] wide-room (roomy (endWidth formats schema first target) w runs keep)
 
       -- .. AND SO ARE THE COUNTERS, and its walk is done
-      pub counts-are : allCounts (end - start) runs ≡ encodeOut formats schema x first n target start end .counts
-      counts-are = did-wide .counters
+      pub counters-are : allCounts (end - start) runs ≡ encodeOut formats schema x first n target start end .counters
+      counters-are = did-wide .counters
 
       pub walk-done : 0 ≡ encodeOut formats schema x first n target start end .ans
       walk-done = did-wide .answer

@@ -36,13 +36,13 @@ use Rattle.coding.proofs.Expanded as x
 use Rattle.coding.proofs.Runs as r
 use Rattle.coding.proofs.Finished.{Finished, finish, lends, writes}
 
-module _ (formats schema lengths places buffers body : List ℕ) (first n target start end : ℕ) (low : first < 2 ^ 32) (small : (j : ℕ) → getD body j 0 < 256) (parts plan counts room : List ℕ)
-    (room-bytes : AllBelow 256 room) (ok : expanding formats schema (tablesOf lengths places buffers body) first n target start end parts plan counts room .ground ≡ 0) where
+module _ (formats schema lengths places buffers body : List ℕ) (first n target start end : ℕ) (low : first < 2 ^ 32) (small : (j : ℕ) → getD body j 0 < 256) (parts plan counters room : List ℕ)
+    (room-bytes : AllBelow 256 room) (ok : expanding formats schema (tablesOf lengths places buffers body) first n target start end parts plan counters room .ground ≡ 0) where
   abbrev tables : Tables
   tables = tablesOf lengths places buffers body
 
-  passed : Accepted formats schema tables first n (expandOwn formats schema tables first n target start end) (expandPlan formats schema tables first n target start end) (expandOut formats schema tables first n target start end) parts plan counts room
-  passed = anew-accepted formats schema tables first n _ _ _ parts plan counts room ok
+  passed : Accepted formats schema tables first n (expandOwn formats schema tables first n target start end) (expandPlan formats schema tables first n target start end) (expandOut formats schema tables first n target start end) parts plan counters room
+  passed = anew-accepted formats schema tables first n _ _ _ parts plan counters room ok
 
   abbrev m : ℕ
   m = end - start
@@ -58,7 +58,7 @@ module _ (formats schema lengths places buffers body : List ℕ) (first n target
   v = runColumn formats schema tables first n target start end
 
   abbrev after : Opening
-  after = expanding formats schema tables first n target start end parts plan counts room
+  after = expanding formats schema tables first n target start end parts plan counters room
 
   abbrev lent-to : Lent
   lent-to = lentFor tables (expandPlan formats schema tables first n target start end) parts first n
@@ -78,19 +78,19 @@ module _ (formats schema lengths places buffers body : List ℕ) (first n target
 
   -- AN ACCEPTED EXPANSION, finished, is the expanded column byte for byte, and can be lent again
   pub expand-finished : (base : ℕ) (whole : List ℕ) → Bodied whole lent-to (after .room) base
-      → Finished (treeOf formats schema target 1) (finishedTables lent-to buffers (after .counts) (after .room) base whole) (nullTable lent-to buffers (after .counts) (after .room) base) (tPlain (fixed k)) (expanded k w v start m)
+      → Finished (treeOf formats schema target 1) (finishedTables lent-to buffers (after .counters) (after .room) base whole) (nullTable lent-to buffers (after .counters) (after .room) base) (tPlain (fixed k)) (expanded k w v start m)
   expand-finished base whole bodied =
       let d = x.own formats schema lengths places buffers body first n target start end low small (passed .column-good) (passed .own-none) in
-      finish formats schema tables first n (expandOwn formats schema tables first n target start end) target 1 (expandKeeps formats schema tables first n target start end) (expandOut formats schema tables first n target start end) parts plan counts room (d .of-type) (d .low)
+      finish formats schema tables first n (expandOwn formats schema tables first n target start end) target 1 (expandKeeps formats schema tables first n target start end) (expandOut formats schema tables first n target start end) parts plan counters room (d .of-type) (d .low)
       (r.no-ends formats schema lengths places buffers body first n target start end low small (passed .column-good) (passed .own-none)) room-bytes ok (tPlain (fixed k)) (x.type-is formats schema lengths places buffers body first n target start end low small (passed .column-good) (passed .own-none))
       (expanded k w v start m) filled base whole bodied
 
   -- LENT AGAIN with the same schema, in tables that hold the finished ones from the target's node on, IT IS ACCEPTED: none of 9, 10 and 12 stands
   pub expand-lent : (base : ℕ) (whole : List ℕ) → Bodied whole lent-to (after .room) base → length whole ≤ ceiling → (z : Tables)
-      → tablesFrom z target ≡ finishedTables lent-to buffers (after .counts) (after .room) base whole → columnGround formats schema z target 1 ≡ 0
+      → tablesFrom z target ≡ finishedTables lent-to buffers (after .counters) (after .room) base whole → columnGround formats schema z target 1 ≡ 0
   expand-lent base whole bodied =
       let d = x.own formats schema lengths places buffers body first n target start end low small (passed .column-good) (passed .own-none) in
-      lends formats schema tables first n (expandOwn formats schema tables first n target start end) target 1 (expandKeeps formats schema tables first n target start end) (expandOut formats schema tables first n target start end) parts plan counts room (d .of-type) (d .low)
+      lends formats schema tables first n (expandOwn formats schema tables first n target start end) target 1 (expandKeeps formats schema tables first n target start end) (expandOut formats schema tables first n target start end) parts plan counters room (d .of-type) (d .low)
       (r.no-ends formats schema lengths places buffers body first n target start end low small (passed .column-good) (passed .own-none)) room-bytes ok (tPlain (fixed k)) (x.type-is formats schema lengths places buffers body first n target start end low small (passed .column-good) (passed .own-none))
       (expanded k w v start m) filled base whole bodied
 
@@ -102,12 +102,12 @@ module _ (formats schema lengths places buffers body : List ℕ) (first n target
 
   -- ITS ROWS are the column's rows start .. end - 1
   pub expand-reads : (base : ℕ) (whole : List ℕ) → Bodied whole lent-to (after .room) base
-      → readAll (tPlain (fixed k)) (columnOf (treeOf formats schema target 1) (finishedTables lent-to buffers (after .counts) (after .room) base whole) (tPlain (fixed k)) 0) ≡ seg (read (tRunEnd w (tPlain (fixed k))) v) start m
+      → readAll (tPlain (fixed k)) (columnOf (treeOf formats schema target 1) (finishedTables lent-to buffers (after .counters) (after .room) base whole) (tPlain (fixed k)) 0) ≡ seg (read (tRunEnd w (tPlain (fixed k))) v) start m
   expand-reads base whole bodied = expand-finished base whole bodied .reads ∙ expand-rows k w v source start m within
 
   -- "AFTER THE ENCODER THOSE IT STARTED FROM": of a column that reads as some rows, all of it expanded reads as them
   pub expand-back : {rows : List Row} → readAll (tRunEnd w (tPlain (fixed k))) v ≡ rows → start ≡ 0 → m ≡ v .len → (base : ℕ) (whole : List ℕ) → Bodied whole lent-to (after .room) base
-      → readAll (tPlain (fixed k)) (columnOf (treeOf formats schema target 1) (finishedTables lent-to buffers (after .counts) (after .room) base whole) (tPlain (fixed k)) 0) ≡ rows
+      → readAll (tPlain (fixed k)) (columnOf (treeOf formats schema target 1) (finishedTables lent-to buffers (after .counters) (after .room) base whole) (tPlain (fixed k)) 0) ≡ rows
   expand-back same from-zero all base whole bodied =
       expand-reads base whole bodied ∙ ap₂ (λ a n. seg (read (tRunEnd w (tPlain (fixed k))) v) a n) from-zero all ∙ same
 
@@ -119,12 +119,12 @@ module _ (formats schema lengths places buffers body : List ℕ) (first n target
 
   module _ (base : ℕ) (whole : List ℕ) (bodied : Bodied whole lent-to (after .room) base) where
     abbrev pub described-rows : Column (tPlain (fixed k))
-    described-rows = columnOf (treeOf formats schema target 1) (finishedTables lent-to buffers (after .counts) (after .room) base whole) (tPlain (fixed k)) 0
+    described-rows = columnOf (treeOf formats schema target 1) (finishedTables lent-to buffers (after .counters) (after .room) base whole) (tPlain (fixed k)) 0
 
     -- THE COLUMN THAT THEY DESCRIBE IS THE EXPANDED ONE
     pub expand-is : described-rows ≡ expanded k w v start m
     expand-is =
-        described (treeOf formats schema target 1) (finishedTables lent-to buffers (after .counts) (after .room) base whole) (tPlain (fixed k)) 0 (expanded k w v start m) tt (expand-finished base whole bodied .shows)
+        described (treeOf formats schema target 1) (finishedTables lent-to buffers (after .counters) (after .room) base whole) (tPlain (fixed k)) 0 (expanded k w v start m) tt (expand-finished base whole bodied .shows)
 
     -- a slot whose bit is 0 is zeros
     pub null-rows : (j : ℕ) → j < m → okAt described-rows j ≡ false → stored (fixed k) (described-rows .body) j ≡ replicate (width k) 0
@@ -132,9 +132,9 @@ module _ (formats schema lengths places buffers body : List ℕ) (first n target
         subst (λ (c : Column (tPlain (fixed k))). (j : ℕ) → j < m → okAt c j ≡ false → stored (fixed k) (c .body) j ≡ replicate (width k) 0) (sym expand-is) expand-nulls
 
   -- ONLY BYTES OF THE PARTS ARE WRITTEN, up to what each needs
-  pub expand-writes : OnlyUsed (expandPlan formats schema tables first n target start end) parts room (after .counts) (after .room)
+  pub expand-writes : OnlyUsed (expandPlan formats schema tables first n target start end) parts room (after .counters) (after .room)
   expand-writes =
       let d = x.own formats schema lengths places buffers body first n target start end low small (passed .column-good) (passed .own-none) in
-      writes formats schema tables first n (expandOwn formats schema tables first n target start end) target 1 (expandKeeps formats schema tables first n target start end) (expandOut formats schema tables first n target start end) parts plan counts room (d .of-type) (d .low)
+      writes formats schema tables first n (expandOwn formats schema tables first n target start end) target 1 (expandKeeps formats schema tables first n target start end) (expandOut formats schema tables first n target start end) parts plan counters room (d .of-type) (d .low)
       (r.no-ends formats schema lengths places buffers body first n target start end low small (passed .column-good) (passed .own-none)) room-bytes ok (tPlain (fixed k)) (x.type-is formats schema lengths places buffers body first n target start end low small (passed .column-good) (passed .own-none))
       (expanded k w v start m) filled

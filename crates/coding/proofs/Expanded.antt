@@ -267,16 +267,16 @@ module _ (formats schema lengths places buffers body : List ℕ) (first n target
                 let c : offsetOf xs 0 + lengthOf xs 0 ≤ endOf e (v .body .ends) q = subst (λ m. offsetOf xs 0 + lengthOf xs 0 ≤ ends.startOf (endOf e (v .body .ends)) m) (sym z) (source .slots .covers) in
                 omega (arith, c, within, end-is q (omega arith))
 
-      module _ (state parts room : List ℕ) (fits : RowsFit formats schema y first start end state parts keep (length room)) where
-        did : Did state parts true (expandOut formats schema x first n target start end) room 0 (rowCounts (end - start)) (rowsIn formats schema y first start end state parts keep room)
+      module _ (plan parts room : List ℕ) (fits : RowsFit formats schema y first start end plan parts keep (length room)) where
+        did : Did plan parts true (expandOut formats schema x first n target start end) room 0 (rowCounts (end - start)) (rowsIn formats schema y first start end plan parts keep room)
         did =
-            subst (λ b. Did state parts true (Rattle.coding.specs.run_walks.Expand.expandWalk k e v start (end - start) b (replicate 96 0)) room 0 (rowCounts (end - start)) (rowsIn formats schema y first start end state parts keep room)) exact
-            (expand-did state parts k e v start (end - start) keep body w (valuesAt formats schema y first start end) (valueMask formats schema y first start end) (valueBit formats schema y first start end) (endsAt formats schema y first start end) (firstRow formats schema y first start end)
+            subst (λ b. Did plan parts true (Rattle.coding.specs.run_walks.Expand.expandWalk k e v start (end - start) b (replicate 96 0)) room 0 (rowCounts (end - start)) (rowsIn formats schema y first start end plan parts keep room)) exact
+            (expand-did plan parts k e v start (end - start) keep body w (valuesAt formats schema y first start end) (valueMask formats schema y first start end) (valueBit formats schema y first start end) (endsAt formats schema y first start end) (firstRow formats schema y first start end)
             (code-width (codeOf formats schema first 2) (own .values .is-fixed)) valid bytes end-is refl source within short (firstRun formats schema y first start end) room (λ l. run-is (omega arith)) fits)
 
         -- WHAT THE LOOP WRITES IS THE LOG'S
-        pub room-is : rowsIn formats schema y first start end state parts keep room ≡ apply state parts (expandOut formats schema x first n target start end .log) room
-        room-is = made-room state parts (expandOut formats schema x first n target start end) room did
+        pub room-is : rowsIn formats schema y first start end plan parts keep room ≡ apply plan parts (expandOut formats schema x first n target start end .log) room
+        room-is = made-room plan parts (expandOut formats schema x first n target start end) room did
 
       abbrev wide-room : List ℕ
       wide-room = replicate ((end - start) * w + (end - start)) 0
@@ -285,8 +285,8 @@ module _ (formats schema lengths places buffers body : List ℕ) (first n target
       did-wide = did [] [] wide-room (roomy w (end - start) keep)
 
       -- .. AND SO ARE THE COUNTERS, and its walk is done
-      pub counts-are : rowCounts (end - start) ≡ expandOut formats schema x first n target start end .counts
-      counts-are = did-wide .counters
+      pub counters-are : rowCounts (end - start) ≡ expandOut formats schema x first n target start end .counters
+      counters-are = did-wide .counters
 
       pub walk-done : 0 ≡ expandOut formats schema x first n target start end .ans
       walk-done = did-wide .answer

@@ -27,7 +27,7 @@ and-false : (a : Bool) → a && false ≡ false
 and-false true = refl
 and-false false = refl
 
-module _ (formats schema lengths places buffers body : List ℕ) (first n target start end : ℕ) (low : first < 2 ^ 32) (small : (j : ℕ) → getD body j 0 < 256) (parts plan counts room : List ℕ) (s : smallBody room ≡ true) where
+module _ (formats schema lengths places buffers body : List ℕ) (first n target start end : ℕ) (low : first < 2 ^ 32) (small : (j : ℕ) → getD body j 0 < 256) (parts plan counters room : List ℕ) (s : smallBody room ≡ true) where
   abbrev x : Tables
   x = tablesOf lengths places buffers body
 
@@ -35,18 +35,18 @@ module _ (formats schema lengths places buffers body : List ℕ) (first n target
 
   abbrev of-runs : ℕ
   of-runs =
-      roomGround (encodePlan formats schema x first n target start end) (encodeOut formats schema x first n target start end .counts) parts (length plan) (length counts) (length room)
+      roomGround (encodePlan formats schema x first n target start end) (encodeOut formats schema x first n target start end .counters) parts (length plan) (length counters) (length room)
 
   -- 9, 10 and 12 of the column, 10, 2 and 7, 14 and 13, and no other ground
-  pub encode-grounds : encoding formats schema x first n target start end parts plan counts room .ground ≡ orElse (columnGround formats schema x first n) (orElse (encodeOwn formats schema x first n target start end) of-runs)
+  pub encode-grounds : encoding formats schema x first n target start end parts plan counters room .ground ≡ orElse (columnGround formats schema x first n) (orElse (encodeOwn formats schema x first n target start end) of-runs)
   encode-grounds =
-      anew-order formats schema x first n (encodeOwn formats schema x first n target start end) (encodePlan formats schema x first n target start end) (encodeOut formats schema x first n target start end) parts plan counts room s
+      anew-order formats schema x first n (encodeOwn formats schema x first n target start end) (encodePlan formats schema x first n target start end) (encodeOut formats schema x first n target start end) parts plan counters room s
       ∙ or-never (columnGround formats schema x first n) (encodeOwn formats schema x first n target start end) (encodeOut formats schema x first n target start end .ans) of-runs
       (λ g o. sym (e.walk-done formats schema lengths places buffers body first n target start end low small g o (encodeKeeps formats schema x first n target start end 2) refl))
 
   module _ (good : columnGround formats schema x first n ≡ 0) where
     abbrev encoder : ℕ
-    encoder = encoding formats schema x first n target start end parts plan counts room .ground
+    encoder = encoding formats schema x first n target start end parts plan counters room .ground
 
     by-own : (g : ℕ) → encodeOwn formats schema x first n target start end ≡ g → encoder ≡ orElse g of-runs
     by-own g o = encode-grounds ∙ or-zero _ _ good ∙ ap (λ z. orElse z of-runs) o
@@ -86,18 +86,18 @@ module _ (formats schema lengths places buffers body : List ℕ) (first n target
 
   abbrev of-rows : ℕ
   of-rows =
-      roomGround (expandPlan formats schema x first n target start end) (expandOut formats schema x first n target start end .counts) parts (length plan) (length counts) (length room)
+      roomGround (expandPlan formats schema x first n target start end) (expandOut formats schema x first n target start end .counters) parts (length plan) (length counters) (length room)
 
   -- 9, 10 and 12 of the column, 10 and 2, 14 and 13, and no other ground
-  pub expand-grounds : expanding formats schema x first n target start end parts plan counts room .ground ≡ orElse (columnGround formats schema x first n) (orElse (expandOwn formats schema x first n target start end) of-rows)
+  pub expand-grounds : expanding formats schema x first n target start end parts plan counters room .ground ≡ orElse (columnGround formats schema x first n) (orElse (expandOwn formats schema x first n target start end) of-rows)
   expand-grounds =
-      anew-order formats schema x first n (expandOwn formats schema x first n target start end) (expandPlan formats schema x first n target start end) (expandOut formats schema x first n target start end) parts plan counts room s
+      anew-order formats schema x first n (expandOwn formats schema x first n target start end) (expandPlan formats schema x first n target start end) (expandOut formats schema x first n target start end) parts plan counters room s
       ∙ or-never (columnGround formats schema x first n) (expandOwn formats schema x first n target start end) (expandOut formats schema x first n target start end .ans) of-rows
       (λ g o. sym (r.walk-done formats schema lengths places buffers body first n target start end low small g o (expandKeeps formats schema x first n target start end 0) refl))
 
   module _ (good : columnGround formats schema x first n ≡ 0) where
     abbrev expansion : ℕ
-    expansion = expanding formats schema x first n target start end parts plan counts room .ground
+    expansion = expanding formats schema x first n target start end parts plan counters room .ground
 
     by-its : (g : ℕ) → expandOwn formats schema x first n target start end ≡ g → expansion ≡ orElse g of-rows
     by-its g o = expand-grounds ∙ or-zero _ _ good ∙ ap (λ z. orElse z of-rows) o

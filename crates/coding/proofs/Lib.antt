@@ -4,6 +4,7 @@ pub mod Accepted
 pub mod Asked
 pub mod Back
 pub mod Codes
+pub mod Due
 pub mod EncodeTheorems
 pub mod Encoded
 pub mod ExpandTheorems

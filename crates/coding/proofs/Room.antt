@@ -25,17 +25,17 @@ use Rattle.anew.proofs.Planted.{planted, placed-well}
 use Rattle.refinement.proofs.orders.Buffers.{needed-fixed}
 use Rattle.plan.proofs.parts.Placed.{used-holds}
 
-pub record Free (made counts parts : List ℕ) (plan counters room : ℕ) : Type 0 where
+pub record Free (made tally parts : List ℕ) (plan counters room : ℕ) : Type 0 where
   pub lengths : joinLengths plan counters ≡ true
   pub placed : partsPlaced parts (partTotal made) room ≡ true
-  pub holds : partsHold made counts parts ≡ true
+  pub holds : partsHold made tally parts ≡ true
 
-pub room-free : (made counts parts : List ℕ) (plan counters room : ℕ) → roomGround made counts parts plan counters room ≡ 0 → Free made counts parts plan counters room
+pub room-free : (made tally parts : List ℕ) (plan counters room : ℕ) → roomGround made tally parts plan counters room ≡ 0 → Free made tally parts plan counters room
 unfolding roomGround
-room-free made counts parts plan counters room = go (joinLengths plan counters) refl (partsPlaced parts (partTotal made) room) refl (partsHold made counts parts) refl
+room-free made tally parts plan counters room = go (joinLengths plan counters) refl (partsPlaced parts (partTotal made) room) refl (partsHold made tally parts) refl
   where
-    go : (a : Bool) → joinLengths plan counters ≡ a → (b : Bool) → partsPlaced parts (partTotal made) room ≡ b → (c : Bool) → partsHold made counts parts ≡ c
-        → _≡_ {A = ℕ} (cond (a && b) (cond c 0 13) 14) 0 → Free made counts parts plan counters room
+    go : (a : Bool) → joinLengths plan counters ≡ a → (b : Bool) → partsPlaced parts (partTotal made) room ≡ b → (c : Bool) → partsHold made tally parts ≡ c
+        → _≡_ {A = ℕ} (cond (a && b) (cond c 0 13) 14) 0 → Free made tally parts plan counters room
     go true p true q true r h = record { lengths = p; placed = q; holds = r }
     go true p true q false r h = absurd (omega arith)
     go true p false q c r h = absurd (omega arith)
@@ -57,21 +57,21 @@ module _ (formats schema : List ℕ) (target n : ℕ) (keep : ℕ → Bool) (t :
       subst (Coded (trees.codeOf formats schema target 1) (eqb (trees.dictionary schema target 1) 0) (trees.idsOf formats schema target 1) (trees.codeOf formats schema target 2)) (h .1)
       (coded-is formats schema target n made t c (planted formats schema target n keep true 0 t c) 1 (h .0)) .0
 
-  module _ (counts parts room : List ℕ) (small : smallBody room ≡ true) (placed : partsPlaced parts (partTotal made) (length room) ≡ true) (holds : partsHold made counts parts ≡ true) where
+  module _ (counters parts room : List ℕ) (small : smallBody room ≡ true) (placed : partsPlaced parts (partTotal made) (length room) ≡ true) (holds : partsHold made counters parts ≡ true) where
     inside : (i b : ℕ) → Used made i b → startOf made parts i b + sizeOf made parts i b ≤ length room
     inside i b u = placed-well formats schema target n keep true 0 t c ends parts room small placed .inside i b u
 
     -- NUMBERS FIT
-    pub numbers-fit : (i : ℕ) → i < n → isFixed (trees.codeOf formats schema target i) ≡ true → Used made i 1 → startOf made parts i 1 + rows counts i * widthOf (trees.codeOf formats schema target i) ≤ length room
+    pub numbers-fit : (i : ℕ) → i < n → isFixed (trees.codeOf formats schema target i) ≡ true → Used made i 1 → startOf made parts i 1 + rows counters i * widthOf (trees.codeOf formats schema target i) ≤ length room
     numbers-fit i l f u =
         let e = code-same i l in
-        let h = used-holds made counts parts holds i 1 u in
-        let g : needed made counts i 1 ≡ rows counts i * widthOf (codeOf made i) = needed-fixed (codeOf made i) (rows counts i) (bytes counts i) (ap isFixed e ∙ f) in
-        let d : rows counts i * widthOf (codeOf made i) ≡ rows counts i * widthOf (trees.codeOf formats schema target i) = ap (λ z. rows counts i * widthOf z) e in
+        let h = used-holds made counters parts holds i 1 u in
+        let g : needed made counters i 1 ≡ rows counters i * widthOf (codeOf made i) = needed-fixed (codeOf made i) (rows counters i) (bytes counters i) (ap isFixed e ∙ f) in
+        let d : rows counters i * widthOf (codeOf made i) ≡ rows counters i * widthOf (trees.codeOf formats schema target i) = ap (λ z. rows counters i * widthOf z) e in
         omega (arith, h, g, d, inside i 1 u)
 
     -- .. and bits
-    pub bits-fit : (i : ℕ) → Used made i 0 → 8 * startOf made parts i 0 + rows counts i ≤ 8 * length room
+    pub bits-fit : (i : ℕ) → Used made i 0 → 8 * startOf made parts i 0 + rows counters i ≤ 8 * length room
     bits-fit i u =
-        let h : (rows counts i + 7) / 8 ≤ sizeOf made parts i 0 = used-holds made counts parts holds i 0 u in
+        let h : (rows counters i + 7) / 8 ≤ sizeOf made parts i 0 = used-holds made counters parts holds i 0 u in
         omega (arith, h, inside i 0 u)

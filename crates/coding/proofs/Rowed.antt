@@ -68,7 +68,7 @@ unfolding pieces
 turned b zero = append-nil b
 turned b (suc n) = sym (append-assoc b (pieces (λ k. b) n) b) ∙ ap (λ z. z ++ b) (turned b n)
 
-module _ (state parts : List ℕ) (k : Number) (w : ℕ) (v : Column (tRunEnd w (tPlain (fixed k)))) (a m : ℕ) (keep : Bool) (body : List ℕ) (wk start at bit ends-at x : ℕ) (wide : wk ≡ width k)
+module _ (plan parts : List ℕ) (k : Number) (w : ℕ) (v : Column (tRunEnd w (tPlain (fixed k)))) (a m : ℕ) (keep : Bool) (body : List ℕ) (wk start at bit ends-at x : ℕ) (wide : wk ≡ width k)
     (valid : (q : ℕ) → q < v .body .ends .len → validIn body keep at bit q ≡ okAt (v .body .values) q)
     (bytes : (q : ℕ) → q < v .body .ends .len → encode wk (cellOf (okAt (v .body .values) q) (numberIn body wk start q)) ≡ cell k (v .body .values) q)
     (ends : (q : ℕ) → q < v .body .ends .len → endIn body w ends-at q ≡ endOf w (v .body .ends) q)
@@ -80,10 +80,10 @@ module _ (state parts : List ℕ) (k : Number) (w : ℕ) (v : Column (tRunEnd w 
   count = v .body .ends .len
 
   abbrev values : ℕ
-  values = startOf state parts 0 1
+  values = startOf plan parts 0 1
 
   abbrev goal : ℕ
-  goal = startOf state parts 0 0
+  goal = startOf plan parts 0 0
 
   there : (r : ℕ) → r < m → runAt w v (a + r) < count
   there r l = run-there w (tPlain (fixed k)) v source (a + r) (omega arith)
@@ -134,27 +134,27 @@ module _ (state parts : List ℕ) (k : Number) (w : ℕ) (v : Column (tRunEnd w 
             ∙ values-long
         go false e = values-long
 
-    bits-did : Did state parts true (fillBits k w v a m keep q n (rowCounts r)) (with-values r n q room) 0 (rowCounts r) (some r n q room)
+    bits-did : Did plan parts true (fillBits k w v a m keep q n (rowCounts r)) (with-values r n q room) 0 (rowCounts r) (some r n q room)
     unfolding fillBits
-    bits-did = subst (Did state parts true (fillBits k w v a m keep q n (rowCounts r)) (with-values r n q room) 0 (rowCounts r)) (sym some-is) (go keep refl)
+    bits-did = subst (Did plan parts true (fillBits k w v a m keep q n (rowCounts r)) (with-values r n q room) 0 (rowCounts r)) (sym some-is) (go keep refl)
       where
         go : (b : Bool) → keep ≡ b
-            → Did state parts true (cond b (wrote (mask 0 (rows (rowCounts r) 0) (replicate n (flag (okAt vals q)))) (rowCounts r)) (done (rowCounts r))) (with-values r n q room) 0 (rowCounts r)
+            → Did plan parts true (cond b (wrote (mask 0 (rows (rowCounts r) 0) (replicate n (flag (okAt vals q)))) (rowCounts r)) (done (rowCounts r))) (with-values r n q room) 0 (rowCounts r)
             (cond b (putBits (8 * goal + r) (replicate n (flag (okAt vals q))) (with-values r n q room)) (with-values r n q room))
         go true e =
             wrote-did true (mask 0 r (replicate n (flag (okAt vals q)))) (rowCounts r) (with-values r n q room) _
-            (mask-in state parts 0 r (replicate n (flag (okAt vals q))) (with-values r n q room) (omega (arith, fits .of-bits e, values-long, length-replicate n (flag (okAt vals q)))))
+            (mask-in plan parts 0 r (replicate n (flag (okAt vals q))) (with-values r n q room) (omega (arith, fits .of-bits e, values-long, length-replicate n (flag (okAt vals q)))))
         go false e = done-did true (rowCounts r) (with-values r n q room)
 
     counted : addRows 0 n (rowCounts r) ≡ rowCounts (r + n)
     counted = ap rowCounts (grown-is r n (omega arith))
 
     -- A STRETCH IS WRITTEN
-    fill-did : Did state parts true (fill k w v a m keep q n (rowCounts r)) room 0 (rowCounts (r + n)) (some r n q room)
+    fill-did : Did plan parts true (fill k w v a m keep q n (rowCounts r)) room 0 (rowCounts (r + n)) (some r n q room)
     unfolding fill
     fill-did =
-        next-ok _ (wrote-did true (put 0 1 (r * width k) (cells k vals (replicate n q))) (rowCounts r) room (with-values r n q room) (put-in state parts 0 1 (r * width k) (cells k vals (replicate n q)) room (omega (arith, cells-length q n l, values-in)))) refl
-        (next-ok _ bits-did refl (subst (λ c. Did state parts true (done (addRows 0 n (rowCounts r))) (some r n q room) 0 c (some r n q room)) counted (done-did true (addRows 0 n (rowCounts r)) (some r n q room))))
+        next-ok _ (wrote-did true (put 0 1 (r * width k) (cells k vals (replicate n q))) (rowCounts r) room (with-values r n q room) (put-in plan parts 0 1 (r * width k) (cells k vals (replicate n q)) room (omega (arith, cells-length q n l, values-in)))) refl
+        (next-ok _ bits-did refl (subst (λ c. Did plan parts true (done (addRows 0 n (rowCounts r))) (some r n q room) 0 c (some r n q room)) counted (done-did true (addRows 0 n (rowCounts r)) (some r n q room))))
 
   -- ---- stretch by stretch
 
@@ -198,9 +198,9 @@ module _ (state parts : List ℕ) (k : Number) (w : ℕ) (v : Column (tRunEnd w 
               past o a r d y m n ed h g u c = omega arith
 
   from-did : (f r q : ℕ) (room : List ℕ) → r ≤ m → m ≤ r + f → (r < m → q ≡ runAt w v (a + r)) → Holds wk keep values goal (length room) m
-      → Did state parts true (expandFrom k w v a m keep f r (rowCounts r)) room 0 (rowCounts m) (rowsFrom body wk keep start at bit w ends-at x m values goal f r q room)
+      → Did plan parts true (expandFrom k w v a m keep f r (rowCounts r)) room 0 (rowCounts m) (rowsFrom body wk keep start at bit w ends-at x m values goal f r q room)
   unfolding expandFrom rowsFrom
-  from-did zero r q room le lf at-run fits = let e : r ≡ m = omega arith in subst (λ z. Did state parts true (done (rowCounts r)) room 0 (rowCounts z) room) e (done-did true (rowCounts r) room)
+  from-did zero r q room le lf at-run fits = let e : r ≡ m = omega arith in subst (λ z. Did plan parts true (done (rowCounts r)) room 0 (rowCounts z) room) e (done-did true (rowCounts r) room)
   from-did (suc f) r q room le lf at-run fits = go (ltb r m) refl (λ n q2 other a1 a2 a3 a4. from-did f (r + n) q2 other a1 a2 a3 a4)
     where
       n0 : ℕ
@@ -208,10 +208,10 @@ module _ (state parts : List ℕ) (k : Number) (w : ℕ) (v : Column (tRunEnd w 
 
       go : (b : Bool) → ltb r m ≡ b
           → ((n q2 : ℕ) (other : List ℕ) → r + n ≤ m → m ≤ r + n + f → (r + n < m → q2 ≡ runAt w v (a + (r + n))) → Holds wk keep values goal (length other) m
-          → Did state parts true (expandFrom k w v a m keep f (r + n) (rowCounts (r + n))) other 0 (rowCounts m) (rowsFrom body wk keep start at bit w ends-at x m values goal f (r + n) q2 other))
-          → Did state parts true (cond b (next (fill k w v a m keep (runAt w v (a + r)) (stretch k w v a m keep r) (rowCounts r)) (λ c2. expandFrom k w v a m keep f (r + stretch k w v a m keep r) c2)) (done (rowCounts r))) room 0 (rowCounts m)
+          → Did plan parts true (expandFrom k w v a m keep f (r + n) (rowCounts (r + n))) other 0 (rowCounts m) (rowsFrom body wk keep start at bit w ends-at x m values goal f (r + n) q2 other))
+          → Did plan parts true (cond b (next (fill k w v a m keep (runAt w v (a + r)) (stretch k w v a m keep r) (rowCounts r)) (λ c2. expandFrom k w v a m keep f (r + stretch k w v a m keep r) c2)) (done (rowCounts r))) room 0 (rowCounts m)
           (cond b (rowsFrom body wk keep start at bit w ends-at x m values goal f (r + n0) (suc q) (some r n0 q room)) room)
-      go false p ih = let e : r ≡ m = omega (arith, ltb-false r m p) in subst (λ z. Did state parts true (done (rowCounts r)) room 0 (rowCounts z) room) e (done-did true (rowCounts r) room)
+      go false p ih = let e : r ≡ m = omega (arith, ltb-false r m p) in subst (λ z. Did plan parts true (done (rowCounts r)) room 0 (rowCounts z) room) e (done-did true (rowCounts r) room)
       go true p ih =
           let l = ltb-true r m p in
           let n = stretch k w v a m keep r in
@@ -223,8 +223,8 @@ module _ (state parts : List ℕ) (k : Number) (w : ℕ) (v : Column (tRunEnd w 
           let pos : 0 < n = positive (far-end (runAt w v (a + r))) (v .off + (a + r)) (m - r) h (omega arith) in
           let d = fill-did r n (runAt w v (a + r)) room le2 t fits in
           let long = some-long r n (runAt w v (a + r)) room le2 t fits in
-          subst (λ y. Did state parts true (next (fill k w v a m keep (runAt w v (a + r)) n (rowCounts r)) (λ c2. expandFrom k w v a m keep f (r + n) c2)) room 0 (rowCounts m) (rowsFrom body wk keep start at bit w ends-at x m values goal f (r + y) (suc q) (some r y q room))) (sym en)
-          (subst (λ y. Did state parts true (next (fill k w v a m keep (runAt w v (a + r)) n (rowCounts r)) (λ c2. expandFrom k w v a m keep f (r + n) c2)) room 0 (rowCounts m) (rowsFrom body wk keep start at bit w ends-at x m values goal f (r + n) (suc y) (some r n y room))) (sym e)
+          subst (λ y. Did plan parts true (next (fill k w v a m keep (runAt w v (a + r)) n (rowCounts r)) (λ c2. expandFrom k w v a m keep f (r + n) c2)) room 0 (rowCounts m) (rowsFrom body wk keep start at bit w ends-at x m values goal f (r + y) (suc q) (some r y q room))) (sym en)
+          (subst (λ y. Did plan parts true (next (fill k w v a m keep (runAt w v (a + r)) n (rowCounts r)) (λ c2. expandFrom k w v a m keep f (r + n) c2)) room 0 (rowCounts m) (rowsFrom body wk keep start at bit w ends-at x m values goal f (r + n) (suc y) (some r n y room))) (sym e)
           (next-ok _ d refl (ih n (suc (runAt w v (a + r))) (some r n (runAt w v (a + r)) room) le2 (omega arith) (λ g. next-run r l g) (subst (λ z. Holds wk keep values goal z m) (sym long) fits))))
         where
           positive : (y s d : ℕ) → s < y → 0 < d → 0 < min (y - s) d
@@ -232,6 +232,6 @@ module _ (state parts : List ℕ) (k : Number) (w : ℕ) (v : Column (tRunEnd w 
 
   -- ALL ROWS
   pub expand-did : (q : ℕ) (room : List ℕ) → (0 < m → q ≡ runAt w v a) → Holds wk keep values goal (length room) m
-      → Did state parts true (expandWalk k w v a m keep (replicate 96 0)) room 0 (rowCounts m) (rowsFrom body wk keep start at bit w ends-at x m values goal m 0 q room)
+      → Did plan parts true (expandWalk k w v a m keep (replicate 96 0)) room 0 (rowCounts m) (rowsFrom body wk keep start at bit w ends-at x m values goal m 0 q room)
   unfolding expandWalk
   expand-did q room first fits = from-did m 0 q room (omega arith) (omega arith) (λ l. first l ∙ ap (runAt w v) (sym (add-zero a))) fits

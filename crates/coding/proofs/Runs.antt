@@ -14,7 +14,7 @@ use Rattle.source_rules.specs.kinds.Rows.{tablesOf}
 use Rattle.columns.specs.Grounds.{smallBody, columnGround}
 use Rattle.columns.specs.column_pair.Pair.{rangeIn}
 use Rattle.walk.specs.Log.{startOf}
-use Rattle.walk.specs.State as state
+use Rattle.walk.specs.State as words
 use Rattle.anew.specs.Anew.{ahead, roomGround}
 use Rattle.anew.proofs.result_plan.Answered.{before-walk}
 use Rattle.coding.proofs.run_walks.Plans.{RowsPlan, rows-plan}
@@ -117,7 +117,7 @@ module _ (formats schema lengths places buffers body : List ℕ) (first n target
       let d = own formats schema lengths places buffers body first n target start end low small g o in
       rows-plan formats schema target keeps (d .of-type) (d .low) (valueNumber formats schema first target) (type-is formats schema lengths places buffers body first n target start end low small g o)
 
-  pub no-ends : (i : ℕ) → suc i < 1 → state.codeOf made i ≡ 23 → keeps (suc i) ≡ false
+  pub no-ends : (i : ℕ) → suc i < 1 → words.codeOf made i ≡ 23 → keeps (suc i) ≡ false
   no-ends i l e = absurd (omega arith)
 
   -- THE ROWS FIT

@@ -33,29 +33,29 @@ use Rattle.coding.specs.Counted.{runCounts, allCounts}
 
 -- ---- one write that stays in the room
 
-module _ (state parts : List ℕ) where
-  pub put-in : (i b o : ℕ) (bs room : List ℕ) → startOf state parts i b + o + length bs ≤ length room → splice (startOf state parts i b + o) bs room ≡ applyIf state parts true (put i b o bs ∷ []) room
+module _ (plan parts : List ℕ) where
+  pub put-in : (i b o : ℕ) (bs room : List ℕ) → startOf plan parts i b + o + length bs ≤ length room → splice (startOf plan parts i b + o) bs room ≡ applyIf plan parts true (put i b o bs ∷ []) room
   unfolding applyIf apply enter inRoom
   put-in i b o bs room h = rw (le-leb _ _ h) refl
 
-  pub mask-in : (i p : ℕ) (vs room : List ℕ) → 8 * startOf state parts i 0 + p + length vs ≤ 8 * length room → putBits (8 * startOf state parts i 0 + p) vs room ≡ applyIf state parts true (mask i p vs ∷ []) room
+  pub mask-in : (i p : ℕ) (vs room : List ℕ) → 8 * startOf plan parts i 0 + p + length vs ≤ 8 * length room → putBits (8 * startOf plan parts i 0 + p) vs room ≡ applyIf plan parts true (mask i p vs ∷ []) room
   unfolding applyIf apply enter inRoom
   mask-in i p vs room h = rw (le-leb _ _ h) refl
 
 -- ---- a run
 
-module _ (state parts : List ℕ) (k : Number) (w : ℕ) (v : Column (tPlain (fixed k))) (a m : ℕ) (keep : Bool) (body : List ℕ) (wk start at bit : ℕ) (wide : wk ≡ width k)
+module _ (plan parts : List ℕ) (k : Number) (w : ℕ) (v : Column (tPlain (fixed k))) (a m : ℕ) (keep : Bool) (body : List ℕ) (wk start at bit : ℕ) (wide : wk ≡ width k)
     (valid : (r : ℕ) → r < m → validIn body keep at bit r ≡ okAt v (a + r))
     (bytes : (r : ℕ) → r < m → encode wk (cellOf (okAt v (a + r)) (numberIn body wk start r)) ≡ cell k v (a + r))
     (edges : (r : ℕ) → r < m → lastIn body wk keep start at bit m r ≡ edge k v a m r) where
   abbrev ends : ℕ
-  ends = startOf state parts 1 1
+  ends = startOf plan parts 1 1
 
   abbrev values : ℕ
-  values = startOf state parts 2 1
+  values = startOf plan parts 2 1
 
   abbrev goal : ℕ
-  goal = startOf state parts 2 0
+  goal = startOf plan parts 2 0
 
   abbrev Room : ℕ → ℕ → Type 0
   Room = Fits wk keep w ends values goal
@@ -96,25 +96,25 @@ module _ (state parts : List ℕ) (k : Number) (w : ℕ) (v : Column (tPlain (fi
     counted : addRows 2 1 (addRows 1 1 (runCounts j)) ≡ runCounts (suc j)
     counted = ap runCounts (grown-is j 1 (omega arith) ∙ add-one j)
 
-    bit-did : Did state parts true (emitBit k w v a m keep r (runCounts j)) (with-value j r room) 0 (runCounts j) (one j r room)
+    bit-did : Did plan parts true (emitBit k w v a m keep r (runCounts j)) (with-value j r room) 0 (runCounts j) (one j r room)
     unfolding emitBit
-    bit-did = subst (Did state parts true (emitBit k w v a m keep r (runCounts j)) (with-value j r room) 0 (runCounts j)) (sym one-is) (go keep refl)
+    bit-did = subst (Did plan parts true (emitBit k w v a m keep r (runCounts j)) (with-value j r room) 0 (runCounts j)) (sym one-is) (go keep refl)
       where
         go : (b : Bool) → keep ≡ b
-            → Did state parts true (cond b (wrote (mask 2 (rows (runCounts j) 2) (flag (okAt v (a + r)) ∷ [])) (runCounts j)) (done (runCounts j))) (with-value j r room) 0 (runCounts j)
+            → Did plan parts true (cond b (wrote (mask 2 (rows (runCounts j) 2) (flag (okAt v (a + r)) ∷ [])) (runCounts j)) (done (runCounts j))) (with-value j r room) 0 (runCounts j)
             (cond b (putBits (8 * goal + j) (flag (okAt v (a + r)) ∷ []) (with-value j r room)) (with-value j r room))
         go true e =
             wrote-did true (mask 2 j (flag (okAt v (a + r)) ∷ [])) (runCounts j) (with-value j r room) _
-            (mask-in state parts 2 j (flag (okAt v (a + r)) ∷ []) (with-value j r room) (omega (arith, fits .of-bits e, value-long)))
+            (mask-in plan parts 2 j (flag (okAt v (a + r)) ∷ []) (with-value j r room) (omega (arith, fits .of-bits e, value-long)))
         go false e = done-did true (runCounts j) (with-value j r room)
 
     -- A RUN IS WRITTEN
-    emit-did : Did state parts true (emit k w v a m keep r (runCounts j)) room 0 (runCounts (suc j)) (one j r room)
+    emit-did : Did plan parts true (emit k w v a m keep r (runCounts j)) room 0 (runCounts (suc j)) (one j r room)
     unfolding emit
     emit-did =
-        next-ok _ (wrote-did true (put 1 1 (j * w) (encode w (suc r))) (runCounts j) room (with-end j r room) (put-in state parts 1 1 (j * w) (encode w (suc r)) room (omega (arith, length-encode w (suc r), end-in)))) refl
-        (next-ok _ (wrote-did true (put 2 1 (j * width k) (cell k v (a + r))) (runCounts j) (with-end j r room) (with-value j r room) (put-in state parts 2 1 (j * width k) (cell k v (a + r)) (with-end j r room) (omega (arith, cell-long r l, value-in, end-long)))) refl
-        (next-ok _ bit-did refl (subst (λ c. Did state parts true (done (addRows 2 1 (addRows 1 1 (runCounts j)))) (one j r room) 0 c (one j r room)) counted (done-did true (addRows 2 1 (addRows 1 1 (runCounts j))) (one j r room)))))
+        next-ok _ (wrote-did true (put 1 1 (j * w) (encode w (suc r))) (runCounts j) room (with-end j r room) (put-in plan parts 1 1 (j * w) (encode w (suc r)) room (omega (arith, length-encode w (suc r), end-in)))) refl
+        (next-ok _ (wrote-did true (put 2 1 (j * width k) (cell k v (a + r))) (runCounts j) (with-end j r room) (with-value j r room) (put-in plan parts 2 1 (j * width k) (cell k v (a + r)) (with-end j r room) (omega (arith, cell-long r l, value-in, end-long)))) refl
+        (next-ok _ bit-did refl (subst (λ c. Did plan parts true (done (addRows 2 1 (addRows 1 1 (runCounts j)))) (one j r room) 0 c (one j r room)) counted (done-did true (addRows 2 1 (addRows 1 1 (runCounts j))) (one j r room)))))
 
   -- ---- row by row
 
@@ -137,15 +137,15 @@ module _ (state parts : List ℕ) (k : Number) (w : ℕ) (v : Column (tPlain (fi
   abbrev written : ℕ → List ℕ → List ℕ → List ℕ
   written = runsWritten body wk keep start at bit w ends values goal
 
-  row-did : (r j : ℕ) (room : List ℕ) (b : Bool) → r < m → ends-run r ≡ b → {c : List ℕ} {room2 : List ℕ} → Did state parts true (cond b (emit k w v a m keep r (runCounts j)) (done (runCounts j))) room 0 c room2
-      → Did state parts true (encodeRow k w v a m keep r (runCounts j)) room 0 c room2
+  row-did : (r j : ℕ) (room : List ℕ) (b : Bool) → r < m → ends-run r ≡ b → {c : List ℕ} {room2 : List ℕ} → Did plan parts true (cond b (emit k w v a m keep r (runCounts j)) (done (runCounts j))) room 0 c room2
+      → Did plan parts true (encodeRow k w v a m keep r (runCounts j)) room 0 c room2
   unfolding encodeRow
   row-did r j room b l e d = rw (sym (edges r l) ∙ e) d
 
   rows-did : (n r j : ℕ) (room : List ℕ) → r + n ≡ m → j + length (those ends-run r n) < far → Room (length room) (j + length (those ends-run r n))
-      → Did state parts true (each (encodeRow k w v a m keep) n r (runCounts j)) room 0 (runCounts (j + length (those ends-run r n))) (written j (those ends-run r n) room)
+      → Did plan parts true (each (encodeRow k w v a m keep) n r (runCounts j)) room 0 (runCounts (j + length (those ends-run r n))) (written j (those ends-run r n) room)
   unfolding runsWritten
-  rows-did zero r j room e f h = subst (λ z. Did state parts true (each (encodeRow k w v a m keep) 0 r (runCounts j)) room 0 (runCounts z) room) (sym (add-zero j)) (each-none true (encodeRow k w v a m keep) 0 r (runCounts j) room refl)
+  rows-did zero r j room e f h = subst (λ z. Did plan parts true (each (encodeRow k w v a m keep) 0 r (runCounts j)) room 0 (runCounts z) room) (sym (add-zero j)) (each-none true (encodeRow k w v a m keep) 0 r (runCounts j) room refl)
   rows-did (suc n) r j room e f h = go (ends-run r) refl (λ i other. rows-did n (suc r) i other) f h
     where
       rest : List ℕ
@@ -156,15 +156,15 @@ module _ (state parts : List ℕ) (k : Number) (w : ℕ) (v : Column (tPlain (fi
 
       go : (b : Bool) → ends-run r ≡ b
           → ((i : ℕ) (other : List ℕ) → suc r + n ≡ m → i + length rest < far → Room (length other) (i + length rest)
-          → Did state parts true (each (encodeRow k w v a m keep) n (suc r) (runCounts i)) other 0 (runCounts (i + length rest)) (written i rest other))
+          → Did plan parts true (each (encodeRow k w v a m keep) n (suc r) (runCounts i)) other 0 (runCounts (i + length rest)) (written i rest other))
           → j + length (cond b (r ∷ rest) rest) < far → Room (length room) (j + length (cond b (r ∷ rest) rest))
-          → Did state parts true (each (encodeRow k w v a m keep) (suc n) r (runCounts j)) room 0 (runCounts (j + length (cond b (r ∷ rest) rest))) (written j (cond b (r ∷ rest) rest) room)
+          → Did plan parts true (each (encodeRow k w v a m keep) (suc n) r (runCounts j)) room 0 (runCounts (j + length (cond b (r ∷ rest) rest))) (written j (cond b (r ∷ rest) rest) room)
       go true q ih f h =
           let few : j < far = omega arith in
           let one-fits : Room (length room) (suc j) = subst (Room (length room)) (add-one j) (fewer-fit wk keep w ends values goal (length room) (j + suc (length rest)) j h (omega arith)) in
           let z : suc j + length rest ≡ j + suc (length rest) = omega arith in
           let more = ih (suc j) (one j r room) (omega arith) (omega arith) (rw (one-long r j room here few one-fits) (subst (Room (length room)) (sym z) h)) in
-          subst (λ y. Did state parts true (each (encodeRow k w v a m keep) (suc n) r (runCounts j)) room 0 (runCounts y) (written (suc j) rest (one j r room))) z
+          subst (λ y. Did plan parts true (each (encodeRow k w v a m keep) (suc n) r (runCounts j)) room 0 (runCounts y) (written (suc j) rest (one j r room))) z
           (each-more true (encodeRow k w v a m keep) (suc n) n r (suc r) (runCounts j) room refl (sym (add-one r)) (row-did r j room true here q (emit-did r j room here few one-fits)) refl more)
       go false q ih f h =
           each-more true (encodeRow k w v a m keep) (suc n) n r (suc r) (runCounts j) room refl (sym (add-one r)) (row-did r j room false here q (done-did true (runCounts j) room)) refl
@@ -175,11 +175,11 @@ module _ (state parts : List ℕ) (k : Number) (w : ℕ) (v : Column (tPlain (fi
 
   -- ALL ROWS
   pub encode-did : (room : List ℕ) → m < far → Room (length room) runs
-      → Did state parts true (encodeWalk k w v a m keep (replicate 96 0)) room 0 (allCounts m runs) (written 0 (those ends-run 0 m) room)
+      → Did plan parts true (encodeWalk k w v a m keep (replicate 96 0)) room 0 (allCounts m runs) (written 0 (those ends-run 0 m) room)
   unfolding encodeWalk
   encode-did room short h =
       let few = those-few ends-run m 0 in
       let g : grown 0 m ≡ m = grown-is 0 m (omega arith) ∙ zero-add m in
       let z : 0 + runs ≡ runs = zero-add runs in
-      next-ok _ (subst (λ y. Did state parts true (each (encodeRow k w v a m keep) m 0 (runCounts 0)) room 0 (runCounts y) (written 0 (those ends-run 0 m) room)) z (rows-did m 0 0 room (zero-add m) (omega (arith, few)) (subst (Room (length room)) (sym z) h))) refl
-      (subst (λ y. Did state parts true (done (addRows 0 m (runCounts runs))) (written 0 (those ends-run 0 m) room) 0 (allCounts y runs) (written 0 (those ends-run 0 m) room)) g (done-did true (addRows 0 m (runCounts runs)) (written 0 (those ends-run 0 m) room)))
+      next-ok _ (subst (λ y. Did plan parts true (each (encodeRow k w v a m keep) m 0 (runCounts 0)) room 0 (runCounts y) (written 0 (those ends-run 0 m) room)) z (rows-did m 0 0 room (zero-add m) (omega (arith, few)) (subst (Room (length room)) (sym z) h))) refl
+      (subst (λ y. Did plan parts true (done (addRows 0 m (runCounts runs))) (written 0 (those ends-run 0 m) room) 0 (allCounts y runs) (written 0 (those ends-run 0 m) room)) g (done-did true (addRows 0 m (runCounts runs)) (written 0 (those ends-run 0 m) room)))

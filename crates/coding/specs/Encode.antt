@@ -70,11 +70,11 @@ module _ (formats schema : List ℕ) (x : Tables) (first n target start end : �
 
   -- THE QUESTION
   abbrev pub encodeAsked : List ℕ → List ℕ → Asking
-  encodeAsked plan counts = asking formats schema x first n encodeOwn encodePlan encodeOut plan counts
+  encodeAsked plan counters = asking formats schema x first n encodeOwn encodePlan encodeOut plan counters
 
   -- THE CALL
   abbrev pub encoding : List ℕ → List ℕ → List ℕ → List ℕ → Opening
-  encoding parts plan counts room = anew formats schema x first n encodeOwn encodePlan encodeOut parts plan counts room
+  encoding parts plan counters room = anew formats schema x first n encodeOwn encodePlan encodeOut parts plan counters room
 
 -- ---- as the rows stand in the body
 
@@ -104,12 +104,12 @@ module _ (formats schema : List ℕ) (x : Tables) (first start end : ℕ) where
   abbrev pub lastOf : Bool → List ℕ
   lastOf keep = lastRows (x .body) wide keep rowsAt maskAt bitAt (end - start)
 
-  module _ (target : ℕ) (state parts : List ℕ) (keep : Bool) where
+  module _ (target : ℕ) (plan parts : List ℕ) (keep : Bool) where
     -- the parts have room for the runs
     abbrev pub RoomFor : ℕ → Type 0
-    RoomFor size = Fits wide keep (widthOf (codeOf formats schema target 1)) (startOf state parts 1 1) (startOf state parts 2 1) (startOf state parts 2 0) size (length (lastOf keep))
+    RoomFor size = Fits wide keep (widthOf (codeOf formats schema target 1)) (startOf plan parts 1 1) (startOf plan parts 2 1) (startOf plan parts 2 0) size (length (lastOf keep))
 
     -- the runs in their parts
     abbrev pub runsIn : List ℕ → List ℕ
     runsIn room =
-        runsWritten (x .body) wide keep rowsAt maskAt bitAt (widthOf (codeOf formats schema target 1)) (startOf state parts 1 1) (startOf state parts 2 1) (startOf state parts 2 0) 0 (lastOf keep) room
+        runsWritten (x .body) wide keep rowsAt maskAt bitAt (widthOf (codeOf formats schema target 1)) (startOf plan parts 1 1) (startOf plan parts 2 1) (startOf plan parts 2 0) 0 (lastOf keep) room

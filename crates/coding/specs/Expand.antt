@@ -68,11 +68,11 @@ module _ (formats schema : List ℕ) (x : Tables) (first n target start end : �
 
   -- THE QUESTION
   abbrev pub expandAsked : List ℕ → List ℕ → Asking
-  expandAsked plan counts = asking formats schema x first n expandOwn expandPlan expandOut plan counts
+  expandAsked plan counters = asking formats schema x first n expandOwn expandPlan expandOut plan counters
 
   -- THE CALL
   abbrev pub expanding : List ℕ → List ℕ → List ℕ → List ℕ → Opening
-  expanding parts plan counts room = anew formats schema x first n expandOwn expandPlan expandOut parts plan counts room
+  expanding parts plan counters room = anew formats schema x first n expandOwn expandPlan expandOut parts plan counters room
 
 -- ---- as the runs stand in the body
 
@@ -124,12 +124,12 @@ module _ (formats schema : List ℕ) (x : Tables) (first start end : ℕ) where
     pub ends : Ends (x .body) endWide endsAt firstRun firstRow (end - start) (lengthOf (tablesFrom x first) 1)
     pub held : Held (x .body) valueWide keep valuesAt valueMask valueBit (lengthOf (tablesFrom x first) 1)
 
-  module _ (state parts : List ℕ) (keep : Bool) where
+  module _ (plan parts : List ℕ) (keep : Bool) where
     -- the part has room for the rows
     abbrev pub RowsFit : ℕ → Type 0
-    RowsFit size = Holds valueWide keep (startOf state parts 0 1) (startOf state parts 0 0) size (end - start)
+    RowsFit size = Holds valueWide keep (startOf plan parts 0 1) (startOf plan parts 0 0) size (end - start)
 
     -- the rows in their part
     abbrev pub rowsIn : List ℕ → List ℕ
     rowsIn room =
-        rowsFrom (x .body) valueWide keep valuesAt valueMask valueBit endWide endsAt firstRow (end - start) (startOf state parts 0 1) (startOf state parts 0 0) (end - start) 0 firstRun room
+        rowsFrom (x .body) valueWide keep valuesAt valueMask valueBit endWide endsAt firstRow (end - start) (startOf plan parts 0 1) (startOf plan parts 0 0) (end - start) 0 firstRun room

@@ -87,22 +87,22 @@ fn run_words(ends: u64, values: u64, f0: u64, f1: u64, f2: u64, k: u64) -> [u64;
     requires { ⌜ k ≤ 1 ⌝ }
     ensures { λ r. ⌜ r ≡ runPlan ends values f0 f1 f2 k ⌝ }
 {
-    let mut state = [0u64; plan_words::WORDS];
-    state[0] = 23;
-    state[2] = 3;
-    state[4] = f0;
-    state[8] = ends;
-    state[10] = 2;
-    state[12] = f1;
-    state[16] = values;
-    state[18] = 3;
-    state[20] = f2;
-    state[plan_words::SOURCE_COUNT] = 1;
-    state[plan_words::NODE_COUNT] = 3;
-    state[21] = k;
-    state[22] = 1 + k;
-    state[plan_words::PART_COUNT] = 2 + k;
-    state
+    let mut plan = [0u64; plan_words::WORDS];
+    plan[0] = 23;
+    plan[2] = 3;
+    plan[4] = f0;
+    plan[8] = ends;
+    plan[10] = 2;
+    plan[12] = f1;
+    plan[16] = values;
+    plan[18] = 3;
+    plan[20] = f2;
+    plan[plan_words::SOURCE_COUNT] = 1;
+    plan[plan_words::NODE_COUNT] = 3;
+    plan[21] = k;
+    plan[22] = 1 + k;
+    plan[plan_words::PART_COUNT] = 2 + k;
+    plan
 }
 
 // The plan of the runs.
@@ -140,11 +140,11 @@ fn planned(
 fn counters_of(m: u64, n: u64) -> [u64; plan_words::COUNTERS]
     ensures { λ r. ⌜ r ≡ allCounts m n ⌝ }
 {
-    let mut counts = [0u64; plan_words::COUNTERS];
-    counts[3] = n;
-    counts[6] = n;
-    counts[0] = m;
-    counts
+    let mut counters = [0u64; plan_words::COUNTERS];
+    counters[3] = n;
+    counters[6] = n;
+    counters[0] = m;
+    counters
 }
 
 // The counters of the runs of the rows start .. end - 1.
@@ -180,20 +180,20 @@ fn runs_ground(
     start: u64,
     end: u64,
     keep: bool,
-    state: &[u64],
+    plan: &[u64],
     parts: &[u64],
     words: usize,
     counters: usize,
     size: usize,
 ) -> u8
     requires { ⌜ Codable (now formats) (now schema) (tables (now lengths) (now places) (now body)) first start end keep ⌝ }
-    ensures { λ r. ⌜ r ≡ roomGround (now (state .entry)) (allCounts (end - start) (length (lastOf (now (formats .entry)) (now (schema .entry)) (tables (now (lengths .entry)) (now (places .entry)) (now (body .entry))) first start end keep))) (now (parts .entry)) words counters size ⌝ }
+    ensures { λ r. ⌜ r ≡ roomGround (now (plan .entry)) (allCounts (end - start) (length (lastOf (now (formats .entry)) (now (schema .entry)) (tables (now (lengths .entry)) (now (places .entry)) (now (body .entry))) first start end keep))) (now (parts .entry)) words counters size ⌝ }
 {
     let most = counters_of(end - start, end - start);
-    if anew::result_plan::room_ground(state, &most, parts, words, counters, size) == 0 {
+    if anew::result_plan::room_ground(plan, &most, parts, words, counters, size) == 0 {
         return 0;
     }
-    let counts = tried(
+    let tally = tried(
         formats,
         schema,
         lengths,
@@ -204,7 +204,7 @@ fn runs_ground(
         end,
         keep,
     );
-    anew::result_plan::room_ground(state, &counts, parts, words, counters, size)
+    anew::result_plan::room_ground(plan, &tally, parts, words, counters, size)
 }
 
 // The runs of the rows start .. end - 1 into their parts, and how many they are.
@@ -219,22 +219,22 @@ fn write(
     start: u64,
     end: u64,
     keep: bool,
-    state: &[u64],
+    plan: &[u64],
     parts: &[u64],
     room: &mut [u8],
 ) -> u64
     requires { ⌜ Sized (widthOf (codeOf (now formats) (now schema) target 1)) × Codable (now formats) (now schema) (tables (now lengths) (now places) (now body)) first start end keep ⌝ }
-    requires { ⌜ RoomFor (now formats) (now schema) (tables (now lengths) (now places) (now body)) first start end target (now state) (now parts) keep (length (now room)) ⌝ }
-    ensures { λ _. ⌜ now (room .exit) ≡ runsIn (now (formats .entry)) (now (schema .entry)) (tables (now (lengths .entry)) (now (places .entry)) (now (body .entry))) first start end target (now (state .entry)) (now (parts .entry)) keep (now (room .entry)) ⌝ }
+    requires { ⌜ RoomFor (now formats) (now schema) (tables (now lengths) (now places) (now body)) first start end target (now plan) (now parts) keep (length (now room)) ⌝ }
+    ensures { λ _. ⌜ now (room .exit) ≡ runsIn (now (formats .entry)) (now (schema .entry)) (tables (now (lengths .entry)) (now (places .entry)) (now (body .entry))) first start end target (now (plan .entry)) (now (parts .entry)) keep (now (room .entry)) ⌝ }
     ensures { λ k. ⌜ k ≡ length (lastOf (now (formats .entry)) (now (schema .entry)) (tables (now (lengths .entry)) (now (places .entry)) (now (body .entry))) first start end keep) ⌝ }
 {
     let w = schema::formats::width_of(schema::code_of(formats, schema, first as usize, 0));
     let e = schema::formats::width_of(schema::code_of(formats, schema, target as usize, 1));
     let s = crate::slots_of(lengths, places, first, 0, w, start);
     let t = Spots {
-        ends: crate::start_of(state, parts, 1, 1) as usize,
-        values: crate::start_of(state, parts, 2, 1) as usize,
-        mask: crate::start_of(state, parts, 2, 0) as usize,
+        ends: crate::start_of(plan, parts, 1, 1) as usize,
+        values: crate::start_of(plan, parts, 2, 1) as usize,
+        mask: crate::start_of(plan, parts, 2, 0) as usize,
     };
     encode_rows::write_runs(room, body, w, keep, s, e, t, (end - start) as usize)
 }
@@ -271,9 +271,9 @@ pub fn plan_encode(
     if counters.len() != plan_words::COUNTERS {
         return 14;
     }
-    let state = planned(formats, schema, lengths, places, body, first, target);
-    let keep = plan_words::keeps_of(&state, 2) != 0;
-    let counts = tried(
+    let draft = planned(formats, schema, lengths, places, body, first, target);
+    let keep = plan_words::keeps_of(&draft, 2) != 0;
+    let tally = tried(
         formats,
         schema,
         lengths,
@@ -284,7 +284,7 @@ pub fn plan_encode(
         end,
         keep,
     );
-    anew::result_plan::keep_result(plan, counters, &state, &counts);
+    anew::result_plan::keep_result(plan, counters, &draft, &tally);
     0
 }
 
@@ -320,8 +320,8 @@ pub fn encode(
     if g != 0 {
         return g;
     }
-    let state = planned(formats, schema, lengths, places, body, first, target);
-    let keep = plan_words::keeps_of(&state, 2) != 0;
+    let draft = planned(formats, schema, lengths, places, body, first, target);
+    let keep = plan_words::keeps_of(&draft, 2) != 0;
     let g = runs_ground(
         formats,
         schema,
@@ -332,7 +332,7 @@ pub fn encode(
         start,
         end,
         keep,
-        &state,
+        &draft,
         parts,
         plan.len(),
         counters.len(),
@@ -352,11 +352,11 @@ pub fn encode(
         start,
         end,
         keep,
-        &state,
+        &draft,
         parts,
         room,
     );
-    let counts = counters_of(end - start, k);
-    anew::result_plan::keep_result(plan, counters, &state, &counts);
+    let tally = counters_of(end - start, k);
+    anew::result_plan::keep_result(plan, counters, &draft, &tally);
     0
 }

@@ -94,16 +94,16 @@ fn row_words(code: u64, nullable: u64, k: u64) -> [u64; plan_words::WORDS]
     requires { ⌜ k ≤ 1 ⌝ }
     ensures { λ r. ⌜ r ≡ rowPlan code nullable k ⌝ }
 {
-    let mut state = [0u64; plan_words::WORDS];
-    state[0] = code;
-    state[2] = 1;
-    state[4] = nullable;
-    state[plan_words::SOURCE_COUNT] = 1;
-    state[plan_words::NODE_COUNT] = 1;
-    state[5] = k;
-    state[6] = k;
-    state[plan_words::PART_COUNT] = 1 + k;
-    state
+    let mut plan = [0u64; plan_words::WORDS];
+    plan[0] = code;
+    plan[2] = 1;
+    plan[4] = nullable;
+    plan[plan_words::SOURCE_COUNT] = 1;
+    plan[plan_words::NODE_COUNT] = 1;
+    plan[5] = k;
+    plan[6] = k;
+    plan[plan_words::PART_COUNT] = 1 + k;
+    plan
 }
 
 // The plan of the rows.
@@ -130,9 +130,9 @@ fn planned(
 fn counters_of(m: u64) -> [u64; plan_words::COUNTERS]
     ensures { λ r. ⌜ r ≡ rowCounts m ⌝ }
 {
-    let mut counts = [0u64; plan_words::COUNTERS];
-    counts[0] = m;
-    counts
+    let mut counters = [0u64; plan_words::COUNTERS];
+    counters[0] = m;
+    counters
 }
 
 // The run of a row, by the run reader.
@@ -160,13 +160,13 @@ fn write(
     start: u64,
     end: u64,
     keep: bool,
-    state: &[u64],
+    plan: &[u64],
     parts: &[u64],
     room: &mut [u8],
 )
     requires { ⌜ (start ≤ end) × (start < end → Expandable (now formats) (now schema) (tables (now lengths) (now places) (now body)) first start end keep) ⌝ }
-    requires { ⌜ RowsFit (now formats) (now schema) (tables (now lengths) (now places) (now body)) first start end (now state) (now parts) keep (length (now room)) ⌝ }
-    ensures { λ _. ⌜ now (room .exit) ≡ rowsIn (now (formats .entry)) (now (schema .entry)) (tables (now (lengths .entry)) (now (places .entry)) (now (body .entry))) first start end (now (state .entry)) (now (parts .entry)) keep (now (room .entry)) ⌝ }
+    requires { ⌜ RowsFit (now formats) (now schema) (tables (now lengths) (now places) (now body)) first start end (now plan) (now parts) keep (length (now room)) ⌝ }
+    ensures { λ _. ⌜ now (room .exit) ≡ rowsIn (now (formats .entry)) (now (schema .entry)) (tables (now (lengths .entry)) (now (places .entry)) (now (body .entry))) first start end (now (plan .entry)) (now (parts .entry)) keep (now (room .entry)) ⌝ }
 {
     if start == end {
         return;
@@ -180,8 +180,8 @@ fn write(
     let count = entries::length_at(lengths, first, 1) as usize;
     let t = Spots {
         ends: 0,
-        values: crate::start_of(state, parts, 0, 1) as usize,
-        mask: crate::start_of(state, parts, 0, 0) as usize,
+        values: crate::start_of(plan, parts, 0, 1) as usize,
+        mask: crate::start_of(plan, parts, 0, 0) as usize,
     };
     let m = (end - start) as usize;
     expand_rows::write_rows(room, body, w, keep, s, e, ends.start, run, x, t, m, count);
@@ -219,9 +219,9 @@ pub fn plan_expand(
     if counters.len() != plan_words::COUNTERS {
         return 14;
     }
-    let state = planned(formats, schema, lengths, places, body, first, target);
-    let counts = counters_of(end - start);
-    anew::result_plan::keep_result(plan, counters, &state, &counts);
+    let draft = planned(formats, schema, lengths, places, body, first, target);
+    let tally = counters_of(end - start);
+    anew::result_plan::keep_result(plan, counters, &draft, &tally);
     0
 }
 
@@ -257,11 +257,11 @@ pub fn expand(
     if g != 0 {
         return g;
     }
-    let state = planned(formats, schema, lengths, places, body, first, target);
-    let counts = counters_of(end - start);
+    let draft = planned(formats, schema, lengths, places, body, first, target);
+    let tally = counters_of(end - start);
     let g = anew::result_plan::room_ground(
-        &state,
-        &counts,
+        &draft,
+        &tally,
         parts,
         plan.len(),
         counters.len(),
@@ -270,7 +270,7 @@ pub fn expand(
     if g != 0 {
         return g;
     }
-    let keep = plan_words::keeps_of(&state, 0) != 0;
+    let keep = plan_words::keeps_of(&draft, 0) != 0;
     write(
         formats,
         schema,
@@ -281,10 +281,10 @@ pub fn expand(
         start,
         end,
         keep,
-        &state,
+        &draft,
         parts,
         room,
     );
-    anew::result_plan::keep_result(plan, counters, &state, &counts);
+    anew::result_plan::keep_result(plan, counters, &draft, &tally);
     0
 }

@@ -58,11 +58,11 @@ pub fn slots_of(lengths: &[u64], places: &[u64], first: u32, i: usize, w: u8, st
 }
 
 // Where the part of buffer b of node i starts; buffer 0 is the validity.
-pub fn start_of(state: &[u64], parts: &[u64], i: usize, b: usize) -> u64
+pub fn start_of(plan: &[u64], parts: &[u64], i: usize, b: usize) -> u64
     requires { ⌜ (i < 32) × (b < 3) ⌝ }
-    ensures { λ r. ⌜ r ≡ startOf (now (state .entry)) (now (parts .entry)) i b ⌝ }
+    ensures { λ r. ⌜ r ≡ startOf (now (plan .entry)) (now (parts .entry)) i b ⌝ }
 {
-    let p = plan_words::part_of(state, i) + b;
+    let p = plan_words::part_of(plan, i) + b;
     if p == 0 {
         return lent_tables::at_u64(parts, 0);
     }

@@ -37,9 +37,9 @@ pub recount : {s p room room2 c q : List ℕ} {wr : Bool} {o : Out} {g : ℕ} �
 recount e d = rw e d
 
 -- plan and counters that pass 14 are of a join's lengths
-pub room-lengths : {g : ℕ} (made counts parts : List ℕ) (plan counters room : ℕ) → g ≡ roomGround made counts parts plan counters room → g ≡ 0 → (plan ≡ 872) × (counters ≡ 96)
+pub room-lengths : {g : ℕ} (made tally parts : List ℕ) (plan counters room : ℕ) → g ≡ roomGround made tally parts plan counters room → g ≡ 0 → (plan ≡ 872) × (counters ≡ 96)
 unfolding roomGround joinLengths
-room-lengths made counts parts plan counters room e z = go (eqb plan 872) refl (eqb counters 96) refl (partsPlaced parts (partTotal made) room) (partsHold made counts parts) (sym e ∙ z)
+room-lengths made tally parts plan counters room e z = go (eqb plan 872) refl (eqb counters 96) refl (partsPlaced parts (partTotal made) room) (partsHold made tally parts) (sym e ∙ z)
   where
     go : (a : Bool) → eqb plan 872 ≡ a → (b : Bool) → eqb counters 96 ≡ b → (c d : Bool) → _≡_ {A = ℕ} (cond (a && b && c) (cond d 0 13) 14) 0 → (plan ≡ 872) × (counters ≡ 96)
     go true p true q c d h = (eqb-true plan 872 p, eqb-true counters 96 q)
@@ -120,12 +120,12 @@ module _ (formats schema lengths places buffers body : List ℕ) (first n target
     unfolding ahead
     refused h = first-of column own (walk .ans) e0 h
 
-    pub ask-refused : (g0 ≡ 0 → ⊥) → (plan counts : List ℕ) → Asks (askList formats schema x first n target tn plan counts) g0 plan counts
-    ask-refused h plan counts = asks-refused formats schema x first n own made walk plan counts (refused h) h
+    pub ask-refused : (g0 ≡ 0 → ⊥) → (plan counters : List ℕ) → Asks (askList formats schema x first n target tn plan counters) g0 plan counters
+    ask-refused h plan counters = asks-refused formats schema x first n own made walk plan counters (refused h) h
 
-    pub make-refused : (g0 ≡ 0 → ⊥) → (parts plan counts room : List ℕ) → length room ≤ ceiling → Answers (makeList formats schema x first n target tn parts plan counts room) g0 plan counts room
+    pub make-refused : (g0 ≡ 0 → ⊥) → (parts plan counters room : List ℕ) → length room ≤ ceiling → Answers (makeList formats schema x first n target tn parts plan counters room) g0 plan counters room
     unfolding smallBody
-    make-refused h parts plan counts room l = answers-refused formats schema x first n own made walk parts plan counts room (le-leb (length room) ceiling l) (refused h) h
+    make-refused h parts plan counters room l = answers-refused formats schema x first n own made walk parts plan counters room (le-leb (length room) ceiling l) (refused h) h
 
     -- ---- none
 
@@ -156,18 +156,18 @@ module _ (formats schema lengths places buffers body : List ℕ) (first n target
       given : Given n
       given = given-at n (both-none .0) (subst (λ k. Due formats schema first n target k) (sym (due .sizes)) due)
 
-      module _ (state : List ℕ) (es : state ≡ planAnew formats schema target n keep false 0) where
+      module _ (draft : List ℕ) (es : draft ≡ planAnew formats schema target n keep false 0) where
         -- what the walk asks
         pub walk-sum : offsetOf (join [] [] lengths [] [] first 0) 0 + lengthOf (join [] [] lengths [] [] first 0) 0 < 2 ^ 63
         walk-sum = given .0
 
-        pub walk-wide : (bytesOf state 0 ≡ 4 → ⊥) → bytesOf state 0 ≡ 8
+        pub walk-wide : (bytesOf draft 0 ≡ 4 → ⊥) → bytesOf draft 0 ≡ 8
         walk-wide = rw es (given .1)
 
-        made-is : state ≡ made
+        made-is : draft ≡ made
         made-is = es ∙ ap (λ k. planAnew formats schema target k keep false 0) (due .sizes)
 
-        module _ (parts : List ℕ) {wr : Bool} {room room2 c : List ℕ} {g : ℕ} (d : Did state parts wr (listWalk (lentWith (tables lengths places body) state parts first n) (replicate 96 0)) room g c room2) where
+        module _ (parts : List ℕ) {wr : Bool} {room room2 c : List ℕ} {g : ℕ} (d : Did draft parts wr (listWalk (lentWith (tables lengths places body) draft parts first n) (replicate 96 0)) room g c room2) where
           walked : Did made parts wr walk room g c room2
           walked =
               subst (λ o. Did made parts wr o room g c room2) (list-same x made parts first n (replicate 96 0))
@@ -178,54 +178,54 @@ module _ (formats schema lengths places buffers body : List ℕ) (first n target
 
           -- ---- the question
 
-          module _ (plan counts : List ℕ) where
-            pub ask-walk : (g ≡ 0 → ⊥) → Asks (askList formats schema x first n target tn plan counts) g plan counts
-            ask-walk h = asks-refused formats schema x first n own made walk plan counts before-is h
+          module _ (plan counters : List ℕ) where
+            pub ask-walk : (g ≡ 0 → ⊥) → Asks (askList formats schema x first n target tn plan counters) g plan counters
+            ask-walk h = asks-refused formats schema x first n own made walk plan counters before-is h
 
             module _ (z : g ≡ 0) where
-              pub ask-plan : (length plan ≡ 872 → ⊥) → Asks (askList formats schema x first n target tn plan counts) 14 plan counts
+              pub ask-plan : (length plan ≡ 872 → ⊥) → Asks (askList formats schema x first n target tn plan counters) 14 plan counters
               unfolding joinLengths
-              ask-plan h = asks-lengths formats schema x first n own made walk plan counts (sym before-is ∙ z) (rw (ne-eqb (length plan) 872 h))
+              ask-plan h = asks-lengths formats schema x first n own made walk plan counters (sym before-is ∙ z) (rw (ne-eqb (length plan) 872 h))
 
-              pub ask-counts : length plan ≡ 872 → (length counts ≡ 96 → ⊥) → Asks (askList formats schema x first n target tn plan counts) 14 plan counts
+              pub ask-counters : length plan ≡ 872 → (length counters ≡ 96 → ⊥) → Asks (askList formats schema x first n target tn plan counters) 14 plan counters
               unfolding joinLengths
-              ask-counts l h = asks-lengths formats schema x first n own made walk plan counts (sym before-is ∙ z) (rw (eq-eqb (length plan) 872 l, ne-eqb (length counts) 96 h))
+              ask-counters l h = asks-lengths formats schema x first n own made walk plan counters (sym before-is ∙ z) (rw (eq-eqb (length plan) 872 l, ne-eqb (length counters) 96 h))
 
-              pub ask-done : length plan ≡ 872 → length counts ≡ 96 → {p q : List ℕ} → p ≡ state → q ≡ c → Asks (askList formats schema x first n target tn plan counts) 0 p q
+              pub ask-done : length plan ≡ 872 → length counters ≡ 96 → {p q : List ℕ} → p ≡ draft → q ≡ c → Asks (askList formats schema x first n target tn plan counters) 0 p q
               unfolding joinLengths
               ask-done l m e f =
-                  asks-done formats schema x first n own made walk plan counts (sym before-is ∙ z) (rw (eq-eqb (length plan) 872 l, eq-eqb (length counts) 96 m)) refl (e ∙ made-is) (f ∙ walked .counters)
+                  asks-done formats schema x first n own made walk plan counters (sym before-is ∙ z) (rw (eq-eqb (length plan) 872 l, eq-eqb (length counters) 96 m)) refl (e ∙ made-is) (f ∙ walked .counters)
 
         -- ---- the call
 
-        module _ (parts plan counts room : List ℕ) (l : length room ≤ ceiling) {room2 c : List ℕ} {g : ℕ}
-            (d : Did state parts false (listWalk (lentWith (tables lengths places body) state parts first n) (replicate 96 0)) room g c room2) where
+        module _ (parts plan counters room : List ℕ) (l : length room ≤ ceiling) {room2 c : List ℕ} {g : ℕ}
+            (d : Did draft parts false (listWalk (lentWith (tables lengths places body) draft parts first n) (replicate 96 0)) room g c room2) where
           abbrev Answered : ℕ → List ℕ → List ℕ → List ℕ → Type 0
-          Answered = Answers (makeList formats schema x first n target tn parts plan counts room)
+          Answered = Answers (makeList formats schema x first n target tn parts plan counters room)
 
           small : smallBody room ≡ true
           unfolding smallBody
           small = le-leb (length room) ceiling l
 
           pub same-room : room2 ≡ room
-          same-room = tried-room state parts _ room d
+          same-room = tried-room draft parts _ room d
 
-          pub make-walk : (g ≡ 0 → ⊥) → Answered g plan counts room2
-          make-walk h = rw same-room (answers-refused formats schema x first n own made walk parts plan counts room small (before-is parts d) h)
+          pub make-walk : (g ≡ 0 → ⊥) → Answered g plan counters room2
+          make-walk h = rw same-room (answers-refused formats schema x first n own made walk parts plan counters room small (before-is parts d) h)
 
-          module _ (z : g ≡ 0) {c2 : List ℕ} (ec : c2 ≡ c) {k : ℕ} (e : k ≡ roomGround state c2 parts (length plan) (length counts) (length room2)) where
-            room-is : k ≡ roomGround made (walk .counts) parts (length plan) (length counts) (length room)
+          module _ (z : g ≡ 0) {c2 : List ℕ} (ec : c2 ≡ c) {k : ℕ} (e : k ≡ roomGround draft c2 parts (length plan) (length counters) (length room2)) where
+            room-is : k ≡ roomGround made (walk .counters) parts (length plan) (length counters) (length room)
             room-is = e ∙ rw (same-room, made-is, ec, walked parts d .counters)
 
-            pub make-room : (k ≡ 0 → ⊥) → Answered k plan counts room2
-            make-room h = rw same-room (answers-room formats schema x first n own made walk parts plan counts room small (sym (before-is parts d) ∙ z) room-is h)
+            pub make-room : (k ≡ 0 → ⊥) → Answered k plan counters room2
+            make-room h = rw same-room (answers-room formats schema x first n own made walk parts plan counters room small (sym (before-is parts d) ∙ z) room-is h)
 
-            pub make-made : k ≡ 0 → {r : ℕ} {p q b : List ℕ} → p ≡ state → Did state parts true (listWalk (lentWith (tables lengths places body) state parts first n) (replicate 96 0)) room2 r q b → Answered r p q b
+            pub make-made : k ≡ 0 → {r : ℕ} {p q b : List ℕ} → p ≡ draft → Did draft parts true (listWalk (lentWith (tables lengths places body) draft parts first n) (replicate 96 0)) room2 r q b → Answered r p q b
             make-made h {r} {p} {q} {b} ep dm =
                 let m = walked parts (rw same-room at dm) in
-                answers-made formats schema x first n own made walk parts plan counts room small (sym (before-is parts d) ∙ z) (sym room-is ∙ h) (m .answer ∙ sym (walked parts d .answer) ∙ z) (ep ∙ made-is) (m .counters) (made-room made parts walk room m)
+                answers-made formats schema x first n own made walk parts plan counters room small (sym (before-is parts d) ∙ z) (sym room-is ∙ h) (m .answer ∙ sym (walked parts d .answer) ∙ z) (ep ∙ made-is) (m .counters) (made-room made parts walk room m)
 
   -- a room above the ceiling
-  pub make-large : (parts plan counts room : List ℕ) → ceiling < length room → Answers (makeList formats schema x first n target tn parts plan counts room) 9 plan counts room
+  pub make-large : (parts plan counters room : List ℕ) → ceiling < length room → Answers (makeList formats schema x first n target tn parts plan counters room) 9 plan counters room
   unfolding smallBody
-  make-large parts plan counts room l = answers-large formats schema x first n own made walk parts plan counts room (lt-leb (length room) ceiling l)
+  make-large parts plan counters room l = answers-large formats schema x first n own made walk parts plan counters room (lt-leb (length room) ceiling l)

@@ -18,24 +18,24 @@ use Rattle.convert.specs.convert_lists.Laid.{laidRow, laidRows}
 -- ---- a walk that only tries
 
 module _ (x : Join) (w : ℕ) (c room : List ℕ) where
-  row-tried : (r : ℕ) → Did (x .state) (x .parts) false (viewRow x w r c) room 0 c room
+  row-tried : (r : ℕ) → Did (x .plan) (x .parts) false (viewRow x w r c) room 0 c room
   unfolding viewRow applyIf
   row-tried r =
       next-ok _ (wrote-did false (put 0 1 (r * w) (encode w (startAt x w r))) c room room refl) refl
       (wrote-did false (put 0 2 (r * w) (encode w (nextAt x w r - startAt x w r))) c room room refl)
 
-  pub rows-tried : (n r : ℕ) → Did (x .state) (x .parts) false (each (viewRow x w) n r c) room 0 c room
+  pub rows-tried : (n r : ℕ) → Did (x .plan) (x .parts) false (each (viewRow x w) n r c) room 0 c room
   rows-tried zero r = each-none false (viewRow x w) 0 r c room refl
   rows-tried (suc n) r = each-more false (viewRow x w) (suc n) n r (r + 1) c room refl refl (row-tried r) refl (rows-tried n (r + 1))
 
 -- ---- rows laid at once
 
-put-in : (state parts : List ℕ) (i b o : ℕ) (bs room : List ℕ) {a : ℕ} → a ≡ startOf state parts i b + o → a + length bs ≤ length room
-    → splice a bs room ≡ applyIf state parts true (put i b o bs ∷ []) room
+put-in : (plan parts : List ℕ) (i b o : ℕ) (bs room : List ℕ) {a : ℕ} → a ≡ startOf plan parts i b + o → a + length bs ≤ length room
+    → splice a bs room ≡ applyIf plan parts true (put i b o bs ∷ []) room
 unfolding applyIf apply enter inRoom
-put-in state parts i b o bs room e l = rw (le-leb (startOf state parts i b + o + length bs) (length room) (omega (arith, e, l))) (ap (λ z. splice z bs room) e)
+put-in plan parts i b o bs room e l = rw (le-leb (startOf plan parts i b + o + length bs) (length room) (omega (arith, e, l))) (ap (λ z. splice z bs room) e)
 
-module _ (x : Join) (w at too from : ℕ) (ea : at ≡ startOf (x .state) (x .parts) 0 1) (et : too ≡ startOf (x .state) (x .parts) 0 2) (ef : from ≡ place x 0 3 + w * offsetOf x 0) where
+module _ (x : Join) (w at too from : ℕ) (ea : at ≡ startOf (x .plan) (x .parts) 0 1) (et : too ≡ startOf (x .plan) (x .parts) 0 2) (ef : from ≡ place x 0 3 + w * offsetOf x 0) where
   starts : (r : ℕ) → entry w (x .body) from r ≡ startAt x w r
   starts r =
       let e : from + w * r ≡ place x 0 3 + w * (offsetOf x 0 + r) = omega (arith, ef, mul-add w (offsetOf x 0) r) in
@@ -66,18 +66,18 @@ module _ (x : Join) (w at too from : ℕ) (ea : at ≡ startOf (x .state) (x .pa
     pub row-long : length (laidRow w (x .body) from at too r room) ≡ length room
     row-long = length-splice (too + w * r) (encode w size) first second-fits ∙ first-long
 
-    pub row-laid : (c : List ℕ) → Did (x .state) (x .parts) true (viewRow x w r c) room 0 c (laidRow w (x .body) from at too r room)
+    pub row-laid : (c : List ℕ) → Did (x .plan) (x .parts) true (viewRow x w r c) room 0 c (laidRow w (x .body) from at too r room)
     unfolding viewRow
     row-laid c =
-        let p : at + w * r ≡ startOf (x .state) (x .parts) 0 1 + r * w = omega (arith, ea, mul-comm w r) in
-        let q : too + w * r ≡ startOf (x .state) (x .parts) 0 2 + r * w = omega (arith, et, mul-comm w r) in
+        let p : at + w * r ≡ startOf (x .plan) (x .parts) 0 1 + r * w = omega (arith, ea, mul-comm w r) in
+        let q : too + w * r ≡ startOf (x .plan) (x .parts) 0 2 + r * w = omega (arith, et, mul-comm w r) in
         let d : size ≡ nextAt x w r - startAt x w r = ap₂ (λ m n. m - n) (nexts r) (starts r) in
         next-ok _
         (wrote-did true (put 0 1 (r * w) (encode w (startAt x w r))) c room first
-        (put-in (x .state) (x .parts) 0 1 (r * w) (encode w (entry w (x .body) from r)) room p first-fits ∙ ap (λ z. applyIf (x .state) (x .parts) true (put 0 1 (r * w) (encode w z) ∷ []) room) (starts r)))
+        (put-in (x .plan) (x .parts) 0 1 (r * w) (encode w (entry w (x .body) from r)) room p first-fits ∙ ap (λ z. applyIf (x .plan) (x .parts) true (put 0 1 (r * w) (encode w z) ∷ []) room) (starts r)))
         refl
         (wrote-did true (put 0 2 (r * w) (encode w (nextAt x w r - startAt x w r))) c first (laidRow w (x .body) from at too r room)
-        (put-in (x .state) (x .parts) 0 2 (r * w) (encode w size) first q second-fits ∙ ap (λ z. applyIf (x .state) (x .parts) true (put 0 2 (r * w) (encode w z) ∷ []) first) d))
+        (put-in (x .plan) (x .parts) 0 2 (r * w) (encode w size) first q second-fits ∙ ap (λ z. applyIf (x .plan) (x .parts) true (put 0 2 (r * w) (encode w z) ∷ []) first) d))
 
   ahead : (a n r m : ℕ) → a + w * (r + suc n) ≤ m → a + w * (r + 1) ≤ m
   ahead a n r m h =
@@ -90,7 +90,7 @@ module _ (x : Join) (w at too from : ℕ) (ea : at ≡ startOf (x .state) (x .pa
       subst (λ z. a + w * z ≤ m2) (sym k) (omega (arith, e, h))
 
   pub rows-laid : (n r : ℕ) (c room : List ℕ) → at + w * (r + n) ≤ length room → too + w * (r + n) ≤ length room
-      → Did (x .state) (x .parts) true (each (viewRow x w) n r c) room 0 c (laidRows w (x .body) from at too n r room)
+      → Did (x .plan) (x .parts) true (each (viewRow x w) n r c) room 0 c (laidRows w (x .body) from at too n r room)
   unfolding laidRows
   rows-laid zero r c room la lt = each-none true (viewRow x w) 0 r c room refl
   rows-laid (suc n) r c room la lt =
@@ -101,7 +101,7 @@ module _ (x : Join) (w at too from : ℕ) (ea : at ≡ startOf (x .state) (x .pa
       (rows-laid n (r + 1) c (laidRow w (x .body) from at too r room) (behind at n r (length room) _ l la) (behind too n r (length room) _ l lt))
 
   pub all-laid : (n : ℕ) (c room : List ℕ) → at + w * n ≤ length room → too + w * n ≤ length room
-      → Did (x .state) (x .parts) true (each (viewRow x w) n 0 c) room 0 c (laidRows w (x .body) from at too n 0 room)
+      → Did (x .plan) (x .parts) true (each (viewRow x w) n 0 c) room 0 c (laidRows w (x .body) from at too n 0 room)
   all-laid n c room la lt =
       let e : 0 + n ≡ n = omega arith in
       rows-laid n 0 c room (subst (λ k. at + w * k ≤ length room) (sym e) la) (subst (λ k. too + w * k ≤ length room) (sym e) lt)
@@ -130,5 +130,5 @@ pub part-at : {a s : ℕ} → a ≡ s + 0 → a ≡ s
 part-at e = omega (arith, e)
 
 -- a walk by another name of whether it writes
-pub did-write : {state parts : List ℕ} {a b : Bool} {o : Out} {room : List ℕ} {r : ℕ} {c room2 : List ℕ} → a ≡ b → Did state parts b o room r c room2 → Did state parts a o room r c room2
-did-write {state} {parts} {a} {b} {o} {room} {r} {c} {room2} e d = subst (λ y. Did state parts y o room r c room2) (sym e) d
+pub did-write : {plan parts : List ℕ} {a b : Bool} {o : Out} {room : List ℕ} {r : ℕ} {c room2 : List ℕ} → a ≡ b → Did plan parts b o room r c room2 → Did plan parts a o room r c room2
+did-write {plan} {parts} {a} {b} {o} {room} {r} {c} {room2} e d = subst (λ y. Did plan parts y o room r c room2) (sym e) d

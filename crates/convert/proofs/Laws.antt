@@ -138,16 +138,16 @@ module _ (formats schema : List ℕ) (first n target tn : ℕ) where
 
 -- ---- a slot of the root
 
-module _ (places body : List ℕ) (first slot : ℕ) (state parts lengths : List ℕ) (w : ℕ) where
+module _ (places body : List ℕ) (first slot : ℕ) (plan parts lengths : List ℕ) (w : ℕ) where
   abbrev own : Option (List ℕ)
   own = validOf (column [] places [] body first) 0
 
-  own-is : walks.validity (join state parts lengths places body first 0) w ≡ own
+  own-is : walks.validity (join plan parts lengths places body first 0) w ≡ own
   own-is =
       let z : Tables = record { lengths = []; places = places; buffers = []; body = body } in
       sym (rw (place-from z first 0 0, place-from z first 0 1, place-from z first 0 2))
 
-  pub slot-valid : validity.Valid ≡ validIn own slot → true ≡ ok (walks.validity (join state parts lengths places body first 0) w) slot
+  pub slot-valid : validity.Valid ≡ validIn own slot → true ≡ ok (walks.validity (join plan parts lengths places body first 0) w) slot
   slot-valid e = rw own-is (go own e)
     where
       at : (b c : Bool) → validity.Valid ≡ cond b (cond c validity.Valid validity.Null) validity.Outside → true ≡ c
@@ -159,7 +159,7 @@ module _ (places body : List ℕ) (first slot : ℕ) (state parts lengths : List
       go none e = refl
       go (some m) e = at (ltb (slot / 8) (length m)) (bit m slot) e
 
-  pub slot-null : validity.Null ≡ validIn own slot → false ≡ ok (walks.validity (join state parts lengths places body first 0) w) slot
+  pub slot-null : validity.Null ≡ validIn own slot → false ≡ ok (walks.validity (join plan parts lengths places body first 0) w) slot
   slot-null e = rw own-is (go own e)
     where
       at : (b c : Bool) → validity.Null ≡ cond b (cond c validity.Valid validity.Null) validity.Outside → false ≡ c
@@ -171,7 +171,7 @@ module _ (places body : List ℕ) (first slot : ℕ) (state parts lengths : List
       go none e = absurd (let q : _≡_ {A = ℕ} 0 1 = cc in omega arith)
       go (some m) e = at (ltb (slot / 8) (length m)) (bit m slot) e
 
-  pub slot-outside : validity.Outside ≡ validIn own slot → false ≡ ok (walks.validity (join state parts lengths places body first 0) w) slot
+  pub slot-outside : validity.Outside ≡ validIn own slot → false ≡ ok (walks.validity (join plan parts lengths places body first 0) w) slot
   unfolding bit
   slot-outside e = rw own-is (go own e)
     where

@@ -41,20 +41,20 @@ pub row-small : (w r : ℕ) → (r + 1) * w < 2 ^ 64 → r * w < 2 ^ 64
 row-small w r h = let b : r * w ≤ (r + 1) * w = mul-le-mul-right w (omega arith) in omega (arith, h, b)
 
 pub view-did : (x : Join) (wr : Bool) (w r : ℕ) (c room : List ℕ) (slot : ℕ) → slot ≡ offsetOf x 0 → {at : ℕ} → at ≡ root x → {start after size o : ℕ} → start ≡ entry w (x .body) at (slot + r)
-    → after ≡ entry w (x .body) at (slot + r + 1) → o ≡ r * w → {room1 room2 : List ℕ} → room1 ≡ applyIf (x .state) (x .parts) wr (put 0 1 o (encode w start) ∷ []) room → size ≡ after - start
-    → room2 ≡ applyIf (x .state) (x .parts) wr (put 0 2 o (encode w size) ∷ []) room1 → Did (x .state) (x .parts) wr (viewRow x w r c) room 0 c room2
+    → after ≡ entry w (x .body) at (slot + r + 1) → o ≡ r * w → {room1 room2 : List ℕ} → room1 ≡ applyIf (x .plan) (x .parts) wr (put 0 1 o (encode w start) ∷ []) room → size ≡ after - start
+    → room2 ≡ applyIf (x .plan) (x .parts) wr (put 0 2 o (encode w size) ∷ []) room1 → Did (x .plan) (x .parts) wr (viewRow x w r c) room 0 c room2
 unfolding viewRow
 view-did x wr w r c room slot s e {start} {after} {size} {o} f g eo {room1} {room2} h es k =
     let a : start ≡ startAt x w r = f ∙ ap₂ (λ p q. entry w (x .body) p (q + r)) (e ∙ sym (root-is x)) s in
     let b : after ≡ nextAt x w r = g ∙ ap₂ (λ p q. entry w (x .body) p (q + r + 1)) (e ∙ sym (root-is x)) s in
     let d : size ≡ nextAt x w r - startAt x w r = es ∙ ap₂ (λ m n. m - n) b a in
-    next-ok _ (wrote-did wr (put 0 1 (r * w) (encode w (startAt x w r))) c room _ (h ∙ ap₂ (λ p q. applyIf (x .state) (x .parts) wr (put 0 1 p (encode w q) ∷ []) room) eo a)) refl
-    (wrote-did wr (put 0 2 (r * w) (encode w (nextAt x w r - startAt x w r))) c room1 room2 (k ∙ ap₂ (λ p q. applyIf (x .state) (x .parts) wr (put 0 2 p (encode w q) ∷ []) room1) eo d))
+    next-ok _ (wrote-did wr (put 0 1 (r * w) (encode w (startAt x w r))) c room _ (h ∙ ap₂ (λ p q. applyIf (x .plan) (x .parts) wr (put 0 1 p (encode w q) ∷ []) room) eo a)) refl
+    (wrote-did wr (put 0 2 (r * w) (encode w (nextAt x w r - startAt x w r))) c room1 room2 (k ∙ ap₂ (λ p q. applyIf (x .plan) (x .parts) wr (put 0 2 p (encode w q) ∷ []) room1) eo d))
 
 -- ---- all rows
 
 module _ (x : Join) (wr : Bool) (w n : ℕ) (c room : List ℕ) where
-  pub rows-none : n ≡ 0 → Did (x .state) (x .parts) wr (viewRows x w n c) room 0 c room
+  pub rows-none : n ≡ 0 → Did (x .plan) (x .parts) wr (viewRows x w n c) room 0 c room
   unfolding viewRows
   rows-none h = rw h (done-did wr c room)
 
@@ -64,11 +64,11 @@ module _ (x : Join) (wr : Bool) (w n : ℕ) (c room : List ℕ) where
         subst (λ k. rowsIn x (place x 0 3) w (offsetOf x 0) k ≡ b) (add-one n)
         (subst (λ k. rowsIn x (place x 0 3) w k (n + 1) ≡ b) s (subst (λ k. rowsIn x k w slot (n + 1) ≡ b) (e ∙ sym (root-is x)) q))
 
-    pub rows-short : not t ≡ true → Did (x .state) (x .parts) wr (viewRows x w n c) room 12 c room
+    pub rows-short : not t ≡ true → Did (x .plan) (x .parts) wr (viewRows x w n c) room 12 c room
     unfolding viewRows
     rows-short h = rw (ne-eqb n 0 some) (need-no _ (held (no f h)))
 
-    pub rows-all : not t ≡ false → {g : ℕ} {c2 room2 : List ℕ} → Did (x .state) (x .parts) wr (each (viewRow x w) n 0 c) room g c2 room2 → Did (x .state) (x .parts) wr (viewRows x w n c) room g c2 room2
+    pub rows-all : not t ≡ false → {g : ℕ} {c2 room2 : List ℕ} → Did (x .plan) (x .parts) wr (each (viewRow x w) n 0 c) room g c2 room2 → Did (x .plan) (x .parts) wr (viewRows x w n c) room g c2 room2
     unfolding viewRows
     rows-all h d = rw (ne-eqb n 0 some) (need-ok 12 c (held (yes f h)) d)
 
@@ -91,24 +91,24 @@ module _ (x : Join) (w slot n r : ℕ) (h : place x 0 3 + w * (slot + (n + 1)) �
 
 -- ---- the whole
 
-module _ (x : Join) (wr : Bool) (c room : List ℕ) (slot n : ℕ) (s : slot ≡ offsetOf x 0) (k : n ≡ lengthOf x 0) {g : ℕ} {c2 room2 : List ℕ} (d : Did (x .state) (x .parts) wr (copyMask x 0 slot n c) room g c2 room2) where
-  masked : Did (x .state) (x .parts) wr (copyMask x 0 (offsetOf x 0) (lengthOf x 0) c) room g c2 room2
-  masked = subst (λ a. Did (x .state) (x .parts) wr (copyMask x 0 a (lengthOf x 0) c) room g c2 room2) s (subst (λ b. Did (x .state) (x .parts) wr (copyMask x 0 slot b c) room g c2 room2) k d)
+module _ (x : Join) (wr : Bool) (c room : List ℕ) (slot n : ℕ) (s : slot ≡ offsetOf x 0) (k : n ≡ lengthOf x 0) {g : ℕ} {c2 room2 : List ℕ} (d : Did (x .plan) (x .parts) wr (copyMask x 0 slot n c) room g c2 room2) where
+  masked : Did (x .plan) (x .parts) wr (copyMask x 0 (offsetOf x 0) (lengthOf x 0) c) room g c2 room2
+  masked = subst (λ a. Did (x .plan) (x .parts) wr (copyMask x 0 a (lengthOf x 0) c) room g c2 room2) s (subst (λ b. Did (x .plan) (x .parts) wr (copyMask x 0 slot b c) room g c2 room2) k d)
 
-  pub walk-mask : (g ≡ 0 → ⊥) → Did (x .state) (x .parts) wr (viewWalk x (bytesOf (x .state) 0) c) room g c2 room2
+  pub walk-mask : (g ≡ 0 → ⊥) → Did (x .plan) (x .parts) wr (viewWalk x (bytesOf (x .plan) 0) c) room g c2 room2
   unfolding viewWalk
   walk-mask h = next-no _ masked h
 
-  module _ (h : g ≡ 0) (w : ℕ) (b : w ≡ bytesOf (x .state) 0) {g2 : ℕ} {room3 : List ℕ} (f : Did (x .state) (x .parts) wr (viewRows x w n c2) room2 g2 c2 room3) where
-    viewed : Did (x .state) (x .parts) wr (viewRows x (bytesOf (x .state) 0) (lengthOf x 0) c2) room2 g2 c2 room3
-    viewed = subst (λ a. Did (x .state) (x .parts) wr (viewRows x a (lengthOf x 0) c2) room2 g2 c2 room3) b (subst (λ m. Did (x .state) (x .parts) wr (viewRows x w m c2) room2 g2 c2 room3) k f)
+  module _ (h : g ≡ 0) (w : ℕ) (b : w ≡ bytesOf (x .plan) 0) {g2 : ℕ} {room3 : List ℕ} (f : Did (x .plan) (x .parts) wr (viewRows x w n c2) room2 g2 c2 room3) where
+    viewed : Did (x .plan) (x .parts) wr (viewRows x (bytesOf (x .plan) 0) (lengthOf x 0) c2) room2 g2 c2 room3
+    viewed = subst (λ a. Did (x .plan) (x .parts) wr (viewRows x a (lengthOf x 0) c2) room2 g2 c2 room3) b (subst (λ m. Did (x .plan) (x .parts) wr (viewRows x w m c2) room2 g2 c2 room3) k f)
 
-    pub walk-rows : (g2 ≡ 0 → ⊥) → Did (x .state) (x .parts) wr (viewWalk x (bytesOf (x .state) 0) c) room g2 c2 room3
+    pub walk-rows : (g2 ≡ 0 → ⊥) → Did (x .plan) (x .parts) wr (viewWalk x (bytesOf (x .plan) 0) c) room g2 c2 room3
     unfolding viewWalk
     walk-rows i = next-ok _ masked h (next-no _ viewed i)
 
-    pub walk-done : g2 ≡ 0 → {c4 : List ℕ} → c4 ≡ addRows 0 n c2 → Did (x .state) (x .parts) wr (viewWalk x (bytesOf (x .state) 0) c) room 0 c4 room3
+    pub walk-done : g2 ≡ 0 → {c4 : List ℕ} → c4 ≡ addRows 0 n c2 → Did (x .plan) (x .parts) wr (viewWalk x (bytesOf (x .plan) 0) c) room 0 c4 room3
     unfolding viewWalk
     walk-done i e =
         next-ok _ masked h (next-ok _ viewed i
-        (subst (λ a. Did (x .state) (x .parts) wr (done (addRows 0 (lengthOf x 0) c2)) room3 0 a room3) (ap (λ m. addRows 0 m c2) (sym k) ∙ sym e) (done-did wr (addRows 0 (lengthOf x 0) c2) room3)))
+        (subst (λ a. Did (x .plan) (x .parts) wr (done (addRows 0 (lengthOf x 0) c2)) room3 0 a room3) (ap (λ m. addRows 0 m c2) (sym k) ∙ sym e) (done-did wr (addRows 0 (lengthOf x 0) c2) room3)))

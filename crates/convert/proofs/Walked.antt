@@ -26,14 +26,14 @@ use Rattle.convert.specs.convert_lists.Listing.{endRow, copyRow, listRow
 
 module _ (x : Join) (wr : Bool) (w r : ℕ) (c room : List ℕ) where
   abbrev Done : ℕ → List ℕ → List ℕ → Type 0
-  Done = Did (x .state) (x .parts) wr (listRow x w r c) room
+  Done = Did (x .plan) (x .parts) wr (listRow x w r c) room
 
   -- ---- the offset behind a row
 
-  pub end-did : {o v : ℕ} {room2 : List ℕ} → o ≡ (r + 1) * w → v ≡ rows c 1 → room2 ≡ applyIf (x .state) (x .parts) wr (put 0 1 o (encode w v) ∷ []) room
-      → Did (x .state) (x .parts) wr (endRow x w r c) room 0 c room2
+  pub end-did : {o v : ℕ} {room2 : List ℕ} → o ≡ (r + 1) * w → v ≡ rows c 1 → room2 ≡ applyIf (x .plan) (x .parts) wr (put 0 1 o (encode w v) ∷ []) room
+      → Did (x .plan) (x .parts) wr (endRow x w r c) room 0 c room2
   unfolding endRow
-  end-did e f h = wrote-did wr (put 0 1 (suc r * w) (encode w (rows c 1))) c room _ (h ∙ ap₂ (λ o v. applyIf (x .state) (x .parts) wr (put 0 1 o (encode w v) ∷ []) room) (e ∙ ap (_* w) (add-one r)) f)
+  end-did e f h = wrote-did wr (put 0 1 (suc r * w) (encode w (rows c 1))) c room _ (h ∙ ap₂ (λ o v. applyIf (x .plan) (x .parts) wr (put 0 1 o (encode w v) ∷ []) room) (e ∙ ap (_* w) (add-one r)) f)
 
   -- ---- a valid row
 
@@ -41,30 +41,30 @@ module _ (x : Join) (wr : Bool) (w r : ℕ) (c room : List ℕ) where
     fits-as : ltb (rows c 1 + walks.sizeAt x w r) (half w) ≡ ltb (v + size) (half w)
     fits-as = ap₂ (λ a b. ltb (a + b) (half w)) (sym e) (sym s)
 
-    pub copy-six : not t ≡ true → Did (x .state) (x .parts) wr (copyRow x w r c) room 6 c room
+    pub copy-six : not t ≡ true → Did (x .plan) (x .parts) wr (copyRow x w r c) room 6 c room
     unfolding copyRow
     copy-six h = need-no _ (fits-as ∙ no f h)
 
-    module _ (h : not t ≡ false) {offset g : ℕ} {c2 room2 : List ℕ} (o : offset ≡ walks.offsetAt x w r) (d : Did (x .state) (x .parts) wr (copyWalk x 7 1 offset size c) room g c2 room2) where
-      copied : Did (x .state) (x .parts) wr (copyWalk x 7 1 (walks.offsetAt x w r) (walks.sizeAt x w r) c) room g c2 room2
-      copied = subst (λ a. Did (x .state) (x .parts) wr (copyWalk x 7 1 a (walks.sizeAt x w r) c) room g c2 room2) o (subst (λ b. Did (x .state) (x .parts) wr (copyWalk x 7 1 offset b c) room g c2 room2) s d)
+    module _ (h : not t ≡ false) {offset g : ℕ} {c2 room2 : List ℕ} (o : offset ≡ walks.offsetAt x w r) (d : Did (x .plan) (x .parts) wr (copyWalk x 7 1 offset size c) room g c2 room2) where
+      copied : Did (x .plan) (x .parts) wr (copyWalk x 7 1 (walks.offsetAt x w r) (walks.sizeAt x w r) c) room g c2 room2
+      copied = subst (λ a. Did (x .plan) (x .parts) wr (copyWalk x 7 1 a (walks.sizeAt x w r) c) room g c2 room2) o (subst (λ b. Did (x .plan) (x .parts) wr (copyWalk x 7 1 offset b c) room g c2 room2) s d)
 
-      pub copy-stop : (g ≡ 0 → ⊥) → Did (x .state) (x .parts) wr (copyRow x w r c) room g c2 room2
+      pub copy-stop : (g ≡ 0 → ⊥) → Did (x .plan) (x .parts) wr (copyRow x w r c) room g c2 room2
       unfolding copyRow
       copy-stop z = need-ok 6 c (fits-as ∙ yes f h) (next-no _ copied z)
 
-      pub copy-done : {room3 : List ℕ} → g ≡ 0 → Did (x .state) (x .parts) wr (endRow x w r c2) room2 0 c2 room3 → Did (x .state) (x .parts) wr (copyRow x w r c) room 0 c2 room3
+      pub copy-done : {room3 : List ℕ} → g ≡ 0 → Did (x .plan) (x .parts) wr (endRow x w r c2) room2 0 c2 room3 → Did (x .plan) (x .parts) wr (copyRow x w r c) room 0 c2 room3
       unfolding copyRow
       copy-done z n = need-ok 6 c (fits-as ∙ yes f h) (next-ok _ copied z n)
 
   -- ---- a row
 
   module _ {t : Bool} (e : t ≡ ok (walks.validity x w) (offsetOf x 0 + r)) {g : ℕ} {c2 room2 : List ℕ} where
-    pub row-valid : t ≡ true → Did (x .state) (x .parts) wr (copyRow x w r c) room g c2 room2 → Done g c2 room2
+    pub row-valid : t ≡ true → Did (x .plan) (x .parts) wr (copyRow x w r c) room g c2 room2 → Done g c2 room2
     unfolding listRow
     row-valid h d = rw (sym e ∙ h) d
 
-    pub row-null : t ≡ false → Did (x .state) (x .parts) wr (endRow x w r c) room g c2 room2 → Done g c2 room2
+    pub row-null : t ≡ false → Did (x .plan) (x .parts) wr (endRow x w r c) room g c2 room2 → Done g c2 room2
     unfolding listRow
     row-null h d = rw (sym e ∙ h) d
 
@@ -75,11 +75,11 @@ module _ (x : Join) (wr : Bool) (w n : ℕ) (c room : List ℕ) {t : Bool} (slot
   held : {b : Bool} → (rowsIn x (place x 0 3) w slot n && rowsIn x (place x 0 5) w slot n) ≡ b → (rowsIn x (place x 0 3) w (offsetOf x 0) n && rowsIn x (place x 0 5) w (offsetOf x 0) n) ≡ b
   held {b} h = subst (λ k. (rowsIn x (place x 0 3) w k n && rowsIn x (place x 0 5) w k n) ≡ b) s h
 
-  pub rows-short : not t ≡ true → Did (x .state) (x .parts) wr (listRows x w n c) room 12 c room
+  pub rows-short : not t ≡ true → Did (x .plan) (x .parts) wr (listRows x w n c) room 12 c room
   unfolding listRows
   rows-short h = need-no _ (held (no e h))
 
-  pub rows-all : not t ≡ false → {g : ℕ} {c2 room2 : List ℕ} → Did (x .state) (x .parts) wr (each (listRow x w) n 0 c) room g c2 room2 → Did (x .state) (x .parts) wr (listRows x w n c) room g c2 room2
+  pub rows-all : not t ≡ false → {g : ℕ} {c2 room2 : List ℕ} → Did (x .plan) (x .parts) wr (each (listRow x w) n 0 c) room g c2 room2 → Did (x .plan) (x .parts) wr (listRows x w n c) room g c2 room2
   unfolding listRows
   rows-all h d = need-ok 12 c (held (yes e h)) d
 

@@ -17,7 +17,7 @@ use walk::plan_words;
 
 // Whether slot `slot` of the root is valid.
 fn is_valid(places: &[u64], body: &[u8], first: u32, slot: u64) -> bool
-    ensures { λ r. ⌜ ((state parts lengths : List ℕ) (w : ℕ) → r ≡ ok (validity (join state parts lengths (now (places .entry)) (now (body .entry)) first 0) w) slot) ⌝ }
+    ensures { λ r. ⌜ ((plan parts lengths : List ℕ) (w : ℕ) → r ≡ ok (validity (join plan parts lengths (now (places .entry)) (now (body .entry)) first 0) w) slot) ⌝ }
 {
     match entries::valid_at(places, body, first, 0, slot) {
         entries::Validity::Valid => true,
@@ -28,9 +28,9 @@ fn is_valid(places: &[u64], body: &[u8], first: u32, slot: u64) -> bool
 
 // The offset behind row r: the child's rows.
 fn end_row(
-    state: &[u64],
+    plan: &[u64],
     parts: &[u64],
-    counts: &[u64; plan_words::COUNTERS],
+    counters: &[u64; plan_words::COUNTERS],
     room: &mut [u8],
     write: bool,
     w: u64,
@@ -38,20 +38,20 @@ fn end_row(
 )
     requires { ⌜ ((w ≡ 4 → ⊥) → w ≡ 8) ⌝ }
     requires { ⌜ (r + 1 < 2 ^ 63) × ((r + 1) * w < 2 ^ 64) ⌝ }
-    ensures { λ _. ⌜ ((lengths places body : List ℕ) (first : ℕ) → Did (now (state .entry)) (now (parts .entry)) write (endRow (join (now (state .entry)) (now (parts .entry)) lengths places body first 0) w r (now (counts .entry))) (now (room .entry)) 0 (now (counts .entry)) (now (room .exit))) ⌝ }
+    ensures { λ _. ⌜ ((lengths places body : List ℕ) (first : ℕ) → Did (now (plan .entry)) (now (parts .entry)) write (endRow (join (now (plan .entry)) (now (parts .entry)) lengths places body first 0) w r (now (counters .entry))) (now (room .entry)) 0 (now (counters .entry)) (now (room .exit))) ⌝ }
 {
-    let v = plan_words::rows_of(counts, 1);
-    room_writes::put_number(state, parts, room, write, 0, 1, (r + 1) * w, w, v);
+    let v = plan_words::rows_of(counters, 1);
+    room_writes::put_number(plan, parts, room, write, 0, 1, (r + 1) * w, w, v);
 }
 
 // A valid row r: ground 6, the copy of its stretch, and the offset behind it.
 fn copy_row(
-    state: &[u64],
+    plan: &[u64],
     parts: &[u64],
     lengths: &[u64],
     places: &[u64],
     body: &[u8],
-    counts: &mut [u64; plan_words::COUNTERS],
+    counters: &mut [u64; plan_words::COUNTERS],
     room: &mut [u8],
     write: bool,
     first: u32,
@@ -61,21 +61,21 @@ fn copy_row(
 ) -> u8
     requires { ⌜ ((w ≡ 4 → ⊥) → w ≡ 8) ⌝ }
     requires { ⌜ (slot ≡ offsetOf (join [] [] (now lengths) (now places) (now body) first 0) 0) × (slot + r + 1 < 2 ^ 63) × ((r + 1) * w < 2 ^ 64) × (place (join [] [] (now lengths) (now places) (now body) first 0) 0 3 + w * (slot + r + 1) ≤ length (now body)) × (place (join [] [] (now lengths) (now places) (now body) first 0) 0 5 + w * (slot + r + 1) ≤ length (now body)) ⌝ }
-    ensures { λ g. ⌜ Did (now (state .entry)) (now (parts .entry)) write (copyRow (join (now (state .entry)) (now (parts .entry)) (now (lengths .entry)) (now (places .entry)) (now (body .entry)) first 0) w r (now (counts .entry))) (now (room .entry)) g (now (counts .exit)) (now (room .exit)) ⌝ }
+    ensures { λ g. ⌜ Did (now (plan .entry)) (now (parts .entry)) write (copyRow (join (now (plan .entry)) (now (parts .entry)) (now (lengths .entry)) (now (places .entry)) (now (body .entry)) first 0) w r (now (counters .entry))) (now (room .entry)) g (now (counters .exit)) (now (room .exit)) ⌝ }
 {
     let k = first as usize;
     let offset = lookups::entry_at(body, lent_tables::place(places, k, 3), w, slot + r);
     let size = lookups::entry_at(body, lent_tables::place(places, k, 5), w, slot + r);
-    if !nested_rows::sum_fits(w, plan_words::rows_of(counts, 1), size) {
+    if !nested_rows::sum_fits(w, plan_words::rows_of(counters, 1), size) {
         return 6;
     }
     let g = extend::extend(
-        state,
+        plan,
         parts,
         lengths,
         places,
         body,
-        counts,
+        counters,
         room,
         write,
         0,
@@ -88,18 +88,18 @@ fn copy_row(
     if g != 0 {
         return g;
     }
-    end_row(state, parts, counts, room, write, w, r);
+    end_row(plan, parts, counters, room, write, w, r);
     0
 }
 
 // Row r.
 fn list_row(
-    state: &[u64],
+    plan: &[u64],
     parts: &[u64],
     lengths: &[u64],
     places: &[u64],
     body: &[u8],
-    counts: &mut [u64; plan_words::COUNTERS],
+    counters: &mut [u64; plan_words::COUNTERS],
     room: &mut [u8],
     write: bool,
     first: u32,
@@ -109,16 +109,16 @@ fn list_row(
 ) -> u8
     requires { ⌜ ((w ≡ 4 → ⊥) → w ≡ 8) ⌝ }
     requires { ⌜ (slot ≡ offsetOf (join [] [] (now lengths) (now places) (now body) first 0) 0) × (slot + r + 1 < 2 ^ 63) × ((r + 1) * w < 2 ^ 64) × (place (join [] [] (now lengths) (now places) (now body) first 0) 0 3 + w * (slot + r + 1) ≤ length (now body)) × (place (join [] [] (now lengths) (now places) (now body) first 0) 0 5 + w * (slot + r + 1) ≤ length (now body)) ⌝ }
-    ensures { λ g. ⌜ Did (now (state .entry)) (now (parts .entry)) write (listRow (join (now (state .entry)) (now (parts .entry)) (now (lengths .entry)) (now (places .entry)) (now (body .entry)) first 0) w r (now (counts .entry))) (now (room .entry)) g (now (counts .exit)) (now (room .exit)) ⌝ }
+    ensures { λ g. ⌜ Did (now (plan .entry)) (now (parts .entry)) write (listRow (join (now (plan .entry)) (now (parts .entry)) (now (lengths .entry)) (now (places .entry)) (now (body .entry)) first 0) w r (now (counters .entry))) (now (room .entry)) g (now (counters .exit)) (now (room .exit)) ⌝ }
 {
     if is_valid(places, body, first, slot + r) {
         return copy_row(
-            state,
+            plan,
             parts,
             lengths,
             places,
             body,
-            counts,
+            counters,
             room,
             write,
             first,
@@ -127,18 +127,18 @@ fn list_row(
             r,
         );
     }
-    end_row(state, parts, counts, room, write, w, r);
+    end_row(plan, parts, counters, room, write, w, r);
     0
 }
 
 // All n rows.
 fn list_rows(
-    state: &[u64],
+    plan: &[u64],
     parts: &[u64],
     lengths: &[u64],
     places: &[u64],
     body: &[u8],
-    counts: &mut [u64; plan_words::COUNTERS],
+    counters: &mut [u64; plan_words::COUNTERS],
     room: &mut [u8],
     write: bool,
     first: u32,
@@ -148,7 +148,7 @@ fn list_rows(
 ) -> u8
     requires { ⌜ ((w ≡ 4 → ⊥) → w ≡ 8) ⌝ }
     requires { ⌜ (slot ≡ offsetOf (join [] [] (now lengths) (now places) (now body) first 0) 0) × (slot + n < 2 ^ 63) ⌝ }
-    ensures { λ g. ⌜ Did (now (state .entry)) (now (parts .entry)) write (listRows (join (now (state .entry)) (now (parts .entry)) (now (lengths .entry)) (now (places .entry)) (now (body .entry)) first 0) w n (now (counts .entry))) (now (room .entry)) g (now (counts .exit)) (now (room .exit)) ⌝ }
+    ensures { λ g. ⌜ Did (now (plan .entry)) (now (parts .entry)) write (listRows (join (now (plan .entry)) (now (parts .entry)) (now (lengths .entry)) (now (places .entry)) (now (body .entry)) first 0) w n (now (counters .entry))) (now (room .entry)) g (now (counters .exit)) (now (room .exit)) ⌝ }
 {
     if !nested_rows::pairs_in(places, body, first as usize, 0, w, w, slot, n) {
         return 12;
@@ -156,12 +156,12 @@ fn list_rows(
     let mut r: u64 = 0;
     while r < n {
         let g = list_row(
-            state,
+            plan,
             parts,
             lengths,
             places,
             body,
-            counts,
+            counters,
             room,
             write,
             first,
@@ -179,30 +179,30 @@ fn list_rows(
 
 // The whole walk: first offsets, the root's validity, the rows, and their number.
 pub fn list_walk(
-    state: &[u64],
+    plan: &[u64],
     parts: &[u64],
     lengths: &[u64],
     places: &[u64],
     body: &[u8],
-    counts: &mut [u64; plan_words::COUNTERS],
+    counters: &mut [u64; plan_words::COUNTERS],
     room: &mut [u8],
     write: bool,
     first: u32,
 ) -> u8
     requires { ⌜ offsetOf (join [] [] (now lengths) [] [] first 0) 0 + lengthOf (join [] [] (now lengths) [] [] first 0) 0 < 2 ^ 63 ⌝ }
-    requires { ⌜ ((bytesOf (now state) 0 ≡ 4 → ⊥) → bytesOf (now state) 0 ≡ 8) ⌝ }
-    ensures { λ g. ⌜ ((n : ℕ) → Did (now (state .entry)) (now (parts .entry)) write (listWalk (lentWith (tables (now (lengths .entry)) (now (places .entry)) (now (body .entry))) (now (state .entry)) (now (parts .entry)) first n) (now (counts .entry))) (now (room .entry)) g (now (counts .exit)) (now (room .exit))) ⌝ }
+    requires { ⌜ ((bytesOf (now plan) 0 ≡ 4 → ⊥) → bytesOf (now plan) 0 ≡ 8) ⌝ }
+    ensures { λ g. ⌜ ((n : ℕ) → Did (now (plan .entry)) (now (parts .entry)) write (listWalk (lentWith (tables (now (lengths .entry)) (now (places .entry)) (now (body .entry))) (now (plan .entry)) (now (parts .entry)) first n) (now (counters .entry))) (now (room .entry)) g (now (counters .exit)) (now (room .exit))) ⌝ }
 {
     let k = first as usize;
-    with_capacities::open_walk::first_offsets(state, parts, room, write);
+    with_capacities::open_walk::first_offsets(plan, parts, room, write);
     let slot = lent_tables::offset_of(lengths, k);
     let n = lent_tables::length_of(lengths, k);
     let g = leaf_walk::copy_mask(
-        state,
+        plan,
         parts,
         places,
         body,
-        counts,
+        counters,
         room,
         write,
         k,
@@ -213,14 +213,14 @@ pub fn list_walk(
     if g != 0 {
         return g;
     }
-    let w = lookups::width_at(state, 0);
+    let w = lookups::width_at(plan, 0);
     let g = list_rows(
-        state,
+        plan,
         parts,
         lengths,
         places,
         body,
-        counts,
+        counters,
         room,
         write,
         first,
@@ -231,6 +231,6 @@ pub fn list_walk(
     if g != 0 {
         return g;
     }
-    plan_words::add_rows(counts, 0, n);
+    plan_words::add_rows(counters, 0, n);
     0
 }

@@ -58,7 +58,7 @@ fn planned(
     requires { ⌜ (n ≤ 32) × Comes (tables (now lengths) (now places) (now body)) first n allNodes ⌝ }
     ensures { λ r. ⌜ r ≡ planAnew (now (formats .entry)) (now (schema .entry)) target n (keepsFrom (tables (now (lengths .entry)) (now (places .entry)) (now (body .entry))) first allNodes) false 0 ⌝ }
 {
-    let mut state = [0u64; plan_words::WORDS];
+    let mut plan = [0u64; plan_words::WORDS];
     let from = [
         1u64,
         2,
@@ -105,9 +105,9 @@ fn planned(
         &from,
         false,
         0,
-        &mut state,
+        &mut plan,
     );
-    state
+    plan
 }
 
 // THE QUESTION before any room is lent: the ground of refusal, or plan and counters of the list, by which `parts::part_at` and
@@ -143,17 +143,17 @@ pub fn plan_list(
     if g != 0 {
         return g;
     }
-    let state = planned(formats, schema, lengths, places, body, first, target, n);
+    let draft = planned(formats, schema, lengths, places, body, first, target, n);
     let none = [0u64; 0];
     let mut nothing = [0u8; 0];
-    let mut counts = [0u64; plan_words::COUNTERS];
+    let mut tally = [0u64; plan_words::COUNTERS];
     let g = crate::lists::list_walk(
-        &state,
+        &draft,
         &none,
         lengths,
         places,
         body,
-        &mut counts,
+        &mut tally,
         &mut nothing,
         false,
         first,
@@ -167,14 +167,14 @@ pub fn plan_list(
     if counters.len() != plan_words::COUNTERS {
         return 14;
     }
-    let made = with_capacities::copied(counts);
-    anew::result_plan::keep_result(plan, counters, &state, &made);
+    let made = with_capacities::copied(tally);
+    anew::result_plan::keep_result(plan, counters, &draft, &made);
     0
 }
 
 // The walk made, and plan and counters left with the caller.
 fn make(
-    state: &[u64],
+    draft: &[u64],
     parts: &[u64],
     lengths: &[u64],
     places: &[u64],
@@ -184,25 +184,25 @@ fn make(
     counters: &mut [u64],
     room: &mut [u8],
 ) -> u8
-    requires { ⌜ (length (now plan) ≡ 872) × (length (now counters) ≡ 96) × (length (now state) ≡ 872) ⌝ }
+    requires { ⌜ (length (now plan) ≡ 872) × (length (now counters) ≡ 96) × (length (now draft) ≡ 872) ⌝ }
     requires { ⌜ offsetOf (join [] [] (now lengths) [] [] first 0) 0 + lengthOf (join [] [] (now lengths) [] [] first 0) 0 < 2 ^ 63 ⌝ }
-    requires { ⌜ ((bytesOf (now state) 0 ≡ 4 → ⊥) → bytesOf (now state) 0 ≡ 8) ⌝ }
-    ensures { λ r. ⌜ (now (plan .exit) ≡ now (state .entry)) × ((n : ℕ) → Did (now (state .entry)) (now (parts .entry)) true (listWalk (lentWith (tables (now (lengths .entry)) (now (places .entry)) (now (body .entry))) (now (state .entry)) (now (parts .entry)) first n) (replicate 96 0)) (now (room .entry)) r (now (counters .exit)) (now (room .exit))) ⌝ }
+    requires { ⌜ ((bytesOf (now draft) 0 ≡ 4 → ⊥) → bytesOf (now draft) 0 ≡ 8) ⌝ }
+    ensures { λ r. ⌜ (now (plan .exit) ≡ now (draft .entry)) × ((n : ℕ) → Did (now (draft .entry)) (now (parts .entry)) true (listWalk (lentWith (tables (now (lengths .entry)) (now (places .entry)) (now (body .entry))) (now (draft .entry)) (now (parts .entry)) first n) (replicate 96 0)) (now (room .entry)) r (now (counters .exit)) (now (room .exit))) ⌝ }
 {
-    let mut counts = [0u64; plan_words::COUNTERS];
+    let mut tally = [0u64; plan_words::COUNTERS];
     let g = crate::lists::list_walk(
-        state,
+        draft,
         parts,
         lengths,
         places,
         body,
-        &mut counts,
+        &mut tally,
         room,
         true,
         first,
     );
-    let made = with_capacities::copied(counts);
-    anew::result_plan::keep_result(plan, counters, state, &made);
+    let made = with_capacities::copied(tally);
+    anew::result_plan::keep_result(plan, counters, draft, &made);
     g
 }
 
@@ -243,10 +243,10 @@ pub fn to_list(
     if g != 0 {
         return g;
     }
-    let state = planned(formats, schema, lengths, places, body, first, target, n);
+    let draft = planned(formats, schema, lengths, places, body, first, target, n);
     let mut tried = [0u64; plan_words::COUNTERS];
     let g = crate::lists::list_walk(
-        &state,
+        &draft,
         parts,
         lengths,
         places,
@@ -259,10 +259,10 @@ pub fn to_list(
     if g != 0 {
         return g;
     }
-    let counts = with_capacities::copied(tried);
+    let tally = with_capacities::copied(tried);
     let g = anew::result_plan::room_ground(
-        &state,
-        &counts,
+        &draft,
+        &tally,
         parts,
         plan.len(),
         counters.len(),
@@ -272,7 +272,7 @@ pub fn to_list(
         return g;
     }
     make(
-        &state,
+        &draft,
         parts,
         lengths,
         places,

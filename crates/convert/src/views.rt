@@ -15,12 +15,12 @@ use walk::plan_words;
 
 // The offset and the size of row r.
 fn view_row(
-    state: &[u64],
+    plan: &[u64],
     parts: &[u64],
     lengths: &[u64],
     places: &[u64],
     body: &[u8],
-    counts: &[u64; plan_words::COUNTERS],
+    counters: &[u64; plan_words::COUNTERS],
     room: &mut [u8],
     write: bool,
     first: u32,
@@ -30,14 +30,14 @@ fn view_row(
 )
     requires { ⌜ ((w ≡ 4 → ⊥) → w ≡ 8) ⌝ }
     requires { ⌜ (slot ≡ offsetOf (join [] [] (now lengths) (now places) (now body) first 0) 0) × (slot + r + 2 < 2 ^ 64) × ((r + 1) * w < 2 ^ 64) × (place (join [] [] (now lengths) (now places) (now body) first 0) 0 3 + w * (slot + r + 2) ≤ length (now body)) ⌝ }
-    ensures { λ _. ⌜ Did (now (state .entry)) (now (parts .entry)) write (viewRow (join (now (state .entry)) (now (parts .entry)) (now (lengths .entry)) (now (places .entry)) (now (body .entry)) first 0) w r (now (counts .entry))) (now (room .entry)) 0 (now (counts .entry)) (now (room .exit)) ⌝ }
+    ensures { λ _. ⌜ Did (now (plan .entry)) (now (parts .entry)) write (viewRow (join (now (plan .entry)) (now (parts .entry)) (now (lengths .entry)) (now (places .entry)) (now (body .entry)) first 0) w r (now (counters .entry))) (now (room .entry)) 0 (now (counters .entry)) (now (room .exit)) ⌝ }
 {
     let at = lent_tables::place(places, first as usize, 3);
     let start = lookups::entry_at(body, at, w, slot + r);
     let next = lookups::entry_at(body, at, w, slot + r + 1);
     let o = r * w;
-    room_writes::put_number(state, parts, room, write, 0, 1, o, w, start);
-    room_writes::put_number(state, parts, room, write, 0, 2, o, w, less(next, start));
+    room_writes::put_number(plan, parts, room, write, 0, 1, o, w, start);
+    room_writes::put_number(plan, parts, room, write, 0, 2, o, w, less(next, start));
 }
 
 // a - b, and 0 where b is above a.
@@ -104,12 +104,12 @@ fn lay_rows(room: &mut [u8], at: usize, too: usize, body: &[u8], from: usize, w:
 
 // The n rows, put one by one.
 fn put_row_by_row(
-    state: &[u64],
+    plan: &[u64],
     parts: &[u64],
     lengths: &[u64],
     places: &[u64],
     body: &[u8],
-    counts: &[u64; plan_words::COUNTERS],
+    counters: &[u64; plan_words::COUNTERS],
     room: &mut [u8],
     first: u32,
     w: u64,
@@ -118,17 +118,17 @@ fn put_row_by_row(
 )
     requires { ⌜ ((w ≡ 4 → ⊥) → w ≡ 8) ⌝ }
     requires { ⌜ (slot ≡ offsetOf (join [] [] (now lengths) (now places) (now body) first 0) 0) × (slot + n < 2 ^ 63) × (place (join [] [] (now lengths) (now places) (now body) first 0) 0 3 + w * (slot + (n + 1)) ≤ length (now body)) ⌝ }
-    ensures { λ _. ⌜ Did (now (state .entry)) (now (parts .entry)) true (each (viewRow (join (now (state .entry)) (now (parts .entry)) (now (lengths .entry)) (now (places .entry)) (now (body .entry)) first 0) w) n 0 (now (counts .entry))) (now (room .entry)) 0 (now (counts .entry)) (now (room .exit)) ⌝ }
+    ensures { λ _. ⌜ Did (now (plan .entry)) (now (parts .entry)) true (each (viewRow (join (now (plan .entry)) (now (parts .entry)) (now (lengths .entry)) (now (places .entry)) (now (body .entry)) first 0) w) n 0 (now (counters .entry))) (now (room .entry)) 0 (now (counters .entry)) (now (room .exit)) ⌝ }
 {
     let mut r: u64 = 0;
     while r < n {
         view_row(
-            state,
+            plan,
             parts,
             lengths,
             places,
             body,
-            counts,
+            counters,
             room,
             true,
             first,
@@ -142,12 +142,12 @@ fn put_row_by_row(
 
 // The n rows, whose offsets go to the byte `at`: at once, where the sizes have room too.
 fn put_rows_at(
-    state: &[u64],
+    plan: &[u64],
     parts: &[u64],
     lengths: &[u64],
     places: &[u64],
     body: &[u8],
-    counts: &[u64; plan_words::COUNTERS],
+    counters: &[u64; plan_words::COUNTERS],
     room: &mut [u8],
     first: u32,
     w: u64,
@@ -157,20 +157,20 @@ fn put_rows_at(
 )
     requires { ⌜ ((w ≡ 4 → ⊥) → w ≡ 8) ⌝ }
     requires { ⌜ (slot ≡ offsetOf (join [] [] (now lengths) (now places) (now body) first 0) 0) × (slot + n < 2 ^ 63) × (place (join [] [] (now lengths) (now places) (now body) first 0) 0 3 + w * (slot + (n + 1)) ≤ length (now body)) ⌝ }
-    requires { ⌜ (at ≡ startOf (now state) (now parts) 0 1) × (at + w * n ≤ length (now room)) ⌝ }
-    ensures { λ _. ⌜ Did (now (state .entry)) (now (parts .entry)) true (each (viewRow (join (now (state .entry)) (now (parts .entry)) (now (lengths .entry)) (now (places .entry)) (now (body .entry)) first 0) w) n 0 (now (counts .entry))) (now (room .entry)) 0 (now (counts .entry)) (now (room .exit)) ⌝ }
+    requires { ⌜ (at ≡ startOf (now plan) (now parts) 0 1) × (at + w * n ≤ length (now room)) ⌝ }
+    ensures { λ _. ⌜ Did (now (plan .entry)) (now (parts .entry)) true (each (viewRow (join (now (plan .entry)) (now (parts .entry)) (now (lengths .entry)) (now (places .entry)) (now (body .entry)) first 0) w) n 0 (now (counters .entry))) (now (room .entry)) 0 (now (counters .entry)) (now (room .exit)) ⌝ }
 {
     let size = plan_words::scale(n, w);
     let from = lent_tables::place(places, first as usize, 3) + w * slot;
-    match plan_words::target(state, parts, room.len(), true, 0, 2, 0, size) {
+    match plan_words::target(plan, parts, room.len(), true, 0, 2, 0, size) {
         plan_words::Goal::At(too) => lay_rows(room, at, too, body, from as usize, w, n as usize),
         plan_words::Goal::Skip => put_row_by_row(
-            state,
+            plan,
             parts,
             lengths,
             places,
             body,
-            counts,
+            counters,
             room,
             first,
             w,
@@ -182,12 +182,12 @@ fn put_rows_at(
 
 // The n rows: at once, where both parts have room for them.
 fn put_rows(
-    state: &[u64],
+    plan: &[u64],
     parts: &[u64],
     lengths: &[u64],
     places: &[u64],
     body: &[u8],
-    counts: &[u64; plan_words::COUNTERS],
+    counters: &[u64; plan_words::COUNTERS],
     room: &mut [u8],
     first: u32,
     w: u64,
@@ -196,17 +196,17 @@ fn put_rows(
 )
     requires { ⌜ ((w ≡ 4 → ⊥) → w ≡ 8) ⌝ }
     requires { ⌜ (slot ≡ offsetOf (join [] [] (now lengths) (now places) (now body) first 0) 0) × (slot + n < 2 ^ 63) × (place (join [] [] (now lengths) (now places) (now body) first 0) 0 3 + w * (slot + (n + 1)) ≤ length (now body)) ⌝ }
-    ensures { λ _. ⌜ Did (now (state .entry)) (now (parts .entry)) true (each (viewRow (join (now (state .entry)) (now (parts .entry)) (now (lengths .entry)) (now (places .entry)) (now (body .entry)) first 0) w) n 0 (now (counts .entry))) (now (room .entry)) 0 (now (counts .entry)) (now (room .exit)) ⌝ }
+    ensures { λ _. ⌜ Did (now (plan .entry)) (now (parts .entry)) true (each (viewRow (join (now (plan .entry)) (now (parts .entry)) (now (lengths .entry)) (now (places .entry)) (now (body .entry)) first 0) w) n 0 (now (counters .entry))) (now (room .entry)) 0 (now (counters .entry)) (now (room .exit)) ⌝ }
 {
     let size = plan_words::scale(n, w);
-    match plan_words::target(state, parts, room.len(), true, 0, 1, 0, size) {
+    match plan_words::target(plan, parts, room.len(), true, 0, 1, 0, size) {
         plan_words::Goal::At(at) => put_rows_at(
-            state,
+            plan,
             parts,
             lengths,
             places,
             body,
-            counts,
+            counters,
             room,
             first,
             w,
@@ -215,12 +215,12 @@ fn put_rows(
             at,
         ),
         plan_words::Goal::Skip => put_row_by_row(
-            state,
+            plan,
             parts,
             lengths,
             places,
             body,
-            counts,
+            counters,
             room,
             first,
             w,
@@ -232,12 +232,12 @@ fn put_rows(
 
 // All n rows. A walk that only tries does not look at them.
 fn view_rows(
-    state: &[u64],
+    plan: &[u64],
     parts: &[u64],
     lengths: &[u64],
     places: &[u64],
     body: &[u8],
-    counts: &[u64; plan_words::COUNTERS],
+    counters: &[u64; plan_words::COUNTERS],
     room: &mut [u8],
     write: bool,
     first: u32,
@@ -247,7 +247,7 @@ fn view_rows(
 ) -> u8
     requires { ⌜ ((w ≡ 4 → ⊥) → w ≡ 8) ⌝ }
     requires { ⌜ (slot ≡ offsetOf (join [] [] (now lengths) (now places) (now body) first 0) 0) × (slot + n < 2 ^ 63) ⌝ }
-    ensures { λ g. ⌜ Did (now (state .entry)) (now (parts .entry)) write (viewRows (join (now (state .entry)) (now (parts .entry)) (now (lengths .entry)) (now (places .entry)) (now (body .entry)) first 0) w n (now (counts .entry))) (now (room .entry)) g (now (counts .entry)) (now (room .exit)) ⌝ }
+    ensures { λ g. ⌜ Did (now (plan .entry)) (now (parts .entry)) write (viewRows (join (now (plan .entry)) (now (parts .entry)) (now (lengths .entry)) (now (places .entry)) (now (body .entry)) first 0) w n (now (counters .entry))) (now (room .entry)) g (now (counters .entry)) (now (room .exit)) ⌝ }
 {
     if n == 0 {
         return 0;
@@ -260,12 +260,12 @@ fn view_rows(
         return 0;
     }
     put_rows(
-        state,
+        plan,
         parts,
         lengths,
         places,
         body,
-        counts,
+        counters,
         room,
         first,
         w,
@@ -277,29 +277,29 @@ fn view_rows(
 
 // The whole walk: the root's validity, the rows, and their number.
 pub fn view_walk(
-    state: &[u64],
+    plan: &[u64],
     parts: &[u64],
     lengths: &[u64],
     places: &[u64],
     body: &[u8],
-    counts: &mut [u64; plan_words::COUNTERS],
+    counters: &mut [u64; plan_words::COUNTERS],
     room: &mut [u8],
     write: bool,
     first: u32,
 ) -> u8
     requires { ⌜ offsetOf (join [] [] (now lengths) [] [] first 0) 0 + lengthOf (join [] [] (now lengths) [] [] first 0) 0 < 2 ^ 63 ⌝ }
-    requires { ⌜ ((bytesOf (now state) 0 ≡ 4 → ⊥) → bytesOf (now state) 0 ≡ 8) ⌝ }
-    ensures { λ g. ⌜ Did (now (state .entry)) (now (parts .entry)) write (viewWalk (join (now (state .entry)) (now (parts .entry)) (now (lengths .entry)) (now (places .entry)) (now (body .entry)) first 0) (bytesOf (now (state .entry)) 0) (now (counts .entry))) (now (room .entry)) g (now (counts .exit)) (now (room .exit)) ⌝ }
+    requires { ⌜ ((bytesOf (now plan) 0 ≡ 4 → ⊥) → bytesOf (now plan) 0 ≡ 8) ⌝ }
+    ensures { λ g. ⌜ Did (now (plan .entry)) (now (parts .entry)) write (viewWalk (join (now (plan .entry)) (now (parts .entry)) (now (lengths .entry)) (now (places .entry)) (now (body .entry)) first 0) (bytesOf (now (plan .entry)) 0) (now (counters .entry))) (now (room .entry)) g (now (counters .exit)) (now (room .exit)) ⌝ }
 {
     let k = first as usize;
     let slot = lent_tables::offset_of(lengths, k);
     let n = lent_tables::length_of(lengths, k);
     let g = leaf_walk::copy_mask(
-        state,
+        plan,
         parts,
         places,
         body,
-        counts,
+        counters,
         room,
         write,
         k,
@@ -310,14 +310,14 @@ pub fn view_walk(
     if g != 0 {
         return g;
     }
-    let w = lookups::width_at(state, 0);
+    let w = lookups::width_at(plan, 0);
     let g = view_rows(
-        state,
+        plan,
         parts,
         lengths,
         places,
         body,
-        counts,
+        counters,
         room,
         write,
         first,
@@ -328,6 +328,6 @@ pub fn view_walk(
     if g != 0 {
         return g;
     }
-    plan_words::add_rows(counts, 0, n);
+    plan_words::add_rows(counters, 0, n);
     0
 }

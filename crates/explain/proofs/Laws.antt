@@ -21,7 +21,7 @@ use Rattle.columns.specs.Grounds.{ceiling}
 use Rattle.refinement.specs.orders.Order.{Lent, joinOf, sourceCount, sourceLength}
 use Rattle.refinement.specs.orders.Measure.{Measured, measured}
 use Rattle.transform.specs.Answer.{lent}
-use Rattle.transform.proofs.Laws.{null-state}
+use Rattle.transform.proofs.Laws.{null-plan}
 use Rattle.trip.specs.Trip.{longest, callOf, callAt, callsFrom, callsOf, orderMeasure}
 use Rattle.trip.specs.Walk.{orderWalk}
 use Rattle.trip.proofs.Steps.{measure-is}
@@ -36,7 +36,7 @@ use Rattle.explain.specs.stops.Order.{whySettled, whyCopyOrder, whyNullO
 use Rattle.explain.proofs.stops.Says.{Says}
 use Rattle.explain.specs.stop_walks.Step.{Tried}
 use Rattle.explain.specs.Explains.{Settles, whyCall, Explains}
-use Rattle.explain.proofs.State.{why-state}
+use Rattle.explain.proofs.State.{why-plan}
 
 pub small-room : (plan : List ℕ) (m : ℕ) → walkable plan m ≡ true → m < top
 unfolding walkable
@@ -57,7 +57,7 @@ module _ (x : Lent) (m : ℕ) {c : List ℕ} (n : ℕ) {o : Out} {v : Why} (says
   pub settled : g ≡ 0 → {r : ℕ} → r ≡ rows c 0 → {w : Why} → w ≡ unless (partsWithin (x .plan) (x .parts) m) (only 14) (whyParts (x .plan) c2 (x .parts) (r + n)) → Settles x m c n o v w c2
   unfolding whySettled past
   settled h e k =
-      let left : c2 ≡ o .counts = rw (eq-eqb g 0 h) at (t .counters) in
+      let left : c2 ≡ o .counters = rw (eq-eqb g 0 h) at (t .counters) in
       record { why = k ∙ rw (eq-eqb (o .ans) 0 (sym (t .answer) ∙ h), left, e) refl; left = λ z. (sym (t .answer) ∙ h, left) }
 
 -- ---- one order
@@ -99,11 +99,11 @@ module _ (x : Lent) (m : ℕ) {c : List ℕ} where
     unfolding orderWalk need
     nulled z d =
         let y = ne-eqb (keepsOf (x .plan) 0) 0 (λ u. z (q ∙ u)) in
-        let e = null-state (x .plan) (x .parts) (x .parts) [] (x .lengths) [] (x .places) [] (x .body) 0 (getD (x .sources) 0 0) 0 0 8 0 (walked n) c in
-        let f = why-state (x .plan) (x .parts) (x .parts) [] (x .lengths) [] (x .places) [] (x .body) 0 (getD (x .sources) 0 0) 0 0 8 0 n c in
+        let e = null-plan (x .plan) (x .parts) (x .parts) [] (x .lengths) [] (x .places) [] (x .body) 0 (getD (x .sources) 0 0) 0 0 8 0 (walked n) c in
+        let f = why-plan (x .plan) (x .parts) (x .parts) [] (x .lengths) [] (x .places) [] (x .body) 0 (getD (x .sources) 0 0) 0 0 8 0 n c in
         record {
           why = d .why ∙ ap₂ (λ (o : Out) (v : Why). whySettled x m c n o v) e f ∙ rw y refl;
-          left = λ u. (rw (y, ← e) (d .left u .0), d .left u .1 ∙ ap (λ (o : Out). o .counts) e ∙ rw y refl);
+          left = λ u. (rw (y, ← e) (d .left u .0), d .left u .1 ∙ ap (λ (o : Out). o .counters) e ∙ rw y refl);
         }
 
   -- by its words
@@ -191,9 +191,9 @@ module _ (words : List ℕ) where
         unfolding whyListedFrom callsFrom
         list-stop z q = rw (e, is-order, ne-eqb (v .ground) 0 z, q) refl
 
-        left-is : v .ground ≡ 0 → orderMeasure x d (callAt words k) .counts ≡ c2
+        left-is : v .ground ≡ 0 → orderMeasure x d (callAt words k) .counters ≡ c2
         unfolding measured
-        left-is z = ap (λ (u : Measured). u .counts) (measure-is x d d h sound (callAt words k)) ∙ rw (eq-eqb (orderWalk x (callAt words k) d .ans) 0 (s .left z .0)) (sym (s .left z .1))
+        left-is z = ap (λ (u : Measured). u .counters) (measure-is x d d h sound (callAt words k)) ∙ rw (eq-eqb (orderWalk x (callAt words k) d .ans) 0 (s .left z .0)) (sym (s .left z .1))
 
         pub list-on : v .ground ≡ 0 → {k2 : ℕ} → k2 ≡ k + 1 → whyListedFrom x m k d (callsFrom words n k) ≡ whyListedFrom x m k2 c2 (callsFrom words n2 k2)
         unfolding whyListedFrom callsFrom

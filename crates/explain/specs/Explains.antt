@@ -20,7 +20,7 @@ use Rattle.explain.specs.stops.Order.{whySettled}
 -- a walk o from the counters c, which v stops, then 14 and 13: w is what stops it
 pub record Settles (x : Lent) (m : ℕ) (c : List ℕ) (n : ℕ) (o : Out) (v w : Why) (c2 : List ℕ) : Type 0 where
   pub why : w ≡ whySettled x m c n o v
-  pub left : w .ground ≡ 0 → (o .ans ≡ 0) × (c2 ≡ o .counts)
+  pub left : w .ground ≡ 0 → (o .ans ≡ 0) × (c2 ≡ o .counters)
 
 -- `whyOrder` (stops/specs/Order.antt) without its first 14
 abbrev pub whyCall : Lent → ℕ → List ℕ → Call → Why
@@ -33,4 +33,4 @@ whyCall x m c (nulls n) =
 
 pub record Explains (x : Lent) (m : ℕ) (o : Call) (c : List ℕ) (w : Why) (c2 : List ℕ) : Type 0 where
   pub why : w ≡ whyCall x m c o
-  pub left : w .ground ≡ 0 → (orderWalk x o c .ans ≡ 0) × (c2 ≡ orderWalk x o c .counts)
+  pub left : w .ground ≡ 0 → (orderWalk x o c .ans ≡ 0) × (c2 ≡ orderWalk x o c .counters)

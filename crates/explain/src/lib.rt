@@ -60,18 +60,18 @@ const NOT_LENT: u8 = 14;
 fn settle(
     plan: &[u64],
     parts: &[u64],
-    counts: &[u64; plan_words::COUNTERS],
+    counters: &[u64; plan_words::COUNTERS],
     m: usize,
     r: u64,
     n: u64,
 ) -> Why
     requires { ⌜ m < top ⌝ }
-    ensures { λ w. ⌜ w ≡ unless (partsWithin (now (plan .entry)) (now (parts .entry)) m) (only 14) (whyParts (now (plan .entry)) (now (counts .entry)) (now (parts .entry)) (r + n)) ⌝ }
+    ensures { λ w. ⌜ w ≡ unless (partsWithin (now (plan .entry)) (now (parts .entry)) m) (only 14) (whyParts (now (plan .entry)) (now (counters .entry)) (now (parts .entry)) (r + n)) ⌝ }
 {
     if !plan::parts::parts_within(plan, parts, m) {
         return crate::stop_walks::plain(NOT_LENT);
     }
-    small_parts::why_parts(plan, counts, parts, r, n)
+    small_parts::why_parts(plan, counters, parts, r, n)
 }
 
 // The rows start .. start + n - 1 of a source, whose first node is `first`.
@@ -81,7 +81,7 @@ fn copy_rows(
     lengths: &[u64],
     places: &[u64],
     body: &[u8],
-    counts: &mut [u64; plan_words::COUNTERS],
+    counters: &mut [u64; plan_words::COUNTERS],
     m: usize,
     source: usize,
     first: usize,
@@ -89,16 +89,16 @@ fn copy_rows(
     n: u64,
 ) -> Why
     requires { ⌜ (first < 2 ^ 32) × (source < 2 ^ 32) × (m < top) ⌝ }
-    ensures { λ w. ⌜ ((sources : List ℕ) → Settles (lent (now (plan .entry)) (now (parts .entry)) sources (now (lengths .entry)) (now (places .entry)) (now (body .entry))) m (now (counts .entry)) n (copyWalk (join (now (plan .entry)) (now (parts .entry)) (now (lengths .entry)) (now (places .entry)) (now (body .entry)) first source) 8 0 start n (now (counts .entry))) (whyCopy (join (now (plan .entry)) (now (parts .entry)) (now (lengths .entry)) (now (places .entry)) (now (body .entry)) first source) 8 0 start n (now (counts .entry))) w (now (counts .exit))) ⌝ }
+    ensures { λ w. ⌜ ((sources : List ℕ) → Settles (lent (now (plan .entry)) (now (parts .entry)) sources (now (lengths .entry)) (now (places .entry)) (now (body .entry))) m (now (counters .entry)) n (copyWalk (join (now (plan .entry)) (now (parts .entry)) (now (lengths .entry)) (now (places .entry)) (now (body .entry)) first source) 8 0 start n (now (counters .entry))) (whyCopy (join (now (plan .entry)) (now (parts .entry)) (now (lengths .entry)) (now (places .entry)) (now (body .entry)) first source) 8 0 start n (now (counters .entry))) w (now (counters .exit))) ⌝ }
 {
-    let r = plan_words::rows_of(counts, 0);
+    let r = plan_words::rows_of(counters, 0);
     let g = crate::stop_walks::try_copy(
         plan,
         parts,
         lengths,
         places,
         body,
-        counts,
+        counters,
         source,
         first,
         0,
@@ -113,7 +113,7 @@ fn copy_rows(
             lengths,
             places,
             body,
-            counts,
+            counters,
             source,
             first,
             0,
@@ -122,26 +122,26 @@ fn copy_rows(
             DEPTH,
         );
     }
-    settle(plan, parts, counts, m, r, n)
+    settle(plan, parts, counters, m, r, n)
 }
 
 // n nulls.
 fn add_nulls(
     plan: &[u64],
     parts: &[u64],
-    counts: &mut [u64; plan_words::COUNTERS],
+    counters: &mut [u64; plan_words::COUNTERS],
     m: usize,
     n: u64,
 ) -> Why
     requires { ⌜ m < top ⌝ }
-    ensures { λ w. ⌜ ((sources lengths places body : List ℕ) → Settles (lent (now (plan .entry)) (now (parts .entry)) sources lengths places body) m (now (counts .entry)) n (nullWalk (join (now (plan .entry)) (now (parts .entry)) [] [] [] 0 0) 8 0 (walked n) (now (counts .entry))) (whyNulls (join (now (plan .entry)) (now (parts .entry)) [] [] [] 0 0) 8 0 n (now (counts .entry))) w (now (counts .exit))) ⌝ }
+    ensures { λ w. ⌜ ((sources lengths places body : List ℕ) → Settles (lent (now (plan .entry)) (now (parts .entry)) sources lengths places body) m (now (counters .entry)) n (nullWalk (join (now (plan .entry)) (now (parts .entry)) [] [] [] 0 0) 8 0 (walked n) (now (counters .entry))) (whyNulls (join (now (plan .entry)) (now (parts .entry)) [] [] [] 0 0) 8 0 n (now (counters .entry))) w (now (counters .exit))) ⌝ }
 {
-    let r = plan_words::rows_of(counts, 0);
-    let g = crate::nulls::try_nulls(plan, parts, counts, 0, n, DEPTH);
+    let r = plan_words::rows_of(counters, 0);
+    let g = crate::nulls::try_nulls(plan, parts, counters, 0, n, DEPTH);
     if g != 0 {
-        return crate::nulls::why_null_walk(plan, parts, counts, 0, n, DEPTH);
+        return crate::nulls::why_null_walk(plan, parts, counters, 0, n, DEPTH);
     }
-    settle(plan, parts, counts, m, r, n)
+    settle(plan, parts, counters, m, r, n)
 }
 
 // ---- one order, of a plan and counters that an order can be walked with
@@ -154,14 +154,14 @@ fn order_copy(
     lengths: &[u64],
     places: &[u64],
     body: &[u8],
-    counts: &mut [u64; plan_words::COUNTERS],
+    counters: &mut [u64; plan_words::COUNTERS],
     m: usize,
     source: u32,
     start: u64,
     end: u64,
 ) -> Why
     requires { ⌜ m < top ⌝ }
-    ensures { λ w. ⌜ Explains (lent (now (plan .entry)) (now (parts .entry)) (now (sources .entry)) (now (lengths .entry)) (now (places .entry)) (now (body .entry))) m (copy source start end) (now (counts .entry)) w (now (counts .exit)) ⌝ }
+    ensures { λ w. ⌜ Explains (lent (now (plan .entry)) (now (parts .entry)) (now (sources .entry)) (now (lengths .entry)) (now (places .entry)) (now (body .entry))) m (copy source start end) (now (counters .entry)) w (now (counters .exit)) ⌝ }
 {
     if lent_tables::at_u64(plan, plan_words::SOURCE_COUNT) <= source as u64 {
         return crate::stop_walks::plain(NO_SUCH_SOURCE);
@@ -176,7 +176,7 @@ fn order_copy(
         lengths,
         places,
         body,
-        counts,
+        counters,
         m,
         source as usize,
         first,
@@ -189,17 +189,17 @@ fn order_copy(
 fn order_nulls(
     plan: &[u64],
     parts: &[u64],
-    counts: &mut [u64; plan_words::COUNTERS],
+    counters: &mut [u64; plan_words::COUNTERS],
     m: usize,
     n: u64,
 ) -> Why
     requires { ⌜ m < top ⌝ }
-    ensures { λ w. ⌜ ((sources lengths places body : List ℕ) → Explains (lent (now (plan .entry)) (now (parts .entry)) sources lengths places body) m (nulls n) (now (counts .entry)) w (now (counts .exit))) ⌝ }
+    ensures { λ w. ⌜ ((sources lengths places body : List ℕ) → Explains (lent (now (plan .entry)) (now (parts .entry)) sources lengths places body) m (nulls n) (now (counters .entry)) w (now (counters .exit))) ⌝ }
 {
     if plan_words::keeps_of(plan, 0) == 0 {
         return crate::stop_walks::plain(KEEPS_NO_NULLS);
     }
-    add_nulls(plan, parts, counts, m, n)
+    add_nulls(plan, parts, counters, m, n)
 }
 
 // A source's number; no join has as many sources as 32 bits hold.
@@ -220,18 +220,18 @@ fn order_at(
     lengths: &[u64],
     places: &[u64],
     body: &[u8],
-    counts: &mut [u64; plan_words::COUNTERS],
+    counters: &mut [u64; plan_words::COUNTERS],
     m: usize,
     orders: &[u64],
     k: usize,
 ) -> Why
     requires { ⌜ (k < 256) × (m < top) ⌝ }
-    ensures { λ w. ⌜ Explains (lent (now (plan .entry)) (now (parts .entry)) (now (sources .entry)) (now (lengths .entry)) (now (places .entry)) (now (body .entry))) m (callAt (now (orders .entry)) k) (now (counts .entry)) w (now (counts .exit)) ⌝ }
+    ensures { λ w. ⌜ Explains (lent (now (plan .entry)) (now (parts .entry)) (now (sources .entry)) (now (lengths .entry)) (now (places .entry)) (now (body .entry))) m (callAt (now (orders .entry)) k) (now (counters .entry)) w (now (counters .exit)) ⌝ }
 {
     let kind = lent_tables::at_u64(orders, 4 * k);
     let a = lent_tables::at_u64(orders, 4 * k + 1);
     if kind != COPY {
-        return order_nulls(plan, parts, counts, m, a);
+        return order_nulls(plan, parts, counters, m, a);
     }
     let b = lent_tables::at_u64(orders, 4 * k + 2);
     let c = lent_tables::at_u64(orders, 4 * k + 3);
@@ -242,7 +242,7 @@ fn order_at(
         lengths,
         places,
         body,
-        counts,
+        counters,
         m,
         source_of(a),
         b,
@@ -274,7 +274,7 @@ pub fn why_copy(
     if !sound::is_walkable(plan, m) {
         return crate::stop_walks::plain(NOT_LENT);
     }
-    let mut counts = transform::load(counters);
+    let mut tally = transform::load(counters);
     order_copy(
         plan,
         parts,
@@ -282,7 +282,7 @@ pub fn why_copy(
         lengths,
         places,
         body,
-        &mut counts,
+        &mut tally,
         m,
         source,
         start,
@@ -300,8 +300,8 @@ pub fn why_nulls(plan: &[u64], parts: &[u64], counters: &[u64], m: usize, n: u64
     if !sound::is_walkable(plan, m) {
         return crate::stop_walks::plain(NOT_LENT);
     }
-    let mut counts = transform::load(counters);
-    order_nulls(plan, parts, &mut counts, m, n)
+    let mut tally = transform::load(counters);
+    order_nulls(plan, parts, &mut tally, m, n)
 }
 
 // A ground at the first order.
@@ -330,7 +330,7 @@ fn walk_orders(
     requires { ⌜ (length (now counters) ≡ 96) × (n ≤ 256) × (n ≡ length (now orders) / 4) × (walkable (now plan) m ≡ true) ⌝ }
     ensures { λ r. ⌜ r ≡ whyTrip (lent (now (plan .entry)) (now (parts .entry)) (now (sources .entry)) (now (lengths .entry)) (now (places .entry)) (now (body .entry))) m (now (counters .entry)) (callsOf (now (orders .entry))) ⌝ }
 {
-    let mut counts = transform::load(counters);
+    let mut tally = transform::load(counters);
     let mut k: usize = 0;
     while k < n {
         let w = order_at(
@@ -340,7 +340,7 @@ fn walk_orders(
             lengths,
             places,
             body,
-            &mut counts,
+            &mut tally,
             m,
             orders,
             k,

@@ -22,12 +22,12 @@ const FOREIGN: u8 = 12;
 
 // Row r of a list-view.
 fn list_row(
-    state: &[u64],
+    plan: &[u64],
     parts: &[u64],
     lengths: &[u64],
     places: &[u64],
     body: &[u8],
-    counts: &mut [u64; plan_words::COUNTERS],
+    counters: &mut [u64; plan_words::COUNTERS],
     source: usize,
     first: usize,
     i: usize,
@@ -39,11 +39,11 @@ fn list_row(
     requires { ⌜ (first < 2 ^ 32) × (source < 2 ^ 32) × (i + 1 < 32) × (slot + r + 1 < 2 ^ 63) ⌝ }
     requires { ⌜ ((w ≡ 4 → ⊥) → w ≡ 8) ⌝ }
     requires { ⌜ (place (join [] [] (now lengths) (now places) (now body) first 0) i 3 + w * (slot + r + 1) ≤ length (now body)) × (place (join [] [] (now lengths) (now places) (now body) first 0) i 5 + w * (slot + r + 1) ≤ length (now body)) ⌝ }
-    ensures { λ s. ⌜ RowSays (listViewRow (join (now (state .entry)) (now (parts .entry)) (now (lengths .entry)) (now (places .entry)) (now (body .entry)) first source) (copyWalk (join (now (state .entry)) (now (parts .entry)) (now (lengths .entry)) (now (places .entry)) (now (body .entry)) first source) depth) w i slot r (now (counts .entry))) (whyListRow (join (now (state .entry)) (now (parts .entry)) (now (lengths .entry)) (now (places .entry)) (now (body .entry)) first source) (copyWalk (join (now (state .entry)) (now (parts .entry)) (now (lengths .entry)) (now (places .entry)) (now (body .entry)) first source) depth) (whyCopy (join (now (state .entry)) (now (parts .entry)) (now (lengths .entry)) (now (places .entry)) (now (body .entry)) first source) depth) w i slot r (now (counts .entry))) (join (now (state .entry)) (now (parts .entry)) (now (lengths .entry)) (now (places .entry)) (now (body .entry)) first source) depth s (now (counts .exit)) ⌝ }
+    ensures { λ s. ⌜ RowSays (listViewRow (join (now (plan .entry)) (now (parts .entry)) (now (lengths .entry)) (now (places .entry)) (now (body .entry)) first source) (copyWalk (join (now (plan .entry)) (now (parts .entry)) (now (lengths .entry)) (now (places .entry)) (now (body .entry)) first source) depth) w i slot r (now (counters .entry))) (whyListRow (join (now (plan .entry)) (now (parts .entry)) (now (lengths .entry)) (now (places .entry)) (now (body .entry)) first source) (copyWalk (join (now (plan .entry)) (now (parts .entry)) (now (lengths .entry)) (now (places .entry)) (now (body .entry)) first source) depth) (whyCopy (join (now (plan .entry)) (now (parts .entry)) (now (lengths .entry)) (now (places .entry)) (now (body .entry)) first source) depth) w i slot r (now (counters .entry))) (join (now (plan .entry)) (now (parts .entry)) (now (lengths .entry)) (now (places .entry)) (now (body .entry)) first source) depth s (now (counters .exit)) ⌝ }
 {
     let offset = lookups::entry_at(body, lent_tables::place(places, first + i, 3), w, slot + r);
     let size = lookups::entry_at(body, lent_tables::place(places, first + i, 5), w, slot + r);
-    let child = plan_words::rows_of(counts, i + 1);
+    let child = plan_words::rows_of(counters, i + 1);
     if !nested_rows::sum_fits(w, child, size) {
         return Step::Here(Why {
             ground: OFFSET,
@@ -54,12 +54,12 @@ fn list_row(
         });
     }
     crate::stop_walks::step_into(
-        state,
+        plan,
         parts,
         lengths,
         places,
         body,
-        counts,
+        counters,
         source,
         first,
         i + 1,
@@ -71,12 +71,12 @@ fn list_row(
 
 // A list-view with offsets of w bytes: its first row that is refused.
 pub fn step_list_view(
-    state: &[u64],
+    plan: &[u64],
     parts: &[u64],
     lengths: &[u64],
     places: &[u64],
     body: &[u8],
-    counts: &mut [u64; plan_words::COUNTERS],
+    counters: &mut [u64; plan_words::COUNTERS],
     source: usize,
     first: usize,
     i: usize,
@@ -87,7 +87,7 @@ pub fn step_list_view(
 ) -> Step
     requires { ⌜ (first < 2 ^ 32) × (source < 2 ^ 32) × (i < 32) × (slot + n < 2 ^ 63) ⌝ }
     requires { ⌜ ((w ≡ 4 → ⊥) → w ≡ 8) ⌝ }
-    ensures { λ r. ⌜ whyListView (join (now (state .entry)) (now (parts .entry)) (now (lengths .entry)) (now (places .entry)) (now (body .entry)) first source) (copyWalk (join (now (state .entry)) (now (parts .entry)) (now (lengths .entry)) (now (places .entry)) (now (body .entry)) first source) depth) (whyCopy (join (now (state .entry)) (now (parts .entry)) (now (lengths .entry)) (now (places .entry)) (now (body .entry)) first source) depth) w i slot n (now (counts .entry)) ≡ whyAfter (join (now (state .entry)) (now (parts .entry)) (now (lengths .entry)) (now (places .entry)) (now (body .entry)) first source) depth r (now (counts .exit)) ⌝ }
+    ensures { λ r. ⌜ whyListView (join (now (plan .entry)) (now (parts .entry)) (now (lengths .entry)) (now (places .entry)) (now (body .entry)) first source) (copyWalk (join (now (plan .entry)) (now (parts .entry)) (now (lengths .entry)) (now (places .entry)) (now (body .entry)) first source) depth) (whyCopy (join (now (plan .entry)) (now (parts .entry)) (now (lengths .entry)) (now (places .entry)) (now (body .entry)) first source) depth) w i slot n (now (counters .entry)) ≡ whyAfter (join (now (plan .entry)) (now (parts .entry)) (now (lengths .entry)) (now (places .entry)) (now (body .entry)) first source) depth r (now (counters .exit)) ⌝ }
 {
     if 32 <= i + 1 {
         return Step::Here(crate::stop_walks::plain(FOREIGN));
@@ -98,12 +98,12 @@ pub fn step_list_view(
     let mut r: u64 = 0;
     while r < n {
         match list_row(
-            state,
+            plan,
             parts,
             lengths,
             places,
             body,
-            counts,
+            counters,
             source,
             first,
             i,
@@ -124,11 +124,11 @@ pub fn step_list_view(
 
 // A list with offsets of w bytes: its first offset that does not fit, or the stretch of its child.
 pub fn step_list(
-    state: &[u64],
+    plan: &[u64],
     parts: &[u64],
     places: &[u64],
     body: &[u8],
-    counts: &[u64; plan_words::COUNTERS],
+    counters: &[u64; plan_words::COUNTERS],
     first: usize,
     i: usize,
     w: u64,
@@ -137,7 +137,7 @@ pub fn step_list(
 ) -> Step
     requires { ⌜ (first < 2 ^ 32) × (i < 32) × (slot + n < 2 ^ 63) ⌝ }
     requires { ⌜ ((w ≡ 4 → ⊥) → w ≡ 8) ⌝ }
-    ensures { λ r. ⌜ ((lengths : List ℕ) (source depth : ℕ) → whyList (join (now (state .entry)) (now (parts .entry)) lengths (now (places .entry)) (now (body .entry)) first source) (copyWalk (join (now (state .entry)) (now (parts .entry)) lengths (now (places .entry)) (now (body .entry)) first source) depth) (whyCopy (join (now (state .entry)) (now (parts .entry)) lengths (now (places .entry)) (now (body .entry)) first source) depth) w i slot n (now (counts .entry)) ≡ whyAfter (join (now (state .entry)) (now (parts .entry)) lengths (now (places .entry)) (now (body .entry)) first source) depth r (now (counts .entry))) ⌝ }
+    ensures { λ r. ⌜ ((lengths : List ℕ) (source depth : ℕ) → whyList (join (now (plan .entry)) (now (parts .entry)) lengths (now (places .entry)) (now (body .entry)) first source) (copyWalk (join (now (plan .entry)) (now (parts .entry)) lengths (now (places .entry)) (now (body .entry)) first source) depth) (whyCopy (join (now (plan .entry)) (now (parts .entry)) lengths (now (places .entry)) (now (body .entry)) first source) depth) w i slot n (now (counters .entry)) ≡ whyAfter (join (now (plan .entry)) (now (parts .entry)) lengths (now (places .entry)) (now (body .entry)) first source) depth r (now (counters .entry))) ⌝ }
 {
     if n == 0 {
         return Step::On;
@@ -147,11 +147,11 @@ pub fn step_list(
     }
     let mut none = [0u8; 0];
     match variable_size::copy_offsets(
-        state,
+        plan,
         parts,
         places,
         body,
-        counts,
+        counters,
         &mut none,
         false,
         first,
@@ -163,7 +163,7 @@ pub fn step_list(
         Extended::Fits { last, first: from } => Step::Below {
             node: i + 1,
             row: from,
-            rows: last - plan_words::rows_of(counts, i + 1),
+            rows: last - plan_words::rows_of(counters, i + 1),
         },
         Extended::Over { row, needed } => Step::Here(Why {
             ground: OFFSET,

@@ -34,21 +34,21 @@ const POSITIONS: u64 = 2147483648;
 
 // Walks n nulls of node i: the counters are those after the walk, or those before it where it is refused.
 pub fn try_nulls(
-    state: &[u64],
+    plan: &[u64],
     parts: &[u64],
-    counts: &mut [u64; plan_words::COUNTERS],
+    counters: &mut [u64; plan_words::COUNTERS],
     i: usize,
     n: u64,
     depth: u32,
 ) -> u8
-    ensures { λ g. ⌜ Tried (nullWalk (join (now (state .entry)) (now (parts .entry)) [] [] [] 0 0) depth i (walked n) (now (counts .entry))) (now (counts .entry)) g (now (counts .exit)) ⌝ }
+    ensures { λ g. ⌜ Tried (nullWalk (join (now (plan .entry)) (now (parts .entry)) [] [] [] 0 0) depth i (walked n) (now (counters .entry))) (now (counters .entry)) g (now (counters .exit)) ⌝ }
 {
-    let before = *counts;
+    let before = *counters;
     let mut none = [0u8; 0];
     let m = transform::at_most_far(n);
-    let g = extend::extend_nulls(state, parts, counts, &mut none, false, i, m, depth);
+    let g = extend::extend_nulls(plan, parts, counters, &mut none, false, i, m, depth);
     if g != 0 {
-        *counts = before;
+        *counters = before;
         return g;
     }
     0
@@ -56,16 +56,16 @@ pub fn try_nulls(
 
 // The same of a child.
 fn step_into(
-    state: &[u64],
+    plan: &[u64],
     parts: &[u64],
-    counts: &mut [u64; plan_words::COUNTERS],
+    counters: &mut [u64; plan_words::COUNTERS],
     k: usize,
     n: u64,
     depth: u32,
 ) -> NullStep
-    ensures { λ r. ⌜ RowSays (nullWalk (join (now (state .entry)) (now (parts .entry)) [] [] [] 0 0) depth k (walked n) (now (counts .entry))) (whyNulls (join (now (state .entry)) (now (parts .entry)) [] [] [] 0 0) depth k n (now (counts .entry))) (join (now (state .entry)) (now (parts .entry)) [] [] [] 0 0) depth r (now (counts .exit)) ⌝ }
+    ensures { λ r. ⌜ RowSays (nullWalk (join (now (plan .entry)) (now (parts .entry)) [] [] [] 0 0) depth k (walked n) (now (counters .entry))) (whyNulls (join (now (plan .entry)) (now (parts .entry)) [] [] [] 0 0) depth k n (now (counters .entry))) (join (now (plan .entry)) (now (parts .entry)) [] [] [] 0 0) depth r (now (counters .exit)) ⌝ }
 {
-    let g = try_nulls(state, parts, counts, k, n, depth);
+    let g = try_nulls(plan, parts, counters, k, n, depth);
     if g != 0 {
         return NullStep::Below { node: k, count: n };
     }
@@ -75,12 +75,12 @@ fn step_into(
 // ---- unions
 
 // The union that nulls cannot go into.
-fn homeless(state: &[u64], i: usize) -> Why
+fn homeless(plan: &[u64], i: usize) -> Why
     requires { ⌜ i < 32 ⌝ }
-    ensures { λ r. ⌜ r ≡ named (noHome (now (state .entry)) i) i ⌝ }
+    ensures { λ r. ⌜ r ≡ named (noHome (now (plan .entry)) i) i ⌝ }
 {
     Why {
-        ground: nested_rows::no_home(state, i),
+        ground: nested_rows::no_home(plan, i),
         node: i,
         row: 0,
         needed: 0,
@@ -90,29 +90,29 @@ fn homeless(state: &[u64], i: usize) -> Why
 
 // A sparse union: no home, or its first child that is refused.
 fn step_sparse(
-    state: &[u64],
+    plan: &[u64],
     parts: &[u64],
-    counts: &mut [u64; plan_words::COUNTERS],
+    counters: &mut [u64; plan_words::COUNTERS],
     i: usize,
     n: u64,
     depth: u32,
 ) -> NullStep
     requires { ⌜ i < 32 ⌝ }
-    ensures { λ r. ⌜ whyNullSparse (join (now (state .entry)) (now (parts .entry)) [] [] [] 0 0) (nullWalk (join (now (state .entry)) (now (parts .entry)) [] [] [] 0 0) depth) (whyNulls (join (now (state .entry)) (now (parts .entry)) [] [] [] 0 0) depth) i n (now (counts .entry)) ≡ whyAfter (join (now (state .entry)) (now (parts .entry)) [] [] [] 0 0) depth r (now (counts .exit)) ⌝ }
+    ensures { λ r. ⌜ whyNullSparse (join (now (plan .entry)) (now (parts .entry)) [] [] [] 0 0) (nullWalk (join (now (plan .entry)) (now (parts .entry)) [] [] [] 0 0) depth) (whyNulls (join (now (plan .entry)) (now (parts .entry)) [] [] [] 0 0) depth) i n (now (counters .entry)) ≡ whyAfter (join (now (plan .entry)) (now (parts .entry)) [] [] [] 0 0) depth r (now (counters .exit)) ⌝ }
 {
-    if 32 <= nested_rows::null_home(state, i) {
-        return NullStep::Here(homeless(state, i));
+    if 32 <= nested_rows::null_home(plan, i) {
+        return NullStep::Here(homeless(plan, i));
     }
-    let end = plan_words::end_of(state, i);
+    let end = plan_words::end_of(plan, i);
     let mut k = i + 1;
     let mut t: usize = 0;
     while t < 32 {
         if end <= k {
             return NullStep::On;
         }
-        match step_into(state, parts, counts, k, n, depth) {
+        match step_into(plan, parts, counters, k, n, depth) {
             NullStep::On => {
-                k = plan_words::end_of(state, k);
+                k = plan_words::end_of(plan, k);
                 t += 1;
             }
             NullStep::Here(w) => return NullStep::Here(w),
@@ -133,15 +133,15 @@ fn first_position(rows: u64) -> u64
 }
 
 // A dense union: no home, its first position that does not fit, or its home.
-fn step_dense(state: &[u64], counts: &[u64; plan_words::COUNTERS], i: usize, n: u64) -> NullStep
+fn step_dense(plan: &[u64], counters: &[u64; plan_words::COUNTERS], i: usize, n: u64) -> NullStep
     requires { ⌜ i < 32 ⌝ }
-    ensures { λ r. ⌜ ((parts : List ℕ) (depth : ℕ) → whyNullDense (join (now (state .entry)) parts [] [] [] 0 0) (nullWalk (join (now (state .entry)) parts [] [] [] 0 0) depth) (whyNulls (join (now (state .entry)) parts [] [] [] 0 0) depth) i n (now (counts .entry)) ≡ whyAfter (join (now (state .entry)) parts [] [] [] 0 0) depth r (now (counts .entry))) ⌝ }
+    ensures { λ r. ⌜ ((parts : List ℕ) (depth : ℕ) → whyNullDense (join (now (plan .entry)) parts [] [] [] 0 0) (nullWalk (join (now (plan .entry)) parts [] [] [] 0 0) depth) (whyNulls (join (now (plan .entry)) parts [] [] [] 0 0) depth) i n (now (counters .entry)) ≡ whyAfter (join (now (plan .entry)) parts [] [] [] 0 0) depth r (now (counters .entry))) ⌝ }
 {
-    let h = nested_rows::null_home(state, i);
+    let h = nested_rows::null_home(plan, i);
     if 32 <= h {
-        return NullStep::Here(homeless(state, i));
+        return NullStep::Here(homeless(plan, i));
     }
-    let child = plan_words::rows_of(counts, h);
+    let child = plan_words::rows_of(counters, h);
     if POSITIONS < plan_words::grow(child, transform::at_most_far(n)) {
         let position = first_position(child);
         return NullStep::Here(Why {
@@ -158,13 +158,13 @@ fn step_dense(state: &[u64], counts: &[u64; plan_words::COUNTERS], i: usize, n: 
 // ---- run-end nodes
 
 // The last run end with n rows more.
-fn step_end(state: &[u64], counts: &[u64; plan_words::COUNTERS], i: usize, n: u64) -> NullStep
+fn step_end(plan: &[u64], counters: &[u64; plan_words::COUNTERS], i: usize, n: u64) -> NullStep
     requires { ⌜ i + 2 < 32 ⌝ }
-    requires { ⌜ ((bytesOf (now state) (suc i) ≡ 2 → ⊥) → (bytesOf (now state) (suc i) ≡ 4 → ⊥) → bytesOf (now state) (suc i) ≡ 8) ⌝ }
-    ensures { λ r. ⌜ ((parts : List ℕ) (depth : ℕ) → whyNullEnd (join (now (state .entry)) parts [] [] [] 0 0) (nullWalk (join (now (state .entry)) parts [] [] [] 0 0) depth) (whyNulls (join (now (state .entry)) parts [] [] [] 0 0) depth) (bytesOf (now (state .entry)) (suc i)) i n (now (counts .entry)) ≡ whyAfter (join (now (state .entry)) parts [] [] [] 0 0) depth r (now (counts .entry))) ⌝ }
+    requires { ⌜ ((bytesOf (now plan) (suc i) ≡ 2 → ⊥) → (bytesOf (now plan) (suc i) ≡ 4 → ⊥) → bytesOf (now plan) (suc i) ≡ 8) ⌝ }
+    ensures { λ r. ⌜ ((parts : List ℕ) (depth : ℕ) → whyNullEnd (join (now (plan .entry)) parts [] [] [] 0 0) (nullWalk (join (now (plan .entry)) parts [] [] [] 0 0) depth) (whyNulls (join (now (plan .entry)) parts [] [] [] 0 0) depth) (bytesOf (now (plan .entry)) (suc i)) i n (now (counters .entry)) ≡ whyAfter (join (now (plan .entry)) parts [] [] [] 0 0) depth r (now (counters .entry))) ⌝ }
 {
-    let w = lookups::width_at(state, i + 1);
-    let last = plan_words::rows_of(counts, i);
+    let w = lookups::width_at(plan, i + 1);
+    let last = plan_words::rows_of(counters, i);
     if nested_rows::sum_fits(w, last, transform::at_most_far(n)) {
         return NullStep::On;
     }
@@ -179,27 +179,27 @@ fn step_end(state: &[u64], counts: &[u64; plan_words::COUNTERS], i: usize, n: u6
 
 // A run-end node: its values, then its run end; a run that grows asks no value.
 fn step_run(
-    state: &[u64],
+    plan: &[u64],
     parts: &[u64],
-    counts: &mut [u64; plan_words::COUNTERS],
+    counters: &mut [u64; plan_words::COUNTERS],
     i: usize,
     n: u64,
     depth: u32,
 ) -> NullStep
     requires { ⌜ i < 32 ⌝ }
-    ensures { λ r. ⌜ whyNullRuns (join (now (state .entry)) (now (parts .entry)) [] [] [] 0 0) (nullWalk (join (now (state .entry)) (now (parts .entry)) [] [] [] 0 0) depth) (whyNulls (join (now (state .entry)) (now (parts .entry)) [] [] [] 0 0) depth) i n (now (counts .entry)) ≡ whyAfter (join (now (state .entry)) (now (parts .entry)) [] [] [] 0 0) depth r (now (counts .exit)) ⌝ }
+    ensures { λ r. ⌜ whyNullRuns (join (now (plan .entry)) (now (parts .entry)) [] [] [] 0 0) (nullWalk (join (now (plan .entry)) (now (parts .entry)) [] [] [] 0 0) depth) (whyNulls (join (now (plan .entry)) (now (parts .entry)) [] [] [] 0 0) depth) i n (now (counters .entry)) ≡ whyAfter (join (now (plan .entry)) (now (parts .entry)) [] [] [] 0 0) depth r (now (counters .exit)) ⌝ }
 {
-    if !nested_rows::has_ends(state, i) {
+    if !nested_rows::has_ends(plan, i) {
         return NullStep::Here(crate::stop_walks::plain(FOREIGN));
     }
-    if plan_words::bytes_of(counts, i) == 2 {
-        if plan_words::rows_of(counts, i + 1) == 0 {
+    if plan_words::bytes_of(counters, i) == 2 {
+        if plan_words::rows_of(counters, i + 1) == 0 {
             return NullStep::Here(crate::stop_walks::plain(FOREIGN));
         }
-        return step_end(state, counts, i, n);
+        return step_end(plan, counters, i, n);
     }
-    match step_into(state, parts, counts, i + 2, 1, depth) {
-        NullStep::On => step_end(state, counts, i, n),
+    match step_into(plan, parts, counters, i + 2, 1, depth) {
+        NullStep::On => step_end(plan, counters, i, n),
         NullStep::Here(w) => NullStep::Here(w),
         NullStep::Below { node, count } => NullStep::Below { node, count },
     }
@@ -209,42 +209,42 @@ fn step_run(
 
 // The data of a node by its format's code.
 fn step_data(
-    state: &[u64],
+    plan: &[u64],
     parts: &[u64],
-    counts: &mut [u64; plan_words::COUNTERS],
+    counters: &mut [u64; plan_words::COUNTERS],
     i: usize,
     n: u64,
     depth: u32,
 ) -> NullStep
     requires { ⌜ i < 32 ⌝ }
-    ensures { λ r. ⌜ whyNullData (join (now (state .entry)) (now (parts .entry)) [] [] [] 0 0) (nullWalk (join (now (state .entry)) (now (parts .entry)) [] [] [] 0 0) depth) (whyNulls (join (now (state .entry)) (now (parts .entry)) [] [] [] 0 0) depth) (codeOf (now (state .entry)) i) i n (now (counts .entry)) ≡ whyAfter (join (now (state .entry)) (now (parts .entry)) [] [] [] 0 0) depth r (now (counts .exit)) ⌝ }
+    ensures { λ r. ⌜ whyNullData (join (now (plan .entry)) (now (parts .entry)) [] [] [] 0 0) (nullWalk (join (now (plan .entry)) (now (parts .entry)) [] [] [] 0 0) depth) (whyNulls (join (now (plan .entry)) (now (parts .entry)) [] [] [] 0 0) depth) (codeOf (now (plan .entry)) i) i n (now (counters .entry)) ≡ whyAfter (join (now (plan .entry)) (now (parts .entry)) [] [] [] 0 0) depth r (now (counters .exit)) ⌝ }
 {
-    let code = plan_words::code_of(state, i);
+    let code = plan_words::code_of(plan, i);
     if code == nested_rows::node_data::SPARSE {
-        return step_sparse(state, parts, counts, i, n, depth);
+        return step_sparse(plan, parts, counters, i, n, depth);
     }
     if code == nested_rows::node_data::DENSE {
-        return step_dense(state, counts, i, n);
+        return step_dense(plan, counters, i, n);
     }
     if code == nested_rows::node_data::RUN_END {
-        return step_run(state, parts, counts, i, n, depth);
+        return step_run(plan, parts, counters, i, n, depth);
     }
     let mut none = [0u8; 0];
     let m = transform::at_most_far(n);
-    let g = nested_rows::node_data::null_leaf(state, parts, counts, &mut none, false, i, m);
+    let g = nested_rows::node_data::null_leaf(plan, parts, counters, &mut none, false, i, m);
     NullStep::Here(crate::stop_walks::plain(g))
 }
 
 // n nulls of node i.
 fn step_node(
-    state: &[u64],
+    plan: &[u64],
     parts: &[u64],
-    counts: &mut [u64; plan_words::COUNTERS],
+    counters: &mut [u64; plan_words::COUNTERS],
     i: usize,
     n: u64,
     depth: u32,
 ) -> NullStep
-    ensures { λ r. ⌜ whyNullNode (join (now (state .entry)) (now (parts .entry)) [] [] [] 0 0) (nullWalk (join (now (state .entry)) (now (parts .entry)) [] [] [] 0 0) depth) (whyNulls (join (now (state .entry)) (now (parts .entry)) [] [] [] 0 0) depth) i n (now (counts .entry)) ≡ whyAfter (join (now (state .entry)) (now (parts .entry)) [] [] [] 0 0) depth r (now (counts .exit)) ⌝ }
+    ensures { λ r. ⌜ whyNullNode (join (now (plan .entry)) (now (parts .entry)) [] [] [] 0 0) (nullWalk (join (now (plan .entry)) (now (parts .entry)) [] [] [] 0 0) depth) (whyNulls (join (now (plan .entry)) (now (parts .entry)) [] [] [] 0 0) depth) i n (now (counters .entry)) ≡ whyAfter (join (now (plan .entry)) (now (parts .entry)) [] [] [] 0 0) depth r (now (counters .exit)) ⌝ }
 {
     if n == 0 {
         return NullStep::On;
@@ -252,26 +252,26 @@ fn step_node(
     if 32 <= i {
         return NullStep::Here(crate::stop_walks::plain(FOREIGN));
     }
-    step_data(state, parts, counts, i, n, depth)
+    step_data(plan, parts, counters, i, n, depth)
 }
 
 // What stops n nulls of node i, at most `depth` levels down.
 pub fn why_null_walk(
-    state: &[u64],
+    plan: &[u64],
     parts: &[u64],
-    counts: &mut [u64; plan_words::COUNTERS],
+    counters: &mut [u64; plan_words::COUNTERS],
     i: usize,
     n: u64,
     depth: u32,
 ) -> Why
-    ensures { λ r. ⌜ r ≡ whyNulls (join (now (state .entry)) (now (parts .entry)) [] [] [] 0 0) depth i n (now (counts .entry)) ⌝ }
+    ensures { λ r. ⌜ r ≡ whyNulls (join (now (plan .entry)) (now (parts .entry)) [] [] [] 0 0) depth i n (now (counters .entry)) ⌝ }
 {
     let mut left = depth;
     let mut node = i;
     let mut len = n;
     while 0 < left {
         left -= 1;
-        match step_node(state, parts, counts, node, len, left) {
+        match step_node(plan, parts, counters, node, len, left) {
             NullStep::On => return crate::stop_walks::plain(0),
             NullStep::Here(w) => return w,
             NullStep::Below { node: k, count } => {

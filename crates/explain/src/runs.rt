@@ -17,36 +17,36 @@ const RUN_END: u8 = 7;
 
 // A run-end node: the last run end with its rows, or the runs of its values.
 pub fn step_run(
-    state: &[u64],
+    plan: &[u64],
     lengths: &[u64],
     places: &[u64],
     body: &[u8],
-    counts: &[u64; plan_words::COUNTERS],
+    counters: &[u64; plan_words::COUNTERS],
     first: usize,
     i: usize,
     slot: u64,
     n: u64,
 ) -> Step
     requires { ⌜ (first < 2 ^ 32) × (i < 32) × (slot + n < 2 ^ 63) ⌝ }
-    ensures { λ r. ⌜ ((parts : List ℕ) (source depth : ℕ) → whyRuns (join (now (state .entry)) parts (now (lengths .entry)) (now (places .entry)) (now (body .entry)) first source) (copyWalk (join (now (state .entry)) parts (now (lengths .entry)) (now (places .entry)) (now (body .entry)) first source) depth) (whyCopy (join (now (state .entry)) parts (now (lengths .entry)) (now (places .entry)) (now (body .entry)) first source) depth) i slot n (now (counts .entry)) ≡ whyAfter (join (now (state .entry)) parts (now (lengths .entry)) (now (places .entry)) (now (body .entry)) first source) depth r (now (counts .entry))) ⌝ }
+    ensures { λ r. ⌜ ((parts : List ℕ) (source depth : ℕ) → whyRuns (join (now (plan .entry)) parts (now (lengths .entry)) (now (places .entry)) (now (body .entry)) first source) (copyWalk (join (now (plan .entry)) parts (now (lengths .entry)) (now (places .entry)) (now (body .entry)) first source) depth) (whyCopy (join (now (plan .entry)) parts (now (lengths .entry)) (now (places .entry)) (now (body .entry)) first source) depth) i slot n (now (counters .entry)) ≡ whyAfter (join (now (plan .entry)) parts (now (lengths .entry)) (now (places .entry)) (now (body .entry)) first source) depth r (now (counters .entry))) ⌝ }
 {
     if n == 0 {
         return Step::On;
     }
-    let g = nested_rows::runs_ready(state, lengths, places, body, counts, first, i, n);
+    let g = nested_rows::runs_ready(plan, lengths, places, body, counters, first, i, n);
     if g == RUN_END {
         return Step::Here(Why {
             ground: g,
             node: i,
             row: 0,
-            needed: plan_words::grow(plan_words::rows_of(counts, i), n),
-            allowed: crate::stop_walks::largest(lookups::width_at(state, i + 1)),
+            needed: plan_words::grow(plan_words::rows_of(counters, i), n),
+            allowed: crate::stop_walks::largest(lookups::width_at(plan, i + 1)),
         });
     }
     if g != 0 {
         return Step::Here(crate::stop_walks::plain(g));
     }
-    let w = lookups::width_at(state, i + 1);
+    let w = lookups::width_at(plan, i + 1);
     match nested_rows::runs_at(lengths, places, body, first, i, w, LogicalRow(slot), n) {
         Runs::Range { first: run, count } => Step::Below {
             node: i + 2,

@@ -106,18 +106,18 @@ fn root_bytes(code: u8, rows: u64, len: u64, b: usize, r: u64, n: u64) -> u64
 // The bytes due in buffer b of node i.
 fn bytes_due(
     plan: &[u64],
-    counts: &[u64; plan_words::COUNTERS],
+    counters: &[u64; plan_words::COUNTERS],
     i: usize,
     b: usize,
     r: u64,
     n: u64,
 ) -> u64
     requires { ⌜ (i < 32) × (b < 3) ⌝ }
-    ensures { λ s. ⌜ ((parts : List ℕ) → s ≡ min (bytesDue (now (plan .entry)) (now (counts .entry)) parts (r + n) i b) top) ⌝ }
+    ensures { λ s. ⌜ ((parts : List ℕ) → s ≡ min (bytesDue (now (plan .entry)) (now (counters .entry)) parts (r + n) i b) top) ⌝ }
 {
     let code = plan_words::code_of(plan, i);
-    let rows = plan_words::rows_of(counts, i);
-    let len = plan_words::bytes_of(counts, i);
+    let rows = plan_words::rows_of(counters, i);
+    let len = plan_words::bytes_of(counters, i);
     if i == 0 {
         return root_bytes(code, rows, len, b, r, n);
     }
@@ -135,27 +135,27 @@ fn size_of(plan: &[u64], parts: &[u64], i: usize, b: usize) -> u64
 // Whether buffer b of node i has no part, or one that holds its bytes.
 fn part_holds(
     plan: &[u64],
-    counts: &[u64; plan_words::COUNTERS],
+    counters: &[u64; plan_words::COUNTERS],
     parts: &[u64],
     i: usize,
     b: usize,
 ) -> bool
     requires { ⌜ (i < 32) × (b < 3) × SmallPart (now plan) (now parts) i b ⌝ }
-    ensures { λ r. ⌜ r ≡ partHolds (now (plan .entry)) (now (counts .entry)) (now (parts .entry)) i b ⌝ }
+    ensures { λ r. ⌜ r ≡ partHolds (now (plan .entry)) (now (counters .entry)) (now (parts .entry)) i b ⌝ }
 {
     if !plan::parts::has_part(plan, i, b) {
         return true;
     }
     let code = plan_words::code_of(plan, i);
-    let rows = plan_words::rows_of(counts, i);
-    let len = plan_words::bytes_of(counts, i);
+    let rows = plan_words::rows_of(counters, i);
+    let len = plan_words::bytes_of(counters, i);
     buffer_bytes(code, rows, len, b) <= size_of(plan, parts, i, b)
 }
 
 // What buffer b of node i says.
 fn why_part(
     plan: &[u64],
-    counts: &[u64; plan_words::COUNTERS],
+    counters: &[u64; plan_words::COUNTERS],
     parts: &[u64],
     i: usize,
     b: usize,
@@ -163,16 +163,16 @@ fn why_part(
     n: u64,
 ) -> Why
     requires { ⌜ (i < 32) × (b < 3) × SmallPart (now plan) (now parts) i b ⌝ }
-    ensures { λ w. ⌜ w ≡ whyPart (now (plan .entry)) (now (counts .entry)) (now (parts .entry)) (r + n) i b nothing ⌝ }
+    ensures { λ w. ⌜ w ≡ whyPart (now (plan .entry)) (now (counters .entry)) (now (parts .entry)) (r + n) i b nothing ⌝ }
 {
-    if part_holds(plan, counts, parts, i, b) {
+    if part_holds(plan, counters, parts, i, b) {
         return crate::stop_walks::plain(0);
     }
     Why {
         ground: TOO_SMALL,
         node: i,
         row: 0,
-        needed: bytes_due(plan, counts, i, b, r, n),
+        needed: bytes_due(plan, counters, i, b, r, n),
         allowed: size_of(plan, parts, i, b),
     }
 }
@@ -180,41 +180,41 @@ fn why_part(
 // What the parts of node i say: its validity, then its buffers.
 fn why_node(
     plan: &[u64],
-    counts: &[u64; plan_words::COUNTERS],
+    counters: &[u64; plan_words::COUNTERS],
     parts: &[u64],
     i: usize,
     r: u64,
     n: u64,
 ) -> Why
     requires { ⌜ (i < 32) × ((b : ℕ) → b < 3 → SmallPart (now plan) (now parts) i b) ⌝ }
-    ensures { λ w. ⌜ w ≡ whyPart (now (plan .entry)) (now (counts .entry)) (now (parts .entry)) (r + n) i 0 (whyPart (now (plan .entry)) (now (counts .entry)) (now (parts .entry)) (r + n) i 1 (whyPart (now (plan .entry)) (now (counts .entry)) (now (parts .entry)) (r + n) i 2 nothing)) ⌝ }
+    ensures { λ w. ⌜ w ≡ whyPart (now (plan .entry)) (now (counters .entry)) (now (parts .entry)) (r + n) i 0 (whyPart (now (plan .entry)) (now (counters .entry)) (now (parts .entry)) (r + n) i 1 (whyPart (now (plan .entry)) (now (counters .entry)) (now (parts .entry)) (r + n) i 2 nothing)) ⌝ }
 {
-    let validity = why_part(plan, counts, parts, i, 0, r, n);
+    let validity = why_part(plan, counters, parts, i, 0, r, n);
     if validity.ground != 0 {
         return validity;
     }
-    let first = why_part(plan, counts, parts, i, 1, r, n);
+    let first = why_part(plan, counters, parts, i, 1, r, n);
     if first.ground != 0 {
         return first;
     }
-    why_part(plan, counts, parts, i, 2, r, n)
+    why_part(plan, counters, parts, i, 2, r, n)
 }
 
 // What the first part says that cannot hold its bytes.
 pub fn why_parts(
     plan: &[u64],
-    counts: &[u64; plan_words::COUNTERS],
+    counters: &[u64; plan_words::COUNTERS],
     parts: &[u64],
     r: u64,
     n: u64,
 ) -> Why
     requires { ⌜ SmallParts (now plan) (now parts) ⌝ }
-    ensures { λ w. ⌜ w ≡ whyParts (now (plan .entry)) (now (counts .entry)) (now (parts .entry)) (r + n) ⌝ }
+    ensures { λ w. ⌜ w ≡ whyParts (now (plan .entry)) (now (counters .entry)) (now (parts .entry)) (r + n) ⌝ }
 {
     let nodes = plan::parts::node_count(plan);
     let mut i = 0;
     while i < nodes {
-        let w = why_node(plan, counts, parts, i, r, n);
+        let w = why_node(plan, counters, parts, i, r, n);
         if w.ground != 0 {
             return w;
         }

@@ -59,12 +59,12 @@ pub fn largest(w: u64) -> u64
 
 // Walks the rows a .. a + n - 1 of node i: the counters are those after the walk, or those before it where it is refused.
 pub fn try_copy(
-    state: &[u64],
+    plan: &[u64],
     parts: &[u64],
     lengths: &[u64],
     places: &[u64],
     body: &[u8],
-    counts: &mut [u64; plan_words::COUNTERS],
+    counters: &mut [u64; plan_words::COUNTERS],
     source: usize,
     first: usize,
     i: usize,
@@ -73,17 +73,17 @@ pub fn try_copy(
     depth: u32,
 ) -> u8
     requires { ⌜ (first < 2 ^ 32) × (source < 2 ^ 32) ⌝ }
-    ensures { λ g. ⌜ Tried (copyWalk (join (now (state .entry)) (now (parts .entry)) (now (lengths .entry)) (now (places .entry)) (now (body .entry)) first source) depth i a n (now (counts .entry))) (now (counts .entry)) g (now (counts .exit)) ⌝ }
+    ensures { λ g. ⌜ Tried (copyWalk (join (now (plan .entry)) (now (parts .entry)) (now (lengths .entry)) (now (places .entry)) (now (body .entry)) first source) depth i a n (now (counters .entry))) (now (counters .entry)) g (now (counters .exit)) ⌝ }
 {
-    let before = *counts;
+    let before = *counters;
     let mut none = [0u8; 0];
     let g = extend::extend(
-        state,
+        plan,
         parts,
         lengths,
         places,
         body,
-        counts,
+        counters,
         &mut none,
         false,
         source,
@@ -94,7 +94,7 @@ pub fn try_copy(
         depth,
     );
     if g != 0 {
-        *counts = before;
+        *counters = before;
         return g;
     }
     0
@@ -102,12 +102,12 @@ pub fn try_copy(
 
 // The same of a child.
 pub fn step_into(
-    state: &[u64],
+    plan: &[u64],
     parts: &[u64],
     lengths: &[u64],
     places: &[u64],
     body: &[u8],
-    counts: &mut [u64; plan_words::COUNTERS],
+    counters: &mut [u64; plan_words::COUNTERS],
     source: usize,
     first: usize,
     k: usize,
@@ -116,15 +116,15 @@ pub fn step_into(
     depth: u32,
 ) -> Step
     requires { ⌜ (first < 2 ^ 32) × (source < 2 ^ 32) ⌝ }
-    ensures { λ r. ⌜ RowSays (copyWalk (join (now (state .entry)) (now (parts .entry)) (now (lengths .entry)) (now (places .entry)) (now (body .entry)) first source) depth k a n (now (counts .entry))) (whyCopy (join (now (state .entry)) (now (parts .entry)) (now (lengths .entry)) (now (places .entry)) (now (body .entry)) first source) depth k a n (now (counts .entry))) (join (now (state .entry)) (now (parts .entry)) (now (lengths .entry)) (now (places .entry)) (now (body .entry)) first source) depth r (now (counts .exit)) ⌝ }
+    ensures { λ r. ⌜ RowSays (copyWalk (join (now (plan .entry)) (now (parts .entry)) (now (lengths .entry)) (now (places .entry)) (now (body .entry)) first source) depth k a n (now (counters .entry))) (whyCopy (join (now (plan .entry)) (now (parts .entry)) (now (lengths .entry)) (now (places .entry)) (now (body .entry)) first source) depth k a n (now (counters .entry))) (join (now (plan .entry)) (now (parts .entry)) (now (lengths .entry)) (now (places .entry)) (now (body .entry)) first source) depth r (now (counters .exit)) ⌝ }
 {
     let g = try_copy(
-        state,
+        plan,
         parts,
         lengths,
         places,
         body,
-        counts,
+        counters,
         source,
         first,
         k,
@@ -146,12 +146,12 @@ pub fn step_into(
 
 // The data of a node by its format's code.
 fn step_data(
-    state: &[u64],
+    plan: &[u64],
     parts: &[u64],
     lengths: &[u64],
     places: &[u64],
     body: &[u8],
-    counts: &mut [u64; plan_words::COUNTERS],
+    counters: &mut [u64; plan_words::COUNTERS],
     source: usize,
     first: usize,
     i: usize,
@@ -160,21 +160,21 @@ fn step_data(
     depth: u32,
 ) -> Step
     requires { ⌜ (first < 2 ^ 32) × (source < 2 ^ 32) × (i < 32) × (slot + n < 2 ^ 63) ⌝ }
-    ensures { λ r. ⌜ whyData (join (now (state .entry)) (now (parts .entry)) (now (lengths .entry)) (now (places .entry)) (now (body .entry)) first source) (copyWalk (join (now (state .entry)) (now (parts .entry)) (now (lengths .entry)) (now (places .entry)) (now (body .entry)) first source) depth) (whyCopy (join (now (state .entry)) (now (parts .entry)) (now (lengths .entry)) (now (places .entry)) (now (body .entry)) first source) depth) (codeOf (now (state .entry)) i) i slot n (now (counts .entry)) ≡ whyAfter (join (now (state .entry)) (now (parts .entry)) (now (lengths .entry)) (now (places .entry)) (now (body .entry)) first source) depth r (now (counts .exit)) ⌝ }
+    ensures { λ r. ⌜ whyData (join (now (plan .entry)) (now (parts .entry)) (now (lengths .entry)) (now (places .entry)) (now (body .entry)) first source) (copyWalk (join (now (plan .entry)) (now (parts .entry)) (now (lengths .entry)) (now (places .entry)) (now (body .entry)) first source) depth) (whyCopy (join (now (plan .entry)) (now (parts .entry)) (now (lengths .entry)) (now (places .entry)) (now (body .entry)) first source) depth) (codeOf (now (plan .entry)) i) i slot n (now (counters .entry)) ≡ whyAfter (join (now (plan .entry)) (now (parts .entry)) (now (lengths .entry)) (now (places .entry)) (now (body .entry)) first source) depth r (now (counters .exit)) ⌝ }
 {
-    let code = plan_words::code_of(state, i);
-    let w = lookups::width_at(state, i);
+    let code = plan_words::code_of(plan, i);
+    let w = lookups::width_at(plan, i);
     if schema::formats::is_string(code) {
-        return strings::step_string(state, places, body, counts, first, i, w, slot, n);
+        return strings::step_string(plan, places, body, counters, first, i, w, slot, n);
     }
     if schema::formats::is_list_view(code) {
         return lists::step_list_view(
-            state,
+            plan,
             parts,
             lengths,
             places,
             body,
-            counts,
+            counters,
             source,
             first,
             i,
@@ -185,16 +185,16 @@ fn step_data(
         );
     }
     if schema::formats::is_list(code) {
-        return lists::step_list(state, parts, places, body, counts, first, i, w, slot, n);
+        return lists::step_list(plan, parts, places, body, counters, first, i, w, slot, n);
     }
     if code == nested_rows::node_data::SPARSE {
         return unions::step_sparse(
-            state,
+            plan,
             parts,
             lengths,
             places,
             body,
-            counts,
+            counters,
             source,
             first,
             i,
@@ -205,12 +205,12 @@ fn step_data(
     }
     if code == nested_rows::node_data::DENSE {
         return unions::step_dense(
-            state,
+            plan,
             parts,
             lengths,
             places,
             body,
-            counts,
+            counters,
             source,
             first,
             i,
@@ -220,15 +220,15 @@ fn step_data(
         );
     }
     if code == nested_rows::node_data::RUN_END {
-        return runs::step_run(state, lengths, places, body, counts, first, i, slot, n);
+        return runs::step_run(plan, lengths, places, body, counters, first, i, slot, n);
     }
     let mut none = [0u8; 0];
     let g = nested_rows::node_data::copy_leaf(
-        state,
+        plan,
         parts,
         places,
         body,
-        counts,
+        counters,
         &mut none,
         false,
         source,
@@ -242,12 +242,12 @@ fn step_data(
 
 // The rows a .. a + n - 1 of node i.
 fn step_node(
-    state: &[u64],
+    plan: &[u64],
     parts: &[u64],
     lengths: &[u64],
     places: &[u64],
     body: &[u8],
-    counts: &mut [u64; plan_words::COUNTERS],
+    counters: &mut [u64; plan_words::COUNTERS],
     source: usize,
     first: usize,
     i: usize,
@@ -256,7 +256,7 @@ fn step_node(
     depth: u32,
 ) -> Step
     requires { ⌜ (first < 2 ^ 32) × (source < 2 ^ 32) ⌝ }
-    ensures { λ r. ⌜ whyNode (join (now (state .entry)) (now (parts .entry)) (now (lengths .entry)) (now (places .entry)) (now (body .entry)) first source) (copyWalk (join (now (state .entry)) (now (parts .entry)) (now (lengths .entry)) (now (places .entry)) (now (body .entry)) first source) depth) (whyCopy (join (now (state .entry)) (now (parts .entry)) (now (lengths .entry)) (now (places .entry)) (now (body .entry)) first source) depth) i a n (now (counts .entry)) ≡ whyAfter (join (now (state .entry)) (now (parts .entry)) (now (lengths .entry)) (now (places .entry)) (now (body .entry)) first source) depth r (now (counts .exit)) ⌝ }
+    ensures { λ r. ⌜ whyNode (join (now (plan .entry)) (now (parts .entry)) (now (lengths .entry)) (now (places .entry)) (now (body .entry)) first source) (copyWalk (join (now (plan .entry)) (now (parts .entry)) (now (lengths .entry)) (now (places .entry)) (now (body .entry)) first source) depth) (whyCopy (join (now (plan .entry)) (now (parts .entry)) (now (lengths .entry)) (now (places .entry)) (now (body .entry)) first source) depth) i a n (now (counters .entry)) ≡ whyAfter (join (now (plan .entry)) (now (parts .entry)) (now (lengths .entry)) (now (places .entry)) (now (body .entry)) first source) depth r (now (counters .exit)) ⌝ }
 {
     if 32 <= i {
         return Step::Here(plain(FOREIGN));
@@ -267,11 +267,11 @@ fn step_node(
     }
     let mut none = [0u8; 0];
     let g = nested_rows::node_data::copy_validity(
-        state,
+        plan,
         parts,
         places,
         body,
-        counts,
+        counters,
         &mut none,
         false,
         first,
@@ -283,12 +283,12 @@ fn step_node(
         return Step::Here(plain(FOREIGN));
     }
     step_data(
-        state,
+        plan,
         parts,
         lengths,
         places,
         body,
-        counts,
+        counters,
         source,
         first,
         i,
@@ -300,12 +300,12 @@ fn step_node(
 
 // What stops a copy of the rows a .. a + n - 1 of node i, at most `depth` levels down.
 pub fn why_walk(
-    state: &[u64],
+    plan: &[u64],
     parts: &[u64],
     lengths: &[u64],
     places: &[u64],
     body: &[u8],
-    counts: &mut [u64; plan_words::COUNTERS],
+    counters: &mut [u64; plan_words::COUNTERS],
     source: usize,
     first: usize,
     i: usize,
@@ -314,7 +314,7 @@ pub fn why_walk(
     depth: u32,
 ) -> Why
     requires { ⌜ (first < 2 ^ 32) × (source < 2 ^ 32) ⌝ }
-    ensures { λ r. ⌜ r ≡ whyCopy (join (now (state .entry)) (now (parts .entry)) (now (lengths .entry)) (now (places .entry)) (now (body .entry)) first source) depth i a n (now (counts .entry)) ⌝ }
+    ensures { λ r. ⌜ r ≡ whyCopy (join (now (plan .entry)) (now (parts .entry)) (now (lengths .entry)) (now (places .entry)) (now (body .entry)) first source) depth i a n (now (counters .entry)) ⌝ }
 {
     let mut left = depth;
     let mut node = i;
@@ -323,12 +323,12 @@ pub fn why_walk(
     while 0 < left {
         left -= 1;
         match step_node(
-            state,
+            plan,
             parts,
             lengths,
             places,
             body,
-            counts,
+            counters,
             source,
             first,
             node,

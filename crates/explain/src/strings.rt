@@ -44,10 +44,10 @@ fn bytes_ground(body: &[u8], at: u64, lead: u64, n: u64) -> u8
 
 // A byte string with offsets of w bytes: its first offset that does not fit.
 pub fn step_string(
-    state: &[u64],
+    plan: &[u64],
     places: &[u64],
     body: &[u8],
-    counts: &[u64; plan_words::COUNTERS],
+    counters: &[u64; plan_words::COUNTERS],
     first: usize,
     i: usize,
     w: u64,
@@ -56,7 +56,7 @@ pub fn step_string(
 ) -> Step
     requires { ⌜ (first < 2 ^ 32) × (i < 32) × (slot + n < 2 ^ 63) ⌝ }
     requires { ⌜ ((w ≡ 4 → ⊥) → w ≡ 8) ⌝ }
-    ensures { λ r. ⌜ ((parts lengths : List ℕ) (source depth : ℕ) → whyString (join (now (state .entry)) parts lengths (now (places .entry)) (now (body .entry)) first source) (copyWalk (join (now (state .entry)) parts lengths (now (places .entry)) (now (body .entry)) first source) depth) (whyCopy (join (now (state .entry)) parts lengths (now (places .entry)) (now (body .entry)) first source) depth) w i slot n (now (counts .entry)) ≡ whyAfter (join (now (state .entry)) parts lengths (now (places .entry)) (now (body .entry)) first source) depth r (now (counts .entry))) ⌝ }
+    ensures { λ r. ⌜ ((parts lengths : List ℕ) (source depth : ℕ) → whyString (join (now (plan .entry)) parts lengths (now (places .entry)) (now (body .entry)) first source) (copyWalk (join (now (plan .entry)) parts lengths (now (places .entry)) (now (body .entry)) first source) depth) (whyCopy (join (now (plan .entry)) parts lengths (now (places .entry)) (now (body .entry)) first source) depth) w i slot n (now (counters .entry)) ≡ whyAfter (join (now (plan .entry)) parts lengths (now (places .entry)) (now (body .entry)) first source) depth r (now (counters .entry))) ⌝ }
 {
     if n == 0 {
         return Step::On;
@@ -66,7 +66,7 @@ pub fn step_string(
         return Step::Here(crate::stop_walks::plain(FOREIGN));
     }
     let from = at + w * slot;
-    let old = plan_words::bytes_of(counts, i);
+    let old = plan_words::bytes_of(counters, i);
     match offsets(body, from as usize, w, n as usize, old) {
         Extended::Fits { last, first: lead } => {
             let data = lent_tables::place(places, first + i, 5);

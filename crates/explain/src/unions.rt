@@ -20,12 +20,12 @@ const FOREIGN: u8 = 12;
 
 // A sparse union: its first child that is refused.
 pub fn step_sparse(
-    state: &[u64],
+    plan: &[u64],
     parts: &[u64],
     lengths: &[u64],
     places: &[u64],
     body: &[u8],
-    counts: &mut [u64; plan_words::COUNTERS],
+    counters: &mut [u64; plan_words::COUNTERS],
     source: usize,
     first: usize,
     i: usize,
@@ -34,12 +34,12 @@ pub fn step_sparse(
     depth: u32,
 ) -> Step
     requires { ⌜ (first < 2 ^ 32) × (source < 2 ^ 32) × (i < 32) × (slot + n < 2 ^ 63) ⌝ }
-    ensures { λ r. ⌜ whySparse (join (now (state .entry)) (now (parts .entry)) (now (lengths .entry)) (now (places .entry)) (now (body .entry)) first source) (copyWalk (join (now (state .entry)) (now (parts .entry)) (now (lengths .entry)) (now (places .entry)) (now (body .entry)) first source) depth) (whyCopy (join (now (state .entry)) (now (parts .entry)) (now (lengths .entry)) (now (places .entry)) (now (body .entry)) first source) depth) i slot n (now (counts .entry)) ≡ whyAfter (join (now (state .entry)) (now (parts .entry)) (now (lengths .entry)) (now (places .entry)) (now (body .entry)) first source) depth r (now (counts .exit)) ⌝ }
+    ensures { λ r. ⌜ whySparse (join (now (plan .entry)) (now (parts .entry)) (now (lengths .entry)) (now (places .entry)) (now (body .entry)) first source) (copyWalk (join (now (plan .entry)) (now (parts .entry)) (now (lengths .entry)) (now (places .entry)) (now (body .entry)) first source) depth) (whyCopy (join (now (plan .entry)) (now (parts .entry)) (now (lengths .entry)) (now (places .entry)) (now (body .entry)) first source) depth) i slot n (now (counters .entry)) ≡ whyAfter (join (now (plan .entry)) (now (parts .entry)) (now (lengths .entry)) (now (places .entry)) (now (body .entry)) first source) depth r (now (counters .exit)) ⌝ }
 {
     if !leaf_walk::rows_in(body, lent_tables::place(places, first + i, 3), 1, slot, n) {
         return Step::Here(crate::stop_walks::plain(FOREIGN));
     }
-    let end = plan_words::end_of(state, i);
+    let end = plan_words::end_of(plan, i);
     let mut k = i + 1;
     let mut t: usize = 0;
     while t < 32 {
@@ -47,12 +47,12 @@ pub fn step_sparse(
             return Step::On;
         }
         match crate::stop_walks::step_into(
-            state,
+            plan,
             parts,
             lengths,
             places,
             body,
-            counts,
+            counters,
             source,
             first,
             k,
@@ -61,7 +61,7 @@ pub fn step_sparse(
             depth,
         ) {
             Step::On => {
-                k = plan_words::end_of(state, k);
+                k = plan_words::end_of(plan, k);
                 t += 1;
             }
             Step::Here(w) => return Step::Here(w),
@@ -73,12 +73,12 @@ pub fn step_sparse(
 
 // Row r of a dense union.
 fn dense_row(
-    state: &[u64],
+    plan: &[u64],
     parts: &[u64],
     lengths: &[u64],
     places: &[u64],
     body: &[u8],
-    counts: &mut [u64; plan_words::COUNTERS],
+    counters: &mut [u64; plan_words::COUNTERS],
     source: usize,
     first: usize,
     i: usize,
@@ -88,15 +88,15 @@ fn dense_row(
 ) -> Step
     requires { ⌜ (first < 2 ^ 32) × (source < 2 ^ 32) × (i < 32) × (slot + r + 1 < 2 ^ 63) ⌝ }
     requires { ⌜ (place (join [] [] (now lengths) (now places) (now body) first 0) i 3 + (slot + r + 1) ≤ length (now body)) × (place (join [] [] (now lengths) (now places) (now body) first 0) i 5 + 4 * (slot + r + 1) ≤ length (now body)) ⌝ }
-    ensures { λ s. ⌜ RowSays (denseRow (join (now (state .entry)) (now (parts .entry)) (now (lengths .entry)) (now (places .entry)) (now (body .entry)) first source) (copyWalk (join (now (state .entry)) (now (parts .entry)) (now (lengths .entry)) (now (places .entry)) (now (body .entry)) first source) depth) i slot r (now (counts .entry))) (whyDenseRow (join (now (state .entry)) (now (parts .entry)) (now (lengths .entry)) (now (places .entry)) (now (body .entry)) first source) (copyWalk (join (now (state .entry)) (now (parts .entry)) (now (lengths .entry)) (now (places .entry)) (now (body .entry)) first source) depth) (whyCopy (join (now (state .entry)) (now (parts .entry)) (now (lengths .entry)) (now (places .entry)) (now (body .entry)) first source) depth) i slot r (now (counts .entry))) (join (now (state .entry)) (now (parts .entry)) (now (lengths .entry)) (now (places .entry)) (now (body .entry)) first source) depth s (now (counts .exit)) ⌝ }
+    ensures { λ s. ⌜ RowSays (denseRow (join (now (plan .entry)) (now (parts .entry)) (now (lengths .entry)) (now (places .entry)) (now (body .entry)) first source) (copyWalk (join (now (plan .entry)) (now (parts .entry)) (now (lengths .entry)) (now (places .entry)) (now (body .entry)) first source) depth) i slot r (now (counters .entry))) (whyDenseRow (join (now (plan .entry)) (now (parts .entry)) (now (lengths .entry)) (now (places .entry)) (now (body .entry)) first source) (copyWalk (join (now (plan .entry)) (now (parts .entry)) (now (lengths .entry)) (now (places .entry)) (now (body .entry)) first source) depth) (whyCopy (join (now (plan .entry)) (now (parts .entry)) (now (lengths .entry)) (now (places .entry)) (now (body .entry)) first source) depth) i slot r (now (counters .entry))) (join (now (plan .entry)) (now (parts .entry)) (now (lengths .entry)) (now (places .entry)) (now (body .entry)) first source) depth s (now (counters .exit)) ⌝ }
 {
     let at = lent_tables::place(places, first + i, 3) + (slot + r);
     let id = body[at as usize];
-    let k = lookups::child_with(state, id, plan_words::end_of(state, i), i + 1);
+    let k = lookups::child_with(plan, id, plan_words::end_of(plan, i), i + 1);
     if 32 <= k {
         return Step::Here(crate::stop_walks::plain(FOREIGN));
     }
-    let child = plan_words::rows_of(counts, k);
+    let child = plan_words::rows_of(counters, k);
     if 2147483648 <= child {
         return Step::Here(Why {
             ground: OFFSET,
@@ -108,12 +108,12 @@ fn dense_row(
     }
     let position = lookups::entry_at(body, lent_tables::place(places, first + i, 5), 4, slot + r);
     crate::stop_walks::step_into(
-        state,
+        plan,
         parts,
         lengths,
         places,
         body,
-        counts,
+        counters,
         source,
         first,
         k,
@@ -125,12 +125,12 @@ fn dense_row(
 
 // A dense union: its first row that is refused.
 pub fn step_dense(
-    state: &[u64],
+    plan: &[u64],
     parts: &[u64],
     lengths: &[u64],
     places: &[u64],
     body: &[u8],
-    counts: &mut [u64; plan_words::COUNTERS],
+    counters: &mut [u64; plan_words::COUNTERS],
     source: usize,
     first: usize,
     i: usize,
@@ -139,7 +139,7 @@ pub fn step_dense(
     depth: u32,
 ) -> Step
     requires { ⌜ (first < 2 ^ 32) × (source < 2 ^ 32) × (i < 32) × (slot + n < 2 ^ 63) ⌝ }
-    ensures { λ r. ⌜ whyDense (join (now (state .entry)) (now (parts .entry)) (now (lengths .entry)) (now (places .entry)) (now (body .entry)) first source) (copyWalk (join (now (state .entry)) (now (parts .entry)) (now (lengths .entry)) (now (places .entry)) (now (body .entry)) first source) depth) (whyCopy (join (now (state .entry)) (now (parts .entry)) (now (lengths .entry)) (now (places .entry)) (now (body .entry)) first source) depth) i slot n (now (counts .entry)) ≡ whyAfter (join (now (state .entry)) (now (parts .entry)) (now (lengths .entry)) (now (places .entry)) (now (body .entry)) first source) depth r (now (counts .exit)) ⌝ }
+    ensures { λ r. ⌜ whyDense (join (now (plan .entry)) (now (parts .entry)) (now (lengths .entry)) (now (places .entry)) (now (body .entry)) first source) (copyWalk (join (now (plan .entry)) (now (parts .entry)) (now (lengths .entry)) (now (places .entry)) (now (body .entry)) first source) depth) (whyCopy (join (now (plan .entry)) (now (parts .entry)) (now (lengths .entry)) (now (places .entry)) (now (body .entry)) first source) depth) i slot n (now (counters .entry)) ≡ whyAfter (join (now (plan .entry)) (now (parts .entry)) (now (lengths .entry)) (now (places .entry)) (now (body .entry)) first source) depth r (now (counters .exit)) ⌝ }
 {
     if !nested_rows::pairs_in(places, body, first, i, 1, 4, slot, n) {
         return Step::Here(crate::stop_walks::plain(FOREIGN));
@@ -147,12 +147,12 @@ pub fn step_dense(
     let mut r: u64 = 0;
     while r < n {
         match dense_row(
-            state,
+            plan,
             parts,
             lengths,
             places,
             body,
-            counts,
+            counters,
             source,
             first,
             i,

@@ -22,12 +22,12 @@ mod union;
 
 // A list-view or a list.
 fn extend_listed(
-    state: &[u64],
+    plan: &[u64],
     parts: &[u64],
     lengths: &[u64],
     places: &[u64],
     body: &[u8],
-    counts: &mut [u64; plan_words::COUNTERS],
+    counters: &mut [u64; plan_words::COUNTERS],
     room: &mut [u8],
     write: bool,
     source: usize,
@@ -38,18 +38,18 @@ fn extend_listed(
     depth: u32,
 ) -> u8
     requires { ⌜ (first < 2 ^ 32) × (source < 2 ^ 32) × (i < 32) × (slot + n < 2 ^ 63) ⌝ }
-    requires { ⌜ (isListView (codeOf (now state) i) || isList (codeOf (now state) i)) ≡ true ⌝ }
-    ensures { λ g. ⌜ Did (now (state .entry)) (now (parts .entry)) write (copyData (join (now (state .entry)) (now (parts .entry)) (now (lengths .entry)) (now (places .entry)) (now (body .entry)) first source) (copyWalk (join (now (state .entry)) (now (parts .entry)) (now (lengths .entry)) (now (places .entry)) (now (body .entry)) first source) depth) (codeOf (now (state .entry)) i) i slot n (now (counts .entry))) (now (room .entry)) g (now (counts .exit)) (now (room .exit)) ⌝ }
+    requires { ⌜ (isListView (codeOf (now plan) i) || isList (codeOf (now plan) i)) ≡ true ⌝ }
+    ensures { λ g. ⌜ Did (now (plan .entry)) (now (parts .entry)) write (copyData (join (now (plan .entry)) (now (parts .entry)) (now (lengths .entry)) (now (places .entry)) (now (body .entry)) first source) (copyWalk (join (now (plan .entry)) (now (parts .entry)) (now (lengths .entry)) (now (places .entry)) (now (body .entry)) first source) depth) (codeOf (now (plan .entry)) i) i slot n (now (counters .entry))) (now (room .entry)) g (now (counters .exit)) (now (room .exit)) ⌝ }
 {
-    let w = lookups::width_at(state, i);
-    if schema::formats::is_list(plan_words::code_of(state, i)) {
+    let w = lookups::width_at(plan, i);
+    if schema::formats::is_list(plan_words::code_of(plan, i)) {
         return list::extend_list(
-            state,
+            plan,
             parts,
             lengths,
             places,
             body,
-            counts,
+            counters,
             room,
             write,
             source,
@@ -62,12 +62,12 @@ fn extend_listed(
         );
     }
     list_view::extend_list_view(
-        state,
+        plan,
         parts,
         lengths,
         places,
         body,
-        counts,
+        counters,
         room,
         write,
         source,
@@ -82,12 +82,12 @@ fn extend_listed(
 
 // The data of a node by its format's code.
 fn extend_data(
-    state: &[u64],
+    plan: &[u64],
     parts: &[u64],
     lengths: &[u64],
     places: &[u64],
     body: &[u8],
-    counts: &mut [u64; plan_words::COUNTERS],
+    counters: &mut [u64; plan_words::COUNTERS],
     room: &mut [u8],
     write: bool,
     source: usize,
@@ -98,17 +98,17 @@ fn extend_data(
     depth: u32,
 ) -> u8
     requires { ⌜ (first < 2 ^ 32) × (source < 2 ^ 32) × (i < 32) × (slot + n < 2 ^ 63) ⌝ }
-    ensures { λ g. ⌜ Did (now (state .entry)) (now (parts .entry)) write (copyData (join (now (state .entry)) (now (parts .entry)) (now (lengths .entry)) (now (places .entry)) (now (body .entry)) first source) (copyWalk (join (now (state .entry)) (now (parts .entry)) (now (lengths .entry)) (now (places .entry)) (now (body .entry)) first source) depth) (codeOf (now (state .entry)) i) i slot n (now (counts .entry))) (now (room .entry)) g (now (counts .exit)) (now (room .exit)) ⌝ }
+    ensures { λ g. ⌜ Did (now (plan .entry)) (now (parts .entry)) write (copyData (join (now (plan .entry)) (now (parts .entry)) (now (lengths .entry)) (now (places .entry)) (now (body .entry)) first source) (copyWalk (join (now (plan .entry)) (now (parts .entry)) (now (lengths .entry)) (now (places .entry)) (now (body .entry)) first source) depth) (codeOf (now (plan .entry)) i) i slot n (now (counters .entry))) (now (room .entry)) g (now (counters .exit)) (now (room .exit)) ⌝ }
 {
-    let code = plan_words::code_of(state, i);
+    let code = plan_words::code_of(plan, i);
     if schema::formats::is_list_view(code) | schema::formats::is_list(code) {
         return extend_listed(
-            state,
+            plan,
             parts,
             lengths,
             places,
             body,
-            counts,
+            counters,
             room,
             write,
             source,
@@ -121,12 +121,12 @@ fn extend_data(
     }
     if code == node_data::SPARSE {
         return union::extend_sparse(
-            state,
+            plan,
             parts,
             lengths,
             places,
             body,
-            counts,
+            counters,
             room,
             write,
             source,
@@ -139,12 +139,12 @@ fn extend_data(
     }
     if code == node_data::DENSE {
         return union::extend_dense(
-            state,
+            plan,
             parts,
             lengths,
             places,
             body,
-            counts,
+            counters,
             room,
             write,
             source,
@@ -157,12 +157,12 @@ fn extend_data(
     }
     if code == node_data::RUN_END {
         return run::extend_run(
-            state,
+            plan,
             parts,
             lengths,
             places,
             body,
-            counts,
+            counters,
             room,
             write,
             source,
@@ -174,11 +174,11 @@ fn extend_data(
         );
     }
     node_data::copy_leaf(
-        state,
+        plan,
         parts,
         places,
         body,
-        counts,
+        counters,
         room,
         write,
         source,
@@ -191,12 +191,12 @@ fn extend_data(
 
 // The rows a .. a + n - 1 of node i, at most `depth` levels down.
 pub fn extend(
-    state: &[u64],
+    plan: &[u64],
     parts: &[u64],
     lengths: &[u64],
     places: &[u64],
     body: &[u8],
-    counts: &mut [u64; plan_words::COUNTERS],
+    counters: &mut [u64; plan_words::COUNTERS],
     room: &mut [u8],
     write: bool,
     source: usize,
@@ -207,7 +207,7 @@ pub fn extend(
     depth: u32,
 ) -> u8
     requires { ⌜ (first < 2 ^ 32) × (source < 2 ^ 32) ⌝ }
-    ensures { λ g. ⌜ Did (now (state .entry)) (now (parts .entry)) write (copyWalk (join (now (state .entry)) (now (parts .entry)) (now (lengths .entry)) (now (places .entry)) (now (body .entry)) first source) depth i a n (now (counts .entry))) (now (room .entry)) g (now (counts .exit)) (now (room .exit)) ⌝ }
+    ensures { λ g. ⌜ Did (now (plan .entry)) (now (parts .entry)) write (copyWalk (join (now (plan .entry)) (now (parts .entry)) (now (lengths .entry)) (now (places .entry)) (now (body .entry)) first source) depth i a n (now (counters .entry))) (now (room .entry)) g (now (counters .exit)) (now (room .exit)) ⌝ }
 {
     if depth == 0 {
         return 12;
@@ -220,11 +220,11 @@ pub fn extend(
         return 12;
     }
     let g = node_data::copy_validity(
-        state,
+        plan,
         parts,
         places,
         body,
-        counts,
+        counters,
         room,
         write,
         first,
@@ -236,12 +236,12 @@ pub fn extend(
         return g;
     }
     let g = extend_data(
-        state,
+        plan,
         parts,
         lengths,
         places,
         body,
-        counts,
+        counters,
         room,
         write,
         source,
@@ -254,15 +254,15 @@ pub fn extend(
     if g != 0 {
         return g;
     }
-    plan_words::add_rows(counts, i, n);
+    plan_words::add_rows(counters, i, n);
     0
 }
 
 // The data of a node by its format's code.
 fn extend_nulls_data(
-    state: &[u64],
+    plan: &[u64],
     parts: &[u64],
-    counts: &mut [u64; plan_words::COUNTERS],
+    counters: &mut [u64; plan_words::COUNTERS],
     room: &mut [u8],
     write: bool,
     i: usize,
@@ -270,33 +270,33 @@ fn extend_nulls_data(
     depth: u32,
 ) -> u8
     requires { ⌜ i < 32 ⌝ }
-    ensures { λ g. ⌜ Did (now (state .entry)) (now (parts .entry)) write (nullData (join (now (state .entry)) (now (parts .entry)) [] [] [] 0 0) (nullWalk (join (now (state .entry)) (now (parts .entry)) [] [] [] 0 0) depth) (codeOf (now (state .entry)) i) i n (now (counts .entry))) (now (room .entry)) g (now (counts .exit)) (now (room .exit)) ⌝ }
+    ensures { λ g. ⌜ Did (now (plan .entry)) (now (parts .entry)) write (nullData (join (now (plan .entry)) (now (parts .entry)) [] [] [] 0 0) (nullWalk (join (now (plan .entry)) (now (parts .entry)) [] [] [] 0 0) depth) (codeOf (now (plan .entry)) i) i n (now (counters .entry))) (now (room .entry)) g (now (counters .exit)) (now (room .exit)) ⌝ }
 {
-    let code = plan_words::code_of(state, i);
+    let code = plan_words::code_of(plan, i);
     if code == node_data::SPARSE {
-        return union::extend_nulls_sparse(state, parts, counts, room, write, i, n, depth);
+        return union::extend_nulls_sparse(plan, parts, counters, room, write, i, n, depth);
     }
     if code == node_data::DENSE {
-        return union::extend_nulls_dense(state, parts, counts, room, write, i, n, depth);
+        return union::extend_nulls_dense(plan, parts, counters, room, write, i, n, depth);
     }
     if code == node_data::RUN_END {
-        return run::extend_nulls_run(state, parts, counts, room, write, i, n, depth);
+        return run::extend_nulls_run(plan, parts, counters, room, write, i, n, depth);
     }
-    node_data::null_leaf(state, parts, counts, room, write, i, n)
+    node_data::null_leaf(plan, parts, counters, room, write, i, n)
 }
 
 // n nulls of node i, at most `depth` levels down.
 pub fn extend_nulls(
-    state: &[u64],
+    plan: &[u64],
     parts: &[u64],
-    counts: &mut [u64; plan_words::COUNTERS],
+    counters: &mut [u64; plan_words::COUNTERS],
     room: &mut [u8],
     write: bool,
     i: usize,
     n: u64,
     depth: u32,
 ) -> u8
-    ensures { λ g. ⌜ Did (now (state .entry)) (now (parts .entry)) write (nullWalk (join (now (state .entry)) (now (parts .entry)) [] [] [] 0 0) depth i n (now (counts .entry))) (now (room .entry)) g (now (counts .exit)) (now (room .exit)) ⌝ }
+    ensures { λ g. ⌜ Did (now (plan .entry)) (now (parts .entry)) write (nullWalk (join (now (plan .entry)) (now (parts .entry)) [] [] [] 0 0) depth i n (now (counters .entry))) (now (room .entry)) g (now (counters .exit)) (now (room .exit)) ⌝ }
 {
     if depth == 0 {
         return 12;
@@ -307,14 +307,14 @@ pub fn extend_nulls(
     if 32 <= i {
         return 12;
     }
-    let g = extend_nulls_data(state, parts, counts, room, write, i, n, depth - 1);
+    let g = extend_nulls_data(plan, parts, counters, room, write, i, n, depth - 1);
     if g != 0 {
         return g;
     }
-    let g = node_data::null_validity(state, parts, counts, room, write, i, n);
+    let g = node_data::null_validity(plan, parts, counters, room, write, i, n);
     if g != 0 {
         return g;
     }
-    plan_words::add_rows(counts, i, n);
+    plan_words::add_rows(counters, i, n);
     0
 }

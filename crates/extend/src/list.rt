@@ -11,12 +11,12 @@ use walk::plan_words;
 
 // A list with offsets of w bytes: all its offsets, then one stretch of its child.
 pub fn extend_list(
-    state: &[u64],
+    plan: &[u64],
     parts: &[u64],
     lengths: &[u64],
     places: &[u64],
     body: &[u8],
-    counts: &mut [u64; plan_words::COUNTERS],
+    counters: &mut [u64; plan_words::COUNTERS],
     room: &mut [u8],
     write: bool,
     source: usize,
@@ -29,7 +29,7 @@ pub fn extend_list(
 ) -> u8
     requires { ⌜ (first < 2 ^ 32) × (source < 2 ^ 32) × (i < 32) × (slot + n < 2 ^ 63) ⌝ }
     requires { ⌜ ((w ≡ 4 → ⊥) → w ≡ 8) ⌝ }
-    ensures { λ g. ⌜ Did (now (state .entry)) (now (parts .entry)) write (copyList (join (now (state .entry)) (now (parts .entry)) (now (lengths .entry)) (now (places .entry)) (now (body .entry)) first source) (copyWalk (join (now (state .entry)) (now (parts .entry)) (now (lengths .entry)) (now (places .entry)) (now (body .entry)) first source) depth) w i slot n (now (counts .entry))) (now (room .entry)) g (now (counts .exit)) (now (room .exit)) ⌝ }
+    ensures { λ g. ⌜ Did (now (plan .entry)) (now (parts .entry)) write (copyList (join (now (plan .entry)) (now (parts .entry)) (now (lengths .entry)) (now (places .entry)) (now (body .entry)) first source) (copyWalk (join (now (plan .entry)) (now (parts .entry)) (now (lengths .entry)) (now (places .entry)) (now (body .entry)) first source) depth) w i slot n (now (counters .entry))) (now (room .entry)) g (now (counters .exit)) (now (room .exit)) ⌝ }
 {
     if n == 0 {
         return 0;
@@ -38,11 +38,11 @@ pub fn extend_list(
         return 12;
     }
     match variable_size::copy_offsets(
-        state,
+        plan,
         parts,
         places,
         body,
-        counts,
+        counters,
         room,
         write,
         first,
@@ -52,14 +52,14 @@ pub fn extend_list(
         n,
     ) {
         Extended::Fits { last, first: from } => {
-            let size = last - plan_words::rows_of(counts, i + 1);
+            let size = last - plan_words::rows_of(counters, i + 1);
             crate::extend(
-                state,
+                plan,
                 parts,
                 lengths,
                 places,
                 body,
-                counts,
+                counters,
                 room,
                 write,
                 source,

@@ -14,12 +14,12 @@ use walk::plan_words;
 
 // Row r of a list-view: its offset is the child's length before its copy.
 fn extend_list_row(
-    state: &[u64],
+    plan: &[u64],
     parts: &[u64],
     lengths: &[u64],
     places: &[u64],
     body: &[u8],
-    counts: &mut [u64; plan_words::COUNTERS],
+    counters: &mut [u64; plan_words::COUNTERS],
     room: &mut [u8],
     write: bool,
     source: usize,
@@ -33,21 +33,21 @@ fn extend_list_row(
     requires { ⌜ (first < 2 ^ 32) × (source < 2 ^ 32) × (i + 1 < 32) × (slot + r + 1 < 2 ^ 63) ⌝ }
     requires { ⌜ ((w ≡ 4 → ⊥) → w ≡ 8) ⌝ }
     requires { ⌜ (place (join [] [] (now lengths) (now places) (now body) first 0) i 3 + w * (slot + r + 1) ≤ length (now body)) × (place (join [] [] (now lengths) (now places) (now body) first 0) i 5 + w * (slot + r + 1) ≤ length (now body)) ⌝ }
-    ensures { λ g. ⌜ Did (now (state .entry)) (now (parts .entry)) write (listViewRow (join (now (state .entry)) (now (parts .entry)) (now (lengths .entry)) (now (places .entry)) (now (body .entry)) first source) (copyWalk (join (now (state .entry)) (now (parts .entry)) (now (lengths .entry)) (now (places .entry)) (now (body .entry)) first source) depth) w i slot r (now (counts .entry))) (now (room .entry)) g (now (counts .exit)) (now (room .exit)) ⌝ }
+    ensures { λ g. ⌜ Did (now (plan .entry)) (now (parts .entry)) write (listViewRow (join (now (plan .entry)) (now (parts .entry)) (now (lengths .entry)) (now (places .entry)) (now (body .entry)) first source) (copyWalk (join (now (plan .entry)) (now (parts .entry)) (now (lengths .entry)) (now (places .entry)) (now (body .entry)) first source) depth) w i slot r (now (counters .entry))) (now (room .entry)) g (now (counters .exit)) (now (room .exit)) ⌝ }
 {
     let offset = lookups::entry_at(body, lent_tables::place(places, first + i, 3), w, slot + r);
     let size = lookups::entry_at(body, lent_tables::place(places, first + i, 5), w, slot + r);
-    let g = nested_rows::list_numbers(state, parts, counts, room, write, i, w, r, size);
+    let g = nested_rows::list_numbers(plan, parts, counters, room, write, i, w, r, size);
     if g != 0 {
         return g;
     }
     crate::extend(
-        state,
+        plan,
         parts,
         lengths,
         places,
         body,
-        counts,
+        counters,
         room,
         write,
         source,
@@ -61,12 +61,12 @@ fn extend_list_row(
 
 // A list-view with offsets of w bytes, row by row.
 pub fn extend_list_view(
-    state: &[u64],
+    plan: &[u64],
     parts: &[u64],
     lengths: &[u64],
     places: &[u64],
     body: &[u8],
-    counts: &mut [u64; plan_words::COUNTERS],
+    counters: &mut [u64; plan_words::COUNTERS],
     room: &mut [u8],
     write: bool,
     source: usize,
@@ -79,7 +79,7 @@ pub fn extend_list_view(
 ) -> u8
     requires { ⌜ (first < 2 ^ 32) × (source < 2 ^ 32) × (i < 32) × (slot + n < 2 ^ 63) ⌝ }
     requires { ⌜ ((w ≡ 4 → ⊥) → w ≡ 8) ⌝ }
-    ensures { λ g. ⌜ Did (now (state .entry)) (now (parts .entry)) write (copyListView (join (now (state .entry)) (now (parts .entry)) (now (lengths .entry)) (now (places .entry)) (now (body .entry)) first source) (copyWalk (join (now (state .entry)) (now (parts .entry)) (now (lengths .entry)) (now (places .entry)) (now (body .entry)) first source) depth) w i slot n (now (counts .entry))) (now (room .entry)) g (now (counts .exit)) (now (room .exit)) ⌝ }
+    ensures { λ g. ⌜ Did (now (plan .entry)) (now (parts .entry)) write (copyListView (join (now (plan .entry)) (now (parts .entry)) (now (lengths .entry)) (now (places .entry)) (now (body .entry)) first source) (copyWalk (join (now (plan .entry)) (now (parts .entry)) (now (lengths .entry)) (now (places .entry)) (now (body .entry)) first source) depth) w i slot n (now (counters .entry))) (now (room .entry)) g (now (counters .exit)) (now (room .exit)) ⌝ }
 {
     if 32 <= i + 1 {
         return 12;
@@ -90,12 +90,12 @@ pub fn extend_list_view(
     let mut r: u64 = 0;
     while r < n {
         let g = extend_list_row(
-            state,
+            plan,
             parts,
             lengths,
             places,
             body,
-            counts,
+            counters,
             room,
             write,
             source,

@@ -13,12 +13,12 @@ use walk::plan_words;
 
 // A run-end node: the values of the runs of the rows, then the runs' ends.
 pub fn extend_run(
-    state: &[u64],
+    plan: &[u64],
     parts: &[u64],
     lengths: &[u64],
     places: &[u64],
     body: &[u8],
-    counts: &mut [u64; plan_words::COUNTERS],
+    counters: &mut [u64; plan_words::COUNTERS],
     room: &mut [u8],
     write: bool,
     source: usize,
@@ -29,27 +29,27 @@ pub fn extend_run(
     depth: u32,
 ) -> u8
     requires { ⌜ (first < 2 ^ 32) × (source < 2 ^ 32) × (i < 32) × (slot + n < 2 ^ 63) ⌝ }
-    ensures { λ g. ⌜ Did (now (state .entry)) (now (parts .entry)) write (copyRuns (join (now (state .entry)) (now (parts .entry)) (now (lengths .entry)) (now (places .entry)) (now (body .entry)) first source) (copyWalk (join (now (state .entry)) (now (parts .entry)) (now (lengths .entry)) (now (places .entry)) (now (body .entry)) first source) depth) i slot n (now (counts .entry))) (now (room .entry)) g (now (counts .exit)) (now (room .exit)) ⌝ }
+    ensures { λ g. ⌜ Did (now (plan .entry)) (now (parts .entry)) write (copyRuns (join (now (plan .entry)) (now (parts .entry)) (now (lengths .entry)) (now (places .entry)) (now (body .entry)) first source) (copyWalk (join (now (plan .entry)) (now (parts .entry)) (now (lengths .entry)) (now (places .entry)) (now (body .entry)) first source) depth) i slot n (now (counters .entry))) (now (room .entry)) g (now (counters .exit)) (now (room .exit)) ⌝ }
 {
     if n == 0 {
         return 0;
     }
-    let g = nested_rows::runs_ready(state, lengths, places, body, counts, first, i, n);
+    let g = nested_rows::runs_ready(plan, lengths, places, body, counters, first, i, n);
     if g != 0 {
         return g;
     }
-    let w = lookups::width_at(state, i + 1);
-    let last = plan_words::rows_of(counts, i);
+    let w = lookups::width_at(plan, i + 1);
+    let last = plan_words::rows_of(counters, i);
     let start = LogicalRow(slot);
     match nested_rows::runs_at(lengths, places, body, first, i, w, start, n) {
         Runs::Range { first: run, count } => {
             let g = crate::extend(
-                state,
+                plan,
                 parts,
                 lengths,
                 places,
                 body,
-                counts,
+                counters,
                 room,
                 write,
                 source,
@@ -63,12 +63,12 @@ pub fn extend_run(
                 return g;
             }
             nested_rows::run_numbers(
-                state,
+                plan,
                 parts,
                 lengths,
                 places,
                 body,
-                counts,
+                counters,
                 room,
                 write,
                 first,
@@ -87,9 +87,9 @@ pub fn extend_run(
 
 // A run-end node: where its last run is one of null orders alone, it grows by n rows; else one null value, and one run of n rows.
 pub fn extend_nulls_run(
-    state: &[u64],
+    plan: &[u64],
     parts: &[u64],
-    counts: &mut [u64; plan_words::COUNTERS],
+    counters: &mut [u64; plan_words::COUNTERS],
     room: &mut [u8],
     write: bool,
     i: usize,
@@ -97,17 +97,17 @@ pub fn extend_nulls_run(
     depth: u32,
 ) -> u8
     requires { ⌜ i < 32 ⌝ }
-    ensures { λ g. ⌜ Did (now (state .entry)) (now (parts .entry)) write (nullRuns (join (now (state .entry)) (now (parts .entry)) [] [] [] 0 0) (nullWalk (join (now (state .entry)) (now (parts .entry)) [] [] [] 0 0) depth) i n (now (counts .entry))) (now (room .entry)) g (now (counts .exit)) (now (room .exit)) ⌝ }
+    ensures { λ g. ⌜ Did (now (plan .entry)) (now (parts .entry)) write (nullRuns (join (now (plan .entry)) (now (parts .entry)) [] [] [] 0 0) (nullWalk (join (now (plan .entry)) (now (parts .entry)) [] [] [] 0 0) depth) i n (now (counters .entry))) (now (room .entry)) g (now (counters .exit)) (now (room .exit)) ⌝ }
 {
-    if !nested_rows::has_ends(state, i) {
+    if !nested_rows::has_ends(plan, i) {
         return 12;
     }
-    if plan_words::bytes_of(counts, i) == 2 {
-        return nested_rows::longer_end(state, parts, counts, room, write, i, n);
+    if plan_words::bytes_of(counters, i) == 2 {
+        return nested_rows::longer_end(plan, parts, counters, room, write, i, n);
     }
-    let g = crate::extend_nulls(state, parts, counts, room, write, i + 2, 1, depth);
+    let g = crate::extend_nulls(plan, parts, counters, room, write, i + 2, 1, depth);
     if g != 0 {
         return g;
     }
-    nested_rows::null_end(state, parts, counts, room, write, i, n)
+    nested_rows::null_end(plan, parts, counters, room, write, i, n)
 }

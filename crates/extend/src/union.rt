@@ -33,12 +33,12 @@ fn first_row(slot: u64) -> u64
 
 // A sparse union: its ids, then the same slots of every child.
 pub fn extend_sparse(
-    state: &[u64],
+    plan: &[u64],
     parts: &[u64],
     lengths: &[u64],
     places: &[u64],
     body: &[u8],
-    counts: &mut [u64; plan_words::COUNTERS],
+    counters: &mut [u64; plan_words::COUNTERS],
     room: &mut [u8],
     write: bool,
     source: usize,
@@ -49,16 +49,16 @@ pub fn extend_sparse(
     depth: u32,
 ) -> u8
     requires { ⌜ (first < 2 ^ 32) × (source < 2 ^ 32) × (i < 32) × (slot + n < 2 ^ 63) ⌝ }
-    ensures { λ g. ⌜ Did (now (state .entry)) (now (parts .entry)) write (copySparse (join (now (state .entry)) (now (parts .entry)) (now (lengths .entry)) (now (places .entry)) (now (body .entry)) first source) (copyWalk (join (now (state .entry)) (now (parts .entry)) (now (lengths .entry)) (now (places .entry)) (now (body .entry)) first source) depth) i slot n (now (counts .entry))) (now (room .entry)) g (now (counts .exit)) (now (room .exit)) ⌝ }
+    ensures { λ g. ⌜ Did (now (plan .entry)) (now (parts .entry)) write (copySparse (join (now (plan .entry)) (now (parts .entry)) (now (lengths .entry)) (now (places .entry)) (now (body .entry)) first source) (copyWalk (join (now (plan .entry)) (now (parts .entry)) (now (lengths .entry)) (now (places .entry)) (now (body .entry)) first source) depth) i slot n (now (counters .entry))) (now (room .entry)) g (now (counters .exit)) (now (room .exit)) ⌝ }
 {
     let ids = first_id(slot);
     let row = first_row(slot);
     let g = leaf_walk::copy_numbers(
-        state,
+        plan,
         parts,
         places,
         body,
-        counts,
+        counters,
         room,
         write,
         first,
@@ -70,7 +70,7 @@ pub fn extend_sparse(
     if g != 0 {
         return g;
     }
-    let end = plan_words::end_of(state, i);
+    let end = plan_words::end_of(plan, i);
     let mut k = i + 1;
     let mut t: usize = 0;
     while t < 32 {
@@ -78,12 +78,12 @@ pub fn extend_sparse(
             return 0;
         }
         let g = crate::extend(
-            state,
+            plan,
             parts,
             lengths,
             places,
             body,
-            counts,
+            counters,
             room,
             write,
             source,
@@ -96,7 +96,7 @@ pub fn extend_sparse(
         if g != 0 {
             return g;
         }
-        k = plan_words::end_of(state, k);
+        k = plan_words::end_of(plan, k);
         t += 1;
     }
     0
@@ -104,12 +104,12 @@ pub fn extend_sparse(
 
 // Row r of a dense union: one row of the child with its id.
 fn extend_dense_row(
-    state: &[u64],
+    plan: &[u64],
     parts: &[u64],
     lengths: &[u64],
     places: &[u64],
     body: &[u8],
-    counts: &mut [u64; plan_words::COUNTERS],
+    counters: &mut [u64; plan_words::COUNTERS],
     room: &mut [u8],
     write: bool,
     source: usize,
@@ -121,26 +121,26 @@ fn extend_dense_row(
 ) -> u8
     requires { ⌜ (first < 2 ^ 32) × (source < 2 ^ 32) × (i < 32) × (slot + r + 1 < 2 ^ 63) ⌝ }
     requires { ⌜ (place (join [] [] (now lengths) (now places) (now body) first 0) i 3 + (slot + r + 1) ≤ length (now body)) × (place (join [] [] (now lengths) (now places) (now body) first 0) i 5 + 4 * (slot + r + 1) ≤ length (now body)) ⌝ }
-    ensures { λ g. ⌜ Did (now (state .entry)) (now (parts .entry)) write (denseRow (join (now (state .entry)) (now (parts .entry)) (now (lengths .entry)) (now (places .entry)) (now (body .entry)) first source) (copyWalk (join (now (state .entry)) (now (parts .entry)) (now (lengths .entry)) (now (places .entry)) (now (body .entry)) first source) depth) i slot r (now (counts .entry))) (now (room .entry)) g (now (counts .exit)) (now (room .exit)) ⌝ }
+    ensures { λ g. ⌜ Did (now (plan .entry)) (now (parts .entry)) write (denseRow (join (now (plan .entry)) (now (parts .entry)) (now (lengths .entry)) (now (places .entry)) (now (body .entry)) first source) (copyWalk (join (now (plan .entry)) (now (parts .entry)) (now (lengths .entry)) (now (places .entry)) (now (body .entry)) first source) depth) i slot r (now (counters .entry))) (now (room .entry)) g (now (counters .exit)) (now (room .exit)) ⌝ }
 {
     let at = lent_tables::place(places, first + i, 3) + (slot + r);
     let id = body[at as usize];
-    let k = lookups::child_with(state, id, plan_words::end_of(state, i), i + 1);
+    let k = lookups::child_with(plan, id, plan_words::end_of(plan, i), i + 1);
     if 32 <= k {
         return 12;
     }
-    let g = nested_rows::dense_numbers(state, parts, counts, room, write, i, r, k, id);
+    let g = nested_rows::dense_numbers(plan, parts, counters, room, write, i, r, k, id);
     if g != 0 {
         return g;
     }
     let position = lookups::entry_at(body, lent_tables::place(places, first + i, 5), 4, slot + r);
     crate::extend(
-        state,
+        plan,
         parts,
         lengths,
         places,
         body,
-        counts,
+        counters,
         room,
         write,
         source,
@@ -154,12 +154,12 @@ fn extend_dense_row(
 
 // A dense union, row by row.
 pub fn extend_dense(
-    state: &[u64],
+    plan: &[u64],
     parts: &[u64],
     lengths: &[u64],
     places: &[u64],
     body: &[u8],
-    counts: &mut [u64; plan_words::COUNTERS],
+    counters: &mut [u64; plan_words::COUNTERS],
     room: &mut [u8],
     write: bool,
     source: usize,
@@ -170,7 +170,7 @@ pub fn extend_dense(
     depth: u32,
 ) -> u8
     requires { ⌜ (first < 2 ^ 32) × (source < 2 ^ 32) × (i < 32) × (slot + n < 2 ^ 63) ⌝ }
-    ensures { λ g. ⌜ Did (now (state .entry)) (now (parts .entry)) write (copyDense (join (now (state .entry)) (now (parts .entry)) (now (lengths .entry)) (now (places .entry)) (now (body .entry)) first source) (copyWalk (join (now (state .entry)) (now (parts .entry)) (now (lengths .entry)) (now (places .entry)) (now (body .entry)) first source) depth) i slot n (now (counts .entry))) (now (room .entry)) g (now (counts .exit)) (now (room .exit)) ⌝ }
+    ensures { λ g. ⌜ Did (now (plan .entry)) (now (parts .entry)) write (copyDense (join (now (plan .entry)) (now (parts .entry)) (now (lengths .entry)) (now (places .entry)) (now (body .entry)) first source) (copyWalk (join (now (plan .entry)) (now (parts .entry)) (now (lengths .entry)) (now (places .entry)) (now (body .entry)) first source) depth) i slot n (now (counters .entry))) (now (room .entry)) g (now (counters .exit)) (now (room .exit)) ⌝ }
 {
     if !nested_rows::pairs_in(places, body, first, i, 1, 4, slot, n) {
         return 12;
@@ -178,12 +178,12 @@ pub fn extend_dense(
     let mut r: u64 = 0;
     while r < n {
         let g = extend_dense_row(
-            state,
+            plan,
             parts,
             lengths,
             places,
             body,
-            counts,
+            counters,
             room,
             write,
             source,
@@ -203,9 +203,9 @@ pub fn extend_dense(
 
 // A sparse union: n ids of its first nullable child, and n nulls in every child.
 pub fn extend_nulls_sparse(
-    state: &[u64],
+    plan: &[u64],
     parts: &[u64],
-    counts: &mut [u64; plan_words::COUNTERS],
+    counters: &mut [u64; plan_words::COUNTERS],
     room: &mut [u8],
     write: bool,
     i: usize,
@@ -213,28 +213,28 @@ pub fn extend_nulls_sparse(
     depth: u32,
 ) -> u8
     requires { ⌜ i < 32 ⌝ }
-    ensures { λ g. ⌜ Did (now (state .entry)) (now (parts .entry)) write (nullSparse (join (now (state .entry)) (now (parts .entry)) [] [] [] 0 0) (nullWalk (join (now (state .entry)) (now (parts .entry)) [] [] [] 0 0) depth) i n (now (counts .entry))) (now (room .entry)) g (now (counts .exit)) (now (room .exit)) ⌝ }
+    ensures { λ g. ⌜ Did (now (plan .entry)) (now (parts .entry)) write (nullSparse (join (now (plan .entry)) (now (parts .entry)) [] [] [] 0 0) (nullWalk (join (now (plan .entry)) (now (parts .entry)) [] [] [] 0 0) depth) i n (now (counters .entry))) (now (room .entry)) g (now (counters .exit)) (now (room .exit)) ⌝ }
 {
-    let h = nested_rows::null_home(state, i);
+    let h = nested_rows::null_home(plan, i);
     if 32 <= h {
-        return nested_rows::no_home(state, i);
+        return nested_rows::no_home(plan, i);
     }
-    let g = nested_rows::null_ids(state, parts, counts, room, write, i, h, n);
+    let g = nested_rows::null_ids(plan, parts, counters, room, write, i, h, n);
     if g != 0 {
         return g;
     }
-    let end = plan_words::end_of(state, i);
+    let end = plan_words::end_of(plan, i);
     let mut k = i + 1;
     let mut t: usize = 0;
     while t < 32 {
         if end <= k {
             return 0;
         }
-        let g = crate::extend_nulls(state, parts, counts, room, write, k, n, depth);
+        let g = crate::extend_nulls(plan, parts, counters, room, write, k, n, depth);
         if g != 0 {
             return g;
         }
-        k = plan_words::end_of(state, k);
+        k = plan_words::end_of(plan, k);
         t += 1;
     }
     0
@@ -242,9 +242,9 @@ pub fn extend_nulls_sparse(
 
 // A dense union: n ids and positions of its first nullable child, and n nulls in it.
 pub fn extend_nulls_dense(
-    state: &[u64],
+    plan: &[u64],
     parts: &[u64],
-    counts: &mut [u64; plan_words::COUNTERS],
+    counters: &mut [u64; plan_words::COUNTERS],
     room: &mut [u8],
     write: bool,
     i: usize,
@@ -252,15 +252,15 @@ pub fn extend_nulls_dense(
     depth: u32,
 ) -> u8
     requires { ⌜ i < 32 ⌝ }
-    ensures { λ g. ⌜ Did (now (state .entry)) (now (parts .entry)) write (nullDense (join (now (state .entry)) (now (parts .entry)) [] [] [] 0 0) (nullWalk (join (now (state .entry)) (now (parts .entry)) [] [] [] 0 0) depth) i n (now (counts .entry))) (now (room .entry)) g (now (counts .exit)) (now (room .exit)) ⌝ }
+    ensures { λ g. ⌜ Did (now (plan .entry)) (now (parts .entry)) write (nullDense (join (now (plan .entry)) (now (parts .entry)) [] [] [] 0 0) (nullWalk (join (now (plan .entry)) (now (parts .entry)) [] [] [] 0 0) depth) i n (now (counters .entry))) (now (room .entry)) g (now (counters .exit)) (now (room .exit)) ⌝ }
 {
-    let h = nested_rows::null_home(state, i);
+    let h = nested_rows::null_home(plan, i);
     if 32 <= h {
-        return nested_rows::no_home(state, i);
+        return nested_rows::no_home(plan, i);
     }
-    let g = nested_rows::null_positions(state, parts, counts, room, write, i, h, n);
+    let g = nested_rows::null_positions(plan, parts, counters, room, write, i, h, n);
     if g != 0 {
         return g;
     }
-    crate::extend_nulls(state, parts, counts, room, write, h, n, depth)
+    crate::extend_nulls(plan, parts, counters, room, write, h, n, depth)
 }

@@ -71,34 +71,34 @@ module _ (plan sources places : List ℕ) (a b c d : ℕ) where
 
 -- ---- counters, parts and room
 
-module _ (plan parts counts : List ℕ) (m : ℕ) where
+module _ (plan parts counters : List ℕ) (m : ℕ) where
   abbrev pub holds : Bool
-  holds = eqb (length counts) 96 && partsWithin plan parts m && partsHold plan counts parts
+  holds = eqb (length counters) 96 && partsWithin plan parts m && partsHold plan counters parts
 
-  pub holds-not : (length counts ≡ 96 → ⊥) → false ≡ holds
-  holds-not h = rw (ne-eqb (length counts) 96 h)
+  pub holds-not : (length counters ≡ 96 → ⊥) → false ≡ holds
+  holds-not h = rw (ne-eqb (length counters) 96 h)
 
-  module _ (h : length counts ≡ 96) where
+  module _ (h : length counters ≡ 96) where
     pub holds-out : partsWithin plan parts m ≡ false → false ≡ holds
-    holds-out w = rw (eq-eqb (length counts) 96 h, w)
+    holds-out w = rw (eq-eqb (length counters) 96 h, w)
 
-    pub holds-by : partsWithin plan parts m ≡ true → {counts2 : List ℕ} {r : Bool} → counts2 ≡ counts → r ≡ partsHold plan counts2 parts → r ≡ holds
-    holds-by w e g = rw (eq-eqb (length counts) 96 h, w) (g ∙ ap (λ c. partsHold plan c parts) e)
+    pub holds-by : partsWithin plan parts m ≡ true → {counts2 : List ℕ} {r : Bool} → counts2 ≡ counters → r ≡ partsHold plan counts2 parts → r ≡ holds
+    holds-by w e g = rw (eq-eqb (length counters) 96 h, w) (g ∙ ap (λ c. partsHold plan c parts) e)
 
   pub holds-within : holds ≡ true → partsWithin plan parts m ≡ true
-  holds-within h = and-right (eqb (length counts) 96) (partsWithin plan parts m) (and-left (eqb (length counts) 96 && partsWithin plan parts m) _ h)
+  holds-within h = and-right (eqb (length counters) 96) (partsWithin plan parts m) (and-left (eqb (length counters) 96 && partsWithin plan parts m) _ h)
 
-  pub holds-hold : holds ≡ true → partsHold plan counts parts ≡ true
-  holds-hold h = and-right (eqb (length counts) 96 && partsWithin plan parts m) _ h
+  pub holds-hold : holds ≡ true → partsHold plan counters parts ≡ true
+  holds-hold h = and-right (eqb (length counters) 96 && partsWithin plan parts m) _ h
 
 -- ---- the whole
 
-module _ (plan parts sources lengths places body buffers counts room : List ℕ) (base : ℕ) (ls ns ps bs : List ℕ) where
+module _ (plan parts sources lengths places body buffers counters room : List ℕ) (base : ℕ) (ls ns ps bs : List ℕ) where
   abbrev x : Lent
   x = lent plan parts sources lengths places body
 
   abbrev pub end : Finished
-  end = finishing x buffers counts room base ls ns ps bs
+  end = finishing x buffers counters room base ls ns ps bs
 
   pub finish-far : leb base ceiling && leb (length room) ceiling ≡ false → Answers end 9 ls ns ps bs
   unfolding finishing sizesFit
@@ -106,13 +106,13 @@ module _ (plan parts sources lengths places body buffers counts room : List ℕ)
       rw h
       (record { ground = refl; lengths-are = refl; nulls-are = refl; places-are = refl; buffers-are = refl })
 
-  kept-same : every (keptIn x buffers counts room base) (nodesOf plan) ≡ every (keptOf plan sources lengths places body) (nodesOf plan)
+  kept-same : every (keptIn x buffers counters room base) (nodesOf plan) ≡ every (keptOf plan sources lengths places body) (nodesOf plan)
   unfolding keptIn
-  kept-same = every-same (keptIn x buffers counts room base) (keptOf plan sources lengths places body) (λ i. refl) (nodesOf plan)
+  kept-same = every-same (keptIn x buffers counters room base) (keptOf plan sources lengths places body) (λ i. refl) (nodesOf plan)
 
-  fit-same : tablesFit x buffers counts room base ls ns ps bs ≡ fit plan sources places (length ls) (length ns) (length ps) (length bs)
+  fit-same : tablesFit x buffers counters room base ls ns ps bs ≡ fit plan sources places (length ls) (length ns) (length ps) (length bs)
   unfolding tablesFit
-  fit-same = rw (before-same x buffers counts room base (nodesOf plan))
+  fit-same = rw (before-same x buffers counters room base (nodesOf plan))
 
   module _ (near : leb base ceiling && leb (length room) ceiling ≡ true) where
     pub finish-kept : every (keptOf plan sources lengths places body) (nodesOf plan) ≡ false → Answers end 12 ls ns ps bs
@@ -122,13 +122,13 @@ module _ (plan parts sources lengths places body buffers counts room : List ℕ)
         (record { ground = refl; lengths-are = refl; nulls-are = refl; places-are = refl; buffers-are = refl })
 
     module _ (k : every (keptOf plan sources lengths places body) (nodesOf plan) ≡ true) where
-      pub finish-room : holds plan parts counts (length room) ≡ false → Answers end 14 ls ns ps bs
+      pub finish-room : holds plan parts counters (length room) ≡ false → Answers end 14 ls ns ps bs
       unfolding finishing sizesFit roomFits
       finish-room r =
           rw (near, kept-same, k, r)
           (record { ground = refl; lengths-are = refl; nulls-are = refl; places-are = refl; buffers-are = refl })
 
-      module _ (r : holds plan parts counts (length room) ≡ true) where
+      module _ (r : holds plan parts counters (length room) ≡ true) where
         pub finish-tables : fit plan sources places (length ls) (length ns) (length ps) (length bs) ≡ false → Answers end 14 ls ns ps bs
         unfolding finishing sizesFit roomFits
         finish-tables t =
@@ -136,10 +136,10 @@ module _ (plan parts sources lengths places body buffers counts room : List ℕ)
             (record { ground = refl; lengths-are = refl; nulls-are = refl; places-are = refl; buffers-are = refl })
 
         pub finish-made : fit plan sources places (length ls) (length ns) (length ps) (length bs) ≡ true → {ls2 ns2 ps2 bs2 : List ℕ}
-            → ls2 ≡ lengthTable (lent plan [] sources lengths [] []) [] counts [] 0 → ns2 ≡ nullTable x [] counts room 0
-            → ps2 ≡ placeTable x buffers counts room base → bs2 ≡ namesBefore plan sources places buffers (nodesOf plan)
+            → ls2 ≡ lengthTable (lent plan [] sources lengths [] []) [] counters [] 0 → ns2 ≡ nullTable x [] counters room 0
+            → ps2 ≡ placeTable x buffers counters room base → bs2 ≡ namesBefore plan sources places buffers (nodesOf plan)
             → Answers end 0 ls2 ns2 ps2 bs2
         unfolding finishing sizesFit roomFits lengthTable nullTable nullsAt zerosAt
         finish-made t e f g n =
             rw (near, kept-same, k, r, fit-same, t)
-            (record { ground = refl; lengths-are = e; nulls-are = f; places-are = g; buffers-are = n ∙ sym (names-same x buffers counts room base (nodesOf plan)) })
+            (record { ground = refl; lengths-are = e; nulls-are = f; places-are = g; buffers-are = n ∙ sym (names-same x buffers counters room base (nodesOf plan)) })

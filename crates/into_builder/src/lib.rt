@@ -23,7 +23,7 @@ use walk::plan_words;
 
 // How many data buffers the finished array names: the table of them has two numbers for each.
 pub fn buffer_total(plan: &[u64], sources: &[u32], places: &[u64]) -> u64
-    ensures { λ r. ⌜ ((parts lengths body buffers counts room : List ℕ) (base : ℕ) → r ≡ buffersBefore (lent (now (plan .entry)) parts (now (sources .entry)) lengths (now (places .entry)) body) buffers counts room base (nodesOf (now (plan .entry)))) ⌝ }
+    ensures { λ r. ⌜ ((parts lengths body buffers counters room : List ℕ) (base : ℕ) → r ≡ buffersBefore (lent (now (plan .entry)) parts (now (sources .entry)) lengths (now (places .entry)) body) buffers counters room base (nodesOf (now (plan .entry)))) ⌝ }
 {
     buffers::count_before(plan, sources, places, plan::parts::node_count(plan))
 }
@@ -42,13 +42,13 @@ fn load(counters: &[u64]) -> [u64; plan_words::COUNTERS]
     requires { ⌜ length (now counters) ≡ 96 ⌝ }
     ensures { λ r. ⌜ r ≡ now (counters .entry) ⌝ }
 {
-    let mut counts = [0u64; plan_words::COUNTERS];
+    let mut tally = [0u64; plan_words::COUNTERS];
     let mut i = 0;
     while i < plan_words::COUNTERS {
-        counts[i] = counters[i];
+        tally[i] = counters[i];
         i += 1;
     }
-    counts
+    tally
 }
 
 // The most bytes of a body.
@@ -71,8 +71,8 @@ fn room_fits(plan: &[u64], parts: &[u64], counters: &[u64], m: usize) -> bool
     if !plan::parts::parts_within(plan, parts, m) {
         return false;
     }
-    let counts = load(counters);
-    plan::parts::parts_hold(plan, &counts, parts)
+    let tally = load(counters);
+    plan::parts::parts_hold(plan, &tally, parts)
 }
 
 // Whether tables of these lengths are those that the finished array takes.

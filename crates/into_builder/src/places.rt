@@ -15,7 +15,7 @@ ghost use Rattle.into_builder.specs.buffers.Names.{lent, countAt, countB
 ghost use Rattle.into_builder.specs.counts.Counts.{zerosOf};
 ghost use Rattle.into_builder.specs.places.Places.{Placed};
 use crate::buffers;
-use crate::counts;
+use crate::counters;
 use array_data::lent_tables;
 use plan::dictionaries;
 use walk::plan_words;
@@ -166,7 +166,7 @@ fn copied_place(
 // Number j of the nine of node i, a kept dictionary with `count` nulls: the places of source 0, those of its validity only if a bit is 0.
 fn kept_place(sources: &[u32], places: &[u64], count: u64, i: usize, j: usize) -> u64
     requires { ⌜ (i < 32) × (j < 9) ⌝ }
-    ensures { λ r. ⌜ ((plan parts lengths body buffers counts room : List ℕ) (base : ℕ) → count ≡ nullsAt (lent plan parts (now (sources .entry)) lengths (now (places .entry)) body) buffers counts room base i → r ≡ keptPlace (lent plan parts (now (sources .entry)) lengths (now (places .entry)) body) buffers counts room base i j) ⌝ }
+    ensures { λ r. ⌜ ((plan parts lengths body buffers counters room : List ℕ) (base : ℕ) → count ≡ nullsAt (lent plan parts (now (sources .entry)) lengths (now (places .entry)) body) buffers counters room base i → r ≡ keptPlace (lent plan parts (now (sources .entry)) lengths (now (places .entry)) body) buffers counters room base i j) ⌝ }
 {
     let k = dictionaries::node_of(sources, 0, i);
     if j < 3 {

@@ -76,7 +76,7 @@ plain-found n v g c k q = plain-cond (ltb v n) q (plain-fail g c)
 
 plain-next : {o : Out} (k : List ℕ → Out) → Plain o → ((c : List ℕ) → Plain (k c)) → Plain (next o k)
 unfolding next
-plain-next {o} k h q = plain-cond (eqb (o .ans) 0) (record { none-over = amended-both Nowhere (o .log) (k (o .counts) .log) (h .none-over) (q (o .counts) .none-over) }) h
+plain-next {o} k h q = plain-cond (eqb (o .ans) 0) (record { none-over = amended-both Nowhere (o .log) (k (o .counters) .log) (h .none-over) (q (o .counters) .none-over) }) h
 
 plain-each : (f : ℕ → List ℕ → Out) → ((r : ℕ) (c : List ℕ) → Plain (f r c)) → (n r : ℕ) (c : List ℕ) → Plain (each f n r c)
 unfolding each
@@ -88,7 +88,7 @@ module _ (x : Join) where
     plain-bits : (slot n : ℕ) (c : List ℕ) → Plain (copyMask x i slot n c)
     unfolding copyMask copyBits
     plain-bits slot n c =
-        plain-cond (eqb (keepsOf (x .state) i) 0) (plain-done c)
+        plain-cond (eqb (keepsOf (x .plan) i) 0) (plain-done c)
         (plain-cond (eqb (place x i 0) 0) (plain-mask i _ _ c) (plain-need _ 12 _ (plain-next _ (plain-mask i _ _ c) (λ c2. plain-done _))))
 
     plain-extended : (w from n : ℕ) (e : Extended) (c : List ℕ) → Plain (putExtended x i w from n e c)
@@ -124,11 +124,11 @@ module _ (x : Join) where
     plain-fields : (slot n end f k : ℕ) (c : List ℕ) → Plain (copyFields x walk slot n end f k c)
     unfolding copyFields
     plain-fields slot n end zero k c = plain-done c
-    plain-fields slot n end (suc f) k c = plain-cond (ltb k end) (plain-next _ (below k slot n c) (λ c2. plain-fields slot n end f (endOf (x .state) k) c2)) (plain-done c)
+    plain-fields slot n end (suc f) k c = plain-cond (ltb k end) (plain-next _ (below k slot n c) (λ c2. plain-fields slot n end f (endOf (x .plan) k) c2)) (plain-done c)
 
     plain-sparse : (slot n : ℕ) (c : List ℕ) → Plain (copySparse x walk i slot n c)
     unfolding copySparse
-    plain-sparse slot n c = plain-need _ 12 _ (plain-next _ (plain-put i 1 _ _ c) (λ c2. plain-fields slot n (endOf (x .state) i) 32 (suc i) c2))
+    plain-sparse slot n c = plain-need _ 12 _ (plain-next _ (plain-put i 1 _ _ c) (λ c2. plain-fields slot n (endOf (x .plan) i) 32 (suc i) c2))
 
     plain-dense : (slot n : ℕ) (c : List ℕ) → Plain (copyDense x walk i slot n c)
     unfolding copyDense denseRow denseTo
@@ -144,12 +144,12 @@ module _ (x : Join) where
     unfolding copyRuns
     plain-runs slot n c =
         plain-cond (eqb n 0) (plain-done c)
-        (plain-need _ 12 _ (plain-need _ 7 _ (plain-need _ 12 _ (plain-put-runs (bytesOf (x .state) (suc i)) slot n (runsAt x walk (bytesOf (x .state) (suc i)) i slot n) c))))
+        (plain-need _ 12 _ (plain-need _ 7 _ (plain-need _ 12 _ (plain-put-runs (bytesOf (x .plan) (suc i)) slot n (runsAt x walk (bytesOf (x .plan) (suc i)) i slot n) c))))
 
     plain-data : (code slot n : ℕ) (c : List ℕ) → Plain (copyData x walk code i slot n c)
     unfolding copyData copyNumbers copyKeys copyViews
     plain-data code slot n c =
-        plain-cond (isFixed code) (plain-cond (eqb (dictionaryOf (x .state) i) 0) (plain-need _ 12 _ (plain-put i 1 _ _ c)) (plain-need _ 12 _ (plain-put i 1 _ _ c)))
+        plain-cond (isFixed code) (plain-cond (eqb (dictionaryOf (x .plan) i) 0) (plain-need _ 12 _ (plain-put i 1 _ _ c)) (plain-need _ 12 _ (plain-put i 1 _ _ c)))
         (plain-cond (isString code) (plain-string i _ slot n c)
         (plain-cond (isView code) (plain-need _ 12 _ (plain-put i 1 _ _ c))
         (plain-cond (isListView code) (plain-list-view _ slot n c)
@@ -164,8 +164,8 @@ module _ (x : Join) where
     plain-node a n c =
         plain-need _ 12 _
         (plain-found far _ 12 _ _
-        (plain-next _ (plain-cond (masked (codeOf (x .state) i)) (plain-bits i _ n c) (plain-done c))
-        (λ c2. plain-next _ (plain-data (codeOf (x .state) i) _ n c2) (λ c3. plain-done _))))
+        (plain-next _ (plain-cond (masked (codeOf (x .plan) i)) (plain-bits i _ n c) (plain-done c))
+        (λ c2. plain-next _ (plain-data (codeOf (x .plan) i) _ n c2) (λ c3. plain-done _))))
 
   -- A COPY WRITES OVER NO RUN END
   pub plain-copy : (depth i a n : ℕ) (c : List ℕ) → Plain (copyWalk x depth i a n c)

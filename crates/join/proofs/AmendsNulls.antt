@@ -30,8 +30,8 @@ pub record At (lo hi : ℕ) (c : List ℕ) (h : ℕ) : Type 0 where
 -- a walk from counters c on, at the nodes lo .. hi - 1
 pub record Tight (lo hi : ℕ) (c : List ℕ) (o : Out) : Type 0 where
   pub over : AllAmended (At lo hi c) (o .log)
-  pub before : (h : ℕ) → h < lo → gap (o .counts) h ≡ gap c h
-  pub behind : (h : ℕ) → hi ≤ h → gap (o .counts) h ≡ gap c h
+  pub before : (h : ℕ) → h < lo → gap (o .counters) h ≡ gap c h
+  pub behind : (h : ℕ) → hi ≤ h → gap (o .counters) h ≡ gap c h
 
 tight-wide : {lo hi l h : ℕ} {c : List ℕ} {o : Out} → lo ≤ l → h ≤ hi → Tight l h c o → Tight lo hi c o
 tight-wide {lo} {hi} {l} {h} {c} {o} p q t =
@@ -85,10 +85,10 @@ module _ (lo hi : ℕ) where
     tight-up t f =
         tight-cond (eqb (o .ans) 0)
         (λ e.
-        let u = f (o .counts) in
+        let u = f (o .counters) in
         record {
-          over = amended-both (At lo hi c) (o .log) (k (o .counts) .log) (tight-wide {o = o} (le-refl lo) q t .over)
-              (amended-wide (At mid hi (o .counts)) (At lo hi c) (λ h a. let z = a .from in record { from = omega arith; to = a .to; nulls-last = sym (t .behind h z) ∙ a .nulls-last }) (k (o .counts) .log) (u .over));
+          over = amended-both (At lo hi c) (o .log) (k (o .counters) .log) (tight-wide {o = o} (le-refl lo) q t .over)
+              (amended-wide (At mid hi (o .counters)) (At lo hi c) (λ h a. let z = a .from in record { from = omega arith; to = a .to; nulls-last = sym (t .behind h z) ∙ a .nulls-last }) (k (o .counters) .log) (u .over));
           before = λ h s. u .before h (omega arith) ∙ t .before h s;
           behind = λ h s. u .behind h s ∙ t .behind h (omega arith);
         })
@@ -99,10 +99,10 @@ module _ (lo hi : ℕ) where
     tight-down t f =
         tight-cond (eqb (o .ans) 0)
         (λ e.
-        let u = f (o .counts) in
+        let u = f (o .counters) in
         record {
-          over = amended-both (At lo hi c) (o .log) (k (o .counts) .log) (tight-wide {o = o} p (le-refl hi) t .over)
-              (amended-wide (At lo mid (o .counts)) (At lo hi c) (λ h a. let z = a .to in record { from = a .from; to = omega arith; nulls-last = sym (t .before h z) ∙ a .nulls-last }) (k (o .counts) .log) (u .over));
+          over = amended-both (At lo hi c) (o .log) (k (o .counters) .log) (tight-wide {o = o} p (le-refl hi) t .over)
+              (amended-wide (At lo mid (o .counters)) (At lo hi c) (λ h a. let z = a .to in record { from = a .from; to = omega arith; nulls-last = sym (t .before h z) ∙ a .nulls-last }) (k (o .counters) .log) (u .over));
           before = λ h s. u .before h s ∙ t .before h (omega arith);
           behind = λ h s. u .behind h (omega arith) ∙ t .behind h s;
         })
@@ -110,9 +110,9 @@ module _ (lo hi : ℕ) where
 
 -- ---- a node and what is below it, in a sound plan
 
-module _ (x : Join) (sound : planSound (x .state) ≡ true) where
+module _ (x : Join) (sound : planSound (x .plan) ≡ true) where
   abbrev S : List ℕ
-  S = x .state
+  S = x .plan
 
   tight-bits : (e i n : ℕ) (c : List ℕ) → Tight e e c (cond (masked (codeOf S i)) (nullMask x i n c) (countNulls x i n c))
   unfolding nullMask countNulls

@@ -54,46 +54,46 @@ module _ (x : Lent) (t : Ty) (m : ℕ) (ss : ℕ → Column t) (join : Joined x 
   abbrev Accepts : List Call → Counts → Type 0
   Accepts = AllAcceptedRoom (x .plan) (x .parts) t keep m ss
 
-  accepts : (os : List Call) (d : Destination t) (counts room : List ℕ) → Running x t m ss join keep c0 μ0 d counts room
-      → AllZero (groundsOf x counts room os) ↔ Accepts os (held t d)
+  accepts : (os : List Call) (d : Destination t) (counters room : List ℕ) → Running x t m ss join keep c0 μ0 d counters room
+      → AllZero (groundsOf x counters room os) ↔ Accepts os (held t d)
   unfolding groundsOf
-  accepts [] d counts room run = ((λ h. tt), (λ h. refl))
-  accepts (o ∷ os) d counts room run =
-      go (order-step x t m ss join keep c0 μ0 o d counts room run) (answer-is x t m ss join keep c0 μ0 d counts room run o) (λ d′ c r q. accepts os d′ c r q)
+  accepts [] d counters room run = ((λ h. tt), (λ h. refl))
+  accepts (o ∷ os) d counters room run =
+      go (order-step x t m ss join keep c0 μ0 o d counters room run) (answer-is x t m ss join keep c0 μ0 d counters room run o) (λ d′ c r q. accepts os d′ c r q)
     where
-      go : {p : Try (Destination t)} {s : Try Counts} {a : After} → Answers x t m ss join keep c0 μ0 o d counts room p a → mapTry (held t) p ≡ s
+      go : {p : Try (Destination t)} {s : Try Counts} {a : After} → Answers x t m ss join keep c0 μ0 o d counters room p a → mapTry (held t) p ≡ s
           → ((d′ : Destination t) (c r : List ℕ) → Running x t m ss join keep c0 μ0 d′ c r → AllZero (groundsOf x c r os) ↔ Accepts os (held t d′))
-          → AllZero (a .ground ∷ groundsOf x (a .counts) (a .room) os) ↔ (elim s as (λ b. Type 0) [ done c′ ↦ Accepts os c′ | stop g ↦ ⊥ ])
+          → AllZero (a .ground ∷ groundsOf x (a .counters) (a .room) os) ↔ (elim s as (λ b. Type 0) [ done c′ ↦ Accepts os c′ | stop g ↦ ⊥ ])
       go (made d′ a e r did) q f =
-          subst (λ s. AllZero (a .ground ∷ groundsOf x (a .counts) (a .room) os) ↔ (elim s as (λ b. Type 0) [ done c′ ↦ Accepts os c′ | stop g ↦ ⊥ ])) q
-          ((λ h. f d′ (a .counts) (a .room) r .0 (other-entries h)), (λ h. ap₂ _∷_ e (f d′ (a .counts) (a .room) r .1 h)))
+          subst (λ s. AllZero (a .ground ∷ groundsOf x (a .counters) (a .room) os) ↔ (elim s as (λ b. Type 0) [ done c′ ↦ Accepts os c′ | stop g ↦ ⊥ ])) q
+          ((λ h. f d′ (a .counters) (a .room) r .0 (other-entries h)), (λ h. ap₂ _∷_ e (f d′ (a .counters) (a .room) r .1 h)))
       go (not-made g a e l c s) q f =
-          subst (λ s. AllZero (a .ground ∷ groundsOf x (a .counts) (a .room) os) ↔ (elim s as (λ b. Type 0) [ done c′ ↦ Accepts os c′ | stop g ↦ ⊥ ])) q
+          subst (λ s. AllZero (a .ground ∷ groundsOf x (a .counters) (a .room) os) ↔ (elim s as (λ b. Type 0) [ done c′ ↦ Accepts os c′ | stop g ↦ ⊥ ])) q
           ((λ h. let z = first-entry h in absurd (omega arith)), (λ h. absurd h))
 
   abbrev Fits : List Call → Counts → Type 0
   Fits = RoomEnough (x .plan) (x .parts) t keep m ss
 
   -- a call is answered 13 exactly where its answer by counts is
-  enough : (os : List Call) (d : Destination t) (counts room : List ℕ) → Running x t m ss join keep c0 μ0 d counts room → No13 (groundsOf x counts room os) ↔ Fits os (held t d)
+  enough : (os : List Call) (d : Destination t) (counters room : List ℕ) → Running x t m ss join keep c0 μ0 d counters room → No13 (groundsOf x counters room os) ↔ Fits os (held t d)
   unfolding groundsOf
-  enough [] d counts room run = ((λ h. tt), (λ h. tt))
-  enough (o ∷ os) d counts room run =
-      go (order-step x t m ss join keep c0 μ0 o d counts room run) (answer-is x t m ss join keep c0 μ0 d counts room run o) (λ d′ c r q. enough os d′ c r q)
+  enough [] d counters room run = ((λ h. tt), (λ h. tt))
+  enough (o ∷ os) d counters room run =
+      go (order-step x t m ss join keep c0 μ0 o d counters room run) (answer-is x t m ss join keep c0 μ0 d counters room run o) (λ d′ c r q. enough os d′ c r q)
     where
-      go : {p : Try (Destination t)} {s : Try Counts} {a : After} → Answers x t m ss join keep c0 μ0 o d counts room p a → mapTry (held t) p ≡ s
+      go : {p : Try (Destination t)} {s : Try Counts} {a : After} → Answers x t m ss join keep c0 μ0 o d counters room p a → mapTry (held t) p ≡ s
           → ((d′ : Destination t) (c r : List ℕ) → Running x t m ss join keep c0 μ0 d′ c r → No13 (groundsOf x c r os) ↔ Fits os (held t d′))
-          → No13 (a .ground ∷ groundsOf x (a .counts) (a .room) os) ↔ ((s ≡ stop 13 → ⊥) × Fits os (after s (held t d)))
+          → No13 (a .ground ∷ groundsOf x (a .counters) (a .room) os) ↔ ((s ≡ stop 13 → ⊥) × Fits os (after s (held t d)))
       go (made d′ a e r did) q f =
-          subst (λ s. No13 (a .ground ∷ groundsOf x (a .counts) (a .room) os) ↔ ((s ≡ stop 13 → ⊥) × Fits os (after s (held t d)))) q (
-            (λ h. ((λ z. absurd (let y : _≡_ {A = ℕ} 0 1 = cc z in omega arith)), f d′ (a .counts) (a .room) r .0 (h .1))),
-            (λ h. ((λ z. absurd (omega arith)), f d′ (a .counts) (a .room) r .1 (h .1))),
+          subst (λ s. No13 (a .ground ∷ groundsOf x (a .counters) (a .room) os) ↔ ((s ≡ stop 13 → ⊥) × Fits os (after s (held t d)))) q (
+            (λ h. ((λ z. absurd (let y : _≡_ {A = ℕ} 0 1 = cc z in omega arith)), f d′ (a .counters) (a .room) r .0 (h .1))),
+            (λ h. ((λ z. absurd (omega arith)), f d′ (a .counters) (a .room) r .1 (h .1))),
           )
       go (not-made g a e l c s) q f =
-          subst (λ v. No13 (a .ground ∷ groundsOf x (a .counts) (a .room) os) ↔ ((v ≡ stop 13 → ⊥) × Fits os (after v (held t d)))) q
+          subst (λ v. No13 (a .ground ∷ groundsOf x (a .counters) (a .room) os) ↔ ((v ≡ stop 13 → ⊥) × Fits os (after v (held t d)))) q
           (rw (c, s) (
-            (λ h. ((λ z. h .0 (e ∙ stopped z)), f d counts room run .0 (h .1))),
-            (λ h. ((λ z. h .0 (ap stop (sym e ∙ z))), f d counts room run .1 (h .1))),
+            (λ h. ((λ z. h .0 (e ∙ stopped z)), f d counters room run .0 (h .1))),
+            (λ h. ((λ z. h .0 (ap stop (sym e ∙ z))), f d counters room run .1 (h .1))),
           ))
 
 -- ALL CALLS OF A LIST ARE ACCEPTED exactly where every answer is 0
@@ -103,7 +103,7 @@ accepted-zero l b accepted os =
     let first : Destination (typeIn l) = start (l .gaps) (typeIn l) (l .keep) (sourcesIn l) (columnsIn l) in
     subst (λ c. AllZero (groundsIn l os) ↔ AllAcceptedRoom (lentOf l .plan) (l .parts) (typeIn l) (keepsIn l) (sourcesIn l) (columnsIn l) os c)
     (held-start (l .gaps) (typeIn l) (keepsIn l) (sourcesIn l) (λ j. columnsIn l j .body))
-    (accepts (lentOf l) (typeIn l) (sourcesIn l) (columnsIn l) (o .join) (keepsIn l) (openingOf l .counts) (o .memory) os first (openingOf l .counts) (openingOf l .room) (o .running))
+    (accepts (lentOf l) (typeIn l) (sourcesIn l) (columnsIn l) (o .join) (keepsIn l) (openingOf l .counters) (o .memory) os first (openingOf l .counters) (openingOf l .room) (o .running))
 
 -- ROOM IS ENOUGH exactly where no answer is 13
 pub enough-room : (l : Lending) → Bytes l → openingOf l .ground ≡ 0 → (os : List Call) → No13 (groundsIn l os) ↔ Enough l os
@@ -112,4 +112,4 @@ enough-room l b accepted os =
     let first : Destination (typeIn l) = start (l .gaps) (typeIn l) (l .keep) (sourcesIn l) (columnsIn l) in
     subst (λ c. No13 (groundsIn l os) ↔ RoomEnough (lentOf l .plan) (l .parts) (typeIn l) (keepsIn l) (sourcesIn l) (columnsIn l) os c)
     (held-start (l .gaps) (typeIn l) (keepsIn l) (sourcesIn l) (λ j. columnsIn l j .body))
-    (enough (lentOf l) (typeIn l) (sourcesIn l) (columnsIn l) (o .join) (keepsIn l) (openingOf l .counts) (o .memory) os first (openingOf l .counts) (openingOf l .room) (o .running))
+    (enough (lentOf l) (typeIn l) (sourcesIn l) (columnsIn l) (o .join) (keepsIn l) (openingOf l .counters) (o .memory) os first (openingOf l .counters) (openingOf l .room) (o .running))

@@ -31,69 +31,69 @@ dropped : (h : Bool) (base s : ℕ) → cond h 0 (base + s) ≡ cond (not h) (ba
 dropped true base s = refl
 dropped false base s = ap (λ k. base + k) (sym (zero-add s))
 
-module _ (x : Lent) (buffers counts room : List ℕ) (base : ℕ) where
+module _ (x : Lent) (buffers counters room : List ℕ) (base : ℕ) where
   -- data buffers do not move
-  of-same : (i s : ℕ) → buffersOf x buffers counts room base i s ≡ buffersOf x buffers counts room 0 i s
+  of-same : (i s : ℕ) → buffersOf x buffers counters room base i s ≡ buffersOf x buffers counters room 0 i s
   unfolding buffersOf
   of-same i zero = refl
   of-same i (suc s) = ap (λ k. k + min (walk.place (joinOf x s) i 8) 33) (of-same i s)
 
-  before-same : (i : ℕ) → buffersBefore x buffers counts room base i ≡ buffersBefore x buffers counts room 0 i
+  before-same : (i : ℕ) → buffersBefore x buffers counters room base i ≡ buffersBefore x buffers counters room 0 i
   unfolding buffersBefore
   before-same zero = refl
-  before-same (suc i) = ap₂ (λ k m. k + cond (isView (codeOf (x .plan) i)) m 0) (before-same i) (of-same i (sources x buffers counts room base))
+  before-same (suc i) = ap₂ (λ k m. k + cond (isView (codeOf (x .plan) i)) m 0) (before-same i) (of-same i (sources x buffers counters room base))
 
   copied-moves : (i j : ℕ) → j < 9
-      → copiedPlace x buffers counts room base i j
-      ≡ cond (cond (eqb j 1) (not (eqb (zerosAt x buffers counts room 0 i) 0)) (cond (eqb j 3) (hasPart (x .plan) i 1) (cond (eqb j 5) (hasPart (x .plan) i 2) false)))
-      (base + copiedPlace x buffers counts room 0 i j) (copiedPlace x buffers counts room 0 i j)
+      → copiedPlace x buffers counters room base i j
+      ≡ cond (cond (eqb j 1) (not (eqb (zerosAt x buffers counters room 0 i) 0)) (cond (eqb j 3) (hasPart (x .plan) i 1) (cond (eqb j 5) (hasPart (x .plan) i 2) false)))
+      (base + copiedPlace x buffers counters room 0 i j) (copiedPlace x buffers counters room 0 i j)
   unfolding copiedPlace zerosAt
   copied-moves i zero q = refl
-  copied-moves i (suc zero) q = dropped (eqb (zerosAt x buffers counts room 0 i) 0) base (startOf (x .plan) (x .parts) i 0)
+  copied-moves i (suc zero) q = dropped (eqb (zerosAt x buffers counters room 0 i) 0) base (startOf (x .plan) (x .parts) i 0)
   copied-moves i (suc (suc zero)) q = refl
   copied-moves i (suc (suc (suc zero))) q = lifted (hasPart (x .plan) i 1) base (startOf (x .plan) (x .parts) i 1)
   copied-moves i (suc (suc (suc (suc zero)))) q = refl
   copied-moves i (suc (suc (suc (suc (suc zero))))) q = lifted (hasPart (x .plan) i 2) base (startOf (x .plan) (x .parts) i 2)
   copied-moves i (suc (suc (suc (suc (suc (suc zero)))))) q = refl
   copied-moves i (suc (suc (suc (suc (suc (suc (suc zero))))))) q = ap (λ k. cond (isView (codeOf (x .plan) i)) k 0) (before-same i)
-  copied-moves i (suc (suc (suc (suc (suc (suc (suc (suc zero)))))))) q = ap (λ k. cond (isView (codeOf (x .plan) i)) k 0) (of-same i (sources x buffers counts room base))
+  copied-moves i (suc (suc (suc (suc (suc (suc (suc (suc zero)))))))) q = ap (λ k. cond (isView (codeOf (x .plan) i)) k 0) (of-same i (sources x buffers counters room base))
   copied-moves i (suc (suc (suc (suc (suc (suc (suc (suc (suc j))))))))) q = absurd (omega arith)
 
-  kept-stays : (i j : ℕ) → keptPlace x buffers counts room base i j ≡ keptPlace x buffers counts room 0 i j
+  kept-stays : (i j : ℕ) → keptPlace x buffers counters room base i j ≡ keptPlace x buffers counters room 0 i j
   unfolding keptPlace nullsAt zerosAt
   kept-stays i j = refl
 
   place-moves : (i j : ℕ) → j < 9
-      → placeAt x buffers counts room base i j
+      → placeAt x buffers counters room base i j
       ≡ cond
       (copied (x .plan) i
-      && cond (eqb j 1) (not (eqb (zerosAt x buffers counts room 0 i) 0)) (cond (eqb j 3) (hasPart (x .plan) i 1) (cond (eqb j 5) (hasPart (x .plan) i 2) false)))
-      (base + placeAt x buffers counts room 0 i j) (placeAt x buffers counts room 0 i j)
+      && cond (eqb j 1) (not (eqb (zerosAt x buffers counters room 0 i) 0)) (cond (eqb j 3) (hasPart (x .plan) i 1) (cond (eqb j 5) (hasPart (x .plan) i 2) false)))
+      (base + placeAt x buffers counters room 0 i j) (placeAt x buffers counters room 0 i j)
   unfolding placeAt
   place-moves i j q = go (copied (x .plan) i)
     where
       go : (c : Bool)
-          → cond c (copiedPlace x buffers counts room base i j) (keptPlace x buffers counts room base i j)
-          ≡ cond (c && cond (eqb j 1) (not (eqb (zerosAt x buffers counts room 0 i) 0)) (cond (eqb j 3) (hasPart (x .plan) i 1) (cond (eqb j 5) (hasPart (x .plan) i 2) false)))
-          (base + cond c (copiedPlace x buffers counts room 0 i j) (keptPlace x buffers counts room 0 i j)) (cond c (copiedPlace x buffers counts room 0 i j) (keptPlace x buffers counts room 0 i j))
+          → cond c (copiedPlace x buffers counters room base i j) (keptPlace x buffers counters room base i j)
+          ≡ cond (c && cond (eqb j 1) (not (eqb (zerosAt x buffers counters room 0 i) 0)) (cond (eqb j 3) (hasPart (x .plan) i 1) (cond (eqb j 5) (hasPart (x .plan) i 2) false)))
+          (base + cond c (copiedPlace x buffers counters room 0 i j) (keptPlace x buffers counters room 0 i j)) (cond c (copiedPlace x buffers counters room 0 i j) (keptPlace x buffers counters room 0 i j))
       go true = copied-moves i j q
       go false = kept-stays i j
 
-  from-same : (i s : ℕ) → buffersFrom x buffers counts room base i s ≡ buffersFrom x buffers counts room 0 i s
+  from-same : (i s : ℕ) → buffersFrom x buffers counters room base i s ≡ buffersFrom x buffers counters room 0 i s
   unfolding buffersFrom
   from-same i zero = refl
   from-same i (suc s) = ap (λ k. k ++ seg (λ q. getD buffers q 0) (2 * walk.place (joinOf x s) i 7) (2 * min (walk.place (joinOf x s) i 8) 33)) (from-same i s)
 
-  names-same : (i : ℕ) → buffersUpTo x buffers counts room base i ≡ buffersUpTo x buffers counts room 0 i
+  names-same : (i : ℕ) → buffersUpTo x buffers counters room base i ≡ buffersUpTo x buffers counters room 0 i
   unfolding buffersUpTo
   names-same zero = refl
-  names-same (suc i) = ap₂ (λ k m. k ++ cond (isView (codeOf (x .plan) i)) m []) (names-same i) (from-same i (sources x buffers counts room base))
+  names-same (suc i) = ap₂ (λ k m. k ++ cond (isView (codeOf (x .plan) i)) m []) (names-same i) (from-same i (sources x buffers counters room base))
 
-  lengths-same : lengthTable x buffers counts room base ≡ lengthTable x buffers counts room 0
+  lengths-same : lengthTable x buffers counters room base ≡ lengthTable x buffers counters room 0
   unfolding lengthTable
   lengths-same = refl
 
-  nulls-same : nullTable x buffers counts room base ≡ nullTable x buffers counts room 0
+  nulls-same : nullTable x buffers counters room base ≡ nullTable x buffers counters room 0
   unfolding nullTable nullsAt zerosAt
   nulls-same = refl
 
@@ -102,17 +102,17 @@ module _ (l : Lending) (os : List Call) (base : ℕ) (z body : List ℕ) where
   pub base-moves : (i : ℕ) → i < nodesOf (lentOf l .plan) → (j : ℕ) → j < 9
       → place (tablesAt l os base z) i j ≡ cond (inRoom l os i j) (base + place (tablesAt l os 0 body) i j) (place (tablesAt l os 0 body) i j)
   base-moves i q j k =
-      place-at (lentOf l) (l .tables .buffers) (afterCalls l os .counts) (afterCalls l os .room) base z i q j k
-      ∙ place-moves (lentOf l) (l .tables .buffers) (afterCalls l os .counts) (afterCalls l os .room) base i j k
-      ∙ ap (λ p. cond (inRoom l os i j) (base + p) p) (sym (place-at (lentOf l) (l .tables .buffers) (afterCalls l os .counts) (afterCalls l os .room) 0 body i q j k))
+      place-at (lentOf l) (l .tables .buffers) (afterCalls l os .counters) (afterCalls l os .room) base z i q j k
+      ∙ place-moves (lentOf l) (l .tables .buffers) (afterCalls l os .counters) (afterCalls l os .room) base i j k
+      ∙ ap (λ p. cond (inRoom l os i j) (base + p) p) (sym (place-at (lentOf l) (l .tables .buffers) (afterCalls l os .counters) (afterCalls l os .room) 0 body i q j k))
 
   -- .. lengths, null counts and the names of data buffers
   pub base-keeps : (tablesAt l os base z .lengths ≡ tablesAt l os 0 body .lengths) × (tablesAt l os base z .buffers ≡ tablesAt l os 0 body .buffers)
-      × (nullTable (lentOf l) (l .tables .buffers) (afterCalls l os .counts) (afterCalls l os .room) base ≡ nullTable (lentOf l) (l .tables .buffers) (afterCalls l os .counts) (afterCalls l os .room) 0)
+      × (nullTable (lentOf l) (l .tables .buffers) (afterCalls l os .counters) (afterCalls l os .room) base ≡ nullTable (lentOf l) (l .tables .buffers) (afterCalls l os .counters) (afterCalls l os .room) 0)
   base-keeps = (
-    lengths-same (lentOf l) (l .tables .buffers) (afterCalls l os .counts) (afterCalls l os .room) base,
-    names-same (lentOf l) (l .tables .buffers) (afterCalls l os .counts) (afterCalls l os .room) base (nodesOf (lentOf l .plan)),
-    nulls-same (lentOf l) (l .tables .buffers) (afterCalls l os .counts) (afterCalls l os .room) base,
+    lengths-same (lentOf l) (l .tables .buffers) (afterCalls l os .counters) (afterCalls l os .room) base,
+    names-same (lentOf l) (l .tables .buffers) (afterCalls l os .counters) (afterCalls l os .room) base (nodesOf (lentOf l .plan)),
+    nulls-same (lentOf l) (l .tables .buffers) (afterCalls l os .counters) (afterCalls l os .room) base,
   )
 
   -- TWO BODIES: what a stretch of z holds, the room holds at the position of base 0, and the sources' body what it names there
@@ -120,6 +120,6 @@ module _ (l : Lending) (os : List Call) (base : ℕ) (z body : List ℕ) where
       → ((at size : ℕ) → at + size ≤ length (afterCalls l os .room) → part z (base + at) size ≡ part (afterCalls l os .room) at size)
       × ((at size : ℕ) → at + size ≤ length (l .tables .body) → part z at size ≡ part (l .tables .body) at size)
   two-bodies laid = (
-    room-part (lentOf l) (l .tables .buffers) (afterCalls l os .counts) (afterCalls l os .room) base z laid,
-    source-part (lentOf l) (l .tables .buffers) (afterCalls l os .counts) (afterCalls l os .room) base z laid,
+    room-part (lentOf l) (l .tables .buffers) (afterCalls l os .counters) (afterCalls l os .room) base z laid,
+    source-part (lentOf l) (l .tables .buffers) (afterCalls l os .counters) (afterCalls l os .room) base z laid,
   )

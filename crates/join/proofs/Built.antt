@@ -20,10 +20,10 @@ use Rattle.refinement.specs.finishing.Shows.{ShowsNode, ShowsPlain, ShowsData, 
 use Rattle.join.specs.Built.{NodeIs, BuiltNode, BuiltPlain, BuiltValues, BuiltData, Built}
 
 module _ (tree : Tree) (y : Tables) (nulls : List ℕ) where
-  node : {P D : Type 0} (i : ℕ) (w : Bool) (f : D → P) (shows counts : P → Type 0) (by : D → P → Type 0) (inner : D → Type 0)
-      → ((d : D) → shows (f d) → counts (f d) → by d (f d) → inner d)
-      → (d : Mutable D) → ShowsNode y i shows (freezeNode w f d) → CountsNode nulls i counts (freezeNode w f d) → ByCounter w by d (freezeNode w f d) → BuiltNode y nulls i w inner d
-  node i w f shows counts by inner g d s c b =
+  node : {P D : Type 0} (i : ℕ) (w : Bool) (f : D → P) (shows counters : P → Type 0) (by : D → P → Type 0) (inner : D → Type 0)
+      → ((d : D) → shows (f d) → counters (f d) → by d (f d) → inner d)
+      → (d : Mutable D) → ShowsNode y i shows (freezeNode w f d) → CountsNode nulls i counters (freezeNode w f d) → ByCounter w by d (freezeNode w f d) → BuiltNode y nulls i w inner d
+  node i w f shows counters by inner g d s c b =
       record {
         len-is = s .len-is;
         off-is = s .off-is;

@@ -36,21 +36,21 @@ module _ (l : Lending) (b : Bytes l) (accepted : openingOf l .ground ≡ 0) wher
   first = start (l .gaps) (typeIn l) (l .keep) (sourcesIn l) (columnsIn l)
 
   abbrev between : List Call → Type 0
-  between os = Running (lentOf l) (typeIn l) (sourcesIn l) (columnsIn l) (opens .join) (keepsIn l) (openingOf l .counts) (opens .memory) (reachedBy l os) (afterCalls l os .counts) (afterCalls l os .room)
+  between os = Running (lentOf l) (typeIn l) (sourcesIn l) (columnsIn l) (opens .join) (keepsIn l) (openingOf l .counters) (opens .memory) (reachedBy l os) (afterCalls l os .counters) (afterCalls l os .room)
 
   running : (os : List Call) → between os
   running os = orders-after (l .formats) (l .schema) (l .sources) (l .tables) (l .keep) (l .gaps) (l .parts) (openingOf l) opens os .running
 
   -- a call that is answered 0
   record Taken (os : List Call) (o : Call) : Type 0 where
-    is : Carried (lentOf l) (typeIn l) (sourcesIn l) (columnsIn l) (opens .join) (keepsIn l) (openingOf l .counts) (opens .memory) (reachedBy l os) (afterCalls l os .counts) (afterCalls l os .room) (running os) o
+    is : Carried (lentOf l) (typeIn l) (sourcesIn l) (columnsIn l) (opens .join) (keepsIn l) (openingOf l .counters) (opens .memory) (reachedBy l os) (afterCalls l os .counters) (afterCalls l os .room) (running os) o
     next : reachedBy l (os ++ o ∷ []) ≡ is .reached
     counted : callAnswer l os o ≡ done (heldAfter l (os ++ o ∷ []))
 
   taken : (os : List Call) (o : Call) → nextCall l os o .ground ≡ 0 → Taken os o
   taken os o h =
       let c =
-      carried-out (lentOf l) (typeIn l) (sourcesIn l) (columnsIn l) (opens .join) (keepsIn l) (openingOf l .counts) (opens .memory) (reachedBy l os) (afterCalls l os .counts) (afterCalls l os .room)
+      carried-out (lentOf l) (typeIn l) (sourcesIn l) (columnsIn l) (opens .join) (keepsIn l) (openingOf l .counters) (opens .memory) (reachedBy l os) (afterCalls l os .counters) (afterCalls l os .room)
       (running os) o h in
       let next : reachedBy l (os ++ o ∷ []) ≡ c .reached =
       answers-behind (lentOf l .plan) (l .parts) (typeIn l) (sourcesIn l) (columnsIn l) os (o ∷ []) first

@@ -26,7 +26,7 @@ use Rattle.join.proofs.Lengths.{call-by-lengths}
 
 module _ (l : Lending) where
   -- REFUSED, IT CHANGES NOTHING, whatever is lent: "State and every byte stay."
-  pub opening-keeps : (openingOf l .ground ≡ 0 → ⊥) → (openingOf l .plan ≡ l .plan) × (openingOf l .counts ≡ l .counters) × (openingOf l .room ≡ l .room)
+  pub opening-keeps : (openingOf l .ground ≡ 0 → ⊥) → (openingOf l .plan ≡ l .plan) × (openingOf l .counters ≡ l .counters) × (openingOf l .room ≡ l .room)
   opening-keeps = opening-refused (l .formats) (l .schema) (l .sources) (l .tables) (l .keep) (l .gaps) (l .parts) (l .plan) (l .counters) (l .room)
 
   -- THE ANSWER is 0 where no ground stands, else the first in 01's order
@@ -55,9 +55,9 @@ same-ground f (done x) = refl
 same-ground f (stop g) = refl
 
 -- REFUSED, A CALL CHANGES NOTHING, whatever plan, parts, sources, counters and room it is lent
-module _ (x : Lent) (counts room : List ℕ) where
-  pub call-keeps : (o : Call) → (ordered x counts room o .ground ≡ 0 → ⊥) → (ordered x counts room o .counts ≡ counts) × (ordered x counts room o .room ≡ room)
-  call-keeps = order-keeps x counts room
+module _ (x : Lent) (counters room : List ℕ) where
+  pub call-keeps : (o : Call) → (ordered x counters room o .ground ≡ 0 → ⊥) → (ordered x counters room o .counters ≡ counters) × (ordered x counters room o .room ≡ room)
+  call-keeps = order-keeps x counters room
 
 -- after an accepted opening and any list of calls, refused ones included
 module _ (l : Lending) (b : Bytes l) (accepted : openingOf l .ground ≡ 0) (os : List Call) where
@@ -68,10 +68,10 @@ module _ (l : Lending) (b : Bytes l) (accepted : openingOf l .ground ≡ 0) (os 
   pub call-answered : (o : Call) → nextCall l os o .ground ≡ groundOf (answerTo l os o)
   call-answered o =
       let run = orders-after (l .formats) (l .schema) (l .sources) (l .tables) (l .keep) (l .gaps) (l .parts) (openingOf l) opens os .running in
-      ground-is (lentOf l) (typeIn l) (sourcesIn l) (columnsIn l) (opens .join) (keepsIn l) (openingOf l .counts) (opens .memory) (reachedBy l os) (afterCalls l os .counts) (afterCalls l os .room) run o
+      ground-is (lentOf l) (typeIn l) (sourcesIn l) (columnsIn l) (opens .join) (keepsIn l) (openingOf l .counters) (opens .memory) (reachedBy l os) (afterCalls l os .counters) (afterCalls l os .room) run o
       ∙ sym
       (ap groundOf
-      (answer-is (lentOf l) (typeIn l) (sourcesIn l) (columnsIn l) (opens .join) (keepsIn l) (openingOf l .counts) (opens .memory) (reachedBy l os) (afterCalls l os .counts) (afterCalls l os .room) run o))
+      (answer-is (lentOf l) (typeIn l) (sourcesIn l) (columnsIn l) (opens .join) (keepsIn l) (openingOf l .counters) (opens .memory) (reachedBy l os) (afterCalls l os .counters) (afterCalls l os .room) run o))
       ∙ same-ground (held (typeIn l)) (answerTo l os o)
 
   -- THE TESTS FOR FOREIGN MEMORY NEVER FIRE: the answer is 0 to 7, or 13

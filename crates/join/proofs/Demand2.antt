@@ -80,9 +80,9 @@ module _ (l : Lending) (b : Bytes l) (accepted : openingOf l .ground ≡ 0) (os 
   -- Over any body z in which the room stands from `base` on and the sources' body where it was:
   module _ (base : ℕ) (z : List ℕ) (laid : Bodied z (lentOf l) (afterCalls l os .room) base) where
     -- THE BYTES, LENGTHS, VALIDITY AND NULL COUNTS: the finished tables are what `into_builder` makes of it, at every node
-    pub built-at : Built (treeIn l) (tablesAt l os base z) (nullTable (lentOf l) (l .tables .buffers) (afterCalls l os .counts) (afterCalls l os .room) base) (sourcesIn l) (typeIn l) 0 (columnsIn l) (reachedBy l os)
+    pub built-at : Built (treeIn l) (tablesAt l os base z) (nullTable (lentOf l) (l .tables .buffers) (afterCalls l os .counters) (afterCalls l os .room) base) (sourcesIn l) (typeIn l) 0 (columnsIn l) (reachedBy l os)
     built-at =
-        built (treeIn l) (tablesAt l os base z) (nullTable (lentOf l) (l .tables .buffers) (afterCalls l os .counts) (afterCalls l os .room) base) (sourcesIn l) (typeIn l) 0 (columnsIn l) (reachedBy l os)
+        built (treeIn l) (tablesAt l os base z) (nullTable (lentOf l) (l .tables .buffers) (afterCalls l os .counters) (afterCalls l os .room) base) (sourcesIn l) (typeIn l) 0 (columnsIn l) (reachedBy l os)
         (bytes-at l b accepted os base z laid) (nulls-at l b accepted os base z laid) (finished-counters l b accepted os)
 
     -- LENT AGAIN, it passes ground 12
@@ -98,36 +98,36 @@ module _ (l : Lending) (b : Bytes l) (accepted : openingOf l .ground ≡ 0) (os 
   pub behind-body : Bodied (l .tables .body ++ afterCalls l os .room) (lentOf l) (afterCalls l os .room) (length (l .tables .body))
   behind-body = appended (lentOf l) (afterCalls l os .room)
 
-  pub finished-built : Built (treeIn l) (tablesOf l os) (nullTable (lentOf l) (l .tables .buffers) (afterCalls l os .counts) (afterCalls l os .room) (length (l .tables .body))) (sourcesIn l) (typeIn l) 0 (columnsIn l) (reachedBy l os)
+  pub finished-built : Built (treeIn l) (tablesOf l os) (nullTable (lentOf l) (l .tables .buffers) (afterCalls l os .counters) (afterCalls l os .room) (length (l .tables .body))) (sourcesIn l) (typeIn l) 0 (columnsIn l) (reachedBy l os)
   finished-built = built-at (length (l .tables .body)) _ behind-body
 
   -- the lent counters are the destination's, its lengths and running null counts, at every node
-  pub counters-are : Counted (lentOf l .plan) (afterCalls l os .counts) (typeIn l) 0 (reachedBy l os)
+  pub counters-are : Counted (lentOf l .plan) (afterCalls l os .counters) (typeIn l) 0 (reachedBy l os)
   counters-are =
-      counted (lentOf l .plan) (afterCalls l os .counts)
+      counted (lentOf l .plan) (afterCalls l os .counters)
       (orders-after (l .formats) (l .schema) (l .sources) (l .tables) (l .keep) (l .gaps) (l .parts) (openingOf l) opens os .running .memory)
       (typeIn l) 0 (reachedBy l os)
       (orders-after (l .formats) (l .schema) (l .sources) (l .tables) (l .keep) (l .gaps) (l .parts) (openingOf l) opens os .running .holds)
 
   -- THE RUNNING NULL COUNT is that of the calls that are carried out, where the root keeps nulls: a copy's zero bits, a null order's rows in full
-  pub running-nulls : walk.nulls (afterCalls l os .counts) 0 ≡ cond (keepsIn l) (nullsBooked l os) 0
+  pub running-nulls : walk.nulls (afterCalls l os .counters) 0 ≡ cond (keepsIn l) (nullsBooked l os) 0
   running-nulls = nulls-by-lengths l b accepted os ∙ ap (countedIf (keepsIn l)) (sym (nulls-is l b accepted os)) ∙ counted-cond (keepsIn l) (nullsBooked l os)
 
   -- ONE CALL MORE that is accepted raises it by the nulls that the call enters ..
-  pub call-counts : (o : Call) → nextCall l os o .ground ≡ 0
-      → walk.nulls (nextCall l os o .counts) 0
-      ≡ walk.nulls (afterCalls l os .counts) 0 + cond (keepsIn l) (nullsEntered (typeIn l) (keepsIn l) (sourcesIn l) (columnsIn l) o) 0
-  call-counts o h =
-      go (order-step (lentOf l) (typeIn l) (sourcesIn l) (columnsIn l) (opens .join) (keepsIn l) (openingOf l .counts) (opens .memory) o (reachedBy l os) (afterCalls l os .counts) (afterCalls l os .room) before) h
-      ∙ ap (walk.nulls (afterCalls l os .counts) 0 +_) (counted-cond (keepsIn l) (nullsEntered (typeIn l) (keepsIn l) (sourcesIn l) (columnsIn l) o))
+  pub call-counters : (o : Call) → nextCall l os o .ground ≡ 0
+      → walk.nulls (nextCall l os o .counters) 0
+      ≡ walk.nulls (afterCalls l os .counters) 0 + cond (keepsIn l) (nullsEntered (typeIn l) (keepsIn l) (sourcesIn l) (columnsIn l) o) 0
+  call-counters o h =
+      go (order-step (lentOf l) (typeIn l) (sourcesIn l) (columnsIn l) (opens .join) (keepsIn l) (openingOf l .counters) (opens .memory) o (reachedBy l os) (afterCalls l os .counters) (afterCalls l os .room) before) h
+      ∙ ap (walk.nulls (afterCalls l os .counters) 0 +_) (counted-cond (keepsIn l) (nullsEntered (typeIn l) (keepsIn l) (sourcesIn l) (columnsIn l) o))
     where
-      before : Running (lentOf l) (typeIn l) (sourcesIn l) (columnsIn l) (opens .join) (keepsIn l) (openingOf l .counts) (opens .memory) (reachedBy l os) (afterCalls l os .counts) (afterCalls l os .room)
+      before : Running (lentOf l) (typeIn l) (sourcesIn l) (columnsIn l) (opens .join) (keepsIn l) (openingOf l .counters) (opens .memory) (reachedBy l os) (afterCalls l os .counters) (afterCalls l os .room)
       before = orders-after (l .formats) (l .schema) (l .sources) (l .tables) (l .keep) (l .gaps) (l .parts) (openingOf l) opens os .running
 
       go : {p : Try (Destination (typeIn l))} {a : After}
-          → Answers (lentOf l) (typeIn l) (sourcesIn l) (columnsIn l) (opens .join) (keepsIn l) (openingOf l .counts) (opens .memory) o (reachedBy l os) (afterCalls l os .counts) (afterCalls l os .room) p a
+          → Answers (lentOf l) (typeIn l) (sourcesIn l) (columnsIn l) (opens .join) (keepsIn l) (openingOf l .counters) (opens .memory) o (reachedBy l os) (afterCalls l os .counters) (afterCalls l os .room) p a
           → a .ground ≡ 0
-          → walk.nulls (a .counts) 0 ≡ walk.nulls (afterCalls l os .counts) 0 + countedIf (keepsIn l) (nullsEntered (typeIn l) (keepsIn l) (sourcesIn l) (columnsIn l) o)
+          → walk.nulls (a .counters) 0 ≡ walk.nulls (afterCalls l os .counters) 0 + countedIf (keepsIn l) (nullsEntered (typeIn l) (keepsIn l) (sourcesIn l) (columnsIn l) o)
       go (made d′ a e r did) q =
           r .holds .nulls-are
           ∙ did .count-is
@@ -135,23 +135,23 @@ module _ (l : Lending) (b : Bytes l) (accepted : openingOf l .ground ≡ 0) (os 
       go (not-made g a e p c s) q = absurd (omega (arith, e, q, p))
 
   -- .. A COPY BY THE ZERO BITS OF ITS RANGE, where the root keeps nulls, else by none
-  pub copy-counts : (j a e : ℕ) → nextCall l os (copy j a e) .ground ≡ 0 → keepsIn l ≡ true
-      → walk.nulls (nextCall l os (copy j a e) .counts) 0 ≡ walk.nulls (afterCalls l os .counts) 0 + nullsIn (ok (columnsIn l j .valid)) (columnsIn l j .off + a) (e - a)
-  copy-counts j a e h k =
-      call-counts (copy j a e) h
-      ∙ ap (λ (b : Bool). walk.nulls (afterCalls l os .counts) 0 + cond b (nullsIn (ok (columnsIn l j .valid)) (columnsIn l j .off + a) (e - a)) 0) k
+  pub copy-counters : (j a e : ℕ) → nextCall l os (copy j a e) .ground ≡ 0 → keepsIn l ≡ true
+      → walk.nulls (nextCall l os (copy j a e) .counters) 0 ≡ walk.nulls (afterCalls l os .counters) 0 + nullsIn (ok (columnsIn l j .valid)) (columnsIn l j .off + a) (e - a)
+  copy-counters j a e h k =
+      call-counters (copy j a e) h
+      ∙ ap (λ (b : Bool). walk.nulls (afterCalls l os .counters) 0 + cond b (nullsIn (ok (columnsIn l j .valid)) (columnsIn l j .off + a) (e - a)) 0) k
 
   -- FINISHING IS NEVER REFUSED where the tables are of the finished array's lengths and the room begins within a body's ceiling
   pub finishing-answered : (base : ℕ) (lengths nulls places names : List ℕ) → base ≤ ceiling
       → length lengths ≡ 2 * parts.nodesOf (lentOf l .plan) → length nulls ≡ parts.nodesOf (lentOf l .plan) → length places ≡ 9 * parts.nodesOf (lentOf l .plan)
-      → length names ≡ 2 * buffersBefore (lentOf l) (l .tables .buffers) (afterCalls l os .counts) (afterCalls l os .room) base (parts.nodesOf (lentOf l .plan))
+      → length names ≡ 2 * buffersBefore (lentOf l) (l .tables .buffers) (afterCalls l os .counters) (afterCalls l os .room) base (parts.nodesOf (lentOf l .plan))
       → finishingOf l os base lengths nulls places names
       ≡ record {
         ground = 0;
-        lengths = lengthTable (lentOf l) (l .tables .buffers) (afterCalls l os .counts) (afterCalls l os .room) base;
-        nulls = nullTable (lentOf l) (l .tables .buffers) (afterCalls l os .counts) (afterCalls l os .room) base;
-        places = placeTable (lentOf l) (l .tables .buffers) (afterCalls l os .counts) (afterCalls l os .room) base;
-        buffers = bufferTable (lentOf l) (l .tables .buffers) (afterCalls l os .counts) (afterCalls l os .room) base;
+        lengths = lengthTable (lentOf l) (l .tables .buffers) (afterCalls l os .counters) (afterCalls l os .room) base;
+        nulls = nullTable (lentOf l) (l .tables .buffers) (afterCalls l os .counters) (afterCalls l os .room) base;
+        places = placeTable (lentOf l) (l .tables .buffers) (afterCalls l os .counters) (afterCalls l os .room) base;
+        buffers = bufferTable (lentOf l) (l .tables .buffers) (afterCalls l os .counters) (afterCalls l os .room) base;
       }
   finishing-answered = finishing-accepted (l .formats) (l .schema) (l .sources) (l .tables) (l .keep) (l .gaps) (l .parts) (openingOf l) opens os
 

@@ -41,7 +41,7 @@ module _ (l : Lending) (b : Bytes l) (accepted : openingOf l .ground ≡ 0) (os 
   pub reached-length : reachedBy l os .len ≡ length (book l os)
   reached-length = sym (finished-built l b accepted os .len-is) ∙ book-length
 
-  pub destination-length : walk.rows (afterCalls l os .counts) 0 ≡ length (book l os)
+  pub destination-length : walk.rows (afterCalls l os .counters) 0 ≡ length (book l os)
   destination-length = counters-are l b accepted os .rows-are ∙ reached-length
 
   -- and its row i reads as entry i

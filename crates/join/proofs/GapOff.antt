@@ -32,11 +32,11 @@ module _ (l : Lending) (b : Bytes l) (accepted : openingOf l .ground ≡ 0) (off
 
   -- THE BYTES, LENGTHS, VALIDITY AND NULL COUNTS of the finished tables, over any body z in which the room stands from `base` on and the sources' body where it was
   pub built-as-rust : (base : ℕ) (z : List ℕ) → Bodied z (lentOf l) (afterCalls l os .room) base
-      → Built (treeIn l) (tablesAt l os base z) (nullTable (lentOf l) (l .tables .buffers) (afterCalls l os .counts) (afterCalls l os .room) base) (sourcesIn l) (typeIn l) 0 (columnsIn l) rustReached
+      → Built (treeIn l) (tablesAt l os base z) (nullTable (lentOf l) (l .tables .buffers) (afterCalls l os .counters) (afterCalls l os .room) base) (sourcesIn l) (typeIn l) 0 (columnsIn l) rustReached
   built-as-rust base z laid =
-      subst (Built (treeIn l) (tablesAt l os base z) (nullTable (lentOf l) (l .tables .buffers) (afterCalls l os .counts) (afterCalls l os .room) base) (sourcesIn l) (typeIn l) 0 (columnsIn l)) reached-as-rust
+      subst (Built (treeIn l) (tablesAt l os base z) (nullTable (lentOf l) (l .tables .buffers) (afterCalls l os .counters) (afterCalls l os .room) base) (sourcesIn l) (typeIn l) 0 (columnsIn l)) reached-as-rust
       (built-at l b accepted os base z laid)
 
   -- .. and so over the sources' body with the room behind it
-  pub finished-as-rust : Built (treeIn l) (tablesOf l os) (nullTable (lentOf l) (l .tables .buffers) (afterCalls l os .counts) (afterCalls l os .room) (length (l .tables .body))) (sourcesIn l) (typeIn l) 0 (columnsIn l) rustReached
+  pub finished-as-rust : Built (treeIn l) (tablesOf l os) (nullTable (lentOf l) (l .tables .buffers) (afterCalls l os .counters) (afterCalls l os .room) (length (l .tables .body))) (sourcesIn l) (typeIn l) 0 (columnsIn l) rustReached
   finished-as-rust = built-as-rust (length (l .tables .body)) _ (behind-body l b accepted os)

@@ -129,31 +129,31 @@ module _ (x : Lent) (t : Ty) (m : ℕ) (ss : ℕ → Column t) (join : Joined x 
     taken : (c′ : Counts) (g p : ℕ) → g ≡ 0 → p ≡ 0 → Comes (done c′) 0 g p
     stopped : (g′ p′ g p : ℕ) → 0 < g′ → g ≡ g′ → p ≡ p′ → Comes (stop g′) p′ g p
 
-  comes-in-turn : (b0 s0 : List ℕ) (os : List Call) (k : ℕ) (d : Destination t) (counts room : List ℕ) → Runs d counts room
-      → Comes (inTurn (x .plan) (x .parts) t keep m ss os (held t d)) (placeIn (x .plan) (x .parts) t keep m ss os k (held t d)) (carried x b0 s0 k counts room os .ground) (carried x b0 s0 k counts room os .place)
+  comes-in-turn : (b0 s0 : List ℕ) (os : List Call) (k : ℕ) (d : Destination t) (counters room : List ℕ) → Runs d counters room
+      → Comes (inTurn (x .plan) (x .parts) t keep m ss os (held t d)) (placeIn (x .plan) (x .parts) t keep m ss os k (held t d)) (carried x b0 s0 k counters room os .ground) (carried x b0 s0 k counters room os .place)
   unfolding carried
-  comes-in-turn b0 s0 [] k d counts room run = taken _ _ _ refl refl
-  comes-in-turn b0 s0 (o ∷ os) k d counts room run =
-      go (order-step x t m ss join keep c0 μ0 o d counts room run) (answer-is x t m ss join keep c0 μ0 d counts room run o) (λ d′ c r q. comes-in-turn b0 s0 os (suc k) d′ c r q)
+  comes-in-turn b0 s0 [] k d counters room run = taken _ _ _ refl refl
+  comes-in-turn b0 s0 (o ∷ os) k d counters room run =
+      go (order-step x t m ss join keep c0 μ0 o d counters room run) (answer-is x t m ss join keep c0 μ0 d counters room run o) (λ d′ c r q. comes-in-turn b0 s0 os (suc k) d′ c r q)
     where
-      go : {p : Try (Destination t)} {s : Try Counts} {a : After} → Answers x t m ss join keep c0 μ0 o d counts room p a → mapTry (held t) p ≡ s
+      go : {p : Try (Destination t)} {s : Try Counts} {a : After} → Answers x t m ss join keep c0 μ0 o d counters room p a → mapTry (held t) p ≡ s
           → ((d′ : Destination t) (c r : List ℕ) → Runs d′ c r → Comes (inTurn (x .plan) (x .parts) t keep m ss os (held t d′)) (placeIn (x .plan) (x .parts) t keep m ss os (suc k) (held t d′)) (carried x b0 s0 (suc k) c r os .ground) (carried x b0 s0 (suc k) c r os .place))
           → Comes (then s (inTurn (x .plan) (x .parts) t keep m ss os)) (elim s [ done c′ ↦ placeIn (x .plan) (x .parts) t keep m ss os (suc k) c′ | stop g ↦ k ])
-          (cond (eqb (a .ground) 0) (carried x b0 s0 (suc k) (a .counts) (a .room) os) (givenUp x b0 s0 (a .ground) k) .ground)
-          (cond (eqb (a .ground) 0) (carried x b0 s0 (suc k) (a .counts) (a .room) os) (givenUp x b0 s0 (a .ground) k) .place)
+          (cond (eqb (a .ground) 0) (carried x b0 s0 (suc k) (a .counters) (a .room) os) (givenUp x b0 s0 (a .ground) k) .ground)
+          (cond (eqb (a .ground) 0) (carried x b0 s0 (suc k) (a .counters) (a .room) os) (givenUp x b0 s0 (a .ground) k) .place)
       go (made d′ a e r did) q f =
           subst
           (λ (s : Try Counts).
           Comes (then s (inTurn (x .plan) (x .parts) t keep m ss os)) (elim s [ done c′ ↦ placeIn (x .plan) (x .parts) t keep m ss os (suc k) c′ | stop g ↦ k ])
-          (cond (eqb (a .ground) 0) (carried x b0 s0 (suc k) (a .counts) (a .room) os) (givenUp x b0 s0 (a .ground) k) .ground)
-          (cond (eqb (a .ground) 0) (carried x b0 s0 (suc k) (a .counts) (a .room) os) (givenUp x b0 s0 (a .ground) k) .place))
-          q (rw (eq-eqb (a .ground) 0 e) (f d′ (a .counts) (a .room) r))
+          (cond (eqb (a .ground) 0) (carried x b0 s0 (suc k) (a .counters) (a .room) os) (givenUp x b0 s0 (a .ground) k) .ground)
+          (cond (eqb (a .ground) 0) (carried x b0 s0 (suc k) (a .counters) (a .room) os) (givenUp x b0 s0 (a .ground) k) .place))
+          q (rw (eq-eqb (a .ground) 0 e) (f d′ (a .counters) (a .room) r))
       go (not-made g a e l c s) q f =
           subst
           (λ (s : Try Counts).
           Comes (then s (inTurn (x .plan) (x .parts) t keep m ss os)) (elim s [ done c′ ↦ placeIn (x .plan) (x .parts) t keep m ss os (suc k) c′ | stop g ↦ k ])
-          (cond (eqb (a .ground) 0) (carried x b0 s0 (suc k) (a .counts) (a .room) os) (givenUp x b0 s0 (a .ground) k) .ground)
-          (cond (eqb (a .ground) 0) (carried x b0 s0 (suc k) (a .counts) (a .room) os) (givenUp x b0 s0 (a .ground) k) .place))
+          (cond (eqb (a .ground) 0) (carried x b0 s0 (suc k) (a .counters) (a .room) os) (givenUp x b0 s0 (a .ground) k) .ground)
+          (cond (eqb (a .ground) 0) (carried x b0 s0 (suc k) (a .counters) (a .room) os) (givenUp x b0 s0 (a .ground) k) .place))
           q (rw (ne-eqb (a .ground) 0 (λ z. omega (arith, z, e, l))) (stopped g k (a .ground) k l e refl))
 
   -- an item's answer by lengths
@@ -173,79 +173,79 @@ module _ (x : Lent) (t : Ty) (m : ℕ) (ss : ℕ → Column t) (join : Joined x 
   comes-place (taken c′ g p e f) = f
   comes-place (stopped g′ p′ g p l e f) = f
 
-  module _ (d : Destination t) (counts room : List ℕ) (run : Runs d counts room) where
+  module _ (d : Destination t) (counters room : List ℕ) (run : Runs d counters room) where
     -- THE ANSWER AND THE PLACE OF A TRIP, by lengths
     pub trip-comes : (os : List Call)
-        → Comes (itemAnswer (x .plan) (x .parts) t keep m ss (trip os) (held t d)) (tripPlace (x .plan) (x .parts) t keep m ss os (held t d)) (tripOrder x counts room os .ground) (tripOrder x counts room os .place)
+        → Comes (itemAnswer (x .plan) (x .parts) t keep m ss (trip os) (held t d)) (tripPlace (x .plan) (x .parts) t keep m ss os (held t d)) (tripOrder x counters room os .ground) (tripOrder x counters room os .place)
     unfolding tripOrder
     trip-comes os = go (leb (length os) longest)
       where
         go : (b : Bool)
             → Comes (guard b 9 (inTurn (x .plan) (x .parts) t keep m ss os (held t d))) (cond b (placeIn (x .plan) (x .parts) t keep m ss os 0 (held t d)) 0)
-            (cond b (carried x counts room 0 counts room os) (givenUp x counts room 9 0) .ground) (cond b (carried x counts room 0 counts room os) (givenUp x counts room 9 0) .place)
-        go true = comes-in-turn counts room os 0 d counts room run
+            (cond b (carried x counters room 0 counters room os) (givenUp x counters room 9 0) .ground) (cond b (carried x counters room 0 counters room os) (givenUp x counters room 9 0) .place)
+        go true = comes-in-turn counters room os 0 d counters room run
         go false = stopped 9 0 9 0 (omega arith) refl refl
 
     -- THE ANSWER TO AN ITEM
-    pub item-said : (i : Item) → Said (itemAnswer (x .plan) (x .parts) t keep m ss i (held t d)) (itemOrder x counts room i .ground)
+    pub item-said : (i : Item) → Said (itemAnswer (x .plan) (x .parts) t keep m ss i (held t d)) (itemOrder x counters room i .ground)
     item-said (trip os) = comes-said (trip-comes os)
-    item-said (one o) = go (order-step x t m ss join keep c0 μ0 o d counts room run) (answer-is x t m ss join keep c0 μ0 d counts room run o)
+    item-said (one o) = go (order-step x t m ss join keep c0 μ0 o d counters room run) (answer-is x t m ss join keep c0 μ0 d counters room run o)
       where
-        go : {p : Try (Destination t)} {s : Try Counts} {a : After} → Answers x t m ss join keep c0 μ0 o d counts room p a → mapTry (held t) p ≡ s → Said s (a .ground)
+        go : {p : Try (Destination t)} {s : Try Counts} {a : After} → Answers x t m ss join keep c0 μ0 o d counters room p a → mapTry (held t) p ≡ s → Said s (a .ground)
         go (made d′ a e r did) q = subst (λ (s : Try Counts). Said s (a .ground)) q (accepts (held t d′) (a .ground) e)
         go (not-made g a e l c s) q = subst (λ (s : Try Counts). Said s (a .ground)) q (refuses g (a .ground) l e)
 
   -- an accepted item leaves what its orders leave, a refused one what was there, whatever is lent
-  item-leaves : (counts room : List ℕ) (i : Item) → itemOrder x counts room i .ground ≡ 0
-      → (itemOrder x counts room i .counts ≡ orderedAll x counts room (callsIn i) .counts) × (itemOrder x counts room i .room ≡ orderedAll x counts room (callsIn i) .room)
+  item-leaves : (counters room : List ℕ) (i : Item) → itemOrder x counters room i .ground ≡ 0
+      → (itemOrder x counters room i .counters ≡ orderedAll x counters room (callsIn i) .counters) × (itemOrder x counters room i .room ≡ orderedAll x counters room (callsIn i) .room)
   unfolding orderedAll
-  item-leaves counts room (one o) h = (refl, refl)
-  item-leaves counts room (trip os) h = trip-leaves x counts room os h
+  item-leaves counters room (one o) h = (refl, refl)
+  item-leaves counters room (trip os) h = trip-leaves x counters room os h
 
   -- after any list of items
-  pub record RanItems (is : List Item) (c : Counts) (counts room : List ℕ) : Type 0 where
-    pub same-counts : itemsAll x counts room is .counts ≡ orderedAll x counts room (carriedCalls (x .plan) (x .parts) t keep m ss is c) .counts
-    pub same-room : itemsAll x counts room is .room ≡ orderedAll x counts room (carriedCalls (x .plan) (x .parts) t keep m ss is c) .room
-    pub same-answers : itemGrounds x counts room is ≡ answersTo (x .plan) (x .parts) t keep m ss is c
+  pub record RanItems (is : List Item) (c : Counts) (counters room : List ℕ) : Type 0 where
+    pub same-counters : itemsAll x counters room is .counters ≡ orderedAll x counters room (carriedCalls (x .plan) (x .parts) t keep m ss is c) .counters
+    pub same-room : itemsAll x counters room is .room ≡ orderedAll x counters room (carriedCalls (x .plan) (x .parts) t keep m ss is c) .room
+    pub same-answers : itemGrounds x counters room is ≡ answersTo (x .plan) (x .parts) t keep m ss is c
 
   -- REFUSED, AN ITEM CHANGES NOTHING
-  pub item-keeps : (counts room : List ℕ) (i : Item) → (itemOrder x counts room i .ground ≡ 0 → ⊥) → (itemOrder x counts room i .counts ≡ counts) × (itemOrder x counts room i .room ≡ room)
-  item-keeps counts room (one o) = order-keeps x counts room o
-  item-keeps counts room (trip os) = trip-keeps x counts room os
+  pub item-keeps : (counters room : List ℕ) (i : Item) → (itemOrder x counters room i .ground ≡ 0 → ⊥) → (itemOrder x counters room i .counters ≡ counters) × (itemOrder x counters room i .room ≡ room)
+  item-keeps counters room (one o) = order-keeps x counters room o
+  item-keeps counters room (trip os) = trip-keeps x counters room os
 
-  pub items-run : (is : List Item) (d : Destination t) (counts room : List ℕ) → Runs d counts room → RanItems is (held t d) counts room
+  pub items-run : (is : List Item) (d : Destination t) (counters room : List ℕ) → Runs d counters room → RanItems is (held t d) counters room
   unfolding itemsAll itemGrounds orderedAll
-  items-run [] d counts room run = record { same-counts = refl; same-room = refl; same-answers = refl }
-  items-run (i ∷ is) d counts room run =
-      let r = go (itemAnswer (x .plan) (x .parts) t keep m ss i (held t d)) refl (item-said d counts room run i) (λ d′ c r q. items-run is d′ c r q) in
-      record { same-counts = r .0; same-room = r .1; same-answers = r .2 }
+  items-run [] d counters room run = record { same-counters = refl; same-room = refl; same-answers = refl }
+  items-run (i ∷ is) d counters room run =
+      let r = go (itemAnswer (x .plan) (x .parts) t keep m ss i (held t d)) refl (item-said d counters room run i) (λ d′ c r q. items-run is d′ c r q) in
+      record { same-counters = r .0; same-room = r .1; same-answers = r .2 }
     where
       flatly : List Item → Counts → List Call
       flatly = carriedCalls (x .plan) (x .parts) t keep m ss
 
       a : After
-      a = itemOrder x counts room i
+      a = itemOrder x counters room i
 
       go : (s : Try Counts) → itemAnswer (x .plan) (x .parts) t keep m ss i (held t d) ≡ s → Said s (a .ground)
           → ((d′ : Destination t) (c r : List ℕ) → Runs d′ c r → RanItems is (held t d′) c r)
-          → (itemsAll x (a .counts) (a .room) is .counts ≡ orderedAll x counts room (elim s [ done c′ ↦ callsIn i ++ flatly is c′ | stop g ↦ flatly is (held t d) ]) .counts)
-          × (itemsAll x (a .counts) (a .room) is .room ≡ orderedAll x counts room (elim s [ done c′ ↦ callsIn i ++ flatly is c′ | stop g ↦ flatly is (held t d) ]) .room)
-          × (_≡_ {A = List ℕ} (a .ground ∷ itemGrounds x (a .counts) (a .room) is) (groundOf s ∷ answersTo (x .plan) (x .parts) t keep m ss is (after s (held t d))))
+          → (itemsAll x (a .counters) (a .room) is .counters ≡ orderedAll x counters room (elim s [ done c′ ↦ callsIn i ++ flatly is c′ | stop g ↦ flatly is (held t d) ]) .counters)
+          × (itemsAll x (a .counters) (a .room) is .room ≡ orderedAll x counters room (elim s [ done c′ ↦ callsIn i ++ flatly is c′ | stop g ↦ flatly is (held t d) ]) .room)
+          × (_≡_ {A = List ℕ} (a .ground ∷ itemGrounds x (a .counters) (a .room) is) (groundOf s ∷ answersTo (x .plan) (x .parts) t keep m ss is (after s (held t d))))
       go (done c′) e (accepts y g h) f =
-          let l = item-leaves counts room i h in
-          let ran = orders-run x t m ss join keep c0 μ0 (callsIn i) d counts room run .running in
+          let l = item-leaves counters room i h in
+          let ran = orders-run x t m ss join keep c0 μ0 (callsIn i) d counters room run .running in
           let heldIs : held t (answersIn (x .plan) (x .parts) t m ss (callsIn i) d) ≡ c′ =
-          booked x t m ss join keep c0 μ0 (callsIn i) d counts room run .held-booked ∙ held-after (x .plan) (x .parts) t keep m ss i (held t d) c′ e in
-          let r = subst (λ c. RanItems is c (orderedAll x counts room (callsIn i) .counts) (orderedAll x counts room (callsIn i) .room)) heldIs
-          (f (answersIn (x .plan) (x .parts) t m ss (callsIn i) d) (orderedAll x counts room (callsIn i) .counts) (orderedAll x counts room (callsIn i) .room) ran) in (
-            ap₂ (λ c r. itemsAll x c r is .counts) (l .0) (l .1) ∙ r .same-counts ∙ ap (λ z. z .counts) (sym (ordered-behind x (callsIn i) (flatly is c′) counts room)),
-            ap₂ (λ c r. itemsAll x c r is .room) (l .0) (l .1) ∙ r .same-room ∙ ap (λ z. z .room) (sym (ordered-behind x (callsIn i) (flatly is c′) counts room)),
+          booked x t m ss join keep c0 μ0 (callsIn i) d counters room run .held-booked ∙ held-after (x .plan) (x .parts) t keep m ss i (held t d) c′ e in
+          let r = subst (λ c. RanItems is c (orderedAll x counters room (callsIn i) .counters) (orderedAll x counters room (callsIn i) .room)) heldIs
+          (f (answersIn (x .plan) (x .parts) t m ss (callsIn i) d) (orderedAll x counters room (callsIn i) .counters) (orderedAll x counters room (callsIn i) .room) ran) in (
+            ap₂ (λ c r. itemsAll x c r is .counters) (l .0) (l .1) ∙ r .same-counters ∙ ap (λ z. z .counters) (sym (ordered-behind x (callsIn i) (flatly is c′) counters room)),
+            ap₂ (λ c r. itemsAll x c r is .room) (l .0) (l .1) ∙ r .same-room ∙ ap (λ z. z .room) (sym (ordered-behind x (callsIn i) (flatly is c′) counters room)),
             ap₂ _∷_ h (ap₂ (λ c r. itemGrounds x c r is) (l .0) (l .1) ∙ r .same-answers),
           )
       go (stop g′) e (refuses y g q h) f =
-          let l = item-keeps counts room i (λ z. omega (arith, z, q, h)) in
-          let r = f d counts room run in (
-            ap₂ (λ c r. itemsAll x c r is .counts) (l .0) (l .1) ∙ r .same-counts,
+          let l = item-keeps counters room i (λ z. omega (arith, z, q, h)) in
+          let r = f d counters room run in (
+            ap₂ (λ c r. itemsAll x c r is .counters) (l .0) (l .1) ∙ r .same-counters,
             ap₂ (λ c r. itemsAll x c r is .room) (l .0) (l .1) ∙ r .same-room,
             ap₂ _∷_ h (ap₂ (λ c r. itemGrounds x c r is) (l .0) (l .1) ∙ r .same-answers),
           )

@@ -73,29 +73,29 @@ module _ (l : Lending) (b : Bytes l) (accepted : openingOf l .ground ≡ 0) (is 
   abbrev first : Destination (typeIn l)
   first = start (l .gaps) (typeIn l) (l .keep) (sourcesIn l) (columnsIn l)
 
-  ran : RanItems (lentOf l) (typeIn l) (sourcesIn l) (columnsIn l) (opens .join) (keepsIn l) (openingOf l .counts) (opens .memory) is (startCounts (l .gaps) (typeIn l)) (openingOf l .counts) (openingOf l .room)
+  ran : RanItems (lentOf l) (typeIn l) (sourcesIn l) (columnsIn l) (opens .join) (keepsIn l) (openingOf l .counters) (opens .memory) is (startCounts (l .gaps) (typeIn l)) (openingOf l .counters) (openingOf l .room)
   ran =
-      subst (λ c. RanItems (lentOf l) (typeIn l) (sourcesIn l) (columnsIn l) (opens .join) (keepsIn l) (openingOf l .counts) (opens .memory) is c (openingOf l .counts) (openingOf l .room))
+      subst (λ c. RanItems (lentOf l) (typeIn l) (sourcesIn l) (columnsIn l) (opens .join) (keepsIn l) (openingOf l .counters) (opens .memory) is c (openingOf l .counters) (openingOf l .room))
       (held-start (l .gaps) (typeIn l) (keepsIn l) (sourcesIn l) (λ j. columnsIn l j .body))
-      (items-run (lentOf l) (typeIn l) (sourcesIn l) (columnsIn l) (opens .join) (keepsIn l) (openingOf l .counts) (opens .memory) is first (openingOf l .counts) (openingOf l .room) (opens .running))
+      (items-run (lentOf l) (typeIn l) (sourcesIn l) (columnsIn l) (opens .join) (keepsIn l) (openingOf l .counters) (opens .memory) is first (openingOf l .counters) (openingOf l .room) (opens .running))
 
   -- THE COUNTERS AND THE ROOM are those of the orders that are carried out, each given singly: "an accepted list counts as its single orders"
-  pub items-counts : afterItems l is .counts ≡ afterCalls l (callsCarried l is) .counts
-  items-counts = ran .same-counts
+  pub items-counters : afterItems l is .counters ≡ afterCalls l (callsCarried l is) .counters
+  items-counters = ran .same-counters
 
   pub items-room : afterItems l is .room ≡ afterCalls l (callsCarried l is) .room
   items-room = ran .same-room
 
   -- what holds of these orders holds of the items
-  moved : (P : List ℕ → List ℕ → Type 0) → P (afterCalls l (callsCarried l is) .counts) (afterCalls l (callsCarried l is) .room) → P (afterItems l is .counts) (afterItems l is .room)
-  moved P h = subst (λ c. P c (afterItems l is .room)) (sym items-counts) (subst (P (afterCalls l (callsCarried l is) .counts)) (sym items-room) h)
+  moved : (P : List ℕ → List ℕ → Type 0) → P (afterCalls l (callsCarried l is) .counters) (afterCalls l (callsCarried l is) .room) → P (afterItems l is .counters) (afterItems l is .room)
+  moved P h = subst (λ c. P c (afterItems l is .room)) (sym items-counters) (subst (P (afterCalls l (callsCarried l is) .counters)) (sym items-room) h)
 
   -- ---- demand 1: the answers
 
   abbrev Holding : Destination (typeIn l) → List ℕ → List ℕ → Type 0
-  Holding = Running (lentOf l) (typeIn l) (sourcesIn l) (columnsIn l) (opens .join) (keepsIn l) (openingOf l .counts) (opens .memory)
+  Holding = Running (lentOf l) (typeIn l) (sourcesIn l) (columnsIn l) (opens .join) (keepsIn l) (openingOf l .counters) (opens .memory)
 
-  running : Holding (reachedBy l (callsCarried l is)) (afterItems l is .counts) (afterItems l is .room)
+  running : Holding (reachedBy l (callsCarried l is)) (afterItems l is .counters) (afterItems l is .room)
   running = moved (Holding (reachedBy l (callsCarried l is))) (orders-after (l .formats) (l .schema) (l .sources) (l .tables) (l .keep) (l .gaps) (l .parts) (openingOf l) opens (callsCarried l is) .running)
 
   items-held : held (typeIn l) (reachedBy l (callsCarried l is)) ≡ heldItems l is
@@ -104,15 +104,15 @@ module _ (l : Lending) (b : Bytes l) (accepted : openingOf l .ground ≡ 0) (is 
   -- THE ANSWER TO ONE MORE ITEM is 0 where no ground stands, else the number that the first failing order would get, by lengths and limits alone
   pub item-answered : (i : Item) → nextItem l is i .ground ≡ groundOf (answerItem l is i)
   item-answered i =
-      said-ground (lentOf l) (typeIn l) (sourcesIn l) (columnsIn l) (opens .join) (keepsIn l) (openingOf l .counts) (opens .memory)
-      (item-said (lentOf l) (typeIn l) (sourcesIn l) (columnsIn l) (opens .join) (keepsIn l) (openingOf l .counts) (opens .memory) (reachedBy l (callsCarried l is)) (afterItems l is .counts) (afterItems l is .room) running i)
+      said-ground (lentOf l) (typeIn l) (sourcesIn l) (columnsIn l) (opens .join) (keepsIn l) (openingOf l .counters) (opens .memory)
+      (item-said (lentOf l) (typeIn l) (sourcesIn l) (columnsIn l) (opens .join) (keepsIn l) (openingOf l .counters) (opens .memory) (reachedBy l (callsCarried l is)) (afterItems l is .counters) (afterItems l is .room) running i)
       ∙ ap (λ c. groundOf (itemAnswer (lentOf l .plan) (l .parts) (typeIn l) (keepsIn l) (sourcesIn l) (columnsIn l) i c)) items-held
 
   -- .. AND THE PLACE of that order
   pub trip-placed : (os : List Call) → nextPlace l is os ≡ placeItem l is os
   trip-placed os =
-      comes-place (lentOf l) (typeIn l) (sourcesIn l) (columnsIn l) (opens .join) (keepsIn l) (openingOf l .counts) (opens .memory)
-      (trip-comes (lentOf l) (typeIn l) (sourcesIn l) (columnsIn l) (opens .join) (keepsIn l) (openingOf l .counts) (opens .memory) (reachedBy l (callsCarried l is)) (afterItems l is .counts) (afterItems l is .room) running os)
+      comes-place (lentOf l) (typeIn l) (sourcesIn l) (columnsIn l) (opens .join) (keepsIn l) (openingOf l .counters) (opens .memory)
+      (trip-comes (lentOf l) (typeIn l) (sourcesIn l) (columnsIn l) (opens .join) (keepsIn l) (openingOf l .counters) (opens .memory) (reachedBy l (callsCarried l is)) (afterItems l is .counters) (afterItems l is .room) running os)
       ∙ ap (tripPlace (lentOf l .plan) (l .parts) (typeIn l) (keepsIn l) (sourcesIn l) (columnsIn l) os) items-held
 
   -- THE TESTS FOR FOREIGN MEMORY NEVER FIRE: the answer to a trip is 0 to 7, 13, or 9 where it is too long
@@ -138,7 +138,7 @@ module _ (l : Lending) (b : Bytes l) (accepted : openingOf l .ground ≡ 0) (is 
         (bytes-at l b accepted (callsCarried l is) base z before)
 
     -- THE NULL COUNTS of every node are those of its finished bits
-    pub items-nulls : shown.Counts (treeIn l) (nullTable (lentOf l) (l .tables .buffers) (afterItems l is .counts) (afterItems l is .room) base) (typeIn l) 0 (intoBuilder (typeIn l) (sourcesIn l) (columnsIn l) (reachedBy l (callsCarried l is)))
+    pub items-nulls : shown.Counts (treeIn l) (nullTable (lentOf l) (l .tables .buffers) (afterItems l is .counters) (afterItems l is .room) base) (typeIn l) 0 (intoBuilder (typeIn l) (sourcesIn l) (columnsIn l) (reachedBy l (callsCarried l is)))
     items-nulls =
         moved (λ c r. shown.Counts (treeIn l) (nullTable (lentOf l) (l .tables .buffers) c r base) (typeIn l) 0 (intoBuilder (typeIn l) (sourcesIn l) (columnsIn l) (reachedBy l (callsCarried l is))))
         (nulls-at l b accepted (callsCarried l is) base z before)
@@ -148,23 +148,23 @@ module _ (l : Lending) (b : Bytes l) (accepted : openingOf l .ground ≡ 0) (is 
     items-again = moved (λ c r. T (lawful (treeIn l) (shown.finishedTables (lentOf l) (l .tables .buffers) c r base z) (typeIn l))) (again-at l b accepted (callsCarried l is) base z before)
 
   -- THE RUNNING NULL COUNT is that of the orders that are carried out
-  pub items-running-nulls : walk.nulls (afterItems l is .counts) 0 ≡ countedIf (keepsIn l) (nullsItems l is)
+  pub items-running-nulls : walk.nulls (afterItems l is .counters) 0 ≡ countedIf (keepsIn l) (nullsItems l is)
   items-running-nulls =
-      ap (λ c. walk.nulls c 0) items-counts
+      ap (λ c. walk.nulls c 0) items-counters
       ∙ nulls-by-lengths l b accepted (callsCarried l is)
       ∙ ap (countedIf (keepsIn l)) (sym (items-flat (lentOf l .plan) (l .parts) (typeIn l) (keepsIn l) (sourcesIn l) (columnsIn l) is (startCounts (l .gaps) (typeIn l)) .flat-nulls))
 
   -- FINISHING IS NEVER REFUSED where the tables are of the finished array's lengths and the room begins within a body's ceiling
   pub items-finishing : (base : ℕ) (lengths nulls places names : List ℕ) → base ≤ ceiling
       → length lengths ≡ 2 * nodesOf (lentOf l .plan) → length nulls ≡ nodesOf (lentOf l .plan) → length places ≡ 9 * nodesOf (lentOf l .plan)
-      → length names ≡ 2 * buffersBefore (lentOf l) (l .tables .buffers) (afterItems l is .counts) (afterItems l is .room) base (nodesOf (lentOf l .plan))
+      → length names ≡ 2 * buffersBefore (lentOf l) (l .tables .buffers) (afterItems l is .counters) (afterItems l is .room) base (nodesOf (lentOf l .plan))
       → finishingItems l is base lengths nulls places names
       ≡ record {
         ground = 0;
-        lengths = lengthTable (lentOf l) (l .tables .buffers) (afterItems l is .counts) (afterItems l is .room) base;
-        nulls = nullTable (lentOf l) (l .tables .buffers) (afterItems l is .counts) (afterItems l is .room) base;
-        places = placeTable (lentOf l) (l .tables .buffers) (afterItems l is .counts) (afterItems l is .room) base;
-        buffers = bufferTable (lentOf l) (l .tables .buffers) (afterItems l is .counts) (afterItems l is .room) base;
+        lengths = lengthTable (lentOf l) (l .tables .buffers) (afterItems l is .counters) (afterItems l is .room) base;
+        nulls = nullTable (lentOf l) (l .tables .buffers) (afterItems l is .counters) (afterItems l is .room) base;
+        places = placeTable (lentOf l) (l .tables .buffers) (afterItems l is .counters) (afterItems l is .room) base;
+        buffers = bufferTable (lentOf l) (l .tables .buffers) (afterItems l is .counters) (afterItems l is .room) base;
       }
   items-finishing base lengths nulls places names =
       moved
@@ -203,8 +203,8 @@ module _ (l : Lending) (b : Bytes l) (accepted : openingOf l .ground ≡ 0) (is 
   items-length = sym (length-seg (read (typeIn l) (finishedItems l is)) 0 (finishedItems l is .len)) ∙ ap length items-book
 
   -- and so has the destination, after every item
-  pub items-destination : walk.rows (afterItems l is .counts) 0 ≡ length (bookItems l is)
-  items-destination = ap (λ c. walk.rows c 0) items-counts ∙ destination-length l b accepted (callsCarried l is) ∙ ap length (book-is l b accepted (callsCarried l is) ∙ same-book)
+  pub items-destination : walk.rows (afterItems l is .counters) 0 ≡ length (bookItems l is)
+  items-destination = ap (λ c. walk.rows c 0) items-counters ∙ destination-length l b accepted (callsCarried l is) ∙ ap length (book-is l b accepted (callsCarried l is) ∙ same-book)
 
   -- its row i reads as entry i
   pub items-row : (i : ℕ) → i < finishedItems l is .len → read (typeIn l) (finishedItems l is) i ≡ getD (bookItems l is) i null

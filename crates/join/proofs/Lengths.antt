@@ -57,7 +57,7 @@ module _ (l : Lending) (b : Bytes l) (accepted : openingOf l .ground ≡ 0) wher
   opens = runs l b accepted
 
   abbrev Runs : Destination (typeIn l) → List ℕ → List ℕ → Type 0
-  Runs = Running (lentOf l) (typeIn l) (sourcesIn l) (columnsIn l) (opens .join) (keepsIn l) (openingOf l .counts) (opens .memory)
+  Runs = Running (lentOf l) (typeIn l) (sourcesIn l) (columnsIn l) (opens .join) (keepsIn l) (openingOf l .counters) (opens .memory)
 
   abbrev Room : List Call → Counts → List Call
   Room = acceptedRoom (lentOf l .plan) (l .parts) (typeIn l) (keepsIn l) (sourcesIn l) (columnsIn l)
@@ -65,40 +65,40 @@ module _ (l : Lending) (b : Bytes l) (accepted : openingOf l .ground ≡ 0) wher
   starts : held (typeIn l) (first l) ≡ startCounts (l .gaps) (typeIn l)
   starts = held-start (l .gaps) (typeIn l) (keepsIn l) (sourcesIn l) (λ j. columnsIn l j .body)
 
-  carried-from : (os : List Call) (d : Destination (typeIn l)) (counts room : List ℕ) → Runs d counts room → carriedFrom l os d ≡ Room os (held (typeIn l) d)
-  carried-from [] d counts room run = refl
-  carried-from (o ∷ os) d counts room run =
-      go (order-step (lentOf l) (typeIn l) (sourcesIn l) (columnsIn l) (opens .join) (keepsIn l) (openingOf l .counts) (opens .memory) o d counts room run)
-      (answer-is (lentOf l) (typeIn l) (sourcesIn l) (columnsIn l) (opens .join) (keepsIn l) (openingOf l .counts) (opens .memory) d counts room run o) (carried-from os)
+  carried-from : (os : List Call) (d : Destination (typeIn l)) (counters room : List ℕ) → Runs d counters room → carriedFrom l os d ≡ Room os (held (typeIn l) d)
+  carried-from [] d counters room run = refl
+  carried-from (o ∷ os) d counters room run =
+      go (order-step (lentOf l) (typeIn l) (sourcesIn l) (columnsIn l) (opens .join) (keepsIn l) (openingOf l .counters) (opens .memory) o d counters room run)
+      (answer-is (lentOf l) (typeIn l) (sourcesIn l) (columnsIn l) (opens .join) (keepsIn l) (openingOf l .counters) (opens .memory) d counters room run o) (carried-from os)
     where
       go : {p : Try (Destination (typeIn l))} {s : Try Counts} {a : After}
-          → Answers (lentOf l) (typeIn l) (sourcesIn l) (columnsIn l) (opens .join) (keepsIn l) (openingOf l .counts) (opens .memory) o d counts room p a → mapTry (held (typeIn l)) p ≡ s
+          → Answers (lentOf l) (typeIn l) (sourcesIn l) (columnsIn l) (opens .join) (keepsIn l) (openingOf l .counters) (opens .memory) o d counters room p a → mapTry (held (typeIn l)) p ≡ s
           → ((e : Destination (typeIn l)) (c r : List ℕ) → Runs e c r → carriedFrom l os e ≡ Room os (held (typeIn l) e))
           → _≡_ {A = List Call} (elim p [ done e ↦ o ∷ carriedFrom l os e | stop g ↦ carriedFrom l os d ])
           (elim s [ done v ↦ o ∷ Room os v | stop g ↦ Room os (held (typeIn l) d) ])
       go (made e a z r did) q f =
           subst (λ (s : Try Counts). _≡_ {A = List Call} (o ∷ carriedFrom l os e) (elim s [ done v ↦ o ∷ Room os v | stop g ↦ Room os (held (typeIn l) d) ])) q
-          (ap (o ∷_) (f e (a .counts) (a .room) r))
+          (ap (o ∷_) (f e (a .counters) (a .room) r))
       go (not-made g a z p c s) q f =
-          subst (λ (s : Try Counts). _≡_ {A = List Call} (carriedFrom l os d) (elim s [ done v ↦ o ∷ Room os v | stop g ↦ Room os (held (typeIn l) d) ])) q (f d counts room run)
+          subst (λ (s : Try Counts). _≡_ {A = List Call} (carriedFrom l os d) (elim s [ done v ↦ o ∷ Room os v | stop g ↦ Room os (held (typeIn l) d) ])) q (f d counters room run)
 
   module _ (os : List Call) where
     -- what the model holds, counted
     pub held-is : held (typeIn l) (reachedBy l os) ≡ heldAfter l os
     held-is =
-        booked (lentOf l) (typeIn l) (sourcesIn l) (columnsIn l) (opens .join) (keepsIn l) (openingOf l .counts) (opens .memory) os (first l) (openingOf l .counts) (openingOf l .room) (opens .running) .held-booked
+        booked (lentOf l) (typeIn l) (sourcesIn l) (columnsIn l) (opens .join) (keepsIn l) (openingOf l .counters) (opens .memory) os (first l) (openingOf l .counters) (openingOf l .room) (opens .running) .held-booked
         ∙ ap (countsAfter (lentOf l .plan) (l .parts) (typeIn l) (keepsIn l) (sourcesIn l) (columnsIn l) os) starts
 
     -- THE ANSWER TO ONE MORE CALL
     pub call-by-lengths : (o : Call) → nextCall l os o .ground ≡ groundOf (callAnswer l os o)
     call-by-lengths o =
-        ground-is (lentOf l) (typeIn l) (sourcesIn l) (columnsIn l) (opens .join) (keepsIn l) (openingOf l .counts) (opens .memory) (reachedBy l os) (afterCalls l os .counts) (afterCalls l os .room)
+        ground-is (lentOf l) (typeIn l) (sourcesIn l) (columnsIn l) (opens .join) (keepsIn l) (openingOf l .counters) (opens .memory) (reachedBy l os) (afterCalls l os .counters) (afterCalls l os .room)
         (orders-after (l .formats) (l .schema) (l .sources) (l .tables) (l .keep) (l .gaps) (l .parts) (openingOf l) opens os .running) o
         ∙ ap (λ c. groundOf (answerRoom (lentOf l .plan) (l .parts) (typeIn l) (keepsIn l) (sourcesIn l) (columnsIn l) o c)) held-is
 
     -- THE CALLS THAT ARE CARRIED OUT
     pub accepted-is : carriedOut l os ≡ acceptedOf l os
-    accepted-is = carried-from os (first l) (openingOf l .counts) (openingOf l .room) (opens .running) ∙ ap (Room os) starts
+    accepted-is = carried-from os (first l) (openingOf l .counters) (openingOf l .room) (opens .running) ∙ ap (Room os) starts
 
     -- THE BOOK
     pub book-is : book l os ≡ bookOf l os
@@ -109,13 +109,13 @@ module _ (l : Lending) (b : Bytes l) (accepted : openingOf l .ground ≡ 0) wher
     -- .. by the model, call by call
     pub in-book : bookIn (lentOf l .plan) (l .parts) (typeIn l) (sourcesIn l) (columnsIn l) (keepsIn l) os (first l) ≡ bookOf l os
     in-book =
-        booked (lentOf l) (typeIn l) (sourcesIn l) (columnsIn l) (opens .join) (keepsIn l) (openingOf l .counts) (opens .memory) os (first l) (openingOf l .counts) (openingOf l .room) (opens .running) .rows-booked
+        booked (lentOf l) (typeIn l) (sourcesIn l) (columnsIn l) (opens .join) (keepsIn l) (openingOf l .counters) (opens .memory) os (first l) (openingOf l .counters) (openingOf l .room) (opens .running) .rows-booked
         ∙ ap (bookRoom (lentOf l .plan) (l .parts) (typeIn l) (keepsIn l) (sourcesIn l) (columnsIn l) os) starts
 
     -- .. and by the answers which the entry points gave
     pub book-answered : bookAnswered l os (groundsIn l os) ≡ bookOf l os
     book-answered =
-        booked-by (lentOf l) (typeIn l) (sourcesIn l) (columnsIn l) (opens .join) (keepsIn l) (openingOf l .counts) (opens .memory) os (first l) (openingOf l .counts) (openingOf l .room) (opens .running)
+        booked-by (lentOf l) (typeIn l) (sourcesIn l) (columnsIn l) (opens .join) (keepsIn l) (openingOf l .counters) (opens .memory) os (first l) (openingOf l .counters) (openingOf l .room) (opens .running)
         ∙ in-book
 
     -- THE NULLS that the calls count, and the running null count by them
@@ -124,9 +124,9 @@ module _ (l : Lending) (b : Bytes l) (accepted : openingOf l .ground ≡ 0) wher
         ap (foldr (λ o n. nullsEntered (typeIn l) (keepsIn l) (sourcesIn l) (columnsIn l) o + n) 0) accepted-is
         ∙ nulls-accepted (lentOf l .plan) (l .parts) (typeIn l) (keepsIn l) (sourcesIn l) (columnsIn l) os (startCounts (l .gaps) (typeIn l))
 
-    pub nulls-by-lengths : walk.nulls (afterCalls l os .counts) 0 ≡ countedIf (keepsIn l) (nullsOf l os)
+    pub nulls-by-lengths : walk.nulls (afterCalls l os .counters) 0 ≡ countedIf (keepsIn l) (nullsOf l os)
     nulls-by-lengths =
         orders-after (l .formats) (l .schema) (l .sources) (l .tables) (l .keep) (l .gaps) (l .parts) (openingOf l) opens os .running .holds .nulls-are
-        ∙ booked (lentOf l) (typeIn l) (sourcesIn l) (columnsIn l) (opens .join) (keepsIn l) (openingOf l .counts) (opens .memory) os (first l) (openingOf l .counts) (openingOf l .room) (opens .running) .nulls-booked
+        ∙ booked (lentOf l) (typeIn l) (sourcesIn l) (columnsIn l) (opens .join) (keepsIn l) (openingOf l .counters) (opens .memory) os (first l) (openingOf l .counters) (openingOf l .room) (opens .running) .nulls-booked
         ∙ zero-add _
         ∙ ap (λ c. countedIf (keepsIn l) (nullsRoom (lentOf l .plan) (l .parts) (typeIn l) (keepsIn l) (sourcesIn l) (columnsIn l) os c)) starts

@@ -29,7 +29,7 @@ module _ (l : Lending) (b : Bytes l) (accepted : openingOf l .ground ≡ 0) (os 
     bytes-at = join-shows (l .formats) (l .schema) (l .sources) (l .tables) (l .keep) (l .gaps) (l .parts) (openingOf l) opens os base z laid
 
     -- THE NULL COUNTS of every node are those of its finished bits
-    pub nulls-at : Counts (treeIn l) (nullTable (lentOf l) (l .tables .buffers) (afterCalls l os .counts) (afterCalls l os .room) base) (typeIn l) 0
+    pub nulls-at : Counts (treeIn l) (nullTable (lentOf l) (l .tables .buffers) (afterCalls l os .counters) (afterCalls l os .room) base) (typeIn l) 0
         (intoBuilder (typeIn l) (sourcesIn l) (columnsIn l) (reachedBy l os))
     nulls-at = join-nulls (l .formats) (l .schema) (l .sources) (l .tables) (l .keep) (l .gaps) (l .parts) (openingOf l) opens os base z laid
 
@@ -37,7 +37,7 @@ module _ (l : Lending) (b : Bytes l) (accepted : openingOf l .ground ≡ 0) (os 
   pub finished-bytes : Shows (treeIn l) (tablesOf l os) (typeIn l) 0 (intoBuilder (typeIn l) (sourcesIn l) (columnsIn l) (reachedBy l os))
   finished-bytes = bytes-at (length (l .tables .body)) _ (appended (lentOf l) (afterCalls l os .room))
 
-  pub finished-nulls : Counts (treeIn l) (nullTable (lentOf l) (l .tables .buffers) (afterCalls l os .counts) (afterCalls l os .room) (length (l .tables .body))) (typeIn l) 0
+  pub finished-nulls : Counts (treeIn l) (nullTable (lentOf l) (l .tables .buffers) (afterCalls l os .counters) (afterCalls l os .room) (length (l .tables .body))) (typeIn l) 0
       (intoBuilder (typeIn l) (sourcesIn l) (columnsIn l) (reachedBy l os))
   finished-nulls = nulls-at (length (l .tables .body)) _ (appended (lentOf l) (afterCalls l os .room))
 

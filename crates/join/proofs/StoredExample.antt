@@ -26,8 +26,8 @@ abbrev texts : List ℕ
 texts = 43 ∷ 117 ∷ 115 ∷ 58 ∷ 48 ∷ 122 ∷ 90 ∷ 102 ∷ []
 
 -- the node's length 1, offset 0, both times
-abbrev counts : List ℕ
-counts = 1 ∷ 0 ∷ 1 ∷ 0 ∷ []
+abbrev counters : List ℕ
+counters = 1 ∷ 0 ∷ 1 ∷ 0 ∷ []
 
 abbrev lending : List ℕ → List ℕ → List ℕ → Lending
 lending schema places body =
@@ -35,7 +35,7 @@ lending schema places body =
       formats = texts;
       schema = schema;
       sources = 0 ∷ 2 ∷ [];
-      tables = record { lengths = counts; places = places; buffers = []; body = body };
+      tables = record { lengths = counters; places = places; buffers = []; body = body };
       keep = false;
       gaps = false;
       parts = [];

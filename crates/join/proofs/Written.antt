@@ -21,7 +21,7 @@ use Rattle.join.proofs.Opens.{runs}
 
 module _ (l : Lending) (b : Bytes l) (accepted : openingOf l .ground ≡ 0) where
   -- THE OPENING: every byte that is in no part's used length is as lent
-  pub opening-adds : OnlyUsed (lentOf l .plan) (l .parts) (l .room) (openingOf l .counts) (openingOf l .room)
+  pub opening-adds : OnlyUsed (lentOf l .plan) (l .parts) (l .room) (openingOf l .counters) (openingOf l .room)
   opening-adds = opening-writes (l .formats) (l .schema) (l .sources) (l .tables) (l .keep) (l .gaps) (l .parts) (l .plan) (l .counters) (l .room) accepted (b .body-bytes) (b .room-bytes)
 
   -- the plan that every later call is lent passes its test
@@ -33,17 +33,17 @@ module _ (l : Lending) (b : Bytes l) (accepted : openingOf l .ground ≡ 0) wher
     abbrev opens : Opened (l .formats) (l .schema) (l .sources) (l .tables) (l .keep) (l .gaps) (l .parts) (openingOf l)
     opens = runs l b accepted
 
-    pub fine : Fine (afterCalls l os .counts)
+    pub fine : Fine (afterCalls l os .counters)
     fine =
-        fine-orders (lentOf l) sound os (openingOf l .counts) (openingOf l .room)
+        fine-orders (lentOf l) sound os (openingOf l .counters) (openingOf l .room)
         (opening-fine (l .formats) (l .schema) (l .sources) (l .tables) (l .keep) (l .gaps) (l .parts) (l .plan) (l .counters) (l .room) accepted)
 
     -- ONE MORE CALL, accepted: every byte that no part has gained is as it was, and so is every bit of the rows before
     pub call-adds : (o : Call) → nextCall l os o .ground ≡ 0
-        → OnlyAdds (lentOf l .plan) (l .parts) (afterCalls l os .counts) (afterCalls l os .room) (nextCall l os o .counts) (nextCall l os o .room)
+        → OnlyAdds (lentOf l .plan) (l .parts) (afterCalls l os .counters) (afterCalls l os .room) (nextCall l os o .counters) (nextCall l os o .room)
     call-adds o h =
         let r = orders-after (l .formats) (l .schema) (l .sources) (l .tables) (l .keep) (l .gaps) (l .parts) (openingOf l) opens os .running in
-        order-adds (lentOf l) (b .body-bytes) (afterCalls l os .counts) (afterCalls l os .room) (record { rows-top = fine .rows-top }) o h (r .lies .are-bytes) (r .placed .apart)
+        order-adds (lentOf l) (b .body-bytes) (afterCalls l os .counters) (afterCalls l os .room) (record { rows-top = fine .rows-top }) o h (r .lies .are-bytes) (r .placed .apart)
 
 -- ---- NOTHING IS LEFT OUT: an answer of 0 says that every write was made
 
@@ -52,10 +52,10 @@ pub opening-complete : (l : Lending) → Bytes l → openingOf l .ground ≡ 0 �
 opening-complete l b h = opening-made (l .formats) (l .schema) (l .sources) (l .tables) (l .keep) (l .gaps) (l .parts) (l .plan) (l .counters) (l .room) h (b .body-bytes)
 
 -- AN ORDER, whatever plan, parts, sources, counters and room it is lent: bodies are bytes and counters numbers of 64 bits
-module _ (x : Lent) (body : AllBelow 256 (x .body)) (counts room : List ℕ) (numbers : Counters counts) (o : Call) (answer : ordered x counts room o .ground ≡ 0) where
-  pub order-complete : AllMade (x .plan) (x .parts) (length room) (walkOf x counts o .log)
-  order-complete = order-made x body counts room numbers o answer
+module _ (x : Lent) (body : AllBelow 256 (x .body)) (counters room : List ℕ) (numbers : Counters counters) (o : Call) (answer : ordered x counters room o .ground ≡ 0) where
+  pub order-complete : AllMade (x .plan) (x .parts) (length room) (walkOf x counters o .log)
+  order-complete = order-made x body counters room numbers o answer
 
   -- .. into used parts alone
-  pub order-inside : AllBelow 256 room → OnlyUsed (x .plan) (x .parts) room (ordered x counts room o .counts) (ordered x counts room o .room)
-  order-inside = order-writes x body counts room numbers o answer
+  pub order-inside : AllBelow 256 room → OnlyUsed (x .plan) (x .parts) room (ordered x counters room o .counters) (ordered x counters room o .room)
+  order-inside = order-writes x body counters room numbers o answer

@@ -56,39 +56,39 @@ module _ (x : Lent) where
   -- first offsets change no counter
   record Still (c : List ℕ) (o : Out) : Type 0 where
     ans-is : o .ans ≡ 0
-    counts-are : o .counts ≡ c
+    counters-are : o .counters ≡ c
 
   still-next : (c : List ℕ) (o : Out) (k : List ℕ → Out) → Still c o → ((d : List ℕ) → Still d (k d)) → Still c (next o k)
   unfolding next
-  still-next c o k s h = rw (eq-eqb (o .ans) 0 (s .ans-is)) (record { ans-is = h (o .counts) .ans-is; counts-are = h (o .counts) .counts-are ∙ s .counts-are })
+  still-next c o k s h = rw (eq-eqb (o .ans) 0 (s .ans-is)) (record { ans-is = h (o .counters) .ans-is; counters-are = h (o .counters) .counters-are ∙ s .counters-are })
 
   still-offset : (i : ℕ) (c : List ℕ) → Still c (firstOffset x i c)
   unfolding firstOffset wrote done
   still-offset i c = go (hasOffsets (codeOf P i) && copied P i) _
     where
       go : (b : Bool) (e : Entry) → Still c (cond b (wrote e c) (done c))
-      go true e = record { ans-is = refl; counts-are = refl }
-      go false e = record { ans-is = refl; counts-are = refl }
+      go true e = record { ans-is = refl; counters-are = refl }
+      go false e = record { ans-is = refl; counters-are = refl }
 
   still-offsets : (n r : ℕ) (c : List ℕ) → Still c (each (firstOffset x) n r c)
   unfolding each done
-  still-offsets zero r c = record { ans-is = refl; counts-are = refl }
+  still-offsets zero r c = record { ans-is = refl; counters-are = refl }
   still-offsets (suc n) r c = still-next c (firstOffset x r c) (λ d. each (firstOffset x) n (suc r) d) (still-offset r c) (λ d. still-offsets n (suc r) d)
 
   still-done : (c : List ℕ) → Still c (done c)
   unfolding done
-  still-done c = record { ans-is = refl; counts-are = refl }
+  still-done c = record { ans-is = refl; counters-are = refl }
 
   -- what follows such a walk
-  both : (o : Out) (k : List ℕ → Out) → o .ans ≡ 0 → (next o k .ans ≡ k (o .counts) .ans) × (next o k .counts ≡ k (o .counts) .counts)
+  both : (o : Out) (k : List ℕ → Out) → o .ans ≡ 0 → (next o k .ans ≡ k (o .counters) .ans) × (next o k .counters ≡ k (o .counters) .counters)
   unfolding next
   both o k q = rw (eq-eqb (o .ans) 0 q) (refl, refl)
 
-  through : (c : List ℕ) (o : Out) (k : List ℕ → Out) → Still c o → next o k .ans ≡ 0 → (k c .ans ≡ 0) × (next o k .counts ≡ k c .counts)
+  through : (c : List ℕ) (o : Out) (k : List ℕ → Out) → Still c o → next o k .ans ≡ 0 → (k c .ans ≡ 0) × (next o k .counters ≡ k c .counters)
   through c o k s h =
       let n = both o k (s .ans-is) in
-      let e = s .counts-are in
-      (ap (λ d. k d .ans) (sym e) ∙ sym (n .0) ∙ h, n .1 ∙ ap (λ d. k d .counts) e)
+      let e = s .counters-are in
+      (ap (λ d. k d .ans) (sym e) ∙ sym (n .0) ∙ h, n .1 ∙ ap (λ d. k d .counters) e)
 
   -- dictionaries leave every gap of 0 as it is
   module _ (sound : planSound P ≡ true) (values : (i : ℕ) → i < nodesOf P → (dictionaryOf P i ≡ 0 → ⊥) → suc i < nodesOf P) where
@@ -110,7 +110,7 @@ module _ (x : Lent) where
         (λ c2. adds-need P true 0 0 _ 8 c2 _ (omega arith) (λ f. adds-done P true 0 0 c2))))
 
     -- from counters whose gaps are 0
-    opens-off : chosen P ≡ false → (c : List ℕ) → Fine c → Off P c → openWalk x c .ans ≡ 0 → Off P (openWalk x c .counts)
+    opens-off : chosen P ≡ false → (c : List ℕ) → Fine c → Off P c → openWalk x c .ans ≡ 0 → Off P (openWalk x c .counters)
     unfolding openWalk
     opens-off off c fine z h =
         let begins = subst (Still c) (sym (no-gaps off (nodesOf P) 0 c)) (still-done c) in
@@ -122,19 +122,19 @@ module _ (x : Lent) where
 -- ---- orders
 
 module _ (x : Lent) (sound : planSound (x .plan) ≡ true) where
-  order-off : (counts room : List ℕ) (o : Call) → Fine counts → Off (x .plan) counts → Off (x .plan) (ordered x counts room o .counts)
-  order-off counts room o f z = go (eqb (ordered x counts room o .ground) 0) refl
+  order-off : (counters room : List ℕ) (o : Call) → Fine counters → Off (x .plan) counters → Off (x .plan) (ordered x counters room o .counters)
+  order-off counters room o f z = go (eqb (ordered x counters room o .ground) 0) refl
     where
-      go : (b : Bool) → eqb (ordered x counts room o .ground) 0 ≡ b → Off (x .plan) (ordered x counts room o .counts)
+      go : (b : Bool) → eqb (ordered x counters room o .ground) 0 ≡ b → Off (x .plan) (ordered x counters room o .counters)
       go true e =
-          let s = accepted x counts room o (eqb-true _ _ e) in
-          subst (Off (x .plan)) (sym (s .counts-are)) (λ i q. walk-adds x sound counts o .added f (s .no-ground) .longer .gap-off refl i q (z i q))
-      go false e = subst (Off (x .plan)) (sym (order-keeps x counts room o (eqb-false _ _ e) .0)) z
+          let s = accepted x counters room o (eqb-true _ _ e) in
+          subst (Off (x .plan)) (sym (s .counters-are)) (λ i q. walk-adds x sound counters o .added f (s .no-ground) .longer .gap-off refl i q (z i q))
+      go false e = subst (Off (x .plan)) (sym (order-keeps x counters room o (eqb-false _ _ e) .0)) z
 
-  orders-off : (os : List Call) (counts room : List ℕ) → Fine counts → Off (x .plan) counts → Off (x .plan) (orderedAll x counts room os .counts)
+  orders-off : (os : List Call) (counters room : List ℕ) → Fine counters → Off (x .plan) counters → Off (x .plan) (orderedAll x counters room os .counters)
   unfolding orderedAll
-  orders-off [] counts room f z = z
-  orders-off (o ∷ os) counts room f z = orders-off os (ordered x counts room o .counts) (ordered x counts room o .room) (fine-order x sound counts room o f) (order-off counts room o f z)
+  orders-off [] counters room f z = z
+  orders-off (o ∷ os) counters room f z = orders-off os (ordered x counters room o .counters) (ordered x counters room o .room) (fine-order x sound counters room o f) (order-off counters room o f z)
 
 -- ---- a whole join
 
@@ -164,19 +164,19 @@ module _ (l : Lending) (b : Bytes l) (accepted-l : openingOf l .ground ≡ 0) (o
 
   abbrev Picks : Bool → Bool → Opening
   Picks a c =
-      cond a (cond c (record { ground = 0; plan = lentOf l .plan; counts = walk .counts; room = apply (lentOf l .plan) (l .parts) (walk .log) (l .room) }) (kept 13)) (kept (walk .ans))
+      cond a (cond c (record { ground = 0; plan = lentOf l .plan; counters = walk .counters; room = apply (lentOf l .plan) (l .parts) (walk .log) (l .room) }) (kept 13)) (kept (walk .ans))
 
-  made : made-of .ground ≡ 0 → (walk .ans ≡ 0) × (made-of .counts ≡ walk .counts)
+  made : made-of .ground ≡ 0 → (walk .ans ≡ 0) × (made-of .counters ≡ walk .counters)
   unfolding settled
-  made = go (eqb (walk .ans) 0) refl (partsHold (lentOf l .plan) (walk .counts) (l .parts))
+  made = go (eqb (walk .ans) 0) refl (partsHold (lentOf l .plan) (walk .counters) (l .parts))
     where
-      go : (a : Bool) → eqb (walk .ans) 0 ≡ a → (c : Bool) → Picks a c .ground ≡ 0 → (walk .ans ≡ 0) × (Picks a c .counts ≡ walk .counts)
+      go : (a : Bool) → eqb (walk .ans) 0 ≡ a → (c : Bool) → Picks a c .ground ≡ 0 → (walk .ans ≡ 0) × (Picks a c .counters ≡ walk .counters)
       go true e true h = (eqb-true _ _ e, refl)
       go true e false h = absurd (omega arith)
       go false e c h = absurd (eqb-false _ _ e h)
 
   -- the counters that the opening leaves are those of its walk
-  walked : (walk .ans ≡ 0) × (openingOf l .counts ≡ walk .counts)
+  walked : (walk .ans ≡ 0) × (openingOf l .counters ≡ walk .counters)
   unfolding opening
   walked = let p = passed in rw (le-leb _ _ (p .0), eq-eqb _ _ (p .1), p .2) (made (rw (le-leb _ _ (p .0), eq-eqb _ _ (p .1), p .2) at accepted-l))
 
@@ -187,19 +187,19 @@ module _ (l : Lending) (b : Bytes l) (accepted-l : openingOf l .ground ≡ 0) (o
 
   -- after any list of calls, refused ones included
   module _ (os : List Call) where
-    gaps-off : Off (lentOf l .plan) (afterCalls l os .counts)
+    gaps-off : Off (lentOf l .plan) (afterCalls l os .counters)
     gaps-off =
-        orders-off (lentOf l) sound os (openingOf l .counts) (openingOf l .room)
+        orders-off (lentOf l) sound os (openingOf l .counters) (openingOf l .room)
         (opening-fine (l .formats) (l .schema) (l .sources) (l .tables) (l .keep) (l .gaps) (l .parts) (l .plan) (l .counters) (l .room) accepted-l)
         (subst (Off (lentOf l .plan)) (sym (walked .1)) (opens-off (lentOf l) sound values off-word (replicate 96 0) fine-zeros (λ i q. no-numbers 96 (3 * i + 2)) (walked .0)))
 
     -- NO RUN END IS WRITTEN OVER
-    pub no-last-end : (p h : ℕ) → LastEnd (lentOf l .plan) (l .parts) (afterCalls l os .counts) p h → ⊥
+    pub no-last-end : (p h : ℕ) → LastEnd (lentOf l .plan) (l .parts) (afterCalls l os .counters) p h → ⊥
     no-last-end p h e = e .chosen (gaps-off h (e .runs))
 
     -- ONE MORE CALL, accepted: every byte that no part has gained is as it was, and so is every bit of the rows before
     pub call-gains : (o : Call) → nextCall l os o .ground ≡ 0
-        → OnlyGains (lentOf l .plan) (l .parts) (afterCalls l os .counts) (afterCalls l os .room) (nextCall l os o .counts) (nextCall l os o .room)
+        → OnlyGains (lentOf l .plan) (l .parts) (afterCalls l os .counters) (afterCalls l os .room) (nextCall l os o .counters) (nextCall l os o .room)
     call-gains o h =
         let a = call-adds l b accepted-l os o h in
         record { same-length = a .same-length; other-bytes = λ p f. a .other-bytes p f (λ i u e. no-last-end p i e); earlier-bits = a .earlier-bits }

@@ -169,37 +169,37 @@ module _ (plan parts c d : List ℕ) (m : ℕ) (small : m < 2 ^ 63) (within : pa
 
 -- ---- an accepted order, over any plan, parts, sources, counters and room whatsoever that are apart
 
-module _ (x : Lent) (body : AllBelow 256 (x .body)) (counts room : List ℕ) (top : Counters counts) (bytes-room : AllBelow 256 room)
+module _ (x : Lent) (body : AllBelow 256 (x .body)) (counters room : List ℕ) (top : Counters counters) (bytes-room : AllBelow 256 room)
     (apart : (i b j k : ℕ) → Used (x .plan) i b → Used (x .plan) j k → (i ≡ j → b ≡ k → ⊥) → Apart (startOf (x .plan) (x .parts) i b) (sizeOf (x .plan) (x .parts) i b) (startOf (x .plan) (x .parts) j k) (sizeOf (x .plan) (x .parts) j k)) where
-  by-walk : (o : Call) → ordered x counts room o .ground ≡ 0 → (K : ℕ → Bool) → ((h : ℕ) → K h ≡ true → gap counts h ≡ 0 → ⊥) → AllAmended (λ h. K h ≡ true) (walkOf x counts o .log)
-      → OnlyAmends (λ h. K h ≡ true) (x .plan) (x .parts) counts room (ordered x counts room o .counts) (ordered x counts room o .room)
+  by-walk : (o : Call) → ordered x counters room o .ground ≡ 0 → (K : ℕ → Bool) → ((h : ℕ) → K h ≡ true → gap counters h ≡ 0 → ⊥) → AllAmended (λ h. K h ≡ true) (walkOf x counters o .log)
+      → OnlyAmends (λ h. K h ≡ true) (x .plan) (x .parts) counters room (ordered x counters room o .counters) (ordered x counters room o .room)
   by-walk o answer K some a =
-      let lent = walked x counts room o answer in
-      let made = accepted x counts room o answer in
-      let adds = walk-adds x (lent .sound) counts o .added (record { long = lent .long; rows-top = top .rows-top }) (made .no-ground) in
-      rw (made .counts-are, made .room-is)
-      (only-amends (x .plan) (x .parts) counts (walkOf x counts o .counts) (length room) (lent .small) (made .within) (made .holds) (lent .long) K some apart (adds .longer .rows-grow) (walkOf x counts o .log) room refl bytes-room
-      (walk-used x (lent .sound) body counts o) (adds .behind) a)
+      let lent = walked x counters room o answer in
+      let made = accepted x counters room o answer in
+      let adds = walk-adds x (lent .sound) counters o .added (record { long = lent .long; rows-top = top .rows-top }) (made .no-ground) in
+      rw (made .counters-are, made .room-is)
+      (only-amends (x .plan) (x .parts) counters (walkOf x counters o .counters) (length room) (lent .small) (made .within) (made .holds) (lent .long) K some apart (adds .longer .rows-grow) (walkOf x counters o .log) room refl bytes-room
+      (walk-used x (lent .sound) body counters o) (adds .behind) a)
 
-  copy-only : (s a e : ℕ) → ordered x counts room (copy s a e) .ground ≡ 0
-      → OnlyGains (x .plan) (x .parts) counts room (ordered x counts room (copy s a e) .counts) (ordered x counts room (copy s a e) .room)
+  copy-only : (s a e : ℕ) → ordered x counters room (copy s a e) .ground ≡ 0
+      → OnlyGains (x .plan) (x .parts) counters room (ordered x counters room (copy s a e) .counters) (ordered x counters room (copy s a e) .room)
   copy-only s a e answer =
       let w =
       by-walk (copy s a e) answer (λ h. false) (λ h k. absurd (false≢true k))
-      (amended-wide Nowhere (λ h. false ≡ true) (λ h k. absurd k) (walkOf x counts (copy s a e) .log) (plain-copy (joinOf x s) 8 0 a (e - a) counts .none-over)) in
+      (amended-wide Nowhere (λ h. false ≡ true) (λ h k. absurd k) (walkOf x counters (copy s a e) .log) (plain-copy (joinOf x s) 8 0 a (e - a) counters .none-over)) in
       record { same-length = w .same-length; other-bytes = λ p f. w .other-bytes p f (λ h k. absurd (false≢true k)); earlier-bits = w .earlier-bits }
 
-  nulls-only : (n : ℕ) → ordered x counts room (nulls n) .ground ≡ 0
-      → OnlyAmends (λ h. gap counts h ≡ 2) (x .plan) (x .parts) counts room (ordered x counts room (nulls n) .counts) (ordered x counts room (nulls n) .room)
+  nulls-only : (n : ℕ) → ordered x counters room (nulls n) .ground ≡ 0
+      → OnlyAmends (λ h. gap counters h ≡ 2) (x .plan) (x .parts) counters room (ordered x counters room (nulls n) .counters) (ordered x counters room (nulls n) .room)
   nulls-only n answer =
-      let sound = walked x counts room (nulls n) answer .sound in
-      let t = tight-walk (joinOf x 0) sound 8 0 (min n far) counts (root-reached (x .plan) sound .0) in
+      let sound = walked x counters room (nulls n) answer .sound in
+      let t = tight-walk (joinOf x 0) sound 8 0 (min n far) counters (root-reached (x .plan) sound .0) in
       let w =
-      by-walk (nulls n) answer (λ h. eqb (gap counts h) 2) (λ h k z. let y = eqb-true (gap counts h) 2 k in omega arith)
-      (amended-wide (At 0 (endOf (x .plan) 0) counts) (λ h. eqb (gap counts h) 2 ≡ true) (λ h k. eq-eqb (gap counts h) 2 (k .nulls-last)) (walkOf x counts (nulls n) .log) (t .over)) in
+      by-walk (nulls n) answer (λ h. eqb (gap counters h) 2) (λ h k z. let y = eqb-true (gap counters h) 2 k in omega arith)
+      (amended-wide (At 0 (endOf (x .plan) 0) counters) (λ h. eqb (gap counters h) 2 ≡ true) (λ h k. eq-eqb (gap counters h) 2 (k .nulls-last)) (walkOf x counters (nulls n) .log) (t .over)) in
       record {
         same-length = w .same-length;
-        other-bytes = λ p f k. w .other-bytes p f (λ h q. k h (eqb-true (gap counts h) 2 q));
+        other-bytes = λ p f k. w .other-bytes p f (λ h q. k h (eqb-true (gap counters h) 2 q));
         earlier-bits = w .earlier-bits;
       }
 
@@ -209,17 +209,17 @@ module _ (l : Lending) (b : Bytes l) (accepted-l : openingOf l .ground ≡ 0) (o
   abbrev opens : Opened (l .formats) (l .schema) (l .sources) (l .tables) (l .keep) (l .gaps) (l .parts) (openingOf l)
   opens = runs l b accepted-l
 
-  abbrev held : Running (lentOf l) (typeIn l) (sourcesIn l) (columnsIn l) (opens .join) (keepsIn l) (openingOf l .counts) (opens .memory) (reachedBy l os) (afterCalls l os .counts) (afterCalls l os .room)
+  abbrev held : Running (lentOf l) (typeIn l) (sourcesIn l) (columnsIn l) (opens .join) (keepsIn l) (openingOf l .counters) (opens .memory) (reachedBy l os) (afterCalls l os .counters) (afterCalls l os .room)
   held = orders-after (l .formats) (l .schema) (l .sources) (l .tables) (l .keep) (l .gaps) (l .parts) (openingOf l) opens os .running
 
   -- A COPY MORE, accepted, writes over no run end
   pub copy-gains : (j a e : ℕ) → nextCall l os (copy j a e) .ground ≡ 0
-      → OnlyGains (lentOf l .plan) (l .parts) (afterCalls l os .counts) (afterCalls l os .room) (nextCall l os (copy j a e) .counts) (nextCall l os (copy j a e) .room)
+      → OnlyGains (lentOf l .plan) (l .parts) (afterCalls l os .counters) (afterCalls l os .room) (nextCall l os (copy j a e) .counters) (nextCall l os (copy j a e) .room)
   copy-gains j a e h =
-      copy-only (lentOf l) (b .body-bytes) (afterCalls l os .counts) (afterCalls l os .room) (record { rows-top = fine l b accepted-l os .rows-top }) (held .lies .are-bytes) (held .placed .apart) j a e h
+      copy-only (lentOf l) (b .body-bytes) (afterCalls l os .counters) (afterCalls l os .room) (record { rows-top = fine l b accepted-l os .rows-top }) (held .lies .are-bytes) (held .placed .apart) j a e h
 
   -- A NULL ORDER MORE, accepted, writes over the last run end of run-end nodes whose gap is 2, and over nothing else
   pub nulls-amend : (n : ℕ) → nextCall l os (nulls n) .ground ≡ 0
-      → OnlyAmends (λ i. gap (afterCalls l os .counts) i ≡ 2) (lentOf l .plan) (l .parts) (afterCalls l os .counts) (afterCalls l os .room) (nextCall l os (nulls n) .counts) (nextCall l os (nulls n) .room)
+      → OnlyAmends (λ i. gap (afterCalls l os .counters) i ≡ 2) (lentOf l .plan) (l .parts) (afterCalls l os .counters) (afterCalls l os .room) (nextCall l os (nulls n) .counters) (nextCall l os (nulls n) .room)
   nulls-amend n h =
-      nulls-only (lentOf l) (b .body-bytes) (afterCalls l os .counts) (afterCalls l os .room) (record { rows-top = fine l b accepted-l os .rows-top }) (held .lies .are-bytes) (held .placed .apart) n h
+      nulls-only (lentOf l) (b .body-bytes) (afterCalls l os .counters) (afterCalls l os .room) (record { rows-top = fine l b accepted-l os .rows-top }) (held .lies .are-bytes) (held .placed .apart) n h

@@ -13,7 +13,7 @@ use Rattle.join.specs.Join.{Lending, lentOf, afterCalls}
 module _ (l : Lending) (os : List Call) where
   -- the bits of node i that are 0 among its rows
   abbrev pub zerosIn : ℕ → ℕ
-  zerosIn i = zerosAt (lentOf l) (l .tables .buffers) (afterCalls l os .counts) (afterCalls l os .room) 0 i
+  zerosIn i = zerosAt (lentOf l) (l .tables .buffers) (afterCalls l os .counters) (afterCalls l os .room) 0 i
 
   -- number j of the nine of node i: where its validity begins, if it is not dropped, its first buffer and its second
   abbrev pub inRoom : ℕ → ℕ → Bool

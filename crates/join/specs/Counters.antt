@@ -10,27 +10,27 @@ use Rattle.walk.specs.State.{rows, nulls, bytes, gap}
 use Rattle.refinement.specs.walk_is_model.Holds.{childOf}
 
 -- node i; `inner` is about its bytes and the nodes below it
-pub record CountedNode {D : Type 0} (counts : List ℕ) (i : ℕ) (inner : D → Type 0) (d : Mutable D) : Type 0 where
-  pub rows-are : rows counts i ≡ d .len
-  pub nulls-are : nulls counts i ≡ d .null_count
+pub record CountedNode {D : Type 0} (counters : List ℕ) (i : ℕ) (inner : D → Type 0) (d : Mutable D) : Type 0 where
+  pub rows-are : rows counters i ≡ d .len
+  pub nulls-are : nulls counters i ≡ d .null_count
   pub data-are : inner (d .«data»)
 
-module _ (plan counts : List ℕ) where
+module _ (plan counters : List ℕ) where
   abbrev pub CountedPlain : (p : Plain) → ℕ → Grown (tPlain p) → Type 0
   CountedPlain (fixed n) i d = Unit {0}
-  CountedPlain (string w) i d = bytes counts i ≡ length (d .chars)
+  CountedPlain (string w) i d = bytes counters i ≡ length (d .chars)
 
   abbrev pub CountedData : (t : Ty) → ℕ → Grown t → Type 0
   CountedData (tPlain p) i d = CountedPlain p i d
   CountedData tView i d = Unit {0}
-  CountedData (tListView w t) i d = CountedNode counts (suc i) (CountedData t (suc i)) (d .child)
-  CountedData (tList w t) i d = CountedNode counts (suc i) (CountedData t (suc i)) (d .child)
-  CountedData (tSparse ids nullable f) i d = (c : ℕ) → List·Memᴰ c ids → CountedNode counts (childOf plan i c) (CountedData (f c) (childOf plan i c)) (d .children c)
-  CountedData (tDense ids nullable f) i d = (c : ℕ) → List·Memᴰ c ids → CountedNode counts (childOf plan i c) (CountedData (f c) (childOf plan i c)) (d .children c)
+  CountedData (tListView w t) i d = CountedNode counters (suc i) (CountedData t (suc i)) (d .child)
+  CountedData (tList w t) i d = CountedNode counters (suc i) (CountedData t (suc i)) (d .child)
+  CountedData (tSparse ids nullable f) i d = (c : ℕ) → List·Memᴰ c ids → CountedNode counters (childOf plan i c) (CountedData (f c) (childOf plan i c)) (d .children c)
+  CountedData (tDense ids nullable f) i d = (c : ℕ) → List·Memᴰ c ids → CountedNode counters (childOf plan i c) (CountedData (f c) (childOf plan i c)) (d .children c)
   CountedData (tRunEnd w t) i d =
-      (rows counts (suc i) ≡ d .ends .len) × CountedNode counts (suc (suc i)) (CountedData t (suc (suc i))) (d .values) × (gap counts i ≡ d .gap)
+      (rows counters (suc i) ≡ d .ends .len) × CountedNode counters (suc (suc i)) (CountedData t (suc (suc i))) (d .values) × (gap counters i ≡ d .gap)
   CountedData (tDictionary n p) i d = Unit {0}
 
   -- THE COUNTERS ARE THE DESTINATION'S
   abbrev pub Counted : (t : Ty) → ℕ → Destination t → Type 0
-  Counted t i = CountedNode counts i (CountedData t i)
+  Counted t i = CountedNode counters i (CountedData t i)

@@ -35,17 +35,17 @@ callsIn (trip os) = os
 module _ (x : Lent) where
   abbrev pub itemOrder : List ℕ → List ℕ → Item → After
   itemOrder c r (one o) = ordered x c r o
-  itemOrder c r (trip os) = record { ground = tripOrder x c r os .ground; counts = tripOrder x c r os .counts; room = tripOrder x c r os .room }
+  itemOrder c r (trip os) = record { ground = tripOrder x c r os .ground; counters = tripOrder x c r os .counters; room = tripOrder x c r os .room }
 
   -- ANY LIST OF ITEMS, each getting counters and room as the last one left them
   unfoldable pub itemsAll : List ℕ → List ℕ → List Item → After
-  itemsAll c r [] = record { ground = 0; counts = c; room = r }
-  itemsAll c r (i ∷ is) = itemsAll (itemOrder c r i .counts) (itemOrder c r i .room) is
+  itemsAll c r [] = record { ground = 0; counters = c; room = r }
+  itemsAll c r (i ∷ is) = itemsAll (itemOrder c r i .counters) (itemOrder c r i .room) is
 
   -- one number for each
   unfoldable pub itemGrounds : List ℕ → List ℕ → List Item → List ℕ
   itemGrounds c r [] = []
-  itemGrounds c r (i ∷ is) = itemOrder c r i .ground ∷ itemGrounds (itemOrder c r i .counts) (itemOrder c r i .room) is
+  itemGrounds c r (i ∷ is) = itemOrder c r i .ground ∷ itemGrounds (itemOrder c r i .counters) (itemOrder c r i .room) is
 
 -- ---- by lengths alone
 
@@ -106,25 +106,25 @@ module _ (plan parts : List ℕ) (t : Ty) (keep : Bool) (m : ℕ) (ss : ℕ → 
 
 module _ (l : Lending) where
   abbrev pub afterItems : List Item → After
-  afterItems is = itemsAll (lentOf l) (openingOf l .counts) (openingOf l .room) is
+  afterItems is = itemsAll (lentOf l) (openingOf l .counters) (openingOf l .room) is
 
   -- one item more
   abbrev pub nextItem : List Item → Item → After
-  nextItem is i = itemOrder (lentOf l) (afterItems is .counts) (afterItems is .room) i
+  nextItem is i = itemOrder (lentOf l) (afterItems is .counters) (afterItems is .room) i
 
   -- the place of a trip that is refused
   abbrev pub nextPlace : List Item → List Call → ℕ
-  nextPlace is os = tripOrder (lentOf l) (afterItems is .counts) (afterItems is .room) os .place
+  nextPlace is os = tripOrder (lentOf l) (afterItems is .counters) (afterItems is .room) os .place
 
   abbrev pub groundsItems : List Item → List ℕ
-  groundsItems is = itemGrounds (lentOf l) (openingOf l .counts) (openingOf l .room) is
+  groundsItems is = itemGrounds (lentOf l) (openingOf l .counters) (openingOf l .room) is
 
   -- finishing, and its tables over any body z in which the room stands from `base` on
   abbrev pub finishingItems : List Item → ℕ → List ℕ → List ℕ → List ℕ → List ℕ → Finished
-  finishingItems is base lengths nulls places names = finishing (lentOf l) (l .tables .buffers) (afterItems is .counts) (afterItems is .room) base lengths nulls places names
+  finishingItems is base lengths nulls places names = finishing (lentOf l) (l .tables .buffers) (afterItems is .counters) (afterItems is .room) base lengths nulls places names
 
   abbrev pub tablesItems : List Item → ℕ → List ℕ → Tables
-  tablesItems is base z = finishedTables (lentOf l) (l .tables .buffers) (afterItems is .counts) (afterItems is .room) base z
+  tablesItems is base z = finishedTables (lentOf l) (l .tables .buffers) (afterItems is .counters) (afterItems is .room) base z
 
   -- THE FINISHED ARRAY, over the sources' body with the room behind it
   abbrev pub finishedItems : List Item → Column (typeIn l)

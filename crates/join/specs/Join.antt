@@ -76,23 +76,23 @@ module _ (l : Lending) where
 
   -- ANY LIST OF CALLS, from the counters and the room that the opening leaves
   abbrev pub afterCalls : List Call → After
-  afterCalls os = orderedAll lentOf (openingOf .counts) (openingOf .room) os
+  afterCalls os = orderedAll lentOf (openingOf .counters) (openingOf .room) os
 
   -- one call more
   abbrev pub nextCall : List Call → Call → After
-  nextCall os o = ordered lentOf (afterCalls os .counts) (afterCalls os .room) o
+  nextCall os o = ordered lentOf (afterCalls os .counters) (afterCalls os .room) o
 
   -- what each of the calls is answered
   abbrev pub groundsIn : List Call → List ℕ
-  groundsIn os = groundsOf lentOf (openingOf .counts) (openingOf .room) os
+  groundsIn os = groundsOf lentOf (openingOf .counters) (openingOf .room) os
 
   -- FINISHING, into tables that are lent; the room begins at `base` of the body that they are about
   abbrev pub finishingOf : List Call → ℕ → List ℕ → List ℕ → List ℕ → List ℕ → Finished
-  finishingOf os base lengths nulls places names = finishing lentOf (l .tables .buffers) (afterCalls os .counts) (afterCalls os .room) base lengths nulls places names
+  finishingOf os base lengths nulls places names = finishing lentOf (l .tables .buffers) (afterCalls os .counters) (afterCalls os .room) base lengths nulls places names
 
   -- its tables, over any body z in which the room stands from `base` on and the sources' body where it was (`Bodied`)
   abbrev pub tablesAt : List Call → ℕ → List ℕ → Tables
-  tablesAt os base z = finishedTables lentOf (l .tables .buffers) (afterCalls os .counts) (afterCalls os .room) base z
+  tablesAt os base z = finishedTables lentOf (l .tables .buffers) (afterCalls os .counters) (afterCalls os .room) base z
 
   abbrev pub finishedAt : List Call → ℕ → List ℕ → Column typeIn
   finishedAt os base z = columnOf treeIn (tablesAt os base z) typeIn 0

@@ -5,11 +5,11 @@ use Prim.Native.Nat.{ℕ, _+_, _*_}
 use Rattle.trip.specs.Trip.{AfterTrip, AskedTrip}
 
 -- the ground, and 256 times the place
-pub record Carries (a : AfterTrip) (r : ℕ) (counters bytes : List ℕ) : Type 0 where
+pub record Carries (a : AfterTrip) (r : ℕ) (tally bytes : List ℕ) : Type 0 where
   pub answer : r ≡ a .ground + 256 * a .place
-  pub counts : counters ≡ a .counts
+  pub counters : tally ≡ a .counters
   pub room : bytes ≡ a .room
 
-pub record Asks (a : AskedTrip) (r : ℕ) (counters : List ℕ) : Type 0 where
+pub record Asks (a : AskedTrip) (r : ℕ) (tally : List ℕ) : Type 0 where
   pub answer : r ≡ a .ground + 256 * a .place
-  pub counts : counters ≡ a .counts
+  pub counters : tally ≡ a .counters

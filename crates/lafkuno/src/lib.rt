@@ -213,7 +213,7 @@ pub extern "C" fn lafkuno_finish(
 // How many data buffers the finished array names: the table of them has two numbers for each.
 #[no_mangle]
 pub extern "C" fn lafkuno_buffer_total(plan: &[u64], sources: &[u32], places: &[u64]) -> u64
-    ensures { λ r. ⌜ ((parts lengths body buffers counts room : List ℕ) (base : ℕ) → r ≡ buffersBefore (lent (now (plan .entry)) parts (now (sources .entry)) lengths (now (places .entry)) body) buffers counts room base (nodesOf (now (plan .entry)))) ⌝ }
+    ensures { λ r. ⌜ ((parts lengths body buffers counters room : List ℕ) (base : ℕ) → r ≡ buffersBefore (lent (now (plan .entry)) parts (now (sources .entry)) lengths (now (places .entry)) body) buffers counters room base (nodesOf (now (plan .entry)))) ⌝ }
 {
     into_builder::buffer_total(plan, sources, places)
 }

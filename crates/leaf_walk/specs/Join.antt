@@ -4,5 +4,5 @@ use Prim.Native.Nat.{ℕ}
 use Rattle.walk.specs.State.{Join}
 
 abbrev pub join : List ℕ → List ℕ → List ℕ → List ℕ → List ℕ → ℕ → ℕ → Join
-join state parts lengths places body first source =
-    record { state = state; parts = parts; lengths = lengths; places = places; body = body; first = first; source = source }
+join plan parts lengths places body first source =
+    record { plan = plan; parts = parts; lengths = lengths; places = places; body = body; first = first; source = source }

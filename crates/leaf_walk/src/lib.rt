@@ -18,29 +18,29 @@ use walk::plan_words;
 // Whether the entries of w bytes of the slots slot .. slot + n - 1 stand in the body from `at` on.
 pub fn rows_in(body: &[u8], at: u64, w: u64, slot: u64, n: u64) -> bool
     requires { ⌜ (w ≤ 16) × (slot + n < 2 ^ 64) ⌝ }
-    ensures { λ r. ⌜ ((state parts lengths places : List ℕ) (first source : ℕ) → r ≡ rowsIn (join state parts lengths places (now (body .entry)) first source) at w slot n) ⌝ }
+    ensures { λ r. ⌜ ((plan parts lengths places : List ℕ) (first source : ℕ) → r ≡ rowsIn (join plan parts lengths places (now (body .entry)) first source) at w slot n) ⌝ }
 {
     lent_tables::rows_fit_behind(at, slot + n, w as u8, body.len() as u64)
 }
 
 // Whether a walk that only tries need not look at node i's bits: its null counter is full, and stays so.
-fn is_uncounted(counts: &[u64; plan_words::COUNTERS], write: bool, i: usize) -> bool
+fn is_uncounted(counters: &[u64; plan_words::COUNTERS], write: bool, i: usize) -> bool
     requires { ⌜ i < 32 ⌝ }
-    ensures { λ r. ⌜ r ≡ (not write && eqb (nulls (now (counts .entry)) i) top) ⌝ }
+    ensures { λ r. ⌜ r ≡ (not write && eqb (nulls (now (counters .entry)) i) top) ⌝ }
 {
     if write {
         return false;
     }
-    counts[3 * i + 1] == u64::MAX
+    counters[3 * i + 1] == u64::MAX
 }
 
 // The source's bits from `slot` on, with their zeros counted.
 fn copy_bits(
-    state: &[u64],
+    plan: &[u64],
     parts: &[u64],
     places: &[u64],
     body: &[u8],
-    counts: &mut [u64; plan_words::COUNTERS],
+    counters: &mut [u64; plan_words::COUNTERS],
     room: &mut [u8],
     write: bool,
     first: usize,
@@ -49,18 +49,18 @@ fn copy_bits(
     n: u64,
 ) -> u8
     requires { ⌜ (first < 2 ^ 32) × (i < 32) × (slot + n < 2 ^ 63) ⌝ }
-    ensures { λ r. ⌜ ((lengths : List ℕ) (source : ℕ) → Did (now (state .entry)) (now (parts .entry)) write (copyBits (join (now (state .entry)) (now (parts .entry)) lengths (now (places .entry)) (now (body .entry)) first source) i slot n (now (counts .entry))) (now (room .entry)) r (now (counts .exit)) (now (room .exit))) ⌝ }
+    ensures { λ r. ⌜ ((lengths : List ℕ) (source : ℕ) → Did (now (plan .entry)) (now (parts .entry)) write (copyBits (join (now (plan .entry)) (now (parts .entry)) lengths (now (places .entry)) (now (body .entry)) first source) i slot n (now (counters .entry))) (now (room .entry)) r (now (counters .exit)) (now (room .exit))) ⌝ }
 {
     let at = lent_tables::place(places, first + i, 1);
     if !lent_tables::bits_fit_behind(at, slot, n, body.len() as u64) {
         return 12;
     }
-    if is_uncounted(counts, write, i) {
+    if is_uncounted(counters, write, i) {
         return 0;
     }
-    let p = plan_words::rows_of(counts, i);
+    let p = plan_words::rows_of(counters, i);
     let zeros = room_writes::validity::put_mask(
-        state,
+        plan,
         parts,
         room,
         write,
@@ -71,17 +71,17 @@ fn copy_bits(
         slot,
         n,
     );
-    plan_words::add_nulls(counts, i, zeros);
+    plan_words::add_nulls(counters, i, zeros);
     0
 }
 
 // The validity of n rows: the source's, or ones where it has none.
 pub fn copy_mask(
-    state: &[u64],
+    plan: &[u64],
     parts: &[u64],
     places: &[u64],
     body: &[u8],
-    counts: &mut [u64; plan_words::COUNTERS],
+    counters: &mut [u64; plan_words::COUNTERS],
     room: &mut [u8],
     write: bool,
     first: usize,
@@ -90,22 +90,22 @@ pub fn copy_mask(
     n: u64,
 ) -> u8
     requires { ⌜ (first < 2 ^ 32) × (i < 32) × (slot + n < 2 ^ 63) ⌝ }
-    ensures { λ r. ⌜ ((lengths : List ℕ) (source : ℕ) → Did (now (state .entry)) (now (parts .entry)) write (copyMask (join (now (state .entry)) (now (parts .entry)) lengths (now (places .entry)) (now (body .entry)) first source) i slot n (now (counts .entry))) (now (room .entry)) r (now (counts .exit)) (now (room .exit))) ⌝ }
+    ensures { λ r. ⌜ ((lengths : List ℕ) (source : ℕ) → Did (now (plan .entry)) (now (parts .entry)) write (copyMask (join (now (plan .entry)) (now (parts .entry)) lengths (now (places .entry)) (now (body .entry)) first source) i slot n (now (counters .entry))) (now (room .entry)) r (now (counters .exit)) (now (room .exit))) ⌝ }
 {
-    if plan_words::keeps_of(state, i) == 0 {
+    if plan_words::keeps_of(plan, i) == 0 {
         return 0;
     }
     if lent_tables::place(places, first + i, 0) == 0 {
-        let p = plan_words::rows_of(counts, i);
-        room_writes::validity::put_ones(state, parts, room, write, i, p, n);
+        let p = plan_words::rows_of(counters, i);
+        room_writes::validity::put_ones(plan, parts, room, write, i, p, n);
         return 0;
     }
     copy_bits(
-        state,
+        plan,
         parts,
         places,
         body,
-        counts,
+        counters,
         room,
         write,
         first,
@@ -117,11 +117,11 @@ pub fn copy_mask(
 
 // Numbers of w bytes.
 pub fn copy_numbers(
-    state: &[u64],
+    plan: &[u64],
     parts: &[u64],
     places: &[u64],
     body: &[u8],
-    counts: &mut [u64; plan_words::COUNTERS],
+    counters: &mut [u64; plan_words::COUNTERS],
     room: &mut [u8],
     write: bool,
     first: usize,
@@ -131,16 +131,16 @@ pub fn copy_numbers(
     n: u64,
 ) -> u8
     requires { ⌜ (first < 2 ^ 32) × (i < 32) × (slot + n < 2 ^ 63) × (1 ≤ w) × (w ≤ 16) ⌝ }
-    ensures { λ r. ⌜ ((lengths : List ℕ) (source : ℕ) → Did (now (state .entry)) (now (parts .entry)) write (copyNumbers (join (now (state .entry)) (now (parts .entry)) lengths (now (places .entry)) (now (body .entry)) first source) i w slot n (now (counts .entry))) (now (room .entry)) r (now (counts .exit)) (now (room .exit))) ⌝ }
+    ensures { λ r. ⌜ ((lengths : List ℕ) (source : ℕ) → Did (now (plan .entry)) (now (parts .entry)) write (copyNumbers (join (now (plan .entry)) (now (parts .entry)) lengths (now (places .entry)) (now (body .entry)) first source) i w slot n (now (counters .entry))) (now (room .entry)) r (now (counters .exit)) (now (room .exit))) ⌝ }
 {
     let at = lent_tables::place(places, first + i, 3);
     if !rows_in(body, at, w, slot, n) {
         return 12;
     }
-    let o = plan_words::scale(plan_words::rows_of(counts, i), w);
+    let o = plan_words::scale(plan_words::rows_of(counters, i), w);
     let from = at + w * slot;
     room_writes::put_copy(
-        state,
+        plan,
         parts,
         room,
         write,
@@ -156,11 +156,11 @@ pub fn copy_numbers(
 
 // Keys of w bytes, each plus the source's base.
 pub fn copy_keys(
-    state: &[u64],
+    plan: &[u64],
     parts: &[u64],
     places: &[u64],
     body: &[u8],
-    counts: &mut [u64; plan_words::COUNTERS],
+    counters: &mut [u64; plan_words::COUNTERS],
     room: &mut [u8],
     write: bool,
     source: usize,
@@ -172,18 +172,18 @@ pub fn copy_keys(
 ) -> u8
     requires { ⌜ (first < 2 ^ 32) × (i < 32) × (slot + n < 2 ^ 63) × (source < 2 ^ 32) ⌝ }
     requires { ⌜ ((w ≡ 1 → ⊥) → (w ≡ 2 → ⊥) → (w ≡ 4 → ⊥) → w ≡ 8) ⌝ }
-    requires { ⌜ w ≡ bytesOf (now state) i ⌝ }
-    ensures { λ r. ⌜ ((lengths : List ℕ) → Did (now (state .entry)) (now (parts .entry)) write (copyKeys (join (now (state .entry)) (now (parts .entry)) lengths (now (places .entry)) (now (body .entry)) first source) i w slot n (now (counts .entry))) (now (room .entry)) r (now (counts .exit)) (now (room .exit))) ⌝ }
+    requires { ⌜ w ≡ bytesOf (now plan) i ⌝ }
+    ensures { λ r. ⌜ ((lengths : List ℕ) → Did (now (plan .entry)) (now (parts .entry)) write (copyKeys (join (now (plan .entry)) (now (parts .entry)) lengths (now (places .entry)) (now (body .entry)) first source) i w slot n (now (counters .entry))) (now (room .entry)) r (now (counters .exit)) (now (room .exit))) ⌝ }
 {
     let at = lent_tables::place(places, first + i, 3);
     if !rows_in(body, at, w, slot, n) {
         return 12;
     }
-    let o = plan_words::scale(plan_words::rows_of(counts, i), w);
+    let o = plan_words::scale(plan_words::rows_of(counters, i), w);
     let from = at + w * slot;
-    let base = plan_words::base_of(state, source, i);
+    let base = plan_words::base_of(plan, source, i);
     room_writes::keys::put_keys(
-        state,
+        plan,
         parts,
         room,
         write,
@@ -201,11 +201,11 @@ pub fn copy_keys(
 
 // Views, the buffer numbers raised by the source's base.
 pub fn copy_views(
-    state: &[u64],
+    plan: &[u64],
     parts: &[u64],
     places: &[u64],
     body: &[u8],
-    counts: &mut [u64; plan_words::COUNTERS],
+    counters: &mut [u64; plan_words::COUNTERS],
     room: &mut [u8],
     write: bool,
     source: usize,
@@ -215,17 +215,17 @@ pub fn copy_views(
     n: u64,
 ) -> u8
     requires { ⌜ (first < 2 ^ 32) × (i < 32) × (slot + n < 2 ^ 63) × (source < 2 ^ 32) ⌝ }
-    ensures { λ r. ⌜ ((lengths : List ℕ) → Did (now (state .entry)) (now (parts .entry)) write (copyViews (join (now (state .entry)) (now (parts .entry)) lengths (now (places .entry)) (now (body .entry)) first source) i slot n (now (counts .entry))) (now (room .entry)) r (now (counts .exit)) (now (room .exit))) ⌝ }
+    ensures { λ r. ⌜ ((lengths : List ℕ) → Did (now (plan .entry)) (now (parts .entry)) write (copyViews (join (now (plan .entry)) (now (parts .entry)) lengths (now (places .entry)) (now (body .entry)) first source) i slot n (now (counters .entry))) (now (room .entry)) r (now (counters .exit)) (now (room .exit))) ⌝ }
 {
     let at = lent_tables::place(places, first + i, 3);
     if !rows_in(body, at, 16, slot, n) {
         return 12;
     }
-    let o = plan_words::scale(plan_words::rows_of(counts, i), 16);
+    let o = plan_words::scale(plan_words::rows_of(counters, i), 16);
     let from = at + 16 * slot;
-    let base = plan_words::base_of(state, source, i);
+    let base = plan_words::base_of(plan, source, i);
     room_writes::put_views(
-        state,
+        plan,
         parts,
         room,
         write,
@@ -242,43 +242,43 @@ pub fn copy_views(
 
 // The validity of n nulls: zeros, all counted.
 pub fn null_mask(
-    state: &[u64],
+    plan: &[u64],
     parts: &[u64],
-    counts: &mut [u64; plan_words::COUNTERS],
+    counters: &mut [u64; plan_words::COUNTERS],
     room: &mut [u8],
     write: bool,
     i: usize,
     n: u64,
 ) -> u8
     requires { ⌜ i < 32 ⌝ }
-    ensures { λ r. ⌜ ((lengths places body : List ℕ) (first source : ℕ) → Did (now (state .entry)) (now (parts .entry)) write (nullMask (join (now (state .entry)) (now (parts .entry)) lengths places body first source) i n (now (counts .entry))) (now (room .entry)) r (now (counts .exit)) (now (room .exit))) ⌝ }
+    ensures { λ r. ⌜ ((lengths places body : List ℕ) (first source : ℕ) → Did (now (plan .entry)) (now (parts .entry)) write (nullMask (join (now (plan .entry)) (now (parts .entry)) lengths places body first source) i n (now (counters .entry))) (now (room .entry)) r (now (counters .exit)) (now (room .exit))) ⌝ }
 {
-    if plan_words::keeps_of(state, i) == 0 {
+    if plan_words::keeps_of(plan, i) == 0 {
         return 0;
     }
-    let p = plan_words::rows_of(counts, i);
-    room_writes::validity::put_null_bits(state, parts, room, write, i, p, n);
-    plan_words::add_nulls(counts, i, n);
+    let p = plan_words::rows_of(counters, i);
+    room_writes::validity::put_null_bits(plan, parts, room, write, i, p, n);
+    plan_words::add_nulls(counters, i, n);
     0
 }
 
 // n nulls of a node that holds no validity are counted.
-pub fn count_nulls(state: &[u64], counts: &mut [u64; plan_words::COUNTERS], i: usize, n: u64) -> u8
+pub fn count_nulls(plan: &[u64], counters: &mut [u64; plan_words::COUNTERS], i: usize, n: u64) -> u8
     requires { ⌜ i < 32 ⌝ }
-    ensures { λ r. ⌜ ((parts lengths places body room : List ℕ) (first source : ℕ) (write : Bool) → Did (now (state .entry)) parts write (countNulls (join (now (state .entry)) parts lengths places body first source) i n (now (counts .entry))) room r (now (counts .exit)) room) ⌝ }
+    ensures { λ r. ⌜ ((parts lengths places body room : List ℕ) (first source : ℕ) (write : Bool) → Did (now (plan .entry)) parts write (countNulls (join (now (plan .entry)) parts lengths places body first source) i n (now (counters .entry))) room r (now (counters .exit)) room) ⌝ }
 {
-    if plan_words::keeps_of(state, i) == 0 {
+    if plan_words::keeps_of(plan, i) == 0 {
         return 0;
     }
-    plan_words::add_nulls(counts, i, n);
+    plan_words::add_nulls(counters, i, n);
     0
 }
 
 // n null slots of w bytes in buffer b.
 pub fn null_numbers(
-    state: &[u64],
+    plan: &[u64],
     parts: &[u64],
-    counts: &mut [u64; plan_words::COUNTERS],
+    counters: &mut [u64; plan_words::COUNTERS],
     room: &mut [u8],
     write: bool,
     i: usize,
@@ -287,9 +287,9 @@ pub fn null_numbers(
     n: u64,
 ) -> u8
     requires { ⌜ (i < 32) × (b < 3) × (1 ≤ w) × (w ≤ 16) ⌝ }
-    ensures { λ r. ⌜ ((lengths places body : List ℕ) (first source : ℕ) → Did (now (state .entry)) (now (parts .entry)) write (nullNumbers (join (now (state .entry)) (now (parts .entry)) lengths places body first source) i b w n (now (counts .entry))) (now (room .entry)) r (now (counts .exit)) (now (room .exit))) ⌝ }
+    ensures { λ r. ⌜ ((lengths places body : List ℕ) (first source : ℕ) → Did (now (plan .entry)) (now (parts .entry)) write (nullNumbers (join (now (plan .entry)) (now (parts .entry)) lengths places body first source) i b w n (now (counters .entry))) (now (room .entry)) r (now (counters .exit)) (now (room .exit))) ⌝ }
 {
-    let o = plan_words::scale(plan_words::rows_of(counts, i), w);
-    room_writes::put_zeros(state, parts, room, write, i, b, o, w, n);
+    let o = plan_words::scale(plan_words::rows_of(counters, i), w);
+    room_writes::put_zeros(plan, parts, room, write, i, b, o, w, n);
     0
 }

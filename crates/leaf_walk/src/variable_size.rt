@@ -37,11 +37,11 @@ pub fn bytes_in(body: &[u8], at: u64, lead: u64, n: u64) -> bool
 
 // The n offsets of w bytes after the first of those at `from`, and the bytes from the source's offset `lead` on: `last` is the offset behind them.
 fn put_string(
-    state: &[u64],
+    plan: &[u64],
     parts: &[u64],
     places: &[u64],
     body: &[u8],
-    counts: &mut [u64; plan_words::COUNTERS],
+    counters: &mut [u64; plan_words::COUNTERS],
     room: &mut [u8],
     write: bool,
     first: usize,
@@ -52,18 +52,18 @@ fn put_string(
     last: u64,
     lead: u64,
 ) -> u8
-    requires { ⌜ (first < 2 ^ 32) × (i < 32) × (from + w * (n + 1) ≤ length (now body)) × (bytes (now counts) i ≤ last) × (last < 2 ^ 63) ⌝ }
+    requires { ⌜ (first < 2 ^ 32) × (i < 32) × (from + w * (n + 1) ≤ length (now body)) × (bytes (now counters) i ≤ last) × (last < 2 ^ 63) ⌝ }
     requires { ⌜ ((w ≡ 4 → ⊥) → w ≡ 8) ⌝ }
-    ensures { λ r. ⌜ ((lengths : List ℕ) (source : ℕ) → Did (now (state .entry)) (now (parts .entry)) write (putString (join (now (state .entry)) (now (parts .entry)) lengths (now (places .entry)) (now (body .entry)) first source) i w from n last lead (now (counts .entry))) (now (room .entry)) r (now (counts .exit)) (now (room .exit))) ⌝ }
+    ensures { λ r. ⌜ ((lengths : List ℕ) (source : ℕ) → Did (now (plan .entry)) (now (parts .entry)) write (putString (join (now (plan .entry)) (now (parts .entry)) lengths (now (places .entry)) (now (body .entry)) first source) i w from n last lead (now (counters .entry))) (now (room .entry)) r (now (counters .exit)) (now (room .exit))) ⌝ }
 {
     let at = lent_tables::place(places, first + i, 5);
-    let old = plan_words::bytes_of(counts, i);
+    let old = plan_words::bytes_of(counters, i);
     if !bytes_in(body, at, lead, last - old) {
         return 12;
     }
-    let o = plan_words::scale(plan_words::grow(plan_words::rows_of(counts, i), 1), w);
+    let o = plan_words::scale(plan_words::grow(plan_words::rows_of(counters, i), 1), w);
     room_writes::variable_size::put_offsets(
-        state,
+        plan,
         parts,
         room,
         write,
@@ -78,7 +78,7 @@ fn put_string(
     );
     let begin = at + lead;
     room_writes::put_copy(
-        state,
+        plan,
         parts,
         room,
         write,
@@ -89,17 +89,17 @@ fn put_string(
         begin as usize,
         last - old,
     );
-    plan_words::set_bytes(counts, i, last);
+    plan_words::set_bytes(counters, i, last);
     0
 }
 
 // The offsets tried, and then put.
 fn put_extended(
-    state: &[u64],
+    plan: &[u64],
     parts: &[u64],
     places: &[u64],
     body: &[u8],
-    counts: &mut [u64; plan_words::COUNTERS],
+    counters: &mut [u64; plan_words::COUNTERS],
     room: &mut [u8],
     write: bool,
     first: usize,
@@ -110,16 +110,16 @@ fn put_extended(
 ) -> u8
     requires { ⌜ (first < 2 ^ 32) × (i < 32) × (from + w * (n + 1) ≤ length (now body)) ⌝ }
     requires { ⌜ ((w ≡ 4 → ⊥) → w ≡ 8) ⌝ }
-    ensures { λ r. ⌜ ((lengths : List ℕ) (source : ℕ) → Did (now (state .entry)) (now (parts .entry)) write (putExtended (join (now (state .entry)) (now (parts .entry)) lengths (now (places .entry)) (now (body .entry)) first source) i w from n (extended w (now (body .entry)) from n (bytes (now (counts .entry)) i)) (now (counts .entry))) (now (room .entry)) r (now (counts .exit)) (now (room .exit))) ⌝ }
+    ensures { λ r. ⌜ ((lengths : List ℕ) (source : ℕ) → Did (now (plan .entry)) (now (parts .entry)) write (putExtended (join (now (plan .entry)) (now (parts .entry)) lengths (now (places .entry)) (now (body .entry)) first source) i w from n (extended w (now (body .entry)) from n (bytes (now (counters .entry)) i)) (now (counters .entry))) (now (room .entry)) r (now (counters .exit)) (now (room .exit))) ⌝ }
 {
-    let last = plan_words::bytes_of(counts, i);
+    let last = plan_words::bytes_of(counters, i);
     match try_offsets(body, from, w, n as usize, last) {
         utils::Extended::Fits { last, first: lead } => put_string(
-            state,
+            plan,
             parts,
             places,
             body,
-            counts,
+            counters,
             room,
             write,
             first,
@@ -137,11 +137,11 @@ fn put_extended(
 
 // Byte strings with offsets of w bytes.
 pub fn copy_string(
-    state: &[u64],
+    plan: &[u64],
     parts: &[u64],
     places: &[u64],
     body: &[u8],
-    counts: &mut [u64; plan_words::COUNTERS],
+    counters: &mut [u64; plan_words::COUNTERS],
     room: &mut [u8],
     write: bool,
     first: usize,
@@ -152,7 +152,7 @@ pub fn copy_string(
 ) -> u8
     requires { ⌜ (first < 2 ^ 32) × (i < 32) × (slot + n < 2 ^ 63) ⌝ }
     requires { ⌜ ((w ≡ 4 → ⊥) → w ≡ 8) ⌝ }
-    ensures { λ r. ⌜ ((lengths : List ℕ) (source : ℕ) → Did (now (state .entry)) (now (parts .entry)) write (copyString (join (now (state .entry)) (now (parts .entry)) lengths (now (places .entry)) (now (body .entry)) first source) i w slot n (now (counts .entry))) (now (room .entry)) r (now (counts .exit)) (now (room .exit))) ⌝ }
+    ensures { λ r. ⌜ ((lengths : List ℕ) (source : ℕ) → Did (now (plan .entry)) (now (parts .entry)) write (copyString (join (now (plan .entry)) (now (parts .entry)) lengths (now (places .entry)) (now (body .entry)) first source) i w slot n (now (counters .entry))) (now (room .entry)) r (now (counters .exit)) (now (room .exit))) ⌝ }
 {
     if n == 0 {
         return 0;
@@ -163,11 +163,11 @@ pub fn copy_string(
     }
     let from = at + w * slot;
     put_extended(
-        state,
+        plan,
         parts,
         places,
         body,
-        counts,
+        counters,
         room,
         write,
         first,
@@ -180,9 +180,9 @@ pub fn copy_string(
 
 // n nulls of w bytes an offset: the last offset, n times.
 pub fn null_string(
-    state: &[u64],
+    plan: &[u64],
     parts: &[u64],
-    counts: &mut [u64; plan_words::COUNTERS],
+    counters: &mut [u64; plan_words::COUNTERS],
     room: &mut [u8],
     write: bool,
     i: usize,
@@ -191,21 +191,21 @@ pub fn null_string(
 ) -> u8
     requires { ⌜ i < 32 ⌝ }
     requires { ⌜ ((w ≡ 4 → ⊥) → w ≡ 8) ⌝ }
-    ensures { λ r. ⌜ ((lengths places body : List ℕ) (first source : ℕ) → Did (now (state .entry)) (now (parts .entry)) write (nullString (join (now (state .entry)) (now (parts .entry)) lengths places body first source) i w n (now (counts .entry))) (now (room .entry)) r (now (counts .exit)) (now (room .exit))) ⌝ }
+    ensures { λ r. ⌜ ((lengths places body : List ℕ) (first source : ℕ) → Did (now (plan .entry)) (now (parts .entry)) write (nullString (join (now (plan .entry)) (now (parts .entry)) lengths places body first source) i w n (now (counters .entry))) (now (room .entry)) r (now (counters .exit)) (now (room .exit))) ⌝ }
 {
-    let o = plan_words::scale(plan_words::grow(plan_words::rows_of(counts, i), 1), w);
-    let last = plan_words::bytes_of(counts, i);
-    room_writes::variable_size::put_repeated(state, parts, room, write, i, 1, o, w, n, last);
+    let o = plan_words::scale(plan_words::grow(plan_words::rows_of(counters, i), 1), w);
+    let last = plan_words::bytes_of(counters, i);
+    room_writes::variable_size::put_repeated(plan, parts, room, write, i, 1, o, w, n, last);
     0
 }
 
 // The offsets of n rows of a list, with w bytes each, behind its child's rows: all of them, or none where they do not fit.
 pub fn copy_offsets(
-    state: &[u64],
+    plan: &[u64],
     parts: &[u64],
     places: &[u64],
     body: &[u8],
-    counts: &[u64; plan_words::COUNTERS],
+    counters: &[u64; plan_words::COUNTERS],
     room: &mut [u8],
     write: bool,
     first: usize,
@@ -216,20 +216,20 @@ pub fn copy_offsets(
 ) -> utils::Extended
     requires { ⌜ (first < 2 ^ 32) × (i + 1 < 32) × (slot + n < 2 ^ 63) ⌝ }
     requires { ⌜ ((w ≡ 4 → ⊥) → w ≡ 8) ⌝ }
-    ensures { λ r. ⌜ ((lengths : List ℕ) (source : ℕ) → r ≡ triedOffsets (join (now (state .entry)) (now (parts .entry)) lengths (now (places .entry)) (now (body .entry)) first source) w i slot n (now (counts .entry))) ⌝ }
-    ensures { λ r. ⌜ ((lengths : List ℕ) (source : ℕ) → now (room .exit) ≡ applyIf (now (state .entry)) (now (parts .entry)) write (offsetsLog (join (now (state .entry)) (now (parts .entry)) lengths (now (places .entry)) (now (body .entry)) first source) w i slot n (now (counts .entry)) r) (now (room .entry))) ⌝ }
+    ensures { λ r. ⌜ ((lengths : List ℕ) (source : ℕ) → r ≡ triedOffsets (join (now (plan .entry)) (now (parts .entry)) lengths (now (places .entry)) (now (body .entry)) first source) w i slot n (now (counters .entry))) ⌝ }
+    ensures { λ r. ⌜ ((lengths : List ℕ) (source : ℕ) → now (room .exit) ≡ applyIf (now (plan .entry)) (now (parts .entry)) write (offsetsLog (join (now (plan .entry)) (now (parts .entry)) lengths (now (places .entry)) (now (body .entry)) first source) w i slot n (now (counters .entry)) r) (now (room .entry))) ⌝ }
 {
     let at = lent_tables::place(places, first + i, 3);
     if !crate::rows_in(body, at, w, slot, n + 1) {
         return utils::Extended::Falls;
     }
     let from = at + w * slot;
-    let old = plan_words::rows_of(counts, i + 1);
+    let old = plan_words::rows_of(counters, i + 1);
     match try_offsets(body, from as usize, w, n as usize, old) {
         utils::Extended::Fits { last, first: lead } => {
-            let o = plan_words::scale(plan_words::grow(plan_words::rows_of(counts, i), 1), w);
+            let o = plan_words::scale(plan_words::grow(plan_words::rows_of(counters, i), 1), w);
             room_writes::variable_size::put_offsets(
-                state,
+                plan,
                 parts,
                 room,
                 write,
@@ -251,9 +251,9 @@ pub fn copy_offsets(
 
 // n nulls of a list with offsets of w bytes: the last offset, n times.
 pub fn null_list(
-    state: &[u64],
+    plan: &[u64],
     parts: &[u64],
-    counts: &[u64; plan_words::COUNTERS],
+    counters: &[u64; plan_words::COUNTERS],
     room: &mut [u8],
     write: bool,
     i: usize,
@@ -262,13 +262,13 @@ pub fn null_list(
 ) -> u8
     requires { ⌜ i < 32 ⌝ }
     requires { ⌜ ((w ≡ 4 → ⊥) → w ≡ 8) ⌝ }
-    ensures { λ r. ⌜ ((lengths places body : List ℕ) (first source : ℕ) (child : NullWalk) → Did (now (state .entry)) (now (parts .entry)) write (nullList (join (now (state .entry)) (now (parts .entry)) lengths places body first source) child w i n (now (counts .entry))) (now (room .entry)) r (now (counts .entry)) (now (room .exit))) ⌝ }
+    ensures { λ r. ⌜ ((lengths places body : List ℕ) (first source : ℕ) (child : NullWalk) → Did (now (plan .entry)) (now (parts .entry)) write (nullList (join (now (plan .entry)) (now (parts .entry)) lengths places body first source) child w i n (now (counters .entry))) (now (room .entry)) r (now (counters .entry)) (now (room .exit))) ⌝ }
 {
     if 32 <= i + 1 {
         return 12;
     }
-    let o = plan_words::scale(plan_words::grow(plan_words::rows_of(counts, i), 1), w);
-    let last = plan_words::rows_of(counts, i + 1);
-    room_writes::variable_size::put_repeated(state, parts, room, write, i, 1, o, w, n, last);
+    let o = plan_words::scale(plan_words::grow(plan_words::rows_of(counters, i), 1), w);
+    let last = plan_words::rows_of(counters, i + 1);
+    room_writes::variable_size::put_repeated(plan, parts, room, write, i, 1, o, w, n, last);
     0
 }

@@ -24,7 +24,7 @@ use Rattle.refinement.specs.opening.Open as start
 use Rattle.refinement.specs.opening.Open.{beginGaps, firstOffset, joinSource, joinEntries, entriesHold, keysHold, openDictionary, openWalk, opened, roomPlaced, opening}
 use Rattle.refinement.specs.opening.Ask.{openMeasure}
 use Rattle.refinement.proofs.opening.Laid.{stood}
-use Rattle.transform.proofs.Laws.{null-state}
+use Rattle.transform.proofs.Laws.{null-plan}
 use Rattle.measure.proofs.Placeless.{walk-same}
 
 -- what is lent to a question: no part
@@ -33,63 +33,63 @@ unplaced x = record { plan = x .plan; parts = []; sources = x .sources; lengths 
 
 -- the ground of an order by the answer to its question: "13 last"
 abbrev pub groundBy : Lent → Measured → ℕ
-groundBy x m = cond (eqb (m .ground) 0) (cond (partsHold (x .plan) (m .counts) (x .parts)) 0 13) (m .ground)
+groundBy x m = cond (eqb (m .ground) 0) (cond (partsHold (x .plan) (m .counters) (x .parts)) 0 13) (m .ground)
 
 -- a walk, its parts asked or not
-by-walk : (plan parts old : List ℕ) (o : Out) → cond (eqb (o .ans) 0) (cond (partsHold plan (o .counts) parts) 0 13) (o .ans)
-    ≡ cond (eqb (measured old o .ground) 0) (cond (partsHold plan (measured old o .counts) parts) 0 13) (measured old o .ground)
+by-walk : (plan parts old : List ℕ) (o : Out) → cond (eqb (o .ans) 0) (cond (partsHold plan (o .counters) parts) 0 13) (o .ans)
+    ≡ cond (eqb (measured old o .ground) 0) (cond (partsHold plan (measured old o .counters) parts) 0 13) (measured old o .ground)
 unfolding measured
 by-walk plan parts old o = go (eqb (o .ans) 0) refl
   where
-    go : (t : Bool) → eqb (o .ans) 0 ≡ t → cond (eqb (o .ans) 0) (cond (partsHold plan (o .counts) parts) 0 13) (o .ans)
-        ≡ cond (eqb (measured old o .ground) 0) (cond (partsHold plan (measured old o .counts) parts) 0 13) (measured old o .ground)
+    go : (t : Bool) → eqb (o .ans) 0 ≡ t → cond (eqb (o .ans) 0) (cond (partsHold plan (o .counters) parts) 0 13) (o .ans)
+        ≡ cond (eqb (measured old o .ground) 0) (cond (partsHold plan (measured old o .counters) parts) 0 13) (measured old o .ground)
     go true e = rw e
     go false e = rw (e, e)
 
 -- the parts lie in a room that is a body
-module _ (x : Lent) (counts room : List ℕ) (within : partsWithin (x .plan) (x .parts) (length room) ≡ true) (small : length room ≤ ceiling) where
+module _ (x : Lent) (counters room : List ℕ) (within : partsWithin (x .plan) (x .parts) (length room) ≡ true) (small : length room ≤ ceiling) where
   walks : walkable (x .plan) (length room) ≡ planSound (x .plan)
   unfolding walkable
   walks = rw (le-leb (length room) ceiling small)
 
-  settled-ground : (o : Out) → settled x counts room o .ground ≡ groundBy x (measured counts o)
+  settled-ground : (o : Out) → settled x counters room o .ground ≡ groundBy x (measured counters o)
   unfolding settled
-  settled-ground o = go (eqb (o .ans) 0) (partsHold (x .plan) (o .counts) (x .parts)) refl refl ∙ by-walk (x .plan) (x .parts) counts o
+  settled-ground o = go (eqb (o .ans) 0) (partsHold (x .plan) (o .counters) (x .parts)) refl refl ∙ by-walk (x .plan) (x .parts) counters o
     where
-      go : (t b : Bool) → eqb (o .ans) 0 ≡ t → partsHold (x .plan) (o .counts) (x .parts) ≡ b
-          → settled x counts room o .ground ≡ cond (eqb (o .ans) 0) (cond (partsHold (x .plan) (o .counts) (x .parts)) 0 13) (o .ans)
+      go : (t b : Bool) → eqb (o .ans) 0 ≡ t → partsHold (x .plan) (o .counters) (x .parts) ≡ b
+          → settled x counters room o .ground ≡ cond (eqb (o .ans) 0) (cond (partsHold (x .plan) (o .counters) (x .parts)) 0 13) (o .ans)
       go true true e f = rw (e, within, f)
       go true false e f = rw (e, within, f)
       go false b e f = rw e
 
   -- THE QUESTION OF A COPY HAS THE COPY'S GROUND, 13 apart
-  pub copy-asked : (s a e : ℕ) → copyOrder x counts room s a e .ground ≡ groundBy x (copyMeasure counts (unplaced x) s a e)
+  pub copy-asked : (s a e : ℕ) → copyOrder x counters room s a e .ground ≡ groundBy x (copyMeasure counters (unplaced x) s a e)
   unfolding copyOrder copyMeasure
-  copy-asked s a e = go (eqb (length counts) 96) (planSound (x .plan)) (ltb s (sourceCount (x .plan))) (leb a e && leb e (sourceLength x s)) refl refl refl refl
+  copy-asked s a e = go (eqb (length counters) 96) (planSound (x .plan)) (ltb s (sourceCount (x .plan))) (leb a e && leb e (sourceLength x s)) refl refl refl refl
     where
-      walk : copyWalk (joinOf x s) 8 0 a (e - a) counts ≡ copyWalk (joinOf (unplaced x) s) 8 0 a (e - a) counts
-      walk = walk-same (x .plan) (x .parts) [] (x .lengths) (x .places) (x .body) (getD (x .sources) (2 * s) 0) s 8 0 a (e - a) counts
+      walk : copyWalk (joinOf x s) 8 0 a (e - a) counters ≡ copyWalk (joinOf (unplaced x) s) 8 0 a (e - a) counters
+      walk = walk-same (x .plan) (x .parts) [] (x .lengths) (x .places) (x .body) (getD (x .sources) (2 * s) 0) s 8 0 a (e - a) counters
 
-      go : (p o q r : Bool) → eqb (length counts) 96 ≡ p → planSound (x .plan) ≡ o → ltb s (sourceCount (x .plan)) ≡ q → (leb a e && leb e (sourceLength x s)) ≡ r
-          → copyOrder x counts room s a e .ground ≡ groundBy x (copyMeasure counts (unplaced x) s a e)
-      go true true true true f w g h = rw (f, walks, w, g, h) (settled-ground (copyWalk (joinOf x s) 8 0 a (e - a) counts) ∙ ap (λ o. groundBy x (measured counts o)) walk)
+      go : (p o q r : Bool) → eqb (length counters) 96 ≡ p → planSound (x .plan) ≡ o → ltb s (sourceCount (x .plan)) ≡ q → (leb a e && leb e (sourceLength x s)) ≡ r
+          → copyOrder x counters room s a e .ground ≡ groundBy x (copyMeasure counters (unplaced x) s a e)
+      go true true true true f w g h = rw (f, walks, w, g, h) (settled-ground (copyWalk (joinOf x s) 8 0 a (e - a) counters) ∙ ap (λ o. groundBy x (measured counters o)) walk)
       go true true true false f w g h = rw (f, walks, w, g, h)
       go true true false r f w g h = rw (f, walks, w, g)
       go true false q r f w g h = rw (f, walks, w)
       go false o q r f w g h = rw f
 
   -- THE QUESTION OF NULLS HAS THEIR GROUND
-  pub nulls-asked : (n : ℕ) → nullOrder x counts room n .ground ≡ groundBy x (nullMeasure counts (unplaced x) n)
+  pub nulls-asked : (n : ℕ) → nullOrder x counters room n .ground ≡ groundBy x (nullMeasure counters (unplaced x) n)
   unfolding nullOrder nullMeasure
-  nulls-asked n = go (eqb (length counts) 96) (planSound (x .plan)) (eqb (keepsOf (x .plan) 0) 0) refl refl refl
+  nulls-asked n = go (eqb (length counters) 96) (planSound (x .plan)) (eqb (keepsOf (x .plan) 0) 0) refl refl refl
     where
-      walk : nullWalk (joinOf x 0) 8 0 (min n far) counts ≡ nullWalk (joinOf (unplaced x) 0) 8 0 (min n far) counts
-      walk = null-state (x .plan) (x .parts) [] (x .lengths) (x .lengths) (x .places) (x .places) (x .body) (x .body) (getD (x .sources) 0 0) (getD (x .sources) 0 0) 0 0 8 0 (min n far) counts
+      walk : nullWalk (joinOf x 0) 8 0 (min n far) counters ≡ nullWalk (joinOf (unplaced x) 0) 8 0 (min n far) counters
+      walk = null-plan (x .plan) (x .parts) [] (x .lengths) (x .lengths) (x .places) (x .places) (x .body) (x .body) (getD (x .sources) 0 0) (getD (x .sources) 0 0) 0 0 8 0 (min n far) counters
 
-      go : (p o q : Bool) → eqb (length counts) 96 ≡ p → planSound (x .plan) ≡ o → eqb (keepsOf (x .plan) 0) 0 ≡ q
-          → nullOrder x counts room n .ground ≡ groundBy x (nullMeasure counts (unplaced x) n)
+      go : (p o q : Bool) → eqb (length counters) 96 ≡ p → planSound (x .plan) ≡ o → eqb (keepsOf (x .plan) 0) 0 ≡ q
+          → nullOrder x counters room n .ground ≡ groundBy x (nullMeasure counters (unplaced x) n)
       go true true true f w g = rw (f, walks, w, g)
-      go true true false f w g = rw (f, walks, w, g) (settled-ground (nullWalk (joinOf x 0) 8 0 (min n far) counts) ∙ ap (λ o. groundBy x (measured counts o)) walk)
+      go true true false f w g = rw (f, walks, w, g) (settled-ground (nullWalk (joinOf x 0) 8 0 (min n far) counters) ∙ ap (λ o. groundBy x (measured counters o)) walk)
       go true false q f w g = rw (f, walks, w)
       go false o q f w g = rw f
 
@@ -114,22 +114,22 @@ module _ (x : Lent) where
       ap (λ f. next (each (beginGaps x) (nodesOf (x .plan)) 0 c) (λ c1. next (each (firstOffset x) (nodesOf (x .plan)) 0 c1) (λ c2. each f (nodesOf (x .plan)) 0 c2)))
       (fun-ext (λ i. fun-ext (λ c2. dictionary-same i c2)))
 
-module _ (formats schema sources : List ℕ) (x : Tables) (keep gaps : Bool) (parts plan counts room : List ℕ) where
+module _ (formats schema sources : List ℕ) (x : Tables) (keep gaps : Bool) (parts plan counters room : List ℕ) where
   abbrev lends : Lent
   lends = opened formats schema sources x keep gaps parts
 
   -- THE QUESTION OF AN OPENING HAS ITS GROUND, where 9 to 12 and 14 do not stand
-  pub open-asked : leb (length room) ceiling ≡ true → sourcesGround formats schema x sources ≡ 0 → roomPlaced formats schema sources x keep gaps parts plan counts room ≡ true
-      → sourceCount (lends .plan) ≤ 16 → length counts ≡ 96
-      → opening formats schema sources x keep gaps parts plan counts room .ground ≡ groundBy lends (openMeasure (unplaced lends) counts)
+  pub open-asked : leb (length room) ceiling ≡ true → sourcesGround formats schema x sources ≡ 0 → roomPlaced formats schema sources x keep gaps parts plan counters room ≡ true
+      → sourceCount (lends .plan) ≤ 16 → length counters ≡ 96
+      → opening formats schema sources x keep gaps parts plan counters room .ground ≡ groundBy lends (openMeasure (unplaced lends) counters)
   unfolding opening start.settled openMeasure
   open-asked l s p few h =
       let o = openWalk lends (replicate 96 0) in
-      rw (l, eq-eqb (sourcesGround formats schema x sources) 0 s, p, eq-eqb (length counts) 96 h, le-leb (sourceCount (lends .plan)) 16 few, stood formats schema x sources s keep gaps .sound)
-      (go o (eqb (o .ans) 0) (partsHold (lends .plan) (o .counts) parts) refl refl ∙ by-walk (lends .plan) parts counts o ∙ ap (λ z. groundBy lends (measured counts z)) (open-same lends (replicate 96 0)))
+      rw (l, eq-eqb (sourcesGround formats schema x sources) 0 s, p, eq-eqb (length counters) 96 h, le-leb (sourceCount (lends .plan)) 16 few, stood formats schema x sources s keep gaps .sound)
+      (go o (eqb (o .ans) 0) (partsHold (lends .plan) (o .counters) parts) refl refl ∙ by-walk (lends .plan) parts counters o ∙ ap (λ z. groundBy lends (measured counters z)) (open-same lends (replicate 96 0)))
     where
-      go : (o : Out) (t b : Bool) → eqb (o .ans) 0 ≡ t → partsHold (lends .plan) (o .counts) parts ≡ b
-          → start.settled formats schema sources x keep gaps parts plan counts room o .ground ≡ cond (eqb (o .ans) 0) (cond (partsHold (lends .plan) (o .counts) parts) 0 13) (o .ans)
+      go : (o : Out) (t b : Bool) → eqb (o .ans) 0 ≡ t → partsHold (lends .plan) (o .counters) parts ≡ b
+          → start.settled formats schema sources x keep gaps parts plan counters room o .ground ≡ cond (eqb (o .ans) 0) (cond (partsHold (lends .plan) (o .counters) parts) 0 13) (o .ans)
       go o true true e f = rw (e, f)
       go o true false e f = rw (e, f)
       go o false b e f = rw e
@@ -145,14 +145,14 @@ only true q h = h refl
 only false q h = refl
 
 -- PARTS OF THE BYTES THAT ARE ANSWERED HOLD: a part that lies in a room has fewer bytes than the largest number
-pub asked-hold : (plan counts parts : List ℕ) → Numbered plan → ((p : ℕ) → sizeAt parts p < top) → ((p : ℕ) → p < partTotal plan → neededBytes plan counts p ≤ sizeAt parts p)
-    → partsHold plan counts parts ≡ true
+pub asked-hold : (plan counters parts : List ℕ) → Numbered plan → ((p : ℕ) → sizeAt parts p < top) → ((p : ℕ) → p < partTotal plan → neededBytes plan counters p ≤ sizeAt parts p)
+    → partsHold plan counters parts ≡ true
 unfolding partsHold partHolds neededBytes
-asked-hold plan counts parts numbers small h = every-all _ (nodesOf plan) (λ i l. every-all _ 3 (λ b k. only (hasPart plan i b) _ (λ t. le-leb _ _ (held i b (record { node = l; part = t })))))
+asked-hold plan counters parts numbers small h = every-all _ (nodesOf plan) (λ i l. every-all _ 3 (λ b k. only (hasPart plan i b) _ (λ t. le-leb _ _ (held i b (record { node = l; part = t })))))
   where
-    held : (i b : ℕ) → Used plan i b → needed plan counts i b ≤ sizeAt parts (numberOf plan i b)
+    held : (i b : ℕ) → Used plan i b → needed plan counters i b ≤ sizeAt parts (numberOf plan i b)
     held i b u =
         let p = numberOf plan i b in
-        let q : min (neededIn plan counts (partAt plan p)) top ≤ sizeAt parts p = h p (number-below plan numbers u) in
-        let e : neededIn plan counts (partAt plan p) ≡ needed plan counts i b = ap (neededIn plan counts) (part-named plan numbers u) in
+        let q : min (neededIn plan counters (partAt plan p)) top ≤ sizeAt parts p = h p (number-below plan numbers u) in
+        let e : neededIn plan counters (partAt plan p) ≡ needed plan counters i b = ap (neededIn plan counters) (part-named plan numbers u) in
         omega (arith, q, e, small p)

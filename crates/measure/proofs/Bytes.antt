@@ -56,24 +56,24 @@ module _ (code r n s : ℕ) where
 
 -- ---- a buffer of a node
 
-module _ (plan counts : List ℕ) (i b : ℕ) {r : ℕ} (e : r ≡ rows counts i) where
-  pub buffer-bits : {s : ℕ} → b ≡ 0 → s ≡ min ((r + 7) / 8) top → s ≡ min (needed plan counts i b) top
+module _ (plan counters : List ℕ) (i b : ℕ) {r : ℕ} (e : r ≡ rows counters i) where
+  pub buffer-bits : {s : ℕ} → b ≡ 0 → s ≡ min ((r + 7) / 8) top → s ≡ min (needed plan counters i b) top
   buffer-bits h d = rw h (d ∙ ap (λ z. min ((z + 7) / 8) top) e)
 
-  module _ {code n : ℕ} (f : code ≡ codeOf plan i) (g : n ≡ bytes counts i) where
-    at : (k : ℕ) → min (neededBy code r n k) top ≡ min (needed plan counts i k) top
+  module _ {code n : ℕ} (f : code ≡ codeOf plan i) (g : n ≡ bytes counters i) where
+    at : (k : ℕ) → min (neededBy code r n k) top ≡ min (needed plan counters i k) top
     at k =
         ap (λ z. min (neededBy z r n k) top) f
         ∙ ap (λ z. min (neededBy (codeOf plan i) z n k) top) e
-        ∙ ap (λ z. min (neededBy (codeOf plan i) (rows counts i) z k) top) g
+        ∙ ap (λ z. min (neededBy (codeOf plan i) (rows counters i) z k) top) g
 
-    pub buffer-first : {s : ℕ} → b ≡ 1 → s ≡ min (neededBy code r n 1) top → s ≡ min (needed plan counts i b) top
+    pub buffer-first : {s : ℕ} → b ≡ 1 → s ≡ min (neededBy code r n 1) top → s ≡ min (needed plan counters i b) top
     buffer-first h d = rw h (d ∙ at 1)
 
-    pub buffer-second : {s : ℕ} → (b ≡ 0 → ⊥) → (b ≡ 1 → ⊥) → s ≡ min (neededBy code r n 2) top → s ≡ min (needed plan counts i b) top
+    pub buffer-second : {s : ℕ} → (b ≡ 0 → ⊥) → (b ≡ 1 → ⊥) → s ≡ min (neededBy code r n 2) top → s ≡ min (needed plan counters i b) top
     buffer-second {s} h k d = go b h k
       where
-        go : (c : ℕ) → (c ≡ 0 → ⊥) → (c ≡ 1 → ⊥) → s ≡ min (needed plan counts i c) top
+        go : (c : ℕ) → (c ≡ 0 → ⊥) → (c ≡ 1 → ⊥) → s ≡ min (needed plan counters i c) top
         go zero p q = absurd (p refl)
         go (suc zero) p q = absurd (q refl)
         go (suc (suc c)) p q = d ∙ at 2
@@ -81,26 +81,26 @@ module _ (plan counts : List ℕ) (i b : ℕ) {r : ℕ} (e : r ≡ rows counts i
 -- ---- a part
 
 -- the node of a part is one of the nodes
-from-below : (state : List ℕ) (n i p j b : ℕ) → partFrom state n i p ≡ Of j b → j < i + n
+from-below : (plan : List ℕ) (n i p j b : ℕ) → partFrom plan n i p ≡ Of j b → j < i + n
 unfolding partFrom
-from-below state zero i p j b h = let z : _≡_ {A = ℕ} 0 1 = cc in absurd (omega (arith, z))
-from-below state (suc n) i p j b h = go (ltb p (partCount state i)) refl (from-below state n (suc i) (p - partCount state i) j b)
+from-below plan zero i p j b h = let z : _≡_ {A = ℕ} 0 1 = cc in absurd (omega (arith, z))
+from-below plan (suc n) i p j b h = go (ltb p (partCount plan i)) refl (from-below plan n (suc i) (p - partCount plan i) j b)
   where
-    go : (t : Bool) → ltb p (partCount state i) ≡ t → (partFrom state n (suc i) (p - partCount state i) ≡ Of j b → j < suc i + n) → j < i + suc n
+    go : (t : Bool) → ltb p (partCount plan i) ≡ t → (partFrom plan n (suc i) (p - partCount plan i) ≡ Of j b → j < suc i + n) → j < i + suc n
     go true e f =
-        let q : Of i (p + 1 - validityParts state i) ≡ Of j b = rw e at h in
+        let q : Of i (p + 1 - validityParts plan i) ≡ Of j b = rw e at h in
         let z : i ≡ j = cc in
         omega (arith, z)
-    go false e f = let q : partFrom state n (suc i) (p - partCount state i) ≡ Of j b = rw e at h in omega (arith, f q)
+    go false e f = let q : partFrom plan n (suc i) (p - partCount plan i) ≡ Of j b = rw e at h in omega (arith, f q)
 
-module _ (plan counts : List ℕ) (p : ℕ) {q : Spot} (e : q ≡ partAt plan p) where
+module _ (plan counters : List ℕ) (p : ℕ) {q : Spot} (e : q ≡ partAt plan p) where
   pub node-below : {i b : ℕ} → q ≡ Of i b → i < 32
   node-below {i} {b} h = omega (arith, from-below plan (nodesOf plan) 0 p i b (sym e ∙ h))
 
-  pub bytes-of : {i b s : ℕ} → q ≡ Of i b → s ≡ min (needed plan counts i b) top → s ≡ neededBytes plan counts p
+  pub bytes-of : {i b s : ℕ} → q ≡ Of i b → s ≡ min (needed plan counters i b) top → s ≡ neededBytes plan counters p
   unfolding neededBytes
-  bytes-of h d = d ∙ ap (λ z. min (neededIn plan counts z) top) (sym h ∙ e)
+  bytes-of h d = d ∙ ap (λ z. min (neededIn plan counters z) top) (sym h ∙ e)
 
-  pub bytes-none : q ≡ Nothing → 0 ≡ neededBytes plan counts p
+  pub bytes-none : q ≡ Nothing → 0 ≡ neededBytes plan counters p
   unfolding neededBytes
-  bytes-none h = ap (λ z. min (neededIn plan counts z) top) (sym h ∙ e)
+  bytes-none h = ap (λ z. min (neededIn plan counters z) top) (sym h ∙ e)

@@ -16,108 +16,108 @@ use Rattle.refinement.specs.orders.Order.{Lent, sourceCount, sourceLength}
 use Rattle.refinement.specs.orders.Measure.{measured, copyMeasure, nullMeasure}
 use Rattle.refinement.specs.opening.Open.{openWalk}
 use Rattle.refinement.specs.opening.Ask.{openMeasure}
-use Rattle.transform.proofs.Laws.{null-state}
+use Rattle.transform.proofs.Laws.{null-plan}
 use Rattle.measure.specs.Answer.{Measures}
 
 -- ---- a walk that is tried
 
-module _ (old counts : List ℕ) (walk : List ℕ → Out) {state parts room l : List ℕ} (q : l ≡ counts) {g : ℕ} {c1 room1 : List ℕ}
-    (d : Did state parts false (walk l) room g c1 room1) where
-  tried : Did state parts false (walk counts) room g c1 room1
-  tried = subst (λ z. Did state parts false (walk z) room g c1 room1) q d
+module _ (old counters : List ℕ) (walk : List ℕ → Out) {plan parts room l : List ℕ} (q : l ≡ counters) {g : ℕ} {c1 room1 : List ℕ}
+    (d : Did plan parts false (walk l) room g c1 room1) where
+  tried : Did plan parts false (walk counters) room g c1 room1
+  tried = subst (λ z. Did plan parts false (walk z) room g c1 room1) q d
 
-  pub measured-no : (g ≡ 0 → ⊥) → Measures (measured old (walk counts)) g old
+  pub measured-no : (g ≡ 0 → ⊥) → Measures (measured old (walk counters)) g old
   unfolding measured
-  measured-no h = rw (ne-eqb (walk counts .ans) 0 (λ z. h (tried .answer ∙ z))) (record { ground = tried .answer; counts = refl })
+  measured-no h = rw (ne-eqb (walk counters .ans) 0 (λ z. h (tried .answer ∙ z))) (record { ground = tried .answer; counters = refl })
 
-  pub measured-made : {c3 : List ℕ} → g ≡ 0 → c3 ≡ c1 → Measures (measured old (walk counts)) 0 c3
+  pub measured-made : {c3 : List ℕ} → g ≡ 0 → c3 ≡ c1 → Measures (measured old (walk counters)) 0 c3
   unfolding measured
-  measured-made h s = rw (eq-eqb (walk counts .ans) 0 (sym (tried .answer) ∙ h)) (record { ground = refl; counts = s ∙ tried .counters })
+  measured-made h s = rw (eq-eqb (walk counters .ans) 0 (sym (tried .answer) ∙ h)) (record { ground = refl; counters = s ∙ tried .counters })
 
 -- ---- a copy
 
-module _ (counts : List ℕ) (x : Lent) (s a e : ℕ) where
-  pub copy-words : (length counts ≡ 96 → ⊥) → Measures (copyMeasure counts x s a e) 14 counts
+module _ (counters : List ℕ) (x : Lent) (s a e : ℕ) where
+  pub copy-words : (length counters ≡ 96 → ⊥) → Measures (copyMeasure counters x s a e) 14 counters
   unfolding copyMeasure
-  copy-words h = rw (ne-eqb (length counts) 96 h) (record { ground = refl; counts = refl })
+  copy-words h = rw (ne-eqb (length counters) 96 h) (record { ground = refl; counters = refl })
 
-  pub copy-foreign : length counts ≡ 96 → planSound (x .plan) ≡ false → Measures (copyMeasure counts x s a e) 14 counts
+  pub copy-foreign : length counters ≡ 96 → planSound (x .plan) ≡ false → Measures (copyMeasure counters x s a e) 14 counters
   unfolding copyMeasure
-  copy-foreign h w = rw (eq-eqb (length counts) 96 h, w) (record { ground = refl; counts = refl })
+  copy-foreign h w = rw (eq-eqb (length counters) 96 h, w) (record { ground = refl; counters = refl })
 
-  module _ (h : length counts ≡ 96) (w : planSound (x .plan) ≡ true) {m : ℕ} (q : m ≡ sourceCount (x .plan)) where
-    pub copy-source : m ≤ s → Measures (copyMeasure counts x s a e) 1 counts
+  module _ (h : length counters ≡ 96) (w : planSound (x .plan) ≡ true) {m : ℕ} (q : m ≡ sourceCount (x .plan)) where
+    pub copy-source : m ≤ s → Measures (copyMeasure counters x s a e) 1 counters
     unfolding copyMeasure
     copy-source f =
         let g : sourceCount (x .plan) ≤ s = subst (λ z. z ≤ s) q f in
-        rw (eq-eqb (length counts) 96 h, w, le-ltb s (sourceCount (x .plan)) g) (record { ground = refl; counts = refl })
+        rw (eq-eqb (length counters) 96 h, w, le-ltb s (sourceCount (x .plan)) g) (record { ground = refl; counters = refl })
 
     module _ (f : s < m) {first : ℕ} (k : first ≡ getD (x .sources) (2 * s) 0) where
       known : s < sourceCount (x .plan)
       known = subst (λ z. s < z) q f
 
-      pub copy-range : (leb a e && leb e (getD (x .lengths) (2 * first) 0)) ≡ false → Measures (copyMeasure counts x s a e) 2 counts
+      pub copy-range : (leb a e && leb e (getD (x .lengths) (2 * first) 0)) ≡ false → Measures (copyMeasure counters x s a e) 2 counters
       unfolding copyMeasure
       copy-range t =
           let u : (leb a e && leb e (sourceLength x s)) ≡ false = subst (λ z. (leb a e && leb e (getD (x .lengths) (2 * z) 0)) ≡ false) k t in
-          rw (eq-eqb (length counts) 96 h, w, lt-ltb s (sourceCount (x .plan)) known, u) (record { ground = refl; counts = refl })
+          rw (eq-eqb (length counters) 96 h, w, lt-ltb s (sourceCount (x .plan)) known, u) (record { ground = refl; counters = refl })
 
       pub copy-made : {r : ℕ} {c : List ℕ} → (leb a e && leb e (getD (x .lengths) (2 * first) 0)) ≡ true
-          → Measures (measured counts (copyWalk (join (x .plan) (x .parts) (x .lengths) (x .places) (x .body) first s) 8 0 a (e - a) counts)) r c
-          → Measures (copyMeasure counts x s a e) r c
+          → Measures (measured counters (copyWalk (join (x .plan) (x .parts) (x .lengths) (x .places) (x .body) first s) 8 0 a (e - a) counters)) r c
+          → Measures (copyMeasure counters x s a e) r c
       unfolding copyMeasure
       copy-made {r} {c} t d =
           let u : (leb a e && leb e (sourceLength x s)) ≡ true = subst (λ z. (leb a e && leb e (getD (x .lengths) (2 * z) 0)) ≡ true) k t in
-          rw (eq-eqb (length counts) 96 h, w, lt-ltb s (sourceCount (x .plan)) known, u)
-          (subst (λ z. Measures (measured counts (copyWalk (join (x .plan) (x .parts) (x .lengths) (x .places) (x .body) z s) 8 0 a (e - a) counts)) r c) k d)
+          rw (eq-eqb (length counters) 96 h, w, lt-ltb s (sourceCount (x .plan)) known, u)
+          (subst (λ z. Measures (measured counters (copyWalk (join (x .plan) (x .parts) (x .lengths) (x .places) (x .body) z s) 8 0 a (e - a) counters)) r c) k d)
 
 -- ---- nulls
 
-module _ (counts : List ℕ) (x : Lent) (n : ℕ) where
-  pub null-words : (length counts ≡ 96 → ⊥) → Measures (nullMeasure counts x n) 14 counts
+module _ (counters : List ℕ) (x : Lent) (n : ℕ) where
+  pub null-words : (length counters ≡ 96 → ⊥) → Measures (nullMeasure counters x n) 14 counters
   unfolding nullMeasure
-  null-words h = rw (ne-eqb (length counts) 96 h) (record { ground = refl; counts = refl })
+  null-words h = rw (ne-eqb (length counters) 96 h) (record { ground = refl; counters = refl })
 
-  pub null-foreign : length counts ≡ 96 → planSound (x .plan) ≡ false → Measures (nullMeasure counts x n) 14 counts
+  pub null-foreign : length counters ≡ 96 → planSound (x .plan) ≡ false → Measures (nullMeasure counters x n) 14 counters
   unfolding nullMeasure
-  null-foreign h w = rw (eq-eqb (length counts) 96 h, w) (record { ground = refl; counts = refl })
+  null-foreign h w = rw (eq-eqb (length counters) 96 h, w) (record { ground = refl; counters = refl })
 
-  module _ (h : length counts ≡ 96) (w : planSound (x .plan) ≡ true) {k : ℕ} (q : k ≡ keepsOf (x .plan) 0) where
-    pub null-keeps : k ≡ 0 → Measures (nullMeasure counts x n) 3 counts
+  module _ (h : length counters ≡ 96) (w : planSound (x .plan) ≡ true) {k : ℕ} (q : k ≡ keepsOf (x .plan) 0) where
+    pub null-keeps : k ≡ 0 → Measures (nullMeasure counters x n) 3 counters
     unfolding nullMeasure
-    null-keeps z = rw (eq-eqb (length counts) 96 h, w, eq-eqb (keepsOf (x .plan) 0) 0 (sym q ∙ z)) (record { ground = refl; counts = refl })
+    null-keeps z = rw (eq-eqb (length counters) 96 h, w, eq-eqb (keepsOf (x .plan) 0) 0 (sym q ∙ z)) (record { ground = refl; counters = refl })
 
     pub null-made : {m r : ℕ} {c : List ℕ} → (k ≡ 0 → ⊥) → m ≡ min n far
-        → Measures (measured counts (nullWalk (join (x .plan) (x .parts) [] [] [] 0 0) 8 0 m counts)) r c → Measures (nullMeasure counts x n) r c
+        → Measures (measured counters (nullWalk (join (x .plan) (x .parts) [] [] [] 0 0) 8 0 m counters)) r c → Measures (nullMeasure counters x n) r c
     unfolding nullMeasure
     null-made {m} {r} {c} z e d =
-        rw (eq-eqb (length counts) 96 h, w, ne-eqb (keepsOf (x .plan) 0) 0 (λ y. z (q ∙ y)))
-        (subst (λ o. Measures (measured counts o) r c)
-        (ap (λ y. nullWalk (join (x .plan) (x .parts) [] [] [] 0 0) 8 0 y counts) e ∙ null-state (x .plan) (x .parts) (x .parts) [] (x .lengths) [] (x .places) [] (x .body) 0 (getD (x .sources) 0 0) 0 0 8 0 (min n far) counts)
+        rw (eq-eqb (length counters) 96 h, w, ne-eqb (keepsOf (x .plan) 0) 0 (λ y. z (q ∙ y)))
+        (subst (λ o. Measures (measured counters o) r c)
+        (ap (λ y. nullWalk (join (x .plan) (x .parts) [] [] [] 0 0) 8 0 y counters) e ∙ null-plan (x .plan) (x .parts) (x .parts) [] (x .lengths) [] (x .places) [] (x .body) 0 (getD (x .sources) 0 0) 0 0 8 0 (min n far) counters)
         d)
 
 -- ---- an opening
 
-module _ (counts : List ℕ) (x : Lent) where
-  pub open-words : (length counts ≡ 96 → ⊥) → Measures (openMeasure x counts) 14 counts
+module _ (counters : List ℕ) (x : Lent) where
+  pub open-words : (length counters ≡ 96 → ⊥) → Measures (openMeasure x counters) 14 counters
   unfolding openMeasure
-  open-words h = rw (ne-eqb (length counts) 96 h) (record { ground = refl; counts = refl })
+  open-words h = rw (ne-eqb (length counters) 96 h) (record { ground = refl; counters = refl })
 
-  module _ (h : length counts ≡ 96) {m : ℕ} (q : m ≡ sourceCount (x .plan)) where
-    pub open-many : 16 < m → Measures (openMeasure x counts) 12 counts
+  module _ (h : length counters ≡ 96) {m : ℕ} (q : m ≡ sourceCount (x .plan)) where
+    pub open-many : 16 < m → Measures (openMeasure x counters) 12 counters
     unfolding openMeasure
     open-many f =
         let g : 16 < sourceCount (x .plan) = subst (λ z. 16 < z) q f in
-        rw (eq-eqb (length counts) 96 h, lt-leb (sourceCount (x .plan)) 16 g) (record { ground = refl; counts = refl })
+        rw (eq-eqb (length counters) 96 h, lt-leb (sourceCount (x .plan)) 16 g) (record { ground = refl; counters = refl })
 
-    pub open-foreign : m ≤ 16 → planSound (x .plan) ≡ false → Measures (openMeasure x counts) 12 counts
+    pub open-foreign : m ≤ 16 → planSound (x .plan) ≡ false → Measures (openMeasure x counters) 12 counters
     unfolding openMeasure
     open-foreign f w =
         let g : sourceCount (x .plan) ≤ 16 = subst (λ z. z ≤ 16) q f in
-        rw (eq-eqb (length counts) 96 h, le-leb (sourceCount (x .plan)) 16 g, w) (record { ground = refl; counts = refl })
+        rw (eq-eqb (length counters) 96 h, le-leb (sourceCount (x .plan)) 16 g, w) (record { ground = refl; counters = refl })
 
-    pub open-made : {r : ℕ} {c : List ℕ} → m ≤ 16 → planSound (x .plan) ≡ true → Measures (measured counts (openWalk x (replicate 96 0))) r c → Measures (openMeasure x counts) r c
+    pub open-made : {r : ℕ} {c : List ℕ} → m ≤ 16 → planSound (x .plan) ≡ true → Measures (measured counters (openWalk x (replicate 96 0))) r c → Measures (openMeasure x counters) r c
     unfolding openMeasure
     open-made f w d =
         let g : sourceCount (x .plan) ≤ 16 = subst (λ z. z ≤ 16) q f in
-        rw (eq-eqb (length counts) 96 h, le-leb (sourceCount (x .plan)) 16 g, w) d
+        rw (eq-eqb (length counters) 96 h, le-leb (sourceCount (x .plan)) 16 g, w) d

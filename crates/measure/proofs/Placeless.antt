@@ -17,12 +17,12 @@ use Rattle.walk.specs.Leaves.{copyBits, copyMask, copyNumbers, copyKeys, copyVi
 use Rattle.walk.specs.Copy.{Walk, masked, isWidth, listViewRow, copyListView, putStretch, putList, copyList, copyFields, copySparse, denseTo, denseRow, copyDense, putRuns, runsAt, copyRuns, copyData, copySlots, copyNode, copyWalk}
 use Rattle.leaf_walk.specs.Join.{join}
 
-module _ (state parts parts2 lengths places body : List ℕ) (first source : ℕ) where
+module _ (plan parts parts2 lengths places body : List ℕ) (first source : ℕ) where
   abbrev one : Join
-  one = join state parts lengths places body first source
+  one = join plan parts lengths places body first source
 
   abbrev other : Join
-  other = join state parts2 lengths places body first source
+  other = join plan parts2 lengths places body first source
 
   -- ---- leaves
 
@@ -64,13 +64,13 @@ module _ (state parts parts2 lengths places body : List ℕ) (first source : ℕ
     fields-same : (slot n end f k : ℕ) (c : List ℕ) → copyFields one child slot n end f k c ≡ copyFields other child slot n end f k c
     unfolding copyFields
     fields-same slot n end zero k c = refl
-    fields-same slot n end (suc f) k c = ap (λ z. cond (ltb k end) (next (child k slot n c) z) (done c)) (fun-ext (λ c2. fields-same slot n end f (endOf state k) c2))
+    fields-same slot n end (suc f) k c = ap (λ z. cond (ltb k end) (next (child k slot n c) z) (done c)) (fun-ext (λ c2. fields-same slot n end f (endOf plan k) c2))
 
     sparse-same : (i slot n : ℕ) (c : List ℕ) → copySparse one child i slot n c ≡ copySparse other child i slot n c
     unfolding copySparse rowsIn
     sparse-same i slot n c =
         ap (λ z. need (rowsIn one (place one i 3) 1 slot n) 12 c (next (wrote (put i 1 (rows c i) (take n (drop (place one i 3 + slot) body))) c) z))
-        (fun-ext (λ c2. fields-same slot n (endOf state i) 32 (suc i) c2))
+        (fun-ext (λ c2. fields-same slot n (endOf plan i) 32 (suc i) c2))
 
     dense-same : (i slot n : ℕ) (c : List ℕ) → copyDense one child i slot n c ≡ copyDense other child i slot n c
     unfolding copyDense denseRow denseTo rowsIn
@@ -85,22 +85,22 @@ module _ (state parts parts2 lengths places body : List ℕ) (first source : ℕ
     runs-same i slot n c =
         ap (λ z.
         cond (eqb n 0) (done c)
-        (need (ltb (suc (suc i)) 32 && isWidth (bytesOf state (suc i))) 12 c
-        (need (ltb (rows c i + n) (half (bytesOf state (suc i)))) 7 c
-        (need (rowsIn one (place one (suc i) 3) (bytesOf state (suc i)) (offsetOf one (suc i)) (lengthOf one (suc i))) 12 c z))))
-        (put-runs-same (bytesOf state (suc i)) i slot n (runsAt one child (bytesOf state (suc i)) i slot n) c)
+        (need (ltb (suc (suc i)) 32 && isWidth (bytesOf plan (suc i))) 12 c
+        (need (ltb (rows c i + n) (half (bytesOf plan (suc i)))) 7 c
+        (need (rowsIn one (place one (suc i) 3) (bytesOf plan (suc i)) (offsetOf one (suc i)) (lengthOf one (suc i))) 12 c z))))
+        (put-runs-same (bytesOf plan (suc i)) i slot n (runsAt one child (bytesOf plan (suc i)) i slot n) c)
 
     data-same : (code i slot n : ℕ) (c : List ℕ) → copyData one child code i slot n c ≡ copyData other child code i slot n c
     unfolding copyData copyNumbers copyKeys copyViews rowsIn
     data-same code i slot n c =
-        rw (string-same i (bytesOf state i) slot n c, list-same (bytesOf state i) i slot n c, lists-same (bytesOf state i) i slot n c, sparse-same i slot n c, dense-same i slot n c, runs-same i slot n c)
+        rw (string-same i (bytesOf plan i) slot n c, list-same (bytesOf plan i) i slot n c, lists-same (bytesOf plan i) i slot n c, sparse-same i slot n c, dense-same i slot n c, runs-same i slot n c)
 
     slots-same : (i slot n : ℕ) (c : List ℕ) → copySlots one child i slot n c ≡ copySlots other child i slot n c
     unfolding copySlots
     slots-same i slot n c =
-        ap (λ z. next (cond (masked (codeOf state i)) z (done c)) (λ c2. next (copyData one child (codeOf state i) i slot n c2) (λ c3. done (addRows i n c3)))) (mask-same i slot n c)
-        ∙ ap (λ z. next (cond (masked (codeOf state i)) (copyMask other i slot n c) (done c)) z)
-        (fun-ext (λ c2. ap (λ z. next z (λ c3. done (addRows i n c3))) (data-same (codeOf state i) i slot n c2)))
+        ap (λ z. next (cond (masked (codeOf plan i)) z (done c)) (λ c2. next (copyData one child (codeOf plan i) i slot n c2) (λ c3. done (addRows i n c3)))) (mask-same i slot n c)
+        ∙ ap (λ z. next (cond (masked (codeOf plan i)) (copyMask other i slot n c) (done c)) z)
+        (fun-ext (λ c2. ap (λ z. next z (λ c3. done (addRows i n c3))) (data-same (codeOf plan i) i slot n c2)))
 
     node-same : (i a n : ℕ) (c : List ℕ) → copyNode one child i a n c ≡ copyNode other child i a n c
     unfolding copyNode slotOf

@@ -5,6 +5,6 @@ use Prim.Native.Nat.{ℕ}
 use Rattle.refinement.specs.orders.Measure.{Measured}
 
 -- the ground that is answered, and the counters as they are left
-pub record Measures (a : Measured) (r : ℕ) (counters : List ℕ) : Type 0 where
+pub record Measures (a : Measured) (r : ℕ) (tally : List ℕ) : Type 0 where
   pub ground : r ≡ a .ground
-  pub counts : counters ≡ a .counts
+  pub counters : tally ≡ a .counters

@@ -36,7 +36,7 @@ pub fn measure_open(
     }
     let parts = [0u64; 0];
     let mut room = [0u8; 0];
-    let mut counts = [0u64; plan_words::COUNTERS];
+    let mut tally = [0u64; plan_words::COUNTERS];
     let g = with_capacities::open_walk::open_walk(
         plan,
         &parts,
@@ -44,14 +44,14 @@ pub fn measure_open(
         lengths,
         places,
         body,
-        &mut counts,
+        &mut tally,
         &mut room,
         false,
     );
     if g != 0 {
         return g;
     }
-    let made = transform::copied(counts);
+    let made = transform::copied(tally);
     transform::store(counters, &made);
     0
 }
@@ -85,14 +85,14 @@ pub fn measure_extend(
     }
     let parts = [0u64; 0];
     let mut room = [0u8; 0];
-    let mut counts = transform::load(counters);
+    let mut tally = transform::load(counters);
     let g = extend::extend(
         plan,
         &parts,
         lengths,
         places,
         body,
-        &mut counts,
+        &mut tally,
         &mut room,
         false,
         source as usize,
@@ -105,7 +105,7 @@ pub fn measure_extend(
     if g != 0 {
         return g;
     }
-    let made = transform::copied(counts);
+    let made = transform::copied(tally);
     transform::store(counters, &made);
     0
 }
@@ -125,13 +125,13 @@ pub fn measure_nulls(plan: &[u64], counters: &mut [u64], n: u64) -> u8
     }
     let parts = [0u64; 0];
     let mut room = [0u8; 0];
-    let mut counts = transform::load(counters);
+    let mut tally = transform::load(counters);
     let m = transform::at_most_far(n);
-    let g = extend::extend_nulls(plan, &parts, &mut counts, &mut room, false, 0, m, 8);
+    let g = extend::extend_nulls(plan, &parts, &mut tally, &mut room, false, 0, m, 8);
     if g != 0 {
         return g;
     }
-    let made = transform::copied(counts);
+    let made = transform::copied(tally);
     transform::store(counters, &made);
     0
 }

@@ -24,16 +24,16 @@ use Rattle.room_writes.proofs.Laws.{Alike, alike-grown}
 use Rattle.leaf_walk.proofs.Laws.{wrote-alike, wrote-at, wrote-behind}
 use Rattle.nested_rows.specs.Numbers.{listNumbers, denseNumbers, runsReady, runNumbers, nullIds, nullPositions, nullEnd, longerEnd}
 
-over-same : (state parts : List ℕ) (w : Bool) (i b o : ℕ) (bs room : List ℕ) → applyIf state parts w (put i b o bs ∷ []) room ≡ applyIf state parts w (amend i b o bs ∷ []) room
+over-same : (plan parts : List ℕ) (w : Bool) (i b o : ℕ) (bs room : List ℕ) → applyIf plan parts w (put i b o bs ∷ []) room ≡ applyIf plan parts w (amend i b o bs ∷ []) room
 unfolding applyIf apply enter
-over-same state parts true i b o bs room = refl
-over-same state parts false i b o bs room = refl
+over-same plan parts true i b o bs room = refl
+over-same plan parts false i b o bs room = refl
 
 -- a write over bytes is made as one behind them
-pub amend-did : {state parts : List ℕ} {wr : Bool} (i b o : ℕ) (bs c : List ℕ) {room room2 : List ℕ} → Did state parts wr (wrote (put i b o bs) c) room 0 c room2
-    → Did state parts wr (wrote (amend i b o bs) c) room 0 c room2
+pub amend-did : {plan parts : List ℕ} {wr : Bool} (i b o : ℕ) (bs c : List ℕ) {room room2 : List ℕ} → Did plan parts wr (wrote (put i b o bs) c) room 0 c room2
+    → Did plan parts wr (wrote (amend i b o bs) c) room 0 c room2
 unfolding wrote
-amend-did {state} {parts} {wr} i b o bs c {room} d = record { answer = d .answer; counters = d .counters; bytes = d .bytes ∙ over-same state parts wr i b o bs room }
+amend-did {plan} {parts} {wr} i b o bs c {room} d = record { answer = d .answer; counters = d .counters; bytes = d .bytes ∙ over-same plan parts wr i b o bs room }
 
 -- ---- the steps that a function takes together, and a child's walk behind them
 
@@ -84,8 +84,8 @@ else-wide w a b = rw (ne-eqb w 2 a, ne-eqb w 4 b)
 pub ends-far : (i : ℕ) (t : Bool) → 30 ≤ i → false ≡ (ltb (suc (suc i)) 32 && t)
 ends-far i t h = rw (le-ltb (suc (suc i)) 32 (omega arith))
 
-pub ends-near : (i : ℕ) {w j : ℕ} {t : Bool} (state : List ℕ) → i < 30 → j ≡ suc i → w ≡ bytesOf state j → t ≡ isWidth w → t ≡ (ltb (suc (suc i)) 32 && isWidth (bytesOf state (suc i)))
-ends-near i state h e f g = rw (lt-ltb (suc (suc i)) 32 (omega arith)) (g ∙ ap isWidth (f ∙ ap (λ (z : ℕ). bytesOf state z) e))
+pub ends-near : (i : ℕ) {w j : ℕ} {t : Bool} (plan : List ℕ) → i < 30 → j ≡ suc i → w ≡ bytesOf plan j → t ≡ isWidth w → t ≡ (ltb (suc (suc i)) 32 && isWidth (bytesOf plan (suc i)))
+ends-near i plan h e f g = rw (lt-ltb (suc (suc i)) 32 (omega arith)) (g ∙ ap isWidth (f ∙ ap (λ (z : ℕ). bytesOf plan z) e))
 
 pub wide-in : (w : ℕ) → ((w ≡ 2 → ⊥) → (w ≡ 4 → ⊥) → w ≡ 8) → (2 ≤ w) × (w ≤ 8)
 wide-in w h = go (eqb w 2) (eqb w 4) refl refl
@@ -103,80 +103,80 @@ half-top w h = go (eqb w 2) (eqb w 4) refl refl
     go false true e f = rw (eqb-true w 4 f) (omega arith)
     go false false e f = rw (h (eqb-false w 2 e) (eqb-false w 4 f)) (omega arith)
 
-module _ (state parts : List ℕ) (wr : Bool) (i : ℕ) (c room : List ℕ) where
+module _ (plan parts : List ℕ) (wr : Bool) (i : ℕ) (c room : List ℕ) where
   -- ---- list-views
 
   module _ (w r size : ℕ) where
-    pub list-no : {j off : ℕ} {t : Bool} → j ≡ suc i → off ≡ rows c j → t ≡ ltb (off + size) (half w) → not t ≡ true → Did state parts wr (listNumbers w i r size c) room 6 c room
+    pub list-no : {j off : ℕ} {t : Bool} → j ≡ suc i → off ≡ rows c j → t ≡ ltb (off + size) (half w) → not t ≡ true → Did plan parts wr (listNumbers w i r size c) room 6 c room
     unfolding listNumbers
     list-no e f g h = need-no _ (rw (f, e) at (no g h))
 
     pub list-yes : {j off o p q : ℕ} {t : Bool} {room1 room2 : List ℕ} → j ≡ suc i → off ≡ rows c j → t ≡ ltb (off + size) (half w) → not t ≡ false
-        → p ≡ rows c i → q ≡ grown p r → o ≡ scaled q w → 1 ≤ w → length room < top → length room1 < top → room1 ≡ applyIf state parts wr (put i 1 o (encode w off) ∷ []) room
-        → room2 ≡ applyIf state parts wr (put i 2 o (encode w size) ∷ []) room1 → Did state parts wr (listNumbers w i r size c) room 0 c room2
+        → p ≡ rows c i → q ≡ grown p r → o ≡ scaled q w → 1 ≤ w → length room < top → length room1 < top → room1 ≡ applyIf plan parts wr (put i 1 o (encode w off) ∷ []) room
+        → room2 ≡ applyIf plan parts wr (put i 2 o (encode w size) ∷ []) room1 → Did plan parts wr (listNumbers w i r size c) room 0 c room2
     unfolding listNumbers
     list-yes {room1 = room1} e f g h k l m s y z a b =
         need-ok 6 c (rw (f, e) at (yes g h))
-        (next-ok _ (wrote-behind state parts wr i 1 (rows c i) r w (encode w (rows c (suc i))) c room k l m s y (rw (f, e) at a)) refl
-        (wrote-behind state parts wr i 2 (rows c i) r w (encode w size) c room1 k l m s z b))
+        (next-ok _ (wrote-behind plan parts wr i 1 (rows c i) r w (encode w (rows c (suc i))) c room k l m s y (rw (f, e) at a)) refl
+        (wrote-behind plan parts wr i 2 (rows c i) r w (encode w size) c room1 k l m s z b))
 
   -- ---- dense unions
 
   module _ (r k id : ℕ) where
-    pub dense-no : {p : ℕ} → p ≡ rows c k → half 4 ≤ p → Did state parts wr (denseNumbers i r k id c) room 6 c room
+    pub dense-no : {p : ℕ} → p ≡ rows c k → half 4 ≤ p → Did plan parts wr (denseNumbers i r k id c) room 6 c room
     unfolding denseNumbers
     dense-no e h = need-no _ (le-ltb (rows c k) (half 4) (rw e at h))
 
     pub dense-yes : {o p q v : ℕ} {room1 room2 : List ℕ} → v ≡ rows c k → v < half 4 → p ≡ rows c i → q ≡ grown p r → o ≡ scaled q 4 → length room < top → length room1 < top
-        → room1 ≡ applyIf state parts wr (put i 1 q (replicate 1 id) ∷ []) room → room2 ≡ applyIf state parts wr (put i 2 o (encode 4 v) ∷ []) room1
-        → Did state parts wr (denseNumbers i r k id c) room 0 c room2
+        → room1 ≡ applyIf plan parts wr (put i 1 q (replicate 1 id) ∷ []) room → room2 ≡ applyIf plan parts wr (put i 2 o (encode 4 v) ∷ []) room1
+        → Did plan parts wr (denseNumbers i r k id c) room 0 c room2
     unfolding denseNumbers
     dense-yes {q = q} {room1 = room1} e h l m s x y a b =
         let z : Alike q (rows c i + r) = rw (m, l) (alike-grown (rows c i) r) in
         need-ok 6 c (lt-ltb (rows c k) (half 4) (rw e at h))
-        (next-ok _ (wrote-alike state parts wr i 1 q (rows c i + r) (id ∷ []) c room x z a) refl
-        (wrote-behind state parts wr i 2 (rows c i) r 4 (encode 4 (rows c k)) c room1 l m s (omega arith) y (rw e at b)))
+        (next-ok _ (wrote-alike plan parts wr i 1 q (rows c i + r) (id ∷ []) c room x z a) refl
+        (wrote-behind plan parts wr i 2 (rows c i) r 4 (encode 4 (rows c k)) c room1 l m s (omega arith) y (rw e at b)))
 
   -- ---- nulls of unions
 
   module _ (h n : ℕ) where
-    pub ids-did : {o v : ℕ} {room2 : List ℕ} → o ≡ rows c i → v ≡ idOf state h → room2 ≡ applyIf state parts wr (put i 1 o (replicate n v) ∷ []) room
-        → Did state parts wr (nullIds state i h n c) room 0 c room2
+    pub ids-did : {o v : ℕ} {room2 : List ℕ} → o ≡ rows c i → v ≡ idOf plan h → room2 ≡ applyIf plan parts wr (put i 1 o (replicate n v) ∷ []) room
+        → Did plan parts wr (nullIds plan i h n c) room 0 c room2
     ids-did e f g = wrote-did wr _ c room _ (rw (e, f) at g)
 
-    pub positions-no : {p q : ℕ} → p ≡ rows c h → q ≡ grown p n → half 4 < q → Did state parts wr (nullPositions state i h n c) room 6 c room
+    pub positions-no : {p q : ℕ} → p ≡ rows c h → q ≡ grown p n → half 4 < q → Did plan parts wr (nullPositions plan i h n c) room 6 c room
     unfolding nullPositions grown
     positions-no e f g = need-no _ (lt-leb (rows c h + n) (half 4) (omega (arith, e, f)))
 
-    pub positions-stop : {p q r : ℕ} {room1 : List ℕ} → p ≡ rows c h → q ≡ grown p n → q ≤ half 4 → Did state parts wr (nullIds state i h n c) room r c room1 → (r ≡ 0 → ⊥)
-        → Did state parts wr (nullPositions state i h n c) room r c room1
+    pub positions-stop : {p q r : ℕ} {room1 : List ℕ} → p ≡ rows c h → q ≡ grown p n → q ≤ half 4 → Did plan parts wr (nullIds plan i h n c) room r c room1 → (r ≡ 0 → ⊥)
+        → Did plan parts wr (nullPositions plan i h n c) room r c room1
     unfolding nullPositions grown
     positions-stop e f g d z = need-ok 6 c (le-leb (rows c h + n) (half 4) (omega (arith, e, f))) (next-no _ d z)
 
-    pub positions-yes : {o p q r v : ℕ} {room1 room2 : List ℕ} → p ≡ rows c h → q ≡ grown p n → q ≤ half 4 → Did state parts wr (nullIds state i h n c) room r c room1 → r ≡ 0
-        → v ≡ rows c i → o ≡ scaled v 4 → length room1 < top → room2 ≡ applyIf state parts wr (put i 2 o (countedUp 4 p n) ∷ []) room1 → Did state parts wr (nullPositions state i h n c) room 0 c room2
+    pub positions-yes : {o p q r v : ℕ} {room1 room2 : List ℕ} → p ≡ rows c h → q ≡ grown p n → q ≤ half 4 → Did plan parts wr (nullIds plan i h n c) room r c room1 → r ≡ 0
+        → v ≡ rows c i → o ≡ scaled v 4 → length room1 < top → room2 ≡ applyIf plan parts wr (put i 2 o (countedUp 4 p n) ∷ []) room1 → Did plan parts wr (nullPositions plan i h n c) room 0 c room2
     unfolding nullPositions grown
     positions-yes {room1 = room1} e f g d z k l s m =
         need-ok 6 c (le-leb (rows c h + n) (half 4) (omega (arith, e, f)))
-        (next-ok _ d z (wrote-at state parts wr i 2 (rows c i) 4 (countedUp 4 (rows c h) n) c room1 k l s (rw e at m)))
+        (next-ok _ d z (wrote-at plan parts wr i 2 (rows c i) 4 (countedUp 4 (rows c h) n) c room1 k l s (rw e at m)))
 
   -- ---- the run of nulls
 
   module _ (n : ℕ) where
-    pub end-no : {j p w : ℕ} {t : Bool} → j ≡ suc i → w ≡ bytesOf state j → p ≡ rows c i → t ≡ ltb (p + n) (half w) → not t ≡ true → Did state parts wr (nullEnd state i n c) room 7 c room
+    pub end-no : {j p w : ℕ} {t : Bool} → j ≡ suc i → w ≡ bytesOf plan j → p ≡ rows c i → t ≡ ltb (p + n) (half w) → not t ≡ true → Did plan parts wr (nullEnd plan i n c) room 7 c room
     unfolding nullEnd
     end-no e f g h k = need-no _ (rw (g, f, e) at (no h k))
 
-    pub end-yes : {j o p v w : ℕ} {t : Bool} {c2 room2 : List ℕ} → j ≡ suc i → w ≡ bytesOf state j → p ≡ rows c i → t ≡ ltb (p + n) (half w) → not t ≡ false
-        → v ≡ rows c j → o ≡ scaled v w → length room < top → room2 ≡ applyIf state parts wr (put j 1 o (encode w (p + n)) ∷ []) room → c2 ≡ beginGap i (addRows (suc i) 1 c) → Did state parts wr (nullEnd state i n c) room 0 c2 room2
+    pub end-yes : {j o p v w : ℕ} {t : Bool} {c2 room2 : List ℕ} → j ≡ suc i → w ≡ bytesOf plan j → p ≡ rows c i → t ≡ ltb (p + n) (half w) → not t ≡ false
+        → v ≡ rows c j → o ≡ scaled v w → length room < top → room2 ≡ applyIf plan parts wr (put j 1 o (encode w (p + n)) ∷ []) room → c2 ≡ beginGap i (addRows (suc i) 1 c) → Did plan parts wr (nullEnd plan i n c) room 0 c2 room2
     unfolding nullEnd
     end-yes {room2 = room2} e f g h k l m s a b =
-        let y = f ∙ ap (λ (z : ℕ). bytesOf state z) e in
+        let y = f ∙ ap (λ (z : ℕ). bytesOf plan z) e in
         need-ok 7 c (rw (g, y) at (yes h k))
-        (next-ok _ (wrote-at state parts wr (suc i) 1 (rows c (suc i)) (bytesOf state (suc i)) (encode (bytesOf state (suc i)) (rows c i + n)) c room (l ∙ ap (λ (z : ℕ). rows c z) e) (rw y at m) s (rw (g, y, e) at a)) refl
+        (next-ok _ (wrote-at plan parts wr (suc i) 1 (rows c (suc i)) (bytesOf plan (suc i)) (encode (bytesOf plan (suc i)) (rows c i + n)) c room (l ∙ ap (λ (z : ℕ). rows c z) e) (rw y at m) s (rw (g, y, e) at a)) refl
         (rw b (done-did wr _ room2)))
 
-    pub longer-none : {j r : ℕ} → j ≡ suc i → r ≡ rows c j → r ≡ 0 → Did state parts wr (longerEnd state i n c) room 12 c room
+    pub longer-none : {j r : ℕ} → j ≡ suc i → r ≡ rows c j → r ≡ 0 → Did plan parts wr (longerEnd plan i n c) room 12 c room
     unfolding longerEnd
     longer-none e f z = need-no _ (lt-leb 1 (rows c (suc i)) (omega (arith, f, ap (λ (z : ℕ). rows c z) e)))
 
@@ -184,29 +184,29 @@ module _ (state parts : List ℕ) (wr : Bool) (i : ℕ) (c room : List ℕ) wher
       is-some : leb 1 (rows c (suc i)) ≡ true
       is-some = le-leb 1 (rows c (suc i)) (omega (arith, l, ap (λ (z : ℕ). rows c z) e))
 
-      pub longer-no : {p w : ℕ} {t : Bool} → w ≡ bytesOf state j → p ≡ rows c i → t ≡ ltb (p + n) (half w) → not t ≡ true → Did state parts wr (longerEnd state i n c) room 7 c room
+      pub longer-no : {p w : ℕ} {t : Bool} → w ≡ bytesOf plan j → p ≡ rows c i → t ≡ ltb (p + n) (half w) → not t ≡ true → Did plan parts wr (longerEnd plan i n c) room 7 c room
       unfolding longerEnd
       longer-no f g h k = need-ok 12 c is-some (need-no _ (rw (g, f, e) at (no h k)))
 
-      pub longer-yes : {o p w : ℕ} {t : Bool} {room2 : List ℕ} → w ≡ bytesOf state j → p ≡ rows c i → t ≡ ltb (p + n) (half w) → not t ≡ false
-          → o ≡ scaled (r - 1) w → length room < top → room2 ≡ applyIf state parts wr (put j 1 o (encode w (p + n)) ∷ []) room → Did state parts wr (longerEnd state i n c) room 0 c room2
+      pub longer-yes : {o p w : ℕ} {t : Bool} {room2 : List ℕ} → w ≡ bytesOf plan j → p ≡ rows c i → t ≡ ltb (p + n) (half w) → not t ≡ false
+          → o ≡ scaled (r - 1) w → length room < top → room2 ≡ applyIf plan parts wr (put j 1 o (encode w (p + n)) ∷ []) room → Did plan parts wr (longerEnd plan i n c) room 0 c room2
       unfolding longerEnd
       longer-yes {room2 = room2} f g h k m s a =
-          let y = f ∙ ap (λ (z : ℕ). bytesOf state z) e in
+          let y = f ∙ ap (λ (z : ℕ). bytesOf plan z) e in
           let v : r - 1 ≡ rows c (suc i) - 1 = ap (_- 1) (l ∙ ap (λ (z : ℕ). rows c z) e) in
-          let d = wrote-at state parts wr (suc i) 1 (rows c (suc i) - 1) (bytesOf state (suc i)) (encode (bytesOf state (suc i)) (rows c i + n)) c room v (rw y at m) s (rw (g, y, e) at a) in
-          need-ok 12 c is-some (need-ok 7 c (rw (g, y) at (yes h k)) (amend-did (suc i) 1 ((rows c (suc i) - 1) * bytesOf state (suc i)) (encode (bytesOf state (suc i)) (rows c i + n)) c d))
+          let d = wrote-at plan parts wr (suc i) 1 (rows c (suc i) - 1) (bytesOf plan (suc i)) (encode (bytesOf plan (suc i)) (rows c i + n)) c room v (rw y at m) s (rw (g, y, e) at a) in
+          need-ok 12 c is-some (need-ok 7 c (rw (g, y) at (yes h k)) (amend-did (suc i) 1 ((rows c (suc i) - 1) * bytesOf plan (suc i)) (encode (bytesOf plan (suc i)) (rows c i + n)) c d))
 
 -- ---- the home of nulls
 
-pub home-is : (state : List ℕ) (i : ℕ) {e j r : ℕ} → e ≡ endOf state i → j ≡ suc i → r ≡ nullableChild state e 32 j → r ≡ nullableChild state (endOf state i) 32 (suc i)
-home-is state i f g h = rw (f, g) at h
+pub home-is : (plan : List ℕ) (i : ℕ) {e j r : ℕ} → e ≡ endOf plan i → j ≡ suc i → r ≡ nullableChild plan e 32 j → r ≡ nullableChild plan (endOf plan i) 32 (suc i)
+home-is plan i f g h = rw (f, g) at h
 
-pub home-five : (state : List ℕ) (i : ℕ) {e j : ℕ} → e ≡ endOf state i → j ≡ suc i → j < e → 5 ≡ noHome state i
-home-five state i f g h = rw (lt-ltb (suc i) (endOf state i) (rw (f, g) at h))
+pub home-five : (plan : List ℕ) (i : ℕ) {e j : ℕ} → e ≡ endOf plan i → j ≡ suc i → j < e → 5 ≡ noHome plan i
+home-five plan i f g h = rw (lt-ltb (suc i) (endOf plan i) (rw (f, g) at h))
 
-pub home-four : (state : List ℕ) (i : ℕ) {e j : ℕ} → e ≡ endOf state i → j ≡ suc i → e ≤ j → 4 ≡ noHome state i
-home-four state i f g h = rw (le-ltb (suc i) (endOf state i) (rw (f, g) at h))
+pub home-four : (plan : List ℕ) (i : ℕ) {e j : ℕ} → e ≡ endOf plan i → j ≡ suc i → e ≤ j → 4 ≡ noHome plan i
+home-four plan i f g h = rw (le-ltb (suc i) (endOf plan i) (rw (f, g) at h))
 
 -- ---- rows in the body
 
@@ -233,22 +233,22 @@ ends-given x i w e f g h = rw (e, f, g) at h
 
 module _ (x : Join) (wr : Bool) (i : ℕ) (c room : List ℕ) where
   module _ (n : ℕ) where
-    pub ready-none : {t : Bool} → t ≡ (ltb (suc (suc i)) 32 && isWidth (bytesOf (x .state) (suc i))) → not t ≡ true → Did (x .state) (x .parts) wr (runsReady x i n c) room 12 c room
+    pub ready-none : {t : Bool} → t ≡ (ltb (suc (suc i)) 32 && isWidth (bytesOf (x .plan) (suc i))) → not t ≡ true → Did (x .plan) (x .parts) wr (runsReady x i n c) room 12 c room
     unfolding runsReady
     ready-none e h = need-no _ (no e h)
 
-    module _ {j p w : ℕ} {t u : Bool} (e : t ≡ (ltb (suc (suc i)) 32 && isWidth (bytesOf (x .state) (suc i)))) (f : not t ≡ false) (g : j ≡ suc i) (h : w ≡ bytesOf (x .state) j) (k : p ≡ rows c i)
+    module _ {j p w : ℕ} {t u : Bool} (e : t ≡ (ltb (suc (suc i)) 32 && isWidth (bytesOf (x .plan) (suc i)))) (f : not t ≡ false) (g : j ≡ suc i) (h : w ≡ bytesOf (x .plan) j) (k : p ≡ rows c i)
         (l : u ≡ ltb (p + n) (half w)) where
-      pub ready-over : not u ≡ true → Did (x .state) (x .parts) wr (runsReady x i n c) room 7 c room
+      pub ready-over : not u ≡ true → Did (x .plan) (x .parts) wr (runsReady x i n c) room 7 c room
       unfolding runsReady
       ready-over m = need-ok 12 c (yes e f) (need-no _ (rw (k, h, g) at (no l m)))
 
       module _ {v : Bool} (m : not u ≡ false) (o : v ≡ rowsIn x (place x j 3) w (offsetOf x j) (lengthOf x j)) where
-        pub ready-out : not v ≡ true → Did (x .state) (x .parts) wr (runsReady x i n c) room 12 c room
+        pub ready-out : not v ≡ true → Did (x .plan) (x .parts) wr (runsReady x i n c) room 12 c room
         unfolding runsReady
         ready-out q = need-ok 12 c (yes e f) (need-ok 7 c (rw (k, h, g) at (yes l m)) (need-no _ (rw (h, g) at (no o q))))
 
-        pub ready-yes : not v ≡ false → Did (x .state) (x .parts) wr (runsReady x i n c) room 0 c room
+        pub ready-yes : not v ≡ false → Did (x .plan) (x .parts) wr (runsReady x i n c) room 0 c room
         unfolding runsReady
         ready-yes q = need-ok 12 c (yes e f) (need-ok 7 c (rw (k, h, g) at (yes l m)) (need-ok 12 c (rw (h, g) at (yes o q)) (done-did wr c room)))
 
@@ -267,11 +267,11 @@ runs-given x child w i slot n e f g h l = rw (f, g, h, e) at l
 
 pub run-did : (x : Join) (wr : Bool) (w i slot n last run count : ℕ) (c room : List ℕ) {j k at o p v : ℕ} {c2 room2 : List ℕ} → j ≡ suc i → k ≡ x .first + suc i → at ≡ getD (x .places) (9 * k + 3) 0
     → o ≡ getD (x .lengths) (2 * k + 1) 0 → v ≡ rows c j → p ≡ scaled v w → length room < top
-    → room2 ≡ applyIf (x .state) (x .parts) wr (put j 1 p (clipped w (x .body) (at + w * o + w * run) count slot (slot + n) last) ∷ []) room → c2 ≡ endGap i (addRows (suc i) count c)
-    → Did (x .state) (x .parts) wr (runNumbers x w i slot n last run count c) room 0 c2 room2
+    → room2 ≡ applyIf (x .plan) (x .parts) wr (put j 1 p (clipped w (x .body) (at + w * o + w * run) count slot (slot + n) last) ∷ []) room → c2 ≡ endGap i (addRows (suc i) count c)
+    → Did (x .plan) (x .parts) wr (runNumbers x w i slot n last run count c) room 0 c2 room2
 unfolding runNumbers
 run-did x wr w i slot n last run count c room {room2 = room2} e f g h l m s a b =
-    next-ok _ (wrote-at (x .state) (x .parts) wr (suc i) 1 (rows c (suc i)) w (clipped w (x .body) (place x (suc i) 3 + w * offsetOf x (suc i) + w * run) count slot (slot + n) last) c room (l ∙ ap (λ (z : ℕ). rows c z) e) m s (rw (g, h, f, e) at a)) refl
+    next-ok _ (wrote-at (x .plan) (x .parts) wr (suc i) 1 (rows c (suc i)) w (clipped w (x .body) (place x (suc i) 3 + w * offsetOf x (suc i) + w * run) count slot (slot + n) last) c room (l ∙ ap (λ (z : ℕ). rows c z) e) m s (rw (g, h, f, e) at a)) refl
     (rw b (done-did wr _ room2))
 
 -- ---- gaps

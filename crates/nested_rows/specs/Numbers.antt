@@ -29,9 +29,9 @@ denseNumbers i r k id c =
 -- what is asked of a run-end node before its values are copied
 unfoldable pub runsReady : Join → ℕ → ℕ → List ℕ → Out
 runsReady x i n c =
-    need (ltb (suc (suc i)) 32 && isWidth (bytesOf (x .state) (suc i))) 12 c
-    (need (ltb (rows c i + n) (half (bytesOf (x .state) (suc i)))) 7 c
-    (need (rowsIn x (place x (suc i) 3) (bytesOf (x .state) (suc i)) (offsetOf x (suc i)) (lengthOf x (suc i))) 12 c
+    need (ltb (suc (suc i)) 32 && isWidth (bytesOf (x .plan) (suc i))) 12 c
+    (need (ltb (rows c i + n) (half (bytesOf (x .plan) (suc i)))) 7 c
+    (need (rowsIn x (place x (suc i) 3) (bytesOf (x .plan) (suc i)) (offsetOf x (suc i)) (lengthOf x (suc i))) 12 c
     (done c)))
 
 -- the ends of `count` runs from `run` on, clipped to the rows and counted
@@ -42,24 +42,24 @@ runNumbers x w i slot n last run count c =
 
 -- n ids of the node h
 abbrev pub nullIds : List ℕ → ℕ → ℕ → ℕ → List ℕ → Out
-nullIds state i h n c = wrote (put i 1 (rows c i) (replicate n (idOf state h))) c
+nullIds plan i h n c = wrote (put i 1 (rows c i) (replicate n (idOf plan h))) c
 
 -- .. with their positions in that node: "dense 6"
 unfoldable pub nullPositions : List ℕ → ℕ → ℕ → ℕ → List ℕ → Out
-nullPositions state i h n c =
+nullPositions plan i h n c =
     need (leb (rows c h + n) (half 4)) 6 c
-    (next (nullIds state i h n c) (λ c2. wrote (put i 2 (rows c2 i * 4) (countedUp 4 (rows c2 h) n)) c2))
+    (next (nullIds plan i h n c) (λ c2. wrote (put i 2 (rows c2 i * 4) (countedUp 4 (rows c2 h) n)) c2))
 
 -- the end of a run of n nulls: "A nonempty null order adds one run"
 unfoldable pub nullEnd : List ℕ → ℕ → ℕ → List ℕ → Out
-nullEnd state i n c =
-    need (ltb (rows c i + n) (half (bytesOf state (suc i)))) 7 c
-    (next (wrote (put (suc i) 1 (rows c (suc i) * bytesOf state (suc i)) (encode (bytesOf state (suc i)) (rows c i + n))) c)
+nullEnd plan i n c =
+    need (ltb (rows c i + n) (half (bytesOf plan (suc i)))) 7 c
+    (next (wrote (put (suc i) 1 (rows c (suc i) * bytesOf plan (suc i)) (encode (bytesOf plan (suc i)) (rows c i + n))) c)
     (λ c2. done (beginGap i (addRows (suc i) 1 c2))))
 
 -- the end of the last run, n nulls later: it "lengthens the last run"
 unfoldable pub longerEnd : List ℕ → ℕ → ℕ → List ℕ → Out
-longerEnd state i n c =
+longerEnd plan i n c =
     need (leb 1 (rows c (suc i))) 12 c
-    (need (ltb (rows c i + n) (half (bytesOf state (suc i)))) 7 c
-    (wrote (amend (suc i) 1 ((rows c (suc i) - 1) * bytesOf state (suc i)) (encode (bytesOf state (suc i)) (rows c i + n))) c))
+    (need (ltb (rows c i + n) (half (bytesOf plan (suc i)))) 7 c
+    (wrote (amend (suc i) 1 ((rows c (suc i) - 1) * bytesOf plan (suc i)) (encode (bytesOf plan (suc i)) (rows c i + n))) c))

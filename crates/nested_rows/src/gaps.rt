@@ -27,21 +27,21 @@ fn gap_begun(gap: u64) -> u64
 }
 
 // n ends more of the run-end node i, of a copy.
-pub fn count_runs(counts: &mut [u64; plan_words::COUNTERS], i: usize, n: u64)
+pub fn count_runs(counters: &mut [u64; plan_words::COUNTERS], i: usize, n: u64)
     requires { ⌜ i + 2 < 32 ⌝ }
-    ensures { λ _. ⌜ now (counts .exit) ≡ endGap i (addRows (suc i) n (now (counts .entry))) ⌝ }
+    ensures { λ _. ⌜ now (counters .exit) ≡ endGap i (addRows (suc i) n (now (counters .entry))) ⌝ }
 {
-    plan_words::add_rows(counts, i + 1, n);
-    let gap = plan_words::bytes_of(counts, i);
-    plan_words::set_bytes(counts, i, gap_ended(gap))
+    plan_words::add_rows(counters, i + 1, n);
+    let gap = plan_words::bytes_of(counters, i);
+    plan_words::set_bytes(counters, i, gap_ended(gap))
 }
 
 // One end more, of an order of nulls.
-pub fn count_null_run(counts: &mut [u64; plan_words::COUNTERS], i: usize)
+pub fn count_null_run(counters: &mut [u64; plan_words::COUNTERS], i: usize)
     requires { ⌜ i + 2 < 32 ⌝ }
-    ensures { λ _. ⌜ now (counts .exit) ≡ beginGap i (addRows (suc i) 1 (now (counts .entry))) ⌝ }
+    ensures { λ _. ⌜ now (counters .exit) ≡ beginGap i (addRows (suc i) 1 (now (counters .entry))) ⌝ }
 {
-    plan_words::add_rows(counts, i + 1, 1);
-    let gap = plan_words::bytes_of(counts, i);
-    plan_words::set_bytes(counts, i, gap_begun(gap))
+    plan_words::add_rows(counters, i + 1, 1);
+    let gap = plan_words::bytes_of(counters, i);
+    plan_words::set_bytes(counters, i, gap_begun(gap))
 }

@@ -50,7 +50,7 @@ pub fn pairs_in(
     n: u64,
 ) -> bool
     requires { ⌜ (first < 2 ^ 32) × (i < 32) × (slot + n < 2 ^ 63) × (v ≤ 16) × (w ≤ 16) ⌝ }
-    ensures { λ r. ⌜ ((state parts lengths : List ℕ) (source : ℕ) → r ≡ (rowsIn (join state parts lengths (now (places .entry)) (now (body .entry)) first source) (place (join state parts lengths (now (places .entry)) (now (body .entry)) first source) i 3) v slot n && rowsIn (join state parts lengths (now (places .entry)) (now (body .entry)) first source) (place (join state parts lengths (now (places .entry)) (now (body .entry)) first source) i 5) w slot n)) ⌝ }
+    ensures { λ r. ⌜ ((plan parts lengths : List ℕ) (source : ℕ) → r ≡ (rowsIn (join plan parts lengths (now (places .entry)) (now (body .entry)) first source) (place (join plan parts lengths (now (places .entry)) (now (body .entry)) first source) i 3) v slot n && rowsIn (join plan parts lengths (now (places .entry)) (now (body .entry)) first source) (place (join plan parts lengths (now (places .entry)) (now (body .entry)) first source) i 5) w slot n)) ⌝ }
 {
     if !leaf_walk::rows_in(body, lent_tables::place(places, first + i, 3), v, slot, n) {
         return false;
@@ -60,9 +60,9 @@ pub fn pairs_in(
 
 // The offset and the size of row r of a list-view.
 pub fn list_numbers(
-    state: &[u64],
+    plan: &[u64],
     parts: &[u64],
-    counts: &[u64; plan_words::COUNTERS],
+    counters: &[u64; plan_words::COUNTERS],
     room: &mut [u8],
     write: bool,
     i: usize,
@@ -72,23 +72,23 @@ pub fn list_numbers(
 ) -> u8
     requires { ⌜ i + 1 < 32 ⌝ }
     requires { ⌜ ((w ≡ 4 → ⊥) → w ≡ 8) ⌝ }
-    ensures { λ g. ⌜ Did (now (state .entry)) (now (parts .entry)) write (listNumbers w i r size (now (counts .entry))) (now (room .entry)) g (now (counts .entry)) (now (room .exit)) ⌝ }
+    ensures { λ g. ⌜ Did (now (plan .entry)) (now (parts .entry)) write (listNumbers w i r size (now (counters .entry))) (now (room .entry)) g (now (counters .entry)) (now (room .exit)) ⌝ }
 {
-    let offset = plan_words::rows_of(counts, i + 1);
+    let offset = plan_words::rows_of(counters, i + 1);
     if !sum_fits(w, offset, size) {
         return 6;
     }
-    let o = plan_words::scale(plan_words::grow(plan_words::rows_of(counts, i), r), w);
-    room_writes::put_number(state, parts, room, write, i, 1, o, w, offset);
-    room_writes::put_number(state, parts, room, write, i, 2, o, w, size);
+    let o = plan_words::scale(plan_words::grow(plan_words::rows_of(counters, i), r), w);
+    room_writes::put_number(plan, parts, room, write, i, 1, o, w, offset);
+    room_writes::put_number(plan, parts, room, write, i, 2, o, w, size);
     0
 }
 
 // The id and the position of row r of a dense union, whose child is node k.
 pub fn dense_numbers(
-    state: &[u64],
+    plan: &[u64],
     parts: &[u64],
-    counts: &[u64; plan_words::COUNTERS],
+    counters: &[u64; plan_words::COUNTERS],
     room: &mut [u8],
     write: bool,
     i: usize,
@@ -97,28 +97,28 @@ pub fn dense_numbers(
     id: u8,
 ) -> u8
     requires { ⌜ (i < 32) × (k < 32) ⌝ }
-    ensures { λ g. ⌜ Did (now (state .entry)) (now (parts .entry)) write (denseNumbers i r k id (now (counts .entry))) (now (room .entry)) g (now (counts .entry)) (now (room .exit)) ⌝ }
+    ensures { λ g. ⌜ Did (now (plan .entry)) (now (parts .entry)) write (denseNumbers i r k id (now (counters .entry))) (now (room .entry)) g (now (counters .entry)) (now (room .exit)) ⌝ }
 {
-    let position = plan_words::rows_of(counts, k);
+    let position = plan_words::rows_of(counters, k);
     if 2147483648 <= position {
         return 6;
     }
-    let behind = plan_words::grow(plan_words::rows_of(counts, i), r);
-    room_writes::put_same(state, parts, room, write, i, 1, behind, 1, id);
+    let behind = plan_words::grow(plan_words::rows_of(counters, i), r);
+    room_writes::put_same(plan, parts, room, write, i, 1, behind, 1, id);
     let o = plan_words::scale(behind, 4);
-    room_writes::put_number(state, parts, room, write, i, 2, o, 4, position);
+    room_writes::put_number(plan, parts, room, write, i, 2, o, 4, position);
     0
 }
 
 // Whether nodes i + 1 and i + 2 may be the run ends and the values of a run-end node.
-pub fn has_ends(state: &[u64], i: usize) -> bool
+pub fn has_ends(plan: &[u64], i: usize) -> bool
     requires { ⌜ i < 32 ⌝ }
-    ensures { λ r. ⌜ r ≡ (ltb (suc (suc i)) 32 && isWidth (bytesOf (now (state .entry)) (suc i))) ⌝ }
+    ensures { λ r. ⌜ r ≡ (ltb (suc (suc i)) 32 && isWidth (bytesOf (now (plan .entry)) (suc i))) ⌝ }
 {
     if 30 <= i {
         return false;
     }
-    let w = lookups::width_at(state, i + 1);
+    let w = lookups::width_at(plan, i + 1);
     if w == 2 {
         return true;
     }
@@ -131,7 +131,7 @@ pub fn has_ends(state: &[u64], i: usize) -> bool
 // Whether the run ends of w bytes of node i stand in the body.
 fn ends_in(lengths: &[u64], places: &[u64], body: &[u8], first: usize, i: usize, w: u64) -> bool
     requires { ⌜ (first < 2 ^ 32) × (i < 32) × (1 ≤ w) × (w ≤ 16) ⌝ }
-    ensures { λ r. ⌜ ((state parts : List ℕ) (source : ℕ) → r ≡ rowsIn (join state parts (now (lengths .entry)) (now (places .entry)) (now (body .entry)) first source) (place (join state parts (now (lengths .entry)) (now (places .entry)) (now (body .entry)) first source) i 3) w (offsetOf (join state parts (now (lengths .entry)) (now (places .entry)) (now (body .entry)) first source) i) (lengthOf (join state parts (now (lengths .entry)) (now (places .entry)) (now (body .entry)) first source) i)) ⌝ }
+    ensures { λ r. ⌜ ((plan parts : List ℕ) (source : ℕ) → r ≡ rowsIn (join plan parts (now (lengths .entry)) (now (places .entry)) (now (body .entry)) first source) (place (join plan parts (now (lengths .entry)) (now (places .entry)) (now (body .entry)) first source) i 3) w (offsetOf (join plan parts (now (lengths .entry)) (now (places .entry)) (now (body .entry)) first source) i) (lengthOf (join plan parts (now (lengths .entry)) (now (places .entry)) (now (body .entry)) first source) i)) ⌝ }
 {
     let offset = lent_tables::offset_of(lengths, first + i);
     let n = lent_tables::length_of(lengths, first + i);
@@ -146,23 +146,23 @@ fn ends_in(lengths: &[u64], places: &[u64], body: &[u8], first: usize, i: usize,
 
 // What is asked of a run-end node before its values are copied.
 pub fn runs_ready(
-    state: &[u64],
+    plan: &[u64],
     lengths: &[u64],
     places: &[u64],
     body: &[u8],
-    counts: &[u64; plan_words::COUNTERS],
+    counters: &[u64; plan_words::COUNTERS],
     first: usize,
     i: usize,
     n: u64,
 ) -> u8
     requires { ⌜ (first < 2 ^ 32) × (i < 32) ⌝ }
-    ensures { λ g. ⌜ ((parts room : List ℕ) (source : ℕ) (write : Bool) → Did (now (state .entry)) parts write (runsReady (join (now (state .entry)) parts (now (lengths .entry)) (now (places .entry)) (now (body .entry)) first source) i n (now (counts .entry))) room g (now (counts .entry)) room) ⌝ }
+    ensures { λ g. ⌜ ((parts room : List ℕ) (source : ℕ) (write : Bool) → Did (now (plan .entry)) parts write (runsReady (join (now (plan .entry)) parts (now (lengths .entry)) (now (places .entry)) (now (body .entry)) first source) i n (now (counters .entry))) room g (now (counters .entry)) room) ⌝ }
 {
-    if !has_ends(state, i) {
+    if !has_ends(plan, i) {
         return 12;
     }
-    let w = lookups::width_at(state, i + 1);
-    if !sum_fits(w, plan_words::rows_of(counts, i), n) {
+    let w = lookups::width_at(plan, i + 1);
+    if !sum_fits(w, plan_words::rows_of(counters, i), n) {
         return 7;
     }
     if !ends_in(lengths, places, body, first, i + 1, w) {
@@ -185,7 +185,7 @@ pub fn runs_at(
     requires { ⌜ (first < 2 ^ 32) × (i + 2 < 32) × (start .0 + n < 2 ^ 63) ⌝ }
     requires { ⌜ ((w ≡ 2 → ⊥) → (w ≡ 4 → ⊥) → w ≡ 8) ⌝ }
     requires { ⌜ place (join [] [] (now lengths) (now places) (now body) first 0) (suc i) 3 + w * (offsetOf (join [] [] (now lengths) (now places) (now body) first 0) (suc i) + lengthOf (join [] [] (now lengths) (now places) (now body) first 0) (suc i)) ≤ length (now body) ⌝ }
-    ensures { λ r. ⌜ ((state parts : List ℕ) (source : ℕ) (child : Walk) → r ≡ runsAt (join state parts (now (lengths .entry)) (now (places .entry)) (now (body .entry)) first source) child w i (start .0) n) ⌝ }
+    ensures { λ r. ⌜ ((plan parts : List ℕ) (source : ℕ) (child : Walk) → r ≡ runsAt (join plan parts (now (lengths .entry)) (now (places .entry)) (now (body .entry)) first source) child w i (start .0) n) ⌝ }
 {
     let at = lent_tables::place(places, first + i + 1, 3);
     let from = at + w * lent_tables::offset_of(lengths, first + i + 1);
@@ -196,12 +196,12 @@ pub fn runs_at(
 
 // The ends of `count` runs from `run` on, clipped to the n rows from `start` on and put behind the row `last`.
 pub fn run_numbers(
-    state: &[u64],
+    plan: &[u64],
     parts: &[u64],
     lengths: &[u64],
     places: &[u64],
     body: &[u8],
-    counts: &mut [u64; plan_words::COUNTERS],
+    counters: &mut [u64; plan_words::COUNTERS],
     room: &mut [u8],
     write: bool,
     first: usize,
@@ -216,15 +216,15 @@ pub fn run_numbers(
     requires { ⌜ (first < 2 ^ 32) × (i + 2 < 32) × (start .0 + n < 2 ^ 63) × (last + n < half w) ⌝ }
     requires { ⌜ ((w ≡ 2 → ⊥) → (w ≡ 4 → ⊥) → w ≡ 8) ⌝ }
     requires { ⌜ place (join [] [] (now lengths) (now places) (now body) first 0) (suc i) 3 + w * (offsetOf (join [] [] (now lengths) (now places) (now body) first 0) (suc i) + (run .0 + count)) ≤ length (now body) ⌝ }
-    ensures { λ g. ⌜ ((source : ℕ) → Did (now (state .entry)) (now (parts .entry)) write (runNumbers (join (now (state .entry)) (now (parts .entry)) (now (lengths .entry)) (now (places .entry)) (now (body .entry)) first source) w i (start .0) n last (run .0) count (now (counts .entry))) (now (room .entry)) g (now (counts .exit)) (now (room .exit))) ⌝ }
+    ensures { λ g. ⌜ ((source : ℕ) → Did (now (plan .entry)) (now (parts .entry)) write (runNumbers (join (now (plan .entry)) (now (parts .entry)) (now (lengths .entry)) (now (places .entry)) (now (body .entry)) first source) w i (start .0) n last (run .0) count (now (counters .entry))) (now (room .entry)) g (now (counters .exit)) (now (room .exit))) ⌝ }
 {
     let at = lent_tables::place(places, first + i + 1, 3);
     let ends = at + w * lent_tables::offset_of(lengths, first + i + 1);
     let from = ends + w * (run.0 as u64);
     let stop = start.0 + n;
-    let o = plan_words::scale(plan_words::rows_of(counts, i + 1), w);
+    let o = plan_words::scale(plan_words::rows_of(counters, i + 1), w);
     room_writes::run::put_run_ends(
-        state,
+        plan,
         parts,
         room,
         write,
@@ -239,25 +239,25 @@ pub fn run_numbers(
         LogicalRow(stop),
         last,
     );
-    gaps::count_runs(counts, i, count as u64);
+    gaps::count_runs(counters, i, count as u64);
     0
 }
 
 // The child that a union's nulls go to: the first nullable one, or 32.
-pub fn null_home(state: &[u64], i: usize) -> usize
+pub fn null_home(plan: &[u64], i: usize) -> usize
     requires { ⌜ i < 32 ⌝ }
-    ensures { λ r. ⌜ r ≡ nullableChild (now (state .entry)) (endOf (now (state .entry)) i) 32 (suc i) ⌝ }
+    ensures { λ r. ⌜ r ≡ nullableChild (now (plan .entry)) (endOf (now (plan .entry)) i) 32 (suc i) ⌝ }
     ensures { λ r. ⌜ r ≤ 32 ⌝ }
 {
-    lookups::nullable_child(state, plan_words::end_of(state, i), i + 1)
+    lookups::nullable_child(plan, plan_words::end_of(plan, i), i + 1)
 }
 
 // The ground where there is none.
-pub fn no_home(state: &[u64], i: usize) -> u8
+pub fn no_home(plan: &[u64], i: usize) -> u8
     requires { ⌜ i < 32 ⌝ }
-    ensures { λ r. ⌜ r ≡ noHome (now (state .entry)) i ⌝ }
+    ensures { λ r. ⌜ r ≡ noHome (now (plan .entry)) i ⌝ }
 {
-    if i + 1 < plan_words::end_of(state, i) {
+    if i + 1 < plan_words::end_of(plan, i) {
         return 5;
     }
     4
@@ -265,9 +265,9 @@ pub fn no_home(state: &[u64], i: usize) -> u8
 
 // n ids of node h.
 pub fn null_ids(
-    state: &[u64],
+    plan: &[u64],
     parts: &[u64],
-    counts: &[u64; plan_words::COUNTERS],
+    counters: &[u64; plan_words::COUNTERS],
     room: &mut [u8],
     write: bool,
     i: usize,
@@ -275,11 +275,11 @@ pub fn null_ids(
     n: u64,
 ) -> u8
     requires { ⌜ (i < 32) × (h < 32) ⌝ }
-    ensures { λ g. ⌜ Did (now (state .entry)) (now (parts .entry)) write (nullIds (now (state .entry)) i h n (now (counts .entry))) (now (room .entry)) g (now (counts .entry)) (now (room .exit)) ⌝ }
+    ensures { λ g. ⌜ Did (now (plan .entry)) (now (parts .entry)) write (nullIds (now (plan .entry)) i h n (now (counters .entry))) (now (room .entry)) g (now (counters .entry)) (now (room .exit)) ⌝ }
 {
-    let o = plan_words::rows_of(counts, i);
+    let o = plan_words::rows_of(counters, i);
     room_writes::put_same(
-        state,
+        plan,
         parts,
         room,
         write,
@@ -287,16 +287,16 @@ pub fn null_ids(
         1,
         o,
         n,
-        plan_words::id_of(state, h),
+        plan_words::id_of(plan, h),
     );
     0
 }
 
 // n ids and positions of node h.
 pub fn null_positions(
-    state: &[u64],
+    plan: &[u64],
     parts: &[u64],
-    counts: &[u64; plan_words::COUNTERS],
+    counters: &[u64; plan_words::COUNTERS],
     room: &mut [u8],
     write: bool,
     i: usize,
@@ -304,70 +304,70 @@ pub fn null_positions(
     n: u64,
 ) -> u8
     requires { ⌜ (i < 32) × (h < 32) ⌝ }
-    ensures { λ g. ⌜ Did (now (state .entry)) (now (parts .entry)) write (nullPositions (now (state .entry)) i h n (now (counts .entry))) (now (room .entry)) g (now (counts .entry)) (now (room .exit)) ⌝ }
+    ensures { λ g. ⌜ Did (now (plan .entry)) (now (parts .entry)) write (nullPositions (now (plan .entry)) i h n (now (counters .entry))) (now (room .entry)) g (now (counters .entry)) (now (room .exit)) ⌝ }
 {
-    let position = plan_words::rows_of(counts, h);
+    let position = plan_words::rows_of(counters, h);
     if 2147483648 < plan_words::grow(position, n) {
         return 6;
     }
-    let r = null_ids(state, parts, counts, room, write, i, h, n);
+    let r = null_ids(plan, parts, counters, room, write, i, h, n);
     if r != 0 {
         return r;
     }
-    let o = plan_words::scale(plan_words::rows_of(counts, i), 4);
-    room_writes::variable_size::put_counted(state, parts, room, write, i, 2, o, n, position);
+    let o = plan_words::scale(plan_words::rows_of(counters, i), 4);
+    room_writes::variable_size::put_counted(plan, parts, room, write, i, 2, o, n, position);
     0
 }
 
 // The end of a run of n nulls.
 pub fn null_end(
-    state: &[u64],
+    plan: &[u64],
     parts: &[u64],
-    counts: &mut [u64; plan_words::COUNTERS],
+    counters: &mut [u64; plan_words::COUNTERS],
     room: &mut [u8],
     write: bool,
     i: usize,
     n: u64,
 ) -> u8
     requires { ⌜ i + 2 < 32 ⌝ }
-    requires { ⌜ ((bytesOf (now state) (suc i) ≡ 2 → ⊥) → (bytesOf (now state) (suc i) ≡ 4 → ⊥) → bytesOf (now state) (suc i) ≡ 8) ⌝ }
-    ensures { λ g. ⌜ Did (now (state .entry)) (now (parts .entry)) write (nullEnd (now (state .entry)) i n (now (counts .entry))) (now (room .entry)) g (now (counts .exit)) (now (room .exit)) ⌝ }
+    requires { ⌜ ((bytesOf (now plan) (suc i) ≡ 2 → ⊥) → (bytesOf (now plan) (suc i) ≡ 4 → ⊥) → bytesOf (now plan) (suc i) ≡ 8) ⌝ }
+    ensures { λ g. ⌜ Did (now (plan .entry)) (now (parts .entry)) write (nullEnd (now (plan .entry)) i n (now (counters .entry))) (now (room .entry)) g (now (counters .exit)) (now (room .exit)) ⌝ }
 {
-    let w = lookups::width_at(state, i + 1);
-    let last = plan_words::rows_of(counts, i);
+    let w = lookups::width_at(plan, i + 1);
+    let last = plan_words::rows_of(counters, i);
     if !sum_fits(w, last, n) {
         return 7;
     }
-    let o = plan_words::scale(plan_words::rows_of(counts, i + 1), w);
-    room_writes::put_number(state, parts, room, write, i + 1, 1, o, w, last + n);
-    gaps::count_null_run(counts, i);
+    let o = plan_words::scale(plan_words::rows_of(counters, i + 1), w);
+    room_writes::put_number(plan, parts, room, write, i + 1, 1, o, w, last + n);
+    gaps::count_null_run(counters, i);
     0
 }
 
 // The end of the last run, n nulls later: 12 where there is no run.
 pub fn longer_end(
-    state: &[u64],
+    plan: &[u64],
     parts: &[u64],
-    counts: &[u64; plan_words::COUNTERS],
+    counters: &[u64; plan_words::COUNTERS],
     room: &mut [u8],
     write: bool,
     i: usize,
     n: u64,
 ) -> u8
     requires { ⌜ i + 2 < 32 ⌝ }
-    requires { ⌜ ((bytesOf (now state) (suc i) ≡ 2 → ⊥) → (bytesOf (now state) (suc i) ≡ 4 → ⊥) → bytesOf (now state) (suc i) ≡ 8) ⌝ }
-    ensures { λ g. ⌜ Did (now (state .entry)) (now (parts .entry)) write (longerEnd (now (state .entry)) i n (now (counts .entry))) (now (room .entry)) g (now (counts .entry)) (now (room .exit)) ⌝ }
+    requires { ⌜ ((bytesOf (now plan) (suc i) ≡ 2 → ⊥) → (bytesOf (now plan) (suc i) ≡ 4 → ⊥) → bytesOf (now plan) (suc i) ≡ 8) ⌝ }
+    ensures { λ g. ⌜ Did (now (plan .entry)) (now (parts .entry)) write (longerEnd (now (plan .entry)) i n (now (counters .entry))) (now (room .entry)) g (now (counters .entry)) (now (room .exit)) ⌝ }
 {
-    let runs = plan_words::rows_of(counts, i + 1);
+    let runs = plan_words::rows_of(counters, i + 1);
     if runs == 0 {
         return 12;
     }
-    let w = lookups::width_at(state, i + 1);
-    let last = plan_words::rows_of(counts, i);
+    let w = lookups::width_at(plan, i + 1);
+    let last = plan_words::rows_of(counters, i);
     if !sum_fits(w, last, n) {
         return 7;
     }
     let o = plan_words::scale(runs - 1, w);
-    room_writes::put_number(state, parts, room, write, i + 1, 1, o, w, last + n);
+    room_writes::put_number(plan, parts, room, write, i + 1, 1, o, w, last + n);
     0
 }

@@ -17,7 +17,7 @@ use walk::plan_words;
 // The first slot of the rows a .. a + n - 1 of node i, or 2^63 where they are not rows of any array.
 pub fn slot_of(lengths: &[u64], first: usize, i: usize, a: u64, n: u64) -> u64
     requires { ⌜ (first < 2 ^ 32) × (i < 32) ⌝ }
-    ensures { λ r. ⌜ ((state parts places body : List ℕ) (source : ℕ) → r ≡ slotOf (join state parts (now (lengths .entry)) places body first source) i a n) ⌝ }
+    ensures { λ r. ⌜ ((plan parts places body : List ℕ) (source : ℕ) → r ≡ slotOf (join plan parts (now (lengths .entry)) places body first source) i a n) ⌝ }
 {
     let offset = lent_tables::offset_of(lengths, first + i);
     let end = plan_words::grow(plan_words::grow(offset, a), n);
@@ -28,11 +28,11 @@ pub fn slot_of(lengths: &[u64], first: usize, i: usize, a: u64, n: u64) -> u64
 }
 
 // The bytes of an entry of node i.
-pub fn width_at(state: &[u64], i: usize) -> u64
+pub fn width_at(plan: &[u64], i: usize) -> u64
     requires { ⌜ i < 32 ⌝ }
-    ensures { λ r. ⌜ r ≡ bytesOf (now (state .entry)) i ⌝ }
+    ensures { λ r. ⌜ r ≡ bytesOf (now (plan .entry)) i ⌝ }
 {
-    schema::formats::width_of(plan_words::code_of(state, i)) as u64
+    schema::formats::width_of(plan_words::code_of(plan, i)) as u64
 }
 
 // Entry k of those of w bytes at `at`.
@@ -49,9 +49,9 @@ pub fn entry_at(body: &[u8], at: u64, w: u64, k: u64) -> u64
 }
 
 // The child with that id among those from node `from` on, one behind the other up to `end`; 32 where there is none.
-pub fn child_with(state: &[u64], id: u8, end: usize, from: usize) -> usize
+pub fn child_with(plan: &[u64], id: u8, end: usize, from: usize) -> usize
     requires { ⌜ end ≤ 32 ⌝ }
-    ensures { λ r. ⌜ r ≡ childWith (now (state .entry)) id end 32 from ⌝ }
+    ensures { λ r. ⌜ r ≡ childWith (now (plan .entry)) id end 32 from ⌝ }
     ensures { λ r. ⌜ r ≤ 32 ⌝ }
 {
     let mut k = from;
@@ -60,19 +60,19 @@ pub fn child_with(state: &[u64], id: u8, end: usize, from: usize) -> usize
         if end <= k {
             return 32;
         }
-        if plan_words::id_of(state, k) == id {
+        if plan_words::id_of(plan, k) == id {
             return k;
         }
-        k = plan_words::end_of(state, k);
+        k = plan_words::end_of(plan, k);
         t += 1;
     }
     32
 }
 
 // The first nullable child among those from node `from` on; 32 where there is none.
-pub fn nullable_child(state: &[u64], end: usize, from: usize) -> usize
+pub fn nullable_child(plan: &[u64], end: usize, from: usize) -> usize
     requires { ⌜ end ≤ 32 ⌝ }
-    ensures { λ r. ⌜ r ≡ nullableChild (now (state .entry)) end 32 from ⌝ }
+    ensures { λ r. ⌜ r ≡ nullableChild (now (plan .entry)) end 32 from ⌝ }
     ensures { λ r. ⌜ r ≤ 32 ⌝ }
 {
     let mut k = from;
@@ -81,10 +81,10 @@ pub fn nullable_child(state: &[u64], end: usize, from: usize) -> usize
         if end <= k {
             return 32;
         }
-        if plan_words::nullable_of(state, k) == 1 {
+        if plan_words::nullable_of(plan, k) == 1 {
             return k;
         }
-        k = plan_words::end_of(state, k);
+        k = plan_words::end_of(plan, k);
         t += 1;
     }
     32

@@ -31,11 +31,11 @@ fn is_masked(code: u8) -> bool
 
 // The validity of n rows, where the format has one.
 pub fn copy_validity(
-    state: &[u64],
+    plan: &[u64],
     parts: &[u64],
     places: &[u64],
     body: &[u8],
-    counts: &mut [u64; plan_words::COUNTERS],
+    counters: &mut [u64; plan_words::COUNTERS],
     room: &mut [u8],
     write: bool,
     first: usize,
@@ -44,17 +44,17 @@ pub fn copy_validity(
     n: u64,
 ) -> u8
     requires { ⌜ (first < 2 ^ 32) × (i < 32) × (slot + n < 2 ^ 63) ⌝ }
-    ensures { λ r. ⌜ ((lengths : List ℕ) (source : ℕ) → Did (now (state .entry)) (now (parts .entry)) write (cond (masked (codeOf (now (state .entry)) i)) (copyMask (join (now (state .entry)) (now (parts .entry)) lengths (now (places .entry)) (now (body .entry)) first source) i slot n (now (counts .entry))) (done (now (counts .entry)))) (now (room .entry)) r (now (counts .exit)) (now (room .exit))) ⌝ }
+    ensures { λ r. ⌜ ((lengths : List ℕ) (source : ℕ) → Did (now (plan .entry)) (now (parts .entry)) write (cond (masked (codeOf (now (plan .entry)) i)) (copyMask (join (now (plan .entry)) (now (parts .entry)) lengths (now (places .entry)) (now (body .entry)) first source) i slot n (now (counters .entry))) (done (now (counters .entry)))) (now (room .entry)) r (now (counters .exit)) (now (room .exit))) ⌝ }
 {
-    if !is_masked(plan_words::code_of(state, i)) {
+    if !is_masked(plan_words::code_of(plan, i)) {
         return 0;
     }
     leaf_walk::copy_mask(
-        state,
+        plan,
         parts,
         places,
         body,
-        counts,
+        counters,
         room,
         write,
         first,
@@ -66,11 +66,11 @@ pub fn copy_validity(
 
 // The data of n rows of a leaf: numbers, keys, byte strings or views.
 pub fn copy_leaf(
-    state: &[u64],
+    plan: &[u64],
     parts: &[u64],
     places: &[u64],
     body: &[u8],
-    counts: &mut [u64; plan_words::COUNTERS],
+    counters: &mut [u64; plan_words::COUNTERS],
     room: &mut [u8],
     write: bool,
     source: usize,
@@ -80,19 +80,19 @@ pub fn copy_leaf(
     n: u64,
 ) -> u8
     requires { ⌜ (first < 2 ^ 32) × (i < 32) × (slot + n < 2 ^ 63) × (source < 2 ^ 32) ⌝ }
-    requires { ⌜ (17 ≤ codeOf (now state) i → 23 < codeOf (now state) i) ⌝ }
-    ensures { λ r. ⌜ ((lengths : List ℕ) (child : Walk) → Did (now (state .entry)) (now (parts .entry)) write (copyData (join (now (state .entry)) (now (parts .entry)) lengths (now (places .entry)) (now (body .entry)) first source) child (codeOf (now (state .entry)) i) i slot n (now (counts .entry))) (now (room .entry)) r (now (counts .exit)) (now (room .exit))) ⌝ }
+    requires { ⌜ (17 ≤ codeOf (now plan) i → 23 < codeOf (now plan) i) ⌝ }
+    ensures { λ r. ⌜ ((lengths : List ℕ) (child : Walk) → Did (now (plan .entry)) (now (parts .entry)) write (copyData (join (now (plan .entry)) (now (parts .entry)) lengths (now (places .entry)) (now (body .entry)) first source) child (codeOf (now (plan .entry)) i) i slot n (now (counters .entry))) (now (room .entry)) r (now (counters .exit)) (now (room .exit))) ⌝ }
 {
-    let code = plan_words::code_of(state, i);
-    let w = lookups::width_at(state, i);
+    let code = plan_words::code_of(plan, i);
+    let w = lookups::width_at(plan, i);
     if schema::formats::is_fixed(code) {
-        if plan_words::dictionary_of(state, i) == 0 {
+        if plan_words::dictionary_of(plan, i) == 0 {
             return leaf_walk::copy_numbers(
-                state,
+                plan,
                 parts,
                 places,
                 body,
-                counts,
+                counters,
                 room,
                 write,
                 first,
@@ -103,11 +103,11 @@ pub fn copy_leaf(
             );
         }
         return leaf_walk::copy_keys(
-            state,
+            plan,
             parts,
             places,
             body,
-            counts,
+            counters,
             room,
             write,
             source,
@@ -120,11 +120,11 @@ pub fn copy_leaf(
     }
     if schema::formats::is_string(code) {
         return variable_size::copy_string(
-            state,
+            plan,
             parts,
             places,
             body,
-            counts,
+            counters,
             room,
             write,
             first,
@@ -136,11 +136,11 @@ pub fn copy_leaf(
     }
     if schema::formats::is_view(code) {
         return leaf_walk::copy_views(
-            state,
+            plan,
             parts,
             places,
             body,
-            counts,
+            counters,
             room,
             write,
             source,
@@ -155,28 +155,28 @@ pub fn copy_leaf(
 
 // The validity of n nulls; a union's or run-end node's are only counted.
 pub fn null_validity(
-    state: &[u64],
+    plan: &[u64],
     parts: &[u64],
-    counts: &mut [u64; plan_words::COUNTERS],
+    counters: &mut [u64; plan_words::COUNTERS],
     room: &mut [u8],
     write: bool,
     i: usize,
     n: u64,
 ) -> u8
     requires { ⌜ i < 32 ⌝ }
-    ensures { λ r. ⌜ ((lengths places body : List ℕ) (first source : ℕ) → Did (now (state .entry)) (now (parts .entry)) write (cond (masked (codeOf (now (state .entry)) i)) (nullMask (join (now (state .entry)) (now (parts .entry)) lengths places body first source) i n (now (counts .entry))) (countNulls (join (now (state .entry)) (now (parts .entry)) lengths places body first source) i n (now (counts .entry)))) (now (room .entry)) r (now (counts .exit)) (now (room .exit))) ⌝ }
+    ensures { λ r. ⌜ ((lengths places body : List ℕ) (first source : ℕ) → Did (now (plan .entry)) (now (parts .entry)) write (cond (masked (codeOf (now (plan .entry)) i)) (nullMask (join (now (plan .entry)) (now (parts .entry)) lengths places body first source) i n (now (counters .entry))) (countNulls (join (now (plan .entry)) (now (parts .entry)) lengths places body first source) i n (now (counters .entry)))) (now (room .entry)) r (now (counters .exit)) (now (room .exit))) ⌝ }
 {
-    if !is_masked(plan_words::code_of(state, i)) {
-        return leaf_walk::count_nulls(state, counts, i, n);
+    if !is_masked(plan_words::code_of(plan, i)) {
+        return leaf_walk::count_nulls(plan, counters, i, n);
     }
-    leaf_walk::null_mask(state, parts, counts, room, write, i, n)
+    leaf_walk::null_mask(plan, parts, counters, room, write, i, n)
 }
 
 // n nulls of a list-view with offsets of w bytes.
 fn null_list_view(
-    state: &[u64],
+    plan: &[u64],
     parts: &[u64],
-    counts: &mut [u64; plan_words::COUNTERS],
+    counters: &mut [u64; plan_words::COUNTERS],
     room: &mut [u8],
     write: bool,
     i: usize,
@@ -184,45 +184,45 @@ fn null_list_view(
     n: u64,
 ) -> u8
     requires { ⌜ (i < 32) × (1 ≤ w) × (w ≤ 16) ⌝ }
-    ensures { λ r. ⌜ ((lengths places body : List ℕ) (first source : ℕ) (child : NullWalk) → Did (now (state .entry)) (now (parts .entry)) write (nullListView (join (now (state .entry)) (now (parts .entry)) lengths places body first source) child w i n (now (counts .entry))) (now (room .entry)) r (now (counts .exit)) (now (room .exit))) ⌝ }
+    ensures { λ r. ⌜ ((lengths places body : List ℕ) (first source : ℕ) (child : NullWalk) → Did (now (plan .entry)) (now (parts .entry)) write (nullListView (join (now (plan .entry)) (now (parts .entry)) lengths places body first source) child w i n (now (counters .entry))) (now (room .entry)) r (now (counters .exit)) (now (room .exit))) ⌝ }
 {
-    let r = leaf_walk::null_numbers(state, parts, counts, room, write, i, 1, w, n);
+    let r = leaf_walk::null_numbers(plan, parts, counters, room, write, i, 1, w, n);
     if r != 0 {
         return r;
     }
-    leaf_walk::null_numbers(state, parts, counts, room, write, i, 2, w, n)
+    leaf_walk::null_numbers(plan, parts, counters, room, write, i, 2, w, n)
 }
 
 // The data of n nulls of a leaf, a list-view or a list, whose child gets none.
 pub fn null_leaf(
-    state: &[u64],
+    plan: &[u64],
     parts: &[u64],
-    counts: &mut [u64; plan_words::COUNTERS],
+    counters: &mut [u64; plan_words::COUNTERS],
     room: &mut [u8],
     write: bool,
     i: usize,
     n: u64,
 ) -> u8
     requires { ⌜ i < 32 ⌝ }
-    requires { ⌜ (21 ≤ codeOf (now state) i → 23 < codeOf (now state) i) ⌝ }
-    ensures { λ r. ⌜ ((lengths places body : List ℕ) (first source : ℕ) (child : NullWalk) → Did (now (state .entry)) (now (parts .entry)) write (nullData (join (now (state .entry)) (now (parts .entry)) lengths places body first source) child (codeOf (now (state .entry)) i) i n (now (counts .entry))) (now (room .entry)) r (now (counts .exit)) (now (room .exit))) ⌝ }
+    requires { ⌜ (21 ≤ codeOf (now plan) i → 23 < codeOf (now plan) i) ⌝ }
+    ensures { λ r. ⌜ ((lengths places body : List ℕ) (first source : ℕ) (child : NullWalk) → Did (now (plan .entry)) (now (parts .entry)) write (nullData (join (now (plan .entry)) (now (parts .entry)) lengths places body first source) child (codeOf (now (plan .entry)) i) i n (now (counters .entry))) (now (room .entry)) r (now (counters .exit)) (now (room .exit))) ⌝ }
 {
-    let code = plan_words::code_of(state, i);
-    let w = lookups::width_at(state, i);
+    let code = plan_words::code_of(plan, i);
+    let w = lookups::width_at(plan, i);
     if schema::formats::is_fixed(code) {
-        return leaf_walk::null_numbers(state, parts, counts, room, write, i, 1, w, n);
+        return leaf_walk::null_numbers(plan, parts, counters, room, write, i, 1, w, n);
     }
     if schema::formats::is_string(code) {
-        return variable_size::null_string(state, parts, counts, room, write, i, w, n);
+        return variable_size::null_string(plan, parts, counters, room, write, i, w, n);
     }
     if schema::formats::is_view(code) {
-        return leaf_walk::null_numbers(state, parts, counts, room, write, i, 1, 16, n);
+        return leaf_walk::null_numbers(plan, parts, counters, room, write, i, 1, 16, n);
     }
     if schema::formats::is_list_view(code) {
-        return null_list_view(state, parts, counts, room, write, i, w, n);
+        return null_list_view(plan, parts, counters, room, write, i, w, n);
     }
     if schema::formats::is_list(code) {
-        return variable_size::null_list(state, parts, counts, room, write, i, w, n);
+        return variable_size::null_list(plan, parts, counters, room, write, i, w, n);
     }
     12
 }

@@ -1,4 +1,4 @@
--- The words of a planned state as they are found. Assumes nothing.
+-- The words of a plan as they are found. Assumes nothing.
 use mathlib.Core.Path.{_≡_, refl, ap, ap₂, _∙_}
 use mathlib.Core.Bool.{Bool, true, false, not}
 use mathlib.Core.List.{List}
@@ -21,103 +21,103 @@ use Rattle.array_data.specs.Sources.{sourceCount, firstOf, nodesOf}
 -- ---- one word more
 
 module _ (at : ℕ → ℕ) (value : List ℕ → ℕ → ℕ) where
-  pub filled-none : (state : List ℕ) → state ≡ filled at value 0 state
+  pub filled-none : (plan : List ℕ) → plan ≡ filled at value 0 plan
   unfolding filled
-  filled-none state = refl
+  filled-none plan = refl
 
-  pub filled-more : (k : ℕ) (state words : List ℕ) {v : ℕ} → words ≡ filled at value k state → v ≡ value words k
-      → set words (at k) v ≡ filled at value (k + 1) state
+  pub filled-more : (k : ℕ) (plan words : List ℕ) {v : ℕ} → words ≡ filled at value k plan → v ≡ value words k
+      → set words (at k) v ≡ filled at value (k + 1) plan
   unfolding filled
-  filled-more k state words e h = rw (add-one k, h, e)
+  filled-more k plan words e h = rw (add-one k, h, e)
 
-  pub filled-all : (k n : ℕ) (state words : List ℕ) → k ≡ n → words ≡ filled at value k state → words ≡ filled at value n state
-  filled-all k n state words e h = rw e at h
+  pub filled-all : (k n : ℕ) (plan words : List ℕ) → k ≡ n → words ≡ filled at value k plan → words ≡ filled at value n plan
+  filled-all k n plan words e h = rw e at h
 
 -- ---- the node above
 
-module _ (state : List ℕ) (i : ℕ) where
-  pub holds : (p : ℕ) → i < endOf state p → holder state (suc p) i ≡ p
+module _ (plan : List ℕ) (i : ℕ) where
+  pub holds : (p : ℕ) → i < endOf plan p → holder plan (suc p) i ≡ p
   unfolding holder
-  holds p l = rw (lt-ltb i (endOf state p) l)
+  holds p l = rw (lt-ltb i (endOf plan p) l)
 
-  pub holds-not : (p : ℕ) → endOf state p ≤ i → holder state (suc p) i ≡ holder state p i
+  pub holds-not : (p : ℕ) → endOf plan p ≤ i → holder plan (suc p) i ≡ holder plan p i
   unfolding holder
-  holds-not p l = rw (le-ltb i (endOf state p) l)
+  holds-not p l = rw (le-ltb i (endOf plan p) l)
 
-  pub holds-none : (p : ℕ) → p ≡ 0 → holder state p i ≡ 0
+  pub holds-none : (p : ℕ) → p ≡ 0 → holder plan p i ≡ 0
   unfolding holder
   holds-none p e = rw e
 
 -- ---- nulls
 
-module _ (state : List ℕ) (keep : Bool) where
-  pub asked-root : (i : ℕ) → i ≡ 0 → keep ≡ asked state keep i
+module _ (plan : List ℕ) (keep : Bool) where
+  pub asked-root : (i : ℕ) → i ≡ 0 → keep ≡ asked plan keep i
   unfolding asked
   asked-root i e = rw e
 
-  pub asked-values : (i k : ℕ) {d : ℕ} → i ≡ suc k → d ≡ dictionaryOf state k → (d ≡ 0 → ⊥) → false ≡ asked state keep i
+  pub asked-values : (i k : ℕ) {d : ℕ} → i ≡ suc k → d ≡ dictionaryOf plan k → (d ≡ 0 → ⊥) → false ≡ asked plan keep i
   unfolding asked
   asked-values i k {d} q e h = rw (q, ← e, ne-eqb d 0 h)
 
-  pub asked-above : (i k : ℕ) {d p r : ℕ} → i ≡ suc k → d ≡ dictionaryOf state k → d ≡ 0 → p ≡ parentOf state i → r ≡ keepsOf state p
-      → not (eqb r 0) ≡ asked state keep i
+  pub asked-above : (i k : ℕ) {d p r : ℕ} → i ≡ suc k → d ≡ dictionaryOf plan k → d ≡ 0 → p ≡ parentOf plan i → r ≡ keepsOf plan p
+      → not (eqb r 0) ≡ asked plan keep i
   unfolding asked
   asked-above i k {d} {p} {r} q e h f g =
-      let a : p ≡ parentOf state (suc k) = f ∙ ap (parentOf state) q in
+      let a : p ≡ parentOf plan (suc k) = f ∙ ap (parentOf plan) q in
       rw (q, ← e, h, ← a, g)
 
-module _ (state : List ℕ) where
-  pub ends-root : (i : ℕ) → i ≡ 0 → false ≡ isEnds state i
+module _ (plan : List ℕ) where
+  pub ends-root : (i : ℕ) → i ≡ 0 → false ≡ isEnds plan i
   unfolding isEnds
   ends-root i e = rw e
 
-  pub ends-next : (i k : ℕ) {c : ℕ} {r : Bool} → i ≡ suc k → c ≡ codeOf state k → r ≡ isRunEnd c → r ≡ isEnds state i
+  pub ends-next : (i k : ℕ) {c : ℕ} {r : Bool} → i ≡ suc k → c ≡ codeOf plan k → r ≡ isRunEnd c → r ≡ isEnds plan i
   unfolding isEnds
   ends-next i k q e h = rw q (h ∙ ap isRunEnd e)
 
-module _ (x : Tables) (sources : List ℕ) (m : ℕ) (keep : Bool) (state : List ℕ) (i : ℕ) where
-  pub keep-ends : {r : Bool} → r ≡ isEnds state i → r ≡ true → 0 ≡ keepWord x sources m keep state i
+module _ (x : Tables) (sources : List ℕ) (m : ℕ) (keep : Bool) (plan : List ℕ) (i : ℕ) where
+  pub keep-ends : {r : Bool} → r ≡ isEnds plan i → r ≡ true → 0 ≡ keepWord x sources m keep plan i
   unfolding keepWord
   keep-ends e h = rw (← e, h)
 
-  pub keep-by : {r a k : Bool} → r ≡ isEnds state i → r ≡ false → a ≡ asked state keep i → k ≡ keeps a m (arrayAt x sources i)
-      → flag k ≡ keepWord x sources m keep state i
+  pub keep-by : {r a k : Bool} → r ≡ isEnds plan i → r ≡ false → a ≡ asked plan keep i → k ≡ keeps a m (arrayAt x sources i)
+      → flag k ≡ keepWord x sources m keep plan i
   unfolding keepWord
   keep-by e h f g = rw (← e, h, ← f, g)
 
 -- ---- dictionaries and views
 
-module _ (x : Tables) (sources : List ℕ) (m : ℕ) (state : List ℕ) (i : ℕ) where
-  pub joined-none : {d : ℕ} → d ≡ dictionaryOf state i → d ≡ 0 → 0 ≡ joinedWord x sources m state i
+module _ (x : Tables) (sources : List ℕ) (m : ℕ) (plan : List ℕ) (i : ℕ) where
+  pub joined-none : {d : ℕ} → d ≡ dictionaryOf plan i → d ≡ 0 → 0 ≡ joinedWord x sources m plan i
   unfolding joinedWord
   joined-none e h = rw (← e, h)
 
-  pub joined-by : {d : ℕ} {r : Bool} → d ≡ dictionaryOf state i → (d ≡ 0 → ⊥) → r ≡ shared m (dictionariesAt x sources m state i)
-      → flag (not r) ≡ joinedWord x sources m state i
+  pub joined-by : {d : ℕ} {r : Bool} → d ≡ dictionaryOf plan i → (d ≡ 0 → ⊥) → r ≡ shared m (dictionariesAt x sources m plan i)
+      → flag (not r) ≡ joinedWord x sources m plan i
   unfolding joinedWord
   joined-by e h g = rw (← e, ne-eqb _ 0 h, g)
 
-  pub shared-at : {string r : Bool} → string ≡ isString (codeOf state (suc i))
-      → r ≡ shared m (dictAt x sources string (i + 1)) → r ≡ shared m (dictionariesAt x sources m state i)
+  pub shared-at : {string r : Bool} → string ≡ isString (codeOf plan (suc i))
+      → r ≡ shared m (dictAt x sources string (i + 1)) → r ≡ shared m (dictionariesAt x sources m plan i)
   shared-at e h = h ∙ ap₂ (λ b k. shared m (dictAt x sources b k)) e (add-one i)
 
-  pub start-at : (s : ℕ) {string : Bool} {r : ℕ} → string ≡ isString (codeOf state (suc i))
+  pub start-at : (s : ℕ) {string : Bool} {r : ℕ} → string ≡ isString (codeOf plan (suc i))
       → r ≡ capped (startOfKeys m (dictAt x sources string (i + 1)) s)
-      → r ≡ capped (startOfKeys m (dictionariesAt x sources m state i) s)
+      → r ≡ capped (startOfKeys m (dictionariesAt x sources m plan i) s)
   start-at s e h = h ∙ ap₂ (λ b k. capped (startOfKeys m (dictAt x sources b k) s)) e (add-one i)
 
-  pub base-view : (s : ℕ) {c r : ℕ} {v : Bool} → c ≡ codeOf state i → v ≡ isView c → v ≡ true → r ≡ buffersUpTo (x .places) sources i s
-      → r ≡ baseWord x sources m state s i
+  pub base-view : (s : ℕ) {c r : ℕ} {v : Bool} → c ≡ codeOf plan i → v ≡ isView c → v ≡ true → r ≡ buffersUpTo (x .places) sources i s
+      → r ≡ baseWord x sources m plan s i
   unfolding baseWord
   base-view s e f h g = rw (← e, ← f, h, g)
 
-  pub base-none : (s : ℕ) {c d : ℕ} {v : Bool} → c ≡ codeOf state i → v ≡ isView c → v ≡ false → d ≡ dictionaryOf state i → d ≡ 0
-      → 0 ≡ baseWord x sources m state s i
+  pub base-none : (s : ℕ) {c d : ℕ} {v : Bool} → c ≡ codeOf plan i → v ≡ isView c → v ≡ false → d ≡ dictionaryOf plan i → d ≡ 0
+      → 0 ≡ baseWord x sources m plan s i
   unfolding baseWord
   base-none s e f h g k = rw (← e, ← f, h, ← g, k)
 
-  pub base-keys : (s : ℕ) {c d r : ℕ} {v : Bool} → c ≡ codeOf state i → v ≡ isView c → v ≡ false → d ≡ dictionaryOf state i → (d ≡ 0 → ⊥)
-      → r ≡ capped (startOfKeys m (dictionariesAt x sources m state i) s) → r ≡ baseWord x sources m state s i
+  pub base-keys : (s : ℕ) {c d r : ℕ} {v : Bool} → c ≡ codeOf plan i → v ≡ isView c → v ≡ false → d ≡ dictionaryOf plan i → (d ≡ 0 → ⊥)
+      → r ≡ capped (startOfKeys m (dictionariesAt x sources m plan i) s) → r ≡ baseWord x sources m plan s i
   unfolding baseWord
   base-keys s e f h g k l = rw (← e, ← f, h, ← g, ne-eqb _ 0 k, l)
 

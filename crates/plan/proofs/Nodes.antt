@@ -1,4 +1,4 @@
--- A planned state over a type tree that passes: the node above a child, who keeps nulls, and what is added to keys and buffer numbers,
+-- A plan over a type tree that passes: the node above a child, who keeps nulls, and what is added to keys and buffer numbers,
 -- as the model of the opening has it (model/specs/Transform.antt, `start`). Assumes nothing.
 use mathlib.Core.Path.{_≡_, refl, sym, ap, _∙_}
 use mathlib.Core.Bool.{Bool, true, false, not, _&&_}
@@ -149,55 +149,55 @@ module _ (formats schema : List ℕ) (first : ℕ) where
 
 -- ---- the node above, and whether a node keeps nulls
 
-holder-is : (state : List ℕ) (k i p : ℕ) → i < p → k < endOf state i → ((j : ℕ) → i < j → j < p → endOf state j ≤ k) → holder state p k ≡ i
-holder-is state k i zero l h f = absurd (omega arith)
-holder-is state k i (suc p) l h f = go (eqb i p) refl (λ b. holder-is state k i p b h (λ j c d. f j c (omega arith)))
+holder-is : (plan : List ℕ) (k i p : ℕ) → i < p → k < endOf plan i → ((j : ℕ) → i < j → j < p → endOf plan j ≤ k) → holder plan p k ≡ i
+holder-is plan k i zero l h f = absurd (omega arith)
+holder-is plan k i (suc p) l h f = go (eqb i p) refl (λ b. holder-is plan k i p b h (λ j c d. f j c (omega arith)))
   where
-    go : (b : Bool) → eqb i p ≡ b → (i < p → holder state p k ≡ i) → holder state (suc p) k ≡ i
+    go : (b : Bool) → eqb i p ≡ b → (i < p → holder plan p k ≡ i) → holder plan (suc p) k ≡ i
     go true e g =
         let q : p ≡ i = sym (eqb-true i p e) in
-        holds state k p (omega (arith, ap (endOf state) q)) ∙ q
+        holds plan k p (omega (arith, ap (endOf plan) q)) ∙ q
     go false e g =
         let d = eqb-false i p e in
-        holds-not state k p (f p (omega arith) (omega arith)) ∙ g (omega arith)
+        holds-not plan k p (f p (omega arith) (omega arith)) ∙ g (omega arith)
 
-module _ (x : Tables) (sources : List ℕ) (m : ℕ) (keep : Bool) (state : List ℕ) where
-  root-word : keepWord x sources m keep state 0 ≡ flag (keeps keep m (arrayAt x sources 0))
+module _ (x : Tables) (sources : List ℕ) (m : ℕ) (keep : Bool) (plan : List ℕ) where
+  root-word : keepWord x sources m keep plan 0 ≡ flag (keeps keep m (arrayAt x sources 0))
   unfolding keepWord asked isEnds
   root-word = refl
 
   module _ (k j : ℕ) (q : k ≡ suc j) where
-    ends-word : isRunEnd (codeOf state j) ≡ true → keepWord x sources m keep state k ≡ 0
+    ends-word : isRunEnd (codeOf plan j) ≡ true → keepWord x sources m keep plan k ≡ 0
     unfolding keepWord isEnds
     ends-word r = rw (q, r)
 
-    values-word : isRunEnd (codeOf state j) ≡ false → (dictionaryOf state j ≡ 0 → ⊥) → keepWord x sources m keep state k ≡ flag (keeps false m (arrayAt x sources k))
+    values-word : isRunEnd (codeOf plan j) ≡ false → (dictionaryOf plan j ≡ 0 → ⊥) → keepWord x sources m keep plan k ≡ flag (keeps false m (arrayAt x sources k))
     unfolding keepWord isEnds asked
-    values-word r d = rw (q, r, ne-eqb (dictionaryOf state j) 0 d)
+    values-word r d = rw (q, r, ne-eqb (dictionaryOf plan j) 0 d)
 
-    child-word : (i : ℕ) → isRunEnd (codeOf state j) ≡ false → dictionaryOf state j ≡ 0 → parentOf state k ≡ i
-        → keepWord x sources m keep state k ≡ flag (keeps (not (eqb (keepsOf state i) 0)) m (arrayAt x sources k))
+    child-word : (i : ℕ) → isRunEnd (codeOf plan j) ≡ false → dictionaryOf plan j ≡ 0 → parentOf plan k ≡ i
+        → keepWord x sources m keep plan k ≡ flag (keeps (not (eqb (keepsOf plan i) 0)) m (arrayAt x sources k))
     unfolding keepWord isEnds asked
     child-word i r d p =
-        let e : parentOf state (suc j) ≡ i = sym (ap (parentOf state) q) ∙ p in
+        let e : parentOf plan (suc j) ≡ i = sym (ap (parentOf plan) q) ∙ p in
         rw (q, r, d, e)
 
 -- ---- bases by a node's code
 
-module _ (x : Tables) (sources : List ℕ) (m : ℕ) (state : List ℕ) where
-  view-word : (s i : ℕ) → isView (codeOf state i) ≡ true → baseWord x sources m state s i ≡ buffersUpTo (x .places) sources i s
+module _ (x : Tables) (sources : List ℕ) (m : ℕ) (plan : List ℕ) where
+  view-word : (s i : ℕ) → isView (codeOf plan i) ≡ true → baseWord x sources m plan s i ≡ buffersUpTo (x .places) sources i s
   unfolding baseWord
   view-word s i v = rw v
 
-  keys-word : (s i : ℕ) (strings : Bool) → isView (codeOf state i) ≡ false → (dictionaryOf state i ≡ 0 → ⊥) → isString (codeOf state (suc i)) ≡ strings
-      → baseWord x sources m state s i ≡ capped (startOfKeys m (dictAt x sources strings (suc i)) s)
+  keys-word : (s i : ℕ) (strings : Bool) → isView (codeOf plan i) ≡ false → (dictionaryOf plan i ≡ 0 → ⊥) → isString (codeOf plan (suc i)) ≡ strings
+      → baseWord x sources m plan s i ≡ capped (startOfKeys m (dictAt x sources strings (suc i)) s)
   unfolding baseWord
-  keys-word s i strings v d q = rw (v, ne-eqb (dictionaryOf state i) 0 d, q)
+  keys-word s i strings v d q = rw (v, ne-eqb (dictionaryOf plan i) 0 d, q)
 
-  keys-joined : (i : ℕ) (strings : Bool) → (dictionaryOf state i ≡ 0 → ⊥) → isString (codeOf state (suc i)) ≡ strings
-      → joinedWord x sources m state i ≡ flag (not (shared m (dictAt x sources strings (suc i))))
+  keys-joined : (i : ℕ) (strings : Bool) → (dictionaryOf plan i ≡ 0 → ⊥) → isString (codeOf plan (suc i)) ≡ strings
+      → joinedWord x sources m plan i ≡ flag (not (shared m (dictAt x sources strings (suc i))))
   unfolding joinedWord
-  keys-joined i strings d q = rw (ne-eqb (dictionaryOf state i) 0 d, q)
+  keys-joined i strings d q = rw (ne-eqb (dictionaryOf plan i) 0 d, q)
 
 limit-small : (c : Number) → limit c ≤ 2 ^ 64
 limit-small i8 = omega arith
@@ -265,26 +265,26 @@ module _ (formats schema : List ℕ) (y : Tables) (sources : List ℕ) (keep gap
   abbrev x : Tables
   x = tables (y .lengths) (y .places) (y .body)
 
-  abbrev state : List ℕ
-  state = planned formats schema x sources keep gaps
+  abbrev plan : List ℕ
+  plan = planned formats schema x sources keep gaps
 
   -- whether node i keeps nulls
   abbrev pub keptAt : ℕ → Bool
-  keptAt i = not (eqb (keepsOf state i) 0)
+  keptAt i = not (eqb (keepsOf plan i) 0)
 
   byte : (i : ℕ) → schemaTree.codeOf formats schema first i ≤ 23
   unfolding schemaTree.codeOf
   byte i = code-small formats _ _
 
-  pub code-is : (i : ℕ) → i < n → codeOf state i ≡ schemaTree.codeOf formats schema first i
+  pub code-is : (i : ℕ) → i < n → codeOf plan i ≡ schemaTree.codeOf formats schema first i
   code-is i l =
       let e = word-is formats schema x sources keep gaps few small i 0 (omega arith) (omega arith) ∙ zeroth formats schema first n i 0 l refl in
       omega (arith, e, byte i)
 
-  pub dictionary-is : (i : ℕ) → i < n → dictionaryOf state i ≡ dictionary schema first i
+  pub dictionary-is : (i : ℕ) → i < n → dictionaryOf plan i ≡ dictionary schema first i
   dictionary-is i l = word-is formats schema x sources keep gaps few small i 1 (omega arith) (omega arith) ∙ first-word formats schema first n i 1 l refl
 
-  pub end-is : (i : ℕ) → i < n → endOf state i ≡ schemaTree.endOf schema first n i
+  pub end-is : (i : ℕ) → i < n → endOf plan i ≡ schemaTree.endOf schema first n i
   end-is i l =
       let e = word-is formats schema x sources keep gaps few small i 2 (omega arith) (omega arith) ∙ second-word formats schema first n i 2 l refl in
       omega (arith, e, end-inside schema first n i (omega arith))
@@ -296,51 +296,51 @@ module _ (formats schema : List ℕ) (y : Tables) (sources : List ℕ) (keep gap
   w = typed-whole formats schema first n t
 
   -- THE NODE ABOVE a child
-  pub parent-is : (i c : ℕ) → i < n → c < below schema first i → parentOf state (child i c) ≡ i
+  pub parent-is : (i c : ℕ) → i < n → c < below schema first i → parentOf plan (child i c) ≡ i
   parent-is i c l h =
       let within = child-inside schema first n w i c l h in
-      holder-is state (child i c) i (child i c) (omega (arith, child-up schema first n i c)) (omega (arith, end-is i l, child-before schema first n w i c l h))
+      holder-is plan (child i c) i (child i c) (omega (arith, child-up schema first n i c)) (omega (arith, end-is i l, child-before schema first n w i c l h))
       (λ j a b. omega (arith, end-is j (omega arith), earlier schema first n i c j a b))
 
   -- the node before a child is no run-end node and has no dictionary, unless it is the node above
-  before-run : (i c k : ℕ) → i < n → c < below schema first i → suc k ≡ child i c → (c ≡ 0 → isRunEnd (codeOf state i) ≡ false) → isRunEnd (codeOf state k) ≡ false
+  before-run : (i c k : ℕ) → i < n → c < below schema first i → suc k ≡ child i c → (c ≡ 0 → isRunEnd (codeOf plan i) ≡ false) → isRunEnd (codeOf plan k) ≡ false
   before-run i zero k l h e r =
       let q : k ≡ i = omega (arith, first-child formats schema first n i) in
-      ap (λ a. isRunEnd (codeOf state a)) q ∙ r refl
+      ap (λ a. isRunEnd (codeOf plan a)) q ∙ r refl
   before-run i (suc c) k l h e r =
       let low : k < n = omega (arith, child-inside schema first n w i (suc c) l h) in
       ap isRunEnd (code-is k low) ∙ leaf-no-run formats schema first k (typed-shape formats schema first n t k low) (leaf-before schema first n w i c k l h e)
 
-  before-single : (i c k : ℕ) → i < n → c < below schema first i → suc k ≡ child i c → dictionaryOf state i ≡ 0 → dictionaryOf state k ≡ 0
+  before-single : (i c k : ℕ) → i < n → c < below schema first i → suc k ≡ child i c → dictionaryOf plan i ≡ 0 → dictionaryOf plan k ≡ 0
   before-single i zero k l h e d =
       let q : k ≡ i = omega (arith, first-child formats schema first n i) in
-      ap (dictionaryOf state) q ∙ d
+      ap (dictionaryOf plan) q ∙ d
   before-single i (suc c) k l h e d =
       let low : k < n = omega (arith, child-inside schema first n w i (suc c) l h) in
       dictionary-is k low ∙ leaf-single formats schema first k (leaf-before schema first n w i c k l h e)
 
-  keeps-child : (i c : ℕ) → i < n → c < below schema first i → dictionaryOf state i ≡ 0 → (c ≡ 0 → isRunEnd (codeOf state i) ≡ false)
-      → keepsOf state (child i c) ≡ flag (keeps (keptAt i) m (arrayAt x sources (child i c)))
+  keeps-child : (i c : ℕ) → i < n → c < below schema first i → dictionaryOf plan i ≡ 0 → (c ≡ 0 → isRunEnd (codeOf plan i) ≡ false)
+      → keepsOf plan (child i c) ≡ flag (keeps (keptAt i) m (arrayAt x sources (child i c)))
   keeps-child i c l h d r =
       let k = child i c - 1 in
       let e : suc k ≡ child i c = omega (arith, child-up schema first n i c) in
       keep-is formats schema x sources keep gaps few small (child i c) (child-inside schema first n w i c l h)
-      ∙ child-word x sources m keep state (child i c) k (sym e) i (before-run i c k l h e r) (before-single i c k l h e d) (parent-is i c l h)
+      ∙ child-word x sources m keep plan (child i c) k (sym e) i (before-run i c k l h e r) (before-single i c k l h e d) (parent-is i c l h)
 
   -- a node with a dictionary has values behind it, and is no run-end node
-  values-inside : (i : ℕ) → i < n → (dictionaryOf state i ≡ 0 → ⊥) → suc i < n
+  values-inside : (i : ℕ) → i < n → (dictionaryOf plan i ≡ 0 → ⊥) → suc i < n
   values-inside i l d =
       let some = below-values schema first i _ refl (λ e. d (dictionary-is i l ∙ e)) in
       omega (arith, first-child formats schema first n i, child-inside schema first n w i 0 l (omega arith))
 
-  keys-no-run : (i : ℕ) → i < n → (dictionaryOf state i ≡ 0 → ⊥) → isRunEnd (codeOf state i) ≡ false
+  keys-no-run : (i : ℕ) → i < n → (dictionaryOf plan i ≡ 0 → ⊥) → isRunEnd (codeOf plan i) ≡ false
   keys-no-run i l d =
-      is-false (isRunEnd (codeOf state i))
+      is-false (isRunEnd (codeOf plan i))
       (λ e. d (dictionary-is i l ∙ run-single formats schema first i (typed-shape formats schema first n t i l) (sym (ap isRunEnd (code-is i l)) ∙ e)))
 
-  keys-no-view : (i : ℕ) → i < n → (dictionaryOf state i ≡ 0 → ⊥) → isView (codeOf state i) ≡ false
+  keys-no-view : (i : ℕ) → i < n → (dictionaryOf plan i ≡ 0 → ⊥) → isView (codeOf plan i) ≡ false
   keys-no-view i l d =
-      is-false (isView (codeOf state i))
+      is-false (isView (codeOf plan i))
       (λ e.
       d
       (dictionary-is i l
@@ -351,67 +351,67 @@ module _ (formats schema : List ℕ) (y : Tables) (sources : List ℕ) (keep gap
 
   module _ (tree : Tree) (u : Ty) where
     -- "if the caller says so or any source has a null at that node"
-    pub root-keeps : 0 < n → keepsOf state 0 ≡ flag (keeps keep m (columnAt tree y sources u 0))
+    pub root-keeps : 0 < n → keepsOf plan 0 ≡ flag (keeps keep m (columnAt tree y sources u 0))
     root-keeps l =
-        keep-is formats schema x sources keep gaps few small 0 l ∙ root-word x sources m keep state ∙ sym (ap flag (keeps-typed tree y sources keep u 0 m))
+        keep-is formats schema x sources keep gaps few small 0 l ∙ root-word x sources m keep plan ∙ sym (ap flag (keeps-typed tree y sources keep u 0 m))
 
     -- "this passes to union, list-view .. children"
-    pub child-keeps : (i c : ℕ) → i < n → c < below schema first i → dictionaryOf state i ≡ 0 → isRunEnd (codeOf state i) ≡ false
-        → keepsOf state (child i c) ≡ flag (keeps (keptAt i) m (columnAt tree y sources u (child i c)))
+    pub child-keeps : (i c : ℕ) → i < n → c < below schema first i → dictionaryOf plan i ≡ 0 → isRunEnd (codeOf plan i) ≡ false
+        → keepsOf plan (child i c) ≡ flag (keeps (keptAt i) m (columnAt tree y sources u (child i c)))
     child-keeps i c l h d r = keeps-child i c l h d (λ z. r) ∙ sym (ap flag (keeps-typed tree y sources (keptAt i) u (child i c) m))
 
     -- ".. and run-value children"
-    pub run-values-keep : (i : ℕ) → i < n → isRunEnd (codeOf state i) ≡ true
-        → keepsOf state (suc (suc i)) ≡ flag (keeps (keptAt i) m (columnAt tree y sources u (suc (suc i))))
+    pub run-values-keep : (i : ℕ) → i < n → isRunEnd (codeOf plan i) ≡ true
+        → keepsOf plan (suc (suc i)) ≡ flag (keeps (keptAt i) m (columnAt tree y sources u (suc (suc i))))
     run-values-keep i l r =
         let s = typed-shape formats schema first n t i l in
         let run : isRunEnd (schemaTree.codeOf formats schema first i) ≡ true = sym (ap isRunEnd (code-is i l)) ∙ r in
         let two = run-below formats schema first i s run in
         let next : suc i < n = omega (arith, first-child formats schema first n i, child-inside schema first n w i 0 l (omega arith)) in
-        let single : dictionaryOf state i ≡ 0 = dictionary-is i l ∙ run-single formats schema first i s run in
+        let single : dictionaryOf plan i ≡ 0 = dictionary-is i l ∙ run-single formats schema first i s run in
         let e = second-child formats schema first n i next (two .1) in
-        sym (ap (keepsOf state) e) ∙ keeps-child i 1 l (omega arith) single (λ z. absurd (omega arith))
+        sym (ap (keepsOf plan) e) ∙ keeps-child i 1 l (omega arith) single (λ z. absurd (omega arith))
         ∙ ap (λ k. flag (keeps (keptAt i) m (arrayAt x sources k))) e ∙ sym (ap flag (keeps-typed tree y sources (keptAt i) u (suc (suc i)) m))
 
     -- "not to .. dictionaries"
-    pub values-keep : (i : ℕ) → i < n → (dictionaryOf state i ≡ 0 → ⊥) → keepsOf state (suc i) ≡ flag (keeps false m (columnAt tree y sources u (suc i)))
+    pub values-keep : (i : ℕ) → i < n → (dictionaryOf plan i ≡ 0 → ⊥) → keepsOf plan (suc i) ≡ flag (keeps false m (columnAt tree y sources u (suc i)))
     values-keep i l d =
         keep-is formats schema x sources keep gaps few small (suc i) (values-inside i l d)
-        ∙ values-word x sources m keep state (suc i) i refl (keys-no-run i l d) d
+        ∙ values-word x sources m keep plan (suc i) i refl (keys-no-run i l d) d
         ∙ sym (ap flag (keeps-typed tree y sources false u (suc i) m))
 
   -- "not to run ends"
-  pub ends-keep : (i : ℕ) → i < n → isRunEnd (codeOf state i) ≡ true → keepsOf state (suc i) ≡ 0
+  pub ends-keep : (i : ℕ) → i < n → isRunEnd (codeOf plan i) ≡ true → keepsOf plan (suc i) ≡ 0
   ends-keep i l r =
       let run : isRunEnd (schemaTree.codeOf formats schema first i) ≡ true = sym (ap isRunEnd (code-is i l)) ∙ r in
       let two = run-below formats schema first i (typed-shape formats schema first n t i l) run in
       let next : suc i < n = omega (arith, first-child formats schema first n i, child-inside schema first n w i 0 l (omega arith)) in
-      keep-is formats schema x sources keep gaps few small (suc i) next ∙ ends-word x sources m keep state (suc i) i refl r
+      keep-is formats schema x sources keep gaps few small (suc i) next ∙ ends-word x sources m keep plan (suc i) i refl r
 
   -- ---- bases, and word 7
 
   module _ (tree : Tree) where
     -- "A view's buffer index rises by the number of data buffers in earlier sources"
-    pub view-base : (s i : ℕ) → s < m → i < 32 → isView (codeOf state i) ≡ true → Named tree y sources i s
-        → baseOf state s i ≡ length (buffersBefore (λ j. bodyOf tree (tablesFrom y (firstOf sources j)) tView i) s)
-    view-base s i l h v g = base-is formats schema x sources keep gaps few small s i l h ∙ view-word x sources m state s i v ∙ buffers-typed tree y sources i s g
+    pub view-base : (s i : ℕ) → s < m → i < 32 → isView (codeOf plan i) ≡ true → Named tree y sources i s
+        → baseOf plan s i ≡ length (buffersBefore (λ j. bodyOf tree (tablesFrom y (firstOf sources j)) tView i) s)
+    view-base s i l h v g = base-is formats schema x sources keep gaps few small s i l h ∙ view-word x sources m plan s i v ∙ buffers-typed tree y sources i s g
 
-    module _ (k : Number) (p : Plain) (i : ℕ) (l : i < n) (d : dictionaryOf state i ≡ 0 → ⊥) (q : isString (codeOf state (suc i)) ≡ ofStrings p) where
+    module _ (k : Number) (p : Plain) (i : ℕ) (l : i < n) (d : dictionaryOf plan i ≡ 0 → ⊥) (q : isString (codeOf plan (suc i)) ≡ ofStrings p) where
       abbrev dictionaries : ℕ → Dictionary (PlainBody p)
       dictionaries = dictionaryAt tree y sources k p i
 
       -- "Only if all neighbouring sources share is source 0's dictionary kept; else all are joined"
-      pub dictionary-joined : word state i 7 ≡ flag (not (shared m dictionaries))
+      pub dictionary-joined : word plan i 7 ≡ flag (not (shared m dictionaries))
       dictionary-joined =
-          joined-is formats schema x sources keep gaps few small i l ∙ keys-joined x sources m state i (ofStrings p) d q
+          joined-is formats schema x sources keep gaps few small i l ∙ keys-joined x sources m plan i (ofStrings p) d q
           ∙ sym (ap (λ b. flag (not b)) (shared-typed tree y sources k p i m))
 
       -- "start is 0 if shared, else the entries of earlier sources"
-      pub dictionary-base : (s : ℕ) → s < m → baseOf state s i ≡ capped (startOfKeys m dictionaries s)
+      pub dictionary-base : (s : ℕ) → s < m → baseOf plan s i ≡ capped (startOfKeys m dictionaries s)
       dictionary-base s h =
-          base-is formats schema x sources keep gaps few small s i h (omega arith) ∙ keys-word x sources m state s i (ofStrings p) (keys-no-view i l d) d q
+          base-is formats schema x sources keep gaps few small s i h (omega arith) ∙ keys-word x sources m plan s i (ofStrings p) (keys-no-view i l d) d q
           ∙ sym (ap capped (start-typed tree y sources k p i m s))
 
       -- .. as it is, where ground 8 lets it through
-      pub dictionary-base-fits : (s : ℕ) → s < m → (c : Number) → allKeysFit c m m dictionaries ≡ true → baseOf state s i ≡ startOfKeys m dictionaries s
+      pub dictionary-base-fits : (s : ℕ) → s < m → (c : Number) → allKeysFit c m m dictionaries ≡ true → baseOf plan s i ≡ startOfKeys m dictionaries s
       dictionary-base-fits s h c f = dictionary-base s h ∙ start-fits c m dictionaries m s h f

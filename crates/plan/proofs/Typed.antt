@@ -1,4 +1,4 @@
--- A planned state of sources of one type holds what the opening of the model settles. Assumes nothing.
+-- A plan of sources of one type holds what the opening of the model settles. Assumes nothing.
 use mathlib.Core.Path.{_≡_, sym, ap, _∙_}
 use mathlib.Core.Bool.{Bool, true, false, not}
 use mathlib.Core.List.{List, List·Memᴰ}
@@ -48,8 +48,8 @@ module _ (formats schema : List ℕ) (y : Tables) (sources : List ℕ) (keep gap
   abbrev tree : Tree
   tree = treeOf formats schema first n
 
-  abbrev state : List ℕ
-  state = planned formats schema (tables (y .lengths) (y .places) (y .body)) sources keep gaps
+  abbrev plan : List ℕ
+  plan = planned formats schema (tables (y .lengths) (y .places) (y .body)) sources keep gaps
 
   abbrev bodies : (u : Ty) → ℕ → ℕ → Body u
   bodies u i s = bodyOf tree (tablesFrom y (firstOf sources s)) u i
@@ -59,18 +59,18 @@ module _ (formats schema : List ℕ) (y : Tables) (sources : List ℕ) (keep gap
 
   -- the child of a list-view or union node
   down : (u : Ty) (i c k : ℕ) (b : Bool) → i < n → c < below schema first i → schemaTree.dictionary schema first i ≡ 0
-      → isRunEnd (schemaTree.codeOf formats schema first i) ≡ false → childAt schema first n i c ≡ k → keepsOf state i ≡ flag b
-      → keepsOf state k ≡ flag (keeps b m (columnAt tree y sources u k))
+      → isRunEnd (schemaTree.codeOf formats schema first i) ≡ false → childAt schema first n i c ≡ k → keepsOf plan i ≡ flag b
+      → keepsOf plan k ≡ flag (keeps b m (columnAt tree y sources u k))
   down u i c k b l h d r e f =
-      sym (ap (keepsOf state) e)
+      sym (ap (keepsOf plan) e)
       ∙ child-keeps formats schema y sources keep gaps few small t tree u i c l h (dictionary-is formats schema y sources keep gaps few small t i l ∙ d)
       (ap isRunEnd (code-is formats schema y sources keep gaps few small t i l) ∙ r)
       ∙ ap (λ k. flag (keeps (keptAt formats schema y sources keep gaps few small t i) m (columnAt tree y sources u k))) e
-      ∙ ap (λ b. flag (keeps b m (columnAt tree y sources u k))) (flag-back b (keepsOf state i) f)
+      ∙ ap (λ b. flag (keeps b m (columnAt tree y sources u k))) (flag-back b (keepsOf plan i) f)
 
   union-down : (u : Ty) (i c : ℕ) (ids : List ℕ) (b : Bool) → i < n → isUnion (schemaTree.codeOf formats schema first i) ≡ true → below schema first i ≡ length ids
-      → List·Memᴰ c ids → keepsOf state i ≡ flag b
-      → keepsOf state (nodeOf tree i ids c) ≡ flag (keeps b m (columnAt tree y sources u (nodeOf tree i ids c)))
+      → List·Memᴰ c ids → keepsOf plan i ≡ flag b
+      → keepsOf plan (nodeOf tree i ids c) ≡ flag (keeps b m (columnAt tree y sources u (nodeOf tree i ids c)))
   union-down u i c ids b l v z q f =
       down u i (fieldOf ids c) (nodeOf tree i ids c) b l (omega (arith, field-in ids c q))
       (no-dictionary formats schema first i (typed-shape formats schema first n t i l) (union-not-fixed (schemaTree.codeOf formats schema first i) v)) (union-not-run (schemaTree.codeOf formats schema first i) v)
@@ -81,7 +81,7 @@ module _ (formats schema : List ℕ) (y : Tables) (sources : List ℕ) (keep gap
   plain-kind (string w) i h = h
 
   -- NODE i STANDS FOR A TYPE: the words below it are as the model has them
-  pub opened-below : (u : Ty) (i : ℕ) (b : Bool) → Means tree u i → keepsOf state i ≡ flag b → OpenedBelow state tree m u i b (bodies u i)
+  pub opened-below : (u : Ty) (i : ℕ) (b : Bool) → Means tree u i → keepsOf plan i ≡ flag b → OpenedBelow plan tree m u i b (bodies u i)
   opened-below (tPlain p) i b h f = tt
   opened-below tView i b h f =
       λ s l.
@@ -113,19 +113,19 @@ module _ (formats schema : List ℕ) (y : Tables) (sources : List ℕ) (keep gap
   opened-below (tRunEnd w u) i b h f =
       let l = h .0 .0 in
       let r = ap isRunEnd (code-is formats schema y sources keep gaps few small t i l) ∙ run-code formats schema first i w (h .0 .1) in
-      let e = run-values-keep formats schema y sources keep gaps few small t tree u i l r ∙ ap (λ b. flag (keeps b m (columnAt tree y sources u (suc (suc i))))) (flag-back b (keepsOf state i) f) in
+      let e = run-values-keep formats schema y sources keep gaps few small t tree u i l r ∙ ap (λ b. flag (keeps b m (columnAt tree y sources u (suc (suc i))))) (flag-back b (keepsOf plan i) f) in
       (ends-keep formats schema y sources keep gaps few small t i l r, e, opened-below u (suc (suc i)) (keeps b m (columnAt tree y sources u (suc (suc i)))) (h .2) e)
   opened-below (tDictionary k p) i b h f =
       let l = h .0 .0 in
       let values = plain-kind p (suc i) (h .1) in
-      let d : dictionaryOf state i ≡ 0 → ⊥ = λ e. keys-code formats schema first i k (h .0 .1) (sym (dictionary-is formats schema y sources keep gaps few small t i l) ∙ e) in
-      let q : isString (codeOf state (suc i)) ≡ ofStrings p =
+      let d : dictionaryOf plan i ≡ 0 → ⊥ = λ e. keys-code formats schema first i k (h .0 .1) (sym (dictionary-is formats schema y sources keep gaps few small t i l) ∙ e) in
+      let q : isString (codeOf plan (suc i)) ≡ ofStrings p =
       ap isString (code-is formats schema y sources keep gaps few small t (suc i) (values .0)) ∙ strings-code formats schema first (suc i) p (values .1) in
       (values-keep formats schema y sources keep gaps few small t tree (tPlain p) i l d, dictionary-joined formats schema y sources keep gaps few small t tree k p i l d q, dictionary-base formats schema y sources keep gaps few small t tree k p i l d q)
 
   -- THE PLANNED STATE IS THE MODEL'S OPENING
   pub opened : ceilings formats schema first n ≡ true
-      → Opened state tree m (typeOf formats schema first n) keep (columnAt tree y sources (typeOf formats schema first n) 0)
+      → Opened plan tree m (typeOf formats schema first n) keep (columnAt tree y sources (typeOf formats schema first n) 0)
   opened c =
       let u = typeOf formats schema first n in
       let e = root-keeps formats schema y sources keep gaps few small t tree u (some-node formats schema first n (typed-whole formats schema first n t)) in

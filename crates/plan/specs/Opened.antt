@@ -1,5 +1,5 @@
 -- What the opening of the model settles (model/specs/Transform.antt: `start`, `theDictionary`, `keysExtend`, `viewExtend`), by the words
--- of a state: who keeps nulls, which dictionaries are joined, and what is added to keys and buffer numbers. Assumes nothing.
+-- of a plan: who keeps nulls, which dictionaries are joined, and what is added to keys and buffer numbers. Assumes nothing.
 use mathlib.Core.Path.{_≡_}
 use mathlib.Core.Bool.{Bool, false, not}
 use mathlib.Core.List.{List, List·Memᴰ}
@@ -15,34 +15,34 @@ use Rattle.plan.specs.dictionaries.Sources.{capped}
 use Rattle.walk.specs.State.{word, keepsOf, baseOf}
 use Rattle.plan.specs.Plan.{flag}
 
-module _ (state : List ℕ) (tree : Tree) (m : ℕ) where
+module _ (plan : List ℕ) (tree : Tree) (m : ℕ) where
   -- node i, whose columns are the ss and which keeps nulls or not, and every node below it
   abbrev pub OpenedBelow : (t : Ty) → ℕ → Bool → (ℕ → Body t) → Type 0
   OpenedBelow (tPlain p) i u ss = Unit {0}
-  OpenedBelow tView i u ss = (s : ℕ) → s < m → baseOf state s i ≡ length (buffersBefore ss s)
+  OpenedBelow tView i u ss = (s : ℕ) → s < m → baseOf plan s i ≡ length (buffersBefore ss s)
   OpenedBelow (tListView w t) i u ss =
-      (keepsOf state (suc i) ≡ flag (keeps u m (λ s. ss s .child))) × OpenedBelow t (suc i) (keeps u m (λ s. ss s .child)) (λ s. ss s .child .body)
+      (keepsOf plan (suc i) ≡ flag (keeps u m (λ s. ss s .child))) × OpenedBelow t (suc i) (keeps u m (λ s. ss s .child)) (λ s. ss s .child .body)
   OpenedBelow (tList w t) i u ss =
-      (keepsOf state (suc i) ≡ flag (keeps u m (λ s. ss s .child))) × OpenedBelow t (suc i) (keeps u m (λ s. ss s .child)) (λ s. ss s .child .body)
+      (keepsOf plan (suc i) ≡ flag (keeps u m (λ s. ss s .child))) × OpenedBelow t (suc i) (keeps u m (λ s. ss s .child)) (λ s. ss s .child .body)
   OpenedBelow (tSparse ids nullable f) i u ss =
       (c : ℕ)
       → List·Memᴰ c ids
-      → (keepsOf state (nodeOf tree i ids c) ≡ flag (keeps u m (λ s. ss s .children c)))
+      → (keepsOf plan (nodeOf tree i ids c) ≡ flag (keeps u m (λ s. ss s .children c)))
       × OpenedBelow (f c) (nodeOf tree i ids c) (keeps u m (λ s. ss s .children c)) (λ s. ss s .children c .body)
   OpenedBelow (tDense ids nullable f) i u ss =
       (c : ℕ)
       → List·Memᴰ c ids
-      → (keepsOf state (nodeOf tree i ids c) ≡ flag (keeps u m (λ s. ss s .children c)))
+      → (keepsOf plan (nodeOf tree i ids c) ≡ flag (keeps u m (λ s. ss s .children c)))
       × OpenedBelow (f c) (nodeOf tree i ids c) (keeps u m (λ s. ss s .children c)) (λ s. ss s .children c .body)
   OpenedBelow (tRunEnd w t) i u ss =
-      (keepsOf state (suc i) ≡ 0)
-      × (keepsOf state (suc (suc i)) ≡ flag (keeps u m (λ s. ss s .values)))
+      (keepsOf plan (suc i) ≡ 0)
+      × (keepsOf plan (suc (suc i)) ≡ flag (keeps u m (λ s. ss s .values)))
       × OpenedBelow t (suc (suc i)) (keeps u m (λ s. ss s .values)) (λ s. ss s .values .body)
   OpenedBelow (tDictionary k p) i u ss =
-      (keepsOf state (suc i) ≡ flag (keeps false m (λ s. ss s .values)))
-      × (word state i 7 ≡ flag (not (shared m ss)))
-      × ((s : ℕ) → s < m → baseOf state s i ≡ capped (startOfKeys m ss s))
+      (keepsOf plan (suc i) ≡ flag (keeps false m (λ s. ss s .values)))
+      × (word plan i 7 ≡ flag (not (shared m ss)))
+      × ((s : ℕ) → s < m → baseOf plan s i ≡ capped (startOfKeys m ss s))
 
   -- THE OPENING, where the caller asks for nulls or not
   abbrev pub Opened : (t : Ty) → Bool → (ℕ → Array (Body t)) → Type 0
-  Opened t keep ss = (keepsOf state 0 ≡ flag (keeps keep m ss)) × OpenedBelow t 0 (keeps keep m ss) (λ s. ss s .body)
+  Opened t keep ss = (keepsOf plan 0 ≡ flag (keeps keep m ss)) × OpenedBelow t 0 (keeps keep m ss) (λ s. ss s .body)

@@ -1,4 +1,4 @@
--- The state of a join (walk/specs/State.antt) as the opening plans it, before any dictionary is joined: one kind of word after the other.
+-- The plan of a join (walk/specs/State.antt) as the opening plans it, before any dictionary is joined: one kind of word after the other.
 -- Assumes nothing.
 use mathlib.Core.Bool.{Bool, false, not, cond}
 use mathlib.Core.List.{List}
@@ -18,8 +18,8 @@ use Rattle.walk.specs.State.{codeOf, dictionaryOf, endOf, keepsOf}
 -- words written one after the other: for each k the word `at k`, by the words that stand there so far
 module _ (at : ℕ → ℕ) (value : List ℕ → ℕ → ℕ) where
   unfoldable pub filled : ℕ → List ℕ → List ℕ
-  filled zero state = state
-  filled (suc k) state = set (filled k state) (at k) (value (filled k state) k)
+  filled zero plan = plan
+  filled (suc k) plan = set (filled k plan) (at k) (value (filled k plan) k)
 
 -- 1 for true
 abbrev pub flag : Bool → ℕ
@@ -28,29 +28,29 @@ flag b = cond b 1 0
 -- ---- the type tree: crate `array_data::node_words`; all else is 0
 
 unfoldable pub withTree : List ℕ → List ℕ
-withTree tree = filled (λ q. q) (λ state q. getD tree q 0) 256 (replicate 872 0)
+withTree tree = filled (λ q. q) (λ plan q. getD tree q 0) 256 (replicate 872 0)
 
 -- ---- which nodes keep nulls
 
 -- the last node below p whose subtree holds node i; 0 where there is none
 unfoldable pub holder : List ℕ → ℕ → ℕ → ℕ
-holder state zero i = 0
-holder state (suc p) i = cond (ltb i (endOf state p)) p (holder state p i)
+holder plan zero i = 0
+holder plan (suc p) i = cond (ltb i (endOf plan p)) p (holder plan p i)
 
 -- the node above node i
 abbrev pub parentOf : List ℕ → ℕ → ℕ
-parentOf state i = holder state i i
+parentOf plan i = holder plan i i
 
 -- the caller or the node above asks for the nulls of node i: "this passes to union, list-view and run-value children, not to run ends and
 -- dictionaries"; a dictionary's values are the node behind its keys
 unfoldable pub asked : List ℕ → Bool → ℕ → Bool
-asked state keep zero = keep
-asked state keep (suc i) = cond (eqb (dictionaryOf state i) 0) (not (eqb (keepsOf state (parentOf state (suc i))) 0)) false
+asked plan keep zero = keep
+asked plan keep (suc i) = cond (eqb (dictionaryOf plan i) 0) (not (eqb (keepsOf plan (parentOf plan (suc i))) 0)) false
 
 -- node i is the run ends of the run-end node before it
 unfoldable pub isEnds : List ℕ → ℕ → Bool
-isEnds state zero = false
-isEnds state (suc i) = isRunEnd (codeOf state i)
+isEnds plan zero = false
+isEnds plan (suc i) = isRunEnd (codeOf plan i)
 
 -- "the number of data buffers in earlier sources" than source s, at node i; a source has at most 32, so that 33 stands for any number above
 unfoldable pub buffersUpTo : List ℕ → List ℕ → ℕ → ℕ → ℕ
@@ -60,47 +60,47 @@ buffersUpTo places sources i (suc s) = buffersUpTo places sources i s + min (get
 module _ (x : Tables) (sources : List ℕ) (m : ℕ) where
   -- "A node keeps nulls if the caller says so or any source has a null at that node"; run ends keep none
   unfoldable pub keepWord : Bool → List ℕ → ℕ → ℕ
-  keepWord keep state i = cond (isEnds state i) 0 (flag (keeps (asked state keep i) m (arrayAt x sources i)))
+  keepWord keep plan i = cond (isEnds plan i) 0 (flag (keeps (asked plan keep i) m (arrayAt x sources i)))
 
   unfoldable pub withKeeps : Bool → ℕ → List ℕ → List ℕ
-  withKeeps keep n state = filled (λ i. 8 * i + 5) (keepWord keep) n state
+  withKeeps keep n plan = filled (λ i. 8 * i + 5) (keepWord keep) n plan
 
   -- ---- which dictionaries are joined
 
   -- the dictionaries whose keys are node i, one for each source
   abbrev pub dictionariesAt : List ℕ → ℕ → ℕ → Dictionary (Unit {0})
-  dictionariesAt state i = dictAt x sources (isString (codeOf state (suc i))) (suc i)
+  dictionariesAt plan i = dictAt x sources (isString (codeOf plan (suc i))) (suc i)
 
   -- "Only if all neighbouring sources share is source 0's dictionary kept; else all are joined"
   unfoldable pub joinedWord : List ℕ → ℕ → ℕ
-  joinedWord state i = cond (eqb (dictionaryOf state i) 0) 0 (flag (not (shared m (dictionariesAt state i))))
+  joinedWord plan i = cond (eqb (dictionaryOf plan i) 0) 0 (flag (not (shared m (dictionariesAt plan i))))
 
   unfoldable pub withJoined : ℕ → List ℕ → List ℕ
-  withJoined n state = filled (λ i. 8 * i + 7) joinedWord n state
+  withJoined n plan = filled (λ i. 8 * i + 7) joinedWord n plan
 
   -- ---- what is added to keys and buffer numbers
 
   -- "A view's buffer index rises by the number of data buffers in earlier sources"; "start is 0 if shared, else the entries of earlier
   -- sources", or the largest number of 64 bits, which ground 8 refuses
   unfoldable pub baseWord : List ℕ → ℕ → ℕ → ℕ
-  baseWord state s i =
-      cond (isView (codeOf state i)) (buffersUpTo (x .places) sources i s)
-      (cond (eqb (dictionaryOf state i) 0) 0 (capped (startOfKeys m (dictionariesAt state i) s)))
+  baseWord plan s i =
+      cond (isView (codeOf plan i)) (buffersUpTo (x .places) sources i s)
+      (cond (eqb (dictionaryOf plan i) 0) 0 (capped (startOfKeys m (dictionariesAt plan i) s)))
 
   unfoldable pub withBases : List ℕ → List ℕ
-  withBases state = filled (λ q. 352 + q) (λ words q. baseWord words (q / 32) (q % 32)) (32 * m) state
+  withBases plan = filled (λ q. 352 + q) (λ words q. baseWord words (q / 32) (q % 32)) (32 * m) plan
 
 -- ---- parts, and how many sources, nodes and parts there are
 
 unfoldable pub withCounts : ℕ → ℕ → List ℕ → List ℕ
-withCounts m n state = set (set state 864 m) 865 n
+withCounts m n plan = set (set plan 864 m) 865 n
 
 -- "Parts stand in tree order": the part of each node's first buffer
 unfoldable pub withParts : ℕ → List ℕ → List ℕ
-withParts n state = filled (λ i. 8 * i + 6) partWord n state
+withParts n plan = filled (λ i. 8 * i + 6) partWord n plan
 
 unfoldable pub withTotal : List ℕ → List ℕ
-withTotal state = set state 866 (partTotal state)
+withTotal plan = set plan 866 (partTotal plan)
 
 -- all words but the choice: the type tree is source 0's, and no node has rows yet
 unfoldable pub laidOut : List ℕ → List ℕ → Tables → List ℕ → Bool → List ℕ
@@ -112,7 +112,7 @@ laidOut formats schema x sources keep =
 
 -- word 867: 1 where one run for a gap is chosen
 unfoldable pub withChoice : Bool → List ℕ → List ℕ
-withChoice gaps state = set state 867 (flag gaps)
+withChoice gaps plan = set plan 867 (flag gaps)
 
 -- THE STATE AS IT IS PLANNED
 unfoldable pub planned : List ℕ → List ℕ → Tables → List ℕ → Bool → Bool → List ℕ

@@ -38,77 +38,77 @@ fn part_ground(parts: &[u64], m: usize, p: usize, holds: bool) -> u8
 }
 
 // The validity of node i.
-fn validity_ground(state: &[u64], counts: &[u64], parts: &[u64], m: usize, i: usize) -> u8
-    requires { ⌜ (i < 32) × (copied (now state) i ≡ true) ⌝ }
-    ensures { λ r. ⌜ r ≡ verdict (partWithin (now (state .entry)) (now (parts .entry)) m i 0) (partHolds (now (state .entry)) (now (counts .entry)) (now (parts .entry)) i 0) ⌝ }
+fn validity_ground(plan: &[u64], counters: &[u64], parts: &[u64], m: usize, i: usize) -> u8
+    requires { ⌜ (i < 32) × (copied (now plan) i ≡ true) ⌝ }
+    ensures { λ r. ⌜ r ≡ verdict (partWithin (now (plan .entry)) (now (parts .entry)) m i 0) (partHolds (now (plan .entry)) (now (counters .entry)) (now (parts .entry)) i 0) ⌝ }
 {
-    if plan_words::keeps_of(state, i) == 0 {
+    if plan_words::keeps_of(plan, i) == 0 {
         return 0;
     }
-    if 21 <= plan_words::code_of(state, i) {
+    if 21 <= plan_words::code_of(plan, i) {
         return 0;
     }
-    let p = crate::parts::number_of(state, i, 0);
+    let p = crate::parts::number_of(plan, i, 0);
     let size = lent_tables::at_u64(parts, 2 * p + 1);
-    let r = lent_tables::at_u64(counts, 3 * i);
+    let r = lent_tables::at_u64(counters, 3 * i);
     part_ground(parts, m, p, crate::parts::bits_fit(r, size))
 }
 
 // The first buffer of node i.
-fn first_ground(state: &[u64], counts: &[u64], parts: &[u64], m: usize, i: usize) -> u8
-    requires { ⌜ (i < 32) × (copied (now state) i ≡ true) ⌝ }
-    ensures { λ r. ⌜ r ≡ verdict (partWithin (now (state .entry)) (now (parts .entry)) m i 1) (partHolds (now (state .entry)) (now (counts .entry)) (now (parts .entry)) i 1) ⌝ }
+fn first_ground(plan: &[u64], counters: &[u64], parts: &[u64], m: usize, i: usize) -> u8
+    requires { ⌜ (i < 32) × (copied (now plan) i ≡ true) ⌝ }
+    ensures { λ r. ⌜ r ≡ verdict (partWithin (now (plan .entry)) (now (parts .entry)) m i 1) (partHolds (now (plan .entry)) (now (counters .entry)) (now (parts .entry)) i 1) ⌝ }
 {
-    let code = plan_words::code_of(state, i);
+    let code = plan_words::code_of(plan, i);
     if crate::parts::buffer_count(code) < 1 {
         return 0;
     }
-    let p = crate::parts::number_of(state, i, 1);
+    let p = crate::parts::number_of(plan, i, 1);
     let size = lent_tables::at_u64(parts, 2 * p + 1);
-    let r = lent_tables::at_u64(counts, 3 * i);
-    let n = lent_tables::at_u64(counts, 3 * i + 2);
+    let r = lent_tables::at_u64(counters, 3 * i);
+    let n = lent_tables::at_u64(counters, 3 * i + 2);
     part_ground(parts, m, p, crate::parts::first_fits(code, r, n, size))
 }
 
 // The second buffer of node i.
-fn second_ground(state: &[u64], counts: &[u64], parts: &[u64], m: usize, i: usize) -> u8
-    requires { ⌜ (i < 32) × (copied (now state) i ≡ true) ⌝ }
-    ensures { λ r. ⌜ r ≡ verdict (partWithin (now (state .entry)) (now (parts .entry)) m i 2) (partHolds (now (state .entry)) (now (counts .entry)) (now (parts .entry)) i 2) ⌝ }
+fn second_ground(plan: &[u64], counters: &[u64], parts: &[u64], m: usize, i: usize) -> u8
+    requires { ⌜ (i < 32) × (copied (now plan) i ≡ true) ⌝ }
+    ensures { λ r. ⌜ r ≡ verdict (partWithin (now (plan .entry)) (now (parts .entry)) m i 2) (partHolds (now (plan .entry)) (now (counters .entry)) (now (parts .entry)) i 2) ⌝ }
 {
-    let code = plan_words::code_of(state, i);
+    let code = plan_words::code_of(plan, i);
     if crate::parts::buffer_count(code) < 2 {
         return 0;
     }
-    let p = crate::parts::number_of(state, i, 2);
+    let p = crate::parts::number_of(plan, i, 2);
     let size = lent_tables::at_u64(parts, 2 * p + 1);
-    let r = lent_tables::at_u64(counts, 3 * i);
-    let n = lent_tables::at_u64(counts, 3 * i + 2);
+    let r = lent_tables::at_u64(counters, 3 * i);
+    let n = lent_tables::at_u64(counters, 3 * i + 2);
     part_ground(parts, m, p, crate::parts::second_fits(code, r, n, size))
 }
 
 // All parts of node i.
-fn node_ground(state: &[u64], counts: &[u64], parts: &[u64], m: usize, i: usize) -> u8
+fn node_ground(plan: &[u64], counters: &[u64], parts: &[u64], m: usize, i: usize) -> u8
     requires { ⌜ i < 32 ⌝ }
-    ensures { λ r. ⌜ r ≡ verdict (every (λ b. partWithin (now (state .entry)) (now (parts .entry)) m i b) 3) (every (λ b. partHolds (now (state .entry)) (now (counts .entry)) (now (parts .entry)) i b) 3) ⌝ }
+    ensures { λ r. ⌜ r ≡ verdict (every (λ b. partWithin (now (plan .entry)) (now (parts .entry)) m i b) 3) (every (λ b. partHolds (now (plan .entry)) (now (counters .entry)) (now (parts .entry)) i b) 3) ⌝ }
 {
-    if !crate::parts::is_copied(state, i) {
+    if !crate::parts::is_copied(plan, i) {
         return 0;
     }
-    let validity = validity_ground(state, counts, parts, m, i);
-    let first = first_ground(state, counts, parts, m, i);
-    let second = second_ground(state, counts, parts, m, i);
+    let validity = validity_ground(plan, counters, parts, m, i);
+    let first = first_ground(plan, counters, parts, m, i);
+    let second = second_ground(plan, counters, parts, m, i);
     worse(worse(validity, first), second)
 }
 
 // 14 where a part is not in the table or does not lie in a room of m bytes, and else 13 where one cannot hold its bytes.
-pub fn parts_ground(state: &[u64], counts: &[u64], parts: &[u64], m: usize) -> u8
-    ensures { λ r. ⌜ r ≡ cond (partsWithin (now (state .entry)) (now (parts .entry)) m) (cond (partsHold (now (state .entry)) (now (counts .entry)) (now (parts .entry))) 0 13) 14 ⌝ }
+pub fn parts_ground(plan: &[u64], counters: &[u64], parts: &[u64], m: usize) -> u8
+    ensures { λ r. ⌜ r ≡ cond (partsWithin (now (plan .entry)) (now (parts .entry)) m) (cond (partsHold (now (plan .entry)) (now (counters .entry)) (now (parts .entry))) 0 13) 14 ⌝ }
 {
-    let n = crate::parts::node_count(state);
+    let n = crate::parts::node_count(plan);
     let mut g: u8 = 0;
     let mut i = 0;
     while i < n {
-        g = worse(g, node_ground(state, counts, parts, m, i));
+        g = worse(g, node_ground(plan, counters, parts, m, i));
         i += 1;
     }
     g

@@ -1,4 +1,4 @@
-// The state of a join as the opening plans it, before any dictionary is joined: one function for each kind of word.
+// The plan of a join as the opening plans it, before any dictionary is joined: one function for each kind of word.
 pub mod dictionaries;
 pub mod grounds;
 pub mod parts;
@@ -21,8 +21,8 @@ use walk::plan_words;
 // ---- the type tree
 
 // The words of the type tree, and zeros behind them.
-fn write_tree(tree: &[u64; 256], state: &mut [u64; plan_words::WORDS])
-    ensures { λ _. ⌜ now (state .exit) ≡ withTree (now (tree .entry)) ⌝ }
+fn write_tree(tree: &[u64; 256], plan: &mut [u64; plan_words::WORDS])
+    ensures { λ _. ⌜ now (plan .exit) ≡ withTree (now (tree .entry)) ⌝ }
 {
     let mut words = [0u64; plan_words::WORDS];
     let mut q = 0;
@@ -30,21 +30,21 @@ fn write_tree(tree: &[u64; 256], state: &mut [u64; plan_words::WORDS])
         words[q] = tree[q];
         q += 1;
     }
-    *state = words;
+    *plan = words;
 }
 
 // ---- which nodes keep nulls
 
 // The node above node i: the last one before it whose subtree holds it.
-fn parent_of(state: &[u64; plan_words::WORDS], i: usize) -> usize
+fn parent_of(plan: &[u64; plan_words::WORDS], i: usize) -> usize
     requires { ⌜ i < 32 ⌝ }
-    ensures { λ r. ⌜ r ≡ parentOf (now (state .entry)) i ⌝ }
+    ensures { λ r. ⌜ r ≡ parentOf (now (plan .entry)) i ⌝ }
     ensures { λ r. ⌜ r < 32 ⌝ }
 {
     let mut p = i;
     while 0 < p {
         p -= 1;
-        if i < plan_words::end_of(state, p) {
+        if i < plan_words::end_of(plan, p) {
             return p;
         }
     }
@@ -52,28 +52,28 @@ fn parent_of(state: &[u64; plan_words::WORDS], i: usize) -> usize
 }
 
 // Whether the caller or the node above asks for the nulls of node i.
-fn is_asked(state: &[u64; plan_words::WORDS], keep: bool, i: usize) -> bool
+fn is_asked(plan: &[u64; plan_words::WORDS], keep: bool, i: usize) -> bool
     requires { ⌜ i < 32 ⌝ }
-    ensures { λ r. ⌜ r ≡ asked (now (state .entry)) keep i ⌝ }
+    ensures { λ r. ⌜ r ≡ asked (now (plan .entry)) keep i ⌝ }
 {
     if i == 0 {
         return keep;
     }
-    if plan_words::dictionary_of(state, i - 1) != 0 {
+    if plan_words::dictionary_of(plan, i - 1) != 0 {
         return false;
     }
-    plan_words::keeps_of(state, parent_of(state, i)) != 0
+    plan_words::keeps_of(plan, parent_of(plan, i)) != 0
 }
 
 // Whether node i is the run ends of the node before it.
-fn is_ends(state: &[u64; plan_words::WORDS], i: usize) -> bool
+fn is_ends(plan: &[u64; plan_words::WORDS], i: usize) -> bool
     requires { ⌜ i < 32 ⌝ }
-    ensures { λ r. ⌜ r ≡ isEnds (now (state .entry)) i ⌝ }
+    ensures { λ r. ⌜ r ≡ isEnds (now (plan .entry)) i ⌝ }
 {
     if i == 0 {
         return false;
     }
-    schema::formats::is_run_end(plan_words::code_of(state, i - 1))
+    schema::formats::is_run_end(plan_words::code_of(plan, i - 1))
 }
 
 // 1 if node i keeps nulls and else 0.
@@ -84,16 +84,16 @@ fn keep_word(
     body: &[u8],
     m: usize,
     keep: bool,
-    state: &[u64; plan_words::WORDS],
+    plan: &[u64; plan_words::WORDS],
     i: usize,
 ) -> u64
     requires { ⌜ (m ≤ 16) × (i < 32) × ((s : ℕ) → s < m → Countable (tables (now lengths) (now places) (now body)) (firstOf (now sources) s + i)) ⌝ }
-    ensures { λ r. ⌜ r ≡ keepWord (tables (now (lengths .entry)) (now (places .entry)) (now (body .entry))) (now (sources .entry)) m keep (now (state .entry)) i ⌝ }
+    ensures { λ r. ⌜ r ≡ keepWord (tables (now (lengths .entry)) (now (places .entry)) (now (body .entry))) (now (sources .entry)) m keep (now (plan .entry)) i ⌝ }
 {
-    if is_ends(state, i) {
+    if is_ends(plan, i) {
         return 0;
     }
-    let above = is_asked(state, keep, i);
+    let above = is_asked(plan, keep, i);
     if dictionaries::keeps(above, sources, lengths, places, body, m, i) {
         return 1;
     }
@@ -109,14 +109,14 @@ fn write_keeps(
     m: usize,
     keep: bool,
     n: usize,
-    state: &mut [u64; plan_words::WORDS],
+    plan: &mut [u64; plan_words::WORDS],
 )
     requires { ⌜ (m ≤ 16) × (n ≤ 32) × ((s i : ℕ) → s < m → i < n → Countable (tables (now lengths) (now places) (now body)) (firstOf (now sources) s + i)) ⌝ }
-    ensures { λ _. ⌜ now (state .exit) ≡ withKeeps (tables (now (lengths .entry)) (now (places .entry)) (now (body .entry))) (now (sources .entry)) m keep n (now (state .entry)) ⌝ }
+    ensures { λ _. ⌜ now (plan .exit) ≡ withKeeps (tables (now (lengths .entry)) (now (places .entry)) (now (body .entry))) (now (sources .entry)) m keep n (now (plan .entry)) ⌝ }
 {
     let mut i = 0;
     while i < n {
-        state[8 * i + 5] = keep_word(sources, lengths, places, body, m, keep, state, i);
+        plan[8 * i + 5] = keep_word(sources, lengths, places, body, m, keep, plan, i);
         i += 1;
     }
 }
@@ -124,11 +124,11 @@ fn write_keeps(
 // ---- which dictionaries are joined
 
 // Whether the values of the dictionary whose keys are node i are byte strings.
-fn has_strings(state: &[u64], i: usize) -> bool
+fn has_strings(plan: &[u64], i: usize) -> bool
     requires { ⌜ i < 32 ⌝ }
-    ensures { λ r. ⌜ r ≡ isString (codeOf (now (state .entry)) (suc i)) ⌝ }
+    ensures { λ r. ⌜ r ≡ isString (codeOf (now (plan .entry)) (suc i)) ⌝ }
 {
-    let word = lent_tables::at_u64(state, 8 * (i + 1));
+    let word = lent_tables::at_u64(plan, 8 * (i + 1));
     schema::formats::is_string((word % 256) as u8)
 }
 
@@ -139,16 +139,16 @@ fn joined_word(
     places: &[u64],
     body: &[u8],
     m: usize,
-    state: &[u64; plan_words::WORDS],
+    plan: &[u64; plan_words::WORDS],
     i: usize,
 ) -> u64
     requires { ⌜ (m ≤ 16) × (i < 32) ⌝ }
-    ensures { λ r. ⌜ r ≡ joinedWord (tables (now (lengths .entry)) (now (places .entry)) (now (body .entry))) (now (sources .entry)) m (now (state .entry)) i ⌝ }
+    ensures { λ r. ⌜ r ≡ joinedWord (tables (now (lengths .entry)) (now (places .entry)) (now (body .entry))) (now (sources .entry)) m (now (plan .entry)) i ⌝ }
 {
-    if plan_words::dictionary_of(state, i) == 0 {
+    if plan_words::dictionary_of(plan, i) == 0 {
         return 0;
     }
-    let string = has_strings(state, i);
+    let string = has_strings(plan, i);
     if dictionaries::all_share(sources, lengths, places, body, m, i + 1, string) {
         return 0;
     }
@@ -163,14 +163,14 @@ fn write_joined(
     body: &[u8],
     m: usize,
     n: usize,
-    state: &mut [u64; plan_words::WORDS],
+    plan: &mut [u64; plan_words::WORDS],
 )
     requires { ⌜ (m ≤ 16) × (n ≤ 32) ⌝ }
-    ensures { λ _. ⌜ now (state .exit) ≡ withJoined (tables (now (lengths .entry)) (now (places .entry)) (now (body .entry))) (now (sources .entry)) m n (now (state .entry)) ⌝ }
+    ensures { λ _. ⌜ now (plan .exit) ≡ withJoined (tables (now (lengths .entry)) (now (places .entry)) (now (body .entry))) (now (sources .entry)) m n (now (plan .entry)) ⌝ }
 {
     let mut i = 0;
     while i < n {
-        state[8 * i + 7] = joined_word(sources, lengths, places, body, m, state, i);
+        plan[8 * i + 7] = joined_word(sources, lengths, places, body, m, plan, i);
         i += 1;
     }
 }
@@ -213,20 +213,20 @@ fn base_word(
     places: &[u64],
     body: &[u8],
     m: usize,
-    state: &[u64; plan_words::WORDS],
+    plan: &[u64; plan_words::WORDS],
     s: usize,
     i: usize,
 ) -> u64
     requires { ⌜ (m ≤ 16) × (s ≤ 16) × (i < 32) ⌝ }
-    ensures { λ r. ⌜ r ≡ baseWord (tables (now (lengths .entry)) (now (places .entry)) (now (body .entry))) (now (sources .entry)) m (now (state .entry)) s i ⌝ }
+    ensures { λ r. ⌜ r ≡ baseWord (tables (now (lengths .entry)) (now (places .entry)) (now (body .entry))) (now (sources .entry)) m (now (plan .entry)) s i ⌝ }
 {
-    if schema::formats::is_view(plan_words::code_of(state, i)) {
+    if schema::formats::is_view(plan_words::code_of(plan, i)) {
         return buffers_up_to(sources, places, i, s);
     }
-    if plan_words::dictionary_of(state, i) == 0 {
+    if plan_words::dictionary_of(plan, i) == 0 {
         return 0;
     }
-    let string = has_strings(state, i);
+    let string = has_strings(plan, i);
     dictionaries::start_of_keys(sources, lengths, places, body, m, i + 1, string, s)
 }
 
@@ -237,20 +237,20 @@ fn write_bases(
     places: &[u64],
     body: &[u8],
     m: usize,
-    state: &mut [u64; plan_words::WORDS],
+    plan: &mut [u64; plan_words::WORDS],
 )
     requires { ⌜ m ≤ 16 ⌝ }
-    ensures { λ _. ⌜ now (state .exit) ≡ withBases (tables (now (lengths .entry)) (now (places .entry)) (now (body .entry))) (now (sources .entry)) m (now (state .entry)) ⌝ }
+    ensures { λ _. ⌜ now (plan .exit) ≡ withBases (tables (now (lengths .entry)) (now (places .entry)) (now (body .entry))) (now (sources .entry)) m (now (plan .entry)) ⌝ }
 {
     let mut q = 0;
     while q < 32 * m {
-        state[plan_words::BASES + q] = base_word(
+        plan[plan_words::BASES + q] = base_word(
             sources,
             lengths,
             places,
             body,
             m,
-            state,
+            plan,
             q / 32,
             q % 32,
         );
@@ -261,13 +261,13 @@ fn write_bases(
 // ---- parts, and the whole
 
 // The part of the first buffer of each of the first n nodes.
-pub fn write_parts(n: usize, state: &mut [u64; plan_words::WORDS])
+pub fn write_parts(n: usize, plan: &mut [u64; plan_words::WORDS])
     requires { ⌜ n ≤ 32 ⌝ }
-    ensures { λ _. ⌜ now (state .exit) ≡ withParts n (now (state .entry)) ⌝ }
+    ensures { λ _. ⌜ now (plan .exit) ≡ withParts n (now (plan .entry)) ⌝ }
 {
     let mut i = 0;
     while i < n {
-        state[8 * i + 6] = crate::parts::part_word(state, i);
+        plan[8 * i + 6] = crate::parts::part_word(plan, i);
         i += 1;
     }
 }
@@ -279,16 +279,16 @@ pub fn write_type(
     first: usize,
     m: usize,
     n: usize,
-    state: &mut [u64; plan_words::WORDS],
+    plan: &mut [u64; plan_words::WORDS],
 )
     requires { ⌜ (first < 4294967296) × (n < 4294967296) ⌝ }
-    ensures { λ _. ⌜ now (state .exit) ≡ withCounts m n (withTree (planted (now (formats .entry)) (now (schema .entry)) first n)) ⌝ }
+    ensures { λ _. ⌜ now (plan .exit) ≡ withCounts m n (withTree (planted (now (formats .entry)) (now (schema .entry)) first n)) ⌝ }
 {
     let mut tree = [0u64; 256];
     node_words::plant(formats, schema, first, n, &mut tree);
-    write_tree(&tree, state);
-    state[plan_words::SOURCE_COUNT] = m as u64;
-    state[plan_words::NODE_COUNT] = n as u64;
+    write_tree(&tree, plan);
+    plan[plan_words::SOURCE_COUNT] = m as u64;
+    plan[plan_words::NODE_COUNT] = n as u64;
 }
 
 // All words but the choice.
@@ -300,20 +300,20 @@ fn lay_out(
     places: &[u64],
     body: &[u8],
     keep: bool,
-    state: &mut [u64; plan_words::WORDS],
+    plan: &mut [u64; plan_words::WORDS],
 )
     requires { ⌜ Plannable (tables (now lengths) (now places) (now body)) (now sources) ⌝ }
-    ensures { λ _. ⌜ now (state .exit) ≡ laidOut (now (formats .entry)) (now (schema .entry)) (tables (now (lengths .entry)) (now (places .entry)) (now (body .entry))) (now (sources .entry)) keep ⌝ }
+    ensures { λ _. ⌜ now (plan .exit) ≡ laidOut (now (formats .entry)) (now (schema .entry)) (tables (now (lengths .entry)) (now (places .entry)) (now (body .entry))) (now (sources .entry)) keep ⌝ }
 {
     let m = sources.len() / 2;
     let first = lent_tables::at_u32(sources, 0) as usize;
     let n = lent_tables::at_u32(sources, 1) as usize;
-    write_type(formats, schema, first, m, n, state);
-    write_keeps(sources, lengths, places, body, m, keep, n, state);
-    write_joined(sources, lengths, places, body, m, n, state);
-    write_bases(sources, lengths, places, body, m, state);
-    write_parts(n, state);
-    state[plan_words::PART_COUNT] = crate::parts::part_total(state) as u64;
+    write_type(formats, schema, first, m, n, plan);
+    write_keeps(sources, lengths, places, body, m, keep, n, plan);
+    write_joined(sources, lengths, places, body, m, n, plan);
+    write_bases(sources, lengths, places, body, m, plan);
+    write_parts(n, plan);
+    plan[plan_words::PART_COUNT] = crate::parts::part_total(plan) as u64;
 }
 
 // 1 for true.
@@ -336,11 +336,11 @@ pub fn plan(
     body: &[u8],
     keep: bool,
     gaps: bool,
-    state: &mut [u64; plan_words::WORDS],
+    plan: &mut [u64; plan_words::WORDS],
 )
     requires { ⌜ Plannable (tables (now lengths) (now places) (now body)) (now sources) ⌝ }
-    ensures { λ _. ⌜ now (state .exit) ≡ planned (now (formats .entry)) (now (schema .entry)) (tables (now (lengths .entry)) (now (places .entry)) (now (body .entry))) (now (sources .entry)) keep gaps ⌝ }
+    ensures { λ _. ⌜ now (plan .exit) ≡ planned (now (formats .entry)) (now (schema .entry)) (tables (now (lengths .entry)) (now (places .entry)) (now (body .entry))) (now (sources .entry)) keep gaps ⌝ }
 {
-    lay_out(sources, formats, schema, lengths, places, body, keep, state);
-    state[plan_words::GAPS] = choice_word(gaps);
+    lay_out(sources, formats, schema, lengths, places, body, keep, plan);
+    plan[plan_words::GAPS] = choice_word(gaps);
 }

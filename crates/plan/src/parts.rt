@@ -1,5 +1,5 @@
 // The parts of a destination in the lent room: which there are, whether each holds its bytes, and whether they lie well.
-// Every function reads the state and the parts through getters that answer 0 past a table's end, and is right whatever they hold.
+// Every function reads the plan and the parts through getters that answer 0 past a table's end, and is right whatever they hold.
 ghost use mathlib.Core.Path.{_≡_};
 ghost use Prim.Native.Nat.{_+_, _*_, _≤_, _<_, _/_};
 ghost use lib.Dec.{leb};
@@ -43,11 +43,11 @@ const BUFFERS: [u8; 24] = [
 // ---- which parts there are
 
 // How many nodes the type has, at most 32.
-pub fn node_count(state: &[u64]) -> usize
-    ensures { λ r. ⌜ r ≡ nodesOf (now (state .entry)) ⌝ }
+pub fn node_count(plan: &[u64]) -> usize
+    ensures { λ r. ⌜ r ≡ nodesOf (now (plan .entry)) ⌝ }
     ensures { λ r. ⌜ r ≤ 32 ⌝ }
 {
-    let n = lent_tables::at_u64(state, plan_words::NODE_COUNT);
+    let n = lent_tables::at_u64(plan, plan_words::NODE_COUNT);
     if 32 < n {
         return 32;
     }
@@ -63,32 +63,32 @@ pub fn buffer_count(code: u8) -> u8
 }
 
 // Whether node i is copied: the values of a dictionary are, if it is joined.
-pub fn is_copied(state: &[u64], i: usize) -> bool
+pub fn is_copied(plan: &[u64], i: usize) -> bool
     requires { ⌜ i < 32 ⌝ }
-    ensures { λ r. ⌜ r ≡ copied (now (state .entry)) i ⌝ }
+    ensures { λ r. ⌜ r ≡ copied (now (plan .entry)) i ⌝ }
 {
     if i == 0 {
         return true;
     }
-    if plan_words::dictionary_of(state, i - 1) == 0 {
+    if plan_words::dictionary_of(plan, i - 1) == 0 {
         return true;
     }
-    lent_tables::at_u64(state, 8 * (i - 1) + 7) == 1
+    lent_tables::at_u64(plan, 8 * (i - 1) + 7) == 1
 }
 
 // 1 if node i has a part for its validity and else 0.
-fn validity_parts(state: &[u64], i: usize) -> usize
+fn validity_parts(plan: &[u64], i: usize) -> usize
     requires { ⌜ i < 32 ⌝ }
-    ensures { λ r. ⌜ r ≡ validityParts (now (state .entry)) i ⌝ }
+    ensures { λ r. ⌜ r ≡ validityParts (now (plan .entry)) i ⌝ }
     ensures { λ r. ⌜ r ≤ 1 ⌝ }
 {
-    if !is_copied(state, i) {
+    if !is_copied(plan, i) {
         return 0;
     }
-    if plan_words::keeps_of(state, i) == 0 {
+    if plan_words::keeps_of(plan, i) == 0 {
         return 0;
     }
-    if plan_words::code_of(state, i) < 21 {
+    if plan_words::code_of(plan, i) < 21 {
         1
     } else {
         0
@@ -96,81 +96,81 @@ fn validity_parts(state: &[u64], i: usize) -> usize
 }
 
 // How many buffers of node i have a part.
-fn buffer_parts(state: &[u64], i: usize) -> usize
+fn buffer_parts(plan: &[u64], i: usize) -> usize
     requires { ⌜ i < 32 ⌝ }
-    ensures { λ r. ⌜ r ≡ bufferParts (now (state .entry)) i ⌝ }
+    ensures { λ r. ⌜ r ≡ bufferParts (now (plan .entry)) i ⌝ }
     ensures { λ r. ⌜ r ≤ 2 ⌝ }
 {
-    if !is_copied(state, i) {
+    if !is_copied(plan, i) {
         return 0;
     }
-    buffer_count(plan_words::code_of(state, i)) as usize
+    buffer_count(plan_words::code_of(plan, i)) as usize
 }
 
 // How many parts node i has.
-fn part_count(state: &[u64], i: usize) -> usize
+fn part_count(plan: &[u64], i: usize) -> usize
     requires { ⌜ i < 32 ⌝ }
-    ensures { λ r. ⌜ r ≡ partCount (now (state .entry)) i ⌝ }
+    ensures { λ r. ⌜ r ≡ partCount (now (plan .entry)) i ⌝ }
     ensures { λ r. ⌜ r ≤ 3 ⌝ }
 {
-    validity_parts(state, i) + buffer_parts(state, i)
+    validity_parts(plan, i) + buffer_parts(plan, i)
 }
 
 // Whether buffer b of node i has a part.
-pub fn has_part(state: &[u64], i: usize, b: usize) -> bool
+pub fn has_part(plan: &[u64], i: usize, b: usize) -> bool
     requires { ⌜ i < 32 ⌝ }
-    ensures { λ r. ⌜ r ≡ hasPart (now (state .entry)) i b ⌝ }
+    ensures { λ r. ⌜ r ≡ hasPart (now (plan .entry)) i b ⌝ }
 {
     if b == 0 {
-        return validity_parts(state, i) == 1;
+        return validity_parts(plan, i) == 1;
     }
-    b <= buffer_parts(state, i)
+    b <= buffer_parts(plan, i)
 }
 
 // How many parts the nodes before node i have.
-fn parts_before(state: &[u64], i: usize) -> usize
+fn parts_before(plan: &[u64], i: usize) -> usize
     requires { ⌜ i ≤ 32 ⌝ }
-    ensures { λ r. ⌜ r ≡ partsBefore (now (state .entry)) i ⌝ }
+    ensures { λ r. ⌜ r ≡ partsBefore (now (plan .entry)) i ⌝ }
     ensures { λ r. ⌜ r ≤ 96 ⌝ }
 {
     let mut sum: usize = 0;
     let mut k = 0;
     while k < i {
-        sum += part_count(state, k);
+        sum += part_count(plan, k);
         k += 1;
     }
     sum
 }
 
 // How many parts there are.
-pub fn part_total(state: &[u64]) -> usize
-    ensures { λ r. ⌜ r ≡ partTotal (now (state .entry)) ⌝ }
+pub fn part_total(plan: &[u64]) -> usize
+    ensures { λ r. ⌜ r ≡ partTotal (now (plan .entry)) ⌝ }
     ensures { λ r. ⌜ r ≤ 96 ⌝ }
 {
-    parts_before(state, node_count(state))
+    parts_before(plan, node_count(plan))
 }
 
-// The part of node i's first buffer, as the opening writes it into the state.
-pub fn part_word(state: &[u64], i: usize) -> u64
+// The part of node i's first buffer, as the opening writes it into the plan.
+pub fn part_word(plan: &[u64], i: usize) -> u64
     requires { ⌜ i < 32 ⌝ }
-    ensures { λ r. ⌜ r ≡ partWord (now (state .entry)) i ⌝ }
+    ensures { λ r. ⌜ r ≡ partWord (now (plan .entry)) i ⌝ }
 {
-    (parts_before(state, i) + validity_parts(state, i)) as u64
+    (parts_before(plan, i) + validity_parts(plan, i)) as u64
 }
 
 // The node and the buffer of part p.
-pub fn part_at(state: &[u64], p: usize) -> Spot
-    ensures { λ r. ⌜ r ≡ partAt (now (state .entry)) p ⌝ }
+pub fn part_at(plan: &[u64], p: usize) -> Spot
+    ensures { λ r. ⌜ r ≡ partAt (now (plan .entry)) p ⌝ }
 {
-    let n = node_count(state);
+    let n = node_count(plan);
     let mut left = p;
     let mut i = 0;
     while i < n {
-        let count = part_count(state, i);
+        let count = part_count(plan, i);
         if left < count {
             return Spot::Of {
                 node: i,
-                buffer: left + 1 - validity_parts(state, i),
+                buffer: left + 1 - validity_parts(plan, i),
             };
         }
         left -= count;
@@ -179,13 +179,13 @@ pub fn part_at(state: &[u64], p: usize) -> Spot
     Spot::Nothing
 }
 
-// The part of buffer b of node i, by the state.
-pub fn number_of(state: &[u64], i: usize, b: usize) -> usize
+// The part of buffer b of node i, by the plan.
+pub fn number_of(plan: &[u64], i: usize, b: usize) -> usize
     requires { ⌜ (i < 32) × (b < 3) ⌝ }
-    ensures { λ r. ⌜ r ≡ numberOf (now (state .entry)) i b ⌝ }
+    ensures { λ r. ⌜ r ≡ numberOf (now (plan .entry)) i b ⌝ }
     ensures { λ r. ⌜ r < 4294967298 ⌝ }
 {
-    let p = plan_words::part_of(state, i) + b;
+    let p = plan_words::part_of(plan, i) + b;
     if p == 0 {
         return 0;
     }
@@ -261,44 +261,44 @@ fn fits(code: u8, r: u64, n: u64, b: usize, size: u64) -> bool
 
 // Whether buffer b of node i has no part, or one that holds its bytes.
 fn part_holds(
-    state: &[u64],
-    counts: &[u64; plan_words::COUNTERS],
+    plan: &[u64],
+    counters: &[u64; plan_words::COUNTERS],
     parts: &[u64],
     i: usize,
     b: usize,
 ) -> bool
     requires { ⌜ (i < 32) × (b < 3) ⌝ }
-    ensures { λ r. ⌜ r ≡ partHolds (now (state .entry)) (now (counts .entry)) (now (parts .entry)) i b ⌝ }
+    ensures { λ r. ⌜ r ≡ partHolds (now (plan .entry)) (now (counters .entry)) (now (parts .entry)) i b ⌝ }
 {
-    if !has_part(state, i, b) {
+    if !has_part(plan, i, b) {
         return true;
     }
-    let size = lent_tables::at_u64(parts, 2 * number_of(state, i, b) + 1);
-    let code = plan_words::code_of(state, i);
-    let r = plan_words::rows_of(counts, i);
-    let n = plan_words::bytes_of(counts, i);
+    let size = lent_tables::at_u64(parts, 2 * number_of(plan, i, b) + 1);
+    let code = plan_words::code_of(plan, i);
+    let r = plan_words::rows_of(counters, i);
+    let n = plan_words::bytes_of(counters, i);
     fits(code, r, n, b, size)
 }
 
 // Whether every part of node i holds its bytes.
-fn node_holds(state: &[u64], counts: &[u64; plan_words::COUNTERS], parts: &[u64], i: usize) -> bool
+fn node_holds(plan: &[u64], counters: &[u64; plan_words::COUNTERS], parts: &[u64], i: usize) -> bool
     requires { ⌜ i < 32 ⌝ }
-    ensures { λ r. ⌜ r ≡ every (λ b. partHolds (now (state .entry)) (now (counts .entry)) (now (parts .entry)) i b) 3 ⌝ }
+    ensures { λ r. ⌜ r ≡ every (λ b. partHolds (now (plan .entry)) (now (counters .entry)) (now (parts .entry)) i b) 3 ⌝ }
 {
-    let validity = part_holds(state, counts, parts, i, 0);
-    let first = part_holds(state, counts, parts, i, 1);
-    let second = part_holds(state, counts, parts, i, 2);
+    let validity = part_holds(plan, counters, parts, i, 0);
+    let first = part_holds(plan, counters, parts, i, 1);
+    let second = part_holds(plan, counters, parts, i, 2);
     validity & first & second
 }
 
 // Whether every part holds its bytes: ground 13 where not.
-pub fn parts_hold(state: &[u64], counts: &[u64; plan_words::COUNTERS], parts: &[u64]) -> bool
-    ensures { λ r. ⌜ r ≡ partsHold (now (state .entry)) (now (counts .entry)) (now (parts .entry)) ⌝ }
+pub fn parts_hold(plan: &[u64], counters: &[u64; plan_words::COUNTERS], parts: &[u64]) -> bool
+    ensures { λ r. ⌜ r ≡ partsHold (now (plan .entry)) (now (counters .entry)) (now (parts .entry)) ⌝ }
 {
-    let n = node_count(state);
+    let n = node_count(plan);
     let mut i = 0;
     while i < n {
-        if !node_holds(state, counts, parts, i) {
+        if !node_holds(plan, counters, parts, i) {
             return false;
         }
         i += 1;
@@ -307,14 +307,14 @@ pub fn parts_hold(state: &[u64], counts: &[u64; plan_words::COUNTERS], parts: &[
 }
 
 // Whether buffer b of node i has no part, or one that is in the table and lies in the room.
-fn part_within(state: &[u64], parts: &[u64], m: usize, i: usize, b: usize) -> bool
+fn part_within(plan: &[u64], parts: &[u64], m: usize, i: usize, b: usize) -> bool
     requires { ⌜ (i < 32) × (b < 3) ⌝ }
-    ensures { λ r. ⌜ r ≡ partWithin (now (state .entry)) (now (parts .entry)) m i b ⌝ }
+    ensures { λ r. ⌜ r ≡ partWithin (now (plan .entry)) (now (parts .entry)) m i b ⌝ }
 {
-    if !has_part(state, i, b) {
+    if !has_part(plan, i, b) {
         return true;
     }
-    let p = number_of(state, i, b);
+    let p = number_of(plan, i, b);
     if parts.len() <= 2 * p + 1 {
         return false;
     }
@@ -322,24 +322,24 @@ fn part_within(state: &[u64], parts: &[u64], m: usize, i: usize, b: usize) -> bo
 }
 
 // Whether every part of node i is in the table and lies in the room.
-fn node_within(state: &[u64], parts: &[u64], m: usize, i: usize) -> bool
+fn node_within(plan: &[u64], parts: &[u64], m: usize, i: usize) -> bool
     requires { ⌜ i < 32 ⌝ }
-    ensures { λ r. ⌜ r ≡ every (λ b. partWithin (now (state .entry)) (now (parts .entry)) m i b) 3 ⌝ }
+    ensures { λ r. ⌜ r ≡ every (λ b. partWithin (now (plan .entry)) (now (parts .entry)) m i b) 3 ⌝ }
 {
-    let validity = part_within(state, parts, m, i, 0);
-    let first = part_within(state, parts, m, i, 1);
-    let second = part_within(state, parts, m, i, 2);
+    let validity = part_within(plan, parts, m, i, 0);
+    let first = part_within(plan, parts, m, i, 1);
+    let second = part_within(plan, parts, m, i, 2);
     validity & first & second
 }
 
 // Whether every part is in the table and lies in the room: ground 14 where not, at an order.
-pub fn parts_within(state: &[u64], parts: &[u64], m: usize) -> bool
-    ensures { λ r. ⌜ r ≡ partsWithin (now (state .entry)) (now (parts .entry)) m ⌝ }
+pub fn parts_within(plan: &[u64], parts: &[u64], m: usize) -> bool
+    ensures { λ r. ⌜ r ≡ partsWithin (now (plan .entry)) (now (parts .entry)) m ⌝ }
 {
-    let n = node_count(state);
+    let n = node_count(plan);
     let mut i = 0;
     while i < n {
-        if !node_within(state, parts, m, i) {
+        if !node_within(plan, parts, m, i) {
             return false;
         }
         i += 1;

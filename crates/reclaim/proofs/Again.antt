@@ -23,21 +23,21 @@ use Rattle.reclaim.proofs.Theorems.{reclaim-fills, only-room, reclaim-r
 use Rattle.reclaim.proofs.Exact.{entries-in-use, reclaim-twice}
 
 module _ (formats schema : List ℕ) (x : Tables) (first n : ℕ) (low : first < 2 ^ 32) (good : columnGround formats schema x first n ≡ 0) (k : Number) (p : Plain)
-    (e : typeOf formats schema first n ≡ tDictionary k p) (bytes : AllBelow 256 (x .body)) (parts plan counts room : List ℕ) (room-bytes : AllBelow 256 room)
-    (ok : reclaiming formats schema x first n parts plan counts room .ground ≡ 0) (base : ℕ) (body : List ℕ)
-    (bodied : Bodied body (lentFor x (reclaimPlan formats schema x first n) parts first n) (reclaiming formats schema x first n parts plan counts room .room) base) where
+    (e : typeOf formats schema first n ≡ tDictionary k p) (bytes : AllBelow 256 (x .body)) (parts plan counters room : List ℕ) (room-bytes : AllBelow 256 room)
+    (ok : reclaiming formats schema x first n parts plan counters room .ground ≡ 0) (base : ℕ) (body : List ℕ)
+    (bodied : Bodied body (lentFor x (reclaimPlan formats schema x first n) parts first n) (reclaiming formats schema x first n parts plan counters room .room) base) where
   abbrev old : Column (tDictionary k p)
   old = columnOf (treeOf formats schema first n) (tablesFrom x first) (tDictionary k p) 0
 
   abbrev pub once : Tables
   once =
-      finishedTables (lentFor x (reclaimPlan formats schema x first n) parts first n) (x .buffers) (reclaiming formats schema x first n parts plan counts room .counts)
-      (reclaiming formats schema x first n parts plan counts room .room) base body
+      finishedTables (lentFor x (reclaimPlan formats schema x first n) parts first n) (x .buffers) (reclaiming formats schema x first n parts plan counters room .counters)
+      (reclaiming formats schema x first n parts plan counters room .room) base body
 
   -- "THE NUMBER OF ENTRIES IS THE NUMBER OF DISTINCT KEYS IN USE": the finished tables have as many as `entries-in-use` counts
   pub entries-finished : lengthOf once 1 ≡ length (kept k old)
   entries-finished =
-      reclaim-result formats schema x first n low good k p e bytes parts plan counts room room-bytes ok base body bodied .0 .body-is .1 .len-is ∙ entries-in-use formats schema x first n low good k p e bytes .count
+      reclaim-result formats schema x first n low good k p e bytes parts plan counters room room-bytes ok base body bodied .0 .body-is .1 .len-is ∙ entries-in-use formats schema x first n low good k p e bytes .count
 
   module _ (short : length body ≤ ceiling) (z : Tables) (same : tablesFrom z first ≡ once) where
     -- LENT AGAIN with the same schema, in tables that hold the finished ones from the column's node on, IT IS ACCEPTED: none of 9, 10 and 12 stands
@@ -45,49 +45,49 @@ module _ (formats schema : List ℕ) (x : Tables) (first n : ℕ) (low : first <
     unfolding reclaimPlan
     lent-again =
         subst (λ u. (c : Column u) → Filled (lentFor x (reclaimPlan formats schema x first n) parts first n) (x .buffers) u (reclaimOut formats schema x first n) c → columnGround formats schema z first n ≡ 0) e
-        (λ c f. anew-again formats schema x first n (reclaimOwn schema first) first n _ true 0 (reclaimOut formats schema x first n) parts plan counts room (typed-is formats schema x first n low good k p e) (low-is formats schema x first n low good k p e)
+        (λ c f. anew-again formats schema x first n (reclaimOwn schema first) first n _ true 0 (reclaimOut formats schema x first n) parts plan counters room (typed-is formats schema x first n low good k p e) (low-is formats schema x first n low good k p e)
         (no-ends formats schema x first n low good k p e) c f room-bytes ok base body bodied short z same)
         (reclaimed k p old) (reclaim-fills formats schema x first n low good k p e bytes parts)
 
-    module _ (body-bytes : AllBelow 256 body) (parts′ plan′ counts′ room′ : List ℕ) where
+    module _ (body-bytes : AllBelow 256 body) (parts′ plan′ counters′ room′ : List ℕ) where
       z-bytes : AllBelow 256 (z .body)
       z-bytes = subst (AllBelow 256) (sym (ap (λ y. y .body) same)) body-bytes
 
       -- A SECOND TIME it is refused with 14 and 13 of the room alone
       pub again-ground : smallBody room′ ≡ true
-          → reclaiming formats schema z first n parts′ plan′ counts′ room′ .ground
-          ≡ roomGround (reclaimPlan formats schema z first n) (reclaimOut formats schema z first n .counts) parts′ (length plan′) (length counts′) (length room′)
-      again-ground = only-room formats schema z first n low lent-again k p e z-bytes parts′ plan′ counts′ room′
+          → reclaiming formats schema z first n parts′ plan′ counters′ room′ .ground
+          ≡ roomGround (reclaimPlan formats schema z first n) (reclaimOut formats schema z first n .counters) parts′ (length plan′) (length counters′) (length room′)
+      again-ground = only-room formats schema z first n low lent-again k p e z-bytes parts′ plan′ counters′ room′
 
-      module _ (room-bytes′ : AllBelow 256 room′) (ok′ : reclaiming formats schema z first n parts′ plan′ counts′ room′ .ground ≡ 0) (base′ : ℕ) (body′ : List ℕ)
-          (bodied′ : Bodied body′ (lentFor z (reclaimPlan formats schema z first n) parts′ first n) (reclaiming formats schema z first n parts′ plan′ counts′ room′ .room) base′) where
+      module _ (room-bytes′ : AllBelow 256 room′) (ok′ : reclaiming formats schema z first n parts′ plan′ counters′ room′ .ground ≡ 0) (base′ : ℕ) (body′ : List ℕ)
+          (bodied′ : Bodied body′ (lentFor z (reclaimPlan formats schema z first n) parts′ first n) (reclaiming formats schema z first n parts′ plan′ counters′ room′ .room) base′) where
         same-column : reclaimed k p (columnOf (treeOf formats schema first n) (tablesFrom z first) (tDictionary k p) 0) ≡ reclaimed k p old
         same-column =
             ap (λ y. reclaimed k p (columnOf (treeOf formats schema first n) y (tDictionary k p) 0)) same
-            ∙ reclaim-twice formats schema x first n low good k p e bytes parts plan counts room room-bytes ok base body bodied
+            ∙ reclaim-twice formats schema x first n low good k p e bytes parts plan counters room room-bytes ok base body bodied
 
         -- "DOING IT TWICE GIVES WHAT ONCE GIVES": finished, the second result is the first byte for byte, null counts included
         pub twice-as-once :
             Shows (treeOf formats schema first n)
-            (finishedTables (lentFor z (reclaimPlan formats schema z first n) parts′ first n) (z .buffers) (reclaiming formats schema z first n parts′ plan′ counts′ room′ .counts)
-            (reclaiming formats schema z first n parts′ plan′ counts′ room′ .room) base′ body′)
+            (finishedTables (lentFor z (reclaimPlan formats schema z first n) parts′ first n) (z .buffers) (reclaiming formats schema z first n parts′ plan′ counters′ room′ .counters)
+            (reclaiming formats schema z first n parts′ plan′ counters′ room′ .room) base′ body′)
             (tDictionary k p) 0 (reclaimed k p old)
             × Counts (treeOf formats schema first n)
-            (nullTable (lentFor z (reclaimPlan formats schema z first n) parts′ first n) (z .buffers) (reclaiming formats schema z first n parts′ plan′ counts′ room′ .counts)
-            (reclaiming formats schema z first n parts′ plan′ counts′ room′ .room) base′)
+            (nullTable (lentFor z (reclaimPlan formats schema z first n) parts′ first n) (z .buffers) (reclaiming formats schema z first n parts′ plan′ counters′ room′ .counters)
+            (reclaiming formats schema z first n parts′ plan′ counters′ room′ .room) base′)
             (tDictionary k p) 0 (reclaimed k p old)
         twice-as-once =
-            let r = reclaim-result formats schema z first n low lent-again k p e z-bytes parts′ plan′ counts′ room′ room-bytes′ ok′ base′ body′ bodied′ in (
+            let r = reclaim-result formats schema z first n low lent-again k p e z-bytes parts′ plan′ counters′ room′ room-bytes′ ok′ base′ body′ bodied′ in (
               subst
                   (Shows (treeOf formats schema first n)
-                  (finishedTables (lentFor z (reclaimPlan formats schema z first n) parts′ first n) (z .buffers) (reclaiming formats schema z first n parts′ plan′ counts′ room′ .counts)
-                  (reclaiming formats schema z first n parts′ plan′ counts′ room′ .room) base′ body′)
+                  (finishedTables (lentFor z (reclaimPlan formats schema z first n) parts′ first n) (z .buffers) (reclaiming formats schema z first n parts′ plan′ counters′ room′ .counters)
+                  (reclaiming formats schema z first n parts′ plan′ counters′ room′ .room) base′ body′)
                   (tDictionary k p) 0)
                   same-column (r .0),
               subst
                   (Counts (treeOf formats schema first n)
-                  (nullTable (lentFor z (reclaimPlan formats schema z first n) parts′ first n) (z .buffers) (reclaiming formats schema z first n parts′ plan′ counts′ room′ .counts)
-                  (reclaiming formats schema z first n parts′ plan′ counts′ room′ .room) base′)
+                  (nullTable (lentFor z (reclaimPlan formats schema z first n) parts′ first n) (z .buffers) (reclaiming formats schema z first n parts′ plan′ counters′ room′ .counters)
+                  (reclaiming formats schema z first n parts′ plan′ counters′ room′ .room) base′)
                   (tDictionary k p) 0)
                   same-column (r .1),
             )

@@ -46,20 +46,20 @@ no-lengths-plan : (a b : ℕ) → (a ≡ 872 → ⊥) → joinLengths a b ≡ fa
 unfolding joinLengths
 no-lengths-plan a b h = rw (ne-eqb a 872 h)
 
-no-lengths-counts : (a b : ℕ) → a ≡ 872 → (b ≡ 96 → ⊥) → joinLengths a b ≡ false
+no-lengths-counters : (a b : ℕ) → a ≡ 872 → (b ≡ 96 → ⊥) → joinLengths a b ≡ false
 unfolding joinLengths
-no-lengths-counts a b e h = rw (eq-eqb a 872 e, ne-eqb b 96 h)
+no-lengths-counters a b e h = rw (eq-eqb a 872 e, ne-eqb b 96 h)
 
 both-lengths : (a b : ℕ) → a ≡ 872 → b ≡ 96 → joinLengths a b ≡ true
 unfolding joinLengths
 both-lengths a b e h = rw (eq-eqb a 872 e, eq-eqb b 96 h)
 
-pub room-lengths : (made counts parts : List ℕ) (a b m : ℕ) {g : ℕ} → g ≡ roomGround made counts parts a b m → g ≡ 0 → (a ≡ 872) × (b ≡ 96)
+pub room-lengths : (made counters parts : List ℕ) (a b m : ℕ) {g : ℕ} → g ≡ roomGround made counters parts a b m → g ≡ 0 → (a ≡ 872) × (b ≡ 96)
 unfolding roomGround joinLengths
-room-lengths made counts parts a b m e z = go (eqb a 872) refl (eqb b 96) refl (sym e ∙ z)
+room-lengths made counters parts a b m e z = go (eqb a 872) refl (eqb b 96) refl (sym e ∙ z)
   where
     go : (s : Bool) → eqb a 872 ≡ s → (t : Bool) → eqb b 96 ≡ t
-        → _≡_ {A = ℕ} (cond (s && t && partsPlaced parts (partTotal made) m) (cond (partsHold made counts parts) 0 13) 14) 0 → (a ≡ 872) × (b ≡ 96)
+        → _≡_ {A = ℕ} (cond (s && t && partsPlaced parts (partTotal made) m) (cond (partsHold made counters parts) 0 13) 14) 0 → (a ≡ 872) × (b ≡ 96)
     go true p true q h = (eqb-true a 872 p, eqb-true b 96 q)
     go true p false q h = absurd (omega arith)
     go false p t q h = absurd (omega arith)
@@ -102,32 +102,32 @@ module _ (formats schema : List ℕ) (x : Tables) (first n : ℕ) where
 
   -- ---- the walk that was tried or made
 
-  pub out-is : (state parts : List ℕ) → state ≡ plan-made → reclaimWalk (join state parts (x .lengths) (x .places) (x .body) first 0) (replicate 96 0) ≡ reclaimOut formats schema x first n
+  pub out-is : (draft parts : List ℕ) → draft ≡ plan-made → reclaimWalk (join draft parts (x .lengths) (x .places) (x .body) first 0) (replicate 96 0) ≡ reclaimOut formats schema x first n
   unfolding reclaimOut
-  out-is state parts e =
-      placeless state parts (x .lengths) (x .places) (x .body) first (replicate 96 0)
+  out-is draft parts e =
+      placeless draft parts (x .lengths) (x .places) (x .body) first (replicate 96 0)
       ∙ ap (λ s. reclaimWalk (join s [] (x .lengths) (x .places) (x .body) first 0) (replicate 96 0)) (e ∙ plan-is)
 
   abbrev Walked : List ℕ → List ℕ → Bool → List ℕ → ℕ → List ℕ → List ℕ → Type 0
-  Walked state parts write room g c room2 = Did state parts write (reclaimWalk (join state parts (x .lengths) (x .places) (x .body) first 0) (replicate 96 0)) room g c room2
+  Walked draft parts write room g c room2 = Did draft parts write (reclaimWalk (join draft parts (x .lengths) (x .places) (x .body) first 0) (replicate 96 0)) room g c room2
 
   module _ {g0 : ℕ} (e0 : g0 ≡ orElse columned own) where
     pub ground-ahead : (g0 ≡ 0 → ⊥) → g0 ≡ ahead formats schema x first n own (reclaimPlan formats schema x first n) (reclaimOut formats schema x first n)
     unfolding ahead
     ground-ahead d = or-stands columned own _ e0 d
 
-    module _ (z0 : g0 ≡ 0) {state : List ℕ} (es : state ≡ plan-made) (parts : List ℕ) where
-      walk-ahead : {write : Bool} {room : List ℕ} {g : ℕ} {c room2 : List ℕ} → Walked state parts write room g c room2 → g ≡ ahead formats schema x first n own (reclaimPlan formats schema x first n) (reclaimOut formats schema x first n)
+    module _ (z0 : g0 ≡ 0) {draft : List ℕ} (es : draft ≡ plan-made) (parts : List ℕ) where
+      walk-ahead : {write : Bool} {room : List ℕ} {g : ℕ} {c room2 : List ℕ} → Walked draft parts write room g c room2 → g ≡ ahead formats schema x first n own (reclaimPlan formats schema x first n) (reclaimOut formats schema x first n)
       walk-ahead d =
           let z = or-none columned own (sym e0 ∙ z0) in
-          before-walk formats schema x first n own (reclaimPlan formats schema x first n) (reclaimOut formats schema x first n) (z .0) (z .1) (d .answer ∙ ap (λ o. o .ans) (out-is state parts es))
+          before-walk formats schema x first n own (reclaimPlan formats schema x first n) (reclaimOut formats schema x first n) (z .0) (z .1) (d .answer ∙ ap (λ o. o .ans) (out-is draft parts es))
 
-      walk-counts : {write : Bool} {room : List ℕ} {g : ℕ} {c room2 : List ℕ} → Walked state parts write room g c room2 → c ≡ reclaimOut formats schema x first n .counts
-      walk-counts d = d .counters ∙ ap (λ o. o .counts) (out-is state parts es)
+      walk-counters : {write : Bool} {room : List ℕ} {g : ℕ} {c room2 : List ℕ} → Walked draft parts write room g c room2 → c ≡ reclaimOut formats schema x first n .counters
+      walk-counters d = d .counters ∙ ap (λ o. o .counters) (out-is draft parts es)
 
       -- ---- the question
 
-      module _ {room : List ℕ} {g : ℕ} {c room2 : List ℕ} (d : Walked state parts false room g c room2) (plan counters : List ℕ) where
+      module _ {room : List ℕ} {g : ℕ} {c room2 : List ℕ} (d : Walked draft parts false room g c room2) (plan counters : List ℕ) where
         pub asked-walk : (g ≡ 0 → ⊥) → Asks (reclaimAsked formats schema x first n plan counters) g plan counters
         asked-walk h = asks-refused formats schema x first n own _ _ plan counters (walk-ahead d) h
 
@@ -135,39 +135,39 @@ module _ (formats schema : List ℕ) (x : Tables) (first n : ℕ) where
         asked-plan z h = asks-lengths formats schema x first n own _ _ plan counters (sym (walk-ahead d) ∙ z) (no-lengths-plan _ _ h)
 
         pub asked-counters : g ≡ 0 → length plan ≡ 872 → (length counters ≡ 96 → ⊥) → Asks (reclaimAsked formats schema x first n plan counters) 14 plan counters
-        asked-counters z e h = asks-lengths formats schema x first n own _ _ plan counters (sym (walk-ahead d) ∙ z) (no-lengths-counts _ _ e h)
+        asked-counters z e h = asks-lengths formats schema x first n own _ _ plan counters (sym (walk-ahead d) ∙ z) (no-lengths-counters _ _ e h)
 
-        pub asked-done : g ≡ 0 → length plan ≡ 872 → length counters ≡ 96 → {p q : List ℕ} → p ≡ state → q ≡ c → Asks (reclaimAsked formats schema x first n plan counters) 0 p q
+        pub asked-done : g ≡ 0 → length plan ≡ 872 → length counters ≡ 96 → {p q : List ℕ} → p ≡ draft → q ≡ c → Asks (reclaimAsked formats schema x first n plan counters) 0 p q
         asked-done z e h p q =
-            asks-done formats schema x first n own _ _ plan counters (sym (walk-ahead d) ∙ z) (both-lengths _ _ e h) refl (p ∙ es ∙ plan-is) (q ∙ walk-counts d)
+            asks-done formats schema x first n own _ _ plan counters (sym (walk-ahead d) ∙ z) (both-lengths _ _ e h) refl (p ∙ es ∙ plan-is) (q ∙ walk-counters d)
 
       -- ---- the call
 
-      module _ (room : List ℕ) (small : smallBody room ≡ true) {g : ℕ} {c room2 : List ℕ} (d : Walked state parts false room g c room2) (plan counters : List ℕ) where
+      module _ (room : List ℕ) (small : smallBody room ≡ true) {g : ℕ} {c room2 : List ℕ} (d : Walked draft parts false room g c room2) (plan counters : List ℕ) where
         room-same : room2 ≡ room
-        room-same = tried-room state parts _ room d
+        room-same = tried-room draft parts _ room d
 
         pub answered-walk : (g ≡ 0 → ⊥) → Answers (reclaiming formats schema x first n parts plan counters room) g plan counters room2
         answered-walk h =
             subst (Answers (reclaiming formats schema x first n parts plan counters room) g plan counters) (sym room-same) (answers-refused formats schema x first n own _ _ parts plan counters room small (walk-ahead d) h)
 
-        module _ (z : g ≡ 0) {r : ℕ} {k : List ℕ} (er : r ≡ roomGround state k parts (length plan) (length counters) (length room2)) (ek : k ≡ c) where
-          room-ground : r ≡ roomGround (reclaimPlan formats schema x first n) (reclaimOut formats schema x first n .counts) parts (length plan) (length counters) (length room)
+        module _ (z : g ≡ 0) {r : ℕ} {k : List ℕ} (er : r ≡ roomGround draft k parts (length plan) (length counters) (length room2)) (ek : k ≡ c) where
+          room-ground : r ≡ roomGround (reclaimPlan formats schema x first n) (reclaimOut formats schema x first n .counters) parts (length plan) (length counters) (length room)
           room-ground =
               er ∙ ap (λ s. roomGround s k parts (length plan) (length counters) (length room2)) (es ∙ plan-is)
-              ∙ ap (λ s. roomGround (reclaimPlan formats schema x first n) s parts (length plan) (length counters) (length room2)) (ek ∙ walk-counts d)
-              ∙ ap (λ s. roomGround (reclaimPlan formats schema x first n) (reclaimOut formats schema x first n .counts) parts (length plan) (length counters) (length s)) room-same
+              ∙ ap (λ s. roomGround (reclaimPlan formats schema x first n) s parts (length plan) (length counters) (length room2)) (ek ∙ walk-counters d)
+              ∙ ap (λ s. roomGround (reclaimPlan formats schema x first n) (reclaimOut formats schema x first n .counters) parts (length plan) (length counters) (length s)) room-same
 
           pub answered-room : (r ≡ 0 → ⊥) → Answers (reclaiming formats schema x first n parts plan counters room) r plan counters room2
           answered-room h =
               subst (Answers (reclaiming formats schema x first n parts plan counters room) r plan counters) (sym room-same)
               (answers-room formats schema x first n own _ _ parts plan counters room small (sym (walk-ahead d) ∙ z) room-ground h)
 
-          pub answered-made : r ≡ 0 → {g3 : ℕ} {p c3 room3 : List ℕ} → p ≡ state → Walked state parts true room2 g3 c3 room3 → Answers (reclaiming formats schema x first n parts plan counters room) g3 p c3 room3
+          pub answered-made : r ≡ 0 → {g3 : ℕ} {p c3 room3 : List ℕ} → p ≡ draft → Walked draft parts true room2 g3 c3 room3 → Answers (reclaiming formats schema x first n parts plan counters room) g3 p c3 room3
           answered-made h p m =
-              answers-made formats schema x first n own _ _ parts plan counters room small (sym (walk-ahead d) ∙ z) (sym room-ground ∙ h) (walk-ahead m ∙ sym (walk-ahead d) ∙ z) (p ∙ es ∙ plan-is) (walk-counts m)
-              (made-room state parts _ room2 m
-              ∙ ap (λ o. apply state parts (o .log) room2) (out-is state parts es)
+              answers-made formats schema x first n own _ _ parts plan counters room small (sym (walk-ahead d) ∙ z) (sym room-ground ∙ h) (walk-ahead m ∙ sym (walk-ahead d) ∙ z) (p ∙ es ∙ plan-is) (walk-counters m)
+              (made-room draft parts _ room2 m
+              ∙ ap (λ o. apply draft parts (o .log) room2) (out-is draft parts es)
               ∙ ap (λ s. apply s parts (reclaimOut formats schema x first n .log) room2) (es ∙ plan-is)
               ∙ ap (apply (reclaimPlan formats schema x first n) parts (reclaimOut formats schema x first n .log)) room-same)
 

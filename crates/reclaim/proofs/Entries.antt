@@ -39,10 +39,10 @@ use Rattle.reclaim.proofs.Runs.{stretch, order, order-fine, each-cut, w
 
 -- the model is done, so the walk is
 pub goes-out : {A : Type 0} {μ : Memory} {Q : A → List ℕ → Memory → Type 0} {t : Try A} {o : Out} → Goes μ Q t o → (x : A) → t ≡ done x → Quiet μ (Q x) o
-goes-out {μ = μ} {Q} (good z o e p q) x h = let w : z ≡ x = cc h in record { is-done = e; in-place = p; leaves = subst (λ a. Q a (o .counts) (after (o .log) μ)) w q }
+goes-out {μ = μ} {Q} (good z o e p q) x h = let w : z ≡ x = cc h in record { is-done = e; in-place = p; leaves = subst (λ a. Q a (o .counters) (after (o .log) μ)) w q }
 goes-out (over g o e p) x h = absurd (let z : _≡_ {A = ℕ} 0 1 = cc h in omega arith)
 
-module _ (y : Join) (p : Plain) (v : Array (PlainBody p)) (source-is : y .source ≡ 0) (worded : WordedPlain (y .state) p 1) (no-keys : dictionaryOf (y .state) 1 ≡ 0) (ends : endOf (y .state) 1 ≡ 2)
+module _ (y : Join) (p : Plain) (v : Array (PlainBody p)) (source-is : y .source ≡ 0) (worded : WordedPlain (y .plan) p 1) (no-keys : dictionaryOf (y .plan) 1 ≡ 0) (ends : endOf (y .plan) 1 ≡ 2)
     (lent : LentNode y 1 (LentPlain y p 1) v) (formed : FormedPlain p) (obey : Obeys true (PlainRule p) v) where
   abbrev vs : ℕ → Array (PlainBody p)
   vs j = v
@@ -66,7 +66,7 @@ module _ (y : Join) (p : Plain) (v : Array (PlainBody p)) (source-is : y .source
   pub record Copied (c : List ℕ) (μ : Memory) (r : ℕ) (d : Mutable (PlainBody p)) (c′ : List ℕ) (μ′ : Memory) : Type 0 where
     pub fine : FineEntries d
     pub few : d .len ≤ r
-    pub holds : Holds (y .state) (tPlain p) 1 d c′ μ′
+    pub holds : Holds (y .plan) (tPlain p) 1 d c′ μ′
     pub kept : Kept 1 2 c c′ μ μ′
     pub long : length c′ ≡ 96
 
@@ -79,7 +79,7 @@ module _ (y : Join) (p : Plain) (v : Array (PlainBody p)) (source-is : y .source
         → Quiet ν (Copied c μ (e + suc k) D) (copyWalk y 1 1 e (suc k) c2)
     order-step e k d D c2 ν l f h q =
         let o = order-fine p v obey e (suc k) d D l (h .fine) q in
-        let g = goes-out (subst (λ s. Goes ν (λ d′ c′ μ′. Holds (y .state) (tPlain p) 1 d′ c′ μ′ × Kept 1 (endOf (y .state) 1) c2 c′ ν μ′) (extendNode true (λ ss j. plainExtend p (ss j)) vs s e (suc k) d) (copyWalk y 1 1 e (suc k) c2)) source-is (copies y 1 1 (tPlain p) 1 vs opened e (suc k) d c2 ν (omega arith) (h .fine) (omega (arith, h .few)) (h .long) (h .holds))) D q in
+        let g = goes-out (subst (λ s. Goes ν (λ d′ c′ μ′. Holds (y .plan) (tPlain p) 1 d′ c′ μ′ × Kept 1 (endOf (y .plan) 1) c2 c′ ν μ′) (extendNode true (λ ss j. plainExtend p (ss j)) vs s e (suc k) d) (copyWalk y 1 1 e (suc k) c2)) source-is (copies y 1 1 (tPlain p) 1 vs opened e (suc k) d c2 ν (omega arith) (h .fine) (omega (arith, h .few)) (h .long) (h .holds))) D q in
         record {
           is-done = g .is-done;
           in-place = g .in-place;
@@ -88,7 +88,7 @@ module _ (y : Join) (p : Plain) (v : Array (PlainBody p)) (source-is : y .source
                 fine = o .0;
                 few = omega (arith, o .1, h .few);
                 holds = g .leaves .0;
-                kept = kept-then (h .kept) (subst (λ z. Kept 1 z c2 (copyWalk y 1 1 e (suc k) c2 .counts) ν (after (copyWalk y 1 1 e (suc k) c2 .log) ν)) ends (g .leaves .1));
+                kept = kept-then (h .kept) (subst (λ z. Kept 1 z c2 (copyWalk y 1 1 e (suc k) c2 .counters) ν (after (copyWalk y 1 1 e (suc k) c2 .log) ν)) ends (g .leaves .1));
                 long = g .leaves .1 .long ∙ h .long;
               };
         }
@@ -143,12 +143,12 @@ module _ (y : Join) (p : Plain) (v : Array (PlainBody p)) (source-is : y .source
     entries-go (suc m) n b = blocks-at n (λ j l. entries-go m j (omega arith))
 
     -- before the first
-    pub begin : length c ≡ 96 → Fresh (y .state) c μ 1 → keepsOf (y .state) 1 ≡ flag (ltb 0 (nullCount v)) → Copied c μ 0 (freshNode p v) c μ
+    pub begin : length c ≡ 96 → Fresh (y .plan) c μ 1 → keepsOf (y .plan) 1 ≡ flag (ltb 0 (nullCount v)) → Copied c μ 0 (freshNode p v) c μ
     begin long f e =
         record {
           fine = start-plain p false 1 vs formed;
           few = omega arith;
-          holds = start-values (y .state) c μ p 1 (ltb 0 (nullCount v)) worded f e;
+          holds = start-values (y .plan) c μ p 1 (ltb 0 (nullCount v)) worded f e;
           kept = kept-refl 1 2 c μ;
           long = long;
         }

@@ -109,13 +109,13 @@ module _ (formats schema : List ℕ) (x : Tables) (first n : ℕ) (low : first <
         go false e = absurd (h (own-dictionary (own-is false e)))
 
   -- THE GROUNDS OF THE CALL, in their order, of any column
-  module _ (bytes : AllBelow 256 (x .body)) (parts plan counts room : List ℕ) where
+  module _ (bytes : AllBelow 256 (x .body)) (parts plan counters room : List ℕ) where
     abbrev of-room : ℕ
-    of-room = roomGround (reclaimPlan formats schema x first n) (reclaimOut formats schema x first n .counts) parts (length plan) (length counts) (length room)
+    of-room = roomGround (reclaimPlan formats schema x first n) (reclaimOut formats schema x first n .counters) parts (length plan) (length counters) (length room)
 
-    pub grounds : smallBody room ≡ true → reclaiming formats schema x first n parts plan counts room .ground ≡ orElse (columnGround formats schema x first n) (orElse (reclaimOwn schema first) of-room)
+    pub grounds : smallBody room ≡ true → reclaiming formats schema x first n parts plan counters room .ground ≡ orElse (columnGround formats schema x first n) (orElse (reclaimOwn schema first) of-room)
     grounds s =
-        anew-order formats schema x first n (reclaimOwn schema first) (reclaimPlan formats schema x first n) (reclaimOut formats schema x first n) parts plan counts room s
+        anew-order formats schema x first n (reclaimOwn schema first) (reclaimPlan formats schema x first n) (reclaimOut formats schema x first n) parts plan counters room s
         ∙ or-never (columnGround formats schema x first n) (reclaimOwn schema first) (reclaimOut formats schema x first n .ans) of-room (λ good own. by-type good (own-dictionary good own))
       where
         by-type : columnGround formats schema x first n ≡ 0 → IsDictionary (typeOf formats schema first n) → reclaimOut formats schema x first n .ans ≡ 0
@@ -174,15 +174,15 @@ module _ (formats schema : List ℕ) (x : Tables) (first n : ℕ) (low : first <
     null-keys = let g = given formats schema x first n low good k p e [] in null-key k p old (g .formed) (g .source) i l
 
   -- "DOING IT TWICE GIVES WHAT ONCE GIVES": the finished tables lent to the call again
-  pub reclaim-twice : (parts plan counts room : List ℕ) (room-bytes : AllBelow 256 room) (ok : reclaiming formats schema x first n parts plan counts room .ground ≡ 0) (base : ℕ) (body : List ℕ)
-      (bodied : Bodied body (lentFor x (reclaimPlan formats schema x first n) parts first n) (reclaiming formats schema x first n parts plan counts room .room) base)
+  pub reclaim-twice : (parts plan counters room : List ℕ) (room-bytes : AllBelow 256 room) (ok : reclaiming formats schema x first n parts plan counters room .ground ≡ 0) (base : ℕ) (body : List ℕ)
+      (bodied : Bodied body (lentFor x (reclaimPlan formats schema x first n) parts first n) (reclaiming formats schema x first n parts plan counters room .room) base)
       → reclaimed k p
       (columnOf (treeOf formats schema first n)
-      (finishedTables (lentFor x (reclaimPlan formats schema x first n) parts first n) (x .buffers) (reclaiming formats schema x first n parts plan counts room .counts) (reclaiming formats schema x first n parts plan counts room .room) base body)
+      (finishedTables (lentFor x (reclaimPlan formats schema x first n) parts first n) (x .buffers) (reclaiming formats schema x first n parts plan counters room .counters) (reclaiming formats schema x first n parts plan counters room .room) base body)
       (tDictionary k p) 0)
       ≡ reclaimed k p old
-  reclaim-twice parts plan counts room room-bytes ok base body bodied =
+  reclaim-twice parts plan counters room room-bytes ok base body bodied =
       let g = given formats schema x first n low good k p e [] in
       second-time (treeOf formats schema first n)
-      (finishedTables (lentFor x (reclaimPlan formats schema x first n) parts first n) (x .buffers) (reclaiming formats schema x first n parts plan counts room .counts) (reclaiming formats schema x first n parts plan counts room .room) base body)
-      k p old (twice k p old (g .formed) (g .source)) (reclaim-result formats schema x first n low good k p e bytes parts plan counts room room-bytes ok base body bodied .0)
+      (finishedTables (lentFor x (reclaimPlan formats schema x first n) parts first n) (x .buffers) (reclaiming formats schema x first n parts plan counters room .counters) (reclaiming formats schema x first n parts plan counters room .room) base body)
+      k p old (twice k p old (g .formed) (g .source)) (reclaim-result formats schema x first n low good k p e bytes parts plan counters room room-bytes ok base body bodied .0)

@@ -12,12 +12,12 @@ use Rattle.measure.proofs.Placeless.{walk-same}
 use Rattle.reclaim.specs.used_entries.Keys.{used, newKeys}
 use Rattle.reclaim.specs.reclaim_walk.Walk.{keysOf, keysIn, firstEntry, runOf, copyRun, copyRuns, copyBlocks, reclaimWalk}
 
-module _ (state parts lengths places body : List ℕ) (first : ℕ) where
+module _ (plan parts lengths places body : List ℕ) (first : ℕ) where
   abbrev x : Join
-  x = join state parts lengths places body first 0
+  x = join plan parts lengths places body first 0
 
   abbrev y : Join
-  y = join state [] lengths places body first 0
+  y = join plan [] lengths places body first 0
 
   run-of-same : (n e : ℕ) → runOf x e n ≡ runOf y e n
   unfolding runOf
@@ -26,7 +26,7 @@ module _ (state parts lengths places body : List ℕ) (first : ℕ) where
 
   run-same : (e k : ℕ) (c : List ℕ) → copyRun x e k c ≡ copyRun y e k c
   unfolding copyRun
-  run-same e k c = ap (λ o. cond (eqb k 0) (done c) o) (walk-same state parts [] lengths places body first 0 1 1 e k c)
+  run-same e k c = ap (λ o. cond (eqb k 0) (done c) o) (walk-same plan parts [] lengths places body first 0 1 1 e k c)
 
   runs-same : (f e n : ℕ) (c : List ℕ) → copyRuns x f e n c ≡ copyRuns y f e n c
   unfolding copyRuns

@@ -42,7 +42,7 @@ is-true : (b : Bool) → b ≡ true → T b
 is-true true e = tt
 is-true false e = absurd (true≢false (sym e))
 
-module _ (y : Join) (k : Number) (p : Plain) (v : Column (tDictionary k p)) (lent : Lent y (tDictionary k p) 0 v) (s : Source (tDictionary k p) v) (wide : bytesOf (y .state) 0 ≡ width k) where
+module _ (y : Join) (k : Number) (p : Plain) (v : Column (tDictionary k p)) (lent : Lent y (tDictionary k p) 0 v) (s : Source (tDictionary k p) v) (wide : bytesOf (y .plan) 0 ≡ width k) where
   abbrev ks : Keys
   ks = keysOf y
 
@@ -95,12 +95,12 @@ module _ (y : Join) (k : Number) (p : Plain) (v : Column (tDictionary k p)) (len
         ∙ ap (encodes (width k)) (seg-same (newKey ks (lengthOf y 1)) (typed-new.newKey k p v) 0 (v .len) (λ i l. new-same (0 + i) (omega arith)))
 
     -- THE KEYS LIE IN THE BODY
-    pub keys-there : isFixed (codeOf (y .state) 0) ≡ true → keysIn y ≡ true
+    pub keys-there : isFixed (codeOf (y .plan) 0) ≡ true → keysIn y ≡ true
     unfolding keysIn
     keys-there f =
         rw (f, lt-ltb (offsetOf y 0 + lengthOf y 0) far (omega (arith, lent .sum, lent .off-is, lent .len-is)), lt-ltb (lengthOf y 1) far (omega (arith, lent-values .sum, lent-values .len-is)), rows) (bits-there (v .valid) (lent .valid-is) (s .mask))
       where
-        rows : rowsIn y (place y 0 3) (bytesOf (y .state) 0) (offsetOf y 0) (lengthOf y 0) ≡ true
+        rows : rowsIn y (place y 0 3) (bytesOf (y .plan) 0) (offsetOf y 0) (lengthOf y 0) ≡ true
         rows =
             ap (λ w. rowsIn y (place y 0 3) w (offsetOf y 0) (lengthOf y 0)) wide ∙ ap₂ (λ o n. rowsIn y (place y 0 3) (width k) o n) (lent .off-is) (lent .len-is)
             ∙ rows-in y (place y 0 3) (place y 0 4) (v .body .keys) (width k) (v .off) (v .len) (lent .body-is) (s .slots .hold)

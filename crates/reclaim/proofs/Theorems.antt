@@ -70,37 +70,37 @@ module _ (formats schema : List ℕ) (x : Tables) (first n : ℕ) (low : first <
       not-none : dictionary schema first 0 ≡ 0 → ⊥
       not-none = has-dictionary formats schema x first n low good k p e
 
-  module _ (parts plan counts room : List ℕ) where
+  module _ (parts plan counters room : List ℕ) where
     abbrev answer : Opening
-    answer = reclaiming formats schema x first n parts plan counts room
+    answer = reclaiming formats schema x first n parts plan counters room
 
     -- ITS ONLY GROUNDS ARE 14 AND 13 of the room
-    pub only-room : smallBody room ≡ true → answer .ground ≡ roomGround made (walk .counts) parts (length plan) (length counts) (length room)
+    pub only-room : smallBody room ≡ true → answer .ground ≡ roomGround made (walk .counters) parts (length plan) (length counters) (length room)
     only-room s =
-        anew-ground formats schema x first n (reclaimOwn schema first) made walk parts plan counts room s
-        ∙ ap (λ z. orElse z (roomGround made (walk .counts) parts (length plan) (length counts) (length room))) (ahead-none formats schema x first n made walk good own-none never-refused)
+        anew-ground formats schema x first n (reclaimOwn schema first) made walk parts plan counters room s
+        ∙ ap (λ z. orElse z (roomGround made (walk .counters) parts (length plan) (length counters) (length room))) (ahead-none formats schema x first n made walk good own-none never-refused)
 
     -- A REFUSED CALL CHANGES NOTHING
-    pub refused-keeps : (answer .ground ≡ 0 → ⊥) → (answer .plan ≡ plan) × (answer .counts ≡ counts) × (answer .room ≡ room)
-    refused-keeps = anew-keeps formats schema x first n (reclaimOwn schema first) made walk parts plan counts room
+    pub refused-keeps : (answer .ground ≡ 0 → ⊥) → (answer .plan ≡ plan) × (answer .counters ≡ counters) × (answer .room ≡ room)
+    refused-keeps = anew-keeps formats schema x first n (reclaimOwn schema first) made walk parts plan counters room
 
     module _ (room-bytes : AllBelow 256 room) (ok : answer .ground ≡ 0) where
       -- AN ACCEPTED CALL CHANGES ONLY BYTES OF THE PARTS, up to what each needs
-      pub only-parts : OnlyUsed made parts room (answer .counts) (answer .room)
+      pub only-parts : OnlyUsed made parts room (answer .counters) (answer .room)
       unfolding reclaimPlan
       only-parts =
-          subst (λ u. (c : Column u) → Filled (lentFor x made parts first n) (x .buffers) u walk c → OnlyUsed made parts room (answer .counts) (answer .room)) e
-          (λ c f. anew-writes formats schema x first n (reclaimOwn schema first) first n _ true 0 walk parts plan counts room (typed-is formats schema x first n low good k p e) (low-is formats schema x first n low good k p e) (no-ends formats schema x first n low good k p e) c f room-bytes ok)
+          subst (λ u. (c : Column u) → Filled (lentFor x made parts first n) (x .buffers) u walk c → OnlyUsed made parts room (answer .counters) (answer .room)) e
+          (λ c f. anew-writes formats schema x first n (reclaimOwn schema first) first n _ true 0 walk parts plan counters room (typed-is formats schema x first n low good k p e) (low-is formats schema x first n low good k p e) (no-ends formats schema x first n low good k p e) c f room-bytes ok)
           (reclaimed k p old) (reclaim-fills parts)
 
       module _ (base : ℕ) (body : List ℕ) (bodied : Bodied body (lentFor x made parts first n) (answer .room) base) where
         abbrev finished : Tables
-        finished = finishedTables (lentFor x made parts first n) (x .buffers) (answer .counts) (answer .room) base body
+        finished = finishedTables (lentFor x made parts first n) (x .buffers) (answer .counters) (answer .room) base body
 
         abbrev Result : (u : Ty) → Column u → Type 0
         Result u c =
             Shows (treeOf formats schema first n) finished u 0 c
-            × Counts (treeOf formats schema first n) (nullTable (lentFor x made parts first n) (x .buffers) (answer .counts) (answer .room) base) u 0 c
+            × Counts (treeOf formats schema first n) (nullTable (lentFor x made parts first n) (x .buffers) (answer .counters) (answer .room) base) u 0 c
             × (readAll u (columnOf (treeOf formats schema first n) finished u 0) ≡ readAll u c)
             × T (sourceRule (treeOf formats schema first n) finished)
 
@@ -109,7 +109,7 @@ module _ (formats schema : List ℕ) (x : Tables) (first n : ℕ) (low : first <
         unfolding reclaimPlan
         reclaim-result =
             subst (λ u. (c : Column u) → Filled (lentFor x made parts first n) (x .buffers) u walk c → Result u c) e
-            (λ c f. anew-result formats schema x first n (reclaimOwn schema first) first n _ true 0 walk parts plan counts room (typed-is formats schema x first n low good k p e) (low-is formats schema x first n low good k p e) (no-ends formats schema x first n low good k p e) c f room-bytes ok base body bodied)
+            (λ c f. anew-result formats schema x first n (reclaimOwn schema first) first n _ true 0 walk parts plan counters room (typed-is formats schema x first n low good k p e) (low-is formats schema x first n low good k p e) (no-ends formats schema x first n low good k p e) c f room-bytes ok base body bodied)
             (reclaimed k p old) (reclaim-fills parts)
 
         -- "EVERY ROW READS AS BEFORE"

@@ -60,9 +60,9 @@ pub record InParts (plan : List ℕ) : Type 0 where
   pub keys-fixed : isFixed (codeOf plan 0) ≡ true
   pub entries-low : codeOf plan 1 < 15
 
-module _ (y : Join) (parts : InParts (y .state)) (bytes : AllBelow 256 (y .body)) where
+module _ (y : Join) (parts : InParts (y .plan)) (bytes : AllBelow 256 (y .body)) where
   abbrev plan : List ℕ
-  plan = y .state
+  plan = y .plan
 
   abbrev U : ℕ → ℕ → Type 0
   U = Used plan

@@ -34,8 +34,8 @@ module _ (formats schema : List ℕ) (x : Tables) (first n : ℕ) where
 
   -- THE QUESTION
   abbrev pub reclaimAsked : List ℕ → List ℕ → Asking
-  reclaimAsked plan counts = asking formats schema x first n (reclaimOwn schema first) reclaimPlan reclaimOut plan counts
+  reclaimAsked plan counters = asking formats schema x first n (reclaimOwn schema first) reclaimPlan reclaimOut plan counters
 
   -- THE CALL
   abbrev pub reclaiming : List ℕ → List ℕ → List ℕ → List ℕ → Opening
-  reclaiming parts plan counts room = anew formats schema x first n (reclaimOwn schema first) reclaimPlan reclaimOut parts plan counts room
+  reclaiming parts plan counters room = anew formats schema x first n (reclaimOwn schema first) reclaimPlan reclaimOut parts plan counters room

@@ -19,7 +19,7 @@ const BLOCK: u64 = 512;
 // The ranks of the `count` entries from `base` on, and of the one behind them; `start` is the first one's, and those of the first block are given.
 fn ranks_at(
     head: &[u64; 513],
-    state: &[u64],
+    plan: &[u64],
     lengths: &[u64],
     places: &[u64],
     body: &[u8],
@@ -28,11 +28,11 @@ fn ranks_at(
     count: u64,
     start: u64,
 ) -> [u64; 513]
-    requires { ⌜ (first < 2 ^ 32) × (keysIn (join (now state) [] (now lengths) (now places) (now body) first 0) ≡ true) × (count ≤ 512) × (base + count < 2 ^ 64) × (start ≡ rank (keysOf (join (now state) [] (now lengths) (now places) (now body) first 0)) base) ⌝ }
-    requires { ⌜ Head (keysOf (join (now state) [] (now lengths) (now places) (now body) first 0)) (base + count) (now head) ⌝ }
-    ensures { λ m. ⌜ ((j : ℕ) → j ≤ count → getD m j 0 ≡ rank (keysOf (join (now (state .entry)) [] (now (lengths .entry)) (now (places .entry)) (now (body .entry)) first 0)) (base + j)) ⌝ }
+    requires { ⌜ (first < 2 ^ 32) × (keysIn (join (now plan) [] (now lengths) (now places) (now body) first 0) ≡ true) × (count ≤ 512) × (base + count < 2 ^ 64) × (start ≡ rank (keysOf (join (now plan) [] (now lengths) (now places) (now body) first 0)) base) ⌝ }
+    requires { ⌜ Head (keysOf (join (now plan) [] (now lengths) (now places) (now body) first 0)) (base + count) (now head) ⌝ }
+    ensures { λ m. ⌜ ((j : ℕ) → j ≤ count → getD m j 0 ≡ rank (keysOf (join (now (plan .entry)) [] (now (lengths .entry)) (now (places .entry)) (now (body .entry)) first 0)) (base + j)) ⌝ }
 {
-    let w = lookups::width_at(state, 0);
+    let w = lookups::width_at(plan, 0);
     let at = lent_tables::place(places, first, 3);
     let masked = crate::reclaim_walk::is_masked(places, first);
     let mask = lent_tables::place(places, first, 1);
@@ -58,12 +58,12 @@ fn run_len(ranks: &[u64; 513], j: usize, count: u64) -> u64
 
 // k entries from entry e on, by one order.
 fn copy_run(
-    state: &[u64],
+    plan: &[u64],
     parts: &[u64],
     lengths: &[u64],
     places: &[u64],
     body: &[u8],
-    counts: &mut [u64; plan_words::COUNTERS],
+    counters: &mut [u64; plan_words::COUNTERS],
     room: &mut [u8],
     write: bool,
     first: usize,
@@ -71,18 +71,18 @@ fn copy_run(
     k: u64,
 ) -> u8
     requires { ⌜ first < 2 ^ 32 ⌝ }
-    ensures { λ g. ⌜ Did (now (state .entry)) (now (parts .entry)) write (copyRun (join (now (state .entry)) (now (parts .entry)) (now (lengths .entry)) (now (places .entry)) (now (body .entry)) first 0) e k (now (counts .entry))) (now (room .entry)) g (now (counts .exit)) (now (room .exit)) ⌝ }
+    ensures { λ g. ⌜ Did (now (plan .entry)) (now (parts .entry)) write (copyRun (join (now (plan .entry)) (now (parts .entry)) (now (lengths .entry)) (now (places .entry)) (now (body .entry)) first 0) e k (now (counters .entry))) (now (room .entry)) g (now (counters .exit)) (now (room .exit)) ⌝ }
 {
     if k == 0 {
         return 0;
     }
     extend::extend(
-        state,
+        plan,
         parts,
         lengths,
         places,
         body,
-        counts,
+        counters,
         room,
         write,
         0,
@@ -107,12 +107,12 @@ fn step_of(k: u64) -> usize
 
 // The entries in use of the `count` from `base` on, whose ranks are given, by one order for each run of them.
 fn copy_runs(
-    state: &[u64],
+    plan: &[u64],
     parts: &[u64],
     lengths: &[u64],
     places: &[u64],
     body: &[u8],
-    counts: &mut [u64; plan_words::COUNTERS],
+    counters: &mut [u64; plan_words::COUNTERS],
     room: &mut [u8],
     write: bool,
     first: usize,
@@ -121,19 +121,19 @@ fn copy_runs(
     ranks: &[u64; 513],
 ) -> u8
     requires { ⌜ (first < 2 ^ 32) × (count ≤ 512) × (base + count < 2 ^ 64) ⌝ }
-    requires { ⌜ ((j : ℕ) → j ≤ count → getD (now ranks) j 0 ≡ rank (keysOf (join (now state) [] (now lengths) (now places) (now body) first 0)) (base + j)) ⌝ }
-    ensures { λ g. ⌜ Did (now (state .entry)) (now (parts .entry)) write (copyRuns (join (now (state .entry)) (now (parts .entry)) (now (lengths .entry)) (now (places .entry)) (now (body .entry)) first 0) count base count (now (counts .entry))) (now (room .entry)) g (now (counts .exit)) (now (room .exit)) ⌝ }
+    requires { ⌜ ((j : ℕ) → j ≤ count → getD (now ranks) j 0 ≡ rank (keysOf (join (now plan) [] (now lengths) (now places) (now body) first 0)) (base + j)) ⌝ }
+    ensures { λ g. ⌜ Did (now (plan .entry)) (now (parts .entry)) write (copyRuns (join (now (plan .entry)) (now (parts .entry)) (now (lengths .entry)) (now (places .entry)) (now (body .entry)) first 0) count base count (now (counters .entry))) (now (room .entry)) g (now (counters .exit)) (now (room .exit)) ⌝ }
 {
     let mut j: usize = 0;
     while (j as u64) < count {
         let k = run_len(ranks, j, count);
         let g = copy_run(
-            state,
+            plan,
             parts,
             lengths,
             places,
             body,
-            counts,
+            counters,
             room,
             write,
             first,
@@ -150,12 +150,12 @@ fn copy_runs(
 
 // The same: straight from the body where they are plain numbers.
 fn copy_block(
-    state: &[u64],
+    plan: &[u64],
     parts: &[u64],
     lengths: &[u64],
     places: &[u64],
     body: &[u8],
-    counts: &mut [u64; plan_words::COUNTERS],
+    counters: &mut [u64; plan_words::COUNTERS],
     room: &mut [u8],
     write: bool,
     first: usize,
@@ -164,16 +164,16 @@ fn copy_block(
     ranks: &[u64; 513],
 ) -> u8
     requires { ⌜ (first < 2 ^ 32) × (count ≤ 512) × (base + count < 2 ^ 64) ⌝ }
-    requires { ⌜ ((j : ℕ) → j ≤ count → getD (now ranks) j 0 ≡ rank (keysOf (join (now state) [] (now lengths) (now places) (now body) first 0)) (base + j)) ⌝ }
-    ensures { λ g. ⌜ Did (now (state .entry)) (now (parts .entry)) write (copyRuns (join (now (state .entry)) (now (parts .entry)) (now (lengths .entry)) (now (places .entry)) (now (body .entry)) first 0) count base count (now (counts .entry))) (now (room .entry)) g (now (counts .exit)) (now (room .exit)) ⌝ }
+    requires { ⌜ ((j : ℕ) → j ≤ count → getD (now ranks) j 0 ≡ rank (keysOf (join (now plan) [] (now lengths) (now places) (now body) first 0)) (base + j)) ⌝ }
+    ensures { λ g. ⌜ Did (now (plan .entry)) (now (parts .entry)) write (copyRuns (join (now (plan .entry)) (now (parts .entry)) (now (lengths .entry)) (now (places .entry)) (now (body .entry)) first 0) count base count (now (counters .entry))) (now (room .entry)) g (now (counters .exit)) (now (room .exit)) ⌝ }
 {
     if crate::plain::copy_plain(
-        state,
+        plan,
         parts,
         lengths,
         places,
         body,
-        counts,
+        counters,
         room,
         write,
         first,
@@ -184,12 +184,12 @@ fn copy_block(
         return 0;
     }
     copy_runs(
-        state,
+        plan,
         parts,
         lengths,
         places,
         body,
-        counts,
+        counters,
         room,
         write,
         first,
@@ -202,29 +202,29 @@ fn copy_block(
 // All entries in use, block by block.
 pub fn copy_entries(
     head: &[u64; 513],
-    state: &[u64],
+    plan: &[u64],
     parts: &[u64],
     lengths: &[u64],
     places: &[u64],
     body: &[u8],
-    counts: &mut [u64; plan_words::COUNTERS],
+    counters: &mut [u64; plan_words::COUNTERS],
     room: &mut [u8],
     write: bool,
     first: usize,
 ) -> u8
-    requires { ⌜ (first < 2 ^ 32) × (keysIn (join (now state) [] (now lengths) (now places) (now body) first 0) ≡ true) ⌝ }
-    requires { ⌜ Head (keysOf (join (now state) [] (now lengths) (now places) (now body) first 0)) (lengthOf (join (now state) [] (now lengths) (now places) (now body) first 0) 1) (now head) ⌝ }
-    ensures { λ g. ⌜ Did (now (state .entry)) (now (parts .entry)) write (copyBlocks (join (now (state .entry)) (now (parts .entry)) (now (lengths .entry)) (now (places .entry)) (now (body .entry)) first 0) (lengthOf (join (now (state .entry)) (now (parts .entry)) (now (lengths .entry)) (now (places .entry)) (now (body .entry)) first 0) 1) 0 (lengthOf (join (now (state .entry)) (now (parts .entry)) (now (lengths .entry)) (now (places .entry)) (now (body .entry)) first 0) 1) (now (counts .entry))) (now (room .entry)) g (now (counts .exit)) (now (room .exit)) ⌝ }
+    requires { ⌜ (first < 2 ^ 32) × (keysIn (join (now plan) [] (now lengths) (now places) (now body) first 0) ≡ true) ⌝ }
+    requires { ⌜ Head (keysOf (join (now plan) [] (now lengths) (now places) (now body) first 0)) (lengthOf (join (now plan) [] (now lengths) (now places) (now body) first 0) 1) (now head) ⌝ }
+    ensures { λ g. ⌜ Did (now (plan .entry)) (now (parts .entry)) write (copyBlocks (join (now (plan .entry)) (now (parts .entry)) (now (lengths .entry)) (now (places .entry)) (now (body .entry)) first 0) (lengthOf (join (now (plan .entry)) (now (parts .entry)) (now (lengths .entry)) (now (places .entry)) (now (body .entry)) first 0) 1) 0 (lengthOf (join (now (plan .entry)) (now (parts .entry)) (now (lengths .entry)) (now (places .entry)) (now (body .entry)) first 0) 1) (now (counters .entry))) (now (room .entry)) g (now (counters .exit)) (now (room .exit)) ⌝ }
 {
     let entries = lent_tables::length_of(lengths, first + 1);
     if entries <= BLOCK {
         return copy_block(
-            state,
+            plan,
             parts,
             lengths,
             places,
             body,
-            counts,
+            counters,
             room,
             write,
             first,
@@ -237,24 +237,14 @@ pub fn copy_entries(
     let mut start: u64 = 0;
     while base < entries {
         let count = crate::used_entries::block_len(base, entries);
-        let ranks = ranks_at(
-            head,
-            state,
-            lengths,
-            places,
-            body,
-            first,
-            base,
-            count,
-            start,
-        );
+        let ranks = ranks_at(head, plan, lengths, places, body, first, base, count, start);
         let g = copy_block(
-            state,
+            plan,
             parts,
             lengths,
             places,
             body,
-            counts,
+            counters,
             room,
             write,
             first,

@@ -61,7 +61,7 @@ fn planned(
     requires { ⌜ (n ≤ 32) × Comes (tables (now lengths) (now places) (now body)) first n fromColumn ⌝ }
     ensures { λ r. ⌜ r ≡ planAnew (now (formats .entry)) (now (schema .entry)) first n (keepsFrom (tables (now (lengths .entry)) (now (places .entry)) (now (body .entry))) first fromColumn) true 0 ⌝ }
 {
-    let mut state = [0u64; plan_words::WORDS];
+    let mut plan = [0u64; plan_words::WORDS];
     let from = [1u64, 2];
     anew::result_plan::plan_anew(
         formats,
@@ -75,9 +75,9 @@ fn planned(
         &from,
         true,
         0,
-        &mut state,
+        &mut plan,
     );
-    state
+    plan
 }
 
 // The question before any room is lent: the ground of refusal, or plan and counters of the result, by which `parts::part_at` and
@@ -100,19 +100,19 @@ pub fn plan_reclaim(
     if g != 0 {
         return g;
     }
-    let state = planned(formats, schema, lengths, places, body, first, n);
-    let head = crate::reclaim_walk::head_ranks(&state, lengths, places, body, first as usize);
+    let draft = planned(formats, schema, lengths, places, body, first, n);
+    let head = crate::reclaim_walk::head_ranks(&draft, lengths, places, body, first as usize);
     let none = [0u64; 0];
     let mut nothing = [0u8; 0];
-    let mut counts = [0u64; plan_words::COUNTERS];
+    let mut tally = [0u64; plan_words::COUNTERS];
     let g = crate::reclaim_walk::reclaim_walk(
         &head,
-        &state,
+        &draft,
         &none,
         lengths,
         places,
         body,
-        &mut counts,
+        &mut tally,
         &mut nothing,
         false,
         first as usize,
@@ -126,15 +126,15 @@ pub fn plan_reclaim(
     if counters.len() != plan_words::COUNTERS {
         return 14;
     }
-    let made = with_capacities::copied(counts);
-    anew::result_plan::keep_result(plan, counters, &state, &made);
+    let made = with_capacities::copied(tally);
+    anew::result_plan::keep_result(plan, counters, &draft, &made);
     0
 }
 
 // The walk made, and plan and counters left with the caller.
 fn make(
     head: &[u64; 513],
-    state: &[u64],
+    draft: &[u64],
     parts: &[u64],
     lengths: &[u64],
     places: &[u64],
@@ -144,25 +144,25 @@ fn make(
     counters: &mut [u64],
     room: &mut [u8],
 ) -> u8
-    requires { ⌜ (length (now plan) ≡ 872) × (length (now counters) ≡ 96) × (length (now state) ≡ 872) ⌝ }
-    requires { ⌜ (keysIn (join (now state) [] (now lengths) (now places) (now body) first 0) ≡ true → Head (keysOf (join (now state) [] (now lengths) (now places) (now body) first 0)) (lengthOf (join (now state) [] (now lengths) (now places) (now body) first 0) 1) (now head)) ⌝ }
-    ensures { λ r. ⌜ (now (plan .exit) ≡ now (state .entry)) × Did (now (state .entry)) (now (parts .entry)) true (reclaimWalk (join (now (state .entry)) (now (parts .entry)) (now (lengths .entry)) (now (places .entry)) (now (body .entry)) first 0) (replicate 96 0)) (now (room .entry)) r (now (counters .exit)) (now (room .exit)) ⌝ }
+    requires { ⌜ (length (now plan) ≡ 872) × (length (now counters) ≡ 96) × (length (now draft) ≡ 872) ⌝ }
+    requires { ⌜ (keysIn (join (now draft) [] (now lengths) (now places) (now body) first 0) ≡ true → Head (keysOf (join (now draft) [] (now lengths) (now places) (now body) first 0)) (lengthOf (join (now draft) [] (now lengths) (now places) (now body) first 0) 1) (now head)) ⌝ }
+    ensures { λ r. ⌜ (now (plan .exit) ≡ now (draft .entry)) × Did (now (draft .entry)) (now (parts .entry)) true (reclaimWalk (join (now (draft .entry)) (now (parts .entry)) (now (lengths .entry)) (now (places .entry)) (now (body .entry)) first 0) (replicate 96 0)) (now (room .entry)) r (now (counters .exit)) (now (room .exit)) ⌝ }
 {
-    let mut counts = [0u64; plan_words::COUNTERS];
+    let mut tally = [0u64; plan_words::COUNTERS];
     let g = crate::reclaim_walk::reclaim_walk(
         head,
-        state,
+        draft,
         parts,
         lengths,
         places,
         body,
-        &mut counts,
+        &mut tally,
         room,
         true,
         first as usize,
     );
-    let made = with_capacities::copied(counts);
-    anew::result_plan::keep_result(plan, counters, state, &made);
+    let made = with_capacities::copied(tally);
+    anew::result_plan::keep_result(plan, counters, draft, &made);
     g
 }
 
@@ -190,12 +190,12 @@ pub fn reclaim(
     if g != 0 {
         return g;
     }
-    let state = planned(formats, schema, lengths, places, body, first, n);
-    let head = crate::reclaim_walk::head_ranks(&state, lengths, places, body, first as usize);
+    let draft = planned(formats, schema, lengths, places, body, first, n);
+    let head = crate::reclaim_walk::head_ranks(&draft, lengths, places, body, first as usize);
     let mut tried = [0u64; plan_words::COUNTERS];
     let g = crate::reclaim_walk::reclaim_walk(
         &head,
-        &state,
+        &draft,
         parts,
         lengths,
         places,
@@ -208,10 +208,10 @@ pub fn reclaim(
     if g != 0 {
         return g;
     }
-    let counts = with_capacities::copied(tried);
+    let tally = with_capacities::copied(tried);
     let g = anew::result_plan::room_ground(
-        &state,
-        &counts,
+        &draft,
+        &tally,
         parts,
         plan.len(),
         counters.len(),
@@ -222,7 +222,7 @@ pub fn reclaim(
     }
     make(
         &head,
-        &state,
+        &draft,
         parts,
         lengths,
         places,

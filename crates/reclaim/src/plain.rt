@@ -19,7 +19,7 @@ use walk::plan_words;
 
 // Whether the `count` entries from `base` on are such, and lie in the body.
 fn is_plain(
-    state: &[u64],
+    plan: &[u64],
     lengths: &[u64],
     places: &[u64],
     body: &[u8],
@@ -28,22 +28,22 @@ fn is_plain(
     count: u64,
 ) -> bool
     requires { ⌜ (first < 2 ^ 32) × (base + count < 2 ^ 64) ⌝ }
-    ensures { λ r. ⌜ (r ≡ true → Plain (join (now (state .entry)) [] (now (lengths .entry)) (now (places .entry)) (now (body .entry)) first 0) base count) ⌝ }
+    ensures { λ r. ⌜ (r ≡ true → Plain (join (now (plan .entry)) [] (now (lengths .entry)) (now (places .entry)) (now (body .entry)) first 0) base count) ⌝ }
 {
-    if !schema::formats::is_fixed(plan_words::code_of(state, 1)) {
+    if !schema::formats::is_fixed(plan_words::code_of(plan, 1)) {
         return false;
     }
-    if plan_words::dictionary_of(state, 1) != 0 {
+    if plan_words::dictionary_of(plan, 1) != 0 {
         return false;
     }
-    if plan_words::keeps_of(state, 1) != 0 {
+    if plan_words::keeps_of(plan, 1) != 0 {
         return false;
     }
     let off = lent_tables::offset_of(lengths, first + 1);
     if plan_words::FAR <= plan_words::grow(off, base + count) {
         return false;
     }
-    let w = lookups::width_at(state, 1);
+    let w = lookups::width_at(plan, 1);
     leaf_walk::rows_in(
         body,
         lent_tables::place(places, first + 1, 3),
@@ -55,7 +55,7 @@ fn is_plain(
 
 // Those in use behind `have` entries, n of them, if the walk writes; false, with nothing written, where they leave the room.
 fn write_entries(
-    state: &[u64],
+    plan: &[u64],
     parts: &[u64],
     lengths: &[u64],
     places: &[u64],
@@ -69,17 +69,17 @@ fn write_entries(
     have: u64,
     n: u64,
 ) -> bool
-    requires { ⌜ (first < 2 ^ 32) × (count ≤ 512) × Plain (join (now state) [] (now lengths) (now places) (now body) first 0) base count ⌝ }
-    requires { ⌜ length (chosen (now body) (entryPlace (join (now state) [] (now lengths) (now places) (now body) first 0) base) (bytesOf (now state) 1) (risen (now ranks)) count) ≡ bytesOf (now state) 1 * n ⌝ }
-    ensures { λ r. ⌜ (r ≡ true → (write ≡ true → startOf (now (state .entry)) (now (parts .entry)) 1 1 + have * bytesOf (now (state .entry)) 1 + bytesOf (now (state .entry)) 1 * n ≤ length (now (room .entry))) × (now (room .exit) ≡ cond write (splice (startOf (now (state .entry)) (now (parts .entry)) 1 1 + have * bytesOf (now (state .entry)) 1) (chosen (now (body .entry)) (entryPlace (join (now (state .entry)) [] (now (lengths .entry)) (now (places .entry)) (now (body .entry)) first 0) base) (bytesOf (now (state .entry)) 1) (risen (now (ranks .entry))) count) (now (room .entry))) (now (room .entry)))) ⌝ }
+    requires { ⌜ (first < 2 ^ 32) × (count ≤ 512) × Plain (join (now plan) [] (now lengths) (now places) (now body) first 0) base count ⌝ }
+    requires { ⌜ length (chosen (now body) (entryPlace (join (now plan) [] (now lengths) (now places) (now body) first 0) base) (bytesOf (now plan) 1) (risen (now ranks)) count) ≡ bytesOf (now plan) 1 * n ⌝ }
+    ensures { λ r. ⌜ (r ≡ true → (write ≡ true → startOf (now (plan .entry)) (now (parts .entry)) 1 1 + have * bytesOf (now (plan .entry)) 1 + bytesOf (now (plan .entry)) 1 * n ≤ length (now (room .entry))) × (now (room .exit) ≡ cond write (splice (startOf (now (plan .entry)) (now (parts .entry)) 1 1 + have * bytesOf (now (plan .entry)) 1) (chosen (now (body .entry)) (entryPlace (join (now (plan .entry)) [] (now (lengths .entry)) (now (places .entry)) (now (body .entry)) first 0) base) (bytesOf (now (plan .entry)) 1) (risen (now (ranks .entry))) count) (now (room .entry))) (now (room .entry)))) ⌝ }
     ensures { λ r. ⌜ (r ≡ false → now (room .exit) ≡ now (room .entry)) ⌝ }
 {
     if !write {
         return true;
     }
-    let w = lookups::width_at(state, 1);
+    let w = lookups::width_at(plan, 1);
     match plan_words::target(
-        state,
+        plan,
         parts,
         room.len(),
         true,
@@ -99,31 +99,31 @@ fn write_entries(
 }
 
 // A copy; that it has 96 elements is known of an array that a call returns.
-fn copied(counts: [u64; plan_words::COUNTERS]) -> [u64; plan_words::COUNTERS]
-    ensures { λ r. ⌜ r ≡ counts ⌝ }
+fn copied(counters: [u64; plan_words::COUNTERS]) -> [u64; plan_words::COUNTERS]
+    ensures { λ r. ⌜ r ≡ counters ⌝ }
 {
-    counts
+    counters
 }
 
 // n entries more, if there is one.
-fn count_entries(counts: &mut [u64; plan_words::COUNTERS], n: u64)
-    ensures { λ _. ⌜ now (counts .exit) ≡ cond (eqb n 0) (now (counts .entry)) (addRows 1 n (now (counts .entry))) ⌝ }
+fn count_entries(counters: &mut [u64; plan_words::COUNTERS], n: u64)
+    ensures { λ _. ⌜ now (counters .exit) ≡ cond (eqb n 0) (now (counters .entry)) (addRows 1 n (now (counters .entry))) ⌝ }
 {
     if n == 0 {
         return;
     }
-    plan_words::add_rows(counts, 1, n);
+    plan_words::add_rows(counters, 1, n);
 }
 
 // THE ENTRIES IN USE of the `count` from `base` on, whose ranks are given; false, with nothing done, where they are no plain numbers or leave
 // the body or the room.
 pub fn copy_plain(
-    state: &[u64],
+    plan: &[u64],
     parts: &[u64],
     lengths: &[u64],
     places: &[u64],
     body: &[u8],
-    counts: &mut [u64; plan_words::COUNTERS],
+    counters: &mut [u64; plan_words::COUNTERS],
     room: &mut [u8],
     write: bool,
     first: usize,
@@ -132,17 +132,17 @@ pub fn copy_plain(
     ranks: &[u64; 513],
 ) -> bool
     requires { ⌜ (first < 2 ^ 32) × (count ≤ 512) × (base + count < 2 ^ 64) ⌝ }
-    requires { ⌜ ((j : ℕ) → j ≤ count → getD (now ranks) j 0 ≡ rank (keysOf (join (now state) [] (now lengths) (now places) (now body) first 0)) (base + j)) ⌝ }
-    ensures { λ r. ⌜ (r ≡ true → Did (now (state .entry)) (now (parts .entry)) write (copyRuns (join (now (state .entry)) (now (parts .entry)) (now (lengths .entry)) (now (places .entry)) (now (body .entry)) first 0) count base count (now (counts .entry))) (now (room .entry)) 0 (now (counts .exit)) (now (room .exit))) ⌝ }
-    ensures { λ r. ⌜ (r ≡ false → (now (counts .exit) ≡ now (counts .entry)) × (now (room .exit) ≡ now (room .entry))) ⌝ }
+    requires { ⌜ ((j : ℕ) → j ≤ count → getD (now ranks) j 0 ≡ rank (keysOf (join (now plan) [] (now lengths) (now places) (now body) first 0)) (base + j)) ⌝ }
+    ensures { λ r. ⌜ (r ≡ true → Did (now (plan .entry)) (now (parts .entry)) write (copyRuns (join (now (plan .entry)) (now (parts .entry)) (now (lengths .entry)) (now (places .entry)) (now (body .entry)) first 0) count base count (now (counters .entry))) (now (room .entry)) 0 (now (counters .exit)) (now (room .exit))) ⌝ }
+    ensures { λ r. ⌜ (r ≡ false → (now (counters .exit) ≡ now (counters .entry)) × (now (room .exit) ≡ now (room .entry))) ⌝ }
 {
-    if !is_plain(state, lengths, places, body, first, base, count) {
+    if !is_plain(plan, lengths, places, body, first, base, count) {
         return false;
     }
-    let had = copied(*counts);
+    let had = copied(*counters);
     let n = ranks[count as usize] - ranks[0];
     if !write_entries(
-        state,
+        plan,
         parts,
         lengths,
         places,
@@ -158,6 +158,6 @@ pub fn copy_plain(
     ) {
         return false;
     }
-    count_entries(counts, n);
+    count_entries(counters, n);
     true
 }

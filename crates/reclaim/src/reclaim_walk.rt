@@ -30,13 +30,13 @@ pub fn is_masked(places: &[u64], first: usize) -> bool
 }
 
 // Whether keys and validity of node 0 lie in the body.
-fn keys_in(state: &[u64], lengths: &[u64], places: &[u64], body: &[u8], first: usize) -> bool
+fn keys_in(plan: &[u64], lengths: &[u64], places: &[u64], body: &[u8], first: usize) -> bool
     requires { ⌜ first < 2 ^ 32 ⌝ }
-    ensures { λ r. ⌜ r ≡ keysIn (join (now (state .entry)) [] (now (lengths .entry)) (now (places .entry)) (now (body .entry)) first 0) ⌝ }
+    ensures { λ r. ⌜ r ≡ keysIn (join (now (plan .entry)) [] (now (lengths .entry)) (now (places .entry)) (now (body .entry)) first 0) ⌝ }
 {
     let off = lent_tables::offset_of(lengths, first);
     let n = lent_tables::length_of(lengths, first);
-    if !schema::formats::is_fixed(plan_words::code_of(state, 0)) {
+    if !schema::formats::is_fixed(plan_words::code_of(plan, 0)) {
         return false;
     }
     if plan_words::FAR <= plan_words::grow(off, n) {
@@ -45,7 +45,7 @@ fn keys_in(state: &[u64], lengths: &[u64], places: &[u64], body: &[u8], first: u
     if plan_words::FAR <= lent_tables::length_of(lengths, first + 1) {
         return false;
     }
-    let w = lookups::width_at(state, 0);
+    let w = lookups::width_at(plan, 0);
     if !leaf_walk::rows_in(body, lent_tables::place(places, first, 3), w, off, n) {
         return false;
     }
@@ -65,18 +65,18 @@ fn write_keys(
     room: &mut [u8],
     to: usize,
     head: &[u64; 513],
-    state: &[u64],
+    plan: &[u64],
     lengths: &[u64],
     places: &[u64],
     body: &[u8],
     first: usize,
 )
-    requires { ⌜ (first < 2 ^ 32) × (keysIn (join (now state) [] (now lengths) (now places) (now body) first 0) ≡ true) ⌝ }
-    requires { ⌜ Head (keysOf (join (now state) [] (now lengths) (now places) (now body) first 0)) (lengthOf (join (now state) [] (now lengths) (now places) (now body) first 0) 1) (now head) ⌝ }
-    requires { ⌜ to + bytesOf (now state) 0 * lengthOf (join (now state) [] (now lengths) (now places) (now body) first 0) 0 ≤ length (now room) ⌝ }
-    ensures { λ _. ⌜ now (room .exit) ≡ splice to (newKeys (keysOf (join (now (state .entry)) [] (now (lengths .entry)) (now (places .entry)) (now (body .entry)) first 0)) (lengthOf (join (now (state .entry)) [] (now (lengths .entry)) (now (places .entry)) (now (body .entry)) first 0) 1)) (now (room .entry)) ⌝ }
+    requires { ⌜ (first < 2 ^ 32) × (keysIn (join (now plan) [] (now lengths) (now places) (now body) first 0) ≡ true) ⌝ }
+    requires { ⌜ Head (keysOf (join (now plan) [] (now lengths) (now places) (now body) first 0)) (lengthOf (join (now plan) [] (now lengths) (now places) (now body) first 0) 1) (now head) ⌝ }
+    requires { ⌜ to + bytesOf (now plan) 0 * lengthOf (join (now plan) [] (now lengths) (now places) (now body) first 0) 0 ≤ length (now room) ⌝ }
+    ensures { λ _. ⌜ now (room .exit) ≡ splice to (newKeys (keysOf (join (now (plan .entry)) [] (now (lengths .entry)) (now (places .entry)) (now (body .entry)) first 0)) (lengthOf (join (now (plan .entry)) [] (now (lengths .entry)) (now (places .entry)) (now (body .entry)) first 0) 1)) (now (room .entry)) ⌝ }
 {
-    let w = lookups::width_at(state, 0);
+    let w = lookups::width_at(plan, 0);
     let at = lent_tables::place(places, first, 3);
     let masked = is_masked(places, first);
     let mask = lent_tables::place(places, first, 1);
@@ -89,7 +89,7 @@ fn write_keys(
 // The new keys of all rows, if the walk writes.
 fn put_keys(
     head: &[u64; 513],
-    state: &[u64],
+    plan: &[u64],
     parts: &[u64],
     lengths: &[u64],
     places: &[u64],
@@ -98,14 +98,14 @@ fn put_keys(
     write: bool,
     first: usize,
 )
-    requires { ⌜ (first < 2 ^ 32) × (keysIn (join (now state) [] (now lengths) (now places) (now body) first 0) ≡ true) ⌝ }
-    requires { ⌜ Head (keysOf (join (now state) [] (now lengths) (now places) (now body) first 0)) (lengthOf (join (now state) [] (now lengths) (now places) (now body) first 0) 1) (now head) ⌝ }
-    ensures { λ _. ⌜ now (room .exit) ≡ applyIf (now (state .entry)) (now (parts .entry)) write (put 0 1 0 (newKeys (keysOf (join (now (state .entry)) [] (now (lengths .entry)) (now (places .entry)) (now (body .entry)) first 0)) (lengthOf (join (now (state .entry)) [] (now (lengths .entry)) (now (places .entry)) (now (body .entry)) first 0) 1)) ∷ []) (now (room .entry)) ⌝ }
+    requires { ⌜ (first < 2 ^ 32) × (keysIn (join (now plan) [] (now lengths) (now places) (now body) first 0) ≡ true) ⌝ }
+    requires { ⌜ Head (keysOf (join (now plan) [] (now lengths) (now places) (now body) first 0)) (lengthOf (join (now plan) [] (now lengths) (now places) (now body) first 0) 1) (now head) ⌝ }
+    ensures { λ _. ⌜ now (room .exit) ≡ applyIf (now (plan .entry)) (now (parts .entry)) write (put 0 1 0 (newKeys (keysOf (join (now (plan .entry)) [] (now (lengths .entry)) (now (places .entry)) (now (body .entry)) first 0)) (lengthOf (join (now (plan .entry)) [] (now (lengths .entry)) (now (places .entry)) (now (body .entry)) first 0) 1)) ∷ []) (now (room .entry)) ⌝ }
 {
-    let w = lookups::width_at(state, 0);
+    let w = lookups::width_at(plan, 0);
     let n = lent_tables::length_of(lengths, first);
     match plan_words::target(
-        state,
+        plan,
         parts,
         room.len(),
         write,
@@ -114,38 +114,38 @@ fn put_keys(
         0,
         plan_words::scale(n, w),
     ) {
-        plan_words::Goal::At(to) => write_keys(room, to, head, state, lengths, places, body, first),
+        plan_words::Goal::At(to) => write_keys(room, to, head, plan, lengths, places, body, first),
         plan_words::Goal::Skip => {}
     }
 }
 
 // The first zero offset of byte strings.
-fn first_entry(state: &[u64], parts: &[u64], room: &mut [u8], write: bool)
-    ensures { λ _. ⌜ ((lengths places body c : List ℕ) (first : ℕ) → Did (now (state .entry)) (now (parts .entry)) write (firstEntry (join (now (state .entry)) (now (parts .entry)) lengths places body first 0) c) (now (room .entry)) 0 c (now (room .exit))) ⌝ }
+fn first_entry(plan: &[u64], parts: &[u64], room: &mut [u8], write: bool)
+    ensures { λ _. ⌜ ((lengths places body c : List ℕ) (first : ℕ) → Did (now (plan .entry)) (now (parts .entry)) write (firstEntry (join (now (plan .entry)) (now (parts .entry)) lengths places body first 0) c) (now (room .entry)) 0 c (now (room .exit))) ⌝ }
 {
-    let code = plan_words::code_of(state, 1);
+    let code = plan_words::code_of(plan, 1);
     if !schema::formats::is_string(code) {
         return;
     }
     let w = schema::formats::width_of(code) as u64;
-    room_writes::put_number(state, parts, room, write, 1, 1, 0, w, 0)
+    room_writes::put_number(plan, parts, room, write, 1, 1, 0, w, 0)
 }
 
 // The ranks of the dictionary's first block, as `reclaim_walk` takes them.
 pub fn head_ranks(
-    state: &[u64],
+    plan: &[u64],
     lengths: &[u64],
     places: &[u64],
     body: &[u8],
     first: usize,
 ) -> [u64; 513]
     requires { ⌜ first < 2 ^ 32 ⌝ }
-    ensures { λ m. ⌜ (keysIn (join (now (state .entry)) [] (now (lengths .entry)) (now (places .entry)) (now (body .entry)) first 0) ≡ true → Head (keysOf (join (now (state .entry)) [] (now (lengths .entry)) (now (places .entry)) (now (body .entry)) first 0)) (lengthOf (join (now (state .entry)) [] (now (lengths .entry)) (now (places .entry)) (now (body .entry)) first 0) 1) m) ⌝ }
+    ensures { λ m. ⌜ (keysIn (join (now (plan .entry)) [] (now (lengths .entry)) (now (places .entry)) (now (body .entry)) first 0) ≡ true → Head (keysOf (join (now (plan .entry)) [] (now (lengths .entry)) (now (places .entry)) (now (body .entry)) first 0)) (lengthOf (join (now (plan .entry)) [] (now (lengths .entry)) (now (places .entry)) (now (body .entry)) first 0) 1) m) ⌝ }
 {
-    if !keys_in(state, lengths, places, body, first) {
+    if !keys_in(plan, lengths, places, body, first) {
         return [0u64; 513];
     }
-    let w = lookups::width_at(state, 0);
+    let w = lookups::width_at(plan, 0);
     let at = lent_tables::place(places, first, 3);
     let masked = is_masked(places, first);
     let mask = lent_tables::place(places, first, 1);
@@ -158,31 +158,31 @@ pub fn head_ranks(
 // THE WALK, with the ranks of the first block.
 pub fn reclaim_walk(
     head: &[u64; 513],
-    state: &[u64],
+    plan: &[u64],
     parts: &[u64],
     lengths: &[u64],
     places: &[u64],
     body: &[u8],
-    counts: &mut [u64; plan_words::COUNTERS],
+    counters: &mut [u64; plan_words::COUNTERS],
     room: &mut [u8],
     write: bool,
     first: usize,
 ) -> u8
     requires { ⌜ first < 2 ^ 32 ⌝ }
-    requires { ⌜ (keysIn (join (now state) [] (now lengths) (now places) (now body) first 0) ≡ true → Head (keysOf (join (now state) [] (now lengths) (now places) (now body) first 0)) (lengthOf (join (now state) [] (now lengths) (now places) (now body) first 0) 1) (now head)) ⌝ }
-    ensures { λ g. ⌜ Did (now (state .entry)) (now (parts .entry)) write (reclaimWalk (join (now (state .entry)) (now (parts .entry)) (now (lengths .entry)) (now (places .entry)) (now (body .entry)) first 0) (now (counts .entry))) (now (room .entry)) g (now (counts .exit)) (now (room .exit)) ⌝ }
+    requires { ⌜ (keysIn (join (now plan) [] (now lengths) (now places) (now body) first 0) ≡ true → Head (keysOf (join (now plan) [] (now lengths) (now places) (now body) first 0)) (lengthOf (join (now plan) [] (now lengths) (now places) (now body) first 0) 1) (now head)) ⌝ }
+    ensures { λ g. ⌜ Did (now (plan .entry)) (now (parts .entry)) write (reclaimWalk (join (now (plan .entry)) (now (parts .entry)) (now (lengths .entry)) (now (places .entry)) (now (body .entry)) first 0) (now (counters .entry))) (now (room .entry)) g (now (counters .exit)) (now (room .exit)) ⌝ }
 {
-    if !keys_in(state, lengths, places, body, first) {
+    if !keys_in(plan, lengths, places, body, first) {
         return 12;
     }
     let off = lent_tables::offset_of(lengths, first);
     let n = lent_tables::length_of(lengths, first);
     let g = leaf_walk::copy_mask(
-        state,
+        plan,
         parts,
         places,
         body,
-        counts,
+        counters,
         room,
         write,
         first,
@@ -193,27 +193,17 @@ pub fn reclaim_walk(
     if g != 0 {
         return g;
     }
-    put_keys(
-        head,
-        state,
-        parts,
-        lengths,
-        places,
-        body,
-        room,
-        write,
-        first,
-    );
-    plan_words::add_rows(counts, 0, n);
-    first_entry(state, parts, room, write);
+    put_keys(head, plan, parts, lengths, places, body, room, write, first);
+    plan_words::add_rows(counters, 0, n);
+    first_entry(plan, parts, room, write);
     entry_copies::copy_entries(
         head,
-        state,
+        plan,
         parts,
         lengths,
         places,
         body,
-        counts,
+        counters,
         room,
         write,
         first,

@@ -66,15 +66,15 @@ room-alike start x y n k m s a b = go (ltb x top) (ltb n top) refl refl
         room-over start x n m (omega arith) ∙ sym (room-over start y k m (omega (arith, b .more h)))
     go true true e f = rw (a .less (ltb-true x top e), b .less (ltb-true n top f))
 
-module _ (state parts : List ℕ) (write : Bool) where
+module _ (plan parts : List ℕ) (write : Bool) where
   -- ---- where a write is placed, as a number of 64 bits
 
-  enter-alike : (i b o o2 : ℕ) (bs room : List ℕ) → length room < top → Alike o o2 → enter state parts (put i b o bs) room ≡ enter state parts (put i b o2 bs) room
+  enter-alike : (i b o o2 : ℕ) (bs room : List ℕ) → length room < top → Alike o o2 → enter plan parts (put i b o bs) room ≡ enter plan parts (put i b o2 bs) room
   unfolding enter
   enter-alike i b o o2 bs room l a = go (ltb o top) refl
     where
       s : ℕ
-      s = startOf state parts i b
+      s = startOf plan parts i b
 
       go : (t : Bool) → ltb o top ≡ t
           → cond (inRoom s o (length bs) (length room)) (splice (s + o) bs room) room ≡ cond (inRoom s o2 (length bs) (length room)) (splice (s + o2) bs room) room
@@ -84,11 +84,11 @@ module _ (state parts : List ℕ) (write : Bool) where
           rw (room-over s o (length bs) (length room) (omega arith), room-over s o2 (length bs) (length room) (omega (arith, a .more h)))
 
   pub place-alike : (i b o o2 : ℕ) (bs room : List ℕ) → length room < top → Alike o o2
-      → applyIf state parts write (put i b o bs ∷ []) room ≡ applyIf state parts write (put i b o2 bs ∷ []) room
+      → applyIf plan parts write (put i b o bs ∷ []) room ≡ applyIf plan parts write (put i b o2 bs ∷ []) room
   unfolding applyIf apply
   place-alike i b o o2 bs room l a = go write
     where
-      go : (t : Bool) → applyIf state parts t (put i b o bs ∷ []) room ≡ applyIf state parts t (put i b o2 bs ∷ []) room
+      go : (t : Bool) → applyIf plan parts t (put i b o bs ∷ []) room ≡ applyIf plan parts t (put i b o2 bs ∷ []) room
       go true = enter-alike i b o o2 bs room l a
       go false = refl
 
@@ -105,46 +105,46 @@ pub record MaskMade (write : Bool) (start p n m : ℕ) : Type 0 where
   pub test : inRoom (8 * start) p n (8 * m) ≡ true
   pub within : 8 * start + p + n ≤ 8 * m
 
-module _ (state parts : List ℕ) (m : ℕ) (write : Bool) (i : ℕ) where
-  pub made : (b o n : ℕ) {g : Goal} {a : ℕ} → g ≡ targetOf state parts m write i b o n → g ≡ At a → Made write (startOf state parts i b) o n m a
+module _ (plan parts : List ℕ) (m : ℕ) (write : Bool) (i : ℕ) where
+  pub made : (b o n : ℕ) {g : Goal} {a : ℕ} → g ≡ targetOf plan parts m write i b o n → g ≡ At a → Made write (startOf plan parts i b) o n m a
   unfolding targetOf
-  made b o n {g} {a} e h = go (write && inRoom (startOf state parts i b) o n m) refl (sym e ∙ h)
+  made b o n {g} {a} e h = go (write && inRoom (startOf plan parts i b) o n m) refl (sym e ∙ h)
     where
-      go : (t : Bool) → write && inRoom (startOf state parts i b) o n m ≡ t → cond t (At (startOf state parts i b + o)) Skip ≡ At a
-          → Made write (startOf state parts i b) o n m a
+      go : (t : Bool) → write && inRoom (startOf plan parts i b) o n m ≡ t → cond t (At (startOf plan parts i b + o)) Skip ≡ At a
+          → Made write (startOf plan parts i b) o n m a
       go true q r =
-          let z : startOf state parts i b + o ≡ a = cc in
+          let z : startOf plan parts i b + o ≡ a = cc in
           let t = and-right write _ q in
-          let d = inside (startOf state parts i b) o n m t in
+          let d = inside (startOf plan parts i b) o n m t in
           record { writes = and-left write _ q; test = t; at = sym z; within = omega arith }
       go false q r = absurd (let z : _≡_ {A = ℕ} 0 1 = cc in omega arith)
 
-  skipped : (b o n : ℕ) {g : Goal} → g ≡ targetOf state parts m write i b o n → g ≡ Skip → write && inRoom (startOf state parts i b) o n m ≡ false
+  skipped : (b o n : ℕ) {g : Goal} → g ≡ targetOf plan parts m write i b o n → g ≡ Skip → write && inRoom (startOf plan parts i b) o n m ≡ false
   unfolding targetOf
-  skipped b o n {g} e h = go (write && inRoom (startOf state parts i b) o n m) (sym e ∙ h)
+  skipped b o n {g} e h = go (write && inRoom (startOf plan parts i b) o n m) (sym e ∙ h)
     where
-      go : (t : Bool) → cond t (At (startOf state parts i b + o)) Skip ≡ Skip → t ≡ false
+      go : (t : Bool) → cond t (At (startOf plan parts i b + o)) Skip ≡ Skip → t ≡ false
       go true r = absurd (let z : _≡_ {A = ℕ} 0 1 = cc in omega arith)
       go false r = refl
 
-  pub mask-made : (p n : ℕ) {g : Goal} {a : ℕ} → g ≡ maskTargetOf state parts m write i p n → g ≡ At a → (MaskMade write (startOf state parts i 0) p n m) × (a ≡ startOf state parts i 0)
+  pub mask-made : (p n : ℕ) {g : Goal} {a : ℕ} → g ≡ maskTargetOf plan parts m write i p n → g ≡ At a → (MaskMade write (startOf plan parts i 0) p n m) × (a ≡ startOf plan parts i 0)
   unfolding maskTargetOf
-  mask-made p n {g} {a} e h = go (write && inRoom (8 * startOf state parts i 0) p n (8 * m)) refl (sym e ∙ h)
+  mask-made p n {g} {a} e h = go (write && inRoom (8 * startOf plan parts i 0) p n (8 * m)) refl (sym e ∙ h)
     where
-      go : (t : Bool) → write && inRoom (8 * startOf state parts i 0) p n (8 * m) ≡ t → cond t (At (startOf state parts i 0)) Skip ≡ At a
-          → (MaskMade write (startOf state parts i 0) p n m) × (a ≡ startOf state parts i 0)
+      go : (t : Bool) → write && inRoom (8 * startOf plan parts i 0) p n (8 * m) ≡ t → cond t (At (startOf plan parts i 0)) Skip ≡ At a
+          → (MaskMade write (startOf plan parts i 0) p n m) × (a ≡ startOf plan parts i 0)
       go true q r =
-          let z : startOf state parts i 0 ≡ a = cc in
+          let z : startOf plan parts i 0 ≡ a = cc in
           let t = and-right write _ q in
-          let d = inside (8 * startOf state parts i 0) p n (8 * m) t in
+          let d = inside (8 * startOf plan parts i 0) p n (8 * m) t in
           (record { writes = and-left write _ q; test = t; within = d }, sym z)
       go false q r = absurd (let z : _≡_ {A = ℕ} 0 1 = cc in omega arith)
 
-  mask-skipped : (p n : ℕ) {g : Goal} → g ≡ maskTargetOf state parts m write i p n → g ≡ Skip → write && inRoom (8 * startOf state parts i 0) p n (8 * m) ≡ false
+  mask-skipped : (p n : ℕ) {g : Goal} → g ≡ maskTargetOf plan parts m write i p n → g ≡ Skip → write && inRoom (8 * startOf plan parts i 0) p n (8 * m) ≡ false
   unfolding maskTargetOf
-  mask-skipped p n {g} e h = go (write && inRoom (8 * startOf state parts i 0) p n (8 * m)) (sym e ∙ h)
+  mask-skipped p n {g} e h = go (write && inRoom (8 * startOf plan parts i 0) p n (8 * m)) (sym e ∙ h)
     where
-      go : (t : Bool) → cond t (At (startOf state parts i 0)) Skip ≡ Skip → t ≡ false
+      go : (t : Bool) → cond t (At (startOf plan parts i 0)) Skip ≡ Skip → t ≡ false
       go true r = absurd (let z : _≡_ {A = ℕ} 0 1 = cc in omega arith)
       go false r = refl
 
@@ -158,39 +158,39 @@ alike-sized n w e = rw (e ∙ mul-comm w n) (alike-scaled n w)
 
 -- ---- the room behind a write
 
-module _ (state parts : List ℕ) (write : Bool) (i : ℕ) where
-  pub put-at : (b o : ℕ) (bs room : List ℕ) {n : ℕ} {g : Goal} {a : ℕ} {room2 : List ℕ} → length room < top → g ≡ targetOf state parts (length room) write i b o n → g ≡ At a → Alike n (length bs)
-      → room2 ≡ splice a bs room → room2 ≡ applyIf state parts write (put i b o bs ∷ []) room
+module _ (plan parts : List ℕ) (write : Bool) (i : ℕ) where
+  pub put-at : (b o : ℕ) (bs room : List ℕ) {n : ℕ} {g : Goal} {a : ℕ} {room2 : List ℕ} → length room < top → g ≡ targetOf plan parts (length room) write i b o n → g ≡ At a → Alike n (length bs)
+      → room2 ≡ splice a bs room → room2 ≡ applyIf plan parts write (put i b o bs ∷ []) room
   unfolding applyIf apply enter
   put-at b o bs room {n} l e h k r =
-      let d = made state parts (length room) write i b o n e h in
-      let s = startOf state parts i b in
+      let d = made plan parts (length room) write i b o n e h in
+      let s = startOf plan parts i b in
       r ∙ rw (d .writes, sym (room-alike s o o n (length bs) (length room) l (alike-same refl) k) ∙ d .test) (ap (λ (z : ℕ). splice z bs room) (d .at))
 
-  pub put-skip : (b o : ℕ) (bs room : List ℕ) {n : ℕ} {g : Goal} → length room < top → g ≡ targetOf state parts (length room) write i b o n → g ≡ Skip → Alike n (length bs)
-      → room ≡ applyIf state parts write (put i b o bs ∷ []) room
+  pub put-skip : (b o : ℕ) (bs room : List ℕ) {n : ℕ} {g : Goal} → length room < top → g ≡ targetOf plan parts (length room) write i b o n → g ≡ Skip → Alike n (length bs)
+      → room ≡ applyIf plan parts write (put i b o bs ∷ []) room
   unfolding applyIf apply enter
-  put-skip b o bs room {n} l e h k = go write (skipped state parts (length room) write i b o n e h)
+  put-skip b o bs room {n} l e h k = go write (skipped plan parts (length room) write i b o n e h)
     where
       s : ℕ
-      s = startOf state parts i b
+      s = startOf plan parts i b
 
-      go : (t : Bool) → t && inRoom s o n (length room) ≡ false → room ≡ applyIf state parts t (put i b o bs ∷ []) room
+      go : (t : Bool) → t && inRoom s o n (length room) ≡ false → room ≡ applyIf plan parts t (put i b o bs ∷ []) room
       go true q = rw (sym (room-alike s o o n (length bs) (length room) l (alike-same refl) k) ∙ q)
       go false q = refl
 
-  pub mask-at : (p n : ℕ) (vs room : List ℕ) {g : Goal} {a : ℕ} {room2 : List ℕ} → g ≡ maskTargetOf state parts (length room) write i p n → g ≡ At a → length vs ≡ n
-      → room2 ≡ putBits (8 * a + p) vs room → room2 ≡ applyIf state parts write (mask i p vs ∷ []) room
+  pub mask-at : (p n : ℕ) (vs room : List ℕ) {g : Goal} {a : ℕ} {room2 : List ℕ} → g ≡ maskTargetOf plan parts (length room) write i p n → g ≡ At a → length vs ≡ n
+      → room2 ≡ putBits (8 * a + p) vs room → room2 ≡ applyIf plan parts write (mask i p vs ∷ []) room
   unfolding applyIf apply enter
   mask-at p n vs room e h k r =
-      let d = mask-made state parts (length room) write i p n e h in
+      let d = mask-made plan parts (length room) write i p n e h in
       r ∙ rw (d .0 .writes, k, d .0 .test) (ap (λ (z : ℕ). putBits (8 * z + p) vs room) (d .1))
 
-  pub mask-skip : (p n : ℕ) (vs room : List ℕ) {g : Goal} → g ≡ maskTargetOf state parts (length room) write i p n → g ≡ Skip → length vs ≡ n
-      → room ≡ applyIf state parts write (mask i p vs ∷ []) room
+  pub mask-skip : (p n : ℕ) (vs room : List ℕ) {g : Goal} → g ≡ maskTargetOf plan parts (length room) write i p n → g ≡ Skip → length vs ≡ n
+      → room ≡ applyIf plan parts write (mask i p vs ∷ []) room
   unfolding applyIf apply enter
-  mask-skip p n vs room e h k = go write (mask-skipped state parts (length room) write i p n e h)
+  mask-skip p n vs room e h k = go write (mask-skipped plan parts (length room) write i p n e h)
     where
-      go : (t : Bool) → t && inRoom (8 * startOf state parts i 0) p n (8 * length room) ≡ false → room ≡ applyIf state parts t (mask i p vs ∷ []) room
+      go : (t : Bool) → t && inRoom (8 * startOf plan parts i 0) p n (8 * length room) ≡ false → room ≡ applyIf plan parts t (mask i p vs ∷ []) room
       go true q = rw (k, q)
       go false q = refl

@@ -87,7 +87,7 @@ fn write_keys(
 
 // The first n keys of node i of those at `from`, w bytes each, each plus base.
 pub fn put_keys(
-    state: &[u64],
+    plan: &[u64],
     parts: &[u64],
     room: &mut [u8],
     write: bool,
@@ -102,12 +102,12 @@ pub fn put_keys(
 )
     requires { ⌜ (i < 32) × (b < 3) × (from + w * n ≤ length (now body)) ⌝ }
     requires { ⌜ ((w ≡ 1 → ⊥) → (w ≡ 2 → ⊥) → (w ≡ 4 → ⊥) → w ≡ 8) ⌝ }
-    requires { ⌜ w ≡ bytesOf (now state) i ⌝ }
-    ensures { λ _. ⌜ now (room .exit) ≡ applyIf (now (state .entry)) (now (parts .entry)) write (put i b o (rebased w (now (body .entry)) from base n) ∷ []) (now (room .entry)) ⌝ }
+    requires { ⌜ w ≡ bytesOf (now plan) i ⌝ }
+    ensures { λ _. ⌜ now (room .exit) ≡ applyIf (now (plan .entry)) (now (parts .entry)) write (put i b o (rebased w (now (body .entry)) from base n) ∷ []) (now (room .entry)) ⌝ }
 {
-    let code = plan_words::code_of(state, i);
+    let code = plan_words::code_of(plan, i);
     match plan_words::target(
-        state,
+        plan,
         parts,
         room.len(),
         write,

@@ -15,7 +15,7 @@ pub mod variable_size;
 
 // n bytes of body from `from` on.
 pub fn put_copy(
-    state: &[u64],
+    plan: &[u64],
     parts: &[u64],
     room: &mut [u8],
     write: bool,
@@ -27,9 +27,9 @@ pub fn put_copy(
     n: u64,
 )
     requires { ⌜ (i < 32) × (b < 3) × (from + n ≤ length (now body)) ⌝ }
-    ensures { λ _. ⌜ now (room .exit) ≡ applyIf (now (state .entry)) (now (parts .entry)) write (put i b o (take n (drop from (now (body .entry)))) ∷ []) (now (room .entry)) ⌝ }
+    ensures { λ _. ⌜ now (room .exit) ≡ applyIf (now (plan .entry)) (now (parts .entry)) write (put i b o (take n (drop from (now (body .entry)))) ∷ []) (now (room .entry)) ⌝ }
 {
-    match plan_words::target(state, parts, room.len(), write, i, b, o, n) {
+    match plan_words::target(plan, parts, room.len(), write, i, b, o, n) {
         plan_words::Goal::At(at) => number::copy::copy_bytes(room, at, body, from, n as usize),
         plan_words::Goal::Skip => {}
     }
@@ -37,7 +37,7 @@ pub fn put_copy(
 
 // n entries of w bytes, all zeros.
 pub fn put_zeros(
-    state: &[u64],
+    plan: &[u64],
     parts: &[u64],
     room: &mut [u8],
     write: bool,
@@ -48,10 +48,10 @@ pub fn put_zeros(
     n: u64,
 )
     requires { ⌜ (i < 32) × (b < 3) × (1 ≤ w) × (w ≤ 16) ⌝ }
-    ensures { λ _. ⌜ now (room .exit) ≡ applyIf (now (state .entry)) (now (parts .entry)) write (put i b o (replicate (n * w) 0) ∷ []) (now (room .entry)) ⌝ }
+    ensures { λ _. ⌜ now (room .exit) ≡ applyIf (now (plan .entry)) (now (parts .entry)) write (put i b o (replicate (n * w) 0) ∷ []) (now (room .entry)) ⌝ }
 {
     let size = plan_words::scale(n, w);
-    match plan_words::target(state, parts, room.len(), write, i, b, o, size) {
+    match plan_words::target(plan, parts, room.len(), write, i, b, o, size) {
         plan_words::Goal::At(at) => number::copy::fill_zeros(room, at, size as usize),
         plan_words::Goal::Skip => {}
     }
@@ -59,7 +59,7 @@ pub fn put_zeros(
 
 // The byte v, n times.
 pub fn put_same(
-    state: &[u64],
+    plan: &[u64],
     parts: &[u64],
     room: &mut [u8],
     write: bool,
@@ -70,9 +70,9 @@ pub fn put_same(
     v: u8,
 )
     requires { ⌜ (i < 32) × (b < 3) ⌝ }
-    ensures { λ _. ⌜ now (room .exit) ≡ applyIf (now (state .entry)) (now (parts .entry)) write (put i b o (replicate n v) ∷ []) (now (room .entry)) ⌝ }
+    ensures { λ _. ⌜ now (room .exit) ≡ applyIf (now (plan .entry)) (now (parts .entry)) write (put i b o (replicate n v) ∷ []) (now (room .entry)) ⌝ }
 {
-    match plan_words::target(state, parts, room.len(), write, i, b, o, n) {
+    match plan_words::target(plan, parts, room.len(), write, i, b, o, n) {
         plan_words::Goal::At(at) => number::copy::fill_bytes(room, at, n as usize, v),
         plan_words::Goal::Skip => {}
     }
@@ -94,7 +94,7 @@ fn write_number(room: &mut [u8], at: usize, w: u64, v: u64)
 
 // The w lowest bytes of v.
 pub fn put_number(
-    state: &[u64],
+    plan: &[u64],
     parts: &[u64],
     room: &mut [u8],
     write: bool,
@@ -106,9 +106,9 @@ pub fn put_number(
 )
     requires { ⌜ (i < 32) × (b < 3) ⌝ }
     requires { ⌜ ((w ≡ 1 → ⊥) → (w ≡ 2 → ⊥) → (w ≡ 4 → ⊥) → w ≡ 8) ⌝ }
-    ensures { λ _. ⌜ now (room .exit) ≡ applyIf (now (state .entry)) (now (parts .entry)) write (put i b o (encode w v) ∷ []) (now (room .entry)) ⌝ }
+    ensures { λ _. ⌜ now (room .exit) ≡ applyIf (now (plan .entry)) (now (parts .entry)) write (put i b o (encode w v) ∷ []) (now (room .entry)) ⌝ }
 {
-    match plan_words::target(state, parts, room.len(), write, i, b, o, w) {
+    match plan_words::target(plan, parts, room.len(), write, i, b, o, w) {
         plan_words::Goal::At(at) => write_number(room, at, w, v),
         plan_words::Goal::Skip => {}
     }
@@ -116,7 +116,7 @@ pub fn put_number(
 
 // The first n views of those at `from`, the buffer number of each raised by base.
 pub fn put_views(
-    state: &[u64],
+    plan: &[u64],
     parts: &[u64],
     room: &mut [u8],
     write: bool,
@@ -129,10 +129,10 @@ pub fn put_views(
     base: u64,
 )
     requires { ⌜ (i < 32) × (b < 3) × (from + 16 * n ≤ length (now body)) ⌝ }
-    ensures { λ _. ⌜ now (room .exit) ≡ applyIf (now (state .entry)) (now (parts .entry)) write (put i b o (reviewed (now (body .entry)) from base n) ∷ []) (now (room .entry)) ⌝ }
+    ensures { λ _. ⌜ now (room .exit) ≡ applyIf (now (plan .entry)) (now (parts .entry)) write (put i b o (reviewed (now (body .entry)) from base n) ∷ []) (now (room .entry)) ⌝ }
 {
     match plan_words::target(
-        state,
+        plan,
         parts,
         room.len(),
         write,

@@ -34,7 +34,7 @@ fn write_run_ends(
 
 // The n run ends of w bytes of those at `from`, clipped to the rows start .. end - 1, after the run end `last`.
 pub fn put_run_ends(
-    state: &[u64],
+    plan: &[u64],
     parts: &[u64],
     room: &mut [u8],
     write: bool,
@@ -51,10 +51,10 @@ pub fn put_run_ends(
 )
     requires { ⌜ (i < 32) × (b < 3) × (from + w * n ≤ length (now body)) × (last + (end .0 - start .0) < 256 ^ w / 2) ⌝ }
     requires { ⌜ ((w ≡ 2 → ⊥) → (w ≡ 4 → ⊥) → w ≡ 8) ⌝ }
-    ensures { λ _. ⌜ now (room .exit) ≡ applyIf (now (state .entry)) (now (parts .entry)) write (put i b o (clipped w (now (body .entry)) from n (start .0) (end .0) last) ∷ []) (now (room .entry)) ⌝ }
+    ensures { λ _. ⌜ now (room .exit) ≡ applyIf (now (plan .entry)) (now (parts .entry)) write (put i b o (clipped w (now (body .entry)) from n (start .0) (end .0) last) ∷ []) (now (room .entry)) ⌝ }
 {
     match plan_words::target(
-        state,
+        plan,
         parts,
         room.len(),
         write,

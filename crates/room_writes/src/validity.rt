@@ -9,7 +9,7 @@ use walk::plan_words;
 
 // n bits of body, from the bit a of the byte `from` on. How many of them are 0.
 pub fn put_mask(
-    state: &[u64],
+    plan: &[u64],
     parts: &[u64],
     room: &mut [u8],
     write: bool,
@@ -21,10 +21,10 @@ pub fn put_mask(
     n: u64,
 ) -> u64
     requires { ⌜ (i < 32) × (8 * from + a + n ≤ 8 * length (now body)) ⌝ }
-    ensures { λ _. ⌜ now (room .exit) ≡ applyIf (now (state .entry)) (now (parts .entry)) write (mask i p (bitsAt (8 * from + a) n (now (body .entry))) ∷ []) (now (room .entry)) ⌝ }
+    ensures { λ _. ⌜ now (room .exit) ≡ applyIf (now (plan .entry)) (now (parts .entry)) write (mask i p (bitsAt (8 * from + a) n (now (body .entry))) ∷ []) (now (room .entry)) ⌝ }
     ensures { λ r. ⌜ r ≡ zeros (bitsAt (8 * from + a) n (now (body .entry))) ⌝ }
 {
-    match plan_words::mask_target(state, parts, room.len(), write, i, p, n) {
+    match plan_words::mask_target(plan, parts, room.len(), write, i, p, n) {
         plan_words::Goal::At(at) => bits::copy_bits(
             room,
             at,
@@ -39,19 +39,11 @@ pub fn put_mask(
 }
 
 // n ones.
-pub fn put_ones(
-    state: &[u64],
-    parts: &[u64],
-    room: &mut [u8],
-    write: bool,
-    i: usize,
-    p: u64,
-    n: u64,
-)
+pub fn put_ones(plan: &[u64], parts: &[u64], room: &mut [u8], write: bool, i: usize, p: u64, n: u64)
     requires { ⌜ i < 32 ⌝ }
-    ensures { λ _. ⌜ now (room .exit) ≡ applyIf (now (state .entry)) (now (parts .entry)) write (mask i p (replicate n 1) ∷ []) (now (room .entry)) ⌝ }
+    ensures { λ _. ⌜ now (room .exit) ≡ applyIf (now (plan .entry)) (now (parts .entry)) write (mask i p (replicate n 1) ∷ []) (now (room .entry)) ⌝ }
 {
-    match plan_words::mask_target(state, parts, room.len(), write, i, p, n) {
+    match plan_words::mask_target(plan, parts, room.len(), write, i, p, n) {
         plan_words::Goal::At(at) => bits::append_ones(room, at, p as usize, n as usize),
         plan_words::Goal::Skip => {}
     }
@@ -59,7 +51,7 @@ pub fn put_ones(
 
 // n zeros.
 pub fn put_null_bits(
-    state: &[u64],
+    plan: &[u64],
     parts: &[u64],
     room: &mut [u8],
     write: bool,
@@ -68,9 +60,9 @@ pub fn put_null_bits(
     n: u64,
 )
     requires { ⌜ i < 32 ⌝ }
-    ensures { λ _. ⌜ now (room .exit) ≡ applyIf (now (state .entry)) (now (parts .entry)) write (mask i p (replicate n 0) ∷ []) (now (room .entry)) ⌝ }
+    ensures { λ _. ⌜ now (room .exit) ≡ applyIf (now (plan .entry)) (now (parts .entry)) write (mask i p (replicate n 0) ∷ []) (now (room .entry)) ⌝ }
 {
-    match plan_words::mask_target(state, parts, room.len(), write, i, p, n) {
+    match plan_words::mask_target(plan, parts, room.len(), write, i, p, n) {
         plan_words::Goal::At(at) => bits::append_zeros(room, at, p as usize, n as usize),
         plan_words::Goal::Skip => {}
     }

@@ -22,7 +22,7 @@ fn write_offsets(room: &mut [u8], at: usize, w: u64, body: &[u8], from: usize, n
 
 // The n offsets of w bytes after the first of those at `from`, moved to follow `last`.
 pub fn put_offsets(
-    state: &[u64],
+    plan: &[u64],
     parts: &[u64],
     room: &mut [u8],
     write: bool,
@@ -37,10 +37,10 @@ pub fn put_offsets(
 )
     requires { ⌜ (i < 32) × (b < 3) × (from + w * (n + 1) ≤ length (now body)) ⌝ }
     requires { ⌜ ((w ≡ 4 → ⊥) → w ≡ 8) ⌝ }
-    ensures { λ _. ⌜ now (room .exit) ≡ applyIf (now (state .entry)) (now (parts .entry)) write (put i b o (movedOffsets w (now (body .entry)) from last n) ∷ []) (now (room .entry)) ⌝ }
+    ensures { λ _. ⌜ now (room .exit) ≡ applyIf (now (plan .entry)) (now (parts .entry)) write (put i b o (movedOffsets w (now (body .entry)) from last n) ∷ []) (now (room .entry)) ⌝ }
 {
     match plan_words::target(
-        state,
+        plan,
         parts,
         room.len(),
         write,
@@ -68,7 +68,7 @@ fn write_repeated(room: &mut [u8], at: usize, w: u64, n: usize, v: u64)
 
 // The offset v of w bytes, n times.
 pub fn put_repeated(
-    state: &[u64],
+    plan: &[u64],
     parts: &[u64],
     room: &mut [u8],
     write: bool,
@@ -81,10 +81,10 @@ pub fn put_repeated(
 )
     requires { ⌜ (i < 32) × (b < 3) ⌝ }
     requires { ⌜ ((w ≡ 4 → ⊥) → w ≡ 8) ⌝ }
-    ensures { λ _. ⌜ now (room .exit) ≡ applyIf (now (state .entry)) (now (parts .entry)) write (put i b o (repeated w v n) ∷ []) (now (room .entry)) ⌝ }
+    ensures { λ _. ⌜ now (room .exit) ≡ applyIf (now (plan .entry)) (now (parts .entry)) write (put i b o (repeated w v n) ∷ []) (now (room .entry)) ⌝ }
 {
     match plan_words::target(
-        state,
+        plan,
         parts,
         room.len(),
         write,
@@ -100,7 +100,7 @@ pub fn put_repeated(
 
 // first, first + 1, and so on, n of them: positions of 4 bytes.
 pub fn put_counted(
-    state: &[u64],
+    plan: &[u64],
     parts: &[u64],
     room: &mut [u8],
     write: bool,
@@ -111,10 +111,10 @@ pub fn put_counted(
     first: u64,
 )
     requires { ⌜ (i < 32) × (b < 3) ⌝ }
-    ensures { λ _. ⌜ now (room .exit) ≡ applyIf (now (state .entry)) (now (parts .entry)) write (put i b o (countedUp 4 first n) ∷ []) (now (room .entry)) ⌝ }
+    ensures { λ _. ⌜ now (room .exit) ≡ applyIf (now (plan .entry)) (now (parts .entry)) write (put i b o (countedUp 4 first n) ∷ []) (now (room .entry)) ⌝ }
 {
     match plan_words::target(
-        state,
+        plan,
         parts,
         room.len(),
         write,

@@ -6,14 +6,14 @@ ghost use Rattle.sound.specs.trying.Alike.{Alike, Full};
 use walk::plan_words;
 
 // Fills the null counters of the first n nodes.
-pub fn uncount(counts: &mut [u64; plan_words::COUNTERS], n: usize)
+pub fn uncount(counters: &mut [u64; plan_words::COUNTERS], n: usize)
     requires { ⌜ n ≤ 32 ⌝ }
-    ensures { λ _. ⌜ Alike (now (counts .exit)) (now (counts .entry)) ⌝ }
-    ensures { λ _. ⌜ (length (now (counts .entry)) ≡ 96 → Full n (now (counts .exit))) ⌝ }
+    ensures { λ _. ⌜ Alike (now (counters .exit)) (now (counters .entry)) ⌝ }
+    ensures { λ _. ⌜ (length (now (counters .entry)) ≡ 96 → Full n (now (counters .exit))) ⌝ }
 {
     let mut i = 0;
     while i < n {
-        counts[3 * i + 1] = u64::MAX;
+        counters[3 * i + 1] = u64::MAX;
         i += 1;
     }
 }

@@ -23,7 +23,7 @@ pub record Sized (m : ℕ) (c : List ℕ) : Type 0 where
 
 -- .. are left
 pub record Long (m : ℕ) (o : Out) : Type 0 where
-  pub left : Sized m (o .counts)
+  pub left : Sized m (o .counters)
 
 module _ {m : ℕ} where
   pub long-done : {c : List ℕ} → Sized m c → Long m (done c)
@@ -52,7 +52,7 @@ module _ {m : ℕ} where
 
   pub long-next : {o : Out} (k : List ℕ → Out) → Long m o → ((c : List ℕ) → Sized m c → Long m (k c)) → Long m (next o k)
   unfolding next
-  long-next {o} k h q = long-cond (eqb (o .ans) 0) (record { left = q (o .counts) (h .left) .left }) h
+  long-next {o} k h q = long-cond (eqb (o .ans) 0) (record { left = q (o .counters) (h .left) .left }) h
 
   long-each : (f : ℕ → List ℕ → Out) → ((r : ℕ) (c : List ℕ) → Sized m c → Long m (f r c)) → (n r : ℕ) {c : List ℕ} → Sized m c → Long m (each f n r c)
   unfolding each
@@ -69,15 +69,15 @@ module _ {m : ℕ} where
       long-mask : (slot n : ℕ) {c : List ℕ} → Sized m c → Long m (copyMask x i slot n c)
       unfolding copyMask copyBits
       long-mask slot n h =
-          long-cond (eqb (keepsOf (x .state) i) 0) (long-done h)
+          long-cond (eqb (keepsOf (x .plan) i) 0) (long-done h)
           (long-cond (eqb (place x i 0) 0) (long-wrote _ h) (long-need _ 12 h (long-next _ (long-wrote _ h) (λ c2 g. long-done (sized-set (3 * i + 1) _ g)))))
 
-      long-null-mask : (n : ℕ) {c : List ℕ} → Sized m c → Long m (cond (masked (codeOf (x .state) i)) (nullMask x i n c) (countNulls x i n c))
+      long-null-mask : (n : ℕ) {c : List ℕ} → Sized m c → Long m (cond (masked (codeOf (x .plan) i)) (nullMask x i n c) (countNulls x i n c))
       unfolding nullMask countNulls
       long-null-mask n h =
-          long-cond (masked (codeOf (x .state) i))
-          (long-cond (eqb (keepsOf (x .state) i) 0) (long-done h) (long-next _ (long-wrote _ h) (λ c2 g. long-done (sized-set (3 * i + 1) _ g))))
-          (long-cond (eqb (keepsOf (x .state) i) 0) (long-done h) (long-done (sized-set (3 * i + 1) _ h)))
+          long-cond (masked (codeOf (x .plan) i))
+          (long-cond (eqb (keepsOf (x .plan) i) 0) (long-done h) (long-next _ (long-wrote _ h) (λ c2 g. long-done (sized-set (3 * i + 1) _ g))))
+          (long-cond (eqb (keepsOf (x .plan) i) 0) (long-done h) (long-done (sized-set (3 * i + 1) _ h)))
 
       long-extended : (w from n : ℕ) (e : Extended) {c : List ℕ} → Sized m c → Long m (putExtended x i w from n e c)
       unfolding putString
@@ -115,11 +115,11 @@ module _ {m : ℕ} where
       long-fields : (slot n end f k : ℕ) {c : List ℕ} → Sized m c → Long m (copyFields x walk slot n end f k c)
       unfolding copyFields
       long-fields slot n end zero k h = long-done h
-      long-fields slot n end (suc f) k h = long-cond (ltb k end) (long-next _ (below k slot n _ h) (λ c2 g. long-fields slot n end f (endOf (x .state) k) g)) (long-done h)
+      long-fields slot n end (suc f) k h = long-cond (ltb k end) (long-next _ (below k slot n _ h) (λ c2 g. long-fields slot n end f (endOf (x .plan) k) g)) (long-done h)
 
       long-sparse : (slot n : ℕ) {c : List ℕ} → Sized m c → Long m (copySparse x walk i slot n c)
       unfolding copySparse
-      long-sparse slot n h = long-need _ 12 h (long-next _ (long-wrote _ h) (λ c2 g. long-fields slot n (endOf (x .state) i) 32 (suc i) g))
+      long-sparse slot n h = long-need _ 12 h (long-next _ (long-wrote _ h) (λ c2 g. long-fields slot n (endOf (x .plan) i) 32 (suc i) g))
 
       long-dense : (slot n : ℕ) {c : List ℕ} → Sized m c → Long m (copyDense x walk i slot n c)
       unfolding copyDense denseRow denseTo
@@ -135,12 +135,12 @@ module _ {m : ℕ} where
       unfolding copyRuns
       long-runs slot n h =
           long-cond (eqb n 0) (long-done h)
-          (long-need _ 12 h (long-need _ 7 h (long-need _ 12 h (long-put (bytesOf (x .state) (suc i)) slot n (runsAt x walk (bytesOf (x .state) (suc i)) i slot n) h))))
+          (long-need _ 12 h (long-need _ 7 h (long-need _ 12 h (long-put (bytesOf (x .plan) (suc i)) slot n (runsAt x walk (bytesOf (x .plan) (suc i)) i slot n) h))))
 
       long-data : (code slot n : ℕ) {c : List ℕ} → Sized m c → Long m (copyData x walk code i slot n c)
       unfolding copyData copyNumbers copyKeys copyViews
       long-data code slot n h =
-          long-cond (isFixed code) (long-cond (eqb (dictionaryOf (x .state) i) 0) (long-need _ 12 h (long-wrote _ h)) (long-need _ 12 h (long-wrote _ h)))
+          long-cond (isFixed code) (long-cond (eqb (dictionaryOf (x .plan) i) 0) (long-need _ 12 h (long-wrote _ h)) (long-need _ 12 h (long-wrote _ h)))
           (long-cond (isString code) (long-string i _ slot n h)
           (long-cond (isView code) (long-need _ 12 h (long-wrote _ h))
           (long-cond (isListView code) (long-list-view _ slot n h)
@@ -155,8 +155,8 @@ module _ {m : ℕ} where
       long-node a n h =
           long-need _ 12 h
           (long-found far _ 12 _ h
-          (long-next _ (long-cond (masked (codeOf (x .state) i)) (long-mask i _ n h) (long-done h))
-          (λ c2 g. long-next _ (long-data (codeOf (x .state) i) _ n g) (λ c3 k. long-done (sized-set (3 * i) _ k)))))
+          (long-next _ (long-cond (masked (codeOf (x .plan) i)) (long-mask i _ n h) (long-done h))
+          (λ c2 g. long-next _ (long-data (codeOf (x .plan) i) _ n g) (λ c3 k. long-done (sized-set (3 * i) _ k)))))
 
     pub long-copy : (depth i a n : ℕ) {c : List ℕ} → Sized m c → Long m (copyWalk x depth i a n c)
     unfolding copyWalk
@@ -169,11 +169,11 @@ module _ {m : ℕ} where
       long-null-fields : (n end f k : ℕ) {c : List ℕ} → Sized m c → Long m (nullFields x walk n end f k c)
       unfolding nullFields
       long-null-fields n end zero k h = long-done h
-      long-null-fields n end (suc f) k h = long-cond (ltb k end) (long-next _ (below k n _ h) (λ c2 g. long-null-fields n end f (endOf (x .state) k) g)) (long-done h)
+      long-null-fields n end (suc f) k h = long-cond (ltb k end) (long-next _ (below k n _ h) (λ c2 g. long-null-fields n end f (endOf (x .plan) k) g)) (long-done h)
 
       long-null-sparse : (n : ℕ) {c : List ℕ} → Sized m c → Long m (nullSparse x walk i n c)
       unfolding nullSparse
-      long-null-sparse n h = long-found 32 _ _ _ h (long-next _ (long-wrote _ h) (λ c2 g. long-null-fields n (endOf (x .state) i) 32 (suc i) g))
+      long-null-sparse n h = long-found 32 _ _ _ h (long-next _ (long-wrote _ h) (λ c2 g. long-null-fields n (endOf (x .plan) i) 32 (suc i) g))
 
       long-null-dense : (n : ℕ) {c : List ℕ} → Sized m c → Long m (nullDense x walk i n c)
       unfolding nullDense
@@ -204,7 +204,7 @@ module _ {m : ℕ} where
       long-null-node n h =
           long-cond (eqb n 0) (long-done h)
           (long-need _ 12 h
-          (long-next _ (long-null-data (codeOf (x .state) i) n h) (λ c2 g. long-next _ (long-null-mask i n g) (λ c3 k. long-done (sized-set (3 * i) _ k)))))
+          (long-next _ (long-null-data (codeOf (x .plan) i) n h) (λ c2 g. long-next _ (long-null-mask i n g) (λ c3 k. long-done (sized-set (3 * i) _ k)))))
 
     pub long-nulls : (depth i n : ℕ) {c : List ℕ} → Sized m c → Long m (nullWalk x depth i n c)
     unfolding nullWalk

@@ -6,7 +6,7 @@ use Rattle.refinement.specs.orders.Order.{After}
 pub use Rattle.refinement.specs.orders.Order.{lent}
 
 -- the ground that is answered, and the counters and the room as they are left
-pub record Answers (a : After) (r : ℕ) (counters bytes : List ℕ) : Type 0 where
+pub record Answers (a : After) (r : ℕ) (tally bytes : List ℕ) : Type 0 where
   pub ground : r ≡ a .ground
-  pub counts : counters ≡ a .counts
+  pub counters : tally ≡ a .counters
   pub room : bytes ≡ a .room

@@ -35,30 +35,30 @@ pub fn load(counters: &[u64]) -> [u64; plan_words::COUNTERS]
     requires { ⌜ length (now counters) ≡ 96 ⌝ }
     ensures { λ r. ⌜ r ≡ now (counters .entry) ⌝ }
 {
-    let mut counts = [0u64; plan_words::COUNTERS];
+    let mut tally = [0u64; plan_words::COUNTERS];
     let mut i = 0;
     while i < plan_words::COUNTERS {
-        counts[i] = counters[i];
+        tally[i] = counters[i];
         i += 1;
     }
-    counts
+    tally
 }
 
 // A copy; that it has 96 elements is known of an array that a call returns.
-pub fn copied(counts: [u64; plan_words::COUNTERS]) -> [u64; plan_words::COUNTERS]
-    ensures { λ r. ⌜ r ≡ counts ⌝ }
+pub fn copied(counters: [u64; plan_words::COUNTERS]) -> [u64; plan_words::COUNTERS]
+    ensures { λ r. ⌜ r ≡ counters ⌝ }
 {
-    counts
+    counters
 }
 
 // The counters as the array has them.
-pub fn store(counters: &mut [u64], counts: &[u64; plan_words::COUNTERS])
-    requires { ⌜ (length (now counters) ≡ 96) × (length (now counts) ≡ 96) ⌝ }
-    ensures { λ _. ⌜ now (counters .exit) ≡ now (counts .entry) ⌝ }
+pub fn store(counters: &mut [u64], tally: &[u64; plan_words::COUNTERS])
+    requires { ⌜ (length (now counters) ≡ 96) × (length (now tally) ≡ 96) ⌝ }
+    ensures { λ _. ⌜ now (counters .exit) ≡ now (tally .entry) ⌝ }
 {
     let mut i = 0;
     while i < plan_words::COUNTERS {
-        counters[i] = counts[i];
+        counters[i] = tally[i];
         i += 1;
     }
 }
@@ -96,14 +96,14 @@ fn copy_rows(
     ensures { λ r. ⌜ ((sources : List ℕ) → Answers (settled (lent (now (plan .entry)) (now (parts .entry)) sources (now (lengths .entry)) (now (places .entry)) (now (body .entry))) (now (counters .entry)) (now (room .entry)) (copyWalk (join (now (plan .entry)) (now (parts .entry)) (now (lengths .entry)) (now (places .entry)) (now (body .entry)) first source) 8 0 start n (now (counters .entry)))) r (now (counters .exit)) (now (room .exit))) ⌝ }
 {
     let nodes = plan::parts::node_count(plan);
-    let mut counts = tried_counters::uncounted(counters, nodes);
+    let mut tally = tried_counters::uncounted(counters, nodes);
     let g = extend::extend(
         plan,
         parts,
         lengths,
         places,
         body,
-        &mut counts,
+        &mut tally,
         room,
         false,
         source,
@@ -116,18 +116,18 @@ fn copy_rows(
     if g != 0 {
         return g;
     }
-    let g = grounds::parts_ground(plan, &counts, parts, room.len());
+    let g = grounds::parts_ground(plan, &tally, parts, room.len());
     if g != 0 {
         return g;
     }
-    tried_counters::reload(&mut counts, counters, nodes);
+    tried_counters::reload(&mut tally, counters, nodes);
     let g = extend::extend(
         plan,
         parts,
         lengths,
         places,
         body,
-        &mut counts,
+        &mut tally,
         room,
         true,
         source,
@@ -137,7 +137,7 @@ fn copy_rows(
         n,
         8,
     );
-    tried_counters::keep(counters, &counts, nodes);
+    tried_counters::keep(counters, &tally, nodes);
     g
 }
 
@@ -313,19 +313,19 @@ fn add_nulls(plan: &[u64], parts: &[u64], counters: &mut [u64], room: &mut [u8],
     requires { ⌜ (length (now counters) ≡ 96) × (walkable (now plan) (length (now room)) ≡ true) ⌝ }
     ensures { λ r. ⌜ ((sources lengths places body : List ℕ) → Answers (settled (lent (now (plan .entry)) (now (parts .entry)) sources lengths places body) (now (counters .entry)) (now (room .entry)) (nullWalk (join (now (plan .entry)) (now (parts .entry)) [] [] [] 0 0) 8 0 n (now (counters .entry)))) r (now (counters .exit)) (now (room .exit))) ⌝ }
 {
-    let mut counts = load(counters);
-    let g = extend::extend_nulls(plan, parts, &mut counts, room, false, 0, n, 8);
+    let mut tally = load(counters);
+    let g = extend::extend_nulls(plan, parts, &mut tally, room, false, 0, n, 8);
     if g != 0 {
         return g;
     }
-    let g = grounds::parts_ground(plan, &counts, parts, room.len());
+    let g = grounds::parts_ground(plan, &tally, parts, room.len());
     if g != 0 {
         return g;
     }
     let nodes = plan::parts::node_count(plan);
-    tried_counters::reload(&mut counts, counters, nodes);
-    let g = extend::extend_nulls(plan, parts, &mut counts, room, true, 0, n, 8);
-    tried_counters::keep(counters, &counts, nodes);
+    tried_counters::reload(&mut tally, counters, nodes);
+    let g = extend::extend_nulls(plan, parts, &mut tally, room, true, 0, n, 8);
+    tried_counters::keep(counters, &tally, nodes);
     g
 }
 

@@ -104,7 +104,7 @@ fn part_ground(parts: &[u64], m: usize, p: usize, holds: bool) -> u8
 // The part of r numbers of w bytes.
 fn entries_ground(plan: &[u64], parts: &[u64], m: usize, w: u64, r: u64) -> u8
     requires { ⌜ (isFixed (codeOf (now plan) 0) ≡ true) × (w ≡ entrySize (codeOf (now plan) 0)) ⌝ }
-    ensures { λ g. ⌜ ((counts : List ℕ) → rows counts 0 ≡ r → g ≡ verdict (partWithin (now (plan .entry)) (now (parts .entry)) m 0 1) (partHolds (now (plan .entry)) counts (now (parts .entry)) 0 1)) ⌝ }
+    ensures { λ g. ⌜ ((counters : List ℕ) → rows counters 0 ≡ r → g ≡ verdict (partWithin (now (plan .entry)) (now (parts .entry)) m 0 1) (partHolds (now (plan .entry)) counters (now (parts .entry)) 0 1)) ⌝ }
 {
     let p = plan::parts::number_of(plan, 0, 1);
     let size = lent_tables::at_u64(parts, 2 * p + 1);
@@ -114,7 +114,7 @@ fn entries_ground(plan: &[u64], parts: &[u64], m: usize, w: u64, r: u64) -> u8
 // The part of the validity of r rows, where nulls are kept.
 fn bits_ground(plan: &[u64], parts: &[u64], m: usize, r: u64) -> u8
     requires { ⌜ isFixed (codeOf (now plan) 0) ≡ true ⌝ }
-    ensures { λ g. ⌜ ((counts : List ℕ) → rows counts 0 ≡ r → g ≡ verdict (partWithin (now (plan .entry)) (now (parts .entry)) m 0 0) (partHolds (now (plan .entry)) counts (now (parts .entry)) 0 0)) ⌝ }
+    ensures { λ g. ⌜ ((counters : List ℕ) → rows counters 0 ≡ r → g ≡ verdict (partWithin (now (plan .entry)) (now (parts .entry)) m 0 0) (partHolds (now (plan .entry)) counters (now (parts .entry)) 0 0)) ⌝ }
 {
     if plan_words::keeps_of(plan, 0) == 0 {
         return 0;
@@ -127,7 +127,7 @@ fn bits_ground(plan: &[u64], parts: &[u64], m: usize, r: u64) -> u8
 // What the parts say to r rows.
 pub fn room_ground(plan: &[u64], parts: &[u64], m: usize, w: u64, r: u64) -> u8
     requires { ⌜ (oneOfNumbers (now plan) ≡ true) × (w ≡ entrySize (codeOf (now plan) 0)) ⌝ }
-    ensures { λ g. ⌜ ((counts : List ℕ) → rows counts 0 ≡ r → g ≡ cond (partsWithin (now (plan .entry)) (now (parts .entry)) m) (cond (partsHold (now (plan .entry)) counts (now (parts .entry))) 0 13) 14) ⌝ }
+    ensures { λ g. ⌜ ((counters : List ℕ) → rows counters 0 ≡ r → g ≡ cond (partsWithin (now (plan .entry)) (now (parts .entry)) m) (cond (partsHold (now (plan .entry)) counters (now (parts .entry))) 0 13) 14) ⌝ }
 {
     let entries = entries_ground(plan, parts, m, w, r);
     let bits = bits_ground(plan, parts, m, r);

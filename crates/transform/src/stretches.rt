@@ -58,21 +58,21 @@ pub fn copy_stretches(
     if g != 0 {
         return g;
     }
-    let mut counts = crate::load(counters);
+    let mut tally = crate::load(counters);
     let g = batch::batch_walk::copy_by_stretches(
         plan,
         parts,
         lengths,
         places,
         body,
-        &mut counts,
+        &mut tally,
         room,
         true,
         first,
         start,
         n,
     );
-    let made = crate::copied(counts);
+    let made = crate::copied(tally);
     crate::store(counters, &made);
     g
 }

@@ -13,35 +13,35 @@ pub fn uncounted(counters: &[u64], n: usize) -> [u64; plan_words::COUNTERS]
     ensures { λ r. ⌜ Alike r (now (counters .entry)) ⌝ }
     ensures { λ r. ⌜ Beyond n r (now (counters .entry)) ⌝ }
 {
-    let mut counts = crate::load(counters);
+    let mut tally = crate::load(counters);
     let mut i = 0;
     while i < n {
-        counts[3 * i + 1] = u64::MAX;
+        tally[3 * i + 1] = u64::MAX;
         i += 1;
     }
-    counts
+    tally
 }
 
 // The counters of the first n nodes as they are lent, in an array that has the others.
-pub fn reload(counts: &mut [u64; plan_words::COUNTERS], counters: &[u64], n: usize)
-    requires { ⌜ (length (now counts) ≡ 96) × (length (now counters) ≡ 96) × (n ≤ 32) × Beyond n (now counts) (now counters) ⌝ }
-    ensures { λ _. ⌜ now (counts .exit) ≡ now (counters .entry) ⌝ }
+pub fn reload(tally: &mut [u64; plan_words::COUNTERS], counters: &[u64], n: usize)
+    requires { ⌜ (length (now tally) ≡ 96) × (length (now counters) ≡ 96) × (n ≤ 32) × Beyond n (now tally) (now counters) ⌝ }
+    ensures { λ _. ⌜ now (tally .exit) ≡ now (counters .entry) ⌝ }
 {
     let mut i = 0;
     while i < 3 * n {
-        counts[i] = counters[i];
+        tally[i] = counters[i];
         i += 1;
     }
 }
 
 // The counters of the first n nodes as the array has them, where the others are those that are lent.
-pub fn keep(counters: &mut [u64], counts: &[u64; plan_words::COUNTERS], n: usize)
-    requires { ⌜ (length (now counters) ≡ 96) × (length (now counts) ≡ 96) × (n ≤ 32) × Beyond n (now counters) (now counts) ⌝ }
-    ensures { λ _. ⌜ now (counters .exit) ≡ now (counts .entry) ⌝ }
+pub fn keep(counters: &mut [u64], tally: &[u64; plan_words::COUNTERS], n: usize)
+    requires { ⌜ (length (now counters) ≡ 96) × (length (now tally) ≡ 96) × (n ≤ 32) × Beyond n (now counters) (now tally) ⌝ }
+    ensures { λ _. ⌜ now (counters .exit) ≡ now (tally .entry) ⌝ }
 {
     let mut i = 0;
     while i < 3 * n {
-        counters[i] = counts[i];
+        counters[i] = tally[i];
         i += 1;
     }
 }

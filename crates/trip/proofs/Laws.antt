@@ -14,7 +14,7 @@ use Rattle.walk.specs.Copy.{copyWalk}
 use Rattle.walk.specs.Nulls.{nullWalk}
 use Rattle.walk.proofs.Laws.{done-did, need-no, need-ok, next-no, next-ok, each-none, each-stop, each-more}
 use Rattle.leaf_walk.specs.Join.{join}
-use Rattle.transform.proofs.Laws.{null-state}
+use Rattle.transform.proofs.Laws.{null-plan}
 use Rattle.plan.specs.parts.Parts.{partsWithin, partsHold}
 use Rattle.model.specs.Book.{Call, copy, nulls}
 use Rattle.refinement.specs.orders.Sound.{planSound, walkable}
@@ -90,7 +90,7 @@ module _ (x : Lent) {write : Bool} {room : List ℕ} (c : List ℕ) where
     walk-nulled {m} {g} {c2} {room2} z e d =
         need-ok 3 c (ap not (ne-eqb (keepsOf (x .plan) 0) 0 (λ y. z (q ∙ y))))
         (subst (λ o. Walks x write room o g c2 room2)
-        (ap (λ y. nullWalk (join (x .plan) (x .parts) [] [] [] 0 0) 8 0 y c) e ∙ null-state (x .plan) (x .parts) (x .parts) [] (x .lengths) [] (x .places) [] (x .body) 0 (getD (x .sources) 0 0) 0 0 8 0 (min n far) c)
+        (ap (λ y. nullWalk (join (x .plan) (x .parts) [] [] [] 0 0) 8 0 y c) e ∙ null-plan (x .plan) (x .parts) (x .parts) [] (x .lengths) [] (x .places) [] (x .body) 0 (getD (x .sources) 0 0) 0 0 8 0 (min n far) c)
         d)
 
   -- by its kind
@@ -144,17 +144,17 @@ module _ (words : List ℕ) where
     -- 9, place 0, before anything else
     pub too-many : (e : Ended) → 256 < length words / 4 → (e .ground ≡ 9) × (e .place ≡ 0) → Ends (tripOrder x c r (callsOf words)) e c r
     unfolding tripOrder
-    too-many e h q = rw (length-calls (length words / 4) 0, lt-leb (length words / 4) 256 h) (record { ground = q .0; place = q .1; counts = refl; room = refl })
+    too-many e h q = rw (length-calls (length words / 4) 0, lt-leb (length words / 4) 256 h) (record { ground = q .0; place = q .1; counters = refl; room = refl })
 
     -- an empty list is accepted, whatever is lent
     pub no-orders : (e : Ended) {n : ℕ} → n ≤ 256 → n ≡ length words / 4 → n ≡ 0 → (e .ground ≡ 0) × (e .place ≡ 0) → Ends (tripOrder x c r (callsOf words)) e c r
     unfolding carried callsFrom
-    no-orders e {n} h l z q = rw (within-reach h l, z) (record { ground = q .0; place = q .1; counts = refl; room = refl })
+    no-orders e {n} h l z q = rw (within-reach h l, z) (record { ground = q .0; place = q .1; counters = refl; room = refl })
 
     -- 14 at the first order, whatever it is
     first-foreign : (n : ℕ) → (n ≡ 0 → ⊥) → ((o : Call) → ordered x c r o .ground ≡ 14) → (e : Ended) → (e .ground ≡ 14) × (e .place ≡ 0) → Ends (carried x c r 0 c r (callsFrom words n 0)) e c r
     unfolding carried callsFrom
-    first-foreign n z f e q = rw (some-order n z, f (callAt words 0)) (record { ground = q .0; place = q .1; counts = refl; room = refl })
+    first-foreign n z f e q = rw (some-order n z, f (callAt words 0)) (record { ground = q .0; place = q .1; counters = refl; room = refl })
 
     not-counters : (length c ≡ 96 → ⊥) → (o : Call) → ordered x c r o .ground ≡ 14
     unfolding copyOrder nullOrder
@@ -188,7 +188,7 @@ module _ (words : List ℕ) where
       pub given-up : (e .ground ≡ 0 → ⊥) → Ends (tripOrder x c r (callsOf words)) e c r
       given-up f =
           let k = carried-keeps x words c r (callsFrom words n 0) 0 c r (λ z. f (same-answer .0 ∙ z)) in
-          rw (within-reach few l) (record { ground = same-answer .0; place = same-answer .1; counts = sym (k .0); room = sym (k .1) })
+          rw (within-reach few l) (record { ground = same-answer .0; place = same-answer .1; counters = sym (k .0); room = sym (k .1) })
 
       -- and written
       pub carried-out : e .ground ≡ 0 → (e2 : Ended) (b : Bool) {c1 c2 c3 room2 : List ℕ} → c1 ≡ c → Stepped (x .plan) (x .parts) true (stepAt x false b words) n 0 c1 r (e2 .ground) (e2 .place) c2 room2 → c3 ≡ c2
@@ -198,7 +198,7 @@ module _ (words : List ℕ) where
           let u = written x words c r b n 0 c r (sym (same-answer .0) ∙ z) in
           let t = subst (λ a. Stepped (x .plan) (x .parts) true (stepAt x false b words) n 0 a r (e2 .ground) (e2 .place) c2 room2) y s2 in
           rw (within-reach few l)
-          (record { ground = t .did .answer ∙ u .ground-is; place = t .place ∙ u .place-is; counts = v ∙ t .did .counters ∙ u .counts-are; room = t .did .bytes ∙ u .room-is })
+          (record { ground = t .did .answer ∙ u .ground-is; place = t .place ∙ u .place-is; counters = v ∙ t .did .counters ∙ u .counters-are; room = t .did .bytes ∙ u .room-is })
 
   -- ---- measured
 
@@ -210,15 +210,15 @@ module _ (words : List ℕ) where
 
     pub measures-too-many : (e : Ended) → 256 < length words / 4 → (e .ground ≡ 9) × (e .place ≡ 0) → Asks (tripMeasure x c (callsOf words)) e c
     unfolding tripMeasure
-    measures-too-many e h q = rw (length-calls (length words / 4) 0, lt-leb (length words / 4) 256 h) (record { ground = q .0; place = q .1; counts = refl })
+    measures-too-many e h q = rw (length-calls (length words / 4) 0, lt-leb (length words / 4) 256 h) (record { ground = q .0; place = q .1; counters = refl })
 
     pub measures-none : (e : Ended) {n : ℕ} → n ≤ 256 → n ≡ length words / 4 → n ≡ 0 → (e .ground ≡ 0) × (e .place ≡ 0) → Asks (tripMeasure x c (callsOf words)) e c
     unfolding measuredTrip callsFrom
-    measures-none e {n} h l z q = rw (measured-reach h l, z) (record { ground = q .0; place = q .1; counts = refl })
+    measures-none e {n} h l z q = rw (measured-reach h l, z) (record { ground = q .0; place = q .1; counters = refl })
 
     measured-foreign : (n : ℕ) → (n ≡ 0 → ⊥) → ((o : Call) → orderMeasure x c o .ground ≡ 14) → (e : Ended) → (e .ground ≡ 14) × (e .place ≡ 0) → Asks (measuredTrip x c 0 c (callsFrom words n 0)) e c
     unfolding measuredTrip callsFrom
-    measured-foreign n z f e q = rw (some-order n z, f (callAt words 0)) (record { ground = q .0; place = q .1; counts = refl })
+    measured-foreign n z f e q = rw (some-order n z, f (callAt words 0)) (record { ground = q .0; place = q .1; counters = refl })
 
     measures-not-counters : (length c ≡ 96 → ⊥) → (o : Call) → orderMeasure x c o .ground ≡ 14
     unfolding copyMeasure nullMeasure
@@ -249,10 +249,10 @@ module _ (words : List ℕ) where
       measures-refused f =
           let u = measured-list x words c w n 0 c h in
           let g = steps .did .answer ∙ u .ground-is in
-          rw (measured-reach few l) (record { ground = g; place = steps .place ∙ u .place-is; counts = sym (u .counts-stay (λ z. f (g ∙ z))) })
+          rw (measured-reach few l) (record { ground = g; place = steps .place ∙ u .place-is; counters = sym (u .counters-stay (λ z. f (g ∙ z))) })
 
       pub measures-made : e .ground ≡ 0 → {c3 : List ℕ} → c3 ≡ c2 → Asks (tripMeasure x c (callsOf words)) e c3
       measures-made z v =
           let u = measured-list x words c w n 0 c h in
           let g = steps .did .answer ∙ u .ground-is in
-          rw (measured-reach few l) (record { ground = g; place = steps .place ∙ u .place-is; counts = v ∙ steps .did .counters ∙ u .counts-are (sym g ∙ z) })
+          rw (measured-reach few l) (record { ground = g; place = steps .place ∙ u .place-is; counters = v ∙ steps .did .counters ∙ u .counters-are (sym g ∙ z) })

@@ -34,11 +34,11 @@ module _ (x : Join) where
   module _ (i : ℕ) where
     near-mask : (n : ℕ) {c d : List ℕ} → Alike c d → Near (nullMask x i n c) (nullMask x i n d)
     unfolding nullMask
-    near-mask n h = near-cond (eqb (keepsOf (x .state) i) 0) (near-done h) (near-next _ _ (near-wrote _ _ h) (λ c2 d2 g. near-done (alike-other g i _ _)))
+    near-mask n h = near-cond (eqb (keepsOf (x .plan) i) 0) (near-done h) (near-next _ _ (near-wrote _ _ h) (λ c2 d2 g. near-done (alike-other g i _ _)))
 
     near-count : (n : ℕ) {c d : List ℕ} → Alike c d → Near (countNulls x i n c) (countNulls x i n d)
     unfolding countNulls
-    near-count n h = near-cond (eqb (keepsOf (x .state) i) 0) (near-done h) (near-done (alike-other h i _ _))
+    near-count n h = near-cond (eqb (keepsOf (x .plan) i) 0) (near-done h) (near-done (alike-other h i _ _))
 
     near-numbers : (b w n : ℕ) {c d : List ℕ} → Alike c d → Near (nullNumbers x i b w n c) (nullNumbers x i b w n d)
     unfolding nullNumbers
@@ -62,11 +62,11 @@ module _ (x : Join) where
     near-fields : (n end f k : ℕ) {c d : List ℕ} → Alike c d → Near (nullFields x walk n end f k c) (nullFields x walk n end f k d)
     unfolding nullFields
     near-fields n end zero k h = near-done h
-    near-fields n end (suc f) k h = near-cond (ltb k end) (near-next _ _ (below k n _ _ h) (λ c2 d2 g. near-fields n end f (endOf (x .state) k) g)) (near-done h)
+    near-fields n end (suc f) k h = near-cond (ltb k end) (near-next _ _ (below k n _ _ h) (λ c2 d2 g. near-fields n end f (endOf (x .plan) k) g)) (near-done h)
 
     near-sparse : (n : ℕ) {c d : List ℕ} → Alike c d → Near (nullSparse x walk i n c) (nullSparse x walk i n d)
     unfolding nullSparse
-    near-sparse n h = near-found 32 _ _ _ _ h (near-next _ _ (near-wrote _ _ h) (λ c2 d2 g. near-fields n (endOf (x .state) i) 32 (suc i) g))
+    near-sparse n h = near-found 32 _ _ _ _ h (near-next _ _ (near-wrote _ _ h) (λ c2 d2 g. near-fields n (endOf (x .plan) i) 32 (suc i) g))
 
     near-dense : (n : ℕ) {c d : List ℕ} → Alike c d → Near (nullDense x walk i n c) (nullDense x walk i n d)
     unfolding nullDense
@@ -92,7 +92,7 @@ module _ (x : Join) where
     near-runs n {c} {d} h =
         near-need refl 12 h
         (rw (ap (λ v. eqb v 2) (h .bytes-same i))
-        (near-cond (eqb (gap d i) 2) (near-grow (bytesOf (x .state) (suc i)) n h) (near-add (bytesOf (x .state) (suc i)) n h)))
+        (near-cond (eqb (gap d i) 2) (near-grow (bytesOf (x .plan) (suc i)) n h) (near-add (bytesOf (x .plan) (suc i)) n h)))
 
     near-data : (code n : ℕ) {c d : List ℕ} → Alike c d → Near (nullData x walk code i n c) (nullData x walk code i n d)
     unfolding nullData
@@ -112,8 +112,8 @@ module _ (x : Join) where
     near-node n h =
         near-cond (eqb n 0) (near-done h)
         (near-need refl 12 h
-        (near-next _ _ (near-data (codeOf (x .state) i) n h)
-        (λ c2 d2 g. near-next _ _ (near-cond (masked (codeOf (x .state) i)) (near-mask i n g) (near-count i n g)) (λ c3 d3 k. near-done (alike-rows k i n)))))
+        (near-next _ _ (near-data (codeOf (x .plan) i) n h)
+        (λ c2 d2 g. near-next _ _ (near-cond (masked (codeOf (x .plan) i)) (near-mask i n g) (near-count i n g)) (λ c3 d3 k. near-done (alike-rows k i n)))))
 
   -- NULLS ANSWER ALIKE, whatever nulls are counted
   pub near-nulls : (depth i n : ℕ) {c d : List ℕ} → Alike c d → Near (nullWalk x depth i n c) (nullWalk x depth i n d)

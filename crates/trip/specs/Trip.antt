@@ -39,43 +39,43 @@ module _ (words : List ℕ) where
 pub record AfterTrip : Type 0 where
   pub ground : ℕ
   pub place : ℕ
-  pub counts : List ℕ
+  pub counters : List ℕ
   pub room : List ℕ
 
-module _ (x : Lent) (counts room : List ℕ) where
+module _ (x : Lent) (counters room : List ℕ) where
   -- "otherwise none is": the counters and every byte stay
   abbrev pub givenUp : ℕ → ℕ → AfterTrip
-  givenUp g k = record { ground = g; place = k; counts = counts; room = room }
+  givenUp g k = record { ground = g; place = k; counters = counters; room = room }
 
   -- the orders from number k on: the first gets the counters c and the room r, each of the others what the one before it left
   unfoldable pub carried : ℕ → List ℕ → List ℕ → List Call → AfterTrip
-  carried k c r [] = record { ground = 0; place = 0; counts = c; room = r }
+  carried k c r [] = record { ground = 0; place = 0; counters = c; room = r }
   carried k c r (o ∷ os) =
-      cond (eqb (ordered x c r o .ground) 0) (carried (suc k) (ordered x c r o .counts) (ordered x c r o .room) os) (givenUp (ordered x c r o .ground) k)
+      cond (eqb (ordered x c r o .ground) 0) (carried (suc k) (ordered x c r o .counters) (ordered x c r o .room) os) (givenUp (ordered x c r o .ground) k)
 
   -- A TRIP
   unfoldable pub tripOrder : List Call → AfterTrip
-  tripOrder os = cond (leb (length os) longest) (carried 0 counts room os) (givenUp 9 0)
+  tripOrder os = cond (leb (length os) longest) (carried 0 counters room os) (givenUp 9 0)
 
 -- ---- what is asked before room is lent: the same over the questions about single orders
 
 pub record AskedTrip : Type 0 where
   pub ground : ℕ
   pub place : ℕ
-  pub counts : List ℕ
+  pub counters : List ℕ
 
 abbrev pub orderMeasure : Lent → List ℕ → Call → Measured
 orderMeasure x c (copy s a e) = copyMeasure c x s a e
 orderMeasure x c (nulls n) = nullMeasure c x n
 
-module _ (x : Lent) (counts : List ℕ) where
+module _ (x : Lent) (counters : List ℕ) where
   abbrev pub unasked : ℕ → ℕ → AskedTrip
-  unasked g k = record { ground = g; place = k; counts = counts }
+  unasked g k = record { ground = g; place = k; counters = counters }
 
   unfoldable pub measuredTrip : ℕ → List ℕ → List Call → AskedTrip
-  measuredTrip k c [] = record { ground = 0; place = 0; counts = c }
+  measuredTrip k c [] = record { ground = 0; place = 0; counters = c }
   measuredTrip k c (o ∷ os) =
-      cond (eqb (orderMeasure x c o .ground) 0) (measuredTrip (suc k) (orderMeasure x c o .counts) os) (unasked (orderMeasure x c o .ground) k)
+      cond (eqb (orderMeasure x c o .ground) 0) (measuredTrip (suc k) (orderMeasure x c o .counters) os) (unasked (orderMeasure x c o .ground) k)
 
   unfoldable pub tripMeasure : List Call → AskedTrip
-  tripMeasure os = cond (leb (length os) longest) (measuredTrip 0 counts os) (unasked 9 0)
+  tripMeasure os = cond (leb (length os) longest) (measuredTrip 0 counters os) (unasked 9 0)

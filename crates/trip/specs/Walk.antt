@@ -32,7 +32,7 @@ module _ (x : Lent) where
 -- the first of f r, f (r + 1), .., n of them, that is refused; 0 where none is
 unfoldable pub stopsAt : (ℕ → List ℕ → Out) → ℕ → ℕ → List ℕ → ℕ
 stopsAt f zero r c = 0
-stopsAt f (suc n) r c = cond (eqb (f r c .ans) 0) (stopsAt f n (suc r) (f r c .counts)) r
+stopsAt f (suc n) r c = cond (eqb (f r c .ans) 0) (stopsAt f n (suc r) (f r c .counters)) r
 
 -- what a function that walks a list of steps does: the ground g and its place p, the counters and the room after it
 pub record Stepped (plan parts : List ℕ) (write : Bool) (f : ℕ → List ℕ → Out) (n r : ℕ) (c room : List ℕ) (g p : ℕ) (c2 room2 : List ℕ) : Type 0 where

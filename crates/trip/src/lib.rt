@@ -40,15 +40,15 @@ const NOT_LENT: u8 = 14;
 fn held_ground(
     plan: &[u64],
     parts: &[u64],
-    counts: &[u64; plan_words::COUNTERS],
+    counters: &[u64; plan_words::COUNTERS],
     within: bool,
 ) -> u8
-    ensures { λ r. ⌜ r ≡ cond within (cond (partsHold (now (plan .entry)) (now (counts .entry)) (now (parts .entry))) 0 13) 14 ⌝ }
+    ensures { λ r. ⌜ r ≡ cond within (cond (partsHold (now (plan .entry)) (now (counters .entry)) (now (parts .entry))) 0 13) 14 ⌝ }
 {
     if !within {
         return NOT_LENT;
     }
-    if !plan::parts::parts_hold(plan, counts, parts) {
+    if !plan::parts::parts_hold(plan, counters, parts) {
         return TOO_SMALL;
     }
     0
@@ -62,7 +62,7 @@ fn walk_step(
     lengths: &[u64],
     places: &[u64],
     body: &[u8],
-    counts: &mut [u64; plan_words::COUNTERS],
+    counters: &mut [u64; plan_words::COUNTERS],
     room: &mut [u8],
     write: bool,
     ask: bool,
@@ -71,7 +71,7 @@ fn walk_step(
     k: usize,
 ) -> u8
     requires { ⌜ k < 256 ⌝ }
-    ensures { λ g. ⌜ Did (now (plan .entry)) (now (parts .entry)) write (stepAt (lent (now (plan .entry)) (now (parts .entry)) (now (sources .entry)) (now (lengths .entry)) (now (places .entry)) (now (body .entry))) ask within (now (orders .entry)) k (now (counts .entry))) (now (room .entry)) g (now (counts .exit)) (now (room .exit)) ⌝ }
+    ensures { λ g. ⌜ Did (now (plan .entry)) (now (parts .entry)) write (stepAt (lent (now (plan .entry)) (now (parts .entry)) (now (sources .entry)) (now (lengths .entry)) (now (places .entry)) (now (body .entry))) ask within (now (orders .entry)) k (now (counters .entry))) (now (room .entry)) g (now (counters .exit)) (now (room .exit)) ⌝ }
 {
     let kind = lent_tables::at_u64(orders, 4 * k);
     let a = lent_tables::at_u64(orders, 4 * k + 1);
@@ -84,7 +84,7 @@ fn walk_step(
         lengths,
         places,
         body,
-        counts,
+        counters,
         room,
         write,
         kind,
@@ -98,7 +98,7 @@ fn walk_step(
     if !ask {
         return 0;
     }
-    held_ground(plan, parts, counts, within)
+    held_ground(plan, parts, counters, within)
 }
 
 // ---- a list
@@ -111,7 +111,7 @@ fn walk_orders(
     lengths: &[u64],
     places: &[u64],
     body: &[u8],
-    counts: &mut [u64; plan_words::COUNTERS],
+    counters: &mut [u64; plan_words::COUNTERS],
     room: &mut [u8],
     write: bool,
     ask: bool,
@@ -120,7 +120,7 @@ fn walk_orders(
     n: usize,
 ) -> Ended
     requires { ⌜ n ≤ 256 ⌝ }
-    ensures { λ r. ⌜ Stepped (now (plan .entry)) (now (parts .entry)) write (stepAt (lent (now (plan .entry)) (now (parts .entry)) (now (sources .entry)) (now (lengths .entry)) (now (places .entry)) (now (body .entry))) ask within (now (orders .entry))) n 0 (now (counts .entry)) (now (room .entry)) (r .ground) (r .place) (now (counts .exit)) (now (room .exit)) ⌝ }
+    ensures { λ r. ⌜ Stepped (now (plan .entry)) (now (parts .entry)) write (stepAt (lent (now (plan .entry)) (now (parts .entry)) (now (sources .entry)) (now (lengths .entry)) (now (places .entry)) (now (body .entry))) ask within (now (orders .entry))) n 0 (now (counters .entry)) (now (room .entry)) (r .ground) (r .place) (now (counters .exit)) (now (room .exit)) ⌝ }
 {
     let mut k: usize = 0;
     while k < n {
@@ -131,7 +131,7 @@ fn walk_orders(
             lengths,
             places,
             body,
-            counts,
+            counters,
             room,
             write,
             ask,
@@ -198,7 +198,7 @@ fn carry_out(
     if e.ground != 0 {
         return e;
     }
-    let mut counts = transform::load(counters);
+    let mut tally = transform::load(counters);
     let e = walk_orders(
         plan,
         parts,
@@ -206,7 +206,7 @@ fn carry_out(
         lengths,
         places,
         body,
-        &mut counts,
+        &mut tally,
         room,
         true,
         false,
@@ -214,7 +214,7 @@ fn carry_out(
         orders,
         n,
     );
-    let made = transform::copied(counts);
+    let made = transform::copied(tally);
     transform::store(counters, &made);
     e
 }
@@ -288,7 +288,7 @@ pub fn measure_orders(
     }
     let parts = [0u64; 0];
     let mut none = [0u8; 0];
-    let mut counts = transform::load(counters);
+    let mut tally = transform::load(counters);
     let e = walk_orders(
         plan,
         &parts,
@@ -296,7 +296,7 @@ pub fn measure_orders(
         lengths,
         places,
         body,
-        &mut counts,
+        &mut tally,
         &mut none,
         false,
         false,
@@ -307,7 +307,7 @@ pub fn measure_orders(
     if e.ground != 0 {
         return e;
     }
-    let made = transform::copied(counts);
+    let made = transform::copied(tally);
     transform::store(counters, &made);
     e
 }

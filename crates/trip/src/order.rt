@@ -38,14 +38,14 @@ fn walk_copy(
     lengths: &[u64],
     places: &[u64],
     body: &[u8],
-    counts: &mut [u64; plan_words::COUNTERS],
+    counters: &mut [u64; plan_words::COUNTERS],
     room: &mut [u8],
     write: bool,
     source: u32,
     start: u64,
     end: u64,
 ) -> u8
-    ensures { λ g. ⌜ Did (now (plan .entry)) (now (parts .entry)) write (orderWalk (lent (now (plan .entry)) (now (parts .entry)) (now (sources .entry)) (now (lengths .entry)) (now (places .entry)) (now (body .entry))) (copy source start end) (now (counts .entry))) (now (room .entry)) g (now (counts .exit)) (now (room .exit)) ⌝ }
+    ensures { λ g. ⌜ Did (now (plan .entry)) (now (parts .entry)) write (orderWalk (lent (now (plan .entry)) (now (parts .entry)) (now (sources .entry)) (now (lengths .entry)) (now (places .entry)) (now (body .entry))) (copy source start end) (now (counters .entry))) (now (room .entry)) g (now (counters .exit)) (now (room .exit)) ⌝ }
 {
     if lent_tables::at_u64(plan, plan_words::SOURCE_COUNT) <= source as u64 {
         return NO_SUCH_SOURCE;
@@ -60,7 +60,7 @@ fn walk_copy(
         lengths,
         places,
         body,
-        counts,
+        counters,
         room,
         write,
         source as usize,
@@ -76,18 +76,18 @@ fn walk_copy(
 fn walk_nulls(
     plan: &[u64],
     parts: &[u64],
-    counts: &mut [u64; plan_words::COUNTERS],
+    counters: &mut [u64; plan_words::COUNTERS],
     room: &mut [u8],
     write: bool,
     n: u64,
 ) -> u8
-    ensures { λ g. ⌜ ((sources lengths places body : List ℕ) → Did (now (plan .entry)) (now (parts .entry)) write (orderWalk (lent (now (plan .entry)) (now (parts .entry)) sources lengths places body) (nulls n) (now (counts .entry))) (now (room .entry)) g (now (counts .exit)) (now (room .exit))) ⌝ }
+    ensures { λ g. ⌜ ((sources lengths places body : List ℕ) → Did (now (plan .entry)) (now (parts .entry)) write (orderWalk (lent (now (plan .entry)) (now (parts .entry)) sources lengths places body) (nulls n) (now (counters .entry))) (now (room .entry)) g (now (counters .exit)) (now (room .exit))) ⌝ }
 {
     if plan_words::keeps_of(plan, 0) == 0 {
         return KEEPS_NO_NULLS;
     }
     let m = transform::at_most_far(n);
-    extend::extend_nulls(plan, parts, counts, room, write, 0, m, 8)
+    extend::extend_nulls(plan, parts, counters, room, write, 0, m, 8)
 }
 
 // The order of four words.
@@ -98,7 +98,7 @@ pub fn walk_order(
     lengths: &[u64],
     places: &[u64],
     body: &[u8],
-    counts: &mut [u64; plan_words::COUNTERS],
+    counters: &mut [u64; plan_words::COUNTERS],
     room: &mut [u8],
     write: bool,
     kind: u64,
@@ -106,10 +106,10 @@ pub fn walk_order(
     b: u64,
     c: u64,
 ) -> u8
-    ensures { λ g. ⌜ Did (now (plan .entry)) (now (parts .entry)) write (orderWalk (lent (now (plan .entry)) (now (parts .entry)) (now (sources .entry)) (now (lengths .entry)) (now (places .entry)) (now (body .entry))) (callOf kind a b c) (now (counts .entry))) (now (room .entry)) g (now (counts .exit)) (now (room .exit)) ⌝ }
+    ensures { λ g. ⌜ Did (now (plan .entry)) (now (parts .entry)) write (orderWalk (lent (now (plan .entry)) (now (parts .entry)) (now (sources .entry)) (now (lengths .entry)) (now (places .entry)) (now (body .entry))) (callOf kind a b c) (now (counters .entry))) (now (room .entry)) g (now (counters .exit)) (now (room .exit)) ⌝ }
 {
     if kind != COPY {
-        return walk_nulls(plan, parts, counts, room, write, a);
+        return walk_nulls(plan, parts, counters, room, write, a);
     }
     walk_copy(
         plan,
@@ -118,7 +118,7 @@ pub fn walk_order(
         lengths,
         places,
         body,
-        counts,
+        counters,
         room,
         write,
         source_of(a),

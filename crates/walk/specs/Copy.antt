@@ -26,8 +26,8 @@ Walk = ℕ → ℕ → ℕ → List ℕ → Out
 
 -- the child with that id among those from node c on, one behind the other up to `end`; 32 where there is none
 unfoldable pub childWith : List ℕ → ℕ → ℕ → ℕ → ℕ → ℕ
-childWith state id end zero c = 32
-childWith state id end (suc f) c = cond (ltb c end) (cond (eqb (idOf state c) id) c (childWith state id end f (endOf state c))) 32
+childWith plan id end zero c = 32
+childWith plan id end (suc f) c = cond (ltb c end) (cond (eqb (idOf plan c) id) c (childWith plan id end f (endOf plan c))) 32
 
 -- "Run ends are `s`, `i` or `l`": their bytes
 unfoldable pub isWidth : ℕ → Bool
@@ -78,13 +78,13 @@ module _ (x : Join) (child : Walk) where
 
   unfoldable pub copyFields : ℕ → ℕ → ℕ → ℕ → ℕ → List ℕ → Out
   copyFields slot n end zero k c = done c
-  copyFields slot n end (suc f) k c = cond (ltb k end) (next (child k slot n c) (λ c2. copyFields slot n end f (endOf (x .state) k) c2)) (done c)
+  copyFields slot n end (suc f) k c = cond (ltb k end) (next (child k slot n c) (λ c2. copyFields slot n end f (endOf (x .plan) k) c2)) (done c)
 
   unfoldable pub copySparse : ℕ → ℕ → ℕ → List ℕ → Out
   copySparse i slot n c =
       need (rowsIn x (place x i 3) 1 slot n) 12 c
       (next (wrote (put i 1 (rows c i) (take n (drop (place x i 3 + slot) (x .body)))) c)
-      (λ c2. copyFields slot n (endOf (x .state) i) 32 (suc i) c2))
+      (λ c2. copyFields slot n (endOf (x .plan) i) 32 (suc i) c2))
 
   -- ---- dense unions: "copies one child row per row", 6 before the child
 
@@ -104,7 +104,7 @@ module _ (x : Join) (child : Walk) where
 
   unfoldable pub denseRow : ℕ → ℕ → ℕ → List ℕ → Out
   denseRow i slot r c =
-      found 32 (childWith (x .state) (idAt i (slot + r)) (endOf (x .state) i) 32 (suc i)) 12 c (λ k. denseTo i slot r k c)
+      found 32 (childWith (x .plan) (idAt i (slot + r)) (endOf (x .plan) i) 32 (suc i)) 12 c (λ k. denseTo i slot r k c)
 
   unfoldable pub copyDense : ℕ → ℕ → ℕ → List ℕ → Out
   copyDense i slot n c =
@@ -133,20 +133,20 @@ module _ (x : Join) (child : Walk) where
   unfoldable pub copyRuns : ℕ → ℕ → ℕ → List ℕ → Out
   copyRuns i slot n c =
       cond (eqb n 0) (done c)
-      (need (ltb (suc (suc i)) 32 && isWidth (bytesOf (x .state) (suc i))) 12 c
-      (need (ltb (rows c i + n) (half (bytesOf (x .state) (suc i)))) 7 c
-      (need (rowsIn x (place x (suc i) 3) (bytesOf (x .state) (suc i)) (offsetOf x (suc i)) (lengthOf x (suc i))) 12 c
-      (putRuns (bytesOf (x .state) (suc i)) i slot n (runsAt (bytesOf (x .state) (suc i)) i slot n) c))))
+      (need (ltb (suc (suc i)) 32 && isWidth (bytesOf (x .plan) (suc i))) 12 c
+      (need (ltb (rows c i + n) (half (bytesOf (x .plan) (suc i)))) 7 c
+      (need (rowsIn x (place x (suc i) 3) (bytesOf (x .plan) (suc i)) (offsetOf x (suc i)) (lengthOf x (suc i))) 12 c
+      (putRuns (bytesOf (x .plan) (suc i)) i slot n (runsAt (bytesOf (x .plan) (suc i)) i slot n) c))))
 
   -- ---- a node by its format's code
 
   unfoldable pub copyData : ℕ → ℕ → ℕ → ℕ → List ℕ → Out
   copyData code i slot n c =
-      cond (isFixed code) (cond (eqb (dictionaryOf (x .state) i) 0) (copyNumbers x i (bytesOf (x .state) i) slot n c) (copyKeys x i (bytesOf (x .state) i) slot n c))
-      (cond (isString code) (copyString x i (bytesOf (x .state) i) slot n c)
+      cond (isFixed code) (cond (eqb (dictionaryOf (x .plan) i) 0) (copyNumbers x i (bytesOf (x .plan) i) slot n c) (copyKeys x i (bytesOf (x .plan) i) slot n c))
+      (cond (isString code) (copyString x i (bytesOf (x .plan) i) slot n c)
       (cond (isView code) (copyViews x i slot n c)
-      (cond (isListView code) (copyListView (bytesOf (x .state) i) i slot n c)
-      (cond (isList code) (copyList (bytesOf (x .state) i) i slot n c)
+      (cond (isListView code) (copyListView (bytesOf (x .plan) i) i slot n c)
+      (cond (isList code) (copyList (bytesOf (x .plan) i) i slot n c)
       (cond (eqb code 21) (copySparse i slot n c)
       (cond (eqb code 22) (copyDense i slot n c)
       (cond (eqb code 23) (copyRuns i slot n c)
@@ -155,8 +155,8 @@ module _ (x : Join) (child : Walk) where
   -- validity, data, and the rows counted
   unfoldable pub copySlots : ℕ → ℕ → ℕ → List ℕ → Out
   copySlots i slot n c =
-      next (cond (masked (codeOf (x .state) i)) (copyMask x i slot n c) (done c))
-      (λ c2. next (copyData (codeOf (x .state) i) i slot n c2)
+      next (cond (masked (codeOf (x .plan) i)) (copyMask x i slot n c) (done c))
+      (λ c2. next (copyData (codeOf (x .plan) i) i slot n c2)
       (λ c3. done (addRows i n c3)))
 
   -- one level: rows a .. a + n - 1 of node i

@@ -28,19 +28,19 @@ module _ (x : Join) (i : ℕ) where
   -- a node that keeps nulls gets a bit a row: the source's, or ones where it has no validity
   unfoldable pub copyMask : ℕ → ℕ → List ℕ → Out
   copyMask slot n c =
-      cond (eqb (keepsOf (x .state) i) 0) (done c)
+      cond (eqb (keepsOf (x .plan) i) 0) (done c)
       (cond (eqb (place x i 0) 0) (wrote (mask i (rows c i) (replicate n 1)) c)
       (copyBits slot n c))
 
   -- .. and n zeros, all counted, for n nulls
   unfoldable pub nullMask : ℕ → List ℕ → Out
   nullMask n c =
-      cond (eqb (keepsOf (x .state) i) 0) (done c)
+      cond (eqb (keepsOf (x .plan) i) 0) (done c)
       (next (wrote (mask i (rows c i) (replicate n 0)) c) (λ c2. done (addNulls i n c2)))
 
   -- a union or run-end node holds no validity: "The running null count counts each null order in full, for unions and run-end nodes too"
   unfoldable pub countNulls : ℕ → List ℕ → Out
-  countNulls n c = cond (eqb (keepsOf (x .state) i) 0) (done c) (done (addNulls i n c))
+  countNulls n c = cond (eqb (keepsOf (x .plan) i) 0) (done c) (done (addNulls i n c))
 
   -- ---- entries of w bytes: numbers, keys with their base added, views with their buffer numbers raised
 
@@ -52,10 +52,10 @@ module _ (x : Join) (i : ℕ) where
   copyNumbers w slot n c = putEntries w slot n (take (w * n) (drop (place x i 3 + w * slot) (x .body))) c
 
   unfoldable pub copyKeys : ℕ → ℕ → ℕ → List ℕ → Out
-  copyKeys w slot n c = putEntries w slot n (rebased w (x .body) (place x i 3 + w * slot) (baseOf (x .state) (x .source) i) n) c
+  copyKeys w slot n c = putEntries w slot n (rebased w (x .body) (place x i 3 + w * slot) (baseOf (x .plan) (x .source) i) n) c
 
   unfoldable pub copyViews : ℕ → ℕ → List ℕ → Out
-  copyViews slot n c = putEntries 16 slot n (reviewed (x .body) (place x i 3 + 16 * slot) (baseOf (x .state) (x .source) i) n) c
+  copyViews slot n c = putEntries 16 slot n (reviewed (x .body) (place x i 3 + 16 * slot) (baseOf (x .plan) (x .source) i) n) c
 
   -- "A null slot is written as zeros"; buffer b
   unfoldable pub nullNumbers : ℕ → ℕ → ℕ → List ℕ → Out

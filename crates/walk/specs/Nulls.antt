@@ -20,12 +20,12 @@ NullWalk = ℕ → ℕ → List ℕ → Out
 
 -- the first nullable child among those from node k on; 32 where there is none
 unfoldable pub nullableChild : List ℕ → ℕ → ℕ → ℕ → ℕ
-nullableChild state end zero k = 32
-nullableChild state end (suc f) k = cond (ltb k end) (cond (eqb (nullableOf state k) 1) k (nullableChild state end f (endOf state k))) 32
+nullableChild plan end zero k = 32
+nullableChild plan end (suc f) k = cond (ltb k end) (cond (eqb (nullableOf plan k) 1) k (nullableChild plan end f (endOf plan k))) 32
 
 -- "4 nonempty null order reaching a union with no fields, 5 the same, with fields but no nullable one"
 abbrev pub noHome : List ℕ → ℕ → ℕ
-noHome state i = cond (ltb (suc i) (endOf state i)) 5 4
+noHome plan i = cond (ltb (suc i) (endOf plan i)) 5 4
 
 module _ (x : Join) (child : NullWalk) where
   -- "A null is offset 0, size 0"
@@ -38,21 +38,21 @@ module _ (x : Join) (child : NullWalk) where
 
   unfoldable pub nullFields : ℕ → ℕ → ℕ → ℕ → List ℕ → Out
   nullFields n end zero k c = done c
-  nullFields n end (suc f) k c = cond (ltb k end) (next (child k n c) (λ c2. nullFields n end f (endOf (x .state) k) c2)) (done c)
+  nullFields n end (suc f) k c = cond (ltb k end) (next (child k n c) (λ c2. nullFields n end f (endOf (x .plan) k) c2)) (done c)
 
   -- "A null goes to the first nullable field; sparse gives one to every child, nullable or not."
   unfoldable pub nullSparse : ℕ → ℕ → List ℕ → Out
   nullSparse i n c =
-      found 32 (nullableChild (x .state) (endOf (x .state) i) 32 (suc i)) (noHome (x .state) i) c (λ h.
-      next (wrote (put i 1 (rows c i) (replicate n (idOf (x .state) h))) c)
-      (λ c2. nullFields n (endOf (x .state) i) 32 (suc i) c2))
+      found 32 (nullableChild (x .plan) (endOf (x .plan) i) 32 (suc i)) (noHome (x .plan) i) c (λ h.
+      next (wrote (put i 1 (rows c i) (replicate n (idOf (x .plan) h))) c)
+      (λ c2. nullFields n (endOf (x .plan) i) 32 (suc i) c2))
 
   -- "dense 6": the positions of n nulls are the child's rows from its length on
   unfoldable pub nullDense : ℕ → ℕ → List ℕ → Out
   nullDense i n c =
-      found 32 (nullableChild (x .state) (endOf (x .state) i) 32 (suc i)) (noHome (x .state) i) c (λ h.
+      found 32 (nullableChild (x .plan) (endOf (x .plan) i) 32 (suc i)) (noHome (x .plan) i) c (λ h.
       need (leb (rows c h + n) (half 4)) 6 c
-      (next (wrote (put i 1 (rows c i) (replicate n (idOf (x .state) h))) c)
+      (next (wrote (put i 1 (rows c i) (replicate n (idOf (x .plan) h))) c)
       (λ c2. next (wrote (put i 2 (rows c2 i * 4) (countedUp 4 (rows c2 h) n)) c2)
       (λ c3. child h n c3))))
 
@@ -73,16 +73,16 @@ module _ (x : Join) (child : NullWalk) where
 
   unfoldable pub nullRuns : ℕ → ℕ → List ℕ → Out
   nullRuns i n c =
-      need (ltb (suc (suc i)) 32 && isWidth (bytesOf (x .state) (suc i))) 12 c
-      (cond (eqb (gap c i) 2) (growRun (bytesOf (x .state) (suc i)) i n c) (addRun (bytesOf (x .state) (suc i)) i n c))
+      need (ltb (suc (suc i)) 32 && isWidth (bytesOf (x .plan) (suc i))) 12 c
+      (cond (eqb (gap c i) 2) (growRun (bytesOf (x .plan) (suc i)) i n c) (addRun (bytesOf (x .plan) (suc i)) i n c))
 
   unfoldable pub nullData : ℕ → ℕ → ℕ → List ℕ → Out
   nullData code i n c =
-      cond (isFixed code) (nullNumbers x i 1 (bytesOf (x .state) i) n c)
-      (cond (isString code) (nullString x i (bytesOf (x .state) i) n c)
+      cond (isFixed code) (nullNumbers x i 1 (bytesOf (x .plan) i) n c)
+      (cond (isString code) (nullString x i (bytesOf (x .plan) i) n c)
       (cond (isView code) (nullNumbers x i 1 16 n c)
-      (cond (isListView code) (nullListView (bytesOf (x .state) i) i n c)
-      (cond (isList code) (nullList (bytesOf (x .state) i) i n c)
+      (cond (isListView code) (nullListView (bytesOf (x .plan) i) i n c)
+      (cond (isList code) (nullList (bytesOf (x .plan) i) i n c)
       (cond (eqb code 21) (nullSparse i n c)
       (cond (eqb code 22) (nullDense i n c)
       (cond (eqb code 23) (nullRuns i n c)
@@ -93,8 +93,8 @@ module _ (x : Join) (child : NullWalk) where
   nullNode i n c =
       cond (eqb n 0) (done c)
       (need (ltb i 32) 12 c
-      (next (nullData (codeOf (x .state) i) i n c)
-      (λ c2. next (cond (masked (codeOf (x .state) i)) (nullMask x i n c2) (countNulls x i n c2))
+      (next (nullData (codeOf (x .plan) i) i n c)
+      (λ c2. next (cond (masked (codeOf (x .plan) i)) (nullMask x i n c2) (countNulls x i n c2))
       (λ c3. done (addRows i n c3)))))
 
 -- THE WALK OF NULLS, at most `depth` levels down

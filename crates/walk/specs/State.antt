@@ -1,4 +1,4 @@
--- The state of a join as numbers, and what an order reads beside it. Assumes nothing.
+-- The plan and the counters of a join as numbers, and what an order reads beside it. Assumes nothing.
 use mathlib.Core.Bool.{Bool, cond}
 use mathlib.Core.List.{List}
 use Prim.Native.Nat.{ℕ, _+_, _*_, _%_, min}
@@ -6,46 +6,46 @@ use lib.ListN.{length, getD, set}
 use lib.Dec.{leb, ltb, eqb}
 use Rattle.schema.specs.formats.Code.{widthOf}
 
--- ---- the state: 8 words a node for 32 nodes (crate `array_data::node_words`), 3 counters a node, and a base for each of 16 sources and 32 nodes
+-- ---- the plan: 8 words a node for 32 nodes (crate `array_data::node_words`), 3 counters a node, and a base for each of 16 sources and 32 nodes
 
 abbrev pub word : List ℕ → ℕ → ℕ → ℕ
-word state i j = getD state (8 * i + j) 0
+word plan i j = getD plan (8 * i + j) 0
 
 -- the code of node i's format
 abbrev pub codeOf : List ℕ → ℕ → ℕ
-codeOf state i = word state i 0 % 256
+codeOf plan i = word plan i 0 % 256
 
 -- 0 where node i has no dictionary
 abbrev pub dictionaryOf : List ℕ → ℕ → ℕ
-dictionaryOf state i = word state i 1
+dictionaryOf plan i = word plan i 1
 
 -- where node i's subtree ends, at most 32
 abbrev pub endOf : List ℕ → ℕ → ℕ
-endOf state i = min (word state i 2) 32
+endOf plan i = min (word plan i 2) 32
 
 -- the id that node i has as the child of a union
 abbrev pub idOf : List ℕ → ℕ → ℕ
-idOf state i = word state i 3 % 256
+idOf plan i = word plan i 3 % 256
 
 -- 1 where node i is nullable
 abbrev pub nullableOf : List ℕ → ℕ → ℕ
-nullableOf state i = word state i 4
+nullableOf plan i = word plan i 4
 
 -- 0 where node i keeps no nulls
 abbrev pub keepsOf : List ℕ → ℕ → ℕ
-keepsOf state i = word state i 5
+keepsOf plan i = word plan i 5
 
 -- the part of node i's first buffer: its validity, if it has a part, is the one before, its second buffer the one behind
 abbrev pub partOf : List ℕ → ℕ → ℕ
-partOf state i = word state i 6 % 4294967296
+partOf plan i = word plan i 6 % 4294967296
 
 -- the bytes of an entry of node i
 abbrev pub bytesOf : List ℕ → ℕ → ℕ
-bytesOf state i = widthOf (codeOf state i)
+bytesOf plan i = widthOf (codeOf plan i)
 
 -- what is added to source s's keys or buffer numbers at node i
 abbrev pub baseOf : List ℕ → ℕ → ℕ → ℕ
-baseOf state s i = getD state (352 + (32 * s + i)) 0
+baseOf plan s i = getD plan (352 + (32 * s + i)) 0
 
 -- ---- the counters of a node: its rows, its nulls, and the bytes of a byte string's data
 
@@ -95,10 +95,10 @@ scaled r w = min (r * w) top
 abbrev pub far : ℕ
 far = 9223372036854775808
 
--- ---- what an order is carried out with: the state, the parts, and a source's tables from its first node on
+-- ---- what an order is carried out with: the plan, the parts, and a source's tables from its first node on
 
 pub record Join : Type 0 where
-  pub state : List ℕ
+  pub plan : List ℕ
   pub parts : List ℕ
   pub lengths : List ℕ
   pub places : List ℕ

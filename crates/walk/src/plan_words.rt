@@ -1,4 +1,4 @@
-// The state and the counters of a join as numbers, and where a write goes.
+// The plan and the counters of a join as numbers, and where a write goes.
 // A walk that only tries makes no write; nor is a write made that would leave the room.
 ghost use mathlib.Core.Path.{_≡_};
 ghost use Prim.Native.Nat.{_+_, _*_, _<_, _≤_, _^_};
@@ -37,27 +37,27 @@ pub enum Goal {
 const FEW: u64 = 1152921504606846976;
 
 // The code of node i's format.
-pub fn code_of(state: &[u64], i: usize) -> u8
+pub fn code_of(plan: &[u64], i: usize) -> u8
     requires { ⌜ i < 32 ⌝ }
-    ensures { λ r. ⌜ r ≡ codeOf (now (state .entry)) i ⌝ }
+    ensures { λ r. ⌜ r ≡ codeOf (now (plan .entry)) i ⌝ }
 {
-    (lent_tables::at_u64(state, 8 * i) % 256) as u8
+    (lent_tables::at_u64(plan, 8 * i) % 256) as u8
 }
 
-pub fn dictionary_of(state: &[u64], i: usize) -> u64
+pub fn dictionary_of(plan: &[u64], i: usize) -> u64
     requires { ⌜ i < 32 ⌝ }
-    ensures { λ r. ⌜ r ≡ dictionaryOf (now (state .entry)) i ⌝ }
+    ensures { λ r. ⌜ r ≡ dictionaryOf (now (plan .entry)) i ⌝ }
 {
-    lent_tables::at_u64(state, 8 * i + 1)
+    lent_tables::at_u64(plan, 8 * i + 1)
 }
 
 // Where node i's subtree ends, at most 32.
-pub fn end_of(state: &[u64], i: usize) -> usize
+pub fn end_of(plan: &[u64], i: usize) -> usize
     requires { ⌜ i < 32 ⌝ }
-    ensures { λ r. ⌜ r ≡ endOf (now (state .entry)) i ⌝ }
+    ensures { λ r. ⌜ r ≡ endOf (now (plan .entry)) i ⌝ }
     ensures { λ r. ⌜ r ≤ 32 ⌝ }
 {
-    let e = lent_tables::at_u64(state, 8 * i + 2);
+    let e = lent_tables::at_u64(plan, 8 * i + 2);
     if 32 < e {
         return 32;
     }
@@ -65,57 +65,57 @@ pub fn end_of(state: &[u64], i: usize) -> usize
 }
 
 // The id that node i has as the child of a union.
-pub fn id_of(state: &[u64], i: usize) -> u8
+pub fn id_of(plan: &[u64], i: usize) -> u8
     requires { ⌜ i < 32 ⌝ }
-    ensures { λ r. ⌜ r ≡ idOf (now (state .entry)) i ⌝ }
+    ensures { λ r. ⌜ r ≡ idOf (now (plan .entry)) i ⌝ }
 {
-    (lent_tables::at_u64(state, 8 * i + 3) % 256) as u8
+    (lent_tables::at_u64(plan, 8 * i + 3) % 256) as u8
 }
 
-pub fn nullable_of(state: &[u64], i: usize) -> u64
+pub fn nullable_of(plan: &[u64], i: usize) -> u64
     requires { ⌜ i < 32 ⌝ }
-    ensures { λ r. ⌜ r ≡ nullableOf (now (state .entry)) i ⌝ }
+    ensures { λ r. ⌜ r ≡ nullableOf (now (plan .entry)) i ⌝ }
 {
-    lent_tables::at_u64(state, 8 * i + 4)
+    lent_tables::at_u64(plan, 8 * i + 4)
 }
 
 // 0 where node i keeps no nulls.
-pub fn keeps_of(state: &[u64], i: usize) -> u64
+pub fn keeps_of(plan: &[u64], i: usize) -> u64
     requires { ⌜ i < 32 ⌝ }
-    ensures { λ r. ⌜ r ≡ keepsOf (now (state .entry)) i ⌝ }
+    ensures { λ r. ⌜ r ≡ keepsOf (now (plan .entry)) i ⌝ }
 {
-    lent_tables::at_u64(state, 8 * i + 5)
+    lent_tables::at_u64(plan, 8 * i + 5)
 }
 
 // The part of node i's first buffer.
-pub fn part_of(state: &[u64], i: usize) -> usize
+pub fn part_of(plan: &[u64], i: usize) -> usize
     requires { ⌜ i < 32 ⌝ }
-    ensures { λ r. ⌜ r ≡ partOf (now (state .entry)) i ⌝ }
+    ensures { λ r. ⌜ r ≡ partOf (now (plan .entry)) i ⌝ }
     ensures { λ r. ⌜ r < 4294967296 ⌝ }
 {
-    (lent_tables::at_u64(state, 8 * i + 6) % 4294967296) as usize
+    (lent_tables::at_u64(plan, 8 * i + 6) % 4294967296) as usize
 }
 
 // What is added to source s's keys or buffer numbers at node i.
-pub fn base_of(state: &[u64], s: usize, i: usize) -> u64
+pub fn base_of(plan: &[u64], s: usize, i: usize) -> u64
     requires { ⌜ (s < 4294967296) × (i < 32) ⌝ }
-    ensures { λ r. ⌜ r ≡ baseOf (now (state .entry)) s i ⌝ }
+    ensures { λ r. ⌜ r ≡ baseOf (now (plan .entry)) s i ⌝ }
 {
-    lent_tables::at_u64(state, BASES + (32 * s + i))
+    lent_tables::at_u64(plan, BASES + (32 * s + i))
 }
 
-pub fn rows_of(counts: &[u64; COUNTERS], i: usize) -> u64
+pub fn rows_of(counters: &[u64; COUNTERS], i: usize) -> u64
     requires { ⌜ i < 32 ⌝ }
-    ensures { λ r. ⌜ r ≡ rows (now (counts .entry)) i ⌝ }
+    ensures { λ r. ⌜ r ≡ rows (now (counters .entry)) i ⌝ }
 {
-    counts[3 * i]
+    counters[3 * i]
 }
 
-pub fn bytes_of(counts: &[u64; COUNTERS], i: usize) -> u64
+pub fn bytes_of(counters: &[u64; COUNTERS], i: usize) -> u64
     requires { ⌜ i < 32 ⌝ }
-    ensures { λ r. ⌜ r ≡ bytes (now (counts .entry)) i ⌝ }
+    ensures { λ r. ⌜ r ≡ bytes (now (counters .entry)) i ⌝ }
 {
-    counts[3 * i + 2]
+    counters[3 * i + 2]
 }
 
 // A counter n higher; it stays at the largest number.
@@ -129,27 +129,27 @@ pub fn grow(v: u64, n: u64) -> u64
 }
 
 // n rows more at node i.
-pub fn add_rows(counts: &mut [u64; COUNTERS], i: usize, n: u64)
+pub fn add_rows(counters: &mut [u64; COUNTERS], i: usize, n: u64)
     requires { ⌜ i < 32 ⌝ }
-    ensures { λ _. ⌜ now (counts .exit) ≡ addRows i n (now (counts .entry)) ⌝ }
+    ensures { λ _. ⌜ now (counters .exit) ≡ addRows i n (now (counters .entry)) ⌝ }
 {
-    counts[3 * i] = grow(counts[3 * i], n);
+    counters[3 * i] = grow(counters[3 * i], n);
 }
 
 // n nulls more at node i.
-pub fn add_nulls(counts: &mut [u64; COUNTERS], i: usize, n: u64)
+pub fn add_nulls(counters: &mut [u64; COUNTERS], i: usize, n: u64)
     requires { ⌜ i < 32 ⌝ }
-    ensures { λ _. ⌜ now (counts .exit) ≡ addNulls i n (now (counts .entry)) ⌝ }
+    ensures { λ _. ⌜ now (counters .exit) ≡ addNulls i n (now (counters .entry)) ⌝ }
 {
-    counts[3 * i + 1] = grow(counts[3 * i + 1], n);
+    counters[3 * i + 1] = grow(counters[3 * i + 1], n);
 }
 
 // The bytes of node i's data.
-pub fn set_bytes(counts: &mut [u64; COUNTERS], i: usize, n: u64)
+pub fn set_bytes(counters: &mut [u64; COUNTERS], i: usize, n: u64)
     requires { ⌜ i < 32 ⌝ }
-    ensures { λ _. ⌜ now (counts .exit) ≡ setBytes i n (now (counts .entry)) ⌝ }
+    ensures { λ _. ⌜ now (counters .exit) ≡ setBytes i n (now (counters .entry)) ⌝ }
 {
-    counts[3 * i + 2] = n;
+    counters[3 * i + 2] = n;
 }
 
 // The bytes of r entries of w bytes; it stays at the largest number.
@@ -167,11 +167,11 @@ pub fn scale(r: u64, w: u64) -> u64
 }
 
 // Where the part of buffer b of node i starts; buffer 0 is the validity.
-fn start_of(state: &[u64], parts: &[u64], i: usize, b: usize) -> u64
+fn start_of(plan: &[u64], parts: &[u64], i: usize, b: usize) -> u64
     requires { ⌜ (i < 32) × (b < 3) ⌝ }
-    ensures { λ r. ⌜ r ≡ startOf (now (state .entry)) (now (parts .entry)) i b ⌝ }
+    ensures { λ r. ⌜ r ≡ startOf (now (plan .entry)) (now (parts .entry)) i b ⌝ }
 {
-    let p = part_of(state, i) + b;
+    let p = part_of(plan, i) + b;
     if p == 0 {
         return lent_tables::at_u64(parts, 0);
     }
@@ -180,7 +180,7 @@ fn start_of(state: &[u64], parts: &[u64], i: usize, b: usize) -> u64
 
 // Where n bytes from byte o of buffer b of node i on are written in a room of m bytes.
 pub fn target(
-    state: &[u64],
+    plan: &[u64],
     parts: &[u64],
     m: usize,
     write: bool,
@@ -190,12 +190,12 @@ pub fn target(
     n: u64,
 ) -> Goal
     requires { ⌜ (i < 32) × (b < 3) ⌝ }
-    ensures { λ r. ⌜ r ≡ targetOf (now (state .entry)) (now (parts .entry)) m write i b o n ⌝ }
+    ensures { λ r. ⌜ r ≡ targetOf (now (plan .entry)) (now (parts .entry)) m write i b o n ⌝ }
 {
     if !write {
         return Goal::Skip;
     }
-    let start = start_of(state, parts, i, b);
+    let start = start_of(plan, parts, i, b);
     if !lent_tables::fits_behind(start, o, n, m as u64) {
         return Goal::Skip;
     }
@@ -205,7 +205,7 @@ pub fn target(
 
 // The validity of node i, where n bits from its bit p on are written in a room of m bytes.
 pub fn mask_target(
-    state: &[u64],
+    plan: &[u64],
     parts: &[u64],
     m: usize,
     write: bool,
@@ -214,12 +214,12 @@ pub fn mask_target(
     n: u64,
 ) -> Goal
     requires { ⌜ i < 32 ⌝ }
-    ensures { λ r. ⌜ r ≡ maskTargetOf (now (state .entry)) (now (parts .entry)) m write i p n ⌝ }
+    ensures { λ r. ⌜ r ≡ maskTargetOf (now (plan .entry)) (now (parts .entry)) m write i p n ⌝ }
 {
     if !write {
         return Goal::Skip;
     }
-    let start = start_of(state, parts, i, 0);
+    let start = start_of(plan, parts, i, 0);
     if !lent_tables::bits_fit_behind(start, p, n, m as u64) {
         return Goal::Skip;
     }

@@ -24,7 +24,7 @@ fn nested_node(
     target: u32,
     plan: &[u64],
     parts: &[u64],
-    counts: &mut [u64; plan_words::COUNTERS],
+    counters: &mut [u64; plan_words::COUNTERS],
     ranges: &mut [u64; 64],
     room: &mut [u8],
     write: bool,
@@ -34,7 +34,7 @@ fn nested_node(
 ) -> u8
     requires { ⌜ Here (now formats) (now schema) (now lengths) (now places) (now body) first count target i s n ⌝ }
     requires { ⌜ (isFixed (codeOf (now formats) (now schema) first i) ≡ false) × (isString (codeOf (now formats) (now schema) first i) ≡ false) × (isView (codeOf (now formats) (now schema) first i) ≡ false) ⌝ }
-    ensures { λ g. ⌜ ((buffers : List ℕ) → Did (now (plan .entry)) (now (parts .entry)) write (ownHere (now (formats .entry)) (now (schema .entry)) (now (lengths .entry)) (now (places .entry)) buffers (now (body .entry)) (now (plan .entry)) first count target i s n (now (counts .entry))) (now (room .entry)) g (now (counts .exit)) (now (room .exit))) ⌝ }
+    ensures { λ g. ⌜ ((buffers : List ℕ) → Did (now (plan .entry)) (now (parts .entry)) write (ownHere (now (formats .entry)) (now (schema .entry)) (now (lengths .entry)) (now (places .entry)) buffers (now (body .entry)) (now (plan .entry)) first count target i s n (now (counters .entry))) (now (room .entry)) g (now (counters .exit)) (now (room .exit))) ⌝ }
     ensures { λ g. ⌜ ((buffers : List ℕ) → g ≡ 0 → now (ranges .exit) ≡ settledHere (now (formats .entry)) (now (schema .entry)) (now (lengths .entry)) (now (places .entry)) buffers (now (body .entry)) (now (plan .entry)) first count target i s n (now (ranges .entry))) ⌝ }
 {
     let code = schema::code_of(formats, schema, first as usize, i);
@@ -49,7 +49,7 @@ fn nested_node(
             target,
             plan,
             parts,
-            counts,
+            counters,
             ranges,
             room,
             write,
@@ -128,7 +128,7 @@ pub fn walk_data(
     target: u32,
     plan: &[u64],
     parts: &[u64],
-    counts: &mut [u64; plan_words::COUNTERS],
+    counters: &mut [u64; plan_words::COUNTERS],
     ranges: &mut [u64; 64],
     room: &mut [u8],
     write: bool,
@@ -137,7 +137,7 @@ pub fn walk_data(
     n: u64,
 ) -> u8
     requires { ⌜ Here (now formats) (now schema) (now lengths) (now places) (now body) first count target i s n ⌝ }
-    ensures { λ g. ⌜ ((buffers : List ℕ) → Did (now (plan .entry)) (now (parts .entry)) write (ownHere (now (formats .entry)) (now (schema .entry)) (now (lengths .entry)) (now (places .entry)) buffers (now (body .entry)) (now (plan .entry)) first count target i s n (now (counts .entry))) (now (room .entry)) g (now (counts .exit)) (now (room .exit))) ⌝ }
+    ensures { λ g. ⌜ ((buffers : List ℕ) → Did (now (plan .entry)) (now (parts .entry)) write (ownHere (now (formats .entry)) (now (schema .entry)) (now (lengths .entry)) (now (places .entry)) buffers (now (body .entry)) (now (plan .entry)) first count target i s n (now (counters .entry))) (now (room .entry)) g (now (counters .exit)) (now (room .exit))) ⌝ }
     ensures { λ g. ⌜ ((buffers : List ℕ) → g ≡ 0 → now (ranges .exit) ≡ settledHere (now (formats .entry)) (now (schema .entry)) (now (lengths .entry)) (now (places .entry)) buffers (now (body .entry)) (now (plan .entry)) first count target i s n (now (ranges .entry))) ⌝ }
 {
     let code = schema::code_of(formats, schema, first as usize, i);
@@ -171,7 +171,7 @@ pub fn walk_data(
             target,
             plan,
             parts,
-            counts,
+            counters,
             room,
             write,
             i,
@@ -195,7 +195,7 @@ pub fn walk_data(
         target,
         plan,
         parts,
-        counts,
+        counters,
         ranges,
         room,
         write,

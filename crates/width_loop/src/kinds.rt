@@ -33,7 +33,7 @@ fn put_chars(
     parts: &[u64],
     places: &[u64],
     body: &[u8],
-    counts: &mut [u64; plan_words::COUNTERS],
+    counters: &mut [u64; plan_words::COUNTERS],
     room: &mut [u8],
     write: bool,
     first: u32,
@@ -43,11 +43,11 @@ fn put_chars(
 )
     requires { ⌜ (i < 32) × (place (column [] (now places) [] [] first) i 5 + base + span ≤ length (now body)) ⌝ }
     ensures { λ _. ⌜ now (room .exit) ≡ applyIf (now (plan .entry)) (now (parts .entry)) write (put i 2 0 (take span (drop (place (column [] (now (places .entry)) [] [] first) i 5 + base) (now (body .entry)))) ∷ []) (now (room .entry)) ⌝ }
-    ensures { λ _. ⌜ now (counts .exit) ≡ setBytes i span (now (counts .entry)) ⌝ }
+    ensures { λ _. ⌜ now (counters .exit) ≡ setBytes i span (now (counters .entry)) ⌝ }
 {
     let from = entries::place_at(places, first, i, 5) + base;
     room_writes::put_copy(plan, parts, room, write, i, 2, 0, body, from as usize, span);
-    plan_words::set_bytes(counts, i, span);
+    plan_words::set_bytes(counters, i, span);
 }
 
 // Byte strings: offsets, and the bytes that they span.
@@ -56,7 +56,7 @@ pub fn walk_string(
     parts: &[u64],
     places: &[u64],
     body: &[u8],
-    counts: &mut [u64; plan_words::COUNTERS],
+    counters: &mut [u64; plan_words::COUNTERS],
     room: &mut [u8],
     write: bool,
     first: u32,
@@ -69,7 +69,7 @@ pub fn walk_string(
     requires { ⌜ (i < 32) × (s + n < 2 ^ 63) × Inside (column [] (now places) [] (now body) first) i 3 × Inside (column [] (now places) [] (now body) first) i 5 ⌝ }
     requires { ⌜ ((w ≡ 4 → ⊥) → w ≡ 8) × ((w2 ≡ 4 → ⊥) → w2 ≡ 8) ⌝ }
     requires { ⌜ OffsetsRule w (firstBuffer (column [] (now places) [] (now body) first) i) (length (secondBuffer (column [] (now places) [] (now body) first) i)) s n ⌝ }
-    ensures { λ g. ⌜ ((t t2 : Tree) (okay : ℕ → Bool) → Did (now (plan .entry)) (now (parts .entry)) write (ownAs t t2 (column [] (now (places .entry)) [] (now (body .entry)) first) (now (plan .entry)) (stringNode w) (stringNode w2) i okay s n (now (counts .entry))) (now (room .entry)) g (now (counts .exit)) (now (room .exit))) ⌝ }
+    ensures { λ g. ⌜ ((t t2 : Tree) (okay : ℕ → Bool) → Did (now (plan .entry)) (now (parts .entry)) write (ownAs t t2 (column [] (now (places .entry)) [] (now (body .entry)) first) (now (plan .entry)) (stringNode w) (stringNode w2) i okay s n (now (counters .entry))) (now (room .entry)) g (now (counters .exit)) (now (room .exit))) ⌝ }
 {
     let at = entries::place_at(places, first, i, 3);
     let size = entries::place_at(places, first, i, 4);
@@ -84,7 +84,7 @@ pub fn walk_string(
         parts,
         places,
         body,
-        counts,
+        counters,
         room,
         write,
         first,

@@ -36,7 +36,7 @@ fn walk_node(
     target: u32,
     plan: &[u64],
     parts: &[u64],
-    counts: &mut [u64; plan_words::COUNTERS],
+    counters: &mut [u64; plan_words::COUNTERS],
     ranges: &mut [u64; 64],
     room: &mut [u8],
     write: bool,
@@ -44,7 +44,7 @@ fn walk_node(
 ) -> u8
     requires { ⌜ Accepted (now formats) (now schema) (now lengths) (now places) (now body) first count target × (i < count) ⌝ }
     requires { ⌜ fromIn (now ranges) i + manyIn (now ranges) i ≤ lengthOf (column (now lengths) [] [] [] first) i ⌝ }
-    ensures { λ g. ⌜ ((buffers : List ℕ) → Did (now (plan .entry)) (now (parts .entry)) write (turn (treeOf (now (formats .entry)) (now (schema .entry)) first count) (treeOf (now (formats .entry)) (now (schema .entry)) target count) (column (now (lengths .entry)) (now (places .entry)) buffers (now (body .entry)) first) (now (plan .entry)) i (now (ranges .entry)) (now (counts .entry))) (now (room .entry)) g (now (counts .exit)) (now (room .exit))) ⌝ }
+    ensures { λ g. ⌜ ((buffers : List ℕ) → Did (now (plan .entry)) (now (parts .entry)) write (turn (treeOf (now (formats .entry)) (now (schema .entry)) first count) (treeOf (now (formats .entry)) (now (schema .entry)) target count) (column (now (lengths .entry)) (now (places .entry)) buffers (now (body .entry)) first) (now (plan .entry)) i (now (ranges .entry)) (now (counters .entry))) (now (room .entry)) g (now (counters .exit)) (now (room .exit))) ⌝ }
     ensures { λ g. ⌜ ((buffers : List ℕ) → g ≡ 0 → now (ranges .exit) ≡ settle (treeOf (now (formats .entry)) (now (schema .entry)) first count) (treeOf (now (formats .entry)) (now (schema .entry)) target count) (column (now (lengths .entry)) (now (places .entry)) buffers (now (body .entry)) first) (now (plan .entry)) i (now (ranges .entry))) ⌝ }
 {
     if width_walks::target_rules::is_ends_at(formats, schema, first as usize, i) {
@@ -53,7 +53,7 @@ fn walk_node(
     let s = entries::offset_at(lengths, first, i) + ranges[2 * i];
     let n = ranges[2 * i + 1];
     leaves::put_bits(plan, parts, places, body, room, write, first, i, s, n);
-    plan_words::add_rows(counts, i, n);
+    plan_words::add_rows(counters, i, n);
     dispatch::walk_data(
         formats,
         schema,
@@ -65,7 +65,7 @@ fn walk_node(
         target,
         plan,
         parts,
-        counts,
+        counters,
         ranges,
         room,
         write,
@@ -87,13 +87,13 @@ pub fn convert_walk(
     target: u32,
     plan: &[u64],
     parts: &[u64],
-    counts: &mut [u64; plan_words::COUNTERS],
+    counters: &mut [u64; plan_words::COUNTERS],
     room: &mut [u8],
     write: bool,
 ) -> u8
     requires { ⌜ ((buffers : List ℕ) × (columnGround (now formats) (now schema) (tablesOf (now lengths) (now places) buffers (now body)) first n ≡ 0)) ⌝ }
     requires { ⌜ isTarget (now formats) (now schema) first n target n ≡ true ⌝ }
-    ensures { λ g. ⌜ ((buffers : List ℕ) → Did (now (plan .entry)) (now (parts .entry)) write (treeWalk (treeOf (now (formats .entry)) (now (schema .entry)) first n) (treeOf (now (formats .entry)) (now (schema .entry)) target n) (tablesFrom (tablesOf (now (lengths .entry)) (now (places .entry)) buffers (now (body .entry))) first) (now (plan .entry)) (now (counts .entry))) (now (room .entry)) g (now (counts .exit)) (now (room .exit))) ⌝ }
+    ensures { λ g. ⌜ ((buffers : List ℕ) → Did (now (plan .entry)) (now (parts .entry)) write (treeWalk (treeOf (now (formats .entry)) (now (schema .entry)) first n) (treeOf (now (formats .entry)) (now (schema .entry)) target n) (tablesFrom (tablesOf (now (lengths .entry)) (now (places .entry)) buffers (now (body .entry))) first) (now (plan .entry)) (now (counters .entry))) (now (room .entry)) g (now (counters .exit)) (now (room .exit))) ⌝ }
 {
     let mut ranges = [0u64; 64];
     ranges[1] = entries::length_at(lengths, first, 0);
@@ -111,7 +111,7 @@ pub fn convert_walk(
             target,
             plan,
             parts,
-            counts,
+            counters,
             &mut ranges,
             room,
             write,

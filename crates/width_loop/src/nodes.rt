@@ -83,7 +83,7 @@ pub fn string_node(
     target: u32,
     plan: &[u64],
     parts: &[u64],
-    counts: &mut [u64; plan_words::COUNTERS],
+    counters: &mut [u64; plan_words::COUNTERS],
     room: &mut [u8],
     write: bool,
     i: usize,
@@ -92,7 +92,7 @@ pub fn string_node(
 ) -> u8
     requires { ⌜ ((count : ℕ) × Here (now formats) (now schema) (now lengths) (now places) (now body) first count target i s n) ⌝ }
     requires { ⌜ isString (codeOf (now formats) (now schema) first i) ≡ true ⌝ }
-    ensures { λ g. ⌜ ((buffers : List ℕ) (count : ℕ) → Did (now (plan .entry)) (now (parts .entry)) write (ownHere (now (formats .entry)) (now (schema .entry)) (now (lengths .entry)) (now (places .entry)) buffers (now (body .entry)) (now (plan .entry)) first count target i s n (now (counts .entry))) (now (room .entry)) g (now (counts .exit)) (now (room .exit))) ⌝ }
+    ensures { λ g. ⌜ ((buffers : List ℕ) (count : ℕ) → Did (now (plan .entry)) (now (parts .entry)) write (ownHere (now (formats .entry)) (now (schema .entry)) (now (lengths .entry)) (now (places .entry)) buffers (now (body .entry)) (now (plan .entry)) first count target i s n (now (counters .entry))) (now (room .entry)) g (now (counters .exit)) (now (room .exit))) ⌝ }
 {
     let w = width_at(formats, schema, first, i);
     let w2 = width_at(formats, schema, target, i);
@@ -101,7 +101,7 @@ pub fn string_node(
         parts,
         places,
         body,
-        counts,
+        counters,
         room,
         write,
         first,
@@ -273,7 +273,7 @@ pub fn run_node(
     target: u32,
     plan: &[u64],
     parts: &[u64],
-    counts: &mut [u64; plan_words::COUNTERS],
+    counters: &mut [u64; plan_words::COUNTERS],
     ranges: &mut [u64; 64],
     room: &mut [u8],
     write: bool,
@@ -283,7 +283,7 @@ pub fn run_node(
 ) -> u8
     requires { ⌜ ((count : ℕ) × Here (now formats) (now schema) (now lengths) (now places) (now body) first count target i s n) ⌝ }
     requires { ⌜ isRunEnd (codeOf (now formats) (now schema) first i) ≡ true ⌝ }
-    ensures { λ g. ⌜ ((buffers : List ℕ) (count : ℕ) → Did (now (plan .entry)) (now (parts .entry)) write (ownHere (now (formats .entry)) (now (schema .entry)) (now (lengths .entry)) (now (places .entry)) buffers (now (body .entry)) (now (plan .entry)) first count target i s n (now (counts .entry))) (now (room .entry)) g (now (counts .exit)) (now (room .exit))) ⌝ }
+    ensures { λ g. ⌜ ((buffers : List ℕ) (count : ℕ) → Did (now (plan .entry)) (now (parts .entry)) write (ownHere (now (formats .entry)) (now (schema .entry)) (now (lengths .entry)) (now (places .entry)) buffers (now (body .entry)) (now (plan .entry)) first count target i s n (now (counters .entry))) (now (room .entry)) g (now (counters .exit)) (now (room .exit))) ⌝ }
     ensures { λ g. ⌜ ((buffers : List ℕ) (count : ℕ) → g ≡ 0 → now (ranges .exit) ≡ settledHere (now (formats .entry)) (now (schema .entry)) (now (lengths .entry)) (now (places .entry)) buffers (now (body .entry)) (now (plan .entry)) first count target i s n (now (ranges .entry))) ⌝ }
 {
     let w = width_at(formats, schema, first, i + 1);
@@ -294,7 +294,7 @@ pub fn run_node(
         lengths,
         places,
         body,
-        counts,
+        counters,
         ranges,
         room,
         write,

@@ -25,7 +25,7 @@ fn put_range(
     plan: &[u64],
     parts: &[u64],
     body: &[u8],
-    counts: &mut [u64; plan_words::COUNTERS],
+    counters: &mut [u64; plan_words::COUNTERS],
     ranges: &mut [u64; 64],
     room: &mut [u8],
     write: bool,
@@ -41,7 +41,7 @@ fn put_range(
     requires { ⌜ (i + 2 < 32) × (1 ≤ m) × (ends + w * (a + m) ≤ length (now body)) ⌝ }
     requires { ⌜ ((w ≡ 2 → ⊥) → (w ≡ 4 → ⊥) → w ≡ 8) × ((w2 ≡ 2 → ⊥) → (w2 ≡ 4 → ⊥) → w2 ≡ 8) ⌝ }
     ensures { λ _. ⌜ now (room .exit) ≡ applyIf (now (plan .entry)) (now (parts .entry)) write (put (suc i) 1 0 (lessened w w2 (now (body .entry)) (ends + w * a) s (m - 1) ++ encode w2 n) ∷ []) (now (room .entry)) ⌝ }
-    ensures { λ _. ⌜ (now (counts .exit) ≡ addRows (suc i) m (now (counts .entry))) × (now (ranges .exit) ≡ range (suc (suc i)) a m (now (ranges .entry))) ⌝ }
+    ensures { λ _. ⌜ (now (counters .exit) ≡ addRows (suc i) m (now (counters .entry))) × (now (ranges .exit) ≡ range (suc (suc i)) a m (now (ranges .entry))) ⌝ }
 {
     let from = ends + w * a;
     width_walks::width_writes::put_ends(
@@ -59,7 +59,7 @@ fn put_range(
         s,
         n,
     );
-    plan_words::add_rows(counts, i + 1, m);
+    plan_words::add_rows(counters, i + 1, m);
     ranges::set_range(ranges, i + 2, a, m);
 }
 
@@ -70,7 +70,7 @@ fn put_runs(
     lengths: &[u64],
     places: &[u64],
     body: &[u8],
-    counts: &mut [u64; plan_words::COUNTERS],
+    counters: &mut [u64; plan_words::COUNTERS],
     ranges: &mut [u64; 64],
     room: &mut [u8],
     write: bool,
@@ -84,7 +84,7 @@ fn put_runs(
     requires { ⌜ (i + 2 < 32) × (1 ≤ n) × (s + n < 2 ^ 63) × (offsetOf (column (now lengths) [] [] [] first) (suc i) + lengthOf (column (now lengths) [] [] [] first) (suc i) < 2 ^ 63) ⌝ }
     requires { ⌜ ((w ≡ 2 → ⊥) → (w ≡ 4 → ⊥) → w ≡ 8) × ((w2 ≡ 2 → ⊥) → (w2 ≡ 4 → ⊥) → w2 ≡ 8) ⌝ }
     requires { ⌜ RunsHere (column (now lengths) (now places) [] (now body) first) i w s n ⌝ }
-    ensures { λ _. ⌜ Did (now (plan .entry)) (now (parts .entry)) write (runsWalk (column (now (lengths .entry)) (now (places .entry)) [] (now (body .entry)) first) w w2 i s n (now (counts .entry))) (now (room .entry)) 0 (now (counts .exit)) (now (room .exit)) ⌝ }
+    ensures { λ _. ⌜ Did (now (plan .entry)) (now (parts .entry)) write (runsWalk (column (now (lengths .entry)) (now (places .entry)) [] (now (body .entry)) first) w w2 i s n (now (counters .entry))) (now (room .entry)) 0 (now (counters .exit)) (now (room .exit)) ⌝ }
     ensures { λ _. ⌜ now (ranges .exit) ≡ runsRange (column (now (lengths .entry)) (now (places .entry)) [] (now (body .entry)) first) w i s n (now (ranges .entry)) ⌝ }
 {
     let off = entries::offset_at(lengths, first, i + 1);
@@ -102,7 +102,7 @@ fn put_runs(
             plan,
             parts,
             body,
-            counts,
+            counters,
             ranges,
             room,
             write,
@@ -126,7 +126,7 @@ pub fn walk_runs(
     lengths: &[u64],
     places: &[u64],
     body: &[u8],
-    counts: &mut [u64; plan_words::COUNTERS],
+    counters: &mut [u64; plan_words::COUNTERS],
     ranges: &mut [u64; 64],
     room: &mut [u8],
     write: bool,
@@ -140,11 +140,11 @@ pub fn walk_runs(
     requires { ⌜ (i + 2 < 32) × (s + n < 2 ^ 63) × (offsetOf (column (now lengths) [] [] [] first) (suc i) + lengthOf (column (now lengths) [] [] [] first) (suc i) < 2 ^ 63) ⌝ }
     requires { ⌜ ((w ≡ 2 → ⊥) → (w ≡ 4 → ⊥) → w ≡ 8) × ((w2 ≡ 2 → ⊥) → (w2 ≡ 4 → ⊥) → w2 ≡ 8) ⌝ }
     requires { ⌜ RunsHere (column (now lengths) (now places) [] (now body) first) i w s n ⌝ }
-    ensures { λ g. ⌜ ((t t2 : Tree) (okay : ℕ → Bool) → Did (now (plan .entry)) (now (parts .entry)) write (ownAs t t2 (column (now (lengths .entry)) (now (places .entry)) [] (now (body .entry)) first) (now (plan .entry)) (runEndNode w) (runEndNode w2) i okay s n (now (counts .entry))) (now (room .entry)) g (now (counts .exit)) (now (room .exit))) ⌝ }
+    ensures { λ g. ⌜ ((t t2 : Tree) (okay : ℕ → Bool) → Did (now (plan .entry)) (now (parts .entry)) write (ownAs t t2 (column (now (lengths .entry)) (now (places .entry)) [] (now (body .entry)) first) (now (plan .entry)) (runEndNode w) (runEndNode w2) i okay s n (now (counters .entry))) (now (room .entry)) g (now (counters .exit)) (now (room .exit))) ⌝ }
     ensures { λ g. ⌜ ((t t2 : Tree) → g ≡ 0 → now (ranges .exit) ≡ settleAs t t2 (column (now (lengths .entry)) (now (places .entry)) [] (now (body .entry)) first) (now (plan .entry)) (runEndNode w) i s n (now (ranges .entry))) ⌝ }
 {
     if n == 0 {
-        plan_words::add_rows(counts, i + 1, 0);
+        plan_words::add_rows(counters, i + 1, 0);
         ranges::set_range(ranges, i + 2, 0, 0);
         return 0;
     }
@@ -157,7 +157,7 @@ pub fn walk_runs(
         lengths,
         places,
         body,
-        counts,
+        counters,
         ranges,
         room,
         write,

@@ -85,12 +85,12 @@ module _ (formats schema : List ℕ) (x : Tables) (first n first′ : ℕ) (part
 
   -- ---- the call on lent memory
 
-  module _ (own : ℕ) (plan counts room : List ℕ) (room-bytes : AllBelow 256 room) (accepted : anew formats schema x first n own plan-made walk parts plan counts room .ground ≡ 0) where
+  module _ (own : ℕ) (plan counters room : List ℕ) (room-bytes : AllBelow 256 room) (accepted : anew formats schema x first n own plan-made walk parts plan counters room .ground ≡ 0) where
     abbrev answer : Opening
-    answer = anew formats schema x first n own plan-made walk parts plan counts room
+    answer = anew formats schema x first n own plan-made walk parts plan counters room
 
     walk-done : walk .ans ≡ 0
-    walk-done = anew-accepted formats schema x first n own plan-made walk parts plan counts room accepted .walk-done
+    walk-done = anew-accepted formats schema x first n own plan-made walk parts plan counters room accepted .walk-done
 
     all-here : AllFit (numbers from to widths column)
     all-here = all-fit walk-done
@@ -99,17 +99,17 @@ module _ (formats schema : List ℕ) (x : Tables) (first n first′ : ℕ) (part
       -- the tables that finishing gives
       abbrev pub after-tables : Tables
       after-tables =
-          finishedTables (lent formats schema x first n first′ parts (typed-here formats schema x first n ok) (low-here formats schema x first n ok) h) (x .buffers) (answer .counts) (answer .room) base body
+          finishedTables (lent formats schema x first n first′ parts (typed-here formats schema x first n ok) (low-here formats schema x first n ok) h) (x .buffers) (answer .counters) (answer .room) base body
 
       result :
           Shows (treeOf formats schema first′ n) after-tables to 0 (columnAs from to widths column 0 (column .len))
-          × Counts (treeOf formats schema first′ n) (nullTable (lent formats schema x first n first′ parts (typed-here formats schema x first n ok) (low-here formats schema x first n ok) h) (x .buffers) (answer .counts) (answer .room) base) to 0 (columnAs from to widths column 0 (column .len))
+          × Counts (treeOf formats schema first′ n) (nullTable (lent formats schema x first n first′ parts (typed-here formats schema x first n ok) (low-here formats schema x first n ok) h) (x .buffers) (answer .counters) (answer .room) base) to 0 (columnAs from to widths column 0 (column .len))
           × (readAll to (columnOf (treeOf formats schema first′ n) after-tables to 0) ≡ readAll to (columnAs from to widths column 0 (column .len)))
           × T (sourceRule (treeOf formats schema first′ n) after-tables)
       result =
           let target = target-is formats schema first n first′ n h in
           let keeps = keep formats schema x first n first′ parts (typed-here formats schema x first n ok) (low-here formats schema x first n ok) h in
-          anew-result formats schema x first n own first′ n keeps true 0 walk parts plan counts room (target .of-type) (target .low)
+          anew-result formats schema x first n own first′ n keeps true 0 walk parts plan counters room (target .of-type) (target .low)
           (no-ends formats schema x first n first′ parts (typed-here formats schema x first n ok) (low-here formats schema x first n ok) h) (columnAs from to widths column 0 (column .len)) (filled walk-done)
           room-bytes accepted base body bodied
 

@@ -53,26 +53,26 @@ module _ (formats schema : List ℕ) (x : Tables) (first n target tn : ℕ) wher
       go false p = refl
 
   -- AN ACCEPTED CALL has a column that is well formed, and a target that passes
-  pub only-good : (parts plan counts room : List ℕ) → convert formats schema x first n target tn parts plan counts room .ground ≡ 0
+  pub only-good : (parts plan counters room : List ℕ) → convert formats schema x first n target tn parts plan counters room .ground ≡ 0
       → (columnGround formats schema x first n ≡ 0) × (isTarget formats schema first n target tn ≡ true) × (n ≡ tn)
-  only-good parts plan counts room e =
+  only-good parts plan counters room e =
       let a =
-      anew-accepted formats schema x first n (targetGround formats schema x first n target tn) (planned formats schema x first n target tn) (walked formats schema x first n target tn) parts plan counts room e in
+      anew-accepted formats schema x first n (targetGround formats schema x first n target tn) (planned formats schema x first n target tn) (walked formats schema x first n target tn) parts plan counters room e in
       (a .column-good, passed (a .own-none), target-is formats schema first n target tn (passed (a .own-none)) .same-size)
 
-  module _ (parts plan counts room : List ℕ) (small : smallBody room ≡ true) where
+  module _ (parts plan counters room : List ℕ) (small : smallBody room ≡ true) where
     abbrev ground : ℕ
-    ground = convert formats schema x first n target tn parts plan counts room .ground
+    ground = convert formats schema x first n target tn parts plan counters room .ground
 
     abbrev of-room : ℕ
-    of-room = roomGround (planned formats schema x first n target tn) (walked formats schema x first n target tn .counts) parts (length plan) (length counts) (length room)
+    of-room = roomGround (planned formats schema x first n target tn) (walked formats schema x first n target tn .counters) parts (length plan) (length counters) (length room)
 
     abbrev walk-answer : ℕ
     walk-answer = walked formats schema x first n target tn .ans
 
     ground-is : ground ≡ orElse (orElse (columnGround formats schema x first n) (orElse (targetGround formats schema x first n target tn) walk-answer)) of-room
     unfolding ahead
-    ground-is = anew-ground formats schema x first n (targetGround formats schema x first n target tn) (planned formats schema x first n target tn) (walked formats schema x first n target tn) parts plan counts room small
+    ground-is = anew-ground formats schema x first n (targetGround formats schema x first n target tn) (planned formats schema x first n target tn) (walked formats schema x first n target tn) parts plan counters room small
 
     -- A MALFORMED COLUMN is met before all else
     pub column-first : (columnGround formats schema x first n ≡ 0 → ⊥) → ground ≡ columnGround formats schema x first n
@@ -93,7 +93,7 @@ module _ (formats schema : List ℕ) (x : Tables) (first n target tn : ℕ) wher
 
 -- ---- a column that is accepted, and a target that passes: it has as many nodes (target-is)
 
-module _ (formats schema : List ℕ) (x : Tables) (first n target : ℕ) (parts plan counts room : List ℕ) (ok : columnGround formats schema x first n ≡ 0) (h : isTarget formats schema first n target n ≡ true)
+module _ (formats schema : List ℕ) (x : Tables) (first n target : ℕ) (parts plan counters room : List ℕ) (ok : columnGround formats schema x first n ≡ 0) (h : isTarget formats schema first n target n ≡ true)
     (bytes : AllBelow 256 (x .body)) where
   abbrev from : Ty
   from = typeOf formats schema first n
@@ -108,29 +108,29 @@ module _ (formats schema : List ℕ) (x : Tables) (first n target : ℕ) (parts 
   differs = widths formats schema x first n target parts ok h bytes
 
   abbrev answer : Opening
-  answer = convert formats schema x first n target n parts plan counts room
+  answer = convert formats schema x first n target n parts plan counters room
 
   abbrev room-answer : ℕ
-  room-answer = roomGround (planned formats schema x first n target n) (walked formats schema x first n target n .counts) parts (length plan) (length counts) (length room)
+  room-answer = roomGround (planned formats schema x first n target n) (walked formats schema x first n target n .counters) parts (length plan) (length counters) (length room)
 
   -- THEN 6, 7 OR 8, THE CONVERTER'S
   pub number-next : smallBody room ≡ true → (g : ℕ) → converted from to differs here ≡ stop g → answer .ground ≡ g
   number-next small g e =
-      behind-target formats schema x first n target n parts plan counts room small ok h ∙ ap (λ a. orElse a room-answer) (walk-ground formats schema x first n target parts ok h bytes g e)
+      behind-target formats schema x first n target n parts plan counters room small ok h ∙ ap (λ a. orElse a room-answer) (walk-ground formats schema x first n target parts ok h bytes g e)
       ∙ or-first g room-answer (some-ground formats schema x first n target parts ok h bytes g (refused-with from to differs here g e))
 
   -- LAST 14 OR 13: WITH ROOM ENOUGH IT IS ACCEPTED WHERE EVERY NUMBER FITS
   pub room-last : smallBody room ≡ true → AllFit (numbers from to differs here) → answer .ground ≡ room-answer
   room-last small fit =
-      behind-target formats schema x first n target n parts plan counts room small ok h ∙ ap (λ a. orElse a room-answer) (walk-none formats schema x first n target parts ok h bytes fit)
+      behind-target formats schema x first n target n parts plan counters room small ok h ∙ ap (λ a. orElse a room-answer) (walk-none formats schema x first n target parts ok h bytes fit)
 
   module _ (accepted : answer .ground ≡ 0) (room-bytes : AllBelow 256 room) (base : ℕ) (body : List ℕ) (bodied : Bodied body (lentFor x (planned formats schema x first n target n) parts first n) (answer .room) base) where
     abbrev result : Tables
-    result = finishedTables (lentFor x (planned formats schema x first n target n) parts first n) (x .buffers) (answer .counts) (answer .room) base body
+    result = finishedTables (lentFor x (planned formats schema x first n target n) parts first n) (x .buffers) (answer .counters) (answer .room) base body
 
     -- WHAT AN ACCEPTED CALL LEAVES, finished, reads as the column that it was given, and can be lent again
     pub convert-reads : (readAll to (columnOf (treeOf formats schema target n) result to 0) ≡ readAll from here) × T (sourceRule (treeOf formats schema target n) result)
     convert-reads = (
-      same-rows formats schema x first n target parts ok h bytes (targetGround formats schema x first n target n) plan counts room room-bytes accepted base body bodied,
-      lent-again formats schema x first n target parts ok h bytes (targetGround formats schema x first n target n) plan counts room room-bytes accepted base body bodied,
+      same-rows formats schema x first n target parts ok h bytes (targetGround formats schema x first n target n) plan counters room room-bytes accepted base body bodied,
+      lent-again formats schema x first n target parts ok h bytes (targetGround formats schema x first n target n) plan counters room room-bytes accepted base body bodied,
     )

@@ -48,7 +48,7 @@ unmasked a (some v) e m = absurd m
 
 -- counters and memory behind the bits of node i
 record AfterBits (i : ℕ) (keep : Bool) (l : List Bool) (c : List ℕ) (μ : Memory) (c1 : List ℕ) (μ1 : Memory) : Type 0 where
-  same-counts : c1 ≡ c
+  same-counters : c1 ≡ c
   at-same : (j b : ℕ) → μ1 .at j b ≡ μ .at j b
   bits-same : (j : ℕ) → (j ≡ i → ⊥) → μ1 .bits j ≡ μ .bits j
   bits-own : keep ≡ true → μ1 .bits i ≡ map flag l
@@ -61,14 +61,14 @@ module _ (x : Lent) (buffers : List ℕ) where
       rw (ne-eqb (keepsOf (x .plan) i) 0 (λ z. omega (arith, k)))
       (quiet-wrote (mask i 0 (map flag (seg okay s n))) c (sym (ap length h))
       (record {
-        same-counts = refl;
+        same-counters = refl;
         at-same = λ j b. refl;
         bits-same = λ j z. rw (ne-eqb j i z);
         bits-own = λ e. rw (eq-eqb i i refl) (ap (λ b. b ++ map flag (seg okay s n)) h);
       }))
   bits-go i okay s n false k c μ h =
       rw (eq-eqb (keepsOf (x .plan) i) 0 k)
-      (quiet-done c (record { same-counts = refl; at-same = λ j b. refl; bits-same = λ j z. refl; bits-own = λ e. absurd (let z : _≡_ {A = ℕ} 0 1 = cc e in omega arith) }))
+      (quiet-done c (record { same-counters = refl; at-same = λ j b. refl; bits-same = λ j z. refl; bits-own = λ e. absurd (let z : _≡_ {A = ℕ} 0 1 = cc e in omega arith) }))
 
   -- the validity of n rows from a on
   valid-stands : {B : Type 0} (c : List ℕ) (μ : Memory) (i : ℕ) (m : Bool) (a : Array B) → Mask m (a .valid) (a .off + a .len) → keepsOf (x .plan) i ≡ flag (ltb 0 (nullCount a))
@@ -94,9 +94,9 @@ module _ (x : Lent) (buffers : List ℕ) where
       other : (c1 : List ℕ) (μ1 : Memory) → AfterBits i (ltb 0 (nullCount a)) (seg (ok (a .valid)) (a .off + from) n) c μ c1 μ1 → (j : ℕ) → (j ≡ i → ⊥) → SameAt c (addRows i n c1) μ μ1 j
       other c1 μ1 h j z =
           record {
-            rows-same = rows-other c1 i n j z ∙ ap (λ w. rows w j) (h .same-counts);
-            nulls-same = nulls-of-rows c1 i n j ∙ ap (λ w. nulls w j) (h .same-counts);
-            bytes-same = bytes-of-rows c1 i n j ∙ ap (λ w. bytes w j) (h .same-counts);
+            rows-same = rows-other c1 i n j z ∙ ap (λ w. rows w j) (h .same-counters);
+            nulls-same = nulls-of-rows c1 i n j ∙ ap (λ w. nulls w j) (h .same-counters);
+            bytes-same = bytes-of-rows c1 i n j ∙ ap (λ w. bytes w j) (h .same-counters);
             at-same = h .at-same j;
             bits-same = h .bits-same j z;
           }
@@ -104,7 +104,7 @@ module _ (x : Lent) (buffers : List ℕ) where
       opened : (c1 : List ℕ) (μ1 : Memory) → AfterBits i (ltb 0 (nullCount a)) (seg (ok (a .valid)) (a .off + from) n) c μ c1 μ1 → Open i e (addRows i n c1) μ1
       opened c1 μ1 h =
           record {
-            long = long-rows i n c1 ∙ ap length (h .same-counts) ∙ long;
+            long = long-rows i n c1 ∙ ap length (h .same-counters) ∙ long;
             own = λ b. h .at-same i b ∙ bare i (omega arith) p .no-bytes b;
             behind = λ j u v. bare-same (other c1 μ1 h j (λ z. omega arith)) (bare j (omega arith) v);
           }
@@ -113,8 +113,8 @@ module _ (x : Lent) (buffers : List ℕ) where
           → StoodNode x buffers c2 μ2 i m (inner c2 μ2) (laid m a from n y) × Kept i e c c2 μ μ2
       stands c1 μ1 h c2 μ2 z =
           let d = z .1 in
-          let zero-rows : rows c1 i ≡ 0 = ap (λ w. rows w i) (h .same-counts) ∙ bare i (omega arith) p .no-rows in
-          let long1 : length c1 ≡ 96 = ap length (h .same-counts) ∙ long in (
+          let zero-rows : rows c1 i ≡ 0 = ap (λ w. rows w i) (h .same-counters) ∙ bare i (omega arith) p .no-rows in
+          let long1 : length c1 ≡ 96 = ap length (h .same-counters) ∙ long in (
             record {
               rows-are = d .rows-own ∙ rows-added c1 long1 i l n ∙ grown-is (rows c1 i) n (omega (arith, zero-rows)) ∙ ap (λ w. w + n) zero-rows ∙ zero-add n;
               from-zero = refl;
@@ -122,7 +122,7 @@ module _ (x : Lent) (buffers : List ℕ) where
               body-is = z .0;
             },
             record {
-              long = d .long ∙ long-rows i n c1 ∙ ap length (h .same-counts);
+              long = d .long ∙ long-rows i n c1 ∙ ap length (h .same-counters);
               outside = λ j u. same-then (other c1 μ1 h j (λ w. u (omega (arith, w)) (omega (arith, w)))) (d .outside j u);
             },
           )

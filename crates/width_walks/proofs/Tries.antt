@@ -62,7 +62,7 @@ pub goes-value : {A B : Type 0} {μ : Memory} {Q : A → List ℕ → Memory →
 goes-value {A} {B} {μ} {Q} {R} m y z f h = go h m refl
   where
     go : {t : Try A} {o : Out} → Goes μ Q t o → (m : Try (Unit {0})) → t ≡ then m (λ u. done y) → Goes μ R (then m (λ u. done z)) o
-    go (good a o e p q) (done u) k = good z o e p (f (o .counts) (after (o .log) μ) (subst (λ w. Q w (o .counts) (after (o .log) μ)) (done-is k) q))
+    go (good a o e p q) (done u) k = good z o e p (f (o .counters) (after (o .log) μ) (subst (λ w. Q w (o .counters) (after (o .log) μ)) (done-is k) q))
     go (good a o e p q) (stop g) k = absurd (not-stop k)
     go (over g o e p) (done u) k = absurd (not-stop (sym k))
     go (over g o e p) (stop h) k = subst (λ w. Goes μ R (stop w) o) (stop-is k) (over g o e p)

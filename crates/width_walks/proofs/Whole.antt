@@ -53,7 +53,7 @@ not-stop : {A : Type 0} {y : A} {g : ℕ} → _≡_ {A = Try A} (done y) (stop g
 not-stop e = let z : _≡_ {A = ℕ} 0 1 = cc in omega arith
 
 when-done : {A : Type 0} {μ : Memory} {Q : A → List ℕ → Memory → Type 0} {t : Try A} {o : Out} (y : A) → Goes μ Q t o → t ≡ done y → Quiet μ (Q y) o
-when-done {μ = μ} {Q} y (good z o e p q) h = record { is-done = e; in-place = p; leaves = subst (λ w. Q w (o .counts) (after (o .log) μ)) (done-is h) q }
+when-done {μ = μ} {Q} y (good z o e p q) h = record { is-done = e; in-place = p; leaves = subst (λ w. Q w (o .counters) (after (o .log) μ)) (done-is h) q }
 when-done y (over g o e p) h = absurd (not-stop (sym h))
 
 when-stopped : {A : Type 0} {μ : Memory} {Q : A → List ℕ → Memory → Type 0} {t : Try A} {o : Out} (g : ℕ) → Goes μ Q t o → t ≡ stop g → o .ans ≡ g

@@ -38,9 +38,9 @@ module _ (formats schema : List ℕ) (x : Tables) (first n target tn : ℕ) wher
   walked = treeWalk (treeOf formats schema first n) (treeOf formats schema target tn) (tablesFrom x first) planned (replicate 96 0)
 
   -- THE QUESTION: what room the result needs
-  abbrev pub asked : (plan counts : List ℕ) → Asking
+  abbrev pub asked : (plan counters : List ℕ) → Asking
   asked = asking formats schema x first n targetGround planned walked
 
   -- THE CALL
-  abbrev pub convert : (parts plan counts room : List ℕ) → Opening
+  abbrev pub convert : (parts plan counters room : List ℕ) → Opening
   convert = anew formats schema x first n targetGround planned walked

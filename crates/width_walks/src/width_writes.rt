@@ -13,7 +13,7 @@ use walk::plan_words;
 
 // n entries of w bytes of those at `from`, each less base, as entries of w2 bytes.
 pub fn put_less(
-    state: &[u64],
+    plan: &[u64],
     parts: &[u64],
     room: &mut [u8],
     write: bool,
@@ -29,10 +29,10 @@ pub fn put_less(
     requires { ⌜ (i < 32) × (b < 3) × (from + w * n ≤ length (now body)) ⌝ }
     requires { ⌜ ((w ≡ 2 → ⊥) → (w ≡ 4 → ⊥) → w ≡ 8) ⌝ }
     requires { ⌜ ((w2 ≡ 2 → ⊥) → (w2 ≡ 4 → ⊥) → w2 ≡ 8) ⌝ }
-    ensures { λ _. ⌜ now (room .exit) ≡ applyIf (now (state .entry)) (now (parts .entry)) write (put i b 0 (lessened w w2 (now (body .entry)) from base n) ∷ []) (now (room .entry)) ⌝ }
+    ensures { λ _. ⌜ now (room .exit) ≡ applyIf (now (plan .entry)) (now (parts .entry)) write (put i b 0 (lessened w w2 (now (body .entry)) from base n) ∷ []) (now (room .entry)) ⌝ }
 {
     let size = plan_words::scale(n, w2);
-    match plan_words::target(state, parts, room.len(), write, i, b, 0, size) {
+    match plan_words::target(plan, parts, room.len(), write, i, b, 0, size) {
         plan_words::Goal::At(at) => offsets::recode_less(
             room,
             at,
@@ -49,7 +49,7 @@ pub fn put_less(
 
 // n entries of w bytes of those at `from` as entries of w2 bytes.
 pub fn put_recoded(
-    state: &[u64],
+    plan: &[u64],
     parts: &[u64],
     room: &mut [u8],
     write: bool,
@@ -64,10 +64,10 @@ pub fn put_recoded(
     requires { ⌜ (i < 32) × (b < 3) × (from + w * n ≤ length (now body)) ⌝ }
     requires { ⌜ ((w ≡ 1 → ⊥) → (w ≡ 2 → ⊥) → (w ≡ 4 → ⊥) → w ≡ 8) ⌝ }
     requires { ⌜ ((w2 ≡ 1 → ⊥) → (w2 ≡ 2 → ⊥) → (w2 ≡ 4 → ⊥) → w2 ≡ 8) ⌝ }
-    ensures { λ _. ⌜ now (room .exit) ≡ applyIf (now (state .entry)) (now (parts .entry)) write (put i b 0 (recoded w w2 (now (body .entry)) from n) ∷ []) (now (room .entry)) ⌝ }
+    ensures { λ _. ⌜ now (room .exit) ≡ applyIf (now (plan .entry)) (now (parts .entry)) write (put i b 0 (recoded w w2 (now (body .entry)) from n) ∷ []) (now (room .entry)) ⌝ }
 {
     let size = plan_words::scale(n, w2);
-    match plan_words::target(state, parts, room.len(), write, i, b, 0, size) {
+    match plan_words::target(plan, parts, room.len(), write, i, b, 0, size) {
         plan_words::Goal::At(at) => keys::recode(room, at, w2, body, from, w, n as usize),
         plan_words::Goal::Skip => {}
     }
@@ -75,7 +75,7 @@ pub fn put_recoded(
 
 // n keys of w bytes of those at `from` as keys of w2 bytes: 0 where the bit is 0, of those from the bit a of the byte `valid` on.
 pub fn put_valid(
-    state: &[u64],
+    plan: &[u64],
     parts: &[u64],
     room: &mut [u8],
     write: bool,
@@ -92,10 +92,10 @@ pub fn put_valid(
     requires { ⌜ (i < 32) × (b < 3) × (from + w * n ≤ length (now body)) × (8 * valid + a + n ≤ 8 * length (now body)) × (a + n < 2 ^ 64) ⌝ }
     requires { ⌜ ((w ≡ 1 → ⊥) → (w ≡ 2 → ⊥) → (w ≡ 4 → ⊥) → w ≡ 8) ⌝ }
     requires { ⌜ ((w2 ≡ 1 → ⊥) → (w2 ≡ 2 → ⊥) → (w2 ≡ 4 → ⊥) → w2 ≡ 8) ⌝ }
-    ensures { λ _. ⌜ now (room .exit) ≡ applyIf (now (state .entry)) (now (parts .entry)) write (put i b 0 (validOnly w w2 (now (body .entry)) from (8 * valid + a) n) ∷ []) (now (room .entry)) ⌝ }
+    ensures { λ _. ⌜ now (room .exit) ≡ applyIf (now (plan .entry)) (now (parts .entry)) write (put i b 0 (validOnly w w2 (now (body .entry)) from (8 * valid + a) n) ∷ []) (now (room .entry)) ⌝ }
 {
     let size = plan_words::scale(n, w2);
-    match plan_words::target(state, parts, room.len(), write, i, b, 0, size) {
+    match plan_words::target(plan, parts, room.len(), write, i, b, 0, size) {
         plan_words::Goal::At(at) => keys::recode_valid(
             room,
             at,
@@ -147,7 +147,7 @@ fn write_ends(
 
 // m run ends of w bytes of those at `from`, each less base, as run ends of w2 bytes; the last of them is `last`.
 pub fn put_ends(
-    state: &[u64],
+    plan: &[u64],
     parts: &[u64],
     room: &mut [u8],
     write: bool,
@@ -164,10 +164,10 @@ pub fn put_ends(
     requires { ⌜ (i < 32) × (b < 3) × (1 ≤ m) × (from + w * m ≤ length (now body)) ⌝ }
     requires { ⌜ ((w ≡ 2 → ⊥) → (w ≡ 4 → ⊥) → w ≡ 8) ⌝ }
     requires { ⌜ ((w2 ≡ 2 → ⊥) → (w2 ≡ 4 → ⊥) → w2 ≡ 8) ⌝ }
-    ensures { λ _. ⌜ now (room .exit) ≡ applyIf (now (state .entry)) (now (parts .entry)) write (put i b 0 (lessened w w2 (now (body .entry)) from base (m - 1) ++ encode w2 last) ∷ []) (now (room .entry)) ⌝ }
+    ensures { λ _. ⌜ now (room .exit) ≡ applyIf (now (plan .entry)) (now (parts .entry)) write (put i b 0 (lessened w w2 (now (body .entry)) from base (m - 1) ++ encode w2 last) ∷ []) (now (room .entry)) ⌝ }
 {
     let size = plan_words::scale(m, w2);
-    match plan_words::target(state, parts, room.len(), write, i, b, 0, size) {
+    match plan_words::target(plan, parts, room.len(), write, i, b, 0, size) {
         plan_words::Goal::At(at) => write_ends(room, at, w2, body, from, w, m as usize, base, last),
         plan_words::Goal::Skip => {}
     }

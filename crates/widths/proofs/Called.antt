@@ -36,9 +36,9 @@ pub recount : {s p room room2 c q : List ℕ} {wr : Bool} {o : Out} {g : ℕ} �
 recount e d = rw e d
 
 -- plan and counters that pass 14 are of a join's lengths
-pub room-lengths : {g : ℕ} (made counts parts : List ℕ) (plan counters room : ℕ) → g ≡ roomGround made counts parts plan counters room → g ≡ 0 → (plan ≡ 872) × (counters ≡ 96)
+pub room-lengths : {g : ℕ} (made tally parts : List ℕ) (plan counters room : ℕ) → g ≡ roomGround made tally parts plan counters room → g ≡ 0 → (plan ≡ 872) × (counters ≡ 96)
 unfolding roomGround joinLengths
-room-lengths made counts parts plan counters room e z = go (eqb plan 872) refl (eqb counters 96) refl (partsPlaced parts (partTotal made) room) (partsHold made counts parts) (sym e ∙ z)
+room-lengths made tally parts plan counters room e z = go (eqb plan 872) refl (eqb counters 96) refl (partsPlaced parts (partTotal made) room) (partsHold made tally parts) (sym e ∙ z)
   where
     go : (a : Bool) → eqb plan 872 ≡ a → (b : Bool) → eqb counters 96 ≡ b → (c d : Bool) → _≡_ {A = ℕ} (cond (a && b && c) (cond d 0 13) 14) 0 → (plan ≡ 872) × (counters ≡ 96)
     go true p true q c d h = (eqb-true plan 872 p, eqb-true counters 96 q)
@@ -97,7 +97,7 @@ module _ (formats schema lengths places buffers body : List ℕ) (first n target
 
   -- what the loop does for a target of k nodes by a plan
   abbrev walkBy : ℕ → List ℕ → Out
-  walkBy k state = treeWalk (treeOf formats schema first n) (treeOf formats schema target k) (tablesFrom x first) state (replicate 96 0)
+  walkBy k draft = treeWalk (treeOf formats schema first n) (treeOf formats schema target k) (tablesFrom x first) draft (replicate 96 0)
 
   -- ---- the ground
 
@@ -127,12 +127,12 @@ module _ (formats schema lengths places buffers body : List ℕ) (first n target
     unfolding ahead
     refused h = or-stands column own (walk .ans) e0 h
 
-    pub ask-refused : (g0 ≡ 0 → ⊥) → (plan counts : List ℕ) → Asks (asked formats schema x first n target tn plan counts) g0 plan counts
-    ask-refused h plan counts = asks-refused formats schema x first n own made walk plan counts (refused h) h
+    pub ask-refused : (g0 ≡ 0 → ⊥) → (plan counters : List ℕ) → Asks (asked formats schema x first n target tn plan counters) g0 plan counters
+    ask-refused h plan counters = asks-refused formats schema x first n own made walk plan counters (refused h) h
 
-    pub make-refused : (g0 ≡ 0 → ⊥) → (parts plan counts room : List ℕ) → length room ≤ ceiling → Answers (convert formats schema x first n target tn parts plan counts room) g0 plan counts room
+    pub make-refused : (g0 ≡ 0 → ⊥) → (parts plan counters room : List ℕ) → length room ≤ ceiling → Answers (convert formats schema x first n target tn parts plan counters room) g0 plan counters room
     unfolding smallBody
-    make-refused h parts plan counts room l = answers-refused formats schema x first n own made walk parts plan counts room (le-leb (length room) ceiling l) (refused h) h
+    make-refused h parts plan counters room l = answers-refused formats schema x first n own made walk parts plan counters room (le-leb (length room) ceiling l) (refused h) h
 
     -- ---- none
 
@@ -160,14 +160,14 @@ module _ (formats schema lengths places buffers body : List ℕ) (first n target
       pub target-good : isTarget formats schema first n target n ≡ true
       target-good = subst (λ k. isTarget formats schema first n target k ≡ true) (sym (differs .same-size)) is-target
 
-      module _ (state : List ℕ) (es : state ≡ planAnew formats schema target n (keepsFrom (tables lengths places body) first words) true 0) where
-        made-is : state ≡ made
+      module _ (draft : List ℕ) (es : draft ≡ planAnew formats schema target n (keepsFrom (tables lengths places body) first words) true 0) where
+        made-is : draft ≡ made
         made-is = es ∙ plan-same formats schema first n x target small-nodes ∙ ap (planned formats schema x first n target) (differs .same-size)
 
-        pub state-length : length state ≡ 872
-        state-length = ap length es ∙ plan-length formats schema target n (keepsFrom (tables lengths places body) first words) true 0 small-nodes
+        pub draft-length : length draft ≡ 872
+        draft-length = ap length es ∙ plan-length formats schema target n (keepsFrom (tables lengths places body) first words) true 0 small-nodes
 
-        module _ (parts : List ℕ) {wr : Bool} {room room2 c : List ℕ} {g : ℕ} (d : Did state parts wr (walkBy n state) room g c room2) where
+        module _ (parts : List ℕ) {wr : Bool} {room room2 c : List ℕ} {g : ℕ} (d : Did draft parts wr (walkBy n draft) room g c room2) where
           did : Did made parts wr walk room g c room2
           did = subst (λ k. Did made parts wr (walkBy k made) room g c room2) (differs .same-size) (subst (λ s. Did s parts wr (walkBy n s) room g c room2) made-is d)
 
@@ -176,53 +176,53 @@ module _ (formats schema lengths places buffers body : List ℕ) (first n target
 
           -- ---- the question
 
-          module _ (plan counts : List ℕ) where
-            pub ask-walk : (g ≡ 0 → ⊥) → Asks (asked formats schema x first n target tn plan counts) g plan counts
-            ask-walk h = asks-refused formats schema x first n own made walk plan counts before-is h
+          module _ (plan counters : List ℕ) where
+            pub ask-walk : (g ≡ 0 → ⊥) → Asks (asked formats schema x first n target tn plan counters) g plan counters
+            ask-walk h = asks-refused formats schema x first n own made walk plan counters before-is h
 
             module _ (z : g ≡ 0) where
-              pub ask-plan : (length plan ≡ 872 → ⊥) → Asks (asked formats schema x first n target tn plan counts) 14 plan counts
+              pub ask-plan : (length plan ≡ 872 → ⊥) → Asks (asked formats schema x first n target tn plan counters) 14 plan counters
               unfolding joinLengths
-              ask-plan h = asks-lengths formats schema x first n own made walk plan counts (sym before-is ∙ z) (rw (ne-eqb (length plan) 872 h))
+              ask-plan h = asks-lengths formats schema x first n own made walk plan counters (sym before-is ∙ z) (rw (ne-eqb (length plan) 872 h))
 
-              pub ask-counts : length plan ≡ 872 → (length counts ≡ 96 → ⊥) → Asks (asked formats schema x first n target tn plan counts) 14 plan counts
+              pub ask-counters : length plan ≡ 872 → (length counters ≡ 96 → ⊥) → Asks (asked formats schema x first n target tn plan counters) 14 plan counters
               unfolding joinLengths
-              ask-counts l h = asks-lengths formats schema x first n own made walk plan counts (sym before-is ∙ z) (rw (eq-eqb (length plan) 872 l, ne-eqb (length counts) 96 h))
+              ask-counters l h = asks-lengths formats schema x first n own made walk plan counters (sym before-is ∙ z) (rw (eq-eqb (length plan) 872 l, ne-eqb (length counters) 96 h))
 
-              pub ask-done : length plan ≡ 872 → length counts ≡ 96 → {p q : List ℕ} → p ≡ state → q ≡ c → Asks (asked formats schema x first n target tn plan counts) 0 p q
+              pub ask-done : length plan ≡ 872 → length counters ≡ 96 → {p q : List ℕ} → p ≡ draft → q ≡ c → Asks (asked formats schema x first n target tn plan counters) 0 p q
               unfolding joinLengths
               ask-done l m e f =
-                  asks-done formats schema x first n own made walk plan counts (sym before-is ∙ z) (rw (eq-eqb (length plan) 872 l, eq-eqb (length counts) 96 m)) refl (e ∙ made-is) (f ∙ did .counters)
+                  asks-done formats schema x first n own made walk plan counters (sym before-is ∙ z) (rw (eq-eqb (length plan) 872 l, eq-eqb (length counters) 96 m)) refl (e ∙ made-is) (f ∙ did .counters)
 
         -- ---- the call
 
-        module _ (parts plan counts room : List ℕ) (l : length room ≤ ceiling) {room2 c : List ℕ} {g : ℕ} (d : Did state parts false (walkBy n state) room g c room2) where
+        module _ (parts plan counters room : List ℕ) (l : length room ≤ ceiling) {room2 c : List ℕ} {g : ℕ} (d : Did draft parts false (walkBy n draft) room g c room2) where
           abbrev Answered : ℕ → List ℕ → List ℕ → List ℕ → Type 0
-          Answered = Answers (convert formats schema x first n target tn parts plan counts room)
+          Answered = Answers (convert formats schema x first n target tn parts plan counters room)
 
           small : smallBody room ≡ true
           unfolding smallBody
           small = le-leb (length room) ceiling l
 
           same-room : room2 ≡ room
-          same-room = tried-room state parts _ room d
+          same-room = tried-room draft parts _ room d
 
-          pub make-walk : (g ≡ 0 → ⊥) → Answered g plan counts room2
-          make-walk h = rw same-room (answers-refused formats schema x first n own made walk parts plan counts room small (before-is parts d) h)
+          pub make-walk : (g ≡ 0 → ⊥) → Answered g plan counters room2
+          make-walk h = rw same-room (answers-refused formats schema x first n own made walk parts plan counters room small (before-is parts d) h)
 
-          module _ (z : g ≡ 0) {c2 : List ℕ} (ec : c2 ≡ c) {k : ℕ} (e : k ≡ roomGround state c2 parts (length plan) (length counts) (length room2)) where
-            room-is : k ≡ roomGround made (walk .counts) parts (length plan) (length counts) (length room)
+          module _ (z : g ≡ 0) {c2 : List ℕ} (ec : c2 ≡ c) {k : ℕ} (e : k ≡ roomGround draft c2 parts (length plan) (length counters) (length room2)) where
+            room-is : k ≡ roomGround made (walk .counters) parts (length plan) (length counters) (length room)
             room-is = e ∙ rw (same-room, made-is, ec, did parts d .counters)
 
-            pub make-room : (k ≡ 0 → ⊥) → Answered k plan counts room2
-            make-room h = rw same-room (answers-room formats schema x first n own made walk parts plan counts room small (sym (before-is parts d) ∙ z) room-is h)
+            pub make-room : (k ≡ 0 → ⊥) → Answered k plan counters room2
+            make-room h = rw same-room (answers-room formats schema x first n own made walk parts plan counters room small (sym (before-is parts d) ∙ z) room-is h)
 
-            pub make-made : k ≡ 0 → {r : ℕ} {p q b : List ℕ} → p ≡ state → Did state parts true (walkBy n state) room2 r q b → Answered r p q b
+            pub make-made : k ≡ 0 → {r : ℕ} {p q b : List ℕ} → p ≡ draft → Did draft parts true (walkBy n draft) room2 r q b → Answered r p q b
             make-made h ep dm =
                 let m = did parts (rw same-room at dm) in
-                answers-made formats schema x first n own made walk parts plan counts room small (sym (before-is parts d) ∙ z) (sym room-is ∙ h) (m .answer ∙ sym (did parts d .answer) ∙ z) (ep ∙ made-is) (m .counters) (made-room made parts walk room m)
+                answers-made formats schema x first n own made walk parts plan counters room small (sym (before-is parts d) ∙ z) (sym room-is ∙ h) (m .answer ∙ sym (did parts d .answer) ∙ z) (ep ∙ made-is) (m .counters) (made-room made parts walk room m)
 
   -- a room above the ceiling
-  pub make-large : (parts plan counts room : List ℕ) → ceiling < length room → Answers (convert formats schema x first n target tn parts plan counts room) 9 plan counts room
+  pub make-large : (parts plan counters room : List ℕ) → ceiling < length room → Answers (convert formats schema x first n target tn parts plan counters room) 9 plan counters room
   unfolding smallBody
-  make-large parts plan counts room l = answers-large formats schema x first n own made walk parts plan counts room (lt-leb (length room) ceiling l)
+  make-large parts plan counters room l = answers-large formats schema x first n own made walk parts plan counters room (lt-leb (length room) ceiling l)

@@ -48,7 +48,7 @@ views-bytes tree y h (tDense ids nullable f) i = λ c m. views-bytes tree y h (f
 views-bytes tree y h (tRunEnd w t) i = views-bytes tree y h t (suc (suc i))
 views-bytes tree y h (tDictionary k p) i = tt
 
-module _ (formats schema : List ℕ) (x : Tables) (first n target : ℕ) (parts plan counts room : List ℕ) (ok : columnGround formats schema x first n ≡ 0) (h : isTarget formats schema first n target n ≡ true)
+module _ (formats schema : List ℕ) (x : Tables) (first n target : ℕ) (parts plan counters room : List ℕ) (ok : columnGround formats schema x first n ≡ 0) (h : isTarget formats schema first n target n ≡ true)
     (bytes : AllBelow 256 (x .body)) where
   abbrev from : Ty
   from = typeOf formats schema first n
@@ -63,11 +63,11 @@ module _ (formats schema : List ℕ) (x : Tables) (first n target : ℕ) (parts 
   admitted = formed formats schema first n (typed-here formats schema x first n ok) (low-here formats schema x first n ok)
 
   -- "LAID OUT AS BY ONE COPY OF THE COLUMN'S ROWS, save that ..", whatever the widths: so is the column that the finished tables describe (`convert-result`)
-  pub laid-out : AllBelow 256 room → convert formats schema x first n target n parts plan counts room .ground ≡ 0
-      → LaidAs from to (widths formats schema x first n target parts ok h bytes) here 0 (here .len) (turned formats schema x first n target parts plan counts room ok h bytes)
+  pub laid-out : AllBelow 256 room → convert formats schema x first n target n parts plan counters room .ground ≡ 0
+      → LaidAs from to (widths formats schema x first n target parts ok h bytes) here 0 (here .len) (turned formats schema x first n target parts plan counters room ok h bytes)
   laid-out room-bytes accepted =
       laid-as from to (widths formats schema x first n target parts ok h bytes) here admitted (source-here formats schema x first n ok) (views-bytes (treeOf formats schema first n) (tablesFrom x first) bytes from 0)
-      (all-fit formats schema x first n target parts ok h bytes (walk-done formats schema x first n target parts plan counts room ok h bytes room-bytes accepted))
+      (all-fit formats schema x first n target parts ok h bytes (walk-done formats schema x first n target parts plan counters room ok h bytes room-bytes accepted))
 
   -- there is such a copy, where no list-view and no dense union is below
   pub copy-there : Steady from → Done (extend from 1 (λ j. here) 0 0 (here .len) (fresh from here))

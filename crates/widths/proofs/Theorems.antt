@@ -39,9 +39,9 @@ use Rattle.width_walks.proofs.Answer.{widths, filled}
 use Rattle.width_walks.proofs.Call.{number-next, room-last}
 
 -- the room's ground is none of the converter's own
-room-other : (made counts parts : List ℕ) (plan counters room g : ℕ) → Ground g ⊎ (g ≡ 10) → roomGround made counts parts plan counters room ≡ g → ⊥
+room-other : (made tally parts : List ℕ) (plan counters room g : ℕ) → Ground g ⊎ (g ≡ 10) → roomGround made tally parts plan counters room ≡ g → ⊥
 unfolding roomGround
-room-other made counts parts plan counters room g k e = go (joinLengths plan counters && partsPlaced parts (partTotal made) room) (partsHold made counts parts) k e
+room-other made tally parts plan counters room g k e = go (joinLengths plan counters && partsPlaced parts (partTotal made) room) (partsHold made tally parts) k e
   where
     go : (a b : Bool) → Ground g ⊎ (g ≡ 10) → _≡_ {A = ℕ} (cond a (cond b 0 13) 14) g → ⊥
     go true true (inl (inl p)) q = omega arith
@@ -58,13 +58,13 @@ room-other made counts parts plan counters room g k e = go (joinLengths plan cou
     go false b (inr p) q = omega arith
 
 -- A REFUSED CALL CHANGES NOTHING
-pub refused-keeps : (formats schema : List ℕ) (x : Tables) (first n target tn : ℕ) (parts plan counts room : List ℕ) → (convert formats schema x first n target tn parts plan counts room .ground ≡ 0 → ⊥)
-    → (convert formats schema x first n target tn parts plan counts room .plan ≡ plan) × (convert formats schema x first n target tn parts plan counts room .counts ≡ counts) × (convert formats schema x first n target tn parts plan counts room .room ≡ room)
-refused-keeps formats schema x first n target tn parts plan counts room =
-    anew-keeps formats schema x first n (targetGround formats schema x first n target tn) (planned formats schema x first n target tn) (walked formats schema x first n target tn) parts plan counts room
+pub refused-keeps : (formats schema : List ℕ) (x : Tables) (first n target tn : ℕ) (parts plan counters room : List ℕ) → (convert formats schema x first n target tn parts plan counters room .ground ≡ 0 → ⊥)
+    → (convert formats schema x first n target tn parts plan counters room .plan ≡ plan) × (convert formats schema x first n target tn parts plan counters room .counters ≡ counters) × (convert formats schema x first n target tn parts plan counters room .room ≡ room)
+refused-keeps formats schema x first n target tn parts plan counters room =
+    anew-keeps formats schema x first n (targetGround formats schema x first n target tn) (planned formats schema x first n target tn) (walked formats schema x first n target tn) parts plan counters room
 
 -- a column that is accepted, and a target that passes
-module _ (formats schema : List ℕ) (x : Tables) (first n target : ℕ) (parts plan counts room : List ℕ) (ok : columnGround formats schema x first n ≡ 0) (h : isTarget formats schema first n target n ≡ true)
+module _ (formats schema : List ℕ) (x : Tables) (first n target : ℕ) (parts plan counters room : List ℕ) (ok : columnGround formats schema x first n ≡ 0) (h : isTarget formats schema first n target n ≡ true)
     (bytes : AllBelow 256 (x .body)) where
   abbrev from : Ty
   from = typeOf formats schema first n
@@ -79,7 +79,7 @@ module _ (formats schema : List ℕ) (x : Tables) (first n target : ℕ) (parts 
   turned = columnAs from to (widths formats schema x first n target parts ok h bytes) here 0 (here .len)
 
   abbrev answer : Opening
-  answer = convert formats schema x first n target n parts plan counts room
+  answer = convert formats schema x first n target n parts plan counters room
 
   abbrev made : List ℕ
   made = planned formats schema x first n target n
@@ -99,9 +99,9 @@ module _ (formats schema : List ℕ) (x : Tables) (first n target : ℕ) (parts 
     where
       go : (c : Try (Column to)) → converted from to (widths formats schema x first n target parts ok h bytes) here ≡ c → converted from to (widths formats schema x first n target parts ok h bytes) here ≡ stop g
       go (done y) q =
-          let r = room-last formats schema x first n target parts plan counts room ok h bytes small (accepted-fits from to (widths formats schema x first n target parts ok h bytes) here y q) in
-          absurd (room-other made (walked formats schema x first n target n .counts) parts (length plan) (length counts) (length room) g k (sym r ∙ e))
-      go (stop j) q = q ∙ ap stop (sym (number-next formats schema x first n target parts plan counts room ok h bytes small j q) ∙ e)
+          let r = room-last formats schema x first n target parts plan counters room ok h bytes small (accepted-fits from to (widths formats schema x first n target parts ok h bytes) here y q) in
+          absurd (room-other made (walked formats schema x first n target n .counters) parts (length plan) (length counters) (length room) g k (sym r ∙ e))
+      go (stop j) q = q ∙ ap stop (sym (number-next formats schema x first n target parts plan counters room ok h bytes small j q) ∙ e)
 
   -- ALL NODES ARE IN PARTS, dictionary values among them
   pub in-parts : (i : ℕ) → i < n → copied made i ≡ true
@@ -117,32 +117,32 @@ module _ (formats schema : List ℕ) (x : Tables) (first n target : ℕ) (parts 
     ends = no-ends formats schema x first n target parts (typed-here formats schema x first n ok) (low-here formats schema x first n ok) h
 
     pub walk-done : walked formats schema x first n target n .ans ≡ 0
-    walk-done = anew-accepted formats schema x first n (targetGround formats schema x first n target n) made (walked formats schema x first n target n) parts plan counts room accepted .walk-done
+    walk-done = anew-accepted formats schema x first n (targetGround formats schema x first n target n) made (walked formats schema x first n target n) parts plan counters room accepted .walk-done
 
     -- AN ACCEPTED CALL CHANGES ONLY BYTES OF THE PARTS, up to what each needs
-    pub only-parts : OnlyUsed made parts room (answer .counts) (answer .room)
+    pub only-parts : OnlyUsed made parts room (answer .counters) (answer .room)
     only-parts =
-        anew-writes formats schema x first n (targetGround formats schema x first n target n) target n keep true 0 (walked formats schema x first n target n) parts plan counts room (differs .of-type) (differs .low) ends turned
+        anew-writes formats schema x first n (targetGround formats schema x first n target n) target n keep true 0 (walked formats schema x first n target n) parts plan counters room (differs .of-type) (differs .low) ends turned
         (filled formats schema x first n target parts ok h bytes walk-done) room-bytes accepted
 
     module _ (base : ℕ) (body : List ℕ) (bodied : Bodied body (lentFor x made parts first n) (answer .room) base) where
       abbrev finished : Tables
-      finished = finishedTables (lentFor x made parts first n) (x .buffers) (answer .counts) (answer .room) base body
+      finished = finishedTables (lentFor x made parts first n) (x .buffers) (answer .counters) (answer .room) base body
 
       -- THE RESULT, finished: the tables describe the converted column byte for byte, null counts from its bits; it reads as that column, and can be lent again
       pub convert-result :
           Shows (treeOf formats schema target n) finished to 0 turned
-          × Counts (treeOf formats schema target n) (nullTable (lentFor x made parts first n) (x .buffers) (answer .counts) (answer .room) base) to 0 turned
+          × Counts (treeOf formats schema target n) (nullTable (lentFor x made parts first n) (x .buffers) (answer .counters) (answer .room) base) to 0 turned
           × (readAll to (columnOf (treeOf formats schema target n) finished to 0) ≡ readAll to turned)
           × T (sourceRule (treeOf formats schema target n) finished)
       convert-result =
-          anew-result formats schema x first n (targetGround formats schema x first n target n) target n keep true 0 (walked formats schema x first n target n) parts plan counts room (differs .of-type) (differs .low) ends turned
+          anew-result formats schema x first n (targetGround formats schema x first n target n) target n keep true 0 (walked formats schema x first n target n) parts plan counters room (differs .of-type) (differs .low) ends turned
           (filled formats schema x first n target parts ok h bytes walk-done) room-bytes accepted base body bodied
 
 -- 10 OF THE TARGET IS ANSWERED ONLY WHERE IT DIFFERS IN MORE THAN WIDTHS
-pub target-only : (formats schema : List ℕ) (x : Tables) (first n target : ℕ) (parts plan counts room : List ℕ) → columnGround formats schema x first n ≡ 0 → AllBelow 256 (x .body) → smallBody room ≡ true
-    → convert formats schema x first n target n parts plan counts room .ground ≡ 10 → isTarget formats schema first n target n ≡ false
-target-only formats schema x first n target parts plan counts room ok bytes small e = go (isTarget formats schema first n target n) refl
+pub target-only : (formats schema : List ℕ) (x : Tables) (first n target : ℕ) (parts plan counters room : List ℕ) → columnGround formats schema x first n ≡ 0 → AllBelow 256 (x .body) → smallBody room ≡ true
+    → convert formats schema x first n target n parts plan counters room .ground ≡ 10 → isTarget formats schema first n target n ≡ false
+target-only formats schema x first n target parts plan counters room ok bytes small e = go (isTarget formats schema first n target n) refl
   where
     never : Ground 10 → ⊥
     never (inl p) = omega arith
@@ -152,5 +152,5 @@ target-only formats schema x first n target parts plan counts room ok bytes smal
     go : (b : Bool) → isTarget formats schema first n target n ≡ b → isTarget formats schema first n target n ≡ false
     go false q = q
     go true q =
-        let r = number-only formats schema x first n target parts plan counts room ok q bytes small 10 (inr refl) e in
+        let r = number-only formats schema x first n target parts plan counters room ok q bytes small 10 (inr refl) e in
         absurd (never (refused-with (typeOf formats schema first n) (typeOf formats schema target n) (widths formats schema x first n target parts ok q bytes) (columnOf (treeOf formats schema first n) (tablesFrom x first) (typeOf formats schema first n) 0) 10 r))

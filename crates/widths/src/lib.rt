@@ -77,7 +77,7 @@ fn planned(
     requires { ⌜ (n ≤ 32) × Comes (tables (now lengths) (now places) (now body)) first n (fromWords (now formats) (now schema) first n (replicate 32 0)) ⌝ }
     ensures { λ r. ⌜ r ≡ planAnew (now (formats .entry)) (now (schema .entry)) target n (keepsFrom (tables (now (lengths .entry)) (now (places .entry)) (now (body .entry))) first (fromWords (now (formats .entry)) (now (schema .entry)) first n (replicate 32 0))) true 0 ⌝ }
 {
-    let mut state = [0u64; plan_words::WORDS];
+    let mut plan = [0u64; plan_words::WORDS];
     let from = from_words(formats, schema, first, n);
     anew::result_plan::plan_anew(
         formats,
@@ -91,9 +91,9 @@ fn planned(
         &from,
         true,
         0,
-        &mut state,
+        &mut plan,
     );
-    state
+    plan
 }
 
 // The question before any room is lent: the ground of refusal, or plan and counters of the result, by which `parts::part_at` and
@@ -129,10 +129,10 @@ pub fn plan_convert(
     if g != 0 {
         return g;
     }
-    let state = planned(formats, schema, lengths, places, body, first, n, target);
+    let draft = planned(formats, schema, lengths, places, body, first, n, target);
     let none = [0u64; 0];
     let mut nothing = [0u8; 0];
-    let mut counts = [0u64; plan_words::COUNTERS];
+    let mut tally = [0u64; plan_words::COUNTERS];
     let g = width_loop::convert_walk(
         formats,
         schema,
@@ -142,9 +142,9 @@ pub fn plan_convert(
         first,
         n,
         target,
-        &state,
+        &draft,
         &none,
-        &mut counts,
+        &mut tally,
         &mut nothing,
         false,
     );
@@ -157,8 +157,8 @@ pub fn plan_convert(
     if counters.len() != plan_words::COUNTERS {
         return 14;
     }
-    let made = with_capacities::copied(counts);
-    anew::result_plan::keep_result(plan, counters, &state, &made);
+    let made = with_capacities::copied(tally);
+    anew::result_plan::keep_result(plan, counters, &draft, &made);
     0
 }
 
@@ -172,18 +172,18 @@ fn make(
     first: u32,
     n: u32,
     target: u32,
-    state: &[u64],
+    draft: &[u64],
     parts: &[u64],
     plan: &mut [u64],
     counters: &mut [u64],
     room: &mut [u8],
 ) -> u8
-    requires { ⌜ (length (now plan) ≡ 872) × (length (now counters) ≡ 96) × (length (now state) ≡ 872) ⌝ }
+    requires { ⌜ (length (now plan) ≡ 872) × (length (now counters) ≡ 96) × (length (now draft) ≡ 872) ⌝ }
     requires { ⌜ ((buffers : List ℕ) × (columnGround (now formats) (now schema) (tablesOf (now lengths) (now places) buffers (now body)) first n ≡ 0)) ⌝ }
     requires { ⌜ isTarget (now formats) (now schema) first n target n ≡ true ⌝ }
-    ensures { λ r. ⌜ (now (plan .exit) ≡ now (state .entry)) × ((buffers : List ℕ) → Did (now (state .entry)) (now (parts .entry)) true (treeWalk (treeOf (now (formats .entry)) (now (schema .entry)) first n) (treeOf (now (formats .entry)) (now (schema .entry)) target n) (tablesFrom (tablesOf (now (lengths .entry)) (now (places .entry)) buffers (now (body .entry))) first) (now (state .entry)) (replicate 96 0)) (now (room .entry)) r (now (counters .exit)) (now (room .exit))) ⌝ }
+    ensures { λ r. ⌜ (now (plan .exit) ≡ now (draft .entry)) × ((buffers : List ℕ) → Did (now (draft .entry)) (now (parts .entry)) true (treeWalk (treeOf (now (formats .entry)) (now (schema .entry)) first n) (treeOf (now (formats .entry)) (now (schema .entry)) target n) (tablesFrom (tablesOf (now (lengths .entry)) (now (places .entry)) buffers (now (body .entry))) first) (now (draft .entry)) (replicate 96 0)) (now (room .entry)) r (now (counters .exit)) (now (room .exit))) ⌝ }
 {
-    let mut counts = [0u64; plan_words::COUNTERS];
+    let mut tally = [0u64; plan_words::COUNTERS];
     let g = width_loop::convert_walk(
         formats,
         schema,
@@ -193,14 +193,14 @@ fn make(
         first,
         n,
         target,
-        state,
+        draft,
         parts,
-        &mut counts,
+        &mut tally,
         room,
         true,
     );
-    let made = with_capacities::copied(counts);
-    anew::result_plan::keep_result(plan, counters, state, &made);
+    let made = with_capacities::copied(tally);
+    anew::result_plan::keep_result(plan, counters, draft, &made);
     g
 }
 
@@ -241,7 +241,7 @@ pub fn convert(
     if g != 0 {
         return g;
     }
-    let state = planned(formats, schema, lengths, places, body, first, n, target);
+    let draft = planned(formats, schema, lengths, places, body, first, n, target);
     let mut tried = [0u64; plan_words::COUNTERS];
     let g = width_loop::convert_walk(
         formats,
@@ -252,7 +252,7 @@ pub fn convert(
         first,
         n,
         target,
-        &state,
+        &draft,
         parts,
         &mut tried,
         room,
@@ -261,10 +261,10 @@ pub fn convert(
     if g != 0 {
         return g;
     }
-    let counts = with_capacities::copied(tried);
+    let tally = with_capacities::copied(tried);
     let g = anew::result_plan::room_ground(
-        &state,
-        &counts,
+        &draft,
+        &tally,
         parts,
         plan.len(),
         counters.len(),
@@ -282,7 +282,7 @@ pub fn convert(
         first,
         n,
         target,
-        &state,
+        &draft,
         parts,
         plan,
         counters,

@@ -59,20 +59,20 @@ module _ (formats schema lengths places buffers body sources : List ℕ) (keep g
   pub can-plan : Plannable (tables lengths places body) sources
   can-plan = plannable formats schema (tablesOf lengths places buffers body) sources low (sym e ∙ h)
 
-  module _ {state : List ℕ} (q : state ≡ planned formats schema (tables lengths places body) sources keep gaps) where
-    pub plan-is : state ≡ planned formats schema (tablesOf lengths places buffers body) sources keep gaps
+  module _ {plan : List ℕ} (q : plan ≡ planned formats schema (tables lengths places body) sources keep gaps) where
+    pub plan-is : plan ≡ planned formats schema (tablesOf lengths places buffers body) sources keep gaps
     plan-is = q ∙ planned-as formats schema lengths places buffers body sources keep gaps
 
-    pub few-sources : sourceCount state ≤ 16
+    pub few-sources : sourceCount plan ≤ 16
     few-sources =
         let w = can-plan in
         subst (λ z. sourceCount z ≤ 16) (sym q) (subst (λ z. z ≤ 16) (sym (sources-are formats schema (tables lengths places body) sources keep gaps (w .few) (w .small))) (w .few))
 
 -- ---- a walk that is tried from counters that answer alike, the parts asked, and the walk made
 
-module _ (formats schema sources : List ℕ) (x : Tables) (keep gaps : Bool) (parts plan counts room : List ℕ)
-    {state : List ℕ} (q : state ≡ planned formats schema x sources keep gaps) (o : Out) {p : Out} (near : Near p o) {g : ℕ} {c1 room1 : List ℕ}
-    (d : Did state parts false p room g c1 room1) where
+module _ (formats schema sources : List ℕ) (x : Tables) (keep gaps : Bool) (parts plan counters room : List ℕ)
+    {draft : List ℕ} (q : draft ≡ planned formats schema x sources keep gaps) (o : Out) {p : Out} (near : Near p o) {g : ℕ} {c1 room1 : List ℕ}
+    (d : Did draft parts false p room g c1 room1) where
   answers : g ≡ o .ans
   answers = d .answer ∙ near .answer
 
@@ -80,20 +80,20 @@ module _ (formats schema sources : List ℕ) (x : Tables) (keep gaps : Bool) (pa
   unfolding applyIf
   same-room = d .bytes
 
-  pub settled-no : (g ≡ 0 → ⊥) → Answers (settled formats schema sources x keep gaps parts plan counts room o) g plan counts room1
+  pub settled-no : (g ≡ 0 → ⊥) → Answers (settled formats schema sources x keep gaps parts plan counters room o) g plan counters room1
   unfolding settled
-  settled-no h = rw (ne-eqb (o .ans) 0 (λ z. h (answers ∙ z))) (record { ground = answers; plan = refl; counts = refl; room = same-room })
+  settled-no h = rw (ne-eqb (o .ans) 0 (λ z. h (answers ∙ z))) (record { ground = answers; plan = refl; counters = refl; room = same-room })
 
-  module _ (h : g ≡ 0) {t : Bool} (e : t ≡ partsHold state c1 parts) where
-    asked-of : t ≡ partsHold (planned formats schema x sources keep gaps) (o .counts) parts
-    asked-of = e ∙ ap (λ z. partsHold state z parts) (d .counters) ∙ hold-alike state parts (near .counters) ∙ ap (λ z. partsHold z (o .counts) parts) q
+  module _ (h : g ≡ 0) {t : Bool} (e : t ≡ partsHold draft c1 parts) where
+    asked-of : t ≡ partsHold (planned formats schema x sources keep gaps) (o .counters) parts
+    asked-of = e ∙ ap (λ z. partsHold draft z parts) (d .counters) ∙ hold-alike draft parts (near .counters) ∙ ap (λ z. partsHold z (o .counters) parts) q
 
-    pub settled-over : not t ≡ true → Answers (settled formats schema sources x keep gaps parts plan counts room o) 13 plan counts room1
+    pub settled-over : not t ≡ true → Answers (settled formats schema sources x keep gaps parts plan counters room o) 13 plan counters room1
     unfolding settled
-    settled-over f = rw (eq-eqb (o .ans) 0 (sym answers ∙ h), no asked-of f) (record { ground = refl; plan = refl; counts = refl; room = same-room })
+    settled-over f = rw (eq-eqb (o .ans) 0 (sym answers ∙ h), no asked-of f) (record { ground = refl; plan = refl; counters = refl; room = same-room })
 
-    pub settled-made : {r : ℕ} {c2 room2 c3 words : List ℕ} → not t ≡ false → Did state parts true o room1 r c2 room2 → c3 ≡ c2 → words ≡ state
-        → Answers (settled formats schema sources x keep gaps parts plan counts room o) r words c3 room2
+    pub settled-made : {r : ℕ} {c2 room2 c3 words : List ℕ} → not t ≡ false → Did draft parts true o room1 r c2 room2 → c3 ≡ c2 → words ≡ draft
+        → Answers (settled formats schema sources x keep gaps parts plan counters room o) r words c3 room2
     unfolding settled applyIf
     settled-made f m s w =
         let ans : o .ans ≡ 0 = sym answers ∙ h in
@@ -101,51 +101,51 @@ module _ (formats schema sources : List ℕ) (x : Tables) (keep gaps : Bool) (pa
         (record {
           ground = m .answer ∙ ans;
           plan = w ∙ q;
-          counts = s ∙ m .counters;
-          room = m .bytes ∙ ap (apply state parts (o .log)) same-room ∙ ap (λ z. apply z parts (o .log) room) q;
+          counters = s ∙ m .counters;
+          room = m .bytes ∙ ap (apply draft parts (o .log)) same-room ∙ ap (λ z. apply z parts (o .log) room) q;
         })
 
 -- ---- the grounds before the walk
 
-module _ (formats schema sources : List ℕ) (x : Tables) (keep gaps : Bool) (parts plan counts room : List ℕ) where
-  pub open-large : ceiling < length room → Answers (opening formats schema sources x keep gaps parts plan counts room) 9 plan counts room
+module _ (formats schema sources : List ℕ) (x : Tables) (keep gaps : Bool) (parts plan counters room : List ℕ) where
+  pub open-large : ceiling < length room → Answers (opening formats schema sources x keep gaps parts plan counters room) 9 plan counters room
   unfolding opening
-  open-large h = rw (lt-leb (length room) ceiling h) (record { ground = refl; plan = refl; counts = refl; room = refl })
+  open-large h = rw (lt-leb (length room) ceiling h) (record { ground = refl; plan = refl; counters = refl; room = refl })
 
   module _ (h : length room ≤ ceiling) {g : ℕ} (e : g ≡ sourcesGround formats schema x sources) where
-    pub open-sources : (g ≡ 0 → ⊥) → Answers (opening formats schema sources x keep gaps parts plan counts room) g plan counts room
+    pub open-sources : (g ≡ 0 → ⊥) → Answers (opening formats schema sources x keep gaps parts plan counters room) g plan counters room
     unfolding opening
     open-sources f =
         rw (le-leb (length room) ceiling h, ne-eqb (sourcesGround formats schema x sources) 0 (λ z. f (e ∙ z)))
-        (record { ground = e; plan = refl; counts = refl; room = refl })
+        (record { ground = e; plan = refl; counters = refl; room = refl })
 
-    module _ (f : g ≡ 0) {state : List ℕ} (q : state ≡ planned formats schema x sources keep gaps) {t : Bool}
-        (k : t ≡ (eqb (length plan) 872 && eqb (length counts) 96 && partsPlaced parts (partTotal state) (length room))) where
-      placed : t ≡ roomPlaced formats schema sources x keep gaps parts plan counts room
+    module _ (f : g ≡ 0) {draft : List ℕ} (q : draft ≡ planned formats schema x sources keep gaps) {t : Bool}
+        (k : t ≡ (eqb (length plan) 872 && eqb (length counters) 96 && partsPlaced parts (partTotal draft) (length room))) where
+      placed : t ≡ roomPlaced formats schema sources x keep gaps parts plan counters room
       unfolding roomPlaced
-      placed = k ∙ ap (λ z. eqb (length plan) 872 && eqb (length counts) 96 && partsPlaced parts (partTotal z) (length room)) q
+      placed = k ∙ ap (λ z. eqb (length plan) 872 && eqb (length counters) 96 && partsPlaced parts (partTotal z) (length room)) q
 
       good : eqb (sourcesGround formats schema x sources) 0 ≡ true
       good = eq-eqb (sourcesGround formats schema x sources) 0 (sym e ∙ f)
 
-      pub open-room : not t ≡ true → Answers (opening formats schema sources x keep gaps parts plan counts room) 14 plan counts room
+      pub open-room : not t ≡ true → Answers (opening formats schema sources x keep gaps parts plan counters room) 14 plan counters room
       unfolding opening
       open-room l =
-          rw (le-leb (length room) ceiling h, good, no placed l) (record { ground = refl; plan = refl; counts = refl; room = refl })
+          rw (le-leb (length room) ceiling h, good, no placed l) (record { ground = refl; plan = refl; counters = refl; room = refl })
 
       pub open-made : {r : ℕ} {words c bytes : List ℕ} → not t ≡ false
-          → Answers (settled formats schema sources x keep gaps parts plan counts room (openWalk (lent state parts sources (x .lengths) (x .places) (x .body)) (replicate 96 0))) r words c bytes
-          → Answers (opening formats schema sources x keep gaps parts plan counts room) r words c bytes
+          → Answers (settled formats schema sources x keep gaps parts plan counters room (openWalk (lent draft parts sources (x .lengths) (x .places) (x .body)) (replicate 96 0))) r words c bytes
+          → Answers (opening formats schema sources x keep gaps parts plan counters room) r words c bytes
       unfolding opening
       open-made {r} {words} {c} {bytes} l d =
           rw (le-leb (length room) ceiling h, good, yes placed l)
-          (subst (λ z. Answers (settled formats schema sources x keep gaps parts plan counts room (openWalk (lent z parts sources (x .lengths) (x .places) (x .body)) (replicate 96 0))) r words c bytes) q d)
+          (subst (λ z. Answers (settled formats schema sources x keep gaps parts plan counters room (openWalk (lent z parts sources (x .lengths) (x .places) (x .body)) (replicate 96 0))) r words c bytes) q d)
 
   -- the plan has a join's length, and so have the counters
-  pub lengths-are : (b : Bool) {t : Bool} → t ≡ (eqb (length plan) 872 && eqb (length counts) 96 && b) → not t ≡ false → (length plan ≡ 872) × (length counts ≡ 96)
+  pub lengths-are : (b : Bool) {t : Bool} → t ≡ (eqb (length plan) 872 && eqb (length counters) 96 && b) → not t ≡ false → (length plan ≡ 872) × (length counters ≡ 96)
   lengths-are b k l =
-      let p = and-left (eqb (length plan) 872 && eqb (length counts) 96) b (yes k l) in
-      (eqb-true (length plan) 872 (and-left (eqb (length plan) 872) _ p), eqb-true (length counts) 96 (and-right (eqb (length plan) 872) _ p))
+      let p = and-left (eqb (length plan) 872 && eqb (length counters) 96) b (yes k l) in
+      (eqb-true (length plan) 872 (and-left (eqb (length plan) 872) _ p), eqb-true (length counters) 96 (and-right (eqb (length plan) 872) _ p))
 
 -- ---- the question
 
@@ -159,6 +159,6 @@ module _ (formats schema sources : List ℕ) (x : Tables) (keep gaps : Bool) (pl
     unfolding asked
     ask-words h = rw (eq-eqb (sourcesGround formats schema x sources) 0 (sym e ∙ f), ne-eqb (length plan) 872 h) (record { ground = refl; plan = refl })
 
-    pub ask-made : {state words : List ℕ} → length plan ≡ 872 → state ≡ planned formats schema x sources keep gaps → words ≡ state → Plans (asked formats schema sources x keep gaps plan) 0 words
+    pub ask-made : {draft words : List ℕ} → length plan ≡ 872 → draft ≡ planned formats schema x sources keep gaps → words ≡ draft → Plans (asked formats schema sources x keep gaps plan) 0 words
     unfolding asked
     ask-made h q w = rw (eq-eqb (sourcesGround formats schema x sources) 0 (sym e ∙ f), eq-eqb (length plan) 872 h) (record { ground = refl; plan = w ∙ q })

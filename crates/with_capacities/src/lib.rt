@@ -34,22 +34,22 @@ pub fn store(to: &mut [u64], from: &[u64], n: usize)
 }
 
 // A copy; that it has 96 elements is known of an array that a call returns.
-pub fn copied(counts: [u64; plan_words::COUNTERS]) -> [u64; plan_words::COUNTERS]
-    ensures { λ r. ⌜ r ≡ counts ⌝ }
+pub fn copied(counters: [u64; plan_words::COUNTERS]) -> [u64; plan_words::COUNTERS]
+    ensures { λ r. ⌜ r ≡ counters ⌝ }
 {
-    counts
+    counters
 }
 
 // Counters of 0 with their nulls full: what an opening is tried on.
-fn uncounted(state: &[u64]) -> [u64; plan_words::COUNTERS]
+fn uncounted(plan: &[u64]) -> [u64; plan_words::COUNTERS]
     ensures { λ r. ⌜ Alike r (replicate 96 0) ⌝ }
 {
-    let mut counts = [0u64; plan_words::COUNTERS];
-    trying::uncount(&mut counts, plan::parts::node_count(state));
-    counts
+    let mut counters = [0u64; plan_words::COUNTERS];
+    trying::uncount(&mut counters, plan::parts::node_count(plan));
+    counters
 }
 
-// The state as it is planned.
+// The plan of the sources.
 fn planned_state(
     sources: &[u32],
     formats: &[u8],
@@ -63,7 +63,7 @@ fn planned_state(
     requires { ⌜ Plannable (tables (now lengths) (now places) (now body)) (now sources) ⌝ }
     ensures { λ r. ⌜ r ≡ planned (now (formats .entry)) (now (schema .entry)) (tables (now (lengths .entry)) (now (places .entry)) (now (body .entry))) (now (sources .entry)) keep gaps ⌝ }
 {
-    let mut state = [0u64; plan_words::WORDS];
+    let mut draft = [0u64; plan_words::WORDS];
     plan::plan(
         sources,
         formats,
@@ -73,27 +73,27 @@ fn planned_state(
         body,
         keep,
         gaps,
-        &mut state,
+        &mut draft,
     );
-    state
+    draft
 }
 
 // Whether plan and counters, of so many numbers, are of a join's lengths and the parts lie in the room, apart: ground 14 where not.
-pub fn room_placed(state: &[u64], parts: &[u64], words: usize, counts: usize, m: usize) -> bool
-    ensures { λ r. ⌜ r ≡ (eqb words 872 && eqb counts 96 && partsPlaced (now (parts .entry)) (partTotal (now (state .entry))) m) ⌝ }
+pub fn room_placed(plan: &[u64], parts: &[u64], words: usize, counters: usize, m: usize) -> bool
+    ensures { λ r. ⌜ r ≡ (eqb words 872 && eqb counters 96 && partsPlaced (now (parts .entry)) (partTotal (now (plan .entry))) m) ⌝ }
 {
     if words != plan_words::WORDS {
         return false;
     }
-    if counts != plan_words::COUNTERS {
+    if counters != plan_words::COUNTERS {
         return false;
     }
-    plan::placed::parts_placed(parts, plan::parts::part_total(state), m)
+    plan::placed::parts_placed(parts, plan::parts::part_total(plan), m)
 }
 
 // The walk of an opening tried, the parts asked, and the walk made.
 fn make(
-    state: &[u64],
+    draft: &[u64],
     parts: &[u64],
     sources: &[u32],
     lengths: &[u64],
@@ -103,12 +103,12 @@ fn make(
     counters: &mut [u64],
     room: &mut [u8],
 ) -> u8
-    requires { ⌜ (sourceCount (now state) ≤ 16) × (length (now state) ≡ 872) × (length (now plan) ≡ 872) × (length (now counters) ≡ 96) ⌝ }
-    ensures { λ r. ⌜ ((formats schema buffers : List ℕ) (keep gaps : Bool) → now (state .entry) ≡ planned formats schema (tablesOf (now (lengths .entry)) (now (places .entry)) buffers (now (body .entry))) (now (sources .entry)) keep gaps → Answers (settled formats schema (now (sources .entry)) (tablesOf (now (lengths .entry)) (now (places .entry)) buffers (now (body .entry))) keep gaps (now (parts .entry)) (now (plan .entry)) (now (counters .entry)) (now (room .entry)) (openWalk (lent (now (state .entry)) (now (parts .entry)) (now (sources .entry)) (now (lengths .entry)) (now (places .entry)) (now (body .entry))) (replicate 96 0))) r (now (plan .exit)) (now (counters .exit)) (now (room .exit))) ⌝ }
+    requires { ⌜ (sourceCount (now draft) ≤ 16) × (length (now draft) ≡ 872) × (length (now plan) ≡ 872) × (length (now counters) ≡ 96) ⌝ }
+    ensures { λ r. ⌜ ((formats schema buffers : List ℕ) (keep gaps : Bool) → now (draft .entry) ≡ planned formats schema (tablesOf (now (lengths .entry)) (now (places .entry)) buffers (now (body .entry))) (now (sources .entry)) keep gaps → Answers (settled formats schema (now (sources .entry)) (tablesOf (now (lengths .entry)) (now (places .entry)) buffers (now (body .entry))) keep gaps (now (parts .entry)) (now (plan .entry)) (now (counters .entry)) (now (room .entry)) (openWalk (lent (now (draft .entry)) (now (parts .entry)) (now (sources .entry)) (now (lengths .entry)) (now (places .entry)) (now (body .entry))) (replicate 96 0))) r (now (plan .exit)) (now (counters .exit)) (now (room .exit))) ⌝ }
 {
-    let mut tried = uncounted(state);
+    let mut tried = uncounted(draft);
     let g = crate::open_walk::open_walk(
-        state,
+        draft,
         parts,
         sources,
         lengths,
@@ -121,24 +121,24 @@ fn make(
     if g != 0 {
         return g;
     }
-    if !plan::parts::parts_hold(state, &tried, parts) {
+    if !plan::parts::parts_hold(draft, &tried, parts) {
         return 13;
     }
-    let mut counts = [0u64; plan_words::COUNTERS];
+    let mut tally = [0u64; plan_words::COUNTERS];
     let g = crate::open_walk::open_walk(
-        state,
+        draft,
         parts,
         sources,
         lengths,
         places,
         body,
-        &mut counts,
+        &mut tally,
         room,
         true,
     );
-    let made = copied(counts);
+    let made = copied(tally);
     store(counters, &made, plan_words::COUNTERS);
-    store(plan, state, plan_words::WORDS);
+    store(plan, draft, plan_words::WORDS);
     g
 }
 
@@ -167,12 +167,12 @@ pub fn try_with_capacities(
     if g != 0 {
         return g;
     }
-    let state = planned_state(sources, formats, schema, lengths, places, body, keep, gaps);
-    if !room_placed(&state, parts, plan.len(), counters.len(), room.len()) {
+    let draft = planned_state(sources, formats, schema, lengths, places, body, keep, gaps);
+    if !room_placed(&draft, parts, plan.len(), counters.len(), room.len()) {
         return 14;
     }
     make(
-        &state,
+        &draft,
         parts,
         sources,
         lengths,
@@ -206,7 +206,7 @@ pub fn plan_parts(
     if plan.len() != plan_words::WORDS {
         return 14;
     }
-    let state = planned_state(sources, formats, schema, lengths, places, body, keep, gaps);
-    store(plan, &state, plan_words::WORDS);
+    let draft = planned_state(sources, formats, schema, lengths, places, body, keep, gaps);
+    store(plan, &draft, plan_words::WORDS);
     0
 }

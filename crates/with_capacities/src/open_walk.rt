@@ -20,28 +20,28 @@ use walk::plan_words;
 // ---- gaps
 
 // The gap of node i begins at 1, if it is a run-end node and one run for a gap is chosen.
-fn begin_gap(state: &[u64], counts: &mut [u64; plan_words::COUNTERS], i: usize)
+fn begin_gap(plan: &[u64], counters: &mut [u64; plan_words::COUNTERS], i: usize)
     requires { ⌜ i < 32 ⌝ }
-    ensures { λ _. ⌜ ((parts sources lengths places body room : List ℕ) (write : Bool) → Did (now (state .entry)) parts write (beginGaps (lent (now (state .entry)) parts sources lengths places body) i (now (counts .entry))) room 0 (now (counts .exit)) room) ⌝ }
+    ensures { λ _. ⌜ ((parts sources lengths places body room : List ℕ) (write : Bool) → Did (now (plan .entry)) parts write (beginGaps (lent (now (plan .entry)) parts sources lengths places body) i (now (counters .entry))) room 0 (now (counters .exit)) room) ⌝ }
 {
-    let code = plan_words::code_of(state, i);
+    let code = plan_words::code_of(plan, i);
     if !schema::formats::is_run_end(code) {
         return;
     }
-    if lent_tables::at_u64(state, plan_words::GAPS) != 1 {
+    if lent_tables::at_u64(plan, plan_words::GAPS) != 1 {
         return;
     }
-    plan_words::set_bytes(counts, i, 1)
+    plan_words::set_bytes(counters, i, 1)
 }
 
 // The gap of every run-end node. No byte changes.
-fn begin_gaps(state: &[u64], counts: &mut [u64; plan_words::COUNTERS])
-    ensures { λ _. ⌜ ((parts sources lengths places body room : List ℕ) (write : Bool) → Did (now (state .entry)) parts write (each (beginGaps (lent (now (state .entry)) parts sources lengths places body)) (nodesOf (now (state .entry))) 0 (now (counts .entry))) room 0 (now (counts .exit)) room) ⌝ }
+fn begin_gaps(plan: &[u64], counters: &mut [u64; plan_words::COUNTERS])
+    ensures { λ _. ⌜ ((parts sources lengths places body room : List ℕ) (write : Bool) → Did (now (plan .entry)) parts write (each (beginGaps (lent (now (plan .entry)) parts sources lengths places body)) (nodesOf (now (plan .entry))) 0 (now (counters .entry))) room 0 (now (counters .exit)) room) ⌝ }
 {
-    let n = plan::parts::node_count(state);
+    let n = plan::parts::node_count(plan);
     let mut i = 0;
     while i < n {
-        begin_gap(state, counts, i);
+        begin_gap(plan, counters, i);
         i += 1;
     }
 }
@@ -49,70 +49,70 @@ fn begin_gaps(state: &[u64], counts: &mut [u64; plan_words::COUNTERS])
 // ---- first offsets
 
 // The first zero offset of node i, if it is a byte string or list that has parts. No counter changes.
-fn first_offset(state: &[u64], parts: &[u64], room: &mut [u8], write: bool, i: usize)
+fn first_offset(plan: &[u64], parts: &[u64], room: &mut [u8], write: bool, i: usize)
     requires { ⌜ i < 32 ⌝ }
-    ensures { λ _. ⌜ ((sources lengths places body c : List ℕ) → Did (now (state .entry)) (now (parts .entry)) write (firstOffset (lent (now (state .entry)) (now (parts .entry)) sources lengths places body) i c) (now (room .entry)) 0 c (now (room .exit))) ⌝ }
+    ensures { λ _. ⌜ ((sources lengths places body c : List ℕ) → Did (now (plan .entry)) (now (parts .entry)) write (firstOffset (lent (now (plan .entry)) (now (parts .entry)) sources lengths places body) i c) (now (room .entry)) 0 c (now (room .exit))) ⌝ }
 {
-    let code = plan_words::code_of(state, i);
+    let code = plan_words::code_of(plan, i);
     if !(schema::formats::is_string(code) | schema::formats::is_list(code)) {
         return;
     }
-    if !plan::parts::is_copied(state, i) {
+    if !plan::parts::is_copied(plan, i) {
         return;
     }
     let w = schema::formats::width_of(code) as u64;
-    room_writes::put_number(state, parts, room, write, i, 1, 0, w, 0)
+    room_writes::put_number(plan, parts, room, write, i, 1, 0, w, 0)
 }
 
 // The first zero offset of every byte string and list that has parts.
-pub fn first_offsets(state: &[u64], parts: &[u64], room: &mut [u8], write: bool)
-    ensures { λ _. ⌜ ((sources lengths places body c : List ℕ) → Did (now (state .entry)) (now (parts .entry)) write (each (firstOffset (lent (now (state .entry)) (now (parts .entry)) sources lengths places body)) (nodesOf (now (state .entry))) 0 c) (now (room .entry)) 0 c (now (room .exit))) ⌝ }
+pub fn first_offsets(plan: &[u64], parts: &[u64], room: &mut [u8], write: bool)
+    ensures { λ _. ⌜ ((sources lengths places body c : List ℕ) → Did (now (plan .entry)) (now (parts .entry)) write (each (firstOffset (lent (now (plan .entry)) (now (parts .entry)) sources lengths places body)) (nodesOf (now (plan .entry))) 0 c) (now (room .entry)) 0 c (now (room .exit))) ⌝ }
 {
-    let n = plan::parts::node_count(state);
+    let n = plan::parts::node_count(plan);
     let mut i = 0;
     while i < n {
-        first_offset(state, parts, room, write, i);
+        first_offset(plan, parts, room, write, i);
         i += 1;
     }
 }
 
 // ---- dictionaries
 
-// How many sources the state was planned for.
-fn source_count(state: &[u64]) -> usize
-    requires { ⌜ sourceCount (now state) ≤ 16 ⌝ }
-    ensures { λ r. ⌜ r ≡ sourceCount (now (state .entry)) ⌝ }
+// How many sources the plan was made for.
+fn source_count(plan: &[u64]) -> usize
+    requires { ⌜ sourceCount (now plan) ≤ 16 ⌝ }
+    ensures { λ r. ⌜ r ≡ sourceCount (now (plan .entry)) ⌝ }
     ensures { λ r. ⌜ r ≤ 16 ⌝ }
 {
-    lent_tables::at_u64(state, plan_words::SOURCE_COUNT) as usize
+    lent_tables::at_u64(plan, plan_words::SOURCE_COUNT) as usize
 }
 
 // All entries of source s at node i, behind those that are there.
 fn join_source(
-    state: &[u64],
+    plan: &[u64],
     parts: &[u64],
     sources: &[u32],
     lengths: &[u64],
     places: &[u64],
     body: &[u8],
-    counts: &mut [u64; plan_words::COUNTERS],
+    counters: &mut [u64; plan_words::COUNTERS],
     room: &mut [u8],
     write: bool,
     i: usize,
     s: usize,
 ) -> u8
     requires { ⌜ (i < 2 ^ 32) × (s < 2 ^ 32) ⌝ }
-    ensures { λ g. ⌜ Did (now (state .entry)) (now (parts .entry)) write (joinSource (lent (now (state .entry)) (now (parts .entry)) (now (sources .entry)) (now (lengths .entry)) (now (places .entry)) (now (body .entry))) i s (now (counts .entry))) (now (room .entry)) g (now (counts .exit)) (now (room .exit)) ⌝ }
+    ensures { λ g. ⌜ Did (now (plan .entry)) (now (parts .entry)) write (joinSource (lent (now (plan .entry)) (now (parts .entry)) (now (sources .entry)) (now (lengths .entry)) (now (places .entry)) (now (body .entry))) i s (now (counters .entry))) (now (room .entry)) g (now (counters .exit)) (now (room .exit)) ⌝ }
 {
     let first = lent_tables::at_u32(sources, 2 * s) as usize;
     let n = lent_tables::length_of(lengths, first + i);
     extend::extend(
-        state,
+        plan,
         parts,
         lengths,
         places,
         body,
-        counts,
+        counters,
         room,
         write,
         s,
@@ -126,31 +126,31 @@ fn join_source(
 
 // All entries at node i, in source order.
 fn join_entries(
-    state: &[u64],
+    plan: &[u64],
     parts: &[u64],
     sources: &[u32],
     lengths: &[u64],
     places: &[u64],
     body: &[u8],
-    counts: &mut [u64; plan_words::COUNTERS],
+    counters: &mut [u64; plan_words::COUNTERS],
     room: &mut [u8],
     write: bool,
     i: usize,
 ) -> u8
-    requires { ⌜ (i < 2 ^ 32) × (sourceCount (now state) ≤ 16) ⌝ }
-    ensures { λ g. ⌜ Did (now (state .entry)) (now (parts .entry)) write (joinEntries (lent (now (state .entry)) (now (parts .entry)) (now (sources .entry)) (now (lengths .entry)) (now (places .entry)) (now (body .entry))) i (now (counts .entry))) (now (room .entry)) g (now (counts .exit)) (now (room .exit)) ⌝ }
+    requires { ⌜ (i < 2 ^ 32) × (sourceCount (now plan) ≤ 16) ⌝ }
+    ensures { λ g. ⌜ Did (now (plan .entry)) (now (parts .entry)) write (joinEntries (lent (now (plan .entry)) (now (parts .entry)) (now (sources .entry)) (now (lengths .entry)) (now (places .entry)) (now (body .entry))) i (now (counters .entry))) (now (room .entry)) g (now (counters .exit)) (now (room .exit)) ⌝ }
 {
-    let m = source_count(state);
+    let m = source_count(plan);
     let mut s = 0;
     while s < m {
         let g = join_source(
-            state,
+            plan,
             parts,
             sources,
             lengths,
             places,
             body,
-            counts,
+            counters,
             room,
             write,
             i,
@@ -166,31 +166,31 @@ fn join_entries(
 
 // The entries of the dictionary whose keys are node i, if it is joined.
 fn join_values(
-    state: &[u64],
+    plan: &[u64],
     parts: &[u64],
     sources: &[u32],
     lengths: &[u64],
     places: &[u64],
     body: &[u8],
-    counts: &mut [u64; plan_words::COUNTERS],
+    counters: &mut [u64; plan_words::COUNTERS],
     room: &mut [u8],
     write: bool,
     i: usize,
 ) -> u8
-    requires { ⌜ (i < 32) × (sourceCount (now state) ≤ 16) ⌝ }
-    ensures { λ g. ⌜ Did (now (state .entry)) (now (parts .entry)) write (cond (eqb (word (now (state .entry)) i 7) 0) (done (now (counts .entry))) (joinEntries (lent (now (state .entry)) (now (parts .entry)) (now (sources .entry)) (now (lengths .entry)) (now (places .entry)) (now (body .entry))) (suc i) (now (counts .entry)))) (now (room .entry)) g (now (counts .exit)) (now (room .exit)) ⌝ }
+    requires { ⌜ (i < 32) × (sourceCount (now plan) ≤ 16) ⌝ }
+    ensures { λ g. ⌜ Did (now (plan .entry)) (now (parts .entry)) write (cond (eqb (word (now (plan .entry)) i 7) 0) (done (now (counters .entry))) (joinEntries (lent (now (plan .entry)) (now (parts .entry)) (now (sources .entry)) (now (lengths .entry)) (now (places .entry)) (now (body .entry))) (suc i) (now (counters .entry)))) (now (room .entry)) g (now (counters .exit)) (now (room .exit)) ⌝ }
 {
-    if lent_tables::at_u64(state, 8 * i + 7) == 0 {
+    if lent_tables::at_u64(plan, 8 * i + 7) == 0 {
         return 0;
     }
     join_entries(
-        state,
+        plan,
         parts,
         sources,
         lengths,
         places,
         body,
-        counts,
+        counters,
         room,
         write,
         i + 1,
@@ -198,15 +198,15 @@ fn join_values(
 }
 
 // Whether the entries of the dictionary whose keys are node i are counted in 64 bits: ground 6 where not.
-fn entries_hold(state: &[u64], sources: &[u32], lengths: &[u64], i: usize) -> bool
-    requires { ⌜ (i < 32) × (sourceCount (now state) ≤ 16) ⌝ }
-    ensures { λ r. ⌜ ((parts places body : List ℕ) → r ≡ entriesHold (lent (now (state .entry)) parts (now (sources .entry)) (now (lengths .entry)) places body) i) ⌝ }
+fn entries_hold(plan: &[u64], sources: &[u32], lengths: &[u64], i: usize) -> bool
+    requires { ⌜ (i < 32) × (sourceCount (now plan) ≤ 16) ⌝ }
+    ensures { λ r. ⌜ ((parts places body : List ℕ) → r ≡ entriesHold (lent (now (plan .entry)) parts (now (sources .entry)) (now (lengths .entry)) places body) i) ⌝ }
 {
-    let m = source_count(state);
+    let m = source_count(plan);
     let mut s = 0;
     while s < m {
         let n = lent_tables::length_of(lengths, dictionaries::node_of(sources, s, i + 1));
-        if !lent_tables::fits(plan_words::base_of(state, s, i), n, u64::MAX) {
+        if !lent_tables::fits(plan_words::base_of(plan, s, i), n, u64::MAX) {
             return false;
         }
         s += 1;
@@ -215,18 +215,18 @@ fn entries_hold(state: &[u64], sources: &[u32], lengths: &[u64], i: usize) -> bo
 }
 
 // Whether the keys of node i have room for every entry: ground 8 where not.
-fn keys_hold(state: &[u64], sources: &[u32], lengths: &[u64], i: usize) -> bool
-    requires { ⌜ (i < 32) × (sourceCount (now state) ≤ 16) ⌝ }
-    ensures { λ r. ⌜ ((parts places body : List ℕ) → r ≡ keysHold (lent (now (state .entry)) parts (now (sources .entry)) (now (lengths .entry)) places body) i) ⌝ }
+fn keys_hold(plan: &[u64], sources: &[u32], lengths: &[u64], i: usize) -> bool
+    requires { ⌜ (i < 32) × (sourceCount (now plan) ≤ 16) ⌝ }
+    ensures { λ r. ⌜ ((parts places body : List ℕ) → r ≡ keysHold (lent (now (plan .entry)) parts (now (sources .entry)) (now (lengths .entry)) places body) i) ⌝ }
 {
-    let code = plan_words::code_of(state, i);
+    let code = plan_words::code_of(plan, i);
     if !schema::formats::is_integer(code) {
         return false;
     }
-    let m = source_count(state);
+    let m = source_count(plan);
     let mut s = 0;
     while s < m {
-        let start = plan_words::base_of(state, s, i);
+        let start = plan_words::base_of(plan, s, i);
         let k = dictionaries::node_of(sources, s, i + 1);
         let n = lent_tables::length_of(lengths, k);
         if !dictionaries::key_fits(start, n, code) {
@@ -239,34 +239,34 @@ fn keys_hold(state: &[u64], sources: &[u32], lengths: &[u64], i: usize) -> bool
 
 // The dictionary whose keys are node i, if it has one: ground 6, joined where it is not shared, then ground 8.
 fn open_dictionary(
-    state: &[u64],
+    plan: &[u64],
     parts: &[u64],
     sources: &[u32],
     lengths: &[u64],
     places: &[u64],
     body: &[u8],
-    counts: &mut [u64; plan_words::COUNTERS],
+    counters: &mut [u64; plan_words::COUNTERS],
     room: &mut [u8],
     write: bool,
     i: usize,
 ) -> u8
-    requires { ⌜ (i < 32) × (sourceCount (now state) ≤ 16) ⌝ }
-    ensures { λ g. ⌜ Did (now (state .entry)) (now (parts .entry)) write (openDictionary (lent (now (state .entry)) (now (parts .entry)) (now (sources .entry)) (now (lengths .entry)) (now (places .entry)) (now (body .entry))) i (now (counts .entry))) (now (room .entry)) g (now (counts .exit)) (now (room .exit)) ⌝ }
+    requires { ⌜ (i < 32) × (sourceCount (now plan) ≤ 16) ⌝ }
+    ensures { λ g. ⌜ Did (now (plan .entry)) (now (parts .entry)) write (openDictionary (lent (now (plan .entry)) (now (parts .entry)) (now (sources .entry)) (now (lengths .entry)) (now (places .entry)) (now (body .entry))) i (now (counters .entry))) (now (room .entry)) g (now (counters .exit)) (now (room .exit)) ⌝ }
 {
-    if plan_words::dictionary_of(state, i) == 0 {
+    if plan_words::dictionary_of(plan, i) == 0 {
         return 0;
     }
-    if !entries_hold(state, sources, lengths, i) {
+    if !entries_hold(plan, sources, lengths, i) {
         return 6;
     }
     let g = join_values(
-        state,
+        plan,
         parts,
         sources,
         lengths,
         places,
         body,
-        counts,
+        counters,
         room,
         write,
         i,
@@ -274,7 +274,7 @@ fn open_dictionary(
     if g != 0 {
         return g;
     }
-    if !keys_hold(state, sources, lengths, i) {
+    if !keys_hold(plan, sources, lengths, i) {
         return 8;
     }
     0
@@ -282,30 +282,30 @@ fn open_dictionary(
 
 // Every dictionary, in tree order.
 fn open_dictionaries(
-    state: &[u64],
+    plan: &[u64],
     parts: &[u64],
     sources: &[u32],
     lengths: &[u64],
     places: &[u64],
     body: &[u8],
-    counts: &mut [u64; plan_words::COUNTERS],
+    counters: &mut [u64; plan_words::COUNTERS],
     room: &mut [u8],
     write: bool,
 ) -> u8
-    requires { ⌜ sourceCount (now state) ≤ 16 ⌝ }
-    ensures { λ g. ⌜ Did (now (state .entry)) (now (parts .entry)) write (each (openDictionary (lent (now (state .entry)) (now (parts .entry)) (now (sources .entry)) (now (lengths .entry)) (now (places .entry)) (now (body .entry)))) (nodesOf (now (state .entry))) 0 (now (counts .entry))) (now (room .entry)) g (now (counts .exit)) (now (room .exit)) ⌝ }
+    requires { ⌜ sourceCount (now plan) ≤ 16 ⌝ }
+    ensures { λ g. ⌜ Did (now (plan .entry)) (now (parts .entry)) write (each (openDictionary (lent (now (plan .entry)) (now (parts .entry)) (now (sources .entry)) (now (lengths .entry)) (now (places .entry)) (now (body .entry)))) (nodesOf (now (plan .entry))) 0 (now (counters .entry))) (now (room .entry)) g (now (counters .exit)) (now (room .exit)) ⌝ }
 {
-    let n = plan::parts::node_count(state);
+    let n = plan::parts::node_count(plan);
     let mut i = 0;
     while i < n {
         let g = open_dictionary(
-            state,
+            plan,
             parts,
             sources,
             lengths,
             places,
             body,
-            counts,
+            counters,
             room,
             write,
             i,
@@ -320,29 +320,29 @@ fn open_dictionaries(
 
 // THE WALK OF AN OPENING: gaps, first offsets, then the dictionaries. 0, or the ground of refusal.
 pub fn open_walk(
-    state: &[u64],
+    plan: &[u64],
     parts: &[u64],
     sources: &[u32],
     lengths: &[u64],
     places: &[u64],
     body: &[u8],
-    counts: &mut [u64; plan_words::COUNTERS],
+    counters: &mut [u64; plan_words::COUNTERS],
     room: &mut [u8],
     write: bool,
 ) -> u8
-    requires { ⌜ sourceCount (now state) ≤ 16 ⌝ }
-    ensures { λ g. ⌜ Did (now (state .entry)) (now (parts .entry)) write (openWalk (lent (now (state .entry)) (now (parts .entry)) (now (sources .entry)) (now (lengths .entry)) (now (places .entry)) (now (body .entry))) (now (counts .entry))) (now (room .entry)) g (now (counts .exit)) (now (room .exit)) ⌝ }
+    requires { ⌜ sourceCount (now plan) ≤ 16 ⌝ }
+    ensures { λ g. ⌜ Did (now (plan .entry)) (now (parts .entry)) write (openWalk (lent (now (plan .entry)) (now (parts .entry)) (now (sources .entry)) (now (lengths .entry)) (now (places .entry)) (now (body .entry))) (now (counters .entry))) (now (room .entry)) g (now (counters .exit)) (now (room .exit)) ⌝ }
 {
-    begin_gaps(state, counts);
-    first_offsets(state, parts, room, write);
+    begin_gaps(plan, counters);
+    first_offsets(plan, parts, room, write);
     open_dictionaries(
-        state,
+        plan,
         parts,
         sources,
         lengths,
         places,
         body,
-        counts,
+        counters,
         room,
         write,
     )

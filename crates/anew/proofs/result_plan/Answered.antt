@@ -15,14 +15,14 @@ use Rattle.anew.proofs.Laws.{or-zero, or-first}
 use Rattle.anew.specs.result_plan.Answer.{Asks}
 
 -- a walk that only tries leaves the room ..
-pub tried-room : (state parts : List ℕ) (o : Out) (room : List ℕ) {r : ℕ} {c room2 : List ℕ} → Did state parts false o room r c room2 → room2 ≡ room
+pub tried-room : (plan parts : List ℕ) (o : Out) (room : List ℕ) {r : ℕ} {c room2 : List ℕ} → Did plan parts false o room r c room2 → room2 ≡ room
 unfolding applyIf
-tried-room state parts o room d = d .bytes
+tried-room plan parts o room d = d .bytes
 
 -- .. and one that writes leaves it with the log
-pub made-room : (state parts : List ℕ) (o : Out) (room : List ℕ) {r : ℕ} {c room2 : List ℕ} → Did state parts true o room r c room2 → room2 ≡ apply state parts (o .log) room
+pub made-room : (plan parts : List ℕ) (o : Out) (room : List ℕ) {r : ℕ} {c room2 : List ℕ} → Did plan parts true o room r c room2 → room2 ≡ apply plan parts (o .log) room
 unfolding applyIf
-made-room state parts o room d = d .bytes
+made-room plan parts o room d = d .bytes
 
 module _ (formats schema : List ℕ) (x : Tables) (first n own : ℕ) (made : List ℕ) (walk : Out) where
   abbrev before : ℕ
@@ -44,48 +44,48 @@ module _ (formats schema : List ℕ) (x : Tables) (first n own : ℕ) (made : Li
 
   -- ---- the question
 
-  module _ (plan counts : List ℕ) where
+  module _ (plan counters : List ℕ) where
     -- a ground before room is asked
-    pub asks-refused : {g : ℕ} → g ≡ before → (g ≡ 0 → ⊥) → Asks (asking formats schema x first n own made walk plan counts) g plan counts
+    pub asks-refused : {g : ℕ} → g ≡ before → (g ≡ 0 → ⊥) → Asks (asking formats schema x first n own made walk plan counters) g plan counters
     unfolding asking
-    asks-refused e d = rw (ne-eqb before 0 (λ z. d (e ∙ z))) (record { ground = e; plan = refl; counts = refl })
+    asks-refused e d = rw (ne-eqb before 0 (λ z. d (e ∙ z))) (record { ground = e; plan = refl; counters = refl })
 
     -- plan and counters are not a join's
-    pub asks-lengths : before ≡ 0 → joinLengths (length plan) (length counts) ≡ false → Asks (asking formats schema x first n own made walk plan counts) 14 plan counts
+    pub asks-lengths : before ≡ 0 → joinLengths (length plan) (length counters) ≡ false → Asks (asking formats schema x first n own made walk plan counters) 14 plan counters
     unfolding asking
-    asks-lengths e l = rw (e, l) (record { ground = refl; plan = refl; counts = refl })
+    asks-lengths e l = rw (e, l) (record { ground = refl; plan = refl; counters = refl })
 
-    pub asks-done : before ≡ 0 → joinLengths (length plan) (length counts) ≡ true → {r : ℕ} {p c : List ℕ} → r ≡ 0 → p ≡ made → c ≡ walk .counts
-        → Asks (asking formats schema x first n own made walk plan counts) r p c
+    pub asks-done : before ≡ 0 → joinLengths (length plan) (length counters) ≡ true → {r : ℕ} {p c : List ℕ} → r ≡ 0 → p ≡ made → c ≡ walk .counters
+        → Asks (asking formats schema x first n own made walk plan counters) r p c
     unfolding asking
-    asks-done e l r p c = rw (e, l) (record { ground = r; plan = p; counts = c })
+    asks-done e l r p c = rw (e, l) (record { ground = r; plan = p; counters = c })
 
   -- ---- the call
 
-  module _ (parts plan counts room : List ℕ) where
+  module _ (parts plan counters room : List ℕ) where
     abbrev ground : ℕ
-    ground = groundOf formats schema x first n own made walk parts plan counts room
+    ground = groundOf formats schema x first n own made walk parts plan counters room
 
     -- a room above the ceiling
-    pub answers-large : smallBody room ≡ false → Answers (anew formats schema x first n own made walk parts plan counts room) 9 plan counts room
+    pub answers-large : smallBody room ≡ false → Answers (anew formats schema x first n own made walk parts plan counters room) 9 plan counters room
     unfolding anew
-    answers-large s = rw s (record { ground = refl; plan = refl; counts = refl; room = refl })
+    answers-large s = rw s (record { ground = refl; plan = refl; counters = refl; room = refl })
 
-    answers-ground : smallBody room ≡ true → {g : ℕ} → g ≡ ground → (g ≡ 0 → ⊥) → Answers (anew formats schema x first n own made walk parts plan counts room) g plan counts room
+    answers-ground : smallBody room ≡ true → {g : ℕ} → g ≡ ground → (g ≡ 0 → ⊥) → Answers (anew formats schema x first n own made walk parts plan counters room) g plan counters room
     unfolding anew
-    answers-ground s e d = rw (s, ne-eqb ground 0 (λ z. d (e ∙ z))) (record { ground = e; plan = refl; counts = refl; room = refl })
+    answers-ground s e d = rw (s, ne-eqb ground 0 (λ z. d (e ∙ z))) (record { ground = e; plan = refl; counters = refl; room = refl })
 
     -- a ground before room is asked
-    pub answers-refused : smallBody room ≡ true → {g : ℕ} → g ≡ before → (g ≡ 0 → ⊥) → Answers (anew formats schema x first n own made walk parts plan counts room) g plan counts room
+    pub answers-refused : smallBody room ≡ true → {g : ℕ} → g ≡ before → (g ≡ 0 → ⊥) → Answers (anew formats schema x first n own made walk parts plan counters room) g plan counters room
     answers-refused s e d = answers-ground s (e ∙ sym (or-first before _ (λ z. d (e ∙ z)))) d
 
     -- 14 or 13
-    pub answers-room : smallBody room ≡ true → before ≡ 0 → {g : ℕ} → g ≡ roomGround made (walk .counts) parts (length plan) (length counts) (length room) → (g ≡ 0 → ⊥)
-        → Answers (anew formats schema x first n own made walk parts plan counts room) g plan counts room
+    pub answers-room : smallBody room ≡ true → before ≡ 0 → {g : ℕ} → g ≡ roomGround made (walk .counters) parts (length plan) (length counters) (length room) → (g ≡ 0 → ⊥)
+        → Answers (anew formats schema x first n own made walk parts plan counters room) g plan counters room
     answers-room s b e d = answers-ground s (e ∙ sym (or-zero before _ b)) d
 
     -- the result
-    pub answers-made : smallBody room ≡ true → before ≡ 0 → roomGround made (walk .counts) parts (length plan) (length counts) (length room) ≡ 0 → {r : ℕ} {p c b : List ℕ} → r ≡ 0 → p ≡ made → c ≡ walk .counts
-        → b ≡ apply made parts (walk .log) room → Answers (anew formats schema x first n own made walk parts plan counts room) r p c b
+    pub answers-made : smallBody room ≡ true → before ≡ 0 → roomGround made (walk .counters) parts (length plan) (length counters) (length room) ≡ 0 → {r : ℕ} {p c b : List ℕ} → r ≡ 0 → p ≡ made → c ≡ walk .counters
+        → b ≡ apply made parts (walk .log) room → Answers (anew formats schema x first n own made walk parts plan counters room) r p c b
     unfolding anew
-    answers-made s b g r p c q = rw (s, eq-eqb ground 0 (or-zero before _ b ∙ g)) (record { ground = r; plan = p; counts = c; room = q })
+    answers-made s b g r p c q = rw (s, eq-eqb ground 0 (or-zero before _ b ∙ g)) (record { ground = r; plan = p; counters = c; room = q })

@@ -41,14 +41,14 @@ module _ (x : Tables) (first : ℕ) (from : List ℕ) (i : ℕ) {j : ℕ} (at : 
     pub null-on : (v ≡ 0 → ⊥) → 1 ≡ flag (keepsFrom x first from i)
     null-on e = sym (ap flag (keeps-by ∙ lt-ltb 0 v (omega (arith, e))))
 
-module _ (joined : Bool) (state : List ℕ) (i : ℕ) {d : ℕ} (at : d ≡ dictionaryOf state i) where
-  pub dictionary-none : d ≡ 0 → 0 ≡ dictionaryWord joined state i
+module _ (joined : Bool) (plan : List ℕ) (i : ℕ) {d : ℕ} (at : d ≡ dictionaryOf plan i) where
+  pub dictionary-none : d ≡ 0 → 0 ≡ dictionaryWord joined plan i
   unfolding dictionaryWord
   dictionary-none e = rw (sym at ∙ e)
 
-  pub dictionary-by : (d ≡ 0 → ⊥) → flag joined ≡ dictionaryWord joined state i
+  pub dictionary-by : (d ≡ 0 → ⊥) → flag joined ≡ dictionaryWord joined plan i
   unfolding dictionaryWord
-  dictionary-by e = rw (ne-eqb (dictionaryOf state i) 0 (λ q. e (at ∙ q)))
+  dictionary-by e = rw (ne-eqb (dictionaryOf plan i) 0 (λ q. e (at ∙ q)))
 
 -- one stage after the other
 pub anew-by : (formats schema : List ℕ) (target n : ℕ) (keep : ℕ → Bool) (joined : Bool) (kept : ℕ) {r : ℕ} {a b c d : List ℕ} → a ≡ withCounts 1 n (withTree (planted formats schema target n))
@@ -64,16 +64,16 @@ was-true : (b : Bool) → not b ≡ false → b ≡ true
 was-true true e = refl
 was-true false e = sym e
 
-module _ (made counts parts : List ℕ) (words counters m : ℕ) {b : Bool} (at : b ≡ (eqb words 872 && eqb counters 96 && partsPlaced parts (partTotal made) m)) where
-  pub room-badly : not b ≡ true → 14 ≡ roomGround made counts parts words counters m
+module _ (made tally parts : List ℕ) (words counters m : ℕ) {b : Bool} (at : b ≡ (eqb words 872 && eqb counters 96 && partsPlaced parts (partTotal made) m)) where
+  pub room-badly : not b ≡ true → 14 ≡ roomGround made tally parts words counters m
   unfolding roomGround joinLengths
   room-badly e = rw (sym at ∙ was-false b e)
 
-  module _ (well : not b ≡ false) {h : Bool} (hold : h ≡ partsHold made counts parts) where
-    pub room-small : not h ≡ true → 13 ≡ roomGround made counts parts words counters m
+  module _ (well : not b ≡ false) {h : Bool} (hold : h ≡ partsHold made tally parts) where
+    pub room-small : not h ≡ true → 13 ≡ roomGround made tally parts words counters m
     unfolding roomGround joinLengths
     room-small e = rw (sym at ∙ was-true b well, sym hold ∙ was-false h e)
 
-    pub room-good : not h ≡ false → 0 ≡ roomGround made counts parts words counters m
+    pub room-good : not h ≡ false → 0 ≡ roomGround made tally parts words counters m
     unfolding roomGround joinLengths
     room-good e = rw (sym at ∙ was-true b well, sym hold ∙ was-true h e)

@@ -5,7 +5,7 @@ use Prim.Native.Nat.{ℕ}
 use Rattle.anew.specs.Anew.{Asking}
 
 -- the ground that is answered, and the plan and the counters as they are left
-pub record Asks (a : Asking) (r : ℕ) (words counters : List ℕ) : Type 0 where
+pub record Asks (a : Asking) (r : ℕ) (words tally : List ℕ) : Type 0 where
   pub ground : r ≡ a .ground
   pub plan : words ≡ a .plan
-  pub counts : counters ≡ a .counts
+  pub counters : tally ≡ a .counters

@@ -139,11 +139,11 @@ module _ (home : ℕ → ℕ) where
       set-else : (l : List ℕ) (v k : ℕ) → eqb j k ≡ false → getD (set l j v) k 0 ≡ getD l k 0
       set-else l v k q = getD-set-other l j k v 0 (λ z. eqb-false j k q (sym z))
 
-      counts-go : (k : ℕ) → k < 32 → (u : Bool) → eqb j k ≡ u → getD (set taken j (t + 1)) k 0 ≡ sumOf (takesOf home k) r2
-      counts-go k h true q =
+      counters-go : (k : ℕ) → k < 32 → (u : Bool) → eqb j k ≡ u → getD (set taken j (t + 1)) k 0 ≡ sumOf (takesOf home k) r2
+      counters-go k h true q =
           let z : j ≡ k = eqb-true j k q in
           rw (← z, more) (set-here taken (t + 1) (f .long .1) ∙ ap (_+ 1) (had ∙ f .counted j small) ∙ sym (sum-more (takesOf home j) r ∙ ap (λ v. sumOf (takesOf home j) r + v) (takes-here j r is)))
-      counts-go k h false q =
+      counters-go k h false q =
           rw more (set-else taken (t + 1) k q ∙ f .counted k h ∙ sym (sum-more (takesOf home k) r ∙ ap (λ v. sumOf (takesOf home k) r + v) (takes-else k r (else-home k q)) ∙ add-zero _))
 
       reach-go : (k : ℕ) → k < 32 → (u : Bool) → eqb j k ≡ u → getD (set ends j e) k 0 ≡ furthestOf (λ q. takesFrom home pos k q + takesOf home k q) r2
@@ -209,7 +209,7 @@ module _ (home : ℕ → ℕ) where
       fall-more =
           record {
             long = (length-set begins j b ∙ f .long .0, length-set taken j (t + 1) ∙ f .long .1, length-set ends j e ∙ f .long .2);
-            counted = λ k h. counts-go k h (eqb j k) refl;
+            counted = λ k h. counters-go k h (eqb j k) refl;
             furthest = λ k h. reach-go k h (eqb j k) refl;
             begun = λ k h. begun-go k h (eqb j k) refl;
             one = λ w k h walk c. one-go (whole-was w .0) (whole-was w .1) k h walk c (eqb j k) refl;

@@ -30,10 +30,10 @@ child-same {S} {P} {wr} walk k n c {h} {h2} {p} {p2} e f {room} {g} {c1} {room1}
     (subst (λ y. Did S P wr (stretches walk (takesFrom y p k) (takesOf y k) n c) room g c1 room1) e d)
 
 module _ (x : Join) (i slot : ℕ) where
-  pub homes-same : (homes : List ℕ) → Homed (x .state) i homes → ((q : ℕ) → getD (x .body) q 0 < 256) → {ids : ℕ} → ids ≡ place x i 3
+  pub homes-same : (homes : List ℕ) → Homed (x .plan) i homes → ((q : ℕ) → getD (x .body) q 0 < 256) → {ids : ℕ} → ids ≡ place x i 3
       → _≡_ {A = ℕ → ℕ} (λ r. homeBy homes (x .body) (ids + (slot + r))) (λ r. home x (batchLeaf x) i slot r)
   homes-same homes h small {ids} e =
-      fun-ext (λ r. h (getD (x .body) (ids + (slot + r)) 0) (small (ids + (slot + r))) ∙ ap (λ v. childWith (x .state) (getD (x .body) (v + (slot + r)) 0) (endOf (x .state) i) 32 (suc i)) e)
+      fun-ext (λ r. h (getD (x .body) (ids + (slot + r)) 0) (small (ids + (slot + r))) ∙ ap (λ v. childWith (x .plan) (getD (x .body) (v + (slot + r)) 0) (endOf (x .plan) i) 32 (suc i)) e)
 
   pub positions-same : {positions : ℕ} → positions ≡ place x i 5 → _≡_ {A = ℕ → ℕ} (λ r. entry 4 (x .body) positions (slot + r)) (λ r. positionAt x (batchLeaf x) i (slot + r))
   positions-same e = ap (λ v. λ r. entry 4 (x .body) v (slot + r)) e
@@ -48,39 +48,39 @@ module _ (x : Join) (i slot : ℕ) where
     One k c = stretches (λ a m d. batchLeaf x k a m d) (takesAt x (batchLeaf x) i slot k) (takes x (batchLeaf x) i slot k) n c
 
     module _ (c room : List ℕ) where
-      pub fields-none : (end f k : ℕ) → f ≡ 0 → Did (x .state) (x .parts) wr (Fields end f k c) room 0 c room
+      pub fields-none : (end f k : ℕ) → f ≡ 0 → Did (x .plan) (x .parts) wr (Fields end f k c) room 0 c room
       unfolding batchFields
       fields-none end f k e = rw e (done-did wr c room)
 
-      pub fields-end : (end f k : ℕ) → end ≤ k → Did (x .state) (x .parts) wr (Fields end f k c) room 0 c room
+      pub fields-end : (end f k : ℕ) → end ≤ k → Did (x .plan) (x .parts) wr (Fields end f k c) room 0 c room
       unfolding batchFields
       fields-end end zero k h = done-did wr c room
       fields-end end (suc f) k h = rw (le-ltb k end h) (done-did wr c room)
 
-      module _ (end f k : ℕ) {f2 : ℕ} (e : f ≡ suc f2) (more : k < end) {v : ℕ} (next-is : v ≡ endOf (x .state) k) where
-        pub fields-turned : v ≤ k → Did (x .state) (x .parts) wr (Fields end f k c) room 12 c room
+      module _ (end f k : ℕ) {f2 : ℕ} (e : f ≡ suc f2) (more : k < end) {v : ℕ} (next-is : v ≡ endOf (x .plan) k) where
+        pub fields-turned : v ≤ k → Did (x .plan) (x .parts) wr (Fields end f k c) room 12 c room
         unfolding batchFields
         fields-turned h =
-            let g : ltb k (endOf (x .state) k) ≡ false = le-ltb k (endOf (x .state) k) (subst (λ y. y ≤ k) next-is h) in
+            let g : ltb k (endOf (x .plan) k) ≡ false = le-ltb k (endOf (x .plan) k) (subst (λ y. y ≤ k) next-is h) in
             rw (e, lt-ltb k end more) (need-no _ (rw g refl))
 
-        module _ (on : k < v) {t : Bool} (has : t ≡ owned (x .state) k) where
-          rises : ltb k (endOf (x .state) k) ≡ true
-          rises = lt-ltb k (endOf (x .state) k) (subst (λ y. k < y) next-is on)
+        module _ (on : k < v) {t : Bool} (has : t ≡ owned (x .plan) k) where
+          rises : ltb k (endOf (x .plan) k) ≡ true
+          rises = lt-ltb k (endOf (x .plan) k) (subst (λ y. k < y) next-is on)
 
-          pub fields-bare : not t ≡ true → Did (x .state) (x .parts) wr (Fields end f k c) room 12 c room
+          pub fields-bare : not t ≡ true → Did (x .plan) (x .parts) wr (Fields end f k c) room 12 c room
           unfolding batchFields
           fields-bare h = rw (e, lt-ltb k end more) (need-no _ (rw rises (no has h)))
 
-          module _ (h : not t ≡ false) {g : ℕ} {c1 room1 : List ℕ} (d : Did (x .state) (x .parts) wr (One k c) room g c1 room1) where
-            pub fields-stop : (g ≡ 0 → ⊥) → Did (x .state) (x .parts) wr (Fields end f k c) room g c1 room1
+          module _ (h : not t ≡ false) {g : ℕ} {c1 room1 : List ℕ} (d : Did (x .plan) (x .parts) wr (One k c) room g c1 room1) where
+            pub fields-stop : (g ≡ 0 → ⊥) → Did (x .plan) (x .parts) wr (Fields end f k c) room g c1 room1
             unfolding batchFields
             fields-stop l = rw (e, lt-ltb k end more) (need-ok 12 c (rw rises (yes has h)) (next-no _ d l))
 
-            pub fields-more : g ≡ 0 → {g2 : ℕ} {c2 room2 : List ℕ} → Did (x .state) (x .parts) wr (Fields end f2 v c1) room1 g2 c2 room2 → Did (x .state) (x .parts) wr (Fields end f k c) room g2 c2 room2
+            pub fields-more : g ≡ 0 → {g2 : ℕ} {c2 room2 : List ℕ} → Did (x .plan) (x .parts) wr (Fields end f2 v c1) room1 g2 c2 room2 → Did (x .plan) (x .parts) wr (Fields end f k c) room g2 c2 room2
             unfolding batchFields
             fields-more l {g2} {c2} {room2} m =
-                let m2 : Did (x .state) (x .parts) wr (Fields end f2 (endOf (x .state) k) c1) room1 g2 c2 room2 = subst (λ y. Did (x .state) (x .parts) wr (Fields end f2 y c1) room1 g2 c2 room2) next-is m in
+                let m2 : Did (x .plan) (x .parts) wr (Fields end f2 (endOf (x .plan) k) c1) room1 g2 c2 room2 = subst (λ y. Did (x .plan) (x .parts) wr (Fields end f2 y c1) room1 g2 c2 room2) next-is m in
                 rw (e, lt-ltb k end more) (need-ok 12 c (rw rises (yes has h)) (next-ok _ d l m2))
 
       -- ---- the node
@@ -88,13 +88,13 @@ module _ (x : Join) (i slot : ℕ) where
       abbrev Dense : Out
       Dense = batchDense x (batchLeaf x) i slot n c
 
-      module _ {r : Bool} (e : r ≡ owned (x .state) i) where
-        pub dense-bare : not r ≡ true → Did (x .state) (x .parts) wr Dense room 12 c room
+      module _ {r : Bool} (e : r ≡ owned (x .plan) i) where
+        pub dense-bare : not r ≡ true → Did (x .plan) (x .parts) wr Dense room 12 c room
         unfolding batchDense
         dense-bare h = need-no _ (no e h)
 
         module _ (h : not r ≡ false) {s : Bool} (f : s ≡ (rowsIn x (place x i 3) 1 slot n && rowsIn x (place x i 5) 4 slot n)) where
-          pub dense-short : not s ≡ true → Did (x .state) (x .parts) wr Dense room 12 c room
+          pub dense-short : not s ≡ true → Did (x .plan) (x .parts) wr Dense room 12 c room
           unfolding batchDense
           dense-short g = need-ok 12 c (yes e h) (need-no _ (no f g))
 
@@ -102,25 +102,25 @@ module _ (x : Join) (i slot : ℕ) where
             lands : t ≡ allLand (λ r. home x (batchLeaf x) i slot r) c n
             lands = sound ∙ ap (λ y. allLand y c n) same
 
-            pub dense-astray : not t ≡ true → Did (x .state) (x .parts) wr Dense room 12 c room
+            pub dense-astray : not t ≡ true → Did (x .plan) (x .parts) wr Dense room 12 c room
             unfolding batchDense
             dense-astray l = need-ok 12 c (yes e h) (need-ok 12 c (yes f g) (need-no _ (no lands l)))
 
             pub dense-goes : not t ≡ false → {ids o j : ℕ} {room1 room2 : List ℕ} {a : ℕ} {c2 room3 : List ℕ} → ids ≡ place x i 3 → j ≡ rows c i → o ≡ scaled j 4
-                → room1 ≡ applyIf (x .state) (x .parts) wr (put i 1 j (take n (drop (ids + slot) (x .body))) ∷ []) room → length room1 < top
-                → room2 ≡ applyIf (x .state) (x .parts) wr (put i 2 o (numbers 4 (landsBy hm c) n) ∷ []) room1
-                → Did (x .state) (x .parts) wr (Fields (endOf (x .state) i) 32 (suc i) c) room2 a c2 room3
-                → Did (x .state) (x .parts) wr Dense room a c2 room3
+                → room1 ≡ applyIf (x .plan) (x .parts) wr (put i 1 j (take n (drop (ids + slot) (x .body))) ∷ []) room → length room1 < top
+                → room2 ≡ applyIf (x .plan) (x .parts) wr (put i 2 o (numbers 4 (landsBy hm c) n) ∷ []) room1
+                → Did (x .plan) (x .parts) wr (Fields (endOf (x .plan) i) 32 (suc i) c) room2 a c2 room3
+                → Did (x .plan) (x .parts) wr Dense room a c2 room3
             unfolding batchDense
             dense-goes l {ids} {o} {j} {room1} {room2} p q y one small two d =
-                let one2 : room1 ≡ applyIf (x .state) (x .parts) wr (put i 1 (rows c i) (take n (drop (place x i 3 + slot) (x .body))) ∷ []) room =
-                one ∙ ap (λ z. applyIf (x .state) (x .parts) wr (put i 1 z (take n (drop (ids + slot) (x .body))) ∷ []) room) q
-                ∙ ap (λ z. applyIf (x .state) (x .parts) wr (put i 1 (rows c i) (take n (drop (z + slot) (x .body))) ∷ []) room) p in
-                let two2 : room2 ≡ applyIf (x .state) (x .parts) wr (put i 2 o (numbers 4 (landsBy (λ r. home x (batchLeaf x) i slot r) c) n) ∷ []) room1 =
-                two ∙ ap (λ z. applyIf (x .state) (x .parts) wr (put i 2 o (numbers 4 (landsBy z c) n) ∷ []) room1) same in
+                let one2 : room1 ≡ applyIf (x .plan) (x .parts) wr (put i 1 (rows c i) (take n (drop (place x i 3 + slot) (x .body))) ∷ []) room =
+                one ∙ ap (λ z. applyIf (x .plan) (x .parts) wr (put i 1 z (take n (drop (ids + slot) (x .body))) ∷ []) room) q
+                ∙ ap (λ z. applyIf (x .plan) (x .parts) wr (put i 1 (rows c i) (take n (drop (z + slot) (x .body))) ∷ []) room) p in
+                let two2 : room2 ≡ applyIf (x .plan) (x .parts) wr (put i 2 o (numbers 4 (landsBy (λ r. home x (batchLeaf x) i slot r) c) n) ∷ []) room1 =
+                two ∙ ap (λ z. applyIf (x .plan) (x .parts) wr (put i 2 o (numbers 4 (landsBy z c) n) ∷ []) room1) same in
                 need-ok 12 c (yes e h) (need-ok 12 c (yes f g) (need-ok 12 c (yes lands l)
                 (next-ok _ (wrote-did wr _ c room room1 one2) refl
-                (next-ok _ (wrote-at (x .state) (x .parts) wr i 2 (rows c i) 4 (numbers 4 (landsAt x (batchLeaf x) i slot c) n) c room1 q y small two2) refl d))))
+                (next-ok _ (wrote-at (x .plan) (x .parts) wr i 2 (rows c i) 4 (numbers 4 (landsAt x (batchLeaf x) i slot c) n) c room1 q y small two2) refl d))))
 
 -- both buffers stand in the body
 pub dense-within : (x : Join) (i slot n : ℕ) {s : Bool} {ids positions : ℕ} → s ≡ (rowsIn x (place x i 3) 1 slot n && rowsIn x (place x i 5) 4 slot n) → not s ≡ false → ids ≡ place x i 3 → positions ≡ place x i 5

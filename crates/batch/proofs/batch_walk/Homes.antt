@@ -14,49 +14,49 @@ use Rattle.walk.specs.Copy.{childWith}
 use Rattle.batch.specs.batch_walk.Fall.{Homed}
 use Rattle.nested_rows.proofs.lookups.Laws.{child-none, child-here, child-next}
 
-module _ (state : List ℕ) (end first : ℕ) where
+module _ (plan : List ℕ) (end first : ℕ) where
   -- t children are in the table, and child k is next
   abbrev pub Homing : ℕ → ℕ → List ℕ → Type 0
-  Homing t k homes = (length homes ≡ 256) × ((id : ℕ) → id < 256 → childWith state id end 32 first ≡ cond (eqb (getD homes id 0) 32) (childWith state id end (32 - t) k) (getD homes id 0))
+  Homing t k homes = (length homes ≡ 256) × ((id : ℕ) → id < 256 → childWith plan id end 32 first ≡ cond (eqb (getD homes id 0) 32) (childWith plan id end (32 - t) k) (getD homes id 0))
 
   pub homing-none : Homing 0 first (replicate 256 32)
   homing-none = (length-replicate {A = ℕ} 256 32, λ id h. rw (getD-replicate {A = ℕ} 256 id 32 0 h) refl)
 
-  pub homing-end : (t k : ℕ) (homes : List ℕ) → Homing t k homes → ((id : ℕ) → childWith state id end (32 - t) k ≡ 32) → (id : ℕ) → id < 256 → getD homes id 0 ≡ childWith state id end 32 first
+  pub homing-end : (t k : ℕ) (homes : List ℕ) → Homing t k homes → ((id : ℕ) → childWith plan id end (32 - t) k ≡ 32) → (id : ℕ) → id < 256 → getD homes id 0 ≡ childWith plan id end 32 first
   homing-end t k homes f none id h = go (eqb (getD homes id 0) 32) refl (f .1 id h)
     where
-      go : (u : Bool) → eqb (getD homes id 0) 32 ≡ u → childWith state id end 32 first ≡ cond u (childWith state id end (32 - t) k) (getD homes id 0) → getD homes id 0 ≡ childWith state id end 32 first
+      go : (u : Bool) → eqb (getD homes id 0) 32 ≡ u → childWith plan id end 32 first ≡ cond u (childWith plan id end (32 - t) k) (getD homes id 0) → getD homes id 0 ≡ childWith plan id end 32 first
       go true e q = eqb-true (getD homes id 0) 32 e ∙ sym (q ∙ none id)
       go false e q = sym q
 
-  module _ (t k : ℕ) (homes : List ℕ) (f : Homing t k homes) (room : t < 32) (in-end : k < end) (few : end ≤ 32) {v k2 t2 : ℕ} (is : v ≡ idOf state k) (after : k2 ≡ endOf state k) (more : t2 ≡ t + 1) where
+  module _ (t k : ℕ) (homes : List ℕ) (f : Homing t k homes) (room : t < 32) (in-end : k < end) (few : end ≤ 32) {v k2 t2 : ℕ} (is : v ≡ idOf plan k) (after : k2 ≡ endOf plan k) (more : t2 ≡ t + 1) where
     turn : 32 - t ≡ suc (32 - t2)
     turn = omega arith
 
     -- an id that is not that child's
-    other : (id : ℕ) → (v ≡ id → ⊥) → childWith state id end (32 - t) k ≡ childWith state id end (32 - t2) k2
-    other id ne = child-next state end k id turn in-end is ne after
+    other : (id : ℕ) → (v ≡ id → ⊥) → childWith plan id end (32 - t) k ≡ childWith plan id end (32 - t2) k2
+    other id ne = child-next plan end k id turn in-end is ne after
 
     pub homing-had : (getD homes v 0 ≡ 32 → ⊥) → Homing t2 k2 homes
     homing-had had = (f .0, λ id h. go id (eqb (getD homes id 0) 32) refl (f .1 id h))
       where
-        go : (id : ℕ) (u : Bool) → eqb (getD homes id 0) 32 ≡ u → childWith state id end 32 first ≡ cond u (childWith state id end (32 - t) k) (getD homes id 0)
-            → childWith state id end 32 first ≡ cond u (childWith state id end (32 - t2) k2) (getD homes id 0)
+        go : (id : ℕ) (u : Bool) → eqb (getD homes id 0) 32 ≡ u → childWith plan id end 32 first ≡ cond u (childWith plan id end (32 - t) k) (getD homes id 0)
+            → childWith plan id end 32 first ≡ cond u (childWith plan id end (32 - t2) k2) (getD homes id 0)
         go id true e q = q ∙ other id (λ z. had (ap (λ y. getD homes y 0) z ∙ eqb-true (getD homes id 0) 32 e))
         go id false e q = q
 
     pub homing-new : v < 256 → getD homes v 0 ≡ 32 → Homing t2 k2 (set homes v k)
     homing-new small none = (length-set homes v k ∙ f .0, λ id h. go id (eqb v id) refl h)
       where
-        here : childWith state v end 32 first ≡ k
-        here = (rw none at (f .1 v small)) ∙ child-here state end k v turn in-end is refl
+        here : childWith plan v end 32 first ≡ k
+        here = (rw none at (f .1 v small)) ∙ child-here plan end k v turn in-end is refl
 
-        else-is : (id : ℕ) → (v ≡ id → ⊥) → (u : Bool) → eqb (getD homes id 0) 32 ≡ u → childWith state id end 32 first ≡ cond u (childWith state id end (32 - t) k) (getD homes id 0)
-            → childWith state id end 32 first ≡ cond u (childWith state id end (32 - t2) k2) (getD homes id 0)
+        else-is : (id : ℕ) → (v ≡ id → ⊥) → (u : Bool) → eqb (getD homes id 0) 32 ≡ u → childWith plan id end 32 first ≡ cond u (childWith plan id end (32 - t) k) (getD homes id 0)
+            → childWith plan id end 32 first ≡ cond u (childWith plan id end (32 - t2) k2) (getD homes id 0)
         else-is id ne true e q = q ∙ other id ne
         else-is id ne false e q = q
 
-        go : (id : ℕ) (u : Bool) → eqb v id ≡ u → id < 256 → childWith state id end 32 first ≡ cond (eqb (getD (set homes v k) id 0) 32) (childWith state id end (32 - t2) k2) (getD (set homes v k) id 0)
+        go : (id : ℕ) (u : Bool) → eqb v id ≡ u → id < 256 → childWith plan id end 32 first ≡ cond (eqb (getD (set homes v k) id 0) 32) (childWith plan id end (32 - t2) k2) (getD (set homes v k) id 0)
         go id true e h =
             let z : v ≡ id = eqb-true v id e in
             let same : getD (set homes v k) v 0 ≡ k = getD-set-same homes v k 0 (omega (arith, f .0)) in
@@ -81,11 +81,11 @@ module _ (state : List ℕ) (end first : ℕ) where
             (length-set homes v n ∙ f .0, λ id h. rw (same id (eqb id v) refl y) (g .1 id h))
 
 -- no child is left
-pub child-zero : (state : List ℕ) (id end f k : ℕ) → f ≡ 0 → childWith state id end f k ≡ 32
+pub child-zero : (plan : List ℕ) (id end f k : ℕ) → f ≡ 0 → childWith plan id end f k ≡ 32
 unfolding childWith
-child-zero state id end f k e = rw e refl
+child-zero plan id end f k e = rw e refl
 
 -- THE TABLE is whole when no child is left
-pub homed : (state : List ℕ) (i t k : ℕ) (homes : List ℕ) {end : ℕ} → end ≡ endOf state i → Homing state end (i + 1) t k homes → ((id : ℕ) → childWith state id end (32 - t) k ≡ 32) → Homed state i homes
-homed state i t k homes {end} e f none id h =
-    homing-end state end (i + 1) t k homes f none id h ∙ ap (λ v. childWith state id v 32 (i + 1)) e ∙ ap (λ v. childWith state id (endOf state i) 32 v) (add-one i)
+pub homed : (plan : List ℕ) (i t k : ℕ) (homes : List ℕ) {end : ℕ} → end ≡ endOf plan i → Homing plan end (i + 1) t k homes → ((id : ℕ) → childWith plan id end (32 - t) k ≡ 32) → Homed plan i homes
+homed plan i t k homes {end} e f none id h =
+    homing-end plan end (i + 1) t k homes f none id h ∙ ap (λ v. childWith plan id v 32 (i + 1)) e ∙ ap (λ v. childWith plan id (endOf plan i) 32 v) (add-one i)

@@ -29,17 +29,17 @@ module _ (walk : ℕ → ℕ → List ℕ → Out) (start size : ℕ → ℕ) wh
       ∙ ap (λ y. stretch walk start size n r2 y (nextSize (sideOf a m (start r) (size r)) m (size r)) c) (sym u)
       ∙ ap (λ y. stretch walk start size n r2 b y c) (sym v)
 
-  module _ {state parts : List ℕ} {wr : Bool} (c room : List ℕ) (n r a m : ℕ) {g : ℕ} {c1 room1 : List ℕ} (d : Did state parts wr (walk a m c) room g c1 room1) where
+  module _ {plan parts : List ℕ} {wr : Bool} (c room : List ℕ) (n r a m : ℕ) {g : ℕ} {c1 room1 : List ℕ} (d : Did plan parts wr (walk a m c) room g c1 room1) where
     -- the last stretch
-    pub stretch-last : n ≡ 0 → Did state parts wr (stretch walk start size n r a m c) room g c1 room1
+    pub stretch-last : n ≡ 0 → Did plan parts wr (stretch walk start size n r a m c) room g c1 room1
     unfolding stretch
     stretch-last e = rw e d
 
     -- a stretch that is refused
-    pub stretch-stop : (g ≡ 0 → ⊥) → ((n ≡ 0 → ⊥) → sideOf a m (start r) (size r) ≡ 3) → Did state parts wr (stretch walk start size n r a m c) room g c1 room1
+    pub stretch-stop : (g ≡ 0 → ⊥) → ((n ≡ 0 → ⊥) → sideOf a m (start r) (size r) ≡ 3) → Did plan parts wr (stretch walk start size n r a m c) room g c1 room1
     stretch-stop h f = go (eqb n 0) refl
       where
-        go : (t : Bool) → eqb n 0 ≡ t → Did state parts wr (stretch walk start size n r a m c) room g c1 room1
+        go : (t : Bool) → eqb n 0 ≡ t → Did plan parts wr (stretch walk start size n r a m c) room g c1 room1
         go true e = stretch-last (eqb-true n 0 e)
         go false e =
             let y = eqb-false n 0 e in
@@ -48,38 +48,38 @@ module _ (walk : ℕ → ℕ → List ℕ → Out) (start size : ℕ → ℕ) wh
 
     -- a stretch, and then the rest
     pub stretch-more : g ≡ 0 → {n2 r2 a2 m2 : ℕ} → n ≡ suc n2 → sideOf a m (start r) (size r) ≡ 3 → r2 ≡ r + 1 → a2 ≡ start r → m2 ≡ size r → {g2 : ℕ} {c2 room2 : List ℕ}
-        → Did state parts wr (stretch walk start size n2 r2 a2 m2 c1) room1 g2 c2 room2 → Did state parts wr (stretch walk start size n r a m c) room g2 c2 room2
+        → Did plan parts wr (stretch walk start size n2 r2 a2 m2 c1) room1 g2 c2 room2 → Did plan parts wr (stretch walk start size n r a m c) room g2 c2 room2
     stretch-more h {n2} {r2} {a2} {m2} e f i j k o =
         rw (stretch-cut walk start size n2 r a m c e f) (next-ok _ d h (rw (i, j, k, add-one r) at o))
 
 -- what is left at first is the whole
-pub begins : (state parts : List ℕ) (wr : Bool) (walk : ℕ → ℕ → List ℕ → Out) (w : ℕ) (body : List ℕ) (slot n : ℕ) (c room : List ℕ) {o z p q : ℕ} → o ≡ p → z ≡ q
-    → Rest state parts wr (stretches walk (λ r. entry w body p (slot + r)) (λ r. entry w body q (slot + r)) n c) room
+pub begins : (plan parts : List ℕ) (wr : Bool) (walk : ℕ → ℕ → List ℕ → Out) (w : ℕ) (body : List ℕ) (slot n : ℕ) (c room : List ℕ) {o z p q : ℕ} → o ≡ p → z ≡ q
+    → Rest plan parts wr (stretches walk (λ r. entry w body p (slot + r)) (λ r. entry w body q (slot + r)) n c) room
     (stretch walk (λ r. entry w body o (slot + r)) (λ r. entry w body z (slot + r)) (n - 0) 0 0 0 c) room
-begins state parts wr walk w body slot n c room {o} {z} {p} {q} e f g c2 room2 d =
-    subst (λ v. Did state parts wr (stretch walk (λ r. entry w body p (slot + r)) (λ r. entry w body v (slot + r)) n 0 0 0 c) room g c2 room2) f
-    (subst (λ v. Did state parts wr (stretch walk (λ r. entry w body v (slot + r)) (λ r. entry w body z (slot + r)) n 0 0 0 c) room g c2 room2) e
-    (subst (λ v. Did state parts wr (stretch walk (λ r. entry w body o (slot + r)) (λ r. entry w body z (slot + r)) v 0 0 0 c) room g c2 room2) (sub-zero n) d))
+begins plan parts wr walk w body slot n c room {o} {z} {p} {q} e f g c2 room2 d =
+    subst (λ v. Did plan parts wr (stretch walk (λ r. entry w body p (slot + r)) (λ r. entry w body v (slot + r)) n 0 0 0 c) room g c2 room2) f
+    (subst (λ v. Did plan parts wr (stretch walk (λ r. entry w body v (slot + r)) (λ r. entry w body z (slot + r)) n 0 0 0 c) room g c2 room2) e
+    (subst (λ v. Did plan parts wr (stretch walk (λ r. entry w body o (slot + r)) (λ r. entry w body z (slot + r)) v 0 0 0 c) room g c2 room2) (sub-zero n) d))
 
 -- one turn of the loop: o0 from room0 is the whole, the rows from r on are left, and the stretch ends before row t
-module _ {state parts : List ℕ} {wr : Bool} (walk : ℕ → ℕ → List ℕ → Out) (start size : ℕ → ℕ) (n r a m : ℕ) (c room : List ℕ) {o0 : Out} {room0 : List ℕ} (rest : Rest state parts wr o0 room0 (stretch walk start size (n - r) r a m c) room) where
+module _ {plan parts : List ℕ} {wr : Bool} (walk : ℕ → ℕ → List ℕ → Out) (start size : ℕ → ℕ) (n r a m : ℕ) (c room : List ℕ) {o0 : Out} {room0 : List ℕ} (rest : Rest plan parts wr o0 room0 (stretch walk start size (n - r) r a m c) room) where
   -- no row is left
-  pub loop-out : n ≤ r → {g : ℕ} {c1 room1 : List ℕ} → Did state parts wr (walk a m c) room g c1 room1 → Did state parts wr o0 room0 g c1 room1
+  pub loop-out : n ≤ r → {g : ℕ} {c1 room1 : List ℕ} → Did plan parts wr (walk a m c) room g c1 room1 → Did plan parts wr o0 room0 g c1 room1
   loop-out h {g} {c1} {room1} d = rest g c1 room1 (stretch-last walk start size c room (n - r) r a m d (omega arith))
 
-  module _ (t b k : ℕ) (e : stretch walk start size (n - r) r a m c ≡ stretch walk start size (n - t) t b k c) (within : t ≤ n) {g : ℕ} {c1 room1 : List ℕ} (d : Did state parts wr (walk b k c) room g c1 room1) where
-    pub loop-stop : (g ≡ 0 → ⊥) → ((t ≡ n → ⊥) → sideOf b k (start t) (size t) ≡ 3) → Did state parts wr o0 room0 g c1 room1
+  module _ (t b k : ℕ) (e : stretch walk start size (n - r) r a m c ≡ stretch walk start size (n - t) t b k c) (within : t ≤ n) {g : ℕ} {c1 room1 : List ℕ} (d : Did plan parts wr (walk b k c) room g c1 room1) where
+    pub loop-stop : (g ≡ 0 → ⊥) → ((t ≡ n → ⊥) → sideOf b k (start t) (size t) ≡ 3) → Did plan parts wr o0 room0 g c1 room1
     loop-stop h f =
         rest g c1 room1 (rw e (stretch-stop walk start size c room (n - t) t b k d h (λ y. f (λ (z : t ≡ n). y (omega arith)))))
 
-    pub loop-end : t ≡ n → Did state parts wr o0 room0 g c1 room1
+    pub loop-end : t ≡ n → Did plan parts wr o0 room0 g c1 room1
     loop-end h = rest g c1 room1 (rw e (stretch-last walk start size c room (n - t) t b k d (omega arith)))
 
-    pub loop-zero : t ≡ n → g ≡ 0 → Did state parts wr o0 room0 0 c1 room1
-    loop-zero h z = subst (λ v. Did state parts wr o0 room0 v c1 room1) z (loop-end h)
+    pub loop-zero : t ≡ n → g ≡ 0 → Did plan parts wr o0 room0 0 c1 room1
+    loop-zero h z = subst (λ v. Did plan parts wr o0 room0 v c1 room1) z (loop-end h)
 
     pub loop-more : g ≡ 0 → (t ≡ n → ⊥) → ((t ≡ n → ⊥) → sideOf b k (start t) (size t) ≡ 3) → {r2 a2 m2 : ℕ} → r2 ≡ t + 1 → a2 ≡ start t → m2 ≡ size t
-        → Rest state parts wr o0 room0 (stretch walk start size (n - r2) r2 a2 m2 c1) room1
+        → Rest plan parts wr o0 room0 (stretch walk start size (n - r2) r2 a2 m2 c1) room1
     loop-more h y f {r2} {a2} {m2} i j l g2 c2 room2 q =
         let k2 : n - t ≡ suc (n - r2) = go (eqb t n) refl in
         rest g2 c2 room2 (rw e (stretch-more walk start size c room (n - t) t b k d h k2 (f y) i j l q))

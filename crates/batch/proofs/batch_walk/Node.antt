@@ -142,13 +142,13 @@ module _ (x : Join) (i w slot n : ℕ) (wr : Bool) (c room : List ℕ) where
   abbrev List-view : Out
   List-view = batchListView x (batchLeaf x) w i slot n c
 
-  module _ {r : Bool} (e : r ≡ (ltb (suc i) 32 && (owned (x .state) i && owned (x .state) (suc i)))) where
-    pub list-childless : not r ≡ true → Did (x .state) (x .parts) wr List-view room 12 c room
+  module _ {r : Bool} (e : r ≡ (ltb (suc i) 32 && (owned (x .plan) i && owned (x .plan) (suc i)))) where
+    pub list-childless : not r ≡ true → Did (x .plan) (x .parts) wr List-view room 12 c room
     unfolding batchListView
     list-childless h = need-no _ (no e h)
 
     module _ (h : not r ≡ false) {s : Bool} (f : s ≡ (rowsIn x (place x i 3) w slot n && rowsIn x (place x i 5) w slot n)) where
-      pub list-short : not s ≡ true → Did (x .state) (x .parts) wr List-view room 12 c room
+      pub list-short : not s ≡ true → Did (x .plan) (x .parts) wr List-view room 12 c room
       unfolding batchListView
       list-short g = need-ok 12 c (yes e h) (need-no _ (no f g))
 
@@ -158,7 +158,7 @@ module _ (x : Join) (i w slot n : ℕ) (wr : Bool) (c room : List ℕ) where
             let m : sum ≡ grown (rows c (suc i)) (sumOf size n) = u ∙ ap (λ z. grown z (sumOf (λ y. entry w (x .body) at (slot + y)) n)) q ∙ ap (λ z. grown (rows c (suc i)) (sumOf (λ y. entry w (x .body) z (slot + y)) n)) p in
             v ∙ ap (λ z. ltb z (half w)) m ∙ offset-same w (rows c (suc i)) (sumOf size n) big
 
-        pub list-over : not t ≡ true → Did (x .state) (x .parts) wr List-view room 6 c room
+        pub list-over : not t ≡ true → Did (x .plan) (x .parts) wr List-view room 6 c room
         unfolding batchListView
         list-over l = need-ok 12 c (yes e h) (need-ok 12 c (yes f g) (need-no _ (no fits-as l)))
 
@@ -166,43 +166,43 @@ module _ (x : Join) (i w slot n : ℕ) (wr : Bool) (c room : List ℕ) where
         sum-fits l = ltb-true _ _ (yes fits-as l)
 
         pub list-goes : not t ≡ false → length room < top → {o j : ℕ} {room1 room2 : List ℕ} {a : ℕ} {c2 room3 : List ℕ} → j ≡ rows c i → o ≡ scaled j w
-            → room1 ≡ applyIf (x .state) (x .parts) wr (put i 1 o (numbers w (λ r. k + sumOf (λ y. entry w (x .body) at (slot + y)) r) n) ∷ []) room → length room1 < top
-            → room2 ≡ applyIf (x .state) (x .parts) wr (put i 2 o (take (w * n) (drop (at + w * slot) (x .body))) ∷ []) room1
-            → Did (x .state) (x .parts) wr (stretches (λ a m d. batchLeaf x (suc i) a m d) (λ r. entry w (x .body) (place x i 3) (slot + r)) size n c) room2 a c2 room3
-            → Did (x .state) (x .parts) wr List-view room a c2 room3
+            → room1 ≡ applyIf (x .plan) (x .parts) wr (put i 1 o (numbers w (λ r. k + sumOf (λ y. entry w (x .body) at (slot + y)) r) n) ∷ []) room → length room1 < top
+            → room2 ≡ applyIf (x .plan) (x .parts) wr (put i 2 o (take (w * n) (drop (at + w * slot) (x .body))) ∷ []) room1
+            → Did (x .plan) (x .parts) wr (stretches (λ a m d. batchLeaf x (suc i) a m d) (λ r. entry w (x .body) (place x i 3) (slot + r)) size n c) room2 a c2 room3
+            → Did (x .plan) (x .parts) wr List-view room a c2 room3
         unfolding batchListView
         list-goes l small {o} {j} {room1} {room2} m y one small1 two d =
-            let one2 : room1 ≡ applyIf (x .state) (x .parts) wr (put i 1 o (numbers w (λ r. rows c (suc i) + sumOf size r) n) ∷ []) room =
-            one ∙ ap (λ z. applyIf (x .state) (x .parts) wr (put i 1 o (numbers w (λ r. z + sumOf (λ y. entry w (x .body) at (slot + y)) r) n) ∷ []) room) q
-            ∙ ap (λ z. applyIf (x .state) (x .parts) wr (put i 1 o (numbers w (λ r. rows c (suc i) + sumOf (λ y. entry w (x .body) z (slot + y)) r) n) ∷ []) room) p in
-            let two2 : room2 ≡ applyIf (x .state) (x .parts) wr (put i 2 o (take (w * n) (drop (place x i 5 + w * slot) (x .body))) ∷ []) room1 =
-            two ∙ ap (λ z. applyIf (x .state) (x .parts) wr (put i 2 o (take (w * n) (drop (z + w * slot) (x .body))) ∷ []) room1) p in
+            let one2 : room1 ≡ applyIf (x .plan) (x .parts) wr (put i 1 o (numbers w (λ r. rows c (suc i) + sumOf size r) n) ∷ []) room =
+            one ∙ ap (λ z. applyIf (x .plan) (x .parts) wr (put i 1 o (numbers w (λ r. z + sumOf (λ y. entry w (x .body) at (slot + y)) r) n) ∷ []) room) q
+            ∙ ap (λ z. applyIf (x .plan) (x .parts) wr (put i 1 o (numbers w (λ r. rows c (suc i) + sumOf (λ y. entry w (x .body) z (slot + y)) r) n) ∷ []) room) p in
+            let two2 : room2 ≡ applyIf (x .plan) (x .parts) wr (put i 2 o (take (w * n) (drop (place x i 5 + w * slot) (x .body))) ∷ []) room1 =
+            two ∙ ap (λ z. applyIf (x .plan) (x .parts) wr (put i 2 o (take (w * n) (drop (z + w * slot) (x .body))) ∷ []) room1) p in
             need-ok 12 c (yes e h) (need-ok 12 c (yes f g) (need-ok 6 c (yes fits-as l)
-            (next-ok _ (wrote-at (x .state) (x .parts) wr i 1 (rows c i) w (numbers w (λ r. rows c (suc i) + sumOf size r) n) c room m y small one2) refl
-            (next-ok _ (wrote-at (x .state) (x .parts) wr i 2 (rows c i) w (take (w * n) (drop (place x i 5 + w * slot) (x .body))) c room1 m y small1 two2) refl d))))
+            (next-ok _ (wrote-at (x .plan) (x .parts) wr i 1 (rows c i) w (numbers w (λ r. rows c (suc i) + sumOf size r) n) c room m y small one2) refl
+            (next-ok _ (wrote-at (x .plan) (x .parts) wr i 2 (rows c i) w (take (w * n) (drop (place x i 5 + w * slot) (x .body))) c room1 m y small1 two2) refl d))))
 
 -- ---- the whole node
 
 module _ (x : Join) where
   abbrev C : ℕ
-  C = codeOf (x .state) 0
+  C = codeOf (x .plan) 0
 
   abbrev W : ℕ
-  W = bytesOf (x .state) 0
+  W = bytesOf (x .plan) 0
 
   -- a list-view's data, and a dense union's
   module _ {wr : Bool} (slot n : ℕ) (c : List ℕ) {room : List ℕ} {code g : ℕ} {c2 room2 : List ℕ} (e : code ≡ C) where
-    pub data-list : isListed (x .state) ≡ true → {w : ℕ} → w ≡ W → Did (x .state) (x .parts) wr (batchListView x (batchLeaf x) w 0 slot n c) room g c2 room2
-        → Did (x .state) (x .parts) wr (batchData x (batchLeaf x) C 0 slot n c) room g c2 room2
+    pub data-list : isListed (x .plan) ≡ true → {w : ℕ} → w ≡ W → Did (x .plan) (x .parts) wr (batchListView x (batchLeaf x) w 0 slot n c) room g c2 room2
+        → Did (x .plan) (x .parts) wr (batchData x (batchLeaf x) C 0 slot n c) room g c2 room2
     unfolding batchData
-    data-list is f d = rw (listed (x .state) is) (rw f at d)
+    data-list is f d = rw (listed (x .plan) is) (rw f at d)
 
-    pub data-dense : code ≡ 22 → Did (x .state) (x .parts) wr (batchDense x (batchLeaf x) 0 slot n c) room g c2 room2
-        → Did (x .state) (x .parts) wr (batchData x (batchLeaf x) C 0 slot n c) room g c2 room2
+    pub data-dense : code ≡ 22 → Did (x .plan) (x .parts) wr (batchDense x (batchLeaf x) 0 slot n c) room g c2 room2
+        → Did (x .plan) (x .parts) wr (batchData x (batchLeaf x) C 0 slot n c) room g c2 room2
     unfolding batchData
     data-dense f d = let h : C ≡ 22 = sym e ∙ f in rw h d
 
-  module _ (is : isStretched (x .state) ≡ true) where
+  module _ (is : isStretched (x .plan) ≡ true) where
     mask-is : (slot n : ℕ) (c : List ℕ) → cond (masked C) (copyMask x 0 slot n c) (done c) ≡ done c
     unfolding copyMask
     mask-is slot n c = go (eqb C 22) refl
@@ -210,9 +210,9 @@ module _ (x : Join) where
         go : (t : Bool) → eqb C 22 ≡ t → cond (masked C) (copyMask x 0 slot n c) (done c) ≡ done c
         go true q = rw (le-ltb C 21 (let h = eqb-true C 22 q in omega arith)) refl
         go false q =
-            let l = list-is (x .state) is refl (eqb-false C 22 q) in
-            let m : masked C ≡ true = lt-ltb C 21 (let h = leb-true C 18 (and-right (leb 17 C) _ (listed (x .state) l)) in omega arith) in
-            rw (m, keeps-none (x .state) l) refl
+            let l = list-is (x .plan) is refl (eqb-false C 22 q) in
+            let m : masked C ≡ true = lt-ltb C 21 (let h = leb-true C 18 (and-right (leb 17 C) _ (listed (x .plan) l)) in omega arith) in
+            rw (m, keeps-none (x .plan) l) refl
 
     done-next : (c : List ℕ) (f : List ℕ → Out) → next (done c) f ≡ f c
     unfolding next done
@@ -231,12 +231,12 @@ module _ (x : Join) where
         ∙ ap (found far (slotOf x 0 a n) 12 c) (fun-ext (λ slot. slots-is n c slot))
 
     module _ (a n : ℕ) (wr : Bool) (c room : List ℕ) {s : ℕ} (e : s ≡ slotOf x 0 a n) where
-      pub node-far : far ≤ s → Did (x .state) (x .parts) wr (batchWalk x 0 a n c) room 12 c room
+      pub node-far : far ≤ s → Did (x .plan) (x .parts) wr (batchWalk x 0 a n c) room 12 c room
       node-far h = rw (node-is a n c) (found-no _ e h)
 
-      module _ (h : s < far) {g : ℕ} {c2 room2 : List ℕ} (d : Did (x .state) (x .parts) wr (batchData x (batchLeaf x) C 0 s n c) room g c2 room2) where
-        pub node-stop : (g ≡ 0 → ⊥) → Did (x .state) (x .parts) wr (batchWalk x 0 a n c) room g c2 room2
+      module _ (h : s < far) {g : ℕ} {c2 room2 : List ℕ} (d : Did (x .plan) (x .parts) wr (batchData x (batchLeaf x) C 0 s n c) room g c2 room2) where
+        pub node-stop : (g ≡ 0 → ⊥) → Did (x .plan) (x .parts) wr (batchWalk x 0 a n c) room g c2 room2
         node-stop l = rw (node-is a n c) (found-ok 12 c _ e h (next-no _ d l))
 
-        pub node-done : g ≡ 0 → {c3 : List ℕ} → c3 ≡ addRows 0 n c2 → Did (x .state) (x .parts) wr (batchWalk x 0 a n c) room 0 c3 room2
+        pub node-done : g ≡ 0 → {c3 : List ℕ} → c3 ≡ addRows 0 n c2 → Did (x .plan) (x .parts) wr (batchWalk x 0 a n c) room 0 c3 room2
         node-done l q = rw (node-is a n c) (found-ok 12 c _ e h (next-ok _ d l (rw q (done-did wr _ room2))))

@@ -43,21 +43,21 @@ module _ (S : List ℕ) (k : ℕ) where
 pub plain-wide : (S : List ℕ) (k : ℕ) {w : ℕ} → w ≡ bytesOf S k → isPlain S k ≡ true → (1 ≤ w) × (w ≤ 16)
 plain-wide S k {w} e h = width-in w (fixed-wide S k refl e refl (and-left (isFixed (codeOf S k)) _ h))
 
-module _ (x : Join) (k : ℕ) (plain : isPlain (x .state) k ≡ true) where
+module _ (x : Join) (k : ℕ) (plain : isPlain (x .plan) k ≡ true) where
   abbrev C : ℕ
-  C = codeOf (x .state) k
+  C = codeOf (x .plan) k
 
   abbrev W : ℕ
-  W = bytesOf (x .state) k
+  W = bytesOf (x .plan) k
 
   fixed : isFixed C ≡ true
   fixed = and-left (isFixed C) _ plain
 
-  keyless : eqb (dictionaryOf (x .state) k) 0 ≡ true
-  keyless = and-left (eqb (dictionaryOf (x .state) k) 0) _ (and-right (isFixed C) _ plain)
+  keyless : eqb (dictionaryOf (x .plan) k) 0 ≡ true
+  keyless = and-left (eqb (dictionaryOf (x .plan) k) 0) _ (and-right (isFixed C) _ plain)
 
-  keeps-none : eqb (keepsOf (x .state) k) 0 ≡ true
-  keeps-none = and-right (eqb (dictionaryOf (x .state) k) 0) _ (and-right (isFixed C) _ plain)
+  keeps-none : eqb (keepsOf (x .plan) k) 0 ≡ true
+  keeps-none = and-right (eqb (dictionaryOf (x .plan) k) 0) _ (and-right (isFixed C) _ plain)
 
   high : C ≤ 10
   high = leb-true C 10 (and-right (leb 1 C) _ fixed)
@@ -112,17 +112,17 @@ module _ (x : Join) (k : ℕ) (plain : isPlain (x .state) k ≡ true) where
       need-is 12 c (need (steady x k a n) 12 c (copyWalk x 1 k a n c)) leaf ∙ need-is 12 c (copyWalk x 1 k a n c) (is-steady a n) ∙ walk-is small a n c
 
   module _ (small : k < 32) (a n : ℕ) (wr : Bool) (c room : List ℕ) {s : ℕ} (e : s ≡ slotOf x k a n) where
-    pub plain-far : far ≤ s → Did (x .state) (x .parts) wr (batchLeaf x k a n c) room 12 c room
+    pub plain-far : far ≤ s → Did (x .plan) (x .parts) wr (batchLeaf x k a n c) room 12 c room
     plain-far h = rw (plain-is small a n c) (found-no _ e h)
 
-    pub plain-short : s < far → {w at : ℕ} {r : Bool} → w ≡ W → at ≡ place x k 3 → r ≡ rowsIn x at w s n → not r ≡ true → Did (x .state) (x .parts) wr (batchLeaf x k a n c) room 12 c room
+    pub plain-short : s < far → {w at : ℕ} {r : Bool} → w ≡ W → at ≡ place x k 3 → r ≡ rowsIn x at w s n → not r ≡ true → Did (x .plan) (x .parts) wr (batchLeaf x k a n c) room 12 c room
     unfolding copyNumbers
     plain-short h {w} {at} {r} f p q l =
         let y : r ≡ rowsIn x at W s n = rw f at q in
         rw (plain-is small a n c) (found-ok 12 c _ e h (next-no _ (entries-no x k wr c room W s n _ p y l) (λ z. omega arith)))
 
-    pub plain-done : s < far → {c2 room2 : List ℕ} → Did (x .state) (x .parts) wr (copyNumbers x k W s n c) room 0 c room2 → c2 ≡ addRows k n c
-        → Did (x .state) (x .parts) wr (batchLeaf x k a n c) room 0 c2 room2
+    pub plain-done : s < far → {c2 room2 : List ℕ} → Did (x .plan) (x .parts) wr (copyNumbers x k W s n c) room 0 c room2 → c2 ≡ addRows k n c
+        → Did (x .plan) (x .parts) wr (batchLeaf x k a n c) room 0 c2 room2
     plain-done h {c2} {room2} d q = rw (plain-is small a n c) (found-ok 12 c _ e h (next-ok _ d refl (rw q (done-did wr _ room2))))
 
 -- ---- how far a child reaches

@@ -32,9 +32,9 @@ set-twice [] i m p = refl
 set-twice (y ∷ l) zero m p = ap (λ v. v ∷ l) (grown-twice y m p)
 set-twice (y ∷ l) (suc i) m p = ap (λ t. y ∷ t) (set-twice l i m p)
 
-module _ (x : Join) (k : ℕ) (plain : isPlain (x .state) k ≡ true) (small : k < 32) (E : ℕ) (is-reached : reached x k (bytesOf (x .state) k) E ≡ true) where
+module _ (x : Join) (k : ℕ) (plain : isPlain (x .plan) k ≡ true) (small : k < 32) (E : ℕ) (is-reached : reached x k (bytesOf (x .plan) k) E ≡ true) where
   abbrev W : ℕ
-  W = bytesOf (x .state) k
+  W = bytesOf (x .plan) k
 
   near : offsetOf x k + E < far
   unfolding reached slotOf
@@ -117,18 +117,18 @@ unfolding applyIf
 unwritten S P l room = refl
 
 -- a walk that only tries
-pub tried : (x : Join) (k : ℕ) (plain : isPlain (x .state) k ≡ true) (small : k < 32) (start size : ℕ → ℕ) (n : ℕ) (c room : List ℕ) (wr : Bool) {r : Bool} {w v : ℕ} {c2 : List ℕ} → w ≡ bytesOf (x .state) k
+pub tried : (x : Join) (k : ℕ) (plain : isPlain (x .plan) k ≡ true) (small : k < 32) (start size : ℕ → ℕ) (n : ℕ) (c room : List ℕ) (wr : Bool) {r : Bool} {w v : ℕ} {c2 : List ℕ} → w ≡ bytesOf (x .plan) k
     → r ≡ (not wr && reached x k w (furthestOf (λ q. start q + size q) n)) → r ≡ true → v ≡ sumOf size n → c2 ≡ addRows k v c
-    → Did (x .state) (x .parts) wr (stretches (λ a m d. batchLeaf x k a m d) start size n c) room 0 c2 room
+    → Did (x .plan) (x .parts) wr (stretches (λ a m d. batchLeaf x k a m d) start size n c) room 0 c2 room
 tried x k plain small start size n c room wr {r} {w} {v} {c2} e f g h i =
-    let both : (not wr && reached x k (bytesOf (x .state) k) (furthestOf (λ q. start q + size q) n)) ≡ true = rw e at (sym f ∙ g) in
+    let both : (not wr && reached x k (bytesOf (x .plan) k) (furthestOf (λ q. start q + size q) n)) ≡ true = rw e at (sym f ∙ g) in
     let y = and-right (not wr) _ both in
     let l = all-go x k plain small (furthestOf (λ q. start q + size q) n) y start size n c (λ j q. let z = furthest-most (λ q. start q + size q) n j q in let o = near x k plain small (furthestOf (λ q. start q + size q) n) y in omega arith) in
     go wr (and-left (not wr) _ both) l
   where
     go : (t : Bool) → not t ≡ true → Leaves (stretches (λ a m d. batchLeaf x k a m d) start size n c) (addRows k (sumOf size n) c)
-        → Did (x .state) (x .parts) t (stretches (λ a m d. batchLeaf x k a m d) start size n c) room 0 c2 room
-    go false q l = record { answer = sym (l .ok); counters = i ∙ ap (λ y. addRows k y c) h ∙ sym (l .left); bytes = unwritten (x .state) (x .parts) (stretches (λ a m d. batchLeaf x k a m d) start size n c .log) room }
+        → Did (x .plan) (x .parts) t (stretches (λ a m d. batchLeaf x k a m d) start size n c) room 0 c2 room
+    go false q l = record { answer = sym (l .ok); counters = i ∙ ap (λ y. addRows k y c) h ∙ sym (l .left); bytes = unwritten (x .plan) (x .parts) (stretches (λ a m d. batchLeaf x k a m d) start size n c .log) room }
     go true q l = let z : _≡_ {A = ℕ} 0 1 = ap (λ b. cond b 1 0) q in absurd (omega arith)
 
 -- what is asked of the rows that are named

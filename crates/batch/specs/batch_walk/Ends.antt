@@ -7,10 +7,10 @@ use Rattle.walk.specs.State.{top}
 use Rattle.walk.specs.Log.{startOf}
 use Rattle.plan.specs.parts.Parts.{hasPart, sizeOf}
 
-module _ (state parts : List ℕ) where
+module _ (plan parts : List ℕ) where
   -- where the part of buffer b of node i ends, if it has one; the largest number if it starts before the byte `end`
   unfoldable pub endBehind : ℕ → ℕ → ℕ → ℕ
-  endBehind i b end = cond (hasPart state i b) (cond (leb end (startOf state parts i b)) (min (startOf state parts i b + sizeOf state parts i b) top) top) end
+  endBehind i b end = cond (hasPart plan i b) (cond (leb end (startOf plan parts i b)) (min (startOf plan parts i b + sizeOf plan parts i b) top) top) end
 
   -- the last of n nodes from node i on
   unfoldable pub endFrom : ℕ → ℕ → ℕ → ℕ

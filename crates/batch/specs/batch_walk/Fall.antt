@@ -15,7 +15,7 @@ use Rattle.batch.specs.batch_walk.Side.{furthestOf}
 
 -- a table of the child of each id
 abbrev pub Homed : List ℕ → ℕ → List ℕ → Type 0
-Homed state i homes = (id : ℕ) → id < 256 → getD homes id 0 ≡ childWith state id (endOf state i) 32 (suc i)
+Homed plan i homes = (id : ℕ) → id < 256 → getD homes id 0 ≡ childWith plan id (endOf plan i) 32 (suc i)
 
 -- by that table, the child of the id at byte q
 abbrev pub homeBy : List ℕ → List ℕ → ℕ → ℕ

@@ -9,7 +9,7 @@ use Rattle.walk.specs.State.{Join, codeOf, dictionaryOf, endOf, keepsOf, place,
 
 -- node k is of numbers, and keeps no nulls
 abbrev pub isPlain : List ℕ → ℕ → Bool
-isPlain state k = isFixed (codeOf state k) && (eqb (dictionaryOf state k) 0 && eqb (keepsOf state k) 0)
+isPlain plan k = isFixed (codeOf plan k) && (eqb (dictionaryOf plan k) 0 && eqb (keepsOf plan k) 0)
 
 -- the entries of w bytes of node k before row `end` stand in the body
 unfoldable pub reached : Join → ℕ → ℕ → ℕ → Bool
@@ -17,12 +17,12 @@ reached x k w end = ltb (slotOf x k end 0) far && rowsIn x (place x k 3) w (slot
 
 -- the root is a list-view that keeps no nulls, of numbers that keep none
 abbrev pub isListed : List ℕ → Bool
-isListed state = isListView (codeOf state 0) && (eqb (keepsOf state 0) 0 && isPlain state 1)
+isListed plan = isListView (codeOf plan 0) && (eqb (keepsOf plan 0) 0 && isPlain plan 1)
 
 -- the nodes below the root are of numbers, and keep no nulls
 abbrev pub plainBelow : List ℕ → Bool
-plainBelow state = every (λ j. isPlain state (suc j)) (endOf state 0 - 1)
+plainBelow plan = every (λ j. isPlain plan (suc j)) (endOf plan 0 - 1)
 
 -- the root is such a list-view, or a dense union of such numbers
 abbrev pub isStretched : List ℕ → Bool
-isStretched state = cond (eqb (codeOf state 0) 22) (plainBelow state) (isListed state)
+isStretched plan = cond (eqb (codeOf plan 0) 22) (plainBelow plan) (isListed plan)

@@ -17,7 +17,7 @@ at-u64-requires c κs = search needs
 returns : tie.Need-returns
 returns c =
     let a = c .before .before .before .before .before .args in
-    part-start (a .state .now) (a .parts .now) (a .i) (a .b) (c .before .before .part-of .ensures .0) (c .at-u64 .ensures) (omega arith)
+    part-start (a .plan .now) (a .parts .now) (a .i) (a .b) (c .before .before .part-of .ensures .0) (c .at-u64 .ensures) (omega arith)
 
 sub-at-u64 : tie.Need-sub-at-u64
 sub-at-u64 c = search needs
@@ -31,7 +31,7 @@ at-u64-requires-2 c κs = search needs
 returns-2 : tie.Need-returns-2
 returns-2 c =
     let a = c .before .before .before .before .before .args in
-    part-start (a .state .now) (a .parts .now) (a .i) (a .b) (c .before .before .part-of .ensures .0) (c .at-u642 .ensures) (omega arith)
+    part-start (a .plan .now) (a .parts .now) (a .i) (a .b) (c .before .before .part-of .ensures .0) (c .at-u642 .ensures) (omega arith)
 
 pub start-of-spec : {M : Type 1} → statement M
 start-of-spec =

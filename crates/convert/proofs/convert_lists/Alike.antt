@@ -163,7 +163,7 @@ module _ (formats schema : List ℕ) (target first m : ℕ) (t : typed formats s
 
   -- THE TREES AGREE BELOW THEIR ROOTS
   pub alike : Alike (treeOf formats schema target (suc m)) (treeOf formats schema first (suc m))
-  alike = record { counts = refl; kinds = kinds-at; ends = ends-at; flags = flags-at; later = later-at }
+  alike = record { counters = refl; kinds = kinds-at; ends = ends-at; flags = flags-at; later = later-at }
     where
       kinds-at : (i : ℕ) → 0 < i → i < suc m → kindAt formats schema target i ≡ kindAt formats schema first i
       kinds-at zero l h = absurd (omega arith)

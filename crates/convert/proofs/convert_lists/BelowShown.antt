@@ -183,28 +183,28 @@ module _ (there here : Tree) (a : Alike there here) (x : Tables) (first n : ℕ)
     counted : (u : Ty) (i : ℕ) → 0 < i → Means here u i → CountsData there N u i (namedBody u (bodyOf here own u i)) → Counts there N u i (named u (columnOf here own u i))
     counted u i p h q = count i p (within i (here .kind i) (kind-of u i h)) (CountsData there N u i) (bodyOf here own u i) (namedBody u (bodyOf here own u i)) q
 
-    data-counts : (u : Ty) (i : ℕ) → 0 < i → Means here u i → CountsData there N u i (namedBody u (bodyOf here own u i))
-    data-counts (tPlain q) i p h = tt
-    data-counts tView i p h = tt
-    data-counts (tListView w u) i p h = counted u (suc i) (omega arith) (h .1) (data-counts u (suc i) (omega arith) (h .1))
-    data-counts (tList w u) i p h = counted u (suc i) (omega arith) (h .1) (data-counts u (suc i) (omega arith) (h .1))
-    data-counts (tSparse ids nullable f) i p h =
+    data-counters : (u : Ty) (i : ℕ) → 0 < i → Means here u i → CountsData there N u i (namedBody u (bodyOf here own u i))
+    data-counters (tPlain q) i p h = tt
+    data-counters tView i p h = tt
+    data-counters (tListView w u) i p h = counted u (suc i) (omega arith) (h .1) (data-counters u (suc i) (omega arith) (h .1))
+    data-counters (tList w u) i p h = counted u (suc i) (omega arith) (h .1) (data-counters u (suc i) (omega arith) (h .1))
+    data-counters (tSparse ids nullable f) i p h =
         λ c q. let k = nodeOf here i ids c in
         let j = later i ids c p in
-        subst (λ k2. Counts there N (f c) k2 (named (f c) (columnOf here own (f c) k))) (sym (kid-same there here a i (fieldOf ids c) p)) (counted (f c) k j (h .1 c q .1) (data-counts (f c) k j (h .1 c q .1)))
-    data-counts (tDense ids nullable f) i p h =
+        subst (λ k2. Counts there N (f c) k2 (named (f c) (columnOf here own (f c) k))) (sym (kid-same there here a i (fieldOf ids c) p)) (counted (f c) k j (h .1 c q .1) (data-counters (f c) k j (h .1 c q .1)))
+    data-counters (tDense ids nullable f) i p h =
         λ c q. let k = nodeOf here i ids c in
         let j = later i ids c p in
-        subst (λ k2. Counts there N (f c) k2 (named (f c) (columnOf here own (f c) k))) (sym (kid-same there here a i (fieldOf ids c) p)) (counted (f c) k j (h .1 c q .1) (data-counts (f c) k j (h .1 c q .1)))
-    data-counts (tRunEnd w u) i p h = (
+        subst (λ k2. Counts there N (f c) k2 (named (f c) (columnOf here own (f c) k))) (sym (kid-same there here a i (fieldOf ids c) p)) (counted (f c) k j (h .1 c q .1) (data-counters (f c) k j (h .1 c q .1)))
+    data-counters (tRunEnd w u) i p h = (
       count (suc i) (omega arith) (within (suc i) (fixedNode (h .1 .number)) (h .1 .is-ends)) (λ s. Unit {0}) (firstBuffer own (suc i)) (firstBuffer own (suc i)) tt,
-      counted u (suc (suc i)) (omega arith) (h .2) (data-counts u (suc (suc i)) (omega arith) (h .2)),
+      counted u (suc (suc i)) (omega arith) (h .2) (data-counters u (suc (suc i)) (omega arith) (h .2)),
     )
-    data-counts (tDictionary k q) i p h =
+    data-counters (tDictionary k q) i p h =
         count (suc i) (omega arith) (within (suc i) (here .kind (suc i)) (plain-kind q (suc i) (h .1))) (λ s. Unit {0}) (plainBody here own q (suc i)) (plainBody here own q (suc i)) tt
 
-    pub below-counts : (u : Ty) (i : ℕ) → 0 < i → Means here u i → Counts there N u i (named u (columnOf here own u i))
-    below-counts u i p h = counted u i p h (data-counts u i p h)
+    pub below-counters : (u : Ty) (i : ℕ) → 0 < i → Means here u i → Counts there N u i (named u (columnOf here own u i))
+    below-counters u i p h = counted u i p h (data-counters u i p h)
 
   -- ---- every node below lies in the body
 
@@ -223,5 +223,5 @@ module _ (there here : Tree) (a : Alike there here) (x : Tables) (first n : ℕ)
   pub below-placed : (i : ℕ) → 0 < i → i < n → T (placed there Y i)
   below-placed i p l =
       let c : i < here .count = omega (arith, l, count-is) in
-      let e = a .kinds i p (omega (arith, c, a .counts)) in
+      let e = a .kinds i p (omega (arith, c, a .counters)) in
       subst (λ k. T (placedAs there Y k i)) (sym e) (holds (placed-there (here .kind i) i p l (placed-at (here .kind i) i (c, refl))))

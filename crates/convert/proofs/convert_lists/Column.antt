@@ -134,8 +134,8 @@ module _ (formats schema : List ℕ) (x : Tables) (first n : ℕ) (small : n ≤
       pub lent-there : (u : Ty) (i : ℕ) → Means tree u i → lentTables.Lent (joinOf x plan parts first 0) u i (columnOf tree own u i)
       lent-there = lent-at tree x first plan parts 0 all sums kids
 
-      module _ (kept : (i : ℕ) → i < n → word plan i 7 ≡ 0) (counts : List ℕ) (μ : Memory) where
-        pub named-there : (u : Ty) (i : ℕ) → Means tree u i → NamedBelow (lentFor x plan parts first n) (x .buffers) counts μ u i (bodyOf tree own u i)
+      module _ (kept : (i : ℕ) → i < n → word plan i 7 ≡ 0) (counters : List ℕ) (μ : Memory) where
+        pub named-there : (u : Ty) (i : ℕ) → Means tree u i → NamedBelow (lentFor x plan parts first n) (x .buffers) counters μ u i (bodyOf tree own u i)
         named-there (tPlain p) i h = tt
         named-there tView i h =
             let q = named-at tree x plan parts (first ∷ n ∷ []) 0 all kids tView i h in
@@ -143,9 +143,9 @@ module _ (formats schema : List ℕ) (x : Tables) (first n : ℕ) (small : n ≤
         named-there (tListView w u) i h = named-there u (suc i) (h .1)
         named-there (tList w u) i h = named-there u (suc i) (h .1)
         named-there (tSparse ids nullable f) i h =
-            λ e q. subst (λ z. NamedBelow (lentFor x plan parts first n) (x .buffers) counts μ (f e) z (bodyOf tree own (f e) (nodeOf tree i ids e))) (sym (kids i true ids (h .0) e q)) (named-there (f e) (nodeOf tree i ids e) (h .1 e q .1))
+            λ e q. subst (λ z. NamedBelow (lentFor x plan parts first n) (x .buffers) counters μ (f e) z (bodyOf tree own (f e) (nodeOf tree i ids e))) (sym (kids i true ids (h .0) e q)) (named-there (f e) (nodeOf tree i ids e) (h .1 e q .1))
         named-there (tDense ids nullable f) i h =
-            λ e q. subst (λ z. NamedBelow (lentFor x plan parts first n) (x .buffers) counts μ (f e) z (bodyOf tree own (f e) (nodeOf tree i ids e))) (sym (kids i false ids (h .0) e q)) (named-there (f e) (nodeOf tree i ids e) (h .1 e q .1))
+            λ e q. subst (λ z. NamedBelow (lentFor x plan parts first n) (x .buffers) counters μ (f e) z (bodyOf tree own (f e) (nodeOf tree i ids e))) (sym (kids i false ids (h .0) e q)) (named-there (f e) (nodeOf tree i ids e) (h .1 e q .1))
         named-there (tRunEnd w u) i h = named-there u (suc (suc i)) (h .2)
         named-there (tDictionary k p) i h = (kept i (h .0 .0), lent-there (tPlain p) (suc i) (h .1))
 

@@ -28,23 +28,23 @@ unfolding typed whole
 no-type formats schema target e = let k : _≡_ {A = ℕ} 0 1 = ap (λ t. cond t 1 0) e in omega (arith, k)
 
 -- a column of n nodes and a target of tn, parts and room that are lent for it
-module _ (formats schema : List ℕ) (x : Tables) (first n target tn : ℕ) (parts plan counts room : List ℕ) where
+module _ (formats schema : List ℕ) (x : Tables) (first n target tn : ℕ) (parts plan counters room : List ℕ) where
   abbrev ofColumn : ℕ
   ofColumn = columnGround formats schema x first n
 
   -- any call of this form, whatever its own ground, plan and walk
   in-order : (own : ℕ) (made : List ℕ) (walk : Out) → smallBody room ≡ true
-      → anew formats schema x first n own made walk parts plan counts room .ground ≡ orElse ofColumn (orElse own (orElse (walk .ans) (roomGround made (walk .counts) parts (length plan) (length counts) (length room))))
-  in-order own made walk = anew-order formats schema x first n own made walk parts plan counts room
+      → anew formats schema x first n own made walk parts plan counters room .ground ≡ orElse ofColumn (orElse own (orElse (walk .ans) (roomGround made (walk .counters) parts (length plan) (length counters) (length room))))
+  in-order own made walk = anew-order formats schema x first n own made walk parts plan counters room
 
   -- ---- list-view to list
 
   -- 9, 10 and 12 of the column, 10, 6 or 7 as its rows meet them (`to-list-ground`), 14 and 13
   pub to-list-grounds : smallBody room ≡ true
-      → makeList formats schema x first n target tn parts plan counts room .ground
+      → makeList formats schema x first n target tn parts plan counters room .ground
       ≡ orElse ofColumn
       (orElse (listOwn formats schema x first n target tn)
-      (orElse (listFilled formats schema x first n target tn .ans) (roomGround (listPlan formats schema x first n target tn) (listFilled formats schema x first n target tn .counts) parts (length plan) (length counts) (length room))))
+      (orElse (listFilled formats schema x first n target tn .ans) (roomGround (listPlan formats schema x first n target tn) (listFilled formats schema x first n target tn .counters) parts (length plan) (length counters) (length room))))
   to-list-grounds = in-order (listOwn formats schema x first n target tn) (listPlan formats schema x first n target tn) (listFilled formats schema x first n target tn)
 
   -- ---- list to list-view
@@ -63,21 +63,21 @@ module _ (formats schema : List ℕ) (x : Tables) (first n target tn : ℕ) (par
 
   -- 9, 10 and 12 of the column, 10, 14 and 13; never 6
   pub to-view-grounds : smallBody room ≡ true
-      → makeView formats schema x first n target tn parts plan counts room .ground
+      → makeView formats schema x first n target tn parts plan counters room .ground
       ≡ orElse ofColumn
-      (orElse (viewOwn formats schema x first n target tn) (roomGround (viewPlan formats schema x first n target tn) (viewFilled formats schema x first n target tn .counts) parts (length plan) (length counts) (length room)))
+      (orElse (viewOwn formats schema x first n target tn) (roomGround (viewPlan formats schema x first n target tn) (viewFilled formats schema x first n target tn .counters) parts (length plan) (length counters) (length room)))
   to-view-grounds small =
       in-order (viewOwn formats schema x first n target tn) (viewPlan formats schema x first n target tn) (viewFilled formats schema x first n target tn) small
       ∙ or-never ofColumn (viewOwn formats schema x first n target tn) (viewFilled formats schema x first n target tn .ans) _ to-view-never
 
   -- ---- the grounds of the column and of the target
 
-  other : (own : ℕ) (made : List ℕ) (walk : Out) → smallBody room ≡ true → ofColumn ≡ 0 → own ≡ 10 → anew formats schema x first n own made walk parts plan counts room .ground ≡ 10
+  other : (own : ℕ) (made : List ℕ) (walk : Out) → smallBody room ≡ true → ofColumn ≡ 0 → own ≡ 10 → anew formats schema x first n own made walk parts plan counters room .ground ≡ 10
   other own made walk small c o = in-order own made walk small ∙ or-zero ofColumn _ c ∙ or-first own _ (λ z. omega (arith, o, z)) ∙ o
 
   -- "REFUSES WITH 10 ANY OTHER COLUMN"
-  pub to-list-other : smallBody room ≡ true → ofColumn ≡ 0 → toList formats schema first n target tn ≡ false → makeList formats schema x first n target tn parts plan counts room .ground ≡ 10
+  pub to-list-other : smallBody room ≡ true → ofColumn ≡ 0 → toList formats schema first n target tn ≡ false → makeList formats schema x first n target tn parts plan counters room .ground ≡ 10
   to-list-other small c f = other (listOwn formats schema x first n target tn) (listPlan formats schema x first n target tn) (listFilled formats schema x first n target tn) small c (rw f)
 
-  pub to-view-other : smallBody room ≡ true → ofColumn ≡ 0 → toView formats schema first n target tn ≡ false → makeView formats schema x first n target tn parts plan counts room .ground ≡ 10
+  pub to-view-other : smallBody room ≡ true → ofColumn ≡ 0 → toView formats schema first n target tn ≡ false → makeView formats schema x first n target tn parts plan counters room .ground ≡ 10
   to-view-other small c f = other (viewOwn formats schema x first n target tn) (viewPlan formats schema x first n target tn) (viewFilled formats schema x first n target tn) small c (rw f)

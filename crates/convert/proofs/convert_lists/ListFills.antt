@@ -122,7 +122,7 @@ module _ (l : Lent) (w : ℕ) (t : Ty) (v : Column (tListView w t)) (g : ListVie
         → Goes empty (Made l w t v g) r o → then r (λ d. done (whole d)) ≡ done y → Filled l buffers (tList w t) o y
     done-fills sound body y s _ _ u (good d o a q m) f =
         let z : whole d ≡ y = cc in
-        record { used = u; in-place = q; long = m .long; stood = subst (Stood l buffers (o .counts) _ (tList w t) 0) z (made-stands d (o .counts) _ m); good = s }
+        record { used = u; in-place = q; long = m .long; stood = subst (Stood l buffers (o .counters) _ (tList w t) 0) z (made-stands d (o .counters) _ m); good = s }
     done-fills sound body y s _ _ u (over n o a q) f = absurd (let z : _≡_ {A = ℕ} 0 1 = cc in omega arith)
 
     -- DONE: the walk fills the list

@@ -231,11 +231,11 @@ module _ (formats schema : List ℕ) (x : Tables) (first m target : ℕ) (ok : c
         exact = exact-at formats schema x first n small w made parts kids keeps-at (tListView wide item) 0 view-means;
       }
 
-  pub list-named : (parts counts : List ℕ) (μ : Memory) → NamedBelow (lentWith x made parts first n) (x .buffers) counts μ item 1 (kid wide item column .body)
-  list-named parts counts μ =
+  pub list-named : (parts counters : List ℕ) (μ : Memory) → NamedBelow (lentWith x made parts first n) (x .buffers) counters μ item 1 (kid wide item column .body)
+  list-named parts counters μ =
       let t = taken formats schema sources x false false accepted in
       let w = within-ceilings formats schema sources x false false accepted 0 (omega arith) in
-      named-there formats schema x first n small w made parts kids rules (t .sums 0 (omega arith)) kept-at counts μ item 1 item-means
+      named-there formats schema x first n small w made parts kids rules (t .sums 0 (omega arith)) kept-at counters μ item 1 item-means
 
   pub list-sound : planSound made ≡ true
   list-sound = stands formats schema target n keep false 0 (due .is-typed) (due .low) no-ends .sound

@@ -29,10 +29,10 @@ use Rattle.anew.proofs.lists.One.{one-law}
 
 -- what a copy is given at node i: the plan's words with bases of 0, and the tables of one column that obeys the rules
 pub record OneSource (x : Join) (k : ℕ) (t : Ty) (i : ℕ) (v : Column t) : Type 0 where
-  pub worded : Worded (x .state) k t i
+  pub worded : Worded (x .plan) k t i
   pub formed : Formed t
   pub only : x .source ≡ 0
-  pub based : (j : ℕ) → j < 32 → baseOf (x .state) 0 j ≡ 0
+  pub based : (j : ℕ) → j < 32 → baseOf (x .plan) 0 j ≡ 0
   pub lent : Lent x t i v
   pub obey : Source t v
   pub few : FewBuffers t v
@@ -43,19 +43,19 @@ no-start true = refl
 no-start false = refl
 
 -- bases of 0 are those of the first source
-based-at : (state : List ℕ) → ((j : ℕ) → j < 32 → baseOf state 0 j ≡ 0) → (k : ℕ) (t : Ty) (i : ℕ) (b : Body t) → Worded state k t i → Based state 0 t i 1 (λ j. b)
-based-at state h (suc k) (tPlain p) i b w = tt
-based-at state h (suc k) tView i b w = h i (w .0)
-based-at state h (suc k) (tListView v t) i b w = based-at state h k t (suc i) (b .child .body) (w .4)
-based-at state h (suc k) (tList v t) i b w = based-at state h k t (suc i) (b .child .body) (w .4)
-based-at state h (suc k) (tSparse ids nullable f) i b w =
-    λ e p. based-at state h k (f e) (childOf state i e) (b .children e .body)
-    (field-of state (λ c. Worded state k (f c)) nullable (endOf state i) ids (suc i) 32 e (w .4) (omega (arith, w .2)) p .is-kid)
-based-at state h (suc k) (tDense ids nullable f) i b w =
-    λ e p. based-at state h k (f e) (childOf state i e) (b .children e .body)
-    (field-of state (λ c. Worded state k (f c)) nullable (endOf state i) ids (suc i) 32 e (w .4) (omega (arith, w .2)) p .is-kid)
-based-at state h (suc k) (tRunEnd v t) i b w = based-at state h k t (suc (suc i)) (b .values .body) (w .4)
-based-at state h (suc k) (tDictionary n p) i b w = h i (w .0) ∙ sym (no-start (shared 1 (λ j. b)))
+based-at : (plan : List ℕ) → ((j : ℕ) → j < 32 → baseOf plan 0 j ≡ 0) → (k : ℕ) (t : Ty) (i : ℕ) (b : Body t) → Worded plan k t i → Based plan 0 t i 1 (λ j. b)
+based-at plan h (suc k) (tPlain p) i b w = tt
+based-at plan h (suc k) tView i b w = h i (w .0)
+based-at plan h (suc k) (tListView v t) i b w = based-at plan h k t (suc i) (b .child .body) (w .4)
+based-at plan h (suc k) (tList v t) i b w = based-at plan h k t (suc i) (b .child .body) (w .4)
+based-at plan h (suc k) (tSparse ids nullable f) i b w =
+    λ e p. based-at plan h k (f e) (childOf plan i e) (b .children e .body)
+    (field-of plan (λ c. Worded plan k (f c)) nullable (endOf plan i) ids (suc i) 32 e (w .4) (omega (arith, w .2)) p .is-kid)
+based-at plan h (suc k) (tDense ids nullable f) i b w =
+    λ e p. based-at plan h k (f e) (childOf plan i e) (b .children e .body)
+    (field-of plan (λ c. Worded plan k (f c)) nullable (endOf plan i) ids (suc i) 32 e (w .4) (omega (arith, w .2)) p .is-kid)
+based-at plan h (suc k) (tRunEnd v t) i b w = based-at plan h k t (suc (suc i)) (b .values .body) (w .4)
+based-at plan h (suc k) (tDictionary n p) i b w = h i (w .0) ∙ sym (no-start (shared 1 (λ j. b)))
 
 module _ {x : Join} {k i : ℕ} where
   given : {t : Ty} {v : Column t} → OneSource x k t i v → Given x k t i 1 (λ j. v)
@@ -66,7 +66,7 @@ module _ {x : Join} {k i : ℕ} where
         formed = o .formed;
         known = omega arith;
         lent = o .lent;
-        based = rw e (based-at (x .state) (o .based) k t i (v .body) (o .worded));
+        based = rw e (based-at (x .plan) (o .based) k t i (v .body) (o .worded));
         obey = λ j q. o .obey;
         lawful = one-law t v (o .obey) (o .few);
       }
@@ -86,10 +86,10 @@ module _ {x : Join} {k i : ℕ} where
       record { worded = o .worded .4; formed = o .formed .1; only = o .only; based = o .based; lent = o .lent .body-is .1; obey = o .obey .slots .child-rule; few = o .few }
 
   sparse-down : {ids : List ℕ} {nullable : ℕ → Bool} {f : ℕ → Ty} {v : Column (tSparse ids nullable f)} → OneSource x (suc k) (tSparse ids nullable f) i v
-      → (e : ℕ) → List·Memᴰ e ids → OneSource x k (f e) (childOf (x .state) i e) (v .body .children e)
+      → (e : ℕ) → List·Memᴰ e ids → OneSource x k (f e) (childOf (x .plan) i e) (v .body .children e)
   sparse-down {ids} {nullable} {f} o e p =
       record {
-        worded = field-of (x .state) (λ c. Worded (x .state) k (f c)) nullable (endOf (x .state) i) ids (suc i) 32 e (o .worded .4) (omega (arith, o .worded .2)) p .is-kid;
+        worded = field-of (x .plan) (λ c. Worded (x .plan) k (f c)) nullable (endOf (x .plan) i) ids (suc i) 32 e (o .worded .4) (omega (arith, o .worded .2)) p .is-kid;
         formed = o .formed .1 e p;
         only = o .only;
         based = o .based;
@@ -99,10 +99,10 @@ module _ {x : Join} {k i : ℕ} where
       }
 
   dense-down : {ids : List ℕ} {nullable : ℕ → Bool} {f : ℕ → Ty} {v : Column (tDense ids nullable f)} → OneSource x (suc k) (tDense ids nullable f) i v
-      → (e : ℕ) → List·Memᴰ e ids → OneSource x k (f e) (childOf (x .state) i e) (v .body .children e)
+      → (e : ℕ) → List·Memᴰ e ids → OneSource x k (f e) (childOf (x .plan) i e) (v .body .children e)
   dense-down {ids} {nullable} {f} o e p =
       record {
-        worded = field-of (x .state) (λ c. Worded (x .state) k (f c)) nullable (endOf (x .state) i) ids (suc i) 32 e (o .worded .4) (omega (arith, o .worded .2)) p .is-kid;
+        worded = field-of (x .plan) (λ c. Worded (x .plan) k (f c)) nullable (endOf (x .plan) i) ids (suc i) 32 e (o .worded .4) (omega (arith, o .worded .2)) p .is-kid;
         formed = o .formed .1 e p;
         only = o .only;
         based = o .based;
@@ -122,10 +122,10 @@ one-copies x (suc k) (tList w t) i v o =
     node-copies x k (tList w t) i 1 (λ j. v) (given o) (lists-copies x (copyWalk x k) k w t i 1 (λ j. v) (given o) (one-copies x k t (suc i) (v .body .child) (lists-down o)))
 one-copies x (suc k) (tSparse ids nullable f) i v o =
     node-copies x k (tSparse ids nullable f) i 1 (λ j. v) (given o)
-    (sparse-copies x (copyWalk x k) k ids nullable f i 1 (λ j. v) (given o) (λ e p. one-copies x k (f e) (childOf (x .state) i e) (v .body .children e) (sparse-down o e p)))
+    (sparse-copies x (copyWalk x k) k ids nullable f i 1 (λ j. v) (given o) (λ e p. one-copies x k (f e) (childOf (x .plan) i e) (v .body .children e) (sparse-down o e p)))
 one-copies x (suc k) (tDense ids nullable f) i v o =
     node-copies x k (tDense ids nullable f) i 1 (λ j. v) (given o)
-    (dense-copies x (copyWalk x k) k ids nullable f i 1 (λ j. v) (given o) (λ e p. one-copies x k (f e) (childOf (x .state) i e) (v .body .children e) (dense-down o e p)))
+    (dense-copies x (copyWalk x k) k ids nullable f i 1 (λ j. v) (given o) (λ e p. one-copies x k (f e) (childOf (x .plan) i e) (v .body .children e) (dense-down o e p)))
 one-copies x (suc k) (tRunEnd w t) i v o =
     node-copies x k (tRunEnd w t) i 1 (λ j. v) (given o) (run-copies x (copyWalk x k) k w t i 1 (λ j. v) (given o) (one-copies x k t (suc (suc i)) (v .body .values) (run-down o)))
 one-copies x (suc k) (tDictionary n p) i v o = node-copies x k (tDictionary n p) i 1 (λ j. v) (given o) (keys-copies x (copyWalk x k) k n p i 1 (λ j. v) (given o))

@@ -23,7 +23,7 @@ use Rattle.refinement.proofs.walk_is_model.Frame.{SameAt}
 use Rattle.refinement.proofs.walk_is_model.Mask.{Masked, copy-mask}
 
 pub quiet-map : {μ : Memory} {Q R : List ℕ → Memory → Type 0} {o : Out} → ((c : List ℕ) (ν : Memory) → Q c ν → R c ν) → Quiet μ Q o → Quiet μ R o
-quiet-map {o = o} f q = record { is-done = q .is-done; in-place = q .in-place; leaves = f (o .counts) _ (q .leaves) }
+quiet-map {o = o} f q = record { is-done = q .is-done; in-place = q .in-place; leaves = f (o .counters) _ (q .leaves) }
 
 -- a slot is valid as the tables say
 pub ok-lent : (x : Join) (valid : Option (List ℕ)) → LentValid x 0 valid → (k : ℕ) → ok (cond (eqb (place x 0 0) 0) none (some (part (x .body) (place x 0 1) (place x 0 2)))) k ≡ ok valid k
@@ -39,7 +39,7 @@ pub record RootBits {B : Type 0} (a : Array B) (keep : Bool) (c c′ : List ℕ)
   pub others : (j : ℕ) → (j ≡ 0 → ⊥) → SameAt c c′ μ μ′ j
 
 -- THE ROOT'S VALIDITY is copied
-pub root-bits : {B : Type 0} (x : Join) (inner : B → Type 0) (a : Array B) (keep : Bool) → LentNode x 0 inner a → Mask true (a .valid) (a .off + a .len) → keepsOf (x .state) 0 ≡ flag keep
+pub root-bits : {B : Type 0} (x : Join) (inner : B → Type 0) (a : Array B) (keep : Bool) → LentNode x 0 inner a → Mask true (a .valid) (a .off + a .len) → keepsOf (x .plan) 0 ≡ flag keep
     → (c : List ℕ) (μ : Memory) → length c ≡ 96 → rows c 0 ≡ 0 → nulls c 0 ≡ 0 → μ .bits 0 ≡ []
     → Quiet μ (λ c′ μ′. RootBits a keep c c′ μ μ′) (copyMask x 0 (offsetOf x 0) (lengthOf x 0) c)
 root-bits x inner a keep lent mask e c μ long r z b =
@@ -49,7 +49,7 @@ root-bits x inner a keep lent mask e c μ long r z b =
     (quiet-map (λ c′ μ′ h. root-of _ c′ μ′ h)
     (copy-mask x 0 (omega arith) c long μ (a .valid) start 0 0 (a .off) (a .len) (a .off + a .len) (lent .valid-is) mask (omega arith) (start-held keep e) (start-long keep) r z (omega (arith, lent .sum))))
   where
-    start-held : (k : Bool) → keepsOf (x .state) 0 ≡ flag k → HoldsBits (x .state) 0 true (cond k (some []) none) μ
+    start-held : (k : Bool) → keepsOf (x .plan) 0 ≡ flag k → HoldsBits (x .plan) 0 true (cond k (some []) none) μ
     start-held true q = (λ y. omega (arith, q, y), b)
     start-held false q = q
 
@@ -57,11 +57,11 @@ root-bits x inner a keep lent mask e c μ long r z b =
     start-long true = refl
     start-long false = tt
 
-    bits-of : (k : Bool) (vs : List Bool) (μ′ : Memory) → HoldsBits (x .state) 0 true (grow true vs (cond k (some []) none)) μ′ → k ≡ true → μ′ .bits 0 ≡ map flag vs
+    bits-of : (k : Bool) (vs : List Bool) (μ′ : Memory) → HoldsBits (x .plan) 0 true (grow true vs (cond k (some []) none)) μ′ → k ≡ true → μ′ .bits 0 ≡ map flag vs
     bits-of true vs μ′ h q = h .1
     bits-of false vs μ′ h q = absurd (true≢false (sym q))
 
-    root-of : (count : ℕ) (c′ : List ℕ) (μ′ : Memory) → Masked (x .state) 0 true (grow true (seg (ok (a .valid)) (a .off) (a .len)) (cond keep (some []) none)) count c c′ μ μ′ → RootBits a keep c c′ μ μ′
+    root-of : (count : ℕ) (c′ : List ℕ) (μ′ : Memory) → Masked (x .plan) 0 true (grow true (seg (ok (a .valid)) (a .off) (a .len)) (cond keep (some []) none)) count c c′ μ μ′ → RootBits a keep c c′ μ μ′
     root-of count c′ μ′ h =
         record {
           long = h .long ∙ long;

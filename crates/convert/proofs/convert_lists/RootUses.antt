@@ -14,13 +14,13 @@ use Rattle.refinement.proofs.log_in_room.Uses.{Uses, uses-done, uses-wrote, use
 use Rattle.plan.specs.parts.Parts.{nodesOf, Used}
 use Rattle.refinement.proofs.orders.Buffers.{copied-free, bits-copied}
 
-pub mask-uses : (x : Join) → 0 < nodesOf (x .state) → codeOf (x .state) 0 < 21 → (slot n : ℕ) (c : List ℕ) → Uses (Used (x .state)) (copyMask x 0 slot n c)
+pub mask-uses : (x : Join) → 0 < nodesOf (x .plan) → codeOf (x .plan) 0 < 21 → (slot n : ℕ) (c : List ℕ) → Uses (Used (x .plan)) (copyMask x 0 slot n c)
 unfolding copyMask copyBits
 mask-uses x l code slot n c =
-    let U = Used (x .state) in
-    uses-cond U (eqb (keepsOf (x .state) 0) 0) _ _ (λ e. uses-done U c)
+    let U = Used (x .plan) in
+    uses-cond U (eqb (keepsOf (x .plan) 0) 0) _ _ (λ e. uses-done U c)
     (λ e.
-    let u : Used (x .state) 0 0 = record { node = l; part = bits-copied (x .state) 0 (copied-free (x .state) 0 tt) (eqb-false (keepsOf (x .state) 0) 0 e) code } in
+    let u : Used (x .plan) 0 0 = record { node = l; part = bits-copied (x .plan) 0 (copied-free (x .plan) 0 tt) (eqb-false (keepsOf (x .plan) 0) 0 e) code } in
     uses-cond U (eqb (place x 0 0) 0) _ _ (λ f. uses-wrote U (mask 0 (rows c 0) (replicate n 1)) c (u, bits-same n 1 (omega arith)))
     (λ f. uses-need U _ 12 c _
     (λ g. uses-next U _ _ (uses-wrote U (mask 0 (rows c 0) (bitsAt (8 * place x 0 1 + slot) n (x .body))) c (u, bits-part (8 * place x 0 1 + slot) n (x .body))) (λ c2. uses-done U _))))

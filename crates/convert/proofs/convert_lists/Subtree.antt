@@ -149,7 +149,7 @@ module _ (schema : List ℕ) (first n : ℕ) (w : whole schema first n ≡ true)
 
 -- what they agree on
 pub record Alike (t u : Tree) : Type 0 where
-  pub counts : t .count ≡ u .count
+  pub counters : t .count ≡ u .count
   pub kinds : (i : ℕ) → 0 < i → i < t .count → t .kind i ≡ u .kind i
   pub ends : (i : ℕ) → 0 < i → t .end i ≡ u .end i
   pub flags : (i : ℕ) (b : Bool) (ids : List ℕ) → 0 < i → Is t i (unionKind b ids) → (c : ℕ) → List·Memᴰ c ids → t .nullable (nodeOf t i ids c) ≡ u .nullable (nodeOf t i ids c)
@@ -161,7 +161,7 @@ module _ (t u : Tree) (a : Alike t u) where
   kid-same i (suc j) l = a .ends (childNode t i j) (a .later i j l) ∙ ap (u .end) (kid-same i j l)
 
   is-same : (i : ℕ) (k : NodeKind) → 0 < i → Is t i k → Is u i k
-  is-same i k l h = (omega (arith, a .counts, h .0), sym (a .kinds i l (h .0)) ∙ h .1)
+  is-same i k l h = (omega (arith, a .counters, h .0), sym (a .kinds i l (h .0)) ∙ h .1)
 
   plain-same : (p : Plain) (i : ℕ) → 0 < i → MeansPlain t p i → MeansPlain u p i
   plain-same (fixed m) i l h = is-same i _ l h

@@ -69,9 +69,9 @@ module _ (formats schema : List ℕ) (x : Tables) (first m target : ℕ) (ok : c
 
   -- ---- an accepted call
 
-  module _ (parts plan counts room : List ℕ) (body-bytes : AllBelow 256 (x .body)) (room-bytes : AllBelow 256 room) (passed : makeList formats schema x first n target n parts plan counts room .ground ≡ 0) where
+  module _ (parts plan counters room : List ℕ) (body-bytes : AllBelow 256 (x .body)) (room-bytes : AllBelow 256 room) (passed : makeList formats schema x first n target n parts plan counters room .ground ≡ 0) where
     abbrev pub answer : Opening
-    answer = makeList formats schema x first n target n parts plan counts room
+    answer = makeList formats schema x first n target n parts plan counters room
 
     abbrev pub tree : Tree
     tree = treeOf formats schema target n
@@ -81,7 +81,7 @@ module _ (formats schema : List ℕ) (x : Tables) (first m target : ℕ) (ok : c
 
     -- the list
     pub made-list : (y : Column (tList w t)) × (listed w t v ≡ done y)
-    made-list = is-done (anew-accepted formats schema x first n (listOwn formats schema x first n target n) (listPlan formats schema x first n target n) (listFilled formats schema x first n target n) parts plan counts room passed .walk-done)
+    made-list = is-done (anew-accepted formats schema x first n (listOwn formats schema x first n target n) (listPlan formats schema x first n target n) (listFilled formats schema x first n target n) parts plan counters room passed .walk-done)
 
     abbrev pub list : Column (tList w t)
     list = made-list .0
@@ -101,19 +101,19 @@ module _ (formats schema : List ℕ) (x : Tables) (first m target : ℕ) (ok : c
     made = listPlan formats schema x first n target n
 
     abbrev Written : Type 0
-    Written = OnlyUsed made parts room (answer .counts) (answer .room)
+    Written = OnlyUsed made parts room (answer .counters) (answer .room)
 
     abbrev Finishes : Type 0
     Finishes =
         (base : ℕ) → base ≤ ceiling → (lengths nulls places names : List ℕ) → length lengths ≡ 2 * nodesOf made → length nulls ≡ nodesOf made → length places ≡ 9 * nodesOf made
-        → length names ≡ 2 * buffersBefore lent (x .buffers) (answer .counts) (answer .room) base (nodesOf made)
-        → finishing lent (x .buffers) (answer .counts) (answer .room) base lengths nulls places names
+        → length names ≡ 2 * buffersBefore lent (x .buffers) (answer .counters) (answer .room) base (nodesOf made)
+        → finishing lent (x .buffers) (answer .counters) (answer .room) base lengths nulls places names
         ≡ record {
           ground = 0;
-          lengths = lengthTable lent (x .buffers) (answer .counts) (answer .room) base;
-          nulls = nullTable lent (x .buffers) (answer .counts) (answer .room) base;
-          places = placeTable lent (x .buffers) (answer .counts) (answer .room) base;
-          buffers = bufferTable lent (x .buffers) (answer .counts) (answer .room) base;
+          lengths = lengthTable lent (x .buffers) (answer .counters) (answer .room) base;
+          nulls = nullTable lent (x .buffers) (answer .counters) (answer .room) base;
+          places = placeTable lent (x .buffers) (answer .counters) (answer .room) base;
+          buffers = bufferTable lent (x .buffers) (answer .counters) (answer .room) base;
         }
 
     both-at : (u : Ty) → typeOf formats schema target n ≡ u → (y : Column u) → Filled lent (x .buffers) u (listFilled formats schema x first n target n) y → Written × Finishes
@@ -121,9 +121,9 @@ module _ (formats schema : List ℕ) (x : Tables) (first m target : ℕ) (ok : c
         subst (λ u. (y : Column u) → Filled lent (x .buffers) u (listFilled formats schema x first n target n) y → Written × Finishes) e
         (λ y f. (
           anew-writes formats schema x first n (listOwn formats schema x first n target n) target n (keepsFrom (tables (x .lengths) (x .places) (x .body)) first allNodes) false 0
-              (listFilled formats schema x first n target n) parts plan counts room (due .is-typed) (due .low) (no-ends formats schema x first m target ok due) y f room-bytes passed,
+              (listFilled formats schema x first n target n) parts plan counters room (due .is-typed) (due .low) (no-ends formats schema x first m target ok due) y f room-bytes passed,
           anew-finishes formats schema x first n (listOwn formats schema x first n target n) target n (keepsFrom (tables (x .lengths) (x .places) (x .body)) first allNodes) false 0
-              (listFilled formats schema x first n target n) parts plan counts room (due .is-typed) (due .low) (no-ends formats schema x first m target ok due) y f room-bytes passed,
+              (listFilled formats schema x first n target n) parts plan counters room (due .is-typed) (due .low) (no-ends formats schema x first m target ok due) y f room-bytes passed,
         ))
 
     -- AN ACCEPTED CALL CHANGES ONLY BYTES OF THE PARTS, up to what each needs
@@ -136,11 +136,11 @@ module _ (formats schema : List ℕ) (x : Tables) (first m target : ℕ) (ok : c
 
     module _ (base : ℕ) (body : List ℕ) (bodied : Bodied body lent (answer .room) base) where
       abbrev pub tablesAfter : Tables
-      tablesAfter = finishedTables lent (x .buffers) (answer .counts) (answer .room) base body
+      tablesAfter = finishedTables lent (x .buffers) (answer .counters) (answer .room) base body
 
       abbrev Result : (u : Ty) → Column u → Type 0
       Result u y =
-          Shows tree tablesAfter u 0 y × Counts tree (nullTable lent (x .buffers) (answer .counts) (answer .room) base) u 0 y
+          Shows tree tablesAfter u 0 y × Counts tree (nullTable lent (x .buffers) (answer .counters) (answer .room) base) u 0 y
           × (readAll u (columnOf tree tablesAfter u 0) ≡ readAll u y)
           × T (sourceRule tree tablesAfter)
 
@@ -149,7 +149,7 @@ module _ (formats schema : List ℕ) (x : Tables) (first m target : ℕ) (ok : c
           subst (λ u. (y : Column u) → Filled lent (x .buffers) u (listFilled formats schema x first n target n) y → Result u y) e
           (λ y f.
           anew-result formats schema x first n (listOwn formats schema x first n target n) target n (keepsFrom (tables (x .lengths) (x .places) (x .body)) first allNodes) false 0
-          (listFilled formats schema x first n target n) parts plan counts room (due .is-typed) (due .low) (no-ends formats schema x first m target ok due) y f room-bytes passed base body bodied)
+          (listFilled formats schema x first n target n) parts plan counters room (due .is-typed) (due .low) (no-ends formats schema x first m target ok due) y f room-bytes passed base body bodied)
 
       result : Result (tList w t) list
       result = at-type (tList w t) (type-is formats schema x first m target ok due) list filled
@@ -158,7 +158,7 @@ module _ (formats schema : List ℕ) (x : Tables) (first m target : ℕ) (ok : c
       pub to-list-shows : Shows tree tablesAfter (tList w t) 0 list
       to-list-shows = result .0
 
-      pub to-list-nulls : Counts tree (nullTable lent (x .buffers) (answer .counts) (answer .room) base) (tList w t) 0 list
+      pub to-list-nulls : Counts tree (nullTable lent (x .buffers) (answer .counters) (answer .room) base) (tList w t) 0 list
       to-list-nulls = result .1
 
       -- ITS ROWS READ AS THE LIST-VIEW'S
@@ -175,5 +175,5 @@ module _ (formats schema : List ℕ) (x : Tables) (first m target : ℕ) (ok : c
           subst (λ u. (y : Column u) → Filled lent (x .buffers) u (listFilled formats schema x first n target n) y → columnGround formats schema z target n ≡ 0) (type-is formats schema x first m target ok due)
           (λ y f.
           anew-again formats schema x first n (listOwn formats schema x first n target n) target n (keepsFrom (tables (x .lengths) (x .places) (x .body)) first allNodes) false 0
-          (listFilled formats schema x first n target n) parts plan counts room (due .is-typed) (due .low) (no-ends formats schema x first m target ok due) y f room-bytes passed base body bodied short z again)
+          (listFilled formats schema x first n target n) parts plan counters room (due .is-typed) (due .low) (no-ends formats schema x first m target ok due) y f room-bytes passed base body bodied short z again)
           list filled

@@ -52,19 +52,19 @@ module _ (formats schema : List ℕ) (x : Tables) (first m target : ℕ) (ok : c
           let e : listFilled formats schema x first n target n .ans ≡ g = to-list-ground formats schema x first m target ok due ∙ ap groundOf p in
           subst (Refused wide item-type column) (sym e) (listed-where wide item-type column g p)
 
-  module _ (parts plan counts room : List ℕ) (body-bytes : AllBelow 256 (x .body)) (room-bytes : AllBelow 256 room) (passed : makeList formats schema x first n target n parts plan counts room .ground ≡ 0)
-      (base : ℕ) (body : List ℕ) (bodied : Bodied body (lent formats schema x first m target ok due parts plan counts room body-bytes room-bytes passed) (answer formats schema x first m target ok due parts plan counts room body-bytes room-bytes passed .room) base) where
+  module _ (parts plan counters room : List ℕ) (body-bytes : AllBelow 256 (x .body)) (room-bytes : AllBelow 256 room) (passed : makeList formats schema x first n target n parts plan counters room .ground ≡ 0)
+      (base : ℕ) (body : List ℕ) (bodied : Bodied body (lent formats schema x first m target ok due parts plan counters room body-bytes room-bytes passed) (answer formats schema x first m target ok due parts plan counters room body-bytes room-bytes passed .room) base) where
     abbrev Y : Tables
-    Y = tablesAfter formats schema x first m target ok due parts plan counts room body-bytes room-bytes passed base body bodied
+    Y = tablesAfter formats schema x first m target ok due parts plan counters room body-bytes room-bytes passed base body bodied
 
     abbrev made : Column (tList wide item-type)
-    made = list formats schema x first m target ok due parts plan counts room body-bytes room-bytes passed
+    made = list formats schema x first m target ok due parts plan counters room body-bytes room-bytes passed
 
     made-is : listed wide item-type column ≡ done made
-    made-is = to-list-made formats schema x first m target ok due parts plan counts room body-bytes room-bytes passed
+    made-is = to-list-made formats schema x first m target ok due parts plan counters room body-bytes room-bytes passed
 
     offsets-are : firstBuffer Y 0 ≡ made .body .offsets
-    offsets-are = to-list-shows formats schema x first m target ok due parts plan counts room body-bytes room-bytes passed base body bodied .body-is .0
+    offsets-are = to-list-shows formats schema x first m target ok due parts plan counters room body-bytes room-bytes passed base body bodied .body-is .0
 
     -- WHERE ROW i STARTS in the finished tables: behind the sizes of the valid rows before it
     pub row-start : (i : ℕ) → i ≤ column .len → item wide (firstBuffer Y 0) i ≡ sizesIn wide item-type column 0 i
@@ -89,5 +89,5 @@ module _ (formats schema : List ℕ) (x : Tables) (first m target : ℕ) (ok : c
 
     pub child-ends : lengthOf Y 1 ≡ sizesIn wide item-type column 0 (column .len)
     child-ends =
-        to-list-shows formats schema x first m target ok due parts plan counts room body-bytes room-bytes passed base body bodied .body-is .1 .len-is
+        to-list-shows formats schema x first m target ok due parts plan counters room body-bytes room-bytes passed base body bodied .body-is .1 .len-is
         ∙ listed-ends wide item-type column (lent-ok formats schema x first m target ok due [] .formed .0) made made-is

@@ -54,7 +54,7 @@ use Rattle.convert.proofs.convert_lists.Root.{quiet-map}
 use Rattle.convert.proofs.convert_lists.RootUses.{mask-uses}
 use Rattle.convert.proofs.convert_lists.Viewing.{Viewed, entries-long}
 use Rattle.convert.proofs.convert_lists.ViewLent.{ViewDue, wide, item, column, column-good, root-lent, made-bytes, made-view, made-keeps, view-done}
-use Rattle.convert.proofs.convert_lists.RootShown.{RootHeld, root-exact, root-fits, root-starts, root-sizes, root-shows, root-counts, root-inside, root-finishes}
+use Rattle.convert.proofs.convert_lists.RootShown.{RootHeld, root-exact, root-fits, root-starts, root-sizes, root-shows, root-counters, root-inside, root-finishes}
 
 no-bits : (start : ℕ) (room : List ℕ) → HasBits start [] room
 unfolding bitsAt
@@ -64,22 +64,22 @@ nothing-lies : (plan parts : List ℕ) (U : ℕ → ℕ → Type 0) (room : List
 nothing-lies plan parts U room h = record { are-bytes = h; bytes-lie = λ i b u l. refl; bits-lie = λ i u. no-bits _ room }
 
 -- a byte in no buffer that there is at the end is none that is written over
-none-over : (state parts : List ℕ) (U : ℕ → ℕ → Type 0) (l : Log) (μ : Memory) (p : ℕ) → AllInPlace l μ → AllUsed U l
-    → ((i b : ℕ) → U i b → 1 ≤ b → startOf state parts i b ≤ p → p < startOf state parts i b + length (after l μ .at i b) → ⊥) → NoneOver state parts l p
+none-over : (plan parts : List ℕ) (U : ℕ → ℕ → Type 0) (l : Log) (μ : Memory) (p : ℕ) → AllInPlace l μ → AllUsed U l
+    → ((i b : ℕ) → U i b → 1 ≤ b → startOf plan parts i b ≤ p → p < startOf plan parts i b + length (after l μ .at i b) → ⊥) → NoneOver plan parts l p
 unfolding AllInPlace AllUsed NoneOver after
-none-over state parts U [] μ p q u h = tt
-none-over state parts U (put i b o bs ∷ l) μ p q u h = (tt, none-over state parts U l (noted (put i b o bs) μ) p (q .1) (u .1) h)
-none-over state parts U (mask i o vs ∷ l) μ p q u h = (tt, none-over state parts U l (noted (mask i o vs) μ) p (q .1) (u .1) h)
-none-over state parts U (amend i b o bs ∷ l) μ p q u h =
+none-over plan parts U [] μ p q u h = tt
+none-over plan parts U (put i b o bs ∷ l) μ p q u h = (tt, none-over plan parts U l (noted (put i b o bs) μ) p (q .1) (u .1) h)
+none-over plan parts U (mask i o vs ∷ l) μ p q u h = (tt, none-over plan parts U l (noted (mask i o vs) μ) p (q .1) (u .1) h)
+none-over plan parts U (amend i b o bs ∷ l) μ p q u h =
     let e : o + length bs ≡ length (μ .at i b) = q .0 in
-    (λ x y. h i b (u .0 .0) (u .0 .1) (omega arith) (omega (arith, grows-at (amend i b o bs ∷ l) μ q i b)), none-over state parts U l (noted (amend i b o bs) μ) p (q .1) (u .1) h)
+    (λ x y. h i b (u .0 .0) (u .0 .1) (omega arith) (omega (arith, grows-at (amend i b o bs ∷ l) μ q i b)), none-over plan parts U l (noted (amend i b o bs) μ) p (q .1) (u .1) h)
 
 -- ---- what is written
 
-view-uses : (x : Join) (w : ℕ) (c : List ℕ) → 0 < nodesOf (x .state) → codeOf (x .state) 0 < 21 → Used (x .state) 0 1 → Used (x .state) 0 2 → Uses (Used (x .state)) (viewWalk x w c)
+view-uses : (x : Join) (w : ℕ) (c : List ℕ) → 0 < nodesOf (x .plan) → codeOf (x .plan) 0 < 21 → Used (x .plan) 0 1 → Used (x .plan) 0 2 → Uses (Used (x .plan)) (viewWalk x w c)
 unfolding viewWalk viewRows viewRow
 view-uses x w c l code u1 u2 =
-    let U = Used (x .state) in
+    let U = Used (x .plan) in
     uses-next U _ _ (mask-uses x l code (offsetOf x 0) (lengthOf x 0) c)
     (λ c1. uses-next U _ _
     (uses-cond U (eqb (lengthOf x 0) 0) _ _ (λ e. uses-done U c1)
@@ -122,15 +122,15 @@ module _ (formats schema : List ℕ) (x : Tables) (first m target : ℕ) (ok-col
   abbrev walk : Out
   walk = viewFilled formats schema x first n target n
 
-  module _ (parts plan counts room : List ℕ) (room-bytes : AllBelow 256 room) (passed : makeView formats schema x first n target n parts plan counts room .ground ≡ 0) where
+  module _ (parts plan counters room : List ℕ) (room-bytes : AllBelow 256 room) (passed : makeView formats schema x first n target n parts plan counters room .ground ≡ 0) where
     abbrev answer : Opening
-    answer = makeView formats schema x first n target n parts plan counts room
+    answer = makeView formats schema x first n target n parts plan counters room
 
     abbrev lent : Lent
     lent = lentWith x made parts first n
 
-    through : Accepted formats schema x first n (viewOwn formats schema x first n target n) made walk parts plan counts room
-    through = anew-accepted formats schema x first n (viewOwn formats schema x first n target n) made walk parts plan counts room passed
+    through : Accepted formats schema x first n (viewOwn formats schema x first n target n) made walk parts plan counters room
+    through = anew-accepted formats schema x first n (viewOwn formats schema x first n target n) made walk parts plan counters room passed
 
     abbrev Left : List ℕ → Memory → Type 0
     Left = Viewed (joinOf x made [] first 0) w (item formats schema x first m target ok-column due) v (root-lent formats schema x first m target ok-column due []) (column-good formats schema x first m target ok-column due) keep (made-keeps formats schema x first m target ok-column due)
@@ -138,8 +138,8 @@ module _ (formats schema : List ℕ) (x : Tables) (first m target : ℕ) (ok-col
     left : Quiet empty Left walk
     left = subst (λ b. Quiet empty Left (viewWalk (joinOf x made [] first 0) b (replicate 96 0))) (sym (made-bytes formats schema x first m target ok-column due)) (view-done formats schema x first m target ok-column due [])
 
-    long-counts : length (walk .counts) ≡ 96
-    long-counts = left .leaves .long
+    long-counters : length (walk .counters) ≡ 96
+    long-counters = left .leaves .long
 
     walked : Quiet empty (λ c μ. RootHeld lent c μ (v .len) w keep bits starts sizes) walk
     walked =
@@ -179,22 +179,22 @@ module _ (formats schema : List ℕ) (x : Tables) (first m target : ℕ) (ok-col
     after-room = apply made parts (walk .log) room
 
     long-room : length after-room ≡ length room
-    long-room = room-long made parts (Used made) (walk .log) room empty well (nothing-lies made parts (Used made) room room-bytes) (walked .in-place) used (root-fits lent (walk .counts) memory (v .len) w keep bits starts sizes (walked .leaves) (through .holds))
+    long-room = room-long made parts (Used made) (walk .log) room empty well (nothing-lies made parts (Used made) room room-bytes) (walked .in-place) used (root-fits lent (walk .counters) memory (v .len) w keep bits starts sizes (walked .leaves) (through .holds))
 
     lying : Lies made parts (Used made) after-room memory
-    lying = room-lies made parts (Used made) (walk .log) room empty well (nothing-lies made parts (Used made) room room-bytes) (walked .in-place) used (root-fits lent (walk .counts) memory (v .len) w keep bits starts sizes (walked .leaves) (through .holds))
+    lying = room-lies made parts (Used made) (walk .log) room empty well (nothing-lies made parts (Used made) room room-bytes) (walked .in-place) used (root-fits lent (walk .counters) memory (v .len) w keep bits starts sizes (walked .leaves) (through .holds))
 
     after-placed : Placed made parts (Used made) (length after-room)
     after-placed = subst (Placed made parts (Used made)) (sym long-room) well
 
-    held : RootHeld lent (walk .counts) memory (v .len) w keep bits starts sizes
+    held : RootHeld lent (walk .counters) memory (v .len) w keep bits starts sizes
     held = walked .leaves
 
     -- ---- what is written
 
-    outside : (p : ℕ) → ((i b : ℕ) → Used made i b → startOf made parts i b ≤ p → p < startOf made parts i b + needed made (walk .counts) i b → ⊥) → Outside made parts (Used made) (walk .log) empty memory p
+    outside : (p : ℕ) → ((i b : ℕ) → Used made i b → startOf made parts i b ≤ p → p < startOf made parts i b + needed made (walk .counters) i b → ⊥) → Outside made parts (Used made) (walk .log) empty memory p
     outside p h =
-        let e = root-exact lent (walk .counts) memory (v .len) w keep bits starts sizes held (through .holds) (x .buffers) in
+        let e = root-exact lent (walk .counters) memory (v .len) w keep bits starts sizes held (through .holds) (x .buffers) in
         let f : (i b : ℕ) → Used made i b → 1 ≤ b → startOf made parts i b ≤ p → p < startOf made parts i b + length (memory .at i b) → ⊥ =
         λ i b u l y z. h i b u y (omega (arith, e i b u .bytes-are l)) in
         record {
@@ -203,16 +203,16 @@ module _ (formats schema : List ℕ) (x : Tables) (first m target : ℕ) (ok-col
           not-over = none-over made parts (Used made) (walk .log) empty p (walked .in-place) used f;
         }
 
-    only-made : OnlyUsed made parts room (walk .counts) after-room
+    only-made : OnlyUsed made parts room (walk .counters) after-room
     only-made =
         record {
           same-length = long-room;
-          other-bytes = λ p h. room-else made parts (Used made) (walk .log) room empty well (nothing-lies made parts (Used made) room room-bytes) (walked .in-place) used (root-fits lent (walk .counts) memory (v .len) w keep bits starts sizes held (through .holds)) p (outside p h);
+          other-bytes = λ p h. room-else made parts (Used made) (walk .log) room empty well (nothing-lies made parts (Used made) room room-bytes) (walked .in-place) used (root-fits lent (walk .counters) memory (v .len) w keep bits starts sizes held (through .holds)) p (outside p h);
         }
 
     -- AN ACCEPTED CALL CHANGES ONLY BYTES OF THE ROOT'S PARTS, up to what each needs
-    pub to-view-writes : OnlyUsed made parts room (answer .counts) (answer .room)
-    to-view-writes = subst (λ o. OnlyUsed made parts room (o .counts) (o .room)) (sym (through .answer-is)) only-made
+    pub to-view-writes : OnlyUsed made parts room (answer .counters) (answer .room)
+    to-view-writes = subst (λ o. OnlyUsed made parts room (o .counters) (o .room)) (sym (through .answer-is)) only-made
 
     -- the plan that it leaves is that of the root
     pub to-view-plan : answer .plan ≡ made
@@ -231,15 +231,15 @@ module _ (formats schema : List ℕ) (x : Tables) (first m target : ℕ) (ok-col
       pub inside : (validIn y 0 ≡ true) × (inBody y (place y 0 3) (place y 0 4) ≡ true) × (inBody y (place y 0 5) (place y 0 6) ≡ true)
 
     abbrev Done : Opening → ℕ → List ℕ → Type 0
-    Done o base body = Bodied body lent (o .room) base → RootDone (finishedTables lent (x .buffers) (o .counts) (o .room) base body) (nullTable lent (x .buffers) (o .counts) (o .room) base)
+    Done o base body = Bodied body lent (o .room) base → RootDone (finishedTables lent (x .buffers) (o .counters) (o .room) base body) (nullTable lent (x .buffers) (o .counters) (o .room) base)
 
-    made-root : (base : ℕ) (body : List ℕ) → Done (written formats schema x first n (viewOwn formats schema x first n target n) made walk parts plan counts room) base body
+    made-root : (base : ℕ) (body : List ℕ) → Done (written formats schema x first n (viewOwn formats schema x first n target n) made walk parts plan counters room) base body
     made-root base body bodied =
         record {
-          shown = root-shows lent (walk .counts) memory (v .len) w keep bits starts sizes held (through .holds) (x .buffers) after-room lying after-placed base body bodied _ tt
-              (root-starts lent (walk .counts) memory (v .len) w keep bits starts sizes held (through .holds) (x .buffers) after-room lying after-placed base body bodied, root-sizes lent (walk .counts) memory (v .len) w keep bits starts sizes held (through .holds) (x .buffers) after-room lying after-placed base body bodied);
-          counted = root-counts lent (walk .counts) memory (v .len) w keep bits starts sizes held (through .holds) (x .buffers) after-room lying after-placed base body bodied _ tt tt;
-          inside = root-inside lent (walk .counts) memory (v .len) w keep bits starts sizes held (through .holds) (x .buffers) after-room lying after-placed base body bodied;
+          shown = root-shows lent (walk .counters) memory (v .len) w keep bits starts sizes held (through .holds) (x .buffers) after-room lying after-placed base body bodied _ tt
+              (root-starts lent (walk .counters) memory (v .len) w keep bits starts sizes held (through .holds) (x .buffers) after-room lying after-placed base body bodied, root-sizes lent (walk .counters) memory (v .len) w keep bits starts sizes held (through .holds) (x .buffers) after-room lying after-placed base body bodied);
+          counted = root-counters lent (walk .counters) memory (v .len) w keep bits starts sizes held (through .holds) (x .buffers) after-room lying after-placed base body bodied _ tt tt;
+          inside = root-inside lent (walk .counters) memory (v .len) w keep bits starts sizes held (through .holds) (x .buffers) after-room lying after-placed base body bodied;
         }
 
     pub to-view-root : (base : ℕ) (body : List ℕ) → Done answer base body
@@ -250,21 +250,21 @@ module _ (formats schema : List ℕ) (x : Tables) (first m target : ℕ) (ok-col
     abbrev Finishes : Opening → ℕ → Type 0
     Finishes o base =
         (lengths nulls places names : List ℕ) → length lengths ≡ 2 → length nulls ≡ 1 → length places ≡ 9 → length names ≡ 0
-        → finishing lent (x .buffers) (o .counts) (o .room) base lengths nulls places names
+        → finishing lent (x .buffers) (o .counters) (o .room) base lengths nulls places names
         ≡ record {
           ground = 0;
-          lengths = lengthTable lent (x .buffers) (o .counts) (o .room) base;
-          nulls = nullTable lent (x .buffers) (o .counts) (o .room) base;
-          places = placeTable lent (x .buffers) (o .counts) (o .room) base;
-          buffers = bufferTable lent (x .buffers) (o .counts) (o .room) base;
+          lengths = lengthTable lent (x .buffers) (o .counters) (o .room) base;
+          nulls = nullTable lent (x .buffers) (o .counters) (o .room) base;
+          places = placeTable lent (x .buffers) (o .counters) (o .room) base;
+          buffers = bufferTable lent (x .buffers) (o .counters) (o .room) base;
         }
 
-    made-finishes : (base : ℕ) → base ≤ ceiling → Finishes (written formats schema x first n (viewOwn formats schema x first n target n) made walk parts plan counts room) base
+    made-finishes : (base : ℕ) → base ≤ ceiling → Finishes (written formats schema x first n (viewOwn formats schema x first n target n) made walk parts plan counters room) base
     unfolding smallBody
     made-finishes base low =
         let small : length after-room ≤ ceiling = let z = leb-true (length room) ceiling (through .small) in omega (arith, z, long-room) in
         let within : partsWithin made parts (length after-room) ≡ true = subst (λ r. partsWithin made parts r ≡ true) (sym long-room) (placed-within made parts (length room) numbered (through .placed)) in
-        root-finishes lent (walk .counts) memory (v .len) w keep bits starts sizes held (through .holds) long-counts (x .buffers) after-room within small base low
+        root-finishes lent (walk .counters) memory (v .len) w keep bits starts sizes held (through .holds) long-counters (x .buffers) after-room within small base low
 
     -- FINISHING IS ACCEPTED, where its tables have the lengths of one node and the room begins within a body's ceiling
     pub to-view-finishes : (base : ℕ) → base ≤ ceiling → Finishes answer base

@@ -27,17 +27,17 @@ use Rattle.convert.proofs.convert_lists.ViewLent.{ViewDue}
 use Rattle.convert.proofs.convert_lists.ToViewResult.{answer, lent, root, tablesAfter, to-view-shows, to-view-again}
 
 module _ (formats schema : List ℕ) (x : Tables) (first m target : ℕ) (good : columnGround formats schema x first (suc m) ≡ 0) (due : ViewDue formats schema first (suc m) target (suc m))
-    (parts plan counts room : List ℕ) (room-bytes : AllBelow 256 room) (passed : makeView formats schema x first (suc m) target (suc m) parts plan counts room .ground ≡ 0)
-    (base : ℕ) (body : List ℕ) (bodied : Bodied body (lent formats schema x first m target good due parts plan counts room room-bytes passed) (answer formats schema x first m target good due parts plan counts room room-bytes passed .room) base) where
+    (parts plan counters room : List ℕ) (room-bytes : AllBelow 256 room) (passed : makeView formats schema x first (suc m) target (suc m) parts plan counters room .ground ≡ 0)
+    (base : ℕ) (body : List ℕ) (bodied : Bodied body (lent formats schema x first m target good due parts plan counters room room-bytes passed) (answer formats schema x first m target good due parts plan counters room room-bytes passed .room) base) where
   abbrev n : ℕ
   n = suc m
 
   -- the result's tables, and the finished root's
   abbrev Y : Tables
-  Y = tablesAfter formats schema x first m target good due parts plan counts room room-bytes passed base body bodied
+  Y = tablesAfter formats schema x first m target good due parts plan counters room room-bytes passed base body bodied
 
   abbrev R : Tables
-  R = root formats schema x first m target good due parts plan counts room room-bytes passed base body bodied
+  R = root formats schema x first m target good due parts plan counters room room-bytes passed base body bodied
 
   abbrev own : Tables
   own = tablesFrom x first
@@ -46,7 +46,7 @@ module _ (formats schema : List ℕ) (x : Tables) (first m target : ℕ) (good :
 
   sum-fits : (i : ℕ) → i < n → offsetOf Y i + lengthOf Y i < 2 ^ 63
   sum-fits zero l =
-      let s = to-view-shows formats schema x first m target good due parts plan counts room room-bytes passed base body bodied in
+      let s = to-view-shows formats schema x first m target good due parts plan counters room room-bytes passed base body bodied in
       omega (arith, s .len-is, s .off-is, lentView.sums formats schema x first m target good due 0 (omega arith))
   sum-fits (suc i) l =
       omega (arith, length-same x first n R (suc i) (omega arith) l, offset-same x first n R (suc i) (omega arith) l, lentView.sums formats schema x first m target good due (suc i) l)
@@ -79,7 +79,7 @@ module _ (formats schema : List ℕ) (x : Tables) (first m target : ℕ) (good :
     obeyed : obeys formats schema z target n ≡ true
     unfolding obeys
     obeyed =
-        is-true _ (subst (λ y. T (sourceRule (treeOf formats schema target n) y)) (sym same) (to-view-again formats schema x first m target good due parts plan counts room room-bytes passed base body bodied))
+        is-true _ (subst (λ y. T (sourceRule (treeOf formats schema target n) y)) (sym same) (to-view-again formats schema x first m target good due parts plan counters room room-bytes passed base body bodied))
 
     -- IT CAN BE LENT AGAIN: tables in which it stands from the target's node on meet none of 9, 10 and 12
     pub to-view-lent : smallBody body ≡ true → columnGround formats schema z target n ≡ 0

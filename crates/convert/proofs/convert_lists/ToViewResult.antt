@@ -29,7 +29,7 @@ use Rattle.convert.specs.convert_lists.ToList.{lentWith}
 use Rattle.convert.specs.convert_lists.ToView.{viewPlan, makeView}
 use Rattle.convert.specs.convert_lists.ViewTables.{viewNulls, viewTables}
 use Rattle.convert.proofs.convert_lists.Below.{held-at, root-length, root-offset, root-place, root-nulls}
-use Rattle.convert.proofs.convert_lists.BelowShown.{below-shows, below-counts, below-placed}
+use Rattle.convert.proofs.convert_lists.BelowShown.{below-shows, below-counters, below-placed}
 use Rattle.convert.proofs.convert_lists.ViewLent as lentView
 use Rattle.convert.proofs.convert_lists.ViewLent.{ViewDue}
 use Rattle.convert.proofs.convert_lists.ToView.{RootDone, to-view-root}
@@ -61,9 +61,9 @@ module _ (formats schema : List ℕ) (x : Tables) (first m target : ℕ) (good :
   obeys : Source (tList w t) v
   obeys = lentView.column-good formats schema x first m target good due
 
-  module _ (parts plan counts room : List ℕ) (room-bytes : AllBelow 256 room) (passed : makeView formats schema x first n target n parts plan counts room .ground ≡ 0) where
+  module _ (parts plan counters room : List ℕ) (room-bytes : AllBelow 256 room) (passed : makeView formats schema x first n target n parts plan counters room .ground ≡ 0) where
     abbrev pub answer : Opening
-    answer = makeView formats schema x first n target n parts plan counts room
+    answer = makeView formats schema x first n target n parts plan counters room
 
     -- what finishing is given
     abbrev pub lent : Lent
@@ -71,10 +71,10 @@ module _ (formats schema : List ℕ) (x : Tables) (first m target : ℕ) (good :
 
     module _ (base : ℕ) (body : List ℕ) (bodied : Bodied body lent (answer .room) base) where
       abbrev pub root : Tables
-      root = finishedTables lent (x .buffers) (answer .counts) (answer .room) base body
+      root = finishedTables lent (x .buffers) (answer .counters) (answer .room) base body
 
       abbrev rootNulls : List ℕ
-      rootNulls = nullTable lent (x .buffers) (answer .counts) (answer .room) base
+      rootNulls = nullTable lent (x .buffers) (answer .counters) (answer .room) base
 
       -- THE RESULT'S TABLES, and its null counts
       abbrev pub tablesAfter : Tables
@@ -83,14 +83,14 @@ module _ (formats schema : List ℕ) (x : Tables) (first m target : ℕ) (good :
       abbrev pub nullsAfter : List ℕ
       nullsAfter = viewNulls x first n rootNulls
 
-      done : RootDone formats schema x first m target good due parts plan counts room room-bytes passed root rootNulls
-      done = to-view-root formats schema x first m target good due parts plan counts room room-bytes passed base body bodied
+      done : RootDone formats schema x first m target good due parts plan counters room room-bytes passed root rootNulls
+      done = to-view-root formats schema x first m target good due parts plan counters room room-bytes passed base body bodied
 
       longer : length (x .body) ≤ length body
       longer = let e : length (take (length (x .body)) body) ≡ length (x .body) = ap length (bodied .front) in omega (arith, length-take (length (x .body)) body)
 
       same-part : (at size : ℕ) → at + size ≤ length (x .body) → part body at size ≡ part (x .body) at size
-      same-part = source-part lent (x .buffers) (answer .counts) (answer .room) base body bodied
+      same-part = source-part lent (x .buffers) (answer .counters) (answer .room) base body bodied
 
       some-node : 0 < n
       some-node = omega arith
@@ -120,7 +120,7 @@ module _ (formats schema : List ℕ) (x : Tables) (first m target : ℕ) (good :
       to-view-nulls =
           record {
             count-is = rw (add-zero (v .off)) (root-nulls x first n root some-node rootNulls ∙ done .counted .count-is);
-            below = below-counts tree here (lentView.both-alike formats schema x first m target good due) x first n root refl (lentView.rules formats schema x first m target good due) longer same-part rootNulls t 1 (omega arith) (lentView.item-means formats schema x first m target good due);
+            below = below-counters tree here (lentView.both-alike formats schema x first m target good due) x first n root refl (lentView.rules formats schema x first m target good due) longer same-part rootNulls t 1 (omega arith) (lentView.item-means formats schema x first m target good due);
           }
 
       -- ---- its rows

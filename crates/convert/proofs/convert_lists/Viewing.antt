@@ -48,7 +48,7 @@ more w f a r = sym (ap (encodes w) (seg-snoc f a r) ∙ encodes-append w (seg f 
 pub entries-long : (w : ℕ) (f : ℕ → ℕ) (a r : ℕ) → length (encodes w (seg f a r)) ≡ r * w
 entries-long w f a r = length-encodes w (seg f a r) ∙ ap (_* w) (length-seg f a r)
 
-module _ (x : Join) (w : ℕ) (t : Ty) (v : Column (tList w t)) (lent : tables.LentNode x 0 (λ (b : Body (tList w t)). tables.First x 0 (b .offsets)) v) (obey : Source (tList w t) v) (keep : Bool) (keeps-are : keepsOf (x .state) 0 ≡ flag keep) where
+module _ (x : Join) (w : ℕ) (t : Ty) (v : Column (tList w t)) (lent : tables.LentNode x 0 (λ (b : Body (tList w t)). tables.First x 0 (b .offsets)) v) (obey : Source (tList w t) v) (keep : Bool) (keeps-are : keepsOf (x .plan) 0 ≡ flag keep) where
   abbrev starts : ℕ → List ℕ
   starts r = encodes w (seg (offsetIn w (v .body)) (v .off) r)
 

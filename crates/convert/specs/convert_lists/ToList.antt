@@ -32,9 +32,9 @@ module _ (formats schema : List ℕ) (x : Tables) (first n target tn : ℕ) wher
   listFilled = listWalk (lentWith x listPlan [] first n) (replicate 96 0)
 
   -- THE QUESTION
-  abbrev pub askList : (plan counts : List ℕ) → Asking
+  abbrev pub askList : (plan counters : List ℕ) → Asking
   askList = asking formats schema x first n listOwn listPlan listFilled
 
   -- THE CALL
-  abbrev pub makeList : (parts plan counts room : List ℕ) → Opening
+  abbrev pub makeList : (parts plan counters room : List ℕ) → Opening
   makeList = anew formats schema x first n listOwn listPlan listFilled

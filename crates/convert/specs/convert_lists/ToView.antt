@@ -29,9 +29,9 @@ module _ (formats schema : List ℕ) (x : Tables) (first n target tn : ℕ) wher
   viewFilled = viewWalk (join viewPlan [] (x .lengths) (x .places) (x .body) first 0) (bytesOf viewPlan 0) (replicate 96 0)
 
   -- THE QUESTION
-  abbrev pub askView : (plan counts : List ℕ) → Asking
+  abbrev pub askView : (plan counters : List ℕ) → Asking
   askView = asking formats schema x first n viewOwn viewPlan viewFilled
 
   -- THE CALL
-  abbrev pub makeView : (parts plan counts room : List ℕ) → Opening
+  abbrev pub makeView : (parts plan counters room : List ℕ) → Opening
   makeView = anew formats schema x first n viewOwn viewPlan viewFilled

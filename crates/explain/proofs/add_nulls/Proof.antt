@@ -22,7 +22,7 @@ why-null-walk-requires c κs = search needs
 returns : tie.Need-returns
 returns c =
     let a = c .before .before .before .before .before .before .before .before .before .args in
-    λ sources lengths places body. let q = kept (lent (a .plan .now) (a .parts .now) sources lengths places body) (a .m) (a .n) (nulls-say (join (a .plan .now) (a .parts .now) [] [] [] 0 0) 8 0 (a .n) (a .counts .now)) (c .before .before .before .try-nulls .ensures) (c .before .before .if1 .taken) in stopped (lent (a .plan .now) (a .parts .now) sources lengths places body) (a .m) (a .n) (nulls-say (join (a .plan .now) (a .parts .now) [] [] [] 0 0) 8 0 (a .n) (a .counts .now)) (c .before .before .before .try-nulls .ensures) (c .before .before .if1 .taken) q (c .why-null-walk .ensures ∙ ap (whyNulls (join (a .plan .now) (a .parts .now) [] [] [] 0 0) 8 0 (a .n)) q)
+    λ sources lengths places body. let q = kept (lent (a .plan .now) (a .parts .now) sources lengths places body) (a .m) (a .n) (nulls-say (join (a .plan .now) (a .parts .now) [] [] [] 0 0) 8 0 (a .n) (a .counters .now)) (c .before .before .before .try-nulls .ensures) (c .before .before .if1 .taken) in stopped (lent (a .plan .now) (a .parts .now) sources lengths places body) (a .m) (a .n) (nulls-say (join (a .plan .now) (a .parts .now) [] [] [] 0 0) 8 0 (a .n) (a .counters .now)) (c .before .before .before .try-nulls .ensures) (c .before .before .if1 .taken) q (c .why-null-walk .ensures ∙ ap (whyNulls (join (a .plan .now) (a .parts .now) [] [] [] 0 0) 8 0 (a .n)) q)
 
 settle-requires : tie.Need-settle-requires
 settle-requires c κs = search needs
@@ -30,7 +30,7 @@ settle-requires c κs = search needs
 returns-2 : tie.Need-returns-2
 returns-2 c =
     let a = c .before .before .before .before .before .before .before .before .before .args in
-    λ sources lengths places body. settled (lent (a .plan .now) (a .parts .now) sources lengths places body) (a .m) (a .n) (nulls-say (join (a .plan .now) (a .parts .now) [] [] [] 0 0) 8 0 (a .n) (a .counts .now)) (c .before .before .before .try-nulls .ensures) (c .before .before .if1 .left) (c .before .before .before .before .before .rows-of .ensures) (c .settle .ensures)
+    λ sources lengths places body. settled (lent (a .plan .now) (a .parts .now) sources lengths places body) (a .m) (a .n) (nulls-say (join (a .plan .now) (a .parts .now) [] [] [] 0 0) 8 0 (a .n) (a .counters .now)) (c .before .before .before .try-nulls .ensures) (c .before .before .if1 .left) (c .before .before .before .before .before .rows-of .ensures) (c .settle .ensures)
 
 pub add-nulls-spec : {M : Type 1} → statement M
 add-nulls-spec = tie.close (tie.spec rows-of-requires try-nulls-requires why-null-walk-requires returns settle-requires returns-2)

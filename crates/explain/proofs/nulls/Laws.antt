@@ -53,7 +53,7 @@ module _ (x : Join) (depth : ℕ) where
     fields-none f k c e = rw e refl
 
     module _ (f f′ k : ℕ) (c : List ℕ) (e : f ≡ suc f′) (l : k < end) {s : NullStep} {c2 : List ℕ} (h : RowSays (walk k (walked n) c) (why k n c) x depth s c2) where
-      field-on : walk k (walked n) c .ans ≡ 0 → whyNullFields x walk why n end f k c ≡ whyNullFields x walk why n end f′ (endOf (x .state) k) (walk k (walked n) c .counts)
+      field-on : walk k (walked n) c .ans ≡ 0 → whyNullFields x walk why n end f k c ≡ whyNullFields x walk why n end f′ (endOf (x .plan) k) (walk k (walked n) c .counters)
       unfolding whyNullFields past
       field-on z = rw (e, lt-ltb k end l, eq-eqb (walk k (walked n) c .ans) 0 z) refl
 
@@ -61,7 +61,7 @@ module _ (x : Join) (depth : ℕ) where
       unfolding whyNullFields past
       field-stop z = rw (e, lt-ltb k end l, ne-eqb (walk k (walked n) c .ans) 0 z) refl
 
-      pub fields-on : {k2 : ℕ} → k2 ≡ endOf (x .state) k → s ≡ On → whyNullFields x walk why n end f k c ≡ whyNullFields x walk why n end f′ k2 c2
+      pub fields-on : {k2 : ℕ} → k2 ≡ endOf (x .plan) k → s ≡ On → whyNullFields x walk why n end f k c ≡ whyNullFields x walk why n end f′ k2 c2
       fields-on q z = let d = rw z at (h .row) in field-on (d .0) ∙ rw (q, d .1) refl
 
       pub fields-here : {w : Why} → s ≡ Here w → whyNullFields x walk why n end f k c ≡ w
@@ -70,16 +70,16 @@ module _ (x : Join) (depth : ℕ) where
       pub fields-below : {j m : ℕ} → s ≡ Below j m → whyNullFields x walk why n end f k c ≡ why j m c2
       fields-below z = let d = rw z at (h .row) in field-stop (d .0) ∙ d .1
 
-  module _ (i n : ℕ) (c : List ℕ) {h : ℕ} (e : h ≡ nullableChild (x .state) (endOf (x .state) i) 32 (suc i)) where
-    pub sparse-home : 32 ≤ h → whyNullSparse x walk why i n c ≡ named (noHome (x .state) i) i
+  module _ (i n : ℕ) (c : List ℕ) {h : ℕ} (e : h ≡ nullableChild (x .plan) (endOf (x .plan) i) 32 (suc i)) where
+    pub sparse-home : 32 ≤ h → whyNullSparse x walk why i n c ≡ named (noHome (x .plan) i) i
     unfolding whyNullSparse unless
     sparse-home l = rw (← e, le-ltb h 32 l) refl
 
-    pub sparse-fields : h < 32 → {end k : ℕ} → end ≡ endOf (x .state) i → k ≡ suc i → whyNullSparse x walk why i n c ≡ whyNullFields x walk why n end 32 k c
+    pub sparse-fields : h < 32 → {end k : ℕ} → end ≡ endOf (x .plan) i → k ≡ suc i → whyNullSparse x walk why i n c ≡ whyNullFields x walk why n end 32 k c
     unfolding whyNullSparse unless
     sparse-fields l p q = rw (← e, lt-ltb h 32 l, p, q) refl
 
-    pub dense-home : 32 ≤ h → whyNullDense x walk why i n c ≡ named (noHome (x .state) i) i
+    pub dense-home : 32 ≤ h → whyNullDense x walk why i n c ≡ named (noHome (x .plan) i) i
     unfolding whyNullDense whyNullHome unless
     dense-home l = rw (← e, le-ltb h 32 l) refl
 
@@ -99,9 +99,9 @@ module _ (x : Join) (depth : ℕ) where
 
   -- ---- run-end nodes
 
-  module _ (i n : ℕ) (c : List ℕ) {w j v m : ℕ} (p : j ≡ suc i) (q : w ≡ bytesOf (x .state) j) (k : v ≡ rows c i) (l : m ≡ walked n) {t : Bool} (f : t ≡ ltb (v + m) (half w)) where
+  module _ (i n : ℕ) (c : List ℕ) {w j v m : ℕ} (p : j ≡ suc i) (q : w ≡ bytesOf (x .plan) j) (k : v ≡ rows c i) (l : m ≡ walked n) {t : Bool} (f : t ≡ ltb (v + m) (half w)) where
     abbrev W : ℕ
-    W = bytesOf (x .state) (suc i)
+    W = bytesOf (x .plan) (suc i)
 
     test-is : ltb (rows c i + walked n) (half W) ≡ t
     test-is = sym (f ∙ rw (k, l, q, p) refl)
@@ -114,7 +114,7 @@ module _ (x : Join) (depth : ℕ) where
     unfolding whyNullEnd unless
     end-over h a b = rw (test-is ∙ h, cut v n a, b, k, q, p) refl
 
-  module _ (i n : ℕ) (c : List ℕ) {t : Bool} (f : t ≡ (ltb (suc (suc i)) 32 && isWidth (bytesOf (x .state) (suc i)))) where
+  module _ (i n : ℕ) (c : List ℕ) {t : Bool} (f : t ≡ (ltb (suc (suc i)) 32 && isWidth (bytesOf (x .plan) (suc i)))) where
     pub run-foreign : not t ≡ true → whyNullRuns x walk why i n c ≡ only 12
     unfolding whyNullRuns unless
     run-foreign h = rw (no f h) refl
@@ -125,12 +125,12 @@ module _ (x : Join) (depth : ℕ) where
         unfolding whyNullRuns unless
         grow-none y = rw (yes f h, eq-eqb (bytes c i) 2 (sym p ∙ z), lt-leb 1 (rows c (suc i)) (omega (arith, rw q at k, y))) refl
 
-        pub grow-end : (r ≡ 0 → ⊥) → whyNullRuns x walk why i n c ≡ whyNullEnd x walk why (bytesOf (x .state) (suc i)) i n c
+        pub grow-end : (r ≡ 0 → ⊥) → whyNullRuns x walk why i n c ≡ whyNullEnd x walk why (bytesOf (x .plan) (suc i)) i n c
         unfolding whyNullRuns unless
         grow-end y = rw (yes f h, eq-eqb (bytes c i) 2 (sym p ∙ z), le-leb 1 (rows c (suc i)) (omega (arith, rw q at k, y))) refl
 
       module _ (z : v ≡ 2 → ⊥) {j : ℕ} (q : j ≡ suc (suc i)) {s : NullStep} {c2 : List ℕ} (d : RowSays (walk j (walked 1) c) (why j 1 c) x depth s c2) where
-        runs-past : whyNullRuns x walk why i n c ≡ past (walk j 1 c) (why j 1 c) (λ c3. whyNullEnd x walk why (bytesOf (x .state) (suc i)) i n c3)
+        runs-past : whyNullRuns x walk why i n c ≡ past (walk j 1 c) (why j 1 c) (λ c3. whyNullEnd x walk why (bytesOf (x .plan) (suc i)) i n c3)
         unfolding whyNullRuns unless
         runs-past = rw (yes f h, ne-eqb (bytes c i) 2 (λ y. z (p ∙ y)), q) refl
 
@@ -138,7 +138,7 @@ module _ (x : Join) (depth : ℕ) where
         unfolding past
         run-stop y = runs-past ∙ rw (ne-eqb (walk j 1 c .ans) 0 y) refl
 
-        pub run-on : s ≡ On → whyNullRuns x walk why i n c ≡ whyNullEnd x walk why (bytesOf (x .state) (suc i)) i n c2
+        pub run-on : s ≡ On → whyNullRuns x walk why i n c ≡ whyNullEnd x walk why (bytesOf (x .plan) (suc i)) i n c2
         unfolding past
         run-on y = let g = rw y at (d .row) in runs-past ∙ rw (eq-eqb (walk j 1 c .ans) 0 (g .0), g .1) refl
 
@@ -150,9 +150,9 @@ module _ (x : Join) (depth : ℕ) where
 
   -- ---- a node
 
-  module _ (i n : ℕ) (c : List ℕ) {code : ℕ} (e : code ≡ codeOf (x .state) i) where
+  module _ (i n : ℕ) (c : List ℕ) {code : ℕ} (e : code ≡ codeOf (x .plan) i) where
     abbrev says : Why
-    says = whyNullData x walk why (codeOf (x .state) i) i n c
+    says = whyNullData x walk why (codeOf (x .plan) i) i n c
 
     pub on-sparse : code ≡ 21 → says ≡ whyNullSparse x walk why i n c
     unfolding whyNullData
@@ -167,11 +167,11 @@ module _ (x : Join) (depth : ℕ) where
     on-runs z = rw (sym e ∙ z) refl
 
     module _ (a : code ≡ 21 → ⊥) (b : code ≡ 22 → ⊥) (d : code ≡ 23 → ⊥) where
-      pub on-leaf : {g m : ℕ} → m ≡ walked n → g ≡ nullData x walk (codeOf (x .state) i) i m c .ans → says ≡ only g
+      pub on-leaf : {g m : ℕ} → m ≡ walked n → g ≡ nullData x walk (codeOf (x .plan) i) i m c .ans → says ≡ only g
       unfolding whyNullData
-      on-leaf q o = rw (ne-eqb (codeOf (x .state) i) 21 (λ z. a (e ∙ z)), ne-eqb (codeOf (x .state) i) 22 (λ z. b (e ∙ z)), ne-eqb (codeOf (x .state) i) 23 (λ z. d (e ∙ z)), o, q) refl
+      on-leaf q o = rw (ne-eqb (codeOf (x .plan) i) 21 (λ z. a (e ∙ z)), ne-eqb (codeOf (x .plan) i) 22 (λ z. b (e ∙ z)), ne-eqb (codeOf (x .plan) i) 23 (λ z. d (e ∙ z)), o, q) refl
 
-      pub leaf-code : 21 ≤ codeOf (x .state) i → 23 < codeOf (x .state) i
+      pub leaf-code : 21 ≤ codeOf (x .plan) i → 23 < codeOf (x .plan) i
       leaf-code h = omega (arith, a, b, d, e, h)
 
   module _ (i n : ℕ) (c : List ℕ) where
@@ -187,7 +187,7 @@ module _ (x : Join) (depth : ℕ) where
       unfolding whyNullNode unless
       node-out h = rw (some-null, le-ltb i 32 h) refl
 
-      pub node-data : i < 32 → whyNullNode x walk why i n c ≡ whyNullData x walk why (codeOf (x .state) i) i n c
+      pub node-data : i < 32 → whyNullNode x walk why i n c ≡ whyNullData x walk why (codeOf (x .plan) i) i n c
       unfolding whyNullNode unless
       node-data h = rw (some-null, lt-ltb i 32 h) refl
 
@@ -213,15 +213,15 @@ module _ (x : Join) (i n : ℕ) (c : List ℕ) where
   bottom left e = rw e refl
 
 -- run ends that are there have one of three widths
-module _ (x : Join) (i : ℕ) {t : Bool} (f : t ≡ (ltb (suc (suc i)) 32 && isWidth (bytesOf (x .state) (suc i)))) (h : not t ≡ false) where
+module _ (x : Join) (i : ℕ) {t : Bool} (f : t ≡ (ltb (suc (suc i)) 32 && isWidth (bytesOf (x .plan) (suc i)))) (h : not t ≡ false) where
   pub ends-low : i + 2 < 32
-  ends-low = ends-ready i (bytesOf (x .state) (suc i)) f h .0
+  ends-low = ends-ready i (bytesOf (x .plan) (suc i)) f h .0
 
-  pub ends-wide : (bytesOf (x .state) (suc i) ≡ 2 → ⊥) → (bytesOf (x .state) (suc i) ≡ 4 → ⊥) → bytesOf (x .state) (suc i) ≡ 8
-  ends-wide = ends-ready i (bytesOf (x .state) (suc i)) f h .1
+  pub ends-wide : (bytesOf (x .plan) (suc i) ≡ 2 → ⊥) → (bytesOf (x .plan) (suc i) ≡ 4 → ⊥) → bytesOf (x .plan) (suc i) ≡ 8
+  ends-wide = ends-ready i (bytesOf (x .plan) (suc i)) f h .1
 
-pub width-of : (x : Join) (i : ℕ) {j w : ℕ} → j ≡ suc i → w ≡ bytesOf (x .state) j → ((bytesOf (x .state) (suc i) ≡ 2 → ⊥) → (bytesOf (x .state) (suc i) ≡ 4 → ⊥) → bytesOf (x .state) (suc i) ≡ 8) → (w ≡ 2 → ⊥) → (w ≡ 4 → ⊥) → w ≡ 8
-width-of x i p q r a b = let e = q ∙ ap (λ (z : ℕ). bytesOf (x .state) z) p in e ∙ r (λ z. a (e ∙ z)) (λ z. b (e ∙ z))
+pub width-of : (x : Join) (i : ℕ) {j w : ℕ} → j ≡ suc i → w ≡ bytesOf (x .plan) j → ((bytesOf (x .plan) (suc i) ≡ 2 → ⊥) → (bytesOf (x .plan) (suc i) ≡ 4 → ⊥) → bytesOf (x .plan) (suc i) ≡ 8) → (w ≡ 2 → ⊥) → (w ≡ 4 → ⊥) → w ≡ 8
+width-of x i p q r a b = let e = q ∙ ap (λ (z : ℕ). bytesOf (x .plan) z) p in e ∙ r (λ z. a (e ∙ z)) (λ z. b (e ∙ z))
 
 -- a count as it is walked
 pub tried-at : (x : Join) (depth i n : ℕ) {m : ℕ} {c : List ℕ} {g : ℕ} {c2 : List ℕ} → m ≡ walked n → Tried (nullWalk x depth i m c) c g c2 → Tried (nullWalk x depth i (walked n) c) c g c2

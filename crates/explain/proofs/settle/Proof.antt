@@ -21,7 +21,7 @@ returns c = c .plain .ensures ∙ rw (no (c .before .before .parts-within .ensur
 why-parts-requires : tie.Need-why-parts-requires
 why-parts-requires c κs =
     let a = c .before .before .before .before .args in
-    λ i b p q h. omega (arith, part-size (a .plan .now) (a .counts .now) (a .parts .now) 0 (a .m) (c .before .before .before .before .pre) (yes (c .before .parts-within .ensures) (c .if1 .left)) i b p q h)
+    λ i b p q h. omega (arith, part-size (a .plan .now) (a .counters .now) (a .parts .now) 0 (a .m) (c .before .before .before .before .pre) (yes (c .before .parts-within .ensures) (c .if1 .left)) i b p q h)
 
 returns-2 : tie.Need-returns-2
 unfolding unless

@@ -65,15 +65,15 @@ module _ (z m b rows r n : ℕ) {sum : ℕ} (g : sum ≡ grown r n) where
 
 -- ---- parts
 
-module _ (plan counts : List ℕ) {i code r m : ℕ} (e : code ≡ codeOf plan i) (f : r ≡ rows counts i) (g : m ≡ bytes counts i) (b all : ℕ) {s : ℕ} (parts : List ℕ) where
-  pub due-root : i ≡ 0 → s ≡ min (neededBy code (max all r) m b) top → s ≡ min (bytesDue plan counts parts all i b) top
-  due-root z h = rw (eq-eqb i 0 z, ← e, ← g, ap (rows counts) (sym z), ← f) h
+module _ (plan counters : List ℕ) {i code r m : ℕ} (e : code ≡ codeOf plan i) (f : r ≡ rows counters i) (g : m ≡ bytes counters i) (b all : ℕ) {s : ℕ} (parts : List ℕ) where
+  pub due-root : i ≡ 0 → s ≡ min (neededBy code (max all r) m b) top → s ≡ min (bytesDue plan counters parts all i b) top
+  due-root z h = rw (eq-eqb i 0 z, ← e, ← g, ap (rows counters) (sym z), ← f) h
 
-  pub due-other : (i ≡ 0 → ⊥) → s ≡ min (neededBy code r m b) top → s ≡ min (bytesDue plan counts parts all i b) top
+  pub due-other : (i ≡ 0 → ⊥) → s ≡ min (neededBy code r m b) top → s ≡ min (bytesDue plan counters parts all i b) top
   due-other z h = rw (ne-eqb i 0 z, ← e, ← g, ← f) h
 
-module _ (plan counts parts : List ℕ) (i b : ℕ) {h : Bool} (p : h ≡ hasPart plan i b) where
-  pub no-part : not h ≡ true → true ≡ partHolds plan counts parts i b
+module _ (plan counters parts : List ℕ) (i b : ℕ) {h : Bool} (p : h ≡ hasPart plan i b) where
+  pub no-part : not h ≡ true → true ≡ partHolds plan counters parts i b
   unfolding partHolds
   no-part z = rw (sym p ∙ off h z) refl
     where
@@ -81,62 +81,62 @@ module _ (plan counts parts : List ℕ) (i b : ℕ) {h : Bool} (p : h ≡ hasPar
       off true q = absurd (let y : _≡_ {A = ℕ} 0 1 = cc in omega arith)
       off false q = refl
 
-  pub part-size : not h ≡ false → {code r m s size : ℕ} → code ≡ codeOf plan i → r ≡ rows counts i → m ≡ bytes counts i → s ≡ min (neededBy code r m b) top → size ≡ sizeOf plan parts i b → SmallPart plan parts i b
-      → {t : Bool} → t ≡ leb s size → t ≡ partHolds plan counts parts i b
+  pub part-size : not h ≡ false → {code r m s size : ℕ} → code ≡ codeOf plan i → r ≡ rows counters i → m ≡ bytes counters i → s ≡ min (neededBy code r m b) top → size ≡ sizeOf plan parts i b → SmallPart plan parts i b
+      → {t : Bool} → t ≡ leb s size → t ≡ partHolds plan counters parts i b
   unfolding partHolds
   part-size z {s = s} {size} e f g q k l {t} u =
-      rw (sym p ∙ on h z) (u ∙ same (leb (needed plan counts i b) (sizeOf plan parts i b)) refl)
+      rw (sym p ∙ on h z) (u ∙ same (leb (needed plan counters i b) (sizeOf plan parts i b)) refl)
     where
       on : (t : Bool) → not t ≡ false → t ≡ true
       on true q = refl
       on false q = absurd (let y : _≡_ {A = ℕ} 0 1 = cc in omega arith)
 
-      cut : s ≡ min (needed plan counts i b) top
+      cut : s ≡ min (needed plan counters i b) top
       cut = rw (e, f, g) at q
 
-      same : (v : Bool) → leb (needed plan counts i b) (sizeOf plan parts i b) ≡ v → leb s size ≡ v
-      same true y = le-leb s size (let w = leb-true (needed plan counts i b) (sizeOf plan parts i b) y in omega (arith, cut, k, w))
-      same false y = lt-leb s size (let w = leb-false (needed plan counts i b) (sizeOf plan parts i b) y in omega (arith, cut, k, l (sym p ∙ on h z), w))
+      same : (v : Bool) → leb (needed plan counters i b) (sizeOf plan parts i b) ≡ v → leb s size ≡ v
+      same true y = le-leb s size (let w = leb-true (needed plan counters i b) (sizeOf plan parts i b) y in omega (arith, cut, k, w))
+      same false y = lt-leb s size (let w = leb-false (needed plan counters i b) (sizeOf plan parts i b) y in omega (arith, cut, k, l (sym p ∙ on h z), w))
 
-module _ (plan counts parts : List ℕ) (all i b : ℕ) where
-  pub part-on : {t : Bool} → t ≡ partHolds plan counts parts i b → t ≡ true → nothing ≡ whyPart plan counts parts all i b nothing
+module _ (plan counters parts : List ℕ) (all i b : ℕ) where
+  pub part-on : {t : Bool} → t ≡ partHolds plan counters parts i b → t ≡ true → nothing ≡ whyPart plan counters parts all i b nothing
   unfolding whyPart unless
   part-on e h = rw (sym e ∙ h) refl
 
-  pub part-over : {t : Bool} → t ≡ partHolds plan counts parts i b → t ≡ false → {s size : ℕ} → s ≡ min (bytesDue plan counts parts all i b) top → size ≡ sizeOf plan parts i b
-      → record { ground = 13; node = i; row = 0; needed = s; allowed = size } ≡ whyPart plan counts parts all i b nothing
+  pub part-over : {t : Bool} → t ≡ partHolds plan counters parts i b → t ≡ false → {s size : ℕ} → s ≡ min (bytesDue plan counters parts all i b) top → size ≡ sizeOf plan parts i b
+      → record { ground = 13; node = i; row = 0; needed = s; allowed = size } ≡ whyPart plan counters parts all i b nothing
   unfolding whyPart unless
   part-over e h p q = rw (sym e ∙ h, p, q) refl
 
   -- what a part says, and what follows it
-  pub part-stops : {w : Why} → w ≡ whyPart plan counts parts all i b nothing → (w .ground ≡ 0 → ⊥) → (rest : Why) → whyPart plan counts parts all i b rest ≡ w
+  pub part-stops : {w : Why} → w ≡ whyPart plan counters parts all i b nothing → (w .ground ≡ 0 → ⊥) → (rest : Why) → whyPart plan counters parts all i b rest ≡ w
   unfolding whyPart unless
-  part-stops {w} e h rest = go (partHolds plan counts parts i b) e
+  part-stops {w} e h rest = go (partHolds plan counters parts i b) e
     where
-      go : (t : Bool) → w ≡ cond t nothing (clash 13 i 0 (bytesDue plan counts parts all i b) (sizeOf plan parts i b)) → cond t rest (clash 13 i 0 (bytesDue plan counts parts all i b) (sizeOf plan parts i b)) ≡ w
+      go : (t : Bool) → w ≡ cond t nothing (clash 13 i 0 (bytesDue plan counters parts all i b) (sizeOf plan parts i b)) → cond t rest (clash 13 i 0 (bytesDue plan counters parts all i b) (sizeOf plan parts i b)) ≡ w
       go true q = absurd (h (ap (λ z. z .ground) q))
       go false q = sym q
 
-  pub part-goes : {w : Why} → w ≡ whyPart plan counts parts all i b nothing → w .ground ≡ 0 → (rest : Why) → whyPart plan counts parts all i b rest ≡ rest
+  pub part-goes : {w : Why} → w ≡ whyPart plan counters parts all i b nothing → w .ground ≡ 0 → (rest : Why) → whyPart plan counters parts all i b rest ≡ rest
   unfolding whyPart unless
-  part-goes {w} e h rest = go (partHolds plan counts parts i b) e
+  part-goes {w} e h rest = go (partHolds plan counters parts i b) e
     where
-      go : (t : Bool) → w ≡ cond t nothing (clash 13 i 0 (bytesDue plan counts parts all i b) (sizeOf plan parts i b)) → cond t rest (clash 13 i 0 (bytesDue plan counts parts all i b) (sizeOf plan parts i b)) ≡ rest
+      go : (t : Bool) → w ≡ cond t nothing (clash 13 i 0 (bytesDue plan counters parts all i b) (sizeOf plan parts i b)) → cond t rest (clash 13 i 0 (bytesDue plan counters parts all i b) (sizeOf plan parts i b)) ≡ rest
       go true q = refl
       go false q = absurd (let z : 0 ≡ 13 = sym h ∙ ap (λ y. y .ground) q in omega arith)
 
 -- ---- nodes
 
-module _ (plan counts parts : List ℕ) (all : ℕ) where
+module _ (plan counters parts : List ℕ) (all : ℕ) where
   abbrev says : ℕ → Why → Why
-  says i rest = whyPart plan counts parts all i 0 (whyPart plan counts parts all i 1 (whyPart plan counts parts all i 2 rest))
+  says i rest = whyPart plan counters parts all i 0 (whyPart plan counters parts all i 1 (whyPart plan counters parts all i 2 rest))
 
   node-cases : (i : ℕ) (rest : Why) → says i rest ≡ cond (eqb (says i nothing .ground) 0) rest (says i nothing)
   unfolding whyPart unless
-  node-cases i rest = go (partHolds plan counts parts i 0) (partHolds plan counts parts i 1) (partHolds plan counts parts i 2)
+  node-cases i rest = go (partHolds plan counters parts i 0) (partHolds plan counters parts i 1) (partHolds plan counters parts i 2)
     where
       over : ℕ → Why
-      over b = clash 13 i 0 (bytesDue plan counts parts all i b) (sizeOf plan parts i b)
+      over b = clash 13 i 0 (bytesDue plan counters parts all i b) (sizeOf plan parts i b)
 
       go : (a b d : Bool) → cond a (cond b (cond d rest (over 2)) (over 1)) (over 0) ≡ cond (eqb (cond a (cond b (cond d nothing (over 2)) (over 1)) (over 0) .ground) 0) rest (cond a (cond b (cond d nothing (over 2)) (over 1)) (over 0))
       go true true true = refl
@@ -144,15 +144,15 @@ module _ (plan counts parts : List ℕ) (all : ℕ) where
       go true false d = refl
       go false b d = refl
 
-  pub nodes-none : (n i : ℕ) → n ≡ 0 → whyPartsFrom plan counts parts all n i ≡ nothing
+  pub nodes-none : (n i : ℕ) → n ≡ 0 → whyPartsFrom plan counters parts all n i ≡ nothing
   unfolding whyPartsFrom
   nodes-none n i e = rw e refl
 
   module _ (n n2 i : ℕ) (e : n ≡ suc n2) {w : Why} (h : w ≡ says i nothing) where
-    pub nodes-stop : (w .ground ≡ 0 → ⊥) → whyPartsFrom plan counts parts all n i ≡ w
+    pub nodes-stop : (w .ground ≡ 0 → ⊥) → whyPartsFrom plan counters parts all n i ≡ w
     unfolding whyPartsFrom
-    nodes-stop z = rw e (node-cases i (whyPartsFrom plan counts parts all n2 (suc i)) ∙ rw (← h, ne-eqb (w .ground) 0 z) refl)
+    nodes-stop z = rw e (node-cases i (whyPartsFrom plan counters parts all n2 (suc i)) ∙ rw (← h, ne-eqb (w .ground) 0 z) refl)
 
-    pub nodes-on : {i2 : ℕ} → i2 ≡ i + 1 → w .ground ≡ 0 → whyPartsFrom plan counts parts all n i ≡ whyPartsFrom plan counts parts all n2 i2
+    pub nodes-on : {i2 : ℕ} → i2 ≡ i + 1 → w .ground ≡ 0 → whyPartsFrom plan counters parts all n i ≡ whyPartsFrom plan counters parts all n2 i2
     unfolding whyPartsFrom
-    nodes-on q z = rw (e, q, add-one i) (node-cases i (whyPartsFrom plan counts parts all n2 (suc i)) ∙ rw (← h, eq-eqb (w .ground) 0 z) refl)
+    nodes-on q z = rw (e, q, add-one i) (node-cases i (whyPartsFrom plan counters parts all n2 (suc i)) ∙ rw (← h, eq-eqb (w .ground) 0 z) refl)

@@ -30,7 +30,7 @@ use Rattle.explain.specs.stop_walks.Step.{Tried, whyAfter, RowSays}
 
 -- ---- a walk that only tries
 
-module _ {state parts : List ℕ} {o : Out} {c room : List ℕ} {g : ℕ} {c1 room1 : List ℕ} (d : Did state parts false o room g c1 room1) where
+module _ {plan parts : List ℕ} {o : Out} {c room : List ℕ} {g : ℕ} {c1 room1 : List ℕ} (d : Did plan parts false o room g c1 room1) where
   pub tried-refused : {c2 : List ℕ} → (g ≡ 0 → ⊥) → c2 ≡ c → Tried o c g c2
   tried-refused h e = record { answer = d .answer; counters = rw (ne-eqb g 0 h) e }
 
@@ -55,7 +55,7 @@ module _ (f : ℕ → List ℕ → Out) (why : ℕ → List ℕ → Why) where
   unfolding firstOf past
   first-stop n n′ r c e h = rw (e, ne-eqb (f r c .ans) 0 h) refl
 
-  first-more : (n n′ r r′ : ℕ) (c : List ℕ) {c2 : List ℕ} → n ≡ suc n′ → r′ ≡ r + 1 → f r c .ans ≡ 0 → c2 ≡ f r c .counts → firstOf f why n r c ≡ firstOf f why n′ r′ c2
+  first-more : (n n′ r r′ : ℕ) (c : List ℕ) {c2 : List ℕ} → n ≡ suc n′ → r′ ≡ r + 1 → f r c .ans ≡ 0 → c2 ≡ f r c .counters → firstOf f why n r c ≡ firstOf f why n′ r′ c2
   unfolding firstOf past
   first-more n n′ r r′ c e q h k = rw (e, eq-eqb (f r c .ans) 0 h, q, add-one r, k) refl
 
@@ -70,7 +70,7 @@ module _ (f : ℕ → List ℕ → Out) (why : ℕ → List ℕ → Why) where
     row-below z = let k = rw z at (h .row) in first-stop n n′ r c e (k .0) ∙ k .1
 
 -- what is said of a walk is said of another that comes to the same
-pub says-to : (x : Join) (depth : ℕ) {o o2 : Out} {w w2 : Why} (s : Step) {c : List ℕ} → o2 .ans ≡ o .ans → o2 .counts ≡ o .counts → w2 ≡ w → RowSays o w x depth s c → RowSays o2 w2 x depth s c
+pub says-to : (x : Join) (depth : ℕ) {o o2 : Out} {w w2 : Why} (s : Step) {c : List ℕ} → o2 .ans ≡ o .ans → o2 .counters ≡ o .counters → w2 ≡ w → RowSays o w x depth s c → RowSays o2 w2 x depth s c
 says-to x depth On p q r h = record { row = (p ∙ h .row .0, h .row .1 ∙ sym q) }
 says-to x depth (Here v) p q r h = record { row = (λ z. h .row .0 (sym p ∙ z), r ∙ h .row .1) }
 says-to x depth (Below k a n) p q r h = record { row = (λ z. h .row .0 (sym p ∙ z), r ∙ h .row .1) }

@@ -146,7 +146,7 @@ module _ (x : Join) (depth : ℕ) where
     fields-none f k c e = rw e refl
 
     module _ (f f′ k : ℕ) (c : List ℕ) (e : f ≡ suc f′) (l : k < end) {s : Step} {c2 : List ℕ} (h : RowSays (walk k slot n c) (why k slot n c) x depth s c2) where
-      field-on : walk k slot n c .ans ≡ 0 → whyFields x walk why slot n end f k c ≡ whyFields x walk why slot n end f′ (endOf (x .state) k) (walk k slot n c .counts)
+      field-on : walk k slot n c .ans ≡ 0 → whyFields x walk why slot n end f k c ≡ whyFields x walk why slot n end f′ (endOf (x .plan) k) (walk k slot n c .counters)
       unfolding whyFields past
       field-on z = rw (e, lt-ltb k end l, eq-eqb (walk k slot n c .ans) 0 z) refl
 
@@ -154,7 +154,7 @@ module _ (x : Join) (depth : ℕ) where
       unfolding whyFields past
       field-stop z = rw (e, lt-ltb k end l, ne-eqb (walk k slot n c .ans) 0 z) refl
 
-      pub fields-on : {k2 : ℕ} → k2 ≡ endOf (x .state) k → s ≡ On → whyFields x walk why slot n end f k c ≡ whyFields x walk why slot n end f′ k2 c2
+      pub fields-on : {k2 : ℕ} → k2 ≡ endOf (x .plan) k → s ≡ On → whyFields x walk why slot n end f k c ≡ whyFields x walk why slot n end f′ k2 c2
       fields-on q z = let d = rw z at (h .row) in field-on (d .0) ∙ rw (q, d .1) refl
 
       pub fields-here : {w : Why} → s ≡ Here w → whyFields x walk why slot n end f k c ≡ w
@@ -168,16 +168,16 @@ module _ (x : Join) (depth : ℕ) where
     unfolding whySparse unless
     sparse-foreign h = rw (sym (rw p at f) ∙ f ∙ no f h) refl
 
-    pub sparse-fields : not t ≡ false → {end k : ℕ} → end ≡ endOf (x .state) i → k ≡ suc i → whySparse x walk why i slot n c ≡ whyFields x walk why slot n end 32 k c
+    pub sparse-fields : not t ≡ false → {end k : ℕ} → end ≡ endOf (x .plan) i → k ≡ suc i → whySparse x walk why i slot n c ≡ whyFields x walk why slot n end 32 k c
     unfolding whySparse unless
     sparse-fields h e q = rw (sym (rw p at f) ∙ f ∙ yes f h, e, q) refl
 
   -- the child of row r, by what was looked up
-  pub child-is : (i slot r : ℕ) {at id end from k : ℕ} → at ≡ place x i 3 → id ≡ getD (x .body) (at + (slot + r)) 0 → end ≡ endOf (x .state) i → from ≡ suc i → k ≡ childWith (x .state) id end 32 from
-      → k ≡ childWith (x .state) (idAt x walk i (slot + r)) (endOf (x .state) i) 32 (suc i)
+  pub child-is : (i slot r : ℕ) {at id end from k : ℕ} → at ≡ place x i 3 → id ≡ getD (x .body) (at + (slot + r)) 0 → end ≡ endOf (x .plan) i → from ≡ suc i → k ≡ childWith (x .plan) id end 32 from
+      → k ≡ childWith (x .plan) (idAt x walk i (slot + r)) (endOf (x .plan) i) 32 (suc i)
   child-is i slot r p q e f h = rw (q, p, e, f) at h
 
-  module _ (i slot r : ℕ) (c : List ℕ) {k : ℕ} (e : k ≡ childWith (x .state) (idAt x walk i (slot + r)) (endOf (x .state) i) 32 (suc i)) where
+  module _ (i slot r : ℕ) (c : List ℕ) {k : ℕ} (e : k ≡ childWith (x .plan) (idAt x walk i (slot + r)) (endOf (x .plan) i) 32 (suc i)) where
     pub dense-none : 32 ≤ k → (c2 : List ℕ) → RowSays (denseRow x walk i slot r c) (whyDenseRow x walk why i slot r c) x depth (Here (only 12)) c2
     unfolding denseRow whyDenseRow whyDenseAt found unless fail
     dense-none h c2 = rw (← e, le-ltb k 32 h) (record { row = ((λ z. absurd (omega (arith, z))), refl) })
@@ -213,7 +213,7 @@ module _ (x : Join) (depth : ℕ) where
     run-none e = rw e refl
 
     abbrev W : ℕ
-    W = bytesOf (x .state) (suc i)
+    W = bytesOf (x .plan) (suc i)
 
     abbrev inside : Bool
     inside = rowsIn x (place x (suc i) 3) W (offsetOf x (suc i)) (lengthOf x (suc i))
@@ -277,11 +277,11 @@ module _ (x : Join) (depth : ℕ) where
         run-past e = run-by ∙ rw e refl
 
 -- run ends that are there have one of three widths
-module _ (x : Join) (i : ℕ) (h : (ltb (suc (suc i)) 32 && isWidth (bytesOf (x .state) (suc i))) ≡ true) where
+module _ (x : Join) (i : ℕ) (h : (ltb (suc (suc i)) 32 && isWidth (bytesOf (x .plan) (suc i))) ≡ true) where
   pub ends-low : i + 2 < 32
-  ends-low = ends-ready i (bytesOf (x .state) (suc i)) (sym h) refl .0
+  ends-low = ends-ready i (bytesOf (x .plan) (suc i)) (sym h) refl .0
 
-  pub ends-wide : {j w : ℕ} → j ≡ suc i → w ≡ bytesOf (x .state) j → (w ≡ 2 → ⊥) → (w ≡ 4 → ⊥) → w ≡ 8
+  pub ends-wide : {j w : ℕ} → j ≡ suc i → w ≡ bytesOf (x .plan) j → (w ≡ 2 → ⊥) → (w ≡ 4 → ⊥) → w ≡ 8
   ends-wide p q a b =
-      let e = q ∙ ap (λ (z : ℕ). bytesOf (x .state) z) p in
-      e ∙ ends-ready i (bytesOf (x .state) (suc i)) (sym h) refl .1 (λ z. a (e ∙ z)) (λ z. b (e ∙ z))
+      let e = q ∙ ap (λ (z : ℕ). bytesOf (x .plan) z) p in
+      e ∙ ends-ready i (bytesOf (x .plan) (suc i)) (sym h) refl .1 (λ z. a (e ∙ z)) (λ z. b (e ∙ z))

@@ -32,11 +32,11 @@ module _ (x : Join) (depth : ℕ) where
 
   -- ---- by the code
 
-  module _ (i slot n : ℕ) (c : List ℕ) {code w : ℕ} (e : code ≡ codeOf (x .state) i) (f : w ≡ bytesOf (x .state) i) where
+  module _ (i slot n : ℕ) (c : List ℕ) {code w : ℕ} (e : code ≡ codeOf (x .plan) i) (f : w ≡ bytesOf (x .plan) i) where
     abbrev says : Why
-    says = whyData x walk why (codeOf (x .state) i) i slot n c
+    says = whyData x walk why (codeOf (x .plan) i) i slot n c
 
-    is : (g : ℕ → Bool) {t v : Bool} → t ≡ g code → t ≡ v → g (codeOf (x .state) i) ≡ v
+    is : (g : ℕ → Bool) {t v : Bool} → t ≡ g code → t ≡ v → g (codeOf (x .plan) i) ≡ v
     is g p q = ap g (sym e) ∙ sym p ∙ q
 
     pub on-string : {t : Bool} → t ≡ isString code → t ≡ true → says ≡ whyString x walk why w i slot n c
@@ -67,17 +67,17 @@ module _ (x : Join) (depth : ℕ) where
           on-runs z = rw (sym e ∙ z) refl
 
           module _ (a : code ≡ 21 → ⊥) (b : code ≡ 22 → ⊥) (d : code ≡ 23 → ⊥) where
-            pub on-leaf : {g : ℕ} → g ≡ copyData x walk (codeOf (x .state) i) i slot n c .ans → says ≡ only g
+            pub on-leaf : {g : ℕ} → g ≡ copyData x walk (codeOf (x .plan) i) i slot n c .ans → says ≡ only g
             unfolding whyData
             on-leaf o =
-                rw (is isString p q, is isListView h k, is isList l m, ne-eqb (codeOf (x .state) i) 21 (λ z. a (e ∙ z)), ne-eqb (codeOf (x .state) i) 22 (λ z. b (e ∙ z)), ne-eqb (codeOf (x .state) i) 23 (λ z. d (e ∙ z)), o)
+                rw (is isString p q, is isListView h k, is isList l m, ne-eqb (codeOf (x .plan) i) 21 (λ z. a (e ∙ z)), ne-eqb (codeOf (x .plan) i) 22 (λ z. b (e ∙ z)), ne-eqb (codeOf (x .plan) i) 23 (λ z. d (e ∙ z)), o)
                 refl
 
             -- what the walk of a leaf asks
-            pub leaf-code : 17 ≤ codeOf (x .state) i → 23 < codeOf (x .state) i
+            pub leaf-code : 17 ≤ codeOf (x .plan) i → 23 < codeOf (x .plan) i
             leaf-code s =
-                let v = outside 17 18 (codeOf (x .state) i) (is isListView h k) s in
-                let w = outside 19 20 (codeOf (x .state) i) (is isList l m) (omega (arith, v)) in
+                let v = outside 17 18 (codeOf (x .plan) i) (is isListView h k) s in
+                let w = outside 19 20 (codeOf (x .plan) i) (is isList l m) (omega (arith, v)) in
                 omega (arith, w, a, b, d, e)
 
   -- ---- a node
@@ -92,8 +92,8 @@ module _ (x : Join) (depth : ℕ) where
       unfolding whyNode unless
       node-far h = rw (lt-ltb i 32 l, ← e, le-ltb slot far h) refl
 
-      module _ (h : slot < 9223372036854775808) {o : Out} (k : o ≡ cond (masked (codeOf (x .state) i)) (copyMask x i slot n c) (done c)) where
-        node-slots : whyNode x walk why i a n c ≡ past o (only 12) (λ c2. whyData x walk why (codeOf (x .state) i) i slot n c2)
+      module _ (h : slot < 9223372036854775808) {o : Out} (k : o ≡ cond (masked (codeOf (x .plan) i)) (copyMask x i slot n c) (done c)) where
+        node-slots : whyNode x walk why i a n c ≡ past o (only 12) (λ c2. whyData x walk why (codeOf (x .plan) i) i slot n c2)
         unfolding whyNode whySlots unless
         node-slots = rw (lt-ltb i 32 l, ← e, lt-ltb slot far h, k) refl
 
@@ -101,7 +101,7 @@ module _ (x : Join) (depth : ℕ) where
         unfolding past
         node-mask z = node-slots ∙ rw (ne-eqb (o .ans) 0 z) refl
 
-        pub node-data : o .ans ≡ 0 → {c2 : List ℕ} → c2 ≡ o .counts → whyNode x walk why i a n c ≡ whyData x walk why (codeOf (x .state) i) i slot n c2
+        pub node-data : o .ans ≡ 0 → {c2 : List ℕ} → c2 ≡ o .counters → whyNode x walk why i a n c ≡ whyData x walk why (codeOf (x .plan) i) i slot n c2
         unfolding past
         node-data z q = node-slots ∙ rw (eq-eqb (o .ans) 0 z, q) refl
 

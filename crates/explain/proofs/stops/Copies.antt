@@ -74,18 +74,18 @@ quiet-need b c h = quiet-cond b h (quiet-fail c)
 
 pub quiet-next : (o : Out) (k : List ℕ → Out) → Quiet o → ((c : List ℕ) → Quiet (k c)) → Quiet (next o k)
 unfolding next
-quiet-next o k h f = quiet-cond (eqb (o .ans) 0) (record { calm = f (o .counts) .calm }) h
+quiet-next o k h f = quiet-cond (eqb (o .ans) 0) (record { calm = f (o .counters) .calm }) h
 
 module _ (x : Join) (i slot n : ℕ) (c : List ℕ) where
   quiet-mask : Quiet (copyMask x i slot n c)
   unfolding copyMask copyBits
   quiet-mask =
-      quiet-cond (eqb (keepsOf (x .state) i) 0) (quiet-done c)
+      quiet-cond (eqb (keepsOf (x .plan) i) 0) (quiet-done c)
       (quiet-cond (eqb (place x i 0) 0) (quiet-wrote _ c)
       (quiet-need _ c (quiet-next _ _ (quiet-wrote _ c) (λ c2. quiet-done _))))
 
-  pub quiet-valid : Quiet (cond (masked (codeOf (x .state) i)) (copyMask x i slot n c) (done c))
-  quiet-valid = quiet-cond (masked (codeOf (x .state) i)) quiet-mask (quiet-done c)
+  pub quiet-valid : Quiet (cond (masked (codeOf (x .plan) i)) (copyMask x i slot n c) (done c))
+  quiet-valid = quiet-cond (masked (codeOf (x .plan) i)) quiet-mask (quiet-done c)
 
   quiet-numbers : (w : ℕ) → Quiet (copyNumbers x i w slot n c)
   unfolding copyNumbers
@@ -110,7 +110,7 @@ pub quiet-leaf : (x : Join) (child : Walk) (code i slot n : ℕ) (c : List ℕ) 
 unfolding copyData
 quiet-leaf x child code i slot n c a b d e f g =
     rw (a, b, d, e, f, g)
-    (quiet-cond (isFixed code) (quiet-cond (eqb (dictionaryOf (x .state) i) 0) (quiet-numbers x i slot n c _) (quiet-keys x i slot n c _))
+    (quiet-cond (isFixed code) (quiet-cond (eqb (dictionaryOf (x .plan) i) 0) (quiet-numbers x i slot n c _) (quiet-keys x i slot n c _))
     (quiet-cond (isView code) (quiet-views x i slot n c) (quiet-fail c)))
 
 -- ---- node by node
@@ -156,11 +156,11 @@ module _ (x : Join) (walk : Walk) (why : WhyWalk) (below : (k a n : ℕ) (c : Li
   unfolding whyFields copyFields
   fields-say slot n end zero k c = says-done c
   fields-say slot n end (suc f) k c =
-      says-cond (ltb k end) (λ e. says-past (walk k slot n c) _ _ _ (λ h. below k slot n c) (λ c2. fields-say slot n end f (endOf (x .state) k) c2)) (λ e. says-done c)
+      says-cond (ltb k end) (λ e. says-past (walk k slot n c) _ _ _ (λ h. below k slot n c) (λ c2. fields-say slot n end f (endOf (x .plan) k) c2)) (λ e. says-done c)
 
   sparse-says : (i slot n : ℕ) (c : List ℕ) → Says (whySparse x walk why i slot n c) (copySparse x walk i slot n c)
   unfolding whySparse copySparse
-  sparse-says i slot n c = says-needed _ c (λ e. says-wrote _ c _ (fields-say slot n (endOf (x .state) i) 32 (suc i) c))
+  sparse-says i slot n c = says-needed _ c (λ e. says-wrote _ c _ (fields-say slot n (endOf (x .plan) i) 32 (suc i) c))
 
   dense-to-says : (i slot r k : ℕ) (c : List ℕ) → Says (whyDenseTo x walk why i slot r k c) (denseTo x walk i slot r k c)
   unfolding whyDenseTo denseTo
@@ -184,8 +184,8 @@ module _ (x : Join) (walk : Walk) (why : WhyWalk) (below : (k a n : ℕ) (c : Li
   runs-say i slot n c =
       says-cond (eqb n 0) (λ e. says-done c)
       (λ e. says-needed _ c
-      (λ f. says-need _ 7 c _ refl (λ g. over-end (bytesOf (x .state) (suc i)) i _ (wide-end (bytesOf (x .state) (suc i)) (and-right (ltb (suc (suc i)) 32) _ f)) (ltb-false (rows c i + n) (half (bytesOf (x .state) (suc i))) g))
-      (λ g. says-needed _ c (λ h. run-says (bytesOf (x .state) (suc i)) i slot n (runsAt x walk (bytesOf (x .state) (suc i)) i slot n) c))))
+      (λ f. says-need _ 7 c _ refl (λ g. over-end (bytesOf (x .plan) (suc i)) i _ (wide-end (bytesOf (x .plan) (suc i)) (and-right (ltb (suc (suc i)) 32) _ f)) (ltb-false (rows c i + n) (half (bytesOf (x .plan) (suc i))) g))
+      (λ g. says-needed _ c (λ h. run-says (bytesOf (x .plan) (suc i)) i slot n (runsAt x walk (bytesOf (x .plan) (suc i)) i slot n) c))))
 
   -- the data of a node by its code
   to : {w : Why} {o q : Out} → o ≡ q → Says w o → Says w q
@@ -194,20 +194,20 @@ module _ (x : Join) (walk : Walk) (why : WhyWalk) (below : (k a n : ℕ) (c : Li
   code-range : (low high code : ℕ) → between low high code ≡ true → (low ≤ code) × (code ≤ high)
   code-range low high code h = (leb-true low code (and-left (leb low code) (leb code high) h), leb-true code high (and-right (leb low code) (leb code high) h))
 
-  data-says : (i slot n : ℕ) (c : List ℕ) → Says (whyData x walk why (codeOf (x .state) i) i slot n c) (copyData x walk (codeOf (x .state) i) i slot n c)
+  data-says : (i slot n : ℕ) (c : List ℕ) → Says (whyData x walk why (codeOf (x .plan) i) i slot n c) (copyData x walk (codeOf (x .plan) i) i slot n c)
   unfolding whyData
   data-says i slot n c = go (isString code) (isListView code) (isList code) (eqb code 21) (eqb code 22) (eqb code 23) refl refl refl refl refl refl
     where
       code : ℕ
-      code = codeOf (x .state) i
+      code = codeOf (x .plan) i
 
       go : (a b d e f g : Bool) → isString code ≡ a → isListView code ≡ b → isList code ≡ d → eqb code 21 ≡ e → eqb code 22 ≡ f → eqb code 23 ≡ g
-          → Says (cond a (whyString x walk why (bytesOf (x .state) i) i slot n c) (cond b (whyListView x walk why (bytesOf (x .state) i) i slot n c) (cond d (whyList x walk why (bytesOf (x .state) i) i slot n c)
+          → Says (cond a (whyString x walk why (bytesOf (x .plan) i) i slot n c) (cond b (whyListView x walk why (bytesOf (x .plan) i) i slot n c) (cond d (whyList x walk why (bytesOf (x .plan) i) i slot n c)
           (cond e (whySparse x walk why i slot n c) (cond f (whyDense x walk why i slot n c) (cond g (whyRuns x walk why i slot n c) (only (copyData x walk code i slot n c .ans))))))))
           (copyData x walk code i slot n c)
-      go true b d e f g p q r s t u = to (data-string x walk code i slot n c (between-apart 11 14 1 10 code (omega arith) p) p) (string-says (bytesOf (x .state) i) i slot n c (wide-offset _ (string-width code p)))
-      go false true d e f g p q r s t u = let k = code-range 17 18 code q in to (data-list-view x walk code i slot n c (k .0) (k .1)) (list-view-says (bytesOf (x .state) i) i slot n c (wide-offset _ (list-width code q)))
-      go false false true e f g p q r s t u = let k = code-range 19 20 code r in to (data-list x walk code i slot n c (k .0) (k .1)) (list-says (bytesOf (x .state) i) i slot n c (wide-offset _ (lists-width code r)))
+      go true b d e f g p q r s t u = to (data-string x walk code i slot n c (between-apart 11 14 1 10 code (omega arith) p) p) (string-says (bytesOf (x .plan) i) i slot n c (wide-offset _ (string-width code p)))
+      go false true d e f g p q r s t u = let k = code-range 17 18 code q in to (data-list-view x walk code i slot n c (k .0) (k .1)) (list-view-says (bytesOf (x .plan) i) i slot n c (wide-offset _ (list-width code q)))
+      go false false true e f g p q r s t u = let k = code-range 19 20 code r in to (data-list x walk code i slot n c (k .0) (k .1)) (list-says (bytesOf (x .plan) i) i slot n c (wide-offset _ (lists-width code r)))
       go false false false true f g p q r s t u = to (data-sparse x walk code i slot n c (eqb-true code 21 s)) (sparse-says i slot n c)
       go false false false false true g p q r s t u = to (data-dense x walk code i slot n c (eqb-true code 22 t)) (dense-says i slot n c)
       go false false false false false true p q r s t u = to (data-runs x walk code i slot n c (eqb-true code 23 u)) (runs-say i slot n c)

@@ -24,8 +24,8 @@ use Rattle.explain.proofs.stops.Says.{Says, says-done, says-fail, says-
 use Rattle.explain.proofs.stops.Above.{Wide, four-wide, wide-end, over-offset, over-end}
 use Rattle.explain.proofs.stops.Copies.{Quiet, quiet-blank, quiet-done, quiet-fail, quiet-wrote, quiet-cond, quiet-need, quiet-next}
 
-none-home : (state : List ℕ) (i : ℕ) → Stated (named (noHome state i) i)
-none-home state i = homeless (noHome state i) i (go (ltb (suc i) (endOf state i)))
+none-home : (plan : List ℕ) (i : ℕ) → Stated (named (noHome plan i) i)
+none-home plan i = homeless (noHome plan i) i (go (ltb (suc i) (endOf plan i)))
   where
     go : (b : Bool) → Homeless (cond b 5 4)
     go true = no-nullable
@@ -44,29 +44,29 @@ quiet-null x walk code i n c e f g =
     (quiet-fail c))))))
 
 -- validity and rows stop nothing
-counted : (x : Join) (i n : ℕ) (c : List ℕ) → Passes (cond (masked (codeOf (x .state) i)) (nullMask x i n c) (countNulls x i n c))
+counted : (x : Join) (i n : ℕ) (c : List ℕ) → Passes (cond (masked (codeOf (x .plan) i)) (nullMask x i n c) (countNulls x i n c))
 unfolding nullMask countNulls
 counted x i n c =
-    passes-cond (masked (codeOf (x .state) i))
-    (passes-cond (eqb (keepsOf (x .state) i) 0) (passes-done c) (passes-next _ _ (passes-wrote _ c) (λ c2. passes-done _)))
-    (passes-cond (eqb (keepsOf (x .state) i) 0) (passes-done c) (passes-done _))
+    passes-cond (masked (codeOf (x .plan) i))
+    (passes-cond (eqb (keepsOf (x .plan) i) 0) (passes-done c) (passes-next _ _ (passes-wrote _ c) (λ c2. passes-done _)))
+    (passes-cond (eqb (keepsOf (x .plan) i) 0) (passes-done c) (passes-done _))
 
 module _ (x : Join) (walk : NullWalk) (why : WhyNullWalk) (below : (k n : ℕ) (c : List ℕ) → Says (why k n c) (walk k (walked n) c)) where
   null-fields-say : (n end f k : ℕ) (c : List ℕ) → Says (whyNullFields x walk why n end f k c) (nullFields x walk (walked n) end f k c)
   unfolding whyNullFields nullFields
   null-fields-say n end zero k c = says-done c
   null-fields-say n end (suc f) k c =
-      says-cond (ltb k end) (λ e. says-past (walk k (walked n) c) _ _ _ (λ h. below k n c) (λ c2. null-fields-say n end f (endOf (x .state) k) c2)) (λ e. says-done c)
+      says-cond (ltb k end) (λ e. says-past (walk k (walked n) c) _ _ _ (λ h. below k n c) (λ c2. null-fields-say n end f (endOf (x .plan) k) c2)) (λ e. says-done c)
 
   null-sparse-says : (i n : ℕ) (c : List ℕ) → Says (whyNullSparse x walk why i n c) (nullSparse x walk i (walked n) c)
   unfolding whyNullSparse nullSparse
   null-sparse-says i n c =
-      says-found 32 _ (noHome (x .state) i) c _ _ refl (λ e. none-home (x .state) i) (λ e. says-wrote _ c _ (null-fields-say n (endOf (x .state) i) 32 (suc i) c))
+      says-found 32 _ (noHome (x .plan) i) c _ _ refl (λ e. none-home (x .plan) i) (λ e. says-wrote _ c _ (null-fields-say n (endOf (x .plan) i) 32 (suc i) c))
 
   null-dense-says : (i n : ℕ) (c : List ℕ) → Says (whyNullDense x walk why i n c) (nullDense x walk i (walked n) c)
   unfolding whyNullDense whyNullHome nullDense
   null-dense-says i n c =
-      says-found 32 _ (noHome (x .state) i) c _ _ refl (λ e. none-home (x .state) i)
+      says-found 32 _ (noHome (x .plan) i) c _ _ refl (λ e. none-home (x .plan) i)
       (λ e. says-need _ 6 c _ refl (λ f. over-offset 4 i _ _ four-wide (omega arith)) (λ f. says-wrote _ c _ (says-wrote _ c _ (below _ n c))))
 
   end-says : (w i n : ℕ) (c : List ℕ) (o : Out) → Wide w → Passes o → Says (whyNullEnd x walk why w i n c) (need (ltb (rows c i + walked n) (half w)) 7 c o)
@@ -79,19 +79,19 @@ module _ (x : Join) (walk : NullWalk) (why : WhyNullWalk) (below : (k n : ℕ) (
   unfolding whyNullRuns nullRuns growRun addRun
   null-runs-say i n c =
       says-needed _ c
-      (λ f. let z = wide-end (bytesOf (x .state) (suc i)) (and-right (ltb (suc (suc i)) 32) _ f) in
-      says-cond (eqb (gap c i) 2) (λ g. says-needed _ c (λ h. end-says (bytesOf (x .state) (suc i)) i n c _ z (passes-wrote _ c)))
-      (λ g. says-past (walk (suc (suc i)) 1 c) _ _ _ (λ h. below (suc (suc i)) 1 c) (λ c2. end-says (bytesOf (x .state) (suc i)) i n c2 _ z (passes-next _ _ (passes-wrote _ c2) (λ c3. passes-done _)))))
+      (λ f. let z = wide-end (bytesOf (x .plan) (suc i)) (and-right (ltb (suc (suc i)) 32) _ f) in
+      says-cond (eqb (gap c i) 2) (λ g. says-needed _ c (λ h. end-says (bytesOf (x .plan) (suc i)) i n c _ z (passes-wrote _ c)))
+      (λ g. says-past (walk (suc (suc i)) 1 c) _ _ _ (λ h. below (suc (suc i)) 1 c) (λ c2. end-says (bytesOf (x .plan) (suc i)) i n c2 _ z (passes-next _ _ (passes-wrote _ c2) (λ c3. passes-done _)))))
 
   to : {w : Why} {o q : Out} → o ≡ q → Says w o → Says w q
   to {w} e s = subst (Says w) e s
 
-  null-data-says : (i n : ℕ) (c : List ℕ) → Says (whyNullData x walk why (codeOf (x .state) i) i n c) (nullData x walk (codeOf (x .state) i) i (walked n) c)
+  null-data-says : (i n : ℕ) (c : List ℕ) → Says (whyNullData x walk why (codeOf (x .plan) i) i n c) (nullData x walk (codeOf (x .plan) i) i (walked n) c)
   unfolding whyNullData
   null-data-says i n c = go (eqb code 21) (eqb code 22) (eqb code 23) refl refl refl
     where
       code : ℕ
-      code = codeOf (x .state) i
+      code = codeOf (x .plan) i
 
       go : (e f g : Bool) → eqb code 21 ≡ e → eqb code 22 ≡ f → eqb code 23 ≡ g
           → Says (cond e (whyNullSparse x walk why i n c) (cond f (whyNullDense x walk why i n c) (cond g (whyNullRuns x walk why i n c) (only (nullData x walk code i (walked n) c .ans)))))

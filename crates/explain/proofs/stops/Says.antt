@@ -53,8 +53,8 @@ pub says-past : (o : Out) (w : Why) (rest : List ℕ → Why) (k : List ℕ → 
 unfolding past next
 says-past o w rest k f g = go (eqb (o .ans) 0) refl
   where
-    go : (b : Bool) → eqb (o .ans) 0 ≡ b → Says (cond b (rest (o .counts)) w) (cond b (record { ans = k (o .counts) .ans; counts = k (o .counts) .counts; log = o .log ++ k (o .counts) .log }) o)
-    go true e = record { ground = g (o .counts) .ground; table = g (o .counts) .table }
+    go : (b : Bool) → eqb (o .ans) 0 ≡ b → Says (cond b (rest (o .counters)) w) (cond b (record { ans = k (o .counters) .ans; counters = k (o .counters) .counters; log = o .log ++ k (o .counters) .log }) o)
+    go true e = record { ground = g (o .counters) .ground; table = g (o .counters) .table }
     go false e = f (eqb-false _ _ e)
 
 -- a write that comes first
@@ -80,7 +80,7 @@ passes-cond false f g = g
 
 pub passes-next : (o : Out) (k : List ℕ → Out) → Passes o → ((c : List ℕ) → Passes (k c)) → Passes (next o k)
 unfolding next
-passes-next o k h f = rw (eq-eqb (o .ans) 0 (h .no-ground)) (record { no-ground = f (o .counts) .no-ground })
+passes-next o k h f = rw (eq-eqb (o .ans) 0 (h .no-ground)) (record { no-ground = f (o .counters) .no-ground })
 
 pub says-passes : {o : Out} → Passes o → Says nothing o
 says-passes h = record { ground = sym (h .no-ground); table = blank 0 accepted }
@@ -90,8 +90,8 @@ pub says-then : {w : Why} (o : Out) (k : List ℕ → Out) → ((c : List ℕ) �
 unfolding next
 says-then {w} o k h s = go (eqb (o .ans) 0) refl
   where
-    go : (b : Bool) → eqb (o .ans) 0 ≡ b → Says w (cond b (record { ans = k (o .counts) .ans; counts = k (o .counts) .counts; log = o .log ++ k (o .counts) .log }) o)
-    go true e = record { ground = s .ground ∙ eqb-true _ _ e ∙ sym (h (o .counts) .no-ground); table = s .table }
+    go : (b : Bool) → eqb (o .ans) 0 ≡ b → Says w (cond b (record { ans = k (o .counters) .ans; counters = k (o .counters) .counters; log = o .log ++ k (o .counters) .log }) o)
+    go true e = record { ground = s .ground ∙ eqb-true _ _ e ∙ sym (h (o .counters) .no-ground); table = s .table }
     go false e = s
 
 -- rows one after the other

@@ -21,9 +21,9 @@ use Rattle.explain.specs.stops.Why.{nothing, clash, unless}
 use Rattle.explain.specs.stops.Parts.{rowsDue, bytesDue, whyPart, whyPartsFrom, whyParts}
 use Rattle.explain.specs.stops.Table.{accepted, part, Stated, blank, above}
 
-module _ (plan counts parts : List ℕ) (all : ℕ) where
+module _ (plan counters parts : List ℕ) (all : ℕ) where
   abbrev Holds : ℕ → ℕ → Type 0
-  Holds j b = partHolds plan counts parts j b ≡ true
+  Holds j b = partHolds plan counters parts j b ≡ true
 
   -- the parts of node j below buffer b hold their bytes
   abbrev HoldsTo : ℕ → ℕ → Type 0
@@ -32,9 +32,9 @@ module _ (plan counts parts : List ℕ) (all : ℕ) where
   -- of the nodes from i to i + n - 1
   pub data PartsSay (n i : ℕ) : Why → Type 0 where
     all-hold : ((j : ℕ) → i ≤ j → j < i + n → HoldsTo j 3) → PartsSay n i nothing
-    first-short : (j b : ℕ) → i ≤ j → j < i + n → b < 3 → partHolds plan counts parts j b ≡ false
+    first-short : (j b : ℕ) → i ≤ j → j < i + n → b < 3 → partHolds plan counters parts j b ≡ false
         → ((k : ℕ) → i ≤ k → k < j → HoldsTo k 3) → HoldsTo j b
-        → PartsSay n i (clash 13 j 0 (bytesDue plan counts parts all j b) (sizeOf plan parts j b))
+        → PartsSay n i (clash 13 j 0 (bytesDue plan counters parts all j b) (sizeOf plan parts j b))
 
   none-before : (i : ℕ) (k : ℕ) → i ≤ k → k < i → HoldsTo k 3
   none-before i k h l = absurd (omega arith)
@@ -57,16 +57,16 @@ module _ (plan counts parts : List ℕ) (all : ℕ) where
       at k (yes y) p g = g (omega arith)
       at k (no y) p g = let e : i ≡ k = omega arith in subst (λ z. HoldsTo z 3) e h
 
-  pub parts-say : (n i : ℕ) → PartsSay n i (whyPartsFrom plan counts parts all n i)
+  pub parts-say : (n i : ℕ) → PartsSay n i (whyPartsFrom plan counters parts all n i)
   unfolding whyPartsFrom whyPart unless
   parts-say zero i = all-hold (λ j p q. absurd (omega arith))
-  parts-say (suc n) i = go (partHolds plan counts parts i 0) (partHolds plan counts parts i 1) (partHolds plan counts parts i 2) refl refl refl (parts-say n (suc i))
+  parts-say (suc n) i = go (partHolds plan counters parts i 0) (partHolds plan counters parts i 1) (partHolds plan counters parts i 2) refl refl refl (parts-say n (suc i))
     where
       short : ℕ → Why
-      short b = clash 13 i 0 (bytesDue plan counts parts all i b) (sizeOf plan parts i b)
+      short b = clash 13 i 0 (bytesDue plan counters parts all i b) (sizeOf plan parts i b)
 
-      go : (a b d : Bool) → partHolds plan counts parts i 0 ≡ a → partHolds plan counts parts i 1 ≡ b → partHolds plan counts parts i 2 ≡ d → PartsSay n (suc i) (whyPartsFrom plan counts parts all n (suc i))
-          → PartsSay (suc n) i (cond a (cond b (cond d (whyPartsFrom plan counts parts all n (suc i)) (short 2)) (short 1)) (short 0))
+      go : (a b d : Bool) → partHolds plan counters parts i 0 ≡ a → partHolds plan counters parts i 1 ≡ b → partHolds plan counters parts i 2 ≡ d → PartsSay n (suc i) (whyPartsFrom plan counters parts all n (suc i))
+          → PartsSay (suc n) i (cond a (cond b (cond d (whyPartsFrom plan counters parts all n (suc i)) (short 2)) (short 1)) (short 0))
       go true true true p q r t = onward n i _ (three i p q r) t
       go true true false p q r t = first-short i 2 (omega arith) (omega arith) (omega arith) r (none-before i) (two p q)
         where
@@ -82,32 +82,32 @@ module _ (plan counts parts : List ℕ) (all : ℕ) where
       go false b d p q r t = first-short i 0 (omega arith) (omega arith) (omega arith) p (none-before i) (λ k l. absurd (omega arith))
 
   -- 13 exactly where a part is short
-  said-ground : (w : Why) → PartsSay (nodesOf plan) 0 w → w .ground ≡ cond (partsHold plan counts parts) 0 13
+  said-ground : (w : Why) → PartsSay (nodesOf plan) 0 w → w .ground ≡ cond (partsHold plan counters parts) 0 13
   unfolding partsHold
-  said-ground _ (all-hold f) = rw (every-all (λ i. every (λ b. partHolds plan counts parts i b) 3) (nodesOf plan) (λ i l. every-all (λ b. partHolds plan counts parts i b) 3 (f i (omega arith) (omega arith)))) refl
+  said-ground _ (all-hold f) = rw (every-all (λ i. every (λ b. partHolds plan counters parts i b) 3) (nodesOf plan) (λ i l. every-all (λ b. partHolds plan counters parts i b) 3 (f i (omega arith) (omega arith)))) refl
   said-ground _ (first-short j b p q r s f t) =
-      rw (every-false (λ i. every (λ b. partHolds plan counts parts i b) 3) (nodesOf plan) j (omega arith) (every-false (λ b. partHolds plan counts parts j b) 3 b r s)) refl
+      rw (every-false (λ i. every (λ b. partHolds plan counters parts i b) 3) (nodesOf plan) j (omega arith) (every-false (λ b. partHolds plan counters parts j b) 3 b r s)) refl
 
-  pub parts-ground : whyParts plan counts parts all .ground ≡ cond (partsHold plan counts parts) 0 13
+  pub parts-ground : whyParts plan counters parts all .ground ≡ cond (partsHold plan counters parts) 0 13
   parts-ground = said-ground _ (parts-say (nodesOf plan) 0)
 
   -- ---- the bytes due are more than the part has
 
-  rows-more : (i : ℕ) → rows counts i ≤ rowsDue plan counts parts all i
+  rows-more : (i : ℕ) → rows counters i ≤ rowsDue plan counters parts all i
   rows-more i = go (eqb i 0) refl
     where
-      go : (b : Bool) → eqb i 0 ≡ b → rows counts i ≤ cond b (max all (rows counts 0)) (rows counts i)
+      go : (b : Bool) → eqb i 0 ≡ b → rows counters i ≤ cond b (max all (rows counters 0)) (rows counters i)
       go true e = rw (eqb-true i 0 e) (omega arith)
       go false e = omega arith
 
-  due-more : (i b : ℕ) → needed plan counts i b ≤ bytesDue plan counts parts all i b
-  due-more i b = needed-more (codeOf plan i) (rows counts i) (rowsDue plan counts parts all i) (bytes counts i) (bytes counts i) b (rows-more i) (λ z. omega arith)
+  due-more : (i b : ℕ) → needed plan counters i b ≤ bytesDue plan counters parts all i b
+  due-more i b = needed-more (codeOf plan i) (rows counters i) (rowsDue plan counters parts all i) (bytes counters i) (bytes counters i) b (rows-more i) (λ z. omega arith)
 
-  short-there : (j b : ℕ) → partHolds plan counts parts j b ≡ false → (hasPart plan j b ≡ true) × (sizeOf plan parts j b < needed plan counts j b)
+  short-there : (j b : ℕ) → partHolds plan counters parts j b ≡ false → (hasPart plan j b ≡ true) × (sizeOf plan parts j b < needed plan counters j b)
   unfolding partHolds
   short-there j b h = go (hasPart plan j b) refl h
     where
-      go : (a : Bool) → hasPart plan j b ≡ a → onlyIf a (leb (needed plan counts j b) (sizeOf plan parts j b)) ≡ false → (hasPart plan j b ≡ true) × (sizeOf plan parts j b < needed plan counts j b)
+      go : (a : Bool) → hasPart plan j b ≡ a → onlyIf a (leb (needed plan counters j b) (sizeOf plan parts j b)) ≡ false → (hasPart plan j b ≡ true) × (sizeOf plan parts j b < needed plan counters j b)
       go true e h = (e, leb-false _ _ h)
       go false e h = absurd (let z : _≡_ {A = ℕ} 0 1 = cc h in omega arith)
 
@@ -120,7 +120,7 @@ module _ (plan counts parts : List ℕ) (all : ℕ) where
         let g : startAt parts (numberOf plan j b) + sizeAt parts (numberOf plan j b) ≤ m = leb-true _ _ (and-right (ltb (2 * numberOf plan j b + 1) (length parts)) _ f) in
         omega (arith, g)
 
-    pub parts-stated : Stated (whyParts plan counts parts all)
+    pub parts-stated : Stated (whyParts plan counters parts all)
     parts-stated = go _ (parts-say (nodesOf plan) 0)
       where
         go : (w : Why) → PartsSay (nodesOf plan) 0 w → Stated w
@@ -128,4 +128,4 @@ module _ (plan counts parts : List ℕ) (all : ℕ) where
         go _ (first-short j b p q r s f t) =
             let h = short-there j b s in
             let size = part-size j b (omega arith) r (h .0) in
-            above 13 j 0 (bytesDue plan counts parts all j b) (sizeOf plan parts j b) part refl (omega (arith, size, h .1, due-more j b))
+            above 13 j 0 (bytesDue plan counters parts all j b) (sizeOf plan parts j b) part refl (omega (arith, size, h .1, due-more j b))

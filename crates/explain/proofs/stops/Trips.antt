@@ -34,17 +34,17 @@ use Rattle.explain.proofs.stops.Orders.{Tells, order-tells}
 
 module _ (x : Lent) (c r : List ℕ) where
   pub record Leaves (a : After) (q : Measured) : Type 0 where
-    pub counters : a .counts ≡ q .counts
+    pub counters : a .counters ≡ q .counters
     pub size : length (a .room) ≡ length r
 
   settled-leaves : (o : Out) → settled x c r o .ground ≡ 0 → Leaves (settled x c r o) (measured c o)
   unfolding settled measured
-  settled-leaves o = go (eqb (o .ans) 0) refl (partsWithin (x .plan) (x .parts) (length r)) (partsHold (x .plan) (o .counts) (x .parts))
+  settled-leaves o = go (eqb (o .ans) 0) refl (partsWithin (x .plan) (x .parts) (length r)) (partsHold (x .plan) (o .counters) (x .parts))
     where
       after : Bool → Bool → Bool → After
-      after a b d = cond a (cond b (cond d (record { ground = 0; counts = o .counts; room = apply (x .plan) (x .parts) (o .log) r }) (refused x c r 13)) (refused x c r 14)) (refused x c r (o .ans))
+      after a b d = cond a (cond b (cond d (record { ground = 0; counters = o .counters; room = apply (x .plan) (x .parts) (o .log) r }) (refused x c r 13)) (refused x c r 14)) (refused x c r (o .ans))
 
-      go : (a : Bool) → eqb (o .ans) 0 ≡ a → (b d : Bool) → after a b d .ground ≡ 0 → Leaves (after a b d) (cond a (record { ground = 0; counts = o .counts }) (unmeasured c (o .ans)))
+      go : (a : Bool) → eqb (o .ans) 0 ≡ a → (b d : Bool) → after a b d .ground ≡ 0 → Leaves (after a b d) (cond a (record { ground = 0; counters = o .counters }) (unmeasured c (o .ans)))
       go true e true true z = record { counters = refl; size = apply-long (x .plan) (x .parts) (o .log) r }
       go true e true false z = absurd (omega (arith, z))
       go true e false d z = absurd (omega (arith, z))
@@ -107,14 +107,14 @@ module _ (x : Lent) (c0 r0 : List ℕ) where
       t = order-says c r o e
 
       go : (b : Bool) → eqb (ordered x c r o .ground) 0 ≡ b → ((d s : List ℕ) → length s ≡ m → TellsTrip (whyListedFrom x m (suc k) d os) (carried x c0 r0 (suc k) d s os))
-          → TellsTrip (cond (eqb (whyOrder x m c o .ground) 0) (whyListedFrom x m (suc k) (orderMeasure x c o .counts) os) (listed x m k (whyOrder x m c o)))
-          (cond b (carried x c0 r0 (suc k) (ordered x c r o .counts) (ordered x c r o .room) os) (givenUp x c0 r0 (ordered x c r o .ground) k))
+          → TellsTrip (cond (eqb (whyOrder x m c o .ground) 0) (whyListedFrom x m (suc k) (orderMeasure x c o .counters) os) (listed x m k (whyOrder x m c o)))
+          (cond b (carried x c0 r0 (suc k) (ordered x c r o .counters) (ordered x c r o .room) os) (givenUp x c0 r0 (ordered x c r o .ground) k))
       go true h f =
           let z = eqb-true _ _ h in
           let l = order-leaves x c r o z in
-          let s = f (ordered x c r o .counts) (ordered x c r o .room) (l .size ∙ e) in
+          let s = f (ordered x c r o .counters) (ordered x c r o .room) (l .size ∙ e) in
           rw (eq-eqb (whyOrder x m c o .ground) 0 (t .ground ∙ z))
-          (subst (λ d. TellsTrip (whyListedFrom x m (suc k) d os) (carried x c0 r0 (suc k) (ordered x c r o .counts) (ordered x c r o .room) os)) (l .counters) s)
+          (subst (λ d. TellsTrip (whyListedFrom x m (suc k) d os) (carried x c0 r0 (suc k) (ordered x c r o .counters) (ordered x c r o .room) os)) (l .counters) s)
       go false h f =
           rw (ne-eqb (whyOrder x m c o .ground) 0 (λ z. eqb-false _ _ h (sym (t .ground) ∙ z)))
           (record { ground = t .ground; place = refl; table = t .table })
@@ -134,9 +134,9 @@ module _ (x : Lent) (m : ℕ) where
   data From (k : ℕ) (c r : List ℕ) (os : List Call) (a : WhyListed) : Type 0 where
     all-go : EachAccepted x c r os → a ≡ listed x m 0 nothing → From k c r os a
     stops : (before : List Call) (failing : Call) (behind : List Call) → os ≡ before ++ failing ∷ behind → EachAccepted x c r before
-        → a .why ≡ whyOrder x m (orderedAll x c r before .counts) failing → (a .why .ground ≡ 0 → ⊥) → a .place ≡ k + length before → From k c r os a
+        → a .why ≡ whyOrder x m (orderedAll x c r before .counters) failing → (a .why .ground ≡ 0 → ⊥) → a .place ≡ k + length before → From k c r os a
 
-  further : (o : Call) (k : ℕ) (c r : List ℕ) (os : List Call) (a : WhyListed) → ordered x c r o .ground ≡ 0 → From (suc k) (ordered x c r o .counts) (ordered x c r o .room) os a → From k c r (o ∷ os) a
+  further : (o : Call) (k : ℕ) (c r : List ℕ) (os : List Call) (a : WhyListed) → ordered x c r o .ground ≡ 0 → From (suc k) (ordered x c r o .counters) (ordered x c r o .room) os a → From k c r (o ∷ os) a
   unfolding orderedAll groundsOf
   further o k c r os a z (all-go h e) = all-go (ap₂ _∷_ z h) e
   further o k c r os a z (stops b f t l h w s p) = stops (o ∷ b) f t (ap (o ∷_) l) (ap₂ _∷_ z h) w s (omega (arith, p))
@@ -150,25 +150,25 @@ module _ (x : Lent) (m : ℕ) where
       t = subst (λ z. Tells (whyOrder x z c o) (ordered x c r o)) e (order-tells x c r o)
 
       go : (b : Bool) → eqb (whyOrder x m c o .ground) 0 ≡ b → ((d s : List ℕ) → length s ≡ m → From (suc k) d s os (whyListedFrom x m (suc k) d os))
-          → From k c r (o ∷ os) (cond b (whyListedFrom x m (suc k) (orderMeasure x c o .counts) os) (listed x m k (whyOrder x m c o)))
+          → From k c r (o ∷ os) (cond b (whyListedFrom x m (suc k) (orderMeasure x c o .counters) os) (listed x m k (whyOrder x m c o)))
       go true h f =
           let z = sym (t .ground) ∙ eqb-true _ _ h in
           let l = order-leaves x c r o z in
-          let s = f (ordered x c r o .counts) (ordered x c r o .room) (l .size ∙ e) in
-          further o k c r os _ z (subst (λ d. From (suc k) (ordered x c r o .counts) (ordered x c r o .room) os (whyListedFrom x m (suc k) d os)) (l .counters) s)
+          let s = f (ordered x c r o .counters) (ordered x c r o .room) (l .size ∙ e) in
+          further o k c r os _ z (subst (λ d. From (suc k) (ordered x c r o .counters) (ordered x c r o .room) os (whyListedFrom x m (suc k) d os)) (l .counters) s)
       go false h f = stops [] o os refl refl refl (eqb-false _ _ h) (omega arith)
 
-module _ (x : Lent) (counts room : List ℕ) (os : List Call) where
-  first-of : length os ≤ longest → (a : WhyListed) → From x (length room) 0 counts room os a → Explained x counts room os a
+module _ (x : Lent) (counters room : List ℕ) (os : List Call) where
+  first-of : length os ≤ longest → (a : WhyListed) → From x (length room) 0 counters room os a → Explained x counters room os a
   first-of l a (all-go h e) = nothing-stopped l h e
   first-of l a (stops b f t p h w s q) =
       stopped-at l (record { before = b; failing = f; behind = t; in-list = p; before-accepted = h; why-is = w; stands = s; place-is = q ∙ omega arith })
 
   -- THE THEOREM: the first failing order, from the counters that those before it leave
-  pub trip-explained : Explained x counts room os (whyTrip x (length room) counts os)
+  pub trip-explained : Explained x counters room os (whyTrip x (length room) counters os)
   unfolding whyTrip
   trip-explained = go (decLe (length os) longest)
     where
-      go : Dec (length os ≤ longest) → Explained x counts room os (whyTrip x (length room) counts os)
-      go (yes l) = rw (le-leb (length os) longest l) (first-of l _ (from-first x (length room) os 0 counts room refl))
+      go : Dec (length os ≤ longest) → Explained x counters room os (whyTrip x (length room) counters os)
+      go (yes l) = rw (le-leb (length os) longest l) (first-of l _ (from-first x (length room) os 0 counters room refl))
       go (no l) = rw (lt-leb (length os) longest (omega (arith, l))) (list-too-long (omega (arith, l)) refl)

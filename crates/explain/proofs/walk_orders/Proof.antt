@@ -13,10 +13,10 @@ use Rattle.explain.proofs.walk_orders.Statement.{statement}
 use Rattle.explain.proofs.walk_orders.Tie as tie
 
 abbrev Inv-loop : tie.InvT-loop
-Inv-loop plan parts sources lengths places body counters m orders n counts₀ k₀ counts k = (k ≤ n) × (length counts ≡ 96) × (whyTrip (lent plan parts sources lengths places body) m counters (callsOf orders) ≡ whyListedFrom (lent plan parts sources lengths places body) m k counts (callsFrom orders (n - k) k))
+Inv-loop plan parts sources lengths places body counters m orders n tally₀ k₀ tally k = (k ≤ n) × (length tally ≡ 96) × (whyTrip (lent plan parts sources lengths places body) m counters (callsOf orders) ≡ whyListedFrom (lent plan parts sources lengths places body) m k tally (callsFrom orders (n - k) k))
 
 abbrev μ-loop : tie.MeasureT-loop
-μ-loop plan parts sources lengths places body counters m orders n counts₀ k₀ counts k = n - k
+μ-loop plan parts sources lengths places body counters m orders n tally₀ k₀ tally k = n - k
 
 load-requires : tie.Need-load-requires Inv-loop μ-loop
 load-requires c κs = search needs
@@ -60,7 +60,7 @@ returns-2 : tie.Need-returns-2 Inv-loop μ-loop
 returns-2 c =
     let a = c .before .before .before .before .before .before .before .before .before .before .before .before .args in
     let x = lent (a .plan .now) (a .parts .now) (a .sources .now) (a .lengths .now) (a .places .now) (a .body .now) in
-    list-end (a .orders .now) x (a .m) (a .counters .now) (c .before .before .before .before .before .before .before .before .before .before .before .before .pre .3) (a .n - c .before .before .loop .k) (c .before .before .loop .k) (c .before .before .loop .counts) (omega arith) (c .at-first .ensures) ∙ sym (c .before .before .loop .inv .2)
+    list-end (a .orders .now) x (a .m) (a .counters .now) (c .before .before .before .before .before .before .before .before .before .before .before .before .pre .3) (a .n - c .before .before .loop .k) (c .before .before .loop .k) (c .before .before .loop .counters) (omega arith) (c .at-first .ensures) ∙ sym (c .before .before .loop .inv .2)
 
 pub walk-orders-spec : {M : Type 1} → statement M
 walk-orders-spec = tie.close (tie.spec Inv-loop μ-loop load-requires loop-holds order-at-requires cast-t17 returns add-k loop-less loop-again at-first-requires returns-2)

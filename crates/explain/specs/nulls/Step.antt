@@ -18,7 +18,7 @@ whyAfter x depth (Below k n) c = whyNulls x depth k n c
 
 -- of a child that is walked: it goes on, with the counters after it, or is refused, and w is what stops it
 abbrev pub Row : Out → Why → Join → ℕ → NullStep → List ℕ → Type 0
-Row o w x depth On c = (o .ans ≡ 0) × (c ≡ o .counts)
+Row o w x depth On c = (o .ans ≡ 0) × (c ≡ o .counters)
 Row o w x depth (Here v) c = (o .ans ≡ 0 → ⊥) × (w ≡ v)
 Row o w x depth (Below k n) c = (o .ans ≡ 0 → ⊥) × (w ≡ whyNulls x depth k n c)
 

@@ -69,11 +69,11 @@ module _ (x : Join) (walk : Walk) (why : WhyWalk) where
   unfoldable pub whyFields : ℕ → ℕ → ℕ → ℕ → ℕ → List ℕ → Why
   whyFields slot n end zero k c = nothing
   whyFields slot n end (suc f) k c =
-      cond (ltb k end) (past (walk k slot n c) (why k slot n c) (λ c2. whyFields slot n end f (endOf (x .state) k) c2)) nothing
+      cond (ltb k end) (past (walk k slot n c) (why k slot n c) (λ c2. whyFields slot n end f (endOf (x .plan) k) c2)) nothing
 
   unfoldable pub whySparse : ℕ → ℕ → ℕ → List ℕ → Why
   whySparse i slot n c =
-      unless (rowsIn x (place x i 3) 1 slot n) (only 12) (whyFields slot n (endOf (x .state) i) 32 (suc i) c)
+      unless (rowsIn x (place x i 3) 1 slot n) (only 12) (whyFields slot n (endOf (x .plan) i) 32 (suc i) c)
 
   -- 6, dense: the row; the child's rows, which are its position
   unfoldable pub whyDenseTo : ℕ → ℕ → ℕ → ℕ → List ℕ → Why
@@ -84,7 +84,7 @@ module _ (x : Join) (walk : Walk) (why : WhyWalk) where
   whyDenseAt i slot r k c = unless (ltb k 32) (only 12) (whyDenseTo i slot r k c)
 
   unfoldable pub whyDenseRow : ℕ → ℕ → ℕ → List ℕ → Why
-  whyDenseRow i slot r c = whyDenseAt i slot r (childWith (x .state) (idAt x walk i (slot + r)) (endOf (x .state) i) 32 (suc i)) c
+  whyDenseRow i slot r c = whyDenseAt i slot r (childWith (x .plan) (idAt x walk i (slot + r)) (endOf (x .plan) i) 32 (suc i)) c
 
   unfoldable pub whyDense : ℕ → ℕ → ℕ → List ℕ → Why
   whyDense i slot n c =
@@ -99,17 +99,17 @@ module _ (x : Join) (walk : Walk) (why : WhyWalk) where
   unfoldable pub whyRuns : ℕ → ℕ → ℕ → List ℕ → Why
   whyRuns i slot n c =
       cond (eqb n 0) nothing
-      (unless (ltb (suc (suc i)) 32 && isWidth (bytesOf (x .state) (suc i))) (only 12)
-      (unless (ltb (rows c i + n) (half (bytesOf (x .state) (suc i)))) (clash 7 i 0 (rows c i + n) (most (bytesOf (x .state) (suc i))))
-      (unless (rowsIn x (place x (suc i) 3) (bytesOf (x .state) (suc i)) (offsetOf x (suc i)) (lengthOf x (suc i))) (only 12)
-      (whyRun i (runsAt x walk (bytesOf (x .state) (suc i)) i slot n) c))))
+      (unless (ltb (suc (suc i)) 32 && isWidth (bytesOf (x .plan) (suc i))) (only 12)
+      (unless (ltb (rows c i + n) (half (bytesOf (x .plan) (suc i)))) (clash 7 i 0 (rows c i + n) (most (bytesOf (x .plan) (suc i))))
+      (unless (rowsIn x (place x (suc i) 3) (bytesOf (x .plan) (suc i)) (offsetOf x (suc i)) (lengthOf x (suc i))) (only 12)
+      (whyRun i (runsAt x walk (bytesOf (x .plan) (suc i)) i slot n) c))))
 
   -- by the format's code; other nodes have no ground but 12
   unfoldable pub whyData : ℕ → ℕ → ℕ → ℕ → List ℕ → Why
   whyData code i slot n c =
-      cond (isString code) (whyString (bytesOf (x .state) i) i slot n c)
-      (cond (isListView code) (whyListView (bytesOf (x .state) i) i slot n c)
-      (cond (isList code) (whyList (bytesOf (x .state) i) i slot n c)
+      cond (isString code) (whyString (bytesOf (x .plan) i) i slot n c)
+      (cond (isListView code) (whyListView (bytesOf (x .plan) i) i slot n c)
+      (cond (isList code) (whyList (bytesOf (x .plan) i) i slot n c)
       (cond (eqb code 21) (whySparse i slot n c)
       (cond (eqb code 22) (whyDense i slot n c)
       (cond (eqb code 23) (whyRuns i slot n c)
@@ -117,7 +117,7 @@ module _ (x : Join) (walk : Walk) (why : WhyWalk) where
 
   unfoldable pub whySlots : ℕ → ℕ → ℕ → List ℕ → Why
   whySlots i slot n c =
-      past (cond (masked (codeOf (x .state) i)) (copyMask x i slot n c) (done c)) (only 12) (λ c2. whyData (codeOf (x .state) i) i slot n c2)
+      past (cond (masked (codeOf (x .plan) i)) (copyMask x i slot n c) (done c)) (only 12) (λ c2. whyData (codeOf (x .plan) i) i slot n c2)
 
   unfoldable pub whyNode : ℕ → ℕ → ℕ → List ℕ → Why
   whyNode i a n c = unless (ltb i 32) (only 12) (unless (ltb (slotOf x i a n) far) (only 12) (whySlots i (slotOf x i a n) n c))

@@ -29,22 +29,22 @@ module _ (x : Join) (walk : NullWalk) (why : WhyNullWalk) where
   unfoldable pub whyNullFields : ℕ → ℕ → ℕ → ℕ → List ℕ → Why
   whyNullFields n end zero k c = nothing
   whyNullFields n end (suc f) k c =
-      cond (ltb k end) (past (walk k (walked n) c) (why k n c) (λ c2. whyNullFields n end f (endOf (x .state) k) c2)) nothing
+      cond (ltb k end) (past (walk k (walked n) c) (why k n c) (λ c2. whyNullFields n end f (endOf (x .plan) k) c2)) nothing
 
   -- 4, 5: the union that was reached
   unfoldable pub whyNullSparse : ℕ → ℕ → List ℕ → Why
   whyNullSparse i n c =
-      unless (ltb (nullableChild (x .state) (endOf (x .state) i) 32 (suc i)) 32) (named (noHome (x .state) i) i)
-      (whyNullFields n (endOf (x .state) i) 32 (suc i) c)
+      unless (ltb (nullableChild (x .plan) (endOf (x .plan) i) 32 (suc i)) 32) (named (noHome (x .plan) i) i)
+      (whyNullFields n (endOf (x .plan) i) 32 (suc i) c)
 
   -- 6, dense: the first position that does not fit, and its row
   unfoldable pub whyNullHome : ℕ → ℕ → ℕ → List ℕ → Why
   whyNullHome i h n c =
-      unless (ltb h 32) (named (noHome (x .state) i) i)
+      unless (ltb h 32) (named (noHome (x .plan) i) i)
       (unless (leb (rows c h + walked n) (half 4)) (clash 6 i (firstPosition (rows c h) - rows c h) (firstPosition (rows c h)) (most 4)) (why h n c))
 
   unfoldable pub whyNullDense : ℕ → ℕ → List ℕ → Why
-  whyNullDense i n c = whyNullHome i (nullableChild (x .state) (endOf (x .state) i) 32 (suc i)) n c
+  whyNullDense i n c = whyNullHome i (nullableChild (x .plan) (endOf (x .plan) i) 32 (suc i)) n c
 
   -- 7: "the last run end plus the row count", at the run-end node, row 0
   unfoldable pub whyNullEnd : ℕ → ℕ → ℕ → List ℕ → Why
@@ -53,9 +53,9 @@ module _ (x : Join) (walk : NullWalk) (why : WhyNullWalk) where
   -- a run that grows asks its values for nothing
   unfoldable pub whyNullRuns : ℕ → ℕ → List ℕ → Why
   whyNullRuns i n c =
-      unless (ltb (suc (suc i)) 32 && isWidth (bytesOf (x .state) (suc i))) (only 12)
-      (cond (eqb (gap c i) 2) (unless (leb 1 (rows c (suc i))) (only 12) (whyNullEnd (bytesOf (x .state) (suc i)) i n c))
-      (past (walk (suc (suc i)) 1 c) (why (suc (suc i)) 1 c) (λ c2. whyNullEnd (bytesOf (x .state) (suc i)) i n c2)))
+      unless (ltb (suc (suc i)) 32 && isWidth (bytesOf (x .plan) (suc i))) (only 12)
+      (cond (eqb (gap c i) 2) (unless (leb 1 (rows c (suc i))) (only 12) (whyNullEnd (bytesOf (x .plan) (suc i)) i n c))
+      (past (walk (suc (suc i)) 1 c) (why (suc (suc i)) 1 c) (λ c2. whyNullEnd (bytesOf (x .plan) (suc i)) i n c2)))
 
   unfoldable pub whyNullData : ℕ → ℕ → ℕ → List ℕ → Why
   whyNullData code i n c =
@@ -65,7 +65,7 @@ module _ (x : Join) (walk : NullWalk) (why : WhyNullWalk) where
       (only (nullData x walk code i (walked n) c .ans))))
 
   unfoldable pub whyNullNode : ℕ → ℕ → List ℕ → Why
-  whyNullNode i n c = cond (eqb (walked n) 0) nothing (unless (ltb i 32) (only 12) (whyNullData (codeOf (x .state) i) i n c))
+  whyNullNode i n c = cond (eqb (walked n) 0) nothing (unless (ltb i 32) (only 12) (whyNullData (codeOf (x .plan) i) i n c))
 
 -- WHAT STOPS n NULLS of node i, at most `depth` levels down
 unfoldable pub whyNulls : Join → ℕ → WhyNullWalk

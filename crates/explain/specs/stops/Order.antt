@@ -22,26 +22,26 @@ use Rattle.explain.specs.stops.Nulls.{walked, whyNulls}
 use Rattle.explain.specs.stops.Parts.{whyParts}
 
 -- m: the bytes of the room, which is not read
-module _ (x : Lent) (m : ℕ) (counts : List ℕ) where
+module _ (x : Lent) (m : ℕ) (counters : List ℕ) where
   -- the walk, then 14 and 13; n rows are ordered
   unfoldable pub whySettled : ℕ → Out → Why → Why
   whySettled n o w =
-      past o w (λ c2. unless (partsWithin (x .plan) (x .parts) m) (only 14) (whyParts (x .plan) c2 (x .parts) (rows counts 0 + n)))
+      past o w (λ c2. unless (partsWithin (x .plan) (x .parts) m) (only 14) (whyParts (x .plan) c2 (x .parts) (rows counters 0 + n)))
 
   unfoldable pub whyCopyOrder : ℕ → ℕ → ℕ → Why
   whyCopyOrder s a e =
-      unless (eqb (length counts) 96) (only 14)
+      unless (eqb (length counters) 96) (only 14)
       (unless (walkable (x .plan) m) (only 14)
       (unless (ltb s (sourceCount (x .plan))) (only 1)
       (unless (leb a e && leb e (sourceLength x s)) (only 2)
-      (whySettled (e - a) (copyWalk (joinOf x s) 8 0 a (e - a) counts) (whyCopy (joinOf x s) 8 0 a (e - a) counts)))))
+      (whySettled (e - a) (copyWalk (joinOf x s) 8 0 a (e - a) counters) (whyCopy (joinOf x s) 8 0 a (e - a) counters)))))
 
   unfoldable pub whyNullOrder : ℕ → Why
   whyNullOrder n =
-      unless (eqb (length counts) 96) (only 14)
+      unless (eqb (length counters) 96) (only 14)
       (unless (walkable (x .plan) m) (only 14)
       (cond (eqb (keepsOf (x .plan) 0) 0) (only 3)
-      (whySettled n (nullWalk (joinOf x 0) 8 0 (walked n) counts) (whyNulls (joinOf x 0) 8 0 n counts))))
+      (whySettled n (nullWalk (joinOf x 0) 8 0 (walked n) counters) (whyNulls (joinOf x 0) 8 0 n counters))))
 
   abbrev pub whyOrder : Call → Why
   whyOrder (copy s a e) = whyCopyOrder s a e
@@ -57,8 +57,8 @@ module _ (x : Lent) (m : ℕ) where
   unfoldable pub whyListedFrom : ℕ → List ℕ → List Call → WhyListed
   whyListedFrom k c [] = listed 0 nothing
   whyListedFrom k c (o ∷ os) =
-      cond (eqb (whyOrder x m c o .ground) 0) (whyListedFrom (suc k) (orderMeasure x c o .counts) os) (listed k (whyOrder x m c o))
+      cond (eqb (whyOrder x m c o .ground) 0) (whyListedFrom (suc k) (orderMeasure x c o .counters) os) (listed k (whyOrder x m c o))
 
   -- "a list too long is 9 with zeros"
   unfoldable pub whyTrip : List ℕ → List Call → WhyListed
-  whyTrip counts os = cond (leb (length os) longest) (whyListedFrom 0 counts os) (listed 0 (only 9))
+  whyTrip counters os = cond (leb (length os) longest) (whyListedFrom 0 counters os) (listed 0 (only 9))

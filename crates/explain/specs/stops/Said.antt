@@ -11,19 +11,19 @@ use Rattle.explain.specs.declared.stops.WhyListed.{WhyListed}
 use Rattle.explain.specs.stops.Why.{only, nothing}
 use Rattle.explain.specs.stops.Order.{whyOrder, listed}
 
-module _ (x : Lent) (counts room : List ℕ) where
+module _ (x : Lent) (counters room : List ℕ) where
   -- those before it are accepted, and it is explained from the counters that they leave
   pub record FirstStopped (os : List Call) (a : WhyListed) : Type 0 where
     pub before : List Call
     pub failing : Call
     pub behind : List Call
     pub in-list : os ≡ before ++ failing ∷ behind
-    pub before-accepted : EachAccepted x counts room before
-    pub why-is : a .why ≡ whyOrder x (length room) (orderedAll x counts room before .counts) failing
+    pub before-accepted : EachAccepted x counters room before
+    pub why-is : a .why ≡ whyOrder x (length room) (orderedAll x counters room before .counters) failing
     pub stands : a .why .ground ≡ 0 → ⊥
     pub place-is : a .place ≡ length before
 
   pub data Explained (os : List Call) (a : WhyListed) : Type 0 where
-    nothing-stopped : length os ≤ longest → EachAccepted x counts room os → a ≡ listed x (length room) 0 nothing → Explained os a
+    nothing-stopped : length os ≤ longest → EachAccepted x counters room os → a ≡ listed x (length room) 0 nothing → Explained os a
     stopped-at : length os ≤ longest → FirstStopped os a → Explained os a
     list-too-long : longest < length os → a ≡ listed x (length room) 0 (only 9) → Explained os a

@@ -31,7 +31,7 @@ unless b w rest = cond b rest w
 
 -- a walk that comes first: w where it is refused, else what stops the rest
 unfoldable pub past : Out → Why → (List ℕ → Why) → Why
-past o w rest = cond (eqb (o .ans) 0) (rest (o .counts)) w
+past o w rest = cond (eqb (o .ans) 0) (rest (o .counters)) w
 
 -- what stops the first of f r, f (r + 1), .., n of them, that is refused
 unfoldable pub firstOf : (ℕ → List ℕ → Out) → (ℕ → List ℕ → Why) → ℕ → ℕ → List ℕ → Why

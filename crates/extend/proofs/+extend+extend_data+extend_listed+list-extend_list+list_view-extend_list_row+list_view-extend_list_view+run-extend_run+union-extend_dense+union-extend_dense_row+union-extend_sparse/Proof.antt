@@ -251,12 +251,12 @@ extend-sparse-cs t = (first-id-reads.Asked, first-id-reads.Learnt, first-row-rea
 extend-returns : (t : ℕ) → extend-lts.Need-returns (extend-cs t) (extend-at t) extend.Post
 extend-returns t c =
     let a = c .before .before .before .before .before .before .before .args in
-    at-none (join (a .state .now) (a .parts .now) (a .lengths .now) (a .places .now) (a .body .now) (a .first) (a .source)) (a .write) (a .depth) (a .i) (a .a) (a .n) (a .counts .now) (a .room .now) (c .if1 .taken)
+    at-none (join (a .plan .now) (a .parts .now) (a .lengths .now) (a .places .now) (a .body .now) (a .first) (a .source)) (a .write) (a .depth) (a .i) (a .a) (a .n) (a .counters .now) (a .room .now) (c .if1 .taken)
 
 extend-returns-2 : (t : ℕ) → extend-lts.Need-returns-2 (extend-cs t) (extend-at t) extend.Post
 extend-returns-2 t c =
     let a = c .before .before .before .before .before .before .before .before .args in
-    at-out (join (a .state .now) (a .parts .now) (a .lengths .now) (a .places .now) (a .body .now) (a .first) (a .source)) (a .write) (a .depth) (a .i) (a .a) (a .n) (a .counts .now) (a .room .now) (c .before .if1 .left) (c .if2 .taken)
+    at-out (join (a .plan .now) (a .parts .now) (a .lengths .now) (a .places .now) (a .body .now) (a .first) (a .source)) (a .write) (a .depth) (a .i) (a .a) (a .n) (a .counters .now) (a .room .now) (c .before .if1 .left) (c .if2 .taken)
 
 extend-slot-of-requires : (t : ℕ) → extend-lts.Need-slot-of-requires (extend-cs t) (extend-at t) extend.Post
 extend-slot-of-requires t c κs = search needs
@@ -264,7 +264,7 @@ extend-slot-of-requires t c κs = search needs
 extend-returns-3 : (t : ℕ) → extend-lts.Need-returns-3 (extend-cs t) (extend-at t) extend.Post
 extend-returns-3 t c =
     let a = c .before .before .before .before .before .before .before .before .before .before .args in
-    at-far (join (a .state .now) (a .parts .now) (a .lengths .now) (a .places .now) (a .body .now) (a .first) (a .source)) (a .write) (a .depth) (a .i) (a .a) (a .n) (a .counts .now) (a .room .now) (c .before .before .before .if1 .left) (c .before .before .if2 .left) (c .before .slot-of .ensures (a .state .now) (a .parts .now) (a .places .now) (a .body .now) (a .source)) (c .if3 .taken)
+    at-far (join (a .plan .now) (a .parts .now) (a .lengths .now) (a .places .now) (a .body .now) (a .first) (a .source)) (a .write) (a .depth) (a .i) (a .a) (a .n) (a .counters .now) (a .room .now) (c .before .before .before .if1 .left) (c .before .before .if2 .left) (c .before .slot-of .ensures (a .plan .now) (a .parts .now) (a .places .now) (a .body .now) (a .source)) (c .if3 .taken)
 
 extend-copy-validity-requires : (t : ℕ) → extend-lts.Need-copy-validity-requires (extend-cs t) (extend-at t) extend.Post
 extend-copy-validity-requires t c κs =
@@ -277,7 +277,7 @@ extend-same-length t c = search needs
 extend-returns-4 : (t : ℕ) → extend-lts.Need-returns-4 (extend-cs t) (extend-at t) extend.Post
 extend-returns-4 t c =
     let a = c .before .before .before .before .before .before .before .before .before .before .before .before .before .before .before .before .args in
-    at-valid (join (a .state .now) (a .parts .now) (a .lengths .now) (a .places .now) (a .body .now) (a .first) (a .source)) (a .write) (a .depth) (a .i) (a .a) (a .n) (a .counts .now) (a .room .now) (c .before .before .before .before .before .before .before .before .before .if1 .left) (c .before .before .before .before .before .before .before .before .if2 .left) (c .before .before .before .before .before .before .before .slot-of .ensures (a .state .now) (a .parts .now) (a .places .now) (a .body .now) (a .source)) (c .before .before .before .before .before .before .if3 .left) (c .before .before .before .copy-validity .ensures (a .lengths .now) (a .source)) (c .if4 .taken)
+    at-valid (join (a .plan .now) (a .parts .now) (a .lengths .now) (a .places .now) (a .body .now) (a .first) (a .source)) (a .write) (a .depth) (a .i) (a .a) (a .n) (a .counters .now) (a .room .now) (c .before .before .before .before .before .before .before .before .before .if1 .left) (c .before .before .before .before .before .before .before .before .if2 .left) (c .before .before .before .before .before .before .before .slot-of .ensures (a .plan .now) (a .parts .now) (a .places .now) (a .body .now) (a .source)) (c .before .before .before .before .before .before .if3 .left) (c .before .before .before .copy-validity .ensures (a .lengths .now) (a .source)) (c .if4 .taken)
 
 extend-sub-extend-data : (t : ℕ) → extend-lts.Need-sub-extend-data (extend-cs t) (extend-at t) extend.Post
 extend-sub-extend-data t c = search needs
@@ -293,7 +293,7 @@ extend-same-length-2 t c = search needs
 extend-returns-5 : (t : ℕ) → extend-lts.Need-returns-5 (extend-cs t) (extend-at t) extend.Post
 extend-returns-5 t c =
     let a = c .before .before .before .before .before .before .before .before .before .before .before .before .before .before .before .before .before .before .before .before .before .before .args in
-    at-data (join (a .state .now) (a .parts .now) (a .lengths .now) (a .places .now) (a .body .now) (a .first) (a .source)) (a .write) (a .depth) (a .i) (a .a) (a .n) (a .counts .now) (a .room .now) (c .before .before .before .before .before .before .before .before .before .before .before .before .before .before .before .if1 .left) (c .before .before .before .before .before .before .before .before .before .before .before .before .before .before .if2 .left) (c .before .before .before .before .before .before .before .before .before .before .before .before .before .slot-of .ensures (a .state .now) (a .parts .now) (a .places .now) (a .body .now) (a .source)) (c .before .before .before .before .before .before .before .before .before .before .before .before .if3 .left) (c .before .before .before .before .before .before .before .before .before .copy-validity .ensures (a .lengths .now) (a .source)) (c .before .before .before .before .before .before .if4 .left) (c .before .before .before .extend-data .ensures) (c .if5 .taken)
+    at-data (join (a .plan .now) (a .parts .now) (a .lengths .now) (a .places .now) (a .body .now) (a .first) (a .source)) (a .write) (a .depth) (a .i) (a .a) (a .n) (a .counters .now) (a .room .now) (c .before .before .before .before .before .before .before .before .before .before .before .before .before .before .before .if1 .left) (c .before .before .before .before .before .before .before .before .before .before .before .before .before .before .if2 .left) (c .before .before .before .before .before .before .before .before .before .before .before .before .before .slot-of .ensures (a .plan .now) (a .parts .now) (a .places .now) (a .body .now) (a .source)) (c .before .before .before .before .before .before .before .before .before .before .before .before .if3 .left) (c .before .before .before .before .before .before .before .before .before .copy-validity .ensures (a .lengths .now) (a .source)) (c .before .before .before .before .before .before .if4 .left) (c .before .before .before .extend-data .ensures) (c .if5 .taken)
 
 extend-add-rows-requires : (t : ℕ) → extend-lts.Need-add-rows-requires (extend-cs t) (extend-at t) extend.Post
 extend-add-rows-requires t c κs = search needs
@@ -304,7 +304,7 @@ extend-same-length-3 t c = search needs
 extend-returns-6 : (t : ℕ) → extend-lts.Need-returns-6 (extend-cs t) (extend-at t) extend.Post
 extend-returns-6 t c =
     let a = c .before .before .before .before .before .before .before .before .before .before .before .before .before .before .before .before .before .before .before .before .before .before .before .before .args in
-    at-done (join (a .state .now) (a .parts .now) (a .lengths .now) (a .places .now) (a .body .now) (a .first) (a .source)) (a .write) (a .depth) (a .i) (a .a) (a .n) (a .counts .now) (a .room .now) (c .before .before .before .before .before .before .before .before .before .before .before .before .before .before .before .before .before .if1 .left) (c .before .before .before .before .before .before .before .before .before .before .before .before .before .before .before .before .if2 .left) (c .before .before .before .before .before .before .before .before .before .before .before .before .before .before .before .slot-of .ensures (a .state .now) (a .parts .now) (a .places .now) (a .body .now) (a .source)) (c .before .before .before .before .before .before .before .before .before .before .before .before .before .before .if3 .left) (c .before .before .before .before .before .before .before .before .before .before .before .copy-validity .ensures (a .lengths .now) (a .source)) (c .before .before .before .before .before .before .before .before .if4 .left) (c .before .before .before .before .before .extend-data .ensures) (c .before .before .if5 .left) (c .add-rows .ensures)
+    at-done (join (a .plan .now) (a .parts .now) (a .lengths .now) (a .places .now) (a .body .now) (a .first) (a .source)) (a .write) (a .depth) (a .i) (a .a) (a .n) (a .counters .now) (a .room .now) (c .before .before .before .before .before .before .before .before .before .before .before .before .before .before .before .before .before .if1 .left) (c .before .before .before .before .before .before .before .before .before .before .before .before .before .before .before .before .if2 .left) (c .before .before .before .before .before .before .before .before .before .before .before .before .before .before .before .slot-of .ensures (a .plan .now) (a .parts .now) (a .places .now) (a .body .now) (a .source)) (c .before .before .before .before .before .before .before .before .before .before .before .before .before .before .if3 .left) (c .before .before .before .before .before .before .before .before .before .before .before .copy-validity .ensures (a .lengths .now) (a .source)) (c .before .before .before .before .before .before .before .before .if4 .left) (c .before .before .before .before .before .extend-data .ensures) (c .before .before .if5 .left) (c .add-rows .ensures)
 
 extend-data-code-of-requires : (t : ℕ) → extend-data-lts.Need-code-of-requires (extend-data-cs t) (extend-data-at t) extend-data.Post
 extend-data-code-of-requires t c κs = search needs
@@ -318,7 +318,7 @@ extend-data-is-list-requires t c κs = search needs
 extend-data-extend-listed-requires : (t : ℕ) → extend-data-lts.Need-extend-listed-requires (extend-data-cs t) (extend-data-at t) extend-data.Post
 extend-data-extend-listed-requires t c κs =
     let a = c .before .before .before .before .before .before .before .before .before .before .before .before .args in
-    (omega arith, (search needs, listed-code (a .state .now) (a .i) (c .before .before .before .before .before .code-of .ensures) (c .before .before .before .before .is-list-view .ensures) (c .before .before .before .is-list .ensures) (c .before .before .if1 .taken)))
+    (omega arith, (search needs, listed-code (a .plan .now) (a .i) (c .before .before .before .before .before .code-of .ensures) (c .before .before .before .before .is-list-view .ensures) (c .before .before .before .is-list .ensures) (c .before .before .if1 .taken)))
 
 extend-data-same-length : (t : ℕ) → extend-data-lts.Need-same-length (extend-data-cs t) (extend-data-at t) extend-data.Post
 extend-data-same-length t c = search needs
@@ -335,7 +335,7 @@ extend-data-same-length-2 t c = search needs
 extend-data-returns-2 : (t : ℕ) → extend-data-lts.Need-returns-2 (extend-data-cs t) (extend-data-at t) extend-data.Post
 extend-data-returns-2 t c =
     let a = c .before .before .before .before .before .before .before .before .before .before .before .before .before .before .before .before .args in
-    to-sparse (join (a .state .now) (a .parts .now) (a .lengths .now) (a .places .now) (a .body .now) (a .first) (a .source)) (copyWalk (join (a .state .now) (a .parts .now) (a .lengths .now) (a .places .now) (a .body .now) (a .first) (a .source)) (a .depth)) (a .write) (a .i) (a .slot) (a .n) (a .counts .now) (a .room .now) (c .before .before .before .before .before .before .before .before .before .code-of .ensures) (c .before .before .before .before .before .if2 .taken) (c .before .before .extend-sparse .ensures)
+    to-sparse (join (a .plan .now) (a .parts .now) (a .lengths .now) (a .places .now) (a .body .now) (a .first) (a .source)) (copyWalk (join (a .plan .now) (a .parts .now) (a .lengths .now) (a .places .now) (a .body .now) (a .first) (a .source)) (a .depth)) (a .write) (a .i) (a .slot) (a .n) (a .counters .now) (a .room .now) (c .before .before .before .before .before .before .before .before .before .code-of .ensures) (c .before .before .before .before .before .if2 .taken) (c .before .before .extend-sparse .ensures)
 
 extend-data-extend-dense-requires : (t : ℕ) → extend-data-lts.Need-extend-dense-requires (extend-data-cs t) (extend-data-at t) extend-data.Post
 extend-data-extend-dense-requires t c κs = omega arith
@@ -346,7 +346,7 @@ extend-data-same-length-3 t c = search needs
 extend-data-returns-3 : (t : ℕ) → extend-data-lts.Need-returns-3 (extend-data-cs t) (extend-data-at t) extend-data.Post
 extend-data-returns-3 t c =
     let a = c .before .before .before .before .before .before .before .before .before .before .before .before .before .before .before .before .before .args in
-    to-dense (join (a .state .now) (a .parts .now) (a .lengths .now) (a .places .now) (a .body .now) (a .first) (a .source)) (copyWalk (join (a .state .now) (a .parts .now) (a .lengths .now) (a .places .now) (a .body .now) (a .first) (a .source)) (a .depth)) (a .write) (a .i) (a .slot) (a .n) (a .counts .now) (a .room .now) (c .before .before .before .before .before .before .before .before .before .before .code-of .ensures) (c .before .before .before .before .before .if3 .taken) (c .before .before .extend-dense .ensures)
+    to-dense (join (a .plan .now) (a .parts .now) (a .lengths .now) (a .places .now) (a .body .now) (a .first) (a .source)) (copyWalk (join (a .plan .now) (a .parts .now) (a .lengths .now) (a .places .now) (a .body .now) (a .first) (a .source)) (a .depth)) (a .write) (a .i) (a .slot) (a .n) (a .counters .now) (a .room .now) (c .before .before .before .before .before .before .before .before .before .before .code-of .ensures) (c .before .before .before .before .before .if3 .taken) (c .before .before .extend-dense .ensures)
 
 extend-data-extend-run-requires : (t : ℕ) → extend-data-lts.Need-extend-run-requires (extend-data-cs t) (extend-data-at t) extend-data.Post
 extend-data-extend-run-requires t c κs = omega arith
@@ -357,12 +357,12 @@ extend-data-same-length-4 t c = search needs
 extend-data-returns-4 : (t : ℕ) → extend-data-lts.Need-returns-4 (extend-data-cs t) (extend-data-at t) extend-data.Post
 extend-data-returns-4 t c =
     let a = c .before .before .before .before .before .before .before .before .before .before .before .before .before .before .before .before .before .before .args in
-    to-runs (join (a .state .now) (a .parts .now) (a .lengths .now) (a .places .now) (a .body .now) (a .first) (a .source)) (copyWalk (join (a .state .now) (a .parts .now) (a .lengths .now) (a .places .now) (a .body .now) (a .first) (a .source)) (a .depth)) (a .write) (a .i) (a .slot) (a .n) (a .counts .now) (a .room .now) (c .before .before .before .before .before .before .before .before .before .before .before .code-of .ensures) (c .before .before .before .before .before .if4 .taken) (c .before .before .extend-run .ensures)
+    to-runs (join (a .plan .now) (a .parts .now) (a .lengths .now) (a .places .now) (a .body .now) (a .first) (a .source)) (copyWalk (join (a .plan .now) (a .parts .now) (a .lengths .now) (a .places .now) (a .body .now) (a .first) (a .source)) (a .depth)) (a .write) (a .i) (a .slot) (a .n) (a .counters .now) (a .room .now) (c .before .before .before .before .before .before .before .before .before .before .before .code-of .ensures) (c .before .before .before .before .before .if4 .taken) (c .before .before .extend-run .ensures)
 
 extend-data-copy-leaf-requires : (t : ℕ) → extend-data-lts.Need-copy-leaf-requires (extend-data-cs t) (extend-data-at t) extend-data.Post
 extend-data-copy-leaf-requires t c κs =
     let a = c .before .before .before .before .before .before .before .before .before .before .before .before .before .before .before .args in
-    (search needs, leaf-code (a .state .now) (a .i) (c .before .before .before .before .before .before .before .before .code-of .ensures) (c .before .before .before .before .before .before .before .is-list-view .ensures) (c .before .before .before .before .before .before .is-list .ensures) (c .before .before .before .before .before .if1 .left) (c .before .before .before .before .if2 .left) (c .before .before .before .if3 .left) (c .before .before .if4 .left))
+    (search needs, leaf-code (a .plan .now) (a .i) (c .before .before .before .before .before .before .before .before .code-of .ensures) (c .before .before .before .before .before .before .before .is-list-view .ensures) (c .before .before .before .before .before .before .is-list .ensures) (c .before .before .before .before .before .if1 .left) (c .before .before .before .before .if2 .left) (c .before .before .before .if3 .left) (c .before .before .if4 .left))
 
 extend-data-same-length-5 : (t : ℕ) → extend-data-lts.Need-same-length-5 (extend-data-cs t) (extend-data-at t) extend-data.Post
 extend-data-same-length-5 t c = search needs
@@ -370,13 +370,13 @@ extend-data-same-length-5 t c = search needs
 extend-data-returns-5 : (t : ℕ) → extend-data-lts.Need-returns-5 (extend-data-cs t) (extend-data-at t) extend-data.Post
 extend-data-returns-5 t c =
     let a = c .before .before .before .before .before .before .before .before .before .before .before .before .before .before .before .before .before .before .args in
-    c .before .before .copy-leaf .ensures (a .lengths .now) (copyWalk (join (a .state .now) (a .parts .now) (a .lengths .now) (a .places .now) (a .body .now) (a .first) (a .source)) (a .depth))
+    c .before .before .copy-leaf .ensures (a .lengths .now) (copyWalk (join (a .plan .now) (a .parts .now) (a .lengths .now) (a .places .now) (a .body .now) (a .first) (a .source)) (a .depth))
 
 abbrev extend-dense-Inv-loop : extend-dense-lts.InvT-loop
-extend-dense-Inv-loop state parts lengths places body counts₀ room₀ write source first i slot n depth r₀ counts room r = (r ≤ n) × (length room ≡ length room₀) × Rest state parts write (each (denseRow (join state parts lengths places body first source) (copyWalk (join state parts lengths places body first source) depth) i slot) n 0 counts₀) room₀ (each (denseRow (join state parts lengths places body first source) (copyWalk (join state parts lengths places body first source) depth) i slot) (n - r) r counts) room
+extend-dense-Inv-loop plan parts lengths places body counters₀ room₀ write source first i slot n depth r₀ counters room r = (r ≤ n) × (length room ≡ length room₀) × Rest plan parts write (each (denseRow (join plan parts lengths places body first source) (copyWalk (join plan parts lengths places body first source) depth) i slot) n 0 counters₀) room₀ (each (denseRow (join plan parts lengths places body first source) (copyWalk (join plan parts lengths places body first source) depth) i slot) (n - r) r counters) room
 
 abbrev extend-dense-μ-loop : extend-dense-lts.MeasureT-loop
-extend-dense-μ-loop state parts lengths places body counts₀ room₀ write source first i slot n depth r₀ counts room r = n - r
+extend-dense-μ-loop plan parts lengths places body counters₀ room₀ write source first i slot n depth r₀ counters room r = n - r
 
 extend-dense-pairs-in-requires : (t : ℕ) → extend-dense-lts.Need-pairs-in-requires (extend-dense-cs t) (extend-dense-at t) extend-dense.Post extend-dense-Inv-loop extend-dense-μ-loop
 extend-dense-pairs-in-requires t c κs = omega arith
@@ -384,7 +384,7 @@ extend-dense-pairs-in-requires t c κs = omega arith
 extend-dense-returns : (t : ℕ) → extend-dense-lts.Need-returns (extend-dense-cs t) (extend-dense-at t) extend-dense.Post extend-dense-Inv-loop extend-dense-μ-loop
 extend-dense-returns t c =
     let a = c .before .before .before .before .before .before .before .before .args in
-    dense-short (join (a .state .now) (a .parts .now) (a .lengths .now) (a .places .now) (a .body .now) (a .first) (a .source)) (copyWalk (join (a .state .now) (a .parts .now) (a .lengths .now) (a .places .now) (a .body .now) (a .first) (a .source)) (a .depth)) (a .write) (a .i) (a .slot) (a .counts .now) (a .room .now) (a .n) (c .before .pairs-in .ensures (a .state .now) (a .parts .now) (a .lengths .now) (a .source)) (c .if1 .taken)
+    dense-short (join (a .plan .now) (a .parts .now) (a .lengths .now) (a .places .now) (a .body .now) (a .first) (a .source)) (copyWalk (join (a .plan .now) (a .parts .now) (a .lengths .now) (a .places .now) (a .body .now) (a .first) (a .source)) (a .depth)) (a .write) (a .i) (a .slot) (a .counters .now) (a .room .now) (a .n) (c .before .pairs-in .ensures (a .plan .now) (a .parts .now) (a .lengths .now) (a .source)) (c .if1 .taken)
 
 extend-dense-loop-holds : (t : ℕ) → extend-dense-lts.Need-loop-holds (extend-dense-cs t) (extend-dense-at t) extend-dense.Post extend-dense-Inv-loop extend-dense-μ-loop
 extend-dense-loop-holds t c = (search needs, search needs, λ g c2 room2. simp sub-zero (λ d. d))
@@ -393,7 +393,7 @@ extend-dense-extend-dense-row-requires : (t : ℕ) → extend-dense-lts.Need-ext
 extend-dense-extend-dense-row-requires t c κs =
     let a = c .before .before .before .before .before .before .before .before .before .before .before .before .args in
     let l = c .before .before .before .loop in
-    let p = pairs-row (join (a .state .now) (a .parts .now) (a .lengths .now) (a .places .now) (a .body .now) (a .first) (a .source)) (place (join (a .state .now) (a .parts .now) (a .lengths .now) (a .places .now) (a .body .now) (a .first) (a .source)) (a .i) 3) (place (join (a .state .now) (a .parts .now) (a .lengths .now) (a .places .now) (a .body .now) (a .first) (a .source)) (a .i) 5) 1 4 (a .slot) (a .n) (l .r) (c .before .before .before .before .before .pairs-in .ensures (a .state .now) (a .parts .now) (a .lengths .now) (a .source)) (c .before .before .before .before .if1 .left) (omega arith) in
+    let p = pairs-row (join (a .plan .now) (a .parts .now) (a .lengths .now) (a .places .now) (a .body .now) (a .first) (a .source)) (place (join (a .plan .now) (a .parts .now) (a .lengths .now) (a .places .now) (a .body .now) (a .first) (a .source)) (a .i) 3) (place (join (a .plan .now) (a .parts .now) (a .lengths .now) (a .places .now) (a .body .now) (a .first) (a .source)) (a .i) 5) 1 4 (a .slot) (a .n) (l .r) (c .before .before .before .before .before .pairs-in .ensures (a .plan .now) (a .parts .now) (a .lengths .now) (a .source)) (c .before .before .before .before .if1 .left) (omega arith) in
     (omega arith, (omega arith, (omega (arith, p .0), p .1)))
 
 extend-dense-same-length : (t : ℕ) → extend-dense-lts.Need-same-length (extend-dense-cs t) (extend-dense-at t) extend-dense.Post extend-dense-Inv-loop extend-dense-μ-loop
@@ -403,7 +403,7 @@ extend-dense-returns-2 : (t : ℕ) → extend-dense-lts.Need-returns-2 (extend-d
 extend-dense-returns-2 t c =
     let a = c .before .before .before .before .before .before .before .before .before .before .before .before .before .before .before .before .args in
     let l = c .before .before .before .before .before .before .before .loop in
-    dense-rows (join (a .state .now) (a .parts .now) (a .lengths .now) (a .places .now) (a .body .now) (a .first) (a .source)) (copyWalk (join (a .state .now) (a .parts .now) (a .lengths .now) (a .places .now) (a .body .now) (a .first) (a .source)) (a .depth)) (a .write) (a .i) (a .slot) (a .counts .now) (a .room .now) (a .n) (c .before .before .before .before .before .before .before .before .before .pairs-in .ensures (a .state .now) (a .parts .now) (a .lengths .now) (a .source)) (c .before .before .before .before .before .before .before .before .if1 .left) (l .inv .2 _ _ _ (each-stop _ _ (a .n - l .r) (a .n - (l .r + 1)) _ _ _ (omega arith) (c .before .before .before .extend-dense-row .ensures) (c .if2 .taken)))
+    dense-rows (join (a .plan .now) (a .parts .now) (a .lengths .now) (a .places .now) (a .body .now) (a .first) (a .source)) (copyWalk (join (a .plan .now) (a .parts .now) (a .lengths .now) (a .places .now) (a .body .now) (a .first) (a .source)) (a .depth)) (a .write) (a .i) (a .slot) (a .counters .now) (a .room .now) (a .n) (c .before .before .before .before .before .before .before .before .before .pairs-in .ensures (a .plan .now) (a .parts .now) (a .lengths .now) (a .source)) (c .before .before .before .before .before .before .before .before .if1 .left) (l .inv .2 _ _ _ (each-stop _ _ (a .n - l .r) (a .n - (l .r + 1)) _ _ _ (omega arith) (c .before .before .before .extend-dense-row .ensures) (c .if2 .taken)))
 
 extend-dense-add-r : (t : ℕ) → extend-dense-lts.Need-add-r (extend-dense-cs t) (extend-dense-at t) extend-dense.Post extend-dense-Inv-loop extend-dense-μ-loop
 extend-dense-add-r t c = search needs
@@ -424,7 +424,7 @@ extend-dense-returns-3 : (t : ℕ) → extend-dense-lts.Need-returns-3 (extend-d
 extend-dense-returns-3 t c =
     let a = c .before .before .before .before .before .before .before .before .before .before .args in
     let l = c .before .loop in
-    dense-rows (join (a .state .now) (a .parts .now) (a .lengths .now) (a .places .now) (a .body .now) (a .first) (a .source)) (copyWalk (join (a .state .now) (a .parts .now) (a .lengths .now) (a .places .now) (a .body .now) (a .first) (a .source)) (a .depth)) (a .write) (a .i) (a .slot) (a .counts .now) (a .room .now) (a .n) (c .before .before .before .pairs-in .ensures (a .state .now) (a .parts .now) (a .lengths .now) (a .source)) (c .before .before .if1 .left) (l .inv .2 _ _ _ (each-none _ _ (a .n - l .r) _ _ _ (omega arith)))
+    dense-rows (join (a .plan .now) (a .parts .now) (a .lengths .now) (a .places .now) (a .body .now) (a .first) (a .source)) (copyWalk (join (a .plan .now) (a .parts .now) (a .lengths .now) (a .places .now) (a .body .now) (a .first) (a .source)) (a .depth)) (a .write) (a .i) (a .slot) (a .counters .now) (a .room .now) (a .n) (c .before .before .before .pairs-in .ensures (a .plan .now) (a .parts .now) (a .lengths .now) (a .source)) (c .before .before .if1 .left) (l .inv .2 _ _ _ (each-none _ _ (a .n - l .r) _ _ _ (omega arith)))
 
 extend-dense-row-add-place : (t : ℕ) → extend-dense-row-lts.Need-add-place (extend-dense-row-cs t) (extend-dense-row-at t) extend-dense-row.Post
 extend-dense-row-add-place t c = search needs
@@ -453,7 +453,7 @@ extend-dense-row-child-with-requires t c κs = omega (arith, c .end-of .ensures 
 extend-dense-row-returns : (t : ℕ) → extend-dense-row-lts.Need-returns (extend-dense-row-cs t) (extend-dense-row-at t) extend-dense-row.Post
 extend-dense-row-returns t c =
     let a = c .before .before .before .before .before .before .before .before .before .before .before .args in
-    dense-none (join (a .state .now) (a .parts .now) (a .lengths .now) (a .places .now) (a .body .now) (a .first) (a .source)) (copyWalk (join (a .state .now) (a .parts .now) (a .lengths .now) (a .places .now) (a .body .now) (a .first) (a .source)) (a .depth)) (a .write) (a .i) (a .slot) (a .counts .now) (a .room .now) (a .r) (ap (λ (z : ℕ). getD (a .body .now) (z + (a .slot + a .r)) 0) (c .before .before .before .before .place .ensures)) (c .before .before .end-of .ensures .0) (add-one (a .i)) (c .before .child-with .ensures .0) (c .if1 .taken)
+    dense-none (join (a .plan .now) (a .parts .now) (a .lengths .now) (a .places .now) (a .body .now) (a .first) (a .source)) (copyWalk (join (a .plan .now) (a .parts .now) (a .lengths .now) (a .places .now) (a .body .now) (a .first) (a .source)) (a .depth)) (a .write) (a .i) (a .slot) (a .counters .now) (a .room .now) (a .r) (ap (λ (z : ℕ). getD (a .body .now) (z + (a .slot + a .r)) 0) (c .before .before .before .before .place .ensures)) (c .before .before .end-of .ensures .0) (add-one (a .i)) (c .before .child-with .ensures .0) (c .if1 .taken)
 
 extend-dense-row-dense-numbers-requires : (t : ℕ) → extend-dense-row-lts.Need-dense-numbers-requires (extend-dense-row-cs t) (extend-dense-row-at t) extend-dense-row.Post
 extend-dense-row-dense-numbers-requires t c κs = omega arith
@@ -464,7 +464,7 @@ extend-dense-row-same-length t c = search needs
 extend-dense-row-returns-2 : (t : ℕ) → extend-dense-row-lts.Need-returns-2 (extend-dense-row-cs t) (extend-dense-row-at t) extend-dense-row.Post
 extend-dense-row-returns-2 t c =
     let a = c .before .before .before .before .before .before .before .before .before .before .before .before .before .before .before .before .before .args in
-    dense-stop (join (a .state .now) (a .parts .now) (a .lengths .now) (a .places .now) (a .body .now) (a .first) (a .source)) (copyWalk (join (a .state .now) (a .parts .now) (a .lengths .now) (a .places .now) (a .body .now) (a .first) (a .source)) (a .depth)) (a .write) (a .i) (a .slot) (a .counts .now) (a .room .now) (a .r) (ap (λ (z : ℕ). getD (a .body .now) (z + (a .slot + a .r)) 0) (c .before .before .before .before .before .before .before .before .before .before .place .ensures)) (c .before .before .before .before .before .before .before .before .end-of .ensures .0) (add-one (a .i)) (c .before .before .before .before .before .before .before .child-with .ensures .0) (c .before .before .before .before .before .before .if1 .left) (c .before .before .before .dense-numbers .ensures) (c .if2 .taken)
+    dense-stop (join (a .plan .now) (a .parts .now) (a .lengths .now) (a .places .now) (a .body .now) (a .first) (a .source)) (copyWalk (join (a .plan .now) (a .parts .now) (a .lengths .now) (a .places .now) (a .body .now) (a .first) (a .source)) (a .depth)) (a .write) (a .i) (a .slot) (a .counters .now) (a .room .now) (a .r) (ap (λ (z : ℕ). getD (a .body .now) (z + (a .slot + a .r)) 0) (c .before .before .before .before .before .before .before .before .before .before .place .ensures)) (c .before .before .before .before .before .before .before .before .end-of .ensures .0) (add-one (a .i)) (c .before .before .before .before .before .before .before .child-with .ensures .0) (c .before .before .before .before .before .before .if1 .left) (c .before .before .before .dense-numbers .ensures) (c .if2 .taken)
 
 extend-dense-row-add-place-2 : (t : ℕ) → extend-dense-row-lts.Need-add-place-2 (extend-dense-row-cs t) (extend-dense-row-at t) extend-dense-row.Post
 extend-dense-row-add-place-2 t c = search needs
@@ -487,12 +487,12 @@ extend-dense-row-same-length-2 t c = search needs
 extend-dense-row-returns-3 : (t : ℕ) → extend-dense-row-lts.Need-returns-3 (extend-dense-row-cs t) (extend-dense-row-at t) extend-dense-row.Post
 extend-dense-row-returns-3 t c =
     let a = c .before .before .before .before .before .before .before .before .before .before .before .before .before .before .before .before .before .before .before .before .before .before .before .before .args in
-    dense-go (join (a .state .now) (a .parts .now) (a .lengths .now) (a .places .now) (a .body .now) (a .first) (a .source)) (copyWalk (join (a .state .now) (a .parts .now) (a .lengths .now) (a .places .now) (a .body .now) (a .first) (a .source)) (a .depth)) (a .write) (a .i) (a .slot) (a .counts .now) (a .room .now) (a .r) (ap (λ (z : ℕ). getD (a .body .now) (z + (a .slot + a .r)) 0) (c .before .before .before .before .before .before .before .before .before .before .before .before .before .before .before .before .before .place .ensures)) (c .before .before .before .before .before .before .before .before .before .before .before .before .before .before .before .end-of .ensures .0) (add-one (a .i)) (c .before .before .before .before .before .before .before .before .before .before .before .before .before .before .child-with .ensures .0) (c .before .before .before .before .before .before .before .before .before .before .before .before .before .if1 .left) (c .before .before .before .before .before .before .before .before .before .before .dense-numbers .ensures) (c .before .before .before .before .before .before .before .if2 .left) (c .before .before .before .before .before .before .place2 .ensures) (c .before .before .before .before .before .entry-at .ensures) (c .before .before .extend .ensures)
+    dense-go (join (a .plan .now) (a .parts .now) (a .lengths .now) (a .places .now) (a .body .now) (a .first) (a .source)) (copyWalk (join (a .plan .now) (a .parts .now) (a .lengths .now) (a .places .now) (a .body .now) (a .first) (a .source)) (a .depth)) (a .write) (a .i) (a .slot) (a .counters .now) (a .room .now) (a .r) (ap (λ (z : ℕ). getD (a .body .now) (z + (a .slot + a .r)) 0) (c .before .before .before .before .before .before .before .before .before .before .before .before .before .before .before .before .before .place .ensures)) (c .before .before .before .before .before .before .before .before .before .before .before .before .before .before .before .end-of .ensures .0) (add-one (a .i)) (c .before .before .before .before .before .before .before .before .before .before .before .before .before .before .child-with .ensures .0) (c .before .before .before .before .before .before .before .before .before .before .before .before .before .if1 .left) (c .before .before .before .before .before .before .before .before .before .before .dense-numbers .ensures) (c .before .before .before .before .before .before .before .if2 .left) (c .before .before .before .before .before .before .place2 .ensures) (c .before .before .before .before .before .entry-at .ensures) (c .before .before .extend .ensures)
 
 extend-list-returns : (t : ℕ) → extend-list-lts.Need-returns (extend-list-cs t) (extend-list-at t) extend-list.Post
 extend-list-returns t c =
     let a = c .before .before .before .before .before .before .before .args in
-    lists-none (join (a .state .now) (a .parts .now) (a .lengths .now) (a .places .now) (a .body .now) (a .first) (a .source)) (copyWalk (join (a .state .now) (a .parts .now) (a .lengths .now) (a .places .now) (a .body .now) (a .first) (a .source)) (a .depth)) (a .write) (a .w) (a .i) (a .slot) (a .n) (a .counts .now) (a .room .now) (c .if1 .taken)
+    lists-none (join (a .plan .now) (a .parts .now) (a .lengths .now) (a .places .now) (a .body .now) (a .first) (a .source)) (copyWalk (join (a .plan .now) (a .parts .now) (a .lengths .now) (a .places .now) (a .body .now) (a .first) (a .source)) (a .depth)) (a .write) (a .w) (a .i) (a .slot) (a .n) (a .counters .now) (a .room .now) (c .if1 .taken)
 
 extend-list-add-if2 : (t : ℕ) → extend-list-lts.Need-add-if2 (extend-list-cs t) (extend-list-at t) extend-list.Post
 extend-list-add-if2 t c = search needs
@@ -500,7 +500,7 @@ extend-list-add-if2 t c = search needs
 extend-list-returns-2 : (t : ℕ) → extend-list-lts.Need-returns-2 (extend-list-cs t) (extend-list-at t) extend-list.Post
 extend-list-returns-2 t c =
     let a = c .before .before .before .before .before .before .before .before .args in
-    lists-out (join (a .state .now) (a .parts .now) (a .lengths .now) (a .places .now) (a .body .now) (a .first) (a .source)) (copyWalk (join (a .state .now) (a .parts .now) (a .lengths .now) (a .places .now) (a .body .now) (a .first) (a .source)) (a .depth)) (a .write) (a .w) (a .i) (a .slot) (a .n) (a .counts .now) (a .room .now) (c .before .if1 .left) (add-one (a .i)) (c .if2 .taken)
+    lists-out (join (a .plan .now) (a .parts .now) (a .lengths .now) (a .places .now) (a .body .now) (a .first) (a .source)) (copyWalk (join (a .plan .now) (a .parts .now) (a .lengths .now) (a .places .now) (a .body .now) (a .first) (a .source)) (a .depth)) (a .write) (a .w) (a .i) (a .slot) (a .n) (a .counters .now) (a .room .now) (c .before .if1 .left) (add-one (a .i)) (c .if2 .taken)
 
 extend-list-copy-offsets-requires : (t : ℕ) → extend-list-lts.Need-copy-offsets-requires (extend-list-cs t) (extend-list-at t) extend-list.Post
 extend-list-copy-offsets-requires t c κs = (omega arith, c .before .before .before .before .before .before .before .before .before .before .pre .1 .1)
@@ -517,7 +517,7 @@ extend-list-rows-of-requires t c κs = search needs
 extend-list-sub-size : (t : ℕ) → extend-list-lts.Need-sub-size (extend-list-cs t) (extend-list-at t) extend-list.Post
 extend-list-sub-size t c =
     let a = c .before .before .before .before .before .before .before .before .before .before .before .before .before .before .before .before .before .before .args in
-    omega (arith, lists-less (join (a .state .now) (a .parts .now) (a .lengths .now) (a .places .now) (a .body .now) (a .first) (a .source)) (copyWalk (join (a .state .now) (a .parts .now) (a .lengths .now) (a .places .now) (a .body .now) (a .first) (a .source)) (a .depth)) (a .write) (a .w) (a .i) (a .slot) (a .n) (a .counts .now) (a .room .now) (c .before .before .before .before .before .before .before .before .before .before .before .if1 .left) (add-one (a .i)) (c .before .before .before .before .before .before .before .before .before .before .if2 .left) (c .before .before .before .before .before .before .before .copy-offsets .ensures .0 (a .lengths .now) (a .source)) (c .before .before .before .before .before .before .before .copy-offsets .ensures .1 (a .lengths .now) (a .source)) (c .before .before .before .last .given .1) (c .rows-of .ensures))
+    omega (arith, lists-less (join (a .plan .now) (a .parts .now) (a .lengths .now) (a .places .now) (a .body .now) (a .first) (a .source)) (copyWalk (join (a .plan .now) (a .parts .now) (a .lengths .now) (a .places .now) (a .body .now) (a .first) (a .source)) (a .depth)) (a .write) (a .w) (a .i) (a .slot) (a .n) (a .counters .now) (a .room .now) (c .before .before .before .before .before .before .before .before .before .before .before .if1 .left) (add-one (a .i)) (c .before .before .before .before .before .before .before .before .before .before .if2 .left) (c .before .before .before .before .before .before .before .copy-offsets .ensures .0 (a .lengths .now) (a .source)) (c .before .before .before .before .before .before .before .copy-offsets .ensures .1 (a .lengths .now) (a .source)) (c .before .before .before .last .given .1) (c .rows-of .ensures))
 
 extend-list-add-extend : (t : ℕ) → extend-list-lts.Need-add-extend (extend-list-cs t) (extend-list-at t) extend-list.Post
 extend-list-add-extend t c = search needs
@@ -537,7 +537,7 @@ extend-list-same-length t c = search needs
 extend-list-returns-3 : (t : ℕ) → extend-list-lts.Need-returns-3 (extend-list-cs t) (extend-list-at t) extend-list.Post
 extend-list-returns-3 t c =
     let a = c .before .before .before .before .before .before .before .before .before .before .before .before .before .before .before .before .before .before .before .before .before .before .before .args in
-    lists-go (join (a .state .now) (a .parts .now) (a .lengths .now) (a .places .now) (a .body .now) (a .first) (a .source)) (copyWalk (join (a .state .now) (a .parts .now) (a .lengths .now) (a .places .now) (a .body .now) (a .first) (a .source)) (a .depth)) (a .write) (a .w) (a .i) (a .slot) (a .n) (a .counts .now) (a .room .now) (c .before .before .before .before .before .before .before .before .before .before .before .before .before .before .before .before .if1 .left) (add-one (a .i)) (c .before .before .before .before .before .before .before .before .before .before .before .before .before .before .before .if2 .left) (c .before .before .before .before .before .before .before .before .before .before .before .before .copy-offsets .ensures .0 (a .lengths .now) (a .source)) (c .before .before .before .before .before .before .before .before .before .before .before .before .copy-offsets .ensures .1 (a .lengths .now) (a .source)) (c .before .before .before .before .before .before .before .before .last .given .1) (c .before .before .before .before .before .rows-of .ensures) (c .before .before .extend .ensures)
+    lists-go (join (a .plan .now) (a .parts .now) (a .lengths .now) (a .places .now) (a .body .now) (a .first) (a .source)) (copyWalk (join (a .plan .now) (a .parts .now) (a .lengths .now) (a .places .now) (a .body .now) (a .first) (a .source)) (a .depth)) (a .write) (a .w) (a .i) (a .slot) (a .n) (a .counters .now) (a .room .now) (c .before .before .before .before .before .before .before .before .before .before .before .before .before .before .before .before .if1 .left) (add-one (a .i)) (c .before .before .before .before .before .before .before .before .before .before .before .before .before .before .before .if2 .left) (c .before .before .before .before .before .before .before .before .before .before .before .before .copy-offsets .ensures .0 (a .lengths .now) (a .source)) (c .before .before .before .before .before .before .before .before .before .before .before .before .copy-offsets .ensures .1 (a .lengths .now) (a .source)) (c .before .before .before .before .before .before .before .before .last .given .1) (c .before .before .before .before .before .rows-of .ensures) (c .before .before .extend .ensures)
 
 extend-list-same-length-2 : (t : ℕ) → extend-list-lts.Need-same-length-2 (extend-list-cs t) (extend-list-at t) extend-list.Post
 extend-list-same-length-2 t c = search needs
@@ -545,7 +545,7 @@ extend-list-same-length-2 t c = search needs
 extend-list-returns-4 : (t : ℕ) → extend-list-lts.Need-returns-4 (extend-list-cs t) (extend-list-at t) extend-list.Post
 extend-list-returns-4 t c =
     let a = c .before .before .before .before .before .before .before .before .before .before .before .before .before .before .before .args in
-    lists-over (join (a .state .now) (a .parts .now) (a .lengths .now) (a .places .now) (a .body .now) (a .first) (a .source)) (copyWalk (join (a .state .now) (a .parts .now) (a .lengths .now) (a .places .now) (a .body .now) (a .first) (a .source)) (a .depth)) (a .write) (a .w) (a .i) (a .slot) (a .n) (a .counts .now) (a .room .now) (c .before .before .before .before .before .before .before .before .if1 .left) (add-one (a .i)) (c .before .before .before .before .before .before .before .if2 .left) (c .before .before .before .before .copy-offsets .ensures .0 (a .lengths .now) (a .source)) (c .before .before .before .before .copy-offsets .ensures .1 (a .lengths .now) (a .source)) (c .enum-told .given .1)
+    lists-over (join (a .plan .now) (a .parts .now) (a .lengths .now) (a .places .now) (a .body .now) (a .first) (a .source)) (copyWalk (join (a .plan .now) (a .parts .now) (a .lengths .now) (a .places .now) (a .body .now) (a .first) (a .source)) (a .depth)) (a .write) (a .w) (a .i) (a .slot) (a .n) (a .counters .now) (a .room .now) (c .before .before .before .before .before .before .before .before .if1 .left) (add-one (a .i)) (c .before .before .before .before .before .before .before .if2 .left) (c .before .before .before .before .copy-offsets .ensures .0 (a .lengths .now) (a .source)) (c .before .before .before .before .copy-offsets .ensures .1 (a .lengths .now) (a .source)) (c .enum-told .given .1)
 
 extend-list-same-length-3 : (t : ℕ) → extend-list-lts.Need-same-length-3 (extend-list-cs t) (extend-list-at t) extend-list.Post
 extend-list-same-length-3 t c = search needs
@@ -553,7 +553,7 @@ extend-list-same-length-3 t c = search needs
 extend-list-returns-5 : (t : ℕ) → extend-list-lts.Need-returns-5 (extend-list-cs t) (extend-list-at t) extend-list.Post
 extend-list-returns-5 t c =
     let a = c .before .before .before .before .before .before .before .before .before .before .before .before .before .before .before .args in
-    lists-fall (join (a .state .now) (a .parts .now) (a .lengths .now) (a .places .now) (a .body .now) (a .first) (a .source)) (copyWalk (join (a .state .now) (a .parts .now) (a .lengths .now) (a .places .now) (a .body .now) (a .first) (a .source)) (a .depth)) (a .write) (a .w) (a .i) (a .slot) (a .n) (a .counts .now) (a .room .now) (c .before .before .before .before .before .before .before .before .if1 .left) (add-one (a .i)) (c .before .before .before .before .before .before .before .if2 .left) (c .before .before .before .before .copy-offsets .ensures .0 (a .lengths .now) (a .source)) (c .before .before .before .before .copy-offsets .ensures .1 (a .lengths .now) (a .source)) (c .enum-told2 .given .1)
+    lists-fall (join (a .plan .now) (a .parts .now) (a .lengths .now) (a .places .now) (a .body .now) (a .first) (a .source)) (copyWalk (join (a .plan .now) (a .parts .now) (a .lengths .now) (a .places .now) (a .body .now) (a .first) (a .source)) (a .depth)) (a .write) (a .w) (a .i) (a .slot) (a .n) (a .counters .now) (a .room .now) (c .before .before .before .before .before .before .before .before .if1 .left) (add-one (a .i)) (c .before .before .before .before .before .before .before .if2 .left) (c .before .before .before .before .copy-offsets .ensures .0 (a .lengths .now) (a .source)) (c .before .before .before .before .copy-offsets .ensures .1 (a .lengths .now) (a .source)) (c .enum-told2 .given .1)
 
 extend-list-row-add-place : (t : ℕ) → extend-list-row-lts.Need-add-place (extend-list-row-cs t) (extend-list-row-at t) extend-list-row.Post
 extend-list-row-add-place t c = search needs
@@ -588,7 +588,7 @@ extend-list-row-same-length t c = search needs
 extend-list-row-returns : (t : ℕ) → extend-list-row-lts.Need-returns (extend-list-row-cs t) (extend-list-row-at t) extend-list-row.Post
 extend-list-row-returns t c =
     let a = c .before .before .before .before .before .before .before .before .before .before .before .before .before .before .before .before .args in
-    list-stop (join (a .state .now) (a .parts .now) (a .lengths .now) (a .places .now) (a .body .now) (a .first) (a .source)) (copyWalk (join (a .state .now) (a .parts .now) (a .lengths .now) (a .places .now) (a .body .now) (a .first) (a .source)) (a .depth)) (a .write) (a .w) (a .i) (a .slot) (a .counts .now) (a .room .now) (a .r) (c .before .before .before .before .before .before .before .place2 .ensures) (c .before .before .before .before .before .before .entry-at2 .ensures) (c .before .before .before .list-numbers .ensures) (c .if1 .taken)
+    list-stop (join (a .plan .now) (a .parts .now) (a .lengths .now) (a .places .now) (a .body .now) (a .first) (a .source)) (copyWalk (join (a .plan .now) (a .parts .now) (a .lengths .now) (a .places .now) (a .body .now) (a .first) (a .source)) (a .depth)) (a .write) (a .w) (a .i) (a .slot) (a .counters .now) (a .room .now) (a .r) (c .before .before .before .before .before .before .before .place2 .ensures) (c .before .before .before .before .before .before .entry-at2 .ensures) (c .before .before .before .list-numbers .ensures) (c .if1 .taken)
 
 extend-list-row-add-extend : (t : ℕ) → extend-list-row-lts.Need-add-extend (extend-list-row-cs t) (extend-list-row-at t) extend-list-row.Post
 extend-list-row-add-extend t c = search needs
@@ -602,13 +602,13 @@ extend-list-row-same-length-2 t c = search needs
 extend-list-row-returns-2 : (t : ℕ) → extend-list-row-lts.Need-returns-2 (extend-list-row-cs t) (extend-list-row-at t) extend-list-row.Post
 extend-list-row-returns-2 t c =
     let a = c .before .before .before .before .before .before .before .before .before .before .before .before .before .before .before .before .before .before .before .before .before .args in
-    list-go (join (a .state .now) (a .parts .now) (a .lengths .now) (a .places .now) (a .body .now) (a .first) (a .source)) (copyWalk (join (a .state .now) (a .parts .now) (a .lengths .now) (a .places .now) (a .body .now) (a .first) (a .source)) (a .depth)) (a .write) (a .w) (a .i) (a .slot) (a .counts .now) (a .room .now) (a .r) (c .before .before .before .before .before .before .before .before .before .before .before .before .place2 .ensures) (c .before .before .before .before .before .before .before .before .before .before .before .entry-at2 .ensures) (c .before .before .before .before .before .before .before .before .list-numbers .ensures) (c .before .before .before .before .before .if1 .left) (c .before .before .before .before .before .before .before .before .before .before .before .before .before .before .place .ensures) (c .before .before .before .before .before .before .before .before .before .before .before .before .before .entry-at .ensures) (add-one (a .i)) (c .before .before .extend .ensures)
+    list-go (join (a .plan .now) (a .parts .now) (a .lengths .now) (a .places .now) (a .body .now) (a .first) (a .source)) (copyWalk (join (a .plan .now) (a .parts .now) (a .lengths .now) (a .places .now) (a .body .now) (a .first) (a .source)) (a .depth)) (a .write) (a .w) (a .i) (a .slot) (a .counters .now) (a .room .now) (a .r) (c .before .before .before .before .before .before .before .before .before .before .before .before .place2 .ensures) (c .before .before .before .before .before .before .before .before .before .before .before .entry-at2 .ensures) (c .before .before .before .before .before .before .before .before .list-numbers .ensures) (c .before .before .before .before .before .if1 .left) (c .before .before .before .before .before .before .before .before .before .before .before .before .before .before .place .ensures) (c .before .before .before .before .before .before .before .before .before .before .before .before .before .entry-at .ensures) (add-one (a .i)) (c .before .before .extend .ensures)
 
 abbrev extend-list-view-Inv-loop : extend-list-view-lts.InvT-loop
-extend-list-view-Inv-loop state parts lengths places body counts₀ room₀ write source first i w slot n depth r₀ counts room r = (r ≤ n) × (length room ≡ length room₀) × Rest state parts write (each (listViewRow (join state parts lengths places body first source) (copyWalk (join state parts lengths places body first source) depth) w i slot) n 0 counts₀) room₀ (each (listViewRow (join state parts lengths places body first source) (copyWalk (join state parts lengths places body first source) depth) w i slot) (n - r) r counts) room
+extend-list-view-Inv-loop plan parts lengths places body counters₀ room₀ write source first i w slot n depth r₀ counters room r = (r ≤ n) × (length room ≡ length room₀) × Rest plan parts write (each (listViewRow (join plan parts lengths places body first source) (copyWalk (join plan parts lengths places body first source) depth) w i slot) n 0 counters₀) room₀ (each (listViewRow (join plan parts lengths places body first source) (copyWalk (join plan parts lengths places body first source) depth) w i slot) (n - r) r counters) room
 
 abbrev extend-list-view-μ-loop : extend-list-view-lts.MeasureT-loop
-extend-list-view-μ-loop state parts lengths places body counts₀ room₀ write source first i w slot n depth r₀ counts room r = n - r
+extend-list-view-μ-loop plan parts lengths places body counters₀ room₀ write source first i w slot n depth r₀ counters room r = n - r
 
 extend-list-view-add-if1 : (t : ℕ) → extend-list-view-lts.Need-add-if1 (extend-list-view-cs t) (extend-list-view-at t) extend-list-view.Post extend-list-view-Inv-loop extend-list-view-μ-loop
 extend-list-view-add-if1 t c = search needs
@@ -616,7 +616,7 @@ extend-list-view-add-if1 t c = search needs
 extend-list-view-returns : (t : ℕ) → extend-list-view-lts.Need-returns (extend-list-view-cs t) (extend-list-view-at t) extend-list-view.Post extend-list-view-Inv-loop extend-list-view-μ-loop
 extend-list-view-returns t c =
     let a = c .before .before .before .before .before .before .before .args in
-    list-out (join (a .state .now) (a .parts .now) (a .lengths .now) (a .places .now) (a .body .now) (a .first) (a .source)) (copyWalk (join (a .state .now) (a .parts .now) (a .lengths .now) (a .places .now) (a .body .now) (a .first) (a .source)) (a .depth)) (a .write) (a .w) (a .i) (a .slot) (a .counts .now) (a .room .now) (a .n) (add-one (a .i)) (c .if1 .taken)
+    list-out (join (a .plan .now) (a .parts .now) (a .lengths .now) (a .places .now) (a .body .now) (a .first) (a .source)) (copyWalk (join (a .plan .now) (a .parts .now) (a .lengths .now) (a .places .now) (a .body .now) (a .first) (a .source)) (a .depth)) (a .write) (a .w) (a .i) (a .slot) (a .counters .now) (a .room .now) (a .n) (add-one (a .i)) (c .if1 .taken)
 
 extend-list-view-pairs-in-requires : (t : ℕ) → extend-list-view-lts.Need-pairs-in-requires (extend-list-view-cs t) (extend-list-view-at t) extend-list-view.Post extend-list-view-Inv-loop extend-list-view-μ-loop
 extend-list-view-pairs-in-requires t c κs = omega (arith, width-in (c .before .before .before .before .before .before .before .args .w) (λ p q. c .before .before .before .before .before .before .before .pre .1 .1))
@@ -624,7 +624,7 @@ extend-list-view-pairs-in-requires t c κs = omega (arith, width-in (c .before .
 extend-list-view-returns-2 : (t : ℕ) → extend-list-view-lts.Need-returns-2 (extend-list-view-cs t) (extend-list-view-at t) extend-list-view.Post extend-list-view-Inv-loop extend-list-view-μ-loop
 extend-list-view-returns-2 t c =
     let a = c .before .before .before .before .before .before .before .before .before .args in
-    list-short (join (a .state .now) (a .parts .now) (a .lengths .now) (a .places .now) (a .body .now) (a .first) (a .source)) (copyWalk (join (a .state .now) (a .parts .now) (a .lengths .now) (a .places .now) (a .body .now) (a .first) (a .source)) (a .depth)) (a .write) (a .w) (a .i) (a .slot) (a .counts .now) (a .room .now) (a .n) (add-one (a .i)) (c .before .before .if1 .left) (c .before .pairs-in .ensures (a .state .now) (a .parts .now) (a .lengths .now) (a .source)) (c .if2 .taken)
+    list-short (join (a .plan .now) (a .parts .now) (a .lengths .now) (a .places .now) (a .body .now) (a .first) (a .source)) (copyWalk (join (a .plan .now) (a .parts .now) (a .lengths .now) (a .places .now) (a .body .now) (a .first) (a .source)) (a .depth)) (a .write) (a .w) (a .i) (a .slot) (a .counters .now) (a .room .now) (a .n) (add-one (a .i)) (c .before .before .if1 .left) (c .before .pairs-in .ensures (a .plan .now) (a .parts .now) (a .lengths .now) (a .source)) (c .if2 .taken)
 
 extend-list-view-loop-holds : (t : ℕ) → extend-list-view-lts.Need-loop-holds (extend-list-view-cs t) (extend-list-view-at t) extend-list-view.Post extend-list-view-Inv-loop extend-list-view-μ-loop
 extend-list-view-loop-holds t c = (search needs, search needs, λ g c2 room2. simp sub-zero (λ d. d))
@@ -633,7 +633,7 @@ extend-list-view-extend-list-row-requires : (t : ℕ) → extend-list-view-lts.N
 extend-list-view-extend-list-row-requires t c κs =
     let a = c .before .before .before .before .before .before .before .before .before .before .before .before .before .args in
     let l = c .before .before .before .loop in
-    (omega arith, (omega arith, (c .before .before .before .before .before .before .before .before .before .before .before .before .before .pre .1 .1, pairs-row (join (a .state .now) (a .parts .now) (a .lengths .now) (a .places .now) (a .body .now) (a .first) (a .source)) (place (join (a .state .now) (a .parts .now) (a .lengths .now) (a .places .now) (a .body .now) (a .first) (a .source)) (a .i) 3) (place (join (a .state .now) (a .parts .now) (a .lengths .now) (a .places .now) (a .body .now) (a .first) (a .source)) (a .i) 5) (a .w) (a .w) (a .slot) (a .n) (l .r) (c .before .before .before .before .before .pairs-in .ensures (a .state .now) (a .parts .now) (a .lengths .now) (a .source)) (c .before .before .before .before .if2 .left) (omega arith))))
+    (omega arith, (omega arith, (c .before .before .before .before .before .before .before .before .before .before .before .before .before .pre .1 .1, pairs-row (join (a .plan .now) (a .parts .now) (a .lengths .now) (a .places .now) (a .body .now) (a .first) (a .source)) (place (join (a .plan .now) (a .parts .now) (a .lengths .now) (a .places .now) (a .body .now) (a .first) (a .source)) (a .i) 3) (place (join (a .plan .now) (a .parts .now) (a .lengths .now) (a .places .now) (a .body .now) (a .first) (a .source)) (a .i) 5) (a .w) (a .w) (a .slot) (a .n) (l .r) (c .before .before .before .before .before .pairs-in .ensures (a .plan .now) (a .parts .now) (a .lengths .now) (a .source)) (c .before .before .before .before .if2 .left) (omega arith))))
 
 extend-list-view-same-length : (t : ℕ) → extend-list-view-lts.Need-same-length (extend-list-view-cs t) (extend-list-view-at t) extend-list-view.Post extend-list-view-Inv-loop extend-list-view-μ-loop
 extend-list-view-same-length t c = search needs
@@ -642,7 +642,7 @@ extend-list-view-returns-3 : (t : ℕ) → extend-list-view-lts.Need-returns-3 (
 extend-list-view-returns-3 t c =
     let a = c .before .before .before .before .before .before .before .before .before .before .before .before .before .before .before .before .before .args in
     let l = c .before .before .before .before .before .before .before .loop in
-    list-rows (join (a .state .now) (a .parts .now) (a .lengths .now) (a .places .now) (a .body .now) (a .first) (a .source)) (copyWalk (join (a .state .now) (a .parts .now) (a .lengths .now) (a .places .now) (a .body .now) (a .first) (a .source)) (a .depth)) (a .write) (a .w) (a .i) (a .slot) (a .counts .now) (a .room .now) (a .n) (add-one (a .i)) (c .before .before .before .before .before .before .before .before .before .before .if1 .left) (c .before .before .before .before .before .before .before .before .before .pairs-in .ensures (a .state .now) (a .parts .now) (a .lengths .now) (a .source)) (c .before .before .before .before .before .before .before .before .if2 .left) (l .inv .2 _ _ _ (each-stop _ _ (a .n - l .r) (a .n - (l .r + 1)) _ _ _ (omega arith) (c .before .before .before .extend-list-row .ensures) (c .if3 .taken)))
+    list-rows (join (a .plan .now) (a .parts .now) (a .lengths .now) (a .places .now) (a .body .now) (a .first) (a .source)) (copyWalk (join (a .plan .now) (a .parts .now) (a .lengths .now) (a .places .now) (a .body .now) (a .first) (a .source)) (a .depth)) (a .write) (a .w) (a .i) (a .slot) (a .counters .now) (a .room .now) (a .n) (add-one (a .i)) (c .before .before .before .before .before .before .before .before .before .before .if1 .left) (c .before .before .before .before .before .before .before .before .before .pairs-in .ensures (a .plan .now) (a .parts .now) (a .lengths .now) (a .source)) (c .before .before .before .before .before .before .before .before .if2 .left) (l .inv .2 _ _ _ (each-stop _ _ (a .n - l .r) (a .n - (l .r + 1)) _ _ _ (omega arith) (c .before .before .before .extend-list-row .ensures) (c .if3 .taken)))
 
 extend-list-view-add-r : (t : ℕ) → extend-list-view-lts.Need-add-r (extend-list-view-cs t) (extend-list-view-at t) extend-list-view.Post extend-list-view-Inv-loop extend-list-view-μ-loop
 extend-list-view-add-r t c = search needs
@@ -663,7 +663,7 @@ extend-list-view-returns-4 : (t : ℕ) → extend-list-view-lts.Need-returns-4 (
 extend-list-view-returns-4 t c =
     let a = c .before .before .before .before .before .before .before .before .before .before .before .args in
     let l = c .before .loop in
-    list-rows (join (a .state .now) (a .parts .now) (a .lengths .now) (a .places .now) (a .body .now) (a .first) (a .source)) (copyWalk (join (a .state .now) (a .parts .now) (a .lengths .now) (a .places .now) (a .body .now) (a .first) (a .source)) (a .depth)) (a .write) (a .w) (a .i) (a .slot) (a .counts .now) (a .room .now) (a .n) (add-one (a .i)) (c .before .before .before .before .if1 .left) (c .before .before .before .pairs-in .ensures (a .state .now) (a .parts .now) (a .lengths .now) (a .source)) (c .before .before .if2 .left) (l .inv .2 _ _ _ (each-none _ _ (a .n - l .r) _ _ _ (omega arith)))
+    list-rows (join (a .plan .now) (a .parts .now) (a .lengths .now) (a .places .now) (a .body .now) (a .first) (a .source)) (copyWalk (join (a .plan .now) (a .parts .now) (a .lengths .now) (a .places .now) (a .body .now) (a .first) (a .source)) (a .depth)) (a .write) (a .w) (a .i) (a .slot) (a .counters .now) (a .room .now) (a .n) (add-one (a .i)) (c .before .before .before .before .if1 .left) (c .before .before .before .pairs-in .ensures (a .plan .now) (a .parts .now) (a .lengths .now) (a .source)) (c .before .before .if2 .left) (l .inv .2 _ _ _ (each-none _ _ (a .n - l .r) _ _ _ (omega arith)))
 
 extend-listed-width-at-requires : (t : ℕ) → extend-listed-lts.Need-width-at-requires (extend-listed-cs t) (extend-listed-at t) extend-listed.Post
 extend-listed-width-at-requires t c κs = search needs
@@ -677,7 +677,7 @@ extend-listed-is-list-requires t c κs = search needs
 extend-listed-extend-list-requires : (t : ℕ) → extend-listed-lts.Need-extend-list-requires (extend-listed-cs t) (extend-listed-at t) extend-listed.Post
 extend-listed-extend-list-requires t c κs =
     let a = c .before .before .before .before .before .before .before .before .before .before .before .before .args in
-    (omega arith, (search needs, list-wide (a .state .now) (a .i) (c .before .before .before .before .code-of .ensures) (c .before .before .before .is-list .ensures) (c .before .before .before .before .before .width-at .ensures) (c .before .before .if1 .taken)))
+    (omega arith, (search needs, list-wide (a .plan .now) (a .i) (c .before .before .before .before .code-of .ensures) (c .before .before .before .is-list .ensures) (c .before .before .before .before .before .width-at .ensures) (c .before .before .if1 .taken)))
 
 extend-listed-same-length : (t : ℕ) → extend-listed-lts.Need-same-length (extend-listed-cs t) (extend-listed-at t) extend-listed.Post
 extend-listed-same-length t c = search needs
@@ -685,12 +685,12 @@ extend-listed-same-length t c = search needs
 extend-listed-returns : (t : ℕ) → extend-listed-lts.Need-returns (extend-listed-cs t) (extend-listed-at t) extend-listed.Post
 extend-listed-returns t c =
     let a = c .before .before .before .before .before .before .before .before .before .before .before .before .before .before .before .args in
-    to-list (join (a .state .now) (a .parts .now) (a .lengths .now) (a .places .now) (a .body .now) (a .first) (a .source)) (copyWalk (join (a .state .now) (a .parts .now) (a .lengths .now) (a .places .now) (a .body .now) (a .first) (a .source)) (a .depth)) (a .write) (a .i) (a .slot) (a .n) (a .counts .now) (a .room .now) (c .before .before .before .before .before .before .before .code-of .ensures) (c .before .before .before .before .before .before .is-list .ensures) (c .before .before .before .before .before .before .before .before .width-at .ensures) (c .before .before .before .before .before .if1 .taken) (c .before .before .extend-list .ensures)
+    to-list (join (a .plan .now) (a .parts .now) (a .lengths .now) (a .places .now) (a .body .now) (a .first) (a .source)) (copyWalk (join (a .plan .now) (a .parts .now) (a .lengths .now) (a .places .now) (a .body .now) (a .first) (a .source)) (a .depth)) (a .write) (a .i) (a .slot) (a .n) (a .counters .now) (a .room .now) (c .before .before .before .before .before .before .before .code-of .ensures) (c .before .before .before .before .before .before .is-list .ensures) (c .before .before .before .before .before .before .before .before .width-at .ensures) (c .before .before .before .before .before .if1 .taken) (c .before .before .extend-list .ensures)
 
 extend-listed-extend-list-view-requires : (t : ℕ) → extend-listed-lts.Need-extend-list-view-requires (extend-listed-cs t) (extend-listed-at t) extend-listed.Post
 extend-listed-extend-list-view-requires t c κs =
     let a = c .before .before .before .before .before .before .before .before .before .before .before .before .args in
-    (omega arith, (search needs, view-wide (a .state .now) (a .i) (c .before .before .before .before .code-of .ensures) (c .before .before .before .is-list .ensures) (c .before .before .before .before .before .width-at .ensures) (c .before .before .before .before .before .before .before .before .before .before .before .before .pre .1 .1) (c .before .before .if1 .left)))
+    (omega arith, (search needs, view-wide (a .plan .now) (a .i) (c .before .before .before .before .code-of .ensures) (c .before .before .before .is-list .ensures) (c .before .before .before .before .before .width-at .ensures) (c .before .before .before .before .before .before .before .before .before .before .before .before .pre .1 .1) (c .before .before .if1 .left)))
 
 extend-listed-same-length-2 : (t : ℕ) → extend-listed-lts.Need-same-length-2 (extend-listed-cs t) (extend-listed-at t) extend-listed.Post
 extend-listed-same-length-2 t c = search needs
@@ -698,12 +698,12 @@ extend-listed-same-length-2 t c = search needs
 extend-listed-returns-2 : (t : ℕ) → extend-listed-lts.Need-returns-2 (extend-listed-cs t) (extend-listed-at t) extend-listed.Post
 extend-listed-returns-2 t c =
     let a = c .before .before .before .before .before .before .before .before .before .before .before .before .before .before .before .args in
-    to-list-view (join (a .state .now) (a .parts .now) (a .lengths .now) (a .places .now) (a .body .now) (a .first) (a .source)) (copyWalk (join (a .state .now) (a .parts .now) (a .lengths .now) (a .places .now) (a .body .now) (a .first) (a .source)) (a .depth)) (a .write) (a .i) (a .slot) (a .n) (a .counts .now) (a .room .now) (c .before .before .before .before .before .before .before .code-of .ensures) (c .before .before .before .before .before .before .is-list .ensures) (c .before .before .before .before .before .before .before .before .width-at .ensures) (c .before .before .before .before .before .before .before .before .before .before .before .before .before .before .before .pre .1 .1) (c .before .before .before .before .before .if1 .left) (c .before .before .extend-list-view .ensures)
+    to-list-view (join (a .plan .now) (a .parts .now) (a .lengths .now) (a .places .now) (a .body .now) (a .first) (a .source)) (copyWalk (join (a .plan .now) (a .parts .now) (a .lengths .now) (a .places .now) (a .body .now) (a .first) (a .source)) (a .depth)) (a .write) (a .i) (a .slot) (a .n) (a .counters .now) (a .room .now) (c .before .before .before .before .before .before .before .code-of .ensures) (c .before .before .before .before .before .before .is-list .ensures) (c .before .before .before .before .before .before .before .before .width-at .ensures) (c .before .before .before .before .before .before .before .before .before .before .before .before .before .before .before .pre .1 .1) (c .before .before .before .before .before .if1 .left) (c .before .before .extend-list-view .ensures)
 
 extend-run-returns : (t : ℕ) → extend-run-lts.Need-returns (extend-run-cs t) (extend-run-at t) extend-run.Post
 extend-run-returns t c =
     let a = c .before .before .before .before .before .before .before .args in
-    runs-none (join (a .state .now) (a .parts .now) (a .lengths .now) (a .places .now) (a .body .now) (a .first) (a .source)) (copyWalk (join (a .state .now) (a .parts .now) (a .lengths .now) (a .places .now) (a .body .now) (a .first) (a .source)) (a .depth)) (a .write) (a .i) (a .slot) (a .n) (a .counts .now) (a .room .now) (c .if1 .taken)
+    runs-none (join (a .plan .now) (a .parts .now) (a .lengths .now) (a .places .now) (a .body .now) (a .first) (a .source)) (copyWalk (join (a .plan .now) (a .parts .now) (a .lengths .now) (a .places .now) (a .body .now) (a .first) (a .source)) (a .depth)) (a .write) (a .i) (a .slot) (a .n) (a .counters .now) (a .room .now) (c .if1 .taken)
 
 extend-run-runs-ready-requires : (t : ℕ) → extend-run-lts.Need-runs-ready-requires (extend-run-cs t) (extend-run-at t) extend-run.Post
 extend-run-runs-ready-requires t c κs = search needs
@@ -711,7 +711,7 @@ extend-run-runs-ready-requires t c κs = search needs
 extend-run-returns-2 : (t : ℕ) → extend-run-lts.Need-returns-2 (extend-run-cs t) (extend-run-at t) extend-run.Post
 extend-run-returns-2 t c =
     let a = c .before .before .before .before .before .before .before .before .before .before .args in
-    runs-stop (join (a .state .now) (a .parts .now) (a .lengths .now) (a .places .now) (a .body .now) (a .first) (a .source)) (copyWalk (join (a .state .now) (a .parts .now) (a .lengths .now) (a .places .now) (a .body .now) (a .first) (a .source)) (a .depth)) (a .write) (a .i) (a .slot) (a .n) (a .counts .now) (a .room .now) (c .before .before .before .if1 .left) (c .before .runs-ready .ensures (a .parts .now) (a .room .now) (a .source) (a .write)) (c .if2 .taken)
+    runs-stop (join (a .plan .now) (a .parts .now) (a .lengths .now) (a .places .now) (a .body .now) (a .first) (a .source)) (copyWalk (join (a .plan .now) (a .parts .now) (a .lengths .now) (a .places .now) (a .body .now) (a .first) (a .source)) (a .depth)) (a .write) (a .i) (a .slot) (a .n) (a .counters .now) (a .room .now) (c .before .before .before .if1 .left) (c .before .runs-ready .ensures (a .parts .now) (a .room .now) (a .source) (a .write)) (c .if2 .taken)
 
 extend-run-add-width-at : (t : ℕ) → extend-run-lts.Need-add-width-at (extend-run-cs t) (extend-run-at t) extend-run.Post
 extend-run-add-width-at t c = omega arith
@@ -719,7 +719,7 @@ extend-run-add-width-at t c = omega arith
 extend-run-width-at-requires : (t : ℕ) → extend-run-lts.Need-width-at-requires (extend-run-cs t) (extend-run-at t) extend-run.Post
 extend-run-width-at-requires t c κs =
     let a = c .before .before .before .before .before .before .before .before .before .before .args in
-    omega (arith, (runs-ready (join (a .state .now) (a .parts .now) (a .lengths .now) (a .places .now) (a .body .now) (a .first) (a .source)) (copyWalk (join (a .state .now) (a .parts .now) (a .lengths .now) (a .places .now) (a .body .now) (a .first) (a .source)) (a .depth)) (a .write) (a .i) (a .slot) (a .n) (a .counts .now) (a .room .now) (c .before .before .before .if1 .left) (c .before .runs-ready .ensures (a .parts .now) (a .room .now) (a .source) (a .write)) (c .if2 .left)) .low)
+    omega (arith, (runs-ready (join (a .plan .now) (a .parts .now) (a .lengths .now) (a .places .now) (a .body .now) (a .first) (a .source)) (copyWalk (join (a .plan .now) (a .parts .now) (a .lengths .now) (a .places .now) (a .body .now) (a .first) (a .source)) (a .depth)) (a .write) (a .i) (a .slot) (a .n) (a .counters .now) (a .room .now) (c .before .before .before .if1 .left) (c .before .runs-ready .ensures (a .parts .now) (a .room .now) (a .source) (a .write)) (c .if2 .left)) .low)
 
 extend-run-rows-of-requires : (t : ℕ) → extend-run-lts.Need-rows-of-requires (extend-run-cs t) (extend-run-at t) extend-run.Post
 extend-run-rows-of-requires t c κs = search needs
@@ -727,7 +727,7 @@ extend-run-rows-of-requires t c κs = search needs
 extend-run-runs-at-requires : (t : ℕ) → extend-run-lts.Need-runs-at-requires (extend-run-cs t) (extend-run-at t) extend-run.Post
 extend-run-runs-at-requires t c κs =
     let a = c .before .before .before .before .before .before .before .before .before .before .before .before .before .args in
-    (omega (arith, (runs-ready (join (a .state .now) (a .parts .now) (a .lengths .now) (a .places .now) (a .body .now) (a .first) (a .source)) (copyWalk (join (a .state .now) (a .parts .now) (a .lengths .now) (a .places .now) (a .body .now) (a .first) (a .source)) (a .depth)) (a .write) (a .i) (a .slot) (a .n) (a .counts .now) (a .room .now) (c .before .before .before .before .before .before .if1 .left) (c .before .before .before .before .runs-ready .ensures (a .parts .now) (a .room .now) (a .source) (a .write)) (c .before .before .before .if2 .left)) .low), (runs-wide (join (a .state .now) (a .parts .now) (a .lengths .now) (a .places .now) (a .body .now) (a .first) (a .source)) (a .i) (a .n) (a .counts .now) (add-one (a .i)) (c .before .before .width-at .ensures) (runs-ready (join (a .state .now) (a .parts .now) (a .lengths .now) (a .places .now) (a .body .now) (a .first) (a .source)) (copyWalk (join (a .state .now) (a .parts .now) (a .lengths .now) (a .places .now) (a .body .now) (a .first) (a .source)) (a .depth)) (a .write) (a .i) (a .slot) (a .n) (a .counts .now) (a .room .now) (c .before .before .before .before .before .before .if1 .left) (c .before .before .before .before .runs-ready .ensures (a .parts .now) (a .room .now) (a .source) (a .write)) (c .before .before .before .if2 .left)), runs-inside (join (a .state .now) (a .parts .now) (a .lengths .now) (a .places .now) (a .body .now) (a .first) (a .source)) (a .i) (a .n) (a .counts .now) (add-one (a .i)) (c .before .before .width-at .ensures) (runs-ready (join (a .state .now) (a .parts .now) (a .lengths .now) (a .places .now) (a .body .now) (a .first) (a .source)) (copyWalk (join (a .state .now) (a .parts .now) (a .lengths .now) (a .places .now) (a .body .now) (a .first) (a .source)) (a .depth)) (a .write) (a .i) (a .slot) (a .n) (a .counts .now) (a .room .now) (c .before .before .before .before .before .before .if1 .left) (c .before .before .before .before .runs-ready .ensures (a .parts .now) (a .room .now) (a .source) (a .write)) (c .before .before .before .if2 .left))))
+    (omega (arith, (runs-ready (join (a .plan .now) (a .parts .now) (a .lengths .now) (a .places .now) (a .body .now) (a .first) (a .source)) (copyWalk (join (a .plan .now) (a .parts .now) (a .lengths .now) (a .places .now) (a .body .now) (a .first) (a .source)) (a .depth)) (a .write) (a .i) (a .slot) (a .n) (a .counters .now) (a .room .now) (c .before .before .before .before .before .before .if1 .left) (c .before .before .before .before .runs-ready .ensures (a .parts .now) (a .room .now) (a .source) (a .write)) (c .before .before .before .if2 .left)) .low), (runs-wide (join (a .plan .now) (a .parts .now) (a .lengths .now) (a .places .now) (a .body .now) (a .first) (a .source)) (a .i) (a .n) (a .counters .now) (add-one (a .i)) (c .before .before .width-at .ensures) (runs-ready (join (a .plan .now) (a .parts .now) (a .lengths .now) (a .places .now) (a .body .now) (a .first) (a .source)) (copyWalk (join (a .plan .now) (a .parts .now) (a .lengths .now) (a .places .now) (a .body .now) (a .first) (a .source)) (a .depth)) (a .write) (a .i) (a .slot) (a .n) (a .counters .now) (a .room .now) (c .before .before .before .before .before .before .if1 .left) (c .before .before .before .before .runs-ready .ensures (a .parts .now) (a .room .now) (a .source) (a .write)) (c .before .before .before .if2 .left)), runs-inside (join (a .plan .now) (a .parts .now) (a .lengths .now) (a .places .now) (a .body .now) (a .first) (a .source)) (a .i) (a .n) (a .counters .now) (add-one (a .i)) (c .before .before .width-at .ensures) (runs-ready (join (a .plan .now) (a .parts .now) (a .lengths .now) (a .places .now) (a .body .now) (a .first) (a .source)) (copyWalk (join (a .plan .now) (a .parts .now) (a .lengths .now) (a .places .now) (a .body .now) (a .first) (a .source)) (a .depth)) (a .write) (a .i) (a .slot) (a .n) (a .counters .now) (a .room .now) (c .before .before .before .before .before .before .if1 .left) (c .before .before .before .before .runs-ready .ensures (a .parts .now) (a .room .now) (a .source) (a .write)) (c .before .before .before .if2 .left))))
 
 extend-run-enum-known-run : (t : ℕ) → extend-run-lts.Need-enum-known-run (extend-run-cs t) (extend-run-at t) extend-run.Post
 extend-run-enum-known-run t c = search needs
@@ -744,12 +744,12 @@ extend-run-same-length t c = search needs
 extend-run-returns-3 : (t : ℕ) → extend-run-lts.Need-returns-3 (extend-run-cs t) (extend-run-at t) extend-run.Post
 extend-run-returns-3 t c =
     let a = c .before .before .before .before .before .before .before .before .before .before .before .before .before .before .before .before .before .before .before .before .before .before .before .args in
-    runs-values (join (a .state .now) (a .parts .now) (a .lengths .now) (a .places .now) (a .body .now) (a .first) (a .source)) (copyWalk (join (a .state .now) (a .parts .now) (a .lengths .now) (a .places .now) (a .body .now) (a .first) (a .source)) (a .depth)) (a .write) (a .i) (a .slot) (a .n) (a .counts .now) (a .room .now) (c .before .before .before .before .before .before .before .before .before .before .before .before .before .before .before .before .if1 .left) (c .before .before .before .before .before .before .before .before .before .before .before .before .before .before .runs-ready .ensures (a .parts .now) (a .room .now) (a .source) (a .write)) (c .before .before .before .before .before .before .before .before .before .before .before .before .before .if2 .left) (add-one (a .i)) (c .before .before .before .before .before .before .before .before .before .before .before .before .width-at .ensures) (c .before .before .before .before .before .before .before .before .before .runs-at .ensures (a .state .now) (a .parts .now) (a .source) (copyWalk (join (a .state .now) (a .parts .now) (a .lengths .now) (a .places .now) (a .body .now) (a .first) (a .source)) (a .depth))) (c .before .before .before .before .before .before .before .run .given .1) (add-two (a .i)) (c .before .before .before .extend .ensures) (c .if3 .taken)
+    runs-values (join (a .plan .now) (a .parts .now) (a .lengths .now) (a .places .now) (a .body .now) (a .first) (a .source)) (copyWalk (join (a .plan .now) (a .parts .now) (a .lengths .now) (a .places .now) (a .body .now) (a .first) (a .source)) (a .depth)) (a .write) (a .i) (a .slot) (a .n) (a .counters .now) (a .room .now) (c .before .before .before .before .before .before .before .before .before .before .before .before .before .before .before .before .if1 .left) (c .before .before .before .before .before .before .before .before .before .before .before .before .before .before .runs-ready .ensures (a .parts .now) (a .room .now) (a .source) (a .write)) (c .before .before .before .before .before .before .before .before .before .before .before .before .before .if2 .left) (add-one (a .i)) (c .before .before .before .before .before .before .before .before .before .before .before .before .width-at .ensures) (c .before .before .before .before .before .before .before .before .before .runs-at .ensures (a .plan .now) (a .parts .now) (a .source) (copyWalk (join (a .plan .now) (a .parts .now) (a .lengths .now) (a .places .now) (a .body .now) (a .first) (a .source)) (a .depth))) (c .before .before .before .before .before .before .before .run .given .1) (add-two (a .i)) (c .before .before .before .extend .ensures) (c .if3 .taken)
 
 extend-run-run-numbers-requires : (t : ℕ) → extend-run-lts.Need-run-numbers-requires (extend-run-cs t) (extend-run-at t) extend-run.Post
 extend-run-run-numbers-requires t c κs =
     let a = c .before .before .before .before .before .before .before .before .before .before .before .before .before .before .before .before .before .before .before .before .before .before .before .before .before .args in
-    (omega (arith, c .before .before .before .before .before .before .before .before .before .before .before .before .before .before .before .before .before .before .before .before .before .before .before .before .before .pre .1, (runs-ready (join (a .state .now) (a .parts .now) (a .lengths .now) (a .places .now) (a .body .now) (a .first) (a .source)) (copyWalk (join (a .state .now) (a .parts .now) (a .lengths .now) (a .places .now) (a .body .now) (a .first) (a .source)) (a .depth)) (a .write) (a .i) (a .slot) (a .n) (a .counts .now) (a .room .now) (c .before .before .before .before .before .before .before .before .before .before .before .before .before .before .before .before .before .before .if1 .left) (c .before .before .before .before .before .before .before .before .before .before .before .before .before .before .before .before .runs-ready .ensures (a .parts .now) (a .room .now) (a .source) (a .write)) (c .before .before .before .before .before .before .before .before .before .before .before .before .before .before .before .if2 .left)) .low, runs-fit (join (a .state .now) (a .parts .now) (a .lengths .now) (a .places .now) (a .body .now) (a .first) (a .source)) (a .i) (a .n) (a .counts .now) (add-one (a .i)) (c .before .before .before .before .before .before .before .before .before .before .before .before .before .before .width-at .ensures) (runs-ready (join (a .state .now) (a .parts .now) (a .lengths .now) (a .places .now) (a .body .now) (a .first) (a .source)) (copyWalk (join (a .state .now) (a .parts .now) (a .lengths .now) (a .places .now) (a .body .now) (a .first) (a .source)) (a .depth)) (a .write) (a .i) (a .slot) (a .n) (a .counts .now) (a .room .now) (c .before .before .before .before .before .before .before .before .before .before .before .before .before .before .before .before .before .before .if1 .left) (c .before .before .before .before .before .before .before .before .before .before .before .before .before .before .before .before .runs-ready .ensures (a .parts .now) (a .room .now) (a .source) (a .write)) (c .before .before .before .before .before .before .before .before .before .before .before .before .before .before .before .if2 .left)) (c .before .before .before .before .before .before .before .before .before .before .before .before .rows-of .ensures)), (runs-wide (join (a .state .now) (a .parts .now) (a .lengths .now) (a .places .now) (a .body .now) (a .first) (a .source)) (a .i) (a .n) (a .counts .now) (add-one (a .i)) (c .before .before .before .before .before .before .before .before .before .before .before .before .before .before .width-at .ensures) (runs-ready (join (a .state .now) (a .parts .now) (a .lengths .now) (a .places .now) (a .body .now) (a .first) (a .source)) (copyWalk (join (a .state .now) (a .parts .now) (a .lengths .now) (a .places .now) (a .body .now) (a .first) (a .source)) (a .depth)) (a .write) (a .i) (a .slot) (a .n) (a .counts .now) (a .room .now) (c .before .before .before .before .before .before .before .before .before .before .before .before .before .before .before .before .before .before .if1 .left) (c .before .before .before .before .before .before .before .before .before .before .before .before .before .before .before .before .runs-ready .ensures (a .parts .now) (a .room .now) (a .source) (a .write)) (c .before .before .before .before .before .before .before .before .before .before .before .before .before .before .before .if2 .left)), runs-found (join (a .state .now) (a .parts .now) (a .lengths .now) (a .places .now) (a .body .now) (a .first) (a .source)) (a .i) (a .n) (a .counts .now) (add-one (a .i)) (c .before .before .before .before .before .before .before .before .before .before .before .before .before .before .width-at .ensures) (runs-ready (join (a .state .now) (a .parts .now) (a .lengths .now) (a .places .now) (a .body .now) (a .first) (a .source)) (copyWalk (join (a .state .now) (a .parts .now) (a .lengths .now) (a .places .now) (a .body .now) (a .first) (a .source)) (a .depth)) (a .write) (a .i) (a .slot) (a .n) (a .counts .now) (a .room .now) (c .before .before .before .before .before .before .before .before .before .before .before .before .before .before .before .before .before .before .if1 .left) (c .before .before .before .before .before .before .before .before .before .before .before .before .before .before .before .before .runs-ready .ensures (a .parts .now) (a .room .now) (a .source) (a .write)) (c .before .before .before .before .before .before .before .before .before .before .before .before .before .before .before .if2 .left)) (copyWalk (join (a .state .now) (a .parts .now) (a .lengths .now) (a .places .now) (a .body .now) (a .first) (a .source)) (a .depth)) (a .slot) (c .before .before .before .before .before .before .before .before .before .before .before .runs-at .ensures (a .state .now) (a .parts .now) (a .source) (copyWalk (join (a .state .now) (a .parts .now) (a .lengths .now) (a .places .now) (a .body .now) (a .first) (a .source)) (a .depth))) (c .before .before .before .before .before .before .before .before .before .run .given .1)))
+    (omega (arith, c .before .before .before .before .before .before .before .before .before .before .before .before .before .before .before .before .before .before .before .before .before .before .before .before .before .pre .1, (runs-ready (join (a .plan .now) (a .parts .now) (a .lengths .now) (a .places .now) (a .body .now) (a .first) (a .source)) (copyWalk (join (a .plan .now) (a .parts .now) (a .lengths .now) (a .places .now) (a .body .now) (a .first) (a .source)) (a .depth)) (a .write) (a .i) (a .slot) (a .n) (a .counters .now) (a .room .now) (c .before .before .before .before .before .before .before .before .before .before .before .before .before .before .before .before .before .before .if1 .left) (c .before .before .before .before .before .before .before .before .before .before .before .before .before .before .before .before .runs-ready .ensures (a .parts .now) (a .room .now) (a .source) (a .write)) (c .before .before .before .before .before .before .before .before .before .before .before .before .before .before .before .if2 .left)) .low, runs-fit (join (a .plan .now) (a .parts .now) (a .lengths .now) (a .places .now) (a .body .now) (a .first) (a .source)) (a .i) (a .n) (a .counters .now) (add-one (a .i)) (c .before .before .before .before .before .before .before .before .before .before .before .before .before .before .width-at .ensures) (runs-ready (join (a .plan .now) (a .parts .now) (a .lengths .now) (a .places .now) (a .body .now) (a .first) (a .source)) (copyWalk (join (a .plan .now) (a .parts .now) (a .lengths .now) (a .places .now) (a .body .now) (a .first) (a .source)) (a .depth)) (a .write) (a .i) (a .slot) (a .n) (a .counters .now) (a .room .now) (c .before .before .before .before .before .before .before .before .before .before .before .before .before .before .before .before .before .before .if1 .left) (c .before .before .before .before .before .before .before .before .before .before .before .before .before .before .before .before .runs-ready .ensures (a .parts .now) (a .room .now) (a .source) (a .write)) (c .before .before .before .before .before .before .before .before .before .before .before .before .before .before .before .if2 .left)) (c .before .before .before .before .before .before .before .before .before .before .before .before .rows-of .ensures)), (runs-wide (join (a .plan .now) (a .parts .now) (a .lengths .now) (a .places .now) (a .body .now) (a .first) (a .source)) (a .i) (a .n) (a .counters .now) (add-one (a .i)) (c .before .before .before .before .before .before .before .before .before .before .before .before .before .before .width-at .ensures) (runs-ready (join (a .plan .now) (a .parts .now) (a .lengths .now) (a .places .now) (a .body .now) (a .first) (a .source)) (copyWalk (join (a .plan .now) (a .parts .now) (a .lengths .now) (a .places .now) (a .body .now) (a .first) (a .source)) (a .depth)) (a .write) (a .i) (a .slot) (a .n) (a .counters .now) (a .room .now) (c .before .before .before .before .before .before .before .before .before .before .before .before .before .before .before .before .before .before .if1 .left) (c .before .before .before .before .before .before .before .before .before .before .before .before .before .before .before .before .runs-ready .ensures (a .parts .now) (a .room .now) (a .source) (a .write)) (c .before .before .before .before .before .before .before .before .before .before .before .before .before .before .before .if2 .left)), runs-found (join (a .plan .now) (a .parts .now) (a .lengths .now) (a .places .now) (a .body .now) (a .first) (a .source)) (a .i) (a .n) (a .counters .now) (add-one (a .i)) (c .before .before .before .before .before .before .before .before .before .before .before .before .before .before .width-at .ensures) (runs-ready (join (a .plan .now) (a .parts .now) (a .lengths .now) (a .places .now) (a .body .now) (a .first) (a .source)) (copyWalk (join (a .plan .now) (a .parts .now) (a .lengths .now) (a .places .now) (a .body .now) (a .first) (a .source)) (a .depth)) (a .write) (a .i) (a .slot) (a .n) (a .counters .now) (a .room .now) (c .before .before .before .before .before .before .before .before .before .before .before .before .before .before .before .before .before .before .if1 .left) (c .before .before .before .before .before .before .before .before .before .before .before .before .before .before .before .before .runs-ready .ensures (a .parts .now) (a .room .now) (a .source) (a .write)) (c .before .before .before .before .before .before .before .before .before .before .before .before .before .before .before .if2 .left)) (copyWalk (join (a .plan .now) (a .parts .now) (a .lengths .now) (a .places .now) (a .body .now) (a .first) (a .source)) (a .depth)) (a .slot) (c .before .before .before .before .before .before .before .before .before .before .before .runs-at .ensures (a .plan .now) (a .parts .now) (a .source) (copyWalk (join (a .plan .now) (a .parts .now) (a .lengths .now) (a .places .now) (a .body .now) (a .first) (a .source)) (a .depth))) (c .before .before .before .before .before .before .before .before .before .run .given .1)))
 
 extend-run-enum-told : (t : ℕ) → extend-run-lts.Need-enum-told (extend-run-cs t) (extend-run-at t) extend-run.Post
 extend-run-enum-told t c = search needs
@@ -760,18 +760,18 @@ extend-run-same-length-2 t c = search needs
 extend-run-returns-4 : (t : ℕ) → extend-run-lts.Need-returns-4 (extend-run-cs t) (extend-run-at t) extend-run.Post
 extend-run-returns-4 t c =
     let a = c .before .before .before .before .before .before .before .before .before .before .before .before .before .before .before .before .before .before .before .before .before .before .before .before .before .before .before .before .args in
-    runs-done (join (a .state .now) (a .parts .now) (a .lengths .now) (a .places .now) (a .body .now) (a .first) (a .source)) (copyWalk (join (a .state .now) (a .parts .now) (a .lengths .now) (a .places .now) (a .body .now) (a .first) (a .source)) (a .depth)) (a .write) (a .i) (a .slot) (a .n) (a .counts .now) (a .room .now) (c .before .before .before .before .before .before .before .before .before .before .before .before .before .before .before .before .before .before .before .before .before .if1 .left) (c .before .before .before .before .before .before .before .before .before .before .before .before .before .before .before .before .before .before .before .runs-ready .ensures (a .parts .now) (a .room .now) (a .source) (a .write)) (c .before .before .before .before .before .before .before .before .before .before .before .before .before .before .before .before .before .before .if2 .left) (add-one (a .i)) (c .before .before .before .before .before .before .before .before .before .before .before .before .before .before .before .before .before .width-at .ensures) (c .before .before .before .before .before .before .before .before .before .before .before .before .before .before .runs-at .ensures (a .state .now) (a .parts .now) (a .source) (copyWalk (join (a .state .now) (a .parts .now) (a .lengths .now) (a .places .now) (a .body .now) (a .first) (a .source)) (a .depth))) (c .before .before .before .before .before .before .before .before .before .before .before .before .run .given .1) (add-two (a .i)) (c .before .before .before .before .before .before .before .before .extend .ensures) (c .before .before .before .before .before .if3 .left) (c .before .before .before .before .before .before .before .before .before .before .before .before .before .before .before .rows-of .ensures) (c .before .before .run-numbers .ensures (a .source))
+    runs-done (join (a .plan .now) (a .parts .now) (a .lengths .now) (a .places .now) (a .body .now) (a .first) (a .source)) (copyWalk (join (a .plan .now) (a .parts .now) (a .lengths .now) (a .places .now) (a .body .now) (a .first) (a .source)) (a .depth)) (a .write) (a .i) (a .slot) (a .n) (a .counters .now) (a .room .now) (c .before .before .before .before .before .before .before .before .before .before .before .before .before .before .before .before .before .before .before .before .before .if1 .left) (c .before .before .before .before .before .before .before .before .before .before .before .before .before .before .before .before .before .before .before .runs-ready .ensures (a .parts .now) (a .room .now) (a .source) (a .write)) (c .before .before .before .before .before .before .before .before .before .before .before .before .before .before .before .before .before .before .if2 .left) (add-one (a .i)) (c .before .before .before .before .before .before .before .before .before .before .before .before .before .before .before .before .before .width-at .ensures) (c .before .before .before .before .before .before .before .before .before .before .before .before .before .before .runs-at .ensures (a .plan .now) (a .parts .now) (a .source) (copyWalk (join (a .plan .now) (a .parts .now) (a .lengths .now) (a .places .now) (a .body .now) (a .first) (a .source)) (a .depth))) (c .before .before .before .before .before .before .before .before .before .before .before .before .run .given .1) (add-two (a .i)) (c .before .before .before .before .before .before .before .before .extend .ensures) (c .before .before .before .before .before .if3 .left) (c .before .before .before .before .before .before .before .before .before .before .before .before .before .before .before .rows-of .ensures) (c .before .before .run-numbers .ensures (a .source))
 
 extend-run-returns-5 : (t : ℕ) → extend-run-lts.Need-returns-5 (extend-run-cs t) (extend-run-at t) extend-run.Post
 extend-run-returns-5 t c =
     let a = c .before .before .before .before .before .before .before .before .before .before .before .before .before .before .before .before .args in
-    runs-past (join (a .state .now) (a .parts .now) (a .lengths .now) (a .places .now) (a .body .now) (a .first) (a .source)) (copyWalk (join (a .state .now) (a .parts .now) (a .lengths .now) (a .places .now) (a .body .now) (a .first) (a .source)) (a .depth)) (a .write) (a .i) (a .slot) (a .n) (a .counts .now) (a .room .now) (c .before .before .before .before .before .before .before .before .before .if1 .left) (c .before .before .before .before .before .before .before .runs-ready .ensures (a .parts .now) (a .room .now) (a .source) (a .write)) (c .before .before .before .before .before .before .if2 .left) (add-one (a .i)) (c .before .before .before .before .before .width-at .ensures) (c .before .before .runs-at .ensures (a .state .now) (a .parts .now) (a .source) (copyWalk (join (a .state .now) (a .parts .now) (a .lengths .now) (a .places .now) (a .body .now) (a .first) (a .source)) (a .depth))) (c .enum-told .given .1)
+    runs-past (join (a .plan .now) (a .parts .now) (a .lengths .now) (a .places .now) (a .body .now) (a .first) (a .source)) (copyWalk (join (a .plan .now) (a .parts .now) (a .lengths .now) (a .places .now) (a .body .now) (a .first) (a .source)) (a .depth)) (a .write) (a .i) (a .slot) (a .n) (a .counters .now) (a .room .now) (c .before .before .before .before .before .before .before .before .before .if1 .left) (c .before .before .before .before .before .before .before .runs-ready .ensures (a .parts .now) (a .room .now) (a .source) (a .write)) (c .before .before .before .before .before .before .if2 .left) (add-one (a .i)) (c .before .before .before .before .before .width-at .ensures) (c .before .before .runs-at .ensures (a .plan .now) (a .parts .now) (a .source) (copyWalk (join (a .plan .now) (a .parts .now) (a .lengths .now) (a .places .now) (a .body .now) (a .first) (a .source)) (a .depth))) (c .enum-told .given .1)
 
 abbrev extend-sparse-Inv-loop : extend-sparse-lts.InvT-loop
-extend-sparse-Inv-loop state parts lengths places body counts₀ room₀ write source first i slot n depth ids row g end k₀ t₀ counts room k t = (t ≤ 32) × (length room ≡ length room₀) × Rest state parts write (copyFields (join state parts lengths places body first source) (copyWalk (join state parts lengths places body first source) depth) slot n end 32 k₀ counts₀) room₀ (copyFields (join state parts lengths places body first source) (copyWalk (join state parts lengths places body first source) depth) slot n end (32 - t) k counts) room
+extend-sparse-Inv-loop plan parts lengths places body counters₀ room₀ write source first i slot n depth ids row g end k₀ t₀ counters room k t = (t ≤ 32) × (length room ≡ length room₀) × Rest plan parts write (copyFields (join plan parts lengths places body first source) (copyWalk (join plan parts lengths places body first source) depth) slot n end 32 k₀ counters₀) room₀ (copyFields (join plan parts lengths places body first source) (copyWalk (join plan parts lengths places body first source) depth) slot n end (32 - t) k counters) room
 
 abbrev extend-sparse-μ-loop : extend-sparse-lts.MeasureT-loop
-extend-sparse-μ-loop state parts lengths places body counts₀ room₀ write source first i slot n depth ids row g end k₀ t₀ counts room k t = 32 - t
+extend-sparse-μ-loop plan parts lengths places body counters₀ room₀ write source first i slot n depth ids row g end k₀ t₀ counters room k t = 32 - t
 
 extend-sparse-first-id-requires : (t : ℕ) → extend-sparse-lts.Need-first-id-requires (extend-sparse-cs t) (extend-sparse-at t) extend-sparse.Post extend-sparse-Inv-loop extend-sparse-μ-loop
 extend-sparse-first-id-requires t c κs = omega arith
@@ -788,7 +788,7 @@ extend-sparse-same-length t c = search needs
 extend-sparse-returns : (t : ℕ) → extend-sparse-lts.Need-returns (extend-sparse-cs t) (extend-sparse-at t) extend-sparse.Post extend-sparse-Inv-loop extend-sparse-μ-loop
 extend-sparse-returns t c =
     let a = c .before .before .before .before .before .before .before .before .before .before .before .before .before .before .args in
-    sparse-stop (join (a .state .now) (a .parts .now) (a .lengths .now) (a .places .now) (a .body .now) (a .first) (a .source)) (copyWalk (join (a .state .now) (a .parts .now) (a .lengths .now) (a .places .now) (a .body .now) (a .first) (a .source)) (a .depth)) (a .write) (a .i) (a .slot) (a .n) (a .counts .now) (a .room .now) (rw (c .before .before .before .before .before .before .before .first-id .ensures) at (c .before .before .before .copy-numbers .ensures (a .lengths .now) (a .source))) (c .if1 .taken)
+    sparse-stop (join (a .plan .now) (a .parts .now) (a .lengths .now) (a .places .now) (a .body .now) (a .first) (a .source)) (copyWalk (join (a .plan .now) (a .parts .now) (a .lengths .now) (a .places .now) (a .body .now) (a .first) (a .source)) (a .depth)) (a .write) (a .i) (a .slot) (a .n) (a .counters .now) (a .room .now) (rw (c .before .before .before .before .before .before .before .first-id .ensures) at (c .before .before .before .copy-numbers .ensures (a .lengths .now) (a .source))) (c .if1 .taken)
 
 extend-sparse-end-of-requires : (t : ℕ) → extend-sparse-lts.Need-end-of-requires (extend-sparse-cs t) (extend-sparse-at t) extend-sparse.Post extend-sparse-Inv-loop extend-sparse-μ-loop
 extend-sparse-end-of-requires t c κs = search needs
@@ -806,7 +806,7 @@ extend-sparse-returns-2 : (t : ℕ) → extend-sparse-lts.Need-returns-2 (extend
 extend-sparse-returns-2 t c =
     let a = c .before .before .before .before .before .before .before .before .before .before .before .before .before .before .before .before .before .before .args in
     let l = c .before .before .loop in
-    sparse-go (join (a .state .now) (a .parts .now) (a .lengths .now) (a .places .now) (a .body .now) (a .first) (a .source)) (copyWalk (join (a .state .now) (a .parts .now) (a .lengths .now) (a .places .now) (a .body .now) (a .first) (a .source)) (a .depth)) (a .write) (a .i) (a .slot) (a .n) (a .counts .now) (a .room .now) (rw (c .before .before .before .before .before .before .before .before .before .before .before .first-id .ensures) at (c .before .before .before .before .before .before .before .copy-numbers .ensures (a .lengths .now) (a .source))) (c .before .before .before .before .if1 .left) (c .before .before .before .end-of .ensures .0) (add-one (a .i)) (l .inv .2 _ _ _ (fields-none (join (a .state .now) (a .parts .now) (a .lengths .now) (a .places .now) (a .body .now) (a .first) (a .source)) (copyWalk (join (a .state .now) (a .parts .now) (a .lengths .now) (a .places .now) (a .body .now) (a .first) (a .source)) (a .depth)) (a .write) (a .slot) (a .n) (c .before .before .before .end-of .result) (l .k) _ _ (32 - l .t) (c .if2 .taken)))
+    sparse-go (join (a .plan .now) (a .parts .now) (a .lengths .now) (a .places .now) (a .body .now) (a .first) (a .source)) (copyWalk (join (a .plan .now) (a .parts .now) (a .lengths .now) (a .places .now) (a .body .now) (a .first) (a .source)) (a .depth)) (a .write) (a .i) (a .slot) (a .n) (a .counters .now) (a .room .now) (rw (c .before .before .before .before .before .before .before .before .before .before .before .first-id .ensures) at (c .before .before .before .before .before .before .before .copy-numbers .ensures (a .lengths .now) (a .source))) (c .before .before .before .before .if1 .left) (c .before .before .before .end-of .ensures .0) (add-one (a .i)) (l .inv .2 _ _ _ (fields-none (join (a .plan .now) (a .parts .now) (a .lengths .now) (a .places .now) (a .body .now) (a .first) (a .source)) (copyWalk (join (a .plan .now) (a .parts .now) (a .lengths .now) (a .places .now) (a .body .now) (a .first) (a .source)) (a .depth)) (a .write) (a .slot) (a .n) (c .before .before .before .end-of .result) (l .k) _ _ (32 - l .t) (c .if2 .taken)))
 
 extend-sparse-extend-requires : (t : ℕ) → extend-sparse-lts.Need-extend-requires (extend-sparse-cs t) (extend-sparse-at t) extend-sparse.Post extend-sparse-Inv-loop extend-sparse-μ-loop
 extend-sparse-extend-requires t c κs = omega arith
@@ -819,7 +819,7 @@ extend-sparse-returns-3 t c =
     let a = c .before .before .before .before .before .before .before .before .before .before .before .before .before .before .before .before .before .before .before .before .before .before .before .before .args in
     let l = c .before .before .before .before .before .before .before .before .loop in
     let z : 32 - l .t ≡ suc (32 - (l .t + 1)) = omega arith in
-    sparse-go (join (a .state .now) (a .parts .now) (a .lengths .now) (a .places .now) (a .body .now) (a .first) (a .source)) (copyWalk (join (a .state .now) (a .parts .now) (a .lengths .now) (a .places .now) (a .body .now) (a .first) (a .source)) (a .depth)) (a .write) (a .i) (a .slot) (a .n) (a .counts .now) (a .room .now) (rw (c .before .before .before .before .before .before .before .before .before .before .before .before .before .before .before .before .before .first-id .ensures) at (c .before .before .before .before .before .before .before .before .before .before .before .before .before .copy-numbers .ensures (a .lengths .now) (a .source))) (c .before .before .before .before .before .before .before .before .before .before .if1 .left) (c .before .before .before .before .before .before .before .before .before .end-of .ensures .0) (add-one (a .i)) (l .inv .2 _ _ _ (fields-stop (join (a .state .now) (a .parts .now) (a .lengths .now) (a .places .now) (a .body .now) (a .first) (a .source)) (copyWalk (join (a .state .now) (a .parts .now) (a .lengths .now) (a .places .now) (a .body .now) (a .first) (a .source)) (a .depth)) (a .write) (a .slot) (a .n) (c .before .before .before .before .before .before .before .before .before .end-of .result) (l .k) _ _ z (c .before .before .before .before .before .before .if2 .left) (rw (c .before .before .before .before .before .before .before .before .before .before .before .before .before .before .before .before .first-row .ensures) at (c .before .before .before .extend .ensures)) (c .if3 .taken)))
+    sparse-go (join (a .plan .now) (a .parts .now) (a .lengths .now) (a .places .now) (a .body .now) (a .first) (a .source)) (copyWalk (join (a .plan .now) (a .parts .now) (a .lengths .now) (a .places .now) (a .body .now) (a .first) (a .source)) (a .depth)) (a .write) (a .i) (a .slot) (a .n) (a .counters .now) (a .room .now) (rw (c .before .before .before .before .before .before .before .before .before .before .before .before .before .before .before .before .before .first-id .ensures) at (c .before .before .before .before .before .before .before .before .before .before .before .before .before .copy-numbers .ensures (a .lengths .now) (a .source))) (c .before .before .before .before .before .before .before .before .before .before .if1 .left) (c .before .before .before .before .before .before .before .before .before .end-of .ensures .0) (add-one (a .i)) (l .inv .2 _ _ _ (fields-stop (join (a .plan .now) (a .parts .now) (a .lengths .now) (a .places .now) (a .body .now) (a .first) (a .source)) (copyWalk (join (a .plan .now) (a .parts .now) (a .lengths .now) (a .places .now) (a .body .now) (a .first) (a .source)) (a .depth)) (a .write) (a .slot) (a .n) (c .before .before .before .before .before .before .before .before .before .end-of .result) (l .k) _ _ z (c .before .before .before .before .before .before .if2 .left) (rw (c .before .before .before .before .before .before .before .before .before .before .before .before .before .before .before .before .first-row .ensures) at (c .before .before .before .extend .ensures)) (c .if3 .taken)))
 
 extend-sparse-end-of-requires-2 : (t : ℕ) → extend-sparse-lts.Need-end-of-requires-2 (extend-sparse-cs t) (extend-sparse-at t) extend-sparse.Post extend-sparse-Inv-loop extend-sparse-μ-loop
 extend-sparse-end-of-requires-2 t c κs = omega (arith, c .before .before .before .before .before .before .before .before .before .end-of .ensures .1)
@@ -835,7 +835,7 @@ extend-sparse-loop-again t c =
     let a = c .before .before .before .before .before .before .before .before .before .before .before .before .before .before .before .before .before .before .before .before .before .before .before .before .before .args in
     let l = c .before .before .before .before .before .before .before .before .before .loop in
     let z : 32 - l .t ≡ suc (32 - (l .t + 1)) = omega arith in
-    (search needs, search needs, λ g c2 room2 d. l .inv .2 _ _ _ (fields-more (join (a .state .now) (a .parts .now) (a .lengths .now) (a .places .now) (a .body .now) (a .first) (a .source)) (copyWalk (join (a .state .now) (a .parts .now) (a .lengths .now) (a .places .now) (a .body .now) (a .first) (a .source)) (a .depth)) (a .write) (a .slot) (a .n) (c .before .before .before .before .before .before .before .before .before .before .end-of .result) (l .k) _ _ z (c .before .before .before .before .before .before .before .if2 .left) (rw (c .before .before .before .before .before .before .before .before .before .before .before .before .before .before .before .before .before .first-row .ensures) at (c .before .before .before .before .extend .ensures)) (c .before .if3 .left) (c .end-of2 .ensures .0) d))
+    (search needs, search needs, λ g c2 room2 d. l .inv .2 _ _ _ (fields-more (join (a .plan .now) (a .parts .now) (a .lengths .now) (a .places .now) (a .body .now) (a .first) (a .source)) (copyWalk (join (a .plan .now) (a .parts .now) (a .lengths .now) (a .places .now) (a .body .now) (a .first) (a .source)) (a .depth)) (a .write) (a .slot) (a .n) (c .before .before .before .before .before .before .before .before .before .before .end-of .result) (l .k) _ _ z (c .before .before .before .before .before .before .before .if2 .left) (rw (c .before .before .before .before .before .before .before .before .before .before .before .before .before .before .before .before .before .first-row .ensures) at (c .before .before .before .before .extend .ensures)) (c .before .if3 .left) (c .end-of2 .ensures .0) d))
 
 extend-sparse-same-length-4 : (t : ℕ) → extend-sparse-lts.Need-same-length-4 (extend-sparse-cs t) (extend-sparse-at t) extend-sparse.Post extend-sparse-Inv-loop extend-sparse-μ-loop
 extend-sparse-same-length-4 t c = search needs
@@ -844,7 +844,7 @@ extend-sparse-returns-4 : (t : ℕ) → extend-sparse-lts.Need-returns-4 (extend
 extend-sparse-returns-4 t c =
     let a = c .before .before .before .before .before .before .before .before .before .before .before .before .before .before .before .before .before .args in
     let l = c .before .loop in
-    sparse-go (join (a .state .now) (a .parts .now) (a .lengths .now) (a .places .now) (a .body .now) (a .first) (a .source)) (copyWalk (join (a .state .now) (a .parts .now) (a .lengths .now) (a .places .now) (a .body .now) (a .first) (a .source)) (a .depth)) (a .write) (a .i) (a .slot) (a .n) (a .counts .now) (a .room .now) (rw (c .before .before .before .before .before .before .before .before .before .before .first-id .ensures) at (c .before .before .before .before .before .before .copy-numbers .ensures (a .lengths .now) (a .source))) (c .before .before .before .if1 .left) (c .before .before .end-of .ensures .0) (add-one (a .i)) (l .inv .2 _ _ _ (fields-over (join (a .state .now) (a .parts .now) (a .lengths .now) (a .places .now) (a .body .now) (a .first) (a .source)) (copyWalk (join (a .state .now) (a .parts .now) (a .lengths .now) (a .places .now) (a .body .now) (a .first) (a .source)) (a .depth)) (a .write) (a .slot) (a .n) (c .before .before .end-of .result) (l .k) _ _ (omega arith)))
+    sparse-go (join (a .plan .now) (a .parts .now) (a .lengths .now) (a .places .now) (a .body .now) (a .first) (a .source)) (copyWalk (join (a .plan .now) (a .parts .now) (a .lengths .now) (a .places .now) (a .body .now) (a .first) (a .source)) (a .depth)) (a .write) (a .i) (a .slot) (a .n) (a .counters .now) (a .room .now) (rw (c .before .before .before .before .before .before .before .before .before .before .first-id .ensures) at (c .before .before .before .before .before .before .copy-numbers .ensures (a .lengths .now) (a .source))) (c .before .before .before .if1 .left) (c .before .before .end-of .ensures .0) (add-one (a .i)) (l .inv .2 _ _ _ (fields-over (join (a .plan .now) (a .parts .now) (a .lengths .now) (a .places .now) (a .body .now) (a .first) (a .source)) (copyWalk (join (a .plan .now) (a .parts .now) (a .lengths .now) (a .places .now) (a .body .now) (a .first) (a .source)) (a .depth)) (a .write) (a .slot) (a .n) (c .before .before .end-of .result) (l .k) _ _ (omega arith)))
 
 pub +extend+extend-data+extend-listed+list·extend-list+list-view·extend-list-row+list-view·extend-list-view+run·extend-run+union·extend-dense+union·extend-dense-row+union·extend-sparse-spec :
     {M : Type 1} → statement M

@@ -161,17 +161,17 @@ extend-nulls-sparse-cs t = (null-home-reads.Asked, null-home-reads.Learnt, no-ho
 extend-nulls-returns : (t : ℕ) → extend-nulls-lts.Need-returns (extend-nulls-cs t) (extend-nulls-at t) extend-nulls.Post
 extend-nulls-returns t c =
     let a = c .before .before .before .before .args in
-    at-none (join (a .state .now) (a .parts .now) [] [] [] 0 0) (a .write) (a .depth) (a .i) (a .n) (a .counts .now) (a .room .now) (c .if1 .taken)
+    at-none (join (a .plan .now) (a .parts .now) [] [] [] 0 0) (a .write) (a .depth) (a .i) (a .n) (a .counters .now) (a .room .now) (c .if1 .taken)
 
 extend-nulls-returns-2 : (t : ℕ) → extend-nulls-lts.Need-returns-2 (extend-nulls-cs t) (extend-nulls-at t) extend-nulls.Post
 extend-nulls-returns-2 t c =
     let a = c .before .before .before .before .before .args in
-    at-zero (join (a .state .now) (a .parts .now) [] [] [] 0 0) (a .write) (a .depth) (a .i) (a .n) (a .counts .now) (a .room .now) (c .before .if1 .left) (c .if2 .taken)
+    at-zero (join (a .plan .now) (a .parts .now) [] [] [] 0 0) (a .write) (a .depth) (a .i) (a .n) (a .counters .now) (a .room .now) (c .before .if1 .left) (c .if2 .taken)
 
 extend-nulls-returns-3 : (t : ℕ) → extend-nulls-lts.Need-returns-3 (extend-nulls-cs t) (extend-nulls-at t) extend-nulls.Post
 extend-nulls-returns-3 t c =
     let a = c .before .before .before .before .before .before .args in
-    at-out (join (a .state .now) (a .parts .now) [] [] [] 0 0) (a .write) (a .depth) (a .i) (a .n) (a .counts .now) (a .room .now) (c .before .before .if1 .left) (c .before .if2 .left) (c .if3 .taken)
+    at-out (join (a .plan .now) (a .parts .now) [] [] [] 0 0) (a .write) (a .depth) (a .i) (a .n) (a .counters .now) (a .room .now) (c .before .before .if1 .left) (c .before .if2 .left) (c .if3 .taken)
 
 extend-nulls-sub-extend-nulls-data : (t : ℕ) → extend-nulls-lts.Need-sub-extend-nulls-data (extend-nulls-cs t) (extend-nulls-at t) extend-nulls.Post
 extend-nulls-sub-extend-nulls-data t c = search needs
@@ -185,7 +185,7 @@ extend-nulls-same-length t c = search needs
 extend-nulls-returns-4 : (t : ℕ) → extend-nulls-lts.Need-returns-4 (extend-nulls-cs t) (extend-nulls-at t) extend-nulls.Post
 extend-nulls-returns-4 t c =
     let a = c .before .before .before .before .before .before .before .before .before .before .before .before .args in
-    at-data (join (a .state .now) (a .parts .now) [] [] [] 0 0) (a .write) (a .depth) (a .i) (a .n) (a .counts .now) (a .room .now) (c .before .before .before .before .before .before .before .before .if1 .left) (c .before .before .before .before .before .before .before .if2 .left) (c .before .before .before .before .before .before .if3 .left) (c .before .before .before .extend-nulls-data .ensures) (c .if4 .taken)
+    at-data (join (a .plan .now) (a .parts .now) [] [] [] 0 0) (a .write) (a .depth) (a .i) (a .n) (a .counters .now) (a .room .now) (c .before .before .before .before .before .before .before .before .if1 .left) (c .before .before .before .before .before .before .before .if2 .left) (c .before .before .before .before .before .before .if3 .left) (c .before .before .before .extend-nulls-data .ensures) (c .if4 .taken)
 
 extend-nulls-null-validity-requires : (t : ℕ) → extend-nulls-lts.Need-null-validity-requires (extend-nulls-cs t) (extend-nulls-at t) extend-nulls.Post
 extend-nulls-null-validity-requires t c κs = search needs
@@ -196,7 +196,7 @@ extend-nulls-same-length-2 t c = search needs
 extend-nulls-returns-5 : (t : ℕ) → extend-nulls-lts.Need-returns-5 (extend-nulls-cs t) (extend-nulls-at t) extend-nulls.Post
 extend-nulls-returns-5 t c =
     let a = c .before .before .before .before .before .before .before .before .before .before .before .before .before .before .before .before .before .before .args in
-    at-valid (join (a .state .now) (a .parts .now) [] [] [] 0 0) (a .write) (a .depth) (a .i) (a .n) (a .counts .now) (a .room .now) (c .before .before .before .before .before .before .before .before .before .before .before .before .before .before .if1 .left) (c .before .before .before .before .before .before .before .before .before .before .before .before .before .if2 .left) (c .before .before .before .before .before .before .before .before .before .before .before .before .if3 .left) (c .before .before .before .before .before .before .before .before .before .extend-nulls-data .ensures) (c .before .before .before .before .before .before .if4 .left) (c .before .before .before .null-validity .ensures [] [] [] 0 0) (c .if5 .taken)
+    at-valid (join (a .plan .now) (a .parts .now) [] [] [] 0 0) (a .write) (a .depth) (a .i) (a .n) (a .counters .now) (a .room .now) (c .before .before .before .before .before .before .before .before .before .before .before .before .before .before .if1 .left) (c .before .before .before .before .before .before .before .before .before .before .before .before .before .if2 .left) (c .before .before .before .before .before .before .before .before .before .before .before .before .if3 .left) (c .before .before .before .before .before .before .before .before .before .extend-nulls-data .ensures) (c .before .before .before .before .before .before .if4 .left) (c .before .before .before .null-validity .ensures [] [] [] 0 0) (c .if5 .taken)
 
 extend-nulls-add-rows-requires : (t : ℕ) → extend-nulls-lts.Need-add-rows-requires (extend-nulls-cs t) (extend-nulls-at t) extend-nulls.Post
 extend-nulls-add-rows-requires t c κs = search needs
@@ -207,7 +207,7 @@ extend-nulls-same-length-3 t c = search needs
 extend-nulls-returns-6 : (t : ℕ) → extend-nulls-lts.Need-returns-6 (extend-nulls-cs t) (extend-nulls-at t) extend-nulls.Post
 extend-nulls-returns-6 t c =
     let a = c .before .before .before .before .before .before .before .before .before .before .before .before .before .before .before .before .before .before .before .before .args in
-    at-done (join (a .state .now) (a .parts .now) [] [] [] 0 0) (a .write) (a .depth) (a .i) (a .n) (a .counts .now) (a .room .now) (c .before .before .before .before .before .before .before .before .before .before .before .before .before .before .before .before .if1 .left) (c .before .before .before .before .before .before .before .before .before .before .before .before .before .before .before .if2 .left) (c .before .before .before .before .before .before .before .before .before .before .before .before .before .before .if3 .left) (c .before .before .before .before .before .before .before .before .before .before .before .extend-nulls-data .ensures) (c .before .before .before .before .before .before .before .before .if4 .left) (c .before .before .before .before .before .null-validity .ensures [] [] [] 0 0) (c .before .before .if5 .left) (c .add-rows .ensures)
+    at-done (join (a .plan .now) (a .parts .now) [] [] [] 0 0) (a .write) (a .depth) (a .i) (a .n) (a .counters .now) (a .room .now) (c .before .before .before .before .before .before .before .before .before .before .before .before .before .before .before .before .if1 .left) (c .before .before .before .before .before .before .before .before .before .before .before .before .before .before .before .if2 .left) (c .before .before .before .before .before .before .before .before .before .before .before .before .before .before .if3 .left) (c .before .before .before .before .before .before .before .before .before .before .before .extend-nulls-data .ensures) (c .before .before .before .before .before .before .before .before .if4 .left) (c .before .before .before .before .before .null-validity .ensures [] [] [] 0 0) (c .before .before .if5 .left) (c .add-rows .ensures)
 
 extend-nulls-data-code-of-requires : (t : ℕ) → extend-nulls-data-lts.Need-code-of-requires (extend-nulls-data-cs t) (extend-nulls-data-at t) extend-nulls-data.Post
 extend-nulls-data-code-of-requires t c κs = search needs
@@ -221,7 +221,7 @@ extend-nulls-data-same-length t c = search needs
 extend-nulls-data-returns : (t : ℕ) → extend-nulls-data-lts.Need-returns (extend-nulls-data-cs t) (extend-nulls-data-at t) extend-nulls-data.Post
 extend-nulls-data-returns t c =
     let a = c .before .before .before .before .before .before .before .before .before .before .args in
-    to-sparse (join (a .state .now) (a .parts .now) [] [] [] 0 0) (nullWalk (join (a .state .now) (a .parts .now) [] [] [] 0 0) (a .depth)) (a .write) (a .i) (a .n) (a .counts .now) (a .room .now) (c .before .before .before .before .before .before .code-of .ensures) (c .before .before .before .before .before .if1 .taken) (c .before .before .extend-nulls-sparse .ensures)
+    to-sparse (join (a .plan .now) (a .parts .now) [] [] [] 0 0) (nullWalk (join (a .plan .now) (a .parts .now) [] [] [] 0 0) (a .depth)) (a .write) (a .i) (a .n) (a .counters .now) (a .room .now) (c .before .before .before .before .before .before .code-of .ensures) (c .before .before .before .before .before .if1 .taken) (c .before .before .extend-nulls-sparse .ensures)
 
 extend-nulls-data-extend-nulls-dense-requires : (t : ℕ) → extend-nulls-data-lts.Need-extend-nulls-dense-requires (extend-nulls-data-cs t) (extend-nulls-data-at t) extend-nulls-data.Post
 extend-nulls-data-extend-nulls-dense-requires t c κs = omega arith
@@ -232,7 +232,7 @@ extend-nulls-data-same-length-2 t c = search needs
 extend-nulls-data-returns-2 : (t : ℕ) → extend-nulls-data-lts.Need-returns-2 (extend-nulls-data-cs t) (extend-nulls-data-at t) extend-nulls-data.Post
 extend-nulls-data-returns-2 t c =
     let a = c .before .before .before .before .before .before .before .before .before .before .before .args in
-    to-dense (join (a .state .now) (a .parts .now) [] [] [] 0 0) (nullWalk (join (a .state .now) (a .parts .now) [] [] [] 0 0) (a .depth)) (a .write) (a .i) (a .n) (a .counts .now) (a .room .now) (c .before .before .before .before .before .before .before .code-of .ensures) (c .before .before .before .before .before .if2 .taken) (c .before .before .extend-nulls-dense .ensures)
+    to-dense (join (a .plan .now) (a .parts .now) [] [] [] 0 0) (nullWalk (join (a .plan .now) (a .parts .now) [] [] [] 0 0) (a .depth)) (a .write) (a .i) (a .n) (a .counters .now) (a .room .now) (c .before .before .before .before .before .before .before .code-of .ensures) (c .before .before .before .before .before .if2 .taken) (c .before .before .extend-nulls-dense .ensures)
 
 extend-nulls-data-extend-nulls-run-requires : (t : ℕ) → extend-nulls-data-lts.Need-extend-nulls-run-requires (extend-nulls-data-cs t) (extend-nulls-data-at t) extend-nulls-data.Post
 extend-nulls-data-extend-nulls-run-requires t c κs = omega arith
@@ -243,12 +243,12 @@ extend-nulls-data-same-length-3 t c = search needs
 extend-nulls-data-returns-3 : (t : ℕ) → extend-nulls-data-lts.Need-returns-3 (extend-nulls-data-cs t) (extend-nulls-data-at t) extend-nulls-data.Post
 extend-nulls-data-returns-3 t c =
     let a = c .before .before .before .before .before .before .before .before .before .before .before .before .args in
-    to-runs (join (a .state .now) (a .parts .now) [] [] [] 0 0) (nullWalk (join (a .state .now) (a .parts .now) [] [] [] 0 0) (a .depth)) (a .write) (a .i) (a .n) (a .counts .now) (a .room .now) (c .before .before .before .before .before .before .before .before .code-of .ensures) (c .before .before .before .before .before .if3 .taken) (c .before .before .extend-nulls-run .ensures)
+    to-runs (join (a .plan .now) (a .parts .now) [] [] [] 0 0) (nullWalk (join (a .plan .now) (a .parts .now) [] [] [] 0 0) (a .depth)) (a .write) (a .i) (a .n) (a .counters .now) (a .room .now) (c .before .before .before .before .before .before .before .before .code-of .ensures) (c .before .before .before .before .before .if3 .taken) (c .before .before .extend-nulls-run .ensures)
 
 extend-nulls-data-null-leaf-requires : (t : ℕ) → extend-nulls-data-lts.Need-null-leaf-requires (extend-nulls-data-cs t) (extend-nulls-data-at t) extend-nulls-data.Post
 extend-nulls-data-null-leaf-requires t c κs =
     let a = c .before .before .before .before .before .before .before .before .before .args in
-    (search needs, leaf-code (a .state .now) (a .i) (c .before .before .before .before .before .code-of .ensures) (c .before .before .before .before .if1 .left) (c .before .before .before .if2 .left) (c .before .before .if3 .left))
+    (search needs, leaf-code (a .plan .now) (a .i) (c .before .before .before .before .before .code-of .ensures) (c .before .before .before .before .if1 .left) (c .before .before .before .if2 .left) (c .before .before .if3 .left))
 
 extend-nulls-data-same-length-4 : (t : ℕ) → extend-nulls-data-lts.Need-same-length-4 (extend-nulls-data-cs t) (extend-nulls-data-at t) extend-nulls-data.Post
 extend-nulls-data-same-length-4 t c = search needs
@@ -256,7 +256,7 @@ extend-nulls-data-same-length-4 t c = search needs
 extend-nulls-data-returns-4 : (t : ℕ) → extend-nulls-data-lts.Need-returns-4 (extend-nulls-data-cs t) (extend-nulls-data-at t) extend-nulls-data.Post
 extend-nulls-data-returns-4 t c =
     let a = c .before .before .before .before .before .before .before .before .before .before .before .before .args in
-    c .before .before .null-leaf .ensures [] [] [] 0 0 (nullWalk (join (a .state .now) (a .parts .now) [] [] [] 0 0) (a .depth))
+    c .before .before .null-leaf .ensures [] [] [] 0 0 (nullWalk (join (a .plan .now) (a .parts .now) [] [] [] 0 0) (a .depth))
 
 extend-nulls-dense-null-home-requires : (t : ℕ) → extend-nulls-dense-lts.Need-null-home-requires (extend-nulls-dense-cs t) (extend-nulls-dense-at t) extend-nulls-dense.Post
 extend-nulls-dense-null-home-requires t c κs = search needs
@@ -267,7 +267,7 @@ extend-nulls-dense-no-home-requires t c κs = search needs
 extend-nulls-dense-returns : (t : ℕ) → extend-nulls-dense-lts.Need-returns (extend-nulls-dense-cs t) (extend-nulls-dense-at t) extend-nulls-dense.Post
 extend-nulls-dense-returns t c =
     let a = c .before .before .before .before .before .before .args in
-    dense-none (join (a .state .now) (a .parts .now) [] [] [] 0 0) (nullWalk (join (a .state .now) (a .parts .now) [] [] [] 0 0) (a .depth)) (a .write) (a .i) (a .n) (a .counts .now) (a .room .now) (c .before .before .null-home .ensures .0) (c .before .if1 .taken) (c .no-home .ensures)
+    dense-none (join (a .plan .now) (a .parts .now) [] [] [] 0 0) (nullWalk (join (a .plan .now) (a .parts .now) [] [] [] 0 0) (a .depth)) (a .write) (a .i) (a .n) (a .counters .now) (a .room .now) (c .before .before .null-home .ensures .0) (c .before .if1 .taken) (c .no-home .ensures)
 
 extend-nulls-dense-null-positions-requires : (t : ℕ) → extend-nulls-dense-lts.Need-null-positions-requires (extend-nulls-dense-cs t) (extend-nulls-dense-at t) extend-nulls-dense.Post
 extend-nulls-dense-null-positions-requires t c κs = search needs
@@ -278,7 +278,7 @@ extend-nulls-dense-same-length t c = search needs
 extend-nulls-dense-returns-2 : (t : ℕ) → extend-nulls-dense-lts.Need-returns-2 (extend-nulls-dense-cs t) (extend-nulls-dense-at t) extend-nulls-dense.Post
 extend-nulls-dense-returns-2 t c =
     let a = c .before .before .before .before .before .before .before .before .before .before .before .args in
-    dense-stop (join (a .state .now) (a .parts .now) [] [] [] 0 0) (nullWalk (join (a .state .now) (a .parts .now) [] [] [] 0 0) (a .depth)) (a .write) (a .i) (a .n) (a .counts .now) (a .room .now) (c .before .before .before .before .before .before .before .null-home .ensures .0) (c .before .before .before .before .before .before .if1 .left) (c .before .before .before .null-positions .ensures) (c .if2 .taken)
+    dense-stop (join (a .plan .now) (a .parts .now) [] [] [] 0 0) (nullWalk (join (a .plan .now) (a .parts .now) [] [] [] 0 0) (a .depth)) (a .write) (a .i) (a .n) (a .counters .now) (a .room .now) (c .before .before .before .before .before .before .before .null-home .ensures .0) (c .before .before .before .before .before .before .if1 .left) (c .before .before .before .null-positions .ensures) (c .if2 .taken)
 
 extend-nulls-dense-extend-nulls-requires : (t : ℕ) → extend-nulls-dense-lts.Need-extend-nulls-requires (extend-nulls-dense-cs t) (extend-nulls-dense-at t) extend-nulls-dense.Post
 extend-nulls-dense-extend-nulls-requires t c κs = omega arith
@@ -289,7 +289,7 @@ extend-nulls-dense-same-length-2 t c = search needs
 extend-nulls-dense-returns-3 : (t : ℕ) → extend-nulls-dense-lts.Need-returns-3 (extend-nulls-dense-cs t) (extend-nulls-dense-at t) extend-nulls-dense.Post
 extend-nulls-dense-returns-3 t c =
     let a = c .before .before .before .before .before .before .before .before .before .before .before .before .before .before .before .before .args in
-    dense-go (join (a .state .now) (a .parts .now) [] [] [] 0 0) (nullWalk (join (a .state .now) (a .parts .now) [] [] [] 0 0) (a .depth)) (a .write) (a .i) (a .n) (a .counts .now) (a .room .now) (c .before .before .before .before .before .before .before .before .before .before .before .before .null-home .ensures .0) (c .before .before .before .before .before .before .before .before .before .before .before .if1 .left) (c .before .before .before .before .before .before .before .before .null-positions .ensures) (c .before .before .before .before .before .if2 .left) (c .before .before .extend-nulls .ensures)
+    dense-go (join (a .plan .now) (a .parts .now) [] [] [] 0 0) (nullWalk (join (a .plan .now) (a .parts .now) [] [] [] 0 0) (a .depth)) (a .write) (a .i) (a .n) (a .counters .now) (a .room .now) (c .before .before .before .before .before .before .before .before .before .before .before .before .null-home .ensures .0) (c .before .before .before .before .before .before .before .before .before .before .before .if1 .left) (c .before .before .before .before .before .before .before .before .null-positions .ensures) (c .before .before .before .before .before .if2 .left) (c .before .before .extend-nulls .ensures)
 
 extend-nulls-run-has-ends-requires : (t : ℕ) → extend-nulls-run-lts.Need-has-ends-requires (extend-nulls-run-cs t) (extend-nulls-run-at t) extend-nulls-run.Post
 extend-nulls-run-has-ends-requires t c κs = search needs
@@ -297,7 +297,7 @@ extend-nulls-run-has-ends-requires t c κs = search needs
 extend-nulls-run-returns : (t : ℕ) → extend-nulls-run-lts.Need-returns (extend-nulls-run-cs t) (extend-nulls-run-at t) extend-nulls-run.Post
 extend-nulls-run-returns t c =
     let a = c .before .before .before .before .before .args in
-    runs-none (join (a .state .now) (a .parts .now) [] [] [] 0 0) (nullWalk (join (a .state .now) (a .parts .now) [] [] [] 0 0) (a .depth)) (a .write) (a .i) (a .n) (a .counts .now) (a .room .now) (c .before .has-ends .ensures) (c .if1 .taken)
+    runs-none (join (a .plan .now) (a .parts .now) [] [] [] 0 0) (nullWalk (join (a .plan .now) (a .parts .now) [] [] [] 0 0) (a .depth)) (a .write) (a .i) (a .n) (a .counters .now) (a .room .now) (c .before .has-ends .ensures) (c .if1 .taken)
 
 extend-nulls-run-bytes-of-requires : (t : ℕ) → extend-nulls-run-lts.Need-bytes-of-requires (extend-nulls-run-cs t) (extend-nulls-run-at t) extend-nulls-run.Post
 extend-nulls-run-bytes-of-requires t c κs = search needs
@@ -313,7 +313,7 @@ extend-nulls-run-same-length t c = search needs
 extend-nulls-run-returns-2 : (t : ℕ) → extend-nulls-run-lts.Need-returns-2 (extend-nulls-run-cs t) (extend-nulls-run-at t) extend-nulls-run.Post
 extend-nulls-run-returns-2 t c =
     let a = c .before .before .before .before .before .before .before .before .before .before .before .before .before .args in
-    runs-grow (join (a .state .now) (a .parts .now) [] [] [] 0 0) (nullWalk (join (a .state .now) (a .parts .now) [] [] [] 0 0) (a .depth)) (a .write) (a .i) (a .n) (a .counts .now) (a .room .now) (c .before .before .before .before .before .before .before .before .before .has-ends .ensures) (c .before .before .before .before .before .before .before .before .if1 .left) (c .before .before .before .before .before .before .bytes-of .ensures) (c .before .before .before .before .before .if2 .taken) (c .before .before .longer-end .ensures)
+    runs-grow (join (a .plan .now) (a .parts .now) [] [] [] 0 0) (nullWalk (join (a .plan .now) (a .parts .now) [] [] [] 0 0) (a .depth)) (a .write) (a .i) (a .n) (a .counters .now) (a .room .now) (c .before .before .before .before .before .before .before .before .before .has-ends .ensures) (c .before .before .before .before .before .before .before .before .if1 .left) (c .before .before .before .before .before .before .bytes-of .ensures) (c .before .before .before .before .before .if2 .taken) (c .before .before .longer-end .ensures)
 
 extend-nulls-run-add-extend-nulls : (t : ℕ) → extend-nulls-run-lts.Need-add-extend-nulls (extend-nulls-run-cs t) (extend-nulls-run-at t) extend-nulls-run.Post
 extend-nulls-run-add-extend-nulls t c = search needs
@@ -327,7 +327,7 @@ extend-nulls-run-same-length-2 t c = search needs
 extend-nulls-run-returns-3 : (t : ℕ) → extend-nulls-run-lts.Need-returns-3 (extend-nulls-run-cs t) (extend-nulls-run-at t) extend-nulls-run.Post
 extend-nulls-run-returns-3 t c =
     let a = c .before .before .before .before .before .before .before .before .before .before .before .before .before .before .args in
-    runs-stop (join (a .state .now) (a .parts .now) [] [] [] 0 0) (nullWalk (join (a .state .now) (a .parts .now) [] [] [] 0 0) (a .depth)) (a .write) (a .i) (a .n) (a .counts .now) (a .room .now) (c .before .before .before .before .before .before .before .before .before .before .has-ends .ensures) (c .before .before .before .before .before .before .before .before .before .if1 .left) (c .before .before .before .before .before .before .before .bytes-of .ensures) (c .before .before .before .before .before .before .if2 .left) (add-two (a .i)) (c .before .before .before .extend-nulls .ensures) (c .if3 .taken)
+    runs-stop (join (a .plan .now) (a .parts .now) [] [] [] 0 0) (nullWalk (join (a .plan .now) (a .parts .now) [] [] [] 0 0) (a .depth)) (a .write) (a .i) (a .n) (a .counters .now) (a .room .now) (c .before .before .before .before .before .before .before .before .before .before .has-ends .ensures) (c .before .before .before .before .before .before .before .before .before .if1 .left) (c .before .before .before .before .before .before .before .bytes-of .ensures) (c .before .before .before .before .before .before .if2 .left) (add-two (a .i)) (c .before .before .before .extend-nulls .ensures) (c .if3 .taken)
 
 extend-nulls-run-null-end-requires : (t : ℕ) → extend-nulls-run-lts.Need-null-end-requires (extend-nulls-run-cs t) (extend-nulls-run-at t) extend-nulls-run.Post
 extend-nulls-run-null-end-requires t c κs =
@@ -340,13 +340,13 @@ extend-nulls-run-same-length-3 t c = search needs
 extend-nulls-run-returns-4 : (t : ℕ) → extend-nulls-run-lts.Need-returns-4 (extend-nulls-run-cs t) (extend-nulls-run-at t) extend-nulls-run.Post
 extend-nulls-run-returns-4 t c =
     let a = c .before .before .before .before .before .before .before .before .before .before .before .before .before .before .before .before .before .before .before .args in
-    runs-go (join (a .state .now) (a .parts .now) [] [] [] 0 0) (nullWalk (join (a .state .now) (a .parts .now) [] [] [] 0 0) (a .depth)) (a .write) (a .i) (a .n) (a .counts .now) (a .room .now) (c .before .before .before .before .before .before .before .before .before .before .before .before .before .before .before .has-ends .ensures) (c .before .before .before .before .before .before .before .before .before .before .before .before .before .before .if1 .left) (c .before .before .before .before .before .before .before .before .before .before .before .before .bytes-of .ensures) (c .before .before .before .before .before .before .before .before .before .before .before .if2 .left) (add-two (a .i)) (c .before .before .before .before .before .before .before .before .extend-nulls .ensures) (c .before .before .before .before .before .if3 .left) (c .before .before .null-end .ensures)
+    runs-go (join (a .plan .now) (a .parts .now) [] [] [] 0 0) (nullWalk (join (a .plan .now) (a .parts .now) [] [] [] 0 0) (a .depth)) (a .write) (a .i) (a .n) (a .counters .now) (a .room .now) (c .before .before .before .before .before .before .before .before .before .before .before .before .before .before .before .has-ends .ensures) (c .before .before .before .before .before .before .before .before .before .before .before .before .before .before .if1 .left) (c .before .before .before .before .before .before .before .before .before .before .before .before .bytes-of .ensures) (c .before .before .before .before .before .before .before .before .before .before .before .if2 .left) (add-two (a .i)) (c .before .before .before .before .before .before .before .before .extend-nulls .ensures) (c .before .before .before .before .before .if3 .left) (c .before .before .null-end .ensures)
 
 abbrev extend-nulls-sparse-Inv-loop : extend-nulls-sparse-lts.InvT-loop
-extend-nulls-sparse-Inv-loop state parts counts₀ room₀ write i n depth h g end k₀ t₀ counts room k t = (t ≤ 32) × (length room ≡ length room₀) × Rest state parts write (nullFields (join state parts [] [] [] 0 0) (nullWalk (join state parts [] [] [] 0 0) depth) n end 32 k₀ counts₀) room₀ (nullFields (join state parts [] [] [] 0 0) (nullWalk (join state parts [] [] [] 0 0) depth) n end (32 - t) k counts) room
+extend-nulls-sparse-Inv-loop plan parts counters₀ room₀ write i n depth h g end k₀ t₀ counters room k t = (t ≤ 32) × (length room ≡ length room₀) × Rest plan parts write (nullFields (join plan parts [] [] [] 0 0) (nullWalk (join plan parts [] [] [] 0 0) depth) n end 32 k₀ counters₀) room₀ (nullFields (join plan parts [] [] [] 0 0) (nullWalk (join plan parts [] [] [] 0 0) depth) n end (32 - t) k counters) room
 
 abbrev extend-nulls-sparse-μ-loop : extend-nulls-sparse-lts.MeasureT-loop
-extend-nulls-sparse-μ-loop state parts counts₀ room₀ write i n depth h g end k₀ t₀ counts room k t = 32 - t
+extend-nulls-sparse-μ-loop plan parts counters₀ room₀ write i n depth h g end k₀ t₀ counters room k t = 32 - t
 
 extend-nulls-sparse-null-home-requires : (t : ℕ) → extend-nulls-sparse-lts.Need-null-home-requires (extend-nulls-sparse-cs t) (extend-nulls-sparse-at t) extend-nulls-sparse.Post extend-nulls-sparse-Inv-loop extend-nulls-sparse-μ-loop
 extend-nulls-sparse-null-home-requires t c κs = search needs
@@ -357,7 +357,7 @@ extend-nulls-sparse-no-home-requires t c κs = search needs
 extend-nulls-sparse-returns : (t : ℕ) → extend-nulls-sparse-lts.Need-returns (extend-nulls-sparse-cs t) (extend-nulls-sparse-at t) extend-nulls-sparse.Post extend-nulls-sparse-Inv-loop extend-nulls-sparse-μ-loop
 extend-nulls-sparse-returns t c =
     let a = c .before .before .before .before .before .before .args in
-    sparse-none (join (a .state .now) (a .parts .now) [] [] [] 0 0) (nullWalk (join (a .state .now) (a .parts .now) [] [] [] 0 0) (a .depth)) (a .write) (a .i) (a .n) (a .counts .now) (a .room .now) (c .before .before .null-home .ensures .0) (c .before .if1 .taken) (c .no-home .ensures)
+    sparse-none (join (a .plan .now) (a .parts .now) [] [] [] 0 0) (nullWalk (join (a .plan .now) (a .parts .now) [] [] [] 0 0) (a .depth)) (a .write) (a .i) (a .n) (a .counters .now) (a .room .now) (c .before .before .null-home .ensures .0) (c .before .if1 .taken) (c .no-home .ensures)
 
 extend-nulls-sparse-null-ids-requires : (t : ℕ) → extend-nulls-sparse-lts.Need-null-ids-requires (extend-nulls-sparse-cs t) (extend-nulls-sparse-at t) extend-nulls-sparse.Post extend-nulls-sparse-Inv-loop extend-nulls-sparse-μ-loop
 extend-nulls-sparse-null-ids-requires t c κs = omega arith
@@ -368,7 +368,7 @@ extend-nulls-sparse-same-length t c = search needs
 extend-nulls-sparse-returns-2 : (t : ℕ) → extend-nulls-sparse-lts.Need-returns-2 (extend-nulls-sparse-cs t) (extend-nulls-sparse-at t) extend-nulls-sparse.Post extend-nulls-sparse-Inv-loop extend-nulls-sparse-μ-loop
 extend-nulls-sparse-returns-2 t c =
     let a = c .before .before .before .before .before .before .before .before .before .before .before .args in
-    sparse-stop (join (a .state .now) (a .parts .now) [] [] [] 0 0) (nullWalk (join (a .state .now) (a .parts .now) [] [] [] 0 0) (a .depth)) (a .write) (a .i) (a .n) (a .counts .now) (a .room .now) (c .before .before .before .before .before .before .before .null-home .ensures .0) (c .before .before .before .before .before .before .if1 .left) (c .before .before .before .null-ids .ensures) (c .if2 .taken)
+    sparse-stop (join (a .plan .now) (a .parts .now) [] [] [] 0 0) (nullWalk (join (a .plan .now) (a .parts .now) [] [] [] 0 0) (a .depth)) (a .write) (a .i) (a .n) (a .counters .now) (a .room .now) (c .before .before .before .before .before .before .before .null-home .ensures .0) (c .before .before .before .before .before .before .if1 .left) (c .before .before .before .null-ids .ensures) (c .if2 .taken)
 
 extend-nulls-sparse-end-of-requires : (t : ℕ) → extend-nulls-sparse-lts.Need-end-of-requires (extend-nulls-sparse-cs t) (extend-nulls-sparse-at t) extend-nulls-sparse.Post extend-nulls-sparse-Inv-loop extend-nulls-sparse-μ-loop
 extend-nulls-sparse-end-of-requires t c κs = search needs
@@ -386,7 +386,7 @@ extend-nulls-sparse-returns-3 : (t : ℕ) → extend-nulls-sparse-lts.Need-retur
 extend-nulls-sparse-returns-3 t c =
     let a = c .before .before .before .before .before .before .before .before .before .before .before .before .before .before .before .args in
     let l = c .before .before .loop in
-    sparse-go (join (a .state .now) (a .parts .now) [] [] [] 0 0) (nullWalk (join (a .state .now) (a .parts .now) [] [] [] 0 0) (a .depth)) (a .write) (a .i) (a .n) (a .counts .now) (a .room .now) (c .before .before .before .before .before .before .before .before .before .before .before .null-home .ensures .0) (c .before .before .before .before .before .before .before .before .before .before .if1 .left) (c .before .before .before .before .before .before .before .null-ids .ensures) (c .before .before .before .before .if2 .left) (c .before .before .before .end-of .ensures .0) (add-one (a .i)) (l .inv .2 _ _ _ (fields-none (join (a .state .now) (a .parts .now) [] [] [] 0 0) (nullWalk (join (a .state .now) (a .parts .now) [] [] [] 0 0) (a .depth)) (a .write) (a .n) (c .before .before .before .end-of .result) (l .k) _ _ (32 - l .t) (c .if3 .taken)))
+    sparse-go (join (a .plan .now) (a .parts .now) [] [] [] 0 0) (nullWalk (join (a .plan .now) (a .parts .now) [] [] [] 0 0) (a .depth)) (a .write) (a .i) (a .n) (a .counters .now) (a .room .now) (c .before .before .before .before .before .before .before .before .before .before .before .null-home .ensures .0) (c .before .before .before .before .before .before .before .before .before .before .if1 .left) (c .before .before .before .before .before .before .before .null-ids .ensures) (c .before .before .before .before .if2 .left) (c .before .before .before .end-of .ensures .0) (add-one (a .i)) (l .inv .2 _ _ _ (fields-none (join (a .plan .now) (a .parts .now) [] [] [] 0 0) (nullWalk (join (a .plan .now) (a .parts .now) [] [] [] 0 0) (a .depth)) (a .write) (a .n) (c .before .before .before .end-of .result) (l .k) _ _ (32 - l .t) (c .if3 .taken)))
 
 extend-nulls-sparse-extend-nulls-requires : (t : ℕ) → extend-nulls-sparse-lts.Need-extend-nulls-requires (extend-nulls-sparse-cs t) (extend-nulls-sparse-at t) extend-nulls-sparse.Post extend-nulls-sparse-Inv-loop extend-nulls-sparse-μ-loop
 extend-nulls-sparse-extend-nulls-requires t c κs = omega arith
@@ -399,7 +399,7 @@ extend-nulls-sparse-returns-4 t c =
     let a = c .before .before .before .before .before .before .before .before .before .before .before .before .before .before .before .before .before .before .before .before .before .args in
     let l = c .before .before .before .before .before .before .before .before .loop in
     let z : 32 - l .t ≡ suc (32 - (l .t + 1)) = omega arith in
-    sparse-go (join (a .state .now) (a .parts .now) [] [] [] 0 0) (nullWalk (join (a .state .now) (a .parts .now) [] [] [] 0 0) (a .depth)) (a .write) (a .i) (a .n) (a .counts .now) (a .room .now) (c .before .before .before .before .before .before .before .before .before .before .before .before .before .before .before .before .before .null-home .ensures .0) (c .before .before .before .before .before .before .before .before .before .before .before .before .before .before .before .before .if1 .left) (c .before .before .before .before .before .before .before .before .before .before .before .before .before .null-ids .ensures) (c .before .before .before .before .before .before .before .before .before .before .if2 .left) (c .before .before .before .before .before .before .before .before .before .end-of .ensures .0) (add-one (a .i)) (l .inv .2 _ _ _ (fields-stop (join (a .state .now) (a .parts .now) [] [] [] 0 0) (nullWalk (join (a .state .now) (a .parts .now) [] [] [] 0 0) (a .depth)) (a .write) (a .n) (c .before .before .before .before .before .before .before .before .before .end-of .result) (l .k) _ _ z (c .before .before .before .before .before .before .if3 .left) (c .before .before .before .extend-nulls .ensures) (c .if4 .taken)))
+    sparse-go (join (a .plan .now) (a .parts .now) [] [] [] 0 0) (nullWalk (join (a .plan .now) (a .parts .now) [] [] [] 0 0) (a .depth)) (a .write) (a .i) (a .n) (a .counters .now) (a .room .now) (c .before .before .before .before .before .before .before .before .before .before .before .before .before .before .before .before .before .null-home .ensures .0) (c .before .before .before .before .before .before .before .before .before .before .before .before .before .before .before .before .if1 .left) (c .before .before .before .before .before .before .before .before .before .before .before .before .before .null-ids .ensures) (c .before .before .before .before .before .before .before .before .before .before .if2 .left) (c .before .before .before .before .before .before .before .before .before .end-of .ensures .0) (add-one (a .i)) (l .inv .2 _ _ _ (fields-stop (join (a .plan .now) (a .parts .now) [] [] [] 0 0) (nullWalk (join (a .plan .now) (a .parts .now) [] [] [] 0 0) (a .depth)) (a .write) (a .n) (c .before .before .before .before .before .before .before .before .before .end-of .result) (l .k) _ _ z (c .before .before .before .before .before .before .if3 .left) (c .before .before .before .extend-nulls .ensures) (c .if4 .taken)))
 
 extend-nulls-sparse-end-of-requires-2 : (t : ℕ) → extend-nulls-sparse-lts.Need-end-of-requires-2 (extend-nulls-sparse-cs t) (extend-nulls-sparse-at t) extend-nulls-sparse.Post extend-nulls-sparse-Inv-loop extend-nulls-sparse-μ-loop
 extend-nulls-sparse-end-of-requires-2 t c κs = omega (arith, c .before .before .before .before .before .before .before .before .before .end-of .ensures .1)
@@ -415,7 +415,7 @@ extend-nulls-sparse-loop-again t c =
     let a = c .before .before .before .before .before .before .before .before .before .before .before .before .before .before .before .before .before .before .before .before .before .before .args in
     let l = c .before .before .before .before .before .before .before .before .before .loop in
     let z : 32 - l .t ≡ suc (32 - (l .t + 1)) = omega arith in
-    (search needs, search needs, λ g c2 room2 d. l .inv .2 _ _ _ (fields-more (join (a .state .now) (a .parts .now) [] [] [] 0 0) (nullWalk (join (a .state .now) (a .parts .now) [] [] [] 0 0) (a .depth)) (a .write) (a .n) (c .before .before .before .before .before .before .before .before .before .before .end-of .result) (l .k) _ _ z (c .before .before .before .before .before .before .before .if3 .left) (c .before .before .before .before .extend-nulls .ensures) (c .before .if4 .left) (c .end-of2 .ensures .0) d))
+    (search needs, search needs, λ g c2 room2 d. l .inv .2 _ _ _ (fields-more (join (a .plan .now) (a .parts .now) [] [] [] 0 0) (nullWalk (join (a .plan .now) (a .parts .now) [] [] [] 0 0) (a .depth)) (a .write) (a .n) (c .before .before .before .before .before .before .before .before .before .before .end-of .result) (l .k) _ _ z (c .before .before .before .before .before .before .before .if3 .left) (c .before .before .before .before .extend-nulls .ensures) (c .before .if4 .left) (c .end-of2 .ensures .0) d))
 
 extend-nulls-sparse-same-length-4 : (t : ℕ) → extend-nulls-sparse-lts.Need-same-length-4 (extend-nulls-sparse-cs t) (extend-nulls-sparse-at t) extend-nulls-sparse.Post extend-nulls-sparse-Inv-loop extend-nulls-sparse-μ-loop
 extend-nulls-sparse-same-length-4 t c = search needs
@@ -424,7 +424,7 @@ extend-nulls-sparse-returns-5 : (t : ℕ) → extend-nulls-sparse-lts.Need-retur
 extend-nulls-sparse-returns-5 t c =
     let a = c .before .before .before .before .before .before .before .before .before .before .before .before .before .before .args in
     let l = c .before .loop in
-    sparse-go (join (a .state .now) (a .parts .now) [] [] [] 0 0) (nullWalk (join (a .state .now) (a .parts .now) [] [] [] 0 0) (a .depth)) (a .write) (a .i) (a .n) (a .counts .now) (a .room .now) (c .before .before .before .before .before .before .before .before .before .before .null-home .ensures .0) (c .before .before .before .before .before .before .before .before .before .if1 .left) (c .before .before .before .before .before .before .null-ids .ensures) (c .before .before .before .if2 .left) (c .before .before .end-of .ensures .0) (add-one (a .i)) (l .inv .2 _ _ _ (fields-over (join (a .state .now) (a .parts .now) [] [] [] 0 0) (nullWalk (join (a .state .now) (a .parts .now) [] [] [] 0 0) (a .depth)) (a .write) (a .n) (c .before .before .end-of .result) (l .k) _ _ (omega arith)))
+    sparse-go (join (a .plan .now) (a .parts .now) [] [] [] 0 0) (nullWalk (join (a .plan .now) (a .parts .now) [] [] [] 0 0) (a .depth)) (a .write) (a .i) (a .n) (a .counters .now) (a .room .now) (c .before .before .before .before .before .before .before .before .before .before .null-home .ensures .0) (c .before .before .before .before .before .before .before .before .before .if1 .left) (c .before .before .before .before .before .before .null-ids .ensures) (c .before .before .before .if2 .left) (c .before .before .end-of .ensures .0) (add-one (a .i)) (l .inv .2 _ _ _ (fields-over (join (a .plan .now) (a .parts .now) [] [] [] 0 0) (nullWalk (join (a .plan .now) (a .parts .now) [] [] [] 0 0) (a .depth)) (a .write) (a .n) (c .before .before .end-of .result) (l .k) _ _ (omega arith)))
 
 pub +extend-nulls+extend-nulls-data+run·extend-nulls-run+union·extend-nulls-dense+union·extend-nulls-sparse-spec :
     {M : Type 1} → statement M

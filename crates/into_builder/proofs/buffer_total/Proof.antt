@@ -16,10 +16,10 @@ count-before-requires c κs = search needs
 returns : tie.Need-returns
 returns c =
     let z = c .before .before .before .before .before .args in
-    λ parts lengths body buffers counts room base.
+    λ parts lengths body buffers counters room base.
     c .count-before .ensures .0
     ∙ ap (countBefore (z .plan .now) (z .sources .now) (z .places .now)) (c .before .node-count .ensures .0)
-    ∙ sym (before-same (lent (z .plan .now) parts (z .sources .now) lengths (z .places .now) body) buffers counts room base (nodesOf (z .plan .now)))
+    ∙ sym (before-same (lent (z .plan .now) parts (z .sources .now) lengths (z .places .now) body) buffers counters room base (nodesOf (z .plan .now)))
 
 pub buffer-total-spec : {M : Type 1} → statement M
 buffer-total-spec =

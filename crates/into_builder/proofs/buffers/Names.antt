@@ -46,41 +46,41 @@ module _ (x : Lent) (bs c r : List ℕ) (b : ℕ) where
   names-same (suc n) =
       ap₂ (λ k l. k ++ cond (isView (codeOf (x .plan) n)) l []) (names-same n) (from-same n (min (sourceCount (x .plan)) 16))
 
-module _ (state sources places : List ℕ) where
+module _ (plan sources places : List ℕ) where
   abbrev x : Lent
-  x = lent state [] sources [] places []
+  x = lent plan [] sources [] places []
 
   -- ---- how many
 
-  pub count-none : (i : ℕ) {c : ℕ} {v : Bool} → c ≡ codeOf state i → v ≡ isView c → v ≡ false → countAt state sources places i ≡ 0
+  pub count-none : (i : ℕ) {c : ℕ} {v : Bool} → c ≡ codeOf plan i → v ≡ isView c → v ≡ false → countAt plan sources places i ≡ 0
   count-none i e f h = rw (← e, ← f, h)
 
-  pub count-some : (i : ℕ) {c m r : ℕ} {v : Bool} → c ≡ codeOf state i → v ≡ isView c → v ≡ true → m ≡ min (sourceCount state) 16
-      → r ≡ plan.buffersUpTo places sources i m → r ≡ countAt state sources places i
+  pub count-some : (i : ℕ) {c m r : ℕ} {v : Bool} → c ≡ codeOf plan i → v ≡ isView c → v ≡ true → m ≡ min (sourceCount plan) 16
+      → r ≡ plan.buffersUpTo places sources i m → r ≡ countAt plan sources places i
   count-some i {m = m} e f h k g =
-      let q : isView (codeOf state i) ≡ true = sym (f ∙ ap isView e) ∙ h in
-      rw q (g ∙ ap (plan.buffersUpTo places sources i) k ∙ sym (of-is x [] [] [] 0 i (min (sourceCount state) 16)))
+      let q : isView (codeOf plan i) ≡ true = sym (f ∙ ap isView e) ∙ h in
+      rw q (g ∙ ap (plan.buffersUpTo places sources i) k ∙ sym (of-is x [] [] [] 0 i (min (sourceCount plan) 16)))
 
-  pub count-is : (i : ℕ) {c : ℕ} {v : Bool} → c ≡ codeOf state i → v ≡ isView c → v ≡ true
-      → countAt state sources places i ≡ buffersOf x [] [] [] 0 i (min (sourceCount state) 16)
-  count-is i e f h = let q : isView (codeOf state i) ≡ true = sym (f ∙ ap isView e) ∙ h in rw q
+  pub count-is : (i : ℕ) {c : ℕ} {v : Bool} → c ≡ codeOf plan i → v ≡ isView c → v ≡ true
+      → countAt plan sources places i ≡ buffersOf x [] [] [] 0 i (min (sourceCount plan) 16)
+  count-is i e f h = let q : isView (codeOf plan i) ≡ true = sym (f ∙ ap isView e) ∙ h in rw q
 
-  pub before-none : countBefore state sources places 0 ≡ 0
+  pub before-none : countBefore plan sources places 0 ≡ 0
   unfolding buffersBefore
   before-none = refl
 
-  pub before-more : (i : ℕ) → countBefore state sources places (i + 1) ≡ countBefore state sources places i + countAt state sources places i
+  pub before-more : (i : ℕ) → countBefore plan sources places (i + 1) ≡ countBefore plan sources places i + countAt plan sources places i
   unfolding buffersBefore
   before-more i = rw (add-one i)
 
   -- those of node i are among those before node n
-  pub before-within : (i n : ℕ) → i < n → countBefore state sources places i + countAt state sources places i ≤ countBefore state sources places n
+  pub before-within : (i n : ℕ) → i < n → countBefore plan sources places i + countAt plan sources places i ≤ countBefore plan sources places n
   unfolding buffersBefore
   before-within i zero l = absurd (omega arith)
   before-within i (suc n) l = go (decLt i n) (before-within i n)
     where
-      go : Dec (i < n) → (i < n → countBefore state sources places i + countAt state sources places i ≤ countBefore state sources places n)
-          → countBefore state sources places i + countAt state sources places i ≤ countBefore state sources places n + countAt state sources places n
+      go : Dec (i < n) → (i < n → countBefore plan sources places i + countAt plan sources places i ≤ countBefore plan sources places n)
+          → countBefore plan sources places i + countAt plan sources places i ≤ countBefore plan sources places n + countAt plan sources places n
       go (yes y) f = let h = f y in omega arith
       go (no y) f = let e : i ≡ n = omega arith in rw e (omega arith)
 
@@ -127,29 +127,29 @@ module _ (state sources places : List ℕ) where
     pub sources-all : (i : ℕ) {l m : List ℕ} {at s t : ℕ} → s ≡ t → Sources l m at i s → Sources l m at i t
     sources-all i e b = rw e at b
 
-    pub node-not : (i : ℕ) {c : ℕ} {v : Bool} (l : List ℕ) (at : ℕ) → c ≡ codeOf state i → v ≡ isView c → v ≡ false
-        → Behind l l at (2 * countAt state sources places i) (namesAt state sources places bs i)
+    pub node-not : (i : ℕ) {c : ℕ} {v : Bool} (l : List ℕ) (at : ℕ) → c ≡ codeOf plan i → v ≡ isView c → v ≡ false
+        → Behind l l at (2 * countAt plan sources places i) (namesAt plan sources places bs i)
     node-not i l at e f h = rw (← e, ← f, h) (behind-none l at)
 
-    pub node-is : (i : ℕ) {c : ℕ} {v : Bool} {l m : List ℕ} {at : ℕ} → c ≡ codeOf state i → v ≡ isView c → v ≡ true → Sources l m at i (min (sourceCount state) 16)
-        → Behind l m at (2 * countAt state sources places i) (namesAt state sources places bs i)
-    node-is i e f h b = let q : isView (codeOf state i) ≡ true = sym (f ∙ ap isView e) ∙ h in rw q b
+    pub node-is : (i : ℕ) {c : ℕ} {v : Bool} {l m : List ℕ} {at : ℕ} → c ≡ codeOf plan i → v ≡ isView c → v ≡ true → Sources l m at i (min (sourceCount plan) 16)
+        → Behind l m at (2 * countAt plan sources places i) (namesAt plan sources places bs i)
+    node-is i e f h b = let q : isView (codeOf plan i) ≡ true = sym (f ∙ ap isView e) ∙ h in rw q b
 
     abbrev Nodes : List ℕ → List ℕ → ℕ → Type 0
-    Nodes l m i = Behind l m 0 (2 * countBefore state sources places i) (namesBefore state sources places bs i)
+    Nodes l m i = Behind l m 0 (2 * countBefore plan sources places i) (namesBefore plan sources places bs i)
 
     pub nodes-none : (l : List ℕ) → Nodes l l 0
     unfolding buffersBefore buffersUpTo
     nodes-none l = behind-none l 0
 
-    pub nodes-more : (i : ℕ) {l m n : List ℕ} {at : ℕ} → Nodes l m i → at ≡ 2 * countBefore state sources places i
-        → Behind m n at (2 * countAt state sources places i) (namesAt state sources places bs i) → Nodes l n (i + 1)
+    pub nodes-more : (i : ℕ) {l m n : List ℕ} {at : ℕ} → Nodes l m i → at ≡ 2 * countBefore plan sources places i
+        → Behind m n at (2 * countAt plan sources places i) (namesAt plan sources places bs i) → Nodes l n (i + 1)
     unfolding buffersBefore buffersUpTo
     nodes-more i {l} {m} {n} {at} b e d =
-        let t : 2 * countBefore state sources places i + 2 * countAt state sources places i ≡ 2 * (countBefore state sources places i + countAt state sources places i) = omega arith in
-        let z : at ≡ 0 + 2 * countBefore state sources places i = omega arith in
-        let d2 : Behind m n (0 + 2 * countBefore state sources places i) (2 * countAt state sources places i) (namesAt state sources places bs i) = rw z at d in
+        let t : 2 * countBefore plan sources places i + 2 * countAt plan sources places i ≡ 2 * (countBefore plan sources places i + countAt plan sources places i) = omega arith in
+        let z : at ≡ 0 + 2 * countBefore plan sources places i = omega arith in
+        let d2 : Behind m n (0 + 2 * countBefore plan sources places i) (2 * countAt plan sources places i) (namesAt plan sources places bs i) = rw z at d in
         rw (add-one i, ← t) (behind-then b d2)
 
-    pub nodes-all : {l m : List ℕ} {i n : ℕ} → i ≡ n → length l ≡ 2 * countBefore state sources places n → Nodes l m i → m ≡ namesBefore state sources places bs n
+    pub nodes-all : {l m : List ℕ} {i n : ℕ} → i ≡ n → length l ≡ 2 * countBefore plan sources places n → Nodes l m i → m ≡ namesBefore plan sources places bs n
     nodes-all {l} {m} {i} {n} e h b = let d : Nodes l m n = rw e at b in behind-all d (omega arith)

@@ -23,25 +23,25 @@ use Rattle.into_builder.specs.counts.Counts.{keptOf, zerosOf}
 
 -- ---- lengths and offsets, of node i of source 0 where it is kept
 
-module _ (plan sources lengths counts : List ℕ) (i : ℕ) where
-  pub length-copied : {b : Bool} {r : ℕ} → b ≡ copied plan i → b ≡ true → r ≡ rows counts i → r ≡ lengthAt (lent plan [] sources lengths [] []) [] counts [] 0 i
+module _ (plan sources lengths counters : List ℕ) (i : ℕ) where
+  pub length-copied : {b : Bool} {r : ℕ} → b ≡ copied plan i → b ≡ true → r ≡ rows counters i → r ≡ lengthAt (lent plan [] sources lengths [] []) [] counters [] 0 i
   length-copied e h g = rw (← e, h) g
 
   pub length-kept : {b : Bool} {r k : ℕ} → b ≡ copied plan i → b ≡ false → k ≡ firstOf sources 0 + i → r ≡ lengthOf (tables lengths [] []) k
-      → r ≡ lengthAt (lent plan [] sources lengths [] []) [] counts [] 0 i
+      → r ≡ lengthAt (lent plan [] sources lengths [] []) [] counters [] 0 i
   length-kept e h f g = rw (← e, h) (g ∙ ap (lengthOf (tables lengths [] [])) f)
 
-  pub offset-copied : {b : Bool} → b ≡ copied plan i → b ≡ true → 0 ≡ offsetAt (lent plan [] sources lengths [] []) [] counts [] 0 i
+  pub offset-copied : {b : Bool} → b ≡ copied plan i → b ≡ true → 0 ≡ offsetAt (lent plan [] sources lengths [] []) [] counters [] 0 i
   offset-copied e h = rw (← e, h)
 
   pub offset-kept : {b : Bool} {r k : ℕ} → b ≡ copied plan i → b ≡ false → k ≡ firstOf sources 0 + i → r ≡ offsetOf (tables lengths [] []) k
-      → r ≡ offsetAt (lent plan [] sources lengths [] []) [] counts [] 0 i
+      → r ≡ offsetAt (lent plan [] sources lengths [] []) [] counters [] 0 i
   offset-kept e h f g = rw (← e, h) (g ∙ ap (offsetOf (tables lengths [] [])) f)
 
 -- number a of the lengths and offsets
 abbrev pub lengthWord : List ℕ → List ℕ → List ℕ → List ℕ → ℕ → ℕ
-lengthWord plan sources lengths counts a =
-    cond (eqb (a % 2) 0) (lengthAt (lent plan [] sources lengths [] []) [] counts [] 0 (a / 2)) (offsetAt (lent plan [] sources lengths [] []) [] counts [] 0 (a / 2))
+lengthWord plan sources lengths counters a =
+    cond (eqb (a % 2) 0) (lengthAt (lent plan [] sources lengths [] []) [] counters [] 0 (a / 2)) (offsetAt (lent plan [] sources lengths [] []) [] counters [] 0 (a / 2))
 
 pub word-length : (q a b : ℕ) {r : ℕ} → q % 2 ≡ 0 → r ≡ a → r ≡ cond (eqb (q % 2) 0) a b
 word-length q a b h g = rw (eq-eqb (q % 2) 0 h) g
@@ -90,31 +90,31 @@ module _ (plan sources lengths places body : List ℕ) (i : ℕ) where
 
 -- ---- zero bits
 
-module _ (plan parts counts room : List ℕ) (i : ℕ) where
-  pub zeros-none : {b : Bool} → b ≡ hasPart plan i 0 → b ≡ false → 0 ≡ zerosOf plan parts counts room i
+module _ (plan parts counters room : List ℕ) (i : ℕ) where
+  pub zeros-none : {b : Bool} → b ≡ hasPart plan i 0 → b ≡ false → 0 ≡ zerosOf plan parts counters room i
   unfolding zerosAt
   zeros-none e h = rw (← e, h)
 
-  pub zeros-some : {b : Bool} {r start n : ℕ} → b ≡ hasPart plan i 0 → b ≡ true → start ≡ startOf plan parts i 0 → n ≡ rows counts i
-      → r ≡ zeros (bitsAt (8 * start + 0) n room) → r ≡ zerosOf plan parts counts room i
+  pub zeros-some : {b : Bool} {r start n : ℕ} → b ≡ hasPart plan i 0 → b ≡ true → start ≡ startOf plan parts i 0 → n ≡ rows counters i
+      → r ≡ zeros (bitsAt (8 * start + 0) n room) → r ≡ zerosOf plan parts counters room i
   unfolding zerosAt
   zeros-some {start = start} {n = n} e h f k g =
       rw (← e, h)
       (g ∙ ap (λ a. zeros (bitsAt a n room)) (add-zero (8 * start)) ∙ ap₂ (λ a c. zeros (bitsAt (8 * a) c room)) f k)
 
   -- where none is counted
-  pub zeros-are : (x : ℕ) {b : Bool} → x ≡ zerosOf plan parts counts room i → b ≡ hasPart plan i 0 → b ≡ false → x ≡ 0
+  pub zeros-are : (x : ℕ) {b : Bool} → x ≡ zerosOf plan parts counters room i → b ≡ hasPart plan i 0 → b ≡ false → x ≡ 0
   zeros-are x g e h = g ∙ sym (zeros-none e h)
 
 -- ---- null counts
 
-module _ (plan parts sources lengths places body counts room : List ℕ) (i : ℕ) where
-  pub nulls-copied : {b : Bool} {r : ℕ} → b ≡ copied plan i → b ≡ true → r ≡ zerosOf plan parts counts room i
-      → r ≡ nullsAt (lent plan parts sources lengths places body) [] counts room 0 i
+module _ (plan parts sources lengths places body counters room : List ℕ) (i : ℕ) where
+  pub nulls-copied : {b : Bool} {r : ℕ} → b ≡ copied plan i → b ≡ true → r ≡ zerosOf plan parts counters room i
+      → r ≡ nullsAt (lent plan parts sources lengths places body) [] counters room 0 i
   unfolding nullsAt zerosAt
   nulls-copied e h g = rw (← e, h) g
 
   pub nulls-kept : {b : Bool} {r k : ℕ} → b ≡ copied plan i → b ≡ false → k ≡ firstOf sources 0 + i → r ≡ nullCount (arrayOf (tables lengths places body) k)
-      → r ≡ nullsAt (lent plan parts sources lengths places body) [] counts room 0 i
+      → r ≡ nullsAt (lent plan parts sources lengths places body) [] counters room 0 i
   unfolding nullsAt
   nulls-kept e h f g = rw (← e, h) (g ∙ ap (λ a. nullCount (arrayOf (tables lengths places body) a)) f)

@@ -44,48 +44,48 @@ module _ (code r n : ℕ) {b : Bool} (e : b ≡ isString code) where
     pub dense-size : l ≡ false → r * 4 ≡ neededBy code r n 2
     dense-size k = rw (← e, h, ← g, k)
 
-module _ (plan counts : List ℕ) (i : ℕ) {r : ℕ} (e : r ≡ rows counts i) where
-  pub bits-size : (b : ℕ) → b ≡ 0 → (r + 7) / 8 ≡ needed plan counts i b
+module _ (plan counters : List ℕ) (i : ℕ) {r : ℕ} (e : r ≡ rows counters i) where
+  pub bits-size : (b : ℕ) → b ≡ 0 → (r + 7) / 8 ≡ needed plan counters i b
   bits-size b h = rw (h, e)
 
   module _ {code : ℕ} (f : code ≡ codeOf plan i) where
-    pub size-first : (b : ℕ) → b ≡ 1 → neededBy code r 0 1 ≡ needed plan counts i b
+    pub size-first : (b : ℕ) → b ≡ 1 → neededBy code r 0 1 ≡ needed plan counters i b
     size-first b h = rw (h, e, f)
 
-    pub size-second : (b : ℕ) → b < 3 → (b ≡ 0 → ⊥) → (b ≡ 1 → ⊥) → {n : ℕ} → n ≡ bytes counts i → neededBy code r n 2 ≡ needed plan counts i b
+    pub size-second : (b : ℕ) → b < 3 → (b ≡ 0 → ⊥) → (b ≡ 1 → ⊥) → {n : ℕ} → n ≡ bytes counters i → neededBy code r n 2 ≡ needed plan counters i b
     size-second b l h k {n} g = let q : b ≡ 2 = omega (arith, h, k) in rw (q, e, f, g)
 
 -- ---- where the parts lie
 
-module _ (plan parts counts : List ℕ) (m : ℕ) (w : partsWithin plan parts m ≡ true) (h : partsHold plan counts parts ≡ true) (i : ℕ) (l : i < nodesOf plan) where
-  pub bits-in : BitsIn plan parts counts m i
+module _ (plan parts counters : List ℕ) (m : ℕ) (w : partsWithin plan parts m ≡ true) (h : partsHold plan counters parts ≡ true) (i : ℕ) (l : i < nodesOf plan) where
+  pub bits-in : BitsIn plan parts counters m i
   bits-in p =
       let u : Used plan i 0 = record { node = l; part = p } in
       let a = within-used plan parts m w i 0 u in
-      let b = bits-held plan counts parts h i u in
+      let b = bits-held plan counters parts h i u in
       omega arith
 
-  pub placed-in : (base : ℕ) → base + m ≤ top → Placed plan parts counts base i
+  pub placed-in : (base : ℕ) → base + m ≤ top → Placed plan parts counters base i
   placed-in base g =
       record {
         start = λ b k p. let a = within-used plan parts m w i b (record { node = l; part = p }) in omega arith;
         size = λ b k p.
             let a = within-used plan parts m w i b (record { node = l; part = p }) in
-            let d = used-holds plan counts parts h i b (record { node = l; part = p }) in
+            let d = used-holds plan counters parts h i b (record { node = l; part = p }) in
             omega arith;
       }
 
 -- ---- the nine numbers of a node
 
-valid-same : (x y : Lent) (bs cs counts room : List ℕ) (base i j : ℕ) → x .plan ≡ y .plan → x .parts ≡ y .parts
-    → validPlace x bs counts room base i j ≡ validPlace y cs counts room base i j
-valid-same x y bs cs counts room base i zero e f = refl
-valid-same x y bs cs counts room base i (suc zero) e f = ap₂ (λ p q. base + startOf p q i 0) e f
-valid-same x y bs cs counts room base i (suc (suc j)) e f = refl
+valid-same : (x y : Lent) (bs cs counters room : List ℕ) (base i j : ℕ) → x .plan ≡ y .plan → x .parts ≡ y .parts
+    → validPlace x bs counters room base i j ≡ validPlace y cs counters room base i j
+valid-same x y bs cs counters room base i zero e f = refl
+valid-same x y bs cs counters room base i (suc zero) e f = ap₂ (λ p q. base + startOf p q i 0) e f
+valid-same x y bs cs counters room base i (suc (suc j)) e f = refl
 
-module _ (plan parts counts room : List ℕ) (base i j z : ℕ) where
+module _ (plan parts counters room : List ℕ) (base i j z : ℕ) where
   abbrev valid : ℕ
-  valid = validPlace (lent plan parts [] [] [] []) [] counts room base i j
+  valid = validPlace (lent plan parts [] [] [] []) [] counters room base i j
 
   pub valid-dropped : z ≡ 0 → 0 ≡ cond (eqb z 0) 0 valid
   valid-dropped h = rw h
@@ -97,39 +97,39 @@ module _ (plan parts counts room : List ℕ) (base i j z : ℕ) where
     pub valid-start : j ≡ 1 → {s : ℕ} → s ≡ startOf plan parts i 0 → base + s ≡ cond (eqb z 0) 0 valid
     valid-start e f = rw (ne-eqb z 0 h, e) (ap (λ k. base + k) f)
 
-    pub valid-size : j < 3 → (j ≡ 0 → ⊥) → (j ≡ 1 → ⊥) → {s : ℕ} → s ≡ needed plan counts i 0 → s ≡ cond (eqb z 0) 0 valid
+    pub valid-size : j < 3 → (j ≡ 0 → ⊥) → (j ≡ 1 → ⊥) → {s : ℕ} → s ≡ needed plan counters i 0 → s ≡ cond (eqb z 0) 0 valid
     valid-size l k n f = let q : j ≡ 2 = omega (arith, k, n) in rw (ne-eqb z 0 h, q) f
 
-module _ (x : Lent) (bs counts room : List ℕ) (base i j : ℕ) where
-  pub copied-valid : {z r : ℕ} → j < 3 → z ≡ zerosOf (x .plan) (x .parts) counts room i
-      → r ≡ cond (eqb z 0) 0 (validPlace (lent (x .plan) (x .parts) [] [] [] []) [] counts room base i j) → r ≡ copiedPlace x bs counts room base i j
+module _ (x : Lent) (bs counters room : List ℕ) (base i j : ℕ) where
+  pub copied-valid : {z r : ℕ} → j < 3 → z ≡ zerosOf (x .plan) (x .parts) counters room i
+      → r ≡ cond (eqb z 0) 0 (validPlace (lent (x .plan) (x .parts) [] [] [] []) [] counters room base i j) → r ≡ copiedPlace x bs counters room base i j
   unfolding copiedPlace zerosAt
   copied-valid {z} l e g =
       rw (lt-ltb j 3 l)
-      (g ∙ ap₂ (λ a b. cond (eqb a 0) 0 b) e (valid-same (lent (x .plan) (x .parts) [] [] [] []) x [] bs counts room base i j refl refl))
+      (g ∙ ap₂ (λ a b. cond (eqb a 0) 0 b) e (valid-same (lent (x .plan) (x .parts) [] [] [] []) x [] bs counters room base i j refl refl))
 
-  pub copied-three : {r : ℕ} → j ≡ 3 → r ≡ bufferStart x bs counts room base i 1 → r ≡ copiedPlace x bs counts room base i j
+  pub copied-three : {r : ℕ} → j ≡ 3 → r ≡ bufferStart x bs counters room base i 1 → r ≡ copiedPlace x bs counters room base i j
   unfolding copiedPlace
   copied-three e g = rw e g
 
-  pub copied-four : {r : ℕ} → j ≡ 4 → r ≡ bufferSize x bs counts room base i 1 → r ≡ copiedPlace x bs counts room base i j
+  pub copied-four : {r : ℕ} → j ≡ 4 → r ≡ bufferSize x bs counters room base i 1 → r ≡ copiedPlace x bs counters room base i j
   unfolding copiedPlace
   copied-four e g = rw e g
 
-  pub copied-five : {r : ℕ} → j ≡ 5 → r ≡ bufferStart x bs counts room base i 2 → r ≡ copiedPlace x bs counts room base i j
+  pub copied-five : {r : ℕ} → j ≡ 5 → r ≡ bufferStart x bs counters room base i 2 → r ≡ copiedPlace x bs counters room base i j
   unfolding copiedPlace
   copied-five e g = rw e g
 
-  pub copied-six : {r : ℕ} → j ≡ 6 → r ≡ bufferSize x bs counts room base i 2 → r ≡ copiedPlace x bs counts room base i j
+  pub copied-six : {r : ℕ} → j ≡ 6 → r ≡ bufferSize x bs counters room base i 2 → r ≡ copiedPlace x bs counters room base i j
   unfolding copiedPlace
   copied-six e g = rw e g
 
   pub copied-view : {r : ℕ} → 3 ≤ j → (j ≡ 3 → ⊥) → (j ≡ 4 → ⊥) → (j ≡ 5 → ⊥) → (j ≡ 6 → ⊥)
       → r ≡ cond (isView (codeOf (x .plan) i)) (cond (eqb j 7) (countBefore (x .plan) (x .sources) (x .places) i) (countAt (x .plan) (x .sources) (x .places) i)) 0
-      → r ≡ copiedPlace x bs counts room base i j
+      → r ≡ copiedPlace x bs counters room base i j
   unfolding copiedPlace
   copied-view l a b c d g =
-      rw (le-ltb j 3 l, ne-eqb j 3 a, ne-eqb j 4 b, ne-eqb j 5 c, ne-eqb j 6 d, before-same x bs counts room base i, of-same x bs counts room base i (min (sourceCount (x .plan)) 16))
+      rw (le-ltb j 3 l, ne-eqb j 3 a, ne-eqb j 4 b, ne-eqb j 5 c, ne-eqb j 6 d, before-same x bs counters room base i, of-same x bs counters room base i (min (sourceCount (x .plan)) 16))
       (g ∙ go (isView (codeOf (x .plan) i)))
     where
       go : (v : Bool)
@@ -138,48 +138,48 @@ module _ (x : Lent) (bs counts room : List ℕ) (base i j : ℕ) where
       go true = refl
       go false = refl
 
-  pub place-copied : {b : Bool} {r : ℕ} → b ≡ copied (x .plan) i → b ≡ true → r ≡ copiedPlace x bs counts room base i j → r ≡ placeAt x bs counts room base i j
+  pub place-copied : {b : Bool} {r : ℕ} → b ≡ copied (x .plan) i → b ≡ true → r ≡ copiedPlace x bs counters room base i j → r ≡ placeAt x bs counters room base i j
   unfolding placeAt
   place-copied e h g = rw (← e, h) g
 
-  pub place-kept : {b : Bool} {r : ℕ} → b ≡ copied (x .plan) i → b ≡ false → r ≡ keptPlace x bs counts room base i j → r ≡ placeAt x bs counts room base i j
+  pub place-kept : {b : Bool} {r : ℕ} → b ≡ copied (x .plan) i → b ≡ false → r ≡ keptPlace x bs counters room base i j → r ≡ placeAt x bs counters room base i j
   unfolding placeAt
   place-kept e h g = rw (← e, h) g
 
   -- a kept dictionary with n nulls
-  module _ {n : ℕ} (e : n ≡ nullsAt x bs counts room base i) where
-    pub kept-dropped : j < 3 → n ≡ 0 → 0 ≡ keptPlace x bs counts room base i j
+  module _ {n : ℕ} (e : n ≡ nullsAt x bs counters room base i) where
+    pub kept-dropped : j < 3 → n ≡ 0 → 0 ≡ keptPlace x bs counters room base i j
     unfolding keptPlace
     kept-dropped l h = rw (lt-ltb j 3 l, ← e, h)
 
-    pub kept-valid : {r k : ℕ} → j < 3 → (n ≡ 0 → ⊥) → k ≡ firstOf (x .sources) 0 + i → r ≡ getD (x .places) (9 * k + j) 0 → r ≡ keptPlace x bs counts room base i j
+    pub kept-valid : {r k : ℕ} → j < 3 → (n ≡ 0 → ⊥) → k ≡ firstOf (x .sources) 0 + i → r ≡ getD (x .places) (9 * k + j) 0 → r ≡ keptPlace x bs counters room base i j
     unfolding keptPlace
     kept-valid l h f g = rw (lt-ltb j 3 l, ← e, ne-eqb n 0 h) (g ∙ ap (λ a. getD (x .places) (9 * a + j) 0) f)
 
-  pub kept-buffer : {r k : ℕ} → 3 ≤ j → j < 7 → k ≡ firstOf (x .sources) 0 + i → r ≡ getD (x .places) (9 * k + j) 0 → r ≡ keptPlace x bs counts room base i j
+  pub kept-buffer : {r k : ℕ} → 3 ≤ j → j < 7 → k ≡ firstOf (x .sources) 0 + i → r ≡ getD (x .places) (9 * k + j) 0 → r ≡ keptPlace x bs counters room base i j
   unfolding keptPlace
   kept-buffer h l f g = rw (le-ltb j 3 h, lt-ltb j 7 l) (g ∙ ap (λ a. getD (x .places) (9 * a + j) 0) f)
 
-  pub kept-none : 3 ≤ j → 7 ≤ j → 0 ≡ keptPlace x bs counts room base i j
+  pub kept-none : 3 ≤ j → 7 ≤ j → 0 ≡ keptPlace x bs counters room base i j
   unfolding keptPlace
   kept-none h l = rw (le-ltb j 3 h, le-ltb j 7 l)
 
 -- ---- the null counts that are in their table
 
-module _ (x : Lent) (counts room nulls : List ℕ) (e : nulls ≡ nullTable x [] counts room 0) (i : ℕ) (l : i < nodesOf (x .plan)) {n : ℕ} (f : n ≡ getD nulls i 0) where
-  table-null : n ≡ nullsAt x [] counts room 0 i
+module _ (x : Lent) (counters room nulls : List ℕ) (e : nulls ≡ nullTable x [] counters room 0) (i : ℕ) (l : i < nodesOf (x .plan)) {n : ℕ} (f : n ≡ getD nulls i 0) where
+  table-null : n ≡ nullsAt x [] counters room 0 i
   unfolding nullTable
-  table-null = f ∙ ap (λ t. getD t i 0) e ∙ getD-seg (nullsAt x [] counts room 0) 0 (nodesOf (x .plan)) i 0 l ∙ ap (nullsAt x [] counts room 0) (zero-add i)
+  table-null = f ∙ ap (λ t. getD t i 0) e ∙ getD-seg (nullsAt x [] counters room 0) 0 (nodesOf (x .plan)) i 0 l ∙ ap (nullsAt x [] counters room 0) (zero-add i)
 
-  pub nulls-zeros : {b : Bool} → b ≡ copied (x .plan) i → b ≡ true → n ≡ zerosOf (x .plan) (x .parts) counts room i
+  pub nulls-zeros : {b : Bool} → b ≡ copied (x .plan) i → b ≡ true → n ≡ zerosOf (x .plan) (x .parts) counters room i
   unfolding nullsAt zerosAt
   nulls-zeros {b} g h = table-null ∙ one (sym g ∙ h)
     where
-      one : copied (x .plan) i ≡ true → nullsAt x [] counts room 0 i ≡ zerosOf (x .plan) (x .parts) counts room i
+      one : copied (x .plan) i ≡ true → nullsAt x [] counters room 0 i ≡ zerosOf (x .plan) (x .parts) counters room i
       one q = rw q
 
   -- it depends on neither the buffers nor where the room begins
-  pub nulls-are : (bs : List ℕ) (base : ℕ) → n ≡ nullsAt x bs counts room base i
+  pub nulls-are : (bs : List ℕ) (base : ℕ) → n ≡ nullsAt x bs counters room base i
   unfolding nullsAt zerosAt
   nulls-are bs base = table-null
 
@@ -192,12 +192,12 @@ pub start-some : (plan parts : List ℕ) (base i b : ℕ) {t : Bool} {s : ℕ} �
     → base + s ≡ bufferStart (lent plan parts [] [] [] []) [] [] [] base i b
 start-some plan parts base i b e h f = rw (← e, h) (ap (λ k. base + k) f)
 
-pub size-none : (plan counts : List ℕ) (i b : ℕ) {t : Bool} → t ≡ hasPart plan i b → t ≡ false → 0 ≡ bufferSize (lent plan [] [] [] [] []) [] counts [] 0 i b
-size-none plan counts i b e h = rw (← e, h)
+pub size-none : (plan counters : List ℕ) (i b : ℕ) {t : Bool} → t ≡ hasPart plan i b → t ≡ false → 0 ≡ bufferSize (lent plan [] [] [] [] []) [] counters [] 0 i b
+size-none plan counters i b e h = rw (← e, h)
 
-pub size-some : (plan counts : List ℕ) (i b : ℕ) {t : Bool} {s : ℕ} → t ≡ hasPart plan i b → t ≡ true → s ≡ needed plan counts i b
-    → s ≡ bufferSize (lent plan [] [] [] [] []) [] counts [] 0 i b
-size-some plan counts i b e h f = rw (← e, h) f
+pub size-some : (plan counters : List ℕ) (i b : ℕ) {t : Bool} {s : ℕ} → t ≡ hasPart plan i b → t ≡ true → s ≡ needed plan counters i b
+    → s ≡ bufferSize (lent plan [] [] [] [] []) [] counters [] 0 i b
+size-some plan counters i b e h f = rw (← e, h) f
 
 module _ (plan sources places : List ℕ) (i j : ℕ) {c : ℕ} {v : Bool} (e : c ≡ codeOf plan i) (f : v ≡ isView c) where
   abbrev shown : ℕ

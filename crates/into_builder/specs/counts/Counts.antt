@@ -13,8 +13,8 @@ abbrev pub keptOf : List ℕ → List ℕ → List ℕ → List ℕ → List ℕ
 keptOf plan sources lengths places body i = keptIn (lent plan [] sources lengths places body) [] [] [] 0 i
 
 abbrev pub zerosOf : List ℕ → List ℕ → List ℕ → List ℕ → ℕ → ℕ
-zerosOf plan parts counts room i = zerosAt (lent plan parts [] [] [] []) [] counts room 0 i
+zerosOf plan parts counters room i = zerosAt (lent plan parts [] [] [] []) [] counters room 0 i
 
 -- the validity of node i lies in a room of m bytes
 abbrev pub BitsIn : List ℕ → List ℕ → List ℕ → ℕ → ℕ → Type 0
-BitsIn plan parts counts m i = hasPart plan i 0 ≡ true → 8 * startOf plan parts i 0 + rows counts i ≤ 8 * m
+BitsIn plan parts counters m i = hasPart plan i 0 ≡ true → 8 * startOf plan parts i 0 + rows counters i ≤ 8 * m

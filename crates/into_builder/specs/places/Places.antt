@@ -8,6 +8,6 @@ use Rattle.walk.specs.Log.{startOf}
 use Rattle.plan.specs.parts.Parts.{hasPart, needed}
 
 -- the parts of node i start at positions of 64 bits in the body, and the numbers of their bytes are such too
-pub record Placed (plan parts counts : List ℕ) (base i : ℕ) : Type 0 where
+pub record Placed (plan parts counters : List ℕ) (base i : ℕ) : Type 0 where
   pub start : (b : ℕ) → b < 3 → hasPart plan i b ≡ true → base + startOf plan parts i b ≤ top
-  pub size : (b : ℕ) → b < 3 → hasPart plan i b ≡ true → needed plan counts i b ≤ top
+  pub size : (b : ℕ) → b < 3 → hasPart plan i b ≡ true → needed plan counters i b ≤ top

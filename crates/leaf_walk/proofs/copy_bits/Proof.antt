@@ -20,7 +20,7 @@ bits-fit-behind-requires c κs = search needs
 returns : tie.Need-returns
 returns c =
     let a = c .before .before .before .before .before .before .before .before .args in
-    λ lengths source. bits-no (join (a .state .now) (a .parts .now) lengths (a .places .now) (a .body .now) (a .first) source) (a .i) (a .write) (a .counts .now) (a .room .now) (a .slot) (a .n) (c .before .before .place .ensures) (c .before .bits-fit-behind .ensures) (c .if1 .taken)
+    λ lengths source. bits-no (join (a .plan .now) (a .parts .now) lengths (a .places .now) (a .body .now) (a .first) source) (a .i) (a .write) (a .counters .now) (a .room .now) (a .slot) (a .n) (c .before .before .place .ensures) (c .before .bits-fit-behind .ensures) (c .if1 .taken)
 
 is-uncounted-requires : tie.Need-is-uncounted-requires
 is-uncounted-requires c κs = search needs
@@ -28,7 +28,7 @@ is-uncounted-requires c κs = search needs
 returns-2 : tie.Need-returns-2
 returns-2 c =
     let a = c .before .before .before .before .before .before .before .before .before .before .before .args in
-    λ lengths source. bits-tried (join (a .state .now) (a .parts .now) lengths (a .places .now) (a .body .now) (a .first) source) (a .i) (a .write) (a .counts .now) (a .room .now) (a .slot) (a .n) (c .before .before .before .before .before .place .ensures) (c .before .before .before .before .bits-fit-behind .ensures) (c .before .before .before .if1 .left) (c .before .is-uncounted .ensures) (c .if2 .taken)
+    λ lengths source. bits-tried (join (a .plan .now) (a .parts .now) lengths (a .places .now) (a .body .now) (a .first) source) (a .i) (a .write) (a .counters .now) (a .room .now) (a .slot) (a .n) (c .before .before .before .before .before .place .ensures) (c .before .before .before .before .bits-fit-behind .ensures) (c .before .before .before .if1 .left) (c .before .is-uncounted .ensures) (c .if2 .taken)
 
 rows-of-requires : tie.Need-rows-of-requires
 rows-of-requires c κs = search needs
@@ -46,7 +46,7 @@ same-length c = search needs
 returns-3 : tie.Need-returns-3
 returns-3 c =
     let a = c .before .before .before .before .before .before .before .before .before .before .before .before .before .before .before .before .before .before .before .args in
-    λ lengths source. bits-yes (join (a .state .now) (a .parts .now) lengths (a .places .now) (a .body .now) (a .first) source) (a .i) (a .write) (a .counts .now) (a .room .now) (a .slot) (a .n) (c .before .before .before .before .before .before .before .before .before .before .before .before .before .place .ensures) (c .before .before .before .before .before .before .before .before .before .before .before .before .bits-fit-behind .ensures) (c .before .before .before .before .before .before .before .before .before .before .before .if1 .left) (c .before .before .before .before .before .before .rows-of .ensures) (c .before .before .before .before .put-mask .ensures .0) (c .before .before .before .before .put-mask .ensures .1) (c .add-nulls .ensures)
+    λ lengths source. bits-yes (join (a .plan .now) (a .parts .now) lengths (a .places .now) (a .body .now) (a .first) source) (a .i) (a .write) (a .counters .now) (a .room .now) (a .slot) (a .n) (c .before .before .before .before .before .before .before .before .before .before .before .before .before .place .ensures) (c .before .before .before .before .before .before .before .before .before .before .before .before .bits-fit-behind .ensures) (c .before .before .before .before .before .before .before .before .before .before .before .if1 .left) (c .before .before .before .before .before .before .rows-of .ensures) (c .before .before .before .before .put-mask .ensures .0) (c .before .before .before .before .put-mask .ensures .1) (c .add-nulls .ensures)
 
 pub copy-bits-spec : {M : Type 1} → statement M
 copy-bits-spec =

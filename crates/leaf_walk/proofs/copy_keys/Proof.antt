@@ -26,7 +26,7 @@ returns : tie.Need-returns
 unfolding copyKeys
 returns c =
     let a = c .before .before .before .before .before .before .before .before .args in
-    λ lengths. entries-no (join (a .state .now) (a .parts .now) lengths (a .places .now) (a .body .now) (a .first) (a .source)) (a .i) (a .write) (a .counts .now) (a .room .now) (a .w) (a .slot) (a .n) _ (c .before .before .place .ensures) (c .before .rows-in .ensures (a .state .now) (a .parts .now) lengths (a .places .now) (a .first) (a .source)) (c .if1 .taken)
+    λ lengths. entries-no (join (a .plan .now) (a .parts .now) lengths (a .places .now) (a .body .now) (a .first) (a .source)) (a .i) (a .write) (a .counters .now) (a .room .now) (a .w) (a .slot) (a .n) _ (c .before .before .place .ensures) (c .before .rows-in .ensures (a .plan .now) (a .parts .now) lengths (a .places .now) (a .first) (a .source)) (c .if1 .taken)
 
 rows-of-requires : tie.Need-rows-of-requires
 rows-of-requires c κs = search needs
@@ -61,7 +61,7 @@ returns-2 : tie.Need-returns-2
 unfolding copyKeys
 returns-2 c =
     let a = c .before .before .before .before .before .before .before .before .before .before .before .before .before .before .before .before .args in
-    λ lengths. entries-yes (join (a .state .now) (a .parts .now) lengths (a .places .now) (a .body .now) (a .first) (a .source)) (a .i) (a .write) (a .counts .now) (a .room .now) (a .w) (a .slot) (a .n) (λ at base. rebased (a .w) (a .body .now) (at + a .w * a .slot) base (a .n)) (c .before .before .before .before .before .before .before .before .before .before .place .ensures) (c .before .before .before .before .base-of .ensures) (c .before .before .before .before .before .before .before .before .before .rows-in .ensures (a .state .now) (a .parts .now) lengths (a .places .now) (a .first) (a .source)) (c .before .before .before .before .before .before .before .before .if1 .left) (c .before .before .before .before .before .before .rows-of .ensures) (c .before .before .before .before .before .scale .ensures) (omega (arith, c .before .before .before .before .before .before .before .before .before .before .before .before .before .before .before .before .good)) (c .before .before .put-keys .ensures)
+    λ lengths. entries-yes (join (a .plan .now) (a .parts .now) lengths (a .places .now) (a .body .now) (a .first) (a .source)) (a .i) (a .write) (a .counters .now) (a .room .now) (a .w) (a .slot) (a .n) (λ at base. rebased (a .w) (a .body .now) (at + a .w * a .slot) base (a .n)) (c .before .before .before .before .before .before .before .before .before .before .place .ensures) (c .before .before .before .before .base-of .ensures) (c .before .before .before .before .before .before .before .before .before .rows-in .ensures (a .plan .now) (a .parts .now) lengths (a .places .now) (a .first) (a .source)) (c .before .before .before .before .before .before .before .before .if1 .left) (c .before .before .before .before .before .before .rows-of .ensures) (c .before .before .before .before .before .scale .ensures) (omega (arith, c .before .before .before .before .before .before .before .before .before .before .before .before .before .before .before .before .good)) (c .before .before .put-keys .ensures)
 
 pub copy-keys-spec : {M : Type 1} → statement M
 copy-keys-spec =

@@ -11,7 +11,7 @@ keeps-of-requires c κs = search needs
 returns : tie.Need-returns
 returns c =
     let a = c .before .before .before .before .before .before .before .args in
-    λ lengths source. mask-off (join (a .state .now) (a .parts .now) lengths (a .places .now) (a .body .now) (a .first) source) (a .i) (a .write) (a .counts .now) (a .room .now) (a .slot) (a .n) (c .before .keeps-of .ensures) (c .if1 .taken)
+    λ lengths source. mask-off (join (a .plan .now) (a .parts .now) lengths (a .places .now) (a .body .now) (a .first) source) (a .i) (a .write) (a .counters .now) (a .room .now) (a .slot) (a .n) (c .before .keeps-of .ensures) (c .if1 .taken)
 
 add-place : tie.Need-add-place
 add-place c = search needs
@@ -31,7 +31,7 @@ same-length c = search needs
 returns-2 : tie.Need-returns-2
 returns-2 c =
     let a = c .before .before .before .before .before .before .before .before .before .before .before .before .before .before .before .args in
-    λ lengths source. mask-ones (join (a .state .now) (a .parts .now) lengths (a .places .now) (a .body .now) (a .first) source) (a .i) (a .write) (a .counts .now) (a .room .now) (a .slot) (a .n) (c .before .before .before .before .before .before .before .before .before .keeps-of .ensures) (c .before .before .before .before .before .before .before .before .if1 .left) (c .before .before .before .before .before .before .before .place .ensures) (c .before .before .before .before .before .before .if2 .taken) (c .before .before .before .before .rows-of .ensures) (c .before .before .put-ones .ensures)
+    λ lengths source. mask-ones (join (a .plan .now) (a .parts .now) lengths (a .places .now) (a .body .now) (a .first) source) (a .i) (a .write) (a .counters .now) (a .room .now) (a .slot) (a .n) (c .before .before .before .before .before .before .before .before .before .keeps-of .ensures) (c .before .before .before .before .before .before .before .before .if1 .left) (c .before .before .before .before .before .before .before .place .ensures) (c .before .before .before .before .before .before .if2 .taken) (c .before .before .before .before .rows-of .ensures) (c .before .before .put-ones .ensures)
 
 copy-bits-requires : tie.Need-copy-bits-requires
 copy-bits-requires c κs = search needs
@@ -42,7 +42,7 @@ same-length-2 c = search needs
 returns-3 : tie.Need-returns-3
 returns-3 c =
     let a = c .before .before .before .before .before .before .before .before .before .before .before .before .before .before .args in
-    λ lengths source. mask-bits (join (a .state .now) (a .parts .now) lengths (a .places .now) (a .body .now) (a .first) source) (a .i) (a .write) (a .counts .now) (a .room .now) (a .slot) (a .n) (c .before .before .before .before .before .before .before .before .keeps-of .ensures) (c .before .before .before .before .before .before .before .if1 .left) (c .before .before .before .before .before .before .place .ensures) (c .before .before .before .before .before .if2 .left) (c .before .before .copy-bits .ensures lengths source)
+    λ lengths source. mask-bits (join (a .plan .now) (a .parts .now) lengths (a .places .now) (a .body .now) (a .first) source) (a .i) (a .write) (a .counters .now) (a .room .now) (a .slot) (a .n) (c .before .before .before .before .before .before .before .before .keeps-of .ensures) (c .before .before .before .before .before .before .before .if1 .left) (c .before .before .before .before .before .before .place .ensures) (c .before .before .before .before .before .if2 .left) (c .before .before .copy-bits .ensures lengths source)
 
 pub copy-mask-spec : {M : Type 1} → statement M
 copy-mask-spec =

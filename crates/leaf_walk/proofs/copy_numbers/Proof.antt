@@ -23,7 +23,7 @@ returns : tie.Need-returns
 unfolding copyNumbers
 returns c =
     let a = c .before .before .before .before .before .before .before .before .args in
-    λ lengths source. entries-no (join (a .state .now) (a .parts .now) lengths (a .places .now) (a .body .now) (a .first) source) (a .i) (a .write) (a .counts .now) (a .room .now) (a .w) (a .slot) (a .n) _ (c .before .before .place .ensures) (c .before .rows-in .ensures (a .state .now) (a .parts .now) lengths (a .places .now) (a .first) source) (c .if1 .taken)
+    λ lengths source. entries-no (join (a .plan .now) (a .parts .now) lengths (a .places .now) (a .body .now) (a .first) source) (a .i) (a .write) (a .counters .now) (a .room .now) (a .w) (a .slot) (a .n) _ (c .before .before .place .ensures) (c .before .rows-in .ensures (a .plan .now) (a .parts .now) lengths (a .places .now) (a .first) source) (c .if1 .taken)
 
 rows-of-requires : tie.Need-rows-of-requires
 rows-of-requires c κs = search needs
@@ -58,7 +58,7 @@ returns-2 : tie.Need-returns-2
 unfolding copyNumbers
 returns-2 c =
     let a = c .before .before .before .before .before .before .before .before .before .before .before .before .before .before .before .args in
-    λ lengths source. entries-yes (join (a .state .now) (a .parts .now) lengths (a .places .now) (a .body .now) (a .first) source) (a .i) (a .write) (a .counts .now) (a .room .now) (a .w) (a .slot) (a .n) (λ at base. take (a .w * a .n) (drop (at + a .w * a .slot) (a .body .now))) (c .before .before .before .before .before .before .before .before .before .place .ensures) zero-same (c .before .before .before .before .before .before .before .before .rows-in .ensures (a .state .now) (a .parts .now) lengths (a .places .now) (a .first) source) (c .before .before .before .before .before .before .before .if1 .left) (c .before .before .before .before .before .rows-of .ensures) (c .before .before .before .before .scale .ensures) (omega (arith, c .before .before .before .before .before .before .before .before .before .before .before .before .before .before .before .good)) (c .before .before .put-copy .ensures)
+    λ lengths source. entries-yes (join (a .plan .now) (a .parts .now) lengths (a .places .now) (a .body .now) (a .first) source) (a .i) (a .write) (a .counters .now) (a .room .now) (a .w) (a .slot) (a .n) (λ at base. take (a .w * a .n) (drop (at + a .w * a .slot) (a .body .now))) (c .before .before .before .before .before .before .before .before .before .place .ensures) zero-same (c .before .before .before .before .before .before .before .before .rows-in .ensures (a .plan .now) (a .parts .now) lengths (a .places .now) (a .first) source) (c .before .before .before .before .before .before .before .if1 .left) (c .before .before .before .before .before .rows-of .ensures) (c .before .before .before .before .scale .ensures) (omega (arith, c .before .before .before .before .before .before .before .before .before .before .before .before .before .before .before .good)) (c .before .before .put-copy .ensures)
 
 pub copy-numbers-spec : {M : Type 1} → statement M
 copy-numbers-spec =

@@ -23,7 +23,7 @@ returns : tie.Need-returns
 unfolding copyViews
 returns c =
     let a = c .before .before .before .before .before .before .before .before .args in
-    λ lengths. entries-no (join (a .state .now) (a .parts .now) lengths (a .places .now) (a .body .now) (a .first) (a .source)) (a .i) (a .write) (a .counts .now) (a .room .now) (16) (a .slot) (a .n) _ (c .before .before .place .ensures) (c .before .rows-in .ensures (a .state .now) (a .parts .now) lengths (a .places .now) (a .first) (a .source)) (c .if1 .taken)
+    λ lengths. entries-no (join (a .plan .now) (a .parts .now) lengths (a .places .now) (a .body .now) (a .first) (a .source)) (a .i) (a .write) (a .counters .now) (a .room .now) (16) (a .slot) (a .n) _ (c .before .before .place .ensures) (c .before .rows-in .ensures (a .plan .now) (a .parts .now) lengths (a .places .now) (a .first) (a .source)) (c .if1 .taken)
 
 rows-of-requires : tie.Need-rows-of-requires
 rows-of-requires c κs = search needs
@@ -56,7 +56,7 @@ returns-2 : tie.Need-returns-2
 unfolding copyViews
 returns-2 c =
     let a = c .before .before .before .before .before .before .before .before .before .before .before .before .before .before .before .before .args in
-    λ lengths. entries-yes (join (a .state .now) (a .parts .now) lengths (a .places .now) (a .body .now) (a .first) (a .source)) (a .i) (a .write) (a .counts .now) (a .room .now) (16) (a .slot) (a .n) (λ at base. reviewed (a .body .now) (at + 16 * a .slot) base (a .n)) (c .before .before .before .before .before .before .before .before .before .before .place .ensures) (c .before .before .before .before .base-of .ensures) (c .before .before .before .before .before .before .before .before .before .rows-in .ensures (a .state .now) (a .parts .now) lengths (a .places .now) (a .first) (a .source)) (c .before .before .before .before .before .before .before .before .if1 .left) (c .before .before .before .before .before .before .rows-of .ensures) (c .before .before .before .before .before .scale .ensures) (omega (arith, c .before .before .before .before .before .before .before .before .before .before .before .before .before .before .before .before .good)) (c .before .before .put-views .ensures)
+    λ lengths. entries-yes (join (a .plan .now) (a .parts .now) lengths (a .places .now) (a .body .now) (a .first) (a .source)) (a .i) (a .write) (a .counters .now) (a .room .now) (16) (a .slot) (a .n) (λ at base. reviewed (a .body .now) (at + 16 * a .slot) base (a .n)) (c .before .before .before .before .before .before .before .before .before .before .place .ensures) (c .before .before .before .before .base-of .ensures) (c .before .before .before .before .before .before .before .before .before .rows-in .ensures (a .plan .now) (a .parts .now) lengths (a .places .now) (a .first) (a .source)) (c .before .before .before .before .before .before .before .before .if1 .left) (c .before .before .before .before .before .before .rows-of .ensures) (c .before .before .before .before .before .scale .ensures) (omega (arith, c .before .before .before .before .before .before .before .before .before .before .before .before .before .before .before .before .good)) (c .before .before .put-views .ensures)
 
 pub copy-views-spec : {M : Type 1} → statement M
 copy-views-spec =

@@ -11,7 +11,7 @@ keeps-of-requires c κs = search needs
 returns : tie.Need-returns
 returns c =
     let a = c .before .before .before .args in
-    λ parts lengths places body room first source write. count-off (join (a .state .now) parts lengths places body first source) (a .i) write (a .counts .now) room (a .n) (c .before .keeps-of .ensures) (c .if1 .taken)
+    λ parts lengths places body room first source write. count-off (join (a .plan .now) parts lengths places body first source) (a .i) write (a .counters .now) room (a .n) (c .before .keeps-of .ensures) (c .if1 .taken)
 
 add-nulls-requires : tie.Need-add-nulls-requires
 add-nulls-requires c κs = search needs
@@ -19,7 +19,7 @@ add-nulls-requires c κs = search needs
 returns-2 : tie.Need-returns-2
 returns-2 c =
     let a = c .before .before .before .before .before .args in
-    λ parts lengths places body room first source write. count-on (join (a .state .now) parts lengths places body first source) (a .i) write (a .counts .now) room (a .n) (c .before .before .before .keeps-of .ensures) (c .before .before .if1 .left) (c .add-nulls .ensures)
+    λ parts lengths places body room first source write. count-on (join (a .plan .now) parts lengths places body first source) (a .i) write (a .counters .now) room (a .n) (c .before .before .before .keeps-of .ensures) (c .before .before .if1 .left) (c .add-nulls .ensures)
 
 pub count-nulls-spec : {M : Type 1} → statement M
 count-nulls-spec = tie.close (tie.spec keeps-of-requires returns add-nulls-requires returns-2)

@@ -11,7 +11,7 @@ keeps-of-requires c κs = search needs
 returns : tie.Need-returns
 returns c =
     let a = c .before .before .before .before .before .args in
-    λ lengths places body first source. nulls-off (join (a .state .now) (a .parts .now) lengths places body first source) (a .i) (a .write) (a .counts .now) (a .room .now) (a .n) (c .before .keeps-of .ensures) (c .if1 .taken)
+    λ lengths places body first source. nulls-off (join (a .plan .now) (a .parts .now) lengths places body first source) (a .i) (a .write) (a .counters .now) (a .room .now) (a .n) (c .before .keeps-of .ensures) (c .if1 .taken)
 
 rows-of-requires : tie.Need-rows-of-requires
 rows-of-requires c κs = search needs
@@ -28,7 +28,7 @@ same-length c = search needs
 returns-2 : tie.Need-returns-2
 returns-2 c =
     let a = c .before .before .before .before .before .before .before .before .before .before .before .before .before .args in
-    λ lengths places body first source. nulls-on (join (a .state .now) (a .parts .now) lengths places body first source) (a .i) (a .write) (a .counts .now) (a .room .now) (a .n) (c .before .before .before .before .before .before .before .before .before .keeps-of .ensures) (c .before .before .before .before .before .before .before .before .if1 .left) (c .before .before .before .before .before .before .rows-of .ensures) (c .before .before .before .before .put-null-bits .ensures) (c .add-nulls .ensures)
+    λ lengths places body first source. nulls-on (join (a .plan .now) (a .parts .now) lengths places body first source) (a .i) (a .write) (a .counters .now) (a .room .now) (a .n) (c .before .before .before .before .before .before .before .before .before .keeps-of .ensures) (c .before .before .before .before .before .before .before .before .if1 .left) (c .before .before .before .before .before .before .rows-of .ensures) (c .before .before .before .before .put-null-bits .ensures) (c .add-nulls .ensures)
 
 pub null-mask-spec : {M : Type 1} → statement M
 null-mask-spec =

@@ -25,7 +25,7 @@ returns : tie.Need-returns
 unfolding nullNumbers
 returns c =
     let a = c .before .before .before .before .before .before .before .before .before .before .args in
-    λ lengths places body first source. wrote-at (a .state .now) (a .parts .now) (a .write) (a .i) (a .b) (rows (a .counts .now) (a .i)) (a .w) (replicate (a .n * a .w) 0) (a .counts .now) (a .room .now) (c .before .before .before .before .before .rows-of .ensures) (c .before .before .before .before .scale .ensures) (omega (arith, c .before .before .before .before .before .before .before .before .before .before .good)) (c .before .before .put-zeros .ensures)
+    λ lengths places body first source. wrote-at (a .plan .now) (a .parts .now) (a .write) (a .i) (a .b) (rows (a .counters .now) (a .i)) (a .w) (replicate (a .n * a .w) 0) (a .counters .now) (a .room .now) (c .before .before .before .before .before .rows-of .ensures) (c .before .before .before .before .scale .ensures) (omega (arith, c .before .before .before .before .before .before .before .before .before .before .good)) (c .before .before .put-zeros .ensures)
 
 pub null-numbers-spec : {M : Type 1} → statement M
 null-numbers-spec =

@@ -18,7 +18,7 @@ rows-fit-behind-requires c κs = search needs
 returns : tie.Need-returns
 returns c =
     let a = c .before .before .args in
-    λ state parts lengths places first source. c .rows-fit-behind .ensures ∙ rows-is (join state parts lengths places (a .body .now) first source) (a .at) (a .w) (a .slot) (a .n)
+    λ plan parts lengths places first source. c .rows-fit-behind .ensures ∙ rows-is (join plan parts lengths places (a .body .now) first source) (a .at) (a .w) (a .slot) (a .n)
 
 pub rows-in-spec : {M : Type 1} → statement M
 rows-in-spec = tie.close (tie.spec add-rows-fit-behind cast-rows-fit-behind rows-fit-behind-requires returns)

@@ -12,7 +12,7 @@ rows-of-requires c κs = search needs
 returns : tie.Need-returns
 returns c =
     let a = c .before .before .before .before .before .args in
-    dense-no (a .state .now) (a .parts .now) (a .write) (a .i) (a .counts .now) (a .room .now) (a .r) (a .k) (a .id) (c .before .rows-of .ensures) (c .if1 .taken)
+    dense-no (a .plan .now) (a .parts .now) (a .write) (a .i) (a .counters .now) (a .room .now) (a .r) (a .k) (a .id) (c .before .rows-of .ensures) (c .if1 .taken)
 
 rows-of-requires-2 : tie.Need-rows-of-requires-2
 rows-of-requires-2 c κs = search needs
@@ -35,7 +35,7 @@ same-length c = search needs
 returns-2 : tie.Need-returns-2
 returns-2 c =
     let a = c .before .before .before .before .before .before .before .before .before .before .before .before .before .before .before .before .args in
-    dense-yes (a .state .now) (a .parts .now) (a .write) (a .i) (a .counts .now) (a .room .now) (a .r) (a .k) (a .id) (c .before .before .before .before .before .before .before .before .before .before .before .before .rows-of .ensures) (c .before .before .before .before .before .before .before .before .before .before .before .if1 .left) (c .before .before .before .before .before .before .before .before .before .before .rows-of2 .ensures) (c .before .before .before .before .before .before .before .before .before .grow .ensures) (c .before .before .before .before .scale .ensures) (omega (arith, c .before .before .before .before .before .before .before .before .before .before .before .before .before .before .before .before .good)) (omega (arith, c .before .before .before .before .before .before .before .before .before .before .before .before .before .before .before .before .good, c .before .before .before .before .before .before .room)) (c .before .before .before .before .before .before .before .put-same .ensures) (c .before .before .put-number .ensures)
+    dense-yes (a .plan .now) (a .parts .now) (a .write) (a .i) (a .counters .now) (a .room .now) (a .r) (a .k) (a .id) (c .before .before .before .before .before .before .before .before .before .before .before .before .rows-of .ensures) (c .before .before .before .before .before .before .before .before .before .before .before .if1 .left) (c .before .before .before .before .before .before .before .before .before .before .rows-of2 .ensures) (c .before .before .before .before .before .before .before .before .before .grow .ensures) (c .before .before .before .before .scale .ensures) (omega (arith, c .before .before .before .before .before .before .before .before .before .before .before .before .before .before .before .before .good)) (omega (arith, c .before .before .before .before .before .before .before .before .before .before .before .before .before .before .before .before .good, c .before .before .before .before .before .before .room)) (c .before .before .before .before .before .before .before .put-same .ensures) (c .before .before .put-number .ensures)
 
 pub dense-numbers-spec : {M : Type 1} → statement M
 dense-numbers-spec = tie.close (tie.spec rows-of-requires returns rows-of-requires-2 grow-requires put-same-requires scale-requires put-number-requires same-length returns-2)

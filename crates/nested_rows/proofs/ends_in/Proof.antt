@@ -21,12 +21,12 @@ length-of-requires c κs = search needs
 returns : tie.Need-returns
 returns c =
     let a = c .before .before .before .before .before .before .args in
-    λ state parts source. ends-past (join state parts (a .lengths .now) (a .places .now) (a .body .now) (a .first) source) _ (a .w) _ _ (c .before .before .before .before .before .before .pre .2) (omega (arith, c .before .before .offset-of .ensures, c .before .before .before .before .before .before .good))
+    λ plan parts source. ends-past (join plan parts (a .lengths .now) (a .places .now) (a .body .now) (a .first) source) _ (a .w) _ _ (c .before .before .before .before .before .before .pre .2) (omega (arith, c .before .before .offset-of .ensures, c .before .before .before .before .before .before .good))
 
 returns-2 : tie.Need-returns-2
 returns-2 c =
     let a = c .before .before .before .before .before .before .before .args in
-    λ state parts source. ends-past (join state parts (a .lengths .now) (a .places .now) (a .body .now) (a .first) source) _ (a .w) _ _ (c .before .before .before .before .before .before .before .pre .2) (omega (arith, c .before .before .length-of .ensures, c .before .before .before .before .before .before .before .good))
+    λ plan parts source. ends-past (join plan parts (a .lengths .now) (a .places .now) (a .body .now) (a .first) source) _ (a .w) _ _ (c .before .before .before .before .before .before .before .pre .2) (omega (arith, c .before .before .length-of .ensures, c .before .before .before .before .before .before .before .good))
 
 add-place : tie.Need-add-place
 add-place c = search needs
@@ -40,7 +40,7 @@ rows-in-requires c κs = search needs
 returns-3 : tie.Need-returns-3
 returns-3 c =
     let a = c .before .before .before .before .before .before .before .before .before .args in
-    λ state parts source. ends-given (join state parts (a .lengths .now) (a .places .now) (a .body .now) (a .first) source) (a .i) (a .w) (c .before .place .ensures) (c .before .before .before .before .before .offset-of .ensures) (c .before .before .before .before .length-of .ensures) (c .rows-in .ensures state parts (a .lengths .now) (a .places .now) (a .first) source)
+    λ plan parts source. ends-given (join plan parts (a .lengths .now) (a .places .now) (a .body .now) (a .first) source) (a .i) (a .w) (c .before .place .ensures) (c .before .before .before .before .before .offset-of .ensures) (c .before .before .before .before .length-of .ensures) (c .rows-in .ensures plan parts (a .lengths .now) (a .places .now) (a .first) source)
 
 pub ends-in-spec : {M : Type 1} → statement M
 ends-in-spec = tie.close (tie.spec add-offset-of offset-of-requires add-length-of length-of-requires returns returns-2 add-place place-requires rows-in-requires returns-3)

@@ -17,17 +17,17 @@ width-at-requires c κs = search needs
 returns-2 : tie.Need-returns-2
 returns-2 c =
     let a = c .before .before .before .before .args in
-    ends-near (a .i) (a .state .now) (c .before .before .if1 .left) (add-one (a .i)) (c .before .width-at .ensures) (two-wide _ (c .if2 .taken))
+    ends-near (a .i) (a .plan .now) (c .before .before .if1 .left) (add-one (a .i)) (c .before .width-at .ensures) (two-wide _ (c .if2 .taken))
 
 returns-3 : tie.Need-returns-3
 returns-3 c =
     let a = c .before .before .before .before .before .args in
-    ends-near (a .i) (a .state .now) (c .before .before .before .if1 .left) (add-one (a .i)) (c .before .before .width-at .ensures) (four-wide _ (c .if3 .taken))
+    ends-near (a .i) (a .plan .now) (c .before .before .before .if1 .left) (add-one (a .i)) (c .before .before .width-at .ensures) (four-wide _ (c .if3 .taken))
 
 returns-4 : tie.Need-returns-4
 returns-4 c =
     let a = c .before .before .before .before .before .args in
-    ends-near (a .i) (a .state .now) (c .before .before .before .if1 .left) (add-one (a .i)) (c .before .before .width-at .ensures) (else-wide _ (c .before .if2 .left) (c .if3 .left))
+    ends-near (a .i) (a .plan .now) (c .before .before .before .if1 .left) (add-one (a .i)) (c .before .before .width-at .ensures) (else-wide _ (c .before .if2 .left) (c .if3 .left))
 
 pub has-ends-spec : {M : Type 1} → statement M
 has-ends-spec = tie.close (tie.spec returns add-width-at width-at-requires returns-2 returns-3 returns-4)

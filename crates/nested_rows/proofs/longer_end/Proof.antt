@@ -19,7 +19,7 @@ rows-of-requires c κs = search needs
 returns : tie.Need-returns
 returns c =
     let a = c .before .before .before .before .before .args in
-    longer-none (a .state .now) (a .parts .now) (a .write) (a .i) (a .counts .now) (a .room .now) (a .n) (add-one (a .i)) (c .before .rows-of .ensures) (c .if1 .taken)
+    longer-none (a .plan .now) (a .parts .now) (a .write) (a .i) (a .counters .now) (a .room .now) (a .n) (add-one (a .i)) (c .before .rows-of .ensures) (c .if1 .taken)
 
 add-width-at : tie.Need-add-width-at
 add-width-at c = search needs
@@ -36,7 +36,7 @@ sum-fits-requires c κs = rw (← add-one (c .before .before .before .before .be
 returns-2 : tie.Need-returns-2
 returns-2 c =
     let a = c .before .before .before .before .before .before .before .before .before .args in
-    longer-no (a .state .now) (a .parts .now) (a .write) (a .i) (a .counts .now) (a .room .now) (a .n) (add-one (a .i)) (c .before .before .before .before .before .rows-of .ensures) (c .before .before .before .before .if1 .left) (c .before .before .before .width-at .ensures) (c .before .before .rows-of2 .ensures) (c .before .sum-fits .ensures) (c .if2 .taken)
+    longer-no (a .plan .now) (a .parts .now) (a .write) (a .i) (a .counters .now) (a .room .now) (a .n) (add-one (a .i)) (c .before .before .before .before .before .rows-of .ensures) (c .before .before .before .before .if1 .left) (c .before .before .before .width-at .ensures) (c .before .before .rows-of2 .ensures) (c .before .sum-fits .ensures) (c .if2 .taken)
 
 sub-scale : tie.Need-sub-scale
 sub-scale c = search needs
@@ -59,7 +59,7 @@ same-length c = search needs
 returns-3 : tie.Need-returns-3
 returns-3 c =
     let a = c .before .before .before .before .before .before .before .before .before .before .before .before .before .before .args in
-    longer-yes (a .state .now) (a .parts .now) (a .write) (a .i) (a .counts .now) (a .room .now) (a .n) (add-one (a .i)) (c .before .before .before .before .before .before .before .before .before .before .rows-of .ensures) (c .before .before .before .before .before .before .before .before .before .if1 .left) (c .before .before .before .before .before .before .before .before .width-at .ensures) (c .before .before .before .before .before .before .before .rows-of2 .ensures) (c .before .before .before .before .before .before .sum-fits .ensures) (c .before .before .before .before .before .if2 .left) (c .before .before .before .before .scale .ensures)
+    longer-yes (a .plan .now) (a .parts .now) (a .write) (a .i) (a .counters .now) (a .room .now) (a .n) (add-one (a .i)) (c .before .before .before .before .before .before .before .before .before .before .rows-of .ensures) (c .before .before .before .before .before .before .before .before .before .if1 .left) (c .before .before .before .before .before .before .before .before .width-at .ensures) (c .before .before .before .before .before .before .before .rows-of2 .ensures) (c .before .before .before .before .before .before .sum-fits .ensures) (c .before .before .before .before .before .if2 .left) (c .before .before .before .before .scale .ensures)
     (omega (arith, c .before .before .before .before .before .before .before .before .before .before .before .before .before .before .good)) (c .before .before .put-number .ensures)
 
 pub longer-end-spec : {M : Type 1} → statement M

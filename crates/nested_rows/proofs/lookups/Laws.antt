@@ -32,29 +32,29 @@ module _ (x : Join) (i a n : ℕ) where
 
 -- ---- children
 
-module _ (state : List ℕ) (end k : ℕ) where
-  pub child-none : (id f : ℕ) → end ≤ k → childWith state id end f k ≡ 32
+module _ (plan : List ℕ) (end k : ℕ) where
+  pub child-none : (id f : ℕ) → end ≤ k → childWith plan id end f k ≡ 32
   unfolding childWith
   child-none id zero h = refl
   child-none id (suc f) h = rw (le-ltb k end h)
 
-  pub child-here : (id : ℕ) {f f′ v : ℕ} → f ≡ suc f′ → k < end → v ≡ idOf state k → v ≡ id → childWith state id end f k ≡ k
+  pub child-here : (id : ℕ) {f f′ v : ℕ} → f ≡ suc f′ → k < end → v ≡ idOf plan k → v ≡ id → childWith plan id end f k ≡ k
   unfolding childWith
-  child-here id e h q r = rw (e, lt-ltb k end h, eq-eqb (idOf state k) id (sym q ∙ r))
+  child-here id e h q r = rw (e, lt-ltb k end h, eq-eqb (idOf plan k) id (sym q ∙ r))
 
-  pub child-next : (id : ℕ) {f f′ v k′ : ℕ} → f ≡ suc f′ → k < end → v ≡ idOf state k → (v ≡ id → ⊥) → k′ ≡ endOf state k → childWith state id end f k ≡ childWith state id end f′ k′
+  pub child-next : (id : ℕ) {f f′ v k′ : ℕ} → f ≡ suc f′ → k < end → v ≡ idOf plan k → (v ≡ id → ⊥) → k′ ≡ endOf plan k → childWith plan id end f k ≡ childWith plan id end f′ k′
   unfolding childWith
-  child-next id e h q r l = rw (e, lt-ltb k end h, ne-eqb (idOf state k) id (λ z. r (q ∙ z)), l)
+  child-next id e h q r l = rw (e, lt-ltb k end h, ne-eqb (idOf plan k) id (λ z. r (q ∙ z)), l)
 
-  pub nullable-none : (f : ℕ) → end ≤ k → nullableChild state end f k ≡ 32
+  pub nullable-none : (f : ℕ) → end ≤ k → nullableChild plan end f k ≡ 32
   unfolding nullableChild
   nullable-none zero h = refl
   nullable-none (suc f) h = rw (le-ltb k end h)
 
-  pub nullable-here : {f f′ v : ℕ} → f ≡ suc f′ → k < end → v ≡ nullableOf state k → v ≡ 1 → nullableChild state end f k ≡ k
+  pub nullable-here : {f f′ v : ℕ} → f ≡ suc f′ → k < end → v ≡ nullableOf plan k → v ≡ 1 → nullableChild plan end f k ≡ k
   unfolding nullableChild
-  nullable-here e h q r = rw (e, lt-ltb k end h, eq-eqb (nullableOf state k) 1 (sym q ∙ r))
+  nullable-here e h q r = rw (e, lt-ltb k end h, eq-eqb (nullableOf plan k) 1 (sym q ∙ r))
 
-  pub nullable-next : {f f′ v k′ : ℕ} → f ≡ suc f′ → k < end → v ≡ nullableOf state k → (v ≡ 1 → ⊥) → k′ ≡ endOf state k → nullableChild state end f k ≡ nullableChild state end f′ k′
+  pub nullable-next : {f f′ v k′ : ℕ} → f ≡ suc f′ → k < end → v ≡ nullableOf plan k → (v ≡ 1 → ⊥) → k′ ≡ endOf plan k → nullableChild plan end f k ≡ nullableChild plan end f′ k′
   unfolding nullableChild
-  nullable-next e h q r l = rw (e, lt-ltb k end h, ne-eqb (nullableOf state k) 1 (λ z. r (q ∙ z)), l)
+  nullable-next e h q r l = rw (e, lt-ltb k end h, ne-eqb (nullableOf plan k) 1 (λ z. r (q ∙ z)), l)

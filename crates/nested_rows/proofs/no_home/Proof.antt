@@ -14,12 +14,12 @@ end-of-requires c κs = search needs
 returns : tie.Need-returns
 returns c =
     let a = c .before .before .before .args in
-    home-five (a .state .now) (a .i) (c .before .end-of .ensures .0) (add-one (a .i)) (c .if1 .taken)
+    home-five (a .plan .now) (a .i) (c .before .end-of .ensures .0) (add-one (a .i)) (c .if1 .taken)
 
 returns-2 : tie.Need-returns-2
 returns-2 c =
     let a = c .before .before .before .args in
-    home-four (a .state .now) (a .i) (c .before .end-of .ensures .0) (add-one (a .i)) (c .if1 .left)
+    home-four (a .plan .now) (a .i) (c .before .end-of .ensures .0) (add-one (a .i)) (c .if1 .left)
 
 pub no-home-spec : {M : Type 1} → statement M
 no-home-spec = tie.close (tie.spec add-if1 end-of-requires returns returns-2)

@@ -40,15 +40,15 @@ outside low high k h = go (leb low k) refl
     go false e = under low high k (leb-false low k e)
 
 module _ (x : Join) (child : Walk) (code i slot n : ℕ) (c : List ℕ) where
-  pub data-numbers : isFixed code ≡ true → eqb (dictionaryOf (x .state) i) 0 ≡ true → copyNumbers x i (bytesOf (x .state) i) slot n c ≡ copyData x child code i slot n c
+  pub data-numbers : isFixed code ≡ true → eqb (dictionaryOf (x .plan) i) 0 ≡ true → copyNumbers x i (bytesOf (x .plan) i) slot n c ≡ copyData x child code i slot n c
   unfolding copyData
   data-numbers e h = rw (e, h)
 
-  pub data-keys : isFixed code ≡ true → eqb (dictionaryOf (x .state) i) 0 ≡ false → copyKeys x i (bytesOf (x .state) i) slot n c ≡ copyData x child code i slot n c
+  pub data-keys : isFixed code ≡ true → eqb (dictionaryOf (x .plan) i) 0 ≡ false → copyKeys x i (bytesOf (x .plan) i) slot n c ≡ copyData x child code i slot n c
   unfolding copyData
   data-keys e h = rw (e, h)
 
-  pub data-string : isFixed code ≡ false → isString code ≡ true → copyString x i (bytesOf (x .state) i) slot n c ≡ copyData x child code i slot n c
+  pub data-string : isFixed code ≡ false → isString code ≡ true → copyString x i (bytesOf (x .plan) i) slot n c ≡ copyData x child code i slot n c
   unfolding copyData
   data-string e h = rw (e, h)
 
@@ -63,11 +63,11 @@ module _ (x : Join) (child : Walk) (code i slot n : ℕ) (c : List ℕ) where
       rw (e, h, l, outside 17 18 code (λ p. omega (arith, k p)), outside 19 20 code (λ p. omega (arith, k (omega arith))), f 21 (omega arith) (omega arith), f 22 (omega arith) (omega arith), f 23 (omega arith) (omega arith))
 
   -- a code from 17 on is none of a leaf's
-  pub data-list-view : 17 ≤ code → code ≤ 18 → copyListView x child (bytesOf (x .state) i) i slot n c ≡ copyData x child code i slot n c
+  pub data-list-view : 17 ≤ code → code ≤ 18 → copyListView x child (bytesOf (x .plan) i) i slot n c ≡ copyData x child code i slot n c
   unfolding copyData
   data-list-view h l = rw (above 1 10 code (omega arith), above 11 14 code (omega arith), above 15 16 code (omega arith), within 17 18 code h l)
 
-  pub data-list : 19 ≤ code → code ≤ 20 → copyList x child (bytesOf (x .state) i) i slot n c ≡ copyData x child code i slot n c
+  pub data-list : 19 ≤ code → code ≤ 20 → copyList x child (bytesOf (x .plan) i) i slot n c ≡ copyData x child code i slot n c
   unfolding copyData
   data-list h l = rw (above 1 10 code (omega arith), above 11 14 code (omega arith), above 15 16 code (omega arith), above 17 18 code (omega arith), within 19 20 code h l)
 
@@ -84,11 +84,11 @@ module _ (x : Join) (child : Walk) (code i slot n : ℕ) (c : List ℕ) where
   data-runs h = rw h
 
 module _ (x : Join) (child : NullWalk) (code i n : ℕ) (c : List ℕ) where
-  pub null-numbers : isFixed code ≡ true → nullNumbers x i 1 (bytesOf (x .state) i) n c ≡ nullData x child code i n c
+  pub null-numbers : isFixed code ≡ true → nullNumbers x i 1 (bytesOf (x .plan) i) n c ≡ nullData x child code i n c
   unfolding nullData
   null-numbers e = rw e
 
-  pub null-string : isFixed code ≡ false → isString code ≡ true → nullString x i (bytesOf (x .state) i) n c ≡ nullData x child code i n c
+  pub null-string : isFixed code ≡ false → isString code ≡ true → nullString x i (bytesOf (x .plan) i) n c ≡ nullData x child code i n c
   unfolding nullData
   null-string e h = rw (e, h)
 
@@ -96,11 +96,11 @@ module _ (x : Join) (child : NullWalk) (code i n : ℕ) (c : List ℕ) where
   unfolding nullData
   null-views e h l = rw (e, h, l)
 
-  pub null-list-view : isFixed code ≡ false → isString code ≡ false → isView code ≡ false → isListView code ≡ true → nullListView x child (bytesOf (x .state) i) i n c ≡ nullData x child code i n c
+  pub null-list-view : isFixed code ≡ false → isString code ≡ false → isView code ≡ false → isListView code ≡ true → nullListView x child (bytesOf (x .plan) i) i n c ≡ nullData x child code i n c
   unfolding nullData
   null-list-view e h l k = rw (e, h, l, k)
 
-  pub null-list : isFixed code ≡ false → isString code ≡ false → isView code ≡ false → isListView code ≡ false → isList code ≡ true → nullList x child (bytesOf (x .state) i) i n c ≡ nullData x child code i n c
+  pub null-list : isFixed code ≡ false → isString code ≡ false → isView code ≡ false → isListView code ≡ false → isList code ≡ true → nullList x child (bytesOf (x .plan) i) i n c ≡ nullData x child code i n c
   unfolding nullData
   null-list e h l k o = rw (e, h, l, k, o)
 
@@ -125,89 +125,89 @@ module _ (x : Join) (child : NullWalk) (code i n : ℕ) (c : List ℕ) where
 
 -- ---- as the code goes
 
-by : {state parts : List ℕ} {wr : Bool} {room : List ℕ} {r : ℕ} {c2 room2 : List ℕ} {o o2 : Out} → o ≡ o2 → Did state parts wr o room r c2 room2 → Did state parts wr o2 room r c2 room2
-by {state} {parts} {wr} {room} {r} {c2} {room2} e d = subst (λ (o : Out). Did state parts wr o room r c2 room2) e d
+by : {plan parts : List ℕ} {wr : Bool} {room : List ℕ} {r : ℕ} {c2 room2 : List ℕ} {o o2 : Out} → o ≡ o2 → Did plan parts wr o room r c2 room2 → Did plan parts wr o2 room r c2 room2
+by {plan} {parts} {wr} {room} {r} {c2} {room2} e d = subst (λ (o : Out). Did plan parts wr o room r c2 room2) e d
 
 -- what a test of the code answered, of the code itself
 tested : (f : ℕ → Bool) {code k : ℕ} {t v : Bool} → code ≡ k → t ≡ f code → t ≡ v → f k ≡ v
 tested f e g h = ap f (sym e) ∙ sym g ∙ h
 
-module _ (state : List ℕ) (i : ℕ) {code w : ℕ} {t : Bool} (e : code ≡ codeOf state i) (f : w ≡ bytesOf state i) where
+module _ (plan : List ℕ) (i : ℕ) {code w : ℕ} {t : Bool} (e : code ≡ codeOf plan i) (f : w ≡ bytesOf plan i) where
   pub fixed-wide : t ≡ isFixed code → t ≡ true → (w ≡ 1 → ⊥) → (w ≡ 2 → ⊥) → (w ≡ 4 → ⊥) → w ≡ 8
-  fixed-wide g h a b d = f ∙ fixed-width (codeOf state i) (tested isFixed e g h) (λ z. a (f ∙ z)) (λ z. b (f ∙ z)) (λ z. d (f ∙ z))
+  fixed-wide g h a b d = f ∙ fixed-width (codeOf plan i) (tested isFixed e g h) (λ z. a (f ∙ z)) (λ z. b (f ∙ z)) (λ z. d (f ∙ z))
 
   pub string-wide : t ≡ isString code → t ≡ true → (w ≡ 4 → ⊥) → w ≡ 8
-  string-wide g h a = f ∙ string-width (codeOf state i) (tested isString e g h) (λ z. a (f ∙ z))
+  string-wide g h a = f ∙ string-width (codeOf plan i) (tested isString e g h) (λ z. a (f ∙ z))
 
   pub list-wide : t ≡ isListView code → t ≡ true → (w ≡ 4 → ⊥) → w ≡ 8
-  list-wide g h a = f ∙ list-width (codeOf state i) (tested isListView e g h) (λ z. a (f ∙ z))
+  list-wide g h a = f ∙ list-width (codeOf plan i) (tested isListView e g h) (λ z. a (f ∙ z))
 
   pub lists-wide : t ≡ isList code → t ≡ true → (w ≡ 4 → ⊥) → w ≡ 8
-  lists-wide g h a = f ∙ lists-width (codeOf state i) (tested isList e g h) (λ z. a (f ∙ z))
+  lists-wide g h a = f ∙ lists-width (codeOf plan i) (tested isList e g h) (λ z. a (f ∙ z))
 
-module _ (x : Join) (wr : Bool) (i slot n : ℕ) (c room : List ℕ) {code : ℕ} {t : Bool} (e : code ≡ codeOf (x .state) i) (g : t ≡ masked code) where
-  pub valid-none : not t ≡ true → Did (x .state) (x .parts) wr (cond (masked (codeOf (x .state) i)) (copyMask x i slot n c) (done c)) room 0 c room
+module _ (x : Join) (wr : Bool) (i slot n : ℕ) (c room : List ℕ) {code : ℕ} {t : Bool} (e : code ≡ codeOf (x .plan) i) (g : t ≡ masked code) where
+  pub valid-none : not t ≡ true → Did (x .plan) (x .parts) wr (cond (masked (codeOf (x .plan) i)) (copyMask x i slot n c) (done c)) room 0 c room
   valid-none h = rw (rw e at (no g h)) (done-did wr c room)
 
-  pub valid-some : {r : ℕ} {c2 room2 : List ℕ} → not t ≡ false → Did (x .state) (x .parts) wr (copyMask x i slot n c) room r c2 room2
-      → Did (x .state) (x .parts) wr (cond (masked (codeOf (x .state) i)) (copyMask x i slot n c) (done c)) room r c2 room2
+  pub valid-some : {r : ℕ} {c2 room2 : List ℕ} → not t ≡ false → Did (x .plan) (x .parts) wr (copyMask x i slot n c) room r c2 room2
+      → Did (x .plan) (x .parts) wr (cond (masked (codeOf (x .plan) i)) (copyMask x i slot n c) (done c)) room r c2 room2
   valid-some h d = rw (rw e at (yes g h)) d
 
-module _ (x : Join) (wr : Bool) (i n : ℕ) (c room : List ℕ) {code r : ℕ} {t : Bool} {c2 room2 : List ℕ} (e : code ≡ codeOf (x .state) i) (g : t ≡ masked code) where
-  pub nulls-counted : not t ≡ true → Did (x .state) (x .parts) wr (countNulls x i n c) room r c2 room2
-      → Did (x .state) (x .parts) wr (cond (masked (codeOf (x .state) i)) (nullMask x i n c) (countNulls x i n c)) room r c2 room2
+module _ (x : Join) (wr : Bool) (i n : ℕ) (c room : List ℕ) {code r : ℕ} {t : Bool} {c2 room2 : List ℕ} (e : code ≡ codeOf (x .plan) i) (g : t ≡ masked code) where
+  pub nulls-counted : not t ≡ true → Did (x .plan) (x .parts) wr (countNulls x i n c) room r c2 room2
+      → Did (x .plan) (x .parts) wr (cond (masked (codeOf (x .plan) i)) (nullMask x i n c) (countNulls x i n c)) room r c2 room2
   nulls-counted h d = rw (rw e at (no g h)) d
 
-  pub nulls-masked : not t ≡ false → Did (x .state) (x .parts) wr (nullMask x i n c) room r c2 room2
-      → Did (x .state) (x .parts) wr (cond (masked (codeOf (x .state) i)) (nullMask x i n c) (countNulls x i n c)) room r c2 room2
+  pub nulls-masked : not t ≡ false → Did (x .plan) (x .parts) wr (nullMask x i n c) room r c2 room2
+      → Did (x .plan) (x .parts) wr (cond (masked (codeOf (x .plan) i)) (nullMask x i n c) (countNulls x i n c)) room r c2 room2
   nulls-masked h d = rw (rw e at (yes g h)) d
 
-module _ (x : Join) (child : Walk) (wr : Bool) (i slot n : ℕ) (c room : List ℕ) {code w : ℕ} (e : code ≡ codeOf (x .state) i) (f : w ≡ bytesOf (x .state) i) {t : Bool} (g : t ≡ isFixed code) where
+module _ (x : Join) (child : Walk) (wr : Bool) (i slot n : ℕ) (c room : List ℕ) {code w : ℕ} (e : code ≡ codeOf (x .plan) i) (f : w ≡ bytesOf (x .plan) i) {t : Bool} (g : t ≡ isFixed code) where
   abbrev Goes : ℕ → List ℕ → List ℕ → Type 0
-  Goes r c2 room2 = Did (x .state) (x .parts) wr (copyData x child (codeOf (x .state) i) i slot n c) room r c2 room2
+  Goes r c2 room2 = Did (x .plan) (x .parts) wr (copyData x child (codeOf (x .plan) i) i slot n c) room r c2 room2
 
-  pub to-numbers : {v r : ℕ} {c2 room2 : List ℕ} → t ≡ true → v ≡ dictionaryOf (x .state) i → v ≡ 0 → Did (x .state) (x .parts) wr (copyNumbers x i w slot n c) room r c2 room2 → Goes r c2 room2
-  to-numbers h k l d = by (data-numbers x child (codeOf (x .state) i) i slot n c (tested isFixed e g h) (is-none k l)) (rw f at d)
+  pub to-numbers : {v r : ℕ} {c2 room2 : List ℕ} → t ≡ true → v ≡ dictionaryOf (x .plan) i → v ≡ 0 → Did (x .plan) (x .parts) wr (copyNumbers x i w slot n c) room r c2 room2 → Goes r c2 room2
+  to-numbers h k l d = by (data-numbers x child (codeOf (x .plan) i) i slot n c (tested isFixed e g h) (is-none k l)) (rw f at d)
 
-  pub to-keys : {v r : ℕ} {c2 room2 : List ℕ} → t ≡ true → v ≡ dictionaryOf (x .state) i → (v ≡ 0 → ⊥) → Did (x .state) (x .parts) wr (copyKeys x i w slot n c) room r c2 room2 → Goes r c2 room2
-  to-keys h k l d = by (data-keys x child (codeOf (x .state) i) i slot n c (tested isFixed e g h) (is-some k l)) (rw f at d)
+  pub to-keys : {v r : ℕ} {c2 room2 : List ℕ} → t ≡ true → v ≡ dictionaryOf (x .plan) i → (v ≡ 0 → ⊥) → Did (x .plan) (x .parts) wr (copyKeys x i w slot n c) room r c2 room2 → Goes r c2 room2
+  to-keys h k l d = by (data-keys x child (codeOf (x .plan) i) i slot n c (tested isFixed e g h) (is-some k l)) (rw f at d)
 
   module _ (h : t ≡ false) {u : Bool} (k : u ≡ isString code) where
-    pub to-string : {r : ℕ} {c2 room2 : List ℕ} → u ≡ true → Did (x .state) (x .parts) wr (copyString x i w slot n c) room r c2 room2 → Goes r c2 room2
-    to-string l d = by (data-string x child (codeOf (x .state) i) i slot n c (tested isFixed e g h) (tested isString e k l)) (rw f at d)
+    pub to-string : {r : ℕ} {c2 room2 : List ℕ} → u ≡ true → Did (x .plan) (x .parts) wr (copyString x i w slot n c) room r c2 room2 → Goes r c2 room2
+    to-string l d = by (data-string x child (codeOf (x .plan) i) i slot n c (tested isFixed e g h) (tested isString e k l)) (rw f at d)
 
     module _ (l : u ≡ false) {v : Bool} (m : v ≡ isView code) where
-      pub to-views : {r : ℕ} {c2 room2 : List ℕ} → v ≡ true → Did (x .state) (x .parts) wr (copyViews x i slot n c) room r c2 room2 → Goes r c2 room2
-      to-views o d = by (data-views x child (codeOf (x .state) i) i slot n c (tested isFixed e g h) (tested isString e k l) (tested isView e m o)) d
+      pub to-views : {r : ℕ} {c2 room2 : List ℕ} → v ≡ true → Did (x .plan) (x .parts) wr (copyViews x i slot n c) room r c2 room2 → Goes r c2 room2
+      to-views o d = by (data-views x child (codeOf (x .plan) i) i slot n c (tested isFixed e g h) (tested isString e k l) (tested isView e m o)) d
 
-      pub to-none : v ≡ false → (17 ≤ codeOf (x .state) i → 23 < codeOf (x .state) i) → Goes 12 c room
-      to-none o q = by (data-none x child (codeOf (x .state) i) i slot n c (tested isFixed e g h) (tested isString e k l) (tested isView e m o) q) (fail-did wr 12 c room)
+      pub to-none : v ≡ false → (17 ≤ codeOf (x .plan) i → 23 < codeOf (x .plan) i) → Goes 12 c room
+      to-none o q = by (data-none x child (codeOf (x .plan) i) i slot n c (tested isFixed e g h) (tested isString e k l) (tested isView e m o) q) (fail-did wr 12 c room)
 
-module _ (x : Join) (child : NullWalk) (wr : Bool) (i n : ℕ) (c room : List ℕ) {code w : ℕ} (e : code ≡ codeOf (x .state) i) (f : w ≡ bytesOf (x .state) i) {t : Bool} (g : t ≡ isFixed code) where
+module _ (x : Join) (child : NullWalk) (wr : Bool) (i n : ℕ) (c room : List ℕ) {code w : ℕ} (e : code ≡ codeOf (x .plan) i) (f : w ≡ bytesOf (x .plan) i) {t : Bool} (g : t ≡ isFixed code) where
   abbrev Nulls : ℕ → List ℕ → List ℕ → Type 0
-  Nulls r c2 room2 = Did (x .state) (x .parts) wr (nullData x child (codeOf (x .state) i) i n c) room r c2 room2
+  Nulls r c2 room2 = Did (x .plan) (x .parts) wr (nullData x child (codeOf (x .plan) i) i n c) room r c2 room2
 
-  pub on-numbers : {r : ℕ} {c2 room2 : List ℕ} → t ≡ true → Did (x .state) (x .parts) wr (nullNumbers x i 1 w n c) room r c2 room2 → Nulls r c2 room2
-  on-numbers h d = by (null-numbers x child (codeOf (x .state) i) i n c (tested isFixed e g h)) (rw f at d)
+  pub on-numbers : {r : ℕ} {c2 room2 : List ℕ} → t ≡ true → Did (x .plan) (x .parts) wr (nullNumbers x i 1 w n c) room r c2 room2 → Nulls r c2 room2
+  on-numbers h d = by (null-numbers x child (codeOf (x .plan) i) i n c (tested isFixed e g h)) (rw f at d)
 
   module _ (h : t ≡ false) {u : Bool} (k : u ≡ isString code) where
-    pub on-string : {r : ℕ} {c2 room2 : List ℕ} → u ≡ true → Did (x .state) (x .parts) wr (nullString x i w n c) room r c2 room2 → Nulls r c2 room2
-    on-string l d = by (null-string x child (codeOf (x .state) i) i n c (tested isFixed e g h) (tested isString e k l)) (rw f at d)
+    pub on-string : {r : ℕ} {c2 room2 : List ℕ} → u ≡ true → Did (x .plan) (x .parts) wr (nullString x i w n c) room r c2 room2 → Nulls r c2 room2
+    on-string l d = by (null-string x child (codeOf (x .plan) i) i n c (tested isFixed e g h) (tested isString e k l)) (rw f at d)
 
     module _ (l : u ≡ false) {v : Bool} (m : v ≡ isView code) where
-      pub on-views : {r : ℕ} {c2 room2 : List ℕ} → v ≡ true → Did (x .state) (x .parts) wr (nullNumbers x i 1 16 n c) room r c2 room2 → Nulls r c2 room2
-      on-views o d = by (null-views x child (codeOf (x .state) i) i n c (tested isFixed e g h) (tested isString e k l) (tested isView e m o)) d
+      pub on-views : {r : ℕ} {c2 room2 : List ℕ} → v ≡ true → Did (x .plan) (x .parts) wr (nullNumbers x i 1 16 n c) room r c2 room2 → Nulls r c2 room2
+      on-views o d = by (null-views x child (codeOf (x .plan) i) i n c (tested isFixed e g h) (tested isString e k l) (tested isView e m o)) d
 
       module _ (o : v ≡ false) {z : Bool} (q : z ≡ isListView code) where
-        pub on-list-view : {r : ℕ} {c2 room2 : List ℕ} → z ≡ true → Did (x .state) (x .parts) wr (nullListView x child w i n c) room r c2 room2 → Nulls r c2 room2
-        on-list-view s d = by (null-list-view x child (codeOf (x .state) i) i n c (tested isFixed e g h) (tested isString e k l) (tested isView e m o) (tested isListView e q s)) (rw f at d)
+        pub on-list-view : {r : ℕ} {c2 room2 : List ℕ} → z ≡ true → Did (x .plan) (x .parts) wr (nullListView x child w i n c) room r c2 room2 → Nulls r c2 room2
+        on-list-view s d = by (null-list-view x child (codeOf (x .plan) i) i n c (tested isFixed e g h) (tested isString e k l) (tested isView e m o) (tested isListView e q s)) (rw f at d)
 
         module _ (s : z ≡ false) {y : Bool} (p : y ≡ isList code) where
-          pub on-list : {r : ℕ} {c2 room2 : List ℕ} → y ≡ true → Did (x .state) (x .parts) wr (nullList x child w i n c) room r c2 room2 → Nulls r c2 room2
+          pub on-list : {r : ℕ} {c2 room2 : List ℕ} → y ≡ true → Did (x .plan) (x .parts) wr (nullList x child w i n c) room r c2 room2 → Nulls r c2 room2
           on-list a d =
-              by (null-list x child (codeOf (x .state) i) i n c (tested isFixed e g h) (tested isString e k l) (tested isView e m o) (tested isListView e q s) (tested isList e p a)) (rw f at d)
+              by (null-list x child (codeOf (x .plan) i) i n c (tested isFixed e g h) (tested isString e k l) (tested isView e m o) (tested isListView e q s) (tested isList e p a)) (rw f at d)
 
-          pub on-none : y ≡ false → (21 ≤ codeOf (x .state) i → 23 < codeOf (x .state) i) → Nulls 12 c room
+          pub on-none : y ≡ false → (21 ≤ codeOf (x .plan) i → 23 < codeOf (x .plan) i) → Nulls 12 c room
           on-none a j =
-              by (null-none x child (codeOf (x .state) i) i n c (tested isFixed e g h) (tested isString e k l) (tested isView e m o) (tested isListView e q s) (tested isList e p a) j)
+              by (null-none x child (codeOf (x .plan) i) i n c (tested isFixed e g h) (tested isString e k l) (tested isView e m o) (tested isListView e q s) (tested isList e p a) j)
               (fail-did wr 12 c room)

@@ -25,7 +25,7 @@ sum-fits-requires c κs = rw (← add-one (c .before .before .before .before .be
 returns : tie.Need-returns
 returns c =
     let a = c .before .before .before .before .before .before .before .before .args in
-    end-no (a .state .now) (a .parts .now) (a .write) (a .i) (a .counts .now) (a .room .now) (a .n) (add-one (a .i)) (c .before .before .before .before .width-at .ensures) (c .before .before .rows-of .ensures) (c .before .sum-fits .ensures) (c .if1 .taken)
+    end-no (a .plan .now) (a .parts .now) (a .write) (a .i) (a .counters .now) (a .room .now) (a .n) (add-one (a .i)) (c .before .before .before .before .width-at .ensures) (c .before .before .rows-of .ensures) (c .before .sum-fits .ensures) (c .if1 .taken)
 
 add-rows-of : tie.Need-add-rows-of
 add-rows-of c = search needs
@@ -54,7 +54,7 @@ same-length c = search needs
 returns-2 : tie.Need-returns-2
 returns-2 c =
     let a = c .before .before .before .before .before .before .before .before .before .before .before .before .before .before .before .before .before .args in
-    end-yes (a .state .now) (a .parts .now) (a .write) (a .i) (a .counts .now) (a .room .now) (a .n) (add-one (a .i)) (c .before .before .before .before .before .before .before .before .before .before .before .before .before .width-at .ensures) (c .before .before .before .before .before .before .before .before .before .before .before .rows-of .ensures) (c .before .before .before .before .before .before .before .before .before .before .sum-fits .ensures) (c .before .before .before .before .before .before .before .before .before .if1 .left) (c .before .before .before .before .before .before .before .rows-of2 .ensures) (c .before .before .before .before .before .before .scale .ensures) (omega (arith, c .before .before .before .before .before .before .before .before .before .before .before .before .before .before .before .before .before .good)) (c .before .before .before .before .put-number .ensures) (c .count-null-run .ensures)
+    end-yes (a .plan .now) (a .parts .now) (a .write) (a .i) (a .counters .now) (a .room .now) (a .n) (add-one (a .i)) (c .before .before .before .before .before .before .before .before .before .before .before .before .before .width-at .ensures) (c .before .before .before .before .before .before .before .before .before .before .before .rows-of .ensures) (c .before .before .before .before .before .before .before .before .before .before .sum-fits .ensures) (c .before .before .before .before .before .before .before .before .before .if1 .left) (c .before .before .before .before .before .before .before .rows-of2 .ensures) (c .before .before .before .before .before .before .scale .ensures) (omega (arith, c .before .before .before .before .before .before .before .before .before .before .before .before .before .before .before .before .before .good)) (c .before .before .before .before .put-number .ensures) (c .count-null-run .ensures)
 
 pub null-end-spec : {M : Type 1} → statement M
 null-end-spec = tie.close (tie.spec add-width-at width-at-requires rows-of-requires sum-fits-requires returns add-rows-of rows-of-requires-2 scale-requires add-put-number add-put-number-2 put-number-requires count-null-run-requires same-length returns-2)

@@ -17,7 +17,7 @@ nullable-child-requires c κs = search needs
 returns : tie.Need-returns
 returns c =
     let a = c .before .before .before .args in
-    (home-is (a .state .now) (a .i) (c .before .end-of .ensures .0) (add-one (a .i)) (c .nullable-child .ensures .0), c .nullable-child .ensures .1)
+    (home-is (a .plan .now) (a .i) (c .before .end-of .ensures .0) (add-one (a .i)) (c .nullable-child .ensures .0), c .nullable-child .ensures .1)
 
 pub null-home-spec : {M : Type 1} → statement M
 null-home-spec = tie.close (tie.spec end-of-requires add-nullable-child nullable-child-requires returns)

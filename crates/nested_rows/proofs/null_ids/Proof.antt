@@ -19,7 +19,7 @@ same-length c = search needs
 returns : tie.Need-returns
 returns c =
     let a = c .before .before .before .before .before .before .before .before .before .args in
-    ids-did (a .state .now) (a .parts .now) (a .write) (a .i) (a .counts .now) (a .room .now) (a .h) (a .n) (c .before .before .before .before .before .rows-of .ensures) (c .before .before .before .id-of .ensures) (c .before .before .put-same .ensures)
+    ids-did (a .plan .now) (a .parts .now) (a .write) (a .i) (a .counters .now) (a .room .now) (a .h) (a .n) (c .before .before .before .before .before .rows-of .ensures) (c .before .before .before .id-of .ensures) (c .before .before .put-same .ensures)
 
 pub null-ids-spec : {M : Type 1} → statement M
 null-ids-spec = tie.close (tie.spec rows-of-requires id-of-requires put-same-requires same-length returns)

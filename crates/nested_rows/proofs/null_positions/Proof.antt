@@ -14,7 +14,7 @@ grow-requires c κs = search needs
 returns : tie.Need-returns
 returns c =
     let a = c .before .before .before .before .before .before .args in
-    positions-no (a .state .now) (a .parts .now) (a .write) (a .i) (a .counts .now) (a .room .now) (a .h) (a .n) (c .before .before .rows-of .ensures) (c .before .grow .ensures) (c .if1 .taken)
+    positions-no (a .plan .now) (a .parts .now) (a .write) (a .i) (a .counters .now) (a .room .now) (a .h) (a .n) (c .before .before .rows-of .ensures) (c .before .grow .ensures) (c .if1 .taken)
 
 null-ids-requires : tie.Need-null-ids-requires
 null-ids-requires c κs = search needs
@@ -25,7 +25,7 @@ same-length c = search needs
 returns-2 : tie.Need-returns-2
 returns-2 c =
     let a = c .before .before .before .before .before .before .before .before .before .before .before .args in
-    positions-stop (a .state .now) (a .parts .now) (a .write) (a .i) (a .counts .now) (a .room .now) (a .h) (a .n) (c .before .before .before .before .before .before .before .rows-of .ensures) (c .before .before .before .before .before .before .grow .ensures) (c .before .before .before .before .before .if1 .left) (c .before .before .before .null-ids .ensures) (c .if2 .taken)
+    positions-stop (a .plan .now) (a .parts .now) (a .write) (a .i) (a .counters .now) (a .room .now) (a .h) (a .n) (c .before .before .before .before .before .before .before .rows-of .ensures) (c .before .before .before .before .before .before .grow .ensures) (c .before .before .before .before .before .if1 .left) (c .before .before .before .null-ids .ensures) (c .if2 .taken)
 
 rows-of-requires-2 : tie.Need-rows-of-requires-2
 rows-of-requires-2 c κs = search needs
@@ -42,7 +42,7 @@ same-length-2 c = search needs
 returns-3 : tie.Need-returns-3
 returns-3 c =
     let a = c .before .before .before .before .before .before .before .before .before .before .before .before .before .before .before .before .before .args in
-    positions-yes (a .state .now) (a .parts .now) (a .write) (a .i) (a .counts .now) (a .room .now) (a .h) (a .n) (c .before .before .before .before .before .before .before .before .before .before .before .before .before .rows-of .ensures) (c .before .before .before .before .before .before .before .before .before .before .before .before .grow .ensures) (c .before .before .before .before .before .before .before .before .before .before .before .if1 .left) (c .before .before .before .before .before .before .before .before .before .null-ids .ensures) (c .before .before .before .before .before .before .if2 .left) (c .before .before .before .before .before .rows-of2 .ensures) (c .before .before .before .before .scale .ensures) (omega (arith, c .before .before .before .before .before .before .before .before .before .before .before .before .before .before .before .before .before .good, c .before .before .before .before .before .before .before .before .room)) (c .before .before .put-counted .ensures)
+    positions-yes (a .plan .now) (a .parts .now) (a .write) (a .i) (a .counters .now) (a .room .now) (a .h) (a .n) (c .before .before .before .before .before .before .before .before .before .before .before .before .before .rows-of .ensures) (c .before .before .before .before .before .before .before .before .before .before .before .before .grow .ensures) (c .before .before .before .before .before .before .before .before .before .before .before .if1 .left) (c .before .before .before .before .before .before .before .before .before .null-ids .ensures) (c .before .before .before .before .before .before .if2 .left) (c .before .before .before .before .before .rows-of2 .ensures) (c .before .before .before .before .scale .ensures) (omega (arith, c .before .before .before .before .before .before .before .before .before .before .before .before .before .before .before .before .before .good, c .before .before .before .before .before .before .before .before .room)) (c .before .before .put-counted .ensures)
 
 pub null-positions-spec : {M : Type 1} → statement M
 null-positions-spec = tie.close (tie.spec rows-of-requires grow-requires returns null-ids-requires same-length returns-2 rows-of-requires-2 scale-requires put-counted-requires same-length-2 returns-3)

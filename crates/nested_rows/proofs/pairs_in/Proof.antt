@@ -17,7 +17,7 @@ rows-in-requires c κs = search needs
 returns : tie.Need-returns
 returns c =
     let a = c .before .before .before .before .before .args in
-    λ state parts lengths source. pairs-no (join state parts lengths (a .places .now) (a .body .now) (a .first) source) (a .i) (a .v) (a .w) (a .slot) (a .n) (c .before .before .place .ensures) (c .before .rows-in .ensures state parts lengths (a .places .now) (a .first) source) (c .if1 .taken)
+    λ plan parts lengths source. pairs-no (join plan parts lengths (a .places .now) (a .body .now) (a .first) source) (a .i) (a .v) (a .w) (a .slot) (a .n) (c .before .before .place .ensures) (c .before .rows-in .ensures plan parts lengths (a .places .now) (a .first) source) (c .if1 .taken)
 
 add-place-2 : tie.Need-add-place-2
 add-place-2 c = search needs
@@ -31,7 +31,7 @@ rows-in-requires-2 c κs = search needs
 returns-2 : tie.Need-returns-2
 returns-2 c =
     let a = c .before .before .before .before .before .before .before .args in
-    λ state parts lengths source. pairs-yes (join state parts lengths (a .places .now) (a .body .now) (a .first) source) (a .i) (a .v) (a .w) (a .slot) (a .n) (c .before .before .before .before .place .ensures) (c .before .before .before .rows-in .ensures state parts lengths (a .places .now) (a .first) source) (c .before .before .if1 .left) (c .before .place2 .ensures) (c .rows-in2 .ensures state parts lengths (a .places .now) (a .first) source)
+    λ plan parts lengths source. pairs-yes (join plan parts lengths (a .places .now) (a .body .now) (a .first) source) (a .i) (a .v) (a .w) (a .slot) (a .n) (c .before .before .before .before .place .ensures) (c .before .before .before .rows-in .ensures plan parts lengths (a .places .now) (a .first) source) (c .before .before .if1 .left) (c .before .place2 .ensures) (c .rows-in2 .ensures plan parts lengths (a .places .now) (a .first) source)
 
 pub pairs-in-spec : {M : Type 1} → statement M
 pairs-in-spec = tie.close (tie.spec add-place place-requires rows-in-requires returns add-place-2 place-requires-2 rows-in-requires-2 returns-2)

@@ -75,7 +75,7 @@ same-length c = search needs
 returns : tie.Need-returns
 returns c =
     let a = c .before .before .before .before .before .before .before .before .before .before .before .before .before .before .before .before .before .before .args in
-    λ source. run-did (join (a .state .now) (a .parts .now) (a .lengths .now) (a .places .now) (a .body .now) (a .first) source) (a .write) (a .w) (a .i) (a .start .0) (a .n) (a .last) (a .run .0) (a .count) (a .counts .now) (a .room .now) (add-one (a .i)) (omega arith) (c .before .before .before .before .before .before .before .before .before .before .before .place .ensures) (c .before .before .before .before .before .before .before .before .before .before .offset-of .ensures) (c .before .before .before .before .before .before .before .rows-of .ensures) (c .before .before .before .before .before .before .scale .ensures) (omega (arith, c .before .before .before .before .before .before .before .before .before .before .before .before .before .before .before .before .before .before .good)) (c .before .before .before .before .put-run-ends .ensures) (c .count-runs .ensures)
+    λ source. run-did (join (a .plan .now) (a .parts .now) (a .lengths .now) (a .places .now) (a .body .now) (a .first) source) (a .write) (a .w) (a .i) (a .start .0) (a .n) (a .last) (a .run .0) (a .count) (a .counters .now) (a .room .now) (add-one (a .i)) (omega arith) (c .before .before .before .before .before .before .before .before .before .before .before .place .ensures) (c .before .before .before .before .before .before .before .before .before .before .offset-of .ensures) (c .before .before .before .before .before .before .before .rows-of .ensures) (c .before .before .before .before .before .before .scale .ensures) (omega (arith, c .before .before .before .before .before .before .before .before .before .before .before .before .before .before .before .before .before .before .good)) (c .before .before .before .before .put-run-ends .ensures) (c .count-runs .ensures)
 
 pub run-numbers-spec : {M : Type 1} → statement M
 run-numbers-spec = tie.close (tie.spec add-place add-place-2 place-requires add-offset-of add-offset-of-2 offset-of-requires mul-ends add-ends mul-from add-from add-stop add-rows-of rows-of-requires scale-requires add-put-run-ends put-run-ends-requires count-runs-requires same-length returns)

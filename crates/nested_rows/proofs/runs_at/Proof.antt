@@ -55,7 +55,7 @@ runs-of-requires c κs =
 returns : tie.Need-returns
 returns c =
     let a = c .before .before .before .before .before .before .before .before .args in
-    λ state parts source child. runs-given (join state parts (a .lengths .now) (a .places .now) (a .body .now) (a .first) source) child (a .w) (a .i) (a .start .0) (a .n) (omega arith) (c .before .before .before .before .place .ensures) (c .before .before .before .offset-of .ensures) (c .before .before .length-of .ensures) (c .runs-of .ensures)
+    λ plan parts source child. runs-given (join plan parts (a .lengths .now) (a .places .now) (a .body .now) (a .first) source) child (a .w) (a .i) (a .start .0) (a .n) (omega arith) (c .before .before .before .before .place .ensures) (c .before .before .before .offset-of .ensures) (c .before .before .length-of .ensures) (c .runs-of .ensures)
 
 pub runs-at-spec : {M : Type 1} → statement M
 runs-at-spec = tie.close (tie.spec add-place add-place-2 place-requires add-offset-of add-offset-of-2 offset-of-requires mul-from add-from add-length-of add-length-of-2 length-of-requires add-stop runs-of-requires returns)

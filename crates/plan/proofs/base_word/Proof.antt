@@ -17,7 +17,7 @@ buffers-up-to-requires c κs = search needs
 returns : tie.Need-returns
 returns c =
     let z = c .before .before .before .before .before .before .before .before .before .args in
-    base-view (tables (z .lengths .now) (z .places .now) (z .body .now)) (z .sources .now) (z .m) (z .state .now) (z .i) (z .s) (c .before .before .before .code-of .ensures) (c .before .before .is-view .ensures) (c .before .if1 .taken) (c .buffers-up-to .ensures .0)
+    base-view (tables (z .lengths .now) (z .places .now) (z .body .now)) (z .sources .now) (z .m) (z .plan .now) (z .i) (z .s) (c .before .before .before .code-of .ensures) (c .before .before .is-view .ensures) (c .before .if1 .taken) (c .buffers-up-to .ensures .0)
 
 dictionary-of-requires : tie.Need-dictionary-of-requires
 dictionary-of-requires c κs = search needs
@@ -25,7 +25,7 @@ dictionary-of-requires c κs = search needs
 returns-2 : tie.Need-returns-2
 returns-2 c =
     let z = c .before .before .before .before .before .before .before .before .before .before .before .args in
-    base-none (tables (z .lengths .now) (z .places .now) (z .body .now)) (z .sources .now) (z .m) (z .state .now) (z .i) (z .s) (c .before .before .before .before .before .code-of .ensures) (c .before .before .before .before .is-view .ensures) (c .before .before .before .if1 .left) (c .before .dictionary-of .ensures) (c .if2 .taken)
+    base-none (tables (z .lengths .now) (z .places .now) (z .body .now)) (z .sources .now) (z .m) (z .plan .now) (z .i) (z .s) (c .before .before .before .before .before .code-of .ensures) (c .before .before .before .before .is-view .ensures) (c .before .before .before .if1 .left) (c .before .dictionary-of .ensures) (c .if2 .taken)
 
 has-strings-requires : tie.Need-has-strings-requires
 has-strings-requires c κs = search needs
@@ -40,7 +40,7 @@ returns-3 : tie.Need-returns-3
 returns-3 c =
     let z = c .before .before .before .before .before .before .before .before .before .before .before .before .before .before .args in
     let x = tables (z .lengths .now) (z .places .now) (z .body .now) in
-    base-keys x (z .sources .now) (z .m) (z .state .now) (z .i) (z .s) (c .before .before .before .before .before .before .before .before .code-of .ensures) (c .before .before .before .before .before .before .before .is-view .ensures) (c .before .before .before .before .before .before .if1 .left) (c .before .before .before .before .dictionary-of .ensures) (c .before .before .before .if2 .left) (start-at x (z .sources .now) (z .m) (z .state .now) (z .i) (z .s) (c .before .has-strings .ensures) (c .start-of-keys .ensures))
+    base-keys x (z .sources .now) (z .m) (z .plan .now) (z .i) (z .s) (c .before .before .before .before .before .before .before .before .code-of .ensures) (c .before .before .before .before .before .before .before .is-view .ensures) (c .before .before .before .before .before .before .if1 .left) (c .before .before .before .before .dictionary-of .ensures) (c .before .before .before .if2 .left) (start-at x (z .sources .now) (z .m) (z .plan .now) (z .i) (z .s) (c .before .has-strings .ensures) (c .start-of-keys .ensures))
 
 pub base-word-spec : {M : Type 1} → statement M
 base-word-spec =

@@ -38,80 +38,80 @@ worse-both w h v k {a} {b} {g} e f q = q ∙ ap (λ (z : ℕ). worseOf z b) e �
 
 -- ---- one part
 
-module _ (state counts parts : List ℕ) (m i b : ℕ) where
-  pub part-none : hasPart state i b ≡ false → 0 ≡ verdict (partWithin state parts m i b) (partHolds state counts parts i b)
+module _ (plan counters parts : List ℕ) (m i b : ℕ) where
+  pub part-none : hasPart plan i b ≡ false → 0 ≡ verdict (partWithin plan parts m i b) (partHolds plan counters parts i b)
   unfolding partWithin partHolds
   part-none h = rw h
 
-  pub part-some : {p g : ℕ} {holds : Bool} → hasPart state i b ≡ true → p ≡ numberOf state i b → holds ≡ leb (needed state counts i b) (sizeOf state parts i b)
-      → g ≡ verdict (ltb (2 * p + 1) (length parts) && inRoom parts m p) holds → g ≡ verdict (partWithin state parts m i b) (partHolds state counts parts i b)
+  pub part-some : {p g : ℕ} {holds : Bool} → hasPart plan i b ≡ true → p ≡ numberOf plan i b → holds ≡ leb (needed plan counters i b) (sizeOf plan parts i b)
+      → g ≡ verdict (ltb (2 * p + 1) (length parts) && inRoom parts m p) holds → g ≡ verdict (partWithin plan parts m i b) (partHolds plan counters parts i b)
   unfolding partWithin partHolds
   part-some {holds = holds} h e q k = k ∙ ap (λ (z : ℕ). verdict (ltb (2 * z + 1) (length parts) && inRoom parts m z) holds) e ∙ rw (h, q)
 
 -- ---- which parts a node has
 
-module _ (state : List ℕ) (i : ℕ) where
-  pub no-bits : keepsOf state i ≡ 0 → hasPart state i 0 ≡ false
+module _ (plan : List ℕ) (i : ℕ) where
+  pub no-bits : keepsOf plan i ≡ 0 → hasPart plan i 0 ≡ false
   unfolding hasPart validityParts
-  no-bits h = go (copied state i) (keepsOf state i) h
+  no-bits h = go (copied plan i) (keepsOf plan i) h
     where
-      go : (t : Bool) (k : ℕ) → k ≡ 0 → eqb (cond (t && not (eqb k 0) && ltb (codeOf state i) 21) 1 0) 1 ≡ false
+      go : (t : Bool) (k : ℕ) → k ≡ 0 → eqb (cond (t && not (eqb k 0) && ltb (codeOf plan i) 21) 1 0) 1 ≡ false
       go true k e = rw e
       go false k e = refl
 
-  pub no-mask : 21 ≤ codeOf state i → hasPart state i 0 ≡ false
+  pub no-mask : 21 ≤ codeOf plan i → hasPart plan i 0 ≡ false
   unfolding hasPart validityParts
-  no-mask h = rw (le-ltb (codeOf state i) 21 h) (go (copied state i && not (eqb (keepsOf state i) 0)))
+  no-mask h = rw (le-ltb (codeOf plan i) 21 h) (go (copied plan i && not (eqb (keepsOf plan i) 0)))
     where
       go : (t : Bool) → eqb (cond (t && false) 1 0) 1 ≡ false
       go true = refl
       go false = refl
 
-  pub no-buffer : (b : ℕ) → bufferCount (codeOf state i) < suc b → hasPart state i (suc b) ≡ false
+  pub no-buffer : (b : ℕ) → bufferCount (codeOf plan i) < suc b → hasPart plan i (suc b) ≡ false
   unfolding hasPart bufferParts
-  no-buffer b h = go (copied state i)
+  no-buffer b h = go (copied plan i)
     where
-      go : (t : Bool) → ltb b (cond t (bufferCount (codeOf state i)) 0) ≡ false
-      go true = le-ltb b (bufferCount (codeOf state i)) (omega arith)
+      go : (t : Bool) → ltb b (cond t (bufferCount (codeOf plan i)) 0) ≡ false
+      go true = le-ltb b (bufferCount (codeOf plan i)) (omega arith)
       go false = le-ltb b 0 (omega arith)
 
-  pub no-part : (b : ℕ) → copied state i ≡ false → hasPart state i b ≡ false
+  pub no-part : (b : ℕ) → copied plan i ≡ false → hasPart plan i b ≡ false
   unfolding hasPart validityParts bufferParts
   no-part zero h = rw h
   no-part (suc b) h = rw h (le-ltb b 0 (omega arith))
 
 -- how many buffers a node's code has, as code read it
-pub counted : (state : List ℕ) (i : ℕ) {code n : ℕ} → code ≡ codeOf state i → n ≡ bufferCount code → n ≡ bufferCount (codeOf state i)
-counted state i e q = q ∙ ap bufferCount e
+pub counted : (plan : List ℕ) (i : ℕ) {code n : ℕ} → code ≡ codeOf plan i → n ≡ bufferCount code → n ≡ bufferCount (codeOf plan i)
+counted plan i e q = q ∙ ap bufferCount e
 
 -- ---- a node, and all nodes
 
-module _ (state counts parts : List ℕ) (m : ℕ) where
+module _ (plan counters parts : List ℕ) (m : ℕ) where
   abbrev pub withinAt : ℕ → Bool
-  withinAt i = every (λ b. partWithin state parts m i b) 3
+  withinAt i = every (λ b. partWithin plan parts m i b) 3
 
   abbrev pub holdAt : ℕ → Bool
-  holdAt i = every (λ b. partHolds state counts parts i b) 3
+  holdAt i = every (λ b. partHolds plan counters parts i b) 3
 
   -- its three parts one after the other
-  pub node-three : (i : ℕ) {a b c g k : ℕ} → a ≡ verdict (partWithin state parts m i 0) (partHolds state counts parts i 0)
-      → b ≡ verdict (partWithin state parts m i 1) (partHolds state counts parts i 1) → c ≡ verdict (partWithin state parts m i 2) (partHolds state counts parts i 2)
+  pub node-three : (i : ℕ) {a b c g k : ℕ} → a ≡ verdict (partWithin plan parts m i 0) (partHolds plan counters parts i 0)
+      → b ≡ verdict (partWithin plan parts m i 1) (partHolds plan counters parts i 1) → c ≡ verdict (partWithin plan parts m i 2) (partHolds plan counters parts i 2)
       → g ≡ worseOf a b → k ≡ worseOf g c → k ≡ verdict (withinAt i) (holdAt i)
   node-three i e f h q r =
-      let w : ℕ → Bool = partWithin state parts m i in
-      let t : ℕ → Bool = partHolds state counts parts i in
+      let w : ℕ → Bool = partWithin plan parts m i in
+      let t : ℕ → Bool = partHolds plan counters parts i in
       worse-both (w 0 && w 1) (t 0 && t 1) (w 2) (t 2) (worse-both (w 0) (t 0) (w 1) (t 1) e f q) h r
 
-  pub node-none : (i : ℕ) → copied state i ≡ false → 0 ≡ verdict (withinAt i) (holdAt i)
+  pub node-none : (i : ℕ) → copied plan i ≡ false → 0 ≡ verdict (withinAt i) (holdAt i)
   node-none i h =
-      let p : (b : ℕ) → 0 ≡ verdict (partWithin state parts m i b) (partHolds state counts parts i b) = λ b. part-none state counts parts m i b (no-part state i b h) in
+      let p : (b : ℕ) → 0 ≡ verdict (partWithin plan parts m i b) (partHolds plan counters parts i b) = λ b. part-none plan counters parts m i b (no-part plan i b h) in
       node-three i (p 0) (p 1) (p 2) refl refl
 
   pub nodes-more : (i : ℕ) {a b g : ℕ} → a ≡ verdict (every withinAt i) (every holdAt i) → b ≡ verdict (withinAt i) (holdAt i) → g ≡ worseOf a b
       → g ≡ verdict (every withinAt (i + 1)) (every holdAt (i + 1))
   nodes-more i e f q = rw (add-one i) (worse-both (every withinAt i) (every holdAt i) (withinAt i) (holdAt i) e f q)
 
-  pub nodes-all : (i n : ℕ) {g : ℕ} → n ≡ nodesOf state → n ≤ i → i ≤ n → g ≡ verdict (every withinAt i) (every holdAt i)
-      → g ≡ cond (partsWithin state parts m) (cond (partsHold state counts parts) 0 13) 14
+  pub nodes-all : (i n : ℕ) {g : ℕ} → n ≡ nodesOf plan → n ≤ i → i ≤ n → g ≡ verdict (every withinAt i) (every holdAt i)
+      → g ≡ cond (partsWithin plan parts m) (cond (partsHold plan counters parts) 0 13) 14
   unfolding partsWithin partsHold
-  nodes-all i n e l u q = let k : i ≡ nodesOf state = omega arith in rw k at q
+  nodes-all i n e l u q = let k : i ≡ nodesOf plan = omega arith in rw k at q

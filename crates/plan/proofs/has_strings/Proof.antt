@@ -27,7 +27,7 @@ returns : tie.Need-returns
 returns c =
     let z = c .before .before .before .args in
     let e : 8 * (z .i + 1) ≡ 8 * suc (z .i) + 0 = omega arith in
-    c .is-string .ensures ∙ ap (λ (w : ℕ). isString (w % 256)) (c .before .at-u64 .ensures ∙ ap (λ k. getD (z .state .now) k 0) e)
+    c .is-string .ensures ∙ ap (λ (w : ℕ). isString (w % 256)) (c .before .at-u64 .ensures ∙ ap (λ k. getD (z .plan .now) k 0) e)
 
 pub has-strings-spec : {M : Type 1} → statement M
 has-strings-spec =

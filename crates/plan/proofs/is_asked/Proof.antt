@@ -7,7 +7,7 @@ use Rattle.plan.proofs.is_asked.Statement.{statement}
 use Rattle.plan.proofs.is_asked.Tie as tie
 
 returns : tie.Need-returns
-returns c = let z = c .before .args in asked-root (z .state .now) (z .keep) (z .i) (c .if1 .taken)
+returns c = let z = c .before .args in asked-root (z .plan .now) (z .keep) (z .i) (c .if1 .taken)
 
 sub-dictionary-of : tie.Need-sub-dictionary-of
 sub-dictionary-of c = search needs
@@ -18,7 +18,7 @@ dictionary-of-requires c κs = search needs
 returns-2 : tie.Need-returns-2
 returns-2 c =
     let z = c .before .before .before .before .args in
-    asked-values (z .state .now) (z .keep) (z .i) (z .i - 1) (omega arith) (c .before .dictionary-of .ensures) (c .if2 .taken)
+    asked-values (z .plan .now) (z .keep) (z .i) (z .i - 1) (omega arith) (c .before .dictionary-of .ensures) (c .if2 .taken)
 
 parent-of-requires : tie.Need-parent-of-requires
 parent-of-requires c κs = search needs
@@ -29,7 +29,7 @@ keeps-of-requires c κs = search needs
 returns-3 : tie.Need-returns-3
 returns-3 c =
     let z = c .before .before .before .before .before .before .before .args in
-    asked-above (z .state .now) (z .keep) (z .i) (z .i - 1) (omega arith) (c .before .before .before .before .dictionary-of .ensures) (c .before .before .before .if2 .left) (c .before .parent-of .ensures .0) (c .keeps-of .ensures)
+    asked-above (z .plan .now) (z .keep) (z .i) (z .i - 1) (omega arith) (c .before .before .before .before .dictionary-of .ensures) (c .before .before .before .if2 .left) (c .before .parent-of .ensures .0) (c .keeps-of .ensures)
 
 pub is-asked-spec : {M : Type 1} → statement M
 is-asked-spec =

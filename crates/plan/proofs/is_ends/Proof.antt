@@ -7,7 +7,7 @@ use Rattle.plan.proofs.is_ends.Statement.{statement}
 use Rattle.plan.proofs.is_ends.Tie as tie
 
 returns : tie.Need-returns
-returns c = let z = c .before .args in ends-root (z .state .now) (z .i) (c .if1 .taken)
+returns c = let z = c .before .args in ends-root (z .plan .now) (z .i) (c .if1 .taken)
 
 sub-code-of : tie.Need-sub-code-of
 sub-code-of c = search needs
@@ -21,7 +21,7 @@ is-run-end-requires c κs = search needs
 returns-2 : tie.Need-returns-2
 returns-2 c =
     let z = c .before .before .before .before .args in
-    ends-next (z .state .now) (z .i) (z .i - 1) (omega arith) (c .before .code-of .ensures) (c .is-run-end .ensures)
+    ends-next (z .plan .now) (z .i) (z .i - 1) (omega arith) (c .before .code-of .ensures) (c .is-run-end .ensures)
 
 pub is-ends-spec : {M : Type 1} → statement M
 is-ends-spec =

@@ -14,7 +14,7 @@ dictionary-of-requires c κs = search needs
 returns : tie.Need-returns
 returns c =
     let z = c .before .before .before .before .before .before .before .args in
-    joined-none (tables (z .lengths .now) (z .places .now) (z .body .now)) (z .sources .now) (z .m) (z .state .now) (z .i) (c .before .dictionary-of .ensures) (c .if1 .taken)
+    joined-none (tables (z .lengths .now) (z .places .now) (z .body .now)) (z .sources .now) (z .m) (z .plan .now) (z .i) (c .before .dictionary-of .ensures) (c .if1 .taken)
 
 has-strings-requires : tie.Need-has-strings-requires
 has-strings-requires c κs = search needs
@@ -29,13 +29,13 @@ returns-2 : tie.Need-returns-2
 returns-2 c =
     let z = c .before .before .before .before .before .before .before .before .before .before .before .args in
     let x = tables (z .lengths .now) (z .places .now) (z .body .now) in
-    sym (ap (λ b. flag (not b)) (c .if2 .taken)) ∙ joined-by x (z .sources .now) (z .m) (z .state .now) (z .i) (c .before .before .before .before .before .dictionary-of .ensures) (c .before .before .before .before .if1 .left) (shared-at x (z .sources .now) (z .m) (z .state .now) (z .i) (c .before .before .has-strings .ensures) (c .before .all-share .ensures))
+    sym (ap (λ b. flag (not b)) (c .if2 .taken)) ∙ joined-by x (z .sources .now) (z .m) (z .plan .now) (z .i) (c .before .before .before .before .before .dictionary-of .ensures) (c .before .before .before .before .if1 .left) (shared-at x (z .sources .now) (z .m) (z .plan .now) (z .i) (c .before .before .has-strings .ensures) (c .before .all-share .ensures))
 
 returns-3 : tie.Need-returns-3
 returns-3 c =
     let z = c .before .before .before .before .before .before .before .before .before .before .before .args in
     let x = tables (z .lengths .now) (z .places .now) (z .body .now) in
-    sym (ap (λ b. flag (not b)) (c .if2 .left)) ∙ joined-by x (z .sources .now) (z .m) (z .state .now) (z .i) (c .before .before .before .before .before .dictionary-of .ensures) (c .before .before .before .before .if1 .left) (shared-at x (z .sources .now) (z .m) (z .state .now) (z .i) (c .before .before .has-strings .ensures) (c .before .all-share .ensures))
+    sym (ap (λ b. flag (not b)) (c .if2 .left)) ∙ joined-by x (z .sources .now) (z .m) (z .plan .now) (z .i) (c .before .before .before .before .before .dictionary-of .ensures) (c .before .before .before .before .if1 .left) (shared-at x (z .sources .now) (z .m) (z .plan .now) (z .i) (c .before .before .has-strings .ensures) (c .before .all-share .ensures))
 
 pub joined-word-spec : {M : Type 1} → statement M
 joined-word-spec =

@@ -14,7 +14,7 @@ is-ends-requires c κs = search needs
 returns : tie.Need-returns
 returns c =
     let z = c .before .before .before .before .before .before .args in
-    keep-ends (tables (z .lengths .now) (z .places .now) (z .body .now)) (z .sources .now) (z .m) (z .keep) (z .state .now) (z .i) (c .before .is-ends .ensures) (c .if1 .taken)
+    keep-ends (tables (z .lengths .now) (z .places .now) (z .body .now)) (z .sources .now) (z .m) (z .keep) (z .plan .now) (z .i) (c .before .is-ends .ensures) (c .if1 .taken)
 
 is-asked-requires : tie.Need-is-asked-requires
 is-asked-requires c κs = search needs
@@ -25,12 +25,12 @@ keeps-requires c κs = (omega arith, omega arith, λ s h. c .before .before .bef
 returns-2 : tie.Need-returns-2
 returns-2 c =
     let z = c .before .before .before .before .before .before .before .before .before .args in
-    sym (ap flag (c .if2 .taken)) ∙ keep-by (tables (z .lengths .now) (z .places .now) (z .body .now)) (z .sources .now) (z .m) (z .keep) (z .state .now) (z .i) (c .before .before .before .before .is-ends .ensures) (c .before .before .before .if1 .left) (c .before .before .is-asked .ensures) (c .before .keeps .ensures)
+    sym (ap flag (c .if2 .taken)) ∙ keep-by (tables (z .lengths .now) (z .places .now) (z .body .now)) (z .sources .now) (z .m) (z .keep) (z .plan .now) (z .i) (c .before .before .before .before .is-ends .ensures) (c .before .before .before .if1 .left) (c .before .before .is-asked .ensures) (c .before .keeps .ensures)
 
 returns-3 : tie.Need-returns-3
 returns-3 c =
     let z = c .before .before .before .before .before .before .before .before .before .args in
-    sym (ap flag (c .if2 .left)) ∙ keep-by (tables (z .lengths .now) (z .places .now) (z .body .now)) (z .sources .now) (z .m) (z .keep) (z .state .now) (z .i) (c .before .before .before .before .is-ends .ensures) (c .before .before .before .if1 .left) (c .before .before .is-asked .ensures) (c .before .keeps .ensures)
+    sym (ap flag (c .if2 .left)) ∙ keep-by (tables (z .lengths .now) (z .places .now) (z .body .now)) (z .sources .now) (z .m) (z .keep) (z .plan .now) (z .i) (c .before .before .before .before .is-ends .ensures) (c .before .before .before .if1 .left) (c .before .before .is-asked .ensures) (c .before .keeps .ensures)
 
 pub keep-word-spec : {M : Type 1} → statement M
 keep-word-spec =

@@ -36,8 +36,8 @@ write-parts-requires c κs = omega (arith, c .before .before .before .before .be
 part-total-requires : tie.Need-part-total-requires
 part-total-requires c κs = search needs
 
-element-write-state : tie.Need-element-write-state
-element-write-state c = search needs
+element-write-plan : tie.Need-element-write-plan
+element-write-plan c = search needs
 
 returns : tie.Need-returns
 returns c =
@@ -58,5 +58,5 @@ lay-out-spec =
     write-bases-requires
     write-parts-requires
     part-total-requires
-    element-write-state
+    element-write-plan
     returns)

@@ -8,10 +8,10 @@ use Rattle.plan.proofs.parent_of.Statement.{statement}
 use Rattle.plan.proofs.parent_of.Tie as tie
 
 abbrev Inv-loop : tie.InvT-loop
-Inv-loop state i p₀ p = (p ≤ i) × (holder state p i ≡ holder state i i)
+Inv-loop plan i p₀ p = (p ≤ i) × (holder plan p i ≡ holder plan i i)
 
 abbrev μ-loop : tie.MeasureT-loop
-μ-loop state i p₀ p = p
+μ-loop plan i p₀ p = p
 
 loop-holds : tie.Need-loop-holds Inv-loop μ-loop
 loop-holds c = (omega arith, refl)
@@ -27,7 +27,7 @@ returns c =
     let z = c .before .before .before .before .before .args in
     let l = c .before .before .before .before .loop in
     let e : suc (l .p - 1) ≡ l .p = omega arith in
-    (sym (holds (z .state .now) (z .i) (l .p - 1) (omega (arith, c .if1 .taken, c .before .end-of .ensures .0))) ∙ ap (λ q. holder (z .state .now) q (z .i)) e ∙ l .inv .1, omega arith)
+    (sym (holds (z .plan .now) (z .i) (l .p - 1) (omega (arith, c .if1 .taken, c .before .end-of .ensures .0))) ∙ ap (λ q. holder (z .plan .now) q (z .i)) e ∙ l .inv .1, omega arith)
 
 loop-less : tie.Need-loop-less Inv-loop μ-loop
 loop-less c = omega arith
@@ -37,13 +37,13 @@ loop-again c =
     let z = c .before .before .before .before .before .args in
     let l = c .before .before .before .before .loop in
     let e : suc (l .p - 1) ≡ l .p = omega arith in
-    (omega arith, sym (holds-not (z .state .now) (z .i) (l .p - 1) (omega (arith, c .if1 .left, c .before .end-of .ensures .0))) ∙ ap (λ q. holder (z .state .now) q (z .i)) e ∙ l .inv .1)
+    (omega arith, sym (holds-not (z .plan .now) (z .i) (l .p - 1) (omega (arith, c .if1 .left, c .before .end-of .ensures .0))) ∙ ap (λ q. holder (z .plan .now) q (z .i)) e ∙ l .inv .1)
 
 returns-2 : tie.Need-returns-2 Inv-loop μ-loop
 returns-2 c =
     let z = c .before .before .args in
     let l = c .before .loop in
-    (sym (holds-none (z .state .now) (z .i) (l .p) (omega arith)) ∙ l .inv .1, omega arith)
+    (sym (holds-none (z .plan .now) (z .i) (l .p) (omega arith)) ∙ l .inv .1, omega arith)
 
 pub parent-of-spec : {M : Type 1} → statement M
 parent-of-spec =

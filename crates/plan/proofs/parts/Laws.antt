@@ -42,62 +42,62 @@ pub few-buffers : (code : ℕ) → bufferCount code ≤ 2
 unfolding all-below
 few-buffers code = all-below-at 2 bufferCounts refl code
 
-module _ (state : List ℕ) where
-  pub copied-root : (i : ℕ) → i ≡ 0 → true ≡ copied state i
+module _ (plan : List ℕ) where
+  pub copied-root : (i : ℕ) → i ≡ 0 → true ≡ copied plan i
   unfolding copied
   copied-root zero e = refl
   copied-root (suc i) e = absurd (omega arith)
 
-  pub copied-other : (i : ℕ) → (i ≡ 0 → ⊥) → copied state i ≡ eqb (dictionaryOf state (i - 1)) 0 || eqb (word state (i - 1) 7) 1
+  pub copied-other : (i : ℕ) → (i ≡ 0 → ⊥) → copied plan i ≡ eqb (dictionaryOf plan (i - 1)) 0 || eqb (word plan (i - 1) 7) 1
   unfolding copied
   copied-other zero h = absurd (h refl)
   copied-other (suc i) h = let e : suc i - 1 ≡ i = omega arith in rw e
 
-  pub few-bits : (i : ℕ) → validityParts state i ≤ 1
+  pub few-bits : (i : ℕ) → validityParts plan i ≤ 1
   unfolding validityParts
-  few-bits i = go (copied state i && not (eqb (keepsOf state i) 0) && ltb (codeOf state i) 21)
+  few-bits i = go (copied plan i && not (eqb (keepsOf plan i) 0) && ltb (codeOf plan i) 21)
     where
       go : (t : Bool) → cond t 1 0 ≤ 1
       go true = omega arith
       go false = omega arith
 
-  pub few-parts : (i : ℕ) → bufferParts state i ≤ 2
+  pub few-parts : (i : ℕ) → bufferParts plan i ≤ 2
   unfolding bufferParts
-  few-parts i = go (copied state i)
+  few-parts i = go (copied plan i)
     where
-      go : (t : Bool) → cond t (bufferCount (codeOf state i)) 0 ≤ 2
-      go true = few-buffers (codeOf state i)
+      go : (t : Bool) → cond t (bufferCount (codeOf plan i)) 0 ≤ 2
+      go true = few-buffers (codeOf plan i)
       go false = omega arith
 
-  pub has-validity : (i b r : ℕ) → b ≡ 0 → r ≡ validityParts state i → eqb r 1 ≡ hasPart state i b
+  pub has-validity : (i b r : ℕ) → b ≡ 0 → r ≡ validityParts plan i → eqb r 1 ≡ hasPart plan i b
   unfolding hasPart
   has-validity i zero r e q = ap (λ (x : ℕ). eqb x 1) q
   has-validity i (suc b) r e q = absurd (omega arith)
 
-  pub has-buffer : (i b r : ℕ) → (b ≡ 0 → ⊥) → r ≡ bufferParts state i → leb b r ≡ hasPart state i b
+  pub has-buffer : (i b r : ℕ) → (b ≡ 0 → ⊥) → r ≡ bufferParts plan i → leb b r ≡ hasPart plan i b
   unfolding hasPart
   has-buffer i zero r h q = absurd (h refl)
   has-buffer i (suc b) r h q = ap (leb (suc b)) q
 
-  pub before-one : (i s r : ℕ) → s ≡ partsBefore state i → r ≡ partCount state i → s + r ≡ partsBefore state (i + 1)
+  pub before-one : (i s r : ℕ) → s ≡ partsBefore plan i → r ≡ partCount plan i → s + r ≡ partsBefore plan (i + 1)
   unfolding partsBefore
   before-one i s r e q = rw (add-one i) (omega arith)
 
   -- ---- the node and the buffer of a part, n nodes of which i are passed
 
-  pub at-here : (n i p v : ℕ) → i < n → p < partCount state i → v ≡ validityParts state i → Of i (p + 1 - v) ≡ partFrom state (n - i) i p
+  pub at-here : (n i p v : ℕ) → i < n → p < partCount plan i → v ≡ validityParts plan i → Of i (p + 1 - v) ≡ partFrom plan (n - i) i p
   unfolding partFrom
   at-here n i p v l h e =
       let k : n - i ≡ suc (n - (i + 1)) = omega arith in
-      rw (k, lt-ltb p (partCount state i) h, e)
+      rw (k, lt-ltb p (partCount plan i) h, e)
 
-  pub at-later : (n i p r : ℕ) → i < n → r ≡ partCount state i → r ≤ p → partFrom state (n - i) i p ≡ partFrom state (n - (i + 1)) (i + 1) (p - r)
+  pub at-later : (n i p r : ℕ) → i < n → r ≡ partCount plan i → r ≤ p → partFrom plan (n - i) i p ≡ partFrom plan (n - (i + 1)) (i + 1) (p - r)
   unfolding partFrom
   at-later n i p r l e h =
       let k : n - i ≡ suc (n - (i + 1)) = omega arith in
-      rw (k, e, le-ltb p (partCount state i) (omega arith), add-one i)
+      rw (k, e, le-ltb p (partCount plan i) (omega arith), add-one i)
 
-  pub at-end : (n i p : ℕ) → n ≤ i → partFrom state (n - i) i p ≡ Nothing
+  pub at-end : (n i p : ℕ) → n ≤ i → partFrom plan (n - i) i p ≡ Nothing
   unfolding partFrom
   at-end n i p l = let k : n - i ≡ 0 = omega arith in rw k
 
@@ -113,14 +113,14 @@ bits-hold r size = go (leb r (8 * size)) refl
     go true e = let h = leb-true r (8 * size) e in e ∙ sym (le-leb ((r + 7) / 8) size (omega arith))
     go false e = let h = leb-false r (8 * size) e in e ∙ sym (lt-leb ((r + 7) / 8) size (omega arith))
 
-pub holds-by : (state counts parts : List ℕ) (i b : ℕ) {code r n p size : ℕ}
-    → code ≡ codeOf state i → r ≡ rows counts i → n ≡ bytes counts i → p ≡ numberOf state i b → size ≡ sizeAt parts p
-    → leb (neededBy code r n b) size ≡ leb (needed state counts i b) (sizeOf state parts i b)
-holds-by state counts parts i b {code} {r} {n} {p} {size} e f g h k =
+pub holds-by : (plan counters parts : List ℕ) (i b : ℕ) {code r n p size : ℕ}
+    → code ≡ codeOf plan i → r ≡ rows counters i → n ≡ bytes counters i → p ≡ numberOf plan i b → size ≡ sizeAt parts p
+    → leb (neededBy code r n b) size ≡ leb (needed plan counters i b) (sizeOf plan parts i b)
+holds-by plan counters parts i b {code} {r} {n} {p} {size} e f g h k =
     ap (λ (x : ℕ). leb (neededBy x r n b) size) e
-    ∙ ap (λ (x : ℕ). leb (neededBy (codeOf state i) x n b) size) f
-    ∙ ap (λ (x : ℕ). leb (neededBy (codeOf state i) (rows counts i) x b) size) g
-    ∙ ap (leb (needed state counts i b)) (k ∙ ap (sizeAt parts) h)
+    ∙ ap (λ (x : ℕ). leb (neededBy (codeOf plan i) x n b) size) f
+    ∙ ap (λ (x : ℕ). leb (neededBy (codeOf plan i) (rows counters i) x b) size) g
+    ∙ ap (leb (needed plan counters i b)) (k ∙ ap (sizeAt parts) h)
 
 -- ---- where parts lie
 
@@ -133,15 +133,15 @@ module _ (parts : List ℕ) (p q : ℕ) {s t : ℕ} (e : s ≡ sizeAt parts p) (
   unfolding apart
   apart-full h {a} {b} k l = let g : eqb (sizeAt parts p) 0 || eqb (sizeAt parts q) 0 ≡ false = rw (e, f) at h in rw (g, k, l, e, f)
 
-module _ (state parts : List ℕ) (m i b : ℕ) where
-  pub within-none : hasPart state i b ≡ false → true ≡ partWithin state parts m i b
+module _ (plan parts : List ℕ) (m i b : ℕ) where
+  pub within-none : hasPart plan i b ≡ false → true ≡ partWithin plan parts m i b
   unfolding partWithin
   within-none h = rw h
 
-  pub within-past : {p : ℕ} → hasPart state i b ≡ true → p ≡ numberOf state i b → length parts ≤ 2 * p + 1 → false ≡ partWithin state parts m i b
+  pub within-past : {p : ℕ} → hasPart plan i b ≡ true → p ≡ numberOf plan i b → length parts ≤ 2 * p + 1 → false ≡ partWithin plan parts m i b
   unfolding partWithin
-  within-past {p} h e l = rw (h, le-ltb (2 * numberOf state i b + 1) (length parts) (omega arith))
+  within-past {p} h e l = rw (h, le-ltb (2 * numberOf plan i b + 1) (length parts) (omega arith))
 
-  pub within-in : {p : ℕ} → hasPart state i b ≡ true → p ≡ numberOf state i b → 2 * p + 1 < length parts → inRoom parts m p ≡ partWithin state parts m i b
+  pub within-in : {p : ℕ} → hasPart plan i b ≡ true → p ≡ numberOf plan i b → 2 * p + 1 < length parts → inRoom parts m p ≡ partWithin plan parts m i b
   unfolding partWithin
-  within-in {p} h e l = rw (h, lt-ltb (2 * numberOf state i b + 1) (length parts) (omega arith)) (ap (inRoom parts m) e)
+  within-in {p} h e l = rw (h, lt-ltb (2 * numberOf plan i b + 1) (length parts) (omega arith)) (ap (inRoom parts m) e)

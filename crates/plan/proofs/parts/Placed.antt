@@ -39,100 +39,100 @@ only-in e h = rw e at h
 
 -- ---- numbers
 
-module _ (state : List ℕ) where
+module _ (plan : List ℕ) where
   -- the buffer's place among the parts of its node
-  slot : (i b : ℕ) → hasPart state i b ≡ true → (1 ≤ validityParts state i + b) × (validityParts state i + b ≤ partCount state i)
+  slot : (i b : ℕ) → hasPart plan i b ≡ true → (1 ≤ validityParts plan i + b) × (validityParts plan i + b ≤ partCount plan i)
   unfolding hasPart
-  slot i zero h = let e = eqb-true (validityParts state i) 1 h in (omega arith, omega arith)
-  slot i (suc b) h = let l = ltb-true b (bufferParts state i) h in (omega arith, omega arith)
+  slot i zero h = let e = eqb-true (validityParts plan i) 1 h in (omega arith, omega arith)
+  slot i (suc b) h = let l = ltb-true b (bufferParts plan i) h in (omega arith, omega arith)
 
-  pub used-few : {i b : ℕ} → Used state i b → b < 3
-  used-few {i} {b} u = let s = slot i b (u .part) in let l = few-parts state i in omega arith
+  pub used-few : {i b : ℕ} → Used plan i b → b < 3
+  used-few {i} {b} u = let s = slot i b (u .part) in let l = few-parts plan i in omega arith
 
-  before-next : (i j : ℕ) → i < j → partsBefore state i + partCount state i ≤ partsBefore state j
+  before-next : (i j : ℕ) → i < j → partsBefore plan i + partCount plan i ≤ partsBefore plan j
   unfolding partsBefore
   before-next i zero l = absurd (omega arith)
   before-next i (suc j) l = go (decLt i j) (before-next i j)
     where
-      go : Dec (i < j) → (i < j → partsBefore state i + partCount state i ≤ partsBefore state j) → partsBefore state i + partCount state i ≤ partsBefore state j + partCount state j
+      go : Dec (i < j) → (i < j → partsBefore plan i + partCount plan i ≤ partsBefore plan j) → partsBefore plan i + partCount plan i ≤ partsBefore plan j + partCount plan j
       go (yes y) f = let h = f y in omega arith
       go (no y) f = let e : i ≡ j = omega arith in rw e (omega arith)
 
-  has-slot : (i b : ℕ) → 1 ≤ validityParts state i + b → validityParts state i + b ≤ partCount state i → hasPart state i b ≡ true
+  has-slot : (i b : ℕ) → 1 ≤ validityParts plan i + b → validityParts plan i + b ≤ partCount plan i → hasPart plan i b ≡ true
   unfolding hasPart
-  has-slot i zero h l = let f = few-bits state i in eq-eqb (validityParts state i) 1 (omega arith)
-  has-slot i (suc b) h l = lt-ltb b (bufferParts state i) (omega arith)
+  has-slot i zero h l = let f = few-bits plan i in eq-eqb (validityParts plan i) 1 (omega arith)
+  has-slot i (suc b) h l = lt-ltb b (bufferParts plan i) (omega arith)
 
   -- the node of part p among the first k
   record Holder (k p : ℕ) : Type 0 where
     node : ℕ
     below : node < k
-    from : partsBefore state node ≤ p
-    to : p < partsBefore state node + partCount state node
+    from : partsBefore plan node ≤ p
+    to : p < partsBefore plan node + partCount plan node
 
-  holder : (k p : ℕ) → p < partsBefore state k → Holder k p
+  holder : (k p : ℕ) → p < partsBefore plan k → Holder k p
   unfolding partsBefore
   holder zero p l = absurd (omega arith)
-  holder (suc k) p l = go (decLt p (partsBefore state k)) (holder k p)
+  holder (suc k) p l = go (decLt p (partsBefore plan k)) (holder k p)
     where
-      go : Dec (p < partsBefore state k) → (p < partsBefore state k → Holder k p) → Holder (suc k) p
+      go : Dec (p < partsBefore plan k) → (p < partsBefore plan k → Holder k p) → Holder (suc k) p
       go (yes y) f = let h = f y in record { node = h .node; below = omega arith; from = h .from; to = h .to }
       go (no y) f = record { node = k; below = omega arith; from = omega arith; to = omega arith }
 
   -- the first i nodes are passed
-  passed : (n p i : ℕ) → i ≤ n → partsBefore state i ≤ p → partFrom state n 0 p ≡ partFrom state (n - i) i (p - partsBefore state i)
+  passed : (n p i : ℕ) → i ≤ n → partsBefore plan i ≤ p → partFrom plan n 0 p ≡ partFrom plan (n - i) i (p - partsBefore plan i)
   unfolding partsBefore
   passed n p zero l h =
       let e : n - 0 ≡ n = omega arith in
       let f : p - 0 ≡ p = omega arith in
       rw (e, f)
   passed n p (suc i) l h =
-      let e : p - (partsBefore state i + partCount state i) ≡ p - partsBefore state i - partCount state i = omega arith in
+      let e : p - (partsBefore plan i + partCount plan i) ≡ p - partsBefore plan i - partCount plan i = omega arith in
       rw e
       (passed n p i (omega arith) (omega arith)
-      ∙ (rw (add-one i) at (at-later state n i (p - partsBefore state i) (partCount state i) (omega arith) refl (omega arith))))
+      ∙ (rw (add-one i) at (at-later plan n i (p - partsBefore plan i) (partCount plan i) (omega arith) refl (omega arith))))
 
   -- "how many parts there are": no other number is a part's
-  pub part-none : (p : ℕ) → partTotal state ≤ p → partAt state p ≡ Nothing
-  part-none p h = passed (nodesOf state) p (nodesOf state) (omega arith) h ∙ at-end state (nodesOf state) (nodesOf state) _ (omega arith)
+  pub part-none : (p : ℕ) → partTotal plan ≤ p → partAt plan p ≡ Nothing
+  part-none p h = passed (nodesOf plan) p (nodesOf plan) (omega arith) h ∙ at-end plan (nodesOf plan) (nodesOf plan) _ (omega arith)
 
-  module _ (n : Numbered state) where
-    number-is : {i b : ℕ} → Used state i b → numberOf state i b ≡ partsBefore state i + (validityParts state i + b - 1)
+  module _ (n : Numbered plan) where
+    number-is : {i b : ℕ} → Used plan i b → numberOf plan i b ≡ partsBefore plan i + (validityParts plan i + b - 1)
     number-is {i} {b} u = let e = n .word-is i (u .node) in let s = slot i b (u .part) in omega arith
 
     -- EVERY PART'S NUMBER IS BELOW THE TOTAL
-    pub number-below : {i b : ℕ} → Used state i b → numberOf state i b < partTotal state
+    pub number-below : {i b : ℕ} → Used plan i b → numberOf plan i b < partTotal plan
     number-below {i} {b} u =
         let e = number-is u in
         let s = slot i b (u .part) in
-        let h = before-next i (nodesOf state) (u .node) in
+        let h = before-next i (nodesOf plan) (u .node) in
         omega arith
 
     -- A PART IS ANSWERED WITH ITS NODE AND ITS BUFFER
-    pub part-named : {i b : ℕ} → Used state i b → partAt state (numberOf state i b) ≡ Of i b
+    pub part-named : {i b : ℕ} → Used plan i b → partAt plan (numberOf plan i b) ≡ Of i b
     part-named {i} {b} u =
         let e = number-is u in
         let s = slot i b (u .part) in
-        let p = numberOf state i b in
-        let f : p - partsBefore state i + 1 - validityParts state i ≡ b = omega arith in
-        passed (nodesOf state) p i (omega arith) (omega arith)
-        ∙ sym (at-here state (nodesOf state) i (p - partsBefore state i) (validityParts state i) (u .node) (omega arith) refl)
+        let p = numberOf plan i b in
+        let f : p - partsBefore plan i + 1 - validityParts plan i ≡ b = omega arith in
+        passed (nodesOf plan) p i (omega arith) (omega arith)
+        ∙ sym (at-here plan (nodesOf plan) i (p - partsBefore plan i) (validityParts plan i) (u .node) (omega arith) refl)
         ∙ ap (Of i) f
 
     -- TWO BUFFERS HAVE TWO NUMBERS
-    pub number-distinct : {i b j e : ℕ} → Used state i b → Used state j e → numberOf state i b ≡ numberOf state j e → (i ≡ j) × (b ≡ e)
-    number-distinct {i} {b} {j} {e} u v q = let h : Of i b ≡ Of j e = sym (part-named u) ∙ ap (partAt state) q ∙ part-named v in (cc, cc)
+    pub number-distinct : {i b j e : ℕ} → Used plan i b → Used plan j e → numberOf plan i b ≡ numberOf plan j e → (i ≡ j) × (b ≡ e)
+    number-distinct {i} {b} {j} {e} u v q = let h : Of i b ≡ Of j e = sym (part-named u) ∙ ap (partAt plan) q ∙ part-named v in (cc, cc)
 
     -- EVERY NUMBER BELOW THE TOTAL IS A PART'S
-    pub number-named : (p : ℕ) → p < partTotal state → Named state p
+    pub number-named : (p : ℕ) → p < partTotal plan → Named plan p
     number-named p l =
-        let h = holder (nodesOf state) p l in
+        let h = holder (nodesOf plan) p l in
         let i = h .node in
-        let b = p - partsBefore state i + 1 - validityParts state i in
-        let f = few-bits state i in
-        let u : Used state i b = record { node = h .below; part = has-slot i b (omega arith) (omega arith) } in
-        let q : numberOf state i b ≡ p = number-is u ∙ omega arith in
-        record { node = i; buffer = b; used = u; number = q; answer = sym (ap (partAt state) q) ∙ part-named u }
+        let b = p - partsBefore plan i + 1 - validityParts plan i in
+        let f = few-bits plan i in
+        let u : Used plan i b = record { node = h .below; part = has-slot i b (omega arith) (omega arith) } in
+        let q : numberOf plan i b ≡ p = number-is u ∙ omega arith in
+        record { node = i; buffer = b; used = u; number = q; answer = sym (ap (partAt plan) q) ∙ part-named u }
 
 -- ---- where they lie
 
@@ -194,57 +194,57 @@ module _ (parts : List ℕ) (count m : ℕ) (h : partsPlaced parts count m ≡ t
 
 -- ---- the parts of buffers
 
-module _ (state parts : List ℕ) (m : ℕ) where
+module _ (plan parts : List ℕ) (m : ℕ) where
   -- THE PARTS OF AN OPENING lie in the room, and two are apart
-  module _ (n : Numbered state) (h : partsPlaced parts (partTotal state) m ≡ true) where
-    pub used-in : (i b : ℕ) → Used state i b → startOf state parts i b + sizeOf state parts i b ≤ m
-    used-in i b u = placed-in parts (partTotal state) m h (numberOf state i b) (number-below state n u)
+  module _ (n : Numbered plan) (h : partsPlaced parts (partTotal plan) m ≡ true) where
+    pub used-in : (i b : ℕ) → Used plan i b → startOf plan parts i b + sizeOf plan parts i b ≤ m
+    used-in i b u = placed-in parts (partTotal plan) m h (numberOf plan i b) (number-below plan n u)
 
-    pub used-apart : (i b j e : ℕ) → Used state i b → Used state j e → (i ≡ j → b ≡ e → ⊥)
-        → Apart (startOf state parts i b) (sizeOf state parts i b) (startOf state parts j e) (sizeOf state parts j e)
+    pub used-apart : (i b j e : ℕ) → Used plan i b → Used plan j e → (i ≡ j → b ≡ e → ⊥)
+        → Apart (startOf plan parts i b) (sizeOf plan parts i b) (startOf plan parts j e) (sizeOf plan parts j e)
     used-apart i b j e u v d =
-        placed-apart parts (partTotal state) m h (numberOf state i b) (numberOf state j e) (number-below state n u) (number-below state n v)
-        (λ q. let s = number-distinct state n u v q in d (s .0) (s .1))
+        placed-apart parts (partTotal plan) m h (numberOf plan i b) (numberOf plan j e) (number-below plan n u) (number-below plan n v)
+        (λ q. let s = number-distinct plan n u v q in d (s .0) (s .1))
 
     -- so does every order's test pass
-    pub placed-within : partsWithin state parts m ≡ true
+    pub placed-within : partsWithin plan parts m ≡ true
     unfolding partsWithin partWithin
     placed-within =
-        every-all (λ i. every (λ b. partWithin state parts m i b) 3) (nodesOf state)
-        (λ i l. every-all (λ b. partWithin state parts m i b) 3 (λ b k. only-if (hasPart state i b) (λ e. one i b (record { node = l; part = e }))))
+        every-all (λ i. every (λ b. partWithin plan parts m i b) 3) (nodesOf plan)
+        (λ i l. every-all (λ b. partWithin plan parts m i b) 3 (λ b k. only-if (hasPart plan i b) (λ e. one i b (record { node = l; part = e }))))
       where
-        one : (i b : ℕ) → Used state i b → ltb (2 * numberOf state i b + 1) (length parts) && inRoom parts m (numberOf state i b) ≡ true
+        one : (i b : ℕ) → Used plan i b → ltb (2 * numberOf plan i b + 1) (length parts) && inRoom parts m (numberOf plan i b) ≡ true
         one i b u =
-            let f = number-below state n u in
-            let g = placed-length parts (partTotal state) m h in
-            rw (lt-ltb (2 * numberOf state i b + 1) (length parts) (omega arith)) (le-leb _ _ (used-in i b u))
+            let f = number-below plan n u in
+            let g = placed-length parts (partTotal plan) m h in
+            rw (lt-ltb (2 * numberOf plan i b + 1) (length parts) (omega arith)) (le-leb _ _ (used-in i b u))
 
   -- THE PARTS OF AN ORDER are in the table and lie in the room
-  pub within-used : partsWithin state parts m ≡ true → (i b : ℕ) → Used state i b
-      → (2 * numberOf state i b + 1 < length parts) × (startOf state parts i b + sizeOf state parts i b ≤ m)
+  pub within-used : partsWithin plan parts m ≡ true → (i b : ℕ) → Used plan i b
+      → (2 * numberOf plan i b + 1 < length parts) × (startOf plan parts i b + sizeOf plan parts i b ≤ m)
   unfolding partsWithin partWithin
   within-used h i b u =
-      let g = every-at (λ k. partWithin state parts m i k) 3 (every-at (λ k. every (λ e. partWithin state parts m k e) 3) (nodesOf state) h i (u .node)) b (used-few state u) in
+      let g = every-at (λ k. partWithin plan parts m i k) 3 (every-at (λ k. every (λ e. partWithin plan parts m k e) 3) (nodesOf plan) h i (u .node)) b (used-few plan u) in
       let t = only-in (u .part) g in
-      (ltb-true _ _ (and-left (ltb (2 * numberOf state i b + 1) (length parts)) (inRoom parts m (numberOf state i b)) t), leb-true _ _ (and-right (ltb (2 * numberOf state i b + 1) (length parts)) (inRoom parts m (numberOf state i b)) t))
+      (ltb-true _ _ (and-left (ltb (2 * numberOf plan i b + 1) (length parts)) (inRoom parts m (numberOf plan i b)) t), leb-true _ _ (and-right (ltb (2 * numberOf plan i b + 1) (length parts)) (inRoom parts m (numberOf plan i b)) t))
 
-module _ (state counts parts : List ℕ) (h : partsHold state counts parts ≡ true) where
+module _ (plan counters parts : List ℕ) (h : partsHold plan counters parts ≡ true) where
   -- EVERY PART HOLDS ITS BYTES
-  pub used-holds : (i b : ℕ) → Used state i b → needed state counts i b ≤ sizeOf state parts i b
+  pub used-holds : (i b : ℕ) → Used plan i b → needed plan counters i b ≤ sizeOf plan parts i b
   unfolding partsHold partHolds
   used-holds i b u =
-      leb-true _ _ (only-in (u .part) (every-at (λ k. partHolds state counts parts i k) 3 (every-at (λ k. every (λ e. partHolds state counts parts k e) 3) (nodesOf state) h i (u .node)) b (used-few state u)))
+      leb-true _ _ (only-in (u .part) (every-at (λ k. partHolds plan counters parts i k) 3 (every-at (λ k. every (λ e. partHolds plan counters parts k e) 3) (nodesOf plan) h i (u .node)) b (used-few plan u)))
 
   -- a bit for each row
-  pub bits-held : (i : ℕ) → Used state i 0 → rows counts i ≤ 8 * sizeOf state parts i 0
-  bits-held i u = let g : (rows counts i + 7) / 8 ≤ sizeOf state parts i 0 = used-holds i 0 u in omega arith
+  pub bits-held : (i : ℕ) → Used plan i 0 → rows counters i ≤ 8 * sizeOf plan parts i 0
+  bits-held i u = let g : (rows counters i + 7) / 8 ≤ sizeOf plan parts i 0 = used-holds i 0 u in omega arith
 
-  module _ (m : ℕ) (n : Numbered state) (p : partsPlaced parts (partTotal state) m ≡ true) where
+  module _ (m : ℕ) (n : Numbered plan) (p : partsPlaced parts (partTotal plan) m ≡ true) where
     -- WHAT IS USED LIES IN THE ROOM
-    pub needed-in : (i b : ℕ) → Used state i b → startOf state parts i b + needed state counts i b ≤ m
-    needed-in i b u = let g = used-in state parts m n p i b u in let k = used-holds i b u in omega arith
+    pub needed-in : (i b : ℕ) → Used plan i b → startOf plan parts i b + needed plan counters i b ≤ m
+    needed-in i b u = let g = used-in plan parts m n p i b u in let k = used-holds i b u in omega arith
 
     -- AND NO BYTE OF ONE PART IS ANOTHER'S
-    pub needed-apart : (i b j e : ℕ) → Used state i b → Used state j e → (i ≡ j → b ≡ e → ⊥)
-        → Apart (startOf state parts i b) (needed state counts i b) (startOf state parts j e) (needed state counts j e)
-    needed-apart i b j e u v d = apart-less (needed state counts i b) (needed state counts j e) (used-holds i b u) (used-holds j e v) (used-apart state parts m n p i b j e u v d)
+    pub needed-apart : (i b j e : ℕ) → Used plan i b → Used plan j e → (i ≡ j → b ≡ e → ⊥)
+        → Apart (startOf plan parts i b) (needed plan counters i b) (startOf plan parts j e) (needed plan counters j e)
+    needed-apart i b j e u v d = apart-less (needed plan counters i b) (needed plan counters j e) (used-holds i b u) (used-holds j e v) (used-apart plan parts m n p i b j e u v d)

@@ -1,4 +1,4 @@
--- The words of a state and its parts: which buffers of a kind have one, and that the words that name the parts decide none of it, so
+-- The words of a plan and its parts: which buffers of a kind have one, and that the words that name the parts decide none of it, so
 -- that an opening may write them one after the other. Assumes nothing.
 use mathlib.Core.Path.{_≡_, refl, ap, ap₂, sym, _∙_}
 use mathlib.Core.Bool.{Bool, true, false, not, cond, _&&_, _||_}
@@ -58,19 +58,19 @@ list-view-buffers code h =
 pub dense-buffers : (code : ℕ) → code ≡ 22 → 2 ≤ bufferCount code
 dense-buffers code e = rw e (omega arith)
 
-module _ (state : List ℕ) (i : ℕ) (c : copied state i ≡ true) where
-  pub has-bits : (keepsOf state i ≡ 0 → ⊥) → codeOf state i < 21 → hasPart state i 0 ≡ true
+module _ (plan : List ℕ) (i : ℕ) (c : copied plan i ≡ true) where
+  pub has-bits : (keepsOf plan i ≡ 0 → ⊥) → codeOf plan i < 21 → hasPart plan i 0 ≡ true
   unfolding hasPart validityParts
-  has-bits h l = rw (c, ne-eqb (keepsOf state i) 0 h, lt-ltb (codeOf state i) 21 l)
+  has-bits h l = rw (c, ne-eqb (keepsOf plan i) 0 h, lt-ltb (codeOf plan i) 21 l)
 
-  pub has-buffers : (b : ℕ) → b < bufferCount (codeOf state i) → hasPart state i (suc b) ≡ true
+  pub has-buffers : (b : ℕ) → b < bufferCount (codeOf plan i) → hasPart plan i (suc b) ≡ true
   unfolding hasPart bufferParts
-  has-buffers b l = rw c (lt-ltb b (bufferCount (codeOf state i)) l)
+  has-buffers b l = rw c (lt-ltb b (bufferCount (codeOf plan i)) l)
 
 -- a node behind one with no dictionary is copied
-pub copied-plain : (state : List ℕ) (i : ℕ) → dictionaryOf state i ≡ 0 → copied state (suc i) ≡ true
+pub copied-plain : (plan : List ℕ) (i : ℕ) → dictionaryOf plan i ≡ 0 → copied plan (suc i) ≡ true
 unfolding copied
-copied-plain state i e = rw e
+copied-plain plan i e = rw e
 
 -- ---- the words that name the parts
 
@@ -138,19 +138,19 @@ module _ (s t : List ℕ) (a : Alike s t) where
   pub alike-total : partTotal s ≡ partTotal t
   alike-total = alike-before (nodesOf s) ∙ ap (partsBefore t) alike-nodes
 
-module _ (state : List ℕ) where
-  few-before : (i : ℕ) → partsBefore state i ≤ 3 * i
+module _ (plan : List ℕ) where
+  few-before : (i : ℕ) → partsBefore plan i ≤ 3 * i
   unfolding partsBefore
   few-before zero = omega arith
-  few-before (suc i) = let h = few-before i in let v = few-bits state i in let b = few-parts state i in omega arith
+  few-before (suc i) = let h = few-before i in let v = few-bits plan i in let b = few-parts plan i in omega arith
 
   -- THE OPENING NAMES THE PARTS by writing `partWord` into word 6 of every node
-  pub numbered : ((i : ℕ) → i < nodesOf state → word state i 6 ≡ partWord state i) → Numbered state
+  pub numbered : ((i : ℕ) → i < nodesOf plan → word plan i 6 ≡ partWord plan i) → Numbered plan
   numbered h =
       record {
         word-is = λ i l.
             let e = h i l in
             let f = few-before i in
-            let v = few-bits state i in
+            let v = few-bits plan i in
             omega arith;
       }

@@ -10,8 +10,8 @@ lay-out-requires c κs = search needs
 choice-word-requires : tie.Need-choice-word-requires
 choice-word-requires c κs = search needs
 
-element-write-state : tie.Need-element-write-state
-element-write-state c = search needs
+element-write-plan : tie.Need-element-write-plan
+element-write-plan c = search needs
 
 returns : tie.Need-returns
 returns c =
@@ -24,5 +24,5 @@ plan-spec =
     (tie.spec
     lay-out-requires
     choice-word-requires
-    element-write-state
+    element-write-plan
     returns)

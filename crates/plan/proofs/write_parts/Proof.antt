@@ -9,28 +9,28 @@ use Rattle.plan.proofs.write_parts.Statement.{statement}
 use Rattle.plan.proofs.write_parts.Tie as tie
 
 abbrev Inv-loop : tie.InvT-loop
-Inv-loop n state₀ i₀ state i = (i ≤ n) × (state ≡ filled (λ k. 8 * k + 6) partWord i state₀)
+Inv-loop n plan₀ i₀ plan i = (i ≤ n) × (plan ≡ filled (λ k. 8 * k + 6) partWord i plan₀)
 
 abbrev μ-loop : tie.MeasureT-loop
-μ-loop n state₀ i₀ state i = n - i
+μ-loop n plan₀ i₀ plan i = n - i
 
 loop-holds : tie.Need-loop-holds Inv-loop μ-loop
-loop-holds c = (omega arith, filled-none (λ k. 8 * k + 6) partWord (c .args .state .now))
+loop-holds c = (omega arith, filled-none (λ k. 8 * k + 6) partWord (c .args .plan .now))
 
 part-word-requires : tie.Need-part-word-requires Inv-loop μ-loop
 part-word-requires c κs = omega arith
 
-mul-state : tie.Need-mul-state Inv-loop μ-loop
-mul-state c = omega arith
+mul-plan : tie.Need-mul-plan Inv-loop μ-loop
+mul-plan c = omega arith
 
-add-state : tie.Need-add-state Inv-loop μ-loop
-add-state c = omega arith
+add-plan : tie.Need-add-plan Inv-loop μ-loop
+add-plan c = omega arith
 
-mul-state-2 : tie.Need-mul-state-2 Inv-loop μ-loop
-mul-state-2 c = omega arith
+mul-plan-2 : tie.Need-mul-plan-2 Inv-loop μ-loop
+mul-plan-2 c = omega arith
 
-element-write-state : tie.Need-element-write-state Inv-loop μ-loop
-element-write-state c = omega arith
+element-write-plan : tie.Need-element-write-plan Inv-loop μ-loop
+element-write-plan c = omega arith
 
 add-i : tie.Need-add-i Inv-loop μ-loop
 add-i c = omega arith
@@ -41,13 +41,13 @@ loop-less c = omega arith
 loop-again : tie.Need-loop-again Inv-loop μ-loop
 loop-again c =
     let l = c .before .before .before .before .loop in
-    (omega arith, filled-more (λ k. 8 * k + 6) partWord (l .i) (c .before .before .before .before .before .args .state .now) (l .state) (l .inv .1) (c .part-word .ensures))
+    (omega arith, filled-more (λ k. 8 * k + 6) partWord (l .i) (c .before .before .before .before .before .args .plan .now) (l .plan) (l .inv .1) (c .part-word .ensures))
 
 returns : tie.Need-returns Inv-loop μ-loop
 unfolding withParts
 returns c =
     let l = c .before .loop in
-    filled-all (λ k. 8 * k + 6) partWord (l .i) (c .before .before .args .n) (c .before .before .args .state .now) (l .state) (omega arith) (l .inv .1)
+    filled-all (λ k. 8 * k + 6) partWord (l .i) (c .before .before .args .n) (c .before .before .args .plan .now) (l .plan) (omega arith) (l .inv .1)
 
 pub write-parts-spec : {M : Type 1} → statement M
 write-parts-spec =
@@ -57,10 +57,10 @@ write-parts-spec =
     μ-loop
     loop-holds
     part-word-requires
-    mul-state
-    add-state
-    mul-state-2
-    element-write-state
+    mul-plan
+    add-plan
+    mul-plan-2
+    element-write-plan
     add-i
     loop-less
     loop-again

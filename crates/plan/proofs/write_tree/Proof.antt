@@ -9,10 +9,10 @@ use Rattle.plan.proofs.write_tree.Statement.{statement}
 use Rattle.plan.proofs.write_tree.Tie as tie
 
 abbrev Inv-loop : tie.InvT-loop
-Inv-loop tree state words₀ q₀ words q = (q ≤ 256) × (words ≡ filled (λ k. k) (λ s k. getD tree k 0) q (replicate 872 0))
+Inv-loop tree plan words₀ q₀ words q = (q ≤ 256) × (words ≡ filled (λ k. k) (λ s k. getD tree k 0) q (replicate 872 0))
 
 abbrev μ-loop : tie.MeasureT-loop
-μ-loop tree state words₀ q₀ words q = 256 - q
+μ-loop tree plan words₀ q₀ words q = 256 - q
 
 loop-holds : tie.Need-loop-holds Inv-loop μ-loop
 loop-holds c = (omega arith, filled-none (λ k. k) (λ s k. getD (c .args .tree .now) k 0) (replicate 872 0))

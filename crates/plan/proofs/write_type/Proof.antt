@@ -12,11 +12,11 @@ plant-requires c κs = search needs
 write-tree-requires : tie.Need-write-tree-requires
 write-tree-requires c κs = search needs
 
-element-write-state : tie.Need-element-write-state
-element-write-state c = search needs
+element-write-plan : tie.Need-element-write-plan
+element-write-plan c = search needs
 
-element-write-state-2 : tie.Need-element-write-state-2
-element-write-state-2 c = search needs
+element-write-plan-2 : tie.Need-element-write-plan-2
+element-write-plan-2 c = search needs
 
 returns : tie.Need-returns
 unfolding withCounts
@@ -28,6 +28,6 @@ write-type-spec =
     (tie.spec
     plant-requires
     write-tree-requires
-    element-write-state
-    element-write-state-2
+    element-write-plan
+    element-write-plan-2
     returns)

@@ -16,7 +16,7 @@ use Rattle.plan.specs.declared.parts.Spot.the-variants.{Of, Nothing}
 
 -- how many nodes the type has, at most 32
 abbrev pub nodesOf : List ℕ → ℕ
-nodesOf state = min (getD state 865 0) 32
+nodesOf plan = min (getD plan 865 0) 32
 
 -- "its buffers in the format's order. View data buffers .. have no part": how many have one, by code from 0 on
 abbrev pub bufferCounts : List ℕ
@@ -28,18 +28,18 @@ bufferCounts =
 abbrev pub bufferCount : ℕ → ℕ
 bufferCount code = getD bufferCounts code 0
 
-module _ (state : List ℕ) where
+module _ (plan : List ℕ) where
   -- "a kept dictionary [is] not copied and ha[s] no part"; "A joined dictionary has parts": its values are the node behind its keys
   unfoldable pub copied : ℕ → Bool
   copied zero = true
-  copied (suc i) = eqb (dictionaryOf state i) 0 || eqb (word state i 7) 1
+  copied (suc i) = eqb (dictionaryOf plan i) 0 || eqb (word plan i 7) 1
 
   -- "a node's validity if it keeps nulls"; "Unions and run-end nodes hold no validity and have no part for it"
   unfoldable pub validityParts : ℕ → ℕ
-  validityParts i = cond (copied i && not (eqb (keepsOf state i) 0) && ltb (codeOf state i) 21) 1 0
+  validityParts i = cond (copied i && not (eqb (keepsOf plan i) 0) && ltb (codeOf plan i) 21) 1 0
 
   unfoldable pub bufferParts : ℕ → ℕ
-  bufferParts i = cond (copied i) (bufferCount (codeOf state i)) 0
+  bufferParts i = cond (copied i) (bufferCount (codeOf plan i)) 0
 
   abbrev pub partCount : ℕ → ℕ
   partCount i = validityParts i + bufferParts i
@@ -57,15 +57,15 @@ module _ (state : List ℕ) where
   partsBefore (suc i) = partsBefore i + partCount i
 
   abbrev pub partTotal : ℕ
-  partTotal = partsBefore (nodesOf state)
+  partTotal = partsBefore (nodesOf plan)
 
-  -- the part of node i's first buffer, as the opening writes it into the state
+  -- the part of node i's first buffer, as the opening writes it into the plan
   abbrev pub partWord : ℕ → ℕ
   partWord i = partsBefore i + validityParts i
 
-  -- the part of buffer b of node i, by the state
+  -- the part of buffer b of node i, by the plan
   abbrev pub numberOf : ℕ → ℕ → ℕ
-  numberOf i b = partOf state i + b - 1
+  numberOf i b = partOf plan i + b - 1
 
   -- the node and the buffer of part p: p is the first part of node i if it is 0 there
   unfoldable pub partFrom : ℕ → ℕ → ℕ → Spot
@@ -73,7 +73,7 @@ module _ (state : List ℕ) where
   partFrom (suc n) i p = cond (ltb p (partCount i)) (Of i (p + 1 - validityParts i)) (partFrom n (suc i) (p - partCount i))
 
   abbrev pub partAt : ℕ → Spot
-  partAt p = partFrom (nodesOf state) 0 p
+  partAt p = partFrom (nodesOf plan) 0 p
 
 -- ---- what each must hold
 
@@ -93,7 +93,7 @@ neededBy code r n (suc zero) = cond (hasOffsets code) ((r + 1) * widthOf code) (
 neededBy code r n (suc (suc b)) = cond (isString code) n (cond (isListView code) (r * widthOf code) (r * 4))
 
 abbrev pub needed : List ℕ → List ℕ → ℕ → ℕ → ℕ
-needed state counts i b = neededBy (codeOf state i) (rows counts i) (bytes counts i) b
+needed plan counters i b = neededBy (codeOf plan i) (rows counters i) (bytes counters i) b
 
 -- ---- the lent table: 2 numbers a part, where it starts in the room and its bytes
 
@@ -105,7 +105,7 @@ sizeAt parts p = getD parts (2 * p + 1) 0
 
 -- the bytes of the part of buffer b of node i; it starts at `startOf`
 abbrev pub sizeOf : List ℕ → List ℕ → ℕ → ℕ → ℕ
-sizeOf state parts i b = sizeAt parts (numberOf state i b)
+sizeOf plan parts i b = sizeAt parts (numberOf plan i b)
 
 -- part p lies in a room of m bytes
 abbrev pub inRoom : List ℕ → ℕ → ℕ → Bool
@@ -130,15 +130,15 @@ pub data Apart (a m b n : ℕ) : Type 0 where
 
 -- p holds of every node and buffer
 abbrev pub everyPart : List ℕ → (ℕ → ℕ → Bool) → Bool
-everyPart state p = every (λ i. every (λ b. p i b) 3) (nodesOf state)
+everyPart plan p = every (λ i. every (λ b. p i b) 3) (nodesOf plan)
 
 -- buffer b of node i has no part, or one that holds its bytes
 unfoldable pub partHolds : List ℕ → List ℕ → List ℕ → ℕ → ℕ → Bool
-partHolds state counts parts i b = onlyIf (hasPart state i b) (leb (needed state counts i b) (sizeOf state parts i b))
+partHolds plan counters parts i b = onlyIf (hasPart plan i b) (leb (needed plan counters i b) (sizeOf plan parts i b))
 
 -- 13 where not: "a part can't hold its bytes after the call, validity dropped later included"
 unfoldable pub partsHold : List ℕ → List ℕ → List ℕ → Bool
-partsHold state counts parts = everyPart state (partHolds state counts parts)
+partsHold plan counters parts = everyPart plan (partHolds plan counters parts)
 
 -- 14 where not, at the opening: "wrong number of parts, a part outside the room, or two nonempty parts overlapping"
 unfoldable pub partsPlaced : List ℕ → ℕ → ℕ → Bool
@@ -147,28 +147,28 @@ partsPlaced parts count m =
 
 -- buffer b of node i has no part, or one that is in the table and lies in the room
 unfoldable pub partWithin : List ℕ → List ℕ → ℕ → ℕ → ℕ → Bool
-partWithin state parts m i b =
-    onlyIf (hasPart state i b) (ltb (2 * numberOf state i b + 1) (length parts) && inRoom parts m (numberOf state i b))
+partWithin plan parts m i b =
+    onlyIf (hasPart plan i b) (ltb (2 * numberOf plan i b + 1) (length parts) && inRoom parts m (numberOf plan i b))
 
 -- 14 where not, at an order: "can't be carried out inside the lent memory"
 unfoldable pub partsWithin : List ℕ → List ℕ → ℕ → Bool
-partsWithin state parts m = everyPart state (partWithin state parts m)
+partsWithin plan parts m = everyPart plan (partWithin plan parts m)
 
 -- ---- what the laws of the parts are about
 
 -- buffer b of node i has a part
-pub record Used (state : List ℕ) (i b : ℕ) : Type 0 where
-  pub node : i < nodesOf state
-  pub part : hasPart state i b ≡ true
+pub record Used (plan : List ℕ) (i b : ℕ) : Type 0 where
+  pub node : i < nodesOf plan
+  pub part : hasPart plan i b ≡ true
 
--- the state names the parts of its nodes as the opening writes them
-pub record Numbered (state : List ℕ) : Type 0 where
-  pub word-is : (i : ℕ) → i < nodesOf state → partOf state i ≡ partWord state i
+-- the plan names the parts of its nodes as the opening writes them
+pub record Numbered (plan : List ℕ) : Type 0 where
+  pub word-is : (i : ℕ) → i < nodesOf plan → partOf plan i ≡ partWord plan i
 
 -- part p is that of a buffer of a node
-pub record Named (state : List ℕ) (p : ℕ) : Type 0 where
+pub record Named (plan : List ℕ) (p : ℕ) : Type 0 where
   pub node : ℕ
   pub buffer : ℕ
-  pub used : Used state node buffer
-  pub number : numberOf state node buffer ≡ p
-  pub answer : partAt state p ≡ Of node buffer
+  pub used : Used plan node buffer
+  pub number : numberOf plan node buffer ≡ p
+  pub answer : partAt plan p ≡ Of node buffer

@@ -176,28 +176,28 @@ after-none : (wr : Bool) (o : ℕ) (room : List ℕ) → room ≡ after wr o [] 
 after-none true o room = sym (splice-nil o room)
 after-none false o room = refl
 
-module _ (state parts : List ℕ) where
-  after-put : (wr : Bool) (o : ℕ) (bs room : List ℕ) → (wr ≡ true → startOf state parts 1 1 + o + length bs ≤ length room)
-      → after wr (startOf state parts 1 1 + o) bs room ≡ applyIf state parts wr (put 1 1 o bs ∷ []) room
+module _ (plan parts : List ℕ) where
+  after-put : (wr : Bool) (o : ℕ) (bs room : List ℕ) → (wr ≡ true → startOf plan parts 1 1 + o + length bs ≤ length room)
+      → after wr (startOf plan parts 1 1 + o) bs room ≡ applyIf plan parts wr (put 1 1 o bs ∷ []) room
   unfolding applyIf apply enter inRoom
-  after-put true o bs room h = rw (le-leb (startOf state parts 1 1 + o + length bs) (length room) (h refl))
+  after-put true o bs room h = rw (le-leb (startOf plan parts 1 1 + o + length bs) (length room) (h refl))
   after-put false o bs room h = refl
 
-  pub did-as : {wr : Bool} {o : Out} {room : List ℕ} {g : ℕ} {c c2 room1 room2 : List ℕ} → c ≡ c2 → room1 ≡ room2 → Did state parts wr o room g c room1 → Did state parts wr o room g c2 room2
-  did-as {wr} {o} {room} {g} {c} {c2} {room1} {room2} p q d = subst (λ z. Did state parts wr o room g c2 z) q (subst (λ z. Did state parts wr o room g z room1) p d)
+  pub did-as : {wr : Bool} {o : Out} {room : List ℕ} {g : ℕ} {c c2 room1 room2 : List ℕ} → c ≡ c2 → room1 ≡ room2 → Did plan parts wr o room g c room1 → Did plan parts wr o room g c2 room2
+  did-as {wr} {o} {room} {g} {c} {c2} {room1} {room2} p q d = subst (λ z. Did plan parts wr o room g c2 z) q (subst (λ z. Did plan parts wr o room g z room1) p d)
 
 -- ---- one run
 
 module _ (x : Join) where
   abbrev w : ℕ
-  w = bytesOf (x .state) 1
+  w = bytesOf (x .plan) 1
 
   -- the entries in use of the n from e on
   abbrev pub kept : ℕ → ℕ → List ℕ
   kept e n = chosen (x .body) (entryPlace x e) w (λ j. used (keysOf x) (e + j)) n
 
   abbrev Does : Bool → Out → List ℕ → List ℕ → List ℕ → Type 0
-  Does wr o room c2 room2 = Did (x .state) (x .parts) wr o room 0 c2 room2
+  Does wr o room c2 room2 = Did (x .plan) (x .parts) wr o room 0 c2 room2
 
   module _ (e n : ℕ) (p : Plain x e n) where
     slot-is : (r : ℕ) → r ≤ n → offsetOf x 1 + e ≡ slotOf x 1 e r
@@ -212,24 +212,24 @@ module _ (x : Join) where
     no-mask false wr r c room = done-did wr c room
 
     numbers-did : (child : Walk) (wr : Bool) (r : ℕ) (c room room2 : List ℕ) → r ≤ n
-        → room2 ≡ applyIf (x .state) (x .parts) wr (put 1 1 (rows c 1 * w) (take (w * r) (drop (entryPlace x e) (x .body))) ∷ []) room
-        → Does wr (copyData x child (codeOf (x .state) 1) 1 (offsetOf x 1 + e) r c) room c room2
+        → room2 ≡ applyIf (x .plan) (x .parts) wr (put 1 1 (rows c 1 * w) (take (w * r) (drop (entryPlace x e) (x .body))) ∷ []) room
+        → Does wr (copyData x child (codeOf (x .plan) 1) 1 (offsetOf x 1 + e) r c) room c room2
     unfolding copyNumbers rowsIn
     numbers-did child wr r c room room2 l h =
-        subst (λ o. Does wr o room c room2) (data-numbers x child (codeOf (x .state) 1) 1 (offsetOf x 1 + e) r c (p .number) (eq-eqb _ 0 (p .no-keys)))
+        subst (λ o. Does wr o room c room2) (data-numbers x child (codeOf (x .plan) 1) 1 (offsetOf x 1 + e) r c (p .number) (eq-eqb _ 0 (p .no-keys)))
         (need-ok 12 c (le-leb (place x 1 3 + w * (offsetOf x 1 + e + r)) (length (x .body)) (within r l)) (wrote-did wr _ c room room2 h))
 
     node-did : (child : Walk) (wr : Bool) (r : ℕ) (c room room2 : List ℕ) → r ≤ n
-        → room2 ≡ applyIf (x .state) (x .parts) wr (put 1 1 (rows c 1 * w) (take (w * r) (drop (entryPlace x e) (x .body))) ∷ []) room
+        → room2 ≡ applyIf (x .plan) (x .parts) wr (put 1 1 (rows c 1 * w) (take (w * r) (drop (entryPlace x e) (x .body))) ∷ []) room
         → Does wr (copyNode x child 1 e r c) room (addRows 1 r c) room2
     unfolding copyNode copySlots
     node-did child wr r c room room2 l h =
         need-ok 12 c refl
         (found-ok 12 c _ (slot-is r l) (omega (arith, p .slots))
-        (next-ok _ (no-mask (masked (codeOf (x .state) 1)) wr r c room) refl (next-ok _ (numbers-did child wr r c room room2 l h) refl (done-did wr (addRows 1 r c) room2))))
+        (next-ok _ (no-mask (masked (codeOf (x .plan) 1)) wr r c room) refl (next-ok _ (numbers-did child wr r c room room2 l h) refl (done-did wr (addRows 1 r c) room2))))
 
     walk-did : (wr : Bool) (r : ℕ) (c room room2 : List ℕ) → r ≤ n
-        → room2 ≡ applyIf (x .state) (x .parts) wr (put 1 1 (rows c 1 * w) (take (w * r) (drop (entryPlace x e) (x .body))) ∷ []) room
+        → room2 ≡ applyIf (x .plan) (x .parts) wr (put 1 1 (rows c 1 * w) (take (w * r) (drop (entryPlace x e) (x .body))) ∷ []) room
         → Does wr (copyWalk x 1 1 e r c) room (addRows 1 r c) room2
     unfolding copyWalk
     walk-did wr r c room room2 l h = node-did (copyWalk x 0) wr r c room room2 l h
@@ -268,7 +268,7 @@ module _ (x : Join) where
 
 module _ (x : Join) where
   abbrev start : ℕ
-  start = startOf (x .state) (x .parts) 1 1
+  start = startOf (x .plan) (x .parts) 1 1
 
   -- how many of the n entries from e on are in use
   abbrev many : ℕ → ℕ → ℕ
@@ -276,16 +276,16 @@ module _ (x : Join) where
 
   -- what is left of the n entries from e on, from these counters and this room
   abbrev Copied : Bool → ℕ → ℕ → List ℕ → List ℕ → Type 0
-  Copied wr e n c room = Did (x .state) (x .parts) wr (copyRuns x n e n c) room 0 (counted (many e n) c) (after wr (start + rows c 1 * bytesOf (x .state) 1) (kept x e n) room)
+  Copied wr e n c room = Did (x .plan) (x .parts) wr (copyRuns x n e n c) room 0 (counted (many e n) c) (after wr (start + rows c 1 * bytesOf (x .plan) 1) (kept x e n) room)
 
   abbrev Fits : Bool → ℕ → ℕ → List ℕ → List ℕ → Type 0
-  Fits wr e n c room = wr ≡ true → start + rows c 1 * bytesOf (x .state) 1 + length (kept x e n) ≤ length room
+  Fits wr e n c room = wr ≡ true → start + rows c 1 * bytesOf (x .plan) 1 + length (kept x e n) ≤ length room
 
   none : (wr : Bool) (e n : ℕ) (c room : List ℕ) → n ≡ 0 → Copied wr e n c room
   none wr e n c room z =
       let m : many e n ≡ 0 = ap (λ v. rank (keysOf x) v - rank (keysOf x) e) (ap (λ v. e + v) z ∙ add-zero e) ∙ omega arith in
-      did-as (x .state) (x .parts) (sym (ap (λ v. counted v c) m))
-      (after-none wr _ room ∙ ap (λ b. after wr (start + rows c 1 * bytesOf (x .state) 1) b room) (sym (ap (kept x e) z ∙ chosen-none (x .body) _ _ _)))
+      did-as (x .plan) (x .parts) (sym (ap (λ v. counted v c) m))
+      (after-none wr _ room ∙ ap (λ b. after wr (start + rows c 1 * bytesOf (x .plan) 1) b room) (sym (ap (kept x e) z ∙ chosen-none (x .body) _ _ _)))
       (runs-none x wr n e c room z)
 
   module _ (wr : Bool) (e n : ℕ) (c room : List ℕ) (p : Plain x e n) (l : 0 < n) where
@@ -297,46 +297,46 @@ module _ (x : Join) where
         let o : _≡_ {A = ℕ} (cond (used (keysOf x) e) 1 0) 0 = rw (run-zero x e n l z) in
         let v : e + 1 + (n - 1) ≡ e + n = omega arith in
         let m : many (e + 1) (n - 1) ≡ many e n = omega (arith, rank-more (keysOf x) e, o, ap (rank (keysOf x)) v) in
-        did-as (x .state) (x .parts) (ap (λ t. counted t c) m) (ap (λ b. after wr (start + rows c 1 * bytesOf (x .state) 1) b room) (sym s))
+        did-as (x .plan) (x .parts) (ap (λ t. counted t c) m) (ap (λ b. after wr (start + rows c 1 * bytesOf (x .plan) 1) b room) (sym s))
         (runs-more x wr n (n - 1) e (e + 1) 0 c room l (sym z) refl refl (copy-none x e 0 c refl) refl d)
 
-    module _ (wide : 1 ≤ bytesOf (x .state) 1) (long : 3 < length c) (small : length room < top) (fits : Fits wr e n c room) (r : ℕ) (q : r ≡ runOf x e n) (some : r ≡ 0 → ⊥) where
+    module _ (wide : 1 ≤ bytesOf (x .plan) 1) (long : 3 < length c) (small : length room < top) (fits : Fits wr e n c room) (r : ℕ) (q : r ≡ runOf x e n) (some : r ≡ 0 → ⊥) where
       low : r ≤ n
       low = omega (arith, run-le x e n)
 
       abbrev o : ℕ
-      o = start + rows c 1 * bytesOf (x .state) 1
+      o = start + rows c 1 * bytesOf (x .plan) 1
 
       kept-sum : length (kept x e n) ≡ length (kept x e r) + length (kept x (e + r) (n - r))
       kept-sum = ap length (kept-split x e n p r low) ∙ length-append (kept x e r) (kept x (e + r) (n - r))
 
-      run-length : length (kept x e r) ≡ bytesOf (x .state) 1 * r
+      run-length : length (kept x e r) ≡ bytesOf (x .plan) 1 * r
       run-length =
           let a = kept-length x e n p r low in
-          let b : bytesOf (x .state) 1 * rank (keysOf x) (e + r) ≡ bytesOf (x .state) 1 * rank (keysOf x) e + bytesOf (x .state) 1 * r
-          = ap (λ v. bytesOf (x .state) 1 * v) (run-ranks x e n p r q) ∙ mul-add (bytesOf (x .state) 1) (rank (keysOf x) e) r in
+          let b : bytesOf (x .plan) 1 * rank (keysOf x) (e + r) ≡ bytesOf (x .plan) 1 * rank (keysOf x) e + bytesOf (x .plan) 1 * r
+          = ap (λ v. bytesOf (x .plan) 1 * v) (run-ranks x e n p r q) ∙ mul-add (bytesOf (x .plan) 1) (rank (keysOf x) e) r in
           omega arith
 
       -- the rows that are counted, where they are written
-      rows-next : wr ≡ true → start + rows (addRows 1 r c) 1 * bytesOf (x .state) 1 ≡ o + length (kept x e r)
+      rows-next : wr ≡ true → start + rows (addRows 1 r c) 1 * bytesOf (x .plan) 1 ≡ o + length (kept x e r)
       unfolding grown
       rows-next h =
           let f = fits h in
-          let a : (rows c 1 + r) * bytesOf (x .state) 1 ≡ rows c 1 * bytesOf (x .state) 1 + r * bytesOf (x .state) 1 = add-mul (rows c 1) r (bytesOf (x .state) 1) in
-          let b : r * bytesOf (x .state) 1 ≡ bytesOf (x .state) 1 * r = mul-comm r (bytesOf (x .state) 1) in
-          let d : (rows c 1 + r) * 1 ≤ (rows c 1 + r) * bytesOf (x .state) 1 = mul-le-mul-left {m = 1} {n = bytesOf (x .state) 1} (rows c 1 + r) wide in
+          let a : (rows c 1 + r) * bytesOf (x .plan) 1 ≡ rows c 1 * bytesOf (x .plan) 1 + r * bytesOf (x .plan) 1 = add-mul (rows c 1) r (bytesOf (x .plan) 1) in
+          let b : r * bytesOf (x .plan) 1 ≡ bytesOf (x .plan) 1 * r = mul-comm r (bytesOf (x .plan) 1) in
+          let d : (rows c 1 + r) * 1 ≤ (rows c 1 + r) * bytesOf (x .plan) 1 = mul-le-mul-left {m = 1} {n = bytesOf (x .plan) 1} (rows c 1 + r) wide in
           let g : rows (addRows 1 r c) 1 ≡ rows c 1 + r = getD-set-same c 3 (grown (rows c 1) r) 0 long ∙ omega (arith, kept-sum, run-length) in
-          ap (λ v. start + v * bytesOf (x .state) 1) g ∙ omega (arith, run-length)
+          ap (λ v. start + v * bytesOf (x .plan) 1) g ∙ omega (arith, run-length)
 
       abbrev room1 : List ℕ
       room1 = after wr o (kept x e r) room
 
-      run-did : Did (x .state) (x .parts) wr (copyRun x e r c) room 0 (addRows 1 r c) room1
+      run-did : Did (x .plan) (x .parts) wr (copyRun x e r c) room 0 (addRows 1 r c) room1
       run-did =
           copy-some x e r c some
           (walk-did x e n p wr r c room room1 low
-          (after-put (x .state) (x .parts) wr (rows c 1 * bytesOf (x .state) 1) (kept x e r) room (λ h. omega (arith, fits h, kept-sum))
-          ∙ ap (λ b. applyIf (x .state) (x .parts) wr (put 1 1 (rows c 1 * bytesOf (x .state) 1) b ∷ []) room) (all-used x e n p r q)))
+          (after-put (x .plan) (x .parts) wr (rows c 1 * bytesOf (x .plan) 1) (kept x e r) room (λ h. omega (arith, fits h, kept-sum))
+          ∙ ap (λ b. applyIf (x .plan) (x .parts) wr (put 1 1 (rows c 1 * bytesOf (x .plan) 1) b ∷ []) room) (all-used x e n p r q)))
 
       length-same : length room1 ≡ length room
       length-same = length-after wr o (kept x e r) room (λ h. omega (arith, fits h, kept-sum))
@@ -350,14 +350,14 @@ module _ (x : Join) where
           let m : r + many (e + r) (n - r) ≡ many e n
           = omega (arith, ap (rank (keysOf x)) v, run-ranks x e n p r q, rank-up (keysOf x) (e + r) (n - r)) in
           let mx : max r 1 ≡ r = omega arith in
-          did-as (x .state) (x .parts) (counted-behind r (many (e + r) (n - r)) c long some ∙ ap (λ t. counted t c) m)
+          did-as (x .plan) (x .parts) (counted-behind r (many (e + r) (n - r)) c long some ∙ ap (λ t. counted t c) m)
           (after-at wr _ _ (kept x (e + r) (n - r)) room1 rows-next
           ∙ after-after wr o (kept x e r) (kept x (e + r) (n - r)) room (λ h. omega (arith, fits h, kept-sum))
           ∙ ap (λ b. after wr o b room) (sym (kept-split x e n p r low)))
           (runs-more x wr n (n - r) e (e + r) r c room l q (omega arith) (omega arith) run-did refl d)
 
   -- ALL ENTRIES IN USE of n, one behind the other
-  pub plain-runs : (f n e : ℕ) (wr : Bool) (c room : List ℕ) → n ≤ f → Plain x e n → 1 ≤ bytesOf (x .state) 1 → 3 < length c → length room < top → Fits wr e n c room → Copied wr e n c room
+  pub plain-runs : (f n e : ℕ) (wr : Bool) (c room : List ℕ) → n ≤ f → Plain x e n → 1 ≤ bytesOf (x .plan) 1 → 3 < length c → length room < top → Fits wr e n c room → Copied wr e n c room
   plain-runs zero n e wr c room l p wide long small fits = none wr e n c room (omega arith)
   plain-runs (suc f) n e wr c room l p wide long small fits =
       by (ℕ-discrete n 0) (ℕ-discrete (runOf x e n) 0) (λ n2 e2 c2 room2 a b g h i. plain-runs f n2 e2 wr c2 room2 a b wide g h i)
@@ -380,19 +380,19 @@ module _ (x : Join) where
 -- ---- by the ranks of the block
 
 module _ (x : Join) (e n : ℕ) (ranks : List ℕ) (known : (j : ℕ) → j ≤ n → getD ranks j 0 ≡ rank (keysOf x) (e + j)) where
-  pub risen-kept : chosen (x .body) (entryPlace x e) (bytesOf (x .state) 1) (risen ranks) n ≡ kept x e n
+  pub risen-kept : chosen (x .body) (entryPlace x e) (bytesOf (x .plan) 1) (risen ranks) n ≡ kept x e n
   risen-kept =
-      chosen-alike (x .body) (bytesOf (x .state) 1) (entryPlace x e) n (risen ranks) (λ j. used (keysOf x) (e + j))
+      chosen-alike (x .body) (bytesOf (x .plan) 1) (entryPlace x e) n (risen ranks) (λ j. used (keysOf x) (e + j))
       (λ j l. used-told (keysOf x) (e + j) _ _ (known j (omega arith)) (known (j + 1) (omega arith) ∙ ap (rank (keysOf x)) (sym (add-assoc e j 1))))
 
   module _ (t : ℕ) (told : t ≡ getD ranks n 0 - getD ranks 0 0) where
     pub many-told : t ≡ rank (keysOf x) (e + n) - rank (keysOf x) e
     many-told = omega (arith, told, known n (omega arith), known 0 (omega arith), ap (rank (keysOf x)) (add-zero e))
 
-    pub risen-length : Plain x e n → length (chosen (x .body) (entryPlace x e) (bytesOf (x .state) 1) (risen ranks) n) ≡ bytesOf (x .state) 1 * t
+    pub risen-length : Plain x e n → length (chosen (x .body) (entryPlace x e) (bytesOf (x .plan) 1) (risen ranks) n) ≡ bytesOf (x .plan) 1 * t
     risen-length p =
         let a = kept-length x e n p n (omega arith) in
         let z : rank (keysOf x) (e + n) ≡ rank (keysOf x) e + t = omega (arith, many-told, rank-up (keysOf x) e n) in
-        let b : bytesOf (x .state) 1 * rank (keysOf x) (e + n) ≡ bytesOf (x .state) 1 * rank (keysOf x) e + bytesOf (x .state) 1 * t
-        = ap (λ v. bytesOf (x .state) 1 * v) z ∙ mul-add (bytesOf (x .state) 1) (rank (keysOf x) e) t in
+        let b : bytesOf (x .plan) 1 * rank (keysOf x) (e + n) ≡ bytesOf (x .plan) 1 * rank (keysOf x) e + bytesOf (x .plan) 1 * t
+        = ap (λ v. bytesOf (x .plan) 1 * v) z ∙ mul-add (bytesOf (x .plan) 1) (rank (keysOf x) e) t in
         omega (arith, ap length risen-kept)

@@ -32,7 +32,7 @@ module _ (x : Join) where
           → cond b (done c) (next (copyRun x e (runOf x e n) c) (λ c2. copyRuns x f (e + max (runOf x e n) 1) (n - max (runOf x e n) 1) c2))
           ≡ cond b (done c) (next (copyRun x e (runOf x e n) c) (λ c2. copyRuns x g (e + max (runOf x e n) 1) (n - max (runOf x e n) 1) c2))
       go true h = refl
-      go false h = next-same (copyRun x e (runOf x e n) c) _ _ (h (copyRun x e (runOf x e n) c .counts))
+      go false h = next-same (copyRun x e (runOf x e n) c) _ _ (h (copyRun x e (runOf x e n) c .counters))
 
   blocks-fuel : (f g e n : ℕ) (c : List ℕ) → n ≤ f → n ≤ g → copyBlocks x f e n c ≡ copyBlocks x g e n c
   unfolding copyBlocks
@@ -45,7 +45,7 @@ module _ (x : Join) where
           → cond b (done c) (next (copyRuns x (min n 512) e (min n 512) c) (λ c2. copyBlocks x f (e + min n 512) (n - min n 512) c2))
           ≡ cond b (done c) (next (copyRuns x (min n 512) e (min n 512) c) (λ c2. copyBlocks x g (e + min n 512) (n - min n 512) c2))
       go true h = refl
-      go false h = next-same (copyRuns x (min n 512) e (min n 512) c) _ _ (h (copyRuns x (min n 512) e (min n 512) c .counts))
+      go false h = next-same (copyRuns x (min n 512) e (min n 512) c) _ _ (h (copyRuns x (min n 512) e (min n 512) c .counters))
 
   -- one run, and then the others
   runs-one : (n e : ℕ) (c : List ℕ)
@@ -75,54 +75,54 @@ module _ (x : Join) where
       (λ c2. copyBlocks x (suc n - min (suc n) 512) (e + min (suc n) 512) (suc n - min (suc n) 512) c2)
       (blocks-fuel n (suc n - min (suc n) 512) (e + min (suc n) 512) (suc n - min (suc n) 512) _ (omega arith) (omega arith))
 
-  module _ {state parts : List ℕ} where
-    pub runs-none : (wr : Bool) (n e : ℕ) (c room : List ℕ) → n ≡ 0 → Did state parts wr (copyRuns x n e n c) room 0 c room
+  module _ {plan parts : List ℕ} where
+    pub runs-none : (wr : Bool) (n e : ℕ) (c room : List ℕ) → n ≡ 0 → Did plan parts wr (copyRuns x n e n c) room 0 c room
     unfolding copyRuns
     runs-none wr n e c room z = rw z (done-did wr c room)
 
-    pub runs-stop : (wr : Bool) (n e r : ℕ) (c room : List ℕ) {g : ℕ} {c1 room1 : List ℕ} → 0 < n → r ≡ runOf x e n → Did state parts wr (copyRun x e r c) room g c1 room1 → (g ≡ 0 → ⊥)
-        → Did state parts wr (copyRuns x n e n c) room g c1 room1
-    runs-stop wr n e r c room {g} {c1} {room1} l q d h = rw (runs-open n e c l) (next-no _ (subst (λ z. Did state parts wr (copyRun x e z c) room g c1 room1) q d) h)
+    pub runs-stop : (wr : Bool) (n e r : ℕ) (c room : List ℕ) {g : ℕ} {c1 room1 : List ℕ} → 0 < n → r ≡ runOf x e n → Did plan parts wr (copyRun x e r c) room g c1 room1 → (g ≡ 0 → ⊥)
+        → Did plan parts wr (copyRuns x n e n c) room g c1 room1
+    runs-stop wr n e r c room {g} {c1} {room1} l q d h = rw (runs-open n e c l) (next-no _ (subst (λ z. Did plan parts wr (copyRun x e z c) room g c1 room1) q d) h)
 
     pub runs-more : (wr : Bool) (n n′ e e′ r : ℕ) (c room : List ℕ) {g : ℕ} {c1 room1 : List ℕ} {g2 : ℕ} {c2 room2 : List ℕ} → 0 < n → r ≡ runOf x e n → n′ ≡ n - max r 1 → e′ ≡ e + max r 1
-        → Did state parts wr (copyRun x e r c) room g c1 room1 → g ≡ 0 → Did state parts wr (copyRuns x n′ e′ n′ c1) room1 g2 c2 room2 → Did state parts wr (copyRuns x n e n c) room g2 c2 room2
+        → Did plan parts wr (copyRun x e r c) room g c1 room1 → g ≡ 0 → Did plan parts wr (copyRuns x n′ e′ n′ c1) room1 g2 c2 room2 → Did plan parts wr (copyRuns x n e n c) room g2 c2 room2
     runs-more wr n n′ e e′ r c room {g} {c1} {room1} {g2} {c2} {room2} l q a b d h m =
         rw (runs-open n e c l)
-        (next-ok _ (subst (λ z. Did state parts wr (copyRun x e z c) room g c1 room1) q d) h
-        (subst (λ z. Did state parts wr (copyRuns x (n - max z 1) (e + max z 1) (n - max z 1) c1) room1 g2 c2 room2) q
-        (subst (λ z. Did state parts wr (copyRuns x z (e + max r 1) z c1) room1 g2 c2 room2) a (subst (λ z. Did state parts wr (copyRuns x n′ z n′ c1) room1 g2 c2 room2) b m))))
+        (next-ok _ (subst (λ z. Did plan parts wr (copyRun x e z c) room g c1 room1) q d) h
+        (subst (λ z. Did plan parts wr (copyRuns x (n - max z 1) (e + max z 1) (n - max z 1) c1) room1 g2 c2 room2) q
+        (subst (λ z. Did plan parts wr (copyRuns x z (e + max r 1) z c1) room1 g2 c2 room2) a (subst (λ z. Did plan parts wr (copyRuns x n′ z n′ c1) room1 g2 c2 room2) b m))))
 
-    pub blocks-none : (wr : Bool) (n e : ℕ) (c room : List ℕ) → n ≡ 0 → Did state parts wr (copyBlocks x n e n c) room 0 c room
+    pub blocks-none : (wr : Bool) (n e : ℕ) (c room : List ℕ) → n ≡ 0 → Did plan parts wr (copyBlocks x n e n c) room 0 c room
     unfolding copyBlocks
     blocks-none wr n e c room z = rw z (done-did wr c room)
 
-    pub blocks-stop : (wr : Bool) (n e r : ℕ) (c room : List ℕ) {g : ℕ} {c1 room1 : List ℕ} → 0 < n → r ≡ min n 512 → Did state parts wr (copyRuns x r e r c) room g c1 room1 → (g ≡ 0 → ⊥)
-        → Did state parts wr (copyBlocks x n e n c) room g c1 room1
-    blocks-stop wr n e r c room {g} {c1} {room1} l q d h = rw (blocks-open n e c l) (next-no _ (subst (λ z. Did state parts wr (copyRuns x z e z c) room g c1 room1) q d) h)
+    pub blocks-stop : (wr : Bool) (n e r : ℕ) (c room : List ℕ) {g : ℕ} {c1 room1 : List ℕ} → 0 < n → r ≡ min n 512 → Did plan parts wr (copyRuns x r e r c) room g c1 room1 → (g ≡ 0 → ⊥)
+        → Did plan parts wr (copyBlocks x n e n c) room g c1 room1
+    blocks-stop wr n e r c room {g} {c1} {room1} l q d h = rw (blocks-open n e c l) (next-no _ (subst (λ z. Did plan parts wr (copyRuns x z e z c) room g c1 room1) q d) h)
 
     pub blocks-more : (wr : Bool) (n n′ e e′ r : ℕ) (c room : List ℕ) {g : ℕ} {c1 room1 : List ℕ} {g2 : ℕ} {c2 room2 : List ℕ} → 0 < n → r ≡ min n 512 → n′ ≡ n - r → e′ ≡ e + r
-        → Did state parts wr (copyRuns x r e r c) room g c1 room1 → g ≡ 0 → Did state parts wr (copyBlocks x n′ e′ n′ c1) room1 g2 c2 room2 → Did state parts wr (copyBlocks x n e n c) room g2 c2 room2
+        → Did plan parts wr (copyRuns x r e r c) room g c1 room1 → g ≡ 0 → Did plan parts wr (copyBlocks x n′ e′ n′ c1) room1 g2 c2 room2 → Did plan parts wr (copyBlocks x n e n c) room g2 c2 room2
     blocks-more wr n n′ e e′ r c room {g} {c1} {room1} {g2} {c2} {room2} l q a b d h m =
         rw (blocks-open n e c l)
-        (next-ok _ (subst (λ z. Did state parts wr (copyRuns x z e z c) room g c1 room1) q d) h
-        (subst (λ z. Did state parts wr (copyBlocks x (n - z) (e + z) (n - z) c1) room1 g2 c2 room2) q
-        (subst (λ z. Did state parts wr (copyBlocks x z (e + r) z c1) room1 g2 c2 room2) a (subst (λ z. Did state parts wr (copyBlocks x n′ z n′ c1) room1 g2 c2 room2) b m))))
+        (next-ok _ (subst (λ z. Did plan parts wr (copyRuns x z e z c) room g c1 room1) q d) h
+        (subst (λ z. Did plan parts wr (copyBlocks x (n - z) (e + z) (n - z) c1) room1 g2 c2 room2) q
+        (subst (λ z. Did plan parts wr (copyBlocks x z (e + r) z c1) room1 g2 c2 room2) a (subst (λ z. Did plan parts wr (copyBlocks x n′ z n′ c1) room1 g2 c2 room2) b m))))
 
 -- a dictionary of one block
-pub one-block : (x : Join) {state parts : List ℕ} (wr : Bool) (n : ℕ) (c room : List ℕ) {g : ℕ} {c1 room1 : List ℕ} → n ≤ 512 → Did state parts wr (copyRuns x n 0 n c) room g c1 room1
-    → Did state parts wr (copyBlocks x n 0 n c) room g c1 room1
+pub one-block : (x : Join) {plan parts : List ℕ} (wr : Bool) (n : ℕ) (c room : List ℕ) {g : ℕ} {c1 room1 : List ℕ} → n ≤ 512 → Did plan parts wr (copyRuns x n 0 n c) room g c1 room1
+    → Did plan parts wr (copyBlocks x n 0 n c) room g c1 room1
 unfolding copyRuns copyBlocks
 one-block x wr zero c room l d = d
-one-block x {state} {parts} wr (suc n) c room {g} {c1} {room1} l d = by (ℕ-discrete g 0)
+one-block x {plan} {parts} wr (suc n) c room {g} {c1} {room1} l d = by (ℕ-discrete g 0)
   where
-    by : Dec (g ≡ 0) → Did state parts wr (copyBlocks x (suc n) 0 (suc n) c) room g c1 room1
-    by (yes z) = subst (λ v. Did state parts wr (copyBlocks x (suc n) 0 (suc n) c) room v c1 room1) (sym z) (blocks-more x wr (suc n) 0 0 (suc n) (suc n) c room (omega arith) (omega arith) (omega arith) (omega arith) d z (blocks-none x wr 0 (suc n) c1 room1 refl))
+    by : Dec (g ≡ 0) → Did plan parts wr (copyBlocks x (suc n) 0 (suc n) c) room g c1 room1
+    by (yes z) = subst (λ v. Did plan parts wr (copyBlocks x (suc n) 0 (suc n) c) room v c1 room1) (sym z) (blocks-more x wr (suc n) 0 0 (suc n) (suc n) c room (omega arith) (omega arith) (omega arith) (omega arith) d z (blocks-none x wr 0 (suc n) c1 room1 refl))
     by (no z) = blocks-stop x wr (suc n) 0 (suc n) c room (omega arith) (omega arith) d z
 
 -- as many as there are
-pub blocks-are : (x : Join) {state parts : List ℕ} (wr : Bool) {n m : ℕ} (e : ℕ) (c room : List ℕ) {g : ℕ} {c1 room1 : List ℕ} → n ≡ m → Did state parts wr (copyBlocks x n e n c) room g c1 room1
-    → Did state parts wr (copyBlocks x m e m c) room g c1 room1
-blocks-are x {state} {parts} wr e c room {g} {c1} {room1} q d = subst (λ n. Did state parts wr (copyBlocks x n e n c) room g c1 room1) q d
+pub blocks-are : (x : Join) {plan parts : List ℕ} (wr : Bool) {n m : ℕ} (e : ℕ) (c room : List ℕ) {g : ℕ} {c1 room1 : List ℕ} → n ≡ m → Did plan parts wr (copyBlocks x n e n c) room g c1 room1
+    → Did plan parts wr (copyBlocks x m e m c) room g c1 room1
+blocks-are x {plan} {parts} wr e c room {g} {c1} {room1} q d = subst (λ n. Did plan parts wr (copyBlocks x n e n c) room g c1 room1) q d
 
 -- ---- a run, by the ranks of its block
 

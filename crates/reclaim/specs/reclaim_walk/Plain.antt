@@ -8,12 +8,12 @@ use Rattle.walk.specs.State.{Join, codeOf, dictionaryOf, keepsOf, bytesOf, plac
 
 -- the byte of entry e
 abbrev pub entryPlace : Join → ℕ → ℕ
-entryPlace x e = place x 1 3 + bytesOf (x .state) 1 * (offsetOf x 1 + e)
+entryPlace x e = place x 1 3 + bytesOf (x .plan) 1 * (offsetOf x 1 + e)
 
 -- the n entries from e on
 pub record Plain (x : Join) (e n : ℕ) : Type 0 where
-  pub number : isFixed (codeOf (x .state) 1) ≡ true
-  pub no-keys : dictionaryOf (x .state) 1 ≡ 0
-  pub no-nulls : keepsOf (x .state) 1 ≡ 0
+  pub number : isFixed (codeOf (x .plan) 1) ≡ true
+  pub no-keys : dictionaryOf (x .plan) 1 ≡ 0
+  pub no-nulls : keepsOf (x .plan) 1 ≡ 0
   pub slots : offsetOf x 1 + e + n < far
-  pub inside : place x 1 3 + bytesOf (x .state) 1 * (offsetOf x 1 + e + n) ≤ length (x .body)
+  pub inside : place x 1 3 + bytesOf (x .plan) 1 * (offsetOf x 1 + e + n) ≤ length (x .body)

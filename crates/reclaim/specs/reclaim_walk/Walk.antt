@@ -16,7 +16,7 @@ use Rattle.reclaim.specs.used_entries.Keys.{Keys, keys, used, newKeys}
 module _ (x : Join) where
   -- the keys of the column
   abbrev pub keysOf : Keys
-  keysOf = keys (x .body) (bytesOf (x .state) 0) (place x 0 3) (not (eqb (place x 0 0) 0)) (place x 0 1) (offsetOf x 0) (lengthOf x 0)
+  keysOf = keys (x .body) (bytesOf (x .plan) 0) (place x 0 3) (not (eqb (place x 0 0) 0)) (place x 0 1) (offsetOf x 0) (lengthOf x 0)
 
   -- the validity of the keys lies in the body, if there is one
   abbrev pub bitsIn : Bool
@@ -25,12 +25,12 @@ module _ (x : Join) where
   -- keys and validity lie in the body
   unfoldable pub keysIn : Bool
   keysIn =
-      isFixed (codeOf (x .state) 0) && ltb (offsetOf x 0 + lengthOf x 0) far && ltb (lengthOf x 1) far
-      && rowsIn x (place x 0 3) (bytesOf (x .state) 0) (offsetOf x 0) (lengthOf x 0) && bitsIn
+      isFixed (codeOf (x .plan) 0) && ltb (offsetOf x 0 + lengthOf x 0) far && ltb (lengthOf x 1) far
+      && rowsIn x (place x 0 3) (bytesOf (x .plan) 0) (offsetOf x 0) (lengthOf x 0) && bitsIn
 
   -- the first zero offset of byte strings
   unfoldable pub firstEntry : List ℕ → Out
-  firstEntry c = cond (isString (codeOf (x .state) 1)) (wrote (put 1 1 0 (encode (bytesOf (x .state) 1) 0)) c) (done c)
+  firstEntry c = cond (isString (codeOf (x .plan) 1)) (wrote (put 1 1 0 (encode (bytesOf (x .plan) 1) 0)) c) (done c)
 
   -- how many of the n entries from e on are in use, up to the first that is not
   unfoldable pub runOf : ℕ → ℕ → ℕ

@@ -30,39 +30,39 @@ use Rattle.refinement.proofs.finishing.KeptValues.{kept-in}
 use Rattle.refinement.proofs.finishing.Finished.{kept-not}
 use Rattle.refinement.proofs.finishing.Nodes.{every-node}
 
-module _ (x : Lent) (buffers : List ℕ) (tree : Tree) (root : Ty) (m : ℕ) (columns : ℕ → Column root) (dest : Destination root) (counts room : List ℕ) (μ : Memory)
-    (given : Given x buffers tree root m columns dest counts room μ) (base : ℕ) where
+module _ (x : Lent) (buffers : List ℕ) (tree : Tree) (root : Ty) (m : ℕ) (columns : ℕ → Column root) (dest : Destination root) (counters room : List ℕ) (μ : Memory)
+    (given : Given x buffers tree root m columns dest counters room μ) (base : ℕ) where
   -- ---- counters, parts and room
 
-  every-part : partsHold (x .plan) counts (x .parts) ≡ true
+  every-part : partsHold (x .plan) counters (x .parts) ≡ true
   unfolding partsHold partHolds
   every-part =
-      every-all (λ i. every (λ b. partHolds (x .plan) counts (x .parts) i b) 3) (nodesOf (x .plan))
-      (λ i l. every-all (λ b. partHolds (x .plan) counts (x .parts) i b) 3
+      every-all (λ i. every (λ b. partHolds (x .plan) counters (x .parts) i b) 3) (nodesOf (x .plan))
+      (λ i l. every-all (λ b. partHolds (x .plan) counters (x .parts) i b) 3
       (λ b q. only-if (hasPart (x .plan) i b) (λ g. le-leb _ _ (given .bounded i b (record { node = l; part = g }) .needs))))
 
-  pub room-fits : (lengths nulls places names : List ℕ) → roomFits x buffers counts room base lengths nulls places names ≡ true
+  pub room-fits : (lengths nulls places names : List ℕ) → roomFits x buffers counters room base lengths nulls places names ≡ true
   unfolding roomFits
-  room-fits lengths nulls places names = rw (eq-eqb (length counts) 96 (given .long), given .within) every-part
+  room-fits lengths nulls places names = rw (eq-eqb (length counters) 96 (given .long), given .within) every-part
 
   -- ---- the bits of kept dictionaries
 
-  copied-in : (i : ℕ) → copied (x .plan) i ≡ true → keptIn x buffers counts room base i ≡ true
+  copied-in : (i : ℕ) → copied (x .plan) i ≡ true → keptIn x buffers counters room base i ≡ true
   unfolding keptIn
   copied-in i c = rw c
 
   values-in : (p : Plain) (i : ℕ) (ds : ℕ → Dictionary (PlainBody p)) → suc i < nodesOf (x .plan) → (dictionaryOf (x .plan) i ≡ 0 → ⊥) → Obeys true (PlainRule p) (ds 0 .values)
-      → Valued x m counts μ p i ds → keptIn x buffers counts room base (suc i) ≡ true
+      → Valued x m counters μ p i ds → keptIn x buffers counters room base (suc i) ≡ true
   values-in p i ds l dict o h = go (shared m ds) refl
     where
-      go : (b : Bool) → shared m ds ≡ b → keptIn x buffers counts room base (suc i) ≡ true
-      go true s = kept-in x buffers counts room base (suc i) (kept-not (x .plan) i dict (h .joined-word ∙ rw s)) p (ds 0 .values) (h .kept s) o
+      go : (b : Bool) → shared m ds ≡ b → keptIn x buffers counters room base (suc i) ≡ true
+      go true s = kept-in x buffers counters room base (suc i) (kept-not (x .plan) i dict (h .joined-word ∙ rw s)) p (ds 0 .values) (h .kept s) o
       go false s = copied-in (suc i) (values-copied (x .plan) i (shared m ds) dict (h .joined-word) s)
 
-  pub all-kept : every (keptIn x buffers counts room base) (nodesOf (x .plan)) ≡ true
+  pub all-kept : every (keptIn x buffers counters room base) (nodesOf (x .plan)) ≡ true
   all-kept =
-      every-all (keptIn x buffers counts room base) (nodesOf (x .plan))
-      (every-node x buffers tree root m columns dest counts room μ given (λ j. keptIn x buffers counts room base j ≡ true)
+      every-all (keptIn x buffers counters room base) (nodesOf (x .plan))
+      (every-node x buffers tree root m columns dest counters room μ given (λ j. keptIn x buffers counters room base j ≡ true)
       (λ k t i ss w l o mn st. copied-in i (copied-free (x .plan) i o))
       (λ w i l o code mn. copied-in i (copied-free (x .plan) i o))
       (λ p i ds l dict mn o h. values-in p i ds l dict o h))
@@ -70,24 +70,24 @@ module _ (x : Lent) (buffers : List ℕ) (tree : Tree) (root : Ty) (m : ℕ) (co
   -- ---- the lent tables, and sizes
 
   tables-fit : (lengths nulls places names : List ℕ) → length lengths ≡ 2 * nodesOf (x .plan) → length nulls ≡ nodesOf (x .plan) → length places ≡ 9 * nodesOf (x .plan)
-      → length names ≡ 2 * buffersBefore x buffers counts room base (nodesOf (x .plan)) → tablesFit x buffers counts room base lengths nulls places names ≡ true
+      → length names ≡ 2 * buffersBefore x buffers counters room base (nodesOf (x .plan)) → tablesFit x buffers counters room base lengths nulls places names ≡ true
   unfolding tablesFit
   tables-fit lengths nulls places names a b c d = rw (eq-eqb _ _ a, eq-eqb _ _ b, eq-eqb _ _ c, eq-eqb _ _ d)
 
-  sizes-fit : (lengths nulls places names : List ℕ) → base ≤ ceiling → sizesFit x buffers counts room base lengths nulls places names ≡ true
+  sizes-fit : (lengths nulls places names : List ℕ) → base ≤ ceiling → sizesFit x buffers counters room base lengths nulls places names ≡ true
   unfolding sizesFit
   sizes-fit lengths nulls places names l = rw (le-leb base ceiling l, le-leb (length room) ceiling (omega (arith, given .placed .small)))
 
   -- FINISHING IS NEVER REFUSED, where the room begins within a body's ceiling and the tables are of the finished array's lengths
   pub never-refused : (lengths nulls places names : List ℕ) → base ≤ ceiling → length lengths ≡ 2 * nodesOf (x .plan)
-      → length nulls ≡ nodesOf (x .plan) → length places ≡ 9 * nodesOf (x .plan) → length names ≡ 2 * buffersBefore x buffers counts room base (nodesOf (x .plan))
-      → finishing x buffers counts room base lengths nulls places names
+      → length nulls ≡ nodesOf (x .plan) → length places ≡ 9 * nodesOf (x .plan) → length names ≡ 2 * buffersBefore x buffers counters room base (nodesOf (x .plan))
+      → finishing x buffers counters room base lengths nulls places names
       ≡ record {
         ground = 0;
-        lengths = lengthTable x buffers counts room base;
-        nulls = nullTable x buffers counts room base;
-        places = placeTable x buffers counts room base;
-        buffers = bufferTable x buffers counts room base;
+        lengths = lengthTable x buffers counters room base;
+        nulls = nullTable x buffers counters room base;
+        places = placeTable x buffers counters room base;
+        buffers = bufferTable x buffers counters room base;
       }
   unfolding finishing
   never-refused lengths nulls places names l a b c d =

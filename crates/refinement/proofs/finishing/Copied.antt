@@ -45,39 +45,39 @@ module _ (plan : List ℕ) (i : ℕ) (c : copied plan i ≡ true) where
       go true = refl
       go false = refl
 
-module _ (x : Lent) (buffers counts room : List ℕ) (base : ℕ) (body : List ℕ) (bodied : Bodied body x room base) (μ : Memory)
+module _ (x : Lent) (buffers counters room : List ℕ) (base : ℕ) (body : List ℕ) (bodied : Bodied body x room base) (μ : Memory)
     (lies : Lies (x .plan) (x .parts) (Used (x .plan)) room μ) (placed : Placed (x .plan) (x .parts) (Used (x .plan)) (length room))
-    (bounded : (i b : ℕ) → Used (x .plan) i b → Bounded (x .plan) (x .parts) counts μ i b)
+    (bounded : (i b : ℕ) → Used (x .plan) i b → Bounded (x .plan) (x .parts) counters μ i b)
     (i : ℕ) (l : i < nodesOf (x .plan)) (c : copied (x .plan) i ≡ true) where
   abbrev Y : Tables
-  Y = finishedTables x buffers counts room base body
+  Y = finishedTables x buffers counters room base body
 
   used : (b : ℕ) → hasPart (x .plan) i b ≡ true → Used (x .plan) i b
   used b h = record { node = l; part = h }
 
   -- ---- its numbers
 
-  len-is : lengthOf Y i ≡ rows counts i
-  len-is = length-at x buffers counts room base body i l ∙ rw c
+  len-is : lengthOf Y i ≡ rows counters i
+  len-is = length-at x buffers counters room base body i l ∙ rw c
 
   off-is : offsetOf Y i ≡ 0
-  off-is = offset-at x buffers counts room base body i l ∙ rw c
+  off-is = offset-at x buffers counters room base body i l ∙ rw c
 
-  place-is : (j : ℕ) → j < 9 → place Y i j ≡ copiedPlace x buffers counts room base i j
+  place-is : (j : ℕ) → j < 9 → place Y i j ≡ copiedPlace x buffers counters room base i j
   unfolding placeAt
-  place-is j k = place-at x buffers counts room base body i l j k ∙ rw c
+  place-is j k = place-at x buffers counters room base body i l j k ∙ rw c
 
   -- ---- its buffers
 
-  module _ (bs : List (List ℕ)) (own : Own (x .plan) (x .parts) counts μ i bs) where
-    buffer-is : (k : ℕ) → part body (bufferStart x buffers counts room base i (suc k)) (bufferSize x buffers counts room base i (suc k)) ≡ getD bs k []
+  module _ (bs : List (List ℕ)) (own : Own (x .plan) (x .parts) counters μ i bs) where
+    buffer-is : (k : ℕ) → part body (bufferStart x buffers counters room base i (suc k)) (bufferSize x buffers counters room base i (suc k)) ≡ getD bs k []
     buffer-is k = go (hasPart (x .plan) i (suc k)) refl
       where
         count : hasPart (x .plan) i (suc k) ≡ ltb k (length bs)
         count = buffer-in (x .plan) i c k ∙ ap (ltb k) (own .count-is)
 
         go : (b : Bool) → hasPart (x .plan) i (suc k) ≡ b
-            → part body (cond b (base + startOf (x .plan) (x .parts) i (suc k)) 0) (cond b (needed (x .plan) counts i (suc k)) 0) ≡ getD bs k []
+            → part body (cond b (base + startOf (x .plan) (x .parts) i (suc k)) 0) (cond b (needed (x .plan) counters i (suc k)) 0) ≡ getD bs k []
         go true e =
             let q : k < length bs = ltb-true k (length bs) (sym count ∙ e) in
             let u = used (suc k) e in
@@ -85,7 +85,7 @@ module _ (x : Lent) (buffers counts room : List ℕ) (base : ℕ) (body : List �
             let a = own .lie k q in
             let g = rw a at (lies .bytes-lie i (suc k) u (omega arith)) in
             ap (part body (base + startOf (x .plan) (x .parts) i (suc k))) n
-            ∙ room-part x buffers counts room base body bodied (startOf (x .plan) (x .parts) i (suc k)) (length (getD bs k [])) (omega (arith, placed .inside i (suc k) u, bounded i (suc k) u .needs))
+            ∙ room-part x buffers counters room base body bodied (startOf (x .plan) (x .parts) i (suc k)) (length (getD bs k [])) (omega (arith, placed .inside i (suc k) u, bounded i (suc k) u .needs))
             ∙ g
         go false e = sym (List·getD-eq-default bs [] (ltb-false k (length bs) (sym count ∙ e)))
 
@@ -99,35 +99,35 @@ module _ (x : Lent) (buffers counts room : List ℕ) (base : ℕ) (body : List �
 
   -- ---- its validity
 
-  module _ (n : ℕ) (rows-are : rows counts i ≡ n) where
+  module _ (n : ℕ) (rows-are : rows counters i ≡ n) where
     fitting : Fits (x .plan) (x .parts) (Used (x .plan)) μ
     fitting = record { bytes-fit = λ i b u p. bounded i b u .bytes-in p; bits-fit = λ i u. bounded i 0 u .bits-in refl }
 
-    none-at : hasPart (x .plan) i 0 ≡ false → zerosAt x buffers counts room base i ≡ 0
+    none-at : hasPart (x .plan) i 0 ≡ false → zerosAt x buffers counters room base i ≡ 0
     unfolding zerosAt
     none-at e = rw e
 
-    zeros-at : (w : Bool) → w ≡ ltb (codeOf (x .plan) i) 21 → (b : Option (List Bool)) → BitsFor w b n → HoldsBits (x .plan) i w b μ → zerosAt x buffers counts room base i ≡ zerosOf w b
+    zeros-at : (w : Bool) → w ≡ ltb (codeOf (x .plan) i) 21 → (b : Option (List Bool)) → BitsFor w b n → HoldsBits (x .plan) i w b μ → zerosAt x buffers counters room base i ≡ zerosOf w b
     unfolding zerosAt
     zeros-at w e none f h = none-at (no-bits (x .plan) i c h)
     zeros-at false e (some s) f h = none-at (no-mask (x .plan) i c (sym e))
     zeros-at true e (some s) f h =
         let p = bits-copied (x .plan) i c (h .0) (ltb-true (codeOf (x .plan) i) 21 (sym e)) in
         let g = rw (h .1) at (lies .bits-lie i (used 0 p) .run) in
-        let k : rows counts i ≡ length (map flag s) = rows-are ∙ sym f ∙ sym (length-map s flag) in
+        let k : rows counters i ≡ length (map flag s) = rows-are ∙ sym f ∙ sym (length-map s flag) in
         rw (p, k, g) (flag-zeros s)
 
-    valid-zero : zerosAt x buffers counts room base i ≡ 0 → validOf Y i ≡ none
+    valid-zero : zerosAt x buffers counters room base i ≡ 0 → validOf Y i ≡ none
     unfolding copiedPlace
     valid-zero e = let p : place Y i 0 ≡ 0 = place-is 0 (omega arith) ∙ rw e in rw p
 
-    valid-some : (z : ℕ) → zerosAt x buffers counts room base i ≡ suc z → validOf Y i ≡ some (part body (base + startOf (x .plan) (x .parts) i 0) ((rows counts i + 7) / 8))
+    valid-some : (z : ℕ) → zerosAt x buffers counters room base i ≡ suc z → validOf Y i ≡ some (part body (base + startOf (x .plan) (x .parts) i 0) ((rows counters i + 7) / 8))
     unfolding copiedPlace
     valid-some z e =
-        let t = ne-eqb (zerosAt x buffers counts room base i) 0 (λ q. omega (arith, q, e)) in
+        let t = ne-eqb (zerosAt x buffers counters room base i) 0 (λ q. omega (arith, q, e)) in
         let p : place Y i 0 ≡ 1 = place-is 0 (omega arith) ∙ rw t in
         let q : place Y i 1 ≡ base + startOf (x .plan) (x .parts) i 0 = place-is 1 (omega arith) ∙ rw t in
-        let r : place Y i 2 ≡ (rows counts i + 7) / 8 = place-is 2 (omega arith) ∙ rw t in
+        let r : place Y i 2 ≡ (rows counters i + 7) / 8 = place-is 2 (omega arith) ∙ rw t in
         rw (p, q, r)
 
     valid-at : (w : Bool) → w ≡ ltb (codeOf (x .plan) i) 21 → (b : Option (List Bool)) → BitsFor w b n → HoldsBits (x .plan) i w b μ → validOf Y i ≡ validity w b
@@ -142,25 +142,25 @@ module _ (x : Lent) (buffers counts room : List ℕ) (base : ℕ) (body : List �
         go zero q = valid-zero (zeros-at true e (some s) f h ∙ q)
         go (suc z) q =
             let u = used 0 p in
-            let r : rows counts i ≡ length s = rows-are ∙ sym f in
+            let r : rows counters i ≡ length s = rows-are ∙ sym f in
             let y = bounded i 0 u .needs in
             valid-some z (zeros-at true e (some s) f h ∙ q)
             ∙ ap some
-            (room-part x buffers counts room base body bodied (startOf (x .plan) (x .parts) i 0) ((rows counts i + 7) / 8) (omega (arith, placed .inside i 0 u, y))
+            (room-part x buffers counters room base body bodied (startOf (x .plan) (x .parts) i 0) ((rows counters i + 7) / 8) (omega (arith, placed .inside i 0 u, y))
             ∙ ap (λ k. part room (startOf (x .plan) (x .parts) i 0) ((k + 7) / 8)) r
             ∙ lies-pack (x .plan) (x .parts) (Used (x .plan)) room μ placed lies fitting i u s (h .1))
 
-    nulls-at : (w : Bool) → w ≡ ltb (codeOf (x .plan) i) 21 → (b : Option (List Bool)) → BitsFor w b n → HoldsBits (x .plan) i w b μ → getD (nullTable x buffers counts room base) i 0 ≡ nullsIn (ok (validity w b)) 0 n
+    nulls-at : (w : Bool) → w ≡ ltb (codeOf (x .plan) i) 21 → (b : Option (List Bool)) → BitsFor w b n → HoldsBits (x .plan) i w b μ → getD (nullTable x buffers counters room base) i 0 ≡ nullsIn (ok (validity w b)) 0 n
     unfolding nullsAt
-    nulls-at w e b f h = null-at x buffers counts room base body i l ∙ rw c (zeros-at w e b f h ∙ sym (nulls-zeros w b n f))
+    nulls-at w e b f h = null-at x buffers counters room base body i l ∙ rw c (zeros-at w e b f h ∙ sym (nulls-zeros w b n f))
 
   -- ---- A COPIED NODE is the model's finished one
 
-  module _ {P D : Type 0} (d : Mutable D) (masks : Bool) (code : masks ≡ ltb (codeOf (x .plan) i) 21) (rows-are : rows counts i ≡ d .len)
+  module _ {P D : Type 0} (d : Mutable D) (masks : Bool) (code : masks ≡ ltb (codeOf (x .plan) i) 21) (rows-are : rows counters i ≡ d .len)
       (f : BitsFor masks (d .bits) (d .len)) (h : HoldsBits (x .plan) i masks (d .bits) μ) (freeze : D → P) where
     pub node-shows : (inner : P → Type 0) → inner (freeze (d .«data»)) → ShowsNode Y i inner (freezeNode masks freeze d)
     node-shows inner b =
         record { len-is = len-is ∙ rows-are; off-is = off-is; valid-is = valid-at (d .len) rows-are masks code (d .bits) f h; body-is = b }
 
-    pub node-counts : (inner : P → Type 0) → inner (freeze (d .«data»)) → CountsNode (nullTable x buffers counts room base) i inner (freezeNode masks freeze d)
-    node-counts inner b = record { count-is = nulls-at (d .len) rows-are masks code (d .bits) f h; below = b }
+    pub node-counters : (inner : P → Type 0) → inner (freeze (d .«data»)) → CountsNode (nullTable x buffers counters room base) i inner (freezeNode masks freeze d)
+    node-counters inner b = record { count-is = nulls-at (d .len) rows-are masks code (d .bits) f h; below = b }

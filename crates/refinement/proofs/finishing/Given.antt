@@ -63,14 +63,14 @@ module _ (x : Lent) (buffers : List ℕ) (s : ℕ) where
 -- ---- data buffers and dictionaries of all sources, node by node
 
 -- the values of the dictionaries whose keys are node i: source 0's where they are shared, else joined in the memory
-pub record Valued (x : Lent) (m : ℕ) (counts : List ℕ) (μ : Memory) (p : Plain) (i : ℕ) (ds : ℕ → Dictionary (PlainBody p)) : Type 0 where
+pub record Valued (x : Lent) (m : ℕ) (counters : List ℕ) (μ : Memory) (p : Plain) (i : ℕ) (ds : ℕ → Dictionary (PlainBody p)) : Type 0 where
   pub words : Worded (x .plan) 1 (tPlain p) (suc i)
   pub joined-word : word (x .plan) i 7 ≡ flag (not (shared m ds))
   pub kept : shared m ds ≡ true → LentNode (joinOf x 0) (suc i) (LentPlain (joinOf x 0) p (suc i)) (ds 0 .values)
   pub joins : shared m ds ≡ false
-      → (e : Mutable (PlainBody p)) × (joinedFrom p (λ j. ds j .values) m (startNode (keeps false m (λ j. ds j .values)) (plainStart p)) ≡ done e) × Holds (x .plan) (tPlain p) (suc i) e counts μ
+      → (e : Mutable (PlainBody p)) × (joinedFrom p (λ j. ds j .values) m (startNode (keeps false m (λ j. ds j .values)) (plainStart p)) ≡ done e) × Holds (x .plan) (tPlain p) (suc i) e counters μ
 
-module _ (x : Lent) (buffers : List ℕ) (m : ℕ) (counts : List ℕ) (μ : Memory) where
+module _ (x : Lent) (buffers : List ℕ) (m : ℕ) (counters : List ℕ) (μ : Memory) where
   abbrev pub Stands : (t : Ty) → ℕ → (ℕ → Body t) → Type 0
   Stands (tPlain p) i ss = Unit {0}
   Stands tView i ss = (s : ℕ) → s < m → Named x buffers s i (ss s) × (length (ss s .buffers) ≤ 32)
@@ -79,10 +79,10 @@ module _ (x : Lent) (buffers : List ℕ) (m : ℕ) (counts : List ℕ) (μ : Mem
   Stands (tSparse ids nullable f) i ss = (e : ℕ) → List·Memᴰ e ids → Stands (f e) (childOf (x .plan) i e) (λ j. ss j .children e .body)
   Stands (tDense ids nullable f) i ss = (e : ℕ) → List·Memᴰ e ids → Stands (f e) (childOf (x .plan) i e) (λ j. ss j .children e .body)
   Stands (tRunEnd w t) i ss = Stands t (suc (suc i)) (λ j. ss j .values .body)
-  Stands (tDictionary k p) i ss = Valued x m counts μ p i ss
+  Stands (tDictionary k p) i ss = Valued x m counters μ p i ss
 
   stands-by : (t : Ty) (i : ℕ) (ss : ℕ → Body t) (u : Bool) → 0 < m → ((s : ℕ) → s < m → NamesLent x buffers s t i (ss s)) → ((s : ℕ) → s < m → EachView (λ v. length (v .buffers) ≤ 32) t (ss s)) → EntriesLent x t i m ss
-      → Joins (x .plan) t i m ss counts μ → Kept (x .plan) m t i u ss → Stands t i ss
+      → Joins (x .plan) t i m ss counters μ → Kept (x .plan) m t i u ss → Stands t i ss
   stands-by (tPlain p) i ss u l n v e j k = tt
   stands-by tView i ss u l n v e j k = λ s h. (n s h, v s h)
   stands-by (tListView w t) i ss u l n v e j k = stands-by t (suc i) (λ j. ss j .child .body) _ l n v e j (k .1)
@@ -96,7 +96,7 @@ module _ (x : Lent) (buffers : List ℕ) (m : ℕ) (counts : List ℕ) (μ : Mem
       record { words = (e .small, omega (arith, e .ends), e .no-keys, e .plain-is); joined-word = k .1; kept = λ h. e .lent 0 l; joins = j }
 
 -- ALL THAT FINISHING IS GIVEN
-pub record Given (x : Lent) (buffers : List ℕ) (tree : Tree) (t : Ty) (m : ℕ) (ss : ℕ → Column t) (d : Destination t) (counts room : List ℕ) (μ : Memory) : Type 0 where
+pub record Given (x : Lent) (buffers : List ℕ) (tree : Tree) (t : Ty) (m : ℕ) (ss : ℕ → Column t) (d : Destination t) (counters room : List ℕ) (μ : Memory) : Type 0 where
   pub some-source : 0 < m
   pub few : m ≤ 16
   pub count-is : sourceCount (x .plan) ≡ m
@@ -108,20 +108,20 @@ pub record Given (x : Lent) (buffers : List ℕ) (tree : Tree) (t : Ty) (m : ℕ
   pub kids : (i : ℕ) (b : Bool) (ids : List ℕ) → Is tree i (unionKind b ids) → (e : ℕ) → List·Memᴰ e ids → childOf (x .plan) i e ≡ nodeOf tree i ids e
   pub obey : (j : ℕ) → j < m → Source t (ss j)
   pub fine : FineNode (masks t) (fineOf t m (λ j. ss j .body)) m ss d
-  pub long : length counts ≡ 96
-  pub holds : Holds (x .plan) t 0 d counts μ
+  pub long : length counters ≡ 96
+  pub holds : Holds (x .plan) t 0 d counters μ
   pub lies : Lies (x .plan) (x .parts) (Used (x .plan)) room μ
   pub placed : Placed (x .plan) (x .parts) (Used (x .plan)) (length room)
   pub within : partsWithin (x .plan) (x .parts) (length room) ≡ true
-  pub bounded : (i b : ℕ) → Used (x .plan) i b → Bounded (x .plan) (x .parts) counts μ i b
+  pub bounded : (i b : ℕ) → Used (x .plan) i b → Bounded (x .plan) (x .parts) counters μ i b
   pub named : (s : ℕ) → s < m → NamesLent x buffers s t 0 (ss s .body)
   pub few-buffers : (s : ℕ) → s < m → EachView (λ v. length (v .buffers) ≤ 32) t (ss s .body)
   pub entries : EntriesLent x t 0 m (λ j. ss j .body)
-  pub joins : Joins (x .plan) t 0 m (λ j. ss j .body) counts μ
+  pub joins : Joins (x .plan) t 0 m (λ j. ss j .body) counters μ
   pub root-keeps : Bool
   pub kept : Kept (x .plan) m t 0 root-keeps (λ j. ss j .body)
 
-pub stands : (x : Lent) (buffers : List ℕ) (tree : Tree) (t : Ty) (m : ℕ) (ss : ℕ → Column t) (d : Destination t) (counts room : List ℕ) (μ : Memory)
-    → Given x buffers tree t m ss d counts room μ → Stands x buffers m counts μ t 0 (λ j. ss j .body)
-stands x buffers tree t m ss d counts room μ g =
-    stands-by x buffers m counts μ t 0 (λ j. ss j .body) (g .root-keeps) (g .some-source) (g .named) (g .few-buffers) (g .entries) (g .joins) (g .kept)
+pub stands : (x : Lent) (buffers : List ℕ) (tree : Tree) (t : Ty) (m : ℕ) (ss : ℕ → Column t) (d : Destination t) (counters room : List ℕ) (μ : Memory)
+    → Given x buffers tree t m ss d counters room μ → Stands x buffers m counters μ t 0 (λ j. ss j .body)
+stands x buffers tree t m ss d counters room μ g =
+    stands-by x buffers m counters μ t 0 (λ j. ss j .body) (g .root-keeps) (g .some-source) (g .named) (g .few-buffers) (g .entries) (g .joins) (g .kept)

@@ -48,10 +48,10 @@ use Rattle.refinement.proofs.finishing.Again.{finished-obeys}
 holds : {b : Bool} → b ≡ true → T b
 holds e = subst T (sym e) tt
 
-module _ (x : Lent) (buffers : List ℕ) (tree : Tree) (root : Ty) (m : ℕ) (columns : ℕ → Column root) (dest : Destination root) (counts room : List ℕ) (μ : Memory)
-    (given : Given x buffers tree root m columns dest counts room μ) (base : ℕ) (body : List ℕ) (bodied : Bodied body x room base) where
+module _ (x : Lent) (buffers : List ℕ) (tree : Tree) (root : Ty) (m : ℕ) (columns : ℕ → Column root) (dest : Destination root) (counters room : List ℕ) (μ : Memory)
+    (given : Given x buffers tree root m columns dest counters room μ) (base : ℕ) (body : List ℕ) (bodied : Bodied body x room base) where
   abbrev Y : Tables
-  Y = finishedTables x buffers counts room base body
+  Y = finishedTables x buffers counters room base body
 
   source-long : length (x .body) ≤ length body
   source-long = let e : length (take (length (x .body)) body) ≡ length (x .body) = ap length (bodied .front) in omega (arith, length-take (length (x .body)) body)
@@ -79,24 +79,24 @@ module _ (x : Lent) (buffers : List ℕ) (tree : Tree) (root : Ty) (m : ℕ) (co
   -- ---- a copied node
 
   module _ (i : ℕ) (l : i < nodesOf (x .plan)) (c : copied (x .plan) i ≡ true) where
-    copied-place : (j : ℕ) → j < 9 → place Y i j ≡ copiedPlace x buffers counts room base i j
+    copied-place : (j : ℕ) → j < 9 → place Y i j ≡ copiedPlace x buffers counters room base i j
     unfolding placeAt
-    copied-place j k = place-at x buffers counts room base body i l j k ∙ rw c
+    copied-place j k = place-at x buffers counters room base body i l j k ∙ rw c
 
-    part-inside : (b : ℕ) → hasPart (x .plan) i b ≡ true → inBody Y (base + startOf (x .plan) (x .parts) i b) (needed (x .plan) counts i b) ≡ true
+    part-inside : (b : ℕ) → hasPart (x .plan) i b ≡ true → inBody Y (base + startOf (x .plan) (x .parts) i b) (needed (x .plan) counters i b) ≡ true
     part-inside b h =
         let u : Used (x .plan) i b = record { node = l; part = h } in
-        le-leb (base + startOf (x .plan) (x .parts) i b + needed (x .plan) counts i b) (length body)
+        le-leb (base + startOf (x .plan) (x .parts) i b + needed (x .plan) counters i b) (length body)
         (omega (arith, given .placed .inside i b u, given .bounded i b u .needs, bodied .inside))
 
-    buffer-inside : (b : ℕ) → inBody Y (bufferStart x buffers counts room base i b) (bufferSize x buffers counts room base i b) ≡ true
+    buffer-inside : (b : ℕ) → inBody Y (bufferStart x buffers counters room base i b) (bufferSize x buffers counters room base i b) ≡ true
     buffer-inside b = go (hasPart (x .plan) i b) refl
       where
-        go : (h : Bool) → hasPart (x .plan) i b ≡ h → inBody Y (cond h (base + startOf (x .plan) (x .parts) i b) 0) (cond h (needed (x .plan) counts i b) 0) ≡ true
+        go : (h : Bool) → hasPart (x .plan) i b ≡ h → inBody Y (cond h (base + startOf (x .plan) (x .parts) i b) 0) (cond h (needed (x .plan) counters i b) 0) ≡ true
         go true e = part-inside b e
         go false e = le-leb 0 (length body) (omega arith)
 
-    zeros-part : eqb (zerosAt x buffers counts room base i) 0 ≡ false → hasPart (x .plan) i 0 ≡ true
+    zeros-part : eqb (zerosAt x buffers counters room base i) 0 ≡ false → hasPart (x .plan) i 0 ≡ true
     unfolding zerosAt
     zeros-part = go (hasPart (x .plan) i 0) _
       where
@@ -106,10 +106,10 @@ module _ (x : Lent) (buffers : List ℕ) (tree : Tree) (root : Ty) (m : ℕ) (co
 
     valid-inside : validIn Y i ≡ true
     unfolding copiedPlace
-    valid-inside = rw (copied-place 0 (omega arith), copied-place 1 (omega arith), copied-place 2 (omega arith)) (go (eqb (zerosAt x buffers counts room base i) 0) refl)
+    valid-inside = rw (copied-place 0 (omega arith), copied-place 1 (omega arith), copied-place 2 (omega arith)) (go (eqb (zerosAt x buffers counters room base i) 0) refl)
       where
-        go : (z : Bool) → eqb (zerosAt x buffers counts room base i) 0 ≡ z
-            → cond (eqb (cond z 0 1) 0) true (inBody Y (cond z 0 (base + startOf (x .plan) (x .parts) i 0)) (cond z 0 ((rows counts i + 7) / 8))) ≡ true
+        go : (z : Bool) → eqb (zerosAt x buffers counters room base i) 0 ≡ z
+            → cond (eqb (cond z 0 1) 0) true (inBody Y (cond z 0 (base + startOf (x .plan) (x .parts) i 0)) (cond z 0 ((rows counters i + 7) / 8))) ≡ true
         go true e = refl
         go false e = part-inside 0 (zeros-part e)
 
@@ -126,13 +126,13 @@ module _ (x : Lent) (buffers : List ℕ) (tree : Tree) (root : Ty) (m : ℕ) (co
     names-in v ss st =
         let h : (s : ℕ) → s < m → Named x buffers s i (ss s) = λ s q. st s q .0 in
         let short : (s : ℕ) → s < m → Rattle.walk.specs.State.place (joinOf x s) i 8 ≤ 32 = λ s q. named-few x buffers s i (ss s) (st s q .0) (st s q .1) in
-        let few = all-sources x buffers tree root m columns dest counts room μ given base body bodied in
-        let p = from-place x buffers counts room base body bodied m few i l c v ss h short in
-        let q = many-place x buffers counts room base body bodied m few i l c v ss h short in
-        let a = before-in x buffers counts room base i (nodesOf (x .plan)) l v in
-        let b = all-long x buffers counts room base (nodesOf (x .plan)) in
-        let g = buffers-lie x buffers counts room base body bodied m few i l c v ss h short in
-        rw (p, q, le-leb (2 * (buffersBefore x buffers counts room base i + buffersOf x buffers counts room base i (sources x buffers counts room base))) (length (Y .buffers)) (omega arith))
+        let few = all-sources x buffers tree root m columns dest counters room μ given base body bodied in
+        let p = from-place x buffers counters room base body bodied m few i l c v ss h short in
+        let q = many-place x buffers counters room base body bodied m few i l c v ss h short in
+        let a = before-in x buffers counters room base i (nodesOf (x .plan)) l v in
+        let b = all-long x buffers counters room base (nodesOf (x .plan)) in
+        let g = buffers-lie x buffers counters room base body bodied m few i l c v ss h short in
+        rw (p, q, le-leb (2 * (buffersBefore x buffers counters room base i + buffersOf x buffers counters room base i (sources x buffers counters room base))) (length (Y .buffers)) (omega arith))
         (every-all _ _ (λ k n. in-source _ _ (g k n)))
 
   -- ---- a kept dictionary
@@ -142,14 +142,14 @@ module _ (x : Lent) (buffers : List ℕ) (tree : Tree) (root : Ty) (m : ℕ) (co
     spot = Rattle.walk.specs.State.place (joinOf x 0) i
 
     kept-place : (j : ℕ) → 3 ≤ j → j < 7 → place Y i j ≡ spot j
-    kept-place = place-is tree x buffers counts room base body bodied i l c
+    kept-place = place-is tree x buffers counters room base body bodied i l c
 
     -- of its validity, if a bit is 0
-    shown : (j : ℕ) → j < 3 → place Y i j ≡ cond (eqb (nullsAt x buffers counts room base i) 0) 0 (spot j)
-    shown = valid-place tree x buffers counts room base body bodied i l c
+    shown : (j : ℕ) → j < 3 → place Y i j ≡ cond (eqb (nullsAt x buffers counters room base i) 0) 0 (spot j)
+    shown = valid-place tree x buffers counters room base body bodied i l c
 
     kept-valid : (o : Option (List ℕ)) → LentValid (joinOf x 0) i o → validIn Y i ≡ true
-    kept-valid o h = rw (shown 0 (omega arith), shown 1 (omega arith), shown 2 (omega arith)) (go (eqb (nullsAt x buffers counts room base i) 0) o h)
+    kept-valid o h = rw (shown 0 (omega arith), shown 1 (omega arith), shown 2 (omega arith)) (go (eqb (nullsAt x buffers counters room base i) 0) o h)
       where
         go : (z : Bool) (o : Option (List ℕ)) → LentValid (joinOf x 0) i o → cond (eqb (cond z 0 (spot 0)) 0) true (inBody Y (cond z 0 (spot 1)) (cond z 0 (spot 2))) ≡ true
         go true o h = refl
@@ -171,7 +171,7 @@ module _ (x : Lent) (buffers : List ℕ) (tree : Tree) (root : Ty) (m : ℕ) (co
   plain-placed (fixed n) i l c mn = subst (λ k. T (placedAs tree Y k i)) (sym (mn .1)) (holds (copied-one i l c))
   plain-placed (string w) i l c mn = subst (λ k. T (placedAs tree Y k i)) (sym (mn .1)) (holds (copied-two i l c))
 
-  own-placed : (k : ℕ) (t : Ty) (i : ℕ) (ss : ℕ → Body t) → Worded (x .plan) k t i → i < nodesOf (x .plan) → copied (x .plan) i ≡ true → Means tree t i → Stands x buffers m counts μ t i ss → T (placed tree Y i)
+  own-placed : (k : ℕ) (t : Ty) (i : ℕ) (ss : ℕ → Body t) → Worded (x .plan) k t i → i < nodesOf (x .plan) → copied (x .plan) i ≡ true → Means tree t i → Stands x buffers m counters μ t i ss → T (placed tree Y i)
   own-placed (suc k) (tPlain p) i ss w l c mn st = plain-placed p i l c mn
   own-placed (suc k) tView i ss w l c mn st = subst (λ k. T (placedAs tree Y k i)) (sym (mn .1)) (holds {b = oneIn Y i && buffersIn Y i} (rw (copied-one i l c) (names-in i l c (w .2) ss st)))
   own-placed (suc k) (tListView v t) i ss w l c mn st = subst (λ k. T (placedAs tree Y k i)) (sym (mn .0 .1)) (holds (copied-two i l c))
@@ -181,7 +181,7 @@ module _ (x : Lent) (buffers : List ℕ) (tree : Tree) (root : Ty) (m : ℕ) (co
   own-placed (suc k) (tRunEnd v t) i ss w l c mn st = subst (λ k. T (placedAs tree Y k i)) (sym (mn .0 .1)) (holds {b = held Y i && validIn Y i} (rw (held-at i l) (valid-inside i l c)))
   own-placed (suc k) (tDictionary n p) i ss w l c mn st = subst (λ k. T (placedAs tree Y k i)) (sym (mn .0 .1)) (holds (copied-one i l c))
 
-  values-placed : (p : Plain) (i : ℕ) (ds : ℕ → Dictionary (PlainBody p)) → suc i < nodesOf (x .plan) → (dictionaryOf (x .plan) i ≡ 0 → ⊥) → MeansPlain tree p (suc i) → Valued x m counts μ p i ds
+  values-placed : (p : Plain) (i : ℕ) (ds : ℕ → Dictionary (PlainBody p)) → suc i < nodesOf (x .plan) → (dictionaryOf (x .plan) i ≡ 0 → ⊥) → MeansPlain tree p (suc i) → Valued x m counters μ p i ds
       → T (placed tree Y (suc i))
   values-placed p i ds l dict mn h = go (shared m ds) refl
     where
@@ -195,17 +195,17 @@ module _ (x : Lent) (buffers : List ℕ) (tree : Tree) (root : Ty) (m : ℕ) (co
   -- EVERY NODE'S BUFFERS LIE IN THE BODY
   pub all-placed : (j : ℕ) → j < nodesOf (x .plan) → T (placed tree Y j)
   all-placed =
-      every-node x buffers tree root m columns dest counts room μ given (λ j. T (placed tree Y j))
+      every-node x buffers tree root m columns dest counters room μ given (λ j. T (placed tree Y j))
       (λ k t i ss w l o mn st. own-placed k t i ss w l (copied-free (x .plan) i o) mn st)
       (λ w i l o code mn. plain-placed (fixed (mn .number)) i l (copied-free (x .plan) i o) (mn .is-ends))
       (λ p i ds l dict mn o h. values-placed p i ds l dict mn h)
 
 -- THE FINISHED ARRAY PASSES GROUND 12 where it is lent again
-pub lent-again : (x : Lent) (buffers formats schema : List ℕ) (first n m : ℕ) (ss : ℕ → Column (typeOf formats schema first n)) (d : Destination (typeOf formats schema first n)) (counts room : List ℕ) (μ : Memory)
-    → Given x buffers (treeOf formats schema first n) (typeOf formats schema first n) m ss d counts room μ → Ready (typeOf formats schema first n) m (λ j. ss j .body)
+pub lent-again : (x : Lent) (buffers formats schema : List ℕ) (first n m : ℕ) (ss : ℕ → Column (typeOf formats schema first n)) (d : Destination (typeOf formats schema first n)) (counters room : List ℕ) (μ : Memory)
+    → Given x buffers (treeOf formats schema first n) (typeOf formats schema first n) m ss d counters room μ → Ready (typeOf formats schema first n) m (λ j. ss j .body)
     → (base : ℕ) (body : List ℕ) → Bodied body x room base → typed formats schema first n ≡ true → ceilings formats schema first n ≡ true → n ≡ nodesOf (x .plan)
-    → T (sourceRule (treeOf formats schema first n) (finishedTables x buffers counts room base body))
-lent-again x buffers formats schema first n m ss d counts room μ given ready base body bodied t c e =
-    lent-obeys formats schema first n (finishedTables x buffers counts room base body) t c
-    (λ j l. all-placed x buffers (treeOf formats schema first n) (typeOf formats schema first n) m ss d counts room μ given base body bodied j (omega arith))
-    (test-complete (typeOf formats schema first n) _ (finished-obeys x buffers (treeOf formats schema first n) (typeOf formats schema first n) m ss d counts room μ given ready base body bodied))
+    → T (sourceRule (treeOf formats schema first n) (finishedTables x buffers counters room base body))
+lent-again x buffers formats schema first n m ss d counters room μ given ready base body bodied t c e =
+    lent-obeys formats schema first n (finishedTables x buffers counters room base body) t c
+    (λ j l. all-placed x buffers (treeOf formats schema first n) (typeOf formats schema first n) m ss d counters room μ given base body bodied j (omega arith))
+    (test-complete (typeOf formats schema first n) _ (finished-obeys x buffers (treeOf formats schema first n) (typeOf formats schema first n) m ss d counters room μ given ready base body bodied))

@@ -91,7 +91,7 @@ module _ (formats schema sources : List ℕ) (x : Tables) (keep gaps : Bool) (pa
   reached = answersIn (lent .plan) parts t m ss os (start gaps t keep m ss)
 
   abbrev left : After
-  left = orderedAll lent (a .counts) (a .room) os
+  left = orderedAll lent (a .counters) (a .room) os
 
   abbrev memory : Memory
   memory = orders-after formats schema sources x keep gaps parts a o os .running .memory
@@ -101,12 +101,12 @@ module _ (formats schema sources : List ℕ) (x : Tables) (keep gaps : Bool) (pa
       and-left (fits (lent .plan) parts t 0 (start gaps t keep m ss)) (entriesFit (lent .plan) parts t 0 m (λ j. ss j .body))
       (fits-first (lent .plan) parts t m ss (openData t m (λ j. ss j .body)) (openFits (lent .plan) parts t 0 m (λ j. ss j .body) (start gaps t keep m ss)) (start gaps t keep m ss) (o .model))
 
-  pub given : Given lent (x .buffers) tree t m ss reached (left .counts) (left .room) memory
+  pub given : Given lent (x .buffers) tree t m ss reached (left .counters) (left .room) memory
   given =
       let ok = o .accepted in
       let k = taken formats schema sources x keep gaps ok in
       let alike = all-alike formats schema x (firstOf sources) (nodesOf sources) (lent .plan) m k 0 (o .join .some-source) in
-      given-by lent t m ss (o .join) (keeps keep m ss) (a .counts) (o .memory) reached (left .counts) (left .room) (orders-after formats schema sources x keep gaps parts a o os .running)
+      given-by lent t m ss (o .join) (keeps keep m ss) (a .counters) (o .memory) reached (left .counters) (left .room) (orders-after formats schema sources x keep gaps parts a o os .running)
       (fits-after (lent .plan) parts t m ss os (start gaps t keep m ss) start-fits) (x .buffers) tree (few-sources formats schema sources x keep gaps ok)
       (means formats schema (firstOf sources 0) (nodesOf sources 0) (is-typed formats schema sources x keep gaps ok) (is-low formats schema sources x keep gaps ok))
       (same-child formats schema (firstOf sources 0) (nodesOf sources 0) (lent .plan) (is-typed formats schema sources x keep gaps ok) (is-low formats schema sources x keep gaps ok) (planted formats schema sources x keep gaps ok) (firstOf sources 0) (nodesOf sources 0) alike)
@@ -115,33 +115,33 @@ module _ (formats schema sources : List ℕ) (x : Tables) (keep gaps : Bool) (pa
   -- FINISHING IS ACCEPTED, where the room begins within a body's ceiling and the tables are of the finished array's lengths
   pub finishing-accepted : (base : ℕ) (lengths nulls places names : List ℕ) → base ≤ ceiling
       → length lengths ≡ 2 * Parts.nodesOf (lent .plan) → length nulls ≡ Parts.nodesOf (lent .plan) → length places ≡ 9 * Parts.nodesOf (lent .plan)
-      → length names ≡ 2 * buffersBefore lent (x .buffers) (left .counts) (left .room) base (Parts.nodesOf (lent .plan))
-      → finishing lent (x .buffers) (left .counts) (left .room) base lengths nulls places names
+      → length names ≡ 2 * buffersBefore lent (x .buffers) (left .counters) (left .room) base (Parts.nodesOf (lent .plan))
+      → finishing lent (x .buffers) (left .counters) (left .room) base lengths nulls places names
       ≡ record {
         ground = 0;
-        lengths = lengthTable lent (x .buffers) (left .counts) (left .room) base;
-        nulls = nullTable lent (x .buffers) (left .counts) (left .room) base;
-        places = placeTable lent (x .buffers) (left .counts) (left .room) base;
-        buffers = bufferTable lent (x .buffers) (left .counts) (left .room) base;
+        lengths = lengthTable lent (x .buffers) (left .counters) (left .room) base;
+        nulls = nullTable lent (x .buffers) (left .counters) (left .room) base;
+        places = placeTable lent (x .buffers) (left .counters) (left .room) base;
+        buffers = bufferTable lent (x .buffers) (left .counters) (left .room) base;
       }
-  finishing-accepted = never-refused lent (x .buffers) tree t m ss reached (left .counts) (left .room) memory given
+  finishing-accepted = never-refused lent (x .buffers) tree t m ss reached (left .counters) (left .room) memory given
 
   module _ (base : ℕ) (body : List ℕ) (bodied : Bodied body lent (left .room) base) where
     abbrev Y : Tables
-    Y = finishedTables lent (x .buffers) (left .counts) (left .room) base body
+    Y = finishedTables lent (x .buffers) (left .counters) (left .room) base body
 
     -- ITS TABLES DESCRIBE THE MODEL'S FINISHED ARRAY
     pub join-shows : Shows tree Y t 0 (intoBuilder t m ss reached)
-    join-shows = finished-shows lent (x .buffers) tree t m ss reached (left .counts) (left .room) memory given base body bodied
+    join-shows = finished-shows lent (x .buffers) tree t m ss reached (left .counters) (left .room) memory given base body bodied
 
     -- .. AND ITS NULL COUNTS
-    pub join-nulls : Counts tree (nullTable lent (x .buffers) (left .counts) (left .room) base) t 0 (intoBuilder t m ss reached)
-    join-nulls = null-is lent (x .buffers) tree t m ss reached (left .counts) (left .room) memory given base body bodied
+    pub join-nulls : Counts tree (nullTable lent (x .buffers) (left .counters) (left .room) base) t 0 (intoBuilder t m ss reached)
+    join-nulls = null-is lent (x .buffers) tree t m ss reached (left .counters) (left .room) memory given base body bodied
 
     -- ITS ROWS ARE THE BOOK'S
     pub join-rows : readAll t (columnOf tree Y t 0) ≡ bookIn (lent .plan) parts t m ss (keeps keep m ss) os (start gaps t keep m ss)
     join-rows =
-        finished-reads lent (x .buffers) tree t m ss reached (left .counts) (left .room) memory given (first-opened lent t m ss (o .join) .ready) base body bodied
+        finished-reads lent (x .buffers) tree t m ss reached (left .counters) (left .room) memory given (first-opened lent t m ss (o .join) .ready) base body bodied
         ∙ orders-after formats schema sources x keep gaps parts a o os .rows-are
 
     -- .. and its length is the book's
@@ -152,5 +152,5 @@ module _ (formats schema sources : List ℕ) (x : Tables) (keep gaps : Bool) (pa
     pub join-again : T (sourceRule tree Y)
     join-again =
         let ok = o .accepted in
-        lent-again lent (x .buffers) formats schema (firstOf sources 0) (nodesOf sources 0) m ss reached (left .counts) (left .room) memory given (first-opened lent t m ss (o .join) .ready) base body bodied
+        lent-again lent (x .buffers) formats schema (firstOf sources 0) (nodesOf sources 0) m ss reached (left .counters) (left .room) memory given (first-opened lent t m ss (o .join) .ready) base body bodied
         (is-typed formats schema sources x keep gaps ok) (is-low formats schema sources x keep gaps ok) (let e = stood formats schema x sources ok keep gaps .node-count in omega arith)

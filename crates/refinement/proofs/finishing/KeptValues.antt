@@ -25,19 +25,19 @@ use Rattle.refinement.specs.finishing.Finish.{keptNode, keptTables, null
 use Rattle.refinement.specs.finishing.Shows.{ShowsNode, ShowsPlain, CountsNode, finishedTables, Bodied}
 use Rattle.refinement.proofs.finishing.Lookups.{length-at, offset-at, place-at, null-at, source-part}
 
-module _ (x : Lent) (buffers counts room : List ℕ) (base : ℕ) (i : ℕ) (c : copied (x .plan) i ≡ false) where
+module _ (x : Lent) (buffers counters room : List ℕ) (base : ℕ) (i : ℕ) (c : copied (x .plan) i ≡ false) where
   abbrev kept : Tables
-  kept = keptTables x buffers counts room base
+  kept = keptTables x buffers counters room base
 
   abbrev node : ℕ
-  node = keptNode x buffers counts room base i
+  node = keptNode x buffers counters room base i
 
   valid-kept : (o : Option (List ℕ)) → LentValid (joinOf x 0) i o → validOf kept node ≡ o
   valid-kept none h = rw h
   valid-kept (some s) h = rw (h .0) (ap some (sym (h .1 .bytes-are)))
 
   -- the bits of a kept dictionary stand in the body
-  pub kept-in : (p : Plain) (a : Array (PlainBody p)) → LentNode (joinOf x 0) i (LentPlain (joinOf x 0) p i) a → Obeys true (PlainRule p) a → keptIn x buffers counts room base i ≡ true
+  pub kept-in : (p : Plain) (a : Array (PlainBody p)) → LentNode (joinOf x 0) i (LentPlain (joinOf x 0) p i) a → Obeys true (PlainRule p) a → keptIn x buffers counters room base i ≡ true
   unfolding keptIn
   kept-in p a h o =
       let n : offsetOf kept node + lengthOf kept node ≡ a .off + a .len = ap₂ _+_ (h .off-is) (h .len-is) in
@@ -45,25 +45,25 @@ module _ (x : Lent) (buffers counts room : List ℕ) (base : ℕ) (i : ℕ) (c :
       let t : maskTest true (a .valid) (a .off + a .len) ≡ true = is-true _ (mask-agrees true (a .valid) (a .off + a .len) .complete (o .mask)) in
       rw (c, lt-ltb _ _ g, valid-kept (a .valid) (h .valid-is), n) t
 
-module _ (tree : Tree) (x : Lent) (buffers counts room : List ℕ) (base : ℕ) (body : List ℕ) (bodied : Bodied body x room base)
+module _ (tree : Tree) (x : Lent) (buffers counters room : List ℕ) (base : ℕ) (body : List ℕ) (bodied : Bodied body x room base)
     (i : ℕ) (l : i < nodesOf (x .plan)) (c : copied (x .plan) i ≡ false) where
   abbrev Y : Tables
-  Y = finishedTables x buffers counts room base body
+  Y = finishedTables x buffers counters room base body
 
   -- its validity, if a bit is 0
   abbrev nulls : ℕ
-  nulls = nullsAt x buffers counts room base i
+  nulls = nullsAt x buffers counters room base i
 
   pub valid-place : (j : ℕ) → j < 3 → Rattle.array_data.specs.Tables.place Y i j ≡ cond (eqb nulls 0) 0 (place (joinOf x 0) i j)
   unfolding placeAt keptPlace
-  valid-place j k = place-at x buffers counts room base body i l j (omega arith) ∙ rw (c, lt-ltb j 3 k)
+  valid-place j k = place-at x buffers counters room base body i l j (omega arith) ∙ rw (c, lt-ltb j 3 k)
 
   pub place-is : (j : ℕ) → 3 ≤ j → j < 7 → Rattle.array_data.specs.Tables.place Y i j ≡ place (joinOf x 0) i j
   unfolding placeAt keptPlace
-  place-is j h k = place-at x buffers counts room base body i l j (omega arith) ∙ rw (c, le-ltb j 3 h, lt-ltb j 7 k)
+  place-is j h k = place-at x buffers counters room base body i l j (omega arith) ∙ rw (c, le-ltb j 3 h, lt-ltb j 7 k)
 
   part-is : (a b : ℕ) (a2 b2 : ℕ) (s : List ℕ) → a ≡ a2 → b ≡ b2 → Part (x .body) a2 b2 s → part body a b ≡ s
-  part-is a b a2 b2 s e f h = ap₂ (part body) e f ∙ source-part x buffers counts room base body bodied a2 b2 (h .inside) ∙ sym (h .bytes-are)
+  part-is a b a2 b2 s e f h = ap₂ (part body) e f ∙ source-part x buffers counters room base body bodied a2 b2 (h .inside) ∙ sym (h .bytes-are)
 
   -- ---- validity
 
@@ -74,7 +74,7 @@ module _ (tree : Tree) (x : Lent) (buffers counts room : List ℕ) (base : ℕ) 
           → cond (eqb (cond z 0 (place (joinOf x 0) i 0)) 0) none (some (part body (cond z 0 (place (joinOf x 0) i 1)) (cond z 0 (place (joinOf x 0) i 2)))) ≡ cond z none o
       go true o h = refl
       go false none h = rw h
-      go false (some s) h = rw (h .0) (ap some (source-part x buffers counts room base body bodied (place (joinOf x 0) i 1) (place (joinOf x 0) i 2) (h .1 .inside) ∙ sym (h .1 .bytes-are)))
+      go false (some s) h = rw (h .0) (ap some (source-part x buffers counters room base body bodied (place (joinOf x 0) i 1) (place (joinOf x 0) i 2) (h .1 .inside) ∙ sym (h .1 .bytes-are)))
 
   -- ---- buffers
 
@@ -88,21 +88,21 @@ module _ (tree : Tree) (x : Lent) (buffers counts room : List ℕ) (base : ℕ) 
   module _ (p : Plain) (a : Array (PlainBody p)) (h : LentNode (joinOf x 0) i (LentPlain (joinOf x 0) p i) a) where
     nulls-are : nulls ≡ nullCount a
     unfolding nullsAt
-    nulls-are = rw (c, valid-kept x buffers counts room base i c (a .valid) (h .valid-is), h .len-is, h .off-is)
+    nulls-are = rw (c, valid-kept x buffers counters room base i c (a .valid) (h .valid-is), h .len-is, h .off-is)
 
     -- A KEPT DICTIONARY is source 0's, without a validity that has no zero bit
     pub kept-shows : ShowsNode Y i (ShowsPlain tree Y p i) (present a)
     kept-shows =
         record {
-          len-is = length-at x buffers counts room base body i l ∙ rw c (h .len-is);
-          off-is = offset-at x buffers counts room base body i l ∙ rw c (h .off-is);
+          len-is = length-at x buffers counters room base body i l ∙ rw c (h .len-is);
+          off-is = offset-at x buffers counters room base body i l ∙ rw c (h .off-is);
           valid-is = valid-shown (a .valid) (h .valid-is) ∙ ap (λ n. cond (eqb n 0) none (a .valid)) nulls-are;
           body-is = plain-shown p (a .body) (h .body-is);
         }
 
-    pub kept-counts : CountsNode (nullTable x buffers counts room base) i (λ (b : PlainBody p). Unit {0}) (present a)
-    kept-counts =
+    pub kept-counters : CountsNode (nullTable x buffers counters room base) i (λ (b : PlainBody p). Unit {0}) (present a)
+    kept-counters =
         record {
-          count-is = null-at x buffers counts room base body i l ∙ nulls-are ∙ sym (present-nulls a);
+          count-is = null-at x buffers counters room base body i l ∙ nulls-are ∙ sym (present-nulls a);
           below = tt;
         }

@@ -67,35 +67,35 @@ nulls-zeros true (some l) n h = sym (zeros-seg f 0 n) ∙ ap zeros same
         (λ k q. let u : k < n = omega (arith, length-seg f 0 n) in
         getD-seg f 0 n k false u ∙ ap f (zero-add k) ∙ valid-bit true (some l) n k h u)
 
-module _ (x : Lent) (buffers counts room : List ℕ) (base : ℕ) (body : List ℕ) where
+module _ (x : Lent) (buffers counters room : List ℕ) (base : ℕ) (body : List ℕ) where
   abbrev Y : Tables
-  Y = finishedTables x buffers counts room base body
+  Y = finishedTables x buffers counters room base body
 
   -- ---- the numbers of node i
 
   module _ (i : ℕ) (l : i < nodesOf (x .plan)) where
-    pub length-at : lengthOf Y i ≡ lengthAt x buffers counts room base i
+    pub length-at : lengthOf Y i ≡ lengthAt x buffers counters room base i
     unfolding lengthTable
     length-at =
         let q : 2 * i % 2 ≡ 0 = omega arith in
         let r : 2 * i / 2 ≡ i = omega arith in
         entry _ (2 * nodesOf (x .plan)) (2 * i) (omega arith) ∙ rw (q, r)
 
-    pub offset-at : offsetOf Y i ≡ offsetAt x buffers counts room base i
+    pub offset-at : offsetOf Y i ≡ offsetAt x buffers counters room base i
     unfolding lengthTable
     offset-at =
         let q : (2 * i + 1) % 2 ≡ 1 = omega arith in
         let r : (2 * i + 1) / 2 ≡ i = omega arith in
         entry _ (2 * nodesOf (x .plan)) (2 * i + 1) (omega arith) ∙ rw (q, r)
 
-    pub place-at : (j : ℕ) → j < 9 → place Y i j ≡ placeAt x buffers counts room base i j
+    pub place-at : (j : ℕ) → j < 9 → place Y i j ≡ placeAt x buffers counters room base i j
     unfolding placeTable
     place-at j k =
         let q : (9 * i + j) % 9 ≡ j = omega arith in
         let r : (9 * i + j) / 9 ≡ i = omega arith in
         entry _ (9 * nodesOf (x .plan)) (9 * i + j) (omega arith) ∙ rw (q, r)
 
-    pub null-at : getD (nullTable x buffers counts room base) i 0 ≡ nullsAt x buffers counts room base i
+    pub null-at : getD (nullTable x buffers counters room base) i 0 ≡ nullsAt x buffers counters room base i
     unfolding nullTable
     null-at = entry _ (nodesOf (x .plan)) i l
 

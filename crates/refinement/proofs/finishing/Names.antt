@@ -32,24 +32,24 @@ seg-moved z f g a b n h =
 getD-behind : (xs ys : List ℕ) (n q : ℕ) → length xs ≡ n → getD (xs ++ ys) (n + q) 0 ≡ getD ys q 0
 getD-behind xs ys n q e = subst (λ k. getD (xs ++ ys) (k + q) 0 ≡ getD ys q 0) e (getD-append-add xs ys q 0)
 
-module _ (x : Lent) (buffers counts room : List ℕ) (base : ℕ) where
+module _ (x : Lent) (buffers counters room : List ℕ) (base : ℕ) where
   abbrev before : ℕ → ℕ
-  before = buffersBefore x buffers counts room base
+  before = buffersBefore x buffers counters room base
 
   abbrev many : ℕ → ℕ → ℕ
-  many = buffersOf x buffers counts room base
+  many = buffersOf x buffers counters room base
 
   abbrev count : ℕ → ℕ → ℕ
-  count = dataCount x buffers counts room base
+  count = dataCount x buffers counters room base
 
   abbrev names : ℕ → ℕ → List ℕ
-  names = buffersFrom x buffers counts room base
+  names = buffersFrom x buffers counters room base
 
   abbrev all : ℕ → List ℕ
-  all = buffersUpTo x buffers counts room base
+  all = buffersUpTo x buffers counters room base
 
   abbrev top : ℕ
-  top = sources x buffers counts room base
+  top = sources x buffers counters room base
 
   -- ---- of one node
 
@@ -142,7 +142,7 @@ module _ (x : Lent) (buffers counts room : List ℕ) (base : ℕ) where
       (v : isView (codeOf (x .plan) i) ≡ true) (ss : ℕ → Views) (h : (s : ℕ) → s < m → Named x buffers s i (ss s))
       (short : (s : ℕ) → s < m → place (joinOf x s) i 8 ≤ 32) where
     abbrev Y : Tables
-    Y = finishedTables x buffers counts room base body
+    Y = finishedTables x buffers counters room base body
 
     -- number e of the numbers that name the buffers of source s
     number-at : (s e : ℕ) → s < m → e < 2 * place (joinOf x s) i 8 → getD (Y .buffers) (2 * before i + (2 * many i s + e)) 0 ≡ getD buffers (2 * place (joinOf x s) i 7 + e) 0
@@ -167,7 +167,7 @@ module _ (x : Lent) (buffers counts room : List ℕ) (base : ℕ) where
     buffer-at : (s r : ℕ) → s < m → r < place (joinOf x s) i 8
         → dataBuffer Y (before i + many i s + r) ≡ part (x .body) (getD buffers (2 * (place (joinOf x s) i 7 + r)) 0) (getD buffers (2 * (place (joinOf x s) i 7 + r) + 1) 0)
     buffer-at s r q k =
-        ap₂ (part body) (first-number s r q k) (second-number s r q k) ∙ source-part x buffers counts room base body bodied _ _ (h s q .inside r k)
+        ap₂ (part body) (first-number s r q k) (second-number s r q k) ∙ source-part x buffers counters room base body bodied _ _ (h s q .inside r k)
 
     -- each lies in the sources' body
     lie-up : (s : ℕ) → s ≤ m → (q : ℕ) → q < many i s → getD (Y .buffers) (2 * (before i + q)) 0 + getD (Y .buffers) (2 * (before i + q) + 1) 0 ≤ length (x .body)
@@ -200,11 +200,11 @@ module _ (x : Lent) (buffers counts room : List ℕ) (base : ℕ) where
 
     pub from-place : Rattle.array_data.specs.Tables.place Y i 7 ≡ before i
     unfolding placeAt copiedPlace
-    from-place = place-at x buffers counts room base body i l 7 (omega arith) ∙ rw (c, v)
+    from-place = place-at x buffers counters room base body i l 7 (omega arith) ∙ rw (c, v)
 
     pub many-place : Rattle.array_data.specs.Tables.place Y i 8 ≡ many i top
     unfolding placeAt copiedPlace
-    many-place = place-at x buffers counts room base body i l 8 (omega arith) ∙ rw (c, v)
+    many-place = place-at x buffers counters room base body i l 8 (omega arith) ∙ rw (c, v)
 
     -- THE DATA BUFFERS OF A FINISHED VIEW NODE are those of the sources
     pub buffers-shown : dataBuffers Y i ≡ Rattle.model.specs.Primitive.buffersBefore ss m

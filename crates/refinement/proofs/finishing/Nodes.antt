@@ -28,12 +28,12 @@ use Rattle.refinement.proofs.orders.Cover.{within}
 use Rattle.refinement.proofs.finishing.Given.{Valued, Stands, Given, stands}
 use Rattle.refinement.proofs.finishing.Finished.{Here, in-table, union-free}
 
-module _ (x : Lent) (buffers : List ℕ) (tree : Tree) (root : Ty) (m : ℕ) (columns : ℕ → Column root) (dest : Destination root) (counts room : List ℕ) (μ : Memory)
-    (given : Given x buffers tree root m columns dest counts room μ) (P : ℕ → Type 0)
-    (own : (k : ℕ) (t : Ty) (i : ℕ) (ss : ℕ → Body t) → Worded (x .plan) k t i → i < nodesOf (x .plan) → Free (x .plan) i → Means tree t i → Stands x buffers m counts μ t i ss → P i)
+module _ (x : Lent) (buffers : List ℕ) (tree : Tree) (root : Ty) (m : ℕ) (columns : ℕ → Column root) (dest : Destination root) (counters room : List ℕ) (μ : Memory)
+    (given : Given x buffers tree root m columns dest counters room μ) (P : ℕ → Type 0)
+    (own : (k : ℕ) (t : Ty) (i : ℕ) (ss : ℕ → Body t) → Worded (x .plan) k t i → i < nodesOf (x .plan) → Free (x .plan) i → Means tree t i → Stands x buffers m counters μ t i ss → P i)
     (ends : (w i : ℕ) → i < nodesOf (x .plan) → Free (x .plan) i → isFixed (codeOf (x .plan) i) ≡ true → MeansEnds tree w i → P i)
     (values : (p : Plain) (i : ℕ) (ds : ℕ → Dictionary (PlainBody p)) → suc i < nodesOf (x .plan) → (dictionaryOf (x .plan) i ≡ 0 → ⊥) → MeansPlain tree p (suc i) → Obeys true (PlainRule p) (ds 0 .values)
-    → Valued x m counts μ p i ds → P (suc i)) where
+    → Valued x m counters μ p i ds → P (suc i)) where
   -- every node from node i on
   abbrev From : ℕ → Type 0
   From i = (j : ℕ) → i ≤ j → j < endOf (x .plan) i → P j
@@ -56,11 +56,11 @@ module _ (x : Lent) (buffers : List ℕ) (tree : Tree) (root : Ty) (m : ℕ) (co
       kid (r .id) (r .member) j (r .from) (r .to))
 
   -- node i itself
-  here : (k : ℕ) (t : Ty) (i : ℕ) (ss : ℕ → Column t) → Worded (x .plan) k t i → Free (x .plan) i → endOf (x .plan) i ≤ endOf (x .plan) 0 → Means tree t i → Stands x buffers m counts μ t i (λ j. ss j .body) → P i
-  here k t i ss w o l mn st = own k t i (λ j. ss j .body) w (in-table x buffers tree root m columns dest counts room μ given k t i w l) o mn st
+  here : (k : ℕ) (t : Ty) (i : ℕ) (ss : ℕ → Column t) → Worded (x .plan) k t i → Free (x .plan) i → endOf (x .plan) i ≤ endOf (x .plan) 0 → Means tree t i → Stands x buffers m counters μ t i (λ j. ss j .body) → P i
+  here k t i ss w o l mn st = own k t i (λ j. ss j .body) w (in-table x buffers tree root m columns dest counters room μ given k t i w l) o mn st
 
   from : (k : ℕ) (t : Ty) (i : ℕ) (ss : ℕ → Column t) → Worded (x .plan) k t i → Formed t → Free (x .plan) i → endOf (x .plan) i ≤ endOf (x .plan) 0 → Means tree t i
-      → Stands x buffers m counts μ t i (λ j. ss j .body) → ((j : ℕ) → j < m → Source t (ss j)) → From i
+      → Stands x buffers m counters μ t i (λ j. ss j .body) → ((j : ℕ) → j < m → Source t (ss j)) → From i
   from (suc k) (tPlain (fixed n)) i ss w fm o l mn st ob =
       let z = between-both 1 10 (codeOf (x .plan) i) (w .3 .0) in
       one-node i (given .laid .plain-ends i (omega (arith, w .1)) (omega (arith, z .1)) (w .2)) (here (suc k) (tPlain (fixed n)) i ss w o l mn st)
@@ -83,20 +83,20 @@ module _ (x : Lent) (buffers : List ℕ) (tree : Tree) (root : Ty) (m : ℕ) (co
       fields-from k g nullable ids i (fm .0) (w .2) (w .4) (here (suc k) (tSparse ids nullable g) i ss w o l mn st)
       (λ e q. let y = field-of (x .plan) (λ z. Worded (x .plan) k (g z)) nullable (endOf (x .plan) i) ids (suc i) 32 e (w .4) (omega (arith, w .2)) q in
       from k (g e) (childOf (x .plan) i e) (λ j. ss j .body .children e) (y .is-kid) (fm .1 e q)
-      (union-free x buffers tree root m columns dest counts room μ given k g nullable ids i (w .2) (w .4) u (typed (suc k) (tSparse ids nullable g) w (omega arith) l, o) e q) (omega (arith, y .ends))
+      (union-free x buffers tree root m columns dest counters room μ given k g nullable ids i (w .2) (w .4) u (typed (suc k) (tSparse ids nullable g) w (omega arith) l, o) e q) (omega (arith, y .ends))
       (subst (Means tree (g e)) (sym (given .kids i true ids (mn .0) e q)) (mn .1 e q .1)) (st e q) (λ j p. ob j p .slots .child-rule e q))
   from (suc k) (tDense ids nullable g) i ss w fm o l mn st ob =
       let u : isUnion (codeOf (x .plan) i) ≡ true = ap isUnion (w .1) in
       fields-from k g nullable ids i (fm .0) (w .2) (w .4) (here (suc k) (tDense ids nullable g) i ss w o l mn st)
       (λ e q. let y = field-of (x .plan) (λ z. Worded (x .plan) k (g z)) nullable (endOf (x .plan) i) ids (suc i) 32 e (w .4) (omega (arith, w .2)) q in
       from k (g e) (childOf (x .plan) i e) (λ j. ss j .body .children e) (y .is-kid) (fm .1 e q)
-      (union-free x buffers tree root m columns dest counts room μ given k g nullable ids i (w .2) (w .4) u (typed (suc k) (tDense ids nullable g) w (omega arith) l, o) e q) (omega (arith, y .ends))
+      (union-free x buffers tree root m columns dest counters room μ given k g nullable ids i (w .2) (w .4) u (typed (suc k) (tDense ids nullable g) w (omega arith) l, o) e q) (omega (arith, y .ends))
       (subst (Means tree (g e)) (sym (given .kids i false ids (mn .0) e q)) (mn .1 e q .1)) (st e q) (λ j p. ob j p .slots .child-rule e q))
   from (suc k) (tRunEnd v t) i ss w fm o l mn st ob =
       let z : endOf (x .plan) i ≡ endOf (x .plan) (suc (suc i)) = w .1 in
       let s = worded-span (x .plan) k t (suc (suc i)) (w .4) in
       let closed = closed-free (x .plan) 0 (endOf (x .plan) 0) (given .laid .tabled) in
-      let at : Here x buffers tree root m columns dest counts room μ given i = (typed (suc k) (tRunEnd v t) w (omega arith) l, o) in
+      let at : Here x buffers tree root m columns dest counters room μ given i = (typed (suc k) (tRunEnd v t) w (omega arith) l, o) in
       let r = from k t (suc (suc i)) (λ j. ss j .body .values) (w .4) (fm .1) (closed .values i at (w .2) .1) (omega arith) (mn .2) st (λ j q. ob j q .slots .child-rule) in
       let c = ends v (suc i) (omega (arith, given .all-nodes)) (closed .ends i at (w .2) .1) (given .laid .run-ends i (omega arith) (w .2) .0) (mn .1) in
       with-own i (here (suc k) (tRunEnd v t) i ss w o l mn st) (λ j p q. go j p q r c (decLt (suc i) j))
@@ -112,5 +112,5 @@ module _ (x : Lent) (buffers : List ℕ) (tree : Tree) (root : Ty) (m : ℕ) (co
   -- ALL NODES
   pub every-node : (j : ℕ) → j < nodesOf (x .plan) → P j
   every-node j l =
-      from 8 root 0 columns (given .worded) (given .formed) tt (omega arith) (given .means) (stands x buffers tree root m columns dest counts room μ given) (given .obey) j (omega arith)
+      from 8 root 0 columns (given .worded) (given .formed) tt (omega arith) (given .means) (stands x buffers tree root m columns dest counters room μ given) (given .obey) j (omega arith)
       (omega (arith, given .all-nodes))

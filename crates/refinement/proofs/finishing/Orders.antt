@@ -28,24 +28,24 @@ use Rattle.refinement.proofs.opening.Stay.{joins-stay}
 use Rattle.refinement.specs.finishing.Shows.{Bodied}
 use Rattle.refinement.proofs.finishing.Given.{NamesLent, Given}
 
-module _ (x : Lent) (t : Ty) (m : ℕ) (ss : ℕ → Column t) (join : Joined x t m ss) (keep : Bool) (c0 : List ℕ) (μ0 : Memory) (d : Destination t) (counts room : List ℕ)
-    (run : Running x t m ss join keep c0 μ0 d counts room)
+module _ (x : Lent) (t : Ty) (m : ℕ) (ss : ℕ → Column t) (join : Joined x t m ss) (keep : Bool) (c0 : List ℕ) (μ0 : Memory) (d : Destination t) (counters room : List ℕ)
+    (run : Running x t m ss join keep c0 μ0 d counters room)
     (held : fits (x .plan) (x .parts) t 0 d ≡ true) where
   -- every part holds what is needed and what lies in it
-  all-bounded : (i b : ℕ) → Used (x .plan) i b → Bounded (x .plan) (x .parts) counts (run .memory) i b
+  all-bounded : (i b : ℕ) → Used (x .plan) i b → Bounded (x .plan) (x .parts) counters (run .memory) i b
   all-bounded i b u = go (free-or (x .plan) i)
     where
-      go : Dec (Free (x .plan) i) → Bounded (x .plan) (x .parts) counts (run .memory) i b
+      go : Dec (Free (x .plan) i) → Bounded (x .plan) (x .parts) counters (run .memory) i b
       go (yes y) =
           let o = first-opened x t m ss join in
-          covered (x .plan) (x .parts) (join .laid) counts (run .memory) m 8 t 0 ss d (o .worded) (o .formed) (omega arith) (run .state .fine) (run .holds) held
+          covered (x .plan) (x .parts) (join .laid) counters (run .memory) m 8 t 0 ss d (o .worded) (o .formed) (omega arith) (run .state .fine) (run .holds) held
           i b (omega arith) (omega (arith, u .node, join .all-nodes)) y (u .part)
       go (no y) = run .rest i b u y
 
   pub given-by : (buffers : List ℕ) (tree : Tree) → m ≤ 16 → Means tree t 0
       → ((i : ℕ) (b : Bool) (ids : List ℕ) → Is tree i (unionKind b ids) → (e : ℕ) → List·Memᴰ e ids → childOf (x .plan) i e ≡ nodeOf tree i ids e)
       → ((s : ℕ) → s < m → NamesLent x buffers s t 0 (ss s .body)) → ((s : ℕ) → s < m → EachView (λ v. length (v .buffers) ≤ 32) t (ss s .body)) → EntriesLent x t 0 m (λ j. ss j .body) → Joins (x .plan) t 0 m (λ j. ss j .body) c0 μ0
-      → (u : Bool) → Kept (x .plan) m t 0 u (λ j. ss j .body) → Given x buffers tree t m ss d counts room (run .memory)
+      → (u : Bool) → Kept (x .plan) m t 0 u (λ j. ss j .body) → Given x buffers tree t m ss d counters room (run .memory)
   given-by buffers tree few mn kids named few-buffers entries joins u kept =
       let o = first-opened x t m ss join in
       record {
@@ -69,7 +69,7 @@ module _ (x : Lent) (t : Ty) (m : ℕ) (ss : ℕ → Column t) (join : Joined x 
         named = named;
         few-buffers = few-buffers;
         entries = entries;
-        joins = joins-stay x m c0 counts μ0 (run .memory) (run .stay) 8 t 0 (λ j. ss j .body) (o .worded) entries joins;
+        joins = joins-stay x m c0 counters μ0 (run .memory) (run .stay) 8 t 0 (λ j. ss j .body) (o .worded) entries joins;
         root-keeps = u;
         kept = kept;
       }

@@ -63,9 +63,9 @@ unfolding after
 bit-stays [] μ i q h = refl
 bit-stays (e ∷ l) μ i q h = let g = grows-bits-one e μ i in bit-stays l (noted e μ) i q (omega arith) ∙ bit-one e μ i q h
 
-module _ (state parts : List ℕ) (Used : ℕ → ℕ → Type 0) where
+module _ (plan parts : List ℕ) (Used : ℕ → ℕ → Type 0) where
   -- what fits after a log fits before it
-  pub fits-before : (l : Log) (μ : Memory) → AllInPlace l μ → Fits state parts Used (after l μ) → Fits state parts Used μ
+  pub fits-before : (l : Log) (μ : Memory) → AllInPlace l μ → Fits plan parts Used (after l μ) → Fits plan parts Used μ
   fits-before l μ q f =
       record {
         bytes-fit = λ i b u h. le-trans (grows-at l μ q i b) (f .bytes-fit i b u h);
@@ -73,7 +73,7 @@ module _ (state parts : List ℕ) (Used : ℕ → ℕ → Type 0) where
       }
 
   -- a byte that no entry of the log writes
-  misses-one : (e : Entry) (l : Log) (μ : Memory) (p : ℕ) → AllInPlace (e ∷ l) μ → UsedEntry Used e → Outside state parts Used (e ∷ l) μ (after (e ∷ l) μ) p → Misses state parts e p
+  misses-one : (e : Entry) (l : Log) (μ : Memory) (p : ℕ) → AllInPlace (e ∷ l) μ → UsedEntry Used e → Outside plan parts Used (e ∷ l) μ (after (e ∷ l) μ) p → Misses plan parts e p
   unfolding after AllInPlace NoneOver
   misses-one (put i b o bs) l μ p q u h =
       λ x y.
@@ -89,7 +89,7 @@ module _ (state parts : List ℕ) (Used : ℕ → ℕ → Type 0) where
       h .no-bits i (u .0) (omega arith) (omega arith) (omega arith)
   misses-one (amend i b o bs) l μ p q u h = h .not-over .0
 
-  outside-rest : (e : Entry) (l : Log) (μ ν : Memory) (p : ℕ) → InPlace e μ → Outside state parts Used (e ∷ l) μ ν p → Outside state parts Used l (noted e μ) ν p
+  outside-rest : (e : Entry) (l : Log) (μ ν : Memory) (p : ℕ) → InPlace e μ → Outside plan parts Used (e ∷ l) μ ν p → Outside plan parts Used l (noted e μ) ν p
   unfolding NoneOver
   outside-rest e l μ ν p q h =
       record {
@@ -100,44 +100,44 @@ module _ (state parts : List ℕ) (Used : ℕ → ℕ → Type 0) where
 
   pub record Written (log : Log) (room : List ℕ) (μ : Memory) (room′ : List ℕ) : Type 0 where
     pub long : length room′ ≡ length room
-    pub lies : Lies state parts Used room′ (after log μ)
-    pub byte-same : (p : ℕ) → Outside state parts Used log μ (after log μ) p → getD room′ p 0 ≡ getD room p 0
+    pub lies : Lies plan parts Used room′ (after log μ)
+    pub byte-same : (p : ℕ) → Outside plan parts Used log μ (after log μ) p → getD room′ p 0 ≡ getD room p 0
 
-  pub written : (log : Log) (room : List ℕ) (μ : Memory) → Placed state parts Used (length room) → Lies state parts Used room μ → AllInPlace log μ → AllUsed Used log
-      → Fits state parts Used (after log μ) → Written log room μ (apply state parts log room)
+  pub written : (log : Log) (room : List ℕ) (μ : Memory) → Placed plan parts Used (length room) → Lies plan parts Used room μ → AllInPlace log μ → AllUsed Used log
+      → Fits plan parts Used (after log μ) → Written log room μ (apply plan parts log room)
   unfolding apply after AllInPlace AllUsed
   written [] room μ placed held q u f = record { long = refl; lies = held; byte-same = λ p h. refl }
   written (e ∷ log) room μ placed held q u f =
       let g = fits-before (e ∷ log) μ q f in
-      let s = stepped state parts Used room μ placed held g e (q .0) (u .0) (fits-before log (noted e μ) (q .1) f) in
-      let w = written log (enter state parts e room) (noted e μ) (rw (s .long) placed) (s .lies) (q .1) (u .1) f in
+      let s = stepped plan parts Used room μ placed held g e (q .0) (u .0) (fits-before log (noted e μ) (q .1) f) in
+      let w = written log (enter plan parts e room) (noted e μ) (rw (s .long) placed) (s .lies) (q .1) (u .1) f in
       record {
         long = w .long ∙ s .long;
         lies = w .lies;
         byte-same = λ p h. w .byte-same p (outside-rest e log μ (after log (noted e μ)) p (q .0) h) ∙ s .byte-same p (misses-one e log μ p q (u .0) h);
       }
 
-  module _ (log : Log) (room : List ℕ) (μ : Memory) (placed : Placed state parts Used (length room)) (held : Lies state parts Used room μ) (place : AllInPlace log μ) (used : AllUsed Used log)
-      (fits : Fits state parts Used (after log μ)) where
+  module _ (log : Log) (room : List ℕ) (μ : Memory) (placed : Placed plan parts Used (length room)) (held : Lies plan parts Used room μ) (place : AllInPlace log μ) (used : AllUsed Used log)
+      (fits : Fits plan parts Used (after log μ)) where
     -- THE ROOM HOLDS THE MEMORY after a log
-    pub room-lies : Lies state parts Used (apply state parts log room) (after log μ)
+    pub room-lies : Lies plan parts Used (apply plan parts log room) (after log μ)
     room-lies = written log room μ placed held place used fits .lies
 
-    pub room-long : length (apply state parts log room) ≡ length room
+    pub room-long : length (apply plan parts log room) ≡ length room
     room-long = written log room μ placed held place used fits .long
 
     -- "An accepted order writes what it adds ..; bytes past the used part are not written"; where a run of nulls grows, also its end
-    pub room-else : (p : ℕ) → Outside state parts Used log μ (after log μ) p → getD (apply state parts log room) p 0 ≡ getD room p 0
+    pub room-else : (p : ℕ) → Outside plan parts Used log μ (after log μ) p → getD (apply plan parts log room) p 0 ≡ getD room p 0
     room-else = written log room μ placed held place used fits .byte-same
 
     -- ".. and otherwise only the last validity byte's free bits"
     pub room-bits : (i q : ℕ) → Used i 0 → q < length (μ .bits i)
-        → getD (bits (apply state parts log room)) (8 * startOf state parts i 0 + q) 0 ≡ getD (bits room) (8 * startOf state parts i 0 + q) 0
+        → getD (bits (apply plan parts log room)) (8 * startOf plan parts i 0 + q) 0 ≡ getD (bits room) (8 * startOf plan parts i 0 + q) 0
     room-bits i q u h =
         let g = grows-bits log μ i in
-        sym (bit-in (startOf state parts i 0) (after log μ .bits i) (apply state parts log room) (room-lies .bits-lie i u) q (omega arith))
+        sym (bit-in (startOf plan parts i 0) (after log μ .bits i) (apply plan parts log room) (room-lies .bits-lie i u) q (omega arith))
         ∙ bit-stays log μ i q h
-        ∙ bit-in (startOf state parts i 0) (μ .bits i) room (held .bits-lie i u) q h
+        ∙ bit-in (startOf plan parts i 0) (μ .bits i) room (held .bits-lie i u) q h
       where
         bit-in : (start : ℕ) (vs s : List ℕ) → HasBits start vs s → (q : ℕ) → q < length vs → getD vs q 0 ≡ getD (bits s) (8 * start + q) 0
         bit-in start vs s b q h = ap (λ l. getD l q 0) (sym (b .run)) ∙ bitsAt-at (8 * start) (length vs) q s h

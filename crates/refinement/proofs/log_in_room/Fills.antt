@@ -19,107 +19,107 @@ use Rattle.refinement.proofs.log_in_room.Bytes.{bytes-encode, bytes-sam
 use Rattle.refinement.proofs.log_in_room.Uses.{Uses, uses-put, uses-amend, uses-mask, uses-done, uses-fail, uses-cond, uses-need, uses-found, uses-next}
 use Rattle.refinement.proofs.log_in_room.Found.{between-both, and-first, ends-code, child-first, child-later, child-nullable}
 
-module _ (x : Join) (In At : ℕ → Type 0) (closed : Closed (x .state) In At) where
+module _ (x : Join) (In At : ℕ → Type 0) (closed : Closed (x .plan) In At) where
   abbrev U : ℕ → ℕ → Type 0
-  U = UsedAt (x .state) At
+  U = UsedAt (x .plan) At
 
-  id-byte : (h : ℕ) → idOf (x .state) h < 256
-  id-byte h = let e : word (x .state) h 3 % 256 < 256 = omega arith in e
+  id-byte : (h : ℕ) → idOf (x .plan) h < 256
+  id-byte h = let e : word (x .plan) h 3 % 256 < 256 = omega arith in e
 
   module _ (i : ℕ) (small : i < 32) (here : At i) where
-    uses-null-mask : (n : ℕ) (c : List ℕ) → codeOf (x .state) i < 21 → Uses U (nullMask x i n c)
+    uses-null-mask : (n : ℕ) (c : List ℕ) → codeOf (x .plan) i < 21 → Uses U (nullMask x i n c)
     unfolding nullMask
     uses-null-mask n c h =
-        uses-cond U (eqb (keepsOf (x .state) i) 0) _ _ (λ e. uses-done U c)
-        (λ e. uses-next U _ _ (uses-mask (x .state) At i small here (rows c i) (replicate n 0) c (eqb-false (keepsOf (x .state) i) 0 e, h) (bits-same n 0 (omega arith)))
+        uses-cond U (eqb (keepsOf (x .plan) i) 0) _ _ (λ e. uses-done U c)
+        (λ e. uses-next U _ _ (uses-mask (x .plan) At i small here (rows c i) (replicate n 0) c (eqb-false (keepsOf (x .plan) i) 0 e, h) (bits-same n 0 (omega arith)))
         (λ c2. uses-done U _))
 
     uses-count : (n : ℕ) (c : List ℕ) → Uses U (countNulls x i n c)
     unfolding countNulls
-    uses-count n c = uses-cond U (eqb (keepsOf (x .state) i) 0) _ _ (λ e. uses-done U c) (λ e. uses-done U _)
+    uses-count n c = uses-cond U (eqb (keepsOf (x .plan) i) 0) _ _ (λ e. uses-done U c) (λ e. uses-done U _)
 
-    uses-zeros : (b w n : ℕ) (c : List ℕ) → HasBuffer (x .state) i (suc b) → Uses U (nullNumbers x i (suc b) w n c)
+    uses-zeros : (b w n : ℕ) (c : List ℕ) → HasBuffer (x .plan) i (suc b) → Uses U (nullNumbers x i (suc b) w n c)
     unfolding nullNumbers
-    uses-zeros b w n c h = uses-put (x .state) At i small here b (rows c i * w) (replicate (n * w) 0) c h (bytes-same (n * w) 0 (omega arith))
+    uses-zeros b w n c h = uses-put (x .plan) At i small here b (rows c i * w) (replicate (n * w) 0) c h (bytes-same (n * w) 0 (omega arith))
 
-    uses-null-string : (w n : ℕ) (c : List ℕ) → HasBuffer (x .state) i 1 → Uses U (nullString x i w n c)
+    uses-null-string : (w n : ℕ) (c : List ℕ) → HasBuffer (x .plan) i 1 → Uses U (nullString x i w n c)
     unfolding nullString
-    uses-null-string w n c h = uses-put (x .state) At i small here 0 (suc (rows c i) * w) _ c h (bytes-repeated w (bytes c i) n)
+    uses-null-string w n c h = uses-put (x .plan) At i small here 0 (suc (rows c i) * w) _ c h (bytes-repeated w (bytes c i) n)
 
   module _ (walk : NullWalk) (below : (k n : ℕ) (c : List ℕ) → In k → Uses U (walk k n c)) (i : ℕ) (small : i < 32) (here : In i) where
-    uses-null-views : (w n : ℕ) (c : List ℕ) → isListView (codeOf (x .state) i) ≡ true → Uses U (nullListView x walk w i n c)
+    uses-null-views : (w n : ℕ) (c : List ℕ) → isListView (codeOf (x .plan) i) ≡ true → Uses U (nullListView x walk w i n c)
     unfolding nullListView
     uses-null-views w n c h =
-        let z = between-both 17 18 (codeOf (x .state) i) h in
+        let z = between-both 17 18 (codeOf (x .plan) i) h in
         uses-next U _ _ (uses-zeros i small (closed .own i here) 0 w n c (omega (arith, z .0), omega (arith, z .1)))
         (λ c2. uses-zeros i small (closed .own i here) 1 w n c2 (refl, sizes h))
 
-    uses-null-list : (w n : ℕ) (c : List ℕ) → isList (codeOf (x .state) i) ≡ true → Uses U (nullList x walk w i n c)
+    uses-null-list : (w n : ℕ) (c : List ℕ) → isList (codeOf (x .plan) i) ≡ true → Uses U (nullList x walk w i n c)
     unfolding nullList
     uses-null-list w n c h =
-        let z = between-both 19 20 (codeOf (x .state) i) h in
+        let z = between-both 19 20 (codeOf (x .plan) i) h in
         uses-need U _ 12 c _
-        (λ e. uses-put (x .state) At i small (closed .own i here) 0 (suc (rows c i) * w) _ c (omega (arith, z .0), omega (arith, z .1)) (bytes-repeated w (rows c (suc i)) n))
+        (λ e. uses-put (x .plan) At i small (closed .own i here) 0 (suc (rows c i) * w) _ c (omega (arith, z .0), omega (arith, z .1)) (bytes-repeated w (rows c (suc i)) n))
 
-    uses-null-fields : (n fuel k : ℕ) (c : List ℕ) → isUnion (codeOf (x .state) i) ≡ true → (k < endOf (x .state) i → Child (x .state) i k)
-        → Uses U (nullFields x walk n (endOf (x .state) i) fuel k c)
+    uses-null-fields : (n fuel k : ℕ) (c : List ℕ) → isUnion (codeOf (x .plan) i) ≡ true → (k < endOf (x .plan) i → Child (x .plan) i k)
+        → Uses U (nullFields x walk n (endOf (x .plan) i) fuel k c)
     unfolding nullFields
     uses-null-fields n zero k c h d = uses-done U c
     uses-null-fields n (suc fuel) k c h d =
-        uses-cond U (ltb k (endOf (x .state) i)) _ _
-        (λ e. let f = d (ltb-true k (endOf (x .state) i) e) in
+        uses-cond U (ltb k (endOf (x .plan) i)) _ _
+        (λ e. let f = d (ltb-true k (endOf (x .plan) i) e) in
         uses-next U _ _ (below k n c (closed .child i k here h f))
-        (λ c2. uses-null-fields n fuel (endOf (x .state) k) c2 h (child-later (x .state) i k f)))
+        (λ c2. uses-null-fields n fuel (endOf (x .plan) k) c2 h (child-later (x .plan) i k f)))
         (λ e. uses-done U c)
 
-    module _ (union : isUnion (codeOf (x .state) i) ≡ true) where
-      union-code : HasBuffer (x .state) i 1
-      union-code = let z = between-both 21 22 (codeOf (x .state) i) union in (omega (arith, z .0), omega (arith, z .1))
+    module _ (union : isUnion (codeOf (x .plan) i) ≡ true) where
+      union-code : HasBuffer (x .plan) i 1
+      union-code = let z = between-both 21 22 (codeOf (x .plan) i) union in (omega (arith, z .0), omega (arith, z .1))
 
       uses-null-sparse : (n : ℕ) (c : List ℕ) → Uses U (nullSparse x walk i n c)
       unfolding nullSparse
       uses-null-sparse n c =
           uses-found U 32 _ _ c _
-          (λ l. uses-next U _ _ (uses-put (x .state) At i small (closed .own i here) 0 (rows c i) _ c union-code (bytes-same n _ (id-byte _)))
-          (λ c2. uses-null-fields n 32 (suc i) c2 union (child-first (x .state) i)))
+          (λ l. uses-next U _ _ (uses-put (x .plan) At i small (closed .own i here) 0 (rows c i) _ c union-code (bytes-same n _ (id-byte _)))
+          (λ c2. uses-null-fields n 32 (suc i) c2 union (child-first (x .plan) i)))
 
-      uses-null-dense : (n : ℕ) (c : List ℕ) → codeOf (x .state) i ≡ 22 → Uses U (nullDense x walk i n c)
+      uses-null-dense : (n : ℕ) (c : List ℕ) → codeOf (x .plan) i ≡ 22 → Uses U (nullDense x walk i n c)
       unfolding nullDense
       uses-null-dense n c q =
           uses-found U 32 _ _ c _
           (λ l. uses-need U _ 6 c _
-          (λ e. uses-next U _ _ (uses-put (x .state) At i small (closed .own i here) 0 (rows c i) _ c union-code (bytes-same n _ (id-byte _)))
-          (λ c2. uses-next U _ _ (uses-put (x .state) At i small (closed .own i here) 1 _ _ c2 (refl, positions q) (bytes-counted 4 _ n))
-          (λ c3. below _ n c3 (closed .child i _ here union (child-nullable (x .state) i 32 (suc i) (child-first (x .state) i) l))))))
+          (λ e. uses-next U _ _ (uses-put (x .plan) At i small (closed .own i here) 0 (rows c i) _ c union-code (bytes-same n _ (id-byte _)))
+          (λ c2. uses-next U _ _ (uses-put (x .plan) At i small (closed .own i here) 1 _ _ c2 (refl, positions q) (bytes-counted 4 _ n))
+          (λ c3. below _ n c3 (closed .child i _ here union (child-nullable (x .plan) i 32 (suc i) (child-first (x .plan) i) l))))))
 
     -- where a number is tested against their width, run ends have a buffer
-    run-ends : (v : ℕ) → ltb v (half (bytesOf (x .state) (suc i))) ≡ true → HasBuffer (x .state) (suc i) 1
-    run-ends v g = let z = ends-code v (codeOf (x .state) (suc i)) g in (z .0, omega (arith, z .1))
+    run-ends : (v : ℕ) → ltb v (half (bytesOf (x .plan) (suc i))) ≡ true → HasBuffer (x .plan) (suc i) 1
+    run-ends v g = let z = ends-code v (codeOf (x .plan) (suc i)) g in (z .0, omega (arith, z .1))
 
-    uses-add-run : (n : ℕ) (c : List ℕ) → codeOf (x .state) i ≡ 23 → suc (suc i) < 32 → Uses U (addRun x walk (bytesOf (x .state) (suc i)) i n c)
+    uses-add-run : (n : ℕ) (c : List ℕ) → codeOf (x .plan) i ≡ 23 → suc (suc i) < 32 → Uses U (addRun x walk (bytesOf (x .plan) (suc i)) i n c)
     unfolding addRun
     uses-add-run n c q s =
         uses-next U _ _ (below (suc (suc i)) 1 c (closed .values i here q))
-        (λ c2. uses-need U (ltb (rows c2 i + n) (half (bytesOf (x .state) (suc i)))) 7 c2 _
+        (λ c2. uses-need U (ltb (rows c2 i + n) (half (bytesOf (x .plan) (suc i)))) 7 c2 _
         (λ g. uses-next U _ _
-        (uses-put (x .state) At (suc i) (omega arith) (closed .ends i here q) 0 _ _ c2 (run-ends (rows c2 i + n) g) (bytes-encode (bytesOf (x .state) (suc i)) (rows c2 i + n)))
+        (uses-put (x .plan) At (suc i) (omega arith) (closed .ends i here q) 0 _ _ c2 (run-ends (rows c2 i + n) g) (bytes-encode (bytesOf (x .plan) (suc i)) (rows c2 i + n)))
         (λ c3. uses-done U _)))
 
-    uses-grow-run : (n : ℕ) (c : List ℕ) → codeOf (x .state) i ≡ 23 → suc (suc i) < 32 → Uses U (growRun x walk (bytesOf (x .state) (suc i)) i n c)
+    uses-grow-run : (n : ℕ) (c : List ℕ) → codeOf (x .plan) i ≡ 23 → suc (suc i) < 32 → Uses U (growRun x walk (bytesOf (x .plan) (suc i)) i n c)
     unfolding growRun
     uses-grow-run n c q s =
         uses-need U _ 12 c _
-        (λ some. uses-need U (ltb (rows c i + n) (half (bytesOf (x .state) (suc i)))) 7 c _
-        (λ g. uses-amend (x .state) At (suc i) (omega arith) (closed .ends i here q) 0 _ _ c (run-ends (rows c i + n) g) (bytes-encode (bytesOf (x .state) (suc i)) (rows c i + n))))
+        (λ some. uses-need U (ltb (rows c i + n) (half (bytesOf (x .plan) (suc i)))) 7 c _
+        (λ g. uses-amend (x .plan) At (suc i) (omega arith) (closed .ends i here q) 0 _ _ c (run-ends (rows c i + n) g) (bytes-encode (bytesOf (x .plan) (suc i)) (rows c i + n))))
 
-    uses-null-runs : (n : ℕ) (c : List ℕ) → codeOf (x .state) i ≡ 23 → Uses U (nullRuns x walk i n c)
+    uses-null-runs : (n : ℕ) (c : List ℕ) → codeOf (x .plan) i ≡ 23 → Uses U (nullRuns x walk i n c)
     unfolding nullRuns
     uses-null-runs n c q =
         uses-need U _ 12 c _
-        (λ e. let s = ltb-true (suc (suc i)) 32 (and-first _ (isWidth (bytesOf (x .state) (suc i))) e) in
+        (λ e. let s = ltb-true (suc (suc i)) 32 (and-first _ (isWidth (bytesOf (x .plan) (suc i))) e) in
         uses-cond U (eqb (gap c i) 2) _ _ (λ on. uses-grow-run n c q s) (λ off. uses-add-run n c q s))
 
-    uses-null-data : (n : ℕ) (c : List ℕ) → Uses U (nullData x walk (codeOf (x .state) i) i n c)
+    uses-null-data : (n : ℕ) (c : List ℕ) → Uses U (nullData x walk (codeOf (x .plan) i) i n c)
     unfolding nullData
     uses-null-data n c =
         uses-cond U (isFixed z) _ _
@@ -141,7 +141,7 @@ module _ (x : Join) (In At : ℕ → Type 0) (closed : Closed (x .state) In At) 
         (λ e8. uses-fail U 12 c))))))))
       where
         z : ℕ
-        z = codeOf (x .state) i
+        z = codeOf (x .plan) i
 
         at : At i
         at = closed .own i here
@@ -157,7 +157,7 @@ module _ (x : Join) (In At : ℕ → Type 0) (closed : Closed (x .state) In At) 
       (λ f. let small = ltb-true i 32 f in
       uses-next U _ _ (uses-null-data walk below i small here n c)
       (λ c2. uses-next U _ _
-      (uses-cond U (masked (codeOf (x .state) i)) _ _ (λ g. uses-null-mask i small (closed .own i here) n c2 (ltb-true (codeOf (x .state) i) 21 g))
+      (uses-cond U (masked (codeOf (x .plan) i)) _ _ (λ g. uses-null-mask i small (closed .own i here) n c2 (ltb-true (codeOf (x .plan) i) 21 g))
       (λ g. uses-count i small (closed .own i here) n c2))
       (λ c3. uses-done U _))))
 
@@ -167,5 +167,5 @@ module _ (x : Join) (In At : ℕ → Type 0) (closed : Closed (x .state) In At) 
   uses-null-walk (suc depth) i n c here = uses-null-node (nullWalk x depth) (λ k m d h. uses-null-walk depth k m d h) i n c here
 
   -- NULLS are written only into buffers that their nodes have
-  pub used-nulls : (depth i n : ℕ) (c : List ℕ) → In i → AllUsed (UsedAt (x .state) At) (nullWalk x depth i n c .log)
+  pub used-nulls : (depth i n : ℕ) (c : List ℕ) → In i → AllUsed (UsedAt (x .plan) At) (nullWalk x depth i n c .log)
   used-nulls depth i n c here = uses-null-walk depth i n c here .log-used

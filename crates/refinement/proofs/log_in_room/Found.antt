@@ -59,33 +59,33 @@ ends-code v (suc z) h = (omega arith, go (ltb (suc z) 21) refl)
 
 -- ---- children
 
-module _ (state : List ℕ) (i : ℕ) where
-  pub child-first : suc i < endOf state i → Child state i (suc i)
+module _ (plan : List ℕ) (i : ℕ) where
+  pub child-first : suc i < endOf plan i → Child plan i (suc i)
   child-first h = first h
 
-  pub child-later : (k : ℕ) → Child state i k → endOf state k < endOf state i → Child state i (endOf state k)
+  pub child-later : (k : ℕ) → Child plan i k → endOf plan k < endOf plan i → Child plan i (endOf plan k)
   child-later k c h = later k c h
 
-  pub child-with : (id fuel k : ℕ) → (k < endOf state i → Child state i k) → childWith state id (endOf state i) fuel k < 32 → Child state i (childWith state id (endOf state i) fuel k)
+  pub child-with : (id fuel k : ℕ) → (k < endOf plan i → Child plan i k) → childWith plan id (endOf plan i) fuel k < 32 → Child plan i (childWith plan id (endOf plan i) fuel k)
   unfolding childWith
   child-with id zero k c = λ h. absurd (omega arith)
-  child-with id (suc f) k c = go (ltb k (endOf state i)) refl (eqb (idOf state k) id) (λ d. child-with id f (endOf state k) d)
+  child-with id (suc f) k c = go (ltb k (endOf plan i)) refl (eqb (idOf plan k) id) (λ d. child-with id f (endOf plan k) d)
     where
-      go : (s : Bool) → ltb k (endOf state i) ≡ s → (t : Bool) → ((endOf state k < endOf state i → Child state i (endOf state k)) → childWith state id (endOf state i) f (endOf state k) < 32
-          → Child state i (childWith state id (endOf state i) f (endOf state k)))
-          → cond s (cond t k (childWith state id (endOf state i) f (endOf state k))) 32 < 32 → Child state i (cond s (cond t k (childWith state id (endOf state i) f (endOf state k))) 32)
-      go true e true r h = c (ltb-true k (endOf state i) e)
-      go true e false r h = r (later k (c (ltb-true k (endOf state i) e))) h
+      go : (s : Bool) → ltb k (endOf plan i) ≡ s → (t : Bool) → ((endOf plan k < endOf plan i → Child plan i (endOf plan k)) → childWith plan id (endOf plan i) f (endOf plan k) < 32
+          → Child plan i (childWith plan id (endOf plan i) f (endOf plan k)))
+          → cond s (cond t k (childWith plan id (endOf plan i) f (endOf plan k))) 32 < 32 → Child plan i (cond s (cond t k (childWith plan id (endOf plan i) f (endOf plan k))) 32)
+      go true e true r h = c (ltb-true k (endOf plan i) e)
+      go true e false r h = r (later k (c (ltb-true k (endOf plan i) e))) h
       go false e t r h = absurd (omega arith)
 
-  pub child-nullable : (fuel k : ℕ) → (k < endOf state i → Child state i k) → nullableChild state (endOf state i) fuel k < 32 → Child state i (nullableChild state (endOf state i) fuel k)
+  pub child-nullable : (fuel k : ℕ) → (k < endOf plan i → Child plan i k) → nullableChild plan (endOf plan i) fuel k < 32 → Child plan i (nullableChild plan (endOf plan i) fuel k)
   unfolding nullableChild
   child-nullable zero k c = λ h. absurd (omega arith)
-  child-nullable (suc f) k c = go (ltb k (endOf state i)) refl (eqb (nullableOf state k) 1) (λ d. child-nullable f (endOf state k) d)
+  child-nullable (suc f) k c = go (ltb k (endOf plan i)) refl (eqb (nullableOf plan k) 1) (λ d. child-nullable f (endOf plan k) d)
     where
-      go : (s : Bool) → ltb k (endOf state i) ≡ s → (t : Bool) → ((endOf state k < endOf state i → Child state i (endOf state k)) → nullableChild state (endOf state i) f (endOf state k) < 32
-          → Child state i (nullableChild state (endOf state i) f (endOf state k)))
-          → cond s (cond t k (nullableChild state (endOf state i) f (endOf state k))) 32 < 32 → Child state i (cond s (cond t k (nullableChild state (endOf state i) f (endOf state k))) 32)
-      go true e true r h = c (ltb-true k (endOf state i) e)
-      go true e false r h = r (later k (c (ltb-true k (endOf state i) e))) h
+      go : (s : Bool) → ltb k (endOf plan i) ≡ s → (t : Bool) → ((endOf plan k < endOf plan i → Child plan i (endOf plan k)) → nullableChild plan (endOf plan i) f (endOf plan k) < 32
+          → Child plan i (nullableChild plan (endOf plan i) f (endOf plan k)))
+          → cond s (cond t k (nullableChild plan (endOf plan i) f (endOf plan k))) 32 < 32 → Child plan i (cond s (cond t k (nullableChild plan (endOf plan i) f (endOf plan k))) 32)
+      go true e true r h = c (ltb-true k (endOf plan i) e)
+      go true e false r h = r (later k (c (ltb-true k (endOf plan i) e))) h
       go false e t r h = absurd (omega arith)

@@ -14,19 +14,19 @@ use Rattle.refinement.proofs.log_in_room.Fills.{used-nulls}
 use Rattle.refinement.proofs.log_in_room.Closure.{closed-free}
 
 -- all nodes: what the words alone say
-pub closed-all : (state : List ℕ) → Closed state (λ j. Unit {0}) (λ j. Unit {0})
-closed-all state = record { own = λ i u. tt; item = λ i u h. tt; child = λ i k u h c. tt; ends = λ i u h. tt; values = λ i u h. tt }
+pub closed-all : (plan : List ℕ) → Closed plan (λ j. Unit {0}) (λ j. Unit {0})
+closed-all plan = record { own = λ i u. tt; item = λ i u h. tt; child = λ i k u h c. tt; ends = λ i u h. tt; values = λ i u h. tt }
 
-module _ (x : Join) (k : ℕ) (t : Ty) (i : ℕ) (worded : Worded (x .state) k t i) (free : Free (x .state) i) (table : Tabled (x .state) (endOf (x .state) i)) where
+module _ (x : Join) (k : ℕ) (t : Ty) (i : ℕ) (worded : Worded (x .plan) k t i) (free : Free (x .plan) i) (table : Tabled (x .plan) (endOf (x .plan) i)) where
   -- a buffer of a node of the type, its dictionaries' values aside
   abbrev pub Own : ℕ → ℕ → Type 0
-  Own = UsedAt (x .state) (λ j. Among i (endOf (x .state) i) j × Free (x .state) j)
+  Own = UsedAt (x .plan) (λ j. Among i (endOf (x .plan) i) j × Free (x .plan) j)
 
-  root : Typed (x .state) i (endOf (x .state) i) i × Free (x .state) i
-  root = (typed k t worded (le-refl i) (le-refl (endOf (x .state) i)), free)
+  root : Typed (x .plan) i (endOf (x .plan) i) i × Free (x .plan) i
+  root = (typed k t worded (le-refl i) (le-refl (endOf (x .plan) i)), free)
 
   pub copy-used : AllBelow 256 (x .body) → (depth a n : ℕ) (c : List ℕ) → AllUsed Own (copyWalk x depth i a n c .log)
-  copy-used body depth a n c = used-copies x _ _ (closed-free (x .state) i (endOf (x .state) i) table) body depth i a n c root
+  copy-used body depth a n c = used-copies x _ _ (closed-free (x .plan) i (endOf (x .plan) i) table) body depth i a n c root
 
   pub nulls-used : (depth n : ℕ) (c : List ℕ) → AllUsed Own (nullWalk x depth i n c .log)
-  nulls-used depth n c = used-nulls x _ _ (closed-free (x .state) i (endOf (x .state) i) table) depth i n c root
+  nulls-used depth n c = used-nulls x _ _ (closed-free (x .plan) i (endOf (x .plan) i) table) depth i n c root

@@ -92,10 +92,10 @@ module _ (start : ℕ) (l : List Bool) (room : List ℕ) (h : HasBits start (map
       n1 = length-take-le m (drop start room) (rw length-drop (omega arith))
 
 -- the validity of a node, where the room holds the memory
-pub lies-pack : (state parts : List ℕ) (Used : ℕ → ℕ → Type 0) (room : List ℕ) (μ : Memory) → Placed state parts Used (length room) → Lies state parts Used room μ → Fits state parts Used μ
-    → (i : ℕ) → Used i 0 → (l : List Bool) → μ .bits i ≡ map flag l → take ((length l + 7) / 8) (drop (startOf state parts i 0) room) ≡ pack l
-lies-pack state parts Used room μ placed held fits i u l e =
+pub lies-pack : (plan parts : List ℕ) (Used : ℕ → ℕ → Type 0) (room : List ℕ) (μ : Memory) → Placed plan parts Used (length room) → Lies plan parts Used room μ → Fits plan parts Used μ
+    → (i : ℕ) → Used i 0 → (l : List Bool) → μ .bits i ≡ map flag l → take ((length l + 7) / 8) (drop (startOf plan parts i 0) room) ≡ pack l
+lies-pack plan parts Used room μ placed held fits i u l e =
     let n : length (map flag l) ≡ length l = length-map l flag in
-    let f : length (map flag l) ≤ 8 * sizeOf state parts i 0 = rw e at (fits .bits-fit i u) in
+    let f : length (map flag l) ≤ 8 * sizeOf plan parts i 0 = rw e at (fits .bits-fit i u) in
     let p = placed .inside i 0 u in
-    has-pack (startOf state parts i 0) l room (rw e at (held .bits-lie i u)) (held .are-bytes) (omega arith)
+    has-pack (startOf plan parts i 0) l room (rw e at (held .bits-lie i u)) (held .are-bytes) (omega arith)

@@ -57,7 +57,7 @@ module _ (Used : ℕ → ℕ → Type 0) where
   pub uses-next : (o : Out) (k : List ℕ → Out) → Uses o → ((c : List ℕ) → Uses (k c)) → Uses (next o k)
   unfolding next
   uses-next o k u h =
-      uses-cond (eqb (o .ans) 0) _ o (λ e. record { log-used = used-append (o .log) (k (o .counts) .log) (u .log-used) (h (o .counts) .log-used) }) (λ e. u)
+      uses-cond (eqb (o .ans) 0) _ o (λ e. record { log-used = used-append (o .log) (k (o .counters) .log) (u .log-used) (h (o .counters) .log-used) }) (λ e. u)
 
   pub uses-each : (f : ℕ → List ℕ → Out) → ((r : ℕ) (c : List ℕ) → Uses (f r c)) → (n r : ℕ) (c : List ℕ) → Uses (each f n r c)
   unfolding each
@@ -65,12 +65,12 @@ module _ (Used : ℕ → ℕ → Type 0) where
   uses-each f h (suc n) r c = uses-next (f r c) (λ c2. each f n (suc r) c2) (h r c) (λ c2. uses-each f h n (suc r) c2)
 
 -- a write into a buffer that its node has
-module _ (state : List ℕ) (At : ℕ → Type 0) (i : ℕ) (small : i < 32) (here : At i) where
-  pub uses-put : (b o : ℕ) (bs c : List ℕ) → HasBuffer state i (suc b) → AllBelow 256 bs → Uses (UsedAt state At) (wrote (put i (suc b) o bs) c)
-  uses-put b o bs c h q = uses-wrote (UsedAt state At) (put i (suc b) o bs) c (record { node = here; small = small; buffer = h }, omega arith, q)
+module _ (plan : List ℕ) (At : ℕ → Type 0) (i : ℕ) (small : i < 32) (here : At i) where
+  pub uses-put : (b o : ℕ) (bs c : List ℕ) → HasBuffer plan i (suc b) → AllBelow 256 bs → Uses (UsedAt plan At) (wrote (put i (suc b) o bs) c)
+  uses-put b o bs c h q = uses-wrote (UsedAt plan At) (put i (suc b) o bs) c (record { node = here; small = small; buffer = h }, omega arith, q)
 
-  pub uses-amend : (b o : ℕ) (bs c : List ℕ) → HasBuffer state i (suc b) → AllBelow 256 bs → Uses (UsedAt state At) (wrote (amend i (suc b) o bs) c)
-  uses-amend b o bs c h q = uses-wrote (UsedAt state At) (amend i (suc b) o bs) c (record { node = here; small = small; buffer = h }, omega arith, q)
+  pub uses-amend : (b o : ℕ) (bs c : List ℕ) → HasBuffer plan i (suc b) → AllBelow 256 bs → Uses (UsedAt plan At) (wrote (amend i (suc b) o bs) c)
+  uses-amend b o bs c h q = uses-wrote (UsedAt plan At) (amend i (suc b) o bs) c (record { node = here; small = small; buffer = h }, omega arith, q)
 
-  pub uses-mask : (p : ℕ) (vs c : List ℕ) → HasBuffer state i 0 → AllBelow 2 vs → Uses (UsedAt state At) (wrote (mask i p vs) c)
-  uses-mask p vs c h q = uses-wrote (UsedAt state At) (mask i p vs) c (record { node = here; small = small; buffer = h }, q)
+  pub uses-mask : (p : ℕ) (vs c : List ℕ) → HasBuffer plan i 0 → AllBelow 2 vs → Uses (UsedAt plan At) (wrote (mask i p vs) c)
+  uses-mask p vs c h q = uses-wrote (UsedAt plan At) (mask i p vs) c (record { node = here; small = small; buffer = h }, q)

@@ -257,8 +257,8 @@ module _ (x : Lent) (m : ℕ) (few : m ≤ 16) (count-is : sourceCount (x .plan)
           (need (keysHold x i) 8 c2 (Rattle.walk.specs.Log.done c2))
       last t c2 ν j q = goes-guard (allKeysFit k m m ss) (keysHold x i) 8 c2 (omega arith) (keys-hold t b) (λ t. goes-done tt c2 (j, q))
 
-      counts : entriesFit m ss ≡ true → shared m ss ≡ false → entriesBefore ss m ≤ top
-      counts t e = let g : false || leb (entriesBefore ss m) top ≡ true = rw e at t in leb-true _ _ g
+      counters : entriesFit m ss ≡ true → shared m ss ≡ false → entriesBefore ss m ≤ top
+      counters t e = let g : false || leb (entriesBefore ss m) top ≡ true = rw e at t in leb-true _ _ g
 
       go : entriesFit m ss ≡ true → (b : Bool) → shared m ss ≡ b
           → Goes μ (Settled c μ) (then (keptOr b) (λ v. guard (allKeysFit k m m ss) 8 (done tt)))
@@ -269,5 +269,5 @@ module _ (x : Lent) (m : ℕ) (few : m ≤ 16) (count-is : sourceCount (x .plan)
       go t false e =
           goes-then _ _
           (goes-wrap {R = λ v c2 ν. IsJoined c2 ν × Kept (suc i) (suc (suc i)) c c2 μ ν} (freezeNode true (λ b. b)) (λ d c2 ν q. ((d, q .1, q .0 .holds), q .0 .kept))
-          (goes-known (entries-join (counts t e) c μ long keeps-is (f (values-copied (x .plan) i (shared m ss) d w e)))))
+          (goes-known (entries-join (counters t e) c μ long keeps-is (f (values-copied (x .plan) i (shared m ss) d w e)))))
           (λ v c2 ν q. last t c2 ν (λ n. q .0) (q .1))

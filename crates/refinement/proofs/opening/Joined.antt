@@ -51,25 +51,25 @@ use Rattle.refinement.proofs.opening.Taken.{some-sources, few-sources, 
 
 -- ---- the children of unions by the plan
 
-module _ (formats schema : List ℕ) (first n : ℕ) (state : List ℕ)
-    (ty : typed formats schema first n ≡ true) (low : ceilings formats schema first n ≡ true) (words : Planted state formats schema first n) where
+module _ (formats schema : List ℕ) (first n : ℕ) (plan : List ℕ)
+    (ty : typed formats schema first n ≡ true) (low : ceilings formats schema first n ≡ true) (words : Planted plan formats schema first n) where
   abbrev tree : Tree
   tree = treeOf formats schema first n
 
-  same-node : (i : ℕ) (b : Bool) (ids : List ℕ) → Is tree i (unionKind b ids) → (e : ℕ) → List·Memᴰ e ids → nodeOf tree i ids e ≡ childOf state i e
-  same-node i b ids h e q = sym (child-node formats schema first n state ty low words i (h .0) b ids (h .1) e q)
+  same-node : (i : ℕ) (b : Bool) (ids : List ℕ) → Is tree i (unionKind b ids) → (e : ℕ) → List·Memᴰ e ids → nodeOf tree i ids e ≡ childOf plan i e
+  same-node i b ids h e q = sym (child-node formats schema first n plan ty low words i (h .0) b ids (h .1) e q)
 
-  kept-below : (m : ℕ) (u : Ty) (i : ℕ) (b : Bool) (bodies : ℕ → Body u) → Means tree u i → OpenedBelow state tree m u i b bodies → Kept state m u i b bodies
+  kept-below : (m : ℕ) (u : Ty) (i : ℕ) (b : Bool) (bodies : ℕ → Body u) → Means tree u i → OpenedBelow plan tree m u i b bodies → Kept plan m u i b bodies
   kept-below m (tPlain p) i b bodies h o = tt
   kept-below m tView i b bodies h o = o
   kept-below m (tListView w u) i b bodies h o = (o .0, kept-below m u (suc i) _ _ (h .1) (o .1))
   kept-below m (tList w u) i b bodies h o = (o .0, kept-below m u (suc i) _ _ (h .1) (o .1))
   kept-below m (tSparse ids nullable f) i b bodies h o = λ c q.
-      subst (λ k. (keepsOf state k ≡ flag (keeps b m (λ s. bodies s .children c))) × Kept state m (f c) k (keeps b m (λ s. bodies s .children c)) (λ s. bodies s .children c .body))
+      subst (λ k. (keepsOf plan k ≡ flag (keeps b m (λ s. bodies s .children c))) × Kept plan m (f c) k (keeps b m (λ s. bodies s .children c)) (λ s. bodies s .children c .body))
       (same-node i true ids (h .0) c q)
       (o c q .0, kept-below m (f c) (nodeOf tree i ids c) _ _ (h .1 c q .1) (o c q .1))
   kept-below m (tDense ids nullable f) i b bodies h o = λ c q.
-      subst (λ k. (keepsOf state k ≡ flag (keeps b m (λ s. bodies s .children c))) × Kept state m (f c) k (keeps b m (λ s. bodies s .children c)) (λ s. bodies s .children c .body))
+      subst (λ k. (keepsOf plan k ≡ flag (keeps b m (λ s. bodies s .children c))) × Kept plan m (f c) k (keeps b m (λ s. bodies s .children c)) (λ s. bodies s .children c .body))
       (same-node i false ids (h .0) c q)
       (o c q .0, kept-below m (f c) (nodeOf tree i ids c) _ _ (h .1 c q .1) (o c q .1))
   kept-below m (tRunEnd w u) i b bodies h o = (o .0, o .1, kept-below m u (suc (suc i)) _ _ (h .2) (o .2))
@@ -113,18 +113,18 @@ module _ {P : Type 0} (k : Number) (m : ℕ) (ds : ℕ → Dictionary P) where
       omega arith
 
 -- WHERE GROUND 8 DOES NOT STAND, the words of a plan have the bases
-based-by : (state : List ℕ) (m : ℕ) (u : Ty) (i : ℕ) (b : Bool) (bodies : ℕ → Body u) → Kept state m u i b bodies → openData u m bodies ≡ done tt → (s : ℕ) → s < m
-    → Based state s u i m bodies
-based-by state m (tPlain p) i b bodies h o s l = tt
-based-by state m tView i b bodies h o s l = h s l
-based-by state m (tListView w u) i b bodies h o s l = based-by state m u (suc i) _ _ (h .1) o s l
-based-by state m (tList w u) i b bodies h o s l = based-by state m u (suc i) _ _ (h .1) o s l
-based-by state m (tSparse ids nullable f) i b bodies h o s l = λ c q.
-    based-by state m (f c) (childOf state i c) _ _ (h c q .1) (opened-each ids (λ c. openData (f c) m (λ j. bodies j .children c .body)) o c q) s l
-based-by state m (tDense ids nullable f) i b bodies h o s l = λ c q.
-    based-by state m (f c) (childOf state i c) _ _ (h c q .1) (opened-each ids (λ c. openData (f c) m (λ j. bodies j .children c .body)) o c q) s l
-based-by state m (tRunEnd w u) i b bodies h o s l = based-by state m u (suc (suc i)) _ _ (h .2) o s l
-based-by state m (tDictionary k p) i b bodies h o s l = h .2 s l ∙ not-capped k m bodies (then-guard (theDictionary p m bodies) (allKeysFit k m m bodies) 8 (guard-done (entriesFit m bodies) 6 _ tt o .1)) s l
+based-by : (plan : List ℕ) (m : ℕ) (u : Ty) (i : ℕ) (b : Bool) (bodies : ℕ → Body u) → Kept plan m u i b bodies → openData u m bodies ≡ done tt → (s : ℕ) → s < m
+    → Based plan s u i m bodies
+based-by plan m (tPlain p) i b bodies h o s l = tt
+based-by plan m tView i b bodies h o s l = h s l
+based-by plan m (tListView w u) i b bodies h o s l = based-by plan m u (suc i) _ _ (h .1) o s l
+based-by plan m (tList w u) i b bodies h o s l = based-by plan m u (suc i) _ _ (h .1) o s l
+based-by plan m (tSparse ids nullable f) i b bodies h o s l = λ c q.
+    based-by plan m (f c) (childOf plan i c) _ _ (h c q .1) (opened-each ids (λ c. openData (f c) m (λ j. bodies j .children c .body)) o c q) s l
+based-by plan m (tDense ids nullable f) i b bodies h o s l = λ c q.
+    based-by plan m (f c) (childOf plan i c) _ _ (h c q .1) (opened-each ids (λ c. openData (f c) m (λ j. bodies j .children c .body)) o c q) s l
+based-by plan m (tRunEnd w u) i b bodies h o s l = based-by plan m u (suc (suc i)) _ _ (h .2) o s l
+based-by plan m (tDictionary k p) i b bodies h o s l = h .2 s l ∙ not-capped k m bodies (then-guard (theDictionary p m bodies) (allKeysFit k m m bodies) 8 (guard-done (entriesFit m bodies) 6 _ tt o .1)) s l
 
 -- ---- an accepted opening
 

@@ -1,4 +1,4 @@
--- How a planned state of a type tree that passes stands: its nodes as a walk wants them, and its parts numbered and placed. Assumes nothing.
+-- How a plan of a type tree that passes stands: its nodes as a walk wants them, and its parts numbered and placed. Assumes nothing.
 use mathlib.Core.Path.{_≡_, refl, ap, sym, subst, _∙_}
 use mathlib.Core.Bool.{Bool, true, false, cond, _&&_}
 use mathlib.Core.List.{List}
@@ -36,7 +36,7 @@ use Rattle.columns.specs.Grounds.{ceiling, smallBody, fewSources, allWithin, al
 use Rattle.columns.proofs.Grounds.{within-low, within-at, typed-at}
 use Rattle.plan.specs.Plan.{keepWord, isEnds, planned}
 use Rattle.plan.proofs.Codes as kinds
-use Rattle.plan.proofs.Words.{state-length, word-is, keep-is, parts-are, sources-are, nodes-are, numbered-is}
+use Rattle.plan.proofs.Words.{plan-length, word-is, keep-is, parts-are, sources-are, nodes-are, numbered-is}
 use Rattle.refinement.specs.orders.Sound.{nestedIn, endsSound, kindSound, nodeSound, planSound}
 use Rattle.refinement.proofs.orders.Cover.{Laid}
 use Rattle.refinement.proofs.orders.Placed.{placed-by}
@@ -78,31 +78,31 @@ unfolding whole
 whole-end schema first n w =
     eqb-true (schemaTree.endOf schema first n 0) n (both (leb 1 n && eqb (dueFrom schema first n 1 0) 0) (eqb (schemaTree.endOf schema first n 0) n) w .1)
 
--- ---- a state that has the words of a type tree
+-- ---- A plan that has the words of a type tree
 
-module _ (formats schema : List ℕ) (first n : ℕ) (state : List ℕ)
-    (t : typed formats schema first n ≡ true) (c : ceilings formats schema first n ≡ true) (p : Planted state formats schema first n) where
+module _ (formats schema : List ℕ) (first n : ℕ) (plan : List ℕ)
+    (t : typed formats schema first n ≡ true) (c : ceilings formats schema first n ≡ true) (p : Planted plan formats schema first n) where
   abbrev code : ℕ → ℕ
   code i = schemaTree.codeOf formats schema first i
 
   tree : whole schema first n ≡ true
   tree = typed-whole formats schema first n t
 
-  pub root-end : endOf state 0 ≡ n
-  root-end = end-is formats schema first n state t c p 0 (some-node formats schema first n tree) ∙ whole-end schema first n tree
+  pub root-end : endOf plan 0 ≡ n
+  root-end = end-is formats schema first n plan t c p 0 (some-node formats schema first n tree) ∙ whole-end schema first n tree
 
   module _ (i : ℕ) (l : i < n) where
     is-shape : shape formats schema first i ≡ true
     is-shape = typed-shape formats schema first n t i l
 
-    same-code : codeOf state i ≡ code i
-    same-code = code-is formats schema first n state t c p i l
+    same-code : codeOf plan i ≡ code i
+    same-code = code-is formats schema first n plan t c p i l
 
-    same-dictionary : dictionaryOf state i ≡ dictionary schema first i
-    same-dictionary = dictionary-is formats schema first n state t c p i l
+    same-dictionary : dictionaryOf plan i ≡ dictionary schema first i
+    same-dictionary = dictionary-is formats schema first n plan t c p i l
 
-    same-end : endOf state i ≡ schemaTree.endOf schema first n i
-    same-end = end-is formats schema first n state t c p i l
+    same-end : endOf plan i ≡ schemaTree.endOf schema first n i
+    same-end = end-is formats schema first n plan t c p i l
 
     next-at : (k : NodeKind) → kindAt formats schema first i ≡ k → Next formats schema first i k
     next-at k e = subst (Next formats schema first i) e (next-of formats schema first i (shaped formats schema first i is-shape))
@@ -111,14 +111,14 @@ module _ (formats schema : List ℕ) (first n : ℕ) (state : List ℕ)
     next-in h = subst (λ k. k < n) (first-child formats schema first n i) (child-inside schema first n tree i 0 l h)
 
     -- a node with b subtrees below it ends where the next would begin
-    end-by : (b : ℕ) → below schema first i ≡ b → endOf state i ≡ childAt schema first n i b
+    end-by : (b : ℕ) → below schema first i ≡ b → endOf plan i ≡ childAt schema first n i b
     end-by b e = same-end ∙ sym (children-end schema first n i l) ∙ ap (childAt schema first n i) e
 
-    leaf-end : below schema first i ≡ 0 → endOf state i ≡ suc i
+    leaf-end : below schema first i ≡ 0 → endOf plan i ≡ suc i
     leaf-end z = end-by 0 z ∙ first-child formats schema first n i
 
     -- keys
-    module _ (d : dictionaryOf state i ≡ 0 → ⊥) where
+    module _ (d : dictionaryOf plan i ≡ 0 → ⊥) where
       fixed-keys : isFixed (code i) ≡ true
       fixed-keys = go (isFixed (code i)) refl
         where
@@ -129,12 +129,12 @@ module _ (formats schema : List ℕ) (first n : ℕ) (state : List ℕ)
       below-keys : (below schema first i ≡ 1) × (below schema first (suc i) ≡ 0)
       below-keys = next-at (dictionaryNode _) (at-keys formats schema first i fixed-keys (ne-eqb (dictionary schema first i) 0 (λ e. d (same-dictionary ∙ e))))
 
-      keys-end : endOf state i ≡ suc (suc i)
+      keys-end : endOf plan i ≡ suc (suc i)
       keys-end =
           end-by 1 (below-keys .0) ∙ second-child formats schema first n i (next-in (omega (arith, below-keys .0))) (below-keys .1)
 
     -- a run-end node
-    module _ (e : codeOf state i ≡ 23) where
+    module _ (e : codeOf plan i ≡ 23) where
       below-run : Ends formats schema first i
       below-run = next-at (runEndNode _) (at-run formats schema first i (ap isRunEnd (sym same-code ∙ e)))
 
@@ -142,7 +142,7 @@ module _ (formats schema : List ℕ) (first n : ℕ) (state : List ℕ)
       ends-in = next-in (omega (arith, below-run .two))
 
     -- numbers and byte strings
-    plain-below : codeOf state i < 15 → dictionaryOf state i ≡ 0 → below schema first i ≡ 0
+    plain-below : codeOf plan i < 15 → dictionaryOf plan i ≡ 0 → below schema first i ≡ 0
     plain-below h d = go (decLt (code i) 11)
       where
         low : 1 ≤ code i
@@ -155,21 +155,21 @@ module _ (formats schema : List ℕ) (first n : ℕ) (state : List ℕ)
         go (no y) =
             next-at (stringNode _) (at-string formats schema first i (rw (le-leb 11 (code i) (omega arith), le-leb (code i) 14 (omega (arith, same-code)))))
 
-    view-below : isView (codeOf state i) ≡ true → below schema first i ≡ 0
+    view-below : isView (codeOf plan i) ≡ true → below schema first i ≡ 0
     view-below v = next-at viewNode (at-view formats schema first i (sym (ap isView same-code) ∙ v))
 
-  run-fixed : (i : ℕ) → i < n → codeOf state i ≡ 23 → isFixed (codeOf state (suc i)) ≡ true
+  run-fixed : (i : ℕ) → i < n → codeOf plan i ≡ 23 → isFixed (codeOf plan (suc i)) ≡ true
   run-fixed i l e =
       let r = below-run i l e in
       let h = ends-in i l e in
       ap isFixed (same-code (suc i) h)
       ∙ subst (Coded (code (suc i)) (eqb (dictionary schema first (suc i)) 0) (idsOf formats schema first (suc i)) (code (suc (suc i)))) (r .kind)
-      (coded-is formats schema first n state t c p (suc i) h) .0
+      (coded-is formats schema first n plan t c p (suc i) h) .0
 
-  run-single : (i : ℕ) → i < n → codeOf state i ≡ 23 → dictionaryOf state (suc i) ≡ 0
+  run-single : (i : ℕ) → i < n → codeOf plan i ≡ 23 → dictionaryOf plan (suc i) ≡ 0
   run-single i l e = same-dictionary (suc i) (ends-in i l e) ∙ no-dictionary formats schema first (suc i) (below-run i l e .none-below)
 
-  nested : (i j : ℕ) → i < j → j < endOf state i → endOf state i ≤ n → endOf state j ≤ endOf state i
+  nested : (i j : ℕ) → i < j → j < endOf plan i → endOf plan i ≤ n → endOf plan j ≤ endOf plan i
   nested i j a b h =
       let k : j < n = omega arith in
       let l : i < n = omega arith in
@@ -177,7 +177,7 @@ module _ (formats schema : List ℕ) (first n : ℕ) (state : List ℕ)
       omega (arith, same-end j k, depths.nested schema first n j i (omega arith) (omega arith))
 
   -- THE NODES STAND WELL, where run ends keep no nulls
-  pub laid-by : ((i : ℕ) → suc i < n → codeOf state i ≡ 23 → keepsOf state (suc i) ≡ 0) → Laid state
+  pub laid-by : ((i : ℕ) → suc i < n → codeOf plan i ≡ 23 → keepsOf plan (suc i) ≡ 0) → Laid plan
   laid-by keeps =
       let r = root-end in
       record {
@@ -199,96 +199,96 @@ module _ (formats schema : List ℕ) (first n : ℕ) (state : List ℕ)
   only-if false b h = refl
 
   module _ (i : ℕ) (l : i < n) where
-    rises : i < endOf state i
+    rises : i < endOf plan i
     rises = let e = same-end i l in omega (arith, end-after schema first n i l)
 
-    inside : endOf state i ≤ n
+    inside : endOf plan i ≤ n
     inside = let e = same-end i l in omega (arith, end-inside schema first n i (omega arith))
 
-    child-in : (k : ℕ) → k < below schema first i → childAt schema first n i k < endOf state i
+    child-in : (k : ℕ) → k < below schema first i → childAt schema first n i k < endOf plan i
     child-in k h = let e = same-end i l in omega (arith, depths.child-before schema first n tree i k l h)
 
     -- a list-view or a list has one child
-    one-below : hasItem (codeOf state i) ≡ true → below schema first i ≡ 1
-    one-below h = go (leb (codeOf state i) 18) refl
+    one-below : hasItem (codeOf plan i) ≡ true → below schema first i ≡ 1
+    one-below h = go (leb (codeOf plan i) 18) refl
       where
-        b : (17 ≤ codeOf state i) × (codeOf state i ≤ 20)
-        b = between-both 17 20 (codeOf state i) h
+        b : (17 ≤ codeOf plan i) × (codeOf plan i ≤ 20)
+        b = between-both 17 20 (codeOf plan i) h
 
-        go : (t : Bool) → leb (codeOf state i) 18 ≡ t → below schema first i ≡ 1
+        go : (t : Bool) → leb (codeOf plan i) 18 ≡ t → below schema first i ≡ 1
         go true e =
-            let v : isListView (codeOf state i) ≡ true = rw (le-leb 17 (codeOf state i) (b .0), e) refl in
+            let v : isListView (codeOf plan i) ≡ true = rw (le-leb 17 (codeOf plan i) (b .0), e) refl in
             next-at i l (listViewNode (widthOf (code i))) (at-list formats schema first i (sym (ap isListView (same-code i l)) ∙ v))
         go false e =
-            let v : isList (codeOf state i) ≡ true = rw (le-leb 19 (codeOf state i) (omega (arith, leb-false (codeOf state i) 18 e)), le-leb (codeOf state i) 20 (b .1)) refl in
+            let v : isList (codeOf plan i) ≡ true = rw (le-leb 19 (codeOf plan i) (omega (arith, leb-false (codeOf plan i) 18 e)), le-leb (codeOf plan i) 20 (b .1)) refl in
             next-at i l (listNode (widthOf (code i))) (at-lists formats schema first i (sym (ap isList (same-code i l)) ∙ v))
 
-    item-in : hasItem (codeOf state i) ≡ true → suc i < endOf state i
-    item-in h = let e = one-below h in subst (λ k. k < endOf state i) (first-child formats schema first n i) (child-in 0 (omega arith))
+    item-in : hasItem (codeOf plan i) ≡ true → suc i < endOf plan i
+    item-in h = let e = one-below h in subst (λ k. k < endOf plan i) (first-child formats schema first n i) (child-in 0 (omega arith))
 
     -- the last node of a subtree has no dictionary
-    last-single : (k : ℕ) → endOf state i ≡ suc k → dictionaryOf state k ≡ 0
-    last-single k e = go (eqb (dictionaryOf state k) 0) refl (decLt i k)
+    last-single : (k : ℕ) → endOf plan i ≡ suc k → dictionaryOf plan k ≡ 0
+    last-single k e = go (eqb (dictionaryOf plan k) 0) refl (decLt i k)
       where
         low : k < n
         low = omega (arith, inside)
 
-        go : (b : Bool) → eqb (dictionaryOf state k) 0 ≡ b → Dec (i < k) → dictionaryOf state k ≡ 0
+        go : (b : Bool) → eqb (dictionaryOf plan k) 0 ≡ b → Dec (i < k) → dictionaryOf plan k ≡ 0
         go true f d = eqb-true _ _ f
         go false f (yes y) = absurd (omega (arith, inside, keys-end k low (eqb-false _ _ f), nested i k y (omega arith) inside))
-        go false f (no y) = let g : k ≡ i = omega (arith, rises) in absurd (let h : endOf state k ≡ suc k = rw g (rw g at e) in omega (arith, keys-end k low (eqb-false _ _ f)))
+        go false f (no y) = let g : k ≡ i = omega (arith, rises) in absurd (let h : endOf plan k ≡ suc k = rw g (rw g at e) in omega (arith, keys-end k low (eqb-false _ _ f)))
 
-    next-copied : (e : ℕ) → endOf state i ≡ e → copied state e ≡ true
+    next-copied : (e : ℕ) → endOf plan i ≡ e → copied plan e ≡ true
     unfolding copied
     next-copied zero e = refl
     next-copied (suc k) e = rw (last-single k e)
 
-    no-keys : 10 < codeOf state i → dictionaryOf state i ≡ 0
-    no-keys h = go (eqb (dictionaryOf state i) 0) refl
+    no-keys : 10 < codeOf plan i → dictionaryOf plan i ≡ 0
+    no-keys h = go (eqb (dictionaryOf plan i) 0) refl
       where
-        go : (b : Bool) → eqb (dictionaryOf state i) 0 ≡ b → dictionaryOf state i ≡ 0
+        go : (b : Bool) → eqb (dictionaryOf plan i) 0 ≡ b → dictionaryOf plan i ≡ 0
         go true f = eqb-true _ _ f
         go false f = absurd (let z = between-both 1 10 (code i) (fixed-keys i l (eqb-false _ _ f)) in omega (arith, z .1, same-code i l))
 
-    run-in : codeOf state i ≡ 23 → suc (suc i) < endOf state i
+    run-in : codeOf plan i ≡ 23 → suc (suc i) < endOf plan i
     run-in e =
         let r = below-run i l e in
         let two = r .two in
-        subst (λ k. k < endOf state i) (second-child formats schema first n i (ends-in i l e) (r .none-below)) (child-in 1 (omega arith))
+        subst (λ k. k < endOf plan i) (second-child formats schema first n i (ends-in i l e) (r .none-below)) (child-in 1 (omega arith))
 
-    ends-sound : codeOf state i ≡ 23 → endsSound state i ≡ true
+    ends-sound : codeOf plan i ≡ 23 → endsSound plan i ≡ true
     unfolding endsSound
     ends-sound e = rw (lt-ltb _ _ (run-in e), run-single i l e, run-fixed i l e)
 
-    kind-sound : kindSound state i ≡ true
+    kind-sound : kindSound plan i ≡ true
     unfolding kindSound
-    kind-sound = go (leb (codeOf state i) 10) refl
+    kind-sound = go (leb (codeOf plan i) 10) refl
       where
-        shaped-by : (a b : Bool) → hasItem (codeOf state i) ≡ a → isRunEnd (codeOf state i) ≡ b → cond a (ltb (suc i) (endOf state i)) (cond b (endsSound state i) true) ≡ true
-        shaped-by true b f g = lt-ltb (suc i) (endOf state i) (item-in f)
-        shaped-by false true f g = ends-sound (let z = between-both 23 23 (codeOf state i) g in omega (arith, z .0, z .1))
+        shaped-by : (a b : Bool) → hasItem (codeOf plan i) ≡ a → isRunEnd (codeOf plan i) ≡ b → cond a (ltb (suc i) (endOf plan i)) (cond b (endsSound plan i) true) ≡ true
+        shaped-by true b f g = lt-ltb (suc i) (endOf plan i) (item-in f)
+        shaped-by false true f g = ends-sound (let z = between-both 23 23 (codeOf plan i) g in omega (arith, z .0, z .1))
         shaped-by false false f g = refl
 
-        go : (b : Bool) → leb (codeOf state i) 10 ≡ b
-            → cond b true (eqb (dictionaryOf state i) 0 && cond (hasItem (codeOf state i)) (ltb (suc i) (endOf state i)) (cond (isRunEnd (codeOf state i)) (endsSound state i) true)) ≡ true
+        go : (b : Bool) → leb (codeOf plan i) 10 ≡ b
+            → cond b true (eqb (dictionaryOf plan i) 0 && cond (hasItem (codeOf plan i)) (ltb (suc i) (endOf plan i)) (cond (isRunEnd (codeOf plan i)) (endsSound plan i) true)) ≡ true
         go true e = refl
-        go false e = rw (no-keys (omega (arith, leb-false (codeOf state i) 10 e))) (shaped-by (hasItem (codeOf state i)) (isRunEnd (codeOf state i)) refl refl)
+        go false e = rw (no-keys (omega (arith, leb-false (codeOf plan i) 10 e))) (shaped-by (hasItem (codeOf plan i)) (isRunEnd (codeOf plan i)) refl refl)
 
-    nest-sound : nestedIn state i ≡ true
+    nest-sound : nestedIn plan i ≡ true
     unfolding nestedIn
-    nest-sound = every-all (λ k. leb (endOf state (suc i + k)) (endOf state i)) (endOf state i - suc i) (λ k h. le-leb _ _ (nested i (suc i + k) (omega arith) (omega arith) inside))
+    nest-sound = every-all (λ k. leb (endOf plan (suc i + k)) (endOf plan i)) (endOf plan i - suc i) (λ k h. le-leb _ _ (nested i (suc i + k) (omega arith) (omega arith) inside))
 
-    node-sound : nodeSound state n i ≡ true
+    node-sound : nodeSound plan n i ≡ true
     unfolding nodeSound
     node-sound =
-        rw (lt-ltb i (endOf state i) rises, le-leb (endOf state i) n inside, nest-sound, kind-sound) (only-if (ltb (endOf state i) n) (copied state (endOf state i)) (λ h. next-copied (endOf state i) refl))
+        rw (lt-ltb i (endOf plan i) rises, le-leb (endOf plan i) n inside, nest-sound, kind-sound) (only-if (ltb (endOf plan i) n) (copied plan (endOf plan i)) (λ h. next-copied (endOf plan i) refl))
 
   -- A WALK STAYS IN THE PLAN
-  pub sound-by : nodesOf state ≡ n → planSound state ≡ true
+  pub sound-by : nodesOf plan ≡ n → planSound plan ≡ true
   unfolding planSound
-  sound-by e = rw (e, lt-ltb _ _ (some-node formats schema first n tree)) (every-all (nodeSound state n) n node-sound)
+  sound-by e = rw (e, lt-ltb _ _ (some-node formats schema first n tree)) (every-all (nodeSound plan n) n node-sound)
 
--- ---- the planned state
+-- ---- the plan
 
 -- what is known of the plan of a join of m sources and n nodes
 pub record Stood (plan : List ℕ) (m n : ℕ) : Type 0 where
@@ -364,7 +364,7 @@ module _ (formats schema : List ℕ) (x : Tables) (sources : List ℕ) (keep gap
     stands =
         record {
           few = small;
-          long = state-length formats schema x sources keep gaps few small;
+          long = plan-length formats schema x sources keep gaps few small;
           source-count = sources-are formats schema x sources keep gaps few small;
           node-count = nodes-is;
           all-nodes = all-nodes;

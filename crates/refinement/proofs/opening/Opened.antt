@@ -93,29 +93,29 @@ module _ (formats schema sources : List ℕ) (x : Tables) (keep gaps : Bool) (pa
     pub model : openIn (lent .plan) parts gaps t keep m ss ≡ done (start gaps t keep m ss)
     pub join : Joined lent t m ss
     pub memory : Memory
-    pub running : Running lent t m ss join (keeps keep m ss) (a .counts) memory (start gaps t keep m ss) (a .counts) (a .room)
-    pub joins : Joins (lent .plan) t 0 m (λ j. ss j .body) (a .counts) memory
+    pub running : Running lent t m ss join (keeps keep m ss) (a .counters) memory (start gaps t keep m ss) (a .counters) (a .room)
+    pub joins : Joins (lent .plan) t 0 m (λ j. ss j .body) (a .counters) memory
 
   -- ANY LIST OF CALLS after it, refused ones included ..
   module _ (a : Opening) (o : Opened a) (os : List Call) where
-    pub orders-after : Ran lent t m ss (o .join) (keeps keep m ss) (a .counts) (o .memory) os (start gaps t keep m ss) (a .counts) (a .room)
-    orders-after = orders-run lent t m ss (o .join) (keeps keep m ss) (a .counts) (o .memory) os (start gaps t keep m ss) (a .counts) (a .room) (o .running)
+    pub orders-after : Ran lent t m ss (o .join) (keeps keep m ss) (a .counters) (o .memory) os (start gaps t keep m ss) (a .counters) (a .room)
+    orders-after = orders-run lent t m ss (o .join) (keeps keep m ss) (a .counters) (o .memory) os (start gaps t keep m ss) (a .counters) (a .room) (o .running)
 
     -- .. leaves the joined dictionaries held
-    pub joins-after : Joins (lent .plan) t 0 m (λ j. ss j .body) (orderedAll lent (a .counts) (a .room) os .counts) (orders-after .running .memory)
+    pub joins-after : Joins (lent .plan) t 0 m (λ j. ss j .body) (orderedAll lent (a .counters) (a .room) os .counters) (orders-after .running .memory)
     joins-after =
-        joins-stay lent m (a .counts) _ (o .memory) _ (orders-after .running .stay) 8 t 0 (λ j. ss j .body) (first-opened lent t m ss (o .join) .worded)
+        joins-stay lent m (a .counters) _ (o .memory) _ (orders-after .running .stay) 8 t 0 (λ j. ss j .body) (first-opened lent t m ss (o .join) .worded)
         (entries-lent formats schema sources x keep gaps (o .accepted) parts) (o .joins)
 
-  module _ (plan counts room : List ℕ) where
+  module _ (plan counters room : List ℕ) where
     abbrev answer : Opening
-    answer = opening formats schema sources x keep gaps parts plan counts room
+    answer = opening formats schema sources x keep gaps parts plan counters room
 
     abbrev placed-well : Bool
-    placed-well = roomPlaced formats schema sources x keep gaps parts plan counts room
+    placed-well = roomPlaced formats schema sources x keep gaps parts plan counters room
 
     abbrev no-change : ℕ → Opening
-    no-change = refused formats schema sources x keep gaps parts plan counts room
+    no-change = refused formats schema sources x keep gaps parts plan counters room
 
     abbrev walked : Out
     walked = openWalk lent (replicate 96 0)
@@ -128,13 +128,13 @@ module _ (formats schema sources : List ℕ) (x : Tables) (keep gaps : Bool) (pa
     chosen-last d e y = cond d (cond e y (no-change 13)) (no-change (walked .ans))
 
     abbrev Unchanged : Opening → Type 0
-    Unchanged a = (a .plan ≡ plan) × (a .counts ≡ counts) × (a .room ≡ room)
+    Unchanged a = (a .plan ≡ plan) × (a .counters ≡ counters) × (a .room ≡ room)
 
     -- A REFUSED OPENING leaves plan, counters and room: "State and every byte stay."
-    pub opening-refused : (answer .ground ≡ 0 → ⊥) → (answer .plan ≡ plan) × (answer .counts ≡ counts) × (answer .room ≡ room)
+    pub opening-refused : (answer .ground ≡ 0 → ⊥) → (answer .plan ≡ plan) × (answer .counters ≡ counters) × (answer .room ≡ room)
     unfolding opening settled
     opening-refused =
-        go (leb (length room) ceiling) (eqb (sourcesGround formats schema x sources) 0) placed-well (eqb (walked .ans) 0) (partsHold (lent .plan) (walked .counts) parts) _ refl
+        go (leb (length room) ceiling) (eqb (sourcesGround formats schema x sources) 0) placed-well (eqb (walked .ans) 0) (partsHold (lent .plan) (walked .counters) parts) _ refl
       where
         go : (a b c d e : Bool) (y : Opening) → y .ground ≡ 0 → (chosen a b c (chosen-last d e y) .ground ≡ 0 → ⊥) → Unchanged (chosen a b c (chosen-last d e y))
         go false b c d e y q h = (refl, refl, refl)
@@ -159,17 +159,17 @@ module _ (formats schema sources : List ℕ) (x : Tables) (keep gaps : Bool) (pa
     module _ (body-bytes : AllBelow 256 (x .body)) (room-bytes : AllBelow 256 room) where
       -- WHERE NONE OF 9 TO 12 AND 14 STANDS, the answer is the model's with 13, and orders run or nothing changes
       pub opening-opens : length room ≤ ceiling → sourcesGround formats schema x sources ≡ 0 → placed-well ≡ true
-          → Opens formats schema sources x keep gaps parts t m ss plan counts room (openIn (lent .plan) parts gaps t keep m ss) answer
+          → Opens formats schema sources x keep gaps parts t m ss plan counters room (openIn (lent .plan) parts gaps t keep m ss) answer
       unfolding opening roomPlaced
       opening-opens small ok placed =
           let stands = stood formats schema x sources ok keep gaps in
           let g = given body-bytes ok in
-          let lie : partsPlaced parts (partTotal (lent .plan)) (length room) ≡ true = and-right (eqb (length plan) 872 && eqb (length counts) 96) (partsPlaced parts (partTotal (lent .plan)) (length room)) placed in
+          let lie : partsPlaced parts (partTotal (lent .plan)) (length room) ≡ true = and-right (eqb (length plan) 872 && eqb (length counters) 96) (partsPlaced parts (partTotal (lent .plan)) (length room)) placed in
           rw (le-leb _ _ small, eq-eqb _ _ ok, placed)
-          (opening-step formats schema sources x keep gaps parts t m ss plan counts room (g .kept) (g .entries) (stands .placed parts (length room) lie small) (stands .within parts (length room) lie) room-bytes
+          (opening-step formats schema sources x keep gaps parts t m ss plan counters room (g .kept) (g .entries) (stands .placed parts (length room) lie small) (stands .within parts (length room) lie) room-bytes
           (λ o. joined formats schema sources x keep gaps ok o parts body-bytes (stands .laid) (stands .all-nodes) (stands .sound)) (walk.opens lent t m ss keep gaps g) (opens-used lent t m ss keep gaps g))
 
-      opens-ground : {p : Try (Destination t)} {a : Opening} → Opens formats schema sources x keep gaps parts t m ss plan counts room p a → a .ground ≡ groundOf p
+      opens-ground : {p : Try (Destination t)} {a : Opening} → Opens formats schema sources x keep gaps parts t m ss plan counters room p a → a .ground ≡ groundOf p
       opens-ground (opens d a g pl join μ run joins) = g
       opens-ground (not-opened g a q pos pl c r) = q
 
@@ -177,7 +177,7 @@ module _ (formats schema sources : List ℕ) (x : Tables) (keep gaps : Bool) (pa
       pub opening-ground : length room ≤ ceiling → sourcesGround formats schema x sources ≡ 0 → placed-well ≡ true → answer .ground ≡ groundOf (openIn (lent .plan) parts gaps t keep m ss)
       opening-ground small ok placed = opens-ground (opening-opens small ok placed)
 
-      opens-run : (p : Try (Destination t)) (a : Opening) → sourcesGround formats schema x sources ≡ 0 → Opens formats schema sources x keep gaps parts t m ss plan counts room p a
+      opens-run : (p : Try (Destination t)) (a : Opening) → sourcesGround formats schema x sources ≡ 0 → Opens formats schema sources x keep gaps parts t m ss plan counters room p a
           → openIn (lent .plan) parts gaps t keep m ss ≡ p → a .ground ≡ 0 → Opened a
       opens-run _ _ ok (opens d a g pl join μ run joins) e h =
           let z = begun d e in
@@ -187,7 +187,7 @@ module _ (formats schema sources : List ℕ) (x : Tables) (keep gaps : Bool) (pa
             model = e ∙ sym (subst (λ v. _≡_ {A = Try (Destination t)} (done v) (done d)) (sym z) refl);
             join = join;
             memory = μ;
-            running = subst (λ v. Running lent t m ss join (keeps keep m ss) (a .counts) μ v (a .counts) (a .room)) (sym z) run;
+            running = subst (λ v. Running lent t m ss join (keeps keep m ss) (a .counters) μ v (a .counters) (a .room)) (sym z) run;
             joins = joins;
           }
       opens-run _ _ ok (not-opened g a q pos pl c r) e h = absurd (omega (arith, q, h))

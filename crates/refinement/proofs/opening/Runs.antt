@@ -63,18 +63,18 @@ module _ (formats schema sources : List ℕ) (x : Tables) (keep gaps : Bool) (pa
   abbrev begun : Destination t
   begun = start gaps t keep m ss
 
-  module _ (plan counts room : List ℕ) where
+  module _ (plan counters room : List ℕ) where
     -- an answer and what the opening comes to: orders run from there, or plan, counters and room are as they were
     pub data Opens : Try (Destination t) → Opening → Type 0 where
       opens : (d : Destination t) (a : Opening) → a .ground ≡ 0 → a .plan ≡ lent .plan → (join : Joined lent t m ss) (μ : Memory)
-          → Running lent t m ss join (keeps keep m ss) (a .counts) μ d (a .counts) (a .room) → Joins (lent .plan) t 0 m bodies (a .counts) μ → Opens (done d) a
-      not-opened : (g : ℕ) (a : Opening) → a .ground ≡ g → 0 < g → a .plan ≡ plan → a .counts ≡ counts → a .room ≡ room → Opens (stop g) a
+          → Running lent t m ss join (keeps keep m ss) (a .counters) μ d (a .counters) (a .room) → Joins (lent .plan) t 0 m bodies (a .counters) μ → Opens (done d) a
+      not-opened : (g : ℕ) (a : Opening) → a .ground ≡ g → 0 < g → a .plan ≡ plan → a .counters ≡ counters → a .room ≡ room → Opens (stop g) a
 
     abbrev after-walk : Out → Opening
-    after-walk = settled formats schema sources x keep gaps parts plan counts room
+    after-walk = settled formats schema sources x keep gaps parts plan counters room
 
     abbrev refuse-with : ℕ → Opening
-    refuse-with = refused formats schema sources x keep gaps parts plan counts room
+    refuse-with = refused formats schema sources x keep gaps parts plan counters room
 
     -- what the walk of an opening leaves
     abbrev Begun : List ℕ → Memory → Type 0
@@ -82,7 +82,7 @@ module _ (formats schema sources : List ℕ) (x : Tables) (keep gaps : Bool) (pa
 
     module _ (kept : Kept (lent .plan) m t 0 (keeps keep m ss) bodies) (values : EntriesLent lent t 0 m bodies) (placed : Placed (lent .plan) parts (Used (lent .plan)) (length room))
         (inside : partsWithin (lent .plan) parts (length room) ≡ true) (room-bytes : AllBelow 256 room) where
-      module _ (join : Joined lent t m ss) (w : Out) (in-place : AllInPlace (w .log) nothing) (begins : Begun (w .counts) (after (w .log) nothing)) (used : AllUsed (Used (lent .plan)) (w .log)) where
+      module _ (join : Joined lent t m ss) (w : Out) (in-place : AllInPlace (w .log) nothing) (begins : Begun (w .counters) (after (w .log) nothing)) (used : AllUsed (Used (lent .plan)) (w .log)) where
         abbrev μ : Memory
         μ = after (w .log) nothing
 
@@ -92,18 +92,18 @@ module _ (formats schema sources : List ℕ) (x : Tables) (keep gaps : Bool) (pa
         abbrev enough : Bool
         enough = openFits (lent .plan) parts t 0 m bodies begun
 
-        same : partsHold (lent .plan) (w .counts) parts ≡ enough
+        same : partsHold (lent .plan) (w .counters) parts ≡ enough
         same =
-            open-same lent (join .laid) (w .counts) μ m (join .all-nodes) t (keeps keep m ss) ss begun (first-opened lent t m ss join .worded) (first-opened lent t m ss join .formed) fine (begins .0) (obeys lent t m ss join) values kept
+            open-same lent (join .laid) (w .counters) μ m (join .all-nodes) t (keeps keep m ss) ss begun (first-opened lent t m ss join .worded) (first-opened lent t m ss join .formed) fine (begins .0) (obeys lent t m ss join) values kept
             (begins .1)
 
         abbrev room′ : List ℕ
         room′ = apply (lent .plan) parts (w .log) room
 
         module _ (e : enough ≡ true) where
-          bounded : (i b : ℕ) → Used (lent .plan) i b → Bounded (lent .plan) parts (w .counts) μ i b
+          bounded : (i b : ℕ) → Used (lent .plan) i b → Bounded (lent .plan) parts (w .counters) μ i b
           bounded =
-              all-bounded lent (join .laid) (w .counts) μ m (join .all-nodes) t (keeps keep m ss) ss begun (first-opened lent t m ss join .worded) (first-opened lent t m ss join .formed) fine (begins .0) (obeys lent t m ss join) values kept
+              all-bounded lent (join .laid) (w .counters) μ m (join .all-nodes) t (keeps keep m ss) ss begun (first-opened lent t m ss join .worded) (first-opened lent t m ss join .formed) fine (begins .0) (obeys lent t m ss join) values kept
               (begins .1) e
 
           fitting : Fits (lent .plan) parts (Used (lent .plan)) μ
@@ -118,7 +118,7 @@ module _ (formats schema sources : List ℕ) (x : Tables) (keep gaps : Bool) (pa
           begun-state : State t m ss (lawful lent t m ss join) (obeys lent t m ss join) (keeps keep m ss) begun
           begun-state = record { fine = fine; keeps-is = kept-bits (keeps keep m ss); keeps-below = λ h. start-keep gaps t keep m ss h .below }
 
-          running : Running lent t m ss join (keeps keep m ss) (w .counts) μ begun (w .counts) room′
+          running : Running lent t m ss join (keeps keep m ss) (w .counters) μ begun (w .counters) room′
           running =
               record {
                 long = begins .2;
@@ -130,19 +130,19 @@ module _ (formats schema sources : List ℕ) (x : Tables) (keep gaps : Bool) (pa
                 state = begun-state;
                 short-of = omega arith;
                 rest = λ i b u n. bounded i b u;
-                stay = λ j n. same-refl (w .counts) μ j;
+                stay = λ j n. same-refl (w .counters) μ j;
               }
 
-        by-test : (b f : Bool) → b ≡ f → (f ≡ true → Running lent t m ss join (keeps keep m ss) (w .counts) μ begun (w .counts) room′)
-            → Opens (guard f 13 (done begun)) (cond b (record { ground = 0; plan = lent .plan; counts = w .counts; room = room′ }) (refuse-with 13))
-        by-test true true e r = opens begun (record { ground = 0; plan = lent .plan; counts = w .counts; room = room′ }) refl refl join μ (r refl) (begins .1)
+        by-test : (b f : Bool) → b ≡ f → (f ≡ true → Running lent t m ss join (keeps keep m ss) (w .counters) μ begun (w .counters) room′)
+            → Opens (guard f 13 (done begun)) (cond b (record { ground = 0; plan = lent .plan; counters = w .counters; room = room′ }) (refuse-with 13))
+        by-test true true e r = opens begun (record { ground = 0; plan = lent .plan; counters = w .counters; room = room′ }) refl refl join μ (r refl) (begins .1)
         by-test false false e r = not-opened 13 (refuse-with 13) refl (omega arith) refl refl refl
         by-test true false e r = absurd (let z : _≡_ {A = ℕ} 0 1 = cc e in omega arith)
         by-test false true e r = absurd (let z : _≡_ {A = ℕ} 0 1 = cc e in omega arith)
 
         settled-done : w .ans ≡ 0 → Opens (guard enough 13 (done begun)) (after-walk w)
         unfolding settled
-        settled-done e = rw (eq-eqb (w .ans) 0 e) (by-test (partsHold (lent .plan) (w .counts) parts) enough same running)
+        settled-done e = rw (eq-eqb (w .ans) 0 e) (by-test (partsHold (lent .plan) (w .counters) parts) enough same running)
 
       settled-stop : (g : ℕ) (w : Out) → w .ans ≡ g → 0 < g → Opens (stop g) (after-walk w)
       unfolding settled

@@ -30,7 +30,7 @@ use Rattle.columns.specs.Grounds.{sourcesGround}
 use Rattle.array_data.specs.Sources.{sourceCount, firstOf}
 use Rattle.refinement.specs.plan_is_type.Taken.{columnsAs}
 use Rattle.refinement.proofs.plan_is_type.Codes.{Coded}
-use Rattle.refinement.proofs.plan_is_type.Planted.{in-state, code-is, dictionary-is, coded-is}
+use Rattle.refinement.proofs.plan_is_type.Planted.{in-plan, code-is, dictionary-is, coded-is}
 use Rattle.refinement.proofs.plan_is_type.Lent.{lent-at}
 use Rattle.refinement.proofs.plan_is_type.Opened.{same-child, all-alike}
 use Rattle.plan.specs.Plan.{planned}
@@ -193,7 +193,7 @@ module _ (formats schema sources : List ℕ) (x : Tables) (keep gaps : Bool) (ok
       record {
         whole-key = ap isInteger (same-code i l) ∙ integer-code (codeOf formats schema (first 0) i) k (g .0) n (o .0);
         key-is = ap numberOf (same-code i l) ∙ n;
-        small = in-state formats schema (first 0) (nodes 0) plan ty low words (suc i) (plain-in p (suc i) (z .1));
+        small = in-plan formats schema (first 0) (nodes 0) plan ty low words (suc i) (plain-in p (suc i) (z .1));
         plain-is = plain-worded p (suc i) (z .1);
         no-keys = d;
         ends = stands .laid .plain-ends (suc i) (inside (suc i) (plain-in p (suc i) (z .1))) (plain-low p (suc i) (z .1)) d;

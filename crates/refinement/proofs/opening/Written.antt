@@ -96,38 +96,38 @@ fine-zeros = record { long = length-replicate {A = ℕ} 96 0; rows-top = λ i. n
 
 -- ---- an accepted opening
 
-module _ (formats schema sources : List ℕ) (x : Tables) (keep gaps : Bool) (parts plan counts room : List ℕ) where
+module _ (formats schema sources : List ℕ) (x : Tables) (keep gaps : Bool) (parts plan counters room : List ℕ) where
   abbrev lent : Lent
   lent = opened formats schema sources x keep gaps parts
 
   abbrev answer : Opening
-  answer = opening formats schema sources x keep gaps parts plan counts room
+  answer = opening formats schema sources x keep gaps parts plan counters room
 
   abbrev walk : Out
   walk = openWalk lent (replicate 96 0)
 
   record Settled (a : Opening) : Type 0 where
     no-ground : walk .ans ≡ 0
-    holds : partsHold (lent .plan) (walk .counts) parts ≡ true
-    counts-are : a .counts ≡ walk .counts
+    holds : partsHold (lent .plan) (walk .counters) parts ≡ true
+    counters-are : a .counters ≡ walk .counters
     room-is : a .room ≡ apply (lent .plan) parts (walk .log) room
 
-  settled-is : settled formats schema sources x keep gaps parts plan counts room walk .ground ≡ 0 → Settled (settled formats schema sources x keep gaps parts plan counts room walk)
+  settled-is : settled formats schema sources x keep gaps parts plan counters room walk .ground ≡ 0 → Settled (settled formats schema sources x keep gaps parts plan counters room walk)
   unfolding settled
-  settled-is = go (eqb (walk .ans) 0) refl (partsHold (lent .plan) (walk .counts) parts) refl
+  settled-is = go (eqb (walk .ans) 0) refl (partsHold (lent .plan) (walk .counters) parts) refl
     where
-      go : (a : Bool) → eqb (walk .ans) 0 ≡ a → (b : Bool) → partsHold (lent .plan) (walk .counts) parts ≡ b
-          → cond a (cond b (record { ground = 0; plan = lent .plan; counts = walk .counts; room = apply (lent .plan) parts (walk .log) room }) (refused formats schema sources x keep gaps parts plan counts room 13))
-          (refused formats schema sources x keep gaps parts plan counts room (walk .ans)) .ground ≡ 0
-          → Settled (cond a (cond b (record { ground = 0; plan = lent .plan; counts = walk .counts; room = apply (lent .plan) parts (walk .log) room }) (refused formats schema sources x keep gaps parts plan counts room 13))
-          (refused formats schema sources x keep gaps parts plan counts room (walk .ans)))
-      go true e true f h = record { no-ground = eqb-true _ _ e; holds = f; counts-are = refl; room-is = refl }
+      go : (a : Bool) → eqb (walk .ans) 0 ≡ a → (b : Bool) → partsHold (lent .plan) (walk .counters) parts ≡ b
+          → cond a (cond b (record { ground = 0; plan = lent .plan; counters = walk .counters; room = apply (lent .plan) parts (walk .log) room }) (refused formats schema sources x keep gaps parts plan counters room 13))
+          (refused formats schema sources x keep gaps parts plan counters room (walk .ans)) .ground ≡ 0
+          → Settled (cond a (cond b (record { ground = 0; plan = lent .plan; counters = walk .counters; room = apply (lent .plan) parts (walk .log) room }) (refused formats schema sources x keep gaps parts plan counters room 13))
+          (refused formats schema sources x keep gaps parts plan counters room (walk .ans)))
+      go true e true f h = record { no-ground = eqb-true _ _ e; holds = f; counters-are = refl; room-is = refl }
       go true e false f h = absurd (omega arith)
       go false e b f h = absurd (eqb-false _ _ e h)
 
   module _ (accepted : answer .ground ≡ 0) where
-    passed : (length room ≤ ceiling) × (sourcesGround formats schema x sources ≡ 0) × (roomPlaced formats schema sources x keep gaps parts plan counts room ≡ true)
-    passed = tests formats schema sources x keep gaps parts plan counts room accepted
+    passed : (length room ≤ ceiling) × (sourcesGround formats schema x sources ≡ 0) × (roomPlaced formats schema sources x keep gaps parts plan counters room ≡ true)
+    passed = tests formats schema sources x keep gaps parts plan counters room accepted
 
     made : Settled answer
     unfolding opening
@@ -143,19 +143,19 @@ module _ (formats schema sources : List ℕ) (x : Tables) (keep gaps : Bool) (pa
         let s = node-stands (lent .plan) (stands .sound) i l .inside in
         omega arith
 
-    adds : Added (lent .plan) false 0 0 (replicate 96 0) (walk .counts) (walk .log)
+    adds : Added (lent .plan) false 0 0 (replicate 96 0) (walk .counters) (walk .log)
     adds = adds-opening lent (stands .sound) values (replicate 96 0) .added fine-zeros (made .no-ground)
 
     -- the counters that it leaves are counters
-    pub opening-fine : Fine (answer .counts)
-    opening-fine = subst Fine (sym (made .counts-are)) (adds .fine)
+    pub opening-fine : Fine (answer .counters)
+    opening-fine = subst Fine (sym (made .counters-are)) (adds .fine)
 
     pub opening-sound : planSound (lent .plan) ≡ true
     opening-sound = stands .sound
 
     within : partsWithin (lent .plan) parts (length room) ≡ true
     unfolding roomPlaced
-    within = stands .within parts (length room) (and-right (eqb (length plan) 872 && eqb (length counts) 96) (partsPlaced parts (partTotal (lent .plan)) (length room)) (passed .2))
+    within = stands .within parts (length room) (and-right (eqb (length plan) 872 && eqb (length counters) 96) (partsPlaced parts (partTotal (lent .plan)) (length room)) (passed .2))
 
     module _ (body-bytes : AllBelow 256 (x .body)) where
       used : AllUsed (Used (lent .plan)) (walk .log)
@@ -165,11 +165,11 @@ module _ (formats schema sources : List ℕ) (x : Tables) (keep gaps : Bool) (pa
       pub opening-made : AllMade (lent .plan) parts (length room) (walk .log)
       opening-made =
           let l = passed .0 in
-          all-made (lent .plan) parts (replicate 96 0) (walk .counts) (length room) (omega arith) within (made .holds) false 0 (walk .log) used (adds .behind)
+          all-made (lent .plan) parts (replicate 96 0) (walk .counters) (length room) (omega arith) within (made .holds) false 0 (walk .log) used (adds .behind)
 
       -- ONLY USED PARTS ARE WRITTEN
-      pub opening-writes : AllBelow 256 room → OnlyUsed (lent .plan) parts room (answer .counts) (answer .room)
+      pub opening-writes : AllBelow 256 room → OnlyUsed (lent .plan) parts room (answer .counters) (answer .room)
       opening-writes bytes =
           let l = passed .0 in
-          rw (made .counts-are, made .room-is)
-          (only-used (lent .plan) parts (replicate 96 0) (walk .counts) (length room) (omega arith) within (made .holds) false 0 (walk .log) room refl bytes used (adds .behind))
+          rw (made .counters-are, made .room-is)
+          (only-used (lent .plan) parts (replicate 96 0) (walk .counters) (length room) (omega arith) within (made .holds) false 0 (walk .log) room refl bytes used (adds .behind))

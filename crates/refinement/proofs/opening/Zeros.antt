@@ -152,7 +152,7 @@ gaps-go x c long none n few =
 module _ (x : Lent) (c : List ℕ) where
   -- the first r nodes have their zero offsets
   record Zeroed (r : ℕ) (c′ : List ℕ) (μ : Memory) : Type 0 where
-    counts-are : c′ ≡ c
+    counters-are : c′ ≡ c
     bits-none : (j : ℕ) → μ .bits j ≡ []
     first : (j : ℕ) → j < r → hasOffsets (codeOf (x .plan) j) ≡ true → copied (x .plan) j ≡ true → μ .at j 1 ≡ encode (bytesOf (x .plan) j) 0
     later : (j : ℕ) → r ≤ j → μ .at j 1 ≡ []
@@ -172,7 +172,7 @@ module _ (x : Lent) (c : List ℕ) where
     written : hasOffsets (codeOf (x .plan) r) ≡ true → Zeroed (suc r) c′ (putIn r 1 bs μ)
     written s =
         record {
-          counts-are = z .counts-are;
+          counters-are = z .counters-are;
           bits-none = z .bits-none;
           first = λ j l e f. by-node j l e f (decLt j r);
           later = λ j l. put-apart j (λ e. omega (arith, e)) ∙ z .later j (omega arith);
@@ -188,7 +188,7 @@ module _ (x : Lent) (c : List ℕ) where
     kept : hasOffsets (codeOf (x .plan) r) && copied (x .plan) r ≡ false → Zeroed (suc r) c′ μ
     kept s =
         record {
-          counts-are = z .counts-are;
+          counters-are = z .counters-are;
           bits-none = z .bits-none;
           first = λ j l e f. by-node j l e f (decLt j r);
           later = λ j l. z .later j (omega arith);
@@ -218,12 +218,12 @@ module _ (x : Lent) (c : List ℕ) where
       → Quiet empty (λ c′ μ. (c′ ≡ c) × ((j : ℕ) → j < n → copied (x .plan) j ≡ true → Fresh (x .plan) c′ μ j)) (each (firstOffset x) n 0 c)
   zeros-go n none =
       let q = quiet-each (firstOffset x) Zeroed (λ r c′ μ z. zero-step r c′ μ z) n 0 c empty
-      (record { counts-are = refl; bits-none = λ j. refl; first = λ j l. absurd (omega arith); later = λ j l. refl; other = λ j e. refl; second = λ j. refl }) in
-      record { is-done = q .is-done; in-place = q .in-place; leaves = (q .leaves .counts-are, λ j l f. fresh (q .leaves) j l f) }
+      (record { counters-are = refl; bits-none = λ j. refl; first = λ j l. absurd (omega arith); later = λ j l. refl; other = λ j e. refl; second = λ j. refl }) in
+      record { is-done = q .is-done; in-place = q .in-place; leaves = (q .leaves .counters-are, λ j l f. fresh (q .leaves) j l f) }
     where
       fresh : {c′ : List ℕ} {μ : Memory} → Zeroed (0 + n) c′ μ → (j : ℕ) → j < n → copied (x .plan) j ≡ true → Fresh (x .plan) c′ μ j
       fresh z j l f =
-          let e = z .counts-are in
+          let e = z .counters-are in
           record {
             no-rows = ap (λ s. rows s j) e ∙ none j l .rows-none;
             no-nulls = ap (λ s. nulls s j) e ∙ none j l .nulls-none;

@@ -70,7 +70,7 @@ module _ (x : Lent) (t : Ty) (m : ℕ) (ss : ℕ → Column t) (join : Joined x 
   abbrev parts : List ℕ
   parts = x .parts
 
-  module _ (d : Destination t) (counts room : List ℕ) (run : Runs d counts room) where
+  module _ (d : Destination t) (counters room : List ℕ) (run : Runs d counters room) where
     did-by : (o : Call) (d′ : Destination t) → perform t m ss o d ≡ done d′ → Did t m ss (lawful x t m ss join) (obeys x t m ss join) keep o d d′
     did-by o d′ h = agrees-value (one-order t m ss (lawful x t m ss join) (obeys x t m ss join) keep o d (run .state)) d′ h
 
@@ -85,16 +85,16 @@ module _ (x : Lent) (t : Ty) (m : ℕ) (ss : ℕ → Column t) (join : Joined x 
         let le : a ≤ e = leb-true a e (and-left (leb a e) (leb e (ss s .len)) (q .0)) in
         let lt : e ≤ ss s .len = leb-true e (ss s .len) (and-right (leb a e) (leb e (ss s .len)) (q .0)) in
         same-by (copy s a e) d′ h
-        (goes-held (copies (joinOf x s) m 8 t 0 ss u a (e - a) d counts (run .memory) (omega arith) (run .state .fine) (omega (arith, run .short-of, u .lent .sum)) (run .long) (run .holds)) d′ (q .1))
+        (goes-held (copies (joinOf x s) m 8 t 0 ss u a (e - a) d counters (run .memory) (omega arith) (run .state .fine) (omega (arith, run .short-of, u .lent .sum)) (run .long) (run .holds)) d′ (q .1))
 
     -- as many nulls as no part holds
     far-same : (k : ℕ) (keeps : keepsNulls d ≡ true) (d′ : Destination t) → far ≤ suc k → nullsNode (masks t) (nullsData t) (suc k) d ≡ done d′ → Same d′
     far-same k keeps d′ l h =
-        let did = nulls-did x t m ss join keep c0 μ0 0 d counts room run keeps (suc k) d′ h in
+        let did = nulls-did x t m ss join keep c0 μ0 0 d counters room run keeps (suc k) d′ h in
         let own : fitsAll plan parts 0 0 (buffersOf t (d′ .«data»)) ≡ roomAll plan parts 0 0 (sizesOf t (held t d′)) = own-counted plan parts [] (run .memory) t 0 m (λ j. ss j .body) _ (d′ .«data») (d′ .len) (did .state .fine .data-fine) in
         let low = nulls-len x t m ss join keep c0 μ0 k d d′ h in
         let not-own : fitsAll plan parts 0 0 (buffersOf t (d′ .«data»)) ≡ true → ⊥ = λ e.
-        let s = short-own plan parts m 8 t ss d′ (first-opened x t m ss join .worded) (first-opened x t m ss join .formed) (did .state .fine) e (small-room x t m ss join keep c0 μ0 0 d counts room run keeps) in
+        let s = short-own plan parts m 8 t ss d′ (first-opened x t m ss join .worded) (first-opened x t m ss join .formed) (did .state .fine) e (small-room x t m ss join keep c0 μ0 0 d counters room run keeps) in
         omega (arith, low) in
         go (fits plan parts t 0 d′) refl (roomFor plan parts t 0 (held t d′)) refl (λ e. not-own (own-in plan parts m t 0 d′ e)) (λ e. not-own (own ∙ room-in t 0 (held t d′) e))
       where
@@ -119,7 +119,7 @@ module _ (x : Lent) (t : Ty) (m : ℕ) (ss : ℕ → Column t) (join : Joined x 
 
         go : Dec (far < n) → keepsNulls d ≡ true → nullsNode (masks t) (nullsData t) n d ≡ done d′ → Same d′
         go (yes y) k q = let z = some-count n (omega arith) in far-same (n - 1) k d′ (omega arith) (rw z at q)
-        go (no y) k q = same-by (nulls n) d′ h (goes-held (nulls-go x t m ss join keep c0 μ0 n d counts room run k n (omega arith)) d′ q)
+        go (no y) k q = same-by (nulls n) d′ h (goes-held (nulls-go x t m ss join keep c0 μ0 n d counters room run k n (omega arith)) d′ q)
 
     call-same : (o : Call) (d′ : Destination t) → perform t m ss o d ≡ done d′ → Same d′
     call-same (copy s a e) = copy-same s a e
@@ -146,13 +146,13 @@ module _ (x : Lent) (t : Ty) (m : ℕ) (ss : ℕ → Column t) (join : Joined x 
     pub answer-is : (o : Call) → mapTry (held t) (answerIn plan parts t m ss o d) ≡ answerRoom plan parts t keep m ss o (held t d)
     answer-is o = both-test (one-order t m ss (lawful x t m ss join) (obeys x t m ss join) keep o d (run .state)) (call-same o)
 
-    ground-by : {o : Call} {p : Try (Destination t)} {a : After} → Answers x t m ss join keep c0 μ0 o d counts room p a → a .ground ≡ groundOf (mapTry (held t) p)
+    ground-by : {o : Call} {p : Try (Destination t)} {a : After} → Answers x t m ss join keep c0 μ0 o d counters room p a → a .ground ≡ groundOf (mapTry (held t) p)
     ground-by (made d′ a e r k) = e
     ground-by (not-made g a e l c s) = e
 
     -- .. IS THE GROUND THAT THE ENTRY POINTS ANSWER
-    pub ground-is : (o : Call) → ordered x counts room o .ground ≡ groundOf (answerRoom plan parts t keep m ss o (held t d))
-    ground-is o = ground-by (order-step x t m ss join keep c0 μ0 o d counts room run) ∙ ap groundOf (answer-is o)
+    pub ground-is : (o : Call) → ordered x counters room o .ground ≡ groundOf (answerRoom plan parts t keep m ss o (held t d))
+    ground-is o = ground-by (order-step x t m ss join keep c0 μ0 o d counters room run) ∙ ap groundOf (answer-is o)
 
   -- ---- any list of calls
 
@@ -171,40 +171,40 @@ module _ (x : Lent) (t : Ty) (m : ℕ) (ss : ℕ → Column t) (join : Joined x 
         ≡ d .null_count + countedIf keep (elim s [ done c′ ↦ nullsEntered t keep m ss o + nullsRoom plan parts t keep m ss os c′ | stop g ↦ nullsRoom plan parts t keep m ss os (held t d) ])
     held-on : held t (answersIn plan parts t m ss os (after p d)) ≡ countsAfter plan parts t keep m ss os (after s (held t d))
 
-  pub booked : (os : List Call) (d : Destination t) (counts room : List ℕ) → Runs d counts room → Booked os d (held t d)
-  booked [] d counts room run = record { rows-booked = refl; nulls-booked = go keep; held-booked = refl }
+  pub booked : (os : List Call) (d : Destination t) (counters room : List ℕ) → Runs d counters room → Booked os d (held t d)
+  booked [] d counters room run = record { rows-booked = refl; nulls-booked = go keep; held-booked = refl }
     where
       go : (b : Bool) → d .null_count ≡ d .null_count + countedIf b 0
       go true = omega arith
       go false = omega arith
-  booked (o ∷ os) d counts room run =
-      let r = go (order-step x t m ss join keep c0 μ0 o d counts room run) (answer-is d counts room run o) (λ d′ c r q. booked os d′ c r q) in
+  booked (o ∷ os) d counters room run =
+      let r = go (order-step x t m ss join keep c0 μ0 o d counters room run) (answer-is d counters room run o) (λ d′ c r q. booked os d′ c r q) in
       record { rows-booked = r .rows-on; nulls-booked = r .nulls-on; held-booked = r .held-on }
     where
       sum : (b : Bool) (a y z u v : ℕ) → a ≡ y + countedIf b u → y ≡ z + countedIf b v → a ≡ z + countedIf b (v + u)
       sum true a y z u v e f = omega arith
       sum false a y z u v e f = omega arith
 
-      go : {p : Try (Destination t)} {s : Try Counts} {a : After} → Answers x t m ss join keep c0 μ0 o d counts room p a → mapTry (held t) p ≡ s
+      go : {p : Try (Destination t)} {s : Try Counts} {a : After} → Answers x t m ss join keep c0 μ0 o d counters room p a → mapTry (held t) p ≡ s
           → ((d′ : Destination t) (c r : List ℕ) → Runs d′ c r → Booked os d′ (held t d′)) → BookedOn o os d p s
       go (made d′ a e r did) q f =
-          let b = f d′ (a .counts) (a .room) r in
+          let b = f d′ (a .counters) (a .room) r in
           subst (BookedOn o os d (done d′)) q
           (record { rows-on = ap (entered t keep m ss o ++_) (b .rows-booked); nulls-on = sum keep _ _ _ _ _ (b .nulls-booked) (did .count-is); held-on = b .held-booked })
       go (not-made g a e l c s) q f =
-          let b = f d counts room run in
+          let b = f d counters room run in
           subst (BookedOn o os d (stop g)) q (record { rows-on = b .rows-booked; nulls-on = b .nulls-booked; held-on = b .held-booked })
 
   -- THE BOOK BY THE ANSWERS of the entry points
-  pub booked-by : (os : List Call) (d : Destination t) (counts room : List ℕ) → Runs d counts room
-      → bookBy plan parts t keep m ss os (groundsOf x counts room os) ≡ bookIn plan parts t m ss keep os d
+  pub booked-by : (os : List Call) (d : Destination t) (counters room : List ℕ) → Runs d counters room
+      → bookBy plan parts t keep m ss os (groundsOf x counters room os) ≡ bookIn plan parts t m ss keep os d
   unfolding groundsOf
-  booked-by [] d counts room run = refl
-  booked-by (o ∷ os) d counts room run = go (order-step x t m ss join keep c0 μ0 o d counts room run) (λ d′ c r q. booked-by os d′ c r q)
+  booked-by [] d counters room run = refl
+  booked-by (o ∷ os) d counters room run = go (order-step x t m ss join keep c0 μ0 o d counters room run) (λ d′ c r q. booked-by os d′ c r q)
     where
-      go : {p : Try (Destination t)} {a : After} → Answers x t m ss join keep c0 μ0 o d counts room p a
+      go : {p : Try (Destination t)} {a : After} → Answers x t m ss join keep c0 μ0 o d counters room p a
           → ((d′ : Destination t) (c r : List ℕ) → Runs d′ c r → bookBy plan parts t keep m ss os (groundsOf x c r os) ≡ bookIn plan parts t m ss keep os d′)
-          → _≡_ {A = List Row} (cond (eqb (a .ground) 0) (entered t keep m ss o) [] ++ bookBy plan parts t keep m ss os (groundsOf x (a .counts) (a .room) os))
+          → _≡_ {A = List Row} (cond (eqb (a .ground) 0) (entered t keep m ss o) [] ++ bookBy plan parts t keep m ss os (groundsOf x (a .counters) (a .room) os))
           (elim p [ done d′ ↦ entered t keep m ss o ++ bookIn plan parts t m ss keep os d′ | stop g ↦ bookIn plan parts t m ss keep os d ])
-      go (made d′ a e r did) f = rw (eq-eqb (a .ground) 0 e) (ap (entered t keep m ss o ++_) (f d′ (a .counts) (a .room) r))
-      go (not-made g a e l c s) f = rw (ne-eqb (a .ground) 0 (λ z. omega arith), c, s) (f d counts room run)
+      go (made d′ a e r did) f = rw (eq-eqb (a .ground) 0 e) (ap (entered t keep m ss o ++_) (f d′ (a .counters) (a .room) r))
+      go (not-made g a e l c s) f = rw (ne-eqb (a .ground) 0 (λ z. omega arith), c, s) (f d counters room run)

@@ -36,24 +36,24 @@ module _ (plan parts : List ℕ) (t : Ty) (m : ℕ) (ss : ℕ → Column t) wher
       let p = then-done (perform t m ss o d) _ e h in
       p .first-done ∙ guard-done (fits plan parts t 0 (p .first)) 13 _ e (p .rest-done) .1
 
-  pub counts-behind : (keep : Bool) (os ps : List Call) (c : Counts)
+  pub counters-behind : (keep : Bool) (os ps : List Call) (c : Counts)
       → countsAfter plan parts t keep m ss (os ++ ps) c ≡ countsAfter plan parts t keep m ss ps (countsAfter plan parts t keep m ss os c)
-  counts-behind keep [] ps c = refl
-  counts-behind keep (o ∷ os) ps c = counts-behind keep os ps (after (answerRoom plan parts t keep m ss o c) c)
+  counters-behind keep [] ps c = refl
+  counters-behind keep (o ∷ os) ps c = counters-behind keep os ps (after (answerRoom plan parts t keep m ss o c) c)
 
-module _ (x : Lent) (t : Ty) (m : ℕ) (ss : ℕ → Column t) (join : Joined x t m ss) (keep : Bool) (c0 : List ℕ) (μ0 : Memory) (d : Destination t) (counts room : List ℕ)
-    (run : Running x t m ss join keep c0 μ0 d counts room) (o : Call) where
+module _ (x : Lent) (t : Ty) (m : ℕ) (ss : ℕ → Column t) (join : Joined x t m ss) (keep : Bool) (c0 : List ℕ) (μ0 : Memory) (d : Destination t) (counters room : List ℕ)
+    (run : Running x t m ss join keep c0 μ0 d counters room) (o : Call) where
   -- carried out, in the model and by lengths
   pub record Carried : Type 0 where
     pub reached : Destination t
     pub carried : answerIn (x .plan) (x .parts) t m ss o d ≡ done reached
     pub counted : answerRoom (x .plan) (x .parts) t keep m ss o (held t d) ≡ done (held t reached)
 
-  carried-as : {p : Try (Destination t)} {a : After} → Answers x t m ss join keep c0 μ0 o d counts room p a → a .ground ≡ 0 → answerIn (x .plan) (x .parts) t m ss o d ≡ p → Carried
+  carried-as : {p : Try (Destination t)} {a : After} → Answers x t m ss join keep c0 μ0 o d counters room p a → a .ground ≡ 0 → answerIn (x .plan) (x .parts) t m ss o d ≡ p → Carried
   carried-as (made e a z r k) h q =
-      record { reached = e; carried = q; counted = sym (answer-is x t m ss join keep c0 μ0 d counts room run o) ∙ ap (mapTry (held t)) q }
+      record { reached = e; carried = q; counted = sym (answer-is x t m ss join keep c0 μ0 d counters room run o) ∙ ap (mapTry (held t)) q }
   carried-as (not-made g a z l c s) h q = absurd (omega arith)
 
   -- A CALL THAT IS ANSWERED 0 IS CARRIED OUT
-  pub carried-out : ordered x counts room o .ground ≡ 0 → Carried
-  carried-out h = carried-as (order-step x t m ss join keep c0 μ0 o d counts room run) h refl
+  pub carried-out : ordered x counters room o .ground ≡ 0 → Carried
+  carried-out h = carried-as (order-step x t m ss join keep c0 μ0 o d counters room run) h refl

@@ -44,19 +44,19 @@ pub record Fine (c : List ℕ) : Type 0 where
   pub rows-top : (i : ℕ) → rows c i ≤ top
 
 -- late: an order, which leaves a gap of 0 at that; an opening sets it
-pub record Longer (state : List ℕ) (late : Bool) (c d : List ℕ) : Type 0 where
+pub record Longer (plan : List ℕ) (late : Bool) (c d : List ℕ) : Type 0 where
   pub rows-grow : (i : ℕ) → rows c i ≤ rows d i
-  pub bytes-grow : (i : ℕ) → isString (codeOf state i) ≡ true → bytes c i ≤ bytes d i
-  pub gap-off : late ≡ true → (i : ℕ) → codeOf state i ≡ 23 → gap c i ≡ 0 → gap d i ≡ 0
+  pub bytes-grow : (i : ℕ) → isString (codeOf plan i) ≡ true → bytes c i ≤ bytes d i
+  pub gap-off : late ≡ true → (i : ℕ) → codeOf plan i ≡ 23 → gap c i ≡ 0 → gap d i ≡ 0
 
 -- a run-end node is no byte string
 not-string : (z : ℕ) → z ≡ 23 → isString z ≡ true → ⊥
 not-string z e h = let f : isString 23 ≡ true = rw e at h in let y : _≡_ {A = ℕ} 0 1 = cc in omega arith
 
-pub longer-same : (state : List ℕ) (late : Bool) (c : List ℕ) → Longer state late c c
-longer-same state late c = record { rows-grow = λ i. le-refl _; bytes-grow = λ i h. le-refl _; gap-off = λ l i h z. z }
+pub longer-same : (plan : List ℕ) (late : Bool) (c : List ℕ) → Longer plan late c c
+longer-same plan late c = record { rows-grow = λ i. le-refl _; bytes-grow = λ i h. le-refl _; gap-off = λ l i h z. z }
 
-pub longer-then : {state : List ℕ} {late : Bool} {a b c : List ℕ} → Longer state late a b → Longer state late b c → Longer state late a c
+pub longer-then : {plan : List ℕ} {late : Bool} {a b c : List ℕ} → Longer plan late a b → Longer plan late b c → Longer plan late a c
 longer-then p q =
     record {
       rows-grow = λ i. le-trans (p .rows-grow i) (q .rows-grow i);
@@ -64,7 +64,7 @@ longer-then p q =
       gap-off = λ l i h z. q .gap-off l i h (p .gap-off l i h z);
     }
 
-module _ (state : List ℕ) (late : Bool) (i n : ℕ) (c : List ℕ) (small : i < 32) (fine : Fine c) where
+module _ (plan : List ℕ) (late : Bool) (i n : ℕ) (c : List ℕ) (small : i < 32) (fine : Fine c) where
   rows-now : (j : ℕ) → rows (addRows i n c) j ≡ min (rows c j + due i n j) top
   unfolding grown
   rows-now j = go (eqb j i) refl
@@ -76,7 +76,7 @@ module _ (state : List ℕ) (late : Bool) (i n : ℕ) (c : List ℕ) (small : i 
   fine-rows : Fine (addRows i n c)
   fine-rows = record { long = long-rows i n c ∙ fine .long; rows-top = λ j. let e = rows-now j in omega arith }
 
-  longer-rows : Longer state late c (addRows i n c)
+  longer-rows : Longer plan late c (addRows i n c)
   longer-rows =
       record {
         rows-grow = λ j. let e = rows-now j in let t = fine .rows-top j in omega arith;
@@ -87,7 +87,7 @@ module _ (state : List ℕ) (late : Bool) (i n : ℕ) (c : List ℕ) (small : i 
   fine-nulls : Fine (addNulls i n c)
   fine-nulls = record { long = long-nulls i n c ∙ fine .long; rows-top = λ j. let e = rows-of-nulls c i n j in let t = fine .rows-top j in omega arith }
 
-  longer-nulls : Longer state late c (addNulls i n c)
+  longer-nulls : Longer plan late c (addNulls i n c)
   longer-nulls =
       record {
         rows-grow = λ j. let e = rows-of-nulls c i n j in omega arith;
@@ -99,11 +99,11 @@ module _ (state : List ℕ) (late : Bool) (i n : ℕ) (c : List ℕ) (small : i 
   fine-bytes = record { long = long-bytes i n c ∙ fine .long; rows-top = λ j. let e = rows-of-bytes c i n j in let t = fine .rows-top j in omega arith }
 
   -- a run-end node's gap
-  longer-gap : codeOf state i ≡ 23 → (late ≡ true → gap c i ≡ 0 → n ≡ 0) → Longer state late c (setBytes i n c)
+  longer-gap : codeOf plan i ≡ 23 → (late ≡ true → gap c i ≡ 0 → n ≡ 0) → Longer plan late c (setBytes i n c)
   longer-gap q f =
       record {
         rows-grow = λ j. let e = rows-of-bytes c i n j in omega arith;
-        bytes-grow = λ j h. let e = bytes-other c i n j (λ y. not-string (codeOf state j) (ap (codeOf state) y ∙ q) h) in omega arith;
+        bytes-grow = λ j h. let e = bytes-other c i n j (λ y. not-string (codeOf plan j) (ap (codeOf plan) y ∙ q) h) in omega arith;
         gap-off = λ l j h z. go l j z (eqb j i) refl;
       }
     where
@@ -111,12 +111,12 @@ module _ (state : List ℕ) (late : Bool) (i n : ℕ) (c : List ℕ) (small : i 
       go l j z true e = let y = eqb-true j i e in rw y (bytes-set c (fine .long) i small n ∙ f l (rw y at z))
       go l j z false e = bytes-other c i n j (eqb-false j i e) ∙ z
 
-  pub longer-bytes : isString (codeOf state i) ≡ true → bytes c i ≤ n → Longer state late c (setBytes i n c)
+  pub longer-bytes : isString (codeOf plan i) ≡ true → bytes c i ≤ n → Longer plan late c (setBytes i n c)
   longer-bytes s h =
       record {
         rows-grow = λ j. let e = rows-of-bytes c i n j in omega arith;
         bytes-grow = λ j t. go j (eqb j i) refl;
-        gap-off = λ l j q z. bytes-other c i n j (λ y. not-string (codeOf state i) (ap (codeOf state) (sym y) ∙ q) s) ∙ z;
+        gap-off = λ l j q z. bytes-other c i n j (λ y. not-string (codeOf plan i) (ap (codeOf plan) (sym y) ∙ q) s) ∙ z;
       }
     where
       go : (j : ℕ) → (b : Bool) → eqb j i ≡ b → bytes c j ≤ bytes (setBytes i n c) j
@@ -126,9 +126,9 @@ module _ (state : List ℕ) (late : Bool) (i n : ℕ) (c : List ℕ) (small : i 
 -- three walks, either way
 pub next-next : (o : Out) (k l : List ℕ → Out) → next (next o k) l ≡ next o (λ c. next (k c) l)
 unfolding next
-next-next o k l = go (eqb (o .ans) 0) refl (eqb (k (o .counts) .ans) 0) refl
+next-next o k l = go (eqb (o .ans) 0) refl (eqb (k (o .counters) .ans) 0) refl
   where
-    go : (a : Bool) → eqb (o .ans) 0 ≡ a → (b : Bool) → eqb (k (o .counts) .ans) 0 ≡ b → next (next o k) l ≡ next o (λ c. next (k c) l)
+    go : (a : Bool) → eqb (o .ans) 0 ≡ a → (b : Bool) → eqb (k (o .counters) .ans) 0 ≡ b → next (next o k) l ≡ next o (λ c. next (k c) l)
     go true e true f = rw (e, f, append-assoc)
     go true e false f = rw (e, f)
     go false e b f = rw (e, e)
@@ -138,41 +138,41 @@ pub next-never : (o : Out) (k : List ℕ → Out) → ((c : List ℕ) → k c .a
 unfolding next
 next-never o k q = go (eqb (o .ans) 0) refl
   where
-    go : (b : Bool) → eqb (o .ans) 0 ≡ b → cond b (record { ans = k (o .counts) .ans; counts = k (o .counts) .counts; log = o .log ++ k (o .counts) .log }) o .ans ≡ 0 → ⊥
-    go true e = q (o .counts)
+    go : (b : Bool) → eqb (o .ans) 0 ≡ b → cond b (record { ans = k (o .counters) .ans; counters = k (o .counters) .counters; log = o .log ++ k (o .counters) .log }) o .ans ≡ 0 → ⊥
+    go true e = q (o .counters)
     go false e = eqb-false _ _ e
 
 -- late: whether a write stands behind what was there, as those of orders do; an opening writes the first offsets
-module _ (state : List ℕ) (late : Bool) where
+module _ (plan : List ℕ) (late : Bool) where
   -- ---- entries
 
   -- a write over run ends: over the last one, where the gap is not 0
   pub record Over (c : List ℕ) (j o : ℕ) : Type 0 where
     pub node : ℕ
     pub ends : j ≡ suc node
-    pub runs : codeOf state node ≡ 23
+    pub runs : codeOf plan node ≡ 23
     pub chosen : late ≡ true → gap c node ≡ 0 → ⊥
-    pub last : (rows c j - 1) * bytesOf state j ≤ o
+    pub last : (rows c j - 1) * bytesOf plan j ≤ o
 
   -- a write of a walk from counters c on that leaves d, with n rows more due at node e
   abbrev pub Behind : ℕ → ℕ → List ℕ → List ℕ → Entry → Type 0
-  Behind e n c d (put j b o bs) = (late ≡ true → needed state c j b ≤ o) × (1 ≤ b → Ends (o + length bs) (neededBy (codeOf state j) (rows d j + due e n j) (bytes d j) b))
-  Behind e n c d (mask j p vs) = (rows c j ≤ p) × Ends (p + length vs) (rows d j + due e n j) × (codeOf state j ≡ 0 → ⊥)
-  Behind e n c d (amend j b o bs) = Over c j o × (b ≡ 1) × Ends (o + length bs) (neededBy (codeOf state j) (rows d j + due e n j) (bytes d j) b)
+  Behind e n c d (put j b o bs) = (late ≡ true → needed plan c j b ≤ o) × (1 ≤ b → Ends (o + length bs) (neededBy (codeOf plan j) (rows d j + due e n j) (bytes d j) b))
+  Behind e n c d (mask j p vs) = (rows c j ≤ p) × Ends (p + length vs) (rows d j + due e n j) × (codeOf plan j ≡ 0 → ⊥)
+  Behind e n c d (amend j b o bs) = Over c j o × (b ≡ 1) × Ends (o + length bs) (neededBy (codeOf plan j) (rows d j + due e n j) (bytes d j) b)
 
   unfoldable pub AllBehind : ℕ → ℕ → List ℕ → List ℕ → Log → Type 0
   AllBehind e n c d [] = Unit {0}
   AllBehind e n c d (x ∷ l) = Behind e n c d x × AllBehind e n c d l
 
-  pub behind-wide : (e n : ℕ) (a b c d : List ℕ) → Longer state late a b → Longer state late c d → (x : Entry) → Behind e n b c x → Behind e n a d x
+  pub behind-wide : (e n : ℕ) (a b c d : List ℕ) → Longer plan late a b → Longer plan late c d → (x : Entry) → Behind e n b c x → Behind e n a d x
   behind-wide e n a b c d p q (put j k o bs) h =
-      let l = needed-more (codeOf state j) (rows a j) (rows b j) (bytes a j) (bytes b j) k (p .rows-grow j) (p .bytes-grow j) in
+      let l = needed-more (codeOf plan j) (rows a j) (rows b j) (bytes a j) (bytes b j) k (p .rows-grow j) (p .bytes-grow j) in
       let r = q .rows-grow j in
-      (λ y. let g = h .0 y in omega arith, λ one. ends-up (h .1 one) (needed-more (codeOf state j) _ _ _ _ k (omega arith) (q .bytes-grow j)))
+      (λ y. let g = h .0 y in omega arith, λ one. ends-up (h .1 one) (needed-more (codeOf plan j) _ _ _ _ k (omega arith) (q .bytes-grow j)))
   behind-wide e n a b c d p q (amend j k o bs) h =
       let l = p .rows-grow j in
       let r = q .rows-grow j in
-      let m : (rows a j - 1) * bytesOf state j ≤ (rows b j - 1) * bytesOf state j = mul-le-mul-right (bytesOf state j) (omega arith) in (
+      let m : (rows a j - 1) * bytesOf plan j ≤ (rows b j - 1) * bytesOf plan j = mul-le-mul-right (bytesOf plan j) (omega arith) in (
         record {
           node = h .0 .node;
           ends = h .0 .ends;
@@ -181,14 +181,14 @@ module _ (state : List ℕ) (late : Bool) where
           last = le-trans m (h .0 .last);
         },
         h .1,
-        ends-up (h .2) (needed-more (codeOf state j) _ _ _ _ k (omega arith) (q .bytes-grow j)),
+        ends-up (h .2) (needed-more (codeOf plan j) _ _ _ _ k (omega arith) (q .bytes-grow j)),
       )
   behind-wide e n a b c d p q (mask j k vs) h =
       let l = p .rows-grow j in
       let r = q .rows-grow j in
       (omega (arith, h .0), ends-up (h .1) (omega arith), h .2)
 
-  all-wide : (e n : ℕ) (a b c d : List ℕ) → Longer state late a b → Longer state late c d → (l : Log) → AllBehind e n b c l → AllBehind e n a d l
+  all-wide : (e n : ℕ) (a b c d : List ℕ) → Longer plan late a b → Longer plan late c d → (l : Log) → AllBehind e n b c l → AllBehind e n a d l
   unfolding AllBehind
   all-wide e n a b c d p q [] h = tt
   all-wide e n a b c d p q (x ∷ l) h = (behind-wide e n a b c d p q x (h .0), all-wide e n a b c d p q l (h .1))
@@ -202,10 +202,10 @@ module _ (state : List ℕ) (late : Bool) where
   behind-due : (e n f : ℕ) (c d : List ℕ) (x : Entry) → Behind f 0 c d x → Behind e n c d x
   behind-due e n f c d (put j k o bs) h =
       let z = due-none f j in
-      (h .0, λ one. ends-up (h .1 one) (needed-more (codeOf state j) _ _ _ _ k (omega arith) (λ s. le-refl _)))
+      (h .0, λ one. ends-up (h .1 one) (needed-more (codeOf plan j) _ _ _ _ k (omega arith) (λ s. le-refl _)))
   behind-due e n f c d (amend j k o bs) h =
       let z = due-none f j in
-      (h .0, h .1, ends-up (h .2) (needed-more (codeOf state j) _ _ _ _ k (omega arith) (λ s. le-refl _)))
+      (h .0, h .1, ends-up (h .2) (needed-more (codeOf plan j) _ _ _ _ k (omega arith) (λ s. le-refl _)))
   behind-due e n f c d (mask j k vs) h = let z = due-none f j in (h .0, ends-up (h .1) (omega arith), h .2)
 
   all-due : (e n f : ℕ) (c d : List ℕ) (l : Log) → AllBehind f 0 c d l → AllBehind e n c d l
@@ -214,15 +214,15 @@ module _ (state : List ℕ) (late : Bool) where
   all-due e n f c d (x ∷ l) h = (behind-due e n f c d x (h .0), all-due e n f c d l (h .1))
 
   -- the rows that were due are counted
-  ends-close : (i n : ℕ) (d : List ℕ) → i < 32 → Fine d → (j k m : ℕ) → 1 ≤ k → Ends m (neededBy (codeOf state j) (rows d j + due i n j) (bytes d j) k)
-      → Ends m (neededBy (codeOf state j) (rows (addRows i n d) j + due i 0 j) (bytes (addRows i n d) j) k)
+  ends-close : (i n : ℕ) (d : List ℕ) → i < 32 → Fine d → (j k m : ℕ) → 1 ≤ k → Ends m (neededBy (codeOf plan j) (rows d j + due i n j) (bytes d j) k)
+      → Ends m (neededBy (codeOf plan j) (rows (addRows i n d) j + due i 0 j) (bytes (addRows i n d) j) k)
   ends-close i n d small fine j k m one h g =
-      let e = rows-now state late i n d small fine j in
+      let e = rows-now plan late i n d small fine j in
       let f = bytes-of-rows d i n j in
       let z = due-none i j in
       let v : rows (addRows i n d) j + due i 0 j ≡ min (rows d j + due i n j) top = omega arith in
-      let w : neededBy (codeOf state j) (rows (addRows i n d) j + due i 0 j) (bytes (addRows i n d) j) k ≡ neededBy (codeOf state j) (min (rows d j + due i n j) top) (bytes d j) k = rw (v, f) in
-      let s = needed-cut (codeOf state j) (rows d j + due i n j) (bytes d j) k one (omega arith) in
+      let w : neededBy (codeOf plan j) (rows (addRows i n d) j + due i 0 j) (bytes (addRows i n d) j) k ≡ neededBy (codeOf plan j) (min (rows d j + due i n j) top) (bytes d j) k = rw (v, f) in
+      let s = needed-cut (codeOf plan j) (rows d j + due i n j) (bytes d j) k one (omega arith) in
       let t = h (omega arith) in
       omega arith
 
@@ -230,7 +230,7 @@ module _ (state : List ℕ) (late : Bool) where
   behind-close i n c d small fine (put j k o bs) h = (h .0, λ one. ends-close i n d small fine j k (o + length bs) one (h .1 one))
   behind-close i n c d small fine (amend j k o bs) h = (h .0, h .1, ends-close i n d small fine j k (o + length bs) (omega (arith, h .1)) (h .2))
   behind-close i n c d small fine (mask j k vs) h =
-      let e = rows-now state late i n d small fine j in
+      let e = rows-now plan late i n d small fine j in
       let z = due-none i j in
       (h .0, λ g. let t = h .1 (omega arith) in omega arith, h .2)
 
@@ -244,25 +244,25 @@ module _ (state : List ℕ) (late : Bool) where
   -- what a walk that is done has added
   pub record Added (e n : ℕ) (c d : List ℕ) (l : Log) : Type 0 where
     pub fine : Fine d
-    pub longer : Longer state late c d
+    pub longer : Longer plan late c d
     pub behind : AllBehind e n c d l
 
   pub record Adds (e n : ℕ) (c : List ℕ) (o : Out) : Type 0 where
-    pub added : Fine c → o .ans ≡ 0 → Added e n c (o .counts) (o .log)
+    pub added : Fine c → o .ans ≡ 0 → Added e n c (o .counters) (o .log)
 
   module _ (e n : ℕ) where
     pub adds-done : (c : List ℕ) → Adds e n c (done c)
     unfolding done AllBehind
-    adds-done c = record { added = λ f h. record { fine = f; longer = longer-same state late c; behind = tt } }
+    adds-done c = record { added = λ f h. record { fine = f; longer = longer-same plan late c; behind = tt } }
 
     pub adds-nulls : (i k : ℕ) (c : List ℕ) → i < 32 → Adds e n c (done (addNulls i k c))
     unfolding done AllBehind
-    adds-nulls i k c s = record { added = λ f h. record { fine = fine-nulls state late i k c s f; longer = longer-nulls state late i k c s f; behind = tt } }
+    adds-nulls i k c s = record { added = λ f h. record { fine = fine-nulls plan late i k c s f; longer = longer-nulls plan late i k c s f; behind = tt } }
 
     -- a run-end node's gap is set; where it is 0, an order leaves it
-    pub adds-gap : (i v : ℕ) (c : List ℕ) → i < 32 → codeOf state i ≡ 23 → (late ≡ true → gap c i ≡ 0 → v ≡ 0) → Adds e n c (done (setBytes i v c))
+    pub adds-gap : (i v : ℕ) (c : List ℕ) → i < 32 → codeOf plan i ≡ 23 → (late ≡ true → gap c i ≡ 0 → v ≡ 0) → Adds e n c (done (setBytes i v c))
     unfolding done AllBehind
-    adds-gap i v c s q z = record { added = λ f h. record { fine = fine-bytes state late i v c s f; longer = longer-gap state late i v c s f q z; behind = tt } }
+    adds-gap i v c s q z = record { added = λ f h. record { fine = fine-bytes plan late i v c s f; longer = longer-gap plan late i v c s f q z; behind = tt } }
 
     pub adds-fail : (g : ℕ) (c : List ℕ) → 0 < g → Adds e n c (fail g c)
     unfolding fail
@@ -274,7 +274,7 @@ module _ (state : List ℕ) (late : Bool) where
 
     pub adds-wrote : (x : Entry) (c : List ℕ) → Behind e n c c x → Adds e n c (wrote x c)
     unfolding wrote AllBehind
-    adds-wrote x c h = record { added = λ f k. record { fine = f; longer = longer-same state late c; behind = (h, tt) } }
+    adds-wrote x c h = record { added = λ f k. record { fine = f; longer = longer-same plan late c; behind = (h, tt) } }
 
     pub adds-cond : (c : List ℕ) (b : Bool) (o p : Out) → (b ≡ true → Adds e n c o) → (b ≡ false → Adds e n c p) → Adds e n c (cond b o p)
     adds-cond c true o p h k = h refl
@@ -292,18 +292,18 @@ module _ (state : List ℕ) (late : Bool) where
     unfolding next
     adds-next c o k u h = go (eqb (o .ans) 0) refl
       where
-        go : (b : Bool) → eqb (o .ans) 0 ≡ b → Adds e n c (cond b (record { ans = k (o .counts) .ans; counts = k (o .counts) .counts; log = o .log ++ k (o .counts) .log }) o)
+        go : (b : Bool) → eqb (o .ans) 0 ≡ b → Adds e n c (cond b (record { ans = k (o .counters) .ans; counters = k (o .counters) .counters; log = o .log ++ k (o .counters) .log }) o)
         go true q =
             record {
               added = λ f z.
                   let a = u .added f (eqb-true _ _ q) in
-                  let b = h (o .counts) .added (a .fine) z in
+                  let b = h (o .counters) .added (a .fine) z in
                   record {
                     fine = b .fine;
                     longer = longer-then (a .longer) (b .longer);
-                    behind = all-append e n c (k (o .counts) .counts) (o .log) (k (o .counts) .log)
-                        (all-wide e n c c (o .counts) (k (o .counts) .counts) (longer-same state late c) (b .longer) (o .log) (a .behind))
-                        (all-wide e n c (o .counts) (k (o .counts) .counts) (k (o .counts) .counts) (a .longer) (longer-same state late _) (k (o .counts) .log) (b .behind));
+                    behind = all-append e n c (k (o .counters) .counters) (o .log) (k (o .counters) .log)
+                        (all-wide e n c c (o .counters) (k (o .counters) .counters) (longer-same plan late c) (b .longer) (o .log) (a .behind))
+                        (all-wide e n c (o .counters) (k (o .counters) .counters) (k (o .counters) .counters) (a .longer) (longer-same plan late _) (k (o .counters) .log) (b .behind));
                   };
             }
         go false q = u
@@ -321,23 +321,23 @@ module _ (state : List ℕ) (late : Bool) where
 
     -- a whole walk is one within another
     pub adds-whole : (i : ℕ) (c : List ℕ) (o : Out) → Adds i 0 c o → Adds e n c o
-    adds-whole i c o u = record { added = λ f h. let a = u .added f h in record { fine = a .fine; longer = a .longer; behind = all-due e n i c (o .counts) (o .log) (a .behind) } }
+    adds-whole i c o u = record { added = λ f h. let a = u .added f h in record { fine = a .fine; longer = a .longer; behind = all-due e n i c (o .counters) (o .log) (a .behind) } }
 
   -- the rows are counted last
   pub adds-close : (i n : ℕ) (c : List ℕ) (o : Out) → i < 32 → Adds i n c o → Adds i 0 c (next o (λ d. done (addRows i n d)))
   unfolding next done
   adds-close i n c o s u = go (eqb (o .ans) 0) refl
     where
-      go : (b : Bool) → eqb (o .ans) 0 ≡ b → Adds i 0 c (cond b (record { ans = 0; counts = addRows i n (o .counts); log = o .log ++ [] }) o)
+      go : (b : Bool) → eqb (o .ans) 0 ≡ b → Adds i 0 c (cond b (record { ans = 0; counters = addRows i n (o .counters); log = o .log ++ [] }) o)
       go true q =
           record {
             added = λ f z.
                 let a = u .added f (eqb-true _ _ q) in
-                let l = longer-rows state late i n (o .counts) s (a .fine) in
+                let l = longer-rows plan late i n (o .counters) s (a .fine) in
                 record {
-                  fine = fine-rows state late i n (o .counts) s (a .fine);
+                  fine = fine-rows plan late i n (o .counters) s (a .fine);
                   longer = longer-then (a .longer) l;
-                  behind = subst (AllBehind i 0 c (addRows i n (o .counts))) (sym (append-nil (o .log))) (all-close i n c (o .counts) s (a .fine) (o .log) (a .behind));
+                  behind = subst (AllBehind i 0 c (addRows i n (o .counters))) (sym (append-nil (o .log))) (all-close i n c (o .counters) s (a .fine) (o .log) (a .behind));
                 };
           }
       go false q = record { added = λ f z. absurd (eqb-false _ _ q z) }
@@ -350,7 +350,7 @@ module _ (state : List ℕ) (late : Bool) where
 
   module _ (i n : ℕ) where
     -- q entries of w bytes behind r of them
-    pub behind-rows : (b w r q o : ℕ) (bs c : List ℕ) → ((k m : ℕ) → neededBy (codeOf state i) k m b ≡ k * w) → o ≡ (rows c i + r) * w → length bs ≤ q * w → r + q ≤ n
+    pub behind-rows : (b w r q o : ℕ) (bs c : List ℕ) → ((k m : ℕ) → neededBy (codeOf plan i) k m b ≡ k * w) → o ≡ (rows c i + r) * w → length bs ≤ q * w → r + q ≤ n
         → Behind i n c c (put i b o bs)
     behind-rows b w r q o bs c h e l s =
         let d = due-here i n in
@@ -362,11 +362,11 @@ module _ (state : List ℕ) (late : Bool) where
         (λ y. omega arith, λ one z. omega arith)
 
     -- n entries of w bytes
-    pub behind-all : (b w : ℕ) (bs c : List ℕ) → ((k m : ℕ) → neededBy (codeOf state i) k m b ≡ k * w) → length bs ≤ n * w → Behind i n c c (put i b (rows c i * w) bs)
+    pub behind-all : (b w : ℕ) (bs c : List ℕ) → ((k m : ℕ) → neededBy (codeOf plan i) k m b ≡ k * w) → length bs ≤ n * w → Behind i n c c (put i b (rows c i * w) bs)
     behind-all b w bs c h l = behind-rows b w 0 n (rows c i * w) bs c h (ap (_* w) (sym (add-zero (rows c i)))) l (omega arith)
 
     -- n offsets behind the last one
-    pub behind-offsets : (w : ℕ) (bs c : List ℕ) → ((k m : ℕ) → neededBy (codeOf state i) k m 1 ≡ (k + 1) * w) → length bs ≡ w * n
+    pub behind-offsets : (w : ℕ) (bs c : List ℕ) → ((k m : ℕ) → neededBy (codeOf plan i) k m 1 ≡ (k + 1) * w) → length bs ≡ w * n
         → Behind i n c c (put i 1 (suc (rows c i) * w) bs)
     behind-offsets w bs c h l =
         let d = due-here i n in
@@ -378,14 +378,14 @@ module _ (state : List ℕ) (late : Bool) where
         let k4 = mul-comm w n in
         (λ y. omega arith, λ one z. omega arith)
 
-    pub behind-bits : (vs c : List ℕ) → length vs ≤ n → (codeOf state i ≡ 0 → ⊥) → Behind i n c c (mask i (rows c i) vs)
+    pub behind-bits : (vs c : List ℕ) → length vs ≤ n → (codeOf plan i ≡ 0 → ⊥) → Behind i n c c (mask i (rows c i) vs)
     behind-bits vs c l q = let d = due-here i n in (le-refl _, λ z. omega arith, q)
 
     -- the last run end of node i written over
-    pub over-last : (v : ℕ) (c : List ℕ) → codeOf state i ≡ 23 → (late ≡ true → gap c i ≡ 0 → ⊥) → 1 ≤ rows c (suc i)
-        → ((k m : ℕ) → neededBy (codeOf state (suc i)) k m 1 ≡ k * bytesOf state (suc i)) → Behind i n c c (amend (suc i) 1 ((rows c (suc i) - 1) * bytesOf state (suc i)) (encode (bytesOf state (suc i)) v))
+    pub over-last : (v : ℕ) (c : List ℕ) → codeOf plan i ≡ 23 → (late ≡ true → gap c i ≡ 0 → ⊥) → 1 ≤ rows c (suc i)
+        → ((k m : ℕ) → neededBy (codeOf plan (suc i)) k m 1 ≡ k * bytesOf plan (suc i)) → Behind i n c c (amend (suc i) 1 ((rows c (suc i) - 1) * bytesOf plan (suc i)) (encode (bytesOf plan (suc i)) v))
     over-last v c q on some h =
-        let w = bytesOf state (suc i) in
+        let w = bytesOf plan (suc i) in
         let f = h (rows c (suc i) + due i n (suc i)) (bytes c (suc i)) in
         let l = length-encode w v in
         let z : suc (rows c (suc i) - 1) ≡ rows c (suc i) = omega arith in

@@ -95,9 +95,9 @@ last-after w s from n last = go (ltb (entry w s from n) (entry w s from 0)) (ltb
     go false false true = over _ _
     go false false false = let l : last ≤ moved w s from last n = omega arith in fits (moved w s from last n) (entry w s from 0) l
 
-module _ (x : Join) (In At : ℕ → Type 0) (closed : Closed (x .state) In At) (run-ends : (i : ℕ) → In i → codeOf (x .state) i ≡ 23 → isFixed (codeOf (x .state) (suc i)) ≡ true) (late : Bool) where
+module _ (x : Join) (In At : ℕ → Type 0) (closed : Closed (x .plan) In At) (run-ends : (i : ℕ) → In i → codeOf (x .plan) i ≡ 23 → isFixed (codeOf (x .plan) (suc i)) ≡ true) (late : Bool) where
   abbrev S : List ℕ
-  S = x .state
+  S = x .plan
 
   -- ---- a node without children
 

@@ -35,9 +35,9 @@ counted-all : (w v n : ℕ) → length (countedUp w v n) ≡ w * n
 unfolding countedUp
 counted-all w v n = length-numbers w _ n
 
-module _ (x : Join) (In At : ℕ → Type 0) (closed : Closed (x .state) In At) (run-ends : (i : ℕ) → In i → codeOf (x .state) i ≡ 23 → isFixed (codeOf (x .state) (suc i)) ≡ true) (late : Bool) where
+module _ (x : Join) (In At : ℕ → Type 0) (closed : Closed (x .plan) In At) (run-ends : (i : ℕ) → In i → codeOf (x .plan) i ≡ 23 → isFixed (codeOf (x .plan) (suc i)) ≡ true) (late : Bool) where
   abbrev S : List ℕ
-  S = x .state
+  S = x .plan
 
   module _ (i n : ℕ) (small : i < 32) where
     adds-null-mask : (c : List ℕ) → (codeOf S i ≡ 0 → ⊥) → Adds S late i n c (nullMask x i n c)

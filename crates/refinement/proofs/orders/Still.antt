@@ -29,7 +29,7 @@ module _ (j : ℕ) where
     pub bytes-same : bytes c′ j ≡ bytes c j
 
   abbrev Still : List ℕ → Out → Type 0
-  Still c o = Same c (o .counts)
+  Still c o = Same c (o .counters)
 
   same-refl : (c : List ℕ) → Same c c
   same-refl c = record { rows-same = refl; nulls-same = refl; bytes-same = refl }
@@ -67,14 +67,14 @@ module _ (j : ℕ) where
 
   still-next : (c : List ℕ) (o : Out) (k : List ℕ → Out) → Still c o → ((c2 : List ℕ) → Still c2 (k c2)) → Still c (next o k)
   unfolding next
-  still-next c o k h g = still-cond c (eqb (o .ans) 0) _ o (λ e. same-then h (g (o .counts))) (λ e. h)
+  still-next c o k h g = still-cond c (eqb (o .ans) 0) _ o (λ e. same-then h (g (o .counters))) (λ e. h)
 
   still-each : (f : ℕ → List ℕ → Out) → ((r : ℕ) (c : List ℕ) → Still c (f r c)) → (n r : ℕ) (c : List ℕ) → Still c (each f n r c)
   unfolding each
   still-each f h zero r c = still-done c
   still-each f h (suc n) r c = still-next c (f r c) _ (h r c) (λ c2. still-each f h n (suc r) c2)
 
-  module _ (x : Join) (In At : ℕ → Type 0) (closed : Closed (x .state) In At) (out : At j → ⊥) where
+  module _ (x : Join) (In At : ℕ → Type 0) (closed : Closed (x .plan) In At) (out : At j → ⊥) where
     apart : (i : ℕ) → At i → j ≡ i → ⊥
     apart i a e = out (subst At (sym e) a)
 
@@ -103,7 +103,7 @@ module _ (j : ℕ) where
       still-mask : (slot n : ℕ) (c : List ℕ) → Still c (copyMask x i slot n c)
       unfolding copyMask copyBits
       still-mask slot n c =
-          still-cond c (eqb (keepsOf (x .state) i) 0) _ _ (λ e. still-done c)
+          still-cond c (eqb (keepsOf (x .plan) i) 0) _ _ (λ e. still-done c)
           (λ e. still-cond c (eqb (place x i 0) 0) _ _ (λ f. still-wrote _ c)
           (λ f. still-need _ 12 c _ (λ g. still-next c _ _ (still-wrote _ c) (λ c2. more-nulls i _ c2 here))))
 
@@ -133,45 +133,45 @@ module _ (j : ℕ) where
           (λ e. still-need _ 12 c _ (λ f. still-extended w (place x i 3 + w * slot) n (extended w (x .body) (place x i 3 + w * slot) n (bytes c i)) c))
 
     module _ (walk : Walk) (below : (k a n : ℕ) (c : List ℕ) → In k → Still c (walk k a n c)) (i : ℕ) (here : In i) where
-      still-list : (w slot n : ℕ) (c : List ℕ) → isListView (codeOf (x .state) i) ≡ true → Still c (copyListView x walk w i slot n c)
+      still-list : (w slot n : ℕ) (c : List ℕ) → isListView (codeOf (x .plan) i) ≡ true → Still c (copyListView x walk w i slot n c)
       unfolding copyListView listViewRow
       still-list w slot n c h =
           still-need _ 12 c _
           (λ e. still-need _ 12 c _
           (λ f. still-each _
           (λ r c1. still-need _ 6 c1 _
-          (λ g. still-next c1 _ _ (still-wrote _ c1) (λ c2. still-next c2 _ _ (still-wrote _ c2) (λ c3. below (suc i) _ _ c3 (closed .item i here (between-wide 17 18 17 20 (codeOf (x .state) i) (omega arith) (omega arith) h))))))
+          (λ g. still-next c1 _ _ (still-wrote _ c1) (λ c2. still-next c2 _ _ (still-wrote _ c2) (λ c3. below (suc i) _ _ c3 (closed .item i here (between-wide 17 18 17 20 (codeOf (x .plan) i) (omega arith) (omega arith) h))))))
           n 0 c))
 
-      still-stretch : (w from n : ℕ) (e : Extended) (c : List ℕ) → isList (codeOf (x .state) i) ≡ true → Still c (putList x walk w i from n e c)
+      still-stretch : (w from n : ℕ) (e : Extended) (c : List ℕ) → isList (codeOf (x .plan) i) ≡ true → Still c (putList x walk w i from n e c)
       unfolding putStretch
       still-stretch w from n (Fits last first) c h =
-          still-next c _ _ (still-wrote _ c) (λ c2. below (suc i) _ _ c2 (closed .item i here (between-wide 19 20 17 20 (codeOf (x .state) i) (omega arith) (omega arith) h)))
+          still-next c _ _ (still-wrote _ c) (λ c2. below (suc i) _ _ c2 (closed .item i here (between-wide 19 20 17 20 (codeOf (x .plan) i) (omega arith) (omega arith) h)))
       still-stretch w from n (Over row needed) c h = still-fail 6 c
       still-stretch w from n Falls c h = still-fail 12 c
 
-      still-lists : (w slot n : ℕ) (c : List ℕ) → isList (codeOf (x .state) i) ≡ true → Still c (copyList x walk w i slot n c)
+      still-lists : (w slot n : ℕ) (c : List ℕ) → isList (codeOf (x .plan) i) ≡ true → Still c (copyList x walk w i slot n c)
       unfolding copyList
       still-lists w slot n c h =
           still-cond c (eqb n 0) _ _ (λ e. still-done c)
           (λ e. still-need _ 12 c _
           (λ f. still-need _ 12 c _ (λ g. still-stretch w (place x i 3 + w * slot) n (extended w (x .body) (place x i 3 + w * slot) n (rows c (suc i))) c h)))
 
-      still-fields : (slot n fuel k : ℕ) (c : List ℕ) → isUnion (codeOf (x .state) i) ≡ true → (k < endOf (x .state) i → Child (x .state) i k)
-          → Still c (copyFields x walk slot n (endOf (x .state) i) fuel k c)
+      still-fields : (slot n fuel k : ℕ) (c : List ℕ) → isUnion (codeOf (x .plan) i) ≡ true → (k < endOf (x .plan) i → Child (x .plan) i k)
+          → Still c (copyFields x walk slot n (endOf (x .plan) i) fuel k c)
       unfolding copyFields
       still-fields slot n zero k c h d = still-done c
       still-fields slot n (suc fuel) k c h d =
-          still-cond c (ltb k (endOf (x .state) i)) _ _
-          (λ e. let f = d (ltb-true k (endOf (x .state) i) e) in
-          still-next c _ _ (below k slot n c (closed .child i k here h f)) (λ c2. still-fields slot n fuel (endOf (x .state) k) c2 h (child-later (x .state) i k f)))
+          still-cond c (ltb k (endOf (x .plan) i)) _ _
+          (λ e. let f = d (ltb-true k (endOf (x .plan) i) e) in
+          still-next c _ _ (below k slot n c (closed .child i k here h f)) (λ c2. still-fields slot n fuel (endOf (x .plan) k) c2 h (child-later (x .plan) i k f)))
           (λ e. still-done c)
 
-      still-sparse : (slot n : ℕ) (c : List ℕ) → isUnion (codeOf (x .state) i) ≡ true → Still c (copySparse x walk i slot n c)
+      still-sparse : (slot n : ℕ) (c : List ℕ) → isUnion (codeOf (x .plan) i) ≡ true → Still c (copySparse x walk i slot n c)
       unfolding copySparse
-      still-sparse slot n c u = still-need _ 12 c _ (λ e. still-next c _ _ (still-wrote _ c) (λ c2. still-fields slot n 32 (suc i) c2 u (child-first (x .state) i)))
+      still-sparse slot n c u = still-need _ 12 c _ (λ e. still-next c _ _ (still-wrote _ c) (λ c2. still-fields slot n 32 (suc i) c2 u (child-first (x .plan) i)))
 
-      still-dense : (slot n : ℕ) (c : List ℕ) → isUnion (codeOf (x .state) i) ≡ true → Still c (copyDense x walk i slot n c)
+      still-dense : (slot n : ℕ) (c : List ℕ) → isUnion (codeOf (x .plan) i) ≡ true → Still c (copyDense x walk i slot n c)
       unfolding copyDense denseRow denseTo
       still-dense slot n c u =
           still-need _ 12 c _
@@ -180,38 +180,38 @@ module _ (j : ℕ) where
           (λ l. still-need _ 6 c1 _
           (λ g. still-next c1 _ _ (still-wrote _ c1)
           (λ c2. still-next c2 _ _ (still-wrote _ c2)
-          (λ c3. below _ _ 1 c3 (closed .child i _ here u (child-with (x .state) i (idAt x walk i (slot + r)) 32 (suc i) (child-first (x .state) i) l)))))))
+          (λ c3. below _ _ 1 c3 (closed .child i _ here u (child-with (x .plan) i (idAt x walk i (slot + r)) 32 (suc i) (child-first (x .plan) i) l)))))))
           n 0 c)
 
-      still-put : (w slot n : ℕ) (r : Runs) (c : List ℕ) → codeOf (x .state) i ≡ 23 → Still c (putRuns x walk w i slot n r c)
+      still-put : (w slot n : ℕ) (r : Runs) (c : List ℕ) → codeOf (x .plan) i ≡ 23 → Still c (putRuns x walk w i slot n r c)
       still-put w slot n None c q = still-fail 12 c
       still-put w slot n (Range start count) c q =
           still-next c _ _ (below (suc (suc i)) (start .0) count c (closed .values i here q))
           (λ c2. still-next c2 _ _ (still-wrote _ c2) (λ c3. more-runs i count _ c3 (closed .own i here) (closed .ends i here q)))
 
-      still-runs : (slot n : ℕ) (c : List ℕ) → codeOf (x .state) i ≡ 23 → Still c (copyRuns x walk i slot n c)
+      still-runs : (slot n : ℕ) (c : List ℕ) → codeOf (x .plan) i ≡ 23 → Still c (copyRuns x walk i slot n c)
       unfolding copyRuns
       still-runs slot n c q =
           still-cond c (eqb n 0) _ _ (λ e. still-done c)
           (λ e. still-need _ 12 c _
           (λ f. still-need _ 7 c _
-          (λ g. still-need _ 12 c _ (λ h. still-put (bytesOf (x .state) (suc i)) slot n (runsAt x walk (bytesOf (x .state) (suc i)) i slot n) c q))))
+          (λ g. still-need _ 12 c _ (λ h. still-put (bytesOf (x .plan) (suc i)) slot n (runsAt x walk (bytesOf (x .plan) (suc i)) i slot n) c q))))
 
-      union : (v : ℕ) → eqb (codeOf (x .state) i) v ≡ true → isUnion v ≡ true → isUnion (codeOf (x .state) i) ≡ true
-      union v e h = rw (eqb-true (codeOf (x .state) i) v e) h
+      union : (v : ℕ) → eqb (codeOf (x .plan) i) v ≡ true → isUnion v ≡ true → isUnion (codeOf (x .plan) i) ≡ true
+      union v e h = rw (eqb-true (codeOf (x .plan) i) v e) h
 
-      still-data : (slot n : ℕ) (c : List ℕ) → Still c (copyData x walk (codeOf (x .state) i) i slot n c)
+      still-data : (slot n : ℕ) (c : List ℕ) → Still c (copyData x walk (codeOf (x .plan) i) i slot n c)
       unfolding copyData
       still-data slot n c =
-          still-cond c (isFixed (codeOf (x .state) i)) _ _
-          (λ e. still-cond c (eqb (dictionaryOf (x .state) i) 0) _ _ (λ f. still-numbers i (closed .own i here) _ slot n c) (λ f. still-keys i (closed .own i here) _ slot n c))
-          (λ e1. still-cond c (isString (codeOf (x .state) i)) _ _ (λ e. still-string i (closed .own i here) _ slot n c)
-          (λ e2. still-cond c (isView (codeOf (x .state) i)) _ _ (λ e. still-views i (closed .own i here) slot n c)
-          (λ e3. still-cond c (isListView (codeOf (x .state) i)) _ _ (λ e. still-list _ slot n c e)
-          (λ e4. still-cond c (isList (codeOf (x .state) i)) _ _ (λ e. still-lists _ slot n c e)
-          (λ e5. still-cond c (eqb (codeOf (x .state) i) 21) _ _ (λ e. still-sparse slot n c (union 21 e refl))
-          (λ e6. still-cond c (eqb (codeOf (x .state) i) 22) _ _ (λ e. still-dense slot n c (union 22 e refl))
-          (λ e7. still-cond c (eqb (codeOf (x .state) i) 23) _ _ (λ e. still-runs slot n c (eqb-true (codeOf (x .state) i) 23 e))
+          still-cond c (isFixed (codeOf (x .plan) i)) _ _
+          (λ e. still-cond c (eqb (dictionaryOf (x .plan) i) 0) _ _ (λ f. still-numbers i (closed .own i here) _ slot n c) (λ f. still-keys i (closed .own i here) _ slot n c))
+          (λ e1. still-cond c (isString (codeOf (x .plan) i)) _ _ (λ e. still-string i (closed .own i here) _ slot n c)
+          (λ e2. still-cond c (isView (codeOf (x .plan) i)) _ _ (λ e. still-views i (closed .own i here) slot n c)
+          (λ e3. still-cond c (isListView (codeOf (x .plan) i)) _ _ (λ e. still-list _ slot n c e)
+          (λ e4. still-cond c (isList (codeOf (x .plan) i)) _ _ (λ e. still-lists _ slot n c e)
+          (λ e5. still-cond c (eqb (codeOf (x .plan) i) 21) _ _ (λ e. still-sparse slot n c (union 21 e refl))
+          (λ e6. still-cond c (eqb (codeOf (x .plan) i) 22) _ _ (λ e. still-dense slot n c (union 22 e refl))
+          (λ e7. still-cond c (eqb (codeOf (x .plan) i) 23) _ _ (λ e. still-runs slot n c (eqb-true (codeOf (x .plan) i) 23 e))
           (λ e8. still-fail 12 c))))))))
 
       still-node : (a n : ℕ) (c : List ℕ) → Still c (copyNode x walk i a n c)
@@ -219,7 +219,7 @@ module _ (j : ℕ) where
       still-node a n c =
           still-need _ 12 c _
           (λ e. still-found far _ 12 c _
-          (λ f. still-next c _ _ (still-cond c (masked (codeOf (x .state) i)) _ _ (λ g. still-mask i (closed .own i here) _ n c) (λ g. still-done c))
+          (λ f. still-next c _ _ (still-cond c (masked (codeOf (x .plan) i)) _ _ (λ g. still-mask i (closed .own i here) _ n c) (λ g. still-done c))
           (λ c2. still-next c2 _ _ (still-data _ n c2) (λ c3. more-rows i n c3 (closed .own i here)))))
 
     -- A COPY leaves the counters of other nodes
@@ -232,11 +232,11 @@ module _ (j : ℕ) where
 
     still-null-mask : (i n : ℕ) (c : List ℕ) → At i → Still c (nullMask x i n c)
     unfolding nullMask
-    still-null-mask i n c here = still-cond c (eqb (keepsOf (x .state) i) 0) _ _ (λ e. still-done c) (λ e. still-next c _ _ (still-wrote _ c) (λ c2. more-nulls i n c2 here))
+    still-null-mask i n c here = still-cond c (eqb (keepsOf (x .plan) i) 0) _ _ (λ e. still-done c) (λ e. still-next c _ _ (still-wrote _ c) (λ c2. more-nulls i n c2 here))
 
     still-count : (i n : ℕ) (c : List ℕ) → At i → Still c (countNulls x i n c)
     unfolding countNulls
-    still-count i n c here = still-cond c (eqb (keepsOf (x .state) i) 0) _ _ (λ e. still-done c) (λ e. more-nulls i n c here)
+    still-count i n c here = still-cond c (eqb (keepsOf (x .plan) i) 0) _ _ (λ e. still-done c) (λ e. more-nulls i n c here)
 
     still-zeros : (i b w n : ℕ) (c : List ℕ) → Still c (nullNumbers x i b w n c)
     unfolding nullNumbers
@@ -255,30 +255,30 @@ module _ (j : ℕ) where
       unfolding nullList
       still-null-lists w n c = still-need _ 12 c _ (λ e. still-wrote _ c)
 
-      still-null-fields : (n fuel k : ℕ) (c : List ℕ) → isUnion (codeOf (x .state) i) ≡ true → (k < endOf (x .state) i → Child (x .state) i k)
-          → Still c (nullFields x walk n (endOf (x .state) i) fuel k c)
+      still-null-fields : (n fuel k : ℕ) (c : List ℕ) → isUnion (codeOf (x .plan) i) ≡ true → (k < endOf (x .plan) i → Child (x .plan) i k)
+          → Still c (nullFields x walk n (endOf (x .plan) i) fuel k c)
       unfolding nullFields
       still-null-fields n zero k c h d = still-done c
       still-null-fields n (suc fuel) k c h d =
-          still-cond c (ltb k (endOf (x .state) i)) _ _
-          (λ e. let f = d (ltb-true k (endOf (x .state) i) e) in
-          still-next c _ _ (below k n c (closed .child i k here h f)) (λ c2. still-null-fields n fuel (endOf (x .state) k) c2 h (child-later (x .state) i k f)))
+          still-cond c (ltb k (endOf (x .plan) i)) _ _
+          (λ e. let f = d (ltb-true k (endOf (x .plan) i) e) in
+          still-next c _ _ (below k n c (closed .child i k here h f)) (λ c2. still-null-fields n fuel (endOf (x .plan) k) c2 h (child-later (x .plan) i k f)))
           (λ e. still-done c)
 
-      still-null-sparse : (n : ℕ) (c : List ℕ) → isUnion (codeOf (x .state) i) ≡ true → Still c (nullSparse x walk i n c)
+      still-null-sparse : (n : ℕ) (c : List ℕ) → isUnion (codeOf (x .plan) i) ≡ true → Still c (nullSparse x walk i n c)
       unfolding nullSparse
-      still-null-sparse n c u = still-found 32 _ _ c _ (λ l. still-next c _ _ (still-wrote _ c) (λ c2. still-null-fields n 32 (suc i) c2 u (child-first (x .state) i)))
+      still-null-sparse n c u = still-found 32 _ _ c _ (λ l. still-next c _ _ (still-wrote _ c) (λ c2. still-null-fields n 32 (suc i) c2 u (child-first (x .plan) i)))
 
-      still-null-dense : (n : ℕ) (c : List ℕ) → isUnion (codeOf (x .state) i) ≡ true → Still c (nullDense x walk i n c)
+      still-null-dense : (n : ℕ) (c : List ℕ) → isUnion (codeOf (x .plan) i) ≡ true → Still c (nullDense x walk i n c)
       unfolding nullDense
       still-null-dense n c u =
           still-found 32 _ _ c _
           (λ l. still-need _ 6 c _
           (λ e. still-next c _ _ (still-wrote _ c)
           (λ c2. still-next c2 _ _ (still-wrote _ c2)
-          (λ c3. below _ n c3 (closed .child i _ here u (child-nullable (x .state) i 32 (suc i) (child-first (x .state) i) l))))))
+          (λ c3. below _ n c3 (closed .child i _ here u (child-nullable (x .plan) i 32 (suc i) (child-first (x .plan) i) l))))))
 
-      still-null-runs : (n : ℕ) (c : List ℕ) → codeOf (x .state) i ≡ 23 → Still c (nullRuns x walk i n c)
+      still-null-runs : (n : ℕ) (c : List ℕ) → codeOf (x .plan) i ≡ 23 → Still c (nullRuns x walk i n c)
       unfolding nullRuns growRun addRun
       still-null-runs n c q =
           still-need _ 12 c _
@@ -286,20 +286,20 @@ module _ (j : ℕ) where
           (λ off. still-next c _ _ (below (suc (suc i)) 1 c (closed .values i here q))
           (λ c2. still-need _ 7 c2 _ (λ g. still-next c2 _ _ (still-wrote _ c2) (λ c3. more-runs i 1 _ c3 (closed .own i here) (closed .ends i here q))))))
 
-      null-union : (v : ℕ) → eqb (codeOf (x .state) i) v ≡ true → isUnion v ≡ true → isUnion (codeOf (x .state) i) ≡ true
-      null-union v e h = rw (eqb-true (codeOf (x .state) i) v e) h
+      null-union : (v : ℕ) → eqb (codeOf (x .plan) i) v ≡ true → isUnion v ≡ true → isUnion (codeOf (x .plan) i) ≡ true
+      null-union v e h = rw (eqb-true (codeOf (x .plan) i) v e) h
 
-      still-null-data : (n : ℕ) (c : List ℕ) → Still c (nullData x walk (codeOf (x .state) i) i n c)
+      still-null-data : (n : ℕ) (c : List ℕ) → Still c (nullData x walk (codeOf (x .plan) i) i n c)
       unfolding nullData
       still-null-data n c =
-          still-cond c (isFixed (codeOf (x .state) i)) _ _ (λ e. still-zeros i 1 _ n c)
-          (λ e1. still-cond c (isString (codeOf (x .state) i)) _ _ (λ e. still-repeated i _ n c)
-          (λ e2. still-cond c (isView (codeOf (x .state) i)) _ _ (λ e. still-zeros i 1 16 n c)
-          (λ e3. still-cond c (isListView (codeOf (x .state) i)) _ _ (λ e. still-null-list _ n c)
-          (λ e4. still-cond c (isList (codeOf (x .state) i)) _ _ (λ e. still-null-lists _ n c)
-          (λ e5. still-cond c (eqb (codeOf (x .state) i) 21) _ _ (λ e. still-null-sparse n c (null-union 21 e refl))
-          (λ e6. still-cond c (eqb (codeOf (x .state) i) 22) _ _ (λ e. still-null-dense n c (null-union 22 e refl))
-          (λ e7. still-cond c (eqb (codeOf (x .state) i) 23) _ _ (λ e. still-null-runs n c (eqb-true (codeOf (x .state) i) 23 e))
+          still-cond c (isFixed (codeOf (x .plan) i)) _ _ (λ e. still-zeros i 1 _ n c)
+          (λ e1. still-cond c (isString (codeOf (x .plan) i)) _ _ (λ e. still-repeated i _ n c)
+          (λ e2. still-cond c (isView (codeOf (x .plan) i)) _ _ (λ e. still-zeros i 1 16 n c)
+          (λ e3. still-cond c (isListView (codeOf (x .plan) i)) _ _ (λ e. still-null-list _ n c)
+          (λ e4. still-cond c (isList (codeOf (x .plan) i)) _ _ (λ e. still-null-lists _ n c)
+          (λ e5. still-cond c (eqb (codeOf (x .plan) i) 21) _ _ (λ e. still-null-sparse n c (null-union 21 e refl))
+          (λ e6. still-cond c (eqb (codeOf (x .plan) i) 22) _ _ (λ e. still-null-dense n c (null-union 22 e refl))
+          (λ e7. still-cond c (eqb (codeOf (x .plan) i) 23) _ _ (λ e. still-null-runs n c (eqb-true (codeOf (x .plan) i) 23 e))
           (λ e8. still-fail 12 c))))))))
 
       still-null-node : (n : ℕ) (c : List ℕ) → Still c (nullNode x walk i n c)
@@ -308,7 +308,7 @@ module _ (j : ℕ) where
           still-cond c (eqb n 0) _ _ (λ e. still-done c)
           (λ e. still-need _ 12 c _
           (λ f. still-next c _ _ (still-null-data n c)
-          (λ c2. still-next c2 _ _ (still-cond c2 (masked (codeOf (x .state) i)) _ _ (λ g. still-null-mask i n c2 (closed .own i here)) (λ g. still-count i n c2 (closed .own i here)))
+          (λ c2. still-next c2 _ _ (still-cond c2 (masked (codeOf (x .plan) i)) _ _ (λ g. still-null-mask i n c2 (closed .own i here)) (λ g. still-count i n c2 (closed .own i here)))
           (λ c3. more-rows i n c3 (closed .own i here)))))
 
     -- NULLS, likewise

@@ -43,13 +43,13 @@ part-at : (body : List ℕ) (at at′ size size′ : ℕ) → at ≡ at′ → s
 part-at body at at′ size size′ e f h =
     record { bytes-are = ap (λ z. take size (drop z body)) e ∙ ap (λ z. take z (drop at′ body)) f; inside = omega (arith, leb→le (at + size) (length body) h) }
 
-module _ (t : Tree) (x : Tables) (first : ℕ) (state parts : List ℕ) (s : ℕ) where
+module _ (t : Tree) (x : Tables) (first : ℕ) (plan parts : List ℕ) (s : ℕ) where
   -- the source's tables, and the order that reads them
   abbrev own : Tables
   own = tablesFrom x first
 
   abbrev order : Join
-  order = joinOf x state parts first s
+  order = joinOf x plan parts first s
 
   valid-held : (i : ℕ) → T (validIn own i) → LentValid order i (validOf own i)
   valid-held i h = go (eqb (place own i 0) 0) refl h
@@ -80,7 +80,7 @@ module _ (t : Tree) (x : Tables) (first : ℕ) (state parts : List ℕ) (s : ℕ
       (a .0, a .1, second-held i (right (oneIn own i) (inBody own (place own i 5) (place own i 6)) h))
 
   module _ (all : T (sourceRule t own)) (sums : (i : ℕ) → i < t .count → offsetOf own i + lengthOf own i < far)
-      (kids : (i : ℕ) (b : Bool) (ids : List ℕ) → Is t i (unionKind b ids) → (e : ℕ) → List·Memᴰ e ids → childOf state i e ≡ nodeOf t i ids e) where
+      (kids : (i : ℕ) (b : Bool) (ids : List ℕ) → Is t i (unionKind b ids) → (e : ℕ) → List·Memᴰ e ids → childOf plan i e ≡ nodeOf t i ids e) where
     placed-at : (k : NodeKind) (i : ℕ) → Is t i k → T (placedAs t own k i)
     placed-at k i h = rule-placed t own k i (subst (λ k. T (kindRule t own k i)) (h .1) (every-out (nodeRule t own) (t .count) all i (h .0)))
 
@@ -102,9 +102,9 @@ module _ (t : Tree) (x : Tables) (first : ℕ) (state parts : List ℕ) (s : ℕ
         let q = two-held i (placed-at (stringNode w) i h) in
         node i (LentPlain order (string w) i) (plainBody t own (string w) i) (h .0) (q .0) (q .1, q .2)
 
-    -- a child of a union, at the node that the state gives
+    -- a child of a union, at the node that the plan gives
     child-lent : (i : ℕ) (b : Bool) (ids : List ℕ) (f : ℕ → Ty) → Is t i (unionKind b ids) → (e : ℕ) → List·Memᴰ e ids
-        → Lent order (f e) (nodeOf t i ids e) (columnOf t own (f e) (nodeOf t i ids e)) → Lent order (f e) (childOf state i e) (columnOf t own (f e) (nodeOf t i ids e))
+        → Lent order (f e) (nodeOf t i ids e) (columnOf t own (f e) (nodeOf t i ids e)) → Lent order (f e) (childOf plan i e) (columnOf t own (f e) (nodeOf t i ids e))
     child-lent i b ids f h e q r = subst (λ z. Lent order (f e) z (columnOf t own (f e) (nodeOf t i ids e))) (sym (kids i b ids h e q)) r
 
     -- THE TABLES HOLD THE COLUMN

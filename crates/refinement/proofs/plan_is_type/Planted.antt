@@ -1,4 +1,4 @@
--- What a state that has a tree's words says of each node, and the children of its unions. Assumes nothing.
+-- What A plan that has a tree's words says of each node, and the children of its unions. Assumes nothing.
 use mathlib.Core.Path.{_≡_, refl, ap, sym, subst, _∙_}
 use mathlib.Core.Bool.{Bool, true, false, not, cond, _||_, false≢true}
 use mathlib.Core.List.{List, [], _∷_, List·Memᴰ, List·Memᴰ·head, List·Memᴰ·tail}
@@ -64,38 +64,38 @@ module _ (formats schema : List ℕ) (first i : ℕ) where
   either-union true ids h = h
   either-union false ids h = h
 
-module _ (formats schema : List ℕ) (first n : ℕ) (state : List ℕ)
-    (t : typed formats schema first n ≡ true) (c : ceilings formats schema first n ≡ true) (p : Planted state formats schema first n) where
+module _ (formats schema : List ℕ) (first n : ℕ) (plan : List ℕ)
+    (t : typed formats schema first n ≡ true) (c : ceilings formats schema first n ≡ true) (p : Planted plan formats schema first n) where
   abbrev at : ℕ → ℕ → ℕ
   at i j = childAt schema first n i j
 
   pub whole-tree : whole schema first n ≡ true
   whole-tree = typed-whole formats schema first n t
 
-  pub in-state : (i : ℕ) → i < n → i < 32
-  in-state i l = omega (arith, within-nodes formats schema first n c)
+  pub in-plan : (i : ℕ) → i < n → i < 32
+  in-plan i l = omega (arith, within-nodes formats schema first n c)
 
   -- ---- the words of node i
 
   module _ (i : ℕ) (l : i < n) where
-    pub code-is : Rattle.walk.specs.State.codeOf state i ≡ codeOf formats schema first i
+    pub code-is : Rattle.walk.specs.State.codeOf plan i ≡ codeOf formats schema first i
     code-is =
-        let e : word state i 0 ≡ codeOf formats schema first i = p i 0 (in-state i l) (omega arith) ∙ zeroth formats schema first n i 0 l refl in
+        let e : word plan i 0 ≡ codeOf formats schema first i = p i 0 (in-plan i l) (omega arith) ∙ zeroth formats schema first n i 0 l refl in
         omega (arith, small-code (codeOf formats schema first i) (shape-admitted formats schema first i (typed-shape formats schema first n t i l)))
 
-    pub dictionary-is : dictionaryOf state i ≡ dictionary schema first i
-    dictionary-is = p i 1 (in-state i l) (omega arith) ∙ first-word formats schema first n i 1 l refl
+    pub dictionary-is : dictionaryOf plan i ≡ dictionary schema first i
+    dictionary-is = p i 1 (in-plan i l) (omega arith) ∙ first-word formats schema first n i 1 l refl
 
-    pub end-is : Rattle.walk.specs.State.endOf state i ≡ endOf schema first n i
+    pub end-is : Rattle.walk.specs.State.endOf plan i ≡ endOf schema first n i
     end-is =
-        let e : word state i 2 ≡ endOf schema first n i = p i 2 (in-state i l) (omega arith) ∙ second-word formats schema first n i 2 l refl in
+        let e : word plan i 2 ≡ endOf schema first n i = p i 2 (in-plan i l) (omega arith) ∙ second-word formats schema first n i 2 l refl in
         omega (arith, end-inside schema first n i (omega arith), within-nodes formats schema first n c)
 
-    id-is : idOf state i ≡ childId formats schema first n i % 256
-    id-is = ap (λ z. z % 256) (p i 3 (in-state i l) (omega arith) ∙ third-word formats schema first n i 3 l refl)
+    id-is : idOf plan i ≡ childId formats schema first n i % 256
+    id-is = ap (λ z. z % 256) (p i 3 (in-plan i l) (omega arith) ∙ third-word formats schema first n i 3 l refl)
 
-    pub nullable-is : nullableOf state i ≡ flag schema first i
-    nullable-is = p i 4 (in-state i l) (omega arith) ∙ fourth-word formats schema first n i 4 l refl
+    pub nullable-is : nullableOf plan i ≡ flag schema first i
+    nullable-is = p i 4 (in-plan i l) (omega arith) ∙ fourth-word formats schema first n i 4 l refl
 
     -- what its code says of its kind
     pub coded-is : Coded (codeOf formats schema first i) (eqb (dictionary schema first i) 0) (idsOf formats schema first i) (codeOf formats schema first (suc i)) (kindAt formats schema first i)
@@ -114,7 +114,7 @@ module _ (formats schema : List ℕ) (first n : ℕ) (state : List ℕ)
     child-in : (e : ℕ) → List·Memᴰ e ids → at i (fieldOf ids e) < n
     child-in e q = child-inside schema first n whole-tree i (fieldOf ids e) l (omega (arith, parts .0, field-in ids e q))
 
-    child-has : (e : ℕ) → List·Memᴰ e ids → idOf state (at i (fieldOf ids e)) ≡ e
+    child-has : (e : ℕ) → List·Memᴰ e ids → idOf plan (at i (fieldOf ids e)) ≡ e
     child-has e q =
         let o = union-ids (codeOf formats schema first i) (eqb (dictionary schema first i) 0) (idsOf formats schema first i) (codeOf formats schema first (suc i)) b ids union-coded in
         let d = child-id schema first n whole-tree i l formats ids o (parts .0) e q in
@@ -142,7 +142,7 @@ module _ (formats schema : List ℕ) (first n : ℕ) (state : List ℕ)
     -- the fields from child number a on, whose ids are cs
     fields-from : (kid : ℕ → ℕ → Type 0) → ((e : ℕ) → List·Memᴰ e ids → kid e (at i (fieldOf ids e))) → (cs : List ℕ) (a : ℕ) → a + length cs ≡ below schema first i → Ids cs
         → ((e : ℕ) → List·Memᴰ e cs → List·Memᴰ e ids × (fieldOf ids e ≡ a + fieldOf cs e))
-        → Fields state kid (λ e. treeOf formats schema first n .nullable (nodeOf (treeOf formats schema first n) i ids e)) (Rattle.walk.specs.State.endOf state i) cs (at i a)
+        → Fields plan kid (λ e. treeOf formats schema first n .nullable (nodeOf (treeOf formats schema first n) i ids e)) (Rattle.walk.specs.State.endOf plan i) cs (at i a)
     unfolding childAt
     fields-from kid g [] a z d f =
         let e : a ≡ below schema first i = omega arith in
@@ -155,12 +155,12 @@ module _ (formats schema : List ℕ) (first n : ℕ) (state : List ℕ)
         let b : a < below schema first i = omega arith in
         let r : at i a < n = child-inside schema first n whole-tree i a l b in
         let y = end-is (at i a) r in (
-          subst (λ z. idOf state z ≡ e) m (child-has e (h .0)),
+          subst (λ z. idOf plan z ≡ e) m (child-has e (h .0)),
           ap (λ z. eqb z 1) (nullable-is (at i a) r) ∙ ap (λ z. eqb (flag schema first z) 1) (sym m ∙ child-same formats schema first n i (fieldOf ids e)),
           omega (arith, y, end-after schema first n (at i a) r),
           omega (arith, y, end-is i l, nested schema first n (at i a) i (omega (arith, after a (omega arith))) (child-before schema first n whole-tree i a l b)),
           subst (kid e) m (g e (h .0)),
-          subst (Fields state kid _ (Rattle.walk.specs.State.endOf state i) es) (sym y)
+          subst (Fields plan kid _ (Rattle.walk.specs.State.endOf plan i) es) (sym y)
               (fields-from kid g es (suc a) (omega arith) (d .2)
               (λ v q. let u = f v (List·Memᴰ·tail q) in
               let w : fieldOf (e ∷ es) v ≡ suc (fieldOf es v) = cond-no (eqb v e) 0 (suc (fieldOf es v)) (ne-eqb v e (λ x. d .1 (subst (λ z. List·Memᴰ z es) x q))) in
@@ -169,14 +169,14 @@ module _ (formats schema : List ℕ) (first n : ℕ) (state : List ℕ)
 
     -- THE FIELDS of a union, each where it should be
     pub fields : (kid : ℕ → ℕ → Type 0) → ((e : ℕ) → List·Memᴰ e ids → kid e (at i (fieldOf ids e)))
-        → Fields state kid (λ e. treeOf formats schema first n .nullable (nodeOf (treeOf formats schema first n) i ids e)) (Rattle.walk.specs.State.endOf state i) ids (suc i)
+        → Fields plan kid (λ e. treeOf formats schema first n .nullable (nodeOf (treeOf formats schema first n) i ids e)) (Rattle.walk.specs.State.endOf plan i) ids (suc i)
     fields kid g =
-        subst (Fields state kid _ (Rattle.walk.specs.State.endOf state i) ids) (first-child formats schema first n i)
+        subst (Fields plan kid _ (Rattle.walk.specs.State.endOf plan i) ids) (first-child formats schema first n i)
         (fields-from kid g ids 0 (omega (arith, parts .0)) (parts .1) (λ e q. (q, omega arith)))
 
     node-from : (e : ℕ) → List·Memᴰ e ids → (cs : List ℕ) (fuel a : ℕ) → length cs ≤ fuel → a + length cs ≡ below schema first i → Ids cs → List·Memᴰ e cs
         → ((v : ℕ) → List·Memᴰ v cs → List·Memᴰ v ids × (fieldOf ids v ≡ a + fieldOf cs v))
-        → childWith state e (Rattle.walk.specs.State.endOf state i) fuel (at i a) ≡ at i (fieldOf ids e)
+        → childWith plan e (Rattle.walk.specs.State.endOf plan i) fuel (at i a) ≡ at i (fieldOf ids e)
     unfolding childWith childAt
     node-from e q (v ∷ vs) zero a z y d x f = absurd (omega arith)
     node-from e q (v ∷ vs) (suc fuel) a z y d x f =
@@ -185,23 +185,23 @@ module _ (formats schema : List ℕ) (first n : ℕ) (state : List ℕ)
         let j : fieldOf ids v ≡ a = omega (arith, h .1) in
         let b : a < below schema first i = omega arith in
         let r : at i a < n = child-inside schema first n whole-tree i a l b in
-        let here : idOf state (at i a) ≡ v = subst (λ z. idOf state z ≡ v) (ap (at i) j) (child-has v (h .0)) in
+        let here : idOf plan (at i a) ≡ v = subst (λ z. idOf plan z ≡ v) (ap (at i) j) (child-has v (h .0)) in
         let next = end-is (at i a) r in
-        rw (lt-ltb (at i a) (Rattle.walk.specs.State.endOf state i) (omega (arith, end-is i l, child-before schema first n whole-tree i a l b)), here, next)
+        rw (lt-ltb (at i a) (Rattle.walk.specs.State.endOf plan i) (omega (arith, end-is i l, child-before schema first n whole-tree i a l b)), here, next)
         (go (eqb v e) refl j
         (λ m. node-from e q vs fuel (suc a) (omega arith) (omega arith) (d .2) m
         (λ g s. let u = f g (List·Memᴰ·tail s) in
         let k : fieldOf (v ∷ vs) g ≡ suc (fieldOf vs g) = cond-no (eqb g v) 0 (suc (fieldOf vs g)) (ne-eqb g v (λ w. d .1 (subst (λ z. List·Memᴰ z vs) w s))) in
         (u .0, omega (arith, u .1)))))
       where
-        go : (y : Bool) → eqb v e ≡ y → fieldOf ids v ≡ a → (List·Memᴰ e vs → childWith state e (Rattle.walk.specs.State.endOf state i) fuel (endOf schema first n (at i a)) ≡ at i (fieldOf ids e))
-            → cond y (at i a) (childWith state e (Rattle.walk.specs.State.endOf state i) fuel (endOf schema first n (at i a))) ≡ at i (fieldOf ids e)
+        go : (y : Bool) → eqb v e ≡ y → fieldOf ids v ≡ a → (List·Memᴰ e vs → childWith plan e (Rattle.walk.specs.State.endOf plan i) fuel (endOf schema first n (at i a)) ≡ at i (fieldOf ids e))
+            → cond y (at i a) (childWith plan e (Rattle.walk.specs.State.endOf plan i) fuel (endOf schema first n (at i a))) ≡ at i (fieldOf ids e)
         go true w j ih = ap (at i) (sym j ∙ ap (fieldOf ids) (eqb-true v e w))
         go false w j ih = ih (behind-first e v vs (ne-eqb e v (λ m. eqb-false v e w (sym m))) x)
 
     -- THE CHILD THAT HAS AN ID is that of the tree
-    pub child-node : (e : ℕ) → List·Memᴰ e ids → childOf state i e ≡ nodeOf (treeOf formats schema first n) i ids e
+    pub child-node : (e : ℕ) → List·Memᴰ e ids → childOf plan i e ≡ nodeOf (treeOf formats schema first n) i ids e
     child-node e q =
-        ap (childWith state e (Rattle.walk.specs.State.endOf state i) 32) (sym (first-child formats schema first n i))
+        ap (childWith plan e (Rattle.walk.specs.State.endOf plan i) 32) (sym (first-child formats schema first n i))
         ∙ node-from e q ids 32 0 (omega (arith, few-ids)) (omega (arith, parts .0)) (parts .1) q (λ v m. (m, omega arith))
         ∙ child-same formats schema first n i (fieldOf ids e)

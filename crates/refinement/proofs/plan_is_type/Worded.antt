@@ -1,4 +1,4 @@
--- A state that has a tree's words stands for the tree's type. Assumes nothing.
+-- A plan that has a tree's words stands for the tree's type. Assumes nothing.
 use mathlib.Core.Path.{_≡_, refl, ap, sym, subst, _∙_}
 use mathlib.Core.Bool.{Bool, true, false}
 use mathlib.Core.List.{List, List·Memᴰ}
@@ -23,7 +23,7 @@ use Rattle.walk.specs.Copy.{isWidth}
 use Rattle.refinement.specs.walk_is_model.Holds.{Worded}
 use Rattle.refinement.specs.plan_is_type.Planted.{Planted}
 use Rattle.refinement.proofs.plan_is_type.Codes.{Coded, no-dictionary}
-use Rattle.refinement.proofs.plan_is_type.Planted.{in-state, code-is, dictionary-is, end-is, coded-is, few-ids, fields}
+use Rattle.refinement.proofs.plan_is_type.Planted.{in-plan, code-is, dictionary-is, end-is, coded-is, few-ids, fields}
 
 run-width : (v : ℕ) → RunWidth v → isWidth v ≡ true
 unfolding isWidth
@@ -31,8 +31,8 @@ run-width _ RunWidth.two = refl
 run-width _ RunWidth.four = refl
 run-width _ RunWidth.eight = refl
 
-module _ (formats schema : List ℕ) (first n : ℕ) (state : List ℕ)
-    (t : typed formats schema first n ≡ true) (c : ceilings formats schema first n ≡ true) (p : Planted state formats schema first n) where
+module _ (formats schema : List ℕ) (first n : ℕ) (plan : List ℕ)
+    (t : typed formats schema first n ≡ true) (c : ceilings formats schema first n ≡ true) (p : Planted plan formats schema first n) where
   abbrev tree : Tree
   tree = treeOf formats schema first n
 
@@ -43,43 +43,43 @@ module _ (formats schema : List ℕ) (first n : ℕ) (state : List ℕ)
   CodedAt i = Coded (code i) (eqb (dictionary schema first i) 0) (idsOf formats schema first i) (code (suc i))
 
   abbrev WordedFrom : ℕ → ℕ → Type 0
-  WordedFrom f i = Worded state f (tyOf tree f i) i
+  WordedFrom f i = Worded plan f (tyOf tree f i) i
 
-  -- a test of the state's code, and the bytes of an entry
-  as-code : (test : ℕ → Bool) (i : ℕ) → i < n → test (code i) ≡ true → test (Rattle.walk.specs.State.codeOf state i) ≡ true
-  as-code test i l h = ap test (code-is formats schema first n state t c p i l) ∙ h
+  -- a test of the plan's code, and the bytes of an entry
+  as-code : (test : ℕ → Bool) (i : ℕ) → i < n → test (code i) ≡ true → test (Rattle.walk.specs.State.codeOf plan i) ≡ true
+  as-code test i l h = ap test (code-is formats schema first n plan t c p i l) ∙ h
 
-  as-bytes : (i v : ℕ) → i < n → widthOf (code i) ≡ v → widthOf (Rattle.walk.specs.State.codeOf state i) ≡ v
-  as-bytes i v l h = ap widthOf (code-is formats schema first n state t c p i l) ∙ h
+  as-bytes : (i v : ℕ) → i < n → widthOf (code i) ≡ v → widthOf (Rattle.walk.specs.State.codeOf plan i) ≡ v
+  as-bytes i v l h = ap widthOf (code-is formats schema first n plan t c p i l) ∙ h
 
   known : (i : ℕ) → i < n → (k : NodeKind) → kindAt formats schema first i ≡ k → CodedAt i k
-  known i l k e = subst (CodedAt i) e (coded-is formats schema first n state t c p i l)
+  known i l k e = subst (CodedAt i) e (coded-is formats schema first n plan t c p i l)
 
-  spans : (i : ℕ) → i < n → i < Rattle.walk.specs.State.endOf state i
-  spans i l = omega (arith, end-is formats schema first n state t c p i l, end-after schema first n i l)
+  spans : (i : ℕ) → i < n → i < Rattle.walk.specs.State.endOf plan i
+  spans i l = omega (arith, end-is formats schema first n plan t c p i l, end-after schema first n i l)
 
   -- a node ends where its last child does
   ends-with : (i k : ℕ) → i < n → k < n → childAt schema first n i (below schema first i) ≡ endOf schema first n k
-      → Rattle.walk.specs.State.endOf state i ≡ Rattle.walk.specs.State.endOf state k
-  ends-with i k l h e = end-is formats schema first n state t c p i l ∙ sym (children-end schema first n i l) ∙ e ∙ sym (end-is formats schema first n state t c p k h)
+      → Rattle.walk.specs.State.endOf plan i ≡ Rattle.walk.specs.State.endOf plan k
+  ends-with i k l h e = end-is formats schema first n plan t c p i l ∙ sym (children-end schema first n i l) ∙ e ∙ sym (end-is formats schema first n plan t c p k h)
 
   next-in : (i : ℕ) → i < n → 0 < below schema first i → suc i < n
   next-in i l h = subst (λ k. k < n) (first-child formats schema first n i) (child-inside schema first n (typed-whole formats schema first n t) i 0 l h)
 
   module _ (f i : ℕ) (l : i < n) where
     abbrev Here : NodeKind → Type 0
-    Here k = Worded state (suc f) (tyAs tree (tyOf tree f) k i) i
+    Here k = Worded plan (suc f) (tyAs tree (tyOf tree f) k i) i
 
     small : i < 32
-    small = in-state formats schema first n state t c p i l
+    small = in-plan formats schema first n plan t c p i l
 
-    single : below schema first i ≡ 0 → Rattle.walk.specs.State.dictionaryOf state i ≡ 0
-    single z = dictionary-is formats schema first n state t c p i l ∙ no-dictionary formats schema first i z
+    single : below schema first i ≡ 0 → Rattle.walk.specs.State.dictionaryOf plan i ≡ 0
+    single z = dictionary-is formats schema first n plan t c p i l ∙ no-dictionary formats schema first i z
 
     field-worded : (ids : List ℕ) → below schema first i ≡ length ids → ((j : ℕ) → j < below schema first i → WordedFrom f (childAt schema first n i j))
-        → (e : ℕ) → List·Memᴰ e ids → Worded state f (tyOf tree f (nodeOf tree i ids e)) (childAt schema first n i (fieldOf ids e))
+        → (e : ℕ) → List·Memᴰ e ids → Worded plan f (tyOf tree f (nodeOf tree i ids e)) (childAt schema first n i (fieldOf ids e))
     field-worded ids z kid e q =
-        subst (λ k. Worded state f (tyOf tree f k) (childAt schema first n i (fieldOf ids e))) (child-same formats schema first n i (fieldOf ids e))
+        subst (λ k. Worded plan f (tyOf tree f k) (childAt schema first n i (fieldOf ids e))) (child-same formats schema first n i (fieldOf ids e))
         (kid (fieldOf ids e) (omega (arith, field-in ids e q)))
 
     worded-by : Shaped formats schema first i → ((j : ℕ) → j < below schema first i → WordedFrom f (childAt schema first n i j)) → WordedFrom (suc f) i
@@ -105,19 +105,19 @@ module _ (formats schema : List ℕ) (first n : ℕ) (state : List ℕ)
         let k = known i l _ e in
         subst Here (sym e) (
           small,
-          code-is formats schema first n state t c p i l ∙ k .0,
-          few-ids formats schema first n state t c p i l true ids e,
+          code-is formats schema first n plan t c p i l ∙ k .0,
+          few-ids formats schema first n plan t c p i l true ids e,
           spans i l,
-          fields formats schema first n state t c p i l true ids e (λ e. Worded state f (tyOf tree f (nodeOf tree i ids e))) (field-worded ids z kid),
+          fields formats schema first n plan t c p i l true ids e (λ e. Worded plan f (tyOf tree f (nodeOf tree i ids e))) (field-worded ids z kid),
         )
     worded-by (of-dense ids e z d o) kid =
         let k = known i l _ e in
         subst Here (sym e) (
           small,
-          code-is formats schema first n state t c p i l ∙ k .0,
-          few-ids formats schema first n state t c p i l false ids e,
+          code-is formats schema first n plan t c p i l ∙ k .0,
+          few-ids formats schema first n plan t c p i l false ids e,
           spans i l,
-          fields formats schema first n state t c p i l false ids e (λ e. Worded state f (tyOf tree f (nodeOf tree i ids e))) (field-worded ids z kid),
+          fields formats schema first n plan t c p i l false ids e (λ e. Worded plan f (tyOf tree f (nodeOf tree i ids e))) (field-worded ids z kid),
         )
     worded-by (of-run m e z e1 z1 d) kid =
         let k = known i l _ e in
@@ -128,7 +128,7 @@ module _ (formats schema : List ℕ) (first n : ℕ) (state : List ℕ)
         subst Here (sym e) (
           small,
           ends-with i (suc (suc i)) l in2 (ap (childAt schema first n i) z ∙ ap (endOf schema first n) at),
-          code-is formats schema first n state t c p i l ∙ k .0,
+          code-is formats schema first n plan t c p i l ∙ k .0,
           as-bytes (suc i) (width m) next (k1 .1),
           subst (WordedFrom f) at (kid 1 (omega arith)),
           run-width (width m) d,
@@ -136,7 +136,7 @@ module _ (formats schema : List ℕ) (first n : ℕ) (state : List ℕ)
     worded-by (of-dictionary m q e z e1 z1 g d) kid =
         let k = known i l _ e in
         let nd = eqb-false (dictionary schema first i) 0 (k .2) in
-        subst Here (sym e) (small, spans i l, λ y. nd (sym (dictionary-is formats schema first n state t c p i l) ∙ y), as-code isFixed i l (k .0), as-bytes i (width m) l (k .1))
+        subst Here (sym e) (small, spans i l, λ y. nd (sym (dictionary-is formats schema first n plan t c p i l) ∙ y), as-code isFixed i l (k .0), as-bytes i (width m) l (k .1))
 
   worded-at : (f i : ℕ) → i < n → 9 ≤ depth schema first n i + f → WordedFrom f i
   worded-at zero i l h = absurd (omega (arith, within-depth formats schema first n c i l))
@@ -146,5 +146,5 @@ module _ (formats schema : List ℕ) (first n : ℕ) (state : List ℕ)
       (λ j b. worded-at f (childAt schema first n i j) (child-inside schema first n w i j l b) (omega (arith, child-depth schema first n w i j l b)))
 
   -- THE STATE STANDS FOR THE TYPE
-  pub planted-worded : Worded state 8 (typeOf formats schema first n) 0
+  pub planted-worded : Worded plan 8 (typeOf formats schema first n) 0
   planted-worded = worded-at 8 0 (some-node formats schema first n (typed-whole formats schema first n t)) (root formats schema first n)

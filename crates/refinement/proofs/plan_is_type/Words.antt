@@ -1,4 +1,4 @@
--- The table that `array_data::node_words` makes is a state's front. Assumes nothing.
+-- The table that `array_data::node_words` makes is a plan's front. Assumes nothing.
 use mathlib.Core.Path.{_≡_, ap, _∙_}
 use mathlib.Core.List.{List}
 use Prim.Native.Nat.{ℕ, _+_, _*_, _/_, _%_, _<_}
@@ -18,5 +18,5 @@ module _ (formats schema : List ℕ) (first n : ℕ) where
       getD-seg f 0 256 (8 * i + j) 0 (omega arith) ∙ ap (λ z. wordOf formats schema first n z ((0 + (8 * i + j)) % 8)) e ∙ ap (wordOf formats schema first n i) g
 
   -- A STATE THAT HAS THE TABLE'S WORDS, where the last three of a node may be others
-  pub planted-by : (state : List ℕ) → ((i j : ℕ) → i < 32 → j < 5 → getD state (8 * i + j) 0 ≡ getD (planted formats schema first n) (8 * i + j) 0) → Planted state formats schema first n
-  planted-by state h i j a b = h i j a b ∙ planted-at i j a (omega arith)
+  pub planted-by : (plan : List ℕ) → ((i j : ℕ) → i < 32 → j < 5 → getD plan (8 * i + j) 0 ≡ getD (planted formats schema first n) (8 * i + j) 0) → Planted plan formats schema first n
+  planted-by plan h i j a b = h i j a b ∙ planted-at i j a (omega arith)

@@ -58,19 +58,19 @@ all-valid : (v : Option (List ℕ)) (n z : ℕ) → Mask false v n → true ≡ 
 all-valid none n z h = refl
 all-valid (some l) n z h = absurd h
 
-module _ (state : List ℕ) (k : ℕ) (ids : List ℕ) (nullable : ℕ → Bool) (f : ℕ → Ty) (i : ℕ) (w : Worded state (suc k) (tDense ids nullable f) i) where
+module _ (plan : List ℕ) (k : ℕ) (ids : List ℕ) (nullable : ℕ → Bool) (f : ℕ → Ty) (i : ℕ) (w : Worded plan (suc k) (tDense ids nullable f) i) where
   abbrev Kid : ℕ → ℕ → Type 0
-  Kid e = Worded state k (f e)
+  Kid e = Worded plan k (f e)
 
   abbrev Held : (e : ℕ) → Destination (f e) → List ℕ → Memory → Type 0
-  Held e = Holds state (f e) (childOf state i e)
+  Held e = Holds plan (f e) (childOf plan i e)
 
   -- ids and positions behind those of node i, and then child b
   dense-one : (b : ℕ) → List·Memᴰ b ids → (step : List ℕ → Out) (d : Grown (tDense ids nullable f)) (g : (e : ℕ) → Try (Destination (f e))) (new ps : List ℕ) (o : ℕ)
       (o2 : List ℕ → ℕ) (ps2 : List ℕ → List ℕ) (c : List ℕ) (μ : Memory)
-      → ((ν : Memory) → Held b (d .children b) c ν → Goes ν (λ y c′ μ′. Held b y c′ μ′ × Kept (childOf state i b) (endOf state (childOf state i b)) c c′ ν μ′) (g b) (step c))
-      → o ≡ length (d .buffer1) → o2 c ≡ length (d .buffer2) → ps2 c ≡ ps → HoldsData state (tDense ids nullable f) i d c μ
-      → Goes μ (Left state (tDense ids nullable f) i c μ)
+      → ((ν : Memory) → Held b (d .children b) c ν → Goes ν (λ y c′ μ′. Held b y c′ μ′ × Kept (childOf plan i b) (endOf plan (childOf plan i b)) c c′ ν μ′) (g b) (step c))
+      → o ≡ length (d .buffer1) → o2 c ≡ length (d .buffer2) → ps2 c ≡ ps → HoldsData plan (tDense ids nullable f) i d c μ
+      → Goes μ (Left plan (tDense ids nullable f) i c μ)
       (then (g b) (λ y. done (record { buffer1 = d .buffer1 ++ new; buffer2 = d .buffer2 ++ ps; children = atChild b g (d .children) })))
       (next (wrote (put i 1 o new) c) (λ c2. next (wrote (put i 2 (o2 c2) (ps2 c2)) c2) step))
   dense-one b p step d g new ps o o2 ps2 c μ steps at1 at2 is h =
@@ -88,12 +88,12 @@ module _ (state : List ℕ) (k : ℕ) (ids : List ℕ) (nullable : ℕ → Bool)
       own = own-then (own-put i 1 new μ) (own-put i 2 (ps2 c) (putIn i 1 new μ))
 
       kids : (e : ℕ) → List·Memᴰ e ids → Held e (d .children e) c ν
-      kids = kids-held state k ids nullable f i (w .4) (omega (arith, w .2)) (d .children) c c μ ν (own .others c) (h .2)
+      kids = kids-held plan k ids nullable f i (w .4) (omega (arith, w .2)) (d .children) c c μ ν (own .others c) (h .2)
 
-      ends : (y : Destination (f b)) (c′ : List ℕ) (μ′ : Memory) → (Held b y c′ μ′ × Kept (childOf state i b) (endOf state (childOf state i b)) c c′ ν μ′) × (g b ≡ done y)
-          → Left state (tDense ids nullable f) i c μ (record { buffer1 = d .buffer1 ++ new; buffer2 = d .buffer2 ++ ps; children = atChild b g (d .children) }) c′ μ′
+      ends : (y : Destination (f b)) (c′ : List ℕ) (μ′ : Memory) → (Held b y c′ μ′ × Kept (childOf plan i b) (endOf plan (childOf plan i b)) c c′ ν μ′) × (g b ≡ done y)
+          → Left plan (tDense ids nullable f) i c μ (record { buffer1 = d .buffer1 ++ new; buffer2 = d .buffer2 ++ ps; children = atChild b g (d .children) }) c′ μ′
       ends y c′ μ′ q =
-          let s = child-field state k ids nullable f i (w .4) (omega (arith, w .2)) b p in
+          let s = child-field plan k ids nullable f i (w .4) (omega (arith, w .2)) b p in
           let here = q .0 .1 .outside i (λ u v. omega (arith, s .behind)) in (
             (
               here .at-same 1 ∙ put-else i 2 (ps2 c) (putIn i 1 new μ) 1 (λ z. omega arith) ∙ put-own i 1 new μ ∙ ap (λ z. z ++ new) (h .0),
@@ -102,8 +102,8 @@ module _ (state : List ℕ) (k : ℕ) (ids : List ℕ) (nullable : ℕ → Bool)
                   cond-either (λ z. Held e z c′ μ′) e b (after (g e) (d .children e)) (d .children e)
                   (λ z. subst (λ z. Held z (after (g z) (d .children z)) c′ μ′) (sym z) (subst (λ z. Held b (after z (d .children b)) c′ μ′) (sym (q .1)) (q .0 .0)))
                   (λ z.
-                  held-same state c c′ ν μ′ k (f e) (childOf state i e) (d .children e) (child-field state k ids nullable f i (w .4) (omega (arith, w .2)) e m .is-kid)
-                  (λ j u v. q .0 .1 .outside j (λ u2 v2. apart-of state Kid nullable (endOf state i) ids (suc i) 32 e b (w .4) (omega (arith, w .2)) m p z j u v u2 v2)) (kids e m)),
+                  held-same plan c c′ ν μ′ k (f e) (childOf plan i e) (d .children e) (child-field plan k ids nullable f i (w .4) (omega (arith, w .2)) e m .is-kid)
+                  (λ j u v. q .0 .1 .outside j (λ u2 v2. apart-of plan Kid nullable (endOf plan i) ids (suc i) 32 e b (w .4) (omega (arith, w .2)) m p z j u v u2 v2)) (kids e m)),
             ),
             own-kept (s .behind) (s .ends) (w .3) own (q .0 .1),
           )
@@ -112,20 +112,20 @@ module _ (state : List ℕ) (k : ℕ) (ids : List ℕ) (nullable : ℕ → Bool)
 
 row-is : (x : Join) (inner : Walk) (i slot r id at : ℕ) (c : List ℕ) → idAt x inner i (slot + r) ≡ id → positionAt x inner i (slot + r) ≡ at
     → walkRow x inner i slot r c
-    ≡ found 32 (childOf (x .state) i id) 12 c
+    ≡ found 32 (childOf (x .plan) i id) 12 c
     (λ k. need (ltb (rows c k) (half 4)) 6 c
     (next (wrote (put i 1 (rows c i + r) (id ∷ [])) c) (λ c2. next (wrote (put i 2 ((rows c2 i + r) * 4) (encode 4 (rows c2 k))) c2) (λ c3. inner k at 1 c3))))
 unfolding walkRow denseTo
 row-is x inner i slot r id at c e q = rw (e, q)
 
-dense-copy-is : (x : Join) (inner : Walk) (i slot n : ℕ) (c : List ℕ) → codeOf (x .state) i ≡ 22
-    → copyData x inner (codeOf (x .state) i) i slot n c ≡ need (rowsIn x (place x i 3) 1 slot n && rowsIn x (place x i 5) 4 slot n) 12 c (each (walkRow x inner i slot) n 0 c)
+dense-copy-is : (x : Join) (inner : Walk) (i slot n : ℕ) (c : List ℕ) → codeOf (x .plan) i ≡ 22
+    → copyData x inner (codeOf (x .plan) i) i slot n c ≡ need (rowsIn x (place x i 3) 1 slot n && rowsIn x (place x i 5) 4 slot n) 12 c (each (walkRow x inner i slot) n 0 c)
 unfolding copyData copyDense
 dense-copy-is x inner i slot n c e = ap (λ z. copyData x inner z i slot n c) e
 
 module _ (x : Join) (inner : Walk) (k : ℕ) (ids : List ℕ) (nullable : ℕ → Bool) (f : ℕ → Ty) (i m : ℕ) (ss : ℕ → Column (tDense ids nullable f))
     (g : Given x (suc k) (tDense ids nullable f) i m ss)
-    (kids : (e : ℕ) → List·Memᴰ e ids → Copies x inner (f e) (childOf (x .state) i e) m (λ j. ss j .body .children e)) where
+    (kids : (e : ℕ) → List·Memᴰ e ids → Copies x inner (f e) (childOf (x .plan) i e) m (λ j. ss j .body .children e)) where
   abbrev Fit : Grown (tDense ids nullable f) → ℕ → Type 0
   Fit = fineOf (tDense ids nullable f) m (λ j. ss j .body) (λ z. true)
 
@@ -135,8 +135,8 @@ module _ (x : Join) (inner : Walk) (k : ℕ) (ids : List ℕ) (nullable : ℕ �
 
   -- one row of the copy
   row-goes : (slot r l : ℕ) (d : Grown (tDense ids nullable f)) (c : List ℕ) (μ : Memory) → ss (x .source) .off ≤ slot + r → slot + r < ss (x .source) .off + ss (x .source) .len
-      → Fit d (l + r) → length c ≡ 96 → rows c i ≡ l → HoldsData (x .state) (tDense ids nullable f) i d c μ
-      → Goes μ (Left (x .state) (tDense ids nullable f) i c μ) (modelRow (slot + r) d) (walkRow x inner i slot r c)
+      → Fit d (l + r) → length c ≡ 96 → rows c i ≡ l → HoldsData (x .plan) (tDense ids nullable f) i d c μ
+      → Goes μ (Left (x .plan) (tDense ids nullable f) i c μ) (modelRow (slot + r) d) (walkRow x inner i slot r c)
   row-goes slot r l d c μ low high fit long rows-are h =
       let s = ss (x .source) .body in
       let rule = g .obey (x .source) (g .known) .slots in
@@ -150,16 +150,16 @@ module _ (x : Join) (inner : Walk) (k : ℕ) (ids : List ℕ) (nullable : ℕ �
       let e1 = sym (part-byte (x .body) (place x i 3) (place x i 4) (s .ids) (g .lent .body-is .0) a (omega (arith, rule .hold-ids))) in
       let e2 = sym (part-entry (x .body) (place x i 5) (place x i 6) (s .positions) (g .lent .body-is .1) 4 a (omega (arith, rule .hold-positions))) in
       let w = g .worded in
-      let field = child-field (x .state) k ids nullable f i (w .4) (omega (arith, w .2)) b p in
+      let field = child-field (x .plan) k ids nullable f i (w .4) (omega (arith, w .2)) b p in
       let held = h .2 b p in
       rw (row-is x inner i slot r b (item 4 (s .positions) a) c e1 e2)
-      (goes-found 32 (childOf (x .state) i b) 12 c _ (omega (arith, field .span))
-      (goes-guard (ltb (d .children b .len) (half 4)) (ltb (rows c (childOf (x .state) i b)) (half 4)) 6 c (omega arith) (ap (λ z. ltb z (half 4)) (held .rows-are))
+      (goes-found 32 (childOf (x .plan) i b) 12 c _ (omega (arith, field .span))
+      (goes-guard (ltb (d .children b .len) (half 4)) (ltb (rows c (childOf (x .plan) i b)) (half 4)) 6 c (omega arith) (ap (λ z. ltb z (half 4)) (held .rows-are))
       (λ test.
       let room : d .children b .len < half 4 = ltb-true _ _ test in
-      dense-one (x .state) k ids nullable f i w b p (λ c3. inner (childOf (x .state) i b) (item 4 (s .positions) a) 1 c3) d
+      dense-one (x .plan) k ids nullable f i w b p (λ c3. inner (childOf (x .plan) i b) (item 4 (s .positions) a) 1 c3) d
       (λ e. extendNode (masks (f e)) (extendData (f e) m) (λ j. ss j .body .children e) (x .source) (item 4 (s .positions) a) 1 (d .children e))
-      (b ∷ []) (encode 4 (d .children b .len)) (rows c i + r) (λ c2. (rows c2 i + r) * 4) (λ c2. encode 4 (rows c2 (childOf (x .state) i b))) c μ
+      (b ∷ []) (encode 4 (d .children b .len)) (rows c i + r) (λ c2. (rows c2 i + r) * 4) (λ c2. encode 4 (rows c2 (childOf (x .plan) i b))) c μ
       (λ ν kid. kids b p (item 4 (s .positions) a) 1 (d .children b) c ν (omega arith) (fit .kids-fine b p) (small-of _ (omega arith)) long kid)
       (ap (λ z. z + r) rows-are ∙ sym (fit .ids-are)) (ap (λ z. (z + r) * 4) rows-are ∙ sym (fit .positions-are)) (ap (encode 4) (held .rows-are)) h)))
 
@@ -183,7 +183,7 @@ module _ (x : Join) (inner : Walk) (k : ℕ) (ids : List ℕ) (nullable : ℕ �
       (goes-need _ 12 c both
       (goes-map (λ y c′ μ′ q. q .0)
       (rw add-zero at
-      (goes-rows slot n modelRow (walkRow x inner i slot) (λ r y c′ μ′. Left (x .state) (tDense ids nullable f) i c μ y c′ μ′ × Fit y (d .len + r))
+      (goes-rows slot n modelRow (walkRow x inner i slot) (λ r y c′ μ′. Left (x .plan) (tDense ids nullable f) i c μ y c′ μ′ × Fit y (d .len + r))
       (λ r q y c2 ν z.
       goes-map
       (λ y2 c3 ξ v. (
@@ -197,32 +197,32 @@ module _ (x : Join) (inner : Walk) (k : ℕ) (ids : List ℕ) (nullable : ℕ �
 
 -- ---- nulls
 
-dense-null-is : (x : Join) (inner : NullWalk) (i n : ℕ) (c : List ℕ) → codeOf (x .state) i ≡ 22
-    → nullData x inner (codeOf (x .state) i) i n c
-    ≡ found 32 (nullableChild (x .state) (endOf (x .state) i) 32 (suc i)) (noHome (x .state) i) c
+dense-null-is : (x : Join) (inner : NullWalk) (i n : ℕ) (c : List ℕ) → codeOf (x .plan) i ≡ 22
+    → nullData x inner (codeOf (x .plan) i) i n c
+    ≡ found 32 (nullableChild (x .plan) (endOf (x .plan) i) 32 (suc i)) (noHome (x .plan) i) c
     (λ h. need (leb (rows c h + n) (half 4)) 6 c
-    (next (wrote (put i 1 (rows c i) (replicate n (idOf (x .state) h))) c) (λ c2. next (wrote (put i 2 (rows c2 i * 4) (countedUp 4 (rows c2 h) n)) c2) (λ c3. inner h n c3))))
+    (next (wrote (put i 1 (rows c i) (replicate n (idOf (x .plan) h))) c) (λ c2. next (wrote (put i 2 (rows c2 i * 4) (countedUp 4 (rows c2 h) n)) c2) (λ c3. inner h n c3))))
 unfolding nullData nullDense
 dense-null-is x inner i n c e = ap (λ z. nullData x inner z i n c) e
 
 -- A DENSE UNION'S NULLS
 pub dense-fills : (x : Join) (inner : NullWalk) (k : ℕ) (ids : List ℕ) (nullable : ℕ → Bool) (f : ℕ → Ty) (i m : ℕ) (ss : ℕ → Column (tDense ids nullable f))
     → Given x (suc k) (tDense ids nullable f) i m ss
-    → ((e : ℕ) → List·Memᴰ e ids → Fills x inner (f e) (childOf (x .state) i e) m (λ j. ss j .body .children e)) → FillsData x inner (tDense ids nullable f) i m ss
+    → ((e : ℕ) → List·Memᴰ e ids → Fills x inner (f e) (childOf (x .plan) i e) m (λ j. ss j .body .children e)) → FillsData x inner (tDense ids nullable f) i m ss
 dense-fills x inner k ids nullable f i m ss g kids n d c μ more fine keep small long h =
     let fit = fine .data-fine in
     let w = g .worded in
     rw (dense-null-is x inner i n c (w .1))
-    (goes-home (x .state) (λ e. Worded (x .state) k (f e)) nullable i _ _ c ids (w .4) (g .formed .0) (omega (arith, w .2))
+    (goes-home (x .plan) (λ e. Worded (x .plan) k (f e)) nullable i _ _ c ids (w .4) (g .formed .0) (omega (arith, w .2))
     (λ b p.
     let kid = d .«data» .children b in
     let held = h .data-are .2 b p in
-    rw (child-field (x .state) k ids nullable f i (w .4) (omega (arith, w .2)) b p .has-id)
-    (goes-guard (leb (kid .len + n) (half 4)) (leb (rows c (childOf (x .state) i b) + n) (half 4)) 6 c (omega arith) (ap (λ z. leb (z + n) (half 4)) (held .rows-are))
+    rw (child-field (x .plan) k ids nullable f i (w .4) (omega (arith, w .2)) b p .has-id)
+    (goes-guard (leb (kid .len + n) (half 4)) (leb (rows c (childOf (x .plan) i b) + n) (half 4)) 6 c (omega arith) (ap (λ z. leb (z + n) (half 4)) (held .rows-are))
     (λ test.
     let room : kid .len + n ≤ half 4 = leb-true _ _ test in
-    dense-one (x .state) k ids nullable f i w b p (λ c3. inner (childOf (x .state) i b) n c3) (d .«data») (λ e. nullsNode (masks (f e)) (nullsData (f e)) n (d .«data» .children e))
-    (replicate n b) (positionsFrom (kid .len) n) (rows c i) (λ c2. rows c2 i * 4) (λ c2. countedUp 4 (rows c2 (childOf (x .state) i b)) n) c μ
+    dense-one (x .plan) k ids nullable f i w b p (λ c3. inner (childOf (x .plan) i b) n c3) (d .«data») (λ e. nullsNode (masks (f e)) (nullsData (f e)) n (d .«data» .children e))
+    (replicate n b) (positionsFrom (kid .len) n) (rows c i) (λ c2. rows c2 i * 4) (λ c2. countedUp 4 (rows c2 (childOf (x .plan) i b)) n) c μ
     (λ ν hk. kids b p n kid c ν (fit .kids-fine b p) (keep .below b p) (small-of _ (omega arith)) long hk)
     (h .rows-are ∙ sym (fit .ids-are)) (ap (λ z. z * 4) (h .rows-are) ∙ sym (fit .positions-are))
     (ap (λ z. countedUp 4 z n) (held .rows-are) ∙ counted-positions (kid .len) n) (h .data-are)))))

@@ -27,11 +27,11 @@ fixed-copies x inner k q i m ss g slot n d c μ lo hi f small long e h =
     = rw (mul-comm w n, mul-comm w slot) (sym (part-cut p (n * w) (slot * w) (omega (arith, add-mul slot n w, part-length p, y)))) in
     rw (g .worded .3 .0, g .worded .2, g .worded .3 .1)
     (goes-need (rowsIn x (place x i 3) w slot n) 12 c (rows-in x (place x i 3) (place x i 4) s w slot n p y)
-    (first-grows i (endOf (x .state) i) (rows c i * w) (d .«data») _ _ c μ (g .worded .1) h (rw e (sym (f .data-fine))) z))
+    (first-grows i (endOf (x .plan) i) (rows c i * w) (d .«data») _ _ c μ (g .worded .1) h (rw e (sym (f .data-fine))) z))
 
 pub fixed-fills : (x : Join) (inner : NullWalk) (k : ℕ) (q : Number) (i m : ℕ) (ss : ℕ → Column (tPlain (fixed q))) → Given x (suc k) (tPlain (fixed q)) i m ss
     → FillsData x inner (tPlain (fixed q)) i m ss
 unfolding nullData nullNumbers
 fixed-fills x inner k q i m ss g n d c μ p f t small long h =
     rw (g .worded .3 .0, g .worded .3 .1)
-    (first-grows i (endOf (x .state) i) (rows c i * width q) (d .«data») _ _ c μ (g .worded .1) (h .data-are) (rw (h .rows-are) (sym (f .data-fine))) refl)
+    (first-grows i (endOf (x .plan) i) (rows c i * width q) (d .«data») _ _ c μ (g .worded .1) (h .data-are) (rw (h .rows-are) (sym (f .data-fine))) refl)

@@ -52,16 +52,16 @@ kept-then a b = record { long = b .long ∙ a .long; outside = λ j h. same-then
 pub kept-wide : {i e : ℕ} {c c′ : List ℕ} {μ μ′ : Memory} (i2 e2 : ℕ) → i2 ≤ i → e ≤ e2 → Kept i e c c′ μ μ′ → Kept i2 e2 c c′ μ μ′
 kept-wide i2 e2 p q k = record { long = k .long; outside = λ j h. k .outside j (λ a b. h (omega arith) (omega arith)) }
 
-module _ (state : List ℕ) where
+module _ (plan : List ℕ) where
   -- a node has a span
-  pub worded-span : (k : ℕ) (t : Ty) (i : ℕ) → Worded state k t i → i < endOf state i
+  pub worded-span : (k : ℕ) (t : Ty) (i : ℕ) → Worded plan k t i → i < endOf plan i
   worded-span (suc k) (tPlain p) i w = w .1
   worded-span (suc k) tView i w = w .1
-  worded-span (suc k) (tListView v t) i w = let s = worded-span k t (suc i) (w .4) in let e : endOf state i ≡ endOf state (suc i) = w .1 in omega arith
-  worded-span (suc k) (tList v t) i w = let s = worded-span k t (suc i) (w .4) in let e : endOf state i ≡ endOf state (suc i) = w .1 in omega arith
+  worded-span (suc k) (tListView v t) i w = let s = worded-span k t (suc i) (w .4) in let e : endOf plan i ≡ endOf plan (suc i) = w .1 in omega arith
+  worded-span (suc k) (tList v t) i w = let s = worded-span k t (suc i) (w .4) in let e : endOf plan i ≡ endOf plan (suc i) = w .1 in omega arith
   worded-span (suc k) (tSparse ids nullable f) i w = w .3
   worded-span (suc k) (tDense ids nullable f) i w = w .3
-  worded-span (suc k) (tRunEnd v t) i w = let s = worded-span k t (suc (suc i)) (w .4) in let e : endOf state i ≡ endOf state (suc (suc i)) = w .1 in omega arith
+  worded-span (suc k) (tRunEnd v t) i w = let s = worded-span k t (suc (suc i)) (w .4) in let e : endOf plan i ≡ endOf plan (suc (suc i)) = w .1 in omega arith
   worded-span (suc k) (tDictionary n p) i w = w .1
 
   -- ---- the children of a union
@@ -69,53 +69,53 @@ module _ (state : List ℕ) where
   -- child c of those from node k on
   pub record Field (kid : ℕ → ℕ → Type 0) (end k c n : ℕ) : Type 0 where
     pub behind : k ≤ n
-    pub has-id : idOf state n ≡ c
-    pub span : n < endOf state n
-    pub ends : endOf state n ≤ end
+    pub has-id : idOf plan n ≡ c
+    pub span : n < endOf plan n
+    pub ends : endOf plan n ≤ end
     pub is-kid : kid c n
 
   field-step : {kid : ℕ → ℕ → Type 0} {end k k2 c n : ℕ} → k ≤ k2 → Field kid end k2 c n → Field kid end k c n
   field-step p h = record { behind = omega (arith, h .behind); has-id = h .has-id; span = h .span; ends = h .ends; is-kid = h .is-kid }
 
-  pub field-of : (kid : ℕ → ℕ → Type 0) (nullable : ℕ → Bool) (end : ℕ) (ids : List ℕ) (k fuel c : ℕ) → Fields state kid nullable end ids k → length ids ≤ fuel → List·Memᴰ c ids
-      → Field kid end k c (childWith state c end fuel k)
+  pub field-of : (kid : ℕ → ℕ → Type 0) (nullable : ℕ → Bool) (end : ℕ) (ids : List ℕ) (k fuel c : ℕ) → Fields plan kid nullable end ids k → length ids ≤ fuel → List·Memᴰ c ids
+      → Field kid end k c (childWith plan c end fuel k)
   unfolding childWith
   field-of kid nullable end (d ∷ ds) k zero c f l m = absurd (omega arith)
   field-of kid nullable end (d ∷ ds) k (suc fuel) c f l m =
-      rw (lt-ltb k end (omega (arith, f .2, f .3))) (go (eqb (idOf state k) c) refl (λ h. field-of kid nullable end ds (endOf state k) fuel c (f .5) (omega arith) h))
+      rw (lt-ltb k end (omega (arith, f .2, f .3))) (go (eqb (idOf plan k) c) refl (λ h. field-of kid nullable end ds (endOf plan k) fuel c (f .5) (omega arith) h))
     where
-      behind : eqb (idOf state k) c ≡ false → List·Memᴰ c (d ∷ ds) → List·Memᴰ c ds
-      behind e (List·Memᴰ·head h) = absurd (eqb-false (idOf state k) c e (f .0 ∙ sym h))
+      behind : eqb (idOf plan k) c ≡ false → List·Memᴰ c (d ∷ ds) → List·Memᴰ c ds
+      behind e (List·Memᴰ·head h) = absurd (eqb-false (idOf plan k) c e (f .0 ∙ sym h))
       behind e (List·Memᴰ·tail h) = h
 
-      go : (b : Bool) → eqb (idOf state k) c ≡ b → (List·Memᴰ c ds → Field kid end (endOf state k) c (childWith state c end fuel (endOf state k)))
-          → Field kid end k c (cond b k (childWith state c end fuel (endOf state k)))
+      go : (b : Bool) → eqb (idOf plan k) c ≡ b → (List·Memᴰ c ds → Field kid end (endOf plan k) c (childWith plan c end fuel (endOf plan k)))
+          → Field kid end k c (cond b k (childWith plan c end fuel (endOf plan k)))
       go true e rest =
-          let q = eqb-true (idOf state k) c e in
+          let q = eqb-true (idOf plan k) c e in
           record { behind = omega arith; has-id = q; span = f .2; ends = f .3; is-kid = subst (λ z. kid z k) (sym (f .0) ∙ q) (f .4) }
       go false e rest = field-step (omega (arith, f .2)) (rest (behind e m))
 
   -- two children stand apart
-  pub apart-of : (kid : ℕ → ℕ → Type 0) (nullable : ℕ → Bool) (end : ℕ) (ids : List ℕ) (k fuel c d : ℕ) → Fields state kid nullable end ids k → length ids ≤ fuel → List·Memᴰ c ids → List·Memᴰ d ids
-      → (c ≡ d → ⊥) → (j : ℕ) → childWith state c end fuel k ≤ j → j < endOf state (childWith state c end fuel k) → childWith state d end fuel k ≤ j → j < endOf state (childWith state d end fuel k) → ⊥
+  pub apart-of : (kid : ℕ → ℕ → Type 0) (nullable : ℕ → Bool) (end : ℕ) (ids : List ℕ) (k fuel c d : ℕ) → Fields plan kid nullable end ids k → length ids ≤ fuel → List·Memᴰ c ids → List·Memᴰ d ids
+      → (c ≡ d → ⊥) → (j : ℕ) → childWith plan c end fuel k ≤ j → j < endOf plan (childWith plan c end fuel k) → childWith plan d end fuel k ≤ j → j < endOf plan (childWith plan d end fuel k) → ⊥
   unfolding childWith
   apart-of kid nullable end (e ∷ es) k zero c d f l m p ne j = absurd (omega arith)
   apart-of kid nullable end (e ∷ es) k (suc fuel) c d f l m p ne j =
       rw (lt-ltb k end (omega (arith, f .2, f .3)))
-      (go (eqb (idOf state k) c) refl (eqb (idOf state k) d) refl
-      (λ h g. apart-of kid nullable end es (endOf state k) fuel c d (f .5) (omega arith) h g ne j)
-      (λ h. field-of kid nullable end es (endOf state k) fuel c (f .5) (omega arith) h)
-      (λ h. field-of kid nullable end es (endOf state k) fuel d (f .5) (omega arith) h))
+      (go (eqb (idOf plan k) c) refl (eqb (idOf plan k) d) refl
+      (λ h g. apart-of kid nullable end es (endOf plan k) fuel c d (f .5) (omega arith) h g ne j)
+      (λ h. field-of kid nullable end es (endOf plan k) fuel c (f .5) (omega arith) h)
+      (λ h. field-of kid nullable end es (endOf plan k) fuel d (f .5) (omega arith) h))
     where
-      behind : (z : ℕ) → eqb (idOf state k) z ≡ false → List·Memᴰ z (e ∷ es) → List·Memᴰ z es
-      behind z q (List·Memᴰ·head h) = absurd (eqb-false (idOf state k) z q (f .0 ∙ sym h))
+      behind : (z : ℕ) → eqb (idOf plan k) z ≡ false → List·Memᴰ z (e ∷ es) → List·Memᴰ z es
+      behind z q (List·Memᴰ·head h) = absurd (eqb-false (idOf plan k) z q (f .0 ∙ sym h))
       behind z q (List·Memᴰ·tail h) = h
 
-      go : (a : Bool) → eqb (idOf state k) c ≡ a → (b : Bool) → eqb (idOf state k) d ≡ b
-          → (List·Memᴰ c es → List·Memᴰ d es → childWith state c end fuel (endOf state k) ≤ j → j < endOf state (childWith state c end fuel (endOf state k)) → childWith state d end fuel (endOf state k) ≤ j → j < endOf state (childWith state d end fuel (endOf state k)) → ⊥)
-          → (List·Memᴰ c es → Field kid end (endOf state k) c (childWith state c end fuel (endOf state k))) → (List·Memᴰ d es → Field kid end (endOf state k) d (childWith state d end fuel (endOf state k)))
-          → cond a k (childWith state c end fuel (endOf state k)) ≤ j → j < endOf state (cond a k (childWith state c end fuel (endOf state k))) → cond b k (childWith state d end fuel (endOf state k)) ≤ j → j < endOf state (cond b k (childWith state d end fuel (endOf state k))) → ⊥
-      go true qa true qb h x y p1 p2 p3 p4 = ne (sym (eqb-true (idOf state k) c qa) ∙ eqb-true (idOf state k) d qb)
+      go : (a : Bool) → eqb (idOf plan k) c ≡ a → (b : Bool) → eqb (idOf plan k) d ≡ b
+          → (List·Memᴰ c es → List·Memᴰ d es → childWith plan c end fuel (endOf plan k) ≤ j → j < endOf plan (childWith plan c end fuel (endOf plan k)) → childWith plan d end fuel (endOf plan k) ≤ j → j < endOf plan (childWith plan d end fuel (endOf plan k)) → ⊥)
+          → (List·Memᴰ c es → Field kid end (endOf plan k) c (childWith plan c end fuel (endOf plan k))) → (List·Memᴰ d es → Field kid end (endOf plan k) d (childWith plan d end fuel (endOf plan k)))
+          → cond a k (childWith plan c end fuel (endOf plan k)) ≤ j → j < endOf plan (cond a k (childWith plan c end fuel (endOf plan k))) → cond b k (childWith plan d end fuel (endOf plan k)) ≤ j → j < endOf plan (cond b k (childWith plan d end fuel (endOf plan k))) → ⊥
+      go true qa true qb h x y p1 p2 p3 p4 = ne (sym (eqb-true (idOf plan k) c qa) ∙ eqb-true (idOf plan k) d qb)
       go true qa false qb h x y p1 p2 p3 p4 = omega (arith, y (behind d qb p) .behind)
       go false qa true qb h x y p1 p2 p3 p4 = omega (arith, x (behind c qa m) .behind)
       go false qa false qb h x y p1 p2 p3 p4 = h (behind c qa m) (behind d qb p) p1 p2 p3 p4
@@ -127,15 +127,15 @@ module _ (state : List ℕ) where
     pub record SameData (i : ℕ) : Type 0 where
       pub at-same : (b : ℕ) → μ′ .at i b ≡ μ .at i b
       pub bytes-same : bytes c′ i ≡ bytes c i
-      pub below-same : (j : ℕ) → i < j → j < endOf state i → SameAt c c′ μ μ′ j
+      pub below-same : (j : ℕ) → i < j → j < endOf plan i → SameAt c c′ μ μ′ j
 
-    pub bits-held : (i : ℕ) (m : Bool) (o : Option (List Bool)) → μ′ .bits i ≡ μ .bits i → HoldsBits state i m o μ → HoldsBits state i m o μ′
+    pub bits-held : (i : ℕ) (m : Bool) (o : Option (List Bool)) → μ′ .bits i ≡ μ .bits i → HoldsBits plan i m o μ → HoldsBits plan i m o μ′
     bits-held i m none e h = h
     bits-held i true (some l) e h = (h .0, e ∙ h .1)
     bits-held i false (some l) e h = h
 
     node-held : {D : Type 0} (i : ℕ) (m : Bool) (inner : D → List ℕ → Memory → Type 0) (d : Mutable D) → SameAt c c′ μ μ′ i → (inner (d .«data») c μ → inner (d .«data») c′ μ′)
-        → HoldsNode state i m inner d c μ → HoldsNode state i m inner d c′ μ′
+        → HoldsNode plan i m inner d c μ → HoldsNode plan i m inner d c′ μ′
     node-held i m inner d s f h =
         record {
           rows-are = s .rows-same ∙ h .rows-are;
@@ -145,50 +145,50 @@ module _ (state : List ℕ) where
           data-are = f (h .data-are);
         }
 
-    data-from : (i : ℕ) → ((j : ℕ) → i ≤ j → j < endOf state i → SameAt c c′ μ μ′ j) → i < endOf state i → SameData i
+    data-from : (i : ℕ) → ((j : ℕ) → i ≤ j → j < endOf plan i → SameAt c c′ μ μ′ j) → i < endOf plan i → SameData i
     data-from i h p =
         record { at-same = h i (omega arith) p .at-same; bytes-same = h i (omega arith) p .bytes-same; below-same = λ j a b. h j (omega arith) b }
 
-    pub plain-held : (p : Plain) (i : ℕ) (d : Grown (tPlain p)) → SameData i → HoldsPlain state p i d c μ → HoldsPlain state p i d c′ μ′
+    pub plain-held : (p : Plain) (i : ℕ) (d : Grown (tPlain p)) → SameData i → HoldsPlain plan p i d c μ → HoldsPlain plan p i d c′ μ′
     plain-held (fixed n) i d s h = s .at-same 1 ∙ h
     plain-held (string w) i d s h = (s .at-same 1 ∙ h .0, s .at-same 2 ∙ h .1, s .bytes-same ∙ h .2)
 
     -- a node below, where its data is still held
-    below-held : (k : ℕ) (t : Ty) (i : ℕ) (d : Destination t) → Worded state k t i → ((j : ℕ) → i ≤ j → j < endOf state i → SameAt c c′ μ μ′ j)
-        → (SameData i → HoldsData state t i (d .«data») c μ → HoldsData state t i (d .«data») c′ μ′) → Holds state t i d c μ → Holds state t i d c′ μ′
+    below-held : (k : ℕ) (t : Ty) (i : ℕ) (d : Destination t) → Worded plan k t i → ((j : ℕ) → i ≤ j → j < endOf plan i → SameAt c c′ μ μ′ j)
+        → (SameData i → HoldsData plan t i (d .«data») c μ → HoldsData plan t i (d .«data») c′ μ′) → Holds plan t i d c μ → Holds plan t i d c′ μ′
     below-held k t i d w s f h =
         let p = worded-span k t i w in
-        node-held i (masks t) (HoldsData state t i) d (s i (omega arith) p) (f (data-from i s p)) h
+        node-held i (masks t) (HoldsData plan t i) d (s i (omega arith) p) (f (data-from i s p)) h
 
-    pub data-held : (k : ℕ) (t : Ty) (i : ℕ) (d : Grown t) → Worded state k t i → SameData i → HoldsData state t i d c μ → HoldsData state t i d c′ μ′
+    pub data-held : (k : ℕ) (t : Ty) (i : ℕ) (d : Grown t) → Worded plan k t i → SameData i → HoldsData plan t i d c μ → HoldsData plan t i d c′ μ′
     data-held (suc k) (tPlain p) i d w s h = plain-held p i d s h
     data-held (suc k) tView i d w s h = s .at-same 1 ∙ h
     data-held (suc k) (tListView v t) i d w s h =
-        let e : endOf state i ≡ endOf state (suc i) = w .1 in (
+        let e : endOf plan i ≡ endOf plan (suc i) = w .1 in (
           s .at-same 1 ∙ h .0,
           s .at-same 2 ∙ h .1,
           below-held k t (suc i) (d .child) (w .4) (λ j a b. s .below-same j (omega arith) (omega arith)) (data-held k t (suc i) (d .child .«data») (w .4)) (h .2),
         )
     data-held (suc k) (tList v t) i d w s h =
-        let e : endOf state i ≡ endOf state (suc i) = w .1 in (
+        let e : endOf plan i ≡ endOf plan (suc i) = w .1 in (
           s .at-same 1 ∙ h .0,
           below-held k t (suc i) (d .child) (w .4) (λ j a b. s .below-same j (omega arith) (omega arith)) (data-held k t (suc i) (d .child .«data») (w .4)) (h .1),
         )
     data-held (suc k) (tSparse ids nullable f) i d w s h = (
       s .at-same 1 ∙ h .0,
-      λ e m. let g = field-of (λ c. Worded state k (f c)) nullable (endOf state i) ids (suc i) 32 e (w .4) (omega (arith, w .2)) m in
-          below-held k (f e) (childOf state i e) (d .children e) (g .is-kid) (λ j a b. s .below-same j (omega (arith, g .behind)) (omega (arith, g .ends)))
-          (data-held k (f e) (childOf state i e) (d .children e .«data») (g .is-kid)) (h .1 e m),
+      λ e m. let g = field-of (λ c. Worded plan k (f c)) nullable (endOf plan i) ids (suc i) 32 e (w .4) (omega (arith, w .2)) m in
+          below-held k (f e) (childOf plan i e) (d .children e) (g .is-kid) (λ j a b. s .below-same j (omega (arith, g .behind)) (omega (arith, g .ends)))
+          (data-held k (f e) (childOf plan i e) (d .children e .«data») (g .is-kid)) (h .1 e m),
     )
     data-held (suc k) (tDense ids nullable f) i d w s h = (
       s .at-same 1 ∙ h .0,
       s .at-same 2 ∙ h .1,
-      λ e m. let g = field-of (λ c. Worded state k (f c)) nullable (endOf state i) ids (suc i) 32 e (w .4) (omega (arith, w .2)) m in
-          below-held k (f e) (childOf state i e) (d .children e) (g .is-kid) (λ j a b. s .below-same j (omega (arith, g .behind)) (omega (arith, g .ends)))
-          (data-held k (f e) (childOf state i e) (d .children e .«data») (g .is-kid)) (h .2 e m),
+      λ e m. let g = field-of (λ c. Worded plan k (f c)) nullable (endOf plan i) ids (suc i) 32 e (w .4) (omega (arith, w .2)) m in
+          below-held k (f e) (childOf plan i e) (d .children e) (g .is-kid) (λ j a b. s .below-same j (omega (arith, g .behind)) (omega (arith, g .ends)))
+          (data-held k (f e) (childOf plan i e) (d .children e .«data») (g .is-kid)) (h .2 e m),
     )
     data-held (suc k) (tRunEnd v t) i d w s h =
-        let e : endOf state i ≡ endOf state (suc (suc i)) = w .1 in
+        let e : endOf plan i ≡ endOf plan (suc (suc i)) = w .1 in
         let p = worded-span k t (suc (suc i)) (w .4) in
         let n = s .below-same (suc i) (omega arith) (omega arith) in (
           n .rows-same ∙ h .0,
@@ -198,6 +198,6 @@ module _ (state : List ℕ) where
         )
     data-held (suc k) (tDictionary n p) i d w s h = s .at-same 1 ∙ h
 
-    pub held-same : (k : ℕ) (t : Ty) (i : ℕ) (d : Destination t) → Worded state k t i → ((j : ℕ) → i ≤ j → j < endOf state i → SameAt c c′ μ μ′ j)
-        → Holds state t i d c μ → Holds state t i d c′ μ′
+    pub held-same : (k : ℕ) (t : Ty) (i : ℕ) (d : Destination t) → Worded plan k t i → ((j : ℕ) → i ≤ j → j < endOf plan i → SameAt c c′ μ μ′ j)
+        → Holds plan t i d c μ → Holds plan t i d c′ μ′
     held-same k t i d w s h = below-held k t i d w s (data-held k t i (d .«data») w) h

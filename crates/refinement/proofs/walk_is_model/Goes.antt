@@ -14,7 +14,7 @@ use Rattle.refinement.specs.walk_is_model.Memory.{Memory, noted, InPlace
 
 -- both are done, and then the counters and the memory are as wanted; or both stop by the same ground
 pub data Goes {A : Type 0} (μ : Memory) (Q : A → List ℕ → Memory → Type 0) : Try A → Out → Type 0 where
-  good : (x : A) (o : Out) → o .ans ≡ 0 → AllInPlace (o .log) μ → Q x (o .counts) (after (o .log) μ) → Goes μ Q (done x) o
+  good : (x : A) (o : Out) → o .ans ≡ 0 → AllInPlace (o .log) μ → Q x (o .counters) (after (o .log) μ) → Goes μ Q (done x) o
   over : (g : ℕ) (o : Out) → o .ans ≡ g → 0 < g → Goes μ Q (stop g) o
 
 -- ---- logs
@@ -38,7 +38,7 @@ goes-done {μ = μ} {Q} x c q = good x (Rattle.walk.specs.Log.done c) refl tt q
 
 pub goes-map : {A : Type 0} {μ : Memory} {Q R : A → List ℕ → Memory → Type 0} {t : Try A} {o : Out}
     → ((x : A) (c : List ℕ) (ν : Memory) → Q x c ν → R x c ν) → Goes μ Q t o → Goes μ R t o
-goes-map f (good x o e p q) = good x o e p (f x (o .counts) _ q)
+goes-map f (good x o e p q) = good x o e p (f x (o .counters) _ q)
 goes-map f (over g o e p) = over g o e p
 
 -- the same test in both, with the same ground
@@ -69,23 +69,23 @@ pub goes-found : {A : Type 0} {μ : Memory} {Q : A → List ℕ → Memory → T
 unfolding found
 goes-found m x g c k p h = rw (lt-ltb x m p) h
 
-wrote-next : (e : Entry) (c : List ℕ) (k : List ℕ → Out) → next (wrote e c) k ≡ record { ans = k c .ans; counts = k c .counts; log = e ∷ k c .log }
+wrote-next : (e : Entry) (c : List ℕ) (k : List ℕ → Out) → next (wrote e c) k ≡ record { ans = k c .ans; counters = k c .counters; log = e ∷ k c .log }
 unfolding next wrote
 wrote-next e c k = refl
 
 module _ {A : Type 0} {Q : A → List ℕ → Memory → Type 0} where
   goes-entry : {μ : Memory} {t : Try A} {o : Out} (e : Entry) → InPlace e μ → Goes (noted e μ) Q t o
-      → Goes μ Q t (record { ans = o .ans; counts = o .counts; log = e ∷ o .log })
+      → Goes μ Q t (record { ans = o .ans; counters = o .counters; log = e ∷ o .log })
   unfolding after AllInPlace
-  goes-entry e p (good x o r s w) = good x (record { ans = o .ans; counts = o .counts; log = e ∷ o .log }) r (p, s) w
-  goes-entry e p (over g o r s) = over g (record { ans = o .ans; counts = o .counts; log = e ∷ o .log }) r s
+  goes-entry e p (good x o r s w) = good x (record { ans = o .ans; counters = o .counters; log = e ∷ o .log }) r (p, s) w
+  goes-entry e p (over g o r s) = over g (record { ans = o .ans; counters = o .counters; log = e ∷ o .log }) r s
 
   -- a write of the walk, in place
   pub goes-wrote : {μ : Memory} {t : Try A} (e : Entry) (c : List ℕ) (k : List ℕ → Out) → InPlace e μ → Goes (noted e μ) Q t (k c) → Goes μ Q t (next (wrote e c) k)
   goes-wrote {μ} {t} e c k p h = subst (Goes μ Q t) (sym (wrote-next e c k)) (goes-entry e p h)
 
 next-done : (o : Out) (k : List ℕ → Out) → o .ans ≡ 0
-    → next o k ≡ record { ans = k (o .counts) .ans; counts = k (o .counts) .counts; log = o .log ++ k (o .counts) .log }
+    → next o k ≡ record { ans = k (o .counters) .ans; counters = k (o .counters) .counters; log = o .log ++ k (o .counters) .log }
 unfolding next
 next-done o k e = rw (eq-eqb (o .ans) 0 e)
 
@@ -95,22 +95,22 @@ next-stop o k p = rw (ne-eqb (o .ans) 0 (λ z. omega (arith, z)))
 
 -- a log before a walk
 goes-behind : {A : Type 0} {R : A → List ℕ → Memory → Type 0} {μ : Memory} {t : Try A} {o : Out} (l : Log) → AllInPlace l μ → Goes (after l μ) R t o
-    → Goes μ R t (record { ans = o .ans; counts = o .counts; log = l ++ o .log })
-goes-behind {R = R} {μ} l p (good y o r s w) = good y _ r (in-place-append l (o .log) μ p s) (subst (R y (o .counts)) (sym (after-append l (o .log) μ)) w)
+    → Goes μ R t (record { ans = o .ans; counters = o .counters; log = l ++ o .log })
+goes-behind {R = R} {μ} l p (good y o r s w) = good y _ r (in-place-append l (o .log) μ p s) (subst (R y (o .counters)) (sym (after-append l (o .log) μ)) w)
 goes-behind l p (over g o r s) = over g _ r s
 
 -- one step and then another
 pub goes-then : {A B : Type 0} {μ : Memory} {Q : A → List ℕ → Memory → Type 0} {R : B → List ℕ → Memory → Type 0} {t : Try A} {o : Out} (f : A → Try B) (k : List ℕ → Out)
     → Goes μ Q t o → ((x : A) (c : List ℕ) (ν : Memory) → Q x c ν → Goes ν R (f x) (k c)) → Goes μ R (then t f) (next o k)
 goes-then {μ = μ} {R = R} f k (good x o e p q) h =
-    subst (Goes μ R (f x)) (sym (next-done o k e)) (goes-behind (o .log) p (h x (o .counts) (after (o .log) μ) q))
+    subst (Goes μ R (f x)) (sym (next-done o k e)) (goes-behind (o .log) p (h x (o .counters) (after (o .log) μ) q))
 goes-then {μ = μ} {R = R} f k (over g o e p) h = subst (Goes μ R (stop g)) (sym (next-stop o k (omega (arith, e)))) (over g o e p)
 
 -- a step of the walk alone: it is done, and leaves the counters and the memory as wanted
 pub record Quiet (μ : Memory) (Q : List ℕ → Memory → Type 0) (o : Out) : Type 0 where
   pub is-done : o .ans ≡ 0
   pub in-place : AllInPlace (o .log) μ
-  pub leaves : Q (o .counts) (after (o .log) μ)
+  pub leaves : Q (o .counters) (after (o .log) μ)
 
 pub quiet-done : {μ : Memory} {Q : List ℕ → Memory → Type 0} (c : List ℕ) → Q c μ → Quiet μ Q (Rattle.walk.specs.Log.done c)
 unfolding Rattle.walk.specs.Log.done after AllInPlace
@@ -127,18 +127,18 @@ quiet-need b g c e h = rw e h
 pub quiet-then : {μ : Memory} {Q R : List ℕ → Memory → Type 0} {o : Out} (k : List ℕ → Out) → Quiet μ Q o → ((c : List ℕ) (ν : Memory) → Q c ν → Quiet ν R (k c))
     → Quiet μ R (next o k)
 quiet-then {μ} {Q} {R} {o} k q h =
-    let r = h (o .counts) (after (o .log) μ) (q .leaves) in
+    let r = h (o .counters) (after (o .log) μ) (q .leaves) in
     subst (Quiet μ R) (sym (next-done o k (q .is-done)))
     (record {
       is-done = r .is-done;
-      in-place = in-place-append (o .log) (k (o .counts) .log) μ (q .in-place) (r .in-place);
-      leaves = subst (R (k (o .counts) .counts)) (sym (after-append (o .log) (k (o .counts) .log) μ)) (r .leaves);
+      in-place = in-place-append (o .log) (k (o .counters) .log) μ (q .in-place) (r .in-place);
+      leaves = subst (R (k (o .counters) .counters)) (sym (after-append (o .log) (k (o .counters) .log) μ)) (r .leaves);
     })
 
 pub goes-quiet : {A : Type 0} {μ : Memory} {Q : List ℕ → Memory → Type 0} {R : A → List ℕ → Memory → Type 0} {t : Try A} {o : Out} (k : List ℕ → Out)
     → Quiet μ Q o → ((c : List ℕ) (ν : Memory) → Q c ν → Goes ν R t (k c)) → Goes μ R t (next o k)
 goes-quiet {μ = μ} {R = R} {t} {o} k q h =
-    subst (Goes μ R t) (sym (next-done o k (q .is-done))) (goes-behind (o .log) (q .in-place) (h (o .counts) (after (o .log) μ) (q .leaves)))
+    subst (Goes μ R t) (sym (next-done o k (q .is-done))) (goes-behind (o .log) (q .in-place) (h (o .counters) (after (o .log) μ) (q .leaves)))
 
 -- rows one after the other: the model counts slots from `base` on, the walk rows from 0 on
 pub goes-each : {A : Type 0} (base : ℕ) (f : ℕ → A → Try A) (k : ℕ → List ℕ → Out) (I : ℕ → A → List ℕ → Memory → Type 0)

@@ -44,13 +44,13 @@ keys-copies x inner k q p i m ss g slot n d c μ lo hi f small long e h =
     let w = width q in
     let s = ss (x .source) .body .keys in
     let y : (slot + n) * w ≤ length s = le-trans (mul-le-mul-right w hi) (g .obey (x .source) (g .known) .slots .hold) in
-    rw (g .worded .3, ne-eqb (dictionaryOf (x .state) i) 0 (g .worded .2), g .worded .4, g .based)
+    rw (g .worded .3, ne-eqb (dictionaryOf (x .plan) i) 0 (g .worded .2), g .worded .4, g .based)
     (goes-need (rowsIn x (place x i 3) w slot n) 12 c (rows-in x (place x i 3) (place x i 4) s w slot n (g .lent .body-is) y)
-    (first-grows i (endOf (x .state) i) (rows c i * w) (d .«data») _ _ c μ (g .worded .1) h (rw e (sym (f .data-fine .keys-are))) (rebased-is w _ slot n (g .lent .body-is) y)))
+    (first-grows i (endOf (x .plan) i) (rows c i * w) (d .«data») _ _ c μ (g .worded .1) h (rw e (sym (f .data-fine .keys-are))) (rebased-is w _ slot n (g .lent .body-is) y)))
 
 pub keys-fills : (x : Join) (inner : NullWalk) (k : ℕ) (q : Number) (p : Plain) (i m : ℕ) (ss : ℕ → Column (tDictionary q p)) → Given x (suc k) (tDictionary q p) i m ss
     → FillsData x inner (tDictionary q p) i m ss
 unfolding nullData nullNumbers
 keys-fills x inner k q p i m ss g n d c μ t f v small long h =
     rw (g .worded .3, g .worded .4)
-    (first-grows i (endOf (x .state) i) (rows c i * width q) (d .«data») _ _ c μ (g .worded .1) (h .data-are) (rw (h .rows-are) (sym (f .data-fine .keys-are))) refl)
+    (first-grows i (endOf (x .plan) i) (rows c i * width q) (d .«data») _ _ c μ (g .worded .1) (h .data-are) (rw (h .rows-are) (sym (f .data-fine .keys-are))) refl)

@@ -71,32 +71,32 @@ module _ (x : Join) (k w : ℕ) (t : Ty) (i m : ℕ) (ss : ℕ → Column (tList
   abbrev FineLists : Lists (Grown t) → ℕ → Type 0
   FineLists = ListFine w (FineNode (masks t) (fineOf t m (λ j. kids j .body)) m kids)
 
-  same-end : endOf (x .state) i ≡ endOf (x .state) (suc i)
+  same-end : endOf (x .plan) i ≡ endOf (x .plan) (suc i)
   same-end = g .worded .1
 
-  ends : suc i < endOf (x .state) (suc i)
-  ends = worded-span (x .state) k t (suc i) (g .worded .4)
+  ends : suc i < endOf (x .plan) (suc i)
+  ends = worded-span (x .plan) k t (suc i) (g .worded .4)
 
   -- the walk of a list-view's code
-  code-is : isListView (codeOf (x .state) i) ≡ true
+  code-is : isListView (codeOf (x .plan) i) ≡ true
   code-is = g .worded .2
 
-  copy-is : (inner : Walk) (slot n : ℕ) (c : List ℕ) → copyData x inner (codeOf (x .state) i) i slot n c
+  copy-is : (inner : Walk) (slot n : ℕ) (c : List ℕ) → copyData x inner (codeOf (x .plan) i) i slot n c
       ≡ need (ltb (suc i) 32) 12 c (need (rowsIn x (place x i 3) w slot n && rowsIn x (place x i 5) w slot n) 12 c (each (listViewRow x inner w i slot) n 0 c))
   unfolding copyData copyListView
   copy-is inner slot n c =
-      let code = codeOf (x .state) i in
+      let code = codeOf (x .plan) i in
       rw (between-apart 17 18 1 10 code code-is (omega arith), between-apart 17 18 11 14 code code-is (omega arith), between-apart 17 18 15 16 code code-is (omega arith), code-is, g .worded .3)
 
-  null-is : (inner : NullWalk) (n : ℕ) (c : List ℕ) → nullData x inner (codeOf (x .state) i) i n c
+  null-is : (inner : NullWalk) (n : ℕ) (c : List ℕ) → nullData x inner (codeOf (x .plan) i) i n c
       ≡ next (wrote (put i 1 (rows c i * w) (replicate (n * w) 0)) c) (λ c2. wrote (put i 2 (rows c2 i * w) (replicate (n * w) 0)) c2)
   unfolding nullData nullListView nullNumbers
   null-is inner n c =
-      let code = codeOf (x .state) i in
+      let code = codeOf (x .plan) i in
       rw (between-apart 17 18 1 10 code code-is (omega arith), between-apart 17 18 11 14 code code-is (omega arith), between-apart 17 18 15 16 code code-is (omega arith), code-is, g .worded .3)
 
   half-small : half w ≤ far
-  half-small = rw (sym (g .worded .3)) (half-far (bytesOf (x .state) i) (width-small (codeOf (x .state) i)))
+  half-small = rw (sym (g .worded .3)) (half-far (bytesOf (x .plan) i) (width-small (codeOf (x .plan) i)))
 
   -- ---- one row
 
@@ -112,8 +112,8 @@ module _ (x : Join) (k w : ℕ) (t : Ty) (i m : ℕ) (ss : ℕ → Column (tList
     size-is : entry w (x .body) (place x i 5) (slot + r) ≡ item w (Src .body .sizes) (slot + r)
     size-is = part-entry (g .lent .body-is .1) w (slot + r) (Src .off + Src .len) high (g .obey (x .source) (g .known) .slots .hold-sizes)
 
-    row-goes : (l : ℕ) (d : Lists (Grown t)) (c : List ℕ) (μ : Memory) → FineLists d (l + r) → rows c i ≡ l → length c ≡ 96 → HoldsData (x .state) (tListView w t) i d c μ
-        → Goes μ (λ d′ c′ μ′. HoldsData (x .state) (tListView w t) i d′ c′ μ′ × DataKept i (endOf (x .state) i) c c′ μ μ′)
+    row-goes : (l : ℕ) (d : Lists (Grown t)) (c : List ℕ) (μ : Memory) → FineLists d (l + r) → rows c i ≡ l → length c ≡ 96 → HoldsData (x .plan) (tListView w t) i d c μ
+        → Goes μ (λ d′ c′ μ′. HoldsData (x .plan) (tListView w t) i d′ c′ μ′ × DataKept i (endOf (x .plan) i) c c′ μ μ′)
         (listRow w (extendNode (masks t) (extendData t m) kids (x .source)) (Src .body) (slot + r) d) (listViewRow x inner w i slot r c)
     unfolding listViewRow
     row-goes l d c μ fine rows-are long h =
@@ -131,25 +131,25 @@ module _ (x : Join) (k w : ℕ) (t : Ty) (i m : ℕ) (ss : ℕ → Column (tList
         (goes-wrap (λ y. record { buffer1 = d .buffer1 ++ ps; buffer2 = d .buffer2 ++ qs; child = y })
         (λ y c′ ν p. finish d c μ z (h .0) (h .1) y c′ ν p)
         (go-on o z (d .child) c (written i ps qs μ) (rule .within) (fine .child-fine) (small-of (d .child .len + z) (omega (arith, half-small, ltb-true (d .child .len + z) (half w) q))) long
-        (held-same (x .state) c c μ (written i ps qs μ) k t (suc i) (d .child) (g .worded .4) (λ j a b. written-other i ps qs μ c j (λ y. omega (arith, y))) (h .2))))))))
+        (held-same (x .plan) c c μ (written i ps qs μ) k t (suc i) (d .child) (g .worded .4) (λ j a b. written-other i ps qs μ c j (λ y. omega (arith, y))) (h .2))))))))
       where
         finish : (d : Lists (Grown t)) (c : List ℕ) (μ : Memory) (z : ℕ) → μ .at i 1 ≡ d .buffer1 → μ .at i 2 ≡ d .buffer2
             → (y : Destination t) (c′ : List ℕ) (ν : Memory)
-            → Holds (x .state) t (suc i) y c′ ν × Kept (suc i) (endOf (x .state) (suc i)) c c′ (written i (encode w (d .child .len)) (encode w z) μ) ν
-            → HoldsData (x .state) (tListView w t) i (record { buffer1 = d .buffer1 ++ encode w (d .child .len); buffer2 = d .buffer2 ++ encode w z; child = y }) c′ ν
-            × DataKept i (endOf (x .state) i) c c′ μ ν
+            → Holds (x .plan) t (suc i) y c′ ν × Kept (suc i) (endOf (x .plan) (suc i)) c c′ (written i (encode w (d .child .len)) (encode w z) μ) ν
+            → HoldsData (x .plan) (tListView w t) i (record { buffer1 = d .buffer1 ++ encode w (d .child .len); buffer2 = d .buffer2 ++ encode w z; child = y }) c′ ν
+            × DataKept i (endOf (x .plan) i) c c′ μ ν
         finish d c μ z h1 h2 y c′ ν p =
             let ps = encode w (d .child .len) in
             let qs = encode w z in
             let own = p .1 .outside i (λ a b. omega arith) in (
               (own .at-same 1 ∙ written-first i ps qs μ ∙ ap (_++ ps) h1, own .at-same 2 ∙ written-second i ps qs μ ∙ ap (_++ qs) h2, p .0),
-              rw same-end (written-kept i ps qs μ (endOf (x .state) (suc i)) c c′ ν (omega (arith, ends)) (p .1)),
+              rw same-end (written-kept i ps qs μ (endOf (x .plan) (suc i)) c c′ ν (omega (arith, ends)) (p .1)),
             )
 
   -- ---- all rows: r of them are done
 
   abbrev Going : ℕ → List ℕ → Memory → ℕ → Lists (Grown t) → List ℕ → Memory → Type 0
-  Going l c μ r d c′ μ′ = FineLists d (l + r) × HoldsData (x .state) (tListView w t) i d c′ μ′ × DataKept i (endOf (x .state) i) c c′ μ μ′
+  Going l c μ r d c′ μ′ = FineLists d (l + r) × HoldsData (x .plan) (tListView w t) i d c′ μ′ × DataKept i (endOf (x .plan) i) c c′ μ μ′
 
   -- the model's own theorem on one row
   row-fine : (a l : ℕ) (d d′ : Lists (Grown t)) → Put (λ e i. kindOf (tListView w t) m (λ j. ss j .body) .at (kindOf (tListView w t) m (λ j. ss j .body) .frz e) i)
@@ -163,12 +163,12 @@ module _ (x : Join) (k w : ℕ) (t : Ty) (i m : ℕ) (ss : ℕ → Column (tList
       let s = g .obey (x .source) (g .known) .slots in
       let q : (slot + n) * w ≤ (Src .off + Src .len) * w = mul-le-mul-right w high in
       rw (copy-is inner slot n c)
-      (goes-need _ 12 c (lt-ltb (suc i) 32 (worded-small (x .state) k t (suc i) (g .worded .4)))
+      (goes-need _ 12 c (lt-ltb (suc i) 32 (worded-small (x .plan) k t (suc i) (g .worded .4)))
       (goes-need _ 12 c (both-in (rows-in x (place x i 3) (place x i 4) (Src .body .offsets) w slot n (g .lent .body-is .0) (omega (arith, s .hold-offsets)))
       (rows-in x (place x i 5) (place x i 6) (Src .body .sizes) w slot n (g .lent .body-is .1) (omega (arith, s .hold-sizes))))
       (goes-map (λ e c′ ν p. (p .1, p .2)) (rw (add-zero slot, zero-add n) at
       (goes-rows slot n (listRow w (extendNode (masks t) (extendData t m) kids (x .source)) (Src .body)) (listViewRow x inner w i slot) (Going (d .len) c μ) step n 0 (d .«data») c μ (omega arith)
-      (rw (add-zero (d .len)) (fine .data-fine), h, data-kept-refl i (endOf (x .state) i) c μ))))))
+      (rw (add-zero (d .len)) (fine .data-fine), h, data-kept-refl i (endOf (x .plan) i) c μ))))))
     where
       both-in : {a b : Bool} → a ≡ true → b ≡ true → (a && b) ≡ true
       both-in p q = rw (p, q)
@@ -195,9 +195,9 @@ module _ (x : Join) (k w : ℕ) (t : Ty) (i m : ℕ) (ss : ℕ → Column (tList
         (
           written-first i zs zs μ ∙ ap (_++ zs) (h .data-are .0),
           written-second i zs zs μ ∙ ap (_++ zs) (h .data-are .1),
-          held-same (x .state) c c μ (written i zs zs μ) k t (suc i) (d .«data» .child) (g .worded .4) (λ j a b. written-other i zs zs μ c j (λ y. omega (arith, y))) (h .data-are .2),
+          held-same (x .plan) c c μ (written i zs zs μ) k t (suc i) (d .«data» .child) (g .worded .4) (λ j a b. written-other i zs zs μ c j (λ y. omega (arith, y))) (h .data-are .2),
         ),
-        written-kept i zs zs μ (endOf (x .state) i) c c (written i zs zs μ) (omega (arith, ends, same-end)) (kept-refl (suc i) (endOf (x .state) i) c (written i zs zs μ)),
+        written-kept i zs zs μ (endOf (x .plan) i) c c (written i zs zs μ) (omega (arith, ends, same-end)) (kept-refl (suc i) (endOf (x .plan) i) c (written i zs zs μ)),
       )))
 
 -- A LIST-VIEW'S COPY GOES WITH THE MODEL'S, where its child's does

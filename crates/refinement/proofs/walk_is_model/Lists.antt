@@ -61,20 +61,20 @@ module _ (x : Join) (k w : ℕ) (t : Ty) (i m : ℕ) (ss : ℕ → Column (tList
   abbrev FineLists : Listings (Grown t) → ℕ → Type 0
   FineLists = ListsFine w (FineNode (masks t) (fineOf t m (λ j. kids j .body)) m kids)
 
-  same-end : endOf (x .state) i ≡ endOf (x .state) (suc i)
+  same-end : endOf (x .plan) i ≡ endOf (x .plan) (suc i)
   same-end = g .worded .1
 
-  ends : suc i < endOf (x .state) (suc i)
-  ends = worded-span (x .state) k t (suc i) (g .worded .4)
+  ends : suc i < endOf (x .plan) (suc i)
+  ends = worded-span (x .plan) k t (suc i) (g .worded .4)
 
   -- the walk of a list's code
-  code-is : isList (codeOf (x .state) i) ≡ true
+  code-is : isList (codeOf (x .plan) i) ≡ true
   code-is = g .worded .2
 
-  copy-is : (inner : Walk) (slot n : ℕ) (c : List ℕ) → copyData x inner (codeOf (x .state) i) i slot n c ≡ copyList x inner w i slot n c
+  copy-is : (inner : Walk) (slot n : ℕ) (c : List ℕ) → copyData x inner (codeOf (x .plan) i) i slot n c ≡ copyList x inner w i slot n c
   unfolding copyData
   copy-is inner slot n c =
-      let code = codeOf (x .state) i in
+      let code = codeOf (x .plan) i in
       rw (
         between-apart 19 20 1 10 code code-is (omega arith),
         between-apart 19 20 11 14 code code-is (omega arith),
@@ -95,11 +95,11 @@ module _ (x : Join) (k w : ℕ) (t : Ty) (i m : ℕ) (ss : ℕ → Column (tList
   unfolding copyList
   some-is inner slot n c = rw (ne-eqb (suc n) 0 (λ e. omega (arith, e)))
 
-  null-is : (inner : NullWalk) (n : ℕ) (c : List ℕ) → nullData x inner (codeOf (x .state) i) i n c
+  null-is : (inner : NullWalk) (n : ℕ) (c : List ℕ) → nullData x inner (codeOf (x .plan) i) i n c
       ≡ need (ltb (suc i) 32) 12 c (wrote (put i 1 (suc (rows c i) * w) (repeated w (rows c (suc i)) n)) c)
   unfolding nullData nullList
   null-is inner n c =
-      let code = codeOf (x .state) i in
+      let code = codeOf (x .plan) i in
       rw (
         between-apart 19 20 1 10 code code-is (omega arith),
         between-apart 19 20 11 14 code code-is (omega arith),
@@ -110,12 +110,12 @@ module _ (x : Join) (k w : ℕ) (t : Ty) (i m : ℕ) (ss : ℕ → Column (tList
       )
 
   half-small : half w ≤ far
-  half-small = rw (sym (g .worded .3)) (half-far (bytesOf (x .state) i) (width-small (codeOf (x .state) i)))
+  half-small = rw (sym (g .worded .3)) (half-far (bytesOf (x .plan) i) (width-small (codeOf (x .plan) i)))
 
   -- ---- a copy of n + 1 rows
 
   module _ (inner : Walk) (go-on : Copies x inner t (suc i) m kids) (slot n : ℕ) (r : Rows w (Src .body .offsets) (Src .body .child .len) slot (suc n))
-      (l : ℕ) (d : Listings (Grown t)) (c : List ℕ) (μ : Memory) (fine : FineLists d l) (rows-are : rows c i ≡ l) (long : length c ≡ 96) (h : HoldsData (x .state) (tList w t) i d c μ) where
+      (l : ℕ) (d : Listings (Grown t)) (c : List ℕ) (μ : Memory) (fine : FineLists d l) (rows-are : rows c i ≡ l) (long : length c ≡ 96) (h : HoldsData (x .plan) (tList w t) i d c μ) where
     abbrev os : List ℕ
     os = Src .body .offsets
 
@@ -138,17 +138,17 @@ module _ (x : Join) (k w : ℕ) (t : Ty) (i m : ℕ) (ss : ℕ → Column (tList
     new = encodes w (seg (λ j. q + (o (slot + j) - o slot)) 1 (suc n))
 
     abbrev Wanted : Listings (Grown t) → List ℕ → Memory → Type 0
-    Wanted e c′ μ′ = HoldsData (x .state) (tList w t) i e c′ μ′ × DataKept i (endOf (x .state) i) c c′ μ μ′
+    Wanted e c′ μ′ = HoldsData (x .plan) (tList w t) i e c′ μ′ × DataKept i (endOf (x .plan) i) c c′ μ μ′
 
     abbrev first : o slot ≤ o (slot + suc n)
     first = first-below x i w slot (suc n) os most (g .lent .body-is .0) r
 
-    finish : (y : Destination t) (c′ : List ℕ) (ν : Memory) → Holds (x .state) t (suc i) y c′ ν × Kept (suc i) (endOf (x .state) (suc i)) c c′ (putIn i 1 new μ) ν
+    finish : (y : Destination t) (c′ : List ℕ) (ν : Memory) → Holds (x .plan) t (suc i) y c′ ν × Kept (suc i) (endOf (x .plan) (suc i)) c c′ (putIn i 1 new μ) ν
         → Wanted (record { buffer1 = d .buffer1 ++ new; child = y }) c′ ν
     finish y c′ ν p =
         let own = p .1 .outside i (λ a b. omega arith) in (
           (own .at-same 1 ∙ put-here i 1 new μ ∙ ap (_++ new) (h .0), p .0),
-          rw same-end (put-kept i new μ (endOf (x .state) (suc i)) c c′ ν (omega (arith, ends)) (p .1)),
+          rw same-end (put-kept i new μ (endOf (x .plan) (suc i)) c c′ ν (omega (arith, ends)) (p .1)),
         )
 
     -- the offsets, then the child's rows, where the last new offset fits
@@ -170,7 +170,7 @@ module _ (x : Join) (k w : ℕ) (t : Ty) (i m : ℕ) (ss : ℕ → Column (tList
         (rw (e, z)
         (goes-wrap (λ y. record { buffer1 = d .buffer1 ++ new; child = y }) finish
         (go-on (o slot) more (d .child) c (putIn i 1 new μ) (omega (arith, first, r .within)) (fine .child-fine) (small-of (q + more) (omega (arith, half-small))) long
-        (held-same (x .state) c c μ (putIn i 1 new μ) k t (suc i) (d .child) (g .worded .4) (λ j a b. put-other i 1 new μ c j (λ y. omega (arith, y))) (h .1))))))
+        (held-same (x .plan) c c μ (putIn i 1 new μ) k t (suc i) (d .child) (g .worded .4) (λ j a b. put-other i 1 new μ c j (λ y. omega (arith, y))) (h .1))))))
 
     -- the model's test of each new offset is the walk's of the last
     rows-go : Goes μ Wanted (listsExtend w (extendNode (masks t) (extendData t m) kids (x .source)) (Src .body) slot (suc n) l d)
@@ -195,11 +195,11 @@ module _ (x : Join) (k w : ℕ) (t : Ty) (i m : ℕ) (ss : ℕ → Column (tList
 
   copies : (inner : Walk) → Copies x inner t (suc i) m kids → CopiesData x inner (tList w t) i m ss
   copies inner go-on slot zero d c μ low high fine small long rows-are h =
-      rw (copy-is inner slot 0 c, none-is inner slot c) (goes-done (d .«data») c (h, data-kept-refl i (endOf (x .state) i) c μ))
+      rw (copy-is inner slot 0 c, none-is inner slot c) (goes-done (d .«data») c (h, data-kept-refl i (endOf (x .plan) i) c μ))
   copies inner go-on slot (suc n) d c μ low high fine small long rows-are h =
       let r = rows-of w (Src .body .offsets) (Src .body .child .len) (Src .off) (Src .len) slot (suc n) (g .obey (x .source) (g .known) .slots .offsets-rule) low high (omega arith) in
       rw (copy-is inner slot (suc n) c, some-is inner slot n c)
-      (goes-need _ 12 c (lt-ltb (suc i) 32 (worded-small (x .state) k t (suc i) (g .worded .4)))
+      (goes-need _ 12 c (lt-ltb (suc i) 32 (worded-small (x .plan) k t (suc i) (g .worded .4)))
       (goes-need _ 12 c
       (rows-in x (place x i 3) (place x i 4) (Src .body .offsets) w slot (suc (suc n)) (g .lent .body-is .0) (r .hold))
       (rows-go inner go-on slot n r (d .len) (d .«data») c μ (fine .data-fine) rows-are long h)))
@@ -212,13 +212,13 @@ module _ (x : Join) (k w : ℕ) (t : Ty) (i m : ℕ) (ss : ℕ → Column (tList
       let f = fine .data-fine .offsets-fine in
       let ps : List ℕ = repeated w (d .«data» .child .len) n in
       rw (null-is inner n c, e, f .last-is, repeated-pieces w (d .«data» .child .len) n)
-      (goes-need _ 12 c (lt-ltb (suc i) 32 (worded-small (x .state) k t (suc i) (g .worded .4)))
+      (goes-need _ 12 c (lt-ltb (suc i) 32 (worded-small (x .plan) k t (suc i) (g .worded .4)))
       (goes-last _ (put i 1 (suc (rows c i) * w) ps) c (ap (λ z. suc z * w) (h .rows-are) ∙ sym (ap length (h .data-are .0) ∙ f .offsets-are)) (
         (
           put-here i 1 ps μ ∙ ap (_++ ps) (h .data-are .0),
-          held-same (x .state) c c μ (putIn i 1 ps μ) k t (suc i) (d .«data» .child) (g .worded .4) (λ j a b. put-other i 1 ps μ c j (λ y. omega (arith, y))) (h .data-are .1),
+          held-same (x .plan) c c μ (putIn i 1 ps μ) k t (suc i) (d .«data» .child) (g .worded .4) (λ j a b. put-other i 1 ps μ c j (λ y. omega (arith, y))) (h .data-are .1),
         ),
-        put-kept i ps μ (endOf (x .state) i) c c (putIn i 1 ps μ) (omega (arith, ends, same-end)) (kept-refl (suc i) (endOf (x .state) i) c (putIn i 1 ps μ)),
+        put-kept i ps μ (endOf (x .plan) i) c c (putIn i 1 ps μ) (omega (arith, ends, same-end)) (kept-refl (suc i) (endOf (x .plan) i) c (putIn i 1 ps μ)),
       )))
 
 -- A LIST'S COPY GOES WITH THE MODEL'S, where its child's does

@@ -80,7 +80,7 @@ part-long {body} {s} {at} {size} p = ap length (p .bytes-are) ∙ length-take-le
 
 -- ---- a node's validity is grown
 
-pub record Masked (state : List ℕ) (i : ℕ) (m : Bool) (b : Option (List Bool)) (count : ℕ) (c c′ : List ℕ) (μ μ′ : Memory) : Type 0 where
+pub record Masked (plan : List ℕ) (i : ℕ) (m : Bool) (b : Option (List Bool)) (count : ℕ) (c c′ : List ℕ) (μ μ′ : Memory) : Type 0 where
   pub long : length c′ ≡ length c
   pub rows-same : (j : ℕ) → rows c′ j ≡ rows c j
   pub bytes-same : (j : ℕ) → bytes c′ j ≡ bytes c j
@@ -88,12 +88,12 @@ pub record Masked (state : List ℕ) (i : ℕ) (m : Bool) (b : Option (List Bool
   pub nulls-else : (j : ℕ) → (j ≡ i → ⊥) → nulls c′ j ≡ nulls c j
   pub at-same : (j b : ℕ) → μ′ .at j b ≡ μ .at j b
   pub bits-else : (j : ℕ) → (j ≡ i → ⊥) → μ′ .bits j ≡ μ .bits j
-  pub bits-are : HoldsBits state i m b μ′
+  pub bits-are : HoldsBits plan i m b μ′
 
 module _ (x : Join) (i : ℕ) (small : i < 32) (c : List ℕ) (long : length c ≡ 96) (μ : Memory) where
   -- bits behind those of node i, and so many nulls more
-  grown-mask : (l vs : List Bool) (count n : ℕ) → (keepsOf (x .state) i ≡ 0 → ⊥) → μ .bits i ≡ map flag l → nulls c i ≡ count → count + n ≤ top
-      → (c′ : List ℕ) → c′ ≡ addNulls i n c → Masked (x .state) i true (some (l ++ vs)) (count + n) c c′ μ (maskIn i (map flag vs) μ)
+  grown-mask : (l vs : List Bool) (count n : ℕ) → (keepsOf (x .plan) i ≡ 0 → ⊥) → μ .bits i ≡ map flag l → nulls c i ≡ count → count + n ≤ top
+      → (c′ : List ℕ) → c′ ≡ addNulls i n c → Masked (x .plan) i true (some (l ++ vs)) (count + n) c c′ μ (maskIn i (map flag vs) μ)
   grown-mask l vs count n k e z t c′ q =
       record {
         long = ap length q ∙ long-nulls i n c;
@@ -106,7 +106,7 @@ module _ (x : Join) (i : ℕ) (small : i < 32) (c : List ℕ) (long : length c �
         bits-are = (k, rw (eq-eqb i i refl, e) (sym (flags-append l vs)));
       }
 
-  same-mask : (m : Bool) (b : Option (List Bool)) (count : ℕ) → nulls c i ≡ count → HoldsBits (x .state) i m b μ → Masked (x .state) i m b count c c μ μ
+  same-mask : (m : Bool) (b : Option (List Bool)) (count : ℕ) → nulls c i ≡ count → HoldsBits (x .plan) i m b μ → Masked (x .plan) i m b count c c μ μ
   same-mask m b count z h =
       record {
         long = refl;
@@ -120,8 +120,8 @@ module _ (x : Join) (i : ℕ) (small : i < 32) (c : List ℕ) (long : length c �
       }
 
   -- bits behind those of node i, none of them a null
-  ones-mask : (l vs : List Bool) (count : ℕ) → (keepsOf (x .state) i ≡ 0 → ⊥) → μ .bits i ≡ map flag l → nulls c i ≡ count
-      → Masked (x .state) i true (some (l ++ vs)) count c c μ (maskIn i (map flag vs) μ)
+  ones-mask : (l vs : List Bool) (count : ℕ) → (keepsOf (x .plan) i ≡ 0 → ⊥) → μ .bits i ≡ map flag l → nulls c i ≡ count
+      → Masked (x .plan) i true (some (l ++ vs)) count c c μ (maskIn i (map flag vs) μ)
   ones-mask l vs count k e z =
       record {
         long = refl;
@@ -140,14 +140,14 @@ module _ (x : Join) (i : ℕ) (small : i < 32) (c : List ℕ) (long : length c �
 
   -- A COPY'S BITS: those of the source's slots, and their zeros counted
   pub copy-mask : (valid : Option (List ℕ)) (b : Option (List Bool)) (len count slot n reach : ℕ) → LentValid x i valid → Mask true valid reach → slot + n ≤ reach
-      → HoldsBits (x .state) i true b μ → BitsFor true b len → rows c i ≡ len → nulls c i ≡ count → count + n ≤ top
-      → Quiet μ (λ c′ μ′. Masked (x .state) i true (grow true (seg (ok valid) slot n) b) (count + counted b (zeros (seg (ok valid) slot n))) c c′ μ μ′) (copyMask x i slot n c)
+      → HoldsBits (x .plan) i true b μ → BitsFor true b len → rows c i ≡ len → nulls c i ≡ count → count + n ≤ top
+      → Quiet μ (λ c′ μ′. Masked (x .plan) i true (grow true (seg (ok valid) slot n) b) (count + counted b (zeros (seg (ok valid) slot n))) c c′ μ μ′) (copyMask x i slot n c)
   unfolding copyMask copyBits
   copy-mask valid none len count slot n reach v mk p h f r z t =
-      rw (eq-eqb (keepsOf (x .state) i) 0 h) (quiet-done c (same-mask true none (count + 0) (z ∙ sym (add-zero count)) h))
+      rw (eq-eqb (keepsOf (x .plan) i) 0 h) (quiet-done c (same-mask true none (count + 0) (z ∙ sym (add-zero count)) h))
   copy-mask none (some l) len count slot n reach v mk p h f r z t =
       let g = ones-mask l (seg (λ k. true) slot n) count (h .0) (h .1) z in
-      rw (ne-eqb (keepsOf (x .state) i) 0 (h .0), v)
+      rw (ne-eqb (keepsOf (x .plan) i) 0 (h .0), v)
       (quiet-wrote (mask i (rows c i) (replicate n 1)) c (placed l (h .1) len f r)
       (rw (zeros-ones n slot, add-zero count, ← flags-ones n slot) g))
   copy-mask (some m) (some l) len count slot n reach v mk p h f r z t =
@@ -159,7 +159,7 @@ module _ (x : Join) (i : ℕ) (small : i < 32) (c : List ℕ) (long : length c �
       = bits-of (x .body) at size (w .inside) n slot (bound w) ∙ ap (λ s. map flag (seg (bit s) slot n)) (sym (w .bytes-are)) in
       let zs : Rattle.bits.specs.Bits.zeros (bitsAt (8 * at + slot) n (x .body)) ≡ zeros vs = ap Rattle.bits.specs.Bits.zeros e ∙ flags-zeros vs in
       let few : zeros vs ≤ n = subst (λ k. zeros vs ≤ k) (length-seg (bit m) slot n) (zeros-few vs) in
-      rw (ne-eqb (keepsOf (x .state) i) 0 (h .0), v .0)
+      rw (ne-eqb (keepsOf (x .plan) i) 0 (h .0), v .0)
       (quiet-need _ 12 c (le-leb (8 * at + slot + n) (8 * length (x .body)) (omega (arith, bound w, w .inside)))
       (quiet-then _
       (quiet-wrote {Q = λ d ν. (d ≡ c) × (ν ≡ maskIn i (map flag vs) μ)} (mask i (rows c i) (bitsAt (8 * at + slot) n (x .body))) c (placed l (h .1) len f r) (refl, rw e))
@@ -169,23 +169,23 @@ module _ (x : Join) (i : ℕ) (small : i < 32) (c : List ℕ) (long : length c �
       bound w = let e = part-long w in let r : reach ≤ 8 * length m = mk in omega arith
 
   -- NULLS: zero bits, all counted
-  pub null-mask : (b : Option (List Bool)) (len count n : ℕ) → HoldsBits (x .state) i true b μ → BitsFor true b len → rows c i ≡ len → nulls c i ≡ count → count + n ≤ top
-      → Quiet μ (λ c′ μ′. Masked (x .state) i true (grow true (replicate n false) b) (count + counted b n) c c′ μ μ′) (nullMask x i n c)
+  pub null-mask : (b : Option (List Bool)) (len count n : ℕ) → HoldsBits (x .plan) i true b μ → BitsFor true b len → rows c i ≡ len → nulls c i ≡ count → count + n ≤ top
+      → Quiet μ (λ c′ μ′. Masked (x .plan) i true (grow true (replicate n false) b) (count + counted b n) c c′ μ μ′) (nullMask x i n c)
   unfolding nullMask
-  null-mask none len count n h f r z t = rw (eq-eqb (keepsOf (x .state) i) 0 h) (quiet-done c (same-mask true none (count + 0) (z ∙ sym (add-zero count)) h))
+  null-mask none len count n h f r z t = rw (eq-eqb (keepsOf (x .plan) i) 0 h) (quiet-done c (same-mask true none (count + 0) (z ∙ sym (add-zero count)) h))
   null-mask (some l) len count n h f r z t =
-      rw (ne-eqb (keepsOf (x .state) i) 0 (h .0))
+      rw (ne-eqb (keepsOf (x .plan) i) 0 (h .0))
       (quiet-then _
       (quiet-wrote {Q = λ d ν. (d ≡ c) × (ν ≡ maskIn i (map flag (replicate n false)) μ)} (mask i (rows c i) (replicate n 0)) c (placed l (h .1) len f r) (refl, rw (flags-none n)))
       (λ d ν q. quiet-done _ (rw (q .0, q .1) (grown-mask l (replicate n false) count n (h .0) (h .1) z t _ refl))))
 
   -- .. at a union or run-end node, which has no bits
-  pub count-nulls : (b : Option (List Bool)) (count n : ℕ) → HoldsBits (x .state) i false b μ → nulls c i ≡ count → count + n ≤ top
-      → Quiet μ (λ c′ μ′. Masked (x .state) i false (grow false (replicate n false) b) (count + counted b n) c c′ μ μ′) (countNulls x i n c)
+  pub count-nulls : (b : Option (List Bool)) (count n : ℕ) → HoldsBits (x .plan) i false b μ → nulls c i ≡ count → count + n ≤ top
+      → Quiet μ (λ c′ μ′. Masked (x .plan) i false (grow false (replicate n false) b) (count + counted b n) c c′ μ μ′) (countNulls x i n c)
   unfolding countNulls
-  count-nulls none count n h z t = rw (eq-eqb (keepsOf (x .state) i) 0 h) (quiet-done c (same-mask false none (count + 0) (z ∙ sym (add-zero count)) h))
+  count-nulls none count n h z t = rw (eq-eqb (keepsOf (x .plan) i) 0 h) (quiet-done c (same-mask false none (count + 0) (z ∙ sym (add-zero count)) h))
   count-nulls (some l) count n h z t =
-      rw (ne-eqb (keepsOf (x .state) i) 0 h)
+      rw (ne-eqb (keepsOf (x .plan) i) 0 h)
       (quiet-done (addNulls i n c)
       (record {
         long = long-nulls i n c;
@@ -199,8 +199,8 @@ module _ (x : Join) (i : ℕ) (small : i < 32) (c : List ℕ) (long : length c �
       }))
 
   -- A COPY at a union or run-end node: nothing, since the source has no validity there
-  pub copy-none : (valid : Option (List ℕ)) (b : Option (List Bool)) (count slot n reach : ℕ) → Mask false valid reach → HoldsBits (x .state) i false b μ → nulls c i ≡ count
-      → Quiet μ (λ c′ μ′. Masked (x .state) i false (grow false (seg (ok valid) slot n) b) (count + counted b (zeros (seg (ok valid) slot n))) c c′ μ μ′) (done c)
+  pub copy-none : (valid : Option (List ℕ)) (b : Option (List Bool)) (count slot n reach : ℕ) → Mask false valid reach → HoldsBits (x .plan) i false b μ → nulls c i ≡ count
+      → Quiet μ (λ c′ μ′. Masked (x .plan) i false (grow false (seg (ok valid) slot n) b) (count + counted b (zeros (seg (ok valid) slot n))) c c′ μ μ′) (done c)
   copy-none none none count slot n reach mk h z = quiet-done c (same-mask false none (count + 0) (z ∙ sym (add-zero count)) h)
   copy-none none (some l) count slot n reach mk h z = quiet-done c (rw (zeros-ones n slot) (same-mask false (some l) (count + 0) (z ∙ sym (add-zero count)) h))
   copy-none (some m) b count slot n reach mk h z = absurd mk

@@ -32,13 +32,13 @@ pub record DataKept (i e : ℕ) (c c′ : List ℕ) (μ μ′ : Memory) : Type 0
 abbrev pub Small : ℕ → Type 0
 Small n = n ≤ top
 
--- what is given at node i: the state's words, source j's tables, and the model's laws over all m sources
+-- what is given at node i: the plan's words, source j's tables, and the model's laws over all m sources
 pub record Given (x : Join) (k : ℕ) (t : Ty) (i m : ℕ) (ss : ℕ → Column t) : Type 0 where
-  pub worded : Worded (x .state) k t i
+  pub worded : Worded (x .plan) k t i
   pub formed : Formed t
   pub known : x .source < m
   pub lent : Lent x t i (ss (x .source))
-  pub based : Based (x .state) (x .source) t i m (λ j. ss j .body)
+  pub based : Based (x .plan) (x .source) t i m (λ j. ss j .body)
   pub obey : (j : ℕ) → j < m → Source t (ss j)
   pub lawful : Law (kindOf t m (λ j. ss j .body)) m ss
 
@@ -46,27 +46,27 @@ pub record Given (x : Join) (k : ℕ) (t : Ty) (i m : ℕ) (ss : ℕ → Column 
 abbrev pub Copies : Join → Walk → (t : Ty) → ℕ → ℕ → (ℕ → Column t) → Type 0
 Copies x walk t i m ss =
     (a n : ℕ) (d : Destination t) (c : List ℕ) (μ : Memory) → a + n ≤ ss (x .source) .len → Fine (kindOf t m (λ j. ss j .body)) m ss d → Small (d .len + n)
-    → length c ≡ 96 → Holds (x .state) t i d c μ
-    → Goes μ (λ d′ c′ μ′. Holds (x .state) t i d′ c′ μ′ × Kept i (endOf (x .state) i) c c′ μ μ′) (extendNode (masks t) (extendData t m) ss (x .source) a n d) (walk i a n c)
+    → length c ≡ 96 → Holds (x .plan) t i d c μ
+    → Goes μ (λ d′ c′ μ′. Holds (x .plan) t i d′ c′ μ′ × Kept i (endOf (x .plan) i) c c′ μ μ′) (extendNode (masks t) (extendData t m) ss (x .source) a n d) (walk i a n c)
 
 -- .. its data, from slot `slot` on, where validity is done; `inner` is the walk of the nodes below
 abbrev pub CopiesData : Join → Walk → (t : Ty) → ℕ → ℕ → (ℕ → Column t) → Type 0
 CopiesData x inner t i m ss =
     (slot n : ℕ) (d : Destination t) (c : List ℕ) (μ : Memory) → ss (x .source) .off ≤ slot → slot + n ≤ ss (x .source) .off + ss (x .source) .len
-    → Fine (kindOf t m (λ j. ss j .body)) m ss d → Small (d .len + n) → length c ≡ 96 → rows c i ≡ d .len → HoldsData (x .state) t i (d .«data») c μ
-    → Goes μ (λ g c′ μ′. HoldsData (x .state) t i g c′ μ′ × DataKept i (endOf (x .state) i) c c′ μ μ′)
-    (extendData t m (λ j. ss j .body) (x .source) slot n (d .len) (d .«data»)) (copyData x inner (codeOf (x .state) i) i slot n c)
+    → Fine (kindOf t m (λ j. ss j .body)) m ss d → Small (d .len + n) → length c ≡ 96 → rows c i ≡ d .len → HoldsData (x .plan) t i (d .«data») c μ
+    → Goes μ (λ g c′ μ′. HoldsData (x .plan) t i g c′ μ′ × DataKept i (endOf (x .plan) i) c c′ μ μ′)
+    (extendData t m (λ j. ss j .body) (x .source) slot n (d .len) (d .«data»)) (copyData x inner (codeOf (x .plan) i) i slot n c)
 
 -- THE NULLS at node i go with the model's
 abbrev pub Fills : Join → NullWalk → (t : Ty) → ℕ → ℕ → (ℕ → Column t) → Type 0
 Fills x walk t i m ss =
     (n : ℕ) (d : Destination t) (c : List ℕ) (μ : Memory) → Fine (kindOf t m (λ j. ss j .body)) m ss d → KeepNode (keepOf t) d → Small (d .len + n)
-    → length c ≡ 96 → Holds (x .state) t i d c μ
-    → Goes μ (λ d′ c′ μ′. Holds (x .state) t i d′ c′ μ′ × Kept i (endOf (x .state) i) c c′ μ μ′) (nullsNode (masks t) (nullsData t) n d) (walk i n c)
+    → length c ≡ 96 → Holds (x .plan) t i d c μ
+    → Goes μ (λ d′ c′ μ′. Holds (x .plan) t i d′ c′ μ′ × Kept i (endOf (x .plan) i) c c′ μ μ′) (nullsNode (masks t) (nullsData t) n d) (walk i n c)
 
 abbrev pub FillsData : Join → NullWalk → (t : Ty) → ℕ → ℕ → (ℕ → Column t) → Type 0
 FillsData x inner t i m ss =
     (n : ℕ) (d : Destination t) (c : List ℕ) (μ : Memory) → 0 < n → Fine (kindOf t m (λ j. ss j .body)) m ss d → KeepNode (keepOf t) d → Small (d .len + n)
-    → length c ≡ 96 → Holds (x .state) t i d c μ
-    → Goes μ (λ g c′ μ′. HoldsData (x .state) t i g c′ μ′ × DataKept i (endOf (x .state) i) c c′ μ μ′)
-    (nullsData t n (d .len) (d .«data»)) (nullData x inner (codeOf (x .state) i) i n c)
+    → length c ≡ 96 → Holds (x .plan) t i d c μ
+    → Goes μ (λ g c′ μ′. HoldsData (x .plan) t i g c′ μ′ × DataKept i (endOf (x .plan) i) c c′ μ μ′)
+    (nullsData t n (d .len) (d .«data»)) (nullData x inner (codeOf (x .plan) i) i n c)

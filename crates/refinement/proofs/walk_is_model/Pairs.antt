@@ -24,7 +24,7 @@ goes-both (over g o e p) a = over g o e p
 -- what the model is done with is made into another thing
 pub goes-wrap : {A B : Type 0} {μ : Memory} {Q : A → List ℕ → Memory → Type 0} {R : B → List ℕ → Memory → Type 0} {t : Try A} {o : Out} (f : A → B)
     → ((x : A) (c : List ℕ) (ν : Memory) → Q x c ν → R (f x) c ν) → Goes μ Q t o → Goes μ R (then t (λ x. done (f x))) o
-goes-wrap f h (good x o e p q) = good (f x) o e p (h x (o .counts) _ q)
+goes-wrap f h (good x o e p q) = good (f x) o e p (h x (o .counters) _ q)
 goes-wrap f h (over g o e p) = over g o e p
 
 -- a write that is the last step

@@ -1,4 +1,4 @@
--- Entries and rows of lent buffers, what a write leaves of the other buffers, and what words of the state say. Assumes nothing.
+-- Entries and rows of lent buffers, what a write leaves of the other buffers, and what words of the plan say. Assumes nothing.
 use mathlib.Core.Path.{_≡_, refl, _∙_}
 use mathlib.Core.Bool.{Bool, true, false, _&&_}
 use mathlib.Core.List.{List, [], _∷_, _++_}
@@ -83,17 +83,17 @@ data-kept-then a b =
       outside = λ j h. same-then (a .outside j h) (b .outside j h);
     }
 
--- ---- words of the state
+-- ---- words of the plan
 
-pub worded-small : (state : List ℕ) (k : ℕ) (t : Ty) (i : ℕ) → Worded state k t i → i < 32
-worded-small state (suc k) (tPlain p) i w = w .0
-worded-small state (suc k) tView i w = w .0
-worded-small state (suc k) (tListView v t) i w = w .0
-worded-small state (suc k) (tList v t) i w = w .0
-worded-small state (suc k) (tSparse ids nullable f) i w = w .0
-worded-small state (suc k) (tDense ids nullable f) i w = w .0
-worded-small state (suc k) (tRunEnd v t) i w = w .0
-worded-small state (suc k) (tDictionary n p) i w = w .0
+pub worded-small : (plan : List ℕ) (k : ℕ) (t : Ty) (i : ℕ) → Worded plan k t i → i < 32
+worded-small plan (suc k) (tPlain p) i w = w .0
+worded-small plan (suc k) tView i w = w .0
+worded-small plan (suc k) (tListView v t) i w = w .0
+worded-small plan (suc k) (tList v t) i w = w .0
+worded-small plan (suc k) (tSparse ids nullable f) i w = w .0
+worded-small plan (suc k) (tDense ids nullable f) i w = w .0
+worded-small plan (suc k) (tRunEnd v t) i w = w .0
+worded-small plan (suc k) (tDictionary n p) i w = w .0
 
 -- rows below the limit are held by a counter
 pub small-of : (n : ℕ) → n ≤ far → Small n

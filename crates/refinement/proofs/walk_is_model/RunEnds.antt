@@ -44,8 +44,8 @@ entry-from w s from a k = ap (λ z. number w (drop z s)) (let e : w * (a + k) �
 
 -- ---- `count` ends written behind those of node i + 1, where the values are done; y: the gap from then on
 
-module _ (state : List ℕ) (k w : ℕ) (t : Ty) (i : ℕ) (wd : Worded state (suc k) (tRunEnd w t) i) (c c2 : List ℕ) (μ ν : Memory)
-    (p : Kept (suc (suc i)) (endOf state (suc (suc i))) c c2 μ ν) (new : List ℕ) (count y : ℕ) where
+module _ (plan : List ℕ) (k w : ℕ) (t : Ty) (i : ℕ) (wd : Worded plan (suc k) (tRunEnd w t) i) (c c2 : List ℕ) (μ ν : Memory)
+    (p : Kept (suc (suc i)) (endOf plan (suc (suc i))) c c2 μ ν) (new : List ℕ) (count y : ℕ) where
   abbrev Added : List ℕ
   Added = addRows (suc i) count c2
 
@@ -66,11 +66,11 @@ module _ (state : List ℕ) (k w : ℕ) (t : Ty) (i : ℕ) (wd : Worded state (s
         bits-same = s .bits-same;
       }
 
-  ends-kept : DataKept i (endOf state i) c Counted μ Behind
+  ends-kept : DataKept i (endOf plan i) c Counted μ Behind
   ends-kept =
       let own = p .outside i (λ a b. omega arith) in
-      let e : endOf state i ≡ endOf state (suc (suc i)) = wd .1 in
-      let z = worded-span state k t (suc (suc i)) (wd .4) in
+      let e : endOf plan i ≡ endOf plan (suc (suc i)) = wd .1 in
+      let z = worded-span plan k t (suc (suc i)) (wd .4) in
       record {
         long = long-bytes i y Added ∙ long-rows (suc i) count c2 ∙ p .long;
         rows-own = rows-of-bytes Added i y i ∙ rows-other c2 (suc i) count i (λ z. omega (arith, z)) ∙ own .rows-same;
@@ -93,13 +93,13 @@ module _ (state : List ℕ) (k w : ℕ) (t : Ty) (i : ℕ) (wd : Worded state (s
   ends-at = p .outside (suc i) (λ a b. omega arith) .at-same 1
 
   ends-held : (d : Runs (Grown t)) (v : Destination t) (z : ℕ) → y ≡ z → length c ≡ 96 → rows c (suc i) ≡ d .ends .len → μ .at (suc i) 1 ≡ d .ends .«data» → d .ends .len + count ≤ top
-      → Holds state t (suc (suc i)) v c2 ν → HoldsData state (tRunEnd w t) i (record { ends = moreEnds new count (d .ends); values = v; gap = z }) Counted Behind
+      → Holds plan t (suc (suc i)) v c2 ν → HoldsData plan (tRunEnd w t) i (record { ends = moreEnds new count (d .ends); values = v; gap = z }) Counted Behind
   ends-held d v z f long r b fits h =
-      let small : suc (suc i) < 32 = worded-small state k t (suc (suc i)) (wd .4) in
+      let small : suc (suc i) < 32 = worded-small plan k t (suc (suc i)) (wd .4) in
       let q : rows c2 (suc i) ≡ d .ends .len = ends-rows ∙ r in (
         rows-of-bytes Added i y (suc i) ∙ rows-added c2 (p .long ∙ long) (suc i) (omega arith) count ∙ grown-is (rows c2 (suc i)) count (omega arith) ∙ ap (_+ count) q,
         put-here (suc i) 1 new ν ∙ ap (_++ new) (ends-at ∙ b),
-        held-same state c2 Counted ν Behind k t (suc (suc i)) v (wd .4) (λ j a b. ends-other j (λ y. omega (arith, y)) (λ y. omega (arith, y))) h,
+        held-same plan c2 Counted ν Behind k t (suc (suc i)) v (wd .4) (λ j a b. ends-other j (λ y. omega (arith, y)) (λ y. omega (arith, y))) h,
         bytes-set Added (long-rows (suc i) count c2 ∙ p .long ∙ long) i (omega arith) y ∙ f,
       )
 
@@ -116,10 +116,10 @@ module _ (x : Join) (k w : ℕ) (t : Ty) (i m : ℕ) (ss : ℕ → Column (tRunE
       (λ v. readWith (slotAt t) (freezeNode (masks t) (freezeData t m (λ j. kids j .body)) v)) (nullRow t)
 
   below : suc (suc i) < 32
-  below = worded-small (x .state) k t (suc (suc i)) (g .worded .4)
+  below = worded-small (x .plan) k t (suc (suc i)) (g .worded .4)
 
   half-small : half w ≤ far
-  half-small = rw (sym (g .worded .3)) (half-far (bytesOf (x .state) (suc i)) (width-small (codeOf (x .state) (suc i))))
+  half-small = rw (sym (g .worded .3)) (half-far (bytesOf (x .plan) (suc i)) (width-small (codeOf (x .plan) (suc i))))
 
   -- the walk of a run-end node's code
   copy-code : (inner : Walk) (code slot n : ℕ) (c : List ℕ) → code ≡ 23 → copyData x inner code i slot n c ≡ copyRuns x inner i slot n c
@@ -213,8 +213,8 @@ module _ (x : Join) (k w : ℕ) (t : Ty) (i m : ℕ) (ss : ℕ → Column (tRunE
     more d = clipped w ends slot (slot + suc n) (lastEnd w (d .ends)) first count
 
     copied : (inner : Walk) → Copies x inner t (suc (suc i)) m kids → (d : Destination (tRunEnd w t)) (c : List ℕ) (μ : Memory) → FineRuns (d .«data») (d .len) → length c ≡ 96
-        → rows c i ≡ d .len → HoldsData (x .state) (tRunEnd w t) i (d .«data») c μ
-        → Goes μ (λ e c′ μ′. HoldsData (x .state) (tRunEnd w t) i e c′ μ′ × DataKept i (endOf (x .state) i) c c′ μ μ′)
+        → rows c i ≡ d .len → HoldsData (x .plan) (tRunEnd w t) i (d .«data») c μ
+        → Goes μ (λ e c′ μ′. HoldsData (x .plan) (tRunEnd w t) i e c′ μ′ × DataKept i (endOf (x .plan) i) c c′ μ μ′)
         (extendData (tRunEnd w t) m (λ j. ss j .body) (x .source) slot (suc n) (d .len) (d .«data»)) (copyRuns x inner i slot (suc n) c)
     copied inner go-on d c μ fine long rows-are h =
         let last : rows c i ≡ lastEnd w (d .«data» .ends) = rows-are ∙ fine .covers in
@@ -233,17 +233,17 @@ module _ (x : Join) (k w : ℕ) (t : Ty) (i m : ℕ) (ss : ℕ → Column (tRunE
         (λ v c2 ν p.
         rw (last, ends-are (lastEnd w (d .«data» .ends)))
         (goes-wrote (put (suc i) 1 (rows c2 (suc i) * w) bytes) c2 _
-        (ap (_* w) (ends-rows (x .state) k w t i (g .worded) c c2 μ ν (p .1) bytes count 0 ∙ h .0) ∙ sym (ap length (ends-at (x .state) k w t i (g .worded) c c2 μ ν (p .1) bytes count 0 ∙ h .1) ∙ fine .ends-are))
+        (ap (_* w) (ends-rows (x .plan) k w t i (g .worded) c c2 μ ν (p .1) bytes count 0 ∙ h .0) ∙ sym (ap length (ends-at (x .plan) k w t i (g .worded) c c2 μ ν (p .1) bytes count 0 ∙ h .1) ∙ fine .ends-are))
         (goes-done _ (endGap i (addRows (suc i) count c2)) (
-          ends-held (x .state) k w t i (g .worded) c c2 μ ν (p .1) bytes count _ (d .«data») v _ (ap (λ z. min z 1) (gap-was (x .state) k w t i (g .worded) c c2 μ ν (p .1) bytes count 0 ∙ h .3)) long (h .0) (h .1) (omega arith) (p .0),
-          ends-kept (x .state) k w t i (g .worded) c c2 μ ν (p .1) bytes count _,
+          ends-held (x .plan) k w t i (g .worded) c c2 μ ν (p .1) bytes count _ (d .«data») v _ (ap (λ z. min z 1) (gap-was (x .plan) k w t i (g .worded) c c2 μ ν (p .1) bytes count 0 ∙ h .3)) long (h .0) (h .1) (omega arith) (p .0),
+          ends-kept (x .plan) k w t i (g .worded) c c2 μ ν (p .1) bytes count _,
         ))))))))
 
   copies : (inner : Walk) → Copies x inner t (suc (suc i)) m kids → CopiesData x inner (tRunEnd w t) i m ss
   copies inner go-on slot zero d c μ low high fine small long rows-are h =
-      rw (copy-code inner (codeOf (x .state) i) slot 0 c (g .worded .2), none-is inner slot c) (goes-done (d .«data») c (h, data-kept-refl i (endOf (x .state) i) c μ))
+      rw (copy-code inner (codeOf (x .plan) i) slot 0 c (g .worded .2), none-is inner slot c) (goes-done (d .«data») c (h, data-kept-refl i (endOf (x .plan) i) c μ))
   copies inner go-on slot (suc n) d c μ low high fine small long rows-are h =
-      rw (copy-code inner (codeOf (x .state) i) slot (suc n) c (g .worded .2)) (copied slot n high inner go-on d c μ (fine .data-fine) long rows-are h)
+      rw (copy-code inner (codeOf (x .plan) i) slot (suc n) c (g .worded .2)) (copied slot n high inner go-on d c μ (fine .data-fine) long rows-are h)
 
   -- ---- nulls
 
@@ -262,9 +262,9 @@ module _ (x : Join) (k w : ℕ) (t : Ty) (i m : ℕ) (ss : ℕ → Column (tRunE
   unfolding growRun
   grow-is inner n c = refl
 
-  module _ (inner : NullWalk) (n : ℕ) (d : Destination (tRunEnd w t)) (c : List ℕ) (μ : Memory) (f : FineRuns (d .«data») (d .len)) (h : Holds (x .state) (tRunEnd w t) i d c μ) where
+  module _ (inner : NullWalk) (n : ℕ) (d : Destination (tRunEnd w t)) (c : List ℕ) (μ : Memory) (f : FineRuns (d .«data») (d .len)) (h : Holds (x .plan) (tRunEnd w t) i d c μ) where
     abbrev Done : Runs (Grown t) → List ℕ → Memory → Type 0
-    Done e c′ μ′ = HoldsData (x .state) (tRunEnd w t) i e c′ μ′ × DataKept i (endOf (x .state) i) c c′ μ μ′
+    Done e c′ μ′ = HoldsData (x .plan) (tRunEnd w t) i e c′ μ′ × DataKept i (endOf (x .plan) i) c c′ μ μ′
 
     -- the end of the last run
     abbrev end : List ℕ
@@ -289,10 +289,10 @@ module _ (x : Join) (k w : ℕ) (t : Ty) (i m : ℕ) (ss : ℕ → Column (tRunE
         (goes-guard (ltb (lastEnd w (d .«data» .ends) + n) (half w)) (ltb (lastEnd w (d .«data» .ends) + n) (half w)) 7 c2 (omega arith) refl
         (λ q.
         goes-wrote (put (suc i) 1 (rows c2 (suc i) * w) end) c2 _
-        (ap (_* w) (ends-rows (x .state) k w t i (g .worded) c c2 μ ν (p .1) end 1 0 ∙ h .data-are .0) ∙ sym (ap length (ends-at (x .state) k w t i (g .worded) c c2 μ ν (p .1) end 1 0 ∙ h .data-are .1) ∙ f .ends-are))
+        (ap (_* w) (ends-rows (x .plan) k w t i (g .worded) c c2 μ ν (p .1) end 1 0 ∙ h .data-are .0) ∙ sym (ap length (ends-at (x .plan) k w t i (g .worded) c c2 μ ν (p .1) end 1 0 ∙ h .data-are .1) ∙ f .ends-are))
         (goes-done _ (beginGap i (addRows (suc i) 1 c2)) (
-          ends-held (x .state) k w t i (g .worded) c c2 μ ν (p .1) end 1 _ (d .«data») v _ (ap (λ z. cond (eqb z 0) 0 2) (gap-was (x .state) k w t i (g .worded) c c2 μ ν (p .1) end 1 0 ∙ h .data-are .3)) long (h .data-are .0) (h .data-are .1) (omega arith) (p .0),
-          ends-kept (x .state) k w t i (g .worded) c c2 μ ν (p .1) end 1 _,
+          ends-held (x .plan) k w t i (g .worded) c c2 μ ν (p .1) end 1 _ (d .«data») v _ (ap (λ z. cond (eqb z 0) 0 2) (gap-was (x .plan) k w t i (g .worded) c c2 μ ν (p .1) end 1 0 ∙ h .data-are .3)) long (h .data-are .0) (h .data-are .1) (omega arith) (p .0),
+          ends-kept (x .plan) k w t i (g .worded) c c2 μ ν (p .1) end 1 _,
         ))))))
 
     -- the last run longer
@@ -315,18 +315,18 @@ module _ (x : Join) (k w : ℕ) (t : Ty) (i m : ℕ) (ss : ℕ → Column (tRunE
       over-other : (j : ℕ) → (j ≡ suc i → ⊥) → SameAt c c μ Over j
       over-other = amend-other (suc i) 1 from end μ c
 
-      over-held : HoldsData (x .state) (tRunEnd w t) i (record { ends = overEnd w (lastEnd w (d .«data» .ends) + n) (d .«data» .ends); values = d .«data» .values; gap = 2 }) c Over
+      over-held : HoldsData (x .plan) (tRunEnd w t) i (record { ends = overEnd w (lastEnd w (d .«data» .ends) + n) (d .«data» .ends); values = d .«data» .values; gap = 2 }) c Over
       over-held = (
         h .data-are .0,
         amend-here (suc i) 1 from end μ ∙ ap₂ (λ a s. take a s ++ end) from-is (h .data-are .1),
-        held-same (x .state) c c μ Over k t (suc (suc i)) (d .«data» .values) (g .worded .4) (λ j a b. over-other j (λ y. omega (arith, y))) (h .data-are .2),
+        held-same (x .plan) c c μ Over k t (suc (suc i)) (d .«data» .values) (g .worded .4) (λ j a b. over-other j (λ y. omega (arith, y))) (h .data-are .2),
         h .data-are .3 ∙ on,
       )
 
-      over-kept : DataKept i (endOf (x .state) i) c c μ Over
+      over-kept : DataKept i (endOf (x .plan) i) c c μ Over
       over-kept =
-          let e : endOf (x .state) i ≡ endOf (x .state) (suc (suc i)) = g .worded .1 in
-          let z = worded-span (x .state) k t (suc (suc i)) (g .worded .4) in
+          let e : endOf (x .plan) i ≡ endOf (x .plan) (suc (suc i)) = g .worded .1 in
+          let z = worded-span (x .plan) k t (suc (suc i)) (g .worded .4) in
           record { long = refl; rows-own = refl; nulls-own = refl; bits-own = refl; outside = λ j h. over-other j (λ y. h (omega (arith, y)) (omega (arith, y))) }
 
       grown : Goes μ Done
@@ -340,7 +340,7 @@ module _ (x : Join) (k w : ℕ) (t : Ty) (i m : ℕ) (ss : ℕ → Column (tRunE
 
   fills : (inner : NullWalk) → Fills x inner t (suc (suc i)) m kids → FillsData x inner (tRunEnd w t) i m ss
   fills inner go-on n d c μ some fine keep small long h =
-      rw (null-code inner (codeOf (x .state) i) n c (g .worded .2), null-is inner n c, h .data-are .3)
+      rw (null-code inner (codeOf (x .plan) i) n c (g .worded .2), null-is inner n c, h .data-are .3)
       (goes-need _ 12 c (lt-ltb (suc (suc i)) 32 below)
       (goes-cond (eqb (d .«data» .gap) 2) (λ b. grown inner n d c μ (fine .data-fine) h (eqb-true _ _ b)) (λ b. added inner n d c μ (fine .data-fine) h go-on (keep .below) long)))
 

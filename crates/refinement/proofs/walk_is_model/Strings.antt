@@ -55,9 +55,9 @@ module _ (x : Join) (i w slot n : ℕ) (s : Text) (p : First x i (s .offsets)) (
   copied = sym (part-cut p2 (o (slot + n) - o slot) (o slot) (omega (arith, first-below x i w slot n (s .offsets) most p r, r .within, part-length p2)))
 
   module _ (d : Text) (l : ℕ) (fine : TextFine w d l) (c : List ℕ) (long : length c ≡ 96) (small : i < 32) (e : ℕ) (span : i < e) (μ : Memory) (at-row : rows c i ≡ l)
-      (h : HoldsPlain (x .state) (string w) i d c μ) where
+      (h : HoldsPlain (x .plan) (string w) i d c μ) where
     abbrev Wanted : Text → List ℕ → Memory → Type 0
-    Wanted g c′ μ′ = HoldsPlain (x .state) (string w) i g c′ μ′ × DataKept i e c c′ μ μ′
+    Wanted g c′ μ′ = HoldsPlain (x .plan) (string w) i g c′ μ′ × DataKept i e c c′ μ μ′
 
     abbrev more : ℕ
     more = o (slot + n) - o slot
@@ -110,8 +110,8 @@ module _ (x : Join) (i w slot n : ℕ) (s : Text) (p : First x i (s .offsets)) (
             (over 6 (fail 6 c) refl (omega arith))
 
 -- a copy of no rows
-none-goes : (x : Join) (i e w slot : ℕ) (s d : Text) (l : ℕ) (c : List ℕ) (μ : Memory) → HoldsPlain (x .state) (string w) i d c μ
-    → Goes μ (λ g c′ μ′. HoldsPlain (x .state) (string w) i g c′ μ′ × DataKept i e c c′ μ μ′) (plainExtend (string w) s slot 0 l d) (Rattle.walk.specs.Log.done c)
+none-goes : (x : Join) (i e w slot : ℕ) (s d : Text) (l : ℕ) (c : List ℕ) (μ : Memory) → HoldsPlain (x .plan) (string w) i d c μ
+    → Goes μ (λ g c′ μ′. HoldsPlain (x .plan) (string w) i g c′ μ′ × DataKept i e c c′ μ μ′) (plainExtend (string w) s slot 0 l d) (Rattle.walk.specs.Log.done c)
 none-goes x i e w slot s d l c μ h =
     let z : item w (s .offsets) (slot + 0) - item w (s .offsets) slot ≡ 0 = rw add-zero (omega arith) in
     rw z (goes-done (record { offsets = d .offsets ++ []; chars = d .chars ++ [] }) c (rw (append-nil (d .offsets), append-nil (d .chars)) h, data-none i e c μ))
@@ -120,16 +120,16 @@ pub string-copies : (x : Join) (inner : Walk) (k w i m : ℕ) (ss : ℕ → Colu
     → CopiesData x inner (tPlain (string w)) i m ss
 unfolding copyData copyString
 string-copies x inner k w i m ss g slot zero d c μ lo hi f small long e h =
-    rw (string-apart (codeOf (x .state) i) (g .worded .3 .0), g .worded .3 .0)
-    (none-goes x i (endOf (x .state) i) w slot (ss (x .source) .body) (d .«data») (d .len) c μ h)
+    rw (string-apart (codeOf (x .plan) i) (g .worded .3 .0), g .worded .3 .0)
+    (none-goes x i (endOf (x .plan) i) w slot (ss (x .source) .body) (d .«data») (d .len) c μ h)
 string-copies x inner k w i m ss g slot (suc n) d c μ lo hi f small long e h =
     let s = ss (x .source) .body in
     let p = g .lent .body-is in
     let r = rows-of w (s .offsets) (length (s .chars)) (ss (x .source) .off) (ss (x .source) .len) slot (suc n) (g .obey (x .source) (g .known) .slots) lo hi (omega arith) in
-    rw (string-apart (codeOf (x .state) i) (g .worded .3 .0), g .worded .3 .0, g .worded .3 .1, ne-eqb (suc n) 0 (λ t. omega (arith, t)))
+    rw (string-apart (codeOf (x .plan) i) (g .worded .3 .0), g .worded .3 .0, g .worded .3 .1, ne-eqb (suc n) 0 (λ t. omega (arith, t)))
     (goes-need (rowsIn x (place x i 3) w slot (suc (suc n))) 12 c
     (rows-in x (place x i 3) (place x i 4) (s .offsets) w slot (suc (suc n)) (p .0) (r .hold))
-    (rows-go x i w slot (suc n) s (p .0) (p .1) r (d .«data») (d .len) (f .data-fine) c long (g .worded .0) (endOf (x .state) i) (g .worded .1) μ e h))
+    (rows-go x i w slot (suc n) s (p .0) (p .1) r (d .«data») (d .len) (f .data-fine) c long (g .worded .0) (endOf (x .plan) i) (g .worded .1) μ e h))
 
 pub string-fills : (x : Join) (inner : NullWalk) (k w i m : ℕ) (ss : ℕ → Column (tPlain (string w))) → Given x (suc k) (tPlain (string w)) i m ss
     → FillsData x inner (tPlain (string w)) i m ss
@@ -137,6 +137,6 @@ unfolding nullData nullString
 string-fills x inner k w i m ss g n d c μ p f t small long h =
     let a = h .data-are in
     let os = repeated w (bytes c i) n in
-    rw (string-apart (codeOf (x .state) i) (g .worded .3 .0), g .worded .3 .0, g .worded .3 .1, f .data-fine .last-is ∙ sym (a .2), repeated-pieces w (bytes c i) n)
+    rw (string-apart (codeOf (x .plan) i) (g .worded .3 .0), g .worded .3 .0, g .worded .3 .1, f .data-fine .last-is ∙ sym (a .2), repeated-pieces w (bytes c i) n)
     (goes-write _ (put i 1 (suc (rows c i) * w) os) c (rw (a .0, h .rows-are) (sym (f .data-fine .offsets-are)))
-    ((put-own i 1 os μ ∙ ap (_++ os) (a .0), put-beside i 1 os μ 2 (λ t. omega (arith, t)) ∙ a .1, a .2), data-put i 1 os μ c (endOf (x .state) i) (g .worded .1)))
+    ((put-own i 1 os μ ∙ ap (_++ os) (a .0), put-beside i 1 os μ 2 (λ t. omega (arith, t)) ∙ a .1, a .2), data-put i 1 os μ c (endOf (x .plan) i) (g .worded .1)))

@@ -26,13 +26,13 @@ use Rattle.refinement.proofs.walk_is_model.RunEnds.{run-copies, run-fil
 use Rattle.refinement.proofs.walk_is_model.SparseGoes.{sparse-copies, sparse-fills}
 use Rattle.refinement.proofs.walk_is_model.DenseGoes.{dense-copies, dense-fills}
 
--- what an order is given at node i: the state's words, the tables of its source, and sources that obey the rules and whose dictionaries fit
+-- what an order is given at node i: the plan's words, the tables of its source, and sources that obey the rules and whose dictionaries fit
 pub record Opened (x : Join) (k : ℕ) (t : Ty) (i m : ℕ) (ss : ℕ → Column t) : Type 0 where
-  pub worded : Worded (x .state) k t i
+  pub worded : Worded (x .plan) k t i
   pub formed : Formed t
   pub known : x .source < m
   pub lent : Lent x t i (ss (x .source))
-  pub based : Based (x .state) (x .source) t i m (λ j. ss j .body)
+  pub based : Based (x .plan) (x .source) t i m (λ j. ss j .body)
   pub obey : (j : ℕ) → j < m → Source t (ss j)
   pub ready : Ready t m (λ j. ss j .body)
 
@@ -88,10 +88,10 @@ module _ {x : Join} {k i m : ℕ} where
       }
 
   sparse-down : {ids : List ℕ} {nullable : ℕ → _} {f : ℕ → Ty} {ss : ℕ → Column (tSparse ids nullable f)} → Opened x (suc k) (tSparse ids nullable f) i m ss
-      → (e : ℕ) → List·Memᴰ e ids → Opened x k (f e) (childOf (x .state) i e) m (λ j. ss j .body .children e)
+      → (e : ℕ) → List·Memᴰ e ids → Opened x k (f e) (childOf (x .plan) i e) m (λ j. ss j .body .children e)
   sparse-down {ids} {nullable} {f} o e p =
       record {
-        worded = field-of (x .state) (λ c. Worded (x .state) k (f c)) nullable (endOf (x .state) i) ids (suc i) 32 e (o .worded .4) (omega (arith, o .worded .2)) p .is-kid;
+        worded = field-of (x .plan) (λ c. Worded (x .plan) k (f c)) nullable (endOf (x .plan) i) ids (suc i) 32 e (o .worded .4) (omega (arith, o .worded .2)) p .is-kid;
         formed = o .formed .1 e p;
         known = o .known;
         lent = o .lent .body-is .1 e p;
@@ -101,10 +101,10 @@ module _ {x : Join} {k i m : ℕ} where
       }
 
   dense-down : {ids : List ℕ} {nullable : ℕ → _} {f : ℕ → Ty} {ss : ℕ → Column (tDense ids nullable f)} → Opened x (suc k) (tDense ids nullable f) i m ss
-      → (e : ℕ) → List·Memᴰ e ids → Opened x k (f e) (childOf (x .state) i e) m (λ j. ss j .body .children e)
+      → (e : ℕ) → List·Memᴰ e ids → Opened x k (f e) (childOf (x .plan) i e) m (λ j. ss j .body .children e)
   dense-down {ids} {nullable} {f} o e p =
       record {
-        worded = field-of (x .state) (λ c. Worded (x .state) k (f c)) nullable (endOf (x .state) i) ids (suc i) 32 e (o .worded .4) (omega (arith, o .worded .2)) p .is-kid;
+        worded = field-of (x .plan) (λ c. Worded (x .plan) k (f c)) nullable (endOf (x .plan) i) ids (suc i) 32 e (o .worded .4) (omega (arith, o .worded .2)) p .is-kid;
         formed = o .formed .1 e p;
         known = o .known;
         lent = o .lent .body-is .2 e p;
@@ -125,10 +125,10 @@ module _ (x : Join) (m : ℕ) where
       node-copies x k (tList w t) i m ss (given o) (lists-copies x (copyWalk x k) k w t i m ss (given o) (copies k t (suc i) (λ j. ss j .body .child) (lists-down o)))
   copies (suc k) (tSparse ids nullable f) i ss o =
       node-copies x k (tSparse ids nullable f) i m ss (given o)
-      (sparse-copies x (copyWalk x k) k ids nullable f i m ss (given o) (λ e p. copies k (f e) (childOf (x .state) i e) (λ j. ss j .body .children e) (sparse-down o e p)))
+      (sparse-copies x (copyWalk x k) k ids nullable f i m ss (given o) (λ e p. copies k (f e) (childOf (x .plan) i e) (λ j. ss j .body .children e) (sparse-down o e p)))
   copies (suc k) (tDense ids nullable f) i ss o =
       node-copies x k (tDense ids nullable f) i m ss (given o)
-      (dense-copies x (copyWalk x k) k ids nullable f i m ss (given o) (λ e p. copies k (f e) (childOf (x .state) i e) (λ j. ss j .body .children e) (dense-down o e p)))
+      (dense-copies x (copyWalk x k) k ids nullable f i m ss (given o) (λ e p. copies k (f e) (childOf (x .plan) i e) (λ j. ss j .body .children e) (dense-down o e p)))
   copies (suc k) (tRunEnd w t) i ss o =
       node-copies x k (tRunEnd w t) i m ss (given o) (run-copies x (copyWalk x k) k w t i m ss (given o) (copies k t (suc (suc i)) (λ j. ss j .body .values) (run-down o)))
   copies (suc k) (tDictionary n p) i ss o = node-copies x k (tDictionary n p) i m ss (given o) (keys-copies x (copyWalk x k) k n p i m ss (given o))
@@ -142,10 +142,10 @@ module _ (x : Join) (m : ℕ) where
   fills (suc k) (tList w t) i ss o = node-fills x k (tList w t) i m ss (given o) (lists-fills x (nullWalk x k) k w t i m ss (given o))
   fills (suc k) (tSparse ids nullable f) i ss o =
       node-fills x k (tSparse ids nullable f) i m ss (given o)
-      (sparse-fills x (nullWalk x k) k ids nullable f i m ss (given o) (λ e p. fills k (f e) (childOf (x .state) i e) (λ j. ss j .body .children e) (sparse-down o e p)))
+      (sparse-fills x (nullWalk x k) k ids nullable f i m ss (given o) (λ e p. fills k (f e) (childOf (x .plan) i e) (λ j. ss j .body .children e) (sparse-down o e p)))
   fills (suc k) (tDense ids nullable f) i ss o =
       node-fills x k (tDense ids nullable f) i m ss (given o)
-      (dense-fills x (nullWalk x k) k ids nullable f i m ss (given o) (λ e p. fills k (f e) (childOf (x .state) i e) (λ j. ss j .body .children e) (dense-down o e p)))
+      (dense-fills x (nullWalk x k) k ids nullable f i m ss (given o) (λ e p. fills k (f e) (childOf (x .plan) i e) (λ j. ss j .body .children e) (dense-down o e p)))
   fills (suc k) (tRunEnd w t) i ss o =
       node-fills x k (tRunEnd w t) i m ss (given o) (run-fills x (nullWalk x k) k w t i m ss (given o) (fills k t (suc (suc i)) (λ j. ss j .body .values) (run-down o)))
   fills (suc k) (tDictionary n p) i ss o = node-fills x k (tDictionary n p) i m ss (given o) (keys-fills x (nullWalk x k) k n p i m ss (given o))

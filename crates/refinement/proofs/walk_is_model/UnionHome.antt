@@ -24,46 +24,46 @@ goes-lost : {A : Type 0} {μ : Memory} {Q : A → List ℕ → Memory → Type 0
 unfolding found fail
 goes-lost g c K p = over g (fail g c) refl p
 
-module _ (state : List ℕ) where
-  nullable-none : (end fuel : ℕ) → nullableChild state end fuel end ≡ 32
+module _ (plan : List ℕ) where
+  nullable-none : (end fuel : ℕ) → nullableChild plan end fuel end ≡ 32
   unfolding nullableChild
   nullable-none end zero = refl
   nullable-none end (suc fuel) = rw (le-ltb end end (omega arith))
 
-  nullable-one : (end fuel k : ℕ) (b : Bool) → k < end → eqb (nullableOf state k) 1 ≡ b
-      → nullableChild state end (suc fuel) k ≡ cond b k (nullableChild state end fuel (endOf state k))
+  nullable-one : (end fuel k : ℕ) (b : Bool) → k < end → eqb (nullableOf plan k) 1 ≡ b
+      → nullableChild plan end (suc fuel) k ≡ cond b k (nullableChild plan end fuel (endOf plan k))
   unfolding nullableChild
   nullable-one end fuel k b p e = rw (lt-ltb k end p, e)
 
   module _ (kid : ℕ → ℕ → Type 0) (nullable : ℕ → Bool) (end : ℕ) (low : end ≤ 32) {A : Type 0} {μ : Memory} {Q : A → List ℕ → Memory → Type 0} (F : ℕ → Try A) (K : ℕ → Out) (c : List ℕ) where
-    first-goes : (cs : List ℕ) (k fuel : ℕ) → Fields state kid nullable end cs k → Ids cs → length cs ≤ fuel
-        → ((h : ℕ) → List·Memᴰ h cs → Goes μ Q (F h) (K (childWith state h end fuel k)))
-        → Goes μ Q (then (firstNullable nullable cs) F) (found 32 (nullableChild state end fuel k) 5 c K)
+    first-goes : (cs : List ℕ) (k fuel : ℕ) → Fields plan kid nullable end cs k → Ids cs → length cs ≤ fuel
+        → ((h : ℕ) → List·Memᴰ h cs → Goes μ Q (F h) (K (childWith plan h end fuel k)))
+        → Goes μ Q (then (firstNullable nullable cs) F) (found 32 (nullableChild plan end fuel k) 5 c K)
     first-goes [] k fuel w a l g =
         let e : k ≡ end = w in
-        subst (λ z. Goes μ Q (stop 5) (found 32 z 5 c K)) (sym (ap (nullableChild state end fuel) e ∙ nullable-none end fuel)) (goes-lost 5 c K (omega arith))
+        subst (λ z. Goes μ Q (stop 5) (found 32 z 5 c K)) (sym (ap (nullableChild plan end fuel) e ∙ nullable-none end fuel)) (goes-lost 5 c K (omega arith))
     first-goes (b ∷ cs) k zero w a l g = absurd (omega arith)
     first-goes (b ∷ cs) k (suc fuel) w a l g =
         subst (λ z. Goes μ Q (then (firstNullable nullable (b ∷ cs)) F) (found 32 z 5 c K)) (sym (nullable-one end fuel k (nullable b) before (w .1)))
         (go (nullable b)
-        (first-goes cs (endOf state k) fuel (w .5) (a .2) (omega arith)
-        (λ h m. subst (λ z. Goes μ Q (F h) (K z)) (with-later state h end fuel k before (λ q. a .1 (subst (λ z. List·Memᴰ z cs) (sym q ∙ w .0) m))) (g h (List·Memᴰ·tail m)))))
+        (first-goes cs (endOf plan k) fuel (w .5) (a .2) (omega arith)
+        (λ h m. subst (λ z. Goes μ Q (F h) (K z)) (with-later plan h end fuel k before (λ q. a .1 (subst (λ z. List·Memᴰ z cs) (sym q ∙ w .0) m))) (g h (List·Memᴰ·tail m)))))
       where
         before : k < end
         before = omega (arith, w .2, w .3)
 
-        go : (z : Bool) → Goes μ Q (then (firstNullable nullable cs) F) (found 32 (nullableChild state end fuel (endOf state k)) 5 c K)
-            → Goes μ Q (then (elim z [ true ↦ done b | false ↦ firstNullable nullable cs ]) F) (found 32 (cond z k (nullableChild state end fuel (endOf state k))) 5 c K)
-        go true r = goes-found 32 k 5 c K (omega arith) (subst (λ z. Goes μ Q (F b) (K z)) (with-first state b end fuel k before (w .0)) (g b (List·Memᴰ·head refl)))
+        go : (z : Bool) → Goes μ Q (then (firstNullable nullable cs) F) (found 32 (nullableChild plan end fuel (endOf plan k)) 5 c K)
+            → Goes μ Q (then (elim z [ true ↦ done b | false ↦ firstNullable nullable cs ]) F) (found 32 (cond z k (nullableChild plan end fuel (endOf plan k))) 5 c K)
+        go true r = goes-found 32 k 5 c K (omega arith) (subst (λ z. Goes μ Q (F b) (K z)) (with-first plan b end fuel k before (w .0)) (g b (List·Memᴰ·head refl)))
         go false r = r
 
   -- THE FIRST NULLABLE CHILD, or ground 4 or 5 by both
   pub goes-home : (kid : ℕ → ℕ → Type 0) (nullable : ℕ → Bool) (i : ℕ) {A : Type 0} {μ : Memory} {Q : A → List ℕ → Memory → Type 0} (F : ℕ → Try A) (K : ℕ → Out) (c : List ℕ)
-      (ids : List ℕ) → Fields state kid nullable (endOf state i) ids (suc i) → Ids ids → length ids ≤ 32
-      → ((h : ℕ) → List·Memᴰ h ids → Goes μ Q (F h) (K (childOf state i h)))
-      → Goes μ Q (then (home nullable ids) F) (found 32 (nullableChild state (endOf state i) 32 (suc i)) (noHome state i) c K)
+      (ids : List ℕ) → Fields plan kid nullable (endOf plan i) ids (suc i) → Ids ids → length ids ≤ 32
+      → ((h : ℕ) → List·Memᴰ h ids → Goes μ Q (F h) (K (childOf plan i h)))
+      → Goes μ Q (then (home nullable ids) F) (found 32 (nullableChild plan (endOf plan i) 32 (suc i)) (noHome plan i) c K)
   goes-home kid nullable i {μ = μ} {Q} F K c [] w a l g =
-      let e : suc i ≡ endOf state i = w in
+      let e : suc i ≡ endOf plan i = w in
       rw (← e, nullable-none (suc i) 32, le-ltb (suc i) (suc i) (omega arith)) (goes-lost 4 c K (omega arith))
   goes-home kid nullable i {μ = μ} {Q} F K c (b ∷ ids) w a l g =
-      rw (lt-ltb (suc i) (endOf state i) (omega (arith, w .2, w .3))) (first-goes kid nullable (endOf state i) (omega arith) F K c (b ∷ ids) (suc i) 32 w a l g)
+      rw (lt-ltb (suc i) (endOf plan i) (omega (arith, w .2, w .3))) (first-goes kid nullable (endOf plan i) (omega arith) F K c (b ∷ ids) (suc i) 32 w a l g)

@@ -61,17 +61,17 @@ data-kept-then a b =
 
 -- what is left of a union with type t at node i
 abbrev pub Left : List ℕ → (t : Ty) → ℕ → List ℕ → Memory → Grown t → List ℕ → Memory → Type 0
-Left state t i c μ y c′ μ′ = HoldsData state t i y c′ μ′ × DataKept i (endOf state i) c c′ μ μ′
+Left plan t i c μ y c′ μ′ = HoldsData plan t i y c′ μ′ × DataKept i (endOf plan i) c c′ μ μ′
 
 -- the children of a union at node i
-module _ (state : List ℕ) (depth : ℕ) (ids : List ℕ) (nullable : ℕ → Bool) (f : ℕ → Ty) (i : ℕ) (w : Fields state (λ e. Worded state depth (f e)) nullable (endOf state i) ids (suc i))
+module _ (plan : List ℕ) (depth : ℕ) (ids : List ℕ) (nullable : ℕ → Bool) (f : ℕ → Ty) (i : ℕ) (w : Fields plan (λ e. Worded plan depth (f e)) nullable (endOf plan i) ids (suc i))
     (few : length ids ≤ 32) where
-  pub child-field : (e : ℕ) → List·Memᴰ e ids → Field state (λ e. Worded state depth (f e)) (endOf state i) (suc i) e (childOf state i e)
-  child-field e m = field-of state (λ e. Worded state depth (f e)) nullable (endOf state i) ids (suc i) 32 e w few m
+  pub child-field : (e : ℕ) → List·Memᴰ e ids → Field plan (λ e. Worded plan depth (f e)) (endOf plan i) (suc i) e (childOf plan i e)
+  child-field e m = field-of plan (λ e. Worded plan depth (f e)) nullable (endOf plan i) ids (suc i) 32 e w few m
 
   -- they are held where the nodes behind i are as they were
   pub kids-held : (d : (e : ℕ) → Destination (f e)) (c c′ : List ℕ) (μ μ′ : Memory) → ((j : ℕ) → (j ≡ i → ⊥) → SameAt c c′ μ μ′ j)
-      → ((e : ℕ) → List·Memᴰ e ids → Holds state (f e) (childOf state i e) (d e) c μ) → (e : ℕ) → List·Memᴰ e ids → Holds state (f e) (childOf state i e) (d e) c′ μ′
+      → ((e : ℕ) → List·Memᴰ e ids → Holds plan (f e) (childOf plan i e) (d e) c μ) → (e : ℕ) → List·Memᴰ e ids → Holds plan (f e) (childOf plan i e) (d e) c′ μ′
   kids-held d c c′ μ μ′ same h e m =
       let g = child-field e m in
-      held-same state c c′ μ μ′ depth (f e) (childOf state i e) (d e) (g .is-kid) (λ j u v. same j (λ z. omega (arith, g .behind))) (h e m)
+      held-same plan c c′ μ μ′ depth (f e) (childOf plan i e) (d e) (g .is-kid) (λ j u v. same j (λ z. omega (arith, g .behind))) (h e m)

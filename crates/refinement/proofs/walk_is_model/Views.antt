@@ -67,15 +67,15 @@ pub view-copies : (x : Join) (inner : Walk) (k i m : ℕ) (ss : ℕ → Column t
 unfolding copyData copyViews
 view-copies x inner k i m ss g slot n d c μ lo hi f small long e h =
     let s = ss (x .source) .body .views in
-    let a = view-apart (codeOf (x .state) i) (g .worded .2) in
+    let a = view-apart (codeOf (x .plan) i) (g .worded .2) in
     let y : (slot + n) * 16 ≤ length s = le-trans (mul-le-mul-right 16 hi) (g .obey (x .source) (g .known) .slots .hold) in
     rw (a .0, a .1, g .worded .2, g .based)
     (goes-need (rowsIn x (place x i 3) 16 slot n) 12 c (rows-in x (place x i 3) (place x i 4) s 16 slot n (g .lent .body-is) y)
-    (first-grows i (endOf (x .state) i) (rows c i * 16) (d .«data») _ _ c μ (g .worded .1) h (rw e (sym (f .data-fine .views-are))) (reviewed-is _ slot n (g .lent .body-is) y)))
+    (first-grows i (endOf (x .plan) i) (rows c i * 16) (d .«data») _ _ c μ (g .worded .1) h (rw e (sym (f .data-fine .views-are))) (reviewed-is _ slot n (g .lent .body-is) y)))
 
 pub view-fills : (x : Join) (inner : NullWalk) (k i m : ℕ) (ss : ℕ → Column tView) → Given x (suc k) tView i m ss → FillsData x inner tView i m ss
 unfolding nullData nullNumbers
 view-fills x inner k i m ss g n d c μ t f v small long h =
-    let a = view-apart (codeOf (x .state) i) (g .worded .2) in
+    let a = view-apart (codeOf (x .plan) i) (g .worded .2) in
     rw (a .0, a .1, g .worded .2)
-    (first-grows i (endOf (x .state) i) (rows c i * 16) (d .«data») _ _ c μ (g .worded .1) (h .data-are) (rw (h .rows-are) (sym (f .data-fine .views-are))) refl)
+    (first-grows i (endOf (x .plan) i) (rows c i * 16) (d .«data») _ _ c μ (g .worded .1) (h .data-are) (rw (h .rows-are) (sym (f .data-fine .views-are))) refl)

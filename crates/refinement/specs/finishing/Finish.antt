@@ -29,12 +29,12 @@ pub record Finished : Type 0 where
   pub buffers : List ℕ
 
 -- buffers: the sources' data buffers of views; base: where the room begins in the body that the tables are about
-module _ (x : Lent) (buffers counts room : List ℕ) (base : ℕ) where
+module _ (x : Lent) (buffers counters room : List ℕ) (base : ℕ) where
   -- ---- null counts, "counted from bits"
 
   -- the zero bits among the rows of node i, which has a part for its validity
   unfoldable pub zerosAt : ℕ → ℕ
-  zerosAt i = cond (hasPart (x .plan) i 0) (zeros (bitsAt (8 * startOf (x .plan) (x .parts) i 0) (rows counts i) room)) 0
+  zerosAt i = cond (hasPart (x .plan) i 0) (zeros (bitsAt (8 * startOf (x .plan) (x .parts) i 0) (rows counters i) room)) 0
 
   -- node i of source 0, whose dictionary is kept
   abbrev pub keptNode : ℕ → ℕ
@@ -53,7 +53,7 @@ module _ (x : Lent) (buffers counts room : List ℕ) (base : ℕ) where
   -- ---- lengths: offset 0, but a kept dictionary is as source 0 has it
 
   abbrev pub lengthAt : ℕ → ℕ
-  lengthAt i = cond (copied (x .plan) i) (rows counts i) (lengthOf (joinOf x 0) i)
+  lengthAt i = cond (copied (x .plan) i) (rows counters i) (lengthOf (joinOf x 0) i)
 
   abbrev pub offsetAt : ℕ → ℕ
   offsetAt i = cond (copied (x .plan) i) 0 (offsetOf (joinOf x 0) i)
@@ -92,14 +92,14 @@ module _ (x : Lent) (buffers counts room : List ℕ) (base : ℕ) where
   abbrev pub validPlace : ℕ → ℕ → ℕ
   validPlace i zero = 1
   validPlace i (suc zero) = base + startOf (x .plan) (x .parts) i 0
-  validPlace i (suc (suc j)) = (rows counts i + 7) / 8
+  validPlace i (suc (suc j)) = (rows counters i + 7) / 8
 
   -- where buffer b of node i begins, and its bytes; 0 where there is none
   abbrev pub bufferStart : ℕ → ℕ → ℕ
   bufferStart i b = cond (hasPart (x .plan) i b) (base + startOf (x .plan) (x .parts) i b) 0
 
   abbrev pub bufferSize : ℕ → ℕ → ℕ
-  bufferSize i b = cond (hasPart (x .plan) i b) (needed (x .plan) counts i b) 0
+  bufferSize i b = cond (hasPart (x .plan) i b) (needed (x .plan) counters i b) 0
 
   -- number j of the nine of node i, whose buffers are copied
   unfoldable pub copiedPlace : ℕ → ℕ → ℕ
@@ -149,7 +149,7 @@ module _ (x : Lent) (buffers counts room : List ℕ) (base : ℕ) where
 
     -- counters, parts and room are those of a join
     unfoldable pub roomFits : Bool
-    roomFits = eqb (length counts) 96 && partsWithin (x .plan) (x .parts) (length room) && partsHold (x .plan) counts (x .parts)
+    roomFits = eqb (length counters) 96 && partsWithin (x .plan) (x .parts) (length room) && partsHold (x .plan) counters (x .parts)
 
     -- the sources' body ends at the base or before, and with the room behind it no position passes 64 bits
     unfoldable pub sizesFit : Bool

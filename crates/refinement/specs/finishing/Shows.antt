@@ -66,8 +66,8 @@ module _ (tree : Tree) (nulls : List ℕ) where
 -- ---- the finished tables, about a body in which the room begins at `base`
 
 abbrev pub finishedTables : Lent → List ℕ → List ℕ → List ℕ → ℕ → List ℕ → Tables
-finishedTables x buffers counts room base z =
-    record { lengths = lengthTable x buffers counts room base; places = placeTable x buffers counts room base; buffers = bufferTable x buffers counts room base; body = z }
+finishedTables x buffers counters room base z =
+    record { lengths = lengthTable x buffers counters room base; places = placeTable x buffers counters room base; buffers = bufferTable x buffers counters room base; body = z }
 
 -- a body with the sources' body in front and the room from `base` on
 pub record Bodied (body : List ℕ) (x : Lent) (room : List ℕ) (base : ℕ) : Type 0 where

@@ -17,7 +17,7 @@ pub record Asked : Type 0 where
   pub ground : ℕ
   pub plan : List ℕ
 
--- THE QUESTION: 9, 10, 11, 12 as at the opening, 14 where the plan is not of a join's length; else the state as it is planned, which says
+-- THE QUESTION: 9, 10, 11, 12 as at the opening, 14 where the plan is not of a join's length; else the plan, which says
 -- how many parts there are and of which buffer each is (`partTotal`, `partAt`)
 unfoldable pub asked : List ℕ → List ℕ → List ℕ → Tables → Bool → Bool → List ℕ → Asked
 asked formats schema sources x keep gaps plan =
@@ -28,7 +28,7 @@ asked formats schema sources x keep gaps plan =
 -- THE WALK OF AN OPENING, with no part asked, by the plan that the question left: 6 and 8; 12 where it can't be carried out with that plan,
 -- as where it is for more than 16 sources or none that a walk stays in; 14 where the counters are not those of a join
 unfoldable pub openMeasure : Lent → List ℕ → Measured
-openMeasure x counts =
-    cond (eqb (length counts) 96)
-    (cond (leb (sourceCount (x .plan)) 16 && planSound (x .plan)) (measured counts (openWalk x (replicate 96 0))) (unmeasured counts 12))
-    (unmeasured counts 14)
+openMeasure x counters =
+    cond (eqb (length counters) 96)
+    (cond (leb (sourceCount (x .plan)) 16 && planSound (x .plan)) (measured counters (openWalk x (replicate 96 0))) (unmeasured counters 12))
+    (unmeasured counters 14)

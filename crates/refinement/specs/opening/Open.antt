@@ -25,7 +25,7 @@ use Rattle.refinement.specs.orders.Order.{Lent, joinOf, sourceCount}
 pub record Opening : Type 0 where
   pub ground : ℕ
   pub plan : List ℕ
-  pub counts : List ℕ
+  pub counters : List ℕ
   pub room : List ℕ
 
 -- ---- the walk of an opening, by the plan
@@ -89,21 +89,21 @@ module _ (formats schema sources : List ℕ) (x : Tables) (keep gaps : Bool) (pa
   opened = record { plan = planned formats schema x sources keep gaps; parts = parts; sources = sources; lengths = x .lengths; places = x .places; body = x .body }
 
   -- plan, counters and room as they are lent
-  module _ (plan counts room : List ℕ) where
+  module _ (plan counters room : List ℕ) where
     -- "State and every byte stay."
     abbrev pub refused : ℕ → Opening
-    refused g = record { ground = g; plan = plan; counts = counts; room = room }
+    refused g = record { ground = g; plan = plan; counters = counters; room = room }
 
     -- "and 13 last"
     unfoldable pub settled : Out → Opening
     settled o =
         cond (eqb (o .ans) 0)
-        (cond (partsHold (opened .plan) (o .counts) parts) (record { ground = 0; plan = opened .plan; counts = o .counts; room = apply (opened .plan) parts (o .log) room }) (refused 13))
+        (cond (partsHold (opened .plan) (o .counters) parts) (record { ground = 0; plan = opened .plan; counters = o .counters; room = apply (opened .plan) parts (o .log) room }) (refused 13))
         (refused (o .ans))
 
     -- plan and counters are of a join's lengths, and none of what ground 14 says
     unfoldable pub roomPlaced : Bool
-    roomPlaced = eqb (length plan) 872 && eqb (length counts) 96 && partsPlaced parts (partTotal (opened .plan)) (length room)
+    roomPlaced = eqb (length plan) 872 && eqb (length counters) 96 && partsPlaced parts (partTotal (opened .plan)) (length room)
 
     -- THE OPENING: "9, 10, 11, 12, 14, then per dictionary in tree order 6 (joining), 8, and 13 last". The room is a body too.
     unfoldable pub opening : Opening

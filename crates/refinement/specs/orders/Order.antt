@@ -16,7 +16,7 @@ use Rattle.refinement.specs.orders.Sound.{walkable}
 -- ground: 0, or the number of the refusal
 pub record After : Type 0 where
   pub ground : ℕ
-  pub counts : List ℕ
+  pub counters : List ℕ
   pub room : List ℕ
 
 -- how many sources the plan was made for
@@ -39,39 +39,39 @@ lent plan parts sources lengths places body = record { plan = plan; parts = part
 -- .. with source s chosen
 abbrev pub joinOf : Lent → ℕ → Join
 joinOf x s =
-    record { state = x .plan; parts = x .parts; lengths = x .lengths; places = x .places; body = x .body; first = getD (x .sources) (2 * s) 0; source = s }
+    record { plan = x .plan; parts = x .parts; lengths = x .lengths; places = x .places; body = x .body; first = getD (x .sources) (2 * s) 0; source = s }
 
 -- the length of source s
 abbrev pub sourceLength : Lent → ℕ → ℕ
 sourceLength x s = getD (x .lengths) (2 * getD (x .sources) (2 * s) 0) 0
 
-module _ (x : Lent) (counts room : List ℕ) where
+module _ (x : Lent) (counters room : List ℕ) where
   -- "State and every byte stay."
   abbrev pub refused : ℕ → After
-  refused g = record { ground = g; counts = counts; room = room }
+  refused g = record { ground = g; counters = counters; room = room }
 
   -- a walk without a ground is made where every part lies in the room, 14, and holds its bytes after the call, "13 last"
   unfoldable pub settled : Out → After
   settled o =
       cond (eqb (o .ans) 0)
       (cond (partsWithin (x .plan) (x .parts) (length room))
-      (cond (partsHold (x .plan) (o .counts) (x .parts)) (record { ground = 0; counts = o .counts; room = apply (x .plan) (x .parts) (o .log) room }) (refused 13))
+      (cond (partsHold (x .plan) (o .counters) (x .parts)) (record { ground = 0; counters = o .counters; room = apply (x .plan) (x .parts) (o .log) room }) (refused 13))
       (refused 14))
       (refused (o .ans))
 
   -- 14 where the counters are not those of a join, or the plan or the room is none that an order can be walked in
   abbrev pub inJoin : After → After
-  inJoin a = cond (eqb (length counts) 96) (cond (walkable (x .plan) (length room)) a (refused 14)) (refused 14)
+  inJoin a = cond (eqb (length counters) 96) (cond (walkable (x .plan) (length room)) a (refused 14)) (refused 14)
 
   -- "Copy: 1, 2, then as the Rust meets them .., 13 last"
   unfoldable pub copyOrder : ℕ → ℕ → ℕ → After
   copyOrder s a e =
       inJoin
-      (cond (ltb s (sourceCount (x .plan))) (cond (leb a e && leb e (sourceLength x s)) (settled (copyWalk (joinOf x s) 8 0 a (e - a) counts)) (refused 2)) (refused 1))
+      (cond (ltb s (sourceCount (x .plan))) (cond (leb a e && leb e (sourceLength x s)) (settled (copyWalk (joinOf x s) 8 0 a (e - a) counters)) (refused 2)) (refused 1))
 
   -- "Nulls: 3, count 0 accepted, then .., 13 last". No part holds 2^63 rows, and no ground but 13 tells apart larger counts.
   unfoldable pub nullOrder : ℕ → After
-  nullOrder n = inJoin (cond (eqb (keepsOf (x .plan) 0) 0) (refused 3) (settled (nullWalk (joinOf x 0) 8 0 (min n far) counts)))
+  nullOrder n = inJoin (cond (eqb (keepsOf (x .plan) 0) 0) (refused 3) (settled (nullWalk (joinOf x 0) 8 0 (min n far) counters)))
 
   -- one call
   abbrev pub ordered : Call → After
@@ -80,10 +80,10 @@ module _ (x : Lent) (counts room : List ℕ) where
 
 -- ANY LIST OF CALLS, each getting counters and room as the last one left them
 unfoldable pub orderedAll : Lent → List ℕ → List ℕ → List Call → After
-orderedAll x counts room [] = record { ground = 0; counts = counts; room = room }
-orderedAll x counts room (o ∷ os) = orderedAll x (ordered x counts room o .counts) (ordered x counts room o .room) os
+orderedAll x counters room [] = record { ground = 0; counters = counters; room = room }
+orderedAll x counters room (o ∷ os) = orderedAll x (ordered x counters room o .counters) (ordered x counters room o .room) os
 
 -- what each of them is answered
 unfoldable pub groundsOf : Lent → List ℕ → List ℕ → List Call → List ℕ
-groundsOf x counts room [] = []
-groundsOf x counts room (o ∷ os) = ordered x counts room o .ground ∷ groundsOf x (ordered x counts room o .counts) (ordered x counts room o .room) os
+groundsOf x counters room [] = []
+groundsOf x counters room (o ∷ os) = ordered x counters room o .ground ∷ groundsOf x (ordered x counters room o .counters) (ordered x counters room o .room) os

@@ -17,12 +17,12 @@ use Rattle.refinement.specs.orders.Order.{Lent, joinOf}
 
 -- the walk of an order: what it answers, counts and writes (walk/specs)
 abbrev pub walkOf : Lent → List ℕ → Call → Out
-walkOf x counts (copy s a e) = copyWalk (joinOf x s) 8 0 a (e - a) counts
-walkOf x counts (nulls n) = nullWalk (joinOf x 0) 8 0 (min n far) counts
+walkOf x counters (copy s a e) = copyWalk (joinOf x s) 8 0 a (e - a) counters
+walkOf x counters (nulls n) = nullWalk (joinOf x 0) 8 0 (min n far) counters
 
 -- counters are numbers of 64 bits; the entry points' types say so
-pub record Counters (counts : List ℕ) : Type 0 where
-  pub rows-top : (i : ℕ) → rows counts i ≤ top
+pub record Counters (counters : List ℕ) : Type 0 where
+  pub rows-top : (i : ℕ) → rows counters i ≤ top
 
 module _ (plan parts : List ℕ) where
   -- byte p of the room is one that buffer b of node i has more by the counters d than by c: past the used part before, in the used part

@@ -1,4 +1,4 @@
--- The sources that an opening takes, as their tables describe them, and a state that has the words of their type. Assumes nothing.
+-- The sources that an opening takes, as their tables describe them, and A plan that has the words of their type. Assumes nothing.
 use mathlib.Core.Path.{_≡_}
 use mathlib.Core.Bool.{true}
 use mathlib.Core.List.{List}
@@ -28,10 +28,10 @@ module _ (formats schema : List ℕ) (x : Tables) (firstOf nodesOf : ℕ → ℕ
   columnsAs s = columnOf (treeOf formats schema (firstOf 0) (nodesOf 0)) (tablesFrom x (firstOf s)) (typeIs formats schema firstOf nodesOf) 0
 
   -- m sources that pass grounds 9 to 12
-  pub record Taken (state : List ℕ) (m : ℕ) : Type 0 where
+  pub record Taken (plan : List ℕ) (m : ℕ) : Type 0 where
     pub is-typed : typed formats schema (firstOf 0) (nodesOf 0) ≡ true
     pub low : ceilings formats schema (firstOf 0) (nodesOf 0) ≡ true
-    pub planted : Planted state formats schema (firstOf 0) (nodesOf 0)
+    pub planted : Planted plan formats schema (firstOf 0) (nodesOf 0)
     pub body-small : length (x .body) < 2 ^ 63
     pub alike : (s : ℕ) → 0 < s → s < m → sameType formats schema (firstOf 0) (nodesOf 0) (firstOf s) (nodesOf s) ≡ true
     pub rules : (s : ℕ) → s < m → T (sourceRule (treeOf formats schema (firstOf s) (nodesOf s)) (tablesFrom x (firstOf s)))

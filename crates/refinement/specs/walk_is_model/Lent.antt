@@ -49,9 +49,9 @@ module _ (x : Join) where
   LentData (tListView w t) i b = First i (b .offsets) × Second i (b .sizes) × LentNode x (suc i) (LentData t (suc i)) (b .child)
   LentData (tList w t) i b = First i (b .offsets) × LentNode x (suc i) (LentData t (suc i)) (b .child)
   LentData (tSparse ids nullable f) i b =
-      First i (b .ids) × ((e : ℕ) → List·Memᴰ e ids → LentNode x (childOf (x .state) i e) (LentData (f e) (childOf (x .state) i e)) (b .children e))
+      First i (b .ids) × ((e : ℕ) → List·Memᴰ e ids → LentNode x (childOf (x .plan) i e) (LentData (f e) (childOf (x .plan) i e)) (b .children e))
   LentData (tDense ids nullable f) i b =
-      First i (b .ids) × Second i (b .positions) × ((e : ℕ) → List·Memᴰ e ids → LentNode x (childOf (x .state) i e) (LentData (f e) (childOf (x .state) i e)) (b .children e))
+      First i (b .ids) × Second i (b .positions) × ((e : ℕ) → List·Memᴰ e ids → LentNode x (childOf (x .plan) i e) (LentData (f e) (childOf (x .plan) i e)) (b .children e))
   LentData (tRunEnd w t) i b = LentNode x (suc i) (First (suc i)) (b .ends) × LentNode x (suc (suc i)) (LentData t (suc (suc i))) (b .values)
   LentData (tDictionary n p) i b = First i (b .keys)
 
@@ -61,11 +61,11 @@ module _ (x : Join) where
 
 -- what source s's keys and buffer numbers rise by, at every node
 abbrev pub Based : List ℕ → ℕ → (t : Ty) → ℕ → ℕ → (ℕ → Body t) → Type 0
-Based state s (tPlain p) i m ss = Unit {0}
-Based state s tView i m ss = baseOf state s i ≡ length (buffersBefore ss s)
-Based state s (tListView w t) i m ss = Based state s t (suc i) m (λ j. ss j .child .body)
-Based state s (tList w t) i m ss = Based state s t (suc i) m (λ j. ss j .child .body)
-Based state s (tSparse ids nullable f) i m ss = (e : ℕ) → List·Memᴰ e ids → Based state s (f e) (childOf state i e) m (λ j. ss j .children e .body)
-Based state s (tDense ids nullable f) i m ss = (e : ℕ) → List·Memᴰ e ids → Based state s (f e) (childOf state i e) m (λ j. ss j .children e .body)
-Based state s (tRunEnd w t) i m ss = Based state s t (suc (suc i)) m (λ j. ss j .values .body)
-Based state s (tDictionary n p) i m ss = baseOf state s i ≡ startOfKeys m ss s
+Based plan s (tPlain p) i m ss = Unit {0}
+Based plan s tView i m ss = baseOf plan s i ≡ length (buffersBefore ss s)
+Based plan s (tListView w t) i m ss = Based plan s t (suc i) m (λ j. ss j .child .body)
+Based plan s (tList w t) i m ss = Based plan s t (suc i) m (λ j. ss j .child .body)
+Based plan s (tSparse ids nullable f) i m ss = (e : ℕ) → List·Memᴰ e ids → Based plan s (f e) (childOf plan i e) m (λ j. ss j .children e .body)
+Based plan s (tDense ids nullable f) i m ss = (e : ℕ) → List·Memᴰ e ids → Based plan s (f e) (childOf plan i e) m (λ j. ss j .children e .body)
+Based plan s (tRunEnd w t) i m ss = Based plan s t (suc (suc i)) m (λ j. ss j .values .body)
+Based plan s (tDictionary n p) i m ss = baseOf plan s i ≡ startOfKeys m ss s

@@ -16,7 +16,7 @@ enum-known-at c = search needs
 fill-bytes-requires : tie.Need-fill-bytes-requires
 fill-bytes-requires c κs =
     let a = c .before .before .before .before .before .before .before .before .args in
-    omega (arith, (made (a .state .now) (a .parts .now) (length (a .room .now)) (a .write) (a .i) (a .b) (a .o) (a .n) (c .before .before .before .before .target .ensures) (c .before .before .at .given .1)) .within)
+    omega (arith, (made (a .plan .now) (a .parts .now) (length (a .room .now)) (a .write) (a .i) (a .b) (a .o) (a .n) (c .before .before .before .before .target .ensures) (c .before .before .at .given .1)) .within)
 
 enum-told : tie.Need-enum-told
 enum-told c = search needs
@@ -27,12 +27,12 @@ same-length c = search needs
 returns : tie.Need-returns
 returns c =
     let a = c .before .before .before .before .before .before .before .before .before .before .before .args in
-    put-at (a .state .now) (a .parts .now) (a .write) (a .i) (a .b) (a .o) (replicate (a .n) (a .v)) (a .room .now) (omega arith) (c .before .before .before .before .before .before .before .target .ensures) (c .before .before .before .before .before .at .given .1) (alike-same (sym (length-replicate (a .n) (a .v)))) (c .before .before .fill-bytes .ensures)
+    put-at (a .plan .now) (a .parts .now) (a .write) (a .i) (a .b) (a .o) (replicate (a .n) (a .v)) (a .room .now) (omega arith) (c .before .before .before .before .before .before .before .target .ensures) (c .before .before .before .before .before .at .given .1) (alike-same (sym (length-replicate (a .n) (a .v)))) (c .before .before .fill-bytes .ensures)
 
 returns-2 : tie.Need-returns-2
 returns-2 c =
     let a = c .before .before .before .before .before .before .args in
-    put-skip (a .state .now) (a .parts .now) (a .write) (a .i) (a .b) (a .o) (replicate (a .n) (a .v)) (a .room .now) (omega arith) (c .before .before .target .ensures) (c .enum-told .given .1) (alike-same (sym (length-replicate (a .n) (a .v))))
+    put-skip (a .plan .now) (a .parts .now) (a .write) (a .i) (a .b) (a .o) (replicate (a .n) (a .v)) (a .room .now) (omega arith) (c .before .before .target .ensures) (c .enum-told .given .1) (alike-same (sym (length-replicate (a .n) (a .v))))
 
 pub put-same-spec : {M : Type 1} → statement M
 put-same-spec =

@@ -28,7 +28,7 @@ cast-extend-views c = search needs
 extend-views-requires : tie.Need-extend-views-requires
 extend-views-requires c κs =
     let a = c .before .before .before .before .before .before .before .before .before .before .args in
-    omega (arith, times-within (a .n) (16) (made (a .state .now) (a .parts .now) (length (a .room .now)) (a .write) (a .i) (a .b) (a .o) (scaled (a .n) (16)) (rw (c .before .before .before .before .before .scale .ensures) at (c .before .before .before .before .target .ensures)) (c .before .before .at .given .1)) (omega arith))
+    omega (arith, times-within (a .n) (16) (made (a .plan .now) (a .parts .now) (length (a .room .now)) (a .write) (a .i) (a .b) (a .o) (scaled (a .n) (16)) (rw (c .before .before .before .before .before .scale .ensures) at (c .before .before .before .before .target .ensures)) (c .before .before .at .given .1)) (omega arith))
 
 enum-told : tie.Need-enum-told
 enum-told c = search needs
@@ -39,12 +39,12 @@ same-length c = search needs
 returns : tie.Need-returns
 returns c =
     let a = c .before .before .before .before .before .before .before .before .before .before .before .before .before .args in
-    put-at (a .state .now) (a .parts .now) (a .write) (a .i) (a .b) (a .o) (reviewed (a .body .now) (a .from) (a .base) (a .n)) (a .room .now) (omega arith) (rw (c .before .before .before .before .before .before .before .before .scale .ensures) at (c .before .before .before .before .before .before .before .target .ensures)) (c .before .before .before .before .before .at .given .1) (alike-sized (a .n) (16) (length-reviewed (a .body .now) (a .from) (a .base) (a .n) (omega arith))) (c .before .before .extend-views .ensures ∙ ap (λ (z : List ℕ). splice (c .before .before .before .before .before .at .given .0 .0) z (a .room .now)) (reviewed-cut (a .body .now) (a .from) (a .base) (a .n)))
+    put-at (a .plan .now) (a .parts .now) (a .write) (a .i) (a .b) (a .o) (reviewed (a .body .now) (a .from) (a .base) (a .n)) (a .room .now) (omega arith) (rw (c .before .before .before .before .before .before .before .before .scale .ensures) at (c .before .before .before .before .before .before .before .target .ensures)) (c .before .before .before .before .before .at .given .1) (alike-sized (a .n) (16) (length-reviewed (a .body .now) (a .from) (a .base) (a .n) (omega arith))) (c .before .before .extend-views .ensures ∙ ap (λ (z : List ℕ). splice (c .before .before .before .before .before .at .given .0 .0) z (a .room .now)) (reviewed-cut (a .body .now) (a .from) (a .base) (a .n)))
 
 returns-2 : tie.Need-returns-2
 returns-2 c =
     let a = c .before .before .before .before .before .before .before .before .args in
-    put-skip (a .state .now) (a .parts .now) (a .write) (a .i) (a .b) (a .o) (reviewed (a .body .now) (a .from) (a .base) (a .n)) (a .room .now) (omega arith) (rw (c .before .before .before .scale .ensures) at (c .before .before .target .ensures)) (c .enum-told .given .1) (alike-sized (a .n) (16) (length-reviewed (a .body .now) (a .from) (a .base) (a .n) (omega arith)))
+    put-skip (a .plan .now) (a .parts .now) (a .write) (a .i) (a .b) (a .o) (reviewed (a .body .now) (a .from) (a .base) (a .n)) (a .room .now) (omega arith) (rw (c .before .before .before .scale .ensures) at (c .before .before .target .ensures)) (c .enum-told .given .1) (alike-sized (a .n) (16) (length-reviewed (a .body .now) (a .from) (a .base) (a .n) (omega arith)))
 
 pub put-views-spec : {M : Type 1} → statement M
 put-views-spec =

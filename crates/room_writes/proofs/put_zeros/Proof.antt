@@ -25,7 +25,7 @@ enum-known-at c = search needs
 fill-zeros-requires : tie.Need-fill-zeros-requires
 fill-zeros-requires c κs =
     let a = c .before .before .before .before .before .before .before .before .before .args in
-    omega (arith, made (a .state .now) (a .parts .now) (length (a .room .now)) (a .write) (a .i) (a .b) (a .o) (c .before .before .before .before .before .scale .result) (c .before .before .before .before .target .ensures) (c .before .before .at .given .1) .within)
+    omega (arith, made (a .plan .now) (a .parts .now) (length (a .room .now)) (a .write) (a .i) (a .b) (a .o) (c .before .before .before .before .before .scale .result) (c .before .before .before .before .target .ensures) (c .before .before .at .given .1) .within)
 
 enum-told : tie.Need-enum-told
 enum-told c = search needs
@@ -36,12 +36,12 @@ same-length c = search needs
 returns : tie.Need-returns
 returns c =
     let a = c .before .before .before .before .before .before .before .before .before .before .before .before .args in
-    put-at (a .state .now) (a .parts .now) (a .write) (a .i) (a .b) (a .o) (replicate (a .n * a .w) 0) (a .room .now) (omega arith) (rw (c .before .before .before .before .before .before .before .before .scale .ensures) at (c .before .before .before .before .before .before .before .target .ensures)) (c .before .before .before .before .before .at .given .1) (alike-sized (a .n) (a .w) (simp length-replicate (mul-comm (a .n) (a .w)))) (c .before .before .fill-zeros .ensures ∙ ap (λ (z : List ℕ). splice (c .before .before .before .before .before .at .given .0 .0) z (a .room .now)) (ap (λ (z : ℕ). replicate z 0) (c .before .before .before .before .before .before .before .before .scale .ensures ∙ alike-scaled (a .n) (a .w) .less (omega (arith, (made (a .state .now) (a .parts .now) (length (a .room .now)) (a .write) (a .i) (a .b) (a .o) (scaled (a .n) (a .w)) (rw (c .before .before .before .before .before .before .before .before .scale .ensures) at (c .before .before .before .before .before .before .before .target .ensures)) (c .before .before .before .before .before .at .given .1)) .within)))))
+    put-at (a .plan .now) (a .parts .now) (a .write) (a .i) (a .b) (a .o) (replicate (a .n * a .w) 0) (a .room .now) (omega arith) (rw (c .before .before .before .before .before .before .before .before .scale .ensures) at (c .before .before .before .before .before .before .before .target .ensures)) (c .before .before .before .before .before .at .given .1) (alike-sized (a .n) (a .w) (simp length-replicate (mul-comm (a .n) (a .w)))) (c .before .before .fill-zeros .ensures ∙ ap (λ (z : List ℕ). splice (c .before .before .before .before .before .at .given .0 .0) z (a .room .now)) (ap (λ (z : ℕ). replicate z 0) (c .before .before .before .before .before .before .before .before .scale .ensures ∙ alike-scaled (a .n) (a .w) .less (omega (arith, (made (a .plan .now) (a .parts .now) (length (a .room .now)) (a .write) (a .i) (a .b) (a .o) (scaled (a .n) (a .w)) (rw (c .before .before .before .before .before .before .before .before .scale .ensures) at (c .before .before .before .before .before .before .before .target .ensures)) (c .before .before .before .before .before .at .given .1)) .within)))))
 
 returns-2 : tie.Need-returns-2
 returns-2 c =
     let a = c .before .before .before .before .before .before .before .args in
-    put-skip (a .state .now) (a .parts .now) (a .write) (a .i) (a .b) (a .o) (replicate (a .n * a .w) 0) (a .room .now) (omega arith) (rw (c .before .before .before .scale .ensures) at (c .before .before .target .ensures)) (c .enum-told .given .1) (alike-sized (a .n) (a .w) (simp length-replicate (mul-comm (a .n) (a .w))))
+    put-skip (a .plan .now) (a .parts .now) (a .write) (a .i) (a .b) (a .o) (replicate (a .n * a .w) 0) (a .room .now) (omega arith) (rw (c .before .before .before .scale .ensures) at (c .before .before .target .ensures)) (c .enum-told .given .1) (alike-sized (a .n) (a .w) (simp length-replicate (mul-comm (a .n) (a .w))))
 
 pub put-zeros-spec : {M : Type 1} → statement M
 put-zeros-spec =

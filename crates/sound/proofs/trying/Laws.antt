@@ -81,13 +81,13 @@ hold-alike plan parts {c} {d} h =
 
 -- the first i null counters are full
 abbrev pub Filled : List ℕ → List ℕ → ℕ → Type 0
-Filled counts tried i = (Alike tried counts) × (length counts ≡ 96 → Full i tried)
+Filled counters tried i = (Alike tried counters) × (length counters ≡ 96 → Full i tried)
 
-pub filled-none : (counts : List ℕ) → Filled counts counts 0
-filled-none counts = (alike-refl counts, λ h j q. absurd (omega arith))
+pub filled-none : (counters : List ℕ) → Filled counters counters 0
+filled-none counters = (alike-refl counters, λ h j q. absurd (omega arith))
 
-pub filled-more : (counts tried : List ℕ) (i : ℕ) → i < 32 → Filled counts tried i → Filled counts (set tried (3 * i + 1) top) (i + 1)
-filled-more counts tried i h f = (
+pub filled-more : (counters tried : List ℕ) (i : ℕ) → i < 32 → Filled counters tried i → Filled counters (set tried (3 * i + 1) top) (i + 1)
+filled-more counters tried i h f = (
   record {
     size = length-set tried (3 * i + 1) top ∙ f .0 .size;
     rows-same = λ j. getD-set-other tried (3 * i + 1) (3 * j) top 0 (λ (e : 3 * j ≡ 3 * i + 1). omega arith) ∙ f .0 .rows-same j;
@@ -98,5 +98,5 @@ filled-more counts tried i h f = (
       (getD-set-same tried (3 * i + 1) top 0 (omega (arith, f .0 .size))),
 )
 
-pub filled-all : (counts tried : List ℕ) (i n : ℕ) → n ≤ i → Filled counts tried i → (Alike tried counts) × (length counts ≡ 96 → Full n tried)
-filled-all counts tried i n h f = (f .0, λ l j q. f .1 l j (omega arith))
+pub filled-all : (counters tried : List ℕ) (i n : ℕ) → n ≤ i → Filled counters tried i → (Alike tried counters) × (length counters ≡ 96 → Full n tried)
+filled-all counters tried i n h f = (f .0, λ l j q. f .1 l j (omega arith))

@@ -24,10 +24,10 @@ use Rattle.sound.proofs.trying.Laws.{alike-refl, alike-rows, alike-byte
 
 pub record Near (o p : Out) : Type 0 where
   pub answer : o .ans ≡ p .ans
-  pub counters : Alike (o .counts) (p .counts)
+  pub counters : Alike (o .counters) (p .counters)
 
 pub near-same : {o p : Out} → o ≡ p → Near o p
-near-same {o} e = subst (λ z. Near o z) e (record { answer = refl; counters = alike-refl (o .counts) })
+near-same {o} e = subst (λ z. Near o z) e (record { answer = refl; counters = alike-refl (o .counters) })
 
 pub near-done : {c d : List ℕ} → Alike c d → Near (done c) (done d)
 unfolding done
@@ -57,8 +57,8 @@ near-found m v g k l h q = near-cond (ltb v m) q (near-fail g h)
 pub near-next : {o p : Out} (k l : List ℕ → Out) → Near o p → ((c d : List ℕ) → Alike c d → Near (k c) (l d)) → Near (next o k) (next p l)
 unfolding next
 near-next {o} {p} k l h q =
-    subst (λ z. Near (next o k) (cond (eqb z 0) (record { ans = l (p .counts) .ans; counts = l (p .counts) .counts; log = p .log ++ l (p .counts) .log }) p)) (h .answer)
-    (near-cond (eqb (o .ans) 0) (record { answer = q (o .counts) (p .counts) (h .counters) .answer; counters = q (o .counts) (p .counts) (h .counters) .counters }) h)
+    subst (λ z. Near (next o k) (cond (eqb z 0) (record { ans = l (p .counters) .ans; counters = l (p .counters) .counters; log = p .log ++ l (p .counters) .log }) p)) (h .answer)
+    (near-cond (eqb (o .ans) 0) (record { answer = q (o .counters) (p .counters) (h .counters) .answer; counters = q (o .counters) (p .counters) (h .counters) .counters }) h)
 
 pub near-each : (f : ℕ → List ℕ → Out) → ((r : ℕ) (c d : List ℕ) → Alike c d → Near (f r c) (f r d)) → (n r : ℕ) {c d : List ℕ} → Alike c d → Near (each f n r c) (each f n r d)
 unfolding each
@@ -72,7 +72,7 @@ module _ (x : Join) where
     near-mask : (slot n : ℕ) {c d : List ℕ} → Alike c d → Near (copyMask x i slot n c) (copyMask x i slot n d)
     unfolding copyMask copyBits
     near-mask slot n h =
-        near-cond (eqb (keepsOf (x .state) i) 0) (near-done h)
+        near-cond (eqb (keepsOf (x .plan) i) 0) (near-done h)
         (near-cond (eqb (place x i 0) 0) (near-wrote _ _ h) (near-need refl 12 h (near-next _ _ (near-wrote _ _ h) (λ c2 d2 g. near-done (alike-other g i _ _)))))
 
     near-numbers : (w slot n : ℕ) {c d : List ℕ} → Alike c d → Near (copyNumbers x i w slot n c) (copyNumbers x i w slot n d)
@@ -137,11 +137,11 @@ module _ (x : Join) where
     unfolding copyFields
     near-fields slot n end zero k h = near-done h
     near-fields slot n end (suc f) k h =
-        near-cond (ltb k end) (near-next _ _ (below k slot n _ _ h) (λ c2 d2 g. near-fields slot n end f (endOf (x .state) k) g)) (near-done h)
+        near-cond (ltb k end) (near-next _ _ (below k slot n _ _ h) (λ c2 d2 g. near-fields slot n end f (endOf (x .plan) k) g)) (near-done h)
 
     near-sparse : (slot n : ℕ) {c d : List ℕ} → Alike c d → Near (copySparse x walk i slot n c) (copySparse x walk i slot n d)
     unfolding copySparse
-    near-sparse slot n h = near-need refl 12 h (near-next _ _ (near-wrote _ _ h) (λ c2 d2 g. near-fields slot n (endOf (x .state) i) 32 (suc i) g))
+    near-sparse slot n h = near-need refl 12 h (near-next _ _ (near-wrote _ _ h) (λ c2 d2 g. near-fields slot n (endOf (x .plan) i) 32 (suc i) g))
 
     near-to : (slot r k : ℕ) {c d : List ℕ} → Alike c d → Near (denseTo x walk i slot r k c) (denseTo x walk i slot r k d)
     unfolding denseTo
@@ -163,13 +163,13 @@ module _ (x : Join) where
     near-runs slot n h =
         near-cond (eqb n 0) (near-done h)
         (near-need refl 12 h
-        (near-need (ap (λ v. ltb (v + n) (half (bytesOf (x .state) (suc i)))) (h .rows-same i)) 7 h
-        (near-need refl 12 h (near-put (bytesOf (x .state) (suc i)) slot n (runsAt x walk (bytesOf (x .state) (suc i)) i slot n) h))))
+        (near-need (ap (λ v. ltb (v + n) (half (bytesOf (x .plan) (suc i)))) (h .rows-same i)) 7 h
+        (near-need refl 12 h (near-put (bytesOf (x .plan) (suc i)) slot n (runsAt x walk (bytesOf (x .plan) (suc i)) i slot n) h))))
 
     near-data : (code slot n : ℕ) {c d : List ℕ} → Alike c d → Near (copyData x walk code i slot n c) (copyData x walk code i slot n d)
     unfolding copyData
     near-data code slot n h =
-        near-cond (isFixed code) (near-cond (eqb (dictionaryOf (x .state) i) 0) (near-numbers i _ slot n h) (near-keys i _ slot n h))
+        near-cond (isFixed code) (near-cond (eqb (dictionaryOf (x .plan) i) 0) (near-numbers i _ slot n h) (near-keys i _ slot n h))
         (near-cond (isString code) (near-string i _ slot n h)
         (near-cond (isView code) (near-views i slot n h)
         (near-cond (isListView code) (near-list _ slot n h)
@@ -184,8 +184,8 @@ module _ (x : Join) where
     near-node a n h =
         near-need refl 12 h
         (near-found far _ 12 _ _ h
-        (near-next _ _ (near-cond (masked (codeOf (x .state) i)) (near-mask i _ n h) (near-done h))
-        (λ c2 d2 g. near-next _ _ (near-data (codeOf (x .state) i) _ n g) (λ c3 d3 k. near-done (alike-rows k i n)))))
+        (near-next _ _ (near-cond (masked (codeOf (x .plan) i)) (near-mask i _ n h) (near-done h))
+        (λ c2 d2 g. near-next _ _ (near-data (codeOf (x .plan) i) _ n g) (λ c3 d3 k. near-done (alike-rows k i n)))))
 
   -- A COPY ANSWERS ALIKE, whatever nulls are counted
   pub near-copy : (depth i a n : ℕ) {c d : List ℕ} → Alike c d → Near (copyWalk x depth i a n c) (copyWalk x depth i a n d)

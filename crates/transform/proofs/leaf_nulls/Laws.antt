@@ -45,60 +45,60 @@ string-in code s {w} e =
 module _ (x : Join) (child : NullWalk) (i n : ℕ) (c : List ℕ) where
   record Written : Type 0 where
     pub entry : Entry
-    pub is : wrote entry c ≡ nullData x child (codeOf (x .state) i) i n c
+    pub is : wrote entry c ≡ nullData x child (codeOf (x .plan) i) i n c
 
-  written : 1 ≤ codeOf (x .state) i → codeOf (x .state) i < 17 → Written
+  written : 1 ≤ codeOf (x .plan) i → codeOf (x .plan) i < 17 → Written
   unfolding nullNumbers nullString
-  written a b = go (isFixed (codeOf (x .state) i)) refl (isString (codeOf (x .state) i)) refl
+  written a b = go (isFixed (codeOf (x .plan) i)) refl (isString (codeOf (x .plan) i)) refl
     where
-      go : (t : Bool) → isFixed (codeOf (x .state) i) ≡ t → (u : Bool) → isString (codeOf (x .state) i) ≡ u → Written
+      go : (t : Bool) → isFixed (codeOf (x .plan) i) ≡ t → (u : Bool) → isString (codeOf (x .plan) i) ≡ u → Written
       go true e u k =
-          record { entry = put i 1 (rows c i * bytesOf (x .state) i) (replicate (n * bytesOf (x .state) i) 0); is = null-numbers x child (codeOf (x .state) i) i n c e }
+          record { entry = put i 1 (rows c i * bytesOf (x .plan) i) (replicate (n * bytesOf (x .plan) i) 0); is = null-numbers x child (codeOf (x .plan) i) i n c e }
       go false e true k =
-          record { entry = put i 1 (suc (rows c i) * bytesOf (x .state) i) (repeated (bytesOf (x .state) i) (bytes c i) n); is = null-string x child (codeOf (x .state) i) i n c e k }
+          record { entry = put i 1 (suc (rows c i) * bytesOf (x .plan) i) (repeated (bytesOf (x .plan) i) (bytes c i) n); is = null-string x child (codeOf (x .plan) i) i n c e k }
       go false e false k =
-          record { entry = put i 1 (rows c i * 16) (replicate (n * 16) 0); is = null-views x child (codeOf (x .state) i) i n c e k (is-views (codeOf (x .state) i) a b k e) }
+          record { entry = put i 1 (rows c i * 16) (replicate (n * 16) 0); is = null-views x child (codeOf (x .plan) i) i n c e k (is-views (codeOf (x .plan) i) a b k e) }
 
-  data-dry : (room : List ℕ) → 1 ≤ codeOf (x .state) i → codeOf (x .state) i < 17 → Did (x .state) (x .parts) false (nullData x child (codeOf (x .state) i) i n c) room 0 c room
+  data-dry : (room : List ℕ) → 1 ≤ codeOf (x .plan) i → codeOf (x .plan) i < 17 → Did (x .plan) (x .parts) false (nullData x child (codeOf (x .plan) i) i n c) room 0 c room
   unfolding applyIf
   data-dry room a b =
       let w = written a b in
-      subst (λ o. Did (x .state) (x .parts) false o room 0 c room) (w .is) (wrote-did false (w .entry) c room room refl)
+      subst (λ o. Did (x .plan) (x .parts) false o room 0 c room) (w .is) (wrote-did false (w .entry) c room room refl)
 
-module _ (x : Join) (child : NullWalk) (i n : ℕ) (c room : List ℕ) {w p o : ℕ} {room2 : List ℕ} (e : w ≡ entrySize (codeOf (x .state) i)) (l : p ≡ rows c i) (z : length room < top) where
+module _ (x : Join) (child : NullWalk) (i n : ℕ) (c room : List ℕ) {w p o : ℕ} {room2 : List ℕ} (e : w ≡ entrySize (codeOf (x .plan) i)) (l : p ≡ rows c i) (z : length room < top) where
   -- as the code writes them
-  pub put-zeros : 1 ≤ codeOf (x .state) i → codeOf (x .state) i < 17 → isString (codeOf (x .state) i) ≡ false → o ≡ scaled p w
-      → room2 ≡ applyIf (x .state) (x .parts) true (put i 1 o (replicate (n * w) 0) ∷ []) room → Did (x .state) (x .parts) true (nullData x child (codeOf (x .state) i) i n c) room 0 c room2
+  pub put-zeros : 1 ≤ codeOf (x .plan) i → codeOf (x .plan) i < 17 → isString (codeOf (x .plan) i) ≡ false → o ≡ scaled p w
+      → room2 ≡ applyIf (x .plan) (x .parts) true (put i 1 o (replicate (n * w) 0) ∷ []) room → Did (x .plan) (x .parts) true (nullData x child (codeOf (x .plan) i) i n c) room 0 c room2
   unfolding nullNumbers
-  put-zeros a b s m g = go (isView (codeOf (x .state) i)) refl
+  put-zeros a b s m g = go (isView (codeOf (x .plan) i)) refl
     where
-      made : Did (x .state) (x .parts) true (wrote (put i 1 (rows c i * w) (replicate (n * w) 0)) c) room 0 c room2
-      made = wrote-at (x .state) (x .parts) true i 1 (rows c i) w (replicate (n * w) 0) c room l m z g
+      made : Did (x .plan) (x .parts) true (wrote (put i 1 (rows c i * w) (replicate (n * w) 0)) c) room 0 c room2
+      made = wrote-at (x .plan) (x .parts) true i 1 (rows c i) w (replicate (n * w) 0) c room l m z g
 
-      go : (t : Bool) → isView (codeOf (x .state) i) ≡ t → Did (x .state) (x .parts) true (nullData x child (codeOf (x .state) i) i n c) room 0 c room2
+      go : (t : Bool) → isView (codeOf (x .plan) i) ≡ t → Did (x .plan) (x .parts) true (nullData x child (codeOf (x .plan) i) i n c) room 0 c room2
       go true v =
-          let y : w ≡ 16 = e ∙ view-size (codeOf (x .state) i) v in
-          on-views x child true i n c room refl refl refl (not-number (codeOf (x .state) i) v) refl s refl v (rw y at made)
+          let y : w ≡ 16 = e ∙ view-size (codeOf (x .plan) i) v in
+          on-views x child true i n c room refl refl refl (not-number (codeOf (x .plan) i) v) refl s refl v (rw y at made)
       go false v =
-          let y = is-number (codeOf (x .state) i) a b s v in
-          on-numbers x child true i n c room refl (e ∙ fixed-size (codeOf (x .state) i) y) refl y made
+          let y = is-number (codeOf (x .plan) i) a b s v in
+          on-numbers x child true i n c room refl (e ∙ fixed-size (codeOf (x .plan) i) y) refl y made
 
-  pub put-repeated : {q last : ℕ} → isString (codeOf (x .state) i) ≡ true → q ≡ grown p 1 → o ≡ scaled q w → last ≡ bytes c i
-      → room2 ≡ applyIf (x .state) (x .parts) true (put i 1 o (repeated w last n) ∷ []) room → Did (x .state) (x .parts) true (nullData x child (codeOf (x .state) i) i n c) room 0 c room2
+  pub put-repeated : {q last : ℕ} → isString (codeOf (x .plan) i) ≡ true → q ≡ grown p 1 → o ≡ scaled q w → last ≡ bytes c i
+      → room2 ≡ applyIf (x .plan) (x .parts) true (put i 1 o (repeated w last n) ∷ []) room → Did (x .plan) (x .parts) true (nullData x child (codeOf (x .plan) i) i n c) room 0 c room2
   unfolding nullString
   put-repeated s q m k g =
-      let y = e ∙ string-size (codeOf (x .state) i) s in
-      on-string x child true i n c room refl y refl (not-fixed (codeOf (x .state) i) s) refl s
-      (wrote-next (x .state) (x .parts) true i 1 (rows c i) w (repeated w (bytes c i) n) c room l q m (string-in (codeOf (x .state) i) s y .0 .0) z (rw k at g))
+      let y = e ∙ string-size (codeOf (x .plan) i) s in
+      on-string x child true i n c room refl y refl (not-fixed (codeOf (x .plan) i) s) refl s
+      (wrote-next (x .plan) (x .parts) true i 1 (rows c i) w (repeated w (bytes c i) n) c room l q m (string-in (codeOf (x .plan) i) s y .0 .0) z (rw k at g))
 
 -- ---- validity
 
 module _ (x : Join) (i n : ℕ) (c : List ℕ) where
-  mask-alike : Alike (nullMask x i n c .counts) c
+  mask-alike : Alike (nullMask x i n c .counters) c
   unfolding nullMask next wrote done
-  mask-alike = go (eqb (keepsOf (x .state) i) 0)
+  mask-alike = go (eqb (keepsOf (x .plan) i) 0)
     where
-      go : (t : Bool) → Alike (cond t (done c) (next (wrote (mask i (rows c i) (replicate n 0)) c) (λ c2. done (addNulls i n c2))) .counts) c
+      go : (t : Bool) → Alike (cond t (done c) (next (wrote (mask i (rows c i) (replicate n 0)) c) (λ c2. done (addNulls i n c2))) .counters) c
       go true = alike-refl c
       go false =
           record {
@@ -107,9 +107,9 @@ module _ (x : Join) (i n : ℕ) (c : List ℕ) where
             bytes-same = λ j. getD-set-other c (3 * i + 1) (3 * j + 2) (grown (nulls c i) n) 0 (λ (q : 3 * j + 2 ≡ 3 * i + 1). omega arith);
           }
 
-  mask-dry : (room : List ℕ) → Did (x .state) (x .parts) false (nullMask x i n c) room 0 (nullMask x i n c .counts) room
+  mask-dry : (room : List ℕ) → Did (x .plan) (x .parts) false (nullMask x i n c) room 0 (nullMask x i n c .counters) room
   unfolding nullMask next wrote done applyIf
-  mask-dry room = record { answer = go (eqb (keepsOf (x .state) i) 0); counters = refl; bytes = refl }
+  mask-dry room = record { answer = go (eqb (keepsOf (x .plan) i) 0); counters = refl; bytes = refl }
     where
       go : (t : Bool) → 0 ≡ cond t (done c) (next (wrote (mask i (rows c i) (replicate n 0)) c) (λ c2. done (addNulls i n c2))) .ans
       go true = refl
@@ -130,13 +130,13 @@ module _ (plan parts sources lengths places body : List ℕ) (i n : ℕ) (c room
   masks : masked (codeOf plan i) ≡ true
   masks = lt-ltb (codeOf plan i) 21 (omega arith)
 
-  tried : Did plan parts false (walk c) room 0 (addRows i n (nullMask x i n c .counts)) room
+  tried : Did plan parts false (walk c) room 0 (addRows i n (nullMask x i n c .counters)) room
   tried =
       at-done x false 8 i n c room (λ q. omega arith) some low (data-dry x (nullWalk x 7) i n c room a b) refl
       (nulls-masked x false i n c room refl refl (ap not masks) (mask-dry x i n c room)) refl refl
 
   module _ {bs p : ℕ} (e : bs ≡ bytes c i) (q : p ≡ cond (partsWithin plan parts (length room)) (cond (partsHold plan (setBytes i bs (addRows i n c)) parts) 0 13) 14) {c1 : List ℕ} (s : c1 ≡ c) where
-    asked : p ≡ cond (partsWithin plan parts (length room)) (cond (partsHold plan (addRows i n (nullMask x i n c .counts)) parts) 0 13) 14
+    asked : p ≡ cond (partsWithin plan parts (length room)) (cond (partsHold plan (addRows i n (nullMask x i n c .counters)) parts) 0 13) 14
     asked = q ∙ ap (λ (t : Bool). cond (partsWithin plan parts (length room)) (cond t 0 13) 14) (holds-rows plan parts i n c (mask-alike x i n c) e)
 
     pub nulls-refused : (p ≡ 0 → ⊥) → Settled p c1 room

@@ -77,37 +77,37 @@ module _ (code : ℕ) (a : 1 ≤ code) (b : code < 17) (s : isString code ≡ fa
 module _ (x : Join) (child : Walk) (i slot n : ℕ) (c : List ℕ) where
   pub record Entries : Type 0 where
     pub entry : Entry
-    pub is : need (rowsIn x (place x i 3) (entrySize (codeOf (x .state) i)) slot n) 12 c (wrote entry c) ≡ copyData x child (codeOf (x .state) i) i slot n c
+    pub is : need (rowsIn x (place x i 3) (entrySize (codeOf (x .plan) i)) slot n) 12 c (wrote entry c) ≡ copyData x child (codeOf (x .plan) i) i slot n c
 
-  pub entries-are : 1 ≤ codeOf (x .state) i → codeOf (x .state) i < 17 → isString (codeOf (x .state) i) ≡ false → Entries
+  pub entries-are : 1 ≤ codeOf (x .plan) i → codeOf (x .plan) i < 17 → isString (codeOf (x .plan) i) ≡ false → Entries
   unfolding copyNumbers copyKeys copyViews
-  entries-are a b s = go (isFixed (codeOf (x .state) i)) refl (eqb (dictionaryOf (x .state) i) 0) refl
+  entries-are a b s = go (isFixed (codeOf (x .plan) i)) refl (eqb (dictionaryOf (x .plan) i) 0) refl
     where
-      go : (t : Bool) → isFixed (codeOf (x .state) i) ≡ t → (u : Bool) → eqb (dictionaryOf (x .state) i) 0 ≡ u → Entries
+      go : (t : Bool) → isFixed (codeOf (x .plan) i) ≡ t → (u : Bool) → eqb (dictionaryOf (x .plan) i) 0 ≡ u → Entries
       go true e true k =
           record {
-            entry = put i 1 (rows c i * bytesOf (x .state) i) (take (bytesOf (x .state) i * n) (drop (place x i 3 + bytesOf (x .state) i * slot) (x .body)));
-            is = rw (fixed-size (codeOf (x .state) i) e) (data-numbers x child (codeOf (x .state) i) i slot n c e k);
+            entry = put i 1 (rows c i * bytesOf (x .plan) i) (take (bytesOf (x .plan) i * n) (drop (place x i 3 + bytesOf (x .plan) i * slot) (x .body)));
+            is = rw (fixed-size (codeOf (x .plan) i) e) (data-numbers x child (codeOf (x .plan) i) i slot n c e k);
           }
       go true e false k =
           record {
-            entry = put i 1 (rows c i * bytesOf (x .state) i) (rebased (bytesOf (x .state) i) (x .body) (place x i 3 + bytesOf (x .state) i * slot) (baseOf (x .state) (x .source) i) n);
-            is = rw (fixed-size (codeOf (x .state) i) e) (data-keys x child (codeOf (x .state) i) i slot n c e k);
+            entry = put i 1 (rows c i * bytesOf (x .plan) i) (rebased (bytesOf (x .plan) i) (x .body) (place x i 3 + bytesOf (x .plan) i * slot) (baseOf (x .plan) (x .source) i) n);
+            is = rw (fixed-size (codeOf (x .plan) i) e) (data-keys x child (codeOf (x .plan) i) i slot n c e k);
           }
       go false e u k =
-          let v = is-views (codeOf (x .state) i) a b s e in
+          let v = is-views (codeOf (x .plan) i) a b s e in
           record {
-            entry = put i 1 (rows c i * 16) (reviewed (x .body) (place x i 3 + 16 * slot) (baseOf (x .state) (x .source) i) n);
-            is = rw (view-size (codeOf (x .state) i) v) (data-views x child (codeOf (x .state) i) i slot n c e s v);
+            entry = put i 1 (rows c i * 16) (reviewed (x .body) (place x i 3 + 16 * slot) (baseOf (x .plan) (x .source) i) n);
+            is = rw (view-size (codeOf (x .plan) i) v) (data-views x child (codeOf (x .plan) i) i slot n c e s v);
           }
 
 module _ (x : Join) (child : Walk) (i slot n : ℕ) (c room : List ℕ) (e : Entries x child i slot n c) where
-  pub entries-dry : rowsIn x (place x i 3) (entrySize (codeOf (x .state) i)) slot n ≡ true → Did (x .state) (x .parts) false (copyData x child (codeOf (x .state) i) i slot n c) room 0 c room
+  pub entries-dry : rowsIn x (place x i 3) (entrySize (codeOf (x .plan) i)) slot n ≡ true → Did (x .plan) (x .parts) false (copyData x child (codeOf (x .plan) i) i slot n c) room 0 c room
   unfolding applyIf
-  entries-dry h = subst (λ o. Did (x .state) (x .parts) false o room 0 c room) (e .is) (need-ok 12 c h (wrote-did false (e .entry) c room room refl))
+  entries-dry h = subst (λ o. Did (x .plan) (x .parts) false o room 0 c room) (e .is) (need-ok 12 c h (wrote-did false (e .entry) c room room refl))
 
-  pub entries-out : rowsIn x (place x i 3) (entrySize (codeOf (x .state) i)) slot n ≡ false → Did (x .state) (x .parts) false (copyData x child (codeOf (x .state) i) i slot n c) room 12 c room
-  entries-out h = subst (λ o. Did (x .state) (x .parts) false o room 12 c room) (e .is) (need-no (wrote (e .entry) c) h)
+  pub entries-out : rowsIn x (place x i 3) (entrySize (codeOf (x .plan) i)) slot n ≡ false → Did (x .plan) (x .parts) false (copyData x child (codeOf (x .plan) i) i slot n c) room 12 c room
+  entries-out h = subst (λ o. Did (x .plan) (x .parts) false o room 12 c room) (e .is) (need-no (wrote (e .entry) c) h)
 
 -- ---- as the code writes them
 
@@ -115,39 +115,39 @@ module _ (x : Join) (child : Walk) (i slot n : ℕ) (c room : List ℕ) (e : Ent
 pub told : (f : ℕ → Bool) {code k : ℕ} {t v : Bool} → code ≡ k → t ≡ f code → t ≡ v → f k ≡ v
 told f e g h = ap f (sym e) ∙ sym g ∙ h
 
-module _ (x : Join) (child : Walk) (i slot n : ℕ) (c room : List ℕ) {w at p o : ℕ} (e : w ≡ entrySize (codeOf (x .state) i)) (k : at ≡ place x i 3)
+module _ (x : Join) (child : Walk) (i slot n : ℕ) (c room : List ℕ) {w at p o : ℕ} (e : w ≡ entrySize (codeOf (x .plan) i)) (k : at ≡ place x i 3)
     (inside : place x i 3 + w * (slot + n) ≤ length (x .body)) (l : p ≡ rows c i) (m : o ≡ scaled p w) (z : length room < top) where
   -- f: the bytes of the entries at a place, with a base
-  made : (f : ℕ → ℕ → List ℕ) {base base2 : ℕ} {room2 : List ℕ} → base ≡ base2 → room2 ≡ applyIf (x .state) (x .parts) true (put i 1 o (f at base) ∷ []) room
-      → Did (x .state) (x .parts) true (need (rowsIn x (place x i 3) w slot n) 12 c (wrote (put i 1 (rows c i * w) (f (place x i 3) base2)) c)) room 0 c room2
+  made : (f : ℕ → ℕ → List ℕ) {base base2 : ℕ} {room2 : List ℕ} → base ≡ base2 → room2 ≡ applyIf (x .plan) (x .parts) true (put i 1 o (f at base) ∷ []) room
+      → Did (x .plan) (x .parts) true (need (rowsIn x (place x i 3) w slot n) 12 c (wrote (put i 1 (rows c i * w) (f (place x i 3) base2)) c)) room 0 c room2
   unfolding rowsIn
   made f {base2 = base2} q g =
-      need-ok 12 c (le-leb (place x i 3 + w * (slot + n)) (length (x .body)) inside) (wrote-at (x .state) (x .parts) true i 1 (rows c i) w (f (place x i 3) base2) c room l m z (rw (k, q) at g))
+      need-ok 12 c (le-leb (place x i 3 + w * (slot + n)) (length (x .body)) inside) (wrote-at (x .plan) (x .parts) true i 1 (rows c i) w (f (place x i 3) base2) c room l m z (rw (k, q) at g))
 
-  module _ {room2 : List ℕ} (a : 1 ≤ codeOf (x .state) i) (b : codeOf (x .state) i < 17) (s : isString (codeOf (x .state) i) ≡ false) where
-    pub put-views : {base : ℕ} → isView (codeOf (x .state) i) ≡ true → base ≡ baseOf (x .state) (x .source) i
-        → room2 ≡ applyIf (x .state) (x .parts) true (put i 1 o (reviewed (x .body) (at + w * slot) base n) ∷ []) room
-        → Did (x .state) (x .parts) true (copyData x child (codeOf (x .state) i) i slot n c) room 0 c room2
+  module _ {room2 : List ℕ} (a : 1 ≤ codeOf (x .plan) i) (b : codeOf (x .plan) i < 17) (s : isString (codeOf (x .plan) i) ≡ false) where
+    pub put-views : {base : ℕ} → isView (codeOf (x .plan) i) ≡ true → base ≡ baseOf (x .plan) (x .source) i
+        → room2 ≡ applyIf (x .plan) (x .parts) true (put i 1 o (reviewed (x .body) (at + w * slot) base n) ∷ []) room
+        → Did (x .plan) (x .parts) true (copyData x child (codeOf (x .plan) i) i slot n c) room 0 c room2
     unfolding copyViews
     put-views v q g =
-        let y : w ≡ 16 = e ∙ view-size (codeOf (x .state) i) v in
-        to-views x child true i slot n c room refl refl refl (not-number (codeOf (x .state) i) v) refl s refl v (rw y at (made (λ at2 base2. reviewed (x .body) (at2 + w * slot) base2 n) q g))
+        let y : w ≡ 16 = e ∙ view-size (codeOf (x .plan) i) v in
+        to-views x child true i slot n c room refl refl refl (not-number (codeOf (x .plan) i) v) refl s refl v (rw y at (made (λ at2 base2. reviewed (x .body) (at2 + w * slot) base2 n) q g))
 
-    pub put-numbers : {v : ℕ} → isView (codeOf (x .state) i) ≡ false → v ≡ dictionaryOf (x .state) i → v ≡ 0
-        → room2 ≡ applyIf (x .state) (x .parts) true (put i 1 o (take (w * n) (drop (at + w * slot) (x .body))) ∷ []) room
-        → Did (x .state) (x .parts) true (copyData x child (codeOf (x .state) i) i slot n c) room 0 c room2
+    pub put-numbers : {v : ℕ} → isView (codeOf (x .plan) i) ≡ false → v ≡ dictionaryOf (x .plan) i → v ≡ 0
+        → room2 ≡ applyIf (x .plan) (x .parts) true (put i 1 o (take (w * n) (drop (at + w * slot) (x .body))) ∷ []) room
+        → Did (x .plan) (x .parts) true (copyData x child (codeOf (x .plan) i) i slot n c) room 0 c room2
     unfolding copyNumbers
     put-numbers v q h g =
-        let y = is-number (codeOf (x .state) i) a b s v in
-        to-numbers x child true i slot n c room refl (e ∙ fixed-size (codeOf (x .state) i) y) refl y q h (made (λ at2 base2. take (w * n) (drop (at2 + w * slot) (x .body))) zero-same g)
+        let y = is-number (codeOf (x .plan) i) a b s v in
+        to-numbers x child true i slot n c room refl (e ∙ fixed-size (codeOf (x .plan) i) y) refl y q h (made (λ at2 base2. take (w * n) (drop (at2 + w * slot) (x .body))) zero-same g)
 
-    pub put-keys : {v base : ℕ} → isView (codeOf (x .state) i) ≡ false → v ≡ dictionaryOf (x .state) i → (v ≡ 0 → ⊥) → base ≡ baseOf (x .state) (x .source) i
-        → room2 ≡ applyIf (x .state) (x .parts) true (put i 1 o (rebased w (x .body) (at + w * slot) base n) ∷ []) room
-        → Did (x .state) (x .parts) true (copyData x child (codeOf (x .state) i) i slot n c) room 0 c room2
+    pub put-keys : {v base : ℕ} → isView (codeOf (x .plan) i) ≡ false → v ≡ dictionaryOf (x .plan) i → (v ≡ 0 → ⊥) → base ≡ baseOf (x .plan) (x .source) i
+        → room2 ≡ applyIf (x .plan) (x .parts) true (put i 1 o (rebased w (x .body) (at + w * slot) base n) ∷ []) room
+        → Did (x .plan) (x .parts) true (copyData x child (codeOf (x .plan) i) i slot n c) room 0 c room2
     unfolding copyKeys
     put-keys v q h r g =
-        let y = is-number (codeOf (x .state) i) a b s v in
-        to-keys x child true i slot n c room refl (e ∙ fixed-size (codeOf (x .state) i) y) refl y q h (made (λ at2 base2. rebased w (x .body) (at2 + w * slot) base2 n) r g)
+        let y = is-number (codeOf (x .plan) i) a b s v in
+        to-keys x child true i slot n c room refl (e ∙ fixed-size (codeOf (x .plan) i) y) refl y q h (made (λ at2 base2. rebased w (x .body) (at2 + w * slot) base2 n) r g)
 
 -- the widths of keys
 pub keys-wide : (code : ℕ) → 1 ≤ code → code < 17 → isString code ≡ false → isView code ≡ false → {w : ℕ} → w ≡ entrySize code

@@ -29,32 +29,32 @@ use Rattle.transform.proofs.Laws.{settled-no, settled-parts, settled-ma
 -- ---- validity
 
 -- bits that are copied lie in the body
-pub bits-tests : (x : Join) (i slot n : ℕ) {k v at : ℕ} → k ≡ keepsOf (x .state) i → (k ≡ 0 → ⊥) → v ≡ place x i 0 → (v ≡ 0 → ⊥) → at ≡ place x i 1 → bitsIn x i slot n ≡ true
+pub bits-tests : (x : Join) (i slot n : ℕ) {k v at : ℕ} → k ≡ keepsOf (x .plan) i → (k ≡ 0 → ⊥) → v ≡ place x i 0 → (v ≡ 0 → ⊥) → at ≡ place x i 1 → bitsIn x i slot n ≡ true
     → leb (8 * at + slot + n) (8 * length (x .body)) ≡ true
 bits-tests x i slot n e h f l q b = rw q (rw (is-some e h, is-some f l) at b)
 
 module _ (x : Join) (i slot n : ℕ) (c room : List ℕ) where
-  dry-mask : bitsIn x i slot n ≡ true → nulls c i ≡ top → Did (x .state) (x .parts) false (copyMask x i slot n c) room 0 c room
+  dry-mask : bitsIn x i slot n ≡ true → nulls c i ≡ top → Did (x .plan) (x .parts) false (copyMask x i slot n c) room 0 c room
   unfolding applyIf
-  dry-mask h f = go (eqb (keepsOf (x .state) i) 0) refl (eqb (place x i 0) 0) refl
+  dry-mask h f = go (eqb (keepsOf (x .plan) i) 0) refl (eqb (place x i 0) 0) refl
     where
-      go : (t : Bool) → eqb (keepsOf (x .state) i) 0 ≡ t → (u : Bool) → eqb (place x i 0) 0 ≡ u → Did (x .state) (x .parts) false (copyMask x i slot n c) room 0 c room
-      go true e u k = mask-off x i false c room slot n refl (eqb-true (keepsOf (x .state) i) 0 e)
-      go false e true k = mask-ones x i false c room slot n refl (eqb-false (keepsOf (x .state) i) 0 e) refl (eqb-true (place x i 0) 0 k) refl refl
+      go : (t : Bool) → eqb (keepsOf (x .plan) i) 0 ≡ t → (u : Bool) → eqb (place x i 0) 0 ≡ u → Did (x .plan) (x .parts) false (copyMask x i slot n c) room 0 c room
+      go true e u k = mask-off x i false c room slot n refl (eqb-true (keepsOf (x .plan) i) 0 e)
+      go false e true k = mask-ones x i false c room slot n refl (eqb-false (keepsOf (x .plan) i) 0 e) refl (eqb-true (place x i 0) 0 k) refl refl
       go false e false k =
           let z : leb (8 * place x i 1 + slot + n) (8 * length (x .body)) ≡ true = rw (e, k) at h in
-          mask-bits x i false c room slot n refl (eqb-false (keepsOf (x .state) i) 0 e) refl (eqb-false (place x i 0) 0 k)
+          mask-bits x i false c room slot n refl (eqb-false (keepsOf (x .plan) i) 0 e) refl (eqb-false (place x i 0) 0 k)
           (bits-tried x i false c room slot n refl refl (ap not z) refl (eq-eqb (nulls c i) top f))
 
-  pub mask-no : bitsIn x i slot n ≡ false → Did (x .state) (x .parts) false (copyMask x i slot n c) room 12 c room
-  mask-no h = go (eqb (keepsOf (x .state) i) 0) refl (eqb (place x i 0) 0) refl
+  pub mask-no : bitsIn x i slot n ≡ false → Did (x .plan) (x .parts) false (copyMask x i slot n c) room 12 c room
+  mask-no h = go (eqb (keepsOf (x .plan) i) 0) refl (eqb (place x i 0) 0) refl
     where
-      go : (t : Bool) → eqb (keepsOf (x .state) i) 0 ≡ t → (u : Bool) → eqb (place x i 0) 0 ≡ u → Did (x .state) (x .parts) false (copyMask x i slot n c) room 12 c room
+      go : (t : Bool) → eqb (keepsOf (x .plan) i) 0 ≡ t → (u : Bool) → eqb (place x i 0) 0 ≡ u → Did (x .plan) (x .parts) false (copyMask x i slot n c) room 12 c room
       go true e u k = let y : true ≡ false = rw e at h in absurd (let z : _≡_ {A = ℕ} 0 1 = cc in omega arith)
       go false e true k = let y : true ≡ false = rw (e, k) at h in absurd (let z : _≡_ {A = ℕ} 0 1 = cc in omega arith)
       go false e false k =
           let z : leb (8 * place x i 1 + slot + n) (8 * length (x .body)) ≡ false = rw (e, k) at h in
-          mask-bits x i false c room slot n refl (eqb-false (keepsOf (x .state) i) 0 e) refl (eqb-false (place x i 0) 0 k) (bits-no x i false c room slot n refl refl (ap not z))
+          mask-bits x i false c room slot n refl (eqb-false (keepsOf (x .plan) i) 0 e) refl (eqb-false (place x i 0) 0 k) (bits-no x i false c room slot n refl refl (ap not z))
 
 -- ---- the order
 

@@ -79,15 +79,15 @@ module _ (plan : List ℕ) where
   pub has-numbers : isFixed (codeOf plan 0) ≡ true → hasPart plan 0 1 ≡ true
   has-numbers h = has-buffers plan 0 (sym (copied-root plan 0 refl)) 0 (omega (arith, one-buffer (codeOf plan 0) h))
 
-  module _ (counts parts : List ℕ) (m : ℕ) where
+  module _ (counters parts : List ℕ) (m : ℕ) where
     -- validity, then numbers: there is no third part, and no other node
-    pub numbers-ground : {a b g : ℕ} → OneNode plan → a ≡ verdict (partWithin plan parts m 0 0) (partHolds plan counts parts 0 0)
-        → b ≡ verdict (partWithin plan parts m 0 1) (partHolds plan counts parts 0 1) → g ≡ worseOf a b
-        → g ≡ cond (partsWithin plan parts m) (cond (partsHold plan counts parts) 0 13) 14
+    pub numbers-ground : {a b g : ℕ} → OneNode plan → a ≡ verdict (partWithin plan parts m 0 0) (partHolds plan counters parts 0 0)
+        → b ≡ verdict (partWithin plan parts m 0 1) (partHolds plan counters parts 0 1) → g ≡ worseOf a b
+        → g ≡ cond (partsWithin plan parts m) (cond (partsHold plan counters parts) 0 13) 14
     numbers-ground {g = g} o e f q =
-        let none = part-none plan counts parts m 0 2 (no-buffer plan 0 1 (omega (arith, one-buffer (codeOf plan 0) (o .fixed)))) in
+        let none = part-none plan counters parts m 0 2 (no-buffer plan 0 1 (omega (arith, one-buffer (codeOf plan 0) (o .fixed)))) in
         let last : g ≡ worseOf g 0 = rw (le-ltb g 0 (omega arith)) in
-        nodes-all plan counts parts m 1 1 (sym (o .nodes)) (omega arith) (omega arith) (node-three plan counts parts m 0 e f none q last)
+        nodes-all plan counters parts m 1 1 (sym (o .nodes)) (omega arith) (omega arith) (node-three plan counters parts m 0 e f none q last)
 
 -- ---- what the parts of numbers must hold
 
@@ -168,18 +168,18 @@ unfolding scaled
 scaled-low w {o} {p} {r} e q = let f : p * w ≡ r * w = ap (λ v. v * w) e in omega (arith, q, f)
 
 -- validity leaves the rows
-mask-rows : (x : Join) (i slot n : ℕ) (c : List ℕ) → rows (copyMask x i slot n c .counts) i ≡ rows c i
+mask-rows : (x : Join) (i slot n : ℕ) (c : List ℕ) → rows (copyMask x i slot n c .counters) i ≡ rows c i
 unfolding copyMask copyBits need next wrote done fail
 mask-rows x i slot n c =
-    go (eqb (keepsOf (x .state) i) 0) (eqb (place x i 0) 0) (leb (8 * place x i 1 + slot + n) (8 * length (x .body))) (mask i (rows c i) (replicate n 1)) (mask i (rows c i) (bitsAt (8 * place x i 1 + slot) n (x .body))) (zeros (bitsAt (8 * place x i 1 + slot) n (x .body)))
+    go (eqb (keepsOf (x .plan) i) 0) (eqb (place x i 0) 0) (leb (8 * place x i 1 + slot + n) (8 * length (x .body))) (mask i (rows c i) (replicate n 1)) (mask i (rows c i) (bitsAt (8 * place x i 1 + slot) n (x .body))) (zeros (bitsAt (8 * place x i 1 + slot) n (x .body)))
   where
-    go : (t u v : Bool) (e f : Entry) (z : ℕ) → rows (cond t (done c) (cond u (wrote e c) (need v 12 c (next (wrote f c) (λ c2. done (addNulls i z c2))))) .counts) i ≡ rows c i
+    go : (t u v : Bool) (e f : Entry) (z : ℕ) → rows (cond t (done c) (cond u (wrote e c) (need v 12 c (next (wrote f c) (λ c2. done (addNulls i z c2))))) .counters) i ≡ rows c i
     go true u v e f z = refl
     go false true v e f z = refl
     go false false true e f z = getD-set-other c (3 * i + 1) (3 * i) (grown (nulls c i) z) 0 (λ (q : 3 * i ≡ 3 * i + 1). omega arith)
     go false false false e f z = refl
 
-pub rows-kept : (x : Join) (i slot n : ℕ) (c : List ℕ) {wr : Bool} {c2 room room2 : List ℕ} {g : ℕ} → Did (x .state) (x .parts) wr (copyMask x i slot n c) room g c2 room2 → rows c2 i ≡ rows c i
+pub rows-kept : (x : Join) (i slot n : ℕ) (c : List ℕ) {wr : Bool} {c2 room room2 : List ℕ} {g : ℕ} → Did (x .plan) (x .parts) wr (copyMask x i slot n c) room g c2 room2 → rows c2 i ≡ rows c i
 rows-kept x i slot n c d = ap (λ l. rows l i) (d .counters) ∙ mask-rows x i slot n c
 
 pub no-view : (code : ℕ) → isFixed code ≡ true → isView code ≡ false

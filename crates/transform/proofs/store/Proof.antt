@@ -7,13 +7,13 @@ use Rattle.transform.proofs.store.Statement.{statement}
 use Rattle.transform.proofs.store.Tie as tie
 
 abbrev Inv-loop : tie.InvT-loop
-Inv-loop counters₀ counts i₀ counters i = (i ≤ 96) × Written counts counters i
+Inv-loop counters₀ tally i₀ counters i = (i ≤ 96) × Written tally counters i
 
 abbrev μ-loop : tie.MeasureT-loop
-μ-loop counters₀ counts i₀ counters i = 96 - i
+μ-loop counters₀ tally i₀ counters i = 96 - i
 
 loop-holds : tie.Need-loop-holds Inv-loop μ-loop
-loop-holds c = (omega arith, written-none (c .args .counts .now) (c .args .counters .now) (omega arith))
+loop-holds c = (omega arith, written-none (c .args .tally .now) (c .args .counters .now) (omega arith))
 
 mul-counters : tie.Need-mul-counters Inv-loop μ-loop
 mul-counters c = omega arith
@@ -36,7 +36,7 @@ loop-less c = omega arith
 loop-again : tie.Need-loop-again Inv-loop μ-loop
 loop-again c =
     let l = c .before .before .loop in
-    (omega arith, written-more (c .before .before .before .args .counts .now) (l .counters) (l .i) _ (omega arith) (l .inv .1) refl)
+    (omega arith, written-more (c .before .before .before .args .tally .now) (l .counters) (l .i) _ (omega arith) (l .inv .1) refl)
 
 same-length : tie.Need-same-length Inv-loop μ-loop
 same-length c = omega (arith, c .before .loop .inv .1 .0)
@@ -44,7 +44,7 @@ same-length c = omega (arith, c .before .loop .inv .1 .0)
 returns : tie.Need-returns Inv-loop μ-loop
 returns c =
     let l = c .before .loop in
-    written-all (c .before .before .args .counts .now) (l .counters) (l .i) (omega arith) (omega arith) (l .inv .1)
+    written-all (c .before .before .args .tally .now) (l .counters) (l .i) (omega arith) (omega arith) (l .inv .1)
 
 pub store-spec : {M : Type 1} → statement M
 store-spec =

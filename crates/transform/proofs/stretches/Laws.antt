@@ -27,15 +27,15 @@ pub dry-room : {S P : List ℕ} {o : Out} {room c room1 : List ℕ} {g : ℕ} �
 unfolding applyIf
 dry-room d = d .bytes
 
-pub counts-of : (c : List ℕ) → length c ≡ 96 → ((q : ℕ) → getD c q 0 ≤ top) → Counts c
-counts-of c l h = record { long = l; small = h }
+pub counters-of : (c : List ℕ) → length c ≡ 96 → ((q : ℕ) → getD c q 0 ≤ top) → Counts c
+counters-of c l h = record { long = l; small = h }
 
 both-held : (a b : Bool) {p : ℕ} → p ≡ cond a (cond b 0 13) 14 → p ≡ 0 → (a ≡ true) × (b ≡ true)
 both-held true true e h = (refl, refl)
 both-held true false e h = let z : _≡_ {A = ℕ} 13 0 = sym e ∙ h in absurd (omega (arith, z))
 both-held false b e h = let z : _≡_ {A = ℕ} 14 0 = sym e ∙ h in absurd (omega (arith, z))
 
-module _ (x : Lent) (counts room : List ℕ) (first source start n : ℕ) (f : Counts counts) where
+module _ (x : Lent) (counters room : List ℕ) (first source start n : ℕ) (f : Counts counters) where
   abbrev X : Join
   X = join (x .plan) (x .parts) (x .lengths) (x .places) (x .body) first source
 
@@ -46,17 +46,17 @@ module _ (x : Lent) (counts room : List ℕ) (first source start n : ℕ) (f : C
   Copy l = copyWalk X 8 0 start n l
 
   -- tried by stretches
-  module _ {g : ℕ} {l1 c1 room1 : List ℕ} (e : l1 ≡ counts) (d : Did (x .plan) (x .parts) false (Batch l1) room g c1 room1) (h : g ≡ 0) where
-    tried : Did (x .plan) (x .parts) false (Batch counts) room g c1 room1
+  module _ {g : ℕ} {l1 c1 room1 : List ℕ} (e : l1 ≡ counters) (d : Did (x .plan) (x .parts) false (Batch l1) room g c1 room1) (h : g ≡ 0) where
+    tried : Did (x .plan) (x .parts) false (Batch counters) room g c1 room1
     tried = subst (λ z. Did (x .plan) (x .parts) false (Batch z) room g c1 room1) e d
 
-    answers : Batch counts .ans ≡ 0
+    answers : Batch counters .ans ≡ 0
     answers = sym (tried .answer) ∙ h
 
-    left : Leaves (Copy counts) (Batch counts .counts)
-    left = batch-answers X 6 0 start n counts f answers
+    left : Leaves (Copy counters) (Batch counters .counters)
+    left = batch-answers X 6 0 start n counters f answers
 
-    as-copy : Did (x .plan) (x .parts) false (Copy counts) room g c1 room1
+    as-copy : Did (x .plan) (x .parts) false (Copy counters) room g c1 room1
     unfolding applyIf
     as-copy = record { answer = h ∙ sym (left .ok); counters = tried .counters ∙ sym (left .left); bytes = tried .bytes }
 
@@ -65,34 +65,34 @@ module _ (x : Lent) (counts room : List ℕ) (first source start n : ℕ) (f : C
     same-room = tried .bytes
 
     module _ {p : ℕ} (q : p ≡ cond (partsWithin (x .plan) (x .parts) (length room1)) (cond (partsHold (x .plan) c1 (x .parts)) 0 13) 14) where
-      pub stretches-parts : (p ≡ 0 → ⊥) → Answers (settled x counts room (Copy counts)) p counts room1
-      stretches-parts k = settled-parts x counts room Copy {l1 = counts} (near-same refl) as-copy h q k
+      pub stretches-parts : (p ≡ 0 → ⊥) → Answers (settled x counters room (Copy counters)) p counters room1
+      stretches-parts k = settled-parts x counters room Copy {l1 = counters} (near-same refl) as-copy h q k
 
       module _ (k : p ≡ 0) (body : Below 256 (x .body)) (bytes : Below 256 room) (less : length room < top) (rise : partsRise (x .plan) (x .parts) ≡ true)
-          {l2 : List ℕ} {r : ℕ} {c2 room2 c3 : List ℕ} (i : l2 ≡ counts) (made : Did (x .plan) (x .parts) true (Batch l2) room1 r c2 room2) (s : c3 ≡ c2) where
-        again : Did (x .plan) (x .parts) true (Batch counts) room1 r c2 room2
+          {l2 : List ℕ} {r : ℕ} {c2 room2 c3 : List ℕ} (i : l2 ≡ counters) (made : Did (x .plan) (x .parts) true (Batch l2) room1 r c2 room2) (s : c3 ≡ c2) where
+        again : Did (x .plan) (x .parts) true (Batch counters) room1 r c2 room2
         again = subst (λ z. Did (x .plan) (x .parts) true (Batch z) room1 r c2 room2) i made
 
         held : (partsWithin (x .plan) (x .parts) (length room1) ≡ true) × (partsHold (x .plan) c1 (x .parts) ≡ true)
         held = both-held (partsWithin (x .plan) (x .parts) (length room1)) (partsHold (x .plan) c1 (x .parts)) q k
 
-        written : apply (x .plan) (x .parts) (Copy counts .log) room ≡ apply (x .plan) (x .parts) (Batch counts .log) room
+        written : apply (x .plan) (x .parts) (Copy counters .log) room ≡ apply (x .plan) (x .parts) (Batch counters .log) room
         written =
-            batch-writes X 6 0 start n counts room f body bytes less answers
+            batch-writes X 6 0 start n counters room f body bytes less answers
             (subst (λ z. partsWithin (x .plan) (x .parts) (length z) ≡ true) same-room (held .0))
             (subst (λ z. partsHold (x .plan) z (x .parts) ≡ true) (tried .counters) (held .1)) rise
 
-        made-copy : Did (x .plan) (x .parts) true (Copy counts) room1 r c2 room2
+        made-copy : Did (x .plan) (x .parts) true (Copy counters) room1 r c2 room2
         unfolding applyIf
         made-copy =
             record {
               answer = again .answer ∙ answers ∙ sym (left .ok);
               counters = again .counters ∙ sym (left .left);
-              bytes = again .bytes ∙ ap (apply (x .plan) (x .parts) (Batch counts .log)) same-room ∙ sym written ∙ ap (apply (x .plan) (x .parts) (Copy counts .log)) (sym same-room);
+              bytes = again .bytes ∙ ap (apply (x .plan) (x .parts) (Batch counters .log)) same-room ∙ sym written ∙ ap (apply (x .plan) (x .parts) (Copy counters .log)) (sym same-room);
             }
 
-        pub stretches-made : Answers (settled x counts room (Copy counts)) r c3 room2
-        stretches-made = settled-made x counts room Copy {l1 = counts} (near-same refl) as-copy h q k refl made-copy s
+        pub stretches-made : Answers (settled x counters room (Copy counters)) r c3 room2
+        stretches-made = settled-made x counters room Copy {l1 = counters} (near-same refl) as-copy h q k refl made-copy s
 
         pub stretches-zero : r ≡ 0
         stretches-zero = again .answer ∙ answers

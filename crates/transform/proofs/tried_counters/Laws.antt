@@ -42,13 +42,13 @@ copied-all from to n i h l w = ext-getD 0 to from (w .0 .0 ∙ sym l) (λ j q. g
 -- ---- nulls that are full
 
 abbrev pub Full : List ℕ → List ℕ → ℕ → ℕ → Type 0
-Full counters counts n i = (Filled counters counts i) × (Beyond n counts counters)
+Full counters tally n i = (Filled counters tally i) × (Beyond n tally counters)
 
-pub full-none : (counters counts : List ℕ) (n : ℕ) → counts ≡ counters → Full counters counts n 0
-full-none counters counts n e = subst (λ z. Full counters z n 0) (sym e) (filled-none counters, λ j q. refl)
+pub full-none : (counters tally : List ℕ) (n : ℕ) → tally ≡ counters → Full counters tally n 0
+full-none counters tally n e = subst (λ z. Full counters z n 0) (sym e) (filled-none counters, λ j q. refl)
 
-pub full-more : (counters counts : List ℕ) (n i : ℕ) → n ≤ 32 → i < n → Full counters counts n i → Full counters (set counts (3 * i + 1) top) n (i + 1)
-full-more counters counts n i l h f = (filled-more counters counts i (omega arith) (f .0), λ j q. getD-set-other counts (3 * i + 1) j top 0 (λ (z : j ≡ 3 * i + 1). omega arith) ∙ f .1 j q)
+pub full-more : (counters tally : List ℕ) (n i : ℕ) → n ≤ 32 → i < n → Full counters tally n i → Full counters (set tally (3 * i + 1) top) n (i + 1)
+full-more counters tally n i l h f = (filled-more counters tally i (omega arith) (f .0), λ j q. getD-set-other tally (3 * i + 1) j top 0 (λ (z : j ≡ 3 * i + 1). omega arith) ∙ f .1 j q)
 
 -- ---- a walk leaves the counters behind those of the plan's nodes
 
@@ -75,41 +75,41 @@ same-beyond n c d h k q = go (third k)
     go (of-nulls j e) = subst (λ z. getD d z 0 ≡ getD c z 0) (sym e) (h j (omega arith) .nulls-same)
     go (of-bytes j e) = subst (λ z. getD d z 0 ≡ getD c z 0) (sym e) (h j (omega arith) .bytes-same)
 
-module _ (x : Join) (m : ℕ) (w : walkable (x .state) m ≡ true) (k : ℕ) (e : k ≡ nodesOf (x .state)) where
-  sound : planSound (x .state) ≡ true
+module _ (x : Join) (m : ℕ) (w : walkable (x .plan) m ≡ true) (k : ℕ) (e : k ≡ nodesOf (x .plan)) where
+  sound : planSound (x .plan) ≡ true
   unfolding walkable
   sound = and-right (leb m ceiling) _ w
 
-  copy-beyond : (a n : ℕ) (c : List ℕ) → Beyond k (copyWalk x 8 0 a n c .counts) c
+  copy-beyond : (a n : ℕ) (c : List ℕ) → Beyond k (copyWalk x 8 0 a n c .counters) c
   copy-beyond a n c =
-      subst (λ z. Beyond z (copyWalk x 8 0 a n c .counts) c) (sym e)
-      (same-beyond (nodesOf (x .state)) c _
-      (λ j q. still-copies j x (λ k. k < nodesOf (x .state)) (λ k. k < nodesOf (x .state)) (closed-nodes (x .state) sound) (λ (l : j < nodesOf (x .state)). omega arith) 8 0 a n c (root-reached (x .state) sound .0)))
+      subst (λ z. Beyond z (copyWalk x 8 0 a n c .counters) c) (sym e)
+      (same-beyond (nodesOf (x .plan)) c _
+      (λ j q. still-copies j x (λ k. k < nodesOf (x .plan)) (λ k. k < nodesOf (x .plan)) (closed-nodes (x .plan) sound) (λ (l : j < nodesOf (x .plan)). omega arith) 8 0 a n c (root-reached (x .plan) sound .0)))
 
-  null-beyond : (n : ℕ) (c : List ℕ) → Beyond k (nullWalk x 8 0 n c .counts) c
+  null-beyond : (n : ℕ) (c : List ℕ) → Beyond k (nullWalk x 8 0 n c .counters) c
   null-beyond n c =
-      subst (λ z. Beyond z (nullWalk x 8 0 n c .counts) c) (sym e)
-      (same-beyond (nodesOf (x .state)) c _
-      (λ j q. still-nulls j x (λ k. k < nodesOf (x .state)) (λ k. k < nodesOf (x .state)) (closed-nodes (x .state) sound) (λ (l : j < nodesOf (x .state)). omega arith) 8 0 n c (root-reached (x .state) sound .0)))
+      subst (λ z. Beyond z (nullWalk x 8 0 n c .counters) c) (sym e)
+      (same-beyond (nodesOf (x .plan)) c _
+      (λ j q. still-nulls j x (λ k. k < nodesOf (x .plan)) (λ k. k < nodesOf (x .plan)) (closed-nodes (x .plan) sound) (λ (l : j < nodesOf (x .plan)). omega arith) 8 0 n c (root-reached (x .plan) sound .0)))
 
   -- what a copy leaves, c1, of counters c0 that were lent as d
-  pub copy-tried : (a n : ℕ) (c0 c1 d : List ℕ) → Beyond k c0 d → c1 ≡ copyWalk x 8 0 a n c0 .counts → Beyond k c1 d
+  pub copy-tried : (a n : ℕ) (c0 c1 d : List ℕ) → Beyond k c0 d → c1 ≡ copyWalk x 8 0 a n c0 .counters → Beyond k c1 d
   copy-tried a n c0 c1 d h q = subst (λ z. Beyond k z d) (sym q) (λ j l. copy-beyond a n c0 j l ∙ h j l)
 
-  pub copy-made : (a n : ℕ) (c0 c1 d : List ℕ) → c0 ≡ d → c1 ≡ copyWalk x 8 0 a n c0 .counts → Beyond k d c1
+  pub copy-made : (a n : ℕ) (c0 c1 d : List ℕ) → c0 ≡ d → c1 ≡ copyWalk x 8 0 a n c0 .counters → Beyond k d c1
   copy-made a n c0 c1 d h q = λ j l. sym (copy-tried a n c0 c1 d (λ j l. ap (λ z. getD z j 0) h) q j l)
 
   -- .. and nulls
-  pub null-tried : (n : ℕ) (c0 c1 d : List ℕ) → c0 ≡ d → c1 ≡ nullWalk x 8 0 n c0 .counts → Beyond k c1 d
+  pub null-tried : (n : ℕ) (c0 c1 d : List ℕ) → c0 ≡ d → c1 ≡ nullWalk x 8 0 n c0 .counters → Beyond k c1 d
   null-tried n c0 c1 d h q = subst (λ z. Beyond k z d) (sym q) (λ j l. null-beyond n c0 j l ∙ ap (λ z. getD z j 0) h)
 
-  pub null-made : (n : ℕ) (c0 c1 d : List ℕ) → c0 ≡ d → c1 ≡ nullWalk x 8 0 n c0 .counts → Beyond k d c1
+  pub null-made : (n : ℕ) (c0 c1 d : List ℕ) → c0 ≡ d → c1 ≡ nullWalk x 8 0 n c0 .counters → Beyond k d c1
   null-made n c0 c1 d h q = λ j l. sym (null-tried n c0 c1 d h q j l)
 
 -- .. and as many as there were
 module _ (x : Join) where
-  pub copy-long : (a n : ℕ) (c0 c1 : List ℕ) → length c0 ≡ 96 → c1 ≡ copyWalk x 8 0 a n c0 .counts → length c1 ≡ 96
+  pub copy-long : (a n : ℕ) (c0 c1 : List ℕ) → length c0 ≡ 96 → c1 ≡ copyWalk x 8 0 a n c0 .counters → length c1 ≡ 96
   copy-long a n c0 c1 h q = ap length q ∙ long-copy x 8 0 a n {c = c0} (record { size = h }) .left .size
 
-  pub null-long : (n : ℕ) (c0 c1 : List ℕ) → length c0 ≡ 96 → c1 ≡ nullWalk x 8 0 n c0 .counts → length c1 ≡ 96
+  pub null-long : (n : ℕ) (c0 c1 : List ℕ) → length c0 ≡ 96 → c1 ≡ nullWalk x 8 0 n c0 .counters → length c1 ≡ 96
   null-long n c0 c1 h q = ap length q ∙ long-nulls x 8 0 n {c = c0} (record { size = h }) .left .size

@@ -12,10 +12,10 @@ use Rattle.trip.proofs.walk_orders.Statement.{statement}
 use Rattle.trip.proofs.walk_orders.Tie as tie
 
 abbrev Inv-loop : tie.InvT-loop
-Inv-loop plan parts sources lengths places body counts₀ room₀ write ask within orders n k₀ counts room k = (k ≤ n) × (length room ≡ length room₀) × Left plan parts write (stepAt (lent plan parts sources lengths places body) ask within orders) (n - k) k counts room n counts₀ room₀
+Inv-loop plan parts sources lengths places body counters₀ room₀ write ask within orders n k₀ counters room k = (k ≤ n) × (length room ≡ length room₀) × Left plan parts write (stepAt (lent plan parts sources lengths places body) ask within orders) (n - k) k counters room n counters₀ room₀
 
 abbrev μ-loop : tie.MeasureT-loop
-μ-loop plan parts sources lengths places body counts₀ room₀ write ask within orders n k₀ counts room k = n - k
+μ-loop plan parts sources lengths places body counters₀ room₀ write ask within orders n k₀ counters room k = n - k
 
 loop-holds : tie.Need-loop-holds Inv-loop μ-loop
 loop-holds c = (search needs, search needs, λ g p c2 room2. simp sub-zero (λ d. d))
@@ -33,7 +33,7 @@ returns : tie.Need-returns Inv-loop μ-loop
 returns c =
     let z = c .before .before .before .before .before .before .before .before .before .before .before .before .before .before .before .before .args in
     let l = c .before .before .before .before .before .before .before .loop in
-    l .inv .2 _ _ _ _ (stepped-stop (z .write) (stepAt (lent (z .plan .now) (z .parts .now) (z .sources .now) (z .lengths .now) (z .places .now) (z .body .now)) (z .ask) (z .within) (z .orders .now)) (z .n - l .k) (z .n - (l .k + 1)) (l .k) (l .counts) (l .room) (omega arith) (c .before .before .before .walk-step .ensures) (c .if1 .taken))
+    l .inv .2 _ _ _ _ (stepped-stop (z .write) (stepAt (lent (z .plan .now) (z .parts .now) (z .sources .now) (z .lengths .now) (z .places .now) (z .body .now)) (z .ask) (z .within) (z .orders .now)) (z .n - l .k) (z .n - (l .k + 1)) (l .k) (l .counters) (l .room) (omega arith) (c .before .before .before .walk-step .ensures) (c .if1 .taken))
 
 add-k : tie.Need-add-k Inv-loop μ-loop
 add-k c = omega arith
@@ -45,7 +45,7 @@ loop-again : tie.Need-loop-again Inv-loop μ-loop
 loop-again c =
     let z = c .before .before .before .before .before .before .before .before .before .before .before .before .before .before .before .before .args in
     let l = c .before .before .before .before .before .before .before .loop in
-    (omega arith, search needs, λ g p c2 room2 s. l .inv .2 g p c2 room2 (stepped-more (z .write) (stepAt (lent (z .plan .now) (z .parts .now) (z .sources .now) (z .lengths .now) (z .places .now) (z .body .now)) (z .ask) (z .within) (z .orders .now)) (z .n - l .k) (z .n - (l .k + 1)) (l .k) (l .k + 1) (l .counts) (l .room) (omega arith) refl (c .before .before .before .walk-step .ensures) (c .if1 .left) s))
+    (omega arith, search needs, λ g p c2 room2 s. l .inv .2 g p c2 room2 (stepped-more (z .write) (stepAt (lent (z .plan .now) (z .parts .now) (z .sources .now) (z .lengths .now) (z .places .now) (z .body .now)) (z .ask) (z .within) (z .orders .now)) (z .n - l .k) (z .n - (l .k + 1)) (l .k) (l .k + 1) (l .counters) (l .room) (omega arith) refl (c .before .before .before .walk-step .ensures) (c .if1 .left) s))
 
 same-length-2 : tie.Need-same-length-2 Inv-loop μ-loop
 same-length-2 c = c .before .loop .inv .1
@@ -54,7 +54,7 @@ returns-2 : tie.Need-returns-2 Inv-loop μ-loop
 returns-2 c =
     let z = c .before .before .before .before .before .before .before .before .before .before .args in
     let l = c .before .loop in
-    l .inv .2 _ _ _ _ (stepped-none (z .write) (stepAt (lent (z .plan .now) (z .parts .now) (z .sources .now) (z .lengths .now) (z .places .now) (z .body .now)) (z .ask) (z .within) (z .orders .now)) (z .n - l .k) (l .k) (l .counts) (l .room) (omega arith))
+    l .inv .2 _ _ _ _ (stepped-none (z .write) (stepAt (lent (z .plan .now) (z .parts .now) (z .sources .now) (z .lengths .now) (z .places .now) (z .body .now)) (z .ask) (z .within) (z .orders .now)) (z .n - l .k) (l .k) (l .counters) (l .room) (omega arith))
 
 pub walk-orders-spec : {M : Type 1} → statement M
 walk-orders-spec = tie.close (tie.spec Inv-loop μ-loop loop-holds walk-step-requires cast-t20 same-length returns add-k loop-less loop-again same-length-2 returns-2)

@@ -47,32 +47,32 @@ inside start o n m h = leb-true _ _ h
 -- ---- where a write goes
 
 -- the number of the part is one less, cut at 0
-pub part-start : (state parts : List ℕ) (i b : ℕ) {p k r : ℕ} → p ≡ partOf state i → r ≡ getD parts k 0 → k ≡ 2 * (p + b - 1) → r ≡ startOf state parts i b
-part-start state parts i b e g h = g ∙ ap (λ (z : ℕ). getD parts z 0) (h ∙ ap (λ (z : ℕ). 2 * (z + b - 1)) e)
+pub part-start : (plan parts : List ℕ) (i b : ℕ) {p k r : ℕ} → p ≡ partOf plan i → r ≡ getD parts k 0 → k ≡ 2 * (p + b - 1) → r ≡ startOf plan parts i b
+part-start plan parts i b e g h = g ∙ ap (λ (z : ℕ). getD parts z 0) (h ∙ ap (λ (z : ℕ). 2 * (z + b - 1)) e)
 
-module _ (state parts : List ℕ) (m : ℕ) where
-  pub skip-tries : (write : Bool) (i b o n : ℕ) → not write ≡ true → Skip ≡ targetOf state parts m write i b o n
+module _ (plan parts : List ℕ) (m : ℕ) where
+  pub skip-tries : (write : Bool) (i b o n : ℕ) → not write ≡ true → Skip ≡ targetOf plan parts m write i b o n
   unfolding targetOf
   skip-tries write i b o n h = rw (not-true write h)
 
-  pub skip-room : (write : Bool) (i b o n : ℕ) {start : ℕ} → start ≡ startOf state parts i b → inRoom start o n m ≡ false → Skip ≡ targetOf state parts m write i b o n
+  pub skip-room : (write : Bool) (i b o n : ℕ) {start : ℕ} → start ≡ startOf plan parts i b → inRoom start o n m ≡ false → Skip ≡ targetOf plan parts m write i b o n
   unfolding targetOf
   skip-room write i b o n e h = rw (sym e, h, and-no write)
 
-  pub goes : (write : Bool) (i b o n : ℕ) {start : ℕ} → start ≡ startOf state parts i b → not write ≡ false → inRoom start o n m ≡ true
-      → At (start + o) ≡ targetOf state parts m write i b o n
+  pub goes : (write : Bool) (i b o n : ℕ) {start : ℕ} → start ≡ startOf plan parts i b → not write ≡ false → inRoom start o n m ≡ true
+      → At (start + o) ≡ targetOf plan parts m write i b o n
   unfolding targetOf
   goes write i b o n e h r = rw (not-false write h, sym e, r)
 
-  pub mask-skip-tries : (write : Bool) (i p n : ℕ) → not write ≡ true → Skip ≡ maskTargetOf state parts m write i p n
+  pub mask-skip-tries : (write : Bool) (i p n : ℕ) → not write ≡ true → Skip ≡ maskTargetOf plan parts m write i p n
   unfolding maskTargetOf
   mask-skip-tries write i p n h = rw (not-true write h)
 
-  pub mask-skip-room : (write : Bool) (i p n : ℕ) {start : ℕ} → start ≡ startOf state parts i 0 → inRoom (8 * start) p n (8 * m) ≡ false → Skip ≡ maskTargetOf state parts m write i p n
+  pub mask-skip-room : (write : Bool) (i p n : ℕ) {start : ℕ} → start ≡ startOf plan parts i 0 → inRoom (8 * start) p n (8 * m) ≡ false → Skip ≡ maskTargetOf plan parts m write i p n
   unfolding maskTargetOf
   mask-skip-room write i p n e h = rw (sym e, h, and-no write)
 
-  pub mask-goes : (write : Bool) (i p n : ℕ) {start : ℕ} → start ≡ startOf state parts i 0 → not write ≡ false → inRoom (8 * start) p n (8 * m) ≡ true
-      → At start ≡ maskTargetOf state parts m write i p n
+  pub mask-goes : (write : Bool) (i p n : ℕ) {start : ℕ} → start ≡ startOf plan parts i 0 → not write ≡ false → inRoom (8 * start) p n (8 * m) ≡ true
+      → At start ≡ maskTargetOf plan parts m write i p n
   unfolding maskTargetOf
   mask-goes write i p n e h r = rw (not-false write h, sym e, r)

@@ -16,12 +16,12 @@ use Rattle.width_loop.proofs.convert_walk.Statement.{statement}
 use Rattle.width_loop.proofs.convert_walk.Tie as tie
 
 abbrev Inv-loop : tie.InvT-loop
-Inv-loop formats schema lengths places body first n target plan parts counts₀ room₀ write ranges₀ count i₀ counts room ranges i =
+Inv-loop formats schema lengths places body first n target plan parts counters₀ room₀ write ranges₀ count i₀ counters room ranges i =
     (i ≤ n) × (length room ≡ length room₀) × Fits (column lengths places [] body first) ranges
-    × ((buffers : List ℕ) → Rest plan parts write (treeWalk (treeOf formats schema first n) (treeOf formats schema target n) (column lengths places buffers body first) plan counts₀) room₀ (nodesWalk (treeOf formats schema first n) (treeOf formats schema target n) (column lengths places buffers body first) plan (n - i) i ranges counts) room)
+    × ((buffers : List ℕ) → Rest plan parts write (treeWalk (treeOf formats schema first n) (treeOf formats schema target n) (column lengths places buffers body first) plan counters₀) room₀ (nodesWalk (treeOf formats schema first n) (treeOf formats schema target n) (column lengths places buffers body first) plan (n - i) i ranges counters) room)
 
 abbrev μ-loop : tie.MeasureT-loop
-μ-loop formats schema lengths places body first n target plan parts counts₀ room₀ write ranges₀ count i₀ counts room ranges i = n - i
+μ-loop formats schema lengths places body first n target plan parts counters₀ room₀ write ranges₀ count i₀ counters room ranges i = n - i
 
 length-at-requires : tie.Need-length-at-requires Inv-loop μ-loop
 length-at-requires c κs = search needs
@@ -32,7 +32,7 @@ array-write-ranges c = search needs
 loop-holds : tie.Need-loop-holds Inv-loop μ-loop
 loop-holds c =
     let a = c .before .before .before .before .before .before .before .before .before .args in
-    (omega arith, refl, fits-first (column (a .lengths .now) (a .places .now) [] (a .body .now) (a .first)) (c .length-at .ensures), λ buffers. first-rest (treeOf (a .formats .now) (a .schema .now) (a .first) (a .n)) (treeOf (a .formats .now) (a .schema .now) (a .target) (a .n)) (column (a .lengths .now) (a .places .now) buffers (a .body .now) (a .first)) (a .plan .now) (a .parts .now) (a .write) _ (a .counts .now) (a .room .now) (c .length-at .ensures) refl)
+    (omega arith, refl, fits-first (column (a .lengths .now) (a .places .now) [] (a .body .now) (a .first)) (c .length-at .ensures), λ buffers. first-rest (treeOf (a .formats .now) (a .schema .now) (a .first) (a .n)) (treeOf (a .formats .now) (a .schema .now) (a .target) (a .n)) (column (a .lengths .now) (a .places .now) buffers (a .body .now) (a .first)) (a .plan .now) (a .parts .now) (a .write) _ (a .counters .now) (a .room .now) (c .length-at .ensures) refl)
 
 walk-node-requires : tie.Need-walk-node-requires Inv-loop μ-loop
 walk-node-requires c κs =
@@ -47,7 +47,7 @@ returns : tie.Need-returns Inv-loop μ-loop
 returns c =
     let a = c .before .before .before .before .before .before .before .before .before .before .before .before .before .before .before .before .before .before .args in
     let l = c .before .before .before .before .before .before .before .before .loop in
-    λ buffers. l .inv .3 buffers _ _ _ (nodes-stop (treeOf (a .formats .now) (a .schema .now) (a .first) (a .n)) (treeOf (a .formats .now) (a .schema .now) (a .target) (a .n)) (column (a .lengths .now) (a .places .now) buffers (a .body .now) (a .first)) (a .plan .now) (a .parts .now) (a .write) (a .n - l .i) (a .n - (l .i + 1)) (l .i) (l .ranges) (l .counts) (l .room) (omega arith) (c .before .before .before .walk-node .ensures .0 buffers) (c .if1 .taken))
+    λ buffers. l .inv .3 buffers _ _ _ (nodes-stop (treeOf (a .formats .now) (a .schema .now) (a .first) (a .n)) (treeOf (a .formats .now) (a .schema .now) (a .target) (a .n)) (column (a .lengths .now) (a .places .now) buffers (a .body .now) (a .first)) (a .plan .now) (a .parts .now) (a .write) (a .n - l .i) (a .n - (l .i + 1)) (l .i) (l .ranges) (l .counters) (l .room) (omega arith) (c .before .before .before .walk-node .ensures .0 buffers) (c .if1 .taken))
 
 add-i : tie.Need-add-i Inv-loop μ-loop
 add-i c = search needs
@@ -60,7 +60,7 @@ loop-again c =
     let a = c .before .before .before .before .before .before .before .before .before .before .before .before .before .before .before .before .before .before .args in
     let l = c .before .before .before .before .before .before .before .before .loop in
     let ac : Accepted (a .formats .now) (a .schema .now) (a .lengths .now) (a .places .now) (a .body .now) (a .first) (a .n) (a .target) = (record { buffers = c .before .before .before .before .before .before .before .before .before .before .before .before .before .before .before .before .before .before .pre .0 .0; column-good = c .before .before .before .before .before .before .before .before .before .before .before .before .before .before .before .before .before .before .pre .0 .1; target-good = c .before .before .before .before .before .before .before .before .before .before .before .before .before .before .before .before .before .before .pre .1 }) in
-    (omega arith, search needs, subst (Fits (column (a .lengths .now) (a .places .now) [] (a .body .now) (a .first))) (sym (c .before .before .before .walk-node .ensures .1 [] (c .if1 .left))) (settle-fits (a .formats .now) (a .schema .now) (a .lengths .now) (a .places .now) (a .body .now) (a .first) (a .n) (a .target) ac (l .i) (omega arith) (treeOf (a .formats .now) (a .schema .now) (a .target) (a .n)) [] (a .plan .now) (l .ranges) (l .inv .2)), λ buffers g c2 room2 d. l .inv .3 buffers _ _ _ (nodes-more (treeOf (a .formats .now) (a .schema .now) (a .first) (a .n)) (treeOf (a .formats .now) (a .schema .now) (a .target) (a .n)) (column (a .lengths .now) (a .places .now) buffers (a .body .now) (a .first)) (a .plan .now) (a .parts .now) (a .write) (a .n - l .i) (a .n - (l .i + 1)) (l .i) (l .i + 1) (l .ranges) _ (l .counts) (l .room) (omega arith) refl (c .before .before .before .walk-node .ensures .0 buffers) (c .if1 .left) (c .before .before .before .walk-node .ensures .1 buffers (c .if1 .left)) d))
+    (omega arith, search needs, subst (Fits (column (a .lengths .now) (a .places .now) [] (a .body .now) (a .first))) (sym (c .before .before .before .walk-node .ensures .1 [] (c .if1 .left))) (settle-fits (a .formats .now) (a .schema .now) (a .lengths .now) (a .places .now) (a .body .now) (a .first) (a .n) (a .target) ac (l .i) (omega arith) (treeOf (a .formats .now) (a .schema .now) (a .target) (a .n)) [] (a .plan .now) (l .ranges) (l .inv .2)), λ buffers g c2 room2 d. l .inv .3 buffers _ _ _ (nodes-more (treeOf (a .formats .now) (a .schema .now) (a .first) (a .n)) (treeOf (a .formats .now) (a .schema .now) (a .target) (a .n)) (column (a .lengths .now) (a .places .now) buffers (a .body .now) (a .first)) (a .plan .now) (a .parts .now) (a .write) (a .n - l .i) (a .n - (l .i + 1)) (l .i) (l .i + 1) (l .ranges) _ (l .counters) (l .room) (omega arith) refl (c .before .before .before .walk-node .ensures .0 buffers) (c .if1 .left) (c .before .before .before .walk-node .ensures .1 buffers (c .if1 .left)) d))
 
 same-length-2 : tie.Need-same-length-2 Inv-loop μ-loop
 same-length-2 c = search needs
@@ -69,7 +69,7 @@ returns-2 : tie.Need-returns-2 Inv-loop μ-loop
 returns-2 c =
     let a = c .before .before .before .before .before .before .before .before .before .before .before .args in
     let l = c .before .loop in
-    λ buffers. l .inv .3 buffers _ _ _ (nodes-none (treeOf (a .formats .now) (a .schema .now) (a .first) (a .n)) (treeOf (a .formats .now) (a .schema .now) (a .target) (a .n)) (column (a .lengths .now) (a .places .now) buffers (a .body .now) (a .first)) (a .plan .now) (a .parts .now) (a .write) (a .n - l .i) (l .i) (l .ranges) (l .counts) (l .room) (omega arith))
+    λ buffers. l .inv .3 buffers _ _ _ (nodes-none (treeOf (a .formats .now) (a .schema .now) (a .first) (a .n)) (treeOf (a .formats .now) (a .schema .now) (a .target) (a .n)) (column (a .lengths .now) (a .places .now) buffers (a .body .now) (a .first)) (a .plan .now) (a .parts .now) (a .write) (a .n - l .i) (l .i) (l .ranges) (l .counters) (l .room) (omega arith))
 
 pub convert-walk-spec : {M : Type 1} → statement M
 convert-walk-spec = tie.close (tie.spec Inv-loop μ-loop length-at-requires array-write-ranges loop-holds walk-node-requires same-length returns add-i loop-less loop-again same-length-2 returns-2)

@@ -21,7 +21,7 @@ is-ends-at-requires c κs =
 returns : tie.Need-returns
 returns c =
     let a = c .before .before .before .before .before .before .before .before .before .before .args in
-    ((λ buffers. turn-ends (a .formats .now) (a .schema .now) (a .lengths .now) (a .places .now) buffers (a .body .now) (a .plan .now) (a .first) (a .count) (a .target) (a .i) (a .ranges .now) (a .parts .now) (a .write) (a .room .now) (a .counts .now) (c .before .is-ends-at .ensures) (c .if1 .taken)), λ buffers q. ends-settle (a .formats .now) (a .schema .now) (a .lengths .now) (a .places .now) (a .body .now) (a .first) (a .count) (a .target) (c .before .before .before .before .before .before .before .before .before .before .pre .0 .0) (a .i) (c .before .before .before .before .before .before .before .before .before .before .pre .0 .1) (treeOf (a .formats .now) (a .schema .now) (a .target) (a .count)) (column (a .lengths .now) (a .places .now) buffers (a .body .now) (a .first)) (a .plan .now) (a .ranges .now) (c .before .is-ends-at .ensures) (c .if1 .taken))
+    ((λ buffers. turn-ends (a .formats .now) (a .schema .now) (a .lengths .now) (a .places .now) buffers (a .body .now) (a .plan .now) (a .first) (a .count) (a .target) (a .i) (a .ranges .now) (a .parts .now) (a .write) (a .room .now) (a .counters .now) (c .before .is-ends-at .ensures) (c .if1 .taken)), λ buffers q. ends-settle (a .formats .now) (a .schema .now) (a .lengths .now) (a .places .now) (a .body .now) (a .first) (a .count) (a .target) (c .before .before .before .before .before .before .before .before .before .before .pre .0 .0) (a .i) (c .before .before .before .before .before .before .before .before .before .before .pre .0 .1) (treeOf (a .formats .now) (a .schema .now) (a .target) (a .count)) (column (a .lengths .now) (a .places .now) buffers (a .body .now) (a .first)) (a .plan .now) (a .ranges .now) (c .before .is-ends-at .ensures) (c .if1 .taken))
 
 offset-at-requires : tie.Need-offset-at-requires
 offset-at-requires c κs =
@@ -93,7 +93,7 @@ returns-2 : tie.Need-returns-2
 returns-2 c =
     let a = c .before .before .before .before .before .before .before .before .before .before .before .before .before .before .before .before .before .before .before .before .before .before .before .before .before .args in
     let e = ap (λ z. z + fromIn (a .ranges .now) (a .i)) (c .before .before .before .before .before .before .before .before .before .before .before .before .before .before .offset-at .ensures) in
-    ((λ buffers. turn-own (a .formats .now) (a .schema .now) (a .lengths .now) (a .places .now) buffers (a .body .now) (a .plan .now) (a .first) (a .count) (a .target) (a .i) (a .ranges .now) (a .parts .now) (a .write) (a .room .now) (a .counts .now) (c .before .before .before .before .before .before .before .before .before .before .before .before .before .before .before .before .is-ends-at .ensures) (c .before .before .before .before .before .before .before .before .before .before .before .before .before .before .before .if1 .left) e refl (c .before .before .before .before .before .before .before .before .before .before .put-bits .ensures (a .counts .now)) (c .before .before .before .before .before .before .add-rows .ensures) (c .before .before .walk-data .ensures .0 buffers)), λ buffers q. settle-own (a .formats .now) (a .schema .now) (a .lengths .now) (a .places .now) buffers (a .body .now) (a .plan .now) (a .first) (a .count) (a .target) (a .i) (a .ranges .now) e refl (c .before .before .walk-data .ensures .1 buffers q))
+    ((λ buffers. turn-own (a .formats .now) (a .schema .now) (a .lengths .now) (a .places .now) buffers (a .body .now) (a .plan .now) (a .first) (a .count) (a .target) (a .i) (a .ranges .now) (a .parts .now) (a .write) (a .room .now) (a .counters .now) (c .before .before .before .before .before .before .before .before .before .before .before .before .before .before .before .before .is-ends-at .ensures) (c .before .before .before .before .before .before .before .before .before .before .before .before .before .before .before .if1 .left) e refl (c .before .before .before .before .before .before .before .before .before .before .put-bits .ensures (a .counters .now)) (c .before .before .before .before .before .before .add-rows .ensures) (c .before .before .walk-data .ensures .0 buffers)), λ buffers q. settle-own (a .formats .now) (a .schema .now) (a .lengths .now) (a .places .now) buffers (a .body .now) (a .plan .now) (a .first) (a .count) (a .target) (a .i) (a .ranges .now) e refl (c .before .before .walk-data .ensures .1 buffers q))
 
 pub walk-node-spec : {M : Type 1} → statement M
 walk-node-spec = tie.close (tie.spec is-ends-at-requires returns offset-at-requires mul-s mul-s-2 element-copy-out-s add-s mul-n add-n mul-n-2 element-copy-out-n put-bits-requires add-rows-requires walk-data-requires same-length returns-2)

@@ -1,5 +1,5 @@
 -- `widths::convert` meets its contract. Assumes nothing.
-use Rattle.widths.proofs.Called.{make-large, make-refused, small-nodes, comes-from, column-good, target-good, make-walk, make-room, make-made, room-lengths, state-length}
+use Rattle.widths.proofs.Called.{make-large, make-refused, small-nodes, comes-from, column-good, target-good, make-walk, make-room, make-made, room-lengths, draft-length}
 use borrow.Author.Needs.{needs}
 use Rattle.widths.proofs.convert.Statement.{statement}
 use Rattle.widths.proofs.convert.Tie as tie
@@ -84,7 +84,7 @@ make-requires c κs =
     let g = c .before .before .before .before .before .before .before .before .before .before .before .before .before .before .before .before .before .if2 .left in
     let p = c .before .before .before .before .before .before .before .before .before .before .before .before .before .before .before .before .planned .ensures in
     let q = room-lengths _ _ _ _ _ _ (c .before .before .before .before .before .room-ground .ensures) (c .before .before .before .before .if4 .left) in (
-      (q .0, q .1, state-length (z .formats .now) (z .schema .now) (z .lengths .now) (z .places .now) (z .buffers .now) (z .body .now) (z .first) (z .n) (z .target) (z .target-n) e g _ p),
+      (q .0, q .1, draft-length (z .formats .now) (z .schema .now) (z .lengths .now) (z .places .now) (z .buffers .now) (z .body .now) (z .first) (z .n) (z .target) (z .target-n) e g _ p),
       (
         (z .buffers .now, column-good (z .formats .now) (z .schema .now) (z .lengths .now) (z .places .now) (z .buffers .now) (z .body .now) (z .first) (z .n) (z .target) (z .target-n) e g),
         target-good (z .formats .now) (z .schema .now) (z .lengths .now) (z .places .now) (z .buffers .now) (z .body .now) (z .first) (z .n) (z .target) (z .target-n) e g,

@@ -23,8 +23,8 @@ same-length c = search needs
 returns : tie.Need-returns
 returns c =
     let z = c .before .before .before .before .before .before .before .before .before .before .before .before .before .before .before .before .args in
-    let o : Out = openWalk (lent (z .state .now) (z .parts .now) (z .sources .now) (z .lengths .now) (z .places .now) (z .body .now)) (replicate 96 0) in
-    λ formats schema buffers keep gaps q. settled-no formats schema (z .sources .now) (tablesOf (z .lengths .now) (z .places .now) buffers (z .body .now)) keep gaps (z .parts .now) (z .plan .now) (z .counters .now) (z .room .now) q o (near-open (lent (z .state .now) (z .parts .now) (z .sources .now) (z .lengths .now) (z .places .now) (z .body .now)) (c .before .before .before .before .before .before .uncounted .ensures)) (c .before .before .before .open-walk .ensures) (c .if1 .taken)
+    let o : Out = openWalk (lent (z .draft .now) (z .parts .now) (z .sources .now) (z .lengths .now) (z .places .now) (z .body .now)) (replicate 96 0) in
+    λ formats schema buffers keep gaps q. settled-no formats schema (z .sources .now) (tablesOf (z .lengths .now) (z .places .now) buffers (z .body .now)) keep gaps (z .parts .now) (z .plan .now) (z .counters .now) (z .room .now) q o (near-open (lent (z .draft .now) (z .parts .now) (z .sources .now) (z .lengths .now) (z .places .now) (z .body .now)) (c .before .before .before .before .before .before .uncounted .ensures)) (c .before .before .before .open-walk .ensures) (c .if1 .taken)
 
 parts-hold-requires : tie.Need-parts-hold-requires
 parts-hold-requires c κs = search needs
@@ -35,8 +35,8 @@ same-length-2 c = search needs
 returns-2 : tie.Need-returns-2
 returns-2 c =
     let z = c .before .before .before .before .before .before .before .before .before .before .before .before .before .before .before .before .before .before .before .args in
-    let o : Out = openWalk (lent (z .state .now) (z .parts .now) (z .sources .now) (z .lengths .now) (z .places .now) (z .body .now)) (replicate 96 0) in
-    λ formats schema buffers keep gaps q. settled-over formats schema (z .sources .now) (tablesOf (z .lengths .now) (z .places .now) buffers (z .body .now)) keep gaps (z .parts .now) (z .plan .now) (z .counters .now) (z .room .now) q o (near-open (lent (z .state .now) (z .parts .now) (z .sources .now) (z .lengths .now) (z .places .now) (z .body .now)) (c .before .before .before .before .before .before .before .before .before .uncounted .ensures)) (c .before .before .before .before .before .before .open-walk .ensures) (c .before .before .before .if1 .left) (c .before .parts-hold .ensures) (c .if2 .taken)
+    let o : Out = openWalk (lent (z .draft .now) (z .parts .now) (z .sources .now) (z .lengths .now) (z .places .now) (z .body .now)) (replicate 96 0) in
+    λ formats schema buffers keep gaps q. settled-over formats schema (z .sources .now) (tablesOf (z .lengths .now) (z .places .now) buffers (z .body .now)) keep gaps (z .parts .now) (z .plan .now) (z .counters .now) (z .room .now) q o (near-open (lent (z .draft .now) (z .parts .now) (z .sources .now) (z .lengths .now) (z .places .now) (z .body .now)) (c .before .before .before .before .before .before .before .before .before .uncounted .ensures)) (c .before .before .before .before .before .before .open-walk .ensures) (c .before .before .before .if1 .left) (c .before .parts-hold .ensures) (c .if2 .taken)
 
 open-walk-requires-2 : tie.Need-open-walk-requires-2
 open-walk-requires-2 c κs = search needs
@@ -65,8 +65,8 @@ same-length-5 c = search needs
 returns-3 : tie.Need-returns-3
 returns-3 c =
     let z = c .before .before .before .before .before .before .before .before .before .before .before .before .before .before .before .before .before .before .before .before .before .before .before .before .before .before .before .before .before .before .before .before .before .before .args in
-    let o : Out = openWalk (lent (z .state .now) (z .parts .now) (z .sources .now) (z .lengths .now) (z .places .now) (z .body .now)) (replicate 96 0) in
-    λ formats schema buffers keep gaps q. settled-made formats schema (z .sources .now) (tablesOf (z .lengths .now) (z .places .now) buffers (z .body .now)) keep gaps (z .parts .now) (z .plan .now) (z .counters .now) (z .room .now) q o (near-open (lent (z .state .now) (z .parts .now) (z .sources .now) (z .lengths .now) (z .places .now) (z .body .now)) (c .before .before .before .before .before .before .before .before .before .before .before .before .before .before .before .before .before .before .before .before .before .before .before .before .uncounted .ensures)) (c .before .before .before .before .before .before .before .before .before .before .before .before .before .before .before .before .before .before .before .before .before .open-walk .ensures) (c .before .before .before .before .before .before .before .before .before .before .before .before .before .before .before .before .before .before .if1 .left) (c .before .before .before .before .before .before .before .before .before .before .before .before .before .before .before .before .parts-hold .ensures) (c .before .before .before .before .before .before .before .before .before .before .before .before .before .before .before .if2 .left) (c .before .before .before .before .before .before .before .before .before .before .before .before .open-walk2 .ensures) (c .before .before .before .before .before .before .store .ensures ∙ c .before .before .before .before .before .before .before .before .before .copied .ensures) (c .before .before .store2 .ensures)
+    let o : Out = openWalk (lent (z .draft .now) (z .parts .now) (z .sources .now) (z .lengths .now) (z .places .now) (z .body .now)) (replicate 96 0) in
+    λ formats schema buffers keep gaps q. settled-made formats schema (z .sources .now) (tablesOf (z .lengths .now) (z .places .now) buffers (z .body .now)) keep gaps (z .parts .now) (z .plan .now) (z .counters .now) (z .room .now) q o (near-open (lent (z .draft .now) (z .parts .now) (z .sources .now) (z .lengths .now) (z .places .now) (z .body .now)) (c .before .before .before .before .before .before .before .before .before .before .before .before .before .before .before .before .before .before .before .before .before .before .before .before .uncounted .ensures)) (c .before .before .before .before .before .before .before .before .before .before .before .before .before .before .before .before .before .before .before .before .before .open-walk .ensures) (c .before .before .before .before .before .before .before .before .before .before .before .before .before .before .before .before .before .before .if1 .left) (c .before .before .before .before .before .before .before .before .before .before .before .before .before .before .before .before .parts-hold .ensures) (c .before .before .before .before .before .before .before .before .before .before .before .before .before .before .before .if2 .left) (c .before .before .before .before .before .before .before .before .before .before .before .before .open-walk2 .ensures) (c .before .before .before .before .before .before .store .ensures ∙ c .before .before .before .before .before .before .before .before .before .copied .ensures) (c .before .before .store2 .ensures)
 
 pub make-spec : {M : Type 1} → statement M
 make-spec = tie.close (tie.spec uncounted-requires open-walk-requires same-length returns parts-hold-requires same-length-2 returns-2 open-walk-requires-2 copied-requires slice-aggregate-store store-requires store-requires-2 same-length-3 same-length-4 same-length-5 returns-3)

@@ -16,8 +16,8 @@ write-nulls-requires c κs = let p = c .before .before .before .before .before .
 write-dictionaries-requires : tie.Need-write-dictionaries-requires
 write-dictionaries-requires c κs = c .before .before .before .before .before .before .before .before .before .before .before .pre .1
 
-element-write-state : tie.Need-element-write-state
-element-write-state c = search needs
+element-write-plan : tie.Need-element-write-plan
+element-write-plan c = search needs
 
 write-parts-requires : tie.Need-write-parts-requires
 write-parts-requires c κs = c .before .before .before .before .before .before .before .before .before .before .before .before .before .pre .1
@@ -25,8 +25,8 @@ write-parts-requires c κs = c .before .before .before .before .before .before .
 part-total-requires : tie.Need-part-total-requires
 part-total-requires c κs = search needs
 
-element-write-state-2 : tie.Need-element-write-state-2
-element-write-state-2 c = search needs
+element-write-plan-2 : tie.Need-element-write-plan-2
+element-write-plan-2 c = search needs
 
 returns : tie.Need-returns
 returns c =
@@ -34,4 +34,4 @@ returns c =
     anew-by (z .formats .now) (z .schema .now) (z .target) (z .n) (keepsFrom (tables (z .lengths .now) (z .places .now) (z .body .now)) (z .first) (z .from .now)) (z .joined) (z .kept) (c .before .before .before .before .before .before .before .before .before .write-type .ensures) (c .before .before .before .before .before .before .before .write-nulls .ensures) (c .before .before .before .before .before .write-dictionaries .ensures) (c .before .before .before .write-parts .ensures) (c .part-total .ensures .0)
 
 pub plan-anew-spec : {M : Type 1} → statement M
-plan-anew-spec = tie.close (tie.spec write-type-requires write-nulls-requires write-dictionaries-requires element-write-state write-parts-requires part-total-requires element-write-state-2 returns)
+plan-anew-spec = tie.close (tie.spec write-type-requires write-nulls-requires write-dictionaries-requires element-write-plan write-parts-requires part-total-requires element-write-plan-2 returns)

@@ -10,7 +10,7 @@ room-placed-requires c κs = search needs
 returns : tie.Need-returns
 returns c =
     let z = c .before .before .before .before .args in
-    room-badly (z .state .now) (z .counts .now) (z .parts .now) (z .words) (z .counters) (z .m) (c .before .room-placed .ensures) (c .if1 .taken)
+    room-badly (z .plan .now) (z .tally .now) (z .parts .now) (z .words) (z .counters) (z .m) (c .before .room-placed .ensures) (c .if1 .taken)
 
 parts-hold-requires : tie.Need-parts-hold-requires
 parts-hold-requires c κs = search needs
@@ -18,12 +18,12 @@ parts-hold-requires c κs = search needs
 returns-2 : tie.Need-returns-2
 returns-2 c =
     let z = c .before .before .before .before .before .before .args in
-    room-small (z .state .now) (z .counts .now) (z .parts .now) (z .words) (z .counters) (z .m) (c .before .before .before .room-placed .ensures) (c .before .before .if1 .left) (c .before .parts-hold .ensures) (c .if2 .taken)
+    room-small (z .plan .now) (z .tally .now) (z .parts .now) (z .words) (z .counters) (z .m) (c .before .before .before .room-placed .ensures) (c .before .before .if1 .left) (c .before .parts-hold .ensures) (c .if2 .taken)
 
 returns-3 : tie.Need-returns-3
 returns-3 c =
     let z = c .before .before .before .before .before .before .args in
-    room-good (z .state .now) (z .counts .now) (z .parts .now) (z .words) (z .counters) (z .m) (c .before .before .before .room-placed .ensures) (c .before .before .if1 .left) (c .before .parts-hold .ensures) (c .if2 .left)
+    room-good (z .plan .now) (z .tally .now) (z .parts .now) (z .words) (z .counters) (z .m) (c .before .before .before .room-placed .ensures) (c .before .before .if1 .left) (c .before .parts-hold .ensures) (c .if2 .left)
 
 pub room-ground-spec : {M : Type 1} → statement M
 room-ground-spec = tie.close (tie.spec room-placed-requires returns parts-hold-requires returns-2 returns-3)

@@ -16,7 +16,7 @@ slot-of-requires c κs = search needs
 returns : tie.Need-returns
 returns c =
     let a = c .before .before .before .before .before .before .before .before .args in
-    λ source. node-far (join (a .state .now) (a .parts .now) (a .lengths .now) (a .places .now) (a .body .now) (a .first) source) (c .before .before .before .before .before .before .before .before .pre .1) (a .a) (a .n) (a .write) (a .counts .now) (a .room .now) (c .before .slot-of .ensures (a .state .now) (a .parts .now) (a .places .now) (a .body .now) source) (c .if1 .taken)
+    λ source. node-far (join (a .plan .now) (a .parts .now) (a .lengths .now) (a .places .now) (a .body .now) (a .first) source) (c .before .before .before .before .before .before .before .before .pre .1) (a .a) (a .n) (a .write) (a .counters .now) (a .room .now) (c .before .slot-of .ensures (a .plan .now) (a .parts .now) (a .places .now) (a .body .now) source) (c .if1 .taken)
 
 copy-data-requires : tie.Need-copy-data-requires
 copy-data-requires c κs =
@@ -29,7 +29,7 @@ same-length c = search needs
 returns-2 : tie.Need-returns-2
 returns-2 c =
     let a = c .before .before .before .before .before .before .before .before .before .before .before .before .before .before .args in
-    λ source. node-stop (join (a .state .now) (a .parts .now) (a .lengths .now) (a .places .now) (a .body .now) (a .first) source) (c .before .before .before .before .before .before .before .before .before .before .before .before .before .before .pre .1) (a .a) (a .n) (a .write) (a .counts .now) (a .room .now) (c .before .before .before .before .before .before .before .slot-of .ensures (a .state .now) (a .parts .now) (a .places .now) (a .body .now) source) (c .before .before .before .before .before .before .if1 .left) (c .before .before .before .copy-data .ensures source) (c .if2 .taken)
+    λ source. node-stop (join (a .plan .now) (a .parts .now) (a .lengths .now) (a .places .now) (a .body .now) (a .first) source) (c .before .before .before .before .before .before .before .before .before .before .before .before .before .before .pre .1) (a .a) (a .n) (a .write) (a .counters .now) (a .room .now) (c .before .before .before .before .before .before .before .slot-of .ensures (a .plan .now) (a .parts .now) (a .places .now) (a .body .now) source) (c .before .before .before .before .before .before .if1 .left) (c .before .before .before .copy-data .ensures source) (c .if2 .taken)
 
 add-rows-requires : tie.Need-add-rows-requires
 add-rows-requires c κs = search needs
@@ -40,7 +40,7 @@ same-length-2 c = search needs
 returns-3 : tie.Need-returns-3
 returns-3 c =
     let a = c .before .before .before .before .before .before .before .before .before .before .before .before .before .before .before .before .args in
-    λ source. node-done (join (a .state .now) (a .parts .now) (a .lengths .now) (a .places .now) (a .body .now) (a .first) source) (c .before .before .before .before .before .before .before .before .before .before .before .before .before .before .before .before .pre .1) (a .a) (a .n) (a .write) (a .counts .now) (a .room .now) (c .before .before .before .before .before .before .before .before .before .slot-of .ensures (a .state .now) (a .parts .now) (a .places .now) (a .body .now) source) (c .before .before .before .before .before .before .before .before .if1 .left) (c .before .before .before .before .before .copy-data .ensures source) (c .before .before .if2 .left) (c .add-rows .ensures)
+    λ source. node-done (join (a .plan .now) (a .parts .now) (a .lengths .now) (a .places .now) (a .body .now) (a .first) source) (c .before .before .before .before .before .before .before .before .before .before .before .before .before .before .before .before .pre .1) (a .a) (a .n) (a .write) (a .counters .now) (a .room .now) (c .before .before .before .before .before .before .before .before .before .slot-of .ensures (a .plan .now) (a .parts .now) (a .places .now) (a .body .now) source) (c .before .before .before .before .before .before .before .before .if1 .left) (c .before .before .before .before .before .copy-data .ensures source) (c .before .before .if2 .left) (c .add-rows .ensures)
 
 pub copy-by-stretches-spec : {M : Type 1} → statement M
 copy-by-stretches-spec = tie.close (tie.spec slot-of-requires returns copy-data-requires same-length returns-2 add-rows-requires same-length-2 returns-3)

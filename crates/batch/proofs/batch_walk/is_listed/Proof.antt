@@ -11,19 +11,19 @@ is-list-view-requires : tie.Need-is-list-view-requires
 is-list-view-requires c κs = search needs
 
 returns : tie.Need-returns
-returns c = not-listed (c .before .before .before .before .args .state .now) (c .before .before .code-of .ensures) (c .before .is-list-view .ensures) (c .if1 .taken)
+returns c = not-listed (c .before .before .before .before .args .plan .now) (c .before .before .code-of .ensures) (c .before .is-list-view .ensures) (c .if1 .taken)
 
 keeps-of-requires : tie.Need-keeps-of-requires
 keeps-of-requires c κs = search needs
 
 returns-2 : tie.Need-returns-2
-returns-2 c = not-kept (c .before .before .before .before .before .before .args .state .now) (c .before .before .before .before .code-of .ensures) (c .before .before .before .is-list-view .ensures) (c .before .before .if1 .left) (c .before .keeps-of .ensures) (c .if2 .taken)
+returns-2 c = not-kept (c .before .before .before .before .before .before .args .plan .now) (c .before .before .before .before .code-of .ensures) (c .before .before .before .is-list-view .ensures) (c .before .before .if1 .left) (c .before .keeps-of .ensures) (c .if2 .taken)
 
 is-plain-requires : tie.Need-is-plain-requires
 is-plain-requires c κs = search needs
 
 returns-3 : tie.Need-returns-3
-returns-3 c = of-plain (c .before .before .before .before .before .before .before .args .state .now) (c .before .before .before .before .before .code-of .ensures) (c .before .before .before .before .is-list-view .ensures) (c .before .before .before .if1 .left) (c .before .before .keeps-of .ensures) (c .before .if2 .left) (c .is-plain .ensures)
+returns-3 c = of-plain (c .before .before .before .before .before .before .before .args .plan .now) (c .before .before .before .before .before .code-of .ensures) (c .before .before .before .before .is-list-view .ensures) (c .before .before .before .if1 .left) (c .before .before .keeps-of .ensures) (c .before .if2 .left) (c .is-plain .ensures)
 
 pub is-listed-spec : {M : Type 1} → statement M
 is-listed-spec = tie.close (tie.spec code-of-requires is-list-view-requires returns keeps-of-requires returns-2 is-plain-requires returns-3)

@@ -20,7 +20,7 @@ width-at-requires : tie.Need-width-at-requires
 width-at-requires c κs = search needs
 
 all-reached-requires : tie.Need-all-reached-requires
-all-reached-requires c κs = (c .before .before .before .before .before .before .before .pre .0 .0, c .before .before .before .before .before .before .before .pre .0 .1, plain-wide (c .before .before .before .before .before .before .before .args .state .now) (c .before .before .before .before .before .before .before .args .k) (c .width-at .ensures) (c .before .before .before .before .before .before .before .pre .0 .2) .1)
+all-reached-requires c κs = (c .before .before .before .before .before .before .before .pre .0 .0, c .before .before .before .before .before .before .before .pre .0 .1, plain-wide (c .before .before .before .before .before .before .before .args .plan .now) (c .before .before .before .before .before .before .before .args .k) (c .width-at .ensures) (c .before .before .before .before .before .before .before .pre .0 .2) .1)
 
 add-rows-requires : tie.Need-add-rows-requires
 add-rows-requires c κs = search needs
@@ -30,12 +30,12 @@ returns c =
     let a = c .before .before .before .before .before .before .before .before .before .before .before .args in
     let h : ℕ → ℕ = λ q. homeBy (a .homes .now) (a .body .now) (a .ids + (a .slot + q)) in
     let p : ℕ → ℕ = λ q. entry 4 (a .body .now) (a .positions) (a .slot + q) in
-    λ source. tried (join (a .state .now) (a .parts .now) (a .lengths .now) (a .places .now) (a .body .now) (a .first) source) (a .k) (c .before .before .before .before .before .before .before .before .before .before .before .pre .0 .2) (c .before .before .before .before .before .before .before .before .before .before .before .pre .0 .1) (takesFrom h p (a .k)) (takesOf h (a .k)) (a .n) (a .counts .now) (a .room .now) (a .write) (c .before .before .before .before .width-at .ensures) (c .before .before .before .all-reached .ensures (a .state .now) (a .parts .now) source ∙ ap (λ v. not (a .write) && reached (join (a .state .now) (a .parts .now) (a .lengths .now) (a .places .now) (a .body .now) (a .first) source) (a .k) (c .before .before .before .before .width-at .result) v) (c .before .before .before .before .before .before .before .before .before .before .before .pre .1 .1 .0 .1)) (c .before .before .if1 .taken) (c .before .before .before .before .before .before .before .before .before .before .before .pre .1 .1 .0 .0) (c .add-rows .ensures)
+    λ source. tried (join (a .plan .now) (a .parts .now) (a .lengths .now) (a .places .now) (a .body .now) (a .first) source) (a .k) (c .before .before .before .before .before .before .before .before .before .before .before .pre .0 .2) (c .before .before .before .before .before .before .before .before .before .before .before .pre .0 .1) (takesFrom h p (a .k)) (takesOf h (a .k)) (a .n) (a .counters .now) (a .room .now) (a .write) (c .before .before .before .before .width-at .ensures) (c .before .before .before .all-reached .ensures (a .plan .now) (a .parts .now) source ∙ ap (λ v. not (a .write) && reached (join (a .plan .now) (a .parts .now) (a .lengths .now) (a .places .now) (a .body .now) (a .first) source) (a .k) (c .before .before .before .before .width-at .result) v) (c .before .before .before .before .before .before .before .before .before .before .before .pre .1 .1 .0 .1)) (c .before .before .if1 .taken) (c .before .before .before .before .before .before .before .before .before .before .before .pre .1 .1 .0 .0) (c .add-rows .ensures)
 
 copy-stretch-requires : tie.Need-copy-stretch-requires
 copy-stretch-requires c κs =
     let a = c .before .before .before .before .before .before .before .before .before .before .before .before .args in
-    let v = plain-wide (a .state .now) (a .k) (c .before .before .before .before .before .width-at .ensures) (c .before .before .before .before .before .before .before .before .before .before .before .before .pre .0 .2) in
+    let v = plain-wide (a .plan .now) (a .k) (c .before .before .before .before .before .width-at .ensures) (c .before .before .before .before .before .before .before .before .before .before .before .before .pre .0 .2) in
     (c .before .before .before .before .before .before .before .before .before .before .before .before .pre .0 .0, c .before .before .before .before .before .before .before .before .before .before .before .before .pre .0 .1, v .0, v .1, c .before .before .before .before .before .width-at .ensures, c .before .before .before .before .before .before .before .before .before .before .before .before .pre .0 .2)
 
 same-length : tie.Need-same-length
@@ -44,7 +44,7 @@ same-length c = search needs
 returns-2 : tie.Need-returns-2
 returns-2 c =
     let a = c .before .before .before .before .before .before .before .before .before .before .before .before .before .before .before .args in
-    λ source. rw (c .before .before .before .before .before .before .before .before .before .before .before .before .before .before .before .pre .1 .1 .1 (c .before .before .before .before .before .if2 .taken) (λ b j d. batchLeaf (join (a .state .now) (a .parts .now) (a .lengths .now) (a .places .now) (a .body .now) (a .first) source) (a .k) b j d) (a .counts .now)) (c .before .before .copy-stretch .ensures source)
+    λ source. rw (c .before .before .before .before .before .before .before .before .before .before .before .before .before .before .before .pre .1 .1 .1 (c .before .before .before .before .before .if2 .taken) (λ b j d. batchLeaf (join (a .plan .now) (a .parts .now) (a .lengths .now) (a .places .now) (a .body .now) (a .first) source) (a .k) b j d) (a .counters .now)) (c .before .before .copy-stretch .ensures source)
 
 copy-stretches-requires : tie.Need-copy-stretches-requires
 copy-stretches-requires c κs = (c .before .before .before .before .before .before .before .before .before .before .before .before .pre .0, c .before .before .before .before .before .before .before .before .before .before .before .before .pre .1 .0)

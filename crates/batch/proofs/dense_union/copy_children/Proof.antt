@@ -21,13 +21,13 @@ use Rattle.batch.proofs.dense_union.copy_children.Statement.{statement}
 use Rattle.batch.proofs.dense_union.copy_children.Tie as tie
 
 abbrev Inv-loop : tie.InvT-loop
-Inv-loop state parts lengths places body counts₀ room₀ write first homes begins taken ends whole ids positions i slot n last k₀ t₀ counts room k t =
+Inv-loop plan parts lengths places body counters₀ room₀ write first homes begins taken ends whole ids positions i slot n last k₀ t₀ counters room k t =
     (t ≤ 32) × (i < k) × (length room ≡ length room₀)
-    × ((source : ℕ) → Rest state parts write (batchFields (join state parts lengths places body first source) (batchLeaf (join state parts lengths places body first source)) i slot n (endOf state i) 32 (suc i) counts₀) room₀
-    (batchFields (join state parts lengths places body first source) (batchLeaf (join state parts lengths places body first source)) i slot n last (32 - t) k counts) room)
+    × ((source : ℕ) → Rest plan parts write (batchFields (join plan parts lengths places body first source) (batchLeaf (join plan parts lengths places body first source)) i slot n (endOf plan i) 32 (suc i) counters₀) room₀
+    (batchFields (join plan parts lengths places body first source) (batchLeaf (join plan parts lengths places body first source)) i slot n last (32 - t) k counters) room)
 
 abbrev μ-loop : tie.MeasureT-loop
-μ-loop state parts lengths places body counts₀ room₀ write first homes begins taken ends whole ids positions i slot n last k₀ t₀ counts room k t = 32 - t
+μ-loop plan parts lengths places body counters₀ room₀ write first homes begins taken ends whole ids positions i slot n last k₀ t₀ counters room k t = 32 - t
 
 end-of-requires : tie.Need-end-of-requires Inv-loop μ-loop
 end-of-requires c κs = search needs
@@ -47,7 +47,7 @@ returns : tie.Need-returns Inv-loop μ-loop
 returns c =
     let a = c .before .before .before .before .before .before .before .before .before .before .args in
     let l = c .before .before .loop in
-    λ source. l .inv .3 source 0 (l .counts) (l .room) (fields-end (join (a .state .now) (a .parts .now) (a .lengths .now) (a .places .now) (a .body .now) (a .first) source) (a .i) (a .slot) (a .n) (a .write) (l .counts) (l .room) (c .before .before .before .end-of .result) (32 - l .t) (l .k) (c .if1 .taken))
+    λ source. l .inv .3 source 0 (l .counters) (l .room) (fields-end (join (a .plan .now) (a .parts .now) (a .lengths .now) (a .places .now) (a .body .now) (a .first) source) (a .i) (a .slot) (a .n) (a .write) (l .counters) (l .room) (c .before .before .before .end-of .result) (32 - l .t) (l .k) (c .if1 .taken))
 
 end-of-requires-2 : tie.Need-end-of-requires-2 Inv-loop μ-loop
 end-of-requires-2 c κs = search needs
@@ -60,7 +60,7 @@ returns-2 c =
     let a = c .before .before .before .before .before .before .before .before .before .before .before .before .args in
     let l = c .before .before .before .before .loop in
     let y : 32 - l .t ≡ suc (32 - (l .t + 1)) = omega arith in
-    λ source. l .inv .3 source 12 (l .counts) (l .room) (fields-turned (join (a .state .now) (a .parts .now) (a .lengths .now) (a .places .now) (a .body .now) (a .first) source) (a .i) (a .slot) (a .n) (a .write) (l .counts) (l .room) (c .before .before .before .before .before .end-of .result) (32 - l .t) (l .k) y (c .before .before .if1 .left) (c .before .end-of2 .ensures .0) (c .if2 .taken))
+    λ source. l .inv .3 source 12 (l .counters) (l .room) (fields-turned (join (a .plan .now) (a .parts .now) (a .lengths .now) (a .places .now) (a .body .now) (a .first) source) (a .i) (a .slot) (a .n) (a .write) (l .counters) (l .room) (c .before .before .before .before .before .end-of .result) (32 - l .t) (l .k) y (c .before .before .if1 .left) (c .before .end-of2 .ensures .0) (c .if2 .taken))
 
 is-owned-requires : tie.Need-is-owned-requires Inv-loop μ-loop
 is-owned-requires c κs = search needs
@@ -73,7 +73,7 @@ returns-3 c =
     let a = c .before .before .before .before .before .before .before .before .before .before .before .before .before .before .args in
     let l = c .before .before .before .before .before .before .loop in
     let y : 32 - l .t ≡ suc (32 - (l .t + 1)) = omega arith in
-    λ source. l .inv .3 source 12 (l .counts) (l .room) (fields-bare (join (a .state .now) (a .parts .now) (a .lengths .now) (a .places .now) (a .body .now) (a .first) source) (a .i) (a .slot) (a .n) (a .write) (l .counts) (l .room) (c .before .before .before .before .before .before .before .end-of .result) (32 - l .t) (l .k) y (c .before .before .before .before .if1 .left) (c .before .before .before .end-of2 .ensures .0) (c .before .before .if2 .left) (c .before .is-owned .ensures) (c .if3 .taken))
+    λ source. l .inv .3 source 12 (l .counters) (l .room) (fields-bare (join (a .plan .now) (a .parts .now) (a .lengths .now) (a .places .now) (a .body .now) (a .first) source) (a .i) (a .slot) (a .n) (a .write) (l .counters) (l .room) (c .before .before .before .before .before .before .before .end-of .result) (32 - l .t) (l .k) y (c .before .before .before .before .if1 .left) (c .before .before .before .end-of2 .ensures .0) (c .before .before .if2 .left) (c .before .is-owned .ensures) (c .if3 .taken))
 
 mul-copy-child : tie.Need-mul-copy-child Inv-loop μ-loop
 mul-copy-child c = omega arith
@@ -111,7 +111,7 @@ returns-4 c =
     let a = c .before .before .before .before .before .before .before .before .before .before .before .before .before .before .before .before .before .before .before .before .before .before .before .args in
     let l = c .before .before .before .before .before .before .before .before .before .before .before .before .before .before .before .loop in
     let y : 32 - l .t ≡ suc (32 - (l .t + 1)) = omega arith in
-    λ source. l .inv .3 source (c .before .before .before .copy-child .result) _ _ (fields-stop (join (a .state .now) (a .parts .now) (a .lengths .now) (a .places .now) (a .body .now) (a .first) source) (a .i) (a .slot) (a .n) (a .write) (l .counts) (l .room) (c .before .before .before .before .before .before .before .before .before .before .before .before .before .before .before .before .end-of .result) (32 - l .t) (l .k) y (c .before .before .before .before .before .before .before .before .before .before .before .before .before .if1 .left) (c .before .before .before .before .before .before .before .before .before .before .before .before .end-of2 .ensures .0) (c .before .before .before .before .before .before .before .before .before .before .before .if2 .left) (c .before .before .before .before .before .before .before .before .before .before .is-owned .ensures) (c .before .before .before .before .before .before .before .before .before .if3 .left) (child-same (λ b j d. batchLeaf (join (a .state .now) (a .parts .now) (a .lengths .now) (a .places .now) (a .body .now) (a .first) source) (l .k) b j d) (l .k) (a .n) (l .counts) (homes-same (join (a .state .now) (a .parts .now) (a .lengths .now) (a .places .now) (a .body .now) (a .first) source) (a .i) (a .slot) (a .homes .now) (c .before .before .before .before .before .before .before .before .before .before .before .before .before .before .before .before .before .before .before .before .before .before .before .pre .1 .1 .0 .0) (λ q. c .before .before .before .before .before .before .before .before .before .before .before .before .before .before .before .before .before .before .shared-slice-known5 .given q .fits) (c .before .before .before .before .before .before .before .before .before .before .before .before .before .before .before .before .before .before .before .before .before .before .before .pre .1 .1 .0 .1)) (positions-same (join (a .state .now) (a .parts .now) (a .lengths .now) (a .places .now) (a .body .now) (a .first) source) (a .i) (a .slot) (c .before .before .before .before .before .before .before .before .before .before .before .before .before .before .before .before .before .before .before .before .before .before .before .pre .1 .1 .0 .2)) (c .before .before .before .copy-child .ensures source)) (c .if4 .taken))
+    λ source. l .inv .3 source (c .before .before .before .copy-child .result) _ _ (fields-stop (join (a .plan .now) (a .parts .now) (a .lengths .now) (a .places .now) (a .body .now) (a .first) source) (a .i) (a .slot) (a .n) (a .write) (l .counters) (l .room) (c .before .before .before .before .before .before .before .before .before .before .before .before .before .before .before .before .end-of .result) (32 - l .t) (l .k) y (c .before .before .before .before .before .before .before .before .before .before .before .before .before .if1 .left) (c .before .before .before .before .before .before .before .before .before .before .before .before .end-of2 .ensures .0) (c .before .before .before .before .before .before .before .before .before .before .before .if2 .left) (c .before .before .before .before .before .before .before .before .before .before .is-owned .ensures) (c .before .before .before .before .before .before .before .before .before .if3 .left) (child-same (λ b j d. batchLeaf (join (a .plan .now) (a .parts .now) (a .lengths .now) (a .places .now) (a .body .now) (a .first) source) (l .k) b j d) (l .k) (a .n) (l .counters) (homes-same (join (a .plan .now) (a .parts .now) (a .lengths .now) (a .places .now) (a .body .now) (a .first) source) (a .i) (a .slot) (a .homes .now) (c .before .before .before .before .before .before .before .before .before .before .before .before .before .before .before .before .before .before .before .before .before .before .before .pre .1 .1 .0 .0) (λ q. c .before .before .before .before .before .before .before .before .before .before .before .before .before .before .before .before .before .before .shared-slice-known5 .given q .fits) (c .before .before .before .before .before .before .before .before .before .before .before .before .before .before .before .before .before .before .before .before .before .before .before .pre .1 .1 .0 .1)) (positions-same (join (a .plan .now) (a .parts .now) (a .lengths .now) (a .places .now) (a .body .now) (a .first) source) (a .i) (a .slot) (c .before .before .before .before .before .before .before .before .before .before .before .before .before .before .before .before .before .before .before .before .before .before .before .pre .1 .1 .0 .2)) (c .before .before .before .copy-child .ensures source)) (c .if4 .taken))
 
 add-t : tie.Need-add-t Inv-loop μ-loop
 add-t c = omega arith
@@ -127,7 +127,7 @@ loop-again c =
       omega arith,
       omega arith,
       omega arith,
-      λ source g2 c2 room2 q2. l .inv .3 source g2 c2 room2 (fields-more (join (a .state .now) (a .parts .now) (a .lengths .now) (a .places .now) (a .body .now) (a .first) source) (a .i) (a .slot) (a .n) (a .write) (l .counts) (l .room) (c .before .before .before .before .before .before .before .before .before .before .before .before .before .before .before .before .end-of .result) (32 - l .t) (l .k) y (c .before .before .before .before .before .before .before .before .before .before .before .before .before .if1 .left) (c .before .before .before .before .before .before .before .before .before .before .before .before .end-of2 .ensures .0) (c .before .before .before .before .before .before .before .before .before .before .before .if2 .left) (c .before .before .before .before .before .before .before .before .before .before .is-owned .ensures) (c .before .before .before .before .before .before .before .before .before .if3 .left) (child-same (λ b j d. batchLeaf (join (a .state .now) (a .parts .now) (a .lengths .now) (a .places .now) (a .body .now) (a .first) source) (l .k) b j d) (l .k) (a .n) (l .counts) (homes-same (join (a .state .now) (a .parts .now) (a .lengths .now) (a .places .now) (a .body .now) (a .first) source) (a .i) (a .slot) (a .homes .now) (c .before .before .before .before .before .before .before .before .before .before .before .before .before .before .before .before .before .before .before .before .before .before .before .pre .1 .1 .0 .0) (λ q. c .before .before .before .before .before .before .before .before .before .before .before .before .before .before .before .before .before .before .shared-slice-known5 .given q .fits) (c .before .before .before .before .before .before .before .before .before .before .before .before .before .before .before .before .before .before .before .before .before .before .before .pre .1 .1 .0 .1)) (positions-same (join (a .state .now) (a .parts .now) (a .lengths .now) (a .places .now) (a .body .now) (a .first) source) (a .i) (a .slot) (c .before .before .before .before .before .before .before .before .before .before .before .before .before .before .before .before .before .before .before .before .before .before .before .pre .1 .1 .0 .2)) (c .before .before .before .copy-child .ensures source)) (c .if4 .left) q2),
+      λ source g2 c2 room2 q2. l .inv .3 source g2 c2 room2 (fields-more (join (a .plan .now) (a .parts .now) (a .lengths .now) (a .places .now) (a .body .now) (a .first) source) (a .i) (a .slot) (a .n) (a .write) (l .counters) (l .room) (c .before .before .before .before .before .before .before .before .before .before .before .before .before .before .before .before .end-of .result) (32 - l .t) (l .k) y (c .before .before .before .before .before .before .before .before .before .before .before .before .before .if1 .left) (c .before .before .before .before .before .before .before .before .before .before .before .before .end-of2 .ensures .0) (c .before .before .before .before .before .before .before .before .before .before .before .if2 .left) (c .before .before .before .before .before .before .before .before .before .before .is-owned .ensures) (c .before .before .before .before .before .before .before .before .before .if3 .left) (child-same (λ b j d. batchLeaf (join (a .plan .now) (a .parts .now) (a .lengths .now) (a .places .now) (a .body .now) (a .first) source) (l .k) b j d) (l .k) (a .n) (l .counters) (homes-same (join (a .plan .now) (a .parts .now) (a .lengths .now) (a .places .now) (a .body .now) (a .first) source) (a .i) (a .slot) (a .homes .now) (c .before .before .before .before .before .before .before .before .before .before .before .before .before .before .before .before .before .before .before .before .before .before .before .pre .1 .1 .0 .0) (λ q. c .before .before .before .before .before .before .before .before .before .before .before .before .before .before .before .before .before .before .shared-slice-known5 .given q .fits) (c .before .before .before .before .before .before .before .before .before .before .before .before .before .before .before .before .before .before .before .before .before .before .before .pre .1 .1 .0 .1)) (positions-same (join (a .plan .now) (a .parts .now) (a .lengths .now) (a .places .now) (a .body .now) (a .first) source) (a .i) (a .slot) (c .before .before .before .before .before .before .before .before .before .before .before .before .before .before .before .before .before .before .before .before .before .before .before .pre .1 .1 .0 .2)) (c .before .before .before .copy-child .ensures source)) (c .if4 .left) q2),
     )
 
 same-length-5 : tie.Need-same-length-5 Inv-loop μ-loop
@@ -137,7 +137,7 @@ returns-5 : tie.Need-returns-5 Inv-loop μ-loop
 returns-5 c =
     let a = c .before .before .before .before .before .before .before .before .before .args in
     let l = c .before .loop in
-    λ source. l .inv .3 source 0 (l .counts) (l .room) (fields-none (join (a .state .now) (a .parts .now) (a .lengths .now) (a .places .now) (a .body .now) (a .first) source) (a .i) (a .slot) (a .n) (a .write) (l .counts) (l .room) (c .before .before .end-of .result) (32 - l .t) (l .k) (omega arith))
+    λ source. l .inv .3 source 0 (l .counters) (l .room) (fields-none (join (a .plan .now) (a .parts .now) (a .lengths .now) (a .places .now) (a .body .now) (a .first) source) (a .i) (a .slot) (a .n) (a .write) (l .counters) (l .room) (c .before .before .end-of .result) (32 - l .t) (l .k) (omega arith))
 
 pub copy-children-spec : {M : Type 1} → statement M
 copy-children-spec = tie.close (tie.spec Inv-loop μ-loop end-of-requires add-k loop-holds same-length returns end-of-requires-2 same-length-2 returns-2 is-owned-requires same-length-3 returns-3 mul-copy-child element-copy-out-copy-child mul-copy-child-2 element-copy-out-copy-child-2 mul-copy-child-3 element-copy-out-copy-child-3 copy-child-requires same-length-4 returns-4 add-t loop-less loop-again same-length-5 returns-5)

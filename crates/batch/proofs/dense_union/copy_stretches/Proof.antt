@@ -22,13 +22,13 @@ use Rattle.batch.proofs.dense_union.copy_stretches.Statement.{statement
 use Rattle.batch.proofs.dense_union.copy_stretches.Tie as tie
 
 abbrev Inv-loop : tie.InvT-loop
-Inv-loop state parts lengths places body counts₀ room₀ write first homes ids positions slot n k w a₀ m₀ r₀ counts room a m r =
+Inv-loop plan parts lengths places body counters₀ room₀ write first homes ids positions slot n k w a₀ m₀ r₀ counters room a m r =
     (r ≤ n) × (length room ≡ length room₀) × (m ≤ r)
-    × ((source : ℕ) → Rest state parts write (stretches (λ b j d. batchLeaf (join state parts lengths places body first source) k b j d) (takesFrom (λ q. homeBy homes body (ids + (slot + q))) (λ q. entry 4 body positions (slot + q)) k) (takesOf (λ q. homeBy homes body (ids + (slot + q))) k) n counts₀) room₀
-    (stretch (λ b j d. batchLeaf (join state parts lengths places body first source) k b j d) (takesFrom (λ q. homeBy homes body (ids + (slot + q))) (λ q. entry 4 body positions (slot + q)) k) (takesOf (λ q. homeBy homes body (ids + (slot + q))) k) (n - r) r a m counts) room)
+    × ((source : ℕ) → Rest plan parts write (stretches (λ b j d. batchLeaf (join plan parts lengths places body first source) k b j d) (takesFrom (λ q. homeBy homes body (ids + (slot + q))) (λ q. entry 4 body positions (slot + q)) k) (takesOf (λ q. homeBy homes body (ids + (slot + q))) k) n counters₀) room₀
+    (stretch (λ b j d. batchLeaf (join plan parts lengths places body first source) k b j d) (takesFrom (λ q. homeBy homes body (ids + (slot + q))) (λ q. entry 4 body positions (slot + q)) k) (takesOf (λ q. homeBy homes body (ids + (slot + q))) k) (n - r) r a m counters) room)
 
 abbrev μ-loop : tie.MeasureT-loop
-μ-loop state parts lengths places body counts₀ room₀ write first homes ids positions slot n k w a₀ m₀ r₀ counts room a m r = n + 1 - r
+μ-loop plan parts lengths places body counters₀ room₀ write first homes ids positions slot n k w a₀ m₀ r₀ counters room a m r = n + 1 - r
 
 width-at-requires : tie.Need-width-at-requires Inv-loop μ-loop
 width-at-requires c κs = search needs
@@ -42,7 +42,7 @@ advance-requires c κs = (c .before .before .before .before .before .before .bef
 copy-stretch-requires : tie.Need-copy-stretch-requires Inv-loop μ-loop
 copy-stretch-requires c κs =
     let a = c .before .before .before .before .before .before .before .before .before .before .before .before .args in
-    let v = plain-wide (a .state .now) (a .k) (c .before .before .before .before .before .width-at .ensures) (c .before .before .before .before .before .before .before .before .before .before .before .before .pre .0 .2) in
+    let v = plain-wide (a .plan .now) (a .k) (c .before .before .before .before .before .width-at .ensures) (c .before .before .before .before .before .before .before .before .before .before .before .before .pre .0 .2) in
     (c .before .before .before .before .before .before .before .before .before .before .before .before .pre .0 .0, c .before .before .before .before .before .before .before .before .before .before .before .before .pre .0 .1, v .0, v .1, c .before .before .before .before .before .width-at .ensures, c .before .before .before .before .before .before .before .before .before .before .before .before .pre .0 .2)
 
 same-length : tie.Need-same-length Inv-loop μ-loop
@@ -54,7 +54,7 @@ returns c =
     let l = c .before .before .before .before .before .before .before .before .loop in
     let h : ℕ → ℕ = λ q. homeBy (a .homes .now) (a .body .now) (a .ids + (a .slot + q)) in
     let p : ℕ → ℕ = λ q. entry 4 (a .body .now) (a .positions) (a .slot + q) in
-    λ source. loop-stop (λ b j d. batchLeaf (join (a .state .now) (a .parts .now) (a .lengths .now) (a .places .now) (a .body .now) (a .first) source) (a .k) b j d) (takesFrom h p (a .k)) (takesOf h (a .k)) (a .n) (l .r) (l .a) (l .m) (l .counts) (l .room) (l .inv .3 source) (c .before .before .before .before .before .before .advance .result .next) (c .before .before .before .before .before .before .advance .result .a) (c .before .before .before .before .before .before .advance .result .m) (c .before .before .before .before .before .before .advance .ensures .0 (λ b j d. batchLeaf (join (a .state .now) (a .parts .now) (a .lengths .now) (a .places .now) (a .body .now) (a .first) source) (a .k) b j d) (l .counts)) (c .before .before .before .before .before .before .advance .ensures .1 .0 .0) (c .before .before .before .copy-stretch .ensures source) (c .if1 .taken) (c .before .before .before .before .before .before .advance .ensures .1 .1)
+    λ source. loop-stop (λ b j d. batchLeaf (join (a .plan .now) (a .parts .now) (a .lengths .now) (a .places .now) (a .body .now) (a .first) source) (a .k) b j d) (takesFrom h p (a .k)) (takesOf h (a .k)) (a .n) (l .r) (l .a) (l .m) (l .counters) (l .room) (l .inv .3 source) (c .before .before .before .before .before .before .advance .result .next) (c .before .before .before .before .before .before .advance .result .a) (c .before .before .before .before .before .before .advance .result .m) (c .before .before .before .before .before .before .advance .ensures .0 (λ b j d. batchLeaf (join (a .plan .now) (a .parts .now) (a .lengths .now) (a .places .now) (a .body .now) (a .first) source) (a .k) b j d) (l .counters)) (c .before .before .before .before .before .before .advance .ensures .1 .0 .0) (c .before .before .before .copy-stretch .ensures source) (c .if1 .taken) (c .before .before .before .before .before .before .advance .ensures .1 .1)
 
 same-length-2 : tie.Need-same-length-2 Inv-loop μ-loop
 same-length-2 c = search needs
@@ -65,7 +65,7 @@ returns-2 c =
     let l = c .before .before .before .before .before .before .before .before .before .before .loop in
     let h : ℕ → ℕ = λ q. homeBy (a .homes .now) (a .body .now) (a .ids + (a .slot + q)) in
     let p : ℕ → ℕ = λ q. entry 4 (a .body .now) (a .positions) (a .slot + q) in
-    λ source. loop-zero (λ b j d. batchLeaf (join (a .state .now) (a .parts .now) (a .lengths .now) (a .places .now) (a .body .now) (a .first) source) (a .k) b j d) (takesFrom h p (a .k)) (takesOf h (a .k)) (a .n) (l .r) (l .a) (l .m) (l .counts) (l .room) (l .inv .3 source) (c .before .before .before .before .before .before .before .before .advance .result .next) (c .before .before .before .before .before .before .before .before .advance .result .a) (c .before .before .before .before .before .before .before .before .advance .result .m) (c .before .before .before .before .before .before .before .before .advance .ensures .0 (λ b j d. batchLeaf (join (a .state .now) (a .parts .now) (a .lengths .now) (a .places .now) (a .body .now) (a .first) source) (a .k) b j d) (l .counts)) (c .before .before .before .before .before .before .before .before .advance .ensures .1 .0 .0) (c .before .before .before .before .before .copy-stretch .ensures source) (c .if2 .taken) (c .before .before .if1 .left)
+    λ source. loop-zero (λ b j d. batchLeaf (join (a .plan .now) (a .parts .now) (a .lengths .now) (a .places .now) (a .body .now) (a .first) source) (a .k) b j d) (takesFrom h p (a .k)) (takesOf h (a .k)) (a .n) (l .r) (l .a) (l .m) (l .counters) (l .room) (l .inv .3 source) (c .before .before .before .before .before .before .before .before .advance .result .next) (c .before .before .before .before .before .before .before .before .advance .result .a) (c .before .before .before .before .before .before .before .before .advance .result .m) (c .before .before .before .before .before .before .before .before .advance .ensures .0 (λ b j d. batchLeaf (join (a .plan .now) (a .parts .now) (a .lengths .now) (a .places .now) (a .body .now) (a .first) source) (a .k) b j d) (l .counters)) (c .before .before .before .before .before .before .before .before .advance .ensures .1 .0 .0) (c .before .before .before .before .before .copy-stretch .ensures source) (c .if2 .taken) (c .before .before .if1 .left)
 
 add-start-at : tie.Need-add-start-at Inv-loop μ-loop
 add-start-at c = omega (arith, c .before .before .before .before .before .before .before .before .before .advance .ensures .1 .0 .0, c .before .before .before .before .before .before .before .before .before .before .before .before .before .before .before .before .before .before .before .pre .1 .2)
@@ -95,7 +95,7 @@ loop-again c =
       omega (arith, c .before .before .before .before .before .before .before .before .before .before .before .before .before .advance .ensures .1 .0 .0),
       omega arith,
       omega arith,
-      λ source. loop-more (λ b j d. batchLeaf (join (a .state .now) (a .parts .now) (a .lengths .now) (a .places .now) (a .body .now) (a .first) source) (a .k) b j d) (takesFrom h p (a .k)) (takesOf h (a .k)) (a .n) (l .r) (l .a) (l .m) (l .counts) (l .room) (l .inv .3 source) (c .before .before .before .before .before .before .before .before .before .before .before .before .before .advance .result .next) (c .before .before .before .before .before .before .before .before .before .before .before .before .before .advance .result .a) (c .before .before .before .before .before .before .before .before .before .before .before .before .before .advance .result .m) (c .before .before .before .before .before .before .before .before .before .before .before .before .before .advance .ensures .0 (λ b j d. batchLeaf (join (a .state .now) (a .parts .now) (a .lengths .now) (a .places .now) (a .body .now) (a .first) source) (a .k) b j d) (l .counts)) (c .before .before .before .before .before .before .before .before .before .before .before .before .before .advance .ensures .1 .0 .0) (c .before .before .before .before .before .before .before .before .before .before .copy-stretch .ensures source) (c .before .before .before .before .before .before .before .if1 .left) (c .before .before .before .before .before .if2 .left) (c .before .before .before .before .before .before .before .before .before .before .before .before .before .advance .ensures .1 .1) refl (c .before .before .before .start-at .ensures) (c .before .size-at .ensures),
+      λ source. loop-more (λ b j d. batchLeaf (join (a .plan .now) (a .parts .now) (a .lengths .now) (a .places .now) (a .body .now) (a .first) source) (a .k) b j d) (takesFrom h p (a .k)) (takesOf h (a .k)) (a .n) (l .r) (l .a) (l .m) (l .counters) (l .room) (l .inv .3 source) (c .before .before .before .before .before .before .before .before .before .before .before .before .before .advance .result .next) (c .before .before .before .before .before .before .before .before .before .before .before .before .before .advance .result .a) (c .before .before .before .before .before .before .before .before .before .before .before .before .before .advance .result .m) (c .before .before .before .before .before .before .before .before .before .before .before .before .before .advance .ensures .0 (λ b j d. batchLeaf (join (a .plan .now) (a .parts .now) (a .lengths .now) (a .places .now) (a .body .now) (a .first) source) (a .k) b j d) (l .counters)) (c .before .before .before .before .before .before .before .before .before .before .before .before .before .advance .ensures .1 .0 .0) (c .before .before .before .before .before .before .before .before .before .before .copy-stretch .ensures source) (c .before .before .before .before .before .before .before .if1 .left) (c .before .before .before .before .before .if2 .left) (c .before .before .before .before .before .before .before .before .before .before .before .before .before .advance .ensures .1 .1) refl (c .before .before .before .start-at .ensures) (c .before .size-at .ensures),
     )
 
 same-length-3 : tie.Need-same-length-3 Inv-loop μ-loop

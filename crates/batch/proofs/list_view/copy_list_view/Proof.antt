@@ -17,7 +17,7 @@ has-child-requires c κs = omega arith
 returns : tie.Need-returns
 returns c =
     let a = c .before .before .before .before .before .before .before .before .args in
-    λ source. list-childless (join (a .state .now) (a .parts .now) (a .lengths .now) (a .places .now) (a .body .now) (a .first) source) (a .i) (a .w) (a .slot) (a .n) (a .write) (a .counts .now) (a .room .now) (c .before .has-child .ensures) (c .if1 .taken)
+    λ source. list-childless (join (a .plan .now) (a .parts .now) (a .lengths .now) (a .places .now) (a .body .now) (a .first) source) (a .i) (a .w) (a .slot) (a .n) (a .write) (a .counters .now) (a .room .now) (c .before .has-child .ensures) (c .if1 .taken)
 
 pairs-in-requires : tie.Need-pairs-in-requires
 pairs-in-requires c κs = omega (arith, width-in (c .before .before .before .before .before .before .before .before .args .w) (λ p q. c .before .before .before .before .before .before .before .before .pre .1))
@@ -25,7 +25,7 @@ pairs-in-requires c κs = omega (arith, width-in (c .before .before .before .bef
 returns-2 : tie.Need-returns-2
 returns-2 c =
     let a = c .before .before .before .before .before .before .before .before .before .before .args in
-    λ source. list-short (join (a .state .now) (a .parts .now) (a .lengths .now) (a .places .now) (a .body .now) (a .first) source) (a .i) (a .w) (a .slot) (a .n) (a .write) (a .counts .now) (a .room .now) (c .before .before .before .has-child .ensures) (c .before .before .if1 .left) (c .before .pairs-in .ensures (a .state .now) (a .parts .now) (a .lengths .now) source) (c .if2 .taken)
+    λ source. list-short (join (a .plan .now) (a .parts .now) (a .lengths .now) (a .places .now) (a .body .now) (a .first) source) (a .i) (a .w) (a .slot) (a .n) (a .write) (a .counters .now) (a .room .now) (c .before .before .before .has-child .ensures) (c .before .before .if1 .left) (c .before .pairs-in .ensures (a .plan .now) (a .parts .now) (a .lengths .now) source) (c .if2 .taken)
 
 add-place : tie.Need-add-place
 add-place c = search needs
@@ -42,7 +42,7 @@ rows-of-requires c κs = search needs
 sum-sizes-requires : tie.Need-sum-sizes-requires
 sum-sizes-requires c κs =
     let a = c .before .before .before .before .before .before .before .before .before .before .before .before .before .args in
-    let h = pairs-within (join (a .state .now) (a .parts .now) (a .lengths .now) (a .places .now) (a .body .now) (a .first) 0) (a .i) (a .w) (a .slot) (a .n) (c .before .before .before .before .pairs-in .ensures (a .state .now) (a .parts .now) (a .lengths .now) 0) (c .before .before .before .if2 .left) in
+    let h = pairs-within (join (a .plan .now) (a .parts .now) (a .lengths .now) (a .places .now) (a .body .now) (a .first) 0) (a .i) (a .w) (a .slot) (a .n) (c .before .before .before .before .pairs-in .ensures (a .plan .now) (a .parts .now) (a .lengths .now) 0) (c .before .before .before .if2 .left) in
     ((subst (λ v. v + a .w * (a .slot + a .n) ≤ length (a .body .now)) (sym (c .before .before .place .ensures)) (h .1), c .before .before .before .before .before .before .before .before .before .before .before .before .before .pre .0 .2), c .before .before .before .before .before .before .before .before .before .before .before .before .before .pre .1)
 
 is-offset-requires : tie.Need-is-offset-requires
@@ -51,7 +51,7 @@ is-offset-requires c κs = c .before .before .before .before .before .before .be
 returns-3 : tie.Need-returns-3
 returns-3 c =
     let a = c .before .before .before .before .before .before .before .before .before .before .before .before .before .before .before .before .args in
-    λ source. list-over (join (a .state .now) (a .parts .now) (a .lengths .now) (a .places .now) (a .body .now) (a .first) source) (a .i) (a .w) (a .slot) (a .n) (a .write) (a .counts .now) (a .room .now) (c .before .before .before .before .before .before .before .before .before .has-child .ensures) (c .before .before .before .before .before .before .before .before .if1 .left) (c .before .before .before .before .before .before .before .pairs-in .ensures (a .state .now) (a .parts .now) (a .lengths .now) source) (c .before .before .before .before .before .before .if2 .left) (let h = half-most (a .w) (c .before .before .before .before .before .before .before .before .before .before .before .before .before .before .before .before .pre .1) in omega arith) (c .before .before .before .before .before .place .ensures) (rw (add-one (a .i)) at (c .before .before .before .rows-of .ensures)) (c .before .before .sum-sizes .ensures) (c .before .is-offset .ensures) (c .if3 .taken)
+    λ source. list-over (join (a .plan .now) (a .parts .now) (a .lengths .now) (a .places .now) (a .body .now) (a .first) source) (a .i) (a .w) (a .slot) (a .n) (a .write) (a .counters .now) (a .room .now) (c .before .before .before .before .before .before .before .before .before .has-child .ensures) (c .before .before .before .before .before .before .before .before .if1 .left) (c .before .before .before .before .before .before .before .pairs-in .ensures (a .plan .now) (a .parts .now) (a .lengths .now) source) (c .before .before .before .before .before .before .if2 .left) (let h = half-most (a .w) (c .before .before .before .before .before .before .before .before .before .before .before .before .before .before .before .before .pre .1) in omega arith) (c .before .before .before .before .before .place .ensures) (rw (add-one (a .i)) at (c .before .before .before .rows-of .ensures)) (c .before .before .sum-sizes .ensures) (c .before .is-offset .ensures) (c .if3 .taken)
 
 rows-of-requires-2 : tie.Need-rows-of-requires-2
 rows-of-requires-2 c κs = search needs
@@ -62,45 +62,45 @@ scale-requires c κs = width-in (c .before .before .before .before .before .befo
 put-sums-requires : tie.Need-put-sums-requires
 put-sums-requires c κs =
     let a = c .before .before .before .before .before .before .before .before .before .before .before .before .before .before .before .before .before .before .before .before .args in
-    let h = pairs-within (join (a .state .now) (a .parts .now) (a .lengths .now) (a .places .now) (a .body .now) (a .first) 0) (a .i) (a .w) (a .slot) (a .n) (c .before .before .before .before .before .before .before .before .before .before .before .pairs-in .ensures (a .state .now) (a .parts .now) (a .lengths .now) 0) (c .before .before .before .before .before .before .before .before .before .before .if2 .left) in
-    let g = sum-parts (join (a .state .now) (a .parts .now) (a .lengths .now) (a .places .now) (a .body .now) (a .first) 0) (a .i) (a .w) (a .slot) (a .n) (half-most (a .w) (c .before .before .before .before .before .before .before .before .before .before .before .before .before .before .before .before .before .before .before .before .pre .1)) (c .before .before .before .before .before .before .before .before .before .place .ensures) (c .before .before .before .before .before .before .sum-sizes .ensures) (c .before .before .before .before .before .is-offset .ensures) (c .before .before .before .before .if3 .left) in
+    let h = pairs-within (join (a .plan .now) (a .parts .now) (a .lengths .now) (a .places .now) (a .body .now) (a .first) 0) (a .i) (a .w) (a .slot) (a .n) (c .before .before .before .before .before .before .before .before .before .before .before .pairs-in .ensures (a .plan .now) (a .parts .now) (a .lengths .now) 0) (c .before .before .before .before .before .before .before .before .before .before .if2 .left) in
+    let g = sum-parts (join (a .plan .now) (a .parts .now) (a .lengths .now) (a .places .now) (a .body .now) (a .first) 0) (a .i) (a .w) (a .slot) (a .n) (half-most (a .w) (c .before .before .before .before .before .before .before .before .before .before .before .before .before .before .before .before .before .before .before .before .pre .1)) (c .before .before .before .before .before .before .before .before .before .place .ensures) (c .before .before .before .before .before .before .sum-sizes .ensures) (c .before .before .before .before .before .is-offset .ensures) (c .before .before .before .before .if3 .left) in
     ((omega (arith, c .before .before .before .before .before .before .before .before .before .before .before .before .before .before .before .before .before .before .before .before .pre .0 .1), subst (λ v. v + a .w * (a .slot + a .n) ≤ length (a .body .now)) (sym (c .before .before .before .before .before .before .before .before .before .place .ensures)) (h .1), c .before .before .before .before .before .before .before .before .before .before .before .before .before .before .before .before .before .before .before .before .pre .0 .2, g .0), c .before .before .before .before .before .before .before .before .before .before .before .before .before .before .before .before .before .before .before .before .pre .1)
 
 mul-from : tie.Need-mul-from
 mul-from c =
     let a = c .before .before .before .before .before .before .before .before .before .before .before .before .before .before .before .before .before .before .before .before .before .before .before .args in
-    let h = pairs-within (join (a .state .now) (a .parts .now) (a .lengths .now) (a .places .now) (a .body .now) (a .first) 0) (a .i) (a .w) (a .slot) (a .n) (c .before .before .before .before .before .before .before .before .before .before .before .before .before .before .pairs-in .ensures (a .state .now) (a .parts .now) (a .lengths .now) 0) (c .before .before .before .before .before .before .before .before .before .before .before .before .before .if2 .left) in
+    let h = pairs-within (join (a .plan .now) (a .parts .now) (a .lengths .now) (a .places .now) (a .body .now) (a .first) 0) (a .i) (a .w) (a .slot) (a .n) (c .before .before .before .before .before .before .before .before .before .before .before .before .before .before .pairs-in .ensures (a .plan .now) (a .parts .now) (a .lengths .now) 0) (c .before .before .before .before .before .before .before .before .before .before .before .before .before .if2 .left) in
     omega (arith, h .1, c .before .before .before .before .before .before .before .before .before .before .before .before .before .before .before .before .before .before .before .before .before .before .before .good)
 
 add-from : tie.Need-add-from
 add-from c =
     let a = c .before .before .before .before .before .before .before .before .before .before .before .before .before .before .before .before .before .before .before .before .before .before .before .args in
-    let h = pairs-within (join (a .state .now) (a .parts .now) (a .lengths .now) (a .places .now) (a .body .now) (a .first) 0) (a .i) (a .w) (a .slot) (a .n) (c .before .before .before .before .before .before .before .before .before .before .before .before .before .before .pairs-in .ensures (a .state .now) (a .parts .now) (a .lengths .now) 0) (c .before .before .before .before .before .before .before .before .before .before .before .before .before .if2 .left) in
+    let h = pairs-within (join (a .plan .now) (a .parts .now) (a .lengths .now) (a .places .now) (a .body .now) (a .first) 0) (a .i) (a .w) (a .slot) (a .n) (c .before .before .before .before .before .before .before .before .before .before .before .before .before .before .pairs-in .ensures (a .plan .now) (a .parts .now) (a .lengths .now) 0) (c .before .before .before .before .before .before .before .before .before .before .before .before .before .if2 .left) in
     omega (arith, h .1, c .before .before .before .before .before .before .before .before .before .before .before .before .before .before .before .before .before .before .before .before .before .before .before .good, c .before .before .before .before .before .before .before .before .before .before .before .before .place .ensures)
 
 mul-put-copy : tie.Need-mul-put-copy
 mul-put-copy c =
     let a = c .before .before .before .before .before .before .before .before .before .before .before .before .before .before .before .before .before .before .before .before .before .before .before .before .args in
-    let h = pairs-within (join (a .state .now) (a .parts .now) (a .lengths .now) (a .places .now) (a .body .now) (a .first) 0) (a .i) (a .w) (a .slot) (a .n) (c .before .before .before .before .before .before .before .before .before .before .before .before .before .before .before .pairs-in .ensures (a .state .now) (a .parts .now) (a .lengths .now) 0) (c .before .before .before .before .before .before .before .before .before .before .before .before .before .before .if2 .left) in
+    let h = pairs-within (join (a .plan .now) (a .parts .now) (a .lengths .now) (a .places .now) (a .body .now) (a .first) 0) (a .i) (a .w) (a .slot) (a .n) (c .before .before .before .before .before .before .before .before .before .before .before .before .before .before .before .pairs-in .ensures (a .plan .now) (a .parts .now) (a .lengths .now) 0) (c .before .before .before .before .before .before .before .before .before .before .before .before .before .before .if2 .left) in
     omega (arith, h .1, c .before .before .before .before .before .before .before .before .before .before .before .before .before .before .before .before .before .before .before .before .before .before .before .before .good)
 
 put-copy-requires : tie.Need-put-copy-requires
 put-copy-requires c κs =
     let a = c .before .before .before .before .before .before .before .before .before .before .before .before .before .before .before .before .before .before .before .before .before .before .before .before .args in
-    let h = pairs-within (join (a .state .now) (a .parts .now) (a .lengths .now) (a .places .now) (a .body .now) (a .first) 0) (a .i) (a .w) (a .slot) (a .n) (c .before .before .before .before .before .before .before .before .before .before .before .before .before .before .before .pairs-in .ensures (a .state .now) (a .parts .now) (a .lengths .now) 0) (c .before .before .before .before .before .before .before .before .before .before .before .before .before .before .if2 .left) in
+    let h = pairs-within (join (a .plan .now) (a .parts .now) (a .lengths .now) (a .places .now) (a .body .now) (a .first) 0) (a .i) (a .w) (a .slot) (a .n) (c .before .before .before .before .before .before .before .before .before .before .before .before .before .before .before .pairs-in .ensures (a .plan .now) (a .parts .now) (a .lengths .now) 0) (c .before .before .before .before .before .before .before .before .before .before .before .before .before .before .if2 .left) in
     omega (arith, h .1, c .before .before .before .before .before .before .before .before .before .before .before .before .before .place .ensures, c .before .before .before .before .before .before .before .before .before .before .before .before .before .before .before .before .before .before .before .before .before .before .before .before .pre .0)
 
 sub-copy-numbers : tie.Need-sub-copy-numbers
 sub-copy-numbers c =
     let a = c .before .before .before .before .before .before .before .before .before .before .before .before .before .before .before .before .before .before .before .before .before .before .before .before .before .before .before .before .before .args in
-    let g = sum-parts (join (a .state .now) (a .parts .now) (a .lengths .now) (a .places .now) (a .body .now) (a .first) 0) (a .i) (a .w) (a .slot) (a .n) (half-most (a .w) (c .before .before .before .before .before .before .before .before .before .before .before .before .before .before .before .before .before .before .before .before .before .before .before .before .before .before .before .before .before .pre .1)) (c .before .before .before .before .before .before .before .before .before .before .before .before .before .before .before .before .before .before .place .ensures) (c .before .before .before .before .before .before .before .before .before .before .before .before .before .before .before .sum-sizes .ensures) (c .before .before .before .before .before .before .before .before .before .before .before .before .before .before .is-offset .ensures) (c .before .before .before .before .before .before .before .before .before .before .before .before .before .if3 .left) in
+    let g = sum-parts (join (a .plan .now) (a .parts .now) (a .lengths .now) (a .places .now) (a .body .now) (a .first) 0) (a .i) (a .w) (a .slot) (a .n) (half-most (a .w) (c .before .before .before .before .before .before .before .before .before .before .before .before .before .before .before .before .before .before .before .before .before .before .before .before .before .before .before .before .before .pre .1)) (c .before .before .before .before .before .before .before .before .before .before .before .before .before .before .before .before .before .before .place .ensures) (c .before .before .before .before .before .before .before .before .before .before .before .before .before .before .before .sum-sizes .ensures) (c .before .before .before .before .before .before .before .before .before .before .before .before .before .before .is-offset .ensures) (c .before .before .before .before .before .before .before .before .before .before .before .before .before .if3 .left) in
     omega (arith, g .1)
 
 copy-numbers-requires : tie.Need-copy-numbers-requires
 copy-numbers-requires c κs =
     let a = c .before .before .before .before .before .before .before .before .before .before .before .before .before .before .before .before .before .before .before .before .before .before .before .before .before .before .before .before .before .args in
-    let h = pairs-within (join (a .state .now) (a .parts .now) (a .lengths .now) (a .places .now) (a .body .now) (a .first) 0) (a .i) (a .w) (a .slot) (a .n) (c .before .before .before .before .before .before .before .before .before .before .before .before .before .before .before .before .before .before .before .before .pairs-in .ensures (a .state .now) (a .parts .now) (a .lengths .now) 0) (c .before .before .before .before .before .before .before .before .before .before .before .before .before .before .before .before .before .before .before .if2 .left) in
-    let g = sum-parts (join (a .state .now) (a .parts .now) (a .lengths .now) (a .places .now) (a .body .now) (a .first) 0) (a .i) (a .w) (a .slot) (a .n) (half-most (a .w) (c .before .before .before .before .before .before .before .before .before .before .before .before .before .before .before .before .before .before .before .before .before .before .before .before .before .before .before .before .before .pre .1)) (c .before .before .before .before .before .before .before .before .before .before .before .before .before .before .before .before .before .before .place .ensures) (c .before .before .before .before .before .before .before .before .before .before .before .before .before .before .before .sum-sizes .ensures) (c .before .before .before .before .before .before .before .before .before .before .before .before .before .before .is-offset .ensures) (c .before .before .before .before .before .before .before .before .before .before .before .before .before .if3 .left) in
+    let h = pairs-within (join (a .plan .now) (a .parts .now) (a .lengths .now) (a .places .now) (a .body .now) (a .first) 0) (a .i) (a .w) (a .slot) (a .n) (c .before .before .before .before .before .before .before .before .before .before .before .before .before .before .before .before .before .before .before .before .pairs-in .ensures (a .plan .now) (a .parts .now) (a .lengths .now) 0) (c .before .before .before .before .before .before .before .before .before .before .before .before .before .before .before .before .before .before .before .if2 .left) in
+    let g = sum-parts (join (a .plan .now) (a .parts .now) (a .lengths .now) (a .places .now) (a .body .now) (a .first) 0) (a .i) (a .w) (a .slot) (a .n) (half-most (a .w) (c .before .before .before .before .before .before .before .before .before .before .before .before .before .before .before .before .before .before .before .before .before .before .before .before .before .before .before .before .before .pre .1)) (c .before .before .before .before .before .before .before .before .before .before .before .before .before .before .before .before .before .before .place .ensures) (c .before .before .before .before .before .before .before .before .before .before .before .before .before .before .before .sum-sizes .ensures) (c .before .before .before .before .before .before .before .before .before .before .before .before .before .before .is-offset .ensures) (c .before .before .before .before .before .before .before .before .before .before .before .before .before .if3 .left) in
     (c .before .before .before .before .before .before .before .before .before .before .before .before .before .before .before .before .before .before .before .before .before .before .before .before .before .before .before .before .before .pre .0, (h, ((g .2, g .3), c .before .before .before .before .before .before .before .before .before .before .before .before .before .before .before .before .before .before .before .before .before .before .before .before .before .before .before .before .before .pre .1)))
 
 same-length : tie.Need-same-length
@@ -109,7 +109,7 @@ same-length c = search needs
 returns-4 : tie.Need-returns-4
 returns-4 c =
     let a = c .before .before .before .before .before .before .before .before .before .before .before .before .before .before .before .before .before .before .before .before .before .before .before .before .before .before .before .before .before .before .before .before .args in
-    λ source. list-goes (join (a .state .now) (a .parts .now) (a .lengths .now) (a .places .now) (a .body .now) (a .first) source) (a .i) (a .w) (a .slot) (a .n) (a .write) (a .counts .now) (a .room .now) (c .before .before .before .before .before .before .before .before .before .before .before .before .before .before .before .before .before .before .before .before .before .before .before .before .before .has-child .ensures) (c .before .before .before .before .before .before .before .before .before .before .before .before .before .before .before .before .before .before .before .before .before .before .before .before .if1 .left) (c .before .before .before .before .before .before .before .before .before .before .before .before .before .before .before .before .before .before .before .before .before .before .before .pairs-in .ensures (a .state .now) (a .parts .now) (a .lengths .now) source) (c .before .before .before .before .before .before .before .before .before .before .before .before .before .before .before .before .before .before .before .before .before .before .if2 .left) (let h = half-most (a .w) (c .before .before .before .before .before .before .before .before .before .before .before .before .before .before .before .before .before .before .before .before .before .before .before .before .before .before .before .before .before .before .before .before .pre .1) in omega arith) (c .before .before .before .before .before .before .before .before .before .before .before .before .before .before .before .before .before .before .before .before .before .place .ensures) (rw (add-one (a .i)) at (c .before .before .before .before .before .before .before .before .before .before .before .before .before .before .before .before .before .before .before .rows-of .ensures)) (c .before .before .before .before .before .before .before .before .before .before .before .before .before .before .before .before .before .before .sum-sizes .ensures) (c .before .before .before .before .before .before .before .before .before .before .before .before .before .before .before .before .before .is-offset .ensures) (c .before .before .before .before .before .before .before .before .before .before .before .before .before .before .before .before .if3 .left) (omega (arith, c .before .before .before .before .before .before .before .before .before .before .before .before .before .before .before .before .before .before .before .before .before .before .before .before .before .before .before .before .before .before .before .before .good)) (c .before .before .before .before .before .before .before .before .before .before .before .before .before .before .rows-of2 .ensures) (c .before .before .before .before .before .before .before .before .before .before .before .before .before .scale .ensures) (c .before .before .before .before .before .before .before .before .before .before .before .put-sums .ensures) (omega (arith, c .before .before .before .before .before .before .before .before .before .before .before .before .before .before .before .before .before .before .before .before .before .before .before .before .before .before .before .before .before .before .before .before .good)) (c .before .before .before .before .before .before .before .put-copy .ensures) (c .before .before .copy-numbers .ensures source)
+    λ source. list-goes (join (a .plan .now) (a .parts .now) (a .lengths .now) (a .places .now) (a .body .now) (a .first) source) (a .i) (a .w) (a .slot) (a .n) (a .write) (a .counters .now) (a .room .now) (c .before .before .before .before .before .before .before .before .before .before .before .before .before .before .before .before .before .before .before .before .before .before .before .before .before .has-child .ensures) (c .before .before .before .before .before .before .before .before .before .before .before .before .before .before .before .before .before .before .before .before .before .before .before .before .if1 .left) (c .before .before .before .before .before .before .before .before .before .before .before .before .before .before .before .before .before .before .before .before .before .before .before .pairs-in .ensures (a .plan .now) (a .parts .now) (a .lengths .now) source) (c .before .before .before .before .before .before .before .before .before .before .before .before .before .before .before .before .before .before .before .before .before .before .if2 .left) (let h = half-most (a .w) (c .before .before .before .before .before .before .before .before .before .before .before .before .before .before .before .before .before .before .before .before .before .before .before .before .before .before .before .before .before .before .before .before .pre .1) in omega arith) (c .before .before .before .before .before .before .before .before .before .before .before .before .before .before .before .before .before .before .before .before .before .place .ensures) (rw (add-one (a .i)) at (c .before .before .before .before .before .before .before .before .before .before .before .before .before .before .before .before .before .before .before .rows-of .ensures)) (c .before .before .before .before .before .before .before .before .before .before .before .before .before .before .before .before .before .before .sum-sizes .ensures) (c .before .before .before .before .before .before .before .before .before .before .before .before .before .before .before .before .before .is-offset .ensures) (c .before .before .before .before .before .before .before .before .before .before .before .before .before .before .before .before .if3 .left) (omega (arith, c .before .before .before .before .before .before .before .before .before .before .before .before .before .before .before .before .before .before .before .before .before .before .before .before .before .before .before .before .before .before .before .before .good)) (c .before .before .before .before .before .before .before .before .before .before .before .before .before .before .rows-of2 .ensures) (c .before .before .before .before .before .before .before .before .before .before .before .before .before .scale .ensures) (c .before .before .before .before .before .before .before .before .before .before .before .put-sums .ensures) (omega (arith, c .before .before .before .before .before .before .before .before .before .before .before .before .before .before .before .before .before .before .before .before .before .before .before .before .before .before .before .before .before .before .before .before .good)) (c .before .before .before .before .before .before .before .put-copy .ensures) (c .before .before .copy-numbers .ensures source)
 
 pub copy-list-view-spec : {M : Type 1} → statement M
 copy-list-view-spec = tie.close (tie.spec has-child-requires returns pairs-in-requires returns-2 add-place place-requires add-rows-of rows-of-requires sum-sizes-requires is-offset-requires returns-3 rows-of-requires-2 scale-requires put-sums-requires mul-from add-from mul-put-copy put-copy-requires sub-copy-numbers copy-numbers-requires same-length returns-4)

@@ -22,13 +22,13 @@ use Rattle.batch.proofs.list_view.copy_number_stretches.Statement.{stat
 use Rattle.batch.proofs.list_view.copy_number_stretches.Tie as tie
 
 abbrev Inv-loop : tie.InvT-loop
-Inv-loop state parts lengths places body counts₀ room₀ write first i w slot n offsets sizes v a₀ m₀ r₀ counts room a m r =
+Inv-loop plan parts lengths places body counters₀ room₀ write first i w slot n offsets sizes v a₀ m₀ r₀ counters room a m r =
     (r ≤ n) × (length room ≡ length room₀) × (m ≤ sumOf (λ q. entry w body sizes (slot + q)) r) × (sumOf (λ q. entry w body sizes (slot + q)) n < 2 ^ 63) × (offsets + w * (slot + n) ≤ length body) × (sizes + w * (slot + n) ≤ length body)
-    × ((source : ℕ) → Rest state parts write (stretches (λ b k d. batchLeaf (join state parts lengths places body first source) (suc i) b k d) (λ q. entry w body (place (join state parts lengths places body first source) i 3) (slot + q)) (λ q. entry w body (place (join state parts lengths places body first source) i 5) (slot + q)) n counts₀) room₀
-    (stretch (λ b k d. batchLeaf (join state parts lengths places body first source) (suc i) b k d) (λ q. entry w body offsets (slot + q)) (λ q. entry w body sizes (slot + q)) (n - r) r a m counts) room)
+    × ((source : ℕ) → Rest plan parts write (stretches (λ b k d. batchLeaf (join plan parts lengths places body first source) (suc i) b k d) (λ q. entry w body (place (join plan parts lengths places body first source) i 3) (slot + q)) (λ q. entry w body (place (join plan parts lengths places body first source) i 5) (slot + q)) n counters₀) room₀
+    (stretch (λ b k d. batchLeaf (join plan parts lengths places body first source) (suc i) b k d) (λ q. entry w body offsets (slot + q)) (λ q. entry w body sizes (slot + q)) (n - r) r a m counters) room)
 
 abbrev μ-loop : tie.MeasureT-loop
-μ-loop state parts lengths places body counts₀ room₀ write first i w slot n offsets sizes v a₀ m₀ r₀ counts room a m r = n - r
+μ-loop plan parts lengths places body counters₀ room₀ write first i w slot n offsets sizes v a₀ m₀ r₀ counters room a m r = n - r
 
 add-place : tie.Need-add-place Inv-loop μ-loop
 add-place c = search needs
@@ -57,7 +57,7 @@ loop-holds c =
       subst (λ v. sumOf (λ q. entry (a .w) (a .body .now) v (a .slot + q)) (a .n) < 2 ^ 63) (sym (c .before .place2 .ensures)) (c .before .before .before .before .before .before .before .before .before .pre .1 .1 .0),
       subst (λ v. v + a .w * (a .slot + a .n) ≤ length (a .body .now)) (sym (c .before .before .place .ensures)) (c .before .before .before .before .before .before .before .before .before .pre .1 .0 .0),
       subst (λ v. v + a .w * (a .slot + a .n) ≤ length (a .body .now)) (sym (c .before .place2 .ensures)) (c .before .before .before .before .before .before .before .before .before .pre .1 .0 .1),
-      λ source. begins (a .state .now) (a .parts .now) (a .write) (λ b k d. batchLeaf (join (a .state .now) (a .parts .now) (a .lengths .now) (a .places .now) (a .body .now) (a .first) source) (suc (a .i)) b k d) (a .w) (a .body .now) (a .slot) (a .n) (a .counts .now) (a .room .now) (c .before .before .place .ensures) (c .before .place2 .ensures),
+      λ source. begins (a .plan .now) (a .parts .now) (a .write) (λ b k d. batchLeaf (join (a .plan .now) (a .parts .now) (a .lengths .now) (a .places .now) (a .body .now) (a .first) source) (suc (a .i)) b k d) (a .w) (a .body .now) (a .slot) (a .n) (a .counters .now) (a .room .now) (c .before .before .place .ensures) (c .before .place2 .ensures),
     )
 
 advance-requires : tie.Need-advance-requires Inv-loop μ-loop
@@ -69,8 +69,8 @@ add-copy-stretch c = omega arith
 copy-stretch-requires : tie.Need-copy-stretch-requires Inv-loop μ-loop
 copy-stretch-requires c κs =
     let a = c .before .before .before .before .before .before .before .before .before .before .before .before .before .before .args in
-    let p : isPlain (a .state .now) (a .i + 1) ≡ true = rw (add-one (a .i)) (c .before .before .before .before .before .before .before .before .before .before .before .before .before .before .pre .0 .3) in
-    let v = plain-wide (a .state .now) (a .i + 1) (c .before .before .before .before .before .width-at .ensures) p in
+    let p : isPlain (a .plan .now) (a .i + 1) ≡ true = rw (add-one (a .i)) (c .before .before .before .before .before .before .before .before .before .before .before .before .before .before .pre .0 .3) in
+    let v = plain-wide (a .plan .now) (a .i + 1) (c .before .before .before .before .before .width-at .ensures) p in
     (c .before .before .before .before .before .before .before .before .before .before .before .before .before .before .pre .0 .0, omega arith, v .0, v .1, c .before .before .before .before .before .width-at .ensures, p)
 
 same-length : tie.Need-same-length Inv-loop μ-loop
@@ -82,7 +82,7 @@ returns c =
     let l = c .before .before .before .before .before .before .before .before .loop in
     let s : ℕ → ℕ = λ q. entry (a .w) (a .body .now) (c .before .before .before .before .before .before .before .before .before .before .before .place .result) (a .slot + q) in
     let f : ℕ → ℕ = λ q. entry (a .w) (a .body .now) (c .before .before .before .before .before .before .before .before .before .before .place2 .result) (a .slot + q) in
-    λ source. loop-stop (λ b k d. batchLeaf (join (a .state .now) (a .parts .now) (a .lengths .now) (a .places .now) (a .body .now) (a .first) source) (suc (a .i)) b k d) s f (a .n) (l .r) (l .a) (l .m) (l .counts) (l .room) (l .inv .6 source) (c .before .before .before .before .before .before .advance .result .next) (c .before .before .before .before .before .before .advance .result .a) (c .before .before .before .before .before .before .advance .result .m) (c .before .before .before .before .before .before .advance .ensures .0 (λ b k d. batchLeaf (join (a .state .now) (a .parts .now) (a .lengths .now) (a .places .now) (a .body .now) (a .first) source) (suc (a .i)) b k d) (l .counts)) (c .before .before .before .before .before .before .advance .ensures .1 .0 .0) (rw (add-one (a .i)) at (c .before .before .before .copy-stretch .ensures source)) (c .if1 .taken) (c .before .before .before .before .before .before .advance .ensures .1 .1)
+    λ source. loop-stop (λ b k d. batchLeaf (join (a .plan .now) (a .parts .now) (a .lengths .now) (a .places .now) (a .body .now) (a .first) source) (suc (a .i)) b k d) s f (a .n) (l .r) (l .a) (l .m) (l .counters) (l .room) (l .inv .6 source) (c .before .before .before .before .before .before .advance .result .next) (c .before .before .before .before .before .before .advance .result .a) (c .before .before .before .before .before .before .advance .result .m) (c .before .before .before .before .before .before .advance .ensures .0 (λ b k d. batchLeaf (join (a .plan .now) (a .parts .now) (a .lengths .now) (a .places .now) (a .body .now) (a .first) source) (suc (a .i)) b k d) (l .counters)) (c .before .before .before .before .before .before .advance .ensures .1 .0 .0) (rw (add-one (a .i)) at (c .before .before .before .copy-stretch .ensures source)) (c .if1 .taken) (c .before .before .before .before .before .before .advance .ensures .1 .1)
 
 same-length-2 : tie.Need-same-length-2 Inv-loop μ-loop
 same-length-2 c = search needs
@@ -93,7 +93,7 @@ returns-2 c =
     let l = c .before .before .before .before .before .before .before .before .before .before .loop in
     let s : ℕ → ℕ = λ q. entry (a .w) (a .body .now) (c .before .before .before .before .before .before .before .before .before .before .before .before .before .place .result) (a .slot + q) in
     let f : ℕ → ℕ = λ q. entry (a .w) (a .body .now) (c .before .before .before .before .before .before .before .before .before .before .before .before .place2 .result) (a .slot + q) in
-    λ source. loop-zero (λ b k d. batchLeaf (join (a .state .now) (a .parts .now) (a .lengths .now) (a .places .now) (a .body .now) (a .first) source) (suc (a .i)) b k d) s f (a .n) (l .r) (l .a) (l .m) (l .counts) (l .room) (l .inv .6 source) (c .before .before .before .before .before .before .before .before .advance .result .next) (c .before .before .before .before .before .before .before .before .advance .result .a) (c .before .before .before .before .before .before .before .before .advance .result .m) (c .before .before .before .before .before .before .before .before .advance .ensures .0 (λ b k d. batchLeaf (join (a .state .now) (a .parts .now) (a .lengths .now) (a .places .now) (a .body .now) (a .first) source) (suc (a .i)) b k d) (l .counts)) (c .before .before .before .before .before .before .before .before .advance .ensures .1 .0 .0) (rw (add-one (a .i)) at (c .before .before .before .before .before .copy-stretch .ensures source)) (c .if2 .taken) (c .before .before .if1 .left)
+    λ source. loop-zero (λ b k d. batchLeaf (join (a .plan .now) (a .parts .now) (a .lengths .now) (a .places .now) (a .body .now) (a .first) source) (suc (a .i)) b k d) s f (a .n) (l .r) (l .a) (l .m) (l .counters) (l .room) (l .inv .6 source) (c .before .before .before .before .before .before .before .before .advance .result .next) (c .before .before .before .before .before .before .before .before .advance .result .a) (c .before .before .before .before .before .before .before .before .advance .result .m) (c .before .before .before .before .before .before .before .before .advance .ensures .0 (λ b k d. batchLeaf (join (a .plan .now) (a .parts .now) (a .lengths .now) (a .places .now) (a .body .now) (a .first) source) (suc (a .i)) b k d) (l .counters)) (c .before .before .before .before .before .before .before .before .advance .ensures .1 .0 .0) (rw (add-one (a .i)) at (c .before .before .before .before .before .copy-stretch .ensures source)) (c .if2 .taken) (c .before .before .if1 .left)
 
 add-entry-at : tie.Need-add-entry-at Inv-loop μ-loop
 add-entry-at c = omega (arith, c .before .before .before .before .before .before .before .before .before .advance .ensures .1 .0 .0, c .before .before .before .before .before .before .before .before .before .before .before .before .before .before .before .before .before .before .before .before .before .pre .0 .2)
@@ -126,7 +126,7 @@ loop-again c =
       l .inv .3,
       l .inv .4,
       l .inv .5,
-      λ source. loop-more (λ b k d. batchLeaf (join (a .state .now) (a .parts .now) (a .lengths .now) (a .places .now) (a .body .now) (a .first) source) (suc (a .i)) b k d) s f (a .n) (l .r) (l .a) (l .m) (l .counts) (l .room) (l .inv .6 source) (c .before .before .before .before .before .before .before .before .before .before .before .before .before .advance .result .next) (c .before .before .before .before .before .before .before .before .before .before .before .before .before .advance .result .a) (c .before .before .before .before .before .before .before .before .before .before .before .before .before .advance .result .m) (c .before .before .before .before .before .before .before .before .before .before .before .before .before .advance .ensures .0 (λ b k d. batchLeaf (join (a .state .now) (a .parts .now) (a .lengths .now) (a .places .now) (a .body .now) (a .first) source) (suc (a .i)) b k d) (l .counts)) (c .before .before .before .before .before .before .before .before .before .before .before .before .before .advance .ensures .1 .0 .0) (rw (add-one (a .i)) at (c .before .before .before .before .before .before .before .before .before .before .copy-stretch .ensures source)) (c .before .before .before .before .before .before .before .if1 .left) (c .before .before .before .before .before .if2 .left) (c .before .before .before .before .before .before .before .before .before .before .before .before .before .advance .ensures .1 .1) refl (c .before .before .before .entry-at .ensures) (c .before .entry-at2 .ensures),
+      λ source. loop-more (λ b k d. batchLeaf (join (a .plan .now) (a .parts .now) (a .lengths .now) (a .places .now) (a .body .now) (a .first) source) (suc (a .i)) b k d) s f (a .n) (l .r) (l .a) (l .m) (l .counters) (l .room) (l .inv .6 source) (c .before .before .before .before .before .before .before .before .before .before .before .before .before .advance .result .next) (c .before .before .before .before .before .before .before .before .before .before .before .before .before .advance .result .a) (c .before .before .before .before .before .before .before .before .before .before .before .before .before .advance .result .m) (c .before .before .before .before .before .before .before .before .before .before .before .before .before .advance .ensures .0 (λ b k d. batchLeaf (join (a .plan .now) (a .parts .now) (a .lengths .now) (a .places .now) (a .body .now) (a .first) source) (suc (a .i)) b k d) (l .counters)) (c .before .before .before .before .before .before .before .before .before .before .before .before .before .advance .ensures .1 .0 .0) (rw (add-one (a .i)) at (c .before .before .before .before .before .before .before .before .before .before .copy-stretch .ensures source)) (c .before .before .before .before .before .before .before .if1 .left) (c .before .before .before .before .before .if2 .left) (c .before .before .before .before .before .before .before .before .before .before .before .before .before .advance .ensures .1 .1) refl (c .before .before .before .entry-at .ensures) (c .before .entry-at2 .ensures),
     )
 
 add-copy-stretch-2 : tie.Need-add-copy-stretch-2 Inv-loop μ-loop
@@ -135,8 +135,8 @@ add-copy-stretch-2 c = omega arith
 copy-stretch-requires-2 : tie.Need-copy-stretch-requires-2 Inv-loop μ-loop
 copy-stretch-requires-2 c κs =
     let a = c .before .before .before .before .before .before .before .before .before .before .before .before .before .args in
-    let p : isPlain (a .state .now) (a .i + 1) ≡ true = rw (add-one (a .i)) (c .before .before .before .before .before .before .before .before .before .before .before .before .before .pre .0 .3) in
-    let v = plain-wide (a .state .now) (a .i + 1) (c .before .before .before .before .width-at .ensures) p in
+    let p : isPlain (a .plan .now) (a .i + 1) ≡ true = rw (add-one (a .i)) (c .before .before .before .before .before .before .before .before .before .before .before .before .before .pre .0 .3) in
+    let v = plain-wide (a .plan .now) (a .i + 1) (c .before .before .before .before .width-at .ensures) p in
     (c .before .before .before .before .before .before .before .before .before .before .before .before .before .pre .0 .0, omega arith, v .0, v .1, c .before .before .before .before .width-at .ensures, p)
 
 same-length-3 : tie.Need-same-length-3 Inv-loop μ-loop
@@ -148,7 +148,7 @@ returns-3 c =
     let l = c .before .before .before .before .before .before .loop in
     let s : ℕ → ℕ = λ q. entry (a .w) (a .body .now) (c .before .before .before .before .before .before .before .before .before .place .result) (a .slot + q) in
     let f : ℕ → ℕ = λ q. entry (a .w) (a .body .now) (c .before .before .before .before .before .before .before .before .place2 .result) (a .slot + q) in
-    λ source. loop-out (λ b k d. batchLeaf (join (a .state .now) (a .parts .now) (a .lengths .now) (a .places .now) (a .body .now) (a .first) source) (suc (a .i)) b k d) s f (a .n) (l .r) (l .a) (l .m) (l .counts) (l .room) (l .inv .6 source) (omega arith) (rw (add-one (a .i)) at (c .before .before .copy-stretch2 .ensures source))
+    λ source. loop-out (λ b k d. batchLeaf (join (a .plan .now) (a .parts .now) (a .lengths .now) (a .places .now) (a .body .now) (a .first) source) (suc (a .i)) b k d) s f (a .n) (l .r) (l .a) (l .m) (l .counters) (l .room) (l .inv .6 source) (omega arith) (rw (add-one (a .i)) at (c .before .before .copy-stretch2 .ensures source))
 
 pub copy-number-stretches-spec : {M : Type 1} → statement M
 copy-number-stretches-spec = tie.close (tie.spec Inv-loop μ-loop add-place place-requires add-place-2 place-requires-2 add-width-at width-at-requires loop-holds advance-requires add-copy-stretch copy-stretch-requires same-length returns same-length-2 returns-2 add-entry-at entry-at-requires add-entry-at-2 entry-at-requires-2 add-r loop-less loop-again add-copy-stretch-2 copy-stretch-requires-2 same-length-3 returns-3)

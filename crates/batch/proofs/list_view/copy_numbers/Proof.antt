@@ -23,8 +23,8 @@ width-at-requires c κs = search needs
 none-refused-requires : tie.Need-none-refused-requires
 none-refused-requires c κs =
     let a = c .before .before .before .before .before .before .before .args in
-    let p : isPlain (a .state .now) (a .i + 1) ≡ true = rw (add-one (a .i)) (c .before .before .before .before .before .before .before .pre .0 .3) in
-    ((c .before .before .before .before .before .before .before .pre .0 .0, c .before .before .before .before .before .before .before .pre .0 .1, c .before .before .before .before .before .before .before .pre .0 .2, plain-wide (a .state .now) (a .i + 1) (c .width-at .ensures) p .1), (c .before .before .before .before .before .before .before .pre .1 .0, c .before .before .before .before .before .before .before .pre .1 .1 .1))
+    let p : isPlain (a .plan .now) (a .i + 1) ≡ true = rw (add-one (a .i)) (c .before .before .before .before .before .before .before .pre .0 .3) in
+    ((c .before .before .before .before .before .before .before .pre .0 .0, c .before .before .before .before .before .before .before .pre .0 .1, c .before .before .before .before .before .before .before .pre .0 .2, plain-wide (a .plan .now) (a .i + 1) (c .width-at .ensures) p .1), (c .before .before .before .before .before .before .before .pre .1 .0, c .before .before .before .before .before .before .before .pre .1 .1 .1))
 
 add-add-rows : tie.Need-add-add-rows
 add-add-rows c = search needs
@@ -35,7 +35,7 @@ add-rows-requires c κs = search needs
 returns : tie.Need-returns
 returns c =
     let a = c .before .before .before .before .before .before .before .before .before .before .before .args in
-    λ source. tried (join (a .state .now) (a .parts .now) (a .lengths .now) (a .places .now) (a .body .now) (a .first) source) (suc (a .i)) (c .before .before .before .before .before .before .before .before .before .before .before .pre .0 .3) (omega arith) (λ r. entry (a .w) (a .body .now) (place (join (a .state .now) (a .parts .now) (a .lengths .now) (a .places .now) (a .body .now) (a .first) source) (a .i) 3) (a .slot + r)) (λ r. entry (a .w) (a .body .now) (place (join (a .state .now) (a .parts .now) (a .lengths .now) (a .places .now) (a .body .now) (a .first) source) (a .i) 5) (a .slot + r)) (a .n) (a .counts .now) (a .room .now) (a .write) (rw (add-one (a .i)) at (c .before .before .before .before .width-at .ensures)) (c .before .before .before .none-refused .ensures (a .state .now) (a .parts .now) source) (c .before .before .if1 .taken) (c .before .before .before .before .before .before .before .before .before .before .before .pre .1 .1 .0 .1) (rw (add-one (a .i)) at (c .add-rows .ensures))
+    λ source. tried (join (a .plan .now) (a .parts .now) (a .lengths .now) (a .places .now) (a .body .now) (a .first) source) (suc (a .i)) (c .before .before .before .before .before .before .before .before .before .before .before .pre .0 .3) (omega arith) (λ r. entry (a .w) (a .body .now) (place (join (a .plan .now) (a .parts .now) (a .lengths .now) (a .places .now) (a .body .now) (a .first) source) (a .i) 3) (a .slot + r)) (λ r. entry (a .w) (a .body .now) (place (join (a .plan .now) (a .parts .now) (a .lengths .now) (a .places .now) (a .body .now) (a .first) source) (a .i) 5) (a .slot + r)) (a .n) (a .counters .now) (a .room .now) (a .write) (rw (add-one (a .i)) at (c .before .before .before .before .width-at .ensures)) (c .before .before .before .none-refused .ensures (a .plan .now) (a .parts .now) source) (c .before .before .if1 .taken) (c .before .before .before .before .before .before .before .before .before .before .before .pre .1 .1 .0 .1) (rw (add-one (a .i)) at (c .add-rows .ensures))
 
 copy-number-stretches-requires : tie.Need-copy-number-stretches-requires
 copy-number-stretches-requires c κs = (c .before .before .before .before .before .before .before .before .before .before .before .pre .0, (c .before .before .before .before .before .before .before .before .before .before .before .pre .1 .0, (c .before .before .before .before .before .before .before .before .before .before .before .pre .1 .1 .0 .0, c .before .before .before .before .before .before .before .before .before .before .before .pre .1 .1 .1)))

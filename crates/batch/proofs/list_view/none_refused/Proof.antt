@@ -10,7 +10,7 @@ use Rattle.batch.proofs.list_view.none_refused.Statement.{statement}
 use Rattle.batch.proofs.list_view.none_refused.Tie as tie
 
 returns : tie.Need-returns
-returns c = λ state parts source. rw (c .if1 .taken) refl
+returns c = λ plan parts source. rw (c .if1 .taken) refl
 
 add-place : tie.Need-add-place
 add-place c = search needs
@@ -38,7 +38,7 @@ reaches-requires c κs = (c .before .before .before .before .before .before .bef
 returns-2 : tie.Need-returns-2
 returns-2 c =
     let a = c .before .before .before .before .before .before .before .before .args in
-    λ state parts source. refused-is (join state parts (a .lengths .now) (a .places .now) (a .body .now) (a .first) source) (a .i) (a .w) (a .v) (a .slot) (a .n) (a .write) (c .before .before .before .before .if1 .left) (c .before .before .before .place .ensures) (c .before .before .place2 .ensures) (c .before .furthest .ensures) (c .reaches .ensures state parts source)
+    λ plan parts source. refused-is (join plan parts (a .lengths .now) (a .places .now) (a .body .now) (a .first) source) (a .i) (a .w) (a .v) (a .slot) (a .n) (a .write) (c .before .before .before .before .if1 .left) (c .before .before .before .place .ensures) (c .before .before .place2 .ensures) (c .before .furthest .ensures) (c .reaches .ensures plan parts source)
 
 pub none-refused-spec : {M : Type 1} → statement M
 none-refused-spec = tie.close (tie.spec returns add-place place-requires add-place-2 place-requires-2 furthest-requires add-reaches reaches-requires returns-2)

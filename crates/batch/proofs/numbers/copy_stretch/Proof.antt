@@ -20,7 +20,7 @@ slot-of-requires c κs = search needs
 returns : tie.Need-returns
 returns c =
     let a = c .before .before .before .before .before .before .before .before .args in
-    λ source. plain-far (join (a .state .now) (a .parts .now) (a .lengths .now) (a .places .now) (a .body .now) (a .first) source) (a .k) (c .before .before .before .before .before .before .before .before .pre .5) (c .before .before .before .before .before .before .before .before .pre .1) (a .a) (a .n) (a .write) (a .counts .now) (a .room .now) (c .before .slot-of .ensures (a .state .now) (a .parts .now) (a .places .now) (a .body .now) source) (c .if1 .taken)
+    λ source. plain-far (join (a .plan .now) (a .parts .now) (a .lengths .now) (a .places .now) (a .body .now) (a .first) source) (a .k) (c .before .before .before .before .before .before .before .before .pre .5) (c .before .before .before .before .before .before .before .before .pre .1) (a .a) (a .n) (a .write) (a .counters .now) (a .room .now) (c .before .slot-of .ensures (a .plan .now) (a .parts .now) (a .places .now) (a .body .now) source) (c .if1 .taken)
 
 add-place : tie.Need-add-place
 add-place c = search needs
@@ -37,7 +37,7 @@ rows-in-requires c κs =
 returns-2 : tie.Need-returns-2
 returns-2 c =
     let a = c .before .before .before .before .before .before .before .before .before .before .before .args in
-    λ source. plain-short (join (a .state .now) (a .parts .now) (a .lengths .now) (a .places .now) (a .body .now) (a .first) source) (a .k) (c .before .before .before .before .before .before .before .before .before .before .before .pre .5) (c .before .before .before .before .before .before .before .before .before .before .before .pre .1) (a .a) (a .n) (a .write) (a .counts .now) (a .room .now) (c .before .before .before .before .slot-of .ensures (a .state .now) (a .parts .now) (a .places .now) (a .body .now) source) (c .before .before .before .if1 .left) (c .before .before .before .before .before .before .before .before .before .before .before .pre .4) (c .before .before .place .ensures) (c .before .rows-in .ensures (a .state .now) (a .parts .now) (a .lengths .now) (a .places .now) (a .first) source) (c .if2 .taken)
+    λ source. plain-short (join (a .plan .now) (a .parts .now) (a .lengths .now) (a .places .now) (a .body .now) (a .first) source) (a .k) (c .before .before .before .before .before .before .before .before .before .before .before .pre .5) (c .before .before .before .before .before .before .before .before .before .before .before .pre .1) (a .a) (a .n) (a .write) (a .counters .now) (a .room .now) (c .before .before .before .before .slot-of .ensures (a .plan .now) (a .parts .now) (a .places .now) (a .body .now) source) (c .before .before .before .if1 .left) (c .before .before .before .before .before .before .before .before .before .before .before .pre .4) (c .before .before .place .ensures) (c .before .rows-in .ensures (a .plan .now) (a .parts .now) (a .lengths .now) (a .places .now) (a .first) source) (c .if2 .taken)
 
 rows-of-requires : tie.Need-rows-of-requires
 rows-of-requires c κs = search needs
@@ -75,7 +75,7 @@ returns-3 : tie.Need-returns-3
 unfolding copyNumbers
 returns-3 c =
     let a = c .before .before .before .before .before .before .before .before .before .before .before .before .before .before .before .before .before .before .before .before .args in
-    λ source. plain-done (join (a .state .now) (a .parts .now) (a .lengths .now) (a .places .now) (a .body .now) (a .first) source) (a .k) (c .before .before .before .before .before .before .before .before .before .before .before .before .before .before .before .before .before .before .before .before .pre .5) (c .before .before .before .before .before .before .before .before .before .before .before .before .before .before .before .before .before .before .before .before .pre .1) (a .a) (a .n) (a .write) (a .counts .now) (a .room .now) (c .before .before .before .before .before .before .before .before .before .before .before .before .before .slot-of .ensures (a .state .now) (a .parts .now) (a .places .now) (a .body .now) source) (c .before .before .before .before .before .before .before .before .before .before .before .before .if1 .left) (rw (c .before .before .before .before .before .before .before .before .before .before .before .before .before .before .before .before .before .before .before .before .pre .4) at (entries-yes (join (a .state .now) (a .parts .now) (a .lengths .now) (a .places .now) (a .body .now) (a .first) source) (a .k) (a .write) (a .counts .now) (a .room .now) (a .w) (c .before .before .before .before .before .before .before .before .before .before .before .before .before .slot-of .result) (a .n) (λ at base. take (a .w * a .n) (drop (at + a .w * c .before .before .before .before .before .before .before .before .before .before .before .before .before .slot-of .result) (a .body .now))) (c .before .before .before .before .before .before .before .before .before .before .before .place .ensures) zero-same (c .before .before .before .before .before .before .before .before .before .before .rows-in .ensures (a .state .now) (a .parts .now) (a .lengths .now) (a .places .now) (a .first) source) (c .before .before .before .before .before .before .before .before .before .if2 .left) (c .before .before .before .before .before .before .before .rows-of .ensures) (c .before .before .before .before .before .before .scale .ensures) (omega (arith, c .before .before .before .before .before .before .before .before .before .before .before .before .before .before .before .before .before .before .before .before .good)) (c .before .before .before .before .put-few .ensures))) (c .add-rows .ensures)
+    λ source. plain-done (join (a .plan .now) (a .parts .now) (a .lengths .now) (a .places .now) (a .body .now) (a .first) source) (a .k) (c .before .before .before .before .before .before .before .before .before .before .before .before .before .before .before .before .before .before .before .before .pre .5) (c .before .before .before .before .before .before .before .before .before .before .before .before .before .before .before .before .before .before .before .before .pre .1) (a .a) (a .n) (a .write) (a .counters .now) (a .room .now) (c .before .before .before .before .before .before .before .before .before .before .before .before .before .slot-of .ensures (a .plan .now) (a .parts .now) (a .places .now) (a .body .now) source) (c .before .before .before .before .before .before .before .before .before .before .before .before .if1 .left) (rw (c .before .before .before .before .before .before .before .before .before .before .before .before .before .before .before .before .before .before .before .before .pre .4) at (entries-yes (join (a .plan .now) (a .parts .now) (a .lengths .now) (a .places .now) (a .body .now) (a .first) source) (a .k) (a .write) (a .counters .now) (a .room .now) (a .w) (c .before .before .before .before .before .before .before .before .before .before .before .before .before .slot-of .result) (a .n) (λ at base. take (a .w * a .n) (drop (at + a .w * c .before .before .before .before .before .before .before .before .before .before .before .before .before .slot-of .result) (a .body .now))) (c .before .before .before .before .before .before .before .before .before .before .before .place .ensures) zero-same (c .before .before .before .before .before .before .before .before .before .before .rows-in .ensures (a .plan .now) (a .parts .now) (a .lengths .now) (a .places .now) (a .first) source) (c .before .before .before .before .before .before .before .before .before .if2 .left) (c .before .before .before .before .before .before .before .rows-of .ensures) (c .before .before .before .before .before .before .scale .ensures) (omega (arith, c .before .before .before .before .before .before .before .before .before .before .before .before .before .before .before .before .before .before .before .before .good)) (c .before .before .before .before .put-few .ensures))) (c .add-rows .ensures)
 
 pub copy-stretch-spec : {M : Type 1} → statement M
 copy-stretch-spec = tie.close (tie.spec slot-of-requires returns add-place place-requires rows-in-requires returns-2 rows-of-requires scale-requires mul-from add-from mul-put-few put-few-requires add-rows-requires same-length returns-3)

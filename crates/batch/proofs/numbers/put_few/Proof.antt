@@ -17,7 +17,7 @@ enum-known-at c = search needs
 copy-few-requires : tie.Need-copy-few-requires
 copy-few-requires c κs =
     let a = c .before .before .before .before .before .before .before .before .before .args in
-    omega (arith, (made (a .state .now) (a .parts .now) (length (a .room .now)) (a .write) (a .k) 1 (a .o) (a .n) (c .before .before .before .before .target .ensures) (c .before .before .at .given .1)) .within)
+    omega (arith, (made (a .plan .now) (a .parts .now) (length (a .room .now)) (a .write) (a .k) 1 (a .o) (a .n) (c .before .before .before .before .target .ensures) (c .before .before .at .given .1)) .within)
 
 enum-told : tie.Need-enum-told
 enum-told c = search needs
@@ -28,12 +28,12 @@ same-length c = search needs
 returns : tie.Need-returns
 returns c =
     let a = c .before .before .before .before .before .before .before .before .before .before .before .before .args in
-    put-at (a .state .now) (a .parts .now) (a .write) (a .k) 1 (a .o) (take (a .n) (drop (a .from) (a .body .now))) (a .room .now) (omega arith) (c .before .before .before .before .before .before .before .target .ensures) (c .before .before .before .before .before .at .given .1) (alike-same (sym (length-copied (a .body .now) (a .from) (a .n) (omega arith)))) (c .before .before .copy-few .ensures)
+    put-at (a .plan .now) (a .parts .now) (a .write) (a .k) 1 (a .o) (take (a .n) (drop (a .from) (a .body .now))) (a .room .now) (omega arith) (c .before .before .before .before .before .before .before .target .ensures) (c .before .before .before .before .before .at .given .1) (alike-same (sym (length-copied (a .body .now) (a .from) (a .n) (omega arith)))) (c .before .before .copy-few .ensures)
 
 returns-2 : tie.Need-returns-2
 returns-2 c =
     let a = c .before .before .before .before .before .before .before .args in
-    put-skip (a .state .now) (a .parts .now) (a .write) (a .k) 1 (a .o) (take (a .n) (drop (a .from) (a .body .now))) (a .room .now) (omega arith) (c .before .before .target .ensures) (c .enum-told .given .1) (alike-same (sym (length-copied (a .body .now) (a .from) (a .n) (omega arith))))
+    put-skip (a .plan .now) (a .parts .now) (a .write) (a .k) 1 (a .o) (take (a .n) (drop (a .from) (a .body .now))) (a .room .now) (omega arith) (c .before .before .target .ensures) (c .enum-told .given .1) (alike-same (sym (length-copied (a .body .now) (a .from) (a .n) (omega arith))))
 
 pub put-few-spec : {M : Type 1} → statement M
 put-few-spec = tie.close (tie.spec target-requires enum-known-at copy-few-requires enum-told same-length returns returns-2)

@@ -11,7 +11,7 @@ slot-of-requires c κs = search needs
 returns : tie.Need-returns
 returns c =
     let a = c .before .before .before .before .before .args in
-    λ state parts source. reached-far (join state parts (a .lengths .now) (a .places .now) (a .body .now) (a .first) source) (a .k) (a .w) (a .end) (c .before .slot-of .ensures state parts (a .places .now) (a .body .now) source) (c .if1 .taken)
+    λ plan parts source. reached-far (join plan parts (a .lengths .now) (a .places .now) (a .body .now) (a .first) source) (a .k) (a .w) (a .end) (c .before .slot-of .ensures plan parts (a .places .now) (a .body .now) source) (c .if1 .taken)
 
 add-place : tie.Need-add-place
 add-place c = search needs
@@ -25,7 +25,7 @@ rows-in-requires c κs = search needs
 returns-2 : tie.Need-returns-2
 returns-2 c =
     let a = c .before .before .before .before .before .before .before .args in
-    λ state parts source. reached-near (join state parts (a .lengths .now) (a .places .now) (a .body .now) (a .first) source) (a .k) (a .w) (a .end) (c .before .before .before .slot-of .ensures state parts (a .places .now) (a .body .now) source) (c .before .before .if1 .left) (c .before .place .ensures) (c .rows-in .ensures state parts (a .lengths .now) (a .places .now) (a .first) source)
+    λ plan parts source. reached-near (join plan parts (a .lengths .now) (a .places .now) (a .body .now) (a .first) source) (a .k) (a .w) (a .end) (c .before .before .before .slot-of .ensures plan parts (a .places .now) (a .body .now) source) (c .before .before .if1 .left) (c .before .place .ensures) (c .rows-in .ensures plan parts (a .lengths .now) (a .places .now) (a .first) source)
 
 pub reaches-spec : {M : Type 1} → statement M
 reaches-spec = tie.close (tie.spec slot-of-requires returns add-place place-requires rows-in-requires returns-2)

@@ -8,7 +8,7 @@ has-part-requires : tie.Need-has-part-requires
 has-part-requires c κs = search needs
 
 returns : tie.Need-returns
-returns c = let a = c .before .before .before .before .args in end-none (a .state .now) (a .parts .now) (a .i) (a .b) (a .end) (c .before .has-part .ensures) (c .if1 .taken)
+returns c = let a = c .before .before .before .before .args in end-none (a .plan .now) (a .parts .now) (a .i) (a .b) (a .end) (c .before .has-part .ensures) (c .if1 .taken)
 
 number-of-requires : tie.Need-number-of-requires
 number-of-requires c κs = search needs
@@ -20,7 +20,7 @@ at-u64-requires : tie.Need-at-u64-requires
 at-u64-requires c κs = search needs
 
 returns-2 : tie.Need-returns-2
-returns-2 c = let a = c .before .before .before .before .before .before .before .args in end-before (a .state .now) (a .parts .now) (a .i) (a .b) (a .end) (c .before .before .before .before .has-part .ensures) (c .before .before .before .if1 .left) (rw (c .before .before .number-of .ensures .0) at (c .before .at-u64 .ensures)) (c .if2 .taken)
+returns-2 c = let a = c .before .before .before .before .before .before .before .args in end-before (a .plan .now) (a .parts .now) (a .i) (a .b) (a .end) (c .before .before .before .before .has-part .ensures) (c .before .before .before .if1 .left) (rw (c .before .before .number-of .ensures .0) at (c .before .at-u64 .ensures)) (c .if2 .taken)
 
 mul-at-u64-2 : tie.Need-mul-at-u64-2
 mul-at-u64-2 c = search needs
@@ -35,7 +35,7 @@ grow-requires : tie.Need-grow-requires
 grow-requires c κs = search needs
 
 returns-3 : tie.Need-returns-3
-returns-3 c = let a = c .before .before .before .before .before .before .before .before .before .args in end-behind (a .state .now) (a .parts .now) (a .i) (a .b) (a .end) (c .before .before .before .before .before .before .has-part .ensures) (c .before .before .before .before .before .if1 .left) (rw (c .before .before .before .before .number-of .ensures .0) at (c .before .before .before .at-u64 .ensures)) (c .before .before .if2 .left) (rw (c .before .before .before .before .number-of .ensures .0) at (c .before .at-u642 .ensures)) (c .grow .ensures)
+returns-3 c = let a = c .before .before .before .before .before .before .before .before .before .args in end-behind (a .plan .now) (a .parts .now) (a .i) (a .b) (a .end) (c .before .before .before .before .before .before .has-part .ensures) (c .before .before .before .before .before .if1 .left) (rw (c .before .before .before .before .number-of .ensures .0) at (c .before .before .before .at-u64 .ensures)) (c .before .before .if2 .left) (rw (c .before .before .before .before .number-of .ensures .0) at (c .before .at-u642 .ensures)) (c .grow .ensures)
 
 pub end-behind-spec : {M : Type 1} → statement M
 end-behind-spec = tie.close (tie.spec has-part-requires returns number-of-requires mul-at-u64 at-u64-requires returns-2 mul-at-u64-2 add-at-u64 at-u64-requires-2 grow-requires returns-3)

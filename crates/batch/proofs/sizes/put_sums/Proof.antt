@@ -25,7 +25,7 @@ enum-known-to c = search needs
 write-sums-requires : tie.Need-write-sums-requires
 write-sums-requires c κs =
     let a = c .before .before .before .before .before .before .before .before .before .before .args in
-    ((times-within (a .n) (a .w) (made (a .state .now) (a .parts .now) (length (a .room .now)) (a .write) (a .i) 1 (a .o) (scaled (a .n) (a .w)) (rw (c .before .before .before .before .before .scale .ensures) at (c .before .before .before .before .target .ensures)) (c .before .before .to .given .1)) (omega arith), c .before .before .before .before .before .before .before .before .before .before .pre .0 .1, c .before .before .before .before .before .before .before .before .before .before .pre .0 .2, c .before .before .before .before .before .before .before .before .before .before .pre .0 .3), c .before .before .before .before .before .before .before .before .before .before .pre .1)
+    ((times-within (a .n) (a .w) (made (a .plan .now) (a .parts .now) (length (a .room .now)) (a .write) (a .i) 1 (a .o) (scaled (a .n) (a .w)) (rw (c .before .before .before .before .before .scale .ensures) at (c .before .before .before .before .target .ensures)) (c .before .before .to .given .1)) (omega arith), c .before .before .before .before .before .before .before .before .before .before .pre .0 .1, c .before .before .before .before .before .before .before .before .before .before .pre .0 .2, c .before .before .before .before .before .before .before .before .before .before .pre .0 .3), c .before .before .before .before .before .before .before .before .before .before .pre .1)
 
 enum-told : tie.Need-enum-told
 enum-told c = search needs
@@ -37,13 +37,13 @@ returns : tie.Need-returns
 returns c =
     let a = c .before .before .before .before .before .before .before .before .before .before .before .before .before .args in
     let g : ℕ → ℕ = λ r. a .rows + sumOf (λ q. entry (a .w) (a .body .now) (a .at) (a .slot + q)) r in
-    put-at (a .state .now) (a .parts .now) (a .write) (a .i) 1 (a .o) (numbers (a .w) g (a .n)) (a .room .now) (omega arith) (rw (c .before .before .before .before .before .before .before .before .scale .ensures) at (c .before .before .before .before .before .before .before .target .ensures)) (c .before .before .before .before .before .to .given .1) (alike-sized (a .n) (a .w) (length-numbers (a .w) g (a .n))) (c .before .before .write-sums .ensures)
+    put-at (a .plan .now) (a .parts .now) (a .write) (a .i) 1 (a .o) (numbers (a .w) g (a .n)) (a .room .now) (omega arith) (rw (c .before .before .before .before .before .before .before .before .scale .ensures) at (c .before .before .before .before .before .before .before .target .ensures)) (c .before .before .before .before .before .to .given .1) (alike-sized (a .n) (a .w) (length-numbers (a .w) g (a .n))) (c .before .before .write-sums .ensures)
 
 returns-2 : tie.Need-returns-2
 returns-2 c =
     let a = c .before .before .before .before .before .before .before .before .args in
     let g : ℕ → ℕ = λ r. a .rows + sumOf (λ q. entry (a .w) (a .body .now) (a .at) (a .slot + q)) r in
-    put-skip (a .state .now) (a .parts .now) (a .write) (a .i) 1 (a .o) (numbers (a .w) g (a .n)) (a .room .now) (omega arith) (rw (c .before .before .before .scale .ensures) at (c .before .before .target .ensures)) (c .enum-told .given .1) (alike-sized (a .n) (a .w) (length-numbers (a .w) g (a .n)))
+    put-skip (a .plan .now) (a .parts .now) (a .write) (a .i) 1 (a .o) (numbers (a .w) g (a .n)) (a .room .now) (omega arith) (rw (c .before .before .before .scale .ensures) at (c .before .before .target .ensures)) (c .enum-told .given .1) (alike-sized (a .n) (a .w) (length-numbers (a .w) g (a .n)))
 
 pub put-sums-spec : {M : Type 1} → statement M
 put-sums-spec = tie.close (tie.spec scale-requires target-requires enum-known-to write-sums-requires enum-told same-length returns returns-2)

@@ -23,7 +23,7 @@ enum-known-to c = search needs
 write-lands-requires : tie.Need-write-lands-requires
 write-lands-requires c κs =
     let a = c .before .before .before .before .before .before .before .before .before .before .args in
-    (times-within (a .n) 4 (made (a .state .now) (a .parts .now) (length (a .room .now)) (a .write) (a .i) 2 (a .o) (scaled (a .n) 4) (rw (c .before .before .before .before .before .scale .ensures) at (c .before .before .before .before .target .ensures)) (c .before .before .to .given .1)) (omega arith), c .before .before .before .before .before .before .before .before .before .before .pre .1, c .before .before .before .before .before .before .before .before .before .before .pre .2, c .before .before .before .before .before .before .before .before .before .before .pre .3)
+    (times-within (a .n) 4 (made (a .plan .now) (a .parts .now) (length (a .room .now)) (a .write) (a .i) 2 (a .o) (scaled (a .n) 4) (rw (c .before .before .before .before .before .scale .ensures) at (c .before .before .before .before .target .ensures)) (c .before .before .to .given .1)) (omega arith), c .before .before .before .before .before .before .before .before .before .before .pre .1, c .before .before .before .before .before .before .before .before .before .before .pre .2, c .before .before .before .before .before .before .before .before .before .before .pre .3)
 
 enum-told : tie.Need-enum-told
 enum-told c = search needs
@@ -34,14 +34,14 @@ same-length c = search needs
 returns : tie.Need-returns
 returns c =
     let a = c .before .before .before .before .before .before .before .before .before .before .before .before .before .args in
-    let g : ℕ → ℕ = landsBy (λ r. homeBy (a .homes .now) (a .body .now) (a .ids + (a .slot + r))) (a .counts .now) in
-    put-at (a .state .now) (a .parts .now) (a .write) (a .i) 2 (a .o) (numbers 4 g (a .n)) (a .room .now) (omega arith) (rw (c .before .before .before .before .before .before .before .before .scale .ensures) at (c .before .before .before .before .before .before .before .target .ensures)) (c .before .before .before .before .before .to .given .1) (alike-sized (a .n) 4 (length-numbers 4 g (a .n))) (c .before .before .write-lands .ensures)
+    let g : ℕ → ℕ = landsBy (λ r. homeBy (a .homes .now) (a .body .now) (a .ids + (a .slot + r))) (a .counters .now) in
+    put-at (a .plan .now) (a .parts .now) (a .write) (a .i) 2 (a .o) (numbers 4 g (a .n)) (a .room .now) (omega arith) (rw (c .before .before .before .before .before .before .before .before .scale .ensures) at (c .before .before .before .before .before .before .before .target .ensures)) (c .before .before .before .before .before .to .given .1) (alike-sized (a .n) 4 (length-numbers 4 g (a .n))) (c .before .before .write-lands .ensures)
 
 returns-2 : tie.Need-returns-2
 returns-2 c =
     let a = c .before .before .before .before .before .before .before .before .args in
-    let g : ℕ → ℕ = landsBy (λ r. homeBy (a .homes .now) (a .body .now) (a .ids + (a .slot + r))) (a .counts .now) in
-    put-skip (a .state .now) (a .parts .now) (a .write) (a .i) 2 (a .o) (numbers 4 g (a .n)) (a .room .now) (omega arith) (rw (c .before .before .before .scale .ensures) at (c .before .before .target .ensures)) (c .enum-told .given .1) (alike-sized (a .n) 4 (length-numbers 4 g (a .n)))
+    let g : ℕ → ℕ = landsBy (λ r. homeBy (a .homes .now) (a .body .now) (a .ids + (a .slot + r))) (a .counters .now) in
+    put-skip (a .plan .now) (a .parts .now) (a .write) (a .i) 2 (a .o) (numbers 4 g (a .n)) (a .room .now) (omega arith) (rw (c .before .before .before .scale .ensures) at (c .before .before .target .ensures)) (c .enum-told .given .1) (alike-sized (a .n) 4 (length-numbers 4 g (a .n)))
 
 pub put-lands-spec : {M : Type 1} → statement M
 put-lands-spec = tie.close (tie.spec scale-requires target-requires enum-known-to write-lands-requires enum-told same-length returns returns-2)

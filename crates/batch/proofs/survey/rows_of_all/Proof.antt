@@ -10,10 +10,10 @@ use Rattle.batch.proofs.survey.rows_of_all.Statement.{statement}
 use Rattle.batch.proofs.survey.rows_of_all.Tie as tie
 
 abbrev Inv-loop : tie.InvT-loop
-Inv-loop counts lands₀ k₀ lands k = (k ≤ 32) × (length lands ≡ 32) × ((j : ℕ) → j < k → getD lands j 0 ≡ rows counts j)
+Inv-loop counters lands₀ k₀ lands k = (k ≤ 32) × (length lands ≡ 32) × ((j : ℕ) → j < k → getD lands j 0 ≡ rows counters j)
 
 abbrev μ-loop : tie.MeasureT-loop
-μ-loop counts lands₀ k₀ lands k = 32 - k
+μ-loop counters lands₀ k₀ lands k = 32 - k
 
 loop-holds : tie.Need-loop-holds Inv-loop μ-loop
 loop-holds c = (omega arith, length-replicate {A = ℕ} 32 0, λ j h. absurd (omega arith))
@@ -36,7 +36,7 @@ loop-less c = omega arith
 loop-again : tie.Need-loop-again Inv-loop μ-loop
 loop-again c =
     let l = c .before .before .loop in
-    (omega arith, length-set (l .lands) (l .k) _ ∙ l .inv .1, below-set (λ j. rows (c .before .before .before .args .counts .now) j) (l .lands) (l .k) (omega (arith, l .inv .1)) (l .inv .2) (c .rows-of .ensures))
+    (omega arith, length-set (l .lands) (l .k) _ ∙ l .inv .1, below-set (λ j. rows (c .before .before .before .args .counters .now) j) (l .lands) (l .k) (omega (arith, l .inv .1)) (l .inv .2) (c .rows-of .ensures))
 
 returns : tie.Need-returns Inv-loop μ-loop
 returns c = (c .before .loop .inv .1, λ j h. c .before .loop .inv .2 j (omega arith))

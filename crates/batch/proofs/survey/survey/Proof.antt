@@ -12,10 +12,10 @@ use Rattle.batch.proofs.survey.survey.Statement.{statement}
 use Rattle.batch.proofs.survey.survey.Tie as tie
 
 abbrev Inv-loop : tie.InvT-loop
-Inv-loop homes counts body ids positions slot n begins₀ taken₀ ends₀ whole₀ r₀ begins taken ends whole r = (r ≤ n) × (allLand (λ q. homeBy homes body (ids + (slot + q))) counts r ≡ true) × Fallen (λ q. homeBy homes body (ids + (slot + q))) (λ q. entry 4 body positions (slot + q)) n r whole begins taken ends
+Inv-loop homes counters body ids positions slot n begins₀ taken₀ ends₀ whole₀ r₀ begins taken ends whole r = (r ≤ n) × (allLand (λ q. homeBy homes body (ids + (slot + q))) counters r ≡ true) × Fallen (λ q. homeBy homes body (ids + (slot + q))) (λ q. entry 4 body positions (slot + q)) n r whole begins taken ends
 
 abbrev μ-loop : tie.MeasureT-loop
-μ-loop homes counts body ids positions slot n begins₀ taken₀ ends₀ whole₀ r₀ begins taken ends whole r = n - r
+μ-loop homes counters body ids positions slot n begins₀ taken₀ ends₀ whole₀ r₀ begins taken ends whole r = n - r
 
 loop-holds : tie.Need-loop-holds Inv-loop μ-loop
 loop-holds c =
@@ -37,7 +37,7 @@ cast-k c = search needs
 returns : tie.Need-returns Inv-loop μ-loop
 returns c =
     let a = c .before .before .before .before .before .args in
-    (land-homeless (λ q. homeBy (a .homes .now) (a .body .now) (a .ids + (a .slot + q))) (a .counts .now) (a .n) (c .before .before .before .loop .r) (omega arith) (c .before .home-at .ensures) (c .if1 .taken), λ z. absurd (false≢true z))
+    (land-homeless (λ q. homeBy (a .homes .now) (a .body .now) (a .ids + (a .slot + q))) (a .counters .now) (a .n) (c .before .before .before .loop .r) (omega arith) (c .before .home-at .ensures) (c .if1 .taken), λ z. absurd (false≢true z))
 
 mul-t : tie.Need-mul-t Inv-loop μ-loop
 mul-t c = omega arith
@@ -55,7 +55,7 @@ returns-2 : tie.Need-returns-2 Inv-loop μ-loop
 returns-2 c =
     let a = c .before .before .before .before .before .before .before .before .before .args in
     let l = c .before .before .before .before .before .before .before .loop in
-    (land-over (λ q. homeBy (a .homes .now) (a .body .now) (a .ids + (a .slot + q))) (a .counts .now) (a .n) (l .r) (omega arith) (c .before .before .before .before .before .home-at .ensures) (l .inv .2 .counted (c .before .before .before .before .before .home-at .result) (omega arith)) (c .before .before .rows-of .ensures) (c .before .grow .ensures) (c .if2 .taken), λ z. absurd (false≢true z))
+    (land-over (λ q. homeBy (a .homes .now) (a .body .now) (a .ids + (a .slot + q))) (a .counters .now) (a .n) (l .r) (omega arith) (c .before .before .before .before .before .home-at .ensures) (l .inv .2 .counted (c .before .before .before .before .before .home-at .result) (omega arith)) (c .before .before .rows-of .ensures) (c .before .grow .ensures) (c .if2 .taken), λ z. absurd (false≢true z))
 
 add-position-at : tie.Need-add-position-at Inv-loop μ-loop
 add-position-at c = omega arith
@@ -135,7 +135,7 @@ loop-again c =
     let few = c .before .before .before .before .before .before .before .before .before .before .if1 .left in
     let t = l .inv .2 .counted (c .before .before .before .before .before .before .before .before .before .before .before .home-at .result) (omega arith) in (
       omega arith,
-      land-more h (a .counts .now) (l .r) (l .inv .1) (subst (λ v. v < 32) (c .before .before .before .before .before .before .before .before .before .before .before .home-at .ensures) (omega arith)) (land-fits h (a .counts .now) (l .r) (c .before .before .before .before .before .before .before .before .before .before .before .home-at .ensures) t (c .before .before .before .before .before .before .before .before .rows-of .ensures) (c .before .before .before .before .before .before .before .grow .ensures) (c .before .before .before .before .before .before .if2 .left)),
+      land-more h (a .counters .now) (l .r) (l .inv .1) (subst (λ v. v < 32) (c .before .before .before .before .before .before .before .before .before .before .before .home-at .ensures) (omega arith)) (land-fits h (a .counters .now) (l .r) (c .before .before .before .before .before .before .before .before .before .before .before .home-at .ensures) t (c .before .before .before .before .before .before .before .before .rows-of .ensures) (c .before .before .before .before .before .before .before .grow .ensures) (c .before .before .before .before .before .before .if2 .left)),
       fall-more h p (a .n) (l .r) (l .whole) (l .begins) (l .taken) (l .ends) (l .inv .2) (omega arith) (c .before .before .before .before .before .before .before .before .before .before .before .home-at .ensures) (omega arith) (c .before .before .before .before .before .position-at .ensures) (omega arith) refl (c .before .before .before .begin-of .ensures) (c .before .before .still .ensures) (c .larger .ensures) refl,
     )
 

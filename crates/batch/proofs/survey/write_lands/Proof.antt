@@ -16,10 +16,10 @@ use Rattle.batch.proofs.survey.write_lands.Statement.{statement}
 use Rattle.batch.proofs.survey.write_lands.Tie as tie
 
 abbrev Inv-loop : tie.InvT-loop
-Inv-loop room₀ to homes counts body ids slot n lands₀ r₀ room lands r = (r ≤ n) × (length room ≡ length room₀) × Landing (λ q. homeBy homes body (ids + (slot + q))) counts r lands × (room ≡ splice to (numbers 4 (landsBy (λ q. homeBy homes body (ids + (slot + q))) counts) r) room₀)
+Inv-loop room₀ to homes counters body ids slot n lands₀ r₀ room lands r = (r ≤ n) × (length room ≡ length room₀) × Landing (λ q. homeBy homes body (ids + (slot + q))) counters r lands × (room ≡ splice to (numbers 4 (landsBy (λ q. homeBy homes body (ids + (slot + q))) counters) r) room₀)
 
 abbrev μ-loop : tie.MeasureT-loop
-μ-loop room₀ to homes counts body ids slot n lands₀ r₀ room lands r = n - r
+μ-loop room₀ to homes counters body ids slot n lands₀ r₀ room lands r = n - r
 
 rows-of-all-requires : tie.Need-rows-of-all-requires Inv-loop μ-loop
 rows-of-all-requires c κs = search needs
@@ -27,7 +27,7 @@ rows-of-all-requires c κs = search needs
 loop-holds : tie.Need-loop-holds Inv-loop μ-loop
 loop-holds c =
     let a = c .before .before .before .args in
-    (omega arith, refl, landing-none (λ q. homeBy (a .homes .now) (a .body .now) (a .ids + (a .slot + q))) (a .counts .now) (c .rows-of-all .result) (c .rows-of-all .ensures), sym (pieces-none _ _ _))
+    (omega arith, refl, landing-none (λ q. homeBy (a .homes .now) (a .body .now) (a .ids + (a .slot + q))) (a .counters .now) (c .rows-of-all .result) (c .rows-of-all .ensures), sym (pieces-none _ _ _))
 
 add-home-at : tie.Need-add-home-at Inv-loop μ-loop
 add-home-at c = omega arith
@@ -46,7 +46,7 @@ mul-v c =
     let a = c .before .before .before .before .before .before .args in
     let l = c .before .before .loop in
     let h : ℕ → ℕ = λ q. homeBy (a .homes .now) (a .body .now) (a .ids + (a .slot + q)) in
-    let m = land-at h (a .counts .now) (a .n) (l .r) (c .before .before .before .before .before .before .pre .3) (omega arith) in
+    let m = land-at h (a .counters .now) (a .n) (l .r) (c .before .before .before .before .before .before .pre .3) (omega arith) in
     omega (arith, m .0, c .home-at .ensures, l .inv .2 .0)
 
 array-read-v : tie.Need-array-read-v Inv-loop μ-loop
@@ -54,7 +54,7 @@ array-read-v c =
     let a = c .before .before .before .before .before .before .args in
     let l = c .before .before .loop in
     let h : ℕ → ℕ = λ q. homeBy (a .homes .now) (a .body .now) (a .ids + (a .slot + q)) in
-    let m = land-at h (a .counts .now) (a .n) (l .r) (c .before .before .before .before .before .before .pre .3) (omega arith) in
+    let m = land-at h (a .counters .now) (a .n) (l .r) (c .before .before .before .before .before .before .pre .3) (omega arith) in
     omega (arith, m .0, c .home-at .ensures, l .inv .2 .0)
 
 mul-write-u32 : tie.Need-mul-write-u32 Inv-loop μ-loop
@@ -74,8 +74,8 @@ add-lands c =
     let a = c .before .before .before .before .before .before .before .before .before .before .args in
     let l = c .before .before .before .before .before .before .loop in
     let h : ℕ → ℕ = λ q. homeBy (a .homes .now) (a .body .now) (a .ids + (a .slot + q)) in
-    let m = land-at h (a .counts .now) (a .n) (l .r) (c .before .before .before .before .before .before .before .before .before .before .pre .3) (omega arith) in
-    let v : getD (l .lands) (c .before .before .before .before .home-at .result) 0 ≡ landsBy h (a .counts .now) (l .r) = landing-at h (a .counts .now) (l .r) (l .lands) (l .inv .2) (m .0) (c .before .before .before .before .home-at .ensures) in
+    let m = land-at h (a .counters .now) (a .n) (l .r) (c .before .before .before .before .before .before .before .before .before .before .pre .3) (omega arith) in
+    let v : getD (l .lands) (c .before .before .before .before .home-at .result) 0 ≡ landsBy h (a .counters .now) (l .r) = landing-at h (a .counters .now) (l .r) (l .lands) (l .inv .2) (m .0) (c .before .before .before .before .home-at .ensures) in
     omega (arith, m .1, v)
 
 mul-lands : tie.Need-mul-lands Inv-loop μ-loop
@@ -83,7 +83,7 @@ mul-lands c =
     let a = c .before .before .before .before .before .before .before .before .before .before .args in
     let l = c .before .before .before .before .before .before .loop in
     let h : ℕ → ℕ = λ q. homeBy (a .homes .now) (a .body .now) (a .ids + (a .slot + q)) in
-    let m = land-at h (a .counts .now) (a .n) (l .r) (c .before .before .before .before .before .before .before .before .before .before .pre .3) (omega arith) in
+    let m = land-at h (a .counters .now) (a .n) (l .r) (c .before .before .before .before .before .before .before .before .before .before .pre .3) (omega arith) in
     omega (arith, m .0, c .before .before .before .before .home-at .ensures, l .inv .2 .0)
 
 array-write-lands : tie.Need-array-write-lands Inv-loop μ-loop
@@ -91,7 +91,7 @@ array-write-lands c =
     let a = c .before .before .before .before .before .before .before .before .before .before .args in
     let l = c .before .before .before .before .before .before .loop in
     let h : ℕ → ℕ = λ q. homeBy (a .homes .now) (a .body .now) (a .ids + (a .slot + q)) in
-    let m = land-at h (a .counts .now) (a .n) (l .r) (c .before .before .before .before .before .before .before .before .before .before .pre .3) (omega arith) in
+    let m = land-at h (a .counters .now) (a .n) (l .r) (c .before .before .before .before .before .before .before .before .before .before .pre .3) (omega arith) in
     omega (arith, m .0, c .before .before .before .before .home-at .ensures, l .inv .2 .0)
 
 add-r : tie.Need-add-r Inv-loop μ-loop
@@ -105,16 +105,16 @@ loop-again c =
     let a = c .before .before .before .before .before .before .before .before .before .before .args in
     let l = c .before .before .before .before .before .before .loop in
     let h : ℕ → ℕ = λ q. homeBy (a .homes .now) (a .body .now) (a .ids + (a .slot + q)) in
-    let m = land-at h (a .counts .now) (a .n) (l .r) (c .before .before .before .before .before .before .before .before .before .before .pre .3) (omega arith) in
-    let v : getD (l .lands) (c .before .before .before .before .home-at .result) 0 ≡ landsBy h (a .counts .now) (l .r) = landing-at h (a .counts .now) (l .r) (l .lands) (l .inv .2) (m .0) (c .before .before .before .before .home-at .ensures) in (
+    let m = land-at h (a .counters .now) (a .n) (l .r) (c .before .before .before .before .before .before .before .before .before .before .pre .3) (omega arith) in
+    let v : getD (l .lands) (c .before .before .before .before .home-at .result) 0 ≡ landsBy h (a .counters .now) (l .r) = landing-at h (a .counters .now) (l .r) (l .lands) (l .inv .2) (m .0) (c .before .before .before .before .home-at .ensures) in (
       omega arith,
       omega arith,
-      landing-more h (a .counts .now) (l .r) (l .lands) (l .inv .2) (m .0) (c .before .before .before .before .home-at .ensures) refl refl,
+      landing-more h (a .counters .now) (l .r) (l .lands) (l .inv .2) (m .0) (c .before .before .before .before .home-at .ensures) refl refl,
       c .before .before .write-u32 .ensures
           ∙ ap (λ (z : List ℕ). splice (a .to + 4 * l .r) z (l .room)) (encode-mod 4 (getD (l .lands) (c .before .before .before .before .home-at .result) 0))
           ∙ ap (λ (z : ℕ). splice (a .to + 4 * l .r) (encode 4 z) (l .room)) v
-          ∙ ap (λ (z : List ℕ). splice (a .to + 4 * l .r) (encode 4 (landsBy h (a .counts .now) (l .r))) z) (l .inv .3)
-          ∙ numbers-step 4 (landsBy h (a .counts .now)) (a .room .now) (a .to) (l .r) (omega arith),
+          ∙ ap (λ (z : List ℕ). splice (a .to + 4 * l .r) (encode 4 (landsBy h (a .counters .now) (l .r))) z) (l .inv .3)
+          ∙ numbers-step 4 (landsBy h (a .counters .now)) (a .room .now) (a .to) (l .r) (omega arith),
     )
 
 same-length : tie.Need-same-length Inv-loop μ-loop

@@ -17,7 +17,7 @@ use Rattle.anew.proofs.result_plan.Answered.{before-column, before-own, answers
 use Rattle.coding.specs.Counted.{allCounts}
 use Rattle.coding.specs.Encode.{encodeOwn, encodeKeeps, encodePlan, encodeOut, RoomFor, runsIn}
 use Rattle.coding.proofs.Grounds.{own-same}
-use Rattle.coding.proofs.Encoded.{own, due, come, codable, counts-are, room-is}
+use Rattle.coding.proofs.Encoded.{own, due, come, codable, tally-are, room-is}
 use Rattle.coding.proofs.Asked.{lengths-are, small-yes, small-no, keep-by, none-before}
 use Rattle.coding.proofs.Accepted.{due-width}
 use Rattle.coding.proofs.Codes.{ends-sized}
@@ -118,11 +118,11 @@ slice-aggregate-runs-ground : tie.Need-slice-aggregate-runs-ground
 slice-aggregate-runs-ground c = search needs
 
 -- 14 or 13
-ground-is : (c : tie.After-runs-ground) → c .runs-ground .result ≡ roomGround (plan-of (start-of (c .before .before .before .before .before))) (out-of (start-of (c .before .before .before .before .before)) .counts) (start-of (c .before .before .before .before .before) .args .parts .now) (length (start-of (c .before .before .before .before .before) .args .plan .now)) (length (start-of (c .before .before .before .before .before) .args .counters .now)) (length (start-of (c .before .before .before .before .before) .args .room .now))
+ground-is : (c : tie.After-runs-ground) → c .runs-ground .result ≡ roomGround (plan-of (start-of (c .before .before .before .before .before))) (out-of (start-of (c .before .before .before .before .before)) .counters) (start-of (c .before .before .before .before .before) .args .parts .now) (length (start-of (c .before .before .before .before .before) .args .plan .now)) (length (start-of (c .before .before .before .before .before) .args .counters .now)) (length (start-of (c .before .before .before .before .before) .args .room .now))
 ground-is c =
     let d = c .before .before .before .before .before in
     let z = start-of d .args in
-    c .runs-ground .ensures ∙ ap₂ (λ p k. roomGround p k (z .parts .now) (length (z .plan .now)) (length (z .counters .now)) (length (z .room .now))) (c .before .before .before .before .planned .ensures) (counts-are (z .formats .now) (z .schema .now) (z .lengths .now) (z .places .now) (z .buffers .now) (z .body .now) (z .first) (z .n) (z .target) (z .start) (z .end) (low d) (bytes d) (accepted d) (free d) _ (keep-is (c .before .before)))
+    c .runs-ground .ensures ∙ ap₂ (λ p k. roomGround p k (z .parts .now) (length (z .plan .now)) (length (z .counters .now)) (length (z .room .now))) (c .before .before .before .before .planned .ensures) (tally-are (z .formats .now) (z .schema .now) (z .lengths .now) (z .places .now) (z .buffers .now) (z .body .now) (z .first) (z .n) (z .target) (z .start) (z .end) (low d) (bytes d) (accepted d) (free d) _ (keep-is (c .before .before)))
 
 returns-4 : tie.Need-returns-4
 returns-4 c =
@@ -135,7 +135,7 @@ slice-aggregate-write : tie.Need-slice-aggregate-write
 slice-aggregate-write c = search needs
 
 -- no ground of the room stands
-open-room : (c : tie.Else4) → roomGround (plan-of (start-of (c .before .before .before .before .before .before))) (out-of (start-of (c .before .before .before .before .before .before)) .counts) (start-of (c .before .before .before .before .before .before) .args .parts .now) (length (start-of (c .before .before .before .before .before .before) .args .plan .now)) (length (start-of (c .before .before .before .before .before .before) .args .counters .now)) (length (start-of (c .before .before .before .before .before .before) .args .room .now)) ≡ 0
+open-room : (c : tie.Else4) → roomGround (plan-of (start-of (c .before .before .before .before .before .before))) (out-of (start-of (c .before .before .before .before .before .before)) .counters) (start-of (c .before .before .before .before .before .before) .args .parts .now) (length (start-of (c .before .before .before .before .before .before) .args .plan .now)) (length (start-of (c .before .before .before .before .before .before) .args .counters .now)) (length (start-of (c .before .before .before .before .before .before) .args .room .now)) ≡ 0
 open-room c = sym (ground-is (c .before)) ∙ c .if4 .left
 
 -- THE RUNS FIT
@@ -144,7 +144,7 @@ fitting c =
     let d = c .before .before .before .before .before .before in
     let z = start-of d .args in
     room-for (z .formats .now) (z .schema .now) (z .lengths .now) (z .places .now) (z .buffers .now) (z .body .now) (z .first) (z .n) (z .target) (z .start) (z .end) (low d) (bytes d) (accepted d) (free d) (z .parts .now) (z .room .now) (length (z .plan .now)) (length (z .counters .now)) _ (not (eqb (c .before .before .before .keeps-of .result) 0)) (keep-is (c .before .before .before)) (small d)
-    (ap (λ k. roomGround (plan-of (start-of d)) k (z .parts .now) (length (z .plan .now)) (length (z .counters .now)) (length (z .room .now))) (counts-are (z .formats .now) (z .schema .now) (z .lengths .now) (z .places .now) (z .buffers .now) (z .body .now) (z .first) (z .n) (z .target) (z .start) (z .end) (low d) (bytes d) (accepted d) (free d) _ (keep-is (c .before .before .before))) ∙ open-room c)
+    (ap (λ k. roomGround (plan-of (start-of d)) k (z .parts .now) (length (z .plan .now)) (length (z .counters .now)) (length (z .room .now))) (tally-are (z .formats .now) (z .schema .now) (z .lengths .now) (z .places .now) (z .buffers .now) (z .body .now) (z .first) (z .n) (z .target) (z .start) (z .end) (low d) (bytes d) (accepted d) (free d) _ (keep-is (c .before .before .before))) ∙ open-room c)
 
 write-requires : tie.Need-write-requires
 write-requires c κs =
@@ -167,11 +167,11 @@ counters-of-requires : tie.Need-counters-of-requires
 counters-of-requires c κs = search needs
 
 -- the counters are the walk's
-counts-is : (c : tie.After-counters-of) → c .counters-of .result ≡ out-of (start-of (c .before .before .before .before .before .before .before .before .before .before .before .before)) .counts
-counts-is c =
+tally-is : (c : tie.After-counters-of) → c .counters-of .result ≡ out-of (start-of (c .before .before .before .before .before .before .before .before .before .before .before .before)) .counters
+tally-is c =
     let d = c .before .before .before .before .before .before .before .before .before .before .before .before in
     let z = start-of d .args in
-    c .counters-of .ensures ∙ ap (allCounts (z .end - z .start)) (c .before .before .before .write .ensures .1) ∙ counts-are (z .formats .now) (z .schema .now) (z .lengths .now) (z .places .now) (z .buffers .now) (z .body .now) (z .first) (z .n) (z .target) (z .start) (z .end) (low d) (bytes d) (accepted d) (free d) _ (keep-is (c .before .before .before .before .before .before .before .before .before))
+    c .counters-of .ensures ∙ ap (allCounts (z .end - z .start)) (c .before .before .before .write .ensures .1) ∙ tally-are (z .formats .now) (z .schema .now) (z .lengths .now) (z .places .now) (z .buffers .now) (z .body .now) (z .first) (z .n) (z .target) (z .start) (z .end) (low d) (bytes d) (accepted d) (free d) _ (keep-is (c .before .before .before .before .before .before .before .before .before))
 
 slice-aggregate-keep-result : tie.Need-slice-aggregate-keep-result
 slice-aggregate-keep-result c = search needs
@@ -183,7 +183,7 @@ keep-result-requires : tie.Need-keep-result-requires
 keep-result-requires c κs =
     let d = c .before .before .before .before .before .before .before .before .before .before .before .before .before .before .before .before in
     let z = start-of d .args in
-    let l = lengths-are (length (z .plan .now)) (length (z .counters .now)) (room-free (plan-of (start-of d)) (out-of (start-of d) .counts) (z .parts .now) (length (z .plan .now)) (length (z .counters .now)) (length (z .room .now)) (open-room (c .before .before .before .before .before .before .before .before .before .before)) .lengths) in
+    let l = lengths-are (length (z .plan .now)) (length (z .counters .now)) (room-free (plan-of (start-of d)) (out-of (start-of d) .counters) (z .parts .now) (length (z .plan .now)) (length (z .counters .now)) (length (z .room .now)) (open-room (c .before .before .before .before .before .before .before .before .before .before)) .lengths) in
     (l .0, l .1, ap length (c .before .before .before .before .before .before .before .before .before .before .before .before .before .before .before .planned .ensures) ∙ plan-length (z .formats .now) (z .schema .now) (z .target) 3 _ _ 0 (omega arith), ap length (c .before .before .before .before .counters-of .ensures))
 
 same-length : tie.Need-same-length
@@ -203,7 +203,7 @@ returns-5 c =
     let z = s .args in
     answers-made (z .formats .now) (z .schema .now) (lent s) (z .first) (z .n) (own-of s) (plan-of s) (out-of s) (z .parts .now) (z .plan .now) (z .counters .now) (z .room .now) (small d) (none d) (open-room f) refl
     (c .before .before .before .before .keep-result .ensures .0 ∙ c .before .before .before .before .before .before .before .before .before .before .before .before .before .before .before .before .before .before .before .before .planned .ensures)
-    (c .before .before .before .before .keep-result .ensures .1 ∙ counts-is (c .before .before .before .before .before .before .before .before .before))
+    (c .before .before .before .before .keep-result .ensures .1 ∙ tally-is (c .before .before .before .before .before .before .before .before .before))
     (c .before .before .before .before .before .before .before .before .before .before .before .before .write .ensures .0
     ∙ ap (λ p. runsIn (z .formats .now) (z .schema .now) (tables (z .lengths .now) (z .places .now) (z .body .now)) (z .first) (z .start) (z .end) (z .target) p (z .parts .now) (not (eqb (c .before .before .before .before .before .before .before .before .before .before .before .before .before .before .before .before .before .before .keeps-of .result) 0)) (z .room .now)) (c .before .before .before .before .before .before .before .before .before .before .before .before .before .before .before .before .before .before .before .before .planned .ensures)
     ∙ room-is (z .formats .now) (z .schema .now) (z .lengths .now) (z .places .now) (z .buffers .now) (z .body .now) (z .first) (z .n) (z .target) (z .start) (z .end) (low d) (bytes d) (accepted d) (free d) (not (eqb (c .before .before .before .before .before .before .before .before .before .before .before .before .before .before .before .before .before .before .keeps-of .result) 0)) (keep-is (c .before .before .before .before .before .before .before .before .before .before .before .before .before .before .before .before .before .before)) (plan-of s) (z .parts .now) (z .room .now) (fitting f))

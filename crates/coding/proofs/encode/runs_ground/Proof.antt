@@ -31,8 +31,8 @@ returns c =
     let z = c .before .before .before .before .before .before .before .before .before .before .before .args in
     let m = z .end - z .start in
     let few : length (lastOf (z .formats .now) (z .schema .now) (tables (z .lengths .now) (z .places .now) (z .body .now)) (z .first) (z .start) (z .end) (z .keep)) ≤ m = those-few _ m 0 in
-    ground-less m _ few (z .state .now) (z .parts .now) (z .words) (z .counters) (z .size)
-    (ap (λ q. roomGround (z .state .now) q (z .parts .now) (z .words) (z .counters) (z .size)) (sym (c .before .before .before .counters-of .ensures)) ∙ sym (c .before .room-ground .ensures) ∙ c .if1 .taken)
+    ground-less m _ few (z .plan .now) (z .parts .now) (z .words) (z .counters) (z .size)
+    (ap (λ q. roomGround (z .plan .now) q (z .parts .now) (z .words) (z .counters) (z .size)) (sym (c .before .before .before .counters-of .ensures)) ∙ sym (c .before .room-ground .ensures) ∙ c .if1 .taken)
 
 tried-requires : tie.Need-tried-requires
 tried-requires c κs = c .before .before .before .before .before .before .before .before .before .before .before .pre
@@ -43,7 +43,7 @@ room-ground-requires-2 c κs = search needs
 returns-2 : tie.Need-returns-2
 returns-2 c =
     let z = c .before .before .before .before .before .before .before .before .before .before .before .before .before .before .args in
-    c .room-ground2 .ensures ∙ ap (λ q. roomGround (z .state .now) q (z .parts .now) (z .words) (z .counters) (z .size)) (c .before .before .tried .ensures)
+    c .room-ground2 .ensures ∙ ap (λ q. roomGround (z .plan .now) q (z .parts .now) (z .words) (z .counters) (z .size)) (c .before .before .tried .ensures)
 
 pub runs-ground-spec : {M : Type 1} → statement M
 runs-ground-spec = tie.close (tie.spec sub-counters-of sub-counters-of-2 counters-of-requires room-ground-requires returns tried-requires room-ground-requires-2 returns-2)

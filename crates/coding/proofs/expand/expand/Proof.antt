@@ -16,7 +16,7 @@ use Rattle.anew.proofs.PlanWords.{plan-length}
 use Rattle.anew.proofs.result_plan.Answered.{before-column, before-own, answers-large, answers-refused, answers-room, answers-made}
 use Rattle.coding.specs.Expand.{expandOwn, expandKeeps, expandPlan, expandOut, RowsFit, rowsIn}
 use Rattle.coding.proofs.Runs.{own-same, none-before, rows-fit}
-use Rattle.coding.proofs.Expanded.{target-plain, ranged, come, expandable, counts-are, room-is}
+use Rattle.coding.proofs.Expanded.{target-plain, ranged, come, expandable, tally-are, room-is}
 use Rattle.coding.proofs.Asked.{lengths-are, small-yes, small-no, keep-by}
 use Rattle.coding.proofs.Room.{room-free}
 use Rattle.coding.proofs.expand.expand.Statement.{statement}
@@ -102,11 +102,11 @@ counters-of-requires : tie.Need-counters-of-requires
 counters-of-requires c κs = search needs
 
 -- the counters are the walk's
-counts-is : (c : tie.After-counters-of) → c .counters-of .result ≡ out-of (start-of (c .before .before)) .counts
-counts-is c =
+tally-is : (c : tie.After-counters-of) → c .counters-of .result ≡ out-of (start-of (c .before .before)) .counters
+tally-is c =
     let d = c .before .before in
     let z = start-of d .args in
-    c .counters-of .ensures ∙ counts-are (z .formats .now) (z .schema .now) (z .lengths .now) (z .places .now) (z .buffers .now) (z .body .now) (z .first) (z .n) (z .target) (z .start) (z .end) (low d) (bytes d) (accepted d) (free d) _ refl
+    c .counters-of .ensures ∙ tally-are (z .formats .now) (z .schema .now) (z .lengths .now) (z .places .now) (z .buffers .now) (z .body .now) (z .first) (z .n) (z .target) (z .start) (z .end) (low d) (bytes d) (accepted d) (free d) _ refl
 
 slice-aggregate-room-ground : tie.Need-slice-aggregate-room-ground
 slice-aggregate-room-ground c = search needs
@@ -116,10 +116,10 @@ room-ground-requires c κs = search needs
 
 -- 14 or 13
 ground-is : (c : tie.After-room-ground) → c .room-ground .result
-    ≡ roomGround (plan-of (start-of (c .before .before .before .before .before))) (out-of (start-of (c .before .before .before .before .before)) .counts) (start-of (c .before .before .before .before .before) .args .parts .now) (length (start-of (c .before .before .before .before .before) .args .plan .now)) (length (start-of (c .before .before .before .before .before) .args .counters .now)) (length (start-of (c .before .before .before .before .before) .args .room .now))
+    ≡ roomGround (plan-of (start-of (c .before .before .before .before .before))) (out-of (start-of (c .before .before .before .before .before)) .counters) (start-of (c .before .before .before .before .before) .args .parts .now) (length (start-of (c .before .before .before .before .before) .args .plan .now)) (length (start-of (c .before .before .before .before .before) .args .counters .now)) (length (start-of (c .before .before .before .before .before) .args .room .now))
 ground-is c =
     let z = start-of (c .before .before .before .before .before) .args in
-    c .room-ground .ensures ∙ ap₂ (λ p k. roomGround p k (z .parts .now) (length (z .plan .now)) (length (z .counters .now)) (length (z .room .now))) (c .before .before .before .before .planned .ensures) (counts-is (c .before .before .before))
+    c .room-ground .ensures ∙ ap₂ (λ p k. roomGround p k (z .parts .now) (length (z .plan .now)) (length (z .counters .now)) (length (z .room .now))) (c .before .before .before .before .planned .ensures) (tally-is (c .before .before .before))
 
 returns-4 : tie.Need-returns-4
 returns-4 c =
@@ -145,7 +145,7 @@ slice-aggregate-write : tie.Need-slice-aggregate-write
 slice-aggregate-write c = search needs
 
 -- no ground of the room stands
-open-room : (c : tie.Else4) → roomGround (plan-of (start-of (c .before .before .before .before .before .before))) (out-of (start-of (c .before .before .before .before .before .before)) .counts) (start-of (c .before .before .before .before .before .before) .args .parts .now) (length (start-of (c .before .before .before .before .before .before) .args .plan .now)) (length (start-of (c .before .before .before .before .before .before) .args .counters .now)) (length (start-of (c .before .before .before .before .before .before) .args .room .now)) ≡ 0
+open-room : (c : tie.Else4) → roomGround (plan-of (start-of (c .before .before .before .before .before .before))) (out-of (start-of (c .before .before .before .before .before .before)) .counters) (start-of (c .before .before .before .before .before .before) .args .parts .now) (length (start-of (c .before .before .before .before .before .before) .args .plan .now)) (length (start-of (c .before .before .before .before .before .before) .args .counters .now)) (length (start-of (c .before .before .before .before .before .before) .args .room .now)) ≡ 0
 open-room c = sym (ground-is (c .before)) ∙ c .if4 .left
 
 -- THE ROWS FIT
@@ -154,7 +154,7 @@ fitting c =
     let d = c .before .before .before .before .before .before .before .before in
     let z = start-of d .args in
     rows-fit (z .formats .now) (z .schema .now) (z .lengths .now) (z .places .now) (z .buffers .now) (z .body .now) (z .first) (z .n) (z .target) (z .start) (z .end) (low d) (bytes d) (accepted d) (free d) (z .parts .now) (z .room .now) (length (z .plan .now)) (length (z .counters .now)) (not (eqb (c .keeps-of .result) 0)) (keep-is c) (small d)
-    (ap (λ k. roomGround (plan-of (start-of d)) k (z .parts .now) (length (z .plan .now)) (length (z .counters .now)) (length (z .room .now))) (sym (c .before .before .before .before .before .before .counters-of .ensures) ∙ counts-is (c .before .before .before .before .before .before)) ∙ open-room (c .before .before))
+    (ap (λ k. roomGround (plan-of (start-of d)) k (z .parts .now) (length (z .plan .now)) (length (z .counters .now)) (length (z .room .now))) (sym (c .before .before .before .before .before .before .counters-of .ensures) ∙ tally-is (c .before .before .before .before .before .before)) ∙ open-room (c .before .before))
 
 write-requires : tie.Need-write-requires
 write-requires c κs =
@@ -177,7 +177,7 @@ slice-aggregate-keep-result-2 c = search needs
 keep-result-requires : tie.Need-keep-result-requires
 keep-result-requires c κs =
     let z = start-of (c .before .before .before .before .before .before .before .before .before .before .before .before .before .before .before .before .before) .args in
-    let l = lengths-are (length (z .plan .now)) (length (z .counters .now)) (room-free (plan-of (start-of (c .before .before .before .before .before .before .before .before .before .before .before .before .before .before .before .before .before))) (out-of (start-of (c .before .before .before .before .before .before .before .before .before .before .before .before .before .before .before .before .before)) .counts) (z .parts .now) (length (z .plan .now)) (length (z .counters .now)) (length (z .room .now)) (open-room (c .before .before .before .before .before .before .before .before .before .before .before)) .lengths) in
+    let l = lengths-are (length (z .plan .now)) (length (z .counters .now)) (room-free (plan-of (start-of (c .before .before .before .before .before .before .before .before .before .before .before .before .before .before .before .before .before))) (out-of (start-of (c .before .before .before .before .before .before .before .before .before .before .before .before .before .before .before .before .before)) .counters) (z .parts .now) (length (z .plan .now)) (length (z .counters .now)) (length (z .room .now)) (open-room (c .before .before .before .before .before .before .before .before .before .before .before)) .lengths) in
     (l .0, l .1, ap length (c .before .before .before .before .before .before .before .before .before .before .before .before .before .before .before .before .planned .ensures) ∙ plan-length (z .formats .now) (z .schema .now) (z .target) 1 _ _ 0 (omega arith), ap length (c .before .before .before .before .before .before .before .before .before .before .before .before .before .before .before .counters-of .ensures))
 
 same-length : tie.Need-same-length
@@ -197,7 +197,7 @@ returns-5 c =
     let z = s .args in
     answers-made (z .formats .now) (z .schema .now) (lent s) (z .first) (z .n) (own-of s) (plan-of s) (out-of s) (z .parts .now) (z .plan .now) (z .counters .now) (z .room .now) (small d) (none d) (open-room (c .before .before .before .before .before .before .before .before .before .before .before .before .before .before .before .before)) refl
     (c .before .before .before .before .keep-result .ensures .0 ∙ c .before .before .before .before .before .before .before .before .before .before .before .before .before .before .before .before .before .before .before .before .before .planned .ensures)
-    (c .before .before .before .before .keep-result .ensures .1 ∙ counts-is (c .before .before .before .before .before .before .before .before .before .before .before .before .before .before .before .before .before .before .before .before))
+    (c .before .before .before .before .keep-result .ensures .1 ∙ tally-is (c .before .before .before .before .before .before .before .before .before .before .before .before .before .before .before .before .before .before .before .before))
     (c .before .before .before .before .before .before .before .before .before .before .before .write .ensures
     ∙ ap (λ p. rowsIn (z .formats .now) (z .schema .now) (tables (z .lengths .now) (z .places .now) (z .body .now)) (z .first) (z .start) (z .end) p (z .parts .now) (not (eqb (f .keeps-of .result) 0)) (z .room .now)) (c .before .before .before .before .before .before .before .before .before .before .before .before .before .before .before .before .before .before .before .before .before .planned .ensures)
     ∙ room-is (z .formats .now) (z .schema .now) (z .lengths .now) (z .places .now) (z .buffers .now) (z .body .now) (z .first) (z .n) (z .target) (z .start) (z .end) (low d) (bytes d) (accepted d) (free d) (not (eqb (f .keeps-of .result) 0)) (keep-is f) (plan-of s) (z .parts .now) (z .room .now) (fitting f))

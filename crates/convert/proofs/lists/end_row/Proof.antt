@@ -22,7 +22,7 @@ same-length : tie.Need-same-length
 same-length c = search needs
 
 returns : tie.Need-returns
-returns c = let z = c .before .before .before .before .before .before .before .before .args in λ lengths places body first. end-did (join (z .state .now) (z .parts .now) lengths places body first 0) (z .write) (z .w) (z .r) (z .counts .now) (z .room .now) refl (c .before .before .before .before .rows-of .ensures) (c .before .before .put-number .ensures)
+returns c = let z = c .before .before .before .before .before .before .before .before .args in λ lengths places body first. end-did (join (z .plan .now) (z .parts .now) lengths places body first 0) (z .write) (z .w) (z .r) (z .counters .now) (z .room .now) refl (c .before .before .before .before .rows-of .ensures) (c .before .before .put-number .ensures)
 
 pub end-row-spec : {M : Type 1} → statement M
 end-row-spec = tie.close (tie.spec rows-of-requires add-put-number mul-put-number put-number-requires same-length returns)

@@ -1,5 +1,5 @@
 -- `convert::to_view::to_list_view` meets its contract. Assumes nothing.
-use Rattle.convert.proofs.CalledView.{make-large, make-refused, comes-from, walk-sum, walk-wide, state-long, make-walk, make-room, make-made}
+use Rattle.convert.proofs.CalledView.{make-large, make-refused, comes-from, walk-sum, walk-wide, draft-long, make-walk, make-room, make-made}
 use Rattle.convert.proofs.Called.{room-lengths}
 use borrow.Author.Needs.{needs}
 use Rattle.convert.proofs.to_view.to_list_view.Statement.{statement}
@@ -48,7 +48,7 @@ slice-aggregate-make : tie.Need-slice-aggregate-make
 slice-aggregate-make c = search needs
 
 make-requires : tie.Need-make-requires
-make-requires c κs = let z = c .before .before .before .before .before .before .before .before .before .before .before .before .before .before .before .before .before .before .before .before .before .before .before .before .before .before .before .before .before .before .args in let q = room-lengths _ _ _ _ _ _ (c .before .before .before .before .before .room-ground .ensures) (c .before .before .before .before .if4 .left) in ((q .0, q .1, state-long (z .formats .now) (z .schema .now) (z .lengths .now) (z .places .now) (z .buffers .now) (z .body .now) (z .first) (z .n) (z .target) (z .target-n) (c .before .before .before .before .before .before .before .before .before .before .before .before .before .before .before .before .before .before .ground-of .ensures) (c .before .before .before .before .before .before .before .before .before .before .before .before .before .before .before .before .before .if2 .left) _ (c .before .before .before .before .before .before .before .before .before .before .before .before .before .before .before .before .planned .ensures)), (walk-sum (z .formats .now) (z .schema .now) (z .lengths .now) (z .places .now) (z .buffers .now) (z .body .now) (z .first) (z .n) (z .target) (z .target-n) (c .before .before .before .before .before .before .before .before .before .before .before .before .before .before .before .before .before .before .ground-of .ensures) (c .before .before .before .before .before .before .before .before .before .before .before .before .before .before .before .before .before .if2 .left) _ (c .before .before .before .before .before .before .before .before .before .before .before .before .before .before .before .before .planned .ensures), walk-wide (z .formats .now) (z .schema .now) (z .lengths .now) (z .places .now) (z .buffers .now) (z .body .now) (z .first) (z .n) (z .target) (z .target-n) (c .before .before .before .before .before .before .before .before .before .before .before .before .before .before .before .before .before .before .ground-of .ensures) (c .before .before .before .before .before .before .before .before .before .before .before .before .before .before .before .before .before .if2 .left) _ (c .before .before .before .before .before .before .before .before .before .before .before .before .before .before .before .before .planned .ensures)))
+make-requires c κs = let z = c .before .before .before .before .before .before .before .before .before .before .before .before .before .before .before .before .before .before .before .before .before .before .before .before .before .before .before .before .before .before .args in let q = room-lengths _ _ _ _ _ _ (c .before .before .before .before .before .room-ground .ensures) (c .before .before .before .before .if4 .left) in ((q .0, q .1, draft-long (z .formats .now) (z .schema .now) (z .lengths .now) (z .places .now) (z .buffers .now) (z .body .now) (z .first) (z .n) (z .target) (z .target-n) (c .before .before .before .before .before .before .before .before .before .before .before .before .before .before .before .before .before .before .ground-of .ensures) (c .before .before .before .before .before .before .before .before .before .before .before .before .before .before .before .before .before .if2 .left) _ (c .before .before .before .before .before .before .before .before .before .before .before .before .before .before .before .before .planned .ensures)), (walk-sum (z .formats .now) (z .schema .now) (z .lengths .now) (z .places .now) (z .buffers .now) (z .body .now) (z .first) (z .n) (z .target) (z .target-n) (c .before .before .before .before .before .before .before .before .before .before .before .before .before .before .before .before .before .before .ground-of .ensures) (c .before .before .before .before .before .before .before .before .before .before .before .before .before .before .before .before .before .if2 .left) _ (c .before .before .before .before .before .before .before .before .before .before .before .before .before .before .before .before .planned .ensures), walk-wide (z .formats .now) (z .schema .now) (z .lengths .now) (z .places .now) (z .buffers .now) (z .body .now) (z .first) (z .n) (z .target) (z .target-n) (c .before .before .before .before .before .before .before .before .before .before .before .before .before .before .before .before .before .before .ground-of .ensures) (c .before .before .before .before .before .before .before .before .before .before .before .before .before .before .before .before .before .if2 .left) _ (c .before .before .before .before .before .before .before .before .before .before .before .before .before .before .before .before .planned .ensures)))
 
 same-length-3 : tie.Need-same-length-3
 same-length-3 c = search needs

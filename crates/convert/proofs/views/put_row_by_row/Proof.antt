@@ -16,10 +16,10 @@ use Rattle.convert.proofs.views.put_row_by_row.Statement.{statement}
 use Rattle.convert.proofs.views.put_row_by_row.Tie as tie
 
 abbrev Inv-loop : tie.InvT-loop
-Inv-loop state parts lengths places body counts room₀ first w slot n r₀ room r = (r ≤ n) × (length room ≡ length room₀) × Rest state parts true (each (viewRow (join state parts lengths places body first 0) w) n 0 counts) room₀ (each (viewRow (join state parts lengths places body first 0) w) (n - r) r counts) room
+Inv-loop plan parts lengths places body counters room₀ first w slot n r₀ room r = (r ≤ n) × (length room ≡ length room₀) × Rest plan parts true (each (viewRow (join plan parts lengths places body first 0) w) n 0 counters) room₀ (each (viewRow (join plan parts lengths places body first 0) w) (n - r) r counters) room
 
 abbrev μ-loop : tie.MeasureT-loop
-μ-loop state parts lengths places body counts room₀ first w slot n r₀ room r = n - r
+μ-loop plan parts lengths places body counters room₀ first w slot n r₀ room r = n - r
 
 loop-holds : tie.Need-loop-holds Inv-loop μ-loop
 loop-holds c = (search needs, search needs, λ g c2 room2. simp sub-zero (λ d. d))

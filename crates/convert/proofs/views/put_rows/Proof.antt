@@ -22,7 +22,7 @@ enum-known-at c = search needs
 put-rows-at-requires : tie.Need-put-rows-at-requires
 put-rows-at-requires c κs =
     let a = c .before .before .before .before .before .before .before .before .before .before .before .before .args in
-    let m = made (a .state .now) (a .parts .now) (length (a .room .now)) true 0 1 0 (scaled (a .n) (a .w)) (rw (c .before .before .before .before .before .scale .ensures) at (c .before .before .before .before .target .ensures)) (c .before .before .at .given .1) in
+    let m = made (a .plan .now) (a .parts .now) (length (a .room .now)) true 0 1 0 (scaled (a .n) (a .w)) (rw (c .before .before .before .before .before .scale .ensures) at (c .before .before .before .before .target .ensures)) (c .before .before .at .given .1) in
     (c .before .before .before .before .before .before .before .before .before .before .before .before .pre .0, (c .before .before .before .before .before .before .before .before .before .before .before .before .pre .1, (part-at (m .at), times-within (a .n) (a .w) m (omega arith))))
 
 enum-told : tie.Need-enum-told

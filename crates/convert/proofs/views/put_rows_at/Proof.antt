@@ -27,7 +27,7 @@ mul-from : tie.Need-mul-from
 mul-from c = let a = c .before .before .before .before .before .before .before .before .args in omega (arith, mul-add (a .w) (a .slot) (a .n + 1), c .before .before .before .before .before .before .before .before .pre .1 .0 .2)
 
 add-from : tie.Need-add-from
-add-from c = let a = c .before .before .before .before .before .before .before .before .args in omega (arith, mul-add (a .w) (a .slot) (a .n + 1), c .before .before .before .before .before .before .before .before .pre .1 .0 .2, c .place .ensures, root-is (join (a .state .now) (a .parts .now) (a .lengths .now) (a .places .now) (a .body .now) (a .first) 0))
+add-from c = let a = c .before .before .before .before .before .before .before .before .args in omega (arith, mul-add (a .w) (a .slot) (a .n + 1), c .before .before .before .before .before .before .before .before .pre .1 .0 .2, c .place .ensures, root-is (join (a .plan .now) (a .parts .now) (a .lengths .now) (a .places .now) (a .body .now) (a .first) 0))
 
 target-requires : tie.Need-target-requires
 target-requires c κs = search needs
@@ -38,8 +38,8 @@ enum-known-too c = search needs
 lay-rows-requires : tie.Need-lay-rows-requires
 lay-rows-requires c κs =
     let a = c .before .before .before .before .before .before .before .before .before .before .before .before .before .args in
-    let m = made (a .state .now) (a .parts .now) (length (a .room .now)) true 0 2 0 (scaled (a .n) (a .w)) (rw (c .before .before .before .before .before .before .scale .ensures) at (c .before .before .before .before .target .ensures)) (c .before .before .too .given .1) in
-    (c .before .before .before .before .before .before .before .before .before .before .before .before .before .pre .0, (c .before .before .before .before .before .before .before .before .before .before .before .before .before .pre .1 .1 .1, times-within (a .n) (a .w) m (omega arith), omega (arith, mul-add (a .w) (a .slot) (a .n + 1), c .before .before .before .before .before .before .before .before .before .before .before .before .before .pre .1 .0 .2, c .before .before .before .before .before .place .ensures, root-is (join (a .state .now) (a .parts .now) (a .lengths .now) (a .places .now) (a .body .now) (a .first) 0))))
+    let m = made (a .plan .now) (a .parts .now) (length (a .room .now)) true 0 2 0 (scaled (a .n) (a .w)) (rw (c .before .before .before .before .before .before .scale .ensures) at (c .before .before .before .before .target .ensures)) (c .before .before .too .given .1) in
+    (c .before .before .before .before .before .before .before .before .before .before .before .before .before .pre .0, (c .before .before .before .before .before .before .before .before .before .before .before .before .before .pre .1 .1 .1, times-within (a .n) (a .w) m (omega arith), omega (arith, mul-add (a .w) (a .slot) (a .n + 1), c .before .before .before .before .before .before .before .before .before .before .before .before .before .pre .1 .0 .2, c .before .before .before .before .before .place .ensures, root-is (join (a .plan .now) (a .parts .now) (a .lengths .now) (a .places .now) (a .body .now) (a .first) 0))))
 
 enum-told : tie.Need-enum-told
 enum-told c = search needs
@@ -53,10 +53,10 @@ same-length c = search needs
 returns : tie.Need-returns
 returns c =
     let a = c .before .before .before .before .before .before .before .before .before .before .before .before .before .before .before .before .args in
-    let x = join (a .state .now) (a .parts .now) (a .lengths .now) (a .places .now) (a .body .now) (a .first) 0 in
-    let m = made (a .state .now) (a .parts .now) (length (a .room .now)) true 0 2 0 (scaled (a .n) (a .w)) (rw (c .before .before .before .before .before .before .before .before .before .scale .ensures) at (c .before .before .before .before .before .before .before .target .ensures)) (c .before .before .before .before .before .too .given .1) in
-    subst (λ q. Did (a .state .now) (a .parts .now) true (each (viewRow x (a .w)) (a .n) 0 (a .counts .now)) (a .room .now) 0 (a .counts .now) q) (sym (c .before .before .lay-rows .ensures))
-    (all-laid x (a .w) (a .at) _ _ (c .before .before .before .before .before .before .before .before .before .before .before .before .before .before .before .before .pre .1 .1 .0) (part-at (m .at)) (ap₂ (λ y z. y + a .w * z) (c .before .before .before .before .before .before .before .before .place .ensures ∙ sym (root-is x)) (c .before .before .before .before .before .before .before .before .before .before .before .before .before .before .before .before .pre .1 .0 .0)) (a .n) (a .counts .now) (a .room .now) (c .before .before .before .before .before .before .before .before .before .before .before .before .before .before .before .before .pre .1 .1 .1) (times-within (a .n) (a .w) m (omega (arith, c .before .before .before .before .before .before .before .before .before .before .before .before .before .before .before .before .good))))
+    let x = join (a .plan .now) (a .parts .now) (a .lengths .now) (a .places .now) (a .body .now) (a .first) 0 in
+    let m = made (a .plan .now) (a .parts .now) (length (a .room .now)) true 0 2 0 (scaled (a .n) (a .w)) (rw (c .before .before .before .before .before .before .before .before .before .scale .ensures) at (c .before .before .before .before .before .before .before .target .ensures)) (c .before .before .before .before .before .too .given .1) in
+    subst (λ q. Did (a .plan .now) (a .parts .now) true (each (viewRow x (a .w)) (a .n) 0 (a .counters .now)) (a .room .now) 0 (a .counters .now) q) (sym (c .before .before .lay-rows .ensures))
+    (all-laid x (a .w) (a .at) _ _ (c .before .before .before .before .before .before .before .before .before .before .before .before .before .before .before .before .pre .1 .1 .0) (part-at (m .at)) (ap₂ (λ y z. y + a .w * z) (c .before .before .before .before .before .before .before .before .place .ensures ∙ sym (root-is x)) (c .before .before .before .before .before .before .before .before .before .before .before .before .before .before .before .before .pre .1 .0 .0)) (a .n) (a .counters .now) (a .room .now) (c .before .before .before .before .before .before .before .before .before .before .before .before .before .before .before .before .pre .1 .1 .1) (times-within (a .n) (a .w) m (omega (arith, c .before .before .before .before .before .before .before .before .before .before .before .before .before .before .before .before .good))))
 
 same-length-2 : tie.Need-same-length-2
 same-length-2 c = search needs

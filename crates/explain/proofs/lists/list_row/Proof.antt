@@ -49,8 +49,8 @@ largest-requires c κs = λ p q. c .before .before .before .before .before .befo
 returns : tie.Need-returns
 returns c =
     let a = c .before .before .before .before .before .before .before .before .before .before .before .before .before .before .before .args in
-    let x = join (a .state .now) (a .parts .now) (a .lengths .now) (a .places .now) (a .body .now) (a .first) (a .source) in
-    list-over x (a .depth) (a .w) (a .i) (a .slot) (a .r) (a .counts .now) (rw (c .before .before .before .before .before .before .before .place2 .ensures) at (c .before .before .before .before .before .before .entry-at2 .ensures)) (add-one (a .i)) (c .before .before .before .before .rows-of .ensures) (c .before .before .before .sum-fits .ensures) (c .before .before .if1 .taken) (c .before .grow .ensures) (c .largest .ensures)
+    let x = join (a .plan .now) (a .parts .now) (a .lengths .now) (a .places .now) (a .body .now) (a .first) (a .source) in
+    list-over x (a .depth) (a .w) (a .i) (a .slot) (a .r) (a .counters .now) (rw (c .before .before .before .before .before .before .before .place2 .ensures) at (c .before .before .before .before .before .before .entry-at2 .ensures)) (add-one (a .i)) (c .before .before .before .before .rows-of .ensures) (c .before .before .before .sum-fits .ensures) (c .before .before .if1 .taken) (c .before .grow .ensures) (c .largest .ensures)
 
 add-step-into : tie.Need-add-step-into
 add-step-into c = search needs
@@ -61,8 +61,8 @@ step-into-requires c κs = (c .before .before .before .before .before .before .b
 returns-2 : tie.Need-returns-2
 returns-2 c =
     let a = c .before .before .before .before .before .before .before .before .before .before .before .before .before .before .before .args in
-    let x = join (a .state .now) (a .parts .now) (a .lengths .now) (a .places .now) (a .body .now) (a .first) (a .source) in
-    list-into x (a .depth) (a .w) (a .i) (a .slot) (a .r) (a .counts .now) (rw (c .before .before .before .before .before .before .before .place2 .ensures) at (c .before .before .before .before .before .before .entry-at2 .ensures)) (add-one (a .i)) (c .before .before .before .before .rows-of .ensures) (c .before .before .before .sum-fits .ensures) (c .before .before .if1 .left) (rw (c .before .before .before .before .before .before .before .before .before .place .ensures) at (c .before .before .before .before .before .before .before .before .entry-at .ensures)) (c .step-into .result) (c .step-into .ensures)
+    let x = join (a .plan .now) (a .parts .now) (a .lengths .now) (a .places .now) (a .body .now) (a .first) (a .source) in
+    list-into x (a .depth) (a .w) (a .i) (a .slot) (a .r) (a .counters .now) (rw (c .before .before .before .before .before .before .before .place2 .ensures) at (c .before .before .before .before .before .before .entry-at2 .ensures)) (add-one (a .i)) (c .before .before .before .before .rows-of .ensures) (c .before .before .before .sum-fits .ensures) (c .before .before .if1 .left) (rw (c .before .before .before .before .before .before .before .before .before .place .ensures) at (c .before .before .before .before .before .before .before .before .entry-at .ensures)) (c .step-into .result) (c .step-into .ensures)
 
 pub list-row-spec : {M : Type 1} → statement M
 list-row-spec = tie.close (tie.spec add-place place-requires add-entry-at entry-at-requires add-place-2 place-requires-2 add-entry-at-2 entry-at-requires-2 add-rows-of rows-of-requires sum-fits-requires grow-requires largest-requires returns add-step-into step-into-requires returns-2)

@@ -15,7 +15,7 @@ use Rattle.explain.proofs.lists.step_list.Tie as tie
 returns : tie.Need-returns
 returns c =
     let a = c .before .before .before .before .before .args in
-    λ lengths source depth. list-none (join (a .state .now) (a .parts .now) lengths (a .places .now) (a .body .now) (a .first) source) depth (a .w) (a .i) (a .slot) (a .n) (a .counts .now) (c .if1 .taken)
+    λ lengths source depth. list-none (join (a .plan .now) (a .parts .now) lengths (a .places .now) (a .body .now) (a .first) source) depth (a .w) (a .i) (a .slot) (a .n) (a .counters .now) (c .if1 .taken)
 
 add-if2 : tie.Need-add-if2
 add-if2 c = search needs
@@ -26,7 +26,7 @@ plain-requires c κs = search needs
 returns-2 : tie.Need-returns-2
 returns-2 c =
     let a = c .before .before .before .before .before .before .before .args in
-    λ lengths source depth. list-out (join (a .state .now) (a .parts .now) lengths (a .places .now) (a .body .now) (a .first) source) depth (a .w) (a .i) (a .slot) (a .n) (a .counts .now) (c .before .before .if1 .left) (add-one (a .i)) (c .before .if2 .taken) ∙ sym (c .plain .ensures)
+    λ lengths source depth. list-out (join (a .plan .now) (a .parts .now) lengths (a .places .now) (a .body .now) (a .first) source) depth (a .w) (a .i) (a .slot) (a .n) (a .counters .now) (c .before .before .if1 .left) (add-one (a .i)) (c .before .if2 .taken) ∙ sym (c .plain .ensures)
 
 slice-aggregate-copy-offsets : tie.Need-slice-aggregate-copy-offsets
 slice-aggregate-copy-offsets c = search needs
@@ -49,7 +49,7 @@ rows-of-requires c κs = search needs
 sub-t26 : tie.Need-sub-t26
 sub-t26 c =
     let a = c .before .before .before .before .before .before .before .before .before .before .before .before .before .args in
-    let y = join (a .state .now) (a .parts .now) [] (a .places .now) (a .body .now) (a .first) 0 in omega (arith, lists-less y (copyWalk y 0) false (a .w) (a .i) (a .slot) (a .n) (a .counts .now) [] (c .before .before .before .before .before .before .before .before .if1 .left) (add-one (a .i)) (c .before .before .before .before .before .before .before .if2 .left) (c .before .before .before .before .before .copy-offsets .ensures .0 [] 0) (c .before .before .before .before .before .copy-offsets .ensures .1 [] 0) (c .before .before .last .given .1) (c .rows-of .ensures))
+    let y = join (a .plan .now) (a .parts .now) [] (a .places .now) (a .body .now) (a .first) 0 in omega (arith, lists-less y (copyWalk y 0) false (a .w) (a .i) (a .slot) (a .n) (a .counters .now) [] (c .before .before .before .before .before .before .before .before .if1 .left) (add-one (a .i)) (c .before .before .before .before .before .before .before .if2 .left) (c .before .before .before .before .before .copy-offsets .ensures .0 [] 0) (c .before .before .before .before .before .copy-offsets .ensures .1 [] 0) (c .before .before .last .given .1) (c .rows-of .ensures))
 
 enum-known-row : tie.Need-enum-known-row
 enum-known-row c = search needs
@@ -66,17 +66,17 @@ plain-requires-2 c κs = search needs
 returns-3 : tie.Need-returns-3
 returns-3 c =
     let a = c .before .before .before .before .before .before .before .before .before .before .before .before .before .args in
-    λ lengths source depth. list-stretch (join (a .state .now) (a .parts .now) lengths (a .places .now) (a .body .now) (a .first) source) depth (a .w) (a .i) (a .slot) (a .n) (a .counts .now) (c .before .before .before .before .before .before .before .before .if1 .left) (add-one (a .i)) (c .before .before .before .before .before .before .before .if2 .left) (c .before .before .before .before .before .copy-offsets .ensures .0 lengths source) (c .before .before .last .given .1) (c .rows-of .ensures)
+    λ lengths source depth. list-stretch (join (a .plan .now) (a .parts .now) lengths (a .places .now) (a .body .now) (a .first) source) depth (a .w) (a .i) (a .slot) (a .n) (a .counters .now) (c .before .before .before .before .before .before .before .before .if1 .left) (add-one (a .i)) (c .before .before .before .before .before .before .before .if2 .left) (c .before .before .before .before .before .copy-offsets .ensures .0 lengths source) (c .before .before .last .given .1) (c .rows-of .ensures)
 
 returns-4 : tie.Need-returns-4
 returns-4 c =
     let a = c .before .before .before .before .before .before .before .before .before .before .before .before .before .args in
-    λ lengths source depth. list-clash (join (a .state .now) (a .parts .now) lengths (a .places .now) (a .body .now) (a .first) source) depth (a .w) (a .i) (a .slot) (a .n) (a .counts .now) (c .before .before .before .before .before .before .before .before .if1 .left) (add-one (a .i)) (c .before .before .before .before .before .before .before .if2 .left) (c .before .before .before .before .before .copy-offsets .ensures .0 lengths source) (c .before .before .row .given .1) (c .largest .ensures)
+    λ lengths source depth. list-clash (join (a .plan .now) (a .parts .now) lengths (a .places .now) (a .body .now) (a .first) source) depth (a .w) (a .i) (a .slot) (a .n) (a .counters .now) (c .before .before .before .before .before .before .before .before .if1 .left) (add-one (a .i)) (c .before .before .before .before .before .before .before .if2 .left) (c .before .before .before .before .before .copy-offsets .ensures .0 lengths source) (c .before .before .row .given .1) (c .largest .ensures)
 
 returns-5 : tie.Need-returns-5
 returns-5 c =
     let a = c .before .before .before .before .before .before .before .before .before .before .before .before .args in
-    λ lengths source depth. list-falls (join (a .state .now) (a .parts .now) lengths (a .places .now) (a .body .now) (a .first) source) depth (a .w) (a .i) (a .slot) (a .n) (a .counts .now) (c .before .before .before .before .before .before .before .if1 .left) (add-one (a .i)) (c .before .before .before .before .before .before .if2 .left) (c .before .before .before .before .copy-offsets .ensures .0 lengths source) (c .before .enum-told .given .1) ∙ sym (c .plain2 .ensures)
+    λ lengths source depth. list-falls (join (a .plan .now) (a .parts .now) lengths (a .places .now) (a .body .now) (a .first) source) depth (a .w) (a .i) (a .slot) (a .n) (a .counters .now) (c .before .before .before .before .before .before .before .if1 .left) (add-one (a .i)) (c .before .before .before .before .before .before .if2 .left) (c .before .before .before .before .copy-offsets .ensures .0 lengths source) (c .before .enum-told .given .1) ∙ sym (c .plain2 .ensures)
 
 pub step-list-spec : {M : Type 1} → statement M
 step-list-spec = tie.close (tie.spec returns add-if2 plain-requires returns-2 slice-aggregate-copy-offsets copy-offsets-requires enum-known-last add-t23 add-rows-of rows-of-requires sub-t26 enum-known-row largest-requires enum-told plain-requires-2 returns-3 returns-4 returns-5)

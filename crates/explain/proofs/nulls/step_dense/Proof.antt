@@ -17,7 +17,7 @@ homeless-requires c κs = search needs
 returns : tie.Need-returns
 returns c =
     let a = c .before .before .before .before .args in
-    λ parts depth. dense-home (join (a .state .now) parts [] [] [] 0 0) depth (a .i) (a .n) (a .counts .now) (c .before .before .null-home .ensures .0) (c .before .if1 .taken) ∙ sym (c .homeless .ensures)
+    λ parts depth. dense-home (join (a .plan .now) parts [] [] [] 0 0) depth (a .i) (a .n) (a .counters .now) (c .before .before .null-home .ensures .0) (c .before .if1 .taken) ∙ sym (c .homeless .ensures)
 
 rows-of-requires : tie.Need-rows-of-requires
 rows-of-requires c κs = search needs
@@ -40,12 +40,12 @@ sub-t13 c = omega arith
 returns-2 : tie.Need-returns-2
 returns-2 c =
     let a = c .before .before .before .before .before .before .before .before .args in
-    λ parts depth. dense-over (join (a .state .now) parts [] [] [] 0 0) depth (a .i) (a .n) (a .counts .now) (c .before .before .before .before .before .before .null-home .ensures .0) (c .before .before .before .before .before .if1 .left) (c .before .before .before .before .rows-of .ensures) (c .before .before .before .at-most-far .ensures) (c .before .before .grow .ensures) (c .before .if2 .taken) (c .first-position .ensures) (omega arith) refl refl
+    λ parts depth. dense-over (join (a .plan .now) parts [] [] [] 0 0) depth (a .i) (a .n) (a .counters .now) (c .before .before .before .before .before .before .null-home .ensures .0) (c .before .before .before .before .before .if1 .left) (c .before .before .before .before .rows-of .ensures) (c .before .before .before .at-most-far .ensures) (c .before .before .grow .ensures) (c .before .if2 .taken) (c .first-position .ensures) (omega arith) refl refl
 
 returns-3 : tie.Need-returns-3
 returns-3 c =
     let a = c .before .before .before .before .before .before .before .args in
-    λ parts depth. dense-below (join (a .state .now) parts [] [] [] 0 0) depth (a .i) (a .n) (a .counts .now) (c .before .before .before .before .before .null-home .ensures .0) (c .before .before .before .before .if1 .left) (c .before .before .before .rows-of .ensures) (c .before .before .at-most-far .ensures) (c .before .grow .ensures) (c .if2 .left)
+    λ parts depth. dense-below (join (a .plan .now) parts [] [] [] 0 0) depth (a .i) (a .n) (a .counters .now) (c .before .before .before .before .before .null-home .ensures .0) (c .before .before .before .before .if1 .left) (c .before .before .before .rows-of .ensures) (c .before .before .at-most-far .ensures) (c .before .grow .ensures) (c .if2 .left)
 
 pub step-dense-spec : {M : Type 1} → statement M
 step-dense-spec = tie.close (tie.spec null-home-requires homeless-requires returns rows-of-requires at-most-far-requires grow-requires first-position-requires sub-t12 sub-t13 returns-2 returns-3)

@@ -13,14 +13,14 @@ try-nulls-requires c κs = search needs
 returns : tie.Need-returns
 returns c =
     let a = c .before .before .before .before .before .args in
-    let x = join (a .state .now) (a .parts .now) [] [] [] 0 0 in
+    let x = join (a .plan .now) (a .parts .now) [] [] [] 0 0 in
     into-stop x (a .depth) (a .k) (a .n) (c .before .try-nulls .ensures) (c .if1 .taken)
 
 returns-2 : tie.Need-returns-2
 returns-2 c =
     let a = c .before .before .before .before .before .args in
-    let x = join (a .state .now) (a .parts .now) [] [] [] 0 0 in
-    into-on x (a .depth) (a .k) (a .n) (c .before .try-nulls .ensures) (whyNulls x (a .depth) (a .k) (a .n) (a .counts .now)) (c .if1 .left)
+    let x = join (a .plan .now) (a .parts .now) [] [] [] 0 0 in
+    into-on x (a .depth) (a .k) (a .n) (c .before .try-nulls .ensures) (whyNulls x (a .depth) (a .k) (a .n) (a .counters .now)) (c .if1 .left)
 
 pub step-into-spec : {M : Type 1} → statement M
 step-into-spec = tie.close (tie.spec try-nulls-requires returns returns-2)

@@ -21,13 +21,13 @@ extend-nulls-requires c κs = search needs
 returns : tie.Need-returns
 returns c =
     let a = c .before .before .before .before .before .before .before .before .before .args in
-    let x = join (a .state .now) (a .parts .now) [] [] [] 0 0 in
+    let x = join (a .plan .now) (a .parts .now) [] [] [] 0 0 in
     tried-at x (a .depth) (a .i) (a .n) (c .before .before .before .before .before .at-most-far .ensures) (tried-refused (c .before .before .extend-nulls .ensures) (c .if1 .taken) refl)
 
 returns-2 : tie.Need-returns-2
 returns-2 c =
     let a = c .before .before .before .before .before .before .before .before .before .args in
-    let x = join (a .state .now) (a .parts .now) [] [] [] 0 0 in
+    let x = join (a .plan .now) (a .parts .now) [] [] [] 0 0 in
     tried-at x (a .depth) (a .i) (a .n) (c .before .before .before .before .before .at-most-far .ensures) (tried-walked (c .before .before .extend-nulls .ensures) (c .if1 .left))
 
 pub try-nulls-spec : {M : Type 1} → statement M

@@ -21,7 +21,7 @@ root-bytes-requires c κs = search needs
 returns : tie.Need-returns
 returns c =
     let a = c .before .before .before .before .before .before .args in
-    λ parts. due-root (a .plan .now) (a .counts .now) (c .before .before .before .before .code-of .ensures) (c .before .before .before .rows-of .ensures) (c .before .before .bytes-of .ensures) (a .b) (a .r + a .n) parts (c .before .if1 .taken) (c .root-bytes .ensures)
+    λ parts. due-root (a .plan .now) (a .counters .now) (c .before .before .before .before .code-of .ensures) (c .before .before .before .rows-of .ensures) (c .before .before .bytes-of .ensures) (a .b) (a .r + a .n) parts (c .before .if1 .taken) (c .root-bytes .ensures)
 
 buffer-bytes-requires : tie.Need-buffer-bytes-requires
 buffer-bytes-requires c κs = search needs
@@ -29,7 +29,7 @@ buffer-bytes-requires c κs = search needs
 returns-2 : tie.Need-returns-2
 returns-2 c =
     let a = c .before .before .before .before .before .before .args in
-    λ parts. due-other (a .plan .now) (a .counts .now) (c .before .before .before .before .code-of .ensures) (c .before .before .before .rows-of .ensures) (c .before .before .bytes-of .ensures) (a .b) (a .r + a .n) parts (c .before .if1 .left) (c .buffer-bytes .ensures)
+    λ parts. due-other (a .plan .now) (a .counters .now) (c .before .before .before .before .code-of .ensures) (c .before .before .before .rows-of .ensures) (c .before .before .bytes-of .ensures) (a .b) (a .r + a .n) parts (c .before .if1 .left) (c .buffer-bytes .ensures)
 
 pub bytes-due-spec : {M : Type 1} → statement M
 bytes-due-spec = tie.close (tie.spec code-of-requires rows-of-requires bytes-of-requires root-bytes-requires returns buffer-bytes-requires returns-2)

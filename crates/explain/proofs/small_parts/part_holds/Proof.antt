@@ -11,7 +11,7 @@ has-part-requires c κs = search needs
 returns : tie.Need-returns
 returns c =
     let a = c .before .before .before .before .args in
-    no-part (a .plan .now) (a .counts .now) (a .parts .now) (a .i) (a .b) (c .before .has-part .ensures) (c .if1 .taken)
+    no-part (a .plan .now) (a .counters .now) (a .parts .now) (a .i) (a .b) (c .before .has-part .ensures) (c .if1 .taken)
 
 code-of-requires : tie.Need-code-of-requires
 code-of-requires c κs = search needs
@@ -31,7 +31,7 @@ size-of-requires c κs = search needs
 returns-2 : tie.Need-returns-2
 returns-2 c =
     let a = c .before .before .before .before .before .before .before .before .before .args in
-    part-size (a .plan .now) (a .counts .now) (a .parts .now) (a .i) (a .b) (c .before .before .before .before .before .before .has-part .ensures) (c .before .before .before .before .before .if1 .left) (c .before .before .before .before .code-of .ensures) (c .before .before .before .rows-of .ensures) (c .before .before .bytes-of .ensures) (c .before .buffer-bytes .ensures) (c .size-of .ensures) (c .before .before .before .before .before .before .before .before .before .pre .2) refl
+    part-size (a .plan .now) (a .counters .now) (a .parts .now) (a .i) (a .b) (c .before .before .before .before .before .before .has-part .ensures) (c .before .before .before .before .before .if1 .left) (c .before .before .before .before .code-of .ensures) (c .before .before .before .rows-of .ensures) (c .before .before .bytes-of .ensures) (c .before .buffer-bytes .ensures) (c .size-of .ensures) (c .before .before .before .before .before .before .before .before .before .pre .2) refl
 
 pub part-holds-spec : {M : Type 1} → statement M
 part-holds-spec = tie.close (tie.spec has-part-requires returns code-of-requires rows-of-requires bytes-of-requires buffer-bytes-requires size-of-requires returns-2)

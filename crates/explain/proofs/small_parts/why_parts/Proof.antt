@@ -10,10 +10,10 @@ use Rattle.explain.proofs.small_parts.why_parts.Statement.{statement}
 use Rattle.explain.proofs.small_parts.why_parts.Tie as tie
 
 abbrev Inv-loop : tie.InvT-loop
-Inv-loop plan counts parts r n nodes i₀ i = (i ≤ nodes) × (whyPartsFrom plan counts parts (r + n) nodes 0 ≡ whyPartsFrom plan counts parts (r + n) (nodes - i) i)
+Inv-loop plan counters parts r n nodes i₀ i = (i ≤ nodes) × (whyPartsFrom plan counters parts (r + n) nodes 0 ≡ whyPartsFrom plan counters parts (r + n) (nodes - i) i)
 
 abbrev μ-loop : tie.MeasureT-loop
-μ-loop plan counts parts r n nodes i₀ i = nodes - i
+μ-loop plan counters parts r n nodes i₀ i = nodes - i
 
 node-count-requires : tie.Need-node-count-requires Inv-loop μ-loop
 node-count-requires c κs = search needs
@@ -27,7 +27,7 @@ why-node-requires c κs = (omega (arith, c .before .before .node-count .ensures 
 returns : tie.Need-returns Inv-loop μ-loop
 returns c =
     let a = c .before .before .before .before .before .before .before .before .args in
-    sym (ap (λ (z : ℕ). whyPartsFrom (a .plan .now) (a .counts .now) (a .parts .now) (a .r + a .n) z 0) (sym (c .before .before .before .before .before .node-count .ensures .0)) ∙ c .before .before .before .before .loop .inv .1 ∙ nodes-stop (a .plan .now) (a .counts .now) (a .parts .now) (a .r + a .n) (c .before .before .before .before .before .node-count .result - c .before .before .before .before .loop .i) (c .before .before .before .before .before .node-count .result - (c .before .before .before .before .loop .i + 1)) (c .before .before .before .before .loop .i) (omega arith) (c .before .before .why-node .ensures) (c .if1 .taken))
+    sym (ap (λ (z : ℕ). whyPartsFrom (a .plan .now) (a .counters .now) (a .parts .now) (a .r + a .n) z 0) (sym (c .before .before .before .before .before .node-count .ensures .0)) ∙ c .before .before .before .before .loop .inv .1 ∙ nodes-stop (a .plan .now) (a .counters .now) (a .parts .now) (a .r + a .n) (c .before .before .before .before .before .node-count .result - c .before .before .before .before .loop .i) (c .before .before .before .before .before .node-count .result - (c .before .before .before .before .loop .i + 1)) (c .before .before .before .before .loop .i) (omega arith) (c .before .before .why-node .ensures) (c .if1 .taken))
 
 add-i : tie.Need-add-i Inv-loop μ-loop
 add-i c = omega arith
@@ -38,7 +38,7 @@ loop-less c = omega arith
 loop-again : tie.Need-loop-again Inv-loop μ-loop
 loop-again c =
     let a = c .before .before .before .before .before .before .before .before .args in
-    (omega arith, c .before .before .before .before .loop .inv .1 ∙ nodes-on (a .plan .now) (a .counts .now) (a .parts .now) (a .r + a .n) (c .before .before .before .before .before .node-count .result - c .before .before .before .before .loop .i) (c .before .before .before .before .before .node-count .result - (c .before .before .before .before .loop .i + 1)) (c .before .before .before .before .loop .i) (omega arith) (c .before .before .why-node .ensures) refl (c .if1 .left))
+    (omega arith, c .before .before .before .before .loop .inv .1 ∙ nodes-on (a .plan .now) (a .counters .now) (a .parts .now) (a .r + a .n) (c .before .before .before .before .before .node-count .result - c .before .before .before .before .loop .i) (c .before .before .before .before .before .node-count .result - (c .before .before .before .before .loop .i + 1)) (c .before .before .before .before .loop .i) (omega arith) (c .before .before .why-node .ensures) refl (c .if1 .left))
 
 plain-requires : tie.Need-plain-requires Inv-loop μ-loop
 plain-requires c κs = search needs
@@ -46,7 +46,7 @@ plain-requires c κs = search needs
 returns-2 : tie.Need-returns-2 Inv-loop μ-loop
 returns-2 c =
     let a = c .before .before .before .before .before .before .args in
-    c .plain .ensures ∙ sym (ap (λ (z : ℕ). whyPartsFrom (a .plan .now) (a .counts .now) (a .parts .now) (a .r + a .n) z 0) (sym (c .before .before .before .node-count .ensures .0)) ∙ c .before .before .loop .inv .1 ∙ nodes-none (a .plan .now) (a .counts .now) (a .parts .now) (a .r + a .n) (c .before .before .before .node-count .result - c .before .before .loop .i) (c .before .before .loop .i) (omega arith))
+    c .plain .ensures ∙ sym (ap (λ (z : ℕ). whyPartsFrom (a .plan .now) (a .counters .now) (a .parts .now) (a .r + a .n) z 0) (sym (c .before .before .before .node-count .ensures .0)) ∙ c .before .before .loop .inv .1 ∙ nodes-none (a .plan .now) (a .counters .now) (a .parts .now) (a .r + a .n) (c .before .before .before .node-count .result - c .before .before .loop .i) (c .before .before .loop .i) (omega arith))
 
 pub why-parts-spec : {M : Type 1} → statement M
 why-parts-spec = tie.close (tie.spec Inv-loop μ-loop node-count-requires loop-holds why-node-requires returns add-i loop-less loop-again plain-requires returns-2)

@@ -15,8 +15,8 @@ plain-requires c κs = search needs
 returns : tie.Need-returns
 returns c =
     let a = c .before .before .before .before .before .before .before .args in
-    let x = join (a .state .now) (a .parts .now) (a .lengths .now) (a .places .now) (a .body .now) (a .first) (a .source) in
-    node-out x (a .depth) (a .i) (a .a) (a .n) (a .counts .now) (c .before .if1 .taken) ∙ sym (c .plain .ensures)
+    let x = join (a .plan .now) (a .parts .now) (a .lengths .now) (a .places .now) (a .body .now) (a .first) (a .source) in
+    node-out x (a .depth) (a .i) (a .a) (a .n) (a .counters .now) (c .before .if1 .taken) ∙ sym (c .plain .ensures)
 
 slot-of-requires : tie.Need-slot-of-requires
 slot-of-requires c κs = search needs
@@ -27,8 +27,8 @@ plain-requires-2 c κs = search needs
 returns-2 : tie.Need-returns-2
 returns-2 c =
     let a = c .before .before .before .before .before .before .before .before .before .args in
-    let x = join (a .state .now) (a .parts .now) (a .lengths .now) (a .places .now) (a .body .now) (a .first) (a .source) in
-    node-far x (a .depth) (a .i) (a .a) (a .n) (a .counts .now) (c .before .before .before .if1 .left) (c .before .before .slot-of .ensures (a .state .now) (a .parts .now) (a .places .now) (a .body .now) (a .source)) (c .before .if2 .taken) ∙ sym (c .plain2 .ensures)
+    let x = join (a .plan .now) (a .parts .now) (a .lengths .now) (a .places .now) (a .body .now) (a .first) (a .source) in
+    node-far x (a .depth) (a .i) (a .a) (a .n) (a .counters .now) (c .before .before .before .if1 .left) (c .before .before .slot-of .ensures (a .plan .now) (a .parts .now) (a .places .now) (a .body .now) (a .source)) (c .before .if2 .taken) ∙ sym (c .plain2 .ensures)
 
 slice-aggregate-copy-validity : tie.Need-slice-aggregate-copy-validity
 slice-aggregate-copy-validity c = search needs
@@ -44,8 +44,8 @@ plain-requires-3 c κs = search needs
 returns-3 : tie.Need-returns-3
 returns-3 c =
     let a = c .before .before .before .before .before .before .before .before .before .before .before .before .before .before .args in
-    let x = join (a .state .now) (a .parts .now) (a .lengths .now) (a .places .now) (a .body .now) (a .first) (a .source) in
-    node-mask x (a .depth) (a .i) (a .a) (a .n) (a .counts .now) (c .before .before .before .before .before .before .before .before .if1 .left) (c .before .before .before .before .before .before .before .slot-of .ensures (a .state .now) (a .parts .now) (a .places .now) (a .body .now) (a .source)) (c .before .before .before .before .before .before .if2 .left) refl (λ z. c .before .if3 .taken (c .before .before .before .copy-validity .ensures (a .lengths .now) (a .source) .answer ∙ z)) ∙ sym (c .plain3 .ensures)
+    let x = join (a .plan .now) (a .parts .now) (a .lengths .now) (a .places .now) (a .body .now) (a .first) (a .source) in
+    node-mask x (a .depth) (a .i) (a .a) (a .n) (a .counters .now) (c .before .before .before .before .before .before .before .before .if1 .left) (c .before .before .before .before .before .before .before .slot-of .ensures (a .plan .now) (a .parts .now) (a .places .now) (a .body .now) (a .source)) (c .before .before .before .before .before .before .if2 .left) refl (λ z. c .before .if3 .taken (c .before .before .before .copy-validity .ensures (a .lengths .now) (a .source) .answer ∙ z)) ∙ sym (c .plain3 .ensures)
 
 step-data-requires : tie.Need-step-data-requires
 step-data-requires c κs =
@@ -55,8 +55,8 @@ step-data-requires c κs =
 returns-4 : tie.Need-returns-4
 returns-4 c =
     let a = c .before .before .before .before .before .before .before .before .before .before .before .before .before .before .before .args in
-    let x = join (a .state .now) (a .parts .now) (a .lengths .now) (a .places .now) (a .body .now) (a .first) (a .source) in
-    node-data x (a .depth) (a .i) (a .a) (a .n) (a .counts .now) (c .before .before .before .before .before .before .before .before .before .if1 .left) (c .before .before .before .before .before .before .before .before .slot-of .ensures (a .state .now) (a .parts .now) (a .places .now) (a .body .now) (a .source)) (c .before .before .before .before .before .before .before .if2 .left) refl (sym (c .before .before .before .before .copy-validity .ensures (a .lengths .now) (a .source) .answer) ∙ c .before .before .if3 .left) (c .before .before .before .before .copy-validity .ensures (a .lengths .now) (a .source) .counters) ∙ c .step-data .ensures
+    let x = join (a .plan .now) (a .parts .now) (a .lengths .now) (a .places .now) (a .body .now) (a .first) (a .source) in
+    node-data x (a .depth) (a .i) (a .a) (a .n) (a .counters .now) (c .before .before .before .before .before .before .before .before .before .if1 .left) (c .before .before .before .before .before .before .before .before .slot-of .ensures (a .plan .now) (a .parts .now) (a .places .now) (a .body .now) (a .source)) (c .before .before .before .before .before .before .before .if2 .left) refl (sym (c .before .before .before .before .copy-validity .ensures (a .lengths .now) (a .source) .answer) ∙ c .before .before .if3 .left) (c .before .before .before .before .copy-validity .ensures (a .lengths .now) (a .source) .counters) ∙ c .step-data .ensures
 
 pub step-node-spec : {M : Type 1} → statement M
 step-node-spec = tie.close (tie.spec plain-requires returns slot-of-requires plain-requires-2 returns-2 slice-aggregate-copy-validity copy-validity-requires plain-requires-3 returns-3 step-data-requires returns-4)

@@ -11,10 +11,10 @@ use Rattle.explain.proofs.stop_walks.why_walk.Statement.{statement}
 use Rattle.explain.proofs.stop_walks.why_walk.Tie as tie
 
 abbrev Inv-loop : tie.InvT-loop
-Inv-loop state parts lengths places body counts₀ source first i a n depth left₀ node₀ start₀ len₀ counts left node start len = whyCopy (join state parts lengths places body first source) depth i a n counts₀ ≡ whyCopy (join state parts lengths places body first source) left node start len counts
+Inv-loop plan parts lengths places body counters₀ source first i a n depth left₀ node₀ start₀ len₀ counters left node start len = whyCopy (join plan parts lengths places body first source) depth i a n counters₀ ≡ whyCopy (join plan parts lengths places body first source) left node start len counters
 
 abbrev μ-loop : tie.MeasureT-loop
-μ-loop state parts lengths places body counts₀ source first i a n depth left₀ node₀ start₀ len₀ counts left node start len = left
+μ-loop plan parts lengths places body counters₀ source first i a n depth left₀ node₀ start₀ len₀ counters left node start len = left
 
 loop-holds : tie.Need-loop-holds Inv-loop μ-loop
 loop-holds c = refl
@@ -34,8 +34,8 @@ plain-requires c κs = search needs
 returns : tie.Need-returns Inv-loop μ-loop
 returns c =
     let a = c .before .before .before .before .before .before .before .before .before .before .before .before .args in
-    let x = join (a .state .now) (a .parts .now) (a .lengths .now) (a .places .now) (a .body .now) (a .first) (a .source) in
-    c .plain .ensures ∙ sym (c .before .before .before .before .before .before .loop .inv ∙ level x (c .before .before .before .before .before .before .loop .node) (c .before .before .before .before .before .before .loop .start) (c .before .before .before .before .before .before .loop .len) (c .before .before .before .before .before .before .loop .counts) (c .before .before .before .before .before .before .loop .left) (c .before .before .before .before .before .before .loop .left - 1) (omega arith) ∙ c .before .before .before .step-node .ensures ∙ after-on x (c .before .before .before .before .before .before .loop .left - 1) (c .before .enum-told .given .1) _)
+    let x = join (a .plan .now) (a .parts .now) (a .lengths .now) (a .places .now) (a .body .now) (a .first) (a .source) in
+    c .plain .ensures ∙ sym (c .before .before .before .before .before .before .loop .inv ∙ level x (c .before .before .before .before .before .before .loop .node) (c .before .before .before .before .before .before .loop .start) (c .before .before .before .before .before .before .loop .len) (c .before .before .before .before .before .before .loop .counters) (c .before .before .before .before .before .before .loop .left) (c .before .before .before .before .before .before .loop .left - 1) (omega arith) ∙ c .before .before .before .step-node .ensures ∙ after-on x (c .before .before .before .before .before .before .loop .left - 1) (c .before .enum-told .given .1) _)
 
 enum-known-w : tie.Need-enum-known-w Inv-loop μ-loop
 enum-known-w c = search needs
@@ -43,8 +43,8 @@ enum-known-w c = search needs
 returns-2 : tie.Need-returns-2 Inv-loop μ-loop
 returns-2 c =
     let a = c .before .before .before .before .before .before .before .before .before .before .before .before .args in
-    let x = join (a .state .now) (a .parts .now) (a .lengths .now) (a .places .now) (a .body .now) (a .first) (a .source) in
-    sym (c .before .before .before .before .before .before .loop .inv ∙ level x (c .before .before .before .before .before .before .loop .node) (c .before .before .before .before .before .before .loop .start) (c .before .before .before .before .before .before .loop .len) (c .before .before .before .before .before .before .loop .counts) (c .before .before .before .before .before .before .loop .left) (c .before .before .before .before .before .before .loop .left - 1) (omega arith) ∙ c .before .before .before .step-node .ensures ∙ after-here x (c .before .before .before .before .before .before .loop .left - 1) (c .before .w .given .1) _)
+    let x = join (a .plan .now) (a .parts .now) (a .lengths .now) (a .places .now) (a .body .now) (a .first) (a .source) in
+    sym (c .before .before .before .before .before .before .loop .inv ∙ level x (c .before .before .before .before .before .before .loop .node) (c .before .before .before .before .before .before .loop .start) (c .before .before .before .before .before .before .loop .len) (c .before .before .before .before .before .before .loop .counters) (c .before .before .before .before .before .before .loop .left) (c .before .before .before .before .before .before .loop .left - 1) (omega arith) ∙ c .before .before .before .step-node .ensures ∙ after-here x (c .before .before .before .before .before .before .loop .left - 1) (c .before .w .given .1) _)
 
 enum-known-k : tie.Need-enum-known-k Inv-loop μ-loop
 enum-known-k c = search needs
@@ -55,8 +55,8 @@ loop-less c = omega arith
 loop-again : tie.Need-loop-again Inv-loop μ-loop
 loop-again c =
     let a = c .before .before .before .before .before .before .before .before .before .before .before .before .args in
-    let x = join (a .state .now) (a .parts .now) (a .lengths .now) (a .places .now) (a .body .now) (a .first) (a .source) in
-    c .before .before .before .before .before .before .loop .inv ∙ level x (c .before .before .before .before .before .before .loop .node) (c .before .before .before .before .before .before .loop .start) (c .before .before .before .before .before .before .loop .len) (c .before .before .before .before .before .before .loop .counts) (c .before .before .before .before .before .before .loop .left) (c .before .before .before .before .before .before .loop .left - 1) (omega arith) ∙ c .before .before .before .step-node .ensures ∙ after-below x (c .before .before .before .before .before .before .loop .left - 1) (c .before .k .given .1) _
+    let x = join (a .plan .now) (a .parts .now) (a .lengths .now) (a .places .now) (a .body .now) (a .first) (a .source) in
+    c .before .before .before .before .before .before .loop .inv ∙ level x (c .before .before .before .before .before .before .loop .node) (c .before .before .before .before .before .before .loop .start) (c .before .before .before .before .before .before .loop .len) (c .before .before .before .before .before .before .loop .counters) (c .before .before .before .before .before .before .loop .left) (c .before .before .before .before .before .before .loop .left - 1) (omega arith) ∙ c .before .before .before .step-node .ensures ∙ after-below x (c .before .before .before .before .before .before .loop .left - 1) (c .before .k .given .1) _
 
 plain-requires-2 : tie.Need-plain-requires-2 Inv-loop μ-loop
 plain-requires-2 c κs = search needs
@@ -64,8 +64,8 @@ plain-requires-2 c κs = search needs
 returns-3 : tie.Need-returns-3 Inv-loop μ-loop
 returns-3 c =
     let a = c .before .before .before .before .before .before .before .before .args in
-    let x = join (a .state .now) (a .parts .now) (a .lengths .now) (a .places .now) (a .body .now) (a .first) (a .source) in
-    c .plain2 .ensures ∙ sym (c .before .before .loop .inv ∙ bottom x (c .before .before .loop .node) (c .before .before .loop .start) (c .before .before .loop .len) (c .before .before .loop .counts) (c .before .before .loop .left) (omega arith))
+    let x = join (a .plan .now) (a .parts .now) (a .lengths .now) (a .places .now) (a .body .now) (a .first) (a .source) in
+    c .plain2 .ensures ∙ sym (c .before .before .loop .inv ∙ bottom x (c .before .before .loop .node) (c .before .before .loop .start) (c .before .before .loop .len) (c .before .before .loop .counters) (c .before .before .loop .left) (omega arith))
 
 pub why-walk-spec : {M : Type 1} → statement M
 why-walk-spec = tie.close (tie.spec Inv-loop μ-loop loop-holds sub-left step-node-requires enum-told plain-requires returns enum-known-w returns-2 enum-known-k loop-less loop-again plain-requires-2 returns-3)

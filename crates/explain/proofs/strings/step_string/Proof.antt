@@ -15,7 +15,7 @@ use Rattle.explain.proofs.strings.step_string.Tie as tie
 returns : tie.Need-returns
 returns c =
     let a = c .before .before .before .before .args in
-    λ parts lengths source depth. string-none (join (a .state .now) parts lengths (a .places .now) (a .body .now) (a .first) source) depth (a .w) (a .i) (a .slot) (a .n) (a .counts .now) (c .if1 .taken)
+    λ parts lengths source depth. string-none (join (a .plan .now) parts lengths (a .places .now) (a .body .now) (a .first) source) depth (a .w) (a .i) (a .slot) (a .n) (a .counters .now) (c .if1 .taken)
 
 add-place : tie.Need-add-place
 add-place c = search needs
@@ -37,7 +37,7 @@ plain-requires c κs = search needs
 returns-2 : tie.Need-returns-2
 returns-2 c =
     let a = c .before .before .before .before .before .before .before .before .args in
-    λ parts lengths source depth. string-foreign (join (a .state .now) parts lengths (a .places .now) (a .body .now) (a .first) source) depth (a .w) (a .i) (a .slot) (a .n) (a .counts .now) (c .before .before .before .before .if1 .left) (c .before .before .before .place .ensures) (c .before .before .rows-in .ensures (a .state .now) parts lengths (a .places .now) (a .first) source) (c .before .if2 .taken) ∙ sym (c .plain .ensures)
+    λ parts lengths source depth. string-foreign (join (a .plan .now) parts lengths (a .places .now) (a .body .now) (a .first) source) depth (a .w) (a .i) (a .slot) (a .n) (a .counters .now) (c .before .before .before .before .if1 .left) (c .before .before .before .place .ensures) (c .before .before .rows-in .ensures (a .plan .now) parts lengths (a .places .now) (a .first) source) (c .before .if2 .taken) ∙ sym (c .plain .ensures)
 
 mul-from : tie.Need-mul-from
 mul-from c =
@@ -92,17 +92,17 @@ plain-requires-3 c κs = search needs
 returns-3 : tie.Need-returns-3
 returns-3 c =
     let a = c .before .before .before .before .before .before .before .before .before .before .before .before .before .before .before .args in
-    λ parts lengths source depth. string-fits (join (a .state .now) parts lengths (a .places .now) (a .body .now) (a .first) source) depth (a .w) (a .i) (a .slot) (a .n) (a .counts .now) (c .before .before .before .before .before .before .before .before .before .before .before .if1 .left) (c .before .before .before .before .before .before .before .before .before .before .place .ensures) (c .before .before .before .before .before .before .before .before .before .rows-in .ensures (a .state .now) parts lengths (a .places .now) (a .first) source) (c .before .before .before .before .before .before .before .before .if2 .left) refl (c .before .before .before .before .before .before .before .bytes-of .ensures) (c .before .before .before .before .before .before .offsets .ensures) (c .before .before .before .before .last .given .1) (rw (c .before .before .place2 .ensures) at (c .before .bytes-ground .ensures)) ∙ sym (c .plain2 .ensures)
+    λ parts lengths source depth. string-fits (join (a .plan .now) parts lengths (a .places .now) (a .body .now) (a .first) source) depth (a .w) (a .i) (a .slot) (a .n) (a .counters .now) (c .before .before .before .before .before .before .before .before .before .before .before .if1 .left) (c .before .before .before .before .before .before .before .before .before .before .place .ensures) (c .before .before .before .before .before .before .before .before .before .rows-in .ensures (a .plan .now) parts lengths (a .places .now) (a .first) source) (c .before .before .before .before .before .before .before .before .if2 .left) refl (c .before .before .before .before .before .before .before .bytes-of .ensures) (c .before .before .before .before .before .before .offsets .ensures) (c .before .before .before .before .last .given .1) (rw (c .before .before .place2 .ensures) at (c .before .bytes-ground .ensures)) ∙ sym (c .plain2 .ensures)
 
 returns-4 : tie.Need-returns-4
 returns-4 c =
     let a = c .before .before .before .before .before .before .before .before .before .before .before .before .before .args in
-    λ parts lengths source depth. string-clash (join (a .state .now) parts lengths (a .places .now) (a .body .now) (a .first) source) depth (a .w) (a .i) (a .slot) (a .n) (a .counts .now) (c .before .before .before .before .before .before .before .before .before .if1 .left) (c .before .before .before .before .before .before .before .before .place .ensures) (c .before .before .before .before .before .before .before .rows-in .ensures (a .state .now) parts lengths (a .places .now) (a .first) source) (c .before .before .before .before .before .before .if2 .left) refl (c .before .before .before .before .before .bytes-of .ensures) (c .before .before .before .before .offsets .ensures) (c .before .before .row .given .1) (c .largest .ensures)
+    λ parts lengths source depth. string-clash (join (a .plan .now) parts lengths (a .places .now) (a .body .now) (a .first) source) depth (a .w) (a .i) (a .slot) (a .n) (a .counters .now) (c .before .before .before .before .before .before .before .before .before .if1 .left) (c .before .before .before .before .before .before .before .before .place .ensures) (c .before .before .before .before .before .before .before .rows-in .ensures (a .plan .now) parts lengths (a .places .now) (a .first) source) (c .before .before .before .before .before .before .if2 .left) refl (c .before .before .before .before .before .bytes-of .ensures) (c .before .before .before .before .offsets .ensures) (c .before .before .row .given .1) (c .largest .ensures)
 
 returns-5 : tie.Need-returns-5
 returns-5 c =
     let a = c .before .before .before .before .before .before .before .before .before .before .before .before .args in
-    λ parts lengths source depth. string-falls (join (a .state .now) parts lengths (a .places .now) (a .body .now) (a .first) source) depth (a .w) (a .i) (a .slot) (a .n) (a .counts .now) (c .before .before .before .before .before .before .before .before .if1 .left) (c .before .before .before .before .before .before .before .place .ensures) (c .before .before .before .before .before .before .rows-in .ensures (a .state .now) parts lengths (a .places .now) (a .first) source) (c .before .before .before .before .before .if2 .left) refl (c .before .before .before .before .bytes-of .ensures) (c .before .before .before .offsets .ensures) (c .before .enum-told .given .1) ∙ sym (c .plain3 .ensures)
+    λ parts lengths source depth. string-falls (join (a .plan .now) parts lengths (a .places .now) (a .body .now) (a .first) source) depth (a .w) (a .i) (a .slot) (a .n) (a .counters .now) (c .before .before .before .before .before .before .before .before .if1 .left) (c .before .before .before .before .before .before .before .place .ensures) (c .before .before .before .before .before .before .rows-in .ensures (a .plan .now) parts lengths (a .places .now) (a .first) source) (c .before .before .before .before .before .if2 .left) refl (c .before .before .before .before .bytes-of .ensures) (c .before .before .before .offsets .ensures) (c .before .enum-told .given .1) ∙ sym (c .plain3 .ensures)
 
 pub step-string-spec : {M : Type 1} → statement M
 step-string-spec = tie.close (tie.spec returns add-place place-requires add-rows-in rows-in-requires plain-requires returns-2 mul-from add-from bytes-of-requires offsets-requires enum-known-last add-place-2 place-requires-2 sub-bytes-ground bytes-ground-requires plain-requires-2 enum-known-row largest-requires enum-told plain-requires-3 returns-3 returns-4 returns-5)

@@ -38,8 +38,8 @@ plain-requires c κs = search needs
 returns : tie.Need-returns
 returns c =
     let a = c .before .before .before .before .before .before .before .before .before .before .before .args in
-    let x = join (a .state .now) (a .parts .now) (a .lengths .now) (a .places .now) (a .body .now) (a .first) (a .source) in
-    rw (c .plain .ensures) (dense-none x (a .depth) (a .i) (a .slot) (a .r) (a .counts .now) (child-is x (a .depth) (a .i) (a .slot) (a .r) (c .before .before .before .before .before .place .ensures) refl (c .before .before .before .end-of .ensures .0) (add-one (a .i)) (c .before .before .child-with .ensures .0)) (c .before .if1 .taken) (a .counts .now))
+    let x = join (a .plan .now) (a .parts .now) (a .lengths .now) (a .places .now) (a .body .now) (a .first) (a .source) in
+    rw (c .plain .ensures) (dense-none x (a .depth) (a .i) (a .slot) (a .r) (a .counters .now) (child-is x (a .depth) (a .i) (a .slot) (a .r) (c .before .before .before .before .before .place .ensures) refl (c .before .before .before .end-of .ensures .0) (add-one (a .i)) (c .before .before .child-with .ensures .0)) (c .before .if1 .taken) (a .counters .now))
 
 rows-of-requires : tie.Need-rows-of-requires
 rows-of-requires c κs = search needs
@@ -47,8 +47,8 @@ rows-of-requires c κs = search needs
 returns-2 : tie.Need-returns-2
 returns-2 c =
     let a = c .before .before .before .before .before .before .before .before .before .before .before .before .before .args in
-    let x = join (a .state .now) (a .parts .now) (a .lengths .now) (a .places .now) (a .body .now) (a .first) (a .source) in
-    dense-over x (a .depth) (a .i) (a .slot) (a .r) (a .counts .now) (child-is x (a .depth) (a .i) (a .slot) (a .r) (c .before .before .before .before .before .before .before .place .ensures) refl (c .before .before .before .before .before .end-of .ensures .0) (add-one (a .i)) (c .before .before .before .before .child-with .ensures .0)) (c .before .before .before .if1 .left) (c .before .rows-of .ensures) (c .if2 .taken) (a .counts .now) (omega arith)
+    let x = join (a .plan .now) (a .parts .now) (a .lengths .now) (a .places .now) (a .body .now) (a .first) (a .source) in
+    dense-over x (a .depth) (a .i) (a .slot) (a .r) (a .counters .now) (child-is x (a .depth) (a .i) (a .slot) (a .r) (c .before .before .before .before .before .before .before .place .ensures) refl (c .before .before .before .before .before .end-of .ensures .0) (add-one (a .i)) (c .before .before .before .before .child-with .ensures .0)) (c .before .before .before .if1 .left) (c .before .rows-of .ensures) (c .if2 .taken) (a .counters .now) (omega arith)
 
 add-place-2 : tie.Need-add-place-2
 add-place-2 c = search needs
@@ -68,8 +68,8 @@ step-into-requires c κs = (c .before .before .before .before .before .before .b
 returns-3 : tie.Need-returns-3
 returns-3 c =
     let a = c .before .before .before .before .before .before .before .before .before .before .before .before .before .before .before .before .before .args in
-    let x = join (a .state .now) (a .parts .now) (a .lengths .now) (a .places .now) (a .body .now) (a .first) (a .source) in
-    dense-into x (a .depth) (a .i) (a .slot) (a .r) (a .counts .now) (child-is x (a .depth) (a .i) (a .slot) (a .r) (c .before .before .before .before .before .before .before .before .before .before .before .place .ensures) refl (c .before .before .before .before .before .before .before .before .before .end-of .ensures .0) (add-one (a .i)) (c .before .before .before .before .before .before .before .before .child-with .ensures .0)) (c .before .before .before .before .before .before .before .if1 .left) (c .before .before .before .before .before .rows-of .ensures) (c .before .before .before .before .if2 .left) (rw (c .before .before .before .place2 .ensures) at (c .before .before .entry-at .ensures)) (c .step-into .result) (c .step-into .ensures)
+    let x = join (a .plan .now) (a .parts .now) (a .lengths .now) (a .places .now) (a .body .now) (a .first) (a .source) in
+    dense-into x (a .depth) (a .i) (a .slot) (a .r) (a .counters .now) (child-is x (a .depth) (a .i) (a .slot) (a .r) (c .before .before .before .before .before .before .before .before .before .before .before .place .ensures) refl (c .before .before .before .before .before .before .before .before .before .end-of .ensures .0) (add-one (a .i)) (c .before .before .before .before .before .before .before .before .child-with .ensures .0)) (c .before .before .before .before .before .before .before .if1 .left) (c .before .before .before .before .before .rows-of .ensures) (c .before .before .before .before .if2 .left) (rw (c .before .before .before .place2 .ensures) at (c .before .before .entry-at .ensures)) (c .step-into .result) (c .step-into .ensures)
 
 pub dense-row-spec : {M : Type 1} → statement M
 dense-row-spec = tie.close (tie.spec add-place place-requires add-at add-at-2 shared-slice-read-id end-of-requires add-child-with child-with-requires plain-requires returns rows-of-requires returns-2 add-place-2 place-requires-2 add-entry-at entry-at-requires step-into-requires returns-3)

@@ -11,7 +11,7 @@ node-of-requires c κs = search needs
 returns : tie.Need-returns
 returns c =
     let z = c .before .before .before .before .before .args in
-    λ plan parts lengths body buffers counts room base e. kept-dropped (lent plan parts (z .sources .now) lengths (z .places .now) body) buffers counts room base (z .i) (z .j) e (c .before .if1 .taken) (c .if2 .taken)
+    λ plan parts lengths body buffers counters room base e. kept-dropped (lent plan parts (z .sources .now) lengths (z .places .now) body) buffers counters room base (z .i) (z .j) e (c .before .if1 .taken) (c .if2 .taken)
 
 place-requires : tie.Need-place-requires
 place-requires c κs = (c .before .before .node-of .ensures .1, c .before .before .before .before .before .pre .1)
@@ -19,7 +19,7 @@ place-requires c κs = (c .before .before .node-of .ensures .1, c .before .befor
 returns-2 : tie.Need-returns-2
 returns-2 c =
     let z = c .before .before .before .before .before .before .args in
-    λ plan parts lengths body buffers counts room base e. kept-valid (lent plan parts (z .sources .now) lengths (z .places .now) body) buffers counts room base (z .i) (z .j) e (c .before .before .if1 .taken) (c .before .if2 .left) (c .before .before .before .node-of .ensures .0) (c .place .ensures)
+    λ plan parts lengths body buffers counters room base e. kept-valid (lent plan parts (z .sources .now) lengths (z .places .now) body) buffers counters room base (z .i) (z .j) e (c .before .before .if1 .taken) (c .before .if2 .left) (c .before .before .before .node-of .ensures .0) (c .place .ensures)
 
 place-requires-2 : tie.Need-place-requires-2
 place-requires-2 c κs = (c .before .before .node-of .ensures .1, c .before .before .before .before .before .pre .1)
@@ -27,12 +27,12 @@ place-requires-2 c κs = (c .before .before .node-of .ensures .1, c .before .bef
 returns-3 : tie.Need-returns-3
 returns-3 c =
     let z = c .before .before .before .before .before .before .args in
-    λ plan parts lengths body buffers counts room base e. kept-buffer (lent plan parts (z .sources .now) lengths (z .places .now) body) buffers counts room base (z .i) (z .j) (c .before .before .if1 .left) (c .before .if3 .taken) (c .before .before .before .node-of .ensures .0) (c .place2 .ensures)
+    λ plan parts lengths body buffers counters room base e. kept-buffer (lent plan parts (z .sources .now) lengths (z .places .now) body) buffers counters room base (z .i) (z .j) (c .before .before .if1 .left) (c .before .if3 .taken) (c .before .before .before .node-of .ensures .0) (c .place2 .ensures)
 
 returns-4 : tie.Need-returns-4
 returns-4 c =
     let z = c .before .before .before .before .before .args in
-    λ plan parts lengths body buffers counts room base e. kept-none (lent plan parts (z .sources .now) lengths (z .places .now) body) buffers counts room base (z .i) (z .j) (c .before .if1 .left) (c .if3 .left)
+    λ plan parts lengths body buffers counters room base e. kept-none (lent plan parts (z .sources .now) lengths (z .places .now) body) buffers counters room base (z .i) (z .j) (c .before .if1 .left) (c .if3 .left)
 
 pub kept-place-spec : {M : Type 1} → statement M
 kept-place-spec =

@@ -27,7 +27,7 @@ rows-in-requires c κs = omega (arith, width-in (c .before .before .before .befo
 returns : tie.Need-returns
 returns c =
     let a = c .before .before .before .before .before .before .before .before .args in
-    (λ lengths source. offsets-out (join (a .state .now) (a .parts .now) lengths (a .places .now) (a .body .now) (a .first) source) (a .w) (a .i) (a .slot) (a .n) (a .counts .now) (c .before .before .place .ensures) (c .before .rows-in .ensures (a .state .now) (a .parts .now) lengths (a .places .now) (a .first) source) (c .if1 .taken), λ lengths source. untouched (a .state .now) (a .parts .now) (a .write) (a .room .now))
+    (λ lengths source. offsets-out (join (a .plan .now) (a .parts .now) lengths (a .places .now) (a .body .now) (a .first) source) (a .w) (a .i) (a .slot) (a .n) (a .counters .now) (c .before .before .place .ensures) (c .before .rows-in .ensures (a .plan .now) (a .parts .now) lengths (a .places .now) (a .first) source) (c .if1 .taken), λ lengths source. untouched (a .plan .now) (a .parts .now) (a .write) (a .room .now))
 
 mul-from : tie.Need-mul-from
 mul-from c =
@@ -80,17 +80,17 @@ returns-2 : tie.Need-returns-2
 returns-2 c =
     let a = c .before .before .before .before .before .before .before .before .before .before .before .before .before .before .before .before .before .before .before .before .args in
     let e = c .before .before .before .before .before .before .before .before .before .before .before .before .before .before .place .ensures in
-    (λ lengths source. sym (c .before .before .before .before .before .before .before .before .last .given .1) ∙ offsets-in (join (a .state .now) (a .parts .now) lengths (a .places .now) (a .body .now) (a .first) source) (a .w) (a .i) (a .slot) (a .n) (a .counts .now) e (c .before .before .before .before .before .before .before .before .before .before .before .before .before .rows-in .ensures (a .state .now) (a .parts .now) lengths (a .places .now) (a .first) source) (c .before .before .before .before .before .before .before .before .before .before .before .before .if1 .left) (add-one (a .i)) (c .before .before .before .before .before .before .before .before .before .before .before .rows-of .ensures) (c .before .before .before .before .before .before .before .before .before .before .try-offsets .ensures), λ lengths source. offsets-put (join (a .state .now) (a .parts .now) lengths (a .places .now) (a .body .now) (a .first) source) (a .w) (a .i) (a .slot) (a .n) (a .counts .now) e (c .before .before .before .before .before .before .before .before .before .before .before .before .before .rows-in .ensures (a .state .now) (a .parts .now) lengths (a .places .now) (a .first) source) (a .write) (a .room .now) (add-one (a .i)) (c .before .before .before .before .before .before .before .before .before .before .before .rows-of .ensures) (c .before .before .before .before .before .before .rows-of2 .ensures) (c .before .before .before .before .before .grow .ensures) (c .before .before .before .before .scale .ensures) (width-in (a .w) (λ p q. c .before .before .before .before .before .before .before .before .before .before .before .before .before .before .before .before .before .before .before .before .pre .1) .0) (omega (arith, c .before .before .before .before .before .before .before .before .before .before .before .before .before .before .before .before .before .before .before .before .good)) (c .before .before .put-offsets .ensures))
+    (λ lengths source. sym (c .before .before .before .before .before .before .before .before .last .given .1) ∙ offsets-in (join (a .plan .now) (a .parts .now) lengths (a .places .now) (a .body .now) (a .first) source) (a .w) (a .i) (a .slot) (a .n) (a .counters .now) e (c .before .before .before .before .before .before .before .before .before .before .before .before .before .rows-in .ensures (a .plan .now) (a .parts .now) lengths (a .places .now) (a .first) source) (c .before .before .before .before .before .before .before .before .before .before .before .before .if1 .left) (add-one (a .i)) (c .before .before .before .before .before .before .before .before .before .before .before .rows-of .ensures) (c .before .before .before .before .before .before .before .before .before .before .try-offsets .ensures), λ lengths source. offsets-put (join (a .plan .now) (a .parts .now) lengths (a .places .now) (a .body .now) (a .first) source) (a .w) (a .i) (a .slot) (a .n) (a .counters .now) e (c .before .before .before .before .before .before .before .before .before .before .before .before .before .rows-in .ensures (a .plan .now) (a .parts .now) lengths (a .places .now) (a .first) source) (a .write) (a .room .now) (add-one (a .i)) (c .before .before .before .before .before .before .before .before .before .before .before .rows-of .ensures) (c .before .before .before .before .before .before .rows-of2 .ensures) (c .before .before .before .before .before .grow .ensures) (c .before .before .before .before .scale .ensures) (width-in (a .w) (λ p q. c .before .before .before .before .before .before .before .before .before .before .before .before .before .before .before .before .before .before .before .before .pre .1) .0) (omega (arith, c .before .before .before .before .before .before .before .before .before .before .before .before .before .before .before .before .before .before .before .before .good)) (c .before .before .put-offsets .ensures))
 
 returns-3 : tie.Need-returns-3
 returns-3 c =
     let a = c .before .before .before .before .before .before .before .before .before .before .before .before .before .args in
-    (λ lengths source. sym (c .before .row .given .1) ∙ offsets-in (join (a .state .now) (a .parts .now) lengths (a .places .now) (a .body .now) (a .first) source) (a .w) (a .i) (a .slot) (a .n) (a .counts .now) (c .before .before .before .before .before .before .before .place .ensures) (c .before .before .before .before .before .before .rows-in .ensures (a .state .now) (a .parts .now) lengths (a .places .now) (a .first) source) (c .before .before .before .before .before .if1 .left) (add-one (a .i)) (c .before .before .before .before .rows-of .ensures) (c .before .before .before .try-offsets .ensures), λ lengths source. untouched (a .state .now) (a .parts .now) (a .write) (a .room .now))
+    (λ lengths source. sym (c .before .row .given .1) ∙ offsets-in (join (a .plan .now) (a .parts .now) lengths (a .places .now) (a .body .now) (a .first) source) (a .w) (a .i) (a .slot) (a .n) (a .counters .now) (c .before .before .before .before .before .before .before .place .ensures) (c .before .before .before .before .before .before .rows-in .ensures (a .plan .now) (a .parts .now) lengths (a .places .now) (a .first) source) (c .before .before .before .before .before .if1 .left) (add-one (a .i)) (c .before .before .before .before .rows-of .ensures) (c .before .before .before .try-offsets .ensures), λ lengths source. untouched (a .plan .now) (a .parts .now) (a .write) (a .room .now))
 
 returns-4 : tie.Need-returns-4
 returns-4 c =
     let a = c .before .before .before .before .before .before .before .before .before .before .before .before .args in
-    (λ lengths source. sym (c .enum-told .given .1) ∙ offsets-in (join (a .state .now) (a .parts .now) lengths (a .places .now) (a .body .now) (a .first) source) (a .w) (a .i) (a .slot) (a .n) (a .counts .now) (c .before .before .before .before .before .before .place .ensures) (c .before .before .before .before .before .rows-in .ensures (a .state .now) (a .parts .now) lengths (a .places .now) (a .first) source) (c .before .before .before .before .if1 .left) (add-one (a .i)) (c .before .before .before .rows-of .ensures) (c .before .before .try-offsets .ensures), λ lengths source. untouched (a .state .now) (a .parts .now) (a .write) (a .room .now))
+    (λ lengths source. sym (c .enum-told .given .1) ∙ offsets-in (join (a .plan .now) (a .parts .now) lengths (a .places .now) (a .body .now) (a .first) source) (a .w) (a .i) (a .slot) (a .n) (a .counters .now) (c .before .before .before .before .before .before .place .ensures) (c .before .before .before .before .before .rows-in .ensures (a .plan .now) (a .parts .now) lengths (a .places .now) (a .first) source) (c .before .before .before .before .if1 .left) (add-one (a .i)) (c .before .before .before .rows-of .ensures) (c .before .before .try-offsets .ensures), λ lengths source. untouched (a .plan .now) (a .parts .now) (a .write) (a .room .now))
 
 pub copy-offsets-spec : {M : Type 1} → statement M
 copy-offsets-spec =

@@ -13,7 +13,7 @@ use Rattle.leaf_walk.proofs.variable_size.copy_string.Tie as tie
 returns : tie.Need-returns
 returns c =
     let a = c .before .before .before .before .before .before .args in
-    λ lengths source. copy-none (join (a .state .now) (a .parts .now) lengths (a .places .now) (a .body .now) (a .first) source) (a .i) (a .write) (a .counts .now) (a .room .now) (a .w) (a .slot) (a .n) (c .if1 .taken)
+    λ lengths source. copy-none (join (a .plan .now) (a .parts .now) lengths (a .places .now) (a .body .now) (a .first) source) (a .i) (a .write) (a .counters .now) (a .room .now) (a .w) (a .slot) (a .n) (c .if1 .taken)
 
 add-place : tie.Need-add-place
 add-place c = search needs
@@ -32,7 +32,7 @@ rows-in-requires c κs =
 returns-2 : tie.Need-returns-2
 returns-2 c =
     let a = c .before .before .before .before .before .before .before .before .before .args in
-    λ lengths source. copy-out (join (a .state .now) (a .parts .now) lengths (a .places .now) (a .body .now) (a .first) source) (a .i) (a .write) (a .counts .now) (a .room .now) (a .w) (a .slot) (a .n) (c .before .before .before .if1 .left) (c .before .before .place .ensures) (c .before .rows-in .ensures (a .state .now) (a .parts .now) lengths (a .places .now) (a .first) source) (c .if2 .taken)
+    λ lengths source. copy-out (join (a .plan .now) (a .parts .now) lengths (a .places .now) (a .body .now) (a .first) source) (a .i) (a .write) (a .counters .now) (a .room .now) (a .w) (a .slot) (a .n) (c .before .before .before .if1 .left) (c .before .before .place .ensures) (c .before .rows-in .ensures (a .plan .now) (a .parts .now) lengths (a .places .now) (a .first) source) (c .if2 .taken)
 
 mul-from : tie.Need-mul-from
 mul-from c =
@@ -55,7 +55,7 @@ same-length c = search needs
 returns-3 : tie.Need-returns-3
 returns-3 c =
     let a = c .before .before .before .before .before .before .before .before .before .before .before .before .before .before .args in
-    λ lengths source. copy-in (join (a .state .now) (a .parts .now) lengths (a .places .now) (a .body .now) (a .first) source) (a .i) (a .write) (a .counts .now) (a .room .now) (a .w) (a .slot) (a .n) (c .before .before .before .before .before .before .before .before .if1 .left) (c .before .before .before .before .before .before .before .place .ensures) (c .before .before .before .before .before .before .rows-in .ensures (a .state .now) (a .parts .now) lengths (a .places .now) (a .first) source) (c .before .before .before .before .before .if2 .left) (c .before .before .put-extended .ensures lengths source)
+    λ lengths source. copy-in (join (a .plan .now) (a .parts .now) lengths (a .places .now) (a .body .now) (a .first) source) (a .i) (a .write) (a .counters .now) (a .room .now) (a .w) (a .slot) (a .n) (c .before .before .before .before .before .before .before .before .if1 .left) (c .before .before .before .before .before .before .before .place .ensures) (c .before .before .before .before .before .before .rows-in .ensures (a .plan .now) (a .parts .now) lengths (a .places .now) (a .first) source) (c .before .before .before .before .before .if2 .left) (c .before .before .put-extended .ensures lengths source)
 
 pub copy-string-spec : {M : Type 1} → statement M
 copy-string-spec =

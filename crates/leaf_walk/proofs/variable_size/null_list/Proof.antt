@@ -14,7 +14,7 @@ add-if1 c = search needs
 returns : tie.Need-returns
 returns c =
     let a = c .before .before .before .before .args in
-    λ lengths places body first source child. null-far (join (a .state .now) (a .parts .now) lengths places body first source) child (a .write) (a .w) (a .i) (a .n) (a .counts .now) (a .room .now) (add-one (a .i)) (c .if1 .taken)
+    λ lengths places body first source child. null-far (join (a .plan .now) (a .parts .now) lengths places body first source) child (a .write) (a .w) (a .i) (a .n) (a .counters .now) (a .room .now) (add-one (a .i)) (c .if1 .taken)
 
 rows-of-requires : tie.Need-rows-of-requires
 rows-of-requires c κs = search needs
@@ -40,7 +40,7 @@ same-length c = search needs
 returns-2 : tie.Need-returns-2
 returns-2 c =
     let a = c .before .before .before .before .before .before .before .before .before .before .before .before .args in
-    λ lengths places body first source child. null-near (join (a .state .now) (a .parts .now) lengths places body first source) child (a .write) (a .w) (a .i) (a .n) (a .counts .now) (a .room .now) (add-one (a .i)) (c .before .before .before .before .before .before .before .before .if1 .left) (add-one (a .i)) (c .before .before .before .before .rows-of2 .ensures) (c .before .before .before .before .before .before .before .rows-of .ensures) (c .before .before .before .before .before .before .grow .ensures) (c .before .before .before .before .before .scale .ensures) (width-in (a .w) (λ p q. c .before .before .before .before .before .before .before .before .before .before .before .before .pre .1) .0) (omega (arith, c .before .before .before .before .before .before .before .before .before .before .before .before .good)) (c .before .before .put-repeated .ensures)
+    λ lengths places body first source child. null-near (join (a .plan .now) (a .parts .now) lengths places body first source) child (a .write) (a .w) (a .i) (a .n) (a .counters .now) (a .room .now) (add-one (a .i)) (c .before .before .before .before .before .before .before .before .if1 .left) (add-one (a .i)) (c .before .before .before .before .rows-of2 .ensures) (c .before .before .before .before .before .before .before .rows-of .ensures) (c .before .before .before .before .before .before .grow .ensures) (c .before .before .before .before .before .scale .ensures) (width-in (a .w) (λ p q. c .before .before .before .before .before .before .before .before .before .before .before .before .pre .1) .0) (omega (arith, c .before .before .before .before .before .before .before .before .before .before .before .before .good)) (c .before .before .put-repeated .ensures)
 
 pub null-list-spec : {M : Type 1} → statement M
 null-list-spec =

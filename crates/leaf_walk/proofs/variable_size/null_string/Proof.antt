@@ -33,7 +33,7 @@ returns : tie.Need-returns
 unfolding nullString
 returns c =
     let a = c .before .before .before .before .before .before .before .before .before .before .before .before .before .args in
-    λ lengths places body first source. wrote-next (a .state .now) (a .parts .now) (a .write) (a .i) 1 (rows (a .counts .now) (a .i)) (a .w) (repeated (a .w) (bytes (a .counts .now) (a .i)) (a .n)) (a .counts .now) (a .room .now) (c .before .before .before .before .before .before .before .before .rows-of .ensures) (c .before .before .before .before .before .before .before .grow .ensures) (c .before .before .before .before .before .before .scale .ensures) (width-in (a .w) (λ p q. c .before .before .before .before .before .before .before .before .before .before .before .before .before .pre .1) .0) (omega (arith, c .before .before .before .before .before .before .before .before .before .before .before .before .before .good)) (rw (c .before .before .before .before .bytes-of .ensures) at (c .before .before .put-repeated .ensures))
+    λ lengths places body first source. wrote-next (a .plan .now) (a .parts .now) (a .write) (a .i) 1 (rows (a .counters .now) (a .i)) (a .w) (repeated (a .w) (bytes (a .counters .now) (a .i)) (a .n)) (a .counters .now) (a .room .now) (c .before .before .before .before .before .before .before .before .rows-of .ensures) (c .before .before .before .before .before .before .before .grow .ensures) (c .before .before .before .before .before .before .scale .ensures) (width-in (a .w) (λ p q. c .before .before .before .before .before .before .before .before .before .before .before .before .before .pre .1) .0) (omega (arith, c .before .before .before .before .before .before .before .before .before .before .before .before .before .good)) (rw (c .before .before .before .before .bytes-of .ensures) at (c .before .before .put-repeated .ensures))
 
 pub null-string-spec : {M : Type 1} → statement M
 null-string-spec =

@@ -33,17 +33,17 @@ same-length c = search needs
 returns : tie.Need-returns
 returns c =
     let a = c .before .before .before .before .before .before .before .before .before .before .before .before .before .before .before .before .args in
-    λ lengths source. extended-fits (join (a .state .now) (a .parts .now) lengths (a .places .now) (a .body .now) (a .first) source) (a .i) (a .write) (a .counts .now) (a .room .now) (a .w) (a .from) (a .n) (c .before .before .before .before .before .before .before .before .before .bytes-of .ensures) (c .before .before .before .before .before .before .before .before .try-offsets .ensures) (c .before .before .before .before .before .before .last .given .1) (c .before .before .put-string .ensures lengths source)
+    λ lengths source. extended-fits (join (a .plan .now) (a .parts .now) lengths (a .places .now) (a .body .now) (a .first) source) (a .i) (a .write) (a .counters .now) (a .room .now) (a .w) (a .from) (a .n) (c .before .before .before .before .before .before .before .before .before .bytes-of .ensures) (c .before .before .before .before .before .before .before .before .try-offsets .ensures) (c .before .before .before .before .before .before .last .given .1) (c .before .before .put-string .ensures lengths source)
 
 returns-2 : tie.Need-returns-2
 returns-2 c =
     let a = c .before .before .before .before .before .before .before .before .before .before .args in
-    λ lengths source. extended-over (join (a .state .now) (a .parts .now) lengths (a .places .now) (a .body .now) (a .first) source) (a .i) (a .write) (a .counts .now) (a .room .now) (a .w) (a .from) (a .n) (c .before .before .before .bytes-of .ensures) (c .before .before .try-offsets .ensures) (c .enum-told .given .1)
+    λ lengths source. extended-over (join (a .plan .now) (a .parts .now) lengths (a .places .now) (a .body .now) (a .first) source) (a .i) (a .write) (a .counters .now) (a .room .now) (a .w) (a .from) (a .n) (c .before .before .before .bytes-of .ensures) (c .before .before .try-offsets .ensures) (c .enum-told .given .1)
 
 returns-3 : tie.Need-returns-3
 returns-3 c =
     let a = c .before .before .before .before .before .before .before .before .before .before .args in
-    λ lengths source. extended-falls (join (a .state .now) (a .parts .now) lengths (a .places .now) (a .body .now) (a .first) source) (a .i) (a .write) (a .counts .now) (a .room .now) (a .w) (a .from) (a .n) (c .before .before .before .bytes-of .ensures) (c .before .before .try-offsets .ensures) (c .enum-told2 .given .1)
+    λ lengths source. extended-falls (join (a .plan .now) (a .parts .now) lengths (a .places .now) (a .body .now) (a .first) source) (a .i) (a .write) (a .counters .now) (a .room .now) (a .w) (a .from) (a .n) (c .before .before .before .bytes-of .ensures) (c .before .before .try-offsets .ensures) (c .enum-told2 .given .1)
 
 pub put-extended-spec : {M : Type 1} → statement M
 put-extended-spec =

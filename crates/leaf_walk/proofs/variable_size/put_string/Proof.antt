@@ -27,7 +27,7 @@ bytes-in-requires c κs = search needs
 returns : tie.Need-returns
 returns c =
     let a = c .before .before .before .before .before .before .before .before .before .before .args in
-    λ lengths source. string-no (join (a .state .now) (a .parts .now) lengths (a .places .now) (a .body .now) (a .first) source) (a .i) (a .write) (a .counts .now) (a .room .now) (a .w) (a .from) (a .n) (a .last) (a .lead) (c .before .before .before .before .place .ensures) (c .before .before .bytes-of .ensures) (c .before .bytes-in .ensures) (c .if1 .taken)
+    λ lengths source. string-no (join (a .plan .now) (a .parts .now) lengths (a .places .now) (a .body .now) (a .first) source) (a .i) (a .write) (a .counters .now) (a .room .now) (a .w) (a .from) (a .n) (a .last) (a .lead) (c .before .before .before .before .place .ensures) (c .before .before .bytes-of .ensures) (c .before .bytes-in .ensures) (c .if1 .taken)
 
 rows-of-requires : tie.Need-rows-of-requires
 rows-of-requires c κs = search needs
@@ -65,7 +65,7 @@ same-length c = search needs
 returns-2 : tie.Need-returns-2
 returns-2 c =
     let a = c .before .before .before .before .before .before .before .before .before .before .before .before .before .before .before .before .before .before .before .before .before .before .before .before .args in
-    λ lengths source. string-yes (join (a .state .now) (a .parts .now) lengths (a .places .now) (a .body .now) (a .first) source) (a .i) (a .write) (a .counts .now) (a .room .now) (a .w) (a .from) (a .n) (a .last) (a .lead) (c .before .before .before .before .before .before .before .before .before .before .before .before .before .before .before .before .before .before .place .ensures) (c .before .before .before .before .before .before .before .before .before .before .before .before .before .before .before .before .bytes-of .ensures) (c .before .before .before .before .before .before .before .before .before .before .before .before .before .before .before .bytes-in .ensures) (c .before .before .before .before .before .before .before .before .before .before .before .before .before .before .if1 .left) (c .before .before .before .before .before .before .before .before .before .before .before .before .rows-of .ensures) (c .before .before .before .before .before .before .before .before .before .before .before .grow .ensures) (c .before .before .before .before .before .before .before .before .before .before .scale .ensures) (width-in (a .w) (λ p q. c .before .before .before .before .before .before .before .before .before .before .before .before .before .before .before .before .before .before .before .before .before .before .before .before .pre .1) .0) (omega (arith, c .before .before .before .before .before .before .before .before .before .before .before .before .before .before .before .before .before .before .before .before .before .before .before .before .good)) (c .before .before .before .before .before .before .before .before .put-offsets .ensures) (c .before .before .before .before .put-copy .ensures) (c .set-bytes .ensures)
+    λ lengths source. string-yes (join (a .plan .now) (a .parts .now) lengths (a .places .now) (a .body .now) (a .first) source) (a .i) (a .write) (a .counters .now) (a .room .now) (a .w) (a .from) (a .n) (a .last) (a .lead) (c .before .before .before .before .before .before .before .before .before .before .before .before .before .before .before .before .before .before .place .ensures) (c .before .before .before .before .before .before .before .before .before .before .before .before .before .before .before .before .bytes-of .ensures) (c .before .before .before .before .before .before .before .before .before .before .before .before .before .before .before .bytes-in .ensures) (c .before .before .before .before .before .before .before .before .before .before .before .before .before .before .if1 .left) (c .before .before .before .before .before .before .before .before .before .before .before .before .rows-of .ensures) (c .before .before .before .before .before .before .before .before .before .before .before .grow .ensures) (c .before .before .before .before .before .before .before .before .before .before .scale .ensures) (width-in (a .w) (λ p q. c .before .before .before .before .before .before .before .before .before .before .before .before .before .before .before .before .before .before .before .before .before .before .before .before .pre .1) .0) (omega (arith, c .before .before .before .before .before .before .before .before .before .before .before .before .before .before .before .before .before .before .before .before .before .before .before .before .good)) (c .before .before .before .before .before .before .before .before .put-offsets .ensures) (c .before .before .before .before .put-copy .ensures) (c .set-bytes .ensures)
 
 pub put-string-spec : {M : Type 1} → statement M
 put-string-spec =

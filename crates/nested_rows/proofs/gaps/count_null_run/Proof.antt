@@ -24,7 +24,7 @@ set-bytes-requires c κs = search needs
 returns : tie.Need-returns
 returns c =
     let a = c .before .before .before .before .before .before .before .args in
-    counted-nulls (a .counts .now) _ _ (a .i) (a .i + 1) 1 _ _ (add-one (a .i)) (c .before .before .before .before .before .add-rows .ensures) (c .before .before .before .bytes-of .ensures) (c .set-bytes .ensures) (c .before .gap-begun .ensures)
+    counted-nulls (a .counters .now) _ _ (a .i) (a .i + 1) 1 _ _ (add-one (a .i)) (c .before .before .before .before .before .add-rows .ensures) (c .before .before .before .bytes-of .ensures) (c .set-bytes .ensures) (c .before .gap-begun .ensures)
 
 pub count-null-run-spec : {M : Type 1} → statement M
 count-null-run-spec = tie.close (tie.spec add-add-rows add-rows-requires bytes-of-requires gap-begun-requires set-bytes-requires returns)

@@ -24,7 +24,7 @@ set-bytes-requires c κs = search needs
 returns : tie.Need-returns
 returns c =
     let a = c .before .before .before .before .before .before .before .args in
-    counted-runs (a .counts .now) _ _ (a .i) (a .i + 1) (a .n) _ _ (add-one (a .i)) (c .before .before .before .before .before .add-rows .ensures) (c .before .before .before .bytes-of .ensures) (c .set-bytes .ensures) (c .before .gap-ended .ensures)
+    counted-runs (a .counters .now) _ _ (a .i) (a .i + 1) (a .n) _ _ (add-one (a .i)) (c .before .before .before .before .before .add-rows .ensures) (c .before .before .before .bytes-of .ensures) (c .set-bytes .ensures) (c .before .gap-ended .ensures)
 
 pub count-runs-spec : {M : Type 1} → statement M
 count-runs-spec = tie.close (tie.spec add-add-rows add-rows-requires bytes-of-requires gap-ended-requires set-bytes-requires returns)

@@ -9,10 +9,10 @@ use Rattle.nested_rows.proofs.lookups.child_with.Statement.{statement}
 use Rattle.nested_rows.proofs.lookups.child_with.Tie as tie
 
 abbrev Inv-loop : tie.InvT-loop
-Inv-loop state id end from k₀ t₀ k t = (t ≤ 32) × (childWith state id end (32 - t) k ≡ childWith state id end 32 from)
+Inv-loop plan id end from k₀ t₀ k t = (t ≤ 32) × (childWith plan id end (32 - t) k ≡ childWith plan id end 32 from)
 
 abbrev μ-loop : tie.MeasureT-loop
-μ-loop state id end from k₀ t₀ k t = 32 - t
+μ-loop plan id end from k₀ t₀ k t = 32 - t
 
 loop-holds : tie.Need-loop-holds Inv-loop μ-loop
 loop-holds c = (search needs, refl)
@@ -21,7 +21,7 @@ returns : tie.Need-returns Inv-loop μ-loop
 returns c =
     let a = c .before .before .before .before .args in
     let l = c .before .before .loop in
-    (sym (child-none (a .state .now) (a .end) (l .k) (a .id) (32 - l .t) (c .if1 .taken)) ∙ l .inv .1, omega arith)
+    (sym (child-none (a .plan .now) (a .end) (l .k) (a .id) (32 - l .t) (c .if1 .taken)) ∙ l .inv .1, omega arith)
 
 id-of-requires : tie.Need-id-of-requires Inv-loop μ-loop
 id-of-requires c κs = search needs
@@ -31,7 +31,7 @@ returns-2 c =
     let a = c .before .before .before .before .before .before .args in
     let l = c .before .before .before .before .loop in
     let z : 32 - l .t ≡ Prim.Native.Nat.suc (32 - (l .t + 1)) = omega arith in
-    (sym (child-here (a .state .now) (a .end) (l .k) (a .id) z (c .before .before .if1 .left) (c .before .id-of .ensures) (c .if2 .taken)) ∙ l .inv .1, omega arith)
+    (sym (child-here (a .plan .now) (a .end) (l .k) (a .id) z (c .before .before .if1 .left) (c .before .id-of .ensures) (c .if2 .taken)) ∙ l .inv .1, omega arith)
 
 end-of-requires : tie.Need-end-of-requires Inv-loop μ-loop
 end-of-requires c κs = search needs
@@ -47,7 +47,7 @@ loop-again c =
     let a = c .before .before .before .before .before .before .before .args in
     let l = c .before .before .before .before .before .loop in
     let z : 32 - l .t ≡ Prim.Native.Nat.suc (32 - (l .t + 1)) = omega arith in
-    (omega arith, sym (child-next (a .state .now) (a .end) (l .k) (a .id) z (c .before .before .before .if1 .left) (c .before .before .id-of .ensures) (c .before .if2 .left) (c .end-of .ensures .0)) ∙ l .inv .1)
+    (omega arith, sym (child-next (a .plan .now) (a .end) (l .k) (a .id) z (c .before .before .before .if1 .left) (c .before .before .id-of .ensures) (c .before .if2 .left) (c .end-of .ensures .0)) ∙ l .inv .1)
 
 returns-3 : tie.Need-returns-3 Inv-loop μ-loop
 unfolding childWith

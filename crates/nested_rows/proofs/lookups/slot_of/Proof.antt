@@ -22,7 +22,7 @@ grow-requires-2 c κs = search needs
 returns : tie.Need-returns
 returns c =
     let a = c .before .before .before .before .before .args in
-    λ state parts places body source. slot-far (join state parts (a .lengths .now) places body (a .first) source) (a .i) (a .a) (a .n) (c .before .before .before .offset-of .ensures) (c .before .before .grow .ensures) (c .before .grow2 .ensures) (c .if1 .taken)
+    λ plan parts places body source. slot-far (join plan parts (a .lengths .now) places body (a .first) source) (a .i) (a .a) (a .n) (c .before .before .before .offset-of .ensures) (c .before .before .grow .ensures) (c .before .grow2 .ensures) (c .if1 .taken)
 
 add-result : tie.Need-add-result
 unfolding grown
@@ -31,7 +31,7 @@ add-result c = omega (arith, c .before .before .grow .ensures, c .before .grow2 
 returns-2 : tie.Need-returns-2
 returns-2 c =
     let a = c .before .before .before .before .before .args in
-    λ state parts places body source. slot-near (join state parts (a .lengths .now) places body (a .first) source) (a .i) (a .a) (a .n) (c .before .before .before .offset-of .ensures) (c .before .before .grow .ensures) (c .before .grow2 .ensures) (c .if1 .left)
+    λ plan parts places body source. slot-near (join plan parts (a .lengths .now) places body (a .first) source) (a .i) (a .a) (a .n) (c .before .before .before .offset-of .ensures) (c .before .before .grow .ensures) (c .before .grow2 .ensures) (c .if1 .left)
 
 pub slot-of-spec : {M : Type 1} → statement M
 slot-of-spec =

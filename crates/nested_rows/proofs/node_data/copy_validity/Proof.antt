@@ -14,7 +14,7 @@ is-masked-requires c κs = search needs
 returns : tie.Need-returns
 returns c =
     let a = c .before .before .before .before .before .before .before .before .args in
-    λ lengths source. valid-none (join (a .state .now) (a .parts .now) lengths (a .places .now) (a .body .now) (a .first) source) (a .write) (a .i) (a .slot) (a .n) (a .counts .now) (a .room .now) (c .before .before .code-of .ensures) (c .before .is-masked .ensures) (c .if1 .taken)
+    λ lengths source. valid-none (join (a .plan .now) (a .parts .now) lengths (a .places .now) (a .body .now) (a .first) source) (a .write) (a .i) (a .slot) (a .n) (a .counters .now) (a .room .now) (c .before .before .code-of .ensures) (c .before .is-masked .ensures) (c .if1 .taken)
 
 copy-mask-requires : tie.Need-copy-mask-requires
 copy-mask-requires c κs = search needs
@@ -25,7 +25,7 @@ same-length c = search needs
 returns-2 : tie.Need-returns-2
 returns-2 c =
     let a = c .before .before .before .before .before .before .before .before .before .before .before .before .before .args in
-    λ lengths source. valid-some (join (a .state .now) (a .parts .now) lengths (a .places .now) (a .body .now) (a .first) source) (a .write) (a .i) (a .slot) (a .n) (a .counts .now) (a .room .now) (c .before .before .before .before .before .before .before .code-of .ensures) (c .before .before .before .before .before .before .is-masked .ensures) (c .before .before .before .before .before .if1 .left) (c .before .before .copy-mask .ensures lengths source)
+    λ lengths source. valid-some (join (a .plan .now) (a .parts .now) lengths (a .places .now) (a .body .now) (a .first) source) (a .write) (a .i) (a .slot) (a .n) (a .counters .now) (a .room .now) (c .before .before .before .before .before .before .before .code-of .ensures) (c .before .before .before .before .before .before .is-masked .ensures) (c .before .before .before .before .before .if1 .left) (c .before .before .copy-mask .ensures lengths source)
 
 pub copy-validity-spec : {M : Type 1} → statement M
 copy-validity-spec = tie.close (tie.spec code-of-requires is-masked-requires returns copy-mask-requires same-length returns-2)

@@ -11,7 +11,7 @@ is-copied-requires c κs = search needs
 returns : tie.Need-returns
 returns c =
     let a = c .before .before .before .before .before .args in
-    node-none (a .state .now) (a .counts .now) (a .parts .now) (a .m) (a .i) (no (c .before .is-copied .ensures) (c .if1 .taken))
+    node-none (a .plan .now) (a .counters .now) (a .parts .now) (a .m) (a .i) (no (c .before .is-copied .ensures) (c .if1 .taken))
 
 validity-ground-requires : tie.Need-validity-ground-requires
 validity-ground-requires c κs = (c .before .before .before .before .before .pre, yes (c .before .is-copied .ensures) (c .if1 .left))
@@ -31,7 +31,7 @@ worse-requires-2 c κs = search needs
 returns-2 : tie.Need-returns-2
 returns-2 c =
     let a = c .before .before .before .before .before .before .before .before .before .before .args in
-    node-three (a .state .now) (a .counts .now) (a .parts .now) (a .m) (a .i) (c .before .before .before .before .validity-ground .ensures) (c .before .before .before .first-ground .ensures) (c .before .before .second-ground .ensures) (c .before .worse .ensures) (c .worse2 .ensures)
+    node-three (a .plan .now) (a .counters .now) (a .parts .now) (a .m) (a .i) (c .before .before .before .before .validity-ground .ensures) (c .before .before .before .first-ground .ensures) (c .before .before .second-ground .ensures) (c .before .worse .ensures) (c .worse2 .ensures)
 
 pub node-ground-spec : {M : Type 1} → statement M
 node-ground-spec = tie.close (tie.spec is-copied-requires returns validity-ground-requires first-ground-requires second-ground-requires worse-requires worse-requires-2 returns-2)

@@ -10,10 +10,10 @@ use Rattle.plan.proofs.grounds.parts_ground.Statement.{statement}
 use Rattle.plan.proofs.grounds.parts_ground.Tie as tie
 
 abbrev Inv-loop : tie.InvT-loop
-Inv-loop state counts parts m n g₀ i₀ g i = (i ≤ n) × (g ≡ verdict (every (withinAt state counts parts m) i) (every (holdAt state counts parts m) i))
+Inv-loop plan counters parts m n g₀ i₀ g i = (i ≤ n) × (g ≡ verdict (every (withinAt plan counters parts m) i) (every (holdAt plan counters parts m) i))
 
 abbrev μ-loop : tie.MeasureT-loop
-μ-loop state counts parts m n g₀ i₀ g i = n - i
+μ-loop plan counters parts m n g₀ i₀ g i = n - i
 
 node-count-requires : tie.Need-node-count-requires Inv-loop μ-loop
 node-count-requires c κs = omega arith
@@ -36,12 +36,12 @@ loop-less c = omega arith
 loop-again : tie.Need-loop-again Inv-loop μ-loop
 loop-again c =
     let a = c .before .before .before .before .before .before .before .before .args in
-    (omega arith, nodes-more (a .state .now) (a .counts .now) (a .parts .now) (a .m) (c .before .before .before .loop .i) (c .before .before .before .loop .inv .1) (c .before .node-ground .ensures) (c .worse .ensures))
+    (omega arith, nodes-more (a .plan .now) (a .counters .now) (a .parts .now) (a .m) (c .before .before .before .loop .i) (c .before .before .before .loop .inv .1) (c .before .node-ground .ensures) (c .worse .ensures))
 
 returns : tie.Need-returns Inv-loop μ-loop
 returns c =
     let a = c .before .before .before .before .before .before .args in
-    nodes-all (a .state .now) (a .counts .now) (a .parts .now) (a .m) (c .before .loop .i) (c .before .before .node-count .result) (c .before .before .node-count .ensures .0) (omega arith) (c .before .loop .inv .0) (c .before .loop .inv .1)
+    nodes-all (a .plan .now) (a .counters .now) (a .parts .now) (a .m) (c .before .loop .i) (c .before .before .node-count .result) (c .before .before .node-count .ensures .0) (omega arith) (c .before .loop .inv .0) (c .before .loop .inv .1)
 
 pub parts-ground-spec : {M : Type 1} → statement M
 parts-ground-spec = tie.close (tie.spec Inv-loop μ-loop node-count-requires loop-holds node-ground-requires worse-requires add-i loop-less loop-again returns)

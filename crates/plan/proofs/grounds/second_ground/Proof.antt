@@ -18,7 +18,7 @@ buffer-count-requires c κs = search needs
 returns : tie.Need-returns
 returns c =
     let a = c .before .before .before .before .before .before .args in
-    part-none (a .state .now) (a .counts .now) (a .parts .now) (a .m) (a .i) 2 (no-buffer (a .state .now) (a .i) 1 (omega (arith, counted (a .state .now) (a .i) (c .before .before .code-of .ensures) (c .before .buffer-count .ensures), c .if1 .taken)))
+    part-none (a .plan .now) (a .counters .now) (a .parts .now) (a .m) (a .i) 2 (no-buffer (a .plan .now) (a .i) 1 (omega (arith, counted (a .plan .now) (a .i) (c .before .before .code-of .ensures) (c .before .buffer-count .ensures), c .if1 .taken)))
 
 number-of-requires : tie.Need-number-of-requires
 number-of-requires c κs = search needs
@@ -56,8 +56,8 @@ part-ground-requires c κs = search needs
 returns-2 : tie.Need-returns-2
 returns-2 c =
     let a = c .before .before .before .before .before .before .before .before .before .before .before .before .args in
-    let has = has-buffers (a .state .now) (a .i) (c .before .before .before .before .before .before .before .before .before .before .before .before .pre .1) 1 (omega (arith, counted (a .state .now) (a .i) (c .before .before .before .before .before .before .before .before .code-of .ensures) (c .before .before .before .before .before .before .before .buffer-count .ensures), c .before .before .before .before .before .before .if1 .left)) in
-    part-some (a .state .now) (a .counts .now) (a .parts .now) (a .m) (a .i) 2 has (c .before .before .before .before .before .number-of .ensures .0) (c .before .second-fits .ensures ∙ holds-by (a .state .now) (a .counts .now) (a .parts .now) (a .i) 2 (c .before .before .before .before .before .before .before .before .code-of .ensures) (c .before .before .before .at-u642 .ensures) (c .before .before .at-u643 .ensures) (c .before .before .before .before .before .number-of .ensures .0) (c .before .before .before .before .at-u64 .ensures)) (c .part-ground .ensures)
+    let has = has-buffers (a .plan .now) (a .i) (c .before .before .before .before .before .before .before .before .before .before .before .before .pre .1) 1 (omega (arith, counted (a .plan .now) (a .i) (c .before .before .before .before .before .before .before .before .code-of .ensures) (c .before .before .before .before .before .before .before .buffer-count .ensures), c .before .before .before .before .before .before .if1 .left)) in
+    part-some (a .plan .now) (a .counters .now) (a .parts .now) (a .m) (a .i) 2 has (c .before .before .before .before .before .number-of .ensures .0) (c .before .second-fits .ensures ∙ holds-by (a .plan .now) (a .counters .now) (a .parts .now) (a .i) 2 (c .before .before .before .before .before .before .before .before .code-of .ensures) (c .before .before .before .at-u642 .ensures) (c .before .before .at-u643 .ensures) (c .before .before .before .before .before .number-of .ensures .0) (c .before .before .before .before .at-u64 .ensures)) (c .part-ground .ensures)
 
 pub second-ground-spec : {M : Type 1} → statement M
 second-ground-spec = tie.close (tie.spec code-of-requires buffer-count-requires returns number-of-requires mul-at-u64 add-at-u64 at-u64-requires mul-at-u64-2 at-u64-requires-2 mul-at-u64-3 add-at-u64-2 at-u64-requires-3 second-fits-requires part-ground-requires returns-2)

@@ -14,7 +14,7 @@ keeps-of-requires c κs = search needs
 returns : tie.Need-returns
 returns c =
     let a = c .before .before .before .before .before .args in
-    part-none (a .state .now) (a .counts .now) (a .parts .now) (a .m) (a .i) 0 (no-bits (a .state .now) (a .i) (sym (c .before .keeps-of .ensures) ∙ c .if1 .taken))
+    part-none (a .plan .now) (a .counters .now) (a .parts .now) (a .m) (a .i) 0 (no-bits (a .plan .now) (a .i) (sym (c .before .keeps-of .ensures) ∙ c .if1 .taken))
 
 code-of-requires : tie.Need-code-of-requires
 code-of-requires c κs = search needs
@@ -22,7 +22,7 @@ code-of-requires c κs = search needs
 returns-2 : tie.Need-returns-2
 returns-2 c =
     let a = c .before .before .before .before .before .before .before .args in
-    part-none (a .state .now) (a .counts .now) (a .parts .now) (a .m) (a .i) 0 (no-mask (a .state .now) (a .i) (omega (arith, c .before .code-of .ensures, c .if2 .taken)))
+    part-none (a .plan .now) (a .counters .now) (a .parts .now) (a .m) (a .i) 0 (no-mask (a .plan .now) (a .i) (omega (arith, c .before .code-of .ensures, c .if2 .taken)))
 
 number-of-requires : tie.Need-number-of-requires
 number-of-requires c κs = search needs
@@ -51,8 +51,8 @@ part-ground-requires c κs = search needs
 returns-3 : tie.Need-returns-3
 returns-3 c =
     let a = c .before .before .before .before .before .before .before .before .before .before .before .before .args in
-    let has = has-bits (a .state .now) (a .i) (c .before .before .before .before .before .before .before .before .before .before .before .before .pre .1) (λ z. c .before .before .before .before .before .before .before .if1 .left (c .before .before .before .before .before .before .before .before .keeps-of .ensures ∙ z)) (omega (arith, c .before .before .before .before .before .before .code-of .ensures, c .before .before .before .before .before .if2 .left)) in
-    part-some (a .state .now) (a .counts .now) (a .parts .now) (a .m) (a .i) 0 has (c .before .before .before .before .number-of .ensures .0) (c .before .bits-fit .ensures ∙ holds-by (a .state .now) (a .counts .now) (a .parts .now) (a .i) 0 refl (c .before .before .at-u642 .ensures) refl (c .before .before .before .before .number-of .ensures .0) (c .before .before .before .at-u64 .ensures)) (c .part-ground .ensures)
+    let has = has-bits (a .plan .now) (a .i) (c .before .before .before .before .before .before .before .before .before .before .before .before .pre .1) (λ z. c .before .before .before .before .before .before .before .if1 .left (c .before .before .before .before .before .before .before .before .keeps-of .ensures ∙ z)) (omega (arith, c .before .before .before .before .before .before .code-of .ensures, c .before .before .before .before .before .if2 .left)) in
+    part-some (a .plan .now) (a .counters .now) (a .parts .now) (a .m) (a .i) 0 has (c .before .before .before .before .number-of .ensures .0) (c .before .bits-fit .ensures ∙ holds-by (a .plan .now) (a .counters .now) (a .parts .now) (a .i) 0 refl (c .before .before .at-u642 .ensures) refl (c .before .before .before .before .number-of .ensures .0) (c .before .before .before .at-u64 .ensures)) (c .part-ground .ensures)
 
 pub validity-ground-spec : {M : Type 1} → statement M
 validity-ground-spec = tie.close (tie.spec keeps-of-requires returns code-of-requires returns-2 number-of-requires mul-at-u64 add-at-u64 at-u64-requires mul-at-u64-2 at-u64-requires-2 bits-fit-requires part-ground-requires returns-3)

@@ -10,7 +10,7 @@ validity-parts-requires c κs = search needs
 returns : tie.Need-returns
 returns c =
     let a = c .before .before .before .args in
-    has-validity (a .state .now) (a .i) (a .b) _ (c .before .if1 .taken) (c .validity-parts .ensures .0)
+    has-validity (a .plan .now) (a .i) (a .b) _ (c .before .if1 .taken) (c .validity-parts .ensures .0)
 
 buffer-parts-requires : tie.Need-buffer-parts-requires
 buffer-parts-requires c κs = search needs
@@ -18,7 +18,7 @@ buffer-parts-requires c κs = search needs
 returns-2 : tie.Need-returns-2
 returns-2 c =
     let a = c .before .before .before .args in
-    has-buffer (a .state .now) (a .i) (a .b) _ (c .before .if1 .left) (c .buffer-parts .ensures .0)
+    has-buffer (a .plan .now) (a .i) (a .b) _ (c .before .if1 .left) (c .buffer-parts .ensures .0)
 
 pub has-part-spec : {M : Type 1} → statement M
 has-part-spec =

@@ -10,7 +10,7 @@ use Rattle.plan.proofs.parts.is_copied.Tie as tie
 returns : tie.Need-returns
 returns c =
     let a = c .before .before .args in
-    copied-root (a .state .now) (a .i) (c .if1 .taken)
+    copied-root (a .plan .now) (a .i) (c .if1 .taken)
 
 sub-dictionary-of : tie.Need-sub-dictionary-of
 sub-dictionary-of c = search needs
@@ -21,7 +21,7 @@ dictionary-of-requires c κs = search needs
 returns-2 : tie.Need-returns-2
 returns-2 c =
     let a = c .before .before .before .before .args in
-    rw (copied-other (a .state .now) (a .i) (c .before .before .if1 .left), is-none (c .before .dictionary-of .ensures) (c .if2 .taken))
+    rw (copied-other (a .plan .now) (a .i) (c .before .before .if1 .left), is-none (c .before .dictionary-of .ensures) (c .if2 .taken))
 
 sub-at-u64 : tie.Need-sub-at-u64
 sub-at-u64 c = search needs
@@ -38,7 +38,7 @@ at-u64-requires c κs = search needs
 returns-3 : tie.Need-returns-3
 returns-3 c =
     let a = c .before .before .before .before .before .args in
-    rw (copied-other (a .state .now) (a .i) (c .before .before .before .if1 .left), is-some (c .before .before .dictionary-of .ensures) (c .before .if2 .left)) (ap (λ x. eqb x 1) (c .at-u64 .ensures))
+    rw (copied-other (a .plan .now) (a .i) (c .before .before .before .if1 .left), is-some (c .before .before .dictionary-of .ensures) (c .before .if2 .left)) (ap (λ x. eqb x 1) (c .at-u64 .ensures))
 
 pub is-copied-spec : {M : Type 1} → statement M
 is-copied-spec =

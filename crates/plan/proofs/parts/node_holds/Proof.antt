@@ -17,7 +17,7 @@ part-holds-requires-3 c κs = search needs
 returns : tie.Need-returns
 returns c =
     let a = c .before .before .before .before .before .args in
-    every-three (λ b. partHolds (a .state .now) (a .counts .now) (a .parts .now) (a .i) b) (c .before .before .part-holds .ensures) (c .before .part-holds2 .ensures) (c .part-holds3 .ensures)
+    every-three (λ b. partHolds (a .plan .now) (a .counters .now) (a .parts .now) (a .i) b) (c .before .before .part-holds .ensures) (c .before .part-holds2 .ensures) (c .part-holds3 .ensures)
 
 pub node-holds-spec : {M : Type 1} → statement M
 node-holds-spec =

@@ -17,7 +17,7 @@ part-within-requires-3 c κs = search needs
 returns : tie.Need-returns
 returns c =
     let a = c .before .before .before .before .before .args in
-    every-three (λ b. partWithin (a .state .now) (a .parts .now) (a .m) (a .i) b) (c .before .before .part-within .ensures) (c .before .part-within2 .ensures) (c .part-within3 .ensures)
+    every-three (λ b. partWithin (a .plan .now) (a .parts .now) (a .m) (a .i) b) (c .before .before .part-within .ensures) (c .before .part-within2 .ensures) (c .part-within3 .ensures)
 
 pub node-within-spec : {M : Type 1} → statement M
 node-within-spec =

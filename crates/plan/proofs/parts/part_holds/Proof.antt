@@ -40,7 +40,7 @@ fits-requires c κs = search needs
 
 returns-2 : tie.Need-returns-2
 unfolding partHolds
-returns-2 c = rw (yes (c .before .before .before .before .before .before .before .has-part .ensures) (c .before .before .before .before .before .before .if1 .left)) (c .fits2 .ensures ∙ holds-by (c .before .before .before .before .before .before .before .before .before .before .args .state .now) (c .before .before .before .before .before .before .before .before .before .before .args .counts .now) (c .before .before .before .before .before .before .before .before .before .before .args .parts .now) (c .before .before .before .before .before .before .before .before .before .before .args .i) (c .before .before .before .before .before .before .before .before .before .before .args .b) (c .before .before .before .code-of .ensures) (c .before .before .rows-of .ensures) (c .before .bytes-of .ensures) (c .before .before .before .before .before .number-of .ensures .0) (c .before .before .before .before .at-u64 .ensures))
+returns-2 c = rw (yes (c .before .before .before .before .before .before .before .has-part .ensures) (c .before .before .before .before .before .before .if1 .left)) (c .fits2 .ensures ∙ holds-by (c .before .before .before .before .before .before .before .before .before .before .args .plan .now) (c .before .before .before .before .before .before .before .before .before .before .args .counters .now) (c .before .before .before .before .before .before .before .before .before .before .args .parts .now) (c .before .before .before .before .before .before .before .before .before .before .args .i) (c .before .before .before .before .before .before .before .before .before .before .args .b) (c .before .before .before .code-of .ensures) (c .before .before .rows-of .ensures) (c .before .bytes-of .ensures) (c .before .before .before .before .before .number-of .ensures .0) (c .before .before .before .before .at-u64 .ensures))
 
 pub part-holds-spec : {M : Type 1} → statement M
 part-holds-spec =

@@ -12,7 +12,7 @@ parts-before-requires : tie.Need-parts-before-requires
 parts-before-requires c κs = search needs
 
 returns : tie.Need-returns
-returns c = (c .parts-before .ensures .0 ∙ ap (partsBefore (c .before .before .before .args .state .now)) (c .before .node-count .ensures .0), c .parts-before .ensures .1)
+returns c = (c .parts-before .ensures .0 ∙ ap (partsBefore (c .before .before .before .args .plan .now)) (c .before .node-count .ensures .0), c .parts-before .ensures .1)
 
 pub part-total-spec : {M : Type 1} → statement M
 part-total-spec = tie.close (tie.spec node-count-requires parts-before-requires returns)

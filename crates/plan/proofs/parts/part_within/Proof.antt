@@ -13,7 +13,7 @@ has-part-requires c κs = search needs
 returns : tie.Need-returns
 returns c =
     let a = c .before .before .before .before .args in
-    within-none (a .state .now) (a .parts .now) (a .m) (a .i) (a .b) (no (c .before .has-part .ensures) (c .if1 .taken))
+    within-none (a .plan .now) (a .parts .now) (a .m) (a .i) (a .b) (no (c .before .has-part .ensures) (c .if1 .taken))
 
 number-of-requires : tie.Need-number-of-requires
 number-of-requires c κs = search needs
@@ -27,7 +27,7 @@ add-if2 c = search needs
 returns-2 : tie.Need-returns-2
 returns-2 c =
     let a = c .before .before .before .before .before .before .args in
-    within-past (a .state .now) (a .parts .now) (a .m) (a .i) (a .b) (yes (c .before .before .before .has-part .ensures) (c .before .before .if1 .left)) (c .before .number-of .ensures .0) (omega arith)
+    within-past (a .plan .now) (a .parts .now) (a .m) (a .i) (a .b) (yes (c .before .before .before .has-part .ensures) (c .before .before .if1 .left)) (c .before .number-of .ensures .0) (omega arith)
 
 in-room-requires : tie.Need-in-room-requires
 in-room-requires c κs = search needs
@@ -35,7 +35,7 @@ in-room-requires c κs = search needs
 returns-3 : tie.Need-returns-3
 returns-3 c =
     let a = c .before .before .before .before .before .before .before .args in
-    c .in-room .ensures ∙ within-in (a .state .now) (a .parts .now) (a .m) (a .i) (a .b) (yes (c .before .before .before .before .has-part .ensures) (c .before .before .before .if1 .left)) (c .before .before .number-of .ensures .0) (omega arith)
+    c .in-room .ensures ∙ within-in (a .plan .now) (a .parts .now) (a .m) (a .i) (a .b) (yes (c .before .before .before .before .has-part .ensures) (c .before .before .before .if1 .left)) (c .before .before .number-of .ensures .0) (omega arith)
 
 pub part-within-spec : {M : Type 1} → statement M
 part-within-spec =

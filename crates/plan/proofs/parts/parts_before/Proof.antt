@@ -8,10 +8,10 @@ use Rattle.plan.proofs.parts.parts_before.Statement.{statement}
 use Rattle.plan.proofs.parts.parts_before.Tie as tie
 
 abbrev Inv-loop : tie.InvT-loop
-Inv-loop state i sum₀ k₀ sum k = (k ≤ i) × (sum ≤ 3 * k) × (sum ≡ partsBefore state k)
+Inv-loop plan i sum₀ k₀ sum k = (k ≤ i) × (sum ≤ 3 * k) × (sum ≡ partsBefore plan k)
 
 abbrev μ-loop : tie.MeasureT-loop
-μ-loop state i sum₀ k₀ sum k = i - k
+μ-loop plan i sum₀ k₀ sum k = i - k
 
 loop-holds : tie.Need-loop-holds Inv-loop μ-loop
 unfolding partsBefore
@@ -30,10 +30,10 @@ loop-less : tie.Need-loop-less Inv-loop μ-loop
 loop-less c = omega arith
 
 loop-again : tie.Need-loop-again Inv-loop μ-loop
-loop-again c = (omega arith, omega arith, before-one (c .before .before .before .before .args .state .now) (c .before .before .loop .k) _ _ (c .before .before .loop .inv .2) (c .part-count .ensures .0))
+loop-again c = (omega arith, omega arith, before-one (c .before .before .before .before .args .plan .now) (c .before .before .loop .k) _ _ (c .before .before .loop .inv .2) (c .part-count .ensures .0))
 
 returns : tie.Need-returns Inv-loop μ-loop
-returns c = (c .before .loop .inv .2 ∙ ap (partsBefore (c .before .before .before .args .state .now)) (omega arith), omega arith)
+returns c = (c .before .loop .inv .2 ∙ ap (partsBefore (c .before .before .before .args .plan .now)) (omega arith), omega arith)
 
 pub parts-before-spec : {M : Type 1} → statement M
 parts-before-spec =

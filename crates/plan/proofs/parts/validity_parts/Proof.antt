@@ -27,11 +27,11 @@ code-of-requires c κs = search needs
 
 returns-3 : tie.Need-returns-3
 unfolding validityParts
-returns-3 c = (rw (yes (c .before .before .before .before .before .is-copied .ensures) (c .before .before .before .before .if1 .left), is-some (c .before .before .before .keeps-of .ensures) (c .before .before .if2 .left), lt-ltb (codeOf (c .before .before .before .before .before .before .before .args .state .now) (c .before .before .before .before .before .before .before .args .i)) 21 (omega (arith, c .before .code-of .ensures, c .if3 .taken))), omega arith)
+returns-3 c = (rw (yes (c .before .before .before .before .before .is-copied .ensures) (c .before .before .before .before .if1 .left), is-some (c .before .before .before .keeps-of .ensures) (c .before .before .if2 .left), lt-ltb (codeOf (c .before .before .before .before .before .before .before .args .plan .now) (c .before .before .before .before .before .before .before .args .i)) 21 (omega (arith, c .before .code-of .ensures, c .if3 .taken))), omega arith)
 
 returns-4 : tie.Need-returns-4
 unfolding validityParts
-returns-4 c = (rw (yes (c .before .before .before .before .before .is-copied .ensures) (c .before .before .before .before .if1 .left), is-some (c .before .before .before .keeps-of .ensures) (c .before .before .if2 .left), le-ltb (codeOf (c .before .before .before .before .before .before .before .args .state .now) (c .before .before .before .before .before .before .before .args .i)) 21 (omega (arith, c .before .code-of .ensures, c .if3 .left))), omega arith)
+returns-4 c = (rw (yes (c .before .before .before .before .before .is-copied .ensures) (c .before .before .before .before .if1 .left), is-some (c .before .before .before .keeps-of .ensures) (c .before .before .if2 .left), le-ltb (codeOf (c .before .before .before .before .before .before .before .args .plan .now) (c .before .before .before .before .before .before .before .args .i)) 21 (omega (arith, c .before .code-of .ensures, c .if3 .left))), omega arith)
 
 pub validity-parts-spec : {M : Type 1} → statement M
 validity-parts-spec =

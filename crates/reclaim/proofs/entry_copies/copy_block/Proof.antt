@@ -12,10 +12,10 @@ use Rattle.reclaim.proofs.entry_copies.copy_block.Statement.{statement}
 use Rattle.reclaim.proofs.entry_copies.copy_block.Tie as tie
 
 -- from counters and a room that were left as they were
-as-left : (x : Join) (n e : ℕ) {state parts : List ℕ} {wr : Bool} {g : ℕ} {c c1 c2 room room1 room2 : List ℕ} → c1 ≡ c → room1 ≡ room → Did state parts wr (copyRuns x n e n c1) room1 g c2 room2
-    → Did state parts wr (copyRuns x n e n c) room g c2 room2
-as-left x n e {state} {parts} {wr} {g} {c} {c1} {c2} {room} {room1} {room2} p q d =
-    subst (λ r. Did state parts wr (copyRuns x n e n c) r g c2 room2) q (subst (λ z. Did state parts wr (copyRuns x n e n z) room1 g c2 room2) p d)
+as-left : (x : Join) (n e : ℕ) {plan parts : List ℕ} {wr : Bool} {g : ℕ} {c c1 c2 room room1 room2 : List ℕ} → c1 ≡ c → room1 ≡ room → Did plan parts wr (copyRuns x n e n c1) room1 g c2 room2
+    → Did plan parts wr (copyRuns x n e n c) room g c2 room2
+as-left x n e {plan} {parts} {wr} {g} {c} {c1} {c2} {room} {room1} {room2} p q d =
+    subst (λ r. Did plan parts wr (copyRuns x n e n c) r g c2 room2) q (subst (λ z. Did plan parts wr (copyRuns x n e n z) room1 g c2 room2) p d)
 
 copy-plain-requires : tie.Need-copy-plain-requires
 copy-plain-requires c κs = search needs
@@ -36,7 +36,7 @@ returns-2 : tie.Need-returns-2
 returns-2 c =
     let a = c .before .before .before .before .before .before .before .before .before .before .before .before .before .before .before .before .before .args in
     let k = c .before .before .before .before .before .before .before .before .copy-plain .ensures .1 (c .before .before .before .before .before .if1 .left) in
-    as-left (join (a .state .now) (a .parts .now) (a .lengths .now) (a .places .now) (a .body .now) (a .first) 0) (a .count) (a .base) (k .0) (k .1) (c .before .before .copy-runs .ensures)
+    as-left (join (a .plan .now) (a .parts .now) (a .lengths .now) (a .places .now) (a .body .now) (a .first) 0) (a .count) (a .base) (k .0) (k .1) (c .before .before .copy-runs .ensures)
 
 pub copy-block-spec : {M : Type 1} → statement M
 copy-block-spec = tie.close (tie.spec copy-plain-requires same-length returns copy-runs-requires same-length-2 returns-2)

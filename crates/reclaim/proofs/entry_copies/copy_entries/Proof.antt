@@ -17,12 +17,12 @@ use Rattle.reclaim.proofs.entry_copies.copy_entries.Statement.{statemen
 use Rattle.reclaim.proofs.entry_copies.copy_entries.Tie as tie
 
 abbrev Inv-loop : tie.InvT-loop
-Inv-loop head state parts lengths places body counts₀ room₀ write first entries base₀ start₀ counts room base start =
-    (base ≤ entries) × (length room ≡ length room₀) × (start ≡ rank (keysOf (join state [] lengths places body first 0)) base)
-    × Rest state parts write (copyBlocks (join state parts lengths places body first 0) entries 0 entries counts₀) room₀ (copyBlocks (join state parts lengths places body first 0) (entries - base) base (entries - base) counts) room
+Inv-loop head plan parts lengths places body counters₀ room₀ write first entries base₀ start₀ counters room base start =
+    (base ≤ entries) × (length room ≡ length room₀) × (start ≡ rank (keysOf (join plan [] lengths places body first 0)) base)
+    × Rest plan parts write (copyBlocks (join plan parts lengths places body first 0) entries 0 entries counters₀) room₀ (copyBlocks (join plan parts lengths places body first 0) (entries - base) base (entries - base) counters) room
 
 abbrev μ-loop : tie.MeasureT-loop
-μ-loop head state parts lengths places body counts₀ room₀ write first entries base₀ start₀ counts room base start = entries - base
+μ-loop head plan parts lengths places body counters₀ room₀ write first entries base₀ start₀ counters room base start = entries - base
 
 add-length-of : tie.Need-add-length-of Inv-loop μ-loop
 add-length-of c = search needs
@@ -32,29 +32,29 @@ length-of-requires c κs = search needs
 
 copy-block-requires : tie.Need-copy-block-requires Inv-loop μ-loop
 copy-block-requires c κs =
-    let far = entries-far (join (c .before .before .before .before .before .before .before .before .before .before .args .state .now) [] (c .before .before .before .before .before .before .before .before .before .before .args .lengths .now) (c .before .before .before .before .before .before .before .before .before .before .args .places .now) (c .before .before .before .before .before .before .before .before .before .before .args .body .now) (c .before .before .before .before .before .before .before .before .before .before .args .first) 0) (c .before .before .before .before .before .before .before .before .before .before .pre .0 .1) in
-    ((omega (arith, c .before .before .before .before .before .before .before .before .before .before .pre .0 .0), omega arith, omega (arith, far, c .before .before .before .length-of .ensures)), λ j h. c .before .before .before .before .before .before .before .before .before .before .pre .1 j (omega (arith, h, c .before .before .before .length-of .ensures)) (omega arith) ∙ ap (rank (keysOf (join (c .before .before .before .before .before .before .before .before .before .before .args .state .now) [] (c .before .before .before .before .before .before .before .before .before .before .args .lengths .now) (c .before .before .before .before .before .before .before .before .before .before .args .places .now) (c .before .before .before .before .before .before .before .before .before .before .args .body .now) (c .before .before .before .before .before .before .before .before .before .before .args .first) 0))) (sym (zero-add j)))
+    let far = entries-far (join (c .before .before .before .before .before .before .before .before .before .before .args .plan .now) [] (c .before .before .before .before .before .before .before .before .before .before .args .lengths .now) (c .before .before .before .before .before .before .before .before .before .before .args .places .now) (c .before .before .before .before .before .before .before .before .before .before .args .body .now) (c .before .before .before .before .before .before .before .before .before .before .args .first) 0) (c .before .before .before .before .before .before .before .before .before .before .pre .0 .1) in
+    ((omega (arith, c .before .before .before .before .before .before .before .before .before .before .pre .0 .0), omega arith, omega (arith, far, c .before .before .before .length-of .ensures)), λ j h. c .before .before .before .before .before .before .before .before .before .before .pre .1 j (omega (arith, h, c .before .before .before .length-of .ensures)) (omega arith) ∙ ap (rank (keysOf (join (c .before .before .before .before .before .before .before .before .before .before .args .plan .now) [] (c .before .before .before .before .before .before .before .before .before .before .args .lengths .now) (c .before .before .before .before .before .before .before .before .before .before .args .places .now) (c .before .before .before .before .before .before .before .before .before .before .args .body .now) (c .before .before .before .before .before .before .before .before .before .before .args .first) 0))) (sym (zero-add j)))
 
 same-length : tie.Need-same-length Inv-loop μ-loop
 same-length c = search needs
 
 returns : tie.Need-returns Inv-loop μ-loop
-returns c = blocks-are (join (c .before .before .before .before .before .before .before .before .before .before .before .before .before .args .state .now) (c .before .before .before .before .before .before .before .before .before .before .before .before .before .args .parts .now) (c .before .before .before .before .before .before .before .before .before .before .before .before .before .args .lengths .now) (c .before .before .before .before .before .before .before .before .before .before .before .before .before .args .places .now) (c .before .before .before .before .before .before .before .before .before .before .before .before .before .args .body .now) (c .before .before .before .before .before .before .before .before .before .before .before .before .before .args .first) 0) _ 0 _ _ (c .before .before .before .before .before .before .length-of .ensures) (one-block (join (c .before .before .before .before .before .before .before .before .before .before .before .before .before .args .state .now) (c .before .before .before .before .before .before .before .before .before .before .before .before .before .args .parts .now) (c .before .before .before .before .before .before .before .before .before .before .before .before .before .args .lengths .now) (c .before .before .before .before .before .before .before .before .before .before .before .before .before .args .places .now) (c .before .before .before .before .before .before .before .before .before .before .before .before .before .args .body .now) (c .before .before .before .before .before .before .before .before .before .before .before .before .before .args .first) 0) _ (c .before .before .before .before .before .before .length-of .result) _ _ (c .before .before .before .before .before .if1 .taken) (c .before .before .copy-block .ensures))
+returns c = blocks-are (join (c .before .before .before .before .before .before .before .before .before .before .before .before .before .args .plan .now) (c .before .before .before .before .before .before .before .before .before .before .before .before .before .args .parts .now) (c .before .before .before .before .before .before .before .before .before .before .before .before .before .args .lengths .now) (c .before .before .before .before .before .before .before .before .before .before .before .before .before .args .places .now) (c .before .before .before .before .before .before .before .before .before .before .before .before .before .args .body .now) (c .before .before .before .before .before .before .before .before .before .before .before .before .before .args .first) 0) _ 0 _ _ (c .before .before .before .before .before .before .length-of .ensures) (one-block (join (c .before .before .before .before .before .before .before .before .before .before .before .before .before .args .plan .now) (c .before .before .before .before .before .before .before .before .before .before .before .before .before .args .parts .now) (c .before .before .before .before .before .before .before .before .before .before .before .before .before .args .lengths .now) (c .before .before .before .before .before .before .before .before .before .before .before .before .before .args .places .now) (c .before .before .before .before .before .before .before .before .before .before .before .before .before .args .body .now) (c .before .before .before .before .before .before .before .before .before .before .before .before .before .args .first) 0) _ (c .before .before .before .before .before .before .length-of .result) _ _ (c .before .before .before .before .before .if1 .taken) (c .before .before .copy-block .ensures))
 
 loop-holds : tie.Need-loop-holds Inv-loop μ-loop
-loop-holds c = (omega arith, refl, sym (rank-none (keysOf (join (c .before .before .before .before .before .before .before .before .args .state .now) [] (c .before .before .before .before .before .before .before .before .args .lengths .now) (c .before .before .before .before .before .before .before .before .args .places .now) (c .before .before .before .before .before .before .before .before .args .body .now) (c .before .before .before .before .before .before .before .before .args .first) 0))), λ g c2 room2 d. rw sub-zero at d)
+loop-holds c = (omega arith, refl, sym (rank-none (keysOf (join (c .before .before .before .before .before .before .before .before .args .plan .now) [] (c .before .before .before .before .before .before .before .before .args .lengths .now) (c .before .before .before .before .before .before .before .before .args .places .now) (c .before .before .before .before .before .before .before .before .args .body .now) (c .before .before .before .before .before .before .before .before .args .first) 0))), λ g c2 room2 d. rw sub-zero at d)
 
 block-len-requires : tie.Need-block-len-requires Inv-loop μ-loop
 block-len-requires c κs = search needs
 
 ranks-at-requires : tie.Need-ranks-at-requires Inv-loop μ-loop
 ranks-at-requires c κs =
-    let far = entries-far (join (c .before .before .before .before .before .before .before .before .before .before .before .args .state .now) [] (c .before .before .before .before .before .before .before .before .before .before .before .args .lengths .now) (c .before .before .before .before .before .before .before .before .before .before .before .args .places .now) (c .before .before .before .before .before .before .before .before .before .before .before .args .body .now) (c .before .before .before .before .before .before .before .before .before .before .before .args .first) 0) (c .before .before .before .before .before .before .before .before .before .before .before .pre .0 .1) in
+    let far = entries-far (join (c .before .before .before .before .before .before .before .before .before .before .before .args .plan .now) [] (c .before .before .before .before .before .before .before .before .before .before .before .args .lengths .now) (c .before .before .before .before .before .before .before .before .before .before .before .args .places .now) (c .before .before .before .before .before .before .before .before .before .before .before .args .body .now) (c .before .before .before .before .before .before .before .before .before .before .before .args .first) 0) (c .before .before .before .before .before .before .before .before .before .before .before .pre .0 .1) in
     ((omega (arith, c .before .before .before .before .before .before .before .before .before .before .before .pre .0 .0), c .before .before .before .before .before .before .before .before .before .before .before .pre .0 .1, omega arith, omega (arith, far, c .before .before .before .before .length-of .ensures), c .before .before .loop .inv .2), λ j l m. c .before .before .before .before .before .before .before .before .before .before .before .pre .1 j (omega (arith, l, c .before .before .before .before .length-of .ensures)) m)
 
 copy-block-requires-2 : tie.Need-copy-block-requires-2 Inv-loop μ-loop
 copy-block-requires-2 c κs =
-    let far = entries-far (join (c .before .before .before .before .before .before .before .before .before .before .before .before .before .before .before .args .state .now) [] (c .before .before .before .before .before .before .before .before .before .before .before .before .before .before .before .args .lengths .now) (c .before .before .before .before .before .before .before .before .before .before .before .before .before .before .before .args .places .now) (c .before .before .before .before .before .before .before .before .before .before .before .before .before .before .before .args .body .now) (c .before .before .before .before .before .before .before .before .before .before .before .before .before .before .before .args .first) 0) (c .before .before .before .before .before .before .before .before .before .before .before .before .before .before .before .pre .0 .1) in
+    let far = entries-far (join (c .before .before .before .before .before .before .before .before .before .before .before .before .before .before .before .args .plan .now) [] (c .before .before .before .before .before .before .before .before .before .before .before .before .before .before .before .args .lengths .now) (c .before .before .before .before .before .before .before .before .before .before .before .before .before .before .before .args .places .now) (c .before .before .before .before .before .before .before .before .before .before .before .before .before .before .before .args .body .now) (c .before .before .before .before .before .before .before .before .before .before .before .before .before .before .before .args .first) 0) (c .before .before .before .before .before .before .before .before .before .before .before .before .before .before .before .pre .0 .1) in
     ((omega (arith, c .before .before .before .before .before .before .before .before .before .before .before .before .before .before .before .pre .0 .0), omega arith, omega (arith, far, c .before .before .before .before .before .before .before .before .length-of .ensures)), c .before .before .before .ranks-at .ensures)
 
 same-length-2 : tie.Need-same-length-2 Inv-loop μ-loop
@@ -65,7 +65,7 @@ returns-2 c =
     let l = c .before .before .before .before .before .before .before .before .before .before .loop in
     let k = c .before .before .before .before .before .before .before .before .block-len in
     let n = c .before .before .before .before .before .before .before .before .before .before .before .before .length-of in
-    blocks-are (join (c .before .before .before .before .before .before .before .before .before .before .before .before .before .before .before .before .before .before .before .args .state .now) (c .before .before .before .before .before .before .before .before .before .before .before .before .before .before .before .before .before .before .before .args .parts .now) (c .before .before .before .before .before .before .before .before .before .before .before .before .before .before .before .before .before .before .before .args .lengths .now) (c .before .before .before .before .before .before .before .before .before .before .before .before .before .before .before .before .before .before .before .args .places .now) (c .before .before .before .before .before .before .before .before .before .before .before .before .before .before .before .before .before .before .before .args .body .now) (c .before .before .before .before .before .before .before .before .before .before .before .before .before .before .before .before .before .before .before .args .first) 0) _ 0 _ _ (n .ensures) (l .inv .3 _ _ _ (blocks-stop (join (c .before .before .before .before .before .before .before .before .before .before .before .before .before .before .before .before .before .before .before .args .state .now) (c .before .before .before .before .before .before .before .before .before .before .before .before .before .before .before .before .before .before .before .args .parts .now) (c .before .before .before .before .before .before .before .before .before .before .before .before .before .before .before .before .before .before .before .args .lengths .now) (c .before .before .before .before .before .before .before .before .before .before .before .before .before .before .before .before .before .before .before .args .places .now) (c .before .before .before .before .before .before .before .before .before .before .before .before .before .before .before .before .before .before .before .args .body .now) (c .before .before .before .before .before .before .before .before .before .before .before .before .before .before .before .before .before .before .before .args .first) 0) _ (n .result - l .base) (l .base) (k .result) _ _ (omega arith) (k .ensures .3) (c .before .before .before .copy-block2 .ensures) (c .if2 .taken)))
+    blocks-are (join (c .before .before .before .before .before .before .before .before .before .before .before .before .before .before .before .before .before .before .before .args .plan .now) (c .before .before .before .before .before .before .before .before .before .before .before .before .before .before .before .before .before .before .before .args .parts .now) (c .before .before .before .before .before .before .before .before .before .before .before .before .before .before .before .before .before .before .before .args .lengths .now) (c .before .before .before .before .before .before .before .before .before .before .before .before .before .before .before .before .before .before .before .args .places .now) (c .before .before .before .before .before .before .before .before .before .before .before .before .before .before .before .before .before .before .before .args .body .now) (c .before .before .before .before .before .before .before .before .before .before .before .before .before .before .before .before .before .before .before .args .first) 0) _ 0 _ _ (n .ensures) (l .inv .3 _ _ _ (blocks-stop (join (c .before .before .before .before .before .before .before .before .before .before .before .before .before .before .before .before .before .before .before .args .plan .now) (c .before .before .before .before .before .before .before .before .before .before .before .before .before .before .before .before .before .before .before .args .parts .now) (c .before .before .before .before .before .before .before .before .before .before .before .before .before .before .before .before .before .before .before .args .lengths .now) (c .before .before .before .before .before .before .before .before .before .before .before .before .before .before .before .before .before .before .before .args .places .now) (c .before .before .before .before .before .before .before .before .before .before .before .before .before .before .before .before .before .before .before .args .body .now) (c .before .before .before .before .before .before .before .before .before .before .before .before .before .before .before .before .before .before .before .args .first) 0) _ (n .result - l .base) (l .base) (k .result) _ _ (omega arith) (k .ensures .3) (c .before .before .before .copy-block2 .ensures) (c .if2 .taken)))
 
 mul-start : tie.Need-mul-start Inv-loop μ-loop
 mul-start c = search needs
@@ -88,14 +88,14 @@ loop-again c =
       search needs,
       c .before .before .before .before .before .before .before .ranks-at .ensures (k .result) (omega arith),
       λ g c2 room2 d.
-          l .inv .3 _ _ _ (blocks-more (join (c .before .before .before .before .before .before .before .before .before .before .before .before .before .before .before .before .before .before .before .args .state .now) (c .before .before .before .before .before .before .before .before .before .before .before .before .before .before .before .before .before .before .before .args .parts .now) (c .before .before .before .before .before .before .before .before .before .before .before .before .before .before .before .before .before .before .before .args .lengths .now) (c .before .before .before .before .before .before .before .before .before .before .before .before .before .before .before .before .before .before .before .args .places .now) (c .before .before .before .before .before .before .before .before .before .before .before .before .before .before .before .before .before .before .before .args .body .now) (c .before .before .before .before .before .before .before .before .before .before .before .before .before .before .before .before .before .before .before .args .first) 0) _ (n .result - l .base) (n .result - (l .base + k .result)) (l .base) (l .base + k .result) (k .result) _ _ (omega arith) (k .ensures .3) (omega arith) refl (c .before .before .before .copy-block2 .ensures) (c .if2 .left) d),
+          l .inv .3 _ _ _ (blocks-more (join (c .before .before .before .before .before .before .before .before .before .before .before .before .before .before .before .before .before .before .before .args .plan .now) (c .before .before .before .before .before .before .before .before .before .before .before .before .before .before .before .before .before .before .before .args .parts .now) (c .before .before .before .before .before .before .before .before .before .before .before .before .before .before .before .before .before .before .before .args .lengths .now) (c .before .before .before .before .before .before .before .before .before .before .before .before .before .before .before .before .before .before .before .args .places .now) (c .before .before .before .before .before .before .before .before .before .before .before .before .before .before .before .before .before .before .before .args .body .now) (c .before .before .before .before .before .before .before .before .before .before .before .before .before .before .before .before .before .before .before .args .first) 0) _ (n .result - l .base) (n .result - (l .base + k .result)) (l .base) (l .base + k .result) (k .result) _ _ (omega arith) (k .ensures .3) (omega arith) refl (c .before .before .before .copy-block2 .ensures) (c .if2 .left) d),
     )
 
 same-length-3 : tie.Need-same-length-3 Inv-loop μ-loop
 same-length-3 c = search needs
 
 returns-3 : tie.Need-returns-3 Inv-loop μ-loop
-returns-3 c = blocks-are (join (c .before .before .before .before .before .before .before .before .before .before .args .state .now) (c .before .before .before .before .before .before .before .before .before .before .args .parts .now) (c .before .before .before .before .before .before .before .before .before .before .args .lengths .now) (c .before .before .before .before .before .before .before .before .before .before .args .places .now) (c .before .before .before .before .before .before .before .before .before .before .args .body .now) (c .before .before .before .before .before .before .before .before .before .before .args .first) 0) _ 0 _ _ (c .before .before .before .length-of .ensures) (c .before .loop .inv .3 _ _ _ (blocks-none (join (c .before .before .before .before .before .before .before .before .before .before .args .state .now) (c .before .before .before .before .before .before .before .before .before .before .args .parts .now) (c .before .before .before .before .before .before .before .before .before .before .args .lengths .now) (c .before .before .before .before .before .before .before .before .before .before .args .places .now) (c .before .before .before .before .before .before .before .before .before .before .args .body .now) (c .before .before .before .before .before .before .before .before .before .before .args .first) 0) _ (c .before .before .before .length-of .result - c .before .loop .base) _ _ _ (omega arith)))
+returns-3 c = blocks-are (join (c .before .before .before .before .before .before .before .before .before .before .args .plan .now) (c .before .before .before .before .before .before .before .before .before .before .args .parts .now) (c .before .before .before .before .before .before .before .before .before .before .args .lengths .now) (c .before .before .before .before .before .before .before .before .before .before .args .places .now) (c .before .before .before .before .before .before .before .before .before .before .args .body .now) (c .before .before .before .before .before .before .before .before .before .before .args .first) 0) _ 0 _ _ (c .before .before .before .length-of .ensures) (c .before .loop .inv .3 _ _ _ (blocks-none (join (c .before .before .before .before .before .before .before .before .before .before .args .plan .now) (c .before .before .before .before .before .before .before .before .before .before .args .parts .now) (c .before .before .before .before .before .before .before .before .before .before .args .lengths .now) (c .before .before .before .before .before .before .before .before .before .before .args .places .now) (c .before .before .before .before .before .before .before .before .before .before .args .body .now) (c .before .before .before .before .before .before .before .before .before .before .args .first) 0) _ (c .before .before .before .length-of .result - c .before .loop .base) _ _ _ (omega arith)))
 
 pub copy-entries-spec : {M : Type 1} → statement M
 copy-entries-spec = tie.close (tie.spec Inv-loop μ-loop add-length-of length-of-requires copy-block-requires same-length returns loop-holds block-len-requires ranks-at-requires copy-block-requires-2 same-length-2 returns-2 mul-start array-read-start add-base loop-less loop-again same-length-3 returns-3)

@@ -8,7 +8,7 @@ use Rattle.reclaim.proofs.entry_copies.copy_run.Tie as tie
 returns : tie.Need-returns
 returns c =
     let a = c .before .before .before .before .before .before .before .args in
-    copy-none (join (a .state .now) (a .parts .now) (a .lengths .now) (a .places .now) (a .body .now) (a .first) 0) (a .e) (a .k) (a .counts .now) (c .if1 .taken)
+    copy-none (join (a .plan .now) (a .parts .now) (a .lengths .now) (a .places .now) (a .body .now) (a .first) 0) (a .e) (a .k) (a .counters .now) (c .if1 .taken)
 
 extend-requires : tie.Need-extend-requires
 extend-requires c κs = search needs
@@ -19,7 +19,7 @@ same-length c = search needs
 returns-2 : tie.Need-returns-2
 returns-2 c =
     let a = c .before .before .before .before .before .before .before .before .before .before .before .before .args in
-    copy-some (join (a .state .now) (a .parts .now) (a .lengths .now) (a .places .now) (a .body .now) (a .first) 0) (a .e) (a .k) (a .counts .now) (c .before .before .before .before .before .if1 .left) (c .before .before .extend .ensures)
+    copy-some (join (a .plan .now) (a .parts .now) (a .lengths .now) (a .places .now) (a .body .now) (a .first) 0) (a .e) (a .k) (a .counters .now) (c .before .before .before .before .before .if1 .left) (c .before .before .extend .ensures)
 
 pub copy-run-spec : {M : Type 1} → statement M
 copy-run-spec = tie.close (tie.spec returns extend-requires same-length returns-2)

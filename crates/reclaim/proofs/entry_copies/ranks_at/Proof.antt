@@ -31,7 +31,7 @@ length-of-requires c κs = search needs
 block-ranks-requires : tie.Need-block-ranks-requires
 block-ranks-requires c κs =
     let a = c .before .before .before .before .before .before .before .before .before .before .args in
-    let x = join (a .state .now) [] (a .lengths .now) (a .places .now) (a .body .now) (a .first) 0 in
+    let x = join (a .plan .now) [] (a .lengths .now) (a .places .now) (a .body .now) (a .first) 0 in
     let k = keys-same x (c .before .before .before .before .before .width-at .ensures) (c .before .before .before .before .place .ensures) (c .before .before .before .is-masked .ensures) (c .before .before .place2 .ensures) (c .before .offset-of .ensures) (c .length-of .ensures) in
     let p = c .before .before .before .before .before .before .before .before .before .before .pre in
     ((subst Within (sym k) (keys-within x (p .0 .1)), omega (arith, p .0 .2), omega (arith, p .0 .3), p .0 .4 ∙ ap (λ z. rank z (a .base)) (sym k)), λ j l m. p .1 j l m ∙ ap (λ z. rank z j) (sym k))
@@ -39,7 +39,7 @@ block-ranks-requires c κs =
 returns : tie.Need-returns
 returns c =
     let a = c .before .before .before .before .before .before .before .before .before .before .before .args in
-    let x = join (a .state .now) [] (a .lengths .now) (a .places .now) (a .body .now) (a .first) 0 in
+    let x = join (a .plan .now) [] (a .lengths .now) (a .places .now) (a .body .now) (a .first) 0 in
     let k = keys-same x (c .before .before .before .before .before .before .width-at .ensures) (c .before .before .before .before .before .place .ensures) (c .before .before .before .before .is-masked .ensures) (c .before .before .before .place2 .ensures) (c .before .before .offset-of .ensures) (c .before .length-of .ensures) in
     λ j h. c .block-ranks .ensures j h ∙ ap (λ z. rank z (a .base + j)) k
 

@@ -21,7 +21,7 @@ use Rattle.reclaim.proofs.plain.copy_plain.Statement.{statement}
 use Rattle.reclaim.proofs.plain.copy_plain.Tie as tie
 
 abbrev lent : tie.Start → List ℕ → Join
-lent s parts = join (s .args .state .now) parts (s .args .lengths .now) (s .args .places .now) (s .args .body .now) (s .args .first) 0
+lent s parts = join (s .args .plan .now) parts (s .args .lengths .now) (s .args .places .now) (s .args .body .now) (s .args .first) 0
 
 abbrev many : tie.Start → ℕ
 many s = getD (s .args .ranks .now) (s .args .count) 0 - getD (s .args .ranks .now) 0 0
@@ -86,14 +86,14 @@ returns-3 c =
     let x = lent s (a .parts .now) in
     let p = in-parts s (c .before .before .before .before .before .before .before .before .before .before .before .before .is-plain .ensures (is-true _ (c .before .before .before .before .before .before .before .before .before .before .before .if1 .left))) in
     let o = c .before .before .before .before .before .write-entries .ensures .0 (is-true _ (c .before .before .if2 .left)) in
-    let had : getD (c .before .before .before .before .before .before .before .before .before .copied .result) 3 0 ≡ rows (a .counts .now) 1 = ap (λ l. getD l 3 0) (c .before .before .before .before .before .before .before .before .before .copied .ensures) in
-    let w = bytesOf (a .state .now) 1 in
-    let wide = width-in w (fixed-width (codeOf (a .state .now) 1) (p .number)) in
-    let long : 3 < length (a .counts .now) = omega (arith, c .before .before .before .before .before .before .before .before .before .copied, ap length (c .before .before .before .before .before .before .before .before .before .copied .ensures)) in
+    let had : getD (c .before .before .before .before .before .before .before .before .before .copied .result) 3 0 ≡ rows (a .counters .now) 1 = ap (λ l. getD l 3 0) (c .before .before .before .before .before .before .before .before .before .copied .ensures) in
+    let w = bytesOf (a .plan .now) 1 in
+    let wide = width-in w (fixed-width (codeOf (a .plan .now) 1) (p .number)) in
+    let long : 3 < length (a .counters .now) = omega (arith, c .before .before .before .before .before .before .before .before .before .copied, ap length (c .before .before .before .before .before .before .before .before .before .copied .ensures)) in
     let sized = risen-length x (a .base) (a .count) (a .ranks .now) (c .before .before .before .before .before .before .before .before .before .before .before .before .before .before .before .before .before .before .before .pre .1) (many s) refl p in
     let same = risen-kept x (a .base) (a .count) (a .ranks .now) (c .before .before .before .before .before .before .before .before .before .before .before .before .before .before .before .before .before .before .before .pre .1) in
-    let d = plain-runs x (a .count) (a .count) (a .base) (a .write) (a .counts .now) (a .room .now) (omega arith) p (wide .0) long (omega (arith, c .before .before .before .before .before .before .before .before .before .before .before .before .before .before .before .before .before .before .before .good)) (λ h. omega (arith, o .0 h, ap (λ v. v * w) had, sized, ap length same)) in (
-      (λ z. did-as (a .state .now) (a .parts .now) (ap (λ t. counted t (a .counts .now)) (sym (many-told x (a .base) (a .count) (a .ranks .now) (c .before .before .before .before .before .before .before .before .before .before .before .before .before .before .before .before .before .before .before .pre .1) (many s) refl)) ∙ sym (c .count-entries .ensures)) (sym (o .1 ∙ ap₂ (λ v b. cond (a .write) (splice (startOf (a .state .now) (a .parts .now) 1 1 + v * w) b (a .room .now)) (a .room .now)) had same)) d),
+    let d = plain-runs x (a .count) (a .count) (a .base) (a .write) (a .counters .now) (a .room .now) (omega arith) p (wide .0) long (omega (arith, c .before .before .before .before .before .before .before .before .before .before .before .before .before .before .before .before .before .before .before .good)) (λ h. omega (arith, o .0 h, ap (λ v. v * w) had, sized, ap length same)) in (
+      (λ z. did-as (a .plan .now) (a .parts .now) (ap (λ t. counted t (a .counters .now)) (sym (many-told x (a .base) (a .count) (a .ranks .now) (c .before .before .before .before .before .before .before .before .before .before .before .before .before .before .before .before .before .before .before .pre .1) (many s) refl)) ∙ sym (c .count-entries .ensures)) (sym (o .1 ∙ ap₂ (λ v b. cond (a .write) (splice (startOf (a .plan .now) (a .parts .now) 1 1 + v * w) b (a .room .now)) (a .room .now)) had same)) d),
       λ z. absurd (false≢true (sym z)),
     )
 

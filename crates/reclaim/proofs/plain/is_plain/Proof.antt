@@ -19,8 +19,8 @@ below : (o b n g : ℕ) → g ≡ grown o (b + n) → g < far → o + b + n < fa
 unfolding grown
 below o b n g e h = omega arith
 
-plain-told : (x : Join) (base count : ℕ) {code dict keeps off g w at : ℕ} {t r : Bool} → code ≡ codeOf (x .state) 1 → t ≡ isFixed code → not t ≡ false → dict ≡ dictionaryOf (x .state) 1 → dict ≡ 0
-    → keeps ≡ keepsOf (x .state) 1 → keeps ≡ 0 → off ≡ offsetOf x 1 → g ≡ grown off (base + count) → g < far → w ≡ bytesOf (x .state) 1 → at ≡ place x 1 3 → r ≡ rowsIn x at w (off + base) count
+plain-told : (x : Join) (base count : ℕ) {code dict keeps off g w at : ℕ} {t r : Bool} → code ≡ codeOf (x .plan) 1 → t ≡ isFixed code → not t ≡ false → dict ≡ dictionaryOf (x .plan) 1 → dict ≡ 0
+    → keeps ≡ keepsOf (x .plan) 1 → keeps ≡ 0 → off ≡ offsetOf x 1 → g ≡ grown off (base + count) → g < far → w ≡ bytesOf (x .plan) 1 → at ≡ place x 1 3 → r ≡ rowsIn x at w (off + base) count
     → r ≡ true → Plain x base count
 unfolding rowsIn
 plain-told x base count {off = off} {g = g} ec et ht ed hd ek hk eo eg hg ew ea er hr =
@@ -84,7 +84,7 @@ rows-in-requires : tie.Need-rows-in-requires
 rows-in-requires c κs = (width-small (c .before .before .before .before .before .before .before .before .before .before .before .code-of .result) (c .before .before .before .before .before .before .before .before .before .before .before .code-of .ensures) (c .before .before .before .before .before .before .before .before .before .before .is-fixed .ensures) (c .before .before .before .before .before .before .before .before .before .if1 .left) (c .before .width-at .ensures), omega (arith, below-far (c .before .before .before .before .offset-of .result) (c .before .before .before .before .before .before .before .before .before .before .before .before .before .before .before .before .args .base + c .before .before .before .before .before .before .before .before .before .before .before .before .before .before .before .before .args .count) (c .before .before .before .grow .ensures) (c .before .before .if4 .left)))
 
 returns-5 : tie.Need-returns-5
-returns-5 c = λ z. plain-told (join (c .before .before .before .before .before .before .before .before .before .before .before .before .before .before .before .before .before .args .state .now) [] (c .before .before .before .before .before .before .before .before .before .before .before .before .before .before .before .before .before .args .lengths .now) (c .before .before .before .before .before .before .before .before .before .before .before .before .before .before .before .before .before .args .places .now) (c .before .before .before .before .before .before .before .before .before .before .before .before .before .before .before .before .before .args .body .now) (c .before .before .before .before .before .before .before .before .before .before .before .before .before .before .before .before .before .args .first) 0) (c .before .before .before .before .before .before .before .before .before .before .before .before .before .before .before .before .before .args .base) (c .before .before .before .before .before .before .before .before .before .before .before .before .before .before .before .before .before .args .count) (c .before .before .before .before .before .before .before .before .before .before .before .before .code-of .ensures) (c .before .before .before .before .before .before .before .before .before .before .before .is-fixed .ensures) (c .before .before .before .before .before .before .before .before .before .before .if1 .left) (c .before .before .before .before .before .before .before .before .before .dictionary-of .ensures) (c .before .before .before .before .before .before .before .before .if2 .left) (c .before .before .before .before .before .before .before .keeps-of .ensures) (c .before .before .before .before .before .before .if3 .left) (c .before .before .before .before .before .offset-of .ensures) (c .before .before .before .before .grow .ensures) (c .before .before .before .if4 .left) (c .before .before .width-at .ensures) (c .before .place .ensures) (c .rows-in .ensures (c .before .before .before .before .before .before .before .before .before .before .before .before .before .before .before .before .before .args .state .now) [] (c .before .before .before .before .before .before .before .before .before .before .before .before .before .before .before .before .before .args .lengths .now) (c .before .before .before .before .before .before .before .before .before .before .before .before .before .before .before .before .before .args .places .now) (c .before .before .before .before .before .before .before .before .before .before .before .before .before .before .before .before .before .args .first) 0) z
+returns-5 c = λ z. plain-told (join (c .before .before .before .before .before .before .before .before .before .before .before .before .before .before .before .before .before .args .plan .now) [] (c .before .before .before .before .before .before .before .before .before .before .before .before .before .before .before .before .before .args .lengths .now) (c .before .before .before .before .before .before .before .before .before .before .before .before .before .before .before .before .before .args .places .now) (c .before .before .before .before .before .before .before .before .before .before .before .before .before .before .before .before .before .args .body .now) (c .before .before .before .before .before .before .before .before .before .before .before .before .before .before .before .before .before .args .first) 0) (c .before .before .before .before .before .before .before .before .before .before .before .before .before .before .before .before .before .args .base) (c .before .before .before .before .before .before .before .before .before .before .before .before .before .before .before .before .before .args .count) (c .before .before .before .before .before .before .before .before .before .before .before .before .code-of .ensures) (c .before .before .before .before .before .before .before .before .before .before .before .is-fixed .ensures) (c .before .before .before .before .before .before .before .before .before .before .if1 .left) (c .before .before .before .before .before .before .before .before .before .dictionary-of .ensures) (c .before .before .before .before .before .before .before .before .if2 .left) (c .before .before .before .before .before .before .before .keeps-of .ensures) (c .before .before .before .before .before .before .if3 .left) (c .before .before .before .before .before .offset-of .ensures) (c .before .before .before .before .grow .ensures) (c .before .before .before .if4 .left) (c .before .before .width-at .ensures) (c .before .place .ensures) (c .rows-in .ensures (c .before .before .before .before .before .before .before .before .before .before .before .before .before .before .before .before .before .args .plan .now) [] (c .before .before .before .before .before .before .before .before .before .before .before .before .before .before .before .before .before .args .lengths .now) (c .before .before .before .before .before .before .before .before .before .before .before .before .before .before .before .before .before .args .places .now) (c .before .before .before .before .before .before .before .before .before .before .before .before .before .before .before .before .before .args .first) 0) z
 
 pub is-plain-spec : {M : Type 1} → statement M
 is-plain-spec = tie.close (tie.spec code-of-requires is-fixed-requires returns dictionary-of-requires returns-2 keeps-of-requires returns-3 add-offset-of offset-of-requires add-grow grow-requires returns-4 width-at-requires add-place place-requires add-rows-in rows-in-requires returns-5)

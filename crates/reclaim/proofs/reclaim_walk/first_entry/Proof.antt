@@ -15,7 +15,7 @@ returns : tie.Need-returns
 returns c =
     let a = c .before .before .before .before .before .before .args in
     λ lengths places body k first.
-    first-no (join (a .state .now) (a .parts .now) lengths places body first 0) k (c .before .before .code-of .result) (c .before .is-string .result) (c .before .before .code-of .ensures) (c .before .is-string .ensures) (c .if1 .taken)
+    first-no (join (a .plan .now) (a .parts .now) lengths places body first 0) k (c .before .before .code-of .result) (c .before .is-string .result) (c .before .before .code-of .ensures) (c .before .is-string .ensures) (c .if1 .taken)
 
 width-of-requires : tie.Need-width-of-requires
 width-of-requires c κs = search needs
@@ -34,7 +34,7 @@ returns-2 : tie.Need-returns-2
 returns-2 c =
     let a = c .before .before .before .before .before .before .before .before .before .before .before .args in
     λ lengths places body k first.
-    first-yes (join (a .state .now) (a .parts .now) lengths places body first 0) k _ (c .before .before .before .before .before .before .before .code-of .result) (c .before .before .before .before .width-of .result) (c .before .before .before .before .before .before .is-string .result) (c .before .before .before .before .before .before .before .code-of .ensures) (c .before .before .before .before .before .before .is-string .ensures) (c .before .before .before .before .before .if1 .left) (c .before .before .before .before .width-of .ensures) (c .before .before .put-number .ensures)
+    first-yes (join (a .plan .now) (a .parts .now) lengths places body first 0) k _ (c .before .before .before .before .before .before .before .code-of .result) (c .before .before .before .before .width-of .result) (c .before .before .before .before .before .before .is-string .result) (c .before .before .before .before .before .before .before .code-of .ensures) (c .before .before .before .before .before .before .is-string .ensures) (c .before .before .before .before .before .if1 .left) (c .before .before .before .before .width-of .ensures) (c .before .before .put-number .ensures)
 
 pub first-entry-spec : {M : Type 1} → statement M
 first-entry-spec =

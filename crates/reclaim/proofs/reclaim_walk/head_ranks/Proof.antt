@@ -42,14 +42,14 @@ length-of-requires-2 c κs = search needs
 head-ranks-requires : tie.Need-head-ranks-requires
 head-ranks-requires c κs =
     let a = c .before .before .before .before .before .before .before .before .before .before .before .before .before .args in
-    let x = join (a .state .now) [] (a .lengths .now) (a .places .now) (a .body .now) (a .first) 0 in
+    let x = join (a .plan .now) [] (a .lengths .now) (a .places .now) (a .body .now) (a .first) 0 in
     let k = keys-same x (c .before .before .before .before .before .before .width-at .ensures) (c .before .before .before .before .before .place .ensures) (c .before .before .before .before .is-masked .ensures) (c .before .before .before .place2 .ensures) (c .before .before .offset-of .ensures) (c .before .length-of .ensures) in
     subst Within (sym k) (keys-within x (told (c .before .before .before .before .before .before .before .before .keys-in .ensures) (c .before .before .before .before .before .before .before .if1 .left)))
 
 returns-2 : tie.Need-returns-2
 returns-2 c =
     let a = c .before .before .before .before .before .before .before .before .before .before .before .before .before .before .args in
-    let x = join (a .state .now) [] (a .lengths .now) (a .places .now) (a .body .now) (a .first) 0 in
+    let x = join (a .plan .now) [] (a .lengths .now) (a .places .now) (a .body .now) (a .first) 0 in
     let k = keys-same x (c .before .before .before .before .before .before .before .width-at .ensures) (c .before .before .before .before .before .before .place .ensures) (c .before .before .before .before .before .is-masked .ensures) (c .before .before .before .before .place2 .ensures) (c .before .before .before .offset-of .ensures) (c .before .before .length-of .ensures) in
     λ h j l m. c .head-ranks .ensures j (omega (arith, l, c .before .length-of2 .ensures)) m ∙ ap (λ z. rank z j) k
 

@@ -24,7 +24,7 @@ length-of-requires c κs = search needs
 scale-requires : tie.Need-scale-requires
 scale-requires c κs =
     let a = c .before .before .before .before .before .before .before .before .args in
-    let x = join (a .state .now) [] (a .lengths .now) (a .places .now) (a .body .now) (a .first) 0 in
+    let x = join (a .plan .now) [] (a .lengths .now) (a .places .now) (a .body .now) (a .first) 0 in
     width-in (c .before .width-at .result) (subst KeyWidth (sym (c .before .width-at .ensures)) (keys-within x (c .before .before .before .before .before .before .before .before .pre .0 .1) .width))
 
 target-requires : tie.Need-target-requires
@@ -36,10 +36,10 @@ enum-known-to c = search needs
 write-keys-requires : tie.Need-write-keys-requires
 write-keys-requires c κs =
     let a = c .before .before .before .before .before .before .before .before .before .before .before .before .before .before .args in
-    let x = join (a .state .now) [] (a .lengths .now) (a .places .now) (a .body .now) (a .first) 0 in
+    let x = join (a .plan .now) [] (a .lengths .now) (a .places .now) (a .body .now) (a .first) 0 in
     let w = c .before .before .before .before .before .before .before .width-at in
     let n = c .before .before .before .before .before .before .length-of in
-    let m = made (a .state .now) (a .parts .now) (length (a .room .now)) (a .write) 0 1 0 (scaled (n .result) (w .result)) (rw (c .before .before .before .before .before .scale .ensures) at (c .before .before .before .before .target .ensures)) (c .before .before .to .given .1) in
+    let m = made (a .plan .now) (a .parts .now) (length (a .room .now)) (a .write) 0 1 0 (scaled (n .result) (w .result)) (rw (c .before .before .before .before .before .scale .ensures) at (c .before .before .before .before .target .ensures)) (c .before .before .to .given .1) in
     let p = c .before .before .before .before .before .before .before .before .before .before .before .before .before .before .pre in
     (p .0, (p .1, keys-room x m (omega (arith, c .before .before .before .before .before .before .before .before .before .before .before .before .before .before .good)) (w .ensures) (n .ensures ∙ length-zero x)))
 
@@ -52,14 +52,14 @@ same-length c = search needs
 returns : tie.Need-returns
 returns c =
     let a = c .before .before .before .before .before .before .before .before .before .before .before .before .before .before .before .before .before .args in
-    let x = join (a .state .now) [] (a .lengths .now) (a .places .now) (a .body .now) (a .first) 0 in
-    put-at (a .state .now) (a .parts .now) (a .write) 0 1 0 (newKeys (keysOf x) (lengthOf x 1)) (a .room .now) (omega (arith, c .before .before .before .before .before .before .before .before .before .before .before .before .before .before .before .before .before .good)) (c .before .before .before .before .before .before .before .target .ensures) (c .before .before .before .before .before .to .given .1) (subst (λ z. Alike z (length (newKeys (keysOf x) (lengthOf x 1)))) (sym (c .before .before .before .before .before .before .before .before .scale .ensures)) (alike-sized (c .before .before .before .before .before .before .before .before .before .length-of .result) (c .before .before .before .before .before .before .before .before .before .before .width-at .result) (length-new (keysOf x) (lengthOf x 1) ∙ ap₂ _*_ (sym (c .before .before .before .before .before .before .before .before .before .before .width-at .ensures)) (sym (c .before .before .before .before .before .before .before .before .before .length-of .ensures ∙ length-zero x))))) (c .before .before .write-keys .ensures)
+    let x = join (a .plan .now) [] (a .lengths .now) (a .places .now) (a .body .now) (a .first) 0 in
+    put-at (a .plan .now) (a .parts .now) (a .write) 0 1 0 (newKeys (keysOf x) (lengthOf x 1)) (a .room .now) (omega (arith, c .before .before .before .before .before .before .before .before .before .before .before .before .before .before .before .before .before .good)) (c .before .before .before .before .before .before .before .target .ensures) (c .before .before .before .before .before .to .given .1) (subst (λ z. Alike z (length (newKeys (keysOf x) (lengthOf x 1)))) (sym (c .before .before .before .before .before .before .before .before .scale .ensures)) (alike-sized (c .before .before .before .before .before .before .before .before .before .length-of .result) (c .before .before .before .before .before .before .before .before .before .before .width-at .result) (length-new (keysOf x) (lengthOf x 1) ∙ ap₂ _*_ (sym (c .before .before .before .before .before .before .before .before .before .before .width-at .ensures)) (sym (c .before .before .before .before .before .before .before .before .before .length-of .ensures ∙ length-zero x))))) (c .before .before .write-keys .ensures)
 
 returns-2 : tie.Need-returns-2
 returns-2 c =
     let a = c .before .before .before .before .before .before .before .before .before .before .before .before .args in
-    let x = join (a .state .now) [] (a .lengths .now) (a .places .now) (a .body .now) (a .first) 0 in
-    put-skip (a .state .now) (a .parts .now) (a .write) 0 1 0 (newKeys (keysOf x) (lengthOf x 1)) (a .room .now) (omega arith) (c .before .before .target .ensures) (c .enum-told .given .1) (subst (λ z. Alike z (length (newKeys (keysOf x) (lengthOf x 1)))) (sym (c .before .before .before .scale .ensures)) (alike-sized (c .before .before .before .before .length-of .result) (c .before .before .before .before .before .width-at .result) (length-new (keysOf x) (lengthOf x 1) ∙ ap₂ _*_ (sym (c .before .before .before .before .before .width-at .ensures)) (sym (c .before .before .before .before .length-of .ensures ∙ length-zero x)))))
+    let x = join (a .plan .now) [] (a .lengths .now) (a .places .now) (a .body .now) (a .first) 0 in
+    put-skip (a .plan .now) (a .parts .now) (a .write) 0 1 0 (newKeys (keysOf x) (lengthOf x 1)) (a .room .now) (omega arith) (c .before .before .target .ensures) (c .enum-told .given .1) (subst (λ z. Alike z (length (newKeys (keysOf x) (lengthOf x 1)))) (sym (c .before .before .before .scale .ensures)) (alike-sized (c .before .before .before .before .length-of .result) (c .before .before .before .before .before .width-at .result) (length-new (keysOf x) (lengthOf x 1) ∙ ap₂ _*_ (sym (c .before .before .before .before .before .width-at .ensures)) (sym (c .before .before .before .before .length-of .ensures ∙ length-zero x)))))
 
 pub put-keys-spec : {M : Type 1} → statement M
 put-keys-spec =

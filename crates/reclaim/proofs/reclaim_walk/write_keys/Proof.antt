@@ -41,11 +41,11 @@ length-of-requires-2 c κs = search needs
 write-keys-requires : tie.Need-write-keys-requires
 write-keys-requires c κs =
     let a = c .before .before .before .before .before .before .before .before .before .before .before .before .before .args in
-    let x = join (a .state .now) [] (a .lengths .now) (a .places .now) (a .body .now) (a .first) 0 in
+    let x = join (a .plan .now) [] (a .lengths .now) (a .places .now) (a .body .now) (a .first) 0 in
     let k = keys-same x (c .before .before .before .before .before .before .before .width-at .ensures) (c .before .before .before .before .before .before .place .ensures) (c .before .before .before .before .before .is-masked .ensures) (c .before .before .before .before .place2 .ensures) (c .before .before .before .offset-of .ensures) (c .before .before .length-of .ensures) in
     let p = c .before .before .before .before .before .before .before .before .before .before .before .before .before .pre in
     let room : a .to + c .before .before .before .before .before .before .before .width-at .result * c .before .before .length-of .result ≤ length (a .room .now)
-    = subst (λ z. a .to + z * c .before .before .length-of .result ≤ length (a .room .now)) (sym (c .before .before .before .before .before .before .before .width-at .ensures)) (subst (λ z. a .to + bytesOf (a .state .now) 0 * z ≤ length (a .room .now)) (sym (c .before .before .length-of .ensures ∙ length-zero x)) (p .1 .1)) in
+    = subst (λ z. a .to + z * c .before .before .length-of .result ≤ length (a .room .now)) (sym (c .before .before .before .before .before .before .before .width-at .ensures)) (subst (λ z. a .to + bytesOf (a .plan .now) 0 * z ≤ length (a .room .now)) (sym (c .before .before .length-of .ensures ∙ length-zero x)) (p .1 .1)) in
     ((subst Within (sym k) (keys-within x (p .0 .1)), room, omega (arith, entries-far x (p .0 .1), c .before .length-of2 .ensures)), λ j l m. p .1 .0 j (omega (arith, l, c .before .length-of2 .ensures)) m ∙ ap (λ z. rank z j) (sym k))
 
 same-length : tie.Need-same-length
@@ -54,7 +54,7 @@ same-length c = search needs
 returns : tie.Need-returns
 returns c =
     let a = c .before .before .before .before .before .before .before .before .before .before .before .before .before .before .before .before .args in
-    let x = join (a .state .now) [] (a .lengths .now) (a .places .now) (a .body .now) (a .first) 0 in
+    let x = join (a .plan .now) [] (a .lengths .now) (a .places .now) (a .body .now) (a .first) 0 in
     let k = keys-same x (c .before .before .before .before .before .before .before .before .before .before .width-at .ensures) (c .before .before .before .before .before .before .before .before .before .place .ensures) (c .before .before .before .before .before .before .before .before .is-masked .ensures) (c .before .before .before .before .before .before .before .place2 .ensures) (c .before .before .before .before .before .before .offset-of .ensures) (c .before .before .before .before .before .length-of .ensures) in
     c .before .before .write-keys .ensures ∙ ap (λ (z : Keys). splice (a .to) (newKeys z (c .before .before .before .before .length-of2 .result)) (a .room .now)) k
     ∙ ap (λ (z : ℕ). splice (a .to) (newKeys (keysOf x) z) (a .room .now)) (c .before .before .before .before .length-of2 .ensures)

@@ -28,7 +28,7 @@ enum-known-at c = search needs
 write-keys-requires : tie.Need-write-keys-requires
 write-keys-requires c κs =
     let a = c .before .before .before .before .before .before .before .before .before .before .before .args in
-    ((omega (arith, times-within (a .n) (a .w) (made (a .state .now) (a .parts .now) (length (a .room .now)) (a .write) (a .i) (a .b) (a .o) (scaled (a .n) (a .w)) (rw (c .before .before .before .before .before .scale .ensures) at (c .before .before .before .before .target .ensures)) (c .before .before .at .given .1)) (omega arith)), omega arith), (c .before .before .before .before .before .before .before .before .before .before .before .pre .1 .0, c .before .before .before .before .before .before .before .before .before .before .before .pre .1 .1 ∙ sym (ap widthOf (c .before .before .before .before .before .before .code-of .ensures))))
+    ((omega (arith, times-within (a .n) (a .w) (made (a .plan .now) (a .parts .now) (length (a .room .now)) (a .write) (a .i) (a .b) (a .o) (scaled (a .n) (a .w)) (rw (c .before .before .before .before .before .scale .ensures) at (c .before .before .before .before .target .ensures)) (c .before .before .at .given .1)) (omega arith)), omega arith), (c .before .before .before .before .before .before .before .before .before .before .before .pre .1 .0, c .before .before .before .before .before .before .before .before .before .before .before .pre .1 .1 ∙ sym (ap widthOf (c .before .before .before .before .before .before .code-of .ensures))))
 
 enum-told : tie.Need-enum-told
 enum-told c = search needs
@@ -39,12 +39,12 @@ same-length c = search needs
 returns : tie.Need-returns
 returns c =
     let a = c .before .before .before .before .before .before .before .before .before .before .before .before .before .before .args in
-    put-at (a .state .now) (a .parts .now) (a .write) (a .i) (a .b) (a .o) (rebased (a .w) (a .body .now) (a .from) (a .base) (a .n)) (a .room .now) (omega arith) (rw (c .before .before .before .before .before .before .before .before .scale .ensures) at (c .before .before .before .before .before .before .before .target .ensures)) (c .before .before .before .before .before .at .given .1) (alike-sized (a .n) (a .w) (length-rebased (a .w) (a .body .now) (a .from) (a .base) (a .n))) (c .before .before .write-keys .ensures)
+    put-at (a .plan .now) (a .parts .now) (a .write) (a .i) (a .b) (a .o) (rebased (a .w) (a .body .now) (a .from) (a .base) (a .n)) (a .room .now) (omega arith) (rw (c .before .before .before .before .before .before .before .before .scale .ensures) at (c .before .before .before .before .before .before .before .target .ensures)) (c .before .before .before .before .before .at .given .1) (alike-sized (a .n) (a .w) (length-rebased (a .w) (a .body .now) (a .from) (a .base) (a .n))) (c .before .before .write-keys .ensures)
 
 returns-2 : tie.Need-returns-2
 returns-2 c =
     let a = c .before .before .before .before .before .before .before .before .before .args in
-    put-skip (a .state .now) (a .parts .now) (a .write) (a .i) (a .b) (a .o) (rebased (a .w) (a .body .now) (a .from) (a .base) (a .n)) (a .room .now) (omega arith) (rw (c .before .before .before .scale .ensures) at (c .before .before .target .ensures)) (c .enum-told .given .1) (alike-sized (a .n) (a .w) (length-rebased (a .w) (a .body .now) (a .from) (a .base) (a .n)))
+    put-skip (a .plan .now) (a .parts .now) (a .write) (a .i) (a .b) (a .o) (rebased (a .w) (a .body .now) (a .from) (a .base) (a .n)) (a .room .now) (omega arith) (rw (c .before .before .before .scale .ensures) at (c .before .before .target .ensures)) (c .enum-told .given .1) (alike-sized (a .n) (a .w) (length-rebased (a .w) (a .body .now) (a .from) (a .base) (a .n)))
 
 pub put-keys-spec : {M : Type 1} → statement M
 put-keys-spec =

@@ -24,7 +24,7 @@ enum-known-at c = search needs
 write-run-ends-requires : tie.Need-write-run-ends-requires
 write-run-ends-requires c κs =
     let a = c .before .before .before .before .before .before .before .before .before .before .args in
-    ((omega (arith, times-within (a .n) (a .w) (made (a .state .now) (a .parts .now) (length (a .room .now)) (a .write) (a .i) (a .b) (a .o) (scaled (a .n) (a .w)) (rw (c .before .before .before .before .before .scale .ensures) at (c .before .before .before .before .target .ensures)) (c .before .before .at .given .1)) (omega arith)), omega arith, c .before .before .before .before .before .before .before .before .before .before .pre .0 .3), c .before .before .before .before .before .before .before .before .before .before .pre .1)
+    ((omega (arith, times-within (a .n) (a .w) (made (a .plan .now) (a .parts .now) (length (a .room .now)) (a .write) (a .i) (a .b) (a .o) (scaled (a .n) (a .w)) (rw (c .before .before .before .before .before .scale .ensures) at (c .before .before .before .before .target .ensures)) (c .before .before .at .given .1)) (omega arith)), omega arith, c .before .before .before .before .before .before .before .before .before .before .pre .0 .3), c .before .before .before .before .before .before .before .before .before .before .pre .1)
 
 enum-told : tie.Need-enum-told
 enum-told c = search needs
@@ -35,12 +35,12 @@ same-length c = search needs
 returns : tie.Need-returns
 returns c =
     let a = c .before .before .before .before .before .before .before .before .before .before .before .before .before .args in
-    put-at (a .state .now) (a .parts .now) (a .write) (a .i) (a .b) (a .o) (clipped (a .w) (a .body .now) (a .from) (a .n) (a .start .0) (a .end .0) (a .last)) (a .room .now) (omega arith) (rw (c .before .before .before .before .before .before .before .before .scale .ensures) at (c .before .before .before .before .before .before .before .target .ensures)) (c .before .before .before .before .before .at .given .1) (alike-sized (a .n) (a .w) (length-clipped (a .w) (a .body .now) (a .from) (a .start .0) (a .end .0) (a .last) (a .n))) (c .before .before .write-run-ends .ensures)
+    put-at (a .plan .now) (a .parts .now) (a .write) (a .i) (a .b) (a .o) (clipped (a .w) (a .body .now) (a .from) (a .n) (a .start .0) (a .end .0) (a .last)) (a .room .now) (omega arith) (rw (c .before .before .before .before .before .before .before .before .scale .ensures) at (c .before .before .before .before .before .before .before .target .ensures)) (c .before .before .before .before .before .at .given .1) (alike-sized (a .n) (a .w) (length-clipped (a .w) (a .body .now) (a .from) (a .start .0) (a .end .0) (a .last) (a .n))) (c .before .before .write-run-ends .ensures)
 
 returns-2 : tie.Need-returns-2
 returns-2 c =
     let a = c .before .before .before .before .before .before .before .before .args in
-    put-skip (a .state .now) (a .parts .now) (a .write) (a .i) (a .b) (a .o) (clipped (a .w) (a .body .now) (a .from) (a .n) (a .start .0) (a .end .0) (a .last)) (a .room .now) (omega arith) (rw (c .before .before .before .scale .ensures) at (c .before .before .target .ensures)) (c .enum-told .given .1) (alike-sized (a .n) (a .w) (length-clipped (a .w) (a .body .now) (a .from) (a .start .0) (a .end .0) (a .last) (a .n)))
+    put-skip (a .plan .now) (a .parts .now) (a .write) (a .i) (a .b) (a .o) (clipped (a .w) (a .body .now) (a .from) (a .n) (a .start .0) (a .end .0) (a .last)) (a .room .now) (omega arith) (rw (c .before .before .before .scale .ensures) at (c .before .before .target .ensures)) (c .enum-told .given .1) (alike-sized (a .n) (a .w) (length-clipped (a .w) (a .body .now) (a .from) (a .start .0) (a .end .0) (a .last) (a .n)))
 
 pub put-run-ends-spec : {M : Type 1} → statement M
 put-run-ends-spec =

@@ -18,7 +18,7 @@ enum-known-at c = search needs
 copy-bits-requires : tie.Need-copy-bits-requires
 copy-bits-requires c κs =
     let a = c .before .before .before .before .before .before .before .before .before .args in
-    let d = mask-made (a .state .now) (a .parts .now) (length (a .room .now)) (a .write) (a .i) (a .p) (a .n) (c .before .before .before .before .mask-target .ensures) (c .before .before .at .given .1) in
+    let d = mask-made (a .plan .now) (a .parts .now) (length (a .room .now)) (a .write) (a .i) (a .p) (a .n) (c .before .before .before .before .mask-target .ensures) (c .before .before .at .given .1) in
     omega (arith, d .0 .within, d .1)
 
 enum-told : tie.Need-enum-told
@@ -33,12 +33,12 @@ same-length c = search needs
 returns : tie.Need-returns
 returns c =
     let a = c .before .before .before .before .before .before .before .before .before .before .before .before .args in
-    (mask-at (a .state .now) (a .parts .now) (a .write) (a .i) (a .p) (a .n) (bitsAt (8 * a .from + a .a) (a .n) (a .body .now)) (a .room .now) (c .before .before .before .before .before .before .before .mask-target .ensures) (c .before .before .before .before .before .at .given .1) (length-bitsAt (8 * a .from + a .a) (a .n) (a .body .now) (omega arith)) (c .before .before .copy-bits .ensures .0), c .before .before .copy-bits .ensures .1)
+    (mask-at (a .plan .now) (a .parts .now) (a .write) (a .i) (a .p) (a .n) (bitsAt (8 * a .from + a .a) (a .n) (a .body .now)) (a .room .now) (c .before .before .before .before .before .before .before .mask-target .ensures) (c .before .before .before .before .before .at .given .1) (length-bitsAt (8 * a .from + a .a) (a .n) (a .body .now) (omega arith)) (c .before .before .copy-bits .ensures .0), c .before .before .copy-bits .ensures .1)
 
 returns-2 : tie.Need-returns-2
 returns-2 c =
     let a = c .before .before .before .before .before .before .before .before .args in
-    (mask-skip (a .state .now) (a .parts .now) (a .write) (a .i) (a .p) (a .n) (bitsAt (8 * a .from + a .a) (a .n) (a .body .now)) (a .room .now) (c .before .before .before .mask-target .ensures) (c .before .enum-told .given .1) (length-bitsAt (8 * a .from + a .a) (a .n) (a .body .now) (omega arith)), c .count-zeros .ensures)
+    (mask-skip (a .plan .now) (a .parts .now) (a .write) (a .i) (a .p) (a .n) (bitsAt (8 * a .from + a .a) (a .n) (a .body .now)) (a .room .now) (c .before .before .before .mask-target .ensures) (c .before .enum-told .given .1) (length-bitsAt (8 * a .from + a .a) (a .n) (a .body .now) (omega arith)), c .count-zeros .ensures)
 
 pub put-mask-spec : {M : Type 1} → statement M
 put-mask-spec =

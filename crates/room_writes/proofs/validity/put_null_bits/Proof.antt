@@ -15,7 +15,7 @@ enum-known-at c = search needs
 append-zeros-requires : tie.Need-append-zeros-requires
 append-zeros-requires c κs =
     let a = c .before .before .before .before .before .before .before .before .args in
-    let d = mask-made (a .state .now) (a .parts .now) (length (a .room .now)) (a .write) (a .i) (a .p) (a .n) (c .before .before .before .before .mask-target .ensures) (c .before .before .at .given .1) in
+    let d = mask-made (a .plan .now) (a .parts .now) (length (a .room .now)) (a .write) (a .i) (a .p) (a .n) (c .before .before .before .before .mask-target .ensures) (c .before .before .at .given .1) in
     omega (arith, d .0 .within, d .1)
 
 enum-told : tie.Need-enum-told
@@ -27,12 +27,12 @@ same-length c = search needs
 returns : tie.Need-returns
 returns c =
     let a = c .before .before .before .before .before .before .before .before .before .before .before .args in
-    mask-at (a .state .now) (a .parts .now) (a .write) (a .i) (a .p) (a .n) (replicate (a .n) 0) (a .room .now) (c .before .before .before .before .before .before .before .mask-target .ensures) (c .before .before .before .before .before .at .given .1) (length-replicate (a .n) 0) (c .before .before .append-zeros .ensures)
+    mask-at (a .plan .now) (a .parts .now) (a .write) (a .i) (a .p) (a .n) (replicate (a .n) 0) (a .room .now) (c .before .before .before .before .before .before .before .mask-target .ensures) (c .before .before .before .before .before .at .given .1) (length-replicate (a .n) 0) (c .before .before .append-zeros .ensures)
 
 returns-2 : tie.Need-returns-2
 returns-2 c =
     let a = c .before .before .before .before .before .before .args in
-    mask-skip (a .state .now) (a .parts .now) (a .write) (a .i) (a .p) (a .n) (replicate (a .n) 0) (a .room .now) (c .before .before .mask-target .ensures) (c .enum-told .given .1) (length-replicate (a .n) 0)
+    mask-skip (a .plan .now) (a .parts .now) (a .write) (a .i) (a .p) (a .n) (replicate (a .n) 0) (a .room .now) (c .before .before .mask-target .ensures) (c .enum-told .given .1) (length-replicate (a .n) 0)
 
 pub put-null-bits-spec : {M : Type 1} → statement M
 put-null-bits-spec =

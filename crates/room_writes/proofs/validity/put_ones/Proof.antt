@@ -15,7 +15,7 @@ enum-known-at c = search needs
 append-ones-requires : tie.Need-append-ones-requires
 append-ones-requires c κs =
     let a = c .before .before .before .before .before .before .before .before .args in
-    let d = mask-made (a .state .now) (a .parts .now) (length (a .room .now)) (a .write) (a .i) (a .p) (a .n) (c .before .before .before .before .mask-target .ensures) (c .before .before .at .given .1) in
+    let d = mask-made (a .plan .now) (a .parts .now) (length (a .room .now)) (a .write) (a .i) (a .p) (a .n) (c .before .before .before .before .mask-target .ensures) (c .before .before .at .given .1) in
     omega (arith, d .0 .within, d .1)
 
 enum-told : tie.Need-enum-told
@@ -27,12 +27,12 @@ same-length c = search needs
 returns : tie.Need-returns
 returns c =
     let a = c .before .before .before .before .before .before .before .before .before .before .before .args in
-    mask-at (a .state .now) (a .parts .now) (a .write) (a .i) (a .p) (a .n) (replicate (a .n) 1) (a .room .now) (c .before .before .before .before .before .before .before .mask-target .ensures) (c .before .before .before .before .before .at .given .1) (length-replicate (a .n) 1) (c .before .before .append-ones .ensures)
+    mask-at (a .plan .now) (a .parts .now) (a .write) (a .i) (a .p) (a .n) (replicate (a .n) 1) (a .room .now) (c .before .before .before .before .before .before .before .mask-target .ensures) (c .before .before .before .before .before .at .given .1) (length-replicate (a .n) 1) (c .before .before .append-ones .ensures)
 
 returns-2 : tie.Need-returns-2
 returns-2 c =
     let a = c .before .before .before .before .before .before .args in
-    mask-skip (a .state .now) (a .parts .now) (a .write) (a .i) (a .p) (a .n) (replicate (a .n) 1) (a .room .now) (c .before .before .mask-target .ensures) (c .enum-told .given .1) (length-replicate (a .n) 1)
+    mask-skip (a .plan .now) (a .parts .now) (a .write) (a .i) (a .p) (a .n) (replicate (a .n) 1) (a .room .now) (c .before .before .mask-target .ensures) (c .enum-told .given .1) (length-replicate (a .n) 1)
 
 pub put-ones-spec : {M : Type 1} → statement M
 put-ones-spec =

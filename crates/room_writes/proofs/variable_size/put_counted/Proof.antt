@@ -28,7 +28,7 @@ cast-count-up-i32 c = search needs
 count-up-i32-requires : tie.Need-count-up-i32-requires
 count-up-i32-requires c κs =
     let a = c .before .before .before .before .before .before .before .before .before .args in
-    omega (arith, times-within (a .n) (4) (made (a .state .now) (a .parts .now) (length (a .room .now)) (a .write) (a .i) (a .b) (a .o) (scaled (a .n) (4)) (rw (c .before .before .before .before .before .scale .ensures) at (c .before .before .before .before .target .ensures)) (c .before .before .at .given .1)) (omega arith))
+    omega (arith, times-within (a .n) (4) (made (a .plan .now) (a .parts .now) (length (a .room .now)) (a .write) (a .i) (a .b) (a .o) (scaled (a .n) (4)) (rw (c .before .before .before .before .before .scale .ensures) at (c .before .before .before .before .target .ensures)) (c .before .before .at .given .1)) (omega arith))
 
 enum-told : tie.Need-enum-told
 enum-told c = search needs
@@ -39,12 +39,12 @@ same-length c = search needs
 returns : tie.Need-returns
 returns c =
     let a = c .before .before .before .before .before .before .before .before .before .before .before .before .args in
-    put-at (a .state .now) (a .parts .now) (a .write) (a .i) (a .b) (a .o) (countedUp 4 (a .first) (a .n)) (a .room .now) (omega arith) (rw (c .before .before .before .before .before .before .before .before .scale .ensures) at (c .before .before .before .before .before .before .before .target .ensures)) (c .before .before .before .before .before .at .given .1) (alike-sized (a .n) (4) (length-counted 4 (a .room .now) 0 (a .first) (a .n))) (c .before .before .count-up-i32 .ensures ∙ ap (λ (z : List ℕ). splice (c .before .before .before .before .before .at .given .0 .0) z (a .room .now)) (counted-cut 4 (a .room .now) 0 (a .first) (a .n)))
+    put-at (a .plan .now) (a .parts .now) (a .write) (a .i) (a .b) (a .o) (countedUp 4 (a .first) (a .n)) (a .room .now) (omega arith) (rw (c .before .before .before .before .before .before .before .before .scale .ensures) at (c .before .before .before .before .before .before .before .target .ensures)) (c .before .before .before .before .before .at .given .1) (alike-sized (a .n) (4) (length-counted 4 (a .room .now) 0 (a .first) (a .n))) (c .before .before .count-up-i32 .ensures ∙ ap (λ (z : List ℕ). splice (c .before .before .before .before .before .at .given .0 .0) z (a .room .now)) (counted-cut 4 (a .room .now) 0 (a .first) (a .n)))
 
 returns-2 : tie.Need-returns-2
 returns-2 c =
     let a = c .before .before .before .before .before .before .before .args in
-    put-skip (a .state .now) (a .parts .now) (a .write) (a .i) (a .b) (a .o) (countedUp 4 (a .first) (a .n)) (a .room .now) (omega arith) (rw (c .before .before .before .scale .ensures) at (c .before .before .target .ensures)) (c .enum-told .given .1) (alike-sized (a .n) (4) (length-counted 4 (a .room .now) 0 (a .first) (a .n)))
+    put-skip (a .plan .now) (a .parts .now) (a .write) (a .i) (a .b) (a .o) (countedUp 4 (a .first) (a .n)) (a .room .now) (omega arith) (rw (c .before .before .before .scale .ensures) at (c .before .before .target .ensures)) (c .enum-told .given .1) (alike-sized (a .n) (4) (length-counted 4 (a .room .now) 0 (a .first) (a .n)))
 
 pub put-counted-spec : {M : Type 1} → statement M
 put-counted-spec =

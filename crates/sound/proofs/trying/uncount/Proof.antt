@@ -7,25 +7,25 @@ use Rattle.sound.proofs.trying.uncount.Statement.{statement}
 use Rattle.sound.proofs.trying.uncount.Tie as tie
 
 abbrev Inv-loop : tie.InvT-loop
-Inv-loop counts₀ n i₀ counts i = (i ≤ n) × Filled counts₀ counts i
+Inv-loop counters₀ n i₀ counters i = (i ≤ n) × Filled counters₀ counters i
 
 abbrev μ-loop : tie.MeasureT-loop
-μ-loop counts₀ n i₀ counts i = n - i
+μ-loop counters₀ n i₀ counters i = n - i
 
 loop-holds : tie.Need-loop-holds Inv-loop μ-loop
-loop-holds c = (omega arith, filled-none (c .args .counts .now))
+loop-holds c = (omega arith, filled-none (c .args .counters .now))
 
-mul-counts : tie.Need-mul-counts Inv-loop μ-loop
-mul-counts c = omega arith
+mul-counters : tie.Need-mul-counters Inv-loop μ-loop
+mul-counters c = omega arith
 
-add-counts : tie.Need-add-counts Inv-loop μ-loop
-add-counts c = omega arith
+add-counters : tie.Need-add-counters Inv-loop μ-loop
+add-counters c = omega arith
 
-mul-counts-2 : tie.Need-mul-counts-2 Inv-loop μ-loop
-mul-counts-2 c = omega arith
+mul-counters-2 : tie.Need-mul-counters-2 Inv-loop μ-loop
+mul-counters-2 c = omega arith
 
-element-write-counts : tie.Need-element-write-counts Inv-loop μ-loop
-element-write-counts c = search needs
+element-write-counters : tie.Need-element-write-counters Inv-loop μ-loop
+element-write-counters c = search needs
 
 add-i : tie.Need-add-i Inv-loop μ-loop
 add-i c = omega arith
@@ -36,12 +36,12 @@ loop-less c = omega arith
 loop-again : tie.Need-loop-again Inv-loop μ-loop
 loop-again c =
     let l = c .before .loop in
-    (omega arith, filled-more (c .before .before .args .counts .now) (l .counts) (l .i) (omega arith) (l .inv .1))
+    (omega arith, filled-more (c .before .before .args .counters .now) (l .counters) (l .i) (omega arith) (l .inv .1))
 
 returns : tie.Need-returns Inv-loop μ-loop
 returns c =
     let l = c .before .loop in
-    filled-all (c .before .before .args .counts .now) (l .counts) (l .i) (c .before .before .args .n) (omega arith) (l .inv .1)
+    filled-all (c .before .before .args .counters .now) (l .counters) (l .i) (c .before .before .args .n) (omega arith) (l .inv .1)
 
 pub uncount-spec : {M : Type 1} → statement M
-uncount-spec = tie.close (tie.spec Inv-loop μ-loop loop-holds mul-counts add-counts mul-counts-2 element-write-counts add-i loop-less loop-again returns)
+uncount-spec = tie.close (tie.spec Inv-loop μ-loop loop-holds mul-counters add-counters mul-counters-2 element-write-counters add-i loop-less loop-again returns)

@@ -16,7 +16,7 @@ keeps-of-requires c κs = search needs
 returns : tie.Need-returns
 returns c =
     let a = c .before .before .before .before .args in
-    λ counts q. part-none (a .plan .now) counts (a .parts .now) (a .m) 0 0 (no-bits (a .plan .now) 0 (sym (c .before .keeps-of .ensures) ∙ c .if1 .taken))
+    λ counters q. part-none (a .plan .now) counters (a .parts .now) (a .m) 0 0 (no-bits (a .plan .now) 0 (sym (c .before .keeps-of .ensures) ∙ c .if1 .taken))
 
 number-of-requires : tie.Need-number-of-requires
 number-of-requires c κs = search needs
@@ -40,7 +40,7 @@ returns-2 : tie.Need-returns-2
 returns-2 c =
     let a = c .before .before .before .before .before .before .before .before .args in
     let has = has-bits (a .plan .now) 0 (sym (copied-root (a .plan .now) 0 refl)) (λ z. c .before .before .before .before .if1 .left (c .before .before .before .before .before .keeps-of .ensures ∙ z)) (omega (arith, fixed-low (codeOf (a .plan .now) 0) (c .before .before .before .before .before .before .before .before .pre) .1)) in
-    λ counts q. part-some (a .plan .now) counts (a .parts .now) (a .m) 0 0 has (c .before .before .before .number-of .ensures .0) (c .before .bits-fit .ensures ∙ bits-need (a .r) (c .before .before .at-u64 .result) ∙ holds-by (a .plan .now) counts (a .parts .now) 0 0 refl (sym q) refl (c .before .before .before .number-of .ensures .0) (c .before .before .at-u64 .ensures)) (c .part-ground .ensures)
+    λ counters q. part-some (a .plan .now) counters (a .parts .now) (a .m) 0 0 has (c .before .before .before .number-of .ensures .0) (c .before .bits-fit .ensures ∙ bits-need (a .r) (c .before .before .at-u64 .result) ∙ holds-by (a .plan .now) counters (a .parts .now) 0 0 refl (sym q) refl (c .before .before .before .number-of .ensures .0) (c .before .before .at-u64 .ensures)) (c .part-ground .ensures)
 
 pub bits-ground-spec : {M : Type 1} → statement M
 bits-ground-spec = tie.close (tie.spec keeps-of-requires returns number-of-requires mul-at-u64 add-at-u64 at-u64-requires bits-fit-requires part-ground-requires returns-2)

@@ -33,7 +33,7 @@ part-ground-requires c κs = search needs
 returns : tie.Need-returns
 returns c =
     let a = c .before .before .before .before .before .before .args in
-    λ counts q. part-some (a .plan .now) counts (a .parts .now) (a .m) 0 1 (has-numbers (a .plan .now) (c .before .before .before .before .before .before .pre .0)) (c .before .before .before .number-of .ensures .0) (c .before .rows-fit .ensures ∙ entries-need (codeOf (a .plan .now) 0) (a .r) (bytes counts 0) (c .before .before .at-u64 .result) (c .before .before .before .before .before .before .pre .0) (c .before .before .before .before .before .before .pre .1) ∙ holds-by (a .plan .now) counts (a .parts .now) 0 1 refl (sym q) refl (c .before .before .before .number-of .ensures .0) (c .before .before .at-u64 .ensures)) (c .part-ground .ensures)
+    λ counters q. part-some (a .plan .now) counters (a .parts .now) (a .m) 0 1 (has-numbers (a .plan .now) (c .before .before .before .before .before .before .pre .0)) (c .before .before .before .number-of .ensures .0) (c .before .rows-fit .ensures ∙ entries-need (codeOf (a .plan .now) 0) (a .r) (bytes counters 0) (c .before .before .at-u64 .result) (c .before .before .before .before .before .before .pre .0) (c .before .before .before .before .before .before .pre .1) ∙ holds-by (a .plan .now) counters (a .parts .now) 0 1 refl (sym q) refl (c .before .before .before .number-of .ensures .0) (c .before .before .at-u64 .ensures)) (c .part-ground .ensures)
 
 pub entries-ground-spec : {M : Type 1} → statement M
 entries-ground-spec = tie.close (tie.spec number-of-requires mul-at-u64 add-at-u64 at-u64-requires cast-rows-fit rows-fit-requires part-ground-requires returns)

@@ -13,12 +13,12 @@ bits-ground-requires c κs = one-node (c .before .before .before .args .plan .no
 returns : tie.Need-returns
 returns c =
     let a = c .before .before .before .before .before .args in
-    λ counts q. numbers-ground (a .plan .now) counts (a .parts .now) (a .m) (one-node (a .plan .now) (c .before .before .before .before .before .pre .0)) (c .before .bits-ground .ensures counts q) (c .before .before .entries-ground .ensures counts q) (worse-lt (c .before .bits-ground .result) (c .before .before .entries-ground .result) (c .if1 .taken))
+    λ counters q. numbers-ground (a .plan .now) counters (a .parts .now) (a .m) (one-node (a .plan .now) (c .before .before .before .before .before .pre .0)) (c .before .bits-ground .ensures counters q) (c .before .before .entries-ground .ensures counters q) (worse-lt (c .before .bits-ground .result) (c .before .before .entries-ground .result) (c .if1 .taken))
 
 returns-2 : tie.Need-returns-2
 returns-2 c =
     let a = c .before .before .before .before .before .args in
-    λ counts q. numbers-ground (a .plan .now) counts (a .parts .now) (a .m) (one-node (a .plan .now) (c .before .before .before .before .before .pre .0)) (c .before .bits-ground .ensures counts q) (c .before .before .entries-ground .ensures counts q) (worse-ge (c .before .bits-ground .result) (c .before .before .entries-ground .result) (c .if1 .left))
+    λ counters q. numbers-ground (a .plan .now) counters (a .parts .now) (a .m) (one-node (a .plan .now) (c .before .before .before .before .before .pre .0)) (c .before .bits-ground .ensures counters q) (c .before .before .entries-ground .ensures counters q) (worse-ge (c .before .bits-ground .result) (c .before .before .entries-ground .result) (c .if1 .left))
 
 pub room-ground-spec : {M : Type 1} → statement M
 room-ground-spec = tie.close (tie.spec entries-ground-requires bits-ground-requires returns returns-2)

@@ -8,13 +8,13 @@ use Rattle.transform.proofs.tried_counters.keep.Statement.{statement}
 use Rattle.transform.proofs.tried_counters.keep.Tie as tie
 
 abbrev Inv-loop : tie.InvT-loop
-Inv-loop counters₀ counts n i₀ counters i = (i ≤ 3 * n) × Copied counts counters n i
+Inv-loop counters₀ tally n i₀ counters i = (i ≤ 3 * n) × Copied tally counters n i
 
 abbrev μ-loop : tie.MeasureT-loop
-μ-loop counters₀ counts n i₀ counters i = 3 * n - i
+μ-loop counters₀ tally n i₀ counters i = 3 * n - i
 
 loop-holds : tie.Need-loop-holds Inv-loop μ-loop
-loop-holds c = (omega arith, (written-none (c .args .counts .now) (c .args .counters .now) (c .pre .0), c .pre .3))
+loop-holds c = (omega arith, (written-none (c .args .tally .now) (c .args .counters .now) (c .pre .0), c .pre .3))
 
 mul-loop : tie.Need-mul-loop Inv-loop μ-loop
 mul-loop c = omega arith
@@ -41,7 +41,7 @@ loop-again : tie.Need-loop-again Inv-loop μ-loop
 loop-again c =
     let l = c .before .before .loop in
     let a = c .before .before .before .args in
-    (omega arith, copied-more (a .counts .now) (l .counters) (a .n) (l .i) _ (omega arith) (omega arith) (l .inv .1) refl)
+    (omega arith, copied-more (a .tally .now) (l .counters) (a .n) (l .i) _ (omega arith) (omega arith) (l .inv .1) refl)
 
 same-length : tie.Need-same-length Inv-loop μ-loop
 same-length c = omega (arith, c .before .loop .inv .1 .0 .0)
@@ -50,7 +50,7 @@ returns : tie.Need-returns Inv-loop μ-loop
 returns c =
     let l = c .before .loop in
     let a = c .before .before .args in
-    copied-all (a .counts .now) (l .counters) (a .n) (l .i) (omega arith) (omega arith) (l .inv .1)
+    copied-all (a .tally .now) (l .counters) (a .n) (l .i) (omega arith) (omega arith) (l .inv .1)
 
 pub keep-spec : {M : Type 1} → statement M
 keep-spec =

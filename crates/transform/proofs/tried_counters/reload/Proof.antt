@@ -8,28 +8,28 @@ use Rattle.transform.proofs.tried_counters.reload.Statement.{statement}
 use Rattle.transform.proofs.tried_counters.reload.Tie as tie
 
 abbrev Inv-loop : tie.InvT-loop
-Inv-loop counts₀ counters n i₀ counts i = (i ≤ 3 * n) × Copied counters counts n i
+Inv-loop tally₀ counters n i₀ tally i = (i ≤ 3 * n) × Copied counters tally n i
 
 abbrev μ-loop : tie.MeasureT-loop
-μ-loop counts₀ counters n i₀ counts i = 3 * n - i
+μ-loop tally₀ counters n i₀ tally i = 3 * n - i
 
 loop-holds : tie.Need-loop-holds Inv-loop μ-loop
-loop-holds c = (omega arith, (written-none (c .args .counters .now) (c .args .counts .now) (c .pre .0), c .pre .3))
+loop-holds c = (omega arith, (written-none (c .args .counters .now) (c .args .tally .now) (c .pre .0), c .pre .3))
 
 mul-loop : tie.Need-mul-loop Inv-loop μ-loop
 mul-loop c = omega arith
 
-mul-counts : tie.Need-mul-counts Inv-loop μ-loop
-mul-counts c = omega arith
+mul-tally : tie.Need-mul-tally Inv-loop μ-loop
+mul-tally c = omega arith
 
-shared-slice-read-counts : tie.Need-shared-slice-read-counts Inv-loop μ-loop
-shared-slice-read-counts c = omega arith
+shared-slice-read-tally : tie.Need-shared-slice-read-tally Inv-loop μ-loop
+shared-slice-read-tally c = omega arith
 
-mul-counts-2 : tie.Need-mul-counts-2 Inv-loop μ-loop
-mul-counts-2 c = omega arith
+mul-tally-2 : tie.Need-mul-tally-2 Inv-loop μ-loop
+mul-tally-2 c = omega arith
 
-element-write-counts : tie.Need-element-write-counts Inv-loop μ-loop
-element-write-counts c = omega arith
+element-write-tally : tie.Need-element-write-tally Inv-loop μ-loop
+element-write-tally c = omega arith
 
 add-i : tie.Need-add-i Inv-loop μ-loop
 add-i c = omega arith
@@ -41,13 +41,13 @@ loop-again : tie.Need-loop-again Inv-loop μ-loop
 loop-again c =
     let l = c .before .before .loop in
     let a = c .before .before .before .args in
-    (omega arith, copied-more (a .counters .now) (l .counts) (a .n) (l .i) _ (omega arith) (omega arith) (l .inv .1) refl)
+    (omega arith, copied-more (a .counters .now) (l .counters) (a .n) (l .i) _ (omega arith) (omega arith) (l .inv .1) refl)
 
 returns : tie.Need-returns Inv-loop μ-loop
 returns c =
     let l = c .before .loop in
     let a = c .before .before .args in
-    copied-all (a .counters .now) (l .counts) (a .n) (l .i) (omega arith) (omega arith) (l .inv .1)
+    copied-all (a .counters .now) (l .counters) (a .n) (l .i) (omega arith) (omega arith) (l .inv .1)
 
 pub reload-spec : {M : Type 1} → statement M
 reload-spec =
@@ -57,10 +57,10 @@ reload-spec =
     μ-loop
     loop-holds
     mul-loop
-    mul-counts
-    shared-slice-read-counts
-    mul-counts-2
-    element-write-counts
+    mul-tally
+    shared-slice-read-tally
+    mul-tally-2
+    element-write-tally
     add-i
     loop-less
     loop-again

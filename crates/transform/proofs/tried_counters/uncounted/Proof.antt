@@ -7,10 +7,10 @@ use Rattle.transform.proofs.tried_counters.uncounted.Statement.{stateme
 use Rattle.transform.proofs.tried_counters.uncounted.Tie as tie
 
 abbrev Inv-loop : tie.InvT-loop
-Inv-loop counters n counts₀ i₀ counts i = (i ≤ n) × Full counters counts n i
+Inv-loop counters n tally₀ i₀ tally i = (i ≤ n) × Full counters tally n i
 
 abbrev μ-loop : tie.MeasureT-loop
-μ-loop counters n counts₀ i₀ counts i = n - i
+μ-loop counters n tally₀ i₀ tally i = n - i
 
 load-requires : tie.Need-load-requires Inv-loop μ-loop
 load-requires c κs = search needs
@@ -18,17 +18,17 @@ load-requires c κs = search needs
 loop-holds : tie.Need-loop-holds Inv-loop μ-loop
 loop-holds c = (omega arith, full-none (c .before .before .args .counters .now) _ (c .before .before .args .n) (c .load .ensures))
 
-mul-counts : tie.Need-mul-counts Inv-loop μ-loop
-mul-counts c = omega arith
+mul-tally : tie.Need-mul-tally Inv-loop μ-loop
+mul-tally c = omega arith
 
-add-counts : tie.Need-add-counts Inv-loop μ-loop
-add-counts c = omega arith
+add-tally : tie.Need-add-tally Inv-loop μ-loop
+add-tally c = omega arith
 
-mul-counts-2 : tie.Need-mul-counts-2 Inv-loop μ-loop
-mul-counts-2 c = omega arith
+mul-tally-2 : tie.Need-mul-tally-2 Inv-loop μ-loop
+mul-tally-2 c = omega arith
 
-array-write-counts : tie.Need-array-write-counts Inv-loop μ-loop
-array-write-counts c = omega (arith, c .before .loop .inv .1 .0 .0 .size)
+array-write-tally : tie.Need-array-write-tally Inv-loop μ-loop
+array-write-tally c = omega (arith, c .before .loop .inv .1 .0 .0 .size)
 
 add-i : tie.Need-add-i Inv-loop μ-loop
 add-i c = omega arith
@@ -40,7 +40,7 @@ loop-again : tie.Need-loop-again Inv-loop μ-loop
 loop-again c =
     let l = c .before .loop in
     let a = c .before .before .before .before .args in
-    (omega arith, full-more (a .counters .now) (l .counts) (a .n) (l .i) (omega arith) (omega arith) (l .inv .1))
+    (omega arith, full-more (a .counters .now) (l .counters) (a .n) (l .i) (omega arith) (omega arith) (l .inv .1))
 
 returns : tie.Need-returns Inv-loop μ-loop
 returns c =
@@ -48,4 +48,4 @@ returns c =
     (l .inv .1 .0 .0, l .inv .1 .1)
 
 pub uncounted-spec : {M : Type 1} → statement M
-uncounted-spec = tie.close (tie.spec Inv-loop μ-loop load-requires loop-holds mul-counts add-counts mul-counts-2 array-write-counts add-i loop-less loop-again returns)
+uncounted-spec = tie.close (tie.spec Inv-loop μ-loop load-requires loop-holds mul-tally add-tally mul-tally-2 array-write-tally add-i loop-less loop-again returns)

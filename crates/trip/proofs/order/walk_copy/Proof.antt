@@ -17,7 +17,7 @@ returns : tie.Need-returns
 returns c =
     let z = c .before .before .before .before .before .before .before .before .before .args in
     let x = lent (z .plan .now) (z .parts .now) (z .sources .now) (z .lengths .now) (z .places .now) (z .body .now) in
-    walk-no-source x (z .counts .now) (z .source) (z .start) (z .end) (c .before .at-u64 .ensures) (c .if1 .taken)
+    walk-no-source x (z .counters .now) (z .source) (z .start) (z .end) (c .before .at-u64 .ensures) (c .if1 .taken)
 
 mul-at-u32 : tie.Need-mul-at-u32
 mul-at-u32 c = search needs
@@ -35,7 +35,7 @@ returns-2 : tie.Need-returns-2
 returns-2 c =
     let z = c .before .before .before .before .before .before .before .before .before .before .before .before .args in
     let x = lent (z .plan .now) (z .parts .now) (z .sources .now) (z .lengths .now) (z .places .now) (z .body .now) in
-    walk-no-rows x (z .counts .now) (z .source) (z .start) (z .end) (c .before .before .before .before .at-u64 .ensures) (c .before .before .before .if1 .left) (c .before .before .at-u32 .ensures) (no (c .before .in-source .ensures) (c .if2 .taken))
+    walk-no-rows x (z .counters .now) (z .source) (z .start) (z .end) (c .before .before .before .before .at-u64 .ensures) (c .before .before .before .if1 .left) (c .before .before .at-u32 .ensures) (no (c .before .in-source .ensures) (c .if2 .taken))
 
 sub-extend : tie.Need-sub-extend
 sub-extend c =
@@ -53,7 +53,7 @@ returns-3 : tie.Need-returns-3
 returns-3 c =
     let z = c .before .before .before .before .before .before .before .before .before .before .before .before .before .before .before .before .before .args in
     let x = lent (z .plan .now) (z .parts .now) (z .sources .now) (z .lengths .now) (z .places .now) (z .body .now) in
-    walk-copied x (z .counts .now) (z .source) (z .start) (z .end) (c .before .before .before .before .before .before .before .before .before .at-u64 .ensures) (c .before .before .before .before .before .before .before .before .if1 .left) (c .before .before .before .before .before .before .before .at-u32 .ensures) (yes (c .before .before .before .before .before .before .in-source .ensures) (c .before .before .before .before .before .if2 .left)) (c .before .before .extend .ensures)
+    walk-copied x (z .counters .now) (z .source) (z .start) (z .end) (c .before .before .before .before .before .before .before .before .before .at-u64 .ensures) (c .before .before .before .before .before .before .before .before .if1 .left) (c .before .before .before .before .before .before .before .at-u32 .ensures) (yes (c .before .before .before .before .before .before .in-source .ensures) (c .before .before .before .before .before .if2 .left)) (c .before .before .extend .ensures)
 
 pub walk-copy-spec : {M : Type 1} → statement M
 walk-copy-spec = tie.close (tie.spec at-u64-requires returns mul-at-u32 at-u32-requires cast-first in-source-requires returns-2 sub-extend extend-requires same-length returns-3)

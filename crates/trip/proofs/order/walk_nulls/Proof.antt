@@ -11,7 +11,7 @@ keeps-of-requires c κs = search needs
 returns : tie.Need-returns
 returns c =
     let z = c .before .before .before .before .before .args in
-    λ sources lengths places body. walk-no-nulls (lent (z .plan .now) (z .parts .now) sources lengths places body) (z .counts .now) (z .n) (c .before .keeps-of .ensures) (c .if1 .taken)
+    λ sources lengths places body. walk-no-nulls (lent (z .plan .now) (z .parts .now) sources lengths places body) (z .counters .now) (z .n) (c .before .keeps-of .ensures) (c .if1 .taken)
 
 at-most-far-requires : tie.Need-at-most-far-requires
 at-most-far-requires c κs = search needs
@@ -25,7 +25,7 @@ same-length c = search needs
 returns-2 : tie.Need-returns-2
 returns-2 c =
     let z = c .before .before .before .before .before .before .before .before .before .before .before .args in
-    λ sources lengths places body. walk-nulled (lent (z .plan .now) (z .parts .now) sources lengths places body) (z .counts .now) (z .n) (c .before .before .before .before .before .before .before .keeps-of .ensures) (c .before .before .before .before .before .before .if1 .left) (c .before .before .before .before .before .at-most-far .ensures) (c .before .before .extend-nulls .ensures)
+    λ sources lengths places body. walk-nulled (lent (z .plan .now) (z .parts .now) sources lengths places body) (z .counters .now) (z .n) (c .before .before .before .before .before .before .before .keeps-of .ensures) (c .before .before .before .before .before .before .if1 .left) (c .before .before .before .before .before .at-most-far .ensures) (c .before .before .extend-nulls .ensures)
 
 pub walk-nulls-spec : {M : Type 1} → statement M
 walk-nulls-spec = tie.close (tie.spec keeps-of-requires returns at-most-far-requires extend-nulls-requires same-length returns-2)

@@ -15,7 +15,7 @@ returns : tie.Need-returns
 returns c =
     let z = c .before .before .before .before .before .before .before .before .before .before .before .before .before .args in
     let x = lent (z .plan .now) (z .parts .now) (z .sources .now) (z .lengths .now) (z .places .now) (z .body .now) in
-    call-nulls x (z .counts .now) (z .kind) (z .a) (z .b) (z .c) (c .before .before .before .before .before .if1 .taken) (c .before .before .walk-nulls .ensures (z .sources .now) (z .lengths .now) (z .places .now) (z .body .now))
+    call-nulls x (z .counters .now) (z .kind) (z .a) (z .b) (z .c) (c .before .before .before .before .before .if1 .taken) (c .before .before .walk-nulls .ensures (z .sources .now) (z .lengths .now) (z .places .now) (z .body .now))
 
 source-of-requires : tie.Need-source-of-requires
 source-of-requires c κs = search needs
@@ -30,7 +30,7 @@ returns-2 : tie.Need-returns-2
 returns-2 c =
     let z = c .before .before .before .before .before .before .before .before .before .before .before .before .before .before .args in
     let x = lent (z .plan .now) (z .parts .now) (z .sources .now) (z .lengths .now) (z .places .now) (z .body .now) in
-    call-copy x (z .counts .now) (z .kind) (z .a) (z .b) (z .c) (c .before .before .before .before .before .before .if1 .left) (c .before .before .before .source-of .ensures) (c .before .before .walk-copy .ensures)
+    call-copy x (z .counters .now) (z .kind) (z .a) (z .b) (z .c) (c .before .before .before .before .before .before .if1 .left) (c .before .before .before .source-of .ensures) (c .before .before .walk-copy .ensures)
 
 pub walk-order-spec : {M : Type 1} → statement M
 walk-order-spec = tie.close (tie.spec walk-nulls-requires same-length returns source-of-requires walk-copy-requires same-length-2 returns-2)

@@ -18,17 +18,17 @@ element-copy-out-grow c = search needs
 grow-requires : tie.Need-grow-requires
 grow-requires c κs = search needs
 
-mul-counts : tie.Need-mul-counts
-mul-counts c = search needs
+mul-counters : tie.Need-mul-counters
+mul-counters c = search needs
 
-add-counts : tie.Need-add-counts
-add-counts c = search needs
+add-counters : tie.Need-add-counters
+add-counters c = search needs
 
-mul-counts-2 : tie.Need-mul-counts-2
-mul-counts-2 c = search needs
+mul-counters-2 : tie.Need-mul-counters-2
+mul-counters-2 c = search needs
 
-element-write-counts : tie.Need-element-write-counts
-element-write-counts c = search needs
+element-write-counters : tie.Need-element-write-counters
+element-write-counters c = search needs
 
 returns : tie.Need-returns
 returns c = rw (c .grow .ensures)
@@ -42,8 +42,8 @@ add-nulls-spec =
     mul-grow-2
     element-copy-out-grow
     grow-requires
-    mul-counts
-    add-counts
-    mul-counts-2
-    element-write-counts
+    mul-counters
+    add-counters
+    mul-counters-2
+    element-write-counters
     returns)

@@ -15,14 +15,14 @@ element-copy-out-grow c = search needs
 grow-requires : tie.Need-grow-requires
 grow-requires c κs = search needs
 
-mul-counts : tie.Need-mul-counts
-mul-counts c = search needs
+mul-counters : tie.Need-mul-counters
+mul-counters c = search needs
 
-mul-counts-2 : tie.Need-mul-counts-2
-mul-counts-2 c = search needs
+mul-counters-2 : tie.Need-mul-counters-2
+mul-counters-2 c = search needs
 
-element-write-counts : tie.Need-element-write-counts
-element-write-counts c = search needs
+element-write-counters : tie.Need-element-write-counters
+element-write-counters c = search needs
 
 returns : tie.Need-returns
 returns c = rw (c .grow .ensures)
@@ -35,7 +35,7 @@ add-rows-spec =
     mul-grow-2
     element-copy-out-grow
     grow-requires
-    mul-counts
-    mul-counts-2
-    element-write-counts
+    mul-counters
+    mul-counters-2
+    element-write-counters
     returns)

@@ -8,7 +8,7 @@ use Rattle.walk.proofs.plan_words.mask_target.Tie as tie
 returns : tie.Need-returns
 returns c =
     let a = c .before .before .before .args in
-    mask-skip-tries (a .state .now) (a .parts .now) (a .m) (a .write) (a .i) (a .p) (a .n) (c .if1 .taken)
+    mask-skip-tries (a .plan .now) (a .parts .now) (a .m) (a .write) (a .i) (a .p) (a .n) (c .if1 .taken)
 
 start-of-requires : tie.Need-start-of-requires
 start-of-requires c κs = search needs
@@ -19,13 +19,13 @@ bits-fit-behind-requires c κs = search needs
 returns-2 : tie.Need-returns-2
 returns-2 c =
     let a = c .before .before .before .before .before .before .args in
-    mask-skip-room (a .state .now) (a .parts .now) (a .m) (a .write) (a .i) (a .p) (a .n) (c .before .before .start-of .ensures)
+    mask-skip-room (a .plan .now) (a .parts .now) (a .m) (a .write) (a .i) (a .p) (a .n) (c .before .before .start-of .ensures)
     (room-no _ (a .p) (a .n) (8 * a .m) (c .before .bits-fit-behind .ensures) (c .if2 .taken))
 
 returns-3 : tie.Need-returns-3
 returns-3 c =
     let a = c .before .before .before .before .before .before .args in
-    mask-goes (a .state .now) (a .parts .now) (a .m) (a .write) (a .i) (a .p) (a .n) (c .before .before .start-of .ensures) (c .before .before .before .if1 .left)
+    mask-goes (a .plan .now) (a .parts .now) (a .m) (a .write) (a .i) (a .p) (a .n) (c .before .before .start-of .ensures) (c .before .before .before .if1 .left)
     (room-yes _ (a .p) (a .n) (8 * a .m) (c .before .bits-fit-behind .ensures) (c .if2 .left))
 
 pub mask-target-spec : {M : Type 1} → statement M

@@ -8,7 +8,7 @@ use Rattle.walk.proofs.plan_words.target.Tie as tie
 returns : tie.Need-returns
 returns c =
     let a = c .before .before .before .args in
-    skip-tries (a .state .now) (a .parts .now) (a .m) (a .write) (a .i) (a .b) (a .o) (a .n) (c .if1 .taken)
+    skip-tries (a .plan .now) (a .parts .now) (a .m) (a .write) (a .i) (a .b) (a .o) (a .n) (c .if1 .taken)
 
 start-of-requires : tie.Need-start-of-requires
 start-of-requires c κs = search needs
@@ -19,7 +19,7 @@ fits-behind-requires c κs = search needs
 returns-2 : tie.Need-returns-2
 returns-2 c =
     let a = c .before .before .before .before .before .before .args in
-    skip-room (a .state .now) (a .parts .now) (a .m) (a .write) (a .i) (a .b) (a .o) (a .n) (c .before .before .start-of .ensures)
+    skip-room (a .plan .now) (a .parts .now) (a .m) (a .write) (a .i) (a .b) (a .o) (a .n) (c .before .before .start-of .ensures)
     (room-no _ (a .o) (a .n) (a .m) (c .before .fits-behind .ensures) (c .if2 .taken))
 
 add-at : tie.Need-add-at
@@ -30,7 +30,7 @@ add-at c =
 returns-3 : tie.Need-returns-3
 returns-3 c =
     let a = c .before .before .before .before .before .before .args in
-    goes (a .state .now) (a .parts .now) (a .m) (a .write) (a .i) (a .b) (a .o) (a .n) (c .before .before .start-of .ensures) (c .before .before .before .if1 .left)
+    goes (a .plan .now) (a .parts .now) (a .m) (a .write) (a .i) (a .b) (a .o) (a .n) (c .before .before .start-of .ensures) (c .before .before .before .if1 .left)
     (room-yes _ (a .o) (a .n) (a .m) (c .before .fits-behind .ensures) (c .if2 .left))
 
 pub target-spec : {M : Type 1} → statement M

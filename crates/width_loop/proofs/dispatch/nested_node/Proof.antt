@@ -47,7 +47,7 @@ returns-2 : tie.Need-returns-2
 returns-2 c =
     let a = c .before .before .before .before .before .before .before .before .before .before .before .before .before .before .before .before .before .before .args in
     let z = c .before .before .before .before .before .before .before .before .before .before .before .before .before .before .before .before .before .before .pre .0 in
-    ((λ buffers. c .before .before .union-node .ensures .0 buffers (a .counts .now) (a .target)), λ buffers q. c .before .before .union-node .ensures .1 buffers (a .target))
+    ((λ buffers. c .before .before .union-node .ensures .0 buffers (a .counters .now) (a .target)), λ buffers q. c .before .before .union-node .ensures .1 buffers (a .target))
 
 is-list-requires : tie.Need-is-list-requires
 is-list-requires c κs = search needs
@@ -65,7 +65,7 @@ returns-3 : tie.Need-returns-3
 returns-3 c =
     let a = c .before .before .before .before .before .before .before .before .before .before .before .before .before .before .before .before .before .before .before .before .args in
     let z = c .before .before .before .before .before .before .before .before .before .before .before .before .before .before .before .before .before .before .before .before .pre .0 in
-    ((λ buffers. c .before .before .list-node .ensures .0 buffers (a .counts .now) (a .count)), λ buffers q. c .before .before .list-node .ensures .1 buffers (a .count) q)
+    ((λ buffers. c .before .before .list-node .ensures .0 buffers (a .counters .now) (a .count)), λ buffers q. c .before .before .list-node .ensures .1 buffers (a .count) q)
 
 list-view-node-requires : tie.Need-list-view-node-requires
 list-view-node-requires c κs =
@@ -80,7 +80,7 @@ returns-4 : tie.Need-returns-4
 returns-4 c =
     let a = c .before .before .before .before .before .before .before .before .before .before .before .before .before .before .before .before .before .before .before .before .args in
     let z = c .before .before .before .before .before .before .before .before .before .before .before .before .before .before .before .before .before .before .before .before .pre .0 in
-    ((λ buffers. c .before .before .list-view-node .ensures .0 buffers (a .counts .now) (a .count)), λ buffers q. c .before .before .list-view-node .ensures .1 buffers (a .count) q)
+    ((λ buffers. c .before .before .list-view-node .ensures .0 buffers (a .counters .now) (a .count)), λ buffers q. c .before .before .list-view-node .ensures .1 buffers (a .count) q)
 
 pub nested-node-spec : {M : Type 1} → statement M
 nested-node-spec = tie.close (tie.spec code-of-requires is-run-end-requires run-node-requires same-length returns is-union-requires union-node-requires same-length-2 returns-2 is-list-requires list-node-requires same-length-3 returns-3 list-view-node-requires same-length-4 returns-4)

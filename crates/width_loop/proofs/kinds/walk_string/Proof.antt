@@ -32,7 +32,7 @@ returns : tie.Need-returns
 returns c =
     let a = c .before .before .before .before .before .before .before .before .before .before .before .before .args in
     let x = column [] (a .places .now) [] (a .body .now) (a .first) in
-    λ t t2 okay. string-no (a .plan .now) (a .parts .now) (a .write) (a .room .now) x (a .i) (a .w) (a .w2) (a .s) (a .n) (a .counts .now) t t2 okay (offsets-as (a .plan .now) (a .parts .now) (a .write) (a .room .now) x (a .i) (a .w) (a .w2) (a .s) (a .n) (a .counts .now) (c .before .before .before .before .before .before .place-at .ensures) (c .before .before .before .before .before .place-at2 .ensures) (c .before .before .before .put-offsets .ensures (a .counts .now))) (c .if1 .taken)
+    λ t t2 okay. string-no (a .plan .now) (a .parts .now) (a .write) (a .room .now) x (a .i) (a .w) (a .w2) (a .s) (a .n) (a .counters .now) t t2 okay (offsets-as (a .plan .now) (a .parts .now) (a .write) (a .room .now) x (a .i) (a .w) (a .w2) (a .s) (a .n) (a .counters .now) (c .before .before .before .before .before .before .place-at .ensures) (c .before .before .before .before .before .place-at2 .ensures) (c .before .before .before .put-offsets .ensures (a .counters .now))) (c .if1 .taken)
 
 offset-at-requires : tie.Need-offset-at-requires
 offset-at-requires c κs =
@@ -73,7 +73,7 @@ returns-2 c =
     let a = c .before .before .before .before .before .before .before .before .before .before .before .before .before .before .before .before .before .before .before .args in
     let p = c .before .before .before .before .before .before .before .before .before .before .before .before .before .before .before .before .before .before .before .pre in
     let x = column [] (a .places .now) [] (a .body .now) (a .first) in
-    λ t t2 okay. string-yes (a .plan .now) (a .parts .now) (a .write) (a .room .now) x (a .i) (a .w) (a .w2) (a .s) (a .n) (a .counts .now) t t2 okay (p .1 .1) (p .0 .3) (offsets-as (a .plan .now) (a .parts .now) (a .write) (a .room .now) x (a .i) (a .w) (a .w2) (a .s) (a .n) (a .counts .now) (c .before .before .before .before .before .before .before .before .before .before .before .before .before .place-at .ensures) (c .before .before .before .before .before .before .before .before .before .before .before .before .place-at2 .ensures) (c .before .before .before .before .before .before .before .before .before .before .put-offsets .ensures (a .counts .now))) (c .before .before .before .before .before .before .before .if1 .left) (item-as (a .plan .now) (a .parts .now) (a .write) (a .room .now) x (a .i) (a .w) (a .w2) (a .s) (a .n) (a .counts .now) (a .s) (c .before .before .before .before .before .before .before .before .before .before .before .before .before .place-at .ensures) (c .before .before .before .before .before .before .before .before .before .before .before .before .place-at2 .ensures) (c .before .before .before .before .before .before .offset-at .ensures)) (item-as (a .plan .now) (a .parts .now) (a .write) (a .room .now) x (a .i) (a .w) (a .w2) (a .s) (a .n) (a .counts .now) (a .s + a .n) (c .before .before .before .before .before .before .before .before .before .before .before .before .before .place-at .ensures) (c .before .before .before .before .before .before .before .before .before .before .before .before .place-at2 .ensures) (c .before .before .before .before .before .offset-at2 .ensures)) refl (c .before .before .put-chars .ensures .0) (c .before .before .put-chars .ensures .1)
+    λ t t2 okay. string-yes (a .plan .now) (a .parts .now) (a .write) (a .room .now) x (a .i) (a .w) (a .w2) (a .s) (a .n) (a .counters .now) t t2 okay (p .1 .1) (p .0 .3) (offsets-as (a .plan .now) (a .parts .now) (a .write) (a .room .now) x (a .i) (a .w) (a .w2) (a .s) (a .n) (a .counters .now) (c .before .before .before .before .before .before .before .before .before .before .before .before .before .place-at .ensures) (c .before .before .before .before .before .before .before .before .before .before .before .before .place-at2 .ensures) (c .before .before .before .before .before .before .before .before .before .before .put-offsets .ensures (a .counters .now))) (c .before .before .before .before .before .before .before .if1 .left) (item-as (a .plan .now) (a .parts .now) (a .write) (a .room .now) x (a .i) (a .w) (a .w2) (a .s) (a .n) (a .counters .now) (a .s) (c .before .before .before .before .before .before .before .before .before .before .before .before .before .place-at .ensures) (c .before .before .before .before .before .before .before .before .before .before .before .before .place-at2 .ensures) (c .before .before .before .before .before .before .offset-at .ensures)) (item-as (a .plan .now) (a .parts .now) (a .write) (a .room .now) x (a .i) (a .w) (a .w2) (a .s) (a .n) (a .counters .now) (a .s + a .n) (c .before .before .before .before .before .before .before .before .before .before .before .before .before .place-at .ensures) (c .before .before .before .before .before .before .before .before .before .before .before .before .place-at2 .ensures) (c .before .before .before .before .before .offset-at2 .ensures)) refl (c .before .before .put-chars .ensures .0) (c .before .before .put-chars .ensures .1)
 
 pub walk-string-spec : {M : Type 1} → statement M
 walk-string-spec = tie.close (tie.spec place-at-requires place-at-requires-2 put-offsets-requires same-length returns offset-at-requires add-offset-at offset-at-requires-2 sub-span put-chars-requires same-length-2 returns-2)

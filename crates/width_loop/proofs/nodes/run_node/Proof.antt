@@ -69,7 +69,7 @@ returns c =
     let k = c .before .before .before .before .before .before .before .before .before .before .before .before .before .before .before .before .pre .0 .0 in
     let z = c .before .before .before .before .before .before .before .before .before .before .before .before .before .before .before .before .pre .0 .1 in
     let q = run-kinds (a .formats .now) (a .schema .now) (a .lengths .now) (a .places .now) (a .body .now) (a .first) k (a .target) (z .accepted) (a .i) (z .is-node) (c .before .before .before .before .before .before .before .before .before .before .before .before .before .before .before .before .pre .1) in
-    ((λ buffers count. by-kinds (a .formats .now) (a .schema .now) (a .lengths .now) (a .places .now) buffers (a .body .now) (a .plan .now) (a .first) count (a .target) (a .i) (a .s) (a .n) (a .parts .now) (a .write) (a .room .now) (a .counts .now) (q .0 ∙ ap runEndNode (sym (c .before .before .before .before .before .before .before .width-at .ensures ∙ ap (λ j. widthOf (codeOf (a .formats .now) (a .schema .now) (a .first) j)) (add-one (a .i))))) (q .1 ∙ ap runEndNode (sym (c .before .before .before .before .before .before .width-at2 .ensures ∙ ap (λ j. widthOf (codeOf (a .formats .now) (a .schema .now) (a .target) j)) (add-one (a .i))))) (c .before .before .walk-runs .ensures .0 (treeOf (a .formats .now) (a .schema .now) (a .first) count) (treeOf (a .formats .now) (a .schema .now) (a .target) count) (ok (validOf (column (a .lengths .now) (a .places .now) buffers (a .body .now) (a .first)) (a .i))))), λ buffers count y. settled-by (a .formats .now) (a .schema .now) (a .lengths .now) (a .places .now) buffers (a .body .now) (a .plan .now) (a .first) count (a .target) (a .i) (a .s) (a .n) (a .ranges .now) (q .0 ∙ ap runEndNode (sym (c .before .before .before .before .before .before .before .width-at .ensures ∙ ap (λ j. widthOf (codeOf (a .formats .now) (a .schema .now) (a .first) j)) (add-one (a .i))))) (c .before .before .walk-runs .ensures .1 (treeOf (a .formats .now) (a .schema .now) (a .first) count) (treeOf (a .formats .now) (a .schema .now) (a .target) count) y))
+    ((λ buffers count. by-kinds (a .formats .now) (a .schema .now) (a .lengths .now) (a .places .now) buffers (a .body .now) (a .plan .now) (a .first) count (a .target) (a .i) (a .s) (a .n) (a .parts .now) (a .write) (a .room .now) (a .counters .now) (q .0 ∙ ap runEndNode (sym (c .before .before .before .before .before .before .before .width-at .ensures ∙ ap (λ j. widthOf (codeOf (a .formats .now) (a .schema .now) (a .first) j)) (add-one (a .i))))) (q .1 ∙ ap runEndNode (sym (c .before .before .before .before .before .before .width-at2 .ensures ∙ ap (λ j. widthOf (codeOf (a .formats .now) (a .schema .now) (a .target) j)) (add-one (a .i))))) (c .before .before .walk-runs .ensures .0 (treeOf (a .formats .now) (a .schema .now) (a .first) count) (treeOf (a .formats .now) (a .schema .now) (a .target) count) (ok (validOf (column (a .lengths .now) (a .places .now) buffers (a .body .now) (a .first)) (a .i))))), λ buffers count y. settled-by (a .formats .now) (a .schema .now) (a .lengths .now) (a .places .now) buffers (a .body .now) (a .plan .now) (a .first) count (a .target) (a .i) (a .s) (a .n) (a .ranges .now) (q .0 ∙ ap runEndNode (sym (c .before .before .before .before .before .before .before .width-at .ensures ∙ ap (λ j. widthOf (codeOf (a .formats .now) (a .schema .now) (a .first) j)) (add-one (a .i))))) (c .before .before .walk-runs .ensures .1 (treeOf (a .formats .now) (a .schema .now) (a .first) count) (treeOf (a .formats .now) (a .schema .now) (a .target) count) y))
 
 pub run-node-spec : {M : Type 1} → statement M
 run-node-spec = tie.close (tie.spec add-width-at width-at-requires add-width-at-2 width-at-requires-2 walk-runs-requires same-length returns)

@@ -49,7 +49,7 @@ returns c =
     let k = c .before .before .before .before .before .before .before .before .before .before .before .before .before .before .before .pre .0 .0 in
     let z = c .before .before .before .before .before .before .before .before .before .before .before .before .before .before .before .pre .0 .1 in
     let q = string-kinds (a .formats .now) (a .schema .now) (a .lengths .now) (a .places .now) (a .body .now) (a .first) k (a .target) (z .accepted) (a .i) (z .is-node) (c .before .before .before .before .before .before .before .before .before .before .before .before .before .before .before .pre .1) in
-    λ buffers count. by-kinds (a .formats .now) (a .schema .now) (a .lengths .now) (a .places .now) buffers (a .body .now) (a .plan .now) (a .first) count (a .target) (a .i) (a .s) (a .n) (a .parts .now) (a .write) (a .room .now) (a .counts .now) (q .0 ∙ ap stringNode (sym (c .before .before .before .before .before .before .width-at .ensures))) (q .1 ∙ ap stringNode (sym (c .before .before .before .before .before .width-at2 .ensures))) (c .before .before .walk-string .ensures (treeOf (a .formats .now) (a .schema .now) (a .first) count) (treeOf (a .formats .now) (a .schema .now) (a .target) count) (ok (validOf (column (a .lengths .now) (a .places .now) buffers (a .body .now) (a .first)) (a .i))))
+    λ buffers count. by-kinds (a .formats .now) (a .schema .now) (a .lengths .now) (a .places .now) buffers (a .body .now) (a .plan .now) (a .first) count (a .target) (a .i) (a .s) (a .n) (a .parts .now) (a .write) (a .room .now) (a .counters .now) (q .0 ∙ ap stringNode (sym (c .before .before .before .before .before .before .width-at .ensures))) (q .1 ∙ ap stringNode (sym (c .before .before .before .before .before .width-at2 .ensures))) (c .before .before .walk-string .ensures (treeOf (a .formats .now) (a .schema .now) (a .first) count) (treeOf (a .formats .now) (a .schema .now) (a .target) count) (ok (validOf (column (a .lengths .now) (a .places .now) buffers (a .body .now) (a .first)) (a .i))))
 
 pub string-node-spec : {M : Type 1} → statement M
 string-node-spec = tie.close (tie.spec width-at-requires width-at-requires-2 walk-string-requires same-length returns)

@@ -47,7 +47,7 @@ same-length c = search needs
 returns : tie.Need-returns
 returns c =
     let a = c .before .before .before .before .before .before .before .before .before .before .before .before .args in
-    (c .before .before .before .before .before .before .put-ends .ensures ∙ ap (λ z. applyIf (a .plan .now) (a .parts .now) (a .write) (put z 1 0 (lessened (a .w) (a .w2) (a .body .now) (a .ends + a .w * a .a) (a .s) (a .m - 1) ++ encode (a .w2) (a .n)) ∷ []) (a .room .now)) (add-one (a .i)), (c .before .before .add-rows .ensures ∙ ap (λ z. addRows z (a .m) (a .counts .now)) (add-one (a .i)), c .set-range .ensures ∙ ap (λ z. range z (a .a) (a .m) (a .ranges .now)) (add-two (a .i))))
+    (c .before .before .before .before .before .before .put-ends .ensures ∙ ap (λ z. applyIf (a .plan .now) (a .parts .now) (a .write) (put z 1 0 (lessened (a .w) (a .w2) (a .body .now) (a .ends + a .w * a .a) (a .s) (a .m - 1) ++ encode (a .w2) (a .n)) ∷ []) (a .room .now)) (add-one (a .i)), (c .before .before .add-rows .ensures ∙ ap (λ z. addRows z (a .m) (a .counters .now)) (add-one (a .i)), c .set-range .ensures ∙ ap (λ z. range z (a .a) (a .m) (a .ranges .now)) (add-two (a .i))))
 
 pub put-range-spec : {M : Type 1} → statement M
 put-range-spec = tie.close (tie.spec mul-from add-from add-put-ends put-ends-requires add-add-rows add-rows-requires add-set-range set-range-requires same-length returns)

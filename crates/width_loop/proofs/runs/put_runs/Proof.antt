@@ -68,7 +68,7 @@ returns c =
     let a = c .before .before .before .before .before .before .before .before .before .before .before .before .before .before .before .before .before .before .before .args in
     let p = c .before .before .before .before .before .before .before .before .before .before .before .before .before .before .before .before .before .before .before .pre in
     let q = runs-found (column (a .lengths .now) (a .places .now) [] (a .body .now) (a .first)) (a .i) (a .w) (a .s) (a .n) (p .1 .1) (p .0 .1) (ends-as (column (a .lengths .now) (a .places .now) [] (a .body .now) (a .first)) (a .i) (a .w) (c .before .before .before .before .before .before .before .before .before .before .before .place-at .ensures) (c .before .before .before .before .before .before .before .before .before .before .before .before .offset-at .ensures)) (len-as (column (a .lengths .now) (a .places .now) [] (a .body .now) (a .first)) (a .i) (c .before .before .before .before .before .before .before .before .before .before .length-at .ensures)) (c .before .before .before .before .before .before .before .before .before .runs-of .ensures) (c .before .before .before .before .before .before .before .run .given .1) in
-    (runs-did (column (a .lengths .now) (a .places .now) [] (a .body .now) (a .first)) (a .i) (a .w) (a .s) (a .n) (p .1 .1) (p .0 .1) (λ j. c .before .before .before .before .before .before .before .before .before .before .before .before .before .before .shared-slice-known5 .given j .fits) (narrow (a .w) (p .1 .0 .0)) (a .w2) (a .plan .now) (a .parts .now) (a .write) (a .room .now) (a .counts .now) (ends-as (column (a .lengths .now) (a .places .now) [] (a .body .now) (a .first)) (a .i) (a .w) (c .before .before .before .before .before .before .before .before .before .before .before .place-at .ensures) (c .before .before .before .before .before .before .before .before .before .before .before .before .offset-at .ensures)) (q .0) (q .1) (c .before .before .put-range .ensures .0) (c .before .before .put-range .ensures .1 .0), range-is (column (a .lengths .now) (a .places .now) [] (a .body .now) (a .first)) (a .i) (a .w) (a .s) (a .n) (p .1 .1) (p .0 .1) (a .ranges .now) (q .0) (q .1) (c .before .before .put-range .ensures .1 .1))
+    (runs-did (column (a .lengths .now) (a .places .now) [] (a .body .now) (a .first)) (a .i) (a .w) (a .s) (a .n) (p .1 .1) (p .0 .1) (λ j. c .before .before .before .before .before .before .before .before .before .before .before .before .before .before .shared-slice-known5 .given j .fits) (narrow (a .w) (p .1 .0 .0)) (a .w2) (a .plan .now) (a .parts .now) (a .write) (a .room .now) (a .counters .now) (ends-as (column (a .lengths .now) (a .places .now) [] (a .body .now) (a .first)) (a .i) (a .w) (c .before .before .before .before .before .before .before .before .before .before .before .place-at .ensures) (c .before .before .before .before .before .before .before .before .before .before .before .before .offset-at .ensures)) (q .0) (q .1) (c .before .before .put-range .ensures .0) (c .before .before .put-range .ensures .1 .0), range-is (column (a .lengths .now) (a .places .now) [] (a .body .now) (a .first)) (a .i) (a .w) (a .s) (a .n) (p .1 .1) (p .0 .1) (a .ranges .now) (q .0) (q .1) (c .before .before .put-range .ensures .1 .1))
 
 returns-2 : tie.Need-returns-2
 returns-2 c =

@@ -22,7 +22,7 @@ set-range-requires c κs = search needs
 returns : tie.Need-returns
 returns c =
     let a = c .before .before .before .before .before .before .before .before .before .before .before .args in
-    ((λ t t2 okay. no-runs (a .plan .now) (a .parts .now) (a .write) (a .room .now) (column (a .lengths .now) (a .places .now) [] (a .body .now) (a .first)) (a .i) (a .w) (a .w2) (a .s) (a .counts .now) t t2 okay (c .before .before .before .before .if1 .taken) (c .before .before .add-rows .ensures)), λ t t2 z. no-range (column (a .lengths .now) (a .places .now) [] (a .body .now) (a .first)) (a .i) (a .w) (a .s) (a .ranges .now) (c .before .before .before .before .if1 .taken) (c .set-range .ensures))
+    ((λ t t2 okay. no-runs (a .plan .now) (a .parts .now) (a .write) (a .room .now) (column (a .lengths .now) (a .places .now) [] (a .body .now) (a .first)) (a .i) (a .w) (a .w2) (a .s) (a .counters .now) t t2 okay (c .before .before .before .before .if1 .taken) (c .before .before .add-rows .ensures)), λ t t2 z. no-range (column (a .lengths .now) (a .places .now) [] (a .body .now) (a .first)) (a .i) (a .w) (a .s) (a .ranges .now) (c .before .before .before .before .if1 .taken) (c .set-range .ensures))
 
 sum-fits-requires : tie.Need-sum-fits-requires
 sum-fits-requires c κs = c .before .before .before .before .before .before .before .pre .1 .0 .1
@@ -30,7 +30,7 @@ sum-fits-requires c κs = c .before .before .before .before .before .before .bef
 returns-2 : tie.Need-returns-2
 returns-2 c =
     let a = c .before .before .before .before .before .before .before .before .before .args in
-    ((λ t t2 okay. runs-over (a .plan .now) (a .parts .now) (a .write) (a .room .now) (column (a .lengths .now) (a .places .now) [] (a .body .now) (a .first)) (a .i) (a .w) (a .w2) (a .s) (a .counts .now) t t2 okay (c .before .before .if1 .left) (c .before .sum-fits .ensures) (c .if2 .taken)), λ t t2 z. absurd (omega arith))
+    ((λ t t2 okay. runs-over (a .plan .now) (a .parts .now) (a .write) (a .room .now) (column (a .lengths .now) (a .places .now) [] (a .body .now) (a .first)) (a .i) (a .w) (a .w2) (a .s) (a .counters .now) t t2 okay (c .before .before .if1 .left) (c .before .sum-fits .ensures) (c .if2 .taken)), λ t t2 z. absurd (omega arith))
 
 put-runs-requires : tie.Need-put-runs-requires
 put-runs-requires c κs =
@@ -43,7 +43,7 @@ same-length c = search needs
 returns-3 : tie.Need-returns-3
 returns-3 c =
     let a = c .before .before .before .before .before .before .before .before .before .before .before .before .before .before .before .args in
-    ((λ t t2 okay. runs-yes (a .plan .now) (a .parts .now) (a .write) (a .room .now) (column (a .lengths .now) (a .places .now) [] (a .body .now) (a .first)) (a .i) (a .w) (a .w2) (a .s) (a .counts .now) t t2 okay (c .before .before .before .before .before .before .before .before .if1 .left) (c .before .before .before .before .before .before .before .sum-fits .ensures) (c .before .before .before .before .before .before .if2 .left) (c .before .before .put-runs .ensures .0)), λ t t2 z. c .before .before .put-runs .ensures .1)
+    ((λ t t2 okay. runs-yes (a .plan .now) (a .parts .now) (a .write) (a .room .now) (column (a .lengths .now) (a .places .now) [] (a .body .now) (a .first)) (a .i) (a .w) (a .w2) (a .s) (a .counters .now) t t2 okay (c .before .before .before .before .before .before .before .before .if1 .left) (c .before .before .before .before .before .before .before .sum-fits .ensures) (c .before .before .before .before .before .before .if2 .left) (c .before .before .put-runs .ensures .0)), λ t t2 z. c .before .before .put-runs .ensures .1)
 
 pub walk-runs-spec : {M : Type 1} → statement M
 walk-runs-spec = tie.close (tie.spec add-add-rows add-rows-requires add-set-range set-range-requires returns sum-fits-requires returns-2 put-runs-requires same-length returns-3)

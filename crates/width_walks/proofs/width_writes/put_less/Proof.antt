@@ -23,7 +23,7 @@ enum-known-at c = search needs
 recode-less-requires : tie.Need-recode-less-requires
 recode-less-requires c κs =
     let a = c .before .before .before .before .before .before .before .before .before .before .args in
-    let room = times-within (a .n) (a .w2) (made (a .state .now) (a .parts .now) (length (a .room .now)) (a .write) (a .i) (a .b) 0 (scaled (a .n) (a .w2)) (rw (c .before .before .before .before .before .scale .ensures) at (c .before .before .before .before .target .ensures)) (c .before .before .at .given .1)) (omega arith) in
+    let room = times-within (a .n) (a .w2) (made (a .plan .now) (a .parts .now) (length (a .room .now)) (a .write) (a .i) (a .b) 0 (scaled (a .n) (a .w2)) (rw (c .before .before .before .before .before .scale .ensures) at (c .before .before .before .before .target .ensures)) (c .before .before .at .given .1)) (omega arith) in
     ((room, omega arith), (c .before .before .before .before .before .before .before .before .before .before .pre .1 .0, c .before .before .before .before .before .before .before .before .before .before .pre .1 .1))
 
 enum-told : tie.Need-enum-told
@@ -35,12 +35,12 @@ same-length c = search needs
 returns : tie.Need-returns
 returns c =
     let a = c .before .before .before .before .before .before .before .before .before .before .before .before .before .args in
-    put-at (a .state .now) (a .parts .now) (a .write) (a .i) (a .b) 0 (lessened (a .w) (a .w2) (a .body .now) (a .from) (a .base) (a .n)) (a .room .now) (omega arith) (rw (c .before .before .before .before .before .before .before .before .scale .ensures) at (c .before .before .before .before .before .before .before .target .ensures)) (c .before .before .before .before .before .at .given .1) (alike-sized (a .n) (a .w2) (length-less (a .w) (a .w2) (a .body .now) (a .from) (a .n) (a .base))) (c .before .before .recode-less .ensures)
+    put-at (a .plan .now) (a .parts .now) (a .write) (a .i) (a .b) 0 (lessened (a .w) (a .w2) (a .body .now) (a .from) (a .base) (a .n)) (a .room .now) (omega arith) (rw (c .before .before .before .before .before .before .before .before .scale .ensures) at (c .before .before .before .before .before .before .before .target .ensures)) (c .before .before .before .before .before .at .given .1) (alike-sized (a .n) (a .w2) (length-less (a .w) (a .w2) (a .body .now) (a .from) (a .n) (a .base))) (c .before .before .recode-less .ensures)
 
 returns-2 : tie.Need-returns-2
 returns-2 c =
     let a = c .before .before .before .before .before .before .before .before .args in
-    put-skip (a .state .now) (a .parts .now) (a .write) (a .i) (a .b) 0 (lessened (a .w) (a .w2) (a .body .now) (a .from) (a .base) (a .n)) (a .room .now) (omega arith) (rw (c .before .before .before .scale .ensures) at (c .before .before .target .ensures)) (c .enum-told .given .1) (alike-sized (a .n) (a .w2) (length-less (a .w) (a .w2) (a .body .now) (a .from) (a .n) (a .base)))
+    put-skip (a .plan .now) (a .parts .now) (a .write) (a .i) (a .b) 0 (lessened (a .w) (a .w2) (a .body .now) (a .from) (a .base) (a .n)) (a .room .now) (omega arith) (rw (c .before .before .before .scale .ensures) at (c .before .before .target .ensures)) (c .enum-told .given .1) (alike-sized (a .n) (a .w2) (length-less (a .w) (a .w2) (a .body .now) (a .from) (a .n) (a .base)))
 
 pub put-less-spec : {M : Type 1} → statement M
 put-less-spec =

@@ -23,7 +23,7 @@ enum-known-at c = search needs
 recode-requires : tie.Need-recode-requires
 recode-requires c κs =
     let a = c .before .before .before .before .before .before .before .before .before .before .args in
-    let room = times-within (a .n) (a .w2) (made (a .state .now) (a .parts .now) (length (a .room .now)) (a .write) (a .i) (a .b) 0 (scaled (a .n) (a .w2)) (rw (c .before .before .before .before .before .scale .ensures) at (c .before .before .before .before .target .ensures)) (c .before .before .at .given .1)) (omega arith) in
+    let room = times-within (a .n) (a .w2) (made (a .plan .now) (a .parts .now) (length (a .room .now)) (a .write) (a .i) (a .b) 0 (scaled (a .n) (a .w2)) (rw (c .before .before .before .before .before .scale .ensures) at (c .before .before .before .before .target .ensures)) (c .before .before .at .given .1)) (omega arith) in
     ((room, omega arith), (c .before .before .before .before .before .before .before .before .before .before .pre .1 .0, c .before .before .before .before .before .before .before .before .before .before .pre .1 .1))
 
 enum-told : tie.Need-enum-told
@@ -35,12 +35,12 @@ same-length c = search needs
 returns : tie.Need-returns
 returns c =
     let a = c .before .before .before .before .before .before .before .before .before .before .before .before .before .args in
-    put-at (a .state .now) (a .parts .now) (a .write) (a .i) (a .b) 0 (recoded (a .w) (a .w2) (a .body .now) (a .from) (a .n)) (a .room .now) (omega arith) (rw (c .before .before .before .before .before .before .before .before .scale .ensures) at (c .before .before .before .before .before .before .before .target .ensures)) (c .before .before .before .before .before .at .given .1) (alike-sized (a .n) (a .w2) (length-recoded (a .w) (a .w2) (a .body .now) (a .from) (a .n))) (c .before .before .recode .ensures)
+    put-at (a .plan .now) (a .parts .now) (a .write) (a .i) (a .b) 0 (recoded (a .w) (a .w2) (a .body .now) (a .from) (a .n)) (a .room .now) (omega arith) (rw (c .before .before .before .before .before .before .before .before .scale .ensures) at (c .before .before .before .before .before .before .before .target .ensures)) (c .before .before .before .before .before .at .given .1) (alike-sized (a .n) (a .w2) (length-recoded (a .w) (a .w2) (a .body .now) (a .from) (a .n))) (c .before .before .recode .ensures)
 
 returns-2 : tie.Need-returns-2
 returns-2 c =
     let a = c .before .before .before .before .before .before .before .before .args in
-    put-skip (a .state .now) (a .parts .now) (a .write) (a .i) (a .b) 0 (recoded (a .w) (a .w2) (a .body .now) (a .from) (a .n)) (a .room .now) (omega arith) (rw (c .before .before .before .scale .ensures) at (c .before .before .target .ensures)) (c .enum-told .given .1) (alike-sized (a .n) (a .w2) (length-recoded (a .w) (a .w2) (a .body .now) (a .from) (a .n)))
+    put-skip (a .plan .now) (a .parts .now) (a .write) (a .i) (a .b) 0 (recoded (a .w) (a .w2) (a .body .now) (a .from) (a .n)) (a .room .now) (omega arith) (rw (c .before .before .before .scale .ensures) at (c .before .before .target .ensures)) (c .enum-told .given .1) (alike-sized (a .n) (a .w2) (length-recoded (a .w) (a .w2) (a .body .now) (a .from) (a .n)))
 
 pub put-recoded-spec : {M : Type 1} → statement M
 put-recoded-spec =

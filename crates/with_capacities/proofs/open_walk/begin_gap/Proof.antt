@@ -16,7 +16,7 @@ is-run-end-requires c κs = search needs
 returns : tie.Need-returns
 returns c =
     let z = c .before .before .before .before .args in
-    λ parts sources lengths places body room write. gap-none (lent (z .state .now) parts sources lengths places body) write (z .i) (z .counts .now) room (c .before .is-run-end .ensures ∙ ap isRunEnd (c .before .before .code-of .ensures)) (c .if1 .taken)
+    λ parts sources lengths places body room write. gap-none (lent (z .plan .now) parts sources lengths places body) write (z .i) (z .counters .now) room (c .before .is-run-end .ensures ∙ ap isRunEnd (c .before .before .code-of .ensures)) (c .if1 .taken)
 
 at-u64-requires : tie.Need-at-u64-requires
 at-u64-requires c κs = search needs
@@ -24,7 +24,7 @@ at-u64-requires c κs = search needs
 returns-2 : tie.Need-returns-2
 returns-2 c =
     let z = c .before .before .before .before .before .before .args in
-    λ parts sources lengths places body room write. gap-off (lent (z .state .now) parts sources lengths places body) write (z .i) (z .counts .now) room (c .before .before .before .is-run-end .ensures ∙ ap isRunEnd (c .before .before .before .before .code-of .ensures)) (c .before .before .if1 .left) (c .before .at-u64 .ensures) (c .if2 .taken)
+    λ parts sources lengths places body room write. gap-off (lent (z .plan .now) parts sources lengths places body) write (z .i) (z .counters .now) room (c .before .before .before .is-run-end .ensures ∙ ap isRunEnd (c .before .before .before .before .code-of .ensures)) (c .before .before .if1 .left) (c .before .at-u64 .ensures) (c .if2 .taken)
 
 set-bytes-requires : tie.Need-set-bytes-requires
 set-bytes-requires c κs = search needs
@@ -32,7 +32,7 @@ set-bytes-requires c κs = search needs
 returns-3 : tie.Need-returns-3
 returns-3 c =
     let z = c .before .before .before .before .before .before .before .before .args in
-    λ parts sources lengths places body room write. gap-on (lent (z .state .now) parts sources lengths places body) write (z .i) (z .counts .now) room (c .before .before .before .before .before .is-run-end .ensures ∙ ap isRunEnd (c .before .before .before .before .before .before .code-of .ensures)) (c .before .before .before .before .if1 .left) (c .before .before .before .at-u64 .ensures) (c .before .before .if2 .left) (c .set-bytes .ensures)
+    λ parts sources lengths places body room write. gap-on (lent (z .plan .now) parts sources lengths places body) write (z .i) (z .counters .now) room (c .before .before .before .before .before .is-run-end .ensures ∙ ap isRunEnd (c .before .before .before .before .before .before .code-of .ensures)) (c .before .before .before .before .if1 .left) (c .before .before .before .at-u64 .ensures) (c .before .before .if2 .left) (c .set-bytes .ensures)
 
 pub begin-gap-spec : {M : Type 1} → statement M
 begin-gap-spec = tie.close (tie.spec code-of-requires is-run-end-requires returns at-u64-requires returns-2 set-bytes-requires returns-3)

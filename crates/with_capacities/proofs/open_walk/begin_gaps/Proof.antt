@@ -15,10 +15,10 @@ use Rattle.with_capacities.proofs.open_walk.begin_gaps.Statement.{state
 use Rattle.with_capacities.proofs.open_walk.begin_gaps.Tie as tie
 
 abbrev Inv-loop : tie.InvT-loop
-Inv-loop state counts₀ n i₀ counts i = (i ≤ n) × ((parts sources lengths places body room : List ℕ) (write : Bool) → Rest state parts write (each (beginGaps (lent state parts sources lengths places body)) n 0 counts₀) room (each (beginGaps (lent state parts sources lengths places body)) (n - i) i counts) room)
+Inv-loop plan counters₀ n i₀ counters i = (i ≤ n) × ((parts sources lengths places body room : List ℕ) (write : Bool) → Rest plan parts write (each (beginGaps (lent plan parts sources lengths places body)) n 0 counters₀) room (each (beginGaps (lent plan parts sources lengths places body)) (n - i) i counters) room)
 
 abbrev μ-loop : tie.MeasureT-loop
-μ-loop state counts₀ n i₀ counts i = n - i
+μ-loop plan counters₀ n i₀ counters i = n - i
 
 node-count-requires : tie.Need-node-count-requires Inv-loop μ-loop
 node-count-requires c κs = search needs
@@ -45,7 +45,7 @@ returns : tie.Need-returns Inv-loop μ-loop
 returns c =
     let z = c .before .before .before .before .args in
     let l = c .before .loop in
-    λ parts sources lengths places body room write. let x = lent (z .state .now) parts sources lengths places body in nodes-did x write (beginGaps x) (z .counts .now) room (c .before .before .node-count .ensures .0) (l .inv .1 parts sources lengths places body room write _ _ _ (each-none _ _ (c .before .before .node-count .result - l .i) _ _ _ (omega arith)))
+    λ parts sources lengths places body room write. let x = lent (z .plan .now) parts sources lengths places body in nodes-did x write (beginGaps x) (z .counters .now) room (c .before .before .node-count .ensures .0) (l .inv .1 parts sources lengths places body room write _ _ _ (each-none _ _ (c .before .before .node-count .result - l .i) _ _ _ (omega arith)))
 
 pub begin-gaps-spec : {M : Type 1} → statement M
 begin-gaps-spec = tie.close (tie.spec Inv-loop μ-loop node-count-requires loop-holds begin-gap-requires add-i loop-less loop-again returns)

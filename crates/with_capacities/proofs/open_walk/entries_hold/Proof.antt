@@ -15,10 +15,10 @@ use Rattle.with_capacities.proofs.open_walk.entries_hold.Statement.{sta
 use Rattle.with_capacities.proofs.open_walk.entries_hold.Tie as tie
 
 abbrev Inv-loop : tie.InvT-loop
-Inv-loop state sources lengths i m s₀ s = (s ≤ m) × (every (entryHolds (lent state [] sources lengths [] []) i) s ≡ true)
+Inv-loop plan sources lengths i m s₀ s = (s ≤ m) × (every (entryHolds (lent plan [] sources lengths [] []) i) s ≡ true)
 
 abbrev μ-loop : tie.MeasureT-loop
-μ-loop state sources lengths i m s₀ s = m - s
+μ-loop plan sources lengths i m s₀ s = m - s
 
 source-count-requires : tie.Need-source-count-requires Inv-loop μ-loop
 source-count-requires c κs = search needs
@@ -47,7 +47,7 @@ returns c =
     let s = c .before .before .before .before .before .before .loop .s in
     let m = c .before .before .before .before .before .before .before .source-count .result in
     λ parts places body.
-    let x = lent (z .state .now) parts (z .sources .now) (z .lengths .now) places body in
+    let x = lent (z .plan .now) parts (z .sources .now) (z .lengths .now) places body in
     entries-are x (z .i) (c .before .before .before .before .before .before .before .source-count .ensures .0)
     (sym (every-false (entryHolds x (z .i)) m s (omega arith) (no (entry-at x (z .i) s (c .before .before .base-of .ensures) (c .before .before .before .before .node-of .ensures .0) (c .before .before .before .length-of .ensures) (c .before .fits2 .ensures)) (c .if1 .taken))))
 
@@ -61,7 +61,7 @@ loop-again : tie.Need-loop-again Inv-loop μ-loop
 loop-again c =
     let z = c .before .before .before .before .before .before .before .before .before .before .before .args in
     let s = c .before .before .before .before .before .before .loop .s in
-    let x = lent (z .state .now) [] (z .sources .now) (z .lengths .now) [] [] in
+    let x = lent (z .plan .now) [] (z .sources .now) (z .lengths .now) [] [] in
     (omega arith, every-one (entryHolds x (z .i)) s (c .before .before .before .before .before .before .loop .inv .1) (yes (entry-at x (z .i) s (c .before .before .base-of .ensures) (c .before .before .before .before .node-of .ensures .0) (c .before .before .before .length-of .ensures) (c .before .fits2 .ensures)) (c .if1 .left)))
 
 returns-2 : tie.Need-returns-2 Inv-loop μ-loop
@@ -70,7 +70,7 @@ returns-2 c =
     let s = c .before .loop .s in
     let m = c .before .before .source-count .result in
     λ parts places body.
-    let x = lent (z .state .now) parts (z .sources .now) (z .lengths .now) places body in
+    let x = lent (z .plan .now) parts (z .sources .now) (z .lengths .now) places body in
     entries-are x (z .i) (c .before .before .source-count .ensures .0) (sym (every-now (entryHolds x (z .i)) m s (omega arith) (omega arith) (c .before .loop .inv .1)))
 
 pub entries-hold-spec : {M : Type 1} → statement M

@@ -15,10 +15,10 @@ use Rattle.with_capacities.proofs.open_walk.first_offsets.Statement.{st
 use Rattle.with_capacities.proofs.open_walk.first_offsets.Tie as tie
 
 abbrev Inv-loop : tie.InvT-loop
-Inv-loop state parts room₀ write n i₀ room i = (i ≤ n) × (length room ≡ length room₀) × ((sources lengths places body c : List ℕ) → Rest state parts write (each (firstOffset (lent state parts sources lengths places body)) n 0 c) room₀ (each (firstOffset (lent state parts sources lengths places body)) (n - i) i c) room)
+Inv-loop plan parts room₀ write n i₀ room i = (i ≤ n) × (length room ≡ length room₀) × ((sources lengths places body c : List ℕ) → Rest plan parts write (each (firstOffset (lent plan parts sources lengths places body)) n 0 c) room₀ (each (firstOffset (lent plan parts sources lengths places body)) (n - i) i c) room)
 
 abbrev μ-loop : tie.MeasureT-loop
-μ-loop state parts room₀ write n i₀ room i = n - i
+μ-loop plan parts room₀ write n i₀ room i = n - i
 
 node-count-requires : tie.Need-node-count-requires Inv-loop μ-loop
 node-count-requires c κs = search needs
@@ -48,7 +48,7 @@ returns : tie.Need-returns Inv-loop μ-loop
 returns c =
     let z = c .before .before .before .before .before .before .args in
     let l = c .before .loop in
-    λ sources lengths places body n. let x = lent (z .state .now) (z .parts .now) sources lengths places body in nodes-did x (z .write) (firstOffset x) n (z .room .now) (c .before .before .node-count .ensures .0) (l .inv .2 sources lengths places body n _ _ _ (each-none _ _ (c .before .before .node-count .result - l .i) _ _ _ (omega arith)))
+    λ sources lengths places body n. let x = lent (z .plan .now) (z .parts .now) sources lengths places body in nodes-did x (z .write) (firstOffset x) n (z .room .now) (c .before .before .node-count .ensures .0) (l .inv .2 sources lengths places body n _ _ _ (each-none _ _ (c .before .before .node-count .result - l .i) _ _ _ (omega arith)))
 
 pub first-offsets-spec : {M : Type 1} → statement M
 first-offsets-spec = tie.close (tie.spec Inv-loop μ-loop node-count-requires loop-holds first-offset-requires add-i loop-less loop-again same-length returns)

@@ -14,10 +14,10 @@ use Rattle.with_capacities.proofs.open_walk.join_entries.Statement.{sta
 use Rattle.with_capacities.proofs.open_walk.join_entries.Tie as tie
 
 abbrev Inv-loop : tie.InvT-loop
-Inv-loop state parts sources lengths places body counts₀ room₀ write i m s₀ counts room s = (s ≤ m) × (length room ≡ length room₀) × Rest state parts write (each (joinSource (lent state parts sources lengths places body) i) m 0 counts₀) room₀ (each (joinSource (lent state parts sources lengths places body) i) (m - s) s counts) room
+Inv-loop plan parts sources lengths places body counters₀ room₀ write i m s₀ counters room s = (s ≤ m) × (length room ≡ length room₀) × Rest plan parts write (each (joinSource (lent plan parts sources lengths places body) i) m 0 counters₀) room₀ (each (joinSource (lent plan parts sources lengths places body) i) (m - s) s counters) room
 
 abbrev μ-loop : tie.MeasureT-loop
-μ-loop state parts sources lengths places body counts₀ room₀ write i m s₀ counts room s = m - s
+μ-loop plan parts sources lengths places body counters₀ room₀ write i m s₀ counters room s = m - s
 
 source-count-requires : tie.Need-source-count-requires Inv-loop μ-loop
 source-count-requires c κs = search needs
@@ -36,7 +36,7 @@ returns c =
     let z = c .before .before .before .before .before .before .before .before .before .before .before .before .before .before .before .before .args in
     let l = c .before .before .before .before .before .before .before .loop in
     let m = c .before .before .before .before .before .before .before .before .source-count .result in
-    entries-did (lent (z .state .now) (z .parts .now) (z .sources .now) (z .lengths .now) (z .places .now) (z .body .now)) (z .write) (z .i) (z .counts .now) (z .room .now) (c .before .before .before .before .before .before .before .before .source-count .ensures .0) (l .inv .2 _ _ _ (each-stop _ _ (m - l .s) (m - (l .s + 1)) _ _ _ (omega arith) (c .before .before .before .join-source .ensures) (c .if1 .taken)))
+    entries-did (lent (z .plan .now) (z .parts .now) (z .sources .now) (z .lengths .now) (z .places .now) (z .body .now)) (z .write) (z .i) (z .counters .now) (z .room .now) (c .before .before .before .before .before .before .before .before .source-count .ensures .0) (l .inv .2 _ _ _ (each-stop _ _ (m - l .s) (m - (l .s + 1)) _ _ _ (omega arith) (c .before .before .before .join-source .ensures) (c .if1 .taken)))
 
 add-s : tie.Need-add-s Inv-loop μ-loop
 add-s c = search needs
@@ -57,7 +57,7 @@ returns-2 : tie.Need-returns-2 Inv-loop μ-loop
 returns-2 c =
     let z = c .before .before .before .before .before .before .before .before .before .before .args in
     let l = c .before .loop in
-    entries-did (lent (z .state .now) (z .parts .now) (z .sources .now) (z .lengths .now) (z .places .now) (z .body .now)) (z .write) (z .i) (z .counts .now) (z .room .now) (c .before .before .source-count .ensures .0) (l .inv .2 _ _ _ (each-none _ _ (c .before .before .source-count .result - l .s) _ _ _ (omega arith)))
+    entries-did (lent (z .plan .now) (z .parts .now) (z .sources .now) (z .lengths .now) (z .places .now) (z .body .now)) (z .write) (z .i) (z .counters .now) (z .room .now) (c .before .before .source-count .ensures .0) (l .inv .2 _ _ _ (each-none _ _ (c .before .before .source-count .result - l .s) _ _ _ (omega arith)))
 
 pub join-entries-spec : {M : Type 1} → statement M
 join-entries-spec = tie.close (tie.spec Inv-loop μ-loop source-count-requires loop-holds join-source-requires same-length returns add-s loop-less loop-again same-length-2 returns-2)

@@ -29,7 +29,7 @@ same-length c = search needs
 returns : tie.Need-returns
 returns c =
     let z = c .before .before .before .before .before .before .before .before .before .before .before .before .before .before .args in
-    source-did (lent (z .state .now) (z .parts .now) (z .sources .now) (z .lengths .now) (z .places .now) (z .body .now)) (z .write) (z .i) (z .counts .now) (z .room .now) (z .s) (c .before .before .before .before .before .before .at-u32 .ensures) (c .before .before .before .before .before .length-of .ensures) (c .before .before .extend .ensures)
+    source-did (lent (z .plan .now) (z .parts .now) (z .sources .now) (z .lengths .now) (z .places .now) (z .body .now)) (z .write) (z .i) (z .counters .now) (z .room .now) (z .s) (c .before .before .before .before .before .before .at-u32 .ensures) (c .before .before .before .before .before .length-of .ensures) (c .before .before .extend .ensures)
 
 pub join-source-spec : {M : Type 1} → statement M
 join-source-spec = tie.close (tie.spec mul-at-u32 at-u32-requires cast-first add-length-of length-of-requires extend-requires same-length returns)

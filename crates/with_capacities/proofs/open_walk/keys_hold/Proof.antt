@@ -19,10 +19,10 @@ use Rattle.with_capacities.proofs.open_walk.keys_hold.Statement.{statem
 use Rattle.with_capacities.proofs.open_walk.keys_hold.Tie as tie
 
 abbrev Inv-loop : tie.InvT-loop
-Inv-loop state sources lengths i code m s₀ s = (s ≤ m) × ((n : Number) → numberOf code ≡ some n → every (keyHolds (lent state [] sources lengths [] []) n i) s ≡ true)
+Inv-loop plan sources lengths i code m s₀ s = (s ≤ m) × ((n : Number) → numberOf code ≡ some n → every (keyHolds (lent plan [] sources lengths [] []) n i) s ≡ true)
 
 abbrev μ-loop : tie.MeasureT-loop
-μ-loop state sources lengths i code m s₀ s = m - s
+μ-loop plan sources lengths i code m s₀ s = m - s
 
 code-of-requires : tie.Need-code-of-requires Inv-loop μ-loop
 code-of-requires c κs = search needs
@@ -33,7 +33,7 @@ is-integer-requires c κs = search needs
 returns : tie.Need-returns Inv-loop μ-loop
 returns c =
     let z = c .before .before .before .before .before .before .args in
-    λ parts places body. keys-none (lent (z .state .now) parts (z .sources .now) (z .lengths .now) places body) (z .i) (c .before .before .code-of .ensures) (c .before .is-integer .ensures) (c .if1 .taken)
+    λ parts places body. keys-none (lent (z .plan .now) parts (z .sources .now) (z .lengths .now) places body) (z .i) (c .before .before .code-of .ensures) (c .before .is-integer .ensures) (c .if1 .taken)
 
 source-count-requires : tie.Need-source-count-requires Inv-loop μ-loop
 source-count-requires c κs = search needs
@@ -62,7 +62,7 @@ returns-2 c =
     let s = c .before .before .before .before .before .before .loop .s in
     let m = c .before .before .before .before .before .before .before .source-count .result in
     λ parts places body.
-    let x = lent (z .state .now) parts (z .sources .now) (z .lengths .now) places body in
+    let x = lent (z .plan .now) parts (z .sources .now) (z .lengths .now) places body in
     keys-are x (z .i) (c .before .before .before .before .before .before .before .before .before .before .code-of .ensures) (c .before .before .before .before .before .before .before .before .before .is-integer .ensures) (c .before .before .before .before .before .before .before .before .if1 .left) (c .before .before .before .before .before .before .before .source-count .ensures .0)
     (λ n e. sym (every-false (keyHolds x n (z .i)) m s (omega arith) (no (key-at x n (z .i) s (c .before .before .before .before .base-of .ensures) (c .before .before .before .node-of .ensures .0) (c .before .before .length-of .ensures) (c .before .key-fits .ensures n e)) (c .if2 .taken))))
 
@@ -76,7 +76,7 @@ loop-again : tie.Need-loop-again Inv-loop μ-loop
 loop-again c =
     let z = c .before .before .before .before .before .before .before .before .before .before .before .before .before .before .args in
     let s = c .before .before .before .before .before .before .loop .s in
-    let x = lent (z .state .now) [] (z .sources .now) (z .lengths .now) [] [] in
+    let x = lent (z .plan .now) [] (z .sources .now) (z .lengths .now) [] [] in
     (omega arith, λ n e. every-one (keyHolds x n (z .i)) s (c .before .before .before .before .before .before .loop .inv .1 n e) (yes (key-at x n (z .i) s (c .before .before .before .before .base-of .ensures) (c .before .before .before .node-of .ensures .0) (c .before .before .length-of .ensures) (c .before .key-fits .ensures n e)) (c .if2 .left)))
 
 returns-3 : tie.Need-returns-3 Inv-loop μ-loop
@@ -85,7 +85,7 @@ returns-3 c =
     let s = c .before .loop .s in
     let m = c .before .before .source-count .result in
     λ parts places body.
-    let x = lent (z .state .now) parts (z .sources .now) (z .lengths .now) places body in
+    let x = lent (z .plan .now) parts (z .sources .now) (z .lengths .now) places body in
     keys-are x (z .i) (c .before .before .before .before .before .code-of .ensures) (c .before .before .before .before .is-integer .ensures) (c .before .before .before .if1 .left) (c .before .before .source-count .ensures .0)
     (λ n e. sym (every-now (keyHolds x n (z .i)) m s (omega arith) (omega arith) (c .before .loop .inv .1 n e)))
 

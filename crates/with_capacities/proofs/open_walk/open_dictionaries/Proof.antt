@@ -14,10 +14,10 @@ use Rattle.with_capacities.proofs.open_walk.open_dictionaries.Statement
 use Rattle.with_capacities.proofs.open_walk.open_dictionaries.Tie as tie
 
 abbrev Inv-loop : tie.InvT-loop
-Inv-loop state parts sources lengths places body counts₀ room₀ write n i₀ counts room i = (i ≤ n) × (length room ≡ length room₀) × Rest state parts write (each (openDictionary (lent state parts sources lengths places body)) n 0 counts₀) room₀ (each (openDictionary (lent state parts sources lengths places body)) (n - i) i counts) room
+Inv-loop plan parts sources lengths places body counters₀ room₀ write n i₀ counters room i = (i ≤ n) × (length room ≡ length room₀) × Rest plan parts write (each (openDictionary (lent plan parts sources lengths places body)) n 0 counters₀) room₀ (each (openDictionary (lent plan parts sources lengths places body)) (n - i) i counters) room
 
 abbrev μ-loop : tie.MeasureT-loop
-μ-loop state parts sources lengths places body counts₀ room₀ write n i₀ counts room i = n - i
+μ-loop plan parts sources lengths places body counters₀ room₀ write n i₀ counters room i = n - i
 
 node-count-requires : tie.Need-node-count-requires Inv-loop μ-loop
 node-count-requires c κs = search needs
@@ -36,8 +36,8 @@ returns c =
     let z = c .before .before .before .before .before .before .before .before .before .before .before .before .before .before .before .before .args in
     let l = c .before .before .before .before .before .before .before .loop in
     let n = c .before .before .before .before .before .before .before .before .node-count .result in
-    let x = lent (z .state .now) (z .parts .now) (z .sources .now) (z .lengths .now) (z .places .now) (z .body .now) in
-    nodes-did x (z .write) (openDictionary x) (z .counts .now) (z .room .now) (c .before .before .before .before .before .before .before .before .node-count .ensures .0) (l .inv .2 _ _ _ (each-stop _ _ (n - l .i) (n - (l .i + 1)) _ _ _ (omega arith) (c .before .before .before .open-dictionary .ensures) (c .if1 .taken)))
+    let x = lent (z .plan .now) (z .parts .now) (z .sources .now) (z .lengths .now) (z .places .now) (z .body .now) in
+    nodes-did x (z .write) (openDictionary x) (z .counters .now) (z .room .now) (c .before .before .before .before .before .before .before .before .node-count .ensures .0) (l .inv .2 _ _ _ (each-stop _ _ (n - l .i) (n - (l .i + 1)) _ _ _ (omega arith) (c .before .before .before .open-dictionary .ensures) (c .if1 .taken)))
 
 add-i : tie.Need-add-i Inv-loop μ-loop
 add-i c = search needs
@@ -58,8 +58,8 @@ returns-2 : tie.Need-returns-2 Inv-loop μ-loop
 returns-2 c =
     let z = c .before .before .before .before .before .before .before .before .before .before .args in
     let l = c .before .loop in
-    let x = lent (z .state .now) (z .parts .now) (z .sources .now) (z .lengths .now) (z .places .now) (z .body .now) in
-    nodes-did x (z .write) (openDictionary x) (z .counts .now) (z .room .now) (c .before .before .node-count .ensures .0) (l .inv .2 _ _ _ (each-none _ _ (c .before .before .node-count .result - l .i) _ _ _ (omega arith)))
+    let x = lent (z .plan .now) (z .parts .now) (z .sources .now) (z .lengths .now) (z .places .now) (z .body .now) in
+    nodes-did x (z .write) (openDictionary x) (z .counters .now) (z .room .now) (c .before .before .node-count .ensures .0) (l .inv .2 _ _ _ (each-none _ _ (c .before .before .node-count .result - l .i) _ _ _ (omega arith)))
 
 pub open-dictionaries-spec : {M : Type 1} → statement M
 open-dictionaries-spec = tie.close (tie.spec Inv-loop μ-loop node-count-requires loop-holds open-dictionary-requires same-length returns add-i loop-less loop-again same-length-2 returns-2)

@@ -11,7 +11,7 @@ dictionary-of-requires c κs = search needs
 returns : tie.Need-returns
 returns c =
     let z = c .before .before .before .before .before .before .before .before .before .args in
-    dictionary-none (lent (z .state .now) (z .parts .now) (z .sources .now) (z .lengths .now) (z .places .now) (z .body .now)) (z .write) (z .i) (z .counts .now) (z .room .now) (c .before .dictionary-of .ensures) (c .if1 .taken)
+    dictionary-none (lent (z .plan .now) (z .parts .now) (z .sources .now) (z .lengths .now) (z .places .now) (z .body .now)) (z .write) (z .i) (z .counters .now) (z .room .now) (c .before .dictionary-of .ensures) (c .if1 .taken)
 
 entries-hold-requires : tie.Need-entries-hold-requires
 entries-hold-requires c κs = search needs
@@ -19,7 +19,7 @@ entries-hold-requires c κs = search needs
 returns-2 : tie.Need-returns-2
 returns-2 c =
     let z = c .before .before .before .before .before .before .before .before .before .before .before .args in
-    dictionary-many (lent (z .state .now) (z .parts .now) (z .sources .now) (z .lengths .now) (z .places .now) (z .body .now)) (z .write) (z .i) (z .counts .now) (z .room .now) (c .before .before .before .dictionary-of .ensures) (c .before .before .if1 .left) (c .before .entries-hold .ensures (z .parts .now) (z .places .now) (z .body .now)) (c .if2 .taken)
+    dictionary-many (lent (z .plan .now) (z .parts .now) (z .sources .now) (z .lengths .now) (z .places .now) (z .body .now)) (z .write) (z .i) (z .counters .now) (z .room .now) (c .before .before .before .dictionary-of .ensures) (c .before .before .if1 .left) (c .before .entries-hold .ensures (z .parts .now) (z .places .now) (z .body .now)) (c .if2 .taken)
 
 join-values-requires : tie.Need-join-values-requires
 join-values-requires c κs = search needs
@@ -30,7 +30,7 @@ same-length c = search needs
 returns-3 : tie.Need-returns-3
 returns-3 c =
     let z = c .before .before .before .before .before .before .before .before .before .before .before .before .before .before .before .before .before .args in
-    dictionary-stop (lent (z .state .now) (z .parts .now) (z .sources .now) (z .lengths .now) (z .places .now) (z .body .now)) (z .write) (z .i) (z .counts .now) (z .room .now) (c .before .before .before .before .before .before .before .before .before .dictionary-of .ensures) (c .before .before .before .before .before .before .before .before .if1 .left) (c .before .before .before .before .before .before .before .entries-hold .ensures (z .parts .now) (z .places .now) (z .body .now)) (c .before .before .before .before .before .before .if2 .left) (c .before .before .before .join-values .ensures) (c .if3 .taken)
+    dictionary-stop (lent (z .plan .now) (z .parts .now) (z .sources .now) (z .lengths .now) (z .places .now) (z .body .now)) (z .write) (z .i) (z .counters .now) (z .room .now) (c .before .before .before .before .before .before .before .before .before .dictionary-of .ensures) (c .before .before .before .before .before .before .before .before .if1 .left) (c .before .before .before .before .before .before .before .entries-hold .ensures (z .parts .now) (z .places .now) (z .body .now)) (c .before .before .before .before .before .before .if2 .left) (c .before .before .before .join-values .ensures) (c .if3 .taken)
 
 keys-hold-requires : tie.Need-keys-hold-requires
 keys-hold-requires c κs = search needs
@@ -41,7 +41,7 @@ same-length-2 c = search needs
 returns-4 : tie.Need-returns-4
 returns-4 c =
     let z = c .before .before .before .before .before .before .before .before .before .before .before .before .before .before .before .before .before .before .before .args in
-    dictionary-over (lent (z .state .now) (z .parts .now) (z .sources .now) (z .lengths .now) (z .places .now) (z .body .now)) (z .write) (z .i) (z .counts .now) (z .room .now) (c .before .before .before .before .before .before .before .before .before .before .before .dictionary-of .ensures) (c .before .before .before .before .before .before .before .before .before .before .if1 .left) (c .before .before .before .before .before .before .before .before .before .entries-hold .ensures (z .parts .now) (z .places .now) (z .body .now)) (c .before .before .before .before .before .before .before .before .if2 .left) (c .before .before .before .before .before .join-values .ensures) (c .before .before .if3 .left) (c .before .keys-hold .ensures (z .parts .now) (z .places .now) (z .body .now)) (c .if4 .taken)
+    dictionary-over (lent (z .plan .now) (z .parts .now) (z .sources .now) (z .lengths .now) (z .places .now) (z .body .now)) (z .write) (z .i) (z .counters .now) (z .room .now) (c .before .before .before .before .before .before .before .before .before .before .before .dictionary-of .ensures) (c .before .before .before .before .before .before .before .before .before .before .if1 .left) (c .before .before .before .before .before .before .before .before .before .entries-hold .ensures (z .parts .now) (z .places .now) (z .body .now)) (c .before .before .before .before .before .before .before .before .if2 .left) (c .before .before .before .before .before .join-values .ensures) (c .before .before .if3 .left) (c .before .keys-hold .ensures (z .parts .now) (z .places .now) (z .body .now)) (c .if4 .taken)
 
 same-length-3 : tie.Need-same-length-3
 same-length-3 c = search needs
@@ -49,7 +49,7 @@ same-length-3 c = search needs
 returns-5 : tie.Need-returns-5
 returns-5 c =
     let z = c .before .before .before .before .before .before .before .before .before .before .before .before .before .before .before .before .before .before .before .args in
-    dictionary-done (lent (z .state .now) (z .parts .now) (z .sources .now) (z .lengths .now) (z .places .now) (z .body .now)) (z .write) (z .i) (z .counts .now) (z .room .now) (c .before .before .before .before .before .before .before .before .before .before .before .dictionary-of .ensures) (c .before .before .before .before .before .before .before .before .before .before .if1 .left) (c .before .before .before .before .before .before .before .before .before .entries-hold .ensures (z .parts .now) (z .places .now) (z .body .now)) (c .before .before .before .before .before .before .before .before .if2 .left) (c .before .before .before .before .before .join-values .ensures) (c .before .before .if3 .left) (c .before .keys-hold .ensures (z .parts .now) (z .places .now) (z .body .now)) (c .if4 .left)
+    dictionary-done (lent (z .plan .now) (z .parts .now) (z .sources .now) (z .lengths .now) (z .places .now) (z .body .now)) (z .write) (z .i) (z .counters .now) (z .room .now) (c .before .before .before .before .before .before .before .before .before .before .before .dictionary-of .ensures) (c .before .before .before .before .before .before .before .before .before .before .if1 .left) (c .before .before .before .before .before .before .before .before .before .entries-hold .ensures (z .parts .now) (z .places .now) (z .body .now)) (c .before .before .before .before .before .before .before .before .if2 .left) (c .before .before .before .before .before .join-values .ensures) (c .before .before .if3 .left) (c .before .keys-hold .ensures (z .parts .now) (z .places .now) (z .body .now)) (c .if4 .left)
 
 pub open-dictionary-spec : {M : Type 1} → statement M
 open-dictionary-spec =

@@ -20,7 +20,7 @@ same-length c = search needs
 returns : tie.Need-returns
 returns c =
     let z = c .before .before .before .before .before .before .before .before .before .before .before .before .before .before .before .before .before .before .args in
-    walk-did (lent (z .state .now) (z .parts .now) (z .sources .now) (z .lengths .now) (z .places .now) (z .body .now)) (z .write) (z .counts .now) (z .room .now) (c .before .before .before .before .before .before .before .before .before .begin-gaps .ensures (z .parts .now) (z .sources .now) (z .lengths .now) (z .places .now) (z .body .now) (z .room .now) (z .write)) (c .before .before .before .before .before .before .before .first-offsets .ensures (z .sources .now) (z .lengths .now) (z .places .now) (z .body .now) _) (c .before .before .open-dictionaries .ensures)
+    walk-did (lent (z .plan .now) (z .parts .now) (z .sources .now) (z .lengths .now) (z .places .now) (z .body .now)) (z .write) (z .counters .now) (z .room .now) (c .before .before .before .before .before .before .before .before .before .begin-gaps .ensures (z .parts .now) (z .sources .now) (z .lengths .now) (z .places .now) (z .body .now) (z .room .now) (z .write)) (c .before .before .before .before .before .before .before .first-offsets .ensures (z .sources .now) (z .lengths .now) (z .places .now) (z .body .now) _) (c .before .before .open-dictionaries .ensures)
 
 pub open-walk-spec : {M : Type 1} → statement M
 open-walk-spec = tie.close (tie.spec begin-gaps-requires first-offsets-requires open-dictionaries-requires same-length returns)
