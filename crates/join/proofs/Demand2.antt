@@ -15,7 +15,7 @@ use Rattle.columnar.specs.Reading.{readAll, masks}
 use Rattle.model.specs.Try.{Try, done, then, guard}
 use Rattle.model.specs.Grounds.{firstRun, runCount}
 use Rattle.model.specs.Mutable.{Mutable}
-use Rattle.model.specs.Runs.{Runs, lastEnd, clipped, moreEnds, runsExtend, runsNull}
+use Rattle.model.specs.Runs.{Runs, lastEnd, moreEnds, runsExtend, runsNull}
 use Rattle.model.specs.Transform.{Destination}
 use Rattle.model.specs.Book.{Call, copy, nullsEntered}
 use Rattle.model.proofs.Book.{countedIf}
@@ -43,6 +43,7 @@ use Rattle.join.proofs.Lengths.{nulls-is, nulls-by-lengths}
 use Rattle.join.proofs.Counters.{counted}
 use Rattle.join.proofs.Shown.{bytes-at, nulls-at, finished-counters}
 use Rattle.join.proofs.Built.{built}
+use Rattle.model.proofs.Names.{clipped}
 
 -- ---- the model's destination is that of the Rust's calls, those that are carried out, with one run for a gap not chosen (`gaps` false): where it
 -- is chosen, a null order on a run-end node is not the Rust's, and the theorems below are about the model alone

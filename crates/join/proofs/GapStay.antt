@@ -16,15 +16,16 @@ use Rattle.model.specs.Grounds.{firstRun, runCount}
 use Rattle.model.specs.Mutable.{Mutable, extendNode, nullsNode}
 use Rattle.model.specs.Primitive.{newOffsets}
 use Rattle.model.specs.ListViews.{listRow}
-use Rattle.model.specs.Unions.{Sparses, inOrder, sparseWith, atChild, denseRow, positionsFrom}
+use Rattle.model.specs.Unions.{Sparses, inOrder, sparseWith, atChild, denseRow}
 use Rattle.model.specs.Runs.{Runs, lastEnd, moreEnds, overEnd}
-use Rattle.model.specs.Transform.{Grown, Destination, extendData, nullsData, startData, start, keepsNulls}
+use Rattle.model.specs.Transform.{Grown, Destination, extendData, startData, start}
 use Rattle.model.specs.Opening.{keeps}
 use Rattle.model.specs.Book.{Call, copy, nulls}
 use Rattle.model.specs.Orders.{perform, performAll}
 use Rattle.refinement.specs.orders.Fits.{fits, answersIn}
 use Rattle.join.specs.Join.{Lending, sourcesIn, typeIn, columnsIn, lentOf, first, reachedBy, carriedFrom, carriedOut}
 use Rattle.join.specs.Rust.{rustNulls, rustPerform, rustAll, NoGaps}
+use Rattle.model.proofs.Names.{positionsFrom, nullsData, keepsNulls}
 
 -- ---- two answers that are the same, and where they are done P holds
 

@@ -15,8 +15,9 @@ use Rattle.model.specs.ListViews.{listNulls}
 use Rattle.model.specs.Lists.{listsNulls}
 use Rattle.model.specs.Unions.{sparseNull, denseNull}
 use Rattle.model.specs.Runs.{Runs, lastEnd, moreEnds}
-use Rattle.model.specs.Transform.{Grown, Destination, tryExtend, keepsNulls}
+use Rattle.model.specs.Transform.{Grown, Destination, tryExtend}
 use Rattle.model.specs.Book.{Call, copy, nulls}
+use Rattle.model.proofs.Names.{keepsNulls}
 
 -- `extend_nulls` of run.rs: "A nonempty null order adds one run and one null value"
 abbrev pub rustRuns : {D : Type 0} → ℕ → (ℕ → Mutable D → Try (Mutable D)) → ℕ → Runs D → Try (Runs D)

@@ -1,6 +1,6 @@
 -- A copy only adds. Assumes nothing.
 use mathlib.Core.Path.{_≡_, refl, sym, _∙_}
-use mathlib.Core.Bool.{Bool, true, false}
+use mathlib.Core.Bool.{Bool, true, false, cond}
 use mathlib.Core.List.{List, [], _∷_, _++_}
 use Prim.Native.Nat.{ℕ, zero, suc, _+_, _*_, _-_, _≤_, _<_, min}
 use native.Mathlib.Nat.{add-zero, mul-comm, suc-mul, one-mul, le-trans, le-of-eq}
@@ -14,12 +14,12 @@ use Rattle.bits.specs.Bits.{bitsAt, bits}
 use Rattle.schema.specs.formats.Code.{isFixed, isString, isView, isListView, isList, isUnion, widthOf}
 use Rattle.utils.specs.Pieces.{pieces}
 use Rattle.utils.specs.Offsets.{largest, moved, movedOffsets}
-use Rattle.utils.specs.Extension.{pick, overAt, extended}
+use Rattle.utils.specs.Extension.{overAt, extended}
 use Rattle.utils.specs.declared.Extended.{Extended}
 use Rattle.utils.specs.declared.Extended.the-variants.{Fits, Over, Falls}
 use Rattle.utils.proofs.Pieces.{length-numbers}
 use Rattle.utils.specs.primitive.Primitive.{rebased}
-use Rattle.utils.specs.byte_view.View.{pickBytes, reviewedOne, reviewed}
+use Rattle.utils.specs.byte_view.View.{reviewedOne, reviewed}
 use Rattle.run_ends.specs.declared.Runs.{Runs}
 use Rattle.run_ends.specs.declared.Runs.the-variants.{Range, None}
 use Rattle.run_ends.proofs.Laws.{length-clipped}
@@ -50,7 +50,7 @@ view-bytes : (s : List ℕ) (base : ℕ) → length (reviewedOne s base) ≤ 16
 unfolding reviewedOne
 view-bytes s base = go (ltb 12 (number 4 s)) _
   where
-    go : (t : Bool) (v : ℕ) → length (pickBytes t (take 8 s ++ encode 4 v ++ take 4 (drop 12 s)) (take 16 s)) ≤ 16
+    go : (t : Bool) (v : ℕ) → length (cond t (take 8 s ++ encode 4 v ++ take 4 (drop 12 s)) (take 16 s)) ≤ 16
     go true v =
         let a = length-append (take 8 s ++ encode 4 v) (take 4 (drop 12 s)) in
         let b = length-append (take 8 s) (encode 4 v) in
@@ -89,7 +89,7 @@ last-after : (w : ℕ) (s : List ℕ) (from n last : ℕ) → Last last (extende
 unfolding extended overAt
 last-after w s from n last = go (ltb (entry w s from n) (entry w s from 0)) (ltb (largest w) last) (ltb (largest w) (moved w s from last n))
   where
-    go : (a b c : Bool) → Last last (pick a Falls (pick b Falls (pick c (overAt w s from n last) (Fits (moved w s from last n) (entry w s from 0)))))
+    go : (a b c : Bool) → Last last (cond a Falls (cond b Falls (cond c (overAt w s from n last) (Fits (moved w s from last n) (entry w s from 0)))))
     go true b c = falls
     go false true c = falls
     go false false true = over _ _

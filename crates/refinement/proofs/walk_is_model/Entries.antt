@@ -11,7 +11,8 @@ use Rattle.columnar.specs.View.{viewOf}
 use Rattle.utils.specs.Pieces.{pieces}
 use Rattle.utils.specs.Offsets.{repeated}
 use Rattle.utils.proofs.Pieces.{pieces-same}
-use Rattle.model.specs.Primitive.{newKeys, newViews, reindexed}
+use Rattle.model.specs.Primitive.{newViews, reindexed}
+use Rattle.model.proofs.Names.{newKeys}
 
 -- the first entry before the others
 pub pieces-first : (f : ℕ → List ℕ) (n : ℕ) → pieces f (suc n) ≡ f 0 ++ pieces (λ k. f (suc k)) n

@@ -7,7 +7,7 @@ use Prim.Native.Nat.{ℕ, suc, _+_}
 use lib.ListN.{length, getD, replicate}
 use lib.Dec.{leb, eqb}
 use Rattle.number.specs.Number.{encode}
-use Rattle.columnar.specs.Types.{Number}
+use Rattle.columnar.specs.Types.{Number, keyFits}
 use Rattle.columnar.specs.Test.{every}
 use Rattle.schema.specs.formats.Code.{isInteger, isRunEnd}
 use Rattle.schema.specs.formats.Types.{numberOf}
@@ -16,7 +16,6 @@ use Rattle.walk.specs.State.{word, codeOf, dictionaryOf, bytesOf, baseOf, setBy
 use Rattle.walk.specs.Log.{Out, put, done, wrote, need, next, each, apply}
 use Rattle.walk.specs.Copy.{copyWalk}
 use Rattle.columns.specs.Grounds.{ceiling, sourcesGround}
-use Rattle.plan.specs.dictionaries.Sources.{keyFits}
 use Rattle.plan.specs.parts.Parts.{nodesOf, copied, hasOffsets, partTotal, partsPlaced, partsHold}
 use Rattle.plan.specs.Plan.{planned}
 use Rattle.refinement.specs.orders.Order.{Lent, joinOf, sourceCount}

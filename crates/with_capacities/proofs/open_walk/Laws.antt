@@ -10,12 +10,11 @@ use lib.ListN.{getD}
 use lib.Dec.{leb, eqb}
 use borrow.Author.Tests.{leb-true, eq-eqb, ne-eqb}
 use Rattle.number.specs.Number.{encode}
-use Rattle.columnar.specs.Types.{Number, i8, u8, i16, u16, i32, u32, i64, u64}
+use Rattle.columnar.specs.Types.{Number, i8, u8, i16, u16, i32, u32, i64, u64, keyFits}
 use Rattle.columnar.specs.Test.{every}
 use Rattle.schema.specs.formats.Code.{isString, isList, isInteger, isRunEnd, widthOf}
 use Rattle.schema.specs.formats.Types.{numberOf}
 use Rattle.array_data.proofs.lent_tables.Laws.{no, yes, and-right}
-use Rattle.plan.specs.dictionaries.Sources.{keyFits}
 use Rattle.walk.specs.State.{codeOf, dictionaryOf, bytesOf, baseOf, setBytes, lengthOf, top, word}
 use Rattle.walk.specs.Log.{Out, Did, put, applyIf, done, each}
 use Rattle.walk.specs.Copy.{copyWalk}
