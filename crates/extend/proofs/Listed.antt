@@ -13,7 +13,7 @@ use Rattle.utils.specs.declared.Extended.the-variants.{Fits, Over, Falls}
 use Rattle.array_data.proofs.lent_tables.Laws.{and-left, and-right}
 use Rattle.walk.specs.State.{Join, codeOf, bytesOf, rows, place, rowsIn}
 use Rattle.walk.specs.Log.{Did, applyIf, need}
-use Rattle.walk.specs.Copy.{Walk, copyListView, putStretch, putList, copyList, copyData}
+use Rattle.walk.specs.Copy.{Walk, copyListView, putStretch, copyList, copyData}
 use Rattle.walk.proofs.Laws.{fail-did, done-did, wrote-did, need-no, need-ok, next-ok}
 use Rattle.leaf_walk.proofs.Widths.{list-width, lists-width}
 use Rattle.leaf_walk.specs.variable_size.Lists.{triedOffsets, offsetsLog}
@@ -21,6 +21,7 @@ use Rattle.leaf_walk.proofs.variable_size.Laws.{fits-is}
 use Rattle.leaf_walk.proofs.variable_size.Lists.{untouched}
 use Rattle.nested_rows.proofs.node_data.Laws.{data-list-view, data-list}
 use Rattle.extend.proofs.Laws.{by}
+use Rattle.walk.proofs.Names.{putList}
 
 -- ---- by the code
 

@@ -3,7 +3,7 @@ use mathlib.Core.Path.{_≡_, refl, ap, sym, subst, _∙_}
 use mathlib.Core.Bool.{Bool, true, false, not, cond, _&&_, _||_, and-eq-true-iff, false≢true, or-true}
 use mathlib.Core.Option.{Option, none, some}
 use mathlib.Core.List.{List, [], _∷_, map, List·Memᴰ, List·Memᴰ·head, List·Memᴰ·tail}
-use Prim.Native.Nat.{ℕ, zero, suc, _<_}
+use Prim.Native.Nat.{ℕ, zero, suc, _+_, _<_}
 use lib.ListN.{length, take, drop}
 use native.Mathlib.Omega.{arith}
 use lib.Dec.{leb, eqb}
@@ -15,7 +15,6 @@ use Rattle.array_data.specs.Typed.{fieldOf}
 use Rattle.columnar.specs.Test.{member}
 use Rattle.schema.proofs.union_ids.Laws.{small}
 use Rattle.array_data.proofs.Names.{idsOr}
-use Rattle.schema.proofs.Counts.{inside}
 
 pub cond-yes : {A : Type 0} (b : Bool) (x y : A) → b ≡ true → cond b x y ≡ x
 cond-yes true x y h = refl
@@ -64,7 +63,7 @@ ids-cond false o h = tt
 pub ids-formed : (s : List ℕ) (at len : ℕ) → Ids (idsOr (idsAt s at len))
 ids-formed s at len =
     let t = take len (drop at s) in
-    ids-cond (inside (length s) at len) _ (ids-cond (isUnion (codeOf t)) (idList (drop 4 t)) (list-ids (drop 4 t)))
+    ids-cond (leb (at + len) (length s)) _ (ids-cond (isUnion (codeOf t)) (idList (drop 4 t)) (list-ids (drop 4 t)))
 
 -- ---- ids and fields
 

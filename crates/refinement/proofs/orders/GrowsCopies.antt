@@ -27,12 +27,13 @@ use Rattle.walk.specs.State.{Join, codeOf, dictionaryOf, endOf, keepsOf, baseOf
 use Rattle.walk.specs.Log.{put, Out, fail, done, wrote, next}
 use Rattle.refinement.proofs.walk_is_model.Counters.{bytes-set}
 use Rattle.walk.specs.Leaves.{copyBits, copyMask, copyNumbers, copyKeys, copyViews, putString, putExtended, copyString}
-use Rattle.walk.specs.Copy.{Walk, isWidth, masked, listViewRow, copyListView, putStretch, putList, copyList, copyFields, copySparse, idAt, denseTo, denseRow, copyDense, putRuns, runsAt, copyRuns, copyData, copySlots, copyNode, copyWalk}
+use Rattle.walk.specs.Copy.{Walk, isWidth, masked, listViewRow, copyListView, putStretch, copyList, copySparse, idAt, denseTo, denseRow, copyDense, putRuns, runsAt, copyRuns, copyData, copySlots, copyNode, copyWalk, eachField}
 use Rattle.refinement.specs.log_in_room.Reach.{Child, Closed}
 use Rattle.refinement.proofs.log_in_room.Found.{between-wide, and-first, child-first, child-later, child-with}
 use Rattle.plan.specs.parts.Parts.{neededBy}
 use Rattle.refinement.proofs.orders.Buffers.{needed-fixed, needed-offsets, needed-chars, needed-views, needed-starts, needed-sizes, needed-ends}
 use Rattle.refinement.proofs.orders.Grows.{Fine, AllBehind, Behind, Adds, due, longer-same, behind-wide, longer-bytes, fine-bytes, behind-rows, behind-all, behind-offsets, behind-bits, adds-done, adds-nulls, adds-gap, adds-done-two, adds-fail, adds-never, next-never, adds-wrote, adds-cond, adds-need, adds-found, adds-next, adds-each, adds-whole, adds-close, adds-close-two}
+use Rattle.walk.proofs.Names.{putList, copyFields}
 
 -- ---- lengths
 
@@ -198,7 +199,7 @@ module _ (x : Join) (In At : ℕ → Type 0) (closed : Closed (x .plan) In At) (
         (λ g. adds-put-list _ (extended (bytesOf S i) (x .body) (place x i 3 + bytesOf S i * slot) n (rows c (suc i))) c h)))
 
     adds-fields : (slot m fuel k : ℕ) (c : List ℕ) → isUnion (codeOf S i) ≡ true → (k < endOf S i → Child S i k) → Adds S late i n c (copyFields x walk slot m (endOf S i) fuel k c)
-    unfolding copyFields
+    unfolding eachField
     adds-fields slot m zero k c h d = adds-done S late i n c
     adds-fields slot m (suc fuel) k c h d =
         adds-cond S late i n c (ltb k (endOf S i)) _ _

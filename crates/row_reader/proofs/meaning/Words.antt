@@ -159,7 +159,7 @@ module _ (formats schema : List ℕ) (first n : ℕ) where
   code-low i =
       let at = field schema (first + i) 0 in
       let len = field schema (first + i) 1 in
-      cond-le (code.inside (length formats) at len) (code.codeOf (take len (drop at formats))) 0 lastCode (text-low (take len (drop at formats))) (omega arith)
+      cond-le (leb (at + len) (length formats)) (code.codeOf (take len (drop at formats))) 0 lastCode (text-low (take len (drop at formats))) (omega arith)
 
   pub ids-few : (i : ℕ) → length (idsOr (idsOf formats schema first i)) ≤ 16
   unfolding idsOf

@@ -23,7 +23,7 @@ use Rattle.leaf_walk.specs.Join.{join}
 use Rattle.leaf_walk.proofs.Widths.{string-width, lists-width}
 use Rattle.plan.specs.parts.Parts.{nodesOf, copied, hasOffsets}
 use Rattle.refinement.specs.orders.Order.{Lent, joinOf, sourceCount}
-use Rattle.refinement.specs.opening.Open.{beginGaps, firstOffset, joinSource, joinEntries, entriesHold, keyHolds, keysOf, keysHold, openDictionary, openWalk}
+use Rattle.refinement.specs.opening.Open.{beginGaps, firstOffset, joinSource, joinEntries, entriesHold, keyHolds, keysHold, openDictionary, openWalk}
 
 -- ---- gaps
 
@@ -157,7 +157,7 @@ module _ (x : Lent) (i : ℕ) {code : ℕ} (e : code ≡ codeOf (x .plan) i) {t 
   keys-are {r} {m} h p d =
       let k = integer-known code (yes f h) in
       let known : numberOf (codeOf (x .plan) i) ≡ some (k .number) = subst (λ z. numberOf z ≡ some (k .number)) e (k .is-number) in
-      let fits : r ≡ keysOf x i (some (k .number)) = d (k .number) (k .is-number) ∙ ap (every (keyHolds x (k .number) i)) p in
+      let fits : r ≡ every (keyHolds x (k .number) i) (sourceCount (x .plan)) = d (k .number) (k .is-number) ∙ ap (every (keyHolds x (k .number) i)) p in
       rw (integers (yes f h), known) fits
 
 -- the keys of one source
