@@ -30,15 +30,15 @@ module _ (tree : Tree) (y : Tables) (counts : List ℕ) where
   abbrev Own : ℕ → List (List ℕ) → Type 0
   Own i bs = take (length bs) (firstBuffer y i ∷ secondBuffer y i ∷ []) ≡ bs
 
-  one : {i : ℕ} {b : List ℕ} → firstBuffer y i ≡ b → Own i (b ∷ [])
-  one e = ap (λ s. s ∷ []) e
+  one : (i : ℕ) {b : List ℕ} → firstBuffer y i ≡ b → Own i (b ∷ [])
+  one i e = ap (λ s. s ∷ []) e
 
-  two : {i : ℕ} {b c : List ℕ} → firstBuffer y i ≡ b → secondBuffer y i ≡ c → Own i (b ∷ c ∷ [])
-  two e f = ap₂ (λ s u. s ∷ u ∷ []) e f
+  two : (i : ℕ) {b c : List ℕ} → firstBuffer y i ≡ b → secondBuffer y i ≡ c → Own i (b ∷ c ∷ [])
+  two i e f = ap₂ (λ s u. s ∷ u ∷ []) e f
 
   own-plain : (p : Plain) (i : ℕ) (d : PlainBody p) → ShowsPlain tree y p i d → Own i (plainBuffers p d)
-  own-plain (fixed n) i d s = one s
-  own-plain (string w) i d s = two (s .0) (s .1)
+  own-plain (fixed n) i d s = one i s
+  own-plain (string w) i d s = two i (s .0) (s .1)
 
   module _ (counters : List ℕ) (m : ℕ) where
     made : {P D : Type 0} (i : ℕ) (w : Bool) (f : D → P) (shows below : P → Type 0) (by : D → P → Type 0) (own : D → List (List ℕ))
@@ -92,13 +92,13 @@ module _ (tree : Tree) (y : Tables) (counts : List ℕ) where
 
     own-data : (t : Ty) (i : ℕ) (ss : ℕ → Body t) (d : Grown t) → ShowsData tree y t i (freezeData t m ss d) → Own i (buffersOf t d)
     own-data (tPlain p) i ss d s = own-plain p i d s
-    own-data tView i ss d s = one (s .0)
-    own-data (tListView w t) i ss d s = two (s .0) (s .1)
-    own-data (tList w t) i ss d s = one (s .0)
-    own-data (tSparse ids nullable f) i ss d s = one (s .0)
-    own-data (tDense ids nullable f) i ss d s = two (s .0) (s .1)
+    own-data tView i ss d s = one i (s .0)
+    own-data (tListView w t) i ss d s = two i (s .0) (s .1)
+    own-data (tList w t) i ss d s = one i (s .0)
+    own-data (tSparse ids nullable f) i ss d s = one i (s .0)
+    own-data (tDense ids nullable f) i ss d s = two i (s .0) (s .1)
     own-data (tRunEnd w t) i ss d s = refl
-    own-data (tDictionary k p) i ss d s = one (s .0)
+    own-data (tDictionary k p) i ss d s = one i (s .0)
 
     -- counters and memory hold the destination; the plan's children are the tree's
     module _ (plan : List ℕ) (μ : Memory) (kids : (i : ℕ) (b : Bool) (ids : List ℕ) → Is tree i (unionKind b ids) → (e : ℕ) → List·Memᴰ e ids → childOf plan i e ≡ nodeOf tree i ids e) where
@@ -123,7 +123,7 @@ module _ (tree : Tree) (y : Tables) (counts : List ℕ) where
 
       below : (t : Ty) (i : ℕ) (ss : ℕ → Body t) → Means tree t i → (d : Grown t) → ShowsData tree y t i (freezeData t m ss d) → CountsData tree counts t i (freezeData t m ss d)
           → ByCounters t m ss d (freezeData t m ss d) → HoldsData plan t i d counters μ → BuiltData tree y counts counters m t i ss d
-      below (tPlain (fixed n)) i ss mn d s n b h = tt
+      below (tPlain (fixed k)) i ss mn d s n b h = tt
       below (tPlain (string w)) i ss mn d s n b h = h .2
       below tView i ss mn d s n b h = s .1
       below (tListView w t) i ss mn d s n b h = child t (suc i) (λ j. ss j .child .body) (below t (suc i) (λ j. ss j .child .body) (mn .1)) (d .child) (s .2) n b (h .2)
@@ -136,7 +136,7 @@ module _ (tree : Tree) (y : Tables) (counts : List ℕ) where
           (there i false ids f (mn .0) c q (d .children c) (h .2 c q))
       below (tRunEnd w t) i ss mn d s n b h = (
         h .0,
-        made (suc i) true (λ e. e) (λ e. firstBuffer y (suc i) ≡ e) (λ e. Unit {0}) Bare (λ e. e ∷ []) (λ e u. one u) (d .ends) (s .0) (n .0) (b .0),
+        made (suc i) true (λ e. e) (λ e. firstBuffer y (suc i) ≡ e) (λ e. Unit {0}) Bare (λ e. e ∷ []) (λ e u. one (suc i) u) (d .ends) (s .0) (n .0) (b .0),
         h .3,
         child t (suc (suc i)) (λ j. ss j .values .body) (below t (suc (suc i)) (λ j. ss j .values .body) (mn .2)) (d .values) (s .1) (n .1) (b .1) (h .2),
       )
