@@ -17,7 +17,7 @@ use Rattle.schema.specs.Tree.{children, dictionary, below, bare, childForEach, 
 use Rattle.schema.proofs.Trees.{child-inside}
 use Rattle.schema.proofs.Known.{typed-whole, typed-shape}
 use Rattle.array_data.specs.Typed.{NodeKind, fixedNode, stringNode, viewNode, listViewNode, listNode, sparseNode, denseNode, runEndNode, dictionaryNode, Tree}
-use Rattle.array_data.specs.type_tree.Lent.{numberOr, idsOr, unionKind, kindAt, treeOf, tyAs, tyOf, typeOf}
+use Rattle.array_data.specs.type_tree.Lent.{numberOr, kindAt, treeOf, tyAs, tyOf, typeOf}
 use Rattle.array_data.proofs.type_tree.Lent.{first-child, second-child, some-node}
 use Rattle.array_data.proofs.type_tree.Shaped.{Shaped, of-plain, of-view, of-list, of-lists, of-sparse, of-dense, of-run, of-dictionary, shaped, five, later, plainKind, integer-fixed, at-fixed, at-keys, at-string, at-view, at-list, at-lists, at-union, at-run}
 use Rattle.array_data.proofs.lent_tables.Laws.{and-left, and-right}
@@ -25,6 +25,7 @@ use Rattle.aggregates.specs.cells.Cells.{numberAt}
 use Rattle.aggregates.specs.declared.Shape.{Shape}
 use Rattle.aggregates.specs.Report.{wholePlain, wholeType}
 use Rattle.aggregates.specs.Shape.{wholeCode, shapeOf}
+use Rattle.array_data.proofs.Names.{idsOr, unionKind}
 
 -- ---- kinds
 

@@ -15,7 +15,6 @@ use Rattle.columnar.specs.Reading.{Column, masks}
 use Rattle.schema.specs.formats.Code.{isUnion}
 use Rattle.array_data.specs.Tables.{Tables, firstBuffer, secondBuffer}
 use Rattle.array_data.specs.Typed.{Tree, nodeOf, Is, MeansPlain, Means}
-use Rattle.array_data.specs.type_tree.Lent.{unionKind}
 use Rattle.model.specs.Mutable.{Mutable}
 use Rattle.model.proofs.Law.{BitsFor}
 use Rattle.walk.specs.State.{codeOf, dictionaryOf, endOf, rows, place}
@@ -41,6 +40,7 @@ use Rattle.anew.specs.Stood.{BitsOf, StoodBits, BuffersNamed, StoodValue
 use Rattle.anew.proofs.Standing.{Standing, Here, in-table, union-free}
 use Rattle.anew.proofs.Owned.{buffersAt, own-plain, own-at}
 use Rattle.anew.proofs.Bounds.{plain-code, fixed-code, parts-copied, ends-own, all-bounded}
+use Rattle.array_data.proofs.Names.{unionKind}
 
 bits-for : (m : Bool) (o : Option (List Bool)) (n : ℕ) → BitsOf m o n → BitsFor m o n
 bits-for m none n h = tt

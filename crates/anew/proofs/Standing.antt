@@ -14,7 +14,6 @@ use Rattle.columnar.specs.Plain.{PlainBody}
 use Rattle.columnar.specs.Reading.{Body, Column}
 use Rattle.schema.specs.formats.Code.{isFixed, isUnion}
 use Rattle.array_data.specs.Typed.{Tree, nodeOf, Is, MeansPlain, MeansEnds, Means}
-use Rattle.array_data.specs.type_tree.Lent.{unionKind}
 use Rattle.walk.specs.State.{codeOf, dictionaryOf, endOf, bytesOf}
 use Rattle.refinement.specs.walk_is_model.Memory.{Memory}
 use Rattle.refinement.specs.walk_is_model.Holds.{childOf, Fields, WordedPlain, Worded}
@@ -27,6 +26,7 @@ use Rattle.plan.specs.parts.Parts.{nodesOf, partsWithin, partsHold, Used}
 use Rattle.refinement.specs.orders.Order.{Lent, sourceCount}
 use Rattle.refinement.proofs.orders.Cover.{Laid, within}
 use Rattle.anew.specs.Stood.{StoodNode, Stored, StoodValues, Stood}
+use Rattle.array_data.proofs.Names.{unionKind}
 
 -- the plan's words stand for a type, and for one source
 pub record TypePlan (plan : List ℕ) (tree : Tree) (t : Ty) : Type 0 where

@@ -1,2 +1,3 @@
 -- The laws of `array_data`.
+pub mod Names
 pub mod Typed

@@ -13,7 +13,7 @@ use Rattle.bits.specs.Bits.{bitsAt, zeros}
 use Rattle.bits.proofs.Puts.{zeros-add}
 use Rattle.bits.proofs.Steps.{zeros-none}
 use Rattle.utils.specs.Offsets.{largest, moved, movedOffsets}
-use Rattle.utils.specs.Extension.{extended, pick, overAt}
+use Rattle.utils.specs.Extension.{extended, overAt}
 use Rattle.utils.specs.declared.Extended.{Extended}
 use Rattle.utils.specs.declared.Extended.the-variants.{Fits, Over, Falls}
 use Rattle.walk.specs.State.{Join, keepsOf, rows, nulls, bytes, top, grown, addNulls, setBytes, place, rowsIn}

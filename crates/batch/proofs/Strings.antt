@@ -10,7 +10,7 @@ use lib.Dec.{leb, ltb, eqb}
 use borrow.Author.Tests.{leb-true, le-leb, ltb-false, le-ltb, eqb-true, eqb-false, eq-eqb, ne-eqb}
 use Rattle.number.specs.Number.{number, entry}
 use Rattle.utils.specs.Offsets.{largest, moved, movedOffsets}
-use Rattle.utils.specs.Extension.{extended, pick, overAt}
+use Rattle.utils.specs.Extension.{extended, overAt}
 use Rattle.utils.specs.declared.Extended.{Extended}
 use Rattle.utils.specs.declared.Extended.the-variants.{Fits, Over, Falls}
 use Rattle.walk.specs.State.{Join, bytes, top, setBytes, place, rowsIn}
@@ -82,7 +82,7 @@ module _ (x : Join) (k w : ℕ) where
   -- what was asked for
   put-was : (slot n : ℕ) (c : List ℕ) (t u v : Bool) → ltb (off slot n) (off slot 0) ≡ t → ltb (largest w) (bytes c k) ≡ u → ltb (largest w) (bytes c k + (off slot n - off slot 0)) ≡ v
       → putExtended x k w (place x k 3 + w * slot) n
-      (pick t Falls (pick u Falls (pick v (overAt w (x .body) (place x k 3 + w * slot) n (bytes c k)) (Fits (moved w (x .body) (place x k 3 + w * slot) (bytes c k) n) (off slot 0))))) c .ans ≡ 0
+      (cond t Falls (cond u Falls (cond v (overAt w (x .body) (place x k 3 + w * slot) n (bytes c k)) (Fits (moved w (x .body) (place x k 3 + w * slot) (bytes c k) n) (off slot 0))))) c .ans ≡ 0
       → rowsIn x (place x k 3) w slot (suc n) ≡ true → Fit slot n (bytes c k)
   unfolding putString fail overAt
   put-was slot n c true u v e f g h r = let z : _≡_ {A = ℕ} 12 0 = h in absurd (omega arith)

@@ -15,8 +15,7 @@ use Rattle.model.proofs.Bits.{getD-seg}
 use Rattle.schema.specs.formats.Code.{isFixed, isUnion, isRunEnd}
 use Rattle.schema.specs.Tree as trees
 use Rattle.schema.proofs.union_ids.Read.{ids-other}
-use Rattle.array_data.specs.type_tree.Lent.{idsOr}
-use Rattle.array_data.specs.node_words.Words.{idFrom, idUnder, idBelow, wordOf, planted}
+use Rattle.array_data.specs.node_words.Words.{idFrom, idBelow, wordOf, planted, idUnder}
 use Rattle.array_data.proofs.lent_tables.Laws.{and-left, and-right}
 use Rattle.plan.specs.Plan.{filled, flag, withTree, withCounts, withParts, withTotal}
 use Rattle.plan.specs.parts.Parts.{copied, validityParts, bufferParts, bufferCount, partsBefore, partWord, partTotal}
@@ -25,6 +24,7 @@ use Rattle.anew.specs.ResultPlan.{withNulls, dictionaryWord, withDictionaries, 
 use Rattle.coding.specs.Planned.{runPlan}
 use Rattle.coding.proofs.Codes.{code-low, one-buffer}
 use Rattle.coding.proofs.PlanRows.{set-none}
+use Rattle.array_data.proofs.Names.{idsOr}
 
 -- what the type says of its three nodes
 pub record RunNodes (formats schema : List ℕ) (target : ℕ) : Type 0 where

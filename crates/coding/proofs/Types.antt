@@ -10,13 +10,14 @@ use Rattle.schema.specs.formats.Types.{numberOf}
 use Rattle.schema.specs.Tree.{children, dictionary, bare, childForEach, codeOf, idsOf, valuesShape, endsShape, leafShape, keysShape, listShape, unionShape, runShape, shape, typed}
 use Rattle.schema.proofs.Known.{typed-shape}
 use Rattle.array_data.specs.Typed.{NodeKind, fixedNode, stringNode, viewNode, listViewNode, listNode, sparseNode, denseNode, runEndNode, dictionaryNode, Tree}
-use Rattle.array_data.specs.type_tree.Lent.{numberOr, idsOr, numberKind, unionKind, kindOf, kindAt, treeOf, tyAs, tyOf, typeOf}
+use Rattle.array_data.specs.type_tree.Lent.{numberOr, kindOf, kindAt, treeOf, tyAs, tyOf, typeOf}
 use Rattle.array_data.proofs.type_tree.Shaped.{five, integer-fixed, at-run}
 use Rattle.array_data.proofs.lent_tables.Laws.{and-left, and-right}
 use Rattle.aggregates.proofs.Types.{run-over}
 use Rattle.coding.specs.Encode.{plainAt}
 use Rattle.coding.specs.Expand.{runsOfPlain}
 use Rattle.coding.proofs.Accepted.{root-in}
+use Rattle.array_data.proofs.Names.{idsOr, numberKind, unionKind}
 
 abbrev fixedKind : NodeKind → Bool
 fixedKind (fixedNode m) = true

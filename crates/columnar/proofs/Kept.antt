@@ -10,7 +10,7 @@ use lib.Dec.{T}
 use Rattle.columnar.specs.Row.{Row, seg}
 use Rattle.columnar.specs.Types.{half}
 use Rattle.columnar.specs.Array.{Array, ok, sight, readWith, nullsIn, nullCount, Mask, Obeys}
-use Rattle.columnar.specs.Wider.{Validity, Kept}
+use Rattle.columnar.specs.Wider.{Validity, no-bits, bits, Kept}
 
 -- a wider signed number reaches higher
 pub half-mono : {w w′ : ℕ} → w ≤ w′ → half w ≤ half w′
@@ -31,32 +31,28 @@ nulls-in-same f g a zero h = refl
 nulls-in-same f g a (suc n) h =
     ap₂ (λ b m. cond b 0 1 + m) (rw add-zero at (h 0 (omega arith))) (nulls-in-same f g (suc a) n (λ i q. rw shift (h (suc i) (omega arith))))
 
-bits-same : (v v′ : Option (List ℕ)) (off len : ℕ) → Validity v v′ off len → (i : ℕ) → i < len → ok v (off + i) ≡ ok v′ (off + i)
-bits-same none none off len h i q = refl
-bits-same none (some m′) off len h i q = absurd h
-bits-same (some m) none off len h i q = absurd h
-bits-same (some m) (some m′) off len h i q = h .kept i q
+bits-same : {v v′ : Option (List ℕ)} {off len : ℕ} → Validity off len v v′ → (i : ℕ) → i < len → ok v (off + i) ≡ ok v′ (off + i)
+bits-same no-bits i q = refl
+bits-same (bits m m′ h k) i q = k i q
 
-mask-same : (b : Bool) (v v′ : Option (List ℕ)) (off len : ℕ) → Validity v v′ off len → Mask b v (off + len) → Mask b v′ (off + len)
-mask-same b none none off len h k = tt
-mask-same b none (some m′) off len h k = absurd h
-mask-same b (some m) none off len h k = absurd h
-mask-same true (some m) (some m′) off len h k = h .hold
-mask-same false (some m) (some m′) off len h k = absurd k
+mask-same : (b : Bool) {v v′ : Option (List ℕ)} {off len : ℕ} → Validity off len v v′ → Mask b v (off + len) → Mask b v′ (off + len)
+mask-same b no-bits k = tt
+mask-same true (bits m m′ h j) k = h
+mask-same false (bits m m′ h j) k = absurd k
 
 module _ {B B′ : Type 0} {same : (ℕ → Bool) → B → B′ → ℕ → ℕ → Type 0} {x : Array B} {x′ : Array B′} (h : Kept same x x′) where
   -- a row is valid in both or in neither
   pub ok-kept : (i : ℕ) → i < x .len → ok (x .valid) (x .off + i) ≡ ok (x′ .valid) (x′ .off + i)
-  ok-kept i q = rw (← h .same-off) (bits-same (x .valid) (x′ .valid) (x .off) (x .len) (h .same-valid) i q)
+  ok-kept i q = rw (← h .same-off) (bits-same (h .same-valid) i q)
 
   pub mask-kept : (b : Bool) → Mask b (x .valid) (x .off + x .len) → Mask b (x′ .valid) (x′ .off + x′ .len)
-  mask-kept b k = rw (← h .same-off, ← h .same-len) (mask-same b (x .valid) (x′ .valid) (x .off) (x .len) (h .same-valid) k)
+  mask-kept b k = rw (← h .same-off, ← h .same-len) (mask-same b (h .same-valid) k)
 
   -- THE NULL COUNT IS THE SAME
   pub nulls-kept : nullCount x ≡ nullCount x′
   nulls-kept =
       rw (← h .same-off, ← h .same-len)
-      (nulls-in-same (ok (x .valid)) (ok (x′ .valid)) (x .off) (x .len) (bits-same (x .valid) (x′ .valid) (x .off) (x .len) (h .same-valid)))
+      (nulls-in-same (ok (x .valid)) (ok (x′ .valid)) (x .off) (x .len) (bits-same (h .same-valid)))
 
 -- What a kind owes: it may have validity in both or in neither, a valid slot holds the same, and the rule of a source holds again. The validity of the wide array may be another list.
 pub record Widens {B B′ : Type 0} (masks masks′ : Bool) (at : B → ℕ → Row) (at′ : B′ → ℕ → Row) (rule : (ℕ → Bool) → B → ℕ → ℕ → Type 0) (rule′ : (ℕ → Bool) → B′ → ℕ → ℕ → Type 0)
@@ -86,5 +82,5 @@ module _ {B B′ : Type 0} {masks masks′ : Bool} {at : B → ℕ → Row} {at�
         mask = rw (← u .masks-same) (mask-kept h masks (s .mask));
         slots = rw (← h .same-off, ← h .same-len)
             (u .rule-same (ok (x .valid)) (ok (x′ .valid)) (x .body) (x′ .body) (x .off) (x .len) (h .same-body)
-            (bits-same (x .valid) (x′ .valid) (x .off) (x .len) (h .same-valid)) (s .slots));
+            (bits-same (h .same-valid)) (s .slots));
       }

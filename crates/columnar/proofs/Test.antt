@@ -136,11 +136,11 @@ same-out : (xs ys : List ℕ) → T (same xs ys) → xs ≡ ys
 same-out [] [] h = refl
 same-out [] (y ∷ ys) h = absurd h
 same-out (x ∷ xs) [] h = absurd h
-same-out (x ∷ xs) (y ∷ ys) h = ap₂ (λ a b. a ∷ b) (eqb→eq x y (and-fst (eqb x y) (same xs ys) h)) (same-out xs ys (and-snd (eqb x y) (same xs ys) h))
+same-out (x ∷ xs) (y ∷ ys) h = ap₂ (λ a b. a ∷ b) (eqb→eq x y (and-snd (same xs ys) (eqb x y) h)) (same-out xs ys (and-fst (same xs ys) (eqb x y) h))
 
 same-refl : (xs : List ℕ) → T (same xs xs)
 same-refl [] = tt
-same-refl (x ∷ xs) = and-both (eqb x x) (same xs xs) (eqb-refl x) (same-refl xs)
+same-refl (x ∷ xs) = and-both (same xs xs) (eqb x x) (same-refl xs) (eqb-refl x)
 
 pub same-agrees : (xs ys : List ℕ) → Agrees (same xs ys) (xs ≡ ys)
 same-agrees xs ys = record { sound = same-out xs ys; complete = λ e. subst (λ zs. T (same xs zs)) e (same-refl xs) }

@@ -15,7 +15,7 @@ use Rattle.columnar.specs.Entries.{encodes}
 use Rattle.columnar.specs.Plain.{PlainBody, OffsetsTo, OffsetsRule, empty, full, PlainRule}
 use Rattle.columnar.specs.Reading.{Body, Column, readAll, masks, SlotRule, Source}
 use Rattle.columnar.specs.Test.{member}
-use Rattle.columnar.specs.Wider.{PlainWider, wFixed, wString, Wider, wPlain, wView, wListView, wList, wSparse, wDense, wRunEnd, wDictionary, Entries, Validity, Kept, OffsetsKept, entries, no-entry, PlainKept, Same, Stored, SharedAlike, Again}
+use Rattle.columnar.specs.Wider.{PlainWider, wFixed, wString, Wider, wPlain, wView, wListView, wList, wSparse, wDense, wRunEnd, wDictionary, Entries, Validity, no-bits, bits, Kept, OffsetsKept, entries, no-entry, PlainKept, Same, Stored, SharedAlike, Again}
 use Rattle.columnar.proofs.Test.{member-agrees, offsets-rule-agrees}
 use Rattle.columnar.proofs.Items.{length-encodes, item-encodes-lt}
 use Rattle.columnar.proofs.Kept.{half-mono}
@@ -69,9 +69,9 @@ limit-fits f64 = omega arith
 abbrev onArray : {B B′ : Type 0} → (B → ℕ → B′) → Array B → Array B′
 onArray f x = record { len = x .len; off = x .off; valid = x .valid; body = f (x .body) (x .off + x .len) }
 
-valid-self : (b : Bool) (v : Option (List ℕ)) (off len : ℕ) → Mask b v (off + len) → Validity v v off len
-valid-self b none off len h = tt
-valid-self true (some m) off len h = record { hold = h; kept = λ i q. refl }
+valid-self : (b : Bool) (v : Option (List ℕ)) (off len : ℕ) → Mask b v (off + len) → Validity off len v v
+valid-self b none off len h = no-bits
+valid-self true (some m) off len h = bits m m h (λ i q. refl)
 valid-self false (some m) off len h = absurd h
 
 module _ {B B′ : Type 0} (f : B → ℕ → B′) (rule : (ℕ → Bool) → B → ℕ → ℕ → Type 0) (same : (ℕ → Bool) → B → B′ → ℕ → ℕ → Type 0)

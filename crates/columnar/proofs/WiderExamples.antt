@@ -16,7 +16,7 @@ use Rattle.columnar.specs.Plain.{full}
 use Rattle.columnar.specs.ListView.{Entry}
 use Rattle.columnar.specs.RunEnd.{startOf}
 use Rattle.columnar.specs.Reading.{Column, readAll, Source}
-use Rattle.columnar.specs.Wider.{Declared, Wider, wPlain, wListView, wList, wSparse, wDense, wRunEnd, wDictionary, wFixed, wString, entries, Stored, Again}
+use Rattle.columnar.specs.Wider.{Declared, Wider, wPlain, wListView, wList, wSparse, wDense, wRunEnd, wDictionary, wFixed, wString, no-bits, bits, entries, Stored, Again}
 use Rattle.columnar.proofs.Test.{member-agrees}
 use Rattle.columnar.proofs.Wider.{rows-same}
 
@@ -52,7 +52,7 @@ text-stored =
     record {
       same-len = refl;
       same-off = refl;
-      same-valid = record { hold = omega arith; kept = λ i q. refl };
+      same-valid = bits (3 ∷ []) (3 ∷ []) (omega arith) (λ i q. refl);
       same-body = record {
         same-offsets = entries (omega arith) (record {
           hold = omega arith;
@@ -111,18 +111,18 @@ runs-stored =
     record {
       same-len = refl;
       same-off = refl;
-      same-valid = tt;
+      same-valid = no-bits;
       same-body = record {
         same-ends = record {
           same-len = refl;
           same-off = refl;
-          same-valid = tt;
+          same-valid = no-bits;
           same-body = record {
             hold = omega arith;
             kept = upto-3 (λ i. item 2 (encodes 2 run-ends) (1 + i) ≡ item 4 (encodes 4 run-ends) (1 + i)) refl refl refl;
           };
         };
-        same-values = record { same-len = refl; same-off = refl; same-valid = tt; same-body = record { hold = omega arith; kept = λ i q. refl } };
+        same-values = record { same-len = refl; same-off = refl; same-valid = no-bits; same-body = record { hold = omega arith; kept = λ i q. refl } };
       };
     }
 
@@ -178,7 +178,7 @@ words-stored a b =
     record {
       same-len = refl;
       same-off = refl;
-      same-valid = record { hold = omega arith; kept = λ i q. refl };
+      same-valid = bits (13 ∷ []) (13 ∷ []) (omega arith) (λ i q. refl);
       same-body = record {
         hold = omega arith;
         kept = upto-3 (λ i. T (bit (13 ∷ []) (1 + i)) → item 1 (encodes 1 (9 ∷ 250 ∷ 0 ∷ 1 ∷ [])) (1 + i) ≡ item 2 (encodes 2 (9 ∷ 7 ∷ 0 ∷ 1 ∷ [])) (1 + i))
@@ -186,7 +186,7 @@ words-stored a b =
         same-values = record {
           same-len = refl;
           same-off = refl;
-          same-valid = tt;
+          same-valid = no-bits;
           same-body = record {
             same-offsets = entries (omega arith) (record {
               hold = omega arith;
@@ -255,7 +255,7 @@ lists-stored =
     record {
       same-len = refl;
       same-off = refl;
-      same-valid = tt;
+      same-valid = no-bits;
       same-body = record {
         same-offsets = record { hold = omega arith; kept = upto-1 (λ i. item 4 (encodes 4 (1 ∷ 0 ∷ [])) (1 + i) ≡ item 8 (encodes 8 (1 ∷ 0 ∷ [])) (1 + i)) refl };
         same-sizes = record { hold = omega arith; kept = upto-1 (λ i. item 4 (encodes 4 (1 ∷ 2 ∷ [])) (1 + i) ≡ item 8 (encodes 8 (1 ∷ 2 ∷ [])) (1 + i)) refl };
@@ -297,7 +297,7 @@ stops-stored =
     record {
       same-len = refl;
       same-off = refl;
-      same-valid = tt;
+      same-valid = no-bits;
       same-body = record {
         same-offsets = entries (omega arith) (record {
           hold = omega arith;

@@ -30,14 +30,13 @@ abbrev pub ok : Option (List ℕ) → ℕ → Bool
 ok none i = true
 ok (some m) i = bit m i
 
+-- row i of an array, null where its slot is not valid, where `at` says what a slot of its body holds: the one place where an array's offset is added
+abbrev pub readWith : {B : Type 0} → (B → ℕ → Row) → Array B → ℕ → Row
+readWith at x i = cond (ok (x .valid) (x .off + i)) (at (x .body) (x .off + i)) null
+
 -- a slot's row where it is valid, else null
 abbrev pub sight : Bool → Row → Row
-sight true r = r
-sight false r = null
-
--- row i of an array, where `at` says what a slot of its body holds: the one place where an array's offset is added
-abbrev pub readWith : {B : Type 0} → (B → ℕ → Row) → Array B → ℕ → Row
-readWith at x i = sight (ok (x .valid) (x .off + i)) (at (x .body) (x .off + i))
+sight b r = cond b r null
 
 -- how many of the n slots from a on are not valid
 abbrev pub nullsIn : (ℕ → Bool) → ℕ → ℕ → ℕ

@@ -1,6 +1,6 @@
 -- What a row reads as (01, "How a row is read"), and stretches of rows. Assumes nothing.
 use mathlib.Core.List.{List, [], _∷_}
-use Prim.Native.Nat.{ℕ, zero, suc}
+use Prim.Native.Nat.{ℕ, zero, suc, _+_}
 use lib.IntN.{ℤ}
 
 -- "A leaf row is null, a whole number, an f32 or an f64; floats are equal when their bits are. A string or view row is null
@@ -27,3 +27,8 @@ rows (r ∷ rs) = more r (rows rs)
 abbrev pub seg : {A : Type 0} → (ℕ → A) → ℕ → ℕ → List A
 seg f a zero = []
 seg f a (suc n) = f a ∷ seg f (suc a) n
+
+-- f 0 + .. + f (n - 1)
+abbrev pub sum : (ℕ → ℕ) → ℕ → ℕ
+sum f zero = 0
+sum f (suc n) = sum f n + f n

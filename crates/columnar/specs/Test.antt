@@ -37,7 +37,7 @@ abbrev pub same : List ℕ → List ℕ → Bool
 same [] [] = true
 same [] (y ∷ ys) = false
 same (x ∷ xs) [] = false
-same (x ∷ xs) (y ∷ ys) = eqb x y && same xs ys
+same (x ∷ xs) (y ∷ ys) = same xs ys && eqb x y
 
 -- q where b, and nothing asked where not
 abbrev pub onlyIf : Bool → Bool → Bool

@@ -1,7 +1,8 @@
 -- Column types (01, "Column types and ceilings"; the formats are those of the Arrow C Data Interface). Assumes nothing.
-use mathlib.Core.Bool.{Bool}
+use mathlib.Core.Bool.{Bool, _&&_}
 use mathlib.Core.List.{List}
-use Prim.Native.Nat.{ℕ, _/_, _^_}
+use Prim.Native.Nat.{ℕ, _+_, _-_, _/_, _^_}
+use lib.Dec.{ltb}
 
 -- c C s S i I l L f g
 pub data Number : Type 0 where
@@ -45,6 +46,10 @@ limit i64 = half 8
 limit u64 = 256 ^ 8
 limit f32 = 0
 limit f64 = 0
+
+-- ground 8: entries that are numbered from `start` on, n of them, fit keys of k: "(start + entries - 1, at least 0) or start does not fit the key"
+abbrev pub keyFits : Number → ℕ → ℕ → Bool
+keyFits k start n = ltb (start + n - 1) (limit k) && ltb start (limit k)
 
 -- fixed-width numbers; byte strings with offsets of w bytes (4: z u; 8: Z U)
 pub data Plain : Type 0 where

@@ -61,23 +61,16 @@ pub record Entries (w w′ : ℕ) (s s′ : List ℕ) (off len : ℕ) : Type 0 w
   pub hold : (off + len) * w′ ≤ length s′
   pub kept : (i : ℕ) → i < len → item w s (off + i) ≡ item w′ s′ (off + i)
 
--- every bit kept
-pub record Bits (m m′ : List ℕ) (off len : ℕ) : Type 0 where
-  pub hold : off + len ≤ 8 * length m′
-  pub kept : (i : ℕ) → i < len → bit m (off + i) ≡ bit m′ (off + i)
-
--- validity, present or absent alike
-abbrev pub Validity : Option (List ℕ) → Option (List ℕ) → ℕ → ℕ → Type 0
-Validity none none off len = Unit {0}
-Validity none (some m′) off len = ⊥
-Validity (some m) none off len = ⊥
-Validity (some m) (some m′) off len = Bits m m′ off len
+-- validity, present or absent alike, with every bit kept
+pub data Validity (off len : ℕ) : Option (List ℕ) → Option (List ℕ) → Type 0 where
+  no-bits : Validity off len none none
+  bits : (m m′ : List ℕ) → off + len ≤ 8 * length m′ → ((i : ℕ) → i < len → bit m (off + i) ≡ bit m′ (off + i)) → Validity off len (some m) (some m′)
 
 -- AN ARRAY STORED WIDER, where `same` says it of the body, over the narrow array's validity, offset and length
 pub record Kept {B B′ : Type 0} (same : (ℕ → Bool) → B → B′ → ℕ → ℕ → Type 0) (x : Array B) (x′ : Array B′) : Type 0 where
   pub same-len : x .len ≡ x′ .len
   pub same-off : x .off ≡ x′ .off
-  pub same-valid : Validity (x .valid) (x′ .valid) (x .off) (x .len)
+  pub same-valid : Validity (x .off) (x .len) (x .valid) (x′ .valid)
   pub same-body : same (ok (x .valid)) (x .body) (x′ .body) (x .off) (x .len)
 
 -- ---- bodies

@@ -6,7 +6,7 @@ use Prim.Native.Nat.{ℕ, _+_, _*_, _≤_, _<_, _^_}
 use native.Mathlib.Omega.{arith}
 use lib.Dec.{ltb}
 use borrow.Author.Tests.{ltb-true}
-use Rattle.schema.specs.Tree.{every, ceilings, typed, sameType}
+use Rattle.schema.specs.Tree.{ceilings, typed, sameType}
 use Rattle.schema.proofs.Known.{every-at, within-nodes}
 use Rattle.array_data.specs.Tables.{Tables, lengthOf, offsetOf}
 use Rattle.array_data.proofs.type_tree.Ids.{both}
@@ -16,6 +16,7 @@ use Rattle.source_rules.specs.Source.{Ready}
 use Rattle.columns.specs.Grounds.{countFits, fewBuffers, nodeFits, smallBody, withinCeilings, obeys, columnGround, fewSources, allTyped, allSame, allWithin, allObey, sourcesGround}
 use Rattle.array_data.specs.Sources.{sourceCount, firstOf, nodesOf}
 use Rattle.columns.proofs.Grounds.{Placed, SourceAt, within-low, within-at, typed-at, same-at, by-nodes, sources-source}
+use Rattle.columnar.specs.Test.{every}
 
 -- ---- ground 9 is not about the body
 

@@ -9,9 +9,9 @@ use lib.Dec.{T, leb}
 use borrow.Author.Tests.{leb-true}
 use Rattle.columnar.specs.Types.{Ty}
 use Rattle.columnar.specs.Reading.{Source}
-use Rattle.columnar.specs.Test.{test}
+use Rattle.columnar.specs.Test.{test, every}
 use Rattle.columnar.proofs.Test.{test-agrees, every-out}
-use Rattle.schema.specs.Tree.{every, ceilings, typed, sameType}
+use Rattle.schema.specs.Tree.{ceilings, typed, sameType}
 use Rattle.schema.proofs.Laws.{every-all}
 use Rattle.schema.proofs.Known.{every-at}
 use Rattle.array_data.specs.Tables.{Tables, held as tabled, validIn}
@@ -50,7 +50,6 @@ and-in true b p q = q
 and-in false b p q = p
 
 every-same : (p q : ℕ → Bool) (n : ℕ) → ((j : ℕ) → j < n → p j ≡ q j) → every p n ≡ every q n
-unfolding every
 every-same p q zero h = refl
 every-same p q (suc n) h = ap₂ _&&_ (every-same p q n (λ j l. h j (omega arith))) (h n (omega arith))
 

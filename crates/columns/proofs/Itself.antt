@@ -7,9 +7,9 @@ use Prim.Native.Nat.{ℕ, _+_, _<_}
 use native.Mathlib.Omega.{arith}
 use lib.Dec.{leb, eqb}
 use borrow.Author.Tests.{leb-true, eq-eqb, ne-eqb}
-use Rattle.schema.specs.formats.Code.{same, between, isFixed, isString, isView, isListView, isList, isUnion}
+use Rattle.schema.specs.formats.Code.{between, isFixed, isString, isView, isListView, isList, isUnion}
 use Rattle.schema.specs.union_ids.Ids.{sameIds}
-use Rattle.schema.specs.Tree.{every, field, flag, children, dictionary, childForEach, isValues, codeOf, idsOf, shape, unionShape, typed, sameFlag, sameFormats, sameNode, sameType}
+use Rattle.schema.specs.Tree.{field, flag, children, dictionary, childForEach, isValues, codeOf, idsOf, shape, unionShape, typed, sameFlag, sameFormats, sameNode, sameType}
 use Rattle.schema.proofs.Laws.{every-all}
 use Rattle.schema.proofs.Known.{typed-shape}
 use Rattle.array_data.specs.Tables.{Tables}
@@ -18,6 +18,7 @@ use Rattle.source_rules.proofs.Node.{by-shape, union-each}
 use Rattle.columns.specs.Grounds.{smallBody, withinCeilings, obeys, columnGround, fewSources, allTyped, allSame, allWithin, allObey, sourcesGround}
 use Rattle.array_data.specs.Sources.{sourceCount, firstOf, nodesOf}
 use Rattle.columns.proofs.Grounds.{by-nodes}
+use Rattle.columnar.specs.Test.{same, every}
 
 same-self : (l : List ℕ) → same l l ≡ true
 same-self [] = refl
@@ -86,7 +87,7 @@ skip false s a h = refl
 -- ONE SOURCE ALONE meets the grounds of its column
 pub one-source : (formats schema : List ℕ) (x : Tables) (sources : List ℕ) → sourceCount sources ≡ 1
     → sourcesGround formats schema x sources ≡ columnGround formats schema x (firstOf sources 0) (nodesOf sources 0)
-unfolding columnGround fewSources allTyped allSame allWithin allObey every
+unfolding columnGround fewSources allTyped allSame allWithin allObey
 one-source formats schema x sources e =
     let first = firstOf sources 0 in
     let nodes = nodesOf sources 0 in

@@ -7,10 +7,11 @@ use native.Mathlib.Omega.{arith}
 use lib.Dec.{leb, ltb}
 use borrow.Author.Tests.{le-leb, lt-leb, leb-true, leb-false, lt-ltb, le-ltb}
 use Rattle.schema.specs.formats.Code.{isView}
-use Rattle.schema.specs.Tree.{every, codeOf, ceilings, sameType}
+use Rattle.schema.specs.Tree.{codeOf, ceilings, sameType}
 use Rattle.array_data.specs.Tables.{Tables, lengthOf, offsetOf, place}
 use Rattle.columns.specs.Grounds.{countFits, fewBuffers, nodeFits, withinCeilings}
 use Rattle.array_data.specs.Sources.{firstOf, nodesOf}
+use Rattle.columnar.specs.Test.{every}
 
 -- ---- one node
 

@@ -5,9 +5,9 @@ use Prim.Native.Nat.{ℕ, _+_, _-_, _*_, _/_, _^_}
 use lib.ListN.{length, getD}
 use lib.Dec.{leb, ltb}
 use Rattle.columnar.specs.Types.{Ty}
-use Rattle.columnar.specs.Test.{test}
+use Rattle.columnar.specs.Test.{test, every}
 use Rattle.schema.specs.formats.Code.{isView}
-use Rattle.schema.specs.Tree.{every, codeOf, ceilings, typed, sameType}
+use Rattle.schema.specs.Tree.{codeOf, ceilings, typed, sameType}
 use Rattle.array_data.specs.Tables.{Tables, lengthOf, offsetOf, place}
 use Rattle.array_data.specs.Sources.{sourceCount, firstOf, nodesOf}
 use Rattle.array_data.specs.Typed.{Tree, columnOf, tablesFrom, sourceRule, placed}

@@ -6,11 +6,11 @@ ghost use mathlib.Core.Bool.{true};
 ghost use mathlib.Core.List.{[]};
 ghost use Prim.Native.Nat.{_+_, _*_, _≤_, _<_, _^_};
 ghost use lib.ListN.{length};
-ghost use Rattle.schema.specs.Tree.{every};
 ghost use Rattle.array_data.specs.lent_tables.Lent.{tables};
 ghost use Rattle.source_rules.specs.kinds.Rows.{tablesOf};
 ghost use Rattle.columns.specs.Grounds.{countFits, fewBuffers, nodeFits, smallBody, withinCeilings, columnGround, fewSources, allWithin, allTyped, allSame, allObey, sourcesGround};
 ghost use Rattle.array_data.specs.Sources.{firstOf, nodesOf};
+ghost use Rattle.columnar.specs.Test.{every};
 use array_data::lent_tables;
 
 // The most bytes of a body or a room.

@@ -8,11 +8,13 @@ use lib.Dec.{ltb}
 use Rattle.walk.specs.State.{Join, codeOf, endOf, idOf, rows}
 use Rattle.walk.specs.Log.{put, done, wrote, found, next}
 use Rattle.walk.specs.Leaves.{nullNumbers, nullString}
-use Rattle.walk.specs.Nulls.{NullWalk, nullableChild, noHome, nullListView, nullList, nullFields, nullSparse, nullDense, addRun, growRun, nullRuns, nullData, nullWalk}
+use Rattle.walk.specs.Nulls.{NullWalk, nullableChild, noHome, nullListView, nullList, nullSparse, nullDense, addRun, growRun, nullRuns, nullData, nullWalk}
 use Rattle.leaf_walk.specs.Join.{join}
 use Rattle.transform.proofs.Laws.{null-plan}
 use Rattle.explain.specs.stops.Why.{nothing, named, unless, past}
 use Rattle.explain.specs.stops.Nulls.{WhyNullWalk, walked, whyNullFields, whyNullSparse, whyNullHome, whyNullDense, whyNullEnd, whyNullRuns, whyNullData, whyNullNode, whyNulls}
+use Rattle.walk.proofs.Names.{nullFields}
+use Rattle.walk.specs.Copy.{eachField}
 
 module _ (plan parts parts2 lengths lengths2 places places2 body body2 : List ℕ) (first first2 source source2 : ℕ) where
   abbrev one : Join
@@ -24,7 +26,7 @@ module _ (plan parts parts2 lengths lengths2 places places2 body body2 : List �
   -- ---- the walk of a node
 
   fields-plan : (child : NullWalk) (n end f k : ℕ) (c : List ℕ) → nullFields one child n end f k c ≡ nullFields other child n end f k c
-  unfolding nullFields
+  unfolding eachField
   fields-plan child n end zero k c = refl
   fields-plan child n end (suc f) k c = ap (λ z. cond (ltb k end) (next (child k n c) z) (done c)) (fun-ext (λ c2. fields-plan child n end f (endOf plan k) c2))
 

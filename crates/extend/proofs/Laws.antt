@@ -21,12 +21,13 @@ use Rattle.array_data.proofs.lent_tables.Laws.{no, yes, and-left, and-right}
 use Rattle.walk.specs.State.{Join, codeOf, bytesOf, endOf, rows, addRows, place, lengthOf, offsetOf, rowsIn, slotOf, far}
 use Rattle.walk.specs.Log.{Out, Did, fail, done, need, found, next, each}
 use Rattle.walk.specs.Leaves.{copyMask, copyNumbers}
-use Rattle.walk.specs.Copy.{Walk, isWidth, masked, childWith, listViewRow, copyListView, copyFields, copySparse, idAt, denseRow, copyDense, endsAt, putRuns, runsAt, copyRuns, copyData, copySlots, copyNode, copyWalk}
+use Rattle.walk.specs.Copy.{Walk, isWidth, masked, childWith, listViewRow, copyListView, copySparse, idAt, denseRow, copyDense, endsAt, putRuns, runsAt, copyRuns, copyData, copySlots, copyNode, copyWalk, eachField}
 use Rattle.walk.proofs.Laws.{fail-did, done-did, need-no, need-ok, found-no, found-ok, next-no, next-ok, next-need}
 use Rattle.leaf_walk.proofs.Laws.{rows-in}
 use Rattle.nested_rows.specs.Numbers.{listNumbers, denseNumbers, runsReady, runNumbers}
 use Rattle.nested_rows.proofs.Laws.{list-row-is, dense-row-is, ends-ready}
 use Rattle.nested_rows.proofs.node_data.Laws.{data-sparse, data-dense, data-runs}
+use Rattle.walk.proofs.Names.{copyFields}
 
 pub by : {plan parts : List ℕ} {wr : Bool} {room : List ℕ} {r : ℕ} {c2 room2 : List ℕ} {o o2 : Out} → o ≡ o2 → Did plan parts wr o room r c2 room2 → Did plan parts wr o2 room r c2 room2
 by {plan} {parts} {wr} {room} {r} {c2} {room2} e d = subst (λ (o : Out). Did plan parts wr o room r c2 room2) e d
@@ -150,22 +151,22 @@ module _ (x : Join) (child : Walk) (wr : Bool) (w i slot : ℕ) (c room : List �
 module _ (x : Join) (child : Walk) (wr : Bool) (slot n end : ℕ) where
   module _ (k : ℕ) (c room : List ℕ) where
     pub fields-none : (f : ℕ) → end ≤ k → Did (x .plan) (x .parts) wr (copyFields x child slot n end f k c) room 0 c room
-    unfolding copyFields
+    unfolding eachField
     fields-none zero h = done-did wr c room
     fields-none (suc f) h = rw (le-ltb k end h) (done-did wr c room)
 
     pub fields-over : {f : ℕ} → f ≡ 0 → Did (x .plan) (x .parts) wr (copyFields x child slot n end f k c) room 0 c room
-    unfolding copyFields
+    unfolding eachField
     fields-over e = rw e (done-did wr c room)
 
     module _ {f f′ g : ℕ} {c1 room1 : List ℕ} (e : f ≡ suc f′) (h : k < end) (d : Did (x .plan) (x .parts) wr (child k slot n c) room g c1 room1) where
       pub fields-stop : (g ≡ 0 → ⊥) → Did (x .plan) (x .parts) wr (copyFields x child slot n end f k c) room g c1 room1
-      unfolding copyFields
+      unfolding eachField
       fields-stop z = rw (e, lt-ltb k end h) (next-no _ d z)
 
       pub fields-more : {k′ g2 : ℕ} {c2 room2 : List ℕ} → g ≡ 0 → k′ ≡ endOf (x .plan) k → Did (x .plan) (x .parts) wr (copyFields x child slot n end f′ k′ c1) room1 g2 c2 room2
           → Did (x .plan) (x .parts) wr (copyFields x child slot n end f k c) room g2 c2 room2
-      unfolding copyFields
+      unfolding eachField
       fields-more z q m = rw (e, lt-ltb k end h) (next-ok _ d z (rw q at m))
 
 module _ (x : Join) (child : Walk) (wr : Bool) (i slot n : ℕ) (c room : List ℕ) {g : ℕ} {c1 room1 : List ℕ} (d : Did (x .plan) (x .parts) wr (copyNumbers x i 1 slot n c) room g c1 room1) where

@@ -1,19 +1,19 @@
 -- The walk of a copy at a list-view or a list, by the ways that the code goes. Assumes nothing.
 use mathlib.Core.Path.{_≡_, refl, sym, ap₂, _∙_}
-use mathlib.Core.Bool.{Bool, true, false, _||_}
+use mathlib.Core.Bool.{Bool, true, false, cond, _||_}
 use mathlib.Core.List.{List}
 use Prim.Native.Nat.{ℕ, suc, _+_, _*_, _-_, _≤_, _<_}
 use native.Mathlib.Omega.{arith}
 use lib.Dec.{leb}
 use borrow.Author.Tests.{lt-ltb, le-ltb, leb-true, ne-eqb}
 use Rattle.schema.specs.formats.Code.{isListView, isList}
-use Rattle.utils.specs.Extension.{extended, pick}
+use Rattle.utils.specs.Extension.{extended}
 use Rattle.utils.specs.declared.Extended.{Extended}
 use Rattle.utils.specs.declared.Extended.the-variants.{Fits, Over, Falls}
 use Rattle.array_data.proofs.lent_tables.Laws.{and-left, and-right}
 use Rattle.walk.specs.State.{Join, codeOf, bytesOf, rows, place, rowsIn}
 use Rattle.walk.specs.Log.{Did, applyIf, need}
-use Rattle.walk.specs.Copy.{Walk, copyListView, putStretch, putList, copyList, copyData}
+use Rattle.walk.specs.Copy.{Walk, copyListView, putStretch, copyList, copyData}
 use Rattle.walk.proofs.Laws.{fail-did, done-did, wrote-did, need-no, need-ok, next-ok}
 use Rattle.leaf_walk.proofs.Widths.{list-width, lists-width}
 use Rattle.leaf_walk.specs.variable_size.Lists.{triedOffsets, offsetsLog}
@@ -21,6 +21,7 @@ use Rattle.leaf_walk.proofs.variable_size.Laws.{fits-is}
 use Rattle.leaf_walk.proofs.variable_size.Lists.{untouched}
 use Rattle.nested_rows.proofs.node_data.Laws.{data-list-view, data-list}
 use Rattle.extend.proofs.Laws.{by}
+use Rattle.walk.proofs.Names.{putList}
 
 -- ---- by the code
 
@@ -74,7 +75,7 @@ module _ (x : Join) (child : Walk) (wr : Bool) (w i slot n : ℕ) (c room : List
     lists-out h = rw (ne-eqb n 0 s) (need-no _ (le-ltb (suc i) 32 (rw e at h)))
 
     module _ (h : j < 32) {found : Extended} (f : found ≡ triedOffsets x w i slot n c) {room1 : List ℕ} (g : room1 ≡ applyIf (x .plan) (x .parts) wr (offsetsLog x w i slot n c found) room) where
-      tried : (b : Bool) (m : Extended) → need b 12 c (putList x child w i (place x i 3 + w * slot) n m c) ≡ putList x child w i (place x i 3 + w * slot) n (pick b m Falls) c
+      tried : (b : Bool) (m : Extended) → need b 12 c (putList x child w i (place x i 3 + w * slot) n m c) ≡ putList x child w i (place x i 3 + w * slot) n (cond b m Falls) c
       unfolding need
       tried true m = refl
       tried false m = refl
@@ -101,7 +102,7 @@ module _ (x : Join) (child : Walk) (wr : Bool) (w i slot n : ℕ) (c room : List
         unfolding triedOffsets
         lists-less = go (rowsIn x (place x i 3) w slot (suc n)) (sym f ∙ k)
           where
-            go : (b : Bool) → pick b (extended w (x .body) (place x i 3 + w * slot) n (rows c (suc i))) Falls ≡ Fits last lead → old ≤ last
+            go : (b : Bool) → cond b (extended w (x .body) (place x i 3 + w * slot) n (rows c (suc i))) Falls ≡ Fits last lead → old ≤ last
             go true q = rw (l, e) (fits-is w (x .body) (place x i 3 + w * slot) n (rows c (suc i)) refl q .0)
             go false q = absurd (let z : _≡_ {A = ℕ} 0 1 = cc in omega arith)
 

@@ -13,12 +13,13 @@ use Rattle.array_data.proofs.lent_tables.Laws.{no, yes}
 use Rattle.walk.specs.State.{Join, codeOf, bytesOf, endOf, rows, gap, addRows}
 use Rattle.walk.specs.Log.{Out, Did, put, wrote, need, next}
 use Rattle.walk.specs.Leaves.{nullMask, countNulls}
-use Rattle.walk.specs.Copy.{isWidth, masked}
-use Rattle.walk.specs.Nulls.{NullWalk, nullableChild, noHome, nullFields, nullSparse, nullDense, addRun, growRun, nullRuns, nullData, nullNode, nullWalk}
+use Rattle.walk.specs.Copy.{isWidth, masked, eachField}
+use Rattle.walk.specs.Nulls.{NullWalk, nullableChild, noHome, nullSparse, nullDense, addRun, growRun, nullRuns, nullData, nullNode, nullWalk}
 use Rattle.walk.proofs.Laws.{fail-did, done-did, need-no, need-ok, found-no, found-ok, next-no, next-ok}
 use Rattle.nested_rows.specs.Numbers.{nullIds, nullPositions, nullEnd, longerEnd}
 use Rattle.nested_rows.proofs.Laws.{then-child}
 use Rattle.nested_rows.proofs.node_data.Laws.{null-sparse, null-dense, null-runs}
+use Rattle.walk.proofs.Names.{nullFields}
 
 by : {plan parts : List ℕ} {wr : Bool} {room : List ℕ} {r : ℕ} {c2 room2 : List ℕ} {o o2 : Out} → o ≡ o2 → Did plan parts wr o room r c2 room2 → Did plan parts wr o2 room r c2 room2
 by {plan} {parts} {wr} {room} {r} {c2} {room2} e d = subst (λ (o : Out). Did plan parts wr o room r c2 room2) e d
@@ -84,22 +85,22 @@ module _ (x : Join) (child : NullWalk) (wr : Bool) (i n : ℕ) (c room : List �
 module _ (x : Join) (child : NullWalk) (wr : Bool) (n end : ℕ) where
   module _ (k : ℕ) (c room : List ℕ) where
     pub fields-none : (f : ℕ) → end ≤ k → Did (x .plan) (x .parts) wr (nullFields x child n end f k c) room 0 c room
-    unfolding nullFields
+    unfolding eachField
     fields-none zero h = done-did wr c room
     fields-none (suc f) h = rw (le-ltb k end h) (done-did wr c room)
 
     pub fields-over : {f : ℕ} → f ≡ 0 → Did (x .plan) (x .parts) wr (nullFields x child n end f k c) room 0 c room
-    unfolding nullFields
+    unfolding eachField
     fields-over e = rw e (done-did wr c room)
 
     module _ {f f′ g : ℕ} {c1 room1 : List ℕ} (e : f ≡ suc f′) (h : k < end) (d : Did (x .plan) (x .parts) wr (child k n c) room g c1 room1) where
       pub fields-stop : (g ≡ 0 → ⊥) → Did (x .plan) (x .parts) wr (nullFields x child n end f k c) room g c1 room1
-      unfolding nullFields
+      unfolding eachField
       fields-stop z = rw (e, lt-ltb k end h) (next-no _ d z)
 
       pub fields-more : {k′ g2 : ℕ} {c2 room2 : List ℕ} → g ≡ 0 → k′ ≡ endOf (x .plan) k → Did (x .plan) (x .parts) wr (nullFields x child n end f′ k′ c1) room1 g2 c2 room2
           → Did (x .plan) (x .parts) wr (nullFields x child n end f k c) room g2 c2 room2
-      unfolding nullFields
+      unfolding eachField
       fields-more z q m = rw (e, lt-ltb k end h) (next-ok _ d z (rw q at m))
 
 module _ (x : Join) (child : NullWalk) (wr : Bool) (i n : ℕ) (c room : List ℕ) {h : ℕ} (e : h ≡ nullableChild (x .plan) (endOf (x .plan) i) 32 (suc i)) where

@@ -13,7 +13,8 @@ use Rattle.run_ends.specs.declared.Runs.the-variants.{Range, None}
 use Rattle.walk.specs.State.{Join, codeOf, dictionaryOf, endOf, keepsOf, bytesOf, rows, bytes, place, far}
 use Rattle.walk.specs.Log.{Entry, put, mask, amend, Log, Out, fail, done, wrote, need, found, next, each}
 use Rattle.walk.specs.Leaves.{copyBits, copyMask, copyNumbers, copyKeys, copyViews, putString, putExtended, copyString}
-use Rattle.walk.specs.Copy.{Walk, masked, listViewRow, copyListView, putStretch, putList, copyList, copyFields, copySparse, denseTo, denseRow, copyDense, putRuns, runsAt, copyRuns, copyData, copySlots, copyNode, copyWalk}
+use Rattle.walk.specs.Copy.{Walk, masked, listViewRow, copyListView, putStretch, copyList, copySparse, denseTo, denseRow, copyDense, putRuns, runsAt, copyRuns, copyData, copySlots, copyNode, copyWalk, eachField}
+use Rattle.walk.proofs.Names.{putList, copyFields}
 
 -- a write over run ends is at a node of K
 abbrev pub Amended : (ℕ → Type 0) → Entry → Type 0
@@ -122,7 +123,7 @@ module _ (x : Join) where
         (plain-need _ 12 _ (plain-need _ 12 _ (plain-put-list w (place x i 3 + w * slot) n (extended w (x .body) (place x i 3 + w * slot) n (rows c (suc i))) c)))
 
     plain-fields : (slot n end f k : ℕ) (c : List ℕ) → Plain (copyFields x walk slot n end f k c)
-    unfolding copyFields
+    unfolding eachField
     plain-fields slot n end zero k c = plain-done c
     plain-fields slot n end (suc f) k c = plain-cond (ltb k end) (plain-next _ (below k slot n c) (λ c2. plain-fields slot n end f (endOf (x .plan) k) c2)) (plain-done c)
 

@@ -11,8 +11,8 @@ use Rattle.schema.specs.formats.Code.{isFixed, isString, isView, isListView, is
 use Rattle.walk.specs.State.{Join, codeOf, endOf, keepsOf, bytesOf, gap, addRows, addNulls, setBytes}
 use Rattle.walk.specs.Log.{put, mask, Out, fail, done, wrote, need, found, next}
 use Rattle.walk.specs.Leaves.{nullMask, countNulls, nullNumbers, nullString}
-use Rattle.walk.specs.Copy.{masked}
-use Rattle.walk.specs.Nulls.{NullWalk, nullListView, nullList, nullFields, nullSparse, nullDense, addRun, growRun, nullRuns, nullData, nullNode, nullWalk}
+use Rattle.walk.specs.Copy.{masked, eachField}
+use Rattle.walk.specs.Nulls.{NullWalk, nullListView, nullList, nullSparse, nullDense, addRun, growRun, nullRuns, nullData, nullNode, nullWalk}
 use Rattle.refinement.specs.log_in_room.Reach.{Child}
 use Rattle.refinement.proofs.log_in_room.Found.{child-first, child-later, child-nullable}
 use Rattle.refinement.proofs.walk_is_model.Counters.{bytes-other, bytes-of-rows, bytes-of-nulls}
@@ -20,6 +20,7 @@ use Rattle.plan.specs.parts.Parts.{nodesOf}
 use Rattle.refinement.specs.orders.Sound.{planSound}
 use Rattle.refinement.proofs.orders.Sound.{Stands, node-stands, child-inside}
 use Rattle.join.proofs.Amends.{AllAmended, amended-both, amended-wide}
+use Rattle.walk.proofs.Names.{nullFields}
 
 -- node h is among lo .. hi - 1, and its gap is 2
 pub record At (lo hi : ℕ) (c : List ℕ) (h : ℕ) : Type 0 where
@@ -133,7 +134,7 @@ module _ (x : Join) (sound : planSound (x .plan) ≡ true) where
     child-there k c = let a = st .inside in let r = child-inside S sound i k here c in omega (arith, r .1)
 
     tight-fields : (n fuel k : ℕ) (c : List ℕ) → k ≤ E → (k < E → Child S i k) → Tight k E c (nullFields x walk n E fuel k c)
-    unfolding nullFields
+    unfolding eachField
     tight-fields n zero k c l d = tight-done k E c
     tight-fields n (suc fuel) k c l d =
         tight-cond k E (ltb k E)

@@ -3,11 +3,13 @@
 use mathlib.Core.Path.{_≡_, refl, sym, ap, subst, _∙_}
 use mathlib.Core.Bool.{Bool, true, false, cond}
 use mathlib.Core.List.{List, _++_}
-use Prim.Native.Nat.{ℕ, suc, _+_, _*_, _-_, _≤_}
+use Prim.Native.Nat.{ℕ, suc, _+_, _*_, _-_, min, _≤_}
 use native.Mathlib.Omega.{arith}
 use lib.ListN.{length, getD}
 use lib.Dec.{T, ltb}
 use Rattle.number.specs.Number.{encode}
+use Rattle.columnar.specs.Row.{seg}
+use Rattle.columnar.specs.Entries.{encodes}
 use Rattle.columnar.specs.Types.{half}
 use Rattle.columnar.specs.RunEnd.{RunEnd, endOf}
 use Rattle.columnar.specs.Array.{nullCount, ok, nullsIn}
@@ -15,7 +17,7 @@ use Rattle.columnar.specs.Reading.{readAll, masks}
 use Rattle.model.specs.Try.{Try, done, then, guard}
 use Rattle.model.specs.Grounds.{firstRun, runCount}
 use Rattle.model.specs.Mutable.{Mutable}
-use Rattle.model.specs.Runs.{Runs, lastEnd, clipped, moreEnds, runsExtend, runsNull}
+use Rattle.model.specs.Runs.{Runs, lastEnd, moreEnds, runsExtend, runsNull}
 use Rattle.model.specs.Transform.{Destination}
 use Rattle.model.specs.Book.{Call, copy, nullsEntered}
 use Rattle.model.proofs.Book.{countedIf}
@@ -34,13 +36,11 @@ use Rattle.refinement.proofs.opening.Opened.{Opened, orders-after}
 use Rattle.refinement.specs.finishing.Finish.{Finished, lengthTable, nullTable, placeTable, bufferTable, buffersBefore}
 use Rattle.refinement.specs.finishing.Shows.{Bodied}
 use Rattle.refinement.proofs.finishing.Orders.{appended}
-use Rattle.refinement.proofs.finishing.Join.{finishing-accepted, join-again}
+use Rattle.refinement.proofs.finishing.Join.{given, finishing-accepted, join-again}
 use Rattle.join.specs.Join.{Lending, Bytes, sourcesIn, treeIn, typeIn, columnsIn, keepsIn, openingOf, lentOf, afterCalls, nextCall, finishingOf, tablesAt, finishedAt, tablesOf, finishedOf, reachedBy, nullsBooked}
-use Rattle.join.specs.Counters.{Counted}
 use Rattle.join.specs.Built.{Built}
 use Rattle.join.proofs.Opens.{runs}
 use Rattle.join.proofs.Lengths.{nulls-is, nulls-by-lengths}
-use Rattle.join.proofs.Counters.{counted}
 use Rattle.join.proofs.Shown.{bytes-at, nulls-at, finished-counters}
 use Rattle.join.proofs.Built.{built}
 
@@ -61,7 +61,7 @@ pub copies-as-rust : {P D : Type 0} (w : ℕ) (extend : ℕ → ℕ → Mutable 
     (λ v.
     done
     (record {
-      ends = moreEnds (clipped w (endOf w (s .ends)) a (a + suc n) (lastEnd w ends) (firstRun w s a) (runCount w s a (suc n))) (runCount w s a (suc n)) ends;
+      ends = moreEnds (encodes w (seg (λ i. lastEnd w ends + (min (endOf w (s .ends) i) (a + suc n) - a)) (firstRun w s a) (runCount w s a (suc n)))) (runCount w s a (suc n)) ends;
       values = v;
       gap = 0;
     })))
@@ -79,11 +79,14 @@ module _ (l : Lending) (b : Bytes l) (accepted : openingOf l .ground ≡ 0) (os 
 
   -- Over any body z in which the room stands from `base` on and the sources' body where it was:
   module _ (base : ℕ) (z : List ℕ) (laid : Bodied z (lentOf l) (afterCalls l os .room) base) where
-    -- THE BYTES, LENGTHS, VALIDITY AND NULL COUNTS: the finished tables are what `into_builder` makes of it, at every node
-    pub built-at : Built (treeIn l) (tablesAt l os base z) (nullTable (lentOf l) (l .tables .buffers) (afterCalls l os .counters) (afterCalls l os .room) base) (sourcesIn l) (typeIn l) 0 (columnsIn l) (reachedBy l os)
+    -- THE BYTES, LENGTHS, VALIDITY AND NULL COUNTS: the finished tables are what `into_builder` makes of it, at every node, and the lent counters are its lengths and
+    -- running null counts
+    pub built-at : Built (treeIn l) (tablesAt l os base z) (nullTable (lentOf l) (l .tables .buffers) (afterCalls l os .counters) (afterCalls l os .room) base) (afterCalls l os .counters) (sourcesIn l) (typeIn l) 0 (columnsIn l) (reachedBy l os)
     built-at =
-        built (treeIn l) (tablesAt l os base z) (nullTable (lentOf l) (l .tables .buffers) (afterCalls l os .counters) (afterCalls l os .room) base) (sourcesIn l) (typeIn l) 0 (columnsIn l) (reachedBy l os)
-        (bytes-at l b accepted os base z laid) (nulls-at l b accepted os base z laid) (finished-counters l b accepted os)
+        let g = given (l .formats) (l .schema) (l .sources) (l .tables) (l .keep) (l .gaps) (l .parts) (openingOf l) opens os in
+        built (treeIn l) (tablesAt l os base z) (nullTable (lentOf l) (l .tables .buffers) (afterCalls l os .counters) (afterCalls l os .room) base) (afterCalls l os .counters) (sourcesIn l)
+        (lentOf l .plan) (orders-after (l .formats) (l .schema) (l .sources) (l .tables) (l .keep) (l .gaps) (l .parts) (openingOf l) opens os .running .memory) (g .kids)
+        (typeIn l) 0 (columnsIn l) (g .means) (reachedBy l os) (bytes-at l b accepted os base z laid) (nulls-at l b accepted os base z laid) (finished-counters l b accepted os) (g .holds)
 
     -- LENT AGAIN, it passes ground 12
     pub again-at : T (lawful (treeIn l) (tablesAt l os base z) (typeIn l))
@@ -98,16 +101,8 @@ module _ (l : Lending) (b : Bytes l) (accepted : openingOf l .ground ≡ 0) (os 
   pub behind-body : Bodied (l .tables .body ++ afterCalls l os .room) (lentOf l) (afterCalls l os .room) (length (l .tables .body))
   behind-body = appended (lentOf l) (afterCalls l os .room)
 
-  pub finished-built : Built (treeIn l) (tablesOf l os) (nullTable (lentOf l) (l .tables .buffers) (afterCalls l os .counters) (afterCalls l os .room) (length (l .tables .body))) (sourcesIn l) (typeIn l) 0 (columnsIn l) (reachedBy l os)
+  pub finished-built : Built (treeIn l) (tablesOf l os) (nullTable (lentOf l) (l .tables .buffers) (afterCalls l os .counters) (afterCalls l os .room) (length (l .tables .body))) (afterCalls l os .counters) (sourcesIn l) (typeIn l) 0 (columnsIn l) (reachedBy l os)
   finished-built = built-at (length (l .tables .body)) _ behind-body
-
-  -- the lent counters are the destination's, its lengths and running null counts, at every node
-  pub counters-are : Counted (lentOf l .plan) (afterCalls l os .counters) (typeIn l) 0 (reachedBy l os)
-  counters-are =
-      counted (lentOf l .plan) (afterCalls l os .counters)
-      (orders-after (l .formats) (l .schema) (l .sources) (l .tables) (l .keep) (l .gaps) (l .parts) (openingOf l) opens os .running .memory)
-      (typeIn l) 0 (reachedBy l os)
-      (orders-after (l .formats) (l .schema) (l .sources) (l .tables) (l .keep) (l .gaps) (l .parts) (openingOf l) opens os .running .holds)
 
   -- THE RUNNING NULL COUNT is that of the calls that are carried out, where the root keeps nulls: a copy's zero bits, a null order's rows in full
   pub running-nulls : walk.nulls (afterCalls l os .counters) 0 ≡ cond (keepsIn l) (nullsBooked l os) 0

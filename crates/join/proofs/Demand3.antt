@@ -16,7 +16,7 @@ use Rattle.refinement.proofs.finishing.Join.{join-rows}
 use Rattle.join.specs.Join.{Lending, Bytes, typeIn, openingOf, lentOf, afterCalls, finishedAt, finishedOf, reachedBy, book}
 use Rattle.join.proofs.Opens.{runs}
 use Rattle.join.proofs.Lengths.{book-is, in-book}
-use Rattle.join.proofs.Demand2.{finished-built, counters-are, behind-body}
+use Rattle.join.proofs.Demand2.{finished-built, behind-body}
 
 -- after an accepted opening and any list of calls, refused ones included
 module _ (l : Lending) (b : Bytes l) (accepted : openingOf l .ground ≡ 0) (os : List Call) where
@@ -39,10 +39,10 @@ module _ (l : Lending) (b : Bytes l) (accepted : openingOf l .ground ≡ 0) (os 
 
   -- AND SO HAS THE DESTINATION, after every call: the model's, and the lent counter of the root
   pub reached-length : reachedBy l os .len ≡ length (book l os)
-  reached-length = sym (finished-built l b accepted os .len-is) ∙ book-length
+  reached-length = sym (finished-built l b accepted os .2 .len-is) ∙ book-length
 
   pub destination-length : walk.rows (afterCalls l os .counters) 0 ≡ length (book l os)
-  destination-length = counters-are l b accepted os .rows-are ∙ reached-length
+  destination-length = finished-built l b accepted os .0 ∙ reached-length
 
   -- and its row i reads as entry i
   pub book-row : (i : ℕ) → i < finishedOf l os .len → read (typeIn l) (finishedOf l os) i ≡ getD (book l os) i null

@@ -14,7 +14,7 @@ use Rattle.model.specs.Ordered.{home}
 use Rattle.model.specs.Mutable.{Mutable, nullsNode}
 use Rattle.model.specs.Unions.{Denses, denseNull}
 use Rattle.model.specs.Runs.{Runs, lastEnd, runsNull}
-use Rattle.model.specs.Transform.{Grown, Destination, nullsData, startData, start, keepsNulls}
+use Rattle.model.specs.Transform.{Grown, Destination, startData, start}
 use Rattle.model.specs.Opening.{keeps}
 use Rattle.model.specs.Book.{Call, copy, nulls}
 use Rattle.model.specs.Orders.{perform}
@@ -26,6 +26,7 @@ use Rattle.join.specs.Gap.{nullsLatest, Came, begun, Grows, Histories, n
 use Rattle.join.proofs.GapStay.{both-done, same-any, same-then, same-guard}
 use Rattle.join.proofs.GapSaid.{null-grown, gap-says, node-grows, latest}
 use Rattle.join.proofs.GapNodes.{Kept, kept-holds, by-done, kept-sparse, kept-child, extend-node, extend-came, nulls-node, nulls-add}
+use Rattle.model.proofs.Names.{nullsData, keepsNulls}
 
 -- ---- n nulls more
 

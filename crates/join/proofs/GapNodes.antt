@@ -20,12 +20,13 @@ use Rattle.model.specs.Primitive.{newOffsets}
 use Rattle.model.specs.ListViews.{listRow}
 use Rattle.model.specs.Unions.{Sparses, Denses, inOrder, sparseWith, atChild, denseRow, denseNull}
 use Rattle.model.specs.Runs.{Runs, lastEnd, runsExtend, runsNull}
-use Rattle.model.specs.Transform.{Grown, Destination, extendData, nullsData}
+use Rattle.model.specs.Transform.{Grown, Destination, extendData}
 use Rattle.model.proofs.Follow.{guard-done}
 use Rattle.model.proofs.CutTries.{done-is, then-done}
 use Rattle.join.specs.Gap.{copied, nulled, nullsLatest, Came, copy-came, nulls-came, Histories, inRows, columnAdds, ofChild, copyAdds, nullsAdd, EveryCame}
 use Rattle.join.proofs.GapStay.{Same, both-done, both-stop, same-any, same-then, same-guard}
 use Rattle.join.proofs.GapSaid.{null-grown, gap-says, latest}
+use Rattle.model.proofs.Names.{nullsData}
 
 -- ---- where an answer is done, P holds
 

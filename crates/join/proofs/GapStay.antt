@@ -2,7 +2,7 @@
 -- (specs/Rust.antt). Assumes nothing.
 use mathlib.Core.Path.{_≡_, refl, sym, ap, subst, fun-ext, _∙_}
 use mathlib.Core.Bool.{Bool, true, false, cond, _&&_}
-use mathlib.Core.List.{List, [], _∷_, _++_}
+use mathlib.Core.List.{List, [], _∷_, _++_, foldl}
 use Prim.Native.Nat.{ℕ, zero, suc, _+_, _-_, min}
 use lib.ListN.{take, drop, getD, replicate}
 use lib.Dec.{ltb, leb, eqb}
@@ -16,15 +16,24 @@ use Rattle.model.specs.Grounds.{firstRun, runCount}
 use Rattle.model.specs.Mutable.{Mutable, extendNode, nullsNode}
 use Rattle.model.specs.Primitive.{newOffsets}
 use Rattle.model.specs.ListViews.{listRow}
-use Rattle.model.specs.Unions.{Sparses, inOrder, sparseWith, atChild, denseRow, positionsFrom}
+use Rattle.model.specs.Unions.{Sparses, inOrder, sparseWith, atChild, denseRow}
 use Rattle.model.specs.Runs.{Runs, lastEnd, moreEnds, overEnd}
-use Rattle.model.specs.Transform.{Grown, Destination, extendData, nullsData, startData, start, keepsNulls}
+use Rattle.model.specs.Transform.{Grown, Destination, nullsBy, extendData, startData, start}
 use Rattle.model.specs.Opening.{keeps}
 use Rattle.model.specs.Book.{Call, copy, nulls}
 use Rattle.model.specs.Orders.{perform, performAll}
 use Rattle.refinement.specs.orders.Fits.{fits, answersIn}
 use Rattle.join.specs.Join.{Lending, sourcesIn, typeIn, columnsIn, lentOf, first, reachedBy, carriedFrom, carriedOut}
-use Rattle.join.specs.Rust.{rustNulls, rustPerform, rustAll, NoGaps}
+use Rattle.join.specs.Rust.{rustRuns, rustPerform, NoGaps}
+use Rattle.model.proofs.Names.{positionsFrom, nullsData, keepsNulls}
+
+-- ---- the Rust's null orders, and any list of its calls
+
+abbrev rustNulls : (t : Ty) → ℕ → ℕ → Grown t → Try (Grown t)
+rustNulls t = nullsBy (λ D. rustRuns {D = D}) t
+
+abbrev rustAll : (t : Ty) → ℕ → (ℕ → Column t) → List Call → Destination t → Destination t
+rustAll t m ss os d = foldl (λ e o. after (rustPerform t m ss o e) e) d os
 
 -- ---- two answers that are the same, and where they are done P holds
 

@@ -9,7 +9,6 @@ pub mod WrittenOff
 pub mod Amends
 pub mod AmendsNulls
 pub mod WrittenRuns
-pub mod Counters
 pub mod Shown
 pub mod Built
 pub mod Demand2

@@ -169,20 +169,19 @@ module _ (x y : Tables) (i : ℕ) where
 
   starts-are : (p : Plain) → sameList (starts x p i) (starts y p i) ≡ true → SameMask x y i × SameBuffers p x y i
   starts-are (fixed n) h =
-      let a = and-left (eqb (validStart x i) (validStart y i)) (eqb (place x i 3) (place y i 3) && true) h in
-      let b = and-right (eqb (validStart x i) (validStart y i)) (eqb (place x i 3) (place y i 3) && true) h in
-      (mask-is (eqb-true _ _ a), eqb-true _ _ (and-left (eqb (place x i 3) (place y i 3)) true b))
+      let a = and-right (eqb (place x i 3) (place y i 3)) (eqb (validStart x i) (validStart y i)) h in
+      let b = and-left (eqb (place x i 3) (place y i 3)) (eqb (validStart x i) (validStart y i)) h in
+      (mask-is (eqb-true _ _ a), eqb-true _ _ b)
   starts-are (string w) h =
-      let rest = eqb (place x i 5) (place y i 5) && true in
-      let a = and-left (eqb (validStart x i) (validStart y i)) (eqb (place x i 3) (place y i 3) && rest) h in
-      let b = and-right (eqb (validStart x i) (validStart y i)) (eqb (place x i 3) (place y i 3) && rest) h in
-      let c = and-right (eqb (place x i 3) (place y i 3)) rest b in
-      (mask-is (eqb-true _ _ a), (eqb-true _ _ (and-left (eqb (place x i 3) (place y i 3)) rest b), eqb-true _ _ (and-left (eqb (place x i 5) (place y i 5)) true c)))
+      let rest = eqb (place x i 5) (place y i 5) && eqb (place x i 3) (place y i 3) in
+      let a = and-right rest (eqb (validStart x i) (validStart y i)) h in
+      let b = and-left rest (eqb (validStart x i) (validStart y i)) h in
+      (mask-is (eqb-true _ _ a), (eqb-true _ _ (and-right (eqb (place x i 5) (place y i 5)) (eqb (place x i 3) (place y i 3)) b), eqb-true _ _ (and-left (eqb (place x i 5) (place y i 5)) (eqb (place x i 3) (place y i 3)) b)))
 
   are-starts : (p : Plain) → SameMask x y i → SameBuffers p x y i → sameList (starts x p i) (starts y p i) ≡ true
-  are-starts (fixed n) m e = two {a = eqb (validStart x i) (validStart y i)} (eq-eqb _ _ (is-mask m)) (two {a = eqb (place x i 3) (place y i 3)} (eq-eqb _ _ e) refl)
+  are-starts (fixed n) m e = two {a = eqb (place x i 3) (place y i 3)} (eq-eqb _ _ e) (eq-eqb _ _ (is-mask m))
   are-starts (string w) m e =
-      two {a = eqb (validStart x i) (validStart y i)} (eq-eqb _ _ (is-mask m)) (two {a = eqb (place x i 3) (place y i 3)} (eq-eqb _ _ (e .0)) (two {a = eqb (place x i 5) (place y i 5)} (eq-eqb _ _ (e .1)) refl))
+      two {a = eqb (place x i 5) (place y i 5) && eqb (place x i 3) (place y i 3)} (two {a = eqb (place x i 5) (place y i 5)} (eq-eqb _ _ (e .1)) (eq-eqb _ _ (e .0))) (eq-eqb _ _ (is-mask m))
 
 -- PTR_EQ of the dictionaries of two sources, whose keys are at node i
 module _ (t u : Tree) (x y : Tables) (k : Number) (p : Plain) (i : ℕ) where

@@ -9,7 +9,7 @@ use lib.ListN.{length}
 use lib.Dec.{leb, ltb, eqb}
 use borrow.Author.Tests.{leb-true, le-leb, eqb-true, eq-eqb, ne-eqb, eqb-false}
 use Rattle.schema.specs.formats.Code.{between, isInteger, isFixed, isString, isView, isListView, isList, isUnion, isRunEnd}
-use Rattle.schema.specs.Tree.{every, count, flag, children, dictionary, below, endFrom, dueFrom, bare, childForEach, isValues, endOf, childAt, depth, whole, codeOf, idsOf, fewFields, valuesShape, endsShape, leafShape, keysShape, listShape, unionShape, runShape, shape, ceilings, typed, sameFlag, sameFormats, sameNode, sameType}
+use Rattle.schema.specs.Tree.{flag, children, dictionary, below, endFrom, dueFrom, bare, childForEach, isValues, endOf, childAt, depth, whole, codeOf, idsOf, fewFields, valuesShape, endsShape, leafShape, keysShape, listShape, unionShape, runShape, shape, ceilings, typed, sameFlag, sameFormats, sameNode, sameType}
 use Rattle.schema.proofs.Trees.{child-inside}
 use Rattle.schema.proofs.Known.{every-at, typed-whole, typed-shape, within-nodes, within-fields, within-depth, same-size, same-node}
 use Rattle.schema.proofs.Laws.{every-all, all-shaped, low-enough, one-low, all-same}
@@ -23,6 +23,8 @@ use Rattle.refinement.proofs.plan_is_type.OneTree.{same-column}
 use Rattle.array_data.proofs.type_tree.Ids.{both}
 use Rattle.join.specs.Join.{Lending, sourcesIn, typeIn, columnsIn}
 use Rattle.join.specs.Stored.{StoredWider, isEnds, CodeWider, same-code, strings, list-views, plain-lists, keys, run-ends, endsAt, NodeWider}
+use Rattle.columnar.specs.Test.{every}
+use Rattle.schema.proofs.Counts.{count}
 
 -- ---- tests
 
@@ -169,7 +171,6 @@ module _ (formats schema : List ℕ) (x : Tables) (first : ℕ) (formats′ sche
   whole-same = ap₂ (λ d e. leb 1 n && eqb d 0 && eqb e n) (due-from-same n 1 0 (omega arith)) (end-same 0 (omega arith))
 
   count-same : (p q : ℕ → Bool) (k : ℕ) → ((j : ℕ) → j < k → p j ≡ q j) → count p k ≡ count q k
-  unfolding count
   count-same p q zero h = refl
   count-same p q (suc k) h = ap₂ (λ a b. a + cond b 1 0) (count-same p q k (λ j l. h j (omega arith))) (h k (omega arith))
 

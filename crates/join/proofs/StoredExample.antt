@@ -98,7 +98,7 @@ text-node =
     }
 
 pub stored : StoredWider narrow wide
-unfolding Tree.codeOf Tree.idsOf Code.codeOf Tree.sameFormats kindAt Grounds.smallBody Ids.allowed Ids.small Ids.pieces Ids.idOf Ids.digits Ids.decimal Ids.distinct Ids.member
+unfolding Tree.codeOf Tree.idsOf Code.codeOf Tree.sameFormats kindAt Grounds.smallBody Ids.allowed Ids.pieces Ids.idOf Ids.decimal Ids.distinct
 stored =
     record {
       same-count = refl;
@@ -115,7 +115,7 @@ stored =
 
 -- the narrow tables pass grounds 9 to 12
 narrow-taken : Grounds.sourcesGround texts (narrow .schema) (narrow .tables) (narrow .sources) ≡ 0
-unfolding Grounds.smallBody Grounds.fewSources Grounds.allWithin Grounds.allTyped Grounds.allSame Grounds.allObey Grounds.withinCeilings Grounds.nodeFits Grounds.countFits Grounds.fewBuffers Grounds.obeys Tree.every Tree.ceilings Tree.fewFields Tree.codeOf Tree.idsOf Code.codeOf Tree.depth Tree.count Tree.endOf Tree.endFrom Tree.dueFrom Tree.below Tree.bare Tree.typed Tree.whole Tree.shape Tree.leafShape Tree.keysShape Tree.valuesShape Tree.listShape Tree.unionShape Tree.runShape Tree.endsShape Tree.sameType Tree.sameNode Tree.sameFormats Tree.sameFlag Tree.isValues kindAt Ids.allowed Ids.small Ids.pieces Ids.idOf Ids.digits Ids.decimal Ids.distinct Ids.member item number
+unfolding Grounds.smallBody Grounds.fewSources Grounds.allWithin Grounds.allTyped Grounds.allSame Grounds.allObey Grounds.withinCeilings Grounds.nodeFits Grounds.countFits Grounds.fewBuffers Grounds.obeys Tree.ceilings Tree.fewFields Tree.codeOf Tree.idsOf Code.codeOf Tree.depth Tree.endOf Tree.endFrom Tree.dueFrom Tree.below Tree.bare Tree.typed Tree.whole Tree.shape Tree.leafShape Tree.keysShape Tree.valuesShape Tree.listShape Tree.unionShape Tree.runShape Tree.endsShape Tree.sameType Tree.sameNode Tree.sameFormats Tree.sameFlag Tree.isValues kindAt Ids.allowed Ids.pieces Ids.idOf Ids.decimal Ids.distinct item number
 narrow-taken = by-nodes (narrow .formats) (narrow .schema) (narrow .tables) (narrow .sources)
 
 -- AND SO THE TYPES ARE WIDER

@@ -15,7 +15,7 @@ use Rattle.columnar.specs.Row.{Row, null, bytes}
 use Rattle.columnar.specs.Types.{tPlain, string}
 use Rattle.columnar.specs.Array.{item, bit}
 use Rattle.columnar.specs.Reading.{readAll}
-use Rattle.columnar.specs.Wider.{Wider, wPlain, wString, entries, Again}
+use Rattle.columnar.specs.Wider.{Wider, wPlain, wString, bits, entries, Again}
 use Rattle.schema.specs.formats.Code as Code
 use Rattle.schema.specs.formats.Code.{isString}
 use Rattle.schema.specs.union_ids.Ids as Ids
@@ -101,11 +101,11 @@ abbrev Taken : Lending → Type 0
 Taken l = Grounds.sourcesGround (l .formats) (l .schema) (l .tables) (l .sources) ≡ 0
 
 narrow-taken : Taken narrow
-unfolding Grounds.smallBody Grounds.fewSources Grounds.allWithin Grounds.allTyped Grounds.allSame Grounds.allObey Grounds.withinCeilings Grounds.nodeFits Grounds.countFits Grounds.fewBuffers Grounds.obeys Tree.every Tree.ceilings Tree.fewFields Tree.codeOf Tree.idsOf Code.codeOf Tree.depth Tree.count Tree.endOf Tree.endFrom Tree.dueFrom Tree.below Tree.bare Tree.typed Tree.whole Tree.shape Tree.leafShape Tree.keysShape Tree.valuesShape Tree.listShape Tree.unionShape Tree.runShape Tree.endsShape Tree.sameType Tree.sameNode Tree.sameFormats Tree.sameFlag Tree.isValues kindAt item number bit
+unfolding Grounds.smallBody Grounds.fewSources Grounds.allWithin Grounds.allTyped Grounds.allSame Grounds.allObey Grounds.withinCeilings Grounds.nodeFits Grounds.countFits Grounds.fewBuffers Grounds.obeys Tree.ceilings Tree.fewFields Tree.codeOf Tree.idsOf Code.codeOf Tree.depth Tree.endOf Tree.endFrom Tree.dueFrom Tree.below Tree.bare Tree.typed Tree.whole Tree.shape Tree.leafShape Tree.keysShape Tree.valuesShape Tree.listShape Tree.unionShape Tree.runShape Tree.endsShape Tree.sameType Tree.sameNode Tree.sameFormats Tree.sameFlag Tree.isValues kindAt item number bit
 narrow-taken = by-nodes (narrow .formats) (narrow .schema) (narrow .tables) (narrow .sources)
 
 wide-taken : Taken wide
-unfolding Grounds.smallBody Grounds.fewSources Grounds.allWithin Grounds.allTyped Grounds.allSame Grounds.allObey Grounds.withinCeilings Grounds.nodeFits Grounds.countFits Grounds.fewBuffers Grounds.obeys Tree.every Tree.ceilings Tree.fewFields Tree.codeOf Tree.idsOf Code.codeOf Tree.depth Tree.count Tree.endOf Tree.endFrom Tree.dueFrom Tree.below Tree.bare Tree.typed Tree.whole Tree.shape Tree.leafShape Tree.keysShape Tree.valuesShape Tree.listShape Tree.unionShape Tree.runShape Tree.endsShape Tree.sameType Tree.sameNode Tree.sameFormats Tree.sameFlag Tree.isValues kindAt item number bit
+unfolding Grounds.smallBody Grounds.fewSources Grounds.allWithin Grounds.allTyped Grounds.allSame Grounds.allObey Grounds.withinCeilings Grounds.nodeFits Grounds.countFits Grounds.fewBuffers Grounds.obeys Tree.ceilings Tree.fewFields Tree.codeOf Tree.idsOf Code.codeOf Tree.depth Tree.endOf Tree.endFrom Tree.dueFrom Tree.below Tree.bare Tree.typed Tree.whole Tree.shape Tree.leafShape Tree.keysShape Tree.valuesShape Tree.listShape Tree.unionShape Tree.runShape Tree.endsShape Tree.sameType Tree.sameNode Tree.sameFormats Tree.sameFlag Tree.isValues kindAt item number bit
 wide-taken = by-nodes (wide .formats) (wide .schema) (wide .tables) (wide .sources)
 
 -- ---- the plan's words for one byte string that keeps nulls
@@ -292,7 +292,7 @@ example =
             (record {
               same-len = refl;
               same-off = refl;
-              same-valid = record { hold = omega arith; kept = λ i q. refl };
+              same-valid = bits (3 ∷ []) (3 ∷ []) (omega arith) (λ i q. refl);
               same-body = record {
                 same-offsets = entries (omega arith) (record {
                   hold = omega arith;

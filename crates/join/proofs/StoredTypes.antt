@@ -20,7 +20,7 @@ use Rattle.schema.proofs.Depth.{nested, child-before, child-depth}
 use Rattle.schema.proofs.Known.{typed-whole, typed-shape, within-depth}
 use Rattle.array_data.specs.Tables.{Tables}
 use Rattle.array_data.specs.Typed.{NodeKind, fixedNode, viewNode, listViewNode, listNode, sparseNode, denseNode, runEndNode, dictionaryNode, Tree, childNode, fieldOf}
-use Rattle.array_data.specs.type_tree.Lent.{numberOr, idsOr, unionKind, kindAt, treeOf, plainAs, tyAs, tyOf, typeOf}
+use Rattle.array_data.specs.type_tree.Lent.{numberOr, kindAt, treeOf, plainAs, tyAs, tyOf, typeOf}
 use Rattle.array_data.proofs.type_tree.Ids.{both, field-in}
 use Rattle.array_data.proofs.type_tree.Shaped.{five, integer-fixed, plainKind, at-fixed, at-keys, at-string, at-view, at-list, at-lists, at-union, at-run}
 use Rattle.array_data.proofs.type_tree.Lent.{child-same, first-child, second-child, some-node, root}
@@ -30,6 +30,7 @@ use Rattle.columns.proofs.Grounds.{Accepted, accepted, some-source, within-low,
 use Rattle.join.specs.Join.{Lending, typeIn}
 use Rattle.join.specs.Stored.{StoredWider, isEnds, CodeWider, same-code, strings, list-views, plain-lists, keys, run-ends, endsAt, NodeWider}
 use Rattle.join.proofs.Stored.{range, ends-range, near, view-kept, string-kept, list-kept, plain-list-kept, run-kept, end-same}
+use Rattle.array_data.proofs.Names.{idsOr, unionKind}
 
 integer-number : (c : ℕ) → isInteger c ≡ true → T (integer (numberOr (numberOf c)))
 unfolding numberOf

@@ -63,7 +63,7 @@ onBody k h = record { same-len = k .same-len; same-off = k .same-off; same-valid
 
 list-self : (xs : List ℕ) → same xs xs ≡ true
 list-self [] = refl
-list-self (x ∷ xs) = rw (eq-eqb x x refl) (list-self xs)
+list-self (x ∷ xs) = rw (list-self xs, eq-eqb x x refl)
 
 shares-ptr : {P : Type 0} (d e : Dictionary P) → Shares d e → ptrEq d e ≡ true
 shares-ptr d e s = rw (eq-eqb _ _ (s .same-off), eq-eqb _ _ (s .same-len), s .same-starts) (list-self (e .starts))

@@ -1,7 +1,6 @@
 -- A whole join as a caller makes it, over what the contracts of its entry points cite.
 pub mod Openings
 pub mod Join
-pub mod Counters
 pub mod Built
 pub mod Based
 pub mod Said

@@ -14,8 +14,9 @@ use Rattle.run_ends.specs.declared.Runs.the-variants.{Range, None}
 use Rattle.walk.specs.State.{Join, codeOf, bytesOf, endOf, rows, bytes, addRows, place, lengthOf, offsetOf, slotOf, rowsIn, far}
 use Rattle.walk.specs.Log.{put, done, wrote, need, found, next}
 use Rattle.walk.specs.Leaves.{copyBits, copyMask, copyNumbers, copyKeys, copyViews, putString, putExtended, copyString}
-use Rattle.walk.specs.Copy.{Walk, masked, isWidth, listViewRow, copyListView, putStretch, putList, copyList, copyFields, copySparse, denseTo, denseRow, copyDense, putRuns, runsAt, copyRuns, copyData, copySlots, copyNode, copyWalk}
+use Rattle.walk.specs.Copy.{Walk, masked, isWidth, listViewRow, copyListView, putStretch, copyList, copySparse, denseTo, denseRow, copyDense, putRuns, runsAt, copyRuns, copyData, copySlots, copyNode, copyWalk, eachField}
 use Rattle.leaf_walk.specs.Join.{join}
+use Rattle.walk.proofs.Names.{putList, copyFields}
 
 module _ (plan parts parts2 lengths places body : List ℕ) (first source : ℕ) where
   abbrev one : Join
@@ -62,7 +63,7 @@ module _ (plan parts parts2 lengths places body : List ℕ) (first source : ℕ)
         (stretch-same w i (place one i 3 + w * slot) n (extended w body (place one i 3 + w * slot) n (rows c (suc i))) c)
 
     fields-same : (slot n end f k : ℕ) (c : List ℕ) → copyFields one child slot n end f k c ≡ copyFields other child slot n end f k c
-    unfolding copyFields
+    unfolding eachField
     fields-same slot n end zero k c = refl
     fields-same slot n end (suc f) k c = ap (λ z. cond (ltb k end) (next (child k slot n c) z) (done c)) (fun-ext (λ c2. fields-same slot n end f (endOf plan k) c2))
 

@@ -16,8 +16,8 @@ use Rattle.model.specs.Try.{Try, done, stop, after}
 use Rattle.model.specs.Ordered.{nullRow}
 use Rattle.model.specs.Grounds.{Counts}
 use Rattle.model.specs.Book.{Call, copy, nulls, answer, entered, book, nullsEntered, bookNulls}
-use Rattle.model.specs.Mutable.{Mutable, keepsBits, counted}
-use Rattle.model.specs.Transform.{Grown, Destination, keepsNulls, intoBuilder, tryExtend, tryExtendNulls}
+use Rattle.model.specs.Mutable.{Mutable, keepsBits}
+use Rattle.model.specs.Transform.{Grown, Destination, intoBuilder, tryExtend, tryExtendNulls}
 use Rattle.model.specs.Orders.{perform, performAll}
 use Rattle.model.specs.Held.{held}
 use Rattle.model.proofs.Agree.{Agrees, both, neither, agrees-map, agrees-guard}
@@ -25,6 +25,7 @@ use Rattle.model.proofs.Law.{Kind, Law, FineNode, KeepNode, Fine, Grew,
 use Rattle.model.proofs.Nodes.{fineOf, keepOf, kindOf, null-is}
 use Rattle.model.proofs.Node.{node-copies, node-fills}
 use Rattle.model.proofs.Rows.{seg-cong, seg-append, seg-same}
+use Rattle.model.proofs.Names.{keepsNulls, counted}
 
 pub and-left : (a b : Bool) → a && b ≡ true → a ≡ true
 and-left true b e = refl

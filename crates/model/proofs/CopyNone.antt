@@ -12,10 +12,11 @@ use Rattle.columnar.specs.Array.{Array, item}
 use Rattle.columnar.specs.Plain.{PlainBody}
 use Rattle.columnar.specs.Reading.{Body, Column, masks}
 use Rattle.model.specs.Try.{Try, done, then, after}
-use Rattle.model.specs.Mutable.{Mutable, grow, counted, extendNode}
+use Rattle.model.specs.Mutable.{Mutable, grow, extendNode}
 use Rattle.model.specs.Primitive.{plainExtend}
 use Rattle.model.specs.Unions.{Sparses, inOrder, sparseWith}
 use Rattle.model.specs.Transform.{Grown, Destination, extendData, extend}
+use Rattle.model.proofs.Names.{counted}
 
 grow-nothing : (m : Bool) (b : Option (List Bool)) → grow m [] b ≡ b
 grow-nothing m none = refl

@@ -17,7 +17,7 @@ use Rattle.columnar.specs.Dictionary.{Dictionary}
 use Rattle.columnar.specs.Reading.{Column, masks, Source}
 use Rattle.model.specs.Try.{Try, done, stop, then, after}
 use Rattle.model.specs.Opening.{keeps, shared, present}
-use Rattle.model.specs.Mutable.{Mutable, zeros, pack, grow, counted, validity, extendNode, startNode, freezeNode}
+use Rattle.model.specs.Mutable.{Mutable, zeros, pack, grow, validity, extendNode, startNode, freezeNode}
 use Rattle.model.specs.Primitive.{plainStart, plainExtend}
 use Rattle.model.specs.Transform.{Grown, Destination, freezeData, joinedFrom, theDictionary, intoBuilder}
 use Rattle.model.specs.Counters.{validityBy, countBy, ByCounter, Bare, ByCounters, FinishedBy}
@@ -26,6 +26,7 @@ use Rattle.model.proofs.Nodes.{fineOf}
 use Rattle.model.proofs.Node.{valid-bit, grow-count}
 use Rattle.model.proofs.Start.{no-null-in, none-has}
 use Rattle.model.proofs.Joined.{joined}
+use Rattle.model.proofs.Names.{counted}
 
 -- ---- null counts of finished bits
 

@@ -19,8 +19,8 @@ use Rattle.columnar.specs.List.{Listed}
 use Rattle.columnar.specs.Reading.{Body, Column, Source, masks}
 use Rattle.columnar.proofs.Items.{encodes-append}
 use Rattle.model.specs.Try.{Try, done, stop, then, guard, after, stepsT}
-use Rattle.model.specs.Mutable.{Mutable, zeros, grow, counted, extendNode}
-use Rattle.model.specs.Primitive.{newOffsets, plainExtend, newViews, newKeys}
+use Rattle.model.specs.Mutable.{Mutable, zeros, grow, extendNode}
+use Rattle.model.specs.Primitive.{newOffsets, plainExtend, newViews}
 use Rattle.model.specs.Unions.{Sparses, inOrder}
 use Rattle.model.specs.ListViews.{listRow}
 use Rattle.model.specs.Lists.{Listings, listsExtend}
@@ -35,6 +35,7 @@ use Rattle.model.proofs.TextLaw.{Rising, rising-below, new-offsets}
 use Rattle.model.proofs.Follow.{guard-done}
 use Rattle.model.proofs.CutTries.{done-is, Then, then-done, then-is, guard-is, steps-cut, IsDone}
 use Rattle.model.proofs.CutLess.{Led}
+use Rattle.model.proofs.Names.{newKeys, counted}
 
 -- ---- the same destination, but for the children of ids that are not declared
 

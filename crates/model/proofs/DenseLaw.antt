@@ -20,7 +20,7 @@ use Rattle.model.specs.Try.{Try, done, after}
 use Rattle.model.specs.Ordered.{home}
 use Rattle.model.specs.Grounds.{Counts, counts, absent, has, among, withKid, denseRow as askRow}
 use Rattle.model.specs.Mutable.{Mutable, extendNode, nullsNode}
-use Rattle.model.specs.Unions.{Denses, atChild, denseRow, positionsFrom}
+use Rattle.model.specs.Unions.{Denses, atChild, denseRow}
 use Rattle.model.specs.Held.{heldNode}
 use Rattle.model.proofs.Agree.{Agrees, both-as, agrees-map, agrees-guard}
 use Rattle.model.proofs.Law.{Kind, Put, seen, Law, KeepNode, Fine, rowAt, Grew, nodeNull}
@@ -33,6 +33,7 @@ use Rattle.model.proofs.Ids.{cond-same, cond-case, among-in, home-mem}
 use Rattle.model.proofs.Children.{Did, agrees-both, agrees-from}
 use Rattle.model.proofs.ListLaw.{item-entry}
 use Rattle.model.proofs.SparseLaw.{old-id, new-id, grew-keeps}
+use Rattle.model.proofs.Names.{positionsFrom}
 
 -- ---- the positions p, p + 1, ..
 

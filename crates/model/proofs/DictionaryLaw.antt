@@ -19,9 +19,9 @@ use Rattle.columnar.specs.Dictionary.{Dictionary, entryAt, dictionaryAt, Dictio
 use Rattle.columnar.proofs.Items.{item-left, item-right, item-encodes-lt, length-encodes}
 use Rattle.model.specs.Try.{Try, done, then, guard, after}
 use Rattle.columnar.specs.Test.{same as sameList}
-use Rattle.model.specs.Opening.{present, keeps, ptrEq, shared, entriesBefore, startOfKeys, keysFit, allKeysFit, entriesFit}
+use Rattle.model.specs.Opening.{present, keeps, ptrEq, shared, entriesBefore, startOfKeys, allKeysFit, entriesFit}
 use Rattle.model.specs.Mutable.{Mutable, startNode, freezeNode}
-use Rattle.model.specs.Primitive.{plainStart, newKeys}
+use Rattle.model.specs.Primitive.{plainStart}
 use Rattle.model.specs.Transform.{joinedFrom, theDictionary, openData}
 use Rattle.model.proofs.Agree.{both}
 use Rattle.model.proofs.Law.{Put, Law}
@@ -31,6 +31,7 @@ use Rattle.model.proofs.Owed.{SameEntries}
 use Rattle.model.proofs.Present.{present-obeys, present-read}
 use Rattle.model.proofs.Pieces.{below-add}
 use Rattle.model.proofs.Joined.{done-is, then-done, Joined, joined, joined-reads, joined-obeys, entries-before}
+use Rattle.model.proofs.Names.{newKeys, keysFit}
 
 and-left : (a b : Bool) → (a && b) ≡ true → a ≡ true
 and-left true b e = refl

@@ -18,7 +18,7 @@ use Rattle.columnar.specs.Dictionary.{Dictionary, entryAt}
 use Rattle.columnar.proofs.Items.{item-last}
 use Rattle.model.specs.Try.{Try, done, stop, then}
 use Rattle.model.specs.Opening.{keeps, entriesBefore}
-use Rattle.model.specs.Mutable.{Mutable, zeros, counted, validity, pack, grow, startNode, extendNode, freezeNode}
+use Rattle.model.specs.Mutable.{Mutable, zeros, validity, pack, grow, startNode, extendNode, freezeNode}
 use Rattle.model.specs.Primitive.{plainExtend, plainStart}
 use Rattle.model.specs.Transform.{joinedFrom}
 use Rattle.model.proofs.Agree.{Agrees, both, neither}
@@ -28,6 +28,7 @@ use Rattle.model.proofs.Node.{valid-bit, grow-bits, grow-old, copied-bi
 use Rattle.model.proofs.Nodes.{TextFine, plainFine}
 use Rattle.model.proofs.PlainLaw.{plain-copies, plain-obeys}
 use Rattle.model.proofs.Start.{no-null-in, none-has}
+use Rattle.model.proofs.Names.{counted}
 
 -- ---- answers
 

@@ -10,9 +10,9 @@ use Rattle.columnar.specs.Row.{Row}
 use Rattle.columnar.specs.Array.{Array, ok, sight, nullsIn, readWith}
 use Rattle.model.specs.Try.{Try}
 use Rattle.model.specs.Grounds.{Counts, rowsOf, Ask, AskNulls}
-use Rattle.model.specs.Mutable.{Mutable, zeros, counted, validity, freezeNode}
-use Rattle.model.specs.Transform.{keepsNulls}
+use Rattle.model.specs.Mutable.{Mutable, zeros, validity, freezeNode}
 use Rattle.model.proofs.Agree.{Agrees}
+use Rattle.model.proofs.Names.{keepsNulls, counted}
 
 -- A kind of node over m given sources: P is a source's body, D what grows. All but `fine` are the definitions of specs/;
 -- `held-rows` says that the rows counted are the node's.

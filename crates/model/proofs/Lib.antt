@@ -1,5 +1,6 @@
 -- The laws of `model`.
 pub mod Table
+pub mod Names
 pub mod Agree
 pub mod Law
 pub mod Bits

@@ -13,7 +13,6 @@ use Rattle.columnar.specs.Array.{Array, item, ok, readWith, Mask, Obeys}
 use Rattle.columnar.specs.Plain.{OffsetsRule, empty, full}
 use Rattle.columnar.specs.List.{Listed, listAt, ListRule}
 use Rattle.model.specs.Grounds.{counts, listAsk}
-use Rattle.model.specs.Primitive.{repeated}
 use Rattle.model.specs.Mutable.{Mutable, extendNode}
 use Rattle.model.specs.Lists.{Listings}
 use Rattle.model.specs.Held.{heldNode}
@@ -23,6 +22,7 @@ use Rattle.model.proofs.Node.{node-copies, node-obeys}
 use Rattle.model.proofs.Nodes.{OffsetsFine, ListsFine, listsKind}
 use Rattle.model.proofs.Rows.{seg-cong}
 use Rattle.model.proofs.TextLaw.{offsetsWith, StepsTo, steps-below, old-offset, new-offset, offsets-with-fine, guard-then, Rising, rising-below, new-offsets, repeated-is}
+use Rattle.model.proofs.Names.{repeated}
 
 -- ---- a source's offsets, over a part of its rows, of which there is one
 

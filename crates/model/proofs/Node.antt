@@ -13,12 +13,12 @@ use Rattle.columnar.specs.Row.{Row, null, seg}
 use Rattle.columnar.specs.Array.{Array, ok, bit, sight, readWith, nullsIn, Mask, Obeys}
 use Rattle.model.specs.Try.{Try, done, stop, then}
 use Rattle.model.specs.Grounds.{Counts, askOf, unlessNone}
-use Rattle.model.specs.Mutable.{Mutable, keepsBits, zeros, grow, counted, validity, pack, extendNode, nullsNode, freezeNode}
-use Rattle.model.specs.Transform.{keepsNulls}
+use Rattle.model.specs.Mutable.{Mutable, keepsBits, zeros, grow, validity, pack, extendNode, nullsNode, freezeNode}
 use Rattle.model.specs.Held.{heldNode}
 use Rattle.model.proofs.Agree.{Agrees, both, agrees-wrap}
 use Rattle.model.proofs.Law.{Kind, Put, seen, Law, bitAt, BitsFor, CountFor, FineNode, KeepNode, Fine, rowAt, Grew, nodeNull}
 use Rattle.model.proofs.Bits.{length-seg, getD-seg, zeros-seg, zeros-append, zeros-replicate, getD-replicate, all-true, pack-bit, pack-length}
+use Rattle.model.proofs.Names.{keepsNulls, counted}
 
 -- ---- validity
 

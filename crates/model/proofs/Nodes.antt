@@ -22,14 +22,15 @@ use Rattle.model.specs.Ordered.{home, unionNull, nullRow}
 use Rattle.model.specs.Opening.{shared}
 use Rattle.model.specs.Grounds.{counts, leaf, among, moreRows, rowsOf, kidOf, unlessNone, plainAsk, plainNulls, listViewAsk, listAsk, sparseAsk, denseAsk, runEndAsk, sparseNulls, denseNulls, runEndNulls, askCopy, nullsAsk}
 use Rattle.model.specs.Mutable.{Mutable, extendNode, nullsNode, freezeNode}
-use Rattle.model.specs.Primitive.{plainExtend, plainNull, viewExtend, buffersBefore, keysExtend}
-use Rattle.model.specs.ListViews.{Lists, listExtend, listNulls, listFreeze}
+use Rattle.model.specs.Primitive.{plainExtend, plainNull, buffersBefore}
+use Rattle.model.specs.ListViews.{Lists, listNulls, listFreeze}
 use Rattle.model.specs.Lists.{Listings, listsExtend, listsNulls, listsFreeze}
-use Rattle.model.specs.Unions.{Sparses, Denses, sparseExtend, denseExtend, sparseNull, denseNull, sparseFreeze, denseFreeze}
+use Rattle.model.specs.Unions.{Sparses, Denses, sparseExtend, sparseNull, denseNull, sparseFreeze, denseFreeze}
 use Rattle.model.specs.Runs.{Runs, runsExtend, runsNull, runsFreeze}
-use Rattle.model.specs.Transform.{Grown, extendData, nullsData, freezeData, theDictionary}
+use Rattle.model.specs.Transform.{Grown, extendData, freezeData, theDictionary}
 use Rattle.model.specs.Held.{heldNode, heldPlain, heldData}
 use Rattle.model.proofs.Law.{Kind, FineNode, KeepNode, rowAt, nodeNull}
+use Rattle.model.proofs.Names.{viewExtend, keysExtend, listExtend, denseExtend, nullsData}
 
 -- ---- fixed-width numbers and byte strings
 

@@ -18,13 +18,14 @@ use Rattle.columnar.specs.Plain.{Text, PlainBody, value, span, plainAt, stored,
 use Rattle.columnar.proofs.Items.{number-take, length-cut}
 use Rattle.model.specs.Try.{done, then, guard}
 use Rattle.model.specs.Grounds.{counts, leaf, plainAsk, plainNulls}
-use Rattle.model.specs.Primitive.{plainExtend, plainNull, repeated}
+use Rattle.model.specs.Primitive.{plainExtend, plainNull}
 use Rattle.model.specs.Held.{heldPlain}
 use Rattle.model.proofs.Agree.{Agrees, both, both-as, neither, agrees-map}
 use Rattle.model.proofs.Law.{Law}
 use Rattle.model.proofs.Pieces.{piece-left, piece-right, piece-cut, cut-cut}
 use Rattle.model.proofs.Nodes.{TextFine, plainFine, plainKind}
 use Rattle.model.proofs.TextLaw.{textWith, Steps, steps-below, with-fine, with-old, with-new, Rising, rising-below, new-offsets, repeated-is}
+use Rattle.model.proofs.Names.{repeated}
 
 -- ---- what a source's offsets are, over a part of its rows
 

@@ -21,12 +21,13 @@ use Rattle.model.specs.Grounds.{Counts, counts, firstRun, runCount, runE
 use Rattle.model.specs.Try.{Try, done, then, guard}
 use Rattle.model.specs.Held.{heldNode}
 use Rattle.model.specs.Mutable.{Mutable, freezeNode, extendNode, nullsNode}
-use Rattle.model.specs.Runs.{Runs, lastEnd, clipped, moreEnds, overEnd, runsExtend, runsNull, runsFreeze}
+use Rattle.model.specs.Runs.{Runs, lastEnd, moreEnds, overEnd, runsExtend, runsNull, runsFreeze}
 use Rattle.model.proofs.Agree.{Agrees, both, both-as, agrees-then, agrees-guard}
 use Rattle.model.proofs.Law.{Kind, Put, seen, Law, FineNode, KeepNode, Grew, rowAt, nodeNull}
 use Rattle.model.proofs.Node.{node-copies, node-fills, node-obeys}
 use Rattle.model.proofs.Nodes.{RunsFine, runsKind}
 use Rattle.model.proofs.Ends.{Holds, Ends, found, find-is, both-ends, find-old, find-new, start-le, clip, clip-ends, clip-find, in-order, last-run}
+use Rattle.model.proofs.Names.{clipped}
 
 -- ---- bytes of run ends
 

@@ -38,7 +38,7 @@ same-list : (xs ys : List ℕ) → sameList xs ys ≡ true → xs ≡ ys
 same-list [] [] e = refl
 same-list [] (y ∷ ys) e = absurd (let z : false ≡ true = e in let y : _≡_ {A = ℕ} 0 1 = cc in omega arith)
 same-list (x ∷ xs) [] e = absurd (let z : false ≡ true = e in let y : _≡_ {A = ℕ} 0 1 = cc in omega arith)
-same-list (x ∷ xs) (y ∷ ys) e = ap₂ _∷_ (eqb-true x y (and-first (eqb x y) (sameList xs ys) e)) (same-list xs ys (and-rest (eqb x y) (sameList xs ys) e))
+same-list (x ∷ xs) (y ∷ ys) e = ap₂ _∷_ (eqb-true x y (and-rest (sameList xs ys) (eqb x y) e)) (same-list xs ys (and-first (sameList xs ys) (eqb x y) e))
 
 module _ {P : Type 0} (d e : Dictionary P) (h : ptrEq d e ≡ true) where
   same-places : eqb (d .values .off) (e .values .off) && eqb (d .values .len) (e .values .len) ≡ true

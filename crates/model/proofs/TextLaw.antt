@@ -17,10 +17,11 @@ use Rattle.columnar.specs.Entries.{encodes}
 use Rattle.columnar.specs.Plain.{Text, span}
 use Rattle.columnar.proofs.Items.{item-left, item-right, item-encodes-lt, length-encodes}
 use Rattle.model.specs.Try.{Try, done, then, guard}
-use Rattle.model.specs.Primitive.{newOffsets, repeated}
+use Rattle.model.specs.Primitive.{newOffsets}
 use Rattle.model.proofs.Bits.{shift, length-seg, getD-seg}
 use Rattle.model.proofs.Pieces.{below-add, seg-shift}
 use Rattle.model.proofs.Nodes.{OffsetsFine, TextFine}
+use Rattle.model.proofs.Names.{repeated}
 
 -- offsets whose last is `most`, with n more: the i-th is `most` and g i
 abbrev pub offsetsWith : ℕ → List ℕ → ℕ → ℕ → (ℕ → ℕ) → List ℕ

@@ -20,7 +20,7 @@ use Rattle.columnar.proofs.WiderKinds.{plain-widens, declares}
 use Rattle.model.specs.Try.{Try, done, stop, then}
 use Rattle.model.specs.Grounds.{Counts, counts, leaf, askOf, plainAsk}
 use Rattle.columnar.specs.Test.{same as sameList}
-use Rattle.model.specs.Opening.{present, keeps, ptrEq, shared, entriesBefore, startOfKeys, entriesFit, keysFit, allKeysFit}
+use Rattle.model.specs.Opening.{present, keeps, ptrEq, shared, entriesBefore, startOfKeys, entriesFit, allKeysFit}
 use Rattle.model.specs.Mutable.{Mutable, startNode, freezeNode}
 use Rattle.model.specs.Primitive.{plainStart}
 use Rattle.model.specs.Transform.{Destination, joinedFrom, theDictionary, openAll, openData, start, tryWithCapacities}
@@ -34,12 +34,13 @@ use Rattle.model.proofs.PlainLaw.{plain-law}
 use Rattle.model.proofs.SameBody.{same-off, same-len, same-starts}
 use Rattle.model.proofs.Follow.{Follows, same, free, follows-done, follows-then, follows-guard, ltb-up}
 use Rattle.model.proofs.WiderAsks.{plain-again}
+use Rattle.model.proofs.Names.{keysFit}
 
 -- ---- sharing
 
 list-refl : (xs : List ℕ) → sameList xs xs ≡ true
 list-refl [] = refl
-list-refl (x ∷ xs) = rw (eq-eqb x x refl) (list-refl xs)
+list-refl (x ∷ xs) = rw (list-refl xs, eq-eqb x x refl)
 
 -- `ptr_eq` holds exactly where two dictionaries are shared
 ptr-shares : {P : Type 0} (d e : Dictionary P) → ptrEq d e ≡ true → Shares d e

@@ -22,10 +22,6 @@ listRow w extend s i d =
     (then (extend (item w (s .offsets) i) (item w (s .sizes) i) (d .child))
     (λ c. done (record { buffer1 = d .buffer1 ++ encode w (d .child .len); buffer2 = d .buffer2 ++ encode w (item w (s .sizes) i); child = c })))
 
--- extend: the child's copy from the same source
-abbrev pub listExtend : {P D : Type 0} → ℕ → (ℕ → ℕ → Mutable D → Try (Mutable D)) → ListView P → ℕ → ℕ → Lists D → Try (Lists D)
-listExtend w extend s a n d = stepsT (listRow w extend s) a n d
-
 -- "A null is offset 0, size 0"
 abbrev pub listNulls : {D : Type 0} → ℕ → ℕ → Lists D → Try (Lists D)
 listNulls w n d = done (record { buffer1 = d .buffer1 ++ replicate (n * w) 0; buffer2 = d .buffer2 ++ replicate (n * w) 0; child = d .child })

@@ -1,11 +1,13 @@
 -- Lists. Follows arrow-data 60.1.0 src/transform/list.rs, Apache-2.0; see NOTICE. Assumes nothing.
 use mathlib.Core.List.{List, _++_}
 use Prim.Native.Nat.{ℕ, zero, suc, _+_, _-_}
+use lib.ListN.{replicate}
 use Rattle.columnar.specs.Array.{Array, item}
 use Rattle.columnar.specs.List.{Listed}
+use Rattle.columnar.specs.Entries.{encodes}
 use Rattle.model.specs.Try.{Try, done, then}
 use Rattle.model.specs.Mutable.{Mutable}
-use Rattle.model.specs.Primitive.{newOffsets, repeated}
+use Rattle.model.specs.Primitive.{newOffsets}
 
 pub record Listings (D : Type 0) : Type 0 where
   pub buffer1 : List ℕ
@@ -23,7 +25,7 @@ listsExtend w extend s a (suc n) l d =
 
 -- "a null repeats the last offset"
 abbrev pub listsNulls : {D : Type 0} → ℕ → ℕ → ℕ → Listings D → Try (Listings D)
-listsNulls w n l d = done (record { buffer1 = d .buffer1 ++ repeated w (item w (d .buffer1) l) n; child = d .child })
+listsNulls w n l d = done (record { buffer1 = d .buffer1 ++ encodes w (replicate n (item w (d .buffer1) l)); child = d .child })
 
 abbrev pub listsFreeze : {P D : Type 0} → (Mutable D → Array P) → Listings D → Listed P
 listsFreeze f d = record { offsets = d .buffer1; child = f (d .child) }

@@ -40,25 +40,20 @@ grow masks vs none = none
 grow true vs (some l) = some (l ++ vs)
 grow false vs (some l) = some l
 
--- how many nulls a node that keeps nulls counts more
-abbrev pub counted : Option (List Bool) → ℕ → ℕ
-counted none n = 0
-counted (some l) n = n
-
 -- a copy at a node: source j's slots from its offset + a on, n of them. f copies the data: sources, which, from, count, the length before.
 -- (The Rust copies a source's validity bits, or appends ones where its validity counts as absent: the same bits.)
 abbrev pub extendNode : {P D : Type 0} → Bool → ((ℕ → P) → ℕ → ℕ → ℕ → ℕ → D → Try D) → (ℕ → Array P) → ℕ → ℕ → ℕ → Mutable D → Try (Mutable D)
 extendNode masks f xs j a n d =
     let vs = seg (ok (xs j .valid)) (xs j .off + a) n in
     then (f (λ i. xs i .body) j (xs j .off + a) n (d .len) (d .«data»))
-    (λ b. done (record { len = d .len + n; null_count = d .null_count + counted (d .bits) (zeros vs); bits = grow masks vs (d .bits); «data» = b }))
+    (λ b. done (record { len = d .len + n; null_count = d .null_count + cond (keepsBits (d .bits)) (zeros vs) 0; bits = grow masks vs (d .bits); «data» = b }))
 
 -- n nulls at a node: f writes the data: count, the length before. "The running null count counts each null order in full".
 abbrev pub nullsNode : {D : Type 0} → Bool → (ℕ → ℕ → D → Try D) → ℕ → Mutable D → Try (Mutable D)
 nullsNode masks f zero d = done d
 nullsNode masks f (suc n) d =
     then (f (suc n) (d .len) (d .«data»))
-    (λ b. done (record { len = d .len + suc n; null_count = d .null_count + counted (d .bits) (suc n); bits = grow masks (replicate (suc n) false) (d .bits); «data» = b }))
+    (λ b. done (record { len = d .len + suc n; null_count = d .null_count + cond (keepsBits (d .bits)) (suc n) 0; bits = grow masks (replicate (suc n) false) (d .bits); «data» = b }))
 
 -- a node with no rows
 abbrev pub startNode : {D : Type 0} → Bool → D → Mutable D

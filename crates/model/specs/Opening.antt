@@ -4,10 +4,11 @@ use mathlib.Core.Bool.{Bool, true, false, cond, _&&_, _||_}
 use mathlib.Core.Option.{none}
 use Prim.Native.Nat.{ℕ, zero, suc, _+_, _-_, _^_}
 use lib.Dec.{leb, ltb, eqb}
-use Rattle.columnar.specs.Types.{Number, limit}
+use Rattle.columnar.specs.Types.{Number, keyFits}
 use Rattle.columnar.specs.Array.{Array, nullCount}
 use Rattle.columnar.specs.Dictionary.{Dictionary}
-use Rattle.columnar.specs.Test.{same}
+use Rattle.columnar.specs.Row.{sum}
+use Rattle.columnar.specs.Test.{every, same}
 
 -- "Validity with no zero bit among the rows counts as absent": the Rust's ArrayData is built without it
 abbrev pub present : {B : Type 0} → Array B → Array B
@@ -34,8 +35,7 @@ shared (suc (suc m)) ds = shared (suc m) ds && ptrEq (ds m) (ds (suc m))
 
 -- how many entries the dictionaries before the j-th have
 abbrev pub entriesBefore : {P : Type 0} → (ℕ → Dictionary P) → ℕ → ℕ
-entriesBefore ds zero = 0
-entriesBefore ds (suc j) = entriesBefore ds j + ds j .values .len
+entriesBefore ds j = sum (λ i. ds i .values .len) j
 
 -- "A joined dictionary that overflows panics; the port gives 6": so many entries are counted in 64 bits
 abbrev pub entriesFit : {P : Type 0} → ℕ → (ℕ → Dictionary P) → Bool
@@ -45,10 +45,6 @@ entriesFit m ds = shared m ds || leb (entriesBefore ds m) (2 ^ 64 - 1)
 abbrev pub startOfKeys : {P : Type 0} → ℕ → (ℕ → Dictionary P) → ℕ → ℕ
 startOfKeys m ds j = cond (shared m ds) 0 (entriesBefore ds j)
 
--- ground 8, for source j: "(start + entries - 1, at least 0) or start does not fit the key"
-abbrev pub keysFit : {P : Type 0} → Number → ℕ → (ℕ → Dictionary P) → ℕ → Bool
-keysFit k m ds j = ltb (startOfKeys m ds j + ds j .values .len - 1) (limit k) && ltb (startOfKeys m ds j) (limit k)
-
+-- the entries of the first n sources fit keys of k
 abbrev pub allKeysFit : {P : Type 0} → Number → ℕ → ℕ → (ℕ → Dictionary P) → Bool
-allKeysFit k m zero ds = true
-allKeysFit k m (suc j) ds = allKeysFit k m j ds && keysFit k m ds j
+allKeysFit k m n ds = every (λ j. keyFits k (startOfKeys m ds j) (ds j .values .len)) n

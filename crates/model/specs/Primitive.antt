@@ -9,10 +9,9 @@ use Rattle.number.specs.Number.{encode}
 use Rattle.columnar.specs.Types.{Number, width, half, Plain, fixed, string}
 use Rattle.columnar.specs.Array.{Array, item}
 use Rattle.columnar.specs.Plain.{Text, PlainBody}
+use Rattle.columnar.specs.Entries.{encodes}
 use Rattle.columnar.specs.View.{Views, viewOf, lengthOf, bufferOf}
-use Rattle.columnar.specs.Dictionary.{Dictionary}
 use Rattle.model.specs.Try.{Try, done, then, guard}
-use Rattle.model.specs.Opening.{startOfKeys}
 
 -- `try_extend_offsets`: each new offset is the last one plus the source's difference; 6 where one does not fit
 abbrev pub newOffsets : ℕ → List ℕ → ℕ → ℕ → ℕ → Try (List ℕ)
@@ -27,15 +26,10 @@ plainExtend (string w) s a n l d =
     let new = take (item w (s .offsets) (a + n) - item w (s .offsets) a) (drop (item w (s .offsets) a) (s .chars)) in
     then (newOffsets w (s .offsets) a n (item w (d .offsets) l)) (λ os. done (record { offsets = d .offsets ++ os; chars = d .chars ++ new }))
 
--- n times the number v in w bytes
-abbrev pub repeated : ℕ → ℕ → ℕ → List ℕ
-repeated w v zero = []
-repeated w v (suc n) = encode w v ++ repeated w v n
-
 -- "A null slot is written as zeros"; "a null repeats the last offset, no bytes"
 abbrev pub plainNull : (p : Plain) → ℕ → ℕ → PlainBody p → Try (PlainBody p)
 plainNull (fixed k) n l d = done (d ++ replicate (n * width k) 0)
-plainNull (string w) n l d = done (record { offsets = d .offsets ++ repeated w (item w (d .offsets) l) n; chars = d .chars })
+plainNull (string w) n l d = done (record { offsets = d .offsets ++ encodes w (replicate n (item w (d .offsets) l)); chars = d .chars })
 
 -- the first zero offset of a byte string (`new_buffers`)
 abbrev pub plainStart : (p : Plain) → PlainBody p
@@ -54,14 +48,3 @@ newViews base s a (suc n) = reindexed base (viewOf s a) ++ newViews base s (suc 
 abbrev pub buffersBefore : (ℕ → Views) → ℕ → List (List ℕ)
 buffersBefore ss zero = []
 buffersBefore ss (suc j) = buffersBefore ss j ++ ss j .buffers
-
-abbrev pub viewExtend : (ℕ → Views) → ℕ → ℕ → ℕ → ℕ → List ℕ → Try (List ℕ)
-viewExtend ss j a n l d = done (d ++ newViews (length (buffersBefore ss j)) (ss j .views) a n)
-
--- "A key is rebased by adding modulo 2 to the power of its width"
-abbrev pub newKeys : ℕ → ℕ → List ℕ → ℕ → ℕ → List ℕ
-newKeys w base s a zero = []
-newKeys w base s a (suc n) = encode w (item w s a + base) ++ newKeys w base s (suc a) n
-
-abbrev pub keysExtend : {P : Type 0} → Number → ℕ → (ℕ → Dictionary P) → ℕ → ℕ → ℕ → ℕ → List ℕ → Try (List ℕ)
-keysExtend k m ss j a n l d = done (d ++ newKeys (width k) (startOfKeys m ss j) (ss j .keys) a n)

@@ -6,8 +6,10 @@ use Prim.Native.Nat.{ℕ, zero, suc, _+_, _-_, _*_, min}
 use lib.ListN.{take}
 use lib.Dec.{ltb, eqb}
 use Rattle.number.specs.Number.{encode}
+use Rattle.columnar.specs.Row.{seg}
 use Rattle.columnar.specs.Types.{half}
 use Rattle.columnar.specs.Array.{Array, item}
+use Rattle.columnar.specs.Entries.{encodes}
 use Rattle.columnar.specs.RunEnd.{RunEnd, endOf, startOf}
 use Rattle.model.specs.Try.{Try, done, then, guard}
 use Rattle.model.specs.Grounds.{firstRun, runCount}
@@ -23,11 +25,6 @@ pub record Runs (D : Type 0) : Type 0 where
 abbrev pub lastEnd : ℕ → Mutable (List ℕ) → ℕ
 lastEnd w x = startOf (item w (x .«data»)) (x .len)
 
--- "clipped runs, equal neighbours not joined": the ends of runs k, k + 1, .., n of them, of the slots a .. b - 1, behind `last`
-abbrev pub clipped : ℕ → (ℕ → ℕ) → ℕ → ℕ → ℕ → ℕ → ℕ → List ℕ
-clipped w e a b last k zero = []
-clipped w e a b last k (suc n) = encode w (last + (min (e k) b - a)) ++ clipped w e a b last (suc k) n
-
 abbrev pub moreEnds : List ℕ → ℕ → Mutable (List ℕ) → Mutable (List ℕ)
 moreEnds new n x = record { len = x .len + n; null_count = x .null_count; bits = x .bits; «data» = x .«data» ++ new }
 
@@ -37,7 +34,7 @@ runsExtend w extend s a zero d = done d
 runsExtend w extend s a (suc n) d =
     let r = firstRun w s a in
     let k = runCount w s a (suc n) in
-    let new = clipped w (endOf w (s .ends)) a (a + suc n) (lastEnd w (d .ends)) r k in
+    let new = encodes w (seg (λ i. lastEnd w (d .ends) + (min (endOf w (s .ends) i) (a + suc n) - a)) r k) in
     guard (ltb (lastEnd w (d .ends) + suc n) (half w)) 7
     (then (extend r k (d .values)) (λ v. done (record { ends = moreEnds new k (d .ends); values = v; gap = min (d .gap) 1 })))
 

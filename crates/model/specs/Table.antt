@@ -17,6 +17,7 @@ use Rattle.columnar.specs.Reading.{Body, Column, readAll}
 use Rattle.columnar.specs.Test.{test}
 use Rattle.model.specs.Try.{Try, done, stop, then, mapTry}
 use Rattle.model.specs.Mutable.{Mutable}
+use Rattle.model.specs.Runs.{runsNull}
 use Rattle.model.specs.Book.{Call, copy, nulls}
 use Rattle.model.specs.Transform.{Destination, tryWithCapacities, tryExtend, tryExtendNulls, intoBuilder}
 use Rattle.model.specs.TableRows.{rowsShown}
@@ -43,7 +44,7 @@ sources x (y ∷ l) (suc j) = sources y l j
 module _ (gaps : Bool) (t : Ty) (keep : Bool) (m : ℕ) (ss : ℕ → Column t) where
   abbrev pub one : Call → Destination t → Try (Destination t)
   one (copy j a e) d = tryExtend t m ss j a e d
-  one (nulls n) d = tryExtendNulls t n d
+  one (nulls n) d = tryExtendNulls (λ D. runsNull {D = D}) t n d
 
   abbrev pub all : List Call → Destination t → Try (Destination t)
   all [] d = done d

@@ -8,19 +8,21 @@ use lib.ListN.{length, replicate}
 use lib.Dec.{ltb, leb}
 use Rattle.number.specs.Number.{encode}
 use Rattle.columnar.specs.Types.{Number, width, Plain, Ty, tPlain, tView, tListView, tList, tSparse, tDense, tRunEnd, tDictionary}
-use Rattle.columnar.specs.Array.{Array}
+use Rattle.columnar.specs.Row.{seg}
+use Rattle.columnar.specs.Array.{Array, item}
+use Rattle.columnar.specs.Entries.{encodes}
 use Rattle.columnar.specs.Plain.{PlainBody}
 use Rattle.columnar.specs.View.{Views}
 use Rattle.columnar.specs.Dictionary.{Dictionary}
 use Rattle.columnar.specs.Reading.{Body, Column, masks}
-use Rattle.model.specs.Try.{Try, done, stop, then, guard, after}
-use Rattle.model.specs.Opening.{present, keeps, shared, entriesFit, allKeysFit}
+use Rattle.model.specs.Try.{Try, done, stop, then, guard, after, stepsT}
+use Rattle.model.specs.Opening.{present, keeps, shared, entriesFit, startOfKeys, allKeysFit}
 use Rattle.model.specs.Mutable.{Mutable, keepsBits, extendNode, nullsNode, startNode, freezeNode}
-use Rattle.model.specs.Primitive.{plainExtend, plainNull, plainStart, viewExtend, buffersBefore, keysExtend}
-use Rattle.model.specs.ListViews.{Lists, listExtend, listNulls, listFreeze}
+use Rattle.model.specs.Primitive.{plainExtend, plainNull, plainStart, newViews, buffersBefore}
+use Rattle.model.specs.ListViews.{Lists, listRow, listNulls, listFreeze}
 use Rattle.model.specs.Lists.{Listings, listsExtend, listsNulls, listsFreeze}
-use Rattle.model.specs.Unions.{Sparses, Denses, inOrder, sparseExtend, denseExtend, sparseNull, denseNull, sparseFreeze, denseFreeze}
-use Rattle.model.specs.Runs.{Runs, runsExtend, runsNull, runsFreeze}
+use Rattle.model.specs.Unions.{Sparses, Denses, inOrder, sparseExtend, denseRow, sparseNull, denseNull, sparseFreeze, denseFreeze}
+use Rattle.model.specs.Runs.{Runs, runsExtend, runsFreeze}
 
 -- what grows at a node: buffer1, buffer2 and the children
 abbrev pub Grown : Ty → Type 0
@@ -36,32 +38,31 @@ Grown (tDictionary k p) = List ℕ
 abbrev pub Destination : Ty → Type 0
 Destination t = Mutable (Grown t)
 
--- a copy of the data at a node; m sources, the j-th from slot a on, n of them, behind l rows
+-- a copy of the data at a node; m sources, the j-th from slot a on, n of them, behind l rows. "A key is rebased by adding modulo 2 to the power of its width"
 abbrev pub extendData : (t : Ty) → ℕ → (ℕ → Body t) → ℕ → ℕ → ℕ → ℕ → Grown t → Try (Grown t)
 extendData (tPlain p) = λ m ss j a n l d. plainExtend p (ss j) a n l d
-extendData tView = λ m ss j a n l d. viewExtend ss j a n l d
-extendData (tListView w t) = λ m ss j a n l d. listExtend w (extendNode (masks t) (extendData t m) (λ i. ss i .child) j) (ss j) a n d
+extendData tView = λ m ss j a n l d. done (d ++ newViews (length (buffersBefore ss j)) (ss j .views) a n)
+extendData (tListView w t) = λ m ss j a n l d. stepsT (listRow w (extendNode (masks t) (extendData t m) (λ i. ss i .child) j) (ss j)) a n d
 extendData (tList w t) = λ m ss j a n l d. listsExtend w (extendNode (masks t) (extendData t m) (λ i. ss i .child) j) (ss j) a n l d
 extendData (tSparse ids nullable f) = λ m ss j a n l d. sparseExtend ids (λ c. extendNode (masks (f c)) (extendData (f c) m) (λ i. ss i .children c) j) (ss j) a n d
-extendData (tDense ids nullable f) = λ m ss j a n l d. denseExtend (λ c. extendNode (masks (f c)) (extendData (f c) m) (λ i. ss i .children c) j) (ss j) a n d
+extendData (tDense ids nullable f) = λ m ss j a n l d. stepsT (denseRow (λ c. extendNode (masks (f c)) (extendData (f c) m) (λ i. ss i .children c) j) (ss j)) a n d
 extendData (tRunEnd w t) = λ m ss j a n l d. runsExtend w (extendNode (masks t) (extendData t m) (λ i. ss i .values) j) (ss j) a n d
-extendData (tDictionary k p) = λ m ss j a n l d. keysExtend k m ss j a n l d
+extendData (tDictionary k p) = λ m ss j a n l d. done (d ++ encodes (width k) (seg (λ i. item (width k) (ss j .keys) i + startOfKeys m ss j) a n))
 
 abbrev pub extend : (t : Ty) → ℕ → (ℕ → Column t) → ℕ → ℕ → ℕ → Destination t → Try (Destination t)
 extend t m ss = extendNode (masks t) (extendData t m) ss
 
-abbrev pub nullsData : (t : Ty) → ℕ → ℕ → Grown t → Try (Grown t)
-nullsData (tPlain p) = λ n l d. plainNull p n l d
-nullsData tView = λ n l d. done (d ++ replicate (n * 16) 0)
-nullsData (tListView w t) = λ n l d. listNulls w n d
-nullsData (tList w t) = λ n l d. listsNulls w n l d
-nullsData (tSparse ids nullable f) = λ n l d. sparseNull ids nullable (λ c. nullsNode (masks (f c)) (nullsData (f c))) n d
-nullsData (tDense ids nullable f) = λ n l d. denseNull ids nullable (λ c. nullsNode (masks (f c)) (nullsData (f c))) n d
-nullsData (tRunEnd w t) = λ n l d. runsNull w (nullsNode (masks t) (nullsData t)) n d
-nullsData (tDictionary k p) = λ n l d. done (d ++ replicate (n * width k) 0)
-
-abbrev pub nulls : (t : Ty) → ℕ → Destination t → Try (Destination t)
-nulls t = nullsNode (masks t) (nullsData t)
+module _ (runs : (D : Type 0) → ℕ → (ℕ → Mutable D → Try (Mutable D)) → ℕ → Runs D → Try (Runs D)) where
+  -- n nulls in the data at a node; `runs` is what they do at a run-end node
+  abbrev pub nullsBy : (t : Ty) → ℕ → ℕ → Grown t → Try (Grown t)
+  nullsBy (tPlain p) = λ n l d. plainNull p n l d
+  nullsBy tView = λ n l d. done (d ++ replicate (n * 16) 0)
+  nullsBy (tListView w t) = λ n l d. listNulls w n d
+  nullsBy (tList w t) = λ n l d. listsNulls w n l d
+  nullsBy (tSparse ids nullable f) = λ n l d. sparseNull ids nullable (λ c. nullsNode (masks (f c)) (nullsBy (f c))) n d
+  nullsBy (tDense ids nullable f) = λ n l d. denseNull ids nullable (λ c. nullsNode (masks (f c)) (nullsBy (f c))) n d
+  nullsBy (tRunEnd w t) = λ n l d. runs (Grown t) w (nullsNode (masks t) (nullsBy t)) n d
+  nullsBy (tDictionary k p) = λ n l d. done (d ++ replicate (n * width k) 0)
 
 -- the first j dictionaries joined, in source order
 abbrev pub joinedFrom : (p : Plain) → (ℕ → Array (PlainBody p)) → ℕ → Mutable (PlainBody p) → Try (Mutable (PlainBody p))
@@ -126,12 +127,10 @@ tryWithCapacities gaps t u m ss = then (openData t m (λ i. ss i .body)) (λ x. 
 abbrev pub tryExtend : (t : Ty) → ℕ → (ℕ → Column t) → ℕ → ℕ → ℕ → Destination t → Try (Destination t)
 tryExtend t m ss j a e d = guard (ltb j m) 1 (guard (leb a e && leb e (ss j .len)) 2 (extend t m ss j a (e - a) d))
 
-abbrev pub keepsNulls : {D : Type 0} → Mutable D → Bool
-keepsNulls d = keepsBits (d .bits)
-
--- NULLS: 3, then count 0 accepted, then as the Rust meets them
-abbrev pub tryExtendNulls : (t : Ty) → ℕ → Destination t → Try (Destination t)
-tryExtendNulls t n d = guard (keepsNulls d) 3 (nulls t n d)
+module _ (runs : (D : Type 0) → ℕ → (ℕ → Mutable D → Try (Mutable D)) → ℕ → Runs D → Try (Runs D)) where
+  -- NULLS: 3, then count 0 accepted, then as the Rust meets them
+  abbrev pub tryExtendNulls : (t : Ty) → ℕ → Destination t → Try (Destination t)
+  tryExtendNulls t n d = guard (keepsBits (d .bits)) 3 (nullsNode (masks t) (nullsBy runs t) n d)
 
 -- FINISHING: `into_builder`
 abbrev pub intoBuilder : (t : Ty) → ℕ → (ℕ → Column t) → Destination t → Column t

@@ -5,8 +5,10 @@ use Prim.Native.Nat.{ℕ, zero, suc, _+_}
 use lib.ListN.{take, drop, getD, replicate}
 use lib.Dec.{ltb, leb, eqb}
 use Rattle.number.specs.Number.{encode}
+use Rattle.columnar.specs.Row.{seg}
 use Rattle.columnar.specs.Types.{half}
 use Rattle.columnar.specs.Array.{Array, item}
+use Rattle.columnar.specs.Entries.{encodes}
 use Rattle.columnar.specs.Union.{Sparse, Dense}
 use Rattle.model.specs.Try.{Try, done, stop, then, guard, after, stepsT}
 use Rattle.model.specs.Ordered.{home}
@@ -52,18 +54,10 @@ denseRow extend s i d =
     let c = getD (s .ids) i 0 in
     guard (ltb (d .children c .len) (half 4)) 6 (denseWith c (λ e. extend e (item 4 (s .positions) i) 1 (d .children e)) (c ∷ []) (encode 4 (d .children c .len)) d)
 
-abbrev pub denseExtend : {P D : ℕ → Type 0} → ((c : ℕ) → ℕ → ℕ → Mutable (D c) → Try (Mutable (D c))) → Dense P → ℕ → ℕ → Denses D → Try (Denses D)
-denseExtend extend s a n d = stepsT (denseRow extend s) a n d
-
--- the positions p, p + 1, .., n of them
-abbrev pub positionsFrom : ℕ → ℕ → List ℕ
-positionsFrom p zero = []
-positionsFrom p (suc n) = encode 4 p ++ positionsFrom (suc p) n
-
 abbrev pub denseNull : {D : ℕ → Type 0} → List ℕ → (ℕ → Bool) → ((c : ℕ) → ℕ → Mutable (D c) → Try (Mutable (D c))) → ℕ → Denses D → Try (Denses D)
 denseNull ids nullable nulls n d =
     then (home nullable ids)
-    (λ h. guard (leb (d .children h .len + n) (half 4)) 6 (denseWith h (λ e. nulls e n (d .children e)) (replicate n h) (positionsFrom (d .children h .len) n) d))
+    (λ h. guard (leb (d .children h .len + n) (half 4)) 6 (denseWith h (λ e. nulls e n (d .children e)) (replicate n h) (encodes 4 (seg (λ p. p) (d .children h .len) n)) d))
 
 abbrev pub sparseFreeze : {P D : ℕ → Type 0} → ((c : ℕ) → Mutable (D c) → Array (P c)) → Sparses D → Sparse P
 sparseFreeze f d = record { ids = d .buffer1; children = λ c. f c (d .children c) }

@@ -12,10 +12,11 @@ use Rattle.schema.specs.formats.Code.{between, isInteger, isFixed, isString, is
 use Rattle.schema.specs.formats.Types.{numberOf}
 use Rattle.schema.specs.Tree.{children, dictionary, below, bare, codeOf, idsOf, childForEach, shape, leafShape, keysShape, listShape, unionShape, runShape}
 use Rattle.array_data.specs.Typed.{NodeKind, fixedNode, stringNode, viewNode, listViewNode, listNode, sparseNode, denseNode, runEndNode, dictionaryNode}
-use Rattle.array_data.specs.type_tree.Lent.{numberOr, idsOr, numberKind, unionKind, kindAt}
+use Rattle.array_data.specs.type_tree.Lent.{numberOr, kindAt}
 use Rattle.array_data.proofs.type_tree.Shaped.{plainKind, Shaped, of-plain, of-view, of-list, of-lists, of-sparse, of-dense, of-run, of-dictionary}
 use Rattle.array_data.proofs.lent_tables.Laws.{and-left, and-right}
 use Rattle.plan.specs.dictionaries.Sources.{ofStrings}
+use Rattle.array_data.proofs.Names.{idsOr, numberKind, unionKind}
 
 -- ---- kinds by number: 0 numbers, 1 byte strings, 2 views, 3 list-views, 4 lists, 5 unions, 6 run-end nodes, 7 keys
 

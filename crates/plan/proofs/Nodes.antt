@@ -14,9 +14,9 @@ use Rattle.columnar.specs.Row.{seg}
 use Rattle.columnar.specs.Plain.{PlainBody}
 use Rattle.columnar.specs.View.{Views}
 use Rattle.columnar.specs.Dictionary.{Dictionary}
-use Rattle.schema.specs.formats.Code.{Rule, is, begins, table, look, codeAt, same, inside, isString, isView, isRunEnd}
+use Rattle.schema.specs.formats.Code.{Rule, is, begins, table, look, codeAt, isString, isView, isRunEnd}
 use Rattle.schema.specs.formats.Code as formatCode
-use Rattle.model.specs.Opening.{keeps, shared, startOfKeys, keysFit, allKeysFit}
+use Rattle.model.specs.Opening.{keeps, shared, startOfKeys, allKeysFit}
 use Rattle.model.specs.Primitive.{buffersBefore}
 use Rattle.schema.specs.Tree as schemaTree
 use Rattle.schema.specs.Tree.{dictionary, below, childAt, typed, whole, shape}
@@ -41,6 +41,8 @@ use Rattle.array_data.specs.Sources.{sourceCount, firstOf, nodesOf}
 use Rattle.plan.proofs.Laws.{holds, holds-not}
 use Rattle.plan.proofs.Codes.{is-false, no-dictionary, run-not-fixed, view-not-fixed}
 use Rattle.plan.proofs.Words.{cond-le, word-is, keep-is, joined-is, base-is}
+use Rattle.columnar.specs.Test.{same}
+use Rattle.model.proofs.Names.{keysFit}
 
 -- ---- a code is a byte
 
@@ -59,7 +61,7 @@ look-small k (begins s c ∷ rules) t h =
 pub code-small : (s : List ℕ) (at len : ℕ) → codeAt s at len ≤ 23
 unfolding formatCode.codeOf
 code-small s at len =
-    cond-le (inside (length s) at len) (formatCode.codeOf (take len (drop at s))) 0 23 (look-small 23 table (take len (drop at s)) refl) (omega arith)
+    cond-le (leb (at + len) (length s)) (formatCode.codeOf (take len (drop at s))) 0 23 (look-small 23 table (take len (drop at s)) refl) (omega arith)
 
 -- ---- a whole tree: what stands before a child
 

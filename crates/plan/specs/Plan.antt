@@ -6,6 +6,7 @@ use Prim.Native.Nat.{ℕ, zero, suc, _+_, _*_, _/_, _%_, _≤_, _<_, min}
 use lib.ListN.{length, getD, set, replicate}
 use lib.Dec.{ltb, eqb}
 use Rattle.schema.specs.formats.Code.{isString, isView, isRunEnd}
+use Rattle.columnar.specs.Row.{sum}
 use Rattle.columnar.specs.Dictionary.{Dictionary}
 use Rattle.model.specs.Opening.{keeps, shared, startOfKeys}
 use Rattle.array_data.specs.Tables.{Tables}
@@ -54,8 +55,7 @@ isEnds plan (suc i) = isRunEnd (codeOf plan i)
 
 -- "the number of data buffers in earlier sources" than source s, at node i; a source has at most 32, so that 33 stands for any number above
 unfoldable pub buffersUpTo : List ℕ → List ℕ → ℕ → ℕ → ℕ
-buffersUpTo places sources i zero = 0
-buffersUpTo places sources i (suc s) = buffersUpTo places sources i s + min (getD places (9 * (firstOf sources s + i) + 8) 0) 33
+buffersUpTo places sources i s = sum (λ j. min (getD places (9 * (firstOf sources j + i) + 8) 0) 33) s
 
 module _ (x : Tables) (sources : List ℕ) (m : ℕ) where
   -- "A node keeps nulls if the caller says so or any source has a null at that node"; run ends keep none

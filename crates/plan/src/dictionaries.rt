@@ -6,7 +6,7 @@ ghost use mathlib.Core.List.{List};
 ghost use mathlib.Core.Option.{some};
 ghost use Prim.Native.Nat.{ℕ, _+_, _<_, _^_};
 ghost use lib.Dec.{leb, eqb};
-ghost use Rattle.columnar.specs.Types.{Number, limit};
+ghost use Rattle.columnar.specs.Types.{Number, limit, keyFits};
 ghost use Rattle.columnar.specs.Array.{nullCount};
 ghost use Rattle.columnar.specs.Test.{same};
 ghost use Rattle.model.specs.Opening.{anyNull, keeps, ptrEq, shared, entriesBefore, startOfKeys};
@@ -14,7 +14,7 @@ ghost use Rattle.schema.specs.formats.Code.{isInteger};
 ghost use Rattle.schema.specs.formats.Types.{numberOf};
 ghost use Rattle.array_data.specs.Typed.{validStart};
 ghost use Rattle.array_data.specs.lent_tables.Lent.{tables};
-ghost use Rattle.plan.specs.dictionaries.Sources.{arrayOf, arrayAt, startsOf, dictWith, dictAt, Countable, capped, keyFits};
+ghost use Rattle.plan.specs.dictionaries.Sources.{arrayOf, arrayAt, startsOf, dictWith, dictAt, Countable, capped};
 ghost use Rattle.array_data.specs.Sources.{firstOf};
 use array_data::lent_tables;
 

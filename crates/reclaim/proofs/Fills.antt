@@ -19,7 +19,7 @@ use Rattle.columnar.specs.Plain.{PlainBody}
 use Rattle.columnar.specs.Reading.{Column, Source}
 use Rattle.schema.specs.formats.Code.{isFixed, isString}
 use Rattle.model.specs.Try.{done, after}
-use Rattle.model.specs.Mutable.{Mutable, zeros, grow, counted, freezeNode}
+use Rattle.model.specs.Mutable.{Mutable, zeros, grow, freezeNode}
 use Rattle.model.proofs.Law.{BitsFor}
 use Rattle.walk.specs.State.{Join, word, codeOf, dictionaryOf, endOf, bytesOf, keepsOf, rows, nulls, bytes, addRows, lengthOf, offsetOf}
 use Rattle.walk.specs.Log.{put, wrote}
@@ -49,6 +49,7 @@ use Rattle.reclaim.specs.used_entries.Keys.{used, newKeys}
 use Rattle.reclaim.specs.reclaim_walk.Walk.{keysOf, firstEntry, copyBlocks, reclaimWalk}
 use Rattle.reclaim.proofs.Rows.{those-same, used-same, keys-written, keys-there}
 use Rattle.reclaim.proofs.Entries.{Copied, entries-go, begin}
+use Rattle.model.proofs.Names.{counted}
 
 -- what the plan and the tables of a dictionary column give: node 0 its keys, node 1 its entries
 pub record Given (x : Lent) (k : Number) (p : Plain) (v : Column (tDictionary k p)) : Type 0 where

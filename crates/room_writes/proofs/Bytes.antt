@@ -1,6 +1,6 @@
 -- The bytes that a walk writes: how many they are, and that a number's lowest bytes are enough for them. Assumes nothing.
 use mathlib.Core.Path.{_≡_, refl}
-use mathlib.Core.Bool.{Bool, true, false}
+use mathlib.Core.Bool.{Bool, true, false, cond}
 use mathlib.Core.List.{List, _++_}
 use Prim.Native.Nat.{ℕ, _+_, _*_, _-_, _%_, _^_, _≤_}
 use native.Mathlib.Nat.{add-mod-mod, mod-add-mod}
@@ -13,7 +13,7 @@ use Rattle.number.proofs.Laws.{length-encode, encode-mod}
 use Rattle.utils.specs.Offsets.{movedOffsets, repeated, countedUp}
 use Rattle.utils.proofs.Pieces.{length-pieces, length-numbers, pieces-same, numbers-same}
 use Rattle.utils.specs.primitive.Primitive.{rebased}
-use Rattle.utils.specs.byte_view.View.{reviewed, reviewedOne, pickBytes}
+use Rattle.utils.specs.byte_view.View.{reviewed, reviewedOne}
 
 pub length-copied : (s : List ℕ) (from n : ℕ) → from + n ≤ length s → length (take n (drop from s)) ≡ n
 length-copied s from n h = simp (length-take, length-drop) (omega arith)
@@ -59,7 +59,7 @@ length-one : (s : List ℕ) (base : ℕ) → 16 ≤ length s → length (reviewe
 unfolding reviewedOne
 length-one s base h = go (ltb 12 (number 4 s))
   where
-    go : (t : Bool) → length (pickBytes t (take 8 s ++ encode 4 ((number 4 (drop 8 s) + base) % 256 ^ 4) ++ take 4 (drop 12 s)) (take 16 s)) ≡ 16
+    go : (t : Bool) → length (cond t (take 8 s ++ encode 4 ((number 4 (drop 8 s) + base) % 256 ^ 4) ++ take 4 (drop 12 s)) (take 16 s)) ≡ 16
     go true = simp (length-append, length-encode, length-take, length-drop) (omega arith)
     go false = simp length-take (omega arith)
 

@@ -15,7 +15,6 @@ use Rattle.number.proofs.Laws.{splice-splice, splice-nil, length-splice}
 use Rattle.schema.specs.formats.Code.{isFixed, isString, isView, isListView, isList, isUnion, isSparse, isRunEnd, widthOf}
 use Rattle.array_data.specs.Tables.{Tables, part, lengthOf, offsetOf, place, validOf, firstBuffer, secondBuffer}
 use Rattle.array_data.specs.Typed.{NodeKind, fixedNode, stringNode, viewNode, listViewNode, listNode, sparseNode, denseNode, runEndNode, dictionaryNode}
-use Rattle.array_data.specs.type_tree.Lent.{numberKind, unionKind}
 use Rattle.run_ends.specs.declared.PhysicalRun.{PhysicalRun}
 use Rattle.slot_reader.specs.run.Rows.{rowRun}
 use Rattle.slot_reader.specs.declared.run.RowRun.{RowRun}
@@ -36,6 +35,7 @@ use Rattle.row_reader.specs.declared.Child.the-variants as child
 use Rattle.row_reader.specs.declared.Step.{Step}
 use Rattle.row_reader.specs.declared.Step.the-variants as step
 use Rattle.row_reader.specs.Walk.{refused, endWord, childFrom, childOf, chosen, into, underId, codeWidth, endsIn, runIn, ran, runOf, runsStep, runAt, stepBy, stepOn, sighted, stepAt, Walked, walkedTo, under, follow, walk, isRefused, kept, rowAt}
+use Rattle.array_data.proofs.Names.{numberKind, unionKind}
 
 -- ---- a union's child
 

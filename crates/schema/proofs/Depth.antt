@@ -6,23 +6,21 @@ use Prim.Native.Nat.{ℕ, zero, suc, _+_, _-_, _≤_, _<_}
 use native.Mathlib.Omega.{arith}
 use lib.Dec.{ltb, eqb}
 use borrow.Author.Tests.{eqb-true, eqb-false, ltb-true, ltb-false, lt-ltb, le-ltb}
-use Rattle.schema.specs.Tree.{count, below, endFrom, endOf, childAt, depth, whole}
+use Rattle.schema.specs.Tree.{below, endFrom, endOf, childAt, depth, whole}
 use Rattle.schema.proofs.Laws.{end-step}
 use Rattle.schema.proofs.Trees.{end-up, end-fit, end-split, end-one, split, child-is, child-inside}
+use Rattle.schema.proofs.Counts.{count}
 
 -- ---- counting
 
 count-same : (p q : ℕ → Bool) (n : ℕ) → ((j : ℕ) → j < n → p j ≡ q j) → count p n ≡ count q n
-unfolding count
 count-same p q zero h = refl
 count-same p q (suc n) h = rw (count-same p q n (λ j l. h j (omega arith)), h n (omega arith))
 
 count-out : (p : ℕ → Bool) (k : ℕ) → p k ≡ false → count p (suc k) ≡ count p k
-unfolding count
 count-out p k h = rw h (omega arith)
 
 count-in : (p : ℕ → Bool) (k : ℕ) → p k ≡ true → count p (suc k) ≡ count p k + 1
-unfolding count
 count-in p k h = rw h
 
 count-flat : (p : ℕ → Bool) (m d : ℕ) → ((j : ℕ) → m ≤ j → j < m + d → p j ≡ false) → count p (m + d) ≡ count p m

@@ -6,14 +6,14 @@ use Prim.Native.Nat.{ℕ, zero, suc, _≤_, _<_}
 use native.Mathlib.Omega.{arith}
 use lib.Dec.{leb, eqb}
 use borrow.Author.Tests.{eqb-true, eqb-false, leb-true}
-use Rattle.schema.specs.Tree.{every, depth, whole, fewFields, shape, ceilings, typed, sameNode, sameType}
+use Rattle.schema.specs.Tree.{depth, whole, fewFields, shape, ceilings, typed, sameNode, sameType}
+use Rattle.columnar.specs.Test.{every}
 
 every-at-by : (p : ℕ → Bool) (n i : ℕ) (x : Bool) → eqb i n ≡ x → i < suc n → p n ≡ true → (i < n → p i ≡ true) → p i ≡ true
 every-at-by p n i true e l h ih = ap p (eqb-true i n e) ∙ h
 every-at-by p n i false e l h ih = let d = eqb-false i n e in ih (omega arith)
 
 pub every-at : (p : ℕ → Bool) (n i : ℕ) → every p n ≡ true → i < n → p i ≡ true
-unfolding every
 every-at p zero i e l = absurd (omega arith)
 every-at p (suc n) i e l =
     let h = and-eq-true-iff (every p n) (p n) .0 e in

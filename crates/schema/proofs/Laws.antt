@@ -9,15 +9,16 @@ use native.Mathlib.Numerals.{add-one}
 use lib.ListN.{length}
 use lib.Dec.{leb, ltb, eqb}
 use borrow.Author.Tests.{lt-ltb, le-ltb, le-leb, lt-leb, eq-eqb, ne-eqb, eqb-true, eqb-false}
-use Rattle.schema.specs.Tree.{every, count, field, flag, children, dictionary, below, endFrom, dueFrom, childForEach, isValues, endOf, depth, whole, idsOf, fewFields, shape, ceilings, typed, sameFlag, sameFormats, sameNode, sameType}
+use Rattle.schema.specs.Tree.{field, flag, children, dictionary, below, endFrom, dueFrom, childForEach, isValues, endOf, depth, whole, codeOf, idsOf, fewFields, shape, ceilings, typed, sameFlag, sameFormats, sameNode, sameType}
 use Rattle.schema.specs.union_ids.Ids.{idsAt, answerOf, sameFormat}
 use Rattle.schema.specs.declared.union_ids.Ids.{Ids}
 use Rattle.schema.specs.declared.union_ids.Ids.the-variants.{Count, Bad}
+use Rattle.columnar.specs.Test.{every}
+use Rattle.schema.proofs.Counts.{count}
 
 -- ---- every and count
 
 pub every-all : (p : ℕ → Bool) (n : ℕ) → ((j : ℕ) → j < n → p j ≡ true) → every p n ≡ true
-unfolding every
 every-all p zero h = refl
 every-all p (suc n) h = rw (every-all p n (λ j l. h j (omega arith)), h n (omega arith))
 
@@ -26,7 +27,6 @@ every-not-by p n i true e l h ih = let q : p n ≡ false = ap p (sym (eqb-true i
 every-not-by p n i false e l h ih = let d = eqb-false i n e in rw (ih (omega arith))
 
 pub every-not : (p : ℕ → Bool) (n i : ℕ) → i < n → p i ≡ false → every p n ≡ false
-unfolding every
 every-not p zero i l h = absurd (omega arith)
 every-not p (suc n) i l h = every-not-by p n i (eqb i n) refl l h (λ less. every-not p n i less h)
 
@@ -99,11 +99,9 @@ module _ (schema : List ℕ) (first n : ℕ) where
   -- ---- depth and ceilings
 
   pub depth-in : (i j d : ℕ) → i < endOf schema first n j → d ≡ suc (count (λ k. ltb i (endOf schema first n k)) j) → d + 1 ≡ suc (count (λ k. ltb i (endOf schema first n k)) (j + 1))
-  unfolding count
   depth-in i j d l e = rw (add-one j, lt-ltb i (endOf schema first n j) l) (omega arith)
 
   pub depth-out : (i j d : ℕ) → endOf schema first n j ≤ i → d ≡ suc (count (λ k. ltb i (endOf schema first n k)) j) → d ≡ suc (count (λ k. ltb i (endOf schema first n k)) (j + 1))
-  unfolding count
   depth-out i j d l e = rw (add-one j, le-ltb i (endOf schema first n j) l) (omega arith)
 
   pub depth-all : (i j d : ℕ) → j ≡ i → d ≡ suc (count (λ k. ltb i (endOf schema first n k)) j) → d ≡ depth schema first n i
@@ -186,7 +184,7 @@ module _ (schema : List ℕ) (first first′ : ℕ) where
 pub formats-by : (formats schema : List ℕ) (first first′ i at len at′ len′ : ℕ)
     → at ≡ field schema (first + i) 0 → len ≡ field schema (first + i) 1 → at′ ≡ field schema (first′ + i) 0 → len′ ≡ field schema (first′ + i) 1
     → sameFormat formats at len at′ len′ ≡ sameFormats formats schema first first′ i
-unfolding sameFormats
+unfolding sameFormats codeOf idsOf
 formats-by formats schema first first′ i at len at′ len′ a l a′ l′ =
     ap (λ x. sameFormat formats x len at′ len′) a
     ∙ ap (λ x. sameFormat formats (field schema (first + i) 0) x at′ len′) l

@@ -1,4 +1,5 @@
 -- The laws that the proofs of `schema` cite.
+pub mod Counts
 pub mod Laws
 pub mod Trees
 pub mod Depth

@@ -6,18 +6,10 @@ use mathlib.Core.List.{List, []}
 use Prim.Native.Nat.{ℕ, zero, suc, _+_, _*_, _-_, _/_, _%_}
 use lib.ListN.{length, getD}
 use lib.Dec.{leb, ltb, eqb}
+use Rattle.columnar.specs.Row.{sum}
+use Rattle.columnar.specs.Test.{every}
 use Rattle.schema.specs.formats.Code.{codeAt, isInteger, isFixed, isString, isView, isListView, isList, isUnion, isRunEnd}
-use Rattle.schema.specs.union_ids.Ids.{idsAt, sameFormat}
-
--- p holds of every i below n
-unfoldable pub every : (ℕ → Bool) → ℕ → Bool
-every p zero = true
-every p (suc n) = every p n && p n
-
--- how many i below n have p
-unfoldable pub count : (ℕ → Bool) → ℕ → ℕ
-count p zero = 0
-count p (suc n) = count p n + cond (p n) 1 0
+use Rattle.schema.specs.union_ids.Ids.{idsAt, sameIds}
 
 -- number j of node k's five; 0 where the table is too short
 abbrev pub field : List ℕ → ℕ → ℕ → ℕ
@@ -84,7 +76,7 @@ module _ (schema : List ℕ) (first n : ℕ) where
 
   -- "depth (the root is 1)": one more than the earlier nodes whose subtree it is in
   unfoldable pub depth : ℕ → ℕ
-  depth i = suc (count (λ j. ltb i (endOf j)) i)
+  depth i = suc (sum (λ j. cond (ltb i (endOf j)) 1 0) i)
 
   -- the nodes are one whole tree
   unfoldable pub whole : Bool
@@ -155,12 +147,9 @@ module _ (formats schema : List ℕ) (first first′ : ℕ) where
   -- the nodes i of both trees have the same format
   unfoldable pub sameFormats : ℕ → Bool
   sameFormats i =
-      sameFormat
-      formats
-      (field schema (first + i) 0)
-      (field schema (first + i) 1)
-      (field schema (first′ + i) 0)
-      (field schema (first′ + i) 1)
+      not (eqb (codeOf formats schema first i) 0)
+      && eqb (codeOf formats schema first i) (codeOf formats schema first′ i)
+      && (not (isUnion (codeOf formats schema first i)) || sameIds (idsOf formats schema first i) (idsOf formats schema first′ i))
 
   -- .. and as many children, both a dictionary or neither, and the same flag
   unfoldable pub sameNode : ℕ → Bool

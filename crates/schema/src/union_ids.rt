@@ -3,8 +3,8 @@ ghost use mathlib.Core.Path.{_≡_};
 ghost use mathlib.Core.List.{[], _∷_};
 ghost use Prim.Native.Nat.{_+_, _-_, _≤_, _<_};
 ghost use lib.ListN.{length, take, drop};
-ghost use Rattle.schema.specs.formats.Code.{same};
-ghost use Rattle.schema.specs.union_ids.Ids.{firstComma, idOf, member, idList, idsAt, answerOf, written, sameIds, sameFormat};
+ghost use Rattle.schema.specs.union_ids.Ids.{firstComma, idOf, idList, idsAt, answerOf, written, sameIds, sameFormat};
+ghost use Rattle.columnar.specs.Test.{same, member};
 
 // The ids of a union's fields: how many, or that they are not ids that a union may have.
 pub enum Ids {

@@ -11,12 +11,13 @@ use Rattle.columnar.specs.Types.{Number, width}
 use Rattle.schema.specs.formats.Code.{between, lastCode, isFixed, isString, isView, isListView, isList, isUnion, isSparse, isRunEnd, widthOf}
 use Rattle.schema.specs.formats.Types as types
 use Rattle.array_data.specs.Typed.{NodeKind, fixedNode, stringNode, viewNode, listViewNode, listNode, sparseNode, denseNode, runEndNode, dictionaryNode}
-use Rattle.array_data.specs.type_tree.Lent.{numberKind, unionKind, kindOf}
+use Rattle.array_data.specs.type_tree.Lent.{kindOf}
 use Rattle.array_data.proofs.type_tree.Shaped.{kind-fixed, kind-string, kind-view, kind-list, kind-lists, kind-union, kind-run, number-or}
 use Rattle.array_data.proofs.lent_tables.Laws.{and-left, and-right}
 use Rattle.slot_reader.specs.leaf_row.Reading as leaf
 use Rattle.array_data.specs.node_words.Words.{word}
 use Rattle.slot_reader.specs.Slots.{codeWord, known, kindWord, codeNumber}
+use Rattle.array_data.proofs.Names.{numberKind, unionKind}
 
 -- ---- codes by range
 

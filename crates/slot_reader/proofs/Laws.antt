@@ -15,7 +15,6 @@ use Rattle.columnar.specs.Array.{item}
 use Rattle.schema.specs.formats.Code.{isFixed, isString, isView, isListView, isList, widthOf}
 use Rattle.array_data.specs.Tables.{Tables, part, lengthOf, offsetOf, place, firstBuffer, secondBuffer}
 use Rattle.array_data.specs.Typed.{NodeKind, stringNode, viewNode, listViewNode, listNode, runEndNode}
-use Rattle.array_data.specs.type_tree.Lent.{numberKind, unionKind}
 use Rattle.slot_reader.specs.declared.leaf_row.Leaf.{Leaf}
 use Rattle.slot_reader.specs.leaf_row.Reading as leaf
 use Rattle.slot_reader.specs.view.Place.{placeOf, partOf, Within}
@@ -34,6 +33,7 @@ use Rattle.slot_reader.specs.declared.RowRead.{RowRead}
 use Rattle.slot_reader.specs.declared.RowRead.the-variants as row
 use Rattle.slot_reader.specs.Slots.{codeWord, known, kindWord, codeNumber, numberRead, stretchIn, both, stringRead, dataPlace, viewed, viewAt, listViewRead, rowsIn, listRead, storedNumber, storedBy, storedAt, entryBy, keyed, dictionaryRead, fixedRead, slotBy, slotRead}
 use Rattle.slot_reader.proofs.Codes.{number-same, code-width, range, knows, as-fixed, as-string, as-view, as-list-view, as-list, elsewhere}
+use Rattle.array_data.proofs.Names.{numberKind, unionKind}
 
 -- ---- numbers and stored numbers, by their place
 

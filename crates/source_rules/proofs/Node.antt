@@ -25,7 +25,7 @@ use Rattle.schema.proofs.Known.{typed-whole, typed-shape}
 use Rattle.array_data.specs.Tables.{Tables, lengthOf}
 use Rattle.array_data.specs.Rules.{fixedRule, stringRule, viewRule, listViewRule, listRule, sparseRule, denseRule, runEndRule, dictionaryRule}
 use Rattle.array_data.specs.Typed.{NodeKind, fixedNode, stringNode, viewNode, listViewNode, listNode, sparseNode, denseNode, runEndNode, dictionaryNode, fieldOf, nodeOf, childNode, tablesFrom, kindRule, nodeRule}
-use Rattle.array_data.specs.type_tree.Lent.{numberOr, idsOr, unionKind, kindAt, treeOf}
+use Rattle.array_data.specs.type_tree.Lent.{numberOr, kindAt, treeOf}
 use Rattle.array_data.proofs.type_tree.Ids.{both, field-in}
 use Rattle.array_data.proofs.type_tree.Shaped.{later, string-width, list-width, lists-width, integer-fixed, plainKind, Shaped, of-plain, of-view, of-list, of-lists, of-sparse, of-dense, of-run, of-dictionary, at-fixed, at-keys, at-string, at-view, at-list, at-lists, at-union, at-run, five, shaped}
 use Rattle.array_data.proofs.type_tree.Lent.{child-same, first-child}
@@ -33,6 +33,7 @@ use Rattle.array_data.specs.lent_tables.Lent.{tables, Counted}
 use Rattle.source_rules.specs.kinds.Rows.{tablesOf}
 use Rattle.source_rules.specs.Source.{Ready, numberRule}
 use Rattle.source_rules.proofs.From.{fixed-from, string-from, view-from, list-view-from, list-from, sparse-from, dense-from, run-end-from, dictionary-from}
+use Rattle.array_data.proofs.Names.{idsOr, unionKind}
 
 -- ---- widths
 

@@ -17,10 +17,11 @@ use Rattle.schema.proofs.Laws.{no-ids}
 use Rattle.array_data.specs.Tables.{Tables, lengthOf}
 use Rattle.array_data.specs.Rules.{sparseRule, denseRule}
 use Rattle.array_data.specs.Typed.{fieldOf, childNode}
-use Rattle.array_data.specs.type_tree.Lent.{idsOr, treeOf}
+use Rattle.array_data.specs.type_tree.Lent.{treeOf}
 use Rattle.array_data.proofs.type_tree.Ids.{field-in}
 use Rattle.array_data.proofs.type_tree.Lent.{child-same}
 use Rattle.source_rules.proofs.Node.{rule, childOfId, sparse-node, dense-node, union-each}
+use Rattle.array_data.proofs.Names.{idsOr}
 
 bad-count : (k : ℕ) → Bad ≡ Count k → ⊥
 bad-count k e = let z : _≡_ {A = ℕ} 0 1 = cc in omega arith

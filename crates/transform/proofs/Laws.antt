@@ -12,8 +12,8 @@ use borrow.Author.Tests.{eq-eqb, ne-eqb, lt-ltb, le-ltb}
 use Rattle.walk.specs.State.{Join, codeOf, endOf, idOf, keepsOf, rows, far}
 use Rattle.walk.specs.Log.{Out, Did, apply, applyIf, put, done, wrote, found, next}
 use Rattle.walk.specs.Leaves.{nullMask, countNulls, nullNumbers, nullString}
-use Rattle.walk.specs.Copy.{copyWalk}
-use Rattle.walk.specs.Nulls.{NullWalk, nullableChild, noHome, nullListView, nullList, nullFields, nullSparse, nullDense, addRun, growRun, nullRuns, nullData, nullNode, nullWalk}
+use Rattle.walk.specs.Copy.{copyWalk, eachField}
+use Rattle.walk.specs.Nulls.{NullWalk, nullableChild, noHome, nullListView, nullList, nullSparse, nullDense, addRun, growRun, nullRuns, nullData, nullNode, nullWalk}
 use Rattle.leaf_walk.specs.Join.{join}
 use Rattle.plan.specs.parts.Parts.{partsWithin, partsHold}
 use Rattle.sound.proofs.trying.Laws.{hold-alike}
@@ -21,6 +21,7 @@ use Rattle.sound.proofs.trying.Near.{Near}
 use Rattle.refinement.specs.orders.Sound.{walkable}
 use Rattle.refinement.specs.orders.Order.{After, Lent, sourceCount, sourceLength, refused, settled, copyOrder, nullOrder}
 use Rattle.transform.specs.Answer.{Answers}
+use Rattle.walk.proofs.Names.{nullFields}
 
 -- ---- counters one after the other
 
@@ -103,7 +104,7 @@ module _ (plan parts parts2 lengths lengths2 places places2 body body2 : List �
   other = join plan parts2 lengths2 places2 body2 first2 source2
 
   fields-plan : (child : NullWalk) (n end f k : ℕ) (c : List ℕ) → nullFields one child n end f k c ≡ nullFields other child n end f k c
-  unfolding nullFields
+  unfolding eachField
   fields-plan child n end zero k c = refl
   fields-plan child n end (suc f) k c = ap (λ z. cond (ltb k end) (next (child k n c) z) (done c)) (fun-ext (λ c2. fields-plan child n end f (endOf plan k) c2))
 

@@ -14,8 +14,9 @@ use Rattle.run_ends.specs.declared.Runs.the-variants.{Range, None}
 use Rattle.walk.specs.State.{Join, codeOf, dictionaryOf, endOf, keepsOf, bytesOf, rows, bytes, gap, place, far}
 use Rattle.walk.specs.Log.{Entry, Out, fail, done, wrote, need, found, next, each}
 use Rattle.walk.specs.Leaves.{copyBits, copyMask, nullMask, countNulls, copyNumbers, copyKeys, copyViews, nullNumbers, putString, putExtended, copyString, nullString}
-use Rattle.walk.specs.Copy.{Walk, masked, listViewRow, copyListView, putStretch, putList, copyList, copyFields, copySparse, denseTo, denseRow, copyDense, putRuns, runsAt, copyRuns, copyData, copySlots, copyNode, copyWalk}
-use Rattle.walk.specs.Nulls.{NullWalk, nullListView, nullList, nullFields, nullSparse, nullDense, addRun, growRun, nullRuns, nullData, nullNode, nullWalk}
+use Rattle.walk.specs.Copy.{Walk, masked, listViewRow, copyListView, putStretch, copyList, copySparse, denseTo, denseRow, copyDense, putRuns, runsAt, copyRuns, copyData, copySlots, copyNode, copyWalk, eachField}
+use Rattle.walk.specs.Nulls.{NullWalk, nullListView, nullList, nullSparse, nullDense, addRun, growRun, nullRuns, nullData, nullNode, nullWalk}
+use Rattle.walk.proofs.Names.{putList, copyFields, nullFields}
 
 -- m counters
 pub record Sized (m : ℕ) (c : List ℕ) : Type 0 where
@@ -113,7 +114,7 @@ module _ {m : ℕ} where
           (long-need _ 12 h (long-need _ 12 h (long-put-list w (place x i 3 + w * slot) n (extended w (x .body) (place x i 3 + w * slot) n (rows c (suc i))) h)))
 
       long-fields : (slot n end f k : ℕ) {c : List ℕ} → Sized m c → Long m (copyFields x walk slot n end f k c)
-      unfolding copyFields
+      unfolding eachField
       long-fields slot n end zero k h = long-done h
       long-fields slot n end (suc f) k h = long-cond (ltb k end) (long-next _ (below k slot n _ h) (λ c2 g. long-fields slot n end f (endOf (x .plan) k) g)) (long-done h)
 
@@ -167,7 +168,7 @@ module _ {m : ℕ} where
 
     module _ (walk : NullWalk) (below : (k n : ℕ) (c : List ℕ) → Sized m c → Long m (walk k n c)) (i : ℕ) where
       long-null-fields : (n end f k : ℕ) {c : List ℕ} → Sized m c → Long m (nullFields x walk n end f k c)
-      unfolding nullFields
+      unfolding eachField
       long-null-fields n end zero k h = long-done h
       long-null-fields n end (suc f) k h = long-cond (ltb k end) (long-next _ (below k n _ h) (λ c2 g. long-null-fields n end f (endOf (x .plan) k) g)) (long-done h)
 

@@ -10,8 +10,8 @@ use Rattle.schema.specs.formats.Code.{isFixed, isString, isView, isListView, is
 use Rattle.walk.specs.State.{Join, codeOf, endOf, keepsOf, bytesOf, rows, gap, far, addRows}
 use Rattle.walk.specs.Log.{Out, fail, done, need, found, next}
 use Rattle.walk.specs.Leaves.{nullMask, countNulls, nullNumbers, nullString}
-use Rattle.walk.specs.Copy.{isWidth, masked}
-use Rattle.walk.specs.Nulls.{NullWalk, nullableChild, noHome, nullListView, nullList, nullFields, nullSparse, nullDense, addRun, growRun, nullRuns, nullData, nullNode, nullWalk}
+use Rattle.walk.specs.Copy.{isWidth, masked, eachField}
+use Rattle.walk.specs.Nulls.{NullWalk, nullableChild, noHome, nullListView, nullList, nullSparse, nullDense, addRun, growRun, nullRuns, nullData, nullNode, nullWalk}
 use Rattle.plan.specs.parts.Parts.{partsHold}
 use Rattle.model.specs.Book.{Call, copy, nulls}
 use Rattle.refinement.specs.orders.Order.{Lent, joinOf, sourceCount, sourceLength}
@@ -19,6 +19,7 @@ use Rattle.sound.specs.trying.Alike.{Alike}
 use Rattle.sound.proofs.trying.Laws.{alike-rows, alike-begun, alike-other, hold-alike}
 use Rattle.sound.proofs.trying.Near.{Near, near-done, near-wrote, near-cond, near-need, near-next, near-copy}
 use Rattle.trip.specs.Walk.{orderWalk, orderStep}
+use Rattle.walk.proofs.Names.{nullFields}
 
 near-fail : (g : ℕ) {c d : List ℕ} → Alike c d → Near (fail g c) (fail g d)
 unfolding fail
@@ -60,7 +61,7 @@ module _ (x : Join) where
     near-list w n h = near-need refl 12 h (near-wrote _ _ h)
 
     near-fields : (n end f k : ℕ) {c d : List ℕ} → Alike c d → Near (nullFields x walk n end f k c) (nullFields x walk n end f k d)
-    unfolding nullFields
+    unfolding eachField
     near-fields n end zero k h = near-done h
     near-fields n end (suc f) k h = near-cond (ltb k end) (near-next _ _ (below k n _ _ h) (λ c2 d2 g. near-fields n end f (endOf (x .plan) k) g)) (near-done h)
 

@@ -1,16 +1,12 @@
 -- What an extension of n offsets comes to. 01, ground 6: an offset does not fit its type. Assumes nothing.
 use Prim.Native.Nat.{ℕ, _+_, min}
 use mathlib.Core.List.{List}
-use mathlib.Core.Bool.{Bool, true, false}
+use mathlib.Core.Bool.{cond}
 use lib.Dec.{ltb}
 use Rattle.number.specs.Number.{entry}
 use Rattle.utils.specs.Offsets.{largest, moved, firstAbove}
 use Rattle.utils.specs.declared.Extended.{Extended}
 use Rattle.utils.specs.declared.Extended.the-variants.{Fits, Over, Falls}
-
-abbrev pub pick : Bool → Extended → Extended → Extended
-pick true a b = a
-pick false a b = b
 
 -- row k, with its new offset, cut to 2 ^ 64 - 1
 abbrev pub rowOver : ℕ → List ℕ → ℕ → ℕ → ℕ → Extended
@@ -23,7 +19,7 @@ overAt w s from n last = rowOver w s from last (firstAbove (largest w) (λ k. mo
 -- Falls where the last offset is below the first or `last` does not fit; else Fits where the last new offset does; else the first row that does not
 unfoldable pub extended : ℕ → List ℕ → ℕ → ℕ → ℕ → Extended
 extended w s from n last =
-    pick (ltb (entry w s from n) (entry w s from 0)) Falls
-    (pick (ltb (largest w) last) Falls
-    (pick (ltb (largest w) (moved w s from last n)) (overAt w s from n last)
+    cond (ltb (entry w s from n) (entry w s from 0)) Falls
+    (cond (ltb (largest w) last) Falls
+    (cond (ltb (largest w) (moved w s from last n)) (overAt w s from n last)
     (Fits (moved w s from last n) (entry w s from 0))))

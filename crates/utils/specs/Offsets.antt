@@ -1,7 +1,7 @@
 -- Offsets of w bytes, which stand in s from the byte `from` on. 01: each new offset is the last one plus the source difference. Assumes nothing.
 use Prim.Native.Nat.{ℕ, zero, suc, _+_, _-_, _/_, _%_, _^_}
 use mathlib.Core.List.{List}
-use mathlib.Core.Bool.{Bool, true, false}
+use mathlib.Core.Bool.{cond}
 use lib.Dec.{ltb}
 use Rattle.number.specs.Number.{entry}
 use Rattle.utils.specs.Pieces.{numbers}
@@ -14,14 +14,10 @@ largest w = 256 ^ w / 2 - 1
 abbrev pub moved : ℕ → List ℕ → ℕ → ℕ → ℕ → ℕ
 moved w s from last k = last + (entry w s from k - entry w s from 0)
 
-abbrev pub pickNumber : Bool → ℕ → ℕ → ℕ
-pickNumber true a b = a
-pickNumber false a b = b
-
 -- the first k below n at which f is above max, and n where there is none
 unfoldable pub firstAbove : ℕ → (ℕ → ℕ) → ℕ → ℕ
 firstAbove max f zero = 0
-firstAbove max f (suc n) = pickNumber (ltb max (f 0)) 0 (suc (firstAbove max (λ k. f (suc k)) n))
+firstAbove max f (suc n) = cond (ltb max (f 0)) 0 (suc (firstAbove max (λ k. f (suc k)) n))
 
 -- the n offsets after the first, moved to follow `last`, as the machine adds and subtracts: modulo 256 ^ w
 unfoldable pub movedOffsets : ℕ → List ℕ → ℕ → ℕ → ℕ → List ℕ

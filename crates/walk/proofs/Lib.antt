@@ -1,2 +1,3 @@
 -- What code that walks goes by.
+pub mod Names
 pub mod Laws

@@ -18,7 +18,7 @@ use Rattle.run_ends.specs.declared.Runs.{Runs}
 use Rattle.run_ends.specs.declared.Runs.the-variants.{Range, None}
 use Rattle.walk.specs.State.{Join, codeOf, dictionaryOf, endOf, idOf, bytesOf, rows, addRows, endGap, place, lengthOf, offsetOf, far, slotOf, rowsIn}
 use Rattle.walk.specs.Log.{Out, put, fail, done, wrote, need, found, next, each}
-use Rattle.walk.specs.Leaves.{copyMask, copyNumbers, copyKeys, copyViews, copyString}
+use Rattle.walk.specs.Leaves.{offered, copyMask, copyNumbers, copyKeys, copyViews, copyString}
 
 -- a walk of a node: node, first row, rows, counters
 abbrev pub Walk : Type 0
@@ -36,6 +36,11 @@ isWidth w = eqb w 2 || eqb w 4 || eqb w 8
 -- "no validity buffer on a union or run-end node"
 abbrev pub masked : ℕ → Bool
 masked code = ltb code 21
+
+-- f at each field of a union in order, from node k on, up to the node `end`
+unfoldable pub eachField : List ℕ → (ℕ → List ℕ → Out) → ℕ → ℕ → ℕ → List ℕ → Out
+eachField plan f end zero k c = done c
+eachField plan f end (suc m) k c = cond (ltb k end) (next (f k c) (λ c2. eachField plan f end m (endOf plan k) c2)) (done c)
 
 module _ (x : Join) (child : Walk) where
   -- ---- list-views: "each row's new offset is the child's length before its copy", 6 before the child
@@ -60,31 +65,21 @@ module _ (x : Join) (child : Walk) where
       next (wrote (put i 1 (suc (rows c i) * w) (movedOffsets w (x .body) from (rows c (suc i)) n)) c)
       (λ c2. child (suc i) first (last - rows c2 (suc i)) c2)
 
-  -- 12 where offsets fall, which no accepted source has
-  abbrev pub putList : ℕ → ℕ → ℕ → ℕ → Extended → List ℕ → Out
-  putList w i from n (Fits last first) c = putStretch w i from n last first c
-  putList w i from n (Over row needed) c = fail 6 c
-  putList w i from n Falls c = fail 12 c
-
   -- a copy of no rows reads no offset, as that of a byte string
   unfoldable pub copyList : ℕ → ℕ → ℕ → ℕ → List ℕ → Out
   copyList w i slot n c =
       cond (eqb n 0) (done c)
       (need (ltb (suc i) 32) 12 c
       (need (rowsIn x (place x i 3) w slot (suc n)) 12 c
-      (putList w i (place x i 3 + w * slot) n (extended w (x .body) (place x i 3 + w * slot) n (rows c (suc i))) c)))
+      (offered (extended w (x .body) (place x i 3 + w * slot) n (rows c (suc i))) (putStretch w i (place x i 3 + w * slot) n) c)))
 
   -- ---- sparse unions: "copies offset + start onward from all children"
-
-  unfoldable pub copyFields : ℕ → ℕ → ℕ → ℕ → ℕ → List ℕ → Out
-  copyFields slot n end zero k c = done c
-  copyFields slot n end (suc f) k c = cond (ltb k end) (next (child k slot n c) (λ c2. copyFields slot n end f (endOf (x .plan) k) c2)) (done c)
 
   unfoldable pub copySparse : ℕ → ℕ → ℕ → List ℕ → Out
   copySparse i slot n c =
       need (rowsIn x (place x i 3) 1 slot n) 12 c
       (next (wrote (put i 1 (rows c i) (take n (drop (place x i 3 + slot) (x .body)))) c)
-      (λ c2. copyFields slot n (endOf (x .plan) i) 32 (suc i) c2))
+      (λ c2. eachField (x .plan) (λ k c3. child k slot n c3) (endOf (x .plan) i) 32 (suc i) c2))
 
   -- ---- dense unions: "copies one child row per row", 6 before the child
 

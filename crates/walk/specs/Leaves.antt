@@ -15,6 +15,12 @@ use Rattle.utils.specs.byte_view.View.{reviewed}
 use Rattle.walk.specs.State.{Join, keepsOf, baseOf, rows, bytes, addNulls, setBytes, place, rowsIn}
 use Rattle.walk.specs.Log.{Out, put, mask, fail, done, wrote, need, next}
 
+-- what is put where offsets fit; "Ground 6" where an offset does not fit; 12 where offsets fall, which no accepted source has
+abbrev pub offered : Extended → (ℕ → ℕ → List ℕ → Out) → List ℕ → Out
+offered (Fits last first) k c = k last first c
+offered (Over row needed) k c = fail 6 c
+offered Falls k c = fail 12 c
+
 module _ (x : Join) (i : ℕ) where
   -- ---- validity
 
@@ -71,18 +77,16 @@ module _ (x : Join) (i : ℕ) where
       (λ c2. next (wrote (put i 2 (bytes c2 i) (take (last - bytes c2 i) (drop (place x i 5 + first) (x .body)))) c2)
       (λ c3. done (setBytes i last c3))))
 
-  -- "Ground 6" where an offset does not fit; 12 where offsets fall, which no accepted source has
+  -- the bytes and offsets that the offsets of n rows come to
   abbrev pub putExtended : ℕ → ℕ → ℕ → Extended → List ℕ → Out
-  putExtended w from n (Fits last first) c = putString w from n last first c
-  putExtended w from n (Over row needed) c = fail 6 c
-  putExtended w from n Falls c = fail 12 c
+  putExtended w from n e c = offered e (putString w from n) c
 
   -- a copy of no rows reads no offset: "a byte string of length 0 may have an empty offsets buffer"
   unfoldable pub copyString : ℕ → ℕ → ℕ → List ℕ → Out
   copyString w slot n c =
       cond (eqb n 0) (done c)
       (need (rowsIn x (place x i 3) w slot (suc n)) 12 c
-      (putExtended w (place x i 3 + w * slot) n (extended w (x .body) (place x i 3 + w * slot) n (bytes c i)) c))
+      (offered (extended w (x .body) (place x i 3 + w * slot) n (bytes c i)) (putString w (place x i 3 + w * slot) n) c))
 
   -- "a null repeats the last offset, no bytes"
   unfoldable pub nullString : ℕ → ℕ → List ℕ → Out

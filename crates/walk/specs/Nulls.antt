@@ -12,7 +12,7 @@ use Rattle.utils.specs.Offsets.{countedUp, repeated}
 use Rattle.walk.specs.State.{Join, codeOf, endOf, idOf, nullableOf, bytesOf, rows, gap, addRows, beginGap}
 use Rattle.walk.specs.Log.{Out, put, amend, fail, done, wrote, need, found, next}
 use Rattle.walk.specs.Leaves.{nullMask, countNulls, nullNumbers, nullString}
-use Rattle.walk.specs.Copy.{isWidth, masked}
+use Rattle.walk.specs.Copy.{eachField, isWidth, masked}
 
 -- node, nulls, counters
 abbrev pub NullWalk : Type 0
@@ -36,16 +36,12 @@ module _ (x : Join) (child : NullWalk) where
   unfoldable pub nullList : ℕ → ℕ → ℕ → List ℕ → Out
   nullList w i n c = need (ltb (suc i) 32) 12 c (wrote (put i 1 (suc (rows c i) * w) (repeated w (rows c (suc i)) n)) c)
 
-  unfoldable pub nullFields : ℕ → ℕ → ℕ → ℕ → List ℕ → Out
-  nullFields n end zero k c = done c
-  nullFields n end (suc f) k c = cond (ltb k end) (next (child k n c) (λ c2. nullFields n end f (endOf (x .plan) k) c2)) (done c)
-
   -- "A null goes to the first nullable field; sparse gives one to every child, nullable or not."
   unfoldable pub nullSparse : ℕ → ℕ → List ℕ → Out
   nullSparse i n c =
       found 32 (nullableChild (x .plan) (endOf (x .plan) i) 32 (suc i)) (noHome (x .plan) i) c (λ h.
       next (wrote (put i 1 (rows c i) (replicate n (idOf (x .plan) h))) c)
-      (λ c2. nullFields n (endOf (x .plan) i) 32 (suc i) c2))
+      (λ c2. eachField (x .plan) (λ k c3. child k n c3) (endOf (x .plan) i) 32 (suc i) c2))
 
   -- "dense 6": the positions of n nulls are the child's rows from its length on
   unfoldable pub nullDense : ℕ → ℕ → List ℕ → Out

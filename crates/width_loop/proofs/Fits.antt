@@ -11,7 +11,7 @@ use Rattle.columnar.specs.Array.{item}
 use Rattle.array_data.specs.Tables.{Tables, lengthOf, offsetOf, firstBuffer}
 use Rattle.array_data.specs.Typed.{NodeKind, fixedNode, stringNode, viewNode, listViewNode, listNode, sparseNode, denseNode, runEndNode, dictionaryNode, Tree, childNode, nodeOf}
 use Rattle.array_data.specs.entries.Entries.{column}
-use Rattle.array_data.specs.type_tree.Lent.{unionKind, kindAt, treeOf}
+use Rattle.array_data.specs.type_tree.Lent.{kindAt, treeOf}
 use Rattle.array_data.proofs.type_tree.Ids.{field-id}
 use Rattle.array_data.proofs.type_tree.Lent.{child-same}
 use Rattle.anew.specs.widths.Converted.{spanOf, firstOf, manyOf}
@@ -23,6 +23,7 @@ use Rattle.width_loop.specs.Here.{Accepted}
 use Rattle.width_loop.proofs.Rules.{fixed-inside, list-here, sparse-here, run-here}
 use Rattle.width_loop.proofs.Clips.{runs-within}
 use Rattle.width_loop.proofs.Here.{few, rule-as, list-below, list-view-below, key-below, fields-below, fields-ids, run-below}
+use Rattle.array_data.proofs.Names.{unionKind}
 
 -- the ranges of all nodes
 pub record Fits (x : Tables) (rs : List ℕ) : Type 0 where

@@ -21,7 +21,7 @@ use Rattle.schema.proofs.Trees.{child-inside}
 use Rattle.array_data.specs.Tables.{Tables, lengthOf, offsetOf, validOf}
 use Rattle.array_data.specs.Typed.{NodeKind, fixedNode, stringNode, viewNode, listViewNode, listNode, sparseNode, denseNode, runEndNode, dictionaryNode, Tree, nodeOf, kindRule, nodeRule}
 use Rattle.array_data.specs.entries.Entries.{column}
-use Rattle.array_data.specs.type_tree.Lent.{numberOr, unionKind, kindAt, treeOf}
+use Rattle.array_data.specs.type_tree.Lent.{numberOr, kindAt, treeOf}
 use Rattle.array_data.proofs.type_tree.Ids.{both}
 use Rattle.array_data.proofs.type_tree.Shaped.{at-fixed, at-keys, at-string, at-view, at-list, at-lists, at-run, shaped}
 use Rattle.array_data.proofs.type_tree.Lent.{first-child, second-child}
@@ -39,6 +39,7 @@ use Rattle.width_walks.proofs.Lent.{typed-here, low-here, rule-here, fits-at}
 use Rattle.width_walks.proofs.Placed.{BelowAs, below-of}
 use Rattle.width_loop.specs.Here.{Accepted, ownHere, settledHere}
 use Rattle.width_loop.proofs.Rules.{Bits, fixed-bits, string-bits, view-bits, list-view-bits, list-bits, sparse-bits, dense-bits, run-bits, key-bits}
+use Rattle.array_data.proofs.Names.{unionKind}
 
 -- keys and numbers stay fixed-width
 fixed-kept : (c d : ℕ) → Near c d → isFixed c ≡ true → isFixed d ≡ true

@@ -11,7 +11,7 @@ use lib.Dec.{ltb}
 use borrow.Author.Tests.{ltb-false, le-ltb}
 use Rattle.number.specs.Number.{entry}
 use Rattle.columnar.specs.Row.{seg}
-use Rattle.columnar.specs.Types.{Number, width, half, limit}
+use Rattle.columnar.specs.Types.{Number, width, half, limit, keyFits}
 use Rattle.columnar.specs.Array.{item}
 use Rattle.columnar.specs.Entries.{encodes}
 use Rattle.columnar.specs.Plain.{OffsetsRule}
@@ -22,7 +22,6 @@ use Rattle.walk.specs.State.{setBytes}
 use Rattle.walk.specs.Log.{Out, Did, put, applyIf, done, wrote, need, next}
 use Rattle.walk.proofs.Laws.{done-did, wrote-did, need-no, need-ok, next-need, next-no, next-ok}
 use Rattle.refinement.proofs.walk_is_model.Parts.{part-cut, part-entry}
-use Rattle.plan.specs.dictionaries.Sources.{keyFits}
 use Rattle.anew.specs.widths.Converted.{spanOf, offsetsOf}
 use Rattle.anew.proofs.widths.Plain.{first-least, last-within}
 use Rattle.width_walks.specs.Nodes.{range, ownAs, settleAs}

@@ -16,7 +16,7 @@ use Rattle.schema.specs.Tree.{dictionary, codeOf, idsOf}
 use Rattle.array_data.specs.Tables.{Tables}
 use Rattle.array_data.specs.Typed.{Tree, NodeKind, fixedNode, stringNode, viewNode, listViewNode, listNode, runEndNode}
 use Rattle.array_data.specs.lent_tables.Lent.{tables}
-use Rattle.array_data.specs.type_tree.Lent.{numberOr, idsOr, numberKind, unionKind, kindAt, treeOf}
+use Rattle.array_data.specs.type_tree.Lent.{numberOr, kindAt, treeOf}
 use Rattle.array_data.proofs.type_tree.Shaped.{at-run}
 use Rattle.model.proofs.Bits.{length-seg}
 use Rattle.plan.specs.dictionaries.Sources.{arrayOf}
@@ -27,6 +27,7 @@ use Rattle.width_walks.specs.target_rules.Target.{endsAt}
 use Rattle.width_walks.specs.Nodes.{isRun, endsIn, comesFrom}
 use Rattle.width_walks.specs.Call.{fromWords, keeping, planned}
 use Rattle.width_walks.proofs.Readiness.{came}
+use Rattle.array_data.proofs.Names.{idsOr, numberKind, unionKind}
 
 -- ---- one word
 

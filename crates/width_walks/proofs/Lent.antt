@@ -12,7 +12,7 @@ use Rattle.columnar.specs.Row.{seg}
 use Rattle.columnar.specs.Reading.{Source}
 use Rattle.columnar.proofs.Test.{every-out}
 use Rattle.schema.specs.formats.Code.{isView}
-use Rattle.schema.specs.Tree.{every, ceilings, typed}
+use Rattle.schema.specs.Tree.{ceilings, typed}
 use Rattle.schema.specs.Tree as trees
 use Rattle.schema.proofs.Known.{every-at, typed-shape}
 use Rattle.array_data.specs.Tables.{Tables, lengthOf, offsetOf, place, dataBuffer, dataBuffers, inBody}
@@ -37,6 +37,7 @@ use Rattle.width_walks.proofs.target_rules.Inverse.{ReadsAs, reads-at}
 use Rattle.width_walks.proofs.target_rules.Rules.{target-test}
 use Rattle.width_walks.proofs.Target.{lent, given}
 use Rattle.width_walks.proofs.Whole.{Given}
+use Rattle.columnar.specs.Test.{every}
 
 module _ (formats schema : List ℕ) (x : Tables) (first n : ℕ) (ok : columnGround formats schema x first n ≡ 0) where
   abbrev sources : List ℕ

@@ -16,7 +16,7 @@ use Rattle.schema.proofs.Trees.{children-end, end-after, end-inside, child-insi
 use Rattle.schema.proofs.Depth.{child-before}
 use Rattle.schema.proofs.Known.{typed-whole, typed-shape}
 use Rattle.array_data.specs.Typed.{NodeKind, fixedNode, stringNode, viewNode, listViewNode, listNode, sparseNode, denseNode, runEndNode, dictionaryNode, Tree, childNode, nodeOf, fieldOf, Is, MeansPlain, Means}
-use Rattle.array_data.specs.type_tree.Lent.{unionKind, kindAt, treeOf, typeOf}
+use Rattle.array_data.specs.type_tree.Lent.{kindAt, treeOf, typeOf}
 use Rattle.array_data.proofs.type_tree.Shaped.{Shaped, of-plain, of-view, of-list, of-lists, of-sparse, of-dense, of-run, of-dictionary, shaped}
 use Rattle.array_data.proofs.type_tree.Lent.{child-same, after-leaf, second-child, means, whole-end}
 use Rattle.refinement.specs.walk_is_model.Holds.{childOf}
@@ -25,6 +25,7 @@ use Rattle.width_walks.specs.target_rules.Target.{NodeWidths, Target}
 use Rattle.width_walks.proofs.target_rules.Before.{prev, prev-child}
 use Rattle.width_walks.specs.Nodes.{isRun}
 use Rattle.width_walks.proofs.Laid.{plainNode, Both, LaidFields, no-field, a-field, Laid}
+use Rattle.array_data.proofs.Names.{unionKind}
 
 -- ---- ids
 

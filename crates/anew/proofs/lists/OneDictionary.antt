@@ -17,13 +17,13 @@ use Rattle.columnar.specs.Dictionary.{entryAt, dictionaryAt}
 use Rattle.columnar.specs.Reading.{Column, Source}
 use Rattle.columnar.proofs.Items.{item-left, item-right, item-encodes-lt, length-encodes}
 use Rattle.model.specs.Opening.{present}
-use Rattle.model.specs.Primitive.{newKeys}
 use Rattle.model.proofs.Agree.{both}
 use Rattle.model.proofs.Law.{Put, Law}
 use Rattle.model.proofs.Bits.{length-seg, getD-seg}
 use Rattle.model.proofs.Nodes.{KeysFine, dictionaryKind}
 use Rattle.model.proofs.Present.{present-obeys, present-read}
 use Rattle.model.proofs.Pieces.{below-add}
+use Rattle.model.proofs.Names.{newKeys}
 
 -- a key that fits its format is a number of its bytes
 pub limit-fits : (k : Number) → limit k ≤ 256 ^ width k

@@ -28,7 +28,6 @@ use Rattle.model.specs.Try.{Try, done, guard, after}
 use Rattle.model.specs.Mutable.{Mutable, zeros, grow, validity, pack}
 use Rattle.model.specs.Primitive.{newOffsets, plainExtend, plainStart, reindexed, newViews}
 use Rattle.model.specs.Unions.{inOrder}
-use Rattle.model.specs.Runs.{clipped}
 use Rattle.model.specs.Transform.{Grown, Destination, extendData, extend, freezeData, intoBuilder}
 use Rattle.model.proofs.CopyNone.{copy-none}
 use Rattle.model.proofs.Ends.{in-order, last-run}
@@ -43,6 +42,7 @@ use Rattle.anew.specs.widths.OneCopy.{Straight, samePlain, same, SameBod
 use Rattle.anew.proofs.widths.Fits.{picked}
 use Rattle.anew.proofs.widths.Cut.{cut}
 use Rattle.anew.proofs.widths.Plain.{rising, first-least, last-within}
+use Rattle.model.proofs.Names.{clipped}
 
 -- ---- validity
 

@@ -15,8 +15,8 @@ use Rattle.schema.specs.Tree.{field, flag, dictionary, endOf, codeOf, idsOf}
 use Rattle.schema.specs.union_ids.Ids.{idsAt, answerOf, written}
 use Rattle.schema.specs.declared.union_ids.Ids.{Ids}
 use Rattle.schema.specs.declared.union_ids.Ids.the-variants.{Count, Bad}
-use Rattle.array_data.specs.type_tree.Lent.{idsOr}
-use Rattle.array_data.specs.node_words.Words.{idFrom, idUnder, idBelow, childId, wordsOf, wordOf, planted}
+use Rattle.array_data.specs.node_words.Words.{idFrom, idBelow, wordOf, planted, idUnder, childId}
+use Rattle.array_data.proofs.Names.{idsOr, wordsOf}
 
 -- ---- ids among children
 

@@ -3,16 +3,18 @@ use mathlib.Core.Path.{_≡_, refl, ap, sym, subst, _∙_}
 use mathlib.Core.Bool.{Bool, true, false, not, cond, _&&_, _||_, and-eq-true-iff, false≢true, or-true}
 use mathlib.Core.Option.{Option, none, some}
 use mathlib.Core.List.{List, [], _∷_, map, List·Memᴰ, List·Memᴰ·head, List·Memᴰ·tail}
-use Prim.Native.Nat.{ℕ, zero, suc, _<_}
+use Prim.Native.Nat.{ℕ, zero, suc, _+_, _<_}
 use lib.ListN.{length, take, drop}
 use native.Mathlib.Omega.{arith}
 use lib.Dec.{leb, eqb}
 use borrow.Author.Tests.{leb-true, eq-eqb, ne-eqb, not-true}
 use Rattle.columnar.specs.Formed.{Ids}
-use Rattle.schema.specs.formats.Code.{inside, isUnion, codeOf}
-use Rattle.schema.specs.union_ids.Ids.{member, distinct, small, allowed, idOf, pieces, idList, idsAt}
+use Rattle.schema.specs.formats.Code.{isUnion, codeOf}
+use Rattle.schema.specs.union_ids.Ids.{distinct, allowed, idOf, pieces, idList, idsAt}
 use Rattle.array_data.specs.Typed.{fieldOf}
-use Rattle.array_data.specs.type_tree.Lent.{idsOr}
+use Rattle.columnar.specs.Test.{member}
+use Rattle.schema.proofs.union_ids.Laws.{small}
+use Rattle.array_data.proofs.Names.{idsOr}
 
 pub cond-yes : {A : Type 0} (b : Bool) (x y : A) → b ≡ true → cond b x y ≡ x
 cond-yes true x y h = refl
@@ -28,12 +30,11 @@ both a b h = and-eq-true-iff a b .0 h
 -- ---- a format's ids are distinct and at most 127
 
 mem-member : (ids : List ℕ) (c : ℕ) → List·Memᴰ c ids → member c ids ≡ true
-unfolding member
 mem-member (d ∷ ds) c (List·Memᴰ·head e) = ap (λ b. b || member c ds) (eq-eqb c d e)
 mem-member (d ∷ ds) c (List·Memᴰ·tail q) = ap (λ b. eqb c d || b) (mem-member ds c q) ∙ or-true (eqb c d)
 
 ids-of : (ids : List ℕ) → small ids ≡ true → distinct ids ≡ true → Ids ids
-unfolding small distinct
+unfolding distinct
 ids-of [] s d = tt
 ids-of (c ∷ cs) s d =
     let p = both (leb c 127) (small cs) s in
@@ -62,7 +63,7 @@ ids-cond false o h = tt
 pub ids-formed : (s : List ℕ) (at len : ℕ) → Ids (idsOr (idsAt s at len))
 ids-formed s at len =
     let t = take len (drop at s) in
-    ids-cond (inside (length s) at len) _ (ids-cond (isUnion (codeOf t)) (idList (drop 4 t)) (list-ids (drop 4 t)))
+    ids-cond (leb (at + len) (length s)) _ (ids-cond (isUnion (codeOf t)) (idList (drop 4 t)) (list-ids (drop 4 t)))
 
 -- ---- ids and fields
 

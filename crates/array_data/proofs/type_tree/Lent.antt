@@ -8,7 +8,7 @@ use lib.Dec.{leb, eqb}
 use borrow.Author.Tests.{leb-true, eqb-true}
 use Rattle.columnar.specs.Types.{Plain, fixed, string}
 use Rattle.columnar.specs.Formed.{Formed, FormedPlain}
-use Rattle.schema.specs.Tree.{below, dueFrom, endOf, childAt, depth, count, whole, ceilings, typed}
+use Rattle.schema.specs.Tree.{below, dueFrom, endOf, childAt, depth, whole, ceilings, typed}
 use Rattle.schema.proofs.Trees.{child-inside, children-end}
 use Rattle.schema.proofs.Depth.{child-depth}
 use Rattle.schema.proofs.Known.{typed-whole, typed-shape, within-depth}
@@ -16,6 +16,7 @@ use Rattle.array_data.specs.Typed.{Tree, childNode, fieldOf, MeansPlain,
 use Rattle.array_data.specs.type_tree.Lent.{kindAt, treeOf, plainAs, tyAs, tyOf, typeOf}
 use Rattle.array_data.proofs.type_tree.Ids.{both, field-in}
 use Rattle.array_data.proofs.type_tree.Shaped.{plainKind, Shaped, of-plain, of-view, of-list, of-lists, of-sparse, of-dense, of-run, of-dictionary, shaped}
+use Rattle.schema.proofs.Counts.{count}
 
 -- ---- a tree that passes
 
@@ -110,7 +111,7 @@ module _ (formats schema : List ℕ) (first n : ℕ) where
   whole-end w = eqb-true (endOf schema first n 0) n (both (leb 1 n && eqb (dueFrom schema first n 1 0) 0) (eqb (endOf schema first n 0) n) w .1)
 
   pub root : 9 ≤ depth schema first n 0 + 8
-  unfolding depth count
+  unfolding depth
   root = omega arith
 
   module _ (t : typed formats schema first n ≡ true) (c : ceilings formats schema first n ≡ true) where

@@ -8,7 +8,7 @@ use native.Mathlib.Omega.{arith}
 use lib.Dec.{eqb}
 use borrow.Author.Tests.{eqb-true, ne-eqb}
 use Rattle.columnar.specs.Types.{Plain, fixed, string}
-use Rattle.schema.specs.formats.Code.{same, isFixed, isString, isView, isListView, isList, isUnion, isRunEnd, widthOf}
+use Rattle.schema.specs.formats.Code.{isFixed, isString, isView, isListView, isList, isUnion, isRunEnd, widthOf}
 use Rattle.schema.specs.union_ids.Ids.{sameIds}
 use Rattle.schema.specs.Tree.{flag, children, dictionary, below, endFrom, endOf, childAt, depth, whole, isValues, codeOf, idsOf, ceilings, typed, sameFlag, sameFormats, sameNode, sameType}
 use Rattle.schema.proofs.Trees.{child-inside, child-is, end-up, end-after, end-inside}
@@ -16,11 +16,13 @@ use Rattle.schema.proofs.Depth.{nested, child-before, child-depth}
 use Rattle.schema.proofs.Known.{typed-whole, typed-shape, within-depth, same-size, same-node}
 use Rattle.array_data.specs.Tables.{Tables}
 use Rattle.array_data.specs.Typed.{NodeKind, fixedNode, stringNode, viewNode, listViewNode, listNode, sparseNode, denseNode, runEndNode, dictionaryNode, Tree, childNode, fieldOf, allOf, MeansPlain, Means, nodes}
-use Rattle.array_data.specs.type_tree.Lent.{idsOr, unionKind, kindOf, kindAt, treeOf, plainAs, tyAs, tyOf, typeOf}
+use Rattle.array_data.specs.type_tree.Lent.{kindOf, kindAt, treeOf, plainAs, tyAs, tyOf, typeOf}
 use Rattle.array_data.proofs.type_tree.Ids.{both, field-in}
 use Rattle.array_data.proofs.type_tree.Shaped.{plainKind, Shaped, of-plain, of-view, of-list, of-lists, of-sparse, of-dense, of-run, of-dictionary, shaped, at-run}
 use Rattle.array_data.proofs.type_tree.Lent.{child-same, first-child, second-child, some-node, root}
 use Rattle.array_data.proofs.type_tree.Covered.{covered}
+use Rattle.columnar.specs.Test.{same}
+use Rattle.array_data.proofs.Names.{idsOr, unionKind}
 
 -- ---- formats
 

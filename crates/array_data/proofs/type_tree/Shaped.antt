@@ -17,8 +17,9 @@ use Rattle.schema.specs.formats.Types.{numberOf}
 use Rattle.schema.proofs.formats.Types.{number-width, fixed-number}
 use Rattle.schema.specs.Tree.{field, children, dictionary, below, bare, childForEach, codeOf, idsOf, valuesShape, endsShape, leafShape, keysShape, listShape, unionShape, runShape, shape}
 use Rattle.array_data.specs.Typed.{NodeKind, fixedNode, stringNode, viewNode, listViewNode, listNode, sparseNode, denseNode, runEndNode, dictionaryNode}
-use Rattle.array_data.specs.type_tree.Lent.{numberOr, idsOr, numberKind, unionKind, kindOf, kindAt}
+use Rattle.array_data.specs.type_tree.Lent.{numberOr, kindOf, kindAt}
 use Rattle.array_data.proofs.type_tree.Ids.{cond-yes, cond-no, both, ids-formed}
+use Rattle.array_data.proofs.Names.{idsOr, numberKind, unionKind}
 
 -- ---- tests
 

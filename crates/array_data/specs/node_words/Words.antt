@@ -2,12 +2,12 @@
 -- 3 the id it has as the child of a union, 4 whether it is nullable. Assumes nothing.
 use mathlib.Core.Bool.{cond}
 use mathlib.Core.List.{List, [], _∷_}
+use mathlib.Core.Option.{Option·getD}
 use Prim.Native.Nat.{ℕ, zero, suc, _+_, _*_, _/_, _%_}
 use lib.ListN.{getD}
 use lib.Dec.{ltb, eqb}
 use Rattle.columnar.specs.Row.{seg}
 use Rattle.schema.specs.Tree.{flag, dictionary, endOf, codeOf, idsOf}
-use Rattle.array_data.specs.type_tree.Lent.{idsOr}
 
 -- word j of node i; 0 past the table's end
 abbrev pub word : List ℕ → ℕ → ℕ → ℕ
@@ -22,7 +22,7 @@ module _ (schema : List ℕ) (first n : ℕ) where
 module _ (formats schema : List ℕ) (first n : ℕ) where
   -- the id that node i has as a child of node p
   abbrev pub idUnder : ℕ → ℕ → ℕ
-  idUnder p i = idFrom schema first n (idsOr (idsOf formats schema first p)) (suc p) i
+  idUnder p i = idFrom schema first n (Option·getD (idsOf formats schema first p) []) (suc p) i
 
   -- .. of the last node below p whose subtree holds node i
   unfoldable pub idBelow : ℕ → ℕ → ℕ
@@ -33,13 +33,9 @@ module _ (formats schema : List ℕ) (first n : ℕ) where
   abbrev pub childId : ℕ → ℕ
   childId i = idBelow i i
 
-  -- the words of node i
-  abbrev pub wordsOf : ℕ → List ℕ
-  wordsOf i = codeOf formats schema first i ∷ dictionary schema first i ∷ endOf schema first n i ∷ childId i ∷ flag schema first i ∷ []
-
   -- word j of node i, 0 for a node that the tree does not have
   unfoldable pub wordOf : ℕ → ℕ → ℕ
-  wordOf i j = cond (ltb i n) (getD (wordsOf i) j 0) 0
+  wordOf i j = cond (ltb i n) (getD (codeOf formats schema first i ∷ dictionary schema first i ∷ endOf schema first n i ∷ childId i ∷ flag schema first i ∷ []) j 0) 0
 
   -- THE TABLE: 32 nodes
   unfoldable pub planted : List ℕ

@@ -2,7 +2,7 @@
 -- Assumes nothing.
 use mathlib.Core.Bool.{Bool, true, false, cond}
 use mathlib.Core.List.{List, []}
-use mathlib.Core.Option.{Option, none, some}
+use mathlib.Core.Option.{Option, Option·getD}
 use Prim.Native.Nat.{ℕ, zero, suc}
 use lib.Dec.{eqb}
 use Rattle.columnar.specs.Types.{Number, i8, Plain, fixed, string, Ty, tPlain, tView, tListView, tList, tSparse, tDense, tRunEnd, tDictionary}
@@ -13,34 +13,18 @@ use Rattle.array_data.specs.Typed.{NodeKind, fixedNode, stringNode, view
 
 -- the number of a code; any where it has none
 abbrev pub numberOr : Option Number → Number
-numberOr none = i8
-numberOr (some m) = m
-
--- the ids of a union; none where the format has none
-abbrev pub idsOr : Option (List ℕ) → List ℕ
-idsOr none = []
-idsOr (some ids) = ids
-
--- a fixed-width format: of numbers where the node has no dictionary (true), and else of keys
-abbrev pub numberKind : Bool → Number → NodeKind
-numberKind true m = fixedNode m
-numberKind false m = dictionaryNode m
-
--- +us: or +ud:
-abbrev pub unionKind : Bool → List ℕ → NodeKind
-unionKind true ids = sparseNode ids
-unionKind false ids = denseNode ids
+numberOr o = Option·getD o i8
 
 -- a format's kind by its code, whether the node has no dictionary, its ids, and the code of the next node, which a run-end node's run ends have;
 -- a number's where the code is none
 abbrev pub kindOf : ℕ → Bool → Option (List ℕ) → ℕ → NodeKind
 kindOf code single ids next =
-    cond (isFixed code) (numberKind single (numberOr (numberOf code)))
+    cond (isFixed code) (cond single (fixedNode (numberOr (numberOf code))) (dictionaryNode (numberOr (numberOf code))))
     (cond (isString code) (stringNode (widthOf code))
     (cond (isView code) viewNode
     (cond (isListView code) (listViewNode (widthOf code))
     (cond (isList code) (listNode (widthOf code))
-    (cond (isUnion code) (unionKind (eqb code 21) (idsOr ids))
+    (cond (isUnion code) (cond (eqb code 21) (sparseNode (Option·getD ids [])) (denseNode (Option·getD ids [])))
     (cond (isRunEnd code) (runEndNode (widthOf next))
     (fixedNode i8)))))))
 

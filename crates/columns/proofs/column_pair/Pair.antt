@@ -9,12 +9,13 @@ use borrow.Author.Tests.{eqb-true, eqb-false, ltb-true, ltb-false, leb-true, leb
 use Rattle.columnar.specs.Types.{fixed, tPlain}
 use Rattle.schema.specs.formats.Code.{isFixed}
 use Rattle.schema.specs.formats.Types.{numberOf}
-use Rattle.schema.specs.Tree.{every, shape, dictionary, below, dueFrom, endOf, whole, codeOf, typed}
+use Rattle.schema.specs.Tree.{shape, dictionary, below, dueFrom, endOf, whole, codeOf, typed}
 use Rattle.array_data.specs.Tables.{Tables, lengthOf}
 use Rattle.array_data.specs.type_tree.Lent.{numberOr, kindAt, tyOf, typeOf}
 use Rattle.array_data.proofs.lent_tables.Laws.{and-left, and-right}
 use Rattle.columns.specs.Grounds.{smallBody, withinCeilings, obeys, columnGround}
 use Rattle.columns.specs.column_pair.Pair.{pairGround, plainCode, rangeIn}
+use Rattle.columnar.specs.Test.{every}
 
 -- ---- two columns
 

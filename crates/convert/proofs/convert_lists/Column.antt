@@ -12,18 +12,18 @@ use borrow.Author.Tests.{leb-true}
 use Rattle.columnar.specs.Types.{fixed, string, Ty, tPlain, tView, tListView, tList, tSparse, tDense, tRunEnd, tDictionary}
 use Rattle.columnar.specs.Array.{Array, ok, nullsIn, nullCount}
 use Rattle.columnar.specs.RunEnd.{RunEnd, RunEndRule}
-use Rattle.columnar.specs.Test.{runEndTest}
+use Rattle.columnar.specs.Test.{runEndTest, every}
 use Rattle.columnar.proofs.Test.{Agrees, every-out, array-agrees, run-end-agrees}
 use Rattle.schema.specs.formats.Code.{isView}
 use Rattle.model.specs.Sources.{EachView}
 use Rattle.model.proofs.Bits.{length-seg, getD-seg}
-use Rattle.schema.specs.Tree.{every, codeOf, ceilings}
+use Rattle.schema.specs.Tree.{codeOf, ceilings}
 use Rattle.schema.proofs.Known.{every-at}
 use Rattle.array_data.specs.Tables.{Tables, lengthOf, offsetOf, place, firstBuffer, arrayWith, held, validIn}
 use Rattle.array_data.specs.Rules.{childOf, runEndRule}
 use Rattle.array_data.specs.Typed.{runEndNode, Tree, nodeOf, Is, Means, tablesFrom, bodyOf, columnOf, kindRule, nodeRule, sourceRule}
 use Rattle.array_data.specs.lent_tables.Lent.{tables}
-use Rattle.array_data.specs.type_tree.Lent.{unionKind, treeOf}
+use Rattle.array_data.specs.type_tree.Lent.{treeOf}
 use Rattle.array_data.proofs.type_tree.Ids.{both}
 use Rattle.plan.proofs.Codes.{view-code}
 use Rattle.plan.proofs.dictionaries.Laws.{place-from}
@@ -42,6 +42,7 @@ use Rattle.anew.proofs.Held.{NamedBelow}
 use Rattle.anew.proofs.Result.{lentFor}
 use Rattle.convert.specs.convert_lists.Exact.{ExactNode, ExactData}
 use Rattle.convert.specs.convert_lists.Turned.{allNodes}
+use Rattle.array_data.proofs.Names.{unionKind}
 
 implied : (a b : Bool) → not a || b ≡ true → a ≡ true → b ≡ true
 implied true b h e = h

@@ -18,7 +18,7 @@ use Rattle.schema.proofs.Known.{typed-whole, typed-shape}
 use Rattle.array_data.specs.Tables.{Tables, firstBuffer}
 use Rattle.array_data.specs.Typed.{listViewNode, listNode, Tree, fieldOf, nodeOf, Is, Means, tablesFrom, bodyOf, columnOf, sourceRule}
 use Rattle.array_data.specs.lent_tables.Lent.{tables}
-use Rattle.array_data.specs.type_tree.Lent.{unionKind, kindAt, treeOf, tyAs, tyOf, typeOf}
+use Rattle.array_data.specs.type_tree.Lent.{kindAt, treeOf, tyAs, tyOf, typeOf}
 use Rattle.array_data.proofs.Typed.{column-source}
 use Rattle.array_data.proofs.type_tree.Ids.{both}
 use Rattle.array_data.proofs.type_tree.Shaped.{shaped, at-list, at-lists, at-run}
@@ -44,6 +44,7 @@ use Rattle.convert.proofs.convert_lists.Subtree.{Alike, kid-same, means
 use Rattle.convert.proofs.convert_lists.Alike.{view-no-union, list-below, alike}
 use Rattle.convert.proofs.convert_lists.Column.{few-at, from-same, exact-at, lent-there, named-there, ends-valid}
 use Rattle.convert.proofs.convert_lists.Listing.{ListView}
+use Rattle.array_data.proofs.Names.{unionKind}
 
 -- ---- the target's test
 

@@ -15,7 +15,8 @@ use Rattle.schema.specs.Tree.{field, dictionary, below, endFrom, dueFrom, bare,
 use Rattle.schema.proofs.Trees.{child-inside, end-after, end-inside}
 use Rattle.schema.proofs.Depth.{nested, child-before}
 use Rattle.array_data.specs.Typed.{Tree, NodeKind, childNode, fieldOf, nodeOf, Is, MeansPlain, Means}
-use Rattle.array_data.specs.type_tree.Lent.{unionKind, kindAt}
+use Rattle.array_data.specs.type_tree.Lent.{kindAt}
+use Rattle.array_data.proofs.Names.{unionKind}
 
 -- ---- a tree without its root
 

@@ -20,7 +20,7 @@ use Rattle.schema.proofs.Known.{typed-whole, typed-shape}
 use Rattle.array_data.specs.Tables.{Tables, lengthOf, offsetOf, place}
 use Rattle.array_data.specs.Typed.{listViewNode, listNode, Tree, fieldOf, nodeOf, Is, Means, tablesFrom, bodyOf, columnOf, sourceRule}
 use Rattle.array_data.specs.lent_tables.Lent.{tables}
-use Rattle.array_data.specs.type_tree.Lent.{unionKind, kindAt, treeOf, tyAs, tyOf, typeOf}
+use Rattle.array_data.specs.type_tree.Lent.{kindAt, treeOf, tyAs, tyOf, typeOf}
 use Rattle.array_data.proofs.Typed.{column-source}
 use Rattle.array_data.proofs.type_tree.Ids.{both}
 use Rattle.array_data.proofs.type_tree.Shaped.{shaped, at-list, at-lists}
@@ -56,6 +56,7 @@ use Rattle.anew.proofs.PlanWords.{anew-planted}
 use Rattle.convert.specs.convert_lists.Turned.{viewOf, toView}
 use Rattle.convert.specs.convert_lists.Viewing.{viewWalk}
 use Rattle.convert.proofs.convert_lists.Viewing.{Viewed, view-goes}
+use Rattle.array_data.proofs.Names.{unionKind}
 
 -- ---- the target's test
 

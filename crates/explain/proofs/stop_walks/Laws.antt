@@ -12,7 +12,7 @@ use borrow.Author.Tests.{eq-eqb, ne-eqb, lt-ltb, le-ltb}
 use Rattle.array_data.proofs.lent_tables.Laws.{no, yes}
 use Rattle.columnar.specs.Types.{half}
 use Rattle.number.specs.Number.{entry}
-use Rattle.utils.specs.Extension.{extended, pick}
+use Rattle.utils.specs.Extension.{extended}
 use Rattle.utils.specs.declared.Extended.{Extended}
 use Rattle.utils.specs.declared.Extended.the-variants.{Fits, Over, Falls}
 use Rattle.leaf_walk.specs.variable_size.Lists.{triedOffsets}

@@ -13,7 +13,7 @@ use Rattle.array_data.proofs.lent_tables.Laws.{no, yes}
 use Rattle.columnar.specs.Types.{half}
 use Rattle.number.specs.Number.{entry}
 use Rattle.utils.specs.Offsets.{largest, moved, firstAbove}
-use Rattle.utils.specs.Extension.{extended, overAt, pick}
+use Rattle.utils.specs.Extension.{extended, overAt}
 use Rattle.utils.specs.declared.Extended.{Extended}
 use Rattle.utils.specs.declared.Extended.the-variants.{Fits, Over, Falls}
 use Rattle.run_ends.specs.declared.PhysicalRun.{PhysicalRun}
@@ -43,7 +43,7 @@ pub over-cut : (w : ℕ) (s : List ℕ) (from n last : ℕ) {row needed : ℕ} �
 unfolding extended overAt
 over-cut w s from n last {row} {needed} e = go (ltb (entry w s from n) (entry w s from 0)) (ltb (largest w) last) (ltb (largest w) (moved w s from last n)) e
   where
-    go : (a b d : Bool) → pick a Falls (pick b Falls (pick d (overAt w s from n last) (Fits (moved w s from last n) (entry w s from 0)))) ≡ Over row needed → min needed top ≡ needed
+    go : (a b d : Bool) → cond a Falls (cond b Falls (cond d (overAt w s from n last) (Fits (moved w s from last n) (entry w s from 0)))) ≡ Over row needed → min needed top ≡ needed
     go true b d h = absurd (let z : _≡_ {A = ℕ} 0 1 = cc in omega arith)
     go false true d h = absurd (let z : _≡_ {A = ℕ} 0 1 = cc in omega arith)
     go false false true h = let z : min (moved w s from last (firstAbove (largest w) (λ k. moved w s from last (k + 1)) n + 1)) top ≡ needed = cc in cut-once needed _ (sym z)
@@ -83,7 +83,7 @@ module _ (x : Join) (depth : ℕ) where
         list-by = rw (ne-eqb n 0 s, lt-ltb (suc i) 32 (subst (λ z. z < 32) q l), f) (go (rowsIn x (place x i 3) w slot (suc n)))
           where
             go : (b : Bool) → cond b (whyStretch x walk why w i (extended w (x .body) (place x i 3 + w * slot) n (rows c (suc i))) c) (only 12)
-                ≡ whyStretch x walk why w i (pick b (extended w (x .body) (place x i 3 + w * slot) n (rows c (suc i))) Falls) c
+                ≡ whyStretch x walk why w i (cond b (extended w (x .body) (place x i 3 + w * slot) n (rows c (suc i))) Falls) c
             go true = refl
             go false = refl
 
@@ -94,7 +94,7 @@ module _ (x : Join) (depth : ℕ) where
         unfolding triedOffsets
         over-is {row} {needed} k = go (rowsIn x (place x i 3) w slot (suc n)) (sym f ∙ k)
           where
-            go : (b : Bool) → pick b (extended w (x .body) (place x i 3 + w * slot) n (rows c (suc i))) Falls ≡ Over row needed → min needed top ≡ needed
+            go : (b : Bool) → cond b (extended w (x .body) (place x i 3 + w * slot) n (rows c (suc i))) Falls ≡ Over row needed → min needed top ≡ needed
             go true h = over-cut w (x .body) (place x i 3 + w * slot) n (rows c (suc i)) h
             go false h = absurd (let z : _≡_ {A = ℕ} 0 1 = cc in omega arith)
 

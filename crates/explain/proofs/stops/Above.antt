@@ -1,6 +1,6 @@
 -- The number needed is above the allowed one. Assumes nothing.
 use mathlib.Core.Path.{_≡_, refl, subst}
-use mathlib.Core.Bool.{Bool, true, false, _||_}
+use mathlib.Core.Bool.{Bool, true, false, cond, _||_}
 use mathlib.Core.List.{List}
 use Prim.Native.Nat.{ℕ, zero, suc, _+_, _-_, _≤_, _<_, min}
 use native.Mathlib.Omega.{arith}
@@ -9,8 +9,8 @@ use lib.Dec.{ltb, eqb}
 use borrow.Author.Tests.{ltb-true, ltb-false, eqb-true, eqb-false}
 use Rattle.columnar.specs.Types.{half}
 use Rattle.number.specs.Number.{entry}
-use Rattle.utils.specs.Offsets.{largest, moved, firstAbove, pickNumber}
-use Rattle.utils.specs.Extension.{pick, extended, overAt}
+use Rattle.utils.specs.Offsets.{largest, moved, firstAbove}
+use Rattle.utils.specs.Extension.{extended, overAt}
 use Rattle.utils.specs.declared.Extended.{Extended}
 use Rattle.utils.specs.declared.Extended.the-variants.{Fits, Over, Falls}
 use Rattle.walk.specs.State.{far, top}
@@ -65,7 +65,7 @@ found-above max f zero k l h = absurd (omega arith)
 found-above max f (suc n) k l h = go (ltb max (f 0)) refl k l h (λ j. found-above max (λ i. f (suc i)) n j)
   where
     go : (b : Bool) → ltb max (f 0) ≡ b → (k : ℕ) → k < suc n → max < f k → ((j : ℕ) → j < n → max < f (suc j) → max < f (suc (firstAbove max (λ i. f (suc i)) n)))
-        → max < f (pickNumber b 0 (suc (firstAbove max (λ i. f (suc i)) n)))
+        → max < f (cond b 0 (suc (firstAbove max (λ i. f (suc i)) n)))
     go true e k l h r = ltb-true _ _ e
     go false e zero l h r = absurd (omega (arith, ltb-false max (f 0) e))
     go false e (suc j) l h r = r j (omega arith) h
@@ -92,7 +92,7 @@ module _ (w : ℕ) (s : List ℕ) (from n last : ℕ) (z : Wide w) where
   extended-above = go (ltb (entry w s from n) (entry w s from 0)) (ltb (largest w) last) (ltb (largest w) (moved w s from last n)) refl refl
     where
       go : (a b d : Bool) → ltb (largest w) last ≡ b → ltb (largest w) (moved w s from last n) ≡ d
-          → AboveMost w (pick a Falls (pick b Falls (pick d (overAt w s from n last) (Fits (moved w s from last n) (entry w s from 0)))))
+          → AboveMost w (cond a Falls (cond b Falls (cond d (overAt w s from n last) (Fits (moved w s from last n) (entry w s from 0)))))
       go true b d e f = tt
       go false true d e f = tt
       go false false true e f = over-above (ltb-false _ _ e) (ltb-true _ _ f)

@@ -18,7 +18,7 @@ use Rattle.run_ends.specs.declared.Runs.the-variants.{Range, None}
 use Rattle.walk.specs.State.{Join, codeOf, dictionaryOf, endOf, keepsOf, bytesOf, rows, bytes, place, lengthOf, offsetOf, far, slotOf, rowsIn}
 use Rattle.walk.specs.Log.{Entry, Out, fail, done, wrote, need, next}
 use Rattle.walk.specs.Leaves.{copyBits, copyMask, copyNumbers, copyKeys, copyViews, putString, putExtended, copyString}
-use Rattle.walk.specs.Copy.{Walk, childWith, isWidth, masked, listViewRow, copyListView, putStretch, putList, copyList, copyFields, copySparse, idAt, denseTo, denseRow, copyDense, putRuns, runsAt, copyRuns, copyData, copySlots, copyNode, copyWalk}
+use Rattle.walk.specs.Copy.{Walk, childWith, isWidth, masked, listViewRow, copyListView, putStretch, copyList, copySparse, idAt, denseTo, denseRow, copyDense, putRuns, runsAt, copyRuns, copyData, copySlots, copyNode, copyWalk, eachField}
 use Rattle.leaf_walk.proofs.Widths.{string-width, list-width, lists-width}
 use Rattle.nested_rows.proofs.node_data.Laws.{data-string, data-list-view, data-list, data-sparse, data-dense, data-runs}
 use Rattle.refinement.proofs.walk_is_model.Codes.{between-apart}
@@ -28,6 +28,7 @@ use Rattle.explain.specs.stops.Copy.{WhyWalk, most, whyListRow, whyListV
 use Rattle.explain.specs.stops.Table.{Blank, accepted, not-lent, offset, Stated, blank, above}
 use Rattle.explain.proofs.stops.Says.{Says, says-done, says-fail, says-only, says-cond, says-need, says-needed, says-found, says-past, says-wrote, passes-done, passes-wrote, passes-next, says-then, says-each}
 use Rattle.explain.proofs.stops.Above.{Wide, four-wide, wide-offset, wide-end, over-offset, over-end, AboveMost, extended-above}
+use Rattle.walk.proofs.Names.{putList, copyFields}
 
 -- ---- walks that have no ground but 12
 
@@ -153,7 +154,7 @@ module _ (x : Join) (walk : Walk) (why : WhyWalk) (below : (k a n : ℕ) (c : Li
       (λ g. bytes-says w i (place x i 3 + w * slot) n (extended w (x .body) (place x i 3 + w * slot) n (bytes c i)) c (extended-above w (x .body) (place x i 3 + w * slot) n (bytes c i) z)))
 
   fields-say : (slot n end f k : ℕ) (c : List ℕ) → Says (whyFields x walk why slot n end f k c) (copyFields x walk slot n end f k c)
-  unfolding whyFields copyFields
+  unfolding whyFields eachField
   fields-say slot n end zero k c = says-done c
   fields-say slot n end (suc f) k c =
       says-cond (ltb k end) (λ e. says-past (walk k slot n c) _ _ _ (λ h. below k slot n c) (λ c2. fields-say slot n end f (endOf (x .plan) k) c2)) (λ e. says-done c)

@@ -12,8 +12,8 @@ use Rattle.schema.specs.formats.Code.{isFixed, isString, isView, isListView, is
 use Rattle.walk.specs.State.{Join, codeOf, endOf, keepsOf, bytesOf, rows, gap, far}
 use Rattle.walk.specs.Log.{Entry, Out, fail, done, wrote, need, next}
 use Rattle.walk.specs.Leaves.{nullMask, countNulls, nullNumbers, nullString}
-use Rattle.walk.specs.Copy.{isWidth, masked}
-use Rattle.walk.specs.Nulls.{NullWalk, nullableChild, noHome, nullListView, nullList, nullFields, nullSparse, nullDense, addRun, growRun, nullRuns, nullData, nullNode, nullWalk}
+use Rattle.walk.specs.Copy.{isWidth, masked, eachField}
+use Rattle.walk.specs.Nulls.{NullWalk, nullableChild, noHome, nullListView, nullList, nullSparse, nullDense, addRun, growRun, nullRuns, nullData, nullNode, nullWalk}
 use Rattle.nested_rows.proofs.node_data.Laws.{null-sparse, null-dense, null-runs}
 use Rattle.explain.specs.declared.stops.Why.{Why}
 use Rattle.explain.specs.stops.Why.{only, nothing, named, clash}
@@ -23,6 +23,7 @@ use Rattle.explain.specs.stops.Table.{Blank, accepted, not-lent, Homeles
 use Rattle.explain.proofs.stops.Says.{Says, says-done, says-fail, says-cond, says-need, says-needed, says-found, says-past, says-wrote, Passes, passes-done, passes-wrote, passes-cond, passes-next, says-passes, says-then}
 use Rattle.explain.proofs.stops.Above.{Wide, four-wide, wide-end, over-offset, over-end}
 use Rattle.explain.proofs.stops.Copies.{Quiet, quiet-blank, quiet-done, quiet-fail, quiet-wrote, quiet-cond, quiet-need, quiet-next}
+use Rattle.walk.proofs.Names.{nullFields}
 
 none-home : (plan : List ℕ) (i : ℕ) → Stated (named (noHome plan i) i)
 none-home plan i = homeless (noHome plan i) i (go (ltb (suc i) (endOf plan i)))
@@ -53,7 +54,7 @@ counted x i n c =
 
 module _ (x : Join) (walk : NullWalk) (why : WhyNullWalk) (below : (k n : ℕ) (c : List ℕ) → Says (why k n c) (walk k (walked n) c)) where
   null-fields-say : (n end f k : ℕ) (c : List ℕ) → Says (whyNullFields x walk why n end f k c) (nullFields x walk (walked n) end f k c)
-  unfolding whyNullFields nullFields
+  unfolding whyNullFields eachField
   null-fields-say n end zero k c = says-done c
   null-fields-say n end (suc f) k c =
       says-cond (ltb k end) (λ e. says-past (walk k (walked n) c) _ _ _ (λ h. below k n c) (λ c2. null-fields-say n end f (endOf (x .plan) k) c2)) (λ e. says-done c)

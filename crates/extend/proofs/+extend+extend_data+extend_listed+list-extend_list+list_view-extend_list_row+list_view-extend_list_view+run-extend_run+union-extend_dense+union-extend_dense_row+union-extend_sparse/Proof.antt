@@ -9,7 +9,7 @@ use native.Mathlib.Nat.{sub-zero}
 use native.Mathlib.Numerals.{add-one}
 use Rattle.walk.specs.State.{place}
 use Rattle.walk.specs.Log.{each}
-use Rattle.walk.specs.Copy.{listViewRow, denseRow, copyFields, copyWalk}
+use Rattle.walk.specs.Copy.{listViewRow, denseRow, copyWalk}
 use Rattle.walk.proofs.Laws.{Rest, each-none, each-stop, each-more}
 use Rattle.room_writes.proofs.Bytes.{width-in}
 use Rattle.leaf_walk.specs.Join.{join}
@@ -19,6 +19,7 @@ use Rattle.extend.proofs.Listed.{listed-code, list-wide, view-wide, to-
 use Prim.Native.Nat.{ℕ, _<_}
 use borrow.Fn.Kinds.{In}
 use borrow.Fn.PlainCycle.{Measures, is, falls, and}
+use Rattle.walk.proofs.Names.{copyFields}
 use Rattle.extend.proofs.extend.Reads as extend
 use Rattle.extend.proofs.extend.Kinds as extend-kinds
 use Rattle.extend.proofs.+extend+extend_data+extend_listed+list-extend_list+list_view-extend_list_row+list_view-extend_list_view+run-extend_run+union-extend_dense+union-extend_dense_row+union-extend_sparse.Lts-extend as extend-lts

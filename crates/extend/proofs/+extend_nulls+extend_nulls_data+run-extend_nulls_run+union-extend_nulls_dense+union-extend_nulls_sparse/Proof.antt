@@ -6,7 +6,7 @@ use mathlib.Core.List.{[]}
 use lib.ListN.{length}
 use Prim.Native.Nat.{suc, _+_, _*_, _-_, _≤_}
 use native.Mathlib.Numerals.{add-one}
-use Rattle.walk.specs.Nulls.{nullFields, nullWalk}
+use Rattle.walk.specs.Nulls.{nullWalk}
 use Rattle.walk.proofs.Laws.{Rest}
 use Rattle.leaf_walk.specs.Join.{join}
 use Rattle.nested_rows.proofs.Laws.{ends-ready}
@@ -14,6 +14,7 @@ use Rattle.extend.proofs.NullLaws.{at-none, at-zero, at-out, at-data, a
 use Prim.Native.Nat.{ℕ, _<_}
 use borrow.Fn.Kinds.{In}
 use borrow.Fn.PlainCycle.{Measures, is, falls, and}
+use Rattle.walk.proofs.Names.{nullFields}
 use Rattle.extend.proofs.extend_nulls.Reads as extend-nulls
 use Rattle.extend.proofs.extend_nulls.Kinds as extend-nulls-kinds
 use Rattle.extend.proofs.+extend_nulls+extend_nulls_data+run-extend_nulls_run+union-extend_nulls_dense+union-extend_nulls_sparse.Lts-extend_nulls as extend-nulls-lts

@@ -1,6 +1,6 @@
 -- The walk at a byte string, by the ways that the code goes. Assumes nothing.
 use mathlib.Core.Path.{_≡_, refl, sym, _∙_}
-use mathlib.Core.Bool.{Bool, true, false, not}
+use mathlib.Core.Bool.{Bool, true, false, not, cond}
 use mathlib.Core.List.{List, [], _∷_}
 use Prim.Native.Nat.{ℕ, suc, _+_, _*_, _-_, _≤_, _<_}
 use native.Mathlib.Numerals.{add-one}
@@ -10,7 +10,7 @@ use lib.Dec.{ltb, leb, eqb}
 use borrow.Author.Tests.{leb-true, ltb-false, eq-eqb, ne-eqb, eqb-true, eqb-false}
 use Rattle.number.specs.Number.{entry}
 use Rattle.utils.specs.Offsets.{largest, moved, movedOffsets}
-use Rattle.utils.specs.Extension.{extended, overAt, pick}
+use Rattle.utils.specs.Extension.{extended, overAt}
 use Rattle.utils.specs.declared.Extended.{Extended}
 use Rattle.utils.specs.declared.Extended.the-variants.{Fits, Over, Falls}
 use Rattle.array_data.proofs.lent_tables.Laws.{no, yes}
@@ -32,7 +32,7 @@ fits-is w s from n old {r} {last} {lead} e h =
     go (ltb (entry w s from n) (entry w s from 0)) (ltb (largest w) old) (ltb (largest w) (moved w s from old n)) refl (sym e ∙ h)
   where
     go : (t u v : Bool) → ltb (largest w) (moved w s from old n) ≡ v
-        → pick t Falls (pick u Falls (pick v (overAt w s from n old) (Fits (moved w s from old n) (entry w s from 0)))) ≡ Fits last lead → (old ≤ last) × (last ≤ largest w)
+        → cond t Falls (cond u Falls (cond v (overAt w s from n old) (Fits (moved w s from old n) (entry w s from 0)))) ≡ Fits last lead → (old ≤ last) × (last ≤ largest w)
     go true u v q k = absurd (let z : _≡_ {A = ℕ} 0 1 = cc in omega arith)
     go false true v q k = absurd (let z : _≡_ {A = ℕ} 0 1 = cc in omega arith)
     go false false true q k = absurd (let z : _≡_ {A = ℕ} 0 1 = cc in omega arith)

@@ -8,12 +8,12 @@ use native.Mathlib.Omega.{arith}
 use lib.ListN.{getD}
 use lib.Dec.{leb, ltb}
 use borrow.Author.Tests.{le-leb, leb-true, leb-false, lt-ltb, le-ltb}
-use Rattle.columnar.specs.Types.{Number, i8, u8, i16, u16, i32, u32, i64, u64, limit}
+use Rattle.columnar.specs.Types.{Number, i8, u8, i16, u16, i32, u32, i64, u64, limit, keyFits}
 use Rattle.columnar.specs.Dictionary.{Dictionary}
 use Rattle.model.specs.Opening.{shared, entriesBefore, startOfKeys}
 use Rattle.schema.specs.formats.Code.{isInteger}
 use Rattle.schema.specs.formats.Types.{numberOf}
-use Rattle.plan.specs.dictionaries.Sources.{capped, keyFits}
+use Rattle.plan.specs.dictionaries.Sources.{capped}
 
 -- ---- the largest key of a code
 

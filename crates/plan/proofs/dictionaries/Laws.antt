@@ -151,13 +151,23 @@ module _ (x : Tables) (k : ℕ) where
 
 -- ---- where two dictionaries begin
 
-tests : (v f g string : Bool) → v && f && (g || not string) ≡ v && (f && cond string (g && true) true)
+tests : (v f g string : Bool) → v && f && (g || not string) ≡ cond string (g && f && v) (f && v)
 tests true true true true = refl
 tests true true true false = refl
 tests true true false true = refl
 tests true true false false = refl
-tests true false g string = refl
-tests false f g string = refl
+tests true false true true = refl
+tests true false true false = refl
+tests true false false true = refl
+tests true false false false = refl
+tests false true true true = refl
+tests false true true false = refl
+tests false true false true = refl
+tests false true false false = refl
+tests false false true true = refl
+tests false false true false = refl
+tests false false false true = refl
+tests false false false false = refl
 
 -- a validity without a zero begins nowhere
 module _ (x : Tables) (a b : ℕ) where

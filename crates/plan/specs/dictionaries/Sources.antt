@@ -46,7 +46,3 @@ pub record Countable (x : Tables) (k : ℕ) : Type 0 where
 -- a number, or the largest of 64 bits where it is above that
 abbrev pub capped : ℕ → ℕ
 capped n = min n (2 ^ 64 - 1)
-
--- ground 8 for one source: "(start + entries − 1, at least 0) or start does not fit the key"
-abbrev pub keyFits : Number → ℕ → ℕ → Bool
-keyFits k start n = ltb (start + n - 1) (limit k) && ltb start (limit k)

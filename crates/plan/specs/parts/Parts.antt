@@ -6,6 +6,7 @@ use mathlib.Core.List.{List, [], _∷_}
 use Prim.Native.Nat.{ℕ, zero, suc, _+_, _*_, _-_, _/_, _≤_, _<_, min}
 use lib.ListN.{length, getD}
 use lib.Dec.{leb, ltb, eqb}
+use Rattle.columnar.specs.Row.{sum}
 use Rattle.columnar.specs.Test.{every, onlyIf}
 use Rattle.schema.specs.formats.Code.{isString, isView, isListView, isList, isUnion, widthOf}
 use Rattle.walk.specs.State.{word, codeOf, dictionaryOf, keepsOf, partOf, rows, bytes}
@@ -53,8 +54,7 @@ module _ (plan : List ℕ) where
 
   -- the parts of the nodes before node i
   unfoldable pub partsBefore : ℕ → ℕ
-  partsBefore zero = 0
-  partsBefore (suc i) = partsBefore i + partCount i
+  partsBefore i = sum partCount i
 
   abbrev pub partTotal : ℕ
   partTotal = partsBefore (nodesOf plan)

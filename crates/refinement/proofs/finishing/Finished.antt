@@ -16,7 +16,6 @@ use Rattle.columnar.specs.Reading.{Column, masks, Source}
 use Rattle.schema.specs.formats.Code.{isUnion}
 use Rattle.array_data.specs.Tables.{Tables, firstBuffer, secondBuffer}
 use Rattle.array_data.specs.Typed.{Tree, nodeOf, Is, Means}
-use Rattle.array_data.specs.type_tree.Lent.{unionKind}
 use Rattle.model.specs.Try.{done, then, after}
 use Rattle.model.specs.Opening.{present, keeps, shared}
 use Rattle.model.specs.Mutable.{Mutable, startNode, freezeNode}
@@ -46,6 +45,7 @@ use Rattle.refinement.proofs.finishing.Copied.{first-is, second-is, nod
 use Rattle.refinement.proofs.finishing.Given.{named-few, Valued, Stands, Given, stands}
 use Rattle.refinement.proofs.finishing.KeptValues.{kept-shows, kept-counters}
 use Rattle.refinement.proofs.finishing.Names.{buffers-shown}
+use Rattle.array_data.proofs.Names.{unionKind}
 
 -- a kept dictionary has no parts
 pub kept-not : (plan : List ℕ) (i : ℕ) → (dictionaryOf plan i ≡ 0 → ⊥) → word plan i 7 ≡ 0 → copied plan (suc i) ≡ false

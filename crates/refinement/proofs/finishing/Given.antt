@@ -15,7 +15,6 @@ use Rattle.columnar.specs.Dictionary.{Dictionary}
 use Rattle.columnar.specs.Reading.{Body, Column, masks, Source}
 use Rattle.array_data.specs.Tables.{part}
 use Rattle.array_data.specs.Typed.{Tree, nodeOf, Is, Means}
-use Rattle.array_data.specs.type_tree.Lent.{unionKind}
 use Rattle.model.specs.Try.{done}
 use Rattle.model.specs.Sources.{EachView}
 use Rattle.model.specs.Opening.{keeps, shared}
@@ -36,6 +35,7 @@ use Rattle.refinement.proofs.orders.Own.{Bounded}
 use Rattle.refinement.proofs.orders.Cover.{Laid}
 use Rattle.refinement.specs.opening.Kept.{Kept}
 use Rattle.refinement.specs.opening.Entries.{EntriesLent, Joins}
+use Rattle.array_data.proofs.Names.{unionKind}
 
 -- ---- data buffers
 

@@ -9,7 +9,6 @@ use lib.Seq.{take-append-seam, drop-append-seam, take-length}
 use Rattle.columnar.specs.Types.{Ty}
 use Rattle.columnar.specs.Reading.{Column}
 use Rattle.array_data.specs.Typed.{Tree, nodeOf, Is, Means}
-use Rattle.array_data.specs.type_tree.Lent.{unionKind}
 use Rattle.model.specs.Sources.{EachView}
 use Rattle.model.specs.Transform.{Destination}
 use Rattle.refinement.specs.walk_is_model.Memory.{Memory}
@@ -27,6 +26,7 @@ use Rattle.refinement.specs.opening.Entries.{EntriesLent, Joins}
 use Rattle.refinement.proofs.opening.Stay.{joins-stay}
 use Rattle.refinement.specs.finishing.Shows.{Bodied}
 use Rattle.refinement.proofs.finishing.Given.{NamesLent, Given}
+use Rattle.array_data.proofs.Names.{unionKind}
 
 module _ (x : Lent) (t : Ty) (m : ℕ) (ss : ℕ → Column t) (join : Joined x t m ss) (keep : Bool) (c0 : List ℕ) (μ0 : Memory) (d : Destination t) (counters room : List ℕ)
     (run : Running x t m ss join keep c0 μ0 d counters room)

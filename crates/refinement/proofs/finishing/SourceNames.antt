@@ -14,7 +14,7 @@ use Rattle.columnar.proofs.Test.{every-out}
 use Rattle.array_data.specs.Tables.{Tables, place, dataBuffer, inBody}
 use Rattle.array_data.specs.Rules.{oneIn, buffersIn, viewRule}
 use Rattle.array_data.specs.Typed.{Tree, nodeOf, Is, viewNode, Means, tablesFrom, bodyOf, kindRule, nodeRule, sourceRule}
-use Rattle.array_data.specs.type_tree.Lent.{unionKind, treeOf}
+use Rattle.array_data.specs.type_tree.Lent.{treeOf}
 use Rattle.array_data.proofs.type_tree.Same.{same-means}
 use Rattle.array_data.proofs.lent_tables.Laws.{and-left, and-right}
 use Rattle.plan.proofs.parts.Placed.{every-at}
@@ -26,6 +26,7 @@ use Rattle.refinement.proofs.plan_is_type.OneTree.{same-column}
 use Rattle.refinement.proofs.plan_is_type.Opened.{same-child, all-alike}
 use Rattle.refinement.specs.orders.Order.{Lent}
 use Rattle.refinement.proofs.finishing.Given.{Named, NamesLent}
+use Rattle.array_data.proofs.Names.{unionKind}
 
 -- what orders are lent of tables
 abbrev lentOf : Tables → List ℕ → List ℕ → List ℕ → Lent

@@ -1,5 +1,5 @@
 -- What a walk writes is bytes. Assumes nothing.
-use mathlib.Core.Bool.{Bool, true, false}
+use mathlib.Core.Bool.{Bool, true, false, cond}
 use mathlib.Core.List.{List, [], _∷_, _++_}
 use Prim.Native.Nat.{ℕ, zero, suc, _+_, _*_, _/_, _%_, _^_, _<_}
 use native.Mathlib.Omega.{arith}
@@ -11,7 +11,7 @@ use Rattle.bits.proofs.Laws.{Below, none, more, below-of, below-at, below-appen
 use Rattle.utils.specs.Pieces.{pieces}
 use Rattle.utils.specs.Offsets.{movedOffsets, repeated, countedUp}
 use Rattle.utils.specs.primitive.Primitive.{rebased}
-use Rattle.utils.specs.byte_view.View.{pickBytes, reviewedOne, reviewed}
+use Rattle.utils.specs.byte_view.View.{reviewedOne, reviewed}
 use Rattle.run_ends.specs.Clip.{clip, clipped}
 use Rattle.refinement.specs.log_in_room.Room.{AllBelow}
 
@@ -35,7 +35,7 @@ below-view : (s : List ℕ) (base : ℕ) → Below 256 s → Below 256 (reviewed
 unfolding reviewedOne
 below-view s base b = go (ltb 12 (number 4 s))
   where
-    go : (t : Bool) → Below 256 (pickBytes t (take 8 s ++ encode 4 ((number 4 (drop 8 s) + base) % 256 ^ 4) ++ take 4 (drop 12 s)) (take 16 s))
+    go : (t : Bool) → Below 256 (cond t (take 8 s ++ encode 4 ((number 4 (drop 8 s) + base) % 256 ^ 4) ++ take 4 (drop 12 s)) (take 16 s))
     go true =
         below-append 256 _ (take 4 (drop 12 s)) (below-append 256 (take 8 s) _ (below-take 256 8 s b) (below-encode 4 _)) (below-take 256 4 (drop 12 s) (below-drop 256 12 s b))
     go false = below-take 256 16 s b

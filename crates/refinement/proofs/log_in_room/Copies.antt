@@ -18,12 +18,13 @@ use Rattle.run_ends.specs.declared.Runs.{Runs}
 use Rattle.run_ends.specs.declared.Runs.the-variants.{Range, None}
 use Rattle.walk.specs.State.{Join, codeOf, dictionaryOf, endOf, keepsOf, baseOf, bytesOf, rows, bytes, place, far}
 use Rattle.walk.specs.Leaves.{copyBits, copyMask, copyNumbers, copyKeys, copyViews, putString, putExtended, copyString}
-use Rattle.walk.specs.Copy.{Walk, isWidth, masked, listViewRow, copyListView, putStretch, putList, copyList, copyFields, copySparse, idAt, denseTo, denseRow, copyDense, putRuns, runsAt, copyRuns, copyData, copySlots, copyNode, copyWalk}
+use Rattle.walk.specs.Copy.{Walk, isWidth, masked, listViewRow, copyListView, putStretch, copyList, copySparse, idAt, denseTo, denseRow, copyDense, putRuns, runsAt, copyRuns, copyData, copySlots, copyNode, copyWalk, eachField}
 use Rattle.refinement.specs.log_in_room.Room.{AllBelow, AllUsed}
 use Rattle.refinement.specs.log_in_room.Reach.{Second, chars, sizes, positions, HasBuffer, Child, Closed, UsedAt}
 use Rattle.refinement.proofs.log_in_room.Bytes.{bytes-encode, bytes-one, bytes-part, bytes-moved, bytes-rebased, bytes-reviewed, bytes-clipped, bits-part, bits-same}
 use Rattle.refinement.proofs.log_in_room.Uses.{Uses, uses-put, uses-mask, uses-done, uses-fail, uses-cond, uses-need, uses-found, uses-next, uses-each}
 use Rattle.refinement.proofs.log_in_room.Found.{between-both, between-wide, and-first, ends-code, child-first, child-later, child-with}
+use Rattle.walk.proofs.Names.{putList, copyFields}
 
 module _ (x : Join) (In At : ℕ → Type 0) (closed : Closed (x .plan) In At) (body : AllBelow 256 (x .body)) where
   abbrev U : ℕ → ℕ → Type 0
@@ -105,7 +106,7 @@ module _ (x : Join) (In At : ℕ → Type 0) (closed : Closed (x .plan) In At) (
 
     uses-fields : (slot n fuel k : ℕ) (c : List ℕ) → isUnion (codeOf (x .plan) i) ≡ true → (k < endOf (x .plan) i → Child (x .plan) i k)
         → Uses U (copyFields x walk slot n (endOf (x .plan) i) fuel k c)
-    unfolding copyFields
+    unfolding eachField
     uses-fields slot n zero k c h d = uses-done U c
     uses-fields slot n (suc fuel) k c h d =
         uses-cond U (ltb k (endOf (x .plan) i)) _ _

@@ -11,13 +11,14 @@ use Rattle.columnar.specs.Types.{half}
 use Rattle.schema.specs.formats.Code.{isFixed, isString, isView, isListView, isList, isUnion}
 use Rattle.walk.specs.State.{Join, word, codeOf, endOf, idOf, keepsOf, bytesOf, rows, gap, bytes}
 use Rattle.walk.specs.Leaves.{nullMask, countNulls, nullNumbers, nullString}
-use Rattle.walk.specs.Copy.{isWidth, masked}
-use Rattle.walk.specs.Nulls.{NullWalk, nullListView, nullList, nullFields, nullSparse, nullDense, addRun, growRun, nullRuns, nullData, nullNode, nullWalk}
+use Rattle.walk.specs.Copy.{isWidth, masked, eachField}
+use Rattle.walk.specs.Nulls.{NullWalk, nullListView, nullList, nullSparse, nullDense, addRun, growRun, nullRuns, nullData, nullNode, nullWalk}
 use Rattle.refinement.specs.log_in_room.Room.{AllUsed}
 use Rattle.refinement.specs.log_in_room.Reach.{sizes, positions, HasBuffer, Child, Closed, UsedAt}
 use Rattle.refinement.proofs.log_in_room.Bytes.{bytes-encode, bytes-same, bytes-repeated, bytes-counted, bits-same}
 use Rattle.refinement.proofs.log_in_room.Uses.{Uses, uses-put, uses-amend, uses-mask, uses-done, uses-fail, uses-cond, uses-need, uses-found, uses-next}
 use Rattle.refinement.proofs.log_in_room.Found.{between-both, and-first, ends-code, child-first, child-later, child-nullable}
+use Rattle.walk.proofs.Names.{nullFields}
 
 module _ (x : Join) (In At : ℕ → Type 0) (closed : Closed (x .plan) In At) where
   abbrev U : ℕ → ℕ → Type 0
@@ -63,7 +64,7 @@ module _ (x : Join) (In At : ℕ → Type 0) (closed : Closed (x .plan) In At) w
 
     uses-null-fields : (n fuel k : ℕ) (c : List ℕ) → isUnion (codeOf (x .plan) i) ≡ true → (k < endOf (x .plan) i → Child (x .plan) i k)
         → Uses U (nullFields x walk n (endOf (x .plan) i) fuel k c)
-    unfolding nullFields
+    unfolding eachField
     uses-null-fields n zero k c h d = uses-done U c
     uses-null-fields n (suc fuel) k c h d =
         uses-cond U (ltb k (endOf (x .plan) i)) _ _

@@ -8,7 +8,7 @@ use native.Mathlib.Omega.{arith}
 use lib.ListN.{length}
 use lib.Dec.{leb, eqb}
 use borrow.Author.Tests.{ne-eqb, le-leb, lt-leb, leb-true, leb-false}
-use Rattle.columnar.specs.Types.{Number, width, Plain, fixed, string, tPlain, tDictionary}
+use Rattle.columnar.specs.Types.{Number, width, Plain, fixed, string, tPlain, tDictionary, keyFits}
 use Rattle.columnar.specs.Formed.{OffsetWidth, four, eight, FormedPlain}
 use Rattle.columnar.specs.Array.{Array, Obeys}
 use Rattle.columnar.specs.Plain.{PlainBody, StringRule, empty, full, PlainRule}
@@ -25,7 +25,7 @@ use Rattle.model.proofs.Nodes.{kindOf}
 use Rattle.model.proofs.Node.{node-copies}
 use Rattle.model.proofs.Start.{start-plain}
 use Rattle.model.proofs.Types.{law}
-use Rattle.plan.specs.dictionaries.Sources.{capped, keyFits}
+use Rattle.plan.specs.dictionaries.Sources.{capped}
 use Rattle.walk.specs.State.{Join, word, dictionaryOf, keepsOf, baseOf, lengthOf, top}
 use Rattle.walk.specs.Log.{need, next, each}
 use Rattle.refinement.specs.walk_is_model.Memory.{Memory}

@@ -11,7 +11,7 @@ use Rattle.columnar.specs.Types.{Number, i8, u8, i16, u16, i32, u32, i64, u64, 
 use Rattle.columnar.specs.Dictionary.{Dictionary}
 use Rattle.columnar.specs.Reading.{Body, Column}
 use Rattle.model.specs.Try.{Try, done, then, guard}
-use Rattle.model.specs.Opening.{keeps, entriesFit, startOfKeys, keysFit, allKeysFit}
+use Rattle.model.specs.Opening.{keeps, entriesFit, startOfKeys, allKeysFit}
 use Rattle.model.specs.Transform.{theDictionary, openData}
 use Rattle.model.proofs.Follow.{guard-done}
 use Rattle.model.proofs.Joined.{then-done}
@@ -21,7 +21,7 @@ use Rattle.model.proofs.SameBody.{same-entries}
 use Rattle.schema.specs.Tree.{ceilings, typed}
 use Rattle.array_data.specs.Tables.{Tables}
 use Rattle.array_data.specs.Typed.{Tree, nodeOf, Is, Means}
-use Rattle.array_data.specs.type_tree.Lent.{unionKind, treeOf, typeOf}
+use Rattle.array_data.specs.type_tree.Lent.{treeOf, typeOf}
 use Rattle.array_data.proofs.type_tree.Ids.{both}
 use Rattle.array_data.proofs.type_tree.Lent.{means}
 use Rattle.array_data.specs.lent_tables.Lent.{tables}
@@ -48,6 +48,8 @@ use Rattle.refinement.proofs.orders.Step.{Joined}
 use Rattle.refinement.specs.opening.Open.{opened}
 use Rattle.refinement.specs.opening.Kept.{Kept}
 use Rattle.refinement.proofs.opening.Taken.{some-sources, few-sources, is-typed, is-low, few-nodes, few-named, planted, taken, sources-of}
+use Rattle.model.proofs.Names.{keysFit}
+use Rattle.array_data.proofs.Names.{unionKind}
 
 -- ---- the children of unions by the plan
 

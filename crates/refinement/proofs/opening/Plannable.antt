@@ -7,7 +7,7 @@ use native.Mathlib.Omega.{arith}
 use lib.ListN.{getD}
 use lib.Dec.{leb, eqb}
 use borrow.Author.Tests.{leb-true, eqb-true}
-use Rattle.schema.specs.Tree.{every, sameNode, sameType}
+use Rattle.schema.specs.Tree.{sameNode, sameType}
 use Rattle.schema.proofs.Known.{within-nodes}
 use Rattle.array_data.specs.Tables.{Tables, held, validIn}
 use Rattle.array_data.specs.Rules.{oneIn, twoIn, buffersIn}
@@ -22,6 +22,7 @@ use Rattle.plan.proofs.parts.Placed.{every-at}
 use Rattle.plan.specs.dictionaries.Sources.{Countable}
 use Rattle.plan.proofs.dictionaries.Typed.{countable-at}
 use Rattle.plan.specs.Plan.{Plannable}
+use Rattle.columnar.specs.Test.{every}
 
 -- node i has a bit for each slot where it has validity
 record Masked (x : Tables) (i : ℕ) : Type 0 where

@@ -15,7 +15,7 @@ use Rattle.columnar.specs.Reading.{Column, Source}
 use Rattle.schema.specs.formats.Code.{isView}
 use Rattle.model.specs.Sources.{EachView, EachDictionary, ValidFrom, StandsFrom, Stands, Sources}
 use Rattle.model.proofs.Bits.{length-seg}
-use Rattle.schema.specs.Tree.{every, codeOf, ceilings, typed, sameNode, sameType}
+use Rattle.schema.specs.Tree.{codeOf, ceilings, typed, sameNode, sameType}
 use Rattle.schema.proofs.Known.{every-at, within-nodes, typed-whole, typed-shape}
 use Rattle.array_data.specs.Tables.{Tables, lengthOf, offsetOf, place, part, arrayWith}
 use Rattle.array_data.specs.Typed.{Tree, viewNode, nodeOf, Means, tablesFrom, validStart, starts, plainBody, bodyOf}
@@ -36,6 +36,7 @@ use Rattle.refinement.proofs.plan_is_type.Opened.{all-alike, all-obey}
 use Rattle.plan.specs.Plan.{planned}
 use Rattle.plan.proofs.Codes.{view-code}
 use Rattle.plan.proofs.Words.{word-is}
+use Rattle.columnar.specs.Test.{every}
 
 -- ---- what stands in the body
 

@@ -18,7 +18,7 @@ use Rattle.schema.proofs.formats.Types.{fixed-number}
 use Rattle.schema.specs.Tree.{dictionary, codeOf, idsOf}
 use Rattle.array_data.specs.Tables.{Tables, arrayWith}
 use Rattle.array_data.specs.Typed.{NodeKind, fixedNode, dictionaryNode, Tree, nodeOf, Is, MeansPlain, Means, tablesFrom, plainBody, bodyOf}
-use Rattle.array_data.specs.type_tree.Lent.{numberOr, numberKind, unionKind, kindAt, treeOf, typeOf}
+use Rattle.array_data.specs.type_tree.Lent.{numberOr, kindAt, treeOf, typeOf}
 use Rattle.array_data.proofs.type_tree.Lent.{formed}
 use Rattle.array_data.proofs.type_tree.Same.{same-means}
 use Rattle.array_data.proofs.type_tree.Shaped.{kind-fixed}
@@ -39,6 +39,7 @@ use Rattle.refinement.specs.opening.Open.{opened}
 use Rattle.refinement.specs.opening.Entries.{ValuesLent, EntriesLent}
 use Rattle.refinement.proofs.opening.Laid.{Stood, stood}
 use Rattle.refinement.proofs.opening.Taken.{some-sources, is-typed, is-low, planted, taken}
+use Rattle.array_data.proofs.Names.{numberKind, unionKind}
 
 -- ---- the code of a dictionary's keys
 

@@ -15,7 +15,7 @@ use Rattle.columnar.specs.Reading.{Column, masks}
 use Rattle.model.specs.Try.{Try, done, stop, then, guard, mapTry, after}
 use Rattle.model.specs.Grounds.{Counts, rowsOf}
 use Rattle.model.specs.Mutable.{nullsNode}
-use Rattle.model.specs.Transform.{Grown, Destination, keepsNulls, extend, nullsData}
+use Rattle.model.specs.Transform.{Grown, Destination, extend}
 use Rattle.model.specs.Book.{Call, copy, nulls, answer, entered, nullsEntered}
 use Rattle.model.specs.Orders.{perform}
 use Rattle.model.specs.Held.{held}
@@ -34,6 +34,7 @@ use Rattle.refinement.specs.orders.Counted.{sizesOf, roomAll, roomBits, 
 use Rattle.refinement.proofs.orders.Counted.{own-counted, fits-counted}
 use Rattle.refinement.proofs.orders.Short.{short-own, own-in}
 use Rattle.refinement.proofs.orders.Step.{Joined, Running, Answers, made, not-made, order-step, first-opened, lawful, obeys, nulls-len, nulls-did, nulls-go, small-room}
+use Rattle.model.proofs.Names.{keepsNulls, nullsData}
 
 -- the number of a refusal, 0 where there is none
 abbrev pub groundOf : {A : Type 0} → Try A → ℕ

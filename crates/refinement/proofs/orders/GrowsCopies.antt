@@ -1,6 +1,6 @@
 -- A copy only adds. Assumes nothing.
 use mathlib.Core.Path.{_≡_, refl, sym, _∙_}
-use mathlib.Core.Bool.{Bool, true, false}
+use mathlib.Core.Bool.{Bool, true, false, cond}
 use mathlib.Core.List.{List, [], _∷_, _++_}
 use Prim.Native.Nat.{ℕ, zero, suc, _+_, _*_, _-_, _≤_, _<_, min}
 use native.Mathlib.Nat.{add-zero, mul-comm, suc-mul, one-mul, le-trans, le-of-eq}
@@ -14,12 +14,12 @@ use Rattle.bits.specs.Bits.{bitsAt, bits}
 use Rattle.schema.specs.formats.Code.{isFixed, isString, isView, isListView, isList, isUnion, widthOf}
 use Rattle.utils.specs.Pieces.{pieces}
 use Rattle.utils.specs.Offsets.{largest, moved, movedOffsets}
-use Rattle.utils.specs.Extension.{pick, overAt, extended}
+use Rattle.utils.specs.Extension.{overAt, extended}
 use Rattle.utils.specs.declared.Extended.{Extended}
 use Rattle.utils.specs.declared.Extended.the-variants.{Fits, Over, Falls}
 use Rattle.utils.proofs.Pieces.{length-numbers}
 use Rattle.utils.specs.primitive.Primitive.{rebased}
-use Rattle.utils.specs.byte_view.View.{pickBytes, reviewedOne, reviewed}
+use Rattle.utils.specs.byte_view.View.{reviewedOne, reviewed}
 use Rattle.run_ends.specs.declared.Runs.{Runs}
 use Rattle.run_ends.specs.declared.Runs.the-variants.{Range, None}
 use Rattle.run_ends.proofs.Laws.{length-clipped}
@@ -27,12 +27,13 @@ use Rattle.walk.specs.State.{Join, codeOf, dictionaryOf, endOf, keepsOf, baseOf
 use Rattle.walk.specs.Log.{put, Out, fail, done, wrote, next}
 use Rattle.refinement.proofs.walk_is_model.Counters.{bytes-set}
 use Rattle.walk.specs.Leaves.{copyBits, copyMask, copyNumbers, copyKeys, copyViews, putString, putExtended, copyString}
-use Rattle.walk.specs.Copy.{Walk, isWidth, masked, listViewRow, copyListView, putStretch, putList, copyList, copyFields, copySparse, idAt, denseTo, denseRow, copyDense, putRuns, runsAt, copyRuns, copyData, copySlots, copyNode, copyWalk}
+use Rattle.walk.specs.Copy.{Walk, isWidth, masked, listViewRow, copyListView, putStretch, copyList, copySparse, idAt, denseTo, denseRow, copyDense, putRuns, runsAt, copyRuns, copyData, copySlots, copyNode, copyWalk, eachField}
 use Rattle.refinement.specs.log_in_room.Reach.{Child, Closed}
 use Rattle.refinement.proofs.log_in_room.Found.{between-wide, and-first, child-first, child-later, child-with}
 use Rattle.plan.specs.parts.Parts.{neededBy}
 use Rattle.refinement.proofs.orders.Buffers.{needed-fixed, needed-offsets, needed-chars, needed-views, needed-starts, needed-sizes, needed-ends}
 use Rattle.refinement.proofs.orders.Grows.{Fine, AllBehind, Behind, Adds, due, longer-same, behind-wide, longer-bytes, fine-bytes, behind-rows, behind-all, behind-offsets, behind-bits, adds-done, adds-nulls, adds-gap, adds-done-two, adds-fail, adds-never, next-never, adds-wrote, adds-cond, adds-need, adds-found, adds-next, adds-each, adds-whole, adds-close, adds-close-two}
+use Rattle.walk.proofs.Names.{putList, copyFields}
 
 -- ---- lengths
 
@@ -50,7 +51,7 @@ view-bytes : (s : List ℕ) (base : ℕ) → length (reviewedOne s base) ≤ 16
 unfolding reviewedOne
 view-bytes s base = go (ltb 12 (number 4 s)) _
   where
-    go : (t : Bool) (v : ℕ) → length (pickBytes t (take 8 s ++ encode 4 v ++ take 4 (drop 12 s)) (take 16 s)) ≤ 16
+    go : (t : Bool) (v : ℕ) → length (cond t (take 8 s ++ encode 4 v ++ take 4 (drop 12 s)) (take 16 s)) ≤ 16
     go true v =
         let a = length-append (take 8 s ++ encode 4 v) (take 4 (drop 12 s)) in
         let b = length-append (take 8 s) (encode 4 v) in
@@ -89,7 +90,7 @@ last-after : (w : ℕ) (s : List ℕ) (from n last : ℕ) → Last last (extende
 unfolding extended overAt
 last-after w s from n last = go (ltb (entry w s from n) (entry w s from 0)) (ltb (largest w) last) (ltb (largest w) (moved w s from last n))
   where
-    go : (a b c : Bool) → Last last (pick a Falls (pick b Falls (pick c (overAt w s from n last) (Fits (moved w s from last n) (entry w s from 0)))))
+    go : (a b c : Bool) → Last last (cond a Falls (cond b Falls (cond c (overAt w s from n last) (Fits (moved w s from last n) (entry w s from 0)))))
     go true b c = falls
     go false true c = falls
     go false false true = over _ _
@@ -198,7 +199,7 @@ module _ (x : Join) (In At : ℕ → Type 0) (closed : Closed (x .plan) In At) (
         (λ g. adds-put-list _ (extended (bytesOf S i) (x .body) (place x i 3 + bytesOf S i * slot) n (rows c (suc i))) c h)))
 
     adds-fields : (slot m fuel k : ℕ) (c : List ℕ) → isUnion (codeOf S i) ≡ true → (k < endOf S i → Child S i k) → Adds S late i n c (copyFields x walk slot m (endOf S i) fuel k c)
-    unfolding copyFields
+    unfolding eachField
     adds-fields slot m zero k c h d = adds-done S late i n c
     adds-fields slot m (suc fuel) k c h d =
         adds-cond S late i n c (ltb k (endOf S i)) _ _

@@ -16,13 +16,14 @@ use Rattle.utils.proofs.Pieces.{length-numbers}
 use Rattle.walk.specs.State.{Join, codeOf, endOf, keepsOf, idOf, bytesOf, rows, bytes, gap, addRows, beginGap}
 use Rattle.walk.specs.Log.{put, mask, Out, fail, done, wrote, next}
 use Rattle.walk.specs.Leaves.{nullMask, countNulls, nullNumbers, nullString}
-use Rattle.walk.specs.Copy.{isWidth, masked}
-use Rattle.walk.specs.Nulls.{NullWalk, nullableChild, noHome, nullListView, nullList, nullFields, nullSparse, nullDense, addRun, growRun, nullRuns, nullData, nullNode, nullWalk}
+use Rattle.walk.specs.Copy.{isWidth, masked, eachField}
+use Rattle.walk.specs.Nulls.{NullWalk, nullableChild, noHome, nullListView, nullList, nullSparse, nullDense, addRun, growRun, nullRuns, nullData, nullNode, nullWalk}
 use Rattle.refinement.specs.log_in_room.Reach.{Child, Closed}
 use Rattle.refinement.proofs.log_in_room.Found.{and-first, child-first, child-later, child-nullable}
 use Rattle.plan.specs.parts.Parts.{neededBy}
 use Rattle.refinement.proofs.orders.Buffers.{needed-fixed, needed-offsets, needed-views, needed-starts, needed-sizes, needed-ends}
 use Rattle.refinement.proofs.orders.Grows.{Adds, behind-rows, behind-all, behind-offsets, behind-bits, over-last, adds-done, adds-done-two, adds-gap, adds-nulls, adds-fail, adds-never, adds-wrote, adds-cond, adds-need, adds-found, adds-next, adds-whole, adds-close, adds-close-two}
+use Rattle.walk.proofs.Names.{nullFields}
 
 same : (n v : ℕ) → length (replicate n v) ≡ n
 same n v = length-replicate n v
@@ -78,7 +79,7 @@ module _ (x : Join) (In At : ℕ → Type 0) (closed : Closed (x .plan) In At) (
         (behind-offsets S late i n (bytesOf S i) (repeated (bytesOf S i) (rows c (suc i)) n) c (λ k m. needed-ends (codeOf S i) k m h) (repeated-all (bytesOf S i) (rows c (suc i)) n)))
 
     adds-null-fields : (m fuel k : ℕ) (c : List ℕ) → isUnion (codeOf S i) ≡ true → (k < endOf S i → Child S i k) → Adds S late i n c (nullFields x walk m (endOf S i) fuel k c)
-    unfolding nullFields
+    unfolding eachField
     adds-null-fields m zero k c h d = adds-done S late i n c
     adds-null-fields m (suc fuel) k c h d =
         adds-cond S late i n c (ltb k (endOf S i)) _ _

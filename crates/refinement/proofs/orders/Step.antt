@@ -14,8 +14,8 @@ use Rattle.array_data.proofs.lent_tables.Laws.{and-left, and-right}
 use Rattle.columnar.specs.Types.{Ty}
 use Rattle.columnar.specs.Reading.{Column, masks, Source}
 use Rattle.model.specs.Try.{Try, done, stop, then, guard}
-use Rattle.model.specs.Mutable.{keepsBits, grow, counted, nullsNode}
-use Rattle.model.specs.Transform.{Grown, Destination, keepsNulls, extend, nullsData}
+use Rattle.model.specs.Mutable.{keepsBits, grow, nullsNode}
+use Rattle.model.specs.Transform.{Grown, Destination, extend}
 use Rattle.model.specs.Book.{Call, copy, nulls}
 use Rattle.model.specs.Held.{held}
 use Rattle.model.proofs.Law.{Law, KeepNode}
@@ -50,6 +50,7 @@ use Rattle.refinement.proofs.orders.Enough.{free-or, same-test}
 use Rattle.refinement.proofs.orders.Still.{Same, still-copies, still-nulls}
 use Rattle.refinement.proofs.orders.Far.{Alike, both, neither, alike-by, alike-nulls}
 use Rattle.refinement.proofs.orders.Short.{short}
+use Rattle.model.proofs.Names.{keepsNulls, nullsData, counted}
 
 -- ---- what an order is given
 

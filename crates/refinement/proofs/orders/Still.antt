@@ -15,11 +15,12 @@ use Rattle.run_ends.specs.declared.Runs.the-variants.{Range, None}
 use Rattle.walk.specs.State.{Join, codeOf, dictionaryOf, endOf, keepsOf, bytesOf, rows, nulls, bytes, gap, place, far, addRows, addNulls, setBytes}
 use Rattle.walk.specs.Log.{Entry, Out, fail, done, wrote, need, found, next, each}
 use Rattle.walk.specs.Leaves.{copyBits, copyMask, copyNumbers, copyKeys, copyViews, putString, putExtended, copyString, nullMask, countNulls, nullNumbers, nullString}
-use Rattle.walk.specs.Copy.{Walk, masked, listViewRow, copyListView, putStretch, putList, copyList, copyFields, copySparse, idAt, denseTo, denseRow, copyDense, putRuns, runsAt, copyRuns, copyData, copySlots, copyNode, copyWalk}
-use Rattle.walk.specs.Nulls.{NullWalk, nullListView, nullList, nullFields, nullSparse, nullDense, addRun, growRun, nullRuns, nullData, nullNode, nullWalk}
+use Rattle.walk.specs.Copy.{Walk, masked, listViewRow, copyListView, putStretch, copyList, copySparse, idAt, denseTo, denseRow, copyDense, putRuns, runsAt, copyRuns, copyData, copySlots, copyNode, copyWalk, eachField}
+use Rattle.walk.specs.Nulls.{NullWalk, nullListView, nullList, nullSparse, nullDense, addRun, growRun, nullRuns, nullData, nullNode, nullWalk}
 use Rattle.refinement.proofs.walk_is_model.Counters.{rows-other, nulls-of-rows, bytes-of-rows, nulls-other, rows-of-nulls, bytes-of-nulls, bytes-other, rows-of-bytes, nulls-of-bytes}
 use Rattle.refinement.specs.log_in_room.Reach.{Child, Closed}
 use Rattle.refinement.proofs.log_in_room.Found.{between-wide, child-first, child-later, child-with, child-nullable}
+use Rattle.walk.proofs.Names.{putList, copyFields, nullFields}
 
 module _ (j : ℕ) where
   -- node j's rows, nulls and bytes are as they were
@@ -159,7 +160,7 @@ module _ (j : ℕ) where
 
       still-fields : (slot n fuel k : ℕ) (c : List ℕ) → isUnion (codeOf (x .plan) i) ≡ true → (k < endOf (x .plan) i → Child (x .plan) i k)
           → Still c (copyFields x walk slot n (endOf (x .plan) i) fuel k c)
-      unfolding copyFields
+      unfolding eachField
       still-fields slot n zero k c h d = still-done c
       still-fields slot n (suc fuel) k c h d =
           still-cond c (ltb k (endOf (x .plan) i)) _ _
@@ -257,7 +258,7 @@ module _ (j : ℕ) where
 
       still-null-fields : (n fuel k : ℕ) (c : List ℕ) → isUnion (codeOf (x .plan) i) ≡ true → (k < endOf (x .plan) i → Child (x .plan) i k)
           → Still c (nullFields x walk n (endOf (x .plan) i) fuel k c)
-      unfolding nullFields
+      unfolding eachField
       still-null-fields n zero k c h d = still-done c
       still-null-fields n (suc fuel) k c h d =
           still-cond c (ltb k (endOf (x .plan) i)) _ _

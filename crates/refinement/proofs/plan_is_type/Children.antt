@@ -11,11 +11,11 @@ use Rattle.schema.specs.Tree.{below, endOf, childAt, whole, idsOf}
 use Rattle.schema.proofs.Trees.{child-inside, end-after}
 use Rattle.schema.proofs.Depth.{nested, child-before}
 use Rattle.array_data.specs.Typed.{fieldOf}
-use Rattle.array_data.specs.type_tree.Lent.{idsOr}
 use Rattle.array_data.proofs.type_tree.Ids.{cond-yes, cond-no, field-in}
 use Rattle.array_data.proofs.type_tree.Lent.{first-child}
-use Rattle.array_data.specs.node_words.Words.{idFrom, idUnder, idBelow, childId}
+use Rattle.array_data.specs.node_words.Words.{idFrom, idBelow, idUnder, childId}
 use Rattle.array_data.proofs.node_words.Laws.{holds, holds-not}
+use Rattle.array_data.proofs.Names.{idsOr}
 
 -- a member behind the first
 pub behind-first : (c d : ℕ) (ds : List ℕ) → eqb c d ≡ false → List·Memᴰ c (d ∷ ds) → List·Memᴰ c ds

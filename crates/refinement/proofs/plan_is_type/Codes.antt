@@ -12,9 +12,10 @@ use Rattle.schema.specs.formats.Code.{between, isInteger, isFixed, isString, is
 use Rattle.schema.specs.formats.Types.{numberOf}
 use Rattle.schema.specs.Tree.{children, dictionary, below, bare, childForEach, codeOf, idsOf, valuesShape, endsShape, leafShape, keysShape, listShape, unionShape, runShape, shape}
 use Rattle.array_data.specs.Typed.{NodeKind, fixedNode, stringNode, viewNode, listViewNode, listNode, sparseNode, denseNode, runEndNode, dictionaryNode}
-use Rattle.array_data.specs.type_tree.Lent.{numberOr, idsOr, numberKind, unionKind, kindOf, kindAt}
+use Rattle.array_data.specs.type_tree.Lent.{numberOr, kindOf, kindAt}
 use Rattle.array_data.proofs.type_tree.Ids.{both}
 use Rattle.array_data.proofs.type_tree.Shaped.{number-or, integer-fixed, five}
+use Rattle.array_data.proofs.Names.{idsOr, numberKind, unionKind}
 
 -- a format that 01 admits
 abbrev pub admitted : ℕ → Bool

@@ -12,12 +12,12 @@ use Rattle.columnar.proofs.Test.{every-out}
 use Rattle.array_data.specs.Tables.{Tables, lengthOf, offsetOf, place, validOf, firstBuffer, secondBuffer, arrayWith, held, inBody, validIn}
 use Rattle.array_data.specs.Rules.{oneIn, twoIn, buffersIn}
 use Rattle.array_data.specs.Typed.{NodeKind, fixedNode, stringNode, viewNode, listViewNode, listNode, sparseNode, denseNode, runEndNode, dictionaryNode, Tree, nodeOf, Is, MeansPlain, Means, tablesFrom, plainBody, bodyOf, columnOf, kindRule, nodeRule, sourceRule, placedAs}
-use Rattle.array_data.specs.type_tree.Lent.{unionKind}
 use Rattle.plan.proofs.dictionaries.Laws.{length-from, offset-from, place-from}
 use Rattle.walk.specs.State.{Join, far}
 use Rattle.refinement.specs.walk_is_model.Holds.{childOf}
 use Rattle.refinement.specs.walk_is_model.Lent.{Part, LentValid, LentNode, First, Second, LentPlain, LentData, Lent}
 use Rattle.refinement.specs.plan_is_type.Planted.{joinOf}
+use Rattle.array_data.proofs.Names.{unionKind}
 
 left : (a b : Bool) → T (a && b) → T a
 left true b h = tt

@@ -10,7 +10,7 @@ use Rattle.schema.specs.Tree.{below, ceilings, typed, sameType}
 use Rattle.schema.proofs.Known.{typed-whole, typed-shape, same-size, same-node}
 use Rattle.array_data.specs.Tables.{Tables, lengthOf, offsetOf}
 use Rattle.array_data.specs.Typed.{fieldOf, nodeOf, Is, tablesFrom, columnOf, sourceRule}
-use Rattle.array_data.specs.type_tree.Lent.{unionKind, treeOf, typeOf}
+use Rattle.array_data.specs.type_tree.Lent.{treeOf, typeOf}
 use Rattle.array_data.proofs.type_tree.Ids.{field-in}
 use Rattle.array_data.proofs.type_tree.Shaped.{shaped}
 use Rattle.array_data.proofs.type_tree.Lent.{child-same, formed}
@@ -28,6 +28,7 @@ use Rattle.refinement.proofs.plan_is_type.Worded.{planted-worded}
 use Rattle.refinement.proofs.plan_is_type.Lent.{lent-at}
 use Rattle.refinement.proofs.plan_is_type.Self.{same-self}
 use Rattle.refinement.proofs.plan_is_type.OneTree.{same-column}
+use Rattle.array_data.proofs.Names.{unionKind}
 
 module _ (formats schema : List ℕ) (first n : ℕ) (plan : List ℕ)
     (t : typed formats schema first n ≡ true) (c : ceilings formats schema first n ≡ true) (p : Planted plan formats schema first n)

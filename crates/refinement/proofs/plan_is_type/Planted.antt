@@ -15,11 +15,10 @@ use Rattle.schema.proofs.Trees.{child-inside, children-end, end-after, end-insi
 use Rattle.schema.proofs.Depth.{nested, child-before}
 use Rattle.schema.proofs.Known.{typed-whole, typed-shape, within-nodes, within-fields}
 use Rattle.array_data.specs.Typed.{NodeKind, fixedNode, stringNode, viewNode, listViewNode, listNode, sparseNode, denseNode, runEndNode, dictionaryNode, fieldOf, nodeOf}
-use Rattle.array_data.specs.type_tree.Lent.{unionKind, kindAt, treeOf}
+use Rattle.array_data.specs.type_tree.Lent.{kindAt, treeOf}
 use Rattle.array_data.proofs.type_tree.Ids.{cond-yes, cond-no, field-in}
 use Rattle.array_data.proofs.type_tree.Shaped.{Shaped, of-plain, of-view, of-list, of-lists, of-sparse, of-dense, of-run, of-dictionary, shaped}
 use Rattle.array_data.proofs.type_tree.Lent.{child-same, first-child}
-use Rattle.array_data.specs.node_words.Words.{childId}
 use Rattle.array_data.proofs.node_words.Laws.{zeroth, first-word, second-word, third-word, fourth-word}
 use Rattle.walk.specs.State.{word, dictionaryOf, idOf, nullableOf}
 use Rattle.walk.specs.Copy.{childWith}
@@ -27,6 +26,8 @@ use Rattle.refinement.specs.walk_is_model.Holds.{childOf, Fields}
 use Rattle.refinement.specs.plan_is_type.Planted.{Planted}
 use Rattle.refinement.proofs.plan_is_type.Codes.{Coded, small-code, shape-admitted, code-of, union-ids, union-code}
 use Rattle.refinement.proofs.plan_is_type.Children.{behind-first, rise, child-id}
+use Rattle.array_data.proofs.Names.{unionKind}
+use Rattle.array_data.specs.node_words.Words.{childId}
 
 small-ids : (ids : List ℕ) → Ids ids → (c : ℕ) → List·Memᴰ c ids → c < 128
 small-ids (d ∷ ds) h c (List·Memᴰ·head e) = omega (arith, h .0)

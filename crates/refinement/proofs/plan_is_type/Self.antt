@@ -7,7 +7,7 @@ use Prim.Native.Nat.{ℕ, suc, _≤_}
 use native.Mathlib.Omega.{arith}
 use lib.Dec.{eqb}
 use borrow.Author.Tests.{eq-eqb, ne-eqb}
-use Rattle.schema.specs.formats.Code.{same, isInteger, isFixed, isString, isView, isListView, isList, isUnion, isRunEnd}
+use Rattle.schema.specs.formats.Code.{isInteger, isFixed, isString, isView, isListView, isList, isUnion, isRunEnd}
 use Rattle.schema.specs.union_ids.Ids.{sameIds}
 use Rattle.schema.specs.Tree.{flag, children, dictionary, bare, childForEach, isValues, codeOf, idsOf, valuesShape, endsShape, leafShape, keysShape, listShape, unionShape, runShape, shape, typed, sameFlag, sameFormats, sameNode, sameType}
 use Rattle.schema.proofs.Laws.{all-same}
@@ -15,6 +15,7 @@ use Rattle.schema.proofs.Known.{typed-shape}
 use Rattle.array_data.proofs.type_tree.Ids.{both}
 use Rattle.array_data.proofs.type_tree.Shaped.{five}
 use Rattle.refinement.proofs.plan_is_type.Codes.{between-low, between-top, low-code, shape-admitted}
+use Rattle.columnar.specs.Test.{same}
 
 list-self : (a : List ℕ) → same a a ≡ true
 list-self [] = refl

@@ -16,8 +16,8 @@ use Rattle.columnar.specs.Array.{ok, item, Mask}
 use Rattle.columnar.specs.Reading.{Column, masks}
 use Rattle.model.specs.Try.{Try, done, then, after, stepsT}
 use Rattle.model.specs.Mutable.{extendNode, nullsNode}
-use Rattle.model.specs.Unions.{atChild, denseRow, positionsFrom}
-use Rattle.model.specs.Transform.{Grown, Destination, extendData, nullsData}
+use Rattle.model.specs.Unions.{atChild, denseRow}
+use Rattle.model.specs.Transform.{Grown, Destination, extendData}
 use Rattle.model.proofs.Nodes.{fineOf}
 use Rattle.walk.specs.State.{Join, codeOf, endOf, idOf, rows, place, rowsIn}
 use Rattle.walk.specs.Log.{Out, put, wrote, next, need, found, each}
@@ -34,6 +34,7 @@ use Rattle.refinement.proofs.walk_is_model.UnionHome.{goes-home}
 use Rattle.refinement.proofs.walk_is_model.Places.{small-of}
 use Rattle.refinement.proofs.walk_is_model.UnionParts.{part-byte, part-entry, part-rows, counted-positions}
 use Rattle.refinement.proofs.walk_is_model.UnionOwn.{Left, put-own, put-else, Own, own-put, own-then, own-kept, data-kept-then, child-field, kids-held}
+use Rattle.model.proofs.Names.{positionsFrom, nullsData}
 
 -- rows one after the other, n of N
 goes-rows : {A : Type 0} (base N : ℕ) (f : ℕ → A → Try A) (k : ℕ → List ℕ → Out) (I : ℕ → A → List ℕ → Memory → Type 0)

@@ -11,7 +11,8 @@ use Rattle.columnar.specs.View.{viewOf}
 use Rattle.utils.specs.Pieces.{pieces}
 use Rattle.utils.specs.Offsets.{repeated}
 use Rattle.utils.proofs.Pieces.{pieces-same}
-use Rattle.model.specs.Primitive.{newKeys, newViews, reindexed}
+use Rattle.model.specs.Primitive.{newViews, reindexed}
+use Rattle.model.proofs.Names.{newKeys}
 
 -- the first entry before the others
 pub pieces-first : (f : ℕ → List ℕ) (n : ℕ) → pieces f (suc n) ≡ f 0 ++ pieces (λ k. f (suc k)) n
@@ -40,7 +41,7 @@ unfolding pieces
 encodes-pieces w f a zero = refl
 encodes-pieces w f a (suc n) = ap (encode w (f a) ++_) (encodes-pieces w f (suc a) n) ∙ sym (next-first (λ j. encode w (f j)) a n)
 
-pub repeated-pieces : (w v n : ℕ) → Rattle.model.specs.Primitive.repeated w v n ≡ repeated w v n
+pub repeated-pieces : (w v n : ℕ) → Rattle.model.proofs.Names.repeated w v n ≡ repeated w v n
 unfolding repeated pieces
 repeated-pieces w v zero = refl
 repeated-pieces w v (suc n) = ap (encode w v ++_) (repeated-pieces w v n) ∙ sym (pieces-first (λ k. encode w v) n)

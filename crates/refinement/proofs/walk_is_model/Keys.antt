@@ -14,7 +14,6 @@ use Rattle.columnar.specs.Reading.{Column}
 use Rattle.columnar.proofs.Items.{entry-end}
 use Rattle.utils.proofs.Pieces.{pieces-same}
 use Rattle.utils.specs.primitive.Primitive.{rebased}
-use Rattle.model.specs.Primitive.{newKeys}
 use Rattle.walk.specs.State.{Join, dictionaryOf, endOf, rows, place, rowsIn}
 use Rattle.walk.specs.Copy.{Walk, copyData}
 use Rattle.walk.specs.Nulls.{NullWalk, nullData}
@@ -25,6 +24,7 @@ use Rattle.refinement.proofs.walk_is_model.Owed.{Given, CopiesData, Fil
 use Rattle.refinement.proofs.walk_is_model.Parts.{part-length, part-entry, rows-in}
 use Rattle.refinement.proofs.walk_is_model.Entries.{keys-pieces}
 use Rattle.refinement.proofs.walk_is_model.Writes.{first-grows}
+use Rattle.model.proofs.Names.{newKeys}
 
 -- keys read of the body are those of the buffer
 rebased-is : {body : List ℕ} {at size : ℕ} {s : List ℕ} (w base slot n : ℕ) → Part body at size s → (slot + n) * w ≤ length s

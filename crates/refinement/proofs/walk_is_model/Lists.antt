@@ -26,7 +26,7 @@ use Rattle.model.proofs.Nodes.{ListsFine, fineOf}
 use Rattle.model.proofs.TextLaw.{new-offsets}
 use Rattle.walk.specs.State.{Join, far, codeOf, bytesOf, endOf, rows, place, rowsIn}
 use Rattle.walk.specs.Log.{put, wrote, need, fail}
-use Rattle.walk.specs.Copy.{Walk, copyData, copyList, putList, putStretch}
+use Rattle.walk.specs.Copy.{Walk, copyData, copyList, putStretch}
 use Rattle.walk.specs.Nulls.{NullWalk, nullData, nullList}
 use Rattle.refinement.specs.walk_is_model.Memory.{Memory, putIn}
 use Rattle.refinement.specs.walk_is_model.Holds.{HoldsData, Holds}
@@ -38,6 +38,7 @@ use Rattle.refinement.proofs.walk_is_model.Places.{data-kept-refl, put-
 use Rattle.refinement.proofs.walk_is_model.Parts.{rows-in}
 use Rattle.refinement.proofs.walk_is_model.Offsets.{Rows, rows-of, first-is, first-below, never-falls, last-is, new-are}
 use Rattle.refinement.proofs.walk_is_model.Entries.{repeated-pieces}
+use Rattle.walk.proofs.Names.{putList}
 
 -- the first buffer of a node written, then what is below it
 put-kept : (i : ℕ) (ps : List ℕ) (μ : Memory) (e : ℕ) (c c′ : List ℕ) (ν : Memory) → i < e → Kept (suc i) e c c′ (putIn i 1 ps μ) ν → DataKept i e c c′ μ ν

@@ -15,7 +15,7 @@ use Rattle.bits.proofs.Laws.{length-bits, below-at, below-bits}
 use Rattle.columnar.specs.Row.{seg}
 use Rattle.columnar.specs.Array.{bit, ok, Mask}
 use Rattle.row_rules.proofs.slots.Tests.{valid-part}
-use Rattle.model.specs.Mutable.{zeros, grow, counted}
+use Rattle.model.specs.Mutable.{zeros, grow}
 use Rattle.model.proofs.Law.{BitsFor}
 use Rattle.model.proofs.Bits.{length-seg, zeros-replicate}
 use Rattle.walk.specs.State.{Join, keepsOf, rows, nulls, bytes, top, addNulls, place}
@@ -26,6 +26,7 @@ use Rattle.refinement.specs.walk_is_model.Holds.{flag, HoldsBits}
 use Rattle.refinement.specs.walk_is_model.Lent.{Part, LentValid}
 use Rattle.refinement.proofs.walk_is_model.Goes.{Quiet, quiet-done, quiet-wrote, quiet-then, quiet-need}
 use Rattle.refinement.proofs.walk_is_model.Counters.{grown-is, nulls-added, nulls-other, rows-of-nulls, bytes-of-nulls, long-nulls}
+use Rattle.model.proofs.Names.{counted}
 
 -- ---- bits as numbers
 

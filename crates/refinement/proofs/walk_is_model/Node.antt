@@ -14,8 +14,8 @@ use Rattle.columnar.specs.Types.{Plain, fixed, string, Ty, tPlain, tView, tList
 use Rattle.columnar.specs.Array.{Array, ok, Mask}
 use Rattle.columnar.specs.Reading.{Column, masks, Source}
 use Rattle.schema.specs.formats.Code.{between, isFixed, isString, isView, isListView}
-use Rattle.model.specs.Mutable.{Mutable, zeros, grow, counted, extendNode, nullsNode}
-use Rattle.model.specs.Transform.{Grown, Destination, extendData, nullsData}
+use Rattle.model.specs.Mutable.{Mutable, zeros, grow, extendNode, nullsNode}
+use Rattle.model.specs.Transform.{Grown, Destination, extendData}
 use Rattle.model.proofs.Law.{Fine, BitsFor, FineNode, KeepNode}
 use Rattle.model.proofs.Bits.{length-seg}
 use Rattle.model.proofs.Nodes.{kindOf, keepOf}
@@ -32,6 +32,7 @@ use Rattle.refinement.proofs.walk_is_model.Frame.{SameAt, same-then, Ke
 use Rattle.refinement.proofs.walk_is_model.Counters.{grown-is, rows-added, rows-other, nulls-of-rows, bytes-of-rows, long-rows}
 use Rattle.refinement.proofs.walk_is_model.Mask.{Masked, zeros-few, copy-mask, copy-none, null-mask, count-nulls}
 use Rattle.refinement.proofs.walk_is_model.Owed.{DataKept, Given, Copies, CopiesData, Fills, FillsData}
+use Rattle.model.proofs.Names.{nullsData, counted}
 
 -- ---- what the words of a node say
 

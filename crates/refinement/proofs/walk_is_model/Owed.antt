@@ -8,7 +8,7 @@ use Rattle.columnar.specs.Array.{Array}
 use Rattle.columnar.specs.Formed.{Formed}
 use Rattle.columnar.specs.Reading.{Column, masks, Source}
 use Rattle.model.specs.Mutable.{Mutable, extendNode, nullsNode}
-use Rattle.model.specs.Transform.{Grown, Destination, extendData, nullsData}
+use Rattle.model.specs.Transform.{Grown, Destination, extendData}
 use Rattle.model.proofs.Law.{Law, KeepNode, Fine}
 use Rattle.model.proofs.Nodes.{kindOf, keepOf}
 use Rattle.walk.specs.State.{Join, codeOf, endOf, rows, nulls, top, far}
@@ -19,6 +19,7 @@ use Rattle.refinement.specs.walk_is_model.Holds.{Worded, HoldsData, Hold
 use Rattle.refinement.specs.walk_is_model.Lent.{Lent, Based}
 use Rattle.refinement.proofs.walk_is_model.Goes.{Goes}
 use Rattle.refinement.proofs.walk_is_model.Frame.{SameAt, Kept}
+use Rattle.model.proofs.Names.{nullsData}
 
 -- the data of node i may be changed, and the nodes below it up to e
 pub record DataKept (i e : ℕ) (c c′ : List ℕ) (μ μ′ : Memory) : Type 0 where

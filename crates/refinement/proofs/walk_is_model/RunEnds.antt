@@ -19,8 +19,8 @@ use Rattle.model.specs.Try.{done, then, guard}
 use Rattle.model.specs.Mutable.{freezeNode, nullsNode}
 use Rattle.model.specs.Ordered.{nullRow}
 use Rattle.model.specs.Grounds.{firstRun, runCount}
-use Rattle.model.specs.Runs.{Runs, lastEnd, clipped, moreEnds, overEnd}
-use Rattle.model.specs.Transform.{Grown, Destination, extendData, nullsData, freezeData}
+use Rattle.model.specs.Runs.{Runs, lastEnd, moreEnds, overEnd}
+use Rattle.model.specs.Transform.{Grown, Destination, extendData, freezeData}
 use Rattle.model.proofs.Law.{FineNode, KeepNode}
 use Rattle.model.proofs.Nodes.{RunsFine, fineOf, keepOf}
 use Rattle.model.proofs.Ends.{clip, clip-ends, in-order, last-run}
@@ -37,6 +37,7 @@ use Rattle.refinement.proofs.walk_is_model.Owed.{DataKept, Given, Copie
 use Rattle.refinement.proofs.walk_is_model.Places.{data-kept-refl, part-entry, rows-in, put-here, put-other, amend-here, amend-other, worded-small, small-of, width-small, half-far}
 use Rattle.refinement.proofs.walk_is_model.Writes.{goes-write}
 use Rattle.refinement.proofs.walk_is_model.RunLookups.{many-rows, runs-are, clipped-is}
+use Rattle.model.proofs.Names.{clipped, nullsData}
 
 -- entries a on
 entry-from : (w : ℕ) (s : List ℕ) (from a k : ℕ) → entry w s (from + w * a) k ≡ entry w s from (a + k)

@@ -15,8 +15,8 @@ use Rattle.run_ends.specs.declared.Runs.{Runs}
 use Rattle.run_ends.specs.declared.Runs.the-variants.{Range}
 use Rattle.run_ends.proofs.Search.{first-is, quarter-first}
 use Rattle.run_ends.proofs.Laws.{short-cut}
-use Rattle.model.specs.Runs.{clipped}
 use Rattle.model.proofs.Ends.{First, Last, Many, in-order, last-run}
+use Rattle.model.proofs.Names.{clipped}
 
 -- ---- ends that rise
 

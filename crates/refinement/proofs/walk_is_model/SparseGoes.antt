@@ -11,7 +11,7 @@ use Rattle.columnar.specs.Reading.{Column, masks}
 use Rattle.model.specs.Try.{Try, after}
 use Rattle.model.specs.Mutable.{extendNode, nullsNode}
 use Rattle.model.specs.Unions.{sparseWith}
-use Rattle.model.specs.Transform.{Grown, Destination, extendData, nullsData}
+use Rattle.model.specs.Transform.{Grown, Destination, extendData}
 use Rattle.walk.specs.State.{Join, codeOf, endOf, idOf, rows, place, rowsIn}
 use Rattle.walk.specs.Log.{Out, put, wrote, next, need, found}
 use Rattle.walk.specs.Copy.{Walk, copyData, copySparse}
@@ -24,6 +24,7 @@ use Rattle.refinement.proofs.walk_is_model.UnionFields.{visit, copy-vis
 use Rattle.refinement.proofs.walk_is_model.UnionHome.{goes-home}
 use Rattle.refinement.proofs.walk_is_model.UnionParts.{part-cut, part-rows}
 use Rattle.refinement.proofs.walk_is_model.UnionOwn.{Left, put-own, own-put, own-kept, child-field, kids-held}
+use Rattle.model.proofs.Names.{nullsData}
 
 sparse-copy-is : (x : Join) (inner : Walk) (i slot n : ℕ) (c : List ℕ) → codeOf (x .plan) i ≡ 21
     → copyData x inner (codeOf (x .plan) i) i slot n c

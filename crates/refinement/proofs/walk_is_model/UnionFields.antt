@@ -15,12 +15,13 @@ use Rattle.model.specs.Transform.{Destination}
 use Rattle.model.proofs.Agree.{Agrees, both, neither}
 use Rattle.walk.specs.State.{Join, endOf, idOf}
 use Rattle.walk.specs.Log.{Out, next}
-use Rattle.walk.specs.Copy.{Walk, childWith, copyFields}
-use Rattle.walk.specs.Nulls.{NullWalk, nullFields}
+use Rattle.walk.specs.Copy.{Walk, childWith, eachField}
+use Rattle.walk.specs.Nulls.{NullWalk}
 use Rattle.refinement.specs.walk_is_model.Memory.{Memory}
 use Rattle.refinement.specs.walk_is_model.Holds.{Fields, Worded, Holds}
 use Rattle.refinement.proofs.walk_is_model.Goes.{Goes, good, over, goes-done, goes-map, goes-then}
 use Rattle.refinement.proofs.walk_is_model.Frame.{Kept, kept-refl, kept-then, kept-wide, field-of, held-same}
+use Rattle.walk.proofs.Names.{copyFields, nullFields}
 
 -- ---- rules
 
@@ -48,13 +49,13 @@ visit plan step end zero k c = Rattle.walk.specs.Log.done c
 visit plan step end (suc f) k c = cond (ltb k end) (next (step k c) (λ c2. visit plan step end f (endOf plan k) c2)) (Rattle.walk.specs.Log.done c)
 
 pub copy-visits : (x : Join) (child : Walk) (slot n end f k : ℕ) (c : List ℕ) → copyFields x child slot n end f k c ≡ visit (x .plan) (λ k c. child k slot n c) end f k c
-unfolding copyFields visit
+unfolding eachField visit
 copy-visits x child slot n end zero k c = refl
 copy-visits x child slot n end (suc f) k c =
     ap (λ z. cond (ltb k end) (next (child k slot n c) z) (Rattle.walk.specs.Log.done c)) (fun-ext (λ c2. copy-visits x child slot n end f (endOf (x .plan) k) c2))
 
 pub null-visits : (x : Join) (child : NullWalk) (n end f k : ℕ) (c : List ℕ) → nullFields x child n end f k c ≡ visit (x .plan) (λ k c. child k n c) end f k c
-unfolding nullFields visit
+unfolding eachField visit
 null-visits x child n end zero k c = refl
 null-visits x child n end (suc f) k c =
     ap (λ z. cond (ltb k end) (next (child k n c) z) (Rattle.walk.specs.Log.done c)) (fun-ext (λ c2. null-visits x child n end f (endOf (x .plan) k) c2))

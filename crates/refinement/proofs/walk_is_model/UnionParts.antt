@@ -13,13 +13,13 @@ use Rattle.number.proofs.Laws.{encode-mod}
 use Rattle.columnar.specs.Types.{Ty, tPlain, tView, tListView, tSparse, tDense, tRunEnd, tDictionary}
 use Rattle.columnar.specs.Array.{item}
 use Rattle.columnar.proofs.Items.{number-take}
-use Rattle.model.specs.Unions.{positionsFrom}
 use Rattle.model.proofs.Pieces.{cut-cut}
 use Rattle.utils.specs.Pieces.{pieces}
 use Rattle.utils.specs.Offsets.{countedUp}
 use Rattle.utils.proofs.Pieces.{pieces-same}
 use Rattle.walk.specs.State.{Join, far, rowsIn}
 use Rattle.refinement.specs.walk_is_model.Lent.{Part}
+use Rattle.model.proofs.Names.{positionsFrom}
 
 module _ (body : List ℕ) (at size : ℕ) (s : List ℕ) (part : Part body at size s) where
   pub part-size : length s ≡ size

@@ -16,7 +16,7 @@ use Rattle.columnar.specs.View.{viewOf}
 use Rattle.columnar.specs.Reading.{Column}
 use Rattle.columnar.proofs.Items.{number-take}
 use Rattle.utils.proofs.Pieces.{pieces-same}
-use Rattle.utils.specs.byte_view.View.{pickBytes, reviewedOne, reviewed}
+use Rattle.utils.specs.byte_view.View.{reviewedOne, reviewed}
 use Rattle.model.specs.Primitive.{newViews, reindexed}
 use Rattle.walk.specs.State.{Join, codeOf, endOf, rows, place, rowsIn}
 use Rattle.walk.specs.Copy.{Walk, copyData}
@@ -45,7 +45,7 @@ reviewed-one s base = rw (number-take 4 16 s (omega arith)) (go (leb (number 4 s
     index = ap (number 4) (drop-cut 8 8 s) ∙ number-take 4 8 (drop 8 s) (omega arith)
 
     go : (b : Bool) → leb (number 4 s) 12 ≡ b
-        → pickBytes (ltb 12 (number 4 s)) (take 8 s ++ encode 4 ((number 4 (drop 8 s) + base) % 256 ^ 4) ++ take 4 (drop 12 s)) (take 16 s)
+        → cond (ltb 12 (number 4 s)) (take 8 s ++ encode 4 ((number 4 (drop 8 s) + base) % 256 ^ 4) ++ take 4 (drop 12 s)) (take 16 s)
         ≡ cond b (take 16 s) (take 8 (take 16 s) ++ encode 4 (number 4 (drop 8 (take 16 s)) + base) ++ drop 12 (take 16 s))
     go true e = rw (le-ltb 12 (number 4 s) (leb-true _ _ e))
     go false e =

@@ -6,7 +6,7 @@ use Prim.Native.Nat.{ℕ, zero, suc, _+_, _*_, _/_, _%_, min}
 use lib.ListN.{length, getD}
 use lib.Dec.{leb, ltb, eqb}
 use Rattle.bits.specs.Bits.{bitsAt, zeros}
-use Rattle.columnar.specs.Row.{seg}
+use Rattle.columnar.specs.Row.{seg, sum}
 use Rattle.columnar.specs.Array.{nullCount}
 use Rattle.columnar.specs.Test.{every}
 use Rattle.schema.specs.formats.Code.{isView}
@@ -69,13 +69,11 @@ module _ (x : Lent) (buffers counters room : List ℕ) (base : ℕ) where
 
   -- how many the first s sources have at node i
   unfoldable pub buffersOf : ℕ → ℕ → ℕ
-  buffersOf i zero = 0
-  buffersOf i (suc s) = buffersOf i s + dataCount i s
+  buffersOf i s = sum (dataCount i) s
 
   -- how many the view nodes before node i have
   unfoldable pub buffersBefore : ℕ → ℕ
-  buffersBefore zero = 0
-  buffersBefore (suc i) = buffersBefore i + cond (isView (codeOf (x .plan) i)) (buffersOf i sources) 0
+  buffersBefore i = sum (λ k. cond (isView (codeOf (x .plan) k)) (buffersOf k sources) 0) i
 
   -- their numbers, 2 each
   unfoldable pub buffersFrom : ℕ → ℕ → List ℕ

@@ -1,22 +1,21 @@
 -- What an opening comes to on lent memory: the ground, and the plan, the counters and the room after it. Assumes nothing.
 -- `try_with_capacities` of arrow-data 60.1.0 src/transform/mod.rs, Apache-2.0; see NOTICE.
 use mathlib.Core.Bool.{Bool, false, cond, _&&_}
-use mathlib.Core.Option.{Option, none, some}
 use mathlib.Core.List.{List}
 use Prim.Native.Nat.{ℕ, suc, _+_}
 use lib.ListN.{length, getD, replicate}
 use lib.Dec.{leb, eqb}
 use Rattle.number.specs.Number.{encode}
-use Rattle.columnar.specs.Types.{Number}
+use Rattle.columnar.specs.Types.{Number, keyFits}
 use Rattle.columnar.specs.Test.{every}
 use Rattle.schema.specs.formats.Code.{isInteger, isRunEnd}
 use Rattle.schema.specs.formats.Types.{numberOf}
 use Rattle.array_data.specs.Tables.{Tables}
+use Rattle.array_data.specs.type_tree.Lent.{numberOr}
 use Rattle.walk.specs.State.{word, codeOf, dictionaryOf, bytesOf, baseOf, setBytes, lengthOf, top}
 use Rattle.walk.specs.Log.{Out, put, done, wrote, need, next, each, apply}
 use Rattle.walk.specs.Copy.{copyWalk}
 use Rattle.columns.specs.Grounds.{ceiling, sourcesGround}
-use Rattle.plan.specs.dictionaries.Sources.{keyFits}
 use Rattle.plan.specs.parts.Parts.{nodesOf, copied, hasOffsets, partTotal, partsPlaced, partsHold}
 use Rattle.plan.specs.Plan.{planned}
 use Rattle.refinement.specs.orders.Order.{Lent, joinOf, sourceCount}
@@ -59,14 +58,9 @@ module _ (x : Lent) where
   abbrev pub keyHolds : Number → ℕ → ℕ → Bool
   keyHolds k i s = keyFits k (baseOf (x .plan) s i) (lengthOf (joinOf x s) (suc i))
 
-  -- .. of every source
-  abbrev pub keysOf : ℕ → Option Number → Bool
-  keysOf i none = false
-  keysOf i (some k) = every (keyHolds k i) (sourceCount (x .plan))
-
   -- "8 for a dictionary, (start + entries − 1, at least 0) or start does not fit the key"
   unfoldable pub keysHold : ℕ → Bool
-  keysHold i = isInteger (codeOf (x .plan) i) && keysOf i (numberOf (codeOf (x .plan) i))
+  keysHold i = isInteger (codeOf (x .plan) i) && every (keyHolds (numberOr (numberOf (codeOf (x .plan) i))) i) (sourceCount (x .plan))
 
   -- a dictionary whose keys are node i: joined where it is not shared, then 8
   unfoldable pub openDictionary : ℕ → List ℕ → Out

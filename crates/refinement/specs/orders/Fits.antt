@@ -2,7 +2,7 @@
 -- dropped later included"). Assumes nothing.
 use mathlib.Core.Bool.{Bool, true, cond, _&&_}
 use mathlib.Core.Option.{Option}
-use mathlib.Core.List.{List, [], _∷_, _++_}
+use mathlib.Core.List.{List, [], _∷_, _++_, foldl}
 use Prim.Native.Nat.{ℕ, suc, _+_, _/_}
 use lib.ListN.{length}
 use lib.Dec.{leb}
@@ -71,8 +71,7 @@ module _ (plan parts : List ℕ) where
 
     -- any list of calls; a refused one changes nothing
     abbrev pub answersIn : List Call → Destination t → Destination t
-    answersIn [] d = d
-    answersIn (o ∷ os) d = answersIn os (after (answerIn o d) d)
+    answersIn os d = foldl (λ e o. after (answerIn o e) e) d os
 
     -- the book of the calls that are accepted here
     abbrev pub bookIn : Bool → List Call → Destination t → List Row

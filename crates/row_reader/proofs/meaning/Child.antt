@@ -12,12 +12,12 @@ use Rattle.schema.specs.Tree.{dictionary, below, endOf, childAt, whole, codeOf,
 use Rattle.schema.proofs.Trees.{end-after, child-inside, children-end}
 use Rattle.schema.proofs.Depth.{nested, child-before}
 use Rattle.array_data.specs.Typed.{fieldOf}
-use Rattle.array_data.specs.type_tree.Lent.{idsOr}
-use Rattle.array_data.specs.node_words.Words.{word, idFrom, idUnder, idBelow, childId, wordOf, planted}
+use Rattle.array_data.specs.node_words.Words.{word, idFrom, idBelow, wordOf, planted, idUnder, childId}
 use Rattle.array_data.proofs.node_words.Laws.{zeroth, first-word, second-word, third-word, holds, holds-not}
 use Rattle.row_reader.specs.declared.Child.{Child}
 use Rattle.row_reader.specs.declared.Child.the-variants as child
 use Rattle.row_reader.specs.Walk.{endWord, childFrom, childOf}
+use Rattle.array_data.proofs.Names.{idsOr}
 
 -- ---- words
 

@@ -26,7 +26,7 @@ use Rattle.schema.proofs.Known.{typed-whole, within-nodes, within-depth}
 use Rattle.array_data.specs.Tables.{Tables, lengthOf, offsetOf, place, validOf, firstBuffer, secondBuffer, arrayWith, held, validIn, inBody}
 use Rattle.array_data.specs.Rules.{oneIn, buffersIn}
 use Rattle.array_data.specs.Typed.{NodeKind, fixedNode, stringNode, viewNode, listViewNode, listNode, sparseNode, denseNode, runEndNode, dictionaryNode, fieldOf, nodeOf, bodyOf, columnOf, kindRule, nodeRule, sourceRule, tablesFrom}
-use Rattle.array_data.specs.type_tree.Lent.{idsOr, kindAt, treeOf, plainAs, tyAs, tyOf, typeOf}
+use Rattle.array_data.specs.type_tree.Lent.{kindAt, treeOf, plainAs, tyAs, tyOf, typeOf}
 use Rattle.array_data.proofs.type_tree.Ids.{field-in}
 use Rattle.array_data.proofs.type_tree.Lent.{child-same, first-child, second-child, some-node, root}
 use Rattle.array_data.proofs.type_tree.Shaped.{Shaped, of-plain, of-view, of-list, of-lists, of-sparse, of-dense, of-run, of-dictionary, plainKind}
@@ -49,6 +49,7 @@ use Rattle.row_reader.proofs.meaning.Words.{plainer, ids-few, sparse-id
 use Rattle.row_reader.proofs.meaning.Slots.{Gives, wide, number-sized, offset-sized, offset-wide, entry-slot, number-gives, stored-gives, list-rows, string-gives, entry-gives, valid-known}
 use Rattle.row_reader.proofs.meaning.Views.{view-gives}
 use Rattle.row_reader.proofs.meaning.Runs.{ran-is, ran-below}
+use Rattle.array_data.proofs.Names.{idsOr}
 
 is-true : (b : Bool) → T b → b ≡ true
 is-true true h = refl

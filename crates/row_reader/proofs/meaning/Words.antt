@@ -10,7 +10,7 @@ use lib.Dec.{leb, eqb}
 use borrow.Author.Tests.{le-leb, leb-true, leb-false}
 use Rattle.columnar.specs.Types.{i8, Number, Plain, fixed, string}
 use Rattle.schema.specs.formats.Code as code
-use Rattle.schema.specs.formats.Code.{Rule, is, begins, same, look, table, lastCode, isFixed, isString, isView, isListView, isList, isUnion, isSparse, isRunEnd, widthOf}
+use Rattle.schema.specs.formats.Code.{Rule, is, begins, look, table, lastCode, isFixed, isString, isView, isListView, isList, isUnion, isSparse, isRunEnd, widthOf}
 use Rattle.schema.specs.formats.Types.{numberOf}
 use Rattle.schema.specs.union_ids.Ids.{idsAt}
 use Rattle.schema.proofs.union_ids.Same.{Fine, fine}
@@ -18,12 +18,14 @@ use Rattle.schema.specs.Tree.{field, dictionary, below, endOf, childAt, whole, 
 use Rattle.schema.proofs.Trees.{child-inside}
 use Rattle.schema.proofs.Known.{typed-whole, typed-shape, within-nodes}
 use Rattle.array_data.specs.Typed.{NodeKind, fixedNode, stringNode, viewNode, listViewNode, listNode, sparseNode, denseNode, runEndNode, dictionaryNode}
-use Rattle.array_data.specs.type_tree.Lent.{numberOr, idsOr, numberKind, unionKind, kindOf, kindAt}
+use Rattle.array_data.specs.type_tree.Lent.{numberOr, kindOf, kindAt}
 use Rattle.array_data.proofs.type_tree.Lent.{first-child}
 use Rattle.array_data.proofs.type_tree.Shaped.{Shaped, of-plain, of-view, of-list, of-lists, of-sparse, of-dense, of-run, of-dictionary, shaped, at-run, plainKind}
 use Rattle.array_data.specs.node_words.Words.{word}
 use Rattle.slot_reader.specs.Slots.{codeWord, known, kindWord}
 use Rattle.row_reader.proofs.meaning.Child.{words, word-code, word-dictionary}
+use Rattle.columnar.specs.Test.{same}
+use Rattle.array_data.proofs.Names.{idsOr, numberKind, unionKind}
 
 -- ---- codes are at most the last
 
@@ -157,7 +159,7 @@ module _ (formats schema : List ℕ) (first n : ℕ) where
   code-low i =
       let at = field schema (first + i) 0 in
       let len = field schema (first + i) 1 in
-      cond-le (code.inside (length formats) at len) (code.codeOf (take len (drop at formats))) 0 lastCode (text-low (take len (drop at formats))) (omega arith)
+      cond-le (leb (at + len) (length formats)) (code.codeOf (take len (drop at formats))) 0 lastCode (text-low (take len (drop at formats))) (omega arith)
 
   pub ids-few : (i : ℕ) → length (idsOr (idsOf formats schema first i)) ≤ 16
   unfolding idsOf

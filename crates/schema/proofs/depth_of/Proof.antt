@@ -4,9 +4,10 @@ use mathlib.Core.Path.{_≡_, refl, _∙_}
 use mathlib.Core.Logic.{⊎-elim}
 use native.Mathlib.Omega.{arith}
 use lib.Dec.{ltb}
-use Rattle.schema.specs.Tree.{count, endOf}
+use Rattle.schema.specs.Tree.{endOf}
 use Rattle.schema.proofs.Laws.{depth-in, depth-out, depth-all}
 use Rattle.schema.proofs.depth_of.Statement.{statement}
+use Rattle.schema.proofs.Counts.{count}
 use Rattle.schema.proofs.depth_of.Tie as tie
 
 abbrev Inv-loop : tie.InvT-loop
@@ -16,7 +17,6 @@ abbrev μ-loop : tie.MeasureT-loop
 μ-loop schema first n i d₀ j₀ d j = i - j
 
 loop-holds : tie.Need-loop-holds Inv-loop μ-loop
-unfolding count
 loop-holds c = (omega arith, omega arith, refl)
 
 end-of-requires : tie.Need-end-of-requires Inv-loop μ-loop

@@ -3,11 +3,13 @@ use mathlib.Core.Path.{_≡_, refl}
 use mathlib.Core.List.{[], _∷_}
 use mathlib.Core.Option.{none, some}
 use Rattle.schema.specs.formats.Code.{codeOf}
-use Rattle.schema.specs.union_ids.Ids.{pieces, digits, decimal, idOf, member, distinct, small, allowed, idsOf}
+use Rattle.schema.specs.union_ids.Ids.{pieces, decimal, idOf, distinct, allowed, idsOf}
+use Rattle.columnar.specs.Test.{member}
+use Rattle.schema.proofs.union_ids.Laws.{small}
 
 -- K12: +ud:5,7
 pub k12 : idsOf (43 ∷ 117 ∷ 100 ∷ 58 ∷ 53 ∷ 44 ∷ 55 ∷ []) ≡ some (5 ∷ 7 ∷ [])
-unfolding codeOf pieces digits decimal idOf member distinct small allowed
+unfolding codeOf pieces decimal idOf distinct allowed
 k12 = refl
 
 -- +us:
@@ -17,22 +19,22 @@ no-field = refl
 
 -- +us:0,127
 pub ends : idsOf (43 ∷ 117 ∷ 115 ∷ 58 ∷ 48 ∷ 44 ∷ 49 ∷ 50 ∷ 55 ∷ []) ≡ some (0 ∷ 127 ∷ [])
-unfolding codeOf pieces digits decimal idOf member distinct small allowed
+unfolding codeOf pieces decimal idOf distinct allowed
 ends = refl
 
 -- +us:128
 pub too-large : idsOf (43 ∷ 117 ∷ 115 ∷ 58 ∷ 49 ∷ 50 ∷ 56 ∷ []) ≡ none
-unfolding codeOf pieces digits decimal idOf member distinct small allowed
+unfolding codeOf pieces decimal idOf distinct allowed
 too-large = refl
 
 -- +us:1,1
 pub twice : idsOf (43 ∷ 117 ∷ 115 ∷ 58 ∷ 49 ∷ 44 ∷ 49 ∷ []) ≡ none
-unfolding codeOf pieces digits decimal idOf member distinct small allowed
+unfolding codeOf pieces decimal idOf distinct allowed
 twice = refl
 
 -- +us:1,,2
 pub empty-piece : idsOf (43 ∷ 117 ∷ 115 ∷ 58 ∷ 49 ∷ 44 ∷ 44 ∷ 50 ∷ []) ≡ none
-unfolding codeOf pieces digits decimal idOf member distinct small allowed
+unfolding codeOf pieces decimal idOf distinct allowed
 empty-piece = refl
 
 -- +vl

@@ -11,9 +11,10 @@ use lib.ListN.{length, take, drop, getD, length-take, length-drop, drop-of-lengt
 use lib.Seq.{drop-cons, getD-take, getD-drop}
 use lib.Dec.{leb, eqb}
 use borrow.Author.Tests.{le-leb, lt-leb, eq-eqb, ne-eqb, eqb-true, eqb-false, leb-true, not-true}
-use Rattle.schema.specs.formats.Code.{same, between}
-use Rattle.schema.specs.union_ids.Ids.{before, pieces, firstComma, digits, decimal, idOf, member, distinct, small, allowed}
+use Rattle.schema.specs.formats.Code.{between}
+use Rattle.schema.specs.union_ids.Ids.{before, pieces, firstComma, decimal, idOf, distinct, allowed}
 use Rattle.schema.proofs.formats.Laws.{text-1, text-2, text-3}
+use Rattle.columnar.specs.Test.{each, member, same}
 
 -- ---- commas
 
@@ -63,15 +64,15 @@ pieces-last (b ∷ s) h = pieces-last-by b s (eqb b 44) (pieces-last s) h
 -- ---- the number of a piece
 
 pub no-digit-1 : (a b c : ℕ) → between 48 57 a ≡ false → idOf (a ∷ b ∷ c ∷ []) ≡ 128
-unfolding idOf digits
+unfolding idOf
 no-digit-1 a b c h = rw h
 
 pub no-digit-2 : (a b c : ℕ) → between 48 57 b ≡ false → idOf (a ∷ b ∷ c ∷ []) ≡ 128
-unfolding idOf digits
+unfolding idOf
 no-digit-2 a b c h = simp (h, and-false)
 
 pub no-digit-3 : (a b c : ℕ) → between 48 57 c ≡ false → idOf (a ∷ b ∷ c ∷ []) ≡ 128
-unfolding idOf digits
+unfolding idOf
 no-digit-3 a b c h = simp (h, and-false)
 
 pub is-digit : (a : ℕ) → between 48 57 a ≡ true → (48 ≤ a) × (a ≤ 57)
@@ -81,7 +82,7 @@ is-digit a h =
 
 pub three : (a b c : ℕ) → between 48 57 a ≡ true → between 48 57 b ≡ true → between 48 57 c ≡ true
     → idOf (a ∷ b ∷ c ∷ []) ≡ 10 * (10 * (a - 48) + (b - 48)) + (c - 48)
-unfolding idOf digits decimal
+unfolding idOf decimal
 three a b c p q r =
     let e : decimal 0 (a ∷ b ∷ c ∷ []) ≡ 10 * (10 * (a - 48) + (b - 48)) + (c - 48) = omega arith in
     simp (p, q, r) e
@@ -96,11 +97,11 @@ slice-length : (t : List ℕ) (p e : ℕ) → p ≤ e → e ≤ length t → len
 slice-length t p e le h = simp (length-take, length-drop) (omega arith)
 
 one-digit : (x : ℕ) → idOf (x ∷ []) ≡ idOf (48 ∷ 48 ∷ x ∷ [])
-unfolding idOf digits decimal
+unfolding idOf decimal
 one-digit x = refl
 
 two-digits : (x y : ℕ) → idOf (x ∷ y ∷ []) ≡ idOf (48 ∷ x ∷ y ∷ [])
-unfolding idOf digits decimal
+unfolding idOf decimal
 two-digits x y = refl
 
 pub piece-1 : (t : List ℕ) (p e : ℕ) → p ≤ e → e ≤ length t → e - p ≡ 1 → idOf (take (e - p) (drop p t)) ≡ idOf (48 ∷ 48 ∷ getD t p 0 ∷ [])
@@ -137,14 +138,12 @@ no-piece t p e le h a b c = no-id _ (e - p) (slice-length t p e le h) (apart (e 
 -- ---- members, looked at one after the other
 
 pub member-at : (x : ℕ) (l : List ℕ) (k i : ℕ) → i < k → i < length l → x ≡ getD l i 0 → member x (take k l) ≡ true
-unfolding member
 member-at x [] k i h lt e = absurd (omega arith)
 member-at x (y ∷ l) zero i h lt e = absurd (omega arith)
 member-at x (y ∷ l) (suc k) zero h lt e = rw (eq-eqb x y e)
 member-at x (y ∷ l) (suc k) (suc i) h lt e = rw (member-at x l k i (omega arith) (omega arith) e, or-true)
 
 pub member-none : (x : ℕ) (l : List ℕ) (k : ℕ) → k ≤ length l → ((i : ℕ) → i < k → x ≡ getD l i 0 → ⊥) → member x (take k l) ≡ false
-unfolding member
 member-none x l zero h other = refl
 member-none x [] (suc k) h other = absurd (omega arith)
 member-none x (y ∷ l) (suc k) h other =
@@ -169,13 +168,15 @@ same-all (x ∷ a) (y ∷ b) (suc k) la lb h =
 pub both : (a b : Bool) → a && b ≡ true → (a ≡ true) × (b ≡ true)
 both a b h = and-eq-true-iff a b .0 h
 
+-- each is at most 127
+abbrev pub small : List ℕ → Bool
+small ids = each (λ x. leb x 127) ids
+
 pub small-not : (acc : List ℕ) (x : ℕ) (r : List ℕ) → 127 < x → small (acc ++ x ∷ r) ≡ false
-unfolding small
 small-not [] x r h = rw (lt-leb x 127 h)
 small-not (y ∷ acc) x r h = rw (small-not acc x r h, and-false)
 
 pub small-more : (acc : List ℕ) (x : ℕ) → small acc ≡ true → x ≤ 127 → small (acc ++ x ∷ []) ≡ true
-unfolding small
 small-more [] x s h = rw (le-leb x 127 h)
 small-more (y ∷ acc) x s h = let e = both (leb y 127) (small acc) s in rw (e .0, small-more acc x (e .1) h)
 
@@ -184,12 +185,10 @@ member-append-by true u x a b h = refl
 member-append-by false u x a b h = h
 
 member-append : (x : ℕ) (a b : List ℕ) → member x (a ++ b) ≡ (member x a || member x b)
-unfolding member
 member-append x [] b = refl
 member-append x (y ∷ a) b = member-append-by (eqb x y) (member x (a ++ b)) x a b (member-append x a b)
 
 member-self : (x : ℕ) (r : List ℕ) → member x (x ∷ r) ≡ true
-unfolding member
 member-self x r = rw (eq-eqb x x refl)
 
 -- x is y, or is among the rest
@@ -202,7 +201,6 @@ distinct-not-by x y acc r true e h ih =
 distinct-not-by x y acc r false e h ih = rw (ih h, and-false)
 
 pub distinct-not : (acc : List ℕ) (x : ℕ) (r : List ℕ) → member x acc ≡ true → distinct (acc ++ x ∷ r) ≡ false
-unfolding member
 distinct-not [] x r h = absurd (false≢true h)
 distinct-not (y ∷ acc) x r h = distinct-not-by x y acc r (eqb x y) refl h (distinct-not acc x r)
 
@@ -211,12 +209,11 @@ or-rest true b h = absurd (false≢true (sym h))
 or-rest false b h = h
 
 distinct-more-by : (x y : ℕ) (acc : List ℕ) (t : Bool) → eqb x y ≡ t → (t || member x acc) ≡ false → member y acc ≡ false → member y (acc ++ x ∷ []) ≡ false
-unfolding member
 distinct-more-by x y acc true e h m = absurd (false≢true (sym h))
 distinct-more-by x y acc false e h m = member-append y acc (x ∷ []) ∙ rw (m, ne-eqb y x (λ q. eqb-false x y e (sym q)))
 
 pub distinct-more : (acc : List ℕ) (x : ℕ) → distinct acc ≡ true → member x acc ≡ false → distinct (acc ++ x ∷ []) ≡ true
-unfolding member distinct
+unfolding distinct
 distinct-more [] x d h = refl
 distinct-more (y ∷ acc) x d h =
     let e = both (not (member y acc)) (distinct acc) d in

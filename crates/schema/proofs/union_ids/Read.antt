@@ -11,11 +11,12 @@ use lib.Seq.{drop-drop, drop-set-lt, take-suc-set, take-all, take-add, drop-at, 
 use lib.Dec.{leb, ltb, eqb}
 use borrow.Author.Tests.{ltb-true, ltb-false}
 use Rattle.schema.specs.formats.Code.{codeOf, codeAt, isUnion}
-use Rattle.schema.specs.union_ids.Ids.{before, pieces, firstComma, idOf, member, distinct, small, allowed, idList, idsAt, answerOf, written}
+use Rattle.schema.specs.union_ids.Ids.{before, pieces, firstComma, idOf, distinct, allowed, idList, idsAt, answerOf, written}
 use Rattle.schema.specs.declared.union_ids.Ids.{Ids}
 use Rattle.schema.specs.declared.union_ids.Ids.the-variants.{Count, Bad}
 use Rattle.schema.proofs.formats.Laws.{either, union-inside}
-use Rattle.schema.proofs.union_ids.Laws.{comma-le, pieces-comma, pieces-last, small-not, small-more, distinct-not, distinct-more, allowed-small, allowed-distinct, allowed-long, allowed-all}
+use Rattle.schema.proofs.union_ids.Laws.{comma-le, pieces-comma, pieces-last, small-not, small-more, distinct-not, distinct-more, allowed-small, allowed-distinct, allowed-long, allowed-all, small}
+use Rattle.columnar.specs.Test.{member}
 
 -- k ids are read, up to the byte p of the text t; they stand in the front of trial, whose rest is that of ids
 pub record Read (t ids trial : List ℕ) (p k : ℕ) : Type 0 where
@@ -29,7 +30,7 @@ pub record Read (t ids trial : List ℕ) (p k : ℕ) : Type 0 where
   pub rest : drop k trial ≡ drop k ids
 
 pub read-none : (t ids trial : List ℕ) → 0 < length t → length trial ≡ 16 → trial ≡ ids → Read t ids trial 0 0
-unfolding small distinct
+unfolding distinct
 read-none t ids trial h s e =
     record {
       text = h;

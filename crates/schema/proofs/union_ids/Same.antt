@@ -9,11 +9,12 @@ use lib.ListN.{length, take, drop, length-append, length-drop}
 use lib.Seq.{take-at}
 use lib.Dec.{leb, eqb}
 use borrow.Author.Tests.{leb-true, eq-eqb, ne-eqb}
-use Rattle.schema.specs.formats.Code.{same, codeOf, isUnion}
-use Rattle.schema.specs.union_ids.Ids.{pieces, idOf, distinct, small, allowed, idList, idsAt, answerOf, written, sameIds}
+use Rattle.schema.specs.formats.Code.{codeOf, isUnion}
+use Rattle.schema.specs.union_ids.Ids.{pieces, idOf, distinct, allowed, idList, idsAt, answerOf, written, sameIds}
 use Rattle.schema.specs.declared.union_ids.Ids.{Ids}
 use Rattle.schema.specs.declared.union_ids.Ids.the-variants.{Count, Bad}
-use Rattle.schema.proofs.union_ids.Laws.{both}
+use Rattle.schema.proofs.union_ids.Laws.{both, small}
+use Rattle.columnar.specs.Test.{same}
 
 -- ---- the ids of a format
 
@@ -45,7 +46,7 @@ fine-allowed l =
     record { below = q .0; apart = q .1; few = leb-true (length l) 16 (p .1) })
 
 fine-list : (t : List ℕ) → Fine (idList t)
-unfolding small distinct
+unfolding distinct
 fine-list [] = record { below = refl; apart = refl; few = omega arith }
 fine-list (b ∷ s) = fine-allowed (map idOf (pieces (b ∷ s)))
 

@@ -5,13 +5,7 @@ use mathlib.Core.List.{List, [], _∷_}
 use Prim.Native.Nat.{ℕ, _+_}
 use lib.ListN.{length, take, drop, getD}
 use lib.Dec.{leb, eqb}
-
--- the same text
-abbrev pub same : List ℕ → List ℕ → Bool
-same [] [] = true
-same [] (y ∷ ys) = false
-same (x ∷ xs) [] = false
-same (x ∷ xs) (y ∷ ys) = same xs ys && eqb x y
+use Rattle.columnar.specs.Test.{same}
 
 -- a rule of the table: the format is this text, or it begins with this text; and the format's code
 pub data Rule : Type 0 where
@@ -38,13 +32,9 @@ look (begins s c ∷ rules) t = cond (same (take (length s) t) s) c (look rules 
 unfoldable pub codeOf : List ℕ → ℕ
 codeOf t = look table t
 
--- the range at .. at + len lies inside n bytes
-abbrev pub inside : ℕ → ℕ → ℕ → Bool
-inside n at len = leb (at + len) n
-
 -- the code of the format that stands in s at `at`, len bytes long; 0 where it does not lie inside
 abbrev pub codeAt : List ℕ → ℕ → ℕ → ℕ
-codeAt s at len = cond (inside (length s) at len) (codeOf (take len (drop at s))) 0
+codeAt s at len = cond (leb (at + len) (length s)) (codeOf (take len (drop at s))) 0
 
 -- ---- what a code means
 

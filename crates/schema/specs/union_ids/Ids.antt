@@ -5,9 +5,10 @@ use mathlib.Core.Option.{Option, none, some}
 use Prim.Native.Nat.{ℕ, suc, _+_, _*_, _-_}
 use lib.ListN.{length, take, drop}
 use lib.Dec.{leb, eqb}
-use Rattle.schema.specs.formats.Code.{same, codeOf, codeAt, inside, between, isUnion}
+use Rattle.schema.specs.formats.Code.{codeOf, codeAt, between, isUnion}
 use Rattle.schema.specs.declared.union_ids.Ids.{Ids}
 use Rattle.schema.specs.declared.union_ids.Ids.the-variants.{Count, Bad}
+use Rattle.columnar.specs.Test.{each, member, same}
 
 -- ---- the texts between commas, and the number of each
 
@@ -26,40 +27,25 @@ unfoldable pub firstComma : List ℕ → ℕ
 firstComma [] = 0
 firstComma (b ∷ s) = cond (eqb b 44) 0 (suc (firstComma s))
 
--- decimal digits
-unfoldable pub digits : List ℕ → Bool
-digits [] = true
-digits (b ∷ s) = between 48 57 b && digits s
-
 -- the number whose decimal digits are those of n and then these
 unfoldable pub decimal : ℕ → List ℕ → ℕ
 decimal n [] = n
 decimal n (b ∷ s) = decimal (10 * n + (b - 48)) s
 
--- the number of a piece of one to three digits; 128, which is no id, for any other piece
+-- the number of a piece of one to three decimal digits; 128, which is no id, for any other piece
 unfoldable pub idOf : List ℕ → ℕ
-idOf p = cond (between 1 3 (length p) && digits p) (decimal 0 p) 128
+idOf p = cond (between 1 3 (length p) && each (between 48 57) p) (decimal 0 p) 128
 
 -- ---- the rules of ids
-
--- x is one of them
-unfoldable pub member : ℕ → List ℕ → Bool
-member x [] = false
-member x (y ∷ ys) = eqb x y || member x ys
 
 -- no two are the same
 unfoldable pub distinct : List ℕ → Bool
 distinct [] = true
 distinct (x ∷ xs) = not (member x xs) && distinct xs
 
--- each is at most 127
-unfoldable pub small : List ℕ → Bool
-small [] = true
-small (x ∷ xs) = leb x 127 && small xs
-
--- the ids, where a union may have them
+-- the ids, where a union may have them: each is at most 127, no two are the same, and there are at most 16
 unfoldable pub allowed : List ℕ → Option (List ℕ)
-allowed ids = cond (small ids && distinct ids && leb (length ids) 16) (some ids) none
+allowed ids = cond (each (λ x. leb x 127) ids && distinct ids && leb (length ids) 16) (some ids) none
 
 -- the ids that a text lists; an empty text lists no id
 abbrev pub idList : List ℕ → Option (List ℕ)
@@ -72,7 +58,7 @@ idsOf t = cond (isUnion (codeOf t)) (idList (drop 4 t)) none
 
 -- the ids of the format that stands in s at `at`, len bytes long
 abbrev pub idsAt : List ℕ → ℕ → ℕ → Option (List ℕ)
-idsAt s at len = cond (inside (length s) at len) (idsOf (take len (drop at s))) none
+idsAt s at len = cond (leb (at + len) (length s)) (idsOf (take len (drop at s))) none
 
 -- ---- how they are answered
 

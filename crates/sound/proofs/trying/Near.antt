@@ -16,9 +16,10 @@ use Rattle.run_ends.specs.declared.Runs.the-variants.{Range, None}
 use Rattle.walk.specs.State.{Join, codeOf, dictionaryOf, endOf, keepsOf, bytesOf, rows, bytes, place, far, addRows, addNulls, setBytes}
 use Rattle.walk.specs.Log.{Entry, Out, fail, done, wrote, need, found, next, each}
 use Rattle.walk.specs.Leaves.{copyBits, copyMask, copyNumbers, copyKeys, copyViews, putString, putExtended, copyString}
-use Rattle.walk.specs.Copy.{Walk, masked, listViewRow, copyListView, putStretch, putList, copyList, copyFields, copySparse, denseTo, denseRow, copyDense, putRuns, runsAt, copyRuns, copyData, copySlots, copyNode, copyWalk}
+use Rattle.walk.specs.Copy.{Walk, masked, listViewRow, copyListView, putStretch, copyList, copySparse, denseTo, denseRow, copyDense, putRuns, runsAt, copyRuns, copyData, copySlots, copyNode, copyWalk, eachField}
 use Rattle.sound.specs.trying.Alike.{Alike}
 use Rattle.sound.proofs.trying.Laws.{alike-refl, alike-rows, alike-bytes, alike-gap, alike-other}
+use Rattle.walk.proofs.Names.{putList, copyFields}
 
 -- ---- walks that answer alike
 
@@ -134,7 +135,7 @@ module _ (x : Join) where
         (h .rows-same (suc i)) (near-stretch w (place x i 3 + w * slot) n (extended w (x .body) (place x i 3 + w * slot) n (rows c (suc i))) h))))
 
     near-fields : (slot n end f k : ℕ) {c d : List ℕ} → Alike c d → Near (copyFields x walk slot n end f k c) (copyFields x walk slot n end f k d)
-    unfolding copyFields
+    unfolding eachField
     near-fields slot n end zero k h = near-done h
     near-fields slot n end (suc f) k h =
         near-cond (ltb k end) (near-next _ _ (below k slot n _ _ h) (λ c2 d2 g. near-fields slot n end f (endOf (x .plan) k) g)) (near-done h)

@@ -3,7 +3,7 @@ use mathlib.Core.Path.{_≡_, sym, ap, _∙_}
 use Prim.Native.Nat.{ℕ, _+_, _*_, _%_, _^_, _≤_, _<_}
 use native.Mathlib.Nat.{mod-eq-of-lt}
 use native.Mathlib.Omega.{arith}
-use mathlib.Core.Bool.{Bool, true, false}
+use mathlib.Core.Bool.{Bool, true, false, cond}
 use mathlib.Core.List.{List, [], _++_, append-assoc, append-nil}
 use lib.ListN.{length, take, drop, getD, length-append, length-drop}
 use lib.Seq.{take-add, drop-drop, getD-drop, getD-take, drop-at}
@@ -12,7 +12,7 @@ use borrow.Author.Tests.{le-ltb}
 use Rattle.number.specs.Number.{number, encode, splice}
 use Rattle.number.proofs.Laws.{length-encode, encode-number, number-encode, number-lt, splice-splice}
 use Rattle.utils.proofs.Pieces.{pieces-none, pieces-step, piece-splice, number-same}
-use Rattle.utils.specs.byte_view.View.{viewAt, viewBytes, reindexedBy, pickView, pickBytes, reviewedOne, reviewed}
+use Rattle.utils.specs.byte_view.View.{viewAt, viewBytes, reindexedBy, reviewedOne, reviewed}
 use Rattle.utils.specs.declared.byte_view.ByteView.{ByteView}
 
 -- four numbers written one after the other are the view's bytes
@@ -61,8 +61,8 @@ module _ (s : List ℕ) (p : ℕ) (h : p + 16 ≤ length s) (small : (i : ℕ) �
   review-is base = go (ltb 12 (number 4 (drop p s)))
     where
       go : (b : Bool)
-          → viewBytes (pickView b (record { length = number 4 (drop p s); prefix = number 4 (drop (p + 4) s); «buffer_index» = (number 4 (drop (p + 8) s) + base) % 256 ^ 4; offset = number 4 (drop (p + 12) s) }) (viewAt s p))
-          ≡ pickBytes b (take 8 (drop p s) ++ encode 4 ((number 4 (drop 8 (drop p s)) + base) % 256 ^ 4) ++ take 4 (drop 12 (drop p s))) (take 16 (drop p s))
+          → viewBytes (cond b (record { length = number 4 (drop p s); prefix = number 4 (drop (p + 4) s); «buffer_index» = (number 4 (drop (p + 8) s) + base) % 256 ^ 4; offset = number 4 (drop (p + 12) s) }) (viewAt s p))
+          ≡ cond b (take 8 (drop p s) ++ encode 4 ((number 4 (drop 8 (drop p s)) + base) % 256 ^ 4) ++ take 4 (drop 12 (drop p s))) (take 16 (drop p s))
       go true =
           rw (four p (omega arith), four (p + 4) (omega arith), four (p + 12) (omega arith), eight, drop-drop 8 p s, drop-drop 12 p s)
       go false = view-same
@@ -162,7 +162,7 @@ small-view s p base small = go (ltb 12 (number 4 (drop p s)))
     low q = number-lt 4 (drop q s) (λ i. rw getD-drop (small (q + i)))
 
     go : (b : Bool)
-        → Small (pickView b (record { length = number 4 (drop p s); prefix = number 4 (drop (p + 4) s); «buffer_index» = (number 4 (drop (p + 8) s) + base) % 256 ^ 4; offset = number 4 (drop (p + 12) s) }) (viewAt s p))
+        → Small (cond b (record { length = number 4 (drop p s); prefix = number 4 (drop (p + 4) s); «buffer_index» = (number 4 (drop (p + 8) s) + base) % 256 ^ 4; offset = number 4 (drop (p + 12) s) }) (viewAt s p))
     go true = record { of-length = low p; of-prefix = low (p + 4); of-index = omega arith; of-offset = low (p + 12) }
     go false = record { of-length = low p; of-prefix = low (p + 4); of-index = low (p + 8); of-offset = low (p + 12) }
 

@@ -1,7 +1,7 @@
 -- A view of 16 bytes: length, prefix, buffer index and offset, four bytes each. 01: its buffer index rises if its length is above 12. Assumes nothing.
 use Prim.Native.Nat.{ℕ, _+_, _*_, _%_, _^_}
 use mathlib.Core.List.{List, _++_}
-use mathlib.Core.Bool.{Bool, true, false}
+use mathlib.Core.Bool.{cond}
 use lib.ListN.{take, drop}
 use lib.Dec.{ltb}
 use Rattle.number.specs.Number.{number, encode}
@@ -22,25 +22,17 @@ viewAt s at =
 unfoldable pub viewBytes : ByteView → List ℕ
 viewBytes v = encode 4 (v .length) ++ encode 4 (v .prefix) ++ encode 4 (v .«buffer_index») ++ encode 4 (v .offset)
 
-abbrev pub pickView : Bool → ByteView → ByteView → ByteView
-pickView true a b = a
-pickView false a b = b
-
 -- the buffer index rises by base, modulo 2 ^ 32, where the length is above 12
 abbrev pub reindexedBy : ℕ → ByteView → ByteView
 reindexedBy base v =
-    pickView (ltb 12 (v .length))
+    cond (ltb 12 (v .length))
     (record { length = v .length; prefix = v .prefix; «buffer_index» = (v .«buffer_index» + base) % 256 ^ 4; offset = v .offset })
     v
-
-abbrev pub pickBytes : Bool → List ℕ → List ℕ → List ℕ
-pickBytes true a b = a
-pickBytes false a b = b
 
 -- the 16 bytes that a view at the start of s becomes: an inline one stays, in another bytes 8 to 11, its buffer index, change
 unfoldable pub reviewedOne : List ℕ → ℕ → List ℕ
 reviewedOne s base =
-    pickBytes (ltb 12 (number 4 s))
+    cond (ltb 12 (number 4 s))
     (take 8 s ++ encode 4 ((number 4 (drop 8 s) + base) % 256 ^ 4) ++ take 4 (drop 12 s))
     (take 16 s)
 

@@ -12,12 +12,13 @@ use Rattle.schema.specs.formats.Code.{isInteger, isFixed, isString, isView, isL
 use Rattle.schema.specs.formats.Types.{numberOf}
 use Rattle.schema.specs.Tree.{children, dictionary, bare, childForEach, codeOf, idsOf, valuesShape, endsShape, leafShape, keysShape, listShape, unionShape, runShape, shape}
 use Rattle.array_data.specs.Typed.{NodeKind, fixedNode, stringNode, viewNode, listViewNode, listNode, sparseNode, denseNode, runEndNode, dictionaryNode}
-use Rattle.array_data.specs.type_tree.Lent.{numberOr, idsOr, unionKind, kindAt}
+use Rattle.array_data.specs.type_tree.Lent.{numberOr, kindAt}
 use Rattle.array_data.proofs.type_tree.Ids.{both}
 use Rattle.array_data.proofs.type_tree.Shaped.{five, integer-fixed, at-fixed, at-keys, at-string, at-view, at-list, at-lists, at-union, at-run}
 use Rattle.width_walks.specs.target_rules.Target.{isEnds}
 use Rattle.width_walks.proofs.target_rules.Codes.{range}
 use Rattle.width_walks.proofs.target_rules.Rules.{or-cases}
+use Rattle.array_data.proofs.Names.{idsOr, unionKind}
 
 -- the code of a number's format
 codeFor : Number → ℕ

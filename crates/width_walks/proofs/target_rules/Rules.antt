@@ -7,9 +7,9 @@ use Prim.Native.Nat.{ℕ, zero, suc, _-_, _%_, _<_}
 use native.Mathlib.Omega.{arith}
 use lib.Dec.{eqb}
 use borrow.Author.Tests.{eqb-true, eq-eqb, ne-eqb, eqb-false}
-use Rattle.schema.specs.formats.Code.{same, between, isInteger, isFixed, isString, isView, isListView, isList, isUnion, isRunEnd}
+use Rattle.schema.specs.formats.Code.{between, isInteger, isFixed, isString, isView, isListView, isList, isUnion, isRunEnd}
 use Rattle.schema.specs.union_ids.Ids.{sameIds}
-use Rattle.schema.specs.Tree.{every, flag, children, dictionary, bare, childForEach, isValues, codeOf, idsOf, leafShape, keysShape, listShape, unionShape, runShape, valuesShape, endsShape, shape, ceilings, typed, sameFlag, sameFormats}
+use Rattle.schema.specs.Tree.{flag, children, dictionary, bare, childForEach, isValues, codeOf, idsOf, leafShape, keysShape, listShape, unionShape, runShape, valuesShape, endsShape, shape, ceilings, typed, sameFlag, sameFormats}
 use Rattle.schema.proofs.Known.{every-at, typed-shape}
 use Rattle.schema.proofs.Laws.{every-all, every-not}
 use Rattle.array_data.specs.type_tree.Lent.{typeOf}
@@ -19,6 +19,7 @@ use Rattle.anew.specs.widths.Widths.{Widths}
 use Rattle.width_walks.specs.target_rules.Target.{isEnds, sameText, otherWidth, endsAt, likeFormats, likeNode, isTarget, CodeWidths, same-code, strings, list-views, plain-lists, keys, run-ends, NodeWidths, Target}
 use Rattle.width_walks.proofs.target_rules.Codes.{range, ends-range}
 use Rattle.width_walks.proofs.target_rules.Types.{type-widths}
+use Rattle.columnar.specs.Test.{same, every}
 
 -- ---- tests
 

@@ -18,7 +18,7 @@ use Rattle.schema.proofs.Trees.{child-inside, child-is, end-up}
 use Rattle.schema.proofs.Depth.{child-depth}
 use Rattle.schema.proofs.Known.{typed-whole, typed-shape, within-depth}
 use Rattle.array_data.specs.Typed.{NodeKind, fixedNode, viewNode, listViewNode, listNode, sparseNode, denseNode, runEndNode, dictionaryNode, Tree, childNode, fieldOf}
-use Rattle.array_data.specs.type_tree.Lent.{numberOr, idsOr, unionKind, kindAt, treeOf, plainAs, tyAs, tyOf, typeOf}
+use Rattle.array_data.specs.type_tree.Lent.{numberOr, kindAt, treeOf, plainAs, tyAs, tyOf, typeOf}
 use Rattle.array_data.proofs.type_tree.Ids.{both, field-in}
 use Rattle.array_data.proofs.type_tree.Shaped.{five, integer-fixed, plainKind, at-fixed, at-keys, at-string, at-view, at-list, at-lists, at-union, at-run}
 use Rattle.array_data.proofs.type_tree.Lent.{child-same, first-child, second-child, some-node, root}
@@ -26,6 +26,7 @@ use Rattle.anew.specs.widths.Widths.{PlainWidths, sFixed, sString, Widths, sPla
 use Rattle.width_walks.specs.target_rules.Target.{isEnds, endsAt, CodeWidths, same-code, strings, list-views, plain-lists, keys, run-ends, NodeWidths}
 use Rattle.width_walks.proofs.target_rules.Codes.{range, ends-range, near, view-kept, string-kept, list-kept, plain-list-kept, run-kept}
 use Rattle.width_walks.proofs.target_rules.Before.{integer-number, prev, prev-later, prev-child}
+use Rattle.array_data.proofs.Names.{idsOr, unionKind}
 
 -- ---- a node and the one of the target
 

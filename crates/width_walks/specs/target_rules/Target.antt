@@ -6,7 +6,8 @@ use mathlib.Core.List.{List}
 use Prim.Native.Nat.{ℕ, zero, suc, _%_, _<_}
 use lib.Dec.{eqb}
 use Rattle.schema.specs.formats.Code.{isInteger, isString, isView, isListView, isList, isUnion, isRunEnd}
-use Rattle.schema.specs.Tree.{every, flag, children, dictionary, isValues, codeOf, idsOf, ceilings, typed, sameFlag, sameFormats}
+use Rattle.schema.specs.Tree.{flag, children, dictionary, isValues, codeOf, idsOf, ceilings, typed, sameFlag, sameFormats}
+use Rattle.columnar.specs.Test.{every}
 
 -- "Run ends are `s`, `i` or `l`."
 unfoldable pub isEnds : ℕ → Bool

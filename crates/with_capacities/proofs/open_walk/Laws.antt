@@ -10,12 +10,11 @@ use lib.ListN.{getD}
 use lib.Dec.{leb, eqb}
 use borrow.Author.Tests.{leb-true, eq-eqb, ne-eqb}
 use Rattle.number.specs.Number.{encode}
-use Rattle.columnar.specs.Types.{Number, i8, u8, i16, u16, i32, u32, i64, u64}
+use Rattle.columnar.specs.Types.{Number, i8, u8, i16, u16, i32, u32, i64, u64, keyFits}
 use Rattle.columnar.specs.Test.{every}
 use Rattle.schema.specs.formats.Code.{isString, isList, isInteger, isRunEnd, widthOf}
 use Rattle.schema.specs.formats.Types.{numberOf}
 use Rattle.array_data.proofs.lent_tables.Laws.{no, yes, and-right}
-use Rattle.plan.specs.dictionaries.Sources.{keyFits}
 use Rattle.walk.specs.State.{codeOf, dictionaryOf, bytesOf, baseOf, setBytes, lengthOf, top, word}
 use Rattle.walk.specs.Log.{Out, Did, put, applyIf, done, each}
 use Rattle.walk.specs.Copy.{copyWalk}
@@ -24,7 +23,7 @@ use Rattle.leaf_walk.specs.Join.{join}
 use Rattle.leaf_walk.proofs.Widths.{string-width, lists-width}
 use Rattle.plan.specs.parts.Parts.{nodesOf, copied, hasOffsets}
 use Rattle.refinement.specs.orders.Order.{Lent, joinOf, sourceCount}
-use Rattle.refinement.specs.opening.Open.{beginGaps, firstOffset, joinSource, joinEntries, entriesHold, keyHolds, keysOf, keysHold, openDictionary, openWalk}
+use Rattle.refinement.specs.opening.Open.{beginGaps, firstOffset, joinSource, joinEntries, entriesHold, keyHolds, keysHold, openDictionary, openWalk}
 
 -- ---- gaps
 
@@ -158,7 +157,7 @@ module _ (x : Lent) (i : ℕ) {code : ℕ} (e : code ≡ codeOf (x .plan) i) {t 
   keys-are {r} {m} h p d =
       let k = integer-known code (yes f h) in
       let known : numberOf (codeOf (x .plan) i) ≡ some (k .number) = subst (λ z. numberOf z ≡ some (k .number)) e (k .is-number) in
-      let fits : r ≡ keysOf x i (some (k .number)) = d (k .number) (k .is-number) ∙ ap (every (keyHolds x (k .number) i)) p in
+      let fits : r ≡ every (keyHolds x (k .number) i) (sourceCount (x .plan)) = d (k .number) (k .is-number) ∙ ap (every (keyHolds x (k .number) i)) p in
       rw (integers (yes f h), known) fits
 
 -- the keys of one source

@@ -8,12 +8,13 @@ use Rattle.schema.specs.Tree.{idsOf}
 use Rattle.array_data.specs.Tables.{validOf}
 use Rattle.array_data.specs.Typed.{sparseNode, denseNode, nodeOf}
 use Rattle.array_data.specs.entries.Entries.{column}
-use Rattle.array_data.specs.type_tree.Lent.{idsOr, unionKind, treeOf}
+use Rattle.array_data.specs.type_tree.Lent.{treeOf}
 use Rattle.array_data.proofs.type_tree.Shaped.{at-union}
 use Rattle.width_loop.proofs.Rules.{sparse-here, dense-here}
 use Rattle.width_loop.proofs.Here.{few, rule-as, fields-below, by-kinds, settled-by}
 use borrow.Author.Needs.{needs}
 use Rattle.width_loop.proofs.nodes.union_node.Statement.{statement}
+use Rattle.array_data.proofs.Names.{idsOr, unionKind}
 use Rattle.width_loop.proofs.nodes.union_node.Tie as tie
 
 below-of-requires : tie.Need-below-of-requires
