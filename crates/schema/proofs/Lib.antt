@@ -1,5 +1,6 @@
 -- The laws that the proofs of `schema` cite.
 pub mod Laws
+pub mod Shapes
 pub mod Trees
 pub mod Depth
 pub mod Known
