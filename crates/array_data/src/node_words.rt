@@ -1,6 +1,6 @@
 // A lent type tree as numbers, 8 a node, made once from the schema and the formats, so that later calls parse nothing.
 ghost use mathlib.Core.Path.{_≡_};
-ghost use Prim.Native.Nat.{_≤_, _<_, _^_};
+ghost use Prim.Native.Nat.{ℕ, _/_, _≤_, _<_, _^_};
 ghost use lib.ListN.{length, take};
 ghost use Rattle.array_data.specs.node_words.Words.{word, idFrom, idUnder, childId, wordOf, planted};
 use schema::union_ids;
@@ -86,16 +86,26 @@ fn word_of(formats: &[u8], schema: &[u32], first: usize, n: usize, i: usize, j: 
     }
 }
 
+// How many words n nodes have, and no more than 32 of them.
+fn words_of(n: usize) -> usize
+    ensures { λ r. ⌜ (r ≤ 256) × ((q : ℕ) → r ≤ q → q < 256 → n ≤ q / 8) ⌝ }
+{
+    if n < 32 {
+        return 8 * n;
+    }
+    256
+}
+
 // The words of the tree of n nodes from node `first` of the schema on; of a tree of more than 32 nodes, those of the first 32.
 pub fn plant(formats: &[u8], schema: &[u32], first: usize, n: usize, tree: &mut [u64; 256])
     requires { ⌜ (first < 4294967296) × (n < 4294967296) ⌝ }
     ensures { λ _. ⌜ now (tree .exit) ≡ planted (now (formats .entry)) (now (schema .entry)) first n ⌝ }
 {
-    let mut words = [0u64; 256];
+    *tree = [0u64; 256];
+    let m = words_of(n);
     let mut q = 0;
-    while q < 256 {
-        words[q] = word_of(formats, schema, first, n, q / 8, q % 8);
+    while q < m {
+        tree[q] = word_of(formats, schema, first, n, q / 8, q % 8);
         q += 1;
     }
-    *tree = words;
 }

@@ -36,9 +36,10 @@ fn has_few_buffers(formats: &[u8], schema: &[u32], places: &[u64], first: usize,
     requires { ⌜ (first < 2 ^ 32) × (i < 32) ⌝ }
     ensures { λ r. ⌜ r ≡ fewBuffers (now (formats .entry)) (now (schema .entry)) (tables [] (now (places .entry)) []) first i ⌝ }
 {
-    let other = !schema::formats::is_view(schema::code_of(formats, schema, first, i));
-    let few = lent_tables::place(places, first + i, 8) <= 32;
-    other | few
+    if lent_tables::place(places, first + i, 8) <= 32 {
+        return true;
+    }
+    !schema::formats::is_view(schema::code_of(formats, schema, first, i))
 }
 
 // Whether each of the n nodes has a length and an offset that are admitted, and not too many data buffers.

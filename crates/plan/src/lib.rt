@@ -24,13 +24,12 @@ use walk::plan_words;
 fn write_tree(tree: &[u64; 256], plan: &mut [u64; plan_words::WORDS])
     ensures { λ _. ⌜ now (plan .exit) ≡ withTree (now (tree .entry)) ⌝ }
 {
-    let mut words = [0u64; plan_words::WORDS];
+    *plan = [0u64; plan_words::WORDS];
     let mut q = 0;
     while q < 256 {
-        words[q] = tree[q];
+        plan[q] = tree[q];
         q += 1;
     }
-    *plan = words;
 }
 
 // ---- which nodes keep nulls

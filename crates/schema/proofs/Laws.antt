@@ -117,12 +117,12 @@ module _ (formats schema : List ℕ) (first n : ℕ) where
   unfolding ceilings
   too-wide i l h = rw (every-not (λ k. fewFields formats schema first k && leb (depth schema first n k) 8) n i l (rw h), and-false)
 
-  pub too-deep : (i : ℕ) → i < n → 8 < depth schema first n i → ceilings formats schema first n ≡ false
+  pub too-deep : (i : ℕ) → i < n → leb (depth schema first n i) 8 ≡ false → ceilings formats schema first n ≡ false
   unfolding ceilings
-  too-deep i l h = rw (every-not (λ k. fewFields formats schema first k && leb (depth schema first n k) 8) n i l (rw (lt-leb (depth schema first n i) 8 h, and-false)), and-false)
+  too-deep i l h = rw (every-not (λ k. fewFields formats schema first k && leb (depth schema first n k) 8) n i l (rw (h, and-false)), and-false)
 
-  pub one-low : (i d : ℕ) → fewFields formats schema first i ≡ true → d ≡ depth schema first n i → d ≤ 8 → fewFields formats schema first i && leb (depth schema first n i) 8 ≡ true
-  one-low i d f e l = rw (f, le-leb (depth schema first n i) 8 (omega arith))
+  pub one-low : (i : ℕ) → fewFields formats schema first i ≡ true → leb (depth schema first n i) 8 ≡ true → fewFields formats schema first i && leb (depth schema first n i) 8 ≡ true
+  one-low i f d = rw (f, d)
 
   pub low-enough : n ≤ 32 → ((j : ℕ) → j < n → fewFields formats schema first j && leb (depth schema first n j) 8 ≡ true) → ceilings formats schema first n ≡ true
   unfolding ceilings

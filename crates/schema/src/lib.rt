@@ -3,8 +3,11 @@ pub mod formats;
 pub mod union_ids;
 
 ghost use mathlib.Core.Path.{_≡_};
-ghost use Prim.Native.Nat.{_≤_, _<_};
-ghost use Rattle.schema.specs.Tree.{field, flag, nullable, children, dictionary, below, bare, endOf, depth, whole, codeOf, fewFields, valuesShape, endsShape, leafShape, keysShape, listShape, childForEach, idsOf, unionShape, runShape, shape, ceilings, typed, sameFlag, sameFormats, sameNode, sameType};
+ghost use Prim.Native.Nat.{suc, _≤_, _<_};
+ghost use lib.Dec.{leb, eqb};
+ghost use mathlib.Core.Bool.{_&&_, _||_};
+ghost use Rattle.schema.specs.formats.Code.{isInteger, isFixed, isString, isView, isListView, isList, isUnion, isRunEnd};
+ghost use Rattle.schema.specs.Tree.{field, flag, nullable, children, dictionary, below, bare, endOf, depth, whole, codeOf, fewFields, valuesShape, endsShape, childForEach, idsOf, shape, ceilings, typed, sameFlag, sameFormats, sameNode, sameType};
 
 // ---- the numbers of a node
 
@@ -142,9 +145,21 @@ fn has_few_fields(formats: &[u8], schema: &[u32], first: usize, i: usize) -> boo
     requires { ⌜ (first < 4294967296) × (i < 4294967296) ⌝ }
     ensures { λ r. ⌜ r ≡ fewFields (now (formats .entry)) (now (schema .entry)) first i ⌝ }
 {
-    let other = !crate::formats::is_union(code_of(formats, schema, first, i));
-    let few = children_of(schema, first, i) <= 16;
-    other | few
+    if children_of(schema, first, i) <= 16 {
+        return true;
+    }
+    !crate::formats::is_union(code_of(formats, schema, first, i))
+}
+
+// Whether node i's depth is at most 8: that of the first eight nodes is.
+fn is_shallow(schema: &[u32], first: usize, n: usize, i: usize) -> bool
+    requires { ⌜ (first < 4294967296) × (n < 4294967296) × (i < 4294967296) ⌝ }
+    ensures { λ r. ⌜ r ≡ leb (depth (now (schema .entry)) first n i) 8 ⌝ }
+{
+    if i < 8 {
+        return true;
+    }
+    depth_of(schema, first, n, i) <= 8
 }
 
 // Whether the tree has at most 32 nodes, depth 8 and 16 fields of a union: ground 9 where not.
@@ -160,7 +175,7 @@ pub fn is_within_ceilings(formats: &[u8], schema: &[u32], first: usize, n: usize
         if !has_few_fields(formats, schema, first, i) {
             return false;
         }
-        if 8 < depth_of(schema, first, n, i) {
+        if !is_shallow(schema, first, n, i) {
             return false;
         }
         i += 1;
@@ -188,12 +203,11 @@ fn is_ends(formats: &[u8], schema: &[u32], first: usize, i: usize) -> bool
     ((code == 3) | (code == 5) | (code == 7)) & is_bare(schema, first, i)
 }
 
-// Numbers, byte strings and views.
-fn is_leaf(formats: &[u8], schema: &[u32], first: usize, i: usize) -> bool
+// Numbers, byte strings and views, by node i's code.
+fn is_leaf(code: u8, schema: &[u32], first: usize, i: usize) -> bool
     requires { ⌜ (first < 4294967296) × (i < 4294967296) ⌝ }
-    ensures { λ r. ⌜ r ≡ leafShape (now (formats .entry)) (now (schema .entry)) first i ⌝ }
+    ensures { λ r. ⌜ r ≡ ((isFixed code || isString code || isView code) && bare (now (schema .entry)) first i) ⌝ }
 {
-    let code = code_of(formats, schema, first, i);
     (crate::formats::is_fixed(code)
         | crate::formats::is_string(code)
         | crate::formats::is_view(code))
@@ -201,22 +215,24 @@ fn is_leaf(formats: &[u8], schema: &[u32], first: usize, i: usize) -> bool
 }
 
 // Keys with a dictionary.
-fn is_keys(formats: &[u8], schema: &[u32], first: usize, i: usize) -> bool
+fn is_keys(code: u8, formats: &[u8], schema: &[u32], first: usize, i: usize) -> bool
     requires { ⌜ (first < 4294967296) × (i < 4294967295) ⌝ }
-    ensures { λ r. ⌜ r ≡ keysShape (now (formats .entry)) (now (schema .entry)) first i ⌝ }
+    ensures { λ r. ⌜ r ≡ (isInteger code && eqb (children (now (schema .entry)) first i) 0 && eqb (dictionary (now (schema .entry)) first i) 1 && valuesShape (now (formats .entry)) (now (schema .entry)) first (suc i)) ⌝ }
 {
-    let kind = crate::formats::is_integer(code_of(formats, schema, first, i));
+    let kind = crate::formats::is_integer(code);
     let childless = children_of(schema, first, i) == 0;
     let a_dictionary = dictionary_of(schema, first, i) == 1;
-    kind & childless & a_dictionary & is_values(formats, schema, first, i + 1)
+    if !(kind & childless & a_dictionary) {
+        return false;
+    }
+    is_values(formats, schema, first, i + 1)
 }
 
 // List-views and lists with one child.
-fn is_list(formats: &[u8], schema: &[u32], first: usize, i: usize) -> bool
+fn is_list(code: u8, schema: &[u32], first: usize, i: usize) -> bool
     requires { ⌜ (first < 4294967296) × (i < 4294967296) ⌝ }
-    ensures { λ r. ⌜ r ≡ listShape (now (formats .entry)) (now (schema .entry)) first i ⌝ }
+    ensures { λ r. ⌜ r ≡ ((isListView code || isList code) && eqb (children (now (schema .entry)) first i) 1 && eqb (dictionary (now (schema .entry)) first i) 0) ⌝ }
 {
-    let code = code_of(formats, schema, first, i);
     let kind = crate::formats::is_list_view(code) | crate::formats::is_list(code);
     let one_child = children_of(schema, first, i) == 1;
     let no_dictionary = dictionary_of(schema, first, i) == 0;
@@ -239,24 +255,29 @@ fn has_child_for_each(formats: &[u8], schema: &[u32], first: usize, i: usize) ->
 }
 
 // Unions with a child for each id.
-fn is_union_node(formats: &[u8], schema: &[u32], first: usize, i: usize) -> bool
+fn is_union_node(code: u8, formats: &[u8], schema: &[u32], first: usize, i: usize) -> bool
     requires { ⌜ (first < 4294967296) × (i < 4294967296) ⌝ }
-    ensures { λ r. ⌜ r ≡ unionShape (now (formats .entry)) (now (schema .entry)) first i ⌝ }
+    ensures { λ r. ⌜ r ≡ (isUnion code && childForEach (now (schema .entry)) first (idsOf (now (formats .entry)) (now (schema .entry)) first i) i && eqb (dictionary (now (schema .entry)) first i) 0) ⌝ }
 {
-    let kind = crate::formats::is_union(code_of(formats, schema, first, i));
+    if !crate::formats::is_union(code) {
+        return false;
+    }
     let no_dictionary = dictionary_of(schema, first, i) == 0;
-    kind & has_child_for_each(formats, schema, first, i) & no_dictionary
+    has_child_for_each(formats, schema, first, i) & no_dictionary
 }
 
 // Run ends and values.
-fn is_runs(formats: &[u8], schema: &[u32], first: usize, i: usize) -> bool
+fn is_runs(code: u8, formats: &[u8], schema: &[u32], first: usize, i: usize) -> bool
     requires { ⌜ (first < 4294967296) × (i < 4294967295) ⌝ }
-    ensures { λ r. ⌜ r ≡ runShape (now (formats .entry)) (now (schema .entry)) first i ⌝ }
+    ensures { λ r. ⌜ r ≡ (isRunEnd code && eqb (children (now (schema .entry)) first i) 2 && eqb (dictionary (now (schema .entry)) first i) 0 && endsShape (now (formats .entry)) (now (schema .entry)) first (suc i)) ⌝ }
 {
-    let kind = crate::formats::is_run_end(code_of(formats, schema, first, i));
+    let kind = crate::formats::is_run_end(code);
     let two_children = children_of(schema, first, i) == 2;
     let no_dictionary = dictionary_of(schema, first, i) == 0;
-    kind & two_children & no_dictionary & is_ends(formats, schema, first, i + 1)
+    if !(kind & two_children & no_dictionary) {
+        return false;
+    }
+    is_ends(formats, schema, first, i + 1)
 }
 
 // Whether node i and what stands below it are of a type that is admitted.
@@ -264,12 +285,20 @@ pub fn is_shaped(formats: &[u8], schema: &[u32], first: usize, i: usize) -> bool
     requires { ⌜ (first < 4294967296) × (i < 4294967295) ⌝ }
     ensures { λ r. ⌜ r ≡ shape (now (formats .entry)) (now (schema .entry)) first i ⌝ }
 {
-    let leaf = is_leaf(formats, schema, first, i);
-    let keys = is_keys(formats, schema, first, i);
-    let list = is_list(formats, schema, first, i);
-    let union = is_union_node(formats, schema, first, i);
-    let runs = is_runs(formats, schema, first, i);
-    leaf | keys | list | union | runs
+    let code = code_of(formats, schema, first, i);
+    if is_leaf(code, schema, first, i) {
+        return true;
+    }
+    if is_keys(code, formats, schema, first, i) {
+        return true;
+    }
+    if is_list(code, schema, first, i) {
+        return true;
+    }
+    if is_union_node(code, formats, schema, first, i) {
+        return true;
+    }
+    is_runs(code, formats, schema, first, i)
 }
 
 // Whether the nodes are one whole tree of a type that is admitted: ground 10 where not.

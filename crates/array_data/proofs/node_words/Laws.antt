@@ -6,10 +6,10 @@ use mathlib.Core.Option.{Option, none, some}
 use Prim.Native.Nat.{ℕ, zero, suc, _+_, _*_, _-_, _/_, _%_, _≤_, _<_}
 use native.Mathlib.Omega.{arith}
 use native.Mathlib.Numerals.{add-one}
-use lib.ListN.{length, take, drop, getD, set, length-take, length-set, drop-of-length-le, List·getD-eq-default}
-use lib.Seq.{drop-cons, take-all, take-at, take-suc-set, getD-take, length-take-le}
+use lib.ListN.{length, take, drop, getD, set, replicate, length-take, length-set, drop-of-length-le, List·getD-eq-default}
+use lib.Seq.{drop-cons, take-at, take-suc-set, getD-take, length-take-le, ext-getD}
 use lib.Dec.{ltb, eqb}
-use borrow.Author.Tests.{lt-ltb, le-ltb, eq-eqb, ne-eqb}
+use borrow.Author.Tests.{lt-ltb, le-ltb, eq-eqb, ne-eqb, ltb-true, ltb-false}
 use Rattle.columnar.specs.Row.{seg}
 use Rattle.schema.specs.Tree.{field, flag, dictionary, endOf, codeOf, idsOf}
 use Rattle.schema.specs.union_ids.Ids.{idsAt, answerOf, written}
@@ -124,8 +124,37 @@ pub wrote : (f : ℕ → ℕ) (tree : List ℕ) (q v : ℕ) → q < length tree 
 wrote f tree q v l e h =
     rw add-one (take-suc-set tree q v l ∙ (let z : 0 + q ≡ q = omega arith in rw (e, h, seg-snoc f 0 q, z)))
 
-pub all-words : (formats schema : List ℕ) (first n : ℕ) (tree : List ℕ) (q : ℕ) → q ≡ 256 → length tree ≡ 256
-    → take q tree ≡ seg (λ x. wordOf formats schema first n (x / 8) (x % 8)) 0 q → tree ≡ planted formats schema first n
-unfolding planted
-all-words formats schema first n tree q e l h =
-    sym (take-all q tree (omega arith)) ∙ h ∙ ap (λ m. seg (λ x. wordOf formats schema first n (x / 8) (x % 8)) 0 m) e
+pub zeros-at : (k x : ℕ) → _≡_ {A = ℕ} (getD (replicate k 0) x 0) 0
+zeros-at zero x = refl
+zeros-at (suc k) zero = refl
+zeros-at (suc k) (suc x) = zeros-at k x
+
+seg-at : (f : ℕ → ℕ) (a k p : ℕ) → p < k → getD (seg f a k) p 0 ≡ f (a + p)
+seg-at f a zero p h = absurd (omega arith)
+seg-at f a (suc k) zero h = let e : a ≡ a + zero = omega arith in ap f e
+seg-at f a (suc k) (suc p) h = let e : suc a + p ≡ a + suc p = omega arith in seg-at f (suc a) k p (omega arith) ∙ ap f e
+
+seg-front : (f : ℕ → ℕ) (k p : ℕ) → p < k → getD (seg f 0 k) p 0 ≡ f p
+seg-front f k p h = let e : 0 + p ≡ p = omega arith in seg-at f 0 k p h ∙ ap f e
+
+seg-length : (f : ℕ → ℕ) (a k : ℕ) → length (seg f a k) ≡ k
+seg-length f a zero = refl
+seg-length f a (suc k) = rw (seg-length f (suc a) k)
+
+-- the words of the nodes, and zeros behind them
+module _ (formats schema : List ℕ) (first n : ℕ) (tree : List ℕ) (q : ℕ) (h : take q tree ≡ seg (λ x. wordOf formats schema first n (x / 8) (x % 8)) 0 q)
+    (past : (x : ℕ) → q ≤ x → x < 256 → n ≤ x / 8) (z : (x : ℕ) → q ≤ x → getD tree x 0 ≡ 0) where
+  one-word : (x : ℕ) (b : Bool) → ltb x q ≡ b → x < 256 → getD tree x 0 ≡ wordOf formats schema first n (x / 8) (x % 8)
+  one-word x true e l =
+      sym (getD-take q tree x 0 (ltb-true x q e))
+      ∙ ap (λ t. getD t x 0) h
+      ∙ seg-front (λ y. wordOf formats schema first n (y / 8) (y % 8)) q x (ltb-true x q e)
+  one-word x false e l =
+      z x (ltb-false x q e) ∙ sym (no-node formats schema first n (x / 8) (x % 8) (past x (ltb-false x q e) l))
+
+  pub all-words : length tree ≡ 256 → tree ≡ planted formats schema first n
+  unfolding planted
+  all-words l =
+      let f : ℕ → ℕ = λ x. wordOf formats schema first n (x / 8) (x % 8) in
+      ext-getD 0 tree (seg f 0 256) (l ∙ sym (seg-length f 0 256))
+      (λ x k. one-word x (ltb x q) refl (omega arith) ∙ sym (seg-front f 256 x (omega arith)))

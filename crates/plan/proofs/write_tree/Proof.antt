@@ -9,25 +9,25 @@ use Rattle.plan.proofs.write_tree.Statement.{statement}
 use Rattle.plan.proofs.write_tree.Tie as tie
 
 abbrev Inv-loop : tie.InvT-loop
-Inv-loop tree plan words₀ q₀ words q = (q ≤ 256) × (words ≡ filled (λ k. k) (λ s k. getD tree k 0) q (replicate 872 0))
+Inv-loop tree plan₀ q₀ plan q = (q ≤ 256) × (plan ≡ filled (λ k. k) (λ s k. getD tree k 0) q (replicate 872 0))
 
 abbrev μ-loop : tie.MeasureT-loop
-μ-loop tree plan words₀ q₀ words q = 256 - q
+μ-loop tree plan₀ q₀ plan q = 256 - q
 
 loop-holds : tie.Need-loop-holds Inv-loop μ-loop
-loop-holds c = (omega arith, filled-none (λ k. k) (λ s k. getD (c .args .tree .now) k 0) (replicate 872 0))
+loop-holds c = (omega arith, filled-none (λ k. k) (λ s k. getD (c .before .args .tree .now) k 0) (replicate 872 0))
 
-mul-words : tie.Need-mul-words Inv-loop μ-loop
-mul-words c = omega arith
+mul-plan : tie.Need-mul-plan Inv-loop μ-loop
+mul-plan c = omega arith
 
-element-copy-out-words : tie.Need-element-copy-out-words Inv-loop μ-loop
-element-copy-out-words c = omega arith
+element-copy-out-plan : tie.Need-element-copy-out-plan Inv-loop μ-loop
+element-copy-out-plan c = omega arith
 
-mul-words-2 : tie.Need-mul-words-2 Inv-loop μ-loop
-mul-words-2 c = omega arith
+mul-plan-2 : tie.Need-mul-plan-2 Inv-loop μ-loop
+mul-plan-2 c = omega arith
 
-array-write-words : tie.Need-array-write-words Inv-loop μ-loop
-array-write-words c = omega arith
+element-write-plan : tie.Need-element-write-plan Inv-loop μ-loop
+element-write-plan c = omega arith
 
 add-q : tie.Need-add-q Inv-loop μ-loop
 add-q c = omega arith
@@ -38,13 +38,13 @@ loop-less c = omega arith
 loop-again : tie.Need-loop-again Inv-loop μ-loop
 loop-again c =
     let l = c .before .before .loop in
-    (omega arith, filled-more (λ k. k) (λ s k. getD (c .before .before .before .args .tree .now) k 0) (l .q) (replicate 872 0) (l .words) (l .inv .1) refl)
+    (omega arith, filled-more (λ k. k) (λ s k. getD (c .before .before .before .before .args .tree .now) k 0) (l .q) (replicate 872 0) (l .plan) (l .inv .1) refl)
 
 returns : tie.Need-returns Inv-loop μ-loop
 unfolding withTree
 returns c =
     let l = c .before .loop in
-    filled-all (λ k. k) (λ s k. getD (c .before .before .args .tree .now) k 0) (l .q) 256 (replicate 872 0) (l .words) (omega arith) (l .inv .1)
+    filled-all (λ k. k) (λ s k. getD (c .before .before .before .args .tree .now) k 0) (l .q) 256 (replicate 872 0) (l .plan) (omega arith) (l .inv .1)
 
 pub write-tree-spec : {M : Type 1} → statement M
 write-tree-spec =
@@ -53,10 +53,10 @@ write-tree-spec =
     Inv-loop
     μ-loop
     loop-holds
-    mul-words
-    element-copy-out-words
-    mul-words-2
-    array-write-words
+    mul-plan
+    element-copy-out-plan
+    mul-plan-2
+    element-write-plan
     add-q
     loop-less
     loop-again

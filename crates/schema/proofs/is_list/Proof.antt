@@ -1,11 +1,7 @@
 -- `schema::is_list` meets its contract. Assumes nothing.
-use Rattle.schema.specs.Tree.{listShape}
 use borrow.Author.Needs.{needs}
 use Rattle.schema.proofs.is_list.Statement.{statement}
 use Rattle.schema.proofs.is_list.Tie as tie
-
-code-of-requires : tie.Need-code-of-requires
-code-of-requires c κs = search needs
 
 is-list-view-requires : tie.Need-is-list-view-requires
 is-list-view-requires c κs = search needs
@@ -20,14 +16,12 @@ dictionary-of-requires : tie.Need-dictionary-of-requires
 dictionary-of-requires c κs = search needs
 
 returns : tie.Need-returns
-unfolding listShape
 returns c = cc
 
 pub is-list-spec : {M : Type 1} → statement M
 is-list-spec =
     tie.close
     (tie.spec
-    code-of-requires
     is-list-view-requires
     is-list-requires
     children-of-requires

@@ -33,13 +33,13 @@ returns-2 c =
     let z = c .before .before .before .before .before .before .before .args in
     sym (too-wide (z .formats .now) (z .schema .now) (z .first) (z .n) (c .before .before .before .loop .i) (omega arith) (sym (c .before .has-few-fields .ensures) ∙ not-true _ (c .if2 .taken)))
 
-depth-of-requires : tie.Need-depth-of-requires Inv-loop μ-loop
-depth-of-requires c κs = omega arith
+is-shallow-requires : tie.Need-is-shallow-requires Inv-loop μ-loop
+is-shallow-requires c κs = omega arith
 
 returns-3 : tie.Need-returns-3 Inv-loop μ-loop
 returns-3 c =
     let z = c .before .before .before .before .before .before .before .before .before .args in
-    sym (too-deep (z .formats .now) (z .schema .now) (z .first) (z .n) (c .before .before .before .before .before .loop .i) (omega arith) (omega (arith, c .before .depth-of .ensures, c .if3 .taken)))
+    sym (too-deep (z .formats .now) (z .schema .now) (z .first) (z .n) (c .before .before .before .before .before .loop .i) (omega arith) (sym (c .before .is-shallow .ensures) ∙ not-true _ (c .if3 .taken)))
 
 add-i : tie.Need-add-i Inv-loop μ-loop
 add-i c = omega arith
@@ -51,7 +51,7 @@ loop-again : tie.Need-loop-again Inv-loop μ-loop
 loop-again c =
     let z = c .before .before .before .before .before .before .before .before .before .args in
     let f = sym (c .before .before .before .has-few-fields .ensures) ∙ not-false _ (c .before .before .if2 .left) in
-    (omega arith, below-more _ _ (c .before .before .before .before .before .loop .inv .1) (one-low (z .formats .now) (z .schema .now) (z .first) (z .n) (c .before .before .before .before .before .loop .i) _ f (c .before .depth-of .ensures) (c .if3 .left)))
+    (omega arith, below-more _ _ (c .before .before .before .before .before .loop .inv .1) (one-low (z .formats .now) (z .schema .now) (z .first) (z .n) (c .before .before .before .before .before .loop .i) f (sym (c .before .is-shallow .ensures) ∙ not-false _ (c .if3 .left))))
 
 returns-4 : tie.Need-returns-4 Inv-loop μ-loop
 returns-4 c =
@@ -68,7 +68,7 @@ is-within-ceilings-spec =
     loop-holds
     has-few-fields-requires
     returns-2
-    depth-of-requires
+    is-shallow-requires
     returns-3
     add-i
     loop-less

@@ -1,33 +1,36 @@
 -- `node_table::plant` meets its contract. The invariant: the first q words are written. Assumes nothing.
 use mathlib.Core.Path.{_≡_, refl, sym, ap, _∙_}
-use Prim.Native.Nat.{_-_, _/_, _%_, _≤_}
+use Prim.Native.Nat.{ℕ, _-_, _/_, _%_, _≤_}
 use native.Mathlib.Omega.{arith}
-use lib.ListN.{length, take, length-set}
-use lib.Seq.{take-all}
+use lib.ListN.{length, take, getD, length-set}
+use lib.Seq.{getD-set-other}
 use Rattle.columnar.specs.Row.{seg}
 use Rattle.array_data.specs.node_words.Words.{wordOf, planted}
-use Rattle.array_data.proofs.node_words.Laws.{wrote, all-words}
+use Rattle.array_data.proofs.node_words.Laws.{wrote, zeros-at, all-words}
 use borrow.Author.Needs.{needs}
 use Rattle.array_data.proofs.node_words.plant.Statement.{statement}
 use Rattle.array_data.proofs.node_words.plant.Tie as tie
 
 abbrev Inv-loop : tie.InvT-loop
-Inv-loop formats schema first n tree words₀ q₀ words q = (q ≤ 256) × (length words ≡ 256) × (take q words ≡ seg (λ x. wordOf formats schema first n (x / 8) (x % 8)) 0 q)
+Inv-loop formats schema first n tree m q₀ tree′ q = (q ≤ m) × (length tree′ ≡ 256) × (take q tree′ ≡ seg (λ x. wordOf formats schema first n (x / 8) (x % 8)) 0 q) × ((x : ℕ) → q ≤ x → getD tree′ x 0 ≡ 0)
 
 abbrev μ-loop : tie.MeasureT-loop
-μ-loop formats schema first n tree words₀ q₀ words q = 256 - q
+μ-loop formats schema first n tree m q₀ tree′ q = m - q
+
+words-of-requires : tie.Need-words-of-requires Inv-loop μ-loop
+words-of-requires c κs = search needs
 
 loop-holds : tie.Need-loop-holds Inv-loop μ-loop
-loop-holds c = (omega arith, refl, refl)
+loop-holds c = (omega arith, refl, refl, λ x h. zeros-at 256 x)
 
 word-of-requires : tie.Need-word-of-requires Inv-loop μ-loop
 word-of-requires c κs = omega arith
 
-mul-words : tie.Need-mul-words Inv-loop μ-loop
-mul-words c = search needs
+mul-tree : tie.Need-mul-tree Inv-loop μ-loop
+mul-tree c = search needs
 
-array-write-words : tie.Need-array-write-words Inv-loop μ-loop
-array-write-words c = omega arith
+element-write-tree : tie.Need-element-write-tree Inv-loop μ-loop
+element-write-tree c = omega arith
 
 add-q : tie.Need-add-q Inv-loop μ-loop
 add-q c = omega arith
@@ -38,13 +41,14 @@ loop-less c = omega arith
 loop-again : tie.Need-loop-again Inv-loop μ-loop
 loop-again c =
     let l = c .before .before .loop in
-    (omega arith, length-set (l .words) (l .q) _ ∙ l .inv .1, wrote _ (l .words) (l .q) _ (omega arith) (l .inv .2) (c .word-of .ensures))
+    (omega arith, length-set (l .tree) (l .q) _ ∙ l .inv .1, wrote _ (l .tree) (l .q) _ (omega arith) (l .inv .2) (c .word-of .ensures), λ x h. getD-set-other (l .tree) (l .q) x _ 0 (λ e. omega arith) ∙ l .inv .3 x (omega arith))
 
 returns : tie.Need-returns Inv-loop μ-loop
 returns c =
-    let z = c .before .before .before .before .args in
+    let z = c .before .before .before .before .before .before .args in
     let l = c .before .loop in
-    all-words (z .formats .now) (z .schema .now) (z .first) (z .n) (l .words) (l .q) (omega arith) (l .inv .1) (l .inv .2)
+    let w = c .before .before .words-of .ensures in
+    all-words (z .formats .now) (z .schema .now) (z .first) (z .n) (l .tree) (l .q) (l .inv .2) (λ x a b. w .1 x (omega arith) b) (l .inv .3) (l .inv .1)
 
 pub plant-spec : {M : Type 1} → statement M
 plant-spec =
@@ -52,10 +56,11 @@ plant-spec =
     (tie.spec
     Inv-loop
     μ-loop
+    words-of-requires
     loop-holds
     word-of-requires
-    mul-words
-    array-write-words
+    mul-tree
+    element-write-tree
     add-q
     loop-less
     loop-again
