@@ -4,6 +4,7 @@ pub mod Sums
 pub mod PlainLeaf
 pub mod Loops
 pub mod Tried
+pub mod Gathered
 pub mod Node
 pub mod Homes
 pub mod Falls

@@ -14,6 +14,7 @@ ghost use Rattle.batch.specs.Batch.{batchLeaf};
 ghost use Rattle.batch.specs.batch_walk.Plain.{isPlain, reached};
 ghost use Rattle.batch.specs.batch_walk.Side.{sideOf, furthestOf};
 ghost use Rattle.batch.specs.batch_walk.Fall.{Homed, homeBy, takesOf, takesFrom, Fallen};
+use crate::gather;
 use crate::homes;
 use crate::list_view;
 use crate::numbers;
@@ -192,6 +193,29 @@ fn copy_child(
             begin,
             total,
         );
+    }
+    if gather::put_taken(
+        plan,
+        parts,
+        lengths,
+        places,
+        body,
+        counters,
+        room,
+        write,
+        first,
+        homes,
+        ids,
+        positions,
+        slot,
+        n,
+        k,
+        w,
+        total,
+        end,
+    ) {
+        plan_words::add_rows(counters, k, total);
+        return 0;
     }
     copy_stretches(
         plan,

@@ -2,6 +2,7 @@
 // comes to.
 pub mod batch_walk;
 mod dense_union;
+mod gather;
 mod homes;
 mod list_view;
 mod numbers;

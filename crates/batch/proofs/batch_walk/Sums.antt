@@ -83,3 +83,9 @@ words-step room body at from q m h g l small =
     rw (encode-number 4 (drop (from + 4 * q) body) (rw length-drop (omega arith)) (λ i. rw getD-drop (small (from + 4 * q + i))))
     (subst (λ v. splice (at + 4 * q) (take 4 (drop (from + 4 * q) body)) (splice at (take (4 * q) (drop from body)) room) ≡ splice at (take v (drop from body)) room) e
     (copy-copy room body at from (4 * q) 4 (omega arith) (omega arith)))
+
+-- a number read and written is the bytes where it stood
+pub word-is : (w : ℕ) (room body : List ℕ) (to from : ℕ) {room2 : List ℕ} {v : ℕ} → from + w ≤ length body → ((i : ℕ) → getD body i 0 < 256) → v ≡ number w (drop from body) → room2 ≡ splice to (encode w v) room
+    → room2 ≡ splice to (take w (drop from body)) room
+word-is w room body to from h small e f =
+    f ∙ ap (λ z. splice to (encode w z) room) e ∙ ap (λ z. splice to z room) (encode-number w (drop from body) (rw length-drop (omega arith)) (λ i. rw getD-drop (small (from + i))))

@@ -36,7 +36,7 @@ module _ (x : Join) (k : ℕ) (plain : isPlain (x .plan) k ≡ true) (small : k 
   abbrev W : ℕ
   W = bytesOf (x .plan) k
 
-  near : offsetOf x k + E < far
+  pub near : offsetOf x k + E < far
   unfolding reached slotOf
   near = go (ltb (offsetOf x k + E + 0) far) refl (and-left _ _ is-reached)
     where
@@ -44,18 +44,18 @@ module _ (x : Join) (k : ℕ) (plain : isPlain (x .plan) k ≡ true) (small : k 
       go true e h = ltb-true (offsetOf x k + E) far h
       go false e h = let z = ltb-true far far h in absurd (omega arith)
 
-  slot-is : (a m : ℕ) → a + m ≤ E → slotOf x k a m ≡ offsetOf x k + a
+  pub slot-is : (a m : ℕ) → a + m ≤ E → slotOf x k a m ≡ offsetOf x k + a
   unfolding slotOf
   slot-is a m h = let n = near in rw (lt-ltb (offsetOf x k + a + m) far (omega arith)) refl
 
-  ends-in : place x k 3 + W * (offsetOf x k + E) ≤ length (x .body)
+  pub ends-in : place x k 3 + W * (offsetOf x k + E) ≤ length (x .body)
   unfolding reached rowsIn
   ends-in =
       let h = leb-true (place x k 3 + W * (slotOf x k E 0 + 0)) (length (x .body)) (and-right (ltb (slotOf x k E 0) far) _ is-reached) in
       let g = rw (slot-is E 0 (omega arith)) at h in
       rw (add-zero (offsetOf x k + E)) at g
 
-  rows-are : (a m : ℕ) → a + m ≤ E → rowsIn x (place x k 3) W (offsetOf x k + a) m ≡ true
+  pub rows-are : (a m : ℕ) → a + m ≤ E → rowsIn x (place x k 3) W (offsetOf x k + a) m ≡ true
   unfolding rowsIn
   rows-are a m h =
       let g : W * (offsetOf x k + a + m) ≤ W * (offsetOf x k + E) = mul-le-mul-left W (omega arith) in

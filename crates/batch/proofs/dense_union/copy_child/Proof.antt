@@ -46,14 +46,28 @@ returns-2 c =
     let a = c .before .before .before .before .before .before .before .before .before .before .before .before .before .before .before .args in
     λ source. rw (c .before .before .before .before .before .before .before .before .before .before .before .before .before .before .before .pre .1 .1 .1 (c .before .before .before .before .before .if2 .taken) (λ b j d. batchLeaf (join (a .plan .now) (a .parts .now) (a .lengths .now) (a .places .now) (a .body .now) (a .first) source) (a .k) b j d) (a .counters .now)) (c .before .before .copy-stretch .ensures source)
 
-copy-stretches-requires : tie.Need-copy-stretches-requires
-copy-stretches-requires c κs = (c .before .before .before .before .before .before .before .before .before .before .before .before .pre .0, c .before .before .before .before .before .before .before .before .before .before .before .before .pre .1 .0)
+put-taken-requires : tie.Need-put-taken-requires
+put-taken-requires c κs = ((c .before .before .before .before .before .before .before .before .before .before .before .before .pre .0 .0, c .before .before .before .before .before .before .before .before .before .before .before .before .pre .0 .1, c .before .before .before .before .before .width-at .ensures, c .before .before .before .before .before .before .before .before .before .before .before .before .pre .0 .2), (c .before .before .before .before .before .before .before .before .before .before .before .before .pre .1 .0, c .before .before .before .before .before .before .before .before .before .before .before .before .pre .1 .1 .0))
+
+add-rows-requires-2 : tie.Need-add-rows-requires-2
+add-rows-requires-2 c κs = search needs
 
 same-length-2 : tie.Need-same-length-2
 same-length-2 c = search needs
 
 returns-3 : tie.Need-returns-3
-returns-3 c = c .before .before .copy-stretches .ensures
+returns-3 c =
+    let a = c .before .before .before .before .before .before .before .before .before .before .before .before .before .before .before .before .before .before .args in
+    λ source. rw (c .add-rows2 .ensures) (c .before .before .before .before .before .put-taken .ensures .1 (c .before .before .if3 .taken) source)
+
+copy-stretches-requires : tie.Need-copy-stretches-requires
+copy-stretches-requires c κs = (c .before .before .before .before .before .before .before .before .before .before .before .before .before .before .before .before .before .before .pre .0, c .before .before .before .before .before .before .before .before .before .before .before .before .before .before .before .before .before .before .pre .1 .0)
+
+same-length-3 : tie.Need-same-length-3
+same-length-3 c = search needs
+
+returns-4 : tie.Need-returns-4
+returns-4 c = rw (c .before .before .before .before .before .before .before .before .put-taken .ensures .0 (c .before .before .before .before .before .if3 .left)) at (c .before .before .copy-stretches .ensures)
 
 pub copy-child-spec : {M : Type 1} → statement M
-copy-child-spec = tie.close (tie.spec width-at-requires all-reached-requires add-rows-requires returns copy-stretch-requires same-length returns-2 copy-stretches-requires same-length-2 returns-3)
+copy-child-spec = tie.close (tie.spec width-at-requires all-reached-requires add-rows-requires returns copy-stretch-requires same-length returns-2 put-taken-requires add-rows-requires-2 same-length-2 returns-3 copy-stretches-requires same-length-3 returns-4)

@@ -1,0 +1,149 @@
+// Rows of a dense union's child that stand in the body one by one, where the room has them all: entry after entry.
+ghost use mathlib.Core.Path.{_≡_};
+ghost use mathlib.Core.Bool.{true, false, cond};
+ghost use Prim.Native.Nat.{ℕ, _+_, _*_, _<_, _≤_, _^_};
+ghost use lib.ListN.{length, take, drop};
+ghost use lib.Dec.{eqb};
+ghost use Rattle.number.specs.Number.{entry, splice};
+ghost use Rattle.utils.specs.Pieces.{pieces};
+ghost use Rattle.walk.specs.State.{bytesOf, addRows};
+ghost use Rattle.walk.specs.Log.{Did};
+ghost use Rattle.leaf_walk.specs.Join.{join};
+ghost use Rattle.batch.specs.Stretch.{sumOf, stretches};
+ghost use Rattle.batch.specs.Batch.{batchLeaf};
+ghost use Rattle.batch.specs.batch_walk.Plain.{isPlain};
+ghost use Rattle.batch.specs.batch_walk.Side.{furthestOf};
+ghost use Rattle.batch.specs.batch_walk.Fall.{homeBy, takesOf, takesFrom};
+use crate::homes;
+use crate::numbers;
+use array_data::lent_tables;
+use nested_rows::lookups;
+use walk::plan_words;
+
+// An entry of w bytes of body at `from` into room at `to`.
+fn copy_entry(room: &mut [u8], to: usize, body: &[u8], from: usize, w: u64)
+    requires { ⌜ (to + w ≤ length (now room)) × (from + w ≤ length (now body)) ⌝ }
+    ensures { λ _. ⌜ now (room .exit) ≡ splice to (take w (drop from (now (body .entry)))) (now (room .entry)) ⌝ }
+{
+    if w == 4 {
+        number::write_u32(room, to, number::read_u32(body, from));
+        return;
+    }
+    if w == 8 {
+        number::write_u64(room, to, number::read_u64(body, from));
+        return;
+    }
+    number::copy::copy_bytes(room, to, body, from, w as usize);
+}
+
+// Row q of the union, if child k takes it, into room at `to`: the bytes that it has there. Row 0 of the child stands at `at`.
+fn copy_row(
+    room: &mut [u8],
+    to: usize,
+    body: &[u8],
+    at: u64,
+    w: u64,
+    homes: &[u8; 256],
+    ids: u64,
+    positions: u64,
+    q: u64,
+    k: usize,
+) -> usize
+    requires { ⌜ (ids + q < length (now body)) × (positions + 4 * (q + 1) ≤ length (now body)) × (q < 2 ^ 63) ⌝ }
+    requires { ⌜ (to + w * cond (eqb (homeBy (now homes) (now body) (ids + q)) k) 1 0 ≤ length (now room)) × (at + w * (cond (eqb (homeBy (now homes) (now body) (ids + q)) k) (entry 4 (now body) positions q) 0 + cond (eqb (homeBy (now homes) (now body) (ids + q)) k) 1 0) ≤ length (now body)) ⌝ }
+    ensures { λ r. ⌜ r ≡ w * cond (eqb (homeBy (now (homes .entry)) (now (body .entry)) (ids + q)) k) 1 0 ⌝ }
+    ensures { λ _. ⌜ now (room .exit) ≡ splice to (take (w * cond (eqb (homeBy (now (homes .entry)) (now (body .entry)) (ids + q)) k) 1 0) (drop (at + w * cond (eqb (homeBy (now (homes .entry)) (now (body .entry)) (ids + q)) k) (entry 4 (now (body .entry)) positions q) 0) (now (body .entry)))) (now (room .entry)) ⌝ }
+{
+    if homes::home_at(homes, body, ids + q) as usize != k {
+        return 0;
+    }
+    let start = homes::position_at(body, positions, q) as u64;
+    let from = at + w * start;
+    copy_entry(room, to, body, from as usize, w);
+    w as usize
+}
+
+// The entries of the rows that child k takes, from `to` on; row 0 of the child stands at `at`.
+fn copy_taken(
+    room: &mut [u8],
+    to: usize,
+    body: &[u8],
+    at: u64,
+    w: u64,
+    homes: &[u8; 256],
+    ids: u64,
+    positions: u64,
+    slot: u64,
+    n: u64,
+    k: usize,
+)
+    requires { ⌜ (ids + (slot + n) ≤ length (now body)) × (positions + 4 * (slot + n) ≤ length (now body)) × (slot + n < 2 ^ 63) ⌝ }
+    requires { ⌜ (to + w * sumOf (takesOf (λ r. homeBy (now homes) (now body) (ids + (slot + r))) k) n ≤ length (now room)) × ((r : ℕ) → r < n → at + w * (takesFrom (λ q. homeBy (now homes) (now body) (ids + (slot + q))) (λ q. entry 4 (now body) positions (slot + q)) k r + takesOf (λ q. homeBy (now homes) (now body) (ids + (slot + q))) k r) ≤ length (now body)) ⌝ }
+    ensures { λ _. ⌜ now (room .exit) ≡ splice to (pieces (λ r. take (w * takesOf (λ q. homeBy (now (homes .entry)) (now (body .entry)) (ids + (slot + q))) k r) (drop (at + w * takesFrom (λ q. homeBy (now (homes .entry)) (now (body .entry)) (ids + (slot + q))) (λ q. entry 4 (now (body .entry)) positions (slot + q)) k r) (now (body .entry)))) n) (now (room .entry)) ⌝ }
+{
+    let mut to = to;
+    let mut r: u64 = 0;
+    while r < n {
+        to += copy_row(room, to, body, at, w, homes, ids, positions, slot + r, k);
+        r += 1;
+    }
+}
+
+// The array, whose length is known of what a call returns.
+fn known(counters: [u64; plan_words::COUNTERS]) -> [u64; plan_words::COUNTERS]
+    ensures { λ r. ⌜ r ≡ counters ⌝ }
+{
+    counters
+}
+
+// Writes the rows of child k, `total` of them, which reach to `end`, where they stand in the body and the room has them; else false.
+pub fn put_taken(
+    plan: &[u64],
+    parts: &[u64],
+    lengths: &[u64],
+    places: &[u64],
+    body: &[u8],
+    counters: &[u64; plan_words::COUNTERS],
+    room: &mut [u8],
+    write: bool,
+    first: usize,
+    homes: &[u8; 256],
+    ids: u64,
+    positions: u64,
+    slot: u64,
+    n: u64,
+    k: usize,
+    w: u64,
+    total: u64,
+    end: u64,
+) -> bool
+    requires { ⌜ (first < 2 ^ 32) × (k < 32) × (w ≡ bytesOf (now plan) k) × (isPlain (now plan) k ≡ true) ⌝ }
+    requires { ⌜ (ids + (slot + n) ≤ length (now body)) × (positions + 4 * (slot + n) ≤ length (now body)) × (slot + n < 2 ^ 63) ⌝ }
+    requires { ⌜ (total ≡ sumOf (takesOf (λ r. homeBy (now homes) (now body) (ids + (slot + r))) k) n) × (end ≡ furthestOf (λ q. takesFrom (λ r. homeBy (now homes) (now body) (ids + (slot + r))) (λ r. entry 4 (now body) positions (slot + r)) k q + takesOf (λ r. homeBy (now homes) (now body) (ids + (slot + r))) k q) n) ⌝ }
+    ensures { λ r. ⌜ (r ≡ false → now (room .exit) ≡ now (room .entry)) ⌝ }
+    ensures { λ r. ⌜ (r ≡ true → (source : ℕ) → Did (now (plan .entry)) (now (parts .entry)) write (stretches (λ a m d. batchLeaf (join (now (plan .entry)) (now (parts .entry)) (now (lengths .entry)) (now (places .entry)) (now (body .entry)) first source) k a m d) (takesFrom (λ q. homeBy (now (homes .entry)) (now (body .entry)) (ids + (slot + q))) (λ q. entry 4 (now (body .entry)) positions (slot + q)) k) (takesOf (λ q. homeBy (now (homes .entry)) (now (body .entry)) (ids + (slot + q))) k) n (now (counters .entry))) (now (room .entry)) 0 (addRows k total (now (counters .entry))) (now (room .exit))) ⌝ }
+{
+    if !numbers::reaches(lengths, places, body, first, k, w, end) {
+        return false;
+    }
+    let counters = known(*counters);
+    let o = plan_words::scale(plan_words::rows_of(&counters, k), w);
+    match plan_words::target(
+        plan,
+        parts,
+        room.len(),
+        write,
+        k,
+        1,
+        o,
+        plan_words::scale(total, w),
+    ) {
+        plan_words::Goal::At(to) => {
+            let offset = lookups::slot_of(lengths, first, k, 0, 0);
+            let at = lent_tables::place(places, first + k, 3) + w * offset;
+            copy_taken(room, to, body, at, w, homes, ids, positions, slot, n, k);
+            true
+        }
+        plan_words::Goal::Skip => false,
+    }
+}
