@@ -1,7 +1,7 @@
 -- What finishing is given after an accepted opening and any orders: the plan's words, counters, memory and room that hold a destination,
 -- and tables that name the sources' data buffers and kept dictionaries. Assumes nothing.
 use mathlib.Core.Path.{_≡_, ap, _∙_}
-use mathlib.Core.Bool.{Bool, true, false, not}
+use mathlib.Core.Bool.{Bool, true, not}
 use mathlib.Core.List.{List, List·Memᴰ}
 use Prim.Native.Nat.{ℕ, suc, _+_, _*_, _≤_, _<_}
 use native.Mathlib.Omega.{arith}

@@ -6,7 +6,18 @@ use Rattle.columnar.specs.Types.{Ty, tPlain, tView, tListView, tList, tSparse, 
 use Rattle.columnar.specs.Kids.{Kid, kidTy, kidNode}
 use Rattle.walk.specs.State.{endOf}
 use Rattle.refinement.specs.walk_is_model.Holds.{inPlan, Worded}
-use Rattle.refinement.proofs.walk_is_model.Frame.{worded-span, field-of}
+use Rattle.refinement.proofs.walk_is_model.Frame.{field-of}
+
+-- a plan has at most 32 nodes
+pub worded-small : (plan : List ℕ) (k : ℕ) (t : Ty) (i : ℕ) → Worded plan k t i → i < 32
+worded-small plan (suc k) (tPlain p) i w = w .0
+worded-small plan (suc k) tView i w = w .0
+worded-small plan (suc k) (tListView v t) i w = w .0
+worded-small plan (suc k) (tList v t) i w = w .0
+worded-small plan (suc k) (tSparse ids nullable f) i w = w .0
+worded-small plan (suc k) (tDense ids nullable f) i w = w .0
+worded-small plan (suc k) (tRunEnd v t) i w = w .0
+worded-small plan (suc k) (tDictionary n p) i w = w .0
 
 -- A CHILD STANDS BEHIND NODE i AND ENDS WITHIN, and its words stand for its type
 pub record KidAt (plan : List ℕ) (t : Ty) (i : ℕ) (c : Kid t) : Type 0 where
