@@ -1,5 +1,6 @@
 /* Times importing, joining and exporting ArrowArrays by lafkuno_arrow.h, and prints a table. Run by bench/run. */
 #define _POSIX_C_SOURCE 199309L
+#include "../tests/c/arrow_memory.h"
 #include <lafkuno_arrow.h>
 #include <stdio.h>
 #include <stdlib.h>
@@ -7,21 +8,6 @@
 #include <time.h>
 
 enum { ROWS = 5000000, CUT = 4900000, FEW = 10 };
-
-/* ---- memory that is counted */
-
-void *__real_malloc(size_t size);
-void *__real_calloc(size_t count, size_t size);
-void *__real_aligned_alloc(size_t alignment, size_t size);
-void *__wrap_malloc(size_t size);
-void *__wrap_calloc(size_t count, size_t size);
-void *__wrap_aligned_alloc(size_t alignment, size_t size);
-
-static size_t allocated;
-
-void *__wrap_malloc(size_t size) { return allocated += size, __real_malloc(size); }
-void *__wrap_calloc(size_t count, size_t size) { return allocated += count * size, __real_calloc(count, size); }
-void *__wrap_aligned_alloc(size_t alignment, size_t size) { return allocated += size, __real_aligned_alloc(alignment, size); }
 
 /* ---- columns of five million rows */
 

@@ -1,24 +1,13 @@
 // What the drivers share: random numbers, numbers as bytes, and the comparison of two sides.
+#[path = "../bindings/rust/lafkuno/tests/common/mod.rs"]
+mod random;
+
 use std::hint::black_box;
 use std::time::{Duration, Instant};
 
 // ---- bytes
 
-// Random numbers (xorshift).
-pub struct Random(pub u64);
-
-impl Random {
-    pub fn next(&mut self) -> u64 {
-        self.0 ^= self.0 << 13;
-        self.0 ^= self.0 >> 7;
-        self.0 ^= self.0 << 17;
-        self.0
-    }
-
-    pub fn below(&mut self, n: u64) -> u64 {
-        self.next() % n
-    }
-}
+pub use random::Random;
 
 // Numbers as bytes, in place. The machine is little-endian.
 pub trait Number: Copy {}

@@ -15,7 +15,7 @@ ghost use Rattle.into_builder.specs.buffers.Names.{lent, countAt, countB
 ghost use Rattle.into_builder.specs.counts.Counts.{zerosOf};
 ghost use Rattle.into_builder.specs.places.Places.{Placed};
 use crate::buffers;
-use crate::counters;
+use crate::counts;
 use array_data::lent_tables;
 use plan::dictionaries;
 use walk::plan_words;

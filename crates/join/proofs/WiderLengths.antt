@@ -14,7 +14,7 @@ use Rattle.model.specs.Opening.{keeps}
 use Rattle.model.specs.Grounds.{Counts, startCounts}
 use Rattle.model.specs.Transform.{openData, start}
 use Rattle.model.specs.Book.{Call}
-use Rattle.model.proofs.WiderAsks.{start-counters-wider}
+use Rattle.model.proofs.WiderAsks.{start-counts-wider}
 use Rattle.model.proofs.WiderAnswers.{keeps-wider}
 use Rattle.model.proofs.WiderOpening.{opening-wider}
 use Rattle.columns.specs.Grounds.{ceiling}
@@ -95,7 +95,7 @@ module _ (n w : Lending) (bytes-n : Bytes n) (bytes-w : Bytes w) (accepted-n : o
   same-keeps = keeps-wider (n .keep) (sourcesIn n) (columnsIn n) (columnsIn w) (again .each) ∙ ap₂ (λ u k. keeps u k (columnsIn w)) same-choice same-count
 
   start-wide : startCounts (n .gaps) (typeIn n) ≡ startCounts (w .gaps) (typeIn w)
-  start-wide = start-counters-wider (n .gaps) d ∙ ap (λ g. startCounts g (typeIn w)) same-gaps
+  start-wide = start-counts-wider (n .gaps) d ∙ ap (λ g. startCounts g (typeIn w)) same-gaps
 
   pub moved : (P : Bool → ℕ → Counts → Type 0) → P (keepsIn n) (sourcesIn n) (startCounts (n .gaps) (typeIn n)) → P (keepsIn w) (sourcesIn w) (startCounts (w .gaps) (typeIn w))
   moved P h = subst (P (keepsIn w) (sourcesIn w)) start-wide (subst (λ k. P (keepsIn w) k (startCounts (n .gaps) (typeIn n))) same-count (subst (λ b. P b (sourcesIn n) (startCounts (n .gaps) (typeIn n))) same-keeps h))

@@ -3,12 +3,18 @@
 //! Every call answers 0 or the number of a ground, and changes nothing where it is not 0. Whatever the slices hold, only they are read,
 //! and only those behind `&mut` are written.
 
+mod beside;
+mod codings;
 mod converting;
+mod measuring;
 mod reclaiming;
 mod trips;
 mod why;
 
+pub use beside::{frame, join_frames, mean, ratio};
+pub use codings::{encode, expand, plan_encode, plan_expand, Range};
 pub use converting::{convert, list_view_child, plan_convert, Into, Target};
+pub use measuring::{measure_copy, measure_nulls, measure_open, needed_bytes};
 pub use reclaiming::{plan_reclaim, reclaim};
 pub use trips::{measure_orders, orders, Ended, MOST_ORDERS, ORDER};
 pub use why::{why_copy, why_nulls, why_orders, Why, WHY};
@@ -135,17 +141,6 @@ extern "C" {
         plan: *const u64, plan_len: usize, sources: *const u32, sources_len: usize, places: *const Position, places_len: usize,
     ) -> u64;
     fn lafkuno_running_nulls(counters: *const u64, counters_len: usize) -> u64;
-    fn lafkuno_measure_open(
-        plan: *const u64, plan_len: usize, sources: *const u32, sources_len: usize, lengths: *const u64, lengths_len: usize,
-        places: *const Position, places_len: usize, body: *const u8, body_len: usize, counters: *mut u64, counters_len: usize,
-    ) -> u8;
-    fn lafkuno_measure_copy(
-        plan: *const u64, plan_len: usize, sources: *const u32, sources_len: usize, lengths: *const u64, lengths_len: usize,
-        places: *const Position, places_len: usize, body: *const u8, body_len: usize, counters: *mut u64, counters_len: usize,
-        source: u32, start: u64, end: u64,
-    ) -> u8;
-    fn lafkuno_measure_nulls(plan: *const u64, plan_len: usize, counters: *mut u64, counters_len: usize, n: u64) -> u8;
-    fn lafkuno_needed_bytes(plan: *const u64, plan_len: usize, counters: *const u64, counters_len: usize, p: u32) -> u64;
     fn lafkuno_column_ground(
         formats: *const u8, formats_len: usize, schema: *const u32, schema_len: usize, lengths: *const u64, lengths_len: usize,
         places: *const Position, places_len: usize, buffers: *const Position, buffers_len: usize, body: *const u8, body_len: usize,
@@ -172,49 +167,6 @@ extern "C" {
     fn lafkuno_read_run(
         tree: *const u64, tree_len: usize, lengths: *const u64, lengths_len: usize, places: *const Position, places_len: usize,
         body: *const u8, body_len: usize, first: u32, row: u64, answer: *mut u64, answer_len: usize,
-    ) -> u8;
-    fn lafkuno_frame(
-        formats: *const u8, formats_len: usize, schema: *const u32, schema_len: usize, lengths: *const u64, lengths_len: usize,
-        places: *const Position, places_len: usize, buffers: *const Position, buffers_len: usize, body: *const u8, body_len: usize,
-        first_a: u32, n_a: u32, first_b: u32, n_b: u32, start: u64, end: u64, room: *mut f64, room_len: usize,
-    ) -> u8;
-    fn lafkuno_join_frames(
-        left: *const f64, left_len: usize, right: *const f64, right_len: usize, room: *mut f64, room_len: usize,
-    ) -> u8;
-    // before any room is lent: `target` is the first node of the result's type; plan and counters are written
-    fn lafkuno_plan_encode(
-        formats: *const u8, formats_len: usize, schema: *const u32, schema_len: usize, lengths: *const u64, lengths_len: usize,
-        places: *const Position, places_len: usize, buffers: *const Position, buffers_len: usize, body: *const u8, body_len: usize,
-        first: u32, n: u32, target: u32, start: u64, end: u64,
-        plan: *mut u64, plan_len: usize, counters: *mut u64, counters_len: usize,
-    ) -> u8;
-    fn lafkuno_encode(
-        formats: *const u8, formats_len: usize, schema: *const u32, schema_len: usize, lengths: *const u64, lengths_len: usize,
-        places: *const Position, places_len: usize, buffers: *const Position, buffers_len: usize, body: *const u8, body_len: usize,
-        first: u32, n: u32, target: u32, start: u64, end: u64, parts: *const Position, parts_len: usize,
-        plan: *mut u64, plan_len: usize, counters: *mut u64, counters_len: usize, room: *mut u8, room_len: usize,
-    ) -> u8;
-    fn lafkuno_plan_expand(
-        formats: *const u8, formats_len: usize, schema: *const u32, schema_len: usize, lengths: *const u64, lengths_len: usize,
-        places: *const Position, places_len: usize, buffers: *const Position, buffers_len: usize, body: *const u8, body_len: usize,
-        first: u32, n: u32, target: u32, start: u64, end: u64,
-        plan: *mut u64, plan_len: usize, counters: *mut u64, counters_len: usize,
-    ) -> u8;
-    fn lafkuno_expand(
-        formats: *const u8, formats_len: usize, schema: *const u32, schema_len: usize, lengths: *const u64, lengths_len: usize,
-        places: *const Position, places_len: usize, buffers: *const Position, buffers_len: usize, body: *const u8, body_len: usize,
-        first: u32, n: u32, target: u32, start: u64, end: u64, parts: *const Position, parts_len: usize,
-        plan: *mut u64, plan_len: usize, counters: *mut u64, counters_len: usize, room: *mut u8, room_len: usize,
-    ) -> u8;
-    fn lafkuno_mean(
-        formats: *const u8, formats_len: usize, schema: *const u32, schema_len: usize, lengths: *const u64, lengths_len: usize,
-        places: *const Position, places_len: usize, buffers: *const Position, buffers_len: usize, body: *const u8, body_len: usize,
-        first: u32, n: u32, start: u64, end: u64, answer: *mut u64, answer_len: usize,
-    ) -> u8;
-    fn lafkuno_ratio(
-        formats: *const u8, formats_len: usize, schema: *const u32, schema_len: usize, lengths: *const u64, lengths_len: usize,
-        places: *const Position, places_len: usize, buffers: *const Position, buffers_len: usize, body: *const u8, body_len: usize,
-        first_a: u32, n_a: u32, first_b: u32, n_b: u32, start: u64, end: u64, answer: *mut u64, answer_len: usize,
     ) -> u8;
 }
 
@@ -313,43 +265,6 @@ pub fn running_nulls(counters: &[u64]) -> u64 {
     unsafe { lafkuno_running_nulls(counters.as_ptr(), counters.len()) }
 }
 
-// ---- the same without room
-
-/// What an opening does to the counters.
-#[inline(always)]
-pub fn measure_open(plan: &[u64], x: &Tables, counters: &mut [u64]) -> u8 {
-    unsafe {
-        lafkuno_measure_open(
-            plan.as_ptr(), plan.len(), x.sources.as_ptr(), x.sources.len(), x.lengths.as_ptr(), x.lengths.len(),
-            x.places.as_ptr(), x.places.len(), x.body.as_ptr(), x.body.len(), counters.as_mut_ptr(), counters.len(),
-        )
-    }
-}
-
-/// What a copy does to them.
-#[inline(always)]
-pub fn measure_copy(plan: &[u64], x: &Tables, counters: &mut [u64], source: u32, start: u64, end: u64) -> u8 {
-    unsafe {
-        lafkuno_measure_copy(
-            plan.as_ptr(), plan.len(), x.sources.as_ptr(), x.sources.len(), x.lengths.as_ptr(), x.lengths.len(),
-            x.places.as_ptr(), x.places.len(), x.body.as_ptr(), x.body.len(), counters.as_mut_ptr(), counters.len(),
-            source, start, end,
-        )
-    }
-}
-
-/// What an order of nulls does to them.
-#[inline(always)]
-pub fn measure_nulls(plan: &[u64], counters: &mut [u64], n: u64) -> u8 {
-    unsafe { lafkuno_measure_nulls(plan.as_ptr(), plan.len(), counters.as_mut_ptr(), counters.len(), n) }
-}
-
-/// The bytes that part `p` must hold; 0 where there is no such part.
-#[inline(always)]
-pub fn needed_bytes(plan: &[u64], counters: &[u64], p: u32) -> u64 {
-    unsafe { lafkuno_needed_bytes(plan.as_ptr(), plan.len(), counters.as_ptr(), counters.len(), p) }
-}
-
 // ---- one column
 
 /// 9, 10 or 12 for the column of `n` nodes from node `first` on.
@@ -439,112 +354,5 @@ pub struct RunAnswer {
 impl RunAnswer {
     fn of(ground: u8, [run, left]: [u64; 2]) -> Result<RunAnswer, u8> {
         if ground == 0 { Ok(RunAnswer { run, left }) } else { Err(ground) }
-    }
-}
-
-// ---- beside the join
-
-/// The frame of the rows `start .. end` of two columns, each by its first node and its count of nodes: smallest and largest of the first,
-/// smallest and largest of the second.
-pub fn frame(x: &Tables, [first_a, n_a]: [u32; 2], [first_b, n_b]: [u32; 2], start: u64, end: u64, room: &mut [f64]) -> u8 {
-    unsafe {
-        lafkuno_frame(
-            x.formats.as_ptr(), x.formats.len(), x.schema.as_ptr(), x.schema.len(), x.lengths.as_ptr(), x.lengths.len(),
-            x.places.as_ptr(), x.places.len(), x.buffers.as_ptr(), x.buffers.len(), x.body.as_ptr(), x.body.len(),
-            first_a, n_a, first_b, n_b, start, end, room.as_mut_ptr(), room.len(),
-        )
-    }
-}
-
-/// The frame of two ranges from the frames of both, the left range's first.
-pub fn join_frames(left: &[f64], right: &[f64], room: &mut [f64]) -> u8 {
-    unsafe { lafkuno_join_frames(left.as_ptr(), left.len(), right.as_ptr(), right.len(), room.as_mut_ptr(), room.len()) }
-}
-
-// ---- into runs, and back
-
-/// A column by its first node and its count of nodes, the first node of the result's type, and a range of rows.
-#[derive(Clone, Copy, Debug)]
-pub struct Range {
-    /// The column's first node.
-    pub first: u32,
-    /// How many nodes it has.
-    pub n: u32,
-    /// The first node of the result's type.
-    pub target: u32,
-    /// The first row.
-    pub start: u64,
-    /// One past the last row.
-    pub end: u64,
-}
-
-/// The runs of a fixed-width column's rows: the ground, or the plan and the counters of the result.
-pub fn plan_encode(x: &Tables, r: Range, plan: &mut [u64], counters: &mut [u64]) -> u8 {
-    unsafe {
-        lafkuno_plan_encode(
-            x.formats.as_ptr(), x.formats.len(), x.schema.as_ptr(), x.schema.len(), x.lengths.as_ptr(), x.lengths.len(),
-            x.places.as_ptr(), x.places.len(), x.buffers.as_ptr(), x.buffers.len(), x.body.as_ptr(), x.body.len(),
-            r.first, r.n, r.target, r.start, r.end, plan.as_mut_ptr(), plan.len(), counters.as_mut_ptr(), counters.len(),
-        )
-    }
-}
-
-/// The runs of a fixed-width column's rows into the room.
-pub fn encode(x: &Tables, r: Range, parts: &[Position], plan: &mut [u64], counters: &mut [u64], room: &mut [u8]) -> u8 {
-    unsafe {
-        lafkuno_encode(
-            x.formats.as_ptr(), x.formats.len(), x.schema.as_ptr(), x.schema.len(), x.lengths.as_ptr(), x.lengths.len(),
-            x.places.as_ptr(), x.places.len(), x.buffers.as_ptr(), x.buffers.len(), x.body.as_ptr(), x.body.len(),
-            r.first, r.n, r.target, r.start, r.end, parts.as_ptr(), parts.len(),
-            plan.as_mut_ptr(), plan.len(), counters.as_mut_ptr(), counters.len(), room.as_mut_ptr(), room.len(),
-        )
-    }
-}
-
-/// The rows of a run-end column of fixed-width values: the ground, or the plan and the counters of the result.
-pub fn plan_expand(x: &Tables, r: Range, plan: &mut [u64], counters: &mut [u64]) -> u8 {
-    unsafe {
-        lafkuno_plan_expand(
-            x.formats.as_ptr(), x.formats.len(), x.schema.as_ptr(), x.schema.len(), x.lengths.as_ptr(), x.lengths.len(),
-            x.places.as_ptr(), x.places.len(), x.buffers.as_ptr(), x.buffers.len(), x.body.as_ptr(), x.body.len(),
-            r.first, r.n, r.target, r.start, r.end, plan.as_mut_ptr(), plan.len(), counters.as_mut_ptr(), counters.len(),
-        )
-    }
-}
-
-/// The rows of a run-end column of fixed-width values into the room.
-pub fn expand(x: &Tables, r: Range, parts: &[Position], plan: &mut [u64], counters: &mut [u64], room: &mut [u8]) -> u8 {
-    unsafe {
-        lafkuno_expand(
-            x.formats.as_ptr(), x.formats.len(), x.schema.as_ptr(), x.schema.len(), x.lengths.as_ptr(), x.lengths.len(),
-            x.places.as_ptr(), x.places.len(), x.buffers.as_ptr(), x.buffers.len(), x.body.as_ptr(), x.body.len(),
-            r.first, r.n, r.target, r.start, r.end, parts.as_ptr(), parts.len(),
-            plan.as_mut_ptr(), plan.len(), counters.as_mut_ptr(), counters.len(), room.as_mut_ptr(), room.len(),
-        )
-    }
-}
-
-// ---- exact sums
-
-/// Count, sum, 1 for minus, and the two magnitudes of the mean: the ground where it is refused.
-pub fn mean(x: &Tables, first: u32, n: u32, start: u64, end: u64, answer: &mut [u64]) -> u8 {
-    unsafe {
-        lafkuno_mean(
-            x.formats.as_ptr(), x.formats.len(), x.schema.as_ptr(), x.schema.len(), x.lengths.as_ptr(), x.lengths.len(),
-            x.places.as_ptr(), x.places.len(), x.buffers.as_ptr(), x.buffers.len(), x.body.as_ptr(), x.body.len(),
-            first, n, start, end, answer.as_mut_ptr(), answer.len(),
-        )
-    }
-}
-
-/// Count, both totals, 1 for minus, and the two magnitudes of the first over the second: the ground where it is refused. A column is its
-/// first node and how many nodes it has.
-pub fn ratio(x: &Tables, a: (u32, u32), b: (u32, u32), start: u64, end: u64, answer: &mut [u64]) -> u8 {
-    unsafe {
-        lafkuno_ratio(
-            x.formats.as_ptr(), x.formats.len(), x.schema.as_ptr(), x.schema.len(), x.lengths.as_ptr(), x.lengths.len(),
-            x.places.as_ptr(), x.places.len(), x.buffers.as_ptr(), x.buffers.len(), x.body.as_ptr(), x.body.len(),
-            a.0, a.1, b.0, b.1, start, end, answer.as_mut_ptr(), answer.len(),
-        )
     }
 }

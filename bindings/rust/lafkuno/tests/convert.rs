@@ -1,19 +1,11 @@
 //! Lists as list-views and back: the cases that the request names. Random columns of every kind are turned by `trials`.
 
-use lafkuno::{ipc, Batch, Buffer, Column, Error, Field, Row, Type};
+#[path = "common/build.rs"]
+mod common;
+
+use common::{build, numbers, ty};
+use lafkuno::{ipc, Batch, Buffer, Column, Error, Field, Row};
 use std::process::Command;
-
-fn numbers<const N: usize>(w: usize, list: [u64; N]) -> Buffer {
-    list.iter().flat_map(|n| n.to_le_bytes()[..w].to_vec()).collect::<Vec<u8>>().into()
-}
-
-fn ty(text: &str) -> Type {
-    text.parse().unwrap()
-}
-
-fn build(text: &str, rows: &[Row]) -> Column {
-    Column::build(&ty(text), rows).unwrap()
-}
 
 /// Rows of one run each: so many of them, with one value.
 fn run(ends: &str, rows: u64) -> Column {

@@ -1,19 +1,11 @@
 //! Columns in other widths of offsets, sizes, run ends and keys: the cases that the request names. Random columns of every kind are converted by
 //! `trials`.
 
+#[path = "common/build.rs"]
+mod common;
+
+use common::{build, numbers, ty};
 use lafkuno::{Buffer, Column, Error, Join, Place, Row, Type};
-
-fn numbers<const N: usize>(w: usize, list: [u64; N]) -> Buffer {
-    list.iter().flat_map(|n| n.to_le_bytes()[..w].to_vec()).collect::<Vec<u8>>().into()
-}
-
-fn ty(text: &str) -> Type {
-    text.parse().unwrap()
-}
-
-fn build(text: &str, rows: &[Row]) -> Column {
-    Column::build(&ty(text), rows).unwrap()
-}
 
 fn column<const N: usize>(format: &str, length: u64, buffers: [Buffer; N], children: &[Column]) -> Column {
     Column { format: format.into(), length, buffers: buffers.to_vec(), children: children.to_vec(), ..Column::default() }

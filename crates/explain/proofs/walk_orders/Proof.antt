@@ -60,7 +60,7 @@ returns-2 : tie.Need-returns-2 Inv-loop μ-loop
 returns-2 c =
     let a = c .before .before .before .before .before .before .before .before .before .before .before .before .args in
     let x = lent (a .plan .now) (a .parts .now) (a .sources .now) (a .lengths .now) (a .places .now) (a .body .now) in
-    list-end (a .orders .now) x (a .m) (a .counters .now) (c .before .before .before .before .before .before .before .before .before .before .before .before .pre .3) (a .n - c .before .before .loop .k) (c .before .before .loop .k) (c .before .before .loop .counters) (omega arith) (c .at-first .ensures) ∙ sym (c .before .before .loop .inv .2)
+    list-end (a .orders .now) x (a .m) (a .counters .now) (c .before .before .before .before .before .before .before .before .before .before .before .before .pre .3) (a .n - c .before .before .loop .k) (c .before .before .loop .k) (c .before .before .loop .tally) (omega arith) (c .at-first .ensures) ∙ sym (c .before .before .loop .inv .2)
 
 pub walk-orders-spec : {M : Type 1} → statement M
 walk-orders-spec = tie.close (tie.spec Inv-loop μ-loop load-requires loop-holds order-at-requires cast-t17 returns add-k loop-less loop-again at-first-requires returns-2)

@@ -12,15 +12,15 @@ use Rattle.columnar.specs.Row.{seg}
 use Rattle.walk.specs.State.{codeOf, place}
 use Rattle.array_data.specs.Sources.{firstOf}
 use Rattle.refinement.specs.orders.Order.{Lent, joinOf, sourceCount}
-use Rattle.plan.specs.Plan as plan
+use Rattle.plan.specs.Plan as settles
 use Rattle.refinement.specs.finishing.Finish.{dataCount, buffersOf, buffersBefore, buffersFrom, buffersUpTo}
 use Rattle.into_builder.specs.buffers.Names.{lent, countAt, countBefore, namesAt, namesBefore, Behind}
 use Rattle.into_builder.proofs.buffers.Written.{behind-none, behind-then, behind-all}
 
 -- ---- they depend on the plan, the sources and their places alone
 
-pub of-is : (x : Lent) (bs c r : List ℕ) (b i s : ℕ) → buffersOf x bs c r b i s ≡ plan.buffersUpTo (x .places) (x .sources) i s
-unfolding buffersOf plan.buffersUpTo
+pub of-is : (x : Lent) (bs c r : List ℕ) (b i s : ℕ) → buffersOf x bs c r b i s ≡ settles.buffersUpTo (x .places) (x .sources) i s
+unfolding buffersOf settles.buffersUpTo
 of-is x bs c r b i zero = refl
 of-is x bs c r b i (suc s) = ap (λ k. k + min (getD (x .places) (9 * (firstOf (x .sources) s + i) + 8) 0) 33) (of-is x bs c r b i s)
 
@@ -56,10 +56,10 @@ module _ (plan sources places : List ℕ) where
   count-none i e f h = rw (← e, ← f, h)
 
   pub count-some : (i : ℕ) {c m r : ℕ} {v : Bool} → c ≡ codeOf plan i → v ≡ isView c → v ≡ true → m ≡ min (sourceCount plan) 16
-      → r ≡ plan.buffersUpTo places sources i m → r ≡ countAt plan sources places i
+      → r ≡ settles.buffersUpTo places sources i m → r ≡ countAt plan sources places i
   count-some i {m = m} e f h k g =
       let q : isView (codeOf plan i) ≡ true = sym (f ∙ ap isView e) ∙ h in
-      rw q (g ∙ ap (plan.buffersUpTo places sources i) k ∙ sym (of-is x [] [] [] 0 i (min (sourceCount plan) 16)))
+      rw q (g ∙ ap (settles.buffersUpTo places sources i) k ∙ sym (of-is x [] [] [] 0 i (min (sourceCount plan) 16)))
 
   pub count-is : (i : ℕ) {c : ℕ} {v : Bool} → c ≡ codeOf plan i → v ≡ isView c → v ≡ true
       → countAt plan sources places i ≡ buffersOf x [] [] [] 0 i (min (sourceCount plan) 16)

@@ -39,12 +39,12 @@ loop-less c = omega arith
 loop-again : tie.Need-loop-again Inv-loop μ-loop
 loop-again c =
     let l = c .before .before .loop in
-    (omega arith, table-more (λ q. getD (c .before .before .before .args .counters .now) q 0) (replicate 96 0) (l .counters) (l .i) _ (omega arith) (l .inv .1) refl)
+    (omega arith, table-more (λ q. getD (c .before .before .before .args .counters .now) q 0) (replicate 96 0) (l .tally) (l .i) _ (omega arith) (l .inv .1) refl)
 
 returns : tie.Need-returns Inv-loop μ-loop
 returns c =
     let l = c .before .loop in
-    table-all (λ q. getD (c .before .before .args .counters .now) q 0) (replicate 96 0) (l .counters) (l .i) 96 (omega arith) refl (l .inv .1) ∙ seg-self (c .before .before .args .counters .now) 96 (c .before .before .pre)
+    table-all (λ q. getD (c .before .before .args .counters .now) q 0) (replicate 96 0) (l .tally) (l .i) 96 (omega arith) refl (l .inv .1) ∙ seg-self (c .before .before .args .counters .now) 96 (c .before .before .pre)
 
 pub load-spec : {M : Type 1} → statement M
 load-spec =

@@ -37,12 +37,12 @@ loop-less c = omega arith
 loop-again : tie.Need-loop-again Inv-loop μ-loop
 loop-again c =
     let l = c .before .before .loop in
-    (omega arith, written-more (c .before .before .before .args .counters .now) (l .counters) (l .i) _ (omega arith) (l .inv .1) refl)
+    (omega arith, written-more (c .before .before .before .args .counters .now) (l .tally) (l .i) _ (omega arith) (l .inv .1) refl)
 
 returns : tie.Need-returns Inv-loop μ-loop
 returns c =
     let l = c .before .loop in
-    written-all (c .before .before .args .counters .now) (l .counters) (l .i) (omega arith) (omega arith) (l .inv .1)
+    written-all (c .before .before .args .counters .now) (l .tally) (l .i) (omega arith) (omega arith) (l .inv .1)
 
 pub load-spec : {M : Type 1} → statement M
 load-spec =

@@ -1,7 +1,7 @@
 -- `widths::plan_convert` meets its contract. Assumes nothing.
 use mathlib.Core.Path.{_∙_}
 use mathlib.Core.List.{[]}
-use Rattle.widths.proofs.Called.{ask-refused, small-nodes, comes-from, column-good, target-good, ask-walk, ask-plan, ask-tally, ask-done}
+use Rattle.widths.proofs.Called.{ask-refused, small-nodes, comes-from, column-good, target-good, ask-walk, ask-plan, ask-counters, ask-done}
 use borrow.Author.Needs.{needs}
 use Rattle.widths.proofs.plan_convert.Statement.{statement}
 use Rattle.widths.proofs.plan_convert.Tie as tie
@@ -66,7 +66,7 @@ returns-4 c =
     let f3 = c .before .if3 .left in
     let p = c .before .before .before .before .before .before .before .before .before .planned .ensures in
     let w = c .before .before .before .before .convert-walk .ensures (z .buffers .now) in
-    ask-tally (z .formats .now) (z .schema .now) (z .lengths .now) (z .places .now) (z .buffers .now) (z .body .now) (z .first) (z .n) (z .target) (z .target-n) e f1 _ p [] w (z .plan .now) (z .counters .now) f2 f3 (c .if4 .taken)
+    ask-counters (z .formats .now) (z .schema .now) (z .lengths .now) (z .places .now) (z .buffers .now) (z .body .now) (z .first) (z .n) (z .target) (z .target-n) e f1 _ p [] w (z .plan .now) (z .counters .now) f2 f3 (c .if4 .taken)
 
 copied-requires : tie.Need-copied-requires
 copied-requires c κs = search needs

@@ -17,7 +17,7 @@ use Rattle.anew.proofs.result_plan.Answered.{before-column, before-own, answers
 use Rattle.coding.specs.Counted.{allCounts}
 use Rattle.coding.specs.Encode.{encodeOwn, encodeKeeps, encodePlan, encodeOut, RoomFor, runsIn}
 use Rattle.coding.proofs.Grounds.{own-same}
-use Rattle.coding.proofs.Encoded.{own, due, come, codable, tally-are, room-is}
+use Rattle.coding.proofs.Encoded.{own, due, come, codable, counters-are, room-is}
 use Rattle.coding.proofs.Asked.{lengths-are, small-yes, small-no, keep-by, none-before}
 use Rattle.coding.proofs.Accepted.{due-width}
 use Rattle.coding.proofs.Codes.{ends-sized}
@@ -122,7 +122,7 @@ ground-is : (c : tie.After-runs-ground) → c .runs-ground .result ≡ roomGroun
 ground-is c =
     let d = c .before .before .before .before .before in
     let z = start-of d .args in
-    c .runs-ground .ensures ∙ ap₂ (λ p k. roomGround p k (z .parts .now) (length (z .plan .now)) (length (z .counters .now)) (length (z .room .now))) (c .before .before .before .before .planned .ensures) (tally-are (z .formats .now) (z .schema .now) (z .lengths .now) (z .places .now) (z .buffers .now) (z .body .now) (z .first) (z .n) (z .target) (z .start) (z .end) (low d) (bytes d) (accepted d) (free d) _ (keep-is (c .before .before)))
+    c .runs-ground .ensures ∙ ap₂ (λ p k. roomGround p k (z .parts .now) (length (z .plan .now)) (length (z .counters .now)) (length (z .room .now))) (c .before .before .before .before .planned .ensures) (counters-are (z .formats .now) (z .schema .now) (z .lengths .now) (z .places .now) (z .buffers .now) (z .body .now) (z .first) (z .n) (z .target) (z .start) (z .end) (low d) (bytes d) (accepted d) (free d) _ (keep-is (c .before .before)))
 
 returns-4 : tie.Need-returns-4
 returns-4 c =
@@ -144,7 +144,7 @@ fitting c =
     let d = c .before .before .before .before .before .before in
     let z = start-of d .args in
     room-for (z .formats .now) (z .schema .now) (z .lengths .now) (z .places .now) (z .buffers .now) (z .body .now) (z .first) (z .n) (z .target) (z .start) (z .end) (low d) (bytes d) (accepted d) (free d) (z .parts .now) (z .room .now) (length (z .plan .now)) (length (z .counters .now)) _ (not (eqb (c .before .before .before .keeps-of .result) 0)) (keep-is (c .before .before .before)) (small d)
-    (ap (λ k. roomGround (plan-of (start-of d)) k (z .parts .now) (length (z .plan .now)) (length (z .counters .now)) (length (z .room .now))) (tally-are (z .formats .now) (z .schema .now) (z .lengths .now) (z .places .now) (z .buffers .now) (z .body .now) (z .first) (z .n) (z .target) (z .start) (z .end) (low d) (bytes d) (accepted d) (free d) _ (keep-is (c .before .before .before))) ∙ open-room c)
+    (ap (λ k. roomGround (plan-of (start-of d)) k (z .parts .now) (length (z .plan .now)) (length (z .counters .now)) (length (z .room .now))) (counters-are (z .formats .now) (z .schema .now) (z .lengths .now) (z .places .now) (z .buffers .now) (z .body .now) (z .first) (z .n) (z .target) (z .start) (z .end) (low d) (bytes d) (accepted d) (free d) _ (keep-is (c .before .before .before))) ∙ open-room c)
 
 write-requires : tie.Need-write-requires
 write-requires c κs =
@@ -171,7 +171,7 @@ tally-is : (c : tie.After-counters-of) → c .counters-of .result ≡ out-of (st
 tally-is c =
     let d = c .before .before .before .before .before .before .before .before .before .before .before .before in
     let z = start-of d .args in
-    c .counters-of .ensures ∙ ap (allCounts (z .end - z .start)) (c .before .before .before .write .ensures .1) ∙ tally-are (z .formats .now) (z .schema .now) (z .lengths .now) (z .places .now) (z .buffers .now) (z .body .now) (z .first) (z .n) (z .target) (z .start) (z .end) (low d) (bytes d) (accepted d) (free d) _ (keep-is (c .before .before .before .before .before .before .before .before .before))
+    c .counters-of .ensures ∙ ap (allCounts (z .end - z .start)) (c .before .before .before .write .ensures .1) ∙ counters-are (z .formats .now) (z .schema .now) (z .lengths .now) (z .places .now) (z .buffers .now) (z .body .now) (z .first) (z .n) (z .target) (z .start) (z .end) (low d) (bytes d) (accepted d) (free d) _ (keep-is (c .before .before .before .before .before .before .before .before .before))
 
 slice-aggregate-keep-result : tie.Need-slice-aggregate-keep-result
 slice-aggregate-keep-result c = search needs

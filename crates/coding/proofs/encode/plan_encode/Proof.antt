@@ -14,7 +14,7 @@ use Rattle.anew.specs.Anew.{ahead}
 use Rattle.anew.proofs.result_plan.Answered.{before-column, before-own, asks-refused, asks-lengths, asks-done}
 use Rattle.coding.specs.Encode.{encodeOwn, encodeKeeps, encodePlan, encodeOut}
 use Rattle.coding.proofs.Grounds.{own-same}
-use Rattle.coding.proofs.Encoded.{own, come, codable, tally-are}
+use Rattle.coding.proofs.Encoded.{own, come, codable, counters-are}
 use Rattle.coding.proofs.Asked.{lengths-first, lengths-second, lengths-both, keep-by, none-before}
 use Rattle.coding.proofs.encode.plan_encode.Statement.{statement}
 use Rattle.coding.proofs.encode.plan_encode.Tie as tie
@@ -134,7 +134,7 @@ returns-5 c =
     let k = keep-is (c .before .before .before .before .before .before .before .before .before .before) in
     asks-done (z .formats .now) (z .schema .now) (lent s) (z .first) (z .n) (own-of s) (plan-of s) (out-of s) (z .plan .now) (z .counters .now) (none d) (lengths-both (length (z .plan .now)) (length (z .counters .now)) (c .before .before .before .before .before .before .before .before .before .before .before .before .before .before .if3 .left) (c .before .before .before .before .before .before .before .before .before .before .before .before .before .if4 .left)) refl
     (c .before .before .before .before .keep-result .ensures .0 ∙ c .before .before .before .before .before .before .before .before .before .before .before .before .planned .ensures)
-    (c .before .before .before .before .keep-result .ensures .1 ∙ c .before .before .before .before .before .before .before .before .before .tried .ensures ∙ tally-are (z .formats .now) (z .schema .now) (z .lengths .now) (z .places .now) (z .buffers .now) (z .body .now) (z .first) (z .n) (z .target) (z .start) (z .end) (low d) (bytes d) (accepted d) (free d) _ k)
+    (c .before .before .before .before .keep-result .ensures .1 ∙ c .before .before .before .before .before .before .before .before .before .tried .ensures ∙ counters-are (z .formats .now) (z .schema .now) (z .lengths .now) (z .places .now) (z .buffers .now) (z .body .now) (z .first) (z .n) (z .target) (z .start) (z .end) (low d) (bytes d) (accepted d) (free d) _ k)
 
 pub plan-encode-spec : {M : Type 1} → statement M
 plan-encode-spec =

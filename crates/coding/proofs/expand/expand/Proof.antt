@@ -16,7 +16,7 @@ use Rattle.anew.proofs.PlanWords.{plan-length}
 use Rattle.anew.proofs.result_plan.Answered.{before-column, before-own, answers-large, answers-refused, answers-room, answers-made}
 use Rattle.coding.specs.Expand.{expandOwn, expandKeeps, expandPlan, expandOut, RowsFit, rowsIn}
 use Rattle.coding.proofs.Runs.{own-same, none-before, rows-fit}
-use Rattle.coding.proofs.Expanded.{target-plain, ranged, come, expandable, tally-are, room-is}
+use Rattle.coding.proofs.Expanded.{target-plain, ranged, come, expandable, counters-are, room-is}
 use Rattle.coding.proofs.Asked.{lengths-are, small-yes, small-no, keep-by}
 use Rattle.coding.proofs.Room.{room-free}
 use Rattle.coding.proofs.expand.expand.Statement.{statement}
@@ -106,7 +106,7 @@ tally-is : (c : tie.After-counters-of) → c .counters-of .result ≡ out-of (st
 tally-is c =
     let d = c .before .before in
     let z = start-of d .args in
-    c .counters-of .ensures ∙ tally-are (z .formats .now) (z .schema .now) (z .lengths .now) (z .places .now) (z .buffers .now) (z .body .now) (z .first) (z .n) (z .target) (z .start) (z .end) (low d) (bytes d) (accepted d) (free d) _ refl
+    c .counters-of .ensures ∙ counters-are (z .formats .now) (z .schema .now) (z .lengths .now) (z .places .now) (z .buffers .now) (z .body .now) (z .first) (z .n) (z .target) (z .start) (z .end) (low d) (bytes d) (accepted d) (free d) _ refl
 
 slice-aggregate-room-ground : tie.Need-slice-aggregate-room-ground
 slice-aggregate-room-ground c = search needs

@@ -12,7 +12,7 @@ use Rattle.anew.specs.Anew.{ahead}
 use Rattle.anew.proofs.result_plan.Answered.{before-column, before-own, asks-refused, asks-lengths, asks-done}
 use Rattle.coding.specs.Expand.{expandOwn, expandPlan, expandOut}
 use Rattle.coding.proofs.Runs.{own-same, none-before}
-use Rattle.coding.proofs.Expanded.{target-plain, ranged, come, tally-are}
+use Rattle.coding.proofs.Expanded.{target-plain, ranged, come, counters-are}
 use Rattle.coding.proofs.Asked.{lengths-first, lengths-second, lengths-both}
 use Rattle.coding.proofs.expand.plan_expand.Statement.{statement}
 use Rattle.coding.proofs.expand.plan_expand.Tie as tie
@@ -122,7 +122,7 @@ returns-5 c =
     let z = s .args in
     asks-done (z .formats .now) (z .schema .now) (lent s) (z .first) (z .n) (own-of s) (plan-of s) (out-of s) (z .plan .now) (z .counters .now) (none d) (lengths-both (length (z .plan .now)) (length (z .counters .now)) (c .before .before .before .before .before .before .before .before .before .before .before .before .if3 .left) (c .before .before .before .before .before .before .before .before .before .before .before .if4 .left)) refl
     (c .before .before .before .before .keep-result .ensures .0 ∙ c .before .before .before .before .before .before .before .before .before .before .planned .ensures)
-    (c .before .before .before .before .keep-result .ensures .1 ∙ c .before .before .before .before .before .before .before .before .before .counters-of .ensures ∙ tally-are (z .formats .now) (z .schema .now) (z .lengths .now) (z .places .now) (z .buffers .now) (z .body .now) (z .first) (z .n) (z .target) (z .start) (z .end) (low d) (bytes d) (accepted d) (free d) _ refl)
+    (c .before .before .before .before .keep-result .ensures .1 ∙ c .before .before .before .before .before .before .before .before .before .counters-of .ensures ∙ counters-are (z .formats .now) (z .schema .now) (z .lengths .now) (z .places .now) (z .buffers .now) (z .body .now) (z .first) (z .n) (z .target) (z .start) (z .end) (low d) (bytes d) (accepted d) (free d) _ refl)
 
 pub plan-expand-spec : {M : Type 1} → statement M
 plan-expand-spec =

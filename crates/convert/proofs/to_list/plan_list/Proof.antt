@@ -1,7 +1,7 @@
 -- `convert::to_list::plan_list` meets its contract. Assumes nothing.
 use mathlib.Core.Path.{_∙_}
 use mathlib.Core.List.{[]}
-use Rattle.convert.proofs.Called.{ask-refused, small-nodes, comes-from, walk-sum, walk-wide, ask-walk, ask-plan, ask-tally, ask-done}
+use Rattle.convert.proofs.Called.{ask-refused, small-nodes, comes-from, walk-sum, walk-wide, ask-walk, ask-plan, ask-counters, ask-done}
 use borrow.Author.Needs.{needs}
 use Rattle.convert.proofs.to_list.plan_list.Statement.{statement}
 use Rattle.convert.proofs.to_list.plan_list.Tie as tie
@@ -34,7 +34,7 @@ returns-3 : tie.Need-returns-3
 returns-3 c = let z = c .before .before .before .before .before .before .before .before .before .before .before .before .before .before .before .before .before .before .before .args in ask-plan (z .formats .now) (z .schema .now) (z .lengths .now) (z .places .now) (z .buffers .now) (z .body .now) (z .first) (z .n) (z .target) (z .target-n) (c .before .before .before .before .before .before .before .before .before .before .ground-of .ensures) (c .before .before .before .before .before .before .before .before .before .if1 .left) _ (c .before .before .before .before .before .before .before .before .planned .ensures) [] (c .before .before .before .list-walk .ensures (z .n)) (z .plan .now) (z .counters .now) (c .before .if2 .left) (c .if3 .taken)
 
 returns-4 : tie.Need-returns-4
-returns-4 c = let z = c .before .before .before .before .before .before .before .before .before .before .before .before .before .before .before .before .before .before .before .before .args in ask-tally (z .formats .now) (z .schema .now) (z .lengths .now) (z .places .now) (z .buffers .now) (z .body .now) (z .first) (z .n) (z .target) (z .target-n) (c .before .before .before .before .before .before .before .before .before .before .before .ground-of .ensures) (c .before .before .before .before .before .before .before .before .before .before .if1 .left) _ (c .before .before .before .before .before .before .before .before .before .planned .ensures) [] (c .before .before .before .before .list-walk .ensures (z .n)) (z .plan .now) (z .counters .now) (c .before .before .if2 .left) (c .before .if3 .left) (c .if4 .taken)
+returns-4 c = let z = c .before .before .before .before .before .before .before .before .before .before .before .before .before .before .before .before .before .before .before .before .args in ask-counters (z .formats .now) (z .schema .now) (z .lengths .now) (z .places .now) (z .buffers .now) (z .body .now) (z .first) (z .n) (z .target) (z .target-n) (c .before .before .before .before .before .before .before .before .before .before .before .ground-of .ensures) (c .before .before .before .before .before .before .before .before .before .before .if1 .left) _ (c .before .before .before .before .before .before .before .before .before .planned .ensures) [] (c .before .before .before .before .list-walk .ensures (z .n)) (z .plan .now) (z .counters .now) (c .before .before .if2 .left) (c .before .if3 .left) (c .if4 .taken)
 
 copied-requires : tie.Need-copied-requires
 copied-requires c κs = search needs

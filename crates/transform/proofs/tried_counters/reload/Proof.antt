@@ -41,13 +41,13 @@ loop-again : tie.Need-loop-again Inv-loop μ-loop
 loop-again c =
     let l = c .before .before .loop in
     let a = c .before .before .before .args in
-    (omega arith, copied-more (a .counters .now) (l .counters) (a .n) (l .i) _ (omega arith) (omega arith) (l .inv .1) refl)
+    (omega arith, copied-more (a .counters .now) (l .tally) (a .n) (l .i) _ (omega arith) (omega arith) (l .inv .1) refl)
 
 returns : tie.Need-returns Inv-loop μ-loop
 returns c =
     let l = c .before .loop in
     let a = c .before .before .args in
-    copied-all (a .counters .now) (l .counters) (a .n) (l .i) (omega arith) (omega arith) (l .inv .1)
+    copied-all (a .counters .now) (l .tally) (a .n) (l .i) (omega arith) (omega arith) (l .inv .1)
 
 pub reload-spec : {M : Type 1} → statement M
 reload-spec =

@@ -40,7 +40,7 @@ loop-again : tie.Need-loop-again Inv-loop μ-loop
 loop-again c =
     let l = c .before .loop in
     let a = c .before .before .before .before .args in
-    (omega arith, full-more (a .counters .now) (l .counters) (a .n) (l .i) (omega arith) (omega arith) (l .inv .1))
+    (omega arith, full-more (a .counters .now) (l .tally) (a .n) (l .i) (omega arith) (omega arith) (l .inv .1))
 
 returns : tie.Need-returns Inv-loop μ-loop
 returns c =
