@@ -6,5 +6,6 @@ pub mod WiderKinds
 pub mod Wider
 pub mod Widen
 pub mod WiderExamples
+pub mod Kids
 pub mod Test
 pub mod Examples

@@ -12,6 +12,7 @@ pub mod Union
 pub mod RunEnd
 pub mod Dictionary
 pub mod Reading
+pub mod Kids
 pub mod Wider
 pub mod Formed
 pub mod Test

@@ -2,14 +2,14 @@
 -- Assumes nothing.
 use mathlib.Core.Path.{_≡_}
 use mathlib.Core.Bool.{Bool, true}
-use mathlib.Core.List.{List, List·Memᴰ}
 use Prim.Native.Nat.{ℕ, _^_, _≤_, _<_}
 use lib.ListN.{length}
-use Rattle.columnar.specs.Types.{Plain, Ty, tPlain, tView, tListView, tList, tSparse, tDense, tRunEnd, tDictionary}
+use Rattle.columnar.specs.Types.{Plain, Ty, tDictionary}
 use Rattle.columnar.specs.Array.{readWith}
 use Rattle.columnar.specs.Plain.{PlainBody}
 use Rattle.columnar.specs.Dictionary.{Dictionary, entryAt}
 use Rattle.columnar.specs.Reading.{Body}
+use Rattle.columnar.specs.Kids.{Below, bodiesDown}
 use Rattle.model.specs.Try.{done}
 use Rattle.model.specs.Opening.{ptrEq}
 use Rattle.model.specs.Primitive.{buffersBefore}
@@ -22,11 +22,6 @@ SameEntries p m ds =
     → readWith (entryAt p) (ds i .values) e ≡ readWith (entryAt p) (ds j .values) e
 
 abbrev pub Ready : (t : Ty) → ℕ → (ℕ → Body t) → Type 0
-Ready (tPlain p) = λ m ss. Unit {0}
-Ready tView = λ m ss. length (buffersBefore ss m) ≤ 256 ^ 4
-Ready (tListView w t) = λ m ss. Ready t m (λ i. ss i .child .body)
-Ready (tList w t) = λ m ss. Ready t m (λ i. ss i .child .body)
-Ready (tSparse ids nullable f) = λ m ss. (c : ℕ) → List·Memᴰ c ids → Ready (f c) m (λ i. ss i .children c .body)
-Ready (tDense ids nullable f) = λ m ss. (c : ℕ) → List·Memᴰ c ids → Ready (f c) m (λ i. ss i .children c .body)
-Ready (tRunEnd w t) = λ m ss. Ready t m (λ i. ss i .values .body)
-Ready (tDictionary k p) = λ m ss. (openData (tDictionary k p) m ss ≡ done tt) × SameEntries p m ss
+Ready t m =
+    Below {X = λ t. ℕ → Body t} bodiesDown (λ ss. length (buffersBefore ss m) ≤ 256 ^ 4)
+    (λ k p ss. (openData (tDictionary k p) m ss ≡ done tt) × SameEntries p m ss) t

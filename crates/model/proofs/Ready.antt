@@ -12,6 +12,8 @@ use Rattle.columnar.specs.Plain.{PlainBody, PlainRule}
 use Rattle.columnar.specs.View.{Views}
 use Rattle.columnar.specs.Dictionary.{Dictionary}
 use Rattle.columnar.specs.Reading.{Body, Column, Source}
+use Rattle.columnar.specs.Kids.{Kid, kidTy, kidAt, bodyDown, bodiesDown}
+use Rattle.columnar.proofs.Kids.{below-kid, below-from, kid-source}
 use Rattle.model.specs.Try.{Try, done, stop, then}
 use Rattle.model.specs.Sources.{EachView, EachDictionary, Stands}
 use Rattle.model.specs.Primitive.{buffersBefore}
@@ -35,6 +37,17 @@ opened-each (x ∷ cs) g e c q = go (List·Memᴰ·cases-cons q) (opened-each cs
     go (inl h) f = ap g h ∙ then-first (g x) (openAll cs g) e
     go (inr h) f = f h
 
+-- .. so each child was
+pub opened-kid : (t : Ty) (m : ℕ) (ss : ℕ → Body t) → openData t m ss ≡ done tt → (k : Kid t) → openData (kidTy t k) m (bodiesDown t ss k) ≡ done tt
+opened-kid (tPlain p) m ss e k = absurd k
+opened-kid tView m ss e k = absurd k
+opened-kid (tListView w t) m ss e k = e
+opened-kid (tList w t) m ss e k = e
+opened-kid (tSparse ids nullable f) m ss e k = opened-each ids (λ c. openData (f c) m (λ i. ss i .children c .body)) e (k .0) (k .1)
+opened-kid (tDense ids nullable f) m ss e k = opened-each ids (λ c. openData (f c) m (λ i. ss i .children c .body)) e (k .0) (k .1)
+opened-kid (tRunEnd w t) m ss e k = e
+opened-kid (tDictionary n p) m ss e k = absurd k
+
 few-before : (ss : ℕ → Views) (m : ℕ) → ((j : ℕ) → j < m → length (ss j .buffers) ≤ 32) → length (buffersBefore ss m) ≤ 32 * m
 few-before ss zero h = omega arith
 few-before ss (suc m) h = rw length-append (omega (arith, few-before ss m (λ j q. h j (omega arith)), h m (omega arith)))
@@ -44,15 +57,20 @@ module _ (body : List ℕ) (m : ℕ) (few : m ≤ 16)
     (same-entries : (p : Plain) (ds : ℕ → Dictionary (PlainBody p)) → ((j : ℕ) → j < m → Obeys true (PlainRule p) (ds j .values)) → ((j : ℕ) → j < m → Stands body p (ds j)) → SameEntries p m ds) where
   pub ready : (t : Ty) (ss : ℕ → Column t) → ((j : ℕ) → j < m → Source t (ss j)) → ((j : ℕ) → j < m → EachView (λ v. length (v .buffers) ≤ 32) t (ss j .body))
       → ((j : ℕ) → j < m → EachDictionary (Stands body) t (ss j .body)) → openData t m (λ i. ss i .body) ≡ done tt → Ready t m (λ i. ss i .body)
-  ready (tPlain p) ss g v d e = tt
-  ready tView ss g v d e = omega (arith, few-before (λ i. ss i .body) m v)
-  ready (tListView w t) ss g v d e = ready t (λ i. ss i .body .child) (λ j q. g j q .slots .child-rule) v d e
-  ready (tList w t) ss g v d e = ready t (λ i. ss i .body .child) (λ j q. g j q .slots .child-rule) v d e
-  ready (tSparse ids nullable f) ss g v d e = λ c q.
-      ready (f c) (λ i. ss i .body .children c) (λ j h. g j h .slots .child-rule c q) (λ j h. v j h c q) (λ j h. d j h c q)
-      (opened-each ids (λ c. openData (f c) m (λ i. ss i .body .children c .body)) e c q)
-  ready (tDense ids nullable f) ss g v d e = λ c q.
-      ready (f c) (λ i. ss i .body .children c) (λ j h. g j h .slots .child-rule c q) (λ j h. v j h c q) (λ j h. d j h c q)
-      (opened-each ids (λ c. openData (f c) m (λ i. ss i .body .children c .body)) e c q)
-  ready (tRunEnd w t) ss g v d e = ready t (λ i. ss i .body .values) (λ j q. g j q .slots .child-rule) v d e
-  ready (tDictionary k p) ss g v d e = (e, same-entries p (λ i. ss i .body) (λ j q. g j q .slots .child-rule) d)
+  ready t ss g v d e =
+      below-from bodiesDown _ _
+      {S = λ t. (ss : ℕ → Column t) × ((j : ℕ) → j < m → Source t (ss j)) × ((j : ℕ) → j < m → EachView (λ v. length (v .buffers) ≤ 32) t (ss j .body))
+      × ((j : ℕ) → j < m → EachDictionary (Stands body) t (ss j .body)) × (openData t m (λ i. ss i .body) ≡ done tt)}
+      (λ t s i. s .0 i .body)
+      (λ t s k. (
+        (
+          (λ i. kidAt t (s .0 i .body) k),
+          (λ j q. kid-source t (s .0 j) (s .1 j q) k),
+          (λ j q. below-kid bodyDown _ _ t (s .0 j .body) (s .2 j q) k),
+          (λ j q. below-kid bodyDown _ _ t (s .0 j .body) (s .3 j q) k),
+          opened-kid t m (λ i. s .0 i .body) (s .4) k,
+        ),
+        refl,
+      ))
+      (λ s. omega (arith, few-before (λ i. s .0 i .body) m (s .2)))
+      (λ n p s. (s .4, same-entries p (λ i. s .0 i .body) (λ j q. s .1 j q .slots .child-rule) (s .3))) t (ss, g, v, d, e)

@@ -2,38 +2,25 @@
 -- one lent body. Assumes nothing.
 use mathlib.Core.Path.{_≡_}
 use mathlib.Core.Option.{Option, none, some}
-use mathlib.Core.List.{List, [], _∷_, List·Memᴰ}
+use mathlib.Core.List.{List, [], _∷_}
 use Prim.Native.Nat.{ℕ, zero, suc, _≤_, _<_}
 use lib.ListN.{length, take, drop}
-use Rattle.columnar.specs.Types.{Plain, fixed, string, Ty, tPlain, tView, tListView, tList, tSparse, tDense, tRunEnd, tDictionary}
+use Rattle.columnar.specs.Types.{Plain, fixed, string, Ty}
 use Rattle.columnar.specs.Formed.{Formed}
 use Rattle.columnar.specs.Array.{Array, nullCount}
 use Rattle.columnar.specs.Plain.{PlainBody}
 use Rattle.columnar.specs.View.{Views}
 use Rattle.columnar.specs.Dictionary.{Dictionary}
 use Rattle.columnar.specs.Reading.{Body, Column, Source}
+use Rattle.columnar.specs.Kids.{Below, bodyDown}
 
 -- at every view node
 abbrev pub EachView : (Views → Type 0) → (t : Ty) → Body t → Type 0
-EachView Q (tPlain p) = λ b. Unit {0}
-EachView Q tView = Q
-EachView Q (tListView w t) = λ b. EachView Q t (b .child .body)
-EachView Q (tList w t) = λ b. EachView Q t (b .child .body)
-EachView Q (tSparse ids nullable f) = λ b. (c : ℕ) → List·Memᴰ c ids → EachView Q (f c) (b .children c .body)
-EachView Q (tDense ids nullable f) = λ b. (c : ℕ) → List·Memᴰ c ids → EachView Q (f c) (b .children c .body)
-EachView Q (tRunEnd w t) = λ b. EachView Q t (b .values .body)
-EachView Q (tDictionary k p) = λ b. Unit {0}
+EachView Q = Below {X = Body} bodyDown Q (λ n p b. Unit {0})
 
 -- at every dictionary node
 abbrev pub EachDictionary : ((p : Plain) → Dictionary (PlainBody p) → Type 0) → (t : Ty) → Body t → Type 0
-EachDictionary Q (tPlain p) = λ b. Unit {0}
-EachDictionary Q tView = λ b. Unit {0}
-EachDictionary Q (tListView w t) = λ b. EachDictionary Q t (b .child .body)
-EachDictionary Q (tList w t) = λ b. EachDictionary Q t (b .child .body)
-EachDictionary Q (tSparse ids nullable f) = λ b. (c : ℕ) → List·Memᴰ c ids → EachDictionary Q (f c) (b .children c .body)
-EachDictionary Q (tDense ids nullable f) = λ b. (c : ℕ) → List·Memᴰ c ids → EachDictionary Q (f c) (b .children c .body)
-EachDictionary Q (tRunEnd w t) = λ b. EachDictionary Q t (b .values .body)
-EachDictionary Q (tDictionary k p) = Q p
+EachDictionary Q = Below {X = Body} bodyDown (λ b. Unit {0}) (λ n. Q)
 
 -- a buffer is the stretch of the body from a position on
 abbrev pub Stretch : List ℕ → ℕ → List ℕ → Type 0

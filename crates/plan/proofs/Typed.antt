@@ -81,7 +81,7 @@ module _ (formats schema : List ℕ) (y : Tables) (sources : List ℕ) (keep gap
   plain-kind (string w) i h = h
 
   -- NODE i STANDS FOR A TYPE: the words below it are as the model has them
-  pub opened-below : (u : Ty) (i : ℕ) (b : Bool) → Means tree u i → keepsOf plan i ≡ flag b → OpenedBelow plan tree m u i b (bodies u i)
+  pub opened-below : (u : Ty) (i : ℕ) (b : Bool) → Means tree u i → keepsOf plan i ≡ flag b → OpenedBelow plan (nodeOf tree) m u i b (bodies u i)
   opened-below (tPlain p) i b h f = tt
   opened-below tView i b h f =
       λ s l.

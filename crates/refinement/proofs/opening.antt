@@ -1,6 +1,7 @@
 -- The laws of `opening`.
 pub mod Laid
 pub mod Taken
+pub mod Kept
 pub mod Joined
 pub mod Values
 pub mod Zeros

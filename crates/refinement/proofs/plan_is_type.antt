@@ -6,5 +6,6 @@ pub mod Worded
 pub mod Lent
 pub mod Self
 pub mod OneTree
+pub mod Kids
 pub mod Opened
 pub mod Words

@@ -1,6 +1,7 @@
 -- That the walk does what the model does.
 pub mod Goes
 pub mod Frame
+pub mod Kids
 pub mod Counters
 pub mod Owed
 pub mod Mask

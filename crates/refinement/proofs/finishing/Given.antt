@@ -1,32 +1,32 @@
 -- What finishing is given after an accepted opening and any orders: the plan's words, counters, memory and room that hold a destination,
 -- and tables that name the sources' data buffers and kept dictionaries. Assumes nothing.
 use mathlib.Core.Path.{_≡_, ap, _∙_}
-use mathlib.Core.Bool.{Bool, true, false, not}
+use mathlib.Core.Bool.{Bool, true, not}
 use mathlib.Core.List.{List, List·Memᴰ}
 use Prim.Native.Nat.{ℕ, suc, _+_, _*_, _≤_, _<_}
 use native.Mathlib.Omega.{arith}
 use lib.ListN.{length, getD}
 use Rattle.columnar.specs.Row.{seg}
-use Rattle.columnar.specs.Types.{Plain, Ty, tPlain, tView, tListView, tList, tSparse, tDense, tRunEnd, tDictionary}
+use Rattle.columnar.specs.Types.{Plain, Ty, tPlain}
 use Rattle.columnar.specs.Formed.{Formed}
 use Rattle.columnar.specs.Plain.{PlainBody}
 use Rattle.columnar.specs.View.{Views}
 use Rattle.columnar.specs.Dictionary.{Dictionary}
 use Rattle.columnar.specs.Reading.{Body, Column, masks, Source}
+use Rattle.columnar.specs.Kids.{kidAt, Below, bodyDown, nodeDown, nodesDown}
+use Rattle.columnar.proofs.Kids.{below-kid, below-by}
 use Rattle.array_data.specs.Tables.{part}
 use Rattle.array_data.specs.Typed.{Tree, nodeOf, Is, Means}
 use Rattle.model.specs.Try.{done}
 use Rattle.model.specs.Sources.{EachView}
 use Rattle.model.specs.Opening.{keeps, shared}
-use Rattle.model.specs.Mutable.{Mutable, startNode}
-use Rattle.model.specs.Primitive.{plainStart}
-use Rattle.model.specs.Transform.{Destination, joinedFrom}
+use Rattle.model.specs.Transform.{Destination}
 use Rattle.model.proofs.Law.{FineNode}
 use Rattle.model.proofs.Nodes.{fineOf}
 use Rattle.model.proofs.Bits.{length-seg}
 use Rattle.walk.specs.State.{word, place, endOf}
 use Rattle.refinement.specs.walk_is_model.Memory.{Memory}
-use Rattle.refinement.specs.walk_is_model.Holds.{childOf, Worded, flag, Holds}
+use Rattle.refinement.specs.walk_is_model.Holds.{childOf, inPlan, Worded, flag, Holds}
 use Rattle.refinement.specs.walk_is_model.Lent.{LentNode, LentPlain}
 use Rattle.refinement.specs.log_in_room.Room.{Placed, Lies}
 use Rattle.plan.specs.parts.Parts.{nodesOf, partsWithin, Used}
@@ -34,7 +34,8 @@ use Rattle.refinement.specs.orders.Order.{Lent, joinOf, sourceCount}
 use Rattle.refinement.proofs.orders.Own.{Bounded}
 use Rattle.refinement.proofs.orders.Cover.{Laid}
 use Rattle.refinement.specs.opening.Kept.{Kept}
-use Rattle.refinement.specs.opening.Entries.{EntriesLent, Joins}
+use Rattle.refinement.specs.opening.Entries.{EntriesLent, JoinsAt, Joins}
+use Rattle.refinement.proofs.opening.Kept.{kept-kid}
 use Rattle.array_data.proofs.Names.{unionKind}
 
 -- ---- data buffers
@@ -51,14 +52,7 @@ named-few x buffers s i b h l = let n = ap length (h .buffers-are) ∙ length-se
 -- so at every view node from node i on
 module _ (x : Lent) (buffers : List ℕ) (s : ℕ) where
   abbrev pub NamesLent : (t : Ty) → ℕ → Body t → Type 0
-  NamesLent (tPlain p) i b = Unit {0}
-  NamesLent tView i b = Named x buffers s i b
-  NamesLent (tListView w t) i b = NamesLent t (suc i) (b .child .body)
-  NamesLent (tList w t) i b = NamesLent t (suc i) (b .child .body)
-  NamesLent (tSparse ids nullable f) i b = (e : ℕ) → List·Memᴰ e ids → NamesLent (f e) (childOf (x .plan) i e) (b .children e .body)
-  NamesLent (tDense ids nullable f) i b = (e : ℕ) → List·Memᴰ e ids → NamesLent (f e) (childOf (x .plan) i e) (b .children e .body)
-  NamesLent (tRunEnd w t) i b = NamesLent t (suc (suc i)) (b .values .body)
-  NamesLent (tDictionary k p) i b = Unit {0}
+  NamesLent t i b = Below {X = λ t. ℕ × Body t} (nodeDown (inPlan (x .plan))) (λ y. Named x buffers s (y .0) (y .1)) (λ n p y. Unit {0}) t (i, b)
 
 -- ---- data buffers and dictionaries of all sources, node by node
 
@@ -67,33 +61,30 @@ pub record Valued (x : Lent) (m : ℕ) (counters : List ℕ) (μ : Memory) (p : 
   pub words : Worded (x .plan) 1 (tPlain p) (suc i)
   pub joined-word : word (x .plan) i 7 ≡ flag (not (shared m ds))
   pub kept : shared m ds ≡ true → LentNode (joinOf x 0) (suc i) (LentPlain (joinOf x 0) p (suc i)) (ds 0 .values)
-  pub joins : shared m ds ≡ false
-      → (e : Mutable (PlainBody p)) × (joinedFrom p (λ j. ds j .values) m (startNode (keeps false m (λ j. ds j .values)) (plainStart p)) ≡ done e) × Holds (x .plan) (tPlain p) (suc i) e counters μ
+  pub joins : JoinsAt (x .plan) p i m ds counters μ
 
 module _ (x : Lent) (buffers : List ℕ) (m : ℕ) (counters : List ℕ) (μ : Memory) where
   abbrev pub Stands : (t : Ty) → ℕ → (ℕ → Body t) → Type 0
-  Stands (tPlain p) i ss = Unit {0}
-  Stands tView i ss = (s : ℕ) → s < m → Named x buffers s i (ss s) × (length (ss s .buffers) ≤ 32)
-  Stands (tListView w t) i ss = Stands t (suc i) (λ j. ss j .child .body)
-  Stands (tList w t) i ss = Stands t (suc i) (λ j. ss j .child .body)
-  Stands (tSparse ids nullable f) i ss = (e : ℕ) → List·Memᴰ e ids → Stands (f e) (childOf (x .plan) i e) (λ j. ss j .children e .body)
-  Stands (tDense ids nullable f) i ss = (e : ℕ) → List·Memᴰ e ids → Stands (f e) (childOf (x .plan) i e) (λ j. ss j .children e .body)
-  Stands (tRunEnd w t) i ss = Stands t (suc (suc i)) (λ j. ss j .values .body)
-  Stands (tDictionary k p) i ss = Valued x m counters μ p i ss
+  Stands t i ss =
+      Below {X = λ t. ℕ × (ℕ → Body t)} (nodesDown (inPlan (x .plan))) (λ y. (s : ℕ) → s < m → Named x buffers s (y .0) (y .1 s) × (length (y .1 s .buffers) ≤ 32))
+      (λ n p y. Valued x m counters μ p (y .0) (y .1)) t (i, ss)
 
   stands-by : (t : Ty) (i : ℕ) (ss : ℕ → Body t) (u : Bool) → 0 < m → ((s : ℕ) → s < m → NamesLent x buffers s t i (ss s)) → ((s : ℕ) → s < m → EachView (λ v. length (v .buffers) ≤ 32) t (ss s)) → EntriesLent x t i m ss
       → Joins (x .plan) t i m ss counters μ → Kept (x .plan) m t i u ss → Stands t i ss
-  stands-by (tPlain p) i ss u l n v e j k = tt
-  stands-by tView i ss u l n v e j k = λ s h. (n s h, v s h)
-  stands-by (tListView w t) i ss u l n v e j k = stands-by t (suc i) (λ j. ss j .child .body) _ l n v e j (k .1)
-  stands-by (tList w t) i ss u l n v e j k = stands-by t (suc i) (λ j. ss j .child .body) _ l n v e j (k .1)
-  stands-by (tSparse ids nullable f) i ss u l n v e j k =
-      λ c q. stands-by (f c) (childOf (x .plan) i c) (λ j. ss j .children c .body) _ l (λ s h. n s h c q) (λ s h. v s h c q) (e c q) (j c q) (k c q .1)
-  stands-by (tDense ids nullable f) i ss u l n v e j k =
-      λ c q. stands-by (f c) (childOf (x .plan) i c) (λ j. ss j .children c .body) _ l (λ s h. n s h c q) (λ s h. v s h c q) (e c q) (j c q) (k c q .1)
-  stands-by (tRunEnd w t) i ss u l n v e j k = stands-by t (suc (suc i)) (λ j. ss j .values .body) _ l n v e j (k .2)
-  stands-by (tDictionary n p) i ss u l nm v e j k =
-      record { words = (e .small, omega (arith, e .ends), e .no-keys, e .plain-is); joined-word = k .1; kept = λ h. e .lent 0 l; joins = j }
+  stands-by t i ss u l n v e j k =
+      below-by (nodesDown (inPlan (x .plan))) _ _
+      (λ t y. ((s : ℕ) → s < m → NamesLent x buffers s t (y .0) (y .1 s)) × ((s : ℕ) → s < m → EachView (λ v. length (v .buffers) ≤ 32) t (y .1 s)) × EntriesLent x t (y .0) m (y .1)
+      × Joins (x .plan) t (y .0) m (y .1) counters μ × ((u : Bool) × Kept (x .plan) m t (y .0) u (y .1)))
+      (λ t y g c. (
+        (λ s h. below-kid (nodeDown (inPlan (x .plan))) _ _ t (y .0, y .1 s) (g .0 s h) c),
+        (λ s h. below-kid bodyDown _ _ t (y .1 s) (g .1 s h) c),
+        below-kid (nodesDown (inPlan (x .plan))) _ _ t y (g .2) c,
+        below-kid (nodesDown (inPlan (x .plan))) _ _ t y (g .3) c,
+        (keeps (g .4 .0) m (λ s. kidAt t (y .1 s) c), kept-kid (x .plan) m t (y .0) (g .4 .0) (y .1) (g .4 .1) c),
+      ))
+      (λ y g s h. (g .0 s h, g .1 s h))
+      (λ n p y g. record { words = (g .2 .small, omega (arith, g .2 .ends), g .2 .no-keys, g .2 .plain-is); joined-word = g .4 .1 .1; kept = λ h. g .2 .lent 0 l; joins = g .3 })
+      t (i, ss) (n, v, e, j, (u, k))
 
 -- ALL THAT FINISHING IS GIVEN
 pub record Given (x : Lent) (buffers : List ℕ) (tree : Tree) (t : Ty) (m : ℕ) (ss : ℕ → Column t) (d : Destination t) (counters room : List ℕ) (μ : Memory) : Type 0 where

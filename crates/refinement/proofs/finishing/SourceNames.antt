@@ -1,15 +1,17 @@
 -- Sources whose nodes obey name their data buffers, which lie in the body. Assumes nothing.
 use mathlib.Core.Path.{_≡_, sym, ap₂, subst}
-use mathlib.Core.Bool.{Bool, true, false, _&&_}
+use mathlib.Core.Bool.{Bool, true, _&&_}
 use mathlib.Core.List.{List, List·Memᴰ}
-use Prim.Native.Nat.{ℕ, suc, _+_, _*_, _≤_, _<_}
+use Prim.Native.Nat.{ℕ, _+_, _*_, _≤_, _<_}
 use native.Mathlib.Omega.{arith}
 use lib.ListN.{length, getD}
 use lib.Dec.{T, leb}
 use lib.Ieee.Bits.{is-true}
 use borrow.Author.Tests.{leb-true}
 use Rattle.columnar.specs.Row.{seg}
-use Rattle.columnar.specs.Types.{Ty, tPlain, tView, tListView, tList, tSparse, tDense, tRunEnd, tDictionary}
+use Rattle.columnar.specs.Types.{Ty, tView}
+use Rattle.columnar.specs.Kids.{nodeDown}
+use Rattle.columnar.proofs.Kids.{below-from}
 use Rattle.columnar.proofs.Test.{every-out}
 use Rattle.array_data.specs.Tables.{Tables, place, dataBuffer, inBody}
 use Rattle.array_data.specs.Rules.{oneIn, buffersIn, viewRule}
@@ -20,9 +22,10 @@ use Rattle.array_data.proofs.lent_tables.Laws.{and-left, and-right}
 use Rattle.plan.proofs.parts.Placed.{every-at}
 use Rattle.array_data.specs.Sources.{firstOf}
 use Rattle.plan.proofs.dictionaries.Laws.{place-from}
-use Rattle.refinement.specs.walk_is_model.Holds.{childOf}
+use Rattle.refinement.specs.walk_is_model.Holds.{childOf, inPlan}
 use Rattle.refinement.specs.plan_is_type.Taken.{typeIs, columnsAs, Taken}
 use Rattle.refinement.proofs.plan_is_type.OneTree.{same-column}
+use Rattle.refinement.proofs.plan_is_type.Kids.{columnThere, there-kid}
 use Rattle.refinement.proofs.plan_is_type.Opened.{same-child, all-alike}
 use Rattle.refinement.specs.orders.Order.{Lent}
 use Rattle.refinement.proofs.finishing.Given.{Named, NamesLent}
@@ -60,20 +63,8 @@ module _ (tree : Tree) (z : Tables) (plan parts sources : List ℕ) (s : ℕ) wh
           inside = λ q l. subst (λ k. getD (z .buffers) (2 * (k + q)) 0 + getD (z .buffers) (2 * (k + q) + 1) 0 ≤ length (z .body)) p (leb-true _ _ (every-at (named i) (place own i 8) e q (omega arith)));
         }
 
-    -- a child of a union, at the node that the plan gives
-    child-named : (i : ℕ) (b : Bool) (ids : List ℕ) (f : ℕ → Ty) → Is tree i (unionKind b ids) → (e : ℕ) → List·Memᴰ e ids
-        → NamesLent x (z .buffers) s (f e) (nodeOf tree i ids e) (bodyOf tree own (f e) (nodeOf tree i ids e)) → NamesLent x (z .buffers) s (f e) (childOf plan i e) (bodyOf tree own (f e) (nodeOf tree i ids e))
-    child-named i b ids f h e q r = subst (λ n. NamesLent x (z .buffers) s (f e) n (bodyOf tree own (f e) (nodeOf tree i ids e))) (sym (kids i b ids h e q)) r
-
     pub named-at : (u : Ty) (i : ℕ) → Means tree u i → NamesLent x (z .buffers) s u i (bodyOf tree own u i)
-    named-at (tPlain p) i h = tt
-    named-at tView i h = view-named i h
-    named-at (tListView w u) i h = named-at u (suc i) (h .1)
-    named-at (tList w u) i h = named-at u (suc i) (h .1)
-    named-at (tSparse ids nullable f) i h = λ e q. child-named i true ids f (h .0) e q (named-at (f e) (nodeOf tree i ids e) (h .1 e q .1))
-    named-at (tDense ids nullable f) i h = λ e q. child-named i false ids f (h .0) e q (named-at (f e) (nodeOf tree i ids e) (h .1 e q .1))
-    named-at (tRunEnd w u) i h = named-at u (suc (suc i)) (h .2)
-    named-at (tDictionary k p) i h = tt
+    named-at u i h = below-from (nodeDown (inPlan plan)) _ _ (columnThere tree own) (there-kid tree own plan kids) (λ s. view-named (s .0) (s .1)) (λ n p s. tt) u (i, h)
 
 -- THE DATA BUFFERS OF SOURCES THAT AN OPENING TAKES, all read by the first source's tree
 pub taken-named : (formats schema : List ℕ) (z : Tables) (plan parts sources : List ℕ) (nodesOf : ℕ → ℕ) (m : ℕ) → Taken formats schema z (firstOf sources) nodesOf plan m → (s : ℕ) → s < m

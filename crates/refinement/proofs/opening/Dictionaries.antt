@@ -107,7 +107,7 @@ module _ (x : Lent) (m : ℕ) (few : m ≤ 16) (count-is : sourceCount (x .plan)
         all c2 ν q c3 ξ r e (List·Memᴰ·tail g) = r .0 e g
         all c2 ν q c3 ξ r e (List·Memᴰ·head i) =
             subst (λ z. Joins plan (f z) (node z) m (bodies z) c3 ξ) (sym i)
-            (joins-same x laid m c2 c3 ν ξ k (f b) (node b) (bodies b) (subst (kid b) (sym node-is) (w .4)) (kids b (List·Memᴰ·head refl) .0) (kids b (List·Memᴰ·head refl) .1)
+            (joins-same x m c2 c3 ν ξ laid k (f b) (node b) (bodies b) (subst (kid b) (sym node-is) (w .4)) (kids b (List·Memᴰ·head refl) .0) (kids b (List·Memᴰ·head refl) .1)
             (λ j u v. r .1 .same j (λ u2 v2. let z : endOf plan (node b) ≡ endOf plan n = ap (endOf plan) node-is in absurd (omega arith))) (q .0))
 
   -- a union: nothing at its own node

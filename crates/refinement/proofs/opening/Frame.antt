@@ -1,28 +1,31 @@
 -- What the joining of dictionaries leaves as it was: every node that is not a dictionary's values. Assumes nothing.
-use mathlib.Core.Path.{_≡_, refl, subst, _∙_}
+use mathlib.Core.Path.{_≡_, refl, ap, subst, _∙_}
 use mathlib.Core.Bool.{Bool, true, false}
 use mathlib.Core.List.{List}
 use Prim.Native.Nat.{ℕ, suc, _≤_, _<_}
+use native.Mathlib.Decide.{decLt}
 use native.Mathlib.Omega.{arith}
 use lib.ListN.{length}
 use lib.Dec.{eqb}
 use borrow.Author.Tests.{eqb-true, eqb-false}
-use Rattle.columnar.specs.Types.{Ty, tPlain, tView, tListView, tList, tSparse, tDense, tRunEnd, tDictionary}
+use Rattle.columnar.specs.Types.{Number, Plain, Ty, tPlain, tDictionary}
 use Rattle.columnar.specs.Reading.{Body}
+use Rattle.columnar.specs.Kids.{nodesDown}
+use Rattle.columnar.proofs.Kids.{below-kid, below-by}
 use Rattle.schema.specs.formats.Code.{isFixed}
 use Rattle.walk.specs.State.{codeOf, dictionaryOf, endOf}
 use Rattle.refinement.specs.walk_is_model.Memory.{Memory}
-use Rattle.refinement.specs.walk_is_model.Holds.{childOf, Worded}
-use Rattle.refinement.proofs.walk_is_model.Frame.{SameAt, same-refl, same-then, Kept, field-of, held-same}
+use Rattle.refinement.specs.walk_is_model.Holds.{inPlan, Worded}
+use Rattle.refinement.proofs.walk_is_model.Frame.{SameAt, same-refl, same-then, Kept, held-same}
+use Rattle.refinement.proofs.walk_is_model.Kids.{kid-at}
 use Rattle.refinement.proofs.walk_is_model.Codes.{between-apart}
-use Rattle.refinement.specs.log_in_room.Reach.{Free}
-use Rattle.refinement.proofs.log_in_room.Found.{between-wide}
+use Rattle.refinement.specs.log_in_room.Reach.{Typed, typed, Free}
 use Rattle.plan.specs.parts.Parts.{copied}
 use Rattle.refinement.specs.orders.Order.{Lent}
 use Rattle.refinement.proofs.orders.Cover.{Laid}
 use Rattle.refinement.specs.opening.Entries.{EntriesLent, Joins}
 use Rattle.refinement.proofs.opening.Zeros.{Fresh, fresh-same}
-use Rattle.refinement.proofs.opening.Starts.{Here, closed-here, is-union, child-here}
+use Rattle.refinement.proofs.opening.Starts.{Here, closed-here}
 
 module _ (plan : List ℕ) where
   -- all nodes but dictionaries' values among i .. e - 1 are as they were
@@ -75,36 +78,57 @@ module _ (plan : List ℕ) where
     pub keys-end : (i : ℕ) → Here plan i → (dictionaryOf plan i ≡ 0 → ⊥) → endOf plan i ≡ suc (suc i)
     keys-end i here d = laid .tabled .keys-end i (closed-here plan laid .own i here .0 .1) d
 
-module _ (x : Lent) (laid : Laid (x .plan)) (m : ℕ) (c c′ : List ℕ) (μ μ′ : Memory) where
+-- the nodes of a type end where the column does
+pub ends-in : (plan : List ℕ) (i : ℕ) → Typed plan 0 (endOf plan 0) i → endOf plan i ≤ endOf plan 0
+ends-in plan i (typed k t w l e) = e
+
+module _ (x : Lent) (m : ℕ) (c c′ : List ℕ) (μ μ′ : Memory) where
   abbrev plan : List ℕ
   plan = x .plan
 
-  -- node i and the nodes below it are as they were
-  abbrev pub SameFrom : ℕ → Type 0
-  SameFrom i = (j : ℕ) → i ≤ j → j < endOf plan i → SameAt c c′ μ μ′ j
+  keyed : (k : ℕ) (n : Number) (p : Plain) (i : ℕ) → Worded plan k (tDictionary n p) i → (i < endOf plan i) × (dictionaryOf plan i ≡ 0 → ⊥)
+  keyed (suc k) n p i w = (w .1, w .2)
 
-  -- JOINED DICTIONARIES are still held where their nodes are as they were
-  pub joins-same : (k : ℕ) (t : Ty) (i : ℕ) (ss : ℕ → Body t) → Worded plan k t i → Here plan i → EntriesLent x t i m ss → SameFrom i → Joins plan t i m ss c μ → Joins plan t i m ss c′ μ′
-  joins-same (suc k) (tPlain p) i ss w here l s h = tt
-  joins-same (suc k) tView i ss w here l s h = tt
-  joins-same (suc k) (tListView v t) i ss w here l s h =
-      let e : endOf plan i ≡ endOf plan (suc i) = w .1 in
-      joins-same k t (suc i) (λ j. ss j .child .body) (w .4) (closed-here plan laid .item i here (between-wide 17 18 17 20 (codeOf plan i) (omega arith) (omega arith) (w .2))) l (λ j a b. s j (omega arith) (omega arith)) h
-  joins-same (suc k) (tList v t) i ss w here l s h =
-      let e : endOf plan i ≡ endOf plan (suc i) = w .1 in
-      joins-same k t (suc i) (λ j. ss j .child .body) (w .4) (closed-here plan laid .item i here (between-wide 19 20 17 20 (codeOf plan i) (omega arith) (omega arith) (w .2))) l (λ j a b. s j (omega arith) (omega arith)) h
-  joins-same (suc k) (tSparse ids nullable f) i ss w here l s h =
-      λ b q. let g = field-of plan (λ z. Worded plan k (f z)) nullable (endOf plan i) ids (suc i) 32 b (w .4) (omega (arith, w .2)) q in
-      joins-same k (f b) (childOf plan i b) (λ j. ss j .children b .body) (g .is-kid) (child-here plan laid k f nullable ids i here (is-union plan i 21 (w .1) refl) (w .2) (w .4) b q .0) (l b q)
-      (λ j a z. s j (omega (arith, g .behind)) (omega (arith, g .ends))) (h b q)
-  joins-same (suc k) (tDense ids nullable f) i ss w here l s h =
-      λ b q. let g = field-of plan (λ z. Worded plan k (f z)) nullable (endOf plan i) ids (suc i) 32 b (w .4) (omega (arith, w .2)) q in
-      joins-same k (f b) (childOf plan i b) (λ j. ss j .children b .body) (g .is-kid) (child-here plan laid k f nullable ids i here (is-union plan i 22 (w .1) refl) (w .2) (w .4) b q .0) (l b q)
-      (λ j a z. s j (omega (arith, g .behind)) (omega (arith, g .ends))) (h b q)
-  joins-same (suc k) (tRunEnd v t) i ss w here l s h =
-      let e : endOf plan i ≡ endOf plan (suc (suc i)) = w .1 in
-      joins-same k t (suc (suc i)) (λ j. ss j .values .body) (w .4) (closed-here plan laid .values i here (w .2)) l (λ j a b. s j (omega arith) (omega arith)) h
-  joins-same (suc k) (tDictionary n p) i ss w here l s h =
-      λ e. let r = h e in
-      let z = keys-end plan laid i here (w .2) in
-      (r .0, r .1, held-same plan c c′ μ μ′ 1 (tPlain p) (suc i) (r .0) (l .small, omega (arith, l .ends), l .no-keys, l .plain-is) (λ j a b. s j (omega arith) (omega (arith, l .ends))) (r .2))
+  -- the values of the dictionaries from node i on are as they were
+  abbrev pub ValuesSame : ℕ → Type 0
+  ValuesSame i = (j : ℕ) → i ≤ j → j < endOf plan i → (dictionaryOf plan j ≡ 0 → ⊥) → SameAt c c′ μ μ′ (suc j)
+
+  -- JOINED DICTIONARIES are still held where their values' nodes are as they were
+  pub joins-kept : (k : ℕ) (t : Ty) (i : ℕ) (ss : ℕ → Body t) → Worded plan k t i → EntriesLent x t i m ss → ValuesSame i → Joins plan t i m ss c μ → Joins plan t i m ss c′ μ′
+  joins-kept k t i ss w l s h =
+      below-by (nodesDown (inPlan plan)) _ _
+      (λ t y. ((k : ℕ) × Worded plan k t (y .0)) × EntriesLent x t (y .0) m (y .1) × ValuesSame (y .0) × Joins plan t (y .0) m (y .1) c μ)
+      (λ t y g b. let a = kid-at plan (g .0 .0) t (y .0) (g .0 .1) b in (
+        (a .depth, a .is-kid),
+        below-kid (nodesDown (inPlan plan)) _ _ t y (g .1) b,
+        (λ j p q. g .2 j (omega (arith, a .behind)) (omega (arith, a .ends))),
+        below-kid (nodesDown (inPlan plan)) _ _ t y (g .3) b,
+      ))
+      (λ y g. tt)
+      (λ n p y g e. let a = g .1 in
+      let r = g .3 e in
+      let w = keyed (g .0 .0) n p (y .0) (g .0 .1) in
+      let one : (j : ℕ) → suc (y .0) ≤ j → j < endOf plan (suc (y .0)) → SameAt c c′ μ μ′ j = λ j u v. let z : suc (y .0) ≡ j = omega (arith, a .ends) in subst (SameAt c c′ μ μ′) z (g .2 (y .0) (omega arith) (w .0) (w .1)) in
+      (r .0, r .1, held-same plan c c′ μ μ′ 1 (tPlain p) (suc (y .0)) (r .0) (a .small, omega (arith, a .ends), a .no-keys, a .plain-is) one (r .2)))
+      t (i, ss) ((k, w), l, s, h)
+
+  module _ (laid : Laid plan) where
+    -- node i and the nodes below it are as they were
+    abbrev pub SameFrom : ℕ → Type 0
+    SameFrom i = (j : ℕ) → i ≤ j → j < endOf plan i → SameAt c c′ μ μ′ j
+
+    values-same : (i : ℕ) → Here plan i → SameFrom i → ValuesSame i
+    values-same i here s j p q d = s (suc j) (omega arith) (go (decLt i j))
+      where
+        within : endOf plan i ≤ endOf plan 0
+        within = ends-in plan i (here .0)
+
+        ends : endOf plan j ≡ suc (suc j)
+        ends = laid .tabled .keys-end j (omega (arith, within)) d
+
+        go : Dec (i < j) → suc j < endOf plan i
+        go (yes h) = omega (arith, laid .tabled .nested i j h q within, ends)
+        go (no h) = let z : endOf plan j ≡ endOf plan i = ap (endOf plan) (let y : j ≡ i = omega arith in y) in omega (arith, ends)
+
+    pub joins-same : (k : ℕ) (t : Ty) (i : ℕ) (ss : ℕ → Body t) → Worded plan k t i → Here plan i → EntriesLent x t i m ss → SameFrom i → Joins plan t i m ss c μ → Joins plan t i m ss c′ μ′
+    joins-same k t i ss w here l s h = joins-kept k t i ss w l (values-same i here s) h

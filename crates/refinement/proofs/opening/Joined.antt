@@ -10,13 +10,15 @@ use borrow.Author.Tests.{ltb-true}
 use Rattle.columnar.specs.Types.{Number, i8, u8, i16, u16, i32, u32, i64, u64, f32, f64, limit, Ty, tPlain, tView, tListView, tList, tSparse, tDense, tRunEnd, tDictionary}
 use Rattle.columnar.specs.Dictionary.{Dictionary}
 use Rattle.columnar.specs.Reading.{Body, Column}
+use Rattle.columnar.specs.Kids.{kidAt, nodesDown}
+use Rattle.columnar.proofs.Kids.{below-by}
 use Rattle.model.specs.Try.{Try, done, then, guard}
 use Rattle.model.specs.Opening.{keeps, entriesFit, startOfKeys, allKeysFit}
 use Rattle.model.specs.Transform.{theDictionary, openData}
 use Rattle.model.proofs.Follow.{guard-done}
 use Rattle.model.proofs.Joined.{then-done}
 use Rattle.model.proofs.Owed.{Ready}
-use Rattle.model.proofs.Ready.{opened-each, ready}
+use Rattle.model.proofs.Ready.{opened-kid, ready}
 use Rattle.model.proofs.SameBody.{same-entries}
 use Rattle.schema.specs.Tree.{ceilings, typed}
 use Rattle.array_data.specs.Tables.{Tables}
@@ -27,7 +29,7 @@ use Rattle.array_data.proofs.type_tree.Lent.{means}
 use Rattle.array_data.specs.lent_tables.Lent.{tables}
 use Rattle.plan.specs.dictionaries.Sources.{capped}
 use Rattle.walk.specs.State.{endOf, keepsOf}
-use Rattle.refinement.specs.walk_is_model.Holds.{childOf}
+use Rattle.refinement.specs.walk_is_model.Holds.{childOf, inPlan}
 use Rattle.refinement.specs.walk_is_model.Lent.{Based}
 use Rattle.refinement.specs.log_in_room.Room.{AllBelow}
 use Rattle.array_data.specs.Sources as Sources
@@ -47,6 +49,7 @@ use Rattle.refinement.proofs.orders.Cover.{Laid}
 use Rattle.refinement.proofs.orders.Step.{Joined}
 use Rattle.refinement.specs.opening.Open.{opened}
 use Rattle.refinement.specs.opening.Kept.{Kept}
+use Rattle.refinement.proofs.opening.Kept.{kept-kid}
 use Rattle.refinement.proofs.opening.Taken.{some-sources, few-sources, is-typed, is-low, few-nodes, few-named, planted, taken, sources-of}
 use Rattle.model.proofs.Names.{keysFit}
 use Rattle.array_data.proofs.Names.{unionKind}
@@ -61,7 +64,7 @@ module _ (formats schema : List ℕ) (first n : ℕ) (plan : List ℕ)
   same-node : (i : ℕ) (b : Bool) (ids : List ℕ) → Is tree i (unionKind b ids) → (e : ℕ) → List·Memᴰ e ids → nodeOf tree i ids e ≡ childOf plan i e
   same-node i b ids h e q = sym (child-node formats schema first n plan ty low words i (h .0) b ids (h .1) e q)
 
-  kept-below : (m : ℕ) (u : Ty) (i : ℕ) (b : Bool) (bodies : ℕ → Body u) → Means tree u i → OpenedBelow plan tree m u i b bodies → Kept plan m u i b bodies
+  kept-below : (m : ℕ) (u : Ty) (i : ℕ) (b : Bool) (bodies : ℕ → Body u) → Means tree u i → OpenedBelow plan (nodeOf tree) m u i b bodies → Kept plan m u i b bodies
   kept-below m (tPlain p) i b bodies h o = tt
   kept-below m tView i b bodies h o = o
   kept-below m (tListView w u) i b bodies h o = (o .0, kept-below m u (suc i) _ _ (h .1) (o .1))
@@ -117,16 +120,12 @@ module _ {P : Type 0} (k : Number) (m : ℕ) (ds : ℕ → Dictionary P) where
 -- WHERE GROUND 8 DOES NOT STAND, the words of a plan have the bases
 based-by : (plan : List ℕ) (m : ℕ) (u : Ty) (i : ℕ) (b : Bool) (bodies : ℕ → Body u) → Kept plan m u i b bodies → openData u m bodies ≡ done tt → (s : ℕ) → s < m
     → Based plan s u i m bodies
-based-by plan m (tPlain p) i b bodies h o s l = tt
-based-by plan m tView i b bodies h o s l = h s l
-based-by plan m (tListView w u) i b bodies h o s l = based-by plan m u (suc i) _ _ (h .1) o s l
-based-by plan m (tList w u) i b bodies h o s l = based-by plan m u (suc i) _ _ (h .1) o s l
-based-by plan m (tSparse ids nullable f) i b bodies h o s l = λ c q.
-    based-by plan m (f c) (childOf plan i c) _ _ (h c q .1) (opened-each ids (λ c. openData (f c) m (λ j. bodies j .children c .body)) o c q) s l
-based-by plan m (tDense ids nullable f) i b bodies h o s l = λ c q.
-    based-by plan m (f c) (childOf plan i c) _ _ (h c q .1) (opened-each ids (λ c. openData (f c) m (λ j. bodies j .children c .body)) o c q) s l
-based-by plan m (tRunEnd w u) i b bodies h o s l = based-by plan m u (suc (suc i)) _ _ (h .2) o s l
-based-by plan m (tDictionary k p) i b bodies h o s l = h .2 s l ∙ not-capped k m bodies (then-guard (theDictionary p m bodies) (allKeysFit k m m bodies) 8 (guard-done (entriesFit m bodies) 6 _ tt o .1)) s l
+based-by plan m u i b bodies h o s l =
+    below-by (nodesDown (inPlan plan)) _ _ (λ u y. ((b : Bool) × Kept plan m u (y .0) b (y .1)) × (openData u m (y .1) ≡ done tt))
+    (λ u y g c. ((keeps (g .0 .0) m (λ j. kidAt u (y .1 j) c), kept-kid plan m u (y .0) (g .0 .0) (y .1) (g .0 .1) c), opened-kid u m (y .1) (g .1) c))
+    (λ y g. g .0 .1 s l)
+    (λ k p y g. g .0 .1 .2 s l ∙ not-capped k m (y .1) (then-guard (theDictionary p m (y .1)) (allKeysFit k m m (y .1)) 8 (guard-done (entriesFit m (y .1)) 6 _ tt (g .1) .1)) s l)
+    u (i, bodies) ((b, h), o)
 
 -- ---- an accepted opening
 

@@ -21,7 +21,7 @@ use Rattle.refinement.specs.walk_is_model.Memory.{Memory}
 use Rattle.refinement.specs.walk_is_model.Holds.{childOf, flag, Fields, WordedPlain, Worded, HoldsBits, HoldsNode, HoldsPlain, HoldsData, Holds}
 use Rattle.refinement.proofs.walk_is_model.Frame.{field-of}
 use Rattle.refinement.proofs.walk_is_model.Codes.{between-apart}
-use Rattle.refinement.proofs.walk_is_model.Node.{worded-small}
+use Rattle.refinement.proofs.walk_is_model.Kids.{worded-small}
 use Rattle.refinement.specs.log_in_room.Reach.{Closed, Typed, Among, Free}
 use Rattle.refinement.proofs.log_in_room.Found.{between-both, between-wide, child-first, child-with}
 use Rattle.refinement.proofs.log_in_room.Closure.{closed-free}

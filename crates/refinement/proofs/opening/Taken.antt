@@ -9,9 +9,11 @@ use native.Mathlib.Omega.{arith}
 use lib.ListN.{length, take, drop, getD}
 use lib.Dec.{T, leb, eqb}
 use borrow.Author.Tests.{leb-true, eqb-true, eqb-false}
-use Rattle.columnar.specs.Types.{Plain, fixed, string, Ty, tPlain, tView, tListView, tList, tSparse, tDense, tRunEnd, tDictionary}
+use Rattle.columnar.specs.Types.{Plain, fixed, string, Ty}
 use Rattle.columnar.specs.Array.{ok, nullsIn, nullCount}
 use Rattle.columnar.specs.Reading.{Column, Source}
+use Rattle.columnar.specs.Kids.{kidNode, bodyDown}
+use Rattle.columnar.proofs.Kids.{below-from}
 use Rattle.schema.specs.formats.Code.{isView}
 use Rattle.model.specs.Sources.{EachView, EachDictionary, ValidFrom, StandsFrom, Stands, Sources}
 use Rattle.model.proofs.Bits.{length-seg}
@@ -32,6 +34,7 @@ use Rattle.columns.proofs.Answers.{sum-fits}
 use Rattle.refinement.specs.plan_is_type.Planted.{Planted}
 use Rattle.refinement.specs.plan_is_type.Taken.{columns, columnsAs, Taken}
 use Rattle.refinement.proofs.plan_is_type.OneTree.{same-column}
+use Rattle.refinement.proofs.plan_is_type.Kids.{body-kid, meant-kid}
 use Rattle.refinement.proofs.plan_is_type.Opened.{all-alike, all-obey}
 use Rattle.plan.specs.Plan.{planned}
 use Rattle.plan.proofs.Codes.{view-code}
@@ -75,14 +78,8 @@ module _ (tree : Tree) (own : Tables) where
 
   -- EVERY DICTIONARY STANDS IN THE BODY
   stands-at : (u : Ty) (i : ℕ) → EachDictionary (Stands (own .body)) u (bodyOf tree own u i)
-  stands-at (tPlain p) i = tt
-  stands-at tView i = tt
-  stands-at (tListView w u) i = stands-at u (suc i)
-  stands-at (tList w u) i = stands-at u (suc i)
-  stands-at (tSparse ids nullable f) i = λ c q. stands-at (f c) (nodeOf tree i ids c)
-  stands-at (tDense ids nullable f) i = λ c q. stands-at (f c) (nodeOf tree i ids c)
-  stands-at (tRunEnd w u) i = stands-at u (suc (suc i))
-  stands-at (tDictionary k p) i = plain-stands p (suc i)
+  stands-at u i =
+      below-from bodyDown _ _ {S = λ u. ℕ} (λ u i. bodyOf tree own u i) (λ u i k. (kidNode (nodeOf tree) u i k, body-kid tree own u i k)) (λ i. tt) (λ n p i. plain-stands p (suc i)) u i
 
 -- ---- few data buffers
 
@@ -97,7 +94,7 @@ module _ (formats schema : List ℕ) (x : Tables) (first n : ℕ) (within : with
   abbrev own : Tables
   own = tablesFrom x first
 
-  few-there : (i : ℕ) → i < n → isView (codeOf formats schema first i) ≡ true → place own i 8 ≤ 32
+  pub few-there : (i : ℕ) → i < n → isView (codeOf formats schema first i) ≡ true → place own i 8 ≤ 32
   unfolding withinCeilings nodeFits fewBuffers
   few-there i l v =
       let p = both (ceilings formats schema first n) (every (nodeFits formats schema x first) n) within in
@@ -107,15 +104,10 @@ module _ (formats schema : List ℕ) (x : Tables) (first n : ℕ) (within : with
       omega (arith, place-from x first i 8)
 
   -- EVERY VIEW NODE HAS FEW DATA BUFFERS
-  few-at : (u : Ty) (i : ℕ) → Means tree u i → EachView (λ v. length (v .buffers) ≤ 32) u (bodyOf tree own u i)
-  few-at (tPlain p) i h = tt
-  few-at tView i h = rw (length-seg _ (place own i 7) (place own i 8)) (few-there i (h .0) (view-code formats schema first i (h .1)))
-  few-at (tListView w u) i h = few-at u (suc i) (h .1)
-  few-at (tList w u) i h = few-at u (suc i) (h .1)
-  few-at (tSparse ids nullable f) i h = λ c q. few-at (f c) (nodeOf tree i ids c) (h .1 c q .1)
-  few-at (tDense ids nullable f) i h = λ c q. few-at (f c) (nodeOf tree i ids c) (h .1 c q .1)
-  few-at (tRunEnd w u) i h = few-at u (suc (suc i)) (h .2)
-  few-at (tDictionary k p) i h = tt
+  pub few-at : (u : Ty) (i : ℕ) → Means tree u i → EachView (λ v. length (v .buffers) ≤ 32) u (bodyOf tree own u i)
+  few-at u i h =
+      below-from bodyDown _ _ (λ u s. bodyOf tree own u (s .0)) (λ u s k. (meant-kid tree u s k, body-kid tree own u (s .0) k))
+      (λ s. rw (length-seg _ (place own (s .0) 7) (place own (s .0) 8)) (few-there (s .0) (s .1 .0) (view-code formats schema first (s .0) (s .1 .1)))) (λ n p s. tt) u (i, h)
 
 -- ---- an accepted opening
 

@@ -19,7 +19,7 @@ use Rattle.refinement.specs.walk_is_model.Holds.{childOf, flag, Fields, 
 use Rattle.refinement.proofs.walk_is_model.Frame.{worded-span}
 use Rattle.refinement.proofs.walk_is_model.UnionFields.{with-first, with-later}
 use Rattle.refinement.specs.log_in_room.Room.{AllBelow}
-use Rattle.refinement.specs.log_in_room.Reach.{Closed, UsedAt, Typed, typed}
+use Rattle.refinement.specs.log_in_room.Reach.{Closed, UsedAt}
 use Rattle.refinement.proofs.log_in_room.Bytes.{bytes-encode}
 use Rattle.refinement.proofs.log_in_room.Copies.{used-copies}
 use Rattle.schema.specs.formats.Code.{isRunEnd}
@@ -36,10 +36,7 @@ use Rattle.refinement.specs.opening.Entries.{EntriesLent}
 use Rattle.refinement.proofs.opening.Zeros.{values-copied}
 use Rattle.refinement.proofs.opening.Starts.{Here, closed-here, is-union, child-here}
 use Rattle.refinement.proofs.opening.Spans.{span, span-none, span-one, span-split}
-use Rattle.refinement.proofs.opening.Frame.{no-dictionary, not-fixed, keys-end}
-
-ends-in : (plan : List ℕ) (i : ℕ) → Typed plan 0 (endOf plan 0) i → endOf plan i ≤ endOf plan 0
-ends-in plan i (typed k t w p q) = q
+use Rattle.refinement.proofs.opening.Frame.{no-dictionary, not-fixed, keys-end, ends-in}
 
 plain-low : (plan : List ℕ) (p : Plain) (i : ℕ) → WordedPlain plan p i → codeOf plan i < 15
 plain-low plan (fixed n) i w = let z = between-both 1 10 (codeOf plan i) (w .0) in omega (arith, z .1)

@@ -8,11 +8,12 @@ use native.Mathlib.Omega.{arith}
 use lib.Dec.{leb, ltb, eqb}
 use borrow.Author.Tests.{lt-ltb, le-leb, eq-eqb, ne-eqb, eqb-true, eqb-false, ltb-true}
 use Rattle.columnar.specs.Test.{every, onlyIf}
-use Rattle.columnar.specs.Types.{Ty, tPlain, tView, tListView, tList, tSparse, tDense, tRunEnd, tDictionary, fixed, string}
+use Rattle.columnar.specs.Types.{Ty}
 use Rattle.columnar.specs.Reading.{masks}
 use Rattle.schema.specs.formats.Code.{isFixed, isString, isView, isListView, isList, isUnion, widthOf}
 use Rattle.walk.specs.State.{codeOf, dictionaryOf, keepsOf}
 use Rattle.refinement.specs.walk_is_model.Holds.{Worded}
+use Rattle.refinement.proofs.walk_is_model.Node.{masked-is}
 use Rattle.refinement.specs.log_in_room.Reach.{HasBuffer, Second, chars, sizes, positions, Free}
 use Rattle.refinement.proofs.log_in_room.Found.{between-both}
 use Rattle.plan.specs.parts.Parts.{bufferCount, copied, validityParts, bufferParts, hasPart, hasOffsets, entrySize, neededBy}
@@ -197,12 +198,4 @@ module _ (plan : List ℕ) where
 
   -- a node has validity by its code
   pub masks-code : (k : ℕ) (t : Ty) (i : ℕ) → Worded plan k t i → masks t ≡ ltb (codeOf plan i) 21
-  masks-code (suc k) (tPlain (fixed n)) i w = let b = between-both 1 10 (codeOf plan i) (w .3 .0) in sym (lt-ltb (codeOf plan i) 21 (omega (arith, b .1)))
-  masks-code (suc k) (tPlain (string v)) i w = let b = between-both 11 14 (codeOf plan i) (w .3 .0) in sym (lt-ltb (codeOf plan i) 21 (omega (arith, b .1)))
-  masks-code (suc k) tView i w = let b = between-both 15 16 (codeOf plan i) (w .2) in sym (lt-ltb (codeOf plan i) 21 (omega (arith, b .1)))
-  masks-code (suc k) (tListView v t) i w = let b = between-both 17 18 (codeOf plan i) (w .2) in sym (lt-ltb (codeOf plan i) 21 (omega (arith, b .1)))
-  masks-code (suc k) (tList v t) i w = let b = between-both 19 20 (codeOf plan i) (w .2) in sym (lt-ltb (codeOf plan i) 21 (omega (arith, b .1)))
-  masks-code (suc k) (tSparse ids nullable f) i w = let e : codeOf plan i ≡ 21 = w .1 in rw e
-  masks-code (suc k) (tDense ids nullable f) i w = let e : codeOf plan i ≡ 22 = w .1 in rw e
-  masks-code (suc k) (tRunEnd v t) i w = let e : codeOf plan i ≡ 23 = w .2 in rw e
-  masks-code (suc k) (tDictionary n p) i w = let b = between-both 1 10 (codeOf plan i) (w .3) in sym (lt-ltb (codeOf plan i) 21 (omega (arith, b .1)))
+  masks-code k t i w = sym (masked-is plan k t i w)

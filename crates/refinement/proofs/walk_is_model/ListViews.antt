@@ -31,7 +31,8 @@ use Rattle.refinement.proofs.walk_is_model.Goes.{Goes, goes-guard, goes
 use Rattle.refinement.proofs.walk_is_model.Frame.{SameAt, same-then, Kept, kept-refl, worded-span, held-same}
 use Rattle.refinement.proofs.walk_is_model.Owed.{DataKept, Given, Copies, CopiesData, FillsData}
 use Rattle.refinement.proofs.walk_is_model.Pairs.{goes-both, goes-wrap, goes-last, goes-rows}
-use Rattle.refinement.proofs.walk_is_model.Places.{data-kept-refl, data-kept-then, part-entry, rows-in, put-here, put-beside, put-other, worded-small, small-of, width-small, half-far, between-apart}
+use Rattle.refinement.proofs.walk_is_model.Kids.{worded-small}
+use Rattle.refinement.proofs.walk_is_model.Places.{data-kept-refl, data-kept-then, part-entry, rows-in, put-here, put-beside, put-other, small-of, width-small, half-far, between-apart}
 
 -- ---- both buffers of a node written, then its child
 

@@ -34,7 +34,8 @@ use Rattle.refinement.proofs.walk_is_model.Goes.{Goes, over, goes-done,
 use Rattle.refinement.proofs.walk_is_model.Frame.{same-then, Kept, kept-refl, worded-span, held-same}
 use Rattle.refinement.proofs.walk_is_model.Owed.{DataKept, Given, Copies, CopiesData, FillsData}
 use Rattle.refinement.proofs.walk_is_model.Pairs.{goes-wrap, goes-last}
-use Rattle.refinement.proofs.walk_is_model.Places.{data-kept-refl, put-here, put-other, worded-small, small-of, width-small, half-far, between-apart}
+use Rattle.refinement.proofs.walk_is_model.Kids.{worded-small}
+use Rattle.refinement.proofs.walk_is_model.Places.{data-kept-refl, put-here, put-other, small-of, width-small, half-far, between-apart}
 use Rattle.refinement.proofs.walk_is_model.Parts.{rows-in}
 use Rattle.refinement.proofs.walk_is_model.Offsets.{Rows, rows-of, first-is, first-below, never-falls, last-is, new-are}
 use Rattle.refinement.proofs.walk_is_model.Entries.{repeated-pieces}

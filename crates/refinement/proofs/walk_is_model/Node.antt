@@ -27,6 +27,7 @@ use Rattle.walk.specs.Nulls.{nullData, nullNode, nullWalk}
 use Rattle.refinement.specs.walk_is_model.Memory.{Memory}
 use Rattle.refinement.specs.walk_is_model.Holds.{WordedPlain, Worded, HoldsBits, HoldsData, Holds}
 use Rattle.refinement.specs.walk_is_model.Lent.{LentValid}
+use Rattle.refinement.proofs.walk_is_model.Kids.{worded-small}
 use Rattle.refinement.proofs.walk_is_model.Goes.{Goes, Quiet, goes-done, goes-need, goes-found, goes-then, goes-quiet}
 use Rattle.refinement.proofs.walk_is_model.Frame.{SameAt, same-then, Kept, kept-refl, worded-span, bits-held, data-held}
 use Rattle.refinement.proofs.walk_is_model.Counters.{grown-is, rows-added, rows-other, nulls-of-rows, bytes-of-rows, long-rows}
@@ -44,16 +45,6 @@ below-code : (a b n : ℕ) → b < 21 → between a b n ≡ true → ltb n 21 �
 below-code a b n h e = let q = leb-true n b (both (leb a n) (leb n b) e .1) in lt-ltb n 21 (omega arith)
 
 module _ (plan : List ℕ) where
-  pub worded-small : (k : ℕ) (t : Ty) (i : ℕ) → Worded plan k t i → i < 32
-  worded-small (suc k) (tPlain p) i w = w .0
-  worded-small (suc k) tView i w = w .0
-  worded-small (suc k) (tListView v t) i w = w .0
-  worded-small (suc k) (tList v t) i w = w .0
-  worded-small (suc k) (tSparse ids nullable f) i w = w .0
-  worded-small (suc k) (tDense ids nullable f) i w = w .0
-  worded-small (suc k) (tRunEnd v t) i w = w .0
-  worded-small (suc k) (tDictionary n p) i w = w .0
-
   plain-code : (p : Plain) (i : ℕ) → WordedPlain plan p i → ltb (codeOf plan i) 21 ≡ true
   plain-code (fixed n) i w = below-code 1 10 (codeOf plan i) (omega arith) (w .0)
   plain-code (string n) i w = below-code 11 14 (codeOf plan i) (omega arith) (w .0)

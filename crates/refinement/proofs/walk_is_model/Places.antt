@@ -10,13 +10,12 @@ use lib.Seq.{drop-drop}
 use lib.Dec.{leb}
 use borrow.Author.Tests.{le-leb, lt-leb, eq-eqb, ne-eqb, leb-true}
 use Rattle.number.specs.Number.{number, entry}
-use Rattle.columnar.specs.Types.{half, Ty, tPlain, tView, tListView, tList, tSparse, tDense, tRunEnd, tDictionary}
+use Rattle.columnar.specs.Types.{half}
 use Rattle.columnar.specs.Array.{item}
 use Rattle.columnar.proofs.Items.{number-take, entry-end}
 use Rattle.schema.specs.formats.Code.{between, widths, widthOf}
 use Rattle.walk.specs.State.{Join, far, rowsIn}
 use Rattle.refinement.specs.walk_is_model.Memory.{Memory, putIn, amendIn}
-use Rattle.refinement.specs.walk_is_model.Holds.{Worded}
 use Rattle.refinement.specs.walk_is_model.Lent.{Part}
 use Rattle.refinement.proofs.walk_is_model.Frame.{SameAt, same-refl, same-then}
 use Rattle.refinement.proofs.walk_is_model.Owed.{DataKept, Small}
@@ -84,16 +83,6 @@ data-kept-then a b =
     }
 
 -- ---- words of the plan
-
-pub worded-small : (plan : List ℕ) (k : ℕ) (t : Ty) (i : ℕ) → Worded plan k t i → i < 32
-worded-small plan (suc k) (tPlain p) i w = w .0
-worded-small plan (suc k) tView i w = w .0
-worded-small plan (suc k) (tListView v t) i w = w .0
-worded-small plan (suc k) (tList v t) i w = w .0
-worded-small plan (suc k) (tSparse ids nullable f) i w = w .0
-worded-small plan (suc k) (tDense ids nullable f) i w = w .0
-worded-small plan (suc k) (tRunEnd v t) i w = w .0
-worded-small plan (suc k) (tDictionary n p) i w = w .0
 
 -- rows below the limit are held by a counter
 pub small-of : (n : ℕ) → n ≤ far → Small n

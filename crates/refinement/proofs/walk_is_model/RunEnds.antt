@@ -34,7 +34,8 @@ use Rattle.refinement.proofs.walk_is_model.Goes.{Goes, goes-done, goes-
 use Rattle.refinement.proofs.walk_is_model.Frame.{SameAt, same-then, Kept, worded-span, held-same}
 use Rattle.refinement.proofs.walk_is_model.Counters.{grown-is, rows-added, rows-other, nulls-of-rows, bytes-of-rows, bytes-set, bytes-other, rows-of-bytes, nulls-of-bytes, long-rows, long-bytes}
 use Rattle.refinement.proofs.walk_is_model.Owed.{DataKept, Given, Copies, CopiesData, Fills, FillsData}
-use Rattle.refinement.proofs.walk_is_model.Places.{data-kept-refl, part-entry, rows-in, put-here, put-other, amend-here, amend-other, worded-small, small-of, width-small, half-far}
+use Rattle.refinement.proofs.walk_is_model.Kids.{worded-small}
+use Rattle.refinement.proofs.walk_is_model.Places.{data-kept-refl, part-entry, rows-in, put-here, put-other, amend-here, amend-other, small-of, width-small, half-far}
 use Rattle.refinement.proofs.walk_is_model.Writes.{goes-write}
 use Rattle.refinement.proofs.walk_is_model.RunLookups.{many-rows, runs-are, clipped-is}
 use Rattle.model.proofs.Names.{clipped, nullsData}

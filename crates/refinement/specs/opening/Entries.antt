@@ -3,12 +3,13 @@
 use mathlib.Core.Path.{_≡_}
 use mathlib.Core.Bool.{true, false}
 use mathlib.Core.Option.{some}
-use mathlib.Core.List.{List, List·Memᴰ}
+use mathlib.Core.List.{List}
 use Prim.Native.Nat.{ℕ, suc, _<_}
-use Rattle.columnar.specs.Types.{Number, Plain, Ty, tPlain, tView, tListView, tList, tSparse, tDense, tRunEnd, tDictionary}
+use Rattle.columnar.specs.Types.{Number, Plain, Ty, tPlain}
 use Rattle.columnar.specs.Plain.{PlainBody}
 use Rattle.columnar.specs.Dictionary.{Dictionary}
 use Rattle.columnar.specs.Reading.{Body}
+use Rattle.columnar.specs.Kids.{Below, nodesDown}
 use Rattle.schema.specs.formats.Code.{isInteger}
 use Rattle.schema.specs.formats.Types.{numberOf}
 use Rattle.model.specs.Try.{done}
@@ -18,7 +19,7 @@ use Rattle.model.specs.Primitive.{plainStart}
 use Rattle.model.specs.Transform.{joinedFrom}
 use Rattle.walk.specs.State.{codeOf, dictionaryOf, endOf}
 use Rattle.refinement.specs.walk_is_model.Memory.{Memory}
-use Rattle.refinement.specs.walk_is_model.Holds.{childOf, WordedPlain, Holds}
+use Rattle.refinement.specs.walk_is_model.Holds.{inPlan, WordedPlain, Holds}
 use Rattle.refinement.specs.walk_is_model.Lent.{LentNode, LentPlain}
 use Rattle.refinement.specs.orders.Order.{Lent, joinOf}
 
@@ -36,28 +37,18 @@ pub record ValuesLent (x : Lent) (k : Number) (p : Plain) (i m : ℕ) (ss : ℕ 
 
 -- every dictionary from node i on
 abbrev pub EntriesLent : Lent → (t : Ty) → ℕ → ℕ → (ℕ → Body t) → Type 0
-EntriesLent x (tPlain p) i m ss = Unit {0}
-EntriesLent x tView i m ss = Unit {0}
-EntriesLent x (tListView w t) i m ss = EntriesLent x t (suc i) m (λ j. ss j .child .body)
-EntriesLent x (tList w t) i m ss = EntriesLent x t (suc i) m (λ j. ss j .child .body)
-EntriesLent x (tSparse ids nullable f) i m ss = (e : ℕ) → List·Memᴰ e ids → EntriesLent x (f e) (childOf (x .plan) i e) m (λ j. ss j .children e .body)
-EntriesLent x (tDense ids nullable f) i m ss = (e : ℕ) → List·Memᴰ e ids → EntriesLent x (f e) (childOf (x .plan) i e) m (λ j. ss j .children e .body)
-EntriesLent x (tRunEnd w t) i m ss = EntriesLent x t (suc (suc i)) m (λ j. ss j .values .body)
-EntriesLent x (tDictionary k p) i m ss = ValuesLent x k p i m ss
+EntriesLent x t i m ss = Below {X = λ t. ℕ × (ℕ → Body t)} (nodesDown (inPlan (x .plan))) (λ y. Unit {0}) (λ k p y. ValuesLent x k p (y .0) m (y .1)) t (i, ss)
 
 -- ---- what is joined
 
--- EVERY DICTIONARY THAT IS JOINED, from node i on, is held at the node behind its keys: "A joined dictionary has parts"
-abbrev pub Joins : List ℕ → (t : Ty) → ℕ → ℕ → (ℕ → Body t) → List ℕ → Memory → Type 0
-Joins plan (tPlain p) i m ss c μ = Unit {0}
-Joins plan tView i m ss c μ = Unit {0}
-Joins plan (tListView w t) i m ss c μ = Joins plan t (suc i) m (λ j. ss j .child .body) c μ
-Joins plan (tList w t) i m ss c μ = Joins plan t (suc i) m (λ j. ss j .child .body) c μ
-Joins plan (tSparse ids nullable f) i m ss c μ = (e : ℕ) → List·Memᴰ e ids → Joins plan (f e) (childOf plan i e) m (λ j. ss j .children e .body) c μ
-Joins plan (tDense ids nullable f) i m ss c μ = (e : ℕ) → List·Memᴰ e ids → Joins plan (f e) (childOf plan i e) m (λ j. ss j .children e .body) c μ
-Joins plan (tRunEnd w t) i m ss c μ = Joins plan t (suc (suc i)) m (λ j. ss j .values .body) c μ
-Joins plan (tDictionary k p) i m ss c μ =
-    shared m ss ≡ false
+-- the dictionaries whose keys are node i, if they are joined, are held at the node behind
+abbrev pub JoinsAt : List ℕ → (p : Plain) → ℕ → ℕ → (ℕ → Dictionary (PlainBody p)) → List ℕ → Memory → Type 0
+JoinsAt plan p i m ds c μ =
+    shared m ds ≡ false
     → (e : Mutable (PlainBody p))
-    × (joinedFrom p (λ j. ss j .values) m (startNode (keeps false m (λ j. ss j .values)) (plainStart p)) ≡ done e)
+    × (joinedFrom p (λ j. ds j .values) m (startNode (keeps false m (λ j. ds j .values)) (plainStart p)) ≡ done e)
     × Holds plan (tPlain p) (suc i) e c μ
+
+-- EVERY DICTIONARY THAT IS JOINED, from node i on: "A joined dictionary has parts"
+abbrev pub Joins : List ℕ → (t : Ty) → ℕ → ℕ → (ℕ → Body t) → List ℕ → Memory → Type 0
+Joins plan t i m ss c μ = Below {X = λ t. ℕ × (ℕ → Body t)} (nodesDown (inPlan plan)) (λ y. Unit {0}) (λ k p y. JoinsAt plan p (y .0) m (y .1) c μ) t (i, ss)

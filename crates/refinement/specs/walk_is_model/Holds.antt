@@ -22,6 +22,10 @@ use Rattle.refinement.specs.walk_is_model.Memory.{Memory}
 abbrev pub childOf : List ℕ → ℕ → ℕ → ℕ
 childOf plan i c = childWith plan c (endOf plan i) 32 (suc i)
 
+-- .. whatever its ids are
+abbrev pub inPlan : List ℕ → ℕ → List ℕ → ℕ → ℕ
+inPlan plan i ids c = childOf plan i c
+
 -- node i with the nodes below it, up to `end`
 abbrev pub Spans : List ℕ → ℕ → ℕ → Type 0
 Spans plan i end = (endOf plan i ≡ end) × (i < end) × (end ≤ 32)

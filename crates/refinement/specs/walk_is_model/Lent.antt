@@ -10,10 +10,11 @@ use Rattle.columnar.specs.Types.{Plain, fixed, string, Ty, tPlain, tView, tList
 use Rattle.columnar.specs.Array.{Array}
 use Rattle.columnar.specs.Plain.{PlainBody}
 use Rattle.columnar.specs.Reading.{Body, Column}
+use Rattle.columnar.specs.Kids.{Below, nodesDown}
 use Rattle.model.specs.Opening.{startOfKeys}
 use Rattle.model.specs.Primitive.{buffersBefore}
 use Rattle.walk.specs.State.{Join, baseOf, place, lengthOf, offsetOf, far}
-use Rattle.refinement.specs.walk_is_model.Holds.{childOf}
+use Rattle.refinement.specs.walk_is_model.Holds.{childOf, inPlan}
 
 -- bytes of the body
 pub record Part (body : List ℕ) (at size : ℕ) (s : List ℕ) : Type 0 where
@@ -61,11 +62,5 @@ module _ (x : Join) where
 
 -- what source s's keys and buffer numbers rise by, at every node
 abbrev pub Based : List ℕ → ℕ → (t : Ty) → ℕ → ℕ → (ℕ → Body t) → Type 0
-Based plan s (tPlain p) i m ss = Unit {0}
-Based plan s tView i m ss = baseOf plan s i ≡ length (buffersBefore ss s)
-Based plan s (tListView w t) i m ss = Based plan s t (suc i) m (λ j. ss j .child .body)
-Based plan s (tList w t) i m ss = Based plan s t (suc i) m (λ j. ss j .child .body)
-Based plan s (tSparse ids nullable f) i m ss = (e : ℕ) → List·Memᴰ e ids → Based plan s (f e) (childOf plan i e) m (λ j. ss j .children e .body)
-Based plan s (tDense ids nullable f) i m ss = (e : ℕ) → List·Memᴰ e ids → Based plan s (f e) (childOf plan i e) m (λ j. ss j .children e .body)
-Based plan s (tRunEnd w t) i m ss = Based plan s t (suc (suc i)) m (λ j. ss j .values .body)
-Based plan s (tDictionary n p) i m ss = baseOf plan s i ≡ startOfKeys m ss s
+Based plan s t i m ss =
+    Below {X = λ t. ℕ × (ℕ → Body t)} (nodesDown (inPlan plan)) (λ x. baseOf plan s (x .0) ≡ length (buffersBefore (x .1) s)) (λ n p x. baseOf plan s (x .0) ≡ startOfKeys m (x .1) s) t (i, ss)
