@@ -2,7 +2,7 @@
 use mathlib.Core.Path.{_≡_, refl, sym, subst, _∙_}
 use mathlib.Core.Bool.{Bool, true, false}
 use mathlib.Core.Option.{Option, none, some}
-use mathlib.Core.List.{List, List·Memᴰ}
+use mathlib.Core.List.{List}
 use Prim.Native.Nat.{ℕ, suc, _*_, _≤_, _<_}
 use native.Mathlib.Nat.{mul-one}
 use native.Mathlib.Omega.{arith}
@@ -11,13 +11,14 @@ use Rattle.columnar.specs.Types.{Plain, fixed, string, Ty, tPlain, tView, tList
 use Rattle.columnar.specs.Array.{Array}
 use Rattle.columnar.specs.Plain.{PlainBody}
 use Rattle.columnar.specs.Reading.{Body, Column, masks, Source}
+use Rattle.columnar.specs.Kids.{Below, nodeDown}
 use Rattle.model.specs.Mutable.{Mutable, freezeNode}
 use Rattle.model.specs.Transform.{Destination, freezeData, intoBuilder}
 use Rattle.model.proofs.Law.{BitsFor, FineNode}
 use Rattle.model.proofs.Nodes.{fineOf}
 use Rattle.walk.specs.State.{word, endOf, keepsOf, rows, bytes}
 use Rattle.refinement.specs.walk_is_model.Memory.{Memory}
-use Rattle.refinement.specs.walk_is_model.Holds.{childOf, Worded, HoldsBits, HoldsPlain, Holds}
+use Rattle.refinement.specs.walk_is_model.Holds.{childOf, inPlan, Worded, HoldsBits, HoldsPlain, Holds}
 use Rattle.refinement.proofs.walk_is_model.Frame.{field-of, worded-span}
 use Rattle.refinement.specs.walk_is_model.Lent.{LentNode, LentPlain}
 use Rattle.refinement.specs.orders.Order.{Lent, joinOf}
@@ -69,14 +70,9 @@ module _ (x : Lent) (buffers counters : List ℕ) (μ : Memory) where
 
   -- what the column's tables name, from node i on: the data buffers of views, and the values of dictionaries, which are kept
   abbrev pub NamedBelow : (t : Ty) → ℕ → Body t → Type 0
-  NamedBelow (tPlain p) i b = Unit {0}
-  NamedBelow tView i b = BuffersNamed x buffers counters μ i (b .buffers)
-  NamedBelow (tListView w t) i b = NamedBelow t (suc i) (b .child .body)
-  NamedBelow (tList w t) i b = NamedBelow t (suc i) (b .child .body)
-  NamedBelow (tSparse ids nullable f) i b = (e : ℕ) → List·Memᴰ e ids → NamedBelow (f e) (childOf plan i e) (b .children e .body)
-  NamedBelow (tDense ids nullable f) i b = (e : ℕ) → List·Memᴰ e ids → NamedBelow (f e) (childOf plan i e) (b .children e .body)
-  NamedBelow (tRunEnd w t) i b = NamedBelow t (suc (suc i)) (b .values .body)
-  NamedBelow (tDictionary k p) i b = (word plan i 7 ≡ 0) × LentNode (joinOf x 0) (suc i) (LentPlain (joinOf x 0) p (suc i)) (b .values)
+  NamedBelow t i b =
+      Below {X = λ t. ℕ × Body t} (nodeDown (inPlan plan)) (λ y. BuffersNamed x buffers counters μ (y .0) (y .1 .buffers))
+      (λ n p y. (word plan (y .0) 7 ≡ 0) × LentNode (joinOf x 0) (suc (y .0)) (LentPlain (joinOf x 0) p (suc (y .0))) (y .1 .values)) t (i, b)
 
   module _ (laid : Laid plan) where
     -- A NODE OF ANY TYPE that orders on one source have filled, its dictionaries kept

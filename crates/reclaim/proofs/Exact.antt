@@ -69,23 +69,13 @@ module _ (formats schema : List ℕ) (x : Tables) (first n : ℕ) (low : first <
     words : Worded bare 8 (typeOf formats schema first n) 0
     words = worded formats schema first n (λ i. false) true 0 typed-is low-is
 
-    some-node : (u : Ty) → Worded bare 8 u 0 → 0 < endOf bare 0
-    some-node (tPlain p) w = omega (arith, w .1)
-    some-node tView w = omega (arith, w .1)
-    some-node (tListView v t) w = omega (arith, worded-span bare 8 (tListView v t) 0 w)
-    some-node (tList v t) w = omega (arith, worded-span bare 8 (tList v t) 0 w)
-    some-node (tSparse ids nullable g) w = omega (arith, w .3)
-    some-node (tDense ids nullable g) w = omega (arith, w .3)
-    some-node (tRunEnd v t) w = omega (arith, worded-span bare 8 (tRunEnd v t) 0 w)
-    some-node (tDictionary k p) w = omega (arith, w .1)
-
     -- A DICTIONARY WORD MEANS A DICTIONARY TYPE
     pub own-dictionary : reclaimOwn schema first ≡ 0 → IsDictionary (typeOf formats schema first n)
     unfolding reclaimOwn
     own-dictionary h = go (eqb (dictionary schema first 0) 0) refl h
       where
         here : 0 < endOf bare 0
-        here = some-node (typeOf formats schema first n) words
+        here = worded-span bare 8 (typeOf formats schema first n) 0 words
 
         in-column : 0 < n
         in-column = omega (arith, here, root-is formats schema first n (λ i. false) true 0 typed-is low-is)

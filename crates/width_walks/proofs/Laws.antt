@@ -2,10 +2,10 @@
 use mathlib.Core.Path.{_≡_, refl, subst}
 use mathlib.Core.Bool.{Bool}
 use mathlib.Core.List.{List}
-use Prim.Native.Nat.{ℕ, zero, suc, _+_, _≤_, _<_}
+use Prim.Native.Nat.{ℕ, _+_, _≤_, _<_}
 use native.Mathlib.Omega.{arith}
 use lib.ListN.{length}
-use Rattle.columnar.specs.Types.{Ty, tPlain, tView, tListView, tList, tSparse, tDense, tRunEnd, tDictionary}
+use Rattle.columnar.specs.Types.{Ty}
 use Rattle.columnar.specs.Array.{ok, Mask}
 use Rattle.columnar.specs.Formed.{Formed}
 use Rattle.columnar.specs.Reading.{Body, Column, masks, SlotRule, Source}
@@ -15,6 +15,7 @@ use Rattle.refinement.specs.walk_is_model.Memory.{Memory}
 use Rattle.refinement.specs.walk_is_model.Holds.{Worded}
 use Rattle.refinement.specs.orders.Order.{Lent}
 use Rattle.refinement.proofs.walk_is_model.Frame.{Kept, worded-span}
+use Rattle.refinement.proofs.walk_is_model.Kids.{worded-small}
 use Rattle.refinement.proofs.walk_is_model.Owed.{DataKept}
 use Rattle.refinement.proofs.walk_is_model.Goes.{Goes}
 use Rattle.anew.specs.widths.Widths.{Widths, sPlain, sView, sListView, sList, sSparse, sDense, sRunEnd, sDictionary}
@@ -37,17 +38,6 @@ same-masks t t′ (sDense ids nullable nullable′ f f′ e d) = refl
 same-masks t t′ (sRunEnd w w′ u u′ d) = refl
 same-masks t t′ (sDictionary k k′ p p′ i i′ d) = refl
 
-pub worded-low : (plan : List ℕ) (k : ℕ) (t : Ty) (i : ℕ) → Worded plan k t i → i < 32
-worded-low plan zero t i w = absurd w
-worded-low plan (suc k) (tPlain p) i w = w .0
-worded-low plan (suc k) tView i w = w .0
-worded-low plan (suc k) (tListView v t) i w = w .0
-worded-low plan (suc k) (tList v t) i w = w .0
-worded-low plan (suc k) (tSparse ids nullable f) i w = w .0
-worded-low plan (suc k) (tDense ids nullable f) i w = w .0
-worded-low plan (suc k) (tRunEnd v t) i w = w .0
-worded-low plan (suc k) (tDictionary n p) i w = w .0
-
 module _ (x : Lent) (buffers : List ℕ) where
   -- n slots from s on of a body, into node i
   abbrev pub BodyLaw : (t t′ : Ty) → Widths t t′ → Type 0
@@ -68,7 +58,7 @@ module _ (x : Lent) (buffers : List ℕ) where
   pub node-of : (t t′ : Ty) (d : Widths t t′) → BodyLaw t t′ d → NodeLaw t t′ d
   node-of t t′ d law k i w g q v s r a n l c μ long bare =
       let m : Mask (masks t′) (v .valid) (v .off + v .len) = subst (λ z. Mask z (v .valid) (v .off + v .len)) (same-masks t t′ d) (s .mask) in
-      node-goes x buffers i (endOf (x .plan) i) (worded-low (x .plan) k t′ i w) (worded-span (x .plan) k t′ i w) (masks t′) v m (r .keeps) a n l (omega (arith, r .small))
+      node-goes x buffers i (endOf (x .plan) i) (worded-small (x .plan) k t′ i w) (worded-span (x .plan) k t′ i w) (masks t′) v m (r .keeps) a n l (omega (arith, r .small))
       (λ c2 μ2 j y. StoodData x buffers c2 μ2 t′ i j y) (tried (numbersOf (numbersIn d) v a n)) (bodyAs d (ok (v .valid)) (v .body) (v .off + a) n)
       (bodyWalk (x .plan) d i (ok (v .valid)) (v .body) (v .off + a) n) c μ long bare
       (law k i w g q (ok (v .valid)) (v .body) (v .off + a) n (cut t (ok (v .valid)) (v .body) (v .off) (v .len) a n l (s .slots)) (r .body-ready))

@@ -1,15 +1,16 @@
 -- The plan of a result has what the converter's walk asks of it. Assumes nothing.
 use mathlib.Core.Path.{_≡_, refl, sym, ap, subst, _∙_}
-use mathlib.Core.Bool.{Bool, true, false, cond, false≢true}
-use mathlib.Core.List.{List, List·Memᴰ}
+use mathlib.Core.Bool.{Bool, true, false, cond}
+use mathlib.Core.List.{List}
 use Prim.Native.Nat.{ℕ, zero, suc, _+_, _≤_, _<_}
 use native.Mathlib.Omega.{arith}
-use lib.Dec.{ltb, eqb}
-use borrow.Author.Tests.{ne-eqb, ltb-true, ltb-false}
+use lib.Dec.{ltb}
+use borrow.Author.Tests.{ne-eqb, ltb-true}
 use Rattle.columnar.specs.Types.{Plain, fixed, string, Ty, tPlain, tView, tListView, tList, tSparse, tDense, tRunEnd, tDictionary}
 use Rattle.walk.specs.State.{word, codeOf, dictionaryOf, endOf, keepsOf}
 use Rattle.refinement.specs.walk_is_model.Holds.{flag, childOf, WordedPlain, Worded}
 use Rattle.refinement.proofs.walk_is_model.Frame.{field-of, worded-span}
+use Rattle.refinement.proofs.walk_is_model.Node.{masked-is}
 use Rattle.refinement.proofs.orders.Cover.{Laid}
 use Rattle.schema.specs.Tree.{ceilings, typed}
 use Rattle.array_data.specs.Typed.{Tree, Means}
@@ -76,16 +77,7 @@ module _ (formats schema : List ℕ) (target n : ℕ) (keep : ℕ → Bool) (t :
 
 -- a node that may have validity
 low-code : (plan : List ℕ) (k : ℕ) (t : Ty) (i : ℕ) → Worded plan k t i → masks t ≡ true → codeOf plan i < 21
-low-code plan zero t i w e = absurd w
-low-code plan (suc k) (tPlain (fixed n)) i w e = omega (arith, between-both 1 10 (codeOf plan i) (w .3 .0) .1)
-low-code plan (suc k) (tPlain (string v)) i w e = omega (arith, between-both 11 14 (codeOf plan i) (w .3 .0) .1)
-low-code plan (suc k) tView i w e = omega (arith, between-both 15 16 (codeOf plan i) (w .2) .1)
-low-code plan (suc k) (tListView v t) i w e = omega (arith, between-both 17 18 (codeOf plan i) (w .2) .1)
-low-code plan (suc k) (tList v t) i w e = omega (arith, between-both 19 20 (codeOf plan i) (w .2) .1)
-low-code plan (suc k) (tSparse ids nullable f) i w e = absurd (false≢true e)
-low-code plan (suc k) (tDense ids nullable f) i w e = absurd (false≢true e)
-low-code plan (suc k) (tRunEnd v t) i w e = absurd (false≢true e)
-low-code plan (suc k) (tDictionary n p) i w e = omega (arith, between-both 1 10 (codeOf plan i) (w .3) .1)
+low-code plan k t i w e = ltb-true (codeOf plan i) 21 (masked-is plan k t i w ∙ e)
 
 module _ (x : Lent) (buffers : List ℕ) (tree : Tree) (root : Ty) (type : TypePlan (x .plan) tree root) (copied-all : (i : ℕ) → i < endOf (x .plan) 0 → copied (x .plan) i ≡ true) where
   abbrev plan : List ℕ

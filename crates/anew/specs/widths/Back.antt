@@ -1,10 +1,10 @@
 -- Widening a column and narrowing it back (W13). Assumes nothing.
 use mathlib.Core.Path.{sym}
-use mathlib.Core.List.{List·Memᴰ}
 use Prim.Native.Nat.{ℕ, _-_, _≤_, _<_}
-use Rattle.columnar.specs.Types.{limit, Plain, Ty, tPlain, tView, tListView, tList, tSparse, tDense, tRunEnd, tDictionary}
+use Rattle.columnar.specs.Types.{limit, Plain, Ty}
 use Rattle.columnar.specs.Wider.{Declared}
 use Rattle.columnar.specs.Reading.{Body}
+use Rattle.columnar.specs.Kids.{Below, bodyDown}
 use Rattle.anew.specs.widths.Widths.{PlainWidths, sFixed, sString, Widths, sPlain, sView, sListView, sList, sSparse, sDense, sRunEnd, sDictionary}
 
 -- no width falls, and no key format reaches less high
@@ -39,11 +39,4 @@ turned (sDictionary k k′ p p′ i i′ d) = sDictionary k′ k p′ p i′ i (
 
 -- "each dictionary's entry count less one fits the first key type"
 abbrev pub KeysFit : (t : Ty) → Body t → Type 0
-KeysFit (tPlain p) = λ b. Unit {0}
-KeysFit tView = λ b. Unit {0}
-KeysFit (tListView w t) = λ b. KeysFit t (b .child .body)
-KeysFit (tList w t) = λ b. KeysFit t (b .child .body)
-KeysFit (tSparse ids nullable f) = λ b. (c : ℕ) → List·Memᴰ c ids → KeysFit (f c) (b .children c .body)
-KeysFit (tDense ids nullable f) = λ b. (c : ℕ) → List·Memᴰ c ids → KeysFit (f c) (b .children c .body)
-KeysFit (tRunEnd w t) = λ b. KeysFit t (b .values .body)
-KeysFit (tDictionary k p) = λ b. b .values .len - 1 < limit k
+KeysFit = Below {X = Body} bodyDown (λ b. Unit {0}) (λ k p b. b .values .len - 1 < limit k)

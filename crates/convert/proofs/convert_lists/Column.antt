@@ -1,40 +1,37 @@
 -- A column that meets none of the grounds 9, 10 and 12, seen with the type of another tree that agrees with its own below the root: what its
 -- tables hold and name, and where a plan of that tree keeps nulls. Assumes nothing.
 use mathlib.Core.Path.{_≡_, refl, sym, ap, subst, _∙_}
-use mathlib.Core.Bool.{Bool, true, false, not, cond, _&&_, _||_, false≢true}
+use mathlib.Core.Bool.{Bool, true, false, cond, _&&_}
 use mathlib.Core.List.{List, [], _∷_, List·Memᴰ}
 use Prim.Native.Nat.{ℕ, zero, suc, _+_, _≤_, _<_}
 use native.Mathlib.Nat.{add-zero, zero-add}
 use native.Mathlib.Omega.{arith}
-use lib.ListN.{length, getD}
-use lib.Dec.{T, leb, ltb}
-use borrow.Author.Tests.{leb-true}
+use lib.ListN.{getD}
+use lib.Dec.{T, ltb}
 use Rattle.columnar.specs.Types.{fixed, string, Ty, tPlain, tView, tListView, tList, tSparse, tDense, tRunEnd, tDictionary}
 use Rattle.columnar.specs.Array.{Array, ok, nullsIn, nullCount}
 use Rattle.columnar.specs.RunEnd.{RunEnd, RunEndRule}
+use Rattle.columnar.specs.Kids.{nodeDown}
+use Rattle.columnar.proofs.Kids.{below-from}
 use Rattle.columnar.specs.Test.{runEndTest, every}
 use Rattle.columnar.proofs.Test.{Agrees, every-out, array-agrees, run-end-agrees}
-use Rattle.schema.specs.formats.Code.{isView}
-use Rattle.model.specs.Sources.{EachView}
-use Rattle.model.proofs.Bits.{length-seg, getD-seg}
-use Rattle.schema.specs.Tree.{codeOf, ceilings}
-use Rattle.schema.proofs.Known.{every-at}
-use Rattle.array_data.specs.Tables.{Tables, lengthOf, offsetOf, place, firstBuffer, arrayWith, held, validIn}
+use Rattle.model.proofs.Bits.{getD-seg}
+use Rattle.array_data.specs.Tables.{Tables, lengthOf, offsetOf, firstBuffer, arrayWith, held, validIn}
 use Rattle.array_data.specs.Rules.{childOf, runEndRule}
 use Rattle.array_data.specs.Typed.{runEndNode, Tree, nodeOf, Is, Means, tablesFrom, bodyOf, columnOf, kindRule, nodeRule, sourceRule}
 use Rattle.array_data.specs.lent_tables.Lent.{tables}
 use Rattle.array_data.specs.type_tree.Lent.{treeOf}
-use Rattle.array_data.proofs.type_tree.Ids.{both}
-use Rattle.plan.proofs.Codes.{view-code}
-use Rattle.plan.proofs.dictionaries.Laws.{place-from}
+use Rattle.array_data.proofs.Names.{unionKind}
 use Rattle.walk.specs.State.{far, word, keepsOf}
 use Rattle.refinement.specs.walk_is_model.Memory.{Memory}
 use Rattle.refinement.specs.walk_is_model.Holds.{flag}
 use Rattle.refinement.specs.walk_is_model.Holds as holds
 use Rattle.refinement.specs.walk_is_model.Lent as lentTables
-use Rattle.columns.specs.Grounds.{countFits, fewBuffers, nodeFits, withinCeilings}
+use Rattle.columns.specs.Grounds.{withinCeilings}
 use Rattle.refinement.specs.plan_is_type.Planted.{joinOf}
 use Rattle.refinement.proofs.plan_is_type.Lent.{lent-at}
+use Rattle.refinement.proofs.plan_is_type.Kids.{columnThere, there-kid}
+use Rattle.refinement.proofs.opening.Taken.{few-at}
 use Rattle.refinement.proofs.finishing.SourceNames.{named-at}
 use Rattle.anew.specs.ResultPlan.{keepsFrom}
 use Rattle.anew.proofs.Bits.{keeps-typed}
@@ -43,10 +40,6 @@ use Rattle.anew.proofs.Result.{lentFor}
 use Rattle.convert.specs.convert_lists.Exact.{ExactNode, ExactData}
 use Rattle.convert.specs.convert_lists.Turned.{allNodes}
 use Rattle.array_data.proofs.Names.{unionKind}
-
-implied : (a b : Bool) → not a || b ≡ true → a ≡ true → b ≡ true
-implied true b h e = h
-implied false b h e = absurd (false≢true e)
 
 right : (a b : Bool) → T (a && b) → T b
 right true b h = h
@@ -72,15 +65,6 @@ module _ (formats schema : List ℕ) (x : Tables) (first n : ℕ) (small : n ≤
   abbrev own : Tables
   own = tablesFrom x first
 
-  pub few-there : (i : ℕ) → i < n → isView (codeOf formats schema first i) ≡ true → place own i 8 ≤ 32
-  unfolding withinCeilings nodeFits fewBuffers
-  few-there i l v =
-      let p = both (ceilings formats schema first n) (every (nodeFits formats schema x first) n) within in
-      let q = every-at (nodeFits formats schema x first) n i (p .1) l in
-      let r = both (countFits x (first + i)) (fewBuffers formats schema x first i) q in
-      let b = leb-true (place x (first + i) 8) 32 (implied (isView (codeOf formats schema first i)) (leb (place x (first + i) 8) 32) (r .1) v) in
-      omega (arith, place-from x first i 8)
-
   -- a node that stands for a type is one of the tree's
   means-in : (u : Ty) (i : ℕ) → Means tree u i → i < n
   means-in (tPlain (fixed k)) i h = h .0
@@ -92,17 +76,6 @@ module _ (formats schema : List ℕ) (x : Tables) (first n : ℕ) (small : n ≤
   means-in (tDense ids nullable f) i h = h .0 .0
   means-in (tRunEnd w u) i h = h .0 .0
   means-in (tDictionary k p) i h = h .0 .0
-
-  -- every view node has few data buffers
-  pub few-at : (u : Ty) (i : ℕ) → Means tree u i → EachView (λ v. length (v .buffers) ≤ 32) u (bodyOf tree own u i)
-  few-at (tPlain p) i h = tt
-  few-at tView i h = rw (length-seg _ (place own i 7) (place own i 8)) (few-there i (h .0) (view-code formats schema first i (h .1)))
-  few-at (tListView w u) i h = few-at u (suc i) (h .1)
-  few-at (tList w u) i h = few-at u (suc i) (h .1)
-  few-at (tSparse ids nullable f) i h = λ c q. few-at (f c) (nodeOf tree i ids c) (h .1 c q .1)
-  few-at (tDense ids nullable f) i h = λ c q. few-at (f c) (nodeOf tree i ids c) (h .1 c q .1)
-  few-at (tRunEnd w u) i h = few-at u (suc (suc i)) (h .2)
-  few-at (tDictionary k p) i h = tt
 
   module _ (plan parts : List ℕ) (kids : (i : ℕ) (b : Bool) (ids : List ℕ) → Is tree i (unionKind b ids) → (e : ℕ) → List·Memᴰ e ids → holds.childOf plan i e ≡ nodeOf tree i ids e) where
     -- ---- which nodes keep nulls
@@ -137,18 +110,11 @@ module _ (formats schema : List ℕ) (x : Tables) (first n : ℕ) (small : n ≤
 
       module _ (kept : (i : ℕ) → i < n → word plan i 7 ≡ 0) (counters : List ℕ) (μ : Memory) where
         pub named-there : (u : Ty) (i : ℕ) → Means tree u i → NamedBelow (lentFor x plan parts first n) (x .buffers) counters μ u i (bodyOf tree own u i)
-        named-there (tPlain p) i h = tt
-        named-there tView i h =
-            let q = named-at tree x plan parts (first ∷ n ∷ []) 0 all kids tView i h in
-            record { buffers-are = q .buffers-are; inside = q .inside; few = few-at tView i h }
-        named-there (tListView w u) i h = named-there u (suc i) (h .1)
-        named-there (tList w u) i h = named-there u (suc i) (h .1)
-        named-there (tSparse ids nullable f) i h =
-            λ e q. subst (λ z. NamedBelow (lentFor x plan parts first n) (x .buffers) counters μ (f e) z (bodyOf tree own (f e) (nodeOf tree i ids e))) (sym (kids i true ids (h .0) e q)) (named-there (f e) (nodeOf tree i ids e) (h .1 e q .1))
-        named-there (tDense ids nullable f) i h =
-            λ e q. subst (λ z. NamedBelow (lentFor x plan parts first n) (x .buffers) counters μ (f e) z (bodyOf tree own (f e) (nodeOf tree i ids e))) (sym (kids i false ids (h .0) e q)) (named-there (f e) (nodeOf tree i ids e) (h .1 e q .1))
-        named-there (tRunEnd w u) i h = named-there u (suc (suc i)) (h .2)
-        named-there (tDictionary k p) i h = (kept i (h .0 .0), lent-there (tPlain p) (suc i) (h .1))
+        named-there u i h =
+            below-from (nodeDown (holds.inPlan plan)) _ _ (columnThere tree own) (there-kid tree own plan kids)
+            (λ s. let q = named-at tree x plan parts (first ∷ n ∷ []) 0 all kids tView (s .0) (s .1) in
+            record { buffers-are = q .buffers-are; inside = q .inside; few = few-at formats schema x first n within tView (s .0) (s .1) })
+            (λ k p s. (kept (s .0) (s .1 .0 .0), lent-there (tPlain p) (suc (s .0)) (s .1 .1))) u (i, h)
 
 -- ---- run ends have no nulls
 

@@ -30,7 +30,7 @@ use Rattle.refinement.proofs.log_in_room.Found.{between-both}
 use Rattle.columns.specs.Grounds.{columnGround, sourcesGround}
 use Rattle.refinement.specs.orders.Sound.{planSound}
 use Rattle.refinement.proofs.plan_is_type.Planted.{code-is, child-node}
-use Rattle.refinement.proofs.opening.Taken.{within-ceilings, taken}
+use Rattle.refinement.proofs.opening.Taken.{few-at, within-ceilings, taken}
 use Rattle.columns.proofs.Itself.{one-source}
 use Rattle.anew.specs.lists.Listed.{kid}
 use Rattle.anew.specs.ResultPlan.{keepsFrom, planAnew}
@@ -42,7 +42,7 @@ use Rattle.convert.specs.convert_lists.Turned.{allNodes, listOf, sameChi
 use Rattle.convert.specs.convert_lists.ToList.{lentWith}
 use Rattle.convert.proofs.convert_lists.Subtree.{Alike, kid-same, means-same}
 use Rattle.convert.proofs.convert_lists.Alike.{view-no-union, list-below, alike}
-use Rattle.convert.proofs.convert_lists.Column.{few-at, from-same, exact-at, lent-there, named-there, ends-valid}
+use Rattle.convert.proofs.convert_lists.Column.{from-same, exact-at, lent-there, named-there, ends-valid}
 use Rattle.convert.proofs.convert_lists.Listing.{ListView}
 use Rattle.array_data.proofs.Names.{unionKind}
 
@@ -227,7 +227,7 @@ module _ (formats schema : List ℕ) (x : Tables) (first m target : ℕ) (ok : c
         based = base-none formats schema target n keep false 0 small;
         lent = lent-there formats schema x first n small w made parts kids rules (t .sums 0 (omega arith)) (tListView wide item) 0 view-means;
         obey = column-good;
-        few = few-at formats schema x first n small w (tListView wide item) 0 view-means;
+        few = few-at formats schema x first n w (tListView wide item) 0 view-means;
         keeps-are = keeps-at 0 (omega arith) ∙ ap flag (keeps-typed x first allNodes 0 0 (from-same 0 (omega arith)) (bodyOf here own (tListView wide item) 0));
         exact = exact-at formats schema x first n small w made parts kids keeps-at (tListView wide item) 0 view-means;
       }

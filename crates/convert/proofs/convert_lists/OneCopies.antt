@@ -8,12 +8,15 @@ use native.Mathlib.Omega.{arith}
 use Rattle.columnar.specs.Types.{Ty, tPlain, tView, tListView, tList, tSparse, tDense, tRunEnd, tDictionary}
 use Rattle.columnar.specs.Formed.{Formed}
 use Rattle.columnar.specs.Reading.{Body, Column, Source}
+use Rattle.columnar.specs.Kids.{kidNode, bodyDown, nodesDown}
+use Rattle.columnar.proofs.Kids.{below-from}
 use Rattle.model.specs.Opening.{shared}
 use Rattle.walk.specs.State.{Join, endOf, baseOf}
 use Rattle.walk.specs.Copy.{copyWalk}
-use Rattle.refinement.specs.walk_is_model.Holds.{childOf, Worded}
+use Rattle.refinement.specs.walk_is_model.Holds.{childOf, inPlan, Worded}
 use Rattle.refinement.specs.walk_is_model.Lent.{Lent, Based}
 use Rattle.refinement.proofs.walk_is_model.Frame.{field-of}
+use Rattle.refinement.proofs.walk_is_model.Kids.{worded-small, kid-at}
 use Rattle.refinement.proofs.walk_is_model.Owed.{Given, Copies}
 use Rattle.refinement.proofs.walk_is_model.Node.{node-copies}
 use Rattle.refinement.proofs.walk_is_model.Plain.{plain-copies}
@@ -44,18 +47,11 @@ no-start false = refl
 
 -- bases of 0 are those of the first source
 based-at : (plan : List ℕ) → ((j : ℕ) → j < 32 → baseOf plan 0 j ≡ 0) → (k : ℕ) (t : Ty) (i : ℕ) (b : Body t) → Worded plan k t i → Based plan 0 t i 1 (λ j. b)
-based-at plan h (suc k) (tPlain p) i b w = tt
-based-at plan h (suc k) tView i b w = h i (w .0)
-based-at plan h (suc k) (tListView v t) i b w = based-at plan h k t (suc i) (b .child .body) (w .4)
-based-at plan h (suc k) (tList v t) i b w = based-at plan h k t (suc i) (b .child .body) (w .4)
-based-at plan h (suc k) (tSparse ids nullable f) i b w =
-    λ e p. based-at plan h k (f e) (childOf plan i e) (b .children e .body)
-    (field-of plan (λ c. Worded plan k (f c)) nullable (endOf plan i) ids (suc i) 32 e (w .4) (omega (arith, w .2)) p .is-kid)
-based-at plan h (suc k) (tDense ids nullable f) i b w =
-    λ e p. based-at plan h k (f e) (childOf plan i e) (b .children e .body)
-    (field-of plan (λ c. Worded plan k (f c)) nullable (endOf plan i) ids (suc i) 32 e (w .4) (omega (arith, w .2)) p .is-kid)
-based-at plan h (suc k) (tRunEnd v t) i b w = based-at plan h k t (suc (suc i)) (b .values .body) (w .4)
-based-at plan h (suc k) (tDictionary n p) i b w = h i (w .0) ∙ sym (no-start (shared 1 (λ j. b)))
+based-at plan h k t i b w =
+    below-from (nodesDown (inPlan plan)) _ _ {S = λ t. (i : ℕ) × Body t × ((k : ℕ) × Worded plan k t i)} (λ t s. (s .0, λ j. s .1))
+    (λ t s c. let a = kid-at plan (s .2 .0) t (s .0) (s .2 .1) c in ((kidNode (inPlan plan) t (s .0) c, bodyDown t (s .1) c, (a .depth, a .is-kid)), refl))
+    (λ s. h (s .0) (worded-small plan (s .2 .0) tView (s .0) (s .2 .1)))
+    (λ n p s. h (s .0) (worded-small plan (s .2 .0) (tDictionary n p) (s .0) (s .2 .1)) ∙ sym (no-start (shared 1 (λ j. s .1)))) t (i, b, (k, w))
 
 module _ {x : Join} {k i : ℕ} where
   given : {t : Ty} {v : Column t} → OneSource x k t i v → Given x k t i 1 (λ j. v)

@@ -30,7 +30,7 @@ use Rattle.refinement.specs.walk_is_model.Holds.{childOf, flag}
 use Rattle.refinement.proofs.log_in_room.Found.{between-both}
 use Rattle.columns.specs.Grounds.{columnGround, sourcesGround}
 use Rattle.refinement.proofs.plan_is_type.Planted.{child-node}
-use Rattle.refinement.proofs.opening.Taken.{within-ceilings, taken}
+use Rattle.refinement.proofs.opening.Taken.{few-there, within-ceilings, taken}
 use Rattle.columns.proofs.Itself.{one-source}
 use Rattle.anew.specs.ResultPlan.{keepsFrom, planAnew}
 use Rattle.anew.proofs.PlanWords.{keeps-is}
@@ -40,7 +40,7 @@ use Rattle.convert.specs.convert_lists.Turned.{allNodes, sameBelow}
 use Rattle.convert.specs.convert_lists.ToView.{viewPlan}
 use Rattle.convert.proofs.convert_lists.Subtree.{Alike, kid-same, means-same}
 use Rattle.convert.proofs.convert_lists.Alike.{list-no-union, view-below, alike}
-use Rattle.convert.proofs.convert_lists.Column.{from-same, few-there, lent-there}
+use Rattle.convert.proofs.convert_lists.Column.{from-same, lent-there}
 use Rattle.convert.proofs.convert_lists.ListLent.{Below, below-is}
 use lib.ListN.{replicate}
 use Rattle.columnar.specs.Formed.{OffsetWidth}
@@ -196,7 +196,7 @@ module _ (formats schema : List ℕ) (x : Tables) (first m target : ℕ) (ok : c
   sums = taken formats schema sources x false false accepted .sums 0 (omega arith)
 
   pub few-buffers : (i : ℕ) → i < n → isView (trees.codeOf formats schema first i) ≡ true → place own i 8 ≤ 32
-  few-buffers = few-there formats schema x first n small (within-ceilings formats schema sources x false false accepted 0 (omega arith))
+  few-buffers = few-there formats schema x first n (within-ceilings formats schema sources x false false accepted 0 (omega arith))
 
   -- ---- the plan of the root
 
