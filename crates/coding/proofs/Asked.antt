@@ -36,14 +36,17 @@ pub lengths-both : (p q : ℕ) → p ≡ 872 → q ≡ 96 → joinLengths p q �
 unfolding joinLengths
 lengths-both p q e f = rw (eq-eqb p 872 e, eq-eqb q 96 f)
 
--- whether the result keeps nulls is read off its plan
-pub keep-by : (formats schema : List ℕ) (target n i : ℕ) (keep : ℕ → Bool) (joined : Bool) → n ≤ 32 → i < n → {plan : List ℕ} {kw : ℕ} → plan ≡ planAnew formats schema target n keep joined 0 → kw ≡ keepsOf plan i → not (eqb kw 0) ≡ keep i
-keep-by formats schema target n i keep joined few l {kw = kw} e f =
-    ap (λ z. not (eqb z 0)) (f ∙ ap (λ s. keepsOf s i) e ∙ keeps-is formats schema target n keep joined 0 few i l) ∙ go (keep i)
+pub flag-by : {k : ℕ} (b : Bool) → k ≡ flag b → not (eqb k 0) ≡ b
+flag-by b e = ap (λ z. not (eqb z 0)) e ∙ go b
   where
     go : (b : Bool) → not (eqb (flag b) 0) ≡ b
     go true = refl
     go false = refl
+
+-- whether the result keeps nulls is read off its plan
+pub keep-by : (formats schema : List ℕ) (target n i : ℕ) (keep : ℕ → Bool) (joined : Bool) → n ≤ 32 → i < n → {plan : List ℕ} {kw : ℕ} → plan ≡ planAnew formats schema target n keep joined 0 → kw ≡ keepsOf plan i → not (eqb kw 0) ≡ keep i
+keep-by formats schema target n i keep joined few l {kw = kw} e f =
+    flag-by (keep i) (f ∙ ap (λ s. keepsOf s i) e ∙ keeps-is formats schema target n keep joined 0 few i l)
 
 module _ (formats schema lengths places buffers body : List ℕ) (first n target start end : ℕ) (low : first < 2 ^ 32) (small : (j : ℕ) → getD body j 0 < 256)
     (g : columnGround formats schema (tablesOf lengths places buffers body) first n ≡ 0) (o : encodeOwn formats schema (tablesOf lengths places buffers body) first n target start end ≡ 0) where

@@ -16,6 +16,7 @@ pub mod Grounds
 pub mod InOrder
 pub mod Node
 pub mod PlanRows
+pub mod RowRoom
 pub mod PlanRuns
 pub mod Room
 pub mod Rowed

@@ -6,6 +6,7 @@ ghost use Prim.Native.Nat.{_+_, _*_, _-_, _≤_, _<_, _^_};
 ghost use lib.ListN.{length};
 ghost use Rattle.array_data.specs.Tables.{part, lengthOf, offsetOf, place};
 ghost use Rattle.array_data.specs.entries.Entries.{column};
+ghost use Rattle.schema.specs.formats.Code.{isFixed};
 ghost use Rattle.array_data.specs.lent_tables.Lent.{tables};
 ghost use Rattle.source_rules.specs.kinds.Rows.{tablesOf};
 ghost use Rattle.slot_reader.specs.run.Rows.{rowRun};
@@ -14,11 +15,12 @@ ghost use Rattle.plan.specs.Plan.{flag};
 ghost use Rattle.with_capacities.specs.Answer.{Answers};
 ghost use Rattle.anew.specs.ResultPlan.{keepsFrom, Comes, planAnew};
 ghost use Rattle.anew.specs.result_plan.Answer.{Asks};
-ghost use Rattle.coding.specs.Counted.{rowCounts};
 ghost use Rattle.coding.specs.Encode.{plainAt};
 ghost use Rattle.coding.specs.Planned.{rowPlan};
 ghost use Rattle.coding.specs.Expand.{runsOfPlain, plainOver, expandOwn, fromValues, expandAsked, expanding, runOr, Expandable, RowsFit, rowsIn};
 use crate::expand_rows;
+use crate::row_plan;
+use crate::row_plan::Row;
 use crate::run_coding::Spots;
 use aggregates::stretches;
 use array_data::entries;
@@ -89,25 +91,8 @@ fn null_word(lengths: &[u64], places: &[u64], body: &[u8], first: u32) -> u64
     1
 }
 
-// The words of a plan of one node of numbers; the others are 0.
-fn row_words(code: u64, nullable: u64, k: u64) -> [u64; plan_words::WORDS]
-    requires { ⌜ k ≤ 1 ⌝ }
-    ensures { λ r. ⌜ r ≡ rowPlan code nullable k ⌝ }
-{
-    let mut plan = [0u64; plan_words::WORDS];
-    plan[0] = code;
-    plan[2] = 1;
-    plan[4] = nullable;
-    plan[plan_words::SOURCE_COUNT] = 1;
-    plan[plan_words::NODE_COUNT] = 1;
-    plan[5] = k;
-    plan[6] = k;
-    plan[plan_words::PART_COUNT] = 1 + k;
-    plan
-}
-
-// The plan of the rows.
-fn planned(
+// What the plan of the rows is made of.
+fn row_of(
     formats: &[u8],
     schema: &[u32],
     lengths: &[u64],
@@ -115,24 +100,20 @@ fn planned(
     body: &[u8],
     first: u32,
     target: u32,
-) -> [u64; plan_words::WORDS]
+) -> Row
     requires { ⌜ Comes (tables (now lengths) (now places) (now body)) first 1 fromValues ⌝ }
     requires { ⌜ plainAt (now formats) (now schema) target 0 ≡ true ⌝ }
-    ensures { λ r. ⌜ r ≡ planAnew (now (formats .entry)) (now (schema .entry)) target 1 (keepsFrom (tables (now (lengths .entry)) (now (places .entry)) (now (body .entry))) first fromValues) true 0 ⌝ }
+    ensures { λ r. ⌜ rowPlan (r .code) (r .nullable) (r .nulls) ≡ planAnew (now (formats .entry)) (now (schema .entry)) target 1 (keepsFrom (tables (now (lengths .entry)) (now (places .entry)) (now (body .entry))) first fromValues) true 0 ⌝ }
+    ensures { λ r. ⌜ (r .nulls ≡ flag (keepsFrom (tables (now (lengths .entry)) (now (places .entry)) (now (body .entry))) first fromValues 0)) × (r .nulls ≤ 1) × (isFixed (r .code) ≡ true) ⌝ }
 {
     let code = schema::code_of(formats, schema, target as usize, 0);
-    let nullable = schema::flag_of(schema, target as usize, 0);
-    let k = null_word(lengths, places, body, first);
-    row_words(code as u64, nullable as u64, k)
-}
-
-// The counters of m rows.
-fn counters_of(m: u64) -> [u64; plan_words::COUNTERS]
-    ensures { λ r. ⌜ r ≡ rowCounts m ⌝ }
-{
-    let mut counters = [0u64; plan_words::COUNTERS];
-    counters[0] = m;
-    counters
+    let nullable = schema::flag_of(schema, target as usize, 0) as u64;
+    let nulls = null_word(lengths, places, body, first);
+    Row {
+        code,
+        nullable,
+        nulls,
+    }
 }
 
 // The run of a row, by the run reader.
@@ -219,9 +200,9 @@ pub fn plan_expand(
     if counters.len() != plan_words::COUNTERS {
         return 14;
     }
-    let draft = planned(formats, schema, lengths, places, body, first, target);
-    let tally = counters_of(end - start);
-    anew::result_plan::keep_result(plan, counters, &draft, &tally);
+    let row = row_of(formats, schema, lengths, places, body, first, target);
+    row_plan::write_words(row, plan);
+    row_plan::write_counters(end - start, counters);
     0
 }
 
@@ -257,20 +238,14 @@ pub fn expand(
     if g != 0 {
         return g;
     }
-    let draft = planned(formats, schema, lengths, places, body, first, target);
-    let tally = counters_of(end - start);
-    let g = anew::result_plan::room_ground(
-        &draft,
-        &tally,
-        parts,
-        plan.len(),
-        counters.len(),
-        room.len(),
-    );
+    let row = row_of(formats, schema, lengths, places, body, first, target);
+    let m = end - start;
+    let g = row_plan::room_ground(row, m, parts, plan.len(), counters.len(), room.len());
     if g != 0 {
         return g;
     }
-    let keep = plan_words::keeps_of(&draft, 0) != 0;
+    row_plan::write_words(row, plan);
+    row_plan::write_counters(m, counters);
     write(
         formats,
         schema,
@@ -280,11 +255,10 @@ pub fn expand(
         first,
         start,
         end,
-        keep,
-        &draft,
+        row.nulls != 0,
+        plan,
         parts,
         room,
     );
-    anew::result_plan::keep_result(plan, counters, &draft, &tally);
     0
 }

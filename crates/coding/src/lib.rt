@@ -3,6 +3,7 @@ pub mod encode;
 pub mod encode_rows;
 pub mod expand;
 pub mod expand_rows;
+pub mod row_plan;
 pub mod run_coding;
 
 ghost use mathlib.Core.Path.{_≡_};

@@ -2,7 +2,7 @@
 use mathlib.Core.Path.{_≡_, refl, sym, ap, ap₂, subst, _∙_}
 use mathlib.Core.Bool.{true, not}
 use mathlib.Core.List.{List, []}
-use Prim.Native.Nat.{ℕ, _≤_, _<_, _^_}
+use Prim.Native.Nat.{ℕ, _-_, _≤_, _<_, _^_}
 use native.Mathlib.Omega.{arith}
 use lib.ListN.{length, getD}
 use lib.Dec.{eqb}
@@ -12,12 +12,12 @@ use Rattle.source_rules.specs.kinds.Rows.{tablesOf}
 use Rattle.columns.specs.Grounds.{smallBody, columnGround}
 use Rattle.array_data.specs.lent_tables.Lent.{tables}
 use Rattle.anew.specs.Anew.{ahead, roomGround}
-use Rattle.anew.proofs.PlanWords.{plan-length}
 use Rattle.anew.proofs.result_plan.Answered.{before-column, before-own, answers-large, answers-refused, answers-room, answers-made}
+use Rattle.coding.specs.Counted.{rowCounts}
 use Rattle.coding.specs.Expand.{expandOwn, expandKeeps, expandPlan, expandOut, RowsFit, rowsIn}
 use Rattle.coding.proofs.Runs.{own-same, none-before, rows-fit}
 use Rattle.coding.proofs.Expanded.{target-plain, ranged, come, expandable, counters-are, room-is}
-use Rattle.coding.proofs.Asked.{lengths-are, small-yes, small-no, keep-by}
+use Rattle.coding.proofs.Asked.{lengths-are, small-yes, small-no, flag-by}
 use Rattle.coding.proofs.Room.{room-free}
 use Rattle.coding.proofs.expand.expand.Statement.{statement}
 use Rattle.coding.proofs.expand.expand.Tie as tie
@@ -86,99 +86,87 @@ none c =
     let z = start-of c .args in
     none-before (z .formats .now) (z .schema .now) (z .lengths .now) (z .places .now) (z .buffers .now) (z .body .now) (z .first) (z .n) (z .target) (z .start) (z .end) (low c) (bytes c) (accepted c) (free c)
 
-planned-requires : tie.Need-planned-requires
-planned-requires c κs =
-    let z = start-of c .args in
-    (come (z .formats .now) (z .schema .now) (z .lengths .now) (z .places .now) (z .buffers .now) (z .body .now) (z .first) (z .n) (z .target) (z .start) (z .end) (low c) (bytes c) (accepted c) (free c), target-plain (z .formats .now) (z .schema .now) _ (z .first) (z .n) (z .target) (z .start) (z .end) (free c))
+row-of-requires : tie.Need-row-of-requires
+row-of-requires c κs =
+    let d = c in
+    let z = start-of d .args in
+    (come (z .formats .now) (z .schema .now) (z .lengths .now) (z .places .now) (z .buffers .now) (z .body .now) (z .first) (z .n) (z .target) (z .start) (z .end) (low d) (bytes d) (accepted d) (free d), target-plain (z .formats .now) (z .schema .now) _ (z .first) (z .n) (z .target) (z .start) (z .end) (free d))
 
-sub-counters-of : tie.Need-sub-counters-of
-sub-counters-of c =
+sub-m : tie.Need-sub-m
+sub-m c =
     let d = c .before in
     let z = start-of d .args in
     let r = ranged (z .formats .now) (z .schema .now) (z .lengths .now) (z .places .now) (z .buffers .now) (z .body .now) (z .first) (z .n) (z .target) (z .start) (z .end) (low d) (bytes d) (accepted d) (free d) .0 in
     omega (arith, r)
 
-counters-of-requires : tie.Need-counters-of-requires
-counters-of-requires c κs = search needs
-
 -- the counters are the walk's
-tally-is : (c : tie.After-counters-of) → c .counters-of .result ≡ out-of (start-of (c .before .before)) .counters
-tally-is c =
-    let d = c .before .before in
+tally-is : (d : tie.Else3) → rowCounts (start-of d .args .end - start-of d .args .start) ≡ out-of (start-of d) .counters
+tally-is d =
     let z = start-of d .args in
-    c .counters-of .ensures ∙ counters-are (z .formats .now) (z .schema .now) (z .lengths .now) (z .places .now) (z .buffers .now) (z .body .now) (z .first) (z .n) (z .target) (z .start) (z .end) (low d) (bytes d) (accepted d) (free d) _ refl
-
-slice-aggregate-room-ground : tie.Need-slice-aggregate-room-ground
-slice-aggregate-room-ground c = search needs
+    counters-are (z .formats .now) (z .schema .now) (z .lengths .now) (z .places .now) (z .buffers .now) (z .body .now) (z .first) (z .n) (z .target) (z .start) (z .end) (low d) (bytes d) (accepted d) (free d) _ refl
 
 room-ground-requires : tie.Need-room-ground-requires
-room-ground-requires c κs = search needs
+room-ground-requires c κs = let e = c .row-of .ensures .1 in (e .1, e .2)
 
 -- 14 or 13
-ground-is : (c : tie.After-room-ground) → c .room-ground .result
-    ≡ roomGround (plan-of (start-of (c .before .before .before .before .before))) (out-of (start-of (c .before .before .before .before .before)) .counters) (start-of (c .before .before .before .before .before) .args .parts .now) (length (start-of (c .before .before .before .before .before) .args .plan .now)) (length (start-of (c .before .before .before .before .before) .args .counters .now)) (length (start-of (c .before .before .before .before .before) .args .room .now))
+abbrev ground-of : tie.Else3 → ℕ
+ground-of d =
+    let z = start-of d .args in
+    roomGround (plan-of (start-of d)) (out-of (start-of d) .counters) (z .parts .now) (length (z .plan .now)) (length (z .counters .now)) (length (z .room .now))
+
+ground-is : (c : tie.After-room-ground) → c .room-ground .result ≡ ground-of (c .before .before)
 ground-is c =
-    let z = start-of (c .before .before .before .before .before) .args in
-    c .room-ground .ensures ∙ ap₂ (λ p k. roomGround p k (z .parts .now) (length (z .plan .now)) (length (z .counters .now)) (length (z .room .now))) (c .before .before .before .before .planned .ensures) (tally-is (c .before .before .before))
+    let d = c .before .before in
+    let z = start-of d .args in
+    c .room-ground .ensures ∙ ap₂ (λ p k. roomGround p k (z .parts .now) (length (z .plan .now)) (length (z .counters .now)) (length (z .room .now))) (c .before .row-of .ensures .0) (tally-is d)
 
 returns-4 : tie.Need-returns-4
 returns-4 c =
-    let d = c .before .before .before .before .before .before in
+    let d = c .before .before .before in
     let s = start-of d in
     let z = s .args in
     answers-room (z .formats .now) (z .schema .now) (lent s) (z .first) (z .n) (own-of s) (plan-of s) (out-of s) (z .parts .now) (z .plan .now) (z .counters .now) (z .room .now) (small d) (none d) (ground-is (c .before)) (c .if4 .taken)
 
-slice-aggregate-keeps-of : tie.Need-slice-aggregate-keeps-of
-slice-aggregate-keeps-of c = search needs
-
-keeps-of-requires : tie.Need-keeps-of-requires
-keeps-of-requires c κs = search needs
-
--- whether nulls are kept
-keep-is : (c : tie.After-keeps-of) → not (eqb (c .keeps-of .result) 0)
-    ≡ expandKeeps (start-of (c .before .before .before .before .before .before .before .before) .args .formats .now) (start-of (c .before .before .before .before .before .before .before .before) .args .schema .now) (lent (start-of (c .before .before .before .before .before .before .before .before))) (start-of (c .before .before .before .before .before .before .before .before) .args .first) (start-of (c .before .before .before .before .before .before .before .before) .args .n) (start-of (c .before .before .before .before .before .before .before .before) .args .target) (start-of (c .before .before .before .before .before .before .before .before) .args .start) (start-of (c .before .before .before .before .before .before .before .before) .args .end) 0
-keep-is c =
-    let z = start-of (c .before .before .before .before .before .before .before .before) .args in
-    keep-by (z .formats .now) (z .schema .now) (z .target) 1 0 (expandKeeps (z .formats .now) (z .schema .now) (lent (start-of (c .before .before .before .before .before .before .before .before))) (z .first) (z .n) (z .target) (z .start) (z .end)) _ (omega arith) (omega arith) (c .before .before .before .before .before .before .before .planned .ensures) (c .keeps-of .ensures)
-
-slice-aggregate-write : tie.Need-slice-aggregate-write
-slice-aggregate-write c = search needs
-
 -- no ground of the room stands
-open-room : (c : tie.Else4) → roomGround (plan-of (start-of (c .before .before .before .before .before .before))) (out-of (start-of (c .before .before .before .before .before .before)) .counters) (start-of (c .before .before .before .before .before .before) .args .parts .now) (length (start-of (c .before .before .before .before .before .before) .args .plan .now)) (length (start-of (c .before .before .before .before .before .before) .args .counters .now)) (length (start-of (c .before .before .before .before .before .before) .args .room .now)) ≡ 0
+open-room : (c : tie.Else4) → ground-of (c .before .before .before) ≡ 0
 open-room c = sym (ground-is (c .before)) ∙ c .if4 .left
 
+lent-lengths : (c : tie.Else4) → (length (start-of (c .before .before .before) .args .plan .now) ≡ 872) × (length (start-of (c .before .before .before) .args .counters .now) ≡ 96)
+lent-lengths c =
+    let s = start-of (c .before .before .before) in
+    let z = s .args in
+    lengths-are (length (z .plan .now)) (length (z .counters .now)) (room-free (plan-of s) (out-of s .counters) (z .parts .now) (length (z .plan .now)) (length (z .counters .now)) (length (z .room .now)) (open-room c) .lengths)
+
+-- whether nulls are kept
+keep-is : (c : tie.After-row-of) → not (eqb (c .row-of .result .nulls) 0) ≡ expandKeeps (start-of (c .before) .args .formats .now) (start-of (c .before) .args .schema .now) (lent (start-of (c .before))) (start-of (c .before) .args .first) (start-of (c .before) .args .n) (start-of (c .before) .args .target) (start-of (c .before) .args .start) (start-of (c .before) .args .end) 0
+keep-is c = flag-by _ (c .row-of .ensures .1 .0)
+
 -- THE ROWS FIT
-fitting : (c : tie.After-keeps-of) → RowsFit (start-of (c .before .before .before .before .before .before .before .before) .args .formats .now) (start-of (c .before .before .before .before .before .before .before .before) .args .schema .now) (tables (start-of (c .before .before .before .before .before .before .before .before) .args .lengths .now) (start-of (c .before .before .before .before .before .before .before .before) .args .places .now) (start-of (c .before .before .before .before .before .before .before .before) .args .body .now)) (start-of (c .before .before .before .before .before .before .before .before) .args .first) (start-of (c .before .before .before .before .before .before .before .before) .args .start) (start-of (c .before .before .before .before .before .before .before .before) .args .end) (plan-of (start-of (c .before .before .before .before .before .before .before .before))) (start-of (c .before .before .before .before .before .before .before .before) .args .parts .now) (not (eqb (c .keeps-of .result) 0)) (length (start-of (c .before .before .before .before .before .before .before .before) .args .room .now))
+fitting : (c : tie.Else4) → RowsFit (start-of (c .before .before .before) .args .formats .now) (start-of (c .before .before .before) .args .schema .now) (tables (start-of (c .before .before .before) .args .lengths .now) (start-of (c .before .before .before) .args .places .now) (start-of (c .before .before .before) .args .body .now)) (start-of (c .before .before .before) .args .first) (start-of (c .before .before .before) .args .start) (start-of (c .before .before .before) .args .end) (plan-of (start-of (c .before .before .before))) (start-of (c .before .before .before) .args .parts .now) (not (eqb (c .before .before .row-of .result .nulls) 0)) (length (start-of (c .before .before .before) .args .room .now))
 fitting c =
-    let d = c .before .before .before .before .before .before .before .before in
+    let d = c .before .before .before in
     let z = start-of d .args in
-    rows-fit (z .formats .now) (z .schema .now) (z .lengths .now) (z .places .now) (z .buffers .now) (z .body .now) (z .first) (z .n) (z .target) (z .start) (z .end) (low d) (bytes d) (accepted d) (free d) (z .parts .now) (z .room .now) (length (z .plan .now)) (length (z .counters .now)) (not (eqb (c .keeps-of .result) 0)) (keep-is c) (small d)
-    (ap (λ k. roomGround (plan-of (start-of d)) k (z .parts .now) (length (z .plan .now)) (length (z .counters .now)) (length (z .room .now))) (sym (c .before .before .before .before .before .before .counters-of .ensures) ∙ tally-is (c .before .before .before .before .before .before)) ∙ open-room (c .before .before))
+    rows-fit (z .formats .now) (z .schema .now) (z .lengths .now) (z .places .now) (z .buffers .now) (z .body .now) (z .first) (z .n) (z .target) (z .start) (z .end) (low d) (bytes d) (accepted d) (free d) (z .parts .now) (z .room .now) (length (z .plan .now)) (length (z .counters .now)) (not (eqb (c .before .before .row-of .result .nulls) 0)) (keep-is (c .before .before)) (small d)
+    (ap (λ k. roomGround (plan-of (start-of d)) k (z .parts .now) (length (z .plan .now)) (length (z .counters .now)) (length (z .room .now))) (tally-is d) ∙ open-room c)
+
+write-words-requires : tie.Need-write-words-requires
+write-words-requires c κs = (lent-lengths (c .before) .0, c .before .before .before .row-of .ensures .1 .1)
+
+write-counters-requires : tie.Need-write-counters-requires
+write-counters-requires c κs = lent-lengths (c .before .before .before .before .before) .1
 
 write-requires : tie.Need-write-requires
 write-requires c κs =
-    let f = c .before .before in
-    let d = c .before .before .before .before .before .before .before .before .before .before in
+    let e = c .before .before .before .before .before .before .before .before .before .before .before in
+    let r = e .before .before in
+    let d = e .before .before .before in
     let z = start-of d .args in (
       (
         ranged (z .formats .now) (z .schema .now) (z .lengths .now) (z .places .now) (z .buffers .now) (z .body .now) (z .first) (z .n) (z .target) (z .start) (z .end) (low d) (bytes d) (accepted d) (free d) .0,
-        λ more. expandable (z .formats .now) (z .schema .now) (z .lengths .now) (z .places .now) (z .buffers .now) (z .body .now) (z .first) (z .n) (z .target) (z .start) (z .end) (low d) (bytes d) (accepted d) (free d) _ (keep-is f) more,
+        λ more. expandable (z .formats .now) (z .schema .now) (z .lengths .now) (z .places .now) (z .buffers .now) (z .body .now) (z .first) (z .n) (z .target) (z .start) (z .end) (low d) (bytes d) (accepted d) (free d) _ (keep-is r) more,
       ),
-      subst (λ p. RowsFit (z .formats .now) (z .schema .now) (tables (z .lengths .now) (z .places .now) (z .body .now)) (z .first) (z .start) (z .end) p (z .parts .now) (not (eqb (f .keeps-of .result) 0)) (length (z .room .now))) (sym (c .before .before .before .before .before .before .before .before .before .planned .ensures)) (fitting f),
+      subst (λ p. RowsFit (z .formats .now) (z .schema .now) (tables (z .lengths .now) (z .places .now) (z .body .now)) (z .first) (z .start) (z .end) p (z .parts .now) (not (eqb (r .row-of .result .nulls) 0)) (length (z .room .now))) (sym (c .before .before .before .before .before .before .before .before .before .write-words .ensures ∙ r .row-of .ensures .0)) (fitting e),
     )
-
-slice-aggregate-keep-result : tie.Need-slice-aggregate-keep-result
-slice-aggregate-keep-result c = search needs
-
-slice-aggregate-keep-result-2 : tie.Need-slice-aggregate-keep-result-2
-slice-aggregate-keep-result-2 c = search needs
-
-keep-result-requires : tie.Need-keep-result-requires
-keep-result-requires c κs =
-    let z = start-of (c .before .before .before .before .before .before .before .before .before .before .before .before .before .before .before .before .before) .args in
-    let l = lengths-are (length (z .plan .now)) (length (z .counters .now)) (room-free (plan-of (start-of (c .before .before .before .before .before .before .before .before .before .before .before .before .before .before .before .before .before))) (out-of (start-of (c .before .before .before .before .before .before .before .before .before .before .before .before .before .before .before .before .before)) .counters) (z .parts .now) (length (z .plan .now)) (length (z .counters .now)) (length (z .room .now)) (open-room (c .before .before .before .before .before .before .before .before .before .before .before)) .lengths) in
-    (l .0, l .1, ap length (c .before .before .before .before .before .before .before .before .before .before .before .before .before .before .before .before .planned .ensures) ∙ plan-length (z .formats .now) (z .schema .now) (z .target) 1 _ _ 0 (omega arith), ap length (c .before .before .before .before .before .before .before .before .before .before .before .before .before .before .before .counters-of .ensures))
 
 same-length : tie.Need-same-length
 same-length c = search needs
@@ -191,16 +179,18 @@ same-length-3 c = search needs
 
 returns-5 : tie.Need-returns-5
 returns-5 c =
-    let d = c .before .before .before .before .before .before .before .before .before .before .before .before .before .before .before .before .before .before .before .before .before .before in
-    let f = c .before .before .before .before .before .before .before .before .before .before .before .before .before .before in
+    let e = c .before .before .before .before .before .before .before .before .before .before .before .before .before .before in
+    let r = e .before .before in
+    let d = e .before .before .before in
     let s = start-of d in
     let z = s .args in
-    answers-made (z .formats .now) (z .schema .now) (lent s) (z .first) (z .n) (own-of s) (plan-of s) (out-of s) (z .parts .now) (z .plan .now) (z .counters .now) (z .room .now) (small d) (none d) (open-room (c .before .before .before .before .before .before .before .before .before .before .before .before .before .before .before .before)) refl
-    (c .before .before .before .before .keep-result .ensures .0 ∙ c .before .before .before .before .before .before .before .before .before .before .before .before .before .before .before .before .before .before .before .before .before .planned .ensures)
-    (c .before .before .before .before .keep-result .ensures .1 ∙ tally-is (c .before .before .before .before .before .before .before .before .before .before .before .before .before .before .before .before .before .before .before .before))
-    (c .before .before .before .before .before .before .before .before .before .before .before .write .ensures
-    ∙ ap (λ p. rowsIn (z .formats .now) (z .schema .now) (tables (z .lengths .now) (z .places .now) (z .body .now)) (z .first) (z .start) (z .end) p (z .parts .now) (not (eqb (f .keeps-of .result) 0)) (z .room .now)) (c .before .before .before .before .before .before .before .before .before .before .before .before .before .before .before .before .before .before .before .before .before .planned .ensures)
-    ∙ room-is (z .formats .now) (z .schema .now) (z .lengths .now) (z .places .now) (z .buffers .now) (z .body .now) (z .first) (z .n) (z .target) (z .start) (z .end) (low d) (bytes d) (accepted d) (free d) (not (eqb (f .keeps-of .result) 0)) (keep-is f) (plan-of s) (z .parts .now) (z .room .now) (fitting f))
+    let p = c .before .before .before .before .before .before .before .before .before .before .before .before .write-words .ensures ∙ r .row-of .ensures .0 in
+    answers-made (z .formats .now) (z .schema .now) (lent s) (z .first) (z .n) (own-of s) (plan-of s) (out-of s) (z .parts .now) (z .plan .now) (z .counters .now) (z .room .now) (small d) (none d) (open-room e) refl
+    p
+    (c .before .before .before .before .before .before .before .before .write-counters .ensures ∙ tally-is d)
+    (c .before .before .write .ensures
+    ∙ ap (λ p. rowsIn (z .formats .now) (z .schema .now) (tables (z .lengths .now) (z .places .now) (z .body .now)) (z .first) (z .start) (z .end) p (z .parts .now) (not (eqb (r .row-of .result .nulls) 0)) (z .room .now)) p
+    ∙ room-is (z .formats .now) (z .schema .now) (z .lengths .now) (z .places .now) (z .buffers .now) (z .body .now) (z .first) (z .n) (z .target) (z .start) (z .end) (low d) (bytes d) (accepted d) (free d) (not (eqb (r .row-of .result .nulls) 0)) (keep-is r) (plan-of s) (z .parts .now) (z .room .now) (fitting e))
 
 pub expand-spec : {M : Type 1} → statement M
 expand-spec =
@@ -211,19 +201,13 @@ expand-spec =
     returns-2
     own-ground-requires
     returns-3
-    planned-requires
-    sub-counters-of
-    counters-of-requires
-    slice-aggregate-room-ground
+    row-of-requires
+    sub-m
     room-ground-requires
     returns-4
-    slice-aggregate-keeps-of
-    keeps-of-requires
-    slice-aggregate-write
+    write-words-requires
+    write-counters-requires
     write-requires
-    slice-aggregate-keep-result
-    slice-aggregate-keep-result-2
-    keep-result-requires
     same-length
     same-length-2
     same-length-3

@@ -84,30 +84,24 @@ returns-4 c =
     let z = s .args in
     asks-lengths (z .formats .now) (z .schema .now) (lent s) (z .first) (z .n) (own-of s) (plan-of s) (out-of s) (z .plan .now) (z .counters .now) (none (c .before .before)) (lengths-second (length (z .plan .now)) (length (z .counters .now)) (c .if4 .taken))
 
-planned-requires : tie.Need-planned-requires
-planned-requires c κs =
+row-of-requires : tie.Need-row-of-requires
+row-of-requires c κs =
     let d = c .before .before in
     let z = start-of d .args in
     (come (z .formats .now) (z .schema .now) (z .lengths .now) (z .places .now) (z .buffers .now) (z .body .now) (z .first) (z .n) (z .target) (z .start) (z .end) (low d) (bytes d) (accepted d) (free d), target-plain (z .formats .now) (z .schema .now) _ (z .first) (z .n) (z .target) (z .start) (z .end) (free d))
 
-sub-counters-of : tie.Need-sub-counters-of
-sub-counters-of c =
-    let d = c .before .before .before in
+write-words-requires : tie.Need-write-words-requires
+write-words-requires c κs = (c .before .before .before .if3 .left, c .before .row-of .ensures .1 .1)
+
+sub-write-counters : tie.Need-sub-write-counters
+sub-write-counters c =
+    let d = c .before .before .before .before .before .before .before in
     let z = start-of d .args in
     let r = ranged (z .formats .now) (z .schema .now) (z .lengths .now) (z .places .now) (z .buffers .now) (z .body .now) (z .first) (z .n) (z .target) (z .start) (z .end) (low d) (bytes d) (accepted d) (free d) .0 in
     omega (arith, r)
 
-counters-of-requires : tie.Need-counters-of-requires
-counters-of-requires c κs = search needs
-
-slice-aggregate-keep-result : tie.Need-slice-aggregate-keep-result
-slice-aggregate-keep-result c = search needs
-
-slice-aggregate-keep-result-2 : tie.Need-slice-aggregate-keep-result-2
-slice-aggregate-keep-result-2 c = search needs
-
-keep-result-requires : tie.Need-keep-result-requires
-keep-result-requires c κs = search needs
+write-counters-requires : tie.Need-write-counters-requires
+write-counters-requires c κs = c .before .before .before .before .before .before .if4 .left
 
 same-length : tie.Need-same-length
 same-length c = search needs
@@ -117,12 +111,12 @@ same-length-2 c = search needs
 
 returns-5 : tie.Need-returns-5
 returns-5 c =
-    let d = c .before .before .before .before .before .before .before .before .before .before .before .before .before in
+    let d = c .before .before .before .before .before .before .before .before .before .before .before in
     let s = start-of d in
     let z = s .args in
-    asks-done (z .formats .now) (z .schema .now) (lent s) (z .first) (z .n) (own-of s) (plan-of s) (out-of s) (z .plan .now) (z .counters .now) (none d) (lengths-both (length (z .plan .now)) (length (z .counters .now)) (c .before .before .before .before .before .before .before .before .before .before .before .before .if3 .left) (c .before .before .before .before .before .before .before .before .before .before .before .if4 .left)) refl
-    (c .before .before .before .before .keep-result .ensures .0 ∙ c .before .before .before .before .before .before .before .before .before .before .planned .ensures)
-    (c .before .before .before .before .keep-result .ensures .1 ∙ c .before .before .before .before .before .before .before .before .before .counters-of .ensures ∙ counters-are (z .formats .now) (z .schema .now) (z .lengths .now) (z .places .now) (z .buffers .now) (z .body .now) (z .first) (z .n) (z .target) (z .start) (z .end) (low d) (bytes d) (accepted d) (free d) _ refl)
+    asks-done (z .formats .now) (z .schema .now) (lent s) (z .first) (z .n) (own-of s) (plan-of s) (out-of s) (z .plan .now) (z .counters .now) (none d) (lengths-both (length (z .plan .now)) (length (z .counters .now)) (c .before .before .before .before .before .before .before .before .before .before .if3 .left) (c .before .before .before .before .before .before .before .before .before .if4 .left)) refl
+    (c .before .before .before .before .before .before .write-words .ensures ∙ c .before .before .before .before .before .before .before .before .row-of .ensures .0)
+    (c .before .before .write-counters .ensures ∙ counters-are (z .formats .now) (z .schema .now) (z .lengths .now) (z .places .now) (z .buffers .now) (z .body .now) (z .first) (z .n) (z .target) (z .start) (z .end) (low d) (bytes d) (accepted d) (free d) _ refl)
 
 pub plan-expand-spec : {M : Type 1} → statement M
 plan-expand-spec =
@@ -134,12 +128,10 @@ plan-expand-spec =
     returns-2
     returns-3
     returns-4
-    planned-requires
-    sub-counters-of
-    counters-of-requires
-    slice-aggregate-keep-result
-    slice-aggregate-keep-result-2
-    keep-result-requires
+    row-of-requires
+    write-words-requires
+    sub-write-counters
+    write-counters-requires
     same-length
     same-length-2
     returns-5)
