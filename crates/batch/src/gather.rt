@@ -90,7 +90,7 @@ fn copy_taken(
 }
 
 // The array, whose length is known of what a call returns.
-fn known(counters: [u64; plan_words::COUNTERS]) -> [u64; plan_words::COUNTERS]
+pub fn known(counters: [u64; plan_words::COUNTERS]) -> [u64; plan_words::COUNTERS]
     ensures { λ r. ⌜ r ≡ counters ⌝ }
 {
     counters

@@ -5,6 +5,7 @@ mod dense_union;
 mod gather;
 mod homes;
 mod list_view;
+mod listed;
 mod numbers;
 pub mod rise;
 mod side;

@@ -13,6 +13,7 @@ ghost use Rattle.batch.specs.Stretch.{sumOf, stretch, stretches};
 ghost use Rattle.batch.specs.Batch.{owned, batchLeaf, batchListView};
 ghost use Rattle.batch.specs.batch_walk.Plain.{isPlain, reached};
 ghost use Rattle.batch.specs.batch_walk.Side.{sideOf, furthestOf};
+use crate::listed;
 use crate::numbers;
 use crate::side;
 use crate::side::Stretch;
@@ -214,6 +215,30 @@ fn copy_numbers(
 {
     let v = lookups::width_at(plan, i + 1);
     if none_refused(lengths, places, body, write, first, i, w, v, slot, n) {
+        plan_words::add_rows(counters, i + 1, total);
+        return 0;
+    }
+    let offsets = lent_tables::place(places, first + i, 3);
+    let sizes = lent_tables::place(places, first + i, 5);
+    if listed::put_listed(
+        plan,
+        parts,
+        lengths,
+        places,
+        body,
+        counters,
+        room,
+        write,
+        first,
+        offsets,
+        sizes,
+        w,
+        slot,
+        n,
+        i + 1,
+        v,
+        total,
+    ) {
         plan_words::add_rows(counters, i + 1, total);
         return 0;
     }

@@ -27,7 +27,7 @@ fn copy_words(room: &mut [u8], at: usize, body: &[u8], from: usize, m: usize)
 }
 
 // n bytes of body from `from` on into room at `at`, a few of them by words.
-fn copy_few(room: &mut [u8], at: usize, body: &[u8], from: usize, n: usize)
+pub fn copy_few(room: &mut [u8], at: usize, body: &[u8], from: usize, n: usize)
     requires { ⌜ (at + n ≤ length (now room)) × (from + n ≤ length (now body)) ⌝ }
     ensures { λ _. ⌜ now (room .exit) ≡ splice at (take n (drop from (now (body .entry)))) (now (room .entry)) ⌝ }
 {

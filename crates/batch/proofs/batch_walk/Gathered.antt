@@ -30,6 +30,9 @@ use Rattle.batch.proofs.batch_walk.Sums.{sum-next, sum-more, sum-below,
 use Rattle.batch.proofs.batch_walk.PlainLeaf.{plain-is}
 use Rattle.batch.proofs.batch_walk.Tried.{near, slot-is, ends-in, rows-are, all-go}
 
+pub never : {P : Type 0} → _≡_ {A = Bool} false true → P
+never z = let y : _≡_ {A = ℕ} 0 1 = ap (λ b. cond b 1 0) z in absurd (omega arith)
+
 rows-set : (l : List ℕ) (i v : ℕ) → i < length l → getD (set l i v) i 0 ≡ v
 rows-set [] i v h = absurd (omega arith)
 rows-set (y ∷ l) zero v h = refl

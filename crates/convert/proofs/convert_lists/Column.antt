@@ -21,7 +21,6 @@ use Rattle.array_data.specs.Rules.{childOf, runEndRule}
 use Rattle.array_data.specs.Typed.{runEndNode, Tree, nodeOf, Is, Means, tablesFrom, bodyOf, columnOf, kindRule, nodeRule, sourceRule}
 use Rattle.array_data.specs.lent_tables.Lent.{tables}
 use Rattle.array_data.specs.type_tree.Lent.{treeOf}
-use Rattle.array_data.proofs.Names.{unionKind}
 use Rattle.walk.specs.State.{far, word, keepsOf}
 use Rattle.refinement.specs.walk_is_model.Memory.{Memory}
 use Rattle.refinement.specs.walk_is_model.Holds.{flag}

@@ -11,13 +11,10 @@ use Rattle.leaf_walk.specs.Join.{join}
 use Rattle.room_writes.proofs.Laws.{made}
 use Rattle.batch.specs.batch_walk.Fall.{homeBy, takesOf, takesFrom}
 use Rattle.batch.proofs.batch_walk.PlainLeaf.{plain-wide}
-use Rattle.batch.proofs.batch_walk.Gathered.{at-in, rows-in, room-in, put-did}
+use Rattle.batch.proofs.batch_walk.Gathered.{never, at-in, rows-in, room-in, put-did}
 use borrow.Author.Needs.{needs}
 use Rattle.batch.proofs.gather.put_taken.Statement.{statement}
 use Rattle.batch.proofs.gather.put_taken.Tie as tie
-
-never : {P : Type 0} → _≡_ {A = Bool} false true → P
-never z = let y : _≡_ {A = ℕ} 0 1 = ap (λ b. cond b 1 0) z in absurd (omega arith)
 
 reaches-requires : tie.Need-reaches-requires
 reaches-requires c κs = (c .before .before .before .before .before .before .pre .0 .0, c .before .before .before .before .before .before .pre .0 .1, plain-wide (c .before .before .before .before .before .before .args .plan .now) (c .before .before .before .before .before .before .args .k) (c .before .before .before .before .before .before .pre .0 .2) (c .before .before .before .before .before .before .pre .0 .3) .1)
