@@ -55,6 +55,8 @@ struct Column {
     body: Vec<u8>,
     nodes: u32,
     parts: Vec<u64>,
+    plan: Vec<u64>,
+    counters: Vec<u64>,
     room: Vec<u8>,
 }
 
@@ -83,18 +85,18 @@ impl Column {
             self.node(format, [children, dictionary], 0, 0, &[], &[]);
         }
         self.nodes = n;
-        let (mut plan, mut counters) = ([0u64; 872], [0u64; 96]);
+        (self.plan, self.counters) = (vec![0; 872], vec![0; 96]);
         let answer = unsafe {
             ask(
                 self.formats.as_ptr(), self.formats.len(), self.schema.as_ptr(), self.schema.len(), self.lengths.as_ptr(), self.lengths.len(),
                 self.places.as_ptr(), self.places.len(), [0u64; 0].as_ptr(), 0, self.body.as_ptr(), self.body.len(),
-                0, n, n, n, plan.as_mut_ptr(), 872, counters.as_mut_ptr(), 96,
+                0, n, n, n, self.plan.as_mut_ptr(), 872, self.counters.as_mut_ptr(), 96,
             )
         };
         assert_eq!(answer, 0);
         let mut end = 0;
-        for p in 0..unsafe { lafkuno_part_count(plan.as_ptr(), 872) } {
-            let size = unsafe { lafkuno_needed_bytes(plan.as_ptr(), 872, counters.as_ptr(), 96, p) };
+        for p in 0..unsafe { lafkuno_part_count(self.plan.as_ptr(), 872) } {
+            let size = unsafe { lafkuno_needed_bytes(self.plan.as_ptr(), 872, self.counters.as_ptr(), 96, p) };
             self.parts.extend([end, size]);
             end += size.next_multiple_of(64);
         }
@@ -102,12 +104,12 @@ impl Column {
     }
 
     fn write(&mut self, write: Writes) -> u8 {
-        let (mut plan, mut counters, n) = ([0u64; 872], [0u64; 96], self.nodes);
+        let n = self.nodes;
         unsafe {
             write(
                 self.formats.as_ptr(), self.formats.len(), self.schema.as_ptr(), self.schema.len(), self.lengths.as_ptr(), self.lengths.len(),
                 self.places.as_ptr(), self.places.len(), [0u64; 0].as_ptr(), 0, self.body.as_ptr(), self.body.len(),
-                0, n, n, n, self.parts.as_ptr(), self.parts.len(), plan.as_mut_ptr(), 872, counters.as_mut_ptr(), 96,
+                0, n, n, n, self.parts.as_ptr(), self.parts.len(), self.plan.as_mut_ptr(), 872, self.counters.as_mut_ptr(), 96,
                 self.room.as_mut_ptr(), self.room.len(),
             )
         }

@@ -73,11 +73,11 @@ fn planned(
     first: u32,
     n: u32,
     target: u32,
-) -> [u64; plan_words::WORDS]
+    draft: &mut [u64; plan_words::WORDS],
+)
     requires { ⌜ (n ≤ 32) × Comes (tables (now lengths) (now places) (now body)) first n (fromWords (now formats) (now schema) first n (replicate 32 0)) ⌝ }
-    ensures { λ r. ⌜ r ≡ planAnew (now (formats .entry)) (now (schema .entry)) target n (keepsFrom (tables (now (lengths .entry)) (now (places .entry)) (now (body .entry))) first (fromWords (now (formats .entry)) (now (schema .entry)) first n (replicate 32 0))) true 0 ⌝ }
+    ensures { λ _. ⌜ now (draft .exit) ≡ planAnew (now (formats .entry)) (now (schema .entry)) target n (keepsFrom (tables (now (lengths .entry)) (now (places .entry)) (now (body .entry))) first (fromWords (now (formats .entry)) (now (schema .entry)) first n (replicate 32 0))) true 0 ⌝ }
 {
-    let mut plan = [0u64; plan_words::WORDS];
     let from = from_words(formats, schema, first, n);
     anew::result_plan::plan_anew(
         formats,
@@ -91,9 +91,8 @@ fn planned(
         &from,
         true,
         0,
-        &mut plan,
+        draft,
     );
-    plan
 }
 
 // The question before any room is lent: the ground of refusal, or plan and counters of the result, by which `parts::part_at` and
@@ -129,7 +128,18 @@ pub fn plan_convert(
     if g != 0 {
         return g;
     }
-    let draft = planned(formats, schema, lengths, places, body, first, n, target);
+    let mut draft = [0u64; plan_words::WORDS];
+    planned(
+        formats,
+        schema,
+        lengths,
+        places,
+        body,
+        first,
+        n,
+        target,
+        &mut draft,
+    );
     let none = [0u64; 0];
     let mut nothing = [0u8; 0];
     let mut tally = [0u64; plan_words::COUNTERS];
@@ -241,7 +251,18 @@ pub fn convert(
     if g != 0 {
         return g;
     }
-    let draft = planned(formats, schema, lengths, places, body, first, n, target);
+    let mut draft = [0u64; plan_words::WORDS];
+    planned(
+        formats,
+        schema,
+        lengths,
+        places,
+        body,
+        first,
+        n,
+        target,
+        &mut draft,
+    );
     let mut tried = [0u64; plan_words::COUNTERS];
     let g = width_loop::convert_walk(
         formats,

@@ -1,4 +1,5 @@
 -- `widths::convert` meets its contract. Assumes nothing.
+use mathlib.Core.Path.{sym}
 use Rattle.widths.proofs.Called.{make-large, make-refused, small-nodes, comes-from, column-good, target-good, make-walk, make-room, make-made, room-lengths, draft-length}
 use borrow.Author.Needs.{needs}
 use Rattle.widths.proofs.convert.Statement.{statement}
@@ -21,19 +22,24 @@ returns-2 c =
 
 planned-requires : tie.Need-planned-requires
 planned-requires c κs =
-    let z = c .before .before .before .before .before .before .before .before .before .before .before .before .before .args in
-    let e = c .before .ground-of .ensures in
-    let f2 = c .if2 .left in
+    let z = c .before .before .before .before .before .before .before .before .before .before .before .before .before .before .args in
+    let e = c .before .before .ground-of .ensures in
+    let f2 = c .before .if2 .left in
     (small-nodes (z .formats .now) (z .schema .now) (z .lengths .now) (z .places .now) (z .buffers .now) (z .body .now) (z .first) (z .n) (z .target) (z .target-n) e f2, comes-from (z .formats .now) (z .schema .now) (z .lengths .now) (z .places .now) (z .buffers .now) (z .body .now) (z .first) (z .n) (z .target) (z .target-n) e f2 (search needs))
 
 slice-aggregate-convert-walk : tie.Need-slice-aggregate-convert-walk
-slice-aggregate-convert-walk c = search needs
+slice-aggregate-convert-walk c =
+    let z = c .before .before .before .before .before .before .before .before .before .before .before .before .before .before .before .before .args in
+    let e = c .before .before .before .before .ground-of .ensures in
+    let f = c .before .before .before .if2 .left in
+    let p = c .before .planned .ensures in
+    sym (draft-length (z .formats .now) (z .schema .now) (z .lengths .now) (z .places .now) (z .buffers .now) (z .body .now) (z .first) (z .n) (z .target) (z .target-n) e f _ p)
 
 convert-walk-requires : tie.Need-convert-walk-requires
 convert-walk-requires c κs =
-    let z = c .before .before .before .before .before .before .before .before .before .before .before .before .before .before .before .before .before .args in
-    let e = c .before .before .before .before .before .ground-of .ensures in
-    let f2 = c .before .before .before .before .if2 .left in
+    let z = c .before .before .before .before .before .before .before .before .before .before .before .before .before .before .before .before .before .before .args in
+    let e = c .before .before .before .before .before .before .ground-of .ensures in
+    let f2 = c .before .before .before .before .before .if2 .left in
     ((z .buffers .now, column-good (z .formats .now) (z .schema .now) (z .lengths .now) (z .places .now) (z .buffers .now) (z .body .now) (z .first) (z .n) (z .target) (z .target-n) e f2), target-good (z .formats .now) (z .schema .now) (z .lengths .now) (z .places .now) (z .buffers .now) (z .body .now) (z .first) (z .n) (z .target) (z .target-n) e f2)
 
 same-length : tie.Need-same-length
@@ -41,10 +47,10 @@ same-length c = search needs
 
 returns-3 : tie.Need-returns-3
 returns-3 c =
-    let z = c .before .before .before .before .before .before .before .before .before .before .before .before .before .before .before .before .before .before .before .before .before .args in
-    let e = c .before .before .before .before .before .before .before .before .before .ground-of .ensures in
-    let f1 = c .before .before .before .before .before .before .before .before .before .before .if1 .left in
-    let f2 = c .before .before .before .before .before .before .before .before .if2 .left in
+    let z = c .before .before .before .before .before .before .before .before .before .before .before .before .before .before .before .before .before .before .before .before .before .before .args in
+    let e = c .before .before .before .before .before .before .before .before .before .before .ground-of .ensures in
+    let f1 = c .before .before .before .before .before .before .before .before .before .before .before .if1 .left in
+    let f2 = c .before .before .before .before .before .before .before .before .before .if2 .left in
     let p = c .before .before .before .before .before .before .before .planned .ensures in
     let w = c .before .before .before .convert-walk .ensures (z .buffers .now) in
     make-walk (z .formats .now) (z .schema .now) (z .lengths .now) (z .places .now) (z .buffers .now) (z .body .now) (z .first) (z .n) (z .target) (z .target-n) e f2 _ p (z .parts .now) (z .plan .now) (z .counters .now) (z .room .now) f1 w (c .if3 .taken)
@@ -53,7 +59,12 @@ copied-requires : tie.Need-copied-requires
 copied-requires c κs = search needs
 
 slice-aggregate-room-ground : tie.Need-slice-aggregate-room-ground
-slice-aggregate-room-ground c = search needs
+slice-aggregate-room-ground c =
+    let z = c .before .before .before .before .before .before .before .before .before .before .before .before .before .before .before .before .before .before .before .before .before .before .before .before .args in
+    let e = c .before .before .before .before .before .before .before .before .before .before .before .before .ground-of .ensures in
+    let f = c .before .before .before .before .before .before .before .before .before .before .before .if2 .left in
+    let p = c .before .before .before .before .before .before .before .before .before .planned .ensures in
+    sym (draft-length (z .formats .now) (z .schema .now) (z .lengths .now) (z .places .now) (z .buffers .now) (z .body .now) (z .first) (z .n) (z .target) (z .target-n) e f _ p)
 
 room-ground-requires : tie.Need-room-ground-requires
 room-ground-requires c κs = search needs
@@ -63,10 +74,10 @@ same-length-2 c = search needs
 
 returns-4 : tie.Need-returns-4
 returns-4 c =
-    let z = c .before .before .before .before .before .before .before .before .before .before .before .before .before .before .before .before .before .before .before .before .before .before .before .before .before .before .args in
-    let e = c .before .before .before .before .before .before .before .before .before .before .before .before .before .before .ground-of .ensures in
-    let f1 = c .before .before .before .before .before .before .before .before .before .before .before .before .before .before .before .if1 .left in
-    let f2 = c .before .before .before .before .before .before .before .before .before .before .before .before .before .if2 .left in
+    let z = c .before .before .before .before .before .before .before .before .before .before .before .before .before .before .before .before .before .before .before .before .before .before .before .before .before .before .before .args in
+    let e = c .before .before .before .before .before .before .before .before .before .before .before .before .before .before .before .ground-of .ensures in
+    let f1 = c .before .before .before .before .before .before .before .before .before .before .before .before .before .before .before .before .if1 .left in
+    let f2 = c .before .before .before .before .before .before .before .before .before .before .before .before .before .before .if2 .left in
     let f3 = c .before .before .before .before .before .if3 .left in
     let p = c .before .before .before .before .before .before .before .before .before .before .before .before .planned .ensures in
     let w = c .before .before .before .before .before .before .before .before .convert-walk .ensures (z .buffers .now) in
@@ -75,13 +86,18 @@ returns-4 c =
     make-room (z .formats .now) (z .schema .now) (z .lengths .now) (z .places .now) (z .buffers .now) (z .body .now) (z .first) (z .n) (z .target) (z .target-n) e f2 _ p (z .parts .now) (z .plan .now) (z .counters .now) (z .room .now) f1 w f3 k r (c .if4 .taken)
 
 slice-aggregate-make : tie.Need-slice-aggregate-make
-slice-aggregate-make c = search needs
+slice-aggregate-make c =
+    let z = c .before .before .before .before .before .before .before .before .before .before .before .before .before .before .before .before .before .before .before .before .before .before .before .before .before .before .before .before .args in
+    let e = c .before .before .before .before .before .before .before .before .before .before .before .before .before .before .before .before .ground-of .ensures in
+    let f = c .before .before .before .before .before .before .before .before .before .before .before .before .before .before .before .if2 .left in
+    let p = c .before .before .before .before .before .before .before .before .before .before .before .before .before .planned .ensures in
+    sym (draft-length (z .formats .now) (z .schema .now) (z .lengths .now) (z .places .now) (z .buffers .now) (z .body .now) (z .first) (z .n) (z .target) (z .target-n) e f _ p)
 
 make-requires : tie.Need-make-requires
 make-requires c κs =
-    let z = c .before .before .before .before .before .before .before .before .before .before .before .before .before .before .before .before .before .before .before .before .before .before .before .before .before .before .before .before .before .before .args in
-    let e = c .before .before .before .before .before .before .before .before .before .before .before .before .before .before .before .before .before .before .ground-of .ensures in
-    let g = c .before .before .before .before .before .before .before .before .before .before .before .before .before .before .before .before .before .if2 .left in
+    let z = c .before .before .before .before .before .before .before .before .before .before .before .before .before .before .before .before .before .before .before .before .before .before .before .before .before .before .before .before .before .before .before .args in
+    let e = c .before .before .before .before .before .before .before .before .before .before .before .before .before .before .before .before .before .before .before .ground-of .ensures in
+    let g = c .before .before .before .before .before .before .before .before .before .before .before .before .before .before .before .before .before .before .if2 .left in
     let p = c .before .before .before .before .before .before .before .before .before .before .before .before .before .before .before .before .planned .ensures in
     let q = room-lengths _ _ _ _ _ _ (c .before .before .before .before .before .room-ground .ensures) (c .before .before .before .before .if4 .left) in (
       (q .0, q .1, draft-length (z .formats .now) (z .schema .now) (z .lengths .now) (z .places .now) (z .buffers .now) (z .body .now) (z .first) (z .n) (z .target) (z .target-n) e g _ p),
@@ -102,10 +118,10 @@ same-length-5 c = search needs
 
 returns-5 : tie.Need-returns-5
 returns-5 c =
-    let z = c .before .before .before .before .before .before .before .before .before .before .before .before .before .before .before .before .before .before .before .before .before .before .before .before .before .before .before .before .before .before .before .before .before .before .before .before .before .args in
-    let e = c .before .before .before .before .before .before .before .before .before .before .before .before .before .before .before .before .before .before .before .before .before .before .before .before .before .ground-of .ensures in
-    let f1 = c .before .before .before .before .before .before .before .before .before .before .before .before .before .before .before .before .before .before .before .before .before .before .before .before .before .before .if1 .left in
-    let f2 = c .before .before .before .before .before .before .before .before .before .before .before .before .before .before .before .before .before .before .before .before .before .before .before .before .if2 .left in
+    let z = c .before .before .before .before .before .before .before .before .before .before .before .before .before .before .before .before .before .before .before .before .before .before .before .before .before .before .before .before .before .before .before .before .before .before .before .before .before .before .args in
+    let e = c .before .before .before .before .before .before .before .before .before .before .before .before .before .before .before .before .before .before .before .before .before .before .before .before .before .before .ground-of .ensures in
+    let f1 = c .before .before .before .before .before .before .before .before .before .before .before .before .before .before .before .before .before .before .before .before .before .before .before .before .before .before .before .if1 .left in
+    let f2 = c .before .before .before .before .before .before .before .before .before .before .before .before .before .before .before .before .before .before .before .before .before .before .before .before .before .if2 .left in
     let f3 = c .before .before .before .before .before .before .before .before .before .before .before .before .before .before .before .before .if3 .left in
     let f4 = c .before .before .before .before .before .before .before .before .before .before .before .if4 .left in
     let p = c .before .before .before .before .before .before .before .before .before .before .before .before .before .before .before .before .before .before .before .before .before .before .before .planned .ensures in

@@ -1,7 +1,7 @@
 -- `widths::plan_convert` meets its contract. Assumes nothing.
-use mathlib.Core.Path.{_∙_}
+use mathlib.Core.Path.{sym, _∙_}
 use mathlib.Core.List.{[]}
-use Rattle.widths.proofs.Called.{ask-refused, small-nodes, comes-from, column-good, target-good, ask-walk, ask-plan, ask-counters, ask-done}
+use Rattle.widths.proofs.Called.{ask-refused, small-nodes, comes-from, column-good, target-good, ask-walk, ask-plan, ask-counters, ask-done, draft-length}
 use borrow.Author.Needs.{needs}
 use Rattle.widths.proofs.plan_convert.Statement.{statement}
 use Rattle.widths.proofs.plan_convert.Tie as tie
@@ -17,13 +17,18 @@ returns c =
 
 planned-requires : tie.Need-planned-requires
 planned-requires c κs =
-    let z = c .before .before .before .before .before .before .before .before .before .before .args in
-    let e = c .before .ground-of .ensures in
-    let f1 = c .if1 .left in
+    let z = c .before .before .before .before .before .before .before .before .before .before .before .args in
+    let e = c .before .before .ground-of .ensures in
+    let f1 = c .before .if1 .left in
     (small-nodes (z .formats .now) (z .schema .now) (z .lengths .now) (z .places .now) (z .buffers .now) (z .body .now) (z .first) (z .n) (z .target) (z .target-n) e f1, comes-from (z .formats .now) (z .schema .now) (z .lengths .now) (z .places .now) (z .buffers .now) (z .body .now) (z .first) (z .n) (z .target) (z .target-n) e f1 (search needs))
 
 slice-aggregate-convert-walk : tie.Need-slice-aggregate-convert-walk
-slice-aggregate-convert-walk c = search needs
+slice-aggregate-convert-walk c =
+    let z = c .before .before .before .before .before .before .before .before .before .before .before .before .before .args in
+    let e = c .before .before .before .before .ground-of .ensures in
+    let f = c .before .before .before .if1 .left in
+    let p = c .before .planned .ensures in
+    sym (draft-length (z .formats .now) (z .schema .now) (z .lengths .now) (z .places .now) (z .buffers .now) (z .body .now) (z .first) (z .n) (z .target) (z .target-n) e f _ p)
 
 slice-aggregate-convert-walk-2 : tie.Need-slice-aggregate-convert-walk-2
 slice-aggregate-convert-walk-2 c = search needs
@@ -33,25 +38,25 @@ slice-aggregate-convert-walk-3 c = search needs
 
 convert-walk-requires : tie.Need-convert-walk-requires
 convert-walk-requires c κs =
-    let z = c .before .before .before .before .before .before .before .before .before .before .before .before .before .before .before .args in
-    let e = c .before .before .before .before .before .before .ground-of .ensures in
-    let f1 = c .before .before .before .before .before .if1 .left in
+    let z = c .before .before .before .before .before .before .before .before .before .before .before .before .before .before .before .before .args in
+    let e = c .before .before .before .before .before .before .before .ground-of .ensures in
+    let f1 = c .before .before .before .before .before .before .if1 .left in
     ((z .buffers .now, column-good (z .formats .now) (z .schema .now) (z .lengths .now) (z .places .now) (z .buffers .now) (z .body .now) (z .first) (z .n) (z .target) (z .target-n) e f1), target-good (z .formats .now) (z .schema .now) (z .lengths .now) (z .places .now) (z .buffers .now) (z .body .now) (z .first) (z .n) (z .target) (z .target-n) e f1)
 
 returns-2 : tie.Need-returns-2
 returns-2 c =
-    let z = c .before .before .before .before .before .before .before .before .before .before .before .before .before .before .before .before .before .before .args in
-    let e = c .before .before .before .before .before .before .before .before .before .ground-of .ensures in
-    let f1 = c .before .before .before .before .before .before .before .before .if1 .left in
+    let z = c .before .before .before .before .before .before .before .before .before .before .before .before .before .before .before .before .before .before .before .args in
+    let e = c .before .before .before .before .before .before .before .before .before .before .ground-of .ensures in
+    let f1 = c .before .before .before .before .before .before .before .before .before .if1 .left in
     let p = c .before .before .before .before .before .before .before .planned .ensures in
     let w = c .before .before .convert-walk .ensures (z .buffers .now) in
     ask-walk (z .formats .now) (z .schema .now) (z .lengths .now) (z .places .now) (z .buffers .now) (z .body .now) (z .first) (z .n) (z .target) (z .target-n) e f1 _ p [] w (z .plan .now) (z .counters .now) (c .if2 .taken)
 
 returns-3 : tie.Need-returns-3
 returns-3 c =
-    let z = c .before .before .before .before .before .before .before .before .before .before .before .before .before .before .before .before .before .before .before .args in
-    let e = c .before .before .before .before .before .before .before .before .before .before .ground-of .ensures in
-    let f1 = c .before .before .before .before .before .before .before .before .before .if1 .left in
+    let z = c .before .before .before .before .before .before .before .before .before .before .before .before .before .before .before .before .before .before .before .before .args in
+    let e = c .before .before .before .before .before .before .before .before .before .before .before .ground-of .ensures in
+    let f1 = c .before .before .before .before .before .before .before .before .before .before .if1 .left in
     let f2 = c .before .if2 .left in
     let p = c .before .before .before .before .before .before .before .before .planned .ensures in
     let w = c .before .before .before .convert-walk .ensures (z .buffers .now) in
@@ -59,9 +64,9 @@ returns-3 c =
 
 returns-4 : tie.Need-returns-4
 returns-4 c =
-    let z = c .before .before .before .before .before .before .before .before .before .before .before .before .before .before .before .before .before .before .before .before .args in
-    let e = c .before .before .before .before .before .before .before .before .before .before .before .ground-of .ensures in
-    let f1 = c .before .before .before .before .before .before .before .before .before .before .if1 .left in
+    let z = c .before .before .before .before .before .before .before .before .before .before .before .before .before .before .before .before .before .before .before .before .before .args in
+    let e = c .before .before .before .before .before .before .before .before .before .before .before .before .ground-of .ensures in
+    let f1 = c .before .before .before .before .before .before .before .before .before .before .before .if1 .left in
     let f2 = c .before .before .if2 .left in
     let f3 = c .before .if3 .left in
     let p = c .before .before .before .before .before .before .before .before .before .planned .ensures in
@@ -72,13 +77,23 @@ copied-requires : tie.Need-copied-requires
 copied-requires c κs = search needs
 
 slice-aggregate-keep-result : tie.Need-slice-aggregate-keep-result
-slice-aggregate-keep-result c = search needs
+slice-aggregate-keep-result c =
+    let z = c .before .before .before .before .before .before .before .before .before .before .before .before .before .before .before .before .before .before .before .before .before .before .before .before .before .args in
+    let e = c .before .before .before .before .before .before .before .before .before .before .before .before .before .before .before .before .ground-of .ensures in
+    let f = c .before .before .before .before .before .before .before .before .before .before .before .before .before .before .before .if1 .left in
+    let p = c .before .before .before .before .before .before .before .before .before .before .before .before .before .planned .ensures in
+    sym (draft-length (z .formats .now) (z .schema .now) (z .lengths .now) (z .places .now) (z .buffers .now) (z .body .now) (z .first) (z .n) (z .target) (z .target-n) e f _ p)
 
 slice-aggregate-keep-result-2 : tie.Need-slice-aggregate-keep-result-2
 slice-aggregate-keep-result-2 c = search needs
 
 keep-result-requires : tie.Need-keep-result-requires
-keep-result-requires c κs = search needs
+keep-result-requires c κs =
+    let z = c .before .before .before .before .before .before .before .before .before .before .before .before .before .before .before .before .before .before .before .before .before .before .before .before .before .before .args in
+    let e = c .before .before .before .before .before .before .before .before .before .before .before .before .before .before .before .before .before .ground-of .ensures in
+    let f = c .before .before .before .before .before .before .before .before .before .before .before .before .before .before .before .before .if1 .left in
+    let p = c .before .before .before .before .before .before .before .before .before .before .before .before .before .before .planned .ensures in
+    (c .before .before .before .before .before .before .if3 .left, c .before .before .before .before .before .if4 .left, draft-length (z .formats .now) (z .schema .now) (z .lengths .now) (z .places .now) (z .buffers .now) (z .body .now) (z .first) (z .n) (z .target) (z .target-n) e f _ p, search needs)
 
 same-length : tie.Need-same-length
 same-length c = search needs
@@ -88,9 +103,9 @@ same-length-2 c = search needs
 
 returns-5 : tie.Need-returns-5
 returns-5 c =
-    let z = c .before .before .before .before .before .before .before .before .before .before .before .before .before .before .before .before .before .before .before .before .before .before .before .before .before .before .before .before .before .before .args in
-    let e = c .before .before .before .before .before .before .before .before .before .before .before .before .before .before .before .before .before .before .before .before .before .ground-of .ensures in
-    let f1 = c .before .before .before .before .before .before .before .before .before .before .before .before .before .before .before .before .before .before .before .before .if1 .left in
+    let z = c .before .before .before .before .before .before .before .before .before .before .before .before .before .before .before .before .before .before .before .before .before .before .before .before .before .before .before .before .before .before .before .args in
+    let e = c .before .before .before .before .before .before .before .before .before .before .before .before .before .before .before .before .before .before .before .before .before .before .ground-of .ensures in
+    let f1 = c .before .before .before .before .before .before .before .before .before .before .before .before .before .before .before .before .before .before .before .before .before .if1 .left in
     let f2 = c .before .before .before .before .before .before .before .before .before .before .before .before .if2 .left in
     let f3 = c .before .before .before .before .before .before .before .before .before .before .before .if3 .left in
     let f4 = c .before .before .before .before .before .before .before .before .before .before .if4 .left in
