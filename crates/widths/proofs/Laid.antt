@@ -2,13 +2,16 @@
 use mathlib.Core.Path.{_≡_}
 use mathlib.Core.Bool.{true}
 use mathlib.Core.List.{List, [], _∷_}
-use Prim.Native.Nat.{ℕ, zero, suc, _+_, _<_}
+use Prim.Native.Nat.{ℕ, zero, suc, _+_}
 use native.Mathlib.Omega.{arith}
-use lib.ListN.{take, drop, getD}
+use lib.ListN.{take, drop}
 use lib.Seq.{getD-drop}
-use Rattle.columnar.specs.Types.{Ty, tPlain, tView, tListView, tList, tSparse, tDense, tRunEnd, tDictionary}
+use Rattle.columnar.specs.Types.{Ty}
 use Rattle.columnar.specs.Formed.{Formed}
 use Rattle.columnar.specs.Reading.{Column}
+use Rattle.columnar.specs.Kids.{kidNode, bodyDown}
+use Rattle.columnar.proofs.Kids.{below-from}
+use Rattle.refinement.proofs.plan_is_type.Kids.{body-kid}
 use Rattle.model.specs.Transform.{extend}
 use Rattle.array_data.specs.Tables.{Tables, place}
 use Rattle.array_data.specs.Typed.{Tree, nodeOf, tablesFrom, bodyOf, columnOf}
@@ -39,14 +42,9 @@ dropped : (n : ℕ) (l : List ℕ) → AllBelow 256 l → AllBelow 256 (drop n l
 dropped n l h i = rw getD-drop (h (n + i))
 
 views-bytes : (tree : Tree) (y : Tables) → AllBelow 256 (y .body) → (t : Ty) (i : ℕ) → ByteViews t (bodyOf tree y t i)
-views-bytes tree y h (tPlain p) i = tt
-views-bytes tree y h tView i = taken (place y i 4) (drop (place y i 3) (y .body)) (dropped (place y i 3) (y .body) h)
-views-bytes tree y h (tListView w t) i = views-bytes tree y h t (suc i)
-views-bytes tree y h (tList w t) i = views-bytes tree y h t (suc i)
-views-bytes tree y h (tSparse ids nullable f) i = λ c m. views-bytes tree y h (f c) (nodeOf tree i ids c)
-views-bytes tree y h (tDense ids nullable f) i = λ c m. views-bytes tree y h (f c) (nodeOf tree i ids c)
-views-bytes tree y h (tRunEnd w t) i = views-bytes tree y h t (suc (suc i))
-views-bytes tree y h (tDictionary k p) i = tt
+views-bytes tree y h t i =
+    below-from bodyDown _ _ {S = λ t. ℕ} (λ t i. bodyOf tree y t i) (λ t i k. (kidNode (nodeOf tree) t i k, body-kid tree y t i k))
+    (λ i. taken (place y i 4) (drop (place y i 3) (y .body)) (dropped (place y i 3) (y .body) h)) (λ n p i. tt) t i
 
 module _ (formats schema : List ℕ) (x : Tables) (first n target : ℕ) (parts plan counters room : List ℕ) (ok : columnGround formats schema x first n ≡ 0) (h : isTarget formats schema first n target n ≡ true)
     (bytes : AllBelow 256 (x .body)) where
