@@ -7,7 +7,8 @@ use native.Mathlib.Omega.{arith}
 use lib.Dec.{leb, ltb, eqb}
 use borrow.Author.Tests.{le-leb}
 use Rattle.schema.specs.formats.Code.{isInteger, isFixed, isString, isView, isListView, isList, isUnion, isRunEnd}
-use Rattle.schema.specs.Tree.{count, children, dictionary, bare, childForEach, endOf, depth, codeOf, idsOf, valuesShape, endsShape, leafShape, keysShape, listShape, unionShape, runShape, shape}
+use Rattle.schema.specs.Tree.{children, dictionary, bare, childForEach, endOf, depth, codeOf, idsOf, valuesShape, endsShape, leafShape, keysShape, listShape, unionShape, runShape, shape}
+use Rattle.schema.proofs.Counts.{count}
 
 -- ---- tests one behind the other
 
