@@ -7,105 +7,21 @@ ghost use lib.ListN.{length};
 ghost use Rattle.schema.specs.formats.Code.{isString};
 ghost use Rattle.utils.specs.Extension.{extended};
 ghost use Rattle.utils.specs.declared.Extended.the-variants.{Fits};
-ghost use Rattle.walk.specs.State.{codeOf, keepsOf, bytesOf, bytes, place, slotOf};
+ghost use Rattle.walk.specs.State.{codeOf, bytesOf, bytes, place, slotOf};
 ghost use Rattle.walk.specs.Log.{Did};
-ghost use Rattle.walk.specs.Leaves.{copyMask, putString};
+ghost use Rattle.walk.specs.Leaves.{putString};
 ghost use Rattle.walk.specs.Copy.{Walk, copyData, copyWalk};
 ghost use Rattle.leaf_walk.specs.Join.{join};
 ghost use Rattle.plan.specs.parts.Parts.{entrySize};
 ghost use Rattle.refinement.specs.orders.Order.{settled};
 ghost use Rattle.transform.specs.Answer.{lent, Answers};
 ghost use Rattle.transform.specs.leaf_rows.Leaf.{bitsIn};
+use crate::leaf_bits;
 use crate::leaf_counters;
 use array_data::lent_tables;
 use leaf_walk::variable_size;
 use nested_rows::lookups;
 use walk::plan_words;
-
-// ---- validity
-
-// Whether the validity bits of n slots of node i, where they are copied, lie in the body.
-pub fn bits_in(
-    plan: &[u64],
-    places: &[u64],
-    body: &[u8],
-    first: usize,
-    i: usize,
-    slot: u64,
-    n: u64,
-) -> bool
-    requires { ⌜ (first < 2 ^ 32) × (i < 32) ⌝ }
-    ensures { λ r. ⌜ ((parts lengths : List ℕ) (source : ℕ) → r ≡ bitsIn (join (now (plan .entry)) parts lengths (now (places .entry)) (now (body .entry)) first source) i slot n) ⌝ }
-{
-    if plan_words::keeps_of(plan, i) == 0 {
-        return true;
-    }
-    if lent_tables::place(places, first + i, 0) == 0 {
-        return true;
-    }
-    let at = lent_tables::place(places, first + i, 1);
-    lent_tables::bits_fit_behind(at, slot, n, body.len() as u64)
-}
-
-// The validity of n slots of node i, which keeps nulls, and its zeros counted.
-pub fn put_kept_bits(
-    plan: &[u64],
-    parts: &[u64],
-    places: &[u64],
-    body: &[u8],
-    counters: &mut [u64],
-    room: &mut [u8],
-    first: usize,
-    i: usize,
-    slot: u64,
-    n: u64,
-)
-    requires { ⌜ (length (now counters) ≡ 96) × (first < 2 ^ 32) × (i < 32) × (slot + n < 2 ^ 63) × (bitsIn (join (now plan) [] [] (now places) (now body) first 0) i slot n ≡ true) ⌝ }
-    requires { ⌜ (keepsOf (now plan) i ≡ 0 → ⊥) ⌝ }
-    ensures { λ _. ⌜ ((lengths : List ℕ) (source : ℕ) → Did (now (plan .entry)) (now (parts .entry)) true (copyMask (join (now (plan .entry)) (now (parts .entry)) lengths (now (places .entry)) (now (body .entry)) first source) i slot n (now (counters .entry))) (now (room .entry)) 0 (now (counters .exit)) (now (room .exit))) ⌝ }
-{
-    let p = lent_tables::at_u64(counters, 3 * i);
-    if lent_tables::place(places, first + i, 0) == 0 {
-        room_writes::validity::put_ones(plan, parts, room, true, i, p, n);
-        return;
-    }
-    let at = lent_tables::place(places, first + i, 1);
-    let zeros = room_writes::validity::put_mask(
-        plan,
-        parts,
-        room,
-        true,
-        i,
-        p,
-        body,
-        at as usize,
-        slot,
-        n,
-    );
-    leaf_counters::add_to(counters, 3 * i + 1, zeros);
-}
-
-// The validity of n slots of node i, if it keeps nulls.
-fn put_bits(
-    plan: &[u64],
-    parts: &[u64],
-    places: &[u64],
-    body: &[u8],
-    counters: &mut [u64],
-    room: &mut [u8],
-    first: usize,
-    i: usize,
-    slot: u64,
-    n: u64,
-)
-    requires { ⌜ (length (now counters) ≡ 96) × (first < 2 ^ 32) × (i < 32) × (slot + n < 2 ^ 63) × (bitsIn (join (now plan) [] [] (now places) (now body) first 0) i slot n ≡ true) ⌝ }
-    ensures { λ _. ⌜ ((lengths : List ℕ) (source : ℕ) → Did (now (plan .entry)) (now (parts .entry)) true (copyMask (join (now (plan .entry)) (now (parts .entry)) lengths (now (places .entry)) (now (body .entry)) first source) i slot n (now (counters .entry))) (now (room .entry)) 0 (now (counters .exit)) (now (room .exit))) ⌝ }
-{
-    if plan_words::keeps_of(plan, i) == 0 {
-        return;
-    }
-    put_kept_bits(plan, parts, places, body, counters, room, first, i, slot, n);
-}
 
 // ---- numbers, keys and views
 
@@ -197,7 +113,7 @@ fn copy_entries(
     if g != 0 {
         return g;
     }
-    put_bits(plan, parts, places, body, counters, room, first, i, slot, n);
+    leaf_bits::put_bits(plan, parts, places, body, counters, room, first, i, slot, n);
     put_entries(
         plan,
         parts,
@@ -303,7 +219,7 @@ fn write_text(
     if g != 0 {
         return g;
     }
-    put_bits(plan, parts, places, body, counters, room, first, i, slot, n);
+    leaf_bits::put_bits(plan, parts, places, body, counters, room, first, i, slot, n);
     put_text(
         plan,
         parts,
@@ -393,7 +309,7 @@ pub fn copy_leaf_rows(
     if plan_words::FAR <= slot {
         return 12;
     }
-    if !bits_in(plan, places, body, first, 0, slot, n) {
+    if !leaf_bits::bits_in(plan, places, body, first, 0, slot, n) {
         return 12;
     }
     if schema::formats::is_string(plan_words::code_of(plan, 0)) {

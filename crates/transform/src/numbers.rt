@@ -18,8 +18,8 @@ ghost use Rattle.refinement.specs.orders.Order.{settled};
 ghost use Rattle.transform.specs.Answer.{lent, Answers};
 ghost use Rattle.transform.specs.leaf_rows.Leaf.{bitsIn};
 ghost use Rattle.transform.specs.numbers.Plan.{oneOfNumbers};
+use crate::leaf_bits;
 use crate::leaf_counters;
-use crate::leaf_rows;
 use array_data::lent_tables;
 use nested_rows::lookups;
 use walk::plan_words;
@@ -158,7 +158,7 @@ fn put_validity(
     if plan_words::keeps_of(plan, i) == 0 {
         return;
     }
-    leaf_rows::put_kept_bits(plan, parts, places, body, counters, room, first, i, slot, n);
+    leaf_bits::put_kept_bits(plan, parts, places, body, counters, room, first, i, slot, n);
 }
 
 // n bytes of body from `from` on at byte o of node i's numbers, where they lie in the room.
@@ -268,7 +268,7 @@ pub fn copy_numbers(
     if plan_words::FAR <= slot {
         return 12;
     }
-    if !leaf_rows::bits_in(plan, places, body, first, 0, slot, n) {
+    if !leaf_bits::bits_in(plan, places, body, first, 0, slot, n) {
         return 12;
     }
     copy_slots(plan, parts, places, body, counters, room, first, slot, n)

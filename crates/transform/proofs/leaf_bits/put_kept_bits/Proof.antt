@@ -1,4 +1,4 @@
--- `transform::leaf_rows::put_kept_bits` meets its contract. Assumes nothing.
+-- `transform::leaf_bits::put_kept_bits` meets its contract. Assumes nothing.
 use mathlib.Core.Path.{refl, ap}
 use mathlib.Core.Bool.{true, not}
 use mathlib.Core.List.{[]}
@@ -7,8 +7,8 @@ use Rattle.leaf_walk.specs.Join.{join}
 use Rattle.leaf_walk.proofs.Laws.{mask-ones, mask-bits, bits-yes}
 use Rattle.transform.proofs.leaf_rows.Laws.{bits-tests}
 use borrow.Author.Needs.{needs}
-use Rattle.transform.proofs.leaf_rows.put_kept_bits.Statement.{statement}
-use Rattle.transform.proofs.leaf_rows.put_kept_bits.Tie as tie
+use Rattle.transform.proofs.leaf_bits.put_kept_bits.Statement.{statement}
+use Rattle.transform.proofs.leaf_bits.put_kept_bits.Tie as tie
 
 mul-at-u64 : tie.Need-mul-at-u64
 mul-at-u64 c = search needs

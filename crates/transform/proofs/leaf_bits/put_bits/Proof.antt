@@ -1,11 +1,11 @@
--- `transform::leaf_rows::put_bits` meets its contract. Assumes nothing.
+-- `transform::leaf_bits::put_bits` meets its contract. Assumes nothing.
 use mathlib.Core.Path.{_∙_}
 use mathlib.Core.Bool.{true}
 use Rattle.leaf_walk.specs.Join.{join}
 use Rattle.leaf_walk.proofs.Laws.{mask-off}
 use borrow.Author.Needs.{needs}
-use Rattle.transform.proofs.leaf_rows.put_bits.Statement.{statement}
-use Rattle.transform.proofs.leaf_rows.put_bits.Tie as tie
+use Rattle.transform.proofs.leaf_bits.put_bits.Statement.{statement}
+use Rattle.transform.proofs.leaf_bits.put_bits.Tie as tie
 
 keeps-of-requires : tie.Need-keeps-of-requires
 keeps-of-requires c κs = search needs

@@ -1,12 +1,12 @@
--- `transform::leaf_rows::bits_in` meets its contract. Assumes nothing.
+-- `transform::leaf_bits::bits_in` meets its contract. Assumes nothing.
 use mathlib.Core.Path.{ap, _∙_}
 use Prim.Native.Nat.{ℕ, _+_, _*_}
 use lib.ListN.{length}
 use lib.Dec.{leb}
 use Rattle.array_data.proofs.lent_tables.Laws.{is-none, is-some}
 use borrow.Author.Needs.{needs}
-use Rattle.transform.proofs.leaf_rows.bits_in.Statement.{statement}
-use Rattle.transform.proofs.leaf_rows.bits_in.Tie as tie
+use Rattle.transform.proofs.leaf_bits.bits_in.Statement.{statement}
+use Rattle.transform.proofs.leaf_bits.bits_in.Tie as tie
 
 keeps-of-requires : tie.Need-keeps-of-requires
 keeps-of-requires c κs = search needs
