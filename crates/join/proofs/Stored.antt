@@ -193,7 +193,7 @@ module _ (formats schema : List ℕ) (x : Tables) (first : ℕ) (formats′ sche
       low-enough formats′ schema′ first′ n (within-nodes formats schema first n h)
       (λ i l.
       let d = within-depth formats schema first n h i l in
-      one-low formats′ schema′ first′ n i (depth schema first n i) (fields-kept i l (within-fields formats schema first n h i l)) (depth-same i l) d)
+      one-low formats′ schema′ first′ n i (fields-kept i l (within-fields formats schema first n h i l)) (le-leb (depth schema′ first′ n i) 8 (omega (arith, depth-same i l, d))))
 
   -- ---- ground 10
 
