@@ -228,6 +228,27 @@ static void events(void) {
     expect_rows("events", &out, wanted);
 }
 
+/* Five rows of lists of numbers, the third null: how many each has, where it begins unless that is left out, and all numbers row by row. */
+static void expect_lists(const char *name, struct column *out, uint32_t child, const uint64_t many[5], const uint64_t starts[5], const uint64_t *numbers) {
+    uint64_t *tree = lend(NULL, 8 * LAFKUNO_TREE), *below = lend(NULL, 8 * LAFKUNO_TREE), answer[LAFKUNO_ANSWER];
+    open_column(name, out, 0, 2, tree);
+    open_column(name, out, 1, 1, below);
+    for (uint64_t r = 0; r < 5; r++) {
+        expect(name, lafkuno_read_row(tree, LAFKUNO_TREE, out->lengths, 4, out->places, 18, no_buffers, 0, out->body, out->body_len, 0, r,
+                                      answer, LAFKUNO_ANSWER), r == 2 ? LAFKUNO_NULL : LAFKUNO_LIST);
+        if (r == 2) continue;
+        expect(name, answer[0], child);
+        if (starts) expect(name, answer[1], starts[r]);
+        expect(name, answer[2], many[r]);
+        for (uint64_t k = 0; k < many[r]; k++) {
+            const struct row one = {LAFKUNO_UNSIGNED, -1, (int64_t)*numbers++, NULL};
+            expect_row(name, out, below, child, answer[1] + k, one);
+        }
+    }
+    free(tree);
+    free(below);
+}
+
 /* Parcels of each stop: list-views of numbers. */
 static void parcels(void) {
     struct column c = {0};
@@ -238,23 +259,8 @@ static void parcels(void) {
     buffer(&c, i, 2, sizes, sizeof sizes);
     buffer(&c, a, 1, parcels, sizeof parcels);
     struct column out = join("parcels", &c, 1);
-    const uint64_t wanted[5][3] = {{14, UINT64_MAX}, {11}, {0}, {0}, {11, 12, 13}}, many[5] = {2, 1, 0, 0, 3};
-    uint64_t *tree = lend(NULL, 8 * LAFKUNO_TREE), *below = lend(NULL, 8 * LAFKUNO_TREE), answer[LAFKUNO_ANSWER];
-    open_column("parcels", &out, 0, 2, tree);
-    open_column("parcels", &out, 1, 1, below);
-    for (uint64_t r = 0; r < 5; r++) {
-        expect("parcels", lafkuno_read_row(tree, LAFKUNO_TREE, out.lengths, 4, out.places, 18, no_buffers, 0, out.body, out.body_len, 0, r,
-                                           answer, LAFKUNO_ANSWER), r == 2 ? LAFKUNO_NULL : LAFKUNO_LIST);
-        if (r == 2) continue;
-        expect("parcels", answer[0], a);
-        expect("parcels", answer[2], many[r]);
-        for (uint64_t k = 0; k < many[r] && k < 3; k++) {
-            const struct row one = {LAFKUNO_UNSIGNED, -1, (int64_t)wanted[r][k], NULL};
-            expect_row("parcels", &out, below, a, answer[1] + k, one);
-        }
-    }
-    free(tree);
-    free(below);
+    const uint64_t many[5] = {2, 1, 0, 0, 3}, wanted[6] = {14, UINT64_MAX, 11, 11, 12, 13};
+    expect_lists("parcels", &out, a, many, NULL, wanted);
 }
 
 /* Stops of each trip: lists of numbers over a child that begins in its middle. */
@@ -266,24 +272,8 @@ static void stops(void) {
     buffer(&c, i, 1, offsets, sizeof offsets);
     buffer(&c, a, 1, stops, sizeof stops);
     struct column out = join("stops", &c, 1);
-    const uint64_t starts[5] = {0, 2, 0, 3, 3}, many[5] = {2, 1, 0, 0, 2}, wanted[5] = {11, 12, 13, 14, 15};
-    uint64_t *tree = lend(NULL, 8 * LAFKUNO_TREE), *below = lend(NULL, 8 * LAFKUNO_TREE), answer[LAFKUNO_ANSWER];
-    open_column("stops", &out, 0, 2, tree);
-    open_column("stops", &out, 1, 1, below);
-    for (uint64_t r = 0; r < 5; r++) {
-        expect("stops", lafkuno_read_row(tree, LAFKUNO_TREE, out.lengths, 4, out.places, 18, no_buffers, 0, out.body, out.body_len, 0, r,
-                                         answer, LAFKUNO_ANSWER), r == 2 ? LAFKUNO_NULL : LAFKUNO_LIST);
-        if (r == 2) continue;
-        expect("stops", answer[0], a);
-        expect("stops", answer[1], starts[r]);
-        expect("stops", answer[2], many[r]);
-    }
-    for (uint64_t k = 0; k < 5; k++) {
-        const struct row one = {LAFKUNO_UNSIGNED, -1, (int64_t)wanted[k], NULL};
-        expect_row("stops", &out, below, a, k, one);
-    }
-    free(tree);
-    free(below);
+    const uint64_t many[5] = {2, 1, 0, 0, 2}, starts[5] = {0, 2, 0, 3, 3}, wanted[5] = {11, 12, 13, 14, 15};
+    expect_lists("stops", &out, a, many, starts, wanted);
 }
 
 /* A plan that no opening wrote: a copy that could not be made in the lent room is refused, and one over a plan whose subtrees fall back ends at once. */
