@@ -22,7 +22,9 @@ pub mod Answered
 pub mod Demand3
 pub mod Based
 pub mod Said
+pub mod StoredCodes
 pub mod Stored
+pub mod StoredNodes
 pub mod StoredTypes
 pub mod StoredExample
 pub mod Wide

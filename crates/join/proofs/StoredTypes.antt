@@ -7,16 +7,16 @@ use Prim.Native.Nat.{ℕ, zero, suc, _+_, _-_, _≤_, _<_}
 use native.Mathlib.Nat.{le-refl}
 use native.Mathlib.Omega.{arith}
 use lib.ListN.{length}
-use lib.Dec.{T, eqb}
+use lib.Dec.{eqb}
 use borrow.Author.Tests.{eqb-true, ne-eqb}
 use Rattle.columnar.specs.Types.{Number, limit, Plain, fixed, string}
-use Rattle.columnar.specs.Wider.{Declared, integer, KeyWider, PlainWider, wFixed, wString, Wider, wPlain, wView, wListView, wList, wSparse, wDense, wRunEnd, wDictionary}
+use Rattle.columnar.specs.Wider.{Declared, KeyWider, PlainWider, wFixed, wString, Wider, wPlain, wView, wListView, wList, wSparse, wDense, wRunEnd, wDictionary}
 use Rattle.columnar.proofs.Test.{member-agrees}
 use Rattle.schema.specs.formats.Code.{between, isInteger, isFixed, isString, isView, isListView, isList, isUnion, isRunEnd, widthOf}
 use Rattle.schema.specs.formats.Types.{numberOf}
 use Rattle.schema.specs.Tree.{children, dictionary, below, bare, childForEach, isValues, endOf, childAt, depth, whole, codeOf, idsOf, valuesShape, endsShape, leafShape, keysShape, listShape, unionShape, runShape, shape, ceilings, typed}
-use Rattle.schema.proofs.Trees.{child-inside, child-is, end-up, end-after, end-inside}
-use Rattle.schema.proofs.Depth.{nested, child-before, child-depth}
+use Rattle.schema.proofs.Trees.{child-inside, child-is, end-up}
+use Rattle.schema.proofs.Depth.{child-depth}
 use Rattle.schema.proofs.Known.{typed-whole, typed-shape, within-depth}
 use Rattle.array_data.specs.Tables.{Tables}
 use Rattle.array_data.specs.Typed.{NodeKind, fixedNode, viewNode, listViewNode, listNode, sparseNode, denseNode, runEndNode, dictionaryNode, Tree, childNode, fieldOf}
@@ -29,55 +29,10 @@ use Rattle.array_data.specs.Sources.{firstOf, nodesOf}
 use Rattle.columns.proofs.Grounds.{Accepted, accepted, some-source, within-low, within-at, typed-at}
 use Rattle.join.specs.Join.{Lending, typeIn}
 use Rattle.join.specs.Stored.{StoredWider, isEnds, CodeWider, same-code, strings, list-views, plain-lists, keys, run-ends, endsAt, NodeWider}
-use Rattle.join.proofs.Stored.{range, ends-range, near, view-kept, string-kept, list-kept, plain-list-kept, run-kept, end-same}
+use Rattle.join.proofs.StoredCodes.{range, ends-range, near, view-kept, string-kept, list-kept, plain-list-kept, run-kept}
+use Rattle.join.proofs.Stored.{end-same}
 use Rattle.array_data.proofs.Names.{idsOr, unionKind}
-
-integer-number : (c : ℕ) → isInteger c ≡ true → T (integer (numberOr (numberOf c)))
-unfolding numberOf
-integer-number zero h = absurd (false≢true h)
-integer-number (suc zero) h = tt
-integer-number (suc (suc zero)) h = tt
-integer-number (suc (suc (suc zero))) h = tt
-integer-number (suc (suc (suc (suc zero)))) h = tt
-integer-number (suc (suc (suc (suc (suc zero))))) h = tt
-integer-number (suc (suc (suc (suc (suc (suc zero)))))) h = tt
-integer-number (suc (suc (suc (suc (suc (suc (suc zero))))))) h = tt
-integer-number (suc (suc (suc (suc (suc (suc (suc (suc zero)))))))) h = tt
-integer-number (suc (suc (suc (suc (suc (suc (suc (suc (suc c))))))))) h =
-    let k = suc (suc (suc (suc (suc (suc (suc (suc (suc c)))))))) in
-    let p = range 1 8 k h in
-    absurd (omega arith)
-
--- ---- the node before the end of a subtree has nothing below it
-
-module _ (schema : List ℕ) (first n : ℕ) (w : whole schema first n ≡ true) (q : ℕ → Bool) (big : (m : ℕ) → m < n → q m ≡ true → 0 < below schema first m) where
-  -- q of the node before
-  abbrev prev : ℕ → Bool
-  prev zero = false
-  prev (suc m) = q m
-
-  prev-after : (e k : ℕ) → k < n → endOf schema first n k ≡ e → prev e ≡ false
-  unfolding childAt
-  prev-after zero k l h = refl
-  prev-after (suc m) k l h = go (q m) refl
-    where
-      go : (b : Bool) → q m ≡ b → b ≡ false
-      go false e = refl
-      go true e =
-          let up = end-after schema first n k l in
-          let top = end-inside schema first n k (omega arith) in
-          let c : suc m < endOf schema first n m = child-before schema first n w m 0 (omega arith) (big m (omega arith) e) in
-          absurd (omega (arith, nested schema first n m k (omega arith) (omega arith)))
-
-  -- a child behind another
-  prev-later : (i j : ℕ) → i < n → suc j < below schema first i → prev (childAt schema first n i (suc j)) ≡ false
-  unfolding childAt
-  prev-later i j l h = prev-after (endOf schema first n (childAt schema first n i j)) (childAt schema first n i j) (child-inside schema first n w i j l (omega arith)) refl
-
-  prev-child : (i j : ℕ) → i < n → j < below schema first i → q i ≡ false → prev (childAt schema first n i j) ≡ false
-  unfolding childAt
-  prev-child i zero l h e = e
-  prev-child i (suc j) l h e = prev-later i j l h
+use Rattle.join.proofs.StoredNodes.{integer-number, prev, prev-later, prev-child, no-run, not-keyed, below-single, bare-single, bare-below}
 
 -- ---- a node and the one stored wider
 
@@ -100,9 +55,6 @@ module _ (formats schema : List ℕ) (x : Tables) (first : ℕ) (formats′ sche
 
   single′ : (i : ℕ) → i < n → eqb (dictionary schema first i) 0 ≡ true → eqb (dictionary schema′ first′ i) 0 ≡ true
   single′ i l h = subst (λ d. eqb d 0 ≡ true) (nodes i l .same-dictionary) h
-
-  not-keyed : (i : ℕ) → eqb (dictionary schema first i) 0 ≡ true → eqb (dictionary schema first i) 1 ≡ true → ⊥
-  not-keyed i z e = let a = eqb-true (dictionary schema first i) 0 z in let b = eqb-true (dictionary schema first i) 1 e in omega arith
 
   -- a number or a byte string, that is no run end
   record PlainAt (i : ℕ) : Type 0 where
@@ -127,7 +79,7 @@ module _ (formats schema : List ℕ) (x : Tables) (first : ℕ) (formats′ sche
       go (strings a b r) = absurd (omega (arith, range 1 10 (code i) h .1, range 11 14 (code i) a .0))
       go (list-views a b r) = absurd (omega (arith, range 1 10 (code i) h .1, range 17 18 (code i) a .0))
       go (plain-lists a b r) = absurd (omega (arith, range 1 10 (code i) h .1, range 19 20 (code i) a .0))
-      go (keys k a b r) = absurd (not-keyed i z k)
+      go (keys k a b r) = absurd (not-keyed schema first i z k)
       go (run-ends k a b r) = absurd (false≢true (sym o ∙ k))
 
   text-at : (i : ℕ) → i < n → isString (code i) ≡ true → PlainAt i
@@ -166,32 +118,11 @@ module _ (formats schema : List ℕ) (x : Tables) (first : ℕ) (formats′ sche
     k-run : (v v′ : ℕ) → v ≤ v′ → kind i ≡ runEndNode v → kind′ i ≡ runEndNode v′ → below schema first i ≡ 2 → below schema first (suc i) ≡ 0 → Kinds i
     k-keys : (k k′ : Number) → KeyWider k k′ → kind i ≡ dictionaryNode k → kind′ i ≡ dictionaryNode k′ → PlainAt (suc i) → Kinds i
 
-  below-single : (i : ℕ) → eqb (dictionary schema first i) 0 ≡ true → below schema first i ≡ children schema first i
-  unfolding below
-  below-single i h = let one : _≡_ {A = ℕ} (cond (eqb (dictionary schema first i) 0) 0 1) 0 = ap (λ b. cond b 0 1) h in omega arith
-
-  bare-single : (i : ℕ) → bare schema first i ≡ true → eqb (dictionary schema first i) 0 ≡ true
-  unfolding bare
-  bare-single i h = both (eqb (children schema first i) 0) (eqb (dictionary schema first i) 0) h .1
-
-  bare-below : (i : ℕ) → bare schema first i ≡ true → below schema first i ≡ 0
-  unfolding bare
-  bare-below i h =
-      let p = both (eqb (children schema first i) 0) (eqb (dictionary schema first i) 0) h in
-      below-single i (p .1) ∙ eqb-true (children schema first i) 0 (p .0)
-
-  no-run : (a b c : ℕ) → between a b c ≡ true → b < 23 → isRunEnd c ≡ false
-  no-run a b c h l = go (isRunEnd c) refl
-    where
-      go : (d : Bool) → isRunEnd c ≡ d → d ≡ false
-      go false e = refl
-      go true e = absurd (omega (arith, range a b c h .1, range 23 23 c e .0))
-
   leaf-kinds : (i : ℕ) → i < n → ended i ≡ false → leafShape formats schema first i ≡ true → Kinds i
   unfolding leafShape
   leaf-kinds i l o h =
       let p = both (isFixed (code i) || isString (code i) || isView (code i)) (bare schema first i) h in
-      go (isFixed (code i) || isString (code i)) refl (p .0) (bare-single i (p .1))
+      go (isFixed (code i) || isString (code i)) refl (p .0) (bare-single schema first i (p .1))
     where
       go : (b : Bool) → isFixed (code i) || isString (code i) ≡ b → b || isView (code i) ≡ true → eqb (dictionary schema first i) 0 ≡ true → Kinds i
       go true e g z = k-plain (plain-at i l o e z)
@@ -202,7 +133,7 @@ module _ (formats schema : List ℕ) (x : Tables) (first : ℕ) (formats′ sche
   list-kinds i l h =
       let p = both ((isListView (code i) || isList (code i)) && eqb (children schema first i) 1) (eqb (dictionary schema first i) 0) h in
       let q = both (isListView (code i) || isList (code i)) (eqb (children schema first i) 1) (p .0) in
-      of (isListView (code i)) refl (q .0) (below-single i (p .1) ∙ eqb-true (children schema first i) 1 (q .1))
+      of (isListView (code i)) refl (q .0) (below-single schema first i (p .1) ∙ eqb-true (children schema first i) 1 (q .1))
     where
       go : isListView (code i) ≡ true → CodeWider (eqb (dictionary schema first i) 1) (ended i) (code i) (code′ i) → widthOf (code i) ≤ widthOf (code′ i)
       go g (same-code e) = subst (λ c. widthOf (code i) ≤ widthOf c) e (le-refl (widthOf (code i)))
@@ -248,10 +179,10 @@ module _ (formats schema : List ℕ) (x : Tables) (first : ℕ) (formats′ sche
       let p = both (isUnion (code i) && childForEach schema first ids i) (eqb (dictionary schema first i) 0) h in
       let q = both (isUnion (code i)) (childForEach schema first ids i) (p .0) in
       let e = union-code i (q .0) (nodes i l .wider-code) in
-      let b = below-single i (p .1) ∙ ids-children ids i (q .1) in
+      let b = below-single schema first i (p .1) ∙ ids-children ids i (q .1) in
       let a = at-union formats schema first i (q .0) in
       let a′ = at-union formats′ schema′ first′ i (subst (λ c. isUnion c ≡ true) e (q .0)) ∙ ap (λ c. unionKind (eqb c 21) (idsOr (idsOf formats′ schema′ first′ i))) (sym e) ∙ ap (λ o. unionKind (eqb (code i) 21) (idsOr o)) (sym (nodes i l .same-ids (q .0))) in
-      go (eqb (code i) 21) (idsOr ids) a a′ b (no-run 21 22 (code i) (q .0) (omega arith)) (ne-eqb (dictionary schema first i) 1 (λ z. not-keyed i (p .1) (subst (λ d. eqb d 1 ≡ true) (sym z) refl)))
+      go (eqb (code i) 21) (idsOr ids) a a′ b (no-run 21 22 (code i) (q .0) (omega arith)) (ne-eqb (dictionary schema first i) 1 (λ z. not-keyed schema first i (p .1) (subst (λ d. eqb d 1 ≡ true) (sym z) refl)))
     where
       go : (b : Bool) (ids : List ℕ) → kind i ≡ unionKind b ids → kind′ i ≡ unionKind b ids → below schema first i ≡ length ids → isRunEnd (code i) ≡ false → eqb (dictionary schema first i) 1 ≡ false → Kinds i
       go true ids e e′ b r d = k-sparse ids e e′ b r d
@@ -285,7 +216,7 @@ module _ (formats schema : List ℕ) (x : Tables) (first : ℕ) (formats′ sche
         (record { key = integer-number (code i) (r .0); key′ = integer-number (code′ i) (c .0); reach = c .1 })
         (at-keys formats schema first i (integer-fixed (code i) (r .0)) many)
         (at-keys formats′ schema′ first′ i (integer-fixed (code′ i) (c .0)) (subst (λ k. eqb k 0 ≡ false) (nodes i l .same-dictionary) many))
-        (plain-at (suc i) m (no-run 1 8 (code i) (r .0) (omega arith)) (s .0) (bare-single (suc i) (s .1)))
+        (plain-at (suc i) m (no-run 1 8 (code i) (r .0) (omega arith)) (s .0) (bare-single schema first (suc i) (s .1)))
       where
         go : isInteger (code i) ≡ true → CodeWider (eqb (dictionary schema first i) 1) (ended i) (code i) (code′ i)
             → (isInteger (code′ i) ≡ true) × (limit (numberOr (numberOf (code i))) ≤ limit (numberOr (numberOf (code′ i))))
@@ -307,10 +238,10 @@ module _ (formats schema : List ℕ) (x : Tables) (first : ℕ) (formats′ sche
         let q = both (a && b) d (p .0) in
         let r = both a b (q .0) in
         let s = both v (bare schema first (suc i)) (p .1) in
-        let two : below schema first i ≡ 2 = below-single i (q .1) ∙ eqb-true (children schema first i) 2 (r .1) in
+        let two : below schema first i ≡ 2 = below-single schema first i (q .1) ∙ eqb-true (children schema first i) 2 (r .1) in
         let m = next-in i l (omega arith) in
-        k-run (widthOf (code (suc i))) (widthOf (code′ (suc i))) (go (s .0) (bare-single (suc i) (s .1)) (nodes (suc i) m .wider-code))
-        (at-run formats schema first i (r .0)) (at-run formats′ schema′ first′ i (run-kept (code i) (code′ i) (near (nodes i l .wider-code)) (r .0))) two (bare-below (suc i) (s .1))
+        k-run (widthOf (code (suc i))) (widthOf (code′ (suc i))) (go (s .0) (bare-single schema first (suc i) (s .1)) (nodes (suc i) m .wider-code))
+        (at-run formats schema first i (r .0)) (at-run formats′ schema′ first′ i (run-kept (code i) (code′ i) (near (nodes i l .wider-code)) (r .0))) two (bare-below schema first (suc i) (s .1))
       where
         go : isEnds (code (suc i)) ≡ true → eqb (dictionary schema first (suc i)) 0 ≡ true
             → CodeWider (eqb (dictionary schema first (suc i)) 1) (ended (suc i)) (code (suc i)) (code′ (suc i)) → widthOf (code (suc i)) ≤ widthOf (code′ (suc i))
@@ -318,7 +249,7 @@ module _ (formats schema : List ℕ) (x : Tables) (first : ℕ) (formats′ sche
         go g z (strings a b r) = r
         go g z (list-views a b r) = r
         go g z (plain-lists a b r) = r
-        go g z (keys k a b r) = absurd (not-keyed (suc i) z k)
+        go g z (keys k a b r) = absurd (not-keyed schema first (suc i) z k)
         go g z (run-ends k a b r) = r
 
     kinds : (i : ℕ) → i < n → ended i ≡ false → shape formats schema first i ≡ true → Kinds i
@@ -392,12 +323,12 @@ module _ (formats schema : List ℕ) (x : Tables) (first : ℕ) (formats′ sche
           (λ h. let p = both (isInteger c && eqb (children schema first m) 0 && eqb (dictionary schema first m) 1) (valuesShape formats schema first (suc m)) h in
           keys-below m (eqb-true _ 1 (both (isInteger c && eqb (children schema first m) 0) (eqb (dictionary schema first m) 1) (p .0) .1)))
           (λ h. let p = both ((isListView c || isList c) && eqb (children schema first m) 1) (eqb (dictionary schema first m) 0) h in
-          let z = below-single m (p .1) ∙ eqb-true _ 1 (both (isListView c || isList c) (eqb (children schema first m) 1) (p .0) .1) in omega arith)
+          let z = below-single schema first m (p .1) ∙ eqb-true _ 1 (both (isListView c || isList c) (eqb (children schema first m) 1) (p .0) .1) in omega arith)
           (λ h. let p = both (isUnion c && childForEach schema first (idsOf formats schema first m) m) (eqb (dictionary schema first m) 0) h in
           absurd (omega (arith, range 23 23 c e .0, range 21 22 c (both (isUnion c) (childForEach schema first (idsOf formats schema first m) m) (p .0) .0) .1)))
           (λ h. let p = both (isRunEnd c && eqb (children schema first m) 2 && eqb (dictionary schema first m) 0) (endsShape formats schema first (suc m)) h in
           let q = both (isRunEnd c && eqb (children schema first m) 2) (eqb (dictionary schema first m) 0) (p .0) in
-          let z = below-single m (q .1) ∙ eqb-true _ 2 (both (isRunEnd c) (eqb (children schema first m) 2) (q .0) .1) in omega arith)
+          let z = below-single schema first m (q .1) ∙ eqb-true _ 2 (both (isRunEnd c) (eqb (children schema first m) 2) (q .0) .1) in omega arith)
         where
           none-of : (a b : ℕ) → b < 23 → between a b (code m) ≡ true → ⊥
           none-of a b s h = omega (arith, range 23 23 (code m) e .0, range a b (code m) h .1)
