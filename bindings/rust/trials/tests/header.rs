@@ -7,6 +7,9 @@ use std::collections::BTreeMap;
 const HEADER: &str = include_str!("../../../../include/lafkuno.h");
 const RUST: &str = concat!(
     include_str!("../../lafkuno/src/calls.rs"),
+    include_str!("../../lafkuno/src/calls/beside.rs"),
+    include_str!("../../lafkuno/src/calls/codings.rs"),
+    include_str!("../../lafkuno/src/calls/measuring.rs"),
     include_str!("../../lafkuno/src/calls/trips.rs"),
     include_str!("../../lafkuno/src/calls/why.rs"),
     include_str!("../../lafkuno/src/calls/reclaiming.rs"),
