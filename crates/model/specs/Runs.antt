@@ -28,7 +28,7 @@ lastEnd w x = startOf (item w (x .«data»)) (x .len)
 abbrev pub moreEnds : List ℕ → ℕ → Mutable (List ℕ) → Mutable (List ℕ)
 moreEnds new n x = record { len = x .len + n; null_count = x .null_count; bits = x .bits; «data» = x .«data» ++ new }
 
--- a is the array's offset + start: "a run-end row [is that] above offset + row"
+-- a is the array's offset + start: "a run-end row [is that] above offset + row"; new: "clipped runs, equal neighbours not joined", behind the last end
 abbrev pub runsExtend : {P D : Type 0} → ℕ → (ℕ → ℕ → Mutable D → Try (Mutable D)) → RunEnd P → ℕ → ℕ → Runs D → Try (Runs D)
 runsExtend w extend s a zero d = done d
 runsExtend w extend s a (suc n) d =
