@@ -206,11 +206,23 @@ fn best<const N: usize>(mut sides: [&mut dyn FnMut(); N]) -> [f64; N] {
     times
 }
 
-fn verdict(ratio: f64, goal: f64) -> &'static str {
-    if ratio <= goal {
-        "met"
-    } else {
-        "missed"
+// A row of the table; a goal where one is set.
+fn tell(name: &str, ours: f64, plain: f64, goal: Option<f64>) {
+    let ratio = ours / plain;
+    let verdict = match goal {
+        Some(goal) if ratio <= goal => format!("{goal:.1} | met |"),
+        Some(goal) => format!("{goal:.1} | missed |"),
+        None => " | |".to_string(),
+    };
+    println!("| {name} | {ours:.0} | {plain:.0} | {ratio:.2} | {verdict}");
+}
+
+// Rows of a list-view or a dense union that follow one another are to be copied as one.
+fn goal_of_one(name: &str) -> f64 {
+    match name {
+        _ if name.contains("shuffled") => 1.3,
+        _ if name.starts_with("list-view") || name.starts_with("dense") => 0.4,
+        _ => 0.9,
     }
 }
 
@@ -257,13 +269,11 @@ fn measure(random: &mut Random, name: &str, ty: &str) {
         },
     ]);
     let plain_many = plain_many - plain_open;
-    for (orders, ours, plain) in
-        [("one order", ours_one, plain_one - plain_open), ("64 orders", ours_many, plain_many), ("64 orders as one list", ours_list, plain_many)]
-    {
-        let ratio = ours / plain;
-        println!("| {name}, {orders} | {ours:.0} | {plain:.0} | {ratio:.2} | 1.0 | {} |", verdict(ratio, 1.0));
-    }
-    println!("| {name}, opening (of which checking {check:.0}) | {ours_open:.0} | {plain_open:.0} | | | |");
+    tell(&format!("{name}, one order"), ours_one, plain_one - plain_open, Some(goal_of_one(name)));
+    tell(&format!("{name}, 64 orders"), ours_many, plain_many, Some(1.3));
+    tell(&format!("{name}, 64 orders as one list"), ours_list, plain_many, None);
+    // the check varies by some ns, so that less than nothing may be left of an opening
+    tell(&format!("{name}, opening without its check of {check:.0}"), (ours_open - check).max(0.0), plain_open, Some(1.0));
 }
 
 fn measure_nulls(random: &mut Random, name: &str, ty: &str) {
@@ -287,10 +297,8 @@ fn measure_nulls(random: &mut Random, name: &str, ty: &str) {
             black_box(open_keeping(black_box(&arrays)));
         },
     ]);
-    for (orders, ours, plain) in [("one null order", ours_one, plain_one - plain_open), ("64 null orders", ours_many, plain_many - plain_open)] {
-        let ratio = ours / plain;
-        println!("| {name}, {orders} | {ours:.0} | {plain:.0} | {ratio:.2} | 1.0 | {} |", verdict(ratio, 1.0));
-    }
+    tell(&format!("{name}, one null order"), ours_one, plain_one - plain_open, Some(1.0));
+    tell(&format!("{name}, 64 null orders"), ours_many, plain_many - plain_open, Some(1.0));
 }
 
 // The finished columns are the same. A kept dictionary stays in the body: then the rows are compared.
@@ -323,8 +331,7 @@ fn against_memcpy(random: &mut Random) {
             black_box(&mut room[to..to + n]).copy_from_slice(black_box(&lent.body[from..from + n]));
         },
     ]);
-    let (ratio, goal) = (a / b, 1.2);
-    println!("| i32, one order against memcpy of {n} bytes | {a:.0} | {b:.0} | {ratio:.2} | {goal} | {} |", verdict(ratio, goal));
+    tell(&format!("i32, one order against memcpy of {n} bytes"), a, b, Some(1.1));
 }
 
 fn main() {
@@ -351,6 +358,7 @@ fn main() {
         ("list of byte strings", "+l(u)"),
         ("list-view of byte strings", "+vl(u)"),
         ("list-view of byte strings, rows shuffled", "+vl(u)"),
+        ("list-view of list-views of i32", "+vl(+vl(i))"),
         ("dense union of three", "+ud:0,1,2(i, u, g)"),
         ("dense union of three, rows shuffled", "+ud:0,1,2(i, u, g)"),
         ("run ends over a dictionary, joined", "+r(i, S[u])"),
