@@ -89,8 +89,10 @@ fn join(seed: u64, most: &mut Most) {
     most.note("running_nulls", || calls::running_nulls(&counters));
     most.note("column_ground", || calls::column_ground(&x, 0, nodes as u32));
     most.note("open_column", || calls::open_column(&x, 0, nodes as u32, &mut tree));
+    let whole = (0, nodes as u32);
     for row in 0..sources[0].length {
         let _ = most.note("read_row", || calls::read_row(&tree, &x, 0, row));
+        most.note("same_row", || calls::same_row(&x, whole, whole, row, row, &mut [0]));
     }
 }
 

@@ -66,10 +66,11 @@ enum lafkuno_ground {
 /* The state of a join: two slices of these many numbers. The opening writes both, orders change the counters alone. */
 #define LAFKUNO_PLAN 872
 #define LAFKUNO_COUNTERS 96
-/* The tree of an opened column, a row's answer, and a run's. */
+/* The tree of an opened column, a row's answer, a run's, and that of two rows. */
 #define LAFKUNO_TREE 256
 #define LAFKUNO_ANSWER 12
 #define LAFKUNO_RUN 2
+#define LAFKUNO_SAME 1
 #define LAFKUNO_WHY 5
 
 /* A list of orders: the most that it has, and the numbers of each: LAFKUNO_ORDER_COPY, the source, start and end; or LAFKUNO_ORDER_NULLS,
@@ -313,6 +314,20 @@ uint8_t lafkuno_run_at(const uint8_t *formats, size_t formats_len, const uint32_
 uint8_t lafkuno_read_run(const uint64_t *tree, size_t tree_len, const uint64_t *lengths, size_t lengths_len,
                          const uint64_t *places, size_t places_len, const uint8_t *body, size_t body_len,
                          uint32_t first, uint64_t row, uint64_t *answer, size_t answer_len);
+
+/* Whether two rows read the same, of columns of numbers (c C s S i I l L f g, no keys) or run-end columns of such values: whole numbers by their
+ * value, whatever their widths; floats by their bits, so that -0.0 is not 0.0, and a NaN is the same as one of the same bits; a null as a null,
+ * whatever stands under it. A whole number, an f32 and an f64 are never the same. 9, 10 and 12 for a malformed column, then 2 for a row that is
+ * not below its column's length, 10 for a column that is not one of numbers, each asked of both columns before the next; last 14 where answer_len
+ * is not LAFKUNO_SAME.
+ *   first_a   the first node of a column; n_a, how many nodes it has; row_a, its row.
+ *   first_b   the first node of another, or of the same; n_b, how many nodes it has; row_b, its row.
+ *   answer    is written: 1 where they read the same, else 0. */
+uint8_t lafkuno_same_row(const uint8_t *formats, size_t formats_len, const uint32_t *schema, size_t schema_len,
+                         const uint64_t *lengths, size_t lengths_len, const uint64_t *places, size_t places_len,
+                         const uint64_t *buffers, size_t buffers_len, const uint8_t *body, size_t body_len,
+                         uint32_t first_a, uint32_t n_a, uint32_t first_b, uint32_t n_b, uint64_t row_a, uint64_t row_b,
+                         uint64_t *answer, size_t answer_len);
 
 /* ---- beside the join */
 

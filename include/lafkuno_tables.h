@@ -221,6 +221,12 @@ static inline uint8_t lafkuno_tables_read_run(const struct lafkuno_tables *t, co
                             answer, LAFKUNO_RUN);
 }
 
+/* lafkuno_same_row: whether row_a of one column of numbers and row_b of another read the same, 1 or 0. */
+static inline uint8_t lafkuno_tables_same_row(const struct lafkuno_tables *t, uint32_t first_a, uint32_t n_a, uint32_t first_b, uint32_t n_b,
+                                              uint64_t row_a, uint64_t row_b, uint64_t *answer) {
+    return lafkuno_same_row(LAFKUNO_COLUMN_TABLES(t), first_a, n_a, first_b, n_b, row_a, row_b, answer, LAFKUNO_SAME);
+}
+
 /* lafkuno_frame: the frame of rows start to end - 1 of latitudes (a) and longitudes (b), four numbers. */
 static inline uint8_t lafkuno_tables_frame(const struct lafkuno_tables *t, uint32_t first_a, uint32_t n_a, uint32_t first_b, uint32_t n_b,
                                            uint64_t start, uint64_t end, double *frame) {

@@ -163,7 +163,7 @@ static void lists(void) {
     end(r);
 }
 
-/* The box around three points; total over total of two columns of whole numbers. */
+/* The box around three points; total over total of two columns of whole numbers, and two of their rows. */
 static void beside(void) {
     const double points[6] = {55.5, 54.25, 56, -3, -3.5, -2};
     const uint8_t numbers[4] = {6, 9, 5, 5};
@@ -174,11 +174,16 @@ static void beside(void) {
     const struct lafkuno_tables t = {sources, 2, (const uint8_t *)"g", 1, schema, 10, lengths, 4, places, 18, buffers, 0, (const uint8_t *)points, sizeof points};
     const struct lafkuno_tables u = {sources, 2, (const uint8_t *)"C", 1, schema, 10, short_lengths, 4, short_places, 18, buffers, 0, numbers, 4};
     double frame[4];
-    uint64_t ratio[LAFKUNO_RATIO];
+    uint64_t ratio[LAFKUNO_RATIO], same[LAFKUNO_SAME];
     expect("frame", lafkuno_tables_frame(&t, 0, 1, 1, 1, 0, 2, frame), LAFKUNO_DONE);
     expect("its sides", frame[0] == 54.25 && frame[1] == 55.5 && frame[2] == -3.5 && frame[3] == -3, 1);
     expect("ratio", lafkuno_tables_ratio(&u, 0, 1, 1, 1, 0, 2, ratio), LAFKUNO_DONE);
     expect("3 over 2", ratio[0] == 2 && ratio[1] == 15 && ratio[2] == 10 && ratio[4] == 3 && ratio[5] == 2, 1);
+    expect("same row", lafkuno_tables_same_row(&u, 1, 1, 1, 1, 0, 1, same), LAFKUNO_DONE);
+    expect("5 and 5", same[0], 1);
+    expect("other row", lafkuno_tables_same_row(&u, 0, 1, 1, 1, 0, 1, same), LAFKUNO_DONE);
+    expect("6 and 5", same[0], 0);
+    expect("no third row", lafkuno_tables_same_row(&t, 0, 1, 1, 1, 0, 3, same), LAFKUNO_NO_SUCH_ROWS);
     expect("numbers as points", lafkuno_tables_frame(&u, 0, 1, 1, 1, 0, 2, frame), LAFKUNO_UNKNOWN_TYPE);
 }
 

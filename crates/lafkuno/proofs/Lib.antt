@@ -3,3 +3,4 @@ pub mod Laws
 pub mod FrameCalls
 pub mod TripCalls
 pub mod Sums
+pub mod SameCalls

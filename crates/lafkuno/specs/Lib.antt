@@ -3,3 +3,4 @@ pub mod Calls
 pub mod Beside
 pub mod Trips
 pub mod Sums
+pub mod Same

@@ -12,7 +12,7 @@ use Rattle.aggregates.specs.declared.RatioReport.{RatioReport}
 use Rattle.aggregates.specs.declared.RatioAnswer.{RatioAnswer}
 use Rattle.aggregates.specs.declared.RatioAnswer.the-variants as ratio
 
--- 1 for minus
+-- 1 for yes; of a fraction, for minus
 abbrev pub flagOf : Bool → ℕ
 flagOf b = cond b 1 0
 

@@ -21,6 +21,7 @@ use plan::parts::Spot;
 mod beside;
 mod means;
 mod reading;
+mod same;
 mod trips;
 
 // ---- opening a join

@@ -37,7 +37,7 @@ fn ratio_words(r: RatioReport) -> [u64; 6]
     ]
 }
 
-fn flag(b: bool) -> u64
+pub fn flag(b: bool) -> u64
     ensures { λ r. ⌜ r ≡ flagOf b ⌝ }
 {
     if b { 1 } else { 0 }

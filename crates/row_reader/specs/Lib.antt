@@ -2,4 +2,5 @@
 pub mod Walk
 pub mod meaning
 pub mod column_reader
+pub mod row_pair
 pub mod runs

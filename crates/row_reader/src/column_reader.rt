@@ -35,7 +35,7 @@ pub fn open_column(
 }
 
 // A copy; that it has 256 elements is known of an array that a call returns.
-fn copied(tree: [u64; 256]) -> [u64; 256]
+pub fn copied(tree: [u64; 256]) -> [u64; 256]
     ensures { λ r. ⌜ r ≡ tree ⌝ }
 {
     tree

@@ -1,6 +1,7 @@
 // One row of a lent column, read from the top of the tree downward, at most eight levels.
 pub mod column_reader;
 pub mod meaning;
+pub mod row_pair;
 pub mod runs;
 mod unions;
 

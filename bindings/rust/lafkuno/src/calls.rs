@@ -11,7 +11,7 @@ mod reclaiming;
 mod trips;
 mod why;
 
-pub use beside::{frame, join_frames, mean, ratio};
+pub use beside::{frame, join_frames, mean, ratio, same_row};
 pub use codings::{encode, expand, plan_encode, plan_expand, Range};
 pub use converting::{convert, list_view_child, plan_convert, Into, Target};
 pub use measuring::{measure_copy, measure_nulls, measure_open, needed_bytes};

@@ -42,6 +42,7 @@ mod orders;
 mod refusal;
 mod rows;
 mod rules;
+mod same;
 mod sums;
 pub mod text;
 mod trim;

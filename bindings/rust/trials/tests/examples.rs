@@ -103,6 +103,18 @@ fn runs_and_plain_rows() {
 }
 
 #[test]
+fn rows_that_differ() {
+    let same = |a: &str, b: &str, rows: &str| run(&["same", "ignition.columns", a, b, rows]);
+    assert_eq!(text(&same("old", "new", "0..6").stdout), "1: 1, 0\n3: null, 0\n5: 0, null\nsame 3 of 6\n");
+    assert_eq!(text(&same("new", "new", "0..6").stdout), "same 6 of 6\n");
+    let output = same("old", "new", "0..7");
+    assert_eq!(output.status.code(), Some(1));
+    assert!(text(&output.stderr).contains("ground 2"));
+    assert_eq!(same("old", "new", "4..3").status.code(), Some(1));
+    assert_eq!(same("old", "newer", "0..6").status.code(), Some(2));
+}
+
+#[test]
 fn a_box() {
     let boxed = |rows: &str| run(&["box", "trip.box", "latitudes", "longitudes", rows]);
     assert_eq!(text(&boxed("0..4").stdout), "latitude 55.94 to 55.97, longitude -3.2 to -3.17\n");

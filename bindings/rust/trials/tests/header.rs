@@ -20,6 +20,7 @@ const RATTLE: &str = concat!(
     include_str!("../../../../crates/lafkuno/src/beside.rt"),
     include_str!("../../../../crates/lafkuno/src/means.rt"),
     include_str!("../../../../crates/lafkuno/src/reading.rt"),
+    include_str!("../../../../crates/lafkuno/src/same.rt"),
     include_str!("../../../../crates/lafkuno/src/trips.rt"),
     include_str!("../../../../crates/lafkuno_why/src/lib.rt"),
     include_str!("../../../../crates/lafkuno_anew/src/codings.rt"),
@@ -109,7 +110,7 @@ fn rattle() -> BTreeMap<String, (Vec<String>, String)> {
 fn the_same_calls() {
     let _: u64 = Position::MAX;
     let (header, library) = (header(), library());
-    assert_eq!(header.len(), 41);
+    assert_eq!(header.len(), 42);
     assert_eq!(header, library);
     let types = header.into_iter().map(|(name, (parameters, answer))| (name, (parameters.into_iter().map(|(ty, _)| ty).collect(), answer)));
     assert_eq!(types.collect::<BTreeMap<_, _>>(), rattle());

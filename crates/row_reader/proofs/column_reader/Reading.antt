@@ -43,6 +43,9 @@ module _ (formats schema : List ℕ) (x : Tables) (first n : ℕ) where
       let r = chosen (obeys formats schema x first n) 0 12 (omega arith) (q .1) in
       record { within = both (smallBody (x .body)) (withinCeilings formats schema x first n) (p .0) .1; of-type = q .0; obeying = r .0 }
 
+  pub accepted-typed : columnGround formats schema x first n ≡ 0 → typed formats schema first n ≡ true
+  accepted-typed h = passed h .of-type
+
   rule-is : obeys formats schema x first n ≡ true → sourceRule (treeOf formats schema first n) (tablesFrom x first) ≡ true
   unfolding obeys
   rule-is h = h

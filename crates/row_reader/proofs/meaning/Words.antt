@@ -113,7 +113,7 @@ isUnionKind (denseNode ids) = true
 isUnionKind (runEndNode w) = false
 isUnionKind (dictionaryNode m) = false
 
-abbrev isRunKind : NodeKind → Bool
+abbrev pub isRunKind : NodeKind → Bool
 isRunKind (fixedNode m) = false
 isRunKind (stringNode w) = false
 isRunKind viewNode = false
@@ -154,7 +154,7 @@ few-by (some ids) f = f .few
 -- ---- the words of a tree that passes
 
 module _ (formats schema : List ℕ) (first n : ℕ) where
-  code-low : (i : ℕ) → codeOf formats schema first i ≤ lastCode
+  pub code-low : (i : ℕ) → codeOf formats schema first i ≤ lastCode
   unfolding codeOf
   code-low i =
       let at = field schema (first + i) 0 in
@@ -173,7 +173,7 @@ module _ (formats schema : List ℕ) (first n : ℕ) where
   unfolding kindAt
   dense-ids i ids e = kind-ids (codeOf formats schema first i) (eqb (dictionary schema first i) 0) (idsOf formats schema first i) (codeOf formats schema first (suc i)) (denseNode ids) e refl
 
-  coded : (i : ℕ) → shape formats schema first i ≡ true → 1 ≤ codeOf formats schema first i
+  pub coded : (i : ℕ) → shape formats schema first i ≡ true → 1 ≤ codeOf formats schema first i
   unfolding shape leafShape keysShape listShape unionShape runShape
   coded i h = go (leb 1 (codeOf formats schema first i)) refl
     where

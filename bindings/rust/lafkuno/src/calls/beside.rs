@@ -1,8 +1,13 @@
-//! Frames and exact sums.
+//! Two rows, frames and exact sums.
 
 use super::{Position, Tables};
 
 extern "C" {
+    fn lafkuno_same_row(
+        formats: *const u8, formats_len: usize, schema: *const u32, schema_len: usize, lengths: *const u64, lengths_len: usize,
+        places: *const Position, places_len: usize, buffers: *const Position, buffers_len: usize, body: *const u8, body_len: usize,
+        first_a: u32, n_a: u32, first_b: u32, n_b: u32, row_a: u64, row_b: u64, answer: *mut u64, answer_len: usize,
+    ) -> u8;
     fn lafkuno_frame(
         formats: *const u8, formats_len: usize, schema: *const u32, schema_len: usize, lengths: *const u64, lengths_len: usize,
         places: *const Position, places_len: usize, buffers: *const Position, buffers_len: usize, body: *const u8, body_len: usize,
@@ -21,6 +26,18 @@ extern "C" {
         places: *const Position, places_len: usize, buffers: *const Position, buffers_len: usize, body: *const u8, body_len: usize,
         first_a: u32, n_a: u32, first_b: u32, n_b: u32, start: u64, end: u64, answer: *mut u64, answer_len: usize,
     ) -> u8;
+}
+
+/// 1 where row `row_a` of one column of numbers and row `row_b` of another read the same, else 0: the ground where it is refused. A column is
+/// its first node and how many nodes it has.
+pub fn same_row(x: &Tables, a: (u32, u32), b: (u32, u32), row_a: u64, row_b: u64, answer: &mut [u64]) -> u8 {
+    unsafe {
+        lafkuno_same_row(
+            x.formats.as_ptr(), x.formats.len(), x.schema.as_ptr(), x.schema.len(), x.lengths.as_ptr(), x.lengths.len(),
+            x.places.as_ptr(), x.places.len(), x.buffers.as_ptr(), x.buffers.len(), x.body.as_ptr(), x.body.len(),
+            a.0, a.1, b.0, b.1, row_a, row_b, answer.as_mut_ptr(), answer.len(),
+        )
+    }
 }
 
 /// The frame of the rows `start .. end` of two columns, each by its first node and its count of nodes: smallest and largest of the first,

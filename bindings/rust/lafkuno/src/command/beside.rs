@@ -1,7 +1,7 @@
-//! Calls on columns of a file, beside the join: `lafkuno box`, `lafkuno mean`, `lafkuno fuel`, `lafkuno encode`, `lafkuno expand`, `lafkuno reclaim`.
+//! Calls on columns of a file, beside the join: `lafkuno box`, `lafkuno mean`, `lafkuno fuel`, `lafkuno same`, `lafkuno encode`, `lafkuno expand`, `lafkuno reclaim`.
 
 use super::{convert, join, mistake, print, status, Command, Words};
-use lafkuno::{mean, ratio, text, Column, Error, RunEnds};
+use lafkuno::{mean, ratio, text, Column, Error, Ground, Lent, RunEnds, Type};
 use std::ops::Range;
 
 pub const BOX: Command = Command {
@@ -38,6 +38,33 @@ lafkuno fuel FILE FUEL DISTANCE START..END
         })
     },
 };
+
+pub const SAME: Command = Command {
+    word: "same",
+    usage: "\
+lafkuno same FILE A B START..END          the rows that don't read the same in two columns of numbers, plain or as runs, a line each;
+                                          and how many do",
+    run: |words| asked("same", "A B", words, compared),
+};
+
+/// The rows in which two columns differ, with what each has there.
+fn compared(columns: [&Column; 2], rows: Range<u64>) -> Result<String, Error> {
+    if rows.end < rows.start {
+        return Err(Error::Refused(Ground::NoSuchRows));
+    }
+    let (lent, types) = (Lent::lay(&columns)?, columns.map(Column::ty));
+    let (mut lines, mut same) = (vec![], 0);
+    for row in rows.clone() {
+        if lent.same_row((0, row), (1, row))? {
+            same += 1;
+        } else {
+            let [a, b] = [0, 1].map(|k| row_of(columns[k], &types[k], row));
+            lines.push(format!("{row}: {a}, {b}"));
+        }
+    }
+    lines.push(format!("same {same} of {}", rows.end - rows.start));
+    Ok(lines.join("\n"))
+}
 
 pub const ENCODE: Command = Command {
     word: "encode",
@@ -96,8 +123,11 @@ fn in_file(word: &str, words: &Words, out: &str, anew: impl Fn(&Column) -> Resul
 /// The rows of a column as text.
 fn rows_of(column: &Column) -> Vec<String> {
     let ty = column.ty();
-    let row = |i| column.row(i).map_or("(can't be read)".into(), |row| text::show(&ty, &row));
-    (0..column.length).map(row).collect()
+    (0..column.length).map(|i| row_of(column, &ty, i)).collect()
+}
+
+fn row_of(column: &Column, ty: &Type, i: u64) -> String {
+    column.row(i).map_or("(can't be read)".into(), |row| text::show(ty, &row))
 }
 
 pub const RECLAIM: Command = Command {

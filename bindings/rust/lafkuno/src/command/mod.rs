@@ -28,6 +28,7 @@ pub const ALL: &[Command] = &[
     beside::BOX,
     beside::MEAN,
     beside::FUEL,
+    beside::SAME,
     beside::ENCODE,
     beside::EXPAND,
     beside::RECLAIM,

@@ -1,0 +1,2 @@
+-- The definitions that the contracts of `row_reader::row_pair` cite.
+pub mod Same
