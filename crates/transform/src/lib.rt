@@ -99,7 +99,8 @@ fn copy_rows(
     ensures { λ r. ⌜ ((sources : List ℕ) → Answers (settled (lent (now (plan .entry)) (now (parts .entry)) sources (now (lengths .entry)) (now (places .entry)) (now (body .entry))) (now (counters .entry)) (now (room .entry)) (copyWalk (join (now (plan .entry)) (now (parts .entry)) (now (lengths .entry)) (now (places .entry)) (now (body .entry)) first source) 8 0 start n (now (counters .entry)))) r (now (counters .exit)) (now (room .exit))) ⌝ }
 {
     let nodes = plan::parts::node_count(plan);
-    let mut tally = tried_counters::uncounted(counters, nodes);
+    let mut tally = [0u64; plan_words::COUNTERS];
+    tried_counters::uncounted(&mut tally, counters, nodes);
     let g = extend::extend(
         plan,
         parts,

@@ -1,14 +1,14 @@
 -- Plans whose nulls go a shorter way, and that of run ends over numbers: it is sound. Assumes nothing.
-use mathlib.Core.Path.{_≡_, refl, sym, ap, _∙_}
+use mathlib.Core.Path.{_≡_, refl, sym}
 use mathlib.Core.Bool.{Bool, true, false, not, cond, _&&_, _||_}
 use mathlib.Core.List.{List}
-use Prim.Native.Nat.{ℕ, suc, _+_, _-_, _≤_, _<_}
+use Prim.Native.Nat.{ℕ, suc, _+_, _-_, _<_}
 use native.Mathlib.Omega.{arith}
-use lib.Dec.{leb, ltb, eqb}
-use borrow.Author.Tests.{eqb-true, eq-eqb, le-leb, lt-ltb, ltb-true}
+use lib.Dec.{ltb, eqb}
+use borrow.Author.Tests.{eqb-true, ltb-true}
 use Rattle.schema.specs.formats.Code.{isFixed, widthOf}
 use Rattle.array_data.proofs.lent_tables.Laws.{and-left, and-right}
-use Rattle.walk.specs.State.{codeOf, dictionaryOf, endOf, bytesOf}
+use Rattle.walk.specs.State.{codeOf, dictionaryOf, endOf}
 use Rattle.walk.specs.Copy.{isWidth}
 use Rattle.plan.specs.parts.Parts.{nodesOf, bufferCount, copied, hasPart, partWithin, partHolds, partsWithin, partsHold}
 use Rattle.plan.specs.grounds.Verdict.{verdict, worseOf}

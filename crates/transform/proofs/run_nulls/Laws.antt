@@ -1,5 +1,5 @@
 -- Nulls of run ends over numbers, tried and made. Assumes nothing.
-use mathlib.Core.Path.{_≡_, refl, sym, ap, subst, _∙_}
+use mathlib.Core.Path.{_≡_, refl, sym, ap, _∙_}
 use mathlib.Core.Bool.{Bool, true, false, not, cond, _&&_}
 use mathlib.Core.List.{List, []}
 use Prim.Native.Nat.{ℕ, _+_, _*_, _≤_, _<_}
@@ -9,9 +9,9 @@ use lib.Seq.{getD-set-same, getD-set-other}
 use lib.Dec.{ltb, eqb}
 use borrow.Author.Tests.{lt-ltb}
 use Rattle.columnar.specs.Types.{half}
-use Rattle.schema.specs.formats.Code.{isFixed, widthOf}
-use Rattle.walk.specs.State.{Join, codeOf, keepsOf, bytesOf, rows, nulls, gap, grown, addRows, addNulls, setBytes, beginGap, top}
-use Rattle.walk.specs.Log.{Out, Did, applyIf, done}
+use Rattle.schema.specs.formats.Code.{isFixed}
+use Rattle.walk.specs.State.{Join, codeOf, keepsOf, bytesOf, rows, nulls, gap, grown, addRows, addNulls, beginGap, top}
+use Rattle.walk.specs.Log.{Did, applyIf, done}
 use Rattle.walk.specs.Leaves.{nullMask, countNulls}
 use Rattle.walk.specs.Copy.{isWidth, masked}
 use Rattle.walk.specs.Nulls.{nullData, nullWalk}
