@@ -104,6 +104,9 @@ fn node_ground(plan: &[u64], counters: &[u64], parts: &[u64], m: usize, i: usize
 pub fn parts_ground(plan: &[u64], counters: &[u64], parts: &[u64], m: usize) -> u8
     ensures { λ r. ⌜ r ≡ cond (partsWithin (now (plan .entry)) (now (parts .entry)) m) (cond (partsHold (now (plan .entry)) (now (counters .entry)) (now (parts .entry))) 0 13) 14 ⌝ }
 {
+    if crate::fine::all_fine(plan, counters, parts, m) {
+        return 0;
+    }
     let n = crate::parts::node_count(plan);
     let mut g: u8 = 0;
     let mut i = 0;

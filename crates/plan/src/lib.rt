@@ -1,5 +1,6 @@
 // The plan of a join as the opening plans it, before any dictionary is joined: one function for each kind of word.
 pub mod dictionaries;
+mod fine;
 pub mod grounds;
 pub mod parts;
 pub mod placed;

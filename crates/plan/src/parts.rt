@@ -205,10 +205,16 @@ pub fn entry_size(code: u8) -> u8
     schema::formats::width_of(code)
 }
 
+// So many offsets of at most 255 bytes each have fewer than 2^64 bytes.
+const FEW: u64 = 72057594037927935;
+
 // Whether the offsets of r rows, one more than rows, fit into a size; no sum and no product is made.
 fn offsets_fit(r: u64, w: u8, size: u64) -> bool
     ensures { λ s. ⌜ s ≡ leb ((r + 1) * w) size ⌝ }
 {
+    if r < FEW {
+        return (r + 1) * (w as u64) <= size;
+    }
     if w == 0 {
         return true;
     }

@@ -6,8 +6,10 @@ mod leaf_bits;
 mod leaf_counters;
 mod leaf_nulls;
 mod leaf_rows;
+mod null_ways;
 mod number_nulls;
 mod numbers;
+mod run_nulls;
 mod stretches;
 mod tried_counters;
 
@@ -24,7 +26,7 @@ ghost use Rattle.leaf_walk.specs.Join.{join};
 ghost use Rattle.refinement.specs.orders.Sound.{walkable};
 ghost use Rattle.refinement.specs.orders.Order.{settled, copyOrder, nullOrder};
 ghost use Rattle.transform.specs.Answer.{lent, Answers};
-ghost use Rattle.transform.specs.numbers.Plan.{oneOfNumbers};
+ghost use Rattle.transform.specs.numbers.Plan.{oneOfNumbers, firstOfNumbers, runsOfNumbers};
 use array_data::lent_tables;
 use plan::grounds;
 use walk::plan_words;
@@ -97,7 +99,8 @@ fn copy_rows(
     ensures { λ r. ⌜ ((sources : List ℕ) → Answers (settled (lent (now (plan .entry)) (now (parts .entry)) sources (now (lengths .entry)) (now (places .entry)) (now (body .entry))) (now (counters .entry)) (now (room .entry)) (copyWalk (join (now (plan .entry)) (now (parts .entry)) (now (lengths .entry)) (now (places .entry)) (now (body .entry)) first source) 8 0 start n (now (counters .entry)))) r (now (counters .exit)) (now (room .exit))) ⌝ }
 {
     let nodes = plan::parts::node_count(plan);
-    let mut tally = tried_counters::uncounted(counters, nodes);
+    let mut tally = [0u64; plan_words::COUNTERS];
+    tried_counters::uncounted(&mut tally, counters, nodes);
     let g = extend::extend(
         plan,
         parts,
@@ -336,14 +339,17 @@ fn add_null_range(
     parts: &[u64],
     counters: &mut [u64],
     room: &mut [u8],
-    plain: bool,
+    way: u8,
     n: u64,
 ) -> u8
-    requires { ⌜ (length (now counters) ≡ 96) × (plain ≡ oneOfNumbers (now plan)) × (walkable (now plan) (length (now room)) ≡ true) ⌝ }
+    requires { ⌜ (length (now counters) ≡ 96) × (way ≡ 1 → firstOfNumbers (now plan) ≡ true) × (way ≡ 2 → runsOfNumbers (now plan) ≡ true) × (walkable (now plan) (length (now room)) ≡ true) ⌝ }
     ensures { λ r. ⌜ ((sources lengths places body : List ℕ) → Answers (settled (lent (now (plan .entry)) (now (parts .entry)) sources lengths places body) (now (counters .entry)) (now (room .entry)) (nullWalk (join (now (plan .entry)) (now (parts .entry)) [] [] [] 0 0) 8 0 n (now (counters .entry)))) r (now (counters .exit)) (now (room .exit))) ⌝ }
 {
-    if (n != 0) & plain {
+    if (way == null_ways::NUMBERS) & (n != 0) {
         return number_nulls::add_number_nulls(plan, parts, counters, room, n);
+    }
+    if (way == null_ways::RUNS) & (n != 0) & (lent_tables::at_u64(counters, 2) == 0) {
+        return run_nulls::add_run_nulls(plan, parts, counters, room, n);
     }
     if (n != 0) & schema::formats::within(plan_words::code_of(plan, 0), 1, 16) {
         return leaf_nulls::add_leaf_nulls(plan, parts, counters, room, n);
@@ -364,12 +370,13 @@ pub fn try_extend_nulls(
     if counters.len() != plan_words::COUNTERS {
         return 14;
     }
-    let plain = numbers::is_numbers(plan);
-    if !numbers::is_walkable(plan, room.len(), plain) {
+    let way = null_ways::way_of(plan);
+    let known = (way == null_ways::NUMBERS) | (way == null_ways::RUNS);
+    if !numbers::is_walkable(plan, room.len(), known) {
         return 14;
     }
     if plan_words::keeps_of(plan, 0) == 0 {
         return 3;
     }
-    add_null_range(plan, parts, counters, room, plain, at_most_far(n))
+    add_null_range(plan, parts, counters, room, way, at_most_far(n))
 }

@@ -1,4 +1,4 @@
-// Nulls of a type that is one node of numbers: the parts are asked of that node alone, and its zeros written where the order stands.
+// Nulls of a type whose first node is of numbers or keys and has all parts: the parts are asked of that node alone, and its zeros written where the order stands.
 ghost use mathlib.Core.Path.{_≡_};
 ghost use mathlib.Core.List.{List, []};
 ghost use mathlib.Core.Bool.{true};
@@ -12,7 +12,7 @@ ghost use Rattle.leaf_walk.specs.Join.{join};
 ghost use Rattle.plan.specs.parts.Parts.{entrySize};
 ghost use Rattle.refinement.specs.orders.Order.{settled};
 ghost use Rattle.transform.specs.Answer.{lent, Answers};
-ghost use Rattle.transform.specs.numbers.Plan.{oneOfNumbers};
+ghost use Rattle.transform.specs.numbers.Plan.{firstOfNumbers};
 use crate::leaf_counters;
 use crate::leaf_nulls;
 use crate::numbers;
@@ -37,7 +37,7 @@ pub fn add_number_nulls(
     room: &mut [u8],
     n: u64,
 ) -> u8
-    requires { ⌜ (length (now counters) ≡ 96) × (n ≡ 0 → ⊥) × (oneOfNumbers (now plan) ≡ true) ⌝ }
+    requires { ⌜ (length (now counters) ≡ 96) × (n ≡ 0 → ⊥) × (firstOfNumbers (now plan) ≡ true) ⌝ }
     ensures { λ r. ⌜ ((sources lengths places body : List ℕ) → Answers (settled (lent (now (plan .entry)) (now (parts .entry)) sources lengths places body) (now (counters .entry)) (now (room .entry)) (nullWalk (join (now (plan .entry)) (now (parts .entry)) [] [] [] 0 0) 8 0 n (now (counters .entry)))) r (now (counters .exit)) (now (room .exit))) ⌝ }
 {
     let w = numbers::number_size(plan_words::code_of(plan, 0));

@@ -5,19 +5,20 @@ ghost use mathlib.Core.Bool.{true, cond, _&&_};
 ghost use Prim.Native.Nat.{ℕ, _+_, _*_, _<_, _≤_, _^_};
 ghost use lib.ListN.{length, take, drop};
 ghost use lib.Dec.{ltb};
+ghost use Rattle.columnar.specs.Test.{every};
 ghost use Rattle.schema.specs.formats.Code.{isFixed};
 ghost use Rattle.walk.specs.State.{codeOf, dictionaryOf, rows, place, slotOf};
 ghost use Rattle.walk.specs.Log.{Did, put, applyIf, startOf};
 ghost use Rattle.walk.specs.Leaves.{copyMask};
 ghost use Rattle.walk.specs.Copy.{Walk, copyData, copyWalk};
 ghost use Rattle.leaf_walk.specs.Join.{join};
-ghost use Rattle.plan.specs.parts.Parts.{entrySize, inRoom, partWithin, partHolds, partsWithin, partsHold};
+ghost use Rattle.plan.specs.parts.Parts.{copied, entrySize, inRoom, partWithin, partHolds, partsWithin, partsHold};
 ghost use Rattle.plan.specs.grounds.Verdict.{verdict};
-ghost use Rattle.refinement.specs.orders.Sound.{walkable};
+ghost use Rattle.refinement.specs.orders.Sound.{planSound, walkable};
 ghost use Rattle.refinement.specs.orders.Order.{settled};
 ghost use Rattle.transform.specs.Answer.{lent, Answers};
 ghost use Rattle.transform.specs.leaf_rows.Leaf.{bitsIn};
-ghost use Rattle.transform.specs.numbers.Plan.{oneOfNumbers};
+ghost use Rattle.transform.specs.numbers.Plan.{oneOfNumbers, firstOfNumbers};
 use crate::leaf_bits;
 use crate::leaf_counters;
 use array_data::lent_tables;
@@ -42,12 +43,12 @@ pub fn is_numbers(plan: &[u64]) -> bool
     schema::formats::is_fixed(plan_words::code_of(plan, 0))
 }
 
-// Whether an order can be walked: such a plan needs no look at other nodes.
-pub fn is_walkable(plan: &[u64], m: usize, plain: bool) -> bool
-    requires { ⌜ plain ≡ oneOfNumbers (now plan) ⌝ }
+// Whether an order can be walked: where the plan is known to be sound, no node is asked.
+pub fn is_walkable(plan: &[u64], m: usize, known: bool) -> bool
+    requires { ⌜ (known ≡ true → planSound (now plan) ≡ true) ⌝ }
     ensures { λ r. ⌜ r ≡ walkable (now (plan .entry)) m ⌝ }
 {
-    if plain {
+    if known {
         return m <= columns::CEILING;
     }
     sound::is_walkable(plan, m)
@@ -101,40 +102,48 @@ fn part_ground(parts: &[u64], m: usize, p: usize, holds: bool) -> u8
     13
 }
 
-// The part of r numbers of w bytes.
-fn entries_ground(plan: &[u64], parts: &[u64], m: usize, w: u64, r: u64) -> u8
-    requires { ⌜ (isFixed (codeOf (now plan) 0) ≡ true) × (w ≡ entrySize (codeOf (now plan) 0)) ⌝ }
-    ensures { λ g. ⌜ ((counters : List ℕ) → rows counters 0 ≡ r → g ≡ verdict (partWithin (now (plan .entry)) (now (parts .entry)) m 0 1) (partHolds (now (plan .entry)) counters (now (parts .entry)) 0 1)) ⌝ }
+// The part of r numbers of w bytes at node i.
+fn entries_ground(plan: &[u64], parts: &[u64], m: usize, i: usize, w: u64, r: u64) -> u8
+    requires { ⌜ (i < 32) × (isFixed (codeOf (now plan) i) ≡ true) × (w ≡ entrySize (codeOf (now plan) i)) × (copied (now plan) i ≡ true) ⌝ }
+    ensures { λ g. ⌜ ((counters : List ℕ) → rows counters i ≡ r → g ≡ verdict (partWithin (now (plan .entry)) (now (parts .entry)) m i 1) (partHolds (now (plan .entry)) counters (now (parts .entry)) i 1)) ⌝ }
 {
-    let p = plan::parts::number_of(plan, 0, 1);
+    let p = plan::parts::number_of(plan, i, 1);
     let size = lent_tables::at_u64(parts, 2 * p + 1);
     part_ground(parts, m, p, lent_tables::rows_fit(r, w as u8, size))
 }
 
-// The part of the validity of r rows, where nulls are kept.
-fn bits_ground(plan: &[u64], parts: &[u64], m: usize, r: u64) -> u8
-    requires { ⌜ isFixed (codeOf (now plan) 0) ≡ true ⌝ }
-    ensures { λ g. ⌜ ((counters : List ℕ) → rows counters 0 ≡ r → g ≡ verdict (partWithin (now (plan .entry)) (now (parts .entry)) m 0 0) (partHolds (now (plan .entry)) counters (now (parts .entry)) 0 0)) ⌝ }
+// The part of the validity of r rows of node i, where nulls are kept.
+fn bits_ground(plan: &[u64], parts: &[u64], m: usize, i: usize, r: u64) -> u8
+    requires { ⌜ (i < 32) × (isFixed (codeOf (now plan) i) ≡ true) × (copied (now plan) i ≡ true) ⌝ }
+    ensures { λ g. ⌜ ((counters : List ℕ) → rows counters i ≡ r → g ≡ verdict (partWithin (now (plan .entry)) (now (parts .entry)) m i 0) (partHolds (now (plan .entry)) counters (now (parts .entry)) i 0)) ⌝ }
 {
-    if plan_words::keeps_of(plan, 0) == 0 {
+    if plan_words::keeps_of(plan, i) == 0 {
         return 0;
     }
-    let p = plan::parts::number_of(plan, 0, 0);
+    let p = plan::parts::number_of(plan, i, 0);
     let size = lent_tables::at_u64(parts, 2 * p + 1);
     part_ground(parts, m, p, lent_tables::bits_fit(r, 0, size))
 }
 
-// What the parts say to r rows.
-pub fn room_ground(plan: &[u64], parts: &[u64], m: usize, w: u64, r: u64) -> u8
-    requires { ⌜ (oneOfNumbers (now plan) ≡ true) × (w ≡ entrySize (codeOf (now plan) 0)) ⌝ }
-    ensures { λ g. ⌜ ((counters : List ℕ) → rows counters 0 ≡ r → g ≡ cond (partsWithin (now (plan .entry)) (now (parts .entry)) m) (cond (partsHold (now (plan .entry)) counters (now (parts .entry))) 0 13) 14) ⌝ }
+// The parts of r rows of node i.
+pub fn node_ground(plan: &[u64], parts: &[u64], m: usize, i: usize, w: u64, r: u64) -> u8
+    requires { ⌜ (i < 32) × (isFixed (codeOf (now plan) i) ≡ true) × (w ≡ entrySize (codeOf (now plan) i)) × (copied (now plan) i ≡ true) ⌝ }
+    ensures { λ g. ⌜ ((counters : List ℕ) → rows counters i ≡ r → g ≡ verdict (every (λ b. partWithin (now (plan .entry)) (now (parts .entry)) m i b) 3) (every (λ b. partHolds (now (plan .entry)) counters (now (parts .entry)) i b) 3)) ⌝ }
 {
-    let entries = entries_ground(plan, parts, m, w, r);
-    let bits = bits_ground(plan, parts, m, r);
+    let entries = entries_ground(plan, parts, m, i, w, r);
+    let bits = bits_ground(plan, parts, m, i, r);
     if bits < entries {
         return entries;
     }
     bits
+}
+
+// What the parts say to r rows.
+pub fn room_ground(plan: &[u64], parts: &[u64], m: usize, w: u64, r: u64) -> u8
+    requires { ⌜ (firstOfNumbers (now plan) ≡ true) × (w ≡ entrySize (codeOf (now plan) 0)) ⌝ }
+    ensures { λ g. ⌜ ((counters : List ℕ) → rows counters 0 ≡ r → g ≡ cond (partsWithin (now (plan .entry)) (now (parts .entry)) m) (cond (partsHold (now (plan .entry)) counters (now (parts .entry))) 0 13) 14) ⌝ }
+{
+    node_ground(plan, parts, m, 0, w, r)
 }
 
 // ---- the order

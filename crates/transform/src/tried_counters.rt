@@ -8,18 +8,17 @@ ghost use Rattle.transform.specs.tried_counters.Beyond.{Beyond};
 use walk::plan_words;
 
 // The counters with the nulls of the first n nodes full: what a copy is tried on, so that it reads no validity bit.
-pub fn uncounted(counters: &[u64], n: usize) -> [u64; plan_words::COUNTERS]
-    requires { ⌜ (length (now counters) ≡ 96) × (n ≤ 32) ⌝ }
-    ensures { λ r. ⌜ Alike r (now (counters .entry)) ⌝ }
-    ensures { λ r. ⌜ Beyond n r (now (counters .entry)) ⌝ }
+pub fn uncounted(tally: &mut [u64; plan_words::COUNTERS], counters: &[u64], n: usize)
+    requires { ⌜ (length (now tally) ≡ 96) × (length (now counters) ≡ 96) × (n ≤ 32) ⌝ }
+    ensures { λ _. ⌜ Alike (now (tally .exit)) (now (counters .entry)) ⌝ }
+    ensures { λ _. ⌜ Beyond n (now (tally .exit)) (now (counters .entry)) ⌝ }
 {
-    let mut tally = crate::load(counters);
+    reload(tally, counters, 32);
     let mut i = 0;
     while i < n {
         tally[3 * i + 1] = u64::MAX;
         i += 1;
     }
-    tally
 }
 
 // The counters of the first n nodes as they are lent, in an array that has the others.

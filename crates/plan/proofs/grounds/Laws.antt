@@ -36,6 +36,10 @@ both false false false false = refl
 worse-both : (w h v k : Bool) {a b g : ℕ} → a ≡ verdict w h → b ≡ verdict v k → g ≡ worseOf a b → g ≡ verdict (w && v) (h && k)
 worse-both w h v k {a} {b} {g} e f q = q ∙ ap (λ (z : ℕ). worseOf z b) e ∙ ap (worseOf (verdict w h)) f ∙ both w h v k
 
+-- nothing is said where the answer is no
+pub never : {P : Type 0} → false ≡ true → P
+never z = absurd (let y : _≡_ {A = ℕ} 0 1 = cc in omega arith)
+
 -- ---- one part
 
 module _ (plan counters parts : List ℕ) (m i b : ℕ) where

@@ -59,7 +59,7 @@ module _ (x : Join) (child : NullWalk) (i n : ℕ) (c : List ℕ) where
       go false e false k =
           record { entry = put i 1 (rows c i * 16) (replicate (n * 16) 0); is = null-views x child (codeOf (x .plan) i) i n c e k (is-views (codeOf (x .plan) i) a b k e) }
 
-  data-dry : (room : List ℕ) → 1 ≤ codeOf (x .plan) i → codeOf (x .plan) i < 17 → Did (x .plan) (x .parts) false (nullData x child (codeOf (x .plan) i) i n c) room 0 c room
+  pub data-dry : (room : List ℕ) → 1 ≤ codeOf (x .plan) i → codeOf (x .plan) i < 17 → Did (x .plan) (x .parts) false (nullData x child (codeOf (x .plan) i) i n c) room 0 c room
   unfolding applyIf
   data-dry room a b =
       let w = written a b in
@@ -94,7 +94,7 @@ module _ (x : Join) (child : NullWalk) (i n : ℕ) (c room : List ℕ) {w p o : 
 -- ---- validity
 
 module _ (x : Join) (i n : ℕ) (c : List ℕ) where
-  mask-alike : Alike (nullMask x i n c .counters) c
+  pub mask-alike : Alike (nullMask x i n c .counters) c
   unfolding nullMask next wrote done
   mask-alike = go (eqb (keepsOf (x .plan) i) 0)
     where
@@ -107,7 +107,7 @@ module _ (x : Join) (i n : ℕ) (c : List ℕ) where
             bytes-same = λ j. getD-set-other c (3 * i + 1) (3 * j + 2) (grown (nulls c i) n) 0 (λ (q : 3 * j + 2 ≡ 3 * i + 1). omega arith);
           }
 
-  mask-dry : (room : List ℕ) → Did (x .plan) (x .parts) false (nullMask x i n c) room 0 (nullMask x i n c .counters) room
+  pub mask-dry : (room : List ℕ) → Did (x .plan) (x .parts) false (nullMask x i n c) room 0 (nullMask x i n c .counters) room
   unfolding nullMask next wrote done applyIf
   mask-dry room = record { answer = go (eqb (keepsOf (x .plan) i) 0); counters = refl; bytes = refl }
     where

@@ -1,6 +1,6 @@
--- A plan that is one node of numbers: it is sound, and its parts are those of that node. Assumes nothing.
+-- A plan that is one node of numbers, or keys with a kept dictionary: it is sound, and its parts are those of the first node. Assumes nothing.
 use mathlib.Core.Path.{_≡_, refl, sym, ap, subst, _∙_}
-use mathlib.Core.Bool.{Bool, true, false, not, cond, _&&_}
+use mathlib.Core.Bool.{Bool, true, false, not, cond, _&&_, _||_}
 use mathlib.Core.List.{List, [], _∷_}
 use Prim.Native.Nat.{ℕ, _+_, _*_, _-_, _/_, _≤_, _<_}
 use native.Mathlib.Nat.{add-zero, add-mul, mul-comm, mul-le-mul-left}
@@ -8,7 +8,7 @@ use native.Mathlib.Omega.{arith}
 use lib.ListN.{length, getD, replicate}
 use lib.Seq.{getD-set-same, getD-set-other}
 use lib.Dec.{leb, ltb, eqb}
-use borrow.Author.Tests.{eqb-true, leb-true, le-leb, lt-leb, lt-ltb, le-ltb}
+use borrow.Author.Tests.{not-true, eqb-true, leb-true, le-leb, lt-leb, lt-ltb, le-ltb, ltb-false}
 use Rattle.number.specs.Number.{splice}
 use Rattle.bits.specs.Bits.{bitsAt, zeros}
 use Rattle.columnar.specs.Test.{every}
@@ -18,15 +18,15 @@ use Rattle.walk.specs.State.{Join, codeOf, dictionaryOf, endOf, keepsOf, partOf
 use Rattle.walk.specs.Log as log
 use Rattle.walk.specs.Log.{Entry, put, mask, Did, startOf, enter, apply, applyIf, fail, done, wrote, need, next}
 use Rattle.walk.specs.Leaves.{copyBits, copyMask}
-use Rattle.plan.specs.parts.Parts.{nodesOf, bufferCount, hasPart, numberOf, entrySize, neededBy, startAt, sizeAt, inRoom, partWithin, partHolds, partsWithin, partsHold}
+use Rattle.plan.specs.parts.Parts.{nodesOf, bufferCount, copied, hasPart, numberOf, entrySize, neededBy, startAt, sizeAt, inRoom, partWithin, partHolds, partsWithin, partsHold}
 use Rattle.plan.specs.grounds.Verdict.{verdict, worseOf}
 use Rattle.plan.proofs.parts.Laws.{copied-root, bits-hold}
 use Rattle.plan.proofs.parts.Placed.{every-at}
 use Rattle.plan.proofs.parts.Words.{has-buffers}
-use Rattle.plan.proofs.grounds.Laws.{part-none, no-buffer, node-three, nodes-all}
+use Rattle.plan.proofs.grounds.Laws.{withinAt, holdAt, part-none, no-buffer, node-none, node-three, nodes-more, nodes-all}
 use Rattle.refinement.specs.orders.Sound.{nestedIn, kindSound, nodeSound, planSound, walkable}
 use Rattle.columns.specs.Grounds.{ceiling}
-use Rattle.transform.specs.numbers.Plan.{oneOfNumbers}
+use Rattle.transform.specs.numbers.Plan.{oneOfNumbers, keptKeys, firstOfNumbers}
 use Rattle.transform.proofs.leaf_rows.Entries.{size-in}
 
 -- what a fixed-width code has
@@ -47,6 +47,23 @@ pub record OneNode (plan : List ℕ) : Type 0 where
   pub plain : dictionaryOf plan 0 ≡ 0
   pub fixed : isFixed (codeOf plan 0) ≡ true
 
+pub record KeptKeys (plan : List ℕ) : Type 0 where
+  pub nodes : nodesOf plan ≡ 2
+  pub end : endOf plan 0 ≡ 2
+  pub values-end : endOf plan 1 ≡ 2
+  pub plain : dictionaryOf plan 1 ≡ 0
+  pub leaf : codeOf plan 1 ≤ 16
+  pub kept : copied plan 1 ≡ false
+  pub fixed : isFixed (codeOf plan 0) ≡ true
+
+-- the first node is of numbers, and no other has a part
+pub record FirstNode (plan : List ℕ) : Type 0 where
+  pub some : 0 < nodesOf plan
+  pub fixed : isFixed (codeOf plan 0) ≡ true
+  pub sound : planSound plan ≡ true
+  pub others : (counters parts : List ℕ) (m : ℕ) {g : ℕ} → g ≡ verdict (withinAt plan counters parts m 0) (holdAt plan counters parts m 0)
+      → g ≡ cond (partsWithin plan parts m) (cond (partsHold plan counters parts) 0 13) 14
+
 module _ (plan : List ℕ) where
   pub one-node : oneOfNumbers plan ≡ true → OneNode plan
   one-node h =
@@ -66,28 +83,103 @@ module _ (plan : List ℕ) where
   unfolding planSound nodeSound nestedIn kindSound
   numbers-sound o = rw (o .nodes, o .end, le-leb (codeOf plan 0) 10 (fixed-low (codeOf plan 0) (o .fixed) .1))
 
-  pub numbers-walkable : (m : ℕ) → oneOfNumbers plan ≡ true → leb m ceiling ≡ walkable plan m
+  -- a leaf without a dictionary
+  leaf-kind : (i : ℕ) → dictionaryOf plan i ≡ 0 → codeOf plan i ≤ 16 → kindSound plan i ≡ true
+  unfolding kindSound
+  leaf-kind i d l = rw (d, lt-leb 17 (codeOf plan i) (omega (arith, l)), lt-leb 23 (codeOf plan i) (omega (arith, l))) (go (leb (codeOf plan i) 10))
+    where
+      go : (t : Bool) → cond t true true ≡ true
+      go true = refl
+      go false = refl
+
+  pub kept-keys : keptKeys plan ≡ true → KeptKeys plan
+  kept-keys h =
+      let a = eqb (nodesOf plan) 2 in
+      let b = eqb (endOf plan 0) 2 in
+      let d = eqb (endOf plan 1) 2 in
+      let e = eqb (dictionaryOf plan 1) 0 in
+      let f = leb (codeOf plan 1) 16 in
+      let g = not (copied plan 1) in
+      let upto-g = and-left (a && b && d && e && f && g) (isFixed (codeOf plan 0)) h in
+      let upto-f = and-left (a && b && d && e && f) g upto-g in
+      let upto-e = and-left (a && b && d && e) f upto-f in
+      let upto-d = and-left (a && b && d) e upto-e in
+      let upto-b = and-left (a && b) d upto-d in
+      record {
+        nodes = eqb-true (nodesOf plan) 2 (and-left a b upto-b);
+        end = eqb-true (endOf plan 0) 2 (and-right a b upto-b);
+        values-end = eqb-true (endOf plan 1) 2 (and-right (a && b) d upto-d);
+        plain = eqb-true (dictionaryOf plan 1) 0 (and-right (a && b && d) e upto-e);
+        leaf = leb-true (codeOf plan 1) 16 (and-right (a && b && d && e) f upto-f);
+        kept = not-true (copied plan 1) (and-right (a && b && d && e && f) g upto-g);
+        fixed = and-right (a && b && d && e && f && g) (isFixed (codeOf plan 0)) h;
+      }
+
+  pub number-kind : (i : ℕ) → isFixed (codeOf plan i) ≡ true → kindSound plan i ≡ true
+  unfolding kindSound
+  number-kind i h = rw (le-leb (codeOf plan i) 10 (fixed-low (codeOf plan i) h .1))
+
+  keys-sound : KeptKeys plan → planSound plan ≡ true
+  unfolding planSound nodeSound nestedIn
+  keys-sound k = rw (k .nodes, k .end, k .values-end, number-kind 0 (k .fixed), leaf-kind 1 (k .plain) (k .leaf))
+
+  -- ---- the parts
+
+  pub has-numbers : (i : ℕ) → copied plan i ≡ true → isFixed (codeOf plan i) ≡ true → hasPart plan i 1 ≡ true
+  has-numbers i c h = has-buffers plan i c 0 (omega (arith, one-buffer (codeOf plan i) h))
+
+  pub root-copied : copied plan 0 ≡ true
+  root-copied = sym (copied-root plan 0 refl)
+
+  pub one-first : OneNode plan → FirstNode plan
+  one-first o =
+      record {
+        some = omega (arith, o .nodes);
+        fixed = o .fixed;
+        sound = numbers-sound o;
+        others = λ counters parts m e. nodes-all plan counters parts m 1 1 (sym (o .nodes)) (omega arith) (omega arith) e;
+      }
+
+  keys-first : KeptKeys plan → FirstNode plan
+  keys-first k =
+      record {
+        some = omega (arith, k .nodes);
+        fixed = k .fixed;
+        sound = keys-sound k;
+        others = λ counters parts m {g} e.
+            let last : g ≡ worseOf g 0 = rw (le-ltb g 0 (omega arith)) in
+            nodes-all plan counters parts m 2 2 (sym (k .nodes)) (omega arith) (omega arith) (nodes-more plan counters parts m 1 e (node-none plan counters parts m 1 (k .kept)) last);
+      }
+
+  pub first-node : firstOfNumbers plan ≡ true → FirstNode plan
+  first-node h = go (oneOfNumbers plan) refl (keptKeys plan) refl h
+    where
+      go : (t : Bool) → oneOfNumbers plan ≡ t → (u : Bool) → keptKeys plan ≡ u → (t || u) ≡ true → FirstNode plan
+      go true e u q z = one-first (one-node e)
+      go false e true q z = keys-first (kept-keys q)
+      go false e false q z = absurd (let y : _≡_ {A = ℕ} 0 1 = cc in omega arith)
+
+  -- one node of numbers is such a plan
+  pub first-one : oneOfNumbers plan ≡ true → firstOfNumbers plan ≡ true
+  first-one h = rw h
+
+  -- a sound plan can be walked in a room that is a body
+  pub sound-walkable : (m : ℕ) → planSound plan ≡ true → leb m ceiling ≡ walkable plan m
   unfolding walkable
-  numbers-walkable m h = rw (numbers-sound (one-node h)) (go (leb m ceiling))
+  sound-walkable m h = rw h (go (leb m ceiling))
     where
       go : (t : Bool) → t ≡ t && true
       go true = refl
       go false = refl
 
-  -- ---- the parts
-
-  pub has-numbers : isFixed (codeOf plan 0) ≡ true → hasPart plan 0 1 ≡ true
-  has-numbers h = has-buffers plan 0 (sym (copied-root plan 0 refl)) 0 (omega (arith, one-buffer (codeOf plan 0) h))
-
   module _ (counters parts : List ℕ) (m : ℕ) where
-    -- validity, then numbers: there is no third part, and no other node
-    pub numbers-ground : {a b g : ℕ} → OneNode plan → a ≡ verdict (partWithin plan parts m 0 0) (partHolds plan counters parts 0 0)
-        → b ≡ verdict (partWithin plan parts m 0 1) (partHolds plan counters parts 0 1) → g ≡ worseOf a b
-        → g ≡ cond (partsWithin plan parts m) (cond (partsHold plan counters parts) 0 13) 14
-    numbers-ground {g = g} o e f q =
-        let none = part-none plan counters parts m 0 2 (no-buffer plan 0 1 (omega (arith, one-buffer (codeOf plan 0) (o .fixed)))) in
+    -- a node of numbers has validity and numbers, and no third part
+    pub two-parts : (i : ℕ) {a b g : ℕ} → isFixed (codeOf plan i) ≡ true → a ≡ verdict (partWithin plan parts m i 0) (partHolds plan counters parts i 0)
+        → b ≡ verdict (partWithin plan parts m i 1) (partHolds plan counters parts i 1) → g ≡ worseOf a b → g ≡ verdict (withinAt plan counters parts m i) (holdAt plan counters parts m i)
+    two-parts i {g = g} h e f q =
+        let none = part-none plan counters parts m i 2 (no-buffer plan i 1 (omega (arith, one-buffer (codeOf plan i) h))) in
         let last : g ≡ worseOf g 0 = rw (le-ltb g 0 (omega arith)) in
-        nodes-all plan counters parts m 1 1 (sym (o .nodes)) (omega arith) (omega arith) (node-three plan counters parts m 0 e f none q last)
+        node-three plan counters parts m i e f none q last
 
 -- ---- what the parts of numbers must hold
 
@@ -109,6 +201,13 @@ worse-lt a b h = rw (lt-ltb a b h)
 pub worse-ge : (a b : ℕ) → b ≤ a → a ≡ worseOf a b
 worse-ge a b h = rw (le-ltb a b h)
 
+pub worse-up : (a b : ℕ) → a ≤ b → b ≡ worseOf a b
+worse-up a b h = go (ltb a b) refl
+  where
+    go : (t : Bool) → ltb a b ≡ t → b ≡ cond t b a
+    go true e = refl
+    go false e = omega (arith, ltb-false a b e)
+
 -- no ground is found where all parts are in the room and hold their bytes
 none-found : (w h : Bool) {g : ℕ} → g ≡ verdict w h → g ≡ 0 → (w ≡ true) × (h ≡ true)
 none-found true true e z = (refl, refl)
@@ -122,24 +221,24 @@ raised-rows n b c {p} {r} l e q =
     ∙ ap (λ (v : ℕ). grown v n) (sym e)
     ∙ sym q
 
-module _ (plan parts t : List ℕ) (m : ℕ) (o : OneNode plan) {g : ℕ} (e : g ≡ cond (partsWithin plan parts m) (cond (partsHold plan t parts) 0 13) 14) (z : g ≡ 0) where
+module _ (plan parts t : List ℕ) (m : ℕ) (o : FirstNode plan) {g : ℕ} (e : g ≡ cond (partsWithin plan parts m) (cond (partsHold plan t parts) 0 13) 14) (z : g ≡ 0) where
   lies : startOf plan parts 0 1 + sizeAt parts (numberOf plan 0 1) ≤ m
   unfolding partsWithin partWithin
   lies =
       let all = none-found (partsWithin plan parts m) (partsHold plan t parts) e z .0 in
-      let node = every-at (λ i. every (λ b. partWithin plan parts m i b) 3) (nodesOf plan) all 0 (omega (arith, o .nodes)) in
+      let node = every-at (λ i. every (λ b. partWithin plan parts m i b) 3) (nodesOf plan) all 0 (o .some) in
       let part = every-at (λ b. partWithin plan parts m 0 b) 3 node 1 (omega arith) in
-      let both : ltb (2 * numberOf plan 0 1 + 1) (length parts) && inRoom parts m (numberOf plan 0 1) ≡ true = rw (has-numbers plan (o .fixed)) at part in
+      let both : ltb (2 * numberOf plan 0 1 + 1) (length parts) && inRoom parts m (numberOf plan 0 1) ≡ true = rw (has-numbers plan 0 (root-copied plan) (o .fixed)) at part in
       leb-true (startAt parts (numberOf plan 0 1) + sizeAt parts (numberOf plan 0 1)) m (and-right (ltb (2 * numberOf plan 0 1 + 1) (length parts)) (inRoom parts m (numberOf plan 0 1)) both)
 
   enough : rows t 0 * entrySize (codeOf plan 0) ≤ sizeAt parts (numberOf plan 0 1)
   unfolding partsHold partHolds
   enough =
       let all = none-found (partsWithin plan parts m) (partsHold plan t parts) e z .1 in
-      let node = every-at (λ i. every (λ b. partHolds plan t parts i b) 3) (nodesOf plan) all 0 (omega (arith, o .nodes)) in
+      let node = every-at (λ i. every (λ b. partHolds plan t parts i b) 3) (nodesOf plan) all 0 (o .some) in
       let part = every-at (λ b. partHolds plan t parts 0 b) 3 node 1 (omega arith) in
       let no = no-offsets (codeOf plan 0) (o .fixed) in
-      let fits : leb (rows t 0 * entrySize (codeOf plan 0)) (sizeAt parts (numberOf plan 0 1)) ≡ true = rw (has-numbers plan (o .fixed), no .0, no .1) at part in
+      let fits : leb (rows t 0 * entrySize (codeOf plan 0)) (sizeAt parts (numberOf plan 0 1)) ≡ true = rw (has-numbers plan 0 (root-copied plan) (o .fixed), no .0, no .1) at part in
       leb-true (rows t 0 * entrySize (codeOf plan 0)) (sizeAt parts (numberOf plan 0 1)) fits
 
   -- the numbers behind r others lie in the room

@@ -1,7 +1,7 @@
 -- Counters of the plan's nodes, copied, and those of others, which a walk leaves. Assumes nothing.
 use mathlib.Core.Path.{_≡_, refl, sym, ap, subst, _∙_}
 use mathlib.Core.Bool.{Bool, true, false}
-use mathlib.Core.List.{List}
+use mathlib.Core.List.{List, [], _∷_}
 use Prim.Native.Nat.{ℕ, zero, suc, _+_, _*_, _<_, _≤_}
 use native.Mathlib.Omega.{arith}
 use lib.ListN.{length, getD, set}
@@ -38,6 +38,15 @@ copied-all from to n i h l w = ext-getD 0 to from (w .0 .0 ∙ sym l) (λ j q. g
     go : (j : ℕ) (b : Bool) → ltb j i ≡ b → getD to j 0 ≡ getD from j 0
     go j true e = w .0 .1 j (ltb-true j i e)
     go j false e = let q = ltb-false j i e in w .1 j (omega arith)
+
+-- past the counters of all nodes there are none
+none-past : (c : List ℕ) (k : ℕ) → length c ≤ k → getD c k 0 ≡ 0
+none-past [] k h = refl
+none-past (v ∷ c) zero h = absurd (omega arith)
+none-past (v ∷ c) (suc k) h = none-past c k (omega arith)
+
+pub beyond-all : (c d : List ℕ) → length c ≡ 96 → length d ≡ 96 → Beyond 32 c d
+beyond-all c d k l = λ j q. none-past c j (omega (arith, k, q)) ∙ sym (none-past d j (omega (arith, l, q)))
 
 -- ---- nulls that are full
 

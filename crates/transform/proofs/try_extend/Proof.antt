@@ -1,4 +1,5 @@
 -- `transform::try_extend` meets its contract. Assumes nothing.
+use mathlib.Core.Path.{sym, _∙_}
 use Prim.Native.Nat.{_≤_}
 use native.Mathlib.Omega.{arith}
 use lib.Dec.{leb}
@@ -6,6 +7,7 @@ use borrow.Author.Tests.{leb-true}
 use Rattle.array_data.proofs.lent_tables.Laws.{no, yes, and-left}
 use Rattle.transform.specs.Answer.{lent}
 use Rattle.transform.proofs.Laws.{copy-counters, copy-foreign, copy-source, copy-range, copy-made}
+use Rattle.transform.proofs.numbers.Laws.{one-node, one-first}
 use borrow.Author.Needs.{needs}
 use Rattle.transform.proofs.try_extend.Statement.{statement}
 use Rattle.transform.proofs.try_extend.Tie as tie
@@ -20,7 +22,9 @@ is-numbers-requires : tie.Need-is-numbers-requires
 is-numbers-requires c κs = search needs
 
 is-walkable-requires : tie.Need-is-walkable-requires
-is-walkable-requires c κs = c .is-numbers .ensures
+is-walkable-requires c κs =
+    let p = c .before .before .before .before .before .before .before .before .before .before .args .plan .now in
+    λ z. one-first p (one-node p (sym (c .is-numbers .ensures) ∙ z)) .sound
 
 returns-2 : tie.Need-returns-2
 returns-2 c =

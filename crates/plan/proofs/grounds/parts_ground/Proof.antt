@@ -1,4 +1,4 @@
--- `parts::grounds::parts_ground` meets its contract. The invariant: g is the ground of the nodes below i. Assumes nothing.
+-- `plan::grounds::parts_ground` meets its contract. Assumes nothing.
 use mathlib.Core.Path.{_≡_, refl}
 use Prim.Native.Nat.{_-_, _≤_}
 use native.Mathlib.Omega.{arith}
@@ -14,6 +14,12 @@ Inv-loop plan counters parts m n g₀ i₀ g i = (i ≤ n) × (g ≡ verdict (ev
 
 abbrev μ-loop : tie.MeasureT-loop
 μ-loop plan counters parts m n g₀ i₀ g i = n - i
+
+all-fine-requires : tie.Need-all-fine-requires Inv-loop μ-loop
+all-fine-requires c κs = search needs
+
+returns : tie.Need-returns Inv-loop μ-loop
+returns c = c .before .all-fine .ensures (c .if1 .taken)
 
 node-count-requires : tie.Need-node-count-requires Inv-loop μ-loop
 node-count-requires c κs = omega arith
@@ -35,13 +41,13 @@ loop-less c = omega arith
 
 loop-again : tie.Need-loop-again Inv-loop μ-loop
 loop-again c =
-    let a = c .before .before .before .before .before .before .before .before .args in
+    let a = c .before .before .before .before .before .before .before .before .before .before .args in
     (omega arith, nodes-more (a .plan .now) (a .counters .now) (a .parts .now) (a .m) (c .before .before .before .loop .i) (c .before .before .before .loop .inv .1) (c .before .node-ground .ensures) (c .worse .ensures))
 
-returns : tie.Need-returns Inv-loop μ-loop
-returns c =
-    let a = c .before .before .before .before .before .before .args in
+returns-2 : tie.Need-returns-2 Inv-loop μ-loop
+returns-2 c =
+    let a = c .before .before .before .before .before .before .before .before .args in
     nodes-all (a .plan .now) (a .counters .now) (a .parts .now) (a .m) (c .before .loop .i) (c .before .before .node-count .result) (c .before .before .node-count .ensures .0) (omega arith) (c .before .loop .inv .0) (c .before .loop .inv .1)
 
 pub parts-ground-spec : {M : Type 1} → statement M
-parts-ground-spec = tie.close (tie.spec Inv-loop μ-loop node-count-requires loop-holds node-ground-requires worse-requires add-i loop-less loop-again returns)
+parts-ground-spec = tie.close (tie.spec Inv-loop μ-loop all-fine-requires returns node-count-requires loop-holds node-ground-requires worse-requires add-i loop-less loop-again returns-2)

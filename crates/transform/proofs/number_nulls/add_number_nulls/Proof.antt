@@ -10,7 +10,7 @@ use Rattle.walk.specs.Nulls.{nullWalk}
 use Rattle.leaf_walk.specs.Join.{join}
 use Rattle.plan.specs.parts.Parts.{entrySize}
 use Rattle.transform.proofs.leaf_nulls.Laws.{nulls-refused, nulls-made}
-use Rattle.transform.proofs.numbers.Laws.{one-node, fixed-low, raised-rows, numbers-fit}
+use Rattle.transform.proofs.numbers.Laws.{first-node, fixed-low, raised-rows, numbers-fit}
 use borrow.Author.Needs.{needs}
 use Rattle.transform.proofs.number_nulls.add_number_nulls.Statement.{statement}
 use Rattle.transform.proofs.number_nulls.add_number_nulls.Tie as tie
@@ -19,7 +19,7 @@ code-of-requires : tie.Need-code-of-requires
 code-of-requires c κs = search needs
 
 number-size-requires : tie.Need-number-size-requires
-number-size-requires c κs = ap isFixed (c .code-of .ensures) ∙ one-node (c .before .before .before .before .before .args .plan .now) (c .before .before .before .before .before .pre .2) .fixed
+number-size-requires c κs = ap isFixed (c .code-of .ensures) ∙ first-node (c .before .before .before .before .before .args .plan .now) (c .before .before .before .before .before .pre .2) .fixed
 
 at-u64-requires : tie.Need-at-u64-requires
 at-u64-requires c κs = search needs
@@ -36,7 +36,7 @@ same-length c = search needs
 returns : tie.Need-returns
 returns c =
     let a = c .before .before .before .before .before .before .before .before .before .before .before .args in
-    let l = fixed-low (codeOf (a .plan .now) 0) (one-node (a .plan .now) (c .before .before .before .before .before .before .before .before .before .before .before .pre .2) .fixed) in
+    let l = fixed-low (codeOf (a .plan .now) 0) (first-node (a .plan .now) (c .before .before .before .before .before .before .before .before .before .before .before .pre .2) .fixed) in
     let t = setBytes 0 (bytes (a .counters .now) 0) (addRows 0 (a .n) (a .counters .now)) in
     let r = raised-rows (a .n) (bytes (a .counters .now) 0) (a .counters .now) (c .before .before .before .before .before .before .before .before .before .before .before .pre .0) (c .before .before .before .at-u64 .ensures) (c .before .before .grow .ensures) in
     λ sources lengths places body. nulls-refused (a .plan .now) (a .parts .now) sources lengths places body 0 (a .n) (a .counters .now) (a .room .now) (c .before .before .before .before .before .before .before .before .before .before .before .pre .1) (omega arith) (l .0) (omega (arith, l .1)) refl (c .before .room-ground .ensures t r) refl (c .if1 .taken)
@@ -44,7 +44,7 @@ returns c =
 put-zeros-requires : tie.Need-put-zeros-requires
 put-zeros-requires c κs =
     let a = c .before .before .before .before .before .before .before .before .before .before .before .before .before .args in
-    let o = one-node (a .plan .now) (c .before .before .before .before .before .before .before .before .before .before .before .before .before .pre .2) in
+    let o = first-node (a .plan .now) (c .before .before .before .before .before .before .before .before .before .before .before .before .before .pre .2) in
     let e = c .before .before .before .before .before .before .before .number-size .ensures ∙ ap entrySize (c .before .before .before .before .before .before .before .before .code-of .ensures) in
     let t = setBytes 0 (bytes (a .counters .now) 0) (addRows 0 (a .n) (a .counters .now)) in
     let r = raised-rows (a .n) (bytes (a .counters .now) 0) (a .counters .now) (c .before .before .before .before .before .before .before .before .before .before .before .before .before .pre .0) (c .before .before .before .before .before .at-u64 .ensures) (c .before .before .before .before .grow .ensures) in
@@ -65,7 +65,7 @@ same-length-3 c = search needs
 returns-2 : tie.Need-returns-2
 returns-2 c =
     let a = c .before .before .before .before .before .before .before .before .before .before .before .before .before .before .before .before .before .before .before .before .before .before .before .before .before .before .before .args in
-    let l = fixed-low (codeOf (a .plan .now) 0) (one-node (a .plan .now) (c .before .before .before .before .before .before .before .before .before .before .before .before .before .before .before .before .before .before .before .before .before .before .before .before .before .before .before .pre .2) .fixed) in
+    let l = fixed-low (codeOf (a .plan .now) 0) (first-node (a .plan .now) (c .before .before .before .before .before .before .before .before .before .before .before .before .before .before .before .before .before .before .before .before .before .before .before .before .before .before .before .pre .2) .fixed) in
     let t = setBytes 0 (bytes (a .counters .now) 0) (addRows 0 (a .n) (a .counters .now)) in
     let r = raised-rows (a .n) (bytes (a .counters .now) 0) (a .counters .now) (c .before .before .before .before .before .before .before .before .before .before .before .before .before .before .before .before .before .before .before .before .before .before .before .before .before .before .before .pre .0) (c .before .before .before .before .before .before .before .before .before .before .before .before .before .before .before .before .before .before .before .at-u64 .ensures) (c .before .before .before .before .before .before .before .before .before .before .before .before .before .before .before .before .before .before .grow .ensures) in
     λ sources lengths places body. nulls-made (a .plan .now) (a .parts .now) sources lengths places body 0 (a .n) (a .counters .now) (a .room .now) (c .before .before .before .before .before .before .before .before .before .before .before .before .before .before .before .before .before .before .before .before .before .before .before .before .before .before .before .pre .1) (omega arith) (l .0) (omega (arith, l .1)) refl (c .before .before .before .before .before .before .before .before .before .before .before .before .before .before .before .before .before .room-ground .ensures t r) refl (c .before .before .before .before .before .before .before .before .before .before .before .before .before .before .before .before .if1 .left) (c .before .before .before .before .before .before .before .before .before .before .before .before .before .put-zeros .ensures (nullWalk (join (a .plan .now) (a .parts .now) [] [] [] 0 0) 7)) (c .before .before .before .before .before .before .before .before .put-null-mask .ensures) (c .before .before .add-to .ensures)

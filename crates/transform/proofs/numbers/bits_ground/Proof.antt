@@ -2,7 +2,7 @@
 use mathlib.Core.Path.{refl, sym, _∙_}
 use native.Mathlib.Omega.{arith}
 use Rattle.walk.specs.State.{codeOf}
-use Rattle.plan.proofs.parts.Laws.{copied-root, holds-by}
+use Rattle.plan.proofs.parts.Laws.{holds-by}
 use Rattle.plan.proofs.parts.Words.{has-bits}
 use Rattle.plan.proofs.grounds.Laws.{part-none, part-some, no-bits}
 use Rattle.transform.proofs.numbers.Laws.{fixed-low, bits-need}
@@ -16,7 +16,7 @@ keeps-of-requires c κs = search needs
 returns : tie.Need-returns
 returns c =
     let a = c .before .before .before .before .args in
-    λ counters q. part-none (a .plan .now) counters (a .parts .now) (a .m) 0 0 (no-bits (a .plan .now) 0 (sym (c .before .keeps-of .ensures) ∙ c .if1 .taken))
+    λ counters q. part-none (a .plan .now) counters (a .parts .now) (a .m) (a .i) 0 (no-bits (a .plan .now) (a .i) (sym (c .before .keeps-of .ensures) ∙ c .if1 .taken))
 
 number-of-requires : tie.Need-number-of-requires
 number-of-requires c κs = search needs
@@ -39,8 +39,8 @@ part-ground-requires c κs = search needs
 returns-2 : tie.Need-returns-2
 returns-2 c =
     let a = c .before .before .before .before .before .before .before .before .args in
-    let has = has-bits (a .plan .now) 0 (sym (copied-root (a .plan .now) 0 refl)) (λ z. c .before .before .before .before .if1 .left (c .before .before .before .before .before .keeps-of .ensures ∙ z)) (omega (arith, fixed-low (codeOf (a .plan .now) 0) (c .before .before .before .before .before .before .before .before .pre) .1)) in
-    λ counters q. part-some (a .plan .now) counters (a .parts .now) (a .m) 0 0 has (c .before .before .before .number-of .ensures .0) (c .before .bits-fit .ensures ∙ bits-need (a .r) (c .before .before .at-u64 .result) ∙ holds-by (a .plan .now) counters (a .parts .now) 0 0 refl (sym q) refl (c .before .before .before .number-of .ensures .0) (c .before .before .at-u64 .ensures)) (c .part-ground .ensures)
+    let has = has-bits (a .plan .now) (a .i) (c .before .before .before .before .before .before .before .before .pre .2) (λ z. c .before .before .before .before .if1 .left (c .before .before .before .before .before .keeps-of .ensures ∙ z)) (omega (arith, fixed-low (codeOf (a .plan .now) (a .i)) (c .before .before .before .before .before .before .before .before .pre .1) .1)) in
+    λ counters q. part-some (a .plan .now) counters (a .parts .now) (a .m) (a .i) 0 has (c .before .before .before .number-of .ensures .0) (c .before .bits-fit .ensures ∙ bits-need (a .r) (c .before .before .at-u64 .result) ∙ holds-by (a .plan .now) counters (a .parts .now) (a .i) 0 refl (sym q) refl (c .before .before .before .number-of .ensures .0) (c .before .before .at-u64 .ensures)) (c .part-ground .ensures)
 
 pub bits-ground-spec : {M : Type 1} → statement M
 bits-ground-spec = tie.close (tie.spec keeps-of-requires returns number-of-requires mul-at-u64 add-at-u64 at-u64-requires bits-fit-requires part-ground-requires returns-2)

@@ -14,7 +14,7 @@ use Rattle.plan.specs.parts.Parts.{entrySize}
 use Rattle.transform.proofs.leaf_counters.Laws.{full, full-alike, holds-rows}
 use Rattle.transform.proofs.leaf_rows.Laws.{leaf-data, leaf-parts, leaf-made}
 use Rattle.transform.proofs.leaf_rows.Entries.{entries-are, entries-out, entries-dry}
-use Rattle.transform.proofs.numbers.Laws.{one-node, fixed-low, no-offsets, number-wide, raised-rows, numbers-fit, rows-kept}
+use Rattle.transform.proofs.numbers.Laws.{one-node, one-first, first-one, fixed-low, no-offsets, number-wide, raised-rows, numbers-fit, rows-kept}
 use borrow.Author.Needs.{needs}
 use Rattle.transform.proofs.numbers.copy_slots.Statement.{statement}
 use Rattle.transform.proofs.numbers.copy_slots.Tie as tie
@@ -50,7 +50,7 @@ grow-requires : tie.Need-grow-requires
 grow-requires c κs = search needs
 
 room-ground-requires : tie.Need-room-ground-requires
-room-ground-requires c κs = (c .before .before .before .before .before .before .before .before .before .before .before .before .before .before .pre .0 .3, c .before .before .before .before .before .before .number-size .ensures ∙ ap entrySize (c .before .before .before .before .before .before .before .code-of .ensures))
+room-ground-requires c κs = (first-one (c .before .before .before .before .before .before .before .before .before .before .before .before .before .before .args .plan .now) (c .before .before .before .before .before .before .before .before .before .before .before .before .before .before .pre .0 .3), c .before .before .before .before .before .before .number-size .ensures ∙ ap entrySize (c .before .before .before .before .before .before .before .code-of .ensures))
 
 same-length : tie.Need-same-length
 same-length c = search needs
@@ -74,7 +74,7 @@ put-numbers-requires c κs =
     let t = setBytes 0 (bytes (a .counters .now) 0) (addRows 0 (a .n) (a .counters .now)) in
     let r = raised-rows (a .n) (bytes (a .counters .now) 0) (a .counters .now) (c .before .before .before .before .before .before .before .before .before .before .before .before .before .before .before .before .before .before .before .before .before .before .before .before .before .pre .0 .0) (c .before .before .before .before .before .before .before .before .before .before .before .before .at-u64 .ensures) (c .before .before .before .before .before .before .before .before .before .before .before .grow .ensures) in
     let k = rows-kept (join (a .plan .now) (a .parts .now) [] (a .places .now) (a .body .now) (a .first) 0) 0 (a .slot) (a .n) (a .counters .now) (c .before .before .before .before .before .before .put-validity .ensures [] 0) in
-    let fit = numbers-fit (a .plan .now) (a .parts .now) t (length (a .room .now)) o (c .before .before .before .before .before .before .before .before .before .before .room-ground .ensures t r) (c .before .before .before .before .before .before .before .before .before .if2 .left) (rows (a .counters .now) 0) (a .n) (c .before .before .before .before .before .before .before .before .before .before .before .before .at-u64 .ensures) (r ∙ c .before .before .before .before .before .before .before .before .before .before .before .grow .ensures) e (omega (arith, c .before .before .before .before .before .before .before .before .before .before .before .before .before .before .before .before .before .before .before .before .before .before .before .before .before .good)) in
+    let fit = numbers-fit (a .plan .now) (a .parts .now) t (length (a .room .now)) (one-first (a .plan .now) o) (c .before .before .before .before .before .before .before .before .before .before .room-ground .ensures t r) (c .before .before .before .before .before .before .before .before .before .if2 .left) (rows (a .counters .now) 0) (a .n) (c .before .before .before .before .before .before .before .before .before .before .before .before .at-u64 .ensures) (r ∙ c .before .before .before .before .before .before .before .before .before .before .before .grow .ensures) e (omega (arith, c .before .before .before .before .before .before .before .before .before .before .before .before .before .before .before .before .before .before .before .before .before .before .before .before .before .good)) in
     ((c .before .before .before .before .before .before .before .before .before .before .before .before .before .before .before .before .before .before .before .before .before .before .before .before .before .pre .0 .1, omega arith, c .before .before .before .before .before .before .before .before .before .before .before .before .before .before .before .before .before .before .before .before .before .before .before .before .before .pre .0 .2), ((o .fixed, o .plain, e), (rw (c .before .before .before .before .before .before .before .before .before .before .before .before .before .before .before .before .place .ensures) at y, omega (arith, fit, c .before .before .before .room .given, ap (λ v. v * c .before .before .before .before .before .before .before .before .before .before .before .before .before .before .before .before .before .number-size .result) k))))
 
 add-to-requires : tie.Need-add-to-requires

@@ -22,7 +22,7 @@ at-u64-requires : tie.Need-at-u64-requires
 at-u64-requires c κs = search needs
 
 cast-rows-fit : tie.Need-cast-rows-fit
-cast-rows-fit c = omega (arith, number-wide (codeOf (c .before .before .before .before .args .plan .now) 0) (c .before .before .before .before .pre .0) (c .before .before .before .before .pre .1) .1)
+cast-rows-fit c = omega (arith, number-wide (codeOf (c .before .before .before .before .args .plan .now) (c .before .before .before .before .args .i)) (c .before .before .before .before .pre .1) (c .before .before .before .before .pre .2) .1)
 
 rows-fit-requires : tie.Need-rows-fit-requires
 rows-fit-requires c κs = search needs
@@ -33,7 +33,7 @@ part-ground-requires c κs = search needs
 returns : tie.Need-returns
 returns c =
     let a = c .before .before .before .before .before .before .args in
-    λ counters q. part-some (a .plan .now) counters (a .parts .now) (a .m) 0 1 (has-numbers (a .plan .now) (c .before .before .before .before .before .before .pre .0)) (c .before .before .before .number-of .ensures .0) (c .before .rows-fit .ensures ∙ entries-need (codeOf (a .plan .now) 0) (a .r) (bytes counters 0) (c .before .before .at-u64 .result) (c .before .before .before .before .before .before .pre .0) (c .before .before .before .before .before .before .pre .1) ∙ holds-by (a .plan .now) counters (a .parts .now) 0 1 refl (sym q) refl (c .before .before .before .number-of .ensures .0) (c .before .before .at-u64 .ensures)) (c .part-ground .ensures)
+    λ counters q. part-some (a .plan .now) counters (a .parts .now) (a .m) (a .i) 1 (has-numbers (a .plan .now) (a .i) (c .before .before .before .before .before .before .pre .3) (c .before .before .before .before .before .before .pre .1)) (c .before .before .before .number-of .ensures .0) (c .before .rows-fit .ensures ∙ entries-need (codeOf (a .plan .now) (a .i)) (a .r) (bytes counters (a .i)) (c .before .before .at-u64 .result) (c .before .before .before .before .before .before .pre .1) (c .before .before .before .before .before .before .pre .2) ∙ holds-by (a .plan .now) counters (a .parts .now) (a .i) 1 refl (sym q) refl (c .before .before .before .number-of .ensures .0) (c .before .before .at-u64 .ensures)) (c .part-ground .ensures)
 
 pub entries-ground-spec : {M : Type 1} → statement M
 entries-ground-spec = tie.close (tie.spec number-of-requires mul-at-u64 add-at-u64 at-u64-requires cast-rows-fit rows-fit-requires part-ground-requires returns)

@@ -1,12 +1,11 @@
 -- `transform::numbers::is_walkable` meets its contract. Assumes nothing.
-use mathlib.Core.Path.{sym, _∙_}
-use Rattle.transform.proofs.numbers.Laws.{numbers-walkable}
+use Rattle.transform.proofs.numbers.Laws.{sound-walkable}
 use borrow.Author.Needs.{needs}
 use Rattle.transform.proofs.numbers.is_walkable.Statement.{statement}
 use Rattle.transform.proofs.numbers.is_walkable.Tie as tie
 
 returns : tie.Need-returns
-returns c = numbers-walkable (c .before .before .args .plan .now) (c .before .before .args .m) (sym (c .before .before .pre) ∙ c .if1 .taken)
+returns c = sound-walkable (c .before .before .args .plan .now) (c .before .before .args .m) (c .before .before .pre (c .if1 .taken))
 
 is-walkable-requires : tie.Need-is-walkable-requires
 is-walkable-requires c κs = search needs

@@ -1,24 +1,17 @@
 -- `transform::numbers::room_ground` meets its contract. Assumes nothing.
-use Rattle.transform.proofs.numbers.Laws.{one-node, numbers-ground, worse-lt, worse-ge}
+use native.Mathlib.Omega.{arith}
+use Rattle.transform.proofs.numbers.Laws.{first-node, root-copied}
 use borrow.Author.Needs.{needs}
 use Rattle.transform.proofs.numbers.room_ground.Statement.{statement}
 use Rattle.transform.proofs.numbers.room_ground.Tie as tie
 
-entries-ground-requires : tie.Need-entries-ground-requires
-entries-ground-requires c κs = (one-node (c .before .before .args .plan .now) (c .before .before .pre .0) .fixed, c .before .before .pre .1)
-
-bits-ground-requires : tie.Need-bits-ground-requires
-bits-ground-requires c κs = one-node (c .before .before .before .args .plan .now) (c .before .before .before .pre .0) .fixed
+node-ground-requires : tie.Need-node-ground-requires
+node-ground-requires c κs = (omega arith, first-node (c .before .before .args .plan .now) (c .before .before .pre .0) .fixed, c .before .before .pre .1, root-copied (c .before .before .args .plan .now))
 
 returns : tie.Need-returns
 returns c =
-    let a = c .before .before .before .before .before .args in
-    λ counters q. numbers-ground (a .plan .now) counters (a .parts .now) (a .m) (one-node (a .plan .now) (c .before .before .before .before .before .pre .0)) (c .before .bits-ground .ensures counters q) (c .before .before .entries-ground .ensures counters q) (worse-lt (c .before .bits-ground .result) (c .before .before .entries-ground .result) (c .if1 .taken))
-
-returns-2 : tie.Need-returns-2
-returns-2 c =
-    let a = c .before .before .before .before .before .args in
-    λ counters q. numbers-ground (a .plan .now) counters (a .parts .now) (a .m) (one-node (a .plan .now) (c .before .before .before .before .before .pre .0)) (c .before .bits-ground .ensures counters q) (c .before .before .entries-ground .ensures counters q) (worse-ge (c .before .bits-ground .result) (c .before .before .entries-ground .result) (c .if1 .left))
+    let a = c .before .before .before .args in
+    λ counters q. first-node (a .plan .now) (c .before .before .before .pre .0) .others counters (a .parts .now) (a .m) (c .node-ground .ensures counters q)
 
 pub room-ground-spec : {M : Type 1} → statement M
-room-ground-spec = tie.close (tie.spec entries-ground-requires bits-ground-requires returns returns-2)
+room-ground-spec = tie.close (tie.spec node-ground-requires returns)

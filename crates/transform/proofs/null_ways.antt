@@ -1,0 +1,2 @@
+-- What the shorter ways of nulls go by.
+pub mod Laws

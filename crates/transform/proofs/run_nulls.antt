@@ -1,0 +1,2 @@
+-- What nulls of run ends over numbers go by.
+pub mod Laws

@@ -1,0 +1,95 @@
+// Types whose nulls go a shorter way.
+ghost use mathlib.Core.Path.{_≡_};
+ghost use mathlib.Core.Bool.{true};
+ghost use Prim.Native.Nat.{_<_};
+ghost use Rattle.transform.specs.numbers.Plan.{keptKeys, firstOfNumbers, numbersAt, runsOfNumbers};
+use crate::numbers;
+use walk::plan_words;
+
+// No shorter way; numbers or keys; run ends over numbers.
+pub const OTHER: u8 = 0;
+
+pub const NUMBERS: u8 = 1;
+
+pub const RUNS: u8 = 2;
+
+// Whether the type is keys whose dictionary is kept, with values that are a leaf.
+fn is_kept_keys(plan: &[u64]) -> bool
+    ensures { λ r. ⌜ (r ≡ true → keptKeys (now (plan .entry)) ≡ true) ⌝ }
+{
+    if plan::parts::node_count(plan) != 2 {
+        return false;
+    }
+    if plan_words::end_of(plan, 0) != 2 {
+        return false;
+    }
+    if plan_words::end_of(plan, 1) != 2 {
+        return false;
+    }
+    if plan_words::dictionary_of(plan, 1) != 0 {
+        return false;
+    }
+    if 16 < plan_words::code_of(plan, 1) {
+        return false;
+    }
+    if plan::parts::is_copied(plan, 1) {
+        return false;
+    }
+    schema::formats::is_fixed(plan_words::code_of(plan, 0))
+}
+
+// Whether node i is of numbers without a dictionary.
+fn is_numbers_at(plan: &[u64], i: usize) -> bool
+    requires { ⌜ i < 31 ⌝ }
+    ensures { λ r. ⌜ (r ≡ true → numbersAt (now (plan .entry)) i ≡ true) ⌝ }
+{
+    if plan_words::end_of(plan, i) != i + 1 {
+        return false;
+    }
+    if plan_words::dictionary_of(plan, i) != 0 {
+        return false;
+    }
+    schema::formats::is_fixed(plan_words::code_of(plan, i))
+}
+
+// Whether the type is run ends over numbers.
+fn is_runs(plan: &[u64]) -> bool
+    ensures { λ r. ⌜ (r ≡ true → runsOfNumbers (now (plan .entry)) ≡ true) ⌝ }
+{
+    if plan::parts::node_count(plan) != 3 {
+        return false;
+    }
+    if plan_words::code_of(plan, 0) != 23 {
+        return false;
+    }
+    if plan_words::dictionary_of(plan, 0) != 0 {
+        return false;
+    }
+    if plan_words::end_of(plan, 0) != 3 {
+        return false;
+    }
+    if !is_numbers_at(plan, 1) {
+        return false;
+    }
+    if !is_numbers_at(plan, 2) {
+        return false;
+    }
+    2 < plan_words::code_of(plan, 1)
+}
+
+// The way of a type.
+pub fn way_of(plan: &[u64]) -> u8
+    ensures { λ r. ⌜ (r ≡ 1 → firstOfNumbers (now (plan .entry)) ≡ true) ⌝ }
+    ensures { λ r. ⌜ (r ≡ 2 → runsOfNumbers (now (plan .entry)) ≡ true) ⌝ }
+{
+    if numbers::is_numbers(plan) {
+        return NUMBERS;
+    }
+    if is_kept_keys(plan) {
+        return NUMBERS;
+    }
+    if is_runs(plan) {
+        return RUNS;
+    }
+    OTHER
+}
