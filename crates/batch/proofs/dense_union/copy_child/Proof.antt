@@ -2,7 +2,7 @@
 use mathlib.Core.Path.{_≡_, refl, sym, ap, subst, _∙_}
 use mathlib.Core.Bool.{not, _&&_}
 use mathlib.Core.List.{List}
-use Prim.Native.Nat.{ℕ, _+_}
+use Prim.Native.Nat.{ℕ, _+_, _≤_}
 use native.Mathlib.Omega.{arith}
 use Rattle.number.specs.Number.{entry}
 use Rattle.walk.specs.Log.{Did}
@@ -11,6 +11,7 @@ use Rattle.batch.specs.Batch.{batchLeaf}
 use Rattle.batch.specs.batch_walk.Plain.{reached}
 use Rattle.batch.specs.batch_walk.Fall.{homeBy, takesOf, takesFrom}
 use Rattle.batch.proofs.batch_walk.PlainLeaf.{plain-wide}
+use Rattle.batch.proofs.batch_walk.Falls.{takes-most}
 use Rattle.batch.proofs.batch_walk.TextLeaf.{flat-rest}
 use Rattle.batch.proofs.batch_walk.Tried.{tried}
 use borrow.Author.Needs.{needs}
@@ -21,7 +22,10 @@ is-text-requires : tie.Need-is-text-requires
 is-text-requires c κs = search needs
 
 copy-texts-requires : tie.Need-copy-texts-requires
-copy-texts-requires c κs = ((c .before .before .before .before .before .before .before .before .before .before .pre .0 .0, c .before .before .before .before .before .before .before .before .before .before .pre .0 .1, sym (c .before .before .before .is-text .ensures) ∙ c .before .before .if1 .taken), (c .before .before .before .before .before .before .before .before .before .before .pre .1 .0, c .before .before .before .before .before .before .before .before .before .before .pre .1 .1 .1))
+copy-texts-requires c κs =
+    let a = c .before .before .before .before .before .before .before .before .before .before .args in
+    let t : a .total ≤ a .n = subst (λ v. v ≤ a .n) (sym (c .before .before .before .before .before .before .before .before .before .before .pre .1 .1 .0 .0)) (takes-most (λ q. homeBy (a .homes .now) (a .body .now) (a .ids + (a .slot + q))) (a .k) (a .n)) in
+    ((c .before .before .before .before .before .before .before .before .before .before .pre .0 .0, c .before .before .before .before .before .before .before .before .before .before .pre .0 .1, sym (c .before .before .before .is-text .ensures) ∙ c .before .before .if1 .taken), (c .before .before .before .before .before .before .before .before .before .before .pre .1 .0, (t, c .before .before .before .before .before .before .before .before .before .before .pre .1 .1 .1)))
 
 same-length : tie.Need-same-length
 same-length c = search needs
