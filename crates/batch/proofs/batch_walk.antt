@@ -2,6 +2,7 @@
 pub mod Sides
 pub mod Sums
 pub mod PlainLeaf
+pub mod TextLeaf
 pub mod Loops
 pub mod Tried
 pub mod Gathered

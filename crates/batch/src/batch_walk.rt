@@ -9,21 +9,33 @@ ghost use Rattle.walk.specs.State.{codeOf};
 ghost use Rattle.walk.specs.Log.{Did};
 ghost use Rattle.leaf_walk.specs.Join.{join};
 ghost use Rattle.batch.specs.Batch.{batchLeaf, batchData, batchWalk};
-ghost use Rattle.batch.specs.batch_walk.Plain.{isListed, plainBelow, isStretched};
+ghost use Rattle.batch.specs.batch_walk.Plain.{isFlat, isListed, flatBelow, isStretched};
 use crate::dense_union;
 use crate::list_view;
 use crate::numbers;
+use crate::texts;
 use nested_rows::lookups;
 use walk::plan_words;
 
-// Whether the nodes below the root are of numbers, and keep no nulls.
-fn plain_below(plan: &[u64]) -> bool
-    ensures { λ r. ⌜ r ≡ plainBelow (now (plan .entry)) ⌝ }
+// Whether node k is of numbers or byte strings, and keeps no nulls.
+fn is_flat(plan: &[u64], k: usize) -> bool
+    requires { ⌜ k < 32 ⌝ }
+    ensures { λ r. ⌜ r ≡ isFlat (now (plan .entry)) k ⌝ }
+{
+    if texts::is_text(plan, k) {
+        return true;
+    }
+    numbers::is_plain(plan, k)
+}
+
+// Whether the nodes below the root are of numbers or byte strings, and keep no nulls.
+fn flat_below(plan: &[u64]) -> bool
+    ensures { λ r. ⌜ r ≡ flatBelow (now (plan .entry)) ⌝ }
 {
     let end = plan_words::end_of(plan, 0);
     let mut k: usize = 1;
     while k < end {
-        if !numbers::is_plain(plan, k) {
+        if !is_flat(plan, k) {
             return false;
         }
         k += 1;
@@ -31,7 +43,7 @@ fn plain_below(plan: &[u64]) -> bool
     true
 }
 
-// Whether the root is a list-view that keeps no nulls, of numbers that keep none.
+// Whether the root is a list-view that keeps no nulls, of numbers or byte strings that keep none.
 fn is_listed(plan: &[u64]) -> bool
     ensures { λ r. ⌜ r ≡ isListed (now (plan .entry)) ⌝ }
 {
@@ -41,15 +53,15 @@ fn is_listed(plan: &[u64]) -> bool
     if plan_words::keeps_of(plan, 0) != 0 {
         return false;
     }
-    numbers::is_plain(plan, 1)
+    is_flat(plan, 1)
 }
 
-// Whether the walk is written for a type: such a list-view, or a dense union of such numbers.
+// Whether the walk is written for a type: such a list-view, or a dense union of such nodes.
 pub fn is_stretched(plan: &[u64]) -> bool
     ensures { λ r. ⌜ r ≡ isStretched (now (plan .entry)) ⌝ }
 {
     if plan_words::code_of(plan, 0) == 22 {
-        return plain_below(plan);
+        return flat_below(plan);
     }
     is_listed(plan)
 }

@@ -11,62 +11,19 @@ ghost use Rattle.leaf_walk.specs.Join.{join};
 ghost use Rattle.batch.specs.Stretch.{sumOf, stretch, stretches};
 ghost use Rattle.batch.specs.Dense.{batchFields, batchDense};
 ghost use Rattle.batch.specs.Batch.{batchLeaf};
-ghost use Rattle.batch.specs.batch_walk.Plain.{isPlain, reached};
-ghost use Rattle.batch.specs.batch_walk.Side.{sideOf, furthestOf};
+ghost use Rattle.batch.specs.batch_walk.Plain.{isPlain, isFlat, reached};
+ghost use Rattle.batch.specs.batch_walk.Side.{furthestOf};
 ghost use Rattle.batch.specs.batch_walk.Fall.{Homed, homeBy, takesOf, takesFrom, Fallen};
+use crate::dense_texts;
 use crate::gather;
 use crate::homes;
 use crate::list_view;
 use crate::numbers;
-use crate::side;
-use crate::side::Stretch;
 use crate::survey;
+use crate::texts;
 use array_data::lent_tables;
 use nested_rows::lookups;
 use walk::plan_words;
-
-// The stretch of child k that begins with its rows a .. a + m - 1, where row `from` of the union is looked at next.
-fn advance(
-    homes: &[u8; 256],
-    body: &[u8],
-    ids: u64,
-    positions: u64,
-    slot: u64,
-    n: u64,
-    k: usize,
-    from: u64,
-    a: u64,
-    m: u64,
-) -> Stretch
-    requires { ⌜ (ids + (slot + n) ≤ length (now body)) × (positions + 4 * (slot + n) ≤ length (now body)) × (slot + n < 2 ^ 63) × (from ≤ n) × (m ≤ from) ⌝ }
-    ensures { λ t. ⌜ ((walk : ℕ → ℕ → List ℕ → Out) (c : List ℕ) → stretch walk (takesFrom (λ r. homeBy (now (homes .entry)) (now (body .entry)) (ids + (slot + r))) (λ r. entry 4 (now (body .entry)) positions (slot + r)) k) (takesOf (λ r. homeBy (now (homes .entry)) (now (body .entry)) (ids + (slot + r))) k) (n - from) from a m c ≡ stretch walk (takesFrom (λ r. homeBy (now (homes .entry)) (now (body .entry)) (ids + (slot + r))) (λ r. entry 4 (now (body .entry)) positions (slot + r)) k) (takesOf (λ r. homeBy (now (homes .entry)) (now (body .entry)) (ids + (slot + r))) k) (n - t .next) (t .next) (t .a) (t .m) c) ⌝ }
-    ensures { λ t. ⌜ (t .next ≤ n) × (from ≤ t .next) ⌝ }
-    ensures { λ t. ⌜ ((t .next ≡ n → ⊥) → (sideOf (t .a) (t .m) (takesFrom (λ r. homeBy (now (homes .entry)) (now (body .entry)) (ids + (slot + r))) (λ r. entry 4 (now (body .entry)) positions (slot + r)) k (t .next)) (takesOf (λ r. homeBy (now (homes .entry)) (now (body .entry)) (ids + (slot + r))) k (t .next)) ≡ 3)) ⌝ }
-{
-    let mut b = a;
-    let mut p = m;
-    let mut r = from;
-    while r < n {
-        let start = homes::start_at(homes, body, ids, positions, slot + r, k);
-        let size = homes::size_at(homes, body, ids, slot + r, k);
-        let side = side::side_of(b, p, start, size);
-        if side == 3 {
-            return Stretch {
-                a: b,
-                m: p,
-                next: r,
-            };
-        }
-        b = side::next_start(side, b, start);
-        p = side::next_size(side, p, size);
-        r += 1;
-    }
-    Stretch {
-        a: b,
-        m: p,
-        next: r,
-    }
-}
 
 // The stretches of child k.
 fn copy_stretches(
@@ -95,7 +52,7 @@ fn copy_stretches(
     let mut m: u64 = 0;
     let mut r: u64 = 0;
     while r <= n {
-        let t = advance(homes, body, ids, positions, slot, n, k, r, a, m);
+        let t = homes::advance(homes, body, ids, positions, slot, n, k, r, a, m);
         let g = numbers::copy_stretch(
             plan,
             parts,
@@ -166,12 +123,34 @@ fn copy_child(
     total: u64,
     end: u64,
 ) -> u8
-    requires { ⌜ (first < 2 ^ 32) × (k < 32) × (isPlain (now plan) k ≡ true) ⌝ }
+    requires { ⌜ (first < 2 ^ 32) × (k < 32) × (isFlat (now plan) k ≡ true) ⌝ }
     requires { ⌜ (ids + (slot + n) ≤ length (now body)) × (positions + 4 * (slot + n) ≤ length (now body)) × (slot + n < 2 ^ 63) ⌝ }
     requires { ⌜ (total ≡ sumOf (takesOf (λ r. homeBy (now homes) (now body) (ids + (slot + r))) k) n) × (end ≡ furthestOf (λ q. takesFrom (λ r. homeBy (now homes) (now body) (ids + (slot + r))) (λ r. entry 4 (now body) positions (slot + r)) k q + takesOf (λ r. homeBy (now homes) (now body) (ids + (slot + r))) k q) n) ⌝ }
     requires { ⌜ (whole ≡ true → (walk : ℕ → ℕ → List ℕ → Out) (c : List ℕ) → stretches walk (takesFrom (λ r. homeBy (now homes) (now body) (ids + (slot + r))) (λ r. entry 4 (now body) positions (slot + r)) k) (takesOf (λ r. homeBy (now homes) (now body) (ids + (slot + r))) k) n c ≡ walk begin total c) ⌝ }
     ensures { λ g. ⌜ ((source : ℕ) → Did (now (plan .entry)) (now (parts .entry)) write (stretches (λ a m d. batchLeaf (join (now (plan .entry)) (now (parts .entry)) (now (lengths .entry)) (now (places .entry)) (now (body .entry)) first source) k a m d) (takesFrom (λ r. homeBy (now (homes .entry)) (now (body .entry)) (ids + (slot + r))) (λ r. entry 4 (now (body .entry)) positions (slot + r)) k) (takesOf (λ r. homeBy (now (homes .entry)) (now (body .entry)) (ids + (slot + r))) k) n (now (counters .entry))) (now (room .entry)) g (now (counters .exit)) (now (room .exit))) ⌝ }
 {
+    if texts::is_text(plan, k) {
+        return dense_texts::copy_texts(
+            plan,
+            parts,
+            lengths,
+            places,
+            body,
+            counters,
+            room,
+            write,
+            first,
+            homes,
+            ids,
+            positions,
+            slot,
+            n,
+            k,
+            whole,
+            begin,
+            total,
+        );
+    }
     let w = lookups::width_at(plan, k);
     if all_reached(lengths, places, body, write, first, k, w, end) {
         plan_words::add_rows(counters, k, total);
@@ -258,7 +237,7 @@ fn copy_children(
     slot: u64,
     n: u64,
 ) -> u8
-    requires { ⌜ (first < 2 ^ 32) × (i < 32) × ((j : ℕ) → i < j → j < endOf (now plan) i → isPlain (now plan) j ≡ true) ⌝ }
+    requires { ⌜ (first < 2 ^ 32) × (i < 32) × ((j : ℕ) → i < j → j < endOf (now plan) i → isFlat (now plan) j ≡ true) ⌝ }
     requires { ⌜ (ids + (slot + n) ≤ length (now body)) × (positions + 4 * (slot + n) ≤ length (now body)) × (slot + n < 2 ^ 63) ⌝ }
     requires { ⌜ Homed (now plan) i (now homes) × (ids ≡ place (join [] [] [] (now places) [] first 0) i 3) × (positions ≡ place (join [] [] [] (now places) [] first 0) i 5) ⌝ }
     requires { ⌜ Fallen (λ r. homeBy (now homes) (now body) (ids + (slot + r))) (λ r. entry 4 (now body) positions (slot + r)) n n whole (now begins) (now taken) (now ends) ⌝ }
@@ -323,7 +302,7 @@ pub fn copy_dense(
     slot: u64,
     n: u64,
 ) -> u8
-    requires { ⌜ (first < 2 ^ 32) × (i < 32) × (slot + n < 2 ^ 63) × ((j : ℕ) → i < j → j < endOf (now plan) i → isPlain (now plan) j ≡ true) ⌝ }
+    requires { ⌜ (first < 2 ^ 32) × (i < 32) × (slot + n < 2 ^ 63) × ((j : ℕ) → i < j → j < endOf (now plan) i → isFlat (now plan) j ≡ true) ⌝ }
     ensures { λ g. ⌜ ((source : ℕ) → Did (now (plan .entry)) (now (parts .entry)) write (batchDense (join (now (plan .entry)) (now (parts .entry)) (now (lengths .entry)) (now (places .entry)) (now (body .entry)) first source) (batchLeaf (join (now (plan .entry)) (now (parts .entry)) (now (lengths .entry)) (now (places .entry)) (now (body .entry)) first source)) i slot n (now (counters .entry))) (now (room .entry)) g (now (counters .exit)) (now (room .exit))) ⌝ }
 {
     if !list_view::is_owned(plan, i) {

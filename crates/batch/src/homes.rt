@@ -1,11 +1,17 @@
 // The child that takes each row of a dense union, and the position there.
 ghost use mathlib.Core.Path.{_≡_};
 ghost use mathlib.Core.Bool.{cond};
-ghost use Prim.Native.Nat.{_+_, _*_, _<_, _≤_};
+ghost use mathlib.Core.List.{List};
+ghost use Prim.Native.Nat.{ℕ, _+_, _*_, _-_, _<_, _≤_, _^_};
 ghost use lib.ListN.{length};
 ghost use lib.Dec.{eqb};
 ghost use Rattle.number.specs.Number.{entry};
-ghost use Rattle.batch.specs.batch_walk.Fall.{Homed, homeBy};
+ghost use Rattle.walk.specs.Log.{Out};
+ghost use Rattle.batch.specs.Stretch.{stretch};
+ghost use Rattle.batch.specs.batch_walk.Side.{sideOf};
+ghost use Rattle.batch.specs.batch_walk.Fall.{Homed, homeBy, takesOf, takesFrom};
+use crate::side;
+use crate::side::Stretch;
 use walk::plan_words;
 
 // The child of an id that had `had`, with child k.
@@ -76,4 +82,47 @@ pub fn size_at(homes: &[u8; 256], body: &[u8], ids: u64, q: u64, k: usize) -> u6
         return 0;
     }
     1
+}
+
+// The stretch of child k that begins with its rows a .. a + m - 1, where row `from` of the union is looked at next.
+pub fn advance(
+    homes: &[u8; 256],
+    body: &[u8],
+    ids: u64,
+    positions: u64,
+    slot: u64,
+    n: u64,
+    k: usize,
+    from: u64,
+    a: u64,
+    m: u64,
+) -> Stretch
+    requires { ⌜ (ids + (slot + n) ≤ length (now body)) × (positions + 4 * (slot + n) ≤ length (now body)) × (slot + n < 2 ^ 63) × (from ≤ n) × (m ≤ from) ⌝ }
+    ensures { λ t. ⌜ ((walk : ℕ → ℕ → List ℕ → Out) (c : List ℕ) → stretch walk (takesFrom (λ r. homeBy (now (homes .entry)) (now (body .entry)) (ids + (slot + r))) (λ r. entry 4 (now (body .entry)) positions (slot + r)) k) (takesOf (λ r. homeBy (now (homes .entry)) (now (body .entry)) (ids + (slot + r))) k) (n - from) from a m c ≡ stretch walk (takesFrom (λ r. homeBy (now (homes .entry)) (now (body .entry)) (ids + (slot + r))) (λ r. entry 4 (now (body .entry)) positions (slot + r)) k) (takesOf (λ r. homeBy (now (homes .entry)) (now (body .entry)) (ids + (slot + r))) k) (n - t .next) (t .next) (t .a) (t .m) c) ⌝ }
+    ensures { λ t. ⌜ (t .next ≤ n) × (from ≤ t .next) ⌝ }
+    ensures { λ t. ⌜ ((t .next ≡ n → ⊥) → (sideOf (t .a) (t .m) (takesFrom (λ r. homeBy (now (homes .entry)) (now (body .entry)) (ids + (slot + r))) (λ r. entry 4 (now (body .entry)) positions (slot + r)) k (t .next)) (takesOf (λ r. homeBy (now (homes .entry)) (now (body .entry)) (ids + (slot + r))) k (t .next)) ≡ 3)) ⌝ }
+{
+    let mut b = a;
+    let mut p = m;
+    let mut r = from;
+    while r < n {
+        let start = start_at(homes, body, ids, positions, slot + r, k);
+        let size = size_at(homes, body, ids, slot + r, k);
+        let side = side::side_of(b, p, start, size);
+        if side == 3 {
+            return Stretch {
+                a: b,
+                m: p,
+                next: r,
+            };
+        }
+        b = side::next_start(side, b, start);
+        p = side::next_size(side, p, size);
+        r += 1;
+    }
+    Stretch {
+        a: b,
+        m: p,
+        next: r,
+    }
 }

@@ -1,6 +1,7 @@
 // Theory: an order walked by stretches, child rows that follow one another in one walk, and that it comes to what the walk of a copy
 // comes to.
 pub mod batch_walk;
+mod dense_texts;
 mod dense_union;
 mod gather;
 mod homes;
@@ -11,3 +12,5 @@ pub mod rise;
 mod side;
 mod sizes;
 mod survey;
+mod text_lists;
+mod texts;

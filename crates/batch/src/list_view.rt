@@ -11,13 +11,14 @@ ghost use Rattle.walk.specs.Log.{Out, Did};
 ghost use Rattle.leaf_walk.specs.Join.{join};
 ghost use Rattle.batch.specs.Stretch.{sumOf, stretch, stretches};
 ghost use Rattle.batch.specs.Batch.{owned, batchLeaf, batchListView};
-ghost use Rattle.batch.specs.batch_walk.Plain.{isPlain, reached};
-ghost use Rattle.batch.specs.batch_walk.Side.{sideOf, furthestOf};
+ghost use Rattle.batch.specs.batch_walk.Plain.{isPlain, isFlat, reached};
+ghost use Rattle.batch.specs.batch_walk.Side.{furthestOf};
 use crate::listed;
 use crate::numbers;
 use crate::side;
-use crate::side::Stretch;
 use crate::sizes;
+use crate::text_lists;
+use crate::texts;
 use array_data::lent_tables;
 use nested_rows::lookups;
 use walk::plan_words;
@@ -45,50 +46,6 @@ fn has_child(plan: &[u64], i: usize) -> bool
         return false;
     }
     is_owned(plan, i + 1)
-}
-
-// The stretch that begins with the rows a .. a + m - 1, where row `from` of the list-view is looked at next.
-fn advance(
-    body: &[u8],
-    offsets: u64,
-    sizes: u64,
-    w: u64,
-    slot: u64,
-    n: u64,
-    from: u64,
-    a: u64,
-    m: u64,
-) -> Stretch
-    requires { ⌜ (offsets + w * (slot + n) ≤ length (now body)) × (sizes + w * (slot + n) ≤ length (now body)) × (slot + n < 2 ^ 63) × (from ≤ n) ⌝ }
-    requires { ⌜ (m ≤ sumOf (λ q. entry w (now body) sizes (slot + q)) from) × (sumOf (λ q. entry w (now body) sizes (slot + q)) n < 2 ^ 63) ⌝ }
-    requires { ⌜ ((w ≡ 4 → ⊥) → w ≡ 8) ⌝ }
-    ensures { λ t. ⌜ ((walk : ℕ → ℕ → List ℕ → Out) (c : List ℕ) → stretch walk (λ r. entry w (now (body .entry)) offsets (slot + r)) (λ r. entry w (now (body .entry)) sizes (slot + r)) (n - from) from a m c ≡ stretch walk (λ r. entry w (now (body .entry)) offsets (slot + r)) (λ r. entry w (now (body .entry)) sizes (slot + r)) (n - t .next) (t .next) (t .a) (t .m) c) ⌝ }
-    ensures { λ t. ⌜ (t .next ≤ n) × (from ≤ t .next) ⌝ }
-    ensures { λ t. ⌜ ((t .next ≡ n → ⊥) → sideOf (t .a) (t .m) (entry w (now (body .entry)) offsets (slot + t .next)) (entry w (now (body .entry)) sizes (slot + t .next)) ≡ 3) ⌝ }
-{
-    let mut b = a;
-    let mut k = m;
-    let mut r = from;
-    while r < n {
-        let start = lookups::entry_at(body, offsets, w, slot + r);
-        let size = lookups::entry_at(body, sizes, w, slot + r);
-        let side = side::side_of(b, k, start, size);
-        if side == 3 {
-            return Stretch {
-                a: b,
-                m: k,
-                next: r,
-            };
-        }
-        b = side::next_start(side, b, start);
-        k = side::next_size(side, k, size);
-        r += 1;
-    }
-    Stretch {
-        a: b,
-        m: k,
-        next: r,
-    }
 }
 
 // The stretches of a child of numbers, for offsets and sizes of w bytes.
@@ -120,7 +77,7 @@ fn copy_number_stretches(
     let mut m: u64 = 0;
     let mut r: u64 = 0;
     while r < n {
-        let t = advance(body, offsets, sizes, w, slot, n, r, a, m);
+        let t = side::advance(body, offsets, sizes, w, slot, n, r, a, m);
         let g = numbers::copy_stretch(
             plan,
             parts,
@@ -259,7 +216,65 @@ fn copy_numbers(
     )
 }
 
-// A list-view with offsets of w bytes, whose child is of numbers without validity.
+// The stretches of a child of numbers or byte strings, which have `total` rows together.
+fn copy_rows(
+    plan: &[u64],
+    parts: &[u64],
+    lengths: &[u64],
+    places: &[u64],
+    body: &[u8],
+    counters: &mut [u64; plan_words::COUNTERS],
+    room: &mut [u8],
+    write: bool,
+    first: usize,
+    i: usize,
+    w: u64,
+    slot: u64,
+    n: u64,
+    total: u64,
+) -> u8
+    requires { ⌜ (first < 2 ^ 32) × (i + 1 < 32) × (slot + n < 2 ^ 63) × (isFlat (now plan) (suc i) ≡ true) ⌝ }
+    requires { ⌜ (place (join [] [] [] (now places) [] first 0) i 3 + w * (slot + n) ≤ length (now body)) × (place (join [] [] [] (now places) [] first 0) i 5 + w * (slot + n) ≤ length (now body)) ⌝ }
+    requires { ⌜ (sumOf (λ q. entry w (now body) (place (join [] [] [] (now places) [] first 0) i 5) (slot + q)) n < 2 ^ 63) × (total ≡ sumOf (λ q. entry w (now body) (place (join [] [] [] (now places) [] first 0) i 5) (slot + q)) n) ⌝ }
+    requires { ⌜ ((w ≡ 4 → ⊥) → w ≡ 8) ⌝ }
+    ensures { λ g. ⌜ ((source : ℕ) → Did (now (plan .entry)) (now (parts .entry)) write (stretches (λ a m d. batchLeaf (join (now (plan .entry)) (now (parts .entry)) (now (lengths .entry)) (now (places .entry)) (now (body .entry)) first source) (suc i) a m d) (λ r. entry w (now (body .entry)) (place (join (now (plan .entry)) (now (parts .entry)) (now (lengths .entry)) (now (places .entry)) (now (body .entry)) first source) i 3) (slot + r)) (λ r. entry w (now (body .entry)) (place (join (now (plan .entry)) (now (parts .entry)) (now (lengths .entry)) (now (places .entry)) (now (body .entry)) first source) i 5) (slot + r)) n (now (counters .entry))) (now (room .entry)) g (now (counters .exit)) (now (room .exit))) ⌝ }
+{
+    if texts::is_text(plan, i + 1) {
+        return text_lists::copy_stretches(
+            plan,
+            parts,
+            lengths,
+            places,
+            body,
+            counters,
+            room,
+            write,
+            first,
+            i,
+            w,
+            slot,
+            n,
+        );
+    }
+    copy_numbers(
+        plan,
+        parts,
+        lengths,
+        places,
+        body,
+        counters,
+        room,
+        write,
+        first,
+        i,
+        w,
+        slot,
+        n,
+        total,
+    )
+}
+
+// A list-view with offsets of w bytes, whose child is of numbers or byte strings without validity.
 pub fn copy_list_view(
     plan: &[u64],
     parts: &[u64],
@@ -275,7 +290,7 @@ pub fn copy_list_view(
     slot: u64,
     n: u64,
 ) -> u8
-    requires { ⌜ (first < 2 ^ 32) × (i + 1 < 32) × (slot + n < 2 ^ 63) × (isPlain (now plan) (suc i) ≡ true) ⌝ }
+    requires { ⌜ (first < 2 ^ 32) × (i + 1 < 32) × (slot + n < 2 ^ 63) × (isFlat (now plan) (suc i) ≡ true) ⌝ }
     requires { ⌜ ((w ≡ 4 → ⊥) → w ≡ 8) ⌝ }
     ensures { λ g. ⌜ ((source : ℕ) → Did (now (plan .entry)) (now (parts .entry)) write (batchListView (join (now (plan .entry)) (now (parts .entry)) (now (lengths .entry)) (now (places .entry)) (now (body .entry)) first source) (batchLeaf (join (now (plan .entry)) (now (parts .entry)) (now (lengths .entry)) (now (places .entry)) (now (body .entry)) first source)) w i slot n (now (counters .entry))) (now (room .entry)) g (now (counters .exit)) (now (room .exit))) ⌝ }
 {
@@ -319,7 +334,7 @@ pub fn copy_list_view(
         from as usize,
         w * n,
     );
-    copy_numbers(
+    copy_rows(
         plan,
         parts,
         lengths,

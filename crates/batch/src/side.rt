@@ -1,7 +1,13 @@
 // Rows of a child that are walked together, and where the rows of one more row of the parent stand beside them.
 ghost use mathlib.Core.Path.{_≡_};
-ghost use Prim.Native.Nat.{_+_, _<_, _^_};
+ghost use mathlib.Core.List.{List};
+ghost use Prim.Native.Nat.{ℕ, _+_, _*_, _-_, _<_, _≤_, _^_};
+ghost use lib.ListN.{length};
+ghost use Rattle.number.specs.Number.{entry};
+ghost use Rattle.walk.specs.Log.{Out};
+ghost use Rattle.batch.specs.Stretch.{sumOf, stretch};
 ghost use Rattle.batch.specs.batch_walk.Side.{sideOf, nextStart, nextSize};
+use nested_rows::lookups;
 
 // The child's rows a .. a + m - 1, and the parent's row that is looked at next.
 pub struct Stretch {
@@ -58,4 +64,48 @@ pub fn next_size(side: u8, m: u64, size: u64) -> u64
         return m + size;
     }
     m
+}
+
+// The stretch that begins with the rows a .. a + m - 1, where row `from` of the list-view is looked at next.
+pub fn advance(
+    body: &[u8],
+    offsets: u64,
+    sizes: u64,
+    w: u64,
+    slot: u64,
+    n: u64,
+    from: u64,
+    a: u64,
+    m: u64,
+) -> Stretch
+    requires { ⌜ (offsets + w * (slot + n) ≤ length (now body)) × (sizes + w * (slot + n) ≤ length (now body)) × (slot + n < 2 ^ 63) × (from ≤ n) ⌝ }
+    requires { ⌜ (m ≤ sumOf (λ q. entry w (now body) sizes (slot + q)) from) × (sumOf (λ q. entry w (now body) sizes (slot + q)) n < 2 ^ 63) ⌝ }
+    requires { ⌜ ((w ≡ 4 → ⊥) → w ≡ 8) ⌝ }
+    ensures { λ t. ⌜ ((walk : ℕ → ℕ → List ℕ → Out) (c : List ℕ) → stretch walk (λ r. entry w (now (body .entry)) offsets (slot + r)) (λ r. entry w (now (body .entry)) sizes (slot + r)) (n - from) from a m c ≡ stretch walk (λ r. entry w (now (body .entry)) offsets (slot + r)) (λ r. entry w (now (body .entry)) sizes (slot + r)) (n - t .next) (t .next) (t .a) (t .m) c) ⌝ }
+    ensures { λ t. ⌜ (t .next ≤ n) × (from ≤ t .next) ⌝ }
+    ensures { λ t. ⌜ ((t .next ≡ n → ⊥) → sideOf (t .a) (t .m) (entry w (now (body .entry)) offsets (slot + t .next)) (entry w (now (body .entry)) sizes (slot + t .next)) ≡ 3) ⌝ }
+{
+    let mut b = a;
+    let mut k = m;
+    let mut r = from;
+    while r < n {
+        let start = lookups::entry_at(body, offsets, w, slot + r);
+        let size = lookups::entry_at(body, sizes, w, slot + r);
+        let side = side_of(b, k, start, size);
+        if side == 3 {
+            return Stretch {
+                a: b,
+                m: k,
+                next: r,
+            };
+        }
+        b = next_start(side, b, start);
+        k = next_size(side, k, size);
+        r += 1;
+    }
+    Stretch {
+        a: b,
+        m: k,
+        next: r,
+    }
 }

@@ -263,6 +263,12 @@ pub size-most : (b : Bool) {s : ℕ} → s ≡ cond b 1 0 → s ≤ 1
 size-most true e = omega arith
 size-most false e = omega arith
 
+-- no child takes more rows than there are
+pub takes-most : (home : ℕ → ℕ) (k n : ℕ) → sumOf (takesOf home k) n ≤ n
+unfolding sumOf
+takes-most home k zero = omega arith
+takes-most home k (suc n) = let h = takes-most home k n in let s = size-most (eqb (home n) k) refl in omega arith
+
 -- where a stretch begins stays below what both are below
 pub begin-most : (t : ℕ) {s b0 b : ℕ} (m : ℕ) → b ≡ cond (eqb t 0) s b0 → s < m → b0 < m → b < m
 begin-most t {s} {b0} {b} m e h g = go (eqb t 0) e

@@ -1,6 +1,6 @@
 -- The loops over stretches: what is left of them does what is left of the whole. Assumes nothing.
 use mathlib.Core.Path.{_≡_, refl, sym, ap, subst, _∙_}
-use mathlib.Core.Bool.{Bool, true, false}
+use mathlib.Core.Bool.{Bool, true, false, cond}
 use mathlib.Core.List.{List}
 use Prim.Native.Nat.{ℕ, zero, suc, _+_, _-_, _≤_, _<_}
 use native.Mathlib.Nat.{sub-zero}
@@ -60,6 +60,18 @@ begins plan parts wr walk w body slot n c room {o} {z} {p} {q} e f g c2 room2 d 
     subst (λ v. Did plan parts wr (stretch walk (λ r. entry w body p (slot + r)) (λ r. entry w body v (slot + r)) n 0 0 0 c) room g c2 room2) f
     (subst (λ v. Did plan parts wr (stretch walk (λ r. entry w body v (slot + r)) (λ r. entry w body z (slot + r)) n 0 0 0 c) room g c2 room2) e
     (subst (λ v. Did plan parts wr (stretch walk (λ r. entry w body o (slot + r)) (λ r. entry w body z (slot + r)) v 0 0 0 c) room g c2 room2) (sub-zero n) d))
+
+-- all rows are one stretch if they are whole
+pub begun-in : (whole : Bool) (n total : ℕ) → total ≤ n → {m r : ℕ} → m ≡ cond whole total 0 → r ≡ cond whole n 0 → (r ≤ n) × (m ≤ r)
+begun-in true n total h e f = (omega arith, omega arith)
+begun-in false n total h e f = (omega arith, omega arith)
+
+pub begun : {plan parts : List ℕ} {wr : Bool} (walk : ℕ → ℕ → List ℕ → Out) (start size : ℕ → ℕ) (whole : Bool) (n begin total : ℕ) (c room : List ℕ)
+    → (whole ≡ true → stretches walk start size n c ≡ walk begin total c) → {a m r : ℕ} → a ≡ cond whole begin 0 → m ≡ cond whole total 0 → r ≡ cond whole n 0
+    → Rest plan parts wr (stretches walk start size n c) room (stretch walk start size (n - r) r a m c) room
+unfolding stretch
+begun walk start size true n begin total c room one e f g g2 c2 room2 d = let z : n - n ≡ 0 = omega arith in rw (one refl) (rw (e, f, g, z) at d)
+begun walk start size false n begin total c room one e f g g2 c2 room2 d = rw (e, f, g, sub-zero n) at d
 
 -- one turn of the loop: o0 from room0 is the whole, the rows from r on are left, and the stretch ends before row t
 module _ {plan parts : List ℕ} {wr : Bool} (walk : ℕ → ℕ → List ℕ → Out) (start size : ℕ → ℕ) (n r a m : ℕ) (c room : List ℕ) {o0 : Out} {room0 : List ℕ} (rest : Rest plan parts wr o0 room0 (stretch walk start size (n - r) r a m c) room) where

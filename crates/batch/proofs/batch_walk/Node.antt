@@ -25,7 +25,7 @@ use Rattle.batch.specs.Dense.{batchDense}
 use Rattle.batch.specs.Batch.{owned, batchLeaf, batchListView, batchData, batchSlots, batchNode, batchWalk}
 use Rattle.batch.proofs.Ends.{need-is}
 use Rattle.batch.proofs.Stretches.{and-left, and-right}
-use Rattle.batch.specs.batch_walk.Plain.{isPlain, isListed, plainBelow, isStretched}
+use Rattle.batch.specs.batch_walk.Plain.{isFlat, isListed, flatBelow, isStretched}
 
 -- ---- what a type says
 
@@ -40,51 +40,51 @@ module _ (S : List ℕ) where
   pub not-kept : {code v : ℕ} {r : Bool} → code ≡ codeOf S 0 → r ≡ isListView code → not r ≡ false → v ≡ keepsOf S 0 → (v ≡ 0 → ⊥) → false ≡ isListed S
   not-kept e q h p g = let f : isListView (codeOf S 0) ≡ true = rw e at (yes q h) in rw (f, is-some p g) refl
 
-  pub of-plain : {code v : ℕ} {r t : Bool} → code ≡ codeOf S 0 → r ≡ isListView code → not r ≡ false → v ≡ keepsOf S 0 → v ≡ 0 → t ≡ isPlain S 1 → t ≡ isListed S
-  of-plain e q h p g o = let f : isListView (codeOf S 0) ≡ true = rw e at (yes q h) in rw (f, is-none p g) o
+  pub of-flat : {code v : ℕ} {r t : Bool} → code ≡ codeOf S 0 → r ≡ isListView code → not r ≡ false → v ≡ keepsOf S 0 → v ≡ 0 → t ≡ isFlat S 1 → t ≡ isListed S
+  of-flat e q h p g o = let f : isListView (codeOf S 0) ≡ true = rw e at (yes q h) in rw (f, is-none p g) o
 
   -- ---- the nodes below the root
 
-  abbrev plainFrom : ℕ → Bool
-  plainFrom j = isPlain S (suc j)
+  abbrev flatFrom : ℕ → Bool
+  flatFrom j = isFlat S (suc j)
 
-  pub below-none : true ≡ every plainFrom (1 - 1)
+  pub below-none : true ≡ every flatFrom (1 - 1)
   below-none = refl
 
-  pub below-more : (k : ℕ) → 1 ≤ k → true ≡ every plainFrom (k - 1) → {t : Bool} → t ≡ isPlain S k → not t ≡ false → true ≡ every plainFrom (k + 1 - 1)
+  pub below-more : (k : ℕ) → 1 ≤ k → true ≡ every flatFrom (k - 1) → {t : Bool} → t ≡ isFlat S k → not t ≡ false → true ≡ every flatFrom (k + 1 - 1)
   below-more k h e {t} f g =
       let y : k + 1 - 1 ≡ suc (k - 1) = omega arith in
       let z : suc (k - 1) ≡ k = omega arith in
-      let p : isPlain S (suc (k - 1)) ≡ true = subst (λ v. isPlain S v ≡ true) (sym z) (yes f g) in
+      let p : isFlat S (suc (k - 1)) ≡ true = subst (λ v. isFlat S v ≡ true) (sym z) (yes f g) in
       rw (y, ← e, p) refl
 
-  pub below-no : (k : ℕ) → 1 ≤ k → {end : ℕ} → end ≡ endOf S 0 → k < end → {t : Bool} → t ≡ isPlain S k → not t ≡ true → false ≡ plainBelow S
-  below-no k h {end} e l f g = go (every plainFrom (endOf S 0 - 1)) refl
+  pub below-no : (k : ℕ) → 1 ≤ k → {end : ℕ} → end ≡ endOf S 0 → k < end → {t : Bool} → t ≡ isFlat S k → not t ≡ true → false ≡ flatBelow S
+  below-no k h {end} e l f g = go (every flatFrom (endOf S 0 - 1)) refl
     where
-      go : (t : Bool) → every plainFrom (endOf S 0 - 1) ≡ t → false ≡ t
+      go : (t : Bool) → every flatFrom (endOf S 0 - 1) ≡ t → false ≡ t
       go true q =
           let z : suc (k - 1) ≡ k = omega arith in
-          let y = every-at plainFrom (endOf S 0 - 1) q (k - 1) (omega arith) in
-          sym (no f g) ∙ subst (λ v. isPlain S v ≡ true) z y
+          let y = every-at flatFrom (endOf S 0 - 1) q (k - 1) (omega arith) in
+          sym (no f g) ∙ subst (λ v. isFlat S v ≡ true) z y
       go false q = refl
 
-  pub below-all : (k : ℕ) → 1 ≤ k → true ≡ every plainFrom (k - 1) → {end : ℕ} → end ≡ endOf S 0 → end ≤ k → true ≡ plainBelow S
-  below-all k h e {end} f g = sym (every-fewer plainFrom (endOf S 0 - 1) (k - 1) (omega arith) (sym e))
+  pub below-all : (k : ℕ) → 1 ≤ k → true ≡ every flatFrom (k - 1) → {end : ℕ} → end ≡ endOf S 0 → end ≤ k → true ≡ flatBelow S
+  below-all k h e {end} f g = sym (every-fewer flatFrom (endOf S 0 - 1) (k - 1) (omega arith) (sym e))
 
   -- ---- which of them
 
-  pub of-dense : {code : ℕ} {t : Bool} → code ≡ codeOf S 0 → code ≡ 22 → t ≡ plainBelow S → t ≡ isStretched S
+  pub of-dense : {code : ℕ} {t : Bool} → code ≡ codeOf S 0 → code ≡ 22 → t ≡ flatBelow S → t ≡ isStretched S
   of-dense e f g = rw (eq-eqb (codeOf S 0) 22 (sym e ∙ f)) g
 
   pub of-list : {code : ℕ} {t : Bool} → code ≡ codeOf S 0 → (code ≡ 22 → ⊥) → t ≡ isListed S → t ≡ isStretched S
   of-list e f g = rw (ne-eqb (codeOf S 0) 22 (λ z. f (e ∙ z))) g
 
   module _ (is : isStretched S ≡ true) where
-    pub kids-plain : {code : ℕ} → code ≡ codeOf S 0 → code ≡ 22 → (j : ℕ) → 0 < j → j < endOf S 0 → isPlain S j ≡ true
-    kids-plain e f j l h =
-        let g : plainBelow S ≡ true = rw (eq-eqb (codeOf S 0) 22 (sym e ∙ f)) at is in
+    pub kids-flat : {code : ℕ} → code ≡ codeOf S 0 → code ≡ 22 → (j : ℕ) → 0 < j → j < endOf S 0 → isFlat S j ≡ true
+    kids-flat e f j l h =
+        let g : flatBelow S ≡ true = rw (eq-eqb (codeOf S 0) 22 (sym e ∙ f)) at is in
         let z : suc (j - 1) ≡ j = omega arith in
-        subst (λ v. isPlain S v ≡ true) z (every-at plainFrom (endOf S 0 - 1) g (j - 1) (omega arith))
+        subst (λ v. isFlat S v ≡ true) z (every-at flatFrom (endOf S 0 - 1) g (j - 1) (omega arith))
 
     pub list-is : {code : ℕ} → code ≡ codeOf S 0 → (code ≡ 22 → ⊥) → isListed S ≡ true
     list-is e f = rw (ne-eqb (codeOf S 0) 22 (λ z. f (e ∙ z))) at is
@@ -96,8 +96,8 @@ module _ (S : List ℕ) where
     pub keeps-none : eqb (keepsOf S 0) 0 ≡ true
     keeps-none = and-left (eqb (keepsOf S 0) 0) _ (and-right (isListView (codeOf S 0)) _ is)
 
-    pub child-plain : isPlain S 1 ≡ true
-    child-plain = and-right (eqb (keepsOf S 0) 0) _ (and-right (isListView (codeOf S 0)) _ is)
+    pub child-flat : isFlat S 1 ≡ true
+    child-flat = and-right (eqb (keepsOf S 0) 0) _ (and-right (isListView (codeOf S 0)) _ is)
 
 -- ---- its data
 

@@ -1,28 +1,42 @@
--- Children whose stretches are copies of bytes. Assumes nothing.
-use mathlib.Core.Bool.{Bool, cond, _&&_}
+-- Children whose stretches are copies of bytes, or of offsets and bytes. Assumes nothing.
+use mathlib.Core.Bool.{Bool, true, cond, _&&_}
 use mathlib.Core.List.{List}
-use Prim.Native.Nat.{ℕ, suc, _-_}
+use Prim.Native.Nat.{ℕ, suc, _+_, _*_, _-_}
 use lib.Dec.{ltb, eqb}
 use Rattle.columnar.specs.Test.{every}
-use Rattle.schema.specs.formats.Code.{isFixed, isListView}
+use Rattle.schema.specs.formats.Code.{isFixed, isString, isListView}
 use Rattle.walk.specs.State.{Join, codeOf, dictionaryOf, endOf, keepsOf, place, far, slotOf, rowsIn}
+use Rattle.walk.specs.Log.{Out, need}
+use Rattle.walk.specs.Leaves.{copyString}
+use Rattle.batch.specs.Stretch.{neverFalls}
 
 -- node k is of numbers, and keeps no nulls
 abbrev pub isPlain : List ℕ → ℕ → Bool
 isPlain plan k = isFixed (codeOf plan k) && (eqb (dictionaryOf plan k) 0 && eqb (keepsOf plan k) 0)
 
+-- node k is of byte strings, and keeps no nulls
+abbrev pub isText : List ℕ → ℕ → Bool
+isText plan k = isString (codeOf plan k) && eqb (keepsOf plan k) 0
+
+abbrev pub isFlat : List ℕ → ℕ → Bool
+isFlat plan k = cond (isText plan k) true (isPlain plan k)
+
+-- the byte strings of node k from `slot` on, where their offsets never fall
+abbrev pub steadyString : Join → ℕ → ℕ → ℕ → ℕ → List ℕ → Out
+steadyString x k w slot n c = need (neverFalls w (x .body) (place x k 3 + w * slot) n) 12 c (copyString x k w slot n c)
+
 -- the entries of w bytes of node k before row `end` stand in the body
 unfoldable pub reached : Join → ℕ → ℕ → ℕ → Bool
 reached x k w end = ltb (slotOf x k end 0) far && rowsIn x (place x k 3) w (slotOf x k end 0) 0
 
--- the root is a list-view that keeps no nulls, of numbers that keep none
+-- the root is a list-view that keeps no nulls, of numbers or byte strings that keep none
 abbrev pub isListed : List ℕ → Bool
-isListed plan = isListView (codeOf plan 0) && (eqb (keepsOf plan 0) 0 && isPlain plan 1)
+isListed plan = isListView (codeOf plan 0) && (eqb (keepsOf plan 0) 0 && isFlat plan 1)
 
--- the nodes below the root are of numbers, and keep no nulls
-abbrev pub plainBelow : List ℕ → Bool
-plainBelow plan = every (λ j. isPlain plan (suc j)) (endOf plan 0 - 1)
+-- the nodes below the root are of numbers or byte strings, and keep no nulls
+abbrev pub flatBelow : List ℕ → Bool
+flatBelow plan = every (λ j. isFlat plan (suc j)) (endOf plan 0 - 1)
 
--- the root is such a list-view, or a dense union of such numbers
+-- the root is such a list-view, or a dense union of such nodes
 abbrev pub isStretched : List ℕ → Bool
-isStretched plan = cond (eqb (codeOf plan 0) 22) (plainBelow plan) (isListed plan)
+isStretched plan = cond (eqb (codeOf plan 0) 22) (flatBelow plan) (isListed plan)

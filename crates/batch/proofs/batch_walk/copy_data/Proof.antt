@@ -3,7 +3,7 @@ use mathlib.Core.Path.{_≡_, refl}
 use native.Mathlib.Omega.{arith}
 use Rattle.leaf_walk.specs.Join.{join}
 use Rattle.nested_rows.proofs.node_data.Laws.{list-wide}
-use Rattle.batch.proofs.batch_walk.Node.{listed, child-plain, list-is, kids-plain, data-list, data-dense}
+use Rattle.batch.proofs.batch_walk.Node.{listed, child-flat, list-is, kids-flat, data-list, data-dense}
 use borrow.Author.Needs.{needs}
 use Rattle.batch.proofs.batch_walk.copy_data.Statement.{statement}
 use Rattle.batch.proofs.batch_walk.copy_data.Tie as tie
@@ -12,7 +12,7 @@ code-of-requires : tie.Need-code-of-requires
 code-of-requires c κs = search needs
 
 copy-dense-requires : tie.Need-copy-dense-requires
-copy-dense-requires c κs = (c .before .before .before .before .before .before .before .before .before .before .pre .0, omega arith, c .before .before .before .before .before .before .before .before .before .before .pre .1, kids-plain (c .before .before .before .before .before .before .before .before .before .before .args .plan .now) (c .before .before .before .before .before .before .before .before .before .before .pre .2) (c .before .before .before .code-of .ensures) (c .before .before .if1 .taken))
+copy-dense-requires c κs = (c .before .before .before .before .before .before .before .before .before .before .pre .0, omega arith, c .before .before .before .before .before .before .before .before .before .before .pre .1, kids-flat (c .before .before .before .before .before .before .before .before .before .before .args .plan .now) (c .before .before .before .before .before .before .before .before .before .before .pre .2) (c .before .before .before .code-of .ensures) (c .before .before .if1 .taken))
 
 same-length : tie.Need-same-length
 same-length c = search needs
@@ -29,7 +29,7 @@ copy-list-view-requires : tie.Need-copy-list-view-requires
 copy-list-view-requires c κs =
     let a = c .before .before .before .before .before .before .before .before .before .before .before .args in
     let l = list-is (a .plan .now) (c .before .before .before .before .before .before .before .before .before .before .before .pre .2) (c .before .before .before .before .code-of .ensures) (c .before .before .before .if1 .left) in
-    ((c .before .before .before .before .before .before .before .before .before .before .before .pre .0, omega arith, c .before .before .before .before .before .before .before .before .before .before .before .pre .1, child-plain (a .plan .now) l), list-wide (a .plan .now) 0 refl (c .before .before .width-at .ensures) refl (listed (a .plan .now) l))
+    ((c .before .before .before .before .before .before .before .before .before .before .before .pre .0, omega arith, c .before .before .before .before .before .before .before .before .before .before .before .pre .1, child-flat (a .plan .now) l), list-wide (a .plan .now) 0 refl (c .before .before .width-at .ensures) refl (listed (a .plan .now) l))
 
 same-length-2 : tie.Need-same-length-2
 same-length-2 c = search needs

@@ -7,11 +7,11 @@ use Rattle.batch.proofs.batch_walk.is_stretched.Tie as tie
 code-of-requires : tie.Need-code-of-requires
 code-of-requires c κs = search needs
 
-plain-below-requires : tie.Need-plain-below-requires
-plain-below-requires c κs = search needs
+flat-below-requires : tie.Need-flat-below-requires
+flat-below-requires c κs = search needs
 
 returns : tie.Need-returns
-returns c = of-dense (c .before .before .before .before .args .plan .now) (c .before .before .code-of .ensures) (c .before .if1 .taken) (c .plain-below .ensures)
+returns c = of-dense (c .before .before .before .before .args .plan .now) (c .before .before .code-of .ensures) (c .before .if1 .taken) (c .flat-below .ensures)
 
 is-listed-requires : tie.Need-is-listed-requires
 is-listed-requires c κs = search needs
@@ -20,4 +20,4 @@ returns-2 : tie.Need-returns-2
 returns-2 c = of-list (c .before .before .before .before .args .plan .now) (c .before .before .code-of .ensures) (c .before .if1 .left) (c .is-listed .ensures)
 
 pub is-stretched-spec : {M : Type 1} → statement M
-is-stretched-spec = tie.close (tie.spec code-of-requires plain-below-requires returns is-listed-requires returns-2)
+is-stretched-spec = tie.close (tie.spec code-of-requires flat-below-requires returns is-listed-requires returns-2)

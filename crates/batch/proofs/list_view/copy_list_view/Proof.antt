@@ -90,14 +90,14 @@ put-copy-requires c κs =
     let h = pairs-within (join (a .plan .now) (a .parts .now) (a .lengths .now) (a .places .now) (a .body .now) (a .first) 0) (a .i) (a .w) (a .slot) (a .n) (c .before .before .before .before .before .before .before .before .before .before .before .before .before .before .before .pairs-in .ensures (a .plan .now) (a .parts .now) (a .lengths .now) 0) (c .before .before .before .before .before .before .before .before .before .before .before .before .before .before .if2 .left) in
     omega (arith, h .1, c .before .before .before .before .before .before .before .before .before .before .before .before .before .place .ensures, c .before .before .before .before .before .before .before .before .before .before .before .before .before .before .before .before .before .before .before .before .before .before .before .before .pre .0)
 
-sub-copy-numbers : tie.Need-sub-copy-numbers
-sub-copy-numbers c =
+sub-copy-rows : tie.Need-sub-copy-rows
+sub-copy-rows c =
     let a = c .before .before .before .before .before .before .before .before .before .before .before .before .before .before .before .before .before .before .before .before .before .before .before .before .before .before .before .before .before .args in
     let g = sum-parts (join (a .plan .now) (a .parts .now) (a .lengths .now) (a .places .now) (a .body .now) (a .first) 0) (a .i) (a .w) (a .slot) (a .n) (half-most (a .w) (c .before .before .before .before .before .before .before .before .before .before .before .before .before .before .before .before .before .before .before .before .before .before .before .before .before .before .before .before .before .pre .1)) (c .before .before .before .before .before .before .before .before .before .before .before .before .before .before .before .before .before .before .place .ensures) (c .before .before .before .before .before .before .before .before .before .before .before .before .before .before .before .sum-sizes .ensures) (c .before .before .before .before .before .before .before .before .before .before .before .before .before .before .is-offset .ensures) (c .before .before .before .before .before .before .before .before .before .before .before .before .before .if3 .left) in
     omega (arith, g .1)
 
-copy-numbers-requires : tie.Need-copy-numbers-requires
-copy-numbers-requires c κs =
+copy-rows-requires : tie.Need-copy-rows-requires
+copy-rows-requires c κs =
     let a = c .before .before .before .before .before .before .before .before .before .before .before .before .before .before .before .before .before .before .before .before .before .before .before .before .before .before .before .before .before .args in
     let h = pairs-within (join (a .plan .now) (a .parts .now) (a .lengths .now) (a .places .now) (a .body .now) (a .first) 0) (a .i) (a .w) (a .slot) (a .n) (c .before .before .before .before .before .before .before .before .before .before .before .before .before .before .before .before .before .before .before .before .pairs-in .ensures (a .plan .now) (a .parts .now) (a .lengths .now) 0) (c .before .before .before .before .before .before .before .before .before .before .before .before .before .before .before .before .before .before .before .if2 .left) in
     let g = sum-parts (join (a .plan .now) (a .parts .now) (a .lengths .now) (a .places .now) (a .body .now) (a .first) 0) (a .i) (a .w) (a .slot) (a .n) (half-most (a .w) (c .before .before .before .before .before .before .before .before .before .before .before .before .before .before .before .before .before .before .before .before .before .before .before .before .before .before .before .before .before .pre .1)) (c .before .before .before .before .before .before .before .before .before .before .before .before .before .before .before .before .before .before .place .ensures) (c .before .before .before .before .before .before .before .before .before .before .before .before .before .before .before .sum-sizes .ensures) (c .before .before .before .before .before .before .before .before .before .before .before .before .before .before .is-offset .ensures) (c .before .before .before .before .before .before .before .before .before .before .before .before .before .if3 .left) in
@@ -109,7 +109,7 @@ same-length c = search needs
 returns-4 : tie.Need-returns-4
 returns-4 c =
     let a = c .before .before .before .before .before .before .before .before .before .before .before .before .before .before .before .before .before .before .before .before .before .before .before .before .before .before .before .before .before .before .before .before .args in
-    λ source. list-goes (join (a .plan .now) (a .parts .now) (a .lengths .now) (a .places .now) (a .body .now) (a .first) source) (a .i) (a .w) (a .slot) (a .n) (a .write) (a .counters .now) (a .room .now) (c .before .before .before .before .before .before .before .before .before .before .before .before .before .before .before .before .before .before .before .before .before .before .before .before .before .has-child .ensures) (c .before .before .before .before .before .before .before .before .before .before .before .before .before .before .before .before .before .before .before .before .before .before .before .before .if1 .left) (c .before .before .before .before .before .before .before .before .before .before .before .before .before .before .before .before .before .before .before .before .before .before .before .pairs-in .ensures (a .plan .now) (a .parts .now) (a .lengths .now) source) (c .before .before .before .before .before .before .before .before .before .before .before .before .before .before .before .before .before .before .before .before .before .before .if2 .left) (let h = half-most (a .w) (c .before .before .before .before .before .before .before .before .before .before .before .before .before .before .before .before .before .before .before .before .before .before .before .before .before .before .before .before .before .before .before .before .pre .1) in omega arith) (c .before .before .before .before .before .before .before .before .before .before .before .before .before .before .before .before .before .before .before .before .before .place .ensures) (rw (add-one (a .i)) at (c .before .before .before .before .before .before .before .before .before .before .before .before .before .before .before .before .before .before .before .rows-of .ensures)) (c .before .before .before .before .before .before .before .before .before .before .before .before .before .before .before .before .before .before .sum-sizes .ensures) (c .before .before .before .before .before .before .before .before .before .before .before .before .before .before .before .before .before .is-offset .ensures) (c .before .before .before .before .before .before .before .before .before .before .before .before .before .before .before .before .if3 .left) (omega (arith, c .before .before .before .before .before .before .before .before .before .before .before .before .before .before .before .before .before .before .before .before .before .before .before .before .before .before .before .before .before .before .before .before .good)) (c .before .before .before .before .before .before .before .before .before .before .before .before .before .before .rows-of2 .ensures) (c .before .before .before .before .before .before .before .before .before .before .before .before .before .scale .ensures) (c .before .before .before .before .before .before .before .before .before .before .before .put-sums .ensures) (omega (arith, c .before .before .before .before .before .before .before .before .before .before .before .before .before .before .before .before .before .before .before .before .before .before .before .before .before .before .before .before .before .before .before .before .good)) (c .before .before .before .before .before .before .before .put-copy .ensures) (c .before .before .copy-numbers .ensures source)
+    λ source. list-goes (join (a .plan .now) (a .parts .now) (a .lengths .now) (a .places .now) (a .body .now) (a .first) source) (a .i) (a .w) (a .slot) (a .n) (a .write) (a .counters .now) (a .room .now) (c .before .before .before .before .before .before .before .before .before .before .before .before .before .before .before .before .before .before .before .before .before .before .before .before .before .has-child .ensures) (c .before .before .before .before .before .before .before .before .before .before .before .before .before .before .before .before .before .before .before .before .before .before .before .before .if1 .left) (c .before .before .before .before .before .before .before .before .before .before .before .before .before .before .before .before .before .before .before .before .before .before .before .pairs-in .ensures (a .plan .now) (a .parts .now) (a .lengths .now) source) (c .before .before .before .before .before .before .before .before .before .before .before .before .before .before .before .before .before .before .before .before .before .before .if2 .left) (let h = half-most (a .w) (c .before .before .before .before .before .before .before .before .before .before .before .before .before .before .before .before .before .before .before .before .before .before .before .before .before .before .before .before .before .before .before .before .pre .1) in omega arith) (c .before .before .before .before .before .before .before .before .before .before .before .before .before .before .before .before .before .before .before .before .before .place .ensures) (rw (add-one (a .i)) at (c .before .before .before .before .before .before .before .before .before .before .before .before .before .before .before .before .before .before .before .rows-of .ensures)) (c .before .before .before .before .before .before .before .before .before .before .before .before .before .before .before .before .before .before .sum-sizes .ensures) (c .before .before .before .before .before .before .before .before .before .before .before .before .before .before .before .before .before .is-offset .ensures) (c .before .before .before .before .before .before .before .before .before .before .before .before .before .before .before .before .if3 .left) (omega (arith, c .before .before .before .before .before .before .before .before .before .before .before .before .before .before .before .before .before .before .before .before .before .before .before .before .before .before .before .before .before .before .before .before .good)) (c .before .before .before .before .before .before .before .before .before .before .before .before .before .before .rows-of2 .ensures) (c .before .before .before .before .before .before .before .before .before .before .before .before .before .scale .ensures) (c .before .before .before .before .before .before .before .before .before .before .before .put-sums .ensures) (omega (arith, c .before .before .before .before .before .before .before .before .before .before .before .before .before .before .before .before .before .before .before .before .before .before .before .before .before .before .before .before .before .before .before .before .good)) (c .before .before .before .before .before .before .before .put-copy .ensures) (c .before .before .copy-rows .ensures source)
 
 pub copy-list-view-spec : {M : Type 1} → statement M
-copy-list-view-spec = tie.close (tie.spec has-child-requires returns pairs-in-requires returns-2 add-place place-requires add-rows-of rows-of-requires sum-sizes-requires is-offset-requires returns-3 rows-of-requires-2 scale-requires put-sums-requires mul-from add-from mul-put-copy put-copy-requires sub-copy-numbers copy-numbers-requires same-length returns-4)
+copy-list-view-spec = tie.close (tie.spec has-child-requires returns pairs-in-requires returns-2 add-place place-requires add-rows-of rows-of-requires sum-sizes-requires is-offset-requires returns-3 rows-of-requires-2 scale-requires put-sums-requires mul-from add-from mul-put-copy put-copy-requires sub-copy-rows copy-rows-requires same-length returns-4)

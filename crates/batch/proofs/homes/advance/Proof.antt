@@ -1,4 +1,4 @@
--- `dense_union::advance` meets its contract. Assumes nothing.
+-- `batch::homes::advance` meets its contract. Assumes nothing.
 use mathlib.Core.Path.{_≡_, refl, sym, ap, _∙_}
 use mathlib.Core.List.{List}
 use Prim.Native.Nat.{ℕ, suc, _+_, _*_, _-_, _≤_, _<_}
@@ -15,8 +15,8 @@ use Rattle.batch.proofs.batch_walk.Sums.{entry-in}
 use Rattle.batch.proofs.batch_walk.Loops.{advance-step}
 use Rattle.batch.proofs.batch_walk.Falls.{size-most}
 use borrow.Author.Needs.{needs}
-use Rattle.batch.proofs.dense_union.advance.Statement.{statement}
-use Rattle.batch.proofs.dense_union.advance.Tie as tie
+use Rattle.batch.proofs.homes.advance.Statement.{statement}
+use Rattle.batch.proofs.homes.advance.Tie as tie
 
 abbrev Inv-loop : tie.InvT-loop
 Inv-loop homes body ids positions slot n k from a m b₀ p₀ r₀ b p r = (from ≤ r) × (r ≤ n) × (p ≤ r) × ((walk : ℕ → ℕ → List ℕ → Out) (c : List ℕ) → stretch walk (takesFrom (λ q. homeBy homes body (ids + (slot + q))) (λ q. entry 4 body positions (slot + q)) k) (takesOf (λ q. homeBy homes body (ids + (slot + q))) k) (n - from) from a m c ≡ stretch walk (takesFrom (λ q. homeBy homes body (ids + (slot + q))) (λ q. entry 4 body positions (slot + q)) k) (takesOf (λ q. homeBy homes body (ids + (slot + q))) k) (n - r) r b p c)

@@ -1,4 +1,4 @@
--- `batch_walk::list_view::advance` meets its contract. Assumes nothing.
+-- `batch::side::advance` meets its contract. Assumes nothing.
 use mathlib.Core.Path.{_≡_, refl, sym, ap, _∙_}
 use mathlib.Core.List.{List}
 use Prim.Native.Nat.{ℕ, suc, _+_, _-_, _≤_}
@@ -12,8 +12,8 @@ use Rattle.batch.proofs.batch_walk.Sides.{next-size-most}
 use Rattle.batch.proofs.batch_walk.Sums.{entry-in, sum-more, sum-below}
 use Rattle.batch.proofs.batch_walk.Loops.{advance-step}
 use borrow.Author.Needs.{needs}
-use Rattle.batch.proofs.list_view.advance.Statement.{statement}
-use Rattle.batch.proofs.list_view.advance.Tie as tie
+use Rattle.batch.proofs.side.advance.Statement.{statement}
+use Rattle.batch.proofs.side.advance.Tie as tie
 
 abbrev Inv-loop : tie.InvT-loop
 Inv-loop body offsets sizes w slot n from a m b₀ k₀ r₀ b k r = (from ≤ r) × (r ≤ n) × (k ≤ sumOf (λ q. entry w body sizes (slot + q)) r) × ((walk : ℕ → ℕ → List ℕ → Out) (c : List ℕ) → stretch walk (λ q. entry w body offsets (slot + q)) (λ q. entry w body sizes (slot + q)) (n - from) from a m c ≡ stretch walk (λ q. entry w body offsets (slot + q)) (λ q. entry w body sizes (slot + q)) (n - r) r b k c)

@@ -1,0 +1,88 @@
+// A dense union's child of byte strings, by stretches.
+ghost use mathlib.Core.Path.{_≡_};
+ghost use mathlib.Core.Bool.{true, cond};
+ghost use mathlib.Core.List.{List};
+ghost use Prim.Native.Nat.{ℕ, _+_, _*_, _<_, _≤_, _^_};
+ghost use lib.ListN.{length};
+ghost use Rattle.number.specs.Number.{entry};
+ghost use Rattle.walk.specs.Log.{Out, Did};
+ghost use Rattle.leaf_walk.specs.Join.{join};
+ghost use Rattle.batch.specs.Stretch.{stretches};
+ghost use Rattle.batch.specs.Batch.{batchLeaf};
+ghost use Rattle.batch.specs.batch_walk.Plain.{isText};
+ghost use Rattle.batch.specs.batch_walk.Fall.{homeBy, takesOf, takesFrom};
+use crate::homes;
+use crate::texts;
+use nested_rows::lookups;
+use walk::plan_words;
+
+// v if the rows are whole, else 0.
+fn if_whole(whole: bool, v: u64) -> u64
+    ensures { λ r. ⌜ r ≡ cond whole v 0 ⌝ }
+{
+    if whole {
+        return v;
+    }
+    0
+}
+
+// The rows of child k: all `total` from `begin` on if they are whole, else its stretches.
+pub fn copy_texts(
+    plan: &[u64],
+    parts: &[u64],
+    lengths: &[u64],
+    places: &[u64],
+    body: &[u8],
+    counters: &mut [u64; plan_words::COUNTERS],
+    room: &mut [u8],
+    write: bool,
+    first: usize,
+    homes: &[u8; 256],
+    ids: u64,
+    positions: u64,
+    slot: u64,
+    n: u64,
+    k: usize,
+    whole: bool,
+    begin: u64,
+    total: u64,
+) -> u8
+    requires { ⌜ (first < 2 ^ 32) × (k < 32) × (isText (now plan) k ≡ true) ⌝ }
+    requires { ⌜ (ids + (slot + n) ≤ length (now body)) × (positions + 4 * (slot + n) ≤ length (now body)) × (slot + n < 2 ^ 63) ⌝ }
+    requires { ⌜ total ≤ n ⌝ }
+    requires { ⌜ (whole ≡ true → (walk : ℕ → ℕ → List ℕ → Out) (c : List ℕ) → stretches walk (takesFrom (λ r. homeBy (now homes) (now body) (ids + (slot + r))) (λ r. entry 4 (now body) positions (slot + r)) k) (takesOf (λ r. homeBy (now homes) (now body) (ids + (slot + r))) k) n c ≡ walk begin total c) ⌝ }
+    ensures { λ g. ⌜ ((source : ℕ) → Did (now (plan .entry)) (now (parts .entry)) write (stretches (λ a m d. batchLeaf (join (now (plan .entry)) (now (parts .entry)) (now (lengths .entry)) (now (places .entry)) (now (body .entry)) first source) k a m d) (takesFrom (λ r. homeBy (now (homes .entry)) (now (body .entry)) (ids + (slot + r))) (λ r. entry 4 (now (body .entry)) positions (slot + r)) k) (takesOf (λ r. homeBy (now (homes .entry)) (now (body .entry)) (ids + (slot + r))) k) n (now (counters .entry))) (now (room .entry)) g (now (counters .exit)) (now (room .exit))) ⌝ }
+{
+    let w = lookups::width_at(plan, k);
+    let mut a = if_whole(whole, begin);
+    let mut m = if_whole(whole, total);
+    let mut r = if_whole(whole, n);
+    while r <= n {
+        let t = homes::advance(homes, body, ids, positions, slot, n, k, r, a, m);
+        let g = texts::copy_stretch(
+            plan,
+            parts,
+            lengths,
+            places,
+            body,
+            counters,
+            room,
+            write,
+            first,
+            k,
+            w,
+            t.a,
+            t.m,
+        );
+        if g != 0 {
+            return g;
+        }
+        if t.next == n {
+            return 0;
+        }
+        a = homes::start_at(homes, body, ids, positions, slot + t.next, k);
+        m = homes::size_at(homes, body, ids, slot + t.next, k);
+        r = t.next + 1;
+    }
+    12
+}
