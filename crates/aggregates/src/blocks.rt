@@ -3,6 +3,7 @@ ghost use mathlib.Core.Path.{_≡_};
 ghost use mathlib.Core.Bool.{true};
 ghost use Prim.Native.Nat.{ℕ, _+_, _*_, _-_, _/_, _^_, _≤_, _<_};
 ghost use lib.ListN.{length};
+ghost use Rattle.clauses.specs.Slices.{was};
 ghost use Rattle.bits.specs.Bits.{digits, bitsAt};
 ghost use Rattle.aggregates.specs.patterns.Parts.{blockRows, Sized, topBit, bitOf};
 ghost use Rattle.aggregates.specs.tally.Cells.{valueOf, Tallied};
@@ -19,7 +20,7 @@ use crate::tally::Tally;
 // 64 bits from the bit j of the byte q on.
 fn word_at(body: &[u8], q: usize, j: usize) -> u64
     requires { ⌜ (j < 8) × (8 * q + j + 64 ≤ 8 * length (now body)) ⌝ }
-    ensures { λ r. ⌜ digits 64 r ≡ bitsAt (8 * q + j) 64 (now (body .entry)) ⌝ }
+    ensures { λ r. ⌜ digits 64 r ≡ bitsAt (8 * q + j) 64 (was body) ⌝ }
 {
     if j == 0 {
         return number::read_u64(body, q);
@@ -33,7 +34,7 @@ fn word_at(body: &[u8], q: usize, j: usize) -> u64
 // The validity of 64 slots; ones where there is no map.
 fn valid_bits(body: &[u8], c: Cells, slot: usize) -> u64
     requires { ⌜ (c .masked ≡ true → c .mask + (slot + 63) / 8 < length (now body)) ⌝ }
-    ensures { λ r. ⌜ ((k : ℕ) → k < 64 → bitOf r k ≡ validBit (now (body .entry)) c (slot + k)) ⌝ }
+    ensures { λ r. ⌜ ((k : ℕ) → k < 64 → bitOf r k ≡ validBit (was body) c (slot + k)) ⌝ }
 {
     if c.masked {
         return word_at(body, c.mask + slot / 8, slot % 8);
@@ -44,7 +45,7 @@ fn valid_bits(body: &[u8], c: Cells, slot: usize) -> u64
 // The slots of both that are valid.
 pub fn both_bits(body: &[u8], c: Cells, i: usize, d: Cells, j: usize) -> u64
     requires { ⌜ (c .masked ≡ true → c .mask + (i + 63) / 8 < length (now body)) × (d .masked ≡ true → d .mask + (j + 63) / 8 < length (now body)) ⌝ }
-    ensures { λ r. ⌜ ((k : ℕ) → k < 64 → bitOf r k ≡ validBit (now (body .entry)) c (i + k) * validBit (now (body .entry)) d (j + k)) ⌝ }
+    ensures { λ r. ⌜ ((k : ℕ) → k < 64 → bitOf r k ≡ validBit (was body) c (i + k) * validBit (was body) d (j + k)) ⌝ }
 {
     valid_bits(body, c, i) & valid_bits(body, d, j)
 }
@@ -63,7 +64,7 @@ fn tally_of(p: Part, w: u8, top: u64) -> Tally
 // All of n slots.
 pub fn sum_slots(body: &[u8], c: Cells, slot: usize, n: usize) -> Tally
     requires { ⌜ (0 < n) × (n ≤ blockRows) × Held (now body) c (slot + (n - 1)) ⌝ }
-    ensures { λ r. ⌜ Tallied (numberCell (now (body .entry)) c) slot n r ⌝ }
+    ensures { λ r. ⌜ Tallied (numberCell (was body) c) slot n r ⌝ }
 {
     let at = c.start + slot * (c.width as usize);
     let p = patterns::sum_all(body, at, c.width, n);
@@ -73,7 +74,7 @@ pub fn sum_slots(body: &[u8], c: Cells, slot: usize, n: usize) -> Tally
 // Those of 64 slots whose bit in m is 1.
 pub fn sum_kept(body: &[u8], c: Cells, slot: usize, m: u64) -> Tally
     requires { ⌜ Held (now body) c (slot + 63) ⌝ }
-    ensures { λ r. ⌜ Tallied (λ i. keptCell (bitOf m i) (numberCell (now (body .entry)) c (slot + i))) 0 64 r ⌝ }
+    ensures { λ r. ⌜ Tallied (λ i. keptCell (bitOf m i) (numberCell (was body) c (slot + i))) 0 64 r ⌝ }
 {
     let at = c.start + slot * (c.width as usize);
     let p = patterns::sum_some(body, at, c.width, m);

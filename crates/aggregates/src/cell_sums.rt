@@ -2,9 +2,9 @@
 
 ghost use mathlib.Core.Path.{_≡_};
 ghost use mathlib.Core.Bool.{false, cond};
-ghost use Prim.Native.Nat.{ℕ, _+_, _*_, _-_, _≤_, _<_, _^_, min};
+ghost use Prim.Native.Nat.{_+_, _*_, _-_, _≤_, _<_, _^_, min};
 ghost use lib.Dec.{ltb};
-ghost use lib.ListN.{length};
+ghost use Rattle.clauses.specs.Slices.{was};
 ghost use Rattle.aggregates.specs.patterns.Parts.{blockRows};
 ghost use Rattle.aggregates.specs.tally.Cells.{Tallied};
 ghost use Rattle.aggregates.specs.cell_sums.Numbers.{cellIn, maskCell, bothCells, Bounded, Flat, Ready, AllReady};
@@ -45,7 +45,7 @@ pub struct Tallies {
 // A row of a column of plain rows.
 fn plain_cell(body: &[u8], n: Numbers, row: u64) -> Cell
     requires { ⌜ (n .runs ≡ false) × Ready (now body) n row ⌝ }
-    ensures { λ r. ⌜ (r ≡ cellIn (now (body .entry)) n row) × Bounded r ⌝ }
+    ensures { λ r. ⌜ (r ≡ cellIn (was body) n row) × Bounded r ⌝ }
 {
     let c = n.cells;
     cells::cell_at(body, c, (n.skip + row) as usize)
@@ -54,7 +54,7 @@ fn plain_cell(body: &[u8], n: Numbers, row: u64) -> Cell
 // The stretch that begins at a row.
 fn find_stretch(body: &[u8], n: Numbers, row: u64) -> Stretch
     requires { ⌜ (row < 2 ^ 63) × Ready (now body) n row ⌝ }
-    ensures { λ r. ⌜ (row < r .until) × Flat (cellIn (now (body .entry)) n) row r × (r .until ≡ untilOf (now (body .entry)) n row) ⌝ }
+    ensures { λ r. ⌜ (row < r .until) × Flat (cellIn (was body) n) row r × (r .until ≡ untilOf (was body) n row) ⌝ }
 {
     if !n.runs {
         return Stretch {
@@ -98,7 +98,7 @@ fn no_stretch(row: u64) -> Stretch
 fn next_stretch(body: &[u8], n: Numbers, s: Stretch, row: u64) -> Stretch
     requires { ⌜ (row < 2 ^ 63) × Ready (now body) n row ⌝ }
     requires { ⌜ Flat (cellIn (now body) n) row s ⌝ }
-    ensures { λ r. ⌜ (row < r .until) × Flat (cellIn (now (body .entry)) n) row r × (r .until ≡ cond (ltb row (s .until)) (s .until) (untilOf (now (body .entry)) n row)) ⌝ }
+    ensures { λ r. ⌜ (row < r .until) × Flat (cellIn (was body) n) row r × (r .until ≡ cond (ltb row (s .until)) (s .until) (untilOf (was body) n row)) ⌝ }
 {
     if row < s.until {
         return s;
@@ -133,7 +133,7 @@ fn lesser(a: u64, b: u64) -> u64
 fn sum_block(body: &[u8], a: Numbers, row: u64, stop: u64) -> Tally
     requires { ⌜ (row < stop) × (stop ≤ row + blockRows) × (a .runs ≡ false) × (a .cells .masked ≡ false) ⌝ }
     requires { ⌜ AllReady (now body) a row stop ⌝ }
-    ensures { λ r. ⌜ Tallied (cellIn (now (body .entry)) a) row (stop - row) r ⌝ }
+    ensures { λ r. ⌜ Tallied (cellIn (was body) a) row (stop - row) r ⌝ }
 {
     let c = a.cells;
     blocks::sum_slots(body, c, (a.skip + row) as usize, (stop - row) as usize)
@@ -143,7 +143,7 @@ fn sum_block(body: &[u8], a: Numbers, row: u64, stop: u64) -> Tally
 fn sum_blocks(body: &[u8], a: Numbers, start: u64, end: u64) -> Tally
     requires { ⌜ (start ≤ end) × (end < 2 ^ 63) × (a .runs ≡ false) × (a .cells .masked ≡ false) ⌝ }
     requires { ⌜ AllReady (now body) a start end ⌝ }
-    ensures { λ r. ⌜ Tallied (cellIn (now (body .entry)) a) start (end - start) r ⌝ }
+    ensures { λ r. ⌜ Tallied (cellIn (was body) a) start (end - start) r ⌝ }
 {
     let mut t = tally::nothing();
     let mut row = start;
@@ -159,7 +159,7 @@ fn sum_blocks(body: &[u8], a: Numbers, start: u64, end: u64) -> Tally
 fn sum_word(body: &[u8], a: Numbers, b: Numbers, row: u64) -> Tally
     requires { ⌜ (a .runs ≡ false) × (b .runs ≡ false) ⌝ }
     requires { ⌜ AllReady (now body) a row (row + 64) × AllReady (now body) b row (row + 64) ⌝ }
-    ensures { λ r. ⌜ Tallied (bothCells (cellIn (now (body .entry)) a) (cellIn (now (body .entry)) b)) row 64 r ⌝ }
+    ensures { λ r. ⌜ Tallied (bothCells (cellIn (was body) a) (cellIn (was body) b)) row 64 r ⌝ }
 {
     let c = a.cells;
     let d = b.cells;
@@ -172,7 +172,7 @@ fn sum_word(body: &[u8], a: Numbers, b: Numbers, row: u64) -> Tally
 fn sum_words(body: &[u8], a: Numbers, b: Numbers, start: u64, words: u64) -> Tally
     requires { ⌜ (start + 64 * words < 2 ^ 63) × (a .runs ≡ false) × (b .runs ≡ false) ⌝ }
     requires { ⌜ AllReady (now body) a start (start + 64 * words) × AllReady (now body) b start (start + 64 * words) ⌝ }
-    ensures { λ r. ⌜ Tallied (bothCells (cellIn (now (body .entry)) a) (cellIn (now (body .entry)) b)) start (64 * words) r ⌝ }
+    ensures { λ r. ⌜ Tallied (bothCells (cellIn (was body) a) (cellIn (was body) b)) start (64 * words) r ⌝ }
 {
     let mut t = tally::nothing();
     let mut k = 0u64;
@@ -187,7 +187,7 @@ fn sum_words(body: &[u8], a: Numbers, b: Numbers, start: u64, words: u64) -> Tal
 fn sum_cells(body: &[u8], a: Numbers, b: Numbers, start: u64, end: u64) -> Tally
     requires { ⌜ (start ≤ end) × (end < 2 ^ 63) × (a .runs ≡ false) × (b .runs ≡ false) ⌝ }
     requires { ⌜ AllReady (now body) a start end × AllReady (now body) b start end ⌝ }
-    ensures { λ r. ⌜ Tallied (bothCells (cellIn (now (body .entry)) a) (cellIn (now (body .entry)) b)) start (end - start) r ⌝ }
+    ensures { λ r. ⌜ Tallied (bothCells (cellIn (was body) a) (cellIn (was body) b)) start (end - start) r ⌝ }
 {
     let mut t = tally::nothing();
     let mut row = start;
@@ -204,7 +204,7 @@ fn sum_cells(body: &[u8], a: Numbers, b: Numbers, start: u64, end: u64) -> Tally
 fn sum_masked(body: &[u8], a: Numbers, b: Numbers, start: u64, end: u64) -> Tally
     requires { ⌜ (start ≤ end) × (end < 2 ^ 63) × (a .runs ≡ false) × (b .runs ≡ false) ⌝ }
     requires { ⌜ AllReady (now body) a start end × AllReady (now body) b start end ⌝ }
-    ensures { λ r. ⌜ Tallied (bothCells (cellIn (now (body .entry)) a) (cellIn (now (body .entry)) b)) start (end - start) r ⌝ }
+    ensures { λ r. ⌜ Tallied (bothCells (cellIn (was body) a) (cellIn (was body) b)) start (end - start) r ⌝ }
 {
     let words = (end - start) / 64;
     let t = sum_words(body, a, b, start, words);
@@ -216,7 +216,7 @@ fn sum_masked(body: &[u8], a: Numbers, b: Numbers, start: u64, end: u64) -> Tall
 fn sum_plain(body: &[u8], a: Numbers, b: Numbers, start: u64, end: u64) -> Tally
     requires { ⌜ (start ≤ end) × (end < 2 ^ 63) × (a .runs ≡ false) × (b .runs ≡ false) ⌝ }
     requires { ⌜ AllReady (now body) a start end × AllReady (now body) b start end ⌝ }
-    ensures { λ r. ⌜ Tallied (bothCells (cellIn (now (body .entry)) a) (cellIn (now (body .entry)) b)) start (end - start) r ⌝ }
+    ensures { λ r. ⌜ Tallied (bothCells (cellIn (was body) a) (cellIn (was body) b)) start (end - start) r ⌝ }
 {
     let c = a.cells;
     let d = b.cells;
@@ -235,7 +235,7 @@ fn sum_plain(body: &[u8], a: Numbers, b: Numbers, start: u64, end: u64) -> Tally
 fn sum_stretches(body: &[u8], n: Numbers, start: u64, end: u64) -> Tally
     requires { ⌜ (start ≤ end) × (end < 2 ^ 63) ⌝ }
     requires { ⌜ AllReady (now body) n start end ⌝ }
-    ensures { λ r. ⌜ Tallied (cellIn (now (body .entry)) n) start (end - start) r ⌝ }
+    ensures { λ r. ⌜ Tallied (cellIn (was body) n) start (end - start) r ⌝ }
 {
     let mut t = tally::nothing();
     let mut row = start;
@@ -253,7 +253,7 @@ fn sum_stretches(body: &[u8], n: Numbers, start: u64, end: u64) -> Tally
 pub fn sum_rows(body: &[u8], n: Numbers, start: u64, end: u64) -> Tally
     requires { ⌜ (start ≤ end) × (end < 2 ^ 63) ⌝ }
     requires { ⌜ AllReady (now body) n start end ⌝ }
-    ensures { λ r. ⌜ Tallied (cellIn (now (body .entry)) n) start (end - start) r ⌝ }
+    ensures { λ r. ⌜ Tallied (cellIn (was body) n) start (end - start) r ⌝ }
 {
     if n.runs {
         return sum_stretches(body, n, start, end);
@@ -267,7 +267,7 @@ pub fn sum_rows(body: &[u8], n: Numbers, start: u64, end: u64) -> Tally
 fn sum_both_stretches(body: &[u8], a: Numbers, b: Numbers, start: u64, end: u64) -> Tallies
     requires { ⌜ (start ≤ end) × (end < 2 ^ 63) ⌝ }
     requires { ⌜ AllReady (now body) a start end × AllReady (now body) b start end ⌝ }
-    ensures { λ r. ⌜ Tallied (bothCells (cellIn (now (body .entry)) a) (cellIn (now (body .entry)) b)) start (end - start) (r .first) × Tallied (bothCells (cellIn (now (body .entry)) b) (cellIn (now (body .entry)) a)) start (end - start) (r .second) ⌝ }
+    ensures { λ r. let c = cellIn (was body) a in let c2 = cellIn (was body) b in ⌜ Tallied (bothCells c c2) start (end - start) (r .first) × Tallied (bothCells c2 c) start (end - start) (r .second) ⌝ }
 {
     let mut t = tally::nothing();
     let mut u = tally::nothing();
@@ -294,7 +294,7 @@ fn sum_both_stretches(body: &[u8], a: Numbers, b: Numbers, start: u64, end: u64)
 pub fn sum_both(body: &[u8], a: Numbers, b: Numbers, start: u64, end: u64) -> Tallies
     requires { ⌜ (start ≤ end) × (end < 2 ^ 63) ⌝ }
     requires { ⌜ AllReady (now body) a start end × AllReady (now body) b start end ⌝ }
-    ensures { λ r. ⌜ Tallied (bothCells (cellIn (now (body .entry)) a) (cellIn (now (body .entry)) b)) start (end - start) (r .first) × Tallied (bothCells (cellIn (now (body .entry)) b) (cellIn (now (body .entry)) a)) start (end - start) (r .second) ⌝ }
+    ensures { λ r. let c = cellIn (was body) a in let c2 = cellIn (was body) b in ⌜ Tallied (bothCells c c2) start (end - start) (r .first) × Tallied (bothCells c2 c) start (end - start) (r .second) ⌝ }
 {
     if a.runs {
         return sum_both_stretches(body, a, b, start, end);

@@ -5,6 +5,7 @@ ghost use mathlib.Core.Bool.{true};
 ghost use Prim.Native.Nat.{_+_, _-_, _/_, _%_, _^_, _≤_, _<_};
 ghost use lib.Dec.{eqb};
 ghost use lib.ListN.{length, getD};
+ghost use Rattle.clauses.specs.Slices.{was};
 ghost use Rattle.columnar.specs.Types.{limit};
 ghost use Rattle.schema.specs.formats.Code.{isInteger};
 ghost use Rattle.array_data.specs.entries.Entries.{column};
@@ -57,7 +58,7 @@ pub fn lift_of(w: u8) -> u64
 // Node i of the column that begins at node `first` of the tables.
 pub fn find_cells(places: &[u64], first: u32, i: usize, code: u8) -> Cells
     requires { ⌜ (i < 2 ^ 32) × (isInteger code ≡ true) ⌝ }
-    ensures { λ r. ⌜ r ≡ cellsOf (column [] (now (places .entry)) [] [] first) i code ⌝ }
+    ensures { λ r. ⌜ r ≡ cellsOf (column [] (was places) [] [] first) i code ⌝ }
 {
     let masked = entries::place_at(places, first, i, 0) != 0;
     let mask = entries::place_at(places, first, i, 1) as usize;
@@ -76,14 +77,14 @@ pub fn find_cells(places: &[u64], first: u32, i: usize, code: u8) -> Cells
 // Bit `slot` of the map that begins at a position.
 fn is_set(body: &[u8], at: usize, slot: usize) -> bool
     requires { ⌜ at + slot / 8 < length (now body) ⌝ }
-    ensures { λ r. ⌜ r ≡ eqb (getD (now (body .entry)) (at + slot / 8) 0 / 2 ^ (slot % 8) % 2) 1 ⌝ }
+    ensures { λ r. ⌜ r ≡ eqb (getD (was body) (at + slot / 8) 0 / 2 ^ (slot % 8) % 2) 1 ⌝ }
 {
     (body[at + slot / 8] >> (slot % 8)) % 2 == 1
 }
 
 fn is_valid(body: &[u8], c: Cells, slot: usize) -> bool
     requires { ⌜ (c .masked ≡ true → c .mask + slot / 8 < length (now body)) ⌝ }
-    ensures { λ r. ⌜ r ≡ validAt (now (body .entry)) c slot ⌝ }
+    ensures { λ r. ⌜ r ≡ validAt (was body) c slot ⌝ }
 {
     if c.masked {
         return is_set(body, c.mask, slot);
@@ -101,7 +102,7 @@ fn count_below(top: u64, p: u64) -> u64
 // Slot `slot` of the node.
 pub fn cell_at(body: &[u8], c: Cells, slot: usize) -> Cell
     requires { ⌜ Held (now body) c slot ⌝ }
-    ensures { λ r. ⌜ r ≡ cellAt (now (body .entry)) c slot ⌝ }
+    ensures { λ r. ⌜ r ≡ cellAt (was body) c slot ⌝ }
     ensures { λ r. ⌜ (r .count ≤ 1) × (r .below ≤ 1) × (r .bits ≤ 18446744073709551615) ⌝ }
 {
     if !is_valid(body, c, slot) {

@@ -12,6 +12,7 @@ ghost use mathlib.Core.Path.{_≡_};
 ghost use mathlib.Core.Bool.{true};
 ghost use mathlib.Core.List.{[]};
 ghost use Prim.Native.Nat.{_+_, _*_, _≤_, _<_, _^_};
+ghost use Rattle.clauses.specs.Slices.{was};
 ghost use Rattle.schema.specs.formats.Code.{isInteger};
 ghost use Rattle.array_data.specs.Tables.{lengthOf, offsetOf, place};
 ghost use Rattle.source_rules.specs.kinds.Rows.{tablesOf};
@@ -66,7 +67,7 @@ struct Shape {
 // The code of node i where it holds whole numbers and not keys, and else 0.
 fn whole_code(formats: &[u8], schema: &[u32], first: u32, i: usize) -> u8
     requires { ⌜ i < 2 ^ 32 ⌝ }
-    ensures { λ r. ⌜ r ≡ wholeCode (now (formats .entry)) (now (schema .entry)) first i ⌝ }
+    ensures { λ r. ⌜ r ≡ wholeCode (was formats) (was schema) first i ⌝ }
 {
     if schema::dictionary_of(schema, first as usize, i) != 0 {
         return 0;
@@ -80,7 +81,7 @@ fn whole_code(formats: &[u8], schema: &[u32], first: u32, i: usize) -> u8
 }
 
 fn find_shape(formats: &[u8], schema: &[u32], first: u32) -> Shape
-    ensures { λ r. ⌜ r ≡ shapeOf (now (formats .entry)) (now (schema .entry)) first ⌝ }
+    ensures { λ r. ⌜ r ≡ shapeOf (was formats) (was schema) first ⌝ }
 {
     let from = first as usize;
     if schema::formats::is_run_end(schema::code_of(formats, schema, from, 0)) {
@@ -104,7 +105,7 @@ fn find_shape(formats: &[u8], schema: &[u32], first: u32) -> Shape
 
 fn find_plain(lengths: &[u64], places: &[u64], first: u32, code: u8) -> Numbers
     requires { ⌜ isInteger code ≡ true ⌝ }
-    ensures { λ r. ⌜ r ≡ plainNumbers (column (now (lengths .entry)) (now (places .entry)) [] [] first) code ⌝ }
+    ensures { λ r. ⌜ r ≡ plainNumbers (column (was lengths) (was places) [] [] first) code ⌝ }
 {
     let ends = Ends {
         start: 0,
@@ -126,8 +127,8 @@ fn find_plain(lengths: &[u64], places: &[u64], first: u32, code: u8) -> Numbers
 fn find_runs(lengths: &[u64], places: &[u64], first: u32, code: u8, width: u8) -> Numbers
     requires { ⌜ isInteger code ≡ true ⌝ }
     requires { ⌜ offsetOf (column (now lengths) [] [] [] first) 1 + lengthOf (column (now lengths) [] [] [] first) 1 < 2 ^ 63 ⌝ }
-    requires { ⌜ (0 < width * (offsetOf (column (now lengths) [] [] [] first) 1 + lengthOf (column (now lengths) [] [] [] first) 1) → place (column [] (now places) [] [] first) 1 3 + width * (offsetOf (column (now lengths) [] [] [] first) 1 + lengthOf (column (now lengths) [] [] [] first) 1) < 2 ^ 64) ⌝ }
-    ensures { λ r. ⌜ r ≡ runNumbers (column (now (lengths .entry)) (now (places .entry)) [] [] first) code width ⌝ }
+    requires { let c = column (now lengths) [] [] [] first in ⌜ (0 < width * (offsetOf c 1 + lengthOf c 1) → place (column [] (now places) [] [] first) 1 3 + width * (offsetOf c 1 + lengthOf c 1) < 2 ^ 64) ⌝ }
+    ensures { λ r. ⌜ r ≡ runNumbers (column (was lengths) (was places) [] [] first) code width ⌝ }
 {
     let ends = stretches::find_ends(lengths, places, first, width);
     let cells = cells::find_cells(places, first, 2, code);
@@ -143,8 +144,8 @@ fn find_runs(lengths: &[u64], places: &[u64], first: u32, code: u8, width: u8) -
 fn find_numbers(lengths: &[u64], places: &[u64], first: u32, s: Shape) -> Numbers
     requires { ⌜ isInteger (s .code) ≡ true ⌝ }
     requires { ⌜ (s .runs ≡ true → offsetOf (column (now lengths) [] [] [] first) 1 + lengthOf (column (now lengths) [] [] [] first) 1 < 2 ^ 63) ⌝ }
-    requires { ⌜ (s .runs ≡ true → 0 < s .width * (offsetOf (column (now lengths) [] [] [] first) 1 + lengthOf (column (now lengths) [] [] [] first) 1) → place (column [] (now places) [] [] first) 1 3 + s .width * (offsetOf (column (now lengths) [] [] [] first) 1 + lengthOf (column (now lengths) [] [] [] first) 1) < 2 ^ 64) ⌝ }
-    ensures { λ r. ⌜ r ≡ numbersOf (column (now (lengths .entry)) (now (places .entry)) [] [] first) s ⌝ }
+    requires { let c = column (now lengths) [] [] [] first in ⌜ (s .runs ≡ true → 0 < s .width * (offsetOf c 1 + lengthOf c 1) → place (column [] (now places) [] [] first) 1 3 + s .width * (offsetOf c 1 + lengthOf c 1) < 2 ^ 64) ⌝ }
+    ensures { λ r. ⌜ r ≡ numbersOf (column (was lengths) (was places) [] [] first) s ⌝ }
 {
     if s.runs {
         return find_runs(lengths, places, first, s.code, s.width);
@@ -190,7 +191,7 @@ pub fn mean(
     start: u64,
     end: u64,
 ) -> MeanAnswer
-    ensures { λ r. ⌜ r ≡ meanReport (now (formats .entry)) (now (schema .entry)) (tablesOf (now (lengths .entry)) (now (places .entry)) (now (buffers .entry)) (now (body .entry))) first n start end ⌝ }
+    ensures { λ r. ⌜ r ≡ meanReport (was formats) (was schema) (tablesOf (was lengths) (was places) (was buffers) (was body)) first n start end ⌝ }
 {
     let ground = columns::column_ground(formats, schema, lengths, places, buffers, body, first, n);
     if ground != 0 {
@@ -251,7 +252,7 @@ pub fn ratio(
     start: u64,
     end: u64,
 ) -> RatioAnswer
-    ensures { λ r. ⌜ r ≡ ratioReport (now (formats .entry)) (now (schema .entry)) (tablesOf (now (lengths .entry)) (now (places .entry)) (now (buffers .entry)) (now (body .entry))) «first_a» «n_a» «first_b» «n_b» start end ⌝ }
+    ensures { λ r. ⌜ r ≡ ratioReport (was formats) (was schema) (tablesOf (was lengths) (was places) (was buffers) (was body)) «first_a» «n_a» «first_b» «n_b» start end ⌝ }
 {
     let ground = columns::column_pair::pair_ground(
         formats,

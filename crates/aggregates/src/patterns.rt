@@ -2,6 +2,7 @@
 ghost use mathlib.Core.Path.{_≡_};
 ghost use Prim.Native.Nat.{_+_, _*_, _≤_, _<_};
 ghost use lib.ListN.{length, drop};
+ghost use Rattle.clauses.specs.Slices.{was};
 ghost use Rattle.number.specs.Number.{number};
 ghost use Rattle.aggregates.specs.patterns.Parts.{blockRows, Sized, patternIn, bitOf, keptIn, Added};
 
@@ -19,7 +20,7 @@ pub struct Part {
 // The number of w bytes at a position, without a sign.
 pub fn read_pattern(body: &[u8], at: usize, w: u8) -> u64
     requires { ⌜ Sized w × (at + w ≤ length (now body)) ⌝ }
-    ensures { λ r. ⌜ r ≡ number w (drop at (now (body .entry))) ⌝ }
+    ensures { λ r. ⌜ r ≡ number w (drop at (was body)) ⌝ }
 {
     match w {
         1 => number::read_u8(body, at) as u64,
@@ -32,7 +33,7 @@ pub fn read_pattern(body: &[u8], at: usize, w: u8) -> u64
 // All of n numbers.
 fn add_all(body: &[u8], at: usize, w: u8, n: usize) -> Part
     requires { ⌜ Sized w × (n ≤ blockRows) × (at + n * w ≤ length (now body)) ⌝ }
-    ensures { λ r. ⌜ Added (patternIn (now (body .entry)) at w) (λ i. 1) w n r ⌝ }
+    ensures { λ r. ⌜ Added (patternIn (was body) at w) (λ i. 1) w n r ⌝ }
 {
     let mut low = 0u64;
     let mut high = 0u64;
@@ -57,7 +58,7 @@ fn add_all(body: &[u8], at: usize, w: u8, n: usize) -> Part
 // Those of 64 numbers whose bit in m is 1.
 fn add_some(body: &[u8], at: usize, w: u8, m: u64) -> Part
     requires { ⌜ Sized w × (at + 64 * w ≤ length (now body)) ⌝ }
-    ensures { λ r. ⌜ Added (keptIn (now (body .entry)) at w m) (bitOf m) w 64 r ⌝ }
+    ensures { λ r. ⌜ Added (keptIn (was body) at w m) (bitOf m) w 64 r ⌝ }
 {
     let mut count = 0u64;
     let mut low = 0u64;
@@ -87,7 +88,7 @@ fn add_some(body: &[u8], at: usize, w: u8, m: u64) -> Part
 // All of n numbers; a loop for each width.
 pub fn sum_all(body: &[u8], at: usize, w: u8, n: usize) -> Part
     requires { ⌜ Sized w × (n ≤ blockRows) × (at + n * w ≤ length (now body)) ⌝ }
-    ensures { λ r. ⌜ Added (patternIn (now (body .entry)) at w) (λ i. 1) w n r ⌝ }
+    ensures { λ r. ⌜ Added (patternIn (was body) at w) (λ i. 1) w n r ⌝ }
 {
     match w {
         1 => add_all(body, at, 1, n),
@@ -100,7 +101,7 @@ pub fn sum_all(body: &[u8], at: usize, w: u8, n: usize) -> Part
 // Those of 64 numbers whose bit in m is 1; a loop for each width.
 pub fn sum_some(body: &[u8], at: usize, w: u8, m: u64) -> Part
     requires { ⌜ Sized w × (at + 64 * w ≤ length (now body)) ⌝ }
-    ensures { λ r. ⌜ Added (keptIn (now (body .entry)) at w m) (bitOf m) w 64 r ⌝ }
+    ensures { λ r. ⌜ Added (keptIn (was body) at w m) (bitOf m) w 64 r ⌝ }
 {
     match w {
         1 => add_some(body, at, 1, m),

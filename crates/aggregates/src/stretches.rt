@@ -3,6 +3,7 @@ ghost use mathlib.Core.Path.{_≡_};
 ghost use mathlib.Core.List.{[]};
 ghost use Prim.Native.Nat.{_+_, _*_, _-_, _≤_, _<_, _^_};
 ghost use lib.ListN.{length};
+ghost use Rattle.clauses.specs.Slices.{was};
 ghost use Rattle.array_data.specs.Tables.{part, lengthOf, offsetOf, place};
 ghost use Rattle.array_data.specs.entries.Entries.{column};
 ghost use Rattle.slot_reader.specs.run.Rows.{rowRun};
@@ -24,8 +25,8 @@ pub struct Ends {
 // Those of the column that begins at node `first` of the tables.
 pub fn find_ends(lengths: &[u64], places: &[u64], first: u32, width: u8) -> Ends
     requires { ⌜ offsetOf (column (now lengths) [] [] [] first) 1 + lengthOf (column (now lengths) [] [] [] first) 1 < 2 ^ 63 ⌝ }
-    requires { ⌜ (0 < width * (offsetOf (column (now lengths) [] [] [] first) 1 + lengthOf (column (now lengths) [] [] [] first) 1) → place (column [] (now places) [] [] first) 1 3 + width * (offsetOf (column (now lengths) [] [] [] first) 1 + lengthOf (column (now lengths) [] [] [] first) 1) < 2 ^ 64) ⌝ }
-    ensures { λ r. ⌜ r ≡ endsOf (column (now (lengths .entry)) (now (places .entry)) [] [] first) width ⌝ }
+    requires { let c = column (now lengths) [] [] [] first in ⌜ (0 < width * (offsetOf c 1 + lengthOf c 1) → place (column [] (now places) [] [] first) 1 3 + width * (offsetOf c 1 + lengthOf c 1) < 2 ^ 64) ⌝ }
+    ensures { λ r. ⌜ r ≡ endsOf (column (was lengths) (was places) [] [] first) width ⌝ }
 {
     let w = width as usize;
     let from = entries::place_at(places, first, 1, 3) as usize;
@@ -43,7 +44,7 @@ pub fn find_ends(lengths: &[u64], places: &[u64], first: u32, width: u8) -> Ends
 // The run of a row, and how many rows of the column from that one on stand in it.
 pub fn stretch_at(body: &[u8], e: Ends, row: u64) -> RowRun
     requires { ⌜ (e .start ≤ e .stop) × (e .stop ≤ length (now body)) ⌝ }
-    ensures { λ r. ⌜ r ≡ rowRun (part (now (body .entry)) (e .start) (e .stop - e .start)) (e .offset) (e .len) (e .width) row ⌝ }
+    ensures { λ r. ⌜ r ≡ rowRun (part (was body) (e .start) (e .stop - e .start)) (e .offset) (e .len) (e .width) row ⌝ }
 {
     let a = e.start;
     let b = e.stop;

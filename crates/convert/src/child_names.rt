@@ -6,12 +6,13 @@ ghost use Prim.Native.Nat.{ℕ, _+_, _*_, _-_, _≤_, _<_, _^_};
 ghost use mathlib.Core.Bool.{_&&_};
 ghost use lib.ListN.{length, take, getD};
 ghost use lib.Dec.{ltb, eqb};
+ghost use Rattle.clauses.specs.Slices.{was, left};
 ghost use Rattle.columnar.specs.Row.{seg};
 ghost use Rattle.columnar.specs.Array.{nullCount};
 ghost use Rattle.array_data.specs.lent_tables.Lent.{tables};
 ghost use Rattle.plan.specs.dictionaries.Sources.{arrayOf, Countable};
-ghost use Rattle.source_rules.specs.kinds.Rows.{tablesOf};
-ghost use Rattle.convert.specs.child_names.Names.{tablesFit, belowPlace, naming, Names};
+ghost use Rattle.convert.specs.child_names.Names.{tablesFit, belowPlace, naming, Named};
+ghost use Rattle.with_capacities.specs.Answer.{lentTables};
 use array_data::lent_tables;
 use plan::dictionaries;
 
@@ -26,7 +27,7 @@ fn tables_fit(n: u32, lengths: usize, nulls: usize, places: usize) -> bool
 // Lengths and offsets of the nodes below the root.
 fn write_lengths(lengths: &[u64], first: u32, n: u32, table: &mut [u64])
     requires { ⌜ (1 ≤ n) × (length (now table) ≡ 2 * n) ⌝ }
-    ensures { λ _. ⌜ now (table .exit) ≡ take 2 (now (table .entry)) ++ seg (λ k. getD (now (lengths .entry)) (2 * (first + 1) + k) 0) 0 (2 * (n - 1)) ⌝ }
+    ensures { λ _. ⌜ left table ≡ take 2 (was table) ++ seg (λ k. getD (was lengths) (2 * (first + 1) + k) 0) 0 (2 * (n - 1)) ⌝ }
 {
     let more = 2 * (n as usize - 1);
     let from = 2 * (first as usize + 1);
@@ -40,7 +41,7 @@ fn write_lengths(lengths: &[u64], first: u32, n: u32, table: &mut [u64])
 // Their null counts, from their bits.
 fn write_nulls(lengths: &[u64], places: &[u64], body: &[u8], first: u32, n: u32, table: &mut [u64])
     requires { ⌜ (1 ≤ n) × (length (now table) ≡ n) × ((j : ℕ) → j < n → Countable (tables (now lengths) (now places) (now body)) (first + j)) ⌝ }
-    ensures { λ _. ⌜ now (table .exit) ≡ take 1 (now (table .entry)) ++ seg (λ k. nullCount (arrayOf (tables (now (lengths .entry)) (now (places .entry)) (now (body .entry))) (first + 1 + k))) 0 (n - 1) ⌝ }
+    ensures { λ _. ⌜ left table ≡ take 1 (was table) ++ seg (λ k. nullCount (arrayOf (tables (was lengths) (was places) (was body)) (first + 1 + k))) 0 (n - 1) ⌝ }
 {
     let more = n as usize - 1;
     let from = first as usize + 1;
@@ -64,7 +65,7 @@ fn is_dropped(nulls: u64, j: usize) -> bool
 // Number k of the places below the root, nine a node.
 fn place_word(places: &[u64], nulls: &[u64], first: u32, k: usize) -> u64
     requires { ⌜ k < 9 * 2 ^ 32 ⌝ }
-    ensures { λ r. ⌜ r ≡ belowPlace (now (places .entry)) (now (nulls .entry)) first k ⌝ }
+    ensures { λ r. ⌜ r ≡ belowPlace (was places) (was nulls) first k ⌝ }
 {
     let i = k / 9 + 1;
     let j = k % 9;
@@ -77,7 +78,7 @@ fn place_word(places: &[u64], nulls: &[u64], first: u32, k: usize) -> u64
 // Where their buffers stand.
 fn write_places(places: &[u64], nulls: &[u64], first: u32, n: u32, table: &mut [u64])
     requires { ⌜ (1 ≤ n) × (length (now table) ≡ 9 * n) ⌝ }
-    ensures { λ _. ⌜ now (table .exit) ≡ take 9 (now (table .entry)) ++ seg (belowPlace (now (places .entry)) (now (nulls .entry)) first) 0 (9 * (n - 1)) ⌝ }
+    ensures { λ _. ⌜ left table ≡ take 9 (was table) ++ seg (belowPlace (was places) (was nulls) first) 0 (9 * (n - 1)) ⌝ }
 {
     let more = 9 * (n as usize - 1);
     let mut k = 0;
@@ -102,7 +103,7 @@ pub fn name_child(
     new_nulls: &mut [u64],
     new_places: &mut [u64],
 ) -> u8
-    ensures { λ r. ⌜ Names (naming (now (formats .entry)) (now (schema .entry)) (tablesOf (now (lengths .entry)) (now (places .entry)) (now (buffers .entry)) (now (body .entry))) first n (now («new_lengths» .entry)) (now («new_nulls» .entry)) (now («new_places» .entry))) r (now («new_lengths» .exit)) (now («new_nulls» .exit)) (now («new_places» .exit)) ⌝ }
+    ensures { λ r. ⌜ Named (naming (was formats) (was schema) (lentTables lengths places buffers body) first n) «new_lengths» «new_nulls» «new_places» r ⌝ }
 {
     let g = columns::column_ground(formats, schema, lengths, places, buffers, body, first, n);
     if g != 0 {

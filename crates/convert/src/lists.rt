@@ -3,11 +3,13 @@ ghost use mathlib.Core.Path.{_≡_};
 ghost use mathlib.Core.List.{List, []};
 ghost use Prim.Native.Nat.{ℕ, _+_, _*_, _<_, _≤_, _^_};
 ghost use lib.ListN.{length};
+ghost use Rattle.clauses.specs.Slices.{was, left};
 ghost use Rattle.columnar.specs.Array.{ok};
 ghost use Rattle.array_data.specs.lent_tables.Lent.{tables};
 ghost use Rattle.walk.specs.State.{bytesOf, place, lengthOf, offsetOf};
 ghost use Rattle.walk.specs.Log.{Did};
 ghost use Rattle.leaf_walk.specs.Join.{join};
+ghost use Rattle.leaf_walk.specs.Walks.{lentJoin, Walks};
 ghost use Rattle.convert.specs.convert_lists.Listing.{validity, endRow, copyRow, listRow, listRows, listWalk};
 ghost use Rattle.convert.specs.convert_lists.ToList.{lentWith};
 use array_data::entries;
@@ -17,7 +19,7 @@ use walk::plan_words;
 
 // Whether slot `slot` of the root is valid.
 fn is_valid(places: &[u64], body: &[u8], first: u32, slot: u64) -> bool
-    ensures { λ r. ⌜ ((plan parts lengths : List ℕ) (w : ℕ) → r ≡ ok (validity (join plan parts lengths (now (places .entry)) (now (body .entry)) first 0) w) slot) ⌝ }
+    ensures { λ r. ⌜ ((plan parts lengths : List ℕ) (w : ℕ) → r ≡ ok (validity (join plan parts lengths (was places) (was body) first 0) w) slot) ⌝ }
 {
     match entries::valid_at(places, body, first, 0, slot) {
         entries::Validity::Valid => true,
@@ -38,7 +40,7 @@ fn end_row(
 )
     requires { ⌜ ((w ≡ 4 → ⊥) → w ≡ 8) ⌝ }
     requires { ⌜ (r + 1 < 2 ^ 63) × ((r + 1) * w < 2 ^ 64) ⌝ }
-    ensures { λ _. ⌜ ((lengths places body : List ℕ) (first : ℕ) → Did (now (plan .entry)) (now (parts .entry)) write (endRow (join (now (plan .entry)) (now (parts .entry)) lengths places body first 0) w r (now (counters .entry))) (now (room .entry)) 0 (now (counters .entry)) (now (room .exit))) ⌝ }
+    ensures { λ _. ⌜ ((lengths places body : List ℕ) (first : ℕ) → Did (was plan) (was parts) write (endRow (join (was plan) (was parts) lengths places body first 0) w r (was counters)) (was room) 0 (was counters) (left room)) ⌝ }
 {
     let v = plan_words::rows_of(counters, 1);
     room_writes::put_number(plan, parts, room, write, 0, 1, (r + 1) * w, w, v);
@@ -60,8 +62,8 @@ fn copy_row(
     r: u64,
 ) -> u8
     requires { ⌜ ((w ≡ 4 → ⊥) → w ≡ 8) ⌝ }
-    requires { ⌜ (slot ≡ offsetOf (join [] [] (now lengths) (now places) (now body) first 0) 0) × (slot + r + 1 < 2 ^ 63) × ((r + 1) * w < 2 ^ 64) × (place (join [] [] (now lengths) (now places) (now body) first 0) 0 3 + w * (slot + r + 1) ≤ length (now body)) × (place (join [] [] (now lengths) (now places) (now body) first 0) 0 5 + w * (slot + r + 1) ≤ length (now body)) ⌝ }
-    ensures { λ g. ⌜ Did (now (plan .entry)) (now (parts .entry)) write (copyRow (join (now (plan .entry)) (now (parts .entry)) (now (lengths .entry)) (now (places .entry)) (now (body .entry)) first 0) w r (now (counters .entry))) (now (room .entry)) g (now (counters .exit)) (now (room .exit)) ⌝ }
+    requires { let j = join [] [] (now lengths) (now places) (now body) first 0 in ⌜ (slot ≡ offsetOf j 0) × (slot + r + 1 < 2 ^ 63) × ((r + 1) * w < 2 ^ 64) × (place j 0 3 + w * (slot + r + 1) ≤ length (now body)) × (place j 0 5 + w * (slot + r + 1) ≤ length (now body)) ⌝ }
+    ensures { λ g. ⌜ Walks plan parts write (copyRow (lentJoin plan parts lengths places body first 0) w r) counters room g ⌝ }
 {
     let k = first as usize;
     let offset = lookups::entry_at(body, lent_tables::place(places, k, 3), w, slot + r);
@@ -108,8 +110,8 @@ fn list_row(
     r: u64,
 ) -> u8
     requires { ⌜ ((w ≡ 4 → ⊥) → w ≡ 8) ⌝ }
-    requires { ⌜ (slot ≡ offsetOf (join [] [] (now lengths) (now places) (now body) first 0) 0) × (slot + r + 1 < 2 ^ 63) × ((r + 1) * w < 2 ^ 64) × (place (join [] [] (now lengths) (now places) (now body) first 0) 0 3 + w * (slot + r + 1) ≤ length (now body)) × (place (join [] [] (now lengths) (now places) (now body) first 0) 0 5 + w * (slot + r + 1) ≤ length (now body)) ⌝ }
-    ensures { λ g. ⌜ Did (now (plan .entry)) (now (parts .entry)) write (listRow (join (now (plan .entry)) (now (parts .entry)) (now (lengths .entry)) (now (places .entry)) (now (body .entry)) first 0) w r (now (counters .entry))) (now (room .entry)) g (now (counters .exit)) (now (room .exit)) ⌝ }
+    requires { let j = join [] [] (now lengths) (now places) (now body) first 0 in ⌜ (slot ≡ offsetOf j 0) × (slot + r + 1 < 2 ^ 63) × ((r + 1) * w < 2 ^ 64) × (place j 0 3 + w * (slot + r + 1) ≤ length (now body)) × (place j 0 5 + w * (slot + r + 1) ≤ length (now body)) ⌝ }
+    ensures { λ g. ⌜ Walks plan parts write (listRow (lentJoin plan parts lengths places body first 0) w r) counters room g ⌝ }
 {
     if is_valid(places, body, first, slot + r) {
         return copy_row(
@@ -148,7 +150,7 @@ fn list_rows(
 ) -> u8
     requires { ⌜ ((w ≡ 4 → ⊥) → w ≡ 8) ⌝ }
     requires { ⌜ (slot ≡ offsetOf (join [] [] (now lengths) (now places) (now body) first 0) 0) × (slot + n < 2 ^ 63) ⌝ }
-    ensures { λ g. ⌜ Did (now (plan .entry)) (now (parts .entry)) write (listRows (join (now (plan .entry)) (now (parts .entry)) (now (lengths .entry)) (now (places .entry)) (now (body .entry)) first 0) w n (now (counters .entry))) (now (room .entry)) g (now (counters .exit)) (now (room .exit)) ⌝ }
+    ensures { λ g. ⌜ Walks plan parts write (listRows (lentJoin plan parts lengths places body first 0) w n) counters room g ⌝ }
 {
     if !nested_rows::pairs_in(places, body, first as usize, 0, w, w, slot, n) {
         return 12;
@@ -191,7 +193,7 @@ pub fn list_walk(
 ) -> u8
     requires { ⌜ offsetOf (join [] [] (now lengths) [] [] first 0) 0 + lengthOf (join [] [] (now lengths) [] [] first 0) 0 < 2 ^ 63 ⌝ }
     requires { ⌜ ((bytesOf (now plan) 0 ≡ 4 → ⊥) → bytesOf (now plan) 0 ≡ 8) ⌝ }
-    ensures { λ g. ⌜ ((n : ℕ) → Did (now (plan .entry)) (now (parts .entry)) write (listWalk (lentWith (tables (now (lengths .entry)) (now (places .entry)) (now (body .entry))) (now (plan .entry)) (now (parts .entry)) first n) (now (counters .entry))) (now (room .entry)) g (now (counters .exit)) (now (room .exit))) ⌝ }
+    ensures { λ g. ⌜ ((n : ℕ) → Walks plan parts write (listWalk (lentWith (tables (was lengths) (was places) (was body)) (was plan) (was parts) first n)) counters room g) ⌝ }
 {
     let k = first as usize;
     with_capacities::open_walk::first_offsets(plan, parts, room, write);

@@ -4,17 +4,15 @@ ghost use mathlib.Core.Bool.{true, false};
 ghost use mathlib.Core.List.{[]};
 ghost use Prim.Native.Nat.{ℕ, _+_, _<_, _≤_, _^_};
 ghost use lib.ListN.{length, replicate};
+ghost use Rattle.clauses.specs.Slices.{was, left};
 ghost use Rattle.array_data.specs.lent_tables.Lent.{tables};
-ghost use Rattle.source_rules.specs.kinds.Rows.{tablesOf};
 ghost use Rattle.columns.specs.Grounds.{columnGround};
 ghost use Rattle.walk.specs.State.{bytesOf, lengthOf, offsetOf};
 ghost use Rattle.walk.specs.Log.{Did};
 ghost use Rattle.leaf_walk.specs.Join.{join};
 ghost use Rattle.anew.specs.Anew.{orElse};
-ghost use Rattle.anew.specs.ResultPlan.{keepsFrom, Comes, planAnew};
-ghost use Rattle.with_capacities.specs.Answer.{Answers};
+ghost use Rattle.with_capacities.specs.Answer.{Makes, lentTables};
 ghost use Rattle.anew.specs.result_plan.Answer.{Asks};
-ghost use Rattle.convert.specs.convert_lists.Turned.{allNodes};
 ghost use Rattle.convert.specs.convert_lists.Listing.{listWalk};
 ghost use Rattle.convert.specs.convert_lists.ToList.{lentWith, listOwn, askList, makeList};
 use walk::plan_words;
@@ -32,7 +30,7 @@ fn ground_of(
     target: u32,
     target_n: u32,
 ) -> u8
-    ensures { λ r. ⌜ r ≡ orElse (columnGround (now (formats .entry)) (now (schema .entry)) (tablesOf (now (lengths .entry)) (now (places .entry)) (now (buffers .entry)) (now (body .entry))) first n) (listOwn (now (formats .entry)) (now (schema .entry)) (tablesOf (now (lengths .entry)) (now (places .entry)) (now (buffers .entry)) (now (body .entry))) first n target «target_n») ⌝ }
+    ensures { λ r. let l = lentTables lengths places buffers body in ⌜ r ≡ orElse (columnGround (was formats) (was schema) l first n) (listOwn (was formats) (was schema) l first n target «target_n») ⌝ }
 {
     let g = columns::column_ground(formats, schema, lengths, places, buffers, body, first, n);
     if g != 0 {
@@ -42,72 +40,6 @@ fn ground_of(
         return 10;
     }
     0
-}
-
-// The plan of the result, each of whose n nodes comes from that of the same number.
-fn planned(
-    formats: &[u8],
-    schema: &[u32],
-    lengths: &[u64],
-    places: &[u64],
-    body: &[u8],
-    first: u32,
-    target: u32,
-    n: u32,
-) -> [u64; plan_words::WORDS]
-    requires { ⌜ (n ≤ 32) × Comes (tables (now lengths) (now places) (now body)) first n allNodes ⌝ }
-    ensures { λ r. ⌜ r ≡ planAnew (now (formats .entry)) (now (schema .entry)) target n (keepsFrom (tables (now (lengths .entry)) (now (places .entry)) (now (body .entry))) first allNodes) false 0 ⌝ }
-{
-    let mut plan = [0u64; plan_words::WORDS];
-    let from = [
-        1u64,
-        2,
-        3,
-        4,
-        5,
-        6,
-        7,
-        8,
-        9,
-        10,
-        11,
-        12,
-        13,
-        14,
-        15,
-        16,
-        17,
-        18,
-        19,
-        20,
-        21,
-        22,
-        23,
-        24,
-        25,
-        26,
-        27,
-        28,
-        29,
-        30,
-        31,
-        32,
-    ];
-    anew::result_plan::plan_anew(
-        formats,
-        schema,
-        target as usize,
-        n as usize,
-        lengths,
-        places,
-        body,
-        first as usize,
-        &from,
-        false,
-        0,
-        &mut plan,
-    );
-    plan
 }
 
 // THE QUESTION before any room is lent: the ground of refusal, or plan and counters of the list, by which `parts::part_at` and
@@ -126,7 +58,7 @@ pub fn plan_list(
     plan: &mut [u64],
     counters: &mut [u64],
 ) -> u8
-    ensures { λ r. ⌜ Asks (askList (now (formats .entry)) (now (schema .entry)) (tablesOf (now (lengths .entry)) (now (places .entry)) (now (buffers .entry)) (now (body .entry))) first n target «target_n» (now (plan .entry)) (now (counters .entry))) r (now (plan .exit)) (now (counters .exit)) ⌝ }
+    ensures { λ r. ⌜ Asks (askList (was formats) (was schema) (lentTables lengths places buffers body) first n target «target_n» (was plan) (was counters)) r (left plan) (left counters) ⌝ }
 {
     let g = ground_of(
         formats,
@@ -143,7 +75,7 @@ pub fn plan_list(
     if g != 0 {
         return g;
     }
-    let draft = planned(formats, schema, lengths, places, body, first, target, n);
+    let draft = crate::planned(formats, schema, lengths, places, body, first, target, n);
     let none = [0u64; 0];
     let mut nothing = [0u8; 0];
     let mut tally = [0u64; plan_words::COUNTERS];
@@ -187,7 +119,7 @@ fn make(
     requires { ⌜ (length (now plan) ≡ 872) × (length (now counters) ≡ 96) × (length (now draft) ≡ 872) ⌝ }
     requires { ⌜ offsetOf (join [] [] (now lengths) [] [] first 0) 0 + lengthOf (join [] [] (now lengths) [] [] first 0) 0 < 2 ^ 63 ⌝ }
     requires { ⌜ ((bytesOf (now draft) 0 ≡ 4 → ⊥) → bytesOf (now draft) 0 ≡ 8) ⌝ }
-    ensures { λ r. ⌜ (now (plan .exit) ≡ now (draft .entry)) × ((n : ℕ) → Did (now (draft .entry)) (now (parts .entry)) true (listWalk (lentWith (tables (now (lengths .entry)) (now (places .entry)) (now (body .entry))) (now (draft .entry)) (now (parts .entry)) first n) (replicate 96 0)) (now (room .entry)) r (now (counters .exit)) (now (room .exit))) ⌝ }
+    ensures { λ r. ⌜ (left plan ≡ was draft) × ((n : ℕ) → Did (was draft) (was parts) true (listWalk (lentWith (tables (was lengths) (was places) (was body)) (was draft) (was parts) first n) (replicate 96 0)) (was room) r (left counters) (left room)) ⌝ }
 {
     let mut tally = [0u64; plan_words::COUNTERS];
     let g = crate::lists::list_walk(
@@ -223,7 +155,7 @@ pub fn to_list(
     counters: &mut [u64],
     room: &mut [u8],
 ) -> u8
-    ensures { λ r. ⌜ Answers (makeList (now (formats .entry)) (now (schema .entry)) (tablesOf (now (lengths .entry)) (now (places .entry)) (now (buffers .entry)) (now (body .entry))) first n target «target_n» (now (parts .entry)) (now (plan .entry)) (now (counters .entry)) (now (room .entry))) r (now (plan .exit)) (now (counters .exit)) (now (room .exit)) ⌝ }
+    ensures { λ r. ⌜ Makes (makeList (was formats) (was schema) (lentTables lengths places buffers body) first n target «target_n» (was parts)) plan counters room r ⌝ }
 {
     if columns::CEILING < room.len() {
         return 9;
@@ -243,7 +175,7 @@ pub fn to_list(
     if g != 0 {
         return g;
     }
-    let draft = planned(formats, schema, lengths, places, body, first, target, n);
+    let draft = crate::planned(formats, schema, lengths, places, body, first, target, n);
     let mut tried = [0u64; plan_words::COUNTERS];
     let g = crate::lists::list_walk(
         &draft,

@@ -4,9 +4,11 @@ ghost use mathlib.Core.Bool.{true};
 ghost use mathlib.Core.List.{[]};
 ghost use Prim.Native.Nat.{_+_, _*_, _-_, _<_, _≤_, _^_};
 ghost use lib.ListN.{length};
+ghost use Rattle.clauses.specs.Slices.{was, left};
 ghost use Rattle.walk.specs.State.{bytesOf, place, lengthOf, offsetOf};
 ghost use Rattle.walk.specs.Log.{startOf, Did, each};
 ghost use Rattle.leaf_walk.specs.Join.{join};
+ghost use Rattle.leaf_walk.specs.Walks.{lentJoin, Walks};
 ghost use Rattle.convert.specs.convert_lists.Viewing.{viewRow, viewRows, viewWalk};
 ghost use Rattle.convert.specs.convert_lists.Laid.{laidRows};
 use array_data::lent_tables;
@@ -29,8 +31,8 @@ fn view_row(
     r: u64,
 )
     requires { ⌜ ((w ≡ 4 → ⊥) → w ≡ 8) ⌝ }
-    requires { ⌜ (slot ≡ offsetOf (join [] [] (now lengths) (now places) (now body) first 0) 0) × (slot + r + 2 < 2 ^ 64) × ((r + 1) * w < 2 ^ 64) × (place (join [] [] (now lengths) (now places) (now body) first 0) 0 3 + w * (slot + r + 2) ≤ length (now body)) ⌝ }
-    ensures { λ _. ⌜ Did (now (plan .entry)) (now (parts .entry)) write (viewRow (join (now (plan .entry)) (now (parts .entry)) (now (lengths .entry)) (now (places .entry)) (now (body .entry)) first 0) w r (now (counters .entry))) (now (room .entry)) 0 (now (counters .entry)) (now (room .exit)) ⌝ }
+    requires { let j = join [] [] (now lengths) (now places) (now body) first 0 in ⌜ (slot ≡ offsetOf j 0) × (slot + r + 2 < 2 ^ 64) × ((r + 1) * w < 2 ^ 64) × (place j 0 3 + w * (slot + r + 2) ≤ length (now body)) ⌝ }
+    ensures { λ _. ⌜ Did (was plan) (was parts) write (viewRow (lentJoin plan parts lengths places body first 0) w r (was counters)) (was room) 0 (was counters) (left room) ⌝ }
 {
     let at = lent_tables::place(places, first as usize, 3);
     let start = lookups::entry_at(body, at, w, slot + r);
@@ -63,7 +65,7 @@ fn less_u32(a: u32, b: u32) -> u32
 // Of n rows whose offsets of 4 bytes stand at `from`: each row's offset at `at` and its size at `too`.
 fn lay_4(room: &mut [u8], at: usize, too: usize, body: &[u8], from: usize, n: usize)
     requires { ⌜ (at + 4 * n ≤ length (now room)) × (too + 4 * n ≤ length (now room)) × (from + 4 * (n + 1) ≤ length (now body)) ⌝ }
-    ensures { λ _. ⌜ now (room .exit) ≡ laidRows 4 (now (body .entry)) from at too n 0 (now (room .entry)) ⌝ }
+    ensures { λ _. ⌜ left room ≡ laidRows 4 (was body) from at too n 0 (was room) ⌝ }
 {
     let mut i = 0;
     while i < n {
@@ -78,7 +80,7 @@ fn lay_4(room: &mut [u8], at: usize, too: usize, body: &[u8], from: usize, n: us
 // Of n rows whose offsets of 8 bytes stand at `from`: each row's offset at `at` and its size at `too`.
 fn lay_8(room: &mut [u8], at: usize, too: usize, body: &[u8], from: usize, n: usize)
     requires { ⌜ (at + 8 * n ≤ length (now room)) × (too + 8 * n ≤ length (now room)) × (from + 8 * (n + 1) ≤ length (now body)) ⌝ }
-    ensures { λ _. ⌜ now (room .exit) ≡ laidRows 8 (now (body .entry)) from at too n 0 (now (room .entry)) ⌝ }
+    ensures { λ _. ⌜ left room ≡ laidRows 8 (was body) from at too n 0 (was room) ⌝ }
 {
     let mut i = 0;
     while i < n {
@@ -94,7 +96,7 @@ fn lay_8(room: &mut [u8], at: usize, too: usize, body: &[u8], from: usize, n: us
 fn lay_rows(room: &mut [u8], at: usize, too: usize, body: &[u8], from: usize, w: u64, n: usize)
     requires { ⌜ ((w ≡ 4 → ⊥) → w ≡ 8) ⌝ }
     requires { ⌜ (at + w * n ≤ length (now room)) × (too + w * n ≤ length (now room)) × (from + w * (n + 1) ≤ length (now body)) ⌝ }
-    ensures { λ _. ⌜ now (room .exit) ≡ laidRows w (now (body .entry)) from at too n 0 (now (room .entry)) ⌝ }
+    ensures { λ _. ⌜ left room ≡ laidRows w (was body) from at too n 0 (was room) ⌝ }
 {
     match w {
         4 => lay_4(room, at, too, body, from, n),
@@ -117,8 +119,8 @@ fn put_row_by_row(
     n: u64,
 )
     requires { ⌜ ((w ≡ 4 → ⊥) → w ≡ 8) ⌝ }
-    requires { ⌜ (slot ≡ offsetOf (join [] [] (now lengths) (now places) (now body) first 0) 0) × (slot + n < 2 ^ 63) × (place (join [] [] (now lengths) (now places) (now body) first 0) 0 3 + w * (slot + (n + 1)) ≤ length (now body)) ⌝ }
-    ensures { λ _. ⌜ Did (now (plan .entry)) (now (parts .entry)) true (each (viewRow (join (now (plan .entry)) (now (parts .entry)) (now (lengths .entry)) (now (places .entry)) (now (body .entry)) first 0) w) n 0 (now (counters .entry))) (now (room .entry)) 0 (now (counters .entry)) (now (room .exit)) ⌝ }
+    requires { let j = join [] [] (now lengths) (now places) (now body) first 0 in ⌜ (slot ≡ offsetOf j 0) × (slot + n < 2 ^ 63) × (place j 0 3 + w * (slot + (n + 1)) ≤ length (now body)) ⌝ }
+    ensures { λ _. ⌜ Did (was plan) (was parts) true (each (viewRow (lentJoin plan parts lengths places body first 0) w) n 0 (was counters)) (was room) 0 (was counters) (left room) ⌝ }
 {
     let mut r: u64 = 0;
     while r < n {
@@ -156,9 +158,9 @@ fn put_rows_at(
     at: usize,
 )
     requires { ⌜ ((w ≡ 4 → ⊥) → w ≡ 8) ⌝ }
-    requires { ⌜ (slot ≡ offsetOf (join [] [] (now lengths) (now places) (now body) first 0) 0) × (slot + n < 2 ^ 63) × (place (join [] [] (now lengths) (now places) (now body) first 0) 0 3 + w * (slot + (n + 1)) ≤ length (now body)) ⌝ }
+    requires { let j = join [] [] (now lengths) (now places) (now body) first 0 in ⌜ (slot ≡ offsetOf j 0) × (slot + n < 2 ^ 63) × (place j 0 3 + w * (slot + (n + 1)) ≤ length (now body)) ⌝ }
     requires { ⌜ (at ≡ startOf (now plan) (now parts) 0 1) × (at + w * n ≤ length (now room)) ⌝ }
-    ensures { λ _. ⌜ Did (now (plan .entry)) (now (parts .entry)) true (each (viewRow (join (now (plan .entry)) (now (parts .entry)) (now (lengths .entry)) (now (places .entry)) (now (body .entry)) first 0) w) n 0 (now (counters .entry))) (now (room .entry)) 0 (now (counters .entry)) (now (room .exit)) ⌝ }
+    ensures { λ _. ⌜ Did (was plan) (was parts) true (each (viewRow (lentJoin plan parts lengths places body first 0) w) n 0 (was counters)) (was room) 0 (was counters) (left room) ⌝ }
 {
     let size = plan_words::scale(n, w);
     let from = lent_tables::place(places, first as usize, 3) + w * slot;
@@ -195,8 +197,8 @@ fn put_rows(
     n: u64,
 )
     requires { ⌜ ((w ≡ 4 → ⊥) → w ≡ 8) ⌝ }
-    requires { ⌜ (slot ≡ offsetOf (join [] [] (now lengths) (now places) (now body) first 0) 0) × (slot + n < 2 ^ 63) × (place (join [] [] (now lengths) (now places) (now body) first 0) 0 3 + w * (slot + (n + 1)) ≤ length (now body)) ⌝ }
-    ensures { λ _. ⌜ Did (now (plan .entry)) (now (parts .entry)) true (each (viewRow (join (now (plan .entry)) (now (parts .entry)) (now (lengths .entry)) (now (places .entry)) (now (body .entry)) first 0) w) n 0 (now (counters .entry))) (now (room .entry)) 0 (now (counters .entry)) (now (room .exit)) ⌝ }
+    requires { let j = join [] [] (now lengths) (now places) (now body) first 0 in ⌜ (slot ≡ offsetOf j 0) × (slot + n < 2 ^ 63) × (place j 0 3 + w * (slot + (n + 1)) ≤ length (now body)) ⌝ }
+    ensures { λ _. ⌜ Did (was plan) (was parts) true (each (viewRow (lentJoin plan parts lengths places body first 0) w) n 0 (was counters)) (was room) 0 (was counters) (left room) ⌝ }
 {
     let size = plan_words::scale(n, w);
     match plan_words::target(plan, parts, room.len(), true, 0, 1, 0, size) {
@@ -247,7 +249,7 @@ fn view_rows(
 ) -> u8
     requires { ⌜ ((w ≡ 4 → ⊥) → w ≡ 8) ⌝ }
     requires { ⌜ (slot ≡ offsetOf (join [] [] (now lengths) (now places) (now body) first 0) 0) × (slot + n < 2 ^ 63) ⌝ }
-    ensures { λ g. ⌜ Did (now (plan .entry)) (now (parts .entry)) write (viewRows (join (now (plan .entry)) (now (parts .entry)) (now (lengths .entry)) (now (places .entry)) (now (body .entry)) first 0) w n (now (counters .entry))) (now (room .entry)) g (now (counters .entry)) (now (room .exit)) ⌝ }
+    ensures { λ g. ⌜ Did (was plan) (was parts) write (viewRows (lentJoin plan parts lengths places body first 0) w n (was counters)) (was room) g (was counters) (left room) ⌝ }
 {
     if n == 0 {
         return 0;
@@ -289,7 +291,7 @@ pub fn view_walk(
 ) -> u8
     requires { ⌜ offsetOf (join [] [] (now lengths) [] [] first 0) 0 + lengthOf (join [] [] (now lengths) [] [] first 0) 0 < 2 ^ 63 ⌝ }
     requires { ⌜ ((bytesOf (now plan) 0 ≡ 4 → ⊥) → bytesOf (now plan) 0 ≡ 8) ⌝ }
-    ensures { λ g. ⌜ Did (now (plan .entry)) (now (parts .entry)) write (viewWalk (join (now (plan .entry)) (now (parts .entry)) (now (lengths .entry)) (now (places .entry)) (now (body .entry)) first 0) (bytesOf (now (plan .entry)) 0) (now (counters .entry))) (now (room .entry)) g (now (counters .exit)) (now (room .exit)) ⌝ }
+    ensures { λ g. ⌜ Walks plan parts write (viewWalk (lentJoin plan parts lengths places body first 0) (bytesOf (was plan) 0)) counters room g ⌝ }
 {
     let k = first as usize;
     let slot = lent_tables::offset_of(lengths, k);

@@ -5,11 +5,12 @@ ghost use mathlib.Core.Bool.{true};
 ghost use mathlib.Core.List.{List, []};
 ghost use Prim.Native.Nat.{ℕ, _+_, _<_, _≤_, _/_, _^_, min};
 ghost use lib.ListN.{length};
+ghost use Rattle.clauses.specs.Slices.{was, left};
 ghost use Rattle.model.specs.Book.{copy, nulls};
 ghost use Rattle.walk.specs.State.{top};
 ghost use Rattle.walk.specs.Copy.{copyWalk};
 ghost use Rattle.walk.specs.Nulls.{nullWalk};
-ghost use Rattle.leaf_walk.specs.Join.{join};
+ghost use Rattle.leaf_walk.specs.Walks.{lentJoin, nullJoin};
 ghost use Rattle.plan.specs.parts.Parts.{partsWithin};
 ghost use Rattle.refinement.specs.orders.Sound.{walkable};
 ghost use Rattle.transform.specs.Answer.{lent};
@@ -66,7 +67,7 @@ fn settle(
     n: u64,
 ) -> Why
     requires { ⌜ m < top ⌝ }
-    ensures { λ w. ⌜ w ≡ unless (partsWithin (now (plan .entry)) (now (parts .entry)) m) (only 14) (whyParts (now (plan .entry)) (now (counters .entry)) (now (parts .entry)) (r + n)) ⌝ }
+    ensures { λ w. ⌜ w ≡ unless (partsWithin (was plan) (was parts) m) (only 14) (whyParts (was plan) (was counters) (was parts) (r + n)) ⌝ }
 {
     if !plan::parts::parts_within(plan, parts, m) {
         return crate::stop_walks::plain(NOT_LENT);
@@ -89,7 +90,7 @@ fn copy_rows(
     n: u64,
 ) -> Why
     requires { ⌜ (first < 2 ^ 32) × (source < 2 ^ 32) × (m < top) ⌝ }
-    ensures { λ w. ⌜ ((sources : List ℕ) → Settles (lent (now (plan .entry)) (now (parts .entry)) sources (now (lengths .entry)) (now (places .entry)) (now (body .entry))) m (now (counters .entry)) n (copyWalk (join (now (plan .entry)) (now (parts .entry)) (now (lengths .entry)) (now (places .entry)) (now (body .entry)) first source) 8 0 start n (now (counters .entry))) (whyCopy (join (now (plan .entry)) (now (parts .entry)) (now (lengths .entry)) (now (places .entry)) (now (body .entry)) first source) 8 0 start n (now (counters .entry))) w (now (counters .exit))) ⌝ }
+    ensures { λ w. let j = lentJoin plan parts lengths places body first source in ⌜ ((sources : List ℕ) → Settles (lent (was plan) (was parts) sources (was lengths) (was places) (was body)) m (was counters) n (copyWalk j 8 0 start n (was counters)) (whyCopy j 8 0 start n (was counters)) w (left counters)) ⌝ }
 {
     let r = plan_words::rows_of(counters, 0);
     let g = crate::stop_walks::try_copy(
@@ -134,7 +135,7 @@ fn add_nulls(
     n: u64,
 ) -> Why
     requires { ⌜ m < top ⌝ }
-    ensures { λ w. ⌜ ((sources lengths places body : List ℕ) → Settles (lent (now (plan .entry)) (now (parts .entry)) sources lengths places body) m (now (counters .entry)) n (nullWalk (join (now (plan .entry)) (now (parts .entry)) [] [] [] 0 0) 8 0 (walked n) (now (counters .entry))) (whyNulls (join (now (plan .entry)) (now (parts .entry)) [] [] [] 0 0) 8 0 n (now (counters .entry))) w (now (counters .exit))) ⌝ }
+    ensures { λ w. let j = nullJoin plan parts in ⌜ ((sources lengths places body : List ℕ) → Settles (lent (was plan) (was parts) sources lengths places body) m (was counters) n (nullWalk j 8 0 (walked n) (was counters)) (whyNulls j 8 0 n (was counters)) w (left counters)) ⌝ }
 {
     let r = plan_words::rows_of(counters, 0);
     let g = crate::nulls::try_nulls(plan, parts, counters, 0, n, DEPTH);
@@ -161,7 +162,7 @@ fn order_copy(
     end: u64,
 ) -> Why
     requires { ⌜ m < top ⌝ }
-    ensures { λ w. ⌜ Explains (lent (now (plan .entry)) (now (parts .entry)) (now (sources .entry)) (now (lengths .entry)) (now (places .entry)) (now (body .entry))) m (copy source start end) (now (counters .entry)) w (now (counters .exit)) ⌝ }
+    ensures { λ w. ⌜ Explains (lent (was plan) (was parts) (was sources) (was lengths) (was places) (was body)) m (copy source start end) (was counters) w (left counters) ⌝ }
 {
     if lent_tables::at_u64(plan, plan_words::SOURCE_COUNT) <= source as u64 {
         return crate::stop_walks::plain(NO_SUCH_SOURCE);
@@ -194,7 +195,7 @@ fn order_nulls(
     n: u64,
 ) -> Why
     requires { ⌜ m < top ⌝ }
-    ensures { λ w. ⌜ ((sources lengths places body : List ℕ) → Explains (lent (now (plan .entry)) (now (parts .entry)) sources lengths places body) m (nulls n) (now (counters .entry)) w (now (counters .exit))) ⌝ }
+    ensures { λ w. ⌜ ((sources lengths places body : List ℕ) → Explains (lent (was plan) (was parts) sources lengths places body) m (nulls n) (was counters) w (left counters)) ⌝ }
 {
     if plan_words::keeps_of(plan, 0) == 0 {
         return crate::stop_walks::plain(KEEPS_NO_NULLS);
@@ -226,7 +227,7 @@ fn order_at(
     k: usize,
 ) -> Why
     requires { ⌜ (k < 256) × (m < top) ⌝ }
-    ensures { λ w. ⌜ Explains (lent (now (plan .entry)) (now (parts .entry)) (now (sources .entry)) (now (lengths .entry)) (now (places .entry)) (now (body .entry))) m (callAt (now (orders .entry)) k) (now (counters .entry)) w (now (counters .exit)) ⌝ }
+    ensures { λ w. ⌜ Explains (lent (was plan) (was parts) (was sources) (was lengths) (was places) (was body)) m (callAt (was orders) k) (was counters) w (left counters) ⌝ }
 {
     let kind = lent_tables::at_u64(orders, 4 * k);
     let a = lent_tables::at_u64(orders, 4 * k + 1);
@@ -266,7 +267,7 @@ pub fn why_copy(
     start: u64,
     end: u64,
 ) -> Why
-    ensures { λ w. ⌜ w ≡ whyCopyOrder (lent (now (plan .entry)) (now (parts .entry)) (now (sources .entry)) (now (lengths .entry)) (now (places .entry)) (now (body .entry))) m (now (counters .entry)) source start end ⌝ }
+    ensures { λ w. ⌜ w ≡ whyCopyOrder (lent (was plan) (was parts) (was sources) (was lengths) (was places) (was body)) m (was counters) source start end ⌝ }
 {
     if counters.len() != plan_words::COUNTERS {
         return crate::stop_walks::plain(NOT_LENT);
@@ -292,7 +293,7 @@ pub fn why_copy(
 
 // What stops n nulls, in a room of m bytes. No source is read.
 pub fn why_nulls(plan: &[u64], parts: &[u64], counters: &[u64], m: usize, n: u64) -> Why
-    ensures { λ w. ⌜ ((sources lengths places body : List ℕ) → w ≡ whyNullOrder (lent (now (plan .entry)) (now (parts .entry)) sources lengths places body) m (now (counters .entry)) n) ⌝ }
+    ensures { λ w. ⌜ ((sources lengths places body : List ℕ) → w ≡ whyNullOrder (lent (was plan) (was parts) sources lengths places body) m (was counters) n) ⌝ }
 {
     if counters.len() != plan_words::COUNTERS {
         return crate::stop_walks::plain(NOT_LENT);
@@ -328,7 +329,7 @@ fn walk_orders(
     n: usize,
 ) -> WhyListed
     requires { ⌜ (length (now counters) ≡ 96) × (n ≤ 256) × (n ≡ length (now orders) / 4) × (walkable (now plan) m ≡ true) ⌝ }
-    ensures { λ r. ⌜ r ≡ whyTrip (lent (now (plan .entry)) (now (parts .entry)) (now (sources .entry)) (now (lengths .entry)) (now (places .entry)) (now (body .entry))) m (now (counters .entry)) (callsOf (now (orders .entry))) ⌝ }
+    ensures { λ r. ⌜ r ≡ whyTrip (lent (was plan) (was parts) (was sources) (was lengths) (was places) (was body)) m (was counters) (callsOf (was orders)) ⌝ }
 {
     let mut tally = transform::load(counters);
     let mut k: usize = 0;
@@ -368,7 +369,7 @@ pub fn why_orders(
     m: usize,
     orders: &[u64],
 ) -> WhyListed
-    ensures { λ r. ⌜ r ≡ whyTrip (lent (now (plan .entry)) (now (parts .entry)) (now (sources .entry)) (now (lengths .entry)) (now (places .entry)) (now (body .entry))) m (now (counters .entry)) (callsOf (now (orders .entry))) ⌝ }
+    ensures { λ r. ⌜ r ≡ whyTrip (lent (was plan) (was parts) (was sources) (was lengths) (was places) (was body)) m (was counters) (callsOf (was orders)) ⌝ }
 {
     let n = orders.len() / WORDS;
     if LONGEST < n {

@@ -3,9 +3,11 @@ ghost use mathlib.Core.Path.{_≡_};
 ghost use mathlib.Core.List.{List, []};
 ghost use Prim.Native.Nat.{ℕ, _+_, _*_, _<_, _≤_, _^_};
 ghost use lib.ListN.{length};
+ghost use Rattle.clauses.specs.Slices.{was, left};
 ghost use Rattle.walk.specs.State.{place};
 ghost use Rattle.walk.specs.Copy.{listViewRow, copyWalk};
 ghost use Rattle.leaf_walk.specs.Join.{join};
+ghost use Rattle.leaf_walk.specs.Walks.{lentJoin};
 ghost use Rattle.explain.specs.stops.Copy.{whyListRow, whyListView, whyList, whyCopy};
 ghost use Rattle.explain.specs.stop_walks.Step.{whyAfter, RowSays};
 use crate::stop_walks::Step;
@@ -38,8 +40,8 @@ fn list_row(
 ) -> Step
     requires { ⌜ (first < 2 ^ 32) × (source < 2 ^ 32) × (i + 1 < 32) × (slot + r + 1 < 2 ^ 63) ⌝ }
     requires { ⌜ ((w ≡ 4 → ⊥) → w ≡ 8) ⌝ }
-    requires { ⌜ (place (join [] [] (now lengths) (now places) (now body) first 0) i 3 + w * (slot + r + 1) ≤ length (now body)) × (place (join [] [] (now lengths) (now places) (now body) first 0) i 5 + w * (slot + r + 1) ≤ length (now body)) ⌝ }
-    ensures { λ s. ⌜ RowSays (listViewRow (join (now (plan .entry)) (now (parts .entry)) (now (lengths .entry)) (now (places .entry)) (now (body .entry)) first source) (copyWalk (join (now (plan .entry)) (now (parts .entry)) (now (lengths .entry)) (now (places .entry)) (now (body .entry)) first source) depth) w i slot r (now (counters .entry))) (whyListRow (join (now (plan .entry)) (now (parts .entry)) (now (lengths .entry)) (now (places .entry)) (now (body .entry)) first source) (copyWalk (join (now (plan .entry)) (now (parts .entry)) (now (lengths .entry)) (now (places .entry)) (now (body .entry)) first source) depth) (whyCopy (join (now (plan .entry)) (now (parts .entry)) (now (lengths .entry)) (now (places .entry)) (now (body .entry)) first source) depth) w i slot r (now (counters .entry))) (join (now (plan .entry)) (now (parts .entry)) (now (lengths .entry)) (now (places .entry)) (now (body .entry)) first source) depth s (now (counters .exit)) ⌝ }
+    requires { let j = join [] [] (now lengths) (now places) (now body) first 0 in ⌜ (place j i 3 + w * (slot + r + 1) ≤ length (now body)) × (place j i 5 + w * (slot + r + 1) ≤ length (now body)) ⌝ }
+    ensures { λ s. let j = lentJoin plan parts lengths places body first source in let c = copyWalk j depth in ⌜ RowSays (listViewRow j c w i slot r (was counters)) (whyListRow j c (whyCopy j depth) w i slot r (was counters)) j depth s (left counters) ⌝ }
 {
     let offset = lookups::entry_at(body, lent_tables::place(places, first + i, 3), w, slot + r);
     let size = lookups::entry_at(body, lent_tables::place(places, first + i, 5), w, slot + r);
@@ -87,7 +89,7 @@ pub fn step_list_view(
 ) -> Step
     requires { ⌜ (first < 2 ^ 32) × (source < 2 ^ 32) × (i < 32) × (slot + n < 2 ^ 63) ⌝ }
     requires { ⌜ ((w ≡ 4 → ⊥) → w ≡ 8) ⌝ }
-    ensures { λ r. ⌜ whyListView (join (now (plan .entry)) (now (parts .entry)) (now (lengths .entry)) (now (places .entry)) (now (body .entry)) first source) (copyWalk (join (now (plan .entry)) (now (parts .entry)) (now (lengths .entry)) (now (places .entry)) (now (body .entry)) first source) depth) (whyCopy (join (now (plan .entry)) (now (parts .entry)) (now (lengths .entry)) (now (places .entry)) (now (body .entry)) first source) depth) w i slot n (now (counters .entry)) ≡ whyAfter (join (now (plan .entry)) (now (parts .entry)) (now (lengths .entry)) (now (places .entry)) (now (body .entry)) first source) depth r (now (counters .exit)) ⌝ }
+    ensures { λ r. let j = lentJoin plan parts lengths places body first source in ⌜ whyListView j (copyWalk j depth) (whyCopy j depth) w i slot n (was counters) ≡ whyAfter j depth r (left counters) ⌝ }
 {
     if 32 <= i + 1 {
         return Step::Here(crate::stop_walks::plain(FOREIGN));
@@ -137,7 +139,7 @@ pub fn step_list(
 ) -> Step
     requires { ⌜ (first < 2 ^ 32) × (i < 32) × (slot + n < 2 ^ 63) ⌝ }
     requires { ⌜ ((w ≡ 4 → ⊥) → w ≡ 8) ⌝ }
-    ensures { λ r. ⌜ ((lengths : List ℕ) (source depth : ℕ) → whyList (join (now (plan .entry)) (now (parts .entry)) lengths (now (places .entry)) (now (body .entry)) first source) (copyWalk (join (now (plan .entry)) (now (parts .entry)) lengths (now (places .entry)) (now (body .entry)) first source) depth) (whyCopy (join (now (plan .entry)) (now (parts .entry)) lengths (now (places .entry)) (now (body .entry)) first source) depth) w i slot n (now (counters .entry)) ≡ whyAfter (join (now (plan .entry)) (now (parts .entry)) lengths (now (places .entry)) (now (body .entry)) first source) depth r (now (counters .entry))) ⌝ }
+    ensures { λ r. ⌜ ((lengths : List ℕ) (source depth : ℕ) → let j = join (was plan) (was parts) lengths (was places) (was body) first source in whyList j (copyWalk j depth) (whyCopy j depth) w i slot n (was counters) ≡ whyAfter j depth r (was counters)) ⌝ }
 {
     if n == 0 {
         return Step::On;

@@ -3,9 +3,11 @@
 ghost use mathlib.Core.Path.{_≡_};
 ghost use mathlib.Core.List.{List, []};
 ghost use Prim.Native.Nat.{ℕ, suc, _+_, _<_};
+ghost use Rattle.clauses.specs.Slices.{was, left};
 ghost use Rattle.walk.specs.State.{codeOf, bytesOf};
 ghost use Rattle.walk.specs.Nulls.{noHome, nullWalk};
 ghost use Rattle.leaf_walk.specs.Join.{join};
+ghost use Rattle.leaf_walk.specs.Walks.{nullJoin};
 ghost use Rattle.explain.specs.stops.Why.{named};
 ghost use Rattle.explain.specs.stops.Nulls.{walked, firstPosition, whyNullSparse, whyNullDense, whyNullEnd, whyNullRuns, whyNullData, whyNullNode, whyNulls};
 ghost use Rattle.explain.specs.stop_walks.Step.{Tried};
@@ -41,7 +43,7 @@ pub fn try_nulls(
     n: u64,
     depth: u32,
 ) -> u8
-    ensures { λ g. ⌜ Tried (nullWalk (join (now (plan .entry)) (now (parts .entry)) [] [] [] 0 0) depth i (walked n) (now (counters .entry))) (now (counters .entry)) g (now (counters .exit)) ⌝ }
+    ensures { λ g. ⌜ Tried (nullWalk (nullJoin plan parts) depth i (walked n) (was counters)) (was counters) g (left counters) ⌝ }
 {
     let before = *counters;
     let mut none = [0u8; 0];
@@ -63,7 +65,7 @@ fn step_into(
     n: u64,
     depth: u32,
 ) -> NullStep
-    ensures { λ r. ⌜ RowSays (nullWalk (join (now (plan .entry)) (now (parts .entry)) [] [] [] 0 0) depth k (walked n) (now (counters .entry))) (whyNulls (join (now (plan .entry)) (now (parts .entry)) [] [] [] 0 0) depth k n (now (counters .entry))) (join (now (plan .entry)) (now (parts .entry)) [] [] [] 0 0) depth r (now (counters .exit)) ⌝ }
+    ensures { λ r. ⌜ RowSays (nullWalk (nullJoin plan parts) depth k (walked n) (was counters)) (whyNulls (nullJoin plan parts) depth k n (was counters)) (nullJoin plan parts) depth r (left counters) ⌝ }
 {
     let g = try_nulls(plan, parts, counters, k, n, depth);
     if g != 0 {
@@ -77,7 +79,7 @@ fn step_into(
 // The union that nulls cannot go into.
 fn homeless(plan: &[u64], i: usize) -> Why
     requires { ⌜ i < 32 ⌝ }
-    ensures { λ r. ⌜ r ≡ named (noHome (now (plan .entry)) i) i ⌝ }
+    ensures { λ r. ⌜ r ≡ named (noHome (was plan) i) i ⌝ }
 {
     Why {
         ground: nested_rows::no_home(plan, i),
@@ -98,7 +100,7 @@ fn step_sparse(
     depth: u32,
 ) -> NullStep
     requires { ⌜ i < 32 ⌝ }
-    ensures { λ r. ⌜ whyNullSparse (join (now (plan .entry)) (now (parts .entry)) [] [] [] 0 0) (nullWalk (join (now (plan .entry)) (now (parts .entry)) [] [] [] 0 0) depth) (whyNulls (join (now (plan .entry)) (now (parts .entry)) [] [] [] 0 0) depth) i n (now (counters .entry)) ≡ whyAfter (join (now (plan .entry)) (now (parts .entry)) [] [] [] 0 0) depth r (now (counters .exit)) ⌝ }
+    ensures { λ r. let j = nullJoin plan parts in ⌜ whyNullSparse j (nullWalk j depth) (whyNulls j depth) i n (was counters) ≡ whyAfter j depth r (left counters) ⌝ }
 {
     if 32 <= nested_rows::null_home(plan, i) {
         return NullStep::Here(homeless(plan, i));
@@ -135,7 +137,7 @@ fn first_position(rows: u64) -> u64
 // A dense union: no home, its first position that does not fit, or its home.
 fn step_dense(plan: &[u64], counters: &[u64; plan_words::COUNTERS], i: usize, n: u64) -> NullStep
     requires { ⌜ i < 32 ⌝ }
-    ensures { λ r. ⌜ ((parts : List ℕ) (depth : ℕ) → whyNullDense (join (now (plan .entry)) parts [] [] [] 0 0) (nullWalk (join (now (plan .entry)) parts [] [] [] 0 0) depth) (whyNulls (join (now (plan .entry)) parts [] [] [] 0 0) depth) i n (now (counters .entry)) ≡ whyAfter (join (now (plan .entry)) parts [] [] [] 0 0) depth r (now (counters .entry))) ⌝ }
+    ensures { λ r. ⌜ ((parts : List ℕ) (depth : ℕ) → let j = join (was plan) parts [] [] [] 0 0 in whyNullDense j (nullWalk j depth) (whyNulls j depth) i n (was counters) ≡ whyAfter j depth r (was counters)) ⌝ }
 {
     let h = nested_rows::null_home(plan, i);
     if 32 <= h {
@@ -161,7 +163,7 @@ fn step_dense(plan: &[u64], counters: &[u64; plan_words::COUNTERS], i: usize, n:
 fn step_end(plan: &[u64], counters: &[u64; plan_words::COUNTERS], i: usize, n: u64) -> NullStep
     requires { ⌜ i + 2 < 32 ⌝ }
     requires { ⌜ ((bytesOf (now plan) (suc i) ≡ 2 → ⊥) → (bytesOf (now plan) (suc i) ≡ 4 → ⊥) → bytesOf (now plan) (suc i) ≡ 8) ⌝ }
-    ensures { λ r. ⌜ ((parts : List ℕ) (depth : ℕ) → whyNullEnd (join (now (plan .entry)) parts [] [] [] 0 0) (nullWalk (join (now (plan .entry)) parts [] [] [] 0 0) depth) (whyNulls (join (now (plan .entry)) parts [] [] [] 0 0) depth) (bytesOf (now (plan .entry)) (suc i)) i n (now (counters .entry)) ≡ whyAfter (join (now (plan .entry)) parts [] [] [] 0 0) depth r (now (counters .entry))) ⌝ }
+    ensures { λ r. ⌜ ((parts : List ℕ) (depth : ℕ) → let j = join (was plan) parts [] [] [] 0 0 in whyNullEnd j (nullWalk j depth) (whyNulls j depth) (bytesOf (was plan) (suc i)) i n (was counters) ≡ whyAfter j depth r (was counters)) ⌝ }
 {
     let w = lookups::width_at(plan, i + 1);
     let last = plan_words::rows_of(counters, i);
@@ -187,7 +189,7 @@ fn step_run(
     depth: u32,
 ) -> NullStep
     requires { ⌜ i < 32 ⌝ }
-    ensures { λ r. ⌜ whyNullRuns (join (now (plan .entry)) (now (parts .entry)) [] [] [] 0 0) (nullWalk (join (now (plan .entry)) (now (parts .entry)) [] [] [] 0 0) depth) (whyNulls (join (now (plan .entry)) (now (parts .entry)) [] [] [] 0 0) depth) i n (now (counters .entry)) ≡ whyAfter (join (now (plan .entry)) (now (parts .entry)) [] [] [] 0 0) depth r (now (counters .exit)) ⌝ }
+    ensures { λ r. let j = nullJoin plan parts in ⌜ whyNullRuns j (nullWalk j depth) (whyNulls j depth) i n (was counters) ≡ whyAfter j depth r (left counters) ⌝ }
 {
     if !nested_rows::has_ends(plan, i) {
         return NullStep::Here(crate::stop_walks::plain(FOREIGN));
@@ -217,7 +219,7 @@ fn step_data(
     depth: u32,
 ) -> NullStep
     requires { ⌜ i < 32 ⌝ }
-    ensures { λ r. ⌜ whyNullData (join (now (plan .entry)) (now (parts .entry)) [] [] [] 0 0) (nullWalk (join (now (plan .entry)) (now (parts .entry)) [] [] [] 0 0) depth) (whyNulls (join (now (plan .entry)) (now (parts .entry)) [] [] [] 0 0) depth) (codeOf (now (plan .entry)) i) i n (now (counters .entry)) ≡ whyAfter (join (now (plan .entry)) (now (parts .entry)) [] [] [] 0 0) depth r (now (counters .exit)) ⌝ }
+    ensures { λ r. let j = nullJoin plan parts in ⌜ whyNullData j (nullWalk j depth) (whyNulls j depth) (codeOf (was plan) i) i n (was counters) ≡ whyAfter j depth r (left counters) ⌝ }
 {
     let code = plan_words::code_of(plan, i);
     if code == nested_rows::node_data::SPARSE {
@@ -244,7 +246,7 @@ fn step_node(
     n: u64,
     depth: u32,
 ) -> NullStep
-    ensures { λ r. ⌜ whyNullNode (join (now (plan .entry)) (now (parts .entry)) [] [] [] 0 0) (nullWalk (join (now (plan .entry)) (now (parts .entry)) [] [] [] 0 0) depth) (whyNulls (join (now (plan .entry)) (now (parts .entry)) [] [] [] 0 0) depth) i n (now (counters .entry)) ≡ whyAfter (join (now (plan .entry)) (now (parts .entry)) [] [] [] 0 0) depth r (now (counters .exit)) ⌝ }
+    ensures { λ r. let j = nullJoin plan parts in ⌜ whyNullNode j (nullWalk j depth) (whyNulls j depth) i n (was counters) ≡ whyAfter j depth r (left counters) ⌝ }
 {
     if n == 0 {
         return NullStep::On;
@@ -264,7 +266,7 @@ pub fn why_null_walk(
     n: u64,
     depth: u32,
 ) -> Why
-    ensures { λ r. ⌜ r ≡ whyNulls (join (now (plan .entry)) (now (parts .entry)) [] [] [] 0 0) depth i n (now (counters .entry)) ⌝ }
+    ensures { λ r. ⌜ r ≡ whyNulls (nullJoin plan parts) depth i n (was counters) ⌝ }
 {
     let mut left = depth;
     let mut node = i;

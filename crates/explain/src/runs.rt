@@ -2,6 +2,7 @@
 ghost use mathlib.Core.Path.{_≡_};
 ghost use mathlib.Core.List.{List};
 ghost use Prim.Native.Nat.{ℕ, _+_, _<_, _^_};
+ghost use Rattle.clauses.specs.Slices.{was};
 ghost use Rattle.walk.specs.Copy.{copyWalk};
 ghost use Rattle.leaf_walk.specs.Join.{join};
 ghost use Rattle.explain.specs.stops.Copy.{whyRuns, whyCopy};
@@ -28,7 +29,7 @@ pub fn step_run(
     n: u64,
 ) -> Step
     requires { ⌜ (first < 2 ^ 32) × (i < 32) × (slot + n < 2 ^ 63) ⌝ }
-    ensures { λ r. ⌜ ((parts : List ℕ) (source depth : ℕ) → whyRuns (join (now (plan .entry)) parts (now (lengths .entry)) (now (places .entry)) (now (body .entry)) first source) (copyWalk (join (now (plan .entry)) parts (now (lengths .entry)) (now (places .entry)) (now (body .entry)) first source) depth) (whyCopy (join (now (plan .entry)) parts (now (lengths .entry)) (now (places .entry)) (now (body .entry)) first source) depth) i slot n (now (counters .entry)) ≡ whyAfter (join (now (plan .entry)) parts (now (lengths .entry)) (now (places .entry)) (now (body .entry)) first source) depth r (now (counters .entry))) ⌝ }
+    ensures { λ r. ⌜ ((parts : List ℕ) (source depth : ℕ) → let j = join (was plan) parts (was lengths) (was places) (was body) first source in whyRuns j (copyWalk j depth) (whyCopy j depth) i slot n (was counters) ≡ whyAfter j depth r (was counters)) ⌝ }
 {
     if n == 0 {
         return Step::On;

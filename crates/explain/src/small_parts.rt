@@ -3,6 +3,7 @@
 ghost use mathlib.Core.Path.{_≡_};
 ghost use mathlib.Core.List.{List};
 ghost use Prim.Native.Nat.{ℕ, _+_, _*_, _/_, _<_, min, max};
+ghost use Rattle.clauses.specs.Slices.{was};
 ghost use Rattle.walk.specs.State.{top};
 ghost use Rattle.plan.specs.parts.Parts.{neededBy, sizeOf, partHolds};
 ghost use Rattle.explain.specs.stops.Why.{nothing};
@@ -113,7 +114,7 @@ fn bytes_due(
     n: u64,
 ) -> u64
     requires { ⌜ (i < 32) × (b < 3) ⌝ }
-    ensures { λ s. ⌜ ((parts : List ℕ) → s ≡ min (bytesDue (now (plan .entry)) (now (counters .entry)) parts (r + n) i b) top) ⌝ }
+    ensures { λ s. ⌜ ((parts : List ℕ) → s ≡ min (bytesDue (was plan) (was counters) parts (r + n) i b) top) ⌝ }
 {
     let code = plan_words::code_of(plan, i);
     let rows = plan_words::rows_of(counters, i);
@@ -127,7 +128,7 @@ fn bytes_due(
 // The bytes of the part of buffer b of node i.
 fn size_of(plan: &[u64], parts: &[u64], i: usize, b: usize) -> u64
     requires { ⌜ (i < 32) × (b < 3) ⌝ }
-    ensures { λ r. ⌜ r ≡ sizeOf (now (plan .entry)) (now (parts .entry)) i b ⌝ }
+    ensures { λ r. ⌜ r ≡ sizeOf (was plan) (was parts) i b ⌝ }
 {
     lent_tables::at_u64(parts, 2 * plan::parts::number_of(plan, i, b) + 1)
 }
@@ -141,7 +142,7 @@ fn part_holds(
     b: usize,
 ) -> bool
     requires { ⌜ (i < 32) × (b < 3) × SmallPart (now plan) (now parts) i b ⌝ }
-    ensures { λ r. ⌜ r ≡ partHolds (now (plan .entry)) (now (counters .entry)) (now (parts .entry)) i b ⌝ }
+    ensures { λ r. ⌜ r ≡ partHolds (was plan) (was counters) (was parts) i b ⌝ }
 {
     if !plan::parts::has_part(plan, i, b) {
         return true;
@@ -163,7 +164,7 @@ fn why_part(
     n: u64,
 ) -> Why
     requires { ⌜ (i < 32) × (b < 3) × SmallPart (now plan) (now parts) i b ⌝ }
-    ensures { λ w. ⌜ w ≡ whyPart (now (plan .entry)) (now (counters .entry)) (now (parts .entry)) (r + n) i b nothing ⌝ }
+    ensures { λ w. ⌜ w ≡ whyPart (was plan) (was counters) (was parts) (r + n) i b nothing ⌝ }
 {
     if part_holds(plan, counters, parts, i, b) {
         return crate::stop_walks::plain(0);
@@ -187,7 +188,7 @@ fn why_node(
     n: u64,
 ) -> Why
     requires { ⌜ (i < 32) × ((b : ℕ) → b < 3 → SmallPart (now plan) (now parts) i b) ⌝ }
-    ensures { λ w. ⌜ w ≡ whyPart (now (plan .entry)) (now (counters .entry)) (now (parts .entry)) (r + n) i 0 (whyPart (now (plan .entry)) (now (counters .entry)) (now (parts .entry)) (r + n) i 1 (whyPart (now (plan .entry)) (now (counters .entry)) (now (parts .entry)) (r + n) i 2 nothing)) ⌝ }
+    ensures { λ w. ⌜ w ≡ whyPart (was plan) (was counters) (was parts) (r + n) i 0 (whyPart (was plan) (was counters) (was parts) (r + n) i 1 (whyPart (was plan) (was counters) (was parts) (r + n) i 2 nothing)) ⌝ }
 {
     let validity = why_part(plan, counters, parts, i, 0, r, n);
     if validity.ground != 0 {
@@ -209,7 +210,7 @@ pub fn why_parts(
     n: u64,
 ) -> Why
     requires { ⌜ SmallParts (now plan) (now parts) ⌝ }
-    ensures { λ w. ⌜ w ≡ whyParts (now (plan .entry)) (now (counters .entry)) (now (parts .entry)) (r + n) ⌝ }
+    ensures { λ w. ⌜ w ≡ whyParts (was plan) (was counters) (was parts) (r + n) ⌝ }
 {
     let nodes = plan::parts::node_count(plan);
     let mut i = 0;

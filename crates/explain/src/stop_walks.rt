@@ -2,9 +2,10 @@
 // The walk of crate `extend`, which only tries, says which row or child is the first that is refused; nothing is written.
 ghost use mathlib.Core.Path.{_≡_};
 ghost use Prim.Native.Nat.{_+_, _<_, _^_};
+ghost use Rattle.clauses.specs.Slices.{was, left};
 ghost use Rattle.walk.specs.State.{codeOf};
 ghost use Rattle.walk.specs.Copy.{copyWalk};
-ghost use Rattle.leaf_walk.specs.Join.{join};
+ghost use Rattle.leaf_walk.specs.Walks.{lentJoin};
 ghost use Rattle.explain.specs.stops.Why.{only};
 ghost use Rattle.explain.specs.stops.Copy.{most, whyData, whyNode, whyCopy};
 ghost use Rattle.explain.specs.stop_walks.Step.{Tried, whyAfter, RowSays};
@@ -73,7 +74,7 @@ pub fn try_copy(
     depth: u32,
 ) -> u8
     requires { ⌜ (first < 2 ^ 32) × (source < 2 ^ 32) ⌝ }
-    ensures { λ g. ⌜ Tried (copyWalk (join (now (plan .entry)) (now (parts .entry)) (now (lengths .entry)) (now (places .entry)) (now (body .entry)) first source) depth i a n (now (counters .entry))) (now (counters .entry)) g (now (counters .exit)) ⌝ }
+    ensures { λ g. ⌜ Tried (copyWalk (lentJoin plan parts lengths places body first source) depth i a n (was counters)) (was counters) g (left counters) ⌝ }
 {
     let before = *counters;
     let mut none = [0u8; 0];
@@ -116,7 +117,7 @@ pub fn step_into(
     depth: u32,
 ) -> Step
     requires { ⌜ (first < 2 ^ 32) × (source < 2 ^ 32) ⌝ }
-    ensures { λ r. ⌜ RowSays (copyWalk (join (now (plan .entry)) (now (parts .entry)) (now (lengths .entry)) (now (places .entry)) (now (body .entry)) first source) depth k a n (now (counters .entry))) (whyCopy (join (now (plan .entry)) (now (parts .entry)) (now (lengths .entry)) (now (places .entry)) (now (body .entry)) first source) depth k a n (now (counters .entry))) (join (now (plan .entry)) (now (parts .entry)) (now (lengths .entry)) (now (places .entry)) (now (body .entry)) first source) depth r (now (counters .exit)) ⌝ }
+    ensures { λ r. let j = lentJoin plan parts lengths places body first source in ⌜ RowSays (copyWalk j depth k a n (was counters)) (whyCopy j depth k a n (was counters)) j depth r (left counters) ⌝ }
 {
     let g = try_copy(
         plan,
@@ -160,7 +161,7 @@ fn step_data(
     depth: u32,
 ) -> Step
     requires { ⌜ (first < 2 ^ 32) × (source < 2 ^ 32) × (i < 32) × (slot + n < 2 ^ 63) ⌝ }
-    ensures { λ r. ⌜ whyData (join (now (plan .entry)) (now (parts .entry)) (now (lengths .entry)) (now (places .entry)) (now (body .entry)) first source) (copyWalk (join (now (plan .entry)) (now (parts .entry)) (now (lengths .entry)) (now (places .entry)) (now (body .entry)) first source) depth) (whyCopy (join (now (plan .entry)) (now (parts .entry)) (now (lengths .entry)) (now (places .entry)) (now (body .entry)) first source) depth) (codeOf (now (plan .entry)) i) i slot n (now (counters .entry)) ≡ whyAfter (join (now (plan .entry)) (now (parts .entry)) (now (lengths .entry)) (now (places .entry)) (now (body .entry)) first source) depth r (now (counters .exit)) ⌝ }
+    ensures { λ r. let j = lentJoin plan parts lengths places body first source in ⌜ whyData j (copyWalk j depth) (whyCopy j depth) (codeOf (was plan) i) i slot n (was counters) ≡ whyAfter j depth r (left counters) ⌝ }
 {
     let code = plan_words::code_of(plan, i);
     let w = lookups::width_at(plan, i);
@@ -256,7 +257,7 @@ fn step_node(
     depth: u32,
 ) -> Step
     requires { ⌜ (first < 2 ^ 32) × (source < 2 ^ 32) ⌝ }
-    ensures { λ r. ⌜ whyNode (join (now (plan .entry)) (now (parts .entry)) (now (lengths .entry)) (now (places .entry)) (now (body .entry)) first source) (copyWalk (join (now (plan .entry)) (now (parts .entry)) (now (lengths .entry)) (now (places .entry)) (now (body .entry)) first source) depth) (whyCopy (join (now (plan .entry)) (now (parts .entry)) (now (lengths .entry)) (now (places .entry)) (now (body .entry)) first source) depth) i a n (now (counters .entry)) ≡ whyAfter (join (now (plan .entry)) (now (parts .entry)) (now (lengths .entry)) (now (places .entry)) (now (body .entry)) first source) depth r (now (counters .exit)) ⌝ }
+    ensures { λ r. let j = lentJoin plan parts lengths places body first source in ⌜ whyNode j (copyWalk j depth) (whyCopy j depth) i a n (was counters) ≡ whyAfter j depth r (left counters) ⌝ }
 {
     if 32 <= i {
         return Step::Here(plain(FOREIGN));
@@ -314,7 +315,7 @@ pub fn why_walk(
     depth: u32,
 ) -> Why
     requires { ⌜ (first < 2 ^ 32) × (source < 2 ^ 32) ⌝ }
-    ensures { λ r. ⌜ r ≡ whyCopy (join (now (plan .entry)) (now (parts .entry)) (now (lengths .entry)) (now (places .entry)) (now (body .entry)) first source) depth i a n (now (counters .entry)) ⌝ }
+    ensures { λ r. ⌜ r ≡ whyCopy (lentJoin plan parts lengths places body first source) depth i a n (was counters) ⌝ }
 {
     let mut left = depth;
     let mut node = i;

@@ -5,6 +5,7 @@ ghost use mathlib.Core.List.{List};
 ghost use Prim.Native.Nat.{ℕ, _+_, _*_, _<_, _≤_, _^_};
 ghost use lib.ListN.{length};
 ghost use lib.Dec.{leb};
+ghost use Rattle.clauses.specs.Slices.{was};
 ghost use Rattle.utils.specs.Extension.{extended};
 ghost use Rattle.walk.specs.Copy.{copyWalk};
 ghost use Rattle.leaf_walk.specs.Join.{join};
@@ -24,7 +25,7 @@ const FOREIGN: u8 = 12;
 fn offsets(body: &[u8], from: usize, w: u64, n: usize, last: u64) -> Extended
     requires { ⌜ from + w * (n + 1) ≤ length (now body) ⌝ }
     requires { ⌜ ((w ≡ 4 → ⊥) → w ≡ 8) ⌝ }
-    ensures { λ r. ⌜ r ≡ extended w (now (body .entry)) from n last ⌝ }
+    ensures { λ r. ⌜ r ≡ extended w (was body) from n last ⌝ }
 {
     if w == 4 {
         return utils::try_offsets_i32(body, from, n, last);
@@ -34,7 +35,7 @@ fn offsets(body: &[u8], from: usize, w: u64, n: usize, last: u64) -> Extended
 
 // 0 where n bytes from the byte `lead` of the data at `at` on lie in the body, and else 12.
 fn bytes_ground(body: &[u8], at: u64, lead: u64, n: u64) -> u8
-    ensures { λ r. ⌜ r ≡ cond (leb (at + lead + n) (length (now (body .entry)))) 0 12 ⌝ }
+    ensures { λ r. ⌜ r ≡ cond (leb (at + lead + n) (length (was body))) 0 12 ⌝ }
 {
     if lent_tables::fits_behind(at, lead, n, body.len() as u64) {
         return 0;
@@ -56,7 +57,7 @@ pub fn step_string(
 ) -> Step
     requires { ⌜ (first < 2 ^ 32) × (i < 32) × (slot + n < 2 ^ 63) ⌝ }
     requires { ⌜ ((w ≡ 4 → ⊥) → w ≡ 8) ⌝ }
-    ensures { λ r. ⌜ ((parts lengths : List ℕ) (source depth : ℕ) → whyString (join (now (plan .entry)) parts lengths (now (places .entry)) (now (body .entry)) first source) (copyWalk (join (now (plan .entry)) parts lengths (now (places .entry)) (now (body .entry)) first source) depth) (whyCopy (join (now (plan .entry)) parts lengths (now (places .entry)) (now (body .entry)) first source) depth) w i slot n (now (counters .entry)) ≡ whyAfter (join (now (plan .entry)) parts lengths (now (places .entry)) (now (body .entry)) first source) depth r (now (counters .entry))) ⌝ }
+    ensures { λ r. ⌜ ((parts lengths : List ℕ) (source depth : ℕ) → let j = join (was plan) parts lengths (was places) (was body) first source in whyString j (copyWalk j depth) (whyCopy j depth) w i slot n (was counters) ≡ whyAfter j depth r (was counters)) ⌝ }
 {
     if n == 0 {
         return Step::On;

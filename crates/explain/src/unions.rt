@@ -3,9 +3,11 @@ ghost use mathlib.Core.Path.{_≡_};
 ghost use mathlib.Core.List.{[]};
 ghost use Prim.Native.Nat.{_+_, _*_, _<_, _≤_, _^_};
 ghost use lib.ListN.{length};
+ghost use Rattle.clauses.specs.Slices.{was, left};
 ghost use Rattle.walk.specs.State.{place};
 ghost use Rattle.walk.specs.Copy.{denseRow, copyWalk};
 ghost use Rattle.leaf_walk.specs.Join.{join};
+ghost use Rattle.leaf_walk.specs.Walks.{lentJoin};
 ghost use Rattle.explain.specs.stops.Copy.{whySparse, whyDenseRow, whyDense, whyCopy};
 ghost use Rattle.explain.specs.stop_walks.Step.{whyAfter, RowSays};
 use crate::stop_walks::Step;
@@ -34,7 +36,7 @@ pub fn step_sparse(
     depth: u32,
 ) -> Step
     requires { ⌜ (first < 2 ^ 32) × (source < 2 ^ 32) × (i < 32) × (slot + n < 2 ^ 63) ⌝ }
-    ensures { λ r. ⌜ whySparse (join (now (plan .entry)) (now (parts .entry)) (now (lengths .entry)) (now (places .entry)) (now (body .entry)) first source) (copyWalk (join (now (plan .entry)) (now (parts .entry)) (now (lengths .entry)) (now (places .entry)) (now (body .entry)) first source) depth) (whyCopy (join (now (plan .entry)) (now (parts .entry)) (now (lengths .entry)) (now (places .entry)) (now (body .entry)) first source) depth) i slot n (now (counters .entry)) ≡ whyAfter (join (now (plan .entry)) (now (parts .entry)) (now (lengths .entry)) (now (places .entry)) (now (body .entry)) first source) depth r (now (counters .exit)) ⌝ }
+    ensures { λ r. let j = lentJoin plan parts lengths places body first source in ⌜ whySparse j (copyWalk j depth) (whyCopy j depth) i slot n (was counters) ≡ whyAfter j depth r (left counters) ⌝ }
 {
     if !leaf_walk::rows_in(body, lent_tables::place(places, first + i, 3), 1, slot, n) {
         return Step::Here(crate::stop_walks::plain(FOREIGN));
@@ -87,8 +89,8 @@ fn dense_row(
     depth: u32,
 ) -> Step
     requires { ⌜ (first < 2 ^ 32) × (source < 2 ^ 32) × (i < 32) × (slot + r + 1 < 2 ^ 63) ⌝ }
-    requires { ⌜ (place (join [] [] (now lengths) (now places) (now body) first 0) i 3 + (slot + r + 1) ≤ length (now body)) × (place (join [] [] (now lengths) (now places) (now body) first 0) i 5 + 4 * (slot + r + 1) ≤ length (now body)) ⌝ }
-    ensures { λ s. ⌜ RowSays (denseRow (join (now (plan .entry)) (now (parts .entry)) (now (lengths .entry)) (now (places .entry)) (now (body .entry)) first source) (copyWalk (join (now (plan .entry)) (now (parts .entry)) (now (lengths .entry)) (now (places .entry)) (now (body .entry)) first source) depth) i slot r (now (counters .entry))) (whyDenseRow (join (now (plan .entry)) (now (parts .entry)) (now (lengths .entry)) (now (places .entry)) (now (body .entry)) first source) (copyWalk (join (now (plan .entry)) (now (parts .entry)) (now (lengths .entry)) (now (places .entry)) (now (body .entry)) first source) depth) (whyCopy (join (now (plan .entry)) (now (parts .entry)) (now (lengths .entry)) (now (places .entry)) (now (body .entry)) first source) depth) i slot r (now (counters .entry))) (join (now (plan .entry)) (now (parts .entry)) (now (lengths .entry)) (now (places .entry)) (now (body .entry)) first source) depth s (now (counters .exit)) ⌝ }
+    requires { let j = join [] [] (now lengths) (now places) (now body) first 0 in ⌜ (place j i 3 + (slot + r + 1) ≤ length (now body)) × (place j i 5 + 4 * (slot + r + 1) ≤ length (now body)) ⌝ }
+    ensures { λ s. let j = lentJoin plan parts lengths places body first source in let c = copyWalk j depth in ⌜ RowSays (denseRow j c i slot r (was counters)) (whyDenseRow j c (whyCopy j depth) i slot r (was counters)) j depth s (left counters) ⌝ }
 {
     let at = lent_tables::place(places, first + i, 3) + (slot + r);
     let id = body[at as usize];
@@ -139,7 +141,7 @@ pub fn step_dense(
     depth: u32,
 ) -> Step
     requires { ⌜ (first < 2 ^ 32) × (source < 2 ^ 32) × (i < 32) × (slot + n < 2 ^ 63) ⌝ }
-    ensures { λ r. ⌜ whyDense (join (now (plan .entry)) (now (parts .entry)) (now (lengths .entry)) (now (places .entry)) (now (body .entry)) first source) (copyWalk (join (now (plan .entry)) (now (parts .entry)) (now (lengths .entry)) (now (places .entry)) (now (body .entry)) first source) depth) (whyCopy (join (now (plan .entry)) (now (parts .entry)) (now (lengths .entry)) (now (places .entry)) (now (body .entry)) first source) depth) i slot n (now (counters .entry)) ≡ whyAfter (join (now (plan .entry)) (now (parts .entry)) (now (lengths .entry)) (now (places .entry)) (now (body .entry)) first source) depth r (now (counters .exit)) ⌝ }
+    ensures { λ r. let j = lentJoin plan parts lengths places body first source in ⌜ whyDense j (copyWalk j depth) (whyCopy j depth) i slot n (was counters) ≡ whyAfter j depth r (left counters) ⌝ }
 {
     if !nested_rows::pairs_in(places, body, first, i, 1, 4, slot, n) {
         return Step::Here(crate::stop_walks::plain(FOREIGN));

@@ -5,12 +5,12 @@ ghost use mathlib.Core.Path.{_≡_};
 ghost use mathlib.Core.Bool.{true, _||_};
 ghost use mathlib.Core.List.{[]};
 ghost use Prim.Native.Nat.{_+_, _<_, _^_};
+ghost use Rattle.clauses.specs.Slices.{was};
 ghost use Rattle.schema.specs.formats.Code.{isListView, isList};
 ghost use Rattle.walk.specs.State.{codeOf};
-ghost use Rattle.walk.specs.Log.{Did};
 ghost use Rattle.walk.specs.Copy.{copyData, copyWalk};
 ghost use Rattle.walk.specs.Nulls.{nullData, nullWalk};
-ghost use Rattle.leaf_walk.specs.Join.{join};
+ghost use Rattle.leaf_walk.specs.Walks.{lentJoin, nullJoin, Walks};
 use nested_rows::lookups;
 use nested_rows::node_data;
 use walk::plan_words;
@@ -39,7 +39,7 @@ fn extend_listed(
 ) -> u8
     requires { ⌜ (first < 2 ^ 32) × (source < 2 ^ 32) × (i < 32) × (slot + n < 2 ^ 63) ⌝ }
     requires { ⌜ (isListView (codeOf (now plan) i) || isList (codeOf (now plan) i)) ≡ true ⌝ }
-    ensures { λ g. ⌜ Did (now (plan .entry)) (now (parts .entry)) write (copyData (join (now (plan .entry)) (now (parts .entry)) (now (lengths .entry)) (now (places .entry)) (now (body .entry)) first source) (copyWalk (join (now (plan .entry)) (now (parts .entry)) (now (lengths .entry)) (now (places .entry)) (now (body .entry)) first source) depth) (codeOf (now (plan .entry)) i) i slot n (now (counters .entry))) (now (room .entry)) g (now (counters .exit)) (now (room .exit)) ⌝ }
+    ensures { λ g. let j = lentJoin plan parts lengths places body first source in ⌜ Walks plan parts write (copyData j (copyWalk j depth) (codeOf (was plan) i) i slot n) counters room g ⌝ }
 {
     let w = lookups::width_at(plan, i);
     if schema::formats::is_list(plan_words::code_of(plan, i)) {
@@ -98,7 +98,7 @@ fn extend_data(
     depth: u32,
 ) -> u8
     requires { ⌜ (first < 2 ^ 32) × (source < 2 ^ 32) × (i < 32) × (slot + n < 2 ^ 63) ⌝ }
-    ensures { λ g. ⌜ Did (now (plan .entry)) (now (parts .entry)) write (copyData (join (now (plan .entry)) (now (parts .entry)) (now (lengths .entry)) (now (places .entry)) (now (body .entry)) first source) (copyWalk (join (now (plan .entry)) (now (parts .entry)) (now (lengths .entry)) (now (places .entry)) (now (body .entry)) first source) depth) (codeOf (now (plan .entry)) i) i slot n (now (counters .entry))) (now (room .entry)) g (now (counters .exit)) (now (room .exit)) ⌝ }
+    ensures { λ g. let j = lentJoin plan parts lengths places body first source in ⌜ Walks plan parts write (copyData j (copyWalk j depth) (codeOf (was plan) i) i slot n) counters room g ⌝ }
 {
     let code = plan_words::code_of(plan, i);
     if schema::formats::is_list_view(code) | schema::formats::is_list(code) {
@@ -207,7 +207,7 @@ pub fn extend(
     depth: u32,
 ) -> u8
     requires { ⌜ (first < 2 ^ 32) × (source < 2 ^ 32) ⌝ }
-    ensures { λ g. ⌜ Did (now (plan .entry)) (now (parts .entry)) write (copyWalk (join (now (plan .entry)) (now (parts .entry)) (now (lengths .entry)) (now (places .entry)) (now (body .entry)) first source) depth i a n (now (counters .entry))) (now (room .entry)) g (now (counters .exit)) (now (room .exit)) ⌝ }
+    ensures { λ g. ⌜ Walks plan parts write (copyWalk (lentJoin plan parts lengths places body first source) depth i a n) counters room g ⌝ }
 {
     if depth == 0 {
         return 12;
@@ -270,7 +270,7 @@ fn extend_nulls_data(
     depth: u32,
 ) -> u8
     requires { ⌜ i < 32 ⌝ }
-    ensures { λ g. ⌜ Did (now (plan .entry)) (now (parts .entry)) write (nullData (join (now (plan .entry)) (now (parts .entry)) [] [] [] 0 0) (nullWalk (join (now (plan .entry)) (now (parts .entry)) [] [] [] 0 0) depth) (codeOf (now (plan .entry)) i) i n (now (counters .entry))) (now (room .entry)) g (now (counters .exit)) (now (room .exit)) ⌝ }
+    ensures { λ g. ⌜ Walks plan parts write (nullData (nullJoin plan parts) (nullWalk (nullJoin plan parts) depth) (codeOf (was plan) i) i n) counters room g ⌝ }
 {
     let code = plan_words::code_of(plan, i);
     if code == node_data::SPARSE {
@@ -296,7 +296,7 @@ pub fn extend_nulls(
     n: u64,
     depth: u32,
 ) -> u8
-    ensures { λ g. ⌜ Did (now (plan .entry)) (now (parts .entry)) write (nullWalk (join (now (plan .entry)) (now (parts .entry)) [] [] [] 0 0) depth i n (now (counters .entry))) (now (room .entry)) g (now (counters .exit)) (now (room .exit)) ⌝ }
+    ensures { λ g. ⌜ Walks plan parts write (nullWalk (nullJoin plan parts) depth i n) counters room g ⌝ }
 {
     if depth == 0 {
         return 12;

@@ -2,9 +2,8 @@
 // Follows arrow-data 60.1.0 src/transform/list.rs, Apache-2.0; see NOTICE.
 ghost use mathlib.Core.Path.{_≡_};
 ghost use Prim.Native.Nat.{_+_, _<_, _^_};
-ghost use Rattle.walk.specs.Log.{Did};
 ghost use Rattle.walk.specs.Copy.{copyWalk, copyList};
-ghost use Rattle.leaf_walk.specs.Join.{join};
+ghost use Rattle.leaf_walk.specs.Walks.{lentJoin, Walks};
 use leaf_walk::variable_size;
 use utils::Extended;
 use walk::plan_words;
@@ -29,7 +28,7 @@ pub fn extend_list(
 ) -> u8
     requires { ⌜ (first < 2 ^ 32) × (source < 2 ^ 32) × (i < 32) × (slot + n < 2 ^ 63) ⌝ }
     requires { ⌜ ((w ≡ 4 → ⊥) → w ≡ 8) ⌝ }
-    ensures { λ g. ⌜ Did (now (plan .entry)) (now (parts .entry)) write (copyList (join (now (plan .entry)) (now (parts .entry)) (now (lengths .entry)) (now (places .entry)) (now (body .entry)) first source) (copyWalk (join (now (plan .entry)) (now (parts .entry)) (now (lengths .entry)) (now (places .entry)) (now (body .entry)) first source) depth) w i slot n (now (counters .entry))) (now (room .entry)) g (now (counters .exit)) (now (room .exit)) ⌝ }
+    ensures { λ g. let j = lentJoin plan parts lengths places body first source in ⌜ Walks plan parts write (copyList j (copyWalk j depth) w i slot n) counters room g ⌝ }
 {
     if n == 0 {
         return 0;

@@ -5,9 +5,9 @@ ghost use mathlib.Core.List.{[]};
 ghost use Prim.Native.Nat.{_+_, _*_, _<_, _≤_, _^_};
 ghost use lib.ListN.{length};
 ghost use Rattle.walk.specs.State.{place};
-ghost use Rattle.walk.specs.Log.{Did};
 ghost use Rattle.walk.specs.Copy.{copyWalk, listViewRow, copyListView};
 ghost use Rattle.leaf_walk.specs.Join.{join};
+ghost use Rattle.leaf_walk.specs.Walks.{lentJoin, Walks};
 use array_data::lent_tables;
 use nested_rows::lookups;
 use walk::plan_words;
@@ -32,8 +32,8 @@ fn extend_list_row(
 ) -> u8
     requires { ⌜ (first < 2 ^ 32) × (source < 2 ^ 32) × (i + 1 < 32) × (slot + r + 1 < 2 ^ 63) ⌝ }
     requires { ⌜ ((w ≡ 4 → ⊥) → w ≡ 8) ⌝ }
-    requires { ⌜ (place (join [] [] (now lengths) (now places) (now body) first 0) i 3 + w * (slot + r + 1) ≤ length (now body)) × (place (join [] [] (now lengths) (now places) (now body) first 0) i 5 + w * (slot + r + 1) ≤ length (now body)) ⌝ }
-    ensures { λ g. ⌜ Did (now (plan .entry)) (now (parts .entry)) write (listViewRow (join (now (plan .entry)) (now (parts .entry)) (now (lengths .entry)) (now (places .entry)) (now (body .entry)) first source) (copyWalk (join (now (plan .entry)) (now (parts .entry)) (now (lengths .entry)) (now (places .entry)) (now (body .entry)) first source) depth) w i slot r (now (counters .entry))) (now (room .entry)) g (now (counters .exit)) (now (room .exit)) ⌝ }
+    requires { let j = join [] [] (now lengths) (now places) (now body) first 0 in ⌜ (place j i 3 + w * (slot + r + 1) ≤ length (now body)) × (place j i 5 + w * (slot + r + 1) ≤ length (now body)) ⌝ }
+    ensures { λ g. let j = lentJoin plan parts lengths places body first source in ⌜ Walks plan parts write (listViewRow j (copyWalk j depth) w i slot r) counters room g ⌝ }
 {
     let offset = lookups::entry_at(body, lent_tables::place(places, first + i, 3), w, slot + r);
     let size = lookups::entry_at(body, lent_tables::place(places, first + i, 5), w, slot + r);
@@ -79,7 +79,7 @@ pub fn extend_list_view(
 ) -> u8
     requires { ⌜ (first < 2 ^ 32) × (source < 2 ^ 32) × (i < 32) × (slot + n < 2 ^ 63) ⌝ }
     requires { ⌜ ((w ≡ 4 → ⊥) → w ≡ 8) ⌝ }
-    ensures { λ g. ⌜ Did (now (plan .entry)) (now (parts .entry)) write (copyListView (join (now (plan .entry)) (now (parts .entry)) (now (lengths .entry)) (now (places .entry)) (now (body .entry)) first source) (copyWalk (join (now (plan .entry)) (now (parts .entry)) (now (lengths .entry)) (now (places .entry)) (now (body .entry)) first source) depth) w i slot n (now (counters .entry))) (now (room .entry)) g (now (counters .exit)) (now (room .exit)) ⌝ }
+    ensures { λ g. let j = lentJoin plan parts lengths places body first source in ⌜ Walks plan parts write (copyListView j (copyWalk j depth) w i slot n) counters room g ⌝ }
 {
     if 32 <= i + 1 {
         return 12;

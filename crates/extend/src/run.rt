@@ -2,10 +2,9 @@
 // Follows arrow-data 60.1.0 src/transform/run.rs, Apache-2.0; see NOTICE.
 ghost use mathlib.Core.List.{[]};
 ghost use Prim.Native.Nat.{_+_, _<_, _^_};
-ghost use Rattle.walk.specs.Log.{Did};
 ghost use Rattle.walk.specs.Copy.{copyWalk, copyRuns};
 ghost use Rattle.walk.specs.Nulls.{nullRuns, nullWalk};
-ghost use Rattle.leaf_walk.specs.Join.{join};
+ghost use Rattle.leaf_walk.specs.Walks.{lentJoin, nullJoin, Walks};
 use nested_rows::lookups;
 use run_ends::LogicalRow;
 use run_ends::Runs;
@@ -29,7 +28,7 @@ pub fn extend_run(
     depth: u32,
 ) -> u8
     requires { ⌜ (first < 2 ^ 32) × (source < 2 ^ 32) × (i < 32) × (slot + n < 2 ^ 63) ⌝ }
-    ensures { λ g. ⌜ Did (now (plan .entry)) (now (parts .entry)) write (copyRuns (join (now (plan .entry)) (now (parts .entry)) (now (lengths .entry)) (now (places .entry)) (now (body .entry)) first source) (copyWalk (join (now (plan .entry)) (now (parts .entry)) (now (lengths .entry)) (now (places .entry)) (now (body .entry)) first source) depth) i slot n (now (counters .entry))) (now (room .entry)) g (now (counters .exit)) (now (room .exit)) ⌝ }
+    ensures { λ g. let j = lentJoin plan parts lengths places body first source in ⌜ Walks plan parts write (copyRuns j (copyWalk j depth) i slot n) counters room g ⌝ }
 {
     if n == 0 {
         return 0;
@@ -97,7 +96,7 @@ pub fn extend_nulls_run(
     depth: u32,
 ) -> u8
     requires { ⌜ i < 32 ⌝ }
-    ensures { λ g. ⌜ Did (now (plan .entry)) (now (parts .entry)) write (nullRuns (join (now (plan .entry)) (now (parts .entry)) [] [] [] 0 0) (nullWalk (join (now (plan .entry)) (now (parts .entry)) [] [] [] 0 0) depth) i n (now (counters .entry))) (now (room .entry)) g (now (counters .exit)) (now (room .exit)) ⌝ }
+    ensures { λ g. ⌜ Walks plan parts write (nullRuns (nullJoin plan parts) (nullWalk (nullJoin plan parts) depth) i n) counters room g ⌝ }
 {
     if !nested_rows::has_ends(plan, i) {
         return 12;

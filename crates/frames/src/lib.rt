@@ -7,6 +7,7 @@ ghost use mathlib.Core.List.{[]};
 ghost use Prim.Native.Nat.{_+_, _*_, _≤_, _<_, _^_};
 ghost use lib.ListN.{length};
 ghost use lib.Ieee.{binary64, nanBits, ofBits};
+ghost use Rattle.clauses.specs.Slices.{was};
 ghost use Rattle.columnar.specs.Array.{item, ok};
 ghost use Rattle.array_data.specs.Tables.{offsetOf};
 ghost use Rattle.array_data.specs.lent_tables.Lent.{tables};
@@ -56,7 +57,7 @@ pub fn join_frames(a: Frame, b: Frame) -> Frame
 
 fn is_valid(mask: &[u8], masked: bool, slot: usize) -> bool
     requires { ⌜ (masked ≡ true → slot < 8 * length (now mask)) ⌝ }
-    ensures { λ r. ⌜ r ≡ ok (maskOf masked (now (mask .entry))) slot ⌝ }
+    ensures { λ r. ⌜ r ≡ ok (maskOf masked (was mask)) slot ⌝ }
 {
     if !masked {
         return true;
@@ -75,7 +76,7 @@ fn is_number(bits: u64) -> bool
 // The value in a slot that is known to hold a number.
 fn float_at(values: &[u8], slot: usize) -> f64
     requires { ⌜ (slot * 8 + 8 ≤ length (now values)) × (nanBits binary64 (item 8 (now values) slot) ≡ false) ⌝ }
-    ensures { λ r. ⌜ r ≡ ofBits binary64 (item 8 (now (values .entry)) slot) ⌝ }
+    ensures { λ r. ⌜ r ≡ ofBits binary64 (item 8 (was values) slot) ⌝ }
 {
     f64::from_bits(number::read_u64(values, slot * 8))
 }
@@ -93,7 +94,7 @@ fn counts(
 ) -> bool
     requires { ⌜ Holds (now lat) «lat_masked» (now «lat_mask») (a + 1) ⌝ }
     requires { ⌜ Holds (now lon) «lon_masked» (now «lon_mask») (b + 1) ⌝ }
-    ensures { λ r. ⌜ r ≡ counts (slotStop (now (lat .entry)) (maskOf «lat_masked» (now («lat_mask» .entry))) (now (lon .entry)) (maskOf «lon_masked» (now («lon_mask» .entry))) a b) ⌝ }
+    ensures { λ r. ⌜ r ≡ counts (slotStop (was lat) (maskOf «lat_masked» (was «lat_mask»)) (was lon) (maskOf «lon_masked» (was «lon_mask»)) a b) ⌝ }
 {
     let valid = is_valid(lat_mask, lat_masked, a);
     let valid2 = is_valid(lon_mask, lon_masked, b);
@@ -106,7 +107,7 @@ fn counts(
 fn frame_at(lat: &[u8], lon: &[u8], a: usize, b: usize) -> Frame
     requires { ⌜ (a * 8 + 8 ≤ length (now lat)) × (nanBits binary64 (item 8 (now lat) a) ≡ false) ⌝ }
     requires { ⌜ (b * 8 + 8 ≤ length (now lon)) × (nanBits binary64 (item 8 (now lon) b) ≡ false) ⌝ }
-    ensures { λ r. ⌜ r ≡ around (ofBits binary64 (item 8 (now (lat .entry)) a)) (ofBits binary64 (item 8 (now (lon .entry)) b)) ⌝ }
+    ensures { λ r. ⌜ r ≡ around (ofBits binary64 (item 8 (was lat) a)) (ofBits binary64 (item 8 (was lon) b)) ⌝ }
 {
     let latitude = float_at(lat, a);
     let longitude = float_at(lon, b);
@@ -132,7 +133,7 @@ fn pass_over(
 ) -> usize
     requires { ⌜ Holds (now lat) «lat_masked» (now «lat_mask») (a + n) ⌝ }
     requires { ⌜ Holds (now lon) «lon_masked» (now «lon_mask») (b + n) ⌝ }
-    ensures { λ r. ⌜ Passed (λ k. slotStop (now (lat .entry)) (maskOf «lat_masked» (now («lat_mask» .entry))) (now (lon .entry)) (maskOf «lon_masked» (now («lon_mask» .entry))) (a + k) (b + k)) n r ⌝ }
+    ensures { λ r. ⌜ Passed (λ k. slotStop (was lat) (maskOf «lat_masked» (was «lat_mask»)) (was lon) (maskOf «lon_masked» (was «lon_mask»)) (a + k) (b + k)) n r ⌝ }
 {
     let mut k = 0;
     while k < n {
@@ -167,7 +168,7 @@ fn widen_row(
 ) -> Frame
     requires { ⌜ Holds (now lat) «lat_masked» (now «lat_mask») (a + 1) ⌝ }
     requires { ⌜ Holds (now lon) «lon_masked» (now «lon_mask») (b + 1) ⌝ }
-    ensures { λ r. ⌜ r ≡ widened f (slotStop (now (lat .entry)) (maskOf «lat_masked» (now («lat_mask» .entry))) (now (lon .entry)) (maskOf «lon_masked» (now («lon_mask» .entry))) a b) ⌝ }
+    ensures { λ r. ⌜ r ≡ widened f (slotStop (was lat) (maskOf «lat_masked» (was «lat_mask»)) (was lon) (maskOf «lon_masked» (was «lon_mask»)) a b) ⌝ }
 {
     if counts(lat, lat_mask, lat_masked, lon, lon_mask, lon_masked, a, b) {
         return join_frames(f, frame_at(lat, lon, a, b));
@@ -190,7 +191,7 @@ fn widen_by(
 ) -> Frame
     requires { ⌜ Holds (now lat) «lat_masked» (now «lat_mask») (a + n) ⌝ }
     requires { ⌜ Holds (now lon) «lon_masked» (now «lon_mask») (b + n) ⌝ }
-    ensures { λ r. ⌜ r ≡ widenedBy f (slotStops (now (lat .entry)) (maskOf «lat_masked» (now («lat_mask» .entry))) (now (lon .entry)) (maskOf «lon_masked» (now («lon_mask» .entry))) a b n) ⌝ }
+    ensures { λ r. ⌜ r ≡ widenedBy f (slotStops (was lat) (maskOf «lat_masked» (was «lat_mask»)) (was lon) (maskOf «lon_masked» (was «lon_mask»)) a b n) ⌝ }
 {
     let mut frame = f;
     let mut k = 0;
@@ -225,7 +226,7 @@ fn frame_rows(
 ) -> Boxed
     requires { ⌜ Holds (now lat) «lat_masked» (now «lat_mask») (a + n) ⌝ }
     requires { ⌜ Holds (now lon) «lon_masked» (now «lon_mask») (b + n) ⌝ }
-    ensures { λ r. ⌜ r ≡ found (framed (slotStops (now (lat .entry)) (maskOf «lat_masked» (now («lat_mask» .entry))) (now (lon .entry)) (maskOf «lon_masked» (now («lon_mask» .entry))) a b n)) ⌝ }
+    ensures { λ r. ⌜ r ≡ found (framed (slotStops (was lat) (maskOf «lat_masked» (was «lat_mask»)) (was lon) (maskOf «lon_masked» (was «lon_mask»)) a b n)) ⌝ }
 {
     let k = pass_over(
         lat,
@@ -265,7 +266,7 @@ fn frame_rows(
 fn mask_of(places: &[u64], k: usize) -> Mask
     requires { ⌜ k < 2 ^ 33 ⌝ }
     requires { ⌜ maskPlace (tables [] (now places) []) k .end < 2 ^ 64 ⌝ }
-    ensures { λ r. ⌜ r ≡ maskPlace (tables [] (now (places .entry)) []) k ⌝ }
+    ensures { λ r. ⌜ r ≡ maskPlace (tables [] (was places) []) k ⌝ }
 {
     if lent_tables::place(places, k, 0) == 0 {
         return Mask {
@@ -296,7 +297,7 @@ fn frame_nodes(
     requires { ⌜ (a < 2 ^ 33) × (b < 2 ^ 33) ⌝ }
     requires { ⌜ Placed (tables (now lengths) (now places) (now body)) a (offsetOf (tables (now lengths) [] []) a + start + n) ⌝ }
     requires { ⌜ Placed (tables (now lengths) (now places) (now body)) b (offsetOf (tables (now lengths) [] []) b + start + n) ⌝ }
-    ensures { λ r. ⌜ r ≡ found (framed (lentStops (tables (now (lengths .entry)) (now (places .entry)) (now (body .entry))) a b start n)) ⌝ }
+    ensures { λ r. ⌜ r ≡ found (framed (lentStops (tables (was lengths) (was places) (was body)) a b start n)) ⌝ }
 {
     let lat = lent_tables::place(places, a, 3) as usize;
     let lat_end = lat + lent_tables::place(places, a, 4) as usize;
@@ -330,7 +331,7 @@ fn are_doubles(
     first_b: u32,
     n_b: u32,
 ) -> bool
-    ensures { λ r. ⌜ r ≡ isDouble (now (formats .entry)) (now (schema .entry)) «first_a» «n_a» && isDouble (now (formats .entry)) (now (schema .entry)) «first_b» «n_b» ⌝ }
+    ensures { λ r. ⌜ r ≡ isDouble (was formats) (was schema) «first_a» «n_a» && isDouble (was formats) (was schema) «first_b» «n_b» ⌝ }
 {
     let code = columns::column_pair::plain_code(formats, schema, first_a, n_a);
     let code2 = columns::column_pair::plain_code(formats, schema, first_b, n_b);
@@ -354,7 +355,7 @@ pub fn box_of(
     start: u64,
     end: u64,
 ) -> Boxed
-    ensures { λ r. ⌜ r ≡ boxOf (now (formats .entry)) (now (schema .entry)) (tablesOf (now (lengths .entry)) (now (places .entry)) (now (buffers .entry)) (now (body .entry))) «first_a» «n_a» «first_b» «n_b» start end ⌝ }
+    ensures { λ r. ⌜ r ≡ boxOf (was formats) (was schema) (tablesOf (was lengths) (was places) (was buffers) (was body)) «first_a» «n_a» «first_b» «n_b» start end ⌝ }
 {
     let ground = columns::column_pair::pair_ground(
         formats,

@@ -2,6 +2,7 @@
 use mathlib.Core.Path.{_≡_}
 use mathlib.Core.List.{List}
 use Prim.Native.Nat.{ℕ}
+use Rattle.clauses.specs.Slices.{was, left, Slice}
 use Rattle.refinement.specs.finishing.Finish.{Finished}
 
 -- the ground that is answered, and the four tables as they are left
@@ -11,3 +12,8 @@ pub record Answers (a : Finished) (r : ℕ) (lengths nulls places buffers : List
   pub nulls-are : nulls ≡ a .nulls
   pub places-are : places ≡ a .places
   pub buffers-are : buffers ≡ a .buffers
+
+-- .. of a call that is lent all four
+abbrev pub Finishes : (List ℕ → List ℕ → List ℕ → List ℕ → Finished) → (lengths nulls places buffers : Slice) → ℕ → Type 0
+Finishes finish lengths nulls places buffers r =
+    Answers (finish (was lengths) (was nulls) (was places) (was buffers)) r (left lengths) (left nulls) (left places) (left buffers)

@@ -4,6 +4,7 @@ ghost use mathlib.Core.Path.{_≡_};
 ghost use mathlib.Core.List.{[]};
 ghost use Prim.Native.Nat.{_+_, _*_, _<_, _≤_, _^_, min};
 ghost use lib.ListN.{length, getD};
+ghost use Rattle.clauses.specs.Slices.{was, left};
 ghost use Rattle.columnar.specs.Row.{seg};
 ghost use Rattle.plan.specs.parts.Parts.{nodesOf};
 ghost use Rattle.refinement.specs.orders.Order.{sourceCount};
@@ -17,7 +18,7 @@ use walk::plan_words;
 
 // How many sources the plan was made for, at most 16.
 fn source_count(plan: &[u64]) -> usize
-    ensures { λ r. ⌜ r ≡ min (sourceCount (now (plan .entry))) 16 ⌝ }
+    ensures { λ r. ⌜ r ≡ min (sourceCount (was plan)) 16 ⌝ }
     ensures { λ r. ⌜ r ≤ 16 ⌝ }
 {
     let m = lent_tables::at_u64(plan, plan_words::SOURCE_COUNT);
@@ -30,7 +31,7 @@ fn source_count(plan: &[u64]) -> usize
 // How many data buffers node i names.
 pub fn count_at(plan: &[u64], sources: &[u32], places: &[u64], i: usize) -> u64
     requires { ⌜ i < 32 ⌝ }
-    ensures { λ r. ⌜ r ≡ countAt (now (plan .entry)) (now (sources .entry)) (now (places .entry)) i ⌝ }
+    ensures { λ r. ⌜ r ≡ countAt (was plan) (was sources) (was places) i ⌝ }
     ensures { λ r. ⌜ r ≤ 528 ⌝ }
 {
     if !schema::formats::is_view(plan_words::code_of(plan, i)) {
@@ -42,7 +43,7 @@ pub fn count_at(plan: &[u64], sources: &[u32], places: &[u64], i: usize) -> u64
 // How many data buffers the nodes before node n name.
 pub fn count_before(plan: &[u64], sources: &[u32], places: &[u64], n: usize) -> u64
     requires { ⌜ n ≤ 32 ⌝ }
-    ensures { λ r. ⌜ r ≡ countBefore (now (plan .entry)) (now (sources .entry)) (now (places .entry)) n ⌝ }
+    ensures { λ r. ⌜ r ≡ countBefore (was plan) (was sources) (was places) n ⌝ }
     ensures { λ r. ⌜ r ≤ 16896 ⌝ }
 {
     let mut sum: u64 = 0;
@@ -59,7 +60,7 @@ pub fn count_before(plan: &[u64], sources: &[u32], places: &[u64], n: usize) -> 
 // n numbers of a table from pair `from` on, 0 past its end, into another at number `at`.
 fn copy_names(buffers: &[u64], from: u64, n: usize, names: &mut [u64], at: usize)
     requires { ⌜ at + n ≤ length (now names) ⌝ }
-    ensures { λ _. ⌜ Behind (now (names .entry)) (now (names .exit)) at n (seg (λ q. getD (now (buffers .entry)) q 0) (2 * from) n) ⌝ }
+    ensures { λ _. ⌜ Behind (was names) (left names) at n (seg (λ q. getD (was buffers) q 0) (2 * from) n) ⌝ }
 {
     let mut q = 0;
     while q < n {
@@ -79,7 +80,7 @@ fn view_names(
     at: usize,
 )
     requires { ⌜ (i < 32) × (at + 2 * buffersOf (lent (now plan) [] (now sources) [] (now places) []) [] [] [] 0 i (min (sourceCount (now plan)) 16) ≤ length (now names)) ⌝ }
-    ensures { λ _. ⌜ Behind (now (names .entry)) (now (names .exit)) at (2 * buffersOf (lent (now (plan .entry)) [] (now (sources .entry)) [] (now (places .entry)) []) [] [] [] 0 i (min (sourceCount (now (plan .entry))) 16)) (buffersFrom (lent (now (plan .entry)) [] (now (sources .entry)) [] (now (places .entry)) []) (now (buffers .entry)) [] [] 0 i (min (sourceCount (now (plan .entry))) 16)) ⌝ }
+    ensures { λ _. let l = lent (was plan) [] (was sources) [] (was places) [] in let m = min (sourceCount (was plan)) 16 in ⌜ Behind (was names) (left names) at (2 * buffersOf l [] [] [] 0 i m) (buffersFrom l (was buffers) [] [] 0 i m) ⌝ }
 {
     let m = source_count(plan);
     let mut end = at;
@@ -105,7 +106,7 @@ fn node_names(
     at: usize,
 )
     requires { ⌜ (i < 32) × (at + 2 * countAt (now plan) (now sources) (now places) i ≤ length (now names)) ⌝ }
-    ensures { λ _. ⌜ Behind (now (names .entry)) (now (names .exit)) at (2 * countAt (now (plan .entry)) (now (sources .entry)) (now (places .entry)) i) (namesAt (now (plan .entry)) (now (sources .entry)) (now (places .entry)) (now (buffers .entry)) i) ⌝ }
+    ensures { λ _. ⌜ Behind (was names) (left names) at (2 * countAt (was plan) (was sources) (was places) i) (namesAt (was plan) (was sources) (was places) (was buffers) i) ⌝ }
 {
     if schema::formats::is_view(plan_words::code_of(plan, i)) {
         view_names(plan, sources, places, buffers, i, names, at);
@@ -121,7 +122,7 @@ pub fn write_buffers(
     names: &mut [u64],
 )
     requires { ⌜ length (now names) ≡ 2 * countBefore (now plan) (now sources) (now places) (nodesOf (now plan)) ⌝ }
-    ensures { λ _. ⌜ now (names .exit) ≡ namesBefore (now (plan .entry)) (now (sources .entry)) (now (places .entry)) (now (buffers .entry)) (nodesOf (now (plan .entry))) ⌝ }
+    ensures { λ _. ⌜ left names ≡ namesBefore (was plan) (was sources) (was places) (was buffers) (nodesOf (was plan)) ⌝ }
 {
     let n = plan::parts::node_count(plan);
     let mut at = 0;

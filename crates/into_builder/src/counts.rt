@@ -6,6 +6,7 @@ ghost use mathlib.Core.List.{[]};
 ghost use Prim.Native.Nat.{ℕ, _+_, _*_, _/_, _%_, _<_, _^_};
 ghost use lib.ListN.{length};
 ghost use lib.Dec.{ltb, eqb};
+ghost use Rattle.clauses.specs.Slices.{was, left};
 ghost use Rattle.columnar.specs.Test.{every};
 ghost use Rattle.walk.specs.State.{far};
 ghost use Rattle.walk.specs.Log.{startOf};
@@ -24,7 +25,7 @@ use walk::plan_words;
 // The length of node i: its rows, but a kept dictionary has that of source 0.
 fn length_at(plan: &[u64], sources: &[u32], lengths: &[u64], counters: &[u64], i: usize) -> u64
     requires { ⌜ i < 32 ⌝ }
-    ensures { λ r. ⌜ r ≡ lengthAt (lent (now (plan .entry)) [] (now (sources .entry)) (now (lengths .entry)) [] []) [] (now (counters .entry)) [] 0 i ⌝ }
+    ensures { λ r. ⌜ r ≡ lengthAt (lent (was plan) [] (was sources) (was lengths) [] []) [] (was counters) [] 0 i ⌝ }
 {
     if plan::parts::is_copied(plan, i) {
         return lent_tables::at_u64(counters, 3 * i);
@@ -35,7 +36,7 @@ fn length_at(plan: &[u64], sources: &[u32], lengths: &[u64], counters: &[u64], i
 // The offset of node i: 0, but a kept dictionary has that of source 0.
 fn offset_at(plan: &[u64], sources: &[u32], lengths: &[u64], i: usize) -> u64
     requires { ⌜ i < 32 ⌝ }
-    ensures { λ r. ⌜ r ≡ offsetAt (lent (now (plan .entry)) [] (now (sources .entry)) (now (lengths .entry)) [] []) [] [] [] 0 i ⌝ }
+    ensures { λ r. ⌜ r ≡ offsetAt (lent (was plan) [] (was sources) (was lengths) [] []) [] [] [] 0 i ⌝ }
 {
     if plan::parts::is_copied(plan, i) {
         return 0;
@@ -46,7 +47,7 @@ fn offset_at(plan: &[u64], sources: &[u32], lengths: &[u64], i: usize) -> u64
 // Number q of the lengths and offsets.
 fn length_word(plan: &[u64], sources: &[u32], lengths: &[u64], counters: &[u64], q: usize) -> u64
     requires { ⌜ q < 64 ⌝ }
-    ensures { λ r. ⌜ r ≡ cond (eqb (q % 2) 0) (lengthAt (lent (now (plan .entry)) [] (now (sources .entry)) (now (lengths .entry)) [] []) [] (now (counters .entry)) [] 0 (q / 2)) (offsetAt (lent (now (plan .entry)) [] (now (sources .entry)) (now (lengths .entry)) [] []) [] (now (counters .entry)) [] 0 (q / 2)) ⌝ }
+    ensures { λ r. let l = lent (was plan) [] (was sources) (was lengths) [] [] in ⌜ r ≡ cond (eqb (q % 2) 0) (lengthAt l [] (was counters) [] 0 (q / 2)) (offsetAt l [] (was counters) [] 0 (q / 2)) ⌝ }
 {
     if q % 2 == 0 {
         return length_at(plan, sources, lengths, counters, q / 2);
@@ -63,7 +64,7 @@ pub fn write_lengths(
     table: &mut [u64],
 )
     requires { ⌜ length (now table) ≡ 2 * nodesOf (now plan) ⌝ }
-    ensures { λ _. ⌜ now (table .exit) ≡ lengthTable (lent (now (plan .entry)) [] (now (sources .entry)) (now (lengths .entry)) [] []) [] (now (counters .entry)) [] 0 ⌝ }
+    ensures { λ _. ⌜ left table ≡ lengthTable (lent (was plan) [] (was sources) (was lengths) [] []) [] (was counters) [] 0 ⌝ }
 {
     let n = 2 * plan::parts::node_count(plan);
     let mut q = 0;
@@ -78,7 +79,7 @@ pub fn write_lengths(
 // Whether the slots of node k end below 2^63.
 fn is_counted(lengths: &[u64], k: usize) -> bool
     requires { ⌜ k < 2 ^ 33 ⌝ }
-    ensures { λ r. ⌜ r ≡ ltb (offsetOf (tables (now (lengths .entry)) [] []) k + lengthOf (tables (now (lengths .entry)) [] []) k) far ⌝ }
+    ensures { λ r. ⌜ r ≡ ltb (offsetOf (tables (was lengths) [] []) k + lengthOf (tables (was lengths) [] []) k) far ⌝ }
 {
     let off = lent_tables::offset_of(lengths, k);
     let len = lent_tables::length_of(lengths, k);
@@ -95,7 +96,7 @@ fn kept_in(
     i: usize,
 ) -> bool
     requires { ⌜ i < 32 ⌝ }
-    ensures { λ r. ⌜ r ≡ keptOf (now (plan .entry)) (now (sources .entry)) (now (lengths .entry)) (now (places .entry)) (now (body .entry)) i ⌝ }
+    ensures { λ r. ⌜ r ≡ keptOf (was plan) (was sources) (was lengths) (was places) (was body) i ⌝ }
 {
     if plan::parts::is_copied(plan, i) {
         return true;
@@ -109,7 +110,7 @@ fn kept_in(
 
 // Whether that holds of every node: ground 12 where not.
 pub fn all_kept(plan: &[u64], sources: &[u32], lengths: &[u64], places: &[u64], body: &[u8]) -> bool
-    ensures { λ r. ⌜ r ≡ every (keptOf (now (plan .entry)) (now (sources .entry)) (now (lengths .entry)) (now (places .entry)) (now (body .entry))) (nodesOf (now (plan .entry))) ⌝ }
+    ensures { λ r. ⌜ r ≡ every (keptOf (was plan) (was sources) (was lengths) (was places) (was body)) (nodesOf (was plan)) ⌝ }
 {
     let n = plan::parts::node_count(plan);
     let mut i = 0;
@@ -125,7 +126,7 @@ pub fn all_kept(plan: &[u64], sources: &[u32], lengths: &[u64], places: &[u64], 
 // Where the part of buffer b of node i starts in the room.
 pub fn part_start(plan: &[u64], parts: &[u64], i: usize, b: usize) -> u64
     requires { ⌜ (i < 32) × (b < 3) ⌝ }
-    ensures { λ r. ⌜ r ≡ startOf (now (plan .entry)) (now (parts .entry)) i b ⌝ }
+    ensures { λ r. ⌜ r ≡ startOf (was plan) (was parts) i b ⌝ }
 {
     lent_tables::at_u64(parts, 2 * plan::parts::number_of(plan, i, b))
 }
@@ -133,7 +134,7 @@ pub fn part_start(plan: &[u64], parts: &[u64], i: usize, b: usize) -> u64
 // The zero bits among the rows of node i.
 fn zeros_at(plan: &[u64], parts: &[u64], counters: &[u64], room: &[u8], i: usize) -> u64
     requires { ⌜ (i < 32) × BitsIn (now plan) (now parts) (now counters) (length (now room)) i ⌝ }
-    ensures { λ r. ⌜ r ≡ zerosOf (now (plan .entry)) (now (parts .entry)) (now (counters .entry)) (now (room .entry)) i ⌝ }
+    ensures { λ r. ⌜ r ≡ zerosOf (was plan) (was parts) (was counters) (was room) i ⌝ }
 {
     if !plan::parts::has_part(plan, i, 0) {
         return 0;
@@ -156,7 +157,7 @@ fn nulls_at(
     i: usize,
 ) -> u64
     requires { ⌜ (i < 32) × BitsIn (now plan) (now parts) (now counters) (length (now room)) i × (keptOf (now plan) (now sources) (now lengths) (now places) (now body) i ≡ true) ⌝ }
-    ensures { λ r. ⌜ r ≡ nullsAt (lent (now (plan .entry)) (now (parts .entry)) (now (sources .entry)) (now (lengths .entry)) (now (places .entry)) (now (body .entry))) [] (now (counters .entry)) (now (room .entry)) 0 i ⌝ }
+    ensures { λ r. ⌜ r ≡ nullsAt (lent (was plan) (was parts) (was sources) (was lengths) (was places) (was body)) [] (was counters) (was room) 0 i ⌝ }
 {
     if plan::parts::is_copied(plan, i) {
         return zeros_at(plan, parts, counters, room, i);
@@ -178,7 +179,7 @@ pub fn write_nulls(
     table: &mut [u64],
 )
     requires { ⌜ (length (now table) ≡ nodesOf (now plan)) × ((i : ℕ) → i < nodesOf (now plan) → BitsIn (now plan) (now parts) (now counters) (length (now room)) i) × (every (keptOf (now plan) (now sources) (now lengths) (now places) (now body)) (nodesOf (now plan)) ≡ true) ⌝ }
-    ensures { λ _. ⌜ now (table .exit) ≡ nullTable (lent (now (plan .entry)) (now (parts .entry)) (now (sources .entry)) (now (lengths .entry)) (now (places .entry)) (now (body .entry))) [] (now (counters .entry)) (now (room .entry)) 0 ⌝ }
+    ensures { λ _. ⌜ left table ≡ nullTable (lent (was plan) (was parts) (was sources) (was lengths) (was places) (was body)) [] (was counters) (was room) 0 ⌝ }
 {
     let n = plan::parts::node_count(plan);
     let mut i = 0;

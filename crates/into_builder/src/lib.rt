@@ -10,12 +10,13 @@ ghost use mathlib.Core.List.{List};
 ghost use Prim.Native.Nat.{ℕ, _*_};
 ghost use lib.ListN.{length};
 ghost use lib.Dec.{leb, eqb};
+ghost use Rattle.clauses.specs.Slices.{was};
 ghost use Rattle.walk.specs.State.{nulls};
 ghost use Rattle.plan.specs.parts.Parts.{nodesOf, partsWithin, partsHold};
 ghost use Rattle.columns.specs.Grounds.{ceiling};
 ghost use Rattle.refinement.specs.finishing.Finish.{buffersBefore, finishing};
 ghost use Rattle.into_builder.specs.buffers.Names.{lent, countBefore};
-ghost use Rattle.into_builder.specs.Answer.{Answers};
+ghost use Rattle.into_builder.specs.Answer.{Finishes};
 use array_data::lent_tables;
 use walk::plan_words;
 
@@ -23,14 +24,14 @@ use walk::plan_words;
 
 // How many data buffers the finished array names: the table of them has two numbers for each.
 pub fn buffer_total(plan: &[u64], sources: &[u32], places: &[u64]) -> u64
-    ensures { λ r. ⌜ ((parts lengths body buffers counters room : List ℕ) (base : ℕ) → r ≡ buffersBefore (lent (now (plan .entry)) parts (now (sources .entry)) lengths (now (places .entry)) body) buffers counters room base (nodesOf (now (plan .entry)))) ⌝ }
+    ensures { λ r. ⌜ ((parts lengths body buffers counters room : List ℕ) (base : ℕ) → r ≡ buffersBefore (lent (was plan) parts (was sources) lengths (was places) body) buffers counters room base (nodesOf (was plan))) ⌝ }
 {
     buffers::count_before(plan, sources, places, plan::parts::node_count(plan))
 }
 
 // The running null count.
 pub fn running_nulls(counters: &[u64]) -> u64
-    ensures { λ r. ⌜ r ≡ nulls (now (counters .entry)) 0 ⌝ }
+    ensures { λ r. ⌜ r ≡ nulls (was counters) 0 ⌝ }
 {
     lent_tables::at_u64(counters, 1)
 }
@@ -40,7 +41,7 @@ pub fn running_nulls(counters: &[u64]) -> u64
 // The counters as an array.
 fn load(counters: &[u64]) -> [u64; plan_words::COUNTERS]
     requires { ⌜ length (now counters) ≡ 96 ⌝ }
-    ensures { λ r. ⌜ r ≡ now (counters .entry) ⌝ }
+    ensures { λ r. ⌜ r ≡ was counters ⌝ }
 {
     let mut tally = [0u64; plan_words::COUNTERS];
     let mut i = 0;
@@ -63,7 +64,7 @@ fn sizes_fit(base: u64, m: usize) -> bool
 
 // Whether counters, parts and a room of m bytes are those of a join.
 fn room_fits(plan: &[u64], parts: &[u64], counters: &[u64], m: usize) -> bool
-    ensures { λ r. ⌜ r ≡ (eqb (length (now (counters .entry))) 96 && partsWithin (now (plan .entry)) (now (parts .entry)) m && partsHold (now (plan .entry)) (now (counters .entry)) (now (parts .entry))) ⌝ }
+    ensures { λ r. ⌜ r ≡ (eqb (length (was counters)) 96 && partsWithin (was plan) (was parts) m && partsHold (was plan) (was counters) (was parts)) ⌝ }
 {
     if counters.len() != plan_words::COUNTERS {
         return false;
@@ -85,7 +86,7 @@ fn tables_fit(
     spots: usize,
     names: usize,
 ) -> bool
-    ensures { λ r. ⌜ r ≡ (eqb lengths (2 * nodesOf (now (plan .entry))) && eqb nulls (nodesOf (now (plan .entry))) && eqb spots (9 * nodesOf (now (plan .entry))) && eqb names (2 * countBefore (now (plan .entry)) (now (sources .entry)) (now (places .entry)) (nodesOf (now (plan .entry))))) ⌝ }
+    ensures { λ r. let n = nodesOf (was plan) in ⌜ r ≡ (eqb lengths (2 * nodesOf (was plan)) && eqb nulls n && eqb spots (9 * nodesOf (was plan)) && eqb names (2 * countBefore (was plan) (was sources) (was places) n)) ⌝ }
 {
     let n = plan::parts::node_count(plan);
     let total = buffers::count_before(plan, sources, places, n);
@@ -113,7 +114,7 @@ pub fn into_builder(
     new_places: &mut [u64],
     new_buffers: &mut [u64],
 ) -> u8
-    ensures { λ r. ⌜ Answers (finishing (lent (now (plan .entry)) (now (parts .entry)) (now (sources .entry)) (now (lengths .entry)) (now (places .entry)) (now (body .entry))) (now (buffers .entry)) (now (counters .entry)) (now (room .entry)) base (now («new_lengths» .entry)) (now («new_nulls» .entry)) (now («new_places» .entry)) (now («new_buffers» .entry))) r (now («new_lengths» .exit)) (now («new_nulls» .exit)) (now («new_places» .exit)) (now («new_buffers» .exit)) ⌝ }
+    ensures { λ r. ⌜ Finishes (finishing (lent (was plan) (was parts) (was sources) (was lengths) (was places) (was body)) (was buffers) (was counters) (was room) base) «new_lengths» «new_nulls» «new_places» «new_buffers» r ⌝ }
 {
     if !sizes_fit(base, room.len()) {
         return 9;

@@ -6,6 +6,7 @@ ghost use mathlib.Core.List.{List, []};
 ghost use Prim.Native.Nat.{ℕ, _+_, _*_, _<_, _≤_};
 ghost use lib.ListN.{length};
 ghost use lib.Dec.{eqb};
+ghost use Rattle.clauses.specs.Slices.{was, left};
 ghost use Rattle.walk.specs.State.{codeOf, top};
 ghost use Rattle.walk.specs.Log.{startOf};
 ghost use Rattle.schema.specs.formats.Code.{isView};
@@ -51,7 +52,7 @@ fn second_size(code: u8, r: u64, n: u64) -> u64
 // The bytes of buffer b of node i.
 fn part_size(plan: &[u64], counters: &[u64], i: usize, b: usize) -> u64
     requires { ⌜ (i < 32) × (b < 3) × (needed (now plan) (now counters) i b ≤ top) ⌝ }
-    ensures { λ s. ⌜ s ≡ needed (now (plan .entry)) (now (counters .entry)) i b ⌝ }
+    ensures { λ s. ⌜ s ≡ needed (was plan) (was counters) i b ⌝ }
 {
     let r = lent_tables::at_u64(counters, 3 * i);
     if b == 0 {
@@ -77,7 +78,7 @@ fn valid_place(
     j: usize,
 ) -> u64
     requires { ⌜ (i < 32) × (j < 3) × Placed (now plan) (now parts) (now counters) base i ⌝ }
-    ensures { λ r. ⌜ ((room : List ℕ) → zeros ≡ zerosOf (now (plan .entry)) (now (parts .entry)) (now (counters .entry)) room i → r ≡ cond (eqb zeros 0) 0 (validPlace (lent (now (plan .entry)) (now (parts .entry)) [] [] [] []) [] (now (counters .entry)) room base i j)) ⌝ }
+    ensures { λ r. ⌜ ((room : List ℕ) → zeros ≡ zerosOf (was plan) (was parts) (was counters) room i → r ≡ cond (eqb zeros 0) 0 (validPlace (lent (was plan) (was parts) [] [] [] []) [] (was counters) room base i j)) ⌝ }
 {
     if !plan::parts::has_part(plan, i, 0) {
         return 0;
@@ -97,7 +98,7 @@ fn valid_place(
 // Where buffer b of node i begins; 0 where there is none.
 fn buffer_start(plan: &[u64], parts: &[u64], base: u64, i: usize, b: usize) -> u64
     requires { ⌜ (i < 32) × (b < 3) × (hasPart (now plan) i b ≡ true → base + startOf (now plan) (now parts) i b ≤ top) ⌝ }
-    ensures { λ r. ⌜ r ≡ bufferStart (lent (now (plan .entry)) (now (parts .entry)) [] [] [] []) [] [] [] base i b ⌝ }
+    ensures { λ r. ⌜ r ≡ bufferStart (lent (was plan) (was parts) [] [] [] []) [] [] [] base i b ⌝ }
 {
     if !plan::parts::has_part(plan, i, b) {
         return 0;
@@ -108,7 +109,7 @@ fn buffer_start(plan: &[u64], parts: &[u64], base: u64, i: usize, b: usize) -> u
 // The bytes of buffer b of node i; 0 where there is none.
 fn buffer_size(plan: &[u64], counters: &[u64], i: usize, b: usize) -> u64
     requires { ⌜ (i < 32) × (b < 3) × (hasPart (now plan) i b ≡ true → needed (now plan) (now counters) i b ≤ top) ⌝ }
-    ensures { λ r. ⌜ r ≡ bufferSize (lent (now (plan .entry)) [] [] [] [] []) [] (now (counters .entry)) [] 0 i b ⌝ }
+    ensures { λ r. ⌜ r ≡ bufferSize (lent (was plan) [] [] [] [] []) [] (was counters) [] 0 i b ⌝ }
 {
     if !plan::parts::has_part(plan, i, b) {
         return 0;
@@ -119,7 +120,7 @@ fn buffer_size(plan: &[u64], counters: &[u64], i: usize, b: usize) -> u64
 // Number j, 7 or 8, of node i: its first data buffer and how many it names; 0 where it is no view node.
 fn view_place(plan: &[u64], sources: &[u32], places: &[u64], i: usize, j: usize) -> u64
     requires { ⌜ i < nodesOf (now plan) ⌝ }
-    ensures { λ r. ⌜ r ≡ cond (isView (codeOf (now (plan .entry)) i)) (cond (eqb j 7) (countBefore (now (plan .entry)) (now (sources .entry)) (now (places .entry)) i) (countAt (now (plan .entry)) (now (sources .entry)) (now (places .entry)) i)) 0 ⌝ }
+    ensures { λ r. ⌜ r ≡ cond (isView (codeOf (was plan) i)) (cond (eqb j 7) (countBefore (was plan) (was sources) (was places) i) (countAt (was plan) (was sources) (was places) i)) 0 ⌝ }
 {
     if !schema::formats::is_view(plan_words::code_of(plan, i)) {
         return 0;
@@ -143,7 +144,7 @@ fn copied_place(
     j: usize,
 ) -> u64
     requires { ⌜ (i < nodesOf (now plan)) × Placed (now plan) (now parts) (now counters) base i ⌝ }
-    ensures { λ r. ⌜ ((lengths body buffers room : List ℕ) → zeros ≡ zerosOf (now (plan .entry)) (now (parts .entry)) (now (counters .entry)) room i → r ≡ copiedPlace (lent (now (plan .entry)) (now (parts .entry)) (now (sources .entry)) lengths (now (places .entry)) body) buffers (now (counters .entry)) room base i j) ⌝ }
+    ensures { λ r. ⌜ ((lengths body buffers room : List ℕ) → zeros ≡ zerosOf (was plan) (was parts) (was counters) room i → r ≡ copiedPlace (lent (was plan) (was parts) (was sources) lengths (was places) body) buffers (was counters) room base i j) ⌝ }
 {
     if j < 3 {
         return valid_place(plan, parts, counters, base, zeros, i, j);
@@ -166,7 +167,7 @@ fn copied_place(
 // Number j of the nine of node i, a kept dictionary with `count` nulls: the places of source 0, those of its validity only if a bit is 0.
 fn kept_place(sources: &[u32], places: &[u64], count: u64, i: usize, j: usize) -> u64
     requires { ⌜ (i < 32) × (j < 9) ⌝ }
-    ensures { λ r. ⌜ ((plan parts lengths body buffers counters room : List ℕ) (base : ℕ) → count ≡ nullsAt (lent plan parts (now (sources .entry)) lengths (now (places .entry)) body) buffers counters room base i → r ≡ keptPlace (lent plan parts (now (sources .entry)) lengths (now (places .entry)) body) buffers counters room base i j) ⌝ }
+    ensures { λ r. ⌜ ((plan parts lengths body buffers counters room : List ℕ) (base : ℕ) → let l = lent plan parts (was sources) lengths (was places) body in count ≡ nullsAt l buffers counters room base i → r ≡ keptPlace l buffers counters room base i j) ⌝ }
 {
     let k = dictionaries::node_of(sources, 0, i);
     if j < 3 {
@@ -194,7 +195,7 @@ fn place_at(
     j: usize,
 ) -> u64
     requires { ⌜ (i < nodesOf (now plan)) × (j < 9) × Placed (now plan) (now parts) (now counters) base i ⌝ }
-    ensures { λ r. ⌜ ((lengths body buffers room : List ℕ) → now (nulls .entry) ≡ nullTable (lent (now (plan .entry)) (now (parts .entry)) (now (sources .entry)) lengths (now (places .entry)) body) [] (now (counters .entry)) room 0 → r ≡ placeAt (lent (now (plan .entry)) (now (parts .entry)) (now (sources .entry)) lengths (now (places .entry)) body) buffers (now (counters .entry)) room base i j) ⌝ }
+    ensures { λ r. ⌜ ((lengths body buffers room : List ℕ) → let l = lent (was plan) (was parts) (was sources) lengths (was places) body in was nulls ≡ nullTable l [] (was counters) room 0 → r ≡ placeAt l buffers (was counters) room base i j) ⌝ }
 {
     let count = lent_tables::at_u64(nulls, i);
     if plan::parts::is_copied(plan, i) {
@@ -215,7 +216,7 @@ pub fn write_places(
     table: &mut [u64],
 )
     requires { ⌜ (length (now table) ≡ 9 * nodesOf (now plan)) × ((i : ℕ) → i < nodesOf (now plan) → Placed (now plan) (now parts) (now counters) base i) ⌝ }
-    ensures { λ _. ⌜ ((lengths body buffers room : List ℕ) → now (nulls .entry) ≡ nullTable (lent (now (plan .entry)) (now (parts .entry)) (now (sources .entry)) lengths (now (places .entry)) body) [] (now (counters .entry)) room 0 → now (table .exit) ≡ placeTable (lent (now (plan .entry)) (now (parts .entry)) (now (sources .entry)) lengths (now (places .entry)) body) buffers (now (counters .entry)) room base) ⌝ }
+    ensures { λ _. ⌜ ((lengths body buffers room : List ℕ) → let l = lent (was plan) (was parts) (was sources) lengths (was places) body in was nulls ≡ nullTable l [] (was counters) room 0 → left table ≡ placeTable l buffers (was counters) room base) ⌝ }
 {
     let n = 9 * plan::parts::node_count(plan);
     let mut q = 0;

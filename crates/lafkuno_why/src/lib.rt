@@ -3,6 +3,7 @@
 ghost use mathlib.Core.Path.{_≡_};
 ghost use mathlib.Core.List.{List};
 ghost use Prim.Native.Nat.{ℕ};
+ghost use Rattle.clauses.specs.Slices.{was, left};
 ghost use Rattle.transform.specs.Answer.{lent};
 ghost use Rattle.trip.specs.Trip.{callsOf};
 ghost use Rattle.explain.specs.stops.Order.{whyCopyOrder, whyNullOrder, whyTrip};
@@ -12,7 +13,7 @@ use explain::stops::WhyListed;
 
 // The five numbers, where there is room for them.
 fn put_why(answer: &mut [u64], w: Why)
-    ensures { λ _. ⌜ now (answer .exit) ≡ whyAnswer w (now (answer .entry)) ⌝ }
+    ensures { λ _. ⌜ left answer ≡ whyAnswer w (was answer) ⌝ }
 {
     if answer.len() != 5 {
         return;
@@ -26,7 +27,7 @@ fn put_why(answer: &mut [u64], w: Why)
 
 // The five numbers, and the place of the order.
 fn put_listed(answer: &mut [u64], w: WhyListed)
-    ensures { λ _. ⌜ now (answer .exit) ≡ listedAnswer w (now (answer .entry)) ⌝ }
+    ensures { λ _. ⌜ left answer ≡ listedAnswer w (was answer) ⌝ }
 {
     if answer.len() != 6 {
         return;
@@ -55,8 +56,8 @@ pub extern "C" fn lafkuno_why_copy(
     end: u64,
     answer: &mut [u64],
 ) -> u8
-    ensures { λ r. ⌜ r ≡ whyCopyOrder (lent (now (plan .entry)) (now (parts .entry)) (now (sources .entry)) (now (lengths .entry)) (now (places .entry)) (now (body .entry))) room (now (counters .entry)) source start end .ground ⌝ }
-    ensures { λ _. ⌜ now (answer .exit) ≡ whyAnswer (whyCopyOrder (lent (now (plan .entry)) (now (parts .entry)) (now (sources .entry)) (now (lengths .entry)) (now (places .entry)) (now (body .entry))) room (now (counters .entry)) source start end) (now (answer .entry)) ⌝ }
+    ensures { λ r. ⌜ r ≡ whyCopyOrder (lent (was plan) (was parts) (was sources) (was lengths) (was places) (was body)) room (was counters) source start end .ground ⌝ }
+    ensures { λ _. ⌜ left answer ≡ whyAnswer (whyCopyOrder (lent (was plan) (was parts) (was sources) (was lengths) (was places) (was body)) room (was counters) source start end) (was answer) ⌝ }
 {
     let w = explain::why_copy(
         plan,
@@ -86,8 +87,8 @@ pub extern "C" fn lafkuno_why_nulls(
     n: u64,
     answer: &mut [u64],
 ) -> u8
-    ensures { λ r. ⌜ ((sources lengths places body : List ℕ) → r ≡ whyNullOrder (lent (now (plan .entry)) (now (parts .entry)) sources lengths places body) room (now (counters .entry)) n .ground) ⌝ }
-    ensures { λ _. ⌜ ((sources lengths places body : List ℕ) → now (answer .exit) ≡ whyAnswer (whyNullOrder (lent (now (plan .entry)) (now (parts .entry)) sources lengths places body) room (now (counters .entry)) n) (now (answer .entry))) ⌝ }
+    ensures { λ r. ⌜ ((sources lengths places body : List ℕ) → r ≡ whyNullOrder (lent (was plan) (was parts) sources lengths places body) room (was counters) n .ground) ⌝ }
+    ensures { λ _. ⌜ ((sources lengths places body : List ℕ) → left answer ≡ whyAnswer (whyNullOrder (lent (was plan) (was parts) sources lengths places body) room (was counters) n) (was answer)) ⌝ }
 {
     let w = explain::why_nulls(plan, parts, counters, room as usize, n);
     let ground = w.ground;
@@ -109,8 +110,8 @@ pub extern "C" fn lafkuno_why_orders(
     orders: &[u64],
     answer: &mut [u64],
 ) -> u8
-    ensures { λ r. ⌜ r ≡ whyTrip (lent (now (plan .entry)) (now (parts .entry)) (now (sources .entry)) (now (lengths .entry)) (now (places .entry)) (now (body .entry))) room (now (counters .entry)) (callsOf (now (orders .entry))) .why .ground ⌝ }
-    ensures { λ _. ⌜ now (answer .exit) ≡ listedAnswer (whyTrip (lent (now (plan .entry)) (now (parts .entry)) (now (sources .entry)) (now (lengths .entry)) (now (places .entry)) (now (body .entry))) room (now (counters .entry)) (callsOf (now (orders .entry)))) (now (answer .entry)) ⌝ }
+    ensures { λ r. ⌜ r ≡ whyTrip (lent (was plan) (was parts) (was sources) (was lengths) (was places) (was body)) room (was counters) (callsOf (was orders)) .why .ground ⌝ }
+    ensures { λ _. ⌜ left answer ≡ listedAnswer (whyTrip (lent (was plan) (was parts) (was sources) (was lengths) (was places) (was body)) room (was counters) (callsOf (was orders))) (was answer) ⌝ }
 {
     let w = explain::why_orders(
         plan,

@@ -8,17 +8,19 @@ ghost use mathlib.Core.Bool.{Bool, not, _&&_};
 ghost use mathlib.Core.List.{List};
 ghost use Prim.Native.Nat.{ℕ, _+_, _*_, _<_, _≤_, _^_};
 ghost use lib.Dec.{eqb};
+ghost use Rattle.clauses.specs.Slices.{was, left};
 ghost use Rattle.walk.specs.State.{bytesOf, nulls, top, rowsIn};
 ghost use Rattle.walk.specs.Log.{Did};
 ghost use Rattle.walk.specs.Leaves.{copyBits, copyMask, nullMask, countNulls, copyNumbers, copyKeys, copyViews, nullNumbers};
 ghost use Rattle.leaf_walk.specs.Join.{join};
+ghost use Rattle.leaf_walk.specs.Walks.{AnyLengths, AnySource, Walks};
 use array_data::lent_tables;
 use walk::plan_words;
 
 // Whether the entries of w bytes of the slots slot .. slot + n - 1 stand in the body from `at` on.
 pub fn rows_in(body: &[u8], at: u64, w: u64, slot: u64, n: u64) -> bool
     requires { ⌜ (w ≤ 16) × (slot + n < 2 ^ 64) ⌝ }
-    ensures { λ r. ⌜ ((plan parts lengths places : List ℕ) (first source : ℕ) → r ≡ rowsIn (join plan parts lengths places (now (body .entry)) first source) at w slot n) ⌝ }
+    ensures { λ r. ⌜ ((plan parts lengths places : List ℕ) (first source : ℕ) → r ≡ rowsIn (join plan parts lengths places (was body) first source) at w slot n) ⌝ }
 {
     lent_tables::rows_fit_behind(at, slot + n, w as u8, body.len() as u64)
 }
@@ -26,7 +28,7 @@ pub fn rows_in(body: &[u8], at: u64, w: u64, slot: u64, n: u64) -> bool
 // Whether a walk that only tries need not look at node i's bits: its null counter is full, and stays so.
 fn is_uncounted(counters: &[u64; plan_words::COUNTERS], write: bool, i: usize) -> bool
     requires { ⌜ i < 32 ⌝ }
-    ensures { λ r. ⌜ r ≡ (not write && eqb (nulls (now (counters .entry)) i) top) ⌝ }
+    ensures { λ r. ⌜ r ≡ (not write && eqb (nulls (was counters) i) top) ⌝ }
 {
     if write {
         return false;
@@ -49,7 +51,7 @@ fn copy_bits(
     n: u64,
 ) -> u8
     requires { ⌜ (first < 2 ^ 32) × (i < 32) × (slot + n < 2 ^ 63) ⌝ }
-    ensures { λ r. ⌜ ((lengths : List ℕ) (source : ℕ) → Did (now (plan .entry)) (now (parts .entry)) write (copyBits (join (now (plan .entry)) (now (parts .entry)) lengths (now (places .entry)) (now (body .entry)) first source) i slot n (now (counters .entry))) (now (room .entry)) r (now (counters .exit)) (now (room .exit))) ⌝ }
+    ensures { λ r. ⌜ AnyLengths plan parts places body first (λ j. Walks plan parts write (copyBits j i slot n) counters room r) ⌝ }
 {
     let at = lent_tables::place(places, first + i, 1);
     if !lent_tables::bits_fit_behind(at, slot, n, body.len() as u64) {
@@ -90,7 +92,7 @@ pub fn copy_mask(
     n: u64,
 ) -> u8
     requires { ⌜ (first < 2 ^ 32) × (i < 32) × (slot + n < 2 ^ 63) ⌝ }
-    ensures { λ r. ⌜ ((lengths : List ℕ) (source : ℕ) → Did (now (plan .entry)) (now (parts .entry)) write (copyMask (join (now (plan .entry)) (now (parts .entry)) lengths (now (places .entry)) (now (body .entry)) first source) i slot n (now (counters .entry))) (now (room .entry)) r (now (counters .exit)) (now (room .exit))) ⌝ }
+    ensures { λ r. ⌜ AnyLengths plan parts places body first (λ j. Walks plan parts write (copyMask j i slot n) counters room r) ⌝ }
 {
     if plan_words::keeps_of(plan, i) == 0 {
         return 0;
@@ -131,7 +133,7 @@ pub fn copy_numbers(
     n: u64,
 ) -> u8
     requires { ⌜ (first < 2 ^ 32) × (i < 32) × (slot + n < 2 ^ 63) × (1 ≤ w) × (w ≤ 16) ⌝ }
-    ensures { λ r. ⌜ ((lengths : List ℕ) (source : ℕ) → Did (now (plan .entry)) (now (parts .entry)) write (copyNumbers (join (now (plan .entry)) (now (parts .entry)) lengths (now (places .entry)) (now (body .entry)) first source) i w slot n (now (counters .entry))) (now (room .entry)) r (now (counters .exit)) (now (room .exit))) ⌝ }
+    ensures { λ r. ⌜ AnyLengths plan parts places body first (λ j. Walks plan parts write (copyNumbers j i w slot n) counters room r) ⌝ }
 {
     let at = lent_tables::place(places, first + i, 3);
     if !rows_in(body, at, w, slot, n) {
@@ -173,7 +175,7 @@ pub fn copy_keys(
     requires { ⌜ (first < 2 ^ 32) × (i < 32) × (slot + n < 2 ^ 63) × (source < 2 ^ 32) ⌝ }
     requires { ⌜ ((w ≡ 1 → ⊥) → (w ≡ 2 → ⊥) → (w ≡ 4 → ⊥) → w ≡ 8) ⌝ }
     requires { ⌜ w ≡ bytesOf (now plan) i ⌝ }
-    ensures { λ r. ⌜ ((lengths : List ℕ) → Did (now (plan .entry)) (now (parts .entry)) write (copyKeys (join (now (plan .entry)) (now (parts .entry)) lengths (now (places .entry)) (now (body .entry)) first source) i w slot n (now (counters .entry))) (now (room .entry)) r (now (counters .exit)) (now (room .exit))) ⌝ }
+    ensures { λ r. ⌜ ((lengths : List ℕ) → Walks plan parts write (copyKeys (join (was plan) (was parts) lengths (was places) (was body) first source) i w slot n) counters room r) ⌝ }
 {
     let at = lent_tables::place(places, first + i, 3);
     if !rows_in(body, at, w, slot, n) {
@@ -215,7 +217,7 @@ pub fn copy_views(
     n: u64,
 ) -> u8
     requires { ⌜ (first < 2 ^ 32) × (i < 32) × (slot + n < 2 ^ 63) × (source < 2 ^ 32) ⌝ }
-    ensures { λ r. ⌜ ((lengths : List ℕ) → Did (now (plan .entry)) (now (parts .entry)) write (copyViews (join (now (plan .entry)) (now (parts .entry)) lengths (now (places .entry)) (now (body .entry)) first source) i slot n (now (counters .entry))) (now (room .entry)) r (now (counters .exit)) (now (room .exit))) ⌝ }
+    ensures { λ r. ⌜ ((lengths : List ℕ) → Walks plan parts write (copyViews (join (was plan) (was parts) lengths (was places) (was body) first source) i slot n) counters room r) ⌝ }
 {
     let at = lent_tables::place(places, first + i, 3);
     if !rows_in(body, at, 16, slot, n) {
@@ -251,7 +253,7 @@ pub fn null_mask(
     n: u64,
 ) -> u8
     requires { ⌜ i < 32 ⌝ }
-    ensures { λ r. ⌜ ((lengths places body : List ℕ) (first source : ℕ) → Did (now (plan .entry)) (now (parts .entry)) write (nullMask (join (now (plan .entry)) (now (parts .entry)) lengths places body first source) i n (now (counters .entry))) (now (room .entry)) r (now (counters .exit)) (now (room .exit))) ⌝ }
+    ensures { λ r. ⌜ AnySource plan parts (λ j. Walks plan parts write (nullMask j i n) counters room r) ⌝ }
 {
     if plan_words::keeps_of(plan, i) == 0 {
         return 0;
@@ -265,7 +267,7 @@ pub fn null_mask(
 // n nulls of a node that holds no validity are counted.
 pub fn count_nulls(plan: &[u64], counters: &mut [u64; plan_words::COUNTERS], i: usize, n: u64) -> u8
     requires { ⌜ i < 32 ⌝ }
-    ensures { λ r. ⌜ ((parts lengths places body room : List ℕ) (first source : ℕ) (write : Bool) → Did (now (plan .entry)) parts write (countNulls (join (now (plan .entry)) parts lengths places body first source) i n (now (counters .entry))) room r (now (counters .exit)) room) ⌝ }
+    ensures { λ r. ⌜ ((parts lengths places body room : List ℕ) (first source : ℕ) (write : Bool) → Did (was plan) parts write (countNulls (join (was plan) parts lengths places body first source) i n (was counters)) room r (left counters) room) ⌝ }
 {
     if plan_words::keeps_of(plan, i) == 0 {
         return 0;
@@ -287,7 +289,7 @@ pub fn null_numbers(
     n: u64,
 ) -> u8
     requires { ⌜ (i < 32) × (b < 3) × (1 ≤ w) × (w ≤ 16) ⌝ }
-    ensures { λ r. ⌜ ((lengths places body : List ℕ) (first source : ℕ) → Did (now (plan .entry)) (now (parts .entry)) write (nullNumbers (join (now (plan .entry)) (now (parts .entry)) lengths places body first source) i b w n (now (counters .entry))) (now (room .entry)) r (now (counters .exit)) (now (room .exit))) ⌝ }
+    ensures { λ r. ⌜ AnySource plan parts (λ j. Walks plan parts write (nullNumbers j i b w n) counters room r) ⌝ }
 {
     let o = plan_words::scale(plan_words::rows_of(counters, i), w);
     room_writes::put_zeros(plan, parts, room, write, i, b, o, w, n);

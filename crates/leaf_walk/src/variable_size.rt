@@ -2,17 +2,17 @@
 // The answer is 0 or the ground of refusal; a walk that only tries changes the counters alone.
 // What a function does not read of the order stands in its contract for all values.
 ghost use mathlib.Core.Path.{_≡_};
-ghost use mathlib.Core.List.{List};
-ghost use Prim.Native.Nat.{ℕ, _+_, _*_, _<_, _≤_, _^_};
+ghost use Prim.Native.Nat.{_+_, _*_, _<_, _≤_, _^_};
 ghost use lib.ListN.{length};
 ghost use lib.Dec.{leb};
+ghost use Rattle.clauses.specs.Slices.{was, left};
 ghost use Rattle.utils.specs.Extension.{extended};
 ghost use Rattle.walk.specs.State.{bytes};
 ghost use Rattle.walk.specs.Log.{Did, applyIf};
 ghost use Rattle.walk.specs.Leaves.{putString, putExtended, copyString, nullString};
 ghost use Rattle.walk.specs.Nulls.{NullWalk, nullList};
-ghost use Rattle.leaf_walk.specs.Join.{join};
 ghost use Rattle.leaf_walk.specs.variable_size.Lists.{triedOffsets, offsetsLog};
+ghost use Rattle.leaf_walk.specs.Walks.{AnyLengths, AnySource, Walks};
 use array_data::lent_tables;
 use walk::plan_words;
 
@@ -20,7 +20,7 @@ use walk::plan_words;
 pub fn try_offsets(body: &[u8], from: usize, w: u64, n: usize, last: u64) -> utils::Extended
     requires { ⌜ from + w * (n + 1) ≤ length (now body) ⌝ }
     requires { ⌜ ((w ≡ 4 → ⊥) → w ≡ 8) ⌝ }
-    ensures { λ r. ⌜ r ≡ extended w (now (body .entry)) from n last ⌝ }
+    ensures { λ r. ⌜ r ≡ extended w (was body) from n last ⌝ }
 {
     if w == 4 {
         return utils::try_offsets_i32(body, from, n, last);
@@ -30,7 +30,7 @@ pub fn try_offsets(body: &[u8], from: usize, w: u64, n: usize, last: u64) -> uti
 
 // Whether n bytes from the byte `lead` of the data at `at` on lie in the body.
 pub fn bytes_in(body: &[u8], at: u64, lead: u64, n: u64) -> bool
-    ensures { λ r. ⌜ r ≡ leb (at + lead + n) (length (now (body .entry))) ⌝ }
+    ensures { λ r. ⌜ r ≡ leb (at + lead + n) (length (was body)) ⌝ }
 {
     lent_tables::fits_behind(at, lead, n, body.len() as u64)
 }
@@ -54,7 +54,7 @@ fn put_string(
 ) -> u8
     requires { ⌜ (first < 2 ^ 32) × (i < 32) × (from + w * (n + 1) ≤ length (now body)) × (bytes (now counters) i ≤ last) × (last < 2 ^ 63) ⌝ }
     requires { ⌜ ((w ≡ 4 → ⊥) → w ≡ 8) ⌝ }
-    ensures { λ r. ⌜ ((lengths : List ℕ) (source : ℕ) → Did (now (plan .entry)) (now (parts .entry)) write (putString (join (now (plan .entry)) (now (parts .entry)) lengths (now (places .entry)) (now (body .entry)) first source) i w from n last lead (now (counters .entry))) (now (room .entry)) r (now (counters .exit)) (now (room .exit))) ⌝ }
+    ensures { λ r. ⌜ AnyLengths plan parts places body first (λ j. Walks plan parts write (putString j i w from n last lead) counters room r) ⌝ }
 {
     let at = lent_tables::place(places, first + i, 5);
     let old = plan_words::bytes_of(counters, i);
@@ -110,7 +110,7 @@ fn put_extended(
 ) -> u8
     requires { ⌜ (first < 2 ^ 32) × (i < 32) × (from + w * (n + 1) ≤ length (now body)) ⌝ }
     requires { ⌜ ((w ≡ 4 → ⊥) → w ≡ 8) ⌝ }
-    ensures { λ r. ⌜ ((lengths : List ℕ) (source : ℕ) → Did (now (plan .entry)) (now (parts .entry)) write (putExtended (join (now (plan .entry)) (now (parts .entry)) lengths (now (places .entry)) (now (body .entry)) first source) i w from n (extended w (now (body .entry)) from n (bytes (now (counters .entry)) i)) (now (counters .entry))) (now (room .entry)) r (now (counters .exit)) (now (room .exit))) ⌝ }
+    ensures { λ r. ⌜ AnyLengths plan parts places body first (λ j. Walks plan parts write (putExtended j i w from n (extended w (was body) from n (bytes (was counters) i))) counters room r) ⌝ }
 {
     let last = plan_words::bytes_of(counters, i);
     match try_offsets(body, from, w, n as usize, last) {
@@ -152,7 +152,7 @@ pub fn copy_string(
 ) -> u8
     requires { ⌜ (first < 2 ^ 32) × (i < 32) × (slot + n < 2 ^ 63) ⌝ }
     requires { ⌜ ((w ≡ 4 → ⊥) → w ≡ 8) ⌝ }
-    ensures { λ r. ⌜ ((lengths : List ℕ) (source : ℕ) → Did (now (plan .entry)) (now (parts .entry)) write (copyString (join (now (plan .entry)) (now (parts .entry)) lengths (now (places .entry)) (now (body .entry)) first source) i w slot n (now (counters .entry))) (now (room .entry)) r (now (counters .exit)) (now (room .exit))) ⌝ }
+    ensures { λ r. ⌜ AnyLengths plan parts places body first (λ j. Walks plan parts write (copyString j i w slot n) counters room r) ⌝ }
 {
     if n == 0 {
         return 0;
@@ -191,7 +191,7 @@ pub fn null_string(
 ) -> u8
     requires { ⌜ i < 32 ⌝ }
     requires { ⌜ ((w ≡ 4 → ⊥) → w ≡ 8) ⌝ }
-    ensures { λ r. ⌜ ((lengths places body : List ℕ) (first source : ℕ) → Did (now (plan .entry)) (now (parts .entry)) write (nullString (join (now (plan .entry)) (now (parts .entry)) lengths places body first source) i w n (now (counters .entry))) (now (room .entry)) r (now (counters .exit)) (now (room .exit))) ⌝ }
+    ensures { λ r. ⌜ AnySource plan parts (λ j. Walks plan parts write (nullString j i w n) counters room r) ⌝ }
 {
     let o = plan_words::scale(plan_words::grow(plan_words::rows_of(counters, i), 1), w);
     let last = plan_words::bytes_of(counters, i);
@@ -216,8 +216,8 @@ pub fn copy_offsets(
 ) -> utils::Extended
     requires { ⌜ (first < 2 ^ 32) × (i + 1 < 32) × (slot + n < 2 ^ 63) ⌝ }
     requires { ⌜ ((w ≡ 4 → ⊥) → w ≡ 8) ⌝ }
-    ensures { λ r. ⌜ ((lengths : List ℕ) (source : ℕ) → r ≡ triedOffsets (join (now (plan .entry)) (now (parts .entry)) lengths (now (places .entry)) (now (body .entry)) first source) w i slot n (now (counters .entry))) ⌝ }
-    ensures { λ r. ⌜ ((lengths : List ℕ) (source : ℕ) → now (room .exit) ≡ applyIf (now (plan .entry)) (now (parts .entry)) write (offsetsLog (join (now (plan .entry)) (now (parts .entry)) lengths (now (places .entry)) (now (body .entry)) first source) w i slot n (now (counters .entry)) r) (now (room .entry))) ⌝ }
+    ensures { λ r. ⌜ AnyLengths plan parts places body first (λ j. r ≡ triedOffsets j w i slot n (was counters)) ⌝ }
+    ensures { λ r. ⌜ AnyLengths plan parts places body first (λ j. left room ≡ applyIf (was plan) (was parts) write (offsetsLog j w i slot n (was counters) r) (was room)) ⌝ }
 {
     let at = lent_tables::place(places, first + i, 3);
     if !crate::rows_in(body, at, w, slot, n + 1) {
@@ -262,7 +262,7 @@ pub fn null_list(
 ) -> u8
     requires { ⌜ i < 32 ⌝ }
     requires { ⌜ ((w ≡ 4 → ⊥) → w ≡ 8) ⌝ }
-    ensures { λ r. ⌜ ((lengths places body : List ℕ) (first source : ℕ) (child : NullWalk) → Did (now (plan .entry)) (now (parts .entry)) write (nullList (join (now (plan .entry)) (now (parts .entry)) lengths places body first source) child w i n (now (counters .entry))) (now (room .entry)) r (now (counters .entry)) (now (room .exit))) ⌝ }
+    ensures { λ r. ⌜ AnySource plan parts (λ j. (child : NullWalk) → Did (was plan) (was parts) write (nullList j child w i n (was counters)) (was room) r (was counters) (left room)) ⌝ }
 {
     if 32 <= i + 1 {
         return 12;

@@ -3,6 +3,7 @@
 ghost use mathlib.Core.Path.{_≡_};
 ghost use mathlib.Core.List.{List, []};
 ghost use Prim.Native.Nat.{ℕ, _+_, _*_, _/_, _<_, min};
+ghost use Rattle.clauses.specs.Slices.{was, left};
 ghost use Rattle.walk.specs.State.{top};
 ghost use Rattle.plan.specs.parts.Parts.{neededBy, needed};
 ghost use Rattle.refinement.specs.orders.Measure.{copyMeasure, nullMeasure, neededBytes};
@@ -23,7 +24,7 @@ pub fn measure_open(
     body: &[u8],
     counters: &mut [u64],
 ) -> u8
-    ensures { λ r. ⌜ Measures (openMeasure (lent (now (plan .entry)) [] (now (sources .entry)) (now (lengths .entry)) (now (places .entry)) (now (body .entry))) (now (counters .entry))) r (now (counters .exit)) ⌝ }
+    ensures { λ r. ⌜ Measures (openMeasure (lent (was plan) [] (was sources) (was lengths) (was places) (was body)) (was counters)) r (left counters) ⌝ }
 {
     if counters.len() != plan_words::COUNTERS {
         return 14;
@@ -68,7 +69,7 @@ pub fn measure_extend(
     start: u64,
     end: u64,
 ) -> u8
-    ensures { λ r. ⌜ Measures (copyMeasure (now (counters .entry)) (lent (now (plan .entry)) [] (now (sources .entry)) (now (lengths .entry)) (now (places .entry)) (now (body .entry))) source start end) r (now (counters .exit)) ⌝ }
+    ensures { λ r. ⌜ Measures (copyMeasure (was counters) (lent (was plan) [] (was sources) (was lengths) (was places) (was body)) source start end) r (left counters) ⌝ }
 {
     if counters.len() != plan_words::COUNTERS {
         return 14;
@@ -112,7 +113,7 @@ pub fn measure_extend(
 
 // n nulls: 0 and the counters after them, or the ground of refusal. No source is read.
 pub fn measure_nulls(plan: &[u64], counters: &mut [u64], n: u64) -> u8
-    ensures { λ r. ⌜ ((sources lengths places body : List ℕ) → Measures (nullMeasure (now (counters .entry)) (lent (now (plan .entry)) [] sources lengths places body) n) r (now (counters .exit))) ⌝ }
+    ensures { λ r. ⌜ ((sources lengths places body : List ℕ) → Measures (nullMeasure (was counters) (lent (was plan) [] sources lengths places body) n) r (left counters)) ⌝ }
 {
     if counters.len() != plan_words::COUNTERS {
         return 14;
@@ -197,7 +198,7 @@ fn second_bytes(code: u8, r: u64, n: u64) -> u64
 // Buffer b of node i, or the largest number of 64 bits.
 fn buffer_bytes(plan: &[u64], counters: &[u64], i: usize, b: usize) -> u64
     requires { ⌜ i < 32 ⌝ }
-    ensures { λ s. ⌜ s ≡ min (needed (now (plan .entry)) (now (counters .entry)) i b) top ⌝ }
+    ensures { λ s. ⌜ s ≡ min (needed (was plan) (was counters) i b) top ⌝ }
 {
     let r = lent_tables::at_u64(counters, 3 * i);
     if b == 0 {
@@ -213,7 +214,7 @@ fn buffer_bytes(plan: &[u64], counters: &[u64], i: usize, b: usize) -> u64
 
 // The bytes that part p must hold by the counters, or the largest number of 64 bits; 0 where there is no such part.
 pub fn needed_bytes(plan: &[u64], counters: &[u64], p: u32) -> u64
-    ensures { λ r. ⌜ r ≡ neededBytes (now (plan .entry)) (now (counters .entry)) p ⌝ }
+    ensures { λ r. ⌜ r ≡ neededBytes (was plan) (was counters) p ⌝ }
 {
     match plan::parts::part_at(plan, p as usize) {
         plan::parts::Spot::Of { node, buffer } => buffer_bytes(plan, counters, node, buffer),

@@ -3,6 +3,7 @@ ghost use mathlib.Core.Path.{_≡_};
 ghost use mathlib.Core.Bool.{cond};
 ghost use Prim.Native.Nat.{suc, _+_, _<_, min};
 ghost use lib.Dec.{eqb};
+ghost use Rattle.clauses.specs.Slices.{was, left};
 ghost use Rattle.walk.specs.State.{addRows, endGap, beginGap};
 use walk::plan_words;
 
@@ -29,7 +30,7 @@ fn gap_begun(gap: u64) -> u64
 // n ends more of the run-end node i, of a copy.
 pub fn count_runs(counters: &mut [u64; plan_words::COUNTERS], i: usize, n: u64)
     requires { ⌜ i + 2 < 32 ⌝ }
-    ensures { λ _. ⌜ now (counters .exit) ≡ endGap i (addRows (suc i) n (now (counters .entry))) ⌝ }
+    ensures { λ _. ⌜ left counters ≡ endGap i (addRows (suc i) n (was counters)) ⌝ }
 {
     plan_words::add_rows(counters, i + 1, n);
     let gap = plan_words::bytes_of(counters, i);
@@ -39,7 +40,7 @@ pub fn count_runs(counters: &mut [u64; plan_words::COUNTERS], i: usize, n: u64)
 // One end more, of an order of nulls.
 pub fn count_null_run(counters: &mut [u64; plan_words::COUNTERS], i: usize)
     requires { ⌜ i + 2 < 32 ⌝ }
-    ensures { λ _. ⌜ now (counters .exit) ≡ beginGap i (addRows (suc i) 1 (now (counters .entry))) ⌝ }
+    ensures { λ _. ⌜ left counters ≡ beginGap i (addRows (suc i) 1 (was counters)) ⌝ }
 {
     plan_words::add_rows(counters, i + 1, 1);
     let gap = plan_words::bytes_of(counters, i);

@@ -10,12 +10,14 @@ ghost use mathlib.Core.List.{List, []};
 ghost use Prim.Native.Nat.{ℕ, suc, _+_, _*_, _<_, _≤_, _^_};
 ghost use lib.ListN.{length};
 ghost use lib.Dec.{ltb};
+ghost use Rattle.clauses.specs.Slices.{was, left};
 ghost use Rattle.columnar.specs.Types.{half};
-ghost use Rattle.walk.specs.State.{bytesOf, endOf, rows, place, lengthOf, offsetOf, rowsIn};
+ghost use Rattle.walk.specs.State.{bytesOf, endOf, place, lengthOf, offsetOf, rowsIn};
 ghost use Rattle.walk.specs.Log.{Did};
 ghost use Rattle.walk.specs.Copy.{Walk, isWidth, runsAt};
 ghost use Rattle.walk.specs.Nulls.{nullableChild, noHome};
 ghost use Rattle.leaf_walk.specs.Join.{join};
+ghost use Rattle.leaf_walk.specs.Walks.{lentJoin, Walks};
 ghost use Rattle.nested_rows.specs.Numbers.{listNumbers, denseNumbers, runsReady, runNumbers, nullIds, nullPositions, nullEnd, longerEnd};
 use array_data::lent_tables;
 use run_ends::LogicalRow;
@@ -50,7 +52,7 @@ pub fn pairs_in(
     n: u64,
 ) -> bool
     requires { ⌜ (first < 2 ^ 32) × (i < 32) × (slot + n < 2 ^ 63) × (v ≤ 16) × (w ≤ 16) ⌝ }
-    ensures { λ r. ⌜ ((plan parts lengths : List ℕ) (source : ℕ) → r ≡ (rowsIn (join plan parts lengths (now (places .entry)) (now (body .entry)) first source) (place (join plan parts lengths (now (places .entry)) (now (body .entry)) first source) i 3) v slot n && rowsIn (join plan parts lengths (now (places .entry)) (now (body .entry)) first source) (place (join plan parts lengths (now (places .entry)) (now (body .entry)) first source) i 5) w slot n)) ⌝ }
+    ensures { λ r. ⌜ ((plan parts lengths : List ℕ) (source : ℕ) → let j = join plan parts lengths (was places) (was body) first source in r ≡ (rowsIn j (place j i 3) v slot n && rowsIn j (place j i 5) w slot n)) ⌝ }
 {
     if !leaf_walk::rows_in(body, lent_tables::place(places, first + i, 3), v, slot, n) {
         return false;
@@ -72,7 +74,7 @@ pub fn list_numbers(
 ) -> u8
     requires { ⌜ i + 1 < 32 ⌝ }
     requires { ⌜ ((w ≡ 4 → ⊥) → w ≡ 8) ⌝ }
-    ensures { λ g. ⌜ Did (now (plan .entry)) (now (parts .entry)) write (listNumbers w i r size (now (counters .entry))) (now (room .entry)) g (now (counters .entry)) (now (room .exit)) ⌝ }
+    ensures { λ g. ⌜ Did (was plan) (was parts) write (listNumbers w i r size (was counters)) (was room) g (was counters) (left room) ⌝ }
 {
     let offset = plan_words::rows_of(counters, i + 1);
     if !sum_fits(w, offset, size) {
@@ -97,7 +99,7 @@ pub fn dense_numbers(
     id: u8,
 ) -> u8
     requires { ⌜ (i < 32) × (k < 32) ⌝ }
-    ensures { λ g. ⌜ Did (now (plan .entry)) (now (parts .entry)) write (denseNumbers i r k id (now (counters .entry))) (now (room .entry)) g (now (counters .entry)) (now (room .exit)) ⌝ }
+    ensures { λ g. ⌜ Did (was plan) (was parts) write (denseNumbers i r k id (was counters)) (was room) g (was counters) (left room) ⌝ }
 {
     let position = plan_words::rows_of(counters, k);
     if 2147483648 <= position {
@@ -113,7 +115,7 @@ pub fn dense_numbers(
 // Whether nodes i + 1 and i + 2 may be the run ends and the values of a run-end node.
 pub fn has_ends(plan: &[u64], i: usize) -> bool
     requires { ⌜ i < 32 ⌝ }
-    ensures { λ r. ⌜ r ≡ (ltb (suc (suc i)) 32 && isWidth (bytesOf (now (plan .entry)) (suc i))) ⌝ }
+    ensures { λ r. ⌜ r ≡ (ltb (suc (suc i)) 32 && isWidth (bytesOf (was plan) (suc i))) ⌝ }
 {
     if 30 <= i {
         return false;
@@ -131,7 +133,7 @@ pub fn has_ends(plan: &[u64], i: usize) -> bool
 // Whether the run ends of w bytes of node i stand in the body.
 fn ends_in(lengths: &[u64], places: &[u64], body: &[u8], first: usize, i: usize, w: u64) -> bool
     requires { ⌜ (first < 2 ^ 32) × (i < 32) × (1 ≤ w) × (w ≤ 16) ⌝ }
-    ensures { λ r. ⌜ ((plan parts : List ℕ) (source : ℕ) → r ≡ rowsIn (join plan parts (now (lengths .entry)) (now (places .entry)) (now (body .entry)) first source) (place (join plan parts (now (lengths .entry)) (now (places .entry)) (now (body .entry)) first source) i 3) w (offsetOf (join plan parts (now (lengths .entry)) (now (places .entry)) (now (body .entry)) first source) i) (lengthOf (join plan parts (now (lengths .entry)) (now (places .entry)) (now (body .entry)) first source) i)) ⌝ }
+    ensures { λ r. ⌜ ((plan parts : List ℕ) (source : ℕ) → let j = join plan parts (was lengths) (was places) (was body) first source in r ≡ rowsIn j (place j i 3) w (offsetOf j i) (lengthOf j i)) ⌝ }
 {
     let offset = lent_tables::offset_of(lengths, first + i);
     let n = lent_tables::length_of(lengths, first + i);
@@ -156,7 +158,7 @@ pub fn runs_ready(
     n: u64,
 ) -> u8
     requires { ⌜ (first < 2 ^ 32) × (i < 32) ⌝ }
-    ensures { λ g. ⌜ ((parts room : List ℕ) (source : ℕ) (write : Bool) → Did (now (plan .entry)) parts write (runsReady (join (now (plan .entry)) parts (now (lengths .entry)) (now (places .entry)) (now (body .entry)) first source) i n (now (counters .entry))) room g (now (counters .entry)) room) ⌝ }
+    ensures { λ g. ⌜ ((parts room : List ℕ) (source : ℕ) (write : Bool) → Did (was plan) parts write (runsReady (join (was plan) parts (was lengths) (was places) (was body) first source) i n (was counters)) room g (was counters) room) ⌝ }
 {
     if !has_ends(plan, i) {
         return 12;
@@ -184,8 +186,8 @@ pub fn runs_at(
 ) -> Runs
     requires { ⌜ (first < 2 ^ 32) × (i + 2 < 32) × (start .0 + n < 2 ^ 63) ⌝ }
     requires { ⌜ ((w ≡ 2 → ⊥) → (w ≡ 4 → ⊥) → w ≡ 8) ⌝ }
-    requires { ⌜ place (join [] [] (now lengths) (now places) (now body) first 0) (suc i) 3 + w * (offsetOf (join [] [] (now lengths) (now places) (now body) first 0) (suc i) + lengthOf (join [] [] (now lengths) (now places) (now body) first 0) (suc i)) ≤ length (now body) ⌝ }
-    ensures { λ r. ⌜ ((plan parts : List ℕ) (source : ℕ) (child : Walk) → r ≡ runsAt (join plan parts (now (lengths .entry)) (now (places .entry)) (now (body .entry)) first source) child w i (start .0) n) ⌝ }
+    requires { let j = join [] [] (now lengths) (now places) (now body) first 0 in ⌜ place j (suc i) 3 + w * (offsetOf j (suc i) + lengthOf j (suc i)) ≤ length (now body) ⌝ }
+    ensures { λ r. ⌜ ((plan parts : List ℕ) (source : ℕ) (child : Walk) → r ≡ runsAt (join plan parts (was lengths) (was places) (was body) first source) child w i (start .0) n) ⌝ }
 {
     let at = lent_tables::place(places, first + i + 1, 3);
     let from = at + w * lent_tables::offset_of(lengths, first + i + 1);
@@ -215,8 +217,8 @@ pub fn run_numbers(
 ) -> u8
     requires { ⌜ (first < 2 ^ 32) × (i + 2 < 32) × (start .0 + n < 2 ^ 63) × (last + n < half w) ⌝ }
     requires { ⌜ ((w ≡ 2 → ⊥) → (w ≡ 4 → ⊥) → w ≡ 8) ⌝ }
-    requires { ⌜ place (join [] [] (now lengths) (now places) (now body) first 0) (suc i) 3 + w * (offsetOf (join [] [] (now lengths) (now places) (now body) first 0) (suc i) + (run .0 + count)) ≤ length (now body) ⌝ }
-    ensures { λ g. ⌜ ((source : ℕ) → Did (now (plan .entry)) (now (parts .entry)) write (runNumbers (join (now (plan .entry)) (now (parts .entry)) (now (lengths .entry)) (now (places .entry)) (now (body .entry)) first source) w i (start .0) n last (run .0) count (now (counters .entry))) (now (room .entry)) g (now (counters .exit)) (now (room .exit))) ⌝ }
+    requires { let j = join [] [] (now lengths) (now places) (now body) first 0 in ⌜ place j (suc i) 3 + w * (offsetOf j (suc i) + (run .0 + count)) ≤ length (now body) ⌝ }
+    ensures { λ g. ⌜ ((source : ℕ) → Walks plan parts write (runNumbers (lentJoin plan parts lengths places body first source) w i (start .0) n last (run .0) count) counters room g) ⌝ }
 {
     let at = lent_tables::place(places, first + i + 1, 3);
     let ends = at + w * lent_tables::offset_of(lengths, first + i + 1);
@@ -246,7 +248,7 @@ pub fn run_numbers(
 // The child that a union's nulls go to: the first nullable one, or 32.
 pub fn null_home(plan: &[u64], i: usize) -> usize
     requires { ⌜ i < 32 ⌝ }
-    ensures { λ r. ⌜ r ≡ nullableChild (now (plan .entry)) (endOf (now (plan .entry)) i) 32 (suc i) ⌝ }
+    ensures { λ r. ⌜ r ≡ nullableChild (was plan) (endOf (was plan) i) 32 (suc i) ⌝ }
     ensures { λ r. ⌜ r ≤ 32 ⌝ }
 {
     lookups::nullable_child(plan, plan_words::end_of(plan, i), i + 1)
@@ -255,7 +257,7 @@ pub fn null_home(plan: &[u64], i: usize) -> usize
 // The ground where there is none.
 pub fn no_home(plan: &[u64], i: usize) -> u8
     requires { ⌜ i < 32 ⌝ }
-    ensures { λ r. ⌜ r ≡ noHome (now (plan .entry)) i ⌝ }
+    ensures { λ r. ⌜ r ≡ noHome (was plan) i ⌝ }
 {
     if i + 1 < plan_words::end_of(plan, i) {
         return 5;
@@ -275,7 +277,7 @@ pub fn null_ids(
     n: u64,
 ) -> u8
     requires { ⌜ (i < 32) × (h < 32) ⌝ }
-    ensures { λ g. ⌜ Did (now (plan .entry)) (now (parts .entry)) write (nullIds (now (plan .entry)) i h n (now (counters .entry))) (now (room .entry)) g (now (counters .entry)) (now (room .exit)) ⌝ }
+    ensures { λ g. ⌜ Did (was plan) (was parts) write (nullIds (was plan) i h n (was counters)) (was room) g (was counters) (left room) ⌝ }
 {
     let o = plan_words::rows_of(counters, i);
     room_writes::put_same(
@@ -304,7 +306,7 @@ pub fn null_positions(
     n: u64,
 ) -> u8
     requires { ⌜ (i < 32) × (h < 32) ⌝ }
-    ensures { λ g. ⌜ Did (now (plan .entry)) (now (parts .entry)) write (nullPositions (now (plan .entry)) i h n (now (counters .entry))) (now (room .entry)) g (now (counters .entry)) (now (room .exit)) ⌝ }
+    ensures { λ g. ⌜ Did (was plan) (was parts) write (nullPositions (was plan) i h n (was counters)) (was room) g (was counters) (left room) ⌝ }
 {
     let position = plan_words::rows_of(counters, h);
     if 2147483648 < plan_words::grow(position, n) {
@@ -331,7 +333,7 @@ pub fn null_end(
 ) -> u8
     requires { ⌜ i + 2 < 32 ⌝ }
     requires { ⌜ ((bytesOf (now plan) (suc i) ≡ 2 → ⊥) → (bytesOf (now plan) (suc i) ≡ 4 → ⊥) → bytesOf (now plan) (suc i) ≡ 8) ⌝ }
-    ensures { λ g. ⌜ Did (now (plan .entry)) (now (parts .entry)) write (nullEnd (now (plan .entry)) i n (now (counters .entry))) (now (room .entry)) g (now (counters .exit)) (now (room .exit)) ⌝ }
+    ensures { λ g. ⌜ Walks plan parts write (nullEnd (was plan) i n) counters room g ⌝ }
 {
     let w = lookups::width_at(plan, i + 1);
     let last = plan_words::rows_of(counters, i);
@@ -356,7 +358,7 @@ pub fn longer_end(
 ) -> u8
     requires { ⌜ i + 2 < 32 ⌝ }
     requires { ⌜ ((bytesOf (now plan) (suc i) ≡ 2 → ⊥) → (bytesOf (now plan) (suc i) ≡ 4 → ⊥) → bytesOf (now plan) (suc i) ≡ 8) ⌝ }
-    ensures { λ g. ⌜ Did (now (plan .entry)) (now (parts .entry)) write (longerEnd (now (plan .entry)) i n (now (counters .entry))) (now (room .entry)) g (now (counters .entry)) (now (room .exit)) ⌝ }
+    ensures { λ g. ⌜ Did (was plan) (was parts) write (longerEnd (was plan) i n (was counters)) (was room) g (was counters) (left room) ⌝ }
 {
     let runs = plan_words::rows_of(counters, i + 1);
     if runs == 0 {

@@ -3,6 +3,7 @@ ghost use mathlib.Core.Path.{_≡_};
 ghost use mathlib.Core.List.{List};
 ghost use Prim.Native.Nat.{ℕ, _+_, _*_, _^_, _<_, _≤_};
 ghost use lib.ListN.{length};
+ghost use Rattle.clauses.specs.Slices.{was};
 ghost use Rattle.number.specs.Number.{entry};
 ghost use Rattle.run_ends.specs.Lookup.{foundRun, runsOf};
 ghost use Rattle.walk.specs.State.{slotOf, bytesOf};
@@ -17,7 +18,7 @@ use walk::plan_words;
 // The first slot of the rows a .. a + n - 1 of node i, or 2^63 where they are not rows of any array.
 pub fn slot_of(lengths: &[u64], first: usize, i: usize, a: u64, n: u64) -> u64
     requires { ⌜ (first < 2 ^ 32) × (i < 32) ⌝ }
-    ensures { λ r. ⌜ ((plan parts places body : List ℕ) (source : ℕ) → r ≡ slotOf (join plan parts (now (lengths .entry)) places body first source) i a n) ⌝ }
+    ensures { λ r. ⌜ ((plan parts places body : List ℕ) (source : ℕ) → r ≡ slotOf (join plan parts (was lengths) places body first source) i a n) ⌝ }
 {
     let offset = lent_tables::offset_of(lengths, first + i);
     let end = plan_words::grow(plan_words::grow(offset, a), n);
@@ -30,7 +31,7 @@ pub fn slot_of(lengths: &[u64], first: usize, i: usize, a: u64, n: u64) -> u64
 // The bytes of an entry of node i.
 pub fn width_at(plan: &[u64], i: usize) -> u64
     requires { ⌜ i < 32 ⌝ }
-    ensures { λ r. ⌜ r ≡ bytesOf (now (plan .entry)) i ⌝ }
+    ensures { λ r. ⌜ r ≡ bytesOf (was plan) i ⌝ }
 {
     schema::formats::width_of(plan_words::code_of(plan, i)) as u64
 }
@@ -39,7 +40,7 @@ pub fn width_at(plan: &[u64], i: usize) -> u64
 pub fn entry_at(body: &[u8], at: u64, w: u64, k: u64) -> u64
     requires { ⌜ ((w ≡ 4 → ⊥) → w ≡ 8) ⌝ }
     requires { ⌜ at + w * (k + 1) ≤ length (now body) ⌝ }
-    ensures { λ r. ⌜ r ≡ entry w (now (body .entry)) at k ⌝ }
+    ensures { λ r. ⌜ r ≡ entry w (was body) at k ⌝ }
 {
     let from = at as usize;
     if w == 4 {
@@ -51,7 +52,7 @@ pub fn entry_at(body: &[u8], at: u64, w: u64, k: u64) -> u64
 // The child with that id among those from node `from` on, one behind the other up to `end`; 32 where there is none.
 pub fn child_with(plan: &[u64], id: u8, end: usize, from: usize) -> usize
     requires { ⌜ end ≤ 32 ⌝ }
-    ensures { λ r. ⌜ r ≡ childWith (now (plan .entry)) id end 32 from ⌝ }
+    ensures { λ r. ⌜ r ≡ childWith (was plan) id end 32 from ⌝ }
     ensures { λ r. ⌜ r ≤ 32 ⌝ }
 {
     let mut k = from;
@@ -72,7 +73,7 @@ pub fn child_with(plan: &[u64], id: u8, end: usize, from: usize) -> usize
 // The first nullable child among those from node `from` on; 32 where there is none.
 pub fn nullable_child(plan: &[u64], end: usize, from: usize) -> usize
     requires { ⌜ end ≤ 32 ⌝ }
-    ensures { λ r. ⌜ r ≡ nullableChild (now (plan .entry)) end 32 from ⌝ }
+    ensures { λ r. ⌜ r ≡ nullableChild (was plan) end 32 from ⌝ }
     ensures { λ r. ⌜ r ≤ 32 ⌝ }
 {
     let mut k = from;
@@ -101,7 +102,7 @@ pub fn runs_of(
 ) -> Runs
     requires { ⌜ ((w ≡ 2 → ⊥) → (w ≡ 4 → ⊥) → w ≡ 8) ⌝ }
     requires { ⌜ from + w * n ≤ length (now body) ⌝ }
-    ensures { λ r. ⌜ r ≡ runsOf (foundRun w (now (body .entry)) from n (end .0)) (start .0) (end .0) ⌝ }
+    ensures { λ r. ⌜ r ≡ runsOf (foundRun w (was body) from n (end .0)) (start .0) (end .0) ⌝ }
 {
     if w == 2 {
         return run_ends::runs_of_range_i16(body, from, n, start, end);

@@ -5,12 +5,14 @@ ghost use mathlib.Core.Path.{_≡_};
 ghost use mathlib.Core.Bool.{cond};
 ghost use mathlib.Core.List.{List};
 ghost use Prim.Native.Nat.{ℕ, _+_, _<_, _≤_, _^_};
+ghost use Rattle.clauses.specs.Slices.{was};
 ghost use Rattle.walk.specs.State.{codeOf};
-ghost use Rattle.walk.specs.Log.{Did, done};
+ghost use Rattle.walk.specs.Log.{done};
 ghost use Rattle.walk.specs.Leaves.{copyMask, nullMask, countNulls};
 ghost use Rattle.walk.specs.Copy.{Walk, masked, copyData};
 ghost use Rattle.walk.specs.Nulls.{NullWalk, nullListView, nullData};
 ghost use Rattle.leaf_walk.specs.Join.{join};
+ghost use Rattle.leaf_walk.specs.Walks.{AnyLengths, AnySource, Walks};
 use crate::lookups;
 use leaf_walk::variable_size;
 use walk::plan_words;
@@ -44,7 +46,7 @@ pub fn copy_validity(
     n: u64,
 ) -> u8
     requires { ⌜ (first < 2 ^ 32) × (i < 32) × (slot + n < 2 ^ 63) ⌝ }
-    ensures { λ r. ⌜ ((lengths : List ℕ) (source : ℕ) → Did (now (plan .entry)) (now (parts .entry)) write (cond (masked (codeOf (now (plan .entry)) i)) (copyMask (join (now (plan .entry)) (now (parts .entry)) lengths (now (places .entry)) (now (body .entry)) first source) i slot n (now (counters .entry))) (done (now (counters .entry)))) (now (room .entry)) r (now (counters .exit)) (now (room .exit))) ⌝ }
+    ensures { λ r. ⌜ AnyLengths plan parts places body first (λ j. Walks plan parts write (λ c. cond (masked (codeOf (was plan) i)) (copyMask j i slot n c) (done c)) counters room r) ⌝ }
 {
     if !is_masked(plan_words::code_of(plan, i)) {
         return 0;
@@ -81,7 +83,7 @@ pub fn copy_leaf(
 ) -> u8
     requires { ⌜ (first < 2 ^ 32) × (i < 32) × (slot + n < 2 ^ 63) × (source < 2 ^ 32) ⌝ }
     requires { ⌜ (17 ≤ codeOf (now plan) i → 23 < codeOf (now plan) i) ⌝ }
-    ensures { λ r. ⌜ ((lengths : List ℕ) (child : Walk) → Did (now (plan .entry)) (now (parts .entry)) write (copyData (join (now (plan .entry)) (now (parts .entry)) lengths (now (places .entry)) (now (body .entry)) first source) child (codeOf (now (plan .entry)) i) i slot n (now (counters .entry))) (now (room .entry)) r (now (counters .exit)) (now (room .exit))) ⌝ }
+    ensures { λ r. ⌜ ((lengths : List ℕ) (child : Walk) → Walks plan parts write (copyData (join (was plan) (was parts) lengths (was places) (was body) first source) child (codeOf (was plan) i) i slot n) counters room r) ⌝ }
 {
     let code = plan_words::code_of(plan, i);
     let w = lookups::width_at(plan, i);
@@ -164,7 +166,7 @@ pub fn null_validity(
     n: u64,
 ) -> u8
     requires { ⌜ i < 32 ⌝ }
-    ensures { λ r. ⌜ ((lengths places body : List ℕ) (first source : ℕ) → Did (now (plan .entry)) (now (parts .entry)) write (cond (masked (codeOf (now (plan .entry)) i)) (nullMask (join (now (plan .entry)) (now (parts .entry)) lengths places body first source) i n (now (counters .entry))) (countNulls (join (now (plan .entry)) (now (parts .entry)) lengths places body first source) i n (now (counters .entry)))) (now (room .entry)) r (now (counters .exit)) (now (room .exit))) ⌝ }
+    ensures { λ r. ⌜ AnySource plan parts (λ j. Walks plan parts write (λ c. cond (masked (codeOf (was plan) i)) (nullMask j i n c) (countNulls j i n c)) counters room r) ⌝ }
 {
     if !is_masked(plan_words::code_of(plan, i)) {
         return leaf_walk::count_nulls(plan, counters, i, n);
@@ -184,7 +186,7 @@ fn null_list_view(
     n: u64,
 ) -> u8
     requires { ⌜ (i < 32) × (1 ≤ w) × (w ≤ 16) ⌝ }
-    ensures { λ r. ⌜ ((lengths places body : List ℕ) (first source : ℕ) (child : NullWalk) → Did (now (plan .entry)) (now (parts .entry)) write (nullListView (join (now (plan .entry)) (now (parts .entry)) lengths places body first source) child w i n (now (counters .entry))) (now (room .entry)) r (now (counters .exit)) (now (room .exit))) ⌝ }
+    ensures { λ r. ⌜ AnySource plan parts (λ j. (child : NullWalk) → Walks plan parts write (nullListView j child w i n) counters room r) ⌝ }
 {
     let r = leaf_walk::null_numbers(plan, parts, counters, room, write, i, 1, w, n);
     if r != 0 {
@@ -205,7 +207,7 @@ pub fn null_leaf(
 ) -> u8
     requires { ⌜ i < 32 ⌝ }
     requires { ⌜ (21 ≤ codeOf (now plan) i → 23 < codeOf (now plan) i) ⌝ }
-    ensures { λ r. ⌜ ((lengths places body : List ℕ) (first source : ℕ) (child : NullWalk) → Did (now (plan .entry)) (now (parts .entry)) write (nullData (join (now (plan .entry)) (now (parts .entry)) lengths places body first source) child (codeOf (now (plan .entry)) i) i n (now (counters .entry))) (now (room .entry)) r (now (counters .exit)) (now (room .exit))) ⌝ }
+    ensures { λ r. ⌜ AnySource plan parts (λ j. (child : NullWalk) → Walks plan parts write (nullData j child (codeOf (was plan) i) i n) counters room r) ⌝ }
 {
     let code = plan_words::code_of(plan, i);
     let w = lookups::width_at(plan, i);

@@ -4,9 +4,10 @@ ghost use mathlib.Core.Bool.{true};
 ghost use mathlib.Core.List.{[]};
 ghost use Prim.Native.Nat.{ℕ, _+_, _-_, _^_, _<_, _≤_, max};
 ghost use lib.ListN.{getD};
+ghost use Rattle.clauses.specs.Slices.{was};
 ghost use Rattle.walk.specs.State.{Join, lengthOf};
-ghost use Rattle.walk.specs.Log.{Did};
 ghost use Rattle.leaf_walk.specs.Join.{join};
+ghost use Rattle.leaf_walk.specs.Walks.{lentJoin, Walks};
 ghost use Rattle.reclaim.specs.used_entries.Keys.{rank, Head};
 ghost use Rattle.reclaim.specs.reclaim_walk.Walk.{keysOf, keysIn, runOf, copyRun, copyRuns, copyBlocks};
 use array_data::lent_tables;
@@ -28,9 +29,9 @@ fn ranks_at(
     count: u64,
     start: u64,
 ) -> [u64; 513]
-    requires { ⌜ (first < 2 ^ 32) × (keysIn (join (now plan) [] (now lengths) (now places) (now body) first 0) ≡ true) × (count ≤ 512) × (base + count < 2 ^ 64) × (start ≡ rank (keysOf (join (now plan) [] (now lengths) (now places) (now body) first 0)) base) ⌝ }
+    requires { let j = join (now plan) [] (now lengths) (now places) (now body) first 0 in ⌜ (first < 2 ^ 32) × (keysIn j ≡ true) × (count ≤ 512) × (base + count < 2 ^ 64) × (start ≡ rank (keysOf j) base) ⌝ }
     requires { ⌜ Head (keysOf (join (now plan) [] (now lengths) (now places) (now body) first 0)) (base + count) (now head) ⌝ }
-    ensures { λ m. ⌜ ((j : ℕ) → j ≤ count → getD m j 0 ≡ rank (keysOf (join (now (plan .entry)) [] (now (lengths .entry)) (now (places .entry)) (now (body .entry)) first 0)) (base + j)) ⌝ }
+    ensures { λ m. ⌜ ((j : ℕ) → j ≤ count → getD m j 0 ≡ rank (keysOf (join (was plan) [] (was lengths) (was places) (was body) first 0)) (base + j)) ⌝ }
 {
     let w = lookups::width_at(plan, 0);
     let at = lent_tables::place(places, first, 3);
@@ -44,7 +45,7 @@ fn ranks_at(
 // How many entries from entry j of a block of `count` on are in use, up to the first that is not; the block's ranks are given.
 fn run_len(ranks: &[u64; 513], j: usize, count: u64) -> u64
     requires { ⌜ (j ≤ count) × (count ≤ 512) ⌝ }
-    ensures { λ r. ⌜ (r ≤ count - j) × ((x : Join) (base : ℕ) → ((i : ℕ) → i ≤ count → getD (now (ranks .entry)) i 0 ≡ rank (keysOf x) (base + i)) → r ≡ runOf x (base + j) (count - j)) ⌝ }
+    ensures { λ r. ⌜ (r ≤ count - j) × ((x : Join) (base : ℕ) → ((i : ℕ) → i ≤ count → getD (was ranks) i 0 ≡ rank (keysOf x) (base + i)) → r ≡ runOf x (base + j) (count - j)) ⌝ }
 {
     let mut k: usize = 0;
     while ((j + k) as u64) < count {
@@ -71,7 +72,7 @@ fn copy_run(
     k: u64,
 ) -> u8
     requires { ⌜ first < 2 ^ 32 ⌝ }
-    ensures { λ g. ⌜ Did (now (plan .entry)) (now (parts .entry)) write (copyRun (join (now (plan .entry)) (now (parts .entry)) (now (lengths .entry)) (now (places .entry)) (now (body .entry)) first 0) e k (now (counters .entry))) (now (room .entry)) g (now (counters .exit)) (now (room .exit)) ⌝ }
+    ensures { λ g. ⌜ Walks plan parts write (copyRun (lentJoin plan parts lengths places body first 0) e k) counters room g ⌝ }
 {
     if k == 0 {
         return 0;
@@ -122,7 +123,7 @@ fn copy_runs(
 ) -> u8
     requires { ⌜ (first < 2 ^ 32) × (count ≤ 512) × (base + count < 2 ^ 64) ⌝ }
     requires { ⌜ ((j : ℕ) → j ≤ count → getD (now ranks) j 0 ≡ rank (keysOf (join (now plan) [] (now lengths) (now places) (now body) first 0)) (base + j)) ⌝ }
-    ensures { λ g. ⌜ Did (now (plan .entry)) (now (parts .entry)) write (copyRuns (join (now (plan .entry)) (now (parts .entry)) (now (lengths .entry)) (now (places .entry)) (now (body .entry)) first 0) count base count (now (counters .entry))) (now (room .entry)) g (now (counters .exit)) (now (room .exit)) ⌝ }
+    ensures { λ g. ⌜ Walks plan parts write (copyRuns (lentJoin plan parts lengths places body first 0) count base count) counters room g ⌝ }
 {
     let mut j: usize = 0;
     while (j as u64) < count {
@@ -165,7 +166,7 @@ fn copy_block(
 ) -> u8
     requires { ⌜ (first < 2 ^ 32) × (count ≤ 512) × (base + count < 2 ^ 64) ⌝ }
     requires { ⌜ ((j : ℕ) → j ≤ count → getD (now ranks) j 0 ≡ rank (keysOf (join (now plan) [] (now lengths) (now places) (now body) first 0)) (base + j)) ⌝ }
-    ensures { λ g. ⌜ Did (now (plan .entry)) (now (parts .entry)) write (copyRuns (join (now (plan .entry)) (now (parts .entry)) (now (lengths .entry)) (now (places .entry)) (now (body .entry)) first 0) count base count (now (counters .entry))) (now (room .entry)) g (now (counters .exit)) (now (room .exit)) ⌝ }
+    ensures { λ g. ⌜ Walks plan parts write (copyRuns (lentJoin plan parts lengths places body first 0) count base count) counters room g ⌝ }
 {
     if crate::plain::copy_plain(
         plan,
@@ -214,7 +215,7 @@ pub fn copy_entries(
 ) -> u8
     requires { ⌜ (first < 2 ^ 32) × (keysIn (join (now plan) [] (now lengths) (now places) (now body) first 0) ≡ true) ⌝ }
     requires { ⌜ Head (keysOf (join (now plan) [] (now lengths) (now places) (now body) first 0)) (lengthOf (join (now plan) [] (now lengths) (now places) (now body) first 0) 1) (now head) ⌝ }
-    ensures { λ g. ⌜ Did (now (plan .entry)) (now (parts .entry)) write (copyBlocks (join (now (plan .entry)) (now (parts .entry)) (now (lengths .entry)) (now (places .entry)) (now (body .entry)) first 0) (lengthOf (join (now (plan .entry)) (now (parts .entry)) (now (lengths .entry)) (now (places .entry)) (now (body .entry)) first 0) 1) 0 (lengthOf (join (now (plan .entry)) (now (parts .entry)) (now (lengths .entry)) (now (places .entry)) (now (body .entry)) first 0) 1) (now (counters .entry))) (now (room .entry)) g (now (counters .exit)) (now (room .exit)) ⌝ }
+    ensures { λ g. let j = lentJoin plan parts lengths places body first 0 in ⌜ Walks plan parts write (copyBlocks j (lengthOf j 1) 0 (lengthOf j 1)) counters room g ⌝ }
 {
     let entries = lent_tables::length_of(lengths, first + 1);
     if entries <= BLOCK {

@@ -2,6 +2,7 @@
 ghost use mathlib.Core.Path.{_≡_};
 ghost use Prim.Native.Nat.{_+_, _*_, _≤_};
 ghost use lib.ListN.{length};
+ghost use Rattle.clauses.specs.Slices.{was, left};
 ghost use Rattle.number.specs.Number.{splice};
 ghost use Rattle.reclaim.specs.used_entries.Keys.{KeyWidth};
 ghost use Rattle.reclaim.specs.used_entries.Chosen.{chosen, risen};
@@ -17,7 +18,7 @@ fn write_each(
     count: usize,
 )
     requires { ⌜ KeyWidth w × (count ≤ 512) × (from + w * count ≤ length (now body)) × (to + length (chosen (now body) from w (risen (now ranks)) count) ≤ length (now room)) ⌝ }
-    ensures { λ _. ⌜ now (room .exit) ≡ splice to (chosen (now (body .entry)) from w (risen (now (ranks .entry))) count) (now (room .entry)) ⌝ }
+    ensures { λ _. ⌜ left room ≡ splice to (chosen (was body) from w (risen (was ranks)) count) (was room) ⌝ }
 {
     let mut o = to;
     let mut j: usize = 0;
@@ -42,7 +43,7 @@ pub fn write_used(
     count: usize,
 )
     requires { ⌜ KeyWidth w × (count ≤ 512) × (from + w * count ≤ length (now body)) × (to + length (chosen (now body) from w (risen (now ranks)) count) ≤ length (now room)) ⌝ }
-    ensures { λ _. ⌜ now (room .exit) ≡ splice to (chosen (now (body .entry)) from w (risen (now (ranks .entry))) count) (now (room .entry)) ⌝ }
+    ensures { λ _. ⌜ left room ≡ splice to (chosen (was body) from w (risen (was ranks)) count) (was room) ⌝ }
 {
     match w {
         1 => write_each(room, to, body, from, 1, ranks, count),

@@ -8,17 +8,19 @@ pub mod used_entries;
 ghost use mathlib.Core.Path.{_≡_};
 ghost use mathlib.Core.Bool.{true};
 ghost use mathlib.Core.List.{[]};
-ghost use Prim.Native.Nat.{ℕ, _<_, _≤_, _^_};
+ghost use Prim.Native.Nat.{_<_, _≤_, _^_};
 ghost use lib.ListN.{length, replicate};
+ghost use Rattle.clauses.specs.Slices.{was, left};
 ghost use Rattle.array_data.specs.lent_tables.Lent.{tables};
 ghost use Rattle.source_rules.specs.kinds.Rows.{tablesOf};
 ghost use Rattle.columns.specs.Grounds.{columnGround};
 ghost use Rattle.walk.specs.State.{lengthOf};
 ghost use Rattle.walk.specs.Log.{Did};
 ghost use Rattle.leaf_walk.specs.Join.{join};
+ghost use Rattle.leaf_walk.specs.Walks.{lentJoin};
 ghost use Rattle.anew.specs.Anew.{orElse};
 ghost use Rattle.anew.specs.ResultPlan.{keepsFrom, Comes, planAnew};
-ghost use Rattle.with_capacities.specs.Answer.{Answers};
+ghost use Rattle.with_capacities.specs.Answer.{Makes, lentTables};
 ghost use Rattle.anew.specs.result_plan.Answer.{Asks};
 ghost use Rattle.reclaim.specs.used_entries.Keys.{Head};
 ghost use Rattle.reclaim.specs.reclaim_walk.Walk.{keysOf, keysIn, reclaimWalk};
@@ -36,7 +38,7 @@ fn ground_of(
     first: u32,
     n: u32,
 ) -> u8
-    ensures { λ r. ⌜ r ≡ orElse (columnGround (now (formats .entry)) (now (schema .entry)) (tablesOf (now (lengths .entry)) (now (places .entry)) (now (buffers .entry)) (now (body .entry))) first n) (reclaimOwn (now (schema .entry)) first) ⌝ }
+    ensures { λ r. ⌜ r ≡ orElse (columnGround (was formats) (was schema) (tablesOf (was lengths) (was places) (was buffers) (was body)) first n) (reclaimOwn (was schema) first) ⌝ }
 {
     let g = columns::column_ground(formats, schema, lengths, places, buffers, body, first, n);
     if g != 0 {
@@ -59,7 +61,7 @@ fn planned(
     n: u32,
 ) -> [u64; plan_words::WORDS]
     requires { ⌜ (n ≤ 32) × Comes (tables (now lengths) (now places) (now body)) first n fromColumn ⌝ }
-    ensures { λ r. ⌜ r ≡ planAnew (now (formats .entry)) (now (schema .entry)) first n (keepsFrom (tables (now (lengths .entry)) (now (places .entry)) (now (body .entry))) first fromColumn) true 0 ⌝ }
+    ensures { λ r. ⌜ r ≡ planAnew (was formats) (was schema) first n (keepsFrom (tables (was lengths) (was places) (was body)) first fromColumn) true 0 ⌝ }
 {
     let mut plan = [0u64; plan_words::WORDS];
     let from = [1u64, 2];
@@ -94,7 +96,7 @@ pub fn plan_reclaim(
     plan: &mut [u64],
     counters: &mut [u64],
 ) -> u8
-    ensures { λ r. ⌜ Asks (reclaimAsked (now (formats .entry)) (now (schema .entry)) (tablesOf (now (lengths .entry)) (now (places .entry)) (now (buffers .entry)) (now (body .entry))) first n (now (plan .entry)) (now (counters .entry))) r (now (plan .exit)) (now (counters .exit)) ⌝ }
+    ensures { λ r. ⌜ Asks (reclaimAsked (was formats) (was schema) (tablesOf (was lengths) (was places) (was buffers) (was body)) first n (was plan) (was counters)) r (left plan) (left counters) ⌝ }
 {
     let g = ground_of(formats, schema, lengths, places, buffers, body, first, n);
     if g != 0 {
@@ -145,8 +147,8 @@ fn make(
     room: &mut [u8],
 ) -> u8
     requires { ⌜ (length (now plan) ≡ 872) × (length (now counters) ≡ 96) × (length (now draft) ≡ 872) ⌝ }
-    requires { ⌜ (keysIn (join (now draft) [] (now lengths) (now places) (now body) first 0) ≡ true → Head (keysOf (join (now draft) [] (now lengths) (now places) (now body) first 0)) (lengthOf (join (now draft) [] (now lengths) (now places) (now body) first 0) 1) (now head)) ⌝ }
-    ensures { λ r. ⌜ (now (plan .exit) ≡ now (draft .entry)) × Did (now (draft .entry)) (now (parts .entry)) true (reclaimWalk (join (now (draft .entry)) (now (parts .entry)) (now (lengths .entry)) (now (places .entry)) (now (body .entry)) first 0) (replicate 96 0)) (now (room .entry)) r (now (counters .exit)) (now (room .exit)) ⌝ }
+    requires { let j = join (now draft) [] (now lengths) (now places) (now body) first 0 in ⌜ (keysIn j ≡ true → Head (keysOf j) (lengthOf j 1) (now head)) ⌝ }
+    ensures { λ r. ⌜ (left plan ≡ was draft) × Did (was draft) (was parts) true (reclaimWalk (lentJoin draft parts lengths places body first 0) (replicate 96 0)) (was room) r (left counters) (left room) ⌝ }
 {
     let mut tally = [0u64; plan_words::COUNTERS];
     let g = crate::reclaim_walk::reclaim_walk(
@@ -181,7 +183,7 @@ pub fn reclaim(
     counters: &mut [u64],
     room: &mut [u8],
 ) -> u8
-    ensures { λ r. ⌜ Answers (reclaiming (now (formats .entry)) (now (schema .entry)) (tablesOf (now (lengths .entry)) (now (places .entry)) (now (buffers .entry)) (now (body .entry))) first n (now (parts .entry)) (now (plan .entry)) (now (counters .entry)) (now (room .entry))) r (now (plan .exit)) (now (counters .exit)) (now (room .exit)) ⌝ }
+    ensures { λ r. ⌜ Makes (reclaiming (was formats) (was schema) (lentTables lengths places buffers body) first n (was parts)) plan counters room r ⌝ }
 {
     if columns::CEILING < room.len() {
         return 9;

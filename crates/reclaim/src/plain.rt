@@ -1,14 +1,16 @@
 // Entries that are numbers without validity: those in use are copied straight from the body, by the ranks of their block.
 ghost use mathlib.Core.Path.{_≡_};
-ghost use mathlib.Core.Bool.{Bool, true, false, cond};
+ghost use mathlib.Core.Bool.{true, false, cond};
 ghost use mathlib.Core.List.{[]};
 ghost use Prim.Native.Nat.{ℕ, _+_, _*_, _^_, _<_, _≤_};
 ghost use lib.ListN.{length, getD};
 ghost use lib.Dec.{eqb};
+ghost use Rattle.clauses.specs.Slices.{was, left};
 ghost use Rattle.number.specs.Number.{splice};
 ghost use Rattle.walk.specs.State.{bytesOf, addRows};
-ghost use Rattle.walk.specs.Log.{Did, startOf};
+ghost use Rattle.walk.specs.Log.{startOf};
 ghost use Rattle.leaf_walk.specs.Join.{join};
+ghost use Rattle.leaf_walk.specs.Walks.{lentJoin, Walks};
 ghost use Rattle.reclaim.specs.used_entries.Keys.{rank};
 ghost use Rattle.reclaim.specs.used_entries.Chosen.{chosen, risen};
 ghost use Rattle.reclaim.specs.reclaim_walk.Walk.{keysOf, copyRuns};
@@ -28,7 +30,7 @@ fn is_plain(
     count: u64,
 ) -> bool
     requires { ⌜ (first < 2 ^ 32) × (base + count < 2 ^ 64) ⌝ }
-    ensures { λ r. ⌜ (r ≡ true → Plain (join (now (plan .entry)) [] (now (lengths .entry)) (now (places .entry)) (now (body .entry)) first 0) base count) ⌝ }
+    ensures { λ r. ⌜ (r ≡ true → Plain (join (was plan) [] (was lengths) (was places) (was body) first 0) base count) ⌝ }
 {
     if !schema::formats::is_fixed(plan_words::code_of(plan, 1)) {
         return false;
@@ -71,8 +73,8 @@ fn write_entries(
 ) -> bool
     requires { ⌜ (first < 2 ^ 32) × (count ≤ 512) × Plain (join (now plan) [] (now lengths) (now places) (now body) first 0) base count ⌝ }
     requires { ⌜ length (chosen (now body) (entryPlace (join (now plan) [] (now lengths) (now places) (now body) first 0) base) (bytesOf (now plan) 1) (risen (now ranks)) count) ≡ bytesOf (now plan) 1 * n ⌝ }
-    ensures { λ r. ⌜ (r ≡ true → (write ≡ true → startOf (now (plan .entry)) (now (parts .entry)) 1 1 + have * bytesOf (now (plan .entry)) 1 + bytesOf (now (plan .entry)) 1 * n ≤ length (now (room .entry))) × (now (room .exit) ≡ cond write (splice (startOf (now (plan .entry)) (now (parts .entry)) 1 1 + have * bytesOf (now (plan .entry)) 1) (chosen (now (body .entry)) (entryPlace (join (now (plan .entry)) [] (now (lengths .entry)) (now (places .entry)) (now (body .entry)) first 0) base) (bytesOf (now (plan .entry)) 1) (risen (now (ranks .entry))) count) (now (room .entry))) (now (room .entry)))) ⌝ }
-    ensures { λ r. ⌜ (r ≡ false → now (room .exit) ≡ now (room .entry)) ⌝ }
+    ensures { λ r. ⌜ (r ≡ true → (write ≡ true → startOf (was plan) (was parts) 1 1 + have * bytesOf (was plan) 1 + bytesOf (was plan) 1 * n ≤ length (was room)) × (left room ≡ cond write (splice (startOf (was plan) (was parts) 1 1 + have * bytesOf (was plan) 1) (chosen (was body) (entryPlace (join (was plan) [] (was lengths) (was places) (was body) first 0) base) (bytesOf (was plan) 1) (risen (was ranks)) count) (was room)) (was room))) ⌝ }
+    ensures { λ r. ⌜ (r ≡ false → left room ≡ was room) ⌝ }
 {
     if !write {
         return true;
@@ -107,7 +109,7 @@ fn copied(counters: [u64; plan_words::COUNTERS]) -> [u64; plan_words::COUNTERS]
 
 // n entries more, if there is one.
 fn count_entries(counters: &mut [u64; plan_words::COUNTERS], n: u64)
-    ensures { λ _. ⌜ now (counters .exit) ≡ cond (eqb n 0) (now (counters .entry)) (addRows 1 n (now (counters .entry))) ⌝ }
+    ensures { λ _. ⌜ left counters ≡ cond (eqb n 0) (was counters) (addRows 1 n (was counters)) ⌝ }
 {
     if n == 0 {
         return;
@@ -133,8 +135,8 @@ pub fn copy_plain(
 ) -> bool
     requires { ⌜ (first < 2 ^ 32) × (count ≤ 512) × (base + count < 2 ^ 64) ⌝ }
     requires { ⌜ ((j : ℕ) → j ≤ count → getD (now ranks) j 0 ≡ rank (keysOf (join (now plan) [] (now lengths) (now places) (now body) first 0)) (base + j)) ⌝ }
-    ensures { λ r. ⌜ (r ≡ true → Did (now (plan .entry)) (now (parts .entry)) write (copyRuns (join (now (plan .entry)) (now (parts .entry)) (now (lengths .entry)) (now (places .entry)) (now (body .entry)) first 0) count base count (now (counters .entry))) (now (room .entry)) 0 (now (counters .exit)) (now (room .exit))) ⌝ }
-    ensures { λ r. ⌜ (r ≡ false → (now (counters .exit) ≡ now (counters .entry)) × (now (room .exit) ≡ now (room .entry))) ⌝ }
+    ensures { λ r. ⌜ (r ≡ true → Walks plan parts write (copyRuns (lentJoin plan parts lengths places body first 0) count base count) counters room 0) ⌝ }
+    ensures { λ r. ⌜ (r ≡ false → (left counters ≡ was counters) × (left room ≡ was room)) ⌝ }
 {
     if !is_plain(plan, lengths, places, body, first, base, count) {
         return false;

@@ -7,10 +7,12 @@ ghost use mathlib.Core.List.{List, [], _∷_};
 ghost use Prim.Native.Nat.{ℕ, _+_, _*_, _^_, _<_, _≤_};
 ghost use lib.ListN.{length, getD};
 ghost use lib.Dec.{eqb};
+ghost use Rattle.clauses.specs.Slices.{was, left};
 ghost use Rattle.number.specs.Number.{splice};
 ghost use Rattle.walk.specs.State.{bytesOf, lengthOf};
 ghost use Rattle.walk.specs.Log.{Did, put, applyIf};
 ghost use Rattle.leaf_walk.specs.Join.{join};
+ghost use Rattle.leaf_walk.specs.Walks.{lentJoin, Walks};
 ghost use Rattle.reclaim.specs.used_entries.Keys.{newKeys, Head};
 ghost use Rattle.reclaim.specs.reclaim_walk.Walk.{keysOf, keysIn, firstEntry, reclaimWalk};
 use crate::entry_copies;
@@ -21,7 +23,7 @@ use walk::plan_words;
 // Whether the keys have validity.
 pub fn is_masked(places: &[u64], first: usize) -> bool
     requires { ⌜ first < 2 ^ 32 ⌝ }
-    ensures { λ r. ⌜ r ≡ not (eqb (getD (now (places .entry)) (9 * first + 0) 0) 0) ⌝ }
+    ensures { λ r. ⌜ r ≡ not (eqb (getD (was places) (9 * first + 0) 0) 0) ⌝ }
 {
     if lent_tables::place(places, first, 0) == 0 {
         return false;
@@ -32,7 +34,7 @@ pub fn is_masked(places: &[u64], first: usize) -> bool
 // Whether keys and validity of node 0 lie in the body.
 fn keys_in(plan: &[u64], lengths: &[u64], places: &[u64], body: &[u8], first: usize) -> bool
     requires { ⌜ first < 2 ^ 32 ⌝ }
-    ensures { λ r. ⌜ r ≡ keysIn (join (now (plan .entry)) [] (now (lengths .entry)) (now (places .entry)) (now (body .entry)) first 0) ⌝ }
+    ensures { λ r. ⌜ r ≡ keysIn (join (was plan) [] (was lengths) (was places) (was body) first 0) ⌝ }
 {
     let off = lent_tables::offset_of(lengths, first);
     let n = lent_tables::length_of(lengths, first);
@@ -74,7 +76,7 @@ fn write_keys(
     requires { ⌜ (first < 2 ^ 32) × (keysIn (join (now plan) [] (now lengths) (now places) (now body) first 0) ≡ true) ⌝ }
     requires { ⌜ Head (keysOf (join (now plan) [] (now lengths) (now places) (now body) first 0)) (lengthOf (join (now plan) [] (now lengths) (now places) (now body) first 0) 1) (now head) ⌝ }
     requires { ⌜ to + bytesOf (now plan) 0 * lengthOf (join (now plan) [] (now lengths) (now places) (now body) first 0) 0 ≤ length (now room) ⌝ }
-    ensures { λ _. ⌜ now (room .exit) ≡ splice to (newKeys (keysOf (join (now (plan .entry)) [] (now (lengths .entry)) (now (places .entry)) (now (body .entry)) first 0)) (lengthOf (join (now (plan .entry)) [] (now (lengths .entry)) (now (places .entry)) (now (body .entry)) first 0) 1)) (now (room .entry)) ⌝ }
+    ensures { λ _. let j = join (was plan) [] (was lengths) (was places) (was body) first 0 in ⌜ left room ≡ splice to (newKeys (keysOf j) (lengthOf j 1)) (was room) ⌝ }
 {
     let w = lookups::width_at(plan, 0);
     let at = lent_tables::place(places, first, 3);
@@ -100,7 +102,7 @@ fn put_keys(
 )
     requires { ⌜ (first < 2 ^ 32) × (keysIn (join (now plan) [] (now lengths) (now places) (now body) first 0) ≡ true) ⌝ }
     requires { ⌜ Head (keysOf (join (now plan) [] (now lengths) (now places) (now body) first 0)) (lengthOf (join (now plan) [] (now lengths) (now places) (now body) first 0) 1) (now head) ⌝ }
-    ensures { λ _. ⌜ now (room .exit) ≡ applyIf (now (plan .entry)) (now (parts .entry)) write (put 0 1 0 (newKeys (keysOf (join (now (plan .entry)) [] (now (lengths .entry)) (now (places .entry)) (now (body .entry)) first 0)) (lengthOf (join (now (plan .entry)) [] (now (lengths .entry)) (now (places .entry)) (now (body .entry)) first 0) 1)) ∷ []) (now (room .entry)) ⌝ }
+    ensures { λ _. let j = join (was plan) [] (was lengths) (was places) (was body) first 0 in ⌜ left room ≡ applyIf (was plan) (was parts) write (put 0 1 0 (newKeys (keysOf j) (lengthOf j 1)) ∷ []) (was room) ⌝ }
 {
     let w = lookups::width_at(plan, 0);
     let n = lent_tables::length_of(lengths, first);
@@ -121,7 +123,7 @@ fn put_keys(
 
 // The first zero offset of byte strings.
 fn first_entry(plan: &[u64], parts: &[u64], room: &mut [u8], write: bool)
-    ensures { λ _. ⌜ ((lengths places body c : List ℕ) (first : ℕ) → Did (now (plan .entry)) (now (parts .entry)) write (firstEntry (join (now (plan .entry)) (now (parts .entry)) lengths places body first 0) c) (now (room .entry)) 0 c (now (room .exit))) ⌝ }
+    ensures { λ _. ⌜ ((lengths places body c : List ℕ) (first : ℕ) → Did (was plan) (was parts) write (firstEntry (join (was plan) (was parts) lengths places body first 0) c) (was room) 0 c (left room)) ⌝ }
 {
     let code = plan_words::code_of(plan, 1);
     if !schema::formats::is_string(code) {
@@ -140,7 +142,7 @@ pub fn head_ranks(
     first: usize,
 ) -> [u64; 513]
     requires { ⌜ first < 2 ^ 32 ⌝ }
-    ensures { λ m. ⌜ (keysIn (join (now (plan .entry)) [] (now (lengths .entry)) (now (places .entry)) (now (body .entry)) first 0) ≡ true → Head (keysOf (join (now (plan .entry)) [] (now (lengths .entry)) (now (places .entry)) (now (body .entry)) first 0)) (lengthOf (join (now (plan .entry)) [] (now (lengths .entry)) (now (places .entry)) (now (body .entry)) first 0) 1) m) ⌝ }
+    ensures { λ m. let j = join (was plan) [] (was lengths) (was places) (was body) first 0 in ⌜ (keysIn j ≡ true → Head (keysOf j) (lengthOf j 1) m) ⌝ }
 {
     if !keys_in(plan, lengths, places, body, first) {
         return [0u64; 513];
@@ -169,8 +171,8 @@ pub fn reclaim_walk(
     first: usize,
 ) -> u8
     requires { ⌜ first < 2 ^ 32 ⌝ }
-    requires { ⌜ (keysIn (join (now plan) [] (now lengths) (now places) (now body) first 0) ≡ true → Head (keysOf (join (now plan) [] (now lengths) (now places) (now body) first 0)) (lengthOf (join (now plan) [] (now lengths) (now places) (now body) first 0) 1) (now head)) ⌝ }
-    ensures { λ g. ⌜ Did (now (plan .entry)) (now (parts .entry)) write (reclaimWalk (join (now (plan .entry)) (now (parts .entry)) (now (lengths .entry)) (now (places .entry)) (now (body .entry)) first 0) (now (counters .entry))) (now (room .entry)) g (now (counters .exit)) (now (room .exit)) ⌝ }
+    requires { let j = join (now plan) [] (now lengths) (now places) (now body) first 0 in ⌜ (keysIn j ≡ true → Head (keysOf j) (lengthOf j 1) (now head)) ⌝ }
+    ensures { λ g. ⌜ Walks plan parts write (reclaimWalk (lentJoin plan parts lengths places body first 0)) counters room g ⌝ }
 {
     if !keys_in(plan, lengths, places, body, first) {
         return 12;

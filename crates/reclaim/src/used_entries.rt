@@ -6,6 +6,7 @@ ghost use mathlib.Core.List.{List};
 ghost use Prim.Native.Nat.{ℕ, _+_, _*_, _-_, _^_, _<_, _≤_, min};
 ghost use lib.ListN.{length, getD};
 ghost use lib.Dec.{ltb};
+ghost use Rattle.clauses.specs.Slices.{was, left};
 ghost use Rattle.number.specs.Number.{encode, entry, splice};
 ghost use Rattle.columnar.specs.Row.{seg};
 ghost use Rattle.columnar.specs.Entries.{encodes};
@@ -18,7 +19,7 @@ const BLOCK: u64 = 512;
 pub fn key_at(body: &[u8], w: u64, at: u64, k: u64) -> u64
     requires { ⌜ KeyWidth w ⌝ }
     requires { ⌜ at + w * (k + 1) ≤ length (now body) ⌝ }
-    ensures { λ r. ⌜ r ≡ entry w (now (body .entry)) at k ⌝ }
+    ensures { λ r. ⌜ r ≡ entry w (was body) at k ⌝ }
 {
     let from = at + w * k;
     match w {
@@ -32,7 +33,7 @@ pub fn key_at(body: &[u8], w: u64, at: u64, k: u64) -> u64
 // Whether slot k is valid.
 fn is_valid(body: &[u8], masked: bool, mask: u64, k: u64) -> bool
     requires { ⌜ (masked ≡ true → 8 * mask + k < 8 * length (now body)) ⌝ }
-    ensures { λ r. ⌜ r ≡ slotValid (now (body .entry)) masked mask k ⌝ }
+    ensures { λ r. ⌜ r ≡ slotValid (was body) masked mask k ⌝ }
 {
     if masked {
         return bits::get_bit(body, mask as usize, k as usize) == 1;
@@ -54,7 +55,7 @@ fn block_slot(
     r: u64,
 ) -> usize
     requires { ⌜ Within (keys (now body) w at masked mask off n) × (r < n) × (count ≤ 512) ⌝ }
-    ensures { λ s. ⌜ (s ≡ slotIn (keys (now (body .entry)) w at masked mask off n) base count r) × (s ≤ 512) ⌝ }
+    ensures { λ s. ⌜ (s ≡ slotIn (keys (was body) w at masked mask off n) base count r) × (s ≤ 512) ⌝ }
 {
     let k = off + r;
     if !is_valid(body, masked, mask, k) {
@@ -83,7 +84,7 @@ fn marks_of(
     count: u64,
 ) -> [u64; 513]
     requires { ⌜ Within (keys (now body) w at masked mask off n) × (count ≤ 512) ⌝ }
-    ensures { λ m. ⌜ ((j : ℕ) → j < count → getD m j 0 ≡ cond (used (keys (now (body .entry)) w at masked mask off n) (base + j)) 1 0) ⌝ }
+    ensures { λ m. ⌜ ((j : ℕ) → j < count → getD m j 0 ≡ cond (used (keys (was body) w at masked mask off n) (base + j)) 1 0) ⌝ }
 {
     let mut marks = [0u64; 513];
     let mut r: u64 = 0;
@@ -109,7 +110,7 @@ pub fn ranks_of(
     start: u64,
 ) -> [u64; 513]
     requires { ⌜ Within (keys (now body) w at masked mask off n) × (count ≤ 512) × (base + count < 2 ^ 64) × (start ≡ rank (keys (now body) w at masked mask off n) base) ⌝ }
-    ensures { λ m. ⌜ ((j : ℕ) → j ≤ count → getD m j 0 ≡ rank (keys (now (body .entry)) w at masked mask off n) (base + j)) ⌝ }
+    ensures { λ m. ⌜ ((j : ℕ) → j ≤ count → getD m j 0 ≡ rank (keys (was body) w at masked mask off n) (base + j)) ⌝ }
 {
     let marks = marks_of(body, w, at, masked, mask, off, n, base, count);
     let mut ranks = [0u64; 513];
@@ -128,7 +129,7 @@ pub fn ranks_of(
 pub fn write_number(room: &mut [u8], at: usize, w: u64, v: u64)
     requires { ⌜ at + w ≤ length (now room) ⌝ }
     requires { ⌜ KeyWidth w ⌝ }
-    ensures { λ _. ⌜ now (room .exit) ≡ splice at (encode w v) (now (room .entry)) ⌝ }
+    ensures { λ _. ⌜ left room ≡ splice at (encode w v) (was room) ⌝ }
 {
     match w {
         1 => number::write_u8(room, at, (v % 256) as u8),
@@ -142,7 +143,7 @@ pub fn write_number(room: &mut [u8], at: usize, w: u64, v: u64)
 fn put_rank(room: &mut [u8], to: usize, w: u64, r: u64, ranks: &[u64; 513], s: usize)
     requires { ⌜ (to + w * (r + 1) ≤ length (now room)) × (s ≤ 512) ⌝ }
     requires { ⌜ KeyWidth w ⌝ }
-    ensures { λ _. ⌜ now (room .exit) ≡ cond (ltb s 512) (splice (to + w * r) (encode w (getD (now (ranks .entry)) s 0)) (now (room .entry))) (now (room .entry)) ⌝ }
+    ensures { λ _. ⌜ left room ≡ cond (ltb s 512) (splice (to + w * r) (encode w (getD (was ranks) s 0)) (was room)) (was room) ⌝ }
 {
     if s < 512 {
         write_number(room, to + (w * r) as usize, w, ranks[s]);
@@ -166,7 +167,7 @@ fn write_block(
 )
     requires { ⌜ Within (keys (now body) w at masked mask off n) × (to + w * n ≤ length (now room)) × (count ≤ 512) ⌝ }
     requires { ⌜ ((j : ℕ) → j < count → getD (now ranks) j 0 ≡ rank (keys (now body) w at masked mask off n) (base + j)) ⌝ }
-    ensures { λ _. ⌜ ((old : List ℕ) → to + w * n ≤ length old → now (room .entry) ≡ splice to (encodes w (seg (newKey (keys (now (body .entry)) w at masked mask off n) base) 0 n)) old → now (room .exit) ≡ splice to (encodes w (seg (newKey (keys (now (body .entry)) w at masked mask off n) (base + count)) 0 n)) old) ⌝ }
+    ensures { λ _. let k = keys (was body) w at masked mask off n in ⌜ ((old : List ℕ) → to + w * n ≤ length old → was room ≡ splice to (encodes w (seg (newKey k base) 0 n)) old → left room ≡ splice to (encodes w (seg (newKey k (base + count)) 0 n)) old) ⌝ }
 {
     let mut r: u64 = 0;
     while r < n {
@@ -193,7 +194,7 @@ fn write_by(
 )
     requires { ⌜ Within (keys (now body) w at masked mask off n) × (to + w * n ≤ length (now room)) × (count ≤ 512) ⌝ }
     requires { ⌜ ((j : ℕ) → j < count → getD (now ranks) j 0 ≡ rank (keys (now body) w at masked mask off n) (base + j)) ⌝ }
-    ensures { λ _. ⌜ ((old : List ℕ) → to + w * n ≤ length old → now (room .entry) ≡ splice to (encodes w (seg (newKey (keys (now (body .entry)) w at masked mask off n) base) 0 n)) old → now (room .exit) ≡ splice to (encodes w (seg (newKey (keys (now (body .entry)) w at masked mask off n) (base + count)) 0 n)) old) ⌝ }
+    ensures { λ _. let k = keys (was body) w at masked mask off n in ⌜ ((old : List ℕ) → to + w * n ≤ length old → was room ≡ splice to (encodes w (seg (newKey k base) 0 n)) old → left room ≡ splice to (encodes w (seg (newKey k (base + count)) 0 n)) old) ⌝ }
 {
     match w {
         1 => write_block(
@@ -288,7 +289,7 @@ pub fn head_ranks(
     entries: u64,
 ) -> [u64; 513]
     requires { ⌜ Within (keys (now body) w at masked mask off n) ⌝ }
-    ensures { λ m. ⌜ Head (keys (now (body .entry)) w at masked mask off n) entries m ⌝ }
+    ensures { λ m. ⌜ Head (keys (was body) w at masked mask off n) entries m ⌝ }
 {
     let count = head_len(entries);
     ranks_of(body, w, at, masked, mask, off, n, 0, count, 0)
@@ -310,7 +311,7 @@ pub fn block_ranks(
 ) -> [u64; 513]
     requires { ⌜ Within (keys (now body) w at masked mask off n) × (count ≤ 512) × (base + count < 2 ^ 64) × (start ≡ rank (keys (now body) w at masked mask off n) base) ⌝ }
     requires { ⌜ Head (keys (now body) w at masked mask off n) (base + count) (now head) ⌝ }
-    ensures { λ m. ⌜ ((j : ℕ) → j ≤ count → getD m j 0 ≡ rank (keys (now (body .entry)) w at masked mask off n) (base + j)) ⌝ }
+    ensures { λ m. ⌜ ((j : ℕ) → j ≤ count → getD m j 0 ≡ rank (keys (was body) w at masked mask off n) (base + j)) ⌝ }
 {
     if base == 0 {
         return *head;
@@ -334,7 +335,7 @@ pub fn write_keys(
 )
     requires { ⌜ Within (keys (now body) w at masked mask off n) × (to + w * n ≤ length (now room)) × (entries < 2 ^ 63) ⌝ }
     requires { ⌜ Head (keys (now body) w at masked mask off n) entries (now head) ⌝ }
-    ensures { λ _. ⌜ now (room .exit) ≡ splice to (newKeys (keys (now (body .entry)) w at masked mask off n) entries) (now (room .entry)) ⌝ }
+    ensures { λ _. ⌜ left room ≡ splice to (newKeys (keys (was body) w at masked mask off n) entries) (was room) ⌝ }
 {
     number::copy::fill_zeros(room, to, (w * n) as usize);
     if entries <= BLOCK {

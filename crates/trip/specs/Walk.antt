@@ -4,6 +4,7 @@ use mathlib.Core.Bool.{Bool, not, cond, _&&_}
 use mathlib.Core.List.{List}
 use Prim.Native.Nat.{ℕ, zero, suc, _-_, min}
 use lib.Dec.{leb, ltb, eqb}
+use Rattle.clauses.specs.Slices.{was, left, Slice}
 use Rattle.walk.specs.State.{keepsOf, far}
 use Rattle.walk.specs.Log.{Out, Did, done, need, next, each}
 use Rattle.walk.specs.Copy.{copyWalk}
@@ -11,6 +12,7 @@ use Rattle.walk.specs.Nulls.{nullWalk}
 use Rattle.plan.specs.parts.Parts.{partsHold}
 use Rattle.model.specs.Book.{Call, copy, nulls}
 use Rattle.refinement.specs.orders.Order.{Lent, joinOf, sourceCount, sourceLength}
+use Rattle.trip.specs.declared.Ended.{Ended}
 use Rattle.trip.specs.Trip.{callAt}
 
 module _ (x : Lent) where
@@ -38,3 +40,8 @@ stopsAt f (suc n) r c = cond (eqb (f r c .ans) 0) (stopsAt f n (suc r) (f r c .c
 pub record Stepped (plan parts : List ℕ) (write : Bool) (f : ℕ → List ℕ → Out) (n r : ℕ) (c room : List ℕ) (g p : ℕ) (c2 room2 : List ℕ) : Type 0 where
   pub did : Did plan parts write (each f n r c) room g c2 room2
   pub place : p ≡ stopsAt f n r c
+
+-- .. the steps from number 0 on, with the slices that it is lent
+abbrev pub Steps : (plan parts : Slice) → Bool → (ℕ → List ℕ → Out) → ℕ → (counters room : Slice) → Ended → Type 0
+Steps plan parts write f n counters room r =
+    Stepped (was plan) (was parts) write f n 0 (was counters) (was room) (r .ground) (r .place) (left counters) (left room)

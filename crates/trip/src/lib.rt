@@ -5,12 +5,13 @@ ghost use mathlib.Core.List.{[]};
 ghost use mathlib.Core.Bool.{true, cond};
 ghost use Prim.Native.Nat.{_<_, _≤_, _/_};
 ghost use lib.ListN.{length};
-ghost use Rattle.walk.specs.Log.{Did};
+ghost use Rattle.clauses.specs.Slices.{was, left};
+ghost use Rattle.leaf_walk.specs.Walks.{Walks};
 ghost use Rattle.plan.specs.parts.Parts.{partsHold};
 ghost use Rattle.refinement.specs.orders.Sound.{walkable};
 ghost use Rattle.transform.specs.Answer.{lent};
 ghost use Rattle.trip.specs.Trip.{callsOf, tripOrder, tripMeasure};
-ghost use Rattle.trip.specs.Walk.{stepAt, Stepped};
+ghost use Rattle.trip.specs.Walk.{stepAt, Steps};
 ghost use Rattle.trip.specs.Answer.{Ends, Asks};
 use array_data::lent_tables;
 use sound::trying;
@@ -43,7 +44,7 @@ fn held_ground(
     counters: &[u64; plan_words::COUNTERS],
     within: bool,
 ) -> u8
-    ensures { λ r. ⌜ r ≡ cond within (cond (partsHold (now (plan .entry)) (now (counters .entry)) (now (parts .entry))) 0 13) 14 ⌝ }
+    ensures { λ r. ⌜ r ≡ cond within (cond (partsHold (was plan) (was counters) (was parts)) 0 13) 14 ⌝ }
 {
     if !within {
         return NOT_LENT;
@@ -71,7 +72,7 @@ fn walk_step(
     k: usize,
 ) -> u8
     requires { ⌜ k < 256 ⌝ }
-    ensures { λ g. ⌜ Did (now (plan .entry)) (now (parts .entry)) write (stepAt (lent (now (plan .entry)) (now (parts .entry)) (now (sources .entry)) (now (lengths .entry)) (now (places .entry)) (now (body .entry))) ask within (now (orders .entry)) k (now (counters .entry))) (now (room .entry)) g (now (counters .exit)) (now (room .exit)) ⌝ }
+    ensures { λ g. ⌜ Walks plan parts write (stepAt (lent (was plan) (was parts) (was sources) (was lengths) (was places) (was body)) ask within (was orders) k) counters room g ⌝ }
 {
     let kind = lent_tables::at_u64(orders, 4 * k);
     let a = lent_tables::at_u64(orders, 4 * k + 1);
@@ -120,7 +121,7 @@ fn walk_orders(
     n: usize,
 ) -> Ended
     requires { ⌜ n ≤ 256 ⌝ }
-    ensures { λ r. ⌜ Stepped (now (plan .entry)) (now (parts .entry)) write (stepAt (lent (now (plan .entry)) (now (parts .entry)) (now (sources .entry)) (now (lengths .entry)) (now (places .entry)) (now (body .entry))) ask within (now (orders .entry))) n 0 (now (counters .entry)) (now (room .entry)) (r .ground) (r .place) (now (counters .exit)) (now (room .exit)) ⌝ }
+    ensures { λ r. ⌜ Steps plan parts write (stepAt (lent (was plan) (was parts) (was sources) (was lengths) (was places) (was body)) ask within (was orders)) n counters room r ⌝ }
 {
     let mut k: usize = 0;
     while k < n {
@@ -174,7 +175,7 @@ fn carry_out(
     n: usize,
 ) -> Ended
     requires { ⌜ (length (now counters) ≡ 96) × (n ≤ 256) × (n ≡ length (now orders) / 4) × (walkable (now plan) (length (now room)) ≡ true) ⌝ }
-    ensures { λ r. ⌜ Ends (tripOrder (lent (now (plan .entry)) (now (parts .entry)) (now (sources .entry)) (now (lengths .entry)) (now (places .entry)) (now (body .entry))) (now (counters .entry)) (now (room .entry)) (callsOf (now (orders .entry)))) r (now (counters .exit)) (now (room .exit)) ⌝ }
+    ensures { λ r. ⌜ Ends (tripOrder (lent (was plan) (was parts) (was sources) (was lengths) (was places) (was body)) (was counters) (was room) (callsOf (was orders))) r (left counters) (left room) ⌝ }
 {
     let within = plan::parts::parts_within(plan, parts, room.len());
     let mut tried = transform::load(counters);
@@ -232,7 +233,7 @@ pub fn orders(
     room: &mut [u8],
     orders: &[u64],
 ) -> Ended
-    ensures { λ r. ⌜ Ends (tripOrder (lent (now (plan .entry)) (now (parts .entry)) (now (sources .entry)) (now (lengths .entry)) (now (places .entry)) (now (body .entry))) (now (counters .entry)) (now (room .entry)) (callsOf (now (orders .entry)))) r (now (counters .exit)) (now (room .exit)) ⌝ }
+    ensures { λ r. ⌜ Ends (tripOrder (lent (was plan) (was parts) (was sources) (was lengths) (was places) (was body)) (was counters) (was room) (callsOf (was orders))) r (left counters) (left room) ⌝ }
 {
     let n = orders.len() / WORDS;
     if LONGEST < n {
@@ -271,7 +272,7 @@ pub fn measure_orders(
     counters: &mut [u64],
     orders: &[u64],
 ) -> Ended
-    ensures { λ r. ⌜ Asks (tripMeasure (lent (now (plan .entry)) [] (now (sources .entry)) (now (lengths .entry)) (now (places .entry)) (now (body .entry))) (now (counters .entry)) (callsOf (now (orders .entry)))) r (now (counters .exit)) ⌝ }
+    ensures { λ r. ⌜ Asks (tripMeasure (lent (was plan) [] (was sources) (was lengths) (was places) (was body)) (was counters) (callsOf (was orders))) r (left counters) ⌝ }
 {
     let n = orders.len() / WORDS;
     if LONGEST < n {

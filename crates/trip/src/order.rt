@@ -2,8 +2,9 @@
 ghost use mathlib.Core.Path.{_≡_};
 ghost use mathlib.Core.List.{List};
 ghost use Prim.Native.Nat.{ℕ, _<_, min};
+ghost use Rattle.clauses.specs.Slices.{was};
 ghost use Rattle.model.specs.Book.{copy, nulls};
-ghost use Rattle.walk.specs.Log.{Did};
+ghost use Rattle.leaf_walk.specs.Walks.{Walks};
 ghost use Rattle.transform.specs.Answer.{lent};
 ghost use Rattle.trip.specs.Trip.{callOf};
 ghost use Rattle.trip.specs.Walk.{orderWalk};
@@ -45,7 +46,7 @@ fn walk_copy(
     start: u64,
     end: u64,
 ) -> u8
-    ensures { λ g. ⌜ Did (now (plan .entry)) (now (parts .entry)) write (orderWalk (lent (now (plan .entry)) (now (parts .entry)) (now (sources .entry)) (now (lengths .entry)) (now (places .entry)) (now (body .entry))) (copy source start end) (now (counters .entry))) (now (room .entry)) g (now (counters .exit)) (now (room .exit)) ⌝ }
+    ensures { λ g. ⌜ Walks plan parts write (orderWalk (lent (was plan) (was parts) (was sources) (was lengths) (was places) (was body)) (copy source start end)) counters room g ⌝ }
 {
     if lent_tables::at_u64(plan, plan_words::SOURCE_COUNT) <= source as u64 {
         return NO_SUCH_SOURCE;
@@ -81,7 +82,7 @@ fn walk_nulls(
     write: bool,
     n: u64,
 ) -> u8
-    ensures { λ g. ⌜ ((sources lengths places body : List ℕ) → Did (now (plan .entry)) (now (parts .entry)) write (orderWalk (lent (now (plan .entry)) (now (parts .entry)) sources lengths places body) (nulls n) (now (counters .entry))) (now (room .entry)) g (now (counters .exit)) (now (room .exit))) ⌝ }
+    ensures { λ g. ⌜ ((sources lengths places body : List ℕ) → Walks plan parts write (orderWalk (lent (was plan) (was parts) sources lengths places body) (nulls n)) counters room g) ⌝ }
 {
     if plan_words::keeps_of(plan, 0) == 0 {
         return KEEPS_NO_NULLS;
@@ -106,7 +107,7 @@ pub fn walk_order(
     b: u64,
     c: u64,
 ) -> u8
-    ensures { λ g. ⌜ Did (now (plan .entry)) (now (parts .entry)) write (orderWalk (lent (now (plan .entry)) (now (parts .entry)) (now (sources .entry)) (now (lengths .entry)) (now (places .entry)) (now (body .entry))) (callOf kind a b c) (now (counters .entry))) (now (room .entry)) g (now (counters .exit)) (now (room .exit)) ⌝ }
+    ensures { λ g. ⌜ Walks plan parts write (orderWalk (lent (was plan) (was parts) (was sources) (was lengths) (was places) (was body)) (callOf kind a b c)) counters room g ⌝ }
 {
     if kind != COPY {
         return walk_nulls(plan, parts, counters, room, write, a);

@@ -1,6 +1,7 @@
 // The test of a target type: a type tree that differs from a column's in the widths of byte strings, list-views, lists, run ends and keys alone.
 ghost use mathlib.Core.Path.{_≡_};
 ghost use Prim.Native.Nat.{_<_};
+ghost use Rattle.clauses.specs.Slices.{was};
 ghost use Rattle.schema.specs.Tree.{sameFlag, sameFormats};
 ghost use Rattle.width_walks.specs.target_rules.Target.{isEnds, sameText, otherWidth, endsAt, likeFormats, likeNode, isTarget};
 use schema::union_ids;
@@ -34,7 +35,7 @@ fn is_other_width(keyed: bool, ended: bool, c: u8, c2: u8) -> bool
 // Whether node i is run ends.
 pub fn is_ends_at(formats: &[u8], schema: &[u32], first: usize, i: usize) -> bool
     requires { ⌜ (first < 4294967296) × (i < 4294967296) ⌝ }
-    ensures { λ r. ⌜ r ≡ endsAt (now (formats .entry)) (now (schema .entry)) first i ⌝ }
+    ensures { λ r. ⌜ r ≡ endsAt (was formats) (was schema) first i ⌝ }
 {
     if i == 0 {
         return false;
@@ -44,7 +45,7 @@ pub fn is_ends_at(formats: &[u8], schema: &[u32], first: usize, i: usize) -> boo
 
 fn has_same_format(formats: &[u8], schema: &[u32], first: usize, first2: usize, i: usize) -> bool
     requires { ⌜ (first < 4294967296) × (first2 < 4294967296) × (i < 4294967296) ⌝ }
-    ensures { λ r. ⌜ r ≡ sameFormats (now (formats .entry)) (now (schema .entry)) first first2 i ⌝ }
+    ensures { λ r. ⌜ r ≡ sameFormats (was formats) (was schema) first first2 i ⌝ }
 {
     let at = schema::get(schema, first + i, 0) as usize;
     let len = schema::get(schema, first + i, 1) as usize;
@@ -56,7 +57,7 @@ fn has_same_format(formats: &[u8], schema: &[u32], first: usize, first2: usize, 
 // Whether the nodes i have the same format, or one of another width.
 fn is_like_format(formats: &[u8], schema: &[u32], first: usize, first2: usize, i: usize) -> bool
     requires { ⌜ (first < 4294967296) × (first2 < 4294967296) × (i < 4294967296) ⌝ }
-    ensures { λ r. ⌜ r ≡ likeFormats (now (formats .entry)) (now (schema .entry)) first first2 i ⌝ }
+    ensures { λ r. ⌜ r ≡ likeFormats (was formats) (was schema) first first2 i ⌝ }
 {
     let keyed = schema::dictionary_of(schema, first, i) == 1;
     let ended = is_ends_at(formats, schema, first, i);
@@ -68,7 +69,7 @@ fn is_like_format(formats: &[u8], schema: &[u32], first: usize, first2: usize, i
 // Whether the two nodes have the same flag, or one that says nothing of the type.
 fn has_same_flag(schema: &[u32], first: usize, first2: usize, i: usize) -> bool
     requires { ⌜ (first < 4294967296) × (first2 < 4294967296) × (i < 4294967296) ⌝ }
-    ensures { λ r. ⌜ r ≡ sameFlag (now (schema .entry)) first first2 i ⌝ }
+    ensures { λ r. ⌜ r ≡ sameFlag (was schema) first first2 i ⌝ }
 {
     if i == 0 {
         return true;
@@ -81,7 +82,7 @@ fn has_same_flag(schema: &[u32], first: usize, first2: usize, i: usize) -> bool
 // Whether the nodes i of two trees differ in a width alone.
 fn is_like_node(formats: &[u8], schema: &[u32], first: usize, first2: usize, i: usize) -> bool
     requires { ⌜ (first < 4294967296) × (first2 < 4294967296) × (i < 4294967296) ⌝ }
-    ensures { λ r. ⌜ r ≡ likeNode (now (formats .entry)) (now (schema .entry)) first first2 i ⌝ }
+    ensures { λ r. ⌜ r ≡ likeNode (was formats) (was schema) first first2 i ⌝ }
 {
     let format = is_like_format(formats, schema, first, first2, i);
     let children = schema::children_of(schema, first, i) == schema::children_of(schema, first2, i);
@@ -100,7 +101,7 @@ pub fn is_target(
     n2: usize,
 ) -> bool
     requires { ⌜ (first < 4294967296) × (n < 4294967296) × (first2 < 4294967296) ⌝ }
-    ensures { λ r. ⌜ r ≡ isTarget (now (formats .entry)) (now (schema .entry)) first n first2 n2 ⌝ }
+    ensures { λ r. ⌜ r ≡ isTarget (was formats) (was schema) first n first2 n2 ⌝ }
 {
     if n != n2 {
         return false;

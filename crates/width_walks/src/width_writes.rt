@@ -4,6 +4,7 @@ ghost use mathlib.Core.Path.{_≡_};
 ghost use mathlib.Core.List.{[], _∷_, _++_};
 ghost use Prim.Native.Nat.{_+_, _*_, _-_, _<_, _≤_, _^_};
 ghost use lib.ListN.{length};
+ghost use Rattle.clauses.specs.Slices.{was, left};
 ghost use Rattle.number.specs.Number.{splice, encode};
 ghost use Rattle.walk.specs.Log.{put, applyIf};
 ghost use Rattle.recode.specs.Recode.{recoded, lessened, validOnly};
@@ -29,7 +30,7 @@ pub fn put_less(
     requires { ⌜ (i < 32) × (b < 3) × (from + w * n ≤ length (now body)) ⌝ }
     requires { ⌜ ((w ≡ 2 → ⊥) → (w ≡ 4 → ⊥) → w ≡ 8) ⌝ }
     requires { ⌜ ((w2 ≡ 2 → ⊥) → (w2 ≡ 4 → ⊥) → w2 ≡ 8) ⌝ }
-    ensures { λ _. ⌜ now (room .exit) ≡ applyIf (now (plan .entry)) (now (parts .entry)) write (put i b 0 (lessened w w2 (now (body .entry)) from base n) ∷ []) (now (room .entry)) ⌝ }
+    ensures { λ _. ⌜ left room ≡ applyIf (was plan) (was parts) write (put i b 0 (lessened w w2 (was body) from base n) ∷ []) (was room) ⌝ }
 {
     let size = plan_words::scale(n, w2);
     match plan_words::target(plan, parts, room.len(), write, i, b, 0, size) {
@@ -64,7 +65,7 @@ pub fn put_recoded(
     requires { ⌜ (i < 32) × (b < 3) × (from + w * n ≤ length (now body)) ⌝ }
     requires { ⌜ ((w ≡ 1 → ⊥) → (w ≡ 2 → ⊥) → (w ≡ 4 → ⊥) → w ≡ 8) ⌝ }
     requires { ⌜ ((w2 ≡ 1 → ⊥) → (w2 ≡ 2 → ⊥) → (w2 ≡ 4 → ⊥) → w2 ≡ 8) ⌝ }
-    ensures { λ _. ⌜ now (room .exit) ≡ applyIf (now (plan .entry)) (now (parts .entry)) write (put i b 0 (recoded w w2 (now (body .entry)) from n) ∷ []) (now (room .entry)) ⌝ }
+    ensures { λ _. ⌜ left room ≡ applyIf (was plan) (was parts) write (put i b 0 (recoded w w2 (was body) from n) ∷ []) (was room) ⌝ }
 {
     let size = plan_words::scale(n, w2);
     match plan_words::target(plan, parts, room.len(), write, i, b, 0, size) {
@@ -92,7 +93,7 @@ pub fn put_valid(
     requires { ⌜ (i < 32) × (b < 3) × (from + w * n ≤ length (now body)) × (8 * valid + a + n ≤ 8 * length (now body)) × (a + n < 2 ^ 64) ⌝ }
     requires { ⌜ ((w ≡ 1 → ⊥) → (w ≡ 2 → ⊥) → (w ≡ 4 → ⊥) → w ≡ 8) ⌝ }
     requires { ⌜ ((w2 ≡ 1 → ⊥) → (w2 ≡ 2 → ⊥) → (w2 ≡ 4 → ⊥) → w2 ≡ 8) ⌝ }
-    ensures { λ _. ⌜ now (room .exit) ≡ applyIf (now (plan .entry)) (now (parts .entry)) write (put i b 0 (validOnly w w2 (now (body .entry)) from (8 * valid + a) n) ∷ []) (now (room .entry)) ⌝ }
+    ensures { λ _. ⌜ left room ≡ applyIf (was plan) (was parts) write (put i b 0 (validOnly w w2 (was body) from (8 * valid + a) n) ∷ []) (was room) ⌝ }
 {
     let size = plan_words::scale(n, w2);
     match plan_words::target(plan, parts, room.len(), write, i, b, 0, size) {
@@ -115,7 +116,7 @@ pub fn put_valid(
 fn write_end(room: &mut [u8], at: usize, w: u64, v: u64)
     requires { ⌜ at + w ≤ length (now room) ⌝ }
     requires { ⌜ ((w ≡ 2 → ⊥) → (w ≡ 4 → ⊥) → w ≡ 8) ⌝ }
-    ensures { λ _. ⌜ now (room .exit) ≡ splice at (encode w v) (now (room .entry)) ⌝ }
+    ensures { λ _. ⌜ left room ≡ splice at (encode w v) (was room) ⌝ }
 {
     match w {
         2 => number::write_u16(room, at, (v % 65536) as u16),
@@ -139,7 +140,7 @@ fn write_ends(
     requires { ⌜ (1 ≤ m) × (at + w2 * m ≤ length (now room)) × (from + w * m ≤ length (now body)) ⌝ }
     requires { ⌜ ((w ≡ 2 → ⊥) → (w ≡ 4 → ⊥) → w ≡ 8) ⌝ }
     requires { ⌜ ((w2 ≡ 2 → ⊥) → (w2 ≡ 4 → ⊥) → w2 ≡ 8) ⌝ }
-    ensures { λ _. ⌜ now (room .exit) ≡ splice at (lessened w w2 (now (body .entry)) from base (m - 1) ++ encode w2 last) (now (room .entry)) ⌝ }
+    ensures { λ _. ⌜ left room ≡ splice at (lessened w w2 (was body) from base (m - 1) ++ encode w2 last) (was room) ⌝ }
 {
     offsets::recode_less(room, at, w2, body, from, w, m - 1, base);
     write_end(room, at + (w2 as usize) * (m - 1), w2, last);
@@ -164,7 +165,7 @@ pub fn put_ends(
     requires { ⌜ (i < 32) × (b < 3) × (1 ≤ m) × (from + w * m ≤ length (now body)) ⌝ }
     requires { ⌜ ((w ≡ 2 → ⊥) → (w ≡ 4 → ⊥) → w ≡ 8) ⌝ }
     requires { ⌜ ((w2 ≡ 2 → ⊥) → (w2 ≡ 4 → ⊥) → w2 ≡ 8) ⌝ }
-    ensures { λ _. ⌜ now (room .exit) ≡ applyIf (now (plan .entry)) (now (parts .entry)) write (put i b 0 (lessened w w2 (now (body .entry)) from base (m - 1) ++ encode w2 last) ∷ []) (now (room .entry)) ⌝ }
+    ensures { λ _. ⌜ left room ≡ applyIf (was plan) (was parts) write (put i b 0 (lessened w w2 (was body) from base (m - 1) ++ encode w2 last) ∷ []) (was room) ⌝ }
 {
     let size = plan_words::scale(m, w2);
     match plan_words::target(plan, parts, room.len(), write, i, b, 0, size) {

@@ -8,6 +8,7 @@ ghost use mathlib.Core.Bool.{Bool, _&&_};
 ghost use Prim.Native.Nat.{ℕ, _≤_};
 ghost use lib.ListN.{length, replicate};
 ghost use lib.Dec.{eqb};
+ghost use Rattle.clauses.specs.Slices.{was, left};
 ghost use Rattle.array_data.specs.lent_tables.Lent.{tables};
 ghost use Rattle.source_rules.specs.kinds.Rows.{tablesOf};
 ghost use Rattle.refinement.specs.orders.Order.{sourceCount};
@@ -17,14 +18,14 @@ ghost use Rattle.plan.specs.Plan.{planned, Plannable};
 ghost use Rattle.refinement.specs.opening.Open.{openWalk, settled, opening};
 ghost use Rattle.refinement.specs.opening.Ask.{asked};
 ghost use Rattle.refinement.specs.orders.Order.{lent};
-ghost use Rattle.with_capacities.specs.Answer.{Answers, Plans};
+ghost use Rattle.with_capacities.specs.Answer.{Answers, Makes, lentTables, Plans};
 use sound::trying;
 use walk::plan_words;
 
 // The n numbers of a slice into another one.
 pub fn store(to: &mut [u64], from: &[u64], n: usize)
     requires { ⌜ (length (now to) ≡ n) × (length (now from) ≡ n) ⌝ }
-    ensures { λ _. ⌜ now (to .exit) ≡ now (from .entry) ⌝ }
+    ensures { λ _. ⌜ left to ≡ was from ⌝ }
 {
     let mut i = 0;
     while i < n {
@@ -61,7 +62,7 @@ fn planned_state(
     gaps: bool,
 ) -> [u64; plan_words::WORDS]
     requires { ⌜ Plannable (tables (now lengths) (now places) (now body)) (now sources) ⌝ }
-    ensures { λ r. ⌜ r ≡ planned (now (formats .entry)) (now (schema .entry)) (tables (now (lengths .entry)) (now (places .entry)) (now (body .entry))) (now (sources .entry)) keep gaps ⌝ }
+    ensures { λ r. ⌜ r ≡ planned (was formats) (was schema) (tables (was lengths) (was places) (was body)) (was sources) keep gaps ⌝ }
 {
     let mut draft = [0u64; plan_words::WORDS];
     plan::plan(
@@ -80,7 +81,7 @@ fn planned_state(
 
 // Whether plan and counters, of so many numbers, are of a join's lengths and the parts lie in the room, apart: ground 14 where not.
 pub fn room_placed(plan: &[u64], parts: &[u64], words: usize, counters: usize, m: usize) -> bool
-    ensures { λ r. ⌜ r ≡ (eqb words 872 && eqb counters 96 && partsPlaced (now (parts .entry)) (partTotal (now (plan .entry))) m) ⌝ }
+    ensures { λ r. ⌜ r ≡ (eqb words 872 && eqb counters 96 && partsPlaced (was parts) (partTotal (was plan)) m) ⌝ }
 {
     if words != plan_words::WORDS {
         return false;
@@ -104,7 +105,7 @@ fn make(
     room: &mut [u8],
 ) -> u8
     requires { ⌜ (sourceCount (now draft) ≤ 16) × (length (now draft) ≡ 872) × (length (now plan) ≡ 872) × (length (now counters) ≡ 96) ⌝ }
-    ensures { λ r. ⌜ ((formats schema buffers : List ℕ) (keep gaps : Bool) → now (draft .entry) ≡ planned formats schema (tablesOf (now (lengths .entry)) (now (places .entry)) buffers (now (body .entry))) (now (sources .entry)) keep gaps → Answers (settled formats schema (now (sources .entry)) (tablesOf (now (lengths .entry)) (now (places .entry)) buffers (now (body .entry))) keep gaps (now (parts .entry)) (now (plan .entry)) (now (counters .entry)) (now (room .entry)) (openWalk (lent (now (draft .entry)) (now (parts .entry)) (now (sources .entry)) (now (lengths .entry)) (now (places .entry)) (now (body .entry))) (replicate 96 0))) r (now (plan .exit)) (now (counters .exit)) (now (room .exit))) ⌝ }
+    ensures { λ r. ⌜ ((formats schema buffers : List ℕ) (keep gaps : Bool) → let t = tablesOf (was lengths) (was places) buffers (was body) in was draft ≡ planned formats schema t (was sources) keep gaps → Answers (settled formats schema (was sources) t keep gaps (was parts) (was plan) (was counters) (was room) (openWalk (lent (was draft) (was parts) (was sources) (was lengths) (was places) (was body)) (replicate 96 0))) r (left plan) (left counters) (left room)) ⌝ }
 {
     let mut tried = uncounted(draft);
     let g = crate::open_walk::open_walk(
@@ -158,7 +159,7 @@ pub fn try_with_capacities(
     counters: &mut [u64],
     room: &mut [u8],
 ) -> u8
-    ensures { λ r. ⌜ Answers (opening (now (formats .entry)) (now (schema .entry)) (now (sources .entry)) (tablesOf (now (lengths .entry)) (now (places .entry)) (now (buffers .entry)) (now (body .entry))) keep gaps (now (parts .entry)) (now (plan .entry)) (now (counters .entry)) (now (room .entry))) r (now (plan .exit)) (now (counters .exit)) (now (room .exit)) ⌝ }
+    ensures { λ r. ⌜ Makes (opening (was formats) (was schema) (was sources) (lentTables lengths places buffers body) keep gaps (was parts)) plan counters room r ⌝ }
 {
     if columns::CEILING < room.len() {
         return 9;
@@ -197,7 +198,7 @@ pub fn plan_parts(
     gaps: bool,
     plan: &mut [u64],
 ) -> u8
-    ensures { λ r. ⌜ Plans (asked (now (formats .entry)) (now (schema .entry)) (now (sources .entry)) (tablesOf (now (lengths .entry)) (now (places .entry)) (now (buffers .entry)) (now (body .entry))) keep gaps (now (plan .entry))) r (now (plan .exit)) ⌝ }
+    ensures { λ r. ⌜ Plans (asked (was formats) (was schema) (was sources) (tablesOf (was lengths) (was places) (was buffers) (was body)) keep gaps (was plan)) r (left plan) ⌝ }
 {
     let g = columns::sources_ground(sources, formats, schema, lengths, places, buffers, body);
     if g != 0 {

@@ -7,8 +7,10 @@ ghost use mathlib.Core.List.{List};
 ghost use mathlib.Core.Bool.{Bool, cond};
 ghost use Prim.Native.Nat.{ℕ, suc, _≤_, _<_, _^_};
 ghost use lib.Dec.{eqb};
+ghost use Rattle.clauses.specs.Slices.{was, left};
 ghost use Rattle.walk.specs.State.{word};
 ghost use Rattle.walk.specs.Log.{Did, done, each};
+ghost use Rattle.leaf_walk.specs.Walks.{Walks};
 ghost use Rattle.refinement.specs.orders.Order.{sourceCount};
 ghost use Rattle.plan.specs.parts.Parts.{nodesOf};
 ghost use Rattle.refinement.specs.opening.Open.{beginGaps, firstOffset, joinSource, joinEntries, entriesHold, keysHold, openDictionary, openWalk};
@@ -22,7 +24,7 @@ use walk::plan_words;
 // The gap of node i begins at 1, if it is a run-end node and one run for a gap is chosen.
 fn begin_gap(plan: &[u64], counters: &mut [u64; plan_words::COUNTERS], i: usize)
     requires { ⌜ i < 32 ⌝ }
-    ensures { λ _. ⌜ ((parts sources lengths places body room : List ℕ) (write : Bool) → Did (now (plan .entry)) parts write (beginGaps (lent (now (plan .entry)) parts sources lengths places body) i (now (counters .entry))) room 0 (now (counters .exit)) room) ⌝ }
+    ensures { λ _. ⌜ ((parts sources lengths places body room : List ℕ) (write : Bool) → Did (was plan) parts write (beginGaps (lent (was plan) parts sources lengths places body) i (was counters)) room 0 (left counters) room) ⌝ }
 {
     let code = plan_words::code_of(plan, i);
     if !schema::formats::is_run_end(code) {
@@ -36,7 +38,7 @@ fn begin_gap(plan: &[u64], counters: &mut [u64; plan_words::COUNTERS], i: usize)
 
 // The gap of every run-end node. No byte changes.
 fn begin_gaps(plan: &[u64], counters: &mut [u64; plan_words::COUNTERS])
-    ensures { λ _. ⌜ ((parts sources lengths places body room : List ℕ) (write : Bool) → Did (now (plan .entry)) parts write (each (beginGaps (lent (now (plan .entry)) parts sources lengths places body)) (nodesOf (now (plan .entry))) 0 (now (counters .entry))) room 0 (now (counters .exit)) room) ⌝ }
+    ensures { λ _. ⌜ ((parts sources lengths places body room : List ℕ) (write : Bool) → Did (was plan) parts write (each (beginGaps (lent (was plan) parts sources lengths places body)) (nodesOf (was plan)) 0 (was counters)) room 0 (left counters) room) ⌝ }
 {
     let n = plan::parts::node_count(plan);
     let mut i = 0;
@@ -51,7 +53,7 @@ fn begin_gaps(plan: &[u64], counters: &mut [u64; plan_words::COUNTERS])
 // The first zero offset of node i, if it is a byte string or list that has parts. No counter changes.
 fn first_offset(plan: &[u64], parts: &[u64], room: &mut [u8], write: bool, i: usize)
     requires { ⌜ i < 32 ⌝ }
-    ensures { λ _. ⌜ ((sources lengths places body c : List ℕ) → Did (now (plan .entry)) (now (parts .entry)) write (firstOffset (lent (now (plan .entry)) (now (parts .entry)) sources lengths places body) i c) (now (room .entry)) 0 c (now (room .exit))) ⌝ }
+    ensures { λ _. ⌜ ((sources lengths places body c : List ℕ) → Did (was plan) (was parts) write (firstOffset (lent (was plan) (was parts) sources lengths places body) i c) (was room) 0 c (left room)) ⌝ }
 {
     let code = plan_words::code_of(plan, i);
     if !(schema::formats::is_string(code) | schema::formats::is_list(code)) {
@@ -66,7 +68,7 @@ fn first_offset(plan: &[u64], parts: &[u64], room: &mut [u8], write: bool, i: us
 
 // The first zero offset of every byte string and list that has parts.
 pub fn first_offsets(plan: &[u64], parts: &[u64], room: &mut [u8], write: bool)
-    ensures { λ _. ⌜ ((sources lengths places body c : List ℕ) → Did (now (plan .entry)) (now (parts .entry)) write (each (firstOffset (lent (now (plan .entry)) (now (parts .entry)) sources lengths places body)) (nodesOf (now (plan .entry))) 0 c) (now (room .entry)) 0 c (now (room .exit))) ⌝ }
+    ensures { λ _. ⌜ ((sources lengths places body c : List ℕ) → Did (was plan) (was parts) write (each (firstOffset (lent (was plan) (was parts) sources lengths places body)) (nodesOf (was plan)) 0 c) (was room) 0 c (left room)) ⌝ }
 {
     let n = plan::parts::node_count(plan);
     let mut i = 0;
@@ -81,7 +83,7 @@ pub fn first_offsets(plan: &[u64], parts: &[u64], room: &mut [u8], write: bool)
 // How many sources the plan was made for.
 fn source_count(plan: &[u64]) -> usize
     requires { ⌜ sourceCount (now plan) ≤ 16 ⌝ }
-    ensures { λ r. ⌜ r ≡ sourceCount (now (plan .entry)) ⌝ }
+    ensures { λ r. ⌜ r ≡ sourceCount (was plan) ⌝ }
     ensures { λ r. ⌜ r ≤ 16 ⌝ }
 {
     lent_tables::at_u64(plan, plan_words::SOURCE_COUNT) as usize
@@ -102,7 +104,7 @@ fn join_source(
     s: usize,
 ) -> u8
     requires { ⌜ (i < 2 ^ 32) × (s < 2 ^ 32) ⌝ }
-    ensures { λ g. ⌜ Did (now (plan .entry)) (now (parts .entry)) write (joinSource (lent (now (plan .entry)) (now (parts .entry)) (now (sources .entry)) (now (lengths .entry)) (now (places .entry)) (now (body .entry))) i s (now (counters .entry))) (now (room .entry)) g (now (counters .exit)) (now (room .exit)) ⌝ }
+    ensures { λ g. ⌜ Walks plan parts write (joinSource (lent (was plan) (was parts) (was sources) (was lengths) (was places) (was body)) i s) counters room g ⌝ }
 {
     let first = lent_tables::at_u32(sources, 2 * s) as usize;
     let n = lent_tables::length_of(lengths, first + i);
@@ -138,7 +140,7 @@ fn join_entries(
     i: usize,
 ) -> u8
     requires { ⌜ (i < 2 ^ 32) × (sourceCount (now plan) ≤ 16) ⌝ }
-    ensures { λ g. ⌜ Did (now (plan .entry)) (now (parts .entry)) write (joinEntries (lent (now (plan .entry)) (now (parts .entry)) (now (sources .entry)) (now (lengths .entry)) (now (places .entry)) (now (body .entry))) i (now (counters .entry))) (now (room .entry)) g (now (counters .exit)) (now (room .exit)) ⌝ }
+    ensures { λ g. ⌜ Walks plan parts write (joinEntries (lent (was plan) (was parts) (was sources) (was lengths) (was places) (was body)) i) counters room g ⌝ }
 {
     let m = source_count(plan);
     let mut s = 0;
@@ -178,7 +180,7 @@ fn join_values(
     i: usize,
 ) -> u8
     requires { ⌜ (i < 32) × (sourceCount (now plan) ≤ 16) ⌝ }
-    ensures { λ g. ⌜ Did (now (plan .entry)) (now (parts .entry)) write (cond (eqb (word (now (plan .entry)) i 7) 0) (done (now (counters .entry))) (joinEntries (lent (now (plan .entry)) (now (parts .entry)) (now (sources .entry)) (now (lengths .entry)) (now (places .entry)) (now (body .entry))) (suc i) (now (counters .entry)))) (now (room .entry)) g (now (counters .exit)) (now (room .exit)) ⌝ }
+    ensures { λ g. ⌜ Walks plan parts write (λ c. cond (eqb (word (was plan) i 7) 0) (done c) (joinEntries (lent (was plan) (was parts) (was sources) (was lengths) (was places) (was body)) (suc i) c)) counters room g ⌝ }
 {
     if lent_tables::at_u64(plan, 8 * i + 7) == 0 {
         return 0;
@@ -200,7 +202,7 @@ fn join_values(
 // Whether the entries of the dictionary whose keys are node i are counted in 64 bits: ground 6 where not.
 fn entries_hold(plan: &[u64], sources: &[u32], lengths: &[u64], i: usize) -> bool
     requires { ⌜ (i < 32) × (sourceCount (now plan) ≤ 16) ⌝ }
-    ensures { λ r. ⌜ ((parts places body : List ℕ) → r ≡ entriesHold (lent (now (plan .entry)) parts (now (sources .entry)) (now (lengths .entry)) places body) i) ⌝ }
+    ensures { λ r. ⌜ ((parts places body : List ℕ) → r ≡ entriesHold (lent (was plan) parts (was sources) (was lengths) places body) i) ⌝ }
 {
     let m = source_count(plan);
     let mut s = 0;
@@ -217,7 +219,7 @@ fn entries_hold(plan: &[u64], sources: &[u32], lengths: &[u64], i: usize) -> boo
 // Whether the keys of node i have room for every entry: ground 8 where not.
 fn keys_hold(plan: &[u64], sources: &[u32], lengths: &[u64], i: usize) -> bool
     requires { ⌜ (i < 32) × (sourceCount (now plan) ≤ 16) ⌝ }
-    ensures { λ r. ⌜ ((parts places body : List ℕ) → r ≡ keysHold (lent (now (plan .entry)) parts (now (sources .entry)) (now (lengths .entry)) places body) i) ⌝ }
+    ensures { λ r. ⌜ ((parts places body : List ℕ) → r ≡ keysHold (lent (was plan) parts (was sources) (was lengths) places body) i) ⌝ }
 {
     let code = plan_words::code_of(plan, i);
     if !schema::formats::is_integer(code) {
@@ -251,7 +253,7 @@ fn open_dictionary(
     i: usize,
 ) -> u8
     requires { ⌜ (i < 32) × (sourceCount (now plan) ≤ 16) ⌝ }
-    ensures { λ g. ⌜ Did (now (plan .entry)) (now (parts .entry)) write (openDictionary (lent (now (plan .entry)) (now (parts .entry)) (now (sources .entry)) (now (lengths .entry)) (now (places .entry)) (now (body .entry))) i (now (counters .entry))) (now (room .entry)) g (now (counters .exit)) (now (room .exit)) ⌝ }
+    ensures { λ g. ⌜ Walks plan parts write (openDictionary (lent (was plan) (was parts) (was sources) (was lengths) (was places) (was body)) i) counters room g ⌝ }
 {
     if plan_words::dictionary_of(plan, i) == 0 {
         return 0;
@@ -293,7 +295,7 @@ fn open_dictionaries(
     write: bool,
 ) -> u8
     requires { ⌜ sourceCount (now plan) ≤ 16 ⌝ }
-    ensures { λ g. ⌜ Did (now (plan .entry)) (now (parts .entry)) write (each (openDictionary (lent (now (plan .entry)) (now (parts .entry)) (now (sources .entry)) (now (lengths .entry)) (now (places .entry)) (now (body .entry)))) (nodesOf (now (plan .entry))) 0 (now (counters .entry))) (now (room .entry)) g (now (counters .exit)) (now (room .exit)) ⌝ }
+    ensures { λ g. ⌜ Walks plan parts write (each (openDictionary (lent (was plan) (was parts) (was sources) (was lengths) (was places) (was body))) (nodesOf (was plan)) 0) counters room g ⌝ }
 {
     let n = plan::parts::node_count(plan);
     let mut i = 0;
@@ -331,7 +333,7 @@ pub fn open_walk(
     write: bool,
 ) -> u8
     requires { ⌜ sourceCount (now plan) ≤ 16 ⌝ }
-    ensures { λ g. ⌜ Did (now (plan .entry)) (now (parts .entry)) write (openWalk (lent (now (plan .entry)) (now (parts .entry)) (now (sources .entry)) (now (lengths .entry)) (now (places .entry)) (now (body .entry))) (now (counters .entry))) (now (room .entry)) g (now (counters .exit)) (now (room .exit)) ⌝ }
+    ensures { λ g. ⌜ Walks plan parts write (openWalk (lent (was plan) (was parts) (was sources) (was lengths) (was places) (was body))) counters room g ⌝ }
 {
     begin_gaps(plan, counters);
     first_offsets(plan, parts, room, write);

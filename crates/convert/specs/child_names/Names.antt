@@ -5,6 +5,7 @@ use mathlib.Core.List.{List, []}
 use Prim.Native.Nat.{ℕ, _+_, _*_, _/_, _%_}
 use lib.ListN.{length, getD}
 use lib.Dec.{ltb, eqb}
+use Rattle.clauses.specs.Slices.{was, left, Slice}
 use Rattle.array_data.specs.Tables.{Tables, place}
 use Rattle.array_data.specs.lent_tables.Lent.{tables}
 use Rattle.columns.specs.Grounds.{columnGround}
@@ -41,6 +42,10 @@ pub record Names (a : Naming) (r : ℕ) (lengths nulls places : List ℕ) : Type
   pub lengths-are : lengths ≡ a .lengths
   pub nulls-are : nulls ≡ a .nulls
   pub places-are : places ≡ a .places
+
+-- .. of a call that is lent all three tables
+abbrev pub Named : (List ℕ → List ℕ → List ℕ → Naming) → (lengths nulls places : Slice) → ℕ → Type 0
+Named name lengths nulls places r = Names (name (was lengths) (was nulls) (was places)) r (left lengths) (left nulls) (left places)
 
 -- ---- for whoever proves
 

@@ -2,6 +2,7 @@
 use mathlib.Core.Path.{_∙_}
 use mathlib.Core.List.{[]}
 use Rattle.convert.proofs.CalledView.{ask-refused, comes-from, walk-sum, walk-wide, ask-walk, ask-plan, ask-counters, ask-done}
+use native.Mathlib.Omega.{arith}
 use borrow.Author.Needs.{needs}
 use Rattle.convert.proofs.to_view.plan_list_view.Statement.{statement}
 use Rattle.convert.proofs.to_view.plan_list_view.Tie as tie
@@ -13,7 +14,7 @@ returns : tie.Need-returns
 returns c = let z = c .before .before .before .before .before .before .before .before .before .before .args in ask-refused (z .formats .now) (z .schema .now) (z .lengths .now) (z .places .now) (z .buffers .now) (z .body .now) (z .first) (z .n) (z .target) (z .target-n) (c .before .ground-of .ensures) (c .if1 .taken) (z .plan .now) (z .counters .now)
 
 planned-requires : tie.Need-planned-requires
-planned-requires c κs = let z = c .before .before .before .before .before .before .before .before .before .before .args in comes-from (z .formats .now) (z .schema .now) (z .lengths .now) (z .places .now) (z .buffers .now) (z .body .now) (z .first) (z .n) (z .target) (z .target-n) (c .before .ground-of .ensures) (c .if1 .left) (search needs)
+planned-requires c κs = let z = c .before .before .before .before .before .before .before .before .before .before .args in (omega arith, comes-from (z .formats .now) (z .schema .now) (z .lengths .now) (z .places .now) (z .buffers .now) (z .body .now) (z .first) (z .n) (z .target) (z .target-n) (c .before .ground-of .ensures) (c .if1 .left) (search needs))
 
 slice-aggregate-view-walk : tie.Need-slice-aggregate-view-walk
 slice-aggregate-view-walk c = search needs

@@ -1,6 +1,7 @@
 -- `convert::to_view::to_list_view` meets its contract. Assumes nothing.
 use Rattle.convert.proofs.CalledView.{make-large, make-refused, comes-from, walk-sum, walk-wide, draft-long, make-walk, make-room, make-made}
 use Rattle.convert.proofs.Called.{room-lengths}
+use native.Mathlib.Omega.{arith}
 use borrow.Author.Needs.{needs}
 use Rattle.convert.proofs.to_view.to_list_view.Statement.{statement}
 use Rattle.convert.proofs.to_view.to_list_view.Tie as tie
@@ -15,7 +16,7 @@ returns-2 : tie.Need-returns-2
 returns-2 c = let z = c .before .before .before .before .before .before .before .before .before .before .before .before .before .args in make-refused (z .formats .now) (z .schema .now) (z .lengths .now) (z .places .now) (z .buffers .now) (z .body .now) (z .first) (z .n) (z .target) (z .target-n) (c .before .ground-of .ensures) (c .if2 .taken) (z .parts .now) (z .plan .now) (z .counters .now) (z .room .now) (c .before .before .if1 .left)
 
 planned-requires : tie.Need-planned-requires
-planned-requires c κs = let z = c .before .before .before .before .before .before .before .before .before .before .before .before .before .args in comes-from (z .formats .now) (z .schema .now) (z .lengths .now) (z .places .now) (z .buffers .now) (z .body .now) (z .first) (z .n) (z .target) (z .target-n) (c .before .ground-of .ensures) (c .if2 .left) (search needs)
+planned-requires c κs = let z = c .before .before .before .before .before .before .before .before .before .before .before .before .before .args in (omega arith, comes-from (z .formats .now) (z .schema .now) (z .lengths .now) (z .places .now) (z .buffers .now) (z .body .now) (z .first) (z .n) (z .target) (z .target-n) (c .before .ground-of .ensures) (c .if2 .left) (search needs))
 
 slice-aggregate-view-walk : tie.Need-slice-aggregate-view-walk
 slice-aggregate-view-walk c = search needs

@@ -1,7 +1,7 @@
--- `convert::to_list::planned` meets its contract. Assumes nothing.
+-- `convert::planned` meets its contract. Assumes nothing.
 use borrow.Author.Needs.{needs}
-use Rattle.convert.proofs.to_list.planned.Statement.{statement}
-use Rattle.convert.proofs.to_list.planned.Tie as tie
+use Rattle.convert.proofs.planned.Statement.{statement}
+use Rattle.convert.proofs.planned.Tie as tie
 
 slice-aggregate-plan-anew : tie.Need-slice-aggregate-plan-anew
 slice-aggregate-plan-anew c = search needs
